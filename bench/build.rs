@@ -1,6 +1,6 @@
-//! Links the static library of `rkyv_bench`.
+//! Links the static library of `bench_library`.
 //!
-//! `RKYV_BENCH_LIB` is the path of `librkyv_bench.a`. If it isn't set, the library is the one in the
+//! `RKYV_BENCH_LIB` is the path of `libbench_library.a`. If it isn't set, the library is the one in the
 //! crate, which `rt lib` builds.
 
 use std::env;
@@ -11,16 +11,16 @@ fn main() {
     let library = match env::var_os("RKYV_BENCH_LIB") {
         Some(path) => PathBuf::from(path),
         None => PathBuf::from(env::var_os("CARGO_MANIFEST_DIR").unwrap())
-            .join("../crates/rkyv_bench/out/librkyv_bench.a"),
+            .join("../crates/bench_library/out/libbench_library.a"),
     };
     println!("cargo::rerun-if-changed={}", library.display());
     let library = library.canonicalize().unwrap_or_else(|error| {
         panic!(
-            "{}: {error}. `rt lib` in crates/rkyv_bench builds it; RKYV_BENCH_LIB may name another",
+            "{}: {error}. `rt lib` in crates/bench_library builds it; RKYV_BENCH_LIB may name another",
             library.display()
         )
     });
     let folder = library.parent().unwrap();
     println!("cargo::rustc-link-search=native={}", folder.display());
-    println!("cargo::rustc-link-lib=static=rkyv_bench");
+    println!("cargo::rustc-link-lib=static=bench_library");
 }

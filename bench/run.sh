@@ -2,5 +2,5 @@
 # Proves and builds the static library, and measures it: prints a table in Markdown.
 set -euo pipefail
 cd "$(dirname "$0")"
-(cd ../crates/rkyv_bench && rt lib) >&2
+(cd ../crates/bench_library && rt lib) >&2
 exec cargo run --release --offline "$@"

@@ -1,4 +1,4 @@
-/* Measures two builds of the library `rkyv_bench` in one process, and prints a table in Markdown.
+/* Measures two builds of the library `bench_library` in one process, and prints a table in Markdown.
  *
  *     compare BEFORE.so AFTER.so [--keep-memory]
  *

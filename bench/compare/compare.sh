@@ -1,9 +1,9 @@
 #!/usr/bin/env bash
-# compare.sh BEFORE.a [--keep-memory]: measures another build of librkyv_bench.a beside this one's.
+# compare.sh BEFORE.a [--keep-memory]: measures another build of libbench_library.a beside this one's.
 set -euo pipefail
 before=$(realpath "$1"); shift
 cd "$(dirname "$0")"
-after=../../crates/rkyv_bench/out/librkyv_bench.a
+after=../../crates/bench_library/out/libbench_library.a
 made=$(mktemp -d); trap 'rm -rf "$made"' EXIT
 shared() { # $1: the static library, $2: the shared one
   cc -shared -fPIC -O2 -o "$2" ../../clients/c/memory.c -Wl,--whole-archive "$1" \

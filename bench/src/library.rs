@@ -1,4 +1,4 @@
-//! Safe Rust over the static library `rkyv_bench`.
+//! Safe Rust over the static library `bench_library`.
 //!
 //! Nothing checks a call from Rust against a contract. So each call here satisfies the contract:
 //! texts are only made from `&str`s, and lookups and walks only get valid archives.

@@ -1,7 +1,7 @@
-//! Links the static library `librkyv_c.a` and the C functions of `../c`, which it compiles.
+//! Links the static library `libffi_rkyv.a` and the C functions of `../c`, which it compiles.
 //!
 //! `RKYV_C_LIBRARY` is the library's path. If it isn't set, the library is expected where `rt lib`
-//! leaves it, in `../../crates/rkyv_c/out`. If it isn't there, `cargo check`, `cargo clippy` and
+//! leaves it, in `../../crates/ffi_rkyv/out`. If it isn't there, `cargo check`, `cargo clippy` and
 //! `cargo doc` work, building fails, and a warning says how to give the path.
 //!
 //! `CC` and `AR` are the C compiler and the archiver, `cc` and `ar` by default.
@@ -38,7 +38,7 @@ fn library(here: &Path) -> Option<PathBuf> {
     let given = env::var_os(VARIABLE).filter(|path| !path.is_empty());
     let path = match &given {
         Some(path) => PathBuf::from(path),
-        None => here.join("../../crates/rkyv_c/out/librkyv_c.a"),
+        None => here.join("../../crates/ffi_rkyv/out/libffi_rkyv.a"),
     };
     println!("cargo::rerun-if-changed={}", path.display());
     match path.canonicalize() {
@@ -78,11 +78,11 @@ fn main() {
     println!("cargo::rerun-if-changed=build.rs");
     let Some(library) = library(&here) else {
         println!(
-            "cargo::warning=librkyv_c.a is not built, so programs cannot be linked. \
-             Run `rt lib` in crates/rkyv_c, or set {VARIABLE} to the path of the library."
+            "cargo::warning=libffi_rkyv.a is not built, so programs cannot be linked. \
+             Run `rt lib` in crates/ffi_rkyv, or set {VARIABLE} to the path of the library."
         );
         // Building then fails with one error, and not with one for each call.
-        println!("cargo::rustc-link-lib=static:+verbatim=librkyv_c.a");
+        println!("cargo::rustc-link-lib=static:+verbatim=libffi_rkyv.a");
         return;
     };
     compile(&here.join("../c"), &out);

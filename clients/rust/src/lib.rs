@@ -1,4 +1,4 @@
-//! Hash maps in rkyv's archived byte format, over the proved static library `rkyv_c`.
+//! Hash maps in rkyv's archived byte format, over the proved static library `ffi_rkyv`.
 //!
 //! A [`Builder`] collects pairs and builds the bytes of an archive. A [`Map`] borrows such bytes:
 //! [`Map::open`] validates them once, and lookups and iteration then read them in place. A
@@ -48,7 +48,7 @@
 //!
 //! # Linking
 //!
-//! The build script links `librkyv_c.a`, by the path in the environment variable `RKYV_C_LIBRARY`
+//! The build script links `libffi_rkyv.a`, by the path in the environment variable `RKYV_C_LIBRARY`
 //! or from where `rt lib` leaves it. `cargo check` and `cargo doc` work without it.
 
 #![warn(missing_docs)]

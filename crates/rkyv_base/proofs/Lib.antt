@@ -1,5 +1,5 @@
 pub mod Ascii
-pub mod GivingUp
+pub mod WritingSteps
 pub mod PairWriting
 pub mod RootWriting
 pub mod TextChecking

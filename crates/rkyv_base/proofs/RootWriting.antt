@@ -4,14 +4,17 @@ use Rattle.std.proofs.Common.{refl, arith, subst, sym, ◌∙◌, ap, inl, inr, 
 use Rattle.std.proofs.lemmas.List.{length-replicate, take_all, append-nil}
 use Rattle.rkyv_base.specs.declared.errors.WriteError.{WriteError}
 use Rattle.rkyv_base.specs.declared.errors.WriteError.TheVariants.{DistanceTooLarge}
-use Rattle.rkyv_base.specs.Bytes.{Sits, sits_front, sits_back}
-use Rattle.rkyv_base.specs.Writing.{Only, Output, end_of, Appends, Told, Within, padding, piece, zeros}
-use Rattle.rkyv_base.specs.Shape.{Shape, IsElement, Standing, standing}
-use Rattle.rkyv_base.specs.Entry.{round_up, round_up-multiple}
+use Rattle.rkyv_base.specs.Bytes.{OccursAt}
+use Rattle.rkyv_base.specs.Lemmas.Bytes.{occurs_front, occurs_back}
+use Rattle.rkyv_base.specs.Writing.{Only, Output, end_of, Appends, WriteFails, Within, padding, piece, zeros}
+use Rattle.rkyv_base.specs.ElementSpec.{ElementSpec, IsElement, ValidAt}
+use Rattle.rkyv_base.specs.Lemmas.ElementSpec.{valid_at}
+use Rattle.rkyv_base.specs.Entry.{round_up}
+use Rattle.rkyv_base.specs.Lemmas.Entry.{round_up-multiple}
 use Rattle.rkyv_base.specs.Access.{Accepted}
 use Rattle.rkyv_base.specs.Format.{Format, IsFormat}
-use Rattle.rkyv_base.specs.Root.{RootBytes, RootNext, WroteRoot, RootGaveUp, ArchiveOf, fresh}
-use Rattle.rkyv_base.proofs.GivingUp.{appends_after, end-appends, grows, told_after}
+use Rattle.rkyv_base.specs.Root.{RootBytes, RootNext, WroteRoot, WriteRootFails, ArchiveOf, fresh}
+use Rattle.rkyv_base.proofs.WritingSteps.{appends_after, end-appends, grows, told_after}
 
 module _ (F : Type 0) {V R : Type 0} (limit align : ℕ) (f : Format V R) (v : V) (o o1 o2 o3 : Output)
     (part : List ℕ) (r : R) (a : Appends o o1 part) (made : f.parts v (end_of o) part r) (inside : Within limit o1 part) where
@@ -36,7 +39,7 @@ module _ (F : Type 0) {V R : Type 0} (limit align : ℕ) (f : Format V R) (v : V
   front_is : (x : List ℕ) → x ≡ [] → before ++ x ≡ part ++ zeros (padding align (end_of o + length part))
   front_is x e = ap (λ (y : List ℕ). before ++ y) e ∙ append-nil before ∙ ap (λ (y : List ℕ). part ++ y) same_zeros
 
-  pub root_told_align : (e : WriteError F) → Told limit (Only (piece (zeros (padding align (end_of o1))))) o1 o2 e → RootGaveUp limit align f v o o2 e
+  pub root_told_align : (e : WriteError F) → WriteFails limit (Only (piece (zeros (padding align (end_of o1))))) o1 o2 e → WriteRootFails limit align f v o o2 e
   root_told_align e t =
       told_after limit (RootNext align f v (end_of o)) (Only (piece (zeros (padding align (end_of o1))))) o o1 o2 part e a inside
       (λ front step h.
@@ -44,18 +47,18 @@ module _ (F : Type 0) {V R : Type 0} (limit align : ℕ) (f : Format V R) (v : V
       rw k (inr (inr (inl (r, made, h.1 ∙ ap piece same_zeros))))) t
 
   pub root_told_append : (out : List ℕ) (e : WriteError F) → Aligns → f.image v r (end_of o2) out
-      → Told limit (Only (piece out)) o2 o3 e → RootGaveUp limit align f v o o3 e
+      → WriteFails limit (Only (piece out)) o2 o3 e → WriteRootFails limit align f v o o3 e
   root_told_append out e b i t =
       told_after limit (RootNext align f v (end_of o)) (Only (piece out)) o o2 o3 before e (appends_after o o1 o2 part _ a b.0) (inr b.1)
       (λ front step h. inr (inr (inr (part, r, made, front_is front h.0, inl (out, subst (λ n. f.image v r n out) (root_at b.0) i, h.1))))) t
 
-  pub root_told_far : Aligns → f.far v r (end_of o2) → RootGaveUp {F = F} limit align f v o o2 DistanceTooLarge
-  root_told_far b far =
+  pub root_overflow_fails : Aligns → f.overflow v r (end_of o2) → WriteRootFails {F = F} limit align f v o o2 DistanceTooLarge
+  root_overflow_fails b overflow =
       let all : Appends o o2 before = appends_after o o1 o2 part _ a b.0 in
       record {
         front = before;
         kept = grows o o2 before all;
-        cause = (inr b.1, all.failures, inr (inr (inr (part, r, made, ap (λ (x : List ℕ). part ++ x) same_zeros, inr (subst (λ n. f.far v r n) (root_at b.0) far, refl)))));
+        cause = (inr b.1, all.failures, inr (inr (inr (part, r, made, ap (λ (x : List ℕ). part ++ x) same_zeros, inr (subst (λ n. f.overflow v r n) (root_at b.0) overflow, refl)))));
       }
 
   pub root_wrote : (out : List ℕ) → Appends o1 o2 (zeros (padding align (end_of o1))) → f.image v r (end_of o2) out → Appends o2 o3 out → end_of o3 ≤ limit
@@ -68,48 +71,48 @@ module _ (F : Type 0) {V R : Type 0} (limit align : ℕ) (f : Format V R) (v : V
         small,
       )
 
-module _ {V R : Type 0} (limit : ℕ) (s : Shape) (laws : IsElement s) (stands : List ℕ → ℕ → V → Type 0) (f : Format V R) (format : IsFormat s stands f) where
+module _ {V R : Type 0} (limit : ℕ) (s : ElementSpec) (laws : IsElement s) (represents : List ℕ → ℕ → V → Type 0) (f : Format V R) (format : IsFormat s represents f) where
   -- a written root is valid and represents the value, in any archive that has its bytes
-  pub root_sound : (v : V) (c : List ℕ) (p root : ℕ) (bytes : List ℕ) → RootBytes s.align f v p bytes root → Sits c p bytes
-      → (hi l : ℕ) × s.holds c root p hi l × (p ≤ hi) × (hi ≤ root) × (root + s.size ≡ p + length bytes) × (root % s.align ≡ 0) × stands c root v
+  pub root_sound : (v : V) (c : List ℕ) (p root : ℕ) (bytes : List ℕ) → RootBytes s.align f v p bytes root → OccursAt c p bytes
+      → (hi l : ℕ) × s.holds c root p hi l × (p ≤ hi) × (hi ≤ root) × (root + s.size ≡ p + length bytes) × (root % s.align ≡ 0) × represents c root v
   root_sound v c p root bytes b sits =
       let part : List ℕ = b.0 in
       let out : List ℕ = b.2 in
       let z : List ℕ = zeros (padding s.align (p + length part)) in
       let n : length z ≡ padding s.align (p + length part) = length-replicate (padding s.align (p + length part)) 0 in
-      let whole : length out ≡ s.size = format.whole v b.1 root out b.4 in
-      let sb : Sits c p (part ++ (z ++ out)) = subst (Sits c p) b.6 sits in
-      let sp : Sits c p part = sits_front c p part (z ++ out) sb in
-      let so : Sits c (p + length part + length z) out = sits_back c (p + length part) z out (sits_back c p part (z ++ out) sb) in
+      let whole : length out ≡ s.size = format.size_exact v b.1 root out b.4 in
+      let sb : OccursAt c p (part ++ (z ++ out)) = subst (OccursAt c p) b.6 sits in
+      let sp : OccursAt c p part = occurs_front c p part (z ++ out) sb in
+      let so : OccursAt c (p + length part + length z) out = occurs_back c (p + length part) z out (occurs_back c p part (z ++ out) sb) in
       let at : p + length part + length z ≡ root = omega (arith, n, b.5) in
       let al : root % s.align ≡ 0 = subst (λ k. k % s.align ≡ 0) (sym b.5) (round_up-multiple (p + length part) s.align laws.align_is) in
       let up : p + length part ≤ root = omega (arith, b.5) in
-      let d = format.sound v b.1 c p root part out b.3 b.4 sp (subst (λ k. Sits c k out) at so) up al in
+      let d = format.sound v b.1 c p root part out b.3 b.4 sp (subst (λ k. OccursAt c k out) at so) up al in
       let len : length bytes ≡ length part + (length z + length out) = ap length b.6 ∙ length-append part (z ++ out) ∙ ap (λ k. length part + k) (length-append z out) in
       (p + length part, d.0, d.1, omega arith, up, omega (arith, len, at, whole), al, d.2)
 
   root_accepted : (v : V) (bytes : List ℕ) (root : ℕ) → RootBytes s.align f v 0 bytes root → length bytes ≤ limit
-      → Accepted limit s bytes × stands bytes (length bytes - s.size) v × (root ≡ length bytes - s.size)
+      → Accepted limit s bytes × represents bytes (length bytes - s.size) v × (root ≡ length bytes - s.size)
   root_accepted v bytes root b small =
       let k : 0 + length bytes - 0 ≡ length bytes = omega arith in
-      let all : Sits bytes 0 bytes = record { inside = omega arith; there = rw k (take_all (length bytes) bytes (omega arith)) } in
+      let all : OccursAt bytes 0 bytes = record { inside = omega arith; there = rw k (take_all (length bytes) bytes (omega arith)) } in
       let d = root_sound v bytes 0 root bytes b all in
       let at : root ≡ length bytes - s.size = omega (arith, d.5) in (
         record {
           within = small;
           inside = omega (arith, d.5);
           aligned = subst (λ n. n % s.align ≡ 0) at d.6;
-          stands = subst (λ n. Standing s bytes n) at (standing s laws bytes root 0 d.0 d.1 d.3 d.4 d.2);
+          valid = subst (λ n. ValidAt s bytes n) at (valid_at s laws bytes root 0 d.0 d.1 d.3 d.4 d.2);
         },
-        subst (λ n. stands bytes n v) at d.7,
+        subst (λ n. represents bytes n v) at d.7,
         at,
       )
 
   -- the archive of one value, written from position 0
-  pub archive_made : (v : V) (o' : Output) (b : List ℕ) (root : ℕ) → WroteRoot limit s.align f v fresh o' root → b ≡ o'.bytes → ArchiveOf limit s stands f v b
+  pub archive_made : (v : V) (o' : Output) (b : List ℕ) (root : ℕ) → WroteRoot limit s.align f v fresh o' root → b ≡ o'.bytes → ArchiveOf limit s represents f v b
   archive_made v o' b root w e =
       let same : b ≡ w.0 = e ∙ w.1.bytes in
       let small : length w.0 ≤ limit = omega (arith, w.3, w.1.start, ap length w.1.bytes) in
       let d = root_accepted v w.0 root w.2 small in
       let rb : RootBytes s.align f v 0 w.0 (length w.0 - s.size) = subst (λ n. RootBytes s.align f v 0 w.0 n) d.2 w.2 in
-      subst (λ x. ArchiveOf limit s stands f v x) (sym same) (d.0, d.1, rb)
+      subst (λ x. ArchiveOf limit s represents f v x) (sym same) (d.0, d.1, rb)

@@ -11,8 +11,10 @@ use Rattle.std.proofs.lemmas.List.{drop-take, drop-drop, length-take, length-dro
 use Rattle.std.proofs.Math.Seq.{take-append-add}
 use Rattle.rkyv_base.specs.Sealing.{Sealed, Keeps, with_bytes}
 use Rattle.rkyv_base.specs.SealedText.{IsInline, IsSealedText, inline_at, with_uppercase, Raised}
-use Rattle.rkyv_base.specs.Shape.{Viewed}
-use Rattle.rkyv_base.specs.Text.{fixed_bytes, inline_text, is_far, text_at, text_shape, text_size, inline_reads}
+use Rattle.rkyv_base.specs.ElementSpec.{Viewable}
+use Rattle.rkyv_base.specs.Text.{fixed_bytes, inline_text, is_out_of_line, text_at, text_spec}
+use Rattle.rkyv_base.specs.Text.{text_size}
+use Rattle.rkyv_base.specs.Lemmas.Text.{inline_reads}
 use Rattle.rkyv_base.proofs.Uppercase.{utf8_raised}
 use Rattle.rkyv_base.proofs.Sealing.{joined, sealed_wider, with_bytes-rest, with_bytes-sealed}
 
@@ -46,10 +48,10 @@ front_raised (x ∷ xs) =
     ]
 
 -- the text is inline if it was before
-form_raised : (s : List ℕ) → is_far (raised_front s) ≡ is_far s
+form_raised : (s : List ℕ) → is_out_of_line (raised_front s) ≡ is_out_of_line s
 form_raised [] = refl
 form_raised (x ∷ xs) =
-    let P : List ℕ → Type 0 = λ t. is_far (map to_ascii_uppercase t ++ drop (length t) (x ∷ xs)) ≡ is_far (x ∷ xs) in
+    let P : List ℕ → Type 0 = λ t. is_out_of_line (map to_ascii_uppercase t ++ drop (length t) (x ∷ xs)) ≡ is_out_of_line (x ∷ xs) in
     elim (cases_Bool (x == 255)) [
       | inl h ↦ subst P (sym (inline_stops x xs h)) refl
       | inr h ↦ subst P (sym (inline_goes_on x xs h)) (same_form x)
@@ -78,7 +80,7 @@ module _ (w : Width) (b : List ℕ) (p : ℕ) (inside : p + text_size w ≤ leng
       ∙ take-append-add (map to_ascii_uppercase t) (drop (p + k) b) (n - k) ∙ ap (λ (l : List ℕ). map to_ascii_uppercase t ++ l) (sym back)
 
   inline_stays : IsInline w b p → IsInline w (with_uppercase w b p) p
-  inline_stays h = ap is_far fixed_raised ∙ form_raised (fixed_bytes w b p) ∙ h
+  inline_stays h = ap is_out_of_line fixed_raised ∙ form_raised (fixed_bytes w b p) ∙ h
 
   inline_raised : inline_at w (with_uppercase w b p) p ≡ map to_ascii_uppercase (inline_at w b p)
   inline_raised = ap inline_text fixed_raised ∙ front_raised (fixed_bytes w b p)
@@ -93,14 +95,14 @@ module _ (w : Width) (b : List ℕ) (p : ℕ) (inside : p + text_size w ≤ leng
       sealed_wider b (with_uppercase w b p) p k p (text_size w) (omega arith) (omega arith)
       (with_bytes-sealed b p k (map to_ascii_uppercase (inline_at w b p)) (omega arith) (length-map (inline_at w b p) to_ascii_uppercase))
 
-  uppercase_holds : IsInline w b p → Keeps (text_shape w) b (with_uppercase w b p) p
-  uppercase_holds near lo hi l o q (inl h) = inl (inline_stays near, text_raised h.1, h.2)
-  uppercase_holds near lo hi l o q (inr h) = cc (near, h.0)
+  uppercase_holds : IsInline w b p → Keeps (text_spec w) b (with_uppercase w b p) p
+  uppercase_holds local lo hi l o q (inl h) = inl (inline_stays local, text_raised h.1, h.2)
+  uppercase_holds local lo hi l o q (inr h) = cc (local, h.0)
 
   uppercase_reads : IsInline w b p → text_at w (with_uppercase w b p) p ≡ map to_ascii_uppercase (text_at w b p)
-  uppercase_reads near =
-      inline_reads w (fixed_bytes w (with_uppercase w b p) p) (with_uppercase w b p) p (inline_stays near) ∙ inline_raised
-      ∙ ap (map to_ascii_uppercase) (sym (inline_reads w (fixed_bytes w b p) b p near))
+  uppercase_reads local =
+      inline_reads w (fixed_bytes w (with_uppercase w b p) p) (with_uppercase w b p) p (inline_stays local) ∙ inline_raised
+      ∙ ap (map to_ascii_uppercase) (sym (inline_reads w (fixed_bytes w b p) b p local))
 
   -- the bytes after a call that writes the text in upper case
   module _ (c : List ℕ) where
@@ -108,25 +110,25 @@ module _ (w : Width) (b : List ℕ) (p : ℕ) (inside : p + text_size w ≤ leng
     raised_sealed true h = subst (λ x. Sealed b p (text_size w) x) (sym h.1) uppercase_sealed
     raised_sealed false h = subst (λ x. Sealed b p (text_size w) x) (sym h.1) (record { same_length = refl; before = refl; after = refl })
 
-    pub raised_holds : (inline : Bool) → Raised w b p c inline → Keeps (text_shape w) b c p
-    raised_holds true h = subst (λ x. Keeps (text_shape w) b x p) (sym h.1) (uppercase_holds h.0)
-    raised_holds false h = subst (λ x. Keeps (text_shape w) b x p) (sym h.1) (λ lo hi l o q k. k)
+    pub raised_holds : (inline : Bool) → Raised w b p c inline → Keeps (text_spec w) b c p
+    raised_holds true h = subst (λ x. Keeps (text_spec w) b x p) (sym h.1) (uppercase_holds h.0)
+    raised_holds false h = subst (λ x. Keeps (text_spec w) b x p) (sym h.1) (λ lo hi l o q k. k)
 
     pub raised_reads : (inline : Bool) → Raised w b p c inline → IsInline w b p → text_at w c p ≡ map to_ascii_uppercase (text_at w b p)
-    raised_reads true h near = ap (λ (x : List ℕ). text_at w x p) h.1 ∙ uppercase_reads near
-    raised_reads false h near = cc (near, h.0)
+    raised_reads true h local = ap (λ (x : List ℕ). text_at w x p) h.1 ∙ uppercase_reads local
+    raised_reads false h local = cc (local, h.0)
 
     pub raised_text : (inline : Bool) → Raised w b p c inline → IsSealedText w b p → IsSealedText w c p
-    raised_text true h text = subst (λ x. IsSealedText w x p) (sym h.1) (λ near. text_raised (text h.0))
+    raised_text true h text = subst (λ x. IsSealedText w x p) (sym h.1) (λ local. text_raised (text h.0))
     raised_text false h text = subst (λ x. IsSealedText w x p) (sym h.1) text
 
 -- the fixed bytes of a valid text
-pub holds_sealed : (w : Width) (b : List ℕ) (p lo hi l : ℕ) → (text_shape w).holds b p lo hi l → IsSealedText w b p
-holds_sealed w b p lo hi l (inl h) near = h.1
-holds_sealed w b p lo hi l (inr h) near = cc (near, h.0)
+pub holds_sealed : (w : Width) (b : List ℕ) (p lo hi l : ℕ) → (text_spec w).holds b p lo hi l → IsSealedText w b p
+holds_sealed w b p lo hi l (inl h) local = h.1
+holds_sealed w b p lo hi l (inr h) local = cc (local, h.0)
 
-pub viewed_sealed : (w : Width) (b : List ℕ) (p : ℕ) → Viewed (text_shape w) b p → IsSealedText w b p
-viewed_sealed w b p h = holds_sealed w b p 0 p h.stands.0 h.stands.1
+pub viewable_sealed : (w : Width) (b : List ℕ) (p : ℕ) → Viewable (text_spec w) b p → IsSealedText w b p
+viewable_sealed w b p h = holds_sealed w b p 0 p h.valid.0 h.valid.1
 
 -- the fixed bytes at `q` are those at the start of the back
 pub fixed_of_back : (w : Width) (b : List ℕ) (q : ℕ) → fixed_bytes w (drop q b) 0 ≡ fixed_bytes w b q
@@ -138,11 +140,11 @@ fixed_of_back w b q =
 pub raised_joined : (w : Width) (b back : List ℕ) (q : ℕ) (inline : Bool) → Raised w (drop q b) 0 back inline → Raised w b q (take q b ++ back) inline
 raised_joined w b back q true h =
     let t : List ℕ = inline_at w (drop q b) 0 in (
-      ap is_far (sym (fixed_of_back w b q)) ∙ h.0,
+      ap is_out_of_line (sym (fixed_of_back w b q)) ∙ h.0,
       ap (λ (x : List ℕ). take q b ++ x) h.1 ∙ joined b (map to_ascii_uppercase t) q (length t)
           ∙ ap (λ (x : List ℕ). with_bytes b q (length (inline_text x)) (map to_ascii_uppercase (inline_text x))) (fixed_of_back w b q),
     )
 raised_joined w b back q false h = (
-  ap is_far (sym (fixed_of_back w b q)) ∙ h.0,
+  ap is_out_of_line (sym (fixed_of_back w b q)) ∙ h.0,
   ap (λ (x : List ℕ). take q b ++ x) h.1 ∙ take-append-drop q b,
 )

@@ -4,12 +4,14 @@ use Rattle.std.specs.Int.{Width, byte_len, from_le_bytes, to_le_bytes}
 use Rattle.std.proofs.Common.{refl, arith, subst, subst₂, sym, ◌∙◌, ap, inl, inr, zero-add, length-append, length-drop}
 use Rattle.std.proofs.lemmas.List.{drop-take, take-take, drop-drop, length-take-le}
 use Rattle.std.proofs.Math.Seq.{take-append_seam, drop-append_seam, drop-append-add}
-use Rattle.rkyv_base.specs.Bytes.{Same, number_at}
-use Rattle.rkyv_base.specs.Scalar.{Encoding, Encodes, IsScalar, word_bytes, word_reads_back}
+use Rattle.rkyv_base.specs.Bytes.{AgreeOn, number_at}
+use Rattle.rkyv_base.specs.Scalar.{Encoding, Encodes, IsScalar}
+use Rattle.rkyv_base.specs.Lemmas.Scalar.{word_bytes, word_reads_back}
 use Rattle.rkyv_base.specs.Sealing.{with_bytes, with_value, value_at, IsValueAt, Sealed, Keeps, Outside}
-use Rattle.rkyv_base.specs.Shape.{Shape, IsElement, Viewed}
-use Rattle.rkyv_base.specs.Entry.{entry_shape, value_offset, parts_inside, viewed_key, viewed_value}
-use Rattle.rkyv_base.specs.Format.{StandsNear}
+use Rattle.rkyv_base.specs.ElementSpec.{ElementSpec, IsElement, Viewable}
+use Rattle.rkyv_base.specs.Entry.{entry_spec, value_offset}
+use Rattle.rkyv_base.specs.Lemmas.Entry.{parts_inside, viewable_key, viewable_value}
+use Rattle.rkyv_base.specs.Format.{RepresentsLocally}
 
 module _ (b : List ℕ) (p n : ℕ) (w : List ℕ) (inside : p + n ≤ length b) (size : length w ≡ n) where
   front_length : length (take p b) ≡ p
@@ -46,11 +48,11 @@ part_of_front b i j p o q =
     sym (ap (drop i) t ∙ d)
 
 module _ (b : List ℕ) (p n : ℕ) (c : List ℕ) (s : Sealed b p n c) where
-  same_before : (i j : ℕ) → i ≤ j → j ≤ p → Same b c i j
+  same_before : (i j : ℕ) → i ≤ j → j ≤ p → AgreeOn b c i j
   same_before i j o q =
       part_of_front b i j p o q ∙ ap (λ (x : List ℕ). drop i (take j x)) (sym s.before) ∙ sym (part_of_front c i j p o q)
 
-  same_after : (i j : ℕ) → p + n ≤ i → Same b c i j
+  same_after : (i j : ℕ) → p + n ≤ i → AgreeOn b c i j
   same_after i j q =
       let e : (p + n) + (i - (p + n)) ≡ i = omega arith in
       let kb : drop (i - (p + n)) (drop (p + n) b) ≡ drop i b = rw e at (drop-drop (i - (p + n)) (p + n) b) in
@@ -58,7 +60,7 @@ module _ (b : List ℕ) (p n : ℕ) (c : List ℕ) (s : Sealed b p n c) where
       ap (take (j - i)) (sym kb ∙ ap (drop (i - (p + n))) (sym s.after) ∙ kc)
 
   -- the bytes outside the sealed ones are the same
-  pub same_outside : (i j : ℕ) → i ≤ j → Outside p n i j → Same b c i j
+  pub same_outside : (i j : ℕ) → i ≤ j → Outside p n i j → AgreeOn b c i j
   same_outside i j o (inl q) = same_before i j o q
   same_outside i j o (inr q) = same_after i j q
 
@@ -79,13 +81,13 @@ sealed_wider b c p n q m o h s =
     }
 
 -- a scalar was written in place: nothing else changes, it reads back, and valid bytes stay valid
-pub record ValueSet {V : Type 0} (s : Shape) (e : Encoding V) (b c : List ℕ) (p : ℕ) (v : V) : Type 0 where
+pub record ValueSet {V : Type 0} (s : ElementSpec) (e : Encoding V) (b c : List ℕ) (p : ℕ) (v : V) : Type 0 where
   pub sealed : Sealed b p s.size c
   pub reads : value_at e c p ≡ v
   pub value : IsValueAt e c p
   pub holds : Keeps s b c p
 
-module _ {V : Type 0} (s : Shape) (e : Encoding V) (laws : IsScalar s e) (b c : List ℕ) (p : ℕ) (v : V) (out : List ℕ)
+module _ {V : Type 0} (s : ElementSpec) (e : Encoding V) (laws : IsScalar s e) (b c : List ℕ) (p : ℕ) (v : V) (out : List ℕ)
     (inside : p + byte_len e.word ≤ length b) (encodes : Encodes e v out) (is : c ≡ with_value e b p v) where
   number_there : number_at e.word c p ≡ e.code v
   number_there =
@@ -110,60 +112,60 @@ module _ {V : Type 0} (s : Shape) (e : Encoding V) (laws : IsScalar s e) (b c : 
   value_set = record { sealed = value_sealed; reads = value_there; value = value_good; holds = value_holds }
 
 -- a value outside the sealed bytes stays valid, with the same parts, and is the same
-module _ (s : Shape) (laws : IsElement s) (b c : List ℕ) (q n : ℕ) (sealed : Sealed b q n c) (p lo hi l : ℕ) (o : lo ≤ hi)
+module _ (s : ElementSpec) (laws : IsElement s) (b c : List ℕ) (q n : ℕ) (sealed : Sealed b q n c) (p lo hi l : ℕ) (o : lo ≤ hi)
     (fixed : Outside q n p (p + s.size)) (parts : Outside q n lo l) (h : s.holds b p lo hi l) where
-  pub holds_elsewhere : s.holds c p lo hi l
-  holds_elsewhere =
-      let k : (lo ≤ l) × (l ≤ hi) = laws.between b p lo hi l o h in
-      laws.near b c p lo hi l o (same_outside b q n c sealed p (p + s.size) (omega arith) fixed) (same_outside b q n c sealed lo l k.0 parts) h
+  pub holds_out_of_line : s.holds c p lo hi l
+  holds_out_of_line =
+      let k : (lo ≤ l) × (l ≤ hi) = laws.rest_in_range b p lo hi l o h in
+      laws.local b c p lo hi l o (same_outside b q n c sealed p (p + s.size) (omega arith) fixed) (same_outside b q n c sealed lo l k.0 parts) h
 
-  pub stands_elsewhere : {V : Type 0} (stands : List ℕ → ℕ → V → Type 0) → StandsNear s stands → (v : V) → stands b p v → stands c p v
-  stands_elsewhere stands near v st =
-      let k : (lo ≤ l) × (l ≤ hi) = laws.between b p lo hi l o h in
-      near v b c p lo hi l o h (same_outside b q n c sealed p (p + s.size) (omega arith) fixed) (same_outside b q n c sealed lo l k.0 parts) st
+  pub represents_out_of_line : {V : Type 0} (represents : List ℕ → ℕ → V → Type 0) → RepresentsLocally s represents → (v : V) → represents b p v → represents c p v
+  represents_out_of_line represents local v st =
+      let k : (lo ≤ l) × (l ≤ hi) = laws.rest_in_range b p lo hi l o h in
+      local v b c p lo hi l o h (same_outside b q n c sealed p (p + s.size) (omega arith) fixed) (same_outside b q n c sealed lo l k.0 parts) st
 
 -- an entry whose value is written in place
-module _ (k v : Shape) (kl : IsElement k) (vl : IsElement v) where
+module _ (k v : ElementSpec) (kl : IsElement k) (vl : IsElement v) where
   -- the entry stays valid, with the same parts, if the new value is valid
-  pub entry_kept : (b c : List ℕ) (p : ℕ) → Sealed b (p + value_offset k v) v.size c → Keeps v b c (p + value_offset k v) → Keeps (entry_shape k v) b c p
+  pub entry_kept : (b c : List ℕ) (p : ℕ) → Sealed b (p + value_offset k v) v.size c → Keeps v b c (p + value_offset k v) → Keeps (entry_spec k v) b c p
   entry_kept b c p s keeps lo hi l o q h =
       let i = parts_inside k v in
-      let x : (lo ≤ h.1) × (h.1 ≤ hi) = kl.between b p lo hi h.1 o h.2 in
-      let hk : k.holds c p lo hi h.1 = holds_elsewhere k kl b c (p + value_offset k v) v.size s p lo hi h.1 o (inl (omega (arith, i.0))) (inl (omega arith)) h.2 in
+      let x : (lo ≤ h.1) × (h.1 ≤ hi) = kl.rest_in_range b p lo hi h.1 o h.2 in
+      let hk : k.holds c p lo hi h.1 = holds_out_of_line k kl b c (p + value_offset k v) v.size s p lo hi h.1 o (inl (omega (arith, i.0))) (inl (omega arith)) h.2 in
       (h.0, h.1, hk, keeps h.1 hi l x.1 (omega arith) h.3)
 
 -- a valid value stays valid
-pub viewed_kept : (s : Shape) (b c : List ℕ) (p : ℕ) → length c ≡ length b → Keeps s b c p → Viewed s b p → Viewed s c p
-viewed_kept s b c p n keeps h = record {
+pub viewable_kept : (s : ElementSpec) (b c : List ℕ) (p : ℕ) → length c ≡ length b → Keeps s b c p → Viewable s b p → Viewable s c p
+viewable_kept s b c p n keeps h = record {
   inside = omega (arith, n, h.inside);
   aligned = h.aligned;
-  stands = (h.stands.0, keeps 0 p h.stands.0 (omega arith) (omega arith) h.stands.1);
+  valid = (h.valid.0, keeps 0 p h.valid.0 (omega arith) (omega arith) h.valid.1);
 }
 
 -- the archive is cut at `q`, after a value
-module _ (s : Shape) (laws : IsElement s) (b : List ℕ) (q : ℕ) where
-  same_in_front : (i j : ℕ) → i ≤ j → j ≤ q → Same b (take q b) i j
+module _ (s : ElementSpec) (laws : IsElement s) (b : List ℕ) (q : ℕ) where
+  same_in_front : (i j : ℕ) → i ≤ j → j ≤ q → AgreeOn b (take q b) i j
   same_in_front i j o h =
       let e : take q (take q b) ≡ take q b = take-take q q b (omega arith) in
       part_of_front b i j q o h ∙ ap (λ (x : List ℕ). drop i (take j x)) (sym e) ∙ sym (part_of_front (take q b) i j q o h)
 
-  pub front_viewed : (p : ℕ) → p + s.size ≤ q → q ≤ length b → Viewed s b p → Viewed s (take q b) p
-  front_viewed p h inside view =
-      let d = view.stands in
-      let k : (0 ≤ d.0) × (d.0 ≤ p) = laws.between b p 0 p d.0 (omega arith) d.1 in
+  pub front_viewable : (p : ℕ) → p + s.size ≤ q → q ≤ length b → Viewable s b p → Viewable s (take q b) p
+  front_viewable p h inside view =
+      let d = view.valid in
+      let k : (0 ≤ d.0) × (d.0 ≤ p) = laws.rest_in_range b p 0 p d.0 (omega arith) d.1 in
       let n : length (take q b) ≡ q = length-take-le q b inside in
       record {
         inside = omega (arith, n);
         aligned = view.aligned;
-        stands = (d.0, laws.near b (take q b) p 0 p d.0 (omega arith) (same_in_front p (p + s.size) (omega arith) h) (same_in_front 0 d.0 k.0 (omega arith)) d.1);
+        valid = (d.0, laws.local b (take q b) p 0 p d.0 (omega arith) (same_in_front p (p + s.size) (omega arith) h) (same_in_front 0 d.0 k.0 (omega arith)) d.1);
       }
 
 -- the key of a valid entry is in the bytes before the value
-pub key_in_front : (k v : Shape) → IsElement k → IsElement v → (b : List ℕ) (p : ℕ) → Viewed (entry_shape k v) b p → Viewed k (take (p + value_offset k v) b) p
+pub key_in_front : (k v : ElementSpec) → IsElement k → IsElement v → (b : List ℕ) (p : ℕ) → Viewable (entry_spec k v) b p → Viewable k (take (p + value_offset k v) b) p
 key_in_front k v kl vl b p h =
     let i = parts_inside k v in
-    let value : Viewed v b (p + value_offset k v) = viewed_value k v kl vl b p h in
-    front_viewed k kl b (p + value_offset k v) p (omega (arith, i.0)) (omega (arith, value.inside)) (viewed_key k v kl vl b p h)
+    let value : Viewable v b (p + value_offset k v) = viewable_value k v kl vl b p h in
+    front_viewable k kl b (p + value_offset k v) p (omega (arith, i.0)) (omega (arith, value.inside)) (viewable_key k v kl vl b p h)
 
 -- a write at the start of the back is one in the whole
 pub joined : (b w : List ℕ) (q n : ℕ) → take q b ++ with_bytes (drop q b) 0 n w ≡ with_bytes b q n w

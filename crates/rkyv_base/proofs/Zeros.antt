@@ -3,10 +3,12 @@ use Rattle.std.specs.Prelude.{◌≡◌, ℕ, ◌+◌, ◌%◌, ◌≤◌, List,
 use Rattle.std.proofs.Common.{arith, ap, subst, sym, ◌∙◌}
 use Rattle.std.proofs.lemmas.List.{length-replicate, take-replicate}
 use Rattle.rkyv_base.specs.declared.errors.WriteError.{WriteError}
-use Rattle.rkyv_base.specs.Shape.{IsAlign, align_small}
-use Rattle.rkyv_base.specs.Entry.{round_up, round_up-multiple}
-use Rattle.rkyv_base.specs.Writing.{Appends, Only, Output, Told, end_of, padding, piece, zeros}
-use Rattle.rkyv_base.proofs.GivingUp.{end-appends}
+use Rattle.rkyv_base.specs.ElementSpec.{IsAlign}
+use Rattle.rkyv_base.specs.Lemmas.ElementSpec.{align_small}
+use Rattle.rkyv_base.specs.Entry.{round_up}
+use Rattle.rkyv_base.specs.Lemmas.Entry.{round_up-multiple}
+use Rattle.rkyv_base.specs.Writing.{Appends, Only, Output, WriteFails, end_of, padding, piece, zeros}
+use Rattle.rkyv_base.proofs.WritingSteps.{end-appends}
 
 -- the zeros up to an alignment are a front of eight
 zeros-cut : (a p n : ℕ) → IsAlign a → n ≡ padding a p → take n (replicate 8 0) ≡ zeros (padding a p)
@@ -17,9 +19,9 @@ zeros-cut a p n al e =
 
 -- an error of writing the cut is an error of writing the zeros
 pub told_of_zeros : {F : Type 0} (limit a p n : ℕ) (o o' : Output) (e : WriteError F) → IsAlign a → n ≡ padding a p
-    → Told limit (Only (piece (take n (replicate 8 0)))) o o' e → Told limit (Only (piece (zeros (padding a p)))) o o' e
+    → WriteFails limit (Only (piece (take n (replicate 8 0)))) o o' e → WriteFails limit (Only (piece (zeros (padding a p)))) o o' e
 told_of_zeros limit a p n o o' e al same told =
-    subst (λ (x : List ℕ). Told limit (Only (piece x)) o o' e) (zeros-cut a p n al same) told
+    subst (λ (x : List ℕ). WriteFails limit (Only (piece x)) o o' e) (zeros-cut a p n al same) told
 
 -- `p`: end of a write of the cut, a multiple of the alignment
 pub aligned_by_zeros : (limit a n p : ℕ) (o o' : Output) → IsAlign a → n ≡ padding a (end_of o) → p ≡ end_of o' → Appends o o' (take n (replicate 8 0))

@@ -1,34 +1,19 @@
 -- The conditions under which an archive is accepted, and the errors otherwise.
-use Rattle.std.specs.Prelude.{
-  MatchResult,
-  Result,
-  ◌≡◌,
-  ◌≢◌,
-  ℕ,
-  ◌-◌,
-  ◌%◌,
-  ◌<◌,
-  ◌≤◌,
-  ◌⊎◌,
-  List,
-  length,
-  pos,
-  ◌-ℤ◌,
-}
-use Rattle.std.proofs.Common.{arith}
+use Rattle.std.specs.Prelude.{MatchResult, Result, ◌≡◌, ◌≢◌, ℕ, ◌-◌, ◌%◌, ◌<◌, ◌≤◌, ◌⊎◌, List}
+use Rattle.std.specs.Prelude.{length, pos, ◌-ℤ◌}
 use Rattle.rkyv_base.specs.declared.errors.VerifyError.{VerifyError}
 use Rattle.rkyv_base.specs.declared.errors.VerifyError.TheVariants.{OutOfRange, Unaligned}
-use Rattle.rkyv_base.specs.Shape.{Shape, Standing, Viewed}
+use Rattle.rkyv_base.specs.ElementSpec.{ElementSpec, ValidAt}
 
 -- `b`: archive within `limit`, with a valid and aligned root at its end
-pub record Accepted (limit : ℕ) (s : Shape) (b : List ℕ) : Type 0 where
+pub record Accepted (limit : ℕ) (s : ElementSpec) (b : List ℕ) : Type 0 where
   pub within : length b ≤ limit
   pub inside : s.size ≤ length b
   pub aligned : (length b - s.size) % s.align ≡ 0
-  pub stands : Standing s b (length b - s.size)
+  pub valid : ValidAt s b (length b - s.size)
 
 -- `e`: first fault of the archive `b`: its length, the alignment of its root, or the root itself
-abbrev pub AccessFails : ℕ → Shape → List ℕ → VerifyError → Type 0
+abbrev pub AccessFails : ℕ → ElementSpec → List ℕ → VerifyError → Type 0
 AccessFails limit s b e =
     (((length b < s.size) ⊎ (limit < length b))
     × (e ≡ OutOfRange (pos (length b) -ℤ pos s.size) s.size))
@@ -39,17 +24,8 @@ AccessFails limit s b e =
 
 -- `result`: result of validating `b` and writing at its root, `c`: bytes after that.
 -- `Writes r b p c`: a write at `p` changed `b` to `c` and returned `r`. On an error `c` is `b`
-abbrev pub AccessWrites : {R : Type 0} → ℕ → Shape → (R → List ℕ → ℕ → List ℕ → Type 0)
+abbrev pub AccessWrites : {R : Type 0} → ℕ → ElementSpec → (R → List ℕ → ℕ → List ℕ → Type 0)
     → List ℕ → List ℕ → Result R VerifyError → Type 0
 AccessWrites limit s Writes b c result = MatchResult result
     (λ r. Accepted limit s b × Writes r b (length b - s.size) c)
     (λ e. AccessFails limit s b e × (c ≡ b))
-
--- the root of an accepted archive
-pub root_viewed : (limit : ℕ) (s : Shape) (b : List ℕ) → Accepted limit s b
-    → Viewed s b (length b - s.size)
-root_viewed limit s b a = record {
-  inside = omega (arith, a.inside);
-  aligned = a.aligned;
-  stands = a.stands;
-}

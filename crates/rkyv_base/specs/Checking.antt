@@ -2,12 +2,12 @@
 use Rattle.std.specs.Prelude.{◌≡◌, ℕ, List}
 use Rattle.rkyv_base.specs.declared.element.PartRange.{PartRange}
 use Rattle.rkyv_base.specs.declared.errors.VerifyError.{VerifyError}
-use Rattle.rkyv_base.specs.Shape.{Shape}
+use Rattle.rkyv_base.specs.ElementSpec.{ElementSpec}
 
 -- `rest`: rest of the range after the parts of the valid value at `p`
-abbrev pub Passes : Shape → List ℕ → ℕ → PartRange → PartRange → Type 0
+abbrev pub Passes : ElementSpec → List ℕ → ℕ → PartRange → PartRange → Type 0
 Passes s b p range rest = (rest.hi ≡ range.hi) × s.holds b p range.lo range.hi rest.lo
 
 -- `e`: first fault of the bytes at `p`, which are not a valid value
-abbrev pub Fails : Shape → List ℕ → ℕ → PartRange → VerifyError → Type 0
+abbrev pub Fails : ElementSpec → List ℕ → ℕ → PartRange → VerifyError → Type 0
 Fails s b p range e = s.fails b p range.lo range.hi e

@@ -1,11 +1,12 @@
 -- What is known of the types of elements, as records that the types of collections carry.
-use Rattle.rkyv_base.specs.Entry.{entry_element, entry_shape}
-use Rattle.rkyv_base.specs.declared.element.Shaped.{Ghosts as Shapes}
+use Rattle.rkyv_base.specs.Entry.{entry_spec}
+use Rattle.rkyv_base.specs.Lemmas.Entry.{entry_element}
+use Rattle.rkyv_base.specs.declared.element.HasSpec.{Ghosts as Specs}
 use Rattle.rkyv_base.specs.declared.entry.Entry.{Entry}
 
--- the shape and the laws of entries
-abbrev pub entry_shapes : {K V : Type 0} → Shapes K → Shapes V → Shapes (Entry K V)
-entry_shapes ks vs = record {
-  shape = entry_shape ks.shape vs.shape;
-  laws = entry_element ks.shape vs.shape ks.laws vs.laws;
+-- the spec and the laws of entries
+abbrev pub entry_specs : {K V : Type 0} → Specs K → Specs V → Specs (Entry K V)
+entry_specs ks vs = record {
+  spec = entry_spec ks.spec vs.spec;
+  laws = entry_element ks.spec vs.spec ks.laws vs.laws;
 }

@@ -1,54 +1,26 @@
 -- The entry of a key and a value: the key, zeros up to the value's alignment, the value,
 -- and zeros up to the greater alignment.
-use Rattle.std.specs.Prelude.{
-  ◌≡◌,
-  ℕ,
-  ◌+◌,
-  ◌%◌,
-  ◌<◌,
-  ◌≤◌,
-  ◌⊎◌,
-  max,
-  nat_le,
-  if◌then◌else◌,
-  List,
-  length,
-}
-use Rattle.std.proofs.lemmas.Bool.{cases_lt}
-use Rattle.std.proofs.lemmas.Bool.Decides.{nat_tests}
-use Rattle.std.specs.Coded.{le_prop, ×_prop}
-use Rattle.std.proofs.Common.{refl, arith, inl, inr, subst, sym, ◌∙◌}
+use Rattle.std.specs.Prelude.{◌≡◌, ℕ, ◌+◌, ◌<◌, ◌≤◌, ◌⊎◌, max, nat_le, if◌then◌else◌, List}
 use Rattle.rkyv_base.specs.declared.errors.VerifyError.{VerifyError}
 use Rattle.rkyv_base.specs.declared.errors.VerifyError.TheVariants.{Refused}
-use Rattle.rkyv_base.specs.Bytes.{Same, same_part}
-use Rattle.rkyv_base.specs.Lemmas.Props.{only_one, prop_by}
+use Rattle.rkyv_base.specs.Bytes.{AgreeOn}
 use Rattle.rkyv_base.specs.Writing.{padding}
-use Rattle.rkyv_base.specs.Shape.{
-  Shape,
-  IsAlign,
-  IsElement,
-  Viewed,
-  standing,
-  by_align,
-  max_align,
-  multiple_of_max,
-  sum_multiple,
-}
+use Rattle.rkyv_base.specs.ElementSpec.{ElementSpec}
 
 -- `n` rounded up to a multiple of `a`
 abbrev pub round_up : ℕ → ℕ → ℕ
 round_up n a = n + padding a n
 
 -- the offset of the value of an entry
-abbrev pub value_offset : Shape → Shape → ℕ
+abbrev pub value_offset : ElementSpec → ElementSpec → ℕ
 value_offset k v = round_up k.size v.align
 
 -- the size of an entry in bytes, even if it is too large
-abbrev pub whole_size : Shape → Shape → ℕ
+abbrev pub whole_size : ElementSpec → ElementSpec → ℕ
 whole_size k v = round_up (value_offset k v + v.size) (max k.align v.align)
 
 -- an entry of this size can be archived
-abbrev pub IsSmall : Shape → Shape → Type 0
+abbrev pub IsSmall : ElementSpec → ElementSpec → Type 0
 IsSmall k v = whole_size k v ≤ 1073741824
 
 -- the size `whole`, or 0 if it is too large
@@ -56,219 +28,30 @@ abbrev pub size_of_whole : ℕ → ℕ
 size_of_whole whole = if nat_le whole 1073741824 then whole else 0
 
 -- the bytes at `p` are a valid entry: a valid key, followed by a valid value
-abbrev pub EntryHolds : Shape → Shape → List ℕ → ℕ → ℕ → ℕ → ℕ → Type 0
+abbrev pub EntryHolds : ElementSpec → ElementSpec → List ℕ → ℕ → ℕ → ℕ → ℕ → Type 0
 EntryHolds k v b p lo hi l = IsSmall k v × (m : ℕ) × k.holds b p lo hi m
     × v.holds b (p + value_offset k v) m hi l
 
 -- `e`: first fault of the entry at `p`. It is too large, or its key or its value is invalid
-abbrev pub EntryFails : Shape → Shape → List ℕ → ℕ → ℕ → ℕ → VerifyError → Type 0
+abbrev pub EntryFails : ElementSpec → ElementSpec → List ℕ → ℕ → ℕ → ℕ → VerifyError → Type 0
 EntryFails k v b p lo hi e =
     ((1073741824 < whole_size k v) × (e ≡ Refused 0))
     ⊎ (IsSmall k v × (k.fails b p lo hi e
     ⊎ ((m : ℕ) × k.holds b p lo hi m × v.fails b (p + value_offset k v) m hi e)))
 
 -- `b` and `c` agree on all bytes of an entry's key and value. The value's parts begin at `m`
-pub record PartsSame (k v : Shape) (b c : List ℕ) (p lo hi m l : ℕ) : Type 0 where
+pub record PartsSame (k v : ElementSpec) (b c : List ℕ) (p lo hi m l : ℕ) : Type 0 where
   pub room : m ≤ hi
-  pub key : Same b c p (p + k.size)
-  pub key_parts : Same b c lo m
-  pub value : Same b c (p + value_offset k v) (p + value_offset k v + v.size)
-  pub value_parts : Same b c m l
+  pub key : AgreeOn b c p (p + k.size)
+  pub key_parts : AgreeOn b c lo m
+  pub value : AgreeOn b c (p + value_offset k v) (p + value_offset k v + v.size)
+  pub value_parts : AgreeOn b c m l
 
 -- the entry of a key `k` and a value `v`, as an element
-abbrev pub entry_shape : Shape → Shape → Shape
-entry_shape k v = record {
+abbrev pub entry_spec : ElementSpec → ElementSpec → ElementSpec
+entry_spec k v = record {
   size = size_of_whole (whole_size k v);
   align = max k.align v.align;
   holds = EntryHolds k v;
   fails = EntryFails k v;
 }
-
-pub size_of_small : (whole : ℕ) → whole ≤ 1073741824 → size_of_whole whole ≡ whole
-size_of_small whole h = grind (arith, nat_tests)
-
-pub size_of_large : (whole : ℕ) → 1073741824 < whole → size_of_whole whole ≡ 0
-size_of_large whole h = grind (arith, nat_tests)
-
-pub size_of_any : (whole : ℕ) → size_of_whole whole ≤ 1073741824
-size_of_any whole = grind (arith, nat_tests)
-
-size_multiple : (whole a : ℕ) → IsAlign a → whole % a ≡ 0 → size_of_whole whole % a ≡ 0
-size_multiple whole a al h =
-    elim (cases_lt 1073741824 whole) [
-      | inr low ↦ rw (size_of_small whole low) h
-      | inl high ↦ let e : size_of_whole whole ≡ 0 = grind (arith, nat_tests) in
-          rw e (by_align (λ v. 0 % v ≡ 0) refl refl refl refl a al)
-    ]
-
-pub round_up-multiple : (n a : ℕ) → IsAlign a → round_up n a % a ≡ 0
-round_up-multiple n a ha = by_align (λ v. round_up n v % v ≡ 0) (omega arith) (omega arith)
-    (omega arith) (omega arith) a ha
-
--- the key and the value are inside the entry
-pub parts_inside : (k v : Shape) → (k.size ≤ value_offset k v)
-    × (value_offset k v + v.size ≤ whole_size k v)
-parts_inside k v = (omega arith, omega arith)
-
-module _ (k v : Shape) (kl : IsElement k) (vl : IsElement v) where
-  entry_prop : (b : List ℕ) (p lo hi l : ℕ) → IsProp (EntryHolds k v b p lo hi l)
-  entry_prop b p lo hi l =
-      prop_by {B = IsSmall k v × ((m : ℕ) × (k.holds b p lo hi m
-      × v.holds b (p + value_offset k v) m hi l))}
-      (λ h. (h.0, (h.1, (h.2, h.3)))) (λ h. (h.0, h.1.0, h.1.1.0, h.1.1.1)) (λ _. refl)
-      (×_prop le_prop (only_one
-      (λ m. ×_prop (kl.proper b p lo hi m) (vl.proper b (p + value_offset k v) m hi l))
-      (λ m m' h h'. kl.one b p lo hi m m' h.0 h'.0)))
-
-  entry_between : (b : List ℕ) (p lo hi l : ℕ) → lo ≤ hi → EntryHolds k v b p lo hi l → (lo ≤ l)
-      × (l ≤ hi)
-  entry_between b p lo hi l o h =
-      let x : (lo ≤ h.1) × (h.1 ≤ hi) = kl.between b p lo hi h.1 o h.2 in
-      let y : (h.1 ≤ l) × (l ≤ hi) = vl.between b (p + value_offset k v) h.1 hi l x.1 h.3 in
-      (omega arith, y.1)
-
-  entry_one : (b : List ℕ) (p lo hi l l' : ℕ) → EntryHolds k v b p lo hi l
-      → EntryHolds k v b p lo hi l' → l ≡ l'
-  entry_one b p lo hi l l' h h' =
-      let e : h'.1 ≡ h.1 = kl.one b p lo hi h'.1 h.1 h'.2 h.2 in
-      vl.one b (p + value_offset k v) h.1 hi l l' h.3
-      (subst (λ m. v.holds b (p + value_offset k v) m hi l') e h'.3)
-
-  entry_clear : (b : List ℕ) (p lo hi l : ℕ) (e : VerifyError) → EntryHolds k v b p lo hi l
-      → EntryFails k v b p lo hi e → ⊥
-  entry_clear b p lo hi l e h (inl f) = omega (arith, h.0, f.0)
-  entry_clear b p lo hi l e h (inr (f, inl g)) = kl.clear b p lo hi h.1 e h.2 g
-  entry_clear b p lo hi l e h (inr (f, inr g)) =
-      let q : g.0 ≡ h.1 = kl.one b p lo hi g.0 h.1 g.1 h.2 in
-      vl.clear b (p + value_offset k v) h.1 hi l e h.3
-      (subst (λ m. v.fails b (p + value_offset k v) m hi e) q g.2)
-
-  entry_one_failure : (b : List ℕ) (p lo hi : ℕ) (e e' : VerifyError) → EntryFails k v b p lo hi e
-      → EntryFails k v b p lo hi e' → e ≡ e'
-  entry_one_failure b p lo hi e e' (inl f) (inl g) = f.1 ∙ sym g.1
-  entry_one_failure b p lo hi e e' (inl f) (inr g) = absurd (omega (arith, f.0, g.0))
-  entry_one_failure b p lo hi e e' (inr f) (inl g) = absurd (omega (arith, f.0, g.0))
-  entry_one_failure b p lo hi e e' (inr (small, inl f)) (inr (small', inl g)) =
-      kl.one_failure b p lo hi e e' f g
-  entry_one_failure b p lo hi e e' (inr (small, inl f)) (inr (small', inr g)) =
-      absurd (kl.clear b p lo hi g.0 e g.1 f)
-  entry_one_failure b p lo hi e e' (inr (small, inr f)) (inr (small', inl g)) =
-      absurd (kl.clear b p lo hi f.0 e' f.1 g)
-  entry_one_failure b p lo hi e e' (inr (small, inr f)) (inr (small', inr g)) =
-      let q : g.0 ≡ f.0 = kl.one b p lo hi g.0 f.0 g.1 f.1 in
-      vl.one_failure b (p + value_offset k v) f.0 hi e e' f.2
-      (subst (λ m. v.fails b (p + value_offset k v) m hi e') q g.2)
-
-  -- two lists that agree on an entry agree on its key and on its value
-  pub same_key : (b c : List ℕ) (p : ℕ) → IsSmall k v
-      → Same b c p (p + size_of_whole (whole_size k v)) → Same b c p (p + k.size)
-  same_key b c p small fixed =
-      let size : size_of_whole (whole_size k v) ≡ whole_size k v =
-      size_of_small (whole_size k v) small in
-      let i = parts_inside k v in
-      same_part b c p (p + size_of_whole (whole_size k v)) p (p + k.size) (omega arith)
-      (omega (arith, size, i.0, i.1)) (omega arith) fixed
-
-  pub same_value : (b c : List ℕ) (p : ℕ) → IsSmall k v
-      → Same b c p (p + size_of_whole (whole_size k v))
-      → Same b c (p + value_offset k v) (p + value_offset k v + v.size)
-  same_value b c p small fixed =
-      let size : size_of_whole (whole_size k v) ≡ whole_size k v =
-      size_of_small (whole_size k v) small in
-      let i = parts_inside k v in
-      same_part b c p (p + size_of_whole (whole_size k v)) (p + value_offset k v)
-      (p + value_offset k v + v.size) (omega arith) (omega (arith, size, i.1)) (omega arith)
-      fixed
-
-  -- two lists that agree on an entry and its parts agree on those of its key and its value
-  pub same_parts : (b c : List ℕ) (p lo hi l : ℕ) → lo ≤ hi → (h : EntryHolds k v b p lo hi l)
-      → Same b c p (p + size_of_whole (whole_size k v)) → Same b c lo l
-      → PartsSame k v b c p lo hi h.1 l
-  same_parts b c p lo hi l o h fixed part =
-      let x : (lo ≤ h.1) × (h.1 ≤ hi) = kl.between b p lo hi h.1 o h.2 in
-      let y : (h.1 ≤ l) × (l ≤ hi) = vl.between b (p + value_offset k v) h.1 hi l x.1 h.3 in
-      record {
-        room = x.1;
-        key = same_key b c p h.0 fixed;
-        key_parts = same_part b c lo l lo h.1 (omega arith) y.0 x.0 part;
-        value = same_value b c p h.0 fixed;
-        value_parts = same_part b c lo l h.1 l x.0 (omega arith) y.0 part;
-      }
-
-  entry_near : (b c : List ℕ) (p lo hi l : ℕ) → lo ≤ hi
-      → Same b c p (p + size_of_whole (whole_size k v)) → Same b c lo l
-      → EntryHolds k v b p lo hi l → EntryHolds k v c p lo hi l
-  entry_near b c p lo hi l o fixed part h =
-      let s = same_parts b c p lo hi l o h fixed part in (
-        h.0,
-        h.1,
-        kl.near b c p lo hi h.1 o s.key s.key_parts h.2,
-        vl.near b c (p + value_offset k v) h.1 hi l s.room s.value s.value_parts h.3,
-      )
-
-  entry_lower : (b : List ℕ) (p lo lo' hi l : ℕ) → lo' ≤ lo → lo ≤ hi → EntryHolds k v b p lo hi l
-      → (l' : ℕ) × EntryHolds k v b p lo' hi l' × (l' ≤ l)
-  entry_lower b p lo lo' hi l o o' h =
-      let x : (lo ≤ h.1) × (h.1 ≤ hi) = kl.between b p lo hi h.1 o' h.2 in
-      let dk : (m : ℕ) × k.holds b p lo' hi m × (m ≤ h.1) = kl.lower b p lo lo' hi h.1 o o' h.2 in
-      let dv : (m : ℕ) × v.holds b (p + value_offset k v) dk.0 hi m × (m ≤ l) =
-      vl.lower b (p + value_offset k v) h.1 dk.0 hi l dk.2 x.1 h.3 in
-      (dv.0, (h.0, dk.0, dk.1, dv.1), dv.2)
-
-  pub entry_element : IsElement (entry_shape k v)
-  entry_element =
-      let al = max_align k.align v.align kl.align_is vl.align_is in
-      record {
-        align_is = al;
-        size_whole = size_multiple (whole_size k v) (max k.align v.align) al
-            (round_up-multiple (value_offset k v + v.size) (max k.align v.align) al);
-        size_small = size_of_any (whole_size k v);
-        proper = entry_prop;
-        between = entry_between;
-        one = entry_one;
-        clear = entry_clear;
-        one_failure = entry_one_failure;
-        higher = λ b p lo hi hi' l o h. (
-          h.0,
-          h.1,
-          kl.higher b p lo hi hi' h.1 o h.2,
-          vl.higher b
-              (p + value_offset k v) h.1 hi hi' l o h.3,
-        );
-        lower = entry_lower;
-        near = entry_near;
-      }
-
-  -- the key and the value of a valid entry are inside the bytes, and aligned
-  parts_lie : (b : List ℕ) (p : ℕ) → Viewed (entry_shape k v) b p
-      → (p + value_offset k v + v.size ≤ length b) × (p % k.align ≡ 0) × (p % v.align ≡ 0)
-  parts_lie b p h =
-      let size : size_of_whole (whole_size k v) ≡ whole_size k v =
-      size_of_small (whole_size k v) h.stands.1.0 in
-      let als : (p % k.align ≡ 0) × (p % v.align ≡ 0) =
-      multiple_of_max p k.align v.align kl.align_is vl.align_is h.aligned in
-      (omega (arith, h.inside, size, (parts_inside k v).1), als.0, als.1)
-
-  -- the key and the value of a valid entry are valid
-  pub viewed_key : (b : List ℕ) (p : ℕ) → Viewed (entry_shape k v) b p → Viewed k b p
-  viewed_key b p h =
-      let lie = parts_lie b p h in
-      record {
-        inside = omega (arith, lie.0, (parts_inside k v).0);
-        aligned = lie.1;
-        stands = (h.stands.1.1, h.stands.1.2);
-      }
-
-  pub viewed_value : (b : List ℕ) (p : ℕ) → Viewed (entry_shape k v) b p
-      → Viewed v b (p + value_offset k v)
-  viewed_value b p h =
-      let lie = parts_lie b p h in
-      let x : (0 ≤ h.stands.1.1) × (h.stands.1.1 ≤ p) =
-      kl.between b p 0 p h.stands.1.1 (omega arith) h.stands.1.2 in
-      record {
-        inside = lie.0;
-        aligned = sum_multiple p (value_offset k v) v.align vl.align_is lie.2
-            (round_up-multiple k.size v.align vl.align_is);
-        stands = standing v vl b (p + value_offset k v) h.stands.1.1 p h.stands.0 x.1 (omega arith)
-            h.stands.1.3;
-      }

@@ -1,5 +1,5 @@
 pub mod Bytes
-pub mod Shape
+pub mod ElementSpec
 pub mod Writing
 pub mod Checking
 pub mod Format

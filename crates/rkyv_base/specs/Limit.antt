@@ -3,7 +3,7 @@ use Rattle.std.specs.Prelude.{◌≡◌, ℕ, ◌+◌, ◌<◌, ◌⊎◌, List,
 use Rattle.rkyv_base.specs.declared.limit.LimitFault.{LimitFault}
 use Rattle.rkyv_base.specs.declared.limit.LimitFault.TheVariants.{Full, Inner}
 use Rattle.rkyv_base.specs.declared.limit.LimitWriter.{LimitWriter}
-use Rattle.rkyv_base.specs.Writing.{Output, Appends, Fell}
+use Rattle.rkyv_base.specs.Writing.{Output, Appends, Faults}
 
 -- the output of a writer with a limit: the inner output, with a count of failures of its own
 abbrev pub limited : {W : Type 0} → (W → Output) → LimitWriter W → Output
@@ -20,18 +20,18 @@ InnerTook output w w' bytes =
     Appends (output w.inner) (output w'.inner) bytes × (w'.failures ≡ w.failures)
 
 -- the inner writer failed on the bytes, both writers count it, and the fault is `Inner`
-abbrev pub InnerFell : {W F : Type 0} → (W → Output) → LimitWriter W → LimitWriter W → List ℕ
+abbrev pub InnerFaults : {W F : Type 0} → (W → Output) → LimitWriter W → LimitWriter W → List ℕ
     → LimitFault F → Type 0
-InnerFell output w w' bytes Full = ⊥
-InnerFell output w w' bytes (Inner fault) = Fell (output w.inner) (output w'.inner) bytes
-    × Fell (limited output w) (limited output w') bytes
+InnerFaults output w w' bytes Full = ⊥
+InnerFaults output w w' bytes (Inner fault) = Faults (output w.inner) (output w'.inner) bytes
+    × Faults (limited output w) (limited output w') bytes
 
 -- `Full`: the piece doesn't fit, and the inner writer appended the front that does.
 -- `Inner`: the inner writer failed on the front that fits
-abbrev pub LimitTold : {W F : Type 0} → (W → Output) → LimitWriter W → LimitWriter W → List ℕ
+abbrev pub LimitWriteFails : {W F : Type 0} → (W → Output) → LimitWriter W → LimitWriter W → List ℕ
     → LimitFault F → Type 0
-LimitTold output w w' bytes Full =
+LimitWriteFails output w w' bytes Full =
     (w.left < length bytes) × Appends (output w.inner) (output w'.inner) (take w.left bytes)
-LimitTold output w w' bytes (Inner fault) =
-    ((0 < w.left) ⊎ (length bytes ≡ 0)) × Fell (output w.inner) (output w'.inner)
+LimitWriteFails output w w' bytes (Inner fault) =
+    ((0 < w.left) ⊎ (length bytes ≡ 0)) × Faults (output w.inner) (output w'.inner)
     (take w.left bytes)

@@ -2,8 +2,7 @@
 use Rattle.std.specs.Prelude.{◌==◌, ℕ, ℤ, ◌≤◌, ⊤, Bool, if◌then◌else◌}
 use Rattle.std.specs.Char.{IsScalar}
 use Rattle.std.specs.Int.{Width, w8, w32, cast_signed, cast_unsigned}
-use Rattle.std.proofs.Props.{props}
-use Rattle.rkyv_base.specs.Scalar.{AreProps, Encoding}
+use Rattle.rkyv_base.specs.Scalar.{Encoding}
 
 -- the encoding of unsigned numbers. Each is its own code
 abbrev pub unsigned : Width → Encoding ℕ
@@ -30,16 +29,3 @@ bool_encoding = record {
 -- the encoding of `char`, whose code is its Unicode scalar value
 abbrev pub char_encoding : Encoding ℕ
 char_encoding = record { word = w32; code = λ c. c; value = λ n. n; IsCode = IsScalar }
-
--- the codes of each encoding are given by a proposition
-pub unsigned_codes : (w : Width) → AreProps (unsigned w)
-unsigned_codes w n = hlevel props
-
-pub signed_codes : (w : Width) → AreProps (signed w)
-signed_codes w n = hlevel props
-
-pub bool_codes : AreProps bool_encoding
-bool_codes n = hlevel props
-
-pub char_codes : AreProps char_encoding
-char_codes n = hlevel props

@@ -20,7 +20,7 @@ use Rattle.rkyv_base.specs.Writing.{
   end_of,
   Appends,
   Step,
-  Told,
+  WriteFails,
   distance,
   no_memory,
   padding,
@@ -28,7 +28,7 @@ use Rattle.rkyv_base.specs.Writing.{
   refusal,
   zeros,
 }
-use Rattle.rkyv_base.specs.Shape.{Shape}
+use Rattle.rkyv_base.specs.ElementSpec.{ElementSpec}
 use Rattle.rkyv_base.specs.Entry.{round_up}
 use Rattle.rkyv_base.specs.Access.{Accepted}
 use Rattle.rkyv_base.specs.Format.{Format}
@@ -45,7 +45,7 @@ module _ {V R : Type 0} (align : ℕ) (f : Format V R) (v : V) (p : ℕ) where
   abbrev pub ValueStep : List ℕ → R → Step → Type 0
   ValueStep part r step =
       ((out : List ℕ) × f.image v r (round_up (p + length part) align) out × (step ≡ piece out))
-      ⊎ (f.far v r (round_up (p + length part) align) × (step ≡ refusal distance))
+      ⊎ (f.overflow v r (round_up (p + length part) align) × (step ≡ refusal distance))
 
   -- `step`: next step of writing a root after `front`. It is an allocation failure,
   -- a step of the value, the zeros, or the fixed bytes
@@ -64,9 +64,10 @@ WroteRoot limit align f v o o' root =
     × (end_of o' ≤ limit)
 
 -- writing a root failed with `e`: the earlier bytes are unchanged, and the condition of `e` is met
-abbrev pub RootGaveUp : {F V R : Type 0} → ℕ → ℕ → Format V R → V → Output → Output → WriteError F
+abbrev pub WriteRootFails : {F V R : Type 0} → ℕ → ℕ → Format V R → V → Output → Output
+    → WriteError F
     → Type 0
-RootGaveUp limit align f v o o' e = Told limit (RootNext align f v (end_of o)) o o' e
+WriteRootFails limit align f v o o' e = WriteFails limit (RootNext align f v (end_of o)) o o' e
 
 -- how a root is written. `align`: alignment of its element, `format`: format of its value
 pub record RootFormat (V R : Type 0) : Type 1 where
@@ -82,19 +83,20 @@ abbrev pub WritesRoot : {F V R : Type 0} → ℕ → RootFormat V R → V → Ou
     → Result ℕ (WriteError F) → Type 0
 WritesRoot limit root v o o' result = MatchResult result
     (WroteRoot limit root.align root.format v o o')
-    (RootGaveUp limit root.align root.format v o o')
+    (WriteRootFails limit root.align root.format v o o')
 
 -- the output of a new writer to memory
 abbrev pub fresh : Output
 fresh = record { start = 0; bytes = []; failures = 0 }
 
 -- `b`: archive of the value `v` alone. It is accepted, and its root represents `v`
-abbrev pub ArchiveOf : {V R : Type 0} → ℕ → Shape → (List ℕ → ℕ → V → Type 0) → Format V R → V
+abbrev pub ArchiveOf : {V R : Type 0} → ℕ → ElementSpec → (List ℕ → ℕ → V → Type 0) → Format V R → V
     → List ℕ → Type 0
-ArchiveOf limit s stands f v b =
-    Accepted limit s b × stands b (length b - s.size) v
+ArchiveOf limit s represents f v b =
+    Accepted limit s b × represents b (length b - s.size) v
     × RootBytes s.align f v 0 b (length b - s.size)
 
 -- `e`: error of writing the value `v` to memory
-abbrev pub ArchiveRefused : {F V R : Type 0} → ℕ → Shape → Format V R → V → WriteError F → Type 0
-ArchiveRefused limit s f v e = (o : Output) × RootGaveUp limit s.align f v fresh o e
+abbrev pub ArchiveRefused : {F V R : Type 0} → ℕ → ElementSpec → Format V R → V → WriteError F
+    → Type 0
+ArchiveRefused limit s f v e = (o : Output) × WriteRootFails limit s.align f v fresh o e

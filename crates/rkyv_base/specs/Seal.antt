@@ -3,7 +3,7 @@ use Rattle.std.specs.Prelude.{◌≡◌, ℕ, ◌+◌, ◌≤◌, List, ◌++◌
 use Rattle.std.specs.Borrow.{MutBor, Fml, LendsBoth, Array, u8}
 use Rattle.rkyv_base.specs.declared.seal.ArchiveSeal.{ArchiveSeal}
 use Rattle.rkyv_base.specs.declared.seal.Seal.{Seal}
-use Rattle.rkyv_base.specs.Shape.{Shape}
+use Rattle.rkyv_base.specs.ElementSpec.{ElementSpec}
 
 -- the reference `lender` with the same bytes, and the position `p`
 pub record LentAt (lent : MutBor (List ℕ)) (at : ℕ) (lender : MutBor (List ℕ)) (p : ℕ) : Type
@@ -50,9 +50,9 @@ abbrev pub ArchiveStays : {T : Type 0} → ArchiveSeal T → ArchiveSeal T → T
 ArchiveStays s s' = StaysLent s.archive s'.archive s.pos s'.pos
 
 -- the fixed bytes of the value end inside the borrowed bytes
-abbrev pub LiesIn : {T : Type 0} → Shape → Seal T → Type 0
+abbrev pub LiesIn : {T : Type 0} → ElementSpec → Seal T → Type 0
 LiesIn s x = x.pos + s.size ≤ length x.bytes.now
 
 -- the archive ends as the final front, followed by the final back
-abbrev pub LendsHalves : MutBor (List ℕ) → MutBor (List ℕ) × MutBor (List ℕ) → Fml
-LendsHalves s r = LendsBoth (Array u8 0) (Array u8 0) (Array u8 0) s r ◌++◌
+abbrev pub SplitsAtValue : MutBor (List ℕ) → MutBor (List ℕ) × MutBor (List ℕ) → Fml
+SplitsAtValue s r = LendsBoth (Array u8 0) (Array u8 0) (Array u8 0) s r ◌++◌

@@ -4,15 +4,15 @@ use Rattle.std.specs.Char.{to_ascii_uppercase}
 use Rattle.std.specs.Int.{Width}
 use Rattle.std.specs.Str.{IsUtf8}
 use Rattle.rkyv_base.specs.Sealing.{with_bytes}
-use Rattle.rkyv_base.specs.Text.{fixed_bytes, inline_text, is_far, text_at}
+use Rattle.rkyv_base.specs.Text.{fixed_bytes, inline_text, is_out_of_line, text_at}
 
 -- the text at `p` is out of line
 abbrev pub IsElsewhere : Width → List ℕ → ℕ → Type 0
-IsElsewhere w b p = is_far (fixed_bytes w b p) ≡ true
+IsElsewhere w b p = is_out_of_line (fixed_bytes w b p) ≡ true
 
 -- the text at `p` is inline
 abbrev pub IsInline : Width → List ℕ → ℕ → Type 0
-IsInline w b p = is_far (fixed_bytes w b p) ≡ false
+IsInline w b p = is_out_of_line (fixed_bytes w b p) ≡ false
 
 -- the inline text at `p`
 abbrev pub inline_at : Width → List ℕ → ℕ → List ℕ

@@ -2,9 +2,9 @@
 use Rattle.std.specs.Prelude.{◌≡◌, ℕ, ◌+◌, ◌≤◌, ◌⊎◌, List, ◌++◌, length, take, drop}
 use Rattle.std.specs.Int.{byte_len, to_le_bytes}
 use Rattle.rkyv_base.specs.Bytes.{number_at}
-use Rattle.rkyv_base.specs.Entry.{entry_shape, value_offset}
+use Rattle.rkyv_base.specs.Entry.{entry_spec, value_offset}
 use Rattle.rkyv_base.specs.Scalar.{Encoding}
-use Rattle.rkyv_base.specs.Shape.{Shape}
+use Rattle.rkyv_base.specs.ElementSpec.{ElementSpec}
 
 -- the bytes `b`, with the `n` bytes from position `p` on replaced by `w`
 abbrev pub with_bytes : List ℕ → ℕ → ℕ → List ℕ → List ℕ
@@ -15,7 +15,7 @@ abbrev pub with_value : {V : Type 0} → Encoding V → List ℕ → ℕ → V �
 with_value e b p v = with_bytes b p (byte_len e.word) (to_le_bytes e.word (e.code v))
 
 -- the position of the value of the entry at `p`
-abbrev pub value_pos : Shape → Shape → ℕ → ℕ
+abbrev pub value_pos : ElementSpec → ElementSpec → ℕ → ℕ
 value_pos k v p = p + value_offset k v
 
 -- the number at position `p` is that of a value
@@ -33,14 +33,14 @@ pub record Sealed (b : List ℕ) (p n : ℕ) (c : List ℕ) : Type 0 where
   pub after : drop (p + n) c ≡ drop (p + n) b
 
 -- a valid value at `p` in `b` is valid in `c`, with the same parts
-abbrev pub Keeps : Shape → List ℕ → List ℕ → ℕ → Type 0
+abbrev pub Keeps : ElementSpec → List ℕ → List ℕ → ℕ → Type 0
 Keeps s b c p = (lo hi l : ℕ) → lo ≤ hi → hi ≤ p → s.holds b p lo hi l → s.holds c p lo hi l
 
 -- the entry at `p` stays valid after each write to its value's bytes alone
 -- that keeps the value valid
-abbrev pub KeepsEntry : Shape → Shape → List ℕ → ℕ → Type 0
+abbrev pub KeepsEntry : ElementSpec → ElementSpec → List ℕ → ℕ → Type 0
 KeepsEntry k v b p = (c : List ℕ) → Sealed b (value_pos k v p) v.size c
-    → Keeps v b c (value_pos k v p) → Keeps (entry_shape k v) b c p
+    → Keeps v b c (value_pos k v p) → Keeps (entry_spec k v) b c p
 
 -- no byte from `i` on and below `j` is one of the `n` bytes from `p` on
 abbrev pub Outside : ℕ → ℕ → ℕ → ℕ → Type 0

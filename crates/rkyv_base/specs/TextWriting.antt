@@ -1,75 +1,14 @@
 -- The format of text: inline, filled up with ff, if it fits in the fixed bytes,
 -- and else in one piece out of line.
-use Rattle.std.specs.Prelude.{
-  FitsSigned,
-  List,
-  [],
-  false,
-  get_or,
-  length,
-  nat_le,
-  nat_lt,
-  pos,
-  replicate,
-  slice_index,
-  slice_range,
-  take,
-  true,
-  ℕ,
-  ℤ,
-  ◌%◌,
-  ◌&&◌,
-  ◌*◌,
-  ◌++◌,
-  ◌+ℤ◌,
-  ◌+◌,
-  ◌-ℤ◌,
-  ◌-◌,
-  ◌/◌,
-  ◌<◌,
-  ◌==◌,
-  ◌^◌,
-  ◌∷◌,
-  ◌≡◌,
-  ◌≤◌,
-  ◌⊎◌,
-}
-use Rattle.std.specs.List.{position_or_len}
-use Rattle.std.specs.Int.{Width, byte_len, to_le_bytes, from_le_bytes, cast_unsigned, cast_signed}
+use Rattle.std.specs.Prelude.{FitsSigned, List, [], length, pos, replicate, ℕ, ℤ, ◌%◌, ◌*◌, ◌++◌}
+use Rattle.std.specs.Prelude.{◌+◌, ◌-ℤ◌, ◌-◌, ◌/◌, ◌<◌, ◌^◌, ◌≡◌, ◌≤◌, ◌⊎◌}
+use Rattle.std.specs.Int.{Width, to_le_bytes, cast_unsigned}
 use Rattle.std.specs.Str.{IsUtf8}
 use mir.Val.{bits}
 use Rattle.rkyv_base.specs.declared.strings.TextResolver.{TextResolver}
 use Rattle.rkyv_base.specs.Writing.{Only, Step, long_text, piece, refusal}
-use Rattle.rkyv_base.specs.Format.{Format, IsFormat}
-use Rattle.rkyv_base.specs.Pairs.{written_as, written_as-format}
-use Rattle.rkyv_base.specs.Text.{
-  FixedHolds,
-  IsArchiveWord,
-  TextReads,
-  by_archive_word,
-  far_begin,
-  far_length,
-  far_reads,
-  fixed_bytes,
-  inline_reads,
-  inline_text,
-  is_far,
-  text_shape,
-  text_size,
-  told_length,
-}
-use Rattle.rkyv_base.specs.Bytes.{Sits, signed_at}
-use Rattle.rkyv_base.specs.Lemmas.Utf8.{text_below, text_begins}
-use Rattle.std.proofs.Common.{refl, arith, sym, subst, ◌∙◌, ap, inl, inr, length-append}
-use Rattle.std.proofs.Math.Facts.{Fits-of_z}
-use Rattle.std.proofs.Math.ListN.{get_or-append}
-use Rattle.std.proofs.Math.Seq.{get_or-append_right, take-append_seam, drop-append_seam}
-use Rattle.std.proofs.lemmas.Bool.Decides.{nat_tests}
-use Rattle.std.proofs.lemmas.Int.{ints, to_z-of_z}
-use Rattle.std.proofs.lemmas.List.{get_or-replicate, length-replicate, take_all}
-use Rattle.std.proofs.lemmas.List.Sums.{position_or_len_is}
-use Rattle.rkyv_base.specs.Parts.{PartIn}
-use Rattle.rkyv_base.specs.Scalar.{IsWord, word_bytes, word_reads_back}
+use Rattle.rkyv_base.specs.Format.{Format}
+use Rattle.rkyv_base.specs.Text.{text_size}
 
 -- the least length of a text that is refused
 abbrev pub text_limit : Width → ℕ
@@ -96,8 +35,9 @@ abbrev pub inline_bytes : ℕ → List ℕ → List ℕ
 inline_bytes size t = t ++ replicate (size - length t) 255
 
 -- the fixed bytes of an out-of-line text of `n` bytes at a distance
-abbrev pub far_bytes : Width → ℕ → ℤ → List ℕ
-far_bytes w n distance = to_le_bytes w (length_word n) ++ to_le_bytes w (cast_unsigned w distance)
+abbrev pub out_of_line_bytes : Width → ℕ → ℤ → List ℕ
+out_of_line_bytes w n distance =
+    to_le_bytes w (length_word n) ++ to_le_bytes w (cast_unsigned w distance)
 
 -- `part`: the text itself if it is out of line, and else no bytes
 abbrev pub TextParts : Width → List ℕ → ℕ → List ℕ → TextResolver → Type 0
@@ -115,12 +55,12 @@ abbrev pub TextImage : Width → List ℕ → TextResolver → ℕ → List ℕ 
 TextImage w t r p out =
     (IsShort w t × (out ≡ inline_bytes (text_size w) t))
     ⊎ (IsLong w t × FitsSigned w (pos r.pos -ℤ pos p)
-    × (out ≡ far_bytes w (length t) (pos r.pos -ℤ pos p)))
+    × (out ≡ out_of_line_bytes w (length t) (pos r.pos -ℤ pos p)))
     ⊎ (IsTooLong w t × (length out ≡ text_size w))
 
 -- the distance to the out-of-line text doesn't fit
-abbrev pub TextFar : Width → List ℕ → TextResolver → ℕ → Type 0
-TextFar w t r p = IsLong w t × (FitsSigned w (pos r.pos -ℤ pos p) → ⊥)
+abbrev pub TextOverflows : Width → List ℕ → TextResolver → ℕ → Type 0
+TextOverflows w t r p = IsLong w t × (FitsSigned w (pos r.pos -ℤ pos p) → ⊥)
 
 -- the format of a text: inline, or its bytes in one piece and two words
 -- with its length and distance
@@ -129,202 +69,5 @@ text_format w = record {
   parts = TextParts w;
   next = TextNext w;
   image = TextImage w;
-  far = TextFar w;
+  overflow = TextOverflows w;
 }
-
--- the bytes in an archive at a text's position are its fixed bytes
-fixed_sits : (w : Width) (c out : List ℕ) (p : ℕ) → length out ≡ text_size w → Sits c p out
-    → fixed_bytes w c p ≡ out
-fixed_sits w c out p n sits = subst (λ k. slice_range c p (p + k) ≡ out) n sits.there
-
-length_inline : (size : ℕ) (t : List ℕ) → length t ≤ size → length (inline_bytes size t) ≡ size
-length_inline size t h = simp (length-append, length-replicate) (omega arith)
-
--- inline text doesn't have the form of out-of-line text
-inline_near : (size : ℕ) (t : List ℕ) → 0 < size → IsUtf8 t → is_far (inline_bytes size t) ≡ false
-inline_near size [] h u = rw (get_or-replicate {A = ℕ} (size - 0) 0 255 0 (omega arith)) refl
-inline_near size (x ∷ t) h u = text_begins x t u
-
--- inline text ends before the first ff
-inline_ends : (size : ℕ) (t : List ℕ) → IsUtf8 t → inline_text (inline_bytes size t) ≡ t
-inline_ends size t u =
-    let fill : List ℕ = replicate (size - length t) 255 in
-    let below : (k : ℕ) → k < length t → (get_or (t ++ fill) k 0 == 255) ≡ false =
-    λ k h. let small : get_or t k 0 < 255 = text_below t u k 0 h in
-    rw (get_or-append t fill 0 k h) (grind (arith, nat_tests)) in
-    let here : length t < length (t ++ fill) → (get_or (t ++ fill) (length t) 0 == 255) ≡ true =
-    λ h.
-    let z : length t - length t ≡ 0 = omega arith in
-    let more : 0 < size - length t = omega (
-      arith,
-      length-append t fill,
-      length-replicate {A = ℕ} (size - length t) 255,
-    ) in
-    rw (
-      get_or-append_right t fill (length t) 0 (omega arith),
-      z,
-      get_or-replicate {A = ℕ}
-          (size - length t) 0 255 0 more,
-    ) refl in
-    let at : position_or_len (λ x. x == 255) (t ++ fill) ≡ length t =
-    position_or_len_is (λ x. x == 255) (t ++ fill) (length t) 0
-    (omega (arith, length-append t fill)) below here in
-    ap (λ (n : ℕ). take n (t ++ fill)) at ∙ take-append_seam t fill
-
--- a byte of the form 10xxxxxx
-far_byte : (x : ℕ) → 128 ≤ x → x < 192 → (nat_le 128 x && nat_lt x 192) ≡ true
-far_byte x h g = grind (arith, nat_tests)
-
-is_word : (w : Width) → IsArchiveWord w → IsWord w
-is_word w (inl e) = inr (inr (inl e))
-is_word w (inr e) = inr (inr (inr e))
-
--- the first of two parts, and the second
-first_part : (x y : List ℕ) (k : ℕ) → length x ≡ k → slice_range (x ++ y) 0 (0 + k) ≡ x
-first_part x y k n = let e : 0 + k - 0 ≡ length x = omega arith in rw e (take-append_seam x y)
-
-second_part : (x y : List ℕ) (k : ℕ) → length x ≡ k → length y ≡ k
-    → slice_range (x ++ y) k (k + k) ≡ y
-second_part x y k n m =
-    let e : k + k - k ≡ k = omega arith in
-    rw (e, ← n, drop-append_seam x y) (take_all (length x) y (omega arith))
-
-length_told : (n : ℕ) → told_length (length_word n) ≡ n
-length_told n = omega arith
-
--- the fixed bytes of out-of-line text encode its form, its length and its distance
-module _ (w : Width) (kind : IsArchiveWord w) (n : ℕ) (d : ℤ) where
-  pub length_far : length (far_bytes w n d) ≡ text_size w
-  length_far = by_archive_word (λ v. length (far_bytes v n d) ≡ text_size v) refl refl w kind
-
-  far_first : is_far (far_bytes w n d) ≡ true
-  far_first =
-      let first : slice_index (far_bytes w n d) 0 ≡ length_word n % 256 =
-      by_archive_word (λ v. slice_index (far_bytes v n d) 0 ≡ length_word n % 256) refl refl w
-      kind in
-      rw first (far_byte (length_word n % 256) (omega arith) (omega arith))
-
-  length_reads : n < text_limit w → far_length w (far_bytes w n d) ≡ n
-  length_reads small =
-      let fits : length_word n < 2 ^ bits w =
-      by_archive_word (λ v. n < text_limit v → length_word n < 2 ^ bits v) (λ h. omega arith)
-      (λ h. omega arith) w kind small in
-      let x : List ℕ = to_le_bytes w (length_word n) in
-      ap (λ (s : List ℕ). told_length (from_le_bytes w s))
-      (first_part x (to_le_bytes w (cast_unsigned w d)) (byte_len w)
-      (word_bytes w (is_word w kind) (length_word n)))
-      ∙ ap told_length (word_reads_back w (is_word w kind) (length_word n) fits) ∙ length_told n
-
-  distance_reads : FitsSigned w d → signed_at w (far_bytes w n d) (byte_len w) ≡ d
-  distance_reads fits =
-      let word = is_word w kind in
-      let u : ℕ = cast_unsigned w d in
-      ap (λ (s : List ℕ). cast_signed w (from_le_bytes w s))
-      (second_part (to_le_bytes w (length_word n)) (to_le_bytes w u) (byte_len w)
-      (word_bytes w word (length_word n)) (word_bytes w word u))
-      ∙ ap (cast_signed w) (word_reads_back w word u (Fits-of_z fits).fits) ∙ to_z-of_z w d fits
-
--- a distance leads back to the position from which it was taken
-there_and_back : (p q : ℕ) → pos q ≡ pos p +ℤ (pos q -ℤ pos p)
-there_and_back p q = omega (arith, ints)
-
-module _ (w : Width) (kind : IsArchiveWord w) where
-  sizes : (0 < text_size w) × (text_size w < text_limit w)
-  sizes = by_archive_word (λ v. (0 < text_size v) × (text_size v < text_limit v)) (
-    omega arith,
-    omega arith,
-  ) (omega arith, omega arith) w kind
-
-  text_whole : (t : List ℕ) (r : TextResolver) (p : ℕ) (out : List ℕ) → TextImage w t r p out
-      → length out ≡ text_size w
-  text_whole t r p out (inl h) = ap length h.1 ∙ length_inline (text_size w) t h.0
-  text_whole t r p out (inr (inl h)) = ap length h.2
-      ∙ length_far w kind (length t) (pos r.pos -ℤ pos p)
-  text_whole t r p out (inr (inr h)) = h.1
-
-  inline_sound : (t c : List ℕ) (p lo hi : ℕ) → IsUtf8 t
-      → fixed_bytes w c p ≡ inline_bytes (text_size w) t
-      → (l : ℕ) × FixedHolds w (fixed_bytes w c p) c p lo hi l × TextReads w c p t
-  inline_sound t c p lo hi u fixed =
-      let near : is_far (fixed_bytes w c p) ≡ false = ap is_far fixed
-      ∙ inline_near (text_size w) t sizes.0 u in
-      let text : inline_text (fixed_bytes w c p) ≡ t = ap inline_text fixed
-      ∙ inline_ends (text_size w) t u in (
-        lo,
-        inl (near, subst IsUtf8 (sym text) u, refl),
-        inline_reads w (fixed_bytes w c p) c p near
-            ∙ text,
-      )
-
-  far_sound : (t c : List ℕ) (p p0 : ℕ) → IsUtf8 t → IsLong w t → FitsSigned w (pos p0 -ℤ pos p)
-      → Sits c p0 t
-      → fixed_bytes w c p ≡ far_bytes w (length t) (pos p0 -ℤ pos p)
-      → (l : ℕ) × FixedHolds w (fixed_bytes w c p) c p p0 (p0 + length t) l × TextReads w c p t
-  far_sound t c p p0 u long fits sits fixed =
-      let d : ℤ = pos p0 -ℤ pos p in
-      let s : List ℕ = fixed_bytes w c p in
-      let far : is_far s ≡ true = ap is_far fixed ∙ far_first w kind (length t) d in
-      let len : far_length w s ≡ length t = ap (far_length w) fixed
-      ∙ length_reads w kind (length t) d long.1 in
-      let distance : signed_at w s (byte_len w) ≡ d =
-      ap (λ (x : List ℕ). signed_at w x (byte_len w)) fixed
-      ∙ distance_reads w kind (length t) d fits in
-      let begins : pos p0 ≡ far_begin w s p = there_and_back p p0
-      ∙ ap (λ (z : ℤ). pos p +ℤ z) (sym distance) in
-      let text : slice_range c p0 (p0 + far_length w s) ≡ t =
-      ap (λ (n : ℕ). slice_range c p0 (p0 + n)) len ∙ sits.there in
-      let part : PartIn (far_begin w s p) (far_length w s) 1 p0 (p0 + length t) p0 =
-      record {
-        begins = begins;
-        above = omega arith;
-        below = omega (arith, len);
-        aligned = omega arith;
-      } in (
-        p0 + far_length w s,
-        inr (far, omega (arith, len, long.0), p0, part, subst IsUtf8 (sym text) u, refl),
-        far_reads w s c p p0 far begins ∙ text,
-      )
-
-  text_clear : (t : List ℕ) (r : TextResolver) (p : ℕ) (out : List ℕ) → TextImage w t r p out
-      → TextFar w t r p → ⊥
-  text_clear t r p out (inl i) f = omega (arith, i.0, f.0.0)
-  text_clear t r p out (inr (inl i)) f = f.1 i.1
-  text_clear t r p out (inr (inr i)) f = omega (arith, i.0, f.0.1)
-
-  text_sound : (t : List ℕ) (r : TextResolver) (c : List ℕ) (p0 p : ℕ) (part out : List ℕ)
-      → TextParts w t p0 part r → TextImage w t r p out
-      → Sits c p0 part → fixed_bytes w c p ≡ out
-      → (l : ℕ) × FixedHolds w (fixed_bytes w c p) c p p0 (p0 + length part) l × TextReads w c p t
-  text_sound t r c p0 p part out h (inl i) s fixed =
-      inline_sound t c p p0 (p0 + length part) h.0 (fixed ∙ i.1)
-  text_sound t r c p0 p part out (u, inl h) (inr (inl i)) s fixed =
-      absurd (omega (arith, h.0, i.0.0))
-  text_sound t r c p0 p part out (u, inl h) (inr (inr i)) s fixed =
-      absurd (omega (arith, h.0, i.0, sizes.1))
-  text_sound t r c p0 p part out (u, inr h) (inr (inr i)) s fixed =
-      absurd (omega (arith, h.0.1, i.0))
-  text_sound t r c p0 p part out (u, inr h) (inr (inl i)) s fixed =
-      let fits : FitsSigned w (pos p0 -ℤ pos p) =
-      subst (λ q. FitsSigned w (pos q -ℤ pos p)) h.2 i.1 in
-      let same : fixed_bytes w c p ≡ far_bytes w (length t) (pos p0 -ℤ pos p) =
-      subst (λ q. fixed_bytes w c p ≡ far_bytes w (length t) (pos q -ℤ pos p)) h.2 (fixed
-      ∙ i.2) in
-      subst (λ x. (l : ℕ) × FixedHolds w (fixed_bytes w c p) c p p0 (p0 + length x) l
-      × TextReads w c p t) (sym h.1)
-      (far_sound t c p p0 u h.0 fits (subst (Sits c p0) h.1 s) same)
-
-  -- a written text is valid, and represents the text
-  pub text_is_format : IsFormat (text_shape w) (TextReads w) (text_format w)
-  text_is_format = record {
-    whole = text_whole;
-    clear = text_clear;
-    sound = λ t r c p0 p part out h i s q o al. text_sound t r c p0 p part out h i s
-        (fixed_sits w c out p (text_whole t r p out i) q);
-  }
-
-  -- the same for any type that is written as a text
-  pub seen_text_is_format : {X : Type 0} (seen : X → List ℕ)
-      → IsFormat (text_shape w) (λ b p x. TextReads w b p (seen x))
-      (written_as seen (text_format w))
-  seen_text_is_format seen = written_as-format seen (text_shape w) (TextReads w) (text_format w)
-      text_is_format

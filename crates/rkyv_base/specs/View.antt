@@ -3,7 +3,7 @@ use Rattle.std.specs.Prelude.{◌≡◌, ℕ, List, Option}
 use Rattle.std.specs.Option.{option_map}
 use Rattle.std.specs.Borrow.{Bor}
 use Rattle.rkyv_base.specs.declared.view.View.{View}
-use Rattle.rkyv_base.specs.Shape.{Shape, Viewed}
+use Rattle.rkyv_base.specs.ElementSpec.{ElementSpec, Viewable}
 
 -- the position of the view `v`
 abbrev pub pos_of : {T : Type 0} → View T → ℕ
@@ -21,14 +21,14 @@ archive_of v = v.archive
 abbrev pub bytes_of : {T : Type 0} → View T → List ℕ
 bytes_of v = v.archive.now
 
--- the archive has a valid value of the shape `s` at the position of the view `v`
-abbrev pub IsView : {T : Type 0} → Shape → View T → Type 0
-IsView s v = Viewed s v.archive.now v.pos
+-- the archive has a valid value of the spec `s` at the position of the view `v`
+abbrev pub IsValidView : {T : Type 0} → ElementSpec → View T → Type 0
+IsValidView s v = Viewable s v.archive.now v.pos
 
 -- the view `v` is at position `p` of `archive`
 abbrev pub IsAt : {T : Type 0} → View T → Bor (List ℕ) → ℕ → Type 0
 IsAt v archive p = (v.archive ≡ archive) × (v.pos ≡ p)
 
 -- the bytes at the view `v` represent `value`
-abbrev pub StandsAt : {T V : Type 0} → (List ℕ → ℕ → V → Type 0) → View T → V → Type 0
-StandsAt stands v value = stands v.archive.now v.pos value
+abbrev pub AtView : {T V : Type 0} → (List ℕ → ℕ → V → Type 0) → View T → V → Type 0
+AtView represents v value = represents v.archive.now v.pos value

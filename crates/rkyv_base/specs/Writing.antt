@@ -44,11 +44,11 @@ abbrev pub end_of : Output → ℕ
 end_of o = o.start + length o.bytes
 
 -- the output of a writer to memory, from its bytes and its count of failures
-abbrev pub held : List ℕ × ℕ → Output
-held w = record { start = 0; bytes = w.0; failures = w.1 }
+abbrev pub vec_output : List ℕ × ℕ → Output
+vec_output w = record { start = 0; bytes = w.0; failures = w.1 }
 
 -- `o'`: output `o`, followed by `part`
-pub record Grows (o o' : Output) (part : List ℕ) : Type 0 where
+pub record Extends (o o' : Output) (part : List ℕ) : Type 0 where
   pub start : o'.start ≡ o.start
   pub bytes : o'.bytes ≡ o.bytes ++ part
 
@@ -63,9 +63,9 @@ abbrev pub FailedOnce : Output → Output → Type 0
 FailedOnce o o' = o'.failures ≡ min (o.failures + 1) (2 ^ 64 - 1)
 
 -- a failed write: a front of the bytes was appended, and one more failure is counted
-pub record Fell (o o' : Output) (bytes : List ℕ) : Type 0 where
+pub record Faults (o o' : Output) (bytes : List ℕ) : Type 0 where
   pub front : ℕ
-  pub appended : Grows o o' (take front bytes)
+  pub appended : Extends o o' (take front bytes)
   pub counted : FailedOnce o o'
 
 -- the reason for which a value can't be written, or an allocation failure
@@ -94,7 +94,7 @@ Reached limit next o o' front step = Within limit o' front × (o'.failures ≡ o
 
 -- one write failed, of the next piece `bytes` after `before`, which fits within the limit.
 -- `front`: `before`, followed by a front of that piece
-pub record FellIn (limit : ℕ) (next : List ℕ → Step → Type 0) (o o' : Output)
+pub record FaultsDuring (limit : ℕ) (next : List ℕ → Step → Type 0) (o o' : Output)
     (front : List ℕ) : Type 0 where
   pub before : List ℕ
   pub bytes : List ℕ
@@ -105,30 +105,30 @@ pub record FellIn (limit : ℕ) (next : List ℕ → Step → Type 0) (o o' : Ou
   pub counted : FailedOnce o o'
 
 -- the condition of an error after `front` was appended. `next front step`: `step` follows `front`
-abbrev pub CauseStands : {F : Type 0} → ℕ → (List ℕ → Step → Type 0) → Output → Output → List ℕ
+abbrev pub CauseApplies : {F : Type 0} → ℕ → (List ℕ → Step → Type 0) → Output → Output → List ℕ
     → WriteError F → Type 0
-CauseStands limit next o o' front (InvalidLoadFactor n d) =
+CauseApplies limit next o o' front (InvalidLoadFactor n d) =
     Reached limit next o o' front (refusal (load_factor n d))
-CauseStands limit next o o' front (IteratorLengthMismatch m) =
+CauseApplies limit next o o' front (IteratorLengthMismatch m) =
     Reached limit next o o' front (refusal (mismatch m.expected m.actual))
-CauseStands limit next o o' front (CapacityTooLarge n) =
+CauseApplies limit next o o' front (CapacityTooLarge n) =
     Reached limit next o o' front (refusal (capacity n))
-CauseStands limit next o o' front PositionTooLarge = (bytes : List ℕ)
+CauseApplies limit next o o' front PositionTooLarge = (bytes : List ℕ)
     × Reached limit next o o' front (piece bytes) × (limit < end_of o' + length bytes)
-CauseStands limit next o o' front DistanceTooLarge =
+CauseApplies limit next o o' front DistanceTooLarge =
     Reached limit next o o' front (refusal distance)
-CauseStands limit next o o' front TextTooLong = Reached limit next o o' front (refusal long_text)
-CauseStands limit next o o' front (Writer f) = FellIn limit next o o' front
-CauseStands limit next o o' front Memory = Reached limit next o o' front (refusal no_memory)
-CauseStands limit next o o' front (Refused n) = Reached limit next o o' front (refusal (refused n))
+CauseApplies limit next o o' front TextTooLong = Reached limit next o o' front (refusal long_text)
+CauseApplies limit next o o' front (Writer f) = FaultsDuring limit next o o' front
+CauseApplies limit next o o' front Memory = Reached limit next o o' front (refusal no_memory)
+CauseApplies limit next o o' front (Refused n) = Reached limit next o o' front (refusal (refused n))
 
 -- a write failed with `e`: `front` was appended to the unchanged earlier bytes,
 -- and the condition of `e` is met
-pub record Told {F : Type 0} (limit : ℕ) (next : List ℕ → Step → Type 0) (o o' : Output)
+pub record WriteFails {F : Type 0} (limit : ℕ) (next : List ℕ → Step → Type 0) (o o' : Output)
     (e : WriteError F) : Type 0 where
   pub front : List ℕ
-  pub kept : Grows o o' front
-  pub cause : CauseStands limit next o o' front e
+  pub kept : Extends o o' front
+  pub cause : CauseApplies limit next o o' front e
 
 -- `one` is the only step
 abbrev pub Only : Step → List ℕ → Step → Type 0
@@ -139,14 +139,14 @@ abbrev pub Appended : ℕ → List ℕ → Output → Output → Type 0
 Appended limit bytes o o' = Appends o o' bytes × (end_of o' ≤ limit)
 
 -- appending one piece failed with `e`
-abbrev pub PieceGaveUp : {F : Type 0} → ℕ → List ℕ → Output → Output → WriteError F → Type 0
-PieceGaveUp limit bytes o o' e = Told limit (Only (piece bytes)) o o' e
+abbrev pub AppendFails : {F : Type 0} → ℕ → List ℕ → Output → Output → WriteError F → Type 0
+AppendFails limit bytes o o' e = WriteFails limit (Only (piece bytes)) o o' e
 
 -- `result`: result of appending one piece
 abbrev pub AppendsPiece : {F : Type 0} → ℕ → List ℕ → Output → Output
     → Result (Unit {0}) (WriteError F) → Type 0
 AppendsPiece limit bytes o o' result =
-    MatchResult result (λ _. Appended limit bytes o o') (PieceGaveUp limit bytes o o')
+    MatchResult result (λ _. Appended limit bytes o o') (AppendFails limit bytes o o')
 
 -- the number of zeros from position `p` to the next multiple of `a`
 abbrev pub padding : ℕ → ℕ → ℕ
@@ -164,4 +164,4 @@ Aligned limit a o o' p = Appends o o' (zeros (padding a (end_of o))) × (p ≡ e
 -- `result`: the position after the zeros up to a multiple of `a`, or the error
 abbrev pub Aligns : {F : Type 0} → ℕ → ℕ → Output → Output → Result ℕ (WriteError F) → Type 0
 Aligns limit a o o' result = MatchResult result (Aligned limit a o o')
-    (PieceGaveUp limit (zeros (padding a (end_of o))) o o')
+    (AppendFails limit (zeros (padding a (end_of o))) o o')

@@ -13,8 +13,8 @@ ghost use Rattle.rkyv_base.specs.Access.{AccessFails, AccessWrites, Accepted};
 ghost use Rattle.rkyv_base.specs.Layout.{narrow_limit};
 ghost use Rattle.rkyv_base.specs.Lending.{MayWrite, Wrote};
 ghost use Rattle.rkyv_base.specs.Seal.{ArchiveAt, archive_in, pos_in};
-ghost use Rattle.rkyv_base.specs.Shape.{Viewed};
-ghost use Rattle.rkyv_base.specs.View.{IsAt, IsView};
+ghost use Rattle.rkyv_base.specs.ElementSpec.{Viewable};
+ghost use Rattle.rkyv_base.specs.View.{IsAt, IsValidView};
 
 use crate::element::{Element, PartRange};
 use crate::errors::VerifyError;
@@ -43,11 +43,11 @@ use crate::width::{Narrow, Width};
 #[inline]
 pub fn access_in<'a, W: Width, T: Element>(bytes: &'a [u8]) -> Result<View<'a, T>, VerifyError>
     ensures root { MatchResult result
-        (λ v. Accepted W.LIMIT T.shape bytes.now
-        × IsAt v bytes.entry (length bytes.now - T.shape.size))
-        (AccessFails W.LIMIT T.shape bytes.now) }
-    ensures accepts { Accepted W.LIMIT T.shape bytes.now → IsOk result }
-    ensures viewed { IfOk result (IsView T.shape) }
+        (λ v. Accepted W.LIMIT T.spec bytes.now
+        × IsAt v bytes.entry (length bytes.now - T.spec.size))
+        (AccessFails W.LIMIT T.spec bytes.now) }
+    ensures accepts { Accepted W.LIMIT T.spec bytes.now → IsOk result }
+    ensures viewable { IfOk result (IsValidView T.spec) }
 {
     let len = bytes.len() as u64;
     let size = T::size() as u64;
@@ -90,11 +90,11 @@ pub fn access_in<'a, W: Width, T: Element>(bytes: &'a [u8]) -> Result<View<'a, T
 #[inline]
 pub fn access<'a, T: Element>(bytes: &'a [u8]) -> Result<View<'a, T>, VerifyError>
     ensures root { MatchResult result
-        (λ v. Accepted narrow_limit T.shape bytes.now
-        × IsAt v bytes.entry (length bytes.now - T.shape.size))
-        (AccessFails narrow_limit T.shape bytes.now) }
-    ensures accepts { Accepted narrow_limit T.shape bytes.now → IsOk result }
-    ensures viewed { IfOk result (IsView T.shape) }
+        (λ v. Accepted narrow_limit T.spec bytes.now
+        × IsAt v bytes.entry (length bytes.now - T.spec.size))
+        (AccessFails narrow_limit T.spec bytes.now) }
+    ensures accepts { Accepted narrow_limit T.spec bytes.now → IsOk result }
+    ensures viewable { IfOk result (IsValidView T.spec) }
 {
     access_in::<Narrow, T>(bytes)
 }
@@ -116,9 +116,9 @@ pub fn access<'a, T: Element>(bytes: &'a [u8]) -> Result<View<'a, T>, VerifyErro
 /// ```
 #[inline]
 pub fn access_unchecked<'a, T: Element>(bytes: &'a [u8]) -> View<'a, T>
-    requires { Viewed T.shape bytes.now (length bytes.now - T.shape.size) }
-    ensures at { IsAt result bytes.entry (length bytes.now - T.shape.size) }
-    ensures viewed { IsView T.shape result }
+    requires { Viewable T.spec bytes.now (length bytes.now - T.spec.size) }
+    ensures at { IsAt result bytes.entry (length bytes.now - T.spec.size) }
+    ensures viewable { IsValidView T.spec result }
 {
     View::new(bytes, (bytes.len() - T::size()) as u64)
 }
@@ -153,11 +153,11 @@ pub fn access_mut_in<'a, W: Width, T: Element>(
     bytes: &'a mut [u8],
 ) -> Result<ArchiveSeal<'a, T>, VerifyError>
     ensures root { MatchResult result
-        (λ s. Accepted W.LIMIT T.shape bytes.old
-        × ArchiveAt s bytes.entry (length bytes.old - T.shape.size))
-        (AccessFails W.LIMIT T.shape bytes.old) }
-    ensures accepts { Accepted W.LIMIT T.shape bytes.old → IsOk result }
-    ensures viewed { IfOk result (λ s. Viewed T.shape (archive_in s) (pos_in s)) }
+        (λ s. Accepted W.LIMIT T.spec bytes.old
+        × ArchiveAt s bytes.entry (length bytes.old - T.spec.size))
+        (AccessFails W.LIMIT T.spec bytes.old) }
+    ensures accepts { Accepted W.LIMIT T.spec bytes.old → IsOk result }
+    ensures viewable { IfOk result (λ s. Viewable T.spec (archive_in s) (pos_in s)) }
 {
     let pos = access_in::<W, T>(&*bytes)?.pos();
     Ok(ArchiveSeal::new(bytes, pos))
@@ -191,11 +191,11 @@ pub fn access_mut_in<'a, W: Width, T: Element>(
 #[inline]
 pub fn access_mut<'a, T: Element>(bytes: &'a mut [u8]) -> Result<ArchiveSeal<'a, T>, VerifyError>
     ensures root { MatchResult result
-        (λ s. Accepted narrow_limit T.shape bytes.old
-        × ArchiveAt s bytes.entry (length bytes.old - T.shape.size))
-        (AccessFails narrow_limit T.shape bytes.old) }
-    ensures accepts { Accepted narrow_limit T.shape bytes.old → IsOk result }
-    ensures viewed { IfOk result (λ s. Viewed T.shape (archive_in s) (pos_in s)) }
+        (λ s. Accepted narrow_limit T.spec bytes.old
+        × ArchiveAt s bytes.entry (length bytes.old - T.spec.size))
+        (AccessFails narrow_limit T.spec bytes.old) }
+    ensures accepts { Accepted narrow_limit T.spec bytes.old → IsOk result }
+    ensures viewable { IfOk result (λ s. Viewable T.spec (archive_in s) (pos_in s)) }
 {
     access_mut_in::<Narrow, T>(bytes)
 }
@@ -227,10 +227,10 @@ pub fn access_mut_with_in<W: Width, T: Element, R, F: FnOnce(&mut [u8], u64) -> 
     bytes: &mut [u8],
     write: F,
 ) -> Result<R, VerifyError>
-    requires { Accepted W.LIMIT T.shape bytes.old
-        → MayWrite F.pre write bytes.old (length bytes.old - T.shape.size) }
-    ensures root { AccessWrites W.LIMIT T.shape (Wrote F.post write) bytes.old bytes.new result }
-    ensures accepts { Accepted W.LIMIT T.shape bytes.old → IsOk result }
+    requires { Accepted W.LIMIT T.spec bytes.old
+        → MayWrite F.pre write bytes.old (length bytes.old - T.spec.size) }
+    ensures root { AccessWrites W.LIMIT T.spec (Wrote F.post write) bytes.old bytes.new result }
+    ensures accepts { Accepted W.LIMIT T.spec bytes.old → IsOk result }
 {
     let root = access_in::<W, T>(&*bytes)?.pos();
     Ok(write(bytes, root))
@@ -263,10 +263,11 @@ pub fn access_mut_with<T: Element, R, F: FnOnce(&mut [u8], u64) -> R>(
     bytes: &mut [u8],
     write: F,
 ) -> Result<R, VerifyError>
-    requires { Accepted narrow_limit T.shape bytes.old
-        → MayWrite F.pre write bytes.old (length bytes.old - T.shape.size) }
-    ensures root { AccessWrites narrow_limit T.shape (Wrote F.post write) bytes.old bytes.new result }
-    ensures accepts { Accepted narrow_limit T.shape bytes.old → IsOk result }
+    requires { Accepted narrow_limit T.spec bytes.old
+        → MayWrite F.pre write bytes.old (length bytes.old - T.spec.size) }
+    ensures root { AccessWrites narrow_limit T.spec
+        (Wrote F.post write) bytes.old bytes.new result }
+    ensures accepts { Accepted narrow_limit T.spec bytes.old → IsOk result }
 {
     access_mut_with_in::<Narrow, T, _, _>(bytes, write)
 }

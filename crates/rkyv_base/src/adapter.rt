@@ -2,18 +2,12 @@
 
 ghost use Rattle.std.specs.Prelude.{◌≡◌};
 ghost use Rattle.rkyv_base.specs.Adapter.{pair_of};
-ghost use Rattle.rkyv_base.specs.Entry.{entry_shape};
-ghost use Rattle.rkyv_base.specs.Pairs.{
-  PairStands,
-  pair_format,
-  pair_is_format,
-  pair_near,
-  written_as,
-  written_as-format,
-};
+ghost use Rattle.rkyv_base.specs.Entry.{entry_spec};
+ghost use Rattle.rkyv_base.specs.Pairs.{PairRepresents, pair_format, written_as};
+ghost use Rattle.rkyv_base.specs.Lemmas.Pairs.{pair_is_format, pair_local, written_as-format};
 
 use crate::archive::{Archive, ResolveResult, Serialize, WriteResult};
-use crate::element::StandsFor;
+use crate::element::Represents;
 use crate::entry::Entry;
 use crate::lend::Lend;
 use crate::pairs::{EntryResolver, resolve_entry, serialize_entry};
@@ -55,14 +49,14 @@ impl<BK: Lend<K>, BV: Lend<V>, K, V> EntryAdapter<BK, BV, K, V> {
     }
 }
 
-impl<BK: Lend<A>, BV: Lend<B>, A, B, K: StandsFor<A>, V: StandsFor<B>> StandsFor<
+impl<BK: Lend<A>, BV: Lend<B>, A, B, K: Represents<A>, V: Represents<B>> Represents<
     EntryAdapter<BK, BV, A, B>,
 > for Entry<K, V> {
-    ghost stands = { λ b p x.
-        PairStands K.shape V.shape K.stands V.stands b p (pair_of BK.lent BV.lent x) };
+    ghost represents = { λ b p x.
+        PairRepresents K.spec V.spec K.represents V.represents b p (pair_of BK.lent BV.lent x) };
 
-    ghost near = { λ x.
-        pair_near K.shape V.shape K.laws V.laws K.stands V.stands K.near V.near
+    ghost local = { λ x.
+        pair_local K.spec V.spec K.laws V.laws K.represents V.represents K.local V.local
         (pair_of BK.lent BV.lent x) };
 }
 
@@ -73,7 +67,7 @@ impl<W: Width, BK: Lend<A>, BV: Lend<B>, A: Archive<W>, B: Archive<W>> Archive<W
     type Resolver = EntryResolver<A::Resolver, B::Resolver>;
 
     ghost format = { written_as (pair_of BK.lent BV.lent)
-        (pair_format A.Archived.shape B.Archived.shape A.format B.format) };
+        (pair_format A.Archived.spec B.Archived.spec A.format B.format) };
 
     #[inline]
     fn resolve(&self, resolver: Self::Resolver, pos: u64, out: &mut [u8]) -> ResolveResult {
@@ -81,11 +75,11 @@ impl<W: Width, BK: Lend<A>, BV: Lend<B>, A: Archive<W>, B: Archive<W>> Archive<W
     }
 
     ghost laws = { written_as-format (pair_of BK.lent BV.lent)
-        (entry_shape A.Archived.shape B.Archived.shape)
-        (PairStands A.Archived.shape B.Archived.shape A.Archived.stands B.Archived.stands)
-        (pair_format A.Archived.shape B.Archived.shape A.format B.format)
-        (pair_is_format A.Archived.shape B.Archived.shape A.Archived.laws B.Archived.laws
-        A.Archived.stands B.Archived.stands A.format B.format A.laws B.laws) };
+        (entry_spec A.Archived.spec B.Archived.spec)
+        (PairRepresents A.Archived.spec B.Archived.spec A.Archived.represents B.Archived.represents)
+        (pair_format A.Archived.spec B.Archived.spec A.format B.format)
+        (pair_is_format A.Archived.spec B.Archived.spec A.Archived.laws B.Archived.laws
+        A.Archived.represents B.Archived.represents A.format B.format A.laws B.laws) };
 }
 
 impl<

@@ -8,7 +8,7 @@
 ghost use Rattle.std.specs.Prelude.{◌≡◌, ◌+◌, ◌^◌, ◌<◌, length, MatchResult};
 ghost use Rattle.rkyv_base.specs.Format.{Format, IsFormat, Serializes};
 
-use crate::element::StandsFor;
+use crate::element::Represents;
 use crate::errors::{DistanceTooLarge, WriteError};
 use crate::width::Width;
 use crate::writer::Writer;
@@ -23,7 +23,7 @@ pub type WriteResult<R, S> = Result<R, WriteError<<S as Writer>::Fault>>;
 /// A type whose values are archived as values of an element, in archives of the width `W`.
 pub trait Archive<W: Width> {
     /// The element as which the values are archived.
-    type Archived: StandsFor<Self>;
+    type Archived: Represents<Self>;
 
     /// The positions of a value's parts. Serializing returns it, and resolving takes it.
     type Resolver: Drop;
@@ -43,13 +43,13 @@ pub trait Archive<W: Width> {
     /// - `DistanceTooLarge`: a distance to a part doesn't fit in the width.
     ///   `out` may then have any bytes.
     fn resolve(&self, resolver: Self::Resolver, pos: u64, out: &mut [u8]) -> ResolveResult
-        requires room { length out.old ≡ Self.Archived.shape.size }
-        requires fits { pos + Self.Archived.shape.size < 2 ^ 64 }
+        requires room { length out.old ≡ Self.Archived.spec.size }
+        requires fits { pos + Self.Archived.spec.size < 2 ^ 64 }
         ensures { MatchResult result
             (λ _. format.image self.now resolver pos out.new)
-            (λ _. format.far self.now resolver pos) };
+            (λ _. format.overflow self.now resolver pos) };
 
-    ghost laws: { IsFormat Self.Archived.shape Self.Archived.stands format };
+    ghost laws: { IsFormat Self.Archived.spec Self.Archived.represents format };
 }
 
 /// A type whose values can be written to a writer.

@@ -1,14 +1,14 @@
 //! Elements: the types whose values are in the bytes of an archive.
 //!
-//! - `Shaped` has the size, the alignment and the condition for valid bytes, for contracts alone.
+//! - `HasSpec` has the size, the alignment and the condition for valid bytes, for contracts alone.
 //! - `Element` adds the validator, `check`. It takes the `PartRange` that the value's parts
 //!   may use, and returns the rest of it.
-//! - `StandsFor` relates the bytes of an element to the native values that they represent.
+//! - `Represents` relates the bytes of an element to the native values that they represent.
 
 ghost use Rattle.std.specs.Prelude.{◌≡◌, ℕ, ◌+◌, ◌%◌, ◌≤◌, List, length, MatchResult};
 ghost use Rattle.rkyv_base.specs.Checking.{Fails, Passes};
-ghost use Rattle.rkyv_base.specs.Format.{StandsNear};
-ghost use Rattle.rkyv_base.specs.Shape.{IsElement, Shape};
+ghost use Rattle.rkyv_base.specs.Format.{RepresentsLocally};
+ghost use Rattle.rkyv_base.specs.ElementSpec.{IsElement, ElementSpec};
 
 use crate::errors::VerifyError;
 
@@ -29,17 +29,17 @@ pub struct PartRange {
 /// # Examples
 ///
 /// ```rust
-/// impl Shaped for ArchivedSpot {
-///     ghost shape = { spot_shape };
+/// impl HasSpec for ArchivedSpot {
+///     ghost spec = { spot_spec };
 ///
 ///     ghost laws = { spot_element };
 /// }
 /// ```
-pub trait Shaped {
+pub trait HasSpec {
     // The size and the alignment of its values, and the condition for valid bytes.
-    ghost shape: { Shape };
+    ghost spec: { ElementSpec };
 
-    ghost laws: { IsElement shape };
+    ghost laws: { IsElement spec };
 }
 
 /// A type whose values are in the bytes of an archive.
@@ -64,14 +64,14 @@ pub trait Shaped {
 ///     }
 /// }
 /// ```
-pub trait Element: Shaped {
+pub trait Element: HasSpec {
     /// Returns the size of a value in bytes: a multiple of the alignment, at most 1,073,741,824.
     fn size() -> usize
-        ensures { result ≡ Self.shape.size };
+        ensures { result ≡ Self.spec.size };
 
     /// Returns the alignment of a value in bytes: 1, 2, 4 or 8.
     fn align() -> usize
-        ensures { result ≡ Self.shape.align };
+        ensures { result ≡ Self.spec.align };
 
     /// Validates the value at `pos`, whose parts must be in the range.
     ///
@@ -87,11 +87,11 @@ pub trait Element: Shaped {
     ///
     /// - The first fault that the validation finds.
     fn check(bytes: &[u8], pos: u64, range: PartRange) -> Result<PartRange, VerifyError>
-        requires inside { pos + Self.shape.size ≤ length bytes.now }
-        requires aligned { pos % Self.shape.align ≡ 0 }
+        requires inside { pos + Self.spec.size ≤ length bytes.now }
+        requires aligned { pos % Self.spec.align ≡ 0 }
         requires ordered { (range.lo ≤ range.hi) × (range.hi ≤ pos) }
-        ensures { MatchResult result (Passes Self.shape bytes.now pos range)
-            (Fails Self.shape bytes.now pos range) };
+        ensures { MatchResult result (Passes Self.spec bytes.now pos range)
+            (Fails Self.spec bytes.now pos range) };
 }
 
 /// An element whose values represent values of the type `V`.
@@ -99,15 +99,15 @@ pub trait Element: Shaped {
 /// # Examples
 ///
 /// ```rust
-/// impl StandsFor<Spot> for ArchivedSpot {
-///     ghost stands = { SpotStands };
+/// impl Represents<Spot> for ArchivedSpot {
+///     ghost represents = { SpotRepresents };
 ///
-///     ghost near = { spot_near };
+///     ghost local = { spot_local };
 /// }
 /// ```
-pub trait StandsFor<V>: Element {
+pub trait Represents<V>: Element {
     // The bytes at a position represent the value.
-    ghost stands: { List ℕ → ℕ → V → Type 0 };
+    ghost represents: { List ℕ → ℕ → V → Type 0 };
 
-    ghost near: { StandsNear Self.shape stands };
+    ghost local: { RepresentsLocally Self.spec represents };
 }

@@ -4,15 +4,10 @@
 //! and padding up to the greater alignment. `value_offset` and `whole_size` return its numbers.
 
 ghost use Rattle.std.specs.Prelude.{◌≡◌, ◌+◌, ◌<◌, ◌≤◌, ◌^◌};
-ghost use Rattle.rkyv_base.specs.Entry.{
-  entry_element,
-  entry_shape,
-  round_up,
-  value_offset,
-  whole_size,
-};
+ghost use Rattle.rkyv_base.specs.Entry.{entry_spec, round_up, value_offset, whole_size};
+ghost use Rattle.rkyv_base.specs.Lemmas.Entry.{entry_element};
 
-use crate::element::{Element, PartRange, Shaped};
+use crate::element::{Element, HasSpec, PartRange};
 use crate::errors::VerifyError;
 use std::marker::PhantomData;
 
@@ -43,7 +38,7 @@ fn rounded_up(n: usize, align: usize) -> usize
 /// Returns the offset of the value of an entry from the position of the entry.
 #[inline]
 pub fn value_offset<K: Element, V: Element>() -> usize
-    ensures value { result ≡ value_offset K.shape V.shape }
+    ensures value { result ≡ value_offset K.spec V.spec }
     ensures bound { result ≤ 1073741832 }
 {
     rounded_up(K::size(), V::align())
@@ -52,16 +47,16 @@ pub fn value_offset<K: Element, V: Element>() -> usize
 /// Returns the size of an entry in bytes, even if it is greater than `LARGEST`.
 #[inline]
 pub fn whole_size<K: Element, V: Element>() -> usize
-    ensures { result ≡ whole_size K.shape V.shape }
+    ensures { result ≡ whole_size K.spec V.spec }
 {
     let offset = value_offset::<K, V>();
     rounded_up(offset + V::size(), K::align().max(V::align()))
 }
 
-impl<K: Shaped, V: Shaped> Shaped for Entry<K, V> {
-    ghost shape = { entry_shape K.shape V.shape };
+impl<K: HasSpec, V: HasSpec> HasSpec for Entry<K, V> {
+    ghost spec = { entry_spec K.spec V.spec };
 
-    ghost laws = { entry_element K.shape V.shape K.laws V.laws };
+    ghost laws = { entry_element K.spec V.spec K.laws V.laws };
 }
 
 impl<K: Element, V: Element> Element for Entry<K, V> {

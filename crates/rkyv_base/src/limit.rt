@@ -17,8 +17,8 @@ ghost use Rattle.std.specs.Prelude.{
   ◌≡◌,
   ◌≤◌,
 };
-ghost use Rattle.rkyv_base.specs.Limit.{Counts, InnerFell, InnerTook, LimitTold, limited};
-ghost use Rattle.rkyv_base.specs.Writing.{Appends, Fell, end_of};
+ghost use Rattle.rkyv_base.specs.Limit.{Counts, InnerFaults, InnerTook, LimitWriteFails, limited};
+ghost use Rattle.rkyv_base.specs.Writing.{Appends, Faults, end_of};
 
 use crate::writer::Writer;
 
@@ -95,7 +95,7 @@ impl<W: Writer> LimitWriter<W> {
         ensures counts { Counts W.output self.old self.new }
         ensures told { MatchResult result
             (λ _. InnerTook W.output self.old self.new bytes.now)
-            (InnerFell W.output self.old self.new bytes.now) }
+            (InnerFaults W.output self.old self.new bytes.now) }
     {
         let before = self.inner.pos();
         match self.inner.write(bytes) {
@@ -144,11 +144,11 @@ impl<W: Writer> Writer for LimitWriter<W> {
         requires { end_of (limited W.output self.old) + length bytes.now < 2 ^ 64 }
         ensures appends { let o = limited W.output self.old in let o' = limited W.output self.new in
             OnOk result (Appends o o' bytes.now) }
-        ensures fell { let o = limited W.output self.old in let o' = limited W.output self.new in
-            OnErr result (Fell o o' bytes.now) }
+        ensures faults { let o = limited W.output self.old in let o' = limited W.output self.new in
+            OnErr result (Faults o o' bytes.now) }
         ensures limit { Counts W.output self.old self.new }
         ensures inner { OnOk result (InnerTook W.output self.old self.new bytes.now) }
-        ensures told { IfErr result (LimitTold W.output self.old self.new bytes.now) }
+        ensures told { IfErr result (LimitWriteFails W.output self.old self.new bytes.now) }
         ensures unasked { self.old.left ≡ 0 → 0 < length bytes.now
             → self.new.inner ≡ self.old.inner }
     {

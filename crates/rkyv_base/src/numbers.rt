@@ -6,15 +6,18 @@
 ghost use Rattle.std.specs.Prelude.{◌≡◌};
 ghost use Rattle.std.specs.Int.{w8, w16, w32, w64};
 ghost use Rattle.std.proofs.Common.{refl, inl, inr};
-ghost use Rattle.rkyv_base.specs.Numbers.{bool_codes, bool_encoding, char_codes, char_encoding};
-ghost use Rattle.rkyv_base.specs.Numbers.{signed, signed_codes, unsigned, unsigned_codes};
-ghost use Rattle.rkyv_base.specs.Scalar.{scalar_element, scalar_laws, scalar_shape};
+ghost use Rattle.rkyv_base.specs.Numbers.{bool_encoding, char_encoding};
+ghost use Rattle.rkyv_base.specs.Lemmas.Numbers.{bool_codes, char_codes};
+ghost use Rattle.rkyv_base.specs.Numbers.{signed, unsigned};
+ghost use Rattle.rkyv_base.specs.Lemmas.Numbers.{signed_codes, unsigned_codes};
+ghost use Rattle.rkyv_base.specs.Scalar.{scalar_spec};
+ghost use Rattle.rkyv_base.specs.Lemmas.Scalar.{scalar_element, scalar_laws};
 
-use crate::element::Shaped;
+use crate::element::HasSpec;
 use crate::scalars::Scalar;
 
-impl Shaped for u8 {
-    ghost shape = { scalar_shape (unsigned w8) };
+impl HasSpec for u8 {
+    ghost spec = { scalar_spec (unsigned w8) };
 
     ghost laws = { scalar_element (unsigned w8) (inl refl) (unsigned_codes w8) };
 }
@@ -45,8 +48,8 @@ impl Scalar for u8 {
     ghost laws = { scalar_laws (unsigned w8) (inl refl) };
 }
 
-impl Shaped for u16 {
-    ghost shape = { scalar_shape (unsigned w16) };
+impl HasSpec for u16 {
+    ghost spec = { scalar_spec (unsigned w16) };
 
     ghost laws = { scalar_element (unsigned w16) (inr (inl refl)) (unsigned_codes w16) };
 }
@@ -77,8 +80,8 @@ impl Scalar for u16 {
     ghost laws = { scalar_laws (unsigned w16) (inr (inl refl)) };
 }
 
-impl Shaped for u32 {
-    ghost shape = { scalar_shape (unsigned w32) };
+impl HasSpec for u32 {
+    ghost spec = { scalar_spec (unsigned w32) };
 
     ghost laws = { scalar_element (unsigned w32) (inr (inr (inl refl))) (unsigned_codes w32) };
 }
@@ -109,8 +112,8 @@ impl Scalar for u32 {
     ghost laws = { scalar_laws (unsigned w32) (inr (inr (inl refl))) };
 }
 
-impl Shaped for u64 {
-    ghost shape = { scalar_shape (unsigned w64) };
+impl HasSpec for u64 {
+    ghost spec = { scalar_spec (unsigned w64) };
 
     ghost laws = { scalar_element (unsigned w64) (inr (inr (inr refl))) (unsigned_codes w64) };
 }
@@ -142,8 +145,8 @@ impl Scalar for u64 {
     ghost laws = { scalar_laws (unsigned w64) (inr (inr (inr refl))) };
 }
 
-impl Shaped for i8 {
-    ghost shape = { scalar_shape (signed w8) };
+impl HasSpec for i8 {
+    ghost spec = { scalar_spec (signed w8) };
 
     ghost laws = { scalar_element (signed w8) (inl refl) (signed_codes w8) };
 }
@@ -174,8 +177,8 @@ impl Scalar for i8 {
     ghost laws = { scalar_laws (signed w8) (inl refl) };
 }
 
-impl Shaped for i16 {
-    ghost shape = { scalar_shape (signed w16) };
+impl HasSpec for i16 {
+    ghost spec = { scalar_spec (signed w16) };
 
     ghost laws = { scalar_element (signed w16) (inr (inl refl)) (signed_codes w16) };
 }
@@ -206,8 +209,8 @@ impl Scalar for i16 {
     ghost laws = { scalar_laws (signed w16) (inr (inl refl)) };
 }
 
-impl Shaped for i32 {
-    ghost shape = { scalar_shape (signed w32) };
+impl HasSpec for i32 {
+    ghost spec = { scalar_spec (signed w32) };
 
     ghost laws = { scalar_element (signed w32) (inr (inr (inl refl))) (signed_codes w32) };
 }
@@ -238,8 +241,8 @@ impl Scalar for i32 {
     ghost laws = { scalar_laws (signed w32) (inr (inr (inl refl))) };
 }
 
-impl Shaped for i64 {
-    ghost shape = { scalar_shape (signed w64) };
+impl HasSpec for i64 {
+    ghost spec = { scalar_spec (signed w64) };
 
     ghost laws = { scalar_element (signed w64) (inr (inr (inr refl))) (signed_codes w64) };
 }
@@ -270,8 +273,8 @@ impl Scalar for i64 {
     ghost laws = { scalar_laws (signed w64) (inr (inr (inr refl))) };
 }
 
-impl Shaped for bool {
-    ghost shape = { scalar_shape bool_encoding };
+impl HasSpec for bool {
+    ghost spec = { scalar_spec bool_encoding };
 
     ghost laws = { scalar_element bool_encoding (inl refl) bool_codes };
 }
@@ -302,8 +305,8 @@ impl Scalar for bool {
     ghost laws = { scalar_laws bool_encoding (inl refl) };
 }
 
-impl Shaped for char {
-    ghost shape = { scalar_shape char_encoding };
+impl HasSpec for char {
+    ghost spec = { scalar_spec char_encoding };
 
     ghost laws = { scalar_element char_encoding (inr (inr (inl refl))) char_codes };
 }

@@ -3,12 +3,14 @@
 //! The parts of the key are written first, then those of the value. The fixed bytes are an `Entry`.
 
 ghost use Rattle.std.specs.Prelude.{◌≡◌, ◌+◌, ◌^◌, ◌<◌, ◌≤◌, length, MatchResult};
-ghost use Rattle.rkyv_base.specs.Entry.{entry_shape};
+ghost use Rattle.rkyv_base.specs.Entry.{entry_spec};
 ghost use Rattle.rkyv_base.specs.Format.{Serializes};
-ghost use Rattle.rkyv_base.specs.Pairs.{Padded, PairStands, pair_format, pair_is_format, pair_near};
+ghost use Rattle.rkyv_base.specs.Pairs.{Padded, PairRepresents, pair_format};
+ghost use Rattle.rkyv_base.specs.Lemmas.Pairs.{pair_is_format};
+ghost use Rattle.rkyv_base.specs.Lemmas.Pairs.{pair_local};
 
 use crate::archive::{Archive, ResolveResult, Serialize, WriteResult};
-use crate::element::{Element, StandsFor};
+use crate::element::{Element, Represents};
 use crate::entry::{Entry, LARGEST, value_offset, whole_size};
 use crate::errors::WriteError;
 use crate::width::Width;
@@ -32,11 +34,11 @@ fn resolve_padded<W: Width, V: Archive<W>>(
     pos: u64,
     out: &mut [u8],
 ) -> ResolveResult
-    requires room { V.Archived.shape.size ≤ length out.old }
-    requires fits { pos + V.Archived.shape.size < 2 ^ 64 }
+    requires room { V.Archived.spec.size ≤ length out.old }
+    requires fits { pos + V.Archived.spec.size < 2 ^ 64 }
     ensures { MatchResult result
         (λ _. Padded (length out.old) (V.format.image value.now resolver pos) out.new)
-        (λ _. V.format.far value.now resolver pos) }
+        (λ _. V.format.overflow value.now resolver pos) }
 {
     let size = <V::Archived as Element>::size();
     value.resolve(resolver, pos, &mut out[..size])?;
@@ -53,12 +55,12 @@ pub(crate) fn resolve_entry<W: Width, A: Archive<W>, B: Archive<W>>(
     pos: u64,
     out: &mut [u8],
 ) -> ResolveResult
-    requires room { length out.old ≡ (entry_shape A.Archived.shape B.Archived.shape).size }
-    requires fits { pos + (entry_shape A.Archived.shape B.Archived.shape).size < 2 ^ 64 }
-    ensures { let f = pair_format A.Archived.shape B.Archived.shape A.format B.format in
+    requires room { length out.old ≡ (entry_spec A.Archived.spec B.Archived.spec).size }
+    requires fits { pos + (entry_spec A.Archived.spec B.Archived.spec).size < 2 ^ 64 }
+    ensures { let f = pair_format A.Archived.spec B.Archived.spec A.format B.format in
         MatchResult result
         (λ _. f.image (key.now, value.now) resolver pos out.new)
-        (λ _. f.far (key.now, value.now) resolver pos) }
+        (λ _. f.overflow (key.now, value.now) resolver pos) }
 {
     if whole_size::<A::Archived, B::Archived>() > LARGEST {
         return Ok(());
@@ -78,7 +80,7 @@ pub(crate) fn serialize_entry<S: Writer, W: Width, A: Serialize<S, W>, B: Serial
     alloc: Global,
     serializer: &mut S,
 ) -> WriteResult<EntryResolver<A::Resolver, B::Resolver>, S>
-    ensures { let f = pair_format A.Archived.shape B.Archived.shape A.format B.format in
+    ensures { let f = pair_format A.Archived.spec B.Archived.spec A.format B.format in
         Serializes W.LIMIT f (key.now, value.now)
         (S.output serializer.old) (S.output serializer.new) result }
 {
@@ -90,10 +92,11 @@ pub(crate) fn serialize_entry<S: Writer, W: Width, A: Serialize<S, W>, B: Serial
     Ok(EntryResolver { key, value })
 }
 
-impl<A, B, K: StandsFor<A>, V: StandsFor<B>> StandsFor<(A, B)> for Entry<K, V> {
-    ghost stands = { PairStands K.shape V.shape K.stands V.stands };
+impl<A, B, K: Represents<A>, V: Represents<B>> Represents<(A, B)> for Entry<K, V> {
+    ghost represents = { PairRepresents K.spec V.spec K.represents V.represents };
 
-    ghost near = { pair_near K.shape V.shape K.laws V.laws K.stands V.stands K.near V.near };
+    ghost local = { pair_local K.spec V.spec K.laws V.laws K.represents
+        V.represents K.local V.local };
 }
 
 impl<W: Width, A: Archive<W>, B: Archive<W>> Archive<W> for (A, B) {
@@ -101,15 +104,15 @@ impl<W: Width, A: Archive<W>, B: Archive<W>> Archive<W> for (A, B) {
 
     type Resolver = EntryResolver<A::Resolver, B::Resolver>;
 
-    ghost format = { pair_format A.Archived.shape B.Archived.shape A.format B.format };
+    ghost format = { pair_format A.Archived.spec B.Archived.spec A.format B.format };
 
     #[inline]
     fn resolve(&self, resolver: Self::Resolver, pos: u64, out: &mut [u8]) -> ResolveResult {
         resolve_entry::<W, _, _>(&self.0, &self.1, resolver, pos, out)
     }
 
-    ghost laws = { pair_is_format A.Archived.shape B.Archived.shape A.Archived.laws B.Archived.laws
-        A.Archived.stands B.Archived.stands A.format B.format A.laws B.laws };
+    ghost laws = { pair_is_format A.Archived.spec B.Archived.spec A.Archived.laws B.Archived.laws
+        A.Archived.represents B.Archived.represents A.format B.format A.laws B.laws };
 }
 
 impl<S: Writer, W: Width, A: Serialize<S, W>, B: Serialize<S, W>> Serialize<S, W> for (A, B) {

@@ -34,7 +34,7 @@ pub fn write_root_in<W: Width, S: Writer, V: Serialize<S, W>>(
     value: &V,
     serializer: &mut S,
 ) -> WriteResult<u64, S>
-    ensures { WritesRoot W.LIMIT (root_format V.Archived.shape.align V.format) value.now
+    ensures { WritesRoot W.LIMIT (root_format V.Archived.spec.align V.format) value.now
         (S.output serializer.old) (S.output serializer.new) result }
 {
     let size = <V::Archived as Element>::size();
@@ -73,8 +73,8 @@ pub fn to_bytes_in<W: Width, V: Serialize<VecWriter, W>>(
     value: &V,
 ) -> Result<Vec<u8>, WriteError<NoMemory>>
     ensures { MatchResult result
-        (λ b. ArchiveOf W.LIMIT V.Archived.shape V.Archived.stands V.format value.now b.items)
-        (ArchiveRefused W.LIMIT V.Archived.shape V.format value.now) }
+        (λ b. ArchiveOf W.LIMIT V.Archived.spec V.Archived.represents V.format value.now b.items)
+        (ArchiveRefused W.LIMIT V.Archived.spec V.format value.now) }
 {
     let mut writer = VecWriter::new(alloc);
     write_root_in::<W, _, _>(alloc, value, &mut writer)?;
@@ -99,7 +99,7 @@ pub fn write_root<S: Writer, V: Serialize<S, Narrow>>(
     value: &V,
     serializer: &mut S,
 ) -> WriteResult<u64, S>
-    ensures { WritesRoot narrow_limit (root_format V.Archived.shape.align V.format) value.now
+    ensures { WritesRoot narrow_limit (root_format V.Archived.spec.align V.format) value.now
         (S.output serializer.old) (S.output serializer.new) result }
 {
     write_root_in::<Narrow, _, _>(alloc, value, serializer)
@@ -124,8 +124,9 @@ pub fn to_bytes<V: Serialize<VecWriter, Narrow>>(
     value: &V,
 ) -> Result<Vec<u8>, WriteError<NoMemory>>
     ensures { MatchResult result
-        (λ b. ArchiveOf narrow_limit V.Archived.shape V.Archived.stands V.format value.now b.items)
-        (ArchiveRefused narrow_limit V.Archived.shape V.format value.now) }
+        (λ b. ArchiveOf narrow_limit V.Archived.spec V.Archived.represents
+        V.format value.now b.items)
+        (ArchiveRefused narrow_limit V.Archived.spec V.format value.now) }
 {
     to_bytes_in::<Narrow, V>(alloc, value)
 }

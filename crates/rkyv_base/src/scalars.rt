@@ -4,18 +4,12 @@
 
 ghost use Rattle.std.specs.Prelude.{◌≡◌, ◌+◌, length, IsTrue, ◌↔◌};
 ghost use Rattle.std.specs.Int.{byte_len, from_le_bytes};
-ghost use Rattle.rkyv_base.specs.Scalar.{
-  Encodes,
-  Encoding,
-  IsScalar,
-  ScalarStands,
-  scalar_format,
-  scalar_is_format,
-  scalar_near,
-};
+ghost use Rattle.rkyv_base.specs.Scalar.{Encodes, Encoding, IsScalar, ScalarRepresents};
+ghost use Rattle.rkyv_base.specs.Scalar.{scalar_format};
+ghost use Rattle.rkyv_base.specs.Lemmas.Scalar.{scalar_is_format, scalar_local};
 
 use crate::archive::{Archive, ResolveResult, Serialize, WriteResult};
-use crate::element::{Element, PartRange, Shaped, StandsFor};
+use crate::element::{Element, HasSpec, PartRange, Represents};
 use crate::errors::VerifyError;
 use crate::width::Width;
 use crate::writer::Writer;
@@ -24,7 +18,7 @@ use std::alloc::Global;
 /// A value that is written as a little-endian number of 1, 2, 4 or 8 bytes.
 ///
 /// Each scalar is an element, represents itself and is archived as itself.
-pub trait Scalar: Copy + Shaped {
+pub trait Scalar: Copy + HasSpec {
     // The encoding of its values.
     ghost encoding: { Encoding Self };
 
@@ -61,7 +55,7 @@ pub trait Scalar: Copy + Shaped {
         requires { length bytes.old ≡ byte_len encoding.word }
         ensures { Encodes encoding self bytes.new };
 
-    ghost laws: { IsScalar Self.shape encoding };
+    ghost laws: { IsScalar Self.spec encoding };
 }
 
 impl<N: Scalar> Element for N {
@@ -86,10 +80,10 @@ impl<N: Scalar> Element for N {
     }
 }
 
-impl<N: Scalar> StandsFor<N> for N {
-    ghost stands = { ScalarStands N.encoding };
+impl<N: Scalar> Represents<N> for N {
+    ghost represents = { ScalarRepresents N.encoding };
 
-    ghost near = { scalar_near N.shape N.encoding N.Scalar.laws };
+    ghost local = { scalar_local N.spec N.encoding N.Scalar.laws };
 }
 
 impl<W: Width, N: Scalar> Archive<W> for N {
@@ -105,7 +99,7 @@ impl<W: Width, N: Scalar> Archive<W> for N {
         Ok(())
     }
 
-    ghost laws = { scalar_is_format N.shape N.encoding N.Scalar.laws };
+    ghost laws = { scalar_is_format N.spec N.encoding N.Scalar.laws };
 }
 
 impl<S: Writer, W: Width, N: Scalar> Serialize<S, W> for N {

@@ -10,20 +10,21 @@
 //! | a scalar by its seal | `Seal::set` | a seal |
 //! | inline text in upper case | `Seal::make_ascii_uppercase` | a seal |
 //! | any bytes, by a closure | `ArchiveSeal::write_with` | a seal of the archive |
-//! | a value while its key is read | `ArchiveSeal::split_value`, `halves` | a seal, or bytes |
+//! | a value while its key is read | `ArchiveSeal::split_value`, `split_at_value` | a seal, or
+//! bytes |
 //!
 //! `access_mut` validates untrusted bytes and returns the seal of the root. The modules
 //! `map::in_place` of `rkyv_collections` and of `rkyv_index` have the calls that write by a key.
 
 ghost use Rattle.std.specs.Prelude.{◌≡◌, ◌+◌, ◌≤◌, length, take, drop};
 ghost use Rattle.std.specs.Borrow.{sem};
-ghost use Rattle.rkyv_base.specs.View.{IsView, bytes_of, pos_of};
-ghost use Rattle.rkyv_base.specs.Entry.{entry_shape};
+ghost use Rattle.rkyv_base.specs.View.{IsValidView, bytes_of, pos_of};
+ghost use Rattle.rkyv_base.specs.Entry.{entry_spec};
 ghost use Rattle.rkyv_base.specs.Lending.{MayWrite, Wrote};
 ghost use Rattle.rkyv_base.specs.Seal.{
   ArchiveAt,
   ArchiveStays,
-  LendsHalves,
+  SplitsAtValue,
   LiesIn,
   SealAt,
   SealStays,
@@ -41,7 +42,7 @@ ghost use Rattle.rkyv_base.specs.Sealing.{
   value_pos,
   with_value,
 };
-ghost use Rattle.rkyv_base.specs.Shape.{Viewed};
+ghost use Rattle.rkyv_base.specs.ElementSpec.{Viewable};
 
 use crate::element::Element;
 use crate::entry::value_offset;
@@ -123,12 +124,12 @@ impl<'a, T> Seal<'a, T> {
 /// ```
 #[inline]
 pub fn set_at<N: Scalar>(bytes: &mut [u8], pos: usize, value: N)
-    requires { pos + N.shape.size ≤ length bytes.old }
+    requires { pos + N.spec.size ≤ length bytes.old }
     ensures written { bytes.new ≡ with_value N.encoding bytes.old pos value }
-    ensures sealed { Sealed bytes.old pos (N.shape.size) bytes.new }
+    ensures sealed { Sealed bytes.old pos (N.spec.size) bytes.new }
     ensures reads { value_at N.encoding bytes.new pos ≡ value }
     ensures value { IsValueAt N.encoding bytes.new pos }
-    ensures holds { Keeps N.shape bytes.old bytes.new pos }
+    ensures holds { Keeps N.spec bytes.old bytes.new pos }
 {
     value.write(&mut bytes[pos..pos + N::byte_count()]);
 }
@@ -142,7 +143,7 @@ impl<'a, N: Scalar> Seal<'a, N> {
     /// - The bytes at the position are a valid value.
     #[inline]
     pub fn to_native(&self) -> N
-        requires inside { LiesIn N.shape self.now }
+        requires inside { LiesIn N.spec self.now }
         requires value { IsValueAt N.encoding (bytes_in self.now) (seal_pos self.now) }
         ensures { result ≡ value_at N.encoding (bytes_in self.now) (seal_pos self.now) }
     {
@@ -156,15 +157,15 @@ impl<'a, N: Scalar> Seal<'a, N> {
     /// - The value's bytes end inside the borrowed bytes.
     #[inline]
     pub fn set(&mut self, value: N)
-        requires { LiesIn N.shape self.old }
+        requires { LiesIn N.spec self.old }
         ensures stays { SealStays self.old self.new }
         ensures written { bytes_in self.new
             ≡ with_value N.encoding (bytes_in self.old) (seal_pos self.old) value }
         ensures sealed { Sealed (bytes_in self.old) (seal_pos self.old)
-            (N.shape.size) (bytes_in self.new) }
+            (N.spec.size) (bytes_in self.new) }
         ensures reads { value_at N.encoding (bytes_in self.new) (seal_pos self.new) ≡ value }
         ensures value { IsValueAt N.encoding (bytes_in self.new) (seal_pos self.new) }
-        ensures holds { Keeps N.shape
+        ensures holds { Keeps N.spec
             (bytes_in self.old) (bytes_in self.new) (seal_pos self.old) }
     {
         let pos = self.pos;
@@ -250,13 +251,13 @@ impl<'a, T> ArchiveSeal<'a, T> {
     /// ```rust
     /// // Writes the value at a position of some bytes.
     /// fn value_written<N: Scalar>(bytes: &mut [u8], pos: u64, value: N)
-    ///     requires { pos + N.shape.size ≤ length bytes.old }
+    ///     requires { pos + N.spec.size ≤ length bytes.old }
     ///     ensures { bytes.new ≡ with_value N.encoding bytes.old pos value }
     /// {
     ///     let mut whole = ArchiveSeal::<N>::new(bytes, pos);
     ///     whole.write_with(
     ///         |archive: &mut [u8], pos: u64|
-    ///             requires { pos + N.shape.size ≤ length archive.old }
+    ///             requires { pos + N.spec.size ≤ length archive.old }
     ///             ensures { archive.new ≡ with_value N.encoding archive.old pos value }
     ///         {
     ///             set_at(archive, pos as usize, value);
@@ -283,7 +284,7 @@ impl<'a, T> ArchiveSeal<'a, T> {
     /// - The archive has a valid `U` at `pos`.
     #[inline]
     pub fn seal_at<U: Element>(self, pos: u64) -> Seal<'a, U>
-        requires { Viewed U.shape (archive_in self) pos }
+        requires { Viewable U.spec (archive_in self) pos }
         ensures at { SealAt result self.entry.archive pos }
     {
         let ArchiveSeal {
@@ -317,16 +318,16 @@ impl<'a, T> ArchiveSeal<'a, T> {
     /// ```
     #[inline]
     pub fn split_value<K: Element, V: Element>(self, entry_pos: u64) -> (View<'a, K>, Seal<'a, V>)
-        requires { Viewed (entry_shape K.shape V.shape) (archive_in self) entry_pos }
+        requires { Viewable (entry_spec K.spec V.spec) (archive_in self) entry_pos }
         ensures key { bytes_of result.0
-            ≡ take (value_pos K.shape V.shape entry_pos) (archive_in self.entry) }
+            ≡ take (value_pos K.spec V.spec entry_pos) (archive_in self.entry) }
         ensures key_pos { pos_of result.0 ≡ entry_pos }
-        ensures viewed { IsView K.shape result.0 }
+        ensures viewable { IsValidView K.spec result.0 }
         ensures value { bytes_in result.1
-            ≡ drop (value_pos K.shape V.shape entry_pos) (archive_in self.entry) }
+            ≡ drop (value_pos K.spec V.spec entry_pos) (archive_in self.entry) }
         ensures value_pos { seal_pos result.1 ≡ 0 }
-        ensures inside { LiesIn V.shape result.1 }
-        ensures kept { KeepsEntry K.shape V.shape (archive_in self.entry) entry_pos }
+        ensures inside { LiesIn V.spec result.1 }
+        ensures kept { KeepsEntry K.spec V.spec (archive_in self.entry) entry_pos }
     {
         let ArchiveSeal {
             archive,
@@ -347,10 +348,10 @@ impl<'a, T: Element> ArchiveSeal<'a, T> {
     /// - The archive has a valid `T` at the position.
     #[inline]
     pub fn as_view(&self) -> View<'_, T>
-        requires { Viewed T.shape (archive_in self.now) (pos_in self.now) }
+        requires { Viewable T.spec (archive_in self.now) (pos_in self.now) }
         ensures bytes { bytes_of result ≡ archive_in self.now }
         ensures pos { pos_of result ≡ pos_in self.now }
-        ensures viewed { IsView T.shape result }
+        ensures viewable { IsValidView T.spec result }
     {
         View::new(&*self.archive, self.pos)
     }
@@ -365,18 +366,21 @@ impl<'a, T: Element> ArchiveSeal<'a, T> {
 /// # Examples
 ///
 /// ```rust
-/// let (front, back) = halves::<u32, u32>(archive, entry_pos);
+/// let (front, back) = split_at_value::<u32, u32>(archive, entry_pos);
 /// let key = View::<u32>::new(front, entry_pos);
 /// let mut seal = Seal::<u32>::over(back, 0);
 /// seal.set(value);
 /// key.to_native()
 /// ```
 #[inline]
-pub fn halves<K: Element, V: Element>(archive: &mut [u8], entry_pos: u64) -> (&mut [u8], &mut [u8])
-    requires { value_pos K.shape V.shape entry_pos ≤ length archive.old }
-    ensures* writes_back { sem 𝓛 (LendsHalves archive.entry result) }
-    ensures front { result.0.now ≡ take (value_pos K.shape V.shape entry_pos) archive.old }
-    ensures back { result.1.now ≡ drop (value_pos K.shape V.shape entry_pos) archive.old }
+pub fn split_at_value<K: Element, V: Element>(
+    archive: &mut [u8],
+    entry_pos: u64,
+) -> (&mut [u8], &mut [u8])
+    requires { value_pos K.spec V.spec entry_pos ≤ length archive.old }
+    ensures* writes_back { sem 𝓛 (SplitsAtValue archive.entry result) }
+    ensures front { result.0.now ≡ take (value_pos K.spec V.spec entry_pos) archive.old }
+    ensures back { result.1.now ≡ drop (value_pos K.spec V.spec entry_pos) archive.old }
 {
     let begin = entry_pos as usize + value_offset::<K, V>();
     archive.split_at_mut(begin)
@@ -397,16 +401,16 @@ pub fn halves<K: Element, V: Element>(archive: &mut [u8], entry_pos: u64) -> (&m
 /// ```
 #[inline]
 pub fn set_value<K: Element, N: Scalar>(archive: &mut [u8], entry_pos: u64, value: N)
-    requires { Viewed (entry_shape K.shape N.shape) archive.old entry_pos }
+    requires { Viewable (entry_spec K.spec N.spec) archive.old entry_pos }
     ensures written { archive.new ≡ with_value N.encoding archive.old
-        (value_pos K.shape N.shape entry_pos) value }
-    ensures sealed { Sealed archive.old (value_pos K.shape N.shape entry_pos)
-        (N.shape.size) archive.new }
+        (value_pos K.spec N.spec entry_pos) value }
+    ensures sealed { Sealed archive.old (value_pos K.spec N.spec entry_pos)
+        (N.spec.size) archive.new }
     ensures reads { value_at N.encoding archive.new
-        (value_pos K.shape N.shape entry_pos) ≡ value }
-    ensures holds { Keeps (entry_shape K.shape N.shape)
+        (value_pos K.spec N.spec entry_pos) ≡ value }
+    ensures holds { Keeps (entry_spec K.spec N.spec)
         archive.old archive.new entry_pos }
-    ensures viewed { Viewed (entry_shape K.shape N.shape) archive.new entry_pos }
+    ensures viewable { Viewable (entry_spec K.spec N.spec) archive.new entry_pos }
 {
     set_at(archive, entry_pos as usize + value_offset::<K, N>(), value);
 }

@@ -9,10 +9,10 @@ ghost use Rattle.rkyv_base.specs.Seal.{LiesIn, SealStays, bytes_in, seal_pos};
 ghost use Rattle.rkyv_base.specs.SealedText.{IsElsewhere, IsInline, IsSealedText, Raised};
 ghost use Rattle.rkyv_base.specs.SealedText.{ReadsInline, inline_at};
 ghost use Rattle.rkyv_base.specs.Sealing.{Keeps, Sealed};
-ghost use Rattle.rkyv_base.specs.Text.{text_at, text_shape, text_size};
+ghost use Rattle.rkyv_base.specs.Text.{text_at, text_spec, text_size};
 
 use crate::seal::Seal;
-use crate::text::{Text, fixed_at, inline_part, is_elsewhere};
+use crate::text::{Text, fixed_at, inline_part, is_in_another_bucket};
 use crate::width::Width;
 
 /// Returns the inline text at a position, or `None` if the text is out of line.
@@ -25,7 +25,7 @@ fn inline_bytes<W: Width>(bytes: &[u8], pos: usize) -> Option<&[u8]>
         × (text.now ≡ inline_at W.word bytes.now pos)) }
 {
     let fixed = fixed_at::<W>(bytes, pos as u64);
-    if is_elsewhere(fixed) {
+    if is_in_another_bucket(fixed) {
         return None;
     }
     Some(inline_part(fixed))
@@ -70,7 +70,7 @@ impl<'a, W: Width> Seal<'a, Text<W>> {
     /// - The text is UTF-8 if it is inline.
     #[inline]
     pub fn as_str(&self) -> Option<&str>
-        requires inside { LiesIn (text_shape W.word) self.now }
+        requires inside { LiesIn (text_spec W.word) self.now }
         requires text { IsSealedText W.word (bytes_in self.now) (seal_pos self.now) }
         ensures { MatchOption result
             (IsElsewhere W.word (bytes_in self.now) (seal_pos self.now))
@@ -101,7 +101,7 @@ impl<'a, W: Width> Seal<'a, Text<W>> {
     /// ```
     #[inline]
     pub fn make_ascii_uppercase(&mut self) -> bool
-        requires { LiesIn (text_shape W.word) self.old }
+        requires { LiesIn (text_spec W.word) self.old }
         ensures stays { SealStays self.old self.new }
         ensures raised { Raised W.word (bytes_in self.old) (seal_pos self.old)
             (bytes_in self.new) result }
@@ -112,7 +112,7 @@ impl<'a, W: Width> Seal<'a, Text<W>> {
             ≡ map to_ascii_uppercase (text_at W.word (bytes_in self.old) (seal_pos self.old)) }
         ensures text { IsSealedText W.word (bytes_in self.old) (seal_pos self.old)
             → IsSealedText W.word (bytes_in self.new) (seal_pos self.old) }
-        ensures holds { Keeps (text_shape W.word)
+        ensures holds { Keeps (text_spec W.word)
             (bytes_in self.old) (bytes_in self.new) (seal_pos self.old) }
     {
         let pos = self.pos;

@@ -20,14 +20,9 @@ ghost use Rattle.std.specs.Prelude.{
 ghost use Rattle.rkyv_base.specs.Format.{Serializes};
 ghost use Rattle.rkyv_base.specs.Pairs.{written_as};
 ghost use Rattle.rkyv_base.specs.Text.{text_size};
-ghost use Rattle.rkyv_base.specs.TextWriting.{
-  far_bytes,
-  inline_bytes,
-  length_word,
-  seen_text_is_format,
-  text_format,
-  text_limit,
-};
+ghost use Rattle.rkyv_base.specs.TextWriting.{out_of_line_bytes, inline_bytes, length_word};
+ghost use Rattle.rkyv_base.specs.TextWriting.{text_format, text_limit};
+ghost use Rattle.rkyv_base.specs.Lemmas.TextWriting.{seen_text_is_format};
 
 use crate::archive::{Archive, ResolveResult, Serialize, WriteResult};
 use crate::errors::{DistanceTooLarge, WriteError};
@@ -65,11 +60,11 @@ fn word_of_length(len: u64) -> u64
 
 /// Writes the length of an out-of-line text, and the distance to it.
 #[inline]
-fn fill_far<W: Width>(len: u64, distance: i64, out: &mut [u8])
+fn fill_out_of_line<W: Width>(len: u64, distance: i64, out: &mut [u8])
     requires room { length out.old ≡ text_size W.word }
     requires small { len < text_limit W.word }
     requires fits { FitsSigned W.word distance }
-    ensures { out.new ≡ far_bytes W.word len distance }
+    ensures { out.new ≡ out_of_line_bytes W.word len distance }
 {
     let (front, back) = out.split_at_mut(W::ALIGN);
     W::write_count(front, word_of_length(len));
@@ -87,7 +82,7 @@ fn resolve_text<W: Width>(
     requires { length out.old ≡ text_size W.word }
     ensures { MatchResult result
         (λ _. (text_format W.word).image text.now resolver pos out.new)
-        (λ _. (text_format W.word).far text.now resolver pos) }
+        (λ _. (text_format W.word).overflow text.now resolver pos) }
 {
     let len = text.len();
     if len <= W::TEXT_SIZE {
@@ -99,7 +94,7 @@ fn resolve_text<W: Width>(
     }
     match W::distance(resolver.pos, pos) {
         Some(distance) => {
-            fill_far::<W>(len as u64, distance, out);
+            fill_out_of_line::<W>(len as u64, distance, out);
             Ok(())
         }
         None => Err(DistanceTooLarge),

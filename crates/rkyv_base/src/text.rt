@@ -27,27 +27,18 @@ ghost use Rattle.std.specs.Prelude.{
 ghost use Rattle.std.specs.Str.{IsAscii, IsUtf8};
 ghost use Rattle.rkyv_base.specs.declared.errors.VerifyError.TheVariants.{InvalidValue};
 ghost use Rattle.rkyv_base.specs.Checking.{Fails, Passes};
-ghost use Rattle.rkyv_base.specs.Text.{
-  TextReads,
-  far_begin,
-  far_length,
-  fixed_bytes,
-  inline_text,
-  is_far,
-  text_at,
-  text_element,
-  text_near,
-  text_shape,
-  text_size,
-  told_length,
-};
-ghost use Rattle.rkyv_base.specs.Shape.{Viewed};
-ghost use Rattle.rkyv_base.specs.View.{IsView, bytes_of, pos_of};
+ghost use Rattle.rkyv_base.specs.Text.{TextReads, out_of_line_begin, out_of_line_length};
+ghost use Rattle.rkyv_base.specs.Text.{fixed_bytes, inline_text, is_out_of_line, text_at};
+ghost use Rattle.rkyv_base.specs.Text.{text_spec};
+ghost use Rattle.rkyv_base.specs.Text.{text_size, decode_length};
+ghost use Rattle.rkyv_base.specs.Lemmas.Text.{text_element, text_local};
+ghost use Rattle.rkyv_base.specs.ElementSpec.{Viewable};
+ghost use Rattle.rkyv_base.specs.View.{IsValidView, bytes_of, pos_of};
 
-use crate::element::{Element, PartRange, Shaped, StandsFor};
+use crate::byte_search::{NonAscii, PadByte, first, is_ascii};
+use crate::element::{Element, HasSpec, PartRange, Represents};
 use crate::errors::VerifyError;
 use crate::part::{distance_target, part_in};
-use crate::sought::{Ff, High, first, is_ascii};
 use crate::view::View;
 use crate::width::{Narrow, Width, Word};
 use std::marker::PhantomData;
@@ -75,9 +66,9 @@ pub(crate) fn fixed_at<W: Width>(bytes: &[u8], pos: u64) -> &[u8]
 
 /// Returns `true` if the text is out of line: its first fixed byte has the form 10xxxxxx.
 #[inline]
-pub(crate) fn is_elsewhere(fixed: &[u8]) -> bool
+pub(crate) fn is_in_another_bucket(fixed: &[u8]) -> bool
     requires { 0 < length fixed.now }
-    ensures { result ≡ is_far fixed.now }
+    ensures { result ≡ is_out_of_line fixed.now }
 {
     128 <= fixed[0] && fixed[0] < 192
 }
@@ -87,7 +78,7 @@ pub(crate) fn is_elsewhere(fixed: &[u8]) -> bool
 pub(crate) fn inline_part(fixed: &[u8]) -> &[u8]
     ensures { result.now ≡ inline_text fixed.now }
 {
-    match first::<Ff>(fixed) {
+    match first::<PadByte>(fixed) {
         Some(len) => &fixed[..len],
         None => fixed,
     }
@@ -100,7 +91,7 @@ pub(crate) fn inline_part(fixed: &[u8]) -> &[u8]
 fn is_inline_ascii(fixed: &[u8]) -> bool
     ensures { IsTrue result → IsAscii (inline_text fixed.now) }
 {
-    match first::<High>(fixed) {
+    match first::<NonAscii>(fixed) {
         Some(at) => fixed[at] == 255,
         None => true,
     }
@@ -108,26 +99,26 @@ fn is_inline_ascii(fixed: &[u8]) -> bool
 
 /// Returns the length that a first word encodes.
 #[inline]
-fn length_told(word: u64) -> u64
-    ensures { result ≡ told_length word }
+fn length_decoded(word: u64) -> u64
+    ensures { result ≡ decode_length word }
 {
     word % 64 + word / 256 * 64
 }
 
 /// Returns the length of out-of-line text.
 #[inline]
-fn far_len<W: Width>(fixed: &[u8]) -> u64
+fn out_of_line_len<W: Width>(fixed: &[u8]) -> u64
     requires { length fixed.now ≡ text_size W.word }
-    ensures { result ≡ far_length W.word fixed.now }
+    ensures { result ≡ out_of_line_length W.word fixed.now }
 {
-    length_told(W::read_count(fixed, 0))
+    length_decoded(W::read_count(fixed, 0))
 }
 
 /// Returns the position at which out-of-line text begins.
 #[inline]
-fn far_start<W: Width>(fixed: &[u8], pos: u64) -> i128
+fn out_of_line_start<W: Width>(fixed: &[u8], pos: u64) -> i128
     requires { length fixed.now ≡ text_size W.word }
-    ensures { result ≡ far_begin W.word fixed.now pos }
+    ensures { result ≡ out_of_line_begin W.word fixed.now pos }
 {
     distance_target(pos, W::read_distance(fixed, W::ALIGN))
 }
@@ -165,7 +156,7 @@ fn check_inline_utf8(fixed: &[u8], pos: u64) -> Result<(), VerifyError>
 
 /// Validates the bytes of the out-of-line text at `pos` as UTF-8.
 #[inline]
-fn check_far_utf8(text: &[u8], pos: u64) -> Result<(), VerifyError>
+fn check_out_of_line_utf8(text: &[u8], pos: u64) -> Result<(), VerifyError>
     requires { 8 ≤ length text.now }
     ensures { MatchResult result
         (λ _. IsUtf8 text.now)
@@ -178,31 +169,35 @@ fn check_far_utf8(text: &[u8], pos: u64) -> Result<(), VerifyError>
 }
 
 /// Validates out-of-line text.
-fn check_far<W: Width>(bytes: &[u8], pos: u64, range: PartRange) -> Result<PartRange, VerifyError>
+fn check_out_of_line<W: Width>(
+    bytes: &[u8],
+    pos: u64,
+    range: PartRange,
+) -> Result<PartRange, VerifyError>
     requires inside { pos + text_size W.word ≤ length bytes.now }
     requires ordered { range.hi ≤ pos }
-    requires far { is_far (fixed_bytes W.word bytes.now pos) ≡ true }
+    requires overflow { is_out_of_line (fixed_bytes W.word bytes.now pos) ≡ true }
     ensures { MatchResult result
-        (Passes (text_shape W.word) bytes.now pos range)
-        (Fails (text_shape W.word) bytes.now pos range) }
+        (Passes (text_spec W.word) bytes.now pos range)
+        (Fails (text_spec W.word) bytes.now pos range) }
 {
     let fixed = fixed_at::<W>(bytes, pos);
-    let len = far_len::<W>(fixed);
+    let len = out_of_line_len::<W>(fixed);
     if len <= W::TEXT_SIZE as u64 {
         return Err(VerifyError::InvalidValue { pos });
     }
-    let begin = far_start::<W>(fixed, pos);
+    let begin = out_of_line_start::<W>(fixed, pos);
     let at = part_in(begin, u128::from(len), 1, range)?;
     let end = at + len;
-    check_far_utf8(&bytes[at as usize..end as usize], pos)?;
+    check_out_of_line_utf8(&bytes[at as usize..end as usize], pos)?;
     Ok(PartRange {
         lo: end,
         hi: range.hi,
     })
 }
 
-impl<W: Word> Shaped for Text<W> {
-    ghost shape = { text_shape W.word };
+impl<W: Word> HasSpec for Text<W> {
+    ghost spec = { text_spec W.word };
 
     ghost laws = { text_element W.word W.kind };
 }
@@ -221,8 +216,8 @@ impl<W: Width> Element for Text<W> {
     #[inline]
     fn check(bytes: &[u8], pos: u64, range: PartRange) -> Result<PartRange, VerifyError> {
         let fixed = fixed_at::<W>(bytes, pos);
-        if is_elsewhere(fixed) {
-            return check_far::<W>(bytes, pos, range);
+        if is_in_another_bucket(fixed) {
+            return check_out_of_line::<W>(bytes, pos, range);
         }
         check_inline_utf8(fixed, pos)?;
         Ok(range)
@@ -240,39 +235,39 @@ fn pos_of_begin(begin: i128) -> usize
 
 /// Returns the out-of-line text.
 #[inline]
-fn far_part<W: Width>(bytes: &[u8], pos: u64) -> &[u8]
-    requires viewed { Viewed (text_shape W.word) bytes.now pos }
-    requires far { is_far (fixed_bytes W.word bytes.now pos) ≡ true }
+fn out_of_line_part<W: Width>(bytes: &[u8], pos: u64) -> &[u8]
+    requires viewable { Viewable (text_spec W.word) bytes.now pos }
+    requires overflow { is_out_of_line (fixed_bytes W.word bytes.now pos) ≡ true }
     ensures { result.now ≡ text_at W.word bytes.now pos }
 {
     let fixed = fixed_at::<W>(bytes, pos);
-    let at = pos_of_begin(far_start::<W>(fixed, pos));
-    &bytes[at..at + far_len::<W>(fixed) as usize]
+    let at = pos_of_begin(out_of_line_start::<W>(fixed, pos));
+    &bytes[at..at + out_of_line_len::<W>(fixed) as usize]
 }
 
 /// Returns the text whose fixed bytes are at a position.
 #[inline]
 fn text_part<W: Width>(bytes: &[u8], pos: u64) -> &[u8]
-    requires { Viewed (text_shape W.word) bytes.now pos }
+    requires { Viewable (text_spec W.word) bytes.now pos }
     ensures { result.now ≡ text_at W.word bytes.now pos }
 {
     let fixed = fixed_at::<W>(bytes, pos);
-    if is_elsewhere(fixed) {
-        return far_part::<W>(bytes, pos);
+    if is_in_another_bucket(fixed) {
+        return out_of_line_part::<W>(bytes, pos);
     }
     inline_part(fixed)
 }
 
-impl<W: Width> StandsFor<String> for Text<W> {
-    ghost stands = { λ b p t. TextReads W.word b p (string_bytes t) };
+impl<W: Width> Represents<String> for Text<W> {
+    ghost represents = { λ b p t. TextReads W.word b p (string_bytes t) };
 
-    ghost near = { λ t. text_near W.word (string_bytes t) };
+    ghost local = { λ t. text_local W.word (string_bytes t) };
 }
 
-impl<'t, W: Width> StandsFor<&'t str> for Text<W> {
-    ghost stands = { λ b p t. TextReads W.word b p t.now };
+impl<'t, W: Width> Represents<&'t str> for Text<W> {
+    ghost represents = { λ b p t. TextReads W.word b p t.now };
 
-    ghost near = { λ t. text_near W.word t.now };
+    ghost local = { λ t. text_local W.word t.now };
 }
 
 impl<'a, W: Width> View<'a, Text<W>> {
@@ -283,7 +278,7 @@ impl<'a, W: Width> View<'a, Text<W>> {
     /// - The archive has a valid text at the position.
     #[inline]
     pub fn as_str(self) -> &'a str
-        requires { IsView (text_shape W.word) self }
+        requires { IsValidView (text_spec W.word) self }
         ensures { result.now ≡ text_at W.word (bytes_of self.entry) (pos_of self.entry) }
     {
         unsafe { str::from_utf8_unchecked(text_part::<W>(self.bytes(), self.pos())) }

@@ -2,24 +2,18 @@
 //!
 //! It is the value type of a set, whose entries are therefore its keys alone.
 
-ghost use Rattle.rkyv_base.specs.Empty.{
-  unit_element,
-  unit_format,
-  unit_is_format,
-  unit_near,
-  unit_shape,
-  unit_stands,
-};
+ghost use Rattle.rkyv_base.specs.Empty.{unit_format, unit_spec, unit_represents};
+ghost use Rattle.rkyv_base.specs.Lemmas.Empty.{unit_element, unit_is_format, unit_local};
 
 use crate::archive::{Archive, ResolveResult, Serialize, WriteResult};
-use crate::element::{Element, PartRange, Shaped, StandsFor};
+use crate::element::{Element, HasSpec, PartRange, Represents};
 use crate::errors::VerifyError;
 use crate::width::Width;
 use crate::writer::Writer;
 use std::alloc::Global;
 
-impl Shaped for () {
-    ghost shape = { unit_shape };
+impl HasSpec for () {
+    ghost spec = { unit_spec };
 
     ghost laws = { unit_element };
 }
@@ -41,10 +35,10 @@ impl Element for () {
     }
 }
 
-impl StandsFor<()> for () {
-    ghost stands = { unit_stands };
+impl Represents<()> for () {
+    ghost represents = { unit_represents };
 
-    ghost near = { unit_near };
+    ghost local = { unit_local };
 }
 
 impl<W: Width> Archive<W> for () {

@@ -5,10 +5,10 @@
 //! - `at` returns a view of another value of the same archive.
 
 ghost use Rattle.std.specs.Prelude.{◌≡◌, ◌+◌};
-ghost use Rattle.rkyv_base.specs.Entry.{entry_shape, value_offset};
-ghost use Rattle.rkyv_base.specs.Scalar.{ScalarStands};
-ghost use Rattle.rkyv_base.specs.Shape.{Viewed};
-ghost use Rattle.rkyv_base.specs.View.{IsAt, IsView, StandsAt, archive_of, bytes_of, pos_of};
+ghost use Rattle.rkyv_base.specs.Entry.{entry_spec, value_offset};
+ghost use Rattle.rkyv_base.specs.Scalar.{ScalarRepresents};
+ghost use Rattle.rkyv_base.specs.ElementSpec.{Viewable};
+ghost use Rattle.rkyv_base.specs.View.{IsAt, IsValidView, AtView, archive_of, bytes_of, pos_of};
 ghost use Rattle.rkyv_base.specs.View.{pos_of_found};
 
 use crate::element::Element;
@@ -32,7 +32,7 @@ impl<'a, T: Element> View<'a, T> {
     /// - The bytes have a valid `T` at `pos`.
     #[inline]
     pub fn new(archive: &'a [u8], pos: u64) -> View<'a, T>
-        requires { Viewed T.shape archive.now pos }
+        requires { Viewable T.spec archive.now pos }
         ensures { IsAt result archive.entry pos }
     {
         View {
@@ -65,7 +65,7 @@ impl<'a, T: Element> View<'a, T> {
     /// - The archive has a valid `U` at `pos`.
     #[inline]
     pub fn at<U: Element>(self, pos: u64) -> View<'a, U>
-        requires { Viewed U.shape (bytes_of self) pos }
+        requires { Viewable U.spec (bytes_of self) pos }
         ensures { IsAt result (archive_of self.entry) pos }
     {
         View::new(self.archive, pos)
@@ -91,8 +91,8 @@ impl<'a, N: Scalar> View<'a, N> {
     /// - The archive has a valid value at the position.
     #[inline]
     pub fn to_native(self) -> N
-        requires { IsView N.shape self }
-        ensures { StandsAt (ScalarStands N.encoding) self.entry result }
+        requires { IsValidView N.spec self }
+        ensures { AtView (ScalarRepresents N.encoding) self.entry result }
     {
         let at = self.pos as usize;
         N::read(&self.archive[at..at + N::byte_count()])
@@ -125,9 +125,9 @@ impl<'a, K: Element, V: Element> View<'a, Entry<K, V>> {
     /// ```
     #[inline]
     pub fn key(self) -> View<'a, K>
-        requires { IsView (entry_shape K.shape V.shape) self }
+        requires { IsValidView (entry_spec K.spec V.spec) self }
         ensures at { IsAt result (archive_of self.entry) (pos_of self.entry) }
-        ensures viewed { IsView K.shape result }
+        ensures viewable { IsValidView K.spec result }
     {
         self.at::<K>(self.pos)
     }
@@ -139,10 +139,10 @@ impl<'a, K: Element, V: Element> View<'a, Entry<K, V>> {
     /// - The archive has a valid entry at the position.
     #[inline]
     pub fn value(self) -> View<'a, V>
-        requires { IsView (entry_shape K.shape V.shape) self }
+        requires { IsValidView (entry_spec K.spec V.spec) self }
         ensures at { IsAt result (archive_of self.entry)
-            (pos_of self.entry + value_offset K.shape V.shape) }
-        ensures viewed { IsView V.shape result }
+            (pos_of self.entry + value_offset K.spec V.spec) }
+        ensures viewable { IsValidView V.spec result }
     {
         self.at::<V>(self.pos + value_offset::<K, V>() as u64)
     }

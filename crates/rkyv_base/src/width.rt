@@ -36,8 +36,9 @@ ghost use Rattle.std.specs.Int.{
 };
 ghost use mir.Val.{bits};
 ghost use Rattle.rkyv_base.specs.Bytes.{number_at, signed_at};
-ghost use Rattle.rkyv_base.specs.Layout.{IsLayout, IsPlace, narrow_layout, narrow_limit};
-ghost use Rattle.rkyv_base.specs.Layout.{wide_layout};
+ghost use Rattle.rkyv_base.specs.Layout.{IsLayout, IsPlace, narrow_limit};
+ghost use Rattle.rkyv_base.specs.Lemmas.Layout.{narrow_layout};
+ghost use Rattle.rkyv_base.specs.Lemmas.Layout.{wide_layout};
 ghost use Rattle.rkyv_base.specs.Text.{IsArchiveWord};
 ghost use Rattle.std.proofs.Common.{inl, inr, refl};
 

@@ -21,10 +21,10 @@ ghost use Rattle.rkyv_base.specs.Writing.{
   Aligns,
   Appends,
   AppendsPiece,
-  Fell,
+  Faults,
   Output,
   end_of,
-  held,
+  vec_output,
 };
 
 use crate::archive::WriteResult;
@@ -66,7 +66,7 @@ pub trait Writer {
     fn write(&mut self, bytes: &[u8]) -> Result<(), Self::Fault>
         requires { end_of (output self.old) + length bytes.now < 2 ^ 64 }
         ensures appends { OnOk result (Appends (output self.old) (output self.new) bytes.now) }
-        ensures fell { OnErr result (Fell (output self.old) (output self.new) bytes.now) };
+        ensures faults { OnErr result (Faults (output self.old) (output self.new) bytes.now) };
 }
 
 /// The fault of an allocation that failed.
@@ -124,7 +124,7 @@ impl VecWriter {
 impl Writer for VecWriter {
     type Fault = NoMemory;
 
-    ghost output = { held };
+    ghost output = { vec_output };
 
     #[inline]
     fn pos(&self) -> u64 {
@@ -144,8 +144,10 @@ impl Writer for VecWriter {
     #[inline]
     fn write(&mut self, bytes: &[u8]) -> Result<(), NoMemory>
         requires { length self.old.0 + length bytes.now < 2 ^ 64 }
-        ensures appends { OnOk result (Appends (held self.old) (held self.new) bytes.now) }
-        ensures fell { OnErr result (Fell (held self.old) (held self.new) bytes.now) }
+        ensures appends { OnOk result (Appends (vec_output self.old)
+            (vec_output self.new) bytes.now) }
+        ensures faults { OnErr result (Faults (vec_output self.old)
+            (vec_output self.new) bytes.now) }
         ensures kept { OnErr result (self.new.0 ≡ self.old.0) }
     {
         match self.bytes.extend_from_slice(bytes) {
@@ -191,7 +193,7 @@ pub fn append_in<W: Width, S: Writer>(serializer: &mut S, bytes: &[u8]) -> Write
 /// The same as for `append_in`.
 #[inline]
 pub fn align_for_in<W: Width, T: Element, S: Writer>(serializer: &mut S) -> WriteResult<u64, S>
-    ensures { Aligns W.LIMIT T.shape.align
+    ensures { Aligns W.LIMIT T.spec.align
         (S.output serializer.old) (S.output serializer.new) result }
 {
     let align = T::align();
@@ -223,7 +225,7 @@ pub fn append<S: Writer>(serializer: &mut S, bytes: &[u8]) -> WriteResult<(), S>
 /// The same as for `align_for_in`, with a limit of 4,294,967,295 bytes.
 #[inline]
 pub fn align_for<T: Element, S: Writer>(serializer: &mut S) -> WriteResult<u64, S>
-    ensures { Aligns narrow_limit T.shape.align
+    ensures { Aligns narrow_limit T.spec.align
         (S.output serializer.old) (S.output serializer.new) result }
 {
     align_for_in::<Narrow, T, _>(serializer)

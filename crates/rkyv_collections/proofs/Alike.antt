@@ -7,61 +7,61 @@ use Rattle.rkyv_scan.specs.Groups.{generic_kind}
 use Rattle.rkyv_scan.specs.Hash.{HasherCall, SizeWords, fx_hash}
 use Rattle.rkyv_scan.specs.Lemmas.Numbers.{fx_fits}
 use Rattle.rkyv_scan.proofs.HashLaws.{fixed_alike}
-use Rattle.rkyv_base.specs.Entry.{entry_shape}
-use Rattle.rkyv_base.specs.Shape.{IsElement, Shape, Standing, Viewed}
+use Rattle.rkyv_base.specs.Entry.{entry_spec}
+use Rattle.rkyv_base.specs.ElementSpec.{IsElement, ElementSpec, ValidAt, Viewable}
 use Rattle.rkyv_keys.specs.Equality.{Comparison}
 use Rattle.rkyv_keys.specs.Fixed.{MakesFixedCalls}
 use Rattle.rkyv_keys.specs.Keys.{IsQuery}
-use Rattle.rkyv_keys.specs.OfEntries.{standing_key}
+use Rattle.rkyv_keys.specs.Lemmas.OfEntries.{valid_key}
 use Rattle.rkyv_table.specs.Table.Positions.{WrittenAt, home_positions, item_at, pos_found}
 use Rattle.rkyv_keys.specs.declared.hash.KeyHash.{Ghosts as KeyHashes}
 use Rattle.rkyv_collections.specs.BothHashers.{QueriedAlike, fx_hash_at}
 use Rattle.rkyv_collections.specs.Equality.{pair_at}
 use Rattle.rkyv_collections.specs.Map.{MapWrittenAt}
-use Rattle.rkyv_collections.specs.MapShape.{map_shape}
-use Rattle.rkyv_collections.proofs.WrittenPairs.{first_accepted, pair_stands, place_of_pair}
+use Rattle.rkyv_collections.specs.MapSpec.{map_spec}
+use Rattle.rkyv_collections.proofs.WrittenPairs.{first_accepted, pair_represents, place_of_pair}
 
-module _ (w : Width) (k v : Shape) (kl : IsElement k) (vl : IsElement v) (key_calls : List ℕ → ℕ → List HasherCall) (fixed : MakesFixedCalls k key_calls)
-    (one other : SizeWords) (b : List ℕ) (p : ℕ) (homes : List ℕ) (view : Viewed (map_shape w k v) b p)
-    (written : MapWrittenAt w (entry_shape k v) (fx_hash_at one key_calls) b p homes) where
-  key_stands : (i : ℕ) → i < length homes → Standing k b (pair_at w k v b p homes i)
-  key_stands i h = standing_key kl vl b (pair_at w k v b p homes i) (pair_stands w k v kl vl (fx_hash_at one key_calls) b p homes view written i h)
+module _ (w : Width) (k v : ElementSpec) (kl : IsElement k) (vl : IsElement v) (key_calls : List ℕ → ℕ → List HasherCall) (fixed : MakesFixedCalls k key_calls)
+    (one other : SizeWords) (b : List ℕ) (p : ℕ) (homes : List ℕ) (view : Viewable (map_spec w k v) b p)
+    (written : MapWrittenAt w (entry_spec k v) (fx_hash_at one key_calls) b p homes) where
+  key_represents : (i : ℕ) → i < length homes → ValidAt k b (pair_at w k v b p homes i)
+  key_represents i h = valid_key kl vl b (pair_at w k v b p homes i) (pair_represents w k v kl vl (fx_hash_at one key_calls) b p homes view written i h)
 
   keys_alike : (i : ℕ) → i < length homes → fx_hash_at one key_calls b (pair_at w k v b p homes i) ≡ fx_hash_at other key_calls b (pair_at w k v b p homes i)
-  keys_alike i h = fixed_alike one other (key_calls b (pair_at w k v b p homes i)) (fixed b (pair_at w k v b p homes i) (key_stands i h))
+  keys_alike i h = fixed_alike one other (key_calls b (pair_at w k v b p homes i)) (fixed b (pair_at w k v b p homes i) (key_represents i h))
 
-  hashes_alike : map (fx_hash_at one key_calls b) (home_positions w (entry_shape k v).size b p homes)
-      ≡ map (fx_hash_at other key_calls b) (home_positions w (entry_shape k v).size b p homes)
+  hashes_alike : map (fx_hash_at one key_calls b) (home_positions w (entry_spec k v).size b p homes)
+      ≡ map (fx_hash_at other key_calls b) (home_positions w (entry_spec k v).size b p homes)
   hashes_alike =
-      let places = home_positions w (entry_shape k v).size b p homes in
+      let positions = home_positions w (entry_spec k v).size b p homes in
       let f = fx_hash_at one key_calls b in
       let g = fx_hash_at other key_calls b in
-      let total : length places ≡ length homes = length-map homes (item_at w (entry_shape k v).size b p) in
-      ext_get_or 0 (map f places) (map g places) (length-map places f ∙ sym (length-map places g))
+      let total : length positions ≡ length homes = length-map homes (item_at w (entry_spec k v).size b p) in
+      ext_get_or 0 (map f positions) (map g positions) (length-map positions f ∙ sym (length-map positions g))
       (λ i below.
-      let n : i < length homes = omega (arith, below, length-map places f, total) in
-      let here : slice_index places i ≡ pair_at w k v b p homes i = place_of_pair w k v kl vl f' b p homes view written i n in
-      get_or-map f places i 0 0 (omega (arith, n, total)) ∙ ap f here ∙ keys_alike i n ∙ ap g (sym here) ∙ sym (get_or-map g places i 0 0 (omega (arith, n, total))))
+      let n : i < length homes = omega (arith, below, length-map positions f, total) in
+      let here : slice_index positions i ≡ pair_at w k v b p homes i = place_of_pair w k v kl vl f' b p homes view written i n in
+      get_or-map f positions i 0 0 (omega (arith, n, total)) ∙ ap f here ∙ keys_alike i n ∙ ap g (sym here) ∙ sym (get_or-map g positions i 0 0 (omega (arith, n, total))))
     where
       f' : List ℕ → ℕ → ℕ
       f' = fx_hash_at one key_calls
 
-  pub written_alike : MapWrittenAt w (entry_shape k v) (fx_hash_at other key_calls) b p homes
+  pub written_alike : MapWrittenAt w (entry_spec k v) (fx_hash_at other key_calls) b p homes
   written_alike = subst (λ (hashes : List ℕ). WrittenAt w b p hashes homes) hashes_alike written
 
 -- under either hasher, a query finds the first key that it fits
-pub queried_alike : (w : Width) (k v : Shape) (kl : IsElement k) (vl : IsElement v) {Q : Type 0} (same : Comparison) (key_calls : List ℕ → ℕ → List HasherCall)
+pub queried_alike : (w : Width) (k v : ElementSpec) (kl : IsElement k) (vl : IsElement v) {Q : Type 0} (same : Comparison) (key_calls : List ℕ → ℕ → List HasherCall)
     (queries : KeyHashes Q) (fits : Q → List ℕ → ℕ → Bool)
     → IsQuery k same key_calls queries.can_read queries.calls fits → MakesFixedCalls k key_calls → QueriedAlike w k v key_calls queries fits
-queried_alike w k v kl vl same key_calls queries fits is fixed one other b p homes view written query can =
+queried_alike w k v kl vl same key_calls queries fits is fixed one other b p homes view written query ready =
     first one written ∙ sym (first other (written_alike w k v kl vl key_calls fixed one other b p homes view written))
   where
-    first : (sizes : SizeWords) → MapWrittenAt w (entry_shape k v) (fx_hash_at sizes key_calls) b p homes
-        → pos_found generic_kind w (entry_shape k v).size b p (fx_hash sizes (queries.calls query)) (fits query b) ≡ find (fits query b) (home_positions w (entry_shape k v).size b p homes)
+    first : (sizes : SizeWords) → MapWrittenAt w (entry_spec k v) (fx_hash_at sizes key_calls) b p homes
+        → pos_found generic_kind w (entry_spec k v).size b p (fx_hash sizes (queries.calls query)) (fits query b) ≡ find (fits query b) (home_positions w (entry_spec k v).size b p homes)
     first sizes there =
         let h = fx_hash_at sizes key_calls in
         first_accepted w k v kl vl h b p homes view there (fx_hash sizes (queries.calls query)) (fits query b) (fx_fits sizes (queries.calls query))
         (λ i below accepted.
         let q = pair_at w k v b p homes i in
-        let stands = standing_key kl vl b q (pair_stands w k v kl vl h b p homes view there i below) in
-        ap (fx_hash sizes) (sym (is.alike query b q can stands accepted)))
+        let represents = valid_key kl vl b q (pair_represents w k v kl vl h b p homes view there i below) in
+        ap (fx_hash sizes) (sym (is.same_calls query b q ready represents accepted)))

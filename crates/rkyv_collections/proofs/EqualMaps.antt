@@ -7,10 +7,11 @@ use Rattle.std.proofs.lemmas.Bool.{and_from, and_parts, both_ways, eq-eqb, eqb-t
 use Rattle.std.proofs.lemmas.List.{get_or_default, length-map}
 use Rattle.std.proofs.lemmas.List.Folds.{find_at}
 use Rattle.std.proofs.lemmas.Option.{same_Some, slice_get-get_or}
-use Rattle.rkyv_base.specs.Entry.{entry_shape, value_offset}
-use Rattle.rkyv_base.specs.Shape.{IsElement, Shape, Standing}
+use Rattle.rkyv_base.specs.Entry.{entry_spec, value_offset}
+use Rattle.rkyv_base.specs.ElementSpec.{IsElement, ElementSpec, ValidAt}
 use Rattle.rkyv_keys.specs.Equality.{Comparison, IsEquivalence}
-use Rattle.rkyv_keys.specs.OfEntries.{entry_equivalence, entry_same, standing_key}
+use Rattle.rkyv_keys.specs.OfEntries.{entry_same}
+use Rattle.rkyv_keys.specs.Lemmas.OfEntries.{entry_equivalence, valid_key}
 use Rattle.rkyv_table.specs.Table.Header.{len_at}
 use Rattle.rkyv_table.specs.Table.Positions.{home_positions, item_at, item_positions}
 use Rattle.rkyv_table.proofs.Lists.{any_member, contains_member, none_find, some_find}
@@ -18,7 +19,7 @@ use Rattle.rkyv_table.proofs.Search.{cases_option}
 use Rattle.rkyv_table.proofs.Written.{first_within}
 use Rattle.rkyv_collections.specs.Equality.{EachIsIn, EqualHaveSamePairs, IsWrittenApart, pair_at, pair_matches}
 use Rattle.rkyv_collections.proofs.Matching.{IsMatching, column_matched, rows_within}
-use Rattle.rkyv_collections.proofs.WrittenPairs.{all_handed, all_walked, first_accepted, hash_small, pair_count, pair_stands, place_of_pair}
+use Rattle.rkyv_collections.proofs.WrittenPairs.{all_handed, all_walked, first_accepted, hash_small, pair_count, pair_represents, place_of_pair}
 
 -- the first number of a list that passes the test has an index
 found_index : (test : ℕ → Bool) (xs : List ℕ) (x : ℕ) → find test xs ≡ Some x → (j : ℕ) × (j < length xs) × (get_or xs j 0 ≡ x)
@@ -31,16 +32,16 @@ found_index test xs x e =
 get_or_itself : (xs : List ℕ) (i : ℕ) → i < length xs → get_or xs i (get_or xs i 0) ≡ get_or xs i 0
 get_or_itself xs i h = sym (get_or_default xs i 0 (get_or xs i 0) h)
 
-module _ (w : Width) (k v : Shape) (kl : IsElement k) (vl : IsElement v) (key_hash : List ℕ → ℕ → ℕ) (same_key same_value : Comparison)
+module _ (w : Width) (k v : ElementSpec) (kl : IsElement k) (vl : IsElement v) (key_hash : List ℕ → ℕ → ℕ) (same_key same_value : Comparison)
     (ke : IsEquivalence k same_key) (ve : IsEquivalence v same_value)
-    (alike : (b c : List ℕ) (q r : ℕ) → Standing k b q → Standing k c r → same_key b q c r ≡ true → key_hash b q ≡ key_hash c r) where
+    (same_calls : (b c : List ℕ) (q r : ℕ) → ValidAt k b q → ValidAt k c r → same_key b q c r ≡ true → key_hash b q ≡ key_hash c r) where
   module _ (b c : List ℕ) (p r : ℕ) (homes others : List ℕ) (first : IsWrittenApart w k v key_hash same_key same_value b p homes)
       (second : IsWrittenApart w k v key_hash same_key same_value c r others) where
-    key_stands : (i : ℕ) → i < length homes → Standing k b (pair_at w k v b p homes i)
-    key_stands i h = standing_key kl vl b (pair_at w k v b p homes i) (pair_stands w k v kl vl key_hash b p homes first.stands first.written i h)
+    key_represents : (i : ℕ) → i < length homes → ValidAt k b (pair_at w k v b p homes i)
+    key_represents i h = valid_key kl vl b (pair_at w k v b p homes i) (pair_represents w k v kl vl key_hash b p homes first.valid first.written i h)
 
-    other_stands : (j : ℕ) → j < length others → Standing k c (pair_at w k v c r others j)
-    other_stands j h = standing_key kl vl c (pair_at w k v c r others j) (pair_stands w k v kl vl key_hash c r others second.stands second.written j h)
+    other_represents : (j : ℕ) → j < length others → ValidAt k c (pair_at w k v c r others j)
+    other_represents j h = valid_key kl vl c (pair_at w k v c r others j) (pair_represents w k v kl vl key_hash c r others second.valid second.written j h)
 
     -- the value of the pair `i` of the first map is the same as that of the pair at `place`
     same_at : ℕ → ℕ → Bool
@@ -49,13 +50,13 @@ module _ (w : Width) (k v : Shape) (kl : IsElement k) (vl : IsElement v) (key_ha
     -- the key of a pair of the first map is looked up among the keys of the second,
     -- in insertion order
     matches_is : (i : ℕ) → i < length homes → pair_matches w k v key_hash same_key same_value b (pair_at w k v b p homes i) c r
-        ≡ unwrap_or (option_map (same_at i) (find (same_key b (pair_at w k v b p homes i) c) (home_positions w (entry_shape k v).size c r others))) false
+        ≡ unwrap_or (option_map (same_at i) (find (same_key b (pair_at w k v b p homes i) c) (home_positions w (entry_spec k v).size c r others))) false
     unfolding same_at
     matches_is i h =
         let q = pair_at w k v b p homes i in
         ap (λ (found : Option ℕ). unwrap_or (option_map (same_at i) found) false)
-        (first_accepted w k v kl vl key_hash c r others second.stands second.written (key_hash b q) (same_key b q c) (hash_small w k v kl vl key_hash b p homes first.stands first.written i h)
-        (λ j l fits. sym (alike b c q (pair_at w k v c r others j) (key_stands i h) (other_stands j l) fits)))
+        (first_accepted w k v kl vl key_hash c r others second.valid second.written (key_hash b q) (same_key b q c) (hash_small w k v kl vl key_hash b p homes first.valid first.written i h)
+        (λ j l fits. sym (same_calls b c q (pair_at w k v c r others j) (key_represents i h) (other_represents j l) fits)))
 
     -- a matched pair is the same as one of the other map
     match_same : (i : ℕ) → i < length homes → pair_matches w k v key_hash same_key same_value b (pair_at w k v b p homes i) c r ≡ true
@@ -63,8 +64,8 @@ module _ (w : Width) (k v : Shape) (kl : IsElement k) (vl : IsElement v) (key_ha
     unfolding same_at
     match_same i h matched =
         let q = pair_at w k v b p homes i in
-        let xs = home_positions w (entry_shape k v).size c r others in
-        let n = length-map others (item_at w (entry_shape k v).size c r) in
+        let xs = home_positions w (entry_spec k v).size c r others in
+        let n = length-map others (item_at w (entry_spec k v).size c r) in
         let e = sym (matches_is i h) ∙ matched in
         elim (cases_option (find (same_key b q c) xs)) [
           | inl none ↦ absurd (both_ways false refl (rw none at e))
@@ -73,7 +74,7 @@ module _ (w : Width) (k v : Shape) (kl : IsElement k) (vl : IsElement v) (key_ha
               let key = (some_find (same_key b q c) xs some.0 some.1).1 in
               let place = found_index (same_key b q c) xs some.0 some.1 in
               let inside : place.0 < length others = omega (arith, place.1) in
-              let is : pair_at w k v c r others place.0 ≡ some.0 = sym (place_of_pair w k v kl vl key_hash c r others second.stands second.written place.0 inside) ∙ place.2 in (
+              let is : pair_at w k v c r others place.0 ≡ some.0 = sym (place_of_pair w k v kl vl key_hash c r others second.valid second.written place.0 inside) ∙ place.2 in (
                 place.0,
                 inside,
                 subst (λ x. entry_same k v same_key same_value b q c x ≡ true) (sym is)
@@ -89,10 +90,10 @@ module _ (w : Width) (k v : Shape) (kl : IsElement k) (vl : IsElement v) (key_ha
     same_matches i j h l same =
         let q = pair_at w k v b p homes i in
         let x = pair_at w k v c r others j in
-        let xs = home_positions w (entry_shape k v).size c r others in
-        let n = length-map others (item_at w (entry_shape k v).size c r) in
+        let xs = home_positions w (entry_spec k v).size c r others in
+        let n = length-map others (item_at w (entry_spec k v).size c r) in
         let both = and_parts (same_key b q c x) (same_value b (q + value_offset k v) c (x + value_offset k v)) same in
-        let there = place_of_pair w k v kl vl key_hash c r others second.stands second.written j l in
+        let there = place_of_pair w k v kl vl key_hash c r others second.valid second.written j l in
         elim (cases_option (find (same_key b q c) xs)) [
           | inl none ↦
               let member = contains_member (get_or xs j 0) xs (j, omega arith, get_or_itself xs j (omega arith)) in
@@ -102,10 +103,10 @@ module _ (w : Width) (k v : Shape) (kl : IsElement k) (vl : IsElement v) (key_ha
               let place = found_index (same_key b q c) xs some.0 some.1 in
               let inside : place.0 < length others = omega (arith, place.1) in
               let y = pair_at w k v c r others place.0 in
-              let is : y ≡ some.0 = sym (place_of_pair w k v kl vl key_hash c r others second.stands second.written place.0 inside) ∙ place.2 in
+              let is : y ≡ some.0 = sym (place_of_pair w k v kl vl key_hash c r others second.valid second.written place.0 inside) ∙ place.2 in
               let found_key : same_key b q c y ≡ true = subst (λ z. same_key b q c z ≡ true) (sym is) key in
-              let turned = ke.symmetric b c q x (key_stands i h) (other_stands j l) both.0 in
-              let one : j ≡ place.0 = second.apart j place.0 l inside (ke.transitive c b c x q y (other_stands j l) (key_stands i h) (other_stands place.0 inside) turned found_key) in
+              let turned = ke.symmetric b c q x (key_represents i h) (other_represents j l) both.0 in
+              let one : j ≡ place.0 = second.apart j place.0 l inside (ke.transitive c b c x q y (other_represents j l) (key_represents i h) (other_represents place.0 inside) turned found_key) in
               let here : x ≡ some.0 = ap (pair_at w k v c r others) one ∙ is in
               matches_is i h ∙ rw some.1 (subst (λ z. same_at i z ≡ true) here both.1)
         ]
@@ -121,30 +122,30 @@ module _ (w : Width) (k v : Shape) (kl : IsElement k) (vl : IsElement v) (key_ha
           let x = pair_at w k v c r others j in
           let key = (and_parts (same_key b q c x) (same_value b (q + value_offset k v) c (x + value_offset k v)) one).0 in
           let key' = (and_parts (same_key b q' c x) (same_value b (q' + value_offset k v) c (x + value_offset k v)) two).0 in
-          let turned = ke.symmetric b c q' x (key_stands i' h') (other_stands j l) key' in
-          first.apart i i' h h' (ke.transitive b c b q x q' (key_stands i h) (other_stands j l) (key_stands i' h') key turned);
+          let turned = ke.symmetric b c q' x (key_represents i' h') (other_represents j l) key' in
+          first.apart i i' h h' (ke.transitive b c b q x q' (key_represents i h) (other_represents j l) (key_represents i' h') key turned);
     }
 
   pub equal_have_same_pairs : EqualHaveSamePairs w k v key_hash same_key same_value
   equal_have_same_pairs b c p r homes others first second =
       let same : ℕ → ℕ → Bool = λ i j. entry_same k v same_key same_value b (pair_at w k v b p homes i) c (pair_at w k v c r others j) in
       let matches : ℕ → Bool = λ q. pair_matches w k v key_hash same_key same_value b q c r in
-      let every : Bool = list_all matches (item_positions w (entry_shape k v).size b p) in
-      let count = pair_count w k v kl vl key_hash b p homes first.stands first.written in
-      let count' = pair_count w k v kl vl key_hash c r others second.stands second.written in
+      let every : Bool = list_all matches (item_positions w (entry_spec k v).size b p) in
+      let count = pair_count w k v kl vl key_hash b p homes first.valid first.written in
+      let count' = pair_count w k v kl vl key_hash c r others second.valid second.written in
       let equivalence = entry_equivalence kl vl ke ve in (
         λ equal.
             let t = and_parts (eqb (len_at w b p) (len_at w c r)) every equal in
             let n : length homes ≡ length others = sym count ∙ eqb-true (len_at w b p) (len_at w c r) t.0 ∙ count' in
             let each : EachIsIn w k v key_hash same_key same_value b p homes c r others = λ i h.
-            match_same b c p r homes others first second i h (all_handed w k v kl vl key_hash b p homes first.stands first.written matches t.1 i h) in (
+            match_same b c p r homes others first second i h (all_handed w k v kl vl key_hash b p homes first.valid first.written matches t.1 i h) in (
               each,
               λ j l.
                   let row = column_matched (length homes) (length others) same (matching b c p r homes others first second each) n j l in (
                     row.0,
                     row.1,
                     equivalence.symmetric b c (pair_at w k v b p homes row.0) (pair_at w k v c r others j)
-                        (pair_stands w k v kl vl key_hash b p homes first.stands first.written row.0 row.1) (pair_stands w k v kl vl key_hash c r others second.stands second.written j l) row.2,
+                        (pair_represents w k v kl vl key_hash b p homes first.valid first.written row.0 row.1) (pair_represents w k v kl vl key_hash c r others second.valid second.written j l) row.2,
                   ),
             ),
         λ both.
@@ -152,6 +153,6 @@ module _ (w : Width) (k v : Shape) (kl : IsElement k) (vl : IsElement v) (key_ha
             let back : ℕ → ℕ → Bool = λ i j. entry_same k v same_key same_value c (pair_at w k v c r others i) b (pair_at w k v b p homes j) in
             let few' = rows_within (length others) (length homes) back (matching c b r p others homes second first both.1) in
             and_from (eqb (len_at w b p) (len_at w c r)) every (eq-eqb (len_at w b p) (len_at w c r) (omega arith))
-            (all_walked w k v kl vl key_hash b p homes first.stands first.written matches
+            (all_walked w k v kl vl key_hash b p homes first.valid first.written matches
             (λ i h. let d = both.0 i h in same_matches b c p r homes others first second i d.0 h d.1 d.2)),
       )

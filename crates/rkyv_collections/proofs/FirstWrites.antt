@@ -8,20 +8,20 @@ use Rattle.std.specs.Prelude.{slice_set}
 use Rattle.std.proofs.lemmas.Bool.{cases_Bool}
 use Rattle.std.proofs.lemmas.List.{length-map}
 use Rattle.std.proofs.lemmas.Option.{same_Some, slice_get_within}
-use Rattle.rkyv_base.specs.Entry.{entry_shape}
-use Rattle.rkyv_base.specs.Format.{StandsNear}
+use Rattle.rkyv_base.specs.Entry.{entry_spec}
+use Rattle.rkyv_base.specs.Format.{RepresentsLocally}
 use Rattle.rkyv_base.specs.Sealing.{Keeps, Sealed, value_pos}
-use Rattle.rkyv_base.specs.Shape.{IsElement, Shape, Standing, Viewed}
-use Rattle.rkyv_keys.specs.OfEntries.{standing_key}
+use Rattle.rkyv_base.specs.ElementSpec.{IsElement, ElementSpec, ValidAt, Viewable}
+use Rattle.rkyv_keys.specs.Lemmas.OfEntries.{valid_key}
 use Rattle.rkyv_table.specs.Table.Positions.{home_positions, item_at}
 use Rattle.rkyv_collections.specs.InPlace.{WritesFound, with_first}
-use Rattle.rkyv_collections.specs.Lemmas.MapLaws.{HashNear}
+use Rattle.rkyv_collections.specs.Lemmas.MapLaws.{HashLocal}
 use Rattle.rkyv_collections.specs.ListedLookups.{AsksFor, first_pair}
-use Rattle.rkyv_collections.specs.MapShape.{map_shape}
-use Rattle.rkyv_collections.specs.MapFormat.{MapStands}
+use Rattle.rkyv_collections.specs.MapSpec.{map_spec}
+use Rattle.rkyv_collections.specs.MapFormat.{MapRepresents}
 use Rattle.rkyv_table.specs.Table.SealedTable.{WritesValue}
-use Rattle.rkyv_collections.proofs.ValueWrites.{written_value_stands}
-use Rattle.rkyv_collections.proofs.WrittenPairs.{pair_stands, place_of_pair}
+use Rattle.rkyv_collections.proofs.ValueWrites.{written_value_represents}
+use Rattle.rkyv_collections.proofs.WrittenPairs.{pair_represents, place_of_pair}
 
 module _ {A B : Type 0} (asks : A → Bool) (value : B) where
   -- the found position is that of the pair `n`, which is the first accepted one of both lists
@@ -79,58 +79,58 @@ no_place : (f : ℕ → ℕ) (o : Option ℕ) → None ≡ option_map f o → No
 no_place f None e = refl
 no_place f (Some q) e = absurd cc
 
-module _ (w : Width) (k v : Shape) (kl : IsElement k) (vl : IsElement v) {A B : Type 0} (key : List ℕ → ℕ → A → Type 0) (value : List ℕ → ℕ → B → Type 0)
+module _ (w : Width) (k v : ElementSpec) (kl : IsElement k) (vl : IsElement v) {A B : Type 0} (key : List ℕ → ℕ → A → Type 0) (value : List ℕ → ℕ → B → Type 0)
     (key_hash : List ℕ → ℕ → ℕ) (factor : ℕ × ℕ) (b : List ℕ) (p : ℕ) (pairs : List (A × B)) (new : B) (accept : ℕ → Bool) (asks : A → Bool)
-    (view : Viewed (map_shape w k v) b p) (alike : AsksFor k key b accept asks) (st : MapStands w k v key value key_hash factor b p pairs) where
-  abbrev places : List ℕ
-  places = home_positions w (entry_shape k v).size b p st.homes
+    (view : Viewable (map_spec w k v) b p) (same_calls : AsksFor k key b accept asks) (st : MapRepresents w k v key value key_hash factor b p pairs) where
+  abbrev positions : List ℕ
+  positions = home_positions w (entry_spec k v).size b p st.homes
 
-  homes_total : length places ≡ length st.homes
-  homes_total = length-map st.homes (item_at w (entry_shape k v).size b p)
+  homes_total : length positions ≡ length st.homes
+  homes_total = length-map st.homes (item_at w (entry_spec k v).size b p)
 
-  pub count : length places ≡ length pairs
-  count = sym (length-map places (key_hash b)) ∙ sym st.written.count ∙ st.len
+  pub count : length positions ≡ length pairs
+  count = sym (length-map positions (key_hash b)) ∙ sym st.written.count ∙ st.len
 
-  pub each_alike : (i : ℕ) (y : A × B) → slice_get pairs i ≡ Some y → accept (slice_index places i) ≡ asks y.0
+  pub each_alike : (i : ℕ) (y : A × B) → slice_get pairs i ≡ Some y → accept (slice_index positions i) ≡ asks y.0
   each_alike i y get =
       let inside = slice_get_within pairs i y get in
       let below : i < length st.homes = omega (arith, inside, count, homes_total) in
       let at = sym (place_of_pair w k v kl vl key_hash b p st.homes view st.written i below) in
-      let entry = subst (λ z. Standing (entry_shape k v) b z) at (pair_stands w k v kl vl key_hash b p st.homes view st.written i below) in
-      alike y.0 (slice_index places i) (standing_key kl vl b (slice_index places i) entry) (st.at i y get).0
+      let entry = subst (λ z. ValidAt (entry_spec k v) b z) at (pair_represents w k v kl vl key_hash b p st.homes view st.written i below) in
+      same_calls y.0 (slice_index positions i) (valid_key kl vl b (slice_index positions i) entry) (st.at i y get).0
 
   -- if no key is accepted, the list has no accepted pair and is unchanged
-  pub none_written : None ≡ find accept places → (false ≡ is_some (first_pair asks pairs)) × MapStands w k v key value key_hash factor b p (with_first asks new pairs)
-  none_written found = elim (nth_found asks new accept places pairs count each_alike) [
-    | inl none ↦ (ap is_some (sym none.1), subst (λ (l : List (A × B)). MapStands w k v key value key_hash factor b p l) (sym none.2) st)
+  pub none_written : None ≡ find accept positions → (false ≡ is_some (first_pair asks pairs)) × MapRepresents w k v key value key_hash factor b p (with_first asks new pairs)
+  none_written found = elim (nth_found asks new accept positions pairs count each_alike) [
+    | inl none ↦ (ap is_some (sym none.1), subst (λ (l : List (A × B)). MapRepresents w k v key value key_hash factor b p l) (sym none.2) st)
     | inr r ↦ absurd (let e = found ∙ r.place in cc)
   ]
 
   -- after a write of the first accepted value, the map represents the list with that value
-  pub first_written : (kn : StandsNear k key) (vn : StandsNear v value) → HashNear k key_hash → (c : List ℕ) (q : ℕ) → Some q ≡ find accept places
+  pub first_written : (kn : RepresentsLocally k key) (vn : RepresentsLocally v value) → HashLocal k key_hash → (c : List ℕ) (q : ℕ) → Some q ≡ find accept positions
       → WritesValue k v b c q → value c (value_pos k v q) new
-      → (true ≡ is_some (first_pair asks pairs)) × MapStands w k v key value key_hash factor c p (with_first asks new pairs)
-  first_written kn vn near c q found writes stands = elim (nth_found asks new accept places pairs count each_alike) [
+      → (true ≡ is_some (first_pair asks pairs)) × MapRepresents w k v key value key_hash factor c p (with_first asks new pairs)
+  first_written kn vn local c q found writes represents = elim (nth_found asks new accept positions pairs count each_alike) [
     | inl none ↦ absurd (let e = found ∙ none.0 in cc)
     | inr r ↦
-        let at : q ≡ slice_index places r.n = same_Some q (slice_index places r.n) (found ∙ r.place) in
-        let there = written_value_stands k v kl vl w key_hash near key value kn vn b c p r.n factor pairs r.pair new view st r.at
-        (subst (WritesValue k v b c) at writes) (subst (λ z. value c (value_pos k v z) new) at stands) in
-        (ap is_some (sym r.first), subst (λ (l : List (A × B)). MapStands w k v key value key_hash factor c p l) (sym r.written) there)
+        let at : q ≡ slice_index positions r.n = same_Some q (slice_index positions r.n) (found ∙ r.place) in
+        let there = written_value_represents k v kl vl w key_hash local key value kn vn b c p r.n factor pairs r.pair new view st r.at
+        (subst (WritesValue k v b c) at writes) (subst (λ z. value c (value_pos k v z) new) at represents) in
+        (ap is_some (sym r.first), subst (λ (l : List (A × B)). MapRepresents w k v key value key_hash factor c p l) (sym r.written) there)
   ]
 
   -- the same for the position of the value
-  pub none_behind : None ≡ option_map (value_pos k v) (find accept places)
-      → (false ≡ is_some (first_pair asks pairs)) × MapStands w k v key value key_hash factor b p (with_first asks new pairs)
-  none_behind found = none_written (no_place (value_pos k v) (find accept places) found)
+  pub none_behind : None ≡ option_map (value_pos k v) (find accept positions)
+      → (false ≡ is_some (first_pair asks pairs)) × MapRepresents w k v key value key_hash factor b p (with_first asks new pairs)
+  none_behind found = none_written (no_place (value_pos k v) (find accept positions) found)
 
-  pub first_behind : (kn : StandsNear k key) (vn : StandsNear v value) → HashNear k key_hash → (c : List ℕ) (pos : ℕ)
-      → Some pos ≡ option_map (value_pos k v) (find accept places) → Sealed b pos v.size c → Keeps v b c pos → value c pos new
-      → (true ≡ is_some (first_pair asks pairs)) × MapStands w k v key value key_hash factor c p (with_first asks new pairs)
-  first_behind kn vn near c pos found sealed keeps stands =
-      let t = some_place (value_pos k v) (find accept places) pos found in
-      first_written kn vn near c t.0 t.1 (record { sealed = subst (λ n. Sealed b n v.size c) t.2 sealed; keeps = subst (λ n. Keeps v b c n) t.2 keeps })
-      (subst (λ n. value c n new) t.2 stands)
+  pub first_behind : (kn : RepresentsLocally k key) (vn : RepresentsLocally v value) → HashLocal k key_hash → (c : List ℕ) (pos : ℕ)
+      → Some pos ≡ option_map (value_pos k v) (find accept positions) → Sealed b pos v.size c → Keeps v b c pos → value c pos new
+      → (true ≡ is_some (first_pair asks pairs)) × MapRepresents w k v key value key_hash factor c p (with_first asks new pairs)
+  first_behind kn vn local c pos found sealed keeps represents =
+      let t = some_place (value_pos k v) (find accept positions) pos found in
+      first_written kn vn local c t.0 t.1 (record { sealed = subst (λ n. Sealed b n v.size c) t.2 sealed; keeps = subst (λ n. Keeps v b c n) t.2 keeps })
+      (subst (λ n. value c n new) t.2 represents)
 
 -- the result of a writer that is called with the position of the found value
 pub found_written : {F R : Type 0} (post : F → MutBor (List ℕ) → ℕ → R → MutBor (List ℕ) → Type 0) (write : F) (x y : MutBor (List ℕ)) (r : R) (pos : ℕ) (place : Option ℕ)

@@ -1,5 +1,5 @@
 -- From a lookup in the table of a map to a lookup in the map.
-use Rattle.rkyv_base.specs.declared.element.Shaped.{Ghosts as Shapes}
+use Rattle.rkyv_base.specs.declared.element.HasSpec.{Ghosts as Specs}
 use Rattle.rkyv_base.specs.declared.width.Word.{Ghosts as Words}
 use Rattle.std.proofs.Common.{◌≡◌, ℕ, ◌<◌, ◌^◌, ◌∙◌, ap, sym, Bool, List, None, Option, Some, map}
 use Rattle.std.specs.Borrow.{Bor}
@@ -7,10 +7,10 @@ use Rattle.std.specs.List.{find}
 use Rattle.std.specs.Prelude.{IfSome}
 use Rattle.rkyv_scan.specs.Groups.{generic_kind}
 use Rattle.rkyv_scan.specs.Hash.{Hasher, HasherCall, hash_of_calls}
-use Rattle.rkyv_base.specs.Elements.{entry_shapes}
-use Rattle.rkyv_base.specs.Entry.{entry_shape}
-use Rattle.rkyv_base.specs.Shape.{IsElement}
-use Rattle.rkyv_base.specs.View.{IsAt, IsView, archive_of, pos_of, pos_of_found}
+use Rattle.rkyv_base.specs.Elements.{entry_specs}
+use Rattle.rkyv_base.specs.Entry.{entry_spec}
+use Rattle.rkyv_base.specs.ElementSpec.{IsElement}
+use Rattle.rkyv_base.specs.View.{IsAt, IsValidView, archive_of, pos_of, pos_of_found}
 use Rattle.rkyv_base.specs.declared.entry.Entry.{Entry}
 use Rattle.rkyv_base.specs.declared.view.View.{View}
 use Rattle.rkyv_keys.specs.Equality.{Comparison}
@@ -28,7 +28,7 @@ use Rattle.rkyv_collections.specs.declared.map.ArchivedHashMap.{ArchivedHashMap}
 use Rattle.rkyv_collections.proofs.Lookups.{entry_of_item, key_of_entry, under_hash}
 use Rattle.rkyv_collections.proofs.MisplacedKeys.{finds_the_one}
 
-module _ {K V H W : Type 0} {ks : Shapes K} {vs : Shapes V} {wt : Words W} (m : ArchivedHashMap K V H W ks vs wt) (t : ArchivedHashTable (Entry K V) W (entry_shapes ks vs) wt) (at : IsAt t.view (map_archive m) (map_pos m)) where
+module _ {K V H W : Type 0} {ks : Specs K} {vs : Specs V} {wt : Words W} (m : ArchivedHashMap K V H W ks vs wt) (t : ArchivedHashTable (Entry K V) W (entry_specs ks vs) wt) (at : IsAt t.view (map_archive m) (map_pos m)) where
   same : table_bytes t ≡ map_bytes m
   same = ap (λ (x : Bor (List ℕ)). x.now) at.0
 
@@ -38,7 +38,7 @@ module _ {K V H W : Type 0} {ks : Shapes K} {vs : Shapes V} {wt : Words W} (m : 
   -- a comparison of an entry by its key depends only on the position of the key
   told_by_key : (post : View K → Bool → Type 0) (accept : ℕ → Bool) → AnswersKeys m post accept
       → (entry : View (Entry K V)) (r : Bool) → IsItem t entry
-      → (key : View K) × IsAt key (archive_of entry) (pos_of entry) × IsView ks.shape key × post key r
+      → (key : View K) × IsAt key (archive_of entry) (pos_of entry) × IsValidView ks.spec key × post key r
       → r ≡ accept entry.pos
   told_by_key post accept alone entry r item e =
       alone e.0 r (key_of_entry m entry e.0 (entry_of_item m t at entry item) e.1 e.2) e.3 ∙ ap accept e.1.1
@@ -50,10 +50,10 @@ module _ {K V H W : Type 0} {ks : Shapes K} {vs : Shapes V} {wt : Words W} (m : 
 
   -- the table finds the same position as the map
   found_there : (hash asked : ℕ) (accept : ℕ → Bool) → hash ≡ asked
-      → pos_found generic_kind wt.word (entry_shape ks.shape vs.shape).size (table_bytes t) (table_pos t) hash accept
-      ≡ pos_found generic_kind wt.word (entry_shape ks.shape vs.shape).size (map_bytes m) (map_pos m) asked accept
+      → pos_found generic_kind wt.word (entry_spec ks.spec vs.spec).size (table_bytes t) (table_pos t) hash accept
+      ≡ pos_found generic_kind wt.word (entry_spec ks.spec vs.spec).size (map_bytes m) (map_pos m) asked accept
   found_there hash asked accept e =
-      let found : List ℕ → ℕ → ℕ → Option ℕ = λ b p h. pos_found generic_kind wt.word (entry_shape ks.shape vs.shape).size b p h accept in
+      let found : List ℕ → ℕ → ℕ → Option ℕ = λ b p h. pos_found generic_kind wt.word (entry_spec ks.spec vs.spec).size b p h accept in
       ap (λ b. found b (table_pos t) hash) same ∙ ap (λ p. found (map_bytes m) p hash) same_place ∙ ap (found (map_bytes m) (map_pos m)) e
 
   -- the table was written with the same home buckets and the same positions,
@@ -61,15 +61,15 @@ module _ {K V H W : Type 0} {ks : Shapes K} {vs : Shapes V} {wt : Words W} (m : 
   written_there : (hashes homes : List ℕ) → WrittenAt wt.word (map_bytes m) (map_pos m) hashes homes → WrittenAt wt.word (table_bytes t) (table_pos t) hashes homes
   written_there hashes homes written = rw (same, same_place) written
 
-  places_there : (homes : List ℕ) → home_positions wt.word (entry_shape ks.shape vs.shape).size (table_bytes t) (table_pos t) homes ≡ home_positions wt.word (entry_shape ks.shape vs.shape).size (map_bytes m) (map_pos m) homes
+  places_there : (homes : List ℕ) → home_positions wt.word (entry_spec ks.spec vs.spec).size (table_bytes t) (table_pos t) homes ≡ home_positions wt.word (entry_spec ks.spec vs.spec).size (map_bytes m) (map_pos m) homes
   places_there homes =
-      let places : List ℕ → ℕ → List ℕ = λ b p. home_positions wt.word (entry_shape ks.shape vs.shape).size b p homes in
-      ap (λ b. places b (table_pos t)) same ∙ ap (places (map_bytes m)) same_place
+      let positions : List ℕ → ℕ → List ℕ = λ b p. home_positions wt.word (entry_spec ks.spec vs.spec).size b p homes in
+      ap (λ b. positions b (table_pos t)) same ∙ ap (positions (map_bytes m)) same_place
 
   under_there : (hash asked : ℕ) (key_hash : List ℕ → ℕ → ℕ) (accept : ℕ → Bool) (homes : List ℕ) → hash ≡ asked
-      → AreUnderHash m asked key_hash accept → MapWrittenAt wt.word (entry_shape ks.shape vs.shape) key_hash (map_bytes m) (map_pos m) homes
-      → IsUnderHash hash (map (key_hash (map_bytes m)) (home_positions wt.word (entry_shape ks.shape vs.shape).size (map_bytes m) (map_pos m) homes))
-      (home_positions wt.word (entry_shape ks.shape vs.shape).size (table_bytes t) (table_pos t) homes) accept
+      → AreUnderHash m asked key_hash accept → MapWrittenAt wt.word (entry_spec ks.spec vs.spec) key_hash (map_bytes m) (map_pos m) homes
+      → IsUnderHash hash (map (key_hash (map_bytes m)) (home_positions wt.word (entry_spec ks.spec vs.spec).size (map_bytes m) (map_pos m) homes))
+      (home_positions wt.word (entry_spec ks.spec vs.spec).size (table_bytes t) (table_pos t) homes) accept
   under_there hash asked key_hash accept homes e under written =
       let here = under_hash m hash key_hash accept homes (λ q place fits. under q place fits ∙ sym e) written in
       rw (places_there homes) here
@@ -78,7 +78,7 @@ module _ {K V H W : Type 0} {ks : Shapes K} {vs : Shapes V} {wt : Words W} (m : 
   -- that compares keys
   module _ (compared : View (Entry K V) → Bool → Type 0) (post : View K → Bool → Type 0) (hash asked : ℕ) (same_hash : hash ≡ asked) (result : Option (View (Entry K V))) where
     abbrev AskedByKey : Type 0
-    AskedByKey = (entry : View (Entry K V)) (r : Bool) → compared entry r → (key : View K) × IsAt key (archive_of entry) (pos_of entry) × IsView ks.shape key × post key r
+    AskedByKey = (entry : View (Entry K V)) (r : Bool) → compared entry r → (key : View K) × IsAt key (archive_of entry) (pos_of entry) × IsValidView ks.spec key × post key r
 
     answered : AskedByKey → (accept : ℕ → Bool) → AnswersKeys m post accept → Answers compared t accept
     answered by_key accept answers entry r item h = told_by_key post accept answers entry r item (by_key entry r h)
@@ -88,18 +88,18 @@ module _ {K V H W : Type 0} {ks : Shapes K} {vs : Shapes V} {wt : Words W} (m : 
 
     pub first_by_key : FindsFirst compared t hash (pos_of_found result) → AskedByKey → (key_hash : List ℕ → ℕ → ℕ) → FindsFirstBy m post asked key_hash (IsEntryAt result)
     first_by_key found by_key key_hash = λ accept answers under homes written.
-        let hashes = map (key_hash (map_bytes m)) (home_positions wt.word (entry_shape ks.shape vs.shape).size (map_bytes m) (map_pos m) homes) in
+        let hashes = map (key_hash (map_bytes m)) (home_positions wt.word (entry_spec ks.spec vs.spec).size (map_bytes m) (map_pos m) homes) in
         found hashes homes accept (written_there hashes homes written) (answered by_key accept answers) (under_there hash asked key_hash accept homes same_hash under written)
         ∙ ap (find accept) (places_there homes)
 
 -- if no key is misplaced, a lookup under the hash of a query finds the one key that fits
-pub one_found : {K V H W Q State : Type 0} {ks : Shapes K} {vs : Shapes V} {wt : Words W} (m : ArchivedHashMap K V H W ks vs wt) (kl : IsElement ks.shape) (vl : IsElement vs.shape) (hasher : Hasher State)
+pub one_found : {K V H W Q State : Type 0} {ks : Specs K} {vs : Specs V} {wt : Words W} (m : ArchivedHashMap K V H W ks vs wt) (kl : IsElement ks.spec) (vl : IsElement vs.spec) (hasher : Hasher State)
     (same_key : Comparison) (key_calls : List ℕ → ℕ → List HasherCall) (can_read : Q → Type 0) (calls : Q → List HasherCall) (fits : Q → List ℕ → ℕ → Bool)
-    → IsQuery ks.shape same_key key_calls can_read calls fits → IsMap m → (q : Q) → can_read q → hash_of_calls hasher (calls q) < 2 ^ 64 → (Told : Option ℕ → Type 0)
-    → FindsKey m (hash_of_calls hasher (calls q)) (fits q (map_bytes m)) Told
-    → FindsOneKey m (hash_at hasher key_calls) same_key (fits q (map_bytes m)) Told
-one_found {ks = ks} {vs = vs} {wt = wt} m kl vl hasher same_key key_calls can_read calls fits query is q can small Told found = λ none. (
-  pos_found generic_kind wt.word (entry_shape ks.shape vs.shape).size (map_bytes m) (map_pos m) (hash_of_calls hasher (calls q)) (fits q (map_bytes m)),
-  finds_the_one wt.word ks.shape vs.shape kl vl hasher same_key key_calls can_read calls fits query (map_bytes m) (map_pos m) is q can small none,
+    → IsQuery ks.spec same_key key_calls can_read calls fits → IsMap m → (q : Q) → can_read q → hash_of_calls hasher (calls q) < 2 ^ 64 → (P : Option ℕ → Type 0)
+    → FindsKey m (hash_of_calls hasher (calls q)) (fits q (map_bytes m)) P
+    → FindsOneKey m (hash_at hasher key_calls) same_key (fits q (map_bytes m)) P
+one_found {ks = ks} {vs = vs} {wt = wt} m kl vl hasher same_key key_calls can_read calls fits query is q ready small P found = λ none. (
+  pos_found generic_kind wt.word (entry_spec ks.spec vs.spec).size (map_bytes m) (map_pos m) (hash_of_calls hasher (calls q)) (fits q (map_bytes m)),
+  finds_the_one wt.word ks.spec vs.spec kl vl hasher same_key key_calls can_read calls fits query (map_bytes m) (map_pos m) is q ready small none,
   found,
 )

@@ -7,22 +7,22 @@ use Rattle.std.specs.Prelude.{IfSome}
 use Rattle.std.proofs.lemmas.Bool.{cases_Bool, true≢false}
 use Rattle.std.proofs.lemmas.List.{length-map}
 use Rattle.std.proofs.lemmas.Option.{same_Some, slice_get_within}
-use Rattle.rkyv_base.specs.Entry.{entry_shape, value_offset}
-use Rattle.rkyv_base.specs.Pairs.{PairStands}
-use Rattle.rkyv_base.specs.Shape.{IsElement, Shape, Standing, Viewed}
+use Rattle.rkyv_base.specs.Entry.{entry_spec, value_offset}
+use Rattle.rkyv_base.specs.Pairs.{PairRepresents}
+use Rattle.rkyv_base.specs.ElementSpec.{IsElement, ElementSpec, ValidAt, Viewable}
 use Rattle.rkyv_base.specs.declared.view.View.{View}
-use Rattle.rkyv_keys.specs.OfEntries.{standing_key}
+use Rattle.rkyv_keys.specs.Lemmas.OfEntries.{valid_key}
 use Rattle.rkyv_table.specs.Table.Positions.{home_positions, item_at}
 use Rattle.rkyv_collections.specs.ListedLookups.{AsksFor, IsFoundPair, IsFoundValue, IsPairOf, first_pair}
 use Rattle.rkyv_collections.specs.Map.{IsEntryAt, IsFoundAt, IsPairAt, IsValueAt}
-use Rattle.rkyv_collections.specs.MapShape.{map_shape}
-use Rattle.rkyv_collections.specs.MapFormat.{MapStands}
-use Rattle.rkyv_collections.proofs.WrittenPairs.{pair_stands, place_of_pair}
+use Rattle.rkyv_collections.specs.MapSpec.{map_spec}
+use Rattle.rkyv_collections.specs.MapFormat.{MapRepresents}
+use Rattle.rkyv_collections.proofs.WrittenPairs.{pair_represents, place_of_pair}
 
-module _ {A B : Type 0} (k v : Shape) (key : List ℕ → ℕ → A → Type 0) (value : List ℕ → ℕ → B → Type 0) (b : List ℕ) where
+module _ {A B : Type 0} (k v : ElementSpec) (key : List ℕ → ℕ → A → Type 0) (value : List ℕ → ℕ → B → Type 0) (b : List ℕ) where
   -- if two lists correspond, their first accepted items correspond
   found_together : (fits : ℕ → Bool) (asks : A → Bool) (xs : List ℕ) (ys : List (A × B)) → length xs ≡ length ys
-      → ((i : ℕ) (y : A × B) → slice_get ys i ≡ Some y → (fits (slice_index xs i) ≡ asks y.0) × PairStands k v key value b (slice_index xs i) y)
+      → ((i : ℕ) (y : A × B) → slice_get ys i ≡ Some y → (fits (slice_index xs i) ≡ asks y.0) × PairRepresents k v key value b (slice_index xs i) y)
       → IsPairOf k v key value b (find fits xs) (first_pair asks ys)
   found_together fits asks [] [] n h = tt
   found_together fits asks [] (y ∷ ys) n h = absurd (omega (arith, n))
@@ -79,19 +79,19 @@ module _ {A B : Type 0} (k v : Shape) (key : List ℕ → ℕ → A → Type 0) 
   contains_listed (Some q) None result t e = absurd t
 
 -- the first accepted key is that of the first accepted pair
-pub first_listed : (w : Width) (k v : Shape) (kl : IsElement k) (vl : IsElement v) {A B : Type 0} (key : List ℕ → ℕ → A → Type 0) (value : List ℕ → ℕ → B → Type 0) (hash : List ℕ → ℕ → ℕ)
-    (factor : ℕ × ℕ) (b : List ℕ) (p : ℕ) (pairs : List (A × B)) → Viewed (map_shape w k v) b p → (accept : ℕ → Bool) (asks : A → Bool) → AsksFor k key b accept asks
-    → (h : MapStands w k v key value hash factor b p pairs)
-    → IsPairOf k v key value b (find accept (home_positions w (entry_shape k v).size b p h.homes)) (first_pair asks pairs)
-first_listed w k v kl vl key value hash factor b p pairs view accept asks alike h =
-    let places = home_positions w (entry_shape k v).size b p h.homes in
-    let n = length-map places (hash b) in
-    let m = length-map h.homes (item_at w (entry_shape k v).size b p) in
-    let count : length places ≡ length pairs = sym n ∙ sym h.written.count ∙ h.len in
-    found_together k v key value b accept asks places pairs count
+pub first_listed : (w : Width) (k v : ElementSpec) (kl : IsElement k) (vl : IsElement v) {A B : Type 0} (key : List ℕ → ℕ → A → Type 0) (value : List ℕ → ℕ → B → Type 0) (hash : List ℕ → ℕ → ℕ)
+    (factor : ℕ × ℕ) (b : List ℕ) (p : ℕ) (pairs : List (A × B)) → Viewable (map_spec w k v) b p → (accept : ℕ → Bool) (asks : A → Bool) → AsksFor k key b accept asks
+    → (h : MapRepresents w k v key value hash factor b p pairs)
+    → IsPairOf k v key value b (find accept (home_positions w (entry_spec k v).size b p h.homes)) (first_pair asks pairs)
+first_listed w k v kl vl key value hash factor b p pairs view accept asks same_calls h =
+    let positions = home_positions w (entry_spec k v).size b p h.homes in
+    let n = length-map positions (hash b) in
+    let m = length-map h.homes (item_at w (entry_spec k v).size b p) in
+    let count : length positions ≡ length pairs = sym n ∙ sym h.written.count ∙ h.len in
+    found_together k v key value b accept asks positions pairs count
     (λ i pair get.
     let inside = slice_get_within pairs i pair get in
     let below : i < length h.homes = omega (arith, inside, count, m) in
     let there = h.at i pair get in
-    let at = subst (λ q. Standing (entry_shape k v) b q) (sym (place_of_pair w k v kl vl hash b p h.homes view h.written i below)) (pair_stands w k v kl vl hash b p h.homes view h.written i below) in
-    (alike pair.0 (slice_index places i) (standing_key kl vl b (slice_index places i) at) there.0, there))
+    let at = subst (λ q. ValidAt (entry_spec k v) b q) (sym (place_of_pair w k v kl vl hash b p h.homes view h.written i below)) (pair_represents w k v kl vl hash b p h.homes view h.written i below) in
+    (same_calls pair.0 (slice_index positions i) (valid_key kl vl b (slice_index positions i) at) there.0, there))

@@ -1,5 +1,5 @@
 -- From the entry that a lookup finds to its result.
-use Rattle.rkyv_base.specs.declared.element.Shaped.{Ghosts as Shapes}
+use Rattle.rkyv_base.specs.declared.element.HasSpec.{Ghosts as Specs}
 use Rattle.rkyv_base.specs.declared.width.Word.{Ghosts as Words}
 use Rattle.std.proofs.Common.{◌≡◌, ℕ, ◌+◌, ◌<◌, ◌^◌, ◌∙◌, Bool, List, None, Option, Some, ap, refl, sym, subst}
 use Rattle.std.specs.Borrow.{Bor}
@@ -7,9 +7,9 @@ use Rattle.std.specs.Option.{option_map}
 use Rattle.std.specs.Prelude.{IfSome, IsSome}
 use Rattle.std.proofs.lemmas.Option.{IfSome_then}
 use Rattle.rkyv_scan.specs.Hash.{Hasher, HasherCall, hash_of_calls}
-use Rattle.rkyv_base.specs.Entry.{entry_shape, value_offset}
-use Rattle.rkyv_base.specs.Shape.{Shape, IsElement}
-use Rattle.rkyv_base.specs.View.{IsView, pos_of_found}
+use Rattle.rkyv_base.specs.Entry.{entry_spec, value_offset}
+use Rattle.rkyv_base.specs.ElementSpec.{ElementSpec, IsElement}
+use Rattle.rkyv_base.specs.View.{IsValidView, pos_of_found}
 use Rattle.rkyv_base.specs.declared.entry.Entry.{Entry}
 use Rattle.rkyv_base.specs.declared.view.View.{View}
 use Rattle.rkyv_keys.specs.Equality.{Comparison}
@@ -24,7 +24,7 @@ use Rattle.rkyv_collections.specs.declared.map.ArchivedHashMap.{ArchivedHashMap}
 use Rattle.rkyv_collections.proofs.FoundEntries.{one_found}
 use Rattle.rkyv_collections.proofs.Lookups.{query_under_hash}
 
-module _ {K V H W : Type 0} {ks : Shapes K} {vs : Shapes V} {wt : Words W} (m : ArchivedHashMap K V H W ks vs wt) where
+module _ {K V H W : Type 0} {ks : Specs K} {vs : Specs V} {wt : Words W} (m : ArchivedHashMap K V H W ks vs wt) where
   -- the clauses on a found value are clauses on each value that is made of it
   module _ {X Y : Type 0} (part : Part (ArchivedHashMap K V H W ks vs wt) X) (out : Part (ArchivedHashMap K V H W ks vs wt) Y) (found : Option X) (result : Option Y)
       (walks : IfSome found (part.In m) → IfSome result (out.In m)) (at : (place : Option ℕ) → part.At found place → out.At result place) where
@@ -44,48 +44,48 @@ module _ {K V H W : Type 0} {ks : Shapes K} {vs : Shapes V} {wt : Words W} (m : 
     }
 
   -- a lookup by a comparison with the keys that a query fits is a lookup of the query
-  pub gets_query : {Q X State : Type 0} (hasher : Hasher State) (kl : IsElement ks.shape) (vl : IsElement vs.shape) (same_key : Comparison) (key_calls : List ℕ → ℕ → List HasherCall)
-      (can_read : Q → Type 0) (calls : Q → List HasherCall) (fits : Q → List ℕ → ℕ → Bool) → IsQuery ks.shape same_key key_calls can_read calls fits → IsMap m
+  pub gets_query : {Q X State : Type 0} (hasher : Hasher State) (kl : IsElement ks.spec) (vl : IsElement vs.spec) (same_key : Comparison) (key_calls : List ℕ → ℕ → List HasherCall)
+      (can_read : Q → Type 0) (calls : Q → List HasherCall) (fits : Q → List ℕ → ℕ → Bool) → IsQuery ks.spec same_key key_calls can_read calls fits → IsMap m
       → (q : Q) → can_read q → hash_of_calls hasher (calls q) < 2 ^ 64
       → (post : View K → Bool → Type 0) → ((key : View K) (r : Bool) → post key r → r ≡ fits q key.archive.now key.pos)
       → (part : Part (ArchivedHashMap K V H W ks vs wt) X) (result : Option X)
       → GetsBy part m (hash_of_calls hasher (calls q)) (hash_at hasher key_calls) post result → GetsKey part m (asked hasher key_calls same_key (calls q) (fits q)) result
-  gets_query hasher kl vl same_key key_calls can_read calls fits query is q can small post tells part result h =
+  gets_query hasher kl vl same_key key_calls can_read calls fits query is q ready small post tells part result h =
       let accept : ℕ → Bool = fits q (map_bytes m) in
       let answers : AnswersKeys m post accept = λ key r in_map e. tells key r e ∙ ap (λ (a : Bor (List ℕ)). fits q a.now key.pos) in_map.archive in
       let found = h.answer accept answers in
       record {
         walked = h.walked;
         answer = found;
-        first = h.first accept answers (query_under_hash m kl vl hasher same_key key_calls can_read calls fits query is q can);
-        complete = one_found m kl vl hasher same_key key_calls can_read calls fits query is q can small (part.At result) found;
+        first = h.first accept answers (query_under_hash m kl vl hasher same_key key_calls can_read calls fits query is q ready);
+        complete = one_found m kl vl hasher same_key key_calls can_read calls fits query is q ready small (part.At result) found;
       }
 
-module _ {K V H W : Type 0} {ks : Shapes K} {vs : Shapes V} {wt : Words W} (m : ArchivedHashMap K V H W ks vs wt) where
+module _ {K V H W : Type 0} {ks : Specs K} {vs : Specs V} {wt : Words W} (m : ArchivedHashMap K V H W ks vs wt) where
   -- an entry of the map is valid
-  pub entry_viewed : (found : Option (View (Entry K V))) → IfSome found (IsEntryIn m) → IfSome found (IsView (entry_shape ks.shape vs.shape))
-  entry_viewed found walked = IfSome_then found walked (λ entry there. there.1)
+  pub entry_viewable : (found : Option (View (Entry K V))) → IfSome found (IsEntryIn m) → IfSome found (IsValidView (entry_spec ks.spec vs.spec))
+  entry_viewable found walked = IfSome_then found walked (λ entry there. there.1)
 
   -- the pair of an entry of the map is a pair of the map
-  pair_walked : (found : Option (View (Entry K V))) (result : Option (View K × View V)) → IsPairOfEntry ks.shape vs.shape result found → IfSome found (IsEntryIn m) → IfSome result (IsPairIn m)
+  pair_walked : (found : Option (View (Entry K V))) (result : Option (View K × View V)) → IsPairOfEntry ks.spec vs.spec result found → IfSome found (IsEntryIn m) → IfSome result (IsPairIn m)
   pair_walked None result is walked = subst (λ r. IfSome r (IsPairIn m)) (sym is) tt
   pair_walked (Some entry) result is walked = subst (λ r. IfSome r (IsPairIn m)) (sym is.1) (record {
-    key = record { archive = is.2.0 ∙ walked.0; viewed = is.3; place = (walked.2.0, walked.2.1, is.2.1 ∙ walked.2.2) };
-    viewed = is.5;
-    at = (is.4.0 ∙ walked.0, is.4.1 ∙ ap (λ q. q + value_offset ks.shape vs.shape) (sym is.2.1));
+    key = record { archive = is.2.0 ∙ walked.0; viewable = is.3; place = (walked.2.0, walked.2.1, is.2.1 ∙ walked.2.2) };
+    viewable = is.5;
+    at = (is.4.0 ∙ walked.0, is.4.1 ∙ ap (λ q. q + value_offset ks.spec vs.spec) (sym is.2.1));
   })
 
   -- the value of an entry of the map is a value of the map
-  value_walked : (found : Option (View (Entry K V))) (result : Option (View V)) → IsValueOfEntry ks.shape vs.shape result found → IfSome found (IsEntryIn m) → IfSome result (IsValueIn m)
+  value_walked : (found : Option (View (Entry K V))) (result : Option (View V)) → IsValueOfEntry ks.spec vs.spec result found → IfSome found (IsEntryIn m) → IfSome result (IsValueIn m)
   value_walked None result is walked = subst (λ r. IfSome r (IsValueIn m)) (sym is) tt
   value_walked (Some entry) result is walked = subst (λ r. IfSome r (IsValueIn m)) (sym is.1) (record {
-    viewed = is.3;
+    viewable = is.3;
     key = entry.pos;
     walked = walked.2;
     at = (is.2.0 ∙ walked.0, is.2.1);
   })
 
-module _ {K V : Type 0} (k v : Shape) where
+module _ {K V : Type 0} (k v : ElementSpec) where
   -- the pair is at the position of the found entry
   pair_at : (found : Option (View (Entry K V))) (result : Option (View K × View V)) → IsPairOfEntry k v result found → (place : Option ℕ) → IsEntryAt found place → IsPairAt result place
   pair_at None result is place at = ap key_pos_found is ∙ at
@@ -97,30 +97,30 @@ module _ {K V : Type 0} (k v : Shape) where
   value_at (Some entry) result is place at = ap pos_of_found is.1 ∙ ap Some is.2.1 ∙ ap (option_map (λ (q : ℕ). q + value_offset k v)) at
 
 -- the clauses of a lookup on a found entry are clauses on its pair and on its value
-module _ {K V H W : Type 0} {ks : Shapes K} {vs : Shapes V} {wt : Words W} {m : ArchivedHashMap K V H W ks vs wt} {found : Option (View (Entry K V))} where
-  pub pair_of_key : {a : Asked} {result : Option (View K × View V)} → GetsKey entry_part m a found → IsPairOfEntry ks.shape vs.shape result found
+module _ {K V H W : Type 0} {ks : Specs K} {vs : Specs V} {wt : Words W} {m : ArchivedHashMap K V H W ks vs wt} {found : Option (View (Entry K V))} where
+  pub pair_of_key : {a : Asked} {result : Option (View K × View V)} → GetsKey entry_part m a found → IsPairOfEntry ks.spec vs.spec result found
       → GetsKey pair_part m a result
   pair_of_key {a} {result} got is =
-      key_through m entry_part pair_part found result (pair_walked m found result is) (pair_at ks.shape vs.shape found result is) a got
+      key_through m entry_part pair_part found result (pair_walked m found result is) (pair_at ks.spec vs.spec found result is) a got
 
-  pub value_of_key : {a : Asked} {result : Option (View V)} → GetsKey entry_part m a found → IsValueOfEntry ks.shape vs.shape result found
+  pub value_of_key : {a : Asked} {result : Option (View V)} → GetsKey entry_part m a found → IsValueOfEntry ks.spec vs.spec result found
       → GetsKey value_part m a result
   value_of_key {a} {result} got is =
-      key_through m entry_part value_part found result (value_walked m found result is) (value_at ks.shape vs.shape found result is) a got
+      key_through m entry_part value_part found result (value_walked m found result is) (value_at ks.spec vs.spec found result is) a got
 
   module _ {hash : ℕ} {key_hash : List ℕ → ℕ → ℕ} {post : View K → Bool → Type 0} where
-    pub pair_by : {result : Option (View K × View V)} → GetsBy entry_part m hash key_hash post found → IsPairOfEntry ks.shape vs.shape result found
+    pub pair_by : {result : Option (View K × View V)} → GetsBy entry_part m hash key_hash post found → IsPairOfEntry ks.spec vs.spec result found
         → GetsBy pair_part m hash key_hash post result
     pair_by {result} got is =
-        by_through m entry_part pair_part found result (pair_walked m found result is) (pair_at ks.shape vs.shape found result is) hash key_hash post got
+        by_through m entry_part pair_part found result (pair_walked m found result is) (pair_at ks.spec vs.spec found result is) hash key_hash post got
 
-    pub value_by : {result : Option (View V)} → GetsBy entry_part m hash key_hash post found → IsValueOfEntry ks.shape vs.shape result found
+    pub value_by : {result : Option (View V)} → GetsBy entry_part m hash key_hash post found → IsValueOfEntry ks.spec vs.spec result found
         → GetsBy value_part m hash key_hash post result
     value_by {result} got is =
-        by_through m entry_part value_part found result (value_walked m found result is) (value_at ks.shape vs.shape found result is) hash key_hash post got
+        by_through m entry_part value_part found result (value_walked m found result is) (value_at ks.spec vs.spec found result is) hash key_hash post got
 
 -- a set returns the key of the pair
-module _ {K V H W : Type 0} {ks : Shapes K} {vs : Shapes V} {wt : Words W} {m : ArchivedHashMap K V H W ks vs wt} {a : Asked} where
+module _ {K V H W : Type 0} {ks : Specs K} {vs : Specs V} {wt : Words W} {m : ArchivedHashMap K V H W ks vs wt} {a : Asked} where
   pub member_of_pair : {pair : View K × View V} → GetsKey pair_part m a (Some pair) → GetsKey key_part m a (Some pair.0)
   member_of_pair got = record { walked = got.walked.key; answer = got.answer; first = got.first; complete = got.complete }
 

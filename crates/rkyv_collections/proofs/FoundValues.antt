@@ -1,5 +1,5 @@
 -- A lookup by a name finds the value of the list, which is read at its position.
-use Rattle.rkyv_base.specs.declared.element.Shaped.{Ghosts as Shapes}
+use Rattle.rkyv_base.specs.declared.element.HasSpec.{Ghosts as Specs}
 use Rattle.rkyv_base.specs.declared.width.Word.{Ghosts as Words}
 use Rattle.std.proofs.Common.{◌≡◌, ℕ, List, Option, None, Some, Result, Ok, Err, MatchResult, IfOk, ap, refl, sym, ◌∙◌}
 use Rattle.std.specs.Borrow.{Bor}
@@ -11,7 +11,7 @@ use Rattle.rkyv_collections.specs.declared.map.ArchivedHashMap.{ArchivedHashMap}
 use Rattle.rkyv_collections.specs.declared.map.HashMapOf.{HashMapOf}
 
 -- a map that is read at a view has the bytes and the position of the view
-pub read_at : {K V H W : Type 0} {ks : Shapes K} {vs : Shapes V} {wt : Words W} (m : ArchivedHashMap K V H W ks vs wt) (v : View (HashMapOf K V H W)) (b : Bor (List ℕ)) (p : ℕ) → m.view ≡ v → IsAt v b p → (map_bytes m ≡ b.now) × (map_pos m ≡ p)
+pub read_at : {K V H W : Type 0} {ks : Specs K} {vs : Specs V} {wt : Words W} (m : ArchivedHashMap K V H W ks vs wt) (v : View (HashMapOf K V H W)) (b : Bor (List ℕ)) (p : ℕ) → m.view ≡ v → IsAt v b p → (map_bytes m ≡ b.now) × (map_pos m ≡ p)
 read_at {K} {V} {H} {W} m v b p e at =
     (ap (λ (x : View (HashMapOf K V H W)). x.archive.now) e ∙ ap (λ (a : Bor (List ℕ)). a.now) at.0, ap (λ (x : View (HashMapOf K V H W)). x.pos) e ∙ at.1)
 
@@ -20,9 +20,9 @@ pub number_listed : {V : Type 0} (num : List ℕ → ℕ → ℕ) (view : View V
 number_listed num view n None e h = absurd h
 number_listed num view n (Some v) e h = ap Some (sym e ∙ h)
 
-pub none_listed : {B : Type 0} (stands : List ℕ → ℕ → B → Type 0) (o : Option B) → IsFoundValue {V = ℕ} stands None o → None ≡ o
-none_listed stands None h = refl
-none_listed stands (Some v) h = absurd h
+pub none_listed : {B : Type 0} (represents : List ℕ → ℕ → B → Type 0) (o : Option B) → IsFoundValue {V = ℕ} represents None o → None ≡ o
+none_listed represents None h = refl
+none_listed represents (Some v) h = absurd h
 
 -- a property of the `Ok` of a result
 pub on_ok : {T E : Type 0} (P R : T → Type 0) (Q : E → Type 0) (r : Result T E) → ((x : T) → P x → R x) → MatchResult r P Q → IfOk r R

@@ -4,22 +4,22 @@ use Rattle.std.specs.Int.{Width}
 use Rattle.std.specs.Iterator.{Drains, Yields}
 use Rattle.std.proofs.lemmas.List.{length-map}
 use Rattle.rkyv_base.specs.Adapter.{pair_of}
-use Rattle.rkyv_base.specs.Entry.{entry_shape}
-use Rattle.rkyv_base.specs.Format.{Format, GaveUp, Serialized}
+use Rattle.rkyv_base.specs.Entry.{entry_spec}
+use Rattle.rkyv_base.specs.Format.{Format, SerializeFails, Serialized}
 use Rattle.rkyv_base.specs.Pairs.{pair_format, written_as}
-use Rattle.rkyv_base.specs.Shape.{Shape}
+use Rattle.rkyv_base.specs.ElementSpec.{ElementSpec}
 use Rattle.rkyv_base.specs.Writing.{Output}
 use Rattle.rkyv_base.specs.declared.adapter.EntryAdapter.{EntryAdapter}
 use Rattle.rkyv_base.specs.declared.errors.WriteError.{WriteError}
-use Rattle.rkyv_table.specs.Table.Counting.{GaveOther}
-use Rattle.rkyv_table.specs.Table.Serializing.{NoItems, WroteItems}
+use Rattle.rkyv_table.specs.Table.Counting.{YieldsOtherCount}
+use Rattle.rkyv_table.specs.Table.Serializing.{WriteItemsFails, WroteItems}
 use Rattle.rkyv_table.specs.Table.TableFormat.{TableResolver, table_format}
-use Rattle.rkyv_collections.specs.Handing.{HashedStep}
-use Rattle.rkyv_table.specs.Table.Serializing.{NoItems, WroteItems}
-use Rattle.rkyv_table.specs.Table.Lent.{lent_pairs}
+use Rattle.rkyv_collections.specs.HashedPairs.{HashedStep}
+use Rattle.rkyv_table.specs.Table.Serializing.{WriteItemsFails, WroteItems}
+use Rattle.rkyv_table.specs.Table.ItemValues.{lent_pairs}
 use Rattle.rkyv_collections.specs.MapFormat.{keyed, map_format}
 use Rattle.rkyv_table.proofs.Through.{drains_through, other_through, own_counted}
-use Rattle.rkyv_collections.proofs.SeenItems.{seen_gave_up, seen_pairs, seen_serialized}
+use Rattle.rkyv_collections.proofs.SeenItems.{seen_fails, seen_pairs, seen_serialized}
 
 module _ {T S BK BV A B : Type 0} (inner : T → S) (steps : S → Option (BK × BV) → S → Type 0) (hash : BK → ℕ) where
   -- a state has the state of the iterator of pairs, and steps as that does
@@ -41,8 +41,8 @@ module _ {T S BK BV A B : Type 0} (inner : T → S) (steps : S → Option (BK ×
   drained : (xs : List (ℕ × EntryAdapter BK BV A B)) (s : T) → Drains Steps s xs → Drains steps (inner s) (items_in xs) × AreHashed xs
   drained xs s d = (drains_through inner Steps steps (λ x. (x.1.key, x.1.value)) (λ s' t' h. h) (λ s' t' x h. h.1) xs s d, hashed xs s d.1.0 d.1.1)
 
-  gave_other : (len : ℕ) (s : T) (n : ℕ) → GaveOther Steps len s n → GaveOther steps len (inner s) n
-  gave_other len s n h = other_through inner Steps steps (λ x. (x.1.key, x.1.value)) (λ s' t' h'. h') (λ s' t' x h'. h'.1) len s n h
+  yields_other_count : (len : ℕ) (s : T) (n : ℕ) → YieldsOtherCount Steps len s n → YieldsOtherCount steps len (inner s) n
+  yields_other_count len s n h = other_through inner Steps steps (λ x. (x.1.key, x.1.value)) (λ s' t' h'. h') (λ s' t' x h'. h'.1) len s n h
 
 module _ {T S BK BV A B : Type 0} (inner : T → S) (steps : S → Option (BK × BV) → S → Type 0) (key : BK → A) (value : BV → B) (hash : A → ℕ) where
   abbrev Under : List (ℕ × EntryAdapter BK BV A B) → Type 0
@@ -55,9 +55,9 @@ module _ {T S BK BV A B : Type 0} (inner : T → S) (steps : S → Option (BK ×
       ap (λ n. (n, (key x.1.key, value x.1.value)) ∷ seen_pairs (pair_of key value) xs) h.0
       ∙ ap (λ (t : List (ℕ × (A × B))). (hash (key x.1.key), (key x.1.key, value x.1.value)) ∷ t) (seen_keyed xs h.1)
 
-  module _ {R Q : Type 0} (len : ℕ) (factor : ℕ × ℕ) (max : ℕ) (w : Width) (k v : Shape) (kf : Format A R) (vf : Format B Q) (o o' : Output) (s : T) (limit : ℕ) where
+  module _ {R Q : Type 0} (len : ℕ) (factor : ℕ × ℕ) (max : ℕ) (w : Width) (k v : ElementSpec) (kf : Format A R) (vf : Format B Q) (o o' : Output) (s : T) (limit : ℕ) where
     abbrev TableOf : Format (List (ℕ × EntryAdapter BK BV A B)) TableResolver
-    TableOf = table_format w (entry_shape k v) (written_as (pair_of key value) (pair_format k v kf vf)) factor
+    TableOf = table_format w (entry_spec k v) (written_as (pair_of key value) (pair_format k v kf vf)) factor
 
     abbrev MapOf : Format (List (BK × BV)) TableResolver
     MapOf = written_as (lent_pairs key value) (map_format w k v kf vf hash factor)
@@ -75,15 +75,15 @@ module _ {T S BK BV A B : Type 0} (inner : T → S) (steps : S → Option (BK ×
           h.0,
           items_in inner steps (λ q. hash (key q)) xs,
           (d.0, count xs h.2.1),
-          subst (λ ps. Serialized limit (table_format w (entry_shape k v) (pair_format k v kf vf) factor) ps o o' r) (seen_keyed xs d.1)
-              (seen_serialized (pair_of key value) (pair_format k v kf vf) w (entry_shape k v) factor xs o o' limit r h.3),
+          subst (λ ps. Serialized limit (table_format w (entry_spec k v) (pair_format k v kf vf) factor) ps o o' r) (seen_keyed xs d.1)
+              (seen_serialized (pair_of key value) (pair_format k v kf vf) w (entry_spec k v) factor xs o o' limit r h.3),
         )
 
     module _ {F : Type 0} where
-      no_map : (e : WriteError F) → NoItems (Drains Given s) len factor max TableOf o o' limit (GaveOther Given len s) e
-          → NoItems (Drains steps (inner s)) len factor max MapOf o o' limit (GaveOther steps len (inner s)) e
+      no_map : (e : WriteError F) → WriteItemsFails (Drains Given s) len factor max TableOf o o' limit (YieldsOtherCount Given len s) e
+          → WriteItemsFails (Drains steps (inner s)) len factor max MapOf o o' limit (YieldsOtherCount steps len (inner s)) e
       no_map e (inl h) =
-          inl (own_counted len factor max (GaveOther Given len s) (GaveOther steps len (inner s)) (gave_other inner steps (λ q. hash (key q)) len s) e h.0, h.1)
+          inl (own_counted len factor max (YieldsOtherCount Given len s) (YieldsOtherCount steps len (inner s)) (yields_other_count inner steps (λ q. hash (key q)) len s) e h.0, h.1)
       no_map e (inr h) =
           let xs = h.1 in
           let d = drained inner steps (λ q. hash (key q)) xs s h.2.0 in
@@ -91,13 +91,13 @@ module _ {T S BK BV A B : Type 0} (inner : T → S) (steps : S → Option (BK ×
             h.0,
             items_in inner steps (λ q. hash (key q)) xs,
             (d.0, count xs h.2.1),
-            subst (λ ps. GaveUp limit (table_format w (entry_shape k v) (pair_format k v kf vf) factor) ps o o' e) (seen_keyed xs d.1)
-                (seen_gave_up (pair_of key value) (pair_format k v kf vf) w (entry_shape k v) factor xs o o' limit e h.3),
+            subst (λ ps. SerializeFails limit (table_format w (entry_spec k v) (pair_format k v kf vf) factor) ps o o' e) (seen_keyed xs d.1)
+                (seen_fails (pair_of key value) (pair_format k v kf vf) w (entry_spec k v) factor xs o o' limit e h.3),
           )
 
       -- the result of writing the table of the hashed pairs is that of writing the map
       pub answers_map : (result : Result TableResolver (WriteError F))
-          → MatchResult result (WroteItems (Drains Given s) len factor max TableOf o o' limit) (NoItems (Drains Given s) len factor max TableOf o o' limit (GaveOther Given len s))
-          → MatchResult result (WroteItems (Drains steps (inner s)) len factor max MapOf o o' limit) (NoItems (Drains steps (inner s)) len factor max MapOf o o' limit (GaveOther steps len (inner s)))
+          → MatchResult result (WroteItems (Drains Given s) len factor max TableOf o o' limit) (WriteItemsFails (Drains Given s) len factor max TableOf o o' limit (YieldsOtherCount Given len s))
+          → MatchResult result (WroteItems (Drains steps (inner s)) len factor max MapOf o o' limit) (WriteItemsFails (Drains steps (inner s)) len factor max MapOf o o' limit (YieldsOtherCount steps len (inner s)))
       answers_map (Ok r) h = wrote_map r h
       answers_map (Err e) h = no_map e h

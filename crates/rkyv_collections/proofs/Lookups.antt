@@ -1,74 +1,75 @@
 -- From a lookup in a table to a lookup in a map.
-use Rattle.rkyv_base.specs.declared.element.Shaped.{Ghosts as Shapes}
+use Rattle.rkyv_base.specs.declared.element.HasSpec.{Ghosts as Specs}
 use Rattle.rkyv_base.specs.declared.width.Word.{Ghosts as Words}
 use Rattle.std.proofs.Common.{◌≡◌, ℕ, ◌<◌, ◌∙◌, None, Some, ap, sym, arith, Bool, length, map, subst, List, Option, slice_index}
 use Rattle.std.specs.Option.{is_some}
 use Rattle.std.proofs.lemmas.List.{get_or-map, length-map}
 use Rattle.rkyv_scan.specs.Hash.{Hasher, HasherCall, hash_of_calls}
-use Rattle.rkyv_base.specs.Elements.{entry_shapes}
-use Rattle.rkyv_base.specs.Entry.{entry_element, entry_shape}
-use Rattle.rkyv_base.specs.Shape.{IsElement, Standing}
-use Rattle.rkyv_base.specs.View.{IsAt, IsView, archive_of, pos_of}
+use Rattle.rkyv_base.specs.Elements.{entry_specs}
+use Rattle.rkyv_base.specs.Entry.{entry_spec}
+use Rattle.rkyv_base.specs.Lemmas.Entry.{entry_element}
+use Rattle.rkyv_base.specs.ElementSpec.{IsElement, ValidAt}
+use Rattle.rkyv_base.specs.View.{IsAt, IsValidView, archive_of, pos_of}
 use Rattle.rkyv_base.specs.declared.view.View.{View}
 use Rattle.rkyv_base.specs.declared.entry.Entry.{Entry}
 use Rattle.rkyv_keys.specs.Equality.{Comparison}
 use Rattle.rkyv_keys.specs.Keys.{IsQuery}
-use Rattle.rkyv_keys.specs.OfEntries.{standing_key}
+use Rattle.rkyv_keys.specs.Lemmas.OfEntries.{valid_key}
 use Rattle.rkyv_table.specs.Controls.Laws.{IsUnderHash}
 use Rattle.rkyv_table.specs.Table.Positions.{IsWalked, home_positions, item_at}
 use Rattle.rkyv_table.specs.Table.Reading.{IsItem}
 use Rattle.rkyv_table.specs.declared.table.ArchivedHashTable.{ArchivedHashTable}
-use Rattle.rkyv_table.proofs.Items.{item_viewed}
+use Rattle.rkyv_table.proofs.ParsedTable.{item_viewable}
 use Rattle.rkyv_collections.specs.Map.{AreUnderHash, IsEntryAt, IsEntryIn, map_archive, IsFoundAt}
 use Rattle.rkyv_collections.specs.Map.{IsKeyIn, IsMap, MapWrittenAt, hash_at, map_bytes, map_pos}
 use Rattle.rkyv_collections.specs.declared.map.ArchivedHashMap.{ArchivedHashMap}
 use Rattle.rkyv_table.proofs.WrittenTables.{home_count, home_pos, home_walked}
 
-module _ {K V H W : Type 0} {ks : Shapes K} {vs : Shapes V} {wt : Words W} (m : ArchivedHashMap K V H W ks vs wt) where
+module _ {K V H W : Type 0} {ks : Specs K} {vs : Specs V} {wt : Words W} (m : ArchivedHashMap K V H W ks vs wt) where
   -- an item of the table is an entry of the map
-  pub entry_of_item : (t : ArchivedHashTable (Entry K V) W (entry_shapes ks vs) wt) → IsAt t.view (map_archive m) (map_pos m) → (entry : View (Entry K V)) → IsItem t entry
+  pub entry_of_item : (t : ArchivedHashTable (Entry K V) W (entry_specs ks vs) wt) → IsAt t.view (map_archive m) (map_pos m) → (entry : View (Entry K V)) → IsItem t entry
       → IsEntryIn m entry
   entry_of_item t at entry item =
       let walked : IsWalked wt.word (map_bytes m) (map_pos m) item.0 = rw (← at.0, ← at.1) item.1.walked in
-      let place : entry.pos ≡ item_at wt.word (entry_shape ks.shape vs.shape).size (map_bytes m) (map_pos m) item.0 = rw (← at.0, ← at.1) item.1.place in
-      (item.1.archive ∙ at.0, item.1.viewed, (item.0, walked, place))
+      let place : entry.pos ≡ item_at wt.word (entry_spec ks.spec vs.spec).size (map_bytes m) (map_pos m) item.0 = rw (← at.0, ← at.1) item.1.place in
+      (item.1.archive ∙ at.0, item.1.viewable, (item.0, walked, place))
 
   -- a valid key at an entry of the map is a key of the map
-  pub key_of_entry : (entry : View (Entry K V)) (key : View K) → IsEntryIn m entry → IsAt key (archive_of entry) (pos_of entry) → IsView ks.shape key
+  pub key_of_entry : (entry : View (Entry K V)) (key : View K) → IsEntryIn m entry → IsAt key (archive_of entry) (pos_of entry) → IsValidView ks.spec key
       → IsKeyIn m key
-  key_of_entry entry key is at viewed = record {
+  key_of_entry entry key is at viewable = record {
     archive = at.0 ∙ is.0;
-    viewed = viewed;
+    viewable = viewable;
     place = (is.2.0, is.2.1, at.1 ∙ is.2.2);
   }
 
   -- the keys under the hash are the items under it
   pub under_hash : (hash : ℕ) (key_hash : List ℕ → ℕ → ℕ) (accept : ℕ → Bool) (homes : List ℕ)
-      → AreUnderHash m hash key_hash accept → MapWrittenAt wt.word (entry_shape ks.shape vs.shape) key_hash (map_bytes m) (map_pos m) homes
-      → IsUnderHash hash (map (key_hash (map_bytes m)) (home_positions wt.word (entry_shape ks.shape vs.shape).size (map_bytes m) (map_pos m) homes))
-      (home_positions wt.word (entry_shape ks.shape vs.shape).size (map_bytes m) (map_pos m) homes) accept
+      → AreUnderHash m hash key_hash accept → MapWrittenAt wt.word (entry_spec ks.spec vs.spec) key_hash (map_bytes m) (map_pos m) homes
+      → IsUnderHash hash (map (key_hash (map_bytes m)) (home_positions wt.word (entry_spec ks.spec vs.spec).size (map_bytes m) (map_pos m) homes))
+      (home_positions wt.word (entry_spec ks.spec vs.spec).size (map_bytes m) (map_pos m) homes) accept
   under_hash hash key_hash accept homes under written i h accepted =
       let b = map_bytes m in
       let p = map_pos m in
-      let places = home_positions wt.word (entry_shape ks.shape vs.shape).size b p homes in
-      let hashes = map (key_hash b) places in
+      let positions = home_positions wt.word (entry_spec ks.spec vs.spec).size b p homes in
+      let hashes = map (key_hash b) positions in
       let below : i < length homes = omega (arith, h, home_count wt.word b p hashes homes written) in
       let walked = home_walked wt.word b p hashes homes written i below in
-      let at : slice_index places i ≡ _ = home_pos wt.word (entry_shape ks.shape vs.shape).size b p homes i below in
-      let here = under (slice_index places i) (slice_index homes i, walked, at) accepted in
-      let n : length hashes ≡ length places = length-map places (key_hash b) in
-      get_or-map (key_hash b) places i 0 0 (omega arith) ∙ here
+      let at : slice_index positions i ≡ _ = home_pos wt.word (entry_spec ks.spec vs.spec).size b p homes i below in
+      let here = under (slice_index positions i) (slice_index homes i, walked, at) accepted in
+      let n : length hashes ≡ length positions = length-map positions (key_hash b) in
+      get_or-map (key_hash b) positions i 0 0 (omega arith) ∙ here
 
   -- a query accepts only keys under its own hash
-  pub query_under_hash : {Q State : Type 0} (kl : IsElement ks.shape) (vl : IsElement vs.shape) (hasher : Hasher State)
+  pub query_under_hash : {Q State : Type 0} (kl : IsElement ks.spec) (vl : IsElement vs.spec) (hasher : Hasher State)
       (same : Comparison) (key_calls : List ℕ → ℕ → List HasherCall) (can_read : Q → Type 0) (calls : Q → List HasherCall) (fits : Q → List ℕ → ℕ → Bool)
-      → IsQuery ks.shape same key_calls can_read calls fits → IsMap m → (q : Q) → can_read q
+      → IsQuery ks.spec same key_calls can_read calls fits → IsMap m → (q : Q) → can_read q
       → AreUnderHash m (hash_of_calls hasher (calls q)) (hash_at hasher key_calls) (fits q (map_bytes m))
-  query_under_hash kl vl hasher same key_calls can_read calls fits query is q can place key accepted =
+  query_under_hash kl vl hasher same key_calls can_read calls fits query is q ready place key accepted =
       let b = map_bytes m in
-      let item = item_viewed wt.word (entry_shape ks.shape vs.shape) (entry_element ks.shape vs.shape kl vl) b (map_pos m) is key.0 key.1 in
-      let stands : Standing ks.shape b place = standing_key kl vl b place (subst (Standing (entry_shape ks.shape vs.shape) b) (sym key.2) item.stands) in
-      ap (hash_of_calls hasher) (sym (query.alike q b place can stands accepted))
+      let item = item_viewable wt.word (entry_spec ks.spec vs.spec) (entry_element ks.spec vs.spec kl vl) b (map_pos m) is key.0 key.1 in
+      let represents : ValidAt ks.spec b place = valid_key kl vl b place (subst (ValidAt (entry_spec ks.spec vs.spec) b) (sym key.2) item.valid) in
+      ap (hash_of_calls hasher) (sym (query.same_calls q b place ready represents accepted))
 
 -- an entry is found if and only if it has a position
 pub some_at : {E : Type 0} (found : Option (View E)) (place : Option ℕ) (answer : Bool) → answer ≡ is_some found → IsEntryAt found place → IsFoundAt answer place

@@ -9,25 +9,26 @@ use Rattle.std.proofs.lemmas.List.{get_or_default, get_or-map, length-map, nil_f
 use Rattle.rkyv_scan.specs.Groups.{generic_kind}
 use Rattle.rkyv_scan.specs.Hash.{Hasher, HasherCall, hash_of_calls}
 use Rattle.rkyv_scan.specs.Lemmas.KindLaws.{word_lawful}
-use Rattle.rkyv_base.specs.Entry.{entry_element, entry_shape}
-use Rattle.rkyv_base.specs.Shape.{IsElement, Shape, Standing, Viewed}
+use Rattle.rkyv_base.specs.Entry.{entry_spec}
+use Rattle.rkyv_base.specs.Lemmas.Entry.{entry_element}
+use Rattle.rkyv_base.specs.ElementSpec.{IsElement, ElementSpec, ValidAt, Viewable}
 use Rattle.rkyv_keys.specs.Equality.{Comparison, IsEquivalence}
 use Rattle.rkyv_keys.specs.Keys.{IsQuery}
-use Rattle.rkyv_keys.specs.OfEntries.{standing_key}
+use Rattle.rkyv_keys.specs.Lemmas.OfEntries.{valid_key}
 use Rattle.rkyv_table.specs.Controls.Finding.{found}
 use Rattle.rkyv_table.specs.Table.Header.{cap_at, len_at}
 use Rattle.rkyv_table.specs.Table.Misplaced.{AloneAccepted, AsksForOne, IsSameness, NoneAccepted, misplaced, repeated, repeats_earlier}
 use Rattle.rkyv_table.specs.Controls.Placing.{walk}
 use Rattle.rkyv_table.specs.Table.Positions.{home_positions, item_at, pos_found, table_controls}
-use Rattle.rkyv_table.proofs.Items.{controls_accepted, item_viewed, no_items}
+use Rattle.rkyv_table.proofs.ParsedTable.{controls_accepted, item_viewable, no_items}
 use Rattle.rkyv_table.proofs.Misplaced.{complete, repeated_misplaced}
 use Rattle.rkyv_table.proofs.RawWalks.{walk_count}
 use Rattle.rkyv_table.proofs.Walks.{filter_agree_range, full_walked, walked_full}
 use Rattle.rkyv_collections.specs.Equality.{pair_at}
 use Rattle.rkyv_collections.specs.Map.{MapWrittenAt, hash_at}
-use Rattle.rkyv_collections.specs.MapShape.{map_shape}
+use Rattle.rkyv_collections.specs.MapSpec.{map_spec}
 use Rattle.rkyv_collections.specs.Misplaced.{FindsTheOne, RepeatedKeysAreMisplaced, map_misplaced}
-use Rattle.rkyv_collections.proofs.WrittenPairs.{hash_of_pair, pair_count, pair_stands}
+use Rattle.rkyv_collections.proofs.WrittenPairs.{hash_of_pair, pair_count, pair_represents}
 
 -- the number of repeated items is that of repeated positions
 module _ (at : ℕ → ℕ) (same : ℕ → ℕ → Bool) (homes : List ℕ) where
@@ -45,34 +46,34 @@ module _ (at : ℕ → ℕ) (same : ℕ → ℕ → Bool) (homes : List ℕ) whe
       ∙ ap (list_any (same (slice_index (map at homes) i))) (sym (take-map at i homes))))
       ∙ ap (λ (m : ℕ). length (filter (repeats_earlier same (map at homes)) (range_with_len 0 m))) (sym n)
 
-module _ (w : Width) (k v : Shape) (kl : IsElement k) (vl : IsElement v) (key_hash : List ℕ → ℕ → ℕ) (same_key : Comparison)
+module _ (w : Width) (k v : ElementSpec) (kl : IsElement k) (vl : IsElement v) (key_hash : List ℕ → ℕ → ℕ) (same_key : Comparison)
     (equivalence : IsEquivalence k same_key)
-    (alike : (b c : List ℕ) (q r : ℕ) → Standing k b q → Standing k c r → same_key b q c r ≡ true → key_hash b q ≡ key_hash c r) where
-  module _ (b : List ℕ) (p : ℕ) (homes : List ℕ) (view : Viewed (map_shape w k v) b p) (written : MapWrittenAt w (entry_shape k v) key_hash b p homes) where
+    (same_calls : (b c : List ℕ) (q r : ℕ) → ValidAt k b q → ValidAt k c r → same_key b q c r ≡ true → key_hash b q ≡ key_hash c r) where
+  module _ (b : List ℕ) (p : ℕ) (homes : List ℕ) (view : Viewable (map_spec w k v) b p) (written : MapWrittenAt w (entry_spec k v) key_hash b p homes) where
     abbrev at : ℕ → ℕ
-    at = item_at w (entry_shape k v).size b p
+    at = item_at w (entry_spec k v).size b p
 
     abbrev hashes : List ℕ
-    hashes = map (key_hash b) (home_positions w (entry_shape k v).size b p homes)
+    hashes = map (key_hash b) (home_positions w (entry_spec k v).size b p homes)
 
-    key_there : (i : ℕ) → Contains homes i → Standing k b (at i)
+    key_there : (i : ℕ) → Contains homes i → ValidAt k b (at i)
     key_there i c =
         let is : slice_index homes c.0 ≡ i = get_or_default homes c.0 0 i c.1 ∙ c.2 in
-        subst (λ x. Standing k b (at x)) is (standing_key kl vl b (pair_at w k v b p homes c.0) (pair_stands w k v kl vl key_hash b p homes view written c.0 c.1))
+        subst (λ x. ValidAt k b (at x)) is (valid_key kl vl b (pair_at w k v b p homes c.0) (pair_represents w k v kl vl key_hash b p homes view written c.0 c.1))
 
     sameness : IsSameness (λ i. key_hash b (at i)) (λ i j. same_key b (at i) b (at j)) hashes homes
     sameness = record {
       hashed = λ i h. sym (hash_of_pair w k v kl vl key_hash b p homes view written i h);
-      equal = λ i j c d s. alike b b (at i) (at j) (key_there i c) (key_there j d) s;
+      equal = λ i j c d s. same_calls b b (at i) (at j) (key_there i c) (key_there j d) s;
       reflexive = λ i c. equivalence.reflexive b (at i) (key_there i c);
       symmetric = λ i j c d s. equivalence.symmetric b b (at i) (at j) (key_there i c) (key_there j d) s;
       transitive = λ i j l c d e s t. equivalence.transitive b b b (at i) (at j) (at l) (key_there i c) (key_there j d) (key_there l e) s t;
     }
 
-    repeated_keys : map_misplaced w k v key_hash same_key b p ≡ repeated (λ q r. same_key b q b r) (home_positions w (entry_shape k v).size b p homes)
+    repeated_keys : map_misplaced w k v key_hash same_key b p ≡ repeated (λ q r. same_key b q b r) (home_positions w (entry_spec k v).size b p homes)
     repeated_keys = elim written.placed [
       | inl none ↦
-          let count = walk_count w (entry_shape k v) (entry_element k v kl vl) b p view in
+          let count = walk_count w (entry_spec k v) (entry_element k v kl vl) b p view in
           let pairs = pair_count w k v kl vl key_hash b p homes view written in
           let z : length homes ≡ 0 = ap length none.1 in
           let empty : walk (table_controls w b p) (cap_at w b p) ≡ [] = nil_from_length (walk (table_controls w b p) (cap_at w b p)) (count ∙ pairs ∙ z) in
@@ -88,12 +89,12 @@ module _ (w : Width) (k v : Shape) (kl : IsElement k) (vl : IsElement v) (key_ha
   repeated_keys_misplaced b p homes view written = repeated_keys b p homes view written
 
 -- if no key is misplaced, a lookup finds the one key that fits
-module _ {Q State : Type 0} (w : Width) (k v : Shape) (kl : IsElement k) (vl : IsElement v) (hasher : Hasher State)
+module _ {Q State : Type 0} (w : Width) (k v : ElementSpec) (kl : IsElement k) (vl : IsElement v) (hasher : Hasher State)
     (same : Comparison) (key_calls : List ℕ → ℕ → List HasherCall) (can_read : Q → Type 0) (calls : Q → List HasherCall) (fits : Q → List ℕ → ℕ → Bool)
-    (query : IsQuery k same key_calls can_read calls fits) (b : List ℕ) (p : ℕ) (view : Viewed (map_shape w k v) b p) (q : Q) (can : can_read q)
+    (query : IsQuery k same key_calls can_read calls fits) (b : List ℕ) (p : ℕ) (view : Viewable (map_spec w k v) b p) (q : Q) (ready : can_read q)
     (small : hash_of_calls hasher (calls q) < 2 ^ 64) (none : map_misplaced w k v (hash_at hasher key_calls) same b p ≡ 0) where
   abbrev size : ℕ
-  size = (entry_shape k v).size
+  size = (entry_spec k v).size
 
   abbrev seal_pos : ℕ → ℕ
   seal_pos = item_at w size b p
@@ -110,14 +111,14 @@ module _ {Q State : Type 0} (w : Width) (k v : Shape) (kl : IsElement k) (vl : I
   abbrev accept : ℕ → Bool
   accept i = fits q b (seal_pos i)
 
-  key_walked : (i : ℕ) → Contains (walk controls cap) i → Standing k b (seal_pos i)
+  key_walked : (i : ℕ) → Contains (walk controls cap) i → ValidAt k b (seal_pos i)
   key_walked i c =
-      standing_key kl vl b (seal_pos i) (item_viewed w (entry_shape k v) (entry_element k v kl vl) b p view i (walked_full cap controls i c)).stands
+      valid_key kl vl b (seal_pos i) (item_viewable w (entry_spec k v) (entry_element k v kl vl) b p view i (walked_full cap controls i c)).valid
 
   asks : AsksForOne controls cap hash accept (λ i. hash_at hasher key_calls b (seal_pos i)) (λ i j. same b (seal_pos i) b (seal_pos j))
   asks = record {
-    hashed = λ i c f. ap (hash_of_calls hasher) (sym (query.alike q b (seal_pos i) can (key_walked i c) f));
-    same = λ i j c d f. query.class q b b (seal_pos i) (seal_pos j) can (key_walked i c) (key_walked j d) f;
+    hashed = λ i c f. ap (hash_of_calls hasher) (sym (query.same_calls q b (seal_pos i) ready (key_walked i c) f));
+    same = λ i j c d f. query.respects_same q b b (seal_pos i) (seal_pos j) ready (key_walked i c) (key_walked j d) f;
   }
 
   by_place : (o : Option ℕ) → MatchOption o (NoneAccepted controls cap accept) (AloneAccepted controls cap accept) → FindsTheOne w size b p (fits q b) (option_map seal_pos o)
@@ -133,11 +134,11 @@ module _ {Q State : Type 0} (w : Width) (k v : Shape) (kl : IsElement k) (vl : I
   pub finds_the_one : FindsTheOne w size b p (fits q b) (pos_found generic_kind w size b p hash (fits q b))
   finds_the_one = elim (cases_eq cap 0) [
     | inl z ↦
-        let e = no_items w (entry_shape k v) (entry_element k v kl vl) b p view z in
+        let e = no_items w (entry_spec k v) (entry_element k v kl vl) b p view z in
         subst (λ n. FindsTheOne w size b p (fits q b) (option_map seal_pos (found generic_kind controls cap n hash accept))) (sym e)
         (by_place None (λ i c. absurd (omega (arith, (walked_full cap controls i c).0, z))))
     | inr some ↦
         by_place (found generic_kind controls cap (len_at w b p) hash accept)
         (complete generic_kind cap (len_at w b p) hash controls accept (λ i. hash_at hasher key_calls b (seal_pos i)) (λ i j. same b (seal_pos i) b (seal_pos j)) word_lawful
-        (controls_accepted w (entry_shape k v) (entry_element k v kl vl) b p view (omega arith)) small none asks)
+        (controls_accepted w (entry_spec k v) (entry_element k v kl vl) b p view (omega arith)) small none asks)
   ]

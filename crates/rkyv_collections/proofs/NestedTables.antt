@@ -4,9 +4,10 @@ use Rattle.std.specs.Int.{Width, byte_len}
 use Rattle.std.specs.List.{range_with_len}
 use Rattle.std.proofs.lemmas.Bool.{both_ways, cases_Bool, cases_eq, cases_lt, lt-ltb}
 use Rattle.std.proofs.lemmas.Int.{ints}
-use Rattle.rkyv_base.specs.Bytes.{Same, same_part}
+use Rattle.rkyv_base.specs.Bytes.{AgreeOn}
+use Rattle.rkyv_base.specs.Lemmas.Bytes.{agree_on_part}
 use Rattle.rkyv_base.specs.Sealing.{Sealed}
-use Rattle.rkyv_base.specs.Shape.{IsElement, Shape, Viewed}
+use Rattle.rkyv_base.specs.ElementSpec.{IsElement, ElementSpec, Viewable}
 use Rattle.rkyv_base.proofs.Sealing.{same_outside, sealed_wider}
 use Rattle.rkyv_scan.specs.Groups.{is_full}
 use Rattle.rkyv_table.specs.Controls.Numbers.{control_count}
@@ -15,35 +16,35 @@ use Rattle.rkyv_table.specs.Lemmas.ItemPositions.{HeldPart, HoldsWithin, bucket_
 use Rattle.rkyv_table.specs.Lemmas.PlaceLaws.{all_between}
 use Rattle.rkyv_table.specs.Lemmas.SameHeader.{begin_same, cap_same, len_same, pos_same}
 use Rattle.rkyv_table.specs.Lemmas.TableLaws.{of_numbers}
-use Rattle.rkyv_table.specs.Table.Header.{begin_told, cap_at, controls_pos, len_at}
-use Rattle.rkyv_table.specs.Table.Layout.{IsPart, ItemsHold, TableAt, bucket_at, controls_at, table_shape}
+use Rattle.rkyv_table.specs.Table.Header.{decode_begin, cap_at, controls_pos, len_at}
+use Rattle.rkyv_table.specs.Table.Layout.{IsPart, ItemsHold, TableAt, bucket_at, controls_at, table_spec}
 use Rattle.rkyv_table.specs.Table.Places.{AllHold}
 use Rattle.rkyv_table.specs.Table.Positions.{IsWalked, item_at, table_controls}
-use Rattle.rkyv_table.proofs.Items.{part_of}
+use Rattle.rkyv_table.proofs.ParsedTable.{part_of}
 use Rattle.rkyv_collections.specs.NestedWrites.{HoldsBefore, StaysAt, WritesParts}
 
 -- the bytes before the lower end and those from the upper end on are the same
 module _ (b c : List ℕ) (lo l : ℕ) (o : lo ≤ l) (sealed : Sealed b lo (l - lo) c) where
-  pub same_below : (i j : ℕ) → i ≤ j → j ≤ lo → Same b c i j
+  pub same_below : (i j : ℕ) → i ≤ j → j ≤ lo → AgreeOn b c i j
   same_below i j ij h = same_outside b lo (l - lo) c sealed i j ij (inl h)
 
-  pub same_above : (i j : ℕ) → i ≤ j → l ≤ i → Same b c i j
+  pub same_above : (i j : ℕ) → i ≤ j → l ≤ i → AgreeOn b c i j
   same_above i j ij h = same_outside b lo (l - lo) c sealed i j ij (inr (omega arith))
 
 -- two valid values in turn: the parts of the first are before those of the second
-pub record InTurn (s : Shape) (b : List ℕ) (q r lo hi l : ℕ) : Type 0 where
+pub record InTurn (s : ElementSpec) (b : List ℕ) (q r lo hi l : ℕ) : Type 0 where
   pub first : HoldsWithin s b q lo hi l
   pub second : HoldsWithin s b r lo hi l
   pub turn : first.rest ≤ second.lower
 
-module _ (s : Shape) (law : IsElement s) (at : ℕ → ℕ) where
+module _ (s : ElementSpec) (law : IsElement s) (at : ℕ → ℕ) where
   pub each_in_turn : (P : ℕ → Bool) (b : List ℕ) (hi a n lo l i j : ℕ) → lo ≤ hi → AllHold s at b hi (filter P (range_with_len a n)) lo l
       → a ≤ i → i < j → j < a + n → P i ≡ true → P j ≡ true → InTurn s b (at i) (at j) lo hi l
   each_in_turn P b hi a zero lo l i j o h from less to t t' = absurd (omega arith)
   each_in_turn P b hi a (suc n) lo l i j o h from less to t t' = elim (cases_Bool (P a)) [
     | inl y ↦
         let h' : AllHold s at b hi (a ∷ filter P (range_with_len (a + 1) n)) lo l = rw y at h in
-        let k : (lo ≤ h'.0) × (h'.0 ≤ hi) = law.between b (at a) lo hi h'.0 o h'.1 in
+        let k : (lo ≤ h'.0) × (h'.0 ≤ hi) = law.rest_in_range b (at a) lo hi h'.0 o h'.1 in
         let after = all_between s law at b hi (filter P (range_with_len (a + 1) n)) h'.0 l k.1 h'.2 in
         elim (cases_eq a i) [
           | inl e ↦
@@ -69,27 +70,27 @@ module _ (s : Shape) (law : IsElement s) (at : ℕ → ℕ) where
         ]
   ]
 
-  module _ (b c : List ℕ) (hi : ℕ) (fixed : (j : ℕ) → Same b c (at j) (at j + s.size)) where
+  module _ (b c : List ℕ) (hi : ℕ) (fixed : (j : ℕ) → AgreeOn b c (at j) (at j + s.size)) where
     -- if all parts are the same, all items stay valid
-    chain_stays : (is : List ℕ) (lo l : ℕ) → lo ≤ hi → Same b c lo hi → AllHold s at b hi is lo l → AllHold s at c hi is lo l
+    chain_stays : (is : List ℕ) (lo l : ℕ) → lo ≤ hi → AgreeOn b c lo hi → AllHold s at b hi is lo l → AllHold s at c hi is lo l
     chain_stays [] lo l o same h = h
     chain_stays (j ∷ is) lo l o same h =
-        let k : (lo ≤ h.0) × (h.0 ≤ hi) = law.between b (at j) lo hi h.0 o h.1 in (
+        let k : (lo ≤ h.0) × (h.0 ≤ hi) = law.rest_in_range b (at j) lo hi h.0 o h.1 in (
           h.0,
-          law.near b c (at j) lo hi h.0 o (fixed j) (same_part b c lo hi lo h.0 (omega arith) k.1 k.0 same) h.1,
-          chain_stays is h.0 l k.1 (same_part b c lo hi h.0 hi k.0 (omega arith) k.1 same) h.2,
+          law.local b c (at j) lo hi h.0 o (fixed j) (agree_on_part b c lo hi lo h.0 (omega arith) k.1 k.0 same) h.1,
+          chain_stays is h.0 l k.1 (agree_on_part b c lo hi h.0 hi k.0 (omega arith) k.1 same) h.2,
         )
 
     -- if the parts of one item were written, all items stay valid, and the bytes
     -- before all parts are the same
     pub chain_kept : (P : ℕ → Bool) (a n lo l i : ℕ) → lo ≤ hi → hi ≤ at i → WritesParts s b c (at i) → AllHold s at b hi (filter P (range_with_len a n)) lo l
-        → a ≤ i → i < a + n → P i ≡ true → AllHold s at c hi (filter P (range_with_len a n)) lo l × Same b c 0 lo
+        → a ≤ i → i < a + n → P i ≡ true → AllHold s at c hi (filter P (range_with_len a n)) lo l × AgreeOn b c 0 lo
     chain_kept P a zero lo l i o up writes h from to t = absurd (omega arith)
     chain_kept P a (suc n) lo l i o up writes h from to t = elim (cases_Bool (P a)) [
       | inl y ↦
           let h' : AllHold s at b hi (a ∷ filter P (range_with_len (a + 1) n)) lo l = rw y at h in
           let m : ℕ = h'.0 in
-          let k : (lo ≤ m) × (m ≤ hi) = law.between b (at a) lo hi m o h'.1 in
+          let k : (lo ≤ m) × (m ≤ hi) = law.rest_in_range b (at a) lo hi m o h'.1 in
           elim (cases_eq a i) [
             | inl e ↦
                 let here : s.holds b (at i) lo hi m = subst (λ z. s.holds b (at z) lo hi m) e h'.1 in
@@ -99,8 +100,8 @@ module _ (s : Shape) (law : IsElement s) (at : ℕ → ℕ) where
                 rw y ((m, there, rest), same_below b c lo m k.0 sealed 0 lo (omega arith) (omega arith))
             | inr ne ↦
                 let r = chain_kept P (a + 1) n m l i k.1 up writes h'.2 (omega arith) (omega arith) t in
-                let there = law.near b c (at a) lo hi m o (fixed a) (same_part b c 0 m lo m (omega arith) (omega arith) k.0 r.1) h'.1 in
-                rw y ((m, there, r.0), same_part b c 0 m 0 lo (omega arith) k.0 (omega arith) r.1)
+                let there = law.local b c (at a) lo hi m o (fixed a) (agree_on_part b c 0 m lo m (omega arith) (omega arith) k.0 r.1) h'.1 in
+                rw y ((m, there, r.0), agree_on_part b c 0 m 0 lo (omega arith) k.0 (omega arith) r.1)
           ]
       | inr y ↦
           let h' : AllHold s at b hi (filter P (range_with_len (a + 1) n)) lo l = rw y at h in
@@ -111,16 +112,16 @@ module _ (s : Shape) (law : IsElement s) (at : ℕ → ℕ) where
     ]
 
 -- a table with one item that was written among its parts
-pub record KeepsOuter (w : Width) (s : Shape) (b c : List ℕ) (p i : ℕ) : Type 0 where
-  pub nested : WritesParts (table_shape w s) b c p
-  pub header : Same b c p (p + 3 * byte_len w)
+pub record KeepsOuter (w : Width) (s : ElementSpec) (b c : List ℕ) (p i : ℕ) : Type 0 where
+  pub nested : WritesParts (table_spec w s) b c p
+  pub header : AgreeOn b c p (p + 3 * byte_len w)
   pub controls : table_controls w c p ≡ table_controls w b p
   pub own : HoldsBefore s b (item_at w s.size b p i)
   pub others : (j : ℕ) → IsWalked w b p j → j ≢ i → StaysAt s b c (item_at w s.size b p j)
 
-module _ (w : Width) (s : Shape) (law : IsElement s) (b : List ℕ) (p i : ℕ) (view : Viewed (table_shape w s) b p) (walked : IsWalked w b p i)
+module _ (w : Width) (s : ElementSpec) (law : IsElement s) (b : List ℕ) (p i : ℕ) (view : Viewable (table_spec w s) b p) (walked : IsWalked w b p i)
     (c : List ℕ) (writes : WritesParts s b c (item_at w s.size b p i)) where
-  whole : HeldPart w s b p 0 p view.stands.0
+  whole : HeldPart w s b p 0 p view.valid.0
   whole = part_of w s law b p view (omega (arith, walked.0))
 
   abbrev cap : ℕ
@@ -148,19 +149,19 @@ module _ (w : Width) (s : Shape) (law : IsElement s) (b : List ℕ) (p i : ℕ) 
   one = bucket_holds_within s law b begin cap 0 whole.is.last i (omega arith) whole.is.items walked.0 (full i walked)
 
   one_between : (one.lower ≤ one.rest) × (one.rest ≤ begin)
-  one_between = law.between b (place i) one.lower begin one.rest one.below one.holds
+  one_between = law.rest_in_range b (place i) one.lower begin one.rest one.below one.holds
 
   sealed_one : Sealed b one.lower (one.rest - one.lower) c
   sealed_one = writes_at.sealed one.lower begin one.rest one.below (up i) one.holds
 
   -- from the begin of the buckets on, all bytes are the same
-  above_same : (x y : ℕ) → x ≤ y → begin ≤ x → Same b c x y
+  above_same : (x y : ℕ) → x ≤ y → begin ≤ x → AgreeOn b c x y
   above_same x y o h = same_above b c one.lower one.rest one_between.0 sealed_one x y o (omega (arith, one_between.1))
 
-  fixed : (j : ℕ) → Same b c (place j) (place j + s.size)
+  fixed : (j : ℕ) → AgreeOn b c (place j) (place j + s.size)
   fixed j = above_same (place j) (place j + s.size) (omega arith) (up j)
 
-  header_same : Same b c p (p + 3 * byte_len w)
+  header_same : AgreeOn b c p (p + 3 * byte_len w)
   header_same = let below = whole.part.below in above_same p (p + 3 * byte_len w) (omega arith) (omega (arith, below))
 
   controls_same : controls_at s.size b begin cap ≡ controls_at s.size c begin cap
@@ -173,7 +174,7 @@ module _ (w : Width) (s : Shape) (law : IsElement s) (b : List ℕ) (p i : ℕ) 
       let kept = chain_kept s law place b c begin fixed P 0 cap lo l i o (up i) writes_at h (omega arith) (omega (arith, walked.0)) (lt-ltb (slice_index (controls_at s.size b begin cap) i) 128 (full i walked)) in
       subst (λ (x : List ℕ). AllHold s place c begin (filter (λ j. is_full (slice_index x j)) (range_with_len 0 cap)) lo l) controls_same kept.0
 
-  at_kept : (lo hi l : ℕ) → TableAt s b (begin_told w s.size b p) cap (len_at w b p) lo hi l → TableAt s c (begin_told w s.size b p) cap (len_at w b p) lo hi l
+  at_kept : (lo hi l : ℕ) → TableAt s b (decode_begin w s.size b p) cap (len_at w b p) lo hi l → TableAt s c (decode_begin w s.size b p) cap (len_at w b p) lo hi l
   at_kept lo hi l (inl h) = inl h
   at_kept lo hi l (inr (n, part, is, e)) =
       let same : begin ≡ n = let x = whole.part.begins in let y = part.begins in omega (arith, ints, x, y) in
@@ -190,7 +191,7 @@ module _ (w : Width) (s : Shape) (law : IsElement s) (b : List ℕ) (p i : ℕ) 
       )
 
   -- the bytes outside the parts of the table are the same
-  at_sealed : (lo hi l : ℕ) → TableAt s b (begin_told w s.size b p) cap (len_at w b p) lo hi l → Sealed b lo (l - lo) c
+  at_sealed : (lo hi l : ℕ) → TableAt s b (decode_begin w s.size b p) cap (len_at w b p) lo hi l → Sealed b lo (l - lo) c
   at_sealed lo hi l (inl h) = absurd (omega (arith, h.1, walked.0))
   at_sealed lo hi l (inr (n, part, is, e)) =
       let same : begin ≡ n = let x = whole.part.begins in let y = part.begins in omega (arith, ints, x, y) in
@@ -198,7 +199,7 @@ module _ (w : Width) (s : Shape) (law : IsElement s) (b : List ℕ) (p i : ℕ) 
       let above = part.above in
       let low : lo ≤ begin = omega (arith, above, same) in
       let here = bucket_holds_within s law b begin cap lo is'.last i low is'.items walked.0 (full i walked) in
-      let k = law.between b (place i) here.lower begin here.rest here.below here.holds in
+      let k = law.rest_in_range b (place i) here.lower begin here.rest here.below here.holds in
       let less = here.above in
       sealed_wider b c here.lower (here.rest - here.lower) lo (l - lo) less (omega (arith, less, k.0, k.1, e, same)) (writes_at.sealed here.lower begin here.rest here.below (up i) here.holds)
 
@@ -214,7 +215,7 @@ module _ (w : Width) (s : Shape) (law : IsElement s) (b : List ℕ) (p i : ℕ) 
   abbrev held_before : (j : ℕ) (h : HoldsWithin s b (place j) 0 begin whole.is.last) → HoldsBefore s b (place j)
   held_before j h = record { lower = h.lower; upper = begin; rest = h.rest; order = h.below; before = up j; holds = h.holds }
 
-  stays : (j : ℕ) (h : HoldsWithin s b (place j) 0 begin whole.is.last) → Same b c h.lower h.rest → StaysAt s b c (place j)
+  stays : (j : ℕ) (h : HoldsWithin s b (place j) 0 begin whole.is.last) → AgreeOn b c h.lower h.rest → StaysAt s b c (place j)
   stays j h parts = record { held = held_before j h; fixed = fixed j; parts = parts }
 
   other_stays : (j : ℕ) → IsWalked w b p j → j ≢ i → StaysAt s b c (place j)
@@ -222,14 +223,14 @@ module _ (w : Width) (s : Shape) (law : IsElement s) (b : List ℕ) (p i : ℕ) 
     | inl less ↦
         let t = in_turn j i there walked less in
         let turn = t.turn in
-        let k = law.between b (place j) t.first.lower begin t.first.rest t.first.below t.first.holds in
-        let m = law.between b (place i) t.second.lower begin t.second.rest t.second.below t.second.holds in
+        let k = law.rest_in_range b (place j) t.first.lower begin t.first.rest t.first.below t.first.holds in
+        let m = law.rest_in_range b (place i) t.second.lower begin t.second.rest t.second.below t.second.holds in
         stays j t.first (same_below b c t.second.lower t.second.rest m.0 (sealed_where t.second) t.first.lower t.first.rest k.0 turn)
     | inr more ↦
         let t = in_turn i j walked there (omega (arith, ne)) in
         let turn = t.turn in
-        let k = law.between b (place i) t.first.lower begin t.first.rest t.first.below t.first.holds in
-        let m = law.between b (place j) t.second.lower begin t.second.rest t.second.below t.second.holds in
+        let k = law.rest_in_range b (place i) t.first.lower begin t.first.rest t.first.below t.first.holds in
+        let m = law.rest_in_range b (place j) t.second.lower begin t.second.rest t.second.below t.second.holds in
         stays j t.second (same_above b c t.first.lower t.first.rest k.0 (sealed_where t.first) t.second.lower t.second.rest m.0 turn)
   ]
 

@@ -7,42 +7,44 @@ use Rattle.std.specs.List.{find}
 use Rattle.std.specs.Option.{option_map}
 use Rattle.std.proofs.lemmas.Bool.{cases_eq}
 use Rattle.std.proofs.lemmas.Option.{same_Some}
-use Rattle.rkyv_base.specs.Bytes.{same_part}
-use Rattle.rkyv_base.specs.Entry.{entry_element, entry_shape, parts_inside, same_key, same_value, size_of_small, whole_size}
-use Rattle.rkyv_base.specs.Format.{StandsNear}
+use Rattle.rkyv_base.specs.Lemmas.Bytes.{agree_on_part}
+use Rattle.rkyv_base.specs.Entry.{entry_spec, whole_size}
+use Rattle.rkyv_base.specs.Lemmas.Entry.{entry_element, parts_inside, same_key, same_value}
+use Rattle.rkyv_base.specs.Lemmas.Entry.{size_of_small}
+use Rattle.rkyv_base.specs.Format.{RepresentsLocally}
 use Rattle.rkyv_base.specs.Sealing.{Keeps, Sealed, value_pos}
-use Rattle.rkyv_base.specs.Shape.{IsElement, Shape, Viewed}
-use Rattle.rkyv_base.proofs.Sealing.{sealed_wider, viewed_kept}
+use Rattle.rkyv_base.specs.ElementSpec.{IsElement, ElementSpec, Viewable}
+use Rattle.rkyv_base.proofs.Sealing.{sealed_wider, viewable_kept}
 use Rattle.rkyv_table.specs.Table.Positions.{IsWalked, home_positions, item_at}
 use Rattle.rkyv_table.specs.Lemmas.ItemPositions.{holds_at, item_holds}
 use Rattle.rkyv_table.specs.Lemmas.SameHeader.{item_same}
-use Rattle.rkyv_table.proofs.Items.{item_viewed}
+use Rattle.rkyv_table.proofs.ParsedTable.{item_viewable}
 use Rattle.rkyv_table.proofs.SameTable.{written_there}
 use Rattle.rkyv_table.proofs.SealedTable.{value_kept}
 use Rattle.rkyv_collections.specs.InPlace.{with_first}
-use Rattle.rkyv_collections.specs.Lemmas.MapLaws.{HashNear}
+use Rattle.rkyv_collections.specs.Lemmas.MapLaws.{HashLocal}
 use Rattle.rkyv_collections.specs.ListedLookups.{AsksFor}
-use Rattle.rkyv_collections.specs.MapShape.{IsKeyPosAt, map_shape}
-use Rattle.rkyv_collections.specs.MapFormat.{MapStands}
+use Rattle.rkyv_collections.specs.MapSpec.{IsKeyPosAt, map_spec}
+use Rattle.rkyv_collections.specs.MapFormat.{MapRepresents}
 use Rattle.rkyv_collections.specs.NestedWrites.{HoldsBefore, KeepsOuterMap, StaysAt, WritesParts}
 use Rattle.rkyv_table.specs.Table.SealedTable.{WritesValue}
 use Rattle.rkyv_collections.proofs.FirstWrites.{count, each_alike, nth_found, some_place}
-use Rattle.rkyv_collections.proofs.NewValues.{home, new_value_stands, own_place, own_walked, written_again}
+use Rattle.rkyv_collections.proofs.NewValues.{home, new_value_represents, own_place, own_walked, written_again}
 use Rattle.rkyv_collections.proofs.NestedTables.{KeepsOuter, outer_kept, same_above, same_below}
 
-module _ (k v : Shape) (kl : IsElement k) (vl : IsElement v) (b c : List ℕ) (q : ℕ) where
-  abbrev S : Shape
-  S = entry_shape k v
+module _ (k v : ElementSpec) (kl : IsElement k) (vl : IsElement v) (b c : List ℕ) (q : ℕ) where
+  abbrev S : ElementSpec
+  S = entry_spec k v
 
   -- a write among the parts of the value is one among the parts of the entry
   entry_written : WritesParts v b c (value_pos k v q) → WritesParts S b c q
   entry_written writes =
       let wrote : (lo hi l : ℕ) → lo ≤ hi → hi ≤ q → S.holds b q lo hi l → S.holds c q lo hi l × Sealed b lo (l - lo) c = λ lo hi l o o' h.
       let m = h.1 in
-      let x = kl.between b q lo hi m o h.2 in
-      let y = vl.between b (value_pos k v q) m hi l x.1 h.3 in
+      let x = kl.rest_in_range b q lo hi m o h.2 in
+      let y = vl.rest_in_range b (value_pos k v q) m hi l x.1 h.3 in
       let sealed = writes.sealed m hi l x.1 (omega arith) h.3 in
-      let key = kl.near b c q lo hi m o (same_above b c m l y.0 sealed q (q + k.size) (omega arith) (omega (arith, y.1))) (same_below b c m l y.0 sealed lo m x.0 (omega arith)) h.2 in
+      let key = kl.local b c q lo hi m o (same_above b c m l y.0 sealed q (q + k.size) (omega arith) (omega (arith, y.1))) (same_below b c m l y.0 sealed lo m x.0 (omega arith)) h.2 in
       ((h.0, m, key, writes.holds m hi l x.1 (omega arith) h.3), sealed_wider b c m (l - m) lo (l - lo) x.0 (omega (arith, x.0, y.0)) sealed) in
       record { holds = λ lo hi l o o' h. (wrote lo hi l o o' h).0; sealed = λ lo hi l o o' h. (wrote lo hi l o o' h).1 }
 
@@ -54,9 +56,9 @@ module _ (k v : Shape) (kl : IsElement k) (vl : IsElement v) (b c : List ℕ) (q
   key_of_own : WritesParts v b c (value_pos k v q) → HoldsBefore S b q → StaysAt k b c q
   key_of_own writes h =
       let m = h.holds.1 in
-      let x = kl.between b q h.lower h.upper m h.order h.holds.2 in
+      let x = kl.rest_in_range b q h.lower h.upper m h.order h.holds.2 in
       let up = h.before in
-      let y = vl.between b (value_pos k v q) m h.upper h.rest x.1 h.holds.3 in
+      let y = vl.rest_in_range b (value_pos k v q) m h.upper h.rest x.1 h.holds.3 in
       let sealed = writes.sealed m h.upper h.rest x.1 (omega arith) h.holds.3 in
       record {
         held = key_before h;
@@ -69,12 +71,12 @@ module _ (k v : Shape) (kl : IsElement k) (vl : IsElement v) (b c : List ℕ) (q
   key_of_other s =
       let h = s.held in
       let m = h.holds.1 in
-      let x = kl.between b q h.lower h.upper m h.order h.holds.2 in
-      let y = vl.between b (value_pos k v q) m h.upper h.rest x.1 h.holds.3 in
+      let x = kl.rest_in_range b q h.lower h.upper m h.order h.holds.2 in
+      let y = vl.rest_in_range b (value_pos k v q) m h.upper h.rest x.1 h.holds.3 in
       record {
         held = key_before h;
         fixed = same_key k v kl vl b c q h.holds.0 s.fixed;
-        parts = same_part b c h.lower h.rest h.lower m (omega arith) y.0 x.0 s.parts;
+        parts = agree_on_part b c h.lower h.rest h.lower m (omega arith) y.0 x.0 s.parts;
       }
 
   value_of_other : StaysAt S b c q → StaysAt v b c (value_pos k v q)
@@ -82,22 +84,22 @@ module _ (k v : Shape) (kl : IsElement k) (vl : IsElement v) (b c : List ℕ) (q
       let h = s.held in
       let m = h.holds.1 in
       let up = h.before in
-      let x = kl.between b q h.lower h.upper m h.order h.holds.2 in
-      let y = vl.between b (value_pos k v q) m h.upper h.rest x.1 h.holds.3 in
+      let x = kl.rest_in_range b q h.lower h.upper m h.order h.holds.2 in
+      let y = vl.rest_in_range b (value_pos k v q) m h.upper h.rest x.1 h.holds.3 in
       record {
         held = record { lower = m; upper = h.upper; rest = h.rest; order = x.1; before = omega (arith, up); holds = h.holds.3 };
         fixed = same_value k v kl vl b c q h.holds.0 s.fixed;
-        parts = same_part b c h.lower h.rest m h.rest x.0 (omega arith) y.0 s.parts;
+        parts = agree_on_part b c h.lower h.rest m h.rest x.0 (omega arith) y.0 s.parts;
       }
 
 -- unchanged bytes represent the same value
-stands_on : {V : Type 0} (s : Shape) (stands : List ℕ → ℕ → V → Type 0) → StandsNear s stands → (x : V) (b c : List ℕ) (q : ℕ) → StaysAt s b c q → stands b q x → stands c q x
-stands_on s stands near x b c q h st = near x b c q h.held.lower h.held.upper h.held.rest h.held.order h.held.holds h.fixed h.parts st
+represents_on : {V : Type 0} (s : ElementSpec) (represents : List ℕ → ℕ → V → Type 0) → RepresentsLocally s represents → (x : V) (b c : List ℕ) (q : ℕ) → StaysAt s b c q → represents b q x → represents c q x
+represents_on s represents local x b c q h st = local x b c q h.held.lower h.held.upper h.held.rest h.held.order h.held.holds h.fixed h.parts st
 
-module _ (w : Width) (k v : Shape) (kl : IsElement k) (vl : IsElement v) (key_hash : List ℕ → ℕ → ℕ) (near : HashNear k key_hash) (b c : List ℕ) (p i : ℕ)
-    (view : Viewed (map_shape w k v) b p) (walked : IsWalked w b p i) (writes : WritesParts v b c (value_pos k v (item_at w (entry_shape k v).size b p i))) where
-  abbrev E : Shape
-  E = entry_shape k v
+module _ (w : Width) (k v : ElementSpec) (kl : IsElement k) (vl : IsElement v) (key_hash : List ℕ → ℕ → ℕ) (local : HashLocal k key_hash) (b c : List ℕ) (p i : ℕ)
+    (view : Viewable (map_spec w k v) b p) (walked : IsWalked w b p i) (writes : WritesParts v b c (value_pos k v (item_at w (entry_spec k v).size b p i))) where
+  abbrev E : ElementSpec
+  E = entry_spec k v
 
   abbrev at : ℕ → ℕ
   at = item_at w E.size b p
@@ -112,21 +114,21 @@ module _ (w : Width) (k v : Shape) (kl : IsElement k) (vl : IsElement v) (key_ha
   ]
 
   hash_stays : (j : ℕ) → IsWalked w b p j → key_hash c (at j) ≡ key_hash b (at j)
-  hash_stays j there = let h = key_stays j there in sym (near b c (at j) h.held.lower h.held.upper h.held.rest h.held.order h.held.holds h.fixed h.parts)
+  hash_stays j there = let h = key_stays j there in sym (local b c (at j) h.held.lower h.held.upper h.held.rest h.held.order h.held.holds h.fixed h.parts)
 
   place_stays : (j : ℕ) → item_at w E.size c p j ≡ at j
   place_stays j = sym (item_same w b c p kept.header E.size j)
 
   length_same : length c ≡ length b
-  length_same = (kept.nested.sealed 0 p view.stands.0 (omega arith) (omega arith) view.stands.1).same_length
+  length_same = (kept.nested.sealed 0 p view.valid.0 (omega arith) (omega arith) view.valid.1).same_length
 
   pub nested_kept : KeepsOuterMap w k v key_hash b c p i
   nested_kept = record {
-    stands = viewed_kept (map_shape w k v) b c p length_same kept.nested.holds view;
+    valid = viewable_kept (map_spec w k v) b c p length_same kept.nested.holds view;
     nested = kept.nested;
     header = kept.header;
     controls = kept.controls;
-    places = place_stays;
+    positions = place_stays;
     keys = key_stays;
     values = λ j there ne. value_of_other k v kl vl b c (at j) (kept.others j there ne);
     hashes = hash_stays;
@@ -135,54 +137,54 @@ module _ (w : Width) (k v : Shape) (kl : IsElement k) (vl : IsElement v) (key_ha
         (written_there w b c p kept.header (λ some. sym kept.controls) (map (key_hash b) (home_positions w E.size b p homes)) homes written);
   }
 
-module _ (w : Width) (k v : Shape) (kl : IsElement k) (vl : IsElement v) (key_hash : List ℕ → ℕ → ℕ) (near : HashNear k key_hash) {A B : Type 0} (key : List ℕ → ℕ → A → Type 0) (value : List ℕ → ℕ → B → Type 0)
-    (kn : StandsNear k key) (vn : StandsNear v value) (b c : List ℕ) (p n : ℕ) (factor : ℕ × ℕ) (pairs : List (A × B)) (pair : A × B) (new : B) (view : Viewed (map_shape w k v) b p)
-    (st : MapStands w k v key value key_hash factor b p pairs) (at_n : slice_get pairs n ≡ Some pair) where
+module _ (w : Width) (k v : ElementSpec) (kl : IsElement k) (vl : IsElement v) (key_hash : List ℕ → ℕ → ℕ) (local : HashLocal k key_hash) {A B : Type 0} (key : List ℕ → ℕ → A → Type 0) (value : List ℕ → ℕ → B → Type 0)
+    (kn : RepresentsLocally k key) (vn : RepresentsLocally v value) (b c : List ℕ) (p n : ℕ) (factor : ℕ × ℕ) (pairs : List (A × B)) (pair : A × B) (new : B) (view : Viewable (map_spec w k v) b p)
+    (st : MapRepresents w k v key value key_hash factor b p pairs) (at_n : slice_get pairs n ≡ Some pair) where
   abbrev place : ℕ
-  place = slice_index (home_positions w (entry_shape k v).size b p st.homes) n
+  place = slice_index (home_positions w (entry_spec k v).size b p st.homes) n
 
-  pub nested_stands : WritesParts v b c (value_pos k v place) → value c (value_pos k v place) new → MapStands w k v key value key_hash factor c p (slice_set pairs n (pair.0, new))
-  nested_stands writes stands =
+  pub nested_represents : WritesParts v b c (value_pos k v place) → value c (value_pos k v place) new → MapRepresents w k v key value key_hash factor c p (slice_set pairs n (pair.0, new))
+  nested_represents writes represents =
       let i = home w k v key value key_hash b c p n factor pairs pair new st at_n n in
       let there = own_walked w k v key value key_hash b c p n factor pairs pair new st at_n in
       let is = own_place w k v key value key_hash b c p n factor pairs pair new st at_n in
-      let item = item_at w (entry_shape k v).size b p in
-      let kept = nested_kept w k v kl vl key_hash near b c p i view there (subst (λ z. WritesParts v b c (value_pos k v z)) is writes) in
-      new_value_stands w k v key value key_hash b c p n factor pairs pair new st at_n kept.header kept.places kept.written
-      (λ before. (stands_on k key kn pair.0 b c (item i) (kept.keys i there) before, subst (λ z. value c (value_pos k v z) new) is stands))
-      (λ j full ne x before. (stands_on k key kn x.0 b c (item j) (kept.keys j full) before.0, stands_on v value vn x.1 b c (value_pos k v (item j)) (kept.values j full ne) before.1))
+      let item = item_at w (entry_spec k v).size b p in
+      let kept = nested_kept w k v kl vl key_hash local b c p i view there (subst (λ z. WritesParts v b c (value_pos k v z)) is writes) in
+      new_value_represents w k v key value key_hash b c p n factor pairs pair new st at_n kept.header kept.positions kept.written
+      (λ before. (represents_on k key kn pair.0 b c (item i) (kept.keys i there) before, subst (λ z. value c (value_pos k v z) new) is represents))
+      (λ j full ne x before. (represents_on k key kn x.0 b c (item j) (kept.keys j full) before.0, represents_on v value vn x.1 b c (value_pos k v (item j)) (kept.values j full ne) before.1))
 
-module _ (w : Width) (k v : Shape) (kl : IsElement k) (vl : IsElement v) {A B : Type 0} (key : List ℕ → ℕ → A → Type 0) (value : List ℕ → ℕ → B → Type 0)
+module _ (w : Width) (k v : ElementSpec) (kl : IsElement k) (vl : IsElement v) {A B : Type 0} (key : List ℕ → ℕ → A → Type 0) (value : List ℕ → ℕ → B → Type 0)
     (key_hash : List ℕ → ℕ → ℕ) (factor : ℕ × ℕ) (b : List ℕ) (p : ℕ) (pairs : List (A × B)) (new : B) (accept : ℕ → Bool) (asks : A → Bool)
-    (view : Viewed (map_shape w k v) b p) (alike : AsksFor k key b accept asks) (st : MapStands w k v key value key_hash factor b p pairs) where
+    (view : Viewable (map_spec w k v) b p) (same_calls : AsksFor k key b accept asks) (st : MapRepresents w k v key value key_hash factor b p pairs) where
   -- after a write among the parts of the first accepted value, the map represents
   -- the list with the new value
-  pub nested_first : StandsNear k key → StandsNear v value → HashNear k key_hash → (c : List ℕ) (pos : ℕ)
-      → Some pos ≡ option_map (value_pos k v) (find accept (home_positions w (entry_shape k v).size b p st.homes)) → WritesParts v b c pos → value c pos new
-      → MapStands w k v key value key_hash factor c p (with_first asks new pairs)
-  nested_first kn vn near c pos found writes stands =
-      let xs = home_positions w (entry_shape k v).size b p st.homes in
+  pub nested_first : RepresentsLocally k key → RepresentsLocally v value → HashLocal k key_hash → (c : List ℕ) (pos : ℕ)
+      → Some pos ≡ option_map (value_pos k v) (find accept (home_positions w (entry_spec k v).size b p st.homes)) → WritesParts v b c pos → value c pos new
+      → MapRepresents w k v key value key_hash factor c p (with_first asks new pairs)
+  nested_first kn vn local c pos found writes represents =
+      let xs = home_positions w (entry_spec k v).size b p st.homes in
       let t = some_place (value_pos k v) (find accept xs) pos found in
-      elim (nth_found asks new accept xs pairs (count w k v kl vl key value key_hash factor b p pairs new accept asks view alike st)
-      (each_alike w k v kl vl key value key_hash factor b p pairs new accept asks view alike st)) [
+      elim (nth_found asks new accept xs pairs (count w k v kl vl key value key_hash factor b p pairs new accept asks view same_calls st)
+      (each_alike w k v kl vl key value key_hash factor b p pairs new accept asks view same_calls st)) [
         | inl none ↦ absurd (let e = t.1 ∙ none.0 in cc)
         | inr r ↦
             let at : t.0 ≡ slice_index xs r.n = same_Some t.0 (slice_index xs r.n) (t.1 ∙ r.place) in
             let there : pos ≡ value_pos k v (slice_index xs r.n) = t.2 ∙ ap (value_pos k v) at in
-            subst (λ (l : List (A × B)). MapStands w k v key value key_hash factor c p l) (sym r.written)
-            (nested_stands w k v kl vl key_hash near key value kn vn b c p r.n factor pairs r.pair new view st r.at
-            (subst (WritesParts v b c) there writes) (subst (λ z. value c z new) there stands))
+            subst (λ (l : List (A × B)). MapRepresents w k v key value key_hash factor c p l) (sym r.written)
+            (nested_represents w k v kl vl key_hash local key value kn vn b c p r.n factor pairs r.pair new view st r.at
+            (subst (WritesParts v b c) there writes) (subst (λ z. value c z new) there represents))
       ]
 
 -- a write of one value in place is one among the parts of the map
-pub value_nested : (w : Width) (k v : Shape) (kl : IsElement k) (vl : IsElement v) (b c : List ℕ) (p i : ℕ) → Viewed (map_shape w k v) b p → IsWalked w b p i
-    → WritesValue k v b c (item_at w (entry_shape k v).size b p i) → WritesParts (map_shape w k v) b c p
+pub value_nested : (w : Width) (k v : ElementSpec) (kl : IsElement k) (vl : IsElement v) (b c : List ℕ) (p i : ℕ) → Viewable (map_spec w k v) b p → IsWalked w b p i
+    → WritesValue k v b c (item_at w (entry_spec k v).size b p i) → WritesParts (map_spec w k v) b c p
 value_nested w k v kl vl b c p i view walked writes =
-    let s = entry_shape k v in
+    let s = entry_spec k v in
     let law = entry_element k v kl vl in
     let q = item_at w s.size b p i in
-    let there = item_viewed w s law b p view i walked in
-    let small = size_of_small (whole_size k v) there.stands.1.0 in
+    let there = item_viewable w s law b p view i walked in
+    let small = size_of_small (whole_size k v) there.valid.1.0 in
     let within = parts_inside k v in record {
       holds = (value_kept w k v kl vl b p i view walked c writes.sealed writes.keeps).0.holds;
       sealed = λ lo hi l o o' h.
@@ -193,12 +195,12 @@ value_nested w k v kl vl b c p i view walked writes =
     }
 
 -- the same for a key at `q` and its value at `pos`
-pub value_nested_at : (w : Width) (k v : Shape) (kl : IsElement k) (vl : IsElement v) (b c : List ℕ) (p q pos : ℕ) → Viewed (map_shape w k v) b p
-    → IsKeyPosAt w k v b p q → pos ≡ value_pos k v q → Sealed b pos v.size c → Keeps v b c pos → WritesParts (map_shape w k v) b c p
+pub value_nested_at : (w : Width) (k v : ElementSpec) (kl : IsElement k) (vl : IsElement v) (b c : List ℕ) (p q pos : ℕ) → Viewable (map_spec w k v) b p
+    → IsKeyPosAt w k v b p q → pos ≡ value_pos k v q → Sealed b pos v.size c → Keeps v b c pos → WritesParts (map_spec w k v) b c p
 value_nested_at w k v kl vl b c p q pos view at is sealed keeps =
-    let there : pos ≡ value_pos k v (item_at w (entry_shape k v).size b p at.0) = is ∙ ap (value_pos k v) at.2 in
+    let there : pos ≡ value_pos k v (item_at w (entry_spec k v).size b p at.0) = is ∙ ap (value_pos k v) at.2 in
     value_nested w k v kl vl b c p at.0 view at.1 (record { sealed = subst (λ n. Sealed b n v.size c) there sealed; keeps = subst (Keeps v b c) there keeps })
 
 -- without a write, nothing changes
-pub unwritten : (s : Shape) (b : List ℕ) (p : ℕ) → WritesParts s b b p
+pub unwritten : (s : ElementSpec) (b : List ℕ) (p : ℕ) → WritesParts s b b p
 unwritten s b p = record { holds = λ lo hi l o o' h. h; sealed = λ lo hi l o o' h. record { same_length = refl; before = refl; after = refl } }

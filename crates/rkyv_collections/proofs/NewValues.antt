@@ -5,10 +5,10 @@ use Rattle.std.specs.Int.{Width, byte_len}
 use Rattle.std.proofs.lemmas.Bool.{cases_lt}
 use Rattle.std.proofs.lemmas.List.{ext_get_or, get_or-map, length-map, length-set}
 use Rattle.std.proofs.lemmas.Option.{slice_get_within}
-use Rattle.rkyv_base.specs.Bytes.{Same}
-use Rattle.rkyv_base.specs.Entry.{entry_shape}
-use Rattle.rkyv_base.specs.Pairs.{PairStands}
-use Rattle.rkyv_base.specs.Shape.{Shape}
+use Rattle.rkyv_base.specs.Bytes.{AgreeOn}
+use Rattle.rkyv_base.specs.Entry.{entry_spec}
+use Rattle.rkyv_base.specs.Pairs.{PairRepresents}
+use Rattle.rkyv_base.specs.ElementSpec.{ElementSpec}
 use Rattle.rkyv_table.specs.Table.Header.{cap_at}
 use Rattle.rkyv_table.specs.Controls.Numbers.{capacity}
 use Rattle.rkyv_table.specs.Table.Positions.{IsWalked, WrittenAt, home_positions, item_at}
@@ -17,13 +17,13 @@ use Rattle.rkyv_table.proofs.Lists.{set_each}
 use Rattle.rkyv_table.proofs.WrittenAccepted.{homes_apart}
 use Rattle.rkyv_table.proofs.WrittenTables.{home_count, home_pos, home_walked}
 use Rattle.rkyv_collections.specs.Map.{MapWrittenAt}
-use Rattle.rkyv_collections.specs.MapFormat.{MapStands}
+use Rattle.rkyv_collections.specs.MapFormat.{MapRepresents}
 
 -- if all entries have the same positions and their keys the same hashes, a written map is still one
-pub written_again : (w : Width) (s : Shape) (key_hash : List ℕ → ℕ → ℕ) (b c : List ℕ) (p : ℕ) → ((j : ℕ) → item_at w s.size c p j ≡ item_at w s.size b p j)
+pub written_again : (w : Width) (s : ElementSpec) (key_hash : List ℕ → ℕ → ℕ) (b c : List ℕ) (p : ℕ) → ((j : ℕ) → item_at w s.size c p j ≡ item_at w s.size b p j)
     → ((j : ℕ) → IsWalked w b p j → key_hash c (item_at w s.size b p j) ≡ key_hash b (item_at w s.size b p j)) → (homes : List ℕ) → MapWrittenAt w s key_hash b p homes
     → WrittenAt w c p (map (key_hash b) (home_positions w s.size b p homes)) homes → MapWrittenAt w s key_hash c p homes
-written_again w s key_hash b c p places same homes written =
+written_again w s key_hash b c p positions same homes written =
     let hb = home_positions w s.size b p homes in
     let hc = home_positions w s.size c p homes in
     let hashes = map (key_hash b) hb in
@@ -36,18 +36,18 @@ written_again w s key_hash b c p places same homes written =
     let atb : slice_index hb j ≡ item_at w s.size b p (slice_index homes j) = get_or-map (item_at w s.size b p) homes j 0 0 (omega arith) in
     let atc : slice_index hc j ≡ item_at w s.size c p (slice_index homes j) = get_or-map (item_at w s.size c p) homes j 0 0 (omega arith) in
     get_or-map (key_hash b) hb j 0 0 (omega arith) ∙ ap (key_hash b) atb ∙ sym (same (slice_index homes j) there)
-    ∙ ap (key_hash c) (sym (places (slice_index homes j)) ∙ sym atc) ∙ sym (get_or-map (key_hash c) hc j 0 0 (omega arith))))
+    ∙ ap (key_hash c) (sym (positions (slice_index homes j)) ∙ sym atc) ∙ sym (get_or-map (key_hash c) hc j 0 0 (omega arith))))
 
-module _ (w : Width) (k v : Shape) {A B : Type 0} (key : List ℕ → ℕ → A → Type 0) (value : List ℕ → ℕ → B → Type 0) (key_hash : List ℕ → ℕ → ℕ) (b c : List ℕ) (p n : ℕ) (factor : ℕ × ℕ)
-    (pairs : List (A × B)) (pair : A × B) (new : B) (st : MapStands w k v key value key_hash factor b p pairs) (at_n : slice_get pairs n ≡ Some pair) where
+module _ (w : Width) (k v : ElementSpec) {A B : Type 0} (key : List ℕ → ℕ → A → Type 0) (value : List ℕ → ℕ → B → Type 0) (key_hash : List ℕ → ℕ → ℕ) (b c : List ℕ) (p n : ℕ) (factor : ℕ × ℕ)
+    (pairs : List (A × B)) (pair : A × B) (new : B) (st : MapRepresents w k v key value key_hash factor b p pairs) (at_n : slice_get pairs n ≡ Some pair) where
   abbrev at : ℕ → ℕ
-  at = item_at w (entry_shape k v).size b p
+  at = item_at w (entry_spec k v).size b p
 
-  abbrev places : List ℕ → List ℕ
-  places d = home_positions w (entry_shape k v).size d p st.homes
+  abbrev positions : List ℕ → List ℕ
+  positions d = home_positions w (entry_spec k v).size d p st.homes
 
   abbrev hashes : List ℕ
-  hashes = map (key_hash b) (places b)
+  hashes = map (key_hash b) (positions b)
 
   counted : length st.homes ≡ length pairs
   counted = home_count w b p hashes st.homes st.written ∙ sym st.written.count ∙ st.len
@@ -63,9 +63,9 @@ module _ (w : Width) (k v : Shape) {A B : Type 0} (key : List ℕ → ℕ → A 
   unfolding home
   walked_home j h = home_walked w b p hashes st.homes st.written j (has_home j h)
 
-  place_home : (j : ℕ) → j < length pairs → slice_index (places b) j ≡ at (home j)
+  place_home : (j : ℕ) → j < length pairs → slice_index (positions b) j ≡ at (home j)
   unfolding home
-  place_home j h = home_pos w (entry_shape k v).size b p st.homes j (has_home j h)
+  place_home j h = home_pos w (entry_spec k v).size b p st.homes j (has_home j h)
 
   inside : n < length pairs
   inside = slice_get_within pairs n pair at_n
@@ -74,7 +74,7 @@ module _ (w : Width) (k v : Shape) {A B : Type 0} (key : List ℕ → ℕ → A 
   pub own_walked : IsWalked w b p (home n)
   own_walked = walked_home n inside
 
-  pub own_place : slice_index (places b) n ≡ at (home n)
+  pub own_place : slice_index (positions b) n ≡ at (home n)
   own_place = place_home n inside
 
   -- no two pairs have one home bucket
@@ -88,26 +88,26 @@ module _ (w : Width) (k v : Shape) {A B : Type 0} (key : List ℕ → ℕ → A 
     ]
   ]
 
-  module _ (header : Same b c p (p + 3 * byte_len w)) (stay : (j : ℕ) → item_at w (entry_shape k v).size c p j ≡ at j)
-      (again : (homes : List ℕ) → MapWrittenAt w (entry_shape k v) key_hash b p homes → MapWrittenAt w (entry_shape k v) key_hash c p homes)
-      (own : key b (at (home n)) pair.0 → PairStands k v key value c (at (home n)) (pair.0, new))
-      (others : (j : ℕ) → IsWalked w b p j → j ≢ home n → (x : A × B) → PairStands k v key value b (at j) x → PairStands k v key value c (at j) x) where
-    place_stays : (j : ℕ) → j < length pairs → slice_index (places c) j ≡ at (home j)
+  module _ (header : AgreeOn b c p (p + 3 * byte_len w)) (stay : (j : ℕ) → item_at w (entry_spec k v).size c p j ≡ at j)
+      (again : (homes : List ℕ) → MapWrittenAt w (entry_spec k v) key_hash b p homes → MapWrittenAt w (entry_spec k v) key_hash c p homes)
+      (own : key b (at (home n)) pair.0 → PairRepresents k v key value c (at (home n)) (pair.0, new))
+      (others : (j : ℕ) → IsWalked w b p j → j ≢ home n → (x : A × B) → PairRepresents k v key value b (at j) x → PairRepresents k v key value c (at j) x) where
+    place_stays : (j : ℕ) → j < length pairs → slice_index (positions c) j ≡ at (home j)
     unfolding home
-    place_stays j h = get_or-map (item_at w (entry_shape k v).size c p) st.homes j 0 0 (omega (arith, counted)) ∙ stay (home j)
+    place_stays j h = get_or-map (item_at w (entry_spec k v).size c p) st.homes j 0 0 (omega (arith, counted)) ∙ stay (home j)
 
-    own_stands : PairStands k v key value c (slice_index (places c) n) (pair.0, new)
-    own_stands = subst (λ z. PairStands k v key value c z (pair.0, new)) (sym (place_stays n inside)) (own (subst (λ z. key b z pair.0) own_place (st.at n pair at_n).0))
+    own_represents : PairRepresents k v key value c (slice_index (positions c) n) (pair.0, new)
+    own_represents = subst (λ z. PairRepresents k v key value c z (pair.0, new)) (sym (place_stays n inside)) (own (subst (λ z. key b z pair.0) own_place (st.at n pair at_n).0))
 
-    other_stands : (j : ℕ) (x : A × B) → slice_get pairs j ≡ Some x → j ≢ n → PairStands k v key value c (slice_index (places c) j) x
-    other_stands j x at_j ne =
+    other_represents : (j : ℕ) (x : A × B) → slice_get pairs j ≡ Some x → j ≢ n → PairRepresents k v key value c (slice_index (positions c) j) x
+    other_represents j x at_j ne =
         let h = slice_get_within pairs j x at_j in
-        let before = subst (λ z. PairStands k v key value b z x) (place_home j h) (st.at j x at_j) in
-        subst (λ z. PairStands k v key value c z x) (sym (place_stays j h)) (others (home j) (walked_home j h) (homes_differ j h ne) x before)
+        let before = subst (λ z. PairRepresents k v key value b z x) (place_home j h) (st.at j x at_j) in
+        subst (λ z. PairRepresents k v key value c z x) (sym (place_stays j h)) (others (home j) (walked_home j h) (homes_differ j h ne) x before)
 
     -- the pair has the new value, and all other pairs are unchanged
-    pub new_value_stands : MapStands w k v key value key_hash factor c p (slice_set pairs n (pair.0, new))
-    new_value_stands =
+    pub new_value_represents : MapRepresents w k v key value key_hash factor c p (slice_set pairs n (pair.0, new))
+    new_value_represents =
         let y : A × B = (pair.0, new) in
         let same_count = length-set pairs n y in
         record {
@@ -115,5 +115,5 @@ module _ (w : Width) (k v : Shape) {A B : Type 0} (key : List ℕ → ℕ → A 
           written = again st.homes st.written;
           len = sym (len_same w b c p header) ∙ st.len ∙ sym same_count;
           cap = sym (cap_same w b c p header) ∙ st.cap ∙ ap (λ m. capacity m factor) (sym same_count);
-          at = set_each (λ j x. PairStands k v key value c (slice_index (places c) j) x) pairs n y inside own_stands other_stands;
+          at = set_each (λ j x. PairRepresents k v key value c (slice_index (positions c) j) x) pairs n y inside own_represents other_represents;
         }

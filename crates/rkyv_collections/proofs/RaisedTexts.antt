@@ -8,22 +8,23 @@ use Rattle.std.specs.Option.{is_some, option_map}
 use Rattle.std.specs.Prelude.{map}
 use Rattle.std.proofs.lemmas.Bool.{cases_Bool}
 use Rattle.std.proofs.lemmas.Option.{same_Some}
-use Rattle.rkyv_base.specs.Entry.{entry_shape}
-use Rattle.rkyv_base.specs.Format.{StandsNear}
-use Rattle.rkyv_base.specs.Pairs.{PairStands}
+use Rattle.rkyv_base.specs.Entry.{entry_spec}
+use Rattle.rkyv_base.specs.Format.{RepresentsLocally}
+use Rattle.rkyv_base.specs.Pairs.{PairRepresents}
 use Rattle.rkyv_base.specs.SealedText.{Raised}
 use Rattle.rkyv_base.specs.Sealing.{value_pos}
-use Rattle.rkyv_base.specs.Shape.{IsElement, Shape, Viewed}
-use Rattle.rkyv_base.specs.Text.{text_at, text_near, text_shape, text_size}
+use Rattle.rkyv_base.specs.ElementSpec.{IsElement, ElementSpec, Viewable}
+use Rattle.rkyv_base.specs.Text.{text_at, text_spec, text_size}
+use Rattle.rkyv_base.specs.Lemmas.Text.{text_local}
 use Rattle.rkyv_base.proofs.SealedText.{raised_holds, raised_reads, raised_sealed}
-use Rattle.rkyv_keys.specs.OfTexts.{IsTextOf}
+use Rattle.rkyv_keys.specs.Lemmas.OfTexts.{IsTextOf}
 use Rattle.rkyv_table.specs.Table.Positions.{home_positions}
 use Rattle.rkyv_collections.specs.InPlace.{with_first}
 use Rattle.rkyv_collections.specs.InPlaceText.{raised_list, text_raised, with_first_raised}
-use Rattle.rkyv_collections.specs.Lemmas.MapLaws.{HashNear}
+use Rattle.rkyv_collections.specs.Lemmas.MapLaws.{HashLocal}
 use Rattle.rkyv_collections.specs.ListedLookups.{AsksFor, IsPairOf, first_pair}
-use Rattle.rkyv_collections.specs.MapShape.{map_shape}
-use Rattle.rkyv_collections.specs.MapFormat.{MapStands}
+use Rattle.rkyv_collections.specs.MapSpec.{map_spec}
+use Rattle.rkyv_collections.specs.MapFormat.{MapRepresents}
 use Rattle.rkyv_collections.proofs.FirstWrites.{first_behind, some_place}
 use Rattle.rkyv_collections.proofs.FoundPairs.{first_listed}
 
@@ -39,50 +40,50 @@ raised_first {A} asks (x ∷ xs) pair e = elim (cases_Bool (asks x.0)) [
       rw f (ap (λ (l : List (A × Bor (List ℕ))). x ∷ l) (raised_first asks xs pair e'))
 ]
 
-module _ {A : Type 0} (k v : Shape) (key : List ℕ → ℕ → A → Type 0) (value : List ℕ → ℕ → Bor (List ℕ) → Type 0) (b : List ℕ) where
+module _ {A : Type 0} (k v : ElementSpec) (key : List ℕ → ℕ → A → Type 0) (value : List ℕ → ℕ → Bor (List ℕ) → Type 0) (b : List ℕ) where
   -- the found pair, by its position
-  pair_of : (place : Option ℕ) (q : ℕ) (o : Option (A × Bor (List ℕ))) → Some q ≡ place → IsPairOf k v key value b place o → (pair : A × Bor (List ℕ)) × (o ≡ Some pair) × PairStands k v key value b q pair
+  pair_of : (place : Option ℕ) (q : ℕ) (o : Option (A × Bor (List ℕ))) → Some q ≡ place → IsPairOf k v key value b place o → (pair : A × Bor (List ℕ)) × (o ≡ Some pair) × PairRepresents k v key value b q pair
   pair_of None q o e h = absurd cc
   pair_of (Some r) q None e h = absurd h
-  pair_of (Some r) q (Some pair) e h = (pair, refl, subst (λ z. PairStands k v key value b z pair) (sym (same_Some q r e)) h)
+  pair_of (Some r) q (Some pair) e h = (pair, refl, subst (λ z. PairRepresents k v key value b z pair) (sym (same_Some q r e)) h)
 
   no_pair : (f : ℕ → ℕ) (place : Option ℕ) (o : Option (A × Bor (List ℕ))) → None ≡ option_map f place → IsPairOf k v key value b place o → false ≡ is_some o
   no_pair f None None e h = refl
   no_pair f None (Some pair) e h = absurd h
   no_pair f (Some q) o e h = absurd cc
 
-module _ (w : Width) (k : Shape) (kl : IsElement k) (tl : IsElement (text_shape w)) {A : Type 0} (key : List ℕ → ℕ → A → Type 0) (key_hash : List ℕ → ℕ → ℕ) (factor : ℕ × ℕ) (b : List ℕ) (p : ℕ)
-    (pairs : List (A × Bor (List ℕ))) (accept : ℕ → Bool) (asks : A → Bool) (view : Viewed (map_shape w k (text_shape w)) b p) (alike : AsksFor k key b accept asks)
-    (st : MapStands w k (text_shape w) key (IsTextOf w (λ text. text.now)) key_hash factor b p pairs) where
-  abbrev v : Shape
-  v = text_shape w
+module _ (w : Width) (k : ElementSpec) (kl : IsElement k) (tl : IsElement (text_spec w)) {A : Type 0} (key : List ℕ → ℕ → A → Type 0) (key_hash : List ℕ → ℕ → ℕ) (factor : ℕ × ℕ) (b : List ℕ) (p : ℕ)
+    (pairs : List (A × Bor (List ℕ))) (accept : ℕ → Bool) (asks : A → Bool) (view : Viewable (map_spec w k (text_spec w)) b p) (same_calls : AsksFor k key b accept asks)
+    (st : MapRepresents w k (text_spec w) key (IsTextOf w (λ text. text.now)) key_hash factor b p pairs) where
+  abbrev v : ElementSpec
+  v = text_spec w
 
   abbrev value : List ℕ → ℕ → Bor (List ℕ) → Type 0
   value = IsTextOf w (λ text. text.now)
 
-  abbrev Stands : List ℕ → List (A × Bor (List ℕ)) → Type 0
-  Stands c l = MapStands w k v key value key_hash factor c p l
+  abbrev Related : List ℕ → List (A × Bor (List ℕ)) → Type 0
+  Related c l = MapRepresents w k v key value key_hash factor c p l
 
   abbrev place : Option ℕ
-  place = find accept (home_positions w (entry_shape k v).size b p st.homes)
+  place = find accept (home_positions w (entry_spec k v).size b p st.homes)
 
   first : IsPairOf k v key value b place (first_pair asks pairs)
-  first = first_listed w k v kl tl key value key_hash factor b p pairs view accept asks alike st
+  first = first_listed w k v kl tl key value key_hash factor b p pairs view accept asks same_calls st
 
-  pub none_raised : None ≡ option_map (value_pos k v) place → (false ≡ is_some (first_pair asks pairs)) × Stands b pairs
+  pub none_raised : None ≡ option_map (value_pos k v) place → (false ≡ is_some (first_pair asks pairs)) × Related b pairs
   none_raised found = (no_pair k v key value b (value_pos k v) place (first_pair asks pairs) found first, st)
 
-  pub first_raised : StandsNear k key → HashNear k key_hash → (c : List ℕ) (pos : ℕ) (inline : Bool) → pos + text_size w ≤ length b → Some pos ≡ option_map (value_pos k v) place
-      → Raised w b pos c inline → (true ≡ is_some (first_pair asks pairs)) × Stands c (raised_list w k asks (Some inline) pairs)
-  first_raised kn near c pos false inside found raised =
+  pub first_raised : RepresentsLocally k key → HashLocal k key_hash → (c : List ℕ) (pos : ℕ) (inline : Bool) → pos + text_size w ≤ length b → Some pos ≡ option_map (value_pos k v) place
+      → Raised w b pos c inline → (true ≡ is_some (first_pair asks pairs)) × Related c (raised_list w k asks (Some inline) pairs)
+  first_raised kn local c pos false inside found raised =
       let t = some_place (value_pos k v) place pos found in
       let pair = pair_of k v key value b place t.0 (first_pair asks pairs) t.1 first in
-      (ap is_some (sym pair.1), subst (λ x. Stands x pairs) (sym raised.1) st)
-  first_raised kn near c pos true inside found raised =
+      (ap is_some (sym pair.1), subst (λ x. Related x pairs) (sym raised.1) st)
+  first_raised kn local c pos true inside found raised =
       let t = some_place (value_pos k v) place pos found in
       let pair = pair_of k v key value b place t.0 (first_pair asks pairs) t.1 first in
       let there : text_at w b pos ≡ pair.0.1.now = ap (text_at w b) t.2 ∙ pair.2.1 in
       let reads : text_at w c pos ≡ map to_ascii_uppercase pair.0.1.now = raised_reads w b pos inside c true raised raised.0 ∙ ap (map to_ascii_uppercase) there in
-      let wrote = first_behind w k v kl tl key value key_hash factor b p pairs (text_raised pair.0.1) accept asks view alike st kn (λ x. text_near w x.now) near c pos found
+      let wrote = first_behind w k v kl tl key value key_hash factor b p pairs (text_raised pair.0.1) accept asks view same_calls st kn (λ x. text_local w x.now) local c pos found
       (raised_sealed w b pos inside c true raised) (raised_holds w b pos inside c true raised) reads in
-      (wrote.0, subst (Stands c) (raised_first asks pairs pair.0 pair.1) wrote.1)
+      (wrote.0, subst (Related c) (raised_first asks pairs pair.0 pair.1) wrote.1)

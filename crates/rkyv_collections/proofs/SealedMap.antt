@@ -1,16 +1,17 @@
 -- From a lookup in the map that is read to one in the map at the seal.
-use Rattle.rkyv_base.specs.declared.element.Shaped.{Ghosts as Shapes}
+use Rattle.rkyv_base.specs.declared.element.HasSpec.{Ghosts as Specs}
 use Rattle.rkyv_base.specs.declared.width.Word.{Ghosts as Words}
 use Rattle.std.proofs.Common.{◌≡◌, ℕ, ◌+◌, ◌≤◌, ◌∙◌, sym, ap, subst, Bool, List, None, Option, Some, length}
 use Rattle.std.specs.Borrow.{Bor}
 use Rattle.std.specs.Int.{Width}
 use Rattle.std.specs.Prelude.{IfSome}
-use Rattle.rkyv_base.specs.Entry.{entry_element, entry_shape, viewed_key, viewed_value}
+use Rattle.rkyv_base.specs.Entry.{entry_spec}
+use Rattle.rkyv_base.specs.Lemmas.Entry.{entry_element, viewable_key, viewable_value}
 use Rattle.rkyv_base.specs.Sealing.{value_pos}
-use Rattle.rkyv_base.specs.Shape.{IsElement, Shape, Viewed}
+use Rattle.rkyv_base.specs.ElementSpec.{IsElement, ElementSpec, Viewable}
 use Rattle.rkyv_base.specs.View.{pos_of}
 use Rattle.rkyv_base.specs.declared.view.View.{View}
-use Rattle.rkyv_table.proofs.Items.{item_viewed}
+use Rattle.rkyv_table.proofs.ParsedTable.{item_viewable}
 use Rattle.rkyv_table.proofs.Moved.{moved}
 use Rattle.rkyv_table.proofs.SealedTable.{value_kept}
 use Rattle.rkyv_base.specs.declared.entry.Entry.{Entry}
@@ -18,26 +19,26 @@ use Rattle.rkyv_collections.specs.Map.{AnswersKeys, AreUnderHashAt, FindsBy, Fin
 use Rattle.rkyv_collections.specs.Map.{FindsFirstKey, FindsFirstKeyAt, FindsKey, FindsKeyAt}
 use Rattle.rkyv_collections.specs.Map.{IsEntryAt, IsEntryIn, IsValueIn, map_bytes, map_pos}
 use Rattle.rkyv_collections.specs.MapAt.{MapAt, TellsKeyAt, map_at}
-use Rattle.rkyv_collections.specs.MapShape.{IsKeyPosAt, map_shape}
+use Rattle.rkyv_collections.specs.MapSpec.{IsKeyPosAt, map_spec}
 use Rattle.rkyv_collections.specs.Misplaced.{FindsOneKey, FindsOneKeyAt}
 use Rattle.rkyv_keys.specs.Asked.{Asked}
 use Rattle.rkyv_collections.specs.SealedMap.{AnswersKeysAt, FindsByAt, FindsFirstByAt, IsPairPos, TellsByAt}
 use Rattle.rkyv_collections.specs.declared.map.ArchivedHashMap.{ArchivedHashMap}
 
-module _ (w : Width) (k v : Shape) (kl : IsElement k) (vl : IsElement v) (b : List ℕ) (p : ℕ) (view : Viewed (map_shape w k v) b p) where
+module _ (w : Width) (k v : ElementSpec) (kl : IsElement k) (vl : IsElement v) (b : List ℕ) (p : ℕ) (view : Viewable (map_spec w k v) b p) where
   -- an entry is valid at the position of a key
-  pub entry_viewed : (q : ℕ) → IsKeyPosAt w k v b p q → Viewed (entry_shape k v) b q
-  entry_viewed q at = subst (Viewed (entry_shape k v) b) (sym at.2) (item_viewed w (entry_shape k v) (entry_element k v kl vl) b p view at.0 at.1)
+  pub entry_viewable : (q : ℕ) → IsKeyPosAt w k v b p q → Viewable (entry_spec k v) b q
+  entry_viewable q at = subst (Viewable (entry_spec k v) b) (sym at.2) (item_viewable w (entry_spec k v) (entry_element k v kl vl) b p view at.0 at.1)
 
   -- the pair is one whose value may be written
   pub pair_place : (q : ℕ) (at : IsKeyPosAt w k v b p q) → IsPairPos w k v b p at.0 q
   pair_place q at =
-      let entry = entry_viewed q at in
+      let entry = entry_viewable q at in
       record {
         walked = at.1;
         place = at.2;
-        key = viewed_key k v kl vl b q entry;
-        value = viewed_value k v kl vl b q entry;
+        key = viewable_key k v kl vl b q entry;
+        value = viewable_value k v kl vl b q entry;
         kept = λ c sealed keeps. value_kept w k v kl vl b p at.0 view at.1 c sealed keeps;
       }
 
@@ -47,8 +48,8 @@ module _ (w : Width) (k v : Shape) (kl : IsElement k) (vl : IsElement v) (b : Li
       let at = subst (λ (o : Option ℕ). IfSome o (IsKeyPosAt w k v b p)) is walked in
       (at.0, pair_place q at)
 
-  pub found_entry : (found : Option ℕ) (q : ℕ) → found ≡ Some q → IfSome found (IsKeyPosAt w k v b p) → Viewed (entry_shape k v) b q
-  found_entry found q is walked = entry_viewed q (subst (λ (o : Option ℕ). IfSome o (IsKeyPosAt w k v b p)) is walked)
+  pub found_entry : (found : Option ℕ) (q : ℕ) → found ≡ Some q → IfSome found (IsKeyPosAt w k v b p) → Viewable (entry_spec k v) b q
+  found_entry found q is walked = entry_viewable q (subst (λ (o : Option ℕ). IfSome o (IsKeyPosAt w k v b p)) is walked)
 
   -- a value behind a key ends inside the bytes
   pub value_inside : (pos : Option ℕ) → IfSome pos (λ q. (key : ℕ) × IsKeyPosAt w k v b p key × (q ≡ value_pos k v key)) → IfSome pos (λ q. q + v.size ≤ length b)
@@ -61,65 +62,65 @@ found_told P Q says None pos at h = subst (λ (o : Option ℕ). IfSome o Q) at t
 found_told P Q says (Some x) pos at h = subst (λ (o : Option ℕ). IfSome o Q) at (says x h)
 
 -- the map that is read has these bytes and this position
-module _ {K V H W : Type 0} {ks : Shapes K} {vs : Shapes V} {wt : Words W} (m : ArchivedHashMap K V H W ks vs wt) (b : List ℕ) (p : ℕ) (bytes : map_bytes m ≡ b) (place : map_pos m ≡ p) where
+module _ {K V H W : Type 0} {ks : Specs K} {vs : Specs V} {wt : Words W} (m : ArchivedHashMap K V H W ks vs wt) (b : List ℕ) (p : ℕ) (bytes : map_bytes m ≡ b) (place : map_pos m ≡ p) where
   pub as_read : (F : List ℕ → ℕ → Type 0) → F (map_bytes m) (map_pos m) → F b p
   as_read F x = moved F (map_bytes m) b (map_pos m) p bytes place x
 
   module _ where
-    answers_read : (post : View K → Bool → Type 0) (accept : ℕ → Bool) → AnswersKeysAt wt.word ks.shape vs.shape b p post accept → AnswersKeys m post accept
+    answers_read : (post : View K → Bool → Type 0) (accept : ℕ → Bool) → AnswersKeysAt wt.word ks.spec vs.spec b p post accept → AnswersKeys m post accept
     answers_read post accept answers key r is told =
         answers key r (record {
           bytes = ap (λ (archive : Bor (List ℕ)). archive.now) is.archive ∙ bytes;
-          viewed = is.viewed;
-          place = as_read (λ c q. IsKeyPosAt wt.word ks.shape vs.shape c q (pos_of key)) is.place;
+          viewable = is.viewable;
+          place = as_read (λ c q. IsKeyPosAt wt.word ks.spec vs.spec c q (pos_of key)) is.place;
         }) told
 
     -- a found entry has its key in the map, and a found value is behind a key
-    pub entry_read : (result : Option (View (Entry K V))) (pos : Option ℕ) → IsEntryAt result pos → IfSome result (IsEntryIn m) → IfSome pos (IsKeyPosAt wt.word ks.shape vs.shape b p)
+    pub entry_read : (result : Option (View (Entry K V))) (pos : Option ℕ) → IsEntryAt result pos → IfSome result (IsEntryIn m) → IfSome pos (IsKeyPosAt wt.word ks.spec vs.spec b p)
     entry_read result pos at found =
-        found_told (IsEntryIn m) (IsKeyPosAt wt.word ks.shape vs.shape b p) (λ x is. as_read (λ c q. IsKeyPosAt wt.word ks.shape vs.shape c q (pos_of x)) is.2) result pos at found
+        found_told (IsEntryIn m) (IsKeyPosAt wt.word ks.spec vs.spec b p) (λ x is. as_read (λ c q. IsKeyPosAt wt.word ks.spec vs.spec c q (pos_of x)) is.2) result pos at found
 
     pub value_read : (result : Option (View V)) (pos : Option ℕ) → IsEntryAt result pos → IfSome result (IsValueIn m)
-        → IfSome pos (λ q. (key : ℕ) × IsKeyPosAt wt.word ks.shape vs.shape b p key × (q ≡ value_pos ks.shape vs.shape key))
+        → IfSome pos (λ q. (key : ℕ) × IsKeyPosAt wt.word ks.spec vs.spec b p key × (q ≡ value_pos ks.spec vs.spec key))
     value_read result pos at found =
-        found_told (IsValueIn m) (λ q. (key : ℕ) × IsKeyPosAt wt.word ks.shape vs.shape b p key × (q ≡ value_pos ks.shape vs.shape key))
-        (λ x is. (is.key, as_read (λ c q. IsKeyPosAt wt.word ks.shape vs.shape c q is.key) is.walked, is.at.1)) result pos at found
+        found_told (IsValueIn m) (λ q. (key : ℕ) × IsKeyPosAt wt.word ks.spec vs.spec b p key × (q ≡ value_pos ks.spec vs.spec key))
+        (λ x is. (is.key, as_read (λ c q. IsKeyPosAt wt.word ks.spec vs.spec c q is.key) is.walked, is.at.1)) result pos at found
 
     -- the property of a lookup in the map that is read, for its bytes and its position
-    module _ (Told Said : Option ℕ → Type 0) (says : (found : Option ℕ) → Told found → Said found) where
-      pub key_read : (hash : ℕ) (fits : List ℕ → ℕ → Bool) → FindsKey m hash (fits (map_bytes m)) Told → FindsKeyAt wt.word ks.shape vs.shape b p hash (fits b) Said
-      key_read hash fits found = says _ (as_read (λ c q. FindsKeyAt wt.word ks.shape vs.shape c q hash (fits c) Told) found)
+    module _ (Fact Said : Option ℕ → Type 0) (says : (found : Option ℕ) → Fact found → Said found) where
+      pub key_read : (hash : ℕ) (fits : List ℕ → ℕ → Bool) → FindsKey m hash (fits (map_bytes m)) Fact → FindsKeyAt wt.word ks.spec vs.spec b p hash (fits b) Said
+      key_read hash fits found = says _ (as_read (λ c q. FindsKeyAt wt.word ks.spec vs.spec c q hash (fits c) Fact) found)
 
-      pub first_key_read : (key_hash : List ℕ → ℕ → ℕ) (fits : List ℕ → ℕ → Bool) → FindsFirstKey m key_hash (fits (map_bytes m)) Told → FindsFirstKeyAt wt.word ks.shape vs.shape b p key_hash (fits b) Said
-      first_key_read key_hash fits found = λ homes written. says _ (as_read (λ c q. FindsFirstKeyAt wt.word ks.shape vs.shape c q key_hash (fits c) Told) found homes written)
+      pub first_key_read : (key_hash : List ℕ → ℕ → ℕ) (fits : List ℕ → ℕ → Bool) → FindsFirstKey m key_hash (fits (map_bytes m)) Fact → FindsFirstKeyAt wt.word ks.spec vs.spec b p key_hash (fits b) Said
+      first_key_read key_hash fits found = λ homes written. says _ (as_read (λ c q. FindsFirstKeyAt wt.word ks.spec vs.spec c q key_hash (fits c) Fact) found homes written)
 
-      pub by_read : (post : View K → Bool → Type 0) (hash : ℕ) → FindsBy m post hash Told → FindsByAt wt.word ks.shape vs.shape b p post hash Said
+      pub by_read : (post : View K → Bool → Type 0) (hash : ℕ) → FindsBy m post hash Fact → FindsByAt wt.word ks.spec vs.spec b p post hash Said
       by_read post hash found = λ accept answers. key_read hash (λ c. accept) (found accept (answers_read post accept answers))
 
-      pub first_by_read : (post : View K → Bool → Type 0) (hash : ℕ) (key_hash : List ℕ → ℕ → ℕ) → FindsFirstBy m post hash key_hash Told → FindsFirstByAt wt.word ks.shape vs.shape b p post hash key_hash Said
+      pub first_by_read : (post : View K → Bool → Type 0) (hash : ℕ) (key_hash : List ℕ → ℕ → ℕ) → FindsFirstBy m post hash key_hash Fact → FindsFirstByAt wt.word ks.spec vs.spec b p post hash key_hash Said
       first_by_read post hash key_hash found = λ accept answers under.
-          first_key_read key_hash (λ c. accept) (found accept (answers_read post accept answers) (moved (λ c q. AreUnderHashAt wt.word ks.shape vs.shape c q hash key_hash accept) b (map_bytes m) p (map_pos m) (sym bytes) (sym place) under))
+          first_key_read key_hash (λ c. accept) (found accept (answers_read post accept answers) (moved (λ c q. AreUnderHashAt wt.word ks.spec vs.spec c q hash key_hash accept) b (map_bytes m) p (map_pos m) (sym bytes) (sym place) under))
 
-      pub tells_read : (a : Asked) → FindsKey m a.hash (a.fits (map_bytes m)) Told → FindsFirstKey m a.key_hash (a.fits (map_bytes m)) Told → FindsOneKey m a.key_hash a.same (a.fits (map_bytes m)) Told → TellsKeyAt (map_at wt ks vs b p) a Said
+      pub tells_read : (a : Asked) → FindsKey m a.hash (a.fits (map_bytes m)) Fact → FindsFirstKey m a.key_hash (a.fits (map_bytes m)) Fact → FindsOneKey m a.key_hash a.same (a.fits (map_bytes m)) Fact → TellsKeyAt (map_at wt ks vs b p) a Said
       tells_read a answer first complete = record {
         answer = key_read a.hash a.fits answer;
         first = first_key_read a.key_hash a.fits first;
         complete = λ none.
-            let one = as_read (λ c q. FindsOneKeyAt wt.word ks.shape vs.shape c q a.key_hash a.same (a.fits c) Told) complete none in
+            let one = as_read (λ c q. FindsOneKeyAt wt.word ks.spec vs.spec c q a.key_hash a.same (a.fits c) Fact) complete none in
             (one.0, one.1, says one.0 one.2);
       }
 
 -- a property that follows from another of each position
-pub tells_more : (m : MapAt) (a : Asked) (Told Said : Option ℕ → Type 0) → ((place : Option ℕ) → Told place → Said place) → TellsKeyAt m a Told → TellsKeyAt m a Said
-tells_more m a Told Said says t = record {
+pub tells_more : (m : MapAt) (a : Asked) (Fact Said : Option ℕ → Type 0) → ((place : Option ℕ) → Fact place → Said place) → TellsKeyAt m a Fact → TellsKeyAt m a Said
+tells_more m a Fact Said says t = record {
   answer = says _ t.answer;
   first = λ homes written. says _ (t.first homes written);
   complete = λ none. let one = t.complete none in (one.0, one.1, says one.0 one.2);
 }
 
-pub tells_more_by : {K : Type 0} (m : MapAt) (hash : ℕ) (key_hash : List ℕ → ℕ → ℕ) (post : View K → Bool → Type 0) (Told Said : Option ℕ → Type 0) → ((place : Option ℕ) → Told place → Said place)
-    → TellsByAt m hash key_hash post Told → TellsByAt m hash key_hash post Said
-tells_more_by m hash key_hash post Told Said says t = record {
+pub tells_more_by : {K : Type 0} (m : MapAt) (hash : ℕ) (key_hash : List ℕ → ℕ → ℕ) (post : View K → Bool → Type 0) (Fact Said : Option ℕ → Type 0) → ((place : Option ℕ) → Fact place → Said place)
+    → TellsByAt m hash key_hash post Fact → TellsByAt m hash key_hash post Said
+tells_more_by m hash key_hash post Fact Said says t = record {
   answer = λ accept answers. says _ (t.answer accept answers);
   first = λ accept answers under homes written. says _ (t.first accept answers under homes written);
 }

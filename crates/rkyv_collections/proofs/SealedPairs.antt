@@ -3,11 +3,12 @@ use Rattle.std.proofs.Common.{◌≡◌, ℕ, zero, suc, ◌+◌, ◌<◌, ◌�
 use Rattle.std.specs.Prelude.{IfSome, IsSome, MatchOption}
 use Rattle.std.specs.Int.{Width}
 use Rattle.std.proofs.lemmas.Bool.{cases_lt, true≢false}
-use Rattle.rkyv_base.specs.Entry.{entry_element, entry_shape, parts_inside, size_of_small, whole_size}
+use Rattle.rkyv_base.specs.Entry.{entry_spec, whole_size}
+use Rattle.rkyv_base.specs.Lemmas.Entry.{entry_element, parts_inside, size_of_small}
 use Rattle.rkyv_base.specs.Sealing.{Keeps, Sealed, value_pos}
-use Rattle.rkyv_base.specs.Shape.{IsElement, Shape, Viewed}
+use Rattle.rkyv_base.specs.ElementSpec.{IsElement, ElementSpec, Viewable}
 use Rattle.rkyv_base.specs.Seal.{bytes_in, seal_pos}
-use Rattle.rkyv_base.specs.View.{IsView, bytes_of, pos_of}
+use Rattle.rkyv_base.specs.View.{IsValidView, bytes_of, pos_of}
 use Rattle.rkyv_base.specs.declared.entry.Entry.{Entry}
 use Rattle.rkyv_base.specs.declared.seal.Seal.{Seal}
 use Rattle.rkyv_base.specs.declared.view.View.{View}
@@ -17,7 +18,7 @@ use Rattle.rkyv_table.specs.Table.Positions.{table_controls}
 use Rattle.rkyv_table.specs.Table.SealedTable.{SameValue}
 use Rattle.rkyv_table.specs.Controls.Walking.{full_from}
 use Rattle.rkyv_table.specs.declared.table.raw_iter_seal.RawIterSeal.{RawIterSeal}
-use Rattle.rkyv_table.proofs.Items.{item_viewed}
+use Rattle.rkyv_table.proofs.ParsedTable.{item_viewable}
 use Rattle.rkyv_table.proofs.SealedItems.{cursor_kept, full_end, full_skipped}
 use Rattle.rkyv_table.proofs.SealedTable.{table_kept}
 use Rattle.rkyv_collections.specs.SealedMap.{IsPairPos}
@@ -37,20 +38,20 @@ none_full controls cap none_at (suc n) from h = elim (cases_lt from cap) [
   ]
 ]
 
-module _ {K V : Type 0} (k v : Shape) (kl : IsElement k) (vl : IsElement v) where
+module _ {K V : Type 0} (k v : ElementSpec) (kl : IsElement k) (vl : IsElement v) where
   -- a map of entries that are too large has no entries
   pub none_large : (w : Width) (p : ℕ) (r : RawIterSeal (Entry K V)) → 1073741824 < whole_size k v → IsPairIter k v w p r → buckets_left w p r ≡ []
   none_large w p r large is =
       let b = r.archive.now in
       none_full (table_controls w b p) r.cap
       (λ i below full.
-      let item = item_viewed w (entry_shape k v) (entry_element k v kl vl) b p is.table i (subst (λ n. i < n) is.cap below, full) in
-      let small = item.stands.1.0 in
+      let item = item_viewable w (entry_spec k v) (entry_element k v kl vl) b p is.table i (subst (λ n. i < n) is.cap below, full) in
+      let small = item.valid.1.0 in
       omega (arith, small, large))
       r.cap r.next (omega arith)
 
   -- a step over the entries is one over the keys
-  pub takes_key : (before after : RawIterSeal (Entry K V)) (result : Option ℕ) → TakesPosition (entry_shape k v) before result after → TakesKeyPos k v before result after
+  pub takes_key : (before after : RawIterSeal (Entry K V)) (result : Option ℕ) → TakesPosition (entry_spec k v) before result after → TakesKeyPos k v before result after
   takes_key before after None h w p is = let d = h w p is in record { none = d.0; still = d.1; iter = d.2 }
   takes_key before after (Some q) h w p is =
       let t = h w p is in
@@ -63,13 +64,13 @@ module _ {K V : Type 0} (k v : Shape) (kl : IsElement k) (vl : IsElement v) wher
 
   -- the key and the seal at the first found key
   pub lends_first : (w : Width) (p q : ℕ) (before after : RawIterSeal (Entry K V)) (archive : List ℕ) → archive ≡ cursor_bytes before → TakesPairAt k v w p before after q
-      → (result : Option (View K × Seal V)) → IfSome result (λ (pair : View K × Seal V). IsView k pair.0)
+      → (result : Option (View K × Seal V)) → IfSome result (λ (pair : View K × Seal V). IsValidView k pair.0)
       → IfSome result (λ (pair : View K × Seal V). (pos_of pair.0 ≡ q) × (bytes_of pair.0 ≡ take (value_pos k v q) archive))
       → IfSome result (λ (pair : View K × Seal V). (seal_pos pair.1 ≡ 0) × (bytes_in pair.1 ≡ drop (value_pos k v q) archive))
-      → (Viewed k archive q → IsSome result)
+      → (Viewable k archive q → IsSome result)
       → MatchOption result (buckets_left w p before ≡ [])
       (λ (pair : View K × Seal V). (i : ℕ) × (rest : List ℕ) × (buckets_left w p before ≡ i ∷ rest) × LendsPair k v (cursor_bytes before) (IsPairPos w k v (cursor_bytes before) p i) pair)
-  lends_first w p q before after archive same t None view key value found = absurd (true≢false (sym (found (subst (λ b. Viewed k b q) (sym same) t.pair.key))))
+  lends_first w p q before after archive same t None view key value found = absurd (true≢false (sym (found (subst (λ b. Viewable k b q) (sym same) t.pair.key))))
   lends_first w p q before after archive same t (Some pair) view key value found = (
     t.bucket,
     buckets_left w p after,
@@ -83,13 +84,13 @@ module _ {K V : Type 0} (k v : Shape) (kl : IsElement k) (vl : IsElement v) wher
   pairs_kept before after q there sealed keeps w p i is at =
       let b = before.archive.now in
       let c = after.archive.now in
-      let s = entry_shape k v in
+      let s = entry_spec k v in
       let law = entry_element k v kl vl in
-      let item = item_viewed w s law b p is.table i at.walked in
-      let small = size_of_small (whole_size k v) item.stands.1.0 in
+      let item = item_viewable w s law b p is.table i at.walked in
+      let small = size_of_small (whole_size k v) item.valid.1.0 in
       let inside = parts_inside k v in
       let kept = at.kept c (subst (λ n. Sealed b (value_pos k v n) v.size c) at.place sealed) (subst (λ n. Keeps v b c (value_pos k v n)) at.place keeps) in
       let cursor = cursor_kept w s p i q before after is
-      (record { walked = at.walked; place = at.place; viewed = subst (λ n. Viewed s b n) (sym at.place) item; kept = λ d x y. table_kept w s law b p i is.table at.walked d x y })
+      (record { walked = at.walked; place = at.place; viewable = subst (λ n. Viewable s b n) (sym at.place) item; kept = λ d x y. table_kept w s law b p i is.table at.walked d x y })
       there (sealed_wider b c (value_pos k v q) v.size q s.size (omega arith) (omega (arith, small, inside.1)) sealed) (entry_kept k v kl vl b c q sealed keeps) in
       (kept.0, subst (λ n. SameValue k b c n) (sym at.place) kept.1, cursor.1, cursor.2)

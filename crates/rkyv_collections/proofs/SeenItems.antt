@@ -7,17 +7,17 @@ use Rattle.std.proofs.lemmas.List.{length-map}
 use Rattle.std.proofs.lemmas.Option.{slice_get-map}
 use Rattle.rkyv_base.specs.declared.errors.WriteError.{WriteError}
 use Rattle.rkyv_base.specs.Entry.{round_up}
-use Rattle.rkyv_base.specs.Format.{Format, GaveUp, Serialized}
+use Rattle.rkyv_base.specs.Format.{Format, SerializeFails, Serialized}
 use Rattle.rkyv_base.specs.Pairs.{written_as}
-use Rattle.rkyv_base.specs.Shape.{Shape}
+use Rattle.rkyv_base.specs.ElementSpec.{ElementSpec}
 use Rattle.rkyv_base.specs.Writing.{Output, Step, end_of}
-use Rattle.rkyv_base.proofs.GivingUp.{told_as}
+use Rattle.rkyv_base.proofs.WritingSteps.{told_as}
 use Rattle.rkyv_table.specs.Controls.Laws.{AreHashes}
 use Rattle.rkyv_table.specs.Controls.Numbers.{capacity}
 use Rattle.rkyv_table.specs.Controls.Placing.{Written}
-use Rattle.rkyv_table.specs.Table.Slots.{Above, BeforeBuckets, BucketNext, BucketStep, Filled, PartsNext, SlotImages, SlotParts, TableBytes, TableNext, TooFar, filled}
+use Rattle.rkyv_table.specs.Table.Slots.{Above, BeforeBuckets, BucketNext, BucketStep, Filled, PartsNext, SlotImages, SlotParts, TableBytes, TableNext, BucketOverflows, filled}
 use Rattle.rkyv_table.specs.Table.TableFormat.{InBuckets, PairsNext, TableParts, TableResolver, TableWritten, table_format}
-use Rattle.rkyv_table.specs.Table.Taking.{Placed, Slotted, hashes_of, items_of}
+use Rattle.rkyv_table.specs.Table.PlacedItems.{Placed, Slotted, hashes_of, items_of}
 
 -- the value of each item, under the hash of the item
 abbrev pub seen_pairs : {X Y : Type 0} → (X → Y) → List (ℕ × X) → List (ℕ × Y)
@@ -103,14 +103,14 @@ module _ {X Y R : Type 0} (seen : X → Y) (f : Format Y R) where
     seen_bucket None left more p out h = h
     seen_bucket (Some x) left more p out h = h
 
-    seen_far : (s : Option X) (left : List R) (p : ℕ) → TooFar size (written_as seen f) s left p → TooFar size f (option_map seen s) left p
-    seen_far None left p h = h
-    seen_far (Some x) left p h = h
+    seen_overflows : (s : Option X) (left : List R) (p : ℕ) → BucketOverflows size (written_as seen f) s left p → BucketOverflows size f (option_map seen s) left p
+    seen_overflows None left p h = h
+    seen_overflows (Some x) left p h = h
 
     seen_step : (s : Option X) (left : List R) (p : ℕ) (step : Step) → BucketStep size (written_as seen f) s left p step
         → BucketStep size f (option_map seen s) left p step
     seen_step s left p step (inl h) = inl (h.0, h.1, seen_bucket s left h.0 p h.1 h.2, h.3)
-    seen_step s left p step (inr h) = inr (seen_far s left p h.0, h.1)
+    seen_step s left p step (inr h) = inr (seen_overflows s left p h.0, h.1)
 
     module _ (slots : List (Option X)) (rs : List R) (p : ℕ) where
       seen_above : (i : ℕ) (left : List R) (front : List ℕ) → Above size (written_as seen f) slots rs p i left front
@@ -126,7 +126,7 @@ module _ {X Y R : Type 0} (seen : X → Y) (f : Format Y R) where
       bucket_next front step h =
           (h.0, h.1, seen_above h.0 h.1 front h.2, option_map seen h.3, seen_at seen slots h.0 h.3 h.4, seen_step h.3 h.1 (p + length front) step h.5)
 
-  module _ (s : Shape) (slots : List (Option X)) (controls : List ℕ) (p : ℕ) where
+  module _ (s : ElementSpec) (slots : List (Option X)) (controls : List ℕ) (p : ℕ) where
     seen_bytes : (z : ℕ) (bytes : List ℕ) → TableBytes s (written_as seen f) slots controls p z bytes → TableBytes s f (seen_slots seen slots) controls p z bytes
     seen_bytes z bytes h = record {
       part = h.part;
@@ -150,7 +150,7 @@ module _ {X Y R : Type 0} (seen : X → Y) (f : Format Y R) where
     seen_next front step (inr (inr (inr h))) =
         inr (inr (inr (h.0, h.1, h.2, h.3, seen_before h.0 h.1 h.2 h.4, seen_images s.size slots h.1 (p + length front) h.3 h.5, h.6, h.7)))
 
-  module _ (w : Width) (s : Shape) (factor : ℕ × ℕ) (pairs : List (ℕ × X)) (p : ℕ) where
+  module _ (w : Width) (s : ElementSpec) (factor : ℕ × ℕ) (pairs : List (ℕ × X)) (p : ℕ) where
     seen_written : (z : ℕ) (part : List ℕ) → TableWritten w s (written_as seen f) factor pairs p z part → TableWritten w s f factor (seen_pairs seen pairs) p z part
     seen_written z part (inl h) = inl (ap (seen_pairs seen) h.0, h.1, h.2)
     seen_written z part (inr h) = inr (seen_slots seen h.0, h.1, seen_inside seen factor pairs h.0 h.1 h.2, seen_bytes s h.0 h.1 p z part h.3)
@@ -166,13 +166,13 @@ module _ {X Y R : Type 0} (seen : X → Y) (f : Format Y R) where
     pub seen_pairs_next : (front : List ℕ) (step : Step) → PairsNext w s (written_as seen f) factor pairs p front step → PairsNext w s f factor (seen_pairs seen pairs) p front step
     seen_pairs_next front step h = (seen_slots seen h.0, h.1, seen_inside seen factor pairs h.0 h.1 h.2, seen_next s h.0 h.1 p front step h.3)
 
-  module _ (w : Width) (s : Shape) (factor : ℕ × ℕ) (pairs : List (ℕ × X)) (o o' : Output) (limit : ℕ) where
+  module _ (w : Width) (s : ElementSpec) (factor : ℕ × ℕ) (pairs : List (ℕ × X)) (o o' : Output) (limit : ℕ) where
     pub seen_serialized : (r : TableResolver) → Serialized limit (table_format w s (written_as seen f) factor) pairs o o' r
         → Serialized limit (table_format w s f factor) (seen_pairs seen pairs) o o' r
     seen_serialized r h = (h.0, h.1, seen_table w s factor pairs (end_of o) h.0 r h.2, h.3)
 
-    pub seen_gave_up : {F : Type 0} (e : WriteError F) → GaveUp limit (table_format w s (written_as seen f) factor) pairs o o' e
-        → GaveUp limit (table_format w s f factor) (seen_pairs seen pairs) o o' e
-    seen_gave_up e h =
+    pub seen_fails : {F : Type 0} (e : WriteError F) → SerializeFails limit (table_format w s (written_as seen f) factor) pairs o o' e
+        → SerializeFails limit (table_format w s f factor) (seen_pairs seen pairs) o o' e
+    seen_fails e h =
         told_as limit (PairsNext w s f factor (seen_pairs seen pairs) (end_of o)) (PairsNext w s (written_as seen f) factor pairs (end_of o)) o o' e
         (λ front step n. seen_pairs_next w s factor pairs (end_of o) front step n) h

@@ -9,32 +9,33 @@ use Rattle.std.proofs.lemmas.Option.{none-some, same_Some}
 use Rattle.std.specs.Prelude.{IsSome, IsSomeAnd, IsTrue, not}
 use Rattle.rkyv_scan.specs.Groups.{generic_kind}
 use Rattle.rkyv_scan.specs.Hash.{Hasher, HasherCall, NumbersFit, hash_of_calls}
-use Rattle.rkyv_base.specs.Empty.{unit_shape, unit_stands}
-use Rattle.rkyv_base.specs.Entry.{entry_shape, value_offset}
+use Rattle.rkyv_base.specs.Empty.{unit_spec, unit_represents}
+use Rattle.rkyv_base.specs.Entry.{entry_spec, value_offset}
 use Rattle.rkyv_base.specs.Format.{Format, IsFormat}
-use Rattle.rkyv_base.specs.Shape.{IsElement, Shape, Viewed}
+use Rattle.rkyv_base.specs.ElementSpec.{IsElement, ElementSpec, Viewable}
 use Rattle.rkyv_base.specs.Text.{IsArchiveWord}
 use Rattle.rkyv_keys.specs.Equality.{Comparison}
 use Rattle.rkyv_keys.specs.Keys.{FitsItsEqual, IsQuery}
-use Rattle.rkyv_keys.specs.OfEntries.{standing_key}
+use Rattle.rkyv_keys.specs.Lemmas.OfEntries.{valid_key}
 use Rattle.rkyv_table.specs.Table.Positions.{home_positions, pos_found}
 use Rattle.rkyv_collections.specs.Equality.{pair_at}
 use Rattle.rkyv_collections.specs.ListedLookups.{IsPairOf, first_pair}
 use Rattle.rkyv_collections.specs.Map.{hash_at}
-use Rattle.rkyv_collections.specs.MapShape.{map_shape}
-use Rattle.rkyv_collections.specs.MapFormat.{MapStands, hash_of, map_format}
+use Rattle.rkyv_collections.specs.MapSpec.{map_spec}
+use Rattle.rkyv_collections.specs.MapFormat.{MapRepresents, hash_of, map_format}
 use Rattle.rkyv_collections.specs.Lemmas.MapSound.{listed_map_sound}
 use Rattle.rkyv_table.specs.Table.Listed.{listed}
 use Rattle.rkyv_table.specs.Table.TableFormat.{TableResolver}
-use Rattle.rkyv_base.specs.Pairs.{written_as, written_as-format}
-use Rattle.rkyv_collections.specs.Lemmas.EntriesTold.{entries_told}
-use Rattle.rkyv_table.specs.Table.Lent.{with_units}
+use Rattle.rkyv_base.specs.Pairs.{written_as}
+use Rattle.rkyv_base.specs.Lemmas.Pairs.{written_as-format}
+use Rattle.rkyv_collections.specs.Lemmas.EntriesFound.{decode_entries}
+use Rattle.rkyv_table.specs.Table.ItemValues.{with_units}
 use Rattle.rkyv_collections.specs.StdEquality.{FindsPair}
 use Rattle.rkyv_collections.specs.StdLookups.{FindsAsked, FindsEntries, FindsMembers, IsValueBehind}
 use Rattle.rkyv_collections.specs.StdMap.{of_entries}
 use Rattle.rkyv_collections.proofs.FoundPairs.{first_listed}
 use Rattle.rkyv_collections.proofs.StdReading.{unit_lookup}
-use Rattle.rkyv_collections.proofs.WrittenPairs.{first_accepted, pair_stands}
+use Rattle.rkyv_collections.proofs.WrittenPairs.{first_accepted, pair_represents}
 
 -- the value of the first accepted pair
 first_looked_up : {A B : Type 0} (asks : A → Bool) (entries : List (A × B)) → option_map (λ pair. pair.1) (first_pair asks entries) ≡ lookup asks entries
@@ -63,9 +64,9 @@ as_none value b offset (Some q) None false r e h n = absurd (true≢false (sym (
 
 -- The result for a key that is looked up in entries. If they have a value,
 -- an equal one must be found. If they have none, none may be found.
-module _ {A B : Type 0} (w : Width) (k v : Shape) (hash : A → ℕ) (fits : A → List ℕ → ℕ → Bool) (equals : List ℕ → ℕ → B → Type 0) (b : List ℕ) (p : ℕ) (key : A) (asks : A → Bool) (entries : List (A × B)) where
+module _ {A B : Type 0} (w : Width) (k v : ElementSpec) (hash : A → ℕ) (fits : A → List ℕ → ℕ → Bool) (equals : List ℕ → ℕ → B → Type 0) (b : List ℕ) (p : ℕ) (key : A) (asks : A → Bool) (entries : List (A × B)) where
   abbrev place : Option ℕ
-  place = pos_found generic_kind w (entry_shape k v).size b p (hash key) (fits key b)
+  place = pos_found generic_kind w (entry_spec k v).size b p (hash key) (fits key b)
 
   pub asked_value : (x : B) (r : Bool) → Some x ≡ lookup asks entries → IsTrue r ↔ FindsPair w k v hash fits equals b p (key, x) → IsTrue r ↔ FindsAsked w k hash fits v equals b p key asks entries
   asked_value x r e h = as_value equals b (value_offset k v) place (lookup asks entries) x r e h
@@ -74,7 +75,7 @@ module _ {A B : Type 0} (w : Width) (k v : Shape) (hash : A → ℕ) (fits : A �
   asked_none found r e h n = as_none equals b (value_offset k v) place (lookup asks entries) found r e h n
 
 -- at the position of a pair, its value is behind the key
-value_behind : {A B : Type 0} (k v : Shape) (key : List ℕ → ℕ → A → Type 0) (value : List ℕ → ℕ → B → Type 0) (b : List ℕ) (place : Option ℕ) (o : Option (A × B))
+value_behind : {A B : Type 0} (k v : ElementSpec) (key : List ℕ → ℕ → A → Type 0) (value : List ℕ → ℕ → B → Type 0) (b : List ℕ) (place : Option ℕ) (o : Option (A × B))
     → IsPairOf k v key value b place o → IsValueBehind value b (value_offset k v) place (option_map (λ pair. pair.1) o)
 value_behind k v key value b None None h = tt
 value_behind k v key value b (Some q) (Some pair) h = h.1
@@ -94,36 +95,36 @@ some_either x t = elim (cases_Bool t) [
   | inr no' ↦ rw no' refl
 ]
 
-module _ {State : Type 0} (hasher : Hasher State) (small : NumbersFit hasher) (w : Width) {k v : Shape} (kl : IsElement k) (vl : IsElement v)
+module _ {State : Type 0} (hasher : Hasher State) (small : NumbersFit hasher) (w : Width) {k v : ElementSpec} (kl : IsElement k) (vl : IsElement v)
     {A B Q : Type 0} {key : List ℕ → ℕ → A → Type 0} {value : List ℕ → ℕ → B → Type 0} {same : Comparison} {key_calls : List ℕ → ℕ → List HasherCall}
     {can_read : Q → Type 0} {calls : Q → List HasherCall} {fits : Q → List ℕ → ℕ → Bool} (query : IsQuery k same key_calls can_read calls fits) (factor : ℕ × ℕ) where
   -- in a map that represents these entries
-  entries_found : (b : List ℕ) (p : ℕ) → Viewed (map_shape w k v) b p → (entries : List (A × B))
-      → MapStands w k v key value (hash_at hasher key_calls) factor b p entries
+  entries_found : (b : List ℕ) (p : ℕ) → Viewable (map_spec w k v) b p → (entries : List (A × B))
+      → MapRepresents w k v key value (hash_at hasher key_calls) factor b p entries
       → FindsEntries w k (hash_of hasher calls) fits key can_read v value b p entries
-  entries_found b p view entries st q asks can alike =
+  entries_found b p view entries st q asks ready same_calls =
       let hash = hash_at hasher key_calls in
       let accept = fits q b in
-      let places = home_positions w (entry_shape k v).size b p st.homes in
+      let positions = home_positions w (entry_spec k v).size b p st.homes in
       let found = first_accepted w k v kl vl hash b p st.homes view st.written (hash_of hasher calls q) accept (small (calls q))
       (λ i h accepted.
       ap (hash_of_calls hasher)
-      (sym (query.alike q b (pair_at w k v b p st.homes i) can (standing_key kl vl b (pair_at w k v b p st.homes i) (pair_stands w k v kl vl hash b p st.homes view st.written i h)) accepted))) in
-      let listed = first_listed w k v kl vl key value hash factor b p entries view accept asks alike st in
-      let behind = value_behind k v key value b (find accept places) (first_pair asks entries) listed in
+      (sym (query.same_calls q b (pair_at w k v b p st.homes i) ready (valid_key kl vl b (pair_at w k v b p st.homes i) (pair_represents w k v kl vl hash b p st.homes view st.written i h)) accepted))) in
+      let listed = first_listed w k v kl vl key value hash factor b p entries view accept asks same_calls st in
+      let behind = value_behind k v key value b (find accept positions) (first_pair asks entries) listed in
       subst (λ (place : Option ℕ). IsValueBehind value b (value_offset k v) place (lookup asks entries)) (sym found)
-      (subst (λ (o : Option B). IsValueBehind value b (value_offset k v) (find accept places) o) (first_looked_up asks entries) behind)
+      (subst (λ (o : Option B). IsValueBehind value b (value_offset k v) (find accept positions) o) (first_looked_up asks entries) behind)
 
   -- in any archive with the written bytes of a map of std
   looked_up : IsArchiveWord w → (equal : A → A → Bool) {R : Type 0} (f : Format (List (A × B)) R)
-      → IsFormat (map_shape w k v) (MapStands w k v key value (hash_at hasher key_calls) factor) f
-      → IsFormat (map_shape w k v) (FindsEntries w k (hash_of hasher calls) fits key can_read v value) (of_entries equal f)
+      → IsFormat (map_spec w k v) (MapRepresents w k v key value (hash_at hasher key_calls) factor) f
+      → IsFormat (map_spec w k v) (FindsEntries w k (hash_of hasher calls) fits key can_read v value) (of_entries equal f)
   looked_up kind equal f base =
-      entries_told w kind kl vl factor equal (FindsEntries w k (hash_of hasher calls) fits key can_read v value) (λ b p view es st apart. entries_found b p view es st) f base
+      decode_entries w kind kl vl factor equal (FindsEntries w k (hash_of hasher calls) fits key can_read v value) (λ b p view es st apart. entries_found b p view es st) f base
 
 -- in any archive with the written bytes of a value that is written as a list of entries
 -- with distinct keys
-module _ {State : Type 0} (hasher : Hasher State) (small : NumbersFit hasher) (w : Width) (kind : IsArchiveWord w) (max : ℕ) {k v : Shape} (kl : IsElement k) (vl : IsElement v)
+module _ {State : Type 0} (hasher : Hasher State) (small : NumbersFit hasher) (w : Width) (kind : IsArchiveWord w) (max : ℕ) {k v : ElementSpec} (kl : IsElement k) (vl : IsElement v)
     {A B Q X R S : Type 0} {key : List ℕ → ℕ → A → Type 0} {value : List ℕ → ℕ → B → Type 0} {same : Comparison} {key_calls : List ℕ → ℕ → List HasherCall}
     {can_read : Q → Type 0} {calls : Q → List HasherCall} {fits : Q → List ℕ → ℕ → Bool} (query : IsQuery k same key_calls can_read calls fits)
     {own_read : A → Type 0} {own_calls : A → List HasherCall} {own_fits : A → List ℕ → ℕ → Bool} (own : IsQuery k same key_calls own_read own_calls own_fits)
@@ -132,26 +133,26 @@ module _ {State : Type 0} (hasher : Hasher State) (small : NumbersFit hasher) (w
   abbrev pub whole_format : Format (List (A × B)) TableResolver
   whole_format = of_entries equal (listed max (7, 8) (map_format w k v key_format value_format (hash_of hasher own_calls) (7, 8)))
 
-  pub seen_looked_up : IsFormat (map_shape w k v) (λ b p x. FindsEntries w k (hash_of hasher calls) fits key can_read v value b p (seen x)) (written_as seen whole_format)
+  pub seen_looked_up : IsFormat (map_spec w k v) (λ b p x. FindsEntries w k (hash_of hasher calls) fits key can_read v value b p (seen x)) (written_as seen whole_format)
   seen_looked_up =
       let f = listed max (7, 8) (map_format w k v key_format value_format (hash_of hasher own_calls) (7, 8)) in
-      written_as-format seen (map_shape w k v) (FindsEntries w k (hash_of hasher calls) fits key can_read v value) (of_entries equal f)
+      written_as-format seen (map_spec w k v) (FindsEntries w k (hash_of hasher calls) fits key can_read v value) (of_entries equal f)
       (looked_up hasher small w kl vl query (7, 8) kind equal f (listed_map_sound hasher w kl vl (7, 8) max kind own native itself reads key_law value_law))
 
 -- the same for a set
-pub members_looked_up : {X A Q R : Type 0} (w : Width) (k s : Shape) (key : List ℕ → ℕ → A → Type 0) (can_read : Q → Type 0) (hash : Q → ℕ) (fits : Q → List ℕ → ℕ → Bool) (seen : X → List A) (f : Format X R)
-    → IsFormat s (λ b p x. FindsEntries w k hash fits key can_read unit_shape unit_stands b p (with_units (seen x))) f
+pub members_looked_up : {X A Q R : Type 0} (w : Width) (k s : ElementSpec) (key : List ℕ → ℕ → A → Type 0) (can_read : Q → Type 0) (hash : Q → ℕ) (fits : Q → List ℕ → ℕ → Bool) (seen : X → List A) (f : Format X R)
+    → IsFormat s (λ b p x. FindsEntries w k hash fits key can_read unit_spec unit_represents b p (with_units (seen x))) f
     → IsFormat s (λ b p x. FindsMembers w k hash fits key can_read b p (seen x)) f
 members_looked_up w k s key can_read hash fits seen f law = record {
-  whole = law.whole;
-  clear = law.clear;
+  size_exact = law.size_exact;
+  exclusive = law.exclusive;
   sound = λ x r c p0 p part out h i t o q al.
       let d = law.sound x r c p0 p part out h i t o q al in (
         d.0,
         d.1,
-        λ query asks can alike.
-            let place = pos_found generic_kind w (entry_shape k unit_shape).size c p (hash query) (fits query c) in
-            both_or_none unit_stands c (value_offset k unit_shape) place (lookup asks (with_units (seen x))) (d.2 query asks can alike)
+        λ query asks ready same_calls.
+            let place = pos_found generic_kind w (entry_spec k unit_spec).size c p (hash query) (fits query c) in
+            both_or_none unit_represents c (value_offset k unit_spec) place (lookup asks (with_units (seen x))) (d.2 query asks ready same_calls)
             ∙ ap is_some (unit_lookup asks (seen x)) ∙ some_either {X = Unit {0}} tt (list_any asks (seen x)),
       );
 }

@@ -7,27 +7,28 @@ use Rattle.std.specs.List.{All, list_any}
 use Rattle.std.proofs.lemmas.Bool.{cases_Bool}
 use Rattle.std.specs.Map.{lookup, update_all}
 use Rattle.std.proofs.lemmas.List.Elements.{All-head, All-map, All-tail, All-weaker}
-use Rattle.rkyv_base.specs.Entry.{entry_element, entry_shape}
-use Rattle.rkyv_base.specs.Pairs.{PairStands}
-use Rattle.rkyv_base.specs.Shape.{IsElement, Shape}
+use Rattle.rkyv_base.specs.Entry.{entry_spec}
+use Rattle.rkyv_base.specs.Lemmas.Entry.{entry_element}
+use Rattle.rkyv_base.specs.Pairs.{PairRepresents}
+use Rattle.rkyv_base.specs.ElementSpec.{IsElement, ElementSpec}
 use Rattle.rkyv_table.specs.Table.Header.{cap_at}
 use Rattle.rkyv_table.specs.Controls.Placing.{walk}
 use Rattle.rkyv_table.specs.Table.Positions.{IsWalked, item_at, item_positions, table_controls}
 use Rattle.rkyv_table.specs.Table.PairWalks.{TakesFirst}
 use Rattle.rkyv_table.specs.Table.RawItems.{ItemsLeft}
 use Rattle.rkyv_table.proofs.RawWalks.{walked_all}
-use Rattle.rkyv_collections.specs.MapShape.{IsKeyPosAt}
-use Rattle.rkyv_table.specs.Table.Lent.{with_units}
+use Rattle.rkyv_collections.specs.MapSpec.{IsKeyPosAt}
+use Rattle.rkyv_table.specs.Table.ItemValues.{with_units}
 use Rattle.rkyv_collections.specs.StdMap.{ArePairsAt}
 
 -- each position of the walk is that of a key of the map
-keys_walked : (w : Width) (k v : Shape) → IsElement k → IsElement v → (b : List ℕ) (p : ℕ) → All (IsKeyPosAt w k v b p) (item_positions w (entry_shape k v).size b p)
+keys_walked : (w : Width) (k v : ElementSpec) → IsElement k → IsElement v → (b : List ℕ) (p : ℕ) → All (IsKeyPosAt w k v b p) (item_positions w (entry_spec k v).size b p)
 keys_walked w k v kl vl b p =
     let ws = walk (table_controls w b p) (cap_at w b p) in
-    All-map (IsKeyPosAt w k v b p) (item_at w (entry_shape k v).size b p) ws
-    (All-weaker (IsWalked w b p) (λ i. IsKeyPosAt w k v b p (item_at w (entry_shape k v).size b p i)) (λ i h. (i, h, refl)) ws (walked_all w (entry_shape k v) (entry_element k v kl vl) b p))
+    All-map (IsKeyPosAt w k v b p) (item_at w (entry_spec k v).size b p) ws
+    (All-weaker (IsWalked w b p) (λ i. IsKeyPosAt w k v b p (item_at w (entry_spec k v).size b p i)) (λ i h. (i, h, refl)) ws (walked_all w (entry_spec k v) (entry_element k v kl vl) b p))
 
-module _ {A B : Type 0} (k v : Shape) (key : List ℕ → ℕ → A → Type 0) (value : List ℕ → ℕ → B → Type 0) (equal : A → A → Bool) (b : List ℕ) (all : List ℕ) where
+module _ {A B : Type 0} (k v : ElementSpec) (key : List ℕ → ℕ → A → Type 0) (value : List ℕ → ℕ → B → Type 0) (equal : A → A → Bool) (b : List ℕ) (all : List ℕ) where
   -- the insertion of the remaining pairs into the found ones is that of all pairs in order
   -- into an empty map
   abbrev LeadsOn : List ℕ → (A → Option B) → Type 0
@@ -38,7 +39,7 @@ module _ {A B : Type 0} (k v : Shape) (key : List ℕ → ℕ → A → Type 0) 
   leads_first : (f : A → Option B) → ((q : A) → f q ≡ None) → LeadsOn all f
   leads_first f empty rest read g e = (rest, read, λ q. e q ∙ ap (λ (h : A → Option B). update_all equal h rest q) (λ i x. empty x i))
 
-  leads_next : (place : ℕ) (left : List ℕ) (f f' : A → Option B) (a : A) (x : B) → LeadsOn (place ∷ left) f → PairStands k v key value b place (a, x)
+  leads_next : (place : ℕ) (left : List ℕ) (f f' : A → Option B) (a : A) (x : B) → LeadsOn (place ∷ left) f → PairRepresents k v key value b place (a, x)
       → ((q : A) → f' q ≡ cond (equal a q) (Some x) (f q)) → LeadsOn left f'
   leads_next place left f f' a x h st u rest read g e =
       h ((a, x) ∷ rest) (st, read) g (λ q. e q ∙ ap (λ (t : A → Option B). update_all equal t rest q) (λ i z. u z i))
@@ -49,18 +50,18 @@ module _ {A B : Type 0} (k v : Shape) (key : List ℕ → ℕ → A → Type 0) 
 
 -- The remaining pairs of a walk are in the archived map at `p`. Their insertion into the found ones
 -- is that of all pairs in order
-module _ {A B : Type 0} (w : Width) (k v : Shape) (key : List ℕ → ℕ → A → Type 0) (value : List ℕ → ℕ → B → Type 0) (equal : A → A → Bool) (archive : Bor (List ℕ)) (p : ℕ) where
+module _ {A B : Type 0} (w : Width) (k v : ElementSpec) (key : List ℕ → ℕ → A → Type 0) (value : List ℕ → ℕ → B → Type 0) (equal : A → A → Bool) (archive : Bor (List ℕ)) (p : ℕ) where
   abbrev pub all_positions : List ℕ
-  all_positions = item_positions w (entry_shape k v).size archive.now p
+  all_positions = item_positions w (entry_spec k v).size archive.now p
 
   abbrev pub WalksOn : ItemsLeft → (A → Option B) → Type 0
-  WalksOn left found = (left.archive ≡ archive) × All (IsKeyPosAt w k v archive.now p) left.places
-      × LeadsOn k v key value equal archive.now all_positions left.places found
+  WalksOn left found = (left.archive ≡ archive) × All (IsKeyPosAt w k v archive.now p) left.positions
+      × LeadsOn k v key value equal archive.now all_positions left.positions found
 
-  pub walks_first : IsElement k → IsElement v → (left walk : ItemsLeft) → left ≡ walk → walk.archive ≡ archive → walk.places ≡ all_positions
+  pub walks_first : IsElement k → IsElement v → (left walk : ItemsLeft) → left ≡ walk → walk.archive ≡ archive → walk.positions ≡ all_positions
       → (found : A → Option B) → ((q : A) → found q ≡ None) → WalksOn left found
-  walks_first kl vl left walk same whole places found empty =
-      let at : left.places ≡ all_positions = ap (λ (x : ItemsLeft). x.places) same ∙ places in (
+  walks_first kl vl left walk same whole positions found empty =
+      let at : left.positions ≡ all_positions = ap (λ (x : ItemsLeft). x.positions) same ∙ positions in (
         ap (λ (x : ItemsLeft). x.archive) same ∙ whole,
         subst (All (IsKeyPosAt w k v archive.now p)) (sym at) (keys_walked w k v kl vl archive.now p),
         subst (λ (xs : List ℕ). LeadsOn k v key value equal archive.now all_positions xs found) (sym at) (leads_first k v key value equal archive.now all_positions found empty),
@@ -69,17 +70,17 @@ module _ {A B : Type 0} (w : Width) (k v : Shape) (key : List ℕ → ℕ → A 
   module _ (before after : ItemsLeft) (place : ℕ) (found : A → Option B) (step : TakesFirst before place after) (on : WalksOn before found) where
     -- the next key is one of the map, in the same bytes
     pub walks_key : IsKeyPosAt w k v archive.now p place
-    walks_key = All-head (IsKeyPosAt w k v archive.now p) place after.places (subst (All (IsKeyPosAt w k v archive.now p)) step.first on.1)
+    walks_key = All-head (IsKeyPosAt w k v archive.now p) place after.positions (subst (All (IsKeyPosAt w k v archive.now p)) step.first on.1)
 
-    pub walks_next : (found' : A → Option B) (a : A) (x : B) → PairStands k v key value archive.now place (a, x) → ((q : A) → found' q ≡ cond (equal a q) (Some x) (found q)) → WalksOn after found'
-    walks_next found' a x stands inserted = (
+    pub walks_next : (found' : A → Option B) (a : A) (x : B) → PairRepresents k v key value archive.now place (a, x) → ((q : A) → found' q ≡ cond (equal a q) (Some x) (found q)) → WalksOn after found'
+    walks_next found' a x represents inserted = (
       step.archive ∙ on.0,
-      All-tail (IsKeyPosAt w k v archive.now p) place after.places (subst (All (IsKeyPosAt w k v archive.now p)) step.first on.1),
-      leads_next k v key value equal archive.now all_positions place after.places found found' a x
-          (subst (λ (xs : List ℕ). LeadsOn k v key value equal archive.now all_positions xs found) step.first on.2) stands inserted,
+      All-tail (IsKeyPosAt w k v archive.now p) place after.positions (subst (All (IsKeyPosAt w k v archive.now p)) step.first on.1),
+      leads_next k v key value equal archive.now all_positions place after.positions found found' a x
+          (subst (λ (xs : List ℕ). LeadsOn k v key value equal archive.now all_positions xs found) step.first on.2) represents inserted,
     )
 
-  pub walks_last : (left : ItemsLeft) (found : A → Option B) → WalksOn left found → left.places ≡ []
+  pub walks_last : (left : ItemsLeft) (found : A → Option B) → WalksOn left found → left.positions ≡ []
       → (pairs : List (A × B)) × ArePairsAt k v key value archive.now all_positions pairs × ((q : A) → found q ≡ update_all equal (λ _. None) pairs q)
   walks_last left found on none =
       leads_last k v key value equal archive.now all_positions found (subst (λ (xs : List ℕ). LeadsOn k v key value equal archive.now all_positions xs found) none on.2)

@@ -7,56 +7,57 @@ use Rattle.std.specs.Option.{option_map}
 use Rattle.std.proofs.lemmas.Bool.{cases_eq, eq-eqb}
 use Rattle.rkyv_scan.specs.Groups.{generic_kind}
 use Rattle.rkyv_scan.specs.Lemmas.KindLaws.{word_lawful}
-use Rattle.rkyv_base.specs.Bytes.{same_part}
-use Rattle.rkyv_base.specs.Entry.{entry_element, entry_shape, same_key, viewed_key}
-use Rattle.rkyv_base.specs.Format.{StandsNear}
-use Rattle.rkyv_base.specs.Pairs.{pair_near}
+use Rattle.rkyv_base.specs.Lemmas.Bytes.{agree_on_part}
+use Rattle.rkyv_base.specs.Entry.{entry_spec}
+use Rattle.rkyv_base.specs.Lemmas.Entry.{entry_element, same_key, viewable_key}
+use Rattle.rkyv_base.specs.Format.{RepresentsLocally}
+use Rattle.rkyv_base.specs.Lemmas.Pairs.{pair_local}
 use Rattle.rkyv_base.specs.Sealing.{Keeps, Sealed, value_pos}
-use Rattle.rkyv_base.specs.Shape.{IsElement, Shape, Viewed}
-use Rattle.rkyv_base.proofs.Sealing.{viewed_kept}
+use Rattle.rkyv_base.specs.ElementSpec.{IsElement, ElementSpec, Viewable}
+use Rattle.rkyv_base.proofs.Sealing.{viewable_kept}
 use Rattle.rkyv_keys.specs.Asking.{RestsOnKeys}
 use Rattle.rkyv_keys.specs.OfValues.{IsValueAt, value_fits}
 use Rattle.rkyv_table.specs.Table.Header.{cap_at, len_at}
 use Rattle.rkyv_table.specs.Table.Positions.{IsWalked, bucket_found, home_positions, item_at}
 use Rattle.rkyv_table.specs.Table.Positions.{pos_found, table_controls}
 use Rattle.rkyv_table.specs.Table.SealedTable.{KeepsTable, RestsOnKey, SameValue, WritesValue}
-use Rattle.rkyv_table.proofs.Items.{controls_accepted, item_viewed, some_cap}
+use Rattle.rkyv_table.proofs.ParsedTable.{controls_accepted, item_viewable, some_cap}
 use Rattle.rkyv_table.proofs.Misplaced.{found_agree}
 use Rattle.rkyv_table.proofs.SealedTable.{item_stays, lookup_kept, value_kept, written_kept}
 use Rattle.rkyv_table.proofs.Walks.{walked_full}
 use Rattle.rkyv_collections.specs.Map.{MapWrittenAt}
-use Rattle.rkyv_collections.specs.MapShape.{IsKeyPosAt, map_shape}
-use Rattle.rkyv_collections.specs.MapFormat.{MapStands}
-use Rattle.rkyv_collections.specs.Lemmas.MapLaws.{HashNear}
-use Rattle.rkyv_collections.proofs.NewValues.{home, new_value_stands, own_place, own_walked, written_again}
+use Rattle.rkyv_collections.specs.MapSpec.{IsKeyPosAt, map_spec}
+use Rattle.rkyv_collections.specs.MapFormat.{MapRepresents}
+use Rattle.rkyv_collections.specs.Lemmas.MapLaws.{HashLocal}
+use Rattle.rkyv_collections.proofs.NewValues.{home, new_value_represents, own_place, own_walked, written_again}
 use Rattle.rkyv_collections.specs.ValueWrites.{KeepsMap, entry_at}
 
 map_of_found : (f g : ℕ → ℕ) → ((i : ℕ) → f i ≡ g i) → (o : Option ℕ) → option_map f o ≡ option_map g o
 map_of_found f g same None = refl
 map_of_found f g same (Some i) = ap Some (same i)
 
-module _ (k v : Shape) (kl : IsElement k) (vl : IsElement v) where
+module _ (k v : ElementSpec) (kl : IsElement k) (vl : IsElement v) where
   -- an unchanged entry has an unchanged key
-  key_of_entry : (b c : List ℕ) (q : ℕ) → Viewed (entry_shape k v) b q → SameValue (entry_shape k v) b c q → SameValue k b c q
+  key_of_entry : (b c : List ℕ) (q : ℕ) → Viewable (entry_spec k v) b q → SameValue (entry_spec k v) b c q → SameValue k b c q
   key_of_entry b c q view same =
-      let e = view.stands.1 in
-      let y = vl.between b (value_pos k v q) e.1 q view.stands.0 ((kl.between b q 0 q e.1 (omega arith) e.2).1) e.3 in
+      let e = view.valid.1 in
+      let y = vl.rest_in_range b (value_pos k v q) e.1 q view.valid.0 ((kl.rest_in_range b q 0 q e.1 (omega arith) e.2).1) e.3 in
       record {
         fixed = same_key k v kl vl b c q e.0 same.fixed;
         parts = λ l h.
-            let one : l ≡ e.1 = kl.one b q 0 q l e.1 h e.2 in
-            same_part b c 0 view.stands.0 0 l (omega arith) (omega (arith, one, y.0)) (omega arith) (same.parts view.stands.0 e);
+            let one : l ≡ e.1 = kl.rest_unique b q 0 q l e.1 h e.2 in
+            agree_on_part b c 0 view.valid.0 0 l (omega arith) (omega (arith, one, y.0)) (omega arith) (same.parts view.valid.0 e);
       }
 
   -- an unchanged key has the same hash
-  hash_same : (key_hash : List ℕ → ℕ → ℕ) → HashNear k key_hash → (b c : List ℕ) (q : ℕ) → Viewed k b q → SameValue k b c q → key_hash c q ≡ key_hash b q
-  hash_same key_hash near b c q view same =
-      sym (near b c q 0 q view.stands.0 (omega arith) view.stands.1 same.fixed (same.parts view.stands.0 view.stands.1))
+  hash_same : (key_hash : List ℕ → ℕ → ℕ) → HashLocal k key_hash → (b c : List ℕ) (q : ℕ) → Viewable k b q → SameValue k b c q → key_hash c q ≡ key_hash b q
+  hash_same key_hash local b c q view same =
+      sym (local b c q 0 q view.valid.0 (omega arith) view.valid.1 same.fixed (same.parts view.valid.0 view.valid.1))
 
-  module _ (w : Width) (key_hash : List ℕ → ℕ → ℕ) (near : HashNear k key_hash) (b c : List ℕ) (p i : ℕ) (view : Viewed (map_shape w k v) b p) (walked : IsWalked w b p i)
+  module _ (w : Width) (key_hash : List ℕ → ℕ → ℕ) (local : HashLocal k key_hash) (b c : List ℕ) (p i : ℕ) (view : Viewable (map_spec w k v) b p) (walked : IsWalked w b p i)
       (writes : WritesValue k v b c (entry_at w k v b p i)) where
-    abbrev S : Shape
-    S = entry_shape k v
+    abbrev S : ElementSpec
+    S = entry_spec k v
 
     abbrev law : IsElement S
     law = entry_element k v kl vl
@@ -64,17 +65,17 @@ module _ (k v : Shape) (kl : IsElement k) (vl : IsElement v) where
     kept : KeepsTable w S b c p i × SameValue k b c (item_at w S.size b p i)
     kept = value_kept w k v kl vl b p i view walked c writes.sealed writes.keeps
 
-    entry_viewed : (j : ℕ) → IsWalked w b p j → Viewed S b (item_at w S.size b p j)
-    entry_viewed j there = item_viewed w S law b p view j there
+    entry_viewable : (j : ℕ) → IsWalked w b p j → Viewable S b (item_at w S.size b p j)
+    entry_viewable j there = item_viewable w S law b p view j there
 
     key_same : (j : ℕ) → IsWalked w b p j → SameValue k b c (item_at w S.size b p j)
     key_same j there = elim (cases_eq j i) [
       | inl e ↦ subst (λ n. SameValue k b c (item_at w S.size b p n)) (sym e) kept.1
-      | inr ne ↦ key_of_entry b c (item_at w S.size b p j) (entry_viewed j there) (kept.0.others j there ne)
+      | inr ne ↦ key_of_entry b c (item_at w S.size b p j) (entry_viewable j there) (kept.0.others j there ne)
     ]
 
     hash_there : (j : ℕ) → IsWalked w b p j → key_hash c (item_at w S.size b p j) ≡ key_hash b (item_at w S.size b p j)
-    hash_there j there = hash_same key_hash near b c (item_at w S.size b p j) (viewed_key k v kl vl b (item_at w S.size b p j) (entry_viewed j there)) (key_same j there)
+    hash_there j there = hash_same key_hash local b c (item_at w S.size b p j) (viewable_key k v kl vl b (item_at w S.size b p j) (entry_viewable j there)) (key_same j there)
 
     pos_same : (j : ℕ) → item_at w S.size c p j ≡ item_at w S.size b p j
     pos_same = item_stays w S b c p i kept.0
@@ -89,7 +90,7 @@ module _ (k v : Shape) (kl : IsElement k) (vl : IsElement v) where
           (λ j. fits c (item_at w S.size b p j)) (λ j. fits b (item_at w S.size b p j))
           (λ j there.
           let full = walked_full (cap_at w b p) (table_controls w b p) j there in
-          rests b c (item_at w S.size b p j) (viewed_key k v kl vl b (item_at w S.size b p j) (entry_viewed j full)).stands (key_same j full))
+          rests b c (item_at w S.size b p j) (viewable_key k v kl vl b (item_at w S.size b p j) (entry_viewable j full)).valid (key_same j full))
     ]
 
     lookup_same : (hash : ℕ) (fits : List ℕ → ℕ → Bool) → hash < 2 ^ 64 → RestsOnKey k fits
@@ -106,8 +107,8 @@ module _ (k v : Shape) (kl : IsElement k) (vl : IsElement v) where
     pub map_kept : KeepsMap w k v key_hash b c p i
     map_kept = record {
       table = kept.0;
-      stands = viewed_kept (map_shape w k v) b c p writes.sealed.same_length kept.0.holds view;
-      places = pos_same;
+      valid = viewable_kept (map_spec w k v) b c p writes.sealed.same_length kept.0.holds view;
+      positions = pos_same;
       keys = key_same;
       hashes = hash_there;
       lookups = lookup_same;
@@ -115,49 +116,49 @@ module _ (k v : Shape) (kl : IsElement k) (vl : IsElement v) where
     }
 
 -- a comparison that depends only on the keys depends only on each key
-pub rests_on_each : {Q : Type 0} (k : Shape) (can_read : Q → Type 0) (fits : Q → List ℕ → ℕ → Bool) → RestsOnKeys k can_read fits → (q : Q) → can_read q → RestsOnKey k (fits q)
-rests_on_each k can_read fits rests q can b c p stands same = rests q b c p stands.0 can stands.1 same.fixed (same.parts stands.0 stands.1)
+pub rests_on_each : {Q : Type 0} (k : ElementSpec) (can_read : Q → Type 0) (fits : Q → List ℕ → ℕ → Bool) → RestsOnKeys k can_read fits → (q : Q) → can_read q → RestsOnKey k (fits q)
+rests_on_each k can_read fits rests q ready b c p represents same = rests q b c p represents.0 ready represents.1 same.fixed (same.parts represents.0 represents.1)
 
 -- the same for a key at `q` and its value at `pos`
-pub map_kept_at : (k v : Shape) (kl : IsElement k) (vl : IsElement v) (w : Width) (key_hash : List ℕ → ℕ → ℕ) → HashNear k key_hash → (b c : List ℕ) (p q pos : ℕ) → Viewed (map_shape w k v) b p
+pub map_kept_at : (k v : ElementSpec) (kl : IsElement k) (vl : IsElement v) (w : Width) (key_hash : List ℕ → ℕ → ℕ) → HashLocal k key_hash → (b c : List ℕ) (p q pos : ℕ) → Viewable (map_spec w k v) b p
     → (at : IsKeyPosAt w k v b p q) → pos ≡ value_pos k v q → Sealed b pos v.size c → Keeps v b c pos → KeepsMap w k v key_hash b c p at.0
-map_kept_at k v kl vl w key_hash near b c p q pos view at is sealed keeps =
+map_kept_at k v kl vl w key_hash local b c p q pos view at is sealed keeps =
     let there : pos ≡ value_pos k v (entry_at w k v b p at.0) = is ∙ ap (value_pos k v) at.2 in
-    map_kept k v kl vl w key_hash near b c p at.0 view at.1 (record { sealed = subst (λ n. Sealed b n v.size c) there sealed; keeps = subst (Keeps v b c) there keeps })
+    map_kept k v kl vl w key_hash local b c p at.0 view at.1 (record { sealed = subst (λ n. Sealed b n v.size c) there sealed; keeps = subst (Keeps v b c) there keeps })
 
-module _ (k v : Shape) (kl : IsElement k) (vl : IsElement v) (w : Width) (key_hash : List ℕ → ℕ → ℕ) (near : HashNear k key_hash) {A B : Type 0} (key : List ℕ → ℕ → A → Type 0) (value : List ℕ → ℕ → B → Type 0)
-    (kn : StandsNear k key) (vn : StandsNear v value) (b c : List ℕ) (p n : ℕ) (factor : ℕ × ℕ) (pairs : List (A × B)) (pair : A × B) (new : B) (view : Viewed (map_shape w k v) b p)
-    (st : MapStands w k v key value key_hash factor b p pairs) (at_n : slice_get pairs n ≡ Some pair) where
+module _ (k v : ElementSpec) (kl : IsElement k) (vl : IsElement v) (w : Width) (key_hash : List ℕ → ℕ → ℕ) (local : HashLocal k key_hash) {A B : Type 0} (key : List ℕ → ℕ → A → Type 0) (value : List ℕ → ℕ → B → Type 0)
+    (kn : RepresentsLocally k key) (vn : RepresentsLocally v value) (b c : List ℕ) (p n : ℕ) (factor : ℕ × ℕ) (pairs : List (A × B)) (pair : A × B) (new : B) (view : Viewable (map_spec w k v) b p)
+    (st : MapRepresents w k v key value key_hash factor b p pairs) (at_n : slice_get pairs n ≡ Some pair) where
   abbrev at : ℕ → ℕ
-  at = item_at w (entry_shape k v).size b p
+  at = item_at w (entry_spec k v).size b p
 
   abbrev place : ℕ
-  place = slice_index (home_positions w (entry_shape k v).size b p st.homes) n
+  place = slice_index (home_positions w (entry_spec k v).size b p st.homes) n
 
-  entry_there : (j : ℕ) → IsWalked w b p j → Viewed (entry_shape k v) b (at j)
-  entry_there j there = item_viewed w (entry_shape k v) (entry_element k v kl vl) b p view j there
+  entry_there : (j : ℕ) → IsWalked w b p j → Viewable (entry_spec k v) b (at j)
+  entry_there j there = item_viewable w (entry_spec k v) (entry_element k v kl vl) b p view j there
 
   -- the written pair has the new value, and each other pair is unchanged
-  pub written_value_stands : WritesValue k v b c place → value c (value_pos k v place) new → MapStands w k v key value key_hash factor c p (slice_set pairs n (pair.0, new))
-  written_value_stands writes stands =
+  pub written_value_represents : WritesValue k v b c place → value c (value_pos k v place) new → MapRepresents w k v key value key_hash factor c p (slice_set pairs n (pair.0, new))
+  written_value_represents writes represents =
       let i = home w k v key value key_hash b c p n factor pairs pair new st at_n n in
       let there = own_walked w k v key value key_hash b c p n factor pairs pair new st at_n in
       let is = own_place w k v key value key_hash b c p n factor pairs pair new st at_n in
-      let kept = map_kept k v kl vl w key_hash near b c p i view there (subst (WritesValue k v b c) is writes) in
-      let viewed = viewed_key k v kl vl b (at i) (entry_there i there) in
+      let kept = map_kept k v kl vl w key_hash local b c p i view there (subst (WritesValue k v b c) is writes) in
+      let viewable = viewable_key k v kl vl b (at i) (entry_there i there) in
       let same = kept.keys i there in
-      new_value_stands w k v key value key_hash b c p n factor pairs pair new st at_n kept.table.header kept.places kept.written
+      new_value_represents w k v key value key_hash b c p n factor pairs pair new st at_n kept.table.header kept.positions kept.written
       (λ before. (
-        kn pair.0 b c (at i) 0 (at i) viewed.stands.0 (omega arith) viewed.stands.1 same.fixed (same.parts viewed.stands.0 viewed.stands.1) before,
-        subst (λ z. value c (value_pos k v z) new) is stands,
+        kn pair.0 b c (at i) 0 (at i) viewable.valid.0 (omega arith) viewable.valid.1 same.fixed (same.parts viewable.valid.0 viewable.valid.1) before,
+        subst (λ z. value c (value_pos k v z) new) is represents,
       ))
       (λ j full ne x before.
       let entry = entry_there j full in
       let kept_entry = kept.table.others j full ne in
-      pair_near k v kl vl key value kn vn x b c (at j) 0 (at j) entry.stands.0 (omega arith) entry.stands.1 kept_entry.fixed (kept_entry.parts entry.stands.0 entry.stands.1) before)
+      pair_local k v kl vl key value kn vn x b c (at j) 0 (at j) entry.valid.0 (omega arith) entry.valid.1 kept_entry.fixed (kept_entry.parts entry.valid.0 entry.valid.1) before)
 
 -- the comparison of a valid value with another depends only on the bytes on which its validity
 -- depends
-pub value_rests : {V Q : Type 0} (k : Shape) (at : List ℕ → ℕ → V) → StandsNear k (IsValueAt at (λ v. v)) → (equal : V → V → Bool) (seen : Q → V) (asked : Q) → RestsOnKey k (value_fits at equal seen asked)
-value_rests k at near equal seen asked b c q stands same =
-    ap (equal (seen asked)) (near (at b q) b c q 0 q stands.0 (omega arith) stands.1 same.fixed (same.parts stands.0 stands.1) refl)
+pub value_rests : {V Q : Type 0} (k : ElementSpec) (at : List ℕ → ℕ → V) → RepresentsLocally k (IsValueAt at (λ v. v)) → (equal : V → V → Bool) (seen : Q → V) (asked : Q) → RestsOnKey k (value_fits at equal seen asked)
+value_rests k at local equal seen asked b c q represents same =
+    ap (equal (seen asked)) (local (at b q) b c q 0 q represents.0 (omega arith) represents.1 same.fixed (same.parts represents.0 represents.1) refl)

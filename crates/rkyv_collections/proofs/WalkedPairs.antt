@@ -8,19 +8,19 @@ use Rattle.std.proofs.lemmas.List.Sorted.{Contains-permutation, IsPermutation-co
 use Rattle.std.proofs.lemmas.Map.Keys.{IsDistinct-tail, apart_from_distinct}
 use Rattle.std.proofs.lemmas.Option.{slice_get-map, slice_get_within}
 use Rattle.std.specs.Option.{option_map}
-use Rattle.rkyv_base.specs.Empty.{unit_shape, unit_stands}
-use Rattle.rkyv_base.specs.Entry.{entry_shape}
-use Rattle.rkyv_base.specs.Pairs.{PairStands}
-use Rattle.rkyv_base.specs.Shape.{Shape}
+use Rattle.rkyv_base.specs.Empty.{unit_spec, unit_represents}
+use Rattle.rkyv_base.specs.Entry.{entry_spec}
+use Rattle.rkyv_base.specs.Pairs.{PairRepresents}
+use Rattle.rkyv_base.specs.ElementSpec.{ElementSpec}
 use Rattle.rkyv_table.specs.Controls.Placing.{walk}
 use Rattle.rkyv_table.specs.Table.Header.{cap_at}
-use Rattle.rkyv_table.specs.Table.Lent.{with_units}
+use Rattle.rkyv_table.specs.Table.ItemValues.{with_units}
 use Rattle.rkyv_table.specs.Table.Positions.{WrittenAt, home_positions, item_at, table_controls}
 use Rattle.rkyv_table.specs.Table.WalkLaws.{VisitsHomes}
 use Rattle.rkyv_table.proofs.WalkedHomes.{none_visits, walked_homes}
 use Rattle.rkyv_table.proofs.WrittenTables.{home_count, home_pos}
 use Rattle.rkyv_collections.specs.ListedWalks.{GivesEach, SetWalksGiveListed, WalksGiveListed, WalksVisitPairs, key_positions_at}
-use Rattle.rkyv_collections.specs.MapFormat.{MapStands}
+use Rattle.rkyv_collections.specs.MapFormat.{MapRepresents}
 
 -- ---- distinct numbers, and a list of the same length that has each of them
 
@@ -48,59 +48,59 @@ permuted (x ∷ xs) ys distinct long within =
 -- ---- two lists, position by position
 
 module _ {X : Type 0} (R : ℕ → X → Type 0) where
-  zip_from : (places : List ℕ) (xs : List X) → length places ≡ length xs → ((n : ℕ) (x : X) → slice_get xs n ≡ Some x → R (slice_index places n) x) → AllZip R places xs
+  zip_from : (positions : List ℕ) (xs : List X) → length positions ≡ length xs → ((n : ℕ) (x : X) → slice_get xs n ≡ Some x → R (slice_index positions n) x) → AllZip R positions xs
   zip_from [] [] long each = tt
   zip_from [] (x ∷ xs) long each = absurd (omega (arith, long))
-  zip_from (q ∷ places) [] long each = absurd (omega (arith, long))
-  zip_from (q ∷ places) (x ∷ xs) long each = (each 0 x refl, zip_from places xs (omega (arith, long)) (λ n. each (suc n)))
+  zip_from (q ∷ positions) [] long each = absurd (omega (arith, long))
+  zip_from (q ∷ positions) (x ∷ xs) long each = (each 0 x refl, zip_from positions xs (omega (arith, long)) (λ n. each (suc n)))
 
-  zip_at : (places : List ℕ) (xs : List X) (i d : ℕ) (e : X) → AllZip R places xs → i < length places → R (get_or places i d) (get_or xs i e)
+  zip_at : (positions : List ℕ) (xs : List X) (i d : ℕ) (e : X) → AllZip R positions xs → i < length positions → R (get_or positions i d) (get_or xs i e)
   zip_at [] xs i d e h below = absurd (omega (arith, below))
-  zip_at (q ∷ places) [] i d e h below = absurd h
-  zip_at (q ∷ places) (x ∷ xs) zero d e h below = h.0
-  zip_at (q ∷ places) (x ∷ xs) (suc i) d e h below = zip_at places xs i d e h.1 (omega (arith, below))
+  zip_at (q ∷ positions) [] i d e h below = absurd h
+  zip_at (q ∷ positions) (x ∷ xs) zero d e h below = h.0
+  zip_at (q ∷ positions) (x ∷ xs) (suc i) d e h below = zip_at positions xs i d e h.1 (omega (arith, below))
 
-  zip_set : (places : List ℕ) (xs : List X) (i q : ℕ) (x : X) → AllZip R places xs → R q x → AllZip R (slice_set places i q) (slice_set xs i x)
+  zip_set : (positions : List ℕ) (xs : List X) (i q : ℕ) (x : X) → AllZip R positions xs → R q x → AllZip R (slice_set positions i q) (slice_set xs i x)
   zip_set [] [] i q x h r = tt
   zip_set [] (y ∷ xs) i q x h r = absurd h
-  zip_set (p ∷ places) [] i q x h r = absurd h
-  zip_set (p ∷ places) (y ∷ xs) zero q x h r = (r, h.1)
-  zip_set (p ∷ places) (y ∷ xs) (suc i) q x h r = (h.0, zip_set places xs i q x h.1 r)
+  zip_set (p ∷ positions) [] i q x h r = absurd h
+  zip_set (p ∷ positions) (y ∷ xs) zero q x h r = (r, h.1)
+  zip_set (p ∷ positions) (y ∷ xs) (suc i) q x h r = (h.0, zip_set positions xs i q x h.1 r)
 
-  zip_length : (places : List ℕ) (xs : List X) → AllZip R places xs → length xs ≡ length places
+  zip_length : (positions : List ℕ) (xs : List X) → AllZip R positions xs → length xs ≡ length positions
   zip_length [] [] h = refl
   zip_length [] (x ∷ xs) h = absurd h
-  zip_length (q ∷ places) [] h = absurd h
-  zip_length (q ∷ places) (x ∷ xs) h = ap suc (zip_length places xs h.1)
+  zip_length (q ∷ positions) [] h = absurd h
+  zip_length (q ∷ positions) (x ∷ xs) h = ap suc (zip_length positions xs h.1)
 
-  zip_swap : (places : List ℕ) (xs : List X) (i j : ℕ) → i < length places → j < length places → AllZip R places xs → AllZip R (swap places i j) (swap xs i j)
+  zip_swap : (positions : List ℕ) (xs : List X) (i j : ℕ) → i < length positions → j < length positions → AllZip R positions xs → AllZip R (swap positions i j) (swap xs i j)
   zip_swap [] xs i j hi hj h = absurd (omega (arith, hi))
-  zip_swap (q ∷ places) [] i j hi hj h = absurd h
-  zip_swap (q ∷ places) (x ∷ xs) i j hi hj h =
-      let qs = q ∷ places in
+  zip_swap (q ∷ positions) [] i j hi hj h = absurd h
+  zip_swap (q ∷ positions) (x ∷ xs) i j hi hj h =
+      let qs = q ∷ positions in
       let ys = x ∷ xs in
       zip_set (slice_set qs i (get_or qs j q)) (slice_set ys i (get_or ys j x)) j (get_or qs i q) (get_or ys i x)
       (zip_set qs ys i (get_or qs j q) (get_or ys j x) h (zip_at qs ys j q x h hj)) (zip_at qs ys i q x h hi)
 
   -- the items at some positions are at the same positions in another order
-  pub given_along : (places others : List ℕ) (xs : List X) → IsPermutation places others → AllZip R places xs → GivesEach R others xs
-  given_along places others xs moved h =
-      IsPermutation-keeps places (λ qs. GivesEach R qs xs) (record { given = xs; each = IsPermutation-refl xs; stand = h })
+  pub given_along : (positions others : List ℕ) (xs : List X) → IsPermutation positions others → AllZip R positions xs → GivesEach R others xs
+  given_along positions others xs moved h =
+      IsPermutation-keeps positions (λ qs. GivesEach R qs xs) (record { given = xs; each = IsPermutation-refl xs; all_valid = h })
       (λ qs i j hi hj so_far.
       let ys = so_far.given in
-      let long = zip_length qs ys so_far.stand in
+      let long = zip_length qs ys so_far.all_valid in
       record {
         given = swap ys i j;
         each = IsPermutation-trans xs ys (swap ys i j) so_far.each (IsPermutation-swap ys (swap ys i j) i j (omega (arith, hi, long)) (omega (arith, hj, long)) refl);
-        stand = zip_swap qs ys i j hi hj so_far.stand;
+        all_valid = zip_swap qs ys i j hi hj so_far.all_valid;
       })
       others moved
 
 -- If `read` is a function of the item at each position, a walk reads that function of the items,
 -- in some order.
 pub given_seen : {X Y : Type 0} (R : ℕ → X → Type 0) (read : ℕ → Y) (told : X → Y) → ((q : ℕ) (x : X) → R q x → read q ≡ told x)
-    → (places : List ℕ) (items : List X) → GivesEach R places items → IsPermutation (map told items) (map read places)
-given_seen {X} R read told same places items gives = subst (IsPermutation (map told items)) (sym (zip_seen places gives.given gives.stand)) (IsPermutation-map told items gives.given gives.each)
+    → (positions : List ℕ) (items : List X) → GivesEach R positions items → IsPermutation (map told items) (map read positions)
+given_seen {X} R read told same positions items gives = subst (IsPermutation (map told items)) (sym (zip_seen positions gives.given gives.all_valid)) (IsPermutation-map told items gives.given gives.each)
   where
     zip_seen : (qs : List ℕ) (xs : List X) → AllZip R qs xs → map read qs ≡ map told xs
     zip_seen [] [] h = refl
@@ -110,63 +110,63 @@ given_seen {X} R read told same places items gives = subst (IsPermutation (map t
 
 -- ---- the walk
 
-module _ {A B : Type 0} (w : Width) (k v : Shape) (key : List ℕ → ℕ → A → Type 0) (value : List ℕ → ℕ → B → Type 0) (key_hash : List ℕ → ℕ → ℕ) where
-  module _ (factor : ℕ × ℕ) (b : List ℕ) (p : ℕ) (pairs : List (A × B)) (stands : MapStands w k v key value key_hash factor b p pairs) where
-    places : List ℕ
-    places = home_positions w (entry_shape k v).size b p stands.homes
+module _ {A B : Type 0} (w : Width) (k v : ElementSpec) (key : List ℕ → ℕ → A → Type 0) (value : List ℕ → ℕ → B → Type 0) (key_hash : List ℕ → ℕ → ℕ) where
+  module _ (factor : ℕ × ℕ) (b : List ℕ) (p : ℕ) (pairs : List (A × B)) (represents : MapRepresents w k v key value key_hash factor b p pairs) where
+    positions : List ℕ
+    positions = home_positions w (entry_spec k v).size b p represents.homes
 
     hashes : List ℕ
-    hashes = map (key_hash b) places
+    hashes = map (key_hash b) positions
 
-    written : WrittenAt w b p hashes stands.homes
-    unfolding hashes places
-    written = stands.written
+    written : WrittenAt w b p hashes represents.homes
+    unfolding hashes positions
+    written = represents.written
 
-    pair_count : length stands.homes ≡ length pairs
-    pair_count = home_count w b p hashes stands.homes written ∙ sym written.count ∙ stands.len
+    pair_count : length represents.homes ≡ length pairs
+    pair_count = home_count w b p hashes represents.homes written ∙ sym written.count ∙ represents.len
 
-    walk_visits : VisitsHomes (cap_at w b p) stands.homes (table_controls w b p)
+    walk_visits : VisitsHomes (cap_at w b p) represents.homes (table_controls w b p)
     walk_visits =
         let controls = table_controls w b p in
         elim written.placed [
           | inl none ↦
               let n : length pairs ≡ 0 = sym pair_count ∙ ap length none.1 in
-              let cap : cap_at w b p ≡ 0 = stands.cap ∙ rw n refl in
-              subst (λ n. VisitsHomes n stands.homes controls) (sym cap) (subst (λ (xs : List ℕ). VisitsHomes 0 xs controls) (sym none.1) (none_visits controls))
-          | inr some ↦ walked_homes (cap_at w b p) hashes stands.homes controls some.0 written.fit some.1
+              let cap : cap_at w b p ≡ 0 = represents.cap ∙ rw n refl in
+              subst (λ n. VisitsHomes n represents.homes controls) (sym cap) (subst (λ (xs : List ℕ). VisitsHomes 0 xs controls) (sym none.1) (none_visits controls))
+          | inr some ↦ walked_homes (cap_at w b p) hashes represents.homes controls some.0 written.fit some.1
         ]
 
     -- the positions of the walk are those of the home buckets, in another order
-    walk_moved : IsPermutation places (key_positions_at w k v b p)
-    unfolding places
+    walk_moved : IsPermutation positions (key_positions_at w k v b p)
+    unfolding positions
     walk_moved =
         let visits = walk_visits in
         let walked = walk (table_controls w b p) (cap_at w b p) in
-        IsPermutation-map (item_at w (entry_shape k v).size b p) stands.homes walked
-        (permuted stands.homes walked visits.once visits.count (λ bucket. (visits.members bucket).1))
+        IsPermutation-map (item_at w (entry_spec k v).size b p) represents.homes walked
+        (permuted represents.homes walked visits.once visits.count (λ bucket. (visits.members bucket).1))
 
     -- if the items of `xs` are at the positions of the pairs, the positions of the walk
     -- have each of them once
-    pub given_walked : {X : Type 0} (R : ℕ → X → Type 0) (xs : List X) → length xs ≡ length pairs → ((n : ℕ) (x : X) → slice_get xs n ≡ Some x → R (slice_index (home_positions w (entry_shape k v).size b p stands.homes) n) x)
+    pub given_walked : {X : Type 0} (R : ℕ → X → Type 0) (xs : List X) → length xs ≡ length pairs → ((n : ℕ) (x : X) → slice_get xs n ≡ Some x → R (slice_index (home_positions w (entry_spec k v).size b p represents.homes) n) x)
         → GivesEach R (key_positions_at w k v b p) xs
-    unfolding places
+    unfolding positions
     given_walked R xs long each =
-        let count : length places ≡ length xs = length-map stands.homes (item_at w (entry_shape k v).size b p) ∙ pair_count ∙ sym long in
-        given_along R places (key_positions_at w k v b p) xs walk_moved (zip_from R places xs count each)
+        let count : length positions ≡ length xs = length-map represents.homes (item_at w (entry_spec k v).size b p) ∙ pair_count ∙ sym long in
+        given_along R positions (key_positions_at w k v b p) xs walk_moved (zip_from R positions xs count each)
 
-    pair_at_home : (n : ℕ) (pair : A × B) → slice_get pairs n ≡ Some pair → PairStands k v key value b (item_at w (entry_shape k v).size b p (slice_index stands.homes n)) pair
+    pair_at_home : (n : ℕ) (pair : A × B) → slice_get pairs n ≡ Some pair → PairRepresents k v key value b (item_at w (entry_spec k v).size b p (slice_index represents.homes n)) pair
     pair_at_home n pair at =
-        let below : n < length stands.homes = omega (arith, slice_get_within pairs n pair at, pair_count) in
-        subst (λ q. PairStands k v key value b q pair) (home_pos w (entry_shape k v).size b p stands.homes n below) (stands.at n pair at)
+        let below : n < length represents.homes = omega (arith, slice_get_within pairs n pair at, pair_count) in
+        subst (λ q. PairRepresents k v key value b q pair) (home_pos w (entry_spec k v).size b p represents.homes n below) (represents.at n pair at)
 
   pub walks_visit_pairs : WalksVisitPairs w k v key value key_hash
-  walks_visit_pairs factor b p pairs stands = (walk_visits factor b p pairs stands, pair_at_home factor b p pairs stands)
+  walks_visit_pairs factor b p pairs represents = (walk_visits factor b p pairs represents, pair_at_home factor b p pairs represents)
 
   pub walks_give_listed : WalksGiveListed w k v key value key_hash
-  walks_give_listed factor b p pairs stands = given_walked factor b p pairs stands (PairStands k v key value b) pairs refl stands.at
+  walks_give_listed factor b p pairs represents = given_walked factor b p pairs represents (PairRepresents k v key value b) pairs refl represents.at
 
-pub set_walks_give_listed : {A : Type 0} (w : Width) (k : Shape) (key : List ℕ → ℕ → A → Type 0) (key_hash : List ℕ → ℕ → ℕ) → SetWalksGiveListed w k key key_hash
-set_walks_give_listed {A} w k key key_hash factor b p keys stands =
+pub set_walks_give_listed : {A : Type 0} (w : Width) (k : ElementSpec) (key : List ℕ → ℕ → A → Type 0) (key_hash : List ℕ → ℕ → ℕ) → SetWalksGiveListed w k key key_hash
+set_walks_give_listed {A} w k key key_hash factor b p keys represents =
     let unit_behind : A → A × Unit {0} = λ x. (x, tt) in
-    given_walked w k unit_shape key unit_stands key_hash factor b p (with_units keys) stands (key b) keys (sym (length-map keys unit_behind))
-    (λ n x at. (stands.at n (x, tt) (slice_get-map unit_behind keys n ∙ ap (option_map unit_behind) at)).0)
+    given_walked w k unit_spec key unit_represents key_hash factor b p (with_units keys) represents (key b) keys (sym (length-map keys unit_behind))
+    (λ n x at. (represents.at n (x, tt) (slice_get-map unit_behind keys n ∙ ap (option_map unit_behind) at)).0)

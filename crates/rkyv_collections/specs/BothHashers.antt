@@ -4,29 +4,29 @@ use Rattle.std.specs.Int.{Width}
 use Rattle.rkyv_scan.specs.Groups.{generic_kind}
 use Rattle.rkyv_scan.specs.Hash.{HasherCall, SizeWords, fx_hash}
 use Rattle.rkyv_scan.specs.Laws.{IsFixed}
-use Rattle.rkyv_base.specs.Entry.{entry_shape}
-use Rattle.rkyv_base.specs.Shape.{Shape, Viewed}
+use Rattle.rkyv_base.specs.Entry.{entry_spec}
+use Rattle.rkyv_base.specs.ElementSpec.{ElementSpec, Viewable}
 use Rattle.rkyv_keys.specs.declared.hash.KeyHash.{Ghosts as KeyHashes}
 use Rattle.rkyv_table.specs.Table.Positions.{pos_found}
 use Rattle.rkyv_collections.specs.Map.{MapWrittenAt}
-use Rattle.rkyv_collections.specs.MapShape.{map_shape}
+use Rattle.rkyv_collections.specs.MapSpec.{map_spec}
 
 -- the hash of the key at `q`, under a rule for `usize` and `isize`
 abbrev pub fx_hash_at : SizeWords → (List ℕ → ℕ → List HasherCall) → List ℕ → ℕ → ℕ
 fx_hash_at sizes key_calls b q = fx_hash sizes (key_calls b q)
 
-module _ (w : Width) (k v : Shape) where
+module _ (w : Width) (k v : ElementSpec) where
   -- the position that a lookup under the hash of `calls` finds
   abbrev pub fx_found : SizeWords → List HasherCall → List ℕ → ℕ → (ℕ → Bool) → Option ℕ
   fx_found sizes calls b p accept =
-      pos_found generic_kind w (entry_shape k v).size b p (fx_hash sizes calls) accept
+      pos_found generic_kind w (entry_spec k v).size b p (fx_hash sizes calls) accept
 
   -- a map that was written under one rule was written under each other rule
   abbrev pub WrittenAlike : (List ℕ → ℕ → List HasherCall) → Type 0
   WrittenAlike key_calls = (one other : SizeWords) (b : List ℕ) (p : ℕ) (homes : List ℕ)
-      → Viewed (map_shape w k v) b p
-      → MapWrittenAt w (entry_shape k v) (fx_hash_at one key_calls) b p homes
-      → MapWrittenAt w (entry_shape k v) (fx_hash_at other key_calls) b p homes
+      → Viewable (map_spec w k v) b p
+      → MapWrittenAt w (entry_spec k v) (fx_hash_at one key_calls) b p homes
+      → MapWrittenAt w (entry_spec k v) (fx_hash_at other key_calls) b p homes
 
   -- in any map, a lookup by calls without `usize` and `isize` finds the same key under both rules
   abbrev pub ComparedAlike : Type 0
@@ -39,8 +39,8 @@ module _ (w : Width) (k v : Shape) where
       → (Q → List ℕ → ℕ → Bool) → Type 0
   QueriedAlike {Q} key_calls queries fits =
       (one other : SizeWords) (b : List ℕ) (p : ℕ) (homes : List ℕ)
-      → Viewed (map_shape w k v) b p
-      → MapWrittenAt w (entry_shape k v) (fx_hash_at one key_calls) b p homes
+      → Viewable (map_spec w k v) b p
+      → MapWrittenAt w (entry_spec k v) (fx_hash_at one key_calls) b p homes
       → (query : Q) → queries.can_read query
       → fx_found one (queries.calls query) b p (fits query b)
       ≡ fx_found other (queries.calls query) b p (fits query b)

@@ -1,5 +1,5 @@
 -- The equality of two maps.
-use Rattle.rkyv_base.specs.declared.element.Shaped.{Ghosts as Shapes}
+use Rattle.rkyv_base.specs.declared.element.HasSpec.{Ghosts as Specs}
 use Rattle.rkyv_base.specs.declared.width.Word.{Ghosts as Words}
 use Rattle.std.specs.Prelude.{◌≡◌, ℕ, ◌+◌, ◌<◌, ◌↔◌, List, Bool, true, false, ◌&&◌, ◌==◌, length}
 use Rattle.std.specs.Prelude.{slice_index}
@@ -7,8 +7,8 @@ use Rattle.std.specs.Int.{Width}
 use Rattle.std.specs.List.{list_all}
 use Rattle.std.specs.Option.{option_map, unwrap_or}
 use Rattle.rkyv_scan.specs.Groups.{generic_kind}
-use Rattle.rkyv_base.specs.Entry.{entry_shape, value_offset}
-use Rattle.rkyv_base.specs.Shape.{Shape, Viewed}
+use Rattle.rkyv_base.specs.Entry.{entry_spec, value_offset}
+use Rattle.rkyv_base.specs.ElementSpec.{ElementSpec, Viewable}
 use Rattle.rkyv_base.specs.View.{bytes_of, pos_of}
 use Rattle.rkyv_base.specs.declared.view.View.{View}
 use Rattle.rkyv_keys.specs.Equality.{Comparison}
@@ -17,30 +17,30 @@ use Rattle.rkyv_table.specs.Table.Header.{len_at}
 use Rattle.rkyv_table.specs.Table.Positions.{item_at, item_positions, pos_found}
 use Rattle.rkyv_collections.specs.Map.{MapWrittenAt, map_bytes, map_pos}
 use Rattle.rkyv_collections.specs.declared.map.ArchivedHashMap.{ArchivedHashMap}
-use Rattle.rkyv_collections.specs.MapShape.{map_shape}
+use Rattle.rkyv_collections.specs.MapSpec.{map_spec}
 
 -- the position of the pair with the number `i`, in insertion order
-abbrev pub pair_at : Width → Shape → Shape → List ℕ → ℕ → List ℕ → ℕ → ℕ
-pair_at w k v b p homes i = item_at w (entry_shape k v).size b p (slice_index homes i)
+abbrev pub pair_at : Width → ElementSpec → ElementSpec → List ℕ → ℕ → List ℕ → ℕ → ℕ
+pair_at w k v b p homes i = item_at w (entry_spec k v).size b p (slice_index homes i)
 
-module _ (w : Width) (k v : Shape) (key_hash : List ℕ → ℕ
+module _ (w : Width) (k v : ElementSpec) (key_hash : List ℕ → ℕ
     → ℕ) (same_key same_value : Comparison) where
   -- a lookup of the key at `q` in `b` finds the same value in the map at `r` in `c`
   abbrev pub pair_matches : List ℕ → ℕ → List ℕ → ℕ → Bool
   pair_matches b q c r =
       unwrap_or (option_map (λ at. same_value b (q + value_offset k v) c (at + value_offset k v))
-      (pos_found generic_kind w (entry_shape k v).size c r (key_hash b q) (same_key b q c)))
+      (pos_found generic_kind w (entry_spec k v).size c r (key_hash b q) (same_key b q c)))
       false
 
   -- the maps have the same length, and each pair of the first is matched in the second
   abbrev pub map_equal : Comparison
   map_equal b p c r = (len_at w b p == len_at w c r)
-      && list_all (λ q. pair_matches b q c r) (item_positions w (entry_shape k v).size b p)
+      && list_all (λ q. pair_matches b q c r) (item_positions w (entry_spec k v).size b p)
 
   -- a valid map, written with the home buckets `homes`, of distinct keys
   pub record IsWrittenApart (b : List ℕ) (p : ℕ) (homes : List ℕ) : Type 0 where
-    pub stands : Viewed (map_shape w k v) b p
-    pub written : MapWrittenAt w (entry_shape k v) key_hash b p homes
+    pub valid : Viewable (map_spec w k v) b p
+    pub written : MapWrittenAt w (entry_spec k v) key_hash b p homes
     pub apart : (i j : ℕ) → i < length homes → j < length homes
         → same_key b (pair_at w k v b p homes i) b (pair_at w k v b p homes j) ≡ true → i ≡ j
 
@@ -58,8 +58,8 @@ module _ (w : Width) (k v : Shape) (key_hash : List ℕ → ℕ
       → (map_equal b p c r ≡ true) ↔ (EachIsIn b p homes c r others × EachIsIn c r others b p homes)
 
 -- a lookup of the key in the map finds the value behind the key
-abbrev pub finds_same : {K V H W : Type 0} {ks : Shapes K} {vs : Shapes V} {wt : Words W}
+abbrev pub finds_same : {K V H W : Type 0} {ks : Specs K} {vs : Specs V} {wt : Words W}
     → ArchivedHashMap K V H W ks vs wt → (List ℕ → ℕ → ℕ) → Comparison → Comparison → View K → Bool
 finds_same {ks = ks} {vs = vs} {wt = wt} m key_hash same_key same_value key =
-    pair_matches wt.word ks.shape vs.shape key_hash same_key same_value (bytes_of key) (pos_of key)
+    pair_matches wt.word ks.spec vs.spec key_hash same_key same_value (bytes_of key) (pos_of key)
     (map_bytes m) (map_pos m)

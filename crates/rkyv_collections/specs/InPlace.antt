@@ -4,18 +4,19 @@ use Rattle.std.specs.Prelude.{Some, cond, false, length, true}
 use Rattle.std.specs.Borrow.{MutBor}
 use Rattle.std.specs.Int.{Width}
 use Rattle.std.specs.Option.{is_some}
-use Rattle.rkyv_base.specs.Scalar.{Encoding, ScalarStands}
+use Rattle.rkyv_base.specs.Scalar.{Encoding, ScalarRepresents}
 use Rattle.rkyv_base.specs.Sealing.{with_value}
-use Rattle.rkyv_base.specs.Shape.{Shape}
+use Rattle.rkyv_base.specs.ElementSpec.{ElementSpec}
 use Rattle.rkyv_keys.specs.Asked.{Asked}
 use Rattle.rkyv_table.specs.Table.SealedItems.{WrittenBy}
 use Rattle.rkyv_collections.specs.ListedLookups.{first_pair}
 use Rattle.rkyv_collections.specs.MapAt.{AskedValue, MapAt, TellsValueAt}
-use Rattle.rkyv_collections.specs.MapFormat.{MapStands}
+use Rattle.rkyv_collections.specs.MapFormat.{MapRepresents}
 use Rattle.rkyv_collections.specs.ValueWrites.{KeepsMap}
 
 -- the writer can be called with the archive and each position at which a value fits
-abbrev pub MayWriteFound : {F : Type 0} → Shape → (F → MutBor (List ℕ) → ℕ → Type 0) → List ℕ → F
+abbrev pub MayWriteFound : {F : Type 0} → ElementSpec → (F → MutBor (List ℕ) → ℕ → Type 0) → List ℕ
+    → F
     → Type 0
 MayWriteFound v pre archive write =
     (b : MutBor (List ℕ)) (q : ℕ) → b.now ≡ archive → q + v.size ≤ length b.now → pre write b q
@@ -33,7 +34,7 @@ with_first asks value [] = []
 with_first asks value (pair ∷ rest) =
     cond (asks pair.0) ((pair.0, value) ∷ rest) (pair ∷ with_first asks value rest)
 
-module _ {N : Type 0} (w : Width) (k v : Shape) (e : Encoding N) where
+module _ {N : Type 0} (w : Width) (k v : ElementSpec) (e : Encoding N) where
   -- No value is found, and the archive is unchanged. Or the value at the position is the new one,
   -- all other bytes are unchanged, and the map is kept
   abbrev pub SetsFound : (List ℕ → ℕ → ℕ) → List ℕ → ℕ → N → Bool → List ℕ → Option ℕ → Type 0
@@ -52,7 +53,8 @@ SetsValue m a e value result c = TellsValueAt m a
 abbrev pub SetsFirst : {A N : Type 0} → MapAt → AskedValue A → Encoding N → N → Bool → List ℕ
     → Type 0
 SetsFirst {A} {N} m a e value result c = (factor : ℕ × ℕ) (pairs : List (A × N))
-    → MapStands m.word m.key m.value a.stands (ScalarStands e) a.key_hash factor m.bytes m.pos pairs
+    → MapRepresents m.word m.key m.value a.represents
+    (ScalarRepresents e) a.key_hash factor m.bytes m.pos pairs
     → (result ≡ is_some (first_pair a.asks pairs))
-    × MapStands m.word m.key m.value a.stands (ScalarStands e) a.key_hash factor c m.pos
+    × MapRepresents m.word m.key m.value a.represents (ScalarRepresents e) a.key_hash factor c m.pos
     (with_first a.asks value pairs)

@@ -2,7 +2,8 @@
 pub mod MapLaws
 pub mod MapSound
 pub mod SetSound
-pub mod EntriesTold
+pub mod EntriesFound
 pub mod StdMapLaws
 pub mod StdEqualLaws
 pub mod StdAlone
+pub mod StdSet

@@ -1,12 +1,12 @@
 pub mod Natives
 pub mod Map
-pub mod MapShape
+pub mod MapSpec
 pub mod Equality
 pub mod Misplaced
 pub mod MapAt
 pub mod Lookups
 pub mod MapFormat
-pub mod Handing
+pub mod HashedPairs
 pub mod Writing
 pub mod Lemmas
 pub mod SetFormat

@@ -3,50 +3,50 @@ use Rattle.std.specs.Prelude.{◌≡◌, ℕ, List, Some, slice_get, slice_index
 use Rattle.std.specs.Int.{Width}
 use Rattle.std.specs.List.{AllZip}
 use Rattle.std.specs.List.Sorted.{IsPermutation}
-use Rattle.rkyv_base.specs.Empty.{unit_shape}
-use Rattle.rkyv_base.specs.Entry.{entry_shape}
-use Rattle.rkyv_base.specs.Pairs.{PairStands}
-use Rattle.rkyv_base.specs.Shape.{Shape}
+use Rattle.rkyv_base.specs.Empty.{unit_spec}
+use Rattle.rkyv_base.specs.Entry.{entry_spec}
+use Rattle.rkyv_base.specs.Pairs.{PairRepresents}
+use Rattle.rkyv_base.specs.ElementSpec.{ElementSpec}
 use Rattle.rkyv_table.specs.Table.Header.{cap_at}
 use Rattle.rkyv_table.specs.Table.Positions.{item_at, item_positions, table_controls}
 use Rattle.rkyv_table.specs.Table.WalkLaws.{VisitsHomes}
-use Rattle.rkyv_collections.specs.MapFormat.{MapStands}
-use Rattle.rkyv_collections.specs.SetFormat.{SetStands}
+use Rattle.rkyv_collections.specs.MapFormat.{MapRepresents}
+use Rattle.rkyv_collections.specs.SetFormat.{SetRepresents}
 
 -- the positions of the keys of the map at `p`, in bucket order, with which its walks begin
-abbrev pub key_positions_at : Width → Shape → Shape → List ℕ → ℕ → List ℕ
-key_positions_at w k v b p = item_positions w (entry_shape k v).size b p
+abbrev pub key_positions_at : Width → ElementSpec → ElementSpec → List ℕ → ℕ → List ℕ
+key_positions_at w k v b p = item_positions w (entry_spec k v).size b p
 
 -- The positions have the items of the list, each once, and no others.
 -- `given` is the list in another order: its items are at the positions in turn
-pub record GivesEach {X : Type 0} (Stands : ℕ → X → Type 0) (places : List ℕ)
+pub record GivesEach {X : Type 0} (Related : ℕ → X → Type 0) (positions : List ℕ)
     (items : List X) : Type 0 where
   pub given : List X
   pub each : IsPermutation items given
-  pub stand : AllZip Stands places given
+  pub all_valid : AllZip Related positions given
 
-module _ {A B : Type 0} (w : Width) (k v : Shape) (key : List ℕ → ℕ → A → Type 0)
+module _ {A B : Type 0} (w : Width) (k v : ElementSpec) (key : List ℕ → ℕ → A → Type 0)
     (value : List ℕ → ℕ → B → Type 0) (key_hash : List ℕ → ℕ → ℕ) where
   -- In a map that represents a list, a walk visits the home bucket of each pair once,
   -- in ascending order, and no other bucket. The n-th home bucket has the n-th pair
   abbrev pub WalksVisitPairs : Type 0
   WalksVisitPairs = (factor : ℕ × ℕ) (b : List ℕ) (p : ℕ) (pairs : List (A × B))
-      → (stands : MapStands w k v key value key_hash factor b p pairs)
-      → VisitsHomes (cap_at w b p) stands.homes (table_controls w b p)
-      × ((n : ℕ) (pair : A × B) → slice_get pairs n ≡ Some pair → PairStands k v key value b
-      (item_at w (entry_shape k v).size b p (slice_index stands.homes n)) pair)
+      → (represents : MapRepresents w k v key value key_hash factor b p pairs)
+      → VisitsHomes (cap_at w b p) represents.homes (table_controls w b p)
+      × ((n : ℕ) (pair : A × B) → slice_get pairs n ≡ Some pair → PairRepresents k v key value b
+      (item_at w (entry_spec k v).size b p (slice_index represents.homes n)) pair)
 
   -- in a map that represents a list of pairs, the positions of a walk have each pair once,
   -- and no others
   abbrev pub WalksGiveListed : Type 0
   WalksGiveListed = (factor : ℕ × ℕ) (b : List ℕ) (p : ℕ) (pairs : List (A × B))
-      → MapStands w k v key value key_hash factor b p pairs
-      → GivesEach (PairStands k v key value b) (key_positions_at w k v b p) pairs
+      → MapRepresents w k v key value key_hash factor b p pairs
+      → GivesEach (PairRepresents k v key value b) (key_positions_at w k v b p) pairs
 
 -- in a set that represents a list of keys, the positions of a walk have each key once,
 -- and no others
-abbrev pub SetWalksGiveListed : {A : Type 0} → Width → Shape → (List ℕ → ℕ → A → Type 0)
+abbrev pub SetWalksGiveListed : {A : Type 0} → Width → ElementSpec → (List ℕ → ℕ → A → Type 0)
     → (List ℕ → ℕ → ℕ) → Type 0
 SetWalksGiveListed {A} w k key key_hash = (factor : ℕ × ℕ) (b : List ℕ) (p : ℕ) (keys : List A)
-    → SetStands w k key key_hash factor b p keys
-    → GivesEach (key b) (key_positions_at w k unit_shape b p) keys
+    → SetRepresents w k key key_hash factor b p keys
+    → GivesEach (key b) (key_positions_at w k unit_spec b p) keys

@@ -1,10 +1,10 @@
 -- The clauses of lookups on their results.
-use Rattle.rkyv_base.specs.declared.element.Shaped.{Ghosts as Shapes}
+use Rattle.rkyv_base.specs.declared.element.HasSpec.{Ghosts as Specs}
 use Rattle.rkyv_base.specs.declared.width.Word.{Ghosts as Words}
 use Rattle.std.specs.Prelude.{◌≡◌, ℕ, ◌+◌, Bool, IfSome, List, MatchOption, None, Option, Some}
 use Rattle.rkyv_base.specs.Entry.{value_offset}
-use Rattle.rkyv_base.specs.Shape.{Shape}
-use Rattle.rkyv_base.specs.View.{IsAt, IsView, archive_of, pos_of}
+use Rattle.rkyv_base.specs.ElementSpec.{ElementSpec}
+use Rattle.rkyv_base.specs.View.{IsAt, IsValidView, archive_of, pos_of}
 use Rattle.rkyv_base.specs.declared.entry.Entry.{Entry}
 use Rattle.rkyv_base.specs.declared.view.View.{View}
 use Rattle.rkyv_keys.specs.Asked.{Asked}
@@ -20,15 +20,15 @@ pub record Part (M X : Type 0) : Type 1 where
   pub In : M → X → Type 0
   pub At : Option X → Option ℕ → Type 0
 
-module _ {K V H W : Type 0} {ks : Shapes K} {vs : Shapes V} {wt : Words W} where
+module _ {K V H W : Type 0} {ks : Specs K} {vs : Specs V} {wt : Words W} where
   -- the property applies to the position that a lookup finds: in any map, in a written map,
   -- and if no key is misplaced
-  pub record TellsKey (m : ArchivedHashMap K V H W ks vs wt) (a : Asked) (Told : Option ℕ
+  pub record TellsKey (m : ArchivedHashMap K V H W ks vs wt) (a : Asked) (P : Option ℕ
       → Type 0) :
       Type 0 where
-    pub answer : FindsKey m a.hash (a.fits (map_bytes m)) Told
-    pub first : FindsFirstKey m a.key_hash (a.fits (map_bytes m)) Told
-    pub complete : FindsOneKey m a.key_hash a.same (a.fits (map_bytes m)) Told
+    pub answer : FindsKey m a.hash (a.fits (map_bytes m)) P
+    pub first : FindsFirstKey m a.key_hash (a.fits (map_bytes m)) P
+    pub complete : FindsOneKey m a.key_hash a.same (a.fits (map_bytes m)) P
 
   -- the entry of the pair
   abbrev pub entry_part : Part (ArchivedHashMap K V H W ks vs wt) (View (Entry K V))
@@ -44,7 +44,7 @@ module _ {K V H W : Type 0} {ks : Shapes K} {vs : Shapes V} {wt : Words W} where
 
   -- the value
   abbrev pub value_part : Part (ArchivedHashMap K V H W ks vs wt) (View V)
-  value_part = record { In = IsValueIn; At = IsValueAt ks.shape vs.shape }
+  value_part = record { In = IsValueIn; At = IsValueAt ks.spec vs.spec }
 
   module _ {X : Type 0} (part : Part (ArchivedHashMap K V H W ks vs wt) X)
       (m : ArchivedHashMap K V H W ks vs wt) where
@@ -62,16 +62,16 @@ module _ {K V H W : Type 0} {ks : Shapes K} {vs : Shapes V} {wt : Words W} where
       pub answer : FindsBy m post hash (part.At result)
       pub first : FindsFirstBy m post hash key_hash (part.At result)
 
-module _ {K V : Type 0} (k v : Shape) where
+module _ {K V : Type 0} (k v : ElementSpec) where
   -- the pair is that of the entry, or there is neither
   abbrev pub IsPairOfEntry : Option (View K × View V) → Option (View (Entry K V)) → Type 0
   IsPairOfEntry result found = MatchOption found (result ≡ None) (λ entry.
       (pair : View K × View V) × (result ≡ Some pair)
-      × IsAt pair.0 (archive_of entry) (pos_of entry) × IsView k pair.0
-      × IsAt pair.1 (archive_of entry) (pos_of entry + value_offset k v) × IsView v pair.1)
+      × IsAt pair.0 (archive_of entry) (pos_of entry) × IsValidView k pair.0
+      × IsAt pair.1 (archive_of entry) (pos_of entry + value_offset k v) × IsValidView v pair.1)
 
   -- the value is that of the entry, or there is neither
   abbrev pub IsValueOfEntry : Option (View V) → Option (View (Entry K V)) → Type 0
   IsValueOfEntry result found = MatchOption found (result ≡ None) (λ entry.
       (value : View V) × (result ≡ Some value)
-      × IsAt value (archive_of entry) (pos_of entry + value_offset k v) × IsView v value)
+      × IsAt value (archive_of entry) (pos_of entry + value_offset k v) × IsValidView v value)

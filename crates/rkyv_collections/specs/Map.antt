@@ -1,5 +1,5 @@
 -- Hash maps in an archive, and the results of lookups in them.
-use Rattle.rkyv_base.specs.declared.element.Shaped.{Ghosts as Shapes}
+use Rattle.rkyv_base.specs.declared.element.HasSpec.{Ghosts as Specs}
 use Rattle.rkyv_base.specs.declared.width.Word.{Ghosts as Words}
 use Rattle.std.specs.Prelude.{◌≡◌, ℕ, ◌+◌, ◌↔◌, List, Bool, true, Option, IsSome, IsTrue, map}
 use Rattle.std.specs.Borrow.{Bor}
@@ -8,9 +8,9 @@ use Rattle.std.specs.List.{find}
 use Rattle.std.specs.Option.{option_map}
 use Rattle.rkyv_scan.specs.Groups.{generic_kind}
 use Rattle.rkyv_scan.specs.Hash.{Hasher, HasherCall, hash_of_calls}
-use Rattle.rkyv_base.specs.Entry.{entry_shape, value_offset}
-use Rattle.rkyv_base.specs.Shape.{Shape}
-use Rattle.rkyv_base.specs.View.{IsAt, IsView, archive_of, bytes_of, pos_of, pos_of_found}
+use Rattle.rkyv_base.specs.Entry.{entry_spec, value_offset}
+use Rattle.rkyv_base.specs.ElementSpec.{ElementSpec}
+use Rattle.rkyv_base.specs.View.{IsAt, IsValidView, archive_of, bytes_of, pos_of, pos_of_found}
 use Rattle.rkyv_base.specs.declared.entry.Entry.{Entry}
 use Rattle.rkyv_base.specs.declared.view.View.{View}
 use Rattle.rkyv_table.specs.Table.Header.{cap_at, len_at}
@@ -18,12 +18,12 @@ use Rattle.rkyv_table.specs.Table.Positions.{WrittenAt, home_positions}
 use Rattle.rkyv_table.specs.Table.Positions.{item_positions, pos_found}
 use Rattle.rkyv_collections.specs.declared.map.ArchivedHashMap.{ArchivedHashMap}
 use Rattle.rkyv_collections.specs.declared.map.HashMapOf.{HashMapOf}
-use Rattle.rkyv_collections.specs.MapShape.{IsKeyPosAt, map_shape}
+use Rattle.rkyv_collections.specs.MapSpec.{IsKeyPosAt, map_spec}
 
-module _ {K V H W : Type 0} {ks : Shapes K} {vs : Shapes V} {wt : Words W} where
+module _ {K V H W : Type 0} {ks : Specs K} {vs : Specs V} {wt : Words W} where
   -- the view of `m` is of a valid map
   abbrev pub IsMap : ArchivedHashMap K V H W ks vs wt → Type 0
-  IsMap m = IsView (map_shape wt.word ks.shape vs.shape) m.view
+  IsMap m = IsValidView (map_spec wt.word ks.spec vs.spec) m.view
 
   -- the view of the map's header
   abbrev pub map_view : ArchivedHashMap K V H W ks vs wt → View (HashMapOf K V H W)
@@ -52,35 +52,35 @@ module _ {K V H W : Type 0} {ks : Shapes K} {vs : Shapes V} {wt : Words W} where
   -- the positions of the keys, in bucket order
   abbrev pub key_positions : ArchivedHashMap K V H W ks vs wt → List ℕ
   key_positions m =
-      item_positions wt.word (entry_shape ks.shape vs.shape).size (map_bytes m) (map_pos m)
+      item_positions wt.word (entry_spec ks.spec vs.spec).size (map_bytes m) (map_pos m)
 
   -- the map has a key at `q`
   abbrev pub IsKeyPos : ArchivedHashMap K V H W ks vs wt → ℕ → Type 0
-  IsKeyPos m q = IsKeyPosAt wt.word ks.shape vs.shape (map_bytes m) (map_pos m) q
+  IsKeyPos m q = IsKeyPosAt wt.word ks.spec vs.spec (map_bytes m) (map_pos m) q
 
   -- the view is that of a key of the map
   pub record IsKeyIn (m : ArchivedHashMap K V H W ks vs wt) (key : View K) : Type 0 where
     pub archive : key.archive ≡ map_archive m
-    pub viewed : IsView ks.shape key
+    pub viewable : IsValidView ks.spec key
     pub place : IsKeyPos m key.pos
 
   -- the view is that of the value behind a key of the map
   pub record IsValueIn (m : ArchivedHashMap K V H W ks vs wt) (value : View V) : Type 0 where
-    pub viewed : IsView vs.shape value
+    pub viewable : IsValidView vs.spec value
     pub key : ℕ
     pub walked : IsKeyPos m key
-    pub at : IsAt value (map_archive m) (key + value_offset ks.shape vs.shape)
+    pub at : IsAt value (map_archive m) (key + value_offset ks.spec vs.spec)
 
   -- the views are those of a key of the map and of the value behind it
   pub record IsPairIn (m : ArchivedHashMap K V H W ks vs wt) (pair : View K × View V) : Type 0 where
     pub key : IsKeyIn m pair.0
-    pub viewed : IsView vs.shape pair.1
-    pub at : IsAt pair.1 (map_archive m) (pos_of pair.0 + value_offset ks.shape vs.shape)
+    pub viewable : IsValidView vs.spec pair.1
+    pub at : IsAt pair.1 (map_archive m) (pos_of pair.0 + value_offset ks.spec vs.spec)
 
   -- the view is that of an entry of the map
   abbrev pub IsEntryIn : ArchivedHashMap K V H W ks vs wt → View (Entry K V) → Type 0
   IsEntryIn m entry = (entry.archive ≡ map_archive m)
-      × IsView (entry_shape ks.shape vs.shape) entry × IsKeyPos m entry.pos
+      × IsValidView (entry_spec ks.spec vs.spec) entry × IsKeyPos m entry.pos
 
 -- the hash of the key at `q`
 abbrev pub hash_at : {State : Type 0} → Hasher State → (List ℕ → ℕ → List HasherCall) → List ℕ → ℕ
@@ -89,11 +89,11 @@ hash_at hasher calls b q = hash_of_calls hasher (calls b q)
 
 -- the table at `p` was written of entries under the hashes of their keys, in insertion order,
 -- with the home buckets `homes`
-abbrev pub MapWrittenAt : Width → Shape → (List ℕ → ℕ → ℕ) → List ℕ → ℕ → List ℕ → Type 0
+abbrev pub MapWrittenAt : Width → ElementSpec → (List ℕ → ℕ → ℕ) → List ℕ → ℕ → List ℕ → Type 0
 MapWrittenAt w s hash b p homes =
     WrittenAt w b p (map (hash b) (home_positions w s.size b p homes)) homes
 
-module _ (w : Width) (k v : Shape) (b : List ℕ) (p : ℕ) where
+module _ (w : Width) (k v : ElementSpec) (b : List ℕ) (p : ℕ) where
   -- each accepted key of the map at `p` is under the hash
   abbrev pub AreUnderHashAt : ℕ → (List ℕ → ℕ → ℕ) → (ℕ → Bool) → Type 0
   AreUnderHashAt hash key_hash accept = (q : ℕ) → IsKeyPosAt w k v b p q → accept q ≡ true
@@ -102,17 +102,17 @@ module _ (w : Width) (k v : Shape) (b : List ℕ) (p : ℕ) where
   -- the property applies to the position of the key that a lookup under the hash finds,
   -- or to `None`
   abbrev pub FindsKeyAt : ℕ → (ℕ → Bool) → (Option ℕ → Type 0) → Type 0
-  FindsKeyAt hash accept Told = Told
-      (pos_found generic_kind w (entry_shape k v).size b p hash accept)
+  FindsKeyAt hash accept P = P
+      (pos_found generic_kind w (entry_spec k v).size b p hash accept)
 
   -- if the map at `p` was written, the property applies to the position of the first accepted key
   -- in insertion order, or to `None`
   abbrev pub FindsFirstKeyAt : (List ℕ → ℕ → ℕ) → (ℕ → Bool) → (Option ℕ → Type 0) → Type 0
-  FindsFirstKeyAt key_hash accept Told =
-      (homes : List ℕ) → MapWrittenAt w (entry_shape k v) key_hash b p homes
-      → Told (find accept (home_positions w (entry_shape k v).size b p homes))
+  FindsFirstKeyAt key_hash accept P =
+      (homes : List ℕ) → MapWrittenAt w (entry_spec k v) key_hash b p homes
+      → P (find accept (home_positions w (entry_spec k v).size b p homes))
 
-module _ {K V H W : Type 0} {ks : Shapes K} {vs : Shapes V} {wt : Words W}
+module _ {K V H W : Type 0} {ks : Specs K} {vs : Specs V} {wt : Words W}
     (m : ArchivedHashMap K V H W ks vs wt) where
   -- the comparison can be called with each key
   abbrev pub MayAskKeys : (View K → Type 0) → Type 0
@@ -126,31 +126,31 @@ module _ {K V H W : Type 0} {ks : Shapes K} {vs : Shapes V} {wt : Words W}
   -- each accepted key of the map is under the hash
   abbrev pub AreUnderHash : ℕ → (List ℕ → ℕ → ℕ) → (ℕ → Bool) → Type 0
   AreUnderHash hash key_hash accept =
-      AreUnderHashAt wt.word ks.shape vs.shape (map_bytes m) (map_pos m) hash key_hash accept
+      AreUnderHashAt wt.word ks.spec vs.spec (map_bytes m) (map_pos m) hash key_hash accept
 
   -- the property applies to the position of the key that a lookup under the hash finds in the map,
   -- or to `None`
   abbrev pub FindsKey : ℕ → (ℕ → Bool) → (Option ℕ → Type 0) → Type 0
-  FindsKey hash accept Told = FindsKeyAt wt.word ks.shape vs.shape (map_bytes m) (map_pos m) hash
-      accept Told
+  FindsKey hash accept P = FindsKeyAt wt.word ks.spec vs.spec (map_bytes m) (map_pos m) hash
+      accept P
 
   -- if the map was written, the property applies to the position of the first accepted key
   -- in insertion order, or to `None`
   abbrev pub FindsFirstKey : (List ℕ → ℕ → ℕ) → (ℕ → Bool) → (Option ℕ → Type 0) → Type 0
-  FindsFirstKey key_hash accept Told =
-      FindsFirstKeyAt wt.word ks.shape vs.shape (map_bytes m) (map_pos m) key_hash accept Told
+  FindsFirstKey key_hash accept P =
+      FindsFirstKeyAt wt.word ks.spec vs.spec (map_bytes m) (map_pos m) key_hash accept P
 
   -- the property applies to the position that a lookup by a comparison finds,
   -- if the comparison depends only on the position of a key
   abbrev pub FindsBy : (View K → Bool → Type 0) → ℕ → (Option ℕ → Type 0) → Type 0
-  FindsBy post hash Told = (accept : ℕ → Bool) → AnswersKeys post accept → FindsKey hash accept Told
+  FindsBy post hash P = (accept : ℕ → Bool) → AnswersKeys post accept → FindsKey hash accept P
 
   -- the same for a written map, if each accepted key is under the hash
   abbrev pub FindsFirstBy : (View K → Bool → Type 0) → ℕ → (List ℕ → ℕ → ℕ) → (Option ℕ → Type 0)
       → Type 0
-  FindsFirstBy post hash key_hash Told =
+  FindsFirstBy post hash key_hash P =
       (accept : ℕ → Bool) → AnswersKeys post accept → AreUnderHash hash key_hash accept
-      → FindsFirstKey key_hash accept Told
+      → FindsFirstKey key_hash accept P
 
 -- the position is that of the found entry or key, or there is neither
 abbrev pub IsEntryAt : {E : Type 0} → Option (View E) → Option ℕ → Type 0
@@ -165,7 +165,8 @@ abbrev pub IsPairAt : {K V : Type 0} → Option (View K × View V) → Option �
 IsPairAt result place = key_pos_found result ≡ place
 
 -- the found value is behind the key at the position, or there is neither
-abbrev pub IsValueAt : {V : Type 0} → Shape → Shape → Option (View V) → Option ℕ → Type 0
+abbrev pub IsValueAt : {V : Type 0} → ElementSpec → ElementSpec → Option (View V) → Option ℕ
+    → Type 0
 IsValueAt k v result place = pos_of_found result ≡ option_map (λ q. q + value_offset k v) place
 
 -- the result is `true` if and only if a key is found

@@ -3,7 +3,7 @@ use Rattle.std.specs.Prelude.{ℕ, Bool, List}
 use Rattle.std.specs.Int.{Width}
 use Rattle.rkyv_scan.specs.Hash.{Hasher, HasherCall, hash_of_calls}
 use Rattle.rkyv_base.specs.Format.{Format}
-use Rattle.rkyv_base.specs.Shape.{IsElement, Shape}
+use Rattle.rkyv_base.specs.ElementSpec.{IsElement, ElementSpec}
 use Rattle.rkyv_base.specs.Text.{IsArchiveWord}
 
 -- the members of a `Width` and its `Word`
@@ -23,42 +23,43 @@ WidthMembers = record {
 -- the members of an element, and what its values represent
 abbrev pub ElementMembers : Type 0 → Type 1
 ElementMembers V = record {
-  shape : Shape;
-  laws : IsElement shape;
-  stands : List ℕ → ℕ → V → Type 0;
+  spec : ElementSpec;
+  laws : IsElement spec;
+  represents : List ℕ → ℕ → V → Type 0;
 }
 
--- how native keys are written. `shape`: shape of their elements, `format`: their format,
+-- how native keys are written. `spec`: spec of their elements, `format`: their format,
 -- `hash`: hash of a native key
 pub record KeyFormat (A R : Type 0) : Type 1 where
-  pub shape : Shape
+  pub spec : ElementSpec
   pub format : Format A R
   pub hash : A → ℕ
 
 -- the format of keys with the hasher calls `calls`
-abbrev pub key_format : {State A R : Type 0} → Shape → Format A R → Hasher State
+abbrev pub key_format : {State A R : Type 0} → ElementSpec → Format A R → Hasher State
     → (A → List HasherCall) → KeyFormat A R
-key_format shape format hasher calls = record {
-  shape = shape;
+key_format spec format hasher calls = record {
+  spec = spec;
   format = format;
   hash = λ key. hash_of_calls hasher (calls key);
 }
 
--- how native pairs are written. `key_shape` and `value_shape`: shapes of their elements,
+-- how native pairs are written. `key_spec` and `value_spec`: specs of their elements,
 -- `key` and `value`: their formats, `hash`: hash of a native key
 pub record PairFormat (A B R Q : Type 0) : Type 1 where
-  pub key_shape : Shape
-  pub value_shape : Shape
+  pub key_spec : ElementSpec
+  pub value_spec : ElementSpec
   pub key : Format A R
   pub value : Format B Q
   pub hash : A → ℕ
 
 -- the format of pairs of keys with the hasher calls `calls`
-abbrev pub pair_format : {State A B R Q : Type 0} → Shape → Shape → Format A R → Format B Q
+abbrev pub pair_format : {State A B R Q : Type 0} → ElementSpec → ElementSpec → Format A R
+    → Format B Q
     → Hasher State → (A → List HasherCall) → PairFormat A B R Q
-pair_format key_shape value_shape key value hasher calls = record {
-  key_shape = key_shape;
-  value_shape = value_shape;
+pair_format key_spec value_spec key value hasher calls = record {
+  key_spec = key_spec;
+  value_spec = value_spec;
   key = key;
   value = value;
   hash = λ a. hash_of_calls hasher (calls a);
@@ -80,11 +81,12 @@ native_pairs key value hasher key_calls = record {
   key_hash = λ b q. hash_of_calls hasher (key_calls b q);
 }
 
--- the native keys of a map, which are its queries. `stands`: bytes at a position represent a key,
+-- the native keys of a map, which are its queries. `represents`: bytes at a position represent a
+-- key,
 -- `key_hash`: hash of the key at a position, `fits`: a query fits the key at a position,
 -- `equal`: equality of native keys
 pub record NativeKeys (A : Type 0) : Type 1 where
-  pub stands : List ℕ → ℕ → A → Type 0
+  pub represents : List ℕ → ℕ → A → Type 0
   pub key_hash : List ℕ → ℕ → ℕ
   pub fits : A → List ℕ → ℕ → Bool
   pub equal : A → A → Bool
@@ -92,8 +94,8 @@ pub record NativeKeys (A : Type 0) : Type 1 where
 -- the native keys of a map under the hashes `key_hash`
 abbrev pub native_keys : {A : Type 0} → (List ℕ → ℕ → A → Type 0) → (List ℕ → ℕ → ℕ)
     → (A → List ℕ → ℕ → Bool) → (A → A → Bool) → NativeKeys A
-native_keys stands key_hash fits equal =
-    record { stands = stands; key_hash = key_hash; fits = fits; equal = equal }
+native_keys represents key_hash fits equal =
+    record { represents = represents; key_hash = key_hash; fits = fits; equal = equal }
 
 -- queries. `hash`: hash of a query, `fits`: a query fits the key at a position
 pub record Queried (Q : Type 0) : Type 0 where

@@ -2,9 +2,9 @@
 use Rattle.std.specs.Prelude.{◌≡◌, ℕ, ◌+◌, ◌≤◌, List, [], ◌∷◌, Option, MatchOption, length}
 use Rattle.std.specs.Borrow.{MutBor}
 use Rattle.std.specs.Int.{Width}
-use Rattle.rkyv_base.specs.Entry.{entry_shape}
+use Rattle.rkyv_base.specs.Entry.{entry_spec}
 use Rattle.rkyv_base.specs.Sealing.{value_pos}
-use Rattle.rkyv_base.specs.Shape.{Shape}
+use Rattle.rkyv_base.specs.ElementSpec.{ElementSpec}
 use Rattle.rkyv_base.specs.declared.entry.Entry.{Entry}
 use Rattle.rkyv_base.specs.declared.seal.Seal.{Seal}
 use Rattle.rkyv_base.specs.declared.view.View.{View}
@@ -29,10 +29,10 @@ module _ {K V H W : Type 0} where
   abbrev pub entries_of : ValuesMut K V H W → RawIterSeal (Entry K V)
   entries_of values = values.pairs.entries
 
-module _ {K V : Type 0} (k v : Shape) where
+module _ {K V : Type 0} (k v : ElementSpec) where
   -- a cursor over the valid map at `p` of its archive, with the numbers of the map
   abbrev pub IsPairIter : Width → ℕ → RawIterSeal (Entry K V) → Type 0
-  IsPairIter w p r = IsSealIter w (entry_shape k v) p r
+  IsPairIter w p r = IsSealIter w (entry_spec k v) p r
 
   -- all pairs of the map at `p` in `b` remain
   pub record HasAllPairs (w : Width) (b : List ℕ) (p : ℕ) (r : RawIterSeal (Entry K V)) : Type 0
@@ -89,7 +89,7 @@ module _ {K V : Type 0} (k v : Shape) where
   abbrev pub KeepsPairs : RawIterSeal (Entry K V) → ℕ → RawIterSeal (Entry K V) → Type 0
   KeepsPairs before q after =
       (w : Width) (p i : ℕ) → IsPairIter w p before → IsPairPos w k v (cursor_bytes before) p i q
-      → KeepsTable w (entry_shape k v) (cursor_bytes before) (cursor_bytes after) p i
+      → KeepsTable w (entry_spec k v) (cursor_bytes before) (cursor_bytes after) p i
       × SameValue k (cursor_bytes before) (cursor_bytes after) q
       × IsPairIter w p after × (buckets_left w p after ≡ buckets_left w p before)
 

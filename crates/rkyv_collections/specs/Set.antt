@@ -1,11 +1,11 @@
 -- Hash sets in an archive, and the results of lookups in them, as in the map of the keys.
-use Rattle.rkyv_base.specs.declared.element.Shaped.{Ghosts as Shapes}
+use Rattle.rkyv_base.specs.declared.element.HasSpec.{Ghosts as Specs}
 use Rattle.rkyv_base.specs.declared.width.Word.{Ghosts as Words}
 use Rattle.std.specs.Prelude.{ℕ, List, Option}
 use Rattle.std.specs.Borrow.{Bor}
 use Rattle.std.specs.Int.{Width}
-use Rattle.rkyv_base.specs.Empty.{unit_shape}
-use Rattle.rkyv_base.specs.Shape.{Shape}
+use Rattle.rkyv_base.specs.Empty.{unit_spec}
+use Rattle.rkyv_base.specs.ElementSpec.{ElementSpec}
 use Rattle.rkyv_base.specs.View.{IsAt}
 use Rattle.rkyv_base.specs.declared.view.View.{View}
 use Rattle.rkyv_keys.specs.Asked.{Asked}
@@ -15,17 +15,17 @@ use Rattle.rkyv_collections.specs.Equality.{map_equal}
 use Rattle.rkyv_collections.specs.Lookups.{GetsKey, TellsKey, key_part}
 use Rattle.rkyv_collections.specs.Map.{IsKeyIn, IsMap, key_positions, map_archive, map_bytes}
 use Rattle.rkyv_collections.specs.Map.{map_len, map_pos}
-use Rattle.rkyv_collections.specs.MapShape.{map_shape}
+use Rattle.rkyv_collections.specs.MapSpec.{map_spec}
 use Rattle.rkyv_collections.specs.Map.{map_view}
 use Rattle.rkyv_collections.specs.Misplaced.{map_misplaced}
 use Rattle.rkyv_collections.specs.declared.map.HashMapOf.{HashMapOf}
 use Rattle.rkyv_collections.specs.declared.set.ArchivedHashSet.{ArchivedHashSet}
 
 -- the element of a set: that of a map to the unit value
-abbrev pub set_shape : Width → Shape → Shape
-set_shape w k = map_shape w k unit_shape
+abbrev pub set_spec : Width → ElementSpec → ElementSpec
+set_spec w k = map_spec w k unit_spec
 
-module _ {K H W : Type 0} {ks : Shapes K} {wt : Words W} where
+module _ {K H W : Type 0} {ks : Specs K} {wt : Words W} where
   -- the view of `s` is of a valid set
   abbrev pub IsSet : ArchivedHashSet K H W ks wt → Type 0
   IsSet s = IsMap s.map
@@ -64,16 +64,16 @@ module _ {K H W : Type 0} {ks : Shapes K} {wt : Words W} where
 
   -- the property applies to the position that a lookup finds, as in the map of the keys
   abbrev pub TellsMember : ArchivedHashSet K H W ks wt → Asked → (Option ℕ → Type 0) → Type 0
-  TellsMember s a Told = TellsKey s.map a Told
+  TellsMember s a P = TellsKey s.map a P
 
   -- `result`: key that a lookup finds
   abbrev pub GetsMember : ArchivedHashSet K H W ks wt → Asked → Option (View K) → Type 0
   GetsMember s a result = GetsKey key_part s.map a result
 
 -- the sets have the same length, and each key of the first is found in the second
-abbrev pub set_equal : Width → Shape → (List ℕ → ℕ → ℕ) → Comparison → Comparison
-set_equal w k key_hash same = map_equal w k unit_shape key_hash same unit_same
+abbrev pub set_equal : Width → ElementSpec → (List ℕ → ℕ → ℕ) → Comparison → Comparison
+set_equal w k key_hash same = map_equal w k unit_spec key_hash same unit_same
 
 -- the number of keys that a lookup of their own doesn't find
-abbrev pub set_misplaced : Width → Shape → (List ℕ → ℕ → ℕ) → Comparison → List ℕ → ℕ → ℕ
-set_misplaced w k key_hash same = map_misplaced w k unit_shape key_hash same
+abbrev pub set_misplaced : Width → ElementSpec → (List ℕ → ℕ → ℕ) → Comparison → List ℕ → ℕ → ℕ
+set_misplaced w k key_hash same = map_misplaced w k unit_spec key_hash same

@@ -1,25 +1,25 @@
 -- The equality of an archived map and a map of std.
-use Rattle.rkyv_base.specs.declared.element.Shaped.{Ghosts as Shapes}
+use Rattle.rkyv_base.specs.declared.element.HasSpec.{Ghosts as Specs}
 use Rattle.rkyv_base.specs.declared.width.Word.{Ghosts as Words}
 use Rattle.std.specs.Prelude.{◌≡◌, ℕ, ◌+◌, List, length, Bool, IsSomeAnd}
 use Rattle.std.specs.HashMap.{HashMap}
 use Rattle.std.specs.Int.{Width}
 use Rattle.std.specs.List.{All}
 use Rattle.rkyv_scan.specs.Groups.{generic_kind}
-use Rattle.rkyv_base.specs.Entry.{entry_shape, value_offset}
-use Rattle.rkyv_base.specs.Shape.{Shape}
+use Rattle.rkyv_base.specs.Entry.{entry_spec, value_offset}
+use Rattle.rkyv_base.specs.ElementSpec.{ElementSpec}
 use Rattle.rkyv_table.specs.Table.Header.{len_at}
 use Rattle.rkyv_table.specs.Table.Positions.{pos_found}
 use Rattle.rkyv_collections.specs.Map.{map_bytes, map_pos}
 use Rattle.rkyv_collections.specs.Natives.{Queried}
 use Rattle.rkyv_collections.specs.declared.map.ArchivedHashMap.{ArchivedHashMap}
 
-module _ {A B : Type 0} (w : Width) (k v : Shape) (hash : A → ℕ) (fits : A → List ℕ → ℕ
+module _ {A B : Type 0} (w : Width) (k v : ElementSpec) (hash : A → ℕ) (fits : A → List ℕ → ℕ
     → Bool) (equals : List ℕ → ℕ → B → Type 0) where
   -- a lookup of the pair's key in the map at `p` finds a value that equals the pair's
   abbrev pub FindsPair : List ℕ → ℕ → A × B → Type 0
   FindsPair b p pair = IsSomeAnd
-      (pos_found generic_kind w (entry_shape k v).size b p (hash pair.0) (fits pair.0 b)) (λ q.
+      (pos_found generic_kind w (entry_spec k v).size b p (hash pair.0) (fits pair.0 b)) (λ q.
       equals b (q + value_offset k v) pair.1)
 
   -- the map at `p` has as many pairs as `entries`, and each of these is found in it
@@ -30,14 +30,14 @@ module _ {A B : Type 0} (w : Width) (k v : Shape) (hash : A → ℕ) (fits : A �
   abbrev pub StdMapEquals : {S : Type 0} → List ℕ → ℕ → HashMap A B S → Type 0
   StdMapEquals b p m = EntriesEqual b p m.entries
 
-module _ {A B K V H W : Type 0} {ks : Shapes K} {vs : Shapes V} {wt : Words W}
+module _ {A B K V H W : Type 0} {ks : Specs K} {vs : Specs V} {wt : Words W}
     (m : ArchivedHashMap K V H W ks vs wt) (q : Queried A) (equals : List ℕ → ℕ → B → Type 0) where
   -- a lookup of the pair's key in the map finds a value that equals the pair's
   abbrev pub FindsPairIn : A × B → Type 0
-  FindsPairIn pair = FindsPair wt.word ks.shape vs.shape q.hash q.fits equals (map_bytes m)
+  FindsPairIn pair = FindsPair wt.word ks.spec vs.spec q.hash q.fits equals (map_bytes m)
       (map_pos m) pair
 
   -- the map equals a map of std
   abbrev pub StdMapEqualsIn : {S : Type 0} → HashMap A B S → Type 0
-  StdMapEqualsIn other = StdMapEquals wt.word ks.shape vs.shape q.hash q.fits equals (map_bytes m)
+  StdMapEqualsIn other = StdMapEquals wt.word ks.spec vs.spec q.hash q.fits equals (map_bytes m)
       (map_pos m) other

@@ -8,7 +8,7 @@ use Rattle.rkyv_base.specs.Writing.{Output}
 use Rattle.rkyv_base.specs.declared.errors.WriteError.{WriteError}
 use Rattle.rkyv_base.specs.declared.lend.Lend.{Ghosts as Lends}
 use Rattle.rkyv_table.specs.Table.Input.{Input, from_iter}
-use Rattle.rkyv_table.specs.Table.Lent.{lent_keys, lent_pairs}
+use Rattle.rkyv_table.specs.Table.ItemValues.{lent_keys, lent_pairs}
 use Rattle.rkyv_table.specs.Table.Serializing.{WritesItems}
 use Rattle.rkyv_table.specs.Table.TableFormat.{TableResolver, WritesHeader}
 use Rattle.rkyv_collections.specs.MapFormat.{map_format}
@@ -57,14 +57,14 @@ module _ {F : Type 0} (w : WidthMembers) where
   abbrev pub WritesMap : {X A B R Q : Type 0} → PairFormat A B R Q → LentItems X (A × B) → Output
       → Output → Result TableResolver (WriteError F) → Type 0
   WritesMap pair items o o' result = WritesLent
-      (map_format w.word pair.key_shape pair.value_shape pair.key pair.value pair.hash) items o o'
+      (map_format w.word pair.key_spec pair.value_spec pair.key pair.value pair.hash) items o o'
       result
 
   -- the same for keys, as a set
   abbrev pub WritesSet : {X A R : Type 0} → KeyFormat A R → LentItems X A → Output → Output
       → Result TableResolver (WriteError F) → Type 0
   WritesSet key items o o' result =
-      WritesLent (set_format w.word key.shape key.format key.hash) items o o' result
+      WritesLent (set_format w.word key.spec key.format key.hash) items o o' result
 
 -- the bytes became the header at `p` of the resolved map. Or the distance doesn't fit,
 -- and they are unchanged

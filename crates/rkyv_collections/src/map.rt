@@ -4,11 +4,12 @@
 //! - `iter` has the iterators over a map, and `iter_seal` the cursors that write values.
 //! - `in_place` and `in_place_text` write the value of one key over the bytes of an archive.
 //! - `laws`, `list_archives`, `nested` and `sealed` have laws that a proof cites.
-ghost use Rattle.rkyv_base.specs.Shape.{viewed_prop};
-ghost use Rattle.rkyv_base.specs.View.{IsView};
+ghost use Rattle.rkyv_base.specs.Lemmas.ElementSpec.{viewable_prop};
+ghost use Rattle.rkyv_base.specs.View.{IsValidView};
 ghost use Rattle.rkyv_table.specs.Table.Decoded.{IsDecoded};
-ghost use Rattle.rkyv_collections.specs.MapShape.{map_element, map_shape};
+ghost use Rattle.rkyv_collections.specs.MapSpec.{map_element, map_spec};
 
+mod accessors;
 mod debug;
 mod element;
 mod equality;
@@ -22,12 +23,11 @@ pub mod list_archives;
 mod lookup;
 mod misplaced;
 pub mod nested;
-mod reading;
 pub mod sealed;
 pub mod writing;
 pub mod written;
 
-use rkyv_base::element::Shaped;
+use rkyv_base::element::HasSpec;
 use rkyv_base::view::View;
 use rkyv_base::width::{Narrow, Word};
 use rkyv_scan::hash::FxHasher64;
@@ -46,20 +46,20 @@ pub struct HashMapOf<K, V, H = FxHasher64, W = Narrow> {
 /// A hash map of `K` to `V` under the hasher `H` that is read in an archive of the width `W`.
 ///
 /// Its bytes are valid. It holds its decoded header.
-pub struct ArchivedHashMap<'a, K: Shaped, V: Shaped, H = FxHasher64, W: Word = Narrow> {
+pub struct ArchivedHashMap<'a, K: HasSpec, V: HasSpec, H = FxHasher64, W: Word = Narrow> {
     pub(crate) view: View<'a, HashMapOf<K, V, H, W>>,
     pub(crate) header: Decoded,
-    ghost valid: { IsView (map_shape W.word K.shape V.shape) view } by { viewed_prop (map_shape
-        W.word K.shape V.shape)
-        (map_element W.word W.kind K.shape V.shape K.laws V.laws) view.archive.now view.pos },
+    ghost valid: { IsValidView (map_spec W.word K.spec V.spec) view } by { viewable_prop (map_spec
+        W.word K.spec V.spec)
+        (map_element W.word W.kind K.spec V.spec K.laws V.laws) view.archive.now view.pos },
     ghost decoded: { IsDecoded W.word view.archive.now view.pos header },
 }
 
-impl<'a, K: Shaped, V: Shaped, H, W: Word> Clone for ArchivedHashMap<'a, K, V, H, W> {
+impl<'a, K: HasSpec, V: HasSpec, H, W: Word> Clone for ArchivedHashMap<'a, K, V, H, W> {
     #[inline]
     fn clone(&self) -> Result<ArchivedHashMap<'a, K, V, H, W>, AllocError> {
         Ok(*self)
     }
 }
 
-impl<'a, K: Shaped, V: Shaped, H, W: Word> Copy for ArchivedHashMap<'a, K, V, H, W> {}
+impl<'a, K: HasSpec, V: HasSpec, H, W: Word> Copy for ArchivedHashMap<'a, K, V, H, W> {}

@@ -4,10 +4,10 @@
 //! - `equality` compares them with archived maps and sets.
 //! - `laws` and `round_trip` have the laws of their archives.
 
+mod deserialize;
 pub mod equality;
 mod hash_map;
 mod hash_set;
 pub mod hashed;
 pub mod laws;
-mod reading;
 pub mod round_trip;

@@ -25,9 +25,9 @@ same_tail x y xs ys e = cc
 
 -- the fixed bytes of a value, or a distance from it that is too large
 module _ {V R : Type 0} (size : ℕ) (f : Format V R) (whole : (v : V) (r : R) (p : ℕ) (out : List ℕ) → f.image v r p out → length out ≡ size)
-    (clear : (v : V) (r : R) (p : ℕ) (out : List ℕ) → f.image v r p out → f.far v r p → ⊥) (v : V) (r : R) (p : ℕ) where
+    (exclusive : (v : V) (r : R) (p : ℕ) (out : List ℕ) → f.image v r p out → f.overflow v r p → ⊥) (v : V) (r : R) (p : ℕ) where
   abbrev pub OwnNext : List ℕ → Step → Type 0
-  OwnNext front step = (front ≡ []) × (((out : List ℕ) × f.image v r p out × (step ≡ piece out)) ⊎ (f.far v r p × (step ≡ refusal distance)))
+  OwnNext front step = (front ≡ []) × (((out : List ℕ) × f.image v r p out × (step ≡ piece out)) ⊎ (f.overflow v r p × (step ≡ refusal distance)))
 
   own_refusals : (front front' : List ℕ) (c c' : Refusal) → IsKnown c → IsKnown c' → OwnNext front (refusal c) → OwnNext front' (refusal c') → c ≡ c'
   own_refusals front front' c c' k k' (e, inl x) y = absurd (no_piece c x.0 x.2)
@@ -36,22 +36,22 @@ module _ {V R : Type 0} (size : ℕ) (f : Format V R) (whole : (v : V) (r : R) (
 
   own_before : (front front' bytes : List ℕ) (c : Refusal) → IsKnown c → OwnNext front (piece bytes) → OwnNext front' (refusal c) → length front + length bytes ≤ length front'
   own_before front front' bytes c k x (e', inl y) = absurd (no_piece c y.0 y.2)
-  own_before front front' bytes c k (e, inl x) (e', inr y) = absurd (clear v r p x.0 x.1 y.0)
+  own_before front front' bytes c k (e, inl x) (e', inr y) = absurd (exclusive v r p x.0 x.1 y.0)
   own_before front front' bytes c k (e, inr x) (e', inr y) = absurd (no_piece distance bytes (sym x.1))
 
   own_inside : (front bytes part : List ℕ) → OwnNext front (piece bytes) → f.image v r p part → length front + length bytes ≤ length part
   own_inside front bytes part (e, inl x) y = omega (arith, ap length e, ap length (same_piece bytes x.0 x.2), whole v r p x.0 x.1, whole v r p part y)
   own_inside front bytes part (e, inr x) y = absurd (no_piece distance bytes (sym x.1))
 
-  own_clear : (front part : List ℕ) (c : Refusal) → IsKnown c → OwnNext front (refusal c) → f.image v r p part → ⊥
-  own_clear front part c k (e, inl x) y = no_piece c x.0 x.2
-  own_clear front part c k (e, inr x) y = clear v r p part y x.0
+  own_exclusive : (front part : List ℕ) (c : Refusal) → IsKnown c → OwnNext front (refusal c) → f.image v r p part → ⊥
+  own_exclusive front part c k (e, inl x) y = no_piece c x.0 x.2
+  own_exclusive front part c k (e, inr x) y = exclusive v r p part y x.0
 
   pub own_ends : Ends OwnNext (f.image v r p)
-  own_ends = record { refusals = own_refusals; before = own_before; inside = own_inside; clear = own_clear }
+  own_ends = record { refusals = own_refusals; before = own_before; inside = own_inside; exclusive = own_exclusive }
 
 module _ {X R : Type 0} (size : ℕ) (f : Format X R) (whole : (x : X) (r : R) (p : ℕ) (out : List ℕ) → f.image x r p out → length out ≡ size)
-    (clear : (x : X) (r : R) (p : ℕ) (out : List ℕ) → f.image x r p out → f.far x r p → ⊥) (p : ℕ) where
+    (exclusive : (x : X) (r : R) (p : ℕ) (out : List ℕ) → f.image x r p out → f.overflow x r p → ⊥) (p : ℕ) where
   -- the buckets of the slots from position `p` on, in reverse order of the slots
   abbrev Images : List (Option X) → List R → List ℕ → Type 0
   Images [] rs out = (rs ≡ []) × (out ≡ [])
@@ -66,7 +66,7 @@ module _ {X R : Type 0} (size : ℕ) (f : Format X R) (whole : (x : X) (r : R) (
   ImagesNext (Some x ∷ ss) [] front step = ⊥
   ImagesNext (Some x ∷ ss) (r ∷ rs) front step =
       ImagesNext ss rs front step
-      ⊎ ((a : List ℕ) × (u : Unit {0}) × (rest : List ℕ) × Images ss rs a × OwnNext size f whole clear x r (p + length a) rest step × (front ≡ a ++ rest))
+      ⊎ ((a : List ℕ) × (u : Unit {0}) × (rest : List ℕ) × Images ss rs a × OwnNext size f whole exclusive x r (p + length a) rest step × (front ≡ a ++ rest))
 
   images_long : (ss : List (Option X)) (rs : List R) (out : List ℕ) → Images ss rs out → (length out ≡ length ss * size) × (length rs ≡ filled ss)
   images_long [] rs out h = (omega (arith, ap length h.1), omega (arith, ap length h.0))
@@ -89,10 +89,10 @@ module _ {X R : Type 0} (size : ℕ) (f : Format X R) (whole : (x : X) (r : R) (
   images_ends (Some x ∷ ss) [] = ends_at_once (Images (Some x ∷ ss) [])
   images_ends (Some x ∷ ss) (r ∷ rs) =
       let rule = images_ends ss rs in
-      then_ends {R = Unit {0}} (ImagesNext ss rs) (λ a u. Images ss rs a) (λ n u. OwnNext size f whole clear x r (p + n)) (λ n u. f.image x r (p + n))
+      then_ends {R = Unit {0}} (ImagesNext ss rs) (λ a u. Images ss rs a) (λ n u. OwnNext size f whole exclusive x r (p + n)) (λ n u. f.image x r (p + n))
       (λ a b u u' m m'. let e = images_long ss rs a m in let g = images_long ss rs b m' in (e.0 ∙ sym g.0, refl))
       (ends_as (ImagesNext ss rs) (ImagesNext ss rs) (Images ss rs) (λ a. (u : Unit {0}) × Images ss rs a) rule (λ front step known h. h) (λ part h. h.1))
-      (λ a u m. own_ends size f whole clear x r (p + length a))
+      (λ a u m. own_ends size f whole exclusive x r (p + length a))
 
   -- the images of the slots, stated without the position behind the buckets
   images_of : (ss : List (Option X)) (rs : List R) (z : ℕ) (out : List ℕ) → z ≡ p + length out → SlotImages size f ss rs z out → Images ss rs out
@@ -145,7 +145,7 @@ module _ {X R : Type 0} (size : ℕ) (f : Format X R) (whole : (x : X) (r : R) (
 
   of_some : (ss : List (Option X)) (rs : List R) (i : ℕ) (more : List R) (r : R) (done : List R) (front : List ℕ) (x : X) (step : Step) → length rs ≡ filled ss → rs ≡ more ++ (r ∷ done)
       → Images (drop (suc i) ss) done front → slice_get ss i ≡ Some (Some x)
-      → ((out : List ℕ) × f.image x r (p + length front) out × (step ≡ piece out)) ⊎ (f.far x r (p + length front) × (step ≡ refusal distance)) → ImagesNext ss rs front step
+      → ((out : List ℕ) × f.image x r (p + length front) out × (step ≡ piece out)) ⊎ (f.overflow x r (p + length front) × (step ≡ refusal distance)) → ImagesNext ss rs front step
   of_some [] rs i more r done front x step count is above at own = absurd (nothing_there (Some x) at)
   of_some (None ∷ ss) rs zero more r done front x step count is above at own = absurd (nothing_there x (same_slot None (Some x) at))
   of_some (Some y ∷ ss) [] zero more r done front x step count is above at own = absurd (omega (arith, count))
@@ -156,8 +156,8 @@ module _ {X R : Type 0} (size : ℕ) (f : Format X R) (whole : (x : X) (r : R) (
       let e : x ≡ y = sym (same_slot y x (same_slot (Some y) (Some x) at)) in
       let k : r ≡ q = sym (same_head q r rs done is) in
       let l : done ≡ rs = sym (same_tail q r rs done is) in
-      let there = subst (λ v. ((out : List ℕ) × f.image v q (p + length front) out × (step ≡ piece out)) ⊎ (f.far v q (p + length front) × (step ≡ refusal distance))) e
-      (subst (λ v. ((out : List ℕ) × f.image x v (p + length front) out × (step ≡ piece out)) ⊎ (f.far x v (p + length front) × (step ≡ refusal distance))) k own) in
+      let there = subst (λ v. ((out : List ℕ) × f.image v q (p + length front) out × (step ≡ piece out)) ⊎ (f.overflow v q (p + length front) × (step ≡ refusal distance))) e
+      (subst (λ v. ((out : List ℕ) × f.image x v (p + length front) out × (step ≡ piece out)) ⊎ (f.overflow x v (p + length front) × (step ≡ refusal distance))) k own) in
       inr (front, tt, [], subst (λ (j : List R). Images ss j front) l above, (refl, there), sym (append-nil front))
   of_some (None ∷ ss) rs (suc i) more r done front x step count is above at own = inl (of_some ss rs i more r done front x step count is above at own)
   of_some (Some y ∷ ss) [] (suc i) more r done front x step count is above at own = absurd (omega (arith, count))
@@ -171,13 +171,13 @@ module _ {X R : Type 0} (size : ℕ) (f : Format X R) (whole : (x : X) (r : R) (
       → Images (drop (suc i) ss) done front → slice_get ss i ≡ Some s → BucketStep size f s left (p + length front) step → ImagesNext ss rs front step
   of_step ss rs i left done front None step count is above at (inl (more, out, filled_so, e)) =
       subst (λ k. ImagesNext ss rs front k) (sym (e ∙ ap piece filled_so.1)) (of_none ss rs i left done front count is above at)
-  of_step ss rs i left done front None step count is above at (inr (far, e)) = absurd far
+  of_step ss rs i left done front None step count is above at (inr (overflow, e)) = absurd overflow
   of_step ss rs i left done front (Some x) step count is above at (inl (more, out, filled_so, e)) =
       let whole_list = is ∙ ap (λ l. l ++ done) filled_so.1 ∙ append_assoc more (filled_so.0 ∷ []) done in
       of_some ss rs i more filled_so.0 done front x step count whole_list above at (inl (out, filled_so.2, e))
-  of_step ss rs i left done front (Some x) step count is above at (inr (far, e)) =
-      let whole_list = is ∙ ap (λ l. l ++ done) far.2 ∙ append_assoc far.1 (far.0 ∷ []) done in
-      of_some ss rs i far.1 far.0 done front x step count whole_list above at (inr (far.3, e))
+  of_step ss rs i left done front (Some x) step count is above at (inr (overflow, e)) =
+      let whole_list = is ∙ ap (λ l. l ++ done) overflow.2 ∙ append_assoc overflow.1 (overflow.0 ∷ []) done in
+      of_some ss rs i overflow.1 overflow.0 done front x step count whole_list above at (inr (overflow.3, e))
 
   next_of : (ss : List (Option X)) (rs : List R) (front : List ℕ) (step : Step) → length rs ≡ filled ss → BucketNext size f ss rs p front step → ImagesNext ss rs front step
   next_of ss rs front step count h =

@@ -2,10 +2,10 @@
 use Rattle.std.proofs.Common.{◌≡◌, ℕ, ◌+◌, ◌-◌, ◌*◌, ◌<◌, ◌≤◌, ◌∙◌, refl, sym, ap, subst, arith, inl, inr, List, [], ◌∷◌, ◌++◌, length, true, false}
 use Rattle.std.specs.Prelude.{◌⊎◌, codes}
 use Rattle.rkyv_base.specs.Root.{fresh}
-use Rattle.rkyv_base.specs.Writing.{CauseStands, Grows, Output, Reached, Refusal, Step, Told, Within, capacity, distance, end_of, load_factor, long_text, mismatch, no_memory, piece, refusal, refused}
+use Rattle.rkyv_base.specs.Writing.{CauseApplies, Extends, Output, Reached, Refusal, Step, WriteFails, Within, capacity, distance, end_of, load_factor, long_text, mismatch, no_memory, piece, refusal, refused}
 use Rattle.rkyv_base.specs.declared.errors.WriteError.{WriteError}
 use Rattle.rkyv_base.specs.declared.errors.WriteError.TheVariants.{InvalidLoadFactor, IteratorLengthMismatch, CapacityTooLarge, PositionTooLarge, DistanceTooLarge, TextTooLong, Writer, Memory, Refused as RefusedWrite}
-use Rattle.rkyv_dict.specs.Errors.{cause_told, wants_memory}
+use Rattle.rkyv_dict.specs.Errors.{cause_text, wants_memory}
 use Rattle.rkyv_dict.proofs.Ends.{Ends, IsKnown}
 
 -- the number and the name of an error
@@ -25,7 +25,7 @@ module _ (limit : ℕ) (next : List ℕ → Step → Type 0) where
       ((c : Refusal) × IsKnown c × (front : List ℕ) × (length front ≤ limit) × next front (refusal c) × (told ≡ told_of c))
       ⊎ ((front : List ℕ) × (bytes : List ℕ) × next front (piece bytes) × (limit < length front + length bytes) × (told ≡ codes "4 PositionTooLarge"))
 
-  module _ (o : Output) (front : List ℕ) (kept : Grows fresh o front) where
+  module _ (o : Output) (front : List ℕ) (kept : Extends fresh o front) where
     ends_at : end_of o ≡ length front
     ends_at = omega (arith, kept.start, ap length kept.bytes)
 
@@ -33,20 +33,20 @@ module _ (limit : ℕ) (next : List ℕ → Step → Type 0) where
     within (inl e) = omega (arith, ap length e)
     within (inr h) = omega (arith, h, ends_at)
 
-    came : (c : Refusal) (told : List ℕ) → IsKnown c → Reached limit next fresh o front (refusal c) → told ≡ told_of c → Why told
-    came c told known h e = inl (c, known, front, within h.0, h.2, e)
+    exactly : (c : Refusal) (told : List ℕ) → IsKnown c → Reached limit next fresh o front (refusal c) → told ≡ told_of c → Why told
+    exactly c told known h e = inl (c, known, front, within h.0, h.2, e)
 
-    pub why_cause : {F : Type 0} (e : WriteError F) → wants_memory e ≡ false → CauseStands limit next fresh o front e → Why (cause_told e)
-    unfolding wants_memory cause_told
-    why_cause (InvalidLoadFactor n d) m h = came (load_factor n d) _ (λ e. cc) h refl
-    why_cause (IteratorLengthMismatch x) m h = came (mismatch x.expected x.actual) _ (λ e. cc) h refl
-    why_cause (CapacityTooLarge n) m h = came (capacity n) _ (λ e. cc) h refl
+    pub why_cause : {F : Type 0} (e : WriteError F) → wants_memory e ≡ false → CauseApplies limit next fresh o front e → Why (cause_text e)
+    unfolding wants_memory cause_text
+    why_cause (InvalidLoadFactor n d) m h = exactly (load_factor n d) _ (λ e. cc) h refl
+    why_cause (IteratorLengthMismatch x) m h = exactly (mismatch x.expected x.actual) _ (λ e. cc) h refl
+    why_cause (CapacityTooLarge n) m h = exactly (capacity n) _ (λ e. cc) h refl
     why_cause PositionTooLarge m h = inr (front, h.0, h.1.2, omega (arith, h.2, ends_at), refl)
-    why_cause DistanceTooLarge m h = came distance _ (λ e. cc) h refl
-    why_cause TextTooLong m h = came long_text _ (λ e. cc) h refl
+    why_cause DistanceTooLarge m h = exactly distance _ (λ e. cc) h refl
+    why_cause TextTooLong m h = exactly long_text _ (λ e. cc) h refl
     why_cause (Writer x) m h = absurd cc
     why_cause Memory m h = absurd cc
-    why_cause (RefusedWrite n) m h = came (refused n) _ (λ e. cc) h refl
+    why_cause (RefusedWrite n) m h = exactly (refused n) _ (λ e. cc) h refl
 
   module _ {made : List ℕ → Type 0} (ends : Ends next made) where
     pub why_one : (told told' : List ℕ) → Why told → Why told' → told ≡ told'
@@ -55,6 +55,6 @@ module _ (limit : ℕ) (next : List ℕ → Step → Type 0) where
     why_one told told' (inr x) (inl y) = absurd (omega (arith, y.3, x.3, ends.before x.0 y.2 x.1 y.0 y.1 x.2 y.4))
     why_one told told' (inr x) (inr y) = x.4 ∙ sym y.4
 
-    pub why_clear : (told b : List ℕ) → Why told → made b → length b ≤ limit → ⊥
-    why_clear told b (inl x) m h = ends.clear x.2 b x.0 x.1 x.4 m
-    why_clear told b (inr x) m h = omega (arith, x.3, h, ends.inside x.0 x.1 b x.2 m)
+    pub why_exclusive : (told b : List ℕ) → Why told → made b → length b ≤ limit → ⊥
+    why_exclusive told b (inl x) m h = ends.exclusive x.2 b x.0 x.1 x.4 m
+    why_exclusive told b (inr x) m h = omega (arith, x.3, h, ends.inside x.0 x.1 b x.2 m)

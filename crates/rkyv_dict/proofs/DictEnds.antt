@@ -9,7 +9,7 @@ use Rattle.std.proofs.lemmas.List.Sums.{passes_at_first}
 use Rattle.std.proofs.lemmas.Option.{slice_get_within, unwrap_or-slice_get}
 use Rattle.std.specs.Option.{unwrap_or}
 use Rattle.rkyv_base.specs.Format.{Format, IsFormat}
-use Rattle.rkyv_base.specs.Shape.{IsElement, Shape}
+use Rattle.rkyv_base.specs.ElementSpec.{IsElement, ElementSpec}
 use Rattle.rkyv_base.specs.Writing.{Refusal, Step, no_memory, piece, refusal}
 use Rattle.rkyv_table.proofs.HomeList.{homes_one_list, written_one_list}
 use Rattle.rkyv_table.proofs.Written.{first_within}
@@ -18,7 +18,7 @@ use Rattle.rkyv_table.specs.Controls.Placing.{homes, is_free}
 use Rattle.rkyv_table.specs.Table.OneWay.{WritesOneWay}
 use Rattle.rkyv_table.specs.Table.Slots.{TableBytes, TableNext}
 use Rattle.rkyv_table.specs.Table.TableFormat.{InBuckets, PairsNext, TableParts, TableResolver, table_format}
-use Rattle.rkyv_table.specs.Table.Taking.{Placed, Slotted, hashes_of, items_of}
+use Rattle.rkyv_table.specs.Table.PlacedItems.{Placed, Slotted, hashes_of, items_of}
 use Rattle.rkyv_dict.proofs.Ends.{Ends, IsKnown}
 use Rattle.rkyv_dict.proofs.FormatEnds.{EndsOneWay}
 use Rattle.rkyv_dict.proofs.TableEnds.{table_ends}
@@ -69,11 +69,11 @@ module _ {X : Type 0} (cap : ℕ) (pairs : List (ℕ × X)) (ss ts : List (Optio
         written_one_list cap hashes x.homes c some_bucket x.written ∙ sym (written_one_list cap hashes y.homes d some_bucket y.written),
       )
 
-module _ {X R : Type 0} (w : Width) (s : Shape) (f : Format X R) (one : WritesOneWay f) (ends : EndsOneWay f)
+module _ {X R : Type 0} (w : Width) (s : ElementSpec) (f : Format X R) (one : WritesOneWay f) (ends : EndsOneWay f)
     (whole : (x : X) (r : R) (p : ℕ) (out : List ℕ) → f.image x r p out → length out ≡ s.size)
-    (clear : (x : X) (r : R) (p : ℕ) (out : List ℕ) → f.image x r p out → f.far x r p → ⊥) (factor : ℕ × ℕ) (pairs : List (ℕ × X)) (p : ℕ) where
+    (exclusive : (x : X) (r : R) (p : ℕ) (out : List ℕ) → f.image x r p out → f.overflow x r p → ⊥) (factor : ℕ × ℕ) (pairs : List (ℕ × X)) (p : ℕ) where
   placed_ends : (slots : List (Option X)) (controls : List ℕ) → Ends (TableNext s f slots controls p) (λ part. (z : ℕ) × TableBytes s f slots controls p z part)
-  placed_ends slots controls = table_ends s f one ends whole clear slots controls p
+  placed_ends slots controls = table_ends s f one ends whole exclusive slots controls p
 
   module _ (ss ts : List (Option X)) (c d : List ℕ) (x : InBuckets factor pairs ss c) (y : InBuckets factor pairs ts d) where
     same : (ss ≡ ts) × (c ≡ d)
@@ -100,10 +100,10 @@ module _ {X R : Type 0} (w : Width) (s : Shape) (f : Format X R) (one : WritesOn
         (placed_ends x.0 x.1).refusals front front' c c' k k' x.3 (next_here x.0 y.0 x.1 y.1 x.2 y.2 front' (refusal c') y.3);
     before = λ front front' bytes c k x y. (placed_ends x.0 x.1).before front front' bytes c k x.3 (next_here x.0 y.0 x.1 y.1 x.2 y.2 front' (refusal c) y.3);
     inside = λ front bytes part x y. (placed_ends x.0 x.1).inside front bytes part x.3 (made_so x.0 x.1 part y.0 x.2 y.1);
-    clear = λ front part c k x y. (placed_ends x.0 x.1).clear front part c k x.3 (made_so x.0 x.1 part y.0 x.2 y.1);
+    exclusive = λ front part c k x y. (placed_ends x.0 x.1).exclusive front part c k x.3 (made_so x.0 x.1 part y.0 x.2 y.1);
   }
 
-pub tables_end : {X R : Type 0} (w : Width) (s : Shape) (f : Format X R) → WritesOneWay f → EndsOneWay f
+pub tables_end : {X R : Type 0} (w : Width) (s : ElementSpec) (f : Format X R) → WritesOneWay f → EndsOneWay f
     → ((x : X) (r : R) (p : ℕ) (out : List ℕ) → f.image x r p out → length out ≡ s.size)
-    → ((x : X) (r : R) (p : ℕ) (out : List ℕ) → f.image x r p out → f.far x r p → ⊥) → (factor : ℕ × ℕ) → EndsOneWay (table_format w s f factor)
-tables_end w s f one ends whole clear factor = record { ends = pairs_ends w s f one ends whole clear factor }
+    → ((x : X) (r : R) (p : ℕ) (out : List ℕ) → f.image x r p out → f.overflow x r p → ⊥) → (factor : ℕ × ℕ) → EndsOneWay (table_format w s f factor)
+tables_end w s f one ends whole exclusive factor = record { ends = pairs_ends w s f one ends whole exclusive factor }

@@ -13,7 +13,7 @@ pub record Ends (next : List ℕ → Step → Type 0) (made : List ℕ → Type 
   pub refusals : (front front' : List ℕ) (c c' : Refusal) → IsKnown c → IsKnown c' → next front (refusal c) → next front' (refusal c') → c ≡ c'
   pub before : (front front' bytes : List ℕ) (c : Refusal) → IsKnown c → next front (piece bytes) → next front' (refusal c) → length front + length bytes ≤ length front'
   pub inside : (front bytes part : List ℕ) → next front (piece bytes) → made part → length front + length bytes ≤ length part
-  pub clear : (front part : List ℕ) (c : Refusal) → IsKnown c → next front (refusal c) → made part → ⊥
+  pub exclusive : (front part : List ℕ) (c : Refusal) → IsKnown c → next front (refusal c) → made part → ⊥
 
 pub same_refusal : (c d : Refusal) → refusal c ≡ refusal d → c ≡ d
 same_refusal c d e = cc
@@ -30,7 +30,7 @@ ends_at_once made = record {
   refusals = λ front front' c c' k k' x y. absurd x;
   before = λ front front' bytes c k x y. absurd x;
   inside = λ front bytes part x y. absurd x;
-  clear = λ front part c k x y. x;
+  exclusive = λ front part c k x y. x;
 }
 
 -- a write of one piece
@@ -39,7 +39,7 @@ ends_by_piece whole = record {
   refusals = λ front front' c c' k k' x y. absurd (no_piece c whole x.1);
   before = λ front front' bytes c k x y. absurd (no_piece c whole y.1);
   inside = λ front bytes part x y. omega (arith, ap length x.0, ap length (same_piece bytes whole x.1), ap length y);
-  clear = λ front part c k x y. no_piece c whole x.1;
+  exclusive = λ front part c k x y. no_piece c whole x.1;
 }
 
 -- a write with the same steps and the same whole
@@ -53,7 +53,7 @@ ends_as next next' made made' ends into done =
       refusals = λ front front' c c' k k' x y. ends.refusals front front' c c' k k' (into front (refusal c) (known c k) x) (into front' (refusal c') (known c' k') y);
       before = λ front front' bytes c k x y. ends.before front front' bytes c k (into front (piece bytes) (other bytes) x) (into front' (refusal c) (known c k) y);
       inside = λ front bytes part x y. ends.inside front bytes part (into front (piece bytes) (other bytes) x) (done part y);
-      clear = λ front part c k x y. ends.clear front part c k (into front (refusal c) (known c k) x) (done part y);
+      exclusive = λ front part c k x y. ends.exclusive front part c k (into front (refusal c) (known c k) x) (done part y);
     }
 
 -- two writes in turn, the second with the length and the result of the first
@@ -78,8 +78,8 @@ module _ {R : Type 0} (next : List ℕ → Step → Type 0) (made : List ℕ →
 
     then_refusals : (front front' : List ℕ) (c c' : Refusal) → IsKnown c → IsKnown c' → ThenNext front (refusal c) → ThenNext front' (refusal c') → c ≡ c'
     then_refusals front front' c c' k k' (inl x) (inl y) = first.refusals front front' c c' k k' x y
-    then_refusals front front' c c' k k' (inl x) (inr y) = absurd (first.clear front y.0 c k x (y.1, y.3))
-    then_refusals front front' c c' k k' (inr x) (inl y) = absurd (first.clear front' x.0 c' k' y (x.1, x.3))
+    then_refusals front front' c c' k k' (inl x) (inr y) = absurd (first.exclusive front y.0 c k x (y.1, y.3))
+    then_refusals front front' c c' k k' (inr x) (inl y) = absurd (first.exclusive front' x.0 c' k' y (x.1, x.3))
     then_refusals front front' c c' k k' (inr x) (inr y) =
         (second x.0 x.1 x.3).refusals x.2 y.2 c c' k k' x.4 (next_there x.0 y.0 x.1 y.1 y.2 (refusal c') x.3 y.3 y.4)
 
@@ -87,7 +87,7 @@ module _ {R : Type 0} (next : List ℕ → Step → Type 0) (made : List ℕ →
     then_before front front' bytes c k (inl x) (inl y) = first.before front front' bytes c k x y
     then_before front front' bytes c k (inl x) (inr y) =
         omega (arith, first.inside front bytes y.0 x (y.1, y.3), ap length y.5, length-append y.0 y.2)
-    then_before front front' bytes c k (inr x) (inl y) = absurd (first.clear front' x.0 c k y (x.1, x.3))
+    then_before front front' bytes c k (inr x) (inl y) = absurd (first.exclusive front' x.0 c k y (x.1, x.3))
     then_before front front' bytes c k (inr x) (inr y) =
         let g = (second x.0 x.1 x.3).before x.2 y.2 bytes c k x.4 (next_there x.0 y.0 x.1 y.1 y.2 (refusal c) x.3 y.3 y.4) in
         let e = one x.0 y.0 x.1 y.1 x.3 y.3 in
@@ -100,9 +100,9 @@ module _ {R : Type 0} (next : List ℕ → Step → Type 0) (made : List ℕ →
         let e = one x.0 y.0 x.1 y.1 x.3 y.3 in
         omega (arith, g, e.0, ap length x.5, length-append x.0 x.2, ap length y.5, length-append y.0 y.2)
 
-    then_clear : (front part : List ℕ) (c : Refusal) → IsKnown c → ThenNext front (refusal c) → ThenMade part → ⊥
-    then_clear front part c k (inl x) y = first.clear front y.0 c k x (y.1, y.3)
-    then_clear front part c k (inr x) y = (second x.0 x.1 x.3).clear x.2 y.2 c k x.4 (made_there x.0 y.0 x.1 y.1 y.2 x.3 y.3 y.4)
+    then_exclusive : (front part : List ℕ) (c : Refusal) → IsKnown c → ThenNext front (refusal c) → ThenMade part → ⊥
+    then_exclusive front part c k (inl x) y = first.exclusive front y.0 c k x (y.1, y.3)
+    then_exclusive front part c k (inr x) y = (second x.0 x.1 x.3).exclusive x.2 y.2 c k x.4 (made_there x.0 y.0 x.1 y.1 y.2 x.3 y.3 y.4)
 
     pub then_ends : Ends ThenNext ThenMade
-    then_ends = record { refusals = then_refusals; before = then_before; inside = then_inside; clear = then_clear }
+    then_ends = record { refusals = then_refusals; before = then_before; inside = then_inside; exclusive = then_exclusive }

@@ -9,16 +9,16 @@ use Rattle.std.proofs.lemmas.List.{length-map}
 use Rattle.rkyv_base.specs.Bytes.{number_at}
 use Rattle.rkyv_base.specs.Entry.{value_offset}
 use Rattle.rkyv_base.specs.Numbers.{unsigned}
-use Rattle.rkyv_base.specs.Scalar.{ScalarStands}
+use Rattle.rkyv_base.specs.Scalar.{ScalarRepresents}
 use Rattle.rkyv_base.specs.Text.{TextReads, text_at}
 use Rattle.rkyv_keys.specs.OfTexts.{same_bytes}
 use Rattle.rkyv_table.specs.Table.Positions.{home_positions}
-use Rattle.rkyv_dict.specs.Archives.{hash, pair_shape, root, value_text}
-use Rattle.rkyv_dict.specs.Built.{Holds, PairsStand, PairsStandAt}
+use Rattle.rkyv_dict.specs.Archives.{hash, pair_spec, root, value_text}
+use Rattle.rkyv_dict.specs.Built.{Holds, PairsRepresent, PairsRepresentAt}
 use Rattle.rkyv_dict.specs.First.{HasHomes, first_under, first_value}
 use Rattle.rkyv_dict.specs.Forms.{Pairs, asked_number, asked_text, numbers, texts, word_of}
 use Rattle.rkyv_dict.specs.Parts.{Parts, number_parts, text_parts}
-use Rattle.rkyv_dict.specs.declared.form.Bits.{Bits}
+use Rattle.rkyv_dict.specs.declared.form.ArchiveWidth.{ArchiveWidth}
 use Rattle.rkyv_dict.specs.declared.form.Form.{Form}
 use Rattle.rkyv_dict.specs.declared.form.Kind.{Kind}
 use Rattle.rkyv_dict.specs.declared.form.Kind.TheVariants.{Num, Text}
@@ -38,37 +38,37 @@ firsts_alike fits asks shown show (x ∷ xs) (y ∷ ys) n h =
       | inr f ↦ rw (here.0, f) rest
     ]
 
-module _ (k : Parts) {A : Type 0} (stands : List ℕ → ℕ → A → Type 0) (factor : ℕ × ℕ) (b : List ℕ) (pairs : List (A × A))
-    (fits : ℕ → Bool) (asks : A → Bool) (show : A → List ℕ) (alike : (q : ℕ) (a : A) → stands b q a → fits q ≡ asks a) (reads : (q : ℕ) (a : A) → stands b q a → k.text b q ≡ show a) where
-  first_at : (h : PairsStandAt k factor stands b (root k b) pairs)
-      → option_map (value_text k b) (find fits (home_positions k.word (pair_shape k).size b (root k b) h.homes)) ≡ option_map (λ pair. show pair.1) (find (λ pair. asks pair.0) pairs)
+module _ (k : Parts) {A : Type 0} (represents : List ℕ → ℕ → A → Type 0) (factor : ℕ × ℕ) (b : List ℕ) (pairs : List (A × A))
+    (fits : ℕ → Bool) (asks : A → Bool) (show : A → List ℕ) (same_calls : (q : ℕ) (a : A) → represents b q a → fits q ≡ asks a) (reads : (q : ℕ) (a : A) → represents b q a → k.text b q ≡ show a) where
+  first_at : (h : PairsRepresentAt k factor represents b (root k b) pairs)
+      → option_map (value_text k b) (find fits (home_positions k.word (pair_spec k).size b (root k b) h.homes)) ≡ option_map (λ pair. show pair.1) (find (λ pair. asks pair.0) pairs)
   first_at h =
-      let places = home_positions k.word (pair_shape k).size b (root k b) h.homes in
-      let count : length places ≡ length pairs = sym (length-map places (λ q. hash (k.calls b q))) ∙ sym h.written.count ∙ h.len in
-      firsts_alike fits (λ pair. asks pair.0) (value_text k b) (λ pair. show pair.1) places pairs count
+      let positions = home_positions k.word (pair_spec k).size b (root k b) h.homes in
+      let count : length positions ≡ length pairs = sym (length-map positions (λ q. hash (k.calls b q))) ∙ sym h.written.count ∙ h.len in
+      firsts_alike fits (λ pair. asks pair.0) (value_text k b) (λ pair. show pair.1) positions pairs count
       (λ i pair e. let there = h.at i pair e in
-      (alike (slice_index places i) pair.0 there.0, reads (slice_index places i + value_offset k.shape k.shape) pair.1 there.1))
+      (same_calls (slice_index positions i) pair.0 there.0, reads (slice_index positions i + value_offset k.spec k.spec) pair.1 there.1))
 
-  pub first_stands : PairsStand k factor stands pairs b
+  pub first_represents : PairsRepresent k factor represents pairs b
       → (homes : List ℕ) × HasHomes k b homes × (first_under k b homes fits ≡ option_map (λ pair. show pair.1) (find (λ pair. asks pair.0) pairs))
-  unfolding PairsStand HasHomes first_under
-  first_stands h = (h.homes, h.written, first_at h)
+  unfolding PairsRepresent HasHomes first_under
+  first_represents h = (h.homes, h.written, first_at h)
 
 shown_first : {A B U : Type 0} (show : B → U) (o : Option (A × B)) → option_map (λ pair. show pair.1) o ≡ option_map show (option_map (λ pair. pair.1) o)
 shown_first show None = refl
 shown_first show (Some pair) = refl
 
 -- a form equals the record of its kind and its width
-pub form_is : (form : Form) (kind : Kind) (bits : Bits) → form.kind ≡ kind → form.bits ≡ bits → form ≡ record { kind = kind; bits = bits }
+pub form_is : (form : Form) (kind : Kind) (bits : ArchiveWidth) → form.kind ≡ kind → form.bits ≡ bits → form ≡ record { kind = kind; bits = bits }
 form_is form kind bits e d = ap {B = Form} (λ k. record { kind = k; bits = form.bits }) e ∙ ap {B = Form} (λ b. record { kind = kind; bits = b }) d
 
-module _ (bits : Bits) (factor : ℕ × ℕ) (b : List ℕ) where
+module _ (bits : ArchiveWidth) (factor : ℕ × ℕ) (b : List ℕ) where
   -- the first pair of a map of numbers, and of a map of texts
   pub first_number : (pairs : Pairs) (n : ℕ) → Holds (record { kind = Num; bits = bits }) factor b pairs
       → (homes : List ℕ) × HasHomes (number_parts bits) b homes
       × (first_under (number_parts bits) b homes (λ q. n == number_at w32 b q) ≡ first_value pairs (asked_number n))
   first_number (numbers pairs) n h =
-      let there = first_stands (number_parts bits) (ScalarStands (unsigned w32)) factor b pairs
+      let there = first_represents (number_parts bits) (ScalarRepresents (unsigned w32)) factor b pairs
       (λ q. n == number_at w32 b q) (λ key. n == key) decimal (λ q v st. ap (λ x. n == x) st) (λ q v st. ap decimal st) h in
       (there.0, there.1, there.2 ∙ shown_first decimal (find (λ pair. n == pair.0) pairs))
   first_number (texts pairs) n h = absurd h
@@ -77,6 +77,6 @@ module _ (bits : Bits) (factor : ℕ × ℕ) (b : List ℕ) where
       → (homes : List ℕ) × HasHomes (text_parts bits) b homes
       × (first_under (text_parts bits) b homes (λ q. same_bytes t (text_at (word_of bits) b q)) ≡ first_value pairs (asked_text t))
   first_text (texts pairs) t h =
-      first_stands (text_parts bits) (TextReads (word_of bits)) factor b pairs
+      first_represents (text_parts bits) (TextReads (word_of bits)) factor b pairs
       (λ q. same_bytes t (text_at (word_of bits) b q)) (λ key. same_bytes t key) (λ v. v) (λ q v st. ap (same_bytes t) st) (λ q v st. st) h
   first_text (numbers pairs) t h = absurd h

@@ -8,8 +8,9 @@ use Rattle.rkyv_base.specs.declared.strings.TextResolver.{TextResolver}
 use Rattle.rkyv_base.specs.Format.{Format}
 use Rattle.rkyv_base.specs.Pairs.{PairNext, PairParts, pair_format}
 use Rattle.rkyv_base.specs.Scalar.{Encoding, scalar_format}
-use Rattle.rkyv_base.specs.Shape.{Shape}
-use Rattle.rkyv_base.specs.Text.{IsArchiveWord, by_archive_word, text_size}
+use Rattle.rkyv_base.specs.ElementSpec.{ElementSpec}
+use Rattle.rkyv_base.specs.Text.{IsArchiveWord, text_size}
+use Rattle.rkyv_base.specs.Lemmas.Text.{by_archive_word}
 use Rattle.rkyv_base.specs.TextWriting.{TextNext, TextParts, text_format, text_limit}
 use Rattle.rkyv_base.specs.Writing.{Refusal, Step, distance, long_text, no_memory, piece, refusal, zeros}
 use Rattle.rkyv_table.specs.Table.OneWay.{WritesOneWay}
@@ -41,20 +42,20 @@ module _ (w : Width) (kind : IsArchiveWord w) (t : List ℕ) (p : ℕ) where
   text_inside front bytes part (inl x) (r, (u, inr y)) = omega (arith, ap length x.1.0, ap length (same_piece bytes t x.1.1), ap length y.1)
   text_inside front bytes part (inr x) y = absurd (no_piece long_text bytes (sym x.1.1))
 
-  text_clear : (front part : List ℕ) (c : Refusal) → IsKnown c → TextNext w t p front (refusal c) → ((r : TextResolver) × TextParts w t p part r) → ⊥
-  text_clear front part c k (inl x) y = no_piece c t x.1.1
-  text_clear front part c k (inr x) (r, (u, inl y)) = omega (arith, limit_above, x.0, y.0)
-  text_clear front part c k (inr x) (r, (u, inr y)) = omega (arith, x.0, y.0.1)
+  text_exclusive : (front part : List ℕ) (c : Refusal) → IsKnown c → TextNext w t p front (refusal c) → ((r : TextResolver) × TextParts w t p part r) → ⊥
+  text_exclusive front part c k (inl x) y = no_piece c t x.1.1
+  text_exclusive front part c k (inr x) (r, (u, inl y)) = omega (arith, limit_above, x.0, y.0)
+  text_exclusive front part c k (inr x) (r, (u, inr y)) = omega (arith, x.0, y.0.1)
 
   text_ends : Ends (TextNext w t p) (λ part. (r : TextResolver) × TextParts w t p part r)
-  text_ends = record { refusals = text_refusals; before = text_before; inside = text_inside; clear = text_clear }
+  text_ends = record { refusals = text_refusals; before = text_before; inside = text_inside; exclusive = text_exclusive }
 
 pub texts_end : (w : Width) → IsArchiveWord w → EndsOneWay (text_format w)
 texts_end w kind = record { ends = text_ends w kind }
 
 -- ---- pairs
 
-module _ {V W R Q : Type 0} (k v : Shape) (kf : Format V R) (vf : Format W Q) (ko : WritesOneWay kf) (ke : EndsOneWay kf) (ve : EndsOneWay vf) (pair : V × W) (p : ℕ) where
+module _ {V W R Q : Type 0} (k v : ElementSpec) (kf : Format V R) (vf : Format W Q) (ko : WritesOneWay kf) (ke : EndsOneWay kf) (ve : EndsOneWay vf) (pair : V × W) (p : ℕ) where
   abbrev KeyThenValueNext : List ℕ → Step → Type 0
   KeyThenValueNext front step = ThenNext {R = R} (kf.next pair.0 p) (kf.parts pair.0 p) (λ n r. vf.next pair.1 (p + n)) (λ n r b. (q : Q) × vf.parts pair.1 (p + n) b q) front step
 
@@ -86,12 +87,12 @@ module _ {V W R Q : Type 0} (k v : Shape) (kf : Format V R) (vf : Format W Q) (k
   pair_inside front bytes part (inl x) y = absurd (no_piece _ bytes (sym x.2))
   pair_inside front bytes part (inr x) y = both_end.inside front bytes part x.1 (pair_made part y)
 
-  pair_clear : (front part : List ℕ) (c : Refusal) → IsKnown c → PairNext k v kf vf pair p front (refusal c) → ((r : EntryResolver R Q) × PairParts k v kf vf pair p part r) → ⊥
-  pair_clear front part c n (inl x) (r, h) = omega (arith, x.0, h.0)
-  pair_clear front part c n (inr x) y = both_end.clear front part c n x.1 (pair_made part y)
+  pair_exclusive : (front part : List ℕ) (c : Refusal) → IsKnown c → PairNext k v kf vf pair p front (refusal c) → ((r : EntryResolver R Q) × PairParts k v kf vf pair p part r) → ⊥
+  pair_exclusive front part c n (inl x) (r, h) = omega (arith, x.0, h.0)
+  pair_exclusive front part c n (inr x) y = both_end.exclusive front part c n x.1 (pair_made part y)
 
   pair_ends : Ends (PairNext k v kf vf pair p) (λ part. (r : EntryResolver R Q) × PairParts k v kf vf pair p part r)
-  pair_ends = record { refusals = pair_refusals; before = pair_before; inside = pair_inside; clear = pair_clear }
+  pair_ends = record { refusals = pair_refusals; before = pair_before; inside = pair_inside; exclusive = pair_exclusive }
 
-pub pairs_end : {V W R Q : Type 0} (k v : Shape) (kf : Format V R) (vf : Format W Q) → WritesOneWay kf → EndsOneWay kf → EndsOneWay vf → EndsOneWay (pair_format k v kf vf)
+pub pairs_end : {V W R Q : Type 0} (k v : ElementSpec) (kf : Format V R) (vf : Format W Q) → WritesOneWay kf → EndsOneWay kf → EndsOneWay vf → EndsOneWay (pair_format k v kf vf)
 pairs_end k v kf vf ko ke ve = record { ends = pair_ends k v kf vf ko ke ve }

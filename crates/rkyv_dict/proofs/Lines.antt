@@ -4,7 +4,7 @@ use Rattle.std.specs.Borrow.{Bor}
 use Rattle.std.specs.List.{flat_map}
 use Rattle.std.specs.Prelude.{codes}
 use Rattle.rkyv_base.specs.Entry.{value_offset}
-use Rattle.rkyv_base.specs.Shape.{Shape}
+use Rattle.rkyv_base.specs.ElementSpec.{ElementSpec}
 use Rattle.rkyv_base.specs.declared.view.View.{View}
 use Rattle.rkyv_keys.specs.Places.{at_view}
 use Rattle.rkyv_table.specs.Table.RawItems.{ItemsLeft}
@@ -15,7 +15,7 @@ pub ok_map : {T E P Q : Type 0} (r : Result T E) → (P → Q) → OnOk r P → 
 ok_map (Ok x) f h = f h
 ok_map (Err e) f h = h
 
-module _ {K V : Type 0} (s : Shape) (text : List ℕ → ℕ → List ℕ) (archive : Bor (List ℕ)) (before after : ItemsLeft) (key : View K) (value : View V) (same : before.archive ≡ archive)
+module _ {K V : Type 0} (s : ElementSpec) (text : List ℕ → ℕ → List ℕ) (archive : Bor (List ℕ)) (before after : ItemsLeft) (key : View K) (value : View V) (same : before.archive ≡ archive)
     (takes : TakesFirst before key.pos after) (k : ViewsAt s before key.pos key) (v : ViewsAt s before (key.pos + value_offset s s) value) where
   -- the line of the current pair
   taken_line : line (at_view text key ++ codes " " ++ at_view text value) ≡ line_at s text archive.now key.pos
@@ -25,9 +25,9 @@ module _ {K V : Type 0} (s : Shape) (text : List ℕ → ℕ → List ℕ) (arch
       ∙ ap (λ (a : Bor (List ℕ)). line (text archive.now key.pos ++ codes " " ++ text a.now value.pos)) (v.at.0 ∙ same)
       ∙ ap (λ q. line (text archive.now key.pos ++ codes " " ++ text archive.now q)) v.at.1
 
-  pub lines_after : (all old new : List ℕ) → all ≡ old ++ flat_map (line_at s text archive.now) before.places → new ≡ old ++ line (at_view text key ++ codes " " ++ at_view text value)
-      → all ≡ new ++ flat_map (line_at s text archive.now) after.places
+  pub lines_after : (all old new : List ℕ) → all ≡ old ++ flat_map (line_at s text archive.now) before.positions → new ≡ old ++ line (at_view text key ++ codes " " ++ at_view text value)
+      → all ≡ new ++ flat_map (line_at s text archive.now) after.positions
   lines_after all old new e n =
       let lines : ℕ → List ℕ = line_at s text archive.now in
-      let rest : List ℕ = flat_map lines after.places in
-      e ∙ ap (λ places. old ++ flat_map lines places) takes.first ∙ sym (append_assoc old (lines key.pos) rest) ∙ ap (λ t. (old ++ t) ++ rest) (sym taken_line) ∙ ap (λ t. t ++ rest) (sym n)
+      let rest : List ℕ = flat_map lines after.positions in
+      e ∙ ap (λ positions. old ++ flat_map lines positions) takes.first ∙ sym (append_assoc old (lines key.pos) rest) ∙ ap (λ t. (old ++ t) ++ rest) (sym taken_line) ∙ ap (λ t. t ++ rest) (sym n)

@@ -2,25 +2,29 @@
 use Rattle.std.proofs.Common.{◌≡◌, ℕ, ◌+◌, ◌-◌, ◌∙◌, refl, sym, ap, subst, arith, inl, inr, List, ◌++◌, length}
 use Rattle.std.specs.Int.{w32}
 use Rattle.rkyv_base.specs.Access.{Accepted, AccessFails}
-use Rattle.rkyv_base.specs.Entry.{entry_element, round_up}
+use Rattle.rkyv_base.specs.Entry.{round_up}
+use Rattle.rkyv_base.specs.Lemmas.Entry.{entry_element}
 use Rattle.rkyv_base.specs.Format.{Format}
-use Rattle.rkyv_base.specs.Numbers.{unsigned, unsigned_codes}
+use Rattle.rkyv_base.specs.Numbers.{unsigned}
+use Rattle.rkyv_base.specs.Lemmas.Numbers.{unsigned_codes}
 use Rattle.rkyv_base.specs.Root.{ArchiveOf}
-use Rattle.rkyv_base.specs.Scalar.{ScalarStands, scalar_element, scalar_format}
-use Rattle.rkyv_base.specs.Shape.{IsElement, Shape}
-use Rattle.rkyv_base.specs.Text.{IsArchiveWord, TextReads, text_element}
+use Rattle.rkyv_base.specs.Scalar.{ScalarRepresents, scalar_format}
+use Rattle.rkyv_base.specs.Lemmas.Scalar.{scalar_element}
+use Rattle.rkyv_base.specs.ElementSpec.{IsElement, ElementSpec}
+use Rattle.rkyv_base.specs.Text.{IsArchiveWord, TextReads}
+use Rattle.rkyv_base.specs.Lemmas.Text.{text_element}
 use Rattle.rkyv_base.specs.TextWriting.{text_format}
 use Rattle.rkyv_base.specs.Writing.{padding, zeros}
 use Rattle.rkyv_base.specs.declared.errors.VerifyError.{VerifyError}
 use Rattle.rkyv_table.specs.Table.Listed.{listed}
 use Rattle.rkyv_collections.specs.MapFormat.{keyed, map_format}
-use Rattle.rkyv_dict.specs.Archives.{IsArchive, IsMapArchive, IsRefused, MapArchiveFails, hash, header_shape, pair_shape}
-use Rattle.rkyv_dict.specs.Built.{IsArchiveOf, PairsStandAt, built_in, pairs_format}
+use Rattle.rkyv_dict.specs.Archives.{IsArchive, IsMapArchive, IsRefused, MapArchiveFails, hash, header_spec, pair_spec}
+use Rattle.rkyv_dict.specs.Built.{IsArchiveOf, PairsRepresentAt, built_in, pairs_format}
 use Rattle.rkyv_dict.specs.Forms.{Pairs, buckets_of, numbers, texts, word_of}
 use Rattle.rkyv_dict.specs.Once.{BuildsAreOne, ChecksAreOne}
 use Rattle.rkyv_dict.specs.Parts.{Parts, number_calls, number_parts, parts_in, text_parts}
-use Rattle.rkyv_dict.specs.declared.form.Bits.{Bits}
-use Rattle.rkyv_dict.specs.declared.form.Bits.TheVariants.{Bits32, Bits64}
+use Rattle.rkyv_dict.specs.declared.form.ArchiveWidth.{ArchiveWidth}
+use Rattle.rkyv_dict.specs.declared.form.ArchiveWidth.TheVariants.{Bits32, Bits64}
 use Rattle.rkyv_dict.specs.declared.form.Kind.{Kind}
 use Rattle.rkyv_dict.specs.declared.form.Kind.TheVariants.{Num, Text}
 use Rattle.rkyv_keys.specs.Calls.{text_calls}
@@ -32,7 +36,7 @@ use Rattle.rkyv_table.specs.Table.OneWay.{WritesOneWay}
 use Rattle.rkyv_table.specs.Table.TableFormat.{table_format}
 
 -- the word of each width is an archive word
-pub is_word : (bits : Bits) → IsArchiveWord (word_of bits)
+pub is_word : (bits : ArchiveWidth) → IsArchiveWord (word_of bits)
 is_word Bits32 = inl refl
 is_word Bits64 = inr refl
 
@@ -44,9 +48,9 @@ listed_one_way most factor f one = record {
   image = λ xs begin p part a b r m g h. one.image xs begin p part a b r m.1 g h;
 }
 
-archives_one_way : {V R : Type 0} (limit : ℕ) (s : Shape) (stands : List ℕ → ℕ → V → Type 0) (f : Format V R) → WritesOneWay f → (v : V) (a b : List ℕ)
-    → ArchiveOf limit s stands f v a → ArchiveOf limit s stands f v b → a ≡ b
-archives_one_way limit s stands f one v a b x y =
+archives_one_way : {V R : Type 0} (limit : ℕ) (s : ElementSpec) (represents : List ℕ → ℕ → V → Type 0) (f : Format V R) → WritesOneWay f → (v : V) (a b : List ℕ)
+    → ArchiveOf limit s represents f v a → ArchiveOf limit s represents f v b → a ≡ b
+archives_one_way limit s represents f one v a b x y =
     let g = x.2 in
     let h = y.2 in
     let made = one.parts v 0 g.0 h.0 g.1 h.1 g.3 h.3 in
@@ -61,23 +65,23 @@ archives_one_way limit s stands f one v a b x y =
 pub pairs_written_one_way : (k : Parts) {A R : Type 0} (factor : ℕ × ℕ) (most : ℕ) (format : Format A R) (calls : A → List HasherCall) → WritesOneWay format
     → WritesOneWay (pairs_format k factor most format calls)
 pairs_written_one_way k factor most format calls one =
-    let entries = pair_shape k in
-    let pair = pairs_one_way k.shape k.shape format format one one in
+    let entries = pair_spec k in
+    let pair = pairs_one_way k.spec k.spec format format one one in
     let table = tables_one_way k.word entries _ pair factor in
     let map = seen_one_way (keyed (λ value. hash (calls value))) _ table in
     listed_one_way most factor _ map
 
-map_archive_one : (k : Parts) {A R : Type 0} (factor : ℕ × ℕ) (most : ℕ) (format : Format A R) (calls : A → List HasherCall) (stands : List ℕ → ℕ → A → Type 0)
+map_archive_one : (k : Parts) {A R : Type 0} (factor : ℕ × ℕ) (most : ℕ) (format : Format A R) (calls : A → List HasherCall) (represents : List ℕ → ℕ → A → Type 0)
     → WritesOneWay format → (pairs : List (A × A)) (a b : List ℕ)
-    → IsArchiveOf k factor most format calls stands pairs a → IsArchiveOf k factor most format calls stands pairs b → a ≡ b
+    → IsArchiveOf k factor most format calls represents pairs a → IsArchiveOf k factor most format calls represents pairs b → a ≡ b
 unfolding IsArchiveOf
-map_archive_one k factor most format calls stands one pairs a b x y =
-    archives_one_way k.limit (header_shape k) (PairsStandAt k factor stands) (pairs_format k factor most format calls)
+map_archive_one k factor most format calls represents one pairs a b x y =
+    archives_one_way k.limit (header_spec k) (PairsRepresentAt k factor represents) (pairs_format k factor most format calls)
     (pairs_written_one_way k factor most format calls one) pairs a b x y
 
-built_one : (kind : Kind) (bits : Bits) (factor : ℕ × ℕ) (pairs : Pairs) (a b : List ℕ) → built_in kind bits factor pairs a → built_in kind bits factor pairs b → a ≡ b
+built_one : (kind : Kind) (bits : ArchiveWidth) (factor : ℕ × ℕ) (pairs : Pairs) (a b : List ℕ) → built_in kind bits factor pairs a → built_in kind bits factor pairs b → a ≡ b
 built_one Num bits factor (numbers pairs) a b x y =
-    map_archive_one (number_parts bits) factor (buckets_of bits) (scalar_format (unsigned w32)) number_calls (ScalarStands (unsigned w32)) (scalars_one_way (unsigned w32)) pairs a b x y
+    map_archive_one (number_parts bits) factor (buckets_of bits) (scalar_format (unsigned w32)) number_calls (ScalarRepresents (unsigned w32)) (scalars_one_way (unsigned w32)) pairs a b x y
 built_one Text bits factor (texts pairs) a b x y =
     map_archive_one (text_parts bits) factor (buckets_of bits) (text_format (word_of bits)) text_calls (TextReads (word_of bits)) (texts_one_way (word_of bits) (is_word bits)) pairs a b x y
 built_one Num bits factor (texts pairs) a b x y = absurd x
@@ -88,13 +92,13 @@ builds_are_one form factor pairs a b x y = built_one form.kind form.bits factor 
 
 -- ---- validations
 
-access_clear : (limit : ℕ) (s : Shape) → IsElement s → (b : List ℕ) (e : VerifyError) → AccessFails limit s b e → Accepted limit s b → ⊥
-access_clear limit s laws b e (inl (inl low, q)) a = omega (arith, low, a.inside)
-access_clear limit s laws b e (inl (inr high, q)) a = omega (arith, high, a.within)
-access_clear limit s laws b e (inr (inl f)) a = f.2 a.aligned
-access_clear limit s laws b e (inr (inr f)) a = laws.clear b (length b - s.size) 0 (length b - s.size) a.stands.0 e a.stands.1 f.3
+access_exclusive : (limit : ℕ) (s : ElementSpec) → IsElement s → (b : List ℕ) (e : VerifyError) → AccessFails limit s b e → Accepted limit s b → ⊥
+access_exclusive limit s laws b e (inl (inl low, q)) a = omega (arith, low, a.inside)
+access_exclusive limit s laws b e (inl (inr high, q)) a = omega (arith, high, a.within)
+access_exclusive limit s laws b e (inr (inl f)) a = f.2 a.aligned
+access_exclusive limit s laws b e (inr (inr f)) a = laws.exclusive b (length b - s.size) 0 (length b - s.size) a.valid.0 e a.valid.1 f.3
 
-access_one : (limit : ℕ) (s : Shape) → IsElement s → (b : List ℕ) (e d : VerifyError) → AccessFails limit s b e → AccessFails limit s b d → e ≡ d
+access_one : (limit : ℕ) (s : ElementSpec) → IsElement s → (b : List ℕ) (e d : VerifyError) → AccessFails limit s b e → AccessFails limit s b d → e ≡ d
 access_one limit s laws b e d (inl f) (inl g) = f.1 ∙ sym g.1
 access_one limit s laws b e d (inl (inl low, q)) (inr (inl g)) = absurd (omega (arith, low, g.0))
 access_one limit s laws b e d (inl (inr high, q)) (inr (inl g)) = absurd (omega (arith, high, g.1))
@@ -109,23 +113,23 @@ access_one limit s laws b e d (inr (inl f)) (inr (inr g)) = absurd (f.2 g.2)
 access_one limit s laws b e d (inr (inr f)) (inr (inl g)) = absurd (g.2 f.2)
 access_one limit s laws b e d (inr (inr f)) (inr (inr g)) = laws.one_failure b (length b - s.size) 0 (length b - s.size) e d f.3 g.3
 
-part_element : (kind : Kind) (bits : Bits) → IsElement (parts_in kind bits).shape
+part_element : (kind : Kind) (bits : ArchiveWidth) → IsElement (parts_in kind bits).spec
 part_element Num bits = scalar_element (unsigned w32) (inr (inr (inl refl))) (unsigned_codes w32)
 part_element Text bits = text_element (word_of bits) (is_word bits)
 
-part_word : (kind : Kind) (bits : Bits) → IsArchiveWord (parts_in kind bits).word
+part_word : (kind : Kind) (bits : ArchiveWidth) → IsArchiveWord (parts_in kind bits).word
 part_word Num bits = is_word bits
 part_word Text bits = is_word bits
 
-header_element : (k : Parts) → IsArchiveWord k.word → IsElement k.shape → IsElement (header_shape k)
-header_element k word part = table_element k.word word (pair_shape k) (entry_element k.shape k.shape part part)
+header_element : (k : Parts) → IsArchiveWord k.word → IsElement k.spec → IsElement (header_spec k)
+header_element k word part = table_element k.word word (pair_spec k) (entry_element k.spec k.spec part part)
 
-map_check_one : (k : Parts) → IsElement (header_shape k) → (b : List ℕ) (e : VerifyError) → MapArchiveFails k b e
+map_check_one : (k : Parts) → IsElement (header_spec k) → (b : List ℕ) (e : VerifyError) → MapArchiveFails k b e
     → (IsMapArchive k b → ⊥) × ((d : VerifyError) → MapArchiveFails k b d → e ≡ d)
 unfolding IsMapArchive MapArchiveFails
-map_check_one k laws b e f = (access_clear k.limit (header_shape k) laws b e f, λ d g. access_one k.limit (header_shape k) laws b e d f g)
+map_check_one k laws b e f = (access_exclusive k.limit (header_spec k) laws b e f, λ d g. access_one k.limit (header_spec k) laws b e d f g)
 
-check_one : (kind : Kind) (bits : Bits) (b : List ℕ) (e : VerifyError) → MapArchiveFails (parts_in kind bits) b e
+check_one : (kind : Kind) (bits : ArchiveWidth) (b : List ℕ) (e : VerifyError) → MapArchiveFails (parts_in kind bits) b e
     → (IsMapArchive (parts_in kind bits) b → ⊥) × ((d : VerifyError) → MapArchiveFails (parts_in kind bits) b d → e ≡ d)
 check_one kind bits b e f =
     map_check_one (parts_in kind bits) (header_element (parts_in kind bits) (part_word kind bits) (part_element kind bits)) b e f

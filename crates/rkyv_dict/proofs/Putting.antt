@@ -2,26 +2,26 @@
 use Rattle.std.proofs.Common.{◌≡◌, ℕ, ◌≤◌, Option, Some, None, refl, ap}
 use Rattle.std.specs.Option.{ForSome, option_map}
 use Rattle.rkyv_dict.specs.declared.dict.Stored.{Stored}
-use Rattle.rkyv_dict.specs.declared.form.Bits.{Bits}
+use Rattle.rkyv_dict.specs.declared.form.ArchiveWidth.{ArchiveWidth}
 use Rattle.rkyv_dict.specs.Counts.{take_pairs}
 use Rattle.rkyv_dict.specs.Forms.{Pairs}
 use Rattle.rkyv_dict.specs.Shown.{archived_seen}
 use Rattle.rkyv_dict.specs.State.{State}
 
-built_kept : (old new : Pairs) (most : ℕ) (handed : Option ℕ) → ForSome handed (λ n. n ≤ most)
+built_kept : (old new : Pairs) (most : ℕ) (built_len : Option ℕ) → ForSome built_len (λ n. n ≤ most)
     → ((n : ℕ) → n ≤ most → take_pairs n new ≡ take_pairs n old)
-    → option_map (λ n. take_pairs n new) handed ≡ option_map (λ n. take_pairs n old) handed
+    → option_map (λ n. take_pairs n new) built_len ≡ option_map (λ n. take_pairs n old) built_len
 built_kept old new most None h same = refl
 built_kept old new most (Some n) h same = ap Some (same n (h n refl))
 
-archive_kept : (old new : Pairs) (most : ℕ) (archive : Option Stored) → ForSome archive (λ a. ForSome a.handed (λ n. n ≤ most))
+archive_kept : (old new : Pairs) (most : ℕ) (archive : Option Stored) → ForSome archive (λ a. ForSome a.built_len (λ n. n ≤ most))
     → ((n : ℕ) → n ≤ most → take_pairs n new ≡ take_pairs n old)
     → option_map (archived_seen new) archive ≡ option_map (archived_seen old) archive
 archive_kept old new most None h same = refl
 archive_kept old new most (Some stored) h same =
-    ap (λ (b : Option Pairs). Some (record { bytes = stored.bytes.items; built_of = b })) (built_kept old new most stored.handed (h stored refl) same)
+    ap (λ (b : Option Pairs). Some (record { bytes = stored.bytes.items; built_of = b })) (built_kept old new most stored.built_len (h stored refl) same)
 
-pub pair_put : (bits : Bits) (factor : ℕ × ℕ) (old new after : Pairs) (most : ℕ) (archive : Option Stored) → ForSome archive (λ a. ForSome a.handed (λ n. n ≤ most))
+pub pair_put : (bits : ArchiveWidth) (factor : ℕ × ℕ) (old new after : Pairs) (most : ℕ) (archive : Option Stored) → ForSome archive (λ a. ForSome a.built_len (λ n. n ≤ most))
     → ((n : ℕ) → n ≤ most → take_pairs n new ≡ take_pairs n old) → new ≡ after
     → ◌≡◌ {A = State} (record { bits = bits; load_factor = factor; pairs = new; archive = option_map (archived_seen new) archive })
     (record { bits = bits; load_factor = factor; pairs = after; archive = option_map (archived_seen old) archive })

@@ -2,15 +2,20 @@
 use Rattle.std.proofs.Common.{◌≡◌, ℕ, ◌+◌, ◌-◌, ◌<◌, ◌≤◌, ◌∙◌, refl, sym, ap, subst, arith, inl, inr, List, [], ◌∷◌, ◌++◌, length, false}
 use Rattle.std.specs.Prelude.{◌⊎◌}
 use Rattle.std.specs.Int.{w32}
-use Rattle.rkyv_base.specs.Entry.{entry_element}
+use Rattle.rkyv_base.specs.Lemmas.Entry.{entry_element}
 use Rattle.rkyv_base.specs.Format.{Format, IsFormat}
-use Rattle.rkyv_base.specs.Numbers.{unsigned, unsigned_codes}
-use Rattle.rkyv_base.specs.Pairs.{PairStands, pair_format, pair_is_format, written_as}
+use Rattle.rkyv_base.specs.Numbers.{unsigned}
+use Rattle.rkyv_base.specs.Lemmas.Numbers.{unsigned_codes}
+use Rattle.rkyv_base.specs.Pairs.{PairRepresents, pair_format, written_as}
+use Rattle.rkyv_base.specs.Lemmas.Pairs.{pair_is_format}
 use Rattle.rkyv_base.specs.Root.{ArchiveOf, ArchiveRefused, RootBytes, RootNext}
-use Rattle.rkyv_base.specs.Scalar.{ScalarStands, scalar_element, scalar_format, scalar_is_format, scalar_laws, scalar_shape}
-use Rattle.rkyv_base.specs.Shape.{IsElement, Shape}
-use Rattle.rkyv_base.specs.Text.{IsArchiveWord, TextReads, text_element}
-use Rattle.rkyv_base.specs.TextWriting.{text_format, text_is_format}
+use Rattle.rkyv_base.specs.Scalar.{ScalarRepresents, scalar_format, scalar_spec}
+use Rattle.rkyv_base.specs.Lemmas.Scalar.{scalar_element, scalar_is_format, scalar_laws}
+use Rattle.rkyv_base.specs.ElementSpec.{IsElement, ElementSpec}
+use Rattle.rkyv_base.specs.Text.{IsArchiveWord, TextReads}
+use Rattle.rkyv_base.specs.Lemmas.Text.{text_element}
+use Rattle.rkyv_base.specs.TextWriting.{text_format}
+use Rattle.rkyv_base.specs.Lemmas.TextWriting.{text_is_format}
 use Rattle.rkyv_base.specs.Writing.{Refusal, Step, no_memory, piece, refusal}
 use Rattle.rkyv_base.specs.declared.errors.WriteError.{WriteError}
 use Rattle.rkyv_base.specs.declared.writer.NoMemory.{NoMemory}
@@ -22,17 +27,17 @@ use Rattle.rkyv_table.proofs.ReadyOneWay.{pairs_one_way, scalars_one_way, texts_
 use Rattle.rkyv_table.specs.Lemmas.TableSound.{table_is_format}
 use Rattle.rkyv_table.specs.Table.OneWay.{WritesOneWay}
 use Rattle.rkyv_table.specs.Table.Serializing.{HasCapacity}
-use Rattle.rkyv_table.specs.Table.TableFormat.{TableResolver, TableStands, table_format}
-use Rattle.rkyv_dict.specs.Archives.{hash, header_shape, pair_shape}
-use Rattle.rkyv_dict.specs.Built.{IsArchiveOf, NoArchiveOf, PairsStandAt, built_in, pairs_format, refused_in}
-use Rattle.rkyv_dict.specs.Errors.{cause_told, wants_memory}
+use Rattle.rkyv_table.specs.Table.TableFormat.{TableResolver, TableRepresents, table_format}
+use Rattle.rkyv_dict.specs.Archives.{hash, header_spec, pair_spec}
+use Rattle.rkyv_dict.specs.Built.{IsArchiveOf, ArchiveFails, PairsRepresentAt, built_in, pairs_format, refused_in}
+use Rattle.rkyv_dict.specs.Errors.{cause_text, wants_memory}
 use Rattle.rkyv_dict.specs.Forms.{Pairs, buckets_of, numbers, texts, word_of}
 use Rattle.rkyv_dict.specs.Once.{RefusedBuildsAreOne}
 use Rattle.rkyv_dict.specs.Parts.{Parts, number_calls, number_parts, text_parts}
-use Rattle.rkyv_dict.specs.declared.form.Bits.{Bits}
+use Rattle.rkyv_dict.specs.declared.form.ArchiveWidth.{ArchiveWidth}
 use Rattle.rkyv_dict.specs.declared.form.Kind.{Kind}
 use Rattle.rkyv_dict.specs.declared.form.Kind.TheVariants.{Num, Text}
-use Rattle.rkyv_dict.proofs.CauseEnds.{Why, why_cause, why_clear, why_one}
+use Rattle.rkyv_dict.proofs.CauseEnds.{Why, why_cause, why_exclusive, why_one}
 use Rattle.rkyv_dict.proofs.DictEnds.{tables_end}
 use Rattle.rkyv_dict.proofs.Ends.{Ends, IsKnown, no_piece, same_refusal}
 use Rattle.rkyv_dict.proofs.FormatEnds.{EndsOneWay, pairs_end, scalars_end, texts_end}
@@ -73,12 +78,12 @@ module _ {X R : Type 0} (most : ℕ) (factor : ℕ × ℕ) (f : Format (List X) 
   listed_inside front bytes part (inl x) y = absurd (no_piece x.0 bytes (sym x.2.1))
   listed_inside front bytes part (inr x) y = (rule.ends xs p).inside front bytes part x.1 (y.0, y.1.1)
 
-  listed_clear : (front part : List ℕ) (c : Refusal) → IsKnown c → (listed most factor f).next xs p front (refusal c) → ((r : R) × (listed most factor f).parts xs p part r) → ⊥
-  listed_clear front part c k (inl x) y = refuses_not x.0 (known_so c x.0 k x.2.1) x.1 y.1.0
-  listed_clear front part c k (inr x) y = (rule.ends xs p).clear front part c k x.1 (y.0, y.1.1)
+  listed_exclusive : (front part : List ℕ) (c : Refusal) → IsKnown c → (listed most factor f).next xs p front (refusal c) → ((r : R) × (listed most factor f).parts xs p part r) → ⊥
+  listed_exclusive front part c k (inl x) y = refuses_not x.0 (known_so c x.0 k x.2.1) x.1 y.1.0
+  listed_exclusive front part c k (inr x) y = (rule.ends xs p).exclusive front part c k x.1 (y.0, y.1.1)
 
   listed_ends : Ends ((listed most factor f).next xs p) (λ part. (r : R) × (listed most factor f).parts xs p part r)
-  listed_ends = record { refusals = listed_refusals; before = listed_before; inside = listed_inside; clear = listed_clear }
+  listed_ends = record { refusals = listed_refusals; before = listed_before; inside = listed_inside; exclusive = listed_exclusive }
 
 listed_end : {X R : Type 0} (most : ℕ) (factor : ℕ × ℕ) (f : Format (List X) R) → EndsOneWay f → EndsOneWay (listed most factor f)
 listed_end most factor f rule = record { ends = listed_ends most factor f rule }
@@ -86,67 +91,67 @@ listed_end most factor f rule = record { ends = listed_ends most factor f rule }
 seen_end : {X V R : Type 0} (seen : X → V) (f : Format V R) → EndsOneWay f → EndsOneWay (written_as seen f)
 seen_end seen f rule = record { ends = λ x. rule.ends (seen x) }
 
-module _ (k : Parts) (word : IsArchiveWord k.word) (part : IsElement k.shape) {A R : Type 0} (factor : ℕ × ℕ) (most : ℕ) (format : Format A R) (calls : A → List HasherCall)
-    (one : WritesOneWay format) (ends : EndsOneWay format) (stands : List ℕ → ℕ → A → Type 0) (law : IsFormat k.shape stands format) where
-  pairs_law : IsFormat (pair_shape k) (PairStands k.shape k.shape stands stands) (pair_format k.shape k.shape format format)
-  pairs_law = pair_is_format k.shape k.shape part part stands stands format format law law
+module _ (k : Parts) (word : IsArchiveWord k.word) (part : IsElement k.spec) {A R : Type 0} (factor : ℕ × ℕ) (most : ℕ) (format : Format A R) (calls : A → List HasherCall)
+    (one : WritesOneWay format) (ends : EndsOneWay format) (represents : List ℕ → ℕ → A → Type 0) (law : IsFormat k.spec represents format) where
+  pairs_law : IsFormat (pair_spec k) (PairRepresents k.spec k.spec represents represents) (pair_format k.spec k.spec format format)
+  pairs_law = pair_is_format k.spec k.spec part part represents represents format format law law
 
-  table_law : IsFormat (header_shape k) (TableStands k.word (pair_shape k) (PairStands k.shape k.shape stands stands) factor) (table_format k.word (pair_shape k) (pair_format k.shape k.shape format format) factor)
-  table_law = table_is_format k.word word (pair_shape k) (entry_element k.shape k.shape part part) (PairStands k.shape k.shape stands stands) (pair_format k.shape k.shape format format) pairs_law factor
+  table_law : IsFormat (header_spec k) (TableRepresents k.word (pair_spec k) (PairRepresents k.spec k.spec represents represents) factor) (table_format k.word (pair_spec k) (pair_format k.spec k.spec format format) factor)
+  table_law = table_is_format k.word word (pair_spec k) (entry_element k.spec k.spec part part) (PairRepresents k.spec k.spec represents represents) (pair_format k.spec k.spec format format) pairs_law factor
 
   map_end : EndsOneWay (pairs_format k factor most format calls)
   map_end =
-      listed_end most factor (map_format k.word k.shape k.shape format format (λ a. hash (calls a)) factor)
-      (seen_end (keyed (λ a. hash (calls a))) (table_format k.word (pair_shape k) (pair_format k.shape k.shape format format) factor)
-      (tables_end k.word (pair_shape k) (pair_format k.shape k.shape format format) (pairs_one_way k.shape k.shape format format one one)
-      (pairs_end k.shape k.shape format format one ends ends) pairs_law.whole pairs_law.clear factor))
+      listed_end most factor (map_format k.word k.spec k.spec format format (λ a. hash (calls a)) factor)
+      (seen_end (keyed (λ a. hash (calls a))) (table_format k.word (pair_spec k) (pair_format k.spec k.spec format format) factor)
+      (tables_end k.word (pair_spec k) (pair_format k.spec k.spec format format) (pairs_one_way k.spec k.spec format format one one)
+      (pairs_end k.spec k.spec format format one ends ends) pairs_law.size_exact pairs_law.exclusive factor))
 
-  build_ends : (pairs : List (A × A)) → Ends (RootNext (header_shape k).align (pairs_format k factor most format calls) pairs 0)
-      (λ b. (root : ℕ) × RootBytes (header_shape k).align (pairs_format k factor most format calls) pairs 0 b root)
+  build_ends : (pairs : List (A × A)) → Ends (RootNext (header_spec k).align (pairs_format k factor most format calls) pairs 0)
+      (λ b. (root : ℕ) × RootBytes (header_spec k).align (pairs_format k factor most format calls) pairs 0 b root)
   build_ends pairs =
-      root_ends (header_shape k).size (header_shape k).align (pairs_format k factor most format calls) (pairs_written_one_way k factor most format calls one) map_end
-      (λ xs. table_law.whole (keyed (λ a. hash (calls a)) xs)) (λ xs. table_law.clear (keyed (λ a. hash (calls a)) xs)) pairs 0
+      root_ends (header_spec k).size (header_spec k).align (pairs_format k factor most format calls) (pairs_written_one_way k factor most format calls one) map_end
+      (λ xs. table_law.size_exact (keyed (λ a. hash (calls a)) xs)) (λ xs. table_law.exclusive (keyed (λ a. hash (calls a)) xs)) pairs 0
 
-  why : (pairs : List (A × A)) (c : WriteError NoMemory) → wants_memory c ≡ false → ArchiveRefused k.limit (header_shape k) (pairs_format k factor most format calls) pairs c
-      → Why k.limit (RootNext (header_shape k).align (pairs_format k factor most format calls) pairs 0) (cause_told c)
-  why pairs c m x = why_cause k.limit (RootNext (header_shape k).align (pairs_format k factor most format calls) pairs 0) x.0 x.1.front x.1.kept c m x.1.cause
+  why : (pairs : List (A × A)) (c : WriteError NoMemory) → wants_memory c ≡ false → ArchiveRefused k.limit (header_spec k) (pairs_format k factor most format calls) pairs c
+      → Why k.limit (RootNext (header_spec k).align (pairs_format k factor most format calls) pairs 0) (cause_text c)
+  why pairs c m x = why_cause k.limit (RootNext (header_spec k).align (pairs_format k factor most format calls) pairs 0) x.0 x.1.front x.1.kept c m x.1.cause
 
-  pub map_causes : (pairs : List (A × A)) (c d : WriteError NoMemory) → NoArchiveOf k factor most format calls pairs c → NoArchiveOf k factor most format calls pairs d
-      → wants_memory c ≡ false → wants_memory d ≡ false → cause_told c ≡ cause_told d
-  unfolding NoArchiveOf
-  map_causes pairs c d x y m n = why_one k.limit (RootNext (header_shape k).align (pairs_format k factor most format calls) pairs 0) (build_ends pairs) (cause_told c) (cause_told d) (why pairs c m x) (why pairs d n y)
+  pub map_causes : (pairs : List (A × A)) (c d : WriteError NoMemory) → ArchiveFails k factor most format calls pairs c → ArchiveFails k factor most format calls pairs d
+      → wants_memory c ≡ false → wants_memory d ≡ false → cause_text c ≡ cause_text d
+  unfolding ArchiveFails
+  map_causes pairs c d x y m n = why_one k.limit (RootNext (header_spec k).align (pairs_format k factor most format calls) pairs 0) (build_ends pairs) (cause_text c) (cause_text d) (why pairs c m x) (why pairs d n y)
 
-  pub map_built : (pairs : List (A × A)) (b : List ℕ) (c : WriteError NoMemory) → IsArchiveOf k factor most format calls stands pairs b → NoArchiveOf k factor most format calls pairs c
+  pub map_built : (pairs : List (A × A)) (b : List ℕ) (c : WriteError NoMemory) → IsArchiveOf k factor most format calls represents pairs b → ArchiveFails k factor most format calls pairs c
       → wants_memory c ≡ false → ⊥
-  unfolding NoArchiveOf IsArchiveOf
+  unfolding ArchiveFails IsArchiveOf
   map_built pairs b c x y m =
-      why_clear k.limit (RootNext (header_shape k).align (pairs_format k factor most format calls) pairs 0) (build_ends pairs) (cause_told c) b (why pairs c m y)
-      (length b - (header_shape k).size, x.2) x.0.within
+      why_exclusive k.limit (RootNext (header_spec k).align (pairs_format k factor most format calls) pairs 0) (build_ends pairs) (cause_text c) b (why pairs c m y)
+      (length b - (header_spec k).size, x.2) x.0.within
 
-causes_in : (kind : Kind) (bits : Bits) (factor : ℕ × ℕ) (pairs : Pairs) (c d : WriteError NoMemory) → refused_in kind bits factor pairs c → refused_in kind bits factor pairs d
-    → wants_memory c ≡ false → wants_memory d ≡ false → cause_told c ≡ cause_told d
+causes_in : (kind : Kind) (bits : ArchiveWidth) (factor : ℕ × ℕ) (pairs : Pairs) (c d : WriteError NoMemory) → refused_in kind bits factor pairs c → refused_in kind bits factor pairs d
+    → wants_memory c ≡ false → wants_memory d ≡ false → cause_text c ≡ cause_text d
 causes_in Num bits factor (numbers pairs) c d x y m n =
     map_causes (number_parts bits) (is_word bits) (scalar_element (unsigned w32) (inr (inr (inl refl))) (unsigned_codes w32)) factor (buckets_of bits) (scalar_format (unsigned w32)) number_calls
-    (scalars_one_way (unsigned w32)) (scalars_end (unsigned w32)) (ScalarStands (unsigned w32)) (scalar_is_format (scalar_shape (unsigned w32)) (unsigned w32) (scalar_laws (unsigned w32) (inr (inr (inl refl))))) pairs c d x y m n
+    (scalars_one_way (unsigned w32)) (scalars_end (unsigned w32)) (ScalarRepresents (unsigned w32)) (scalar_is_format (scalar_spec (unsigned w32)) (unsigned w32) (scalar_laws (unsigned w32) (inr (inr (inl refl))))) pairs c d x y m n
 causes_in Text bits factor (texts pairs) c d x y m n =
     map_causes (text_parts bits) (is_word bits) (text_element (word_of bits) (is_word bits)) factor (buckets_of bits) (text_format (word_of bits)) text_calls
     (texts_one_way (word_of bits) (is_word bits)) (texts_end (word_of bits) (is_word bits)) (TextReads (word_of bits)) (text_is_format (word_of bits) (is_word bits)) pairs c d x y m n
 causes_in Num bits factor (texts pairs) c d x y m n = absurd x
 causes_in Text bits factor (numbers pairs) c d x y m n = absurd x
 
-built_in_clear : (kind : Kind) (bits : Bits) (factor : ℕ × ℕ) (pairs : Pairs) (b : List ℕ) (c : WriteError NoMemory) → built_in kind bits factor pairs b → refused_in kind bits factor pairs c
+built_in_exclusive : (kind : Kind) (bits : ArchiveWidth) (factor : ℕ × ℕ) (pairs : Pairs) (b : List ℕ) (c : WriteError NoMemory) → built_in kind bits factor pairs b → refused_in kind bits factor pairs c
     → wants_memory c ≡ false → ⊥
-built_in_clear Num bits factor (numbers pairs) b c x y m =
+built_in_exclusive Num bits factor (numbers pairs) b c x y m =
     map_built (number_parts bits) (is_word bits) (scalar_element (unsigned w32) (inr (inr (inl refl))) (unsigned_codes w32)) factor (buckets_of bits) (scalar_format (unsigned w32)) number_calls
-    (scalars_one_way (unsigned w32)) (scalars_end (unsigned w32)) (ScalarStands (unsigned w32)) (scalar_is_format (scalar_shape (unsigned w32)) (unsigned w32) (scalar_laws (unsigned w32) (inr (inr (inl refl))))) pairs b c x y m
-built_in_clear Text bits factor (texts pairs) b c x y m =
+    (scalars_one_way (unsigned w32)) (scalars_end (unsigned w32)) (ScalarRepresents (unsigned w32)) (scalar_is_format (scalar_spec (unsigned w32)) (unsigned w32) (scalar_laws (unsigned w32) (inr (inr (inl refl))))) pairs b c x y m
+built_in_exclusive Text bits factor (texts pairs) b c x y m =
     map_built (text_parts bits) (is_word bits) (text_element (word_of bits) (is_word bits)) factor (buckets_of bits) (text_format (word_of bits)) text_calls
     (texts_one_way (word_of bits) (is_word bits)) (texts_end (word_of bits) (is_word bits)) (TextReads (word_of bits)) (text_is_format (word_of bits) (is_word bits)) pairs b c x y m
-built_in_clear Num bits factor (texts pairs) b c x y m = absurd x
-built_in_clear Text bits factor (numbers pairs) b c x y m = absurd x
+built_in_exclusive Num bits factor (texts pairs) b c x y m = absurd x
+built_in_exclusive Text bits factor (numbers pairs) b c x y m = absurd x
 
 pub refused_builds_are_one : RefusedBuildsAreOne
 refused_builds_are_one = record {
   causes = λ form factor pairs c d x y m n. causes_in form.kind form.bits factor pairs c d x y m n;
-  built = λ form factor pairs b c x y m. built_in_clear form.kind form.bits factor pairs b c x y m;
+  built = λ form factor pairs b c x y m. built_in_exclusive form.kind form.bits factor pairs b c x y m;
 }

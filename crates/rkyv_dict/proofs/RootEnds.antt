@@ -14,18 +14,18 @@ use Rattle.rkyv_dict.proofs.TableEnds.{AlignedMade, AlignedNext, aligned_ends, g
 
 module _ {V R : Type 0} (size align : ℕ) (f : Format V R) (one : WritesOneWay f) (ends : EndsOneWay f)
     (whole : (v : V) (r : R) (p : ℕ) (out : List ℕ) → f.image v r p out → length out ≡ size)
-    (clear : (v : V) (r : R) (p : ℕ) (out : List ℕ) → f.image v r p out → f.far v r p → ⊥) (v : V) (p : ℕ) where
+    (exclusive : (v : V) (r : R) (p : ℕ) (out : List ℕ) → f.image v r p out → f.overflow v r p → ⊥) (v : V) (p : ℕ) where
   abbrev PartsThenNext : List ℕ → Step → Type 0
-  PartsThenNext = ThenNext {R = R} (f.next v p) (f.parts v p) (λ n r. AlignedNext align p (λ q. OwnNext size f whole clear v r q) (λ q. f.image v r q) n) (λ n r. AlignedMade align p (λ q. OwnNext size f whole clear v r q) (λ q. f.image v r q) n)
+  PartsThenNext = ThenNext {R = R} (f.next v p) (f.parts v p) (λ n r. AlignedNext align p (λ q. OwnNext size f whole exclusive v r q) (λ q. f.image v r q) n) (λ n r. AlignedMade align p (λ q. OwnNext size f whole exclusive v r q) (λ q. f.image v r q) n)
 
   abbrev PartsThenMade : List ℕ → Type 0
-  PartsThenMade = ThenMade {R = R} (f.next v p) (f.parts v p) (λ n r. AlignedNext align p (λ q. OwnNext size f whole clear v r q) (λ q. f.image v r q) n) (λ n r. AlignedMade align p (λ q. OwnNext size f whole clear v r q) (λ q. f.image v r q) n)
+  PartsThenMade = ThenMade {R = R} (f.next v p) (f.parts v p) (λ n r. AlignedNext align p (λ q. OwnNext size f whole exclusive v r q) (λ q. f.image v r q) n) (λ n r. AlignedMade align p (λ q. OwnNext size f whole exclusive v r q) (λ q. f.image v r q) n)
 
   parts_then_ends : Ends PartsThenNext PartsThenMade
   parts_then_ends =
-      then_ends {R = R} (f.next v p) (f.parts v p) (λ n r. AlignedNext align p (λ q. OwnNext size f whole clear v r q) (λ q. f.image v r q) n) (λ n r. AlignedMade align p (λ q. OwnNext size f whole clear v r q) (λ q. f.image v r q) n)
+      then_ends {R = R} (f.next v p) (f.parts v p) (λ n r. AlignedNext align p (λ q. OwnNext size f whole exclusive v r q) (λ q. f.image v r q) n) (λ n r. AlignedMade align p (λ q. OwnNext size f whole exclusive v r q) (λ q. f.image v r q) n)
       (λ a b r q m m'. let e = one.parts v p a b r q m m' in (ap length e.0, e.1)) (ends.ends v p)
-      (λ a r m. aligned_ends align p (λ q. OwnNext size f whole clear v r q) (λ q. f.image v r q) (length a) (λ q. own_ends size f whole clear v r q))
+      (λ a r m. aligned_ends align p (λ q. OwnNext size f whole exclusive v r q) (λ q. f.image v r q) (length a) (λ q. own_ends size f whole exclusive v r q))
 
   rounded : (a : List ℕ) → round_up (p + length a) align ≡ p + length a + length (gap align p (length a))
   rounded a = omega (arith, length-replicate {A = ℕ} (padding align (p + length a)) 0)
@@ -39,7 +39,7 @@ module _ {V R : Type 0} (size align : ℕ) (f : Format V R) (one : WritesOneWay 
       inr (part, r, zs, made, inr (zs, tt, [], refl, (refl, inl (own.0, subst (λ n. f.image v r n own.0) (rounded part) own.1, own.2)), sym (append-nil zs)), is)
   root_next front step known (inr (inr (inr (part, r, made, is, inr own)))) =
       let zs = gap align p (length part) in
-      inr (part, r, zs, made, inr (zs, tt, [], refl, (refl, inr (subst (λ n. f.far v r n) (rounded part) own.0, own.1)), sym (append-nil zs)), is)
+      inr (part, r, zs, made, inr (zs, tt, [], refl, (refl, inr (subst (λ n. f.overflow v r n) (rounded part) own.0, own.1)), sym (append-nil zs)), is)
 
   root_made : (b : List ℕ) → ((root : ℕ) × RootBytes align f v p b root) → PartsThenMade b
   root_made b (root, h) =

@@ -3,21 +3,22 @@ use Rattle.std.proofs.Common.{◌≡◌, ℕ, ◌+◌, refl, ap, ◌∙◌, List
 use Rattle.std.specs.Borrow.{Bor}
 use Rattle.std.specs.Option.{option_map}
 use Rattle.std.proofs.lemmas.Option.{same_Some}
-use Rattle.rkyv_base.specs.Access.{Accepted, root_viewed}
-use Rattle.rkyv_base.specs.Shape.{Viewed}
+use Rattle.rkyv_base.specs.Access.{Accepted}
+use Rattle.rkyv_base.specs.Lemmas.Access.{root_viewable}
+use Rattle.rkyv_base.specs.ElementSpec.{Viewable}
 use Rattle.rkyv_base.specs.View.{IsAt, bytes_of, pos_of, pos_of_found}
 use Rattle.rkyv_base.specs.declared.view.View.{View}
 use Rattle.rkyv_keys.specs.Places.{at_view}
-use Rattle.rkyv_dict.specs.Archives.{IsMapArchive, header_shape, root}
+use Rattle.rkyv_dict.specs.Archives.{IsMapArchive, header_spec, root}
 use Rattle.rkyv_dict.specs.Parts.{Parts}
 
 module _ (k : Parts) (b : List ℕ) where
-  pub accepted : IsMapArchive k b → Accepted k.limit (header_shape k) b
+  pub accepted : IsMapArchive k b → Accepted k.limit (header_spec k) b
   unfolding IsMapArchive
   accepted h = h
 
-  pub root_stands : IsMapArchive k b → Viewed (header_shape k) b (root k b)
-  root_stands h = root_viewed k.limit (header_shape k) b (accepted h)
+  pub root_represents : IsMapArchive k b → Viewable (header_spec k) b (root k b)
+  root_represents h = root_viewable k.limit (header_spec k) b (accepted h)
 
 -- a function of the bytes and position of a view is that of the archive and `p`
 pub read_at : {X T : Type 0} (f : List ℕ → ℕ → X) (v : View T) (archive : Bor (List ℕ)) (p : ℕ) → IsAt v archive p → f (bytes_of v) (pos_of v) ≡ f archive.now p

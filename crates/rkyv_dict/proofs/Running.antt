@@ -3,21 +3,21 @@ use Rattle.std.proofs.Common.{◌≡◌, ℕ, List, [], ◌∷◌, ◌++◌, Opt
 use Rattle.std.specs.Io.KnownBytes.{Appends}
 use Rattle.std.proofs.KnownBytes.{Appends-nil, Appends-trans}
 use Rattle.std.proofs.lemmas.List.{append-nil}
-use Rattle.rkyv_dict.specs.Answers.{DoesLine, Runs}
-use Rattle.rkyv_dict.specs.Run.{Adds, AppendsAnswers, AppendsBeginning, AppendsFront, MovesFront, Progress}
+use Rattle.rkyv_dict.specs.Answers.{StepsLine, RunsTo}
+use Rattle.rkyv_dict.specs.Run.{AppendsSome, AppendsAnswers, AppendsBeginning, AppendsFront, MovesFront, Progress}
 use Rattle.rkyv_dict.specs.Script.{lines_of}
 use Rattle.rkyv_dict.specs.State.{State, start}
 
-pub runs_none : (s : State) → Runs s [] [] s
-unfolding Runs
+pub runs_none : (s : State) → RunsTo s [] [] s
+unfolding RunsTo
 runs_none s = (refl, refl)
 
 -- one more line
 pub runs_more : (ls : List (List ℕ)) (s : State) (output : List ℕ) (s' : State) (l answer : List ℕ) (s'' : State)
-    → Runs s ls output s' → DoesLine s' l answer s'' → Runs s (ls ++ l ∷ []) (output ++ answer) s''
-unfolding Runs
+    → RunsTo s ls output s' → StepsLine s' l answer s'' → RunsTo s (ls ++ l ∷ []) (output ++ answer) s''
+unfolding RunsTo
 runs_more [] s output s' l answer s'' runs does =
-    (answer, s'', [], subst (λ (t : State). DoesLine t l answer s'') runs.1 does, (refl, refl), ap (λ o. o ++ answer) runs.0 ∙ sym (append-nil answer))
+    (answer, s'', [], subst (λ (t : State). StepsLine t l answer s'') runs.1 does, (refl, refl), ap (λ o. o ++ answer) runs.0 ∙ sym (append-nil answer))
 runs_more (x ∷ ls) s output s' l answer s'' runs does =
     (runs.0, runs.1, runs.2 ++ answer, runs.3, runs_more ls runs.1 runs.2 s' l answer s'' runs.4 does, ap (λ o. o ++ answer) runs.5 ∙ append_assoc runs.0 runs.2 answer)
 
@@ -26,13 +26,13 @@ progress_none now script held s is none = record {
   done = [];
   lines = refl;
   output = [];
-  runs = subst (Runs start [] []) (sym is) (runs_none start);
+  runs = subst (RunsTo start [] []) (sym is) (runs_none start);
   moved = record { moved = []; parts = sym none; appended = Appends-nil now };
 }
 
 -- a line is executed, and its output is held
 pub progress_line : (old now : Option (List ℕ)) (script held held' : List ℕ) (rest more : List (List ℕ)) (line : List ℕ) (s s' : State)
-    → Progress old now script held rest s → rest ≡ line ∷ more → Adds held held' (λ answer. DoesLine s line answer s') → Progress old now script held' more s'
+    → Progress old now script held rest s → rest ≡ line ∷ more → AppendsSome held held' (λ answer. StepsLine s line answer s') → Progress old now script held' more s'
 progress_line old now script held held' rest more line s s' p cut added = record {
   done = p.done ++ line ∷ [];
   lines = append_assoc p.done (line ∷ []) more ∙ ap (λ l. p.done ++ l) (sym cut) ∙ p.lines;
@@ -95,7 +95,7 @@ pub progress_whole : (old now next : Option (List ℕ)) (script held : List ℕ)
 progress_whole old now next script held s p a = record {
   output = p.output;
   last = s;
-  runs = subst (λ (ls : List (List ℕ)). Runs start ls p.output s) (sym (append-nil p.done) ∙ p.lines) p.runs;
+  runs = subst (λ (ls : List (List ℕ)). RunsTo start ls p.output s) (sym (append-nil p.done) ∙ p.lines) p.runs;
   appended = subst (Appends old next) (sym p.moved.parts) (Appends-trans old now next p.moved.moved held p.moved.appended a);
 }
 

@@ -3,11 +3,11 @@ use Rattle.std.proofs.Common.{◌≡◌, ℕ, List, [], ◌∷◌, ◌++◌, Opt
 use Rattle.std.specs.Prelude.{OnOk}
 use Rattle.std.specs.Option.{ForSome}
 use Rattle.rkyv_base.specs.declared.errors.VerifyError.{VerifyError}
-use Rattle.rkyv_dict.specs.declared.form.Bits.{Bits}
+use Rattle.rkyv_dict.specs.declared.form.ArchiveWidth.{ArchiveWidth}
 use Rattle.rkyv_dict.specs.declared.form.Form.{Form}
 use Rattle.rkyv_dict.specs.Archives.{IsArchive, IsMapArchive, IsRefused, value_found, value_line}
-use Rattle.rkyv_dict.specs.Answers.{Does, DoesIf, DoesLine}
-use Rattle.rkyv_dict.specs.Built.{Holds, IsArchiveOf, IsBuilt, PairsStand, form_of_pairs, kind_of_pairs}
+use Rattle.rkyv_dict.specs.Answers.{StepsTo, DoesIf, StepsLine}
+use Rattle.rkyv_dict.specs.Built.{Holds, IsArchiveOf, IsBuilt, PairsRepresent, form_of_pairs, kind_of_pairs}
 use Rattle.rkyv_dict.specs.First.{first_value}
 use Rattle.rkyv_dict.specs.Forms.{Asked, Pairs, numbers, texts}
 use Rattle.rkyv_dict.specs.Output.{answered, get_line, value_in}
@@ -23,13 +23,13 @@ kind_with_texts (numbers pairs) key value = refl
 kind_with_texts (texts pairs) key value = refl
 
 -- a built archive is valid and represents the pairs
-built_archive : (bits : Bits) (factor : ℕ × ℕ) (pairs : Pairs) (bytes : List ℕ) → IsBuilt (form_of_pairs bits pairs) factor pairs bytes → IsArchive (form_of_pairs bits pairs) bytes
+built_archive : (bits : ArchiveWidth) (factor : ℕ × ℕ) (pairs : Pairs) (bytes : List ℕ) → IsBuilt (form_of_pairs bits pairs) factor pairs bytes → IsArchive (form_of_pairs bits pairs) bytes
 unfolding IsArchiveOf IsMapArchive
 built_archive bits factor (numbers pairs) bytes built = built.0
 built_archive bits factor (texts pairs) bytes built = built.0
 
-built_holds : (bits : Bits) (factor : ℕ × ℕ) (pairs : Pairs) (bytes : List ℕ) → IsBuilt (form_of_pairs bits pairs) factor pairs bytes → Holds (form_of_pairs bits pairs) factor bytes pairs
-unfolding IsArchiveOf PairsStand
+built_holds : (bits : ArchiveWidth) (factor : ℕ × ℕ) (pairs : Pairs) (bytes : List ℕ) → IsBuilt (form_of_pairs bits pairs) factor pairs bytes → Holds (form_of_pairs bits pairs) factor bytes pairs
+unfolding IsArchiveOf PairsRepresent
 built_holds bits factor (numbers pairs) bytes built = built.1
 built_holds bits factor (texts pairs) bytes built = built.1
 
@@ -88,7 +88,7 @@ same_sound : (s s' : State) → s'.archive ≡ s.archive → form_of s' ≡ form
 unfolding IsSound
 same_sound s s' a f h = λ b some. rw f (h b (sym a ∙ some))
 
-does_sound : (s : State) (request : Request) (answer : List ℕ) (s' : State) → IsSound s → Does s request answer s' → IsSound s'
+does_sound : (s : State) (request : Request) (answer : List ℕ) (s' : State) → IsSound s → StepsTo s request answer s' → IsSound s'
 does_sound s (set_kind kind) answer s' h does = none_sound s' (ap (λ (t : State). t.archive) does.1)
 does_sound s (set_width bits) answer s' h does = none_sound s' (ap (λ (t : State). t.archive) does.1)
 does_sound s (set_load_factor numerator denominator) answer s' h does = same_sound s s' (ap (λ (t : State). t.archive) does.1) (ap form_of does.1) h
@@ -110,6 +110,6 @@ if_sound s None answer s' h does = subst IsSound (sym does.1) h
 if_sound s (Some request) answer s' h does = does_sound s request answer s' h does
 
 -- a line keeps the archive sound
-pub line_sound : (s : State) (l answer : List ℕ) (s' : State) → IsSound s → DoesLine s l answer s' → IsSound s'
+pub line_sound : (s : State) (l answer : List ℕ) (s' : State) → IsSound s → StepsLine s l answer s' → IsSound s'
 line_sound s [] answer s' h does = subst IsSound (sym does.1) h
 line_sound s (b ∷ bs) answer s' h does = if_sound s (request_of (kind_of_pairs s.pairs) (b ∷ bs)) answer s' h does

@@ -6,13 +6,13 @@ use Rattle.std.proofs.lemmas.List.{length-replicate}
 use Rattle.rkyv_base.specs.Entry.{round_up}
 use Rattle.rkyv_base.specs.Format.{Format}
 use Rattle.rkyv_base.specs.Root.{RootBytes, RootNext}
-use Rattle.rkyv_base.specs.Shape.{Shape}
+use Rattle.rkyv_base.specs.ElementSpec.{ElementSpec}
 use Rattle.rkyv_base.specs.Writing.{Refusal, Step, no_memory, padding, piece, refusal, zeros}
 use Rattle.rkyv_table.proofs.PartSteps.{parts_filled}
 use Rattle.rkyv_table.specs.Controls.Numbers.{capacity}
 use Rattle.rkyv_table.specs.Table.OneWay.{WritesOneWay}
 use Rattle.rkyv_table.specs.Table.Slots.{BucketNext, PartsNext, SlotImages, SlotParts, TableBytes, TableNext, filled}
-use Rattle.rkyv_table.specs.Table.Buckets.{images_length}
+use Rattle.rkyv_table.specs.Lemmas.Buckets.{images_length}
 use Rattle.rkyv_table.specs.Table.TableFormat.{PairsNext, TableParts, TableResolver, table_format}
 use Rattle.rkyv_dict.proofs.Ends.{Ends, IsKnown, ThenMade, ThenNext, ends_as, ends_at_once, ends_by_piece, then_ends}
 use Rattle.rkyv_dict.proofs.BucketEnds.{OwnNext, buckets_end, own_ends}
@@ -38,9 +38,9 @@ module _ (align p : ℕ) (next : ℕ → List ℕ → Step → Type 0) (made : �
       (ends_by_piece (gap align p n)) (λ front step known h. h) (λ part h. h.1))
       (λ a u m. rule (p + n + length a))
 
-module _ {X R : Type 0} (s : Shape) (f : Format X R) (one : WritesOneWay f) (ends : EndsOneWay f)
+module _ {X R : Type 0} (s : ElementSpec) (f : Format X R) (one : WritesOneWay f) (ends : EndsOneWay f)
     (whole : (x : X) (r : R) (p : ℕ) (out : List ℕ) → f.image x r p out → length out ≡ s.size)
-    (clear : (x : X) (r : R) (p : ℕ) (out : List ℕ) → f.image x r p out → f.far x r p → ⊥)
+    (exclusive : (x : X) (r : R) (p : ℕ) (out : List ℕ) → f.image x r p out → f.overflow x r p → ⊥)
     (slots : List (Option X)) (controls : List ℕ) (p : ℕ) where
   -- the buckets from position `q` on
   abbrev Shown : List R → ℕ → List ℕ → Type 0
@@ -60,7 +60,7 @@ module _ {X R : Type 0} (s : Shape) (f : Format X R) (one : WritesOneWay f) (end
   back_ends rs count q =
       then_ends {R = Unit {0}} (BucketNext s.size f slots rs q) (λ a u. Shown rs q a) (λ m u front step. (front ≡ []) × (step ≡ piece controls)) (λ m u b. b ≡ controls)
       (λ a b u u' m m'. (shown_long rs q a m ∙ sym (shown_long rs q b m'), refl))
-      (ends_as (BucketNext s.size f slots rs q) (BucketNext s.size f slots rs q) (Shown rs q) (λ a. (u : Unit {0}) × Shown rs q a) (buckets_end s.size f whole clear q slots rs count)
+      (ends_as (BucketNext s.size f slots rs q) (BucketNext s.size f slots rs q) (Shown rs q) (λ a. (u : Unit {0}) × Shown rs q a) (buckets_end s.size f whole exclusive q slots rs count)
       (λ front step known h. h) (λ part h. h.1))
       (λ a u m. ends_by_piece controls)
 

@@ -5,14 +5,14 @@ use Rattle.std.proofs.lemmas.List.{length-map}
 use Rattle.std.proofs.lemmas.Option.{slice_get-map}
 use Rattle.rkyv_scan.specs.Hash.{HasherCall}
 use Rattle.rkyv_base.specs.Format.{Format}
-use Rattle.rkyv_base.specs.Pairs.{PairStands, pair_format, written_as}
+use Rattle.rkyv_base.specs.Pairs.{PairRepresents, pair_format, written_as}
 use Rattle.rkyv_base.specs.Root.{RootNext, fresh}
 use Rattle.rkyv_base.specs.Text.{TextReads}
 use Rattle.rkyv_base.specs.TextWriting.{text_format}
 use Rattle.rkyv_base.specs.Writing.{Step}
 use Rattle.rkyv_base.specs.declared.pairs.EntryResolver.{EntryResolver}
 use Rattle.rkyv_base.specs.declared.errors.WriteError.{WriteError}
-use Rattle.rkyv_base.proofs.GivingUp.{told_as}
+use Rattle.rkyv_base.proofs.WritingSteps.{told_as}
 use Rattle.rkyv_keys.specs.Calls.{text_calls}
 use Rattle.rkyv_table.specs.Controls.Numbers.{capacity}
 use Rattle.rkyv_table.specs.Table.Serializing.{HasCapacity}
@@ -21,11 +21,11 @@ use Rattle.rkyv_table.specs.Table.TableFormat.{PairsNext, TableParts, TableResol
 use Rattle.rkyv_table.specs.Table.Listed.{ListRefuses}
 use Rattle.rkyv_collections.specs.MapFormat.{keyed}
 use Rattle.rkyv_collections.proofs.SeenItems.{seen_pairs, seen_pairs_next, seen_table, was_seen}
-use Rattle.rkyv_dict.specs.Archives.{hash, header_shape, pair_shape, root}
-use Rattle.rkyv_dict.specs.Built.{BuildRefused, IsArchiveOf, IsBuilt, NoArchiveOf, PairsStandAt, form_of_pairs, pairs_format}
+use Rattle.rkyv_dict.specs.Archives.{hash, header_spec, pair_spec, root}
+use Rattle.rkyv_dict.specs.Built.{BuildRefused, IsArchiveOf, IsBuilt, ArchiveFails, PairsRepresentAt, form_of_pairs, pairs_format}
 use Rattle.rkyv_dict.specs.Forms.{buckets_of, text_pair, texts, word_of}
 use Rattle.rkyv_dict.specs.Parts.{Parts, text_parts}
-use Rattle.rkyv_dict.specs.declared.form.Bits.{Bits}
+use Rattle.rkyv_dict.specs.declared.form.ArchiveWidth.{ArchiveWidth}
 
 module _ {A B : Type 0} (see : A → B) where
   abbrev pub both : A × A → B × B
@@ -35,12 +35,12 @@ module _ {A B : Type 0} (see : A → B) where
   keyed_seen own [] = refl
   keyed_seen own (x ∷ xs) = ap (λ (t : List (ℕ × (B × B))). (own (see x.0), both x) ∷ t) (keyed_seen own xs)
 
-  module _ (k : Parts) (stands : List ℕ → ℕ → B → Type 0) (factor : ℕ × ℕ) where
-    abbrev StandsSeen : List ℕ → ℕ → A → Type 0
-    StandsSeen b p a = stands b p (see a)
+  module _ (k : Parts) (represents : List ℕ → ℕ → B → Type 0) (factor : ℕ × ℕ) where
+    abbrev RepresentsSeen : List ℕ → ℕ → A → Type 0
+    RepresentsSeen b p a = represents b p (see a)
 
-    stands_seen : (b : List ℕ) (p : ℕ) (pairs : List (A × A)) → PairsStandAt k factor StandsSeen b p pairs → PairsStandAt k factor stands b p (map both pairs)
-    stands_seen b p pairs h =
+    represents_seen : (b : List ℕ) (p : ℕ) (pairs : List (A × A)) → PairsRepresentAt k factor RepresentsSeen b p pairs → PairsRepresentAt k factor represents b p (map both pairs)
+    represents_seen b p pairs h =
         let count : length (map both pairs) ≡ length pairs = length-map pairs both in
         record {
           homes = h.homes;
@@ -49,7 +49,7 @@ module _ {A B : Type 0} (see : A → B) where
           cap = h.cap ∙ ap (λ n. capacity n factor) (sym count);
           at = λ i y e.
               let w = was_seen both (slice_get pairs i) y (sym (slice_get-map both pairs i) ∙ e) in
-              subst (PairStands k.shape k.shape stands stands b (slice_index (home_positions k.word (pair_shape k).size b p h.homes) i)) w.2 (h.at i w.0 w.1);
+              subst (PairRepresents k.spec k.spec represents represents b (slice_index (home_positions k.word (pair_spec k).size b p h.homes) i)) w.2 (h.at i w.0 w.1);
         }
 
     module _ {R : Type 0} (most : ℕ) (format : Format B R) (calls : B → List HasherCall) (pairs : List (A × A)) where
@@ -63,7 +63,7 @@ module _ {A B : Type 0} (see : A → B) where
       same_keyed = keyed_seen (λ b. hash (calls b)) pairs
 
       abbrev items : Format (B × B) (EntryResolver R R)
-      items = pair_format k.shape k.shape format format
+      items = pair_format k.spec k.spec format format
 
       count_seen : length pairs ≡ length (map both pairs)
       count_seen = sym (length-map pairs both)
@@ -74,25 +74,25 @@ module _ {A B : Type 0} (see : A → B) where
       parts_seen : (p : ℕ) (part : List ℕ) (r : TableResolver) → Before.parts pairs p part r → After.parts (map both pairs) p part r
       parts_seen p part r h = (
         cap_seen h.0,
-        subst (λ ps. TableParts k.word (pair_shape k) items factor ps p part r) same_keyed
-            (seen_table both items k.word (pair_shape k) factor (keyed (λ a. hash (calls (see a))) pairs) p part r h.1),
+        subst (λ ps. TableParts k.word (pair_spec k) items factor ps p part r) same_keyed
+            (seen_table both items k.word (pair_spec k) factor (keyed (λ a. hash (calls (see a))) pairs) p part r h.1),
       )
 
       next_seen : (p : ℕ) (front : List ℕ) (step : Step) → Before.next pairs p front step → After.next (map both pairs) p front step
       next_seen p front step (inl h) = inl (h.0, subst (λ n. ListRefuses most factor n h.0) count_seen h.1, h.2)
       next_seen p front step (inr h) = inr (
         cap_seen h.0,
-        subst (λ ps. PairsNext k.word (pair_shape k) items factor ps p front step) same_keyed
-            (seen_pairs_next both items k.word (pair_shape k) factor (keyed (λ a. hash (calls (see a))) pairs) p front step h.1),
+        subst (λ ps. PairsNext k.word (pair_spec k) items factor ps p front step) same_keyed
+            (seen_pairs_next both items k.word (pair_spec k) factor (keyed (λ a. hash (calls (see a))) pairs) p front step h.1),
       )
 
-      pub archive_seen : (b : List ℕ) → IsArchiveOf k factor most (written_as see format) (λ a. calls (see a)) StandsSeen pairs b → IsArchiveOf k factor most format calls stands (map both pairs) b
+      pub archive_seen : (b : List ℕ) → IsArchiveOf k factor most (written_as see format) (λ a. calls (see a)) RepresentsSeen pairs b → IsArchiveOf k factor most format calls represents (map both pairs) b
       unfolding IsArchiveOf
       archive_seen b (accepted, there, (part, r, out, parts, image, at, is)) =
-          (accepted, stands_seen b (root k b) pairs there, (part, r, out, parts_seen 0 part r parts, image, at, is))
+          (accepted, represents_seen b (root k b) pairs there, (part, r, out, parts_seen 0 part r parts, image, at, is))
 
       abbrev align : ℕ
-      align = (header_shape k).align
+      align = (header_spec k).align
 
       root_next : (p : ℕ) (front : List ℕ) (step : Step) → RootNext align Before pairs p front step → RootNext align After (map both pairs) p front step
       root_next p front step (inl h) = inl h
@@ -100,24 +100,24 @@ module _ {A B : Type 0} (see : A → B) where
       root_next p front step (inr (inr (inl h))) = inr (inr (inl (h.0, parts_seen p front h.0 h.1, h.2)))
       root_next p front step (inr (inr (inr h))) = inr (inr (inr (h.0, h.1, parts_seen p h.0 h.1 h.2, h.3, h.4)))
 
-      pub refused_seen : {F : Type 0} (e : WriteError F) → NoArchiveOf k factor most (written_as see format) (λ a. calls (see a)) pairs e → NoArchiveOf k factor most format calls (map both pairs) e
-      unfolding NoArchiveOf
+      pub refused_seen : {F : Type 0} (e : WriteError F) → ArchiveFails k factor most (written_as see format) (λ a. calls (see a)) pairs e → ArchiveFails k factor most format calls (map both pairs) e
+      unfolding ArchiveFails
       refused_seen e h = (
         h.0,
         told_as k.limit (RootNext align After (map both pairs) 0) (RootNext align Before pairs 0) fresh h.0 e (λ front step n. root_next 0 front step n) h.1,
       )
 
       pub result_seen : {F V : Type 0} (items_of : V → List ℕ) (result : Result V (WriteError F))
-          → MatchResult result (λ v. IsArchiveOf k factor most (written_as see format) (λ a. calls (see a)) StandsSeen pairs (items_of v)) (NoArchiveOf k factor most (written_as see format) (λ a. calls (see a)) pairs)
-          → MatchResult result (λ v. IsArchiveOf k factor most format calls stands (map both pairs) (items_of v)) (NoArchiveOf k factor most format calls (map both pairs))
+          → MatchResult result (λ v. IsArchiveOf k factor most (written_as see format) (λ a. calls (see a)) RepresentsSeen pairs (items_of v)) (ArchiveFails k factor most (written_as see format) (λ a. calls (see a)) pairs)
+          → MatchResult result (λ v. IsArchiveOf k factor most format calls represents (map both pairs) (items_of v)) (ArchiveFails k factor most format calls (map both pairs))
       result_seen items_of (Ok v) h = archive_seen (items_of v) h
       result_seen items_of (Err e) h = refused_seen e h
 
 -- an archive of borrowed texts
-pub texts_built : {F V : Type 0} (items_of : V → List ℕ) (bits : Bits) (factor : ℕ × ℕ) (pairs : List (Bor (List ℕ) × Bor (List ℕ))) (result : Result V (WriteError F))
+pub texts_built : {F V : Type 0} (items_of : V → List ℕ) (bits : ArchiveWidth) (factor : ℕ × ℕ) (pairs : List (Bor (List ℕ) × Bor (List ℕ))) (result : Result V (WriteError F))
     → MatchResult result
     (λ v. IsArchiveOf (text_parts bits) factor (buckets_of bits) (written_as (λ t. t.now) (text_format (word_of bits))) (λ t. text_calls t.now) (λ b p t. TextReads (word_of bits) b p t.now) pairs (items_of v))
-    (NoArchiveOf (text_parts bits) factor (buckets_of bits) (written_as (λ t. t.now) (text_format (word_of bits))) (λ t. text_calls t.now) pairs)
+    (ArchiveFails (text_parts bits) factor (buckets_of bits) (written_as (λ t. t.now) (text_format (word_of bits))) (λ t. text_calls t.now) pairs)
     → MatchResult result (λ v. IsBuilt (form_of_pairs bits (texts (map text_pair pairs))) factor (texts (map text_pair pairs)) (items_of v)) (BuildRefused (form_of_pairs bits (texts (map text_pair pairs))) factor (texts (map text_pair pairs)))
 texts_built items_of bits factor pairs result h =
     result_seen (λ t. t.now) (text_parts bits) (TextReads (word_of bits)) factor (buckets_of bits) (text_format (word_of bits)) text_calls pairs items_of result h

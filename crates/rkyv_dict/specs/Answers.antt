@@ -26,7 +26,7 @@ pub record Builds (s : State) (answer : List ℕ) (s' : State) : Type 0 where
 -- The output is the line of the cause, and `s'` has no archive.
 pub record RefusesBuild (s : State) (answer : List ℕ) (s' : State) : Type 0 where
   pub cause : WriteError NoMemory
-  pub stands : BuildRefused (form_of s) s.load_factor s.pairs cause
+  pub applies : BuildRefused (form_of s) s.load_factor s.pairs cause
   pub told : wants_memory cause ≡ false
   pub answers : answer ≡ error_line cause
   pub after : s' ≡ record s { archive = None }
@@ -41,7 +41,7 @@ pub record Takes (s : State) (bytes answer : List ℕ) (s' : State) : Type 0 whe
 -- `bytes` fail validation with `error`: the output is its line, and the state is unchanged.
 pub record RefusesCheck (s : State) (bytes answer : List ℕ) (s' : State) : Type 0 where
   pub error : VerifyError
-  pub stands : IsRefused (form_of s) bytes error
+  pub applies : IsRefused (form_of s) bytes error
   pub answers : answer ≡ refused_line error
   pub after : s' ≡ s
 
@@ -56,36 +56,38 @@ abbrev pub Shows : State → List ℕ → List ℕ → State → Type 0
 Shows s shown answer s' = (answer ≡ shown) × (s' ≡ s)
 
 -- the output of the request in the state `s` is `answer`, and the state after it is `s'`
-abbrev pub Does : State → Request → List ℕ → State → Type 0
-Does s (set_kind kind) answer s' = Sets (emptied kind s.bits s) answer s'
-Does s (set_width bits) answer s' = Sets (emptied (kind_of_pairs s.pairs) bits s) answer s'
-Does s (set_load_factor numerator denominator) answer s' =
+abbrev pub StepsTo : State → Request → List ℕ → State → Type 0
+StepsTo s (set_kind kind) answer s' = Sets (emptied kind s.bits s) answer s'
+StepsTo s (set_width bits) answer s' = Sets (emptied (kind_of_pairs s.pairs) bits s) answer s'
+StepsTo s (set_load_factor numerator denominator) answer s' =
     Sets (record s { load_factor = (numerator, denominator) }) answer s'
-Does s (put_numbers key value) answer s' =
+StepsTo s (put_numbers key value) answer s' =
     Sets (record s { pairs = with_numbers s.pairs key value }) answer s'
-Does s (put_texts key value) answer s' =
+StepsTo s (put_texts key value) answer s' =
     Sets (record s { pairs = with_texts s.pairs key value }) answer s'
-Does s build_archive answer s' = Builds s answer s' ⊎ RefusesBuild s answer s'
-Does s (check_archive bytes) answer s' = Takes s bytes answer s' ⊎ RefusesCheck s bytes answer s'
-Does s show_hex answer s' = Shows s (answered hex_line s.archive) answer s'
-Does s (get_value key) answer s' = Shows s (answered (get_line (form_of s) key) s.archive) answer s'
-Does s list_pairs answer s' = Shows s (answered (list_lines (form_of s)) s.archive) answer s'
-Does s count_misplaced answer s' = Shows s (answered (audit_line (form_of s)) s.archive) answer s'
+StepsTo s build_archive answer s' = Builds s answer s' ⊎ RefusesBuild s answer s'
+StepsTo s (check_archive bytes) answer s' = Takes s bytes answer s' ⊎ RefusesCheck s bytes answer s'
+StepsTo s show_hex answer s' = Shows s (answered hex_line s.archive) answer s'
+StepsTo s (get_value key) answer s' =
+    Shows s (answered (get_line (form_of s) key) s.archive) answer s'
+StepsTo s list_pairs answer s' = Shows s (answered (list_lines (form_of s)) s.archive) answer s'
+StepsTo s count_misplaced answer s' =
+    Shows s (answered (audit_line (form_of s)) s.archive) answer s'
 
 -- ---- lines
 
 -- the request executes; `None`, a bad line, outputs error 10 and leaves the state unchanged
 abbrev pub DoesIf : State → Option Request → List ℕ → State → Type 0
 DoesIf s None answer s' = Shows s bad_line answer s'
-DoesIf s (Some request) answer s' = Does s request answer s'
+DoesIf s (Some request) answer s' = StepsTo s request answer s'
 
 -- the output of a line; an empty line has none and is skipped
-abbrev pub DoesLine : State → List ℕ → List ℕ → State → Type 0
-DoesLine s [] answer s' = Sets s answer s'
-DoesLine s (b ∷ bs) answer s' = DoesIf s (request_of (kind_of_pairs s.pairs) (b ∷ bs)) answer s'
+abbrev pub StepsLine : State → List ℕ → List ℕ → State → Type 0
+StepsLine s [] answer s' = Sets s answer s'
+StepsLine s (b ∷ bs) answer s' = DoesIf s (request_of (kind_of_pairs s.pairs) (b ∷ bs)) answer s'
 
 -- the lines, executed in turn from the state `s`, have the output `output` and end in `s'`
-unfoldable pub Runs : State → List (List ℕ) → List ℕ → State → Type 0
-Runs s [] output s' = Sets s output s'
-Runs s (l ∷ ls) output s' = (answer : List ℕ) × (next : State) × (rest : List ℕ)
-    × DoesLine s l answer next × Runs next ls rest s' × (output ≡ answer ++ rest)
+unfoldable pub RunsTo : State → List (List ℕ) → List ℕ → State → Type 0
+RunsTo s [] output s' = Sets s output s'
+RunsTo s (l ∷ ls) output s' = (answer : List ℕ) × (next : State) × (rest : List ℕ)
+    × StepsLine s l answer next × RunsTo next ls rest s' × (output ≡ answer ++ rest)

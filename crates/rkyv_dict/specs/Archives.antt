@@ -8,17 +8,17 @@ use Rattle.rkyv_scan.specs.Groups.{generic_kind}
 use Rattle.rkyv_scan.specs.Hash.{HasherCall, fx_hash, low_halves}
 use Rattle.rkyv_base.specs.Access.{Accepted, AccessFails}
 use Rattle.rkyv_base.specs.Bytes.{number_at}
-use Rattle.rkyv_base.specs.Entry.{entry_shape, value_offset}
-use Rattle.rkyv_base.specs.Shape.{Shape}
+use Rattle.rkyv_base.specs.Entry.{entry_spec, value_offset}
+use Rattle.rkyv_base.specs.ElementSpec.{ElementSpec}
 use Rattle.rkyv_base.specs.Text.{text_at}
 use Rattle.rkyv_base.specs.declared.errors.VerifyError.{VerifyError}
 use Rattle.rkyv_keys.specs.Calls.{text_calls}
 use Rattle.rkyv_keys.specs.OfTexts.{same_bytes}
 use Rattle.rkyv_table.specs.Table.Header.{len_at}
 use Rattle.rkyv_table.specs.Table.Positions.{item_positions, pos_found}
-use Rattle.rkyv_collections.specs.MapShape.{map_shape}
+use Rattle.rkyv_collections.specs.MapSpec.{map_spec}
 use Rattle.rkyv_collections.specs.Misplaced.{map_misplaced}
-use Rattle.rkyv_dict.specs.declared.form.Bits.{Bits}
+use Rattle.rkyv_dict.specs.declared.form.ArchiveWidth.{ArchiveWidth}
 use Rattle.rkyv_dict.specs.declared.form.Form.{Form}
 use Rattle.rkyv_dict.specs.declared.form.Kind.{Kind}
 use Rattle.rkyv_dict.specs.declared.form.Kind.TheVariants.{Num, Text}
@@ -35,7 +35,7 @@ value_line None = line (codes "none")
 value_line (Some text) = line text
 
 -- the line of the pair at `q`: the text of its key, a space, and the text of its value
-unfoldable pub line_at : Shape → (List ℕ → ℕ → List ℕ) → List ℕ → ℕ → List ℕ
+unfoldable pub line_at : ElementSpec → (List ℕ → ℕ → List ℕ) → List ℕ → ℕ → List ℕ
 line_at s text b q = line (text b q ++ codes " " ++ text b (q + value_offset s s))
 
 -- the FxHash of the hasher calls
@@ -43,26 +43,26 @@ abbrev pub hash : List HasherCall → ℕ
 hash calls = fx_hash low_halves calls
 
 module _ (k : Parts) where
-  -- the shape of a pair
-  abbrev pub pair_shape : Shape
-  pair_shape = entry_shape k.shape k.shape
+  -- the spec of a pair
+  abbrev pub pair_spec : ElementSpec
+  pair_spec = entry_spec k.spec k.spec
 
-  -- the shape of a map's header
-  abbrev pub header_shape : Shape
-  header_shape = map_shape k.word k.shape k.shape
+  -- the spec of a map's header
+  abbrev pub header_spec : ElementSpec
+  header_spec = map_spec k.word k.spec k.spec
 
   module _ (b : List ℕ) where
     -- `b` is the valid archive of a map, whose header is the root
     unfoldable pub IsMapArchive : Type 0
-    IsMapArchive = Accepted k.limit header_shape b
+    IsMapArchive = Accepted k.limit header_spec b
 
     -- `e` is the first error of the validation of `b`
     unfoldable pub MapArchiveFails : VerifyError → Type 0
-    MapArchiveFails e = AccessFails k.limit header_shape b e
+    MapArchiveFails e = AccessFails k.limit header_spec b e
 
     -- the position of the root, at the end of `b`
     abbrev pub root : ℕ
-    root = length b - header_shape.size
+    root = length b - header_spec.size
 
     -- the number of pairs of the map
     unfoldable pub pair_count : ℕ
@@ -70,26 +70,26 @@ module _ (k : Parts) where
 
     -- the positions of the pairs, in bucket order
     unfoldable pub pair_positions : List ℕ
-    pair_positions = item_positions k.word pair_shape.size b root
+    pair_positions = item_positions k.word pair_spec.size b root
 
     -- the text of the value of the pair at `q`
     abbrev pub value_text : ℕ → List ℕ
-    value_text q = k.text b (q + value_offset k.shape k.shape)
+    value_text q = k.text b (q + value_offset k.spec k.spec)
 
     -- the line of the number of pairs, then the line of each pair in bucket order
     unfoldable pub pair_lines : List ℕ
     pair_lines = line (codes "entries " ++ decimal pair_count)
-        ++ flat_map (line_at k.shape k.text b) pair_positions
+        ++ flat_map (line_at k.spec k.text b) pair_positions
 
     -- the text of the value that a lookup finds
     -- (`calls`: hasher calls of the key, `accept`: test of the key at a position)
     unfoldable pub value_under : List HasherCall → (ℕ → Bool) → Option (List ℕ)
     value_under calls accept = option_map value_text
-        (pos_found generic_kind k.word pair_shape.size b root (hash calls) accept)
+        (pos_found generic_kind k.word pair_spec.size b root (hash calls) accept)
 
     -- the number of keys that a lookup doesn't find in their own bucket
     unfoldable pub keys_misplaced : ℕ
-    keys_misplaced = map_misplaced k.word k.shape k.shape (λ c q. hash (k.calls c q)) k.same b root
+    keys_misplaced = map_misplaced k.word k.spec k.spec (λ c q. hash (k.calls c q)) k.same b root
 
 -- `b` is a valid archive of the form
 abbrev pub IsArchive : Form → List ℕ → Type 0
@@ -112,7 +112,7 @@ abbrev pub misplaced_count : Form → List ℕ → ℕ
 misplaced_count form b = keys_misplaced (parts_of form) b
 
 -- the text of the value that a lookup finds; a key of the other kind is never found
-abbrev pub found_in : Kind → Bits → List ℕ → Asked → Option (List ℕ)
+abbrev pub found_in : Kind → ArchiveWidth → List ℕ → Asked → Option (List ℕ)
 found_in Num bits b (asked_number n) =
     value_under (number_parts bits) b (number_calls n) (λ q. n == number_at w32 b q)
 found_in Text bits b (asked_text t) =

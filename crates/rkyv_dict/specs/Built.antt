@@ -6,19 +6,19 @@ use Rattle.rkyv_scan.specs.Hash.{HasherCall}
 use Rattle.rkyv_base.specs.Format.{Format}
 use Rattle.rkyv_base.specs.Numbers.{unsigned}
 use Rattle.rkyv_base.specs.Root.{ArchiveOf, ArchiveRefused}
-use Rattle.rkyv_base.specs.Scalar.{ScalarStands, scalar_format}
+use Rattle.rkyv_base.specs.Scalar.{ScalarRepresents, scalar_format}
 use Rattle.rkyv_base.specs.Text.{TextReads}
 use Rattle.rkyv_base.specs.TextWriting.{text_format}
 use Rattle.rkyv_base.specs.declared.errors.WriteError.{WriteError}
 use Rattle.rkyv_keys.specs.Calls.{text_calls}
 use Rattle.rkyv_table.specs.Table.TableFormat.{TableResolver}
 use Rattle.rkyv_table.specs.Table.Listed.{listed}
-use Rattle.rkyv_collections.specs.MapFormat.{MapStands, map_format}
-use Rattle.rkyv_dict.specs.declared.form.Bits.{Bits}
+use Rattle.rkyv_collections.specs.MapFormat.{MapRepresents, map_format}
+use Rattle.rkyv_dict.specs.declared.form.ArchiveWidth.{ArchiveWidth}
 use Rattle.rkyv_dict.specs.declared.form.Form.{Form}
 use Rattle.rkyv_dict.specs.declared.form.Kind.{Kind}
 use Rattle.rkyv_dict.specs.declared.form.Kind.TheVariants.{Num, Text}
-use Rattle.rkyv_dict.specs.Archives.{hash, header_shape, root}
+use Rattle.rkyv_dict.specs.Archives.{hash, header_spec, root}
 use Rattle.rkyv_dict.specs.Forms.{Pairs, buckets_of, numbers, texts, word_of}
 use Rattle.rkyv_dict.specs.Parts.{Parts, number_calls, number_parts, text_parts}
 
@@ -28,62 +28,62 @@ kind_of_pairs (numbers pairs) = Num
 kind_of_pairs (texts pairs) = Text
 
 -- the form of an archive of the pairs in the width `bits`
-abbrev pub form_of_pairs : Bits → Pairs → Form
+abbrev pub form_of_pairs : ArchiveWidth → Pairs → Form
 form_of_pairs bits pairs = record { kind = kind_of_pairs pairs; bits = bits }
 
 module _ (k : Parts) {A : Type 0} (factor : ℕ × ℕ) where
-  module _ (stands : List ℕ → ℕ → A → Type 0) where
+  module _ (represents : List ℕ → ℕ → A → Type 0) where
     -- the header at `p` represents a map of the pairs
-    abbrev pub PairsStandAt : List ℕ → ℕ → List (A × A) → Type 0
-    PairsStandAt b p pairs = MapStands k.word k.shape k.shape stands stands (λ c q.
+    abbrev pub PairsRepresentAt : List ℕ → ℕ → List (A × A) → Type 0
+    PairsRepresentAt b p pairs = MapRepresents k.word k.spec k.spec represents represents (λ c q.
         hash (k.calls c q)) factor b p pairs
 
     -- the root of `b` represents a map of the pairs
-    unfoldable pub PairsStand : List (A × A) → List ℕ → Type 0
-    PairsStand pairs b = PairsStandAt b (root k b) pairs
+    unfoldable pub PairsRepresent : List (A × A) → List ℕ → Type 0
+    PairsRepresent pairs b = PairsRepresentAt b (root k b) pairs
 
   module _ {R : Type 0} (most : ℕ) (format : Format A R) (calls : A → List HasherCall) where
     -- the format of a list of pairs as a map of at most `most` buckets
     abbrev pub pairs_format : Format (List (A × A)) TableResolver
     pairs_format = listed most factor
-        (map_format k.word k.shape k.shape format format (λ a. hash (calls a)) factor)
+        (map_format k.word k.spec k.spec format format (λ a. hash (calls a)) factor)
 
     -- `b` is the archive of the pairs: valid, its root represents them, and it has no other bytes
     unfoldable pub IsArchiveOf : (List ℕ → ℕ → A → Type 0) → List (A × A) → List ℕ → Type 0
-    IsArchiveOf stands pairs b = ArchiveOf k.limit (header_shape k) (PairsStandAt stands)
+    IsArchiveOf represents pairs b = ArchiveOf k.limit (header_spec k) (PairsRepresentAt represents)
         pairs_format pairs b
 
     -- the write of the pairs fails with `e`
-    unfoldable pub NoArchiveOf : {F : Type 0} → List (A × A) → WriteError F → Type 0
-    NoArchiveOf pairs e = ArchiveRefused k.limit (header_shape k) pairs_format pairs e
+    unfoldable pub ArchiveFails : {F : Type 0} → List (A × A) → WriteError F → Type 0
+    ArchiveFails pairs e = ArchiveRefused k.limit (header_spec k) pairs_format pairs e
 
 -- Native keys and values. `format`: their format, `calls`: their hasher calls,
--- `stands`: bytes at a position represent one
+-- `represents`: bytes at a position represent one
 pub record Natives (A R : Type 0) : Type 1 where
   pub format : Format A R
   pub calls : A → List HasherCall
-  pub stands : List ℕ → ℕ → A → Type 0
+  pub represents : List ℕ → ℕ → A → Type 0
 
 -- native keys and values with these members
 abbrev pub natives : {A R : Type 0} → Format A R → (A → List HasherCall)
     → (List ℕ → ℕ → A → Type 0) → Natives A R
-natives format calls stands = record { format = format; calls = calls; stands = stands }
+natives format calls represents = record { format = format; calls = calls; represents = represents }
 
 -- `result` is the archive of the pairs, as a map of at most `most` buckets, or the error of
 -- their write
-abbrev pub BuildsArchive : {A R F Z : Type 0} → Parts → ℕ × ℕ → ℕ → Natives A R → List (A × A)
+abbrev pub MakesArchive : {A R F Z : Type 0} → Parts → ℕ × ℕ → ℕ → Natives A R → List (A × A)
     → Result (Vec ℕ Z) (WriteError F) → Type 0
-BuildsArchive k factor most n pairs result =
+MakesArchive k factor most n pairs result =
     MatchResult result
-    (λ v. IsArchiveOf k factor most n.format n.calls n.stands pairs v.items)
-    (NoArchiveOf k factor most n.format n.calls pairs)
+    (λ v. IsArchiveOf k factor most n.format n.calls n.represents pairs v.items)
+    (ArchiveFails k factor most n.format n.calls pairs)
 
 -- `b` is the archive of the pairs, in this order, as a map under the load factor.
 -- It is valid, its root represents the map, and it has no other bytes. The pairs are of the kind.
-abbrev pub built_in : Kind → Bits → ℕ × ℕ → Pairs → List ℕ → Type 0
+abbrev pub built_in : Kind → ArchiveWidth → ℕ × ℕ → Pairs → List ℕ → Type 0
 built_in Num bits factor (numbers pairs) b =
     IsArchiveOf (number_parts bits) factor (buckets_of bits) (scalar_format (unsigned w32))
-    number_calls (ScalarStands (unsigned w32)) pairs b
+    number_calls (ScalarRepresents (unsigned w32)) pairs b
 built_in Text bits factor (texts pairs) b =
     IsArchiveOf (text_parts bits) factor (buckets_of bits) (text_format (word_of bits)) text_calls
     (TextReads (word_of bits)) pairs b
@@ -95,12 +95,12 @@ abbrev pub IsBuilt : Form → ℕ × ℕ → Pairs → List ℕ → Type 0
 IsBuilt form factor pairs b = built_in form.kind form.bits factor pairs b
 
 -- the write of the pairs fails with `e`; the pairs are of the kind
-abbrev pub refused_in : {F : Type 0} → Kind → Bits → ℕ × ℕ → Pairs → WriteError F → Type 0
+abbrev pub refused_in : {F : Type 0} → Kind → ArchiveWidth → ℕ × ℕ → Pairs → WriteError F → Type 0
 refused_in Num bits factor (numbers pairs) e =
-    NoArchiveOf (number_parts bits) factor (buckets_of bits) (scalar_format (unsigned w32))
+    ArchiveFails (number_parts bits) factor (buckets_of bits) (scalar_format (unsigned w32))
     number_calls pairs e
 refused_in Text bits factor (texts pairs) e =
-    NoArchiveOf (text_parts bits) factor (buckets_of bits) (text_format (word_of bits)) text_calls
+    ArchiveFails (text_parts bits) factor (buckets_of bits) (text_format (word_of bits)) text_calls
     pairs e
 refused_in Num bits factor (texts pairs) e = ⊥
 refused_in Text bits factor (numbers pairs) e = ⊥
@@ -115,11 +115,11 @@ Builds form factor pairs result =
     MatchResult result (λ v. IsBuilt form factor pairs v.items) (BuildRefused form factor pairs)
 
 -- the root of any archive `b` represents a map of the pairs, which are of the kind
-abbrev pub holds_in : Kind → Bits → ℕ × ℕ → List ℕ → Pairs → Type 0
+abbrev pub holds_in : Kind → ArchiveWidth → ℕ × ℕ → List ℕ → Pairs → Type 0
 holds_in Num bits factor b (numbers pairs) =
-    PairsStand (number_parts bits) factor (ScalarStands (unsigned w32)) pairs b
+    PairsRepresent (number_parts bits) factor (ScalarRepresents (unsigned w32)) pairs b
 holds_in Text bits factor b (texts pairs) =
-    PairsStand (text_parts bits) factor (TextReads (word_of bits)) pairs b
+    PairsRepresent (text_parts bits) factor (TextReads (word_of bits)) pairs b
 holds_in Num bits factor b (texts pairs) = ⊥
 holds_in Text bits factor b (numbers pairs) = ⊥
 

@@ -25,27 +25,27 @@ message_of Write = codes "write fault"
 message_of NoMemoryLeft = codes "no memory"
 
 -- the number and the name of a validation error
-unfoldable pub refusal_told : VerifyError → List ℕ
-refusal_told (OutOfRange pos size) = codes "1 OutOfRange"
-refusal_told (Unaligned pos align) = codes "2 Unaligned"
-refusal_told (InvalidLength len cap) = codes "3 InvalidLength"
-refusal_told (WrongNumberOfElements expected actual) = codes "4 WrongNumberOfElements"
-refusal_told (UnwrappedControlByte index) = codes "5 UnwrappedControlByte"
-refusal_told (PlaceOutOfRange place len) = codes "6 PlaceOutOfRange"
-refusal_told (InvalidValue pos) = codes "7 InvalidValue"
-refusal_told (Refused reason) = codes "8 Refused"
+unfoldable pub refusal_text : VerifyError → List ℕ
+refusal_text (OutOfRange pos size) = codes "1 OutOfRange"
+refusal_text (Unaligned pos align) = codes "2 Unaligned"
+refusal_text (InvalidLength len cap) = codes "3 InvalidLength"
+refusal_text (WrongNumberOfElements expected actual) = codes "4 WrongNumberOfElements"
+refusal_text (UnwrappedControlByte index) = codes "5 UnwrappedControlByte"
+refusal_text (PlaceOutOfRange place len) = codes "6 PlaceOutOfRange"
+refusal_text (InvalidValue pos) = codes "7 InvalidValue"
+refusal_text (Refused reason) = codes "8 Refused"
 
 -- the number and the name of a write error
-unfoldable pub cause_told : {F : Type 0} → WriteError F → List ℕ
-cause_told (InvalidLoadFactor numerator denominator) = codes "1 InvalidLoadFactor"
-cause_told (IteratorLengthMismatch mismatch) = codes "2 IteratorLengthMismatch"
-cause_told (CapacityTooLarge len) = codes "3 CapacityTooLarge"
-cause_told PositionTooLarge = codes "4 PositionTooLarge"
-cause_told DistanceTooLarge = codes "5 DistanceTooLarge"
-cause_told TextTooLong = codes "6 TextTooLong"
-cause_told (Writer fault) = codes "7 Writer"
-cause_told Memory = codes "8 Memory"
-cause_told (RefusedWrite reason) = codes "9 Refused"
+unfoldable pub cause_text : {F : Type 0} → WriteError F → List ℕ
+cause_text (InvalidLoadFactor numerator denominator) = codes "1 InvalidLoadFactor"
+cause_text (IteratorLengthMismatch mismatch) = codes "2 IteratorLengthMismatch"
+cause_text (CapacityTooLarge len) = codes "3 CapacityTooLarge"
+cause_text PositionTooLarge = codes "4 PositionTooLarge"
+cause_text DistanceTooLarge = codes "5 DistanceTooLarge"
+cause_text TextTooLong = codes "6 TextTooLong"
+cause_text (Writer fault) = codes "7 Writer"
+cause_text Memory = codes "8 Memory"
+cause_text (RefusedWrite reason) = codes "9 Refused"
 
 -- the write error is an allocation failure, which has no line
 unfoldable pub wants_memory : {F : Type 0} → WriteError F → Bool

@@ -5,7 +5,7 @@ use Rattle.std.specs.Option.{option_map}
 use Rattle.rkyv_keys.specs.OfTexts.{same_bytes}
 use Rattle.rkyv_table.specs.Table.Positions.{home_positions}
 use Rattle.rkyv_collections.specs.Map.{MapWrittenAt}
-use Rattle.rkyv_dict.specs.Archives.{hash, pair_shape, root, value_text}
+use Rattle.rkyv_dict.specs.Archives.{hash, pair_spec, root, value_text}
 use Rattle.rkyv_dict.specs.Forms.{Asked, Pairs, asked_number, asked_text, numbers, texts}
 use Rattle.rkyv_dict.specs.Parts.{Parts}
 
@@ -23,14 +23,14 @@ first_value (texts pairs) (asked_number n) = None
 module _ (k : Parts) (b : List ℕ) where
   -- the map of `b` was written from pairs with these homes, in this order
   unfoldable pub HasHomes : List ℕ → Type 0
-  HasHomes homes = MapWrittenAt k.word (pair_shape k) (λ c q. hash (k.calls c q)) b (root k b) homes
+  HasHomes homes = MapWrittenAt k.word (pair_spec k) (λ c q. hash (k.calls c q)) b (root k b) homes
 
   -- the text of the value at the first home whose key passes `accept`, a test of a key's position
   unfoldable pub first_under : List ℕ → (ℕ → Bool) → Option (List ℕ)
   first_under homes accept = option_map (value_text k b)
-      (find accept (home_positions k.word (pair_shape k).size b (root k b) homes))
+      (find accept (home_positions k.word (pair_spec k).size b (root k b) homes))
 
-  -- in a written map, `Told` applies to the text of the first accepted key's value, or to `None`
+  -- in a written map, `P` applies to the text of the first accepted key's value, or to `None`
   abbrev pub FindsFirstValue : (ℕ → Bool) → (Option (List ℕ) → Type 0) → Type 0
-  FindsFirstValue accept Told =
-      (homes : List ℕ) → HasHomes homes → Told (first_under homes accept)
+  FindsFirstValue accept P =
+      (homes : List ℕ) → HasHomes homes → P (first_under homes accept)

@@ -2,8 +2,8 @@
 use Rattle.std.specs.Prelude.{ℕ, List, map}
 use Rattle.std.specs.Borrow.{Bor}
 use Rattle.std.specs.Int.{Width, w32, w64}
-use Rattle.rkyv_dict.specs.declared.form.Bits.{Bits}
-use Rattle.rkyv_dict.specs.declared.form.Bits.TheVariants.{Bits32, Bits64}
+use Rattle.rkyv_dict.specs.declared.form.ArchiveWidth.{ArchiveWidth}
+use Rattle.rkyv_dict.specs.declared.form.ArchiveWidth.TheVariants.{Bits32, Bits64}
 use Rattle.rkyv_dict.specs.declared.form.Key.{Key}
 use Rattle.rkyv_dict.specs.declared.form.Key.TheVariants.{Number, Text}
 use Rattle.rkyv_dict.specs.declared.form.PairList.{PairList}
@@ -34,16 +34,16 @@ key_seen (Number n) = asked_number n
 key_seen (Text t) = asked_text t.now
 
 -- the word of a count or a distance
-abbrev pub word_of : Bits → Width
+abbrev pub word_of : ArchiveWidth → Width
 word_of Bits32 = w32
 word_of Bits64 = w64
 
 -- the greatest length of an archive, in bytes
-abbrev pub limit_of : Bits → ℕ
+abbrev pub limit_of : ArchiveWidth → ℕ
 limit_of Bits32 = 4_294_967_295
 limit_of Bits64 = 9_223_372_036_854_775_807
 
 -- the greatest number of buckets
-abbrev pub buckets_of : Bits → ℕ
+abbrev pub buckets_of : ArchiveWidth → ℕ
 buckets_of Bits32 = 4_294_967_295
 buckets_of Bits64 = 4_611_686_018_427_387_904

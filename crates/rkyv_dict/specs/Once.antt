@@ -4,10 +4,10 @@ use Rattle.rkyv_base.specs.declared.errors.VerifyError.{VerifyError}
 use Rattle.rkyv_base.specs.declared.errors.WriteError.{WriteError}
 use Rattle.rkyv_base.specs.declared.writer.NoMemory.{NoMemory}
 use Rattle.rkyv_dict.specs.declared.form.Form.{Form}
-use Rattle.rkyv_dict.specs.Answers.{Runs}
+use Rattle.rkyv_dict.specs.Answers.{RunsTo}
 use Rattle.rkyv_dict.specs.Archives.{IsArchive, IsRefused}
 use Rattle.rkyv_dict.specs.Built.{BuildRefused, IsBuilt}
-use Rattle.rkyv_dict.specs.Errors.{cause_told, wants_memory}
+use Rattle.rkyv_dict.specs.Errors.{cause_text, wants_memory}
 use Rattle.rkyv_dict.specs.Forms.{Pairs}
 use Rattle.rkyv_dict.specs.State.{State}
 
@@ -26,7 +26,7 @@ ChecksAreOne = (form : Form) (b : List ℕ) (e : VerifyError) → IsRefused form
 pub record RefusedBuildsAreOne : Type 0 where
   pub causes : (form : Form) (factor : ℕ × ℕ) (pairs : Pairs) (c d : WriteError NoMemory)
       → BuildRefused form factor pairs c → BuildRefused form factor pairs d
-      → wants_memory c ≡ false → wants_memory d ≡ false → cause_told c ≡ cause_told d
+      → wants_memory c ≡ false → wants_memory d ≡ false → cause_text c ≡ cause_text d
   pub built : (form : Form) (factor : ℕ × ℕ) (pairs : Pairs) (b : List ℕ) (c : WriteError NoMemory)
       → IsBuilt form factor pairs b → BuildRefused form factor pairs c
       → wants_memory c ≡ false → ⊥
@@ -34,5 +34,5 @@ pub record RefusedBuildsAreOne : Type 0 where
 -- the lines of a script have one output from a state, and end in one state
 abbrev pub ScriptsAreOne : Type 0
 ScriptsAreOne = (lines : List (List ℕ)) (s : State) (output output' : List ℕ) (last last' : State)
-    → Runs s lines output last → Runs s lines output' last'
+    → RunsTo s lines output last → RunsTo s lines output' last'
     → (output ≡ output') × (last ≡ last')

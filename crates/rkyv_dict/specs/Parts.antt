@@ -4,38 +4,38 @@ use Rattle.std.specs.Int.{Width, w32}
 use Rattle.rkyv_scan.specs.Hash.{HasherCall, U32}
 use Rattle.rkyv_base.specs.Bytes.{number_at}
 use Rattle.rkyv_base.specs.Numbers.{unsigned}
-use Rattle.rkyv_base.specs.Scalar.{scalar_shape}
-use Rattle.rkyv_base.specs.Shape.{Shape}
-use Rattle.rkyv_base.specs.Text.{text_at, text_shape}
+use Rattle.rkyv_base.specs.Scalar.{scalar_spec}
+use Rattle.rkyv_base.specs.ElementSpec.{ElementSpec}
+use Rattle.rkyv_base.specs.Text.{text_at, text_spec}
 use Rattle.rkyv_keys.specs.Calls.{text_calls}
 use Rattle.rkyv_keys.specs.Equality.{Comparison}
 use Rattle.rkyv_keys.specs.OfTexts.{same_bytes}
-use Rattle.rkyv_dict.specs.declared.form.Bits.{Bits}
+use Rattle.rkyv_dict.specs.declared.form.ArchiveWidth.{ArchiveWidth}
 use Rattle.rkyv_dict.specs.declared.form.Form.{Form}
 use Rattle.rkyv_dict.specs.declared.form.Kind.{Kind}
 use Rattle.rkyv_dict.specs.declared.form.Kind.TheVariants.{Num, Text}
 use Rattle.rkyv_dict.specs.Forms.{limit_of, word_of}
 
 -- The keys and values, of one kind, of the maps of an archive.
--- `word`: word of the width, `limit`: greatest length of the archive, `shape`: shape of a part,
+-- `word`: word of the width, `limit`: greatest length of the archive, `spec`: spec of a part,
 -- `text`: text of the part at a position, `same`: equality, `calls`: hasher calls.
 pub record Parts : Type 1 where
   pub word : Width
   pub limit : ℕ
-  pub shape : Shape
+  pub spec : ElementSpec
   pub text : List ℕ → ℕ → List ℕ
   pub same : Comparison
   pub calls : List ℕ → ℕ → List HasherCall
 
 -- the parts with these members
-abbrev pub parts_by : Width → ℕ → Shape → (List ℕ → ℕ → List ℕ) → Comparison
+abbrev pub parts_by : Width → ℕ → ElementSpec → (List ℕ → ℕ → List ℕ) → Comparison
     → (List ℕ → ℕ → List HasherCall) → Parts
-parts_by word limit shape text same calls =
-    record { word = word; limit = limit; shape = shape; text = text; same = same; calls = calls }
+parts_by word limit spec text same calls =
+    record { word = word; limit = limit; spec = spec; text = text; same = same; calls = calls }
 
--- the shape of a number of 32 bits
-abbrev pub number_shape : Shape
-number_shape = scalar_shape (unsigned w32)
+-- the spec of a number of 32 bits
+abbrev pub number_spec : ElementSpec
+number_spec = scalar_spec (unsigned w32)
 
 -- the decimal digits of the number at `p`
 abbrev pub number_text : List ℕ → ℕ → List ℕ
@@ -46,20 +46,20 @@ abbrev pub number_calls : ℕ → List HasherCall
 number_calls n = U32 n ∷ []
 
 -- the parts of a map of numbers of 32 bits
-abbrev pub number_parts : Bits → Parts
+abbrev pub number_parts : ArchiveWidth → Parts
 number_parts bits =
-    parts_by (word_of bits) (limit_of bits) number_shape number_text
+    parts_by (word_of bits) (limit_of bits) number_spec number_text
     (λ b p c q. number_at w32 b p == number_at w32 c q) (λ b p. number_calls (number_at w32 b p))
 
 -- the parts of a map of texts
-abbrev pub text_parts : Bits → Parts
+abbrev pub text_parts : ArchiveWidth → Parts
 text_parts bits =
     let text_there = text_at (word_of bits) in
-    parts_by (word_of bits) (limit_of bits) (text_shape (word_of bits)) text_there
+    parts_by (word_of bits) (limit_of bits) (text_spec (word_of bits)) text_there
     (λ b p c q. same_bytes (text_there b p) (text_there c q)) (λ b p. text_calls (text_there b p))
 
 -- the parts of a map of the kind in the width
-abbrev pub parts_in : Kind → Bits → Parts
+abbrev pub parts_in : Kind → ArchiveWidth → Parts
 parts_in Num bits = number_parts bits
 parts_in Text bits = text_parts bits
 

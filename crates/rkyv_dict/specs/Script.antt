@@ -11,13 +11,13 @@ use Rattle.rkyv_dict.specs.Hex.{bytes_said}
 use Rattle.rkyv_dict.specs.Forms.{Asked, asked_number, asked_text}
 use Rattle.rkyv_dict.specs.declared.form.Kind.{Kind}
 use Rattle.rkyv_dict.specs.declared.form.Kind.TheVariants.{Num, Text}
-use Rattle.rkyv_dict.specs.declared.form.Bits.{Bits}
-use Rattle.rkyv_dict.specs.declared.form.Bits.TheVariants.{Bits32, Bits64}
+use Rattle.rkyv_dict.specs.declared.form.ArchiveWidth.{ArchiveWidth}
+use Rattle.rkyv_dict.specs.declared.form.ArchiveWidth.TheVariants.{Bits32, Bits64}
 
 -- the request of a line
 pub data Request : Type 0 where
   set_kind : Kind → Request
-  set_width : Bits → Request
+  set_width : ArchiveWidth → Request
   set_load_factor : ℕ → ℕ → Request
   put_numbers : ℕ → ℕ → Request
   put_texts : List ℕ → List ℕ → Request
@@ -74,7 +74,7 @@ kind_of_word word = if bytes_eq word (codes "num") then Some Num else if bytes_e
     (codes "text") then Some Text else None
 
 -- the width with this name: `32` or `64`
-abbrev pub bits_of_word : List ℕ → Option Bits
+abbrev pub bits_of_word : List ℕ → Option ArchiveWidth
 bits_of_word word = if bytes_eq word (codes "32") then Some Bits32 else if bytes_eq word
     (codes "64") then Some Bits64 else None
 

@@ -6,12 +6,12 @@ use Rattle.rkyv_dict.specs.Counts.{take_pairs}
 use Rattle.rkyv_dict.specs.Forms.{Pairs, pairs_seen}
 use Rattle.rkyv_dict.specs.State.{Archived, State}
 
--- an archive and its pairs: those of a built one are the first `handed` pairs of the list
+-- an archive and its pairs: those of a built one are the first `built_len` pairs of the list
 abbrev pub archived_seen : Pairs → Stored → Archived
 archived_seen pairs stored = record {
   bytes = stored.bytes.items;
   built_of =
-      option_map (λ n. take_pairs n pairs) stored.handed;
+      option_map (λ n. take_pairs n pairs) stored.built_len;
 }
 
 -- the state of a script that a dictionary has

@@ -1,8 +1,8 @@
 -- The state of a script.
 use Rattle.std.specs.Prelude.{ℕ, List, [], ◌∷◌, ◌++◌, Option, None}
 use Rattle.std.specs.Option.{ForSome}
-use Rattle.rkyv_dict.specs.declared.form.Bits.{Bits}
-use Rattle.rkyv_dict.specs.declared.form.Bits.TheVariants.{Bits32}
+use Rattle.rkyv_dict.specs.declared.form.ArchiveWidth.{ArchiveWidth}
+use Rattle.rkyv_dict.specs.declared.form.ArchiveWidth.TheVariants.{Bits32}
 use Rattle.rkyv_dict.specs.declared.form.Form.{Form}
 use Rattle.rkyv_dict.specs.declared.form.Kind.{Kind}
 use Rattle.rkyv_dict.specs.declared.form.Kind.TheVariants.{Num, Text}
@@ -18,7 +18,7 @@ pub record Archived : Type 0 where
 -- the state: width, load factor, list of pairs, and archive, if any.
 -- The kind of the list is the kind that is set.
 pub record State : Type 0 where
-  pub bits : Bits
+  pub bits : ArchiveWidth
   pub load_factor : ℕ × ℕ
   pub pairs : Pairs
   pub archive : Option Archived
@@ -37,7 +37,7 @@ abbrev pub start : State
 start = record { bits = Bits32; load_factor = (7, 8); pairs = no_pairs Num; archive = None }
 
 -- `s` in another form, with the list and the archive emptied and the load factor unchanged
-abbrev pub emptied : Kind → Bits → State → State
+abbrev pub emptied : Kind → ArchiveWidth → State → State
 emptied kind bits s = record {
   bits = bits;
   load_factor = s.load_factor;

@@ -6,21 +6,21 @@
 ghost use Rattle.std.specs.Prelude.{ℕ, ◌≡◌, ◌++◌, IfSome, MatchResult, codes, decimal};
 ghost use Rattle.std.specs.List.{flat_map};
 ghost use Rattle.std.specs.Option.{option_map};
-ghost use Rattle.rkyv_base.specs.View.{IsAt, IsView};
+ghost use Rattle.rkyv_base.specs.View.{IsAt, IsValidView};
 ghost use Rattle.rkyv_keys.specs.Places.{at_view};
 ghost use Rattle.rkyv_collections.specs.Map.{key_positions, map_bytes};
 ghost use Rattle.rkyv_dict.specs.Archives.{IsArchive, IsMapArchive, IsRefused, MapArchiveFails};
 ghost use Rattle.rkyv_dict.specs.Archives.{entry_count, keys_misplaced, line, line_at, listing};
 ghost use Rattle.rkyv_dict.specs.Archives.{misplaced_count, pair_count, pair_lines, root};
 ghost use Rattle.rkyv_dict.specs.Archives.{value_found, value_line, value_under};
-ghost use Rattle.rkyv_dict.specs.Built.{Builds, BuildsArchive, Holds, form_of_pairs, natives};
+ghost use Rattle.rkyv_dict.specs.Built.{Builds, MakesArchive, Holds, form_of_pairs, natives};
 ghost use Rattle.rkyv_dict.specs.First.{FindsFirstValue, first_value};
 ghost use Rattle.rkyv_dict.specs.Forms.{Pairs, key_seen, pairs_seen};
 ghost use Rattle.rkyv_dict.specs.Parts.{parts_by};
-ghost use Rattle.rkyv_dict.specs.Pushing.{Pushes};
+ghost use Rattle.rkyv_dict.specs.Pushing.{AppendsText};
 
-use crate::form::{Bits, Form, Key, Kind, PairList};
-use crate::parts::Part;
+use crate::form::{ArchiveWidth, Form, Key, Kind, PairList};
+use crate::parts::Printable;
 use rkyv_base::access::{access_in, access_unchecked};
 use rkyv_base::archive::Serialize;
 use rkyv_base::errors::{VerifyError, WriteError};
@@ -35,14 +35,14 @@ use std::alloc::{AllocError, Global};
 
 /// Appends the text and a line feed.
 pub(crate) fn push_line(out: &mut String, text: &str) -> Result<(), AllocError>
-    ensures { Pushes result out.old out.new (line text.now) }
+    ensures { AppendsText result out.old out.new (line text.now) }
 {
     write!(out, "{text}\n")
 }
 
 /// Validates the archive of a map, and returns the number of its pairs.
-fn check_map<P: Part, W: Width>(bytes: &[u8]) -> Result<usize, VerifyError>
-    ensures { let m = parts_by W.word W.LIMIT P.shape P.text P.same P.key_calls in
+fn check_map<P: Printable, W: Width>(bytes: &[u8]) -> Result<usize, VerifyError>
+    ensures { let m = parts_by W.word W.LIMIT P.spec P.text P.same P.key_calls in
         MatchResult result
         (λ n. IsMapArchive m bytes.now × (n ≡ pair_count m bytes.now))
         (MapArchiveFails m bytes.now) }
@@ -54,19 +54,20 @@ fn check_map<P: Part, W: Width>(bytes: &[u8]) -> Result<usize, VerifyError>
 }
 
 /// Returns a view of the map in a valid archive.
-fn map_of<'a, P: Part, W: Width>(bytes: &'a [u8]) -> ArchivedHashMap<'a, P, P, FxHasher64, W>
-    requires { let m = parts_by W.word W.LIMIT P.shape P.text P.same P.key_calls in
+fn map_of<'a, P: Printable, W: Width>(bytes: &'a [u8]) -> ArchivedHashMap<'a, P, P, FxHasher64, W>
+    requires { let m = parts_by W.word W.LIMIT P.spec P.text P.same P.key_calls in
         IsMapArchive m bytes.now }
-    ensures at { let m = parts_by W.word W.LIMIT P.shape P.text P.same P.key_calls in
+    ensures at { let m = parts_by W.word W.LIMIT P.spec P.text P.same P.key_calls in
         IsAt result.view bytes.entry (root m bytes.now) }
 {
     ArchivedHashMap::of(access_unchecked(bytes))
 }
 
 /// Appends the line of the value, or the line `none` without one.
-fn push_text<P: Part>(value: Option<View<'_, P>>, out: &mut String) -> Result<(), AllocError>
-    requires { IfSome value (IsView P.shape) }
-    ensures { Pushes result out.old out.new (value_line (option_map (at_view P.text) value.entry)) }
+fn push_text<P: Printable>(value: Option<View<'_, P>>, out: &mut String) -> Result<(), AllocError>
+    requires { IfSome value (IsValidView P.spec) }
+    ensures { AppendsText result out.old out.new (value_line (option_map
+        (at_view P.text) value.entry)) }
 {
     match value {
         Some(value) => {
@@ -78,33 +79,33 @@ fn push_text<P: Part>(value: Option<View<'_, P>>, out: &mut String) -> Result<()
 }
 
 /// Appends the line of the value that a lookup of the key finds, or the line `none`.
-fn push_found<P: Part, W: Width, Q: Query<P>>(
+fn push_found<P: Printable, W: Width, Q: Query<P>>(
     bytes: &[u8],
     key: &Q,
     out: &mut String,
 ) -> Result<(), AllocError>
-    requires archive { let m = parts_by W.word W.LIMIT P.shape P.text P.same P.key_calls in
+    requires archive { let m = parts_by W.word W.LIMIT P.spec P.text P.same P.key_calls in
         IsMapArchive m bytes.now }
     requires query { Q.can_read key.now }
-    ensures found { let m = parts_by W.word W.LIMIT P.shape P.text P.same P.key_calls in
-        Pushes result out.old out.new (value_line (value_under m bytes.now (Q.calls key.now)
+    ensures found { let m = parts_by W.word W.LIMIT P.spec P.text P.same P.key_calls in
+        AppendsText result out.old out.new (value_line (value_under m bytes.now (Q.calls key.now)
         (Q.fits key.now bytes.now))) }
-    ensures first { let m = parts_by W.word W.LIMIT P.shape P.text P.same P.key_calls in
+    ensures first { let m = parts_by W.word W.LIMIT P.spec P.text P.same P.key_calls in
         FindsFirstValue m bytes.now (Q.fits key.now bytes.now) (λ value.
-        Pushes result out.old out.new (value_line value)) }
+        AppendsText result out.old out.new (value_line value)) }
 {
     push_text(map_of::<P, W>(bytes).get(key), out)
 }
 
 /// Appends the line of a pair: its key, a space and its value.
-fn push_pair<P: Part>(
+fn push_pair<P: Printable>(
     key: View<'_, P>,
     value: View<'_, P>,
     out: &mut String,
 ) -> Result<(), AllocError>
-    requires key { IsView P.shape key }
-    requires value { IsView P.shape value }
-    ensures { Pushes result out.old out.new
+    requires key { IsValidView P.spec key }
+    requires value { IsValidView P.spec value }
+    ensures { AppendsText result out.old out.new
         (line (at_view P.text key.entry ++ codes " " ++ at_view P.text value.entry)) }
 {
     P::push(key, out)?;
@@ -115,18 +116,18 @@ fn push_pair<P: Part>(
 
 /// Appends the line of the number of pairs.
 fn push_count(count: usize, out: &mut String) -> Result<(), AllocError>
-    ensures { Pushes result out.old out.new (line (codes "entries " ++ decimal count)) }
+    ensures { AppendsText result out.old out.new (line (codes "entries " ++ decimal count)) }
 {
     write!(out, "entries {count}\n")
 }
 
 /// Appends a line for each pair, in bucket order.
-fn push_lines<P: Part, W: Width>(
+fn push_lines<P: Printable, W: Width>(
     map: ArchivedHashMap<'_, P, P, FxHasher64, W>,
     out: &mut String,
 ) -> Result<(), AllocError>
-    ensures { let lines = flat_map (line_at P.shape P.text (map_bytes map.entry)) in
-        Pushes result out.old out.new (lines (key_positions map.entry)) }
+    ensures { let lines = flat_map (line_at P.spec P.text (map_bytes map.entry)) in
+        AppendsText result out.old out.new (lines (key_positions map.entry)) }
 {
     for (key, value) in map.iter() {
         push_pair(key, value, out)?;
@@ -135,11 +136,11 @@ fn push_lines<P: Part, W: Width>(
 }
 
 /// Appends the line of the number of pairs, then a line for each pair.
-fn push_map<P: Part, W: Width>(bytes: &[u8], out: &mut String) -> Result<(), AllocError>
-    requires { let m = parts_by W.word W.LIMIT P.shape P.text P.same P.key_calls in
+fn push_map<P: Printable, W: Width>(bytes: &[u8], out: &mut String) -> Result<(), AllocError>
+    requires { let m = parts_by W.word W.LIMIT P.spec P.text P.same P.key_calls in
         IsMapArchive m bytes.now }
-    ensures { let m = parts_by W.word W.LIMIT P.shape P.text P.same P.key_calls in
-        Pushes result out.old out.new (pair_lines m bytes.now) }
+    ensures { let m = parts_by W.word W.LIMIT P.spec P.text P.same P.key_calls in
+        AppendsText result out.old out.new (pair_lines m bytes.now) }
 {
     let map = map_of::<P, W>(bytes);
     push_count(map.len(), out)?;
@@ -147,10 +148,10 @@ fn push_map<P: Part, W: Width>(bytes: &[u8], out: &mut String) -> Result<(), All
 }
 
 /// Returns the number of keys that a lookup doesn't find in their own bucket.
-fn count_misplaced<P: Part, W: Width>(bytes: &[u8]) -> usize
-    requires { let m = parts_by W.word W.LIMIT P.shape P.text P.same P.key_calls in
+fn count_misplaced<P: Printable, W: Width>(bytes: &[u8]) -> usize
+    requires { let m = parts_by W.word W.LIMIT P.spec P.text P.same P.key_calls in
         IsMapArchive m bytes.now }
-    ensures { let m = parts_by W.word W.LIMIT P.shape P.text P.same P.key_calls in
+    ensures { let m = parts_by W.word W.LIMIT P.spec P.text P.same P.key_calls in
         result ≡ keys_misplaced m bytes.now }
 {
     map_of::<P, W>(bytes).misplaced()
@@ -163,10 +164,10 @@ fn build_map<A: NativeKey<A::Archived> + Serialize<VecWriter, W>, W: Width>(
     load_factor: (usize, usize),
 ) -> Result<Vec<u8>, WriteError<NoMemory>>
 where
-    A::Archived: Part,
-    ensures { BuildsArchive (parts_by W.word W.LIMIT A.Archived.shape A.Archived.text
+    A::Archived: Printable,
+    ensures { MakesArchive (parts_by W.word W.LIMIT A.Archived.spec A.Archived.text
         A.Archived.same A.Archived.key_calls) load_factor W.MAX_CAPACITY
-        (natives A.format A.calls A.Archived.stands) pairs.now result }
+        (natives A.format A.calls A.Archived.represents) pairs.now result }
 {
     let list = MapPairs::<'_, A, A>::with_load_factor(pairs, load_factor);
     to_bytes_in::<W, MapPairs<'_, A, A>>(alloc, &list)
@@ -185,10 +186,10 @@ pub fn check(form: Form, bytes: &[u8]) -> Result<usize, VerifyError>
         (IsRefused form bytes.now) }
 {
     match (form.kind, form.bits) {
-        (Kind::Num, Bits::Bits32) => check_map::<u32, Narrow>(bytes),
-        (Kind::Num, Bits::Bits64) => check_map::<u32, Wide>(bytes),
-        (Kind::Text, Bits::Bits32) => check_map::<Text<Narrow>, Narrow>(bytes),
-        (Kind::Text, Bits::Bits64) => check_map::<Text<Wide>, Wide>(bytes),
+        (Kind::Num, ArchiveWidth::Bits32) => check_map::<u32, Narrow>(bytes),
+        (Kind::Num, ArchiveWidth::Bits64) => check_map::<u32, Wide>(bytes),
+        (Kind::Text, ArchiveWidth::Bits32) => check_map::<Text<Narrow>, Narrow>(bytes),
+        (Kind::Text, ArchiveWidth::Bits64) => check_map::<Text<Wide>, Wide>(bytes),
     }
 }
 
@@ -210,19 +211,19 @@ pub fn push_value(
     out: &mut String,
 ) -> Result<(), AllocError>
     requires { IsArchive form bytes.now }
-    ensures found { Pushes result out.old out.new
+    ensures found { AppendsText result out.old out.new
         (value_line (value_found form bytes.now (key_seen key.entry))) }
     ensures first { (pairs : Pairs) (factor : ℕ × ℕ) → Holds form factor bytes.now pairs
-        → Pushes result out.old out.new (value_line (first_value pairs (key_seen key.entry))) }
+        → AppendsText result out.old out.new (value_line (first_value pairs (key_seen key.entry))) }
 {
     match (form.kind, key) {
         (Kind::Num, Key::Number(number)) => match form.bits {
-            Bits::Bits32 => push_found::<u32, Narrow, u32>(bytes, &number, out),
-            Bits::Bits64 => push_found::<u32, Wide, u32>(bytes, &number, out),
+            ArchiveWidth::Bits32 => push_found::<u32, Narrow, u32>(bytes, &number, out),
+            ArchiveWidth::Bits64 => push_found::<u32, Wide, u32>(bytes, &number, out),
         },
         (Kind::Text, Key::Text(text)) => match form.bits {
-            Bits::Bits32 => push_found::<Text<Narrow>, Narrow, &str>(bytes, &text, out),
-            Bits::Bits64 => push_found::<Text<Wide>, Wide, &str>(bytes, &text, out),
+            ArchiveWidth::Bits32 => push_found::<Text<Narrow>, Narrow, &str>(bytes, &text, out),
+            ArchiveWidth::Bits64 => push_found::<Text<Wide>, Wide, &str>(bytes, &text, out),
         },
         _ => push_line(out, "none"),
     }
@@ -241,13 +242,13 @@ pub fn push_value(
 /// - The bytes are a valid archive of the form.
 pub fn push_pairs(form: Form, bytes: &[u8], out: &mut String) -> Result<(), AllocError>
     requires { IsArchive form bytes.now }
-    ensures { Pushes result out.old out.new (listing form bytes.now) }
+    ensures { AppendsText result out.old out.new (listing form bytes.now) }
 {
     match (form.kind, form.bits) {
-        (Kind::Num, Bits::Bits32) => push_map::<u32, Narrow>(bytes, out),
-        (Kind::Num, Bits::Bits64) => push_map::<u32, Wide>(bytes, out),
-        (Kind::Text, Bits::Bits32) => push_map::<Text<Narrow>, Narrow>(bytes, out),
-        (Kind::Text, Bits::Bits64) => push_map::<Text<Wide>, Wide>(bytes, out),
+        (Kind::Num, ArchiveWidth::Bits32) => push_map::<u32, Narrow>(bytes, out),
+        (Kind::Num, ArchiveWidth::Bits64) => push_map::<u32, Wide>(bytes, out),
+        (Kind::Text, ArchiveWidth::Bits32) => push_map::<Text<Narrow>, Narrow>(bytes, out),
+        (Kind::Text, ArchiveWidth::Bits64) => push_map::<Text<Wide>, Wide>(bytes, out),
     }
 }
 
@@ -261,10 +262,10 @@ pub fn misplaced(form: Form, bytes: &[u8]) -> usize
     ensures { result ≡ misplaced_count form bytes.now }
 {
     match (form.kind, form.bits) {
-        (Kind::Num, Bits::Bits32) => count_misplaced::<u32, Narrow>(bytes),
-        (Kind::Num, Bits::Bits64) => count_misplaced::<u32, Wide>(bytes),
-        (Kind::Text, Bits::Bits32) => count_misplaced::<Text<Narrow>, Narrow>(bytes),
-        (Kind::Text, Bits::Bits64) => count_misplaced::<Text<Wide>, Wide>(bytes),
+        (Kind::Num, ArchiveWidth::Bits32) => count_misplaced::<u32, Narrow>(bytes),
+        (Kind::Num, ArchiveWidth::Bits64) => count_misplaced::<u32, Wide>(bytes),
+        (Kind::Text, ArchiveWidth::Bits32) => count_misplaced::<Text<Narrow>, Narrow>(bytes),
+        (Kind::Text, ArchiveWidth::Bits64) => count_misplaced::<Text<Wide>, Wide>(bytes),
     }
 }
 
@@ -282,7 +283,7 @@ pub fn misplaced(form: Form, bytes: &[u8]) -> usize
 /// The last four are checked for each part, as it is written.
 pub fn build(
     alloc: Global,
-    bits: Bits,
+    bits: ArchiveWidth,
     list: &PairList<'_>,
     load_factor: (usize, usize),
 ) -> Result<Vec<u8>, WriteError<NoMemory>>
@@ -290,16 +291,16 @@ pub fn build(
         Builds (form_of_pairs bits pairs) load_factor pairs result }
 {
     match (list, bits) {
-        (PairList::Numbers(pairs), Bits::Bits32) => {
+        (PairList::Numbers(pairs), ArchiveWidth::Bits32) => {
             build_map::<u32, Narrow>(alloc, pairs.as_slice(), load_factor)
         }
-        (PairList::Numbers(pairs), Bits::Bits64) => {
+        (PairList::Numbers(pairs), ArchiveWidth::Bits64) => {
             build_map::<u32, Wide>(alloc, pairs.as_slice(), load_factor)
         }
-        (PairList::Texts(pairs), Bits::Bits32) => {
+        (PairList::Texts(pairs), ArchiveWidth::Bits32) => {
             build_map::<&str, Narrow>(alloc, pairs.as_slice(), load_factor)
         }
-        (PairList::Texts(pairs), Bits::Bits64) => {
+        (PairList::Texts(pairs), ArchiveWidth::Bits64) => {
             build_map::<&str, Wide>(alloc, pairs.as_slice(), load_factor)
         }
     }

@@ -1,21 +1,21 @@
 //! The dictionary: its state, and the output of each command.
 //!
 //! `Dict::answer` executes one line of a script, and appends its output.
-ghost use Rattle.rkyv_dict.specs.Answers.{Does, DoesLine};
+ghost use Rattle.rkyv_dict.specs.Answers.{StepsTo, StepsLine};
 ghost use Rattle.rkyv_dict.specs.Counts.{pair_count};
 ghost use Rattle.rkyv_dict.specs.Forms.{key_seen};
 ghost use Rattle.rkyv_dict.specs.Output.{answered, audit_line, error_line, get_line, hex_line};
 ghost use Rattle.rkyv_dict.specs.Output.{list_lines, refused_line};
-ghost use Rattle.rkyv_dict.specs.Pushing.{Pushes};
-ghost use Rattle.rkyv_dict.specs.Run.{Adds};
+ghost use Rattle.rkyv_dict.specs.Pushing.{AppendsText};
+ghost use Rattle.rkyv_dict.specs.Run.{AppendsSome};
 ghost use Rattle.rkyv_dict.specs.Script.{build_archive, check_archive};
 ghost use Rattle.rkyv_dict.specs.State.{IsSound, emptied, form_of, start};
 ghost use Rattle.std.specs.Option.{ForSome};
 ghost use Rattle.std.specs.Prelude.{◌≡◌, ◌≤◌, OnOk, string_bytes};
 
 use crate::archives::{self, push_line};
-use crate::errors::{cause_told, refusal_told, wants_memory};
-use crate::form::{Bits, Form, Key, Kind, PairList};
+use crate::errors::{cause_text, refusal_text, wants_memory};
+use crate::form::{ArchiveWidth, Form, Key, Kind, PairList};
 use crate::hex::push_hex;
 use crate::pairs::{count_of, kind_of, no_pairs, put_numbers, put_texts};
 use crate::script::{Command, read_command};
@@ -25,37 +25,37 @@ use std::alloc::{AllocError, Global};
 
 /// The bytes of an archive.
 ///
-/// `handed` is the length of the list when it was built, or `None` after `check`.
+/// `built_len` is the length of the list when it was built, or `None` after `check`.
 #[derive(Drop)]
 struct Stored {
     bytes: Vec<u8>,
-    handed: Option<usize>,
+    built_len: Option<usize>,
 }
 
 /// The state of a script. Texts are borrowed from the script.
 #[derive(Drop)]
 pub struct Dict<'a> {
-    bits: Bits,
+    bits: ArchiveWidth,
     load_factor: (usize, usize),
     list: PairList<'a>,
     archive: Option<Stored>,
     // A built archive was built from at most as many pairs as the list has.
-    ghost handed_in: { ForSome archive (λ a. ForSome a.handed (λ n. n ≤ pair_count list)) },
+    ghost built_in_list: { ForSome archive (λ a. ForSome a.built_len (λ n. n ≤ pair_count list)) },
 }
 
 /// Appends the line of a validation error.
 fn push_refusal(out: &mut String, error: &VerifyError) -> Result<(), AllocError>
-    ensures { Pushes result out.old out.new (refused_line error.now) }
+    ensures { AppendsText result out.old out.new (refused_line error.now) }
 {
-    let told = refusal_told(error);
+    let told = refusal_text(error);
     write!(out, "refused {told}\n")
 }
 
 /// Appends the line of a write error.
 fn push_cause(out: &mut String, cause: &WriteError<NoMemory>) -> Result<(), AllocError>
-    ensures { Pushes result out.old out.new (error_line cause.now) }
+    ensures { AppendsText result out.old out.new (error_line cause.now) }
 {
-    let told = cause_told(cause);
+    let told = cause_text(cause);
     write!(out, "error {told}\n")
 }
 
@@ -68,7 +68,7 @@ impl<'a> Dict<'a> {
         ensures { state_seen result ≡ start }
     {
         Dict {
-            bits: Bits::Bits32,
+            bits: ArchiveWidth::Bits32,
             load_factor: (7, 8),
             list: no_pairs(alloc, Kind::Num),
             archive: None,
@@ -87,7 +87,8 @@ impl<'a> Dict<'a> {
 
     /// Appends the output of `hex`.
     fn push_hex(&self, out: &mut String) -> Result<(), AllocError>
-        ensures { Pushes result out.old out.new (answered hex_line (state_seen self.now).archive) }
+        ensures { AppendsText result out.old out.new (answered hex_line
+            (state_seen self.now).archive) }
     {
         let Some(archive) = &self.archive else {
             return push_line(out, "error 11 NoArchive");
@@ -100,7 +101,7 @@ impl<'a> Dict<'a> {
     fn push_get(&self, key: Key<'_>, out: &mut String) -> Result<(), AllocError>
         requires { IsSound (state_seen self.now) }
         ensures { let s = state_seen self.now in let key = key_seen key.entry in
-            Pushes result out.old out.new (answered (get_line (form_of s) key) s.archive) }
+            AppendsText result out.old out.new (answered (get_line (form_of s) key) s.archive) }
     {
         let Some(archive) = &self.archive else {
             return push_line(out, "error 11 NoArchive");
@@ -112,7 +113,7 @@ impl<'a> Dict<'a> {
     fn push_list(&self, out: &mut String) -> Result<(), AllocError>
         requires { IsSound (state_seen self.now) }
         ensures { let s = state_seen self.now in
-            Pushes result out.old out.new (answered (list_lines (form_of s)) s.archive) }
+            AppendsText result out.old out.new (answered (list_lines (form_of s)) s.archive) }
     {
         let Some(archive) = &self.archive else {
             return push_line(out, "error 11 NoArchive");
@@ -124,7 +125,7 @@ impl<'a> Dict<'a> {
     fn push_audit(&self, out: &mut String) -> Result<(), AllocError>
         requires { IsSound (state_seen self.now) }
         ensures { let s = state_seen self.now in
-            Pushes result out.old out.new (answered (audit_line (form_of s)) s.archive) }
+            AppendsText result out.old out.new (answered (audit_line (form_of s)) s.archive) }
     {
         let Some(archive) = &self.archive else {
             return push_line(out, "error 11 NoArchive");
@@ -135,14 +136,14 @@ impl<'a> Dict<'a> {
 
     /// Archives the list, and appends the output of `build`.
     fn build(&mut self, alloc: Global, out: &mut String) -> Result<(), AllocError>
-        ensures { OnOk result (Adds (string_bytes out.old) (string_bytes out.new) (λ answer.
-            Does (state_seen self.old) build_archive answer (state_seen self.new))) }
+        ensures { OnOk result (AppendsSome (string_bytes out.old) (string_bytes out.new) (λ answer.
+            StepsTo (state_seen self.old) build_archive answer (state_seen self.new))) }
     {
         match archives::build(alloc, self.bits, &self.list, self.load_factor) {
             Ok(bytes) => {
                 let len = bytes.len();
-                let handed = Some(count_of(&self.list));
-                self.archive = Some(Stored { bytes, handed });
+                let built_len = Some(count_of(&self.list));
+                self.archive = Some(Stored { bytes, built_len });
                 write!(out, "built {len}\n")
             }
             Err(cause) => {
@@ -157,14 +158,15 @@ impl<'a> Dict<'a> {
 
     /// Keeps the bytes as the archive if they are valid, and appends the output of `check`.
     fn check(&mut self, bytes: Vec<u8>, out: &mut String) -> Result<(), AllocError>
-        ensures { OnOk result (Adds (string_bytes out.old) (string_bytes out.new) (λ answer.
-            Does (state_seen self.old) (check_archive bytes.items) answer (state_seen self.new))) }
+        ensures { OnOk result (AppendsSome (string_bytes out.old) (string_bytes out.new) (λ answer.
+            StepsTo (state_seen self.old) (check_archive bytes.items) answer
+            (state_seen self.new))) }
     {
         match archives::check(self.form(), bytes.as_slice()) {
             Ok(count) => {
                 self.archive = Some(Stored {
                     bytes,
-                    handed: None,
+                    built_len: None,
                 });
                 write!(out, "ok {count}\n")
             }
@@ -173,7 +175,7 @@ impl<'a> Dict<'a> {
     }
 
     /// Sets the form, and empties the list and the archive.
-    fn empty(&mut self, alloc: Global, kind: Kind, bits: Bits)
+    fn empty(&mut self, alloc: Global, kind: Kind, bits: ArchiveWidth)
         ensures { state_seen self.new ≡ emptied kind bits (state_seen self.old) }
     {
         self.bits = bits;
@@ -189,8 +191,9 @@ impl<'a> Dict<'a> {
         out: &mut String,
     ) -> Result<(), AllocError>
         requires { IsSound (state_seen self.old) }
-        ensures { OnOk result (Adds (string_bytes out.old) (string_bytes out.new) (λ answer.
-            Does (state_seen self.old) (request_seen command.entry) answer (state_seen self.new))) }
+        ensures { OnOk result (AppendsSome (string_bytes out.old) (string_bytes out.new) (λ answer.
+            StepsTo (state_seen self.old) (request_seen command.entry) answer
+            (state_seen self.new))) }
     {
         match command {
             Command::SetKind(kind) => {
@@ -234,8 +237,8 @@ impl<'a> Dict<'a> {
         out: &mut String,
     ) -> Result<(), AllocError>
         requires { IsSound (state_seen self.old) }
-        ensures { OnOk result (Adds (string_bytes out.old) (string_bytes out.new) (λ answer.
-            DoesLine (state_seen self.old) line.now answer (state_seen self.new))) }
+        ensures { OnOk result (AppendsSome (string_bytes out.old) (string_bytes out.new) (λ answer.
+            StepsLine (state_seen self.old) line.now answer (state_seen self.new))) }
     {
         if line.is_empty() {
             return Ok(());

@@ -1,14 +1,14 @@
 //! The number and the name of each error, as the output has them.
-ghost use Rattle.rkyv_dict.specs.Errors.{cause_told, refusal_told, wants_memory};
+ghost use Rattle.rkyv_dict.specs.Errors.{cause_text, refusal_text, wants_memory};
 ghost use Rattle.std.specs.Prelude.{◌≡◌};
 
 use rkyv_base::errors::{VerifyError, WriteError};
 use rkyv_base::writer::NoMemory;
 
 /// Returns the number and the name of a validation error.
-#[tactic(auto, unfolding(crate::specs::Errors::refusal_told))]
-pub fn refusal_told(error: &VerifyError) -> &'static str
-    ensures { result.now ≡ refusal_told error.now }
+#[tactic(auto, unfolding(crate::specs::Errors::refusal_text))]
+pub fn refusal_text(error: &VerifyError) -> &'static str
+    ensures { result.now ≡ refusal_text error.now }
 {
     match error {
         VerifyError::OutOfRange { .. } => "1 OutOfRange",
@@ -23,9 +23,9 @@ pub fn refusal_told(error: &VerifyError) -> &'static str
 }
 
 /// Returns the number and the name of a write error.
-#[tactic(auto, unfolding(crate::specs::Errors::cause_told))]
-pub fn cause_told(error: &WriteError<NoMemory>) -> &'static str
-    ensures { result.now ≡ cause_told error.now }
+#[tactic(auto, unfolding(crate::specs::Errors::cause_text))]
+pub fn cause_text(error: &WriteError<NoMemory>) -> &'static str
+    ensures { result.now ≡ cause_text error.now }
 {
     match error {
         WriteError::InvalidLoadFactor { .. } => "1 InvalidLoadFactor",

@@ -13,7 +13,7 @@ pub enum Kind {
 
 /// The width of the positions and counts of an archive.
 #[derive(Clone, Copy, Debug, PartialEq, Eq)]
-pub enum Bits {
+pub enum ArchiveWidth {
     /// 32 bits.
     Bits32,
     /// 64 bits.
@@ -26,7 +26,7 @@ pub struct Form {
     /// The type of keys and values.
     pub kind: Kind,
     /// The width of positions and counts.
-    pub bits: Bits,
+    pub bits: ArchiveWidth,
 }
 
 /// The key of a lookup.

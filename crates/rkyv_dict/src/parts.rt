@@ -1,11 +1,11 @@
 //! The keys and values of a dictionary's archives, and their text.
 
 ghost use Rattle.std.specs.Prelude.{ℕ, List};
-ghost use Rattle.rkyv_base.specs.Text.{text_at, text_shape};
-ghost use Rattle.rkyv_base.specs.View.{IsView};
+ghost use Rattle.rkyv_base.specs.Text.{text_at, text_spec};
+ghost use Rattle.rkyv_base.specs.View.{IsValidView};
 ghost use Rattle.rkyv_keys.specs.Places.{at_view};
-ghost use Rattle.rkyv_dict.specs.Parts.{number_shape, number_text};
-ghost use Rattle.rkyv_dict.specs.Pushing.{Pushes};
+ghost use Rattle.rkyv_dict.specs.Parts.{number_spec, number_text};
+ghost use Rattle.rkyv_dict.specs.Pushing.{AppendsText};
 
 use rkyv_base::text::Text;
 use rkyv_base::view::View;
@@ -14,7 +14,7 @@ use rkyv_collections::KeyElement;
 use std::alloc::AllocError;
 
 /// A key or a value in an archive.
-pub trait Part: KeyElement {
+pub trait Printable: KeyElement {
     // The text of the part at a position of the bytes.
     ghost text: { List ℕ → ℕ → List ℕ };
 
@@ -28,28 +28,28 @@ pub trait Part: KeyElement {
     ///
     /// - A valid part is at the position of the view.
     fn push(view: View<'_, Self>, out: &mut String) -> Result<(), AllocError>
-        requires { IsView Self.shape view }
-        ensures { Pushes result out.old out.new (at_view text view.entry) };
+        requires { IsValidView Self.spec view }
+        ensures { AppendsText result out.old out.new (at_view text view.entry) };
 }
 
-impl Part for u32 {
+impl Printable for u32 {
     ghost text = { number_text };
 
     fn push(view: View<'_, u32>, out: &mut String) -> Result<(), AllocError>
-        requires { IsView number_shape view }
-        ensures { Pushes result out.old out.new (at_view number_text view.entry) }
+        requires { IsValidView number_spec view }
+        ensures { AppendsText result out.old out.new (at_view number_text view.entry) }
     {
         let number = view.to_native();
         write!(out, "{number}")
     }
 }
 
-impl<W: Width> Part for Text<W> {
+impl<W: Width> Printable for Text<W> {
     ghost text = { text_at W.word };
 
     fn push(view: View<'_, Text<W>>, out: &mut String) -> Result<(), AllocError>
-        requires { IsView (text_shape W.word) view }
-        ensures { Pushes result out.old out.new (at_view (text_at W.word) view.entry) }
+        requires { IsValidView (text_spec W.word) view }
+        ensures { AppendsText result out.old out.new (at_view (text_at W.word) view.entry) }
     {
         let text = view.as_str();
         write!(out, "{text}")

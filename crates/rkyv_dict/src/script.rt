@@ -6,7 +6,7 @@ ghost use Rattle.rkyv_dict.specs.Seen.{request_seen};
 ghost use Rattle.std.specs.Option.{option_map};
 ghost use Rattle.std.specs.Prelude.{◌≡◌, IfOk};
 
-use crate::form::{Bits, Key, Kind};
+use crate::form::{ArchiveWidth, Key, Kind};
 use crate::hex::read_hex;
 use crate::words::{
     bits_by_name, cut_word, is_word, kind_by_name, one_number, one_text, one_word, two_numbers,
@@ -21,7 +21,7 @@ pub enum Command<'a> {
     /// Sets the kind, and empties the list and the archive.
     SetKind(Kind),
     /// Sets the width, and empties the list and the archive.
-    SetWidth(Bits),
+    SetWidth(ArchiveWidth),
     /// Sets the load factor: its numerator and its denominator.
     SetLoadFactor(u64, u64),
     /// Appends a pair of numbers to the list: its key and its value.

@@ -8,7 +8,7 @@ ghost use Rattle.std.specs.Option.{option_copied, option_map};
 ghost use Rattle.std.specs.Prelude.{◌≡◌, ◌<◌, ◌≤◌, ◌==◌, ◌∷◌, IfSome, length, true};
 ghost use Rattle.std.specs.Str.{bytes_eq};
 
-use crate::form::{Bits, Kind};
+use crate::form::{ArchiveWidth, Kind};
 
 /// Returns the index of the first byte `at`.
 fn pos_of(bytes: &[u8], at: u8) -> Option<usize>
@@ -174,13 +174,13 @@ pub fn kind_by_name(word: &str) -> Option<Kind>
 }
 
 /// Returns the width with the name `32` or `64`.
-pub fn bits_by_name(word: &str) -> Option<Bits>
+pub fn bits_by_name(word: &str) -> Option<ArchiveWidth>
     ensures { result ≡ bits_of_word word.now }
 {
     if is_word(word, "32") {
-        Some(Bits::Bits32)
+        Some(ArchiveWidth::Bits32)
     } else if is_word(word, "64") {
-        Some(Bits::Bits64)
+        Some(ArchiveWidth::Bits64)
     } else {
         None
     }

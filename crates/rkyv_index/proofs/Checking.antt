@@ -8,18 +8,19 @@ use Rattle.std.proofs.lemmas.Int.{to_z-of_z}
 use Rattle.std.proofs.lemmas.Nat.{mul-mod}
 use Rattle.rkyv_base.specs.Layout.{IsPlace}
 use Rattle.rkyv_base.specs.Scalar.{Encoding, IsScalar}
-use Rattle.rkyv_base.specs.Shape.{IsElement, Shape, Viewed, by_align, standing, sum_multiple}
+use Rattle.rkyv_base.specs.ElementSpec.{IsElement, ElementSpec, Viewable}
+use Rattle.rkyv_base.specs.Lemmas.ElementSpec.{by_align, valid_at, sum_multiple}
 use Rattle.rkyv_base.specs.Text.{IsArchiveWord}
-use Rattle.rkyv_base.specs.View.{IsAt, IsView}
+use Rattle.rkyv_base.specs.View.{IsAt, IsValidView}
 use Rattle.rkyv_base.specs.declared.view.View.{View}
-use Rattle.rkyv_table.specs.Table.Layout.{TableHolds, table_shape}
+use Rattle.rkyv_table.specs.Table.Layout.{TableHolds, table_spec}
 use Rattle.rkyv_table.specs.Lemmas.TableLaws.{table_element}
-use Rattle.rkyv_index.specs.IndexLayout.{entry_at, place_shape}
+use Rattle.rkyv_index.specs.IndexLayout.{entry_at, place_spec}
 use Rattle.rkyv_index.specs.Lemmas.IndexLaws.{place_element}
-use Rattle.rkyv_index.specs.Lemmas.PlaceShapes.{words_hold}
+use Rattle.rkyv_index.specs.Lemmas.PlaceSpecs.{words_hold}
 
 -- each entry is aligned if the first one is
-pub entry_aligned : (s : Shape) → IsElement s → (begin i : ℕ) → begin % s.align ≡ 0 → entry_at s.size begin i % s.align ≡ 0
+pub entry_aligned : (s : ElementSpec) → IsElement s → (begin i : ℕ) → begin % s.align ≡ 0 → entry_at s.size begin i % s.align ≡ 0
 entry_aligned s law begin i h =
     let z : (i % s.align * 0) % s.align ≡ 0 = rw mul-zero (by_align (λ a. 0 % a ≡ 0) refl refl refl refl s.align law.align_is) in
     let m : (i * s.size) % s.align ≡ 0 = mul-mod i s.size s.align ∙ ap (λ x. (i % s.align * x) % s.align) law.size_whole ∙ z in
@@ -38,21 +39,21 @@ pub told_is : (r x : ℤ) → FitsSigned w128 r → r ≡ x → to_z w128 (of_z 
 told_is r x fits e = to_z-of_z w128 r fits ∙ e
 
 -- a valid value at `p` is valid at a view of `p`
-pub view_there : {T : Type 0} (s : Shape) (v : View T) (archive : Bor (List ℕ)) (p : ℕ) → IsAt v archive p → Viewed s archive.now p → IsView s v
-view_there s v archive p at viewed =
-    subst (λ (x : Bor (List ℕ)). Viewed s x.now v.pos) (sym at.0) (subst (λ q. Viewed s archive.now q) (sym at.1) viewed)
+pub view_there : {T : Type 0} (s : ElementSpec) (v : View T) (archive : Bor (List ℕ)) (p : ℕ) → IsAt v archive p → Viewable s archive.now p → IsValidView s v
+view_there s v archive p at viewable =
+    subst (λ (x : Bor (List ℕ)). Viewable s x.now v.pos) (sym at.0) (subst (λ q. Viewable s archive.now q) (sym at.1) viewable)
 
 -- a function of the bytes and the position of a view is one of `archive` and `p`
 pub view_at : {T X : Type 0} (v : View T) (archive : Bor (List ℕ)) (p : ℕ) → IsAt v archive p → (read : List ℕ → ℕ → X) → read v.archive.now v.pos ≡ read archive.now p
 view_at v archive p at read = ap (λ (x : Bor (List ℕ)). read x.now v.pos) at.0 ∙ ap (read archive.now) at.1
 
 -- the table of a valid index map is valid for a view
-pub table_viewed : {V : Type 0} (w : Width) → IsArchiveWord w → (s : Shape) (e : Encoding V) → IsScalar s e → IsPlace w e → (b : List ℕ) (p lo hi m : ℕ)
-    → p + 4 * byte_len w ≤ length b → p % byte_len w ≡ 0 → lo ≤ hi → hi ≤ p → TableHolds w s b p lo hi m → Viewed (table_shape w (place_shape w)) b p
-table_viewed w kind s e laws is b p lo hi m inside aligned o o' h = record {
+pub table_viewable : {V : Type 0} (w : Width) → IsArchiveWord w → (s : ElementSpec) (e : Encoding V) → IsScalar s e → IsPlace w e → (b : List ℕ) (p lo hi m : ℕ)
+    → p + 4 * byte_len w ≤ length b → p % byte_len w ≡ 0 → lo ≤ hi → hi ≤ p → TableHolds w s b p lo hi m → Viewable (table_spec w (place_spec w)) b p
+table_viewable w kind s e laws is b p lo hi m inside aligned o o' h = record {
   inside = omega arith;
   aligned = aligned;
-  stands = standing (table_shape w (place_shape w)) (table_element w kind (place_shape w) (place_element w kind)) b p lo hi m o o' (words_hold w s e laws is b p lo hi m h);
+  valid = valid_at (table_spec w (place_spec w)) (table_element w kind (place_spec w) (place_element w kind)) b p lo hi m o o' (words_hold w s e laws is b p lo hi m h);
 }
 
 -- one more index of a range, which passes the test `P` or fails it

@@ -9,26 +9,27 @@ use Rattle.rkyv_scan.specs.Groups.{generic_kind}
 use Rattle.rkyv_scan.specs.Hash.{Hasher, HasherCall, hash_of_calls}
 use Rattle.rkyv_scan.specs.Lemmas.KindLaws.{word_lawful}
 use Rattle.rkyv_base.specs.Bytes.{number_at}
-use Rattle.rkyv_base.specs.Entry.{entry_element, entry_shape}
-use Rattle.rkyv_base.specs.Shape.{IsElement, Shape, Standing, Viewed}
+use Rattle.rkyv_base.specs.Entry.{entry_spec}
+use Rattle.rkyv_base.specs.Lemmas.Entry.{entry_element}
+use Rattle.rkyv_base.specs.ElementSpec.{IsElement, ElementSpec, ValidAt, Viewable}
 use Rattle.rkyv_base.specs.Text.{IsArchiveWord}
 use Rattle.rkyv_keys.specs.Equality.{Comparison}
 use Rattle.rkyv_keys.specs.Keys.{IsQuery}
-use Rattle.rkyv_keys.specs.OfEntries.{standing_key}
+use Rattle.rkyv_keys.specs.Lemmas.OfEntries.{valid_key}
 use Rattle.rkyv_table.specs.Controls.Finding.{found}
 use Rattle.rkyv_table.specs.Table.Header.{cap_at, len_at}
 use Rattle.rkyv_table.specs.Table.Misplaced.{is_answer}
 use Rattle.rkyv_table.specs.Table.Positions.{item_at, table_controls}
-use Rattle.rkyv_table.proofs.Items.{controls_accepted, no_items}
+use Rattle.rkyv_table.proofs.ParsedTable.{controls_accepted, no_items}
 use Rattle.rkyv_table.proofs.Misplaced.{found_agree, found_walked}
 use Rattle.rkyv_table.proofs.Walks.{walked_full}
 use Rattle.rkyv_index.specs.Complete.{FindsTheOne}
 use Rattle.rkyv_index.specs.Equality.{index_misplaced, own_found}
 use Rattle.rkyv_index.specs.Index.{Index, hash_at, index_found}
 use Rattle.rkyv_index.specs.IndexLayout.{pair_pos}
-use Rattle.rkyv_index.specs.IndexLayout.{index_shape, place_shape}
+use Rattle.rkyv_index.specs.IndexLayout.{index_spec, place_spec}
 use Rattle.rkyv_index.specs.Lemmas.IndexLaws.{place_element}
-use Rattle.rkyv_index.proofs.Held.{entry_viewed, place_below, table_there}
+use Rattle.rkyv_index.proofs.Held.{entry_viewable, place_below, table_there}
 
 -- if no number of a range passes `P`, each number fails it
 none_kept : (P : ℕ → Bool) (a n : ℕ) → length (filter P (range_with_len a n)) ≡ 0 → (i : ℕ) → a ≤ i → i < a + n → P i ≡ false
@@ -54,15 +55,15 @@ found_somewhere f (Some x) y e = (x, refl, same_Some (f x) y e)
 
 module _ {K Q : Type 0} (m : Index K) (kind : IsArchiveWord m.word) (kl : IsElement m.key) (vl : IsElement m.value)
     {State : Type 0} (hasher : Hasher State) (same : Comparison) (key_calls : List ℕ → ℕ → List HasherCall) (can_read : Q → Type 0) (calls : Q → List HasherCall) (fits : Q → List ℕ → ℕ → Bool)
-    (query : IsQuery m.key same key_calls can_read calls fits) (view : Viewed (index_shape m.word (entry_shape m.key m.value)) m.bytes m.pos) (q : Q) (can : can_read q)
+    (query : IsQuery m.key same key_calls can_read calls fits) (view : Viewable (index_spec m.word (entry_spec m.key m.value)) m.bytes m.pos) (q : Q) (ready : can_read q)
     (small : hash_of_calls hasher (calls q) < 2 ^ 64) (none : index_misplaced m (hash_at hasher key_calls) same ≡ 0) where
   abbrev w : Width
   w = m.word
 
-  abbrev k : Shape
+  abbrev k : ElementSpec
   k = m.key
 
-  abbrev v : Shape
+  abbrev v : ElementSpec
   v = m.value
 
   abbrev b : List ℕ
@@ -71,8 +72,8 @@ module _ {K Q : Type 0} (m : Index K) (kind : IsArchiveWord m.word) (kl : IsElem
   abbrev p : ℕ
   p = m.pos
 
-  abbrev s : Shape
-  s = entry_shape k v
+  abbrev s : ElementSpec
+  s = entry_spec k v
 
   abbrev law : IsElement s
   law = entry_element k v kl vl
@@ -95,21 +96,21 @@ module _ {K Q : Type 0} (m : Index K) (kind : IsArchiveWord m.word) (kl : IsElem
   abbrev read : ℕ → ℕ
   read i = number_at w b (item_at w (byte_len w) b p i)
 
-  key_standing : (i : ℕ) → i < len → Standing k b (at i)
-  key_standing i below = standing_key kl vl b (at i) (entry_viewed w kind s law b p view i below).stands
+  key_valid : (i : ℕ) → i < len → ValidAt k b (at i)
+  key_valid i below = valid_key kl vl b (at i) (entry_viewable w kind s law b p view i below).valid
 
   -- a found index is that of a key that fits
   found_fits : (i : ℕ) → index_found w b p (hash_of_calls hasher (calls q)) accept ≡ Some i → (i < len) × (accept i ≡ true)
   found_fits i e = elim (cases_eq cap 0) [
     | inl z ↦
-        let n = no_items w (place_shape w) (place_element w kind) b p (table_there w kind s law b p view) z in
+        let n = no_items w (place_spec w) (place_element w kind) b p (table_there w kind s law b p view) z in
         let f = found_somewhere (number_at w b) _ i e in
         let g = found_somewhere (item_at w (byte_len w) b p) (found generic_kind controls cap (len_at w b p) (hash_of_calls hasher (calls q)) (λ j. accept (read j))) f.0 f.1 in
         absurd (none-some g.0 (subst (λ m. found generic_kind controls cap m (hash_of_calls hasher (calls q)) (λ j. accept (read j)) ≡ Some g.0) n g.1))
     | inr some ↦
         let f = found_somewhere (number_at w b) _ i e in
         let g = found_somewhere (item_at w (byte_len w) b p) (found generic_kind controls cap (len_at w b p) (hash_of_calls hasher (calls q)) (λ j. accept (read j))) f.0 f.1 in
-        let ok = controls_accepted w (place_shape w) (place_element w kind) b p (table_there w kind s law b p view) (omega arith) in
+        let ok = controls_accepted w (place_spec w) (place_element w kind) b p (table_there w kind s law b p view) (omega arith) in
         let there = found_walked generic_kind cap (len_at w b p) (hash_of_calls hasher (calls q)) controls word_lawful ok small (λ j. accept (read j)) g.0 g.1 in
         let is : read g.0 ≡ i = ap (number_at w b) g.2 ∙ f.2 in
         let below = place_below w kind s law b p view g.0 (walked_full cap controls g.0 there.1) in
@@ -122,21 +123,21 @@ module _ {K Q : Type 0} (m : Index K) (kind : IsArchiveWord m.word) (kl : IsElem
       let own = own_found m (hash_at hasher key_calls) same in
       let P : ℕ → Bool = λ j. not (is_answer j (own j)) in
       let answered = answer_is i (own i) (not-false (is_answer i (own i)) (none_kept P 0 len none i (omega arith) (omega (arith, below)))) in
-      let alike : hash_of_calls hasher (calls q) ≡ hash_at hasher key_calls b (at i) = ap (hash_of_calls hasher) (query.alike q b (at i) can (key_standing i below) ok) in
-      let agree : (j : ℕ) → j < len → accept j ≡ same b (at i) b (at j) = λ j less. query.class q b b (at i) (at j) can (key_standing i below) (key_standing j less) ok in
+      let same_calls : hash_of_calls hasher (calls q) ≡ hash_at hasher key_calls b (at i) = ap (hash_of_calls hasher) (query.same_calls q b (at i) ready (key_valid i below) ok) in
+      let agree : (j : ℕ) → j < len → accept j ≡ same b (at i) b (at j) = λ j less. query.respects_same q b b (at i) (at j) ready (key_valid i below) (key_valid j less) ok in
       let of : Option ℕ → Option ℕ = λ o. option_map (number_at w b) (option_map (item_at w (byte_len w) b p) o) in
       let lookup : found generic_kind controls cap (len_at w b p) (hash_of_calls hasher (calls q)) (λ j. accept (read j))
       ≡ found generic_kind controls cap (len_at w b p) (hash_of_calls hasher (calls q)) (λ j. same b (at i) b (at (read j))) = elim (cases_eq cap 0) [
         | inl z ↦
-            let n = no_items w (place_shape w) (place_element w kind) b p (table_there w kind s law b p view) z in
+            let n = no_items w (place_spec w) (place_element w kind) b p (table_there w kind s law b p view) z in
             ap (λ m. found generic_kind controls cap m (hash_of_calls hasher (calls q)) (λ j. accept (read j))) n
             ∙ sym (ap (λ m. found generic_kind controls cap m (hash_of_calls hasher (calls q)) (λ j. same b (at i) b (at (read j)))) n)
         | inr some ↦
-            let full = controls_accepted w (place_shape w) (place_element w kind) b p (table_there w kind s law b p view) (omega arith) in
+            let full = controls_accepted w (place_spec w) (place_element w kind) b p (table_there w kind s law b p view) (omega arith) in
             found_agree generic_kind cap (len_at w b p) (hash_of_calls hasher (calls q)) controls word_lawful full small (λ j. accept (read j)) (λ j. same b (at i) b (at (read j)))
             (λ j there. agree (read j) (place_below w kind s law b p view j (walked_full cap controls j there)))
       ] in
-      ap of lookup ∙ ap (λ h. index_found w b p h (λ j. same b (at i) b (at j))) alike ∙ answered
+      ap of lookup ∙ ap (λ h. index_found w b p h (λ j. same b (at i) b (at j))) same_calls ∙ answered
 
   by_found : (o : Option ℕ) → index_found w b p (hash_of_calls hasher (calls q)) accept ≡ o → FindsTheOne len accept o
   by_found None e = λ i below. elim (cases_Bool (accept i)) [

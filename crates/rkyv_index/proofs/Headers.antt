@@ -2,7 +2,7 @@
 use Rattle.std.proofs.Common.{◌≡◌, ℕ, List, subst}
 use Rattle.std.specs.Int.{Width}
 use Rattle.rkyv_table.specs.Controls.Numbers.{capacity}
-use Rattle.rkyv_index.specs.IndexHeader.{IndexFar, IndexResolver, IsIndexHeader}
+use Rattle.rkyv_index.specs.IndexHeader.{IndexOverflows, IndexResolver, IsIndexHeader}
 
 module _ (w : Width) (r : IndexResolver) (len : ℕ) (load_factor : ℕ × ℕ) (p : ℕ) (same : (len ≡ r.table.len) × (load_factor ≡ r.table.load_factor)) where
   pub header_of : (out : List ℕ) → IsIndexHeader w len (capacity len load_factor) r p out → IsIndexHeader w r.table.len (capacity r.table.len r.table.load_factor) r p out
@@ -10,5 +10,5 @@ module _ (w : Width) (r : IndexResolver) (len : ℕ) (load_factor : ℕ × ℕ) 
       subst (λ n. IsIndexHeader w n (capacity n r.table.load_factor) r p out) same.0
       (subst (λ (f : ℕ × ℕ). IsIndexHeader w len (capacity len f) r p out) same.1 h)
 
-  pub far_of : IndexFar w len r p → IndexFar w r.table.len r p
-  far_of = subst (λ n. IndexFar w n r p) same.0
+  pub overflow_of : IndexOverflows w len r p → IndexOverflows w r.table.len r p
+  overflow_of = subst (λ n. IndexOverflows w n r p) same.0

@@ -7,20 +7,21 @@ use Rattle.std.proofs.lemmas.List.Elements.{All-contains, All-cons, All-nil}
 use Rattle.rkyv_base.specs.Bytes.{number_at}
 use Rattle.rkyv_base.specs.Layout.{IsPlace}
 use Rattle.rkyv_base.specs.Scalar.{Encoding, IsScalar}
-use Rattle.rkyv_base.specs.Shape.{IsElement, Shape, Viewed, standing}
+use Rattle.rkyv_base.specs.ElementSpec.{IsElement, ElementSpec, Viewable}
+use Rattle.rkyv_base.specs.Lemmas.ElementSpec.{valid_at}
 use Rattle.rkyv_base.specs.Text.{IsArchiveWord}
 use Rattle.rkyv_table.specs.Table.Header.{cap_at, len_at}
 use Rattle.rkyv_table.specs.Controls.Placing.{walk}
 use Rattle.rkyv_table.specs.Table.Positions.{IsWalked, item_at, table_controls}
-use Rattle.rkyv_table.specs.Table.Layout.{table_shape}
+use Rattle.rkyv_table.specs.Table.Layout.{table_spec}
 use Rattle.rkyv_table.specs.Lemmas.TableLaws.{table_element}
-use Rattle.rkyv_table.proofs.Items.{item_viewed}
+use Rattle.rkyv_table.proofs.ParsedTable.{item_viewable}
 use Rattle.rkyv_table.proofs.Walks.{full_walked}
 use Rattle.rkyv_index.specs.Index.{pair_positions, row}
 use Rattle.rkyv_index.specs.IndexLayout.{entries_pos, pair_pos}
-use Rattle.rkyv_index.specs.IndexLayout.{IndexHolds, entries_told, entry_at, index_shape, place_shape}
+use Rattle.rkyv_index.specs.IndexLayout.{IndexHolds, decode_entries, entry_at, index_spec, place_spec}
 use Rattle.rkyv_index.specs.Lemmas.IndexLaws.{All-unmap, each_holds, entry_inside, place_element}
-use Rattle.rkyv_index.specs.Lemmas.PlaceShapes.{places_viewed}
+use Rattle.rkyv_index.specs.Lemmas.PlaceSpecs.{places_viewable}
 use Rattle.rkyv_index.proofs.Checking.{entry_aligned}
 
 -- a property of each value of a row is one of all values of the row
@@ -30,50 +31,50 @@ All-row P size q (suc n) h =
     let first : P q = subst P (omega arith) (h 0 (omega arith)) in
     All-cons P q (row size (q + size) n) first (All-row P size (q + size) n (λ i below. subst P (omega arith) (h (suc i) (omega arith))))
 
-module _ (w : Width) (kind : IsArchiveWord w) (s : Shape) (law : IsElement s) (b : List ℕ) (p : ℕ) (v : Viewed (index_shape w s) b p) where
-  abbrev held : IndexHolds w s b p 0 p v.stands.0
-  held = v.stands.1
+module _ (w : Width) (kind : IsArchiveWord w) (s : ElementSpec) (law : IsElement s) (b : List ℕ) (p : ℕ) (v : Viewable (index_spec w s) b p) where
+  abbrev held : IndexHolds w s b p 0 p v.valid.0
+  held = v.valid.1
 
   -- the table of the map is valid
-  pub table_there : Viewed (table_shape w (place_shape w)) b p
+  pub table_there : Viewable (table_spec w (place_spec w)) b p
   table_there =
       let inside = v.inside in
       record {
         inside = omega arith;
         aligned = v.aligned;
-        stands = standing (table_shape w (place_shape w)) (table_element w kind (place_shape w) (place_element w kind)) b p 0 p held.middle (omega arith) (omega arith) held.table;
+        valid = valid_at (table_spec w (place_spec w)) (table_element w kind (place_spec w) (place_element w kind)) b p 0 p held.middle (omega arith) (omega arith) held.table;
       }
 
   -- the position at which the entries begin
   pub begin_is : entries_pos w b p ≡ held.entries.begin
   begin_is = sym (ap unsigned_abs held.entries.part.begins)
 
-  pub begin_told : pos (entries_pos w b p) ≡ entries_told w b p
-  begin_told = ap pos begin_is ∙ held.entries.part.begins
+  pub decode_begin : pos (entries_pos w b p) ≡ decode_entries w b p
+  decode_begin = ap pos begin_is ∙ held.entries.part.begins
 
   pub entries_inside : entries_pos w b p + len_at w b p * s.size ≤ p
   entries_inside = let below = held.entries.part.below in omega (arith, below, begin_is)
 
   -- the archive has a valid entry at each index below the length
-  pub entry_viewed : (i : ℕ) → i < len_at w b p → Viewed s b (pair_pos w s.size b p i)
-  entry_viewed i below =
+  pub entry_viewable : (i : ℕ) → i < len_at w b p → Viewable s b (pair_pos w s.size b p i)
+  entry_viewable i below =
       let begin = held.entries.begin in
       let r = each_holds s law (entry_at s.size begin) b begin 0 (len_at w b p) held.middle held.entries.last i held.entries.part.above held.entries.hold (omega arith) (omega (arith, below)) in
       let u = entry_inside s.size begin (len_at w b p) i below in
       let room = held.entries.part.below in
       let inside = v.inside in
-      subst (λ n. Viewed s b (entry_at s.size n i)) (sym begin_is) (record {
+      subst (λ n. Viewable s b (entry_at s.size n i)) (sym begin_is) (record {
         inside = omega (arith, u.1);
         aligned = entry_aligned s law begin i held.entries.part.aligned;
-        stands = standing s law b (entry_at s.size begin i) r.lower begin r.rest r.below u.0 r.holds;
+        valid = valid_at s law b (entry_at s.size begin i) r.lower begin r.rest r.below u.0 r.holds;
       })
 
-  pub entries_viewed : All (Viewed s b) (pair_positions w s.size b p)
-  entries_viewed = All-row (Viewed s b) s.size (entries_pos w b p) (len_at w b p) entry_viewed
+  pub entries_viewable : All (Viewable s b) (pair_positions w s.size b p)
+  entries_viewable = All-row (Viewable s b) s.size (entries_pos w b p) (len_at w b p) entry_viewable
 
   -- the index in a full bucket is inside the archive, and below the length
   pub place_inside : (i : ℕ) → IsWalked w b p i → item_at w (byte_len w) b p i + byte_len w ≤ length b
-  place_inside i walked = (item_viewed w (place_shape w) (place_element w kind) b p table_there i walked).inside
+  place_inside i walked = (item_viewable w (place_spec w) (place_element w kind) b p table_there i walked).inside
 
   pub place_below : (i : ℕ) → IsWalked w b p i → number_at w b (item_at w (byte_len w) b p i) < len_at w b p
   place_below i walked =
@@ -81,6 +82,6 @@ module _ (w : Width) (kind : IsArchiveWord w) (s : Shape) (law : IsElement s) (b
       (All-unmap (λ q. number_at w b q < len_at w b p) (item_at w (byte_len w) b p) (walk (table_controls w b p) (cap_at w b p)) held.below)
       (full_walked (cap_at w b p) (table_controls w b p) i walked)
 
-  module _ {V : Type 0} (ps : Shape) (e : Encoding V) (pk : IsScalar ps e) (is : IsPlace w e) where
-    pub table_of_places : Viewed (table_shape w ps) b p
-    table_of_places = places_viewed w ps e pk is b p table_there
+  module _ {V : Type 0} (ps : ElementSpec) (e : Encoding V) (pk : IsScalar ps e) (is : IsPlace w e) where
+    pub table_of_places : Viewable (table_spec w ps) b p
+    table_of_places = places_viewable w ps e pk is b p table_there

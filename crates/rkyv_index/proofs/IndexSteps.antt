@@ -3,16 +3,16 @@ use Rattle.std.proofs.Common.{◌≡◌, ℕ, suc, ◌+◌, refl, sym, ap, ◌�
 use Rattle.std.specs.Int.{Width}
 use Rattle.std.specs.Iterator.{Drains, Yields, YieldsFirst}
 use Rattle.rkyv_base.specs.declared.errors.WriteError.{WriteError}
-use Rattle.rkyv_base.specs.Format.{Format, GaveUp, Serialized}
+use Rattle.rkyv_base.specs.Format.{Format, SerializeFails, Serialized}
 use Rattle.rkyv_base.specs.Scalar.{Encoding, scalar_format}
-use Rattle.rkyv_base.specs.Shape.{Shape}
-use Rattle.rkyv_base.specs.Writing.{Appends, Only, Output, Step, Told, Within, end_of, padding, piece, zeros}
-use Rattle.rkyv_base.proofs.GivingUp.{appends_after, end-appends, grows, told_after, told_as, within_after}
-use Rattle.rkyv_table.specs.Table.Counting.{GaveOther}
-use Rattle.rkyv_table.specs.Table.Serializing.{NoItems, WroteItems}
+use Rattle.rkyv_base.specs.ElementSpec.{ElementSpec}
+use Rattle.rkyv_base.specs.Writing.{Appends, Only, Output, Step, WriteFails, Within, end_of, padding, piece, zeros}
+use Rattle.rkyv_base.proofs.WritingSteps.{appends_after, end-appends, grows, told_after, told_as, within_after}
+use Rattle.rkyv_table.specs.Table.Counting.{YieldsOtherCount}
+use Rattle.rkyv_table.specs.Table.Serializing.{WriteItemsFails, WroteItems}
 use Rattle.rkyv_table.specs.Table.TableFormat.{PairsNext, TableResolver, table_format}
 use Rattle.rkyv_table.proofs.TableSteps.{told_piece, zeros_behind}
-use Rattle.rkyv_index.specs.Handing.{NoOther, OwnOrGaveUp}
+use Rattle.rkyv_index.specs.Writing.{NoOther, OwnOrSerializeFails}
 use Rattle.rkyv_index.specs.IndexFormat.{BeforeRow, BeforeZeros, IndexNext, places_from, row_format}
 use Rattle.rkyv_index.specs.Row.{RowNext, RowParts, RowPartsNext, WroteRow}
 use Rattle.rkyv_table.proofs.Through.{own_counted}
@@ -26,7 +26,7 @@ module _ {S A : Type 0} (rest : S → List A) where
   pub drained : (xs : List A) (s : S) → Drains (YieldsFirst rest) s xs → xs ≡ rest s
   drained xs s d = sym (left_after xs s d.1.0 d.1.1 ∙ ap (λ (l : List A). xs ++ l) d.1.2.0 ∙ append-nil xs)
 
-  pub no_other_drained : (len : ℕ) (s : S) → length (rest s) ≡ len → (n : ℕ) → GaveOther (YieldsFirst rest) len s n → ⊥
+  pub no_other_drained : (len : ℕ) (s : S) → length (rest s) ≡ len → (n : ℕ) → YieldsOtherCount (YieldsFirst rest) len s n → ⊥
   no_other_drained len s e n h =
       let xs = h.0.0 in
       elim h.0.2 [
@@ -41,7 +41,7 @@ pub places_count : {X P : Type 0} (hash : X → ℕ) (place : ℕ → P) (i : �
 places_count hash place i [] = refl
 places_count hash place i (x ∷ xs) = ap suc (places_count hash place (i + 1) xs)
 
-module _ (F : Type 0) {P X : Type 0} (w : Width) (ps : Shape) (e : Encoding P) (hash : X → ℕ) (factor : ℕ × ℕ) (limit : ℕ) (xs : List X) (o : Output) where
+module _ (F : Type 0) {P X : Type 0} (w : Width) (ps : ElementSpec) (e : Encoding P) (hash : X → ℕ) (factor : ℕ × ℕ) (limit : ℕ) (xs : List X) (o : Output) where
   abbrev Places : List (ℕ × P)
   Places = places_from hash e.value 0 xs
 
@@ -55,34 +55,34 @@ module _ (F : Type 0) {P X : Type 0} (w : Width) (ps : Shape) (e : Encoding P) (
     wrote_places : (r : TableResolver) → WroteItems Gave (length xs) factor max TableOf o o1 limit r → Serialized limit TableOf Places o o1 r
     wrote_places r h = subst (λ l. Serialized limit TableOf l o o1 r) (drained rest h.1 state h.2.0 ∙ there) h.3
 
-    no_places : (err : WriteError F) → NoItems Gave (length xs) factor max TableOf o o1 limit (GaveOther (YieldsFirst rest) (length xs) state) err
-        → OwnOrGaveUp (length xs) factor max NoOther limit TableOf Places o o1 err
+    no_places : (err : WriteError F) → WriteItemsFails Gave (length xs) factor max TableOf o o1 limit (YieldsOtherCount (YieldsFirst rest) (length xs) state) err
+        → OwnOrSerializeFails (length xs) factor max NoOther limit TableOf Places o o1 err
     no_places err (inl h) =
         let n : length (rest state) ≡ length xs = ap length there ∙ places_count hash e.value 0 xs in
-        inl (own_counted (length xs) factor max (GaveOther (YieldsFirst rest) (length xs) state) NoOther (λ k g. no_other_drained rest (length xs) state n k g) err h.0, h.1)
-    no_places err (inr h) = inr (subst (λ l. GaveUp limit TableOf l o o1 err) (drained rest h.1 state h.2.0 ∙ there) h.3)
+        inl (own_counted (length xs) factor max (YieldsOtherCount (YieldsFirst rest) (length xs) state) NoOther (λ k g. no_other_drained rest (length xs) state n k g) err h.0, h.1)
+    no_places err (inr h) = inr (subst (λ l. SerializeFails limit TableOf l o o1 err) (drained rest h.1 state h.2.0 ∙ there) h.3)
 
     -- the result of writing the table is that of writing the indices
     pub answers_places : (result : Result TableResolver (WriteError F))
-        → MatchResult result (WroteItems Gave (length xs) factor max TableOf o o1 limit) (NoItems Gave (length xs) factor max TableOf o o1 limit (GaveOther (YieldsFirst rest) (length xs) state))
-        → MatchResult result (Serialized limit TableOf Places o o1) (OwnOrGaveUp (length xs) factor max NoOther limit TableOf Places o o1)
+        → MatchResult result (WroteItems Gave (length xs) factor max TableOf o o1 limit) (WriteItemsFails Gave (length xs) factor max TableOf o o1 limit (YieldsOtherCount (YieldsFirst rest) (length xs) state))
+        → MatchResult result (Serialized limit TableOf Places o o1) (OwnOrSerializeFails (length xs) factor max NoOther limit TableOf Places o o1)
     answers_places (Ok r) h = wrote_places r h
     answers_places (Err err) h = no_places err h
 
-  module _ {R : Type 0} (s : Shape) (f : Format X R) where
+  module _ {R : Type 0} (s : ElementSpec) (f : Format X R) where
     abbrev Next : List ℕ → Step → Type 0
     Next = IndexNext w ps e s f hash factor xs (end_of o)
 
     abbrev Stopped : Output → WriteError F → Type 0
-    Stopped o' err = Told limit Next o o' err
+    Stopped o' err = WriteFails limit Next o o' err
 
-    stopped_table : (o1 : Output) (err : WriteError F) → GaveUp limit TableOf Places o o1 err → Stopped o1 err
+    stopped_table : (o1 : Output) (err : WriteError F) → SerializeFails limit TableOf Places o o1 err → Stopped o1 err
     stopped_table o1 err t =
         told_as limit Next (PairsNext w ps (scalar_format e) factor Places (end_of o)) o o1 err (λ g step h. inl h) t
 
     -- if writing the indices fails, writing the values fails with the same error
-    pub stopped_places : (max : ℕ) (o1 : Output) (err : WriteError F) → OwnOrGaveUp (length xs) factor max NoOther limit TableOf Places o o1 err
-        → OwnOrGaveUp (length xs) factor max NoOther limit (row_format w ps e s f hash factor) xs o o1 err
+    pub stopped_places : (max : ℕ) (o1 : Output) (err : WriteError F) → OwnOrSerializeFails (length xs) factor max NoOther limit TableOf Places o o1 err
+        → OwnOrSerializeFails (length xs) factor max NoOther limit (row_format w ps e s f hash factor) xs o o1 err
     stopped_places max o1 err (inl h) = inl h
     stopped_places max o1 err (inr h) = inr (stopped_table o1 err h)
 
@@ -93,7 +93,7 @@ module _ (F : Type 0) {P X : Type 0} (w : Width) (ps : Shape) (e : Encoding P) (
       at1 : end_of o1 ≡ end_of o + length table
       at1 = end-appends o o1 table wrote.1
 
-      pub stopped_parts : (o2 : Output) (err : WriteError F) → Told limit (RowPartsNext f xs (end_of o1)) o1 o2 err → Stopped o2 err
+      pub stopped_parts : (o2 : Output) (err : WriteError F) → WriteFails limit (RowPartsNext f xs (end_of o1)) o1 o2 err → Stopped o2 err
       stopped_parts o2 err h =
           told_after limit Next (RowPartsNext f xs (end_of o1)) o o1 o2 table err wrote.1 wrote.3
           (λ g step n. inr (inl (table, t, g, wrote.2, subst (λ k. RowPartsNext f xs k g step) at1 n, refl)))
@@ -118,7 +118,7 @@ module _ (F : Type 0) {P X : Type 0} (w : Width) (ps : Shape) (e : Encoding P) (
         same_zeros : pad ≡ zeros (padding s.align (end_of o + length head))
         same_zeros = zeros_behind s.align o o2 head whole2
 
-        pub stopped_zeros : (o3 : Output) (err : WriteError F) → Told limit (Only (piece pad)) o2 o3 err → Stopped o3 err
+        pub stopped_zeros : (o3 : Output) (err : WriteError F) → WriteFails limit (Only (piece pad)) o2 o3 err → Stopped o3 err
         stopped_zeros o3 err h =
             told_piece limit Next o o2 o3 head pad err whole2 within2 (λ step is. inr (inr (inl (t, rs, before, is ∙ ap piece same_zeros)))) h
 
@@ -135,7 +135,7 @@ module _ (F : Type 0) {P X : Type 0} (w : Width) (ps : Shape) (e : Encoding P) (
           before_row : BeforeRow w ps e s f hash factor xs (end_of o) front t rs
           before_row = record { head = head; made = before; is = ap (λ (y : List ℕ). head ++ y) same_zeros }
 
-          pub stopped_row : (o4 : Output) (err : WriteError F) → Told limit (RowNext f xs rs (end_of o3)) o3 o4 err → Stopped o4 err
+          pub stopped_row : (o4 : Output) (err : WriteError F) → WriteFails limit (RowNext f xs rs (end_of o3)) o3 o4 err → Stopped o4 err
           stopped_row o4 err h =
               told_after limit Next (RowNext f xs rs (end_of o3)) o o3 o4 front err whole3 (inr low)
               (λ g step n. inr (inr (inr (front, t, rs, g, before_row, subst (λ k. RowNext f xs rs k g step) at3 n, refl))))

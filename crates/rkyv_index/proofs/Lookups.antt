@@ -1,5 +1,5 @@
 -- From a lookup in a table of indices to a lookup in an index map.
-use Rattle.rkyv_base.specs.declared.element.Shaped.{Ghosts as Shapes}
+use Rattle.rkyv_base.specs.declared.element.HasSpec.{Ghosts as Specs}
 use Rattle.rkyv_base.specs.declared.width.Word.{Ghosts as Words}
 use Rattle.std.proofs.Common.{◌≡◌, ℕ, ◌+◌, ◌<◌, ◌≤◌, ◌∙◌, refl, ap, sym, subst, arith, cond, Bool, true, false, length, map, List, [], ◌∷◌, Option, Some, slice_index}
 use Rattle.std.specs.Borrow.{Bor}
@@ -10,10 +10,11 @@ use Rattle.std.proofs.lemmas.List.{get_or-map, length-map}
 use Rattle.std.proofs.lemmas.List.FromFn.{get_or-range_with_len, length-range_with_len}
 use Rattle.rkyv_scan.specs.Groups.{generic_kind}
 use Rattle.rkyv_base.specs.Bytes.{number_at}
-use Rattle.rkyv_base.specs.Entry.{entry_element, entry_shape}
+use Rattle.rkyv_base.specs.Entry.{entry_spec}
+use Rattle.rkyv_base.specs.Lemmas.Entry.{entry_element}
 use Rattle.rkyv_base.specs.Layout.{IsPlace}
 use Rattle.rkyv_base.specs.Scalar.{Encoding, IsScalar}
-use Rattle.rkyv_base.specs.Shape.{IsElement, Shape}
+use Rattle.rkyv_base.specs.ElementSpec.{IsElement, ElementSpec}
 use Rattle.rkyv_base.specs.View.{IsAt, bytes_of, pos_of_found}
 use Rattle.rkyv_base.specs.declared.view.View.{View}
 use Rattle.rkyv_table.specs.Controls.Laws.{IsUnderHash}
@@ -22,7 +23,7 @@ use Rattle.rkyv_table.specs.Table.Positions.{pos_found}
 use Rattle.rkyv_table.specs.Table.Reading.{Answers, FindsFirst, FindsFound, IsItem}
 use Rattle.rkyv_table.specs.Table.Reading.{table_bytes, table_pos}
 use Rattle.rkyv_table.specs.declared.table.ArchivedHashTable.{ArchivedHashTable}
-use Rattle.rkyv_index.specs.Index.{AnswersKeys, AreUnderHash, IsHeld, IsKeyOf, IsPlaceOf, IsWritten, index_archive, index_bytes, index_found, index_len, index_of, index_pos, key_pos}
+use Rattle.rkyv_index.specs.Index.{AnswersKeys, AreUnderHash, IsStored, IsKeyOf, IsPlaceOf, IsWritten, index_archive, index_bytes, index_found, index_len, index_of, index_pos, key_pos}
 use Rattle.rkyv_index.specs.IndexFormat.{IndexWrittenAt}
 use Rattle.rkyv_index.specs.IndexLayout.{places_of}
 use Rattle.rkyv_index.specs.declared.map.ArchivedIndexMap.{ArchivedIndexMap}
@@ -42,31 +43,31 @@ find-map f accept (x ∷ xs) = find-step f accept x (find (λ y. accept (f y)) x
 place_read : (n i : ℕ) → i < n → slice_index (places_of n) i ≡ i
 place_read n i below = get_or-range_with_len 0 n i 0 below ∙ omega arith
 
-module _ {K V H W P N : Type 0} {ks : Shapes K} {vs : Shapes V} {ts : Shapes P} {wt : Words W} (m : ArchivedIndexMap K V H W ks vs wt) (e : Encoding N) (pk : IsScalar ts.shape e) (place : IsPlace wt.word e)
+module _ {K V H W P N : Type 0} {ks : Specs K} {vs : Specs V} {ts : Specs P} {wt : Words W} (m : ArchivedIndexMap K V H W ks vs wt) (e : Encoding N) (pk : IsScalar ts.spec e) (place : IsPlace wt.word e)
     (t : ArchivedHashTable P W ts wt) (at : IsAt t.view (index_archive m) (index_pos m)) where
   abbrev w : Width
   w = wt.word
 
-  abbrev s : Shape
-  s = entry_shape ks.shape vs.shape
+  abbrev s : ElementSpec
+  s = entry_spec ks.spec vs.spec
 
   abbrev law : IsElement s
-  law = entry_element ks.shape vs.shape ks.laws vs.laws
+  law = entry_element ks.spec vs.spec ks.laws vs.laws
 
-  size_is : ts.shape.size ≡ byte_len w
+  size_is : ts.spec.size ≡ byte_len w
   size_is = pk.size ∙ ap byte_len place.word
 
   bytes_same : table_bytes t ≡ index_bytes m
   bytes_same = ap (λ (x : Bor (List ℕ)). x.now) at.0
 
-  found_is : (hash : ℕ) (accept : ℕ → Bool) → pos_found generic_kind w ts.shape.size (table_bytes t) (table_pos t) hash accept
+  found_is : (hash : ℕ) (accept : ℕ → Bool) → pos_found generic_kind w ts.spec.size (table_bytes t) (table_pos t) hash accept
       ≡ pos_found generic_kind w (byte_len w) (index_bytes m) (index_pos m) hash accept
   found_is hash accept =
       ap (λ n. pos_found generic_kind w n (table_bytes t) (table_pos t) hash accept) size_is
       ∙ ap (λ (x : List ℕ). pos_found generic_kind w (byte_len w) x (table_pos t) hash accept) bytes_same
       ∙ ap (λ q. pos_found generic_kind w (byte_len w) (index_bytes m) q hash accept) at.1
 
-  homes_are : (homes : List ℕ) → home_positions w ts.shape.size (table_bytes t) (table_pos t) homes ≡ home_positions w (byte_len w) (index_bytes m) (index_pos m) homes
+  homes_are : (homes : List ℕ) → home_positions w ts.spec.size (table_bytes t) (table_pos t) homes ≡ home_positions w (byte_len w) (index_bytes m) (index_pos m) homes
   homes_are homes =
       ap (λ n. home_positions w n (table_bytes t) (table_pos t) homes) size_is
       ∙ ap (λ (x : List ℕ). home_positions w (byte_len w) x (table_pos t) homes) bytes_same
@@ -100,14 +101,14 @@ module _ {K V H W P N : Type 0} {ks : Shapes K} {vs : Shapes V} {ts : Shapes P} 
       place_at_bucket h there.0 there.1 there.2 (read_there h item)
 
   -- a full bucket of the map has that index
-  pub item_held : (h : View P) → IsItem t h → IsHeld m (number_at w (bytes_of h) h.pos)
+  pub item_held : (h : View P) → IsItem t h → IsStored m (number_at w (bytes_of h) h.pos)
   item_held h item =
       let there = item_there h item in
       (there.0, there.1, ap (number_at w (index_bytes m)) (sym there.2) ∙ ap (λ (x : List ℕ). number_at w x h.pos) (sym (read_there h item)))
 
   -- the index at the found position is the one that the map finds
   pub place_is : (result : Option (View P)) (hash : ℕ) (accept : ℕ → Bool)
-      → pos_of_found result ≡ pos_found generic_kind w ts.shape.size (table_bytes t) (table_pos t) hash (λ q. accept (number_at w (index_bytes m) q))
+      → pos_of_found result ≡ pos_found generic_kind w ts.spec.size (table_bytes t) (table_pos t) hash (λ q. accept (number_at w (index_bytes m) q))
       → option_map (number_at w (index_bytes m)) (pos_of_found result)
       ≡ option_map (number_at w (index_bytes m)) (pos_found generic_kind w (byte_len w) (index_bytes m) (index_pos m) hash (λ q. accept (number_at w (index_bytes m) q)))
   place_is result hash accept found =
@@ -121,7 +122,7 @@ module _ {K V H W P N : Type 0} {ks : Shapes K} {vs : Shapes V} {ts : Shapes P} 
     written_there = subst (λ q. WrittenAt w (table_bytes t) q hashes homes) (sym at.1) (subst (λ (x : List ℕ). WrittenAt w x (index_pos m) hashes homes) (sym bytes_same) written.table)
 
     pub under_there : (hash : ℕ) (accept : ℕ → Bool) → AreUnderHash (index_of m) hash key_hash accept
-        → IsUnderHash hash hashes (home_positions w ts.shape.size (table_bytes t) (table_pos t) homes) (λ q. accept (number_at w (index_bytes m) q))
+        → IsUnderHash hash hashes (home_positions w ts.spec.size (table_bytes t) (table_pos t) homes) (λ q. accept (number_at w (index_bytes m) q))
     under_there hash accept under i h accepted =
         let n = index_len m in
         let items = home_positions w (byte_len w) (index_bytes m) (index_pos m) homes in
@@ -135,7 +136,7 @@ module _ {K V H W P N : Type 0} {ks : Shapes K} {vs : Shapes V} {ts : Shapes P} 
         ∙ ap (λ j. key_hash (index_bytes m) (key_pos m j)) (place_read n i below) ∙ under i below here
 
     pub first_is : (result : Option (View P)) (accept : ℕ → Bool)
-        → pos_of_found result ≡ find (λ q. accept (number_at w (index_bytes m) q)) (home_positions w ts.shape.size (table_bytes t) (table_pos t) homes)
+        → pos_of_found result ≡ find (λ q. accept (number_at w (index_bytes m) q)) (home_positions w ts.spec.size (table_bytes t) (table_pos t) homes)
         → option_map (number_at w (index_bytes m)) (pos_of_found result) ≡ find accept (places_of (index_len m))
     first_is result accept found =
         ap (option_map (number_at w (index_bytes m))) (found ∙ ap (find (λ q. accept (number_at w (index_bytes m) q))) (homes_are homes))

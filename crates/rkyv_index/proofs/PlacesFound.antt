@@ -1,5 +1,5 @@
 -- A found item of a table of indices, and the index in it.
-use Rattle.rkyv_base.specs.declared.element.Shaped.{Ghosts as Shapes}
+use Rattle.rkyv_base.specs.declared.element.HasSpec.{Ghosts as Specs}
 use Rattle.rkyv_base.specs.declared.width.Word.{Ghosts as Words}
 use Rattle.std.proofs.Common.{◌≡◌, ℕ, ◌+◌, ◌/◌, ◌≤◌, ◌∙◌, ap, refl, subst, sym, true, Bool, List, None, Option, Some, length}
 use Rattle.std.specs.Borrow.{Bor}
@@ -18,13 +18,13 @@ use Rattle.rkyv_table.specs.Controls.Numbers.{probe_capacity}
 use Rattle.rkyv_table.specs.Table.Header.{cap_at, len_at}
 use Rattle.rkyv_table.specs.Table.Reading.{CountsWithin, FindsItem, IsItem, table_pos}
 use Rattle.rkyv_table.specs.declared.table.ArchivedHashTable.{ArchivedHashTable}
-use Rattle.rkyv_index.specs.Index.{IsAccepted, IsHeldPlace, IsKeyOf, ReadsFew, index_archive, index_bytes, index_found, index_pos}
+use Rattle.rkyv_index.specs.Index.{IsAccepted, IsStoredIndex, IsKeyOf, ReadsWithinBound, index_archive, index_bytes, index_found, index_pos}
 use Rattle.rkyv_index.specs.Lookups.{GetsBy, place_part}
 use Rattle.rkyv_index.specs.declared.map.ArchivedIndexMap.{ArchivedIndexMap}
 use Rattle.rkyv_index.proofs.Lookups.{finds_first_place, finds_place, item_held, item_place, read_there}
 
 -- a lookup by a comparison is one by each weaker condition on its results
-pub finds_as : {P W : Type 0} {ts : Shapes P} {wt : Words W} (A B : View P → Bool → Type 0) → ((h : View P) (r : Bool) → A h r → B h r) → (t : ArchivedHashTable P W ts wt) (hash : ℕ) (held : Option (View P))
+pub finds_as : {P W : Type 0} {ts : Specs P} {wt : Words W} (A B : View P → Bool → Type 0) → ((h : View P) (r : Bool) → A h r → B h r) → (t : ArchivedHashTable P W ts wt) (hash : ℕ) (held : Option (View P))
     → FindsItem A generic_kind t hash held → FindsItem B generic_kind t hash held
 finds_as A B weaker t hash held got = record {
   walked = got.walked;
@@ -33,7 +33,7 @@ finds_as A B weaker t hash held got = record {
   first = λ hashes homes accept written answers under. got.first hashes homes accept written (λ h r item a. answers h r item (weaker h r a)) under;
 }
 
-module _ {K V H W P N : Type 0} {ks : Shapes K} {vs : Shapes V} {ts : Shapes P} {wt : Words W} (m : ArchivedIndexMap K V H W ks vs wt) (e : Encoding N) (pk : IsScalar ts.shape e) (place : IsPlace wt.word e)
+module _ {K V H W P N : Type 0} {ks : Specs K} {vs : Specs V} {ts : Specs P} {wt : Words W} (m : ArchivedIndexMap K V H W ks vs wt) (e : Encoding N) (pk : IsScalar ts.spec e) (place : IsPlace wt.word e)
     (t : ArchivedHashTable P W ts wt) (at : IsAt t.view (index_archive m) (index_pos m)) where
   abbrev w : Width
   w = wt.word
@@ -53,12 +53,12 @@ module _ {K V H W P N : Type 0} {ks : Shapes K} {vs : Shapes V} {ts : Shapes P} 
   place_inside (Some h) item = (item_place m e pk place t at h item).0
 
   -- a full bucket has the index, and it is below the length
-  pub place_kept : (held : Option (View P)) → IfSome held (IsItem t) → IfSome (option_map place_of held) (IsHeldPlace m)
+  pub place_kept : (held : Option (View P)) → IfSome held (IsItem t) → IfSome (option_map place_of held) (IsStoredIndex m)
   place_kept None item = item
   place_kept (Some h) item = (item_held m e pk place t at h item, (item_place m e pk place t at h item).1)
 
   -- the strides of a lookup in the table are those of a lookup in the map
-  pub reads_few : (before after : ℕ) → CountsWithin t before after → ReadsFew m before after
+  pub reads_few : (before after : ℕ) → CountsWithin t before after → ReadsWithinBound m before after
   reads_few before after counts =
       subst (λ q. ReadsWithin (len_at w (index_bytes m) q) (probe_capacity (cap_at w (index_bytes m) q) / 16) before after) at.1
       (subst (λ (x : List ℕ). ReadsWithin (len_at w x (table_pos t)) (probe_capacity (cap_at w x (table_pos t)) / 16) before after) (ap (λ (x : Bor (List ℕ)). x.now) at.0) counts)
@@ -78,7 +78,7 @@ module _ {K V H W P N : Type 0} {ks : Shapes K} {vs : Shapes V} {ts : Shapes P} 
 
     pub gets_place : GetsBy place_part m asked key_hash post result
     gets_place = record {
-      walked = subst (λ r. IfSome r (IsHeldPlace m)) (sym found_there) (place_kept held got.walked);
+      walked = subst (λ r. IfSome r (IsStoredIndex m)) (sym found_there) (place_kept held got.walked);
       accepted = (result, refl, subst (λ r. IfSome r (IsAccepted m post)) (sym found_there) (place_accepted Post post asks held got.accepted));
       answer = λ accept answers. read ∙ finds_place m e pk place t at Post post asks held accept answers hash got.answer ∙ ap (λ n. index_found w (index_bytes m) (index_pos m) n accept) under;
       first = λ accept answers alone homes written.

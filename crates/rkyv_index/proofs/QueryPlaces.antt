@@ -1,5 +1,5 @@
 -- A lookup by a comparison with the keys that fit is a lookup of a query.
-use Rattle.rkyv_base.specs.declared.element.Shaped.{Ghosts as Shapes}
+use Rattle.rkyv_base.specs.declared.element.HasSpec.{Ghosts as Specs}
 use Rattle.rkyv_base.specs.declared.width.Word.{Ghosts as Words}
 use Rattle.std.proofs.Common.{◌≡◌, ℕ, ◌<◌, ◌^◌, Bool, List, Option, refl, subst, sym}
 use Rattle.rkyv_scan.specs.Hash.{Hasher, HasherCall, hash_of_calls}
@@ -16,9 +16,9 @@ use Rattle.rkyv_index.specs.declared.map.ArchivedIndexMap.{ArchivedIndexMap}
 use Rattle.rkyv_index.proofs.Completeness.{finds_the_one}
 use Rattle.rkyv_index.proofs.Queries.{answers_fits, query_under_hash}
 
-module _ {K V H W Q State : Type 0} {ks : Shapes K} {vs : Shapes V} {wt : Words W} (m : ArchivedIndexMap K V H W ks vs wt)
+module _ {K V H W Q State : Type 0} {ks : Specs K} {vs : Specs V} {wt : Words W} (m : ArchivedIndexMap K V H W ks vs wt)
     (hasher : Hasher State) (same : Comparison) (key_calls : List ℕ → ℕ → List HasherCall) (can_read : Q → Type 0) (calls : Q → List HasherCall) (fits : Q → List ℕ → ℕ → Bool)
-    (query : IsQuery ks.shape same key_calls can_read calls fits) (q : Q) (can : can_read q) (small : hash_of_calls hasher (calls q) < 2 ^ 64)
+    (query : IsQuery ks.spec same key_calls can_read calls fits) (q : Q) (ready : can_read q) (small : hash_of_calls hasher (calls q) < 2 ^ 64)
     (post : View K → Bool → Type 0) (tells : (key : View K) (r : Bool) → post key r → r ≡ fits q (bytes_of key) (pos_of key)) (result : Option ℕ) where
   pub query_place : GetsBy place_part m (hash_of hasher calls q) (hash_at hasher key_calls) post result → GetsKey place_part m (asked hasher key_calls same (calls q) (fits q)) result
   query_place got =
@@ -28,11 +28,11 @@ module _ {K V H W Q State : Type 0} {ks : Shapes K} {vs : Shapes V} {wt : Words 
       record {
         walked = got.walked;
         answer = found;
-        first = got.first accept answers (query_under_hash m hasher same key_calls can_read calls fits query q can);
+        first = got.first accept answers (query_under_hash m hasher same key_calls can_read calls fits query q ready);
         complete = λ none. (
           result,
           subst (FindsTheOne (index_len m) accept) (sym found)
-              (finds_the_one (index_of m) wt.kind ks.laws vs.laws hasher same key_calls can_read calls fits query m.valid q can small none),
+              (finds_the_one (index_of m) wt.kind ks.laws vs.laws hasher same key_calls can_read calls fits query m.valid q ready small none),
           refl,
         );
       }

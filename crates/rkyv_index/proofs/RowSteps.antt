@@ -6,8 +6,8 @@ use Rattle.std.proofs.lemmas.Option.{get_or_from_slice_get, slice_get_read, slic
 use Rattle.rkyv_base.specs.declared.errors.WriteError.{WriteError}
 use Rattle.rkyv_base.specs.declared.errors.WriteError.TheVariants.{DistanceTooLarge}
 use Rattle.rkyv_base.specs.Format.{Format}
-use Rattle.rkyv_base.specs.Writing.{Appends, Only, Output, Told, Within, end_of, piece}
-use Rattle.rkyv_base.proofs.GivingUp.{appends_after, end-appends, grows, none_appended, told_after}
+use Rattle.rkyv_base.specs.Writing.{Appends, Only, Output, WriteFails, Within, end_of, piece}
+use Rattle.rkyv_base.proofs.WritingSteps.{appends_after, end-appends, grows, none_appended, told_after}
 use Rattle.rkyv_table.proofs.PartSteps.{part_last, part_longer}
 use Rattle.rkyv_index.specs.Row.{Before, RowImages, RowNext, RowParts, RowPartsNext, WroteRow}
 
@@ -46,8 +46,8 @@ module _ {X R : Type 0} (f : Format X R) where
     step_part a r g = rw (take_one xs i x there) (parts_more (take i xs) (end_of o) part rs x a r h (subst (λ n. f.parts x n a r) (end-appends o o1 part a1) g))
 
     pub step_told : {F : Type 0} (limit : ℕ) (o2 : Output) (err : WriteError F) → Within limit o1 part
-        → Told limit (f.next x (end_of o1)) o1 o2 err
-        → Told limit (RowPartsNext f xs (end_of o)) o o2 err
+        → WriteFails limit (f.next x (end_of o1)) o1 o2 err
+        → WriteFails limit (RowPartsNext f xs (end_of o)) o o2 err
     step_told limit o2 err within t =
         let at : end_of o1 ≡ end_of o + length part = end-appends o o1 part a1 in
         told_after limit (RowPartsNext f xs (end_of o)) (f.next x (end_of o1)) o o1 o2 part err a1 within
@@ -112,10 +112,10 @@ module _ {X R : Type 0} (f : Format X R) (limit : ℕ) (xs : List X) (rs : List 
     }
 
     module _ {F : Type 0} where
-      abbrev RowTold : Output → WriteError F → Type 0
-      RowTold o' err = Told limit (RowNext f xs rs (end_of o)) o o' err
+      abbrev RowFails : Output → WriteError F → Type 0
+      RowFails o' err = WriteFails limit (RowNext f xs rs (end_of o)) o o' err
 
-      pub told_piece : (one : List ℕ) (o2 : Output) (err : WriteError F) → f.image x r (end_of o1) one → Told limit (Only (piece one)) o1 o2 err → RowTold o2 err
+      pub told_piece : (one : List ℕ) (o2 : Output) (err : WriteError F) → f.image x r (end_of o1) one → WriteFails limit (Only (piece one)) o1 o2 err → RowFails o2 err
       told_piece one o2 err im t =
           told_after limit (RowNext f xs rs (end_of o)) (Only (piece one)) o o1 o2 w.out err w.appended (inr w.within)
           (λ g step h.
@@ -123,9 +123,9 @@ module _ {X R : Type 0} (f : Format X R) (limit : ℕ) (xs : List X) (rs : List 
           rw k (i, x, r, before, inl (one, subst (λ n. f.image x r n one) here im, h.1)))
           t
 
-      pub told_far : f.far x r (end_of o1) → RowTold o1 DistanceTooLarge
-      told_far h = record {
+      pub overflow_fails : f.overflow x r (end_of o1) → RowFails o1 DistanceTooLarge
+      overflow_fails h = record {
         front = w.out;
         kept = grows o o1 w.out w.appended;
-        cause = (inr w.within, w.appended.failures, (i, x, r, before, inr (subst (λ n. f.far x r n) here h, refl)));
+        cause = (inr w.within, w.appended.failures, (i, x, r, before, inr (subst (λ n. f.overflow x r n) here h, refl)));
       }

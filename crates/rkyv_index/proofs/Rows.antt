@@ -14,5 +14,5 @@ row_length size q zero = refl
 row_length size q (suc n) = ap suc (row_length size (q + size) n)
 
 -- the number of positions that remain
-pub row_left : (archive : Bor (List ℕ)) (size q n : ℕ) (left : ItemsLeft) → record { archive = archive; places = row size q n } ≡ left → n ≡ length left.places
-row_left archive size q n left e = sym (row_length size q n) ∙ ap (λ (l : ItemsLeft). length l.places) e
+pub row_left : (archive : Bor (List ℕ)) (size q n : ℕ) (left : ItemsLeft) → record { archive = archive; positions = row size q n } ≡ left → n ≡ length left.positions
+row_left archive size q n left e = sym (row_length size q n) ∙ ap (λ (l : ItemsLeft). length l.positions) e

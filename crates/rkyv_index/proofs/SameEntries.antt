@@ -1,9 +1,9 @@
 -- The entries at one index of two index maps, compared.
-use Rattle.rkyv_base.specs.declared.element.Shaped.{Ghosts as Shapes}
+use Rattle.rkyv_base.specs.declared.element.HasSpec.{Ghosts as Specs}
 use Rattle.rkyv_base.specs.declared.width.Word.{Ghosts as Words}
 use Rattle.std.proofs.Common.{◌≡◌, ◌∙◌, ap, subst, Bool, ℕ, List}
 use Rattle.std.specs.Borrow.{Bor}
-use Rattle.rkyv_base.specs.Entry.{entry_shape}
+use Rattle.rkyv_base.specs.Entry.{entry_spec}
 use Rattle.rkyv_base.specs.View.{bytes_of, pos_of}
 use Rattle.rkyv_base.specs.declared.entry.Entry.{Entry}
 use Rattle.rkyv_base.specs.declared.view.View.{View}
@@ -14,12 +14,12 @@ use Rattle.rkyv_index.specs.Index.{IsEntryOf, index_bytes, index_pos, key_pos}
 use Rattle.rkyv_index.specs.declared.map.ArchivedIndexMap.{ArchivedIndexMap}
 
 -- the entries at an index of two maps are the same
-abbrev pub same_in : {K V H W : Type 0} {ks : Shapes K} {vs : Shapes V} {wt : Words W} → Comparison → Comparison → ArchivedIndexMap K V H W ks vs wt → ArchivedIndexMap K V H W ks vs wt → ℕ → Bool
-same_in {ks = ks} {vs} {wt} key value a o = same_at wt.word (entry_shape ks.shape vs.shape) (entry_same ks.shape vs.shape key value) (index_bytes a) (index_pos a) (index_bytes o) (index_pos o)
+abbrev pub same_in : {K V H W : Type 0} {ks : Specs K} {vs : Specs V} {wt : Words W} → Comparison → Comparison → ArchivedIndexMap K V H W ks vs wt → ArchivedIndexMap K V H W ks vs wt → ℕ → Bool
+same_in {ks = ks} {vs} {wt} key value a o = same_at wt.word (entry_spec ks.spec vs.spec) (entry_same ks.spec vs.spec key value) (index_bytes a) (index_pos a) (index_bytes o) (index_pos o)
 
-module _ {K V H W : Type 0} {ks : Shapes K} {vs : Shapes V} {wt : Words W} (same : Comparison) where
+module _ {K V H W : Type 0} {ks : Specs K} {vs : Specs V} {wt : Words W} (same : Comparison) where
   pub same_there : (own other : View (Entry K V)) (x y a o : ArchivedIndexMap K V H W ks vs wt) (i : ℕ) → IsEntryOf x i own → IsEntryOf y i other → x ≡ a → y ≡ o
-      → same (bytes_of own) (pos_of own) (bytes_of other) (pos_of other) ≡ same_at wt.word (entry_shape ks.shape vs.shape) same (index_bytes a) (index_pos a) (index_bytes o) (index_pos o) i
+      → same (bytes_of own) (pos_of own) (bytes_of other) (pos_of other) ≡ same_at wt.word (entry_spec ks.spec vs.spec) same (index_bytes a) (index_pos a) (index_bytes o) (index_pos o) i
   same_there own other x y a o i p q e f =
       let p' : IsEntryOf a i own = subst (λ z. IsEntryOf z i own) e p in
       let q' : IsEntryOf o i other = subst (λ z. IsEntryOf z i other) f q in

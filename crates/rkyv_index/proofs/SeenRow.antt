@@ -9,18 +9,18 @@ use Rattle.std.specs.Option.{option_map}
 use Rattle.rkyv_base.specs.declared.errors.WriteError.{WriteError}
 use Rattle.rkyv_base.specs.declared.adapter.EntryAdapter.{EntryAdapter}
 use Rattle.rkyv_base.specs.Adapter.{pair_of}
-use Rattle.rkyv_base.specs.Entry.{entry_shape}
-use Rattle.rkyv_base.specs.Format.{Format, GaveUp, Serialized}
+use Rattle.rkyv_base.specs.Entry.{entry_spec}
+use Rattle.rkyv_base.specs.Format.{Format, SerializeFails, Serialized}
 use Rattle.rkyv_base.specs.Pairs.{pair_format, written_as}
 use Rattle.rkyv_base.specs.Scalar.{Encoding, scalar_format}
-use Rattle.rkyv_base.specs.Shape.{Shape}
+use Rattle.rkyv_base.specs.ElementSpec.{ElementSpec}
 use Rattle.rkyv_base.specs.Writing.{Output, Step, end_of}
-use Rattle.rkyv_base.proofs.GivingUp.{told_as}
+use Rattle.rkyv_base.proofs.WritingSteps.{told_as}
 use Rattle.rkyv_table.specs.Table.Serializing.{HasCapacity, OwnCause}
 use Rattle.rkyv_table.specs.Table.TableFormat.{PairsNext, TableParts, TableResolver}
-use Rattle.rkyv_index.specs.Handing.{NoOther, OwnOrGaveUp, made_of}
-use Rattle.rkyv_table.specs.Table.Serializing.{NoItems, WroteItems}
-use Rattle.rkyv_table.specs.Table.Lent.{lent_pairs}
+use Rattle.rkyv_index.specs.Writing.{NoOther, OwnOrSerializeFails, made_of}
+use Rattle.rkyv_table.specs.Table.Serializing.{WriteItemsFails, WroteItems}
+use Rattle.rkyv_table.specs.Table.ItemValues.{lent_pairs}
 use Rattle.rkyv_index.specs.IndexFormat.{BeforeRow, BeforeZeros, IndexNext, IndexParts, index_format, places_from, row_format}
 use Rattle.rkyv_index.specs.IndexHeader.{IndexResolver}
 use Rattle.rkyv_index.specs.Row.{Before, RowImages, RowNext, RowParts, RowPartsNext}
@@ -59,7 +59,7 @@ module _ {X Y R : Type 0} (seen : X → Y) (f : Format Y R) where
       row_next : (front : List ℕ) (step : Step) → RowNext F xs rs p front step → RowNext f (map seen xs) rs p front step
       row_next front step h = (h.0, seen h.1, h.2, seen_before h.0 h.1 h.2 front h.3, h.4)
 
-  module _ {P : Type 0} (w : Width) (ps : Shape) (e : Encoding P) (s : Shape) (hash : Y → ℕ) (factor : ℕ × ℕ) where
+  module _ {P : Type 0} (w : Width) (ps : ElementSpec) (e : Encoding P) (s : ElementSpec) (hash : Y → ℕ) (factor : ℕ × ℕ) where
     abbrev own : X → ℕ
     own x = hash (seen x)
 
@@ -105,8 +105,8 @@ module _ {X Y R : Type 0} (seen : X → Y) (f : Format Y R) where
       pub seen_serialized : (r : IndexResolver) → Serialized limit (row_format w ps e s F own factor) xs o o' r → Serialized limit (row_format w ps e s f hash factor) (map seen xs) o o' r
       seen_serialized r h = (h.0, h.1, seen_whole xs (end_of o) h.0 r h.2, h.3)
 
-      pub seen_gave_up : {G : Type 0} (err : WriteError G) → GaveUp limit (row_format w ps e s F own factor) xs o o' err → GaveUp limit (row_format w ps e s f hash factor) (map seen xs) o o' err
-      seen_gave_up err h =
+      pub seen_fails : {G : Type 0} (err : WriteError G) → SerializeFails limit (row_format w ps e s F own factor) xs o o' err → SerializeFails limit (row_format w ps e s f hash factor) (map seen xs) o o' err
+      seen_fails err h =
           told_as limit (IndexNext w ps e s f hash factor (map seen xs) (end_of o)) (IndexNext w ps e s F own factor xs (end_of o)) o o' err
           (λ front step n. seen_next xs (end_of o) front step n) h
 
@@ -115,30 +115,30 @@ made_lent : {BK BV A B : Type 0} (key : BK → A) (value : BV → B) (xs : List 
 made_lent key value [] = refl
 made_lent {A = A} {B = B} key value (x ∷ xs) = ap (λ (l : List (A × B)). (key x.key, value x.value) ∷ l) (made_lent key value xs)
 
-module _ (G : Type 0) {BK BV A B P R Q : Type 0} (key : BK → A) (value : BV → B) (w : Width) (ps : Shape) (e : Encoding P) (k v : Shape) (kf : Format A R) (vf : Format B Q) (hash : A → ℕ) (factor : ℕ × ℕ)
-    (gave : List (BK × BV) → Type 0) (other : ℕ → Type 0) (len max limit : ℕ) (has : HasCapacity len factor max) (entries : List (EntryAdapter BK BV A B)) (came : gave (made_of entries)) (count : length entries ≡ len) (o o' : Output) where
+module _ (G : Type 0) {BK BV A B P R Q : Type 0} (key : BK → A) (value : BV → B) (w : Width) (ps : ElementSpec) (e : Encoding P) (k v : ElementSpec) (kf : Format A R) (vf : Format B Q) (hash : A → ℕ) (factor : ℕ × ℕ)
+    (yields : List (BK × BV) → Type 0) (other : ℕ → Type 0) (len max limit : ℕ) (has : HasCapacity len factor max) (entries : List (EntryAdapter BK BV A B)) (exactly : yields (made_of entries)) (count : length entries ≡ len) (o o' : Output) where
   abbrev Of : Format (List (A × B)) IndexResolver
   Of = index_format w ps e k v kf vf hash factor
 
   abbrev OfEntries : Format (List (EntryAdapter BK BV A B)) IndexResolver
-  OfEntries = row_format w ps e (entry_shape k v) (written_as (pair_of key value) (pair_format k v kf vf)) (λ entry. hash (key entry.key)) factor
+  OfEntries = row_format w ps e (entry_spec k v) (written_as (pair_of key value) (pair_format k v kf vf)) (λ entry. hash (key entry.key)) factor
 
   made_count : length (made_of entries) ≡ len
   made_count = length-map {B = BK × BV} entries (λ entry. (entry.key, entry.value)) ∙ count
 
   pub answers_items : (result : Result IndexResolver (WriteError G))
-      → MatchResult result (Serialized limit OfEntries entries o o') (OwnOrGaveUp (length entries) factor max NoOther limit OfEntries entries o o')
-      → MatchResult result (WroteItems gave len factor max (written_as (lent_pairs key value) Of) o o' limit) (NoItems gave len factor max (written_as (lent_pairs key value) Of) o o' limit other)
+      → MatchResult result (Serialized limit OfEntries entries o o') (OwnOrSerializeFails (length entries) factor max NoOther limit OfEntries entries o o')
+      → MatchResult result (WroteItems yields len factor max (written_as (lent_pairs key value) Of) o o' limit) (WriteItemsFails yields len factor max (written_as (lent_pairs key value) Of) o o' limit other)
   answers_items (Ok r) h = (
     has,
     made_of entries,
-    (came, made_count),
-    subst (λ l. Serialized limit Of l o o' r) (made_lent key value entries) (seen_serialized (pair_of key value) (pair_format k v kf vf) w ps e (entry_shape k v) (λ pair. hash pair.0) factor entries o o' limit r h),
+    (exactly, made_count),
+    subst (λ l. Serialized limit Of l o o' r) (made_lent key value entries) (seen_serialized (pair_of key value) (pair_format k v kf vf) w ps e (entry_spec k v) (λ pair. hash pair.0) factor entries o o' limit r h),
   )
   answers_items (Err err) (inl h) = inl (own_counted len factor max NoOther other (λ n z. absurd z) err (subst (λ n. OwnCause n factor max NoOther err) count h.0), h.1)
   answers_items (Err err) (inr h) = inr (
     has,
     made_of entries,
-    (came, made_count),
-    subst (λ l. GaveUp limit Of l o o' err) (made_lent key value entries) (seen_gave_up (pair_of key value) (pair_format k v kf vf) w ps e (entry_shape k v) (λ pair. hash pair.0) factor entries o o' limit err h),
+    (exactly, made_count),
+    subst (λ l. SerializeFails limit Of l o o' err) (made_lent key value entries) (seen_fails (pair_of key value) (pair_format k v kf vf) w ps e (entry_spec k v) (λ pair. hash pair.0) factor entries o o' limit err h),
   )

@@ -9,14 +9,17 @@ use Rattle.std.proofs.lemmas.List.{length-set}
 use Rattle.std.proofs.lemmas.Option.{slice_get_within}
 use Rattle.rkyv_scan.specs.Groups.{generic_kind}
 use Rattle.rkyv_scan.specs.Lemmas.KindLaws.{word_lawful}
-use Rattle.rkyv_base.specs.Bytes.{Same, number_at}
-use Rattle.rkyv_base.specs.Entry.{entry_element, entry_shape, parts_inside, same_key, size_of_small, viewed_key, viewed_value, whole_size}
-use Rattle.rkyv_base.specs.Format.{StandsNear}
-use Rattle.rkyv_base.specs.Pairs.{PairStands, pair_near}
+use Rattle.rkyv_base.specs.Bytes.{AgreeOn, number_at}
+use Rattle.rkyv_base.specs.Entry.{entry_spec, whole_size}
+use Rattle.rkyv_base.specs.Lemmas.Entry.{entry_element, parts_inside, same_key, size_of_small}
+use Rattle.rkyv_base.specs.Lemmas.Entry.{viewable_key, viewable_value}
+use Rattle.rkyv_base.specs.Format.{RepresentsLocally}
+use Rattle.rkyv_base.specs.Pairs.{PairRepresents}
+use Rattle.rkyv_base.specs.Lemmas.Pairs.{pair_local}
 use Rattle.rkyv_base.specs.Sealing.{Keeps, Outside, Sealed, value_pos}
-use Rattle.rkyv_base.specs.Shape.{IsElement, Shape, Viewed}
+use Rattle.rkyv_base.specs.ElementSpec.{IsElement, ElementSpec, Viewable}
 use Rattle.rkyv_base.specs.Text.{IsArchiveWord}
-use Rattle.rkyv_base.proofs.Sealing.{entry_kept, holds_elsewhere, same_outside, sealed_wider, viewed_kept}
+use Rattle.rkyv_base.proofs.Sealing.{entry_kept, holds_out_of_line, same_outside, sealed_wider, viewable_kept}
 use Rattle.rkyv_keys.specs.Asking.{RestsOnKeys}
 use Rattle.rkyv_table.specs.Table.Header.{cap_at, len_at}
 use Rattle.rkyv_table.specs.Controls.Finding.{found}
@@ -29,28 +32,28 @@ use Rattle.rkyv_table.specs.Table.Places.{AllHold}
 use Rattle.rkyv_table.specs.Table.Positions.{IsWalked, item_at, table_controls}
 use Rattle.rkyv_table.specs.Table.SealedTable.{RestsOnKey, SameValue, WritesValue}
 use Rattle.rkyv_table.proofs.Lists.{set_each}
-use Rattle.rkyv_table.proofs.Items.{controls_accepted, some_cap}
+use Rattle.rkyv_table.proofs.ParsedTable.{controls_accepted, some_cap}
 use Rattle.rkyv_table.proofs.Misplaced.{found_agree, found_walked}
 use Rattle.rkyv_table.proofs.Walks.{walked_full}
 use Rattle.rkyv_index.specs.Index.{fits_in, hash_at, index_found}
-use Rattle.rkyv_index.specs.IndexFormat.{IndexStands, IndexWrittenAt}
-use Rattle.rkyv_index.specs.IndexLayout.{EntriesIn, IndexHolds, entries_pos, entries_told, entry_at, index_shape, pair_pos, place_shape, places_of}
+use Rattle.rkyv_index.specs.IndexFormat.{IndexRepresents, IndexWrittenAt}
+use Rattle.rkyv_index.specs.IndexLayout.{EntriesIn, IndexHolds, entries_pos, decode_entries, entry_at, index_spec, pair_pos, place_spec, places_of}
 use Rattle.rkyv_index.specs.Lemmas.IndexLaws.{each_holds, entry_inside, head_same, index_again, place_element, place_same_at, places_below, told_same}
 use Rattle.rkyv_table.specs.Lemmas.SameControls.{same_controls}
 use Rattle.rkyv_scan.specs.Hash.{Hasher, HasherCall, hash_of_calls}
 use Rattle.rkyv_keys.specs.Equality.{Comparison}
 use Rattle.rkyv_keys.specs.Keys.{IsKey}
-use Rattle.rkyv_index.specs.Lemmas.IndexNear.{HashNear, written_again}
+use Rattle.rkyv_index.specs.Lemmas.IndexLocal.{HashLocal, written_again}
 use Rattle.rkyv_index.specs.SealedIndex.{IsPairPos}
 use Rattle.rkyv_index.specs.ValueWrites.{KeepsEntries, KeepsIndexMap, index_kind, pair_at}
-use Rattle.rkyv_index.proofs.Held.{begin_is, entries_inside, entry_viewed, place_below, table_there}
+use Rattle.rkyv_index.proofs.Held.{begin_is, entries_inside, entry_viewable, place_below, table_there}
 
 -- the hash of a valid key depends only on the bytes of the key and its parts
-pub hash_near : {State : Type 0} (hasher : Hasher State) {k : Shape} {same : Comparison} {calls : List ℕ → ℕ → List HasherCall} → IsKey k same calls → HashNear k (hash_at hasher calls)
-hash_near hasher key b c q lo hi l o holds fixed part = ap (hash_of_calls hasher) (key.near b c q lo hi l o holds fixed part)
+pub hash_local : {State : Type 0} (hasher : Hasher State) {k : ElementSpec} {same : Comparison} {calls : List ℕ → ℕ → List HasherCall} → IsKey k same calls → HashLocal k (hash_at hasher calls)
+hash_local hasher key b c q lo hi l o holds fixed part = ap (hash_of_calls hasher) (key.local b c q lo hi l o holds fixed part)
 
 -- a write at the position of the value of a pair writes the value of that pair
-pub value_written : (w : Width) (k v : Shape) (b c : List ℕ) (at q : ℕ) → at ≡ value_pos k v q → Sealed b at v.size c → Keeps v b c at → WritesValue k v b c q
+pub value_written : (w : Width) (k v : ElementSpec) (b c : List ℕ) (at q : ℕ) → at ≡ value_pos k v q → Sealed b at v.size c → Keeps v b c at → WritesValue k v b c q
 value_written w k v b c at q is sealed keeps = record { sealed = subst (λ n. Sealed b n v.size c) is sealed; keeps = subst (Keeps v b c) is keeps }
 
 -- two entries share no byte
@@ -65,23 +68,23 @@ entries_apart size begin i j ne = elim (cases_lt i j) [
 
 -- Several valid values in order are valid after a write of one of them that keeps it valid.
 -- That one shares no byte with the others, and its own bytes are behind all parts.
-all_kept : (s : Shape) → IsElement s → (at : ℕ → ℕ) (b c : List ℕ) (n hi i : ℕ) → Sealed b (at i) s.size c → Keeps s b c (at i) → hi ≤ at i
+all_kept : (s : ElementSpec) → IsElement s → (at : ℕ → ℕ) (b c : List ℕ) (n hi i : ℕ) → Sealed b (at i) s.size c → Keeps s b c (at i) → hi ≤ at i
     → ((j : ℕ) → j < n → j ≢ i → Outside (at i) s.size (at j) (at j + s.size)) → (is : List ℕ) (lo l : ℕ) → lo ≤ hi → AllBelow n is → AllHold s at b hi is lo l → AllHold s at c hi is lo l
 all_kept s law at b c n hi i sealed keeps above apart [] lo l o below h = h
 all_kept s law at b c n hi i sealed keeps above apart (j ∷ is) lo l o below h =
-    let k : (lo ≤ h.0) × (h.0 ≤ hi) = law.between b (at j) lo hi h.0 o h.1 in
+    let k : (lo ≤ h.0) × (h.0 ≤ hi) = law.rest_in_range b (at j) lo hi h.0 o h.1 in
     let here : s.holds c (at j) lo hi h.0 = elim (cases_eq j i) [
       | inl e ↦ subst (λ z. s.holds c (at z) lo hi h.0) (sym e) (keeps lo hi h.0 o above (subst (λ z. s.holds b (at z) lo hi h.0) e h.1))
-      | inr ne ↦ holds_elsewhere s law b c (at i) s.size sealed (at j) lo hi h.0 o (apart j below.0 ne) (inl (omega (arith, k.1, above))) h.1
+      | inr ne ↦ holds_out_of_line s law b c (at i) s.size sealed (at j) lo hi h.0 o (apart j below.0 ne) (inl (omega (arith, k.1, above))) h.1
     ] in
     (h.0, here, all_kept s law at b c n hi i sealed keeps above apart is h.0 l k.1 below.1 h.2)
 
 -- a valid value whose parts are below `hi` leaves a lower end of at most `hi` in any range
-parts_below : (s : Shape) → IsElement s → (b : List ℕ) (q lo hi rest l : ℕ) → lo ≤ hi → hi ≤ q → s.holds b q lo hi rest → s.holds b q 0 q l → l ≤ hi
+parts_below : (s : ElementSpec) → IsElement s → (b : List ℕ) (q lo hi rest l : ℕ) → lo ≤ hi → hi ≤ q → s.holds b q lo hi rest → s.holds b q 0 q l → l ≤ hi
 parts_below s law b q lo hi rest l o above held h =
-    let d : (l' : ℕ) × s.holds b q 0 hi l' × (l' ≤ rest) = law.lower b q lo 0 hi rest (omega arith) o held in
-    let k = law.between b q lo hi rest o held in
-    let same : l ≡ d.0 = law.one b q 0 q l d.0 h (law.higher b q 0 hi q d.0 above d.1) in
+    let d : (l' : ℕ) × s.holds b q 0 hi l' × (l' ≤ rest) = law.lower_lo b q lo 0 hi rest (omega arith) o held in
+    let k = law.rest_in_range b q lo hi rest o held in
+    let same : l ≡ d.0 = law.rest_unique b q 0 q l d.0 h (law.widen_hi b q 0 hi q d.0 above d.1) in
     omega (arith, same, d.2, k.1)
 
 -- a found item is read alike if each item is
@@ -89,9 +92,9 @@ read_alike : (f g f' g' : ℕ → ℕ) (o : Option ℕ) → ((i : ℕ) → o ≡
 read_alike f g f' g' None same = refl
 read_alike f g f' g' (Some i) same = ap Some (same i refl)
 
-module _ (w : Width) (kind : IsArchiveWord w) (k v : Shape) (kl : IsElement k) (vl : IsElement v) (b : List ℕ) (p : ℕ) (view : Viewed (index_shape w (entry_shape k v)) b p) where
-  abbrev S : Shape
-  S = entry_shape k v
+module _ (w : Width) (kind : IsArchiveWord w) (k v : ElementSpec) (kl : IsElement k) (vl : IsElement v) (b : List ℕ) (p : ℕ) (view : Viewable (index_spec w (entry_spec k v)) b p) where
+  abbrev S : ElementSpec
+  S = entry_spec k v
 
   abbrev law : IsElement S
   law = entry_element k v kl vl
@@ -99,14 +102,14 @@ module _ (w : Width) (kind : IsArchiveWord w) (k v : Shape) (kl : IsElement k) (
   abbrev at : ℕ → ℕ
   at = pair_pos w S.size b p
 
-  abbrev held : IndexHolds w S b p 0 p view.stands.0
-  held = view.stands.1
+  abbrev held : IndexHolds w S b p 0 p view.valid.0
+  held = view.valid.1
 
   begins : entries_pos w b p ≡ held.entries.begin
   begins = begin_is w kind S law b p view
 
-  entry_there : (i : ℕ) → i < len_at w b p → Viewed S b (at i)
-  entry_there i below = entry_viewed w kind S law b p view i below
+  entry_there : (i : ℕ) → i < len_at w b p → Viewable S b (at i)
+  entry_there i below = entry_viewable w kind S law b p view i below
 
   -- an entry is before the header
   entry_before : (i : ℕ) → i < len_at w b p → at i + S.size ≤ p
@@ -126,23 +129,23 @@ module _ (w : Width) (kind : IsArchiveWord w) (k v : Shape) (kl : IsElement k) (
   module _ (c : List ℕ) (i : ℕ) (below : i < len_at w b p) (writes : WritesValue k v b c (at i)) where
     wider : Sealed b (at i) S.size c
     wider =
-        let small = size_of_small (whole_size k v) (entry_there i below).stands.1.0 in
+        let small = size_of_small (whole_size k v) (entry_there i below).valid.1.0 in
         let inside = parts_inside k v in
         sealed_wider b c (value_pos k v (at i)) v.size (at i) S.size (omega arith) (omega (arith, small, inside.1)) writes.sealed
 
     entry_keeps : Keeps S b c (at i)
     entry_keeps = entry_kept k v kl vl b c (at i) writes.sealed writes.keeps
 
-    front_same : (x y : ℕ) → x ≤ y → y ≤ entries_pos w b p → Same b c x y
+    front_same : (x y : ℕ) → x ≤ y → y ≤ entries_pos w b p → AgreeOn b c x y
     front_same x y o h = same_outside b (at i) S.size c wider x y o (inl (omega (arith, h)))
 
-    header_same : Same b c p (p + 4 * byte_len w)
+    header_same : AgreeOn b c p (p + 4 * byte_len w)
     header_same = let e = entry_before i below in same_outside b (at i) S.size c wider p (p + 4 * byte_len w) (omega arith) (inr (omega (arith, e)))
 
-    head : Same b c p (p + 3 * byte_len w)
+    head : AgreeOn b c p (p + 3 * byte_len w)
     head = head_same w b c p header_same
 
-    entries_hold : (lo hi l : ℕ) → EntriesIn S b (entries_told w b p) (len_at w b p) lo hi l → EntriesIn S c (entries_told w b p) (len_at w b p) lo hi l
+    entries_hold : (lo hi l : ℕ) → EntriesIn S b (decode_entries w b p) (len_at w b p) lo hi l → EntriesIn S c (decode_entries w b p) (len_at w b p) lo hi l
     entries_hold lo hi l h =
         let n = len_at w b p in
         let begin = h.begin in
@@ -157,14 +160,14 @@ module _ (w : Width) (kind : IsArchiveWord w) (k v : Shape) (kl : IsElement k) (
           ends = h.ends;
         }
 
-    index_holds : Keeps (index_shape w S) b c p
+    index_holds : Keeps (index_spec w S) b c p
     index_holds lo hi l o o' h =
-        let t = (table_element w kind (place_shape w) (place_element w kind)).between b p lo hi h.middle o h.table in
+        let t = (table_element w kind (place_spec w) (place_element w kind)).rest_in_range b p lo hi h.middle o h.table in
         let is : entries_pos w b p ≡ h.entries.begin = ap unsigned_abs (sym h.entries.part.begins) in
         let above = h.entries.part.above in
         index_again w kind S law b c p lo hi l o header_same h (front_same lo h.middle t.0 (omega (arith, above, is))) (entries_hold h.middle hi l h.entries)
 
-    entry_same : (j : ℕ) → j ≢ i → Same b c (at j) (at j + S.size)
+    entry_same : (j : ℕ) → j ≢ i → AgreeOn b c (at j) (at j + S.size)
     entry_same j ne = same_outside b (at i) S.size c wider (at j) (at j + S.size) (omega arith) (entries_apart S.size (entries_pos w b p) i j ne)
 
     other_same : (j : ℕ) → j < len_at w b p → j ≢ i → SameValue S b c (at j)
@@ -175,13 +178,13 @@ module _ (w : Width) (kind : IsArchiveWord w) (k v : Shape) (kl : IsElement k) (
           parts = λ l h. front_same 0 l (omega arith) (parts_below S law b (at j) r.lower (entries_pos w b p) r.rest l r.below (omega arith) r.holds h);
         }
 
-    key_fixed : (j : ℕ) → j < len_at w b p → Same b c (at j) (at j + k.size)
+    key_fixed : (j : ℕ) → j < len_at w b p → AgreeOn b c (at j) (at j + k.size)
     key_fixed j there = elim (cases_eq j i) [
       | inl e ↦
           let inside = parts_inside k v in
-          let own : Same b c (at i) (at i + k.size) = same_outside b (value_pos k v (at i)) v.size c writes.sealed (at i) (at i + k.size) (omega arith) (inl (omega (arith, inside.0))) in
-          subst (λ n. Same b c (at n) (at n + k.size)) (sym e) own
-      | inr ne ↦ same_key k v kl vl b c (at j) (entry_there j there).stands.1.0 (entry_same j ne)
+          let own : AgreeOn b c (at i) (at i + k.size) = same_outside b (value_pos k v (at i)) v.size c writes.sealed (at i) (at i + k.size) (omega arith) (inl (omega (arith, inside.0))) in
+          subst (λ n. AgreeOn b c (at n) (at n + k.size)) (sym e) own
+      | inr ne ↦ same_key k v kl vl b c (at j) (entry_there j there).valid.1.0 (entry_same j ne)
     ]
 
     key_same : (j : ℕ) → j < len_at w b p → SameValue k b c (at j)
@@ -210,13 +213,13 @@ module _ (w : Width) (kind : IsArchiveWord w) (k v : Shape) (kl : IsElement k) (
     table_below = let above = held.entries.part.above in omega (arith, above, begins)
 
     controls_same : 0 < cap_at w b p → table_controls w b p ≡ table_controls w c p
-    controls_same = same_controls w (place_shape w) (place_element w kind) b c p 0 p held.middle (omega arith) held.table head (front_same 0 held.middle (omega arith) table_below)
+    controls_same = same_controls w (place_spec w) (place_element w kind) b c p 0 p held.middle (omega arith) held.table head (front_same 0 held.middle (omega arith) table_below)
 
     read_same : (j : ℕ) → IsWalked w b p j → number_at w b (item_at w (byte_len w) b p j) ≡ number_at w c (item_at w (byte_len w) c p j)
     read_same = place_same_at w kind b c p 0 p held.middle (omega arith) head (front_same 0 held.middle (omega arith) table_below) held.table
 
     some_buckets : 0 < cap_at w b p
-    some_buckets = some_cap w (place_shape w) (place_element w kind) b p (table_there w kind S law b p view) (omega (arith, below))
+    some_buckets = some_cap w (place_spec w) (place_element w kind) b p (table_there w kind S law b p view) (omega (arith, below))
 
     module _ (hash : ℕ) (small : hash < 2 ^ 64) (fits : List ℕ → ℕ → Bool) (rests : RestsOnKey k fits) where
       abbrev tells : List ℕ → ℕ → Bool
@@ -229,9 +232,9 @@ module _ (w : Width) (kind : IsArchiveWord w) (k v : Shape) (kl : IsElement k) (
       tells_same j there =
           let n = number_at w b (item_at w (byte_len w) b p j) in
           let inside = place_below w kind S law b p view j there in
-          let key = viewed_key k v kl vl b (at n) (entry_there n inside) in
+          let key = viewable_key k v kl vl b (at n) (entry_there n inside) in
           ap (λ m. fits c (pair_pos w S.size c p m)) (sym (read_same j there)) ∙ ap (fits c) (places_same n)
-          ∙ rests b c (at n) key.stands (key_same n inside)
+          ∙ rests b c (at n) key.valid (key_same n inside)
 
       bucket_same : found generic_kind (table_controls w c p) (cap_at w c p) (len_at w c p) hash (tells c) ≡ bucket
       bucket_same =
@@ -240,7 +243,7 @@ module _ (w : Width) (kind : IsArchiveWord w) (k v : Shape) (kl : IsElement k) (
           ∙ ap (λ n. f (table_controls w b p) n (len_at w c p) hash (tells c)) (sym (cap_same w b c p head))
           ∙ ap (λ n. f (table_controls w b p) (cap_at w b p) n hash (tells c)) (sym (len_same w b c p head))
           ∙ found_agree generic_kind (cap_at w b p) (len_at w b p) hash (table_controls w b p) word_lawful
-          (controls_accepted w (place_shape w) (place_element w kind) b p (table_there w kind S law b p view) some_buckets) small (tells c) (tells b)
+          (controls_accepted w (place_spec w) (place_element w kind) b p (table_there w kind S law b p view) some_buckets) small (tells c) (tells b)
           (λ j there. tells_same j (walked_full (cap_at w b p) (table_controls w b p) j there))
 
       lookup_same : index_found w c p hash (fits_in w k v c p fits) ≡ index_found w b p hash (fits_in w k v b p fits)
@@ -248,17 +251,17 @@ module _ (w : Width) (kind : IsArchiveWord w) (k v : Shape) (kl : IsElement k) (
           let of : List ℕ → Option ℕ → Option ℕ = λ d o. option_map (number_at w d) (option_map (item_at w (byte_len w) d p) o) in
           ap (of c) bucket_same ∙ read_alike (number_at w c) (item_at w (byte_len w) c p) (number_at w b) (item_at w (byte_len w) b p) bucket (λ j is.
           let walked = found_walked generic_kind (cap_at w b p) (len_at w b p) hash (table_controls w b p) word_lawful
-          (controls_accepted w (place_shape w) (place_element w kind) b p (table_there w kind S law b p view) some_buckets) small (tells b) j is in
+          (controls_accepted w (place_spec w) (place_element w kind) b p (table_there w kind S law b p view) some_buckets) small (tells b) j is in
           sym (read_same j (walked_full (cap_at w b p) (table_controls w b p) j walked.1)))
 
     -- ---- written index maps, and index maps that represent a list
 
-    module _ (key_hash : List ℕ → ℕ → ℕ) (near : HashNear k key_hash) where
+    module _ (key_hash : List ℕ → ℕ → ℕ) (local : HashLocal k key_hash) where
       hash_same : (j : ℕ) → j < len_at w b p → key_hash c (at j) ≡ key_hash b (at j)
       hash_same j there =
-          let key = viewed_key k v kl vl b (at j) (entry_there j there) in
+          let key = viewable_key k v kl vl b (at j) (entry_there j there) in
           let same = key_same j there in
-          sym (near b c (at j) 0 (at j) key.stands.0 (omega arith) key.stands.1 same.fixed (same.parts key.stands.0 key.stands.1))
+          sym (local b c (at j) 0 (at j) key.valid.0 (omega arith) key.valid.1 same.fixed (same.parts key.valid.0 key.valid.1))
 
       written_same : (homes : List ℕ) → IndexWrittenAt w S.size key_hash b p homes → IndexWrittenAt w S.size key_hash c p homes
       written_same = written_again w S.size key_hash b c p head controls_same read_same
@@ -267,7 +270,7 @@ module _ (w : Width) (kind : IsArchiveWord w) (k v : Shape) (kl : IsElement k) (
       pub index_kept : KeepsIndexMap (index_kind w k v key_hash) b c p i
       index_kept = record {
         entries = entries_kept;
-        stands = viewed_kept (index_shape w S) b c p writes.sealed.same_length index_holds view;
+        valid = viewable_kept (index_spec w S) b c p writes.sealed.same_length index_holds view;
         len = sym (len_same w b c p head);
         places = places_same;
         hashes = hash_same;
@@ -275,23 +278,23 @@ module _ (w : Width) (kind : IsArchiveWord w) (k v : Shape) (kl : IsElement k) (
         written = written_same;
       }
 
-      module _ {A B : Type 0} (key : List ℕ → ℕ → A → Type 0) (value : List ℕ → ℕ → B → Type 0) (kn : StandsNear k key) (vn : StandsNear v value) (factor : ℕ × ℕ) (pairs : List (A × B))
-          (pair : A × B) (new : B) (st : IndexStands w k v key value key_hash factor b p pairs) (at_i : slice_get pairs i ≡ Some pair) (stands : value c (value_pos k v (at i)) new) where
+      module _ {A B : Type 0} (key : List ℕ → ℕ → A → Type 0) (value : List ℕ → ℕ → B → Type 0) (kn : RepresentsLocally k key) (vn : RepresentsLocally v value) (factor : ℕ × ℕ) (pairs : List (A × B))
+          (pair : A × B) (new : B) (st : IndexRepresents w k v key value key_hash factor b p pairs) (at_i : slice_get pairs i ≡ Some pair) (represents : value c (value_pos k v (at i)) new) where
         -- the written pair has the new value, and each other pair is unchanged
-        written_stands : PairStands k v key value c (at i) (pair.0, new)
-        written_stands =
-            let there = viewed_key k v kl vl b (at i) (entry_there i below) in
+        written_represents : PairRepresents k v key value c (at i) (pair.0, new)
+        written_represents =
+            let there = viewable_key k v kl vl b (at i) (entry_there i below) in
             let same = key_same i below in
-            (kn pair.0 b c (at i) 0 (at i) there.stands.0 (omega arith) there.stands.1 same.fixed (same.parts there.stands.0 there.stands.1) (st.at i pair at_i).0, stands)
+            (kn pair.0 b c (at i) 0 (at i) there.valid.0 (omega arith) there.valid.1 same.fixed (same.parts there.valid.0 there.valid.1) (st.at i pair at_i).0, represents)
 
-        other_stands : (j : ℕ) (x : A × B) → j < len_at w b p → slice_get pairs j ≡ Some x → j ≢ i → PairStands k v key value c (at j) x
-        other_stands j x there at_j ne =
+        other_represents : (j : ℕ) (x : A × B) → j < len_at w b p → slice_get pairs j ≡ Some x → j ≢ i → PairRepresents k v key value c (at j) x
+        other_represents j x there at_j ne =
             let entry = entry_there j there in
             let same = other_same j there ne in
-            pair_near k v kl vl key value kn vn x b c (at j) 0 (at j) entry.stands.0 (omega arith) entry.stands.1 same.fixed (same.parts entry.stands.0 entry.stands.1) (st.at j x at_j)
+            pair_local k v kl vl key value kn vn x b c (at j) 0 (at j) entry.valid.0 (omega arith) entry.valid.1 same.fixed (same.parts entry.valid.0 entry.valid.1) (st.at j x at_j)
 
-        pub written_value_stands : IndexStands w k v key value key_hash factor c p (slice_set pairs i (pair.0, new))
-        written_value_stands =
+        pub written_value_represents : IndexRepresents w k v key value key_hash factor c p (slice_set pairs i (pair.0, new))
+        written_value_represents =
             let y : A × B = (pair.0, new) in
             let same_count = length-set pairs i y in
             let inside : i < length pairs = slice_get_within pairs i pair at_i in
@@ -301,11 +304,11 @@ module _ (w : Width) (kind : IsArchiveWord w) (k v : Shape) (kl : IsElement k) (
               written = written_same st.homes st.written;
               len = sym (len_same w b c p head) ∙ st.len ∙ sym same_count;
               cap = sym (cap_same w b c p head) ∙ st.cap ∙ ap (λ m. capacity m factor) (sym same_count);
-              at = set_each (λ j x. PairStands k v key value c (pair_at w k v c p j) x) pairs i y inside
-                  (subst (λ z. PairStands k v key value c z y) (sym (places_same i)) written_stands)
+              at = set_each (λ j x. PairRepresents k v key value c (pair_at w k v c p j) x) pairs i y inside
+                  (subst (λ z. PairRepresents k v key value c z y) (sym (places_same i)) written_represents)
                   (λ j x at_j ne.
                   let there : j < len_at w b p = omega (arith, slice_get_within pairs j x at_j, count) in
-                  subst (λ z. PairStands k v key value c z x) (sym (places_same j)) (other_stands j x there at_j ne));
+                  subst (λ z. PairRepresents k v key value c z x) (sym (places_same j)) (other_represents j x there at_j ne));
             }
 
   -- the pair at index `i`, whose value can be written
@@ -315,11 +318,11 @@ module _ (w : Width) (kind : IsArchiveWord w) (k v : Shape) (kl : IsElement k) (
       record {
         below = below;
         place = refl;
-        key = viewed_key k v kl vl b (at i) entry;
-        value = viewed_value k v kl vl b (at i) entry;
+        key = viewable_key k v kl vl b (at i) entry;
+        value = viewable_value k v kl vl b (at i) entry;
         kept = λ c writes. entries_kept c i below writes;
       }
 
 -- a test that depends only on keys depends only on each key
-pub rests_on_each : {Q : Type 0} (k : Shape) (can_read : Q → Type 0) (fits : Q → List ℕ → ℕ → Bool) → RestsOnKeys k can_read fits → (q : Q) → can_read q → RestsOnKey k (fits q)
-rests_on_each k can_read fits rests q can b c p stands same = rests q b c p stands.0 can stands.1 same.fixed (same.parts stands.0 stands.1)
+pub rests_on_each : {Q : Type 0} (k : ElementSpec) (can_read : Q → Type 0) (fits : Q → List ℕ → ℕ → Bool) → RestsOnKeys k can_read fits → (q : Q) → can_read q → RestsOnKey k (fits q)
+rests_on_each k can_read fits rests q ready b c p represents same = rests q b c p represents.0 ready represents.1 same.fixed (same.parts represents.0 represents.1)

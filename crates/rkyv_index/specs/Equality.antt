@@ -1,12 +1,12 @@
 -- Equality of index maps, and the keys that a lookup of their own doesn't find.
-use Rattle.rkyv_base.specs.declared.element.Shaped.{Ghosts as Shapes}
+use Rattle.rkyv_base.specs.declared.element.HasSpec.{Ghosts as Specs}
 use Rattle.rkyv_base.specs.declared.width.Word.{Ghosts as Words}
 use Rattle.std.specs.Prelude.{◌≡◌, ℕ, List, Bool, Option, ◌&&◌, ◌==◌, not, length, filter}
 use Rattle.std.specs.Int.{Width}
 use Rattle.std.specs.List.{find, list_all}
 use Rattle.std.specs.Option.{is_some}
-use Rattle.rkyv_base.specs.Entry.{entry_shape}
-use Rattle.rkyv_base.specs.Shape.{Shape}
+use Rattle.rkyv_base.specs.Entry.{entry_spec}
+use Rattle.rkyv_base.specs.ElementSpec.{ElementSpec}
 use Rattle.rkyv_keys.specs.Equality.{Comparison}
 use Rattle.rkyv_keys.specs.OfEntries.{entry_same}
 use Rattle.rkyv_table.specs.Table.Header.{len_at}
@@ -17,7 +17,7 @@ use Rattle.rkyv_index.specs.IndexLayout.{pair_pos}
 use Rattle.rkyv_index.specs.IndexLayout.{places_of}
 use Rattle.rkyv_index.specs.declared.map.ArchivedIndexMap.{ArchivedIndexMap}
 
-module _ (w : Width) (s : Shape) (same : Comparison) where
+module _ (w : Width) (s : ElementSpec) (same : Comparison) where
   -- the entries at index `i` of both maps are the same
   abbrev pub same_at : List ℕ → ℕ → List ℕ → ℕ → ℕ → Bool
   same_at b p c r i = same b (pair_pos w s.size b p i) c (pair_pos w s.size c r i)
@@ -28,16 +28,17 @@ module _ (w : Width) (s : Shape) (same : Comparison) where
       (places_of (len_at w b p))
 
 -- both maps have the same length, and the same pairs in order
-abbrev pub index_map_equal : Width → Shape → Shape → Comparison → Comparison → Comparison
+abbrev pub index_map_equal : Width → ElementSpec → ElementSpec → Comparison → Comparison
+    → Comparison
 index_map_equal w k v same_key same_value =
-    index_equal w (entry_shape k v) (entry_same k v same_key same_value)
+    index_equal w (entry_spec k v) (entry_same k v same_key same_value)
 
-module _ {K V H W : Type 0} {ks : Shapes K} {vs : Shapes V} {wt : Words W} where
+module _ {K V H W : Type 0} {ks : Specs K} {vs : Specs V} {wt : Words W} where
   -- both maps have the same length, and the same pairs in order
   abbrev pub index_maps_equal : Comparison → Comparison → ArchivedIndexMap K V H W ks vs wt
       → ArchivedIndexMap K V H W ks vs wt → Bool
   index_maps_equal same_key same_value m n =
-      index_map_equal wt.word ks.shape vs.shape same_key same_value (index_bytes m) (index_pos m)
+      index_map_equal wt.word ks.spec vs.spec same_key same_value (index_bytes m) (index_pos m)
       (index_bytes n) (index_pos n)
 
 module _ {K : Type 0} (m : Index K) (key_hash : List ℕ → ℕ → ℕ) (same_key : Comparison) where
@@ -58,16 +59,16 @@ module _ {K : Type 0} (m : Index K) (key_hash : List ℕ → ℕ → ℕ) (same_
   index_misplaced = length (filter is_misplaced (index_places m))
 
   -- the key at index `i` is the same as an earlier key
-  abbrev pub is_repeated : ℕ → Bool
-  is_repeated i = is_some (find (same_keys i) (places_of i))
+  abbrev pub is_wrapped : ℕ → Bool
+  is_wrapped i = is_some (find (same_keys i) (places_of i))
 
   -- the number of keys that are the same as an earlier key
   abbrev pub index_repeated : ℕ
-  index_repeated = length (filter is_repeated (index_places m))
+  index_repeated = length (filter is_wrapped (index_places m))
 
   -- `result`: in a written map, `true` if and only if the key at index `i` is a repeated one
   abbrev pub TellsRepeated : ℕ → Bool → Type 0
-  TellsRepeated i result = (homes : List ℕ) → IsWritten m key_hash homes → result ≡ is_repeated i
+  TellsRepeated i result = (homes : List ℕ) → IsWritten m key_hash homes → result ≡ is_wrapped i
 
   -- `result`: in a written map, the number of repeated keys
   abbrev pub CountsRepeated : ℕ → Type 0

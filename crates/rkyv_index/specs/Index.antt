@@ -1,5 +1,5 @@
 -- Index maps in an archive, and lookups in them.
-use Rattle.rkyv_base.specs.declared.element.Shaped.{Ghosts as Shapes}
+use Rattle.rkyv_base.specs.declared.element.HasSpec.{Ghosts as Specs}
 use Rattle.rkyv_base.specs.declared.width.Word.{Ghosts as Words}
 use Rattle.std.specs.Prelude.{◌≡◌, ℕ, suc, zero, ◌+◌, ◌/◌, ◌<◌, ◌≤◌, ◌↔◌, List, [], ◌∷◌, Bool, true}
 use Rattle.std.specs.Prelude.{Option, Some, None, IsSome, IsTrue, MatchOption, length}
@@ -10,9 +10,9 @@ use Rattle.std.specs.Option.{option_map}
 use Rattle.rkyv_scan.specs.Groups.{generic_kind}
 use Rattle.rkyv_scan.specs.Hash.{Hasher, HasherCall, hash_of_calls}
 use Rattle.rkyv_base.specs.Bytes.{number_at}
-use Rattle.rkyv_base.specs.Entry.{entry_shape, value_offset}
-use Rattle.rkyv_base.specs.Shape.{Shape}
-use Rattle.rkyv_base.specs.View.{IsAt, IsView, archive_of, bytes_of, pos_of}
+use Rattle.rkyv_base.specs.Entry.{entry_spec, value_offset}
+use Rattle.rkyv_base.specs.ElementSpec.{ElementSpec}
+use Rattle.rkyv_base.specs.View.{IsAt, IsValidView, archive_of, bytes_of, pos_of}
 use Rattle.rkyv_base.specs.declared.entry.Entry.{Entry}
 use Rattle.rkyv_base.specs.declared.view.View.{View}
 use Rattle.rkyv_table.specs.Controls.Finding.{ReadsWithin}
@@ -41,8 +41,8 @@ abbrev pub pair_positions : Width → ℕ → List ℕ → ℕ → List ℕ
 pair_positions w size b p = row size (entries_pos w b p) (len_at w b p)
 
 -- a full bucket has the index `i`
-abbrev pub IsHeldAt : Width → List ℕ → ℕ → ℕ → Type 0
-IsHeldAt w b p i = (bucket : ℕ) × IsWalked w b p bucket
+abbrev pub IsStoredAt : Width → List ℕ → ℕ → ℕ → Type 0
+IsStoredAt w b p i = (bucket : ℕ) × IsWalked w b p bucket
     × (number_at w b (item_at w (byte_len w) b p bucket) ≡ i)
 
 -- the index that a lookup under `hash` finds. `accept i`: the key at index `i` is accepted
@@ -50,7 +50,7 @@ abbrev pub index_found : Width → List ℕ → ℕ → ℕ → (ℕ → Bool) �
 index_found w b p hash accept = option_map (number_at w b) (pos_found generic_kind w (byte_len w) b
     p hash (λ q. accept (number_at w b q)))
 
-module _ {K V H W : Type 0} {ks : Shapes K} {vs : Shapes V} {wt : Words W} where
+module _ {K V H W : Type 0} {ks : Specs K} {vs : Specs V} {wt : Words W} where
   -- the archive of the map
   abbrev pub index_archive : ArchivedIndexMap K V H W ks vs wt → Bor (List ℕ)
   index_archive m = archive_of m.view
@@ -69,58 +69,58 @@ module _ {K V H W : Type 0} {ks : Shapes K} {vs : Shapes V} {wt : Words W} where
 
   -- the position of the key at index `i`
   abbrev pub key_pos : ArchivedIndexMap K V H W ks vs wt → ℕ → ℕ
-  key_pos m i = pair_pos wt.word (entry_shape ks.shape vs.shape).size (index_bytes m) (index_pos m)
+  key_pos m i = pair_pos wt.word (entry_spec ks.spec vs.spec).size (index_bytes m) (index_pos m)
       i
 
   -- the positions of the keys, in order
   abbrev pub key_positions : ArchivedIndexMap K V H W ks vs wt → List ℕ
-  key_positions m = pair_positions wt.word (entry_shape ks.shape vs.shape).size (index_bytes m)
+  key_positions m = pair_positions wt.word (entry_spec ks.spec vs.spec).size (index_bytes m)
       (index_pos m)
 
   -- `key`: view of the key at index `i`
   pub record IsKeyOf (m : ArchivedIndexMap K V H W ks vs wt) (i : ℕ) (key : View K) : Type 0 where
     pub below : i < index_len m
     pub at : IsAt key (index_archive m) (key_pos m i)
-    pub viewed : IsView ks.shape key
+    pub viewable : IsValidView ks.spec key
 
   -- `value`: view of the value at index `i`
   pub record IsValueOf (m : ArchivedIndexMap K V H W ks vs wt) (i : ℕ) (value : View V) : Type 0
     where
       pub below : i < index_len m
-      pub at : IsAt value (index_archive m) (key_pos m i + value_offset ks.shape vs.shape)
-      pub viewed : IsView vs.shape value
+      pub at : IsAt value (index_archive m) (key_pos m i + value_offset ks.spec vs.spec)
+      pub viewable : IsValidView vs.spec value
 
   -- `entry`: view of the entry at index `i`
   pub record IsEntryOf (m : ArchivedIndexMap K V H W ks vs wt) (i : ℕ) (entry : View (Entry K V))
       : Type 0 where
     pub below : i < index_len m
     pub at : IsAt entry (index_archive m) (key_pos m i)
-    pub viewed : IsView (entry_shape ks.shape vs.shape) entry
+    pub viewable : IsValidView (entry_spec ks.spec vs.spec) entry
 
   -- `pair`: views of the key and the value at index `i`
   abbrev pub IsPairOf : ArchivedIndexMap K V H W ks vs wt → ℕ → View K × View V → Type 0
   IsPairOf m i pair = IsKeyOf m i pair.0 × IsValueOf m i pair.1
 
   -- a full bucket of the map has the index `i`
-  abbrev pub IsHeld : ArchivedIndexMap K V H W ks vs wt → ℕ → Type 0
-  IsHeld m i = IsHeldAt wt.word (index_bytes m) (index_pos m) i
+  abbrev pub IsStored : ArchivedIndexMap K V H W ks vs wt → ℕ → Type 0
+  IsStored m i = IsStoredAt wt.word (index_bytes m) (index_pos m) i
 
   -- a full bucket of the map has the index `i`, and it is below the length
-  abbrev pub IsHeldPlace : ArchivedIndexMap K V H W ks vs wt → ℕ → Type 0
-  IsHeldPlace m i = IsHeld m i × (i < index_len m)
+  abbrev pub IsStoredIndex : ArchivedIndexMap K V H W ks vs wt → ℕ → Type 0
+  IsStoredIndex m i = IsStored m i × (i < index_len m)
 
   -- `full`: an index in a full bucket, and views of its key and its value
-  abbrev pub IsFullIn : ArchivedIndexMap K V H W ks vs wt → ℕ × View K × View V → Type 0
-  IsFullIn m full = IsHeld m full.0 × IsPairOf m full.0 (full.1, full.2)
+  abbrev pub IsFullResult : ArchivedIndexMap K V H W ks vs wt → ℕ × View K × View V → Type 0
+  IsFullResult m full = IsStored m full.0 × IsPairOf m full.0 (full.1, full.2)
 
   -- `full`: an index in a full bucket, and a view of its key
   abbrev pub IsFullKeyIn : ArchivedIndexMap K V H W ks vs wt → ℕ × View K → Type 0
-  IsFullKeyIn m full = IsHeld m full.0 × IsKeyOf m full.0 full.1
+  IsFullKeyIn m full = IsStored m full.0 × IsKeyOf m full.0 full.1
 
   -- the number of strides that a lookup reads: none in an empty map, else at least one
   -- and at most ceil(n / 16) for n buckets. `before`, `after`: counts of strides
-  abbrev pub ReadsFew : ArchivedIndexMap K V H W ks vs wt → ℕ → ℕ → Type 0
-  ReadsFew m before after = ReadsWithin (index_len m) (probe_capacity (cap_at wt.word
+  abbrev pub ReadsWithinBound : ArchivedIndexMap K V H W ks vs wt → ℕ → ℕ → Type 0
+  ReadsWithinBound m before after = ReadsWithin (index_len m) (probe_capacity (cap_at wt.word
       (index_bytes m)
       (index_pos m)) / 16) before after
 
@@ -139,7 +139,7 @@ MayAskPlace w pre item = (pos_of item + byte_len w ≤ length (bytes_of item))
     × ((i : ℕ) → i ≡ place_at w item → pre i)
 
 -- the condition `pre` is met for the index at each item of a table of indices
-abbrev pub MayAskPlaces : {P W : Type 0} {ts : Shapes P} {wt : Words W} → (ℕ → Type 0)
+abbrev pub MayAskPlaces : {P W : Type 0} {ts : Specs P} {wt : Words W} → (ℕ → Type 0)
     → ArchivedHashTable P W ts wt → Type 0
 MayAskPlaces {P} {wt = wt} pre t = (item : View P) → IsItem t item → MayAskPlace wt.word pre item
 
@@ -148,51 +148,53 @@ abbrev pub AnswersPlace : {P : Type 0} → Width → (ℕ → Bool → Type 0) �
 AnswersPlace w post item r = (i : ℕ) × (i ≡ place_at w item) × post i r
 
 -- `result`: the index at the item that a lookup by `post` finds in a table of indices
-pub record FindsHeld {P W : Type 0} {ts : Shapes P} {wt : Words W} (post : ℕ → Bool → Type 0)
+pub record FindsHeld {P W : Type 0} {ts : Specs P} {wt : Words W} (post : ℕ → Bool → Type 0)
     (t : ArchivedHashTable P W ts wt) (hash : ℕ) (result : Option ℕ) : Type 0 where
   pub held : Option (View P)
   pub found : FindsItem (AnswersPlace wt.word post) generic_kind t hash held
   pub is : result ≡ option_map (place_at wt.word) held
 
 -- `key`: view of the key at index `i` of the map at `m`
-pub record IsKeyIn {M K : Type 0} (w : Width) (k v : Shape) (m : View M) (i : ℕ) (key : View K)
+pub record IsKeyIn {M K : Type 0} (w : Width) (k v : ElementSpec) (m : View M) (i : ℕ)
+    (key : View K)
     : Type 0 where
   pub below : i < len_at w (bytes_of m) (pos_of m)
-  pub at : IsAt key (archive_of m) (pair_pos w (entry_shape k v).size (bytes_of m) (pos_of m) i)
-  pub viewed : IsView k key
+  pub at : IsAt key (archive_of m) (pair_pos w (entry_spec k v).size (bytes_of m) (pos_of m) i)
+  pub viewable : IsValidView k key
 
 -- the condition `pre` is met for each key of the map at `m`
-abbrev pub MayAskKeysIn : {M K : Type 0} → Width → Shape → Shape → View M → (View K → Type 0)
+abbrev pub MayAskKeysIn : {M K : Type 0} → Width → ElementSpec → ElementSpec → View M → (View K
+    → Type 0)
     → Type 0
 MayAskKeysIn {M} {K} w k v m pre = (i : ℕ) (key : View K) → IsKeyIn w k v m i key → pre key
 
 -- `result` is at the index `place`, or both are `None`
-abbrev pub IsThere : {X : Type 0} → (ℕ → X → Type 0) → Option X → Option ℕ → Type 0
-IsThere {X} Stands result place =
-    MatchOption place (result ≡ None) (λ i. (x : X) × (result ≡ Some x) × Stands i x)
+abbrev pub MatchesAt : {X : Type 0} → (ℕ → X → Type 0) → Option X → Option ℕ → Type 0
+MatchesAt {X} Related result place =
+    MatchOption place (result ≡ None) (λ i. (x : X) × (result ≡ Some x) × Related i x)
 
 -- the key at index `i` of the map at `p` fits
-abbrev pub fits_in : Width → Shape → Shape → List ℕ → ℕ → (List ℕ → ℕ → Bool) → ℕ → Bool
-fits_in w k v b p fits i = fits b (pair_pos w (entry_shape k v).size b p i)
+abbrev pub fits_in : Width → ElementSpec → ElementSpec → List ℕ → ℕ → (List ℕ → ℕ → Bool) → ℕ → Bool
+fits_in w k v b p fits i = fits b (pair_pos w (entry_spec k v).size b p i)
 
 -- An index map for lookups: one that is read, one at a seal, or that of an index set.
 -- `bytes`: bytes of the archive, `pos`: position of the header.
 -- `is_key i v`: `v` is a view of the key at index `i`.
 pub record Index (K : Type 0) : Type 1 where
   pub word : Width
-  pub key : Shape
-  pub value : Shape
+  pub key : ElementSpec
+  pub value : ElementSpec
   pub bytes : List ℕ
   pub pos : ℕ
   pub is_key : ℕ → View K → Type 0
 
 -- the index map `m` for lookups
-abbrev pub index_of : {K V H W : Type 0} {ks : Shapes K} {vs : Shapes V} {wt : Words W}
+abbrev pub index_of : {K V H W : Type 0} {ks : Specs K} {vs : Specs V} {wt : Words W}
     → ArchivedIndexMap K V H W ks vs wt → Index K
 index_of {ks = ks} {vs} {wt} m = record {
   word = wt.word;
-  key = ks.shape;
-  value = vs.shape;
+  key = ks.spec;
+  value = vs.spec;
   bytes = index_bytes m;
   pos = index_pos m;
   is_key = IsKeyOf m;
@@ -205,7 +207,7 @@ module _ {K : Type 0} (m : Index K) where
 
   -- the position of the key at index `i`
   abbrev pub key_at : ℕ → ℕ
-  key_at i = pair_pos m.word (entry_shape m.key m.value).size m.bytes m.pos i
+  key_at i = pair_pos m.word (entry_spec m.key m.value).size m.bytes m.pos i
 
   -- the key at index `i` fits
   abbrev pub fits_at : (List ℕ → ℕ → Bool) → ℕ → Bool
@@ -215,7 +217,7 @@ module _ {K : Type 0} (m : Index K) where
   -- and with the home buckets `homes`
   abbrev pub IsWritten : (List ℕ → ℕ → ℕ) → List ℕ → Type 0
   IsWritten key_hash homes =
-      IndexWrittenAt m.word (entry_shape m.key m.value).size key_hash m.bytes m.pos homes
+      IndexWrittenAt m.word (entry_spec m.key m.value).size key_hash m.bytes m.pos homes
 
   -- the condition `pre` is met for each key of the map
   abbrev pub MayAskKeysOf : (View K → Type 0) → Type 0
@@ -231,38 +233,38 @@ module _ {K : Type 0} (m : Index K) where
   AreUnderHash hash key_hash accept = (i : ℕ) → i < len_at m.word m.bytes m.pos → accept i ≡ true
       → key_hash m.bytes (key_at i) ≡ hash
 
-  -- `Told` is a property of the index that a lookup under `hash` finds, in any valid map
+  -- `Fact` is a property of the index that a lookup under `hash` finds, in any valid map
   abbrev pub FindsPlace : ℕ → (ℕ → Bool) → (Option ℕ → Type 0) → Type 0
-  FindsPlace hash accept Told = Told (index_found m.word m.bytes m.pos hash accept)
+  FindsPlace hash accept Fact = Fact (index_found m.word m.bytes m.pos hash accept)
 
-  -- `Told` is a property of the first accepted index, in a written map
+  -- `Fact` is a property of the first accepted index, in a written map
   abbrev pub FindsFirstPlace : (List ℕ → ℕ → ℕ) → (ℕ → Bool) → (Option ℕ → Type 0) → Type 0
-  FindsFirstPlace key_hash accept Told = (homes : List ℕ) → IsWritten key_hash homes
-      → Told (find accept index_places)
+  FindsFirstPlace key_hash accept Fact = (homes : List ℕ) → IsWritten key_hash homes
+      → Fact (find accept index_places)
 
-  -- `Told` is a property of the index that a lookup by a comparison finds, under a hash.
+  -- `Fact` is a property of the index that a lookup by a comparison finds, under a hash.
   -- `accept i`: result of the comparison for the key at index `i`
   abbrev pub FindsBy : (View K → Bool → Type 0) → ℕ → (Option ℕ → Type 0) → Type 0
-  FindsBy post hash Told = (accept : ℕ → Bool) → AnswersKeys post accept
-      → FindsPlace hash accept Told
+  FindsBy post hash Fact = (accept : ℕ → Bool) → AnswersKeys post accept
+      → FindsPlace hash accept Fact
 
-  -- `Told` is a property of the first accepted index, in a written map whose accepted keys are
+  -- `Fact` is a property of the first accepted index, in a written map whose accepted keys are
   -- under the hash. `key_hash b q`: hash of the key at `q`
   abbrev pub FindsFirstBy : (View K → Bool → Type 0) → ℕ → (List ℕ → ℕ → ℕ) → (Option ℕ → Type 0)
       → Type 0
-  FindsFirstBy post hash key_hash Told = (accept : ℕ → Bool) → AnswersKeys post accept
-      → AreUnderHash hash key_hash accept → FindsFirstPlace key_hash accept Told
+  FindsFirstBy post hash key_hash Fact = (accept : ℕ → Bool) → AnswersKeys post accept
+      → AreUnderHash hash key_hash accept → FindsFirstPlace key_hash accept Fact
 
-  -- `Told` is a property of the index that a lookup of a query finds, under a hash.
+  -- `Fact` is a property of the index that a lookup of a query finds, under a hash.
   -- `fits`: test of the keys
   abbrev pub FindsKey : ℕ → (List ℕ → ℕ → Bool) → (Option ℕ → Type 0) → Type 0
-  FindsKey hash fits Told = FindsPlace hash (fits_at fits) Told
+  FindsKey hash fits Fact = FindsPlace hash (fits_at fits) Fact
 
-  -- `Told` is a property of the first index whose key fits, in a written map
+  -- `Fact` is a property of the first index whose key fits, in a written map
   abbrev pub FindsFirstKey : (List ℕ → ℕ → ℕ) → (List ℕ → ℕ → Bool) → (Option ℕ → Type 0) → Type 0
-  FindsFirstKey key_hash fits Told = FindsFirstPlace key_hash (fits_at fits) Told
+  FindsFirstKey key_hash fits Fact = FindsFirstPlace key_hash (fits_at fits) Fact
 
-module _ {K V H W : Type 0} {ks : Shapes K} {vs : Shapes V} {wt : Words W}
+module _ {K V H W : Type 0} {ks : Specs K} {vs : Specs V} {wt : Words W}
     (m : ArchivedIndexMap K V H W ks vs wt) where
   -- the condition `pre` is met for each key of the map
   abbrev pub MayAskKeys : (View K → Type 0) → Type 0
@@ -274,19 +276,19 @@ module _ {K V H W : Type 0} {ks : Shapes K} {vs : Shapes V} {wt : Words W}
 
   -- `result`: the pair at the index `place`, or `None` if `place` is `None`
   abbrev pub IsPairAt : Option (View K × View V) → Option ℕ → Type 0
-  IsPairAt result place = IsThere (IsPairOf m) result place
+  IsPairAt result place = MatchesAt (IsPairOf m) result place
 
   -- `result`: the value at the index `place`, or `None` if `place` is `None`
   abbrev pub IsValueAt : Option (View V) → Option ℕ → Type 0
-  IsValueAt result place = IsThere (IsValueOf m) result place
+  IsValueAt result place = MatchesAt (IsValueOf m) result place
 
 -- `result` is the index `place`, or both are `None`
 abbrev pub IsPlace : Option ℕ → Option ℕ → Type 0
 IsPlace result place = result ≡ place
 
 -- the index in `result`
-abbrev pub full_place : {K V : Type 0} → Option (ℕ × View K × View V) → Option ℕ
-full_place {K} {V} result = option_map (λ (full : ℕ × View K × View V). full.0) result
+abbrev pub result_index : {K V : Type 0} → Option (ℕ × View K × View V) → Option ℕ
+result_index {K} {V} result = option_map (λ (full : ℕ × View K × View V). full.0) result
 
 -- the index in `result`
 abbrev pub full_key_place : {K : Type 0} → Option (ℕ × View K) → Option ℕ
@@ -297,6 +299,6 @@ abbrev pub IsFoundAt : Bool → Option ℕ → Type 0
 IsFoundAt result place = IsTrue result ↔ IsSome place
 
 -- `entries`: a map, and the position of its first entry
-pub record AreEntries {K V H W : Type 0} {ks : Shapes K} {vs : Shapes V} {wt : Words W}
+pub record AreEntries {K V H W : Type 0} {ks : Specs K} {vs : Specs V} {wt : Words W}
     (entries : Entries K V H W ks vs wt) : Type 0 where
   pub begin : entries.begin ≡ entries_pos wt.word (index_bytes entries.map) (index_pos entries.map)

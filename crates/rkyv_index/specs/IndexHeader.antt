@@ -3,7 +3,7 @@ use Rattle.std.specs.Prelude.{◌≡◌, ℕ, ◌⊎◌, ℤ, pos, ◌-ℤ◌, F
 use Rattle.std.specs.Prelude.{Result}
 use Rattle.std.specs.Int.{Width, to_le_bytes, cast_unsigned}
 use Rattle.rkyv_table.specs.Controls.Numbers.{capacity}
-use Rattle.rkyv_table.specs.Table.Header.{HeaderFar, IsHeader}
+use Rattle.rkyv_table.specs.Table.Header.{HeaderOverflows, IsHeader}
 use Rattle.rkyv_table.specs.Table.TableFormat.{TableResolver}
 use Rattle.rkyv_index.specs.IndexLayout.{distance_pos}
 
@@ -23,8 +23,8 @@ pub record IsIndexHeader (w : Width) (len cap : ℕ) (r : IndexResolver) (p : �
   pub is : out ≡ table ++ to_le_bytes w (cast_unsigned w distance)
 
 -- the distance to the table of indices doesn't fit in the width, or that to the entries doesn't
-abbrev pub IndexFar : Width → ℕ → IndexResolver → ℕ → Type 0
-IndexFar w len r p = HeaderFar w len r.table.pos p
+abbrev pub IndexOverflows : Width → ℕ → IndexResolver → ℕ → Type 0
+IndexOverflows w len r p = HeaderOverflows w len r.table.pos p
     ⊎ (FitsSigned w (pos r.entries -ℤ pos (distance_pos w p)) → ⊥)
 
 -- `after`: header at `p` of the index map of the resolver. With an error, a distance doesn't fit
@@ -33,4 +33,4 @@ abbrev pub WritesIndexHeader : {T E : Type 0} → Width → IndexResolver → �
     → Result T E → Type 0
 WritesIndexHeader w r p before after result = MatchResult result
     (λ _. IsIndexHeader w r.table.len (capacity r.table.len r.table.load_factor) r p after)
-    (λ _. IndexFar w r.table.len r p × (after ≡ before))
+    (λ _. IndexOverflows w r.table.len r p × (after ≡ before))

@@ -1,4 +1,4 @@
--- The bytes of a valid index map of entries of a shape, and the first fault of other bytes.
+-- The bytes of a valid index map of entries of a spec, and the first fault of other bytes.
 use Rattle.std.specs.Prelude.{◌≡◌, ℕ, ◌+◌, ◌*◌, ◌<◌, ◌≤◌, ◌⊎◌, ℤ, pos, ◌+ℤ◌, List, [], ◌∷◌}
 use Rattle.std.specs.Prelude.{unsigned_abs}
 use Rattle.std.specs.Int.{Width, byte_len}
@@ -7,15 +7,15 @@ use Rattle.rkyv_base.specs.declared.errors.VerifyError.{VerifyError}
 use Rattle.rkyv_base.specs.declared.errors.VerifyError.TheVariants.{PlaceOutOfRange}
 use Rattle.rkyv_base.specs.Bytes.{number_at, signed_at}
 use Rattle.rkyv_base.specs.Parts.{PartFails, PartIn}
-use Rattle.rkyv_base.specs.Shape.{Shape}
+use Rattle.rkyv_base.specs.ElementSpec.{ElementSpec}
 use Rattle.rkyv_table.specs.Table.Header.{len_at}
 use Rattle.rkyv_table.specs.Table.Places.{AllHold, FirstFails}
 use Rattle.rkyv_table.specs.Table.Positions.{item_positions}
 use Rattle.rkyv_table.specs.Table.Layout.{TableFails, TableHolds}
 
--- the shape of an index in a bucket: one word, which is always valid
-abbrev pub place_shape : Width → Shape
-place_shape w = record {
+-- the spec of an index in a bucket: one word, which is always valid
+abbrev pub place_spec : Width → ElementSpec
+place_spec w = record {
   size = byte_len w;
   align = byte_len w;
   holds = λ b p lo hi l. l
@@ -28,8 +28,8 @@ abbrev pub distance_pos : Width → ℕ → ℕ
 distance_pos w p = p + 3 * byte_len w
 
 -- the position at which the entries of the map at `p` begin, by the distance in the header
-abbrev pub entries_told : Width → List ℕ → ℕ → ℤ
-entries_told w b p = pos (distance_pos w p) +ℤ signed_at w b (distance_pos w p)
+abbrev pub decode_entries : Width → List ℕ → ℕ → ℤ
+decode_entries w b p = pos (distance_pos w p) +ℤ signed_at w b (distance_pos w p)
 
 -- the position of entry `i` of a row of entries from `begin` on
 abbrev pub entry_at : ℕ → ℕ → ℕ → ℕ
@@ -37,7 +37,7 @@ entry_at size begin i = begin + i * size
 
 -- the position at which the entries of a valid map at `p` begin
 abbrev pub entries_pos : Width → List ℕ → ℕ → ℕ
-entries_pos w b p = unsigned_abs (entries_told w b p)
+entries_pos w b p = unsigned_abs (decode_entries w b p)
 
 -- the position of the pair at index `i` of the map at `p`
 abbrev pub pair_pos : Width → ℕ → List ℕ → ℕ → ℕ → ℕ
@@ -59,12 +59,12 @@ FirstNotBelow w b n (q ∷ qs) e =
     ⊎ ((number_at w b q < n) × FirstNotBelow w b n qs e)
 
 -- the entries are valid in order, with their parts from `lo` to `begin`
-abbrev pub EntriesHold : Shape → List ℕ → ℕ → ℕ → ℕ → ℕ → Type 0
+abbrev pub EntriesHold : ElementSpec → List ℕ → ℕ → ℕ → ℕ → ℕ → Type 0
 EntriesHold s b begin len lo l = AllHold s (entry_at s.size begin) b begin (places_of len) lo l
 
 -- `len` valid entries in a part from `lo` to `hi`, which begins at `told`. `l`: end of the part,
 -- and lower end of the next one
-pub record EntriesIn (s : Shape) (b : List ℕ) (told : ℤ) (len lo hi l : ℕ) : Type 0 where
+pub record EntriesIn (s : ElementSpec) (b : List ℕ) (told : ℤ) (len lo hi l : ℕ) : Type 0 where
   pub begin : ℕ
   pub part : PartIn told (len * s.size) s.align lo hi begin
   pub last : ℕ
@@ -72,31 +72,31 @@ pub record EntriesIn (s : Shape) (b : List ℕ) (told : ℤ) (len lo hi l : ℕ)
   pub ends : l ≡ begin + len * s.size
 
 -- `e`: fault of the part, or else the first fault of an entry
-abbrev pub EntriesFail : Shape → List ℕ → ℤ → ℕ → ℕ → ℕ → VerifyError → Type 0
+abbrev pub EntriesFail : ElementSpec → List ℕ → ℤ → ℕ → ℕ → ℕ → VerifyError → Type 0
 EntriesFail s b told len lo hi e =
     PartFails told (len * s.size) s.align lo hi e
     ⊎ ((begin : ℕ) × PartIn told (len * s.size) s.align lo hi begin × FirstFails s
     (entry_at s.size begin) b begin (places_of len) lo e)
 
 -- a valid index map at `p`: a table of indices below its length, and as many valid entries
-pub record IndexHolds (w : Width) (s : Shape) (b : List ℕ) (p lo hi l : ℕ) : Type 0 where
+pub record IndexHolds (w : Width) (s : ElementSpec) (b : List ℕ) (p lo hi l : ℕ) : Type 0 where
   pub middle : ℕ
-  pub table : TableHolds w (place_shape w) b p lo hi middle
+  pub table : TableHolds w (place_spec w) b p lo hi middle
   pub below : PlacesBelow w b (len_at w b p) (item_positions w (byte_len w) b p)
-  pub entries : EntriesIn s b (entries_told w b p) (len_at w b p) middle hi l
+  pub entries : EntriesIn s b (decode_entries w b p) (len_at w b p) middle hi l
 
 -- `e`: fault of the table, or else of an index, or else of the entries
-abbrev pub IndexFails : Width → Shape → List ℕ → ℕ → ℕ → ℕ → VerifyError → Type 0
+abbrev pub IndexFails : Width → ElementSpec → List ℕ → ℕ → ℕ → ℕ → VerifyError → Type 0
 IndexFails w s b p lo hi e =
-    TableFails w (place_shape w) b p lo hi e
-    ⊎ ((middle : ℕ) × TableHolds w (place_shape w) b p lo hi middle
+    TableFails w (place_spec w) b p lo hi e
+    ⊎ ((middle : ℕ) × TableHolds w (place_spec w) b p lo hi middle
     × (FirstNotBelow w b (len_at w b p) (item_positions w (byte_len w) b p) e
     ⊎ (PlacesBelow w b (len_at w b p) (item_positions w (byte_len w) b p) × EntriesFail s b
-    (entries_told w b p) (len_at w b p) middle hi e)))
+    (decode_entries w b p) (len_at w b p) middle hi e)))
 
--- the shape of an index map of entries of shape `s`: a header of four words
-abbrev pub index_shape : Width → Shape → Shape
-index_shape w s = record {
+-- the spec of an index map of entries of spec `s`: a header of four words
+abbrev pub index_spec : Width → ElementSpec → ElementSpec
+index_spec w s = record {
   size = 4 * byte_len w;
   align = byte_len w;
   holds = IndexHolds w s;

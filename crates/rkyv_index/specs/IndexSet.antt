@@ -1,37 +1,38 @@
 -- Index sets in an archive, by the index map of their keys.
-use Rattle.rkyv_base.specs.declared.element.Shaped.{Ghosts as Shapes}
+use Rattle.rkyv_base.specs.declared.element.HasSpec.{Ghosts as Specs}
 use Rattle.rkyv_base.specs.declared.width.Word.{Ghosts as Words}
 use Rattle.std.specs.Prelude.{ℕ, Bool, List, Option}
 use Rattle.std.specs.Int.{Width}
-use Rattle.rkyv_base.specs.Empty.{unit_element, unit_shape}
-use Rattle.rkyv_base.specs.Entry.{entry_shape}
-use Rattle.rkyv_base.specs.Shape.{Shape}
+use Rattle.rkyv_base.specs.Empty.{unit_spec}
+use Rattle.rkyv_base.specs.Lemmas.Empty.{unit_element}
+use Rattle.rkyv_base.specs.Entry.{entry_spec}
+use Rattle.rkyv_base.specs.ElementSpec.{ElementSpec}
 use Rattle.rkyv_base.specs.declared.view.View.{View}
 use Rattle.rkyv_keys.specs.Equality.{Comparison}
 use Rattle.rkyv_keys.specs.OfUnits.{unit_same}
 use Rattle.rkyv_index.specs.Equality.{index_map_equal, index_maps_equal}
-use Rattle.rkyv_index.specs.Index.{Index, IsKeyOf, IsThere, index_bytes}
+use Rattle.rkyv_index.specs.Index.{Index, IsKeyOf, MatchesAt, index_bytes}
 use Rattle.rkyv_index.specs.Index.{index_of, index_pos}
-use Rattle.rkyv_index.specs.IndexLayout.{index_shape}
+use Rattle.rkyv_index.specs.IndexLayout.{index_spec}
 use Rattle.rkyv_index.specs.declared.map.ArchivedIndexMap.{ArchivedIndexMap}
 use Rattle.rkyv_index.specs.declared.set.ArchivedIndexSet.{ArchivedIndexSet}
 
--- the shape of an index set: that of an index map to the unit value
-abbrev pub index_set_shape : Width → Shape → Shape
-index_set_shape w k = index_shape w (entry_shape k unit_shape)
+-- the spec of an index set: that of an index map to the unit value
+abbrev pub index_set_spec : Width → ElementSpec → ElementSpec
+index_set_spec w k = index_spec w (entry_spec k unit_spec)
 
 -- both sets have the same length, and the same keys in order
-abbrev pub index_set_equal : Width → Shape → Comparison → Comparison
-index_set_equal w k same = index_map_equal w k unit_shape same unit_same
+abbrev pub index_set_equal : Width → ElementSpec → Comparison → Comparison
+index_set_equal w k same = index_map_equal w k unit_spec same unit_same
 
--- the shape and the laws of the unit value
-abbrev pub unit_shapes : Shapes (Unit {0})
-unit_shapes = record { shape = unit_shape; laws = unit_element }
+-- the spec and the laws of the unit value
+abbrev pub unit_specs : Specs (Unit {0})
+unit_specs = record { spec = unit_spec; laws = unit_element }
 
-module _ {K H W : Type 0} {ks : Shapes K} {wt : Words W} where
+module _ {K H W : Type 0} {ks : Specs K} {wt : Words W} where
   -- the index map of the keys to the unit value
   abbrev pub keys_of : ArchivedIndexSet K H W ks wt
-      → ArchivedIndexMap K (Unit {0}) H W ks unit_shapes wt
+      → ArchivedIndexMap K (Unit {0}) H W ks unit_specs wt
   keys_of s = s.map
 
   -- the bytes of the archive
@@ -57,4 +58,4 @@ module _ {K H W : Type 0} {ks : Shapes K} {wt : Words W} where
 
   -- `result`: the key at the index `place`, or `None` if `place` is `None`
   abbrev pub IsMemberAt : ArchivedIndexSet K H W ks wt → Option (View K) → Option ℕ → Type 0
-  IsMemberAt s result place = IsThere (IsMemberOf s) result place
+  IsMemberAt s result place = MatchesAt (IsMemberOf s) result place

@@ -12,5 +12,5 @@ pub mod SetFormat
 pub mod Complete
 pub mod Lookups
 pub mod Reading
-pub mod Handing
+pub mod Writing
 pub mod Lemmas

@@ -1,13 +1,14 @@
 -- The clauses of lookups on their results.
-use Rattle.rkyv_base.specs.declared.element.Shaped.{Ghosts as Shapes}
+use Rattle.rkyv_base.specs.declared.element.HasSpec.{Ghosts as Specs}
 use Rattle.rkyv_base.specs.declared.width.Word.{Ghosts as Words}
 use Rattle.std.specs.Prelude.{◌≡◌, ℕ, Bool, IfSome, List, Option}
 use Rattle.rkyv_base.specs.declared.view.View.{View}
 use Rattle.rkyv_keys.specs.Asked.{Asked}
 use Rattle.rkyv_index.specs.Complete.{FindsOneKey}
 use Rattle.rkyv_index.specs.Index.{FindsBy, FindsFirstBy, FindsFirstKey, FindsKey, IsAccepted}
-use Rattle.rkyv_index.specs.Index.{IsFullIn, IsFullKeyIn, IsHeld, IsHeldPlace, IsKeyOf, IsPairOf}
-use Rattle.rkyv_index.specs.Index.{IsPlace, IsThere, IsValueOf, full_key_place, full_place}
+use Rattle.rkyv_index.specs.Index.{IsFullResult, IsFullKeyIn, IsStored, IsStoredIndex, IsKeyOf}
+use Rattle.rkyv_index.specs.Index.{IsPairOf}
+use Rattle.rkyv_index.specs.Index.{IsPlace, MatchesAt, IsValueOf, full_key_place, result_index}
 use Rattle.rkyv_index.specs.Index.{index_of}
 use Rattle.rkyv_index.specs.declared.map.ArchivedIndexMap.{ArchivedIndexMap}
 
@@ -18,14 +19,14 @@ pub record Part (M X : Type 0) : Type 1 where
   pub In : M → X → Type 0
   pub At : M → Option X → Option ℕ → Type 0
 
-module _ {K V H W : Type 0} {ks : Shapes K} {vs : Shapes V} {wt : Words W} where
+module _ {K V H W : Type 0} {ks : Specs K} {vs : Specs V} {wt : Words W} where
   -- the index
   abbrev pub place_part : Part (ArchivedIndexMap K V H W ks vs wt) ℕ
-  place_part = record { In = IsHeldPlace; At = λ m. IsPlace }
+  place_part = record { In = IsStoredIndex; At = λ m. IsPlace }
 
   -- the index, the key and the value
   abbrev pub full_part : Part (ArchivedIndexMap K V H W ks vs wt) (ℕ × View K × View V)
-  full_part = record { In = IsFullIn; At = λ m result place. full_place result ≡ place }
+  full_part = record { In = IsFullResult; At = λ m result place. result_index result ≡ place }
 
   -- the index and the key
   abbrev pub full_key_part : Part (ArchivedIndexMap K V H W ks vs wt) (ℕ × View K)
@@ -34,12 +35,12 @@ module _ {K V H W : Type 0} {ks : Shapes K} {vs : Shapes V} {wt : Words W} where
     At = λ m result place. full_key_place result ≡ place;
   }
 
-  -- what `Stands` describes, without the index
+  -- what `Related` describes, without the index
   abbrev pub part_at : {X : Type 0} → (ArchivedIndexMap K V H W ks vs wt → ℕ → X → Type 0)
       → Part (ArchivedIndexMap K V H W ks vs wt) X
-  part_at Stands = record {
-    In = λ m x. (i : ℕ) × IsHeld m i × Stands m i x;
-    At = λ m. IsThere (Stands m);
+  part_at Related = record {
+    In = λ m x. (i : ℕ) × IsStored m i × Related m i x;
+    At = λ m. MatchesAt (Related m);
   }
 
   -- the key and the value
@@ -55,12 +56,12 @@ module _ {K V H W : Type 0} {ks : Shapes K} {vs : Shapes V} {wt : Words W} where
   value_part = part_at IsValueOf
 
   module _ (m : ArchivedIndexMap K V H W ks vs wt) where
-    -- `Told` is a property of the index that a lookup finds: in any map, in a written map,
+    -- `P` is a property of the index that a lookup finds: in any map, in a written map,
     -- and if no key is misplaced
-    pub record TellsKey (a : Asked) (Told : Option ℕ → Type 0) : Type 0 where
-      pub answer : FindsKey (index_of m) a.hash a.fits Told
-      pub first : FindsFirstKey (index_of m) a.key_hash a.fits Told
-      pub complete : FindsOneKey (index_of m) a.key_hash a.same a.fits Told
+    pub record TellsKey (a : Asked) (P : Option ℕ → Type 0) : Type 0 where
+      pub answer : FindsKey (index_of m) a.hash a.fits P
+      pub first : FindsFirstKey (index_of m) a.key_hash a.fits P
+      pub complete : FindsOneKey (index_of m) a.key_hash a.same a.fits P
 
   module _ {X : Type 0} (part : Part (ArchivedIndexMap K V H W ks vs wt) X)
       (m : ArchivedIndexMap K V H W ks vs wt) where

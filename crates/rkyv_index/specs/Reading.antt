@@ -1,93 +1,93 @@
 -- Lists that are deserialized from index maps and index sets.
-use Rattle.rkyv_base.specs.declared.element.Shaped.{Ghosts as Shapes}
+use Rattle.rkyv_base.specs.declared.element.HasSpec.{Ghosts as Specs}
 use Rattle.rkyv_base.specs.declared.width.Word.{Ghosts as Words}
 use Rattle.std.specs.Prelude.{◌≡◌, ℕ, ◌<◌, ◌⊎◌, ◌&&◌, List, Bool, true, Some}
 use Rattle.std.specs.Prelude.{length, slice_get}
 use Rattle.std.specs.Cmp.Lexicographic.{pointwise}
 use Rattle.std.specs.Int.{Width}
-use Rattle.rkyv_base.specs.Empty.{unit_shape}
-use Rattle.rkyv_base.specs.Pairs.{PairStands}
-use Rattle.rkyv_base.specs.Entry.{entry_shape}
-use Rattle.rkyv_base.specs.Shape.{Shape, Viewed}
+use Rattle.rkyv_base.specs.Empty.{unit_spec}
+use Rattle.rkyv_base.specs.Pairs.{PairRepresents}
+use Rattle.rkyv_base.specs.Entry.{entry_spec}
+use Rattle.rkyv_base.specs.ElementSpec.{ElementSpec, Viewable}
 use Rattle.rkyv_base.specs.declared.errors.ReadError.{ReadError}
 use Rattle.rkyv_base.specs.declared.errors.ReadError.TheVariants.{Memory}
 use Rattle.rkyv_keys.specs.OfEntries.{entry_refuses}
 use Rattle.rkyv_keys.specs.Reading.{Refusals}
 use Rattle.rkyv_table.specs.Table.Header.{len_at}
 use Rattle.rkyv_index.specs.Index.{index_bytes, index_len, index_pos, key_pos}
-use Rattle.rkyv_index.specs.IndexFormat.{IndexStands}
-use Rattle.rkyv_index.specs.IndexLayout.{index_shape}
-use Rattle.rkyv_index.specs.IndexSet.{index_set_shape, keys_of, set_bytes, set_pos}
-use Rattle.rkyv_index.specs.SetFormat.{IndexSetStands}
+use Rattle.rkyv_index.specs.IndexFormat.{IndexRepresents}
+use Rattle.rkyv_index.specs.IndexLayout.{index_spec}
+use Rattle.rkyv_index.specs.IndexSet.{index_set_spec, keys_of, set_bytes, set_pos}
+use Rattle.rkyv_index.specs.SetFormat.{IndexSetRepresents}
 use Rattle.rkyv_index.specs.ValueWrites.{pair_at}
 use Rattle.rkyv_index.specs.declared.map.ArchivedIndexMap.{ArchivedIndexMap}
 use Rattle.rkyv_index.specs.declared.set.ArchivedIndexSet.{ArchivedIndexSet}
 
-module _ {A B : Type 0} (w : Width) (k v : Shape) (key : List ℕ → ℕ → A → Type 0)
+module _ {A B : Type 0} (w : Width) (k v : ElementSpec) (key : List ℕ → ℕ → A → Type 0)
     (value : List ℕ → ℕ → B → Type 0) (b : List ℕ) (p : ℕ) where
   -- each of the first pairs, in order, is that of its place, in the index map at `p` of `b`
   abbrev pub ArePairsAt : List (A × B) → Type 0
   ArePairsAt pairs = (i : ℕ) (pair : A × B) → slice_get pairs i ≡ Some pair
-      → PairStands k v key value b (pair_at w k v b p i) pair
+      → PairRepresents k v key value b (pair_at w k v b p i) pair
 
   -- the list has the pair of each place, in order
   abbrev pub HasPairsAt : List (A × B) → Type 0
   HasPairsAt pairs = (length pairs ≡ len_at w b p) × ArePairsAt pairs
 
-module _ {K V H W A B : Type 0} {ks : Shapes K} {vs : Shapes V} {wt : Words W}
+module _ {K V H W A B : Type 0} {ks : Specs K} {vs : Specs V} {wt : Words W}
     (key : List ℕ → ℕ → A → Type 0) (value : List ℕ → ℕ → B → Type 0)
     (m : ArchivedIndexMap K V H W ks vs wt) where
   -- `pair`: represented by the entry at the index `place`
   abbrev pub IsPairRead : ℕ → A × B → Type 0
   IsPairRead place pair =
-      PairStands ks.shape vs.shape key value (index_bytes m) (key_pos m place) pair
+      PairRepresents ks.spec vs.spec key value (index_bytes m) (key_pos m place) pair
 
   -- each of the pairs is represented by the entry at its index
   abbrev pub ArePairsRead : List (A × B) → Type 0
-  ArePairsRead pairs = ArePairsAt wt.word ks.shape vs.shape key value (index_bytes m) (index_pos m)
+  ArePairsRead pairs = ArePairsAt wt.word ks.spec vs.spec key value (index_bytes m) (index_pos m)
       pairs
 
   -- the list has as many pairs as the map, and each is represented by the entry at its index
   abbrev pub ReadsPairs : List (A × B) → Type 0
-  ReadsPairs pairs = HasPairsAt wt.word ks.shape vs.shape key value (index_bytes m) (index_pos m)
+  ReadsPairs pairs = HasPairsAt wt.word ks.spec vs.spec key value (index_bytes m) (index_pos m)
       pairs
 
 -- `e`: error of the key or the value at the index `place`
-abbrev pub pair_refuses : {K V H W : Type 0} {ks : Shapes K} {vs : Shapes V} {wt : Words W}
+abbrev pub pair_refuses : {K V H W : Type 0} {ks : Specs K} {vs : Specs V} {wt : Words W}
     → Refusals → Refusals → ArchivedIndexMap K V H W ks vs wt → ℕ → ReadError → Type 0
 pair_refuses {ks = ks} {vs} key value m place e =
-    entry_refuses ks.shape vs.shape key value (index_bytes m) (key_pos m place) e
+    entry_refuses ks.spec vs.spec key value (index_bytes m) (key_pos m place) e
 
 -- `e`: error of deserializing the pairs. It is `Memory`, or an error of a key or a value
-abbrev pub pairs_refuse : {K V H W : Type 0} {ks : Shapes K} {vs : Shapes V} {wt : Words W}
+abbrev pub pairs_refuse : {K V H W : Type 0} {ks : Specs K} {vs : Specs V} {wt : Words W}
     → Refusals → Refusals → ArchivedIndexMap K V H W ks vs wt → ReadError → Type 0
 pairs_refuse {ks = ks} {vs} key value m e = (e ≡ Memory)
     ⊎ ((i : ℕ) × (i < index_len m)
-    × entry_refuses ks.shape vs.shape key value (index_bytes m) (key_pos m i) e)
+    × entry_refuses ks.spec vs.spec key value (index_bytes m) (key_pos m i) e)
 
-module _ {A : Type 0} (w : Width) (k : Shape) (key : List ℕ → ℕ → A → Type 0) (b : List ℕ)
+module _ {A : Type 0} (w : Width) (k : ElementSpec) (key : List ℕ → ℕ → A → Type 0) (b : List ℕ)
     (p : ℕ) where
   -- each of the first items, in order, is the key of its place, in the index set at `p` of `b`
   abbrev pub AreItemsAt : List A → Type 0
   AreItemsAt items = (i : ℕ) (item : A) → slice_get items i ≡ Some item
-      → key b (pair_at w k unit_shape b p i) item
+      → key b (pair_at w k unit_spec b p i) item
 
   -- the list has the key of each place, in order
   abbrev pub HasItemsAt : List A → Type 0
   HasItemsAt items = (length items ≡ len_at w b p) × AreItemsAt items
 
-module _ {K H W A : Type 0} {ks : Shapes K} {wt : Words W} (key : List ℕ → ℕ → A → Type 0)
+module _ {K H W A : Type 0} {ks : Specs K} {wt : Words W} (key : List ℕ → ℕ → A → Type 0)
     (s : ArchivedIndexSet K H W ks wt) where
   -- each of the items is represented by the key at its index
   abbrev pub AreItemsRead : List A → Type 0
-  AreItemsRead items = AreItemsAt wt.word ks.shape key (set_bytes s) (set_pos s) items
+  AreItemsRead items = AreItemsAt wt.word ks.spec key (set_bytes s) (set_pos s) items
 
   -- the list has as many items as the set, and each is represented by the key at its index
   abbrev pub ReadsItems : List A → Type 0
-  ReadsItems items = HasItemsAt wt.word ks.shape key (set_bytes s) (set_pos s) items
+  ReadsItems items = HasItemsAt wt.word ks.spec key (set_bytes s) (set_pos s) items
 
 -- `e`: error of deserializing the items. It is `Memory`, or an error of a key
-abbrev pub items_refuse : {K H W : Type 0} {ks : Shapes K} {wt : Words W} → Refusals
+abbrev pub items_refuse : {K H W : Type 0} {ks : Specs K} {wt : Words W} → Refusals
     → ArchivedIndexSet K H W ks wt → ReadError → Type 0
 items_refuse key s e = (e ≡ Memory) ⊎ ((i : ℕ) × (i < index_len (keys_of s))
     × key (set_bytes s) (key_pos (keys_of s) i) e)
@@ -96,17 +96,17 @@ items_refuse key s e = (e ≡ Memory) ⊎ ((i : ℕ) × (i < index_len (keys_of 
 abbrev pub pairs_equal : {A B : Type 0} → (A → A → Bool) → (B → B → Bool) → A × B → A × B → Bool
 pairs_equal first second x y = first x.0 y.0 && second x.1 y.1
 
--- how values are read from an element: its shape, the values that it represents,
+-- how values are read from an element: its spec, the values that it represents,
 -- and their equality
 pub record ReadsAs (A : Type 0) : Type 1 where
-  pub shape : Shape
-  pub stands : List ℕ → ℕ → A → Type 0
+  pub spec : ElementSpec
+  pub represents : List ℕ → ℕ → A → Type 0
   pub equal : A → A → Bool
 
--- values that are read from an element of this shape
-abbrev pub reads_as : {A : Type 0} → Shape → (List ℕ → ℕ → A → Type 0) → (A → A → Bool)
+-- values that are read from an element of this spec
+abbrev pub reads_as : {A : Type 0} → ElementSpec → (List ℕ → ℕ → A → Type 0) → (A → A → Bool)
     → ReadsAs A
-reads_as shape stands equal = record { shape = shape; stands = stands; equal = equal }
+reads_as spec represents equal = record { spec = spec; represents = represents; equal = equal }
 
 -- If an index map represents the list `listed`, a list `read` that is deserialized from it
 -- is equal to `listed`.
@@ -114,18 +114,18 @@ abbrev pub PairsReadBackAreListed : {A B : Type 0} → Width → ReadsAs A → R
     → (List ℕ → ℕ → ℕ) → Type 0
 PairsReadBackAreListed {A} {B} w k v hash =
     (b : List ℕ) (p : ℕ) (factor : ℕ × ℕ) (listed read : List (A × B))
-    → Viewed (index_shape w (entry_shape k.shape v.shape)) b p
-    → IndexStands w k.shape v.shape k.stands v.stands hash factor b p listed
-    → HasPairsAt w k.shape v.shape k.stands v.stands b p read
+    → Viewable (index_spec w (entry_spec k.spec v.spec)) b p
+    → IndexRepresents w k.spec v.spec k.represents v.represents hash factor b p listed
+    → HasPairsAt w k.spec v.spec k.represents v.represents b p read
     → pointwise (pairs_equal k.equal v.equal) listed read ≡ true
 
 -- If an index set represents the list `listed`, a list `read` that is deserialized from it
 -- is equal to `listed`.
-abbrev pub ItemsReadBackAreListed : {A : Type 0} → Width → Shape → (List ℕ → ℕ → A → Type 0)
+abbrev pub ItemsReadBackAreListed : {A : Type 0} → Width → ElementSpec → (List ℕ → ℕ → A → Type 0)
     → (List ℕ → ℕ → ℕ) → (A → A → Bool) → Type 0
 ItemsReadBackAreListed {A} w k key hash equal =
     (b : List ℕ) (p : ℕ) (factor : ℕ × ℕ) (listed read : List A)
-    → Viewed (index_set_shape w k) b p
-    → IndexSetStands w k key hash factor b p listed
+    → Viewable (index_set_spec w k) b p
+    → IndexSetRepresents w k key hash factor b p listed
     → HasItemsAt w k key b p read
     → pointwise equal listed read ≡ true

@@ -3,7 +3,8 @@ use Rattle.std.specs.Prelude.{◌≡◌, ℕ, ◌+◌, ◌⊎◌, List, [], ◌�
 use Rattle.std.specs.Prelude.{MatchResult, Result}
 use Rattle.rkyv_base.specs.declared.errors.WriteError.{WriteError}
 use Rattle.rkyv_base.specs.Format.{Format}
-use Rattle.rkyv_base.specs.Writing.{Appended, Appends, Output, Step, Told, Within, distance, end_of}
+use Rattle.rkyv_base.specs.Writing.{Appended, Appends, Output, Step, WriteFails, Within, distance}
+use Rattle.rkyv_base.specs.Writing.{end_of}
 use Rattle.rkyv_base.specs.Writing.{piece, refusal}
 
 module _ {X R : Type 0} (f : Format X R) where
@@ -30,7 +31,7 @@ module _ {X R : Type 0} (f : Format X R) where
   -- `step`: own bytes of the value `x` at position `p`, or the error that a distance doesn't fit
   abbrev pub ValueStep : X → R → ℕ → Step → Type 0
   ValueStep x r p step = ((out : List ℕ) × f.image x r p out × (step ≡ piece out))
-      ⊎ (f.far x r p × (step ≡ refusal distance))
+      ⊎ (f.overflow x r p × (step ≡ refusal distance))
 
   module _ (xs : List X) (rs : List R) (p : ℕ) where
     -- `front`: own bytes of the values before `x`, the value at index `i`. `r`: its resolver
@@ -66,10 +67,10 @@ module _ {F X R : Type 0} (row : RowInput X R) (rs : List R) (o o' : Output) whe
   SerializesRow result = MatchResult result
       (λ _. (part : List ℕ) × Appends o o' part × RowParts row.format row.values (end_of o) part rs
       × Within row.limit o' part)
-      (Told row.limit (RowPartsNext row.format row.values (end_of o)) o o')
+      (WriteFails row.limit (RowPartsNext row.format row.values (end_of o)) o o')
 
   -- `result`: the own bytes of the values are appended within the limit, or the error
   -- of writing one of them
   abbrev pub WritesRow : Result (Unit {0}) (WriteError F) → Type 0
   WritesRow result = MatchResult result (λ _. WroteRow row.format row.limit row.values rs o o')
-      (Told row.limit (RowNext row.format row.values rs (end_of o)) o o')
+      (WriteFails row.limit (RowNext row.format row.values rs (end_of o)) o o')

@@ -1,7 +1,7 @@
 -- The invariant of a walk over the entries of an index map.
 use Rattle.std.specs.Prelude.{ℕ, ◌+◌, ◌*◌, ◌<◌, ◌^◌, List}
 use Rattle.std.specs.List.{All}
-use Rattle.rkyv_base.specs.Shape.{Shape, Viewed}
+use Rattle.rkyv_base.specs.ElementSpec.{ElementSpec, Viewable}
 use Rattle.rkyv_index.specs.Index.{row}
 
 -- the `left` entries of `size` bytes from `at` on end below 2^64
@@ -9,6 +9,6 @@ abbrev pub IsRow : ℕ → ℕ → ℕ → Type 0
 IsRow at size left = at + left * size < 2 ^ 64
 
 -- `left` valid entries of `size` bytes are in a row in the bytes `b`, from `at` on
-pub record IsWalk (s : Shape) (b : List ℕ) (at size left : ℕ) : Type 0 where
+pub record IsWalk (s : ElementSpec) (b : List ℕ) (at size left : ℕ) : Type 0 where
   pub below : IsRow at size left
-  pub stand : All (Viewed s b) (row size at left)
+  pub all_valid : All (Viewable s b) (row size at left)

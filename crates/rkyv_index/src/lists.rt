@@ -2,18 +2,19 @@
 //!
 //! `OrderedPairs` is a list of pairs, and `OrderedItems` a list of keys.
 
-ghost use Rattle.rkyv_base.specs.Entry.{entry_shape};
-ghost use Rattle.rkyv_base.specs.Pairs.{written_as, written_as-format};
+ghost use Rattle.rkyv_base.specs.Entry.{entry_spec};
+ghost use Rattle.rkyv_base.specs.Pairs.{written_as};
+ghost use Rattle.rkyv_base.specs.Lemmas.Pairs.{written_as-format};
 ghost use Rattle.rkyv_scan.specs.Hash.{fx_hasher, low_halves};
-ghost use Rattle.rkyv_index.specs.IndexFormat.{IndexStands, hash_of, index_format};
+ghost use Rattle.rkyv_index.specs.IndexFormat.{IndexRepresents, hash_of, index_format};
 ghost use Rattle.rkyv_index.specs.Index.{hash_at};
-ghost use Rattle.rkyv_index.specs.IndexLayout.{index_shape};
-ghost use Rattle.rkyv_index.specs.Lemmas.IndexNear.{index_stands_near};
+ghost use Rattle.rkyv_index.specs.IndexLayout.{index_spec};
+ghost use Rattle.rkyv_index.specs.Lemmas.IndexLocal.{index_represents_local};
 ghost use Rattle.rkyv_index.specs.Lemmas.IndexSound.{index_sound};
 ghost use Rattle.rkyv_table.specs.Table.Listed.{listed, listed_format};
-ghost use Rattle.rkyv_index.specs.SetFormat.{IndexSetStands, index_set_format};
-ghost use Rattle.rkyv_index.specs.IndexSet.{index_set_shape};
-ghost use Rattle.rkyv_index.specs.Lemmas.SetSound.{index_set_near, index_set_sound};
+ghost use Rattle.rkyv_index.specs.SetFormat.{IndexSetRepresents, index_set_format};
+ghost use Rattle.rkyv_index.specs.IndexSet.{index_set_spec};
+ghost use Rattle.rkyv_index.specs.Lemmas.SetSound.{index_set_local, index_set_sound};
 
 use crate::map::resolve::IndexMapResolver;
 use crate::map::{ArchivedIndexMap, IndexMapOf};
@@ -21,12 +22,12 @@ use crate::set::writing::IndexSetResolver;
 use crate::set::{ArchivedIndexSet, IndexSetOf};
 use crate::width::PlaceWidth;
 use rkyv_base::archive::{Archive, ResolveResult, Serialize, WriteResult};
-use rkyv_base::element::StandsFor;
+use rkyv_base::element::Represents;
 use rkyv_base::width::Width;
 use rkyv_base::writer::Writer;
 use rkyv_keys::keys::{KeyElement, NativeKey};
 use rkyv_scan::hash::FxHasher64;
-use rkyv_table::table::lent::{Halves, Refs};
+use rkyv_table::table::list_inputs::{PairRefs, Refs};
 use std::alloc::Global;
 
 /// A list of pairs that is archived as an index map under the load factor 7 / 8.
@@ -46,16 +47,16 @@ use std::alloc::Global;
 #[derive(Drop)]
 pub struct OrderedPairs<K, V>(pub Vec<(K, V)>);
 
-impl<W: Width, A, B, K: KeyElement + StandsFor<A>, V: StandsFor<B>> StandsFor<OrderedPairs<A, B>>
+impl<W: Width, A, B, K: KeyElement + Represents<A>, V: Represents<B>> Represents<OrderedPairs<A, B>>
     for IndexMapOf<K, V, FxHasher64, W> {
-    ghost stands = { λ b p x.
-        IndexStands W.word K.shape V.shape K.stands V.stands
+    ghost represents = { λ b p x.
+        IndexRepresents W.word K.spec V.spec K.represents V.represents
         (hash_at (fx_hasher low_halves) K.key_calls) (7, 8) b p x.0.items };
 
-    ghost near = { λ x.
-        index_stands_near (fx_hasher low_halves) W.word W.layout.kind K.laws V.laws
+    ghost local = { λ x.
+        index_represents_local (fx_hasher low_halves) W.word W.layout.kind K.laws V.laws
         (7, 8)
-        K.key K.near V.near x.0.items };
+        K.key K.local V.local x.0.items };
 }
 
 impl<W: PlaceWidth, A: Archive<W>, B: Archive<W>> Archive<W> for OrderedPairs<A, B>
@@ -68,7 +69,7 @@ where
     type Resolver = IndexMapResolver<W>;
 
     ghost format = { written_as (λ x. x.0.items) (listed W.MAX_CAPACITY (7, 8)
-        (index_format W.word W.Place.shape W.Place.encoding A.Archived.shape B.Archived.shape
+        (index_format W.word W.Place.spec W.Place.encoding A.Archived.spec B.Archived.spec
         A.format B.format
         (hash_of (fx_hasher low_halves) A.calls) (7, 8))) };
 
@@ -76,18 +77,18 @@ where
         resolver.resolve(pos, out)
     }
 
-    ghost laws = { let stands = IndexStands W.word A.Archived.shape B.Archived.shape
-        A.Archived.stands B.Archived.stands
+    ghost laws = { let represents = IndexRepresents W.word A.Archived.spec B.Archived.spec
+        A.Archived.represents B.Archived.represents
         (hash_at (fx_hasher low_halves) A.Archived.key_calls) (7, 8) in
-        let format = index_format W.word W.Place.shape W.Place.encoding A.Archived.shape
-        B.Archived.shape A.format
+        let format = index_format W.word W.Place.spec W.Place.encoding A.Archived.spec
+        B.Archived.spec A.format
         B.format
         (hash_of (fx_hasher low_halves) A.calls) (7, 8) in
-        let shape = index_shape W.word (entry_shape A.Archived.shape B.Archived.shape) in
-        written_as-format (λ x. x.0.items) shape stands (listed W.MAX_CAPACITY (7, 8) format)
-        (listed_format W.MAX_CAPACITY (7, 8) shape stands format
-        (index_sound (fx_hasher low_halves) W.word W.layout.kind W.Place.shape W.Place.encoding
-        W.Place.Shaped.laws W.Place.Scalar.laws W.place W.reads_back
+        let spec = index_spec W.word (entry_spec A.Archived.spec B.Archived.spec) in
+        written_as-format (λ x. x.0.items) spec represents (listed W.MAX_CAPACITY (7, 8) format)
+        (listed_format W.MAX_CAPACITY (7, 8) spec represents format
+        (index_sound (fx_hasher low_halves) W.word W.layout.kind W.Place.spec W.Place.encoding
+        W.Place.HasSpec.laws W.Place.Scalar.laws W.place W.reads_back
         A.Archived.laws B.Archived.laws (7, 8) A.query A.native A.Eq.laws.refl A.reads
         A.Archive.laws B.laws)) };
 }
@@ -99,14 +100,14 @@ where
     A: NativeKey<A::Archived>,
 {
     fn serialize(&self, alloc: Global, serializer: &mut S) -> WriteResult<IndexMapResolver<W>, S> {
-        let halves = Halves::of(self.0.as_slice());
+        let halves = PairRefs::of(self.0.as_slice());
         ArchivedIndexMap::<A::Archived, B::Archived, FxHasher64, W>::serialize_from_iter::<
             S,
             A,
             B,
             &A,
             &B,
-            Halves<'_, A, B>,
+            PairRefs<'_, A, B>,
         >(alloc, halves, self.0.len(), (7, 8), serializer)
     }
 }
@@ -127,15 +128,15 @@ where
 #[derive(Drop)]
 pub struct OrderedItems<K>(pub Vec<K>);
 
-impl<W: Width, A, K: KeyElement + StandsFor<A>> StandsFor<OrderedItems<A>>
+impl<W: Width, A, K: KeyElement + Represents<A>> Represents<OrderedItems<A>>
     for IndexSetOf<K, FxHasher64, W> {
-    ghost stands = { λ b p x.
-        IndexSetStands W.word K.shape K.stands (hash_at (fx_hasher low_halves)
+    ghost represents = { λ b p x.
+        IndexSetRepresents W.word K.spec K.represents (hash_at (fx_hasher low_halves)
         K.key_calls) (7, 8) b p x.0.items };
 
-    ghost near = { λ x.
-        index_set_near (fx_hasher low_halves) W.word W.layout.kind K.laws (7, 8)
-        K.key K.near x.0.items };
+    ghost local = { λ x.
+        index_set_local (fx_hasher low_halves) W.word W.layout.kind K.laws (7, 8)
+        K.key K.local x.0.items };
 }
 
 impl<W: PlaceWidth, A: Archive<W>> Archive<W> for OrderedItems<A>
@@ -148,23 +149,23 @@ where
     type Resolver = IndexSetResolver<W>;
 
     ghost format = { written_as (λ x. x.0.items) (listed W.MAX_CAPACITY (7, 8)
-        (index_set_format W.word W.Place.shape W.Place.encoding A.Archived.shape A.format
+        (index_set_format W.word W.Place.spec W.Place.encoding A.Archived.spec A.format
         (hash_of (fx_hasher low_halves) A.calls) (7, 8))) };
 
     fn resolve(&self, resolver: IndexSetResolver<W>, pos: u64, out: &mut [u8]) -> ResolveResult {
         resolver.resolve(pos, out)
     }
 
-    ghost laws = { let stands = IndexSetStands W.word A.Archived.shape A.Archived.stands
+    ghost laws = { let represents = IndexSetRepresents W.word A.Archived.spec A.Archived.represents
         (hash_at (fx_hasher low_halves) A.Archived.key_calls) (7, 8) in
-        let format = index_set_format W.word W.Place.shape W.Place.encoding A.Archived.shape
+        let format = index_set_format W.word W.Place.spec W.Place.encoding A.Archived.spec
         A.format
         (hash_of (fx_hasher low_halves) A.calls) (7, 8) in
-        let shape = index_set_shape W.word A.Archived.shape in
-        written_as-format (λ x. x.0.items) shape stands (listed W.MAX_CAPACITY (7, 8) format)
-        (listed_format W.MAX_CAPACITY (7, 8) shape stands format
+        let spec = index_set_spec W.word A.Archived.spec in
+        written_as-format (λ x. x.0.items) spec represents (listed W.MAX_CAPACITY (7, 8) format)
+        (listed_format W.MAX_CAPACITY (7, 8) spec represents format
         (index_set_sound (fx_hasher low_halves) W.word W.layout.kind A.Archived.laws
-        (7, 8) W.Place.shape W.Place.encoding W.Place.Shaped.laws W.Place.Scalar.laws W.place
+        (7, 8) W.Place.spec W.Place.encoding W.Place.HasSpec.laws W.Place.Scalar.laws W.place
         W.reads_back
         A.query A.native A.Eq.laws.refl A.reads A.Archive.laws)) };
 }

@@ -6,13 +6,15 @@
 //! - `in_place` writes the value at an index over the bytes of an archive.
 //! - `laws` has laws that a proof cites.
 ghost use Rattle.std.specs.Prelude.{◌≡◌};
-ghost use Rattle.rkyv_base.specs.Entry.{entry_element, entry_shape};
-ghost use Rattle.rkyv_base.specs.Shape.{viewed_prop};
-ghost use Rattle.rkyv_base.specs.View.{IsView};
+ghost use Rattle.rkyv_base.specs.Entry.{entry_spec};
+ghost use Rattle.rkyv_base.specs.Lemmas.Entry.{entry_element};
+ghost use Rattle.rkyv_base.specs.Lemmas.ElementSpec.{viewable_prop};
+ghost use Rattle.rkyv_base.specs.View.{IsValidView};
 ghost use Rattle.rkyv_table.specs.Table.Decoded.{IsDecoded};
-ghost use Rattle.rkyv_index.specs.IndexLayout.{entries_pos, index_shape};
+ghost use Rattle.rkyv_index.specs.IndexLayout.{entries_pos, index_spec};
 ghost use Rattle.rkyv_index.specs.Lemmas.IndexLaws.{index_element};
 
+mod accessors;
 mod check;
 mod debug;
 pub mod deserialize;
@@ -25,16 +27,15 @@ pub mod laws;
 mod lookup;
 mod misplaced;
 mod places;
-mod reading;
 pub mod resolve;
 mod row;
 mod sealed;
 pub mod serialize;
-mod taking;
+mod source;
 mod write;
 pub mod written;
 
-use rkyv_base::element::Shaped;
+use rkyv_base::element::HasSpec;
 use rkyv_base::view::View;
 use rkyv_base::width::{Narrow, Word};
 use rkyv_scan::hash::FxHasher64;
@@ -50,25 +51,26 @@ pub struct IndexMapOf<K, V, H = FxHasher64, W = Narrow> {
 /// An index map of `K` to `V` under the hasher `H` that is read in an archive of the width `W`.
 ///
 /// Its bytes are valid. It holds its decoded header, and the position of its first entry.
-pub struct ArchivedIndexMap<'a, K: Shaped, V: Shaped, H = FxHasher64, W: Word = Narrow> {
+pub struct ArchivedIndexMap<'a, K: HasSpec, V: HasSpec, H = FxHasher64, W: Word = Narrow> {
     pub(crate) view: View<'a, IndexMapOf<K, V, H, W>>,
     // The decoded header of the table of indices.
     pub(crate) header: Decoded,
     // The position of the first entry.
     pub(crate) begin: u64,
-    ghost valid: { IsView (index_shape W.word (entry_shape K.shape V.shape)) view } by { viewed_prop
-        (index_shape W.word (entry_shape K.shape V.shape))
-        (index_element W.word W.kind (entry_shape K.shape V.shape)
-        (entry_element K.shape V.shape K.laws V.laws)) view.archive.now view.pos },
+    ghost valid: { IsValidView (index_spec W.word
+        (entry_spec K.spec V.spec)) view } by { viewable_prop
+            (index_spec W.word (entry_spec K.spec V.spec))
+            (index_element W.word W.kind (entry_spec K.spec V.spec)
+            (entry_element K.spec V.spec K.laws V.laws)) view.archive.now view.pos },
     ghost decoded: { IsDecoded W.word view.archive.now view.pos header },
     ghost begins: { begin ≡ entries_pos W.word view.archive.now view.pos },
 }
 
-impl<'a, K: Shaped, V: Shaped, H, W: Word> Clone for ArchivedIndexMap<'a, K, V, H, W> {
+impl<'a, K: HasSpec, V: HasSpec, H, W: Word> Clone for ArchivedIndexMap<'a, K, V, H, W> {
     #[inline]
     fn clone(&self) -> Result<ArchivedIndexMap<'a, K, V, H, W>, AllocError> {
         Ok(*self)
     }
 }
 
-impl<'a, K: Shaped, V: Shaped, H, W: Word> Copy for ArchivedIndexMap<'a, K, V, H, W> {}
+impl<'a, K: HasSpec, V: HasSpec, H, W: Word> Copy for ArchivedIndexMap<'a, K, V, H, W> {}

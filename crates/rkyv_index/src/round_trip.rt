@@ -13,15 +13,15 @@ use rkyv_base::archive::Serialize;
 use rkyv_base::errors::{ReadError, WriteError};
 use rkyv_base::root::to_bytes_in;
 use rkyv_base::writer::{NoMemory, VecWriter};
-use rkyv_keys::equality::StandsAlone;
+use rkyv_keys::deserialize::Deserialize;
+use rkyv_keys::equality::RepresentsUniquely;
 use rkyv_keys::keys::{KeyElement, NativeKey};
-use rkyv_keys::reading::Deserialize;
 use rkyv_scan::hash::FxHasher64;
 use std::alloc::Global;
 
 /// The error of a round trip.
 #[derive(Debug, Drop)]
-pub enum Lost {
+pub enum RoundTripError {
     /// The list could not be written.
     Write(WriteError<NoMemory>),
     /// The list could not be deserialized.
@@ -35,23 +35,23 @@ pub enum Lost {
 ///
 /// # Errors
 ///
-/// - `Lost::Write`: the error of `to_bytes_in`.
-/// - `Lost::Read`: the error of `deserialize_pairs`.
+/// - `RoundTripError::Write`: the error of `to_bytes_in`.
+/// - `RoundTripError::Read`: the error of `deserialize_pairs`.
 pub fn pairs_come_back<
     W: PlaceWidth,
     A: Serialize<VecWriter, W> + Drop,
     B: Serialize<VecWriter, W> + PartialEq + Drop,
->(alloc: Global, pairs: &OrderedPairs<A, B>) -> Result<bool, Lost>
+>(alloc: Global, pairs: &OrderedPairs<A, B>) -> Result<bool, RoundTripError>
 where
-    A::Archived: KeyElement + Deserialize<A> + StandsAlone<A>,
+    A::Archived: KeyElement + Deserialize<A> + RepresentsUniquely<A>,
     A: NativeKey<A::Archived>,
-    B::Archived: Deserialize<B> + StandsAlone<B>,
+    B::Archived: Deserialize<B> + RepresentsUniquely<B>,
     ensures { IfOk result (λ same. same ≡ true) }
 {
     pairs_read_back_are_listed::<A, B, A::Archived, B::Archived, FxHasher64, W>();
     let bytes = match to_bytes_in::<W, OrderedPairs<A, B>>(alloc, pairs) {
         Ok(bytes) => bytes,
-        Err(e) => return Err(Lost::Write(e)),
+        Err(e) => return Err(RoundTripError::Write(e)),
     };
     let root = match access_in::<W, IndexMapOf<A::Archived, B::Archived, FxHasher64, W>>(
         bytes.as_slice(),
@@ -61,7 +61,7 @@ where
     };
     match ArchivedIndexMap::of(root).deserialize_pairs::<A, B>(alloc) {
         Ok(back) => Ok(pairs.0 == back),
-        Err(e) => Err(Lost::Read(e)),
+        Err(e) => Err(RoundTripError::Read(e)),
     }
 }
 
@@ -72,21 +72,21 @@ where
 ///
 /// # Errors
 ///
-/// - `Lost::Write`: the error of `to_bytes_in`.
-/// - `Lost::Read`: the error of `deserialize_items`.
+/// - `RoundTripError::Write`: the error of `to_bytes_in`.
+/// - `RoundTripError::Read`: the error of `deserialize_items`.
 pub fn items_come_back<W: PlaceWidth, A: Serialize<VecWriter, W> + Drop>(
     alloc: Global,
     items: &OrderedItems<A>,
-) -> Result<bool, Lost>
+) -> Result<bool, RoundTripError>
 where
-    A::Archived: KeyElement + Deserialize<A> + StandsAlone<A>,
+    A::Archived: KeyElement + Deserialize<A> + RepresentsUniquely<A>,
     A: NativeKey<A::Archived>,
     ensures { IfOk result (λ same. same ≡ true) }
 {
     items_read_back_are_listed::<A, A::Archived, FxHasher64, W>();
     let bytes = match to_bytes_in::<W, OrderedItems<A>>(alloc, items) {
         Ok(bytes) => bytes,
-        Err(e) => return Err(Lost::Write(e)),
+        Err(e) => return Err(RoundTripError::Write(e)),
     };
     let root = match access_in::<W, IndexSetOf<A::Archived, FxHasher64, W>>(bytes.as_slice()) {
         Ok(root) => root,
@@ -94,6 +94,6 @@ where
     };
     match ArchivedIndexSet::of(root).deserialize_items::<A>(alloc) {
         Ok(back) => Ok(items.0 == back),
-        Err(e) => Err(Lost::Read(e)),
+        Err(e) => Err(RoundTripError::Read(e)),
     }
 }

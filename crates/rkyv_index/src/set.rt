@@ -3,16 +3,16 @@
 //! A set is the index map of its keys to the unit value. `writing` writes sets from iterators,
 //! `deserialize` returns a list of the keys, and `laws` has the law of that list.
 
+mod accessors;
 mod debug;
 pub mod deserialize;
 mod element;
 mod equality;
 pub mod laws;
-mod reading;
 pub mod writing;
 
 use crate::map::ArchivedIndexMap;
-use rkyv_base::element::Shaped;
+use rkyv_base::element::HasSpec;
 use rkyv_base::width::{Narrow, Word};
 use rkyv_scan::hash::FxHasher64;
 use std::alloc::AllocError;
@@ -27,15 +27,15 @@ pub struct IndexSetOf<K, H = FxHasher64, W = Narrow> {
 ///
 /// Its bytes are valid. It is the index map of its keys to the unit value, and holds its decoded
 /// header.
-pub struct ArchivedIndexSet<'a, K: Shaped, H = FxHasher64, W: Word = Narrow> {
+pub struct ArchivedIndexSet<'a, K: HasSpec, H = FxHasher64, W: Word = Narrow> {
     pub(crate) map: ArchivedIndexMap<'a, K, (), H, W>,
 }
 
-impl<'a, K: Shaped, H, W: Word> Clone for ArchivedIndexSet<'a, K, H, W> {
+impl<'a, K: HasSpec, H, W: Word> Clone for ArchivedIndexSet<'a, K, H, W> {
     #[inline]
     fn clone(&self) -> Result<ArchivedIndexSet<'a, K, H, W>, AllocError> {
         Ok(*self)
     }
 }
 
-impl<'a, K: Shaped, H, W: Word> Copy for ArchivedIndexSet<'a, K, H, W> {}
+impl<'a, K: HasSpec, H, W: Word> Copy for ArchivedIndexSet<'a, K, H, W> {}

@@ -1,18 +1,18 @@
 -- The comparison of the values at two positions.
 use Rattle.std.specs.Prelude.{◌≡◌, ℕ, Bool, true, List}
 use Rattle.std.specs.Bool.{Decides}
-use Rattle.rkyv_base.specs.Shape.{Shape, Standing}
+use Rattle.rkyv_base.specs.ElementSpec.{ElementSpec, ValidAt}
 
 -- a comparison of the value at a position of some bytes with one at a position of others
 abbrev pub Comparison : Type 0
 Comparison = List ℕ → ℕ → List ℕ → ℕ → Bool
 
 -- the comparison `same` is an equivalence of valid values
-pub record IsEquivalence (s : Shape) (same : Comparison) : Type 0 where
-  pub reflexive : (b : List ℕ) (p : ℕ) → Standing s b p → same b p b p ≡ true
-  pub symmetric : (b c : List ℕ) (p q : ℕ) → Standing s b p → Standing s c q → same b p c q ≡ true
+pub record IsEquivalence (s : ElementSpec) (same : Comparison) : Type 0 where
+  pub reflexive : (b : List ℕ) (p : ℕ) → ValidAt s b p → same b p b p ≡ true
+  pub symmetric : (b c : List ℕ) (p q : ℕ) → ValidAt s b p → ValidAt s c q → same b p c q ≡ true
       → same c q b p ≡ true
-  pub transitive : (b c d : List ℕ) (p q r : ℕ) → Standing s b p → Standing s c q → Standing s d r
+  pub transitive : (b c d : List ℕ) (p q r : ℕ) → ValidAt s b p → ValidAt s c q → ValidAt s d r
       → same b p c q ≡ true → same c q d r ≡ true → same b p d r ≡ true
 
 -- an equality of a value with itself alone
@@ -20,12 +20,13 @@ abbrev pub TellsApart : {V : Type 0} → (V → V → Bool) → Type 0
 TellsApart {V = V} equal = (v w : V) → Decides (equal v w) (v ≡ w)
 
 -- each value that the archived one represents is equal to each value that it equals
-abbrev pub EqualsOnce : {V : Type 0} → Shape → (List ℕ → ℕ → V → Type 0)
+abbrev pub EqualsOnce : {V : Type 0} → ElementSpec → (List ℕ → ℕ → V → Type 0)
     → (List ℕ → ℕ → V → Type 0) → (V → V → Bool) → Type 0
-EqualsOnce {V = V} s stands equals equal =
-    (v x : V) (b : List ℕ) (p : ℕ) → Standing s b p → stands b p v → equals b p x
+EqualsOnce {V = V} s represents equals equal =
+    (v x : V) (b : List ℕ) (p : ℕ) → ValidAt s b p → represents b p v → equals b p x
     → equal v x ≡ true
 
 -- the values that one archived value represents are equal
-abbrev pub StandsOnce : {V : Type 0} → Shape → (List ℕ → ℕ → V → Type 0) → (V → V → Bool) → Type 0
-StandsOnce s stands equal = EqualsOnce s stands stands equal
+abbrev pub RepresentsOnce : {V : Type 0} → ElementSpec → (List ℕ → ℕ → V → Type 0) → (V → V → Bool)
+    → Type 0
+RepresentsOnce s represents equal = EqualsOnce s represents represents equal

@@ -1,20 +1,20 @@
 -- The laws of keys and their queries.
 use Rattle.std.specs.Prelude.{◌≡◌, ℕ, ◌+◌, ◌≤◌, Bool, true, List}
 use Rattle.rkyv_scan.specs.Hash.{HasherCall}
-use Rattle.rkyv_base.specs.Bytes.{Same}
-use Rattle.rkyv_base.specs.Shape.{Shape, Standing}
+use Rattle.rkyv_base.specs.Bytes.{AgreeOn}
+use Rattle.rkyv_base.specs.ElementSpec.{ElementSpec, ValidAt}
 use Rattle.rkyv_keys.specs.Equality.{Comparison}
 
 -- the laws of a key. Keys that are the same make the same calls. These depend only on the bytes
 -- on which validity depends, and a copy of these bytes is the same key
-pub record IsKey (s : Shape) (same : Comparison) (calls : List ℕ → ℕ → List HasherCall) : Type
+pub record IsKey (s : ElementSpec) (same : Comparison) (calls : List ℕ → ℕ → List HasherCall) : Type
     0 where
-  pub alike : (b c : List ℕ) (p q : ℕ) → Standing s b p → Standing s c q → same b p c q ≡ true
+  pub same_calls : (b c : List ℕ) (p q : ℕ) → ValidAt s b p → ValidAt s c q → same b p c q ≡ true
       → calls b p ≡ calls c q
-  pub near : (b c : List ℕ) (p lo hi l : ℕ) → lo ≤ hi → s.holds b p lo hi l
-      → Same b c p (p + s.size) → Same b c lo l → calls b p ≡ calls c p
+  pub local : (b c : List ℕ) (p lo hi l : ℕ) → lo ≤ hi → s.holds b p lo hi l
+      → AgreeOn b c p (p + s.size) → AgreeOn b c lo l → calls b p ≡ calls c p
   pub copied : (b c : List ℕ) (p lo hi l : ℕ) → lo ≤ hi → s.holds b p lo hi l
-      → Same b c p (p + s.size) → Same b c lo l → same b p c p ≡ true
+      → AgreeOn b c p (p + s.size) → AgreeOn b c lo l → same b p c p ≡ true
 
 -- a value that can always be read
 abbrev pub ReadsAnywhere : {Q : Type 0} → Q → Type 0
@@ -22,17 +22,17 @@ ReadsAnywhere q = Unit {0}
 
 -- the laws of a query. It makes the calls of each key that it fits.
 -- It then fits the keys that are the same as that key, and no others
-pub record IsQuery {Q : Type 0} (s : Shape) (same : Comparison) (key_calls : List ℕ → ℕ
+pub record IsQuery {Q : Type 0} (s : ElementSpec) (same : Comparison) (key_calls : List ℕ → ℕ
     → List HasherCall)
     (can_read : Q → Type 0) (calls : Q → List HasherCall) (fits : Q → List ℕ → ℕ → Bool) : Type
     0 where
-  pub alike : (q : Q) (b : List ℕ) (p : ℕ) → can_read q → Standing s b p → fits q b p ≡ true
+  pub same_calls : (q : Q) (b : List ℕ) (p : ℕ) → can_read q → ValidAt s b p → fits q b p ≡ true
       → calls q ≡ key_calls b p
-  pub class : (q : Q) (b c : List ℕ) (p r : ℕ) → can_read q → Standing s b p → Standing s c r
+  pub respects_same : (q : Q) (b c : List ℕ) (p r : ℕ) → can_read q → ValidAt s b p → ValidAt s c r
       → fits q b p ≡ true → fits q c r ≡ same b p c r
 
 -- a value fits a key that represents another value if and only if the two are equal
-abbrev pub FitsItsEqual : {V : Type 0} → Shape → (List ℕ → ℕ → V → Type 0) → (V → V → Bool)
+abbrev pub FitsItsEqual : {V : Type 0} → ElementSpec → (List ℕ → ℕ → V → Type 0) → (V → V → Bool)
     → (V → List ℕ → ℕ → Bool) → Type 0
-FitsItsEqual {V = V} s stands equal fits = (q v : V) (b : List ℕ) (p : ℕ) → Standing s b p
-    → stands b p v → fits q b p ≡ equal q v
+FitsItsEqual {V = V} s represents equal fits = (q v : V) (b : List ℕ) (p : ℕ) → ValidAt s b p
+    → represents b p v → fits q b p ≡ equal q v

@@ -13,3 +13,4 @@ pub mod OfViews
 pub mod Places
 pub mod Reading
 pub mod Ready
+pub mod Lemmas

@@ -3,20 +3,16 @@ use Rattle.std.specs.Prelude.{ℕ, Bool, List, [], ◌∷◌}
 use Rattle.rkyv_scan.specs.Hash.{HasherCall}
 use Rattle.rkyv_scan.specs.Laws.{IsFixed}
 use Rattle.rkyv_base.specs.Bytes.{number_at}
-use Rattle.rkyv_base.specs.Scalar.{Encoding, IsScalar, ScalarStands, scalar_near}
-use Rattle.rkyv_base.specs.Shape.{Shape}
+use Rattle.rkyv_base.specs.Scalar.{Encoding, IsScalar, ScalarRepresents}
+use Rattle.rkyv_base.specs.Lemmas.Scalar.{scalar_local}
+use Rattle.rkyv_base.specs.ElementSpec.{ElementSpec}
 use Rattle.rkyv_keys.specs.Equality.{Comparison, IsEquivalence, TellsApart}
 use Rattle.rkyv_keys.specs.Keys.{FitsItsEqual, IsKey, IsQuery, ReadsAnywhere}
-use Rattle.rkyv_keys.specs.Fixed.{MakesFixedCalls, one_fixed}
-use Rattle.rkyv_keys.specs.OfValues.{
-  values_same,
-  value_calls,
-  value_fits,
-  value_equivalence,
-  value_key,
-  value_query,
-  value_fits_its_equal,
-}
+use Rattle.rkyv_keys.specs.Fixed.{MakesFixedCalls}
+use Rattle.rkyv_keys.specs.Lemmas.Fixed.{one_fixed}
+use Rattle.rkyv_keys.specs.OfValues.{values_same, value_calls, value_fits}
+use Rattle.rkyv_keys.specs.Lemmas.OfValues.{value_equivalence, value_key, value_query}
+use Rattle.rkyv_keys.specs.Lemmas.OfValues.{value_fits_its_equal}
 
 -- the list of the one call of a scalar
 abbrev pub one_call : {V : Type 0} → (V → HasherCall) → V → List HasherCall
@@ -39,13 +35,13 @@ module _ {V : Type 0} (e : Encoding V) where
   abbrev pub scalar_fits : (V → V → Bool) → V → List ℕ → ℕ → Bool
   scalar_fits equal = value_fits scalar_at equal (λ v. v)
 
-module _ {V : Type 0} (s : Shape) (e : Encoding V) where
+module _ {V : Type 0} (s : ElementSpec) (e : Encoding V) where
   pub scalar_fixed : (call : V → HasherCall) → ((v : V) → IsFixed (call v))
       → MakesFixedCalls s (scalar_calls e call)
   scalar_fixed call fixed b p h = one_fixed (call (scalar_at e b p)) (fixed (scalar_at e b p))
 
   module _ (equal : V → V → Bool) where
-    pub scalar_fits_its_equal : FitsItsEqual s (ScalarStands e) equal
+    pub scalar_fits_its_equal : FitsItsEqual s (ScalarRepresents e) equal
         (scalar_fits e equal)
     scalar_fits_its_equal = value_fits_its_equal s (scalar_at e) equal (λ v. v)
 
@@ -56,7 +52,7 @@ module _ {V : Type 0} (s : Shape) (e : Encoding V) where
       pub scalar_key : (call : V → HasherCall) → IsScalar s e
           → IsKey s (scalar_same e equal) (scalar_calls e call)
       scalar_key call laws = value_key s (scalar_at e) equal tells (one_call call)
-          (scalar_near s e laws)
+          (scalar_local s e laws)
 
       pub scalar_query : (call : V → HasherCall)
           → IsQuery s (scalar_same e equal) (scalar_calls e call) ReadsAnywhere

@@ -1,12 +1,8 @@
 -- Elements with one value at a position, which is compared and hashed as a whole:
 -- scalars, text and the unit value.
-use Rattle.std.specs.Prelude.{◌≡◌, ℕ, Bool, true, List}
-use Rattle.std.proofs.Common.{refl, sym, ◌∙◌, ap}
+use Rattle.std.specs.Prelude.{◌≡◌, ℕ, Bool, List}
 use Rattle.rkyv_scan.specs.Hash.{HasherCall}
-use Rattle.rkyv_base.specs.Shape.{Shape}
-use Rattle.rkyv_base.specs.Format.{StandsNear}
-use Rattle.rkyv_keys.specs.Equality.{Comparison, IsEquivalence, TellsApart}
-use Rattle.rkyv_keys.specs.Keys.{IsKey, IsQuery, FitsItsEqual, ReadsAnywhere}
+use Rattle.rkyv_keys.specs.Equality.{Comparison}
 
 module _ {V : Type 0} (value_at : List ℕ → ℕ → V) where
   -- the values at both positions are equal
@@ -24,47 +20,3 @@ module _ {V : Type 0} (value_at : List ℕ → ℕ → V) where
   -- the value at position `p` is that of `q`
   abbrev pub IsValueAt : {Q : Type 0} → (Q → V) → List ℕ → ℕ → Q → Type 0
   IsValueAt seen b p q = value_at b p ≡ seen q
-
-module _ {V : Type 0} (s : Shape) (value_at : List ℕ → ℕ → V) (equal : V → V → Bool)
-    (tells : TellsApart equal) where
-  same_value : (v w : V) → equal v w ≡ true → v ≡ w
-  same_value v w h = (tells v w).0 h
-
-  value_same : (v w : V) → v ≡ w → equal v w ≡ true
-  value_same v w h = (tells v w).1 h
-
-  pub value_equivalence : IsEquivalence s (values_same value_at equal)
-  value_equivalence = record {
-    reflexive = λ b p h. value_same (value_at b p) (value_at b p) refl;
-    symmetric = λ b c p q h g s. value_same (value_at c q) (value_at b p)
-        (sym (same_value (value_at b p) (value_at c q) s));
-    transitive = λ b c d p q r h g k s t. value_same (value_at b p) (value_at d r)
-        (same_value (value_at b p) (value_at c q) s ∙ same_value (value_at c q) (value_at d r) t);
-  }
-
-  module _ (calls : V → List HasherCall) where
-    pub value_key : StandsNear s (IsValueAt value_at (λ v. v))
-        → IsKey s (values_same value_at equal) (value_calls value_at calls)
-    value_key rests = record {
-      alike = λ b c p q h g s. ap calls (same_value (value_at b p) (value_at c q) s);
-      near = λ b c p lo hi l o h fixed part. ap calls
-          (sym (rests (value_at b p) b c p lo hi l o h fixed part refl));
-      copied = λ b c p lo hi l o h fixed part. value_same (value_at b p) (value_at c p)
-          (sym (rests (value_at b p) b c p lo hi l o h fixed part refl));
-    }
-
-    pub value_query : {Q : Type 0} (seen : Q → V)
-        → IsQuery s (values_same value_at equal) (value_calls value_at calls) ReadsAnywhere
-        (λ q. calls (seen q)) (value_fits value_at equal seen)
-    value_query seen = record {
-      alike = λ q b p r h f. ap calls (same_value (seen q) (value_at b p) f);
-      class = λ q b c p r can h g f. ap (λ v. equal v (value_at c r))
-          (same_value (seen q) (value_at b p) f);
-    }
-
--- the value that was written is the one that is compared
-pub value_fits_its_equal : {V Q : Type 0} (s : Shape) (value_at : List ℕ → ℕ → V) (equal : V → V
-    → Bool) (seen : Q → V)
-    → FitsItsEqual s (IsValueAt value_at seen) (λ q v. equal (seen q) (seen v))
-    (value_fits value_at equal seen)
-value_fits_its_equal s value_at equal seen q v b p h st = ap (equal (seen q)) st

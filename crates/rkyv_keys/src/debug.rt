@@ -4,10 +4,10 @@
 //! has no condition.
 
 ghost use Rattle.std.specs.Prelude.{◌≡◌, MatchOption};
-ghost use Rattle.rkyv_base.specs.Entry.{entry_shape};
-ghost use Rattle.rkyv_base.specs.Empty.{unit_shape};
-ghost use Rattle.rkyv_base.specs.Shape.{Viewed};
-ghost use Rattle.rkyv_base.specs.View.{IsAt, IsView};
+ghost use Rattle.rkyv_base.specs.Entry.{entry_spec};
+ghost use Rattle.rkyv_base.specs.Empty.{unit_spec};
+ghost use Rattle.rkyv_base.specs.ElementSpec.{Viewable};
+ghost use Rattle.rkyv_base.specs.View.{IsAt, IsValidView};
 
 use crate::scalars::ScalarKey;
 use rkyv_base::element::{Element, PartRange};
@@ -23,17 +23,17 @@ pub trait ElementDebug: Element {
     ///
     /// - The view is of a valid value.
     fn debug<W: Write>(view: View<'_, Self>, f: &mut Formatter<W>) -> fmt::Result
-        requires { IsView Self.shape view };
+        requires { IsValidView Self.spec view };
 }
 
 /// Validates the value at a position of some bytes, and returns a view of it.
 ///
 /// Returns `None` if there is no valid value at the position. Its parts can be anywhere before it.
 #[inline]
-pub fn standing<T: Element>(bytes: &[u8], pos: u64) -> Option<View<'_, T>>
+pub fn valid_at<T: Element>(bytes: &[u8], pos: u64) -> Option<View<'_, T>>
     ensures { MatchOption result
-        (Viewed T.shape bytes.now pos → ⊥)
-        (λ v. IsAt v bytes.entry pos × Viewed T.shape bytes.now pos) }
+        (Viewable T.spec bytes.now pos → ⊥)
+        (λ v. IsAt v bytes.entry pos × Viewable T.spec bytes.now pos) }
 {
     let len = bytes.len() as u64;
     let size = T::size() as u64;
@@ -74,7 +74,7 @@ impl<'a, T: ElementDebug> Shown<'a, T> {
 
 impl<'a, T: ElementDebug> Debug for Shown<'a, T> {
     fn fmt<W: Write>(&self, f: &mut Formatter<W>) -> fmt::Result {
-        match standing::<T>(self.view.bytes(), self.view.pos()) {
+        match valid_at::<T>(self.view.bytes(), self.view.pos()) {
             Some(view) => T::debug(view, f),
             None => Err(fmt::Error),
         }
@@ -83,7 +83,7 @@ impl<'a, T: ElementDebug> Debug for Shown<'a, T> {
 
 impl<N: ScalarKey + Debug> ElementDebug for N {
     fn debug<W: Write>(view: View<'_, N>, f: &mut Formatter<W>) -> fmt::Result
-        requires { IsView N.shape view }
+        requires { IsValidView N.spec view }
     {
         view.to_native().fmt(f)
     }
@@ -91,7 +91,7 @@ impl<N: ScalarKey + Debug> ElementDebug for N {
 
 impl ElementDebug for () {
     fn debug<W: Write>(_view: View<'_, ()>, f: &mut Formatter<W>) -> fmt::Result
-        requires { IsView unit_shape _view }
+        requires { IsValidView unit_spec _view }
     {
         ().fmt(f)
     }
@@ -99,7 +99,7 @@ impl ElementDebug for () {
 
 impl<K: ElementDebug, V: ElementDebug> ElementDebug for Entry<K, V> {
     fn debug<W: Write>(view: View<'_, Entry<K, V>>, f: &mut Formatter<W>) -> fmt::Result
-        requires { IsView (entry_shape K.shape V.shape) view }
+        requires { IsValidView (entry_spec K.spec V.spec) view }
     {
         f.debug_tuple("")
             .field(&Shown::new(view.key()))

@@ -4,35 +4,26 @@
 //! of queries.
 
 ghost use Rattle.std.specs.Prelude.{◌≡◌, IsTrue, ◌↔◌, MatchResult};
-ghost use Rattle.rkyv_base.specs.Entry.{entry_shape};
-ghost use Rattle.rkyv_base.specs.Pairs.{PairStands, pair_is_format};
-ghost use Rattle.rkyv_base.specs.View.{IsView, StandsAt};
+ghost use Rattle.rkyv_base.specs.Entry.{entry_spec};
+ghost use Rattle.rkyv_base.specs.Pairs.{PairRepresents};
+ghost use Rattle.rkyv_base.specs.Lemmas.Pairs.{pair_is_format};
+ghost use Rattle.rkyv_base.specs.View.{IsValidView, AtView};
 ghost use Rattle.rkyv_keys.specs.Places.{at_view, at_views};
 ghost use Rattle.rkyv_keys.specs.Calls.{after_calls};
-ghost use Rattle.rkyv_keys.specs.Fixed.{entry_fixed};
-ghost use Rattle.rkyv_keys.specs.OfEntries.{
-  BothRead,
-  entry_alone,
-  entry_calls,
-  entry_equals,
-  entry_equals_once,
-  entry_equivalence,
-  entry_fits,
-  entry_fits_its_equal,
-  entry_key,
-  entry_query,
-  entry_refuses,
-  entry_same,
-  pair_calls,
-};
+ghost use Rattle.rkyv_keys.specs.Lemmas.Fixed.{entry_fixed};
+ghost use Rattle.rkyv_keys.specs.OfEntries.{BothRead, entry_calls, entry_equals, entry_fits};
+ghost use Rattle.rkyv_keys.specs.OfEntries.{entry_refuses, entry_same, pair_calls};
+ghost use Rattle.rkyv_keys.specs.Lemmas.OfEntries.{entry_alone, entry_equals_once};
+ghost use Rattle.rkyv_keys.specs.Lemmas.OfEntries.{entry_equivalence, entry_fits_its_equal};
+ghost use Rattle.rkyv_keys.specs.Lemmas.OfEntries.{entry_key, entry_query};
 
+use crate::deserialize::Deserialize;
 use crate::equality::{
-    ElementEq, ElementEquiv, EqualsAlone, EqualsWritten, MatchesNative, StandsAlone,
+    ElementEq, ElementEquiv, EqualsUniquely, EqualsWritten, MatchesNative, RepresentsUniquely,
 };
 use crate::hash::KeyHash;
 use crate::keys::{FixedKey, KeyElement, NativeKey, Query};
-use crate::reading::Deserialize;
-use rkyv_base::element::StandsFor;
+use rkyv_base::element::Represents;
 use rkyv_base::entry::Entry;
 use rkyv_base::errors::ReadError;
 use rkyv_base::view::View;
@@ -53,13 +44,13 @@ impl<A: KeyHash, B: KeyHash> KeyHash for (A, B) {
 }
 
 impl<K: ElementEq, V: ElementEq> ElementEq for Entry<K, V> {
-    ghost same = { entry_same K.shape V.shape K.same V.same };
+    ghost same = { entry_same K.spec V.spec K.same V.same };
 
     #[inline]
     fn same(a: View<'_, Entry<K, V>>, b: View<'_, Entry<K, V>>) -> bool
-        requires a { IsView (entry_shape K.shape V.shape) a }
-        requires b { IsView (entry_shape K.shape V.shape) b }
-        ensures { result ≡ at_views (entry_same K.shape V.shape K.same V.same) a.entry b.entry }
+        requires a { IsValidView (entry_spec K.spec V.spec) a }
+        requires b { IsValidView (entry_spec K.spec V.spec) b }
+        ensures { result ≡ at_views (entry_same K.spec V.spec K.same V.same) a.entry b.entry }
     {
         K::same(a.key(), b.key()) && V::same(a.value(), b.value())
     }
@@ -70,12 +61,12 @@ impl<K: ElementEquiv, V: ElementEquiv> ElementEquiv for Entry<K, V> {
 }
 
 impl<K: KeyElement, V: KeyElement> KeyElement for Entry<K, V> {
-    ghost key_calls = { entry_calls K.shape V.shape K.key_calls V.key_calls };
+    ghost key_calls = { entry_calls K.spec V.spec K.key_calls V.key_calls };
 
     #[inline]
     fn hash_view<H: KeyHasher>(view: View<'_, Entry<K, V>>, state: &mut H)
-        requires { IsView (entry_shape K.shape V.shape) view }
-        ensures { let calls = entry_calls K.shape V.shape K.key_calls V.key_calls in
+        requires { IsValidView (entry_spec K.spec V.spec) view }
+        ensures { let calls = entry_calls K.spec V.spec K.key_calls V.key_calls in
             state.new ≡ after_calls H.hasher state.old (at_view calls view.entry) }
     {
         K::hash_view(view.key(), state);
@@ -86,18 +77,18 @@ impl<K: KeyElement, V: KeyElement> KeyElement for Entry<K, V> {
 }
 
 impl<K: FixedKey, V: FixedKey> FixedKey for Entry<K, V> {
-    ghost fixed = { entry_fixed K.shape V.shape K.laws V.laws
+    ghost fixed = { entry_fixed K.spec V.spec K.laws V.laws
         K.key_calls V.key_calls K.fixed V.fixed };
 }
 
 impl<K: KeyElement, V: KeyElement, A: Query<K>, B: Query<V>> Query<Entry<K, V>> for (A, B) {
-    ghost fits = { entry_fits K.shape V.shape A.fits B.fits };
+    ghost fits = { entry_fits K.spec V.spec A.fits B.fits };
 
     #[inline]
     fn same(&self, key: View<'_, Entry<K, V>>) -> bool
         requires query { BothRead A.can_read B.can_read self.now }
-        requires key { IsView (entry_shape K.shape V.shape) key }
-        ensures { result ≡ at_view (entry_fits K.shape V.shape A.fits B.fits self.now) key.entry }
+        requires key { IsValidView (entry_spec K.spec V.spec) key }
+        ensures { result ≡ at_view (entry_fits K.spec V.spec A.fits B.fits self.now) key.entry }
     {
         self.0.same(key.key()) && self.1.same(key.value())
     }
@@ -106,39 +97,39 @@ impl<K: KeyElement, V: KeyElement, A: Query<K>, B: Query<V>> Query<Entry<K, V>> 
 }
 
 impl<
-    K: KeyElement + StandsFor<A>,
-    V: KeyElement + StandsFor<B>,
+    K: KeyElement + Represents<A>,
+    V: KeyElement + Represents<B>,
     A: NativeKey<K>,
     B: NativeKey<V>,
 > NativeKey<Entry<K, V>> for (A, B) {
     ghost native = { entry_fits_its_equal K.laws V.laws
-        K.stands V.stands A.eq B.eq A.fits B.fits A.native B.native };
+        K.represents V.represents A.eq B.eq A.fits B.fits A.native B.native };
 
     ghost reads = { λ key. (A.reads key.0, B.reads key.1) };
 }
 
 impl<A, B, K: MatchesNative<A>, V: MatchesNative<B>> MatchesNative<(A, B)> for Entry<K, V> {
-    ghost equals = { entry_equals K.shape V.shape K.equals V.equals };
+    ghost equals = { entry_equals K.spec V.spec K.equals V.equals };
 
     #[inline]
     fn eq_native(view: View<'_, Entry<K, V>>, value: &(A, B)) -> bool
-        requires { IsView (entry_shape K.shape V.shape) view }
+        requires { IsValidView (entry_spec K.spec V.spec) view }
         ensures { IsTrue result
-            ↔ StandsAt (entry_equals K.shape V.shape K.equals V.equals) view.entry value.now }
+            ↔ AtView (entry_equals K.spec V.spec K.equals V.equals) view.entry value.now }
     {
         K::eq_native(view.key(), &value.0) && V::eq_native(view.value(), &value.1)
     }
 }
 
 impl<A: Drop, B, K: Deserialize<A>, V: Deserialize<B>> Deserialize<(A, B)> for Entry<K, V> {
-    ghost refuses = { entry_refuses K.shape V.shape K.refuses V.refuses };
+    ghost refuses = { entry_refuses K.spec V.spec K.refuses V.refuses };
 
     #[inline]
     fn deserialize(alloc: Global, view: View<'_, Entry<K, V>>) -> Result<(A, B), ReadError>
-        requires { IsView (entry_shape K.shape V.shape) view }
+        requires { IsValidView (entry_spec K.spec V.spec) view }
         ensures { MatchResult result
-            (StandsAt (PairStands K.shape V.shape K.stands V.stands) view.entry)
-            (StandsAt (entry_refuses K.shape V.shape K.refuses V.refuses) view.entry) }
+            (AtView (PairRepresents K.spec V.spec K.represents V.represents) view.entry)
+            (AtView (entry_refuses K.spec V.spec K.refuses V.refuses) view.entry) }
     {
         let key = K::deserialize(alloc, view.key())?;
         let value = V::deserialize(alloc, view.value())?;
@@ -151,17 +142,21 @@ where
     A::Archived: MatchesNative<A>,
     B::Archived: MatchesNative<B>,
 {
-    ghost equal = { pair_is_format A.Archived.shape B.Archived.shape A.Archived.laws B.Archived.laws
+    ghost equal = { pair_is_format A.Archived.spec B.Archived.spec A.Archived.laws B.Archived.laws
         A.Archived.equals B.Archived.equals A.format B.format A.equal B.equal };
 }
 
-impl<A: PartialEq, B: PartialEq, K: EqualsAlone<A>, V: EqualsAlone<B>> EqualsAlone<(A, B)>
+impl<A: PartialEq, B: PartialEq, K: EqualsUniquely<A>, V: EqualsUniquely<B>> EqualsUniquely<(A, B)>
     for Entry<K, V> {
-    ghost exact = { entry_equals_once K.laws V.laws K.stands V.stands K.equals V.equals
+    ghost exact = { entry_equals_once K.laws V.laws K.represents V.represents K.equals V.equals
         A.eq B.eq K.exact V.exact };
 }
 
-impl<A: PartialEq, B: PartialEq, K: StandsAlone<A>, V: StandsAlone<B>> StandsAlone<(A, B)>
-    for Entry<K, V> {
-    ghost alone = { entry_alone K.laws V.laws K.stands V.stands A.eq B.eq K.alone V.alone };
+impl<
+    A: PartialEq,
+    B: PartialEq,
+    K: RepresentsUniquely<A>,
+    V: RepresentsUniquely<B>,
+> RepresentsUniquely<(A, B)> for Entry<K, V> {
+    ghost alone = { entry_alone K.laws V.laws K.represents V.represents A.eq B.eq K.alone V.alone };
 }

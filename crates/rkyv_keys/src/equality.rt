@@ -2,17 +2,17 @@
 //!
 //! - `ElementEq` compares two archived values, and `ElementEquiv` has the laws of an equivalence.
 //! - `MatchesNative` compares an archived value with a native one.
-//!   `EqualsWritten` and `EqualsAlone` have its laws for written values.
-//! - `StandsAlone` states that the native values of one archived value are equal.
+//!   `EqualsWritten` and `EqualsUniquely` have its laws for written values.
+//! - `RepresentsUniquely` states that the native values of one archived value are equal.
 
 ghost use Rattle.std.specs.Prelude.{◌≡◌, ℕ, List, IsTrue, ◌↔◌};
 ghost use Rattle.rkyv_base.specs.Format.{IsFormat};
-ghost use Rattle.rkyv_base.specs.View.{IsView, StandsAt};
+ghost use Rattle.rkyv_base.specs.View.{IsValidView, AtView};
 ghost use Rattle.rkyv_keys.specs.Places.{at_views};
-ghost use Rattle.rkyv_keys.specs.Equality.{Comparison, EqualsOnce, IsEquivalence, StandsOnce};
+ghost use Rattle.rkyv_keys.specs.Equality.{Comparison, EqualsOnce, IsEquivalence, RepresentsOnce};
 
 use rkyv_base::archive::Archive;
-use rkyv_base::element::{Element, StandsFor};
+use rkyv_base::element::{Element, Represents};
 use rkyv_base::view::View;
 use rkyv_base::width::Width;
 
@@ -25,8 +25,8 @@ use rkyv_base::width::Width;
 ///     ghost same = { low_same };
 ///
 ///     fn same(a: View<'_, LowByte>, b: View<'_, LowByte>) -> bool
-///         requires a { IsView low_shape a }
-///         requires b { IsView low_shape b }
+///         requires a { IsValidView low_spec a }
+///         requires b { IsValidView low_spec b }
 ///         ensures { result ≡ at_views low_same a.entry b.entry }
 ///     {
 ///         number(a) % 256 == number(b) % 256
@@ -44,8 +44,8 @@ pub trait ElementEq: Element {
     /// - `a` is the view of a valid value.
     /// - `b` is the view of a valid value.
     fn same(a: View<'_, Self>, b: View<'_, Self>) -> bool
-        requires a { IsView Self.shape a }
-        requires b { IsView Self.shape b }
+        requires a { IsValidView Self.spec a }
+        requires b { IsValidView Self.spec b }
         ensures { result ≡ at_views same a.entry b.entry };
 }
 
@@ -59,11 +59,11 @@ pub trait ElementEq: Element {
 /// }
 /// ```
 pub trait ElementEquiv: ElementEq {
-    ghost equivalence: { IsEquivalence Self.shape Self.same };
+    ghost equivalence: { IsEquivalence Self.spec Self.same };
 }
 
 /// An element whose values can be compared in place with values of the type `V`.
-pub trait MatchesNative<V>: StandsFor<V> {
+pub trait MatchesNative<V>: Represents<V> {
     // The value at a position equals a native value.
     ghost equals: { List ℕ → ℕ → V → Type 0 };
 
@@ -73,8 +73,8 @@ pub trait MatchesNative<V>: StandsFor<V> {
     ///
     /// - The view is of a valid value.
     fn eq_native(view: View<'_, Self>, value: &V) -> bool
-        requires { IsView Self.shape view }
-        ensures { IsTrue result ↔ StandsAt equals view.entry value.now };
+        requires { IsValidView Self.spec view }
+        ensures { IsTrue result ↔ AtView equals view.entry value.now };
 }
 
 /// A type whose values equal their archived form, in archives of the width `W`.
@@ -84,7 +84,7 @@ where
 {
     // In each archive that has the bytes of a written value,
     // the archived value equals the written one.
-    ghost equal: { IsFormat Self.Archived.shape Self.Archived.equals Self.format };
+    ghost equal: { IsFormat Self.Archived.spec Self.Archived.equals Self.format };
 }
 
 /// An element whose values equal only native values that are equal to the represented ones.
@@ -94,13 +94,13 @@ where
 ///
 /// std's maps and sets don't implement it. A caller knows that the keys of an archived map
 /// are distinct, and a law can't.
-pub trait EqualsAlone<V: PartialEq>: MatchesNative<V> {
-    ghost exact: { EqualsOnce Self.shape Self.stands Self.equals V.eq };
+pub trait EqualsUniquely<V: PartialEq>: MatchesNative<V> {
+    ghost exact: { EqualsOnce Self.spec Self.represents Self.equals V.eq };
 }
 
 /// An element whose values each represent only native values that are equal to one another.
 ///
 /// A deserialized value is therefore equal to the written one.
-pub trait StandsAlone<V: PartialEq>: StandsFor<V> {
-    ghost alone: { StandsOnce Self.shape Self.stands V.eq };
+pub trait RepresentsUniquely<V: PartialEq>: Represents<V> {
+    ghost alone: { RepresentsOnce Self.spec Self.represents V.eq };
 }

@@ -5,7 +5,7 @@
 
 ghost use Rattle.std.specs.Prelude.{◌≡◌, ℕ, Bool, List};
 ghost use Rattle.rkyv_scan.specs.Hash.{HasherCall};
-ghost use Rattle.rkyv_base.specs.View.{IsView};
+ghost use Rattle.rkyv_base.specs.View.{IsValidView};
 ghost use Rattle.rkyv_keys.specs.Places.{at_view};
 ghost use Rattle.rkyv_keys.specs.Calls.{after_calls};
 ghost use Rattle.rkyv_keys.specs.Fixed.{MakesFixedCalls};
@@ -13,7 +13,7 @@ ghost use Rattle.rkyv_keys.specs.Keys.{FitsItsEqual, IsKey, IsQuery};
 
 use crate::equality::ElementEquiv;
 use crate::hash::KeyHash;
-use rkyv_base::element::StandsFor;
+use rkyv_base::element::Represents;
 use rkyv_base::view::View;
 use rkyv_scan::hash::KeyHasher;
 
@@ -26,7 +26,7 @@ use rkyv_scan::hash::KeyHasher;
 ///     ghost key_calls = { low_calls };
 ///
 ///     fn hash_view<H: KeyHasher>(view: View<'_, LowByte>, state: &mut H)
-///         requires { IsView low_shape view }
+///         requires { IsValidView low_spec view }
 ///         ensures { state.new ≡ after_calls H.hasher state.old (at_view low_calls view.entry) }
 ///     {
 ///         state.write_u8((number(view) % 256) as u8);
@@ -45,10 +45,10 @@ pub trait KeyElement: ElementEquiv {
     ///
     /// - The view is of a valid value.
     fn hash_view<H: KeyHasher>(view: View<'_, Self>, state: &mut H)
-        requires { IsView Self.shape view }
+        requires { IsValidView Self.spec view }
         ensures { state.new ≡ after_calls H.hasher state.old (at_view key_calls view.entry) };
 
-    ghost key: { IsKey Self.shape Self.same key_calls };
+    ghost key: { IsKey Self.spec Self.same key_calls };
 }
 
 /// A value by which a key of the element `K` is looked up.
@@ -60,7 +60,7 @@ pub trait KeyElement: ElementEquiv {
 ///     ghost fits = { low_fits (λ q. q.0) };
 ///
 ///     fn same(&self, key: View<'_, LowByte>) -> bool
-///         requires { IsView low_shape key }
+///         requires { IsValidView low_spec key }
 ///         ensures { result ≡ at_view (low_fits (λ q. q.0) self.now) key.entry }
 ///     {
 ///         u32::from(self.0) == number(key) % 256
@@ -81,10 +81,10 @@ pub trait Query<K: KeyElement>: KeyHash {
     /// - The view is of a valid key.
     fn same(&self, key: View<'_, K>) -> bool
         requires query { Self.can_read self.now }
-        requires key { IsView K.shape key }
+        requires key { IsValidView K.spec key }
         ensures { result ≡ at_view (fits self.now) key.entry };
 
-    ghost query: { IsQuery K.shape K.same K.key_calls Self.can_read Self.calls fits };
+    ghost query: { IsQuery K.spec K.same K.key_calls Self.can_read Self.calls fits };
 }
 
 /// A type whose values are archived as keys of the element `K`, and which look these up.
@@ -98,8 +98,8 @@ pub trait Query<K: KeyElement>: KeyHash {
 ///     ghost reads = { λ key. tt };
 /// }
 /// ```
-pub trait NativeKey<K: KeyElement + StandsFor<Self>>: Query<K> + Eq {
-    ghost native: { FitsItsEqual K.shape K.stands Self.eq Self.fits };
+pub trait NativeKey<K: KeyElement + Represents<Self>>: Query<K> + Eq {
+    ghost native: { FitsItsEqual K.spec K.represents Self.eq Self.fits };
 
     // A native key can always be read.
     ghost reads: { (key : Self) → Self.can_read key };
@@ -109,5 +109,5 @@ pub trait NativeKey<K: KeyElement + StandsFor<Self>>: Query<K> + Eq {
 ///
 /// Two hashers that differ in these calls alone hash it alike. All keys of this crate implement it.
 pub trait FixedKey: KeyElement {
-    ghost fixed: { MakesFixedCalls Self.shape Self.key_calls };
+    ghost fixed: { MakesFixedCalls Self.spec Self.key_calls };
 }

@@ -11,21 +11,21 @@ ghost use Rattle.rkyv_keys.specs.Ready.{HashesBy};
 
 use crate::hash::KeyHash;
 use crate::keys::{KeyElement, NativeKey, Query};
-use rkyv_base::element::StandsFor;
+use rkyv_base::element::Represents;
 
 /// States that a native key makes the calls of each archived key that represents it.
-pub fn native_keys_hash_as_written<K: KeyElement + StandsFor<V>, V: NativeKey<K>>()
-    ensures { HashesAsWritten K.shape K.stands K.key_calls V.can_read V.calls }
+pub fn native_keys_hash_as_written<K: KeyElement + Represents<V>, V: NativeKey<K>>()
+    ensures { HashesAsWritten K.spec K.represents K.key_calls V.can_read V.calls }
 {}
 
 /// States that a query fits all archived keys of one native value, or none.
-pub fn queries_ask_for_values<K: KeyElement + StandsFor<V>, V: NativeKey<K>, Q: Query<K>>()
-    ensures { AsksForValues K.shape K.stands V.can_read Q.can_read Q.fits }
+pub fn queries_ask_for_values<K: KeyElement + Represents<V>, V: NativeKey<K>, Q: Query<K>>()
+    ensures { AsksForValues K.spec K.represents V.can_read Q.can_read Q.fits }
 {}
 
 /// States that the keys that a query fits depend only on the bytes of the keys and their parts.
 pub fn queries_rest_on_keys<K: KeyElement, Q: Query<K>>()
-    ensures { RestsOnKeys K.shape Q.can_read Q.fits }
+    ensures { RestsOnKeys K.spec Q.can_read Q.fits }
 {}
 
 /// States that a number is hashed by the call of its own type.

@@ -11,22 +11,22 @@
 #![tactic(auto)]
 
 pub mod debug;
+pub mod deserialize;
 pub mod entries;
 pub mod equality;
 pub mod hash;
 pub mod keys;
 pub mod laws;
-pub mod reading;
 pub mod scalars;
 pub mod texts;
 pub mod units;
 pub mod views;
 
-pub use debug::{ElementDebug, Shown, standing};
+pub use debug::{ElementDebug, Shown, valid_at};
+pub use deserialize::Deserialize;
 pub use equality::{
-    ElementEq, ElementEquiv, EqualsAlone, EqualsWritten, MatchesNative, StandsAlone,
+    ElementEq, ElementEquiv, EqualsUniquely, EqualsWritten, MatchesNative, RepresentsUniquely,
 };
 pub use hash::{KeyHash, hash_value};
 pub use keys::{FixedKey, KeyElement, NativeKey, Query};
-pub use reading::Deserialize;
 pub use scalars::ScalarKey;

@@ -7,11 +7,12 @@ ghost use Rattle.std.specs.Prelude.{◌≡◌, IsTrue, ◌↔◌, MatchResult};
 ghost use Rattle.std.specs.Cmp.{booleans_Decides, signed_Decides, unsigned_Decides};
 ghost use Rattle.rkyv_scan.specs.Hash.{HasherCall, I8, I16, I32, I64, U8, U16, U32, U64};
 ghost use Rattle.rkyv_scan.specs.Laws.{IsFixed};
-ghost use Rattle.rkyv_base.specs.Scalar.{ScalarStands, scalar_is_format};
-ghost use Rattle.rkyv_base.specs.View.{IsView, StandsAt};
+ghost use Rattle.rkyv_base.specs.Scalar.{ScalarRepresents};
+ghost use Rattle.rkyv_base.specs.Lemmas.Scalar.{scalar_is_format};
+ghost use Rattle.rkyv_base.specs.View.{IsValidView, AtView};
 ghost use Rattle.rkyv_keys.specs.Places.{at_view, at_views};
 ghost use Rattle.rkyv_keys.specs.Calls.{after_calls, bool_call};
-ghost use Rattle.rkyv_keys.specs.Asking.{native_alone};
+ghost use Rattle.rkyv_keys.specs.Lemmas.Asking.{native_alone};
 ghost use Rattle.rkyv_keys.specs.Equality.{TellsApart};
 ghost use Rattle.rkyv_keys.specs.Reading.{nothing_fails};
 ghost use Rattle.rkyv_keys.specs.OfScalars.{
@@ -26,12 +27,12 @@ ghost use Rattle.rkyv_keys.specs.OfScalars.{
   scalar_same,
 };
 
+use crate::deserialize::Deserialize;
 use crate::equality::{
-    ElementEq, ElementEquiv, EqualsAlone, EqualsWritten, MatchesNative, StandsAlone,
+    ElementEq, ElementEquiv, EqualsUniquely, EqualsWritten, MatchesNative, RepresentsUniquely,
 };
 use crate::hash::KeyHash;
 use crate::keys::{FixedKey, KeyElement, NativeKey, Query};
-use crate::reading::Deserialize;
 use rkyv_base::errors::ReadError;
 use rkyv_base::scalars::Scalar;
 use rkyv_base::view::View;
@@ -200,8 +201,8 @@ impl<N: ScalarKey> ElementEq for N {
 
     #[inline]
     fn same(a: View<'_, N>, b: View<'_, N>) -> bool
-        requires a { IsView N.shape a }
-        requires b { IsView N.shape b }
+        requires a { IsValidView N.spec a }
+        requires b { IsValidView N.spec b }
         ensures { result ≡ at_views (scalar_same N.encoding N.eq) a.entry b.entry }
     {
         a.to_native() == b.to_native()
@@ -209,7 +210,7 @@ impl<N: ScalarKey> ElementEq for N {
 }
 
 impl<N: ScalarKey> ElementEquiv for N {
-    ghost equivalence = { scalar_equivalence N.shape N.encoding N.eq N.tells };
+    ghost equivalence = { scalar_equivalence N.spec N.encoding N.eq N.tells };
 }
 
 impl<N: ScalarKey> KeyElement for N {
@@ -217,18 +218,18 @@ impl<N: ScalarKey> KeyElement for N {
 
     #[inline]
     fn hash_view<H: KeyHasher>(view: View<'_, N>, state: &mut H)
-        requires { IsView N.shape view }
+        requires { IsValidView N.spec view }
         ensures { let calls = scalar_calls N.encoding N.call in
             state.new ≡ after_calls H.hasher state.old (at_view calls view.entry) }
     {
         view.to_native().feed(state);
     }
 
-    ghost key = { scalar_key N.shape N.encoding N.eq N.tells N.call N.Scalar.laws };
+    ghost key = { scalar_key N.spec N.encoding N.eq N.tells N.call N.Scalar.laws };
 }
 
 impl<N: ScalarKey> FixedKey for N {
-    ghost fixed = { scalar_fixed N.shape N.encoding N.call N.fixed };
+    ghost fixed = { scalar_fixed N.spec N.encoding N.call N.fixed };
 }
 
 impl<N: ScalarKey> Query<N> for N {
@@ -236,28 +237,28 @@ impl<N: ScalarKey> Query<N> for N {
 
     #[inline]
     fn same(&self, key: View<'_, N>) -> bool
-        requires { IsView N.shape key }
+        requires { IsValidView N.spec key }
         ensures { result ≡ at_view (scalar_fits N.encoding N.eq self.now) key.entry }
     {
         *self == key.to_native()
     }
 
-    ghost query = { scalar_query N.shape N.encoding N.eq N.tells N.call };
+    ghost query = { scalar_query N.spec N.encoding N.eq N.tells N.call };
 }
 
 impl<N: ScalarKey> NativeKey<N> for N {
-    ghost native = { scalar_fits_its_equal N.shape N.encoding N.eq };
+    ghost native = { scalar_fits_its_equal N.spec N.encoding N.eq };
 
     ghost reads = { λ key. tt };
 }
 
 impl<N: ScalarKey> MatchesNative<N> for N {
-    ghost equals = { ScalarStands N.encoding };
+    ghost equals = { ScalarRepresents N.encoding };
 
     #[inline]
     fn eq_native(view: View<'_, N>, value: &N) -> bool
-        requires { IsView N.shape view }
-        ensures { IsTrue result ↔ StandsAt (ScalarStands N.encoding) view.entry value.now }
+        requires { IsValidView N.spec view }
+        ensures { IsTrue result ↔ AtView (ScalarRepresents N.encoding) view.entry value.now }
     {
         view.to_native() == *value
     }
@@ -268,27 +269,27 @@ impl<N: ScalarKey> Deserialize<N> for N {
 
     #[inline]
     fn deserialize(_alloc: Global, view: View<'_, N>) -> Result<N, ReadError>
-        requires { IsView N.shape view }
+        requires { IsValidView N.spec view }
         ensures { MatchResult result
-            (StandsAt (ScalarStands N.encoding) view.entry)
-            (StandsAt nothing_fails view.entry) }
+            (AtView (ScalarRepresents N.encoding) view.entry)
+            (AtView nothing_fails view.entry) }
     {
         Ok(view.to_native())
     }
 }
 
 impl<N: ScalarKey, W: Width> EqualsWritten<W> for N {
-    ghost equal = { scalar_is_format N.shape N.encoding N.Scalar.laws };
+    ghost equal = { scalar_is_format N.spec N.encoding N.Scalar.laws };
 }
 
-impl<N: ScalarKey> EqualsAlone<N> for N {
-    ghost exact = { native_alone N.shape (ScalarStands N.encoding) N.eq
-        (scalar_fits N.encoding N.eq) (scalar_fits_its_equal N.shape N.encoding N.eq)
+impl<N: ScalarKey> EqualsUniquely<N> for N {
+    ghost exact = { native_alone N.spec (ScalarRepresents N.encoding) N.eq
+        (scalar_fits N.encoding N.eq) (scalar_fits_its_equal N.spec N.encoding N.eq)
         N.Eq.laws.refl };
 }
 
-impl<N: ScalarKey> StandsAlone<N> for N {
-    ghost alone = { native_alone N.shape (ScalarStands N.encoding) N.eq
-        (scalar_fits N.encoding N.eq) (scalar_fits_its_equal N.shape N.encoding N.eq)
+impl<N: ScalarKey> RepresentsUniquely<N> for N {
+    ghost alone = { native_alone N.spec (ScalarRepresents N.encoding) N.eq
+        (scalar_fits N.encoding N.eq) (scalar_fits_its_equal N.spec N.encoding N.eq)
         N.Eq.laws.refl };
 }

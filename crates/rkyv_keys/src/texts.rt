@@ -1,33 +1,24 @@
 //! The implementations for text, which is looked up by `&str` and `String`.
 
 ghost use Rattle.std.specs.Prelude.{◌≡◌, string_bytes, IsTrue, ◌↔◌, MatchResult};
-ghost use Rattle.rkyv_base.specs.Text.{text_shape};
-ghost use Rattle.rkyv_base.specs.TextWriting.{seen_text_is_format};
-ghost use Rattle.rkyv_base.specs.View.{IsView, StandsAt};
+ghost use Rattle.rkyv_base.specs.Text.{text_spec};
+ghost use Rattle.rkyv_base.specs.Lemmas.TextWriting.{seen_text_is_format};
+ghost use Rattle.rkyv_base.specs.View.{IsValidView, AtView};
 ghost use Rattle.rkyv_keys.specs.Places.{at_view, at_views};
 ghost use Rattle.rkyv_keys.specs.Calls.{after_calls, text_calls};
 ghost use Rattle.rkyv_keys.specs.Reading.{memory_fails};
-ghost use Rattle.rkyv_keys.specs.OfTexts.{
-  IsTextOf,
-  same_bytes,
-  text_alone,
-  text_equivalence,
-  text_fits,
-  text_fits_its_equal,
-  text_key,
-  text_key_calls,
-  text_key_fixed,
-  text_query,
-  text_same,
-};
+ghost use Rattle.rkyv_keys.specs.OfTexts.{same_bytes};
+ghost use Rattle.rkyv_keys.specs.Lemmas.OfTexts.{IsTextOf, text_alone, text_equivalence, text_fits};
+ghost use Rattle.rkyv_keys.specs.Lemmas.OfTexts.{text_fits_its_equal, text_key, text_key_calls};
+ghost use Rattle.rkyv_keys.specs.Lemmas.OfTexts.{text_key_fixed, text_query, text_same};
 
 use crate::debug::ElementDebug;
+use crate::deserialize::Deserialize;
 use crate::equality::{
-    ElementEq, ElementEquiv, EqualsAlone, EqualsWritten, MatchesNative, StandsAlone,
+    ElementEq, ElementEquiv, EqualsUniquely, EqualsWritten, MatchesNative, RepresentsUniquely,
 };
 use crate::hash::KeyHash;
 use crate::keys::{FixedKey, KeyElement, NativeKey, Query};
-use crate::reading::Deserialize;
 use rkyv_base::errors::ReadError;
 use rkyv_base::text::Text;
 use rkyv_base::view::View;
@@ -60,8 +51,8 @@ impl<W: Width> ElementEq for Text<W> {
 
     #[inline]
     fn same(a: View<'_, Text<W>>, b: View<'_, Text<W>>) -> bool
-        requires a { IsView (text_shape W.word) a }
-        requires b { IsView (text_shape W.word) b }
+        requires a { IsValidView (text_spec W.word) a }
+        requires b { IsValidView (text_spec W.word) b }
         ensures { result ≡ at_views (text_same W.word) a.entry b.entry }
     {
         a.as_str() == b.as_str()
@@ -77,7 +68,7 @@ impl<W: Width> KeyElement for Text<W> {
 
     #[inline]
     fn hash_view<H: KeyHasher>(view: View<'_, Text<W>>, state: &mut H)
-        requires { IsView (text_shape W.word) view }
+        requires { IsValidView (text_spec W.word) view }
         ensures { let calls = text_key_calls W.word in
             state.new ≡ after_calls H.hasher state.old (at_view calls view.entry) }
     {
@@ -96,7 +87,7 @@ impl<W: Width> Query<Text<W>> for &str {
 
     #[inline]
     fn same(&self, key: View<'_, Text<W>>) -> bool
-        requires { IsView (text_shape W.word) key }
+        requires { IsValidView (text_spec W.word) key }
         ensures { result ≡ at_view (text_fits W.word (λ q. q.now) self.now) key.entry }
     {
         *self == key.as_str()
@@ -110,7 +101,7 @@ impl<W: Width> Query<Text<W>> for String {
 
     #[inline]
     fn same(&self, key: View<'_, Text<W>>) -> bool
-        requires { IsView (text_shape W.word) key }
+        requires { IsValidView (text_spec W.word) key }
         ensures { result ≡ at_view (text_fits W.word (λ q. string_bytes q) self.now) key.entry }
     {
         self.as_str() == key.as_str()
@@ -136,8 +127,8 @@ impl<W: Width> MatchesNative<&str> for Text<W> {
 
     #[inline]
     fn eq_native(view: View<'_, Text<W>>, value: &&str) -> bool
-        requires { IsView (text_shape W.word) view }
-        ensures { IsTrue result ↔ StandsAt (IsTextOf W.word (λ t. t.now)) view.entry value.now }
+        requires { IsValidView (text_spec W.word) view }
+        ensures { IsTrue result ↔ AtView (IsTextOf W.word (λ t. t.now)) view.entry value.now }
     {
         view.as_str() == *value
     }
@@ -148,9 +139,9 @@ impl<W: Width> MatchesNative<String> for Text<W> {
 
     #[inline]
     fn eq_native(view: View<'_, Text<W>>, value: &String) -> bool
-        requires { IsView (text_shape W.word) view }
+        requires { IsValidView (text_spec W.word) view }
         ensures { IsTrue result
-            ↔ StandsAt (IsTextOf W.word (λ t. string_bytes t)) view.entry value.now }
+            ↔ AtView (IsTextOf W.word (λ t. string_bytes t)) view.entry value.now }
     {
         view.as_str() == value.as_str()
     }
@@ -161,10 +152,10 @@ impl<W: Width> Deserialize<String> for Text<W> {
 
     #[inline]
     fn deserialize(alloc: Global, view: View<'_, Text<W>>) -> Result<String, ReadError>
-        requires { IsView (text_shape W.word) view }
+        requires { IsValidView (text_spec W.word) view }
         ensures { MatchResult result
-            (StandsAt (IsTextOf W.word (λ t. string_bytes t)) view.entry)
-            (StandsAt memory_fails view.entry) }
+            (AtView (IsTextOf W.word (λ t. string_bytes t)) view.entry)
+            (AtView memory_fails view.entry) }
     {
         match String::from_str(alloc, view.as_str()) {
             Ok(text) => Ok(text),
@@ -175,7 +166,7 @@ impl<W: Width> Deserialize<String> for Text<W> {
 
 impl<W: Width> ElementDebug for Text<W> {
     fn debug<U: Write>(view: View<'_, Text<W>>, f: &mut Formatter<U>) -> fmt::Result
-        requires { IsView (text_shape W.word) view }
+        requires { IsValidView (text_spec W.word) view }
     {
         view.as_str().fmt(f)
     }
@@ -189,18 +180,18 @@ impl<W: Width> EqualsWritten<W> for String {
     ghost equal = { seen_text_is_format W.word W.layout.kind string_bytes };
 }
 
-impl<'t, W: Width> EqualsAlone<&'t str> for Text<W> {
+impl<'t, W: Width> EqualsUniquely<&'t str> for Text<W> {
     ghost exact = { text_alone W.word (λ t. t.now) };
 }
 
-impl<W: Width> EqualsAlone<String> for Text<W> {
+impl<W: Width> EqualsUniquely<String> for Text<W> {
     ghost exact = { text_alone W.word string_bytes };
 }
 
-impl<'t, W: Width> StandsAlone<&'t str> for Text<W> {
+impl<'t, W: Width> RepresentsUniquely<&'t str> for Text<W> {
     ghost alone = { text_alone W.word (λ t. t.now) };
 }
 
-impl<W: Width> StandsAlone<String> for Text<W> {
+impl<W: Width> RepresentsUniquely<String> for Text<W> {
     ghost alone = { text_alone W.word string_bytes };
 }

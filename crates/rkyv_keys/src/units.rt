@@ -4,27 +4,20 @@
 
 ghost use Rattle.std.specs.Prelude.{◌≡◌, true, MatchResult};
 ghost use Rattle.std.proofs.Common.{refl};
-ghost use Rattle.rkyv_base.specs.Empty.{unit_is_format, unit_shape, unit_stands};
-ghost use Rattle.rkyv_base.specs.View.{IsView, StandsAt};
+ghost use Rattle.rkyv_base.specs.Empty.{unit_spec, unit_represents};
+ghost use Rattle.rkyv_base.specs.Lemmas.Empty.{unit_is_format};
+ghost use Rattle.rkyv_base.specs.View.{IsValidView, AtView};
 ghost use Rattle.rkyv_keys.specs.Reading.{nothing_fails};
-ghost use Rattle.rkyv_keys.specs.OfUnits.{
-  no_calls,
-  unit_calls,
-  unit_equivalence,
-  unit_fits,
-  unit_fits_its_equal,
-  unit_fixed,
-  unit_key,
-  unit_query,
-  unit_same,
-};
+ghost use Rattle.rkyv_keys.specs.OfUnits.{no_calls, unit_calls, unit_fits, unit_same};
+ghost use Rattle.rkyv_keys.specs.Lemmas.OfUnits.{unit_equivalence, unit_fits_its_equal, unit_fixed};
+ghost use Rattle.rkyv_keys.specs.Lemmas.OfUnits.{unit_key, unit_query};
 
+use crate::deserialize::Deserialize;
 use crate::equality::{
-    ElementEq, ElementEquiv, EqualsAlone, EqualsWritten, MatchesNative, StandsAlone,
+    ElementEq, ElementEquiv, EqualsUniquely, EqualsWritten, MatchesNative, RepresentsUniquely,
 };
 use crate::hash::KeyHash;
 use crate::keys::{FixedKey, KeyElement, NativeKey, Query};
-use crate::reading::Deserialize;
 use rkyv_base::errors::ReadError;
 use rkyv_base::view::View;
 use rkyv_base::width::Width;
@@ -43,8 +36,8 @@ impl ElementEq for () {
 
     #[inline]
     fn same(_a: View<'_, ()>, _b: View<'_, ()>) -> bool
-        requires a { IsView unit_shape _a }
-        requires b { IsView unit_shape _b }
+        requires a { IsValidView unit_spec _a }
+        requires b { IsValidView unit_spec _b }
         ensures { result ≡ true }
     {
         true
@@ -60,7 +53,7 @@ impl KeyElement for () {
 
     #[inline]
     fn hash_view<H: KeyHasher>(_view: View<'_, ()>, state: &mut H)
-        requires { IsView unit_shape _view }
+        requires { IsValidView unit_spec _view }
         ensures { state.new ≡ state.old }
     {}
 
@@ -76,7 +69,7 @@ impl Query<()> for () {
 
     #[inline]
     fn same(&self, _key: View<'_, ()>) -> bool
-        requires { IsView unit_shape _key }
+        requires { IsValidView unit_spec _key }
         ensures { result ≡ true }
     {
         true
@@ -92,11 +85,11 @@ impl NativeKey<()> for () {
 }
 
 impl MatchesNative<()> for () {
-    ghost equals = { unit_stands };
+    ghost equals = { unit_represents };
 
     #[inline]
     fn eq_native(_view: View<'_, ()>, _value: &()) -> bool
-        requires { IsView unit_shape _view }
+        requires { IsValidView unit_spec _view }
         ensures { result ≡ true }
     {
         true
@@ -108,10 +101,10 @@ impl Deserialize<()> for () {
 
     #[inline]
     fn deserialize(_alloc: Global, _view: View<'_, ()>) -> Result<(), ReadError>
-        requires { IsView unit_shape _view }
+        requires { IsValidView unit_spec _view }
         ensures { MatchResult result
-            (StandsAt unit_stands _view.entry)
-            (StandsAt nothing_fails _view.entry) }
+            (AtView unit_represents _view.entry)
+            (AtView nothing_fails _view.entry) }
     {
         Ok(())
     }
@@ -121,10 +114,10 @@ impl<W: Width> EqualsWritten<W> for () {
     ghost equal = { unit_is_format };
 }
 
-impl EqualsAlone<()> for () {
+impl EqualsUniquely<()> for () {
     ghost exact = { λ v x b p h st eq. refl };
 }
 
-impl StandsAlone<()> for () {
+impl RepresentsUniquely<()> for () {
     ghost alone = { λ v x b p h st st'. refl };
 }

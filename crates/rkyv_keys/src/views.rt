@@ -3,9 +3,10 @@
 //! A key of one map is thus looked up in another, without reading it back.
 
 ghost use Rattle.std.specs.Prelude.{◌≡◌};
-ghost use Rattle.rkyv_base.specs.View.{IsView};
+ghost use Rattle.rkyv_base.specs.View.{IsValidView};
 ghost use Rattle.rkyv_keys.specs.Places.{at_view};
-ghost use Rattle.rkyv_keys.specs.OfViews.{view_calls, view_fits, view_query};
+ghost use Rattle.rkyv_keys.specs.OfViews.{view_calls, view_fits};
+ghost use Rattle.rkyv_keys.specs.Lemmas.OfViews.{view_query};
 
 use crate::hash::KeyHash;
 use crate::keys::{KeyElement, Query};
@@ -15,7 +16,7 @@ use rkyv_scan::hash::KeyHasher;
 impl<'a, K: KeyElement> KeyHash for View<'a, K> {
     ghost calls = { view_calls K.key_calls };
 
-    ghost can_read = { IsView K.shape };
+    ghost can_read = { IsValidView K.spec };
 
     #[inline]
     fn hash<H: KeyHasher>(&self, state: &mut H) {
@@ -28,12 +29,12 @@ impl<'a, K: KeyElement> Query<K> for View<'a, K> {
 
     #[inline]
     fn same(&self, key: View<'_, K>) -> bool
-        requires query { IsView K.shape self.now }
-        requires key { IsView K.shape key }
+        requires query { IsValidView K.spec self.now }
+        requires key { IsValidView K.spec key }
         ensures { result ≡ at_view (view_fits K.same self.now) key.entry }
     {
         K::same(*self, key)
     }
 
-    ghost query = { view_query K.shape K.same K.key_calls K.equivalence K.key };
+    ghost query = { view_query K.spec K.same K.key_calls K.equivalence K.key };
 }

@@ -2,4 +2,4 @@ pub mod Groups
 pub mod Hash
 pub mod Laws
 pub mod Lemmas
-pub mod Halves
+pub mod Paired

@@ -6,7 +6,7 @@
 //! - `generic` has eight bytes in one word. It is the kind at the crate's root.
 //! - `bytewise` has eight bytes, compared one by one.
 //! - `lanes` has sixteen bytes in one vector.
-//! - `halves` has sixteen bytes in one vector, and marks each half as `generic` does.
+//! - `paired` has sixteen bytes in one vector, and marks each half as `generic` does.
 ghost use Rattle.std.specs.Prelude.{
   ◌≡◌,
   ℕ,
@@ -32,8 +32,8 @@ ghost use Rattle.rkyv_scan.specs.Groups.{places_where, is_empty, is_full, Kind, 
 
 pub mod bytewise;
 pub mod generic;
-pub mod halves;
 pub mod lanes;
+pub mod paired;
 
 /// The width of the widest kind of group. Each kind's width divides it.
 pub const MAX_GROUP_WIDTH: usize = 16;
@@ -65,7 +65,7 @@ pub trait Marks: Iterator<Item = usize> + Copy {
         ensures { result ≡ slice_get (places self) 0 };
 
     // The iterator yields the marked indices.
-    ghost can: { (s : Self) → Self.can_next s };
+    ghost ready: { (s : Self) → Self.can_next s };
 
     ghost gives: { (s t : Self) (r : Option ℕ) → Self.next_gives s r t → YieldsFirst places s r t };
 

@@ -1,88 +1,88 @@
 -- Lookups in a table that is read are lookups in its bytes.
-use Rattle.rkyv_base.specs.declared.element.Shaped.{Ghosts as Shapes}
+use Rattle.rkyv_base.specs.declared.element.HasSpec.{Ghosts as Specs}
 use Rattle.rkyv_base.specs.declared.width.Word.{Ghosts as Words}
 use Rattle.std.proofs.Common.{◌≡◌, ℕ, ◌+◌, zero-add, sym, ap, subst, ◌∙◌, Bool, List, Option, None, Some}
 use Rattle.std.specs.List.{find}
-use Rattle.rkyv_base.specs.Shape.{IsElement, Viewed}
+use Rattle.rkyv_base.specs.ElementSpec.{IsElement, Viewable}
 use Rattle.rkyv_base.specs.declared.view.View.{View}
 use Rattle.rkyv_scan.specs.Groups.{Kind}
 use Rattle.rkyv_table.specs.Controls.Laws.{IsUnderHash}
 use Rattle.rkyv_table.specs.Table.Bare.{AcceptedOf, AnswersOf, IsItemOf, LooksUp, MayAskOf, ReadsExactly}
-use Rattle.rkyv_table.specs.Table.Layout.{table_shape}
+use Rattle.rkyv_table.specs.Table.Layout.{table_spec}
 use Rattle.rkyv_table.specs.Table.Positions.{IsWalked, WrittenAt, home_positions, item_at}
 use Rattle.rkyv_table.specs.Table.Positions.{lookup_end, pos_found}
 use Rattle.rkyv_table.specs.Table.Reading.{Answers, CountsEnd, FindsFirst, FindsFound, IsAcceptedAt}
 use Rattle.rkyv_table.specs.Table.Reading.{IsItem, IsItemPos, MayAsk}
 use Rattle.rkyv_table.specs.Table.SealedItems.{IsItemAt}
-use Rattle.rkyv_table.proofs.Items.{item_viewed}
+use Rattle.rkyv_table.proofs.ParsedTable.{item_viewable}
 use Rattle.rkyv_table.proofs.SealedTable.{table_kept}
 use Rattle.rkyv_table.specs.declared.table.ArchivedHashTable.{ArchivedHashTable}
 
-module _ {T W : Type 0} {ts : Shapes T} {wt : Words W} (b : List ℕ) (p : ℕ) (t : ArchivedHashTable T W ts wt) (bytes : t.view.archive.now ≡ b) (place : t.view.pos ≡ p) where
+module _ {T W : Type 0} {ts : Specs T} {wt : Words W} (b : List ℕ) (p : ℕ) (t : ArchivedHashTable T W ts wt) (bytes : t.view.archive.now ≡ b) (place : t.view.pos ≡ p) where
   -- an item of the table is one of the bytes
-  pub item_of : (v : View T) → IsItem t v → IsItemOf wt.word ts.shape b p v
+  pub item_of : (v : View T) → IsItem t v → IsItemOf wt.word ts.spec b p v
   item_of v is =
       let i = is.0 in
       let archive : v.archive.now ≡ b = ap (λ a. a.now) is.1.archive ∙ bytes in
-      let P = λ (c : List ℕ) (q : ℕ). IsWalked wt.word c q i × (v.pos ≡ item_at wt.word ts.shape.size c q i) in
+      let P = λ (c : List ℕ) (q : ℕ). IsWalked wt.word c q i × (v.pos ≡ item_at wt.word ts.spec.size c q i) in
       let there : P b p = subst (P b) place (subst (λ (c : List ℕ). P c t.view.pos) bytes (is.1.walked, is.1.place)) in
       record {
         archive = archive;
         bucket = i;
         walked = there.0;
         place = there.1;
-        viewed = subst (λ (c : List ℕ). Viewed ts.shape c v.pos) archive is.1.viewed;
+        viewable = subst (λ (c : List ℕ). Viewable ts.spec c v.pos) archive is.1.viewable;
       }
 
-  pub may_ask : (pre : View T → Type 0) → MayAskOf pre wt.word ts.shape b p → MayAsk pre t
+  pub may_ask : (pre : View T → Type 0) → MayAskOf pre wt.word ts.spec b p → MayAsk pre t
   may_ask pre ask v is = ask v (item_of v is)
 
   module _ (post : View T → Bool → Type 0) where
-    pub answers_of : (accept : ℕ → Bool) → AnswersOf post wt.word ts.shape b p accept → Answers post t accept
+    pub answers_of : (accept : ℕ → Bool) → AnswersOf post wt.word ts.spec b p accept → Answers post t accept
     answers_of accept answers v r is told = answers v r (item_of v is) told
 
-    pub accepted_of : (q : ℕ) → IsAcceptedAt post t q → AcceptedOf post wt.word ts.shape b p q
+    pub accepted_of : (q : ℕ) → IsAcceptedAt post t q → AcceptedOf post wt.word ts.spec b p q
     accepted_of q is = (is.0, item_of is.0 is.1, is.2, is.3)
 
     module _ (kind : Kind) (hash : ℕ) (found : Option ℕ) (finds : FindsFound post kind t hash found) where
-      pub found_of : (accept : ℕ → Bool) → AnswersOf post wt.word ts.shape b p accept → found ≡ pos_found kind wt.word ts.shape.size b p hash accept
+      pub found_of : (accept : ℕ → Bool) → AnswersOf post wt.word ts.spec b p accept → found ≡ pos_found kind wt.word ts.spec.size b p hash accept
       found_of accept answers =
-          subst (λ q. found ≡ pos_found kind wt.word ts.shape.size b q hash accept) place
-          (subst (λ (c : List ℕ). found ≡ pos_found kind wt.word ts.shape.size c t.view.pos hash accept) bytes (finds accept (answers_of accept answers)))
+          subst (λ q. found ≡ pos_found kind wt.word ts.spec.size b q hash accept) place
+          (subst (λ (c : List ℕ). found ≡ pos_found kind wt.word ts.spec.size c t.view.pos hash accept) bytes (finds accept (answers_of accept answers)))
 
       module _ (first : FindsFirst post t hash found) where
-        pub first_of : (hashes homes : List ℕ) (accept : ℕ → Bool) → WrittenAt wt.word b p hashes homes → AnswersOf post wt.word ts.shape b p accept
-            → IsUnderHash hash hashes (home_positions wt.word ts.shape.size b p homes) accept → found ≡ find accept (home_positions wt.word ts.shape.size b p homes)
+        pub first_of : (hashes homes : List ℕ) (accept : ℕ → Bool) → WrittenAt wt.word b p hashes homes → AnswersOf post wt.word ts.spec b p accept
+            → IsUnderHash hash hashes (home_positions wt.word ts.spec.size b p homes) accept → found ≡ find accept (home_positions wt.word ts.spec.size b p homes)
         first_of hashes homes accept written answers under =
-            let P = λ (c : List ℕ) (q : ℕ). WrittenAt wt.word c q hashes homes → IsUnderHash hash hashes (home_positions wt.word ts.shape.size c q homes) accept → found ≡ find accept (home_positions wt.word ts.shape.size c q homes) in
+            let P = λ (c : List ℕ) (q : ℕ). WrittenAt wt.word c q hashes homes → IsUnderHash hash hashes (home_positions wt.word ts.spec.size c q homes) accept → found ≡ find accept (home_positions wt.word ts.spec.size c q homes) in
             subst (P b) place (subst (λ (c : List ℕ). P c t.view.pos) bytes (λ x y. first hashes homes accept x (answers_of accept answers) y)) written under
 
     -- a lookup in the table has the same result in the bytes
-    pub looks_up_none : (kind : Kind) (hash : ℕ) → FindsFound post kind t hash None → FindsFirst post t hash None → LooksUp post kind wt.word ts.shape b p hash None
+    pub looks_up_none : (kind : Kind) (hash : ℕ) → FindsFound post kind t hash None → FindsFirst post t hash None → LooksUp post kind wt.word ts.spec b p hash None
     looks_up_none kind hash finds first = record { accepted = tt; answer = found_of kind hash None finds; first = first_of kind hash None finds first }
 
     pub looks_up_some : (kind : Kind) (hash q : ℕ) → FindsFound post kind t hash (Some q) → FindsFirst post t hash (Some q) → IsAcceptedAt post t q
-        → LooksUp post kind wt.word ts.shape b p hash (Some q)
+        → LooksUp post kind wt.word ts.spec b p hash (Some q)
     looks_up_some kind hash q finds first accepted =
         record { accepted = accepted_of q accepted; answer = found_of kind hash (Some q) finds; first = first_of kind hash (Some q) finds first }
 
-    pub reads_exactly : (kind : Kind) (hash before after : ℕ) → before ≡ 0 → CountsEnd post kind t hash before after → ReadsExactly post kind wt.word ts.shape b p hash after
+    pub reads_exactly : (kind : Kind) (hash before after : ℕ) → before ≡ 0 → CountsEnd post kind t hash before after → ReadsExactly post kind wt.word ts.spec b p hash after
     reads_exactly kind hash before after none counts accept answers =
-        let P = λ (c : List ℕ) (q : ℕ). after ≡ lookup_end kind wt.word ts.shape.size c q hash accept in
+        let P = λ (c : List ℕ) (q : ℕ). after ≡ lookup_end kind wt.word ts.spec.size c q hash accept in
         subst (P b) place (subst (λ (c : List ℕ). P c t.view.pos) bytes
-        (counts accept (answers_of accept answers) ∙ ap (λ n. n + lookup_end kind wt.word ts.shape.size t.view.archive.now t.view.pos hash accept) none ∙ zero-add _))
+        (counts accept (answers_of accept answers) ∙ ap (λ n. n + lookup_end kind wt.word ts.spec.size t.view.archive.now t.view.pos hash accept) none ∙ zero-add _))
 
   -- each write of an item of the table alone that keeps it valid keeps the table
-  pub item_at_found : IsElement ts.shape → Viewed (table_shape wt.word ts.shape) b p → (q : ℕ) → IsItemPos t q → (i : ℕ) × IsItemAt wt.word ts.shape b p i q
-  item_at_found law stands q is =
+  pub item_at_found : IsElement ts.spec → Viewable (table_spec wt.word ts.spec) b p → (q : ℕ) → IsItemPos t q → (i : ℕ) × IsItemAt wt.word ts.spec b p i q
+  item_at_found law represents q is =
       let i = is.0 in
-      let P = λ (c : List ℕ) (r : ℕ). IsWalked wt.word c r i × (q ≡ item_at wt.word ts.shape.size c r i) in
+      let P = λ (c : List ℕ) (r : ℕ). IsWalked wt.word c r i × (q ≡ item_at wt.word ts.spec.size c r i) in
       let there : P b p = subst (P b) place (subst (λ (c : List ℕ). P c t.view.pos) bytes (is.1, is.2)) in (
         i,
         record {
           walked = there.0;
           place = there.1;
-          viewed = subst (Viewed ts.shape b) (sym there.1) (item_viewed wt.word ts.shape law b p stands i there.0);
-          kept = λ c sealed keeps. table_kept wt.word ts.shape law b p i stands there.0 c sealed keeps;
+          viewable = subst (Viewable ts.spec b) (sym there.1) (item_viewable wt.word ts.spec law b p represents i there.0);
+          kept = λ c sealed keeps. table_kept wt.word ts.spec law b p i represents there.0 c sealed keeps;
         },
       )

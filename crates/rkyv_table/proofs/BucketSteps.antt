@@ -6,10 +6,10 @@ use Rattle.std.proofs.Math.Seq.{drop-cons}
 use Rattle.std.proofs.lemmas.Option.{slice_get-get_or}
 use Rattle.rkyv_base.specs.declared.errors.WriteError.{WriteError}
 use Rattle.rkyv_base.specs.declared.errors.WriteError.TheVariants.{DistanceTooLarge}
-use Rattle.rkyv_base.specs.Writing.{Only, Output, end_of, Appends, Told, piece, zeros}
+use Rattle.rkyv_base.specs.Writing.{Only, Output, end_of, Appends, WriteFails, piece, zeros}
 use Rattle.rkyv_base.specs.Format.{Format}
-use Rattle.rkyv_base.proofs.GivingUp.{appends_after, end-appends, grows, none_appended, told_after}
-use Rattle.rkyv_table.specs.Table.Slots.{SlotImages, BucketNext, filled, WroteBuckets, Filled, TooFar}
+use Rattle.rkyv_base.proofs.WritingSteps.{appends_after, end-appends, grows, none_appended, told_after}
+use Rattle.rkyv_table.specs.Table.Slots.{SlotImages, BucketNext, filled, WroteBuckets, Filled, BucketOverflows}
 use Rattle.rkyv_table.proofs.PartSteps.{filled-append}
 
 drop_at : {A : Type 0} (xs : List A) (i : ℕ) (d : A) → i < length xs → drop i xs ≡ get_or xs i d ∷ drop (i + 1) xs
@@ -107,11 +107,11 @@ module _ {X R : Type 0} (size limit : ℕ) (f : Format X R) (slots : List (Optio
     down_step (Some x) more one e h len a lim = down_some x h.0 more one e h.1 h.2 len a lim
 
     module _ {F : Type 0} (s : Option X) (e : get_or slots i None ≡ s) where
-      abbrev BucketsTold : Output → WriteError F → Type 0
-      BucketsTold o' err = Told limit (BucketNext size f slots rs (end_of o)) o o' err
+      abbrev BucketsFail : Output → WriteError F → Type 0
+      BucketsFail o' err = WriteFails limit (BucketNext size f slots rs (end_of o)) o o' err
 
       pub told_bucket : (more : List R) (one : List ℕ) (err : WriteError F) → Filled size f s left more (end_of o1) one
-          → Told limit (Only (piece one)) o1 o2 err → BucketsTold o2 err
+          → WriteFails limit (Only (piece one)) o1 o2 err → BucketsFail o2 err
       told_bucket more one err im t =
           told_after limit (BucketNext size f slots rs (end_of o)) (Only (piece one)) o o1 o2 d.out err d.appended (inr d.within)
           (λ g step h.
@@ -119,11 +119,11 @@ module _ {X R : Type 0} (size limit : ℕ) (f : Format X R) (slots : List (Optio
           rw k (i, left, (d.done, d.all, shown_here), s, read_at s e, inl (more, one, subst (λ n. Filled size f s left more n one) here im, h.1)))
           t
 
-      pub told_far : TooFar size f s left (end_of o1) → BucketsTold o1 DistanceTooLarge
-      told_far h = record {
+      pub overflow_fails : BucketOverflows size f s left (end_of o1) → BucketsFail o1 DistanceTooLarge
+      overflow_fails h = record {
         front = d.out;
         kept = grows o o1 d.out d.appended;
-        cause = (inr d.within, d.appended.failures, (i, left, (d.done, d.all, shown_here), s, read_at s e, inr (subst (λ n. TooFar size f s left n) here h, refl)));
+        cause = (inr d.within, d.appended.failures, (i, left, (d.done, d.all, shown_here), s, read_at s e, inr (subst (λ n. BucketOverflows size f s left n) here h, refl)));
       }
 
   pub down_init : length rs ≡ filled slots → end_of o ≤ limit → Down (length slots) rs o

@@ -8,7 +8,7 @@ use Rattle.std.proofs.lemmas.Bool.{cases_Bool, cases_lt, and_from, and_left, and
 use Rattle.rkyv_scan.specs.Groups.{places_where}
 use Rattle.rkyv_table.specs.Controls.Numbers.{start, control_count, probe_capacity}
 use Rattle.rkyv_table.specs.Controls.Probe.{strides, buckets_at, shown}
-use Rattle.rkyv_table.specs.Controls.Placing.{Repeats}
+use Rattle.rkyv_table.specs.Controls.Placing.{IsWrapped}
 use Rattle.rkyv_table.specs.Controls.Shown.{is_empty_at, empty_place, with_control}
 use Rattle.rkyv_table.proofs.Coverage.{covered}
 use Rattle.rkyv_table.proofs.Search.{control_of, tail_shows_all, strides_head}
@@ -61,11 +61,11 @@ place_inside P n j ps e h =
 -- ---- all strides
 
 -- the control byte at an index is that of its bucket
-same_test : (cap : ℕ) (controls : List ℕ) (q : ℕ) → 0 < cap → Repeats cap controls → q < 2 * cap → q < control_count cap → is_empty_at controls q ≡ is_empty_at controls (q % cap)
+same_test : (cap : ℕ) (controls : List ℕ) (q : ℕ) → 0 < cap → IsWrapped cap controls → q < 2 * cap → q < control_count cap → is_empty_at controls q ≡ is_empty_at controls (q % cap)
 same_test cap controls q pos r two c = ap (leb 128) (control_of cap controls q pos r two c)
 
 -- a stride without an empty index shows no free bucket
-pub none_shown : (cap : ℕ) (controls : List ℕ) (p : ℕ) → 0 < cap → Repeats cap controls → p < probe_capacity cap → find (is_empty_at controls) (range_with_len p 16) ≡ None → list_any (is_empty_at controls) (buckets_at cap p) ≡ false
+pub none_shown : (cap : ℕ) (controls : List ℕ) (p : ℕ) → 0 < cap → IsWrapped cap controls → p < probe_capacity cap → find (is_empty_at controls) (range_with_len p 16) ≡ None → list_any (is_empty_at controls) (buckets_at cap p) ≡ false
 unfolding buckets_at
 none_shown cap controls p pos r lp h =
     let n = none_find (is_empty_at controls) (range_with_len p 16) h in
@@ -80,7 +80,7 @@ none_shown cap controls p pos r lp h =
     ])
 
 -- the first empty index of a stride is that of the first free bucket that the stride shows
-pub some_shown : (h cap : ℕ) (controls : List ℕ) (p q b : ℕ) → Repeats cap controls → b < cap → is_empty_at controls b ≡ true
+pub some_shown : (h cap : ℕ) (controls : List ℕ) (p q b : ℕ) → IsWrapped cap controls → b < cap → is_empty_at controls b ≡ true
     → list_any (eqb p) (strides h cap) ≡ true → p < probe_capacity cap
     → (list_any (is_empty_at controls) (buckets_at cap (start h cap)) ≡ false) ⊎ (p ≡ start h cap)
     → find (is_empty_at controls) (range_with_len p 16) ≡ Some q → (q < 2 * cap) × (find (is_empty_at controls) (buckets_at cap p) ≡ Some (q % cap))

@@ -6,32 +6,32 @@ use Rattle.std.specs.Option.{option_map}
 use Rattle.std.proofs.lemmas.Bool.{cases_Bool}
 use Rattle.std.proofs.lemmas.List.{get_or-map, length-map}
 use Rattle.std.proofs.lemmas.Option.{slice_get-map, slice_get_cases}
-use Rattle.rkyv_base.specs.Shape.{Shape}
+use Rattle.rkyv_base.specs.ElementSpec.{ElementSpec}
 use Rattle.rkyv_table.specs.Controls.Laws.{IsUnderHash}
 use Rattle.rkyv_table.specs.Table.FirstItem.{AnswersFirst, AreUnder, IsFirstOf, TellsOf}
 use Rattle.rkyv_table.specs.Table.Positions.{home_positions}
-use Rattle.rkyv_table.specs.Table.Taking.{hashes_of, items_of}
+use Rattle.rkyv_table.specs.Table.PlacedItems.{hashes_of, items_of}
 use Rattle.rkyv_table.specs.Table.WrittenTables.{IsWrittenOf}
 use Rattle.rkyv_table.proofs.FirstFound.{first_found}
 use Rattle.rkyv_table.proofs.WrittenTables.{home_count, table_written}
 
 -- the first accepted position is that of the first accepted item
-first_along : {X : Type 0} (stands : List ℕ → ℕ → X → Type 0) (c : List ℕ) (accept : X → Bool) (told : ℕ → Bool) (items : List X) (qs : List ℕ)
-    → length items ≡ length qs → ((i : ℕ) (x : X) → slice_get items i ≡ Some x → stands c (slice_index qs i) x)
-    → TellsOf stands c accept items told → IsFirstOf stands c accept items (find told qs)
-first_along stands c accept told [] [] n there tells = refl
-first_along stands c accept told [] (q ∷ qs) n there tells = absurd (omega arith)
-first_along stands c accept told (x ∷ xs) [] n there tells = absurd (omega arith)
-first_along stands c accept told (x ∷ xs) (q ∷ qs) k there tells =
+first_along : {X : Type 0} (represents : List ℕ → ℕ → X → Type 0) (c : List ℕ) (accept : X → Bool) (told : ℕ → Bool) (items : List X) (qs : List ℕ)
+    → length items ≡ length qs → ((i : ℕ) (x : X) → slice_get items i ≡ Some x → represents c (slice_index qs i) x)
+    → TellsOf represents c accept items told → IsFirstOf represents c accept items (find told qs)
+first_along represents c accept told [] [] n there tells = refl
+first_along represents c accept told [] (q ∷ qs) n there tells = absurd (omega arith)
+first_along represents c accept told (x ∷ xs) [] n there tells = absurd (omega arith)
+first_along represents c accept told (x ∷ xs) (q ∷ qs) k there tells =
     let here = there 0 x refl in
     let same : told q ≡ accept x = tells 0 q x refl here in
     elim (cases_Bool (told q)) [
       | inl y ↦ rw (y, sym same ∙ y) (x, refl, here)
-      | inr n ↦ rw (n, sym same ∙ n) (first_along stands c accept told xs qs (omega (arith, k)) (λ i y e. there (suc i) y e) (λ i p y e st. tells (suc i) p y e st))
+      | inr n ↦ rw (n, sym same ∙ n) (first_along represents c accept told xs qs (omega (arith, k)) (λ i y e. there (suc i) y e) (λ i p y e st. tells (suc i) p y e st))
     ]
 
-module _ {X : Type 0} (w : Width) (size : ℕ) (stands : List ℕ → ℕ → X → Type 0) (c : List ℕ) (p hash : ℕ) (pairs : List (ℕ × X)) (written : IsWrittenOf w size stands c p pairs)
-    (accept : X → Bool) (told : ℕ → Bool) (under : AreUnder hash accept pairs) (tells : TellsOf stands c accept (items_of pairs) told) where
+module _ {X : Type 0} (w : Width) (size : ℕ) (represents : List ℕ → ℕ → X → Type 0) (c : List ℕ) (p hash : ℕ) (pairs : List (ℕ × X)) (written : IsWrittenOf w size represents c p pairs)
+    (accept : X → Bool) (told : ℕ → Bool) (under : AreUnder hash accept pairs) (tells : TellsOf represents c accept (items_of pairs) told) where
   abbrev places : List ℕ
   places = home_positions w size c p written.homes
 
@@ -54,13 +54,13 @@ module _ {X : Type 0} (w : Width) (size : ℕ) (stands : List ℕ → ℕ → X 
   ]
 
   -- the first accepted one of the positions
-  pub first_at_home : IsFirstOf stands c accept (items_of pairs) (find told places)
-  first_at_home = first_along stands c accept told (items_of pairs) places places_count written.at tells
+  pub first_at_home : IsFirstOf represents c accept (items_of pairs) (find told places)
+  first_at_home = first_along represents c accept told (items_of pairs) places places_count written.at tells
 
 -- a lookup in a written table finds the first accepted item of the list
-pub answers_first : {X : Type 0} (w : Width) (s : Shape) (stands : List ℕ → ℕ → X → Type 0) (factor : ℕ × ℕ) → AnswersFirst w s stands factor
-answers_first w s stands factor kind c p hash pairs accept told law fits t under tells =
-    let written = table_written w s stands factor c p pairs t in
-    subst (IsFirstOf stands c accept (items_of pairs))
-    (sym (first_found kind law w s.size c p hash fits (hashes_of pairs) written.homes told written.written (told_under w s.size stands c p hash pairs written accept told under tells)))
-    (first_at_home w s.size stands c p hash pairs written accept told under tells)
+pub answers_first : {X : Type 0} (w : Width) (s : ElementSpec) (represents : List ℕ → ℕ → X → Type 0) (factor : ℕ × ℕ) → AnswersFirst w s represents factor
+answers_first w s represents factor kind c p hash pairs accept told law fits t under tells =
+    let written = table_written w s represents factor c p pairs t in
+    subst (IsFirstOf represents c accept (items_of pairs))
+    (sym (first_found kind law w s.size c p hash fits (hashes_of pairs) written.homes told written.written (told_under w s.size represents c p hash pairs written accept told under tells)))
+    (first_at_home w s.size represents c p hash pairs written accept told under tells)

@@ -1,58 +1,58 @@
 -- The item that a lookup finds, by its bucket.
-use Rattle.rkyv_base.specs.declared.element.Shaped.{Ghosts as Shapes}
+use Rattle.rkyv_base.specs.declared.element.HasSpec.{Ghosts as Specs}
 use Rattle.rkyv_base.specs.declared.width.Word.{Ghosts as Words}
 use Rattle.std.proofs.Common.{◌≡◌, ℕ, ◌+◌, ◌%◌, ◌<◌, ◌^◌, ◌∙◌, Bool, None, Option, Some, ap, refl, subst, sym, true}
 use Rattle.std.specs.Option.{option_map}
 use Rattle.rkyv_scan.specs.Groups.{IsKind, Kind, generic_kind}
-use Rattle.rkyv_scan.specs.Halves.{halves_kind}
-use Rattle.rkyv_base.specs.Shape.{IsElement}
+use Rattle.rkyv_scan.specs.Paired.{paired_kind}
+use Rattle.rkyv_base.specs.ElementSpec.{IsElement}
 use Rattle.rkyv_base.specs.declared.view.View.{View}
 use Rattle.rkyv_table.specs.Controls.Finding.{FindsBucket, lookup}
 use Rattle.rkyv_table.specs.Table.Header.{cap_at, len_at}
 use Rattle.rkyv_table.specs.Table.Positions.{bucket_found, item_at, table_controls}
-use Rattle.rkyv_table.specs.Table.Reading.{Answers, AreItems, CountsStrides, FindsFirst, FindsFound}
+use Rattle.rkyv_table.specs.Table.Reading.{Answers, IsParsed, CountsStrides, FindsFirst, FindsFound}
 use Rattle.rkyv_table.specs.Table.Reading.{FindsItem, FindsItemPos, IsItemIn}
 use Rattle.rkyv_base.specs.View.{pos_of_found}
 use Rattle.rkyv_table.specs.Table.Reading.{table_bytes, table_pos}
 use Rattle.rkyv_table.specs.declared.table.ArchivedHashTable.{ArchivedHashTable}
-use Rattle.rkyv_table.specs.declared.table.items.Items.{Items}
+use Rattle.rkyv_table.specs.declared.table.items.ParsedTable.{ParsedTable}
 use Rattle.rkyv_table.proofs.FirstFound.{first_found}
-use Rattle.rkyv_table.proofs.HalvesFound.{end_halves, found_halves}
-use Rattle.rkyv_table.proofs.Items.{read_end, read_found, view_is}
+use Rattle.rkyv_table.proofs.PairedFound.{end_paired, found_paired}
+use Rattle.rkyv_table.proofs.ParsedTable.{read_end, read_found, view_is}
 
 -- the start of the probe sequence in the table is that in its items
-pub start_read : {T W : Type 0} {ts : Shapes T} {wt : Words W} (t : ArchivedHashTable T W ts wt) (items : Items T W ts wt) → AreItems items → items.table ≡ t
+pub start_read : {T W : Type 0} {ts : Specs T} {wt : Words W} (t : ArchivedHashTable T W ts wt) (items : ParsedTable T W ts wt) → IsParsed items → items.table ≡ t
     → (hash start : ℕ) → (0 < t.header.cap → start ≡ hash % t.header.cap) → 0 < items.cap → start ≡ hash % items.cap
 start_read {wt = wt} t items are same hash start begins =
     let e : items.cap ≡ t.header.cap = are.cap ∙ ap (λ x. cap_at wt.word (table_bytes x) (table_pos x)) same ∙ sym t.decoded.cap in
     subst (λ n. 0 < n → start ≡ hash % n) (sym e) begins
 
-module _ {T W : Type 0} {ts : Shapes T} {wt : Words W} (post : View T → Bool → Type 0) (t : ArchivedHashTable T W ts wt) (hash : ℕ) where
+module _ {T W : Type 0} {ts : Specs T} {wt : Words W} (post : View T → Bool → Type 0) (t : ArchivedHashTable T W ts wt) (hash : ℕ) where
   -- the control bytes lead to the first accepted item of a written table
   pub finds_first : (kind : Kind) → IsKind kind → hash < 2 ^ 64 → (found : Option ℕ) → FindsFound post kind t hash found → FindsFirst post t hash found
   finds_first kind law fits found finds = λ hashes homes accept written alone under.
-      finds accept alone ∙ first_found kind law wt.word ts.shape.size (table_bytes t) (table_pos t) hash fits hashes homes accept written under
+      finds accept alone ∙ first_found kind law wt.word ts.spec.size (table_bytes t) (table_pos t) hash fits hashes homes accept written under
 
   -- a lookup by groups of sixteen as two halves is one by groups of eight
-  pub found_by_halves : (result : Option (View T)) → FindsItem post halves_kind t hash result → FindsItem post generic_kind t hash result
-  found_by_halves result h =
+  pub found_by_paired : (result : Option (View T)) → FindsItem post paired_kind t hash result → FindsItem post generic_kind t hash result
+  found_by_paired result h =
       let b = table_bytes t in
       let p = table_pos t in
-      let at : ℕ → ℕ = item_at wt.word ts.shape.size b p in
+      let at : ℕ → ℕ = item_at wt.word ts.spec.size b p in
       record {
         walked = h.walked;
         accepted = h.accepted;
-        answer = λ accept alone. h.answer accept alone ∙ ap (option_map at) (found_halves (table_controls wt.word b p) (cap_at wt.word b p) (len_at wt.word b p) hash (λ i. accept (at i)));
+        answer = λ accept alone. h.answer accept alone ∙ ap (option_map at) (found_paired (table_controls wt.word b p) (cap_at wt.word b p) (len_at wt.word b p) hash (λ i. accept (at i)));
         first = h.first;
       }
 
-  pub counted_by_halves : (before after : ℕ) → CountsStrides post halves_kind t hash before after → CountsStrides post generic_kind t hash before after
-  counted_by_halves before after h =
+  pub counted_by_paired : (before after : ℕ) → CountsStrides post paired_kind t hash before after → CountsStrides post generic_kind t hash before after
+  counted_by_paired before after h =
       let b = table_bytes t in
       let p = table_pos t in
       record {
         bounded = h.bounded;
-        counted = λ accept alone. h.counted accept alone ∙ ap (λ n. before + n) (end_halves (table_controls wt.word b p) (cap_at wt.word b p) (len_at wt.word b p) hash (λ i. accept (item_at wt.word ts.shape.size b p i)));
+        counted = λ accept alone. h.counted accept alone ∙ ap (λ n. before + n) (end_paired (table_controls wt.word b p) (cap_at wt.word b p) (len_at wt.word b p) hash (λ i. accept (item_at wt.word ts.spec.size b p i)));
       }
 
   -- the position of a found item
@@ -61,17 +61,17 @@ module _ {T W : Type 0} {ts : Shapes T} {wt : Words W} (post : View T → Bool �
   pos_of_item kind None h = record { walked = tt; accepted = tt; answer = h.answer; first = h.first }
 
 -- a lookup in the control bytes that were read, with the comparison called for items of buckets
-module _ {T W : Type 0} {ts : Shapes T} {wt : Words W} (post : View T → Bool → Type 0) (kind : Kind) (law : IsKind kind) (element : IsElement ts.shape) (items : Items T W ts wt) (are : AreItems items)
+module _ {T W : Type 0} {ts : Specs T} {wt : Words W} (post : View T → Bool → Type 0) (kind : Kind) (law : IsKind kind) (element : IsElement ts.spec) (items : ParsedTable T W ts wt) (are : IsParsed items)
     (hash : ℕ) (fits : hash < 2 ^ 64) (before after : ℕ)
     (asked : ℕ → Bool → Type 0) (meets : (i : ℕ) (r : Bool) → asked i r → (v : View T) × IsItemIn items.table i v × post v r) (found : Option ℕ)
     (finds : FindsBucket (lookup kind items.controls.now items.cap items.len hash) asked before after found) where
   abbrev place : ℕ → ℕ
-  place = item_at wt.word ts.shape.size (table_bytes items.table) (table_pos items.table)
+  place = item_at wt.word ts.spec.size (table_bytes items.table) (table_pos items.table)
 
   asks : (accept : ℕ → Bool) → Answers post items.table accept → (i : ℕ) (r : Bool) → asked i r → r ≡ accept (place i)
   asks accept alone i r told = let e = meets i r told in alone e.0 r (i, e.1) e.2 ∙ ap accept e.1.place
 
-  bucket_told : (accept : ℕ → Bool) → Answers post items.table accept → found ≡ bucket_found kind wt.word ts.shape.size (table_bytes items.table) (table_pos items.table) hash accept
+  bucket_told : (accept : ℕ → Bool) → Answers post items.table accept → found ≡ bucket_found kind wt.word ts.spec.size (table_bytes items.table) (table_pos items.table) hash accept
   bucket_told accept alone = finds.answer (λ i. accept (place i)) (λ i r full. asks accept alone i r) ∙ read_found element items are kind hash (λ i. accept (place i))
 
   pub strides_counted : CountsStrides post kind items.table hash before after

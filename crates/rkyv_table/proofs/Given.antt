@@ -5,16 +5,16 @@ use Rattle.std.specs.Int.{Width}
 use mir.Val.{bits}
 use Rattle.rkyv_base.specs.declared.errors.WriteError.{WriteError}
 use Rattle.rkyv_base.specs.declared.errors.WriteError.TheVariants.{InvalidLoadFactor, IteratorLengthMismatch, CapacityTooLarge, PositionTooLarge, DistanceTooLarge, TextTooLong, Writer, Memory, Refused}
-use Rattle.rkyv_base.proofs.GivingUp.{none_appended, told_as}
+use Rattle.rkyv_base.proofs.WritingSteps.{none_appended, told_as}
 use Rattle.rkyv_base.specs.Format.{Format}
 use Rattle.rkyv_base.specs.Layout.{IsLayout}
-use Rattle.rkyv_base.specs.Shape.{Shape}
+use Rattle.rkyv_base.specs.ElementSpec.{ElementSpec}
 use Rattle.rkyv_base.specs.Writing.{Output, end_of}
 use Rattle.rkyv_table.specs.Controls.Numbers.{capacity}
-use Rattle.rkyv_table.specs.Table.Serializing.{HasCapacity, NoFilled, NoItems, NotPlaced, OwnCause, WroteFilled, WroteItems}
+use Rattle.rkyv_table.specs.Table.Serializing.{HasCapacity, WriteFilledFails, WriteItemsFails, PlacingFails, OwnCause, WroteFilled, WroteItems}
 use Rattle.rkyv_table.specs.Table.Slots.{TableNext}
 use Rattle.rkyv_table.specs.Table.TableFormat.{InBuckets, PairsNext, table_format}
-use Rattle.rkyv_table.specs.Table.Taking.{Placed}
+use Rattle.rkyv_table.specs.Table.PlacedItems.{Placed}
 
 -- a capacity within the limit fits in a word
 pub capacity_fits : {word : Width} {limit table index align text text_limit : ℕ} (len : ℕ) (load_factor : ℕ × ℕ) (max : ℕ) → IsLayout word limit max table index align text text_limit
@@ -25,10 +25,10 @@ no_pairs : {X : Type 0} (xs : List X) → length xs ≡ 0 → xs ≡ []
 no_pairs [] e = refl
 no_pairs (x ∷ xs) e = absurd (omega (arith, e))
 
-module _ {X R : Type 0} (gave : List (ℕ × X) → Type 0) (len : ℕ) (load_factor : ℕ × ℕ) (max : ℕ) (w : Width) (s : Shape) (f : Format X R) (o o' : Output) (limit : ℕ)
+module _ {X R : Type 0} (yields : List (ℕ × X) → Type 0) (len : ℕ) (load_factor : ℕ × ℕ) (max : ℕ) (w : Width) (s : ElementSpec) (f : Format X R) (o o' : Output) (limit : ℕ)
     (has : HasCapacity len load_factor max) where
   -- nothing was written for no pairs
-  pub wrote_none : len ≡ 0 → gave [] → o' ≡ o → capacity len load_factor < 2 ^ bits w → WroteItems gave len load_factor max (table_format w s f load_factor) o o' limit (record { pos = 0; len = len; load_factor = load_factor })
+  pub wrote_none : len ≡ 0 → yields [] → o' ≡ o → capacity len load_factor < 2 ^ bits w → WroteItems yields len load_factor max (table_format w s f load_factor) o o' limit (record { pos = 0; len = len; load_factor = load_factor })
   wrote_none none g same fits = (
     has,
     [],
@@ -37,19 +37,19 @@ module _ {X R : Type 0} (gave : List (ℕ × X) → Type 0) (len : ℕ) (load_fa
   )
 
   module _ (some : 0 < len) where
-    pub wrote_some : (z : ℕ) → capacity len load_factor < 2 ^ bits w → WroteFilled gave len (capacity len load_factor) s f o o' limit z
-        → WroteItems gave len load_factor max (table_format w s f load_factor) o o' limit (record { pos = z; len = len; load_factor = load_factor })
+    pub wrote_some : (z : ℕ) → capacity len load_factor < 2 ^ bits w → WroteFilled yields len (capacity len load_factor) s f o o' limit z
+        → WroteItems yields len load_factor max (table_format w s f load_factor) o o' limit (record { pos = z; len = len; load_factor = load_factor })
     wrote_some z fits (pairs, slots, controls, taken, bytes, appended, is) =
-        let n : length pairs ≡ len = taken.came.1 in
+        let n : length pairs ≡ len = taken.exactly.1 in
         let placed : Placed (capacity (length pairs) load_factor) pairs slots controls = rw n taken.placed in (
           has,
           pairs,
-          taken.came,
+          taken.exactly,
           (bytes, appended.0, record { len = sym n; factor = refl; fits = fits; written = inr (slots, controls, (omega (arith, n, some), placed), is) }, inr appended.1),
         )
 
     module _ {F : Type 0} (other : ℕ → Type 0) where
-      own_of : (e : WriteError F) → NotPlaced len other e → OwnCause len load_factor max other e
+      own_of : (e : WriteError F) → PlacingFails len other e → OwnCause len load_factor max other e
       own_of (InvalidLoadFactor n d) h = absurd h
       own_of (CapacityTooLarge l) h = absurd h
       own_of Memory h = (has, some)
@@ -60,16 +60,16 @@ module _ {X R : Type 0} (gave : List (ℕ × X) → Type 0) (len : ℕ) (load_fa
       own_of (Writer fault) h = absurd h
       own_of (Refused c) h = absurd h
 
-      pub gave_up_some : (e : WriteError F) → NoFilled gave len (capacity len load_factor) s f o o' limit other e
-          → NoItems gave len load_factor max (table_format w s f load_factor) o o' limit other e
-      gave_up_some e (inl h) = inl (own_of e h.0, h.1)
-      gave_up_some e (inr (pairs, slots, controls, taken, told)) =
-          let n : length pairs ≡ len = taken.came.1 in
+      pub fails_some : (e : WriteError F) → WriteFilledFails yields len (capacity len load_factor) s f o o' limit other e
+          → WriteItemsFails yields len load_factor max (table_format w s f load_factor) o o' limit other e
+      fails_some e (inl h) = inl (own_of e h.0, h.1)
+      fails_some e (inr (pairs, slots, controls, taken, told)) =
+          let n : length pairs ≡ len = taken.exactly.1 in
           let placed : Placed (capacity (length pairs) load_factor) pairs slots controls = rw n taken.placed in
           let inside : InBuckets load_factor pairs slots controls = (omega (arith, n, some), placed) in
           inr (
             has,
             pairs,
-            taken.came,
+            taken.exactly,
             told_as limit (PairsNext w s f load_factor pairs (end_of o)) (TableNext s f slots controls (end_of o)) o o' e (λ g step h. (slots, controls, inside, h)) told,
           )

@@ -3,12 +3,12 @@ use Rattle.std.proofs.Common.{◌≡◌, ◌∙◌, ℕ, ◌*◌, ap, List, ℤ,
 use Rattle.std.specs.Int.{Width, w128}
 use Rattle.std.proofs.lemmas.Int.{to_z-of_z}
 use Rattle.rkyv_base.specs.Bytes.{signed_at}
-use Rattle.rkyv_table.specs.Table.Header.{begin_told, cap_at}
+use Rattle.rkyv_table.specs.Table.Header.{decode_begin, cap_at}
 
 -- the computed begin of the buckets
 pub begin_is : (w : Width) (size : ℕ) (b : List ℕ) (p : ℕ) (distance told : ℤ) (cap n : ℕ) → FitsSigned w128 told
     → distance ≡ signed_at w b p → cap ≡ cap_at w b p → n ≡ size
-    → told ≡ (pos p +ℤ distance) -ℤ pos (cap * n) → to_z w128 (of_z w128 told) ≡ begin_told w size b p
+    → told ≡ (pos p +ℤ distance) -ℤ pos (cap * n) → to_z w128 (of_z w128 told) ≡ decode_begin w size b p
 begin_is w size b p distance told cap n fits e f k h =
     to_z-of_z w128 told fits ∙ h
     ∙ ap (λ z. (pos p +ℤ z) -ℤ pos (cap * n)) e

@@ -3,7 +3,7 @@ use Rattle.std.proofs.Common.{◌≡◌, ℕ, ◌+◌, ◌-◌, ◌<◌, ◌≤�
 use Rattle.std.specs.List.{range_with_len, slice_get}
 use Rattle.std.proofs.lemmas.Option.{none-some, same_Some}
 use Rattle.rkyv_base.specs.declared.errors.VerifyError.{VerifyError}
-use Rattle.rkyv_base.specs.Shape.{Shape}
+use Rattle.rkyv_base.specs.ElementSpec.{ElementSpec}
 use Rattle.rkyv_scan.specs.Groups.{places_where}
 use Rattle.rkyv_table.specs.Lemmas.PlaceLaws.{AllBelow, range_below}
 use Rattle.rkyv_table.specs.Table.Places.{AllHold, FirstFails, SomeHold}
@@ -15,13 +15,13 @@ use Rattle.rkyv_table.proofs.Walks.{walk_small, whole_walk}
 
 -- the items in the buckets `rest` are still to be validated, from `low` on, after `count`
 -- valid ones
-pub record Goes (s : Shape) (begin cap : ℕ) (b controls : List ℕ) (lo : ℕ) (rest : List ℕ) (low count : ℕ) : Type 0 where
+pub record Goes (s : ElementSpec) (begin cap : ℕ) (b controls : List ℕ) (lo : ℕ) (rest : List ℕ) (low count : ℕ) : Type 0 where
   pub ordered : low ≤ begin
   pub counted : count + length rest ≡ length (walk controls cap)
   pub held : (m : ℕ) → AllHold s (bucket_at s.size begin cap) b begin rest low m → AllHold s (bucket_at s.size begin cap) b begin (walk controls cap) lo m
   pub failed : (e : VerifyError) → FirstFails s (bucket_at s.size begin cap) b begin rest low e → FirstFails s (bucket_at s.size begin cap) b begin (walk controls cap) lo e
 
-module _ (s : Shape) (begin cap : ℕ) (b controls : List ℕ) (lo : ℕ) where
+module _ (s : ElementSpec) (begin cap : ℕ) (b controls : List ℕ) (lo : ℕ) where
   pub goes_same : (rest rest' : List ℕ) (low count : ℕ) → rest ≡ rest' → Goes s begin cap b controls lo rest low count → Goes s begin cap b controls lo rest' low count
   goes_same rest rest' low count e h = subst (λ is. Goes s begin cap b controls lo is low count) e h
 

@@ -19,9 +19,9 @@ pub mod HomeList
 pub mod Headers
 pub mod SealedTable
 pub mod Misplaced
-pub mod Items
+pub mod ParsedTable
 pub mod FirstFound
-pub mod Taking
+pub mod PlacingSteps
 pub mod PartSteps
 pub mod BucketSteps
 pub mod TableSteps
@@ -34,7 +34,7 @@ pub mod OneWay
 pub mod ReadyOneWay
 pub mod Bare
 pub mod WalkedHomes
-pub mod TableNear
+pub mod TableLocal
 pub mod SealedLookup
 pub mod PairSeals
 pub mod SealedItems
@@ -42,7 +42,7 @@ pub mod MisplacedIn
 pub mod RawSteps
 pub mod ItemSteps
 pub mod WholeStride
-pub mod HalvesFound
+pub mod PairedFound
 pub mod FoundItems
 pub mod Listing
 pub mod Through

@@ -2,16 +2,16 @@
 use Rattle.std.proofs.Common.{◌≡◌, ℕ, ◌<◌, refl, sym, ap, subst, ◌∙◌, arith, inl, inr, List, [], ◌∷◌, ◌++◌, map, length, length-append, Result, Ok, Err, MatchResult}
 use Rattle.std.specs.Iterator.{Drains, Yields, YieldsFirstBy}
 use Rattle.std.proofs.lemmas.List.{append-nil, length-map}
-use Rattle.rkyv_base.specs.Format.{Format, GaveUp, Serialized}
+use Rattle.rkyv_base.specs.Format.{Format, SerializeFails, Serialized}
 use Rattle.rkyv_base.specs.Pairs.{written_as}
-use Rattle.rkyv_base.specs.Writing.{CauseStands, Output, end_of, capacity as too_large, load_factor, no_memory}
-use Rattle.rkyv_base.proofs.GivingUp.{grows, none_appended, told_as}
+use Rattle.rkyv_base.specs.Writing.{CauseApplies, Output, end_of, capacity as too_large, load_factor, no_memory}
+use Rattle.rkyv_base.proofs.WritingSteps.{grows, none_appended, told_as}
 use Rattle.rkyv_base.specs.declared.errors.WriteError.{WriteError}
 use Rattle.rkyv_base.specs.declared.errors.WriteError.TheVariants.{InvalidLoadFactor, IteratorLengthMismatch, CapacityTooLarge, PositionTooLarge, DistanceTooLarge, TextTooLong, Writer, Memory, Refused}
-use Rattle.rkyv_table.specs.Table.Counting.{GaveOther}
+use Rattle.rkyv_table.specs.Table.Counting.{YieldsOtherCount}
 use Rattle.rkyv_table.specs.Controls.Numbers.{capacity}
 use Rattle.rkyv_table.specs.Table.Listed.{listed}
-use Rattle.rkyv_table.specs.Table.Serializing.{HasCapacity, NoItems, OwnCause, WroteItems}
+use Rattle.rkyv_table.specs.Table.Serializing.{HasCapacity, WriteItemsFails, OwnCause, WroteItems}
 
 -- an iterator whose state shows the items that remain
 module _ {S A B : Type 0} (view : A → B) (rest : S → List B) where
@@ -23,7 +23,7 @@ module _ {S A B : Type 0} (view : A → B) (rest : S → List B) where
   all_came xs s d =
       sym (left_after xs s d.1.0 d.1.1 ∙ ap (λ (l : List B). map view xs ++ l) d.1.2.0 ∙ append-nil (map view xs))
 
-  pub no_other_came : (len : ℕ) (s : S) → length (rest s) ≡ len → (n : ℕ) → GaveOther (YieldsFirstBy view rest) len s n → ⊥
+  pub no_other_came : (len : ℕ) (s : S) → length (rest s) ≡ len → (n : ℕ) → YieldsOtherCount (YieldsFirstBy view rest) len s n → ⊥
   no_other_came len s e n h =
       let xs = h.0.0 in
       let count = length-map xs view in
@@ -36,7 +36,7 @@ module _ {S A B : Type 0} (view : A → B) (rest : S → List B) where
       ]
 
 -- the input has the items of the list, as many as claimed
-module _ {X V R : Type 0} (gave : List X → Type 0) (other : ℕ → Type 0) (seen : List X → List V) (values : List V) (all : (items : List X) → gave items → seen items ≡ values)
+module _ {X V R : Type 0} (yields : List X → Type 0) (other : ℕ → Type 0) (seen : List X → List V) (values : List V) (all : (items : List X) → yields items → seen items ≡ values)
     (none : (n : ℕ) → other n → ⊥) (len : ℕ) (count : len ≡ length values) (factor : ℕ × ℕ) (max limit : ℕ) (f : Format (List V) R) (o o' : Output) where
   abbrev Whole : Format (List V) R
   Whole = listed max factor f
@@ -44,25 +44,25 @@ module _ {X V R : Type 0} (gave : List X → Type 0) (other : ℕ → Type 0) (s
   has : HasCapacity len factor max → HasCapacity (length values) factor max
   has h = subst (λ n. HasCapacity n factor max) count h
 
-  own_stands : {F : Type 0} (e : WriteError F) → OwnCause len factor max other e → CauseStands limit (Whole.next values (end_of o)) o o [] e
-  own_stands (InvalidLoadFactor n d) h = (inl refl, refl, inl (load_factor n d, inl (cc, h.1), (refl, refl)))
-  own_stands (CapacityTooLarge l) h = (inl refl, refl, inl (too_large l, inr (inl (cc, h.1, subst (λ n. max < capacity n factor) count h.2)), (refl, refl)))
-  own_stands Memory h = (inl refl, refl, inl (no_memory, inr (inr (refl, has h.0, omega (arith, h.1, count))), (refl, refl)))
-  own_stands (IteratorLengthMismatch m) h = absurd (none m.actual h.2)
-  own_stands PositionTooLarge h = absurd h
-  own_stands DistanceTooLarge h = absurd h
-  own_stands TextTooLong h = absurd h
-  own_stands (Writer fault) h = absurd h
-  own_stands (Refused c) h = absurd h
+  own_represents : {F : Type 0} (e : WriteError F) → OwnCause len factor max other e → CauseApplies limit (Whole.next values (end_of o)) o o [] e
+  own_represents (InvalidLoadFactor n d) h = (inl refl, refl, inl (load_factor n d, inl (cc, h.1), (refl, refl)))
+  own_represents (CapacityTooLarge l) h = (inl refl, refl, inl (too_large l, inr (inl (cc, h.1, subst (λ n. max < capacity n factor) count h.2)), (refl, refl)))
+  own_represents Memory h = (inl refl, refl, inl (no_memory, inr (inr (refl, has h.0, omega (arith, h.1, count))), (refl, refl)))
+  own_represents (IteratorLengthMismatch m) h = absurd (none m.actual h.2)
+  own_represents PositionTooLarge h = absurd h
+  own_represents DistanceTooLarge h = absurd h
+  own_represents TextTooLong h = absurd h
+  own_represents (Writer fault) h = absurd h
+  own_represents (Refused c) h = absurd h
 
   pub answers_listed : {F : Type 0} (result : Result R (WriteError F))
-      → MatchResult result (WroteItems gave len factor max (written_as seen f) o o' limit) (NoItems gave len factor max (written_as seen f) o o' limit other)
-      → MatchResult result (Serialized limit Whole values o o') (GaveUp limit Whole values o o')
+      → MatchResult result (WroteItems yields len factor max (written_as seen f) o o' limit) (WriteItemsFails yields len factor max (written_as seen f) o o' limit other)
+      → MatchResult result (Serialized limit Whole values o o') (SerializeFails limit Whole values o o')
   answers_listed (Ok r) h =
       let x = subst (λ (vs : List V). Serialized limit f vs o o' r) (all h.1 h.2.0) h.3 in
       (x.0, x.1, (has h.0, x.2), x.3)
   answers_listed (Err e) (inl h) =
-      subst (λ x. GaveUp limit Whole values o x e) (sym h.1) (record { front = []; kept = grows o o [] (none_appended o); cause = own_stands e h.0 })
+      subst (λ x. SerializeFails limit Whole values o x e) (sym h.1) (record { front = []; kept = grows o o [] (none_appended o); cause = own_represents e h.0 })
   answers_listed (Err e) (inr h) =
       told_as limit (Whole.next values (end_of o)) (f.next values (end_of o)) o o' e (λ front step n. inr (has h.0, n))
-      (subst (λ (vs : List V). GaveUp limit f vs o o' e) (all h.1 h.2.0) h.3)
+      (subst (λ (vs : List V). SerializeFails limit f vs o o' e) (all h.1 h.2.0) h.3)

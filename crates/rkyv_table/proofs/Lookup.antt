@@ -8,7 +8,7 @@ use Rattle.std.proofs.lemmas.Bool.{cases_Bool, cases_eq, cases_lt, eq-eqb, ne_eq
 use Rattle.rkyv_table.specs.Controls.Numbers.{start, tag, control_count, probe_capacity}
 use Rattle.rkyv_table.specs.Controls.Probe.{strides}
 use Rattle.rkyv_table.specs.Controls.Shown.{IsFullBucket}
-use Rattle.rkyv_table.specs.Controls.Seen.{IsShown}
+use Rattle.rkyv_table.specs.Controls.StrideOutcome.{IsShown}
 use Rattle.rkyv_table.specs.Controls.Placing.{Accepted, walk}
 use Rattle.rkyv_scan.specs.Groups.{Kind, IsKind}
 use Rattle.rkyv_table.specs.Controls.Finding.{marked, candidates, shows_empty, ends_at, found, end}

@@ -3,7 +3,7 @@ use Rattle.std.proofs.Common.{◌≡◌, ◌∙◌, ℕ, zero, suc, ◌+◌, ◌
 use Rattle.rkyv_scan.specs.Groups.{Kind, IsKind, places_where}
 use Rattle.std.proofs.lemmas.Bool.{cases_Bool}
 use Rattle.std.specs.List.{find, slice_get, range_with_len}
-use Rattle.rkyv_table.specs.Controls.Seen.{IsMarked, IsShown}
+use Rattle.rkyv_table.specs.Controls.StrideOutcome.{IsMarked, IsShown}
 use Rattle.std.proofs.lemmas.Option.{none-some, same_Some}
 
 pub head_found : (f : ℕ → ℕ) (accept : ℕ → Bool) (xs : List ℕ) (j : ℕ) → Some j ≡ slice_get xs 0 → accept (f j) ≡ true → Some (f j) ≡ find accept (map f xs)

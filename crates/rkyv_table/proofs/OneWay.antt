@@ -6,7 +6,7 @@ use Rattle.std.proofs.lemmas.Bool.{cases_Bool, not-false}
 use Rattle.std.proofs.lemmas.List.{ext_get_or, get_or_default}
 use Rattle.std.proofs.lemmas.Option.{get_or_from_slice_get, slice_get_cases}
 use Rattle.rkyv_base.specs.Format.{Format}
-use Rattle.rkyv_base.specs.Shape.{Shape}
+use Rattle.rkyv_base.specs.ElementSpec.{ElementSpec}
 use Rattle.rkyv_base.specs.Entry.{round_up}
 use Rattle.rkyv_base.specs.Writing.{padding, zeros}
 use Rattle.rkyv_table.specs.Controls.Numbers.{capacity}
@@ -16,7 +16,7 @@ use Rattle.rkyv_table.specs.Table.Header.{IsHeader, header_bytes}
 use Rattle.rkyv_table.specs.Table.OneWay.{WritesOneWay}
 use Rattle.rkyv_table.specs.Table.Slots.{SlotImages, SlotParts, TableBytes}
 use Rattle.rkyv_table.specs.Table.TableFormat.{TableResolver, TableWritten, resolved_capacity, table_format}
-use Rattle.rkyv_table.specs.Table.Taking.{Placed, Slotted, hashes_of, items_of}
+use Rattle.rkyv_table.specs.Table.PlacedItems.{Placed, Slotted, hashes_of, items_of}
 use Rattle.rkyv_table.proofs.HomeList.{homes_one_list, written_one_list}
 use Rattle.rkyv_table.proofs.Lists.{member_contains}
 
@@ -50,7 +50,7 @@ module _ {X R : Type 0} (f : Format X R) (one : WritesOneWay f) where
       (subst (λ (k : List R). SlotImages size f ss k (z - size) h.2) (sym q) h.6) (subst (λ (k : List R). SlotImages size f ss k (z - size) h'.2) (sym q') h'.6) in
       h.7 ∙ ap (λ (b : List ℕ). h.2 ++ b) item ∙ ap (λ (a : List ℕ). a ++ h'.3) others ∙ sym h'.7
 
-  module _ (s : Shape) (slots : List (Option X)) (controls : List ℕ) (p : ℕ) where
+  module _ (s : ElementSpec) (slots : List (Option X)) (controls : List ℕ) (p : ℕ) where
     -- the bytes of a table whose items are placed, and the position of its first control byte
     bytes_one_way : (z z' : ℕ) (bytes bytes' : List ℕ) → TableBytes s f slots controls p z bytes → TableBytes s f slots controls p z' bytes' → (z ≡ z') × (bytes ≡ bytes')
     bytes_one_way z z' bytes bytes' t t' =
@@ -110,7 +110,7 @@ resolver_is r r' pos len factor =
     let b : record r { pos = r'.pos } ≡ record r' { load_factor = r.load_factor } = ap (λ n. record r { pos = r'.pos; len = n }) len in
     a ∙ b ∙ ap (λ n. record r' { load_factor = n }) factor
 
-module _ {X R : Type 0} (w : Width) (s : Shape) (f : Format X R) (one : WritesOneWay f) (factor : ℕ × ℕ) where
+module _ {X R : Type 0} (w : Width) (s : ElementSpec) (f : Format X R) (one : WritesOneWay f) (factor : ℕ × ℕ) where
   module _ (pairs : List (ℕ × X)) (p : ℕ) where
     written_one_way : (z z' : ℕ) (part part' : List ℕ) → TableWritten w s f factor pairs p z part → TableWritten w s f factor pairs p z' part' → (part ≡ part') × (z ≡ z')
     written_one_way z z' part part' (inl h) (inl h') = (h.1 ∙ sym h'.1, h.2 ∙ sym h'.2)

@@ -4,9 +4,9 @@ use Rattle.std.specs.Prelude.{slice_get}
 use Rattle.std.proofs.lemmas.List.{take_more, take-append-drop}
 use Rattle.std.proofs.lemmas.Option.{slice_get-get_or}
 use Rattle.rkyv_base.specs.declared.errors.WriteError.{WriteError}
-use Rattle.rkyv_base.specs.Writing.{Output, end_of, Appends, Told, Within}
+use Rattle.rkyv_base.specs.Writing.{Output, end_of, Appends, WriteFails, Within}
 use Rattle.rkyv_base.specs.Format.{Format}
-use Rattle.rkyv_base.proofs.GivingUp.{end-appends, told_after}
+use Rattle.rkyv_base.proofs.WritingSteps.{end-appends, told_after}
 use Rattle.rkyv_table.specs.Table.Slots.{SlotParts, PartsNext, filled}
 
 zero_plus : (n : ℕ) → 0 + n ≡ n
@@ -90,7 +90,7 @@ module _ {X R : Type 0} (f : Format X R) where
           omega arith
 
       pub step_told : {F : Type 0} (limit : ℕ) (o2 : Output) (err : WriteError F) → Within limit o1 part
-          → Told limit (f.next x (end_of o1)) o1 o2 err → Told limit (PartsNext f slots (end_of o)) o o2 err
+          → WriteFails limit (f.next x (end_of o1)) o1 o2 err → WriteFails limit (PartsNext f slots (end_of o)) o o2 err
       step_told limit o2 err within t =
           let at : end_of o1 ≡ end_of o + length part = end-appends o o1 part a1 in
           let s : slice_get slots i ≡ Some (Some x) = slice_get-get_or slots i None inside ∙ ap Some e in

@@ -2,7 +2,7 @@
 use Rattle.std.proofs.Common.{ℕ, ◌+◌, ◌≤◌, arith, length}
 use Rattle.std.specs.Int.{Width}
 use Rattle.rkyv_base.specs.Format.{Format, IsFormat}
-use Rattle.rkyv_base.specs.Shape.{IsElement, Shape}
+use Rattle.rkyv_base.specs.ElementSpec.{IsElement, ElementSpec}
 use Rattle.rkyv_base.specs.Text.{IsArchiveWord}
 use Rattle.rkyv_table.specs.Lemmas.TableLaws.{table_element}
 use Rattle.rkyv_table.specs.Lemmas.TableSound.{table_is_format}
@@ -10,15 +10,15 @@ use Rattle.rkyv_table.specs.Table.Passing.{HoldsAround, WrittenTablesPass}
 use Rattle.std.proofs.Common.{List}
 
 -- a value that is valid in a range is valid in each range around it
-pub holds_around : (s : Shape) → IsElement s → (c : List ℕ) (p begin end l : ℕ) → begin ≤ end → s.holds c p begin end l → HoldsAround s c p begin end
+pub holds_around : (s : ElementSpec) → IsElement s → (c : List ℕ) (p begin end l : ℕ) → begin ≤ end → s.holds c p begin end l → HoldsAround s c p begin end
 holds_around s law c p begin end l o h lo hi below above =
-    let d = law.lower c p begin lo end l below o h in
-    let b = law.between c p begin end l o h in
-    let within = law.between c p lo end d.0 (omega arith) d.1 in
-    (d.0, law.higher c p lo end hi d.0 above d.1, within.0, within.1)
+    let d = law.lower_lo c p begin lo end l below o h in
+    let b = law.rest_in_range c p begin end l o h in
+    let within = law.rest_in_range c p lo end d.0 (omega arith) d.1 in
+    (d.0, law.widen_hi c p lo end hi d.0 above d.1, within.0, within.1)
 
-pub tables_pass : {X R : Type 0} (w : Width) → IsArchiveWord w → (s : Shape) → IsElement s → (stands : List ℕ → ℕ → X → Type 0) (f : Format X R) → IsFormat s stands f
+pub tables_pass : {X R : Type 0} (w : Width) → IsArchiveWord w → (s : ElementSpec) → IsElement s → (represents : List ℕ → ℕ → X → Type 0) (f : Format X R) → IsFormat s represents f
     → (factor : ℕ × ℕ) → WrittenTablesPass w s f factor
-tables_pass w kind s law stands f fl factor pairs r c begin p part out made image sits head behind aligned =
-    let d = (table_is_format w kind s law stands f fl factor).sound pairs r c begin p part out made image sits head behind aligned in
+tables_pass w kind s law represents f fl factor pairs r c begin p part out made image sits head behind aligned =
+    let d = (table_is_format w kind s law represents f fl factor).sound pairs r c begin p part out made image sits head behind aligned in
     holds_around _ (table_element w kind s law) c p begin (begin + length part) d.0 (omega arith) d.1

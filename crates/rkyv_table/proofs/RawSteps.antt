@@ -9,7 +9,7 @@ use Rattle.std.proofs.lemmas.List.Elements.{All-head, All-rest, All-same, filter
 use Rattle.rkyv_scan.specs.Groups.{places_where}
 use Rattle.rkyv_table.specs.Controls.Numbers.{control_count}
 use Rattle.rkyv_table.specs.Controls.Placing.{walk}
-use Rattle.rkyv_table.specs.Table.RawItems.{IsAhead, IsRawIter, buckets_left, marked_left, pos_before, places_left}
+use Rattle.rkyv_table.specs.Table.RawItems.{IsAhead, IsRawIter, buckets_left, marked_left, pos_before, positions_left}
 use Rattle.rkyv_table.specs.Controls.Walking.{full_from}
 use Rattle.rkyv_table.proofs.FirstFree.{head_filter}
 use Rattle.rkyv_table.proofs.Groups.{filter_shift, range_append}
@@ -68,37 +68,37 @@ split_head : (xs : List ℕ) → 0 < length xs → (x : ℕ) × (rest : List ℕ
 split_head [] h = absurd (omega arith)
 split_head (x ∷ xs) h = (x, xs, refl)
 
-module _ (place size count : ℕ) (controls : List ℕ) (base : ℕ) (marks : List ℕ) (is : IsRawIter place size count controls base marks) where
+module _ (buckets_end size count : ℕ) (controls : List ℕ) (base : ℕ) (marks : List ℕ) (is : IsRawIter buckets_end size count controls base marks) where
   head_left : (j : ℕ) → 0 < count → Some j ≡ slice_get marks 0 → buckets_left count controls base marks ≡ (base + j) ∷ buckets_left (count - 1) controls base (drop 1 marks)
   unfolding buckets_left
   head_left j some e = ap (take count) (head_marked controls base j marks e) ∙ take_cons count (base + j) (marked_left controls base (drop 1 marks)) some
 
-  head_ahead : (j : ℕ) → 0 < count → Some j ≡ slice_get marks 0 → IsAhead (place + base * size) size controls (base + j)
+  head_ahead : (j : ℕ) → 0 < count → Some j ≡ slice_get marks 0 → IsAhead (buckets_end + base * size) size controls (base + j)
   head_ahead j some e =
-      All-head (IsAhead (place + base * size) size controls) (base + j) (buckets_left (count - 1) controls base (drop 1 marks))
-      (All-same (IsAhead (place + base * size) size controls) ((base + j) ∷ buckets_left (count - 1) controls base (drop 1 marks)) (buckets_left count controls base marks) (sym (head_left j some e)) is.ahead)
+      All-head (IsAhead (buckets_end + base * size) size controls) (base + j) (buckets_left (count - 1) controls base (drop 1 marks))
+      (All-same (IsAhead (buckets_end + base * size) size controls) ((base + j) ∷ buckets_left (count - 1) controls base (drop 1 marks)) (buckets_left count controls base marks) (sym (head_left j some e)) is.ahead)
 
   -- the bucket of the lowest mark is before the position
-  pub head_before : (j : ℕ) → 0 < count → Some j ≡ slice_get marks 0 → (j + 8 ≤ length controls) × ((j + 1) * size ≤ place)
+  pub head_before : (j : ℕ) → 0 < count → Some j ≡ slice_get marks 0 → (j + 8 ≤ length controls) × ((j + 1) * size ≤ buckets_end)
   head_before j some e =
       let h = head_ahead j some e in
       let p : (base + j + 1) * size ≡ base * size + (j + 1) * size = omega arith in
       (omega (arith, h.0), omega (arith, h.1, p))
 
-  pub head_places : (j : ℕ) → 0 < count → Some j ≡ slice_get marks 0 → places_left place size count controls base marks ≡ (place - (j + 1) * size) ∷ places_left place size (count - 1) controls base (drop 1 marks)
+  pub head_places : (j : ℕ) → 0 < count → Some j ≡ slice_get marks 0 → positions_left buckets_end size count controls base marks ≡ (buckets_end - (j + 1) * size) ∷ positions_left buckets_end size (count - 1) controls base (drop 1 marks)
   head_places j some e =
       let p : (base + j + 1) * size ≡ base * size + (j + 1) * size = omega arith in
-      let q : place + base * size - (base + j + 1) * size ≡ place - (j + 1) * size = omega (arith, p) in
-      ap (map (pos_before (place + base * size) size)) (head_left j some e)
-      ∙ ap (λ x. x ∷ places_left place size (count - 1) controls base (drop 1 marks)) q
+      let q : buckets_end + base * size - (base + j + 1) * size ≡ buckets_end - (j + 1) * size = omega (arith, p) in
+      ap (map (pos_before (buckets_end + base * size) size)) (head_left j some e)
+      ∙ ap (λ x. x ∷ positions_left buckets_end size (count - 1) controls base (drop 1 marks)) q
 
-  pub head_keeps : (j : ℕ) → 0 < count → Some j ≡ slice_get marks 0 → IsRawIter place size (count - 1) controls base (drop 1 marks)
+  pub head_keeps : (j : ℕ) → 0 < count → Some j ≡ slice_get marks 0 → IsRawIter buckets_end size (count - 1) controls base (drop 1 marks)
   head_keeps j some e =
       let h = head_left j some e in
       let l = ap length h in
       record {
         counted = omega (arith, is.counted, l);
-        ahead = All-rest (IsAhead (place + base * size) size controls) (base + j) (buckets_left (count - 1) controls base (drop 1 marks)) (buckets_left count controls base marks) h is.ahead;
+        ahead = All-rest (IsAhead (buckets_end + base * size) size controls) (base + j) (buckets_left (count - 1) controls base (drop 1 marks)) (buckets_left count controls base marks) h is.ahead;
       }
 
   -- no mark is left, and some bucket is
@@ -106,7 +106,7 @@ module _ (place size count : ℕ) (controls : List ℕ) (base : ℕ) (marks : Li
   unfolding buckets_left
   rest_left e = ap (take count) (none_marked controls base marks e)
 
-  next_ahead : 0 < count → None ≡ slice_get marks 0 → (q : ℕ) × (base + 8 ≤ q) × IsAhead (place + base * size) size controls q
+  next_ahead : 0 < count → None ≡ slice_get marks 0 → (q : ℕ) × (base + 8 ≤ q) × IsAhead (buckets_end + base * size) size controls q
   next_ahead some e =
       let r = rest_left e in
       let full = full_from controls (length controls) (base + 8) in
@@ -118,12 +118,12 @@ module _ (place size count : ℕ) (controls : List ℕ) (base : ℕ) (marks : Li
       let t = r ∙ ap (take count) h.2 ∙ take_cons count h.0 h.1 some in (
         h.0,
         full_head controls (length controls) (base + 8) h.0 h.1 h.2,
-        All-head (IsAhead (place + base * size) size controls) h.0 (take (count - 1) h.1)
-            (All-same (IsAhead (place + base * size) size controls) (h.0 ∷ take (count - 1) h.1) (buckets_left count controls base marks) (sym t) is.ahead),
+        All-head (IsAhead (buckets_end + base * size) size controls) h.0 (take (count - 1) h.1)
+            (All-same (IsAhead (buckets_end + base * size) size controls) (h.0 ∷ take (count - 1) h.1) (buckets_left count controls base marks) (sym t) is.ahead),
       )
 
   -- the next group is inside the control bytes, and its buckets are before the position
-  pub next_inside : 0 < count → None ≡ slice_get marks 0 → (base + 16 ≤ length controls) × (8 * size ≤ place)
+  pub next_inside : 0 < count → None ≡ slice_get marks 0 → (base + 16 ≤ length controls) × (8 * size ≤ buckets_end)
   next_inside some e =
       let h = next_ahead some e in
       let m = mul-le-mul_right {m = base + 9} {n = h.0 + 1} size (omega (arith, h.1)) in
@@ -136,21 +136,21 @@ module _ (place size count : ℕ) (controls : List ℕ) (base : ℕ) (marks : Li
         let h = next_inside some none in
         rest_left none ∙ sym (ap (take count) (group_marked controls (base + 8) marks' (omega (arith, h.0)) read))
 
-    next_place : place - 8 * size + (base + 8) * size ≡ place + base * size
+    next_place : buckets_end - 8 * size + (base + 8) * size ≡ buckets_end + base * size
     next_place =
         let h = next_inside some none in
         let p : (base + 8) * size ≡ base * size + 8 * size = omega arith in
         omega (arith, p, h.1)
 
-    pub next_places : places_left place size count controls base marks ≡ places_left (place - 8 * size) size count controls (base + 8) marks'
+    pub next_places : positions_left buckets_end size count controls base marks ≡ positions_left (buckets_end - 8 * size) size count controls (base + 8) marks'
     next_places =
-        ap (map (pos_before (place + base * size) size)) next_left
+        ap (map (pos_before (buckets_end + base * size) size)) next_left
         ∙ ap (λ z. map (pos_before z size) (buckets_left count controls (base + 8) marks')) (sym next_place)
 
-    pub next_keeps : IsRawIter (place - 8 * size) size count controls (base + 8) marks'
+    pub next_keeps : IsRawIter (buckets_end - 8 * size) size count controls (base + 8) marks'
     next_keeps = record {
       counted = is.counted ∙ ap length next_left;
-      ahead = All-same (IsAhead (place - 8 * size + (base + 8) * size) size controls) (buckets_left count controls (base + 8) marks') (buckets_left count controls base marks) (sym next_left)
+      ahead = All-same (IsAhead (buckets_end - 8 * size + (base + 8) * size) size controls) (buckets_left count controls (base + 8) marks') (buckets_left count controls base marks) (sym next_left)
           (rw next_place is.ahead);
     }
 
@@ -159,8 +159,8 @@ pub end_left : (count : ℕ) (controls : List ℕ) (base : ℕ) (marks : List �
 unfolding buckets_left
 end_left count controls base marks e = ap (λ n. take n (marked_left controls base marks)) e
 
-pub end_places : (place size count : ℕ) (controls : List ℕ) (base : ℕ) (marks : List ℕ) → count ≡ 0 → places_left place size count controls base marks ≡ []
-end_places place size count controls base marks e = ap (map (pos_before (place + base * size) size)) (end_left count controls base marks e)
+pub end_places : (buckets_end size count : ℕ) (controls : List ℕ) (base : ℕ) (marks : List ℕ) → count ≡ 0 → positions_left buckets_end size count controls base marks ≡ []
+end_places buckets_end size count controls base marks e = ap (map (pos_before (buckets_end + base * size) size)) (end_left count controls base marks e)
 
 -- the buckets of a walk are the first full indices
 walked_first : (controls : List ℕ) (cap : ℕ) → cap ≤ length controls → take (length (walk controls cap)) (full_from controls (length controls) 0) ≡ walk controls cap

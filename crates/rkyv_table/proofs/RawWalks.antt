@@ -5,27 +5,27 @@ use Rattle.std.specs.List.{All, Contains}
 use Rattle.std.proofs.lemmas.Bool.{cases_eq}
 use Rattle.std.proofs.lemmas.List.{length-map}
 use Rattle.std.proofs.lemmas.List.Elements.{All-contains_itself, All-map, All-weaker}
-use Rattle.rkyv_base.specs.Shape.{IsElement, Shape, Viewed}
+use Rattle.rkyv_base.specs.ElementSpec.{IsElement, ElementSpec, Viewable}
 use Rattle.rkyv_table.specs.Table.Header.{cap_at, controls_pos, len_at}
 use Rattle.rkyv_table.specs.Controls.Placing.{walk}
 use Rattle.rkyv_table.specs.Table.RawItems.{IsAhead, pos_before}
 use Rattle.rkyv_table.specs.Table.Positions.{IsWalked, item_at, item_positions, table_controls}
-use Rattle.rkyv_table.specs.Table.Layout.{table_shape}
-use Rattle.rkyv_table.proofs.Items.{controls_accepted, item_before, item_viewed, no_items}
+use Rattle.rkyv_table.specs.Table.Layout.{table_spec}
+use Rattle.rkyv_table.proofs.ParsedTable.{controls_accepted, item_before, item_viewable, no_items}
 use Rattle.rkyv_table.proofs.Walks.{walk_none, walked_full}
 
-module _ (w : Width) (s : Shape) (law : IsElement s) (b : List ℕ) (p : ℕ) where
+module _ (w : Width) (s : ElementSpec) (law : IsElement s) (b : List ℕ) (p : ℕ) where
   none_walked : cap_at w b p ≡ 0 → walk (table_controls w b p) (cap_at w b p) ≡ []
   none_walked none = ap (walk (table_controls w b p)) none ∙ walk_none (table_controls w b p)
 
   -- a table has as many items as full buckets
-  pub walk_count : Viewed (table_shape w s) b p → length (walk (table_controls w b p) (cap_at w b p)) ≡ len_at w b p
+  pub walk_count : Viewable (table_spec w s) b p → length (walk (table_controls w b p) (cap_at w b p)) ≡ len_at w b p
   walk_count v = elim (cases_eq (cap_at w b p) 0) [
     | inl none ↦ ap length (none_walked none) ∙ sym (no_items w s law b p v none)
     | inr some ↦ (controls_accepted w s law b p v (omega arith)).full
   ]
 
-  pub places_count : Viewed (table_shape w s) b p → length (item_positions w s.size b p) ≡ len_at w b p
+  pub places_count : Viewable (table_spec w s) b p → length (item_positions w s.size b p) ≡ len_at w b p
   places_count v = length-map (walk (table_controls w b p) (cap_at w b p)) (item_at w s.size b p) ∙ walk_count v
 
   -- each bucket of the walk has an item
@@ -34,14 +34,14 @@ module _ (w : Width) (s : Shape) (law : IsElement s) (b : List ℕ) (p : ℕ) wh
       All-weaker (Contains (walk (table_controls w b p) (cap_at w b p))) (IsWalked w b p) (λ i h. walked_full (cap_at w b p) (table_controls w b p) i h)
       (walk (table_controls w b p) (cap_at w b p)) (All-contains_itself (walk (table_controls w b p) (cap_at w b p)))
 
-  pub places_viewed : Viewed (table_shape w s) b p → All (Viewed s b) (item_positions w s.size b p)
-  places_viewed v =
-      All-map (Viewed s b) (item_at w s.size b p) (walk (table_controls w b p) (cap_at w b p))
-      (All-weaker (IsWalked w b p) (λ i. Viewed s b (item_at w s.size b p i)) (λ i h. item_viewed w s law b p v i h) (walk (table_controls w b p) (cap_at w b p)) walked_all)
+  pub places_viewable : Viewable (table_spec w s) b p → All (Viewable s b) (item_positions w s.size b p)
+  places_viewable v =
+      All-map (Viewable s b) (item_at w s.size b p) (walk (table_controls w b p) (cap_at w b p))
+      (All-weaker (IsWalked w b p) (λ i. Viewable s b (item_at w s.size b p i)) (λ i h. item_viewable w s law b p v i h) (walk (table_controls w b p) (cap_at w b p)) walked_all)
 
   -- each bucket of the walk is before the position that was read of the header, and its group
   -- is inside the control bytes
-  pub read_ahead : Viewed (table_shape w s) b p → (place : ℕ) → (0 < cap_at w b p → place ≡ controls_pos w b p) → (controls : List ℕ) → (0 < cap_at w b p → controls ≡ table_controls w b p)
+  pub read_ahead : Viewable (table_spec w s) b p → (place : ℕ) → (0 < cap_at w b p → place ≡ controls_pos w b p) → (controls : List ℕ) → (0 < cap_at w b p → controls ≡ table_controls w b p)
       → All (IsAhead place s.size controls) (walk (table_controls w b p) (cap_at w b p))
   read_ahead v place is controls shown =
       All-weaker (IsWalked w b p) (IsAhead place s.size controls)

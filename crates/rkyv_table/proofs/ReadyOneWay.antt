@@ -8,8 +8,9 @@ use Rattle.rkyv_base.specs.Entry.{value_offset, whole_size}
 use Rattle.rkyv_base.specs.Format.{Format}
 use Rattle.rkyv_base.specs.Pairs.{PairImage, PairParts, pair_bytes, pair_format, written_as}
 use Rattle.rkyv_base.specs.Scalar.{Encoding, scalar_format}
-use Rattle.rkyv_base.specs.Shape.{Shape}
-use Rattle.rkyv_base.specs.Text.{IsArchiveWord, by_archive_word, text_size}
+use Rattle.rkyv_base.specs.ElementSpec.{ElementSpec}
+use Rattle.rkyv_base.specs.Text.{IsArchiveWord, text_size}
+use Rattle.rkyv_base.specs.Lemmas.Text.{by_archive_word}
 use Rattle.rkyv_base.specs.TextWriting.{TextImage, TextParts, text_format, text_limit}
 use Rattle.rkyv_table.specs.Table.OneWay.{WritesOneWay}
 
@@ -61,7 +62,7 @@ texts_one_way w kind = record {
   image = λ t begin p part out out' r made h h'. text_image w kind t p out out' r (below_limit w kind t begin part r made) h h';
 }
 
-module _ {V W R Q : Type 0} (k v : Shape) (kf : Format V R) (vf : Format W Q) (ko : WritesOneWay kf) (vo : WritesOneWay vf) where
+module _ {V W R Q : Type 0} (k v : ElementSpec) (kf : Format V R) (vf : Format W Q) (ko : WritesOneWay kf) (vo : WritesOneWay vf) where
   pair_parts : (pair : V × W) (p : ℕ) (part part' : List ℕ) (r r' : EntryResolver R Q) → PairParts k v kf vf pair p part r → PairParts k v kf vf pair p part' r'
       → (part ≡ part') × (r ≡ r')
   pair_parts pair p part part' r r' h h' =

@@ -1,31 +1,31 @@
 -- The steps of a cursor that writes items in place.
-use Rattle.rkyv_base.specs.declared.element.Shaped.{Ghosts as Shapes}
+use Rattle.rkyv_base.specs.declared.element.HasSpec.{Ghosts as Specs}
 use Rattle.rkyv_base.specs.declared.width.Word.{Ghosts as Words}
 use Rattle.std.proofs.Common.{◌≡◌, ℕ, ◌+◌, ◌-◌, ◌*◌, ◌<◌, ◌≤◌, suc, inl, inr, refl, sym, ap, subst, ◌∙◌, arith, List, [], ◌∷◌, length, slice_index, slice_range, take, drop, get_or-take}
 use Rattle.std.specs.Int.{Width}
 use Rattle.std.proofs.lemmas.Bool.{cases_eq, le-ltb, lt-ltb}
-use Rattle.rkyv_base.specs.Shape.{IsElement, Shape, Viewed}
+use Rattle.rkyv_base.specs.ElementSpec.{IsElement, ElementSpec, Viewable}
 use Rattle.rkyv_scan.specs.Groups.{is_full}
 use Rattle.rkyv_table.specs.Table.Header.{cap_at, controls_pos, len_at}
 use Rattle.rkyv_table.specs.Controls.Numbers.{control_count}
 use Rattle.rkyv_table.specs.Table.RawItems.{pos_before}
 use Rattle.rkyv_table.specs.Table.Positions.{IsWalked, item_at, table_controls}
-use Rattle.rkyv_table.specs.Table.Reading.{AreItems, table_bytes, table_pos}
+use Rattle.rkyv_table.specs.Table.Reading.{IsParsed, table_bytes, table_pos}
 use Rattle.rkyv_table.specs.Table.SealedLookup.{IsReadAt, IsTableSeal}
 use Rattle.rkyv_table.specs.declared.table.TableOf.{TableOf}
-use Rattle.rkyv_table.specs.declared.table.items.Items.{Items}
+use Rattle.rkyv_table.specs.declared.table.items.ParsedTable.{ParsedTable}
 use Rattle.rkyv_base.specs.Seal.{archive_in, pos_in}
 use Rattle.rkyv_base.specs.declared.seal.ArchiveSeal.{ArchiveSeal}
 use Rattle.rkyv_table.specs.Controls.Placing.{walk}
 use Rattle.rkyv_table.specs.Table.SealedItems.{IsItemAt, IsSealIter, StaysThere, buckets_left}
 use Rattle.rkyv_table.specs.Lemmas.SameHeader.{cap_same, pos_same}
 use Rattle.rkyv_table.specs.Table.SealedTable.{KeepsTable}
-use Rattle.rkyv_table.specs.Table.Layout.{table_shape}
+use Rattle.rkyv_table.specs.Table.Layout.{table_spec}
 use Rattle.rkyv_base.specs.Sealing.{Keeps, Sealed}
-use Rattle.rkyv_base.proofs.Sealing.{viewed_kept}
+use Rattle.rkyv_base.proofs.Sealing.{viewable_kept}
 use Rattle.rkyv_table.specs.Controls.Walking.{full_from}
 use Rattle.rkyv_table.specs.declared.table.raw_iter_seal.RawIterSeal.{RawIterSeal}
-use Rattle.rkyv_table.proofs.Items.{controls_inside, item_before, item_viewed}
+use Rattle.rkyv_table.proofs.ParsedTable.{controls_inside, item_before, item_viewable}
 use Rattle.rkyv_table.proofs.RawWalks.{walk_count}
 use Rattle.rkyv_table.proofs.SealedTable.{table_kept}
 use Rattle.rkyv_table.proofs.Walks.{filter_agree_range, whole_walk}
@@ -52,12 +52,12 @@ full_end controls cap b h = let e : cap - b ≡ 0 = omega arith in rw e refl
 front_same : (xs : List ℕ) (n m i : ℕ) → i < n → i < m → slice_index (take n xs) i ≡ slice_index (take m xs) i
 front_same xs n m i h k = get_or-take n xs i 0 h ∙ sym (get_or-take m xs i 0 k)
 
-module _ {T : Type 0} (w : Width) (s : Shape) (law : IsElement s) (p : ℕ) (r : RawIterSeal T) (is : IsSealIter w s p r) where
+module _ {T : Type 0} (w : Width) (s : ElementSpec) (law : IsElement s) (p : ℕ) (r : RawIterSeal T) (is : IsSealIter w s p r) where
   abbrev bytes : List ℕ
   bytes = r.archive.now
 
   abbrev controls : List ℕ
-  controls = slice_range bytes r.place (r.place + r.cap)
+  controls = slice_range bytes r.buckets_end (r.buckets_end + r.cap)
 
   some_buckets : 0 < r.left → 0 < r.cap
   some_buckets h = elim (cases_eq r.cap 0) [
@@ -68,7 +68,7 @@ module _ {T : Type 0} (w : Width) (s : Shape) (law : IsElement s) (p : ℕ) (r :
   cap_some : 0 < r.cap → 0 < cap_at w bytes p
   cap_some h = subst (λ n. 0 < n) is.cap h
 
-  pub part_there : 0 < r.left → r.place + r.cap ≤ length bytes
+  pub part_there : 0 < r.left → r.buckets_end + r.cap ≤ length bytes
   part_there h =
       let some = some_buckets h in
       let e = is.place some in
@@ -90,13 +90,13 @@ module _ {T : Type 0} (w : Width) (s : Shape) (law : IsElement s) (p : ℕ) (r :
       filter_agree_range (λ q. is_full (slice_index controls q)) (λ q. is_full (slice_index (table_controls w bytes p) q)) x (r.cap - x)
       (λ j from to. ap is_full (control_same h j (omega arith)))
 
-  pub bucket_before : 0 < r.left → (i : ℕ) → i < r.cap → (i + 1) * s.size ≤ r.place
+  pub bucket_before : 0 < r.left → (i : ℕ) → i < r.cap → (i + 1) * s.size ≤ r.buckets_end
   bucket_before h i l =
       let e = is.place (some_buckets h) in
       let k = item_before w s law bytes p is.table i (subst (λ n. i < n) is.cap l) in
       omega arith
 
-  pub first_item : 0 < r.left → (i q : ℕ) → i < r.cap → slice_index controls i < 128 → q ≡ pos_before r.place s.size i → IsItemAt w s bytes p i q
+  pub first_item : 0 < r.left → (i q : ℕ) → i < r.cap → slice_index controls i < 128 → q ≡ pos_before r.buckets_end s.size i → IsItemAt w s bytes p i q
   first_item h i q l full at =
       let e = is.place (some_buckets h) in
       let walked : IsWalked w bytes p i = (subst (λ n. i < n) is.cap l, subst (λ n. n < 128) (control_same h i l) full) in
@@ -104,12 +104,12 @@ module _ {T : Type 0} (w : Width) (s : Shape) (law : IsElement s) (p : ℕ) (r :
       record {
         walked = walked;
         place = place;
-        viewed = subst (Viewed s bytes) (sym place) (item_viewed w s law bytes p is.table i walked);
+        viewable = subst (Viewable s bytes) (sym place) (item_viewable w s law bytes p is.table i walked);
         kept = λ c sealed keeps. table_kept w s law bytes p i is.table walked c sealed keeps;
       }
 
 -- a cursor over a table that was kept
-module _ {T : Type 0} (w : Width) (s : Shape) (p i q : ℕ) (before after : RawIterSeal T) (is : IsSealIter w s p before) (item : IsItemAt w s before.archive.now p i q)
+module _ {T : Type 0} (w : Width) (s : ElementSpec) (p i q : ℕ) (before after : RawIterSeal T) (is : IsSealIter w s p before) (item : IsItemAt w s before.archive.now p i q)
     (there : StaysThere before after) (sealed : Sealed before.archive.now q s.size after.archive.now) (keeps : Keeps s before.archive.now after.archive.now q) where
   cursor_table : KeepsTable w s before.archive.now after.archive.now p i
   cursor_table =
@@ -124,7 +124,7 @@ module _ {T : Type 0} (w : Width) (s : Shape) (p i q : ℕ) (before after : RawI
       let header = cursor_table.header in (
         cursor_table,
         record {
-          table = viewed_kept (table_shape w s) before.archive.now after.archive.now p sealed.same_length cursor_table.holds is.table;
+          table = viewable_kept (table_spec w s) before.archive.now after.archive.now p sealed.same_length cursor_table.holds is.table;
           cap = there.cap ∙ is.cap ∙ cap_same w before.archive.now after.archive.now p header;
           place = λ h. there.place ∙ is.place (subst (λ n. 0 < n) there.cap h) ∙ pos_same w before.archive.now after.archive.now p header;
           left = there.left ∙ is.left ∙ ap length (sym cursor_buckets);
@@ -133,30 +133,30 @@ module _ {T : Type 0} (w : Width) (s : Shape) (p i q : ℕ) (before after : RawI
       )
 
 -- a new cursor has all full buckets left
-module _ {T : Type 0} (w : Width) (s : Shape) (law : IsElement s) (p : ℕ) (r : RawIterSeal T) (view : Viewed (table_shape w s) r.archive.now p)
+module _ {T : Type 0} (w : Width) (s : ElementSpec) (law : IsElement s) (p : ℕ) (r : RawIterSeal T) (view : Viewable (table_spec w s) r.archive.now p)
     (cap : r.cap ≡ cap_at w r.archive.now p) (next : r.next ≡ 0) where
   pub all_left : buckets_left w p r ≡ walk (table_controls w r.archive.now p) (cap_at w r.archive.now p)
   all_left = ap (λ n. full_from (table_controls w r.archive.now p) n r.next) cap
       ∙ ap (λ n. full_from (table_controls w r.archive.now p) (cap_at w r.archive.now p) n) next ∙ whole_walk (table_controls w r.archive.now p) (cap_at w r.archive.now p)
 
-  pub begun : r.left ≡ len_at w r.archive.now p → (0 < r.cap → r.place ≡ controls_pos w r.archive.now p) → IsSealIter w s p r
+  pub begun : r.left ≡ len_at w r.archive.now p → (0 < r.cap → r.buckets_end ≡ controls_pos w r.archive.now p) → IsSealIter w s p r
   begun left place = record { table = view; cap = cap; place = place; left = left ∙ sym (walk_count w s law r.archive.now p view) ∙ ap length (sym all_left) }
 
 -- a cursor with the numbers that were read of a header
-module _ {T W : Type 0} {ts : Shapes T} {wt : Words W} (law : IsElement ts.shape) (a : ArchiveSeal (TableOf T W)) (stands : IsTableSeal wt.word ts.shape a) (items : Items T W ts wt) (are : AreItems items)
-    (read : IsReadAt a items.table) (r : RawIterSeal T) (bytes : r.archive.now ≡ archive_in a) (place : r.place ≡ items.place) (cap : r.cap ≡ items.cap) (left : r.left ≡ items.len) (next : r.next ≡ 0) where
+module _ {T W : Type 0} {ts : Specs T} {wt : Words W} (law : IsElement ts.spec) (a : ArchiveSeal (TableOf T W)) (represents : IsTableSeal wt.word ts.spec a) (items : ParsedTable T W ts wt) (are : IsParsed items)
+    (read : IsReadAt a items.table) (r : RawIterSeal T) (bytes : r.archive.now ≡ archive_in a) (place : r.buckets_end ≡ items.buckets_end) (cap : r.cap ≡ items.cap) (left : r.left ≡ items.len) (next : r.next ≡ 0) where
   as_read : (F : List ℕ → ℕ → ℕ) → F (table_bytes items.table) (table_pos items.table) ≡ F r.archive.now (pos_in a)
   as_read F = ap (λ b. F b (table_pos items.table)) (read.0 ∙ sym bytes) ∙ ap (F r.archive.now) read.1
 
-  stands_there : Viewed (table_shape wt.word ts.shape) r.archive.now (pos_in a)
-  stands_there = subst (λ b. Viewed (table_shape wt.word ts.shape) b (pos_in a)) (sym bytes) stands
+  represents_there : Viewable (table_spec wt.word ts.spec) r.archive.now (pos_in a)
+  represents_there = subst (λ b. Viewable (table_spec wt.word ts.spec) b (pos_in a)) (sym bytes) represents
 
   cap_there : r.cap ≡ cap_at wt.word r.archive.now (pos_in a)
   cap_there = cap ∙ are.cap ∙ as_read (cap_at wt.word)
 
-  pub begun_at : IsSealIter wt.word ts.shape (pos_in a) r
-  begun_at = begun wt.word ts.shape law (pos_in a) r stands_there cap_there next (left ∙ are.len ∙ as_read (len_at wt.word))
+  pub begun_at : IsSealIter wt.word ts.spec (pos_in a) r
+  begun_at = begun wt.word ts.spec law (pos_in a) r represents_there cap_there next (left ∙ are.len ∙ as_read (len_at wt.word))
       (λ h. place ∙ are.place (subst (λ n. 0 < n) cap h) ∙ as_read (controls_pos wt.word))
 
   pub all_left_at : buckets_left wt.word (pos_in a) r ≡ walk (table_controls wt.word (archive_in a) (pos_in a)) (cap_at wt.word (archive_in a) (pos_in a))
-  all_left_at = all_left wt.word ts.shape law (pos_in a) r stands_there cap_there next ∙ ap (λ b. walk (table_controls wt.word b (pos_in a)) (cap_at wt.word b (pos_in a))) bytes
+  all_left_at = all_left wt.word ts.spec law (pos_in a) r represents_there cap_there next ∙ ap (λ b. walk (table_controls wt.word b (pos_in a)) (cap_at wt.word b (pos_in a))) bytes

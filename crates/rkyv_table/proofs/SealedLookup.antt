@@ -1,10 +1,10 @@
 -- A lookup in the table that is read is one in the bytes of the seal.
-use Rattle.rkyv_base.specs.declared.element.Shaped.{Ghosts as Shapes}
+use Rattle.rkyv_base.specs.declared.element.HasSpec.{Ghosts as Specs}
 use Rattle.rkyv_base.specs.declared.width.Word.{Ghosts as Words}
 use Rattle.std.proofs.Common.{◌≡◌, ℕ, sym, subst, Bool, List, Option}
 use Rattle.std.specs.List.{find}
 use Rattle.rkyv_base.specs.Seal.{SealAt, archive_in, pos_in}
-use Rattle.rkyv_base.specs.Shape.{IsElement, Viewed}
+use Rattle.rkyv_base.specs.ElementSpec.{IsElement, Viewable}
 use Rattle.rkyv_base.specs.declared.seal.ArchiveSeal.{ArchiveSeal}
 use Rattle.rkyv_base.specs.declared.seal.Seal.{Seal}
 use Rattle.rkyv_base.specs.declared.view.View.{View}
@@ -17,37 +17,37 @@ use Rattle.rkyv_table.specs.Table.SealedLookup.{IsItemSeal, IsReadAt, IsTableSea
 use Rattle.rkyv_table.specs.declared.table.ArchivedHashTable.{ArchivedHashTable}
 use Rattle.rkyv_table.specs.declared.table.TableOf.{TableOf}
 use Rattle.rkyv_table.proofs.Bare.{answers_of}
-use Rattle.rkyv_table.proofs.Items.{item_viewed}
+use Rattle.rkyv_table.proofs.ParsedTable.{item_viewable}
 use Rattle.rkyv_table.proofs.SealedTable.{table_kept}
 
-module _ {T W : Type 0} {ts : Shapes T} {wt : Words W} (law : IsElement ts.shape) (a : ArchiveSeal (TableOf T W)) (t : ArchivedHashTable T W ts wt) (read : IsReadAt a t) (stands : IsTableSeal wt.word ts.shape a) where
+module _ {T W : Type 0} {ts : Specs T} {wt : Words W} (law : IsElement ts.spec) (a : ArchiveSeal (TableOf T W)) (t : ArchivedHashTable T W ts wt) (read : IsReadAt a t) (represents : IsTableSeal wt.word ts.spec a) where
   -- the position of a bucket of the table, in the bytes of the seal
-  at_seal : (q : ℕ) → IsItemPos t q → (i : ℕ) × IsWalked wt.word (archive_in a) (pos_in a) i × (q ≡ item_at wt.word ts.shape.size (archive_in a) (pos_in a) i)
+  at_seal : (q : ℕ) → IsItemPos t q → (i : ℕ) × IsWalked wt.word (archive_in a) (pos_in a) i × (q ≡ item_at wt.word ts.spec.size (archive_in a) (pos_in a) i)
   at_seal q is =
-      let P = λ (b : List ℕ) (p : ℕ). (i : ℕ) × IsWalked wt.word b p i × (q ≡ item_at wt.word ts.shape.size b p i) in
+      let P = λ (b : List ℕ) (p : ℕ). (i : ℕ) × IsWalked wt.word b p i × (q ≡ item_at wt.word ts.spec.size b p i) in
       subst (P (archive_in a)) read.1 (subst (λ b. P b t.view.pos) read.0 is)
 
-  pub place_viewed : (q : ℕ) → IsItemPos t q → Viewed ts.shape (archive_in a) q
-  place_viewed q is = let k = at_seal q is in subst (Viewed ts.shape (archive_in a)) (sym k.2) (item_viewed wt.word ts.shape law (archive_in a) (pos_in a) stands k.0 k.1)
+  pub place_viewable : (q : ℕ) → IsItemPos t q → Viewable ts.spec (archive_in a) q
+  place_viewable q is = let k = at_seal q is in subst (Viewable ts.spec (archive_in a)) (sym k.2) (item_viewable wt.word ts.spec law (archive_in a) (pos_in a) represents k.0 k.1)
 
-  pub item_seal : (q : ℕ) (x : Seal T) → IsItemPos t q → SealAt x a.archive q → IsItemSeal wt.word ts.shape a x
+  pub item_seal : (q : ℕ) (x : Seal T) → IsItemPos t q → SealAt x a.archive q → IsItemSeal wt.word ts.spec a x
   item_seal q x is at =
       let k = at_seal q is in
       record {
         bucket = k.0;
         walked = k.1;
         at = subst (SealAt x a.archive) k.2 at;
-        viewed = subst (Viewed ts.shape (archive_in a)) (sym at.place) (place_viewed q is);
-        kept = λ c sealed keeps. table_kept wt.word ts.shape law (archive_in a) (pos_in a) k.0 stands k.1 c sealed keeps;
+        viewable = subst (Viewable ts.spec (archive_in a)) (sym at.place) (place_viewable q is);
+        kept = λ c sealed keeps. table_kept wt.word ts.spec law (archive_in a) (pos_in a) k.0 represents k.1 c sealed keeps;
       }
 
   module _ (post : View T → Bool → Type 0) (hash : ℕ) (result : Option ℕ) where
-    pub seals_found : FindsFound post generic_kind t hash result → SealsFound post wt.word ts.shape a hash result
+    pub seals_found : FindsFound post generic_kind t hash result → SealsFound post wt.word ts.spec a hash result
     seals_found found accept answers =
-        let P = λ (b : List ℕ) (p : ℕ). result ≡ pos_found generic_kind wt.word ts.shape.size b p hash accept in
+        let P = λ (b : List ℕ) (p : ℕ). result ≡ pos_found generic_kind wt.word ts.spec.size b p hash accept in
         subst (P (archive_in a)) read.1 (subst (λ b. P b t.view.pos) read.0 (found accept (answers_of (archive_in a) (pos_in a) t read.0 read.1 post accept answers)))
 
-    pub seals_first : FindsFirst post t hash result → SealsFirst post wt.word ts.shape a hash result
+    pub seals_first : FindsFirst post t hash result → SealsFirst post wt.word ts.spec a hash result
     seals_first first hashes homes accept written answers under =
-        let P = λ (b : List ℕ) (p : ℕ). WrittenAt wt.word b p hashes homes → IsUnderHash hash hashes (home_positions wt.word ts.shape.size b p homes) accept → result ≡ find accept (home_positions wt.word ts.shape.size b p homes) in
+        let P = λ (b : List ℕ) (p : ℕ). WrittenAt wt.word b p hashes homes → IsUnderHash hash hashes (home_positions wt.word ts.spec.size b p homes) accept → result ≡ find accept (home_positions wt.word ts.spec.size b p homes) in
         subst (P (archive_in a)) read.1 (subst (λ b. P b t.view.pos) read.0 (λ x y. first hashes homes accept x (answers_of (archive_in a) (pos_in a) t read.0 read.1 post accept answers) y)) written under

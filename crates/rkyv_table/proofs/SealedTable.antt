@@ -5,16 +5,17 @@ use Rattle.std.proofs.Common.{arith, subst, sym, ◌∙◌, ap, inl, inr}
 use Rattle.std.proofs.lemmas.Bool.{cases_eq, cases_lt}
 use Rattle.std.proofs.lemmas.Int.{ints}
 use Rattle.std.proofs.Math.Nat.{mul-le-mul_right}
-use Rattle.rkyv_base.specs.Bytes.{Same}
-use Rattle.rkyv_base.specs.Entry.{entry_element, entry_shape, parts_inside, size_of_small, whole_size}
+use Rattle.rkyv_base.specs.Bytes.{AgreeOn}
+use Rattle.rkyv_base.specs.Entry.{entry_spec, whole_size}
+use Rattle.rkyv_base.specs.Lemmas.Entry.{entry_element, parts_inside, size_of_small}
 use Rattle.rkyv_base.specs.Sealing.{Keeps, Outside, Sealed, value_pos}
-use Rattle.rkyv_base.specs.Shape.{IsElement, Shape, Viewed}
-use Rattle.rkyv_base.proofs.Sealing.{entry_kept, holds_elsewhere, same_outside, sealed_wider}
+use Rattle.rkyv_base.specs.ElementSpec.{IsElement, ElementSpec, Viewable}
+use Rattle.rkyv_base.proofs.Sealing.{entry_kept, holds_out_of_line, same_outside, sealed_wider}
 use Rattle.rkyv_table.proofs.SameTable.{written_there}
-use Rattle.rkyv_table.proofs.Items.{item_viewed, part_of}
+use Rattle.rkyv_table.proofs.ParsedTable.{item_viewable, part_of}
 use Rattle.rkyv_table.specs.Table.Positions.{IsWalked, WrittenAt, bucket_found, item_at}
 use Rattle.rkyv_table.specs.Table.Positions.{table_controls}
-use Rattle.rkyv_table.specs.Table.Header.{begin_told, cap_at, controls_pos, len_at}
+use Rattle.rkyv_table.specs.Table.Header.{decode_begin, cap_at, controls_pos, len_at}
 use Rattle.rkyv_table.specs.Table.SealedTable.{KeepsTable, SameValue}
 use Rattle.rkyv_scan.specs.Groups.{Kind, is_full}
 use Rattle.rkyv_table.specs.Controls.Finding.{found}
@@ -23,7 +24,7 @@ use Rattle.rkyv_table.specs.Controls.Numbers.{control_count}
 use Rattle.rkyv_table.specs.Table.Places.{AllHold}
 use Rattle.rkyv_table.specs.Lemmas.PlaceLaws.{AllBelow, range_below}
 use Rattle.rkyv_table.specs.Controls.Placing.{Accepted, walk}
-use Rattle.rkyv_table.specs.Table.Layout.{IsPart, TableAt, bucket_at, controls_at, table_shape}
+use Rattle.rkyv_table.specs.Table.Layout.{IsPart, TableAt, bucket_at, controls_at, table_spec}
 use Rattle.rkyv_table.specs.Lemmas.SameHeader.{begin_same, cap_same, item_same, len_same, pos_same}
 use Rattle.rkyv_table.specs.Lemmas.TableLaws.{bucket_inside, of_numbers}
 
@@ -37,22 +38,22 @@ buckets_apart size begin cap i j li lj ne = elim (cases_lt i j) [
       inr (omega (arith, m))
 ]
 
-module _ (s : Shape) (law : IsElement s) (b c : List ℕ) (begin cap i : ℕ) (walked : i < cap)
+module _ (s : ElementSpec) (law : IsElement s) (b c : List ℕ) (begin cap i : ℕ) (walked : i < cap)
     (sealed : Sealed b (bucket_at s.size begin cap i) s.size c) (keeps : Keeps s b c (bucket_at s.size begin cap i)) where
   abbrev at : ℕ → ℕ
   at = bucket_at s.size begin cap
 
   -- the bytes before the buckets are unchanged
-  before_same : (x y : ℕ) → x ≤ y → y ≤ begin → Same b c x y
+  before_same : (x y : ℕ) → x ≤ y → y ≤ begin → AgreeOn b c x y
   before_same x y o h = same_outside b (at i) s.size c sealed x y o (inl (omega arith))
 
   items_kept : (is : List ℕ) (lo l : ℕ) → lo ≤ begin → AllBelow cap is → AllHold s at b begin is lo l → AllHold s at c begin is lo l
   items_kept [] lo l o below h = h
   items_kept (j ∷ is) lo l o below h =
-      let k : (lo ≤ h.0) × (h.0 ≤ begin) = law.between b (at j) lo begin h.0 o h.1 in
+      let k : (lo ≤ h.0) × (h.0 ≤ begin) = law.rest_in_range b (at j) lo begin h.0 o h.1 in
       let here : s.holds c (at j) lo begin h.0 = elim (cases_eq j i) [
         | inl e ↦ subst (λ z. s.holds c (at z) lo begin h.0) (sym e) (keeps lo begin h.0 o (omega arith) (subst (λ z. s.holds b (at z) lo begin h.0) e h.1))
-        | inr ne ↦ holds_elsewhere s law b c (at i) s.size sealed (at j) lo begin h.0 o (buckets_apart s.size begin cap i j walked below.0 ne) (inl (omega (arith, k.1))) h.1
+        | inr ne ↦ holds_out_of_line s law b c (at i) s.size sealed (at j) lo begin h.0 o (buckets_apart s.size begin cap i j walked below.0 ne) (inl (omega (arith, k.1))) h.1
       ] in
       (h.0, here, items_kept is h.0 l k.1 below.1 h.2)
 
@@ -72,21 +73,21 @@ module _ (s : Shape) (law : IsElement s) (b c : List ℕ) (begin cap i : ℕ) (w
       }
 
 -- the item in a full bucket has its parts before the buckets
-parts_before : (w : Width) (s : Shape) (law : IsElement s) (b : List ℕ) (p e : ℕ) (t : HeldPart w s b p 0 p e) (j l : ℕ) → IsWalked w b p j
+parts_before : (w : Width) (s : ElementSpec) (law : IsElement s) (b : List ℕ) (p e : ℕ) (t : HeldPart w s b p 0 p e) (j l : ℕ) → IsWalked w b p j
     → s.holds b (bucket_at s.size t.begin (cap_at w b p) j) 0 (bucket_at s.size t.begin (cap_at w b p) j) l → l ≤ t.begin
 parts_before w s law b p e t j l walked h =
     let cap = cap_at w b p in
     let q = bucket_at s.size t.begin cap j in
     let full : slice_index (controls_at s.size b t.begin cap) j < 128 = subst (λ (xs : List ℕ). slice_index xs j < 128) (told_controls w s.size b p t.begin t.part.begins) walked.1 in
     let one = bucket_holds_within s law b t.begin cap 0 t.is.last j (omega arith) t.is.items walked.0 full in
-    let d : (l' : ℕ) × s.holds b q 0 t.begin l' × (l' ≤ one.rest) = law.lower b q one.lower 0 t.begin one.rest (omega arith) one.below one.holds in
-    let k = law.between b q one.lower t.begin one.rest one.below one.holds in
-    let same : l ≡ d.0 = law.one b q 0 q l d.0 h (law.higher b q 0 t.begin q d.0 (omega arith) d.1) in
+    let d : (l' : ℕ) × s.holds b q 0 t.begin l' × (l' ≤ one.rest) = law.lower_lo b q one.lower 0 t.begin one.rest (omega arith) one.below one.holds in
+    let k = law.rest_in_range b q one.lower t.begin one.rest one.below one.holds in
+    let same : l ≡ d.0 = law.rest_unique b q 0 q l d.0 h (law.widen_hi b q 0 t.begin q d.0 (omega arith) d.1) in
     omega (arith, same, d.2, k.1)
 
-module _ (w : Width) (s : Shape) (law : IsElement s) (b : List ℕ) (p i : ℕ) (view : Viewed (table_shape w s) b p) (walked : IsWalked w b p i)
+module _ (w : Width) (s : ElementSpec) (law : IsElement s) (b : List ℕ) (p i : ℕ) (view : Viewable (table_spec w s) b p) (walked : IsWalked w b p i)
     (c : List ℕ) (sealed : Sealed b (item_at w s.size b p i) s.size c) (keeps : Keeps s b c (item_at w s.size b p i)) where
-  whole : HeldPart w s b p 0 p view.stands.0
+  whole : HeldPart w s b p 0 p view.valid.0
   whole = part_of w s law b p view (omega (arith, walked.0))
 
   at_is : (j : ℕ) → j < cap_at w b p → item_at w s.size b p j ≡ bucket_at s.size whole.begin (cap_at w b p) j
@@ -98,13 +99,13 @@ module _ (w : Width) (s : Shape) (law : IsElement s) (b : List ℕ) (p i : ℕ) 
   keeps_at : Keeps s b c (bucket_at s.size whole.begin (cap_at w b p) i)
   keeps_at = subst (Keeps s b c) (at_is i walked.0) keeps
 
-  header_same : Same b c p (p + 3 * byte_len w)
+  header_same : AgreeOn b c p (p + 3 * byte_len w)
   header_same =
       let u = bucket_inside s.size whole.begin (cap_at w b p) i walked.0 in
       let below = whole.part.below in
       same_outside b (bucket_at s.size whole.begin (cap_at w b p) i) s.size c sealed_at p (p + 3 * byte_len w) (omega arith) (inr (omega (arith, u.1)))
 
-  at_kept : (lo hi l : ℕ) → TableAt s b (begin_told w s.size b p) (cap_at w b p) (len_at w b p) lo hi l → TableAt s c (begin_told w s.size b p) (cap_at w b p) (len_at w b p) lo hi l
+  at_kept : (lo hi l : ℕ) → TableAt s b (decode_begin w s.size b p) (cap_at w b p) (len_at w b p) lo hi l → TableAt s c (decode_begin w s.size b p) (cap_at w b p) (len_at w b p) lo hi l
   at_kept lo hi l (inl h) = inl h
   at_kept lo hi l (inr (n, part, is, e)) =
       let same : whole.begin ≡ n = let x = whole.part.begins in let y = part.begins in omega (arith, ints, x, y) in
@@ -124,7 +125,7 @@ module _ (w : Width) (s : Shape) (law : IsElement s) (b : List ℕ) (p i : ℕ) 
       record {
         fixed = same_outside b q s.size c sealed_at r (r + s.size) (omega arith) (buckets_apart s.size whole.begin (cap_at w b p) i j walked.0 there.0 ne);
         parts = λ l h.
-            let low : l ≤ whole.begin = parts_before w s law b p view.stands.0 whole j l there h in
+            let low : l ≤ whole.begin = parts_before w s law b p view.valid.0 whole j l there h in
             same_outside b q s.size c sealed_at 0 l (omega arith) (inl (omega (arith, low)));
       }
 
@@ -145,7 +146,7 @@ module _ (w : Width) (s : Shape) (law : IsElement s) (b : List ℕ) (p i : ℕ) 
       }
 
 -- a lookup in a kept table has the same result as before
-module _ (w : Width) (s : Shape) (b c : List ℕ) (p i : ℕ) (kept : KeepsTable w s b c p i) where
+module _ (w : Width) (s : ElementSpec) (b c : List ℕ) (p i : ℕ) (kept : KeepsTable w s b c p i) where
   pub item_stays : (j : ℕ) → item_at w s.size c p j ≡ item_at w s.size b p j
   item_stays j = sym (item_same w b c p kept.header s.size j)
 
@@ -160,15 +161,15 @@ module _ (w : Width) (s : Shape) (b c : List ℕ) (p i : ℕ) (kept : KeepsTable
   written_kept hashes homes x = written_there w b c p kept.header (λ some. sym kept.controls) hashes homes x
 
 -- a write of the value of an entry alone keeps the table and the key
-module _ (w : Width) (k v : Shape) (kl : IsElement k) (vl : IsElement v) (b : List ℕ) (p i : ℕ) (view : Viewed (table_shape w (entry_shape k v)) b p) (walked : IsWalked w b p i)
-    (c : List ℕ) (sealed : Sealed b (value_pos k v (item_at w (entry_shape k v).size b p i)) v.size c) (keeps : Keeps v b c (value_pos k v (item_at w (entry_shape k v).size b p i))) where
-  pub value_kept : KeepsTable w (entry_shape k v) b c p i × SameValue k b c (item_at w (entry_shape k v).size b p i)
+module _ (w : Width) (k v : ElementSpec) (kl : IsElement k) (vl : IsElement v) (b : List ℕ) (p i : ℕ) (view : Viewable (table_spec w (entry_spec k v)) b p) (walked : IsWalked w b p i)
+    (c : List ℕ) (sealed : Sealed b (value_pos k v (item_at w (entry_spec k v).size b p i)) v.size c) (keeps : Keeps v b c (value_pos k v (item_at w (entry_spec k v).size b p i))) where
+  pub value_kept : KeepsTable w (entry_spec k v) b c p i × SameValue k b c (item_at w (entry_spec k v).size b p i)
   value_kept =
-      let s = entry_shape k v in
+      let s = entry_spec k v in
       let law = entry_element k v kl vl in
       let q = item_at w s.size b p i in
-      let there = item_viewed w s law b p view i walked in
-      let small = size_of_small (whole_size k v) there.stands.1.0 in
+      let there = item_viewable w s law b p view i walked in
+      let small = size_of_small (whole_size k v) there.valid.1.0 in
       let inside = parts_inside k v in (
         table_kept w s law b p i view walked c
             (sealed_wider b c (value_pos k v q) v.size q s.size (omega arith) (omega (arith, small, inside.1)) sealed)
@@ -176,7 +177,7 @@ module _ (w : Width) (k v : Shape) (kl : IsElement k) (vl : IsElement v) (b : Li
         record {
           fixed = same_outside b (value_pos k v q) v.size c sealed q (q + k.size) (omega arith) (inl (omega (arith, inside.0)));
           parts = λ l h.
-              let m : (0 ≤ l) × (l ≤ q) = kl.between b q 0 q l (omega arith) h in
+              let m : (0 ≤ l) × (l ≤ q) = kl.rest_in_range b q 0 q l (omega arith) h in
               same_outside b (value_pos k v q) v.size c sealed 0 l (omega arith) (inl (omega (arith, m.1)));
         },
       )

@@ -9,7 +9,7 @@ use Rattle.std.proofs.lemmas.Option.{none-some, same_Some}
 use Rattle.std.proofs.lemmas.Bool.{cases_Bool, cases_lt, and_parts, or_left, or_right, or_from, eqb-true, eq-eqb, ltb-true, lt-ltb}
 use Rattle.rkyv_table.specs.Controls.Numbers.{start, modulus, control_count, probe_capacity}
 use Rattle.rkyv_table.specs.Controls.Probe.{probe_place, strides, buckets_at}
-use Rattle.rkyv_table.specs.Controls.Placing.{Repeats}
+use Rattle.rkyv_table.specs.Controls.Placing.{IsWrapped}
 use Rattle.rkyv_scan.specs.Groups.{Kind, IsKind}
 use Rattle.rkyv_table.specs.Controls.Finding.{marked, candidates, shows_empty, ends_at}
 use Rattle.rkyv_table.proofs.Coverage.{has_stride, mod_more}
@@ -23,7 +23,7 @@ cases_option (Some x) = inr (x, refl)
 -- ---- the control bytes
 
 -- a control byte below `2 * cap` is that of its bucket
-pub control_of : (cap : ℕ) (controls : List ℕ) (q : ℕ) → 0 < cap → Repeats cap controls → q < 2 * cap → q < control_count cap → get_or controls q 0 ≡ get_or controls (q % cap) 0
+pub control_of : (cap : ℕ) (controls : List ℕ) (q : ℕ) → 0 < cap → IsWrapped cap controls → q < 2 * cap → q < control_count cap → get_or controls q 0 ≡ get_or controls (q % cap) 0
 control_of cap controls q pos r two c = elim (cases_lt q cap) [
   | inl a ↦ ap (λ z. get_or controls z 0) (sym (mod-eq_of_lt a))
   | inr b ↦ let m = mod_more (q - cap) cap (omega arith) in

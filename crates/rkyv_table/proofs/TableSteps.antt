@@ -2,11 +2,11 @@
 use Rattle.std.proofs.Common.{◌≡◌, ℕ, ◌+◌, ◌*◌, refl, ap, ◌∙◌, subst, arith, List, ◌++◌, length, Option, append-nil, append_assoc, inl, inr}
 use Rattle.std.proofs.lemmas.List.{length-replicate}
 use Rattle.rkyv_base.specs.declared.errors.WriteError.{WriteError}
-use Rattle.rkyv_base.specs.Writing.{Appended, Only, Output, end_of, Appends, Step, Told, Within, padding, piece, zeros}
+use Rattle.rkyv_base.specs.Writing.{Appended, Only, Output, end_of, Appends, Step, WriteFails, Within, padding, piece, zeros}
 use Rattle.rkyv_base.specs.Format.{Format}
-use Rattle.rkyv_base.specs.Shape.{Shape}
-use Rattle.rkyv_base.proofs.GivingUp.{appends_after, end-appends, told_after, told_as}
-use Rattle.rkyv_table.specs.Table.Buckets.{images_length}
+use Rattle.rkyv_base.specs.ElementSpec.{ElementSpec}
+use Rattle.rkyv_base.proofs.WritingSteps.{appends_after, end-appends, told_after, told_as}
+use Rattle.rkyv_table.specs.Lemmas.Buckets.{images_length}
 use Rattle.rkyv_table.specs.Table.Slots.{SlotParts, SlotImages, PartsNext, BucketNext, TableNext, TableBytes, WroteBuckets}
 
 -- the zeros after the appended bytes, by the position at which these begin
@@ -15,28 +15,28 @@ zeros_behind align o o1 a appended = ap (λ (n : ℕ). zeros (padding align n)) 
 
 -- one piece after the appended bytes. If it is the next step, a failure of it is one of the whole
 pub told_piece : {F : Type 0} (limit : ℕ) (Next : List ℕ → Step → Type 0) (o o1 o2 : Output) (a bytes : List ℕ) (e : WriteError F) → Appends o o1 a → Within limit o1 a
-    → ((step : Step) → step ≡ piece bytes → Next a step) → Told limit (Only (piece bytes)) o1 o2 e → Told limit Next o o2 e
+    → ((step : Step) → step ≡ piece bytes → Next a step) → WriteFails limit (Only (piece bytes)) o1 o2 e → WriteFails limit Next o o2 e
 told_piece limit Next o o1 o2 a bytes e appended inside next t =
     told_after limit Next (Only (piece bytes)) o o1 o2 a e appended inside
     (λ g step h. let k : a ++ g ≡ a = ap (λ (y : List ℕ). a ++ y) h.0 ∙ append-nil a in rw k (next step h.1))
     t
 
-module _ (F : Type 0) {X R : Type 0} (s : Shape) (limit : ℕ) (f : Format X R) (sized : (x : X) (r : R) (p : ℕ) (out : List ℕ) → f.image x r p out → length out ≡ s.size)
+module _ (F : Type 0) {X R : Type 0} (s : ElementSpec) (limit : ℕ) (f : Format X R) (sized : (x : X) (r : R) (p : ℕ) (out : List ℕ) → f.image x r p out → length out ≡ s.size)
     (slots : List (Option X)) (controls : List ℕ) (o : Output) where
   abbrev Next : List ℕ → Step → Type 0
   Next = TableNext s f slots controls (end_of o)
 
   abbrev Stopped : Output → WriteError F → Type 0
-  Stopped o' e = Told limit Next o o' e
+  Stopped o' e = WriteFails limit Next o o' e
 
-  pub stopped_parts : (o1 : Output) (e : WriteError F) → Told limit (PartsNext f slots (end_of o)) o o1 e → Stopped o1 e
+  pub stopped_parts : (o1 : Output) (e : WriteError F) → WriteFails limit (PartsNext f slots (end_of o)) o o1 e → Stopped o1 e
   stopped_parts o1 e t = told_as limit Next (PartsNext f slots (end_of o)) o o1 e (λ g step h. inl h) t
 
   module _ (o1 : Output) (a : List ℕ) (rs : List R) (aa : Appends o o1 a) (made : SlotParts f slots (end_of o) a rs) (inside : Within limit o1 a) where
     abbrev pad : List ℕ
     pad = zeros (padding s.align (end_of o1))
 
-    pub stopped_zeros : (o2 : Output) (e : WriteError F) → Told limit (Only (piece pad)) o1 o2 e → Stopped o2 e
+    pub stopped_zeros : (o2 : Output) (e : WriteError F) → WriteFails limit (Only (piece pad)) o1 o2 e → Stopped o2 e
     stopped_zeros o2 e t =
         told_piece limit Next o o1 o2 a pad e aa inside (λ step is. inr (inl (rs, made, is ∙ ap piece (zeros_behind s.align o o1 a aa)))) t
 
@@ -50,7 +50,7 @@ module _ (F : Type 0) {X R : Type 0} (s : Shape) (limit : ℕ) (f : Format X R) 
       front_is : front ≡ a ++ zeros (padding s.align (end_of o + length a))
       front_is = ap (λ (y : List ℕ). a ++ y) (zeros_behind s.align o o1 a aa)
 
-      pub stopped_buckets : (o3 : Output) (e : WriteError F) → Told limit (BucketNext s.size f slots rs (end_of o2)) o2 o3 e → Stopped o3 e
+      pub stopped_buckets : (o3 : Output) (e : WriteError F) → WriteFails limit (BucketNext s.size f slots rs (end_of o2)) o2 o3 e → Stopped o3 e
       stopped_buckets o3 e t =
           let at : end_of o2 ≡ end_of o + length front = end-appends o o2 front table_front in
           told_after limit Next (BucketNext s.size f slots rs (end_of o2)) o o2 o3 front e table_front (inr bb.1)
@@ -58,7 +58,7 @@ module _ (F : Type 0) {X R : Type 0} (s : Shape) (limit : ℕ) (f : Format X R) 
           t
 
       module _ (o3 : Output) (w : WroteBuckets s.size f limit slots rs o2 o3) where
-        pub stopped_controls : (o4 : Output) (e : WriteError F) → Told limit (Only (piece controls)) o3 o4 e → Stopped o4 e
+        pub stopped_controls : (o4 : Output) (e : WriteError F) → WriteFails limit (Only (piece controls)) o3 o4 e → Stopped o4 e
         stopped_controls o4 e t =
             let whole : Appends o o3 (front ++ w.0) = appends_after o o2 o3 front w.0 table_front w.1.0 in
             let at : end_of o3 ≡ end_of o + length (front ++ w.0) = end-appends o o3 (front ++ w.0) whole in

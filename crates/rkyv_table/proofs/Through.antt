@@ -2,13 +2,13 @@
 use Rattle.std.proofs.Common.{◌≡◌, ℕ, ◌+◌, sym, ap, subst, ◌∙◌, inl, inr, List, [], ◌∷◌, map, Option, Some, None, Result, Ok, Err, MatchResult}
 use Rattle.std.specs.Iterator.{Drains, Yields}
 use Rattle.std.proofs.lemmas.List.{length-map}
-use Rattle.rkyv_base.specs.Format.{Format, GaveUp, Serialized}
+use Rattle.rkyv_base.specs.Format.{Format, SerializeFails, Serialized}
 use Rattle.rkyv_base.specs.Pairs.{written_as}
 use Rattle.rkyv_base.specs.Writing.{Output}
 use Rattle.rkyv_base.specs.declared.errors.WriteError.{WriteError}
 use Rattle.rkyv_base.specs.declared.errors.WriteError.TheVariants.{InvalidLoadFactor, IteratorLengthMismatch, CapacityTooLarge, PositionTooLarge, DistanceTooLarge, TextTooLong, Writer, Memory, Refused}
-use Rattle.rkyv_table.specs.Table.Counting.{GaveOther}
-use Rattle.rkyv_table.specs.Table.Serializing.{NoItems, OwnCause, WroteItems}
+use Rattle.rkyv_table.specs.Table.Counting.{YieldsOtherCount}
+use Rattle.rkyv_table.specs.Table.Serializing.{WriteItemsFails, OwnCause, WroteItems}
 
 -- a state of the outer iterator has one of the inner. Each step of the outer is one of the inner,
 -- with the item that is seen in it
@@ -21,7 +21,7 @@ module _ {T S X Y : Type 0} (inner : T → S) (outer : T → Option X → T → 
   pub drains_through : (xs : List X) (s : T) → Drains outer s xs → Drains steps (inner s) (map seen xs)
   drains_through xs s d = (inner d.0, (inner d.1.0, yields_through xs s d.1.0 d.1.1, ends d.1.0 d.0 d.1.2))
 
-  pub other_through : (len : ℕ) (s : T) (n : ℕ) → GaveOther outer len s n → GaveOther steps len (inner s) n
+  pub other_through : (len : ℕ) (s : T) (n : ℕ) → YieldsOtherCount outer len s n → YieldsOtherCount steps len (inner s) n
   other_through len s n h =
       let xs = h.0.0 in (
         (
@@ -49,14 +49,14 @@ own_counted len factor max other other' f (Writer fault) h = h
 own_counted len factor max other other' f (Refused c) h = h
 
 -- the result of writing the outer items is that of writing the inner ones
-module _ {F X Y V R : Type 0} (seen : X → Y) (gave : List X → Type 0) (gave' : List Y → Type 0) (other other' : ℕ → Type 0) (came : (xs : List X) → gave xs → gave' (map seen xs))
+module _ {F X Y V R : Type 0} (seen : X → Y) (yields : List X → Type 0) (yields' : List Y → Type 0) (other other' : ℕ → Type 0) (exactly : (xs : List X) → yields xs → yields' (map seen xs))
     (counted : (n : ℕ) → other n → other' n) (of_outer : List X → V) (of_inner : List Y → V) (same : (xs : List X) → of_outer xs ≡ of_inner (map seen xs))
     (base : Format V R) (len : ℕ) (factor : ℕ × ℕ) (max limit : ℕ) (o o' : Output) where
   pub answers_through : (result : Result R (WriteError F))
-      → MatchResult result (WroteItems gave len factor max (written_as of_outer base) o o' limit) (NoItems gave len factor max (written_as of_outer base) o o' limit other)
-      → MatchResult result (WroteItems gave' len factor max (written_as of_inner base) o o' limit) (NoItems gave' len factor max (written_as of_inner base) o o' limit other')
+      → MatchResult result (WroteItems yields len factor max (written_as of_outer base) o o' limit) (WriteItemsFails yields len factor max (written_as of_outer base) o o' limit other)
+      → MatchResult result (WroteItems yields' len factor max (written_as of_inner base) o o' limit) (WriteItemsFails yields' len factor max (written_as of_inner base) o o' limit other')
   answers_through (Ok r) h =
-      (h.0, map seen h.1, (came h.1 h.2.0, length-map h.1 seen ∙ h.2.1), subst (λ v. Serialized limit base v o o' r) (same h.1) h.3)
+      (h.0, map seen h.1, (exactly h.1 h.2.0, length-map h.1 seen ∙ h.2.1), subst (λ v. Serialized limit base v o o' r) (same h.1) h.3)
   answers_through (Err e) (inl h) = inl (own_counted len factor max other other' counted e h.0, h.1)
   answers_through (Err e) (inr h) =
-      inr (h.0, map seen h.1, (came h.1 h.2.0, length-map h.1 seen ∙ h.2.1), subst (λ v. GaveUp limit base v o o' e) (same h.1) h.3)
+      inr (h.0, map seen h.1, (exactly h.1 h.2.0, length-map h.1 seen ∙ h.2.1), subst (λ v. SerializeFails limit base v o o' e) (same h.1) h.3)

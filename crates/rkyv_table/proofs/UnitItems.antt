@@ -5,9 +5,9 @@ use Rattle.rkyv_base.specs.Format.{Format}
 use Rattle.rkyv_base.specs.Pairs.{written_as}
 use Rattle.rkyv_base.specs.Writing.{Output}
 use Rattle.rkyv_base.specs.declared.errors.WriteError.{WriteError}
-use Rattle.rkyv_table.specs.Table.Counting.{GaveOther}
-use Rattle.rkyv_table.specs.Table.Lent.{UnitStep, lent_keys, lent_pairs, with_units}
-use Rattle.rkyv_table.specs.Table.Serializing.{NoItems, WroteItems}
+use Rattle.rkyv_table.specs.Table.Counting.{YieldsOtherCount}
+use Rattle.rkyv_table.specs.Table.ItemValues.{UnitStep, lent_keys, lent_pairs, with_units}
+use Rattle.rkyv_table.specs.Table.Serializing.{WriteItemsFails, WroteItems}
 use Rattle.rkyv_table.proofs.Through.{answers_through, drains_through, other_through}
 
 same_keys : {BK A : Type 0} (key : BK → A) (xs : List (BK × Unit {0})) → lent_pairs key (λ u. u) xs ≡ with_units (lent_keys key (map (λ x. x.0) xs))
@@ -27,10 +27,10 @@ module _ {T S BK : Type 0} (inner : T → S) (steps : S → Option BK → S → 
 
     -- the result of writing the map of the keys is that of writing the set
     pub answers_set : {F : Type 0} (limit : ℕ) (result : Result R (WriteError F))
-        → MatchResult result (WroteItems (Drains UnitSteps s) len factor max AsPairs o o' limit) (NoItems (Drains UnitSteps s) len factor max AsPairs o o' limit (GaveOther UnitSteps len s))
-        → MatchResult result (WroteItems (Drains steps (inner s)) len factor max AsKeys o o' limit) (NoItems (Drains steps (inner s)) len factor max AsKeys o o' limit (GaveOther steps len (inner s)))
+        → MatchResult result (WroteItems (Drains UnitSteps s) len factor max AsPairs o o' limit) (WriteItemsFails (Drains UnitSteps s) len factor max AsPairs o o' limit (YieldsOtherCount UnitSteps len s))
+        → MatchResult result (WroteItems (Drains steps (inner s)) len factor max AsKeys o o' limit) (WriteItemsFails (Drains steps (inner s)) len factor max AsKeys o o' limit (YieldsOtherCount steps len (inner s)))
     answers_set limit result =
-        answers_through (λ x. x.0) (Drains UnitSteps s) (Drains steps (inner s)) (GaveOther UnitSteps len s) (GaveOther steps len (inner s))
+        answers_through (λ x. x.0) (Drains UnitSteps s) (Drains steps (inner s)) (YieldsOtherCount UnitSteps len s) (YieldsOtherCount steps len (inner s))
         (λ xs d. drains_through inner UnitSteps steps (λ x. x.0) (λ s' t' h. h) (λ s' t' x h. h) xs s d)
         (λ n h. other_through inner UnitSteps steps (λ x. x.0) (λ s' t' h'. h') (λ s' t' x h'. h') len s n h)
         (lent_pairs key (λ u. u)) (λ keys. with_units (lent_keys key keys)) (same_keys key) base len factor max limit o o' result

@@ -3,7 +3,7 @@ use Rattle.std.proofs.Common.{◌≡◌, ◌↔◌, ℕ, ◌+◌, ◌*◌, ◌%�
 use Rattle.std.specs.List.{find, list_any, range_with_len}
 use Rattle.rkyv_scan.specs.Groups.{Kind, IsKind, places_where}
 use Rattle.rkyv_table.specs.Controls.Finding.{candidates, shows_empty}
-use Rattle.rkyv_table.specs.Controls.Seen.{IsMarked, IsShown}
+use Rattle.rkyv_table.specs.Controls.StrideOutcome.{IsMarked, IsShown}
 use Rattle.rkyv_table.proofs.Groups.{all_candidates, all_empty, candidates_in, empty_in, found_more, group_of, mark_told, more_empty, no_candidates, no_empty, places_are}
 use Rattle.rkyv_table.proofs.Marks.{marked_shown}
 use Rattle.rkyv_table.proofs.Search.{width_some}

@@ -3,18 +3,18 @@ use Rattle.std.proofs.Common.{◌≡◌, ℕ, ◌^◌, ◌<◌, ap, refl, sym, s
 use Rattle.std.specs.Int.{Width}
 use Rattle.std.proofs.lemmas.List.{get_or-map, length-map}
 use Rattle.std.proofs.lemmas.Option.{slice_get_within}
-use Rattle.rkyv_base.specs.Shape.{Shape}
-use Rattle.rkyv_table.specs.Table.Header.{begin_told, cap_at}
+use Rattle.rkyv_base.specs.ElementSpec.{ElementSpec}
+use Rattle.rkyv_table.specs.Table.Header.{decode_begin, cap_at}
 use Rattle.rkyv_table.specs.Lemmas.ItemPositions.{told_controls, told_item}
 use Rattle.rkyv_table.specs.Controls.Numbers.{capacity}
 use Rattle.rkyv_table.specs.Controls.Placing.{Written}
 use Rattle.rkyv_table.specs.Table.Positions.{IsWalked, WrittenAt, home_positions, item_at}
 use Rattle.rkyv_table.specs.Table.Positions.{table_controls}
 use Rattle.rkyv_table.specs.Table.Layout.{bucket_at, controls_at}
-use Rattle.rkyv_table.specs.Table.TableFormat.{BucketsStand, TableStands}
+use Rattle.rkyv_table.specs.Table.TableFormat.{BucketsRepresent, TableRepresents}
 use Rattle.rkyv_table.specs.Lemmas.TableSound.{capacity_above}
-use Rattle.rkyv_table.specs.Table.Taking.{hashes_of, items_of}
-use Rattle.rkyv_table.specs.Table.WrittenTables.{IsWrittenOf, StandingWereWritten}
+use Rattle.rkyv_table.specs.Table.PlacedItems.{hashes_of, items_of}
+use Rattle.rkyv_table.specs.Table.WrittenTables.{IsWrittenOf, ValidWereWritten}
 use Rattle.rkyv_table.proofs.WrittenStep.{home_below}
 
 -- the position of the item with the number `i`
@@ -41,16 +41,16 @@ module _ (w : Width) (b : List ℕ) (p : ℕ) (hashes homes : List ℕ) (written
         (home_below (cap_at w b p) hashes homes (table_controls w b p) i (omega (arith, some.0)) some.1 n, omega (arith, tag, small))
   ]
 
-module _ {X : Type 0} (w : Width) (s : Shape) (stands : List ℕ → ℕ → X → Type 0) (factor : ℕ × ℕ) (c : List ℕ) (p : ℕ) where
-  none_written : TableStands w s stands factor c p [] → IsWrittenOf w s.size stands c p []
+module _ {X : Type 0} (w : Width) (s : ElementSpec) (represents : List ℕ → ℕ → X → Type 0) (factor : ℕ × ℕ) (c : List ℕ) (p : ℕ) where
+  none_written : TableRepresents w s represents factor c p [] → IsWrittenOf w s.size represents c p []
   none_written t = record {
     homes = [];
     written = record { count = t.len; fit = λ i d below. absurd (omega (arith, below)); placed = inl (refl, refl) };
     at = λ i x e. absurd cc;
   }
 
-  module _ (pairs : List (ℕ × X)) (t : TableStands w s stands factor c p pairs) (some : 0 < length pairs) where
-    buckets : (begin : ℕ) × (pos begin ≡ begin_told w s.size c p) × BucketsStand s.size stands c (capacity (length pairs) factor) begin pairs
+  module _ (pairs : List (ℕ × X)) (t : TableRepresents w s represents factor c p pairs) (some : 0 < length pairs) where
+    buckets : (begin : ℕ) × (pos begin ≡ decode_begin w s.size c p) × BucketsRepresent s.size represents c (capacity (length pairs) factor) begin pairs
     buckets = t.buckets some
 
     abbrev homes : List ℕ
@@ -71,7 +71,7 @@ module _ {X : Type 0} (w : Width) (s : Shape) (stands : List ℕ → ℕ → X �
           );
         }
 
-    item_there : (i : ℕ) (x : X) → slice_get (items_of pairs) i ≡ Some x → stands c (slice_index (home_positions w s.size c p homes) i) x
+    item_there : (i : ℕ) (x : X) → slice_get (items_of pairs) i ≡ Some x → represents c (slice_index (home_positions w s.size c p homes) i) x
     item_there i x e =
         let inside = slice_get_within (items_of pairs) i x e in
         let hashes = length-map pairs (λ (y : ℕ × X). y.0) in
@@ -79,13 +79,13 @@ module _ {X : Type 0} (w : Width) (s : Shape) (stands : List ℕ → ℕ → X �
         let below : i < length homes = omega (arith, inside, hashes, items, home_count w c p (hashes_of pairs) homes written) in
         let walked = home_walked w c p (hashes_of pairs) homes written i below in
         let at = told_item w s.size c p buckets.0 buckets.1 (slice_index homes i) walked.0 in
-        subst (λ q. stands c q x)
+        subst (λ q. represents c q x)
         (ap (λ n. bucket_at s.size buckets.0 n (slice_index homes i)) (sym t.cap) ∙ sym at ∙ sym (home_pos w s.size c p homes i below)) (buckets.2.items i x e)
 
-    some_written : IsWrittenOf w s.size stands c p pairs
+    some_written : IsWrittenOf w s.size represents c p pairs
     some_written = record { homes = homes; written = written; at = item_there }
 
 -- a table that represents items was written from them
-pub table_written : {X : Type 0} (w : Width) (s : Shape) (stands : List ℕ → ℕ → X → Type 0) (factor : ℕ × ℕ) → StandingWereWritten w s stands factor
-table_written w s stands factor c p [] t = none_written w s stands factor c p t
-table_written w s stands factor c p (x ∷ xs) t = some_written w s stands factor c p (x ∷ xs) t (omega arith)
+pub table_written : {X : Type 0} (w : Width) (s : ElementSpec) (represents : List ℕ → ℕ → X → Type 0) (factor : ℕ × ℕ) → ValidWereWritten w s represents factor
+table_written w s represents factor c p [] t = none_written w s represents factor c p t
+table_written w s represents factor c p (x ∷ xs) t = some_written w s represents factor c p (x ∷ xs) t (omega arith)

@@ -5,7 +5,7 @@ pub mod Probe
 pub mod Shown
 pub mod Placing
 pub mod Finding
-pub mod Seen
+pub mod StrideOutcome
 pub mod Walking
 pub mod Repeating
 pub mod Laws

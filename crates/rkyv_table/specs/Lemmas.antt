@@ -8,3 +8,4 @@ pub mod SlotWalk
 pub mod SlotSound
 pub mod HeaderReads
 pub mod TableSound
+pub mod Buckets

@@ -7,14 +7,13 @@ pub mod Reading
 pub mod Decoded
 pub mod Lending
 pub mod Slots
-pub mod Taking
+pub mod PlacedItems
 pub mod Counting
 pub mod Input
 pub mod TableFormat
 pub mod Serializing
 pub mod Listed
-pub mod Lent
-pub mod Buckets
+pub mod ItemValues
 pub mod RawItems
 pub mod Hints
 pub mod PairWalks

@@ -1,44 +1,44 @@
 //! Tables of items.
 //!
 //! - `serialize` writes the items and control bytes, and `resolve` writes the header.
-//! - `verify` validates a table, and `reading` opens it.
+//! - `verify` validates a table, and `accessors` opens it.
 //! - `lookup` finds an item, `raw_iter` walks over all items, and `misplaced` counts those that
 //!   a lookup of their own doesn't find.
 //! - `sealed` and `raw_iter_seal` write items in place.
 //! - `laws`, `written` and `sealed` have laws that a proof cites.
 //!
 //! `docs/FORMAT.md` has the layout of a table.
-ghost use Rattle.rkyv_base.specs.Shape.{viewed_prop};
-ghost use Rattle.rkyv_base.specs.View.{IsView};
+ghost use Rattle.rkyv_base.specs.Lemmas.ElementSpec.{viewable_prop};
+ghost use Rattle.rkyv_base.specs.View.{IsValidView};
 ghost use Rattle.rkyv_table.specs.Table.Decoded.{IsDecoded};
-ghost use Rattle.rkyv_table.specs.Table.Layout.{table_shape};
+ghost use Rattle.rkyv_table.specs.Table.Layout.{table_spec};
 ghost use Rattle.rkyv_table.specs.Lemmas.TableLaws.{table_element};
 
+mod accessors;
 mod buckets;
 mod bytes;
 pub mod decoded;
 mod element;
-mod hands_in;
 mod header;
 pub(crate) mod items;
 pub mod laws;
-pub mod lent;
+pub mod list_inputs;
 mod lookup;
 pub mod misplaced;
 mod parts;
 pub mod raw_iter;
 pub mod raw_iter_seal;
-mod reading;
 pub mod resolve;
 pub mod sealed;
 mod serialize;
+mod source;
 pub mod take;
 mod take_two;
 mod verify;
 pub mod written;
 
 use crate::table::decoded::Decoded;
-use rkyv_base::element::Shaped;
+use rkyv_base::element::HasSpec;
 use rkyv_base::view::View;
 use rkyv_base::width::{Narrow, Word};
 use std::alloc::AllocError;
@@ -53,20 +53,20 @@ pub struct TableOf<T, W = Narrow> {
 /// A table of T that is read in place, in an archive of the width W.
 ///
 /// Its bytes are valid. It holds its decoded header.
-pub struct ArchivedHashTable<'a, T: Shaped, W: Word = Narrow> {
+pub struct ArchivedHashTable<'a, T: HasSpec, W: Word = Narrow> {
     view: View<'a, TableOf<T, W>>,
     header: Decoded,
-    ghost valid: { IsView (table_shape W.word T.shape) view } by { viewed_prop (table_shape
-        W.word T.shape)
-        (table_element W.word W.kind T.shape T.laws) view.archive.now view.pos },
+    ghost valid: { IsValidView (table_spec W.word T.spec) view } by { viewable_prop (table_spec
+        W.word T.spec)
+        (table_element W.word W.kind T.spec T.laws) view.archive.now view.pos },
     ghost decoded: { IsDecoded W.word view.archive.now view.pos header },
 }
 
-impl<'a, T: Shaped, W: Word> Clone for ArchivedHashTable<'a, T, W> {
+impl<'a, T: HasSpec, W: Word> Clone for ArchivedHashTable<'a, T, W> {
     #[inline]
     fn clone(&self) -> Result<ArchivedHashTable<'a, T, W>, AllocError> {
         Ok(*self)
     }
 }
 
-impl<'a, T: Shaped, W: Word> Copy for ArchivedHashTable<'a, T, W> {}
+impl<'a, T: HasSpec, W: Word> Copy for ArchivedHashTable<'a, T, W> {}

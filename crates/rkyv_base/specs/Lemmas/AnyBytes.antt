@@ -2,10 +2,10 @@
 use Rattle.std.specs.Prelude.{◌≡◌, ℕ, ◌%◌, ◌≤◌}
 use Rattle.std.proofs.Common.{refl, arith, sym, ◌∙◌}
 use Rattle.std.proofs.Props.{props}
-use Rattle.rkyv_base.specs.Shape.{Shape, IsAlign, IsElement}
+use Rattle.rkyv_base.specs.ElementSpec.{ElementSpec, IsAlign, IsElement}
 
 -- an element that is valid everywhere, without parts
-abbrev pub any_bytes : ℕ → ℕ → Shape
+abbrev pub any_bytes : ℕ → ℕ → ElementSpec
 any_bytes size align = record {
   size = size;
   align = align;
@@ -20,11 +20,11 @@ any_bytes-element size align is_align whole small = record {
   size_whole = whole;
   size_small = small;
   proper = λ b p lo hi l. hlevel props;
-  between = λ b p lo hi l o h. (omega (arith, h), omega (arith, h));
-  one = λ b p lo hi l l' h h'. h ∙ sym h';
-  clear = λ b p lo hi l e h f. f;
+  rest_in_range = λ b p lo hi l o h. (omega (arith, h), omega (arith, h));
+  rest_unique = λ b p lo hi l l' h h'. h ∙ sym h';
+  exclusive = λ b p lo hi l e h f. f;
   one_failure = λ b p lo hi e e' f f'. absurd f;
-  higher = λ b p lo hi hi' l o h. h;
-  lower = λ b p lo lo' hi l o o' h. (lo', refl, omega (arith, h));
-  near = λ b c p lo hi l o same part h. h;
+  widen_hi = λ b p lo hi hi' l o h. h;
+  lower_lo = λ b p lo lo' hi l o o' h. (lo', refl, omega (arith, h));
+  local = λ b c p lo hi l o same part h. h;
 }

@@ -4,11 +4,15 @@ use Rattle.std.proofs.Common.{inl, inr, List, [], ◌∷◌, map, length, slice_
 use Rattle.std.specs.Int.{Width, byte_len}
 use Rattle.std.proofs.lemmas.List.{ext_get_or, get_or-map, length-map}
 use Rattle.std.proofs.lemmas.Option.{slice_get_cases, slice_get_within}
-use Rattle.rkyv_base.specs.Bytes.{Same, same_part}
-use Rattle.rkyv_base.specs.Entry.{entry_element, entry_shape, same_key, value_offset}
-use Rattle.rkyv_base.specs.Format.{Format, IsFormat, StandsNear}
-use Rattle.rkyv_base.specs.Pairs.{PairStands, pair_format, pair_is_format, pair_near}
-use Rattle.rkyv_base.specs.Shape.{IsElement, Shape, Standing, standing}
+use Rattle.rkyv_base.specs.Bytes.{AgreeOn}
+use Rattle.rkyv_base.specs.Lemmas.Bytes.{agree_on_part}
+use Rattle.rkyv_base.specs.Entry.{entry_spec, value_offset}
+use Rattle.rkyv_base.specs.Lemmas.Entry.{entry_element, same_key}
+use Rattle.rkyv_base.specs.Format.{Format, IsFormat, RepresentsLocally}
+use Rattle.rkyv_base.specs.Pairs.{PairRepresents, pair_format}
+use Rattle.rkyv_base.specs.Lemmas.Pairs.{pair_is_format, pair_local}
+use Rattle.rkyv_base.specs.ElementSpec.{IsElement, ElementSpec, ValidAt}
+use Rattle.rkyv_base.specs.Lemmas.ElementSpec.{valid_at}
 use Rattle.rkyv_base.specs.Text.{IsArchiveWord}
 use Rattle.rkyv_table.specs.Table.Header.{cap_at}
 use Rattle.rkyv_table.specs.Controls.Numbers.{capacity}
@@ -16,26 +20,26 @@ use Rattle.rkyv_table.specs.Controls.Placing.{Written}
 use Rattle.rkyv_table.specs.Table.Positions.{WrittenAt, home_positions, item_at}
 use Rattle.rkyv_table.specs.Table.Positions.{table_controls}
 use Rattle.rkyv_table.specs.Table.Layout.{TableHolds}
-use Rattle.rkyv_table.specs.Table.TableFormat.{TableStands}
+use Rattle.rkyv_table.specs.Table.TableFormat.{TableRepresents}
 use Rattle.rkyv_table.specs.Lemmas.TableSound.{table_is_format}
-use Rattle.rkyv_table.specs.Table.Taking.{hashes_of, items_of}
+use Rattle.rkyv_table.specs.Table.PlacedItems.{hashes_of, items_of}
 use Rattle.rkyv_table.specs.Lemmas.ItemPositions.{HeldPart, HoldsWithin, holds_at, item_holds}
 use Rattle.rkyv_table.specs.Lemmas.SameHeader.{cap_same, len_same, pos_same}
 use Rattle.rkyv_table.specs.Table.WrittenTables.{IsWrittenOf}
 use Rattle.rkyv_table.proofs.WrittenTables.{home_count, home_pos, home_walked, table_written}
-use Rattle.rkyv_collections.specs.MapShape.{map_shape}
-use Rattle.rkyv_collections.specs.MapFormat.{MapStands, keyed, map_format}
+use Rattle.rkyv_collections.specs.MapSpec.{map_spec}
+use Rattle.rkyv_collections.specs.MapFormat.{MapRepresents, keyed, map_format}
 use Rattle.rkyv_table.specs.Lemmas.SameControls.{same_controls}
 
 -- the hash of a key depends only on the bytes on which the validity of the key depends
-abbrev pub HashNear : Shape → (List ℕ → ℕ → ℕ) → Type 0
-HashNear k hash = (b c : List ℕ) (q lo hi l : ℕ) → lo ≤ hi → k.holds b q lo hi l
-    → Same b c q (q + k.size) → Same b c lo l → hash b q ≡ hash c q
+abbrev pub HashLocal : ElementSpec → (List ℕ → ℕ → ℕ) → Type 0
+HashLocal k hash = (b c : List ℕ) (q lo hi l : ℕ) → lo ≤ hi → k.holds b q lo hi l
+    → AgreeOn b c q (q + k.size) → AgreeOn b c lo l → hash b q ≡ hash c q
 
 -- a key that represents a value has the hash of the value
-abbrev pub HashesAlike : {A : Type 0} → Shape → (List ℕ → ℕ → A → Type 0) → (List ℕ → ℕ → ℕ)
+abbrev pub HashesAlike : {A : Type 0} → ElementSpec → (List ℕ → ℕ → A → Type 0) → (List ℕ → ℕ → ℕ)
     → (A → ℕ) → Type 0
-HashesAlike {A = A} k key hash own = (a : A) (b : List ℕ) (q : ℕ) → Standing k b q → key b q a
+HashesAlike {A = A} k key hash own = (a : A) (b : List ℕ) (q : ℕ) → ValidAt k b q → key b q a
     → own a ≡ hash b q
 
 module _ {A B : Type 0} (own : A → ℕ) where
@@ -48,9 +52,9 @@ module _ {A B : Type 0} (own : A → ℕ) where
   keyed_items [] = refl
   keyed_items (x ∷ xs) = ap (λ (t : List (A × B)). x ∷ t) (keyed_items xs)
 
-module _ (k v : Shape) (kl : IsElement k) (vl : IsElement v) (w : Width) where
-  abbrev S : Shape
-  S = entry_shape k v
+module _ (k v : ElementSpec) (kl : IsElement k) (vl : IsElement v) (w : Width) where
+  abbrev S : ElementSpec
+  S = entry_spec k v
 
   abbrev law : IsElement S
   law = entry_element k v kl vl
@@ -60,11 +64,11 @@ module _ (k v : Shape) (kl : IsElement k) (vl : IsElement v) (w : Width) where
   place b p homes i = slice_index (home_positions w S.size b p homes) i
 
   -- the key of a valid entry is valid
-  pub key_standing : (b : List ℕ) (q lo hi l : ℕ) → HoldsWithin S b q lo hi l → hi ≤ q
-      → Standing k b q
-  key_standing b q lo hi l h o =
+  pub key_valid : (b : List ℕ) (q lo hi l : ℕ) → HoldsWithin S b q lo hi l → hi ≤ q
+      → ValidAt k b q
+  key_valid b q lo hi l h o =
       let e = h.holds in
-      standing k kl b q h.lower hi e.1 h.below o e.2
+      valid_at k kl b q h.lower hi e.1 h.below o e.2
 
   module _ (b : List ℕ) (p lo hi l : ℕ) (h : TableHolds w S b p lo hi l) (hashes homes : List ℕ)
       (written : WrittenAt w b p hashes homes) where
@@ -85,10 +89,11 @@ module _ (k v : Shape) (kl : IsElement k) (vl : IsElement v) (w : Width) where
 
   module _ {A B : Type 0} (key : List ℕ → ℕ → A → Type 0) (value : List ℕ → ℕ → B
       → Type 0) (hash : List ℕ → ℕ → ℕ) (factor : ℕ × ℕ) where
-    module _ (near : HashNear k hash) (kn : StandsNear k key) (vn : StandsNear v value)
+    module _ (local : HashLocal k hash) (kn : RepresentsLocally k key)
+        (vn : RepresentsLocally v value)
         (pairs : List (A × B)) (b c : List ℕ) (p lo hi l : ℕ) (o : lo ≤ hi)
-        (h : TableHolds w S b p lo hi l) (fixed : Same b c p (p + 3 * byte_len w))
-        (part : Same b c lo l) (st : MapStands w k v key value hash factor b p pairs) where
+        (h : TableHolds w S b p lo hi l) (fixed : AgreeOn b c p (p + 3 * byte_len w))
+        (part : AgreeOn b c lo l) (st : MapRepresents w k v key value hash factor b p pairs) where
       same_positions : home_positions w S.size b p st.homes ≡ home_positions w S.size c p st.homes
       same_positions = ap (λ z. map (λ i. z - (i + 1) * S.size) st.homes) (pos_same w b c p fixed)
 
@@ -102,11 +107,11 @@ module _ (k v : Shape) (kl : IsElement k) (vl : IsElement v) (w : Width) where
       there i below = entry_there b p lo hi l h hashes st.homes st.written i below
 
       same_entry : (i : ℕ) (below : i < length st.homes)
-          → Same b c (place b p st.homes i) (place b p st.homes i + S.size)
+          → AgreeOn b c (place b p st.homes i) (place b p st.homes i + S.size)
       same_entry i below =
           let r = there i below in
           let above = r.0.part.above in
-          same_part b c lo l (place b p st.homes i) (place b p st.homes i + S.size)
+          agree_on_part b c lo l (place b p st.homes i) (place b p st.homes i + S.size)
           (omega (arith, above, r.2)) (omega (arith, r.3)) (omega arith) part
 
       same_hash : (i : ℕ) → i < length st.homes
@@ -115,13 +120,13 @@ module _ (k v : Shape) (kl : IsElement k) (vl : IsElement v) (w : Width) where
           let r = there i below in
           let q = place b p st.homes i in
           let e = r.1.holds in
-          let x = kl.between b q r.1.lower r.0.begin e.1 r.1.below e.2 in
-          let y = vl.between b (q + value_offset k v) e.1 r.0.begin r.1.rest x.1 e.3 in
+          let x = kl.rest_in_range b q r.1.lower r.0.begin e.1 r.1.below e.2 in
+          let y = vl.rest_in_range b (q + value_offset k v) e.1 r.0.begin r.1.rest x.1 e.3 in
           let ends = r.0.ends in
           let low = r.1.above in
-          near b c q r.1.lower r.0.begin e.1 r.1.below e.2
+          local b c q r.1.lower r.0.begin e.1 r.1.below e.2
           (same_key k v kl vl b c q e.0 (same_entry i below))
-          (same_part b c lo l r.1.lower e.1 low (omega (arith, x.1, ends)) x.0 part)
+          (agree_on_part b c lo l r.1.lower e.1 low (omega (arith, x.1, ends)) x.0 part)
 
       abbrev again : List ℕ
       again = map (hash c) (home_positions w S.size c p st.homes)
@@ -156,8 +161,8 @@ module _ (k v : Shape) (kl : IsElement k) (vl : IsElement v) (w : Width) where
         ];
       }
 
-      pub stands_again : MapStands w k v key value hash factor c p pairs
-      stands_again = record {
+      pub represents_again : MapRepresents w k v key value hash factor c p pairs
+      represents_again = record {
         homes = st.homes;
         written = subst (λ (xs : List ℕ). WrittenAt w c p xs st.homes) same_hashes written_again;
         len = sym (len_same w b c p fixed) ∙ st.len;
@@ -173,20 +178,23 @@ module _ (k v : Shape) (kl : IsElement k) (vl : IsElement v) (w : Width) where
             let q = place b p st.homes i in
             let ends = r.0.ends in
             let ends' = r.1.ends in
-            let x = law.between b q r.1.lower r.0.begin r.1.rest r.1.below r.1.holds in
-            let there' = pair_near k v kl vl key value kn vn pair b c q r.1.lower r.0.begin r.1.rest
+            let x = law.rest_in_range b q r.1.lower r.0.begin r.1.rest r.1.below r.1.holds in
+            let there' =
+            pair_local k v kl vl key value kn vn pair b c q r.1.lower r.0.begin r.1.rest
             r.1.below r.1.holds (same_entry i below)
-            (same_part b c lo l r.1.lower r.1.rest r.1.above (omega (arith, ends, ends')) x.0 part)
+            (agree_on_part b c lo l r.1.lower r.1.rest r.1.above (omega
+            (arith, ends, ends')) x.0 part)
             (st.at i pair e) in
-            subst (λ (xs : List ℕ). PairStands k v key value c (slice_index xs i) pair)
+            subst (λ (xs : List ℕ). PairRepresents k v key value c (slice_index xs i) pair)
             same_positions there';
       }
 
-    module _ (own : A → ℕ) (alike : HashesAlike k key hash own) where
+    module _ (own : A → ℕ) (same_calls : HashesAlike k key hash own) where
       module _ (pairs : List (A × B)) (c : List ℕ) (p lo hi l : ℕ) (h : TableHolds w S c p lo hi l)
-          (t : TableStands w S (PairStands k v key value) factor c p (keyed own pairs)) where
-        whole : IsWrittenOf w S.size (PairStands k v key value) c p (keyed own pairs)
-        whole = table_written w S (PairStands k v key value) factor c p (keyed own pairs) t
+          (t : TableRepresents w S (PairRepresents k v key value) factor c p
+          (keyed own pairs)) where
+        whole : IsWrittenOf w S.size (PairRepresents k v key value) c p (keyed own pairs)
+        whole = table_written w S (PairRepresents k v key value) factor c p (keyed own pairs) t
 
         abbrev homes : List ℕ
         homes = whole.homes
@@ -204,7 +212,7 @@ module _ (k v : Shape) (kl : IsElement k) (vl : IsElement v) (w : Width) where
         homes_count = home_count w c p under homes whole.written ∙ under_count
 
         pair_at : (i : ℕ) (pair : A × B) → slice_get pairs i ≡ Some pair
-            → PairStands k v key value c (place c p homes i) pair
+            → PairRepresents k v key value c (place c p homes i) pair
         pair_at i pair e = whole.at i pair
             (ap (λ (xs : List (A × B)). slice_get xs i) (keyed_items own pairs) ∙ e)
 
@@ -214,27 +222,27 @@ module _ (k v : Shape) (kl : IsElement k) (vl : IsElement v) (w : Width) where
               let below : i < length homes = omega (arith, inside, homes_count) in
               let r = entry_there c p lo hi l h under homes whole.written i below in
               let q = place c p homes i in
-              let stands = key_standing c q lo r.0.begin r.0.begin r.1 r.2 in
+              let represents = key_valid c q lo r.0.begin r.0.begin r.1 r.2 in
               ap (λ (xs : List ℕ). slice_index xs i) (keyed_hashes own pairs)
               ∙ get_or-map (λ (pair : A × B). own pair.0) pairs i x.0 0 inside
               ∙ ap (λ (pair : A × B). own pair.0) x.3
-              ∙ alike x.0.0 c q stands (pair_at i x.0 x.2).0
+              ∙ same_calls x.0.0 c q represents (pair_at i x.0 x.2).0
           | inr x ↦ absurd (omega (arith, x.0, inside))
         ]
 
         hashes_there : under ≡ map (hash c) (home_positions w S.size c p homes)
         hashes_there =
-            let places = home_positions w S.size c p homes in
-            let n : length places ≡ length homes = length-map homes (item_at w S.size c p) in
-            ext_get_or 0 under (map (hash c) places) (under_count ∙ sym homes_count ∙ sym n
-            ∙ sym (length-map places (hash c)))
+            let positions = home_positions w S.size c p homes in
+            let n : length positions ≡ length homes = length-map homes (item_at w S.size c p) in
+            ext_get_or 0 under (map (hash c) positions) (under_count ∙ sym homes_count ∙ sym n
+            ∙ sym (length-map positions (hash c)))
             (λ i below.
             let inside : i < length pairs = omega (arith, below, under_count) in
-            hash_there i inside ∙ sym (get_or-map (hash c) places i 0 0
+            hash_there i inside ∙ sym (get_or-map (hash c) positions i 0 0
             (omega (arith, inside, n, homes_count))))
 
-        pub pairs_stand : MapStands w k v key value hash factor c p pairs
-        pairs_stand = record {
+        pub pairs_represent : MapRepresents w k v key value hash factor c p pairs
+        pairs_represent = record {
           homes = homes;
           written = subst (λ (xs : List ℕ). WrittenAt w c p xs homes) hashes_there whole.written;
           len = t.len ∙ count;
@@ -246,16 +254,16 @@ module _ (k v : Shape) (kl : IsElement k) (vl : IsElement v) (w : Width) where
           (kw : IsFormat k key kf) (vw : IsFormat v value vf) where
         -- In any archive with the written bytes of a map and its aligned header after them,
         -- the map is valid. Its parts are in their range, and it represents the pairs.
-        pub map_is_format : IsFormat (map_shape w k v) (MapStands w k v key value hash factor)
+        pub map_is_format : IsFormat (map_spec w k v) (MapRepresents w k v key value hash factor)
             (map_format w k v kf vf own factor)
         map_is_format =
-            let table = table_is_format w kind S law (PairStands k v key value)
+            let table = table_is_format w kind S law (PairRepresents k v key value)
             (pair_format k v kf vf) (pair_is_format k v kl vl key value kf vf kw vw)
             factor in
             record {
-              whole = λ pairs r p out i. table.whole (keyed own pairs) r p out i;
-              clear = λ pairs r p out i f. table.clear (keyed own pairs) r p out i f;
+              size_exact = λ pairs r p out i. table.size_exact (keyed own pairs) r p out i;
+              exclusive = λ pairs r p out i f. table.exclusive (keyed own pairs) r p out i f;
               sound = λ pairs r c p0 p part out h i s t o al.
                   let d = table.sound (keyed own pairs) r c p0 p part out h i s t o al in
-                  (d.0, d.1, pairs_stand pairs c p p0 (p0 + length part) d.0 d.1 d.2);
+                  (d.0, d.1, pairs_represent pairs c p p0 (p0 + length part) d.0 d.1 d.2);
             }

@@ -2,31 +2,32 @@
 use Rattle.std.specs.Prelude.{◌≡◌, ℕ, Bool, true, List}
 use Rattle.std.proofs.Common.{ap}
 use Rattle.std.specs.Int.{Width}
-use Rattle.rkyv_base.specs.Format.{Format, IsFormat, StandsNear}
-use Rattle.rkyv_base.specs.Shape.{IsElement, Shape}
+use Rattle.rkyv_base.specs.Format.{Format, IsFormat, RepresentsLocally}
+use Rattle.rkyv_base.specs.ElementSpec.{IsElement, ElementSpec}
 use Rattle.rkyv_base.specs.Text.{IsArchiveWord}
 use Rattle.rkyv_scan.specs.Hash.{Hasher, HasherCall, hash_of_calls}
-use Rattle.rkyv_keys.specs.Asking.{hashes_as_written}
+use Rattle.rkyv_keys.specs.Lemmas.Asking.{hashes_as_written}
 use Rattle.rkyv_keys.specs.Equality.{Comparison}
 use Rattle.rkyv_keys.specs.Keys.{FitsItsEqual, IsKey, IsQuery}
 use Rattle.rkyv_collections.specs.Map.{hash_at}
-use Rattle.rkyv_collections.specs.MapShape.{map_shape}
-use Rattle.rkyv_collections.specs.MapFormat.{MapStands, hash_of, map_format}
-use Rattle.rkyv_collections.specs.Lemmas.MapLaws.{map_is_format, stands_again}
+use Rattle.rkyv_collections.specs.MapSpec.{map_spec}
+use Rattle.rkyv_collections.specs.MapFormat.{MapRepresents, hash_of, map_format}
+use Rattle.rkyv_collections.specs.Lemmas.MapLaws.{map_is_format, represents_again}
 use Rattle.rkyv_table.specs.Table.Listed.{listed, listed_format}
 
-module _ {State : Type 0} (hasher : Hasher State) (w : Width) {k v : Shape} (kl : IsElement k)
+module _ {State : Type 0} (hasher : Hasher State) (w : Width) {k v : ElementSpec} (kl : IsElement k)
     (vl : IsElement v)
     {A B : Type 0} {key : List ℕ → ℕ → A → Type 0} {value : List ℕ → ℕ → B
     → Type 0} {same : Comparison} {key_calls : List ℕ → ℕ
     → List HasherCall} (factor : ℕ × ℕ) where
   -- the represented pairs depend only on the bytes on which the validity of the map depends
-  pub map_near : IsKey k same key_calls → StandsNear k key → StandsNear v value
-      → StandsNear (map_shape w k v) (MapStands w k v key value (hash_at hasher key_calls) factor)
-  map_near law kn vn pairs b c p lo hi l o h fixed part st =
-      stands_again k v kl vl w key value (hash_at hasher key_calls) factor
+  pub map_local : IsKey k same key_calls → RepresentsLocally k key → RepresentsLocally v value
+      → RepresentsLocally (map_spec w k v) (MapRepresents w k v key value
+      (hash_at hasher key_calls) factor)
+  map_local law kn vn pairs b c p lo hi l o h fixed part st =
+      represents_again k v kl vl w key value (hash_at hasher key_calls) factor
       (λ b' c' q lo' hi' l' o' h' fixed' part'.
-      ap (hash_of_calls hasher) (law.near b' c' q lo' hi' l' o' h' fixed' part')) kn vn pairs b
+      ap (hash_of_calls hasher) (law.local b' c' q lo' hi' l' o' h' fixed' part')) kn vn pairs b
       c p lo hi l o h fixed part st
 
   -- in any archive with the written bytes of a map and its header, the map is valid and represents
@@ -37,14 +38,14 @@ module _ {State : Type 0} (hasher : Hasher State) (w : Width) {k v : Shape} (kl 
       → IsQuery k same key_calls can_read calls fits → FitsItsEqual k key equal fits
       → ((a : A) → equal a a ≡ true) → ((a : A) → can_read a)
       → IsFormat k key kf → IsFormat v value vf
-      → IsFormat (map_shape w k v) (MapStands w k v key value (hash_at hasher key_calls) factor)
+      → IsFormat (map_spec w k v) (MapRepresents w k v key value (hash_at hasher key_calls) factor)
       (map_format w k v kf vf (hash_of hasher calls) factor)
   map_sound kind {can_read} {calls} {fits} {equal} {R} {Q} {kf} {vf} query native itself reads kw
       vw =
       map_is_format k v kl vl w key value (hash_at hasher key_calls) factor (hash_of hasher calls)
-      (λ a b q stands there. ap (hash_of_calls hasher)
+      (λ a b q represents there. ap (hash_of_calls hasher)
       (hashes_as_written k same key_calls can_read calls fits key equal itself query native a b
-      q (reads a) stands there))
+      q (reads a) represents there))
       kind kf vf kw vw
 
   -- the same for a list, written by a call that takes exactly its pairs
@@ -55,11 +56,11 @@ module _ {State : Type 0} (hasher : Hasher State) (w : Width) {k v : Shape} (kl 
       → IsQuery k same key_calls can_read calls fits → FitsItsEqual k key equal fits
       → ((a : A) → equal a a ≡ true) → ((a : A) → can_read a)
       → IsFormat k key kf → IsFormat v value vf
-      → IsFormat (map_shape w k v) (MapStands w k v key value (hash_at hasher key_calls) factor)
+      → IsFormat (map_spec w k v) (MapRepresents w k v key value (hash_at hasher key_calls) factor)
       (listed max factor (map_format w k v kf vf (hash_of hasher calls) factor))
   listed_map_sound max kind {can_read} {calls} {fits} {equal} {R} {Q} {kf} {vf} query native itself
       reads kw vw =
-      listed_format max factor (map_shape w k v)
-      (MapStands w k v key value (hash_at hasher key_calls) factor)
+      listed_format max factor (map_spec w k v)
+      (MapRepresents w k v key value (hash_at hasher key_calls) factor)
       (map_format w k v kf vf (hash_of hasher calls) factor)
       (map_sound kind query native itself reads kw vw)

@@ -1,30 +1,32 @@
 -- The laws of an archived list of keys as a set.
 use Rattle.std.specs.Prelude.{◌≡◌, ℕ, Bool, true, List}
 use Rattle.std.specs.Int.{Width}
-use Rattle.rkyv_base.specs.Empty.{unit_element, unit_format, unit_is_format, unit_near, unit_shape}
-use Rattle.rkyv_base.specs.Empty.{unit_stands}
-use Rattle.rkyv_base.specs.Format.{Format, IsFormat, StandsNear}
-use Rattle.rkyv_base.specs.Pairs.{written_as-format}
-use Rattle.rkyv_base.specs.Shape.{IsElement, Shape}
+use Rattle.rkyv_base.specs.Empty.{unit_format, unit_spec}
+use Rattle.rkyv_base.specs.Lemmas.Empty.{unit_element, unit_is_format, unit_local}
+use Rattle.rkyv_base.specs.Empty.{unit_represents}
+use Rattle.rkyv_base.specs.Format.{Format, IsFormat, RepresentsLocally}
+use Rattle.rkyv_base.specs.Lemmas.Pairs.{written_as-format}
+use Rattle.rkyv_base.specs.ElementSpec.{IsElement, ElementSpec}
 use Rattle.rkyv_base.specs.Text.{IsArchiveWord}
 use Rattle.rkyv_scan.specs.Hash.{Hasher, HasherCall}
 use Rattle.rkyv_keys.specs.Equality.{Comparison}
 use Rattle.rkyv_keys.specs.Keys.{FitsItsEqual, IsKey, IsQuery}
 use Rattle.rkyv_collections.specs.Map.{hash_at}
-use Rattle.rkyv_collections.specs.MapFormat.{MapStands, hash_of, map_format}
-use Rattle.rkyv_collections.specs.Lemmas.MapSound.{map_near, map_sound}
+use Rattle.rkyv_collections.specs.MapFormat.{MapRepresents, hash_of, map_format}
+use Rattle.rkyv_collections.specs.Lemmas.MapSound.{map_local, map_sound}
 use Rattle.rkyv_table.specs.Table.Listed.{listed, listed_format}
-use Rattle.rkyv_collections.specs.Set.{set_shape}
-use Rattle.rkyv_collections.specs.SetFormat.{SetStands, set_format}
-use Rattle.rkyv_table.specs.Table.Lent.{with_units}
+use Rattle.rkyv_collections.specs.Set.{set_spec}
+use Rattle.rkyv_collections.specs.SetFormat.{SetRepresents, set_format}
+use Rattle.rkyv_table.specs.Table.ItemValues.{with_units}
 
-module _ {State : Type 0} (hasher : Hasher State) (w : Width) {k : Shape} (kl : IsElement k)
+module _ {State : Type 0} (hasher : Hasher State) (w : Width) {k : ElementSpec} (kl : IsElement k)
     {A : Type 0} {key : List ℕ → ℕ → A → Type 0} {same : Comparison} {key_calls : List ℕ → ℕ
     → List HasherCall} (factor : ℕ × ℕ) where
   -- the represented keys depend only on the bytes on which the validity of the set depends
-  pub set_near : IsKey k same key_calls → StandsNear k key
-      → StandsNear (set_shape w k) (SetStands w k key (hash_at hasher key_calls) factor)
-  set_near law kn keys = map_near hasher w kl unit_element factor law kn unit_near (with_units keys)
+  pub set_local : IsKey k same key_calls → RepresentsLocally k key
+      → RepresentsLocally (set_spec w k) (SetRepresents w k key (hash_at hasher key_calls) factor)
+  set_local law kn keys =
+      map_local hasher w kl unit_element factor law kn unit_local (with_units keys)
 
   -- in any archive with the written bytes of a set and its header, the set is valid and represents
   -- the keys
@@ -33,12 +35,12 @@ module _ {State : Type 0} (hasher : Hasher State) (w : Width) {k : Shape} (kl : 
       → Bool} {equal : A → A → Bool} {R : Type 0} {kf : Format A R}
       → IsQuery k same key_calls can_read calls fits → FitsItsEqual k key equal fits
       → ((a : A) → equal a a ≡ true) → ((a : A) → can_read a) → IsFormat k key kf
-      → IsFormat (set_shape w k) (SetStands w k key (hash_at hasher key_calls) factor)
+      → IsFormat (set_spec w k) (SetRepresents w k key (hash_at hasher key_calls) factor)
       (set_format w k kf (hash_of hasher calls) factor)
   set_sound kind {can_read} {calls} {fits} {equal} {R} {kf} query native itself reads kw =
-      written_as-format with_units (set_shape w k)
-      (MapStands w k unit_shape key unit_stands (hash_at hasher key_calls) factor)
-      (map_format w k unit_shape kf unit_format (hash_of hasher calls) factor)
+      written_as-format with_units (set_spec w k)
+      (MapRepresents w k unit_spec key unit_represents (hash_at hasher key_calls) factor)
+      (map_format w k unit_spec kf unit_format (hash_of hasher calls) factor)
       (map_sound hasher w kl unit_element factor kind query native itself reads kw unit_is_format)
 
   -- the same for a list, written by a call that takes exactly its keys
@@ -47,10 +49,11 @@ module _ {State : Type 0} (hasher : Hasher State) (w : Width) {k : Shape} (kl : 
       → Bool} {equal : A → A → Bool} {R : Type 0} {kf : Format A R}
       → IsQuery k same key_calls can_read calls fits → FitsItsEqual k key equal fits
       → ((a : A) → equal a a ≡ true) → ((a : A) → can_read a) → IsFormat k key kf
-      → IsFormat (set_shape w k) (SetStands w k key (hash_at hasher key_calls) factor)
+      → IsFormat (set_spec w k) (SetRepresents w k key (hash_at hasher key_calls) factor)
       (listed max factor (set_format w k kf (hash_of hasher calls) factor))
   listed_set_sound max kind {can_read} {calls} {fits} {equal} {R} {kf} query native itself reads
       kw =
-      listed_format max factor (set_shape w k) (SetStands w k key (hash_at hasher key_calls) factor)
+      listed_format max factor (set_spec w k) (SetRepresents w k key
+      (hash_at hasher key_calls) factor)
       (set_format w k kf (hash_of hasher calls) factor)
       (set_sound kind query native itself reads kw)

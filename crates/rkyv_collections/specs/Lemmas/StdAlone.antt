@@ -12,21 +12,24 @@ use Rattle.std.proofs.lemmas.Bool.{and_from, cases_Bool, true≢false}
 use Rattle.std.proofs.lemmas.List.Elements.{All-head, All-map, All-tail, All-weaker}
 use Rattle.std.proofs.lemmas.List.Sums.{list_all-from_AllPass}
 use Rattle.std.proofs.lemmas.Map.Made.{All-is_member}
-use Rattle.rkyv_base.specs.Empty.{unit_element, unit_shape, unit_stands}
-use Rattle.rkyv_base.specs.Entry.{entry_element, entry_shape, value_offset}
-use Rattle.rkyv_base.specs.Shape.{IsElement, Shape, Standing, standing}
-use Rattle.rkyv_keys.specs.Equality.{StandsOnce}
-use Rattle.rkyv_keys.specs.OfEntries.{standing_key, standing_value}
+use Rattle.rkyv_base.specs.Empty.{unit_spec, unit_represents}
+use Rattle.rkyv_base.specs.Lemmas.Empty.{unit_element}
+use Rattle.rkyv_base.specs.Entry.{entry_spec, value_offset}
+use Rattle.rkyv_base.specs.Lemmas.Entry.{entry_element}
+use Rattle.rkyv_base.specs.ElementSpec.{IsElement, ElementSpec, ValidAt}
+use Rattle.rkyv_base.specs.Lemmas.ElementSpec.{valid_at}
+use Rattle.rkyv_keys.specs.Equality.{RepresentsOnce}
+use Rattle.rkyv_keys.specs.Lemmas.OfEntries.{valid_key, valid_value}
 use Rattle.rkyv_table.specs.Table.Header.{cap_at}
 use Rattle.rkyv_table.specs.Lemmas.ItemPositions.{holds_at, item_holds}
 use Rattle.rkyv_table.specs.Controls.Placing.{walk}
 use Rattle.rkyv_table.specs.Table.Positions.{IsWalked, item_at, item_positions, table_controls}
 use Rattle.rkyv_table.proofs.RawWalks.{walked_all}
-use Rattle.rkyv_collections.specs.MapShape.{map_shape}
-use Rattle.rkyv_collections.specs.Set.{set_shape}
-use Rattle.rkyv_table.specs.Table.Lent.{with_units}
-use Rattle.rkyv_collections.specs.StdMap.{ArePairsAt, EntriesStand, StdMapStands}
-use Rattle.rkyv_collections.specs.StdSet.{StdSetStands}
+use Rattle.rkyv_collections.specs.MapSpec.{map_spec}
+use Rattle.rkyv_collections.specs.Set.{set_spec}
+use Rattle.rkyv_table.specs.Table.ItemValues.{with_units}
+use Rattle.rkyv_collections.specs.StdMap.{ArePairsAt, EntriesRepresent, StdMapRepresents}
+use Rattle.rkyv_collections.specs.StdSet.{StdSetRepresents}
 
 module _ {A B : Type 0} (equal : A → A → Bool) (laws : IsEquivalence equal) (same : B → B → Bool)
   where
@@ -88,55 +91,57 @@ module _ {A B : Type 0} (equal : A → A → Bool) (laws : IsEquivalence equal) 
         and_from (list_all test (keys_of m.entries)) (list_all test (keys_of n.entries))
         (all_pass test each (keys_of m.entries)) (all_pass test each (keys_of n.entries))
 
-    module _ (k v : Shape) (kl : IsElement k) (vl : IsElement v) (w : Width) (key : List ℕ → ℕ → A
+    module _ (k v : ElementSpec) (kl : IsElement k) (vl : IsElement v) (w : Width) (key : List ℕ → ℕ
+        → A
         → Type 0) (value : List ℕ → ℕ → B → Type 0)
-        (ka : StandsOnce k key equal) (va : StandsOnce v value same) where
-      entry_standing : (b : List ℕ) (p : ℕ) → Standing (map_shape w k v) b p → (i : ℕ)
-          → IsWalked w b p i → Standing (entry_shape k v) b (item_at w (entry_shape k v).size b p i)
-      entry_standing b p st i walked =
-          let s = entry_shape k v in
+        (ka : RepresentsOnce k key equal) (va : RepresentsOnce v value same) where
+      entry_valid : (b : List ℕ) (p : ℕ) → ValidAt (map_spec w k v) b p → (i : ℕ)
+          → IsWalked w b p i → ValidAt (entry_spec k v) b (item_at w (entry_spec k v).size b p i)
+      entry_valid b p st i walked =
+          let s = entry_spec k v in
           let law = entry_element k v kl vl in
           let t = holds_at w s law b p 0 p st.0 st.1 (omega (arith, walked.0)) in
           let one = item_holds w s law b p 0 p st.0 st.1 i walked t in
-          standing s law b (item_at w s.size b p i) one.0.lower t.begin one.0.rest one.0.below one.1
+          valid_at s law b (item_at w s.size b p i) one.0.lower t.begin one.0.rest one.0.below one.1
           one.0.holds
 
-      zip_alike : (b : List ℕ) (places : List ℕ) (ps qs : List (A × B))
-          → All (Standing (entry_shape k v) b) places → ArePairsAt k v key value b places ps
-          → ArePairsAt k v key value b places qs → AllZip Alike ps qs
+      zip_alike : (b : List ℕ) (positions : List ℕ) (ps qs : List (A × B))
+          → All (ValidAt (entry_spec k v) b) positions → ArePairsAt k v key value b positions ps
+          → ArePairsAt k v key value b positions qs → AllZip Alike ps qs
       zip_alike b [] [] [] all r t = tt
       zip_alike b [] [] (q ∷ qs) all r t = absurd t
       zip_alike b [] (p ∷ ps) qs all r t = absurd r
       zip_alike b (x ∷ xs) [] qs all r t = absurd r
       zip_alike b (x ∷ xs) (p ∷ ps) [] all r t = absurd t
       zip_alike b (x ∷ xs) (p ∷ ps) (q ∷ qs) all r t =
-          let here = All-head (Standing (entry_shape k v) b) x xs all in (
+          let here = All-head (ValidAt (entry_spec k v) b) x xs all in (
             (
-              ka p.0 q.0 b x (standing_key kl vl b x here) r.0.0 t.0.0,
-              va p.1 q.1 b (x + value_offset k v) (standing_value kl vl b x here) r.0.1 t.0.1,
+              ka p.0 q.0 b x (valid_key kl vl b x here) r.0.0 t.0.0,
+              va p.1 q.1 b (x + value_offset k v) (valid_value kl vl b x here) r.0.1 t.0.1,
             ),
-            zip_alike b xs ps qs (All-tail (Standing (entry_shape k v) b) x xs all) r.1 t.1,
+            zip_alike b xs ps qs (All-tail (ValidAt (entry_spec k v) b) x xs all) r.1 t.1,
           )
 
       -- two lists of entries that one map represents have equal values at each key
-      pub entries_alike : (b : List ℕ) (p : ℕ) → Standing (map_shape w k v) b p
-          → (es fs : List (A × B)) → EntriesStand k v key value w equal b p es
-          → EntriesStand k v key value w equal b p fs → (q : A)
+      pub entries_alike : (b : List ℕ) (p : ℕ) → ValidAt (map_spec w k v) b p
+          → (es fs : List (A × B)) → EntriesRepresent k v key value w equal b p es
+          → EntriesRepresent k v key value w equal b p fs → (q : A)
           → option_eq same (lookup (equal q) es) (lookup (equal q) fs) ≡ true
       entries_alike b p st es fs x y q =
-          let s = entry_shape k v in
+          let s = entry_spec k v in
           let ws = walk (table_controls w b p) (cap_at w b p) in
-          let all : All (Standing s b) (item_positions w s.size b p) =
-          All-map (Standing s b) (item_at w s.size b p) ws
-          (All-weaker (IsWalked w b p) (λ i. Standing s b (item_at w s.size b p i))
-          (entry_standing b p st) ws (walked_all w s (entry_element k v kl vl) b p)) in
+          let all : All (ValidAt s b) (item_positions w s.size b p) =
+          All-map (ValidAt s b) (item_at w s.size b p) ws
+          (All-weaker (IsWalked w b p) (λ i. ValidAt s b (item_at w s.size b p i))
+          (entry_valid b p st) ws (walked_all w s (entry_element k v kl vl) b p)) in
           let z = zip_alike b (item_positions w s.size b p) x.pairs y.pairs all x.read y.read in
           ap (λ o. option_eq same o (lookup (equal q) fs)) (x.inserted.0 q)
           ∙ ap (option_eq same (update_all equal (λ _. None) x.pairs q)) (y.inserted.0 q)
           ∙ inserted_alike x.pairs y.pairs z (λ _. None) (λ _. None) q refl
 
       pub std_map_alone : {S : Type 0}
-          → StandsOnce {V = HashMap A B S} (map_shape w k v) (StdMapStands k v key value w equal)
+          → RepresentsOnce {V =
+          HashMap A B S} (map_spec w k v) (StdMapRepresents k v key value w equal)
           (hash_map_eq equal same)
       std_map_alone m n b p st x y = maps_alike m n (entries_alike b p st m.entries n.entries x y)
 
@@ -160,9 +165,9 @@ module _ {A : Type 0} (equal : A → A → Bool) (laws : IsEquivalence equal) wh
   same_test unit false true h = absurd (true≢false (sym h))
   same_test unit false false h = refl
 
-  pub std_set_alone : {S : Type 0} (k : Shape) → IsElement k
-      → (w : Width) (key : List ℕ → ℕ → A → Type 0) → StandsOnce k key equal
-      → StandsOnce {V = HashSet A S} (set_shape w k) (StdSetStands k key w equal)
+  pub std_set_alone : {S : Type 0} (k : ElementSpec) → IsElement k
+      → (w : Width) (key : List ℕ → ℕ → A → Type 0) → RepresentsOnce k key equal
+      → RepresentsOnce {V = HashSet A S} (set_spec w k) (StdSetRepresents k key w equal)
       (hash_set_eq equal)
   std_set_alone k kl w key ka s t b p st x y =
       let unit : Unit {0} = tt in
@@ -172,7 +177,7 @@ module _ {A : Type 0} (equal : A → A → Bool) (laws : IsEquivalence equal) wh
       (sym (unit_lookup (equal q) s.keys))
       ∙ ap (option_eq (λ x y. true) (lookup (equal q) (with_units s.keys)))
       (sym (unit_lookup (equal q) t.keys))
-      ∙ entries_alike equal laws (λ x y. true) k unit_shape kl unit_element w key unit_stands ka
+      ∙ entries_alike equal laws (λ x y. true) k unit_spec kl unit_element w key unit_represents ka
       (λ v z c r h i j. refl) b p st (with_units s.keys) (with_units t.keys) x y q) in
       and_from (list_all (λ q. list_any (equal q) t.keys) s.keys)
       (list_all (λ q. list_any (equal q) s.keys) t.keys)

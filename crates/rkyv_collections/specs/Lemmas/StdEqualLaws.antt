@@ -13,22 +13,23 @@ use Rattle.std.proofs.lemmas.Option.{get_or_from_slice_get, slice_get-get_or, sl
 use Rattle.rkyv_scan.specs.Groups.{generic_kind}
 use Rattle.rkyv_scan.specs.Hash.{Hasher, HasherCall, hash_of_calls}
 use Rattle.rkyv_scan.specs.Lemmas.KindLaws.{word_lawful}
-use Rattle.rkyv_base.specs.Entry.{entry_element, entry_shape, value_offset}
+use Rattle.rkyv_base.specs.Entry.{entry_spec, value_offset}
+use Rattle.rkyv_base.specs.Lemmas.Entry.{entry_element}
 use Rattle.rkyv_base.specs.Format.{Format, IsFormat}
-use Rattle.rkyv_base.specs.Pairs.{PairStands}
-use Rattle.rkyv_base.specs.Shape.{IsElement, Shape, Standing, Viewed}
+use Rattle.rkyv_base.specs.Pairs.{PairRepresents}
+use Rattle.rkyv_base.specs.ElementSpec.{IsElement, ElementSpec, ValidAt, Viewable}
 use Rattle.rkyv_base.specs.Text.{IsArchiveWord}
 use Rattle.rkyv_keys.specs.Equality.{Comparison}
 use Rattle.rkyv_keys.specs.Keys.{FitsItsEqual, IsQuery}
-use Rattle.rkyv_keys.specs.OfEntries.{standing_key}
+use Rattle.rkyv_keys.specs.Lemmas.OfEntries.{valid_key}
 use Rattle.rkyv_table.specs.Table.Positions.{home_positions, item_at, pos_found}
 use Rattle.rkyv_table.proofs.FirstFound.{first_found}
-use Rattle.rkyv_table.proofs.Items.{item_viewed}
+use Rattle.rkyv_table.proofs.ParsedTable.{item_viewable}
 use Rattle.rkyv_table.proofs.WrittenTables.{home_count, home_pos, home_walked}
 use Rattle.rkyv_collections.specs.Map.{hash_at}
-use Rattle.rkyv_collections.specs.MapShape.{map_shape}
-use Rattle.rkyv_collections.specs.MapFormat.{MapStands, hash_of}
-use Rattle.rkyv_collections.specs.Lemmas.EntriesTold.{entries_told}
+use Rattle.rkyv_collections.specs.MapSpec.{map_spec}
+use Rattle.rkyv_collections.specs.MapFormat.{MapRepresents, hash_of}
+use Rattle.rkyv_collections.specs.Lemmas.EntriesFound.{decode_entries}
 use Rattle.rkyv_collections.specs.StdEquality.{EntriesEqual, FindsPair}
 use Rattle.rkyv_collections.specs.StdMap.{of_entries}
 
@@ -42,17 +43,17 @@ find_only test (x ∷ xs) (suc n) h here others =
     rw (others 0 (omega arith)) (find_only test xs n (omega (arith, h)) here (λ j l.
     others (suc j) (omega (arith, l))))
 
-module _ (w : Width) (k v : Shape) (kl : IsElement k) (vl : IsElement v) {A B : Type 0}
+module _ (w : Width) (k v : ElementSpec) (kl : IsElement k) (vl : IsElement v) {A B : Type 0}
     (key : List ℕ → ℕ → A → Type 0) (equals : List ℕ → ℕ → B → Type 0)
     (own : A → ℕ) (there : List ℕ → ℕ → ℕ) (fits : A → List ℕ → ℕ → Bool) (equal : A → A → Bool)
-    (alike : (q : A) (b : List ℕ) (p : ℕ) → Standing k b p → fits q b p ≡ true
+    (same_calls : (q : A) (b : List ℕ) (p : ℕ) → ValidAt k b p → fits q b p ≡ true
     → there b p ≡ own q) (native : FitsItsEqual k key equal fits) (laws : IsEquivalence equal)
     (factor : ℕ × ℕ) where
-  module _ (b : List ℕ) (p : ℕ) (view : Viewed (map_shape w k v) b p) (pairs : List (A × B))
-      (st : MapStands w k v key equals there factor b p pairs)
+  module _ (b : List ℕ) (p : ℕ) (view : Viewable (map_spec w k v) b p) (pairs : List (A × B))
+      (st : MapRepresents w k v key equals there factor b p pairs)
       (apart : IsDistinct equal (keys_of pairs)) where
     abbrev size : ℕ
-    size = (entry_shape k v).size
+    size = (entry_spec k v).size
 
     abbrev hashes : List ℕ
     hashes = map (there b) (home_positions w size b p st.homes)
@@ -67,20 +68,20 @@ module _ (w : Width) (k v : Shape) (kl : IsElement k) (vl : IsElement v) {A B : 
     hashes_total = length-map (home_positions w size b p st.homes) (there b)
         ∙ length-map st.homes (item_at w size b p)
 
-    key_stands : (i : ℕ) → i < length st.homes → Standing k b (place i)
-    key_stands i h =
-        standing_key kl vl b (place i)
-        (item_viewed w (entry_shape k v) (entry_element k v kl vl) b p view
-        (slice_index st.homes i) (home_walked w b p hashes st.homes st.written i h)).stands
+    key_represents : (i : ℕ) → i < length st.homes → ValidAt k b (place i)
+    key_represents i h =
+        valid_key kl vl b (place i)
+        (item_viewable w (entry_spec k v) (entry_element k v kl vl) b p view
+        (slice_index st.homes i) (home_walked w b p hashes st.homes st.written i h)).valid
 
-    pair_stands : (i : ℕ) (y : A × B) → i < length st.homes → slice_get pairs i ≡ Some y
-        → PairStands k v key equals b (place i) y
-    pair_stands i y h e = subst (λ q. PairStands k v key equals b q y)
+    pair_represents : (i : ℕ) (y : A × B) → i < length st.homes → slice_get pairs i ≡ Some y
+        → PairRepresents k v key equals b (place i) y
+    pair_represents i y h e = subst (λ q. PairRepresents k v key equals b q y)
         (home_pos w size b p st.homes i h) (st.at i y e)
 
     fits_is : (q : A) (i : ℕ) (y : A × B) → i < length st.homes → slice_get pairs i ≡ Some y
         → fits q b (place i) ≡ equal q y.0
-    fits_is q i y h e = native q y.0 b (place i) (key_stands i h) (pair_stands i y h e).0
+    fits_is q i y h e = native q y.0 b (place i) (key_represents i h) (pair_represents i y h e).0
 
     hash_is : (i : ℕ) → i < length st.homes → slice_index hashes i ≡ there b (place i)
     hash_is i h =
@@ -90,7 +91,7 @@ module _ (w : Width) (k v : Shape) (kl : IsElement k) (vl : IsElement v) {A B : 
 
     under : (q : A) (i : ℕ) → i < length st.homes → fits q b (place i) ≡ true
         → there b (place i) ≡ own q
-    under q i h = alike q b (place i) (key_stands i h)
+    under q i h = same_calls q b (place i) (key_represents i h)
 
     key_of : (i : ℕ) (y : A × B) (d : A) → slice_get pairs i ≡ Some y
         → get_or (keys_of pairs) i d ≡ y.0
@@ -117,7 +118,7 @@ module _ (w : Width) (k v : Shape) (kl : IsElement k) (vl : IsElement v) {A B : 
     pair_found n y e =
         let inside = slice_get_within pairs n y e in
         let below : n < length st.homes = omega (arith, inside, homes_total) in
-        let places = home_positions w size b p st.homes in
+        let positions = home_positions w size b p st.homes in
         let total = length-map st.homes (item_at w size b p) in
         let here : fits y.0 b (place n) ≡ true = fits_is y.0 n y below e ∙ laws.refl y.0 in
         let small : own y.0 < 2 ^ 64 =
@@ -130,7 +131,7 @@ module _ (w : Width) (k v : Shape) (kl : IsElement k) (vl : IsElement v) {A B : 
         let l : i < length st.homes = omega (arith, h, hashes_total) in
         hash_is i l ∙ under y.0 i l (ap (fits y.0 b) (sym (home_pos w size b p st.homes i l))
         ∙ accepted))
-        ∙ find_only (fits y.0 b) places n (omega (arith, below, total))
+        ∙ find_only (fits y.0 b) positions n (omega (arith, below, total))
         (ap (fits y.0 b) (home_pos w size b p st.homes n below) ∙ here)
         (λ j less. ap (fits y.0 b) (home_pos w size b p st.homes j (omega (arith, less, below)))
         ∙ no_other n y e j less)
@@ -141,19 +142,19 @@ module _ (w : Width) (k v : Shape) (kl : IsElement k) (vl : IsElement v) {A B : 
         let y = get_or pairs n d in
         let e = slice_get-get_or pairs n d h in
         subst (λ o. IsSomeAnd o (λ q. equals b (q + value_offset k v) y.1)) (sym (pair_found n y e))
-        (pair_stands n y (omega (arith, h, homes_total)) e).1
+        (pair_represents n y (omega (arith, h, homes_total)) e).1
 
   -- in any archive with the written bytes of a map of std, the map there equals it
   pub written_equal : {R : Type 0} (kind : IsArchiveWord w) (f : Format (List (A × B)) R)
-      → IsFormat (map_shape w k v) (MapStands w k v key equals there factor) f
-      → IsFormat (map_shape w k v) (EntriesEqual w k v own fits equals) (of_entries equal f)
+      → IsFormat (map_spec w k v) (MapRepresents w k v key equals there factor) f
+      → IsFormat (map_spec w k v) (EntriesEqual w k v own fits equals) (of_entries equal f)
   written_equal kind f base =
-      entries_told w kind kl vl factor equal (EntriesEqual w k v own fits equals)
+      decode_entries w kind kl vl factor equal (EntriesEqual w k v own fits equals)
       (λ b p view es st apart. (st.len, each_found b p view es st apart)) f base
 
 -- the same for keys that are looked up by themselves
 pub entries_equal : {State : Type 0} (hasher : Hasher State) (w : Width) (kind : IsArchiveWord w)
-    {k v : Shape} (kl : IsElement k) (vl : IsElement v) {A B R : Type 0} {key : List ℕ → ℕ → A
+    {k v : ElementSpec} (kl : IsElement k) (vl : IsElement v) {A B R : Type 0} {key : List ℕ → ℕ → A
     → Type 0} {equals : List ℕ → ℕ → B → Type 0} {same : Comparison} {key_calls : List ℕ → ℕ
     → List HasherCall}
     {can_read : A → Type 0} {calls : A → List HasherCall} {fits : A → List ℕ → ℕ
@@ -161,13 +162,14 @@ pub entries_equal : {State : Type 0} (hasher : Hasher State) (w : Width) (kind :
     → IsQuery k same key_calls can_read calls fits → FitsItsEqual k key equal fits
     → IsEquivalence equal → ((a : A) → can_read a)
     → (f : Format (List (A × B)) R)
-    → IsFormat (map_shape w k v) (MapStands w k v key equals (hash_at hasher key_calls) factor)
+    → IsFormat (map_spec w k v) (MapRepresents w k v key equals (hash_at hasher key_calls) factor)
     f
-    → IsFormat (map_shape w k v) (EntriesEqual w k v (hash_of hasher calls) fits equals)
+    → IsFormat (map_spec w k v) (EntriesEqual w k v (hash_of hasher calls) fits equals)
     (of_entries equal f)
 entries_equal hasher w kind {k} {v} kl vl {A} {B} {R} {key} {equals} {same} {key_calls} {can_read}
     {calls} {fits} {equal} factor query native laws reads f base =
     written_equal w k v kl vl key equals (hash_of hasher calls) (hash_at hasher key_calls) fits
     equal
-    (λ q b p h yes'. ap (hash_of_calls hasher) (sym (query.alike q b p (reads q) h yes'))) native
+    (λ q b p h yes'. ap (hash_of_calls hasher) (sym (query.same_calls q b p
+    (reads q) h yes'))) native
     laws factor kind f base

@@ -12,11 +12,14 @@ use Rattle.std.proofs.lemmas.List.Elements.{All-contains_itself, All-head, All-t
 use Rattle.std.proofs.lemmas.Map.Entries.{lookup_from_place, place_from_lookup}
 use Rattle.std.proofs.lemmas.Map.Keys.{IsDistinct-from_apart, apart_from_distinct}
 use Rattle.std.proofs.lemmas.Option.{same_Some, slice_get_cases, slice_get_within}
-use Rattle.rkyv_base.specs.Bytes.{Same, same_part}
-use Rattle.rkyv_base.specs.Entry.{entry_element, entry_shape}
-use Rattle.rkyv_base.specs.Format.{Format, IsFormat, StandsNear}
-use Rattle.rkyv_base.specs.Pairs.{PairStands, pair_near}
-use Rattle.rkyv_base.specs.Shape.{IsElement, Shape, Viewed}
+use Rattle.rkyv_base.specs.Bytes.{AgreeOn}
+use Rattle.rkyv_base.specs.Lemmas.Bytes.{agree_on_part}
+use Rattle.rkyv_base.specs.Entry.{entry_spec}
+use Rattle.rkyv_base.specs.Lemmas.Entry.{entry_element}
+use Rattle.rkyv_base.specs.Format.{Format, IsFormat, RepresentsLocally}
+use Rattle.rkyv_base.specs.Pairs.{PairRepresents}
+use Rattle.rkyv_base.specs.Lemmas.Pairs.{pair_local}
+use Rattle.rkyv_base.specs.ElementSpec.{IsElement, ElementSpec, Viewable}
 use Rattle.rkyv_base.specs.Text.{IsArchiveWord}
 use Rattle.rkyv_table.specs.Table.Header.{cap_at, len_at}
 use Rattle.rkyv_table.specs.Lemmas.ItemPositions.{holds_at, item_holds}
@@ -29,21 +32,21 @@ use Rattle.rkyv_table.proofs.RawWalks.{walk_count, walked_all}
 use Rattle.rkyv_table.proofs.WalkedHomes.{walked_homes}
 use Rattle.rkyv_table.proofs.Walks.{walk_none}
 use Rattle.rkyv_table.proofs.WrittenTables.{home_count, home_pos}
-use Rattle.rkyv_collections.specs.MapShape.{map_shape}
-use Rattle.rkyv_collections.specs.MapFormat.{MapStands}
-use Rattle.rkyv_collections.specs.Lemmas.EntriesTold.{entries_told}
+use Rattle.rkyv_collections.specs.MapSpec.{map_spec}
+use Rattle.rkyv_collections.specs.MapFormat.{MapRepresents}
+use Rattle.rkyv_collections.specs.Lemmas.EntriesFound.{decode_entries}
 use Rattle.rkyv_table.specs.Lemmas.SameControls.{same_controls}
-use Rattle.rkyv_collections.specs.StdMap.{ArePairsAt, EntriesStand, of_entries}
+use Rattle.rkyv_collections.specs.StdMap.{ArePairsAt, EntriesRepresent, of_entries}
 
-module _ (k v : Shape) (kl : IsElement k) (vl : IsElement v) (w : Width) where
-  abbrev S : Shape
-  S = entry_shape k v
+module _ (k v : ElementSpec) (kl : IsElement k) (vl : IsElement v) (w : Width) where
+  abbrev S : ElementSpec
+  S = entry_spec k v
 
   abbrev law : IsElement S
   law = entry_element k v kl vl
 
   module _ (b c : List ℕ) (p lo hi l : ℕ) (o : lo ≤ hi) (h : TableHolds w S b p lo hi l)
-      (fixed : Same b c p (p + 3 * byte_len w)) (part : Same b c lo l) where
+      (fixed : AgreeOn b c p (p + 3 * byte_len w)) (part : AgreeOn b c lo l) where
     same_walk : walk (table_controls w b p) (cap_at w b p)
         ≡ walk (table_controls w c p) (cap_at w c p)
     same_walk = elim (cases_eq (cap_at w b p) 0) [
@@ -65,10 +68,10 @@ module _ (k v : Shape) (kl : IsElement k) (vl : IsElement v) (w : Width) where
         (pos_same w b c p fixed)
 
     module _ {A B : Type 0} {key : List ℕ → ℕ → A → Type 0} {value : List ℕ → ℕ → B
-        → Type 0} (kn : StandsNear k key) (vn : StandsNear v value) where
+        → Type 0} (kn : RepresentsLocally k key) (vn : RepresentsLocally v value) where
       pair_again : (i : ℕ) → IsWalked w b p i → (pair : A × B)
-          → PairStands k v key value b (item_at w S.size b p i) pair
-          → PairStands k v key value c (item_at w S.size b p i) pair
+          → PairRepresents k v key value b (item_at w S.size b p i) pair
+          → PairRepresents k v key value c (item_at w S.size b p i) pair
       pair_again i walked pair st =
           let q = item_at w S.size b p i in
           let t = holds_at w S law b p lo hi l h (omega (arith, walked.0)) in
@@ -76,11 +79,12 @@ module _ (k v : Shape) (kl : IsElement k) (vl : IsElement v) (w : Width) where
           let above = t.part.above in
           let ends = t.ends in
           let ends' = r.0.ends in
-          let x = law.between b q r.0.lower t.begin r.0.rest r.0.below r.0.holds in
-          pair_near k v kl vl key value kn vn pair b c q r.0.lower t.begin r.0.rest r.0.below
+          let x = law.rest_in_range b q r.0.lower t.begin r.0.rest r.0.below r.0.holds in
+          pair_local k v kl vl key value kn vn pair b c q r.0.lower t.begin r.0.rest r.0.below
           r.0.holds
-          (same_part b c lo l q (q + S.size) (omega (arith, r.1, above)) r.2 (omega arith) part)
-          (same_part b c lo l r.0.lower r.0.rest r.0.above (omega (arith, ends, ends')) x.0 part) st
+          (agree_on_part b c lo l q (q + S.size) (omega (arith, r.1, above)) r.2 (omega arith) part)
+          (agree_on_part b c lo l r.0.lower r.0.rest r.0.above (omega
+          (arith, ends, ends')) x.0 part) st
 
       pairs_again : (is : List ℕ) → All (IsWalked w b p) is → (pairs : List (A × B))
           → ArePairsAt k v key value b (map (item_at w S.size b p) is) pairs
@@ -94,10 +98,11 @@ module _ (k v : Shape) (kl : IsElement k) (vl : IsElement v) (w : Width) where
       )
 
       pub entries_again : (equal : A → A → Bool) (es : List (A × B))
-          → EntriesStand k v key value w equal b p es → EntriesStand k v key value w equal c p es
+          → EntriesRepresent k v key value w equal b p es
+          → EntriesRepresent k v key value w equal c p es
       entries_again equal es st = record {
         pairs = st.pairs;
-        read = subst (λ (places : List ℕ). ArePairsAt k v key value c places st.pairs)
+        read = subst (λ (positions : List ℕ). ArePairsAt k v key value c positions st.pairs)
             same_positions
             (pairs_again (walk (table_controls w b p) (cap_at w b p)) (walked_all w S law b p)
             st.pairs st.read);
@@ -105,10 +110,11 @@ module _ (k v : Shape) (kl : IsElement k) (vl : IsElement v) (w : Width) where
       }
 
   -- the represented entries depend only on the bytes on which the validity of the map depends
-  pub entries_near : {A B : Type 0} {key : List ℕ → ℕ → A → Type 0} {value : List ℕ → ℕ → B
-      → Type 0} (equal : A → A → Bool) → StandsNear k key → StandsNear v value
-      → StandsNear {V = List (A × B)} (map_shape w k v) (EntriesStand k v key value w equal)
-  entries_near equal kn vn es b c p lo hi l o h fixed part st =
+  pub entries_local : {A B : Type 0} {key : List ℕ → ℕ → A → Type 0} {value : List ℕ → ℕ → B
+      → Type 0} (equal : A → A → Bool) → RepresentsLocally k key → RepresentsLocally v value
+      → RepresentsLocally {V = List (A
+      × B)} (map_spec w k v) (EntriesRepresent k v key value w equal)
+  entries_local equal kn vn es b c p lo hi l o h fixed part st =
       entries_again b c p lo hi l o h fixed part kn vn equal es st
 
 -- Pairs of distinct keys, each with its own home bucket.
@@ -203,34 +209,34 @@ module _ {A B : Type 0} (equal : A → A → Bool) (laws : IsEquivalence equal) 
       → P (slice_index homes n) y)
       → (is : List ℕ) → All (Contains homes) is → (ys : List (A × B)) × AllZip P is ys
       × AllZip Picks is ys
-  pick_all P stands [] all = ([], tt, tt)
-  pick_all P stands (i ∷ is) all =
+  pick_all P represents [] all = ([], tt, tt)
+  pick_all P represents (i ∷ is) all =
       let home = All-head (Contains homes) i is all in
-      let rest = pick_all P stands is (All-tail (Contains homes) i is all) in
+      let rest = pick_all P represents is (All-tail (Contains homes) i is all) in
       let at : slice_index homes home.0 ≡ i = get_or_default homes home.0 0 i home.1 ∙ home.2 in
       elim (slice_get_cases pairs home.0).1 [
         | inl x ↦ (
           x.0 ∷ rest.0,
-          (subst (λ j. P j x.0) at (stands home.0 x.0 home.1 x.2), rest.1),
+          (subst (λ j. P j x.0) at (represents home.0 x.0 home.1 x.2), rest.1),
           ((home.0, home.1, at, x.2), rest.2),
         )
         | inr x ↦ absurd (beyond home.0 home.1 x.0)
       ]
 
-module _ (k v : Shape) (kl : IsElement k) (vl : IsElement v) (w : Width) {A B : Type 0}
+module _ (k v : ElementSpec) (kl : IsElement k) (vl : IsElement v) (w : Width) {A B : Type 0}
     {key : List ℕ → ℕ → A → Type 0} {value : List ℕ → ℕ → B → Type 0}
     (equal : A → A → Bool) (laws : IsEquivalence equal) (hash : List ℕ → ℕ → ℕ) (factor : ℕ × ℕ)
   where
     -- a written map of distinct keys represents a map of std with the same lookups as its pairs
-    module _ (b : List ℕ) (p : ℕ) (view : Viewed (map_shape w k v) b p) (pairs : List (A × B))
-        (st : MapStands w k v key value hash factor b p pairs)
+    module _ (b : List ℕ) (p : ℕ) (view : Viewable (map_spec w k v) b p) (pairs : List (A × B))
+        (st : MapRepresents w k v key value hash factor b p pairs)
         (apart : IsDistinct equal (keys_of pairs)) where
       walked : List ℕ
       walked = walk (table_controls w b p) (cap_at w b p)
 
       home_total : length st.homes ≡ length pairs
       home_total =
-          let hashes = map (hash b) (home_positions w (entry_shape k v).size b p st.homes) in
+          let hashes = map (hash b) (home_positions w (entry_spec k v).size b p st.homes) in
           home_count w b p hashes st.homes st.written ∙ sym st.written.count ∙ st.len
 
       -- the walk visits each home bucket, and no other
@@ -240,10 +246,10 @@ module _ (k v : Shape) (kl : IsElement k) (vl : IsElement v) (w : Width) {A B : 
       visits : Visits
       unfolding walked Visits
       visits =
-          let hashes = map (hash b) (home_positions w (entry_shape k v).size b p st.homes) in
+          let hashes = map (hash b) (home_positions w (entry_spec k v).size b p st.homes) in
           elim st.written.placed [
             | inl none ↦
-                let count = walk_count w (entry_shape k v) (entry_element k v kl vl) b p view in
+                let count = walk_count w (entry_spec k v) (entry_element k v kl vl) b p view in
                 let homes : length st.homes ≡ 0 = ap length none.1 in
                 let len : len_at w b p ≡ 0 = st.len ∙ sym home_total ∙ homes in (
                   λ i. (
@@ -261,29 +267,30 @@ module _ (k v : Shape) (kl : IsElement k) (vl : IsElement v) (w : Width) {A B : 
           ]
 
       pair_there : (n : ℕ) (y : A × B) → n < length st.homes → slice_get pairs n ≡ Some y
-          → PairStands k v key value b (item_at w (entry_shape k v).size b p
+          → PairRepresents k v key value b (item_at w (entry_spec k v).size b p
           (slice_index st.homes n))
           y
       pair_there n y h e =
-          subst (λ q. PairStands k v key value b q y)
-          (home_pos w (entry_shape k v).size b p st.homes n h) (st.at n y e)
+          subst (λ q. PairRepresents k v key value b q y)
+          (home_pos w (entry_spec k v).size b p st.homes n h) (st.at n y e)
 
       zip_positions : (is : List ℕ) (ys : List (A × B))
-          → AllZip (λ i y. PairStands k v key value b (item_at w (entry_shape k v).size b p i) y) is
+          → AllZip (λ i y. PairRepresents k v key value b (item_at w
+          (entry_spec k v).size b p i) y) is
           ys
-          → ArePairsAt k v key value b (map (item_at w (entry_shape k v).size b p) is) ys
+          → ArePairsAt k v key value b (map (item_at w (entry_spec k v).size b p) is) ys
       zip_positions [] [] z = z
       zip_positions [] (y ∷ ys) z = z
       zip_positions (i ∷ is) [] z = z
       zip_positions (i ∷ is) (y ∷ ys) z = (z.0, zip_positions is ys z.1)
 
       pub reads_written : (ys : List (A × B))
-          × ArePairsAt k v key value b (item_positions w (entry_shape k v).size b p) ys
+          × ArePairsAt k v key value b (item_positions w (entry_spec k v).size b p) ys
           × ((q : A) → lookup (equal q) pairs ≡ update_all equal (λ _. None) ys q)
       unfolding walked Visits Hits
       reads_written =
           let picked = pick_all equal laws pairs apart st.homes visits.1 home_total (λ i y.
-          PairStands k v key value b (item_at w (entry_shape k v).size b p i) y) pair_there
+          PairRepresents k v key value b (item_at w (entry_spec k v).size b p i) y) pair_there
           walked (All-weaker (Contains walked) (Contains st.homes) (λ i at. (visits.0 i).0 at)
           walked
           (All-contains_itself walked)) in (
@@ -300,10 +307,10 @@ module _ (k v : Shape) (kl : IsElement k) (vl : IsElement v) (w : Width) {A B : 
 
     -- written bytes of entries with distinct keys represent them
     pub entries_sound : {R : Type 0} (kind : IsArchiveWord w) (f : Format (List (A × B)) R)
-        → IsFormat (map_shape w k v) (MapStands w k v key value hash factor) f
-        → IsFormat (map_shape w k v) (EntriesStand k v key value w equal) (of_entries equal f)
+        → IsFormat (map_spec w k v) (MapRepresents w k v key value hash factor) f
+        → IsFormat (map_spec w k v) (EntriesRepresent k v key value w equal) (of_entries equal f)
     entries_sound kind f base =
-        entries_told w kind kl vl factor equal (EntriesStand k v key value w equal)
+        decode_entries w kind kl vl factor equal (EntriesRepresent k v key value w equal)
         (λ b p view es st apart.
         let read = reads_written b p view es st apart in
         record { pairs = read.0; read = read.1; inserted = (read.2, apart) }) f base

@@ -4,19 +4,19 @@ ghost use Rattle.std.specs.Prelude.{◌≡◌};
 ghost use Rattle.rkyv_table.specs.Table.Listed.{listed, written_under, written_under-format};
 ghost use Rattle.rkyv_collections.specs.Map.{hash_at};
 ghost use Rattle.rkyv_collections.specs.MapFormat.{hash_of};
-ghost use Rattle.rkyv_collections.specs.Set.{set_shape};
-ghost use Rattle.rkyv_collections.specs.SetFormat.{SetStands, set_format};
-ghost use Rattle.rkyv_collections.specs.Lemmas.SetSound.{listed_set_sound, set_near};
+ghost use Rattle.rkyv_collections.specs.Set.{set_spec};
+ghost use Rattle.rkyv_collections.specs.SetFormat.{SetRepresents, set_format};
+ghost use Rattle.rkyv_collections.specs.Lemmas.SetSound.{listed_set_sound, set_local};
 
 use crate::set::writing::HashSetResolver;
 use crate::set::{ArchivedHashSet, HashSetOf};
 use rkyv_base::archive::{Archive, ResolveResult, Serialize, WriteResult};
-use rkyv_base::element::StandsFor;
+use rkyv_base::element::Represents;
 use rkyv_base::width::Width;
 use rkyv_base::writer::Writer;
 use rkyv_keys::keys::{KeyElement, NativeKey};
 use rkyv_scan::hash::{FxHasher64, KeyHasher};
-use rkyv_table::table::lent::Refs;
+use rkyv_table::table::list_inputs::Refs;
 use std::alloc::Global;
 use std::marker::PhantomData;
 
@@ -66,12 +66,13 @@ impl<'a, A, H> SetItems<'a, A, H> {
     }
 }
 
-impl<'a, W: Width, H: KeyHasher, A, K: KeyElement + StandsFor<A>> StandsFor<SetItems<'a, A, H>>
+impl<'a, W: Width, H: KeyHasher, A, K: KeyElement + Represents<A>> Represents<SetItems<'a, A, H>>
     for HashSetOf<K, H, W> {
-    ghost stands = { λ b p x. SetStands W.word K.shape K.stands (hash_at H.hasher K.key_calls)
+    ghost represents = { λ b p x. SetRepresents W.word K.spec K.represents
+        (hash_at H.hasher K.key_calls)
         x.load_factor b p x.items.now };
 
-    ghost near = { λ x. set_near H.hasher W.word K.laws x.load_factor K.key K.near x.items.now };
+    ghost local = { λ x. set_local H.hasher W.word K.laws x.load_factor K.key K.local x.items.now };
 }
 
 impl<'a, W: Width, H: KeyHasher, A: Archive<W>> Archive<W> for SetItems<'a, A, H>
@@ -84,7 +85,7 @@ where
     type Resolver = HashSetResolver<W>;
 
     ghost format = { written_under (λ x. x.items.now) (λ x. listed W.MAX_CAPACITY x.load_factor
-        (set_format W.word A.Archived.shape A.format (hash_of H.hasher A.calls) x.load_factor)) };
+        (set_format W.word A.Archived.spec A.format (hash_of H.hasher A.calls) x.load_factor)) };
 
     fn resolve(&self, resolver: HashSetResolver<W>, pos: u64, out: &mut [u8]) -> ResolveResult {
         resolver.resolve(pos, out)
@@ -92,10 +93,10 @@ where
 
     ghost laws = { let hash = hash_at H.hasher A.Archived.key_calls in
         let own = hash_of H.hasher A.calls in
-        written_under-format (λ x. x.items.now) (set_shape W.word A.Archived.shape)
-        (λ x. SetStands W.word A.Archived.shape A.Archived.stands hash x.load_factor)
+        written_under-format (λ x. x.items.now) (set_spec W.word A.Archived.spec)
+        (λ x. SetRepresents W.word A.Archived.spec A.Archived.represents hash x.load_factor)
         (λ x. listed W.MAX_CAPACITY x.load_factor
-        (set_format W.word A.Archived.shape A.format own x.load_factor))
+        (set_format W.word A.Archived.spec A.format own x.load_factor))
         (λ x. listed_set_sound H.hasher W.word A.Archived.laws x.load_factor W.MAX_CAPACITY
         W.layout.kind
         A.query A.native A.Eq.laws.refl A.reads A.Archive.laws) };

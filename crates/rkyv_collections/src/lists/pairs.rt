@@ -3,19 +3,19 @@
 ghost use Rattle.std.specs.Prelude.{◌≡◌};
 ghost use Rattle.rkyv_table.specs.Table.Listed.{listed, written_under, written_under-format};
 ghost use Rattle.rkyv_collections.specs.Map.{hash_at};
-ghost use Rattle.rkyv_collections.specs.MapShape.{map_shape};
-ghost use Rattle.rkyv_collections.specs.MapFormat.{MapStands, hash_of, map_format};
-ghost use Rattle.rkyv_collections.specs.Lemmas.MapSound.{listed_map_sound, map_near};
+ghost use Rattle.rkyv_collections.specs.MapSpec.{map_spec};
+ghost use Rattle.rkyv_collections.specs.MapFormat.{MapRepresents, hash_of, map_format};
+ghost use Rattle.rkyv_collections.specs.Lemmas.MapSound.{listed_map_sound, map_local};
 
 use crate::map::writing::HashMapResolver;
 use crate::map::{ArchivedHashMap, HashMapOf};
 use rkyv_base::archive::{Archive, ResolveResult, Serialize, WriteResult};
-use rkyv_base::element::StandsFor;
+use rkyv_base::element::Represents;
 use rkyv_base::width::Width;
 use rkyv_base::writer::Writer;
 use rkyv_keys::keys::{KeyElement, NativeKey};
 use rkyv_scan::hash::{FxHasher64, KeyHasher};
-use rkyv_table::table::lent::Halves;
+use rkyv_table::table::list_inputs::PairRefs;
 use std::alloc::Global;
 use std::marker::PhantomData;
 
@@ -66,13 +66,13 @@ impl<'a, A, B, H> MapPairs<'a, A, B, H> {
     }
 }
 
-impl<'a, W: Width, H: KeyHasher, A, B, K: KeyElement + StandsFor<A>, V: StandsFor<B>> StandsFor<
+impl<'a, W: Width, H: KeyHasher, A, B, K: KeyElement + Represents<A>, V: Represents<B>> Represents<
     MapPairs<'a, A, B, H>,
 > for HashMapOf<K, V, H, W> {
-    ghost stands = { λ b p x. MapStands W.word K.shape V.shape K.stands V.stands
+    ghost represents = { λ b p x. MapRepresents W.word K.spec V.spec K.represents V.represents
         (hash_at H.hasher K.key_calls) x.load_factor b p x.pairs.now };
 
-    ghost near = { λ x. map_near H.hasher W.word K.laws V.laws x.load_factor K.key K.near V.near
+    ghost local = { λ x. map_local H.hasher W.word K.laws V.laws x.load_factor K.key K.local V.local
         x.pairs.now };
 }
 
@@ -86,7 +86,7 @@ where
     type Resolver = HashMapResolver<W>;
 
     ghost format = { written_under (λ x. x.pairs.now) (λ x. listed W.MAX_CAPACITY x.load_factor
-        (map_format W.word A.Archived.shape B.Archived.shape A.format B.format
+        (map_format W.word A.Archived.spec B.Archived.spec A.format B.format
         (hash_of H.hasher A.calls) x.load_factor)) };
 
     fn resolve(&self, resolver: HashMapResolver<W>, pos: u64, out: &mut [u8]) -> ResolveResult {
@@ -95,11 +95,12 @@ where
 
     ghost laws = { let hash = hash_at H.hasher A.Archived.key_calls in
         let own = hash_of H.hasher A.calls in
-        written_under-format (λ x. x.pairs.now) (map_shape W.word A.Archived.shape B.Archived.shape)
-        (λ x. MapStands W.word A.Archived.shape B.Archived.shape A.Archived.stands B.Archived.stands
+        written_under-format (λ x. x.pairs.now) (map_spec W.word A.Archived.spec B.Archived.spec)
+        (λ x. MapRepresents W.word A.Archived.spec B.Archived.spec A.Archived.represents
+        B.Archived.represents
         hash x.load_factor)
         (λ x. listed W.MAX_CAPACITY x.load_factor
-        (map_format W.word A.Archived.shape B.Archived.shape A.format B.format own
+        (map_format W.word A.Archived.spec B.Archived.spec A.format B.format own
         x.load_factor))
         (λ x. listed_map_sound H.hasher W.word A.Archived.laws B.Archived.laws x.load_factor
         W.MAX_CAPACITY W.layout.kind
@@ -113,14 +114,14 @@ where
     A: NativeKey<A::Archived>,
 {
     fn serialize(&self, alloc: Global, serializer: &mut S) -> WriteResult<HashMapResolver<W>, S> {
-        let halves = Halves::of(self.pairs);
+        let halves = PairRefs::of(self.pairs);
         ArchivedHashMap::<A::Archived, B::Archived, H, W>::serialize_from_iter::<
             S,
             A,
             B,
             &A,
             &B,
-            Halves<'_, A, B>,
+            PairRefs<'_, A, B>,
         >(
             alloc,
             halves,

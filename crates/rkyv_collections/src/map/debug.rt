@@ -1,6 +1,6 @@
 //! Formatting of maps by `Debug`.
-ghost use Rattle.rkyv_base.specs.View.{IsView};
-ghost use Rattle.rkyv_collections.specs.MapShape.{map_shape};
+ghost use Rattle.rkyv_base.specs.View.{IsValidView};
+ghost use Rattle.rkyv_collections.specs.MapSpec.{map_spec};
 
 use crate::map::{ArchivedHashMap, HashMapOf};
 use rkyv_base::view::View;
@@ -10,7 +10,7 @@ use std::fmt::{self, Debug, Formatter, Write};
 
 impl<K: ElementDebug, V: ElementDebug, H, W: Width> ElementDebug for HashMapOf<K, V, H, W> {
     fn debug<U: Write>(view: View<'_, HashMapOf<K, V, H, W>>, f: &mut Formatter<U>) -> fmt::Result
-        requires { IsView (map_shape W.word K.shape V.shape) view }
+        requires { IsValidView (map_spec W.word K.spec V.spec) view }
     {
         let mut printed = f.debug_map();
         for (key, value) in ArchivedHashMap::of(view).iter() {

@@ -1,17 +1,17 @@
 //! The header of a map as an element.
-ghost use Rattle.rkyv_collections.specs.MapShape.{map_element, map_shape};
+ghost use Rattle.rkyv_collections.specs.MapSpec.{map_element, map_spec};
 
 use crate::map::HashMapOf;
-use rkyv_base::element::{Element, PartRange, Shaped};
+use rkyv_base::element::{Element, HasSpec, PartRange};
 use rkyv_base::entry::Entry;
 use rkyv_base::errors::VerifyError;
 use rkyv_base::width::{Width, Word};
 use rkyv_table::table::{ArchivedHashTable, TableOf};
 
-impl<K: Shaped, V: Shaped, H, W: Word> Shaped for HashMapOf<K, V, H, W> {
-    ghost shape = { map_shape W.word K.shape V.shape };
+impl<K: HasSpec, V: HasSpec, H, W: Word> HasSpec for HashMapOf<K, V, H, W> {
+    ghost spec = { map_spec W.word K.spec V.spec };
 
-    ghost laws = { map_element W.word W.kind K.shape V.shape K.laws V.laws };
+    ghost laws = { map_element W.word W.kind K.spec V.spec K.laws V.laws };
 }
 
 impl<K: Element, V: Element, H, W: Width> Element for HashMapOf<K, V, H, W> {

@@ -4,11 +4,11 @@
 //! for maps that are values.
 ghost use Rattle.std.specs.Prelude.{◌+◌, ◌≡◌};
 ghost use Rattle.rkyv_base.specs.Entry.{value_offset};
-ghost use Rattle.rkyv_base.specs.View.{IsAt, IsView, archive_of, pos_of};
+ghost use Rattle.rkyv_base.specs.View.{IsAt, IsValidView, archive_of, pos_of};
 ghost use Rattle.rkyv_keys.specs.Places.{at_views};
 ghost use Rattle.rkyv_collections.specs.Equality.{finds_same, map_equal};
 ghost use Rattle.rkyv_collections.specs.Map.{hash_at, map_view};
-ghost use Rattle.rkyv_collections.specs.MapShape.{map_shape};
+ghost use Rattle.rkyv_collections.specs.MapSpec.{map_spec};
 
 use crate::map::{ArchivedHashMap, HashMapOf};
 use rkyv_base::view::View;
@@ -21,9 +21,9 @@ impl<'a, K: KeyElement, V: ElementEq, H: KeyHasher, W: Width> ArchivedHashMap<'a
     /// Returns `true` if and only if a lookup of the key finds a value that is the same.
     #[inline]
     fn matches(self, key: View<'_, K>, value: View<'_, V>) -> bool
-        requires key { IsView K.shape key }
-        requires value { IsView V.shape value }
-        requires pair { IsAt value (archive_of key) (pos_of key + value_offset K.shape V.shape) }
+        requires key { IsValidView K.spec key }
+        requires value { IsValidView V.spec value }
+        requires pair { IsAt value (archive_of key) (pos_of key + value_offset K.spec V.spec) }
         ensures { let key_hash = hash_at H.hasher K.key_calls in
             result ≡ finds_same self.entry key_hash K.same V.same key.entry }
     {
@@ -57,7 +57,7 @@ impl<'a, K: KeyElement, V: ElementEq, H: KeyHasher, W: Width> ArchivedHashMap<'a
     #[inline]
     pub fn eq_map(self, other: ArchivedHashMap<'_, K, V, H, W>) -> bool
         ensures { let key_hash = hash_at H.hasher K.key_calls in
-            result ≡ at_views (map_equal W.word K.shape V.shape key_hash K.same V.same)
+            result ≡ at_views (map_equal W.word K.spec V.spec key_hash K.same V.same)
             (map_view self.entry) (map_view other.entry) }
     {
         if self.len() != other.len() {
@@ -73,14 +73,14 @@ impl<'a, K: KeyElement, V: ElementEq, H: KeyHasher, W: Width> ArchivedHashMap<'a
 }
 
 impl<K: KeyElement, V: ElementEq, H: KeyHasher, W: Width> ElementEq for HashMapOf<K, V, H, W> {
-    ghost same = { map_equal W.word K.shape V.shape (hash_at H.hasher K.key_calls) K.same V.same };
+    ghost same = { map_equal W.word K.spec V.spec (hash_at H.hasher K.key_calls) K.same V.same };
 
     #[inline]
     fn same(a: View<'_, HashMapOf<K, V, H, W>>, b: View<'_, HashMapOf<K, V, H, W>>) -> bool
-        requires a { IsView (map_shape W.word K.shape V.shape) a }
-        requires b { IsView (map_shape W.word K.shape V.shape) b }
+        requires a { IsValidView (map_spec W.word K.spec V.spec) a }
+        requires b { IsValidView (map_spec W.word K.spec V.spec) b }
         ensures { let key_hash = hash_at H.hasher K.key_calls in
-            result ≡ at_views (map_equal W.word K.shape V.shape key_hash K.same V.same) a.entry
+            result ≡ at_views (map_equal W.word K.spec V.spec key_hash K.same V.same) a.entry
             b.entry }
     {
         ArchivedHashMap::of(a).eq_map(ArchivedHashMap::of(b))

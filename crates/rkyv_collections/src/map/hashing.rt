@@ -1,7 +1,7 @@
 //! Pairs under the hashes of their keys, as the input of a call that writes a table.
 
 ghost use Rattle.std.specs.Prelude.{◌≡◌};
-ghost use Rattle.rkyv_collections.specs.Handing.{HashedStep};
+ghost use Rattle.rkyv_collections.specs.HashedPairs.{HashedStep};
 ghost use Rattle.rkyv_collections.specs.MapFormat.{hash_of};
 
 use rkyv_base::adapter::EntryAdapter;

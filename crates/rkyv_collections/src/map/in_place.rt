@@ -20,16 +20,16 @@
 //! If the map is a value of another map, `map::nested` has the laws of the outer map.
 ghost use Rattle.std.specs.Prelude.{IfSome, length, ℕ, ◌+◌, ◌≡◌, ◌≤◌};
 ghost use Rattle.rkyv_base.specs.Sealing.{value_pos};
-ghost use Rattle.rkyv_base.specs.Shape.{Viewed};
+ghost use Rattle.rkyv_base.specs.ElementSpec.{Viewable};
 ghost use Rattle.rkyv_collections.specs.InPlace.{MayWriteFound, SetsFirst, SetsValue, WritesFound};
 ghost use Rattle.rkyv_collections.specs.Map.{map_bytes, map_pos};
 ghost use Rattle.rkyv_collections.specs.MapAt.{TellsValueAt, asked_value, map_at};
-ghost use Rattle.rkyv_collections.specs.MapShape.{IsKeyPosAt, map_shape};
+ghost use Rattle.rkyv_collections.specs.MapSpec.{IsKeyPosAt, map_spec};
 ghost use Rattle.rkyv_keys.specs.Asked.{asked};
 ghost use Rattle.rkyv_collections.specs.NestedWrites.{WritesParts};
 
 use crate::map::ArchivedHashMap;
-use rkyv_base::element::{Element, StandsFor};
+use rkyv_base::element::{Element, Represents};
 use rkyv_base::scalars::Scalar;
 use rkyv_base::seal::set_at;
 use rkyv_base::view::{View, found_pos};
@@ -43,7 +43,7 @@ fn map_over<K: Element, V: Element, H, W: Width>(
     archive: &[u8],
     root: u64,
 ) -> ArchivedHashMap<'_, K, V, H, W>
-    requires { Viewed (map_shape W.word K.shape V.shape) archive.now root }
+    requires { Viewable (map_spec W.word K.spec V.spec) archive.now root }
     ensures bytes { map_bytes result ≡ archive.now }
     ensures pos { map_pos result ≡ root }
 {
@@ -54,13 +54,13 @@ impl<'a, K: KeyElement, V: Element, H: KeyHasher, W: Width> ArchivedHashMap<'a, 
     /// Returns the position of the value that a lookup finds, in the map at `root` of an archive.
     #[inline]
     pub(crate) fn value_pos_in<Q: Query<K>>(archive: &[u8], root: u64, key: &Q) -> Option<u64>
-        requires map { Viewed (map_shape W.word K.shape V.shape) archive.now root }
+        requires map { Viewable (map_spec W.word K.spec V.spec) archive.now root }
         requires query { Q.can_read key.now }
         ensures walked { IfSome result (λ pos. (place : ℕ)
-            × IsKeyPosAt W.word K.shape V.shape archive.now root place
-            × (pos ≡ value_pos K.shape V.shape place)) }
-        ensures inside { IfSome result (λ pos. pos + V.shape.size ≤ length archive.now) }
-        ensures finds { TellsValueAt (map_at W.Word K.Shaped V.Shaped archive.now root)
+            × IsKeyPosAt W.word K.spec V.spec archive.now root place
+            × (pos ≡ value_pos K.spec V.spec place)) }
+        ensures inside { IfSome result (λ pos. pos + V.spec.size ≤ length archive.now) }
+        ensures finds { TellsValueAt (map_at W.Word K.HasSpec V.HasSpec archive.now root)
             (asked H.hasher K.key_calls K.same (Q.calls key.now) (Q.fits key.now))
             (λ pos. result ≡ pos) }
     {
@@ -104,10 +104,10 @@ impl<'a, K: KeyElement, V: Element, H: KeyHasher, W: Width> ArchivedHashMap<'a, 
         key: &Q,
         write: F,
     ) -> Option<R>
-        requires map { Viewed (map_shape W.word K.shape V.shape) archive.old root }
+        requires map { Viewable (map_spec W.word K.spec V.spec) archive.old root }
         requires query { Q.can_read key.now }
-        requires callable { MayWriteFound V.shape F.pre archive.old write }
-        ensures { TellsValueAt (map_at W.Word K.Shaped V.Shaped archive.old root)
+        requires callable { MayWriteFound V.spec F.pre archive.old write }
+        ensures { TellsValueAt (map_at W.Word K.HasSpec V.HasSpec archive.old root)
             (asked H.hasher K.key_calls K.same (Q.calls key.now) (Q.fits key.now))
             (WritesFound F.post write archive.old result archive.new) }
     {
@@ -147,20 +147,20 @@ impl<'a, K: KeyElement, V: Element, H: KeyHasher, W: Width> ArchivedHashMap<'a, 
 /// ```
 pub fn set_value_of<
     A: NativeKey<K>,
-    K: KeyElement + StandsFor<A>,
+    K: KeyElement + Represents<A>,
     N: Scalar,
     H: KeyHasher,
     W: Width,
 >(archive: &mut [u8], root: u64, key: &A, value: N) -> bool
-    requires map { Viewed (map_shape W.word K.shape N.shape) archive.old root }
+    requires map { Viewable (map_spec W.word K.spec N.spec) archive.old root }
     requires query { A.can_read key.now }
-    ensures answer { SetsValue (map_at W.Word K.Shaped N.Shaped archive.old root)
+    ensures answer { SetsValue (map_at W.Word K.HasSpec N.HasSpec archive.old root)
         (asked H.hasher K.key_calls K.same (A.calls key.now) (A.fits key.now))
         N.encoding value result archive.new }
-    ensures listed { SetsFirst (map_at W.Word K.Shaped N.Shaped archive.old root)
-        (asked_value H.hasher K.key_calls K.stands (A.eq key.now))
+    ensures listed { SetsFirst (map_at W.Word K.HasSpec N.HasSpec archive.old root)
+        (asked_value H.hasher K.key_calls K.represents (A.eq key.now))
         N.encoding value result archive.new }
-    ensures parts { WritesParts (map_shape W.word K.shape N.shape)
+    ensures parts { WritesParts (map_spec W.word K.spec N.spec)
         archive.old archive.new root }
 {
     match ArchivedHashMap::<K, N, H, W>::value_pos_in(&*archive, root, key) {

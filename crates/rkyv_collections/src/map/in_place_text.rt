@@ -3,16 +3,16 @@
 //! `map::in_place` has a table of all calls that write values.
 ghost use Rattle.std.specs.Prelude.{length, ◌+◌, ◌≤◌};
 ghost use Rattle.rkyv_base.specs.SealedText.{Raised};
-ghost use Rattle.rkyv_base.specs.Shape.{Viewed};
+ghost use Rattle.rkyv_base.specs.ElementSpec.{Viewable};
 ghost use Rattle.rkyv_base.specs.Text.{text_size};
 ghost use Rattle.rkyv_collections.specs.InPlaceText.{RaisesFirst, RaisesText, text_map_at};
-ghost use Rattle.rkyv_collections.specs.InPlaceText.{text_map_shape};
+ghost use Rattle.rkyv_collections.specs.InPlaceText.{text_map_spec};
 ghost use Rattle.rkyv_collections.specs.MapAt.{asked_value};
 ghost use Rattle.rkyv_collections.specs.NestedWrites.{WritesParts};
 ghost use Rattle.rkyv_keys.specs.Asked.{asked};
 
 use crate::map::ArchivedHashMap;
-use rkyv_base::element::StandsFor;
+use rkyv_base::element::Represents;
 use rkyv_base::seal::Seal;
 use rkyv_base::text::Text;
 use rkyv_base::width::Width;
@@ -61,18 +61,18 @@ fn uppercase_at<W: Width>(bytes: &mut [u8], pos: usize) -> bool
 /// ```
 pub fn make_ascii_uppercase_of<
     A: NativeKey<K>,
-    K: KeyElement + StandsFor<A>,
+    K: KeyElement + Represents<A>,
     H: KeyHasher,
     W: Width,
 >(archive: &mut [u8], root: u64, key: &A) -> Option<bool>
-    requires map { Viewed (text_map_shape W.word K.shape) archive.old root }
+    requires map { Viewable (text_map_spec W.word K.spec) archive.old root }
     requires query { A.can_read key.now }
-    ensures answer { RaisesText (text_map_at W.Word K.Shaped archive.old root)
+    ensures answer { RaisesText (text_map_at W.Word K.HasSpec archive.old root)
         (asked H.hasher K.key_calls K.same (A.calls key.now) (A.fits key.now))
         result archive.new }
-    ensures listed { RaisesFirst (text_map_at W.Word K.Shaped archive.old root)
-        (asked_value H.hasher K.key_calls K.stands (A.eq key.now)) result archive.new }
-    ensures parts { WritesParts (text_map_shape W.word K.shape) archive.old archive.new root }
+    ensures listed { RaisesFirst (text_map_at W.Word K.HasSpec archive.old root)
+        (asked_value H.hasher K.key_calls K.represents (A.eq key.now)) result archive.new }
+    ensures parts { WritesParts (text_map_spec W.word K.spec) archive.old archive.new root }
 {
     match ArchivedHashMap::<K, Text<W>, H, W>::value_pos_in(&*archive, root, key) {
         Some(pos) => Some(uppercase_at::<W>(archive, pos as usize)),

@@ -4,13 +4,13 @@
 //! to the list that the map represents.
 ghost use Rattle.std.specs.Prelude.{length, ◌≡◌};
 ghost use Rattle.std.specs.Iterator.{at_most};
-ghost use Rattle.rkyv_base.specs.Entry.{entry_shape};
+ghost use Rattle.rkyv_base.specs.Entry.{entry_spec};
 ghost use Rattle.rkyv_table.specs.Table.Hints.{HintsExactly};
 ghost use Rattle.rkyv_collections.specs.Map.{key_positions, map_archive, map_len};
 ghost use Rattle.rkyv_table.specs.Table.PairWalks.{TakesKey, TakesPair, TakesValue};
 
 use crate::map::ArchivedHashMap;
-use rkyv_base::element::{Element, Shaped};
+use rkyv_base::element::{Element, HasSpec};
 use rkyv_base::entry::Entry;
 use rkyv_base::view::{PairView, View};
 use rkyv_base::width::{Narrow, Width};
@@ -20,29 +20,29 @@ use std::marker::{Model, PhantomData};
 
 /// The pairs of a map that remain, in bucket order.
 #[derive(Drop)]
-pub struct Iter<'a, K: Shaped, V: Shaped, H = FxHasher64, W = Narrow> {
+pub struct Iter<'a, K: HasSpec, V: HasSpec, H = FxHasher64, W = Narrow> {
     entries: RawIter<'a, Entry<K, V>>,
     hasher: PhantomData<H>,
     width: PhantomData<W>,
 }
 
-impl<'a, K: Shaped, V: Shaped, H, W> Model for Iter<'a, K, V, H, W> {
-    ghost use Rattle.rkyv_base.specs.Entry.{entry_shape};
-    ghost use Rattle.rkyv_table.specs.Table.RawItems.{AllStand, ItemsLeft};
+impl<'a, K: HasSpec, V: HasSpec, H, W> Model for Iter<'a, K, V, H, W> {
+    ghost use Rattle.rkyv_base.specs.Entry.{entry_spec};
+    ghost use Rattle.rkyv_table.specs.Table.RawItems.{AllValid, ItemsLeft};
 
     ghost Value = { ItemsLeft };
 
     ghost view = { λ i. i.entries };
 
-    ghost invariant = { λ i. AllStand (entry_shape K.shape V.shape) i.entries };
+    ghost invariant = { λ i. AllValid (entry_spec K.spec V.spec) i.entries };
 }
 
 impl<'a, K: Element, V: Element, H, W> Iterator for Iter<'a, K, V, H, W> {
     type Item = PairView<'a, K, V>;
 
-    ghost next_gives = { TakesPair K.shape V.shape };
+    ghost next_gives = { TakesPair K.spec V.spec };
 
-    ghost remaining = { λ left. at_most (length left.places) };
+    ghost remaining = { λ left. at_most (length left.positions) };
 
     #[inline]
     fn next(&mut self) -> Option<PairView<'a, K, V>> {
@@ -54,7 +54,7 @@ impl<'a, K: Element, V: Element, H, W> Iterator for Iter<'a, K, V, H, W> {
 
     #[inline]
     fn size_hint(&self) -> (usize, Option<usize>)
-        ensures { HintsExactly result (length self.now.places) }
+        ensures { HintsExactly result (length self.now.positions) }
     {
         self.entries.size_hint()
     }
@@ -69,11 +69,11 @@ impl<'a, K: Element, V: Element, H, W> ExactSizeIterator for Iter<'a, K, V, H, W
 
 /// The keys of a map that remain, in bucket order.
 #[derive(Drop)]
-pub struct Keys<'a, K: Shaped, V: Shaped, H = FxHasher64, W = Narrow> {
+pub struct Keys<'a, K: HasSpec, V: HasSpec, H = FxHasher64, W = Narrow> {
     pairs: Iter<'a, K, V, H, W>,
 }
 
-impl<'a, K: Shaped, V: Shaped, H, W> Model for Keys<'a, K, V, H, W> {
+impl<'a, K: HasSpec, V: HasSpec, H, W> Model for Keys<'a, K, V, H, W> {
     ghost use Rattle.rkyv_table.specs.Table.RawItems.{ItemsLeft};
 
     ghost Value = { ItemsLeft };
@@ -84,9 +84,9 @@ impl<'a, K: Shaped, V: Shaped, H, W> Model for Keys<'a, K, V, H, W> {
 impl<'a, K: Element, V: Element, H, W> Iterator for Keys<'a, K, V, H, W> {
     type Item = View<'a, K>;
 
-    ghost next_gives = { TakesKey K.shape };
+    ghost next_gives = { TakesKey K.spec };
 
-    ghost remaining = { λ left. at_most (length left.places) };
+    ghost remaining = { λ left. at_most (length left.positions) };
 
     #[inline]
     fn next(&mut self) -> Option<View<'a, K>> {
@@ -98,7 +98,7 @@ impl<'a, K: Element, V: Element, H, W> Iterator for Keys<'a, K, V, H, W> {
 
     #[inline]
     fn size_hint(&self) -> (usize, Option<usize>)
-        ensures { HintsExactly result (length self.now.places) }
+        ensures { HintsExactly result (length self.now.positions) }
     {
         self.pairs.size_hint()
     }
@@ -113,11 +113,11 @@ impl<'a, K: Element, V: Element, H, W> ExactSizeIterator for Keys<'a, K, V, H, W
 
 /// The values of a map that remain, in bucket order.
 #[derive(Drop)]
-pub struct Values<'a, K: Shaped, V: Shaped, H = FxHasher64, W = Narrow> {
+pub struct Values<'a, K: HasSpec, V: HasSpec, H = FxHasher64, W = Narrow> {
     rest: Iter<'a, K, V, H, W>,
 }
 
-impl<'a, K: Shaped, V: Shaped, H, W> Model for Values<'a, K, V, H, W> {
+impl<'a, K: HasSpec, V: HasSpec, H, W> Model for Values<'a, K, V, H, W> {
     ghost use Rattle.rkyv_table.specs.Table.RawItems.{ItemsLeft};
 
     ghost Value = { ItemsLeft };
@@ -128,9 +128,9 @@ impl<'a, K: Shaped, V: Shaped, H, W> Model for Values<'a, K, V, H, W> {
 impl<'a, K: Element, V: Element, H, W> Iterator for Values<'a, K, V, H, W> {
     type Item = View<'a, V>;
 
-    ghost next_gives = { TakesValue K.shape V.shape };
+    ghost next_gives = { TakesValue K.spec V.spec };
 
-    ghost remaining = { λ left. at_most (length left.places) };
+    ghost remaining = { λ left. at_most (length left.positions) };
 
     #[inline]
     fn next(&mut self) -> Option<View<'a, V>> {
@@ -142,7 +142,7 @@ impl<'a, K: Element, V: Element, H, W> Iterator for Values<'a, K, V, H, W> {
 
     #[inline]
     fn size_hint(&self) -> (usize, Option<usize>)
-        ensures { HintsExactly result (length self.now.places) }
+        ensures { HintsExactly result (length self.now.positions) }
     {
         self.rest.size_hint()
     }
@@ -176,8 +176,8 @@ impl<'a, K: Element, V: Element, H, W: Width> ArchivedHashMap<'a, K, V, H, W> {
     #[inline]
     pub fn iter(self) -> Iter<'a, K, V, H, W>
         ensures archive { result.archive ≡ map_archive self.entry }
-        ensures places { result.places ≡ key_positions self.entry }
-        ensures count { length result.places ≡ map_len self.entry }
+        ensures positions { result.positions ≡ key_positions self.entry }
+        ensures count { length result.positions ≡ map_len self.entry }
     {
         Iter {
             entries: self.table().raw_iter(),
@@ -190,8 +190,8 @@ impl<'a, K: Element, V: Element, H, W: Width> ArchivedHashMap<'a, K, V, H, W> {
     #[inline]
     pub fn keys(self) -> Keys<'a, K, V, H, W>
         ensures archive { result.archive ≡ map_archive self.entry }
-        ensures places { result.places ≡ key_positions self.entry }
-        ensures count { length result.places ≡ map_len self.entry }
+        ensures positions { result.positions ≡ key_positions self.entry }
+        ensures count { length result.positions ≡ map_len self.entry }
     {
         Keys { pairs: self.iter() }
     }
@@ -200,8 +200,8 @@ impl<'a, K: Element, V: Element, H, W: Width> ArchivedHashMap<'a, K, V, H, W> {
     #[inline]
     pub fn values(self) -> Values<'a, K, V, H, W>
         ensures archive { result.archive ≡ map_archive self.entry }
-        ensures places { result.places ≡ key_positions self.entry }
-        ensures count { length result.places ≡ map_len self.entry }
+        ensures positions { result.positions ≡ key_positions self.entry }
+        ensures count { length result.positions ≡ map_len self.entry }
     {
         Values { rest: self.iter() }
     }
@@ -214,7 +214,7 @@ impl<'a, K: Element, V: Element, H, W: Width> IntoIterator for ArchivedHashMap<'
     type IntoIter = Iter<'a, K, V, H, W>;
 
     ghost into_iter_gives = { λ map pairs. (pairs.archive ≡ map_archive map)
-        × (pairs.places ≡ key_positions map) × (length pairs.places ≡ map_len map) };
+        × (pairs.positions ≡ key_positions map) × (length pairs.positions ≡ map_len map) };
 
     #[inline]
     fn into_iter(self) -> Iter<'a, K, V, H, W> {
@@ -229,7 +229,7 @@ impl<'a, K: Element, V: Element, H, W: Width> IntoIterator for &ArchivedHashMap<
     type IntoIter = Iter<'a, K, V, H, W>;
 
     ghost into_iter_gives = { λ map pairs. (pairs.archive ≡ map_archive map.now)
-        × (pairs.places ≡ key_positions map.now) × (length pairs.places ≡ map_len map.now) };
+        × (pairs.positions ≡ key_positions map.now) × (length pairs.positions ≡ map_len map.now) };
 
     #[inline]
     fn into_iter(self) -> Iter<'a, K, V, H, W> {

@@ -10,12 +10,12 @@
 ghost use Rattle.std.specs.Prelude.{IfSome, IsSome, IsTrue, drop, length, take, ◌+◌, ◌↔◌, ◌≡◌, ◌≤◌};
 ghost use Rattle.rkyv_base.specs.Seal.{LiesIn, archive_in, bytes_in, seal_pos, pos_in};
 ghost use Rattle.rkyv_base.specs.Sealing.{value_pos, with_value};
-ghost use Rattle.rkyv_base.specs.Shape.{Viewed};
-ghost use Rattle.rkyv_base.specs.View.{IsView, bytes_of, pos_of};
+ghost use Rattle.rkyv_base.specs.ElementSpec.{Viewable};
+ghost use Rattle.rkyv_base.specs.View.{IsValidView, bytes_of, pos_of};
 ghost use Rattle.rkyv_table.specs.Table.SealedItems.{CountsDown, LendsArchive, SameArchive};
 ghost use Rattle.rkyv_table.specs.Table.SealedItems.{StaysThere, WrittenBy, cursor_bytes};
 ghost use Rattle.rkyv_table.specs.Table.SealedItems.{items_left};
-ghost use Rattle.rkyv_collections.specs.MapShape.{map_shape};
+ghost use Rattle.rkyv_collections.specs.MapSpec.{map_spec};
 ghost use Rattle.rkyv_collections.specs.SealedMap.{IsMapSeal};
 ghost use Rattle.rkyv_collections.specs.SealedPairs.{HasAllPairs, KeepsPairs, KeepsValues};
 ghost use Rattle.rkyv_collections.specs.SealedPairs.{LendsFirstPair, LendsFirstValue, MayWritePair};
@@ -37,9 +37,9 @@ use std::marker::PhantomData;
 
 /// Returns `true` if and only if the bytes have a valid value at `pos`.
 #[inline]
-fn stands<T: Element>(bytes: &[u8], pos: u64) -> bool
-    requires { pos + T.shape.size ≤ length bytes.now }
-    ensures { IsTrue result ↔ Viewed T.shape bytes.now pos }
+fn represents<T: Element>(bytes: &[u8], pos: u64) -> bool
+    requires { pos + T.spec.size ≤ length bytes.now }
+    ensures { IsTrue result ↔ Viewable T.spec bytes.now pos }
 {
     if pos % T::align() as u64 != 0 {
         return false;
@@ -58,18 +58,18 @@ fn pair_at<K: Element, V: Element>(
     archive: &mut [u8],
     pos: u64,
 ) -> Option<(View<'_, K>, Seal<'_, V>)>
-    requires { value_pos K.shape V.shape pos + V.shape.size ≤ length archive.old }
-    ensures inside { IfSome result (λ pair. LiesIn V.shape pair.1) }
-    ensures viewed { IfSome result (λ pair. IsView K.shape pair.0) }
+    requires { value_pos K.spec V.spec pos + V.spec.size ≤ length archive.old }
+    ensures inside { IfSome result (λ pair. LiesIn V.spec pair.1) }
+    ensures viewable { IfSome result (λ pair. IsValidView K.spec pair.0) }
     ensures key { IfSome result (λ pair. (pos_of pair.0 ≡ pos)
-        × (bytes_of pair.0 ≡ take (value_pos K.shape V.shape pos) archive.old)) }
+        × (bytes_of pair.0 ≡ take (value_pos K.spec V.spec pos) archive.old)) }
     ensures value { IfSome result (λ pair. (seal_pos pair.1 ≡ 0)
-        × (bytes_in pair.1 ≡ drop (value_pos K.shape V.shape pos) archive.old)) }
-    ensures found { Viewed K.shape archive.old pos → IsSome result }
+        × (bytes_in pair.1 ≡ drop (value_pos K.spec V.spec pos) archive.old)) }
+    ensures found { Viewable K.spec archive.old pos → IsSome result }
 {
     let begin = pos as usize + value_offset::<K, V>();
     let (front, back) = archive.split_at_mut(begin);
-    if !stands::<K>(&*front, pos) {
+    if !represents::<K>(&*front, pos) {
         return None;
     }
     Some((View::new(front, pos), Seal::over(back, 0)))
@@ -78,8 +78,8 @@ fn pair_at<K: Element, V: Element>(
 /// Returns the position of the value behind the key at `pos`.
 #[inline]
 fn behind<K: Element, V: Element>(bytes: &[u8], pos: u64) -> u64
-    requires { value_pos K.shape V.shape pos ≤ length bytes.now }
-    ensures { result ≡ value_pos K.shape V.shape pos }
+    requires { value_pos K.spec V.spec pos ≤ length bytes.now }
+    ensures { result ≡ value_pos K.spec V.spec pos }
 {
     pos + value_offset::<K, V>() as u64
 }
@@ -109,9 +109,9 @@ impl<'a, K: Element, V: Element, H, W> IterMut<'a, K, V, H, W> {
     pub fn next_pos(&mut self) -> Option<u64>
         ensures archive { SameArchive (entries_in self.old) (entries_in self.new) }
         ensures counts { CountsDown (entries_in self.old) result (entries_in self.new) }
-        ensures inside { IfSome result (λ q. value_pos K.shape V.shape q + V.shape.size
+        ensures inside { IfSome result (λ q. value_pos K.spec V.spec q + V.spec.size
             ≤ length (cursor_bytes (entries_in self.old))) }
-        ensures takes { TakesKeyPos K.shape V.shape (entries_in self.old) result
+        ensures takes { TakesKeyPos K.spec V.spec (entries_in self.old) result
             (entries_in self.new) }
     {
         if whole_size::<K, V>() > LARGEST {
@@ -129,8 +129,8 @@ impl<'a, K: Element, V: Element, H, W> IterMut<'a, K, V, H, W> {
     /// - `write` can be called with the archive and each position at which a pair fits.
     #[inline]
     pub fn next_with<F: FnOnce(&mut [u8], u64)>(&mut self, write: F) -> Option<u64>
-        requires { MayWritePair K.shape V.shape F.pre (entries_in self.old) write }
-        ensures { StepsAndWritesPair K.shape V.shape (WrittenBy F.post write tt)
+        requires { MayWritePair K.spec V.spec F.pre (entries_in self.old) write }
+        ensures { StepsAndWritesPair K.spec V.spec (WrittenBy F.post write tt)
             (entries_in self.old) result (entries_in self.new) }
     {
         let next = self.next_pos();
@@ -147,10 +147,10 @@ impl<'a, K: Element, V: Element, H, W> IterMut<'a, K, V, H, W> {
     /// - The archive has a valid key at `pos`.
     #[inline]
     pub fn key_at(&self, pos: u64) -> View<'_, K>
-        requires { Viewed K.shape (cursor_bytes (entries_in self.now)) pos }
+        requires { Viewable K.spec (cursor_bytes (entries_in self.now)) pos }
         ensures bytes { bytes_of result ≡ cursor_bytes (entries_in self.now) }
         ensures place { pos_of result ≡ pos }
-        ensures viewed { IsView K.shape result }
+        ensures viewable { IsValidView K.spec result }
     {
         View::new(self.entries.bytes(), pos)
     }
@@ -164,9 +164,9 @@ impl<'a, K: Element, V: Element, H, W> IterMut<'a, K, V, H, W> {
     /// The contract of `next_with` also covers the pairs that remain.
     #[inline]
     pub fn next_seal(&mut self) -> Option<(View<'_, K>, Seal<'_, V>)>
-        ensures inside { IfSome result (λ pair. LiesIn V.shape pair.1) }
-        ensures viewed { IfSome result (λ pair. IsView K.shape pair.0) }
-        ensures first { LendsFirstPair K.shape V.shape (entries_in self.old) result }
+        ensures inside { IfSome result (λ pair. LiesIn V.spec pair.1) }
+        ensures viewable { IfSome result (λ pair. IsValidView K.spec pair.0) }
+        ensures first { LendsFirstPair K.spec V.spec (entries_in self.old) result }
     {
         match self.next_pos() {
             Some(pos) => pair_at::<K, V>(self.entries.bytes_mut(), pos),
@@ -183,13 +183,13 @@ impl<'a, K: Element, N: Scalar, H, W> IterMut<'a, K, N, H, W> {
     /// - The value behind the key ends inside the archive.
     #[inline]
     pub fn set_at(&mut self, pos: u64, value: N)
-        requires { value_pos K.shape N.shape pos + N.shape.size
+        requires { value_pos K.spec N.spec pos + N.spec.size
             ≤ length (cursor_bytes (entries_in self.old)) }
         ensures stays { StaysThere (entries_in self.old) (entries_in self.new) }
         ensures written { cursor_bytes (entries_in self.new)
             ≡ with_value N.encoding (cursor_bytes (entries_in self.old))
-            (value_pos K.shape N.shape pos) value }
-        ensures kept { KeepsPairs K.shape N.shape (entries_in self.old) pos
+            (value_pos K.spec N.spec pos) value }
+        ensures kept { KeepsPairs K.spec N.spec (entries_in self.old) pos
             (entries_in self.new) }
     {
         self.entries.write_at(pos, value_offset::<K, N>(), value);
@@ -219,9 +219,9 @@ impl<'a, K: Element, V: Element, H, W> ValuesMut<'a, K, V, H, W> {
     pub fn next_pos(&mut self) -> Option<u64>
         ensures archive { SameArchive (entries_of self.old) (entries_of self.new) }
         ensures counts { CountsDown (entries_of self.old) result (entries_of self.new) }
-        ensures inside { IfSome result (λ q. q + V.shape.size
+        ensures inside { IfSome result (λ q. q + V.spec.size
             ≤ length (cursor_bytes (entries_of self.old))) }
-        ensures takes { TakesValuePos K.shape V.shape (entries_of self.old) result
+        ensures takes { TakesValuePos K.spec V.spec (entries_of self.old) result
             (entries_of self.new) }
     {
         match self.pairs.next_pos() {
@@ -239,8 +239,8 @@ impl<'a, K: Element, V: Element, H, W> ValuesMut<'a, K, V, H, W> {
     /// - `write` can be called with the archive and each position at which a value fits.
     #[inline]
     pub fn next_with<F: FnOnce(&mut [u8], u64)>(&mut self, write: F) -> Option<u64>
-        requires { MayWriteValue K.shape V.shape F.pre (entries_of self.old) write }
-        ensures { StepsAndWritesValue K.shape V.shape (WrittenBy F.post write tt)
+        requires { MayWriteValue K.spec V.spec F.pre (entries_of self.old) write }
+        ensures { StepsAndWritesValue K.spec V.spec (WrittenBy F.post write tt)
             (entries_of self.old) result (entries_of self.new) }
     {
         let next = self.next_pos();
@@ -255,8 +255,8 @@ impl<'a, K: Element, V: Element, H, W> ValuesMut<'a, K, V, H, W> {
     /// The contract of `next_with` also covers the values that remain.
     #[inline]
     pub fn next_seal(&mut self) -> Option<Seal<'_, V>>
-        ensures inside { IfSome result (LiesIn V.shape) }
-        ensures first { LendsFirstValue K.shape V.shape (entries_of self.old) result }
+        ensures inside { IfSome result (LiesIn V.spec) }
+        ensures first { LendsFirstValue K.spec V.spec (entries_of self.old) result }
     {
         match self.next_pos() {
             Some(pos) => {
@@ -276,11 +276,11 @@ impl<'a, K: Element, N: Scalar, H, W> ValuesMut<'a, K, N, H, W> {
     /// - The value ends inside the archive.
     #[inline]
     pub fn set_at(&mut self, pos: u64, value: N)
-        requires { pos + N.shape.size ≤ length (cursor_bytes (entries_of self.old)) }
+        requires { pos + N.spec.size ≤ length (cursor_bytes (entries_of self.old)) }
         ensures stays { StaysThere (entries_of self.old) (entries_of self.new) }
         ensures written { cursor_bytes (entries_of self.new)
             ≡ with_value N.encoding (cursor_bytes (entries_of self.old)) pos value }
-        ensures kept { KeepsValues K.shape N.shape (entries_of self.old) pos
+        ensures kept { KeepsValues K.spec N.spec (entries_of self.old) pos
             (entries_of self.new) }
     {
         self.pairs.entries.write_at(pos, 0, value);
@@ -313,9 +313,9 @@ impl<'a, K: Element, V: Element, H, W: Width> ArchivedHashMap<'a, K, V, H, W> {
     /// ```
     #[inline]
     pub fn iter_seal(this: ArchiveSeal<'a, HashMapOf<K, V, H, W>>) -> IterMut<'a, K, V, H, W>
-        requires map { IsMapSeal W.word K.shape V.shape this }
+        requires map { IsMapSeal W.word K.spec V.spec this }
         ensures archive { LendsArchive this.entry (entries_in result) }
-        ensures all { HasAllPairs K.shape V.shape W.word (archive_in this.entry)
+        ensures all { HasAllPairs K.spec V.spec W.word (archive_in this.entry)
             (pos_in this.entry) (entries_in result) }
     {
         let (archive, pos) = this.into_parts();
@@ -331,10 +331,10 @@ impl<'a, K: Element, V: Element, H, W: Width> ArchivedHashMap<'a, K, V, H, W> {
     /// - The archive has a valid map at `pos`.
     #[inline]
     pub fn iter_over(archive: &'a mut [u8], pos: u64) -> IterMut<'a, K, V, H, W>
-        requires map { Viewed (map_shape W.word K.shape V.shape) archive.old pos }
+        requires map { Viewable (map_spec W.word K.spec V.spec) archive.old pos }
         ensures reference { (entries_in result).archive.ghost_name ≡ archive.entry.ghost_name }
         ensures bytes { cursor_bytes (entries_in result) ≡ archive.old }
-        ensures all { HasAllPairs K.shape V.shape W.word archive.old pos (entries_in result) }
+        ensures all { HasAllPairs K.spec V.spec W.word archive.old pos (entries_in result) }
     {
         IterMut {
             entries: ArchivedHashTable::<Entry<K, V>, W>::raw_iter_over(archive, pos),
@@ -368,9 +368,9 @@ impl<'a, K: Element, V: Element, H, W: Width> ArchivedHashMap<'a, K, V, H, W> {
     /// ```
     #[inline]
     pub fn values_seal(this: ArchiveSeal<'a, HashMapOf<K, V, H, W>>) -> ValuesMut<'a, K, V, H, W>
-        requires map { IsMapSeal W.word K.shape V.shape this }
+        requires map { IsMapSeal W.word K.spec V.spec this }
         ensures archive { LendsArchive this.entry (entries_of result) }
-        ensures all { HasAllPairs K.shape V.shape W.word (archive_in this.entry)
+        ensures all { HasAllPairs K.spec V.spec W.word (archive_in this.entry)
             (pos_in this.entry) (entries_of result) }
     {
         ValuesMut {
@@ -398,10 +398,10 @@ impl<'a, K: Element, V: Element, H, W: Width> ArchivedHashMap<'a, K, V, H, W> {
     /// ```
     #[inline]
     pub fn values_over(archive: &'a mut [u8], pos: u64) -> ValuesMut<'a, K, V, H, W>
-        requires map { Viewed (map_shape W.word K.shape V.shape) archive.old pos }
+        requires map { Viewable (map_spec W.word K.spec V.spec) archive.old pos }
         ensures reference { (entries_of result).archive.ghost_name ≡ archive.entry.ghost_name }
         ensures bytes { cursor_bytes (entries_of result) ≡ archive.old }
-        ensures all { HasAllPairs K.shape V.shape W.word archive.old pos (entries_of result) }
+        ensures all { HasAllPairs K.spec V.spec W.word archive.old pos (entries_of result) }
     {
         ValuesMut {
             pairs: Self::iter_over(archive, pos),

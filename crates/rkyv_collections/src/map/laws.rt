@@ -7,7 +7,7 @@ ghost use Rattle.rkyv_collections.specs.Map.{hash_at};
 ghost use Rattle.rkyv_collections.specs.Misplaced.{RepeatedKeysAreMisplaced};
 ghost use Rattle.rkyv_collections.specs.Natives.{native_pairs};
 
-use rkyv_base::element::{Element, StandsFor};
+use rkyv_base::element::{Element, Represents};
 use rkyv_base::width::Width;
 use rkyv_keys::equality::ElementEquiv;
 use rkyv_keys::keys::{FixedKey, KeyElement, Query};
@@ -17,7 +17,7 @@ use rkyv_scan::hash::KeyHasher;
 ///
 /// They have the same pairs if each pair of either is the same as one of the other.
 pub fn equal_maps_have_the_same_pairs<K: KeyElement, V: ElementEquiv, H: KeyHasher, W: Width>()
-    ensures { EqualHaveSamePairs W.word K.shape V.shape (hash_at H.hasher K.key_calls) K.same
+    ensures { EqualHaveSamePairs W.word K.spec V.spec (hash_at H.hasher K.key_calls) K.same
         V.same }
 {}
 
@@ -25,7 +25,7 @@ pub fn equal_maps_have_the_same_pairs<K: KeyElement, V: ElementEquiv, H: KeyHash
 ///
 /// The map is a written one. Earlier keys are those that were inserted before.
 pub fn repeated_keys_are_misplaced<K: KeyElement, V: Element, H: KeyHasher, W: Width>()
-    ensures { RepeatedKeysAreMisplaced W.word K.shape V.shape (hash_at H.hasher K.key_calls)
+    ensures { RepeatedKeysAreMisplaced W.word K.spec V.spec (hash_at H.hasher K.key_calls)
         K.same }
 {}
 
@@ -38,13 +38,13 @@ pub fn repeated_keys_are_misplaced<K: KeyElement, V: Element, H: KeyHasher, W: W
 pub fn lookups_find_listed<
     A,
     B,
-    K: KeyElement + StandsFor<A>,
-    V: StandsFor<B>,
+    K: KeyElement + Represents<A>,
+    V: Represents<B>,
     H: KeyHasher,
     W: Width,
 >()
-    ensures { LookupsFindListed H W.Word K.Shaped V.Shaped
-        (native_pairs K.stands V.stands H.hasher K.key_calls) }
+    ensures { LookupsFindListed H W.Word K.HasSpec V.HasSpec
+        (native_pairs K.represents V.represents H.hasher K.key_calls) }
 {}
 
 /// States that `iter`, `keys` and `values` return each pair of the represented list once.
@@ -55,14 +55,14 @@ pub fn lookups_find_listed<
 pub fn walks_give_listed<
     A,
     B,
-    K: KeyElement + StandsFor<A>,
-    V: StandsFor<B>,
+    K: KeyElement + Represents<A>,
+    V: Represents<B>,
     H: KeyHasher,
     W: Width,
 >()
-    ensures homes { WalksVisitPairs W.word K.shape V.shape K.stands V.stands
+    ensures homes { WalksVisitPairs W.word K.spec V.spec K.represents V.represents
         (hash_at H.hasher K.key_calls) }
-    ensures pairs { WalksGiveListed W.word K.shape V.shape K.stands V.stands
+    ensures pairs { WalksGiveListed W.word K.spec V.spec K.represents V.represents
         (hash_at H.hasher K.key_calls) }
 {}
 
@@ -76,7 +76,7 @@ pub fn walks_give_listed<
 ///   of these calls.
 /// - `queried`: in a written map, a query finds the same key under both.
 pub fn both_hashers_look_up_alike<Q: Query<K>, K: FixedKey, V: Element, W: Width>()
-    ensures written { WrittenAlike W.word K.shape V.shape K.key_calls }
-    ensures compared { ComparedAlike W.word K.shape V.shape }
-    ensures queried { QueriedAlike W.word K.shape V.shape K.key_calls Q.KeyHash Q.fits }
+    ensures written { WrittenAlike W.word K.spec V.spec K.key_calls }
+    ensures compared { ComparedAlike W.word K.spec V.spec }
+    ensures queried { QueriedAlike W.word K.spec V.spec K.key_calls Q.KeyHash Q.fits }
 {}

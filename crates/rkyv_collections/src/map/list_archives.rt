@@ -3,7 +3,7 @@ ghost use Rattle.rkyv_collections.specs.ListArchives.{ScalarsFoundAreListed};
 ghost use Rattle.rkyv_collections.specs.Map.{hash_at};
 ghost use Rattle.rkyv_collections.specs.Natives.{native_keys};
 
-use rkyv_base::element::StandsFor;
+use rkyv_base::element::Represents;
 use rkyv_base::scalars::Scalar;
 use rkyv_base::width::Width;
 use rkyv_keys::keys::{KeyElement, NativeKey};
@@ -16,10 +16,10 @@ use rkyv_scan::hash::KeyHasher;
 pub fn scalars_found_are_listed<
     A: NativeKey<K>,
     N: Scalar,
-    K: KeyElement + StandsFor<A>,
+    K: KeyElement + Represents<A>,
     H: KeyHasher,
     W: Width,
 >()
-    ensures { ScalarsFoundAreListed H W.Word K.Shaped N.Shaped N.encoding
-        (native_keys K.stands (hash_at H.hasher K.key_calls) A.fits A.eq) }
+    ensures { ScalarsFoundAreListed H W.Word K.HasSpec N.HasSpec N.encoding
+        (native_keys K.represents (hash_at H.hasher K.key_calls) A.fits A.eq) }
 {}

@@ -8,8 +8,8 @@
 //! `FxHasher64` takes no secret key, so it doesn't protect from chosen input.
 ghost use Rattle.std.specs.Prelude.{IfSome, IsSome, Option, Some, ◌<◌, ◌^◌, ◌≡◌, ℕ};
 ghost use Rattle.rkyv_scan.specs.Hash.{hash_of_calls};
-ghost use Rattle.rkyv_base.specs.Entry.{entry_shape};
-ghost use Rattle.rkyv_base.specs.View.{IsAt, IsView, archive_of, pos_of};
+ghost use Rattle.rkyv_base.specs.Entry.{entry_spec};
+ghost use Rattle.rkyv_base.specs.View.{IsAt, IsValidView, archive_of, pos_of};
 ghost use Rattle.rkyv_base.specs.declared.view.View.{View};
 ghost use Rattle.rkyv_collections.specs.Lookups.{GetsBy, GetsKey, IsPairOfEntry, IsValueOfEntry};
 ghost use Rattle.rkyv_collections.specs.Lookups.{TellsKey, entry_part, pair_part, value_part};
@@ -40,8 +40,8 @@ pub(crate) fn is_found<T: Element>(found: Option<View<'_, T>>) -> bool
 pub(crate) fn found_pair<'a, K: Element, V: Element>(
     found: Option<View<'a, Entry<K, V>>>,
 ) -> Option<PairView<'a, K, V>>
-    requires { IfSome found (IsView (entry_shape K.shape V.shape)) }
-    ensures { IsPairOfEntry K.shape V.shape result found.entry }
+    requires { IfSome found (IsValidView (entry_spec K.spec V.spec)) }
+    ensures { IsPairOfEntry K.spec V.spec result found.entry }
 {
     match found {
         Some(entry) => Some((entry.key(), entry.value())),
@@ -54,8 +54,8 @@ pub(crate) fn found_pair<'a, K: Element, V: Element>(
 pub(crate) fn found_value<'a, K: Element, V: Element>(
     found: Option<View<'a, Entry<K, V>>>,
 ) -> Option<View<'a, V>>
-    requires { IfSome found (IsView (entry_shape K.shape V.shape)) }
-    ensures { IsValueOfEntry K.shape V.shape result found.entry }
+    requires { IfSome found (IsValidView (entry_spec K.spec V.spec)) }
+    ensures { IsValueOfEntry K.spec V.spec result found.entry }
 {
     match found {
         Some(entry) => Some(entry.value()),
@@ -80,11 +80,11 @@ impl<'a, K: KeyElement, V: Element, H: KeyHasher, W: Width> ArchivedHashMap<'a, 
         self.table().get_with(
             hash,
             |entry|
-                requires entry { IsView (entry_shape K.shape V.shape) entry }
+                requires entry { IsValidView (entry_spec K.spec V.spec) entry }
                 requires callable { (k : View K) → IsAt k (archive_of entry) (pos_of entry)
-                    → IsView K.shape k → F.pre cmp key k }
+                    → IsValidView K.spec k → F.pre cmp key k }
                 ensures { (k : View K) × IsAt k (archive_of entry.entry) (pos_of entry.entry)
-                    × IsView K.shape k × F.post cmp key.entry k result }
+                    × IsValidView K.spec k × F.post cmp key.entry k result }
             { cmp(key, entry.key()) },
         )
     }
@@ -149,7 +149,7 @@ impl<'a, K: KeyElement, V: Element, H: KeyHasher, W: Width> ArchivedHashMap<'a, 
             key,
             |key, stored|
                 requires query { Q.can_read key.now }
-                requires key { IsView K.shape stored }
+                requires key { IsValidView K.spec stored }
                 ensures { result ≡ Q.fits key.entry.now stored.entry.archive.now stored.entry.pos }
             { key.same(stored) },
         )

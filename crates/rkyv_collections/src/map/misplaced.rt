@@ -5,8 +5,8 @@
 //!
 //! If the number is 0, each lookup is exact: it finds the one key that the query fits, or none.
 ghost use Rattle.std.specs.Prelude.{◌≡◌};
-ghost use Rattle.rkyv_base.specs.Entry.{entry_shape};
-ghost use Rattle.rkyv_base.specs.View.{IsView, bytes_of, pos_of};
+ghost use Rattle.rkyv_base.specs.Entry.{entry_spec};
+ghost use Rattle.rkyv_base.specs.View.{IsValidView, bytes_of, pos_of};
 ghost use Rattle.rkyv_collections.specs.Map.{hash_at};
 ghost use Rattle.rkyv_collections.specs.Misplaced.{CountsKeysUpTo, misplaced_keys};
 
@@ -47,13 +47,13 @@ impl<'a, K: KeyElement, V: Element, H: KeyHasher, W: Width> ArchivedHashMap<'a, 
     {
         self.table().misplaced_by(
             |entry|
-                requires { IsView (entry_shape K.shape V.shape) entry }
+                requires { IsValidView (entry_spec K.spec V.spec) entry }
                 ensures { result ≡ hash_at H.hasher K.key_calls (bytes_of entry.entry)
                     (pos_of entry.entry) }
             { hash_value::<View<'_, K>, H>(&entry.key()) },
             |own, other|
-                requires own { IsView (entry_shape K.shape V.shape) own }
-                requires other { IsView (entry_shape K.shape V.shape) other }
+                requires own { IsValidView (entry_spec K.spec V.spec) own }
+                requires other { IsValidView (entry_spec K.spec V.spec) other }
                 ensures { result ≡ K.same (bytes_of own.entry) (pos_of own.entry)
                     (bytes_of other.entry) (pos_of other.entry) }
             { K::same(own.key(), other.key()) },
@@ -90,13 +90,13 @@ impl<'a, K: KeyElement, V: Element, H: KeyHasher, W: Width> ArchivedHashMap<'a, 
     {
         self.table().misplaced_up_to_by(
             |entry|
-                requires { IsView (entry_shape K.shape V.shape) entry }
+                requires { IsValidView (entry_spec K.spec V.spec) entry }
                 ensures { result ≡ hash_at H.hasher K.key_calls (bytes_of entry.entry)
                     (pos_of entry.entry) }
             { hash_value::<View<'_, K>, H>(&entry.key()) },
             |entry, other|
-                requires entry { IsView (entry_shape K.shape V.shape) entry }
-                requires other { IsView (entry_shape K.shape V.shape) other }
+                requires entry { IsValidView (entry_spec K.spec V.spec) entry }
+                requires other { IsValidView (entry_spec K.spec V.spec) other }
                 ensures { result ≡ K.same (bytes_of entry.entry) (pos_of entry.entry)
                     (bytes_of other.entry) (pos_of other.entry) }
             { K::same(entry.key(), other.key()) },

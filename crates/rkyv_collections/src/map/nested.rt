@@ -3,11 +3,11 @@ ghost use Rattle.rkyv_collections.specs.Map.{hash_at};
 ghost use Rattle.rkyv_collections.specs.Natives.{native_keys};
 ghost use Rattle.rkyv_collections.specs.NestedWrites.{
   NestedWritesKeepMaps,
-  NestedWritesStand,
+  NestedWritesRepresent,
   ValueWritesAreNested,
 };
 
-use rkyv_base::element::{Element, StandsFor};
+use rkyv_base::element::{Element, Represents};
 use rkyv_base::width::Width;
 use rkyv_keys::keys::{KeyElement, NativeKey};
 use rkyv_scan::hash::KeyHasher;
@@ -16,7 +16,7 @@ use rkyv_scan::hash::KeyHasher;
 ///
 /// So the map may itself be the value of another map.
 pub fn value_writes_are_nested<K: KeyElement, V: Element, W: Width>()
-    ensures { ValueWritesAreNested W.word K.shape V.shape }
+    ensures { ValueWritesAreNested W.word K.spec V.spec }
 {}
 
 /// States that a write among the parts of a value that keeps it valid keeps the map.
@@ -25,20 +25,20 @@ pub fn value_writes_are_nested<K: KeyElement, V: Element, W: Width>()
 /// - A written map is still one.
 /// - The write is one among the parts of the map.
 pub fn nested_writes_keep_maps<K: KeyElement, V: Element, H: KeyHasher, W: Width>()
-    ensures { NestedWritesKeepMaps W.word K.shape V.shape (hash_at H.hasher K.key_calls) }
+    ensures { NestedWritesKeepMaps W.word K.spec V.spec (hash_at H.hasher K.key_calls) }
 {}
 
 /// States that a write among the parts of a found value replaces it in the represented list.
 ///
 /// The map represents the list with the new value in the first pair with an equal key.
-pub fn nested_writes_stand<
+pub fn nested_writes_represent<
     A: NativeKey<K>,
     B,
-    K: KeyElement + StandsFor<A>,
-    V: StandsFor<B>,
+    K: KeyElement + Represents<A>,
+    V: Represents<B>,
     H: KeyHasher,
     W: Width,
 >()
-    ensures { NestedWritesStand W.word K.shape V.shape
-        (native_keys K.stands (hash_at H.hasher K.key_calls) A.fits A.eq) V.stands }
+    ensures { NestedWritesRepresent W.word K.spec V.spec
+        (native_keys K.represents (hash_at H.hasher K.key_calls) A.fits A.eq) V.represents }
 {}

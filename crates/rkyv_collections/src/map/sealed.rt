@@ -10,8 +10,8 @@
 ghost use Rattle.std.specs.Prelude.{IfSome, length, ◌+◌, ◌≡◌, ◌≤◌};
 ghost use Rattle.rkyv_base.specs.Seal.{LiesIn, SealAt, archive_in, bytes_in, pos_in, seal_pos};
 ghost use Rattle.rkyv_base.specs.Sealing.{value_pos};
-ghost use Rattle.rkyv_base.specs.Shape.{Viewed};
-ghost use Rattle.rkyv_base.specs.View.{IsView};
+ghost use Rattle.rkyv_base.specs.ElementSpec.{Viewable};
+ghost use Rattle.rkyv_base.specs.View.{IsValidView};
 ghost use Rattle.rkyv_collections.specs.Map.{hash_at, map_bytes, map_pos};
 ghost use Rattle.rkyv_collections.specs.MapFormat.{hash_of};
 ghost use Rattle.rkyv_collections.specs.MapAt.{TellsKeyAt};
@@ -19,11 +19,11 @@ ghost use Rattle.rkyv_collections.specs.SealedMap.{IsKeyPosIn, IsMapSeal, IsPair
 ghost use Rattle.rkyv_collections.specs.SealedMap.{IsValueSeal, IsValueSealAt, MayAskKeysIn};
 ghost use Rattle.rkyv_collections.specs.SealedMap.{TellsByAt, map_sealed};
 ghost use Rattle.rkyv_collections.specs.ValueWrites.{ValueWritesKeepAnswers, ValueWritesKeepMaps};
-ghost use Rattle.rkyv_collections.specs.ValueWrites.{ValuesWrittenStand};
+ghost use Rattle.rkyv_collections.specs.ValueWrites.{ValuesWrittenRepresent};
 ghost use Rattle.rkyv_keys.specs.Asked.{asked};
 
 use crate::map::{ArchivedHashMap, HashMapOf};
-use rkyv_base::element::{Element, StandsFor};
+use rkyv_base::element::{Element, Represents};
 use rkyv_base::entry::value_offset;
 use rkyv_base::seal::{ArchiveSeal, Seal};
 use rkyv_base::view::{View, found_pos};
@@ -37,7 +37,7 @@ use rkyv_scan::hash::KeyHasher;
 fn map_in<'s, K: Element, V: Element, H, W: Width>(
     this: &'s ArchiveSeal<'_, HashMapOf<K, V, H, W>>,
 ) -> ArchivedHashMap<'s, K, V, H, W>
-    requires { IsMapSeal W.word K.shape V.shape this.now }
+    requires { IsMapSeal W.word K.spec V.spec this.now }
     ensures bytes { map_bytes result ≡ archive_in this.now }
     ensures pos { map_pos result ≡ pos_in this.now }
 {
@@ -50,9 +50,9 @@ fn value_seal<'a, K: Element, V: Element, H, W>(
     this: ArchiveSeal<'a, HashMapOf<K, V, H, W>>,
     pos: u64,
 ) -> Seal<'a, V>
-    requires { value_pos K.shape V.shape pos + V.shape.size ≤ length (archive_in this) }
-    ensures at { SealAt result this.entry.archive (value_pos K.shape V.shape pos) }
-    ensures inside { LiesIn V.shape result }
+    requires { value_pos K.spec V.spec pos + V.spec.size ≤ length (archive_in this) }
+    ensures at { SealAt result this.entry.archive (value_pos K.spec V.spec pos) }
+    ensures inside { LiesIn V.spec result }
 {
     let (archive, _) = this.into_parts();
     Seal::over(archive, pos as usize + value_offset::<K, V>())
@@ -67,11 +67,11 @@ impl<'a, K: KeyElement, V: Element, H: KeyHasher, W: Width> ArchivedHashMap<'a, 
         key: &Q,
         cmp: F,
     ) -> Option<u64>
-        requires map { IsMapSeal W.word K.shape V.shape this.now }
+        requires map { IsMapSeal W.word K.spec V.spec this.now }
         requires query { Q.can_read key.now }
-        requires callable { MayAskKeysIn W.word K.shape V.shape this.now (F.pre cmp key) }
-        ensures walked { IfSome result (IsKeyPosIn W.word K.shape V.shape this.now) }
-        ensures finds { TellsByAt (map_sealed W.Word K.Shaped V.Shaped this.now)
+        requires callable { MayAskKeysIn W.word K.spec V.spec this.now (F.pre cmp key) }
+        ensures walked { IfSome result (IsKeyPosIn W.word K.spec V.spec this.now) }
+        ensures finds { TellsByAt (map_sealed W.Word K.HasSpec V.HasSpec this.now)
             (hash_of H.hasher Q.calls key.now) (hash_at H.hasher K.key_calls)
             (F.post cmp key.entry) (λ place. result ≡ place) }
     {
@@ -84,10 +84,10 @@ impl<'a, K: KeyElement, V: Element, H: KeyHasher, W: Width> ArchivedHashMap<'a, 
         this: &ArchiveSeal<'_, HashMapOf<K, V, H, W>>,
         key: &Q,
     ) -> Option<u64>
-        requires map { IsMapSeal W.word K.shape V.shape this.now }
+        requires map { IsMapSeal W.word K.spec V.spec this.now }
         requires query { Q.can_read key.now }
-        ensures walked { IfSome result (IsKeyPosIn W.word K.shape V.shape this.now) }
-        ensures finds { TellsKeyAt (map_sealed W.Word K.Shaped V.Shaped this.now)
+        ensures walked { IfSome result (IsKeyPosIn W.word K.spec V.spec this.now) }
+        ensures finds { TellsKeyAt (map_sealed W.Word K.HasSpec V.HasSpec this.now)
             (asked H.hasher K.key_calls K.same (Q.calls key.now) (Q.fits key.now))
             (λ place. result ≡ place) }
     {
@@ -100,11 +100,11 @@ impl<'a, K: KeyElement, V: Element, H: KeyHasher, W: Width> ArchivedHashMap<'a, 
         this: ArchiveSeal<'a, HashMapOf<K, V, H, W>>,
         found: Option<u64>,
     ) -> Option<(View<'a, K>, Seal<'a, V>)>
-        requires map { IsMapSeal W.word K.shape V.shape this }
-        requires found { IfSome found (IsKeyPosIn W.word K.shape V.shape this) }
-        ensures inside { IfSome result (λ pair. LiesIn V.shape pair.1) }
-        ensures viewed { IfSome result (λ pair. IsView K.shape pair.0) }
-        ensures walked { IfSome result (IsPairSeal W.word K.shape V.shape this.entry) }
+        requires map { IsMapSeal W.word K.spec V.spec this }
+        requires found { IfSome found (IsKeyPosIn W.word K.spec V.spec this) }
+        ensures inside { IfSome result (λ pair. LiesIn V.spec pair.1) }
+        ensures viewable { IfSome result (λ pair. IsValidView K.spec pair.0) }
+        ensures walked { IfSome result (IsPairSeal W.word K.spec V.spec this.entry) }
         ensures at { IsPairSealAt result found }
     {
         match found {
@@ -119,12 +119,13 @@ impl<'a, K: KeyElement, V: Element, H: KeyHasher, W: Width> ArchivedHashMap<'a, 
         this: ArchiveSeal<'a, HashMapOf<K, V, H, W>>,
         found: Option<u64>,
     ) -> Option<Seal<'a, V>>
-        requires map { IsMapSeal W.word K.shape V.shape this }
-        requires found { IfSome found (IsKeyPosIn W.word K.shape V.shape this) }
-        ensures inside { IfSome result (LiesIn V.shape) }
-        ensures viewed { IfSome result (λ value. Viewed V.shape (bytes_in value) (seal_pos value)) }
-        ensures walked { IfSome result (IsValueSeal W.word K.shape V.shape this.entry) }
-        ensures at { IsValueSealAt K.shape V.shape result found }
+        requires map { IsMapSeal W.word K.spec V.spec this }
+        requires found { IfSome found (IsKeyPosIn W.word K.spec V.spec this) }
+        ensures inside { IfSome result (LiesIn V.spec) }
+        ensures viewable { IfSome result (λ value. Viewable V.spec (bytes_in value)
+            (seal_pos value)) }
+        ensures walked { IfSome result (IsValueSeal W.word K.spec V.spec this.entry) }
+        ensures at { IsValueSealAt K.spec V.spec result found }
     {
         match found {
             Some(pos) => Some(value_seal(this, pos)),
@@ -152,13 +153,13 @@ impl<'a, K: KeyElement, V: Element, H: KeyHasher, W: Width> ArchivedHashMap<'a, 
         key: &Q,
         cmp: F,
     ) -> Option<(View<'a, K>, Seal<'a, V>)>
-        requires map { IsMapSeal W.word K.shape V.shape this }
+        requires map { IsMapSeal W.word K.spec V.spec this }
         requires query { Q.can_read key.now }
-        requires callable { MayAskKeysIn W.word K.shape V.shape this (F.pre cmp key) }
-        ensures inside { IfSome result (λ pair. LiesIn V.shape pair.1) }
-        ensures viewed { IfSome result (λ pair. IsView K.shape pair.0) }
-        ensures walked { IfSome result (IsPairSeal W.word K.shape V.shape this.entry) }
-        ensures finds { TellsByAt (map_sealed W.Word K.Shaped V.Shaped this.entry)
+        requires callable { MayAskKeysIn W.word K.spec V.spec this (F.pre cmp key) }
+        ensures inside { IfSome result (λ pair. LiesIn V.spec pair.1) }
+        ensures viewable { IfSome result (λ pair. IsValidView K.spec pair.0) }
+        ensures walked { IfSome result (IsPairSeal W.word K.spec V.spec this.entry) }
+        ensures finds { TellsByAt (map_sealed W.Word K.HasSpec V.HasSpec this.entry)
             (hash_of H.hasher Q.calls key.now) (hash_at H.hasher K.key_calls)
             (F.post cmp key.entry) (IsPairSealAt result) }
     {
@@ -198,12 +199,12 @@ impl<'a, K: KeyElement, V: Element, H: KeyHasher, W: Width> ArchivedHashMap<'a, 
         this: ArchiveSeal<'a, HashMapOf<K, V, H, W>>,
         key: &Q,
     ) -> Option<(View<'a, K>, Seal<'a, V>)>
-        requires map { IsMapSeal W.word K.shape V.shape this }
+        requires map { IsMapSeal W.word K.spec V.spec this }
         requires query { Q.can_read key.now }
-        ensures inside { IfSome result (λ pair. LiesIn V.shape pair.1) }
-        ensures viewed { IfSome result (λ pair. IsView K.shape pair.0) }
-        ensures walked { IfSome result (IsPairSeal W.word K.shape V.shape this.entry) }
-        ensures finds { TellsKeyAt (map_sealed W.Word K.Shaped V.Shaped this.entry)
+        ensures inside { IfSome result (λ pair. LiesIn V.spec pair.1) }
+        ensures viewable { IfSome result (λ pair. IsValidView K.spec pair.0) }
+        ensures walked { IfSome result (IsPairSeal W.word K.spec V.spec this.entry) }
+        ensures finds { TellsKeyAt (map_sealed W.Word K.HasSpec V.HasSpec this.entry)
             (asked H.hasher K.key_calls K.same (Q.calls key.now) (Q.fits key.now))
             (IsPairSealAt result) }
     {
@@ -228,15 +229,16 @@ impl<'a, K: KeyElement, V: Element, H: KeyHasher, W: Width> ArchivedHashMap<'a, 
         key: &Q,
         cmp: F,
     ) -> Option<Seal<'a, V>>
-        requires map { IsMapSeal W.word K.shape V.shape this }
+        requires map { IsMapSeal W.word K.spec V.spec this }
         requires query { Q.can_read key.now }
-        requires callable { MayAskKeysIn W.word K.shape V.shape this (F.pre cmp key) }
-        ensures inside { IfSome result (LiesIn V.shape) }
-        ensures viewed { IfSome result (λ value. Viewed V.shape (bytes_in value) (seal_pos value)) }
-        ensures walked { IfSome result (IsValueSeal W.word K.shape V.shape this.entry) }
-        ensures finds { TellsByAt (map_sealed W.Word K.Shaped V.Shaped this.entry)
+        requires callable { MayAskKeysIn W.word K.spec V.spec this (F.pre cmp key) }
+        ensures inside { IfSome result (LiesIn V.spec) }
+        ensures viewable { IfSome result (λ value. Viewable V.spec (bytes_in value)
+            (seal_pos value)) }
+        ensures walked { IfSome result (IsValueSeal W.word K.spec V.spec this.entry) }
+        ensures finds { TellsByAt (map_sealed W.Word K.HasSpec V.HasSpec this.entry)
             (hash_of H.hasher Q.calls key.now) (hash_at H.hasher K.key_calls)
-            (F.post cmp key.entry) (IsValueSealAt K.shape V.shape result) }
+            (F.post cmp key.entry) (IsValueSealAt K.spec V.spec result) }
     {
         let found = Self::find_pos(&this, key, cmp);
         Self::lend_value(this, found)
@@ -276,14 +278,15 @@ impl<'a, K: KeyElement, V: Element, H: KeyHasher, W: Width> ArchivedHashMap<'a, 
         this: ArchiveSeal<'a, HashMapOf<K, V, H, W>>,
         key: &Q,
     ) -> Option<Seal<'a, V>>
-        requires map { IsMapSeal W.word K.shape V.shape this }
+        requires map { IsMapSeal W.word K.spec V.spec this }
         requires query { Q.can_read key.now }
-        ensures inside { IfSome result (LiesIn V.shape) }
-        ensures viewed { IfSome result (λ value. Viewed V.shape (bytes_in value) (seal_pos value)) }
-        ensures walked { IfSome result (IsValueSeal W.word K.shape V.shape this.entry) }
-        ensures finds { TellsKeyAt (map_sealed W.Word K.Shaped V.Shaped this.entry)
+        ensures inside { IfSome result (LiesIn V.spec) }
+        ensures viewable { IfSome result (λ value. Viewable V.spec (bytes_in value)
+            (seal_pos value)) }
+        ensures walked { IfSome result (IsValueSeal W.word K.spec V.spec this.entry) }
+        ensures finds { TellsKeyAt (map_sealed W.Word K.HasSpec V.HasSpec this.entry)
             (asked H.hasher K.key_calls K.same (Q.calls key.now) (Q.fits key.now))
-            (IsValueSealAt K.shape V.shape result) }
+            (IsValueSealAt K.spec V.spec result) }
     {
         let found = Self::find_key_pos(&this, key);
         Self::lend_value(this, found)
@@ -296,20 +299,20 @@ impl<'a, K: KeyElement, V: Element, H: KeyHasher, W: Width> ArchivedHashMap<'a, 
 /// - Each lookup whose comparison depends only on the key finds the same key.
 /// - A written map is still one.
 pub fn value_writes_keep_maps<K: KeyElement, V: Element, H: KeyHasher, W: Width>()
-    ensures { ValueWritesKeepMaps W.word K.shape V.shape
+    ensures { ValueWritesKeepMaps W.word K.spec V.spec
         (hash_at H.hasher K.key_calls) }
 {}
 
 /// States that each query finds the same key after a write of one value that keeps it valid.
 pub fn value_writes_keep_answers<K: KeyElement, V: Element, Q: Query<K>, H: KeyHasher, W: Width>()
     ensures { let hash = hash_of H.hasher Q.calls in
-        ValueWritesKeepAnswers W.word K.shape V.shape Q.can_read hash Q.fits }
+        ValueWritesKeepAnswers W.word K.spec V.spec Q.can_read hash Q.fits }
 {}
 
 /// States that a write of one value in place replaces it in the represented list of pairs.
-pub fn values_written_stand<A, B, K: KeyElement, V: StandsFor<B>, H: KeyHasher, W: Width>()
+pub fn values_written_represent<A, B, K: KeyElement, V: Represents<B>, H: KeyHasher, W: Width>()
 where
-    K: StandsFor<A>,
-    ensures { ValuesWrittenStand W.word K.shape V.shape K.stands V.stands
+    K: Represents<A>,
+    ensures { ValuesWrittenRepresent W.word K.spec V.spec K.represents V.represents
         (hash_at H.hasher K.key_calls) }
 {}

@@ -12,7 +12,7 @@ use crate::map::ArchivedHashMap;
 use crate::map::hashing::HashedEntries;
 use rkyv_base::adapter::EntryAdapter;
 use rkyv_base::archive::{ResolveResult, Serialize, WriteResult};
-use rkyv_base::element::{Shaped, StandsFor};
+use rkyv_base::element::{HasSpec, Represents};
 use rkyv_base::entry::Entry;
 use rkyv_base::lend::Lend;
 use rkyv_base::width::{Narrow, Width};
@@ -27,7 +27,7 @@ use std::alloc::Global;
 /// The resolver of a written map: that of the table of its entries.
 pub type HashMapResolver<W = Narrow> = HashTableResolver<W>;
 
-impl<'a, K: KeyElement, V: Shaped, H: KeyHasher, W: Width> ArchivedHashMap<'a, K, V, H, W> {
+impl<'a, K: KeyElement, V: HasSpec, H: KeyHasher, W: Width> ArchivedHashMap<'a, K, V, H, W> {
     /// Writes a map of `len` pairs and returns its resolver.
     ///
     /// The pairs have their keys and values as themselves or by reference.
@@ -85,11 +85,11 @@ impl<'a, K: KeyElement, V: Shaped, H: KeyHasher, W: Width> ArchivedHashMap<'a, K
         serializer: &mut S,
     ) -> WriteResult<HashMapResolver<W>, S>
     where
-        K: StandsFor<A>,
-        V: StandsFor<B>,
-        requires can { I.can_next iter }
+        K: Represents<A>,
+        V: Represents<B>,
+        requires ready { I.can_next iter }
         ensures { WritesMap W.Width
-            (pair_format K.shape V.shape A.format B.format H.hasher A.calls)
+            (pair_format K.spec V.spec A.format B.format H.hasher A.calls)
             (pairs_in BK.Lend BV.Lend I.Iterator iter len load_factor)
             (S.output serializer.old) (S.output serializer.new) result }
     {

@@ -1,16 +1,16 @@
 //! Formatting of sets by `Debug`.
-ghost use Rattle.rkyv_base.specs.View.{IsView};
-ghost use Rattle.rkyv_collections.specs.Set.{set_shape};
+ghost use Rattle.rkyv_base.specs.View.{IsValidView};
+ghost use Rattle.rkyv_collections.specs.Set.{set_spec};
 
 use crate::set::{ArchivedHashSet, HashSetOf};
 use rkyv_base::view::View;
 use rkyv_base::width::Width;
-use rkyv_keys::debug::{ElementDebug, Shown, standing};
+use rkyv_keys::debug::{ElementDebug, Shown, valid_at};
 use std::fmt::{self, Debug, Formatter, Write};
 
 impl<K: ElementDebug, H, W: Width> ElementDebug for HashSetOf<K, H, W> {
     fn debug<U: Write>(view: View<'_, HashSetOf<K, H, W>>, f: &mut Formatter<U>) -> fmt::Result
-        requires { IsView (set_shape W.word K.shape) view }
+        requires { IsValidView (set_spec W.word K.spec) view }
     {
         let mut printed = f.debug_set();
         for key in ArchivedHashSet::of(view).iter() {
@@ -23,7 +23,7 @@ impl<K: ElementDebug, H, W: Width> ElementDebug for HashSetOf<K, H, W> {
 impl<'a, K: ElementDebug, H, W: Width> Debug for ArchivedHashSet<'a, K, H, W> {
     fn fmt<U: Write>(&self, f: &mut Formatter<U>) -> fmt::Result {
         let map = self.map.view;
-        match standing::<HashSetOf<K, H, W>>(map.bytes(), map.pos()) {
+        match valid_at::<HashSetOf<K, H, W>>(map.bytes(), map.pos()) {
             Some(view) => HashSetOf::debug(view, f),
             None => Err(fmt::Error),
         }

@@ -1,11 +1,11 @@
 //! Equality of sets, and the keys that a lookup of their own doesn't find.
 ghost use Rattle.std.specs.Prelude.{◌≡◌};
-ghost use Rattle.rkyv_base.specs.View.{IsView};
+ghost use Rattle.rkyv_base.specs.View.{IsValidView};
 ghost use Rattle.rkyv_keys.specs.Places.{at_views};
 ghost use Rattle.rkyv_collections.specs.Map.{hash_at};
 ghost use Rattle.rkyv_collections.specs.Misplaced.{CountsKeysUpTo};
 ghost use Rattle.rkyv_collections.specs.Set.{set_bytes, set_equal, set_misplaced, set_pos};
-ghost use Rattle.rkyv_collections.specs.Set.{set_shape, set_view};
+ghost use Rattle.rkyv_collections.specs.Set.{set_spec, set_view};
 
 use crate::set::{ArchivedHashSet, HashSetOf};
 use rkyv_base::view::View;
@@ -25,7 +25,7 @@ impl<'a, K: KeyElement, H: KeyHasher, W: Width> ArchivedHashSet<'a, K, H, W> {
     #[inline]
     pub fn eq_set(self, other: ArchivedHashSet<'_, K, H, W>) -> bool
         ensures { let key_hash = hash_at H.hasher K.key_calls in
-            result ≡ at_views (set_equal W.word K.shape key_hash K.same) (set_view self.entry)
+            result ≡ at_views (set_equal W.word K.spec key_hash K.same) (set_view self.entry)
             (set_view other.entry) }
     {
         self.map.eq_map(other.map)
@@ -45,7 +45,7 @@ impl<'a, K: KeyElement, H: KeyHasher, W: Width> ArchivedHashSet<'a, K, H, W> {
     #[inline]
     pub fn misplaced(self) -> usize
         ensures { let key_hash = hash_at H.hasher K.key_calls in
-            result ≡ set_misplaced W.word K.shape key_hash K.same (set_bytes self.entry)
+            result ≡ set_misplaced W.word K.spec key_hash K.same (set_bytes self.entry)
             (set_pos self.entry) }
     {
         self.map.misplaced()
@@ -70,14 +70,14 @@ impl<'a, K: KeyElement, H: KeyHasher, W: Width> ArchivedHashSet<'a, K, H, W> {
 }
 
 impl<K: KeyElement, H: KeyHasher, W: Width> ElementEq for HashSetOf<K, H, W> {
-    ghost same = { set_equal W.word K.shape (hash_at H.hasher K.key_calls) K.same };
+    ghost same = { set_equal W.word K.spec (hash_at H.hasher K.key_calls) K.same };
 
     #[inline]
     fn same(a: View<'_, HashSetOf<K, H, W>>, b: View<'_, HashSetOf<K, H, W>>) -> bool
-        requires a { IsView (set_shape W.word K.shape) a }
-        requires b { IsView (set_shape W.word K.shape) b }
+        requires a { IsValidView (set_spec W.word K.spec) a }
+        requires b { IsValidView (set_spec W.word K.spec) b }
         ensures { let key_hash = hash_at H.hasher K.key_calls in
-            result ≡ at_views (set_equal W.word K.shape key_hash K.same) a.entry b.entry }
+            result ≡ at_views (set_equal W.word K.spec key_hash K.same) a.entry b.entry }
     {
         ArchivedHashSet::of(a).eq_set(ArchivedHashSet::of(b))
     }

@@ -12,13 +12,13 @@ use crate::map::ArchivedHashMap;
 use crate::map::writing::HashMapResolver;
 use crate::set::ArchivedHashSet;
 use rkyv_base::archive::{ResolveResult, Serialize, WriteResult};
-use rkyv_base::element::StandsFor;
+use rkyv_base::element::Represents;
 use rkyv_base::lend::Lend;
 use rkyv_base::width::{Narrow, Width};
 use rkyv_base::writer::Writer;
 use rkyv_keys::keys::{KeyElement, NativeKey};
 use rkyv_scan::hash::KeyHasher;
-use rkyv_table::table::lent::WithUnits;
+use rkyv_table::table::list_inputs::WithUnits;
 use std::alloc::Global;
 
 /// The resolver of a written set: that of the map of its keys.
@@ -73,9 +73,9 @@ impl<'a, K: KeyElement, H: KeyHasher, W: Width> ArchivedHashSet<'a, K, H, W> {
         serializer: &mut S,
     ) -> WriteResult<HashSetResolver<W>, S>
     where
-        K: StandsFor<A>,
-        requires can { I.can_next iter }
-        ensures { WritesSet W.Width (key_format K.shape A.format H.hasher A.calls)
+        K: Represents<A>,
+        requires ready { I.can_next iter }
+        ensures { WritesSet W.Width (key_format K.spec A.format H.hasher A.calls)
             (keys_in BK.Lend I.Iterator iter len load_factor)
             (S.output serializer.old) (S.output serializer.new) result }
     {

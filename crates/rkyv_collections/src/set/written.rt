@@ -2,10 +2,10 @@
 
 ghost use Rattle.rkyv_collections.specs.Map.{hash_at};
 ghost use Rattle.rkyv_collections.specs.MapFormat.{hash_of};
-ghost use Rattle.rkyv_collections.specs.SetFormat.{WrittenSetsStand};
+ghost use Rattle.rkyv_collections.specs.SetFormat.{WrittenSetsRepresent};
 
 use rkyv_base::archive::Archive;
-use rkyv_base::element::StandsFor;
+use rkyv_base::element::Represents;
 use rkyv_base::width::Width;
 use rkyv_keys::keys::{KeyElement, NativeKey};
 use rkyv_scan::hash::KeyHasher;
@@ -14,12 +14,13 @@ use rkyv_scan::hash::KeyHasher;
 ///
 /// The header is aligned and after the written bytes. It has the length and the capacity
 /// of the set. The keys are under their hashes in insertion order. Each key is in its home bucket.
-pub fn written_sets_stand<
+pub fn written_sets_represent<
     W: Width,
     H: KeyHasher,
-    K: KeyElement + StandsFor<A>,
+    K: KeyElement + Represents<A>,
     A: NativeKey<K> + Archive<W, Archived = K>,
 >()
-    ensures { WrittenSetsStand W.word K.shape K.stands (hash_at H.hasher K.key_calls) A.format
+    ensures { WrittenSetsRepresent W.word K.spec K.represents
+        (hash_at H.hasher K.key_calls) A.format
         (hash_of H.hasher A.calls) }
 {}

@@ -5,10 +5,10 @@
 //! - `MatchesNative` compares maps that are values.
 
 ghost use Rattle.std.specs.Prelude.{IsTrue, ◌↔◌};
-ghost use Rattle.rkyv_base.specs.Pairs.{written_as-format};
-ghost use Rattle.rkyv_base.specs.View.{IsView, StandsAt};
+ghost use Rattle.rkyv_base.specs.Lemmas.Pairs.{written_as-format};
+ghost use Rattle.rkyv_base.specs.View.{IsValidView, AtView};
 ghost use Rattle.rkyv_table.specs.Table.Listed.{listed};
-ghost use Rattle.rkyv_collections.specs.MapShape.{map_shape};
+ghost use Rattle.rkyv_collections.specs.MapSpec.{map_spec};
 ghost use Rattle.rkyv_collections.specs.MapFormat.{hash_of, map_format};
 ghost use Rattle.rkyv_collections.specs.Lemmas.MapSound.{listed_map_sound};
 ghost use Rattle.rkyv_collections.specs.Lemmas.StdAlone.{std_map_alone};
@@ -22,16 +22,16 @@ ghost use Rattle.rkyv_collections.specs.StdMap.{of_entries};
 use crate::map::{ArchivedHashMap, HashMapOf};
 use crate::std_maps::hashed::Hashed;
 use rkyv_base::archive::Archive;
-use rkyv_base::element::{Element, Shaped, StandsFor};
+use rkyv_base::element::{Element, HasSpec, Represents};
 use rkyv_base::view::View;
 use rkyv_base::width::Width;
-use rkyv_keys::equality::{EqualsWritten, MatchesNative, StandsAlone};
+use rkyv_keys::equality::{EqualsWritten, MatchesNative, RepresentsUniquely};
 use rkyv_keys::keys::{KeyElement, NativeKey, Query};
 use rkyv_scan::hash::KeyHasher;
 use std::collections::HashMap;
 use std::hash::{BuildHasher, Hash};
 
-impl<'a, K: KeyElement, V: Shaped, H: KeyHasher, W: Width> ArchivedHashMap<'a, K, V, H, W> {
+impl<'a, K: KeyElement, V: HasSpec, H: KeyHasher, W: Width> ArchivedHashMap<'a, K, V, H, W> {
     /// Returns `true` if and only if a lookup of the key finds a value that equals `value`.
     #[inline]
     pub(crate) fn finds_equal<A: Query<K>, B>(self, key: &A, value: &B) -> bool
@@ -57,7 +57,7 @@ impl<'a, K: KeyElement, V: Shaped, H: KeyHasher, W: Width> ArchivedHashMap<'a, K
         key: &A,
     ) -> bool
     where
-        K: StandsFor<A>,
+        K: Represents<A>,
         V: MatchesNative<B>,
         ensures { let asked = queried H.hasher A.calls A.fits in
             IsTrue result ↔ FindsAskedIn self.entry asked V.equals key.now (A.eq key.now)
@@ -89,7 +89,7 @@ impl<'a, K: KeyElement, V: Shaped, H: KeyHasher, W: Width> ArchivedHashMap<'a, K
     #[inline]
     pub fn eq_std<A: NativeKey<K> + Hash, B, T: BuildHasher>(self, other: &HashMap<A, B, T>) -> bool
     where
-        K: StandsFor<A>,
+        K: Represents<A>,
         V: MatchesNative<B>,
         ensures { let asked = queried H.hasher A.calls A.fits in
             IsTrue result ↔ StdMapEqualsIn self.entry asked V.equals other.now }
@@ -107,7 +107,7 @@ impl<'a, K: KeyElement, V: Shaped, H: KeyHasher, W: Width> ArchivedHashMap<'a, K
 }
 
 impl<
-    K: KeyElement + StandsFor<A>,
+    K: KeyElement + Represents<A>,
     V: MatchesNative<B>,
     H: KeyHasher,
     W: Width,
@@ -115,14 +115,14 @@ impl<
     B,
     T: BuildHasher,
 > MatchesNative<HashMap<A, B, T>> for HashMapOf<K, V, H, W> {
-    ghost equals = { StdMapEquals W.word K.shape V.shape (hash_of H.hasher A.calls) A.fits
+    ghost equals = { StdMapEquals W.word K.spec V.spec (hash_of H.hasher A.calls) A.fits
         V.equals };
 
     #[inline]
     fn eq_native(view: View<'_, HashMapOf<K, V, H, W>>, value: &HashMap<A, B, T>) -> bool
-        requires { IsView (map_shape W.word K.shape V.shape) view }
+        requires { IsValidView (map_spec W.word K.spec V.spec) view }
         ensures { let hash = hash_of H.hasher A.calls in
-            IsTrue result ↔ StandsAt (StdMapEquals W.word K.shape V.shape hash A.fits V.equals)
+            IsTrue result ↔ AtView (StdMapEquals W.word K.spec V.spec hash A.fits V.equals)
             view.entry value.now }
     {
         ArchivedHashMap::of(view).eq_std(value)
@@ -131,15 +131,15 @@ impl<
 
 impl<K, V, H, W, M> MatchesNative<Hashed<M, H>> for HashMapOf<K, V, H, W>
 where
-    HashMapOf<K, V, H, W>: MatchesNative<M> + StandsFor<Hashed<M, H>>,
+    HashMapOf<K, V, H, W>: MatchesNative<M> + Represents<Hashed<M, H>>,
 {
     ghost equals = { λ b p x. ⟦<HashMapOf<K, V, H, W> as MatchesNative<M>>⟧.equals b p x.map };
 
     #[inline]
     fn eq_native(view: View<'_, Self>, value: &Hashed<M, H>) -> bool
-        requires { IsView ⟦<HashMapOf<K, V, H, W> as Element>⟧.shape view }
+        requires { IsValidView ⟦<HashMapOf<K, V, H, W> as Element>⟧.spec view }
         ensures { let equals = ⟦<HashMapOf<K, V, H, W> as MatchesNative<M>>⟧.equals in
-            IsTrue result ↔ StandsAt equals view.entry value.now.map }
+            IsTrue result ↔ AtView equals view.entry value.now.map }
     {
         <HashMapOf<K, V, H, W> as MatchesNative<M>>::eq_native(view, &value.map)
     }
@@ -157,12 +157,12 @@ where
     B::Archived: MatchesNative<B>,
     A: NativeKey<A::Archived>,
 {
-    ghost equal = { let format = map_format W.word A.Archived.shape B.Archived.shape A.format
+    ghost equal = { let format = map_format W.word A.Archived.spec B.Archived.spec A.format
         B.format (hash_of H.hasher A.calls) (7, 8) in
-        let shape = map_shape W.word A.Archived.shape B.Archived.shape in
+        let spec = map_spec W.word A.Archived.spec B.Archived.spec in
         let whole = listed W.MAX_CAPACITY (7, 8) format in
-        written_as-format (λ x. x.map.entries) shape
-        (EntriesEqual W.word A.Archived.shape B.Archived.shape (hash_of H.hasher A.calls) A.fits
+        written_as-format (λ x. x.map.entries) spec
+        (EntriesEqual W.word A.Archived.spec B.Archived.spec (hash_of H.hasher A.calls) A.fits
         B.Archived.equals) (of_entries A.eq whole)
         (entries_equal H.hasher W.word W.layout.kind A.Archived.laws B.Archived.laws (7, 8) A.query
         A.native A.Eq.laws A.reads whole
@@ -183,7 +183,7 @@ pub trait EqArchived<C> {
 
 impl<
     'a,
-    K: KeyElement + StandsFor<A>,
+    K: KeyElement + Represents<A>,
     V: MatchesNative<B>,
     H: KeyHasher,
     W: Width,
@@ -201,27 +201,28 @@ impl<
 }
 
 impl<
-    K: StandsAlone<A>,
-    V: StandsAlone<B>,
+    K: RepresentsUniquely<A>,
+    V: RepresentsUniquely<B>,
     H,
     W: Width,
     A: Eq + Hash,
     B: PartialEq,
     T: BuildHasher,
-> StandsAlone<HashMap<A, B, T>> for HashMapOf<K, V, H, W> {
-    ghost alone = { std_map_alone A.eq A.Eq.laws B.eq K.shape V.shape K.laws V.laws W.word K.stands
-        V.stands K.alone V.alone };
+> RepresentsUniquely<HashMap<A, B, T>> for HashMapOf<K, V, H, W> {
+    ghost alone = { std_map_alone A.eq A.Eq.laws B.eq K.spec V.spec K.laws V.laws
+        W.word K.represents
+        V.represents K.alone V.alone };
 }
 
 impl<
-    K: StandsAlone<A>,
-    V: StandsAlone<B>,
+    K: RepresentsUniquely<A>,
+    V: RepresentsUniquely<B>,
     H,
     W: Width,
     A: Eq + Hash,
     B: PartialEq,
     T: BuildHasher,
-> StandsAlone<Hashed<HashMap<A, B, T>, H>> for HashMapOf<K, V, H, W> {
-    ghost alone = { λ m n. std_map_alone A.eq A.Eq.laws B.eq K.shape V.shape K.laws V.laws W.word
-        K.stands V.stands K.alone V.alone m.map n.map };
+> RepresentsUniquely<Hashed<HashMap<A, B, T>, H>> for HashMapOf<K, V, H, W> {
+    ghost alone = { λ m n. std_map_alone A.eq A.Eq.laws B.eq K.spec V.spec K.laws V.laws W.word
+        K.represents V.represents K.alone V.alone m.map n.map };
 }

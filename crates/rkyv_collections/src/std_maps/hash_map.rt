@@ -1,19 +1,20 @@
 //! Maps of std as values that archived maps represent, and their serialization.
 
-ghost use Rattle.rkyv_base.specs.Pairs.{written_as, written_as-format};
+ghost use Rattle.rkyv_base.specs.Pairs.{written_as};
+ghost use Rattle.rkyv_base.specs.Lemmas.Pairs.{written_as-format};
 ghost use Rattle.rkyv_table.specs.Table.Listed.{listed};
 ghost use Rattle.rkyv_collections.specs.Map.{hash_at};
-ghost use Rattle.rkyv_collections.specs.MapShape.{map_shape};
+ghost use Rattle.rkyv_collections.specs.MapSpec.{map_spec};
 ghost use Rattle.rkyv_collections.specs.MapFormat.{hash_of, map_format};
 ghost use Rattle.rkyv_collections.specs.Lemmas.MapSound.{listed_map_sound};
-ghost use Rattle.rkyv_collections.specs.StdMap.{EntriesStand, StdMapStands, of_entries};
-ghost use Rattle.rkyv_collections.specs.Lemmas.StdMapLaws.{entries_near, entries_sound};
+ghost use Rattle.rkyv_collections.specs.StdMap.{EntriesRepresent, StdMapRepresents, of_entries};
+ghost use Rattle.rkyv_collections.specs.Lemmas.StdMapLaws.{entries_local, entries_sound};
 
 use crate::map::writing::HashMapResolver;
 use crate::map::{ArchivedHashMap, HashMapOf};
 use crate::std_maps::hashed::Hashed;
 use rkyv_base::archive::{Archive, ResolveResult, Serialize, WriteResult};
-use rkyv_base::element::StandsFor;
+use rkyv_base::element::Represents;
 use rkyv_base::width::Width;
 use rkyv_base::writer::Writer;
 use rkyv_keys::keys::{KeyElement, NativeKey};
@@ -23,22 +24,23 @@ use std::collections::HashMap;
 use std::collections::hash_map::Iter;
 use std::hash::{BuildHasher, Hash};
 
-impl<A: Eq + Hash, B, T: BuildHasher, H, W: Width, K: StandsFor<A>, V: StandsFor<B>> StandsFor<
+impl<A: Eq + Hash, B, T: BuildHasher, H, W: Width, K: Represents<A>, V: Represents<B>> Represents<
     HashMap<A, B, T>,
 > for HashMapOf<K, V, H, W> {
-    ghost stands = { StdMapStands K.shape V.shape K.stands V.stands W.word A.eq };
+    ghost represents = { StdMapRepresents K.spec V.spec K.represents V.represents W.word A.eq };
 
-    ghost near = { λ m. entries_near K.shape V.shape K.laws V.laws W.word A.eq K.near V.near
+    ghost local = { λ m. entries_local K.spec V.spec K.laws V.laws W.word A.eq K.local V.local
         m.entries };
 }
 
-impl<A: Eq + Hash, B, T: BuildHasher, H, W: Width, K: StandsFor<A>, V: StandsFor<B>> StandsFor<
+impl<A: Eq + Hash, B, T: BuildHasher, H, W: Width, K: Represents<A>, V: Represents<B>> Represents<
     Hashed<HashMap<A, B, T>, H>,
 > for HashMapOf<K, V, H, W> {
-    ghost stands = { λ b p x. StdMapStands K.shape V.shape K.stands V.stands W.word A.eq b p
+    ghost represents = { λ b p x. StdMapRepresents K.spec V.spec K.represents
+        V.represents W.word A.eq b p
         x.map };
 
-    ghost near = { λ x. entries_near K.shape V.shape K.laws V.laws W.word A.eq K.near V.near
+    ghost local = { λ x. entries_local K.spec V.spec K.laws V.laws W.word A.eq K.local V.local
         x.map.entries };
 }
 
@@ -53,7 +55,7 @@ where
     type Resolver = HashMapResolver<W>;
 
     ghost format = { written_as (λ x. x.map.entries) (of_entries A.eq (listed W.MAX_CAPACITY (7, 8)
-        (map_format W.word A.Archived.shape B.Archived.shape A.format B.format
+        (map_format W.word A.Archived.spec B.Archived.spec A.format B.format
         (hash_of H.hasher A.calls) (7, 8)))) };
 
     fn resolve(&self, resolver: HashMapResolver<W>, pos: u64, out: &mut [u8]) -> ResolveResult {
@@ -61,14 +63,14 @@ where
     }
 
     ghost laws = { let hash = hash_at H.hasher A.Archived.key_calls in
-        let stands = EntriesStand A.Archived.shape B.Archived.shape A.Archived.stands
-        B.Archived.stands W.word A.eq in
-        let format = map_format W.word A.Archived.shape B.Archived.shape A.format B.format
+        let represents = EntriesRepresent A.Archived.spec B.Archived.spec A.Archived.represents
+        B.Archived.represents W.word A.eq in
+        let format = map_format W.word A.Archived.spec B.Archived.spec A.format B.format
         (hash_of H.hasher A.calls) (7, 8) in
-        let shape = map_shape W.word A.Archived.shape B.Archived.shape in
+        let spec = map_spec W.word A.Archived.spec B.Archived.spec in
         let whole = listed W.MAX_CAPACITY (7, 8) format in
-        written_as-format (λ x. x.map.entries) shape stands (of_entries A.eq whole)
-        (entries_sound A.Archived.shape B.Archived.shape A.Archived.laws B.Archived.laws W.word A.eq
+        written_as-format (λ x. x.map.entries) spec represents (of_entries A.eq whole)
+        (entries_sound A.Archived.spec B.Archived.spec A.Archived.laws B.Archived.laws W.word A.eq
         A.Eq.laws hash (7, 8) W.layout.kind whole
         (listed_map_sound H.hasher W.word A.Archived.laws B.Archived.laws (7, 8) W.MAX_CAPACITY
         W.layout.kind

@@ -1,59 +1,63 @@
 //! Sets of std: archiving, comparing and deserializing them.
 
 ghost use Rattle.std.specs.Prelude.{IsTrue, MatchResult, ◌↔◌};
-ghost use Rattle.rkyv_base.specs.View.{IsView, StandsAt};
-ghost use Rattle.rkyv_base.specs.Empty.{unit_element, unit_format, unit_is_format, unit_near};
-ghost use Rattle.rkyv_base.specs.Empty.{unit_shape, unit_stands};
-ghost use Rattle.rkyv_base.specs.Pairs.{written_as, written_as-format};
+ghost use Rattle.rkyv_base.specs.View.{IsValidView, AtView};
+ghost use Rattle.rkyv_base.specs.Empty.{unit_format};
+ghost use Rattle.rkyv_base.specs.Lemmas.Empty.{unit_element, unit_is_format, unit_local};
+ghost use Rattle.rkyv_base.specs.Empty.{unit_spec, unit_represents};
+ghost use Rattle.rkyv_base.specs.Pairs.{written_as};
+ghost use Rattle.rkyv_base.specs.Lemmas.Pairs.{written_as-format};
 ghost use Rattle.rkyv_table.specs.Table.Listed.{listed};
 ghost use Rattle.rkyv_collections.specs.Map.{hash_at};
 ghost use Rattle.rkyv_collections.specs.MapFormat.{hash_of, map_format};
 ghost use Rattle.rkyv_collections.specs.Lemmas.MapSound.{listed_map_sound};
 ghost use Rattle.rkyv_collections.specs.Natives.{queried};
-ghost use Rattle.rkyv_collections.specs.Set.{set_shape, set_view};
-ghost use Rattle.rkyv_table.specs.Table.Lent.{with_units};
+ghost use Rattle.rkyv_collections.specs.Set.{set_spec, set_view};
+ghost use Rattle.rkyv_table.specs.Table.ItemValues.{with_units};
 ghost use Rattle.rkyv_collections.specs.Lemmas.StdAlone.{std_set_alone};
 ghost use Rattle.rkyv_collections.specs.Lemmas.StdEqualLaws.{entries_equal};
 ghost use Rattle.rkyv_collections.specs.StdEquality.{EntriesEqual};
-ghost use Rattle.rkyv_collections.specs.StdMap.{EntriesStand, of_entries};
-ghost use Rattle.rkyv_collections.specs.Lemmas.StdMapLaws.{entries_near, entries_sound};
+ghost use Rattle.rkyv_collections.specs.StdMap.{EntriesRepresent, of_entries};
+ghost use Rattle.rkyv_collections.specs.Lemmas.StdMapLaws.{entries_local, entries_sound};
 ghost use Rattle.rkyv_collections.specs.StdSet.{InsertsKey, ReadsStdSet, StdSetEquals};
-ghost use Rattle.rkyv_collections.specs.StdSet.{StdSetEqualsIn, StdSetStands, key_refuses};
-ghost use Rattle.rkyv_collections.specs.StdSet.{set_equal_written, std_set_refuses};
+ghost use Rattle.rkyv_collections.specs.StdSet.{StdSetEqualsIn, StdSetRepresents, key_refuses};
+ghost use Rattle.rkyv_collections.specs.StdSet.{std_set_refuses};
+ghost use Rattle.rkyv_collections.specs.Lemmas.StdSet.{set_equal_written};
 
 use crate::set::writing::HashSetResolver;
 use crate::set::{ArchivedHashSet, HashSetOf};
 use crate::std_maps::equality::EqArchived;
 use crate::std_maps::hashed::Hashed;
 use rkyv_base::archive::{Archive, ResolveResult, Serialize, WriteResult};
-use rkyv_base::element::{Element, StandsFor};
+use rkyv_base::element::{Element, Represents};
 use rkyv_base::errors::ReadError;
 use rkyv_base::view::View;
 use rkyv_base::width::Width;
 use rkyv_base::writer::Writer;
-use rkyv_keys::equality::{EqualsWritten, MatchesNative, StandsAlone};
+use rkyv_keys::deserialize::Deserialize;
+use rkyv_keys::equality::{EqualsWritten, MatchesNative, RepresentsUniquely};
 use rkyv_keys::keys::{KeyElement, NativeKey};
-use rkyv_keys::reading::Deserialize;
 use rkyv_scan::hash::KeyHasher;
 use std::alloc::Global;
 use std::collections::HashSet;
 use std::collections::hash_set::Iter;
 use std::hash::{BuildHasher, BuildHasherDefault, Hash};
 
-impl<A: Eq + Hash, T: BuildHasher, H, W: Width, K: StandsFor<A>> StandsFor<HashSet<A, T>>
+impl<A: Eq + Hash, T: BuildHasher, H, W: Width, K: Represents<A>> Represents<HashSet<A, T>>
     for HashSetOf<K, H, W> {
-    ghost stands = { StdSetStands K.shape K.stands W.word A.eq };
+    ghost represents = { StdSetRepresents K.spec K.represents W.word A.eq };
 
-    ghost near = { λ s. entries_near K.shape unit_shape K.laws unit_element W.word A.eq K.near
-        unit_near (with_units s.keys) };
+    ghost local = { λ s. entries_local K.spec unit_spec K.laws unit_element W.word A.eq K.local
+        unit_local (with_units s.keys) };
 }
 
-impl<A: Eq + Hash, T: BuildHasher, H, W: Width, K: StandsFor<A>> StandsFor<Hashed<HashSet<A, T>, H>>
-    for HashSetOf<K, H, W> {
-    ghost stands = { λ b p x. StdSetStands K.shape K.stands W.word A.eq b p x.map };
+impl<A: Eq + Hash, T: BuildHasher, H, W: Width, K: Represents<A>> Represents<
+    Hashed<HashSet<A, T>, H>,
+> for HashSetOf<K, H, W> {
+    ghost represents = { λ b p x. StdSetRepresents K.spec K.represents W.word A.eq b p x.map };
 
-    ghost near = { λ x. entries_near K.shape unit_shape K.laws unit_element W.word A.eq K.near
-        unit_near (with_units x.map.keys) };
+    ghost local = { λ x. entries_local K.spec unit_spec K.laws unit_element W.word A.eq K.local
+        unit_local (with_units x.map.keys) };
 }
 
 impl<W: Width, H: KeyHasher, A: Archive<W> + Hash, T: BuildHasher> Archive<W>
@@ -68,7 +72,7 @@ where
 
     ghost format = { written_as (λ x. with_units x.map.keys)
         (of_entries A.eq (listed W.MAX_CAPACITY (7, 8)
-        (map_format W.word A.Archived.shape unit_shape A.format unit_format
+        (map_format W.word A.Archived.spec unit_spec A.format unit_format
         (hash_of H.hasher A.calls) (7, 8)))) };
 
     fn resolve(&self, resolver: HashSetResolver<W>, pos: u64, out: &mut [u8]) -> ResolveResult {
@@ -76,14 +80,15 @@ where
     }
 
     ghost laws = { let hash = hash_at H.hasher A.Archived.key_calls in
-        let stands = EntriesStand A.Archived.shape unit_shape A.Archived.stands unit_stands W.word
+        let represents = EntriesRepresent A.Archived.spec unit_spec A.Archived.represents
+        unit_represents W.word
         A.eq in
-        let format = map_format W.word A.Archived.shape unit_shape A.format unit_format
+        let format = map_format W.word A.Archived.spec unit_spec A.format unit_format
         (hash_of H.hasher A.calls) (7, 8) in
-        let shape = set_shape W.word A.Archived.shape in
+        let spec = set_spec W.word A.Archived.spec in
         let whole = listed W.MAX_CAPACITY (7, 8) format in
-        written_as-format (λ x. with_units x.map.keys) shape stands (of_entries A.eq whole)
-        (entries_sound A.Archived.shape unit_shape A.Archived.laws unit_element W.word A.eq
+        written_as-format (λ x. with_units x.map.keys) spec represents (of_entries A.eq whole)
+        (entries_sound A.Archived.spec unit_spec A.Archived.laws unit_element W.word A.eq
         A.Eq.laws hash (7, 8) W.layout.kind whole
         (listed_map_sound H.hasher W.word A.Archived.laws unit_element (7, 8) W.MAX_CAPACITY
         W.layout.kind
@@ -114,10 +119,10 @@ fn insert_read<K: Deserialize<A>, A: Eq + Hash + Drop, T: BuildHasher>(
     alloc: Global,
     key: View<'_, K>,
 ) -> Result<(), ReadError>
-    requires { IsView K.shape key }
+    requires { IsValidView K.spec key }
     ensures { MatchResult result
-        (λ _. InsertsKey A.eq (StandsAt K.stands key.entry) set.old set.new)
-        (StandsAt (key_refuses K.refuses) key.entry) }
+        (λ _. InsertsKey A.eq (AtView K.represents key.entry) set.old set.new)
+        (AtView (key_refuses K.refuses) key.entry) }
 {
     let read = K::deserialize(alloc, key)?;
     match set.insert(read) {
@@ -154,8 +159,8 @@ impl<'a, K: Element, H, W: Width> ArchivedHashSet<'a, K, H, W> {
     ) -> Result<HashSet<A, T>, ReadError>
     where
         K: Deserialize<A>,
-        ensures { ReadsStdSet (StdSetStands K.shape K.stands W.word A.eq)
-            (std_set_refuses W.word K.shape K.refuses) (set_view self.entry) state result }
+        ensures { ReadsStdSet (StdSetRepresents K.spec K.represents W.word A.eq)
+            (std_set_refuses W.word K.spec K.refuses) (set_view self.entry) state result }
     {
         let mut set = HashSet::with_hasher(alloc, state);
         for key in self.iter() {
@@ -176,7 +181,7 @@ impl<'a, K: KeyElement, H: KeyHasher, W: Width> ArchivedHashSet<'a, K, H, W> {
     #[inline]
     pub fn eq_std<A: NativeKey<K> + Hash, T: BuildHasher>(self, other: &HashSet<A, T>) -> bool
     where
-        K: StandsFor<A>,
+        K: Represents<A>,
         ensures { let asked = queried H.hasher A.calls A.fits in
             IsTrue result ↔ StdSetEqualsIn self.entry asked other.now }
     {
@@ -193,19 +198,19 @@ impl<'a, K: KeyElement, H: KeyHasher, W: Width> ArchivedHashSet<'a, K, H, W> {
 }
 
 impl<
-    K: KeyElement + StandsFor<A>,
+    K: KeyElement + Represents<A>,
     H: KeyHasher,
     W: Width,
     A: NativeKey<K> + Hash,
     T: BuildHasher,
 > MatchesNative<HashSet<A, T>> for HashSetOf<K, H, W> {
-    ghost equals = { StdSetEquals W.word K.shape (hash_of H.hasher A.calls) A.fits };
+    ghost equals = { StdSetEquals W.word K.spec (hash_of H.hasher A.calls) A.fits };
 
     #[inline]
     fn eq_native(view: View<'_, HashSetOf<K, H, W>>, value: &HashSet<A, T>) -> bool
-        requires { IsView (set_shape W.word K.shape) view }
+        requires { IsValidView (set_spec W.word K.spec) view }
         ensures { let hash = hash_of H.hasher A.calls in
-            IsTrue result ↔ StandsAt (StdSetEquals W.word K.shape hash A.fits) view.entry
+            IsTrue result ↔ AtView (StdSetEquals W.word K.spec hash A.fits) view.entry
             value.now }
     {
         ArchivedHashSet::of(view).eq_std(value)
@@ -214,15 +219,15 @@ impl<
 
 impl<K, H, W, M> MatchesNative<Hashed<M, H>> for HashSetOf<K, H, W>
 where
-    HashSetOf<K, H, W>: MatchesNative<M> + StandsFor<Hashed<M, H>>,
+    HashSetOf<K, H, W>: MatchesNative<M> + Represents<Hashed<M, H>>,
 {
     ghost equals = { λ b p x. ⟦<HashSetOf<K, H, W> as MatchesNative<M>>⟧.equals b p x.map };
 
     #[inline]
     fn eq_native(view: View<'_, Self>, value: &Hashed<M, H>) -> bool
-        requires { IsView ⟦<HashSetOf<K, H, W> as Element>⟧.shape view }
+        requires { IsValidView ⟦<HashSetOf<K, H, W> as Element>⟧.spec view }
         ensures { let equals = ⟦<HashSetOf<K, H, W> as MatchesNative<M>>⟧.equals in
-            IsTrue result ↔ StandsAt equals view.entry value.now.map }
+            IsTrue result ↔ AtView equals view.entry value.now.map }
     {
         <HashSetOf<K, H, W> as MatchesNative<M>>::eq_native(view, &value.map)
     }
@@ -230,7 +235,7 @@ where
 
 impl<
     'a,
-    K: KeyElement + StandsFor<A>,
+    K: KeyElement + Represents<A>,
     H: KeyHasher,
     W: Width,
     A: NativeKey<K> + Hash,
@@ -252,14 +257,14 @@ where
     A: NativeKey<A::Archived>,
 {
     ghost equal = { let own = hash_of H.hasher A.calls in
-        let equals = EntriesEqual W.word A.Archived.shape unit_shape own A.fits unit_stands in
-        let format = map_format W.word A.Archived.shape unit_shape A.format unit_format own
+        let equals = EntriesEqual W.word A.Archived.spec unit_spec own A.fits unit_represents in
+        let format = map_format W.word A.Archived.spec unit_spec A.format unit_format own
         (7, 8) in
-        let shape = set_shape W.word A.Archived.shape in
+        let spec = set_spec W.word A.Archived.spec in
         let whole = listed W.MAX_CAPACITY (7, 8) format in
-        set_equal_written W.word A.Archived.shape shape own A.fits (λ x. x.map.keys)
+        set_equal_written W.word A.Archived.spec spec own A.fits (λ x. x.map.keys)
         (written_as (λ x. with_units x.map.keys) (of_entries A.eq whole))
-        (written_as-format (λ x. with_units x.map.keys) shape equals (of_entries A.eq whole)
+        (written_as-format (λ x. with_units x.map.keys) spec equals (of_entries A.eq whole)
         (entries_equal H.hasher W.word W.layout.kind A.Archived.laws unit_element (7, 8) A.query
         A.native A.Eq.laws A.reads whole
         (listed_map_sound H.hasher W.word A.Archived.laws unit_element (7, 8) W.MAX_CAPACITY
@@ -269,14 +274,14 @@ where
 
 impl<K: Deserialize<A>, H, W: Width, A: Eq + Hash + Drop> Deserialize<HashSet<A>>
     for HashSetOf<K, H, W> {
-    ghost refuses = { std_set_refuses W.word K.shape K.refuses };
+    ghost refuses = { std_set_refuses W.word K.spec K.refuses };
 
     #[inline]
     fn deserialize(alloc: Global, view: View<'_, Self>) -> Result<HashSet<A>, ReadError>
-        requires { IsView (set_shape W.word K.shape) view }
+        requires { IsValidView (set_spec W.word K.spec) view }
         ensures { MatchResult result
-            (StandsAt (StdSetStands K.shape K.stands W.word A.eq) view.entry)
-            (StandsAt (std_set_refuses W.word K.shape K.refuses) view.entry) }
+            (AtView (StdSetRepresents K.spec K.represents W.word A.eq) view.entry)
+            (AtView (std_set_refuses W.word K.spec K.refuses) view.entry) }
     {
         ArchivedHashSet::of(view).deserialize_std(alloc, BuildHasherDefault::new())
     }
@@ -284,28 +289,30 @@ impl<K: Deserialize<A>, H, W: Width, A: Eq + Hash + Drop> Deserialize<HashSet<A>
 
 impl<K: Deserialize<A>, H, W: Width, A: Eq + Hash + Drop> Deserialize<Hashed<HashSet<A>, H>>
     for HashSetOf<K, H, W> {
-    ghost refuses = { std_set_refuses W.word K.shape K.refuses };
+    ghost refuses = { std_set_refuses W.word K.spec K.refuses };
 
     #[inline]
     fn deserialize(alloc: Global, view: View<'_, Self>) -> Result<Hashed<HashSet<A>, H>, ReadError>
-        requires { IsView (set_shape W.word K.shape) view }
+        requires { IsValidView (set_spec W.word K.spec) view }
         ensures { MatchResult result
-            (λ x. StandsAt (StdSetStands K.shape K.stands W.word A.eq) view.entry x.map)
-            (StandsAt (std_set_refuses W.word K.shape K.refuses) view.entry) }
+            (λ x. AtView (StdSetRepresents K.spec K.represents W.word A.eq) view.entry x.map)
+            (AtView (std_set_refuses W.word K.spec K.refuses) view.entry) }
     {
         let set = ArchivedHashSet::of(view).deserialize_std(alloc, BuildHasherDefault::new())?;
         Ok(Hashed::new(set))
     }
 }
 
-impl<K: StandsAlone<A>, H, W: Width, A: Eq + Hash, T: BuildHasher> StandsAlone<HashSet<A, T>>
-    for HashSetOf<K, H, W> {
-    ghost alone = { std_set_alone A.eq A.Eq.laws K.shape K.laws W.word K.stands K.alone };
+impl<K: RepresentsUniquely<A>, H, W: Width, A: Eq + Hash, T: BuildHasher> RepresentsUniquely<
+    HashSet<A, T>,
+> for HashSetOf<K, H, W> {
+    ghost alone = { std_set_alone A.eq A.Eq.laws K.spec K.laws W.word K.represents K.alone };
 }
 
-impl<K: StandsAlone<A>, H, W: Width, A: Eq + Hash, T: BuildHasher> StandsAlone<
+impl<K: RepresentsUniquely<A>, H, W: Width, A: Eq + Hash, T: BuildHasher> RepresentsUniquely<
     Hashed<HashSet<A, T>, H>,
 > for HashSetOf<K, H, W> {
-    ghost alone = { λ s t. std_set_alone A.eq A.Eq.laws K.shape K.laws W.word K.stands K.alone s.map
+    ghost alone = { λ s t. std_set_alone A.eq A.Eq.laws K.spec K.laws W.word
+        K.represents K.alone s.map
         t.map };
 }

@@ -30,7 +30,7 @@ where
     A::Archived: KeyElement,
     A: NativeKey<A::Archived>,
     ensures { let format = ⟦<Hashed<HashMap<A, B, T>, H> as Archive<W>>⟧.format in
-        FindsInWrittenMap W.word A.Archived.StandsFor B.Archived.StandsFor
+        FindsInWrittenMap W.word A.Archived.Represents B.Archived.Represents
         (queried H.hasher Q.calls Q.fits) Q.can_read format }
 {}
 
@@ -52,6 +52,6 @@ where
     A::Archived: KeyElement,
     A: NativeKey<A::Archived>,
     ensures { let format = ⟦<Hashed<HashSet<A, T>, H> as Archive<W>>⟧.format in
-        FindsInWrittenSet W.word A.Archived.StandsFor (queried H.hasher Q.calls Q.fits) Q.can_read
+        FindsInWrittenSet W.word A.Archived.Represents (queried H.hasher Q.calls Q.fits) Q.can_read
         format }
 {}

@@ -15,9 +15,9 @@ use rkyv_base::errors::{ReadError, WriteError};
 use rkyv_base::root::to_bytes_in;
 use rkyv_base::width::Width;
 use rkyv_base::writer::{NoMemory, VecWriter};
-use rkyv_keys::equality::{EqualsWritten, MatchesNative, StandsAlone};
+use rkyv_keys::deserialize::Deserialize;
+use rkyv_keys::equality::{EqualsWritten, MatchesNative, RepresentsUniquely};
 use rkyv_keys::keys::{KeyElement, NativeKey};
-use rkyv_keys::reading::Deserialize;
 use rkyv_scan::hash::KeyHasher;
 use std::alloc::Global;
 use std::collections::HashMap;
@@ -25,7 +25,7 @@ use std::hash::{BuildHasher, Hash};
 
 /// The error of a round trip.
 #[derive(Debug, Drop)]
-pub enum Lost {
+pub enum RoundTripError {
     /// The value could not be written.
     Write(WriteError<NoMemory>),
     /// The value could not be deserialized.
@@ -40,8 +40,8 @@ pub enum Lost {
 /// A deserialized value is represented by the root, and so it is `==` to the value.
 pub fn archives_come_back<W: Width, M: EqualsWritten<W> + PartialEq>()
 where
-    M::Archived: MatchesNative<M> + StandsAlone<M>,
-    ensures { ArchivesComeBack W.LIMIT M.Archived.shape M.Archived.stands M.Archived.equals
+    M::Archived: MatchesNative<M> + RepresentsUniquely<M>,
+    ensures { ArchivesComeBack W.LIMIT M.Archived.spec M.Archived.represents M.Archived.equals
         M.format M.eq }
 {}
 
@@ -52,19 +52,19 @@ where
 ///
 /// # Errors
 ///
-/// - `Lost::Write`: the error of `to_bytes_in`.
-/// - `Lost::Read`: the error of `deserialize`.
+/// - `RoundTripError::Write`: the error of `to_bytes_in`.
+/// - `RoundTripError::Read`: the error of `deserialize`.
 pub fn comes_back<W: Width, M: Serialize<VecWriter, W> + EqualsWritten<W> + PartialEq + Drop>(
     alloc: Global,
     value: &M,
-) -> Result<bool, Lost>
+) -> Result<bool, RoundTripError>
 where
-    M::Archived: Deserialize<M> + MatchesNative<M> + StandsAlone<M>,
+    M::Archived: Deserialize<M> + MatchesNative<M> + RepresentsUniquely<M>,
     ensures { IfOk result (λ same. same ≡ true) }
 {
     let bytes = match to_bytes_in::<W, M>(alloc, value) {
         Ok(bytes) => bytes,
-        Err(e) => return Err(Lost::Write(e)),
+        Err(e) => return Err(RoundTripError::Write(e)),
     };
     let root = match access_in::<W, M::Archived>(bytes.as_slice()) {
         Ok(root) => root,
@@ -75,7 +75,7 @@ where
     }
     match M::Archived::deserialize(alloc, root) {
         Ok(back) => Ok(back == *value),
-        Err(e) => Err(Lost::Read(e)),
+        Err(e) => Err(RoundTripError::Read(e)),
     }
 }
 
@@ -86,14 +86,14 @@ where
 ///
 /// # Errors
 ///
-/// - `Lost::Write`: the error of `to_bytes_in`.
+/// - `RoundTripError::Write`: the error of `to_bytes_in`.
 pub fn lookups_agree<
     W: Width,
     H: KeyHasher,
     A: Serialize<VecWriter, W> + Hash,
     B: Serialize<VecWriter, W> + EqualsWritten<W>,
     T: BuildHasher,
->(alloc: Global, map: &Hashed<HashMap<A, B, T>, H>, key: &A) -> Result<bool, Lost>
+>(alloc: Global, map: &Hashed<HashMap<A, B, T>, H>, key: &A) -> Result<bool, RoundTripError>
 where
     A::Archived: KeyElement,
     A: NativeKey<A::Archived>,
@@ -102,7 +102,7 @@ where
 {
     let bytes = match to_bytes_in::<W, Hashed<HashMap<A, B, T>, H>>(alloc, map) {
         Ok(bytes) => bytes,
-        Err(e) => return Err(Lost::Write(e)),
+        Err(e) => return Err(RoundTripError::Write(e)),
     };
     let root = match access_in::<W, HashMapOf<A::Archived, B::Archived, H, W>>(bytes.as_slice()) {
         Ok(root) => root,

@@ -5,12 +5,13 @@ use Rattle.std.specs.Int.{Width}
 use Rattle.std.specs.List.{list_all, range_with_len}
 use Rattle.std.proofs.Common.{refl, arith, subst, sym, ◌∙◌, ap, inl, inr}
 use Rattle.std.proofs.lemmas.Bool.{and_from, and_parts, cases_eq, eq-eqb, eqb-true}
-use Rattle.rkyv_base.specs.Shape.{IsElement, Shape, Standing, standing}
+use Rattle.rkyv_base.specs.ElementSpec.{IsElement, ElementSpec, ValidAt}
+use Rattle.rkyv_base.specs.Lemmas.ElementSpec.{valid_at}
 use Rattle.rkyv_keys.specs.Equality.{Comparison, IsEquivalence}
 use Rattle.rkyv_table.specs.Table.Header.{len_at}
 use Rattle.rkyv_index.specs.Equality.{index_equal, same_at}
 use Rattle.rkyv_index.specs.IndexLayout.{entries_pos, pair_pos}
-use Rattle.rkyv_index.specs.IndexLayout.{IndexHolds, entry_at, index_shape, places_of}
+use Rattle.rkyv_index.specs.IndexLayout.{IndexHolds, entry_at, index_spec, places_of}
 use Rattle.rkyv_index.specs.Lemmas.IndexLaws.{each_holds, entry_inside}
 
 -- `list_all f` of a range is `true` if and only if `f` is `true` for each number in it
@@ -31,11 +32,11 @@ all_at f a (suc n) h i from to =
       | inr ne ↦ all_at f (a + 1) n t.1 i (omega (arith, from, ne)) (omega (arith, to))
     ]
 
-module _ (w : Width) (s : Shape) (law : IsElement s) where
+module _ (w : Width) (s : ElementSpec) (law : IsElement s) where
   -- a valid map has a valid entry at each index below its length
-  entry_standing : (b : List ℕ) (p : ℕ) → Standing (index_shape w s) b p → (i : ℕ) → i < len_at w b
-      p → Standing s b (pair_pos w s.size b p i)
-  entry_standing b p h i below =
+  entry_valid : (b : List ℕ) (p : ℕ) → ValidAt (index_spec w s) b p → (i : ℕ) → i < len_at w b
+      p → ValidAt s b (pair_pos w s.size b p i)
+  entry_valid b p h i below =
       let held : IndexHolds w s b p 0 p h.0 = h.1 in
       let begin = held.entries.begin in
       let at : entries_pos w b p ≡ begin = sym (ap unsigned_abs held.entries.part.begins) in
@@ -43,12 +44,12 @@ module _ (w : Width) (s : Shape) (law : IsElement s) where
       held.entries.last i held.entries.part.above held.entries.hold (omega arith)
       (omega (arith, below)) in
       let u = entry_inside s.size begin (len_at w b p) i below in
-      subst (λ n. Standing s b (entry_at s.size n i)) (sym at)
-      (standing s law b (entry_at s.size begin i) r.lower begin r.rest r.below u.0 r.holds)
+      subst (λ n. ValidAt s b (entry_at s.size n i)) (sym at)
+      (valid_at s law b (entry_at s.size begin i) r.lower begin r.rest r.below u.0 r.holds)
 
   module _ {same : Comparison} (e : IsEquivalence s same) where
     abbrev S : List ℕ → ℕ → Type 0
-    S b p = Standing (index_shape w s) b p
+    S b p = ValidAt (index_spec w s) b p
 
     -- equal maps have the same length and the same entries
     parts : (b c : List ℕ) (p q : ℕ) → index_equal w s same b p c q ≡ true
@@ -70,16 +71,16 @@ module _ (w : Width) (s : Shape) (law : IsElement s) where
         (all_from (same_at w s same b p c q) 0 (len_at w b p)
         (λ i at below. f i (omega (arith, below))))
 
-    pub index_equivalence : IsEquivalence (index_shape w s) (index_equal w s same)
+    pub index_equivalence : IsEquivalence (index_spec w s) (index_equal w s same)
     index_equivalence = record {
       reflexive = λ b p h. from b b p p refl (λ i below. e.reflexive b (pair_pos w s.size b p i)
-          (entry_standing b p h i below));
+          (entry_valid b p h i below));
       symmetric = λ b c p q h g x.
           let t = parts b c p q x in
           from c b q p (sym t.0) (λ i below.
           let n : i < len_at w b p = omega (arith, below, t.0) in
-          e.symmetric b c (pair_pos w s.size b p i) (pair_pos w s.size c q i) (entry_standing b p h
-          i n) (entry_standing c q g i below) (t.1 i n));
+          e.symmetric b c (pair_pos w s.size b p i) (pair_pos w s.size c q i) (entry_valid b p h
+          i n) (entry_valid c q g i below) (t.1 i n));
       transitive = λ b c d p q r h g j x y.
           let t = parts b c p q x in
           let u = parts c d q r y in
@@ -87,6 +88,6 @@ module _ (w : Width) (s : Shape) (law : IsElement s) where
           let n : i < len_at w c q = omega (arith, below, t.0) in
           let n' : i < len_at w d r = omega (arith, n, u.0) in
           e.transitive b c d (pair_pos w s.size b p i) (pair_pos w s.size c q i)
-          (pair_pos w s.size d r i) (entry_standing b p h i below) (entry_standing c q g i n)
-          (entry_standing d r j i n') (t.1 i below) (u.1 i n));
+          (pair_pos w s.size d r i) (entry_valid b p h i below) (entry_valid c q g i n)
+          (entry_valid d r j i n') (t.1 i below) (u.1 i n));
     }

@@ -10,47 +10,51 @@ use Rattle.std.proofs.Props.{props}
 use Rattle.std.specs.Coded.{×_prop}
 use Rattle.std.proofs.lemmas.List.Elements.{All-cons, All-head, All-map, All-nil, All-tail}
 use Rattle.rkyv_base.specs.declared.errors.VerifyError.{VerifyError}
-use Rattle.rkyv_base.specs.Bytes.{Same, number_at, same_part}
+use Rattle.rkyv_base.specs.Bytes.{AgreeOn, number_at}
+use Rattle.rkyv_base.specs.Lemmas.Bytes.{agree_on_part}
 use Rattle.rkyv_base.specs.Lemmas.Props.{only_one, prop_by}
-use Rattle.rkyv_base.specs.Parts.{PartIn, part_clear, part_one, part_one_failure, part_prop}
-use Rattle.rkyv_base.specs.Parts.{part_wider}
-use Rattle.rkyv_base.specs.Shape.{Shape, IsElement, IsAlign}
-use Rattle.rkyv_base.specs.Text.{IsArchiveWord, by_archive_word}
+use Rattle.rkyv_base.specs.Parts.{PartIn}
+use Rattle.rkyv_base.specs.Lemmas.Parts.{part_exclusive, part_one, part_one_failure, part_prop}
+use Rattle.rkyv_base.specs.Lemmas.Parts.{part_wider}
+use Rattle.rkyv_base.specs.ElementSpec.{ElementSpec, IsElement, IsAlign}
+use Rattle.rkyv_base.specs.Text.{IsArchiveWord}
+use Rattle.rkyv_base.specs.Lemmas.Text.{by_archive_word}
 use Rattle.rkyv_table.specs.Table.Header.{cap_at, len_at}
 use Rattle.rkyv_table.specs.Lemmas.ItemPositions.{HoldsWithin, holds_at, item_holds}
 use Rattle.rkyv_table.specs.Lemmas.ItemPositions.{within_lower}
 use Rattle.rkyv_table.specs.Lemmas.SameControls.{same_controls}
-use Rattle.rkyv_table.specs.Lemmas.PlaceLaws.{AllBelow, all_between, all_clear, all_lower, all_near}
+use Rattle.rkyv_table.specs.Lemmas.PlaceLaws.{AllBelow, all_between, all_exclusive, all_lower}
+use Rattle.rkyv_table.specs.Lemmas.PlaceLaws.{all_local}
 use Rattle.rkyv_table.specs.Lemmas.PlaceLaws.{all_one, all_one_failure, all_prop}
 use Rattle.rkyv_table.specs.Table.Places.{AllHold, FirstFails}
 use Rattle.rkyv_table.specs.Controls.Placing.{walk}
 use Rattle.rkyv_table.specs.Table.Positions.{IsWalked, item_at, item_positions}
 use Rattle.rkyv_table.specs.Table.Positions.{table_controls}
 use Rattle.rkyv_table.specs.Lemmas.SameHeader.{cap_same, item_same, len_same}
-use Rattle.rkyv_table.specs.Table.Layout.{TableHolds, table_shape}
+use Rattle.rkyv_table.specs.Table.Layout.{TableHolds, table_spec}
 use Rattle.rkyv_table.specs.Lemmas.TableLaws.{table_element}
 use Rattle.rkyv_table.proofs.RawWalks.{walked_all}
 use Rattle.rkyv_table.proofs.Walks.{walk_none}
 use Rattle.rkyv_index.specs.IndexLayout.{EntriesFail, EntriesHold, EntriesIn, FirstNotBelow}
 use Rattle.rkyv_index.specs.IndexLayout.{IndexFails}
-use Rattle.rkyv_index.specs.IndexLayout.{IndexHolds, PlacesBelow, distance_pos, entries_told}
-use Rattle.rkyv_index.specs.IndexLayout.{entry_at, index_shape, place_shape, places_of}
+use Rattle.rkyv_index.specs.IndexLayout.{IndexHolds, PlacesBelow, distance_pos, decode_entries}
+use Rattle.rkyv_index.specs.IndexLayout.{entry_at, index_spec, place_spec, places_of}
 
 -- an index in a bucket is an element
-pub place_element : (w : Width) → IsArchiveWord w → IsElement (place_shape w)
+pub place_element : (w : Width) → IsArchiveWord w → IsElement (place_spec w)
 place_element w kind = record {
   align_is = by_archive_word (λ v. IsAlign (byte_len v)) (inr (inr (inl refl)))
       (inr (inr (inr refl))) w kind;
   size_whole = by_archive_word (λ v. byte_len v % byte_len v ≡ 0) refl refl w kind;
   size_small = by_archive_word (λ v. byte_len v ≤ 1073741824) (omega arith) (omega arith) w kind;
   proper = λ b p lo hi l. hlevel props;
-  between = λ b p lo hi l o h. (omega (arith, h), omega (arith, h));
-  one = λ b p lo hi l l' h h'. h ∙ sym h';
-  clear = λ b p lo hi l e h f. f;
+  rest_in_range = λ b p lo hi l o h. (omega (arith, h), omega (arith, h));
+  rest_unique = λ b p lo hi l l' h h'. h ∙ sym h';
+  exclusive = λ b p lo hi l e h f. f;
   one_failure = λ b p lo hi e e' f g. absurd f;
-  higher = λ b p lo hi hi' l o h. h;
-  lower = λ b p lo lo' hi l o o' h. (lo', refl, omega (arith, h));
-  near = λ b c p lo hi l o fixed part h. h;
+  widen_hi = λ b p lo hi hi' l o h. h;
+  lower_lo = λ b p lo lo' hi l o o' h. (lo', refl, omega (arith, h));
+  local = λ b c p lo hi l o fixed part h. h;
 }
 
 -- the indices of the `n` numbers from `a` on are below `m`
@@ -69,12 +73,13 @@ entry_inside size begin n i h =
     (omega arith, omega (arith, m))
 
 -- each of several valid values in order is valid in a range of its own
-pub each_holds : (s : Shape) → IsElement s → (at : ℕ → ℕ) (b : List ℕ) (hi a n lo l i : ℕ) → lo ≤ hi
+pub each_holds : (s : ElementSpec) → IsElement s → (at : ℕ → ℕ) (b : List ℕ) (hi a n lo l i : ℕ)
+    → lo ≤ hi
     → AllHold s at b hi (range_with_len a n) lo l → a ≤ i → i < a + n
     → HoldsWithin s b (at i) lo hi l
 each_holds s law at b hi a zero lo l i o h from to = absurd (omega arith)
 each_holds s law at b hi a (suc n) lo l i o h from to =
-    let k : (lo ≤ h.0) × (h.0 ≤ hi) = law.between b (at a) lo hi h.0 o h.1 in
+    let k : (lo ≤ h.0) × (h.0 ≤ hi) = law.rest_in_range b (at a) lo hi h.0 o h.1 in
     let after = all_between s law at b hi (range_with_len (a + 1) n) h.0 l k.1 h.2 in
     elim (cases_eq a i) [
       | inl e ↦ subst (λ z. HoldsWithin s b (at z) lo hi l) e
@@ -93,12 +98,13 @@ each_holds s law at b hi a (suc n) lo l i o h from to =
     ]
 
 -- if all indices are below `n`, no position is the first whose index isn't
-not_below_clear : (w : Width) (b : List ℕ) (n : ℕ) (qs : List ℕ) (e : VerifyError) → PlacesBelow w b
+not_below_exclusive : (w : Width) (b : List ℕ) (n : ℕ) (qs : List ℕ) (e : VerifyError)
+    → PlacesBelow w b
     n qs → FirstNotBelow w b n qs e → ⊥
-not_below_clear w b n [] e h f = f
-not_below_clear w b n (q ∷ qs) e h (inl f) = let k = All-head (λ x. number_at w b x < n) q qs h
+not_below_exclusive w b n [] e h f = f
+not_below_exclusive w b n (q ∷ qs) e h (inl f) = let k = All-head (λ x. number_at w b x < n) q qs h
     in omega (arith, f.0, k)
-not_below_clear w b n (q ∷ qs) e h (inr f) = not_below_clear w b n qs e
+not_below_exclusive w b n (q ∷ qs) e h (inr f) = not_below_exclusive w b n qs e
     (All-tail (λ x. number_at w b x < n) q qs h) f.1
 
 -- the first index that isn't below `n` has one error alone
@@ -112,7 +118,7 @@ not_below_one w b n (q ∷ qs) e e' (inr f) (inl g) = absurd (omega (arith, f.0,
 not_below_one w b n (q ∷ qs) e e' (inr f) (inr g) = not_below_one w b n qs e e' f.1 g.1
 
 -- entries that are in a part
-module _ (s : Shape) (law : IsElement s) where
+module _ (s : ElementSpec) (law : IsElement s) where
   entries_between : (b : List ℕ) (told : ℤ) (len lo hi l : ℕ) → EntriesIn s b told len lo hi l
       → (lo ≤ l) × (l ≤ hi)
   entries_between b told len lo hi l h = let e = h.ends in (
@@ -128,14 +134,16 @@ module _ (s : Shape) (law : IsElement s) where
       h.part h'.part in
       h.ends ∙ ap (λ x. x + len * s.size) same ∙ sym h'.ends
 
-  entries_clear : (b : List ℕ) (told : ℤ) (len lo hi l : ℕ) (e : VerifyError) → EntriesIn s b told
+  entries_exclusive : (b : List ℕ) (told : ℤ) (len lo hi l : ℕ) (e : VerifyError)
+      → EntriesIn s b told
       len lo hi l → EntriesFail s b told len lo hi e → ⊥
-  entries_clear b told len lo hi l e h (inl f) = part_clear told (len * s.size) s.align lo hi
+  entries_exclusive b told len lo hi l e h (inl f) =
+      part_exclusive told (len * s.size) s.align lo hi
       h.begin e h.part f
-  entries_clear b told len lo hi l e h (inr f) =
+  entries_exclusive b told len lo hi l e h (inr f) =
       let same : f.0 ≡ h.begin = part_one told (len * s.size) s.align lo hi f.0 h.begin f.1 h.part
       in
-      all_clear s law (entry_at s.size h.begin) b h.begin (places_of len) lo h.last e h.hold
+      all_exclusive s law (entry_at s.size h.begin) b h.begin (places_of len) lo h.last e h.hold
       (subst (λ n. FirstFails s (entry_at s.size n) b n (places_of len) lo e) same f.2)
 
   entries_one_failure : (b : List ℕ) (told : ℤ) (len lo hi : ℕ) (e e' : VerifyError) → EntriesFail s
@@ -143,9 +151,11 @@ module _ (s : Shape) (law : IsElement s) where
       → EntriesFail s b told len lo hi e' → e ≡ e'
   entries_one_failure b told len lo hi e e' (inl f) (inl g) = part_one_failure told (len * s.size)
       s.align lo hi e e' f g
-  entries_one_failure b told len lo hi e e' (inl f) (inr g) = absurd (part_clear told (len * s.size)
+  entries_one_failure b told len lo hi e e' (inl f) (inr g) =
+      absurd (part_exclusive told (len * s.size)
       s.align lo hi g.0 e g.1 f)
-  entries_one_failure b told len lo hi e e' (inr f) (inl g) = absurd (part_clear told (len * s.size)
+  entries_one_failure b told len lo hi e e' (inr f) (inl g) =
+      absurd (part_exclusive told (len * s.size)
       s.align lo hi f.0 e' f.1 g)
   entries_one_failure b told len lo hi e e' (inr f) (inr g) =
       let same : g.0 ≡ f.0 = part_one told (len * s.size) s.align lo hi g.0 f.0 g.1 f.1 in
@@ -178,16 +188,17 @@ module _ (s : Shape) (law : IsElement s) where
         ends = h.ends;
       }
 
-  entries_near : (b c : List ℕ) (told : ℤ) (len lo hi l : ℕ) → Same b c lo l → EntriesIn s b told
+  entries_local : (b c : List ℕ) (told : ℤ) (len lo hi l : ℕ) → AgreeOn b c lo l
+      → EntriesIn s b told
       len lo hi l → EntriesIn s c told len lo hi l
-  entries_near b c told len lo hi l same h =
+  entries_local b c told len lo hi l same h =
       let e = h.ends in
       let above = h.part.above in
       record {
         begin = h.begin;
         part = h.part;
         last = h.last;
-        hold = all_near s law (entry_at s.size h.begin) b c lo l len h.begin (places_of len) lo
+        hold = all_local s law (entry_at s.size h.begin) b c lo l len h.begin (places_of len) lo
             h.last same (omega arith) above (omega arith) (places_below len)
             (λ i below. let u = entry_inside s.size h.begin len i below in (
               omega (arith, u.0),
@@ -204,15 +215,15 @@ All-unmap Q f (x ∷ xs) h = All-cons (λ x. Q (f x)) x xs (All-head Q (f x) (ma
     (All-unmap Q f xs (All-tail Q (f x) (map f xs) h))
 
 module _ (w : Width) (kind : IsArchiveWord w) where
-  abbrev P : Shape
-  P = place_shape w
+  abbrev P : ElementSpec
+  P = place_spec w
 
   abbrev P_law : IsElement P
   P_law = place_element w kind
 
   -- the indices are the same if the bytes of the header and of the table are
-  module _ (b c : List ℕ) (p lo hi m : ℕ) (o : lo ≤ hi) (fixed : Same b c p (p + 3 * byte_len w))
-      (part : Same b c lo m) (h : TableHolds w P b p lo hi m) where
+  module _ (b c : List ℕ) (p lo hi m : ℕ) (o : lo ≤ hi) (fixed : AgreeOn b c p (p + 3 * byte_len w))
+      (part : AgreeOn b c lo m) (h : TableHolds w P b p lo hi m) where
     item_within : (i : ℕ) → IsWalked w b p i → (lo ≤ item_at w (byte_len w) b p i)
         × (item_at w (byte_len w) b p i + byte_len w ≤ m)
     item_within i walked =
@@ -226,7 +237,7 @@ module _ (w : Width) (kind : IsArchiveWord w) where
     place_same_at i walked =
         let u = item_within i walked in
         let q = item_at w (byte_len w) b p i in
-        ap (from_le_bytes w) (same_part b c lo m q (q + byte_len w) u.0 u.1 (omega arith) part)
+        ap (from_le_bytes w) (agree_on_part b c lo m q (q + byte_len w) u.0 u.1 (omega arith) part)
         ∙ ap (number_at w c) (item_same w b c p fixed (byte_len w) i)
 
     same_walk : walk (table_controls w b p) (cap_at w b p) ≡ walk (table_controls w c p)
@@ -242,9 +253,9 @@ module _ (w : Width) (kind : IsArchiveWord w) where
           ∙ ap (walk (table_controls w c p)) (cap_same w b c p fixed)
     ]
 
-    places_near : (n : ℕ) → PlacesBelow w b n (item_positions w (byte_len w) b p) → PlacesBelow w c
+    places_local : (n : ℕ) → PlacesBelow w b n (item_positions w (byte_len w) b p) → PlacesBelow w c
         n (item_positions w (byte_len w) c p)
-    places_near n below =
+    places_local n below =
         let at = item_at w (byte_len w) in
         let ws = walk (table_controls w b p) (cap_at w b p) in
         subst (λ (xs : List ℕ). PlacesBelow w c n (map (at c p) xs)) same_walk
@@ -254,56 +265,60 @@ module _ (w : Width) (kind : IsArchiveWord w) where
         (All-unmap (λ q. number_at w b q < n) (at b p) ws below k d lt)))
 
 -- the entries begin at the same position if the bytes of the header are the same
-pub told_same : (w : Width) (b c : List ℕ) (p : ℕ) → Same b c p (p + 4 * byte_len w)
-    → entries_told w b p ≡ entries_told w c p
+pub told_same : (w : Width) (b c : List ℕ) (p : ℕ) → AgreeOn b c p (p + 4 * byte_len w)
+    → decode_entries w b p ≡ decode_entries w c p
 told_same w b c p fixed =
-    let field : Same b c (distance_pos w p) (distance_pos w p + byte_len w) =
-    same_part b c p (p + 4 * byte_len w) (distance_pos w p) (distance_pos w p + byte_len w)
+    let field : AgreeOn b c (distance_pos w p) (distance_pos w p + byte_len w) =
+    agree_on_part b c p (p + 4 * byte_len w) (distance_pos w p) (distance_pos w p + byte_len w)
     (omega arith) (omega arith) (omega arith) fixed in
     ap (λ (x : List ℕ). pos (distance_pos w p) +ℤ cast_signed w (from_le_bytes w x)) field
 
 -- the header of the table is the same if the bytes of the index map's header are
-pub head_same : (w : Width) (b c : List ℕ) (p : ℕ) → Same b c p (p + 4 * byte_len w)
-    → Same b c p (p + 3 * byte_len w)
-head_same w b c p fixed = same_part b c p (p + 4 * byte_len w) p (p + 3 * byte_len w) (omega arith)
+pub head_same : (w : Width) (b c : List ℕ) (p : ℕ) → AgreeOn b c p (p + 4 * byte_len w)
+    → AgreeOn b c p (p + 3 * byte_len w)
+head_same w b c p fixed =
+    agree_on_part b c p (p + 4 * byte_len w) p (p + 3 * byte_len w) (omega arith)
     (omega arith) (omega arith) fixed
 
-module _ (w : Width) (kind : IsArchiveWord w) (s : Shape) (law : IsElement s) where
-  abbrev T_law : IsElement (table_shape w (place_shape w))
-  T_law = table_element w kind (place_shape w) (place_element w kind)
+module _ (w : Width) (kind : IsArchiveWord w) (s : ElementSpec) (law : IsElement s) where
+  abbrev T_law : IsElement (table_spec w (place_spec w))
+  T_law = table_element w kind (place_spec w) (place_element w kind)
 
-  index_clear : (b : List ℕ) (p lo hi l : ℕ) (e : VerifyError) → IndexHolds w s b p lo hi l
+  index_exclusive : (b : List ℕ) (p lo hi l : ℕ) (e : VerifyError) → IndexHolds w s b p lo hi l
       → IndexFails w s b p lo hi e → ⊥
-  index_clear b p lo hi l e h (inl f) = T_law.clear b p lo hi h.middle e h.table f
-  index_clear b p lo hi l e h (inr (m, t, inl f)) = not_below_clear w b (len_at w b p)
+  index_exclusive b p lo hi l e h (inl f) = T_law.exclusive b p lo hi h.middle e h.table f
+  index_exclusive b p lo hi l e h (inr (m, t, inl f)) = not_below_exclusive w b (len_at w b p)
       (item_positions w (byte_len w) b p) e h.below f
-  index_clear b p lo hi l e h (inr (m, t, inr (below, f))) =
-      let same : m ≡ h.middle = T_law.one b p lo hi m h.middle t h.table in
-      entries_clear s law b (entries_told w b p) (len_at w b p) h.middle hi l e h.entries
-      (subst (λ x. EntriesFail s b (entries_told w b p) (len_at w b p) x hi e) same f)
+  index_exclusive b p lo hi l e h (inr (m, t, inr (below, f))) =
+      let same : m ≡ h.middle = T_law.rest_unique b p lo hi m h.middle t h.table in
+      entries_exclusive s law b (decode_entries w b p) (len_at w b p) h.middle hi l e h.entries
+      (subst (λ x. EntriesFail s b (decode_entries w b p) (len_at w b p) x hi e) same f)
 
   index_one_failure : (b : List ℕ) (p lo hi : ℕ) (e e' : VerifyError) → IndexFails w s b p lo hi e
       → IndexFails w s b p lo hi e' → e ≡ e'
   index_one_failure b p lo hi e e' (inl f) (inl g) = T_law.one_failure b p lo hi e e' f g
-  index_one_failure b p lo hi e e' (inl f) (inr (m, t, g)) = absurd (T_law.clear b p lo hi m e t f)
-  index_one_failure b p lo hi e e' (inr (m, t, f)) (inl g) = absurd (T_law.clear b p lo hi m e' t g)
+  index_one_failure b p lo hi e e' (inl f) (inr (m, t, g)) =
+      absurd (T_law.exclusive b p lo hi m e t f)
+  index_one_failure b p lo hi e e' (inr (m, t, f)) (inl g) =
+      absurd (T_law.exclusive b p lo hi m e' t g)
   index_one_failure b p lo hi e e' (inr (m, t, inl f)) (inr (m', t', inl g)) =
       not_below_one w b (len_at w b p) (item_positions w (byte_len w) b p) e e' f g
   index_one_failure b p lo hi e e' (inr (m, t, inl f)) (inr (m', t', inr g)) =
-      absurd (not_below_clear w b (len_at w b p) (item_positions w (byte_len w) b p) e g.0 f)
+      absurd (not_below_exclusive w b (len_at w b p) (item_positions w (byte_len w) b p) e g.0 f)
   index_one_failure b p lo hi e e' (inr (m, t, inr f)) (inr (m', t', inl g)) =
-      absurd (not_below_clear w b (len_at w b p) (item_positions w (byte_len w) b p) e' f.0 g)
+      absurd (not_below_exclusive w b (len_at w b p) (item_positions w (byte_len w) b p) e' f.0 g)
   index_one_failure b p lo hi e e' (inr (m, t, inr f)) (inr (m', t', inr g)) =
-      let same : m' ≡ m = T_law.one b p lo hi m' m t' t in
-      entries_one_failure s law b (entries_told w b p) (len_at w b p) m hi e e' f.1
-      (subst (λ x. EntriesFail s b (entries_told w b p) (len_at w b p) x hi e') same g.1)
+      let same : m' ≡ m = T_law.rest_unique b p lo hi m' m t' t in
+      entries_one_failure s law b (decode_entries w b p) (len_at w b p) m hi e e' f.1
+      (subst (λ x. EntriesFail s b (decode_entries w b p) (len_at w b p) x hi e') same g.1)
 
   index_one : (b : List ℕ) (p lo hi l l' : ℕ) → IndexHolds w s b p lo hi l → IndexHolds w s b p lo
       hi l' → l ≡ l'
   index_one b p lo hi l l' h h' =
-      let same : h'.middle ≡ h.middle = T_law.one b p lo hi h'.middle h.middle h'.table h.table in
-      entries_one s law b (entries_told w b p) (len_at w b p) h.middle hi l l' h.entries
-      (subst (λ x. EntriesIn s b (entries_told w b p) (len_at w b p) x hi l') same h'.entries)
+      let same : h'.middle ≡ h.middle =
+      T_law.rest_unique b p lo hi h'.middle h.middle h'.table h.table in
+      entries_one s law b (decode_entries w b p) (len_at w b p) h.middle hi l l' h.entries
+      (subst (λ x. EntriesIn s b (decode_entries w b p) (len_at w b p) x hi l') same h'.entries)
 
   -- that the entries are valid, and that the map is, are propositions
   entries_prop : (b : List ℕ) (told : ℤ) (len lo hi l : ℕ) → IsProp (EntriesIn s b told len lo hi l)
@@ -327,69 +342,74 @@ module _ (w : Width) (kind : IsArchiveWord w) (s : Shape) (law : IsElement s) wh
 
   index_prop : (b : List ℕ) (p lo hi l : ℕ) → IsProp (IndexHolds w s b p lo hi l)
   index_prop b p lo hi l =
-      let P : ℕ → Type 0 = λ m. TableHolds w (place_shape w) b p lo hi m
+      let P : ℕ → Type 0 = λ m. TableHolds w (place_spec w) b p lo hi m
       × (PlacesBelow w b (len_at w b p) (item_positions w (byte_len w) b p)
-      × EntriesIn s b (entries_told w b p) (len_at w b p) m hi l) in
+      × EntriesIn s b (decode_entries w b p) (len_at w b p) m hi l) in
       prop_by {B = (m : ℕ) × P m} (λ h. (h.middle, (h.table, (h.below, h.entries))))
       (λ h. record { middle = h.0; table = h.1.0; below = h.1.1.0; entries = h.1.1.1 }) (λ _. refl)
       (only_one (λ m. ×_prop (T_law.proper b p lo hi m) (×_prop (hlevel props)
-      (entries_prop b (entries_told w b p) (len_at w b p) m hi l)))
-      (λ m m' h k. T_law.one b p lo hi m m' h.0 k.0))
+      (entries_prop b (decode_entries w b p) (len_at w b p) m hi l)))
+      (λ m m' h k. T_law.rest_unique b p lo hi m m' h.0 k.0))
 
   index_between : (b : List ℕ) (p lo hi l : ℕ) → lo ≤ hi → IndexHolds w s b p lo hi l → (lo ≤ l)
       × (l ≤ hi)
   index_between b p lo hi l o h =
-      let t = T_law.between b p lo hi h.middle o h.table in
-      let r = entries_between s law b (entries_told w b p) (len_at w b p) h.middle hi l h.entries in
+      let t = T_law.rest_in_range b p lo hi h.middle o h.table in
+      let r = entries_between s law b (decode_entries w b p)
+      (len_at w b p) h.middle hi l h.entries in
       (omega (arith, t.0, r.0), r.1)
 
   index_lower : (b : List ℕ) (p lo lo' hi l : ℕ) → lo' ≤ lo → lo ≤ hi → IndexHolds w s b p lo hi l
       → (l' : ℕ) × IndexHolds w s b p lo' hi l' × (l' ≤ l)
   index_lower b p lo lo' hi l o o' h =
-      let t = T_law.lower b p lo lo' hi h.middle o o' h.table in (
+      let t = T_law.lower_lo b p lo lo' hi h.middle o o' h.table in (
         l,
         record {
           middle = t.0;
           table = t.1;
           below = h.below;
           entries = entries_lower s law b
-              (entries_told w b p) (len_at w b p) h.middle t.0 hi l t.2 h.entries;
+              (decode_entries w b p) (len_at w b p) h.middle t.0 hi l t.2 h.entries;
         },
         omega arith,
       )
 
   -- an index map is valid again if the header and the table are the same and the entries
   -- are valid again
-  pub index_again : (b c : List ℕ) (p lo hi l : ℕ) → lo ≤ hi → Same b c p (p + 4 * byte_len w)
-      → (h : IndexHolds w s b p lo hi l) → Same b c lo h.middle
-      → EntriesIn s c (entries_told w b p) (len_at w b p) h.middle hi l
+  pub index_again : (b c : List ℕ) (p lo hi l : ℕ) → lo ≤ hi → AgreeOn b c p (p + 4 * byte_len w)
+      → (h : IndexHolds w s b p lo hi l) → AgreeOn b c lo h.middle
+      → EntriesIn s c (decode_entries w b p) (len_at w b p) h.middle hi l
       → IndexHolds w s c p lo hi l
   index_again b c p lo hi l o fixed h front entries =
       let head = head_same w b c p fixed in
       let len : len_at w b p ≡ len_at w c p = len_same w b c p head in
       record {
         middle = h.middle;
-        table = T_law.near b c p lo hi h.middle o head front h.table;
+        table = T_law.local b c p lo hi h.middle o head front h.table;
         below = subst (λ n. PlacesBelow w c n (item_positions w (byte_len w) c p)) len
-            (places_near w kind b c p lo hi h.middle o head front h.table (len_at w b p) h.below);
-        entries = subst (λ n. EntriesIn s c (entries_told w c p) n h.middle hi l) len
+            (places_local w kind b c p lo hi h.middle o head front h.table (len_at w b p) h.below);
+        entries = subst (λ n. EntriesIn s c (decode_entries w c p) n h.middle hi l) len
             (subst (λ z. EntriesIn s c z (len_at w b p) h.middle hi l) (told_same w b c p fixed)
             entries);
       }
 
-  index_near : (b c : List ℕ) (p lo hi l : ℕ) → lo ≤ hi → Same b c p (p + 4 * byte_len w) → Same b c
+  index_local : (b c : List ℕ) (p lo hi l : ℕ) → lo ≤ hi → AgreeOn b c p (p + 4 * byte_len w)
+      → AgreeOn b c
       lo l → IndexHolds w s b p lo hi l → IndexHolds w s c p lo hi l
-  index_near b c p lo hi l o fixed part h =
-      let t = T_law.between b p lo hi h.middle o h.table in
-      let r = entries_between s law b (entries_told w b p) (len_at w b p) h.middle hi l h.entries in
-      let front : Same b c lo h.middle = same_part b c lo l lo h.middle (omega arith) r.0 t.0 part
+  index_local b c p lo hi l o fixed part h =
+      let t = T_law.rest_in_range b p lo hi h.middle o h.table in
+      let r = entries_between s law b (decode_entries w b p)
+      (len_at w b p) h.middle hi l h.entries in
+      let front : AgreeOn b c lo h.middle =
+      agree_on_part b c lo l lo h.middle (omega arith) r.0 t.0 part
       in
-      let back : Same b c h.middle l = same_part b c lo l h.middle l t.0 (omega arith) r.0 part in
-      index_again b c p lo hi l o fixed h front (entries_near s law b c (entries_told w b p)
+      let back : AgreeOn b c h.middle l =
+      agree_on_part b c lo l h.middle l t.0 (omega arith) r.0 part in
+      index_again b c p lo hi l o fixed h front (entries_local s law b c (decode_entries w b p)
       (len_at w b p) h.middle hi l back h.entries)
 
   -- an index map is an element
-  pub index_element : IsElement (index_shape w s)
+  pub index_element : IsElement (index_spec w s)
   index_element = record {
     align_is = by_archive_word (λ v. IsAlign (byte_len v)) (inr (inr (inl refl)))
         (inr (inr (inr refl))) w kind;
@@ -397,17 +417,17 @@ module _ (w : Width) (kind : IsArchiveWord w) (s : Shape) (law : IsElement s) wh
     size_small = by_archive_word (λ v. 4 * byte_len v ≤ 1073741824) (omega arith) (omega arith) w
         kind;
     proper = index_prop;
-    between = index_between;
-    one = index_one;
-    clear = index_clear;
+    rest_in_range = index_between;
+    rest_unique = index_one;
+    exclusive = index_exclusive;
     one_failure = index_one_failure;
-    higher = λ b p lo hi hi' l o h. record {
+    widen_hi = λ b p lo hi hi' l o h. record {
       middle = h.middle;
-      table = T_law.higher b p lo hi hi' h.middle o h.table;
+      table = T_law.widen_hi b p lo hi hi' h.middle o h.table;
       below = h.below;
-      entries = entries_higher s law b (entries_told w b p) (len_at w b p) h.middle hi hi' l o
+      entries = entries_higher s law b (decode_entries w b p) (len_at w b p) h.middle hi hi' l o
           h.entries;
     };
-    lower = index_lower;
-    near = index_near;
+    lower_lo = index_lower;
+    local = index_local;
   }

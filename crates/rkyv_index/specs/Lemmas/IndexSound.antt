@@ -11,17 +11,21 @@ use Rattle.std.specs.List.{range_with_len}
 use Rattle.std.specs.Prelude.{◌≡◌, ℕ, suc, ◌+◌, ◌*◌, ◌%◌, ◌<◌, ◌≤◌, ℤ, pos, ◌+ℤ◌, ◌-ℤ◌}
 use Rattle.std.specs.Prelude.{unsigned_abs, FitsSigned, Bool, true, List, [], ◌∷◌, ◌++◌, length}
 use Rattle.std.specs.Prelude.{map, slice_get, slice_index, slice_range, Some}
-use Rattle.rkyv_base.specs.Bytes.{Sits, number_at, signed_at, sits_back, sits_front}
-use Rattle.rkyv_base.specs.Entry.{entry_element, entry_shape, round_up, round_up-multiple}
+use Rattle.rkyv_base.specs.Bytes.{OccursAt, number_at, signed_at}
+use Rattle.rkyv_base.specs.Lemmas.Bytes.{occurs_back, occurs_front}
+use Rattle.rkyv_base.specs.Entry.{entry_spec, round_up}
+use Rattle.rkyv_base.specs.Lemmas.Entry.{entry_element, round_up-multiple}
 use Rattle.rkyv_base.specs.Format.{Format, IsFormat}
 use Rattle.rkyv_base.specs.Layout.{IsPlace}
-use Rattle.rkyv_base.specs.Pairs.{PairStands, pair_format, pair_is_format}
-use Rattle.rkyv_base.specs.Scalar.{Encoding, IsScalar, IsWord, ScalarStands, scalar_format}
-use Rattle.rkyv_base.specs.Scalar.{scalar_is_format, word_bytes, word_reads_back}
-use Rattle.rkyv_base.specs.Shape.{IsElement, Shape, Standing}
-use Rattle.rkyv_base.specs.Text.{IsArchiveWord, by_archive_word}
+use Rattle.rkyv_base.specs.Pairs.{PairRepresents, pair_format}
+use Rattle.rkyv_base.specs.Lemmas.Pairs.{pair_is_format}
+use Rattle.rkyv_base.specs.Scalar.{Encoding, IsScalar, IsWord, ScalarRepresents, scalar_format}
+use Rattle.rkyv_base.specs.Lemmas.Scalar.{scalar_is_format, word_bytes, word_reads_back}
+use Rattle.rkyv_base.specs.ElementSpec.{IsElement, ElementSpec, ValidAt}
+use Rattle.rkyv_base.specs.Text.{IsArchiveWord}
+use Rattle.rkyv_base.specs.Lemmas.Text.{by_archive_word}
 use Rattle.rkyv_base.specs.Writing.{padding, zeros}
-use Rattle.rkyv_keys.specs.Asking.{hashes_as_written}
+use Rattle.rkyv_keys.specs.Lemmas.Asking.{hashes_as_written}
 use Rattle.rkyv_keys.specs.Equality.{Comparison}
 use Rattle.rkyv_keys.specs.Keys.{FitsItsEqual, IsQuery}
 use Rattle.rkyv_scan.specs.Hash.{Hasher, HasherCall, hash_of_calls}
@@ -35,22 +39,22 @@ use Rattle.rkyv_table.specs.Table.Places.{AllHold}
 use Rattle.rkyv_table.specs.Controls.Placing.{walk}
 use Rattle.rkyv_table.specs.Table.Positions.{IsWalked, WrittenAt, home_positions, item_at}
 use Rattle.rkyv_table.specs.Table.Positions.{item_positions, table_controls}
-use Rattle.rkyv_table.specs.Table.Layout.{TableHolds, table_shape}
-use Rattle.rkyv_table.specs.Table.TableFormat.{TableStands, resolved_capacity}
+use Rattle.rkyv_table.specs.Table.Layout.{TableHolds, table_spec}
+use Rattle.rkyv_table.specs.Table.TableFormat.{TableRepresents, resolved_capacity}
 use Rattle.rkyv_table.specs.Lemmas.TableLaws.{table_element}
 use Rattle.rkyv_table.specs.Lemmas.TableSound.{table_is_format}
-use Rattle.rkyv_table.specs.Table.Taking.{hashes_of, items_of}
+use Rattle.rkyv_table.specs.Table.PlacedItems.{hashes_of, items_of}
 use Rattle.rkyv_table.specs.Table.WrittenTables.{IsWrittenOf}
 use Rattle.rkyv_table.proofs.WalkedHomes.{walked_homes}
 use Rattle.rkyv_table.proofs.Walks.{full_walked, walked_full}
 use Rattle.rkyv_table.proofs.WrittenTables.{home_count, home_pos, table_written}
-use Rattle.rkyv_index.specs.IndexFormat.{BeforeZeros, CodesReadBack, IndexParts, IndexStands}
-use Rattle.rkyv_index.specs.IndexFormat.{RowStands, index_format, places_from, row_format}
-use Rattle.rkyv_index.specs.IndexHeader.{IndexFar, IndexResolver, IsIndexHeader}
+use Rattle.rkyv_index.specs.IndexFormat.{BeforeZeros, CodesReadBack, IndexParts, IndexRepresents}
+use Rattle.rkyv_index.specs.IndexFormat.{RowRepresents, index_format, places_from, row_format}
+use Rattle.rkyv_index.specs.IndexHeader.{IndexOverflows, IndexResolver, IsIndexHeader}
 use Rattle.rkyv_index.specs.IndexLayout.{entries_pos, pair_pos}
-use Rattle.rkyv_index.specs.IndexLayout.{IndexHolds, PlacesBelow, distance_pos, entries_told}
-use Rattle.rkyv_index.specs.IndexLayout.{index_shape, places_of}
-use Rattle.rkyv_index.specs.Lemmas.PlaceShapes.{words_hold}
+use Rattle.rkyv_index.specs.IndexLayout.{IndexHolds, PlacesBelow, distance_pos, decode_entries}
+use Rattle.rkyv_index.specs.IndexLayout.{index_spec, places_of}
+use Rattle.rkyv_index.specs.Lemmas.PlaceSpecs.{words_hold}
 use Rattle.rkyv_index.specs.Row.{RowImages}
 use Rattle.rkyv_index.specs.Lemmas.RowSound.{images_length, row_sound}
 
@@ -81,7 +85,7 @@ module _ {X P : Type 0} (own : X → ℕ) (v : ℕ → P) where
 
 -- a written distance is read back
 distance_back : (w : Width) → IsArchiveWord w → (d : ℤ) (c : List ℕ) (p : ℕ) → FitsSigned w d
-    → Sits c p (to_le_bytes w (cast_unsigned w d)) → signed_at w c p ≡ d
+    → OccursAt c p (to_le_bytes w (cast_unsigned w d)) → signed_at w c p ≡ d
 distance_back w kind d c p fits s =
     let word : IsWord w = by_archive_word IsWord (inr (inr (inl refl))) (inr (inr (inr refl))) w
     kind in
@@ -90,11 +94,13 @@ distance_back w kind d c p fits s =
     (sym (word_bytes w word n)) ∙ s.there) ∙ word_reads_back w word n (Fits-of_z fits).fits in
     ap (cast_signed w) there ∙ to_z-of_z w d fits
 
-module _ {P X R : Type 0} (w : Width) (kind : IsArchiveWord w) (ps : Shape) (e : Encoding P)
+module _ {P X R : Type 0} (w : Width) (kind : IsArchiveWord w) (ps : ElementSpec) (e : Encoding P)
     (pe : IsElement ps) (pk : IsScalar ps e) (place : IsPlace w e) (back : CodesReadBack e)
-    (s : Shape) (laws : IsElement s)
-    (stands : List ℕ → ℕ → X → Type 0) (f : Format X R) (fl : IsFormat s stands f) (own : X → ℕ)
-    (hash : List ℕ → ℕ → ℕ) (alike : (x : X) (b : List ℕ) (q : ℕ) → Standing s b q → stands b q
+    (s : ElementSpec) (laws : IsElement s)
+    (represents : List ℕ → ℕ → X → Type 0) (f : Format X R) (fl : IsFormat s represents f) (own : X
+    → ℕ)
+    (hash : List ℕ → ℕ → ℕ) (same_calls : (x : X) (b : List ℕ) (q : ℕ) → ValidAt s b q
+    → represents b q
     x → own x ≡ hash b q)
     (factor : ℕ × ℕ) where
   module _ (xs : List X) where
@@ -104,11 +110,11 @@ module _ {P X R : Type 0} (w : Width) (kind : IsArchiveWord w) (ps : Shape) (e :
     count : length Places ≡ length xs
     count = places_count own e.value 0 xs
 
-    module _ (c : List ℕ) (p : ℕ) (stand : TableStands w ps (ScalarStands e) factor
+    module _ (c : List ℕ) (p : ℕ) (all_valid : TableRepresents w ps (ScalarRepresents e) factor
         c p Places) where
-      tw : IsWrittenOf w (byte_len e.word) (ScalarStands e) c p Places
-      tw = subst (λ n. IsWrittenOf w n (ScalarStands e) c p Places) pk.size
-          (table_written w ps (ScalarStands e) factor c p Places stand)
+      tw : IsWrittenOf w (byte_len e.word) (ScalarRepresents e) c p Places
+      tw = subst (λ n. IsWrittenOf w n (ScalarRepresents e) c p Places) pk.size
+          (table_written w ps (ScalarRepresents e) factor c p Places all_valid)
 
       hashes_count : length (hashes_of Places) ≡ length xs
       hashes_count = length-map Places (λ (y : ℕ × P). y.0) ∙ count
@@ -135,7 +141,7 @@ module _ {P X R : Type 0} (w : Width) (kind : IsArchiveWord w) (ps : Shape) (e :
       walked_below i walked = elim tw.written.placed [
         | inl none ↦
             let n : length xs ≡ 0 = sym hashes_count ∙ ap length none.0 in
-            let z : cap_at w c p ≡ 0 = stand.cap ∙ ap (λ k. capacity k factor) (count ∙ n) in
+            let z : cap_at w c p ≡ 0 = all_valid.cap ∙ ap (λ k. capacity k factor) (count ∙ n) in
             absurd (omega (arith, walked.0, z))
         | inr some ↦
             let visits = walked_homes (cap_at w c p) (hashes_of Places) tw.homes _ some.0
@@ -181,7 +187,7 @@ module _ {P X R : Type 0} (w : Width) (kind : IsArchiveWord w) (ps : Shape) (e :
     module _ (r : IndexResolver) (c : List ℕ) (p0 p : ℕ) (part out : List ℕ)
         (t : IndexParts w ps e s f own factor xs p0 part r)
         (i : IsIndexHeader w r.table.len (resolved_capacity r.table) r p out)
-        (sp : Sits c p0 part) (so : Sits c p out) (o : p0 + length part ≤ p)
+        (sp : OccursAt c p0 part) (so : OccursAt c p out) (o : p0 + length part ≤ p)
         (al : p % byte_len w ≡ 0) where
       abbrev row : List ℕ
       row = t.row
@@ -195,16 +201,16 @@ module _ {P X R : Type 0} (w : Width) (kind : IsArchiveWord w) (ps : Shape) (e :
       abbrev begin : ℕ
       begin = r.entries
 
-      front_sits : Sits c p0 t.front
-      front_sits = sits_front c p0 t.front row (subst (Sits c p0) t.is sp)
+      front_sits : OccursAt c p0 t.front
+      front_sits = occurs_front c p0 t.front row (subst (OccursAt c p0) t.is sp)
 
-      row_sits : Sits c begin row
-      row_sits = subst (λ k. Sits c k row) (sym t.at) (sits_back c p0 t.front row
-          (subst (Sits c p0) t.is sp))
+      row_sits : OccursAt c begin row
+      row_sits = subst (λ k. OccursAt c k row) (sym t.at) (occurs_back c p0 t.front row
+          (subst (OccursAt c p0) t.is sp))
 
-      head_sits : Sits c p0 (zb.table ++ zb.row)
-      head_sits = subst (Sits c p0) zb.is (sits_front c p0 t.before.head pad
-          (subst (Sits c p0) t.before.is front_sits))
+      head_sits : OccursAt c p0 (zb.table ++ zb.row)
+      head_sits = subst (OccursAt c p0) zb.is (occurs_front c p0 t.before.head pad
+          (subst (OccursAt c p0) t.before.is front_sits))
 
       front_length : length t.front ≡ length t.before.head + padding s.align
           (p0 + length t.before.head)
@@ -219,7 +225,7 @@ module _ {P X R : Type 0} (w : Width) (kind : IsArchiveWord w) (ps : Shape) (e :
       part_length = ap length t.is ∙ length-append t.front row
 
       row_length : length row ≡ length xs * s.size
-      row_length = images_length s laws stands f fl xs t.resolvers begin row t.shown
+      row_length = images_length s laws represents f fl xs t.resolvers begin row t.shown
 
       begin_aligned : begin % s.align ≡ 0
       begin_aligned =
@@ -233,14 +239,14 @@ module _ {P X R : Type 0} (w : Width) (kind : IsArchiveWord w) (ps : Shape) (e :
       table_length = ap length i.header.is ∙ header_length w kind i.header.distance r.table.len
           (resolved_capacity r.table)
 
-      header_sits : Sits c p (i.table ++ to_le_bytes w (cast_unsigned w i.distance))
-      header_sits = subst (Sits c p) i.is so
+      header_sits : OccursAt c p (i.table ++ to_le_bytes w (cast_unsigned w i.distance))
+      header_sits = subst (OccursAt c p) i.is so
 
-      told : entries_told w c p ≡ pos begin
+      told : decode_entries w c p ≡ pos begin
       told =
           let d = distance_back w kind i.distance c (distance_pos w p) i.fits
-          (subst (λ k. Sits c (p + k) (to_le_bytes w (cast_unsigned w i.distance))) table_length
-          (sits_back c p i.table (to_le_bytes w (cast_unsigned w i.distance)) header_sits)) in
+          (subst (λ k. OccursAt c (p + k) (to_le_bytes w (cast_unsigned w i.distance))) table_length
+          (occurs_back c p i.table (to_le_bytes w (cast_unsigned w i.distance)) header_sits)) in
           let k : pos (distance_pos w p) +ℤ (pos begin -ℤ pos (distance_pos w p)) ≡ pos begin =
           omega (arith, ints) in
           ap (λ z. pos (distance_pos w p) +ℤ z) (d ∙ i.told) ∙ k
@@ -249,12 +255,12 @@ module _ {P X R : Type 0} (w : Width) (kind : IsArchiveWord w) (ps : Shape) (e :
       place_told = ap unsigned_abs told
 
       table : (l : ℕ) × TableHolds w ps c p p0 (p0 + length zb.table) l
-          × TableStands w
-          ps (ScalarStands e) factor c p Places
-      table = (table_is_format w kind ps pe (ScalarStands e)
+          × TableRepresents w
+          ps (ScalarRepresents e) factor c p Places
+      table = (table_is_format w kind ps pe (ScalarRepresents e)
           (scalar_format e) (scalar_is_format ps e pk) factor).sound Places r.table c p0 p zb.table
           i.table
-          zb.made i.header (sits_front c p0 zb.table zb.row head_sits) (sits_front c p i.table
+          zb.made i.header (occurs_front c p0 zb.table zb.row head_sits) (occurs_front c p i.table
           (to_le_bytes w (cast_unsigned w i.distance)) header_sits)
           (omega (arith, o, part_length, front_length, head_length)) al
 
@@ -263,24 +269,25 @@ module _ {P X R : Type 0} (w : Width) (kind : IsArchiveWord w) (ps : Shape) (e :
 
       rows : (l : ℕ) × AllHold s (λ k. begin + k * s.size) c begin (range_with_len 0 (length xs))
           (p0 + length zb.table) l × (l ≤ (p0 + length zb.table) + length zb.row)
-          × ((j : ℕ) (x : X) → slice_get xs j ≡ Some x → Standing s c (begin + (0 + j) * s.size)
-          × stands c (begin + (0 + j) * s.size) x)
+          × ((j : ℕ) (x : X) → slice_get xs j ≡ Some x → ValidAt s c (begin + (0 + j) * s.size)
+          × represents c (begin + (0 + j) * s.size) x)
       rows =
-          row_sound s laws stands f fl c begin xs 0 (p0 + length zb.table) zb.row row t.resolvers
+          row_sound s laws represents f fl c begin xs 0
+          (p0 + length zb.table) zb.row row t.resolvers
           zb.parts (subst (λ k. RowImages f xs t.resolvers k row) first_place t.shown)
-          (sits_back c p0 zb.table zb.row head_sits) (subst (λ k. Sits c k row) first_place
+          (occurs_back c p0 zb.table zb.row head_sits) (subst (λ k. OccursAt c k row) first_place
           row_sits)
           (omega (arith, t.at, front_length, head_length)) (subst (λ k. k % s.align ≡ 0)
           first_place begin_aligned)
 
-      stand : TableStands w ps (ScalarStands e) factor c p Places
-      stand = table.2
+      all_valid : TableRepresents w ps (ScalarRepresents e) factor c p Places
+      all_valid = table.2
 
       len_told : len_at w c p ≡ length xs
-      len_told = stand.len ∙ count
+      len_told = all_valid.len ∙ count
 
       abbrev homes : List ℕ
-      homes = (tw c p stand).homes
+      homes = (tw c p all_valid).homes
 
       at_told : (j : ℕ) → begin + (0 + j) * s.size ≡ pair_pos w s.size c p j
       at_told j =
@@ -293,30 +300,31 @@ module _ {P X R : Type 0} (w : Width) (kind : IsArchiveWord w) (ps : Shape) (e :
           hashes_there own e.value (pair_pos w s.size c p) (hash c) 0 xs (λ j x there.
           let z : j ≡ 0 + j = omega arith in
           let st = rows.3 j x there in
-          alike x c (begin + (0 + j) * s.size) st.0 st.1 ∙ ap (hash c) (at_told j)
+          same_calls x c (begin + (0 + j) * s.size) st.0 st.1 ∙ ap (hash c) (at_told j)
           ∙ ap (λ k. hash c (pair_pos w s.size c p k)) z)
           ∙ ap (λ n. map (λ k. hash c (pair_pos w s.size c p k)) (places_of n)) (sym len_told)
 
-      row_stands : RowStands w s.size stands hash factor c p xs
-      row_stands = record {
+      row_represents : RowRepresents w s.size represents hash factor c p xs
+      row_represents = record {
         homes = homes;
         written = record {
           table = subst (λ (hs : List ℕ). WrittenAt w c p hs homes) hashes_told
-              (tw c p stand).written;
-          places = places_are c p stand ∙ ap places_of (sym len_told);
+              (tw c p all_valid).written;
+          places = places_are c p all_valid ∙ ap places_of (sym len_told);
         };
         len = len_told;
-        cap = stand.cap ∙ ap (λ n. capacity n factor) count;
-        at = λ j x there. subst (λ q. stands c q x) (at_told j) (rows.3 j x there).1;
+        cap = all_valid.cap ∙ ap (λ n. capacity n factor) count;
+        at = λ j x there. subst (λ q. represents c q x) (at_told j) (rows.3 j x there).1;
       }
 
-      table_law : IsElement (table_shape w ps)
+      table_law : IsElement (table_spec w ps)
       table_law = table_element w kind ps pe
 
       holds : (l : ℕ) × IndexHolds w s c p p0 (p0 + length part) l
       holds =
-          let b = table_law.between c p p0 (p0 + length zb.table) table.0 (omega arith) table.1 in
-          let up = table_law.higher c p p0 (p0 + length zb.table) (p0 + length part) table.0
+          let b = table_law.rest_in_range c p p0 (p0 + length zb.table) table.0
+          (omega arith) table.1 in
+          let up = table_law.widen_hi c p p0 (p0 + length zb.table) (p0 + length part) table.0
           (omega (arith, part_length, front_length, head_length)) table.1 in
           let low = all_lower s laws (λ k. begin + k * s.size) c begin
           (range_with_len 0 (length xs))
@@ -329,7 +337,7 @@ module _ {P X R : Type 0} (w : Width) (kind : IsArchiveWord w) (ps : Shape) (e :
               middle = table.0;
               table = words_hold w ps e pk place c p p0 (p0 + length part) table.0 up;
               below = subst (λ n. PlacesBelow w c n (item_positions w (byte_len w) c p))
-                  (sym len_told) (places_below c p stand);
+                  (sym len_told) (places_below c p all_valid);
               entries = record {
                 begin = begin;
                 part = record {
@@ -362,56 +370,57 @@ module _ {P X R : Type 0} (w : Width) (kind : IsArchiveWord w) (ps : Shape) (e :
       ap length i.is ∙ length-append i.table (to_le_bytes w (cast_unsigned w i.distance))
       ∙ omega (arith, t, n)
 
-  header_clear : (r : IndexResolver) (p : ℕ) (out : List ℕ) → IsIndexHeader w r.table.len
+  header_exclusive : (r : IndexResolver) (p : ℕ) (out : List ℕ) → IsIndexHeader w r.table.len
       (resolved_capacity r.table) r p out
-      → IndexFar w r.table.len r p → ⊥
-  header_clear r p out i (inl far) = elim i.header.told [
-    | inl h ↦ omega (arith, h.0, far.0)
-    | inr h ↦ far.1 (subst (FitsSigned w) h.1 i.header.fits)
+      → IndexOverflows w r.table.len r p → ⊥
+  header_exclusive r p out i (inl overflow) = elim i.header.told [
+    | inl h ↦ omega (arith, h.0, overflow.0)
+    | inr h ↦ overflow.1 (subst (FitsSigned w) h.1 i.header.fits)
   ]
-  header_clear r p out i (inr far) = far (subst (FitsSigned w) i.told i.fits)
+  header_exclusive r p out i (inr overflow) = overflow (subst (FitsSigned w) i.told i.fits)
 
   -- Written bytes of values and an aligned header behind them are a valid index map in any archive
   -- that has them. It represents the values.
-  pub row_is_format : IsFormat (index_shape w s) (RowStands w s.size stands hash factor)
+  pub row_is_format : IsFormat (index_spec w s) (RowRepresents w s.size represents hash factor)
       (row_format w ps e s f own factor)
   row_is_format = record {
-    whole = λ xs r p out i. header_whole r p out i;
-    clear = λ xs r p out i far. header_clear r p out i far;
+    size_exact = λ xs r p out i. header_whole r p out i;
+    exclusive = λ xs r p out i overflow. header_exclusive r p out i overflow;
     sound = λ xs r c p0 p part out t i sp so o al.
         let h = holds xs r c p0 p part out t i sp so o al in (
           h.0,
           h.1,
-          row_stands xs r c p0 p part out t i sp so o al,
+          row_represents xs r c p0 p part out t i sp so o al,
         );
   }
 
 -- each valid key has the hash of the value `a` that it represents
-abbrev pub HashesAlike : {A : Type 0} → Shape → (List ℕ → ℕ → A → Type 0) → (List ℕ → ℕ → ℕ)
+abbrev pub HashesAlike : {A : Type 0} → ElementSpec → (List ℕ → ℕ → A → Type 0) → (List ℕ → ℕ → ℕ)
     → (A → ℕ) → Type 0
-HashesAlike {A = A} k key hash own = (a : A) (b : List ℕ) (q : ℕ) → Standing k b q → key b q a
+HashesAlike {A = A} k key hash own = (a : A) (b : List ℕ) (q : ℕ) → ValidAt k b q → key b q a
     → own a ≡ hash b q
 
 -- the same for the pairs of an index map
-pub index_is_format : {P A B R Q : Type 0} (w : Width) (kind : IsArchiveWord w) (ps : Shape)
+pub index_is_format : {P A B R Q : Type 0} (w : Width) (kind : IsArchiveWord w) (ps : ElementSpec)
     (e : Encoding P) (pe : IsElement ps) (pk : IsScalar ps e) (place : IsPlace w e)
-    (back : CodesReadBack e) (k v : Shape)
+    (back : CodesReadBack e) (k v : ElementSpec)
     (kl : IsElement k) (vl : IsElement v)
     (key : List ℕ → ℕ → A → Type 0) (value : List ℕ → ℕ → B → Type 0) (kf : Format A R)
     (vf : Format B Q) → IsFormat k key kf → IsFormat v value vf
     → (own : A → ℕ) (hash : List ℕ → ℕ → ℕ) → HashesAlike k key hash own → (factor : ℕ × ℕ)
-    → IsFormat (index_shape w (entry_shape k v)) (IndexStands w k v key value hash factor)
+    → IsFormat (index_spec w (entry_spec k v)) (IndexRepresents w k v key value hash factor)
     (index_format w ps e k v kf vf own factor)
-index_is_format w kind ps e pe pk place back k v kl vl key value kf vf kw vw own hash alike factor =
-    row_is_format w kind ps e pe pk place back (entry_shape k v) (entry_element k v kl vl)
-    (PairStands k v key value) (pair_format k v kf vf) (pair_is_format k v kl vl key value kf vf
+index_is_format w kind ps e pe pk place back k v kl vl key value kf vf kw vw own hash same_calls
+    factor =
+    row_is_format w kind ps e pe pk place back (entry_spec k v) (entry_element k v kl vl)
+    (PairRepresents k v key value) (pair_format k v kf vf) (pair_is_format k v kl vl key value kf vf
     kw vw)
-    (λ pair. own pair.0) hash (λ pair b q h st. alike pair.0 b q (h.1.1, h.1.2) st.0) factor
+    (λ pair. own pair.0) hash (λ pair b q h st. same_calls pair.0 b q (h.1.1, h.1.2) st.0) factor
 
 module _ {State : Type 0} (hasher : Hasher State)
-    (w : Width) (kind : IsArchiveWord w) {P : Type 0} (ps : Shape) (e : Encoding P)
+    (w : Width) (kind : IsArchiveWord w) {P : Type 0} (ps : ElementSpec) (e : Encoding P)
     (pe : IsElement ps) (pk : IsScalar ps e) (place : IsPlace w e) (back : CodesReadBack e)
-    {k v : Shape} (kl : IsElement k) (vl : IsElement v) {A B : Type 0} {key : List ℕ → ℕ → A
+    {k v : ElementSpec} (kl : IsElement k) (vl : IsElement v) {A B : Type 0} {key : List ℕ → ℕ → A
     → Type 0} {value : List ℕ → ℕ → B → Type 0} {same : Comparison} {key_calls : List ℕ → ℕ
     → List HasherCall} (factor : ℕ × ℕ) where
   -- the same for the hashes of native keys
@@ -420,12 +429,12 @@ module _ {State : Type 0} (hasher : Hasher State)
       → IsQuery k same key_calls can_read calls fits → FitsItsEqual k key equal fits
       → ((a : A) → equal a a ≡ true) → ((a : A) → can_read a)
       → IsFormat k key kf → IsFormat v value vf
-      → IsFormat (index_shape w (entry_shape k v)) (IndexStands w k v key value
+      → IsFormat (index_spec w (entry_spec k v)) (IndexRepresents w k v key value
       (hash_at hasher key_calls) factor) (index_format w ps e k v kf vf
       (hash_of hasher calls) factor)
   index_sound {can_read} {calls} {fits} {equal} {R} {Q} {kf} {vf} query native itself reads kw vw =
       index_is_format w kind ps e pe pk place back k v kl vl key value kf vf kw vw
       (hash_of hasher calls) (hash_at hasher key_calls)
-      (λ a b q stands there. ap (hash_of_calls hasher) (hashes_as_written k same
-      key_calls can_read calls fits key equal itself query native a b q (reads a) stands there))
+      (λ a b q represents there. ap (hash_of_calls hasher) (hashes_as_written k same
+      key_calls can_read calls fits key equal itself query native a b q (reads a) represents there))
       factor

@@ -1,51 +1,55 @@
 -- The laws of an archived list of keys as an index set.
 use Rattle.std.specs.Prelude.{◌≡◌, ℕ, Bool, true, List}
 use Rattle.std.specs.Int.{Width}
-use Rattle.rkyv_base.specs.Empty.{unit_element, unit_format, unit_is_format, unit_near, unit_shape}
-use Rattle.rkyv_base.specs.Empty.{unit_stands}
-use Rattle.rkyv_base.specs.Format.{Format, IsFormat, StandsNear}
+use Rattle.rkyv_base.specs.Empty.{unit_format, unit_spec}
+use Rattle.rkyv_base.specs.Lemmas.Empty.{unit_element, unit_is_format, unit_local}
+use Rattle.rkyv_base.specs.Empty.{unit_represents}
+use Rattle.rkyv_base.specs.Format.{Format, IsFormat, RepresentsLocally}
 use Rattle.rkyv_base.specs.Layout.{IsPlace}
-use Rattle.rkyv_base.specs.Pairs.{written_as-format}
+use Rattle.rkyv_base.specs.Lemmas.Pairs.{written_as-format}
 use Rattle.rkyv_base.specs.Scalar.{Encoding, IsScalar}
-use Rattle.rkyv_base.specs.Shape.{IsElement, Shape}
+use Rattle.rkyv_base.specs.ElementSpec.{IsElement, ElementSpec}
 use Rattle.rkyv_base.specs.Text.{IsArchiveWord}
 use Rattle.rkyv_keys.specs.Equality.{Comparison}
 use Rattle.rkyv_keys.specs.Keys.{FitsItsEqual, IsKey, IsQuery}
 use Rattle.rkyv_scan.specs.Hash.{Hasher, HasherCall}
 use Rattle.rkyv_index.specs.Index.{hash_at}
 use Rattle.rkyv_index.specs.IndexFormat.{hash_of}
-use Rattle.rkyv_index.specs.IndexFormat.{CodesReadBack, IndexStands, index_format}
-use Rattle.rkyv_index.specs.Lemmas.IndexNear.{index_stands_near}
+use Rattle.rkyv_index.specs.IndexFormat.{CodesReadBack, IndexRepresents, index_format}
+use Rattle.rkyv_index.specs.Lemmas.IndexLocal.{index_represents_local}
 use Rattle.rkyv_index.specs.Lemmas.IndexSound.{index_sound}
-use Rattle.rkyv_index.specs.IndexSet.{index_set_shape}
-use Rattle.rkyv_index.specs.SetFormat.{IndexSetStands, index_set_format}
-use Rattle.rkyv_table.specs.Table.Lent.{with_units}
+use Rattle.rkyv_index.specs.IndexSet.{index_set_spec}
+use Rattle.rkyv_index.specs.SetFormat.{IndexSetRepresents, index_set_format}
+use Rattle.rkyv_table.specs.Table.ItemValues.{with_units}
 
 module _ {State : Type 0} (hasher : Hasher State)
-    (w : Width) (kind : IsArchiveWord w) {k : Shape} (kl : IsElement k)
+    (w : Width) (kind : IsArchiveWord w) {k : ElementSpec} (kl : IsElement k)
     {A : Type 0} {key : List ℕ → ℕ → A → Type 0} {same : Comparison} {key_calls : List ℕ → ℕ
     → List HasherCall} (factor : ℕ × ℕ) where
   -- the list that an index set represents depends only on the bytes of its header and its parts
-  pub index_set_near : IsKey k same key_calls → StandsNear k key → StandsNear (index_set_shape w k)
-      (IndexSetStands w k key (hash_at hasher key_calls) factor)
-  index_set_near law kn keys = index_stands_near hasher w kind kl unit_element factor
-      law kn unit_near (with_units keys)
+  pub index_set_local : IsKey k same key_calls → RepresentsLocally k key
+      → RepresentsLocally (index_set_spec w k)
+      (IndexSetRepresents w k key (hash_at hasher key_calls) factor)
+  index_set_local law kn keys = index_represents_local hasher w kind kl unit_element factor
+      law kn unit_local (with_units keys)
 
   -- written bytes of an index set and its header are a valid index set that represents the keys,
   -- in any archive that has them
-  pub index_set_sound : {P : Type 0} (ps : Shape) (e : Encoding P) → IsElement ps → IsScalar ps e
+  pub index_set_sound : {P : Type 0} (ps : ElementSpec) (e : Encoding P) → IsElement ps
+      → IsScalar ps e
       → IsPlace w e → CodesReadBack e → {can_read : A → Type 0} {calls : A
       → List HasherCall} {fits : A → List ℕ → ℕ
       → Bool} {equal : A → A → Bool} {R : Type 0} {kf : Format A R}
       → IsQuery k same key_calls can_read calls fits → FitsItsEqual k key equal fits
       → ((a : A) → equal a a ≡ true) → ((a : A) → can_read a) → IsFormat k key kf
-      → IsFormat (index_set_shape w k) (IndexSetStands w k key (hash_at hasher
+      → IsFormat (index_set_spec w k) (IndexSetRepresents w k key (hash_at hasher
       key_calls) factor) (index_set_format w ps e k kf (hash_of hasher calls) factor)
   index_set_sound ps e pe pk place back {can_read} {calls} {fits} {equal} {R} {kf} query native
       itself
       reads kw =
-      written_as-format with_units (index_set_shape w k) (IndexStands w k unit_shape key unit_stands
+      written_as-format with_units (index_set_spec w k)
+      (IndexRepresents w k unit_spec key unit_represents
       (hash_at hasher key_calls) factor)
-      (index_format w ps e k unit_shape kf unit_format (hash_of hasher calls) factor)
+      (index_format w ps e k unit_spec kf unit_format (hash_of hasher calls) factor)
       (index_sound hasher w kind ps e pe pk place back kl unit_element factor query native
       itself reads kw unit_is_format)

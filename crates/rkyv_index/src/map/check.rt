@@ -7,19 +7,19 @@
 ghost use Rattle.std.specs.Prelude.{IfErr, IfOk, MatchResult, length, pos as int, ◌%◌, ◌*◌, ◌+ℤ◌};
 ghost use Rattle.std.specs.Prelude.{◌+◌, ◌<◌, ◌≡◌, ◌≤◌};
 ghost use Rattle.std.specs.Int.{byte_len};
-ghost use Rattle.rkyv_base.specs.Shape.{Viewed};
+ghost use Rattle.rkyv_base.specs.ElementSpec.{Viewable};
 ghost use Rattle.rkyv_table.specs.Table.Header.{len_at};
 ghost use Rattle.rkyv_table.specs.Table.Places.{FirstFails, SomeHold};
 ghost use Rattle.rkyv_table.specs.Table.Positions.{item_positions};
-ghost use Rattle.rkyv_table.specs.Table.Layout.{table_shape};
+ghost use Rattle.rkyv_table.specs.Table.Layout.{table_spec};
 ghost use Rattle.rkyv_index.specs.IndexLayout.{
   EntriesFail,
   EntriesIn,
   FirstNotBelow,
   PlacesBelow,
-  entries_told,
+  decode_entries,
   entry_at,
-  place_shape,
+  place_spec,
   places_of,
 };
 
@@ -42,7 +42,7 @@ use rkyv_table::table::{ArchivedHashTable, TableOf};
 ///
 /// - `PlaceOutOfRange`: the first index that isn't below the length.
 pub(crate) fn check_places<W: Width>(bytes: &[u8], pos: u64) -> Result<usize, VerifyError>
-    requires { Viewed (table_shape W.word (place_shape W.word)) bytes.now pos }
+    requires { Viewable (table_spec W.word (place_spec W.word)) bytes.now pos }
     ensures below { IfOk result (λ _. PlacesBelow W.word bytes.now (len_at W.word bytes.now pos)
         (item_positions W.word (byte_len W.word) bytes.now pos)) }
     ensures len { IfOk result (λ n. n ≡ len_at W.word bytes.now pos) }
@@ -76,12 +76,12 @@ fn check_entries<T: Element>(
     len: usize,
     lo: u64,
 ) -> Result<(), VerifyError>
-    requires inside { begin + len * T.shape.size ≤ length bytes.now }
-    requires aligned { begin % T.shape.align ≡ 0 }
+    requires inside { begin + len * T.spec.size ≤ length bytes.now }
+    requires aligned { begin % T.spec.align ≡ 0 }
     requires ordered { lo ≤ begin }
-    ensures hold { IfOk result (λ _. SomeHold T.shape (entry_at T.shape.size begin) bytes.now begin
+    ensures hold { IfOk result (λ _. SomeHold T.spec (entry_at T.spec.size begin) bytes.now begin
         (places_of len) lo) }
-    ensures fails { IfErr result (FirstFails T.shape (entry_at T.shape.size begin) bytes.now begin
+    ensures fails { IfErr result (FirstFails T.spec (entry_at T.spec.size begin) bytes.now begin
         (places_of len) lo) }
 {
     let mut low = lo;
@@ -96,9 +96,9 @@ fn check_entries<T: Element>(
 
 /// Returns the position at which the entries begin, by the distance in the header at `pos`.
 #[inline]
-pub(crate) fn begin_told<W: Width>(bytes: &[u8], pos: u64) -> i128
+pub(crate) fn decode_begin<W: Width>(bytes: &[u8], pos: u64) -> i128
     requires inside { pos + 4 * byte_len W.word ≤ length bytes.now }
-    ensures told { result ≡ entries_told W.word bytes.now pos }
+    ensures told { result ≡ decode_entries W.word bytes.now pos }
 {
     let at = pos + 3 * W::ALIGN as u64;
     distance_target(at, W::read_distance(bytes, at as usize))
@@ -137,11 +137,11 @@ pub(crate) fn check_part<W: Width, T: Element>(
     requires header { pos + 4 * byte_len W.word ≤ length bytes.now }
     requires before { range.hi ≤ pos }
     ensures { MatchResult result
-        (EntriesIn T.shape bytes.now (entries_told W.word bytes.now pos) len range.lo range.hi)
-        (EntriesFail T.shape bytes.now (entries_told W.word bytes.now pos) len range.lo range.hi) }
+        (EntriesIn T.spec bytes.now (decode_entries W.word bytes.now pos) len range.lo range.hi)
+        (EntriesFail T.spec bytes.now (decode_entries W.word bytes.now pos) len range.lo range.hi) }
 {
     let size = T::size();
-    let told = begin_told::<W>(bytes, pos);
+    let told = decode_begin::<W>(bytes, pos);
     let begin = part_in(told, entries_size(len, size), T::align() as u64, range)?;
     check_entries::<T>(bytes, begin, len, range.lo)?;
     Ok(begin + (len * size) as u64)

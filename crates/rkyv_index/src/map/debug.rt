@@ -1,7 +1,7 @@
 //! Formatting of index maps by `Debug`.
-ghost use Rattle.rkyv_base.specs.Entry.{entry_shape};
-ghost use Rattle.rkyv_base.specs.View.{IsView};
-ghost use Rattle.rkyv_index.specs.IndexLayout.{index_shape};
+ghost use Rattle.rkyv_base.specs.Entry.{entry_spec};
+ghost use Rattle.rkyv_base.specs.View.{IsValidView};
+ghost use Rattle.rkyv_index.specs.IndexLayout.{index_spec};
 
 use crate::map::{ArchivedIndexMap, IndexMapOf};
 use rkyv_base::view::View;
@@ -11,7 +11,7 @@ use std::fmt::{self, Debug, Formatter, Write};
 
 impl<K: ElementDebug, V: ElementDebug, H, W: Width> ElementDebug for IndexMapOf<K, V, H, W> {
     fn debug<U: Write>(view: View<'_, IndexMapOf<K, V, H, W>>, f: &mut Formatter<U>) -> fmt::Result
-        requires { IsView (index_shape W.word (entry_shape K.shape V.shape)) view }
+        requires { IsValidView (index_spec W.word (entry_spec K.spec V.spec)) view }
     {
         let mut printed = f.debug_map();
         for (key, value) in ArchivedIndexMap::of(view).iter() {

@@ -8,7 +8,7 @@ use rkyv_base::element::Element;
 use rkyv_base::entry::Entry;
 use rkyv_base::errors::ReadError;
 use rkyv_base::width::Width;
-use rkyv_keys::reading::Deserialize;
+use rkyv_keys::deserialize::Deserialize;
 use std::alloc::Global;
 
 impl<'a, K: Element, V: Element, H, W: Width> ArchivedIndexMap<'a, K, V, H, W> {
@@ -20,7 +20,7 @@ impl<'a, K: Element, V: Element, H, W: Width> ArchivedIndexMap<'a, K, V, H, W> {
         V: Deserialize<B>,
         requires below { place < index_len self }
         ensures { MatchResult result
-            (IsPairRead K.stands V.stands self.entry place)
+            (IsPairRead K.represents V.represents self.entry place)
             (pair_refuses K.refuses V.refuses self.entry place) }
     {
         Entry::<K, V>::deserialize(alloc, self.entries().entry(place))
@@ -52,7 +52,7 @@ impl<'a, K: Element, V: Element, H, W: Width> ArchivedIndexMap<'a, K, V, H, W> {
         K: Deserialize<A>,
         V: Deserialize<B>,
         ensures { MatchResult result
-            (λ list. ReadsPairs K.stands V.stands self.entry list.items)
+            (λ list. ReadsPairs K.represents V.represents self.entry list.items)
             (pairs_refuse K.refuses V.refuses self.entry) }
     {
         let mut list = Vec::new(alloc);

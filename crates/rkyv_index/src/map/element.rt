@@ -1,21 +1,22 @@
 //! The header of an index map as an element, and its validator.
-ghost use Rattle.rkyv_base.specs.Entry.{entry_element, entry_shape};
-ghost use Rattle.rkyv_index.specs.IndexLayout.{index_shape};
+ghost use Rattle.rkyv_base.specs.Entry.{entry_spec};
+ghost use Rattle.rkyv_base.specs.Lemmas.Entry.{entry_element};
+ghost use Rattle.rkyv_index.specs.IndexLayout.{index_spec};
 ghost use Rattle.rkyv_index.specs.Lemmas.IndexLaws.{index_element};
 
 use crate::map::IndexMapOf;
 use crate::map::check::{check_part, check_places};
-use rkyv_base::element::{Element, PartRange, Shaped};
+use rkyv_base::element::{Element, HasSpec, PartRange};
 use rkyv_base::entry::Entry;
 use rkyv_base::errors::VerifyError;
 use rkyv_base::width::{Width, Word};
 use rkyv_table::table::ArchivedHashTable;
 
-impl<K: Shaped, V: Shaped, H, W: Word> Shaped for IndexMapOf<K, V, H, W> {
-    ghost shape = { index_shape W.word (entry_shape K.shape V.shape) };
+impl<K: HasSpec, V: HasSpec, H, W: Word> HasSpec for IndexMapOf<K, V, H, W> {
+    ghost spec = { index_spec W.word (entry_spec K.spec V.spec) };
 
-    ghost laws = { index_element W.word W.kind (entry_shape K.shape V.shape)
-        (entry_element K.shape V.shape K.laws V.laws) };
+    ghost laws = { index_element W.word W.kind (entry_spec K.spec V.spec)
+        (entry_element K.spec V.spec K.laws V.laws) };
 }
 
 impl<K: Element, V: Element, H, W: Width> Element for IndexMapOf<K, V, H, W> {

@@ -1,17 +1,17 @@
 //! The entries of an index map, and the indices in its table.
 ghost use Rattle.std.specs.Prelude.{length, ◌*◌, ◌+◌, ◌<◌, ◌^◌, ◌≡◌, ◌≤◌};
 ghost use Rattle.std.specs.Int.{byte_len};
-ghost use Rattle.rkyv_base.specs.Entry.{entry_shape};
-ghost use Rattle.rkyv_base.specs.View.{IsAt, IsView, bytes_of, pos_of};
+ghost use Rattle.rkyv_base.specs.Entry.{entry_spec};
+ghost use Rattle.rkyv_base.specs.View.{IsAt, IsValidView, bytes_of, pos_of};
 ghost use Rattle.rkyv_table.specs.Table.Header.{len_at};
 ghost use Rattle.rkyv_table.specs.Table.Reading.{CountsWithin};
 ghost use Rattle.rkyv_index.specs.Index.{AnswersPlace, AreEntries, FindsHeld, IsEntryOf};
 ghost use Rattle.rkyv_index.specs.Index.{IsKeyIn, IsPairOf, MayAskPlace, MayAskPlaces};
 ghost use Rattle.rkyv_index.specs.Index.{index_archive, index_len, index_pos, place_at};
-ghost use Rattle.rkyv_index.specs.IndexLayout.{entries_pos, entry_at, index_shape};
+ghost use Rattle.rkyv_index.specs.IndexLayout.{entries_pos, entry_at, index_spec};
 
 use crate::map::{ArchivedIndexMap, IndexMapOf};
-use rkyv_base::element::{Element, Shaped};
+use rkyv_base::element::{Element, HasSpec};
 use rkyv_base::entry::Entry;
 use rkyv_base::view::{PairView, View};
 use rkyv_base::width::{Width, Word};
@@ -20,19 +20,19 @@ use rkyv_table::table::{ArchivedHashTable, TableOf};
 use std::alloc::AllocError;
 
 /// An index map and the position of its first entry.
-pub(crate) struct Entries<'a, K: Shaped, V: Shaped, H, W: Word> {
+pub(crate) struct Entries<'a, K: HasSpec, V: HasSpec, H, W: Word> {
     pub(crate) map: ArchivedIndexMap<'a, K, V, H, W>,
     pub(crate) begin: u64,
 }
 
-impl<'a, K: Shaped, V: Shaped, H, W: Word> Clone for Entries<'a, K, V, H, W> {
+impl<'a, K: HasSpec, V: HasSpec, H, W: Word> Clone for Entries<'a, K, V, H, W> {
     #[inline]
     fn clone(&self) -> Result<Entries<'a, K, V, H, W>, AllocError> {
         Ok(*self)
     }
 }
 
-impl<'a, K: Shaped, V: Shaped, H, W: Word> Copy for Entries<'a, K, V, H, W> {}
+impl<'a, K: HasSpec, V: HasSpec, H, W: Word> Copy for Entries<'a, K, V, H, W> {}
 
 /// Returns the position of entry `i` of a row of entries from `begin` on.
 #[inline]
@@ -97,10 +97,10 @@ pub(crate) fn key_in<'a, K: Element, V: Element, H, W: Width>(
     begin: u64,
     place: usize,
 ) -> View<'a, K>
-    requires map { IsView (index_shape W.word (entry_shape K.shape V.shape)) view }
+    requires map { IsValidView (index_spec W.word (entry_spec K.spec V.spec)) view }
     requires begin { begin ≡ entries_pos W.word (bytes_of view) (pos_of view) }
     requires below { place < len_at W.word (bytes_of view) (pos_of view) }
-    ensures { IsKeyIn W.word K.shape V.shape view.entry place result }
+    ensures { IsKeyIn W.word K.spec V.spec view.entry place result }
 {
     let at = entry_pos(begin, place, Entry::<K, V>::size());
     view.at::<Entry<K, V>>(at).key()

@@ -4,14 +4,15 @@
 //! that are values.
 ghost use Rattle.std.specs.Cmp.{partial_equiv_from_equiv};
 ghost use Rattle.std.specs.Prelude.{◌<◌, ◌≡◌};
-ghost use Rattle.rkyv_base.specs.Entry.{entry_element, entry_shape};
-ghost use Rattle.rkyv_base.specs.View.{IsView};
-ghost use Rattle.rkyv_keys.specs.OfEntries.{entry_equivalence};
+ghost use Rattle.rkyv_base.specs.Entry.{entry_spec};
+ghost use Rattle.rkyv_base.specs.Lemmas.Entry.{entry_element};
+ghost use Rattle.rkyv_base.specs.View.{IsValidView};
+ghost use Rattle.rkyv_keys.specs.Lemmas.OfEntries.{entry_equivalence};
 ghost use Rattle.rkyv_keys.specs.Places.{at_views};
 ghost use Rattle.rkyv_index.specs.Lemmas.EqualLaws.{index_equivalence};
-ghost use Rattle.rkyv_index.specs.Lemmas.ViewedEqual.{maps_equality};
+ghost use Rattle.rkyv_index.specs.Lemmas.ViewableEqual.{maps_equality};
 ghost use Rattle.rkyv_index.specs.Equality.{index_map_equal, index_maps_equal};
-ghost use Rattle.rkyv_index.specs.IndexLayout.{index_shape};
+ghost use Rattle.rkyv_index.specs.IndexLayout.{index_spec};
 
 use crate::map::{ArchivedIndexMap, IndexMapOf};
 use rkyv_base::entry::Entry;
@@ -68,13 +69,13 @@ impl<'a, K: ElementEquiv, V: ElementEquiv, H, W: Width> Eq for ArchivedIndexMap<
 }
 
 impl<K: ElementEq, V: ElementEq, H, W: Width> ElementEq for IndexMapOf<K, V, H, W> {
-    ghost same = { index_map_equal W.word K.shape V.shape K.same V.same };
+    ghost same = { index_map_equal W.word K.spec V.spec K.same V.same };
 
     #[inline]
     fn same(a: View<'_, IndexMapOf<K, V, H, W>>, b: View<'_, IndexMapOf<K, V, H, W>>) -> bool
-        requires a { IsView (index_shape W.word (entry_shape K.shape V.shape)) a }
-        requires b { IsView (index_shape W.word (entry_shape K.shape V.shape)) b }
-        ensures { result ≡ at_views (index_map_equal W.word K.shape V.shape K.same V.same)
+        requires a { IsValidView (index_spec W.word (entry_spec K.spec V.spec)) a }
+        requires b { IsValidView (index_spec W.word (entry_spec K.spec V.spec)) b }
+        ensures { result ≡ at_views (index_map_equal W.word K.spec V.spec K.same V.same)
             a.entry b.entry }
     {
         ArchivedIndexMap::of(a).eq_index(ArchivedIndexMap::of(b))
@@ -82,7 +83,7 @@ impl<K: ElementEq, V: ElementEq, H, W: Width> ElementEq for IndexMapOf<K, V, H, 
 }
 
 impl<K: ElementEquiv, V: ElementEquiv, H, W: Width> ElementEquiv for IndexMapOf<K, V, H, W> {
-    ghost equivalence = { index_equivalence W.word (entry_shape K.shape V.shape)
-        (entry_element K.shape V.shape K.laws V.laws) (entry_equivalence K.laws V.laws K.equivalence
+    ghost equivalence = { index_equivalence W.word (entry_spec K.spec V.spec)
+        (entry_element K.spec V.spec K.laws V.laws) (entry_equivalence K.laws V.laws K.equivalence
         V.equivalence) };
 }

@@ -12,18 +12,18 @@
 //! `get_index_of` returns the index of a key. The sealed lookups that end in `_with` take
 //! a comparison. `map::laws` has the laws of the map afterwards.
 ghost use Rattle.std.specs.Prelude.{length, ◌+◌, ◌<◌, ◌≡◌, ◌≤◌};
-ghost use Rattle.rkyv_base.specs.Entry.{entry_shape};
-ghost use Rattle.rkyv_base.specs.Scalar.{ScalarStands};
+ghost use Rattle.rkyv_base.specs.Entry.{entry_spec};
+ghost use Rattle.rkyv_base.specs.Scalar.{ScalarRepresents};
 ghost use Rattle.rkyv_base.specs.Sealing.{value_pos, with_value};
-ghost use Rattle.rkyv_base.specs.Shape.{Viewed};
+ghost use Rattle.rkyv_base.specs.ElementSpec.{Viewable};
 ghost use Rattle.rkyv_table.specs.Table.Header.{len_at};
 ghost use Rattle.rkyv_index.specs.Index.{hash_at};
-ghost use Rattle.rkyv_index.specs.IndexFormat.{IndexStands};
-ghost use Rattle.rkyv_index.specs.IndexLayout.{index_shape};
+ghost use Rattle.rkyv_index.specs.IndexFormat.{IndexRepresents};
+ghost use Rattle.rkyv_index.specs.IndexLayout.{index_spec};
 ghost use Rattle.rkyv_index.specs.ValueWrites.{KeepsIndexMap, SetsPlace, index_kind, pair_at};
 
 use crate::map::ArchivedIndexMap;
-use rkyv_base::element::{Element, StandsFor};
+use rkyv_base::element::{Element, Represents};
 use rkyv_base::scalars::Scalar;
 use rkyv_base::seal::set_at;
 use rkyv_base::view::View;
@@ -34,11 +34,11 @@ use rkyv_scan::hash::KeyHasher;
 /// Returns the position of the value at the index `place`, in the map at `root` of an archive.
 #[inline]
 fn value_pos_at<K: Element, V: Element, H, W: Width>(archive: &[u8], root: u64, place: usize) -> u64
-    requires map { Viewed (index_shape W.word (entry_shape K.shape V.shape)) archive.now root }
+    requires map { Viewable (index_spec W.word (entry_spec K.spec V.spec)) archive.now root }
     requires below { place < len_at W.word archive.now root }
-    ensures at { result ≡ value_pos K.shape V.shape
-        (pair_at W.word K.shape V.shape archive.now root place) }
-    ensures inside { result + V.shape.size ≤ length archive.now }
+    ensures at { result ≡ value_pos K.spec V.spec
+        (pair_at W.word K.spec V.spec archive.now root place) }
+    ensures inside { result + V.spec.size ≤ length archive.now }
 {
     let map = ArchivedIndexMap::<K, V, H, W>::of(View::new(archive, root));
     map.entries().entry(place).value().pos()
@@ -67,23 +67,23 @@ fn value_pos_at<K: Element, V: Element, H, W: Width>(archive: &[u8], root: u64, 
 ///     None => Ok(None),
 /// }
 /// ```
-pub fn set_value_at<A, K: KeyElement + StandsFor<A>, N: Scalar, H: KeyHasher, W: Width>(
+pub fn set_value_at<A, K: KeyElement + Represents<A>, N: Scalar, H: KeyHasher, W: Width>(
     archive: &mut [u8],
     root: u64,
     place: usize,
     value: N,
 )
-    requires map { Viewed (index_shape W.word (entry_shape K.shape N.shape))
+    requires map { Viewable (index_spec W.word (entry_spec K.spec N.spec))
         archive.old root }
     requires below { place < len_at W.word archive.old root }
     ensures written { archive.new ≡ with_value N.encoding archive.old
-        (value_pos K.shape N.shape
-        (pair_at W.word K.shape N.shape archive.old root place)) value }
+        (value_pos K.spec N.spec
+        (pair_at W.word K.spec N.spec archive.old root place)) value }
     ensures kept { KeepsIndexMap
-        (index_kind W.word K.shape N.shape (hash_at H.hasher K.key_calls))
+        (index_kind W.word K.spec N.spec (hash_at H.hasher K.key_calls))
         archive.old archive.new root place }
     ensures listed { SetsPlace
-        (IndexStands W.word K.shape N.shape K.stands (ScalarStands N.encoding)
+        (IndexRepresents W.word K.spec N.spec K.represents (ScalarRepresents N.encoding)
         (hash_at H.hasher K.key_calls)) archive.old archive.new root place value }
 {
     let pos = value_pos_at::<K, N, H, W>(&*archive, root, place);

@@ -3,14 +3,14 @@
 //! Each returns views, in order.
 ghost use Rattle.std.specs.Prelude.{length, ◌≡◌};
 ghost use Rattle.std.specs.Iterator.{at_most};
-ghost use Rattle.rkyv_base.specs.Entry.{entry_shape};
+ghost use Rattle.rkyv_base.specs.Entry.{entry_spec};
 ghost use Rattle.rkyv_table.specs.Table.Hints.{HintsExactly};
-ghost use Rattle.rkyv_table.specs.Table.RawItems.{AllStand};
+ghost use Rattle.rkyv_table.specs.Table.RawItems.{AllValid};
 ghost use Rattle.rkyv_index.specs.Index.{index_archive, index_len, key_positions};
 ghost use Rattle.rkyv_table.specs.Table.PairWalks.{TakesKey, TakesPair, TakesValue};
 
 use crate::map::ArchivedIndexMap;
-use rkyv_base::element::{Element, Shaped};
+use rkyv_base::element::{Element, HasSpec};
 use rkyv_base::entry::Entry;
 use rkyv_base::view::{PairView, View};
 use rkyv_base::width::Width;
@@ -18,7 +18,7 @@ use std::marker::{Model, PhantomData};
 
 /// The pairs of an index map that remain, in order.
 #[derive(Drop)]
-pub struct Iter<'a, K: Shaped, V: Shaped> {
+pub struct Iter<'a, K: HasSpec, V: HasSpec> {
     archive: &'a [u8],
     // The position of the next entry, if one remains.
     at: usize,
@@ -29,26 +29,26 @@ pub struct Iter<'a, K: Shaped, V: Shaped> {
     value: PhantomData<V>,
 }
 
-impl<'a, K: Shaped, V: Shaped> Model for Iter<'a, K, V> {
-    ghost use Rattle.rkyv_base.specs.Entry.{entry_shape};
+impl<'a, K: HasSpec, V: HasSpec> Model for Iter<'a, K, V> {
+    ghost use Rattle.rkyv_base.specs.Entry.{entry_spec};
     ghost use Rattle.rkyv_index.specs.Index.{row};
     ghost use Rattle.rkyv_index.specs.Walking.{IsWalk};
     ghost use Rattle.rkyv_table.specs.Table.RawItems.{ItemsLeft};
 
     ghost Value = { ItemsLeft };
 
-    ghost view = { λ i. record { archive = i.archive; places = row i.size i.at i.left } };
+    ghost view = { λ i. record { archive = i.archive; positions = row i.size i.at i.left } };
 
-    ghost invariant = { λ i. IsWalk (entry_shape K.shape V.shape) i.archive.now i.at i.size
+    ghost invariant = { λ i. IsWalk (entry_spec K.spec V.spec) i.archive.now i.at i.size
         i.left };
 }
 
 impl<'a, K: Element, V: Element> Iterator for Iter<'a, K, V> {
     type Item = PairView<'a, K, V>;
 
-    ghost next_gives = { TakesPair K.shape V.shape };
+    ghost next_gives = { TakesPair K.spec V.spec };
 
-    ghost remaining = { λ left. at_most (length left.places) };
+    ghost remaining = { λ left. at_most (length left.positions) };
 
     #[inline]
     fn next(&mut self) -> Option<PairView<'a, K, V>> {
@@ -63,7 +63,7 @@ impl<'a, K: Element, V: Element> Iterator for Iter<'a, K, V> {
 
     #[inline]
     fn size_hint(&self) -> (usize, Option<usize>)
-        ensures { HintsExactly result (length self.now.places) }
+        ensures { HintsExactly result (length self.now.positions) }
     {
         (self.left, Some(self.left))
     }
@@ -78,11 +78,11 @@ impl<'a, K: Element, V: Element> ExactSizeIterator for Iter<'a, K, V> {
 
 /// The keys of an index map that remain, in order.
 #[derive(Drop)]
-pub struct Keys<'a, K: Shaped, V: Shaped> {
+pub struct Keys<'a, K: HasSpec, V: HasSpec> {
     pairs: Iter<'a, K, V>,
 }
 
-impl<'a, K: Shaped, V: Shaped> Model for Keys<'a, K, V> {
+impl<'a, K: HasSpec, V: HasSpec> Model for Keys<'a, K, V> {
     ghost use Rattle.rkyv_table.specs.Table.RawItems.{ItemsLeft};
 
     ghost Value = { ItemsLeft };
@@ -93,9 +93,9 @@ impl<'a, K: Shaped, V: Shaped> Model for Keys<'a, K, V> {
 impl<'a, K: Element, V: Element> Iterator for Keys<'a, K, V> {
     type Item = View<'a, K>;
 
-    ghost next_gives = { TakesKey K.shape };
+    ghost next_gives = { TakesKey K.spec };
 
-    ghost remaining = { λ left. at_most (length left.places) };
+    ghost remaining = { λ left. at_most (length left.positions) };
 
     #[inline]
     fn next(&mut self) -> Option<View<'a, K>> {
@@ -107,7 +107,7 @@ impl<'a, K: Element, V: Element> Iterator for Keys<'a, K, V> {
 
     #[inline]
     fn size_hint(&self) -> (usize, Option<usize>)
-        ensures { HintsExactly result (length self.now.places) }
+        ensures { HintsExactly result (length self.now.positions) }
     {
         self.pairs.size_hint()
     }
@@ -122,11 +122,11 @@ impl<'a, K: Element, V: Element> ExactSizeIterator for Keys<'a, K, V> {
 
 /// The values of an index map that remain, in order.
 #[derive(Drop)]
-pub struct Values<'a, K: Shaped, V: Shaped> {
+pub struct Values<'a, K: HasSpec, V: HasSpec> {
     rest: Iter<'a, K, V>,
 }
 
-impl<'a, K: Shaped, V: Shaped> Model for Values<'a, K, V> {
+impl<'a, K: HasSpec, V: HasSpec> Model for Values<'a, K, V> {
     ghost use Rattle.rkyv_table.specs.Table.RawItems.{ItemsLeft};
 
     ghost Value = { ItemsLeft };
@@ -137,9 +137,9 @@ impl<'a, K: Shaped, V: Shaped> Model for Values<'a, K, V> {
 impl<'a, K: Element, V: Element> Iterator for Values<'a, K, V> {
     type Item = View<'a, V>;
 
-    ghost next_gives = { TakesValue K.shape V.shape };
+    ghost next_gives = { TakesValue K.spec V.spec };
 
-    ghost remaining = { λ left. at_most (length left.places) };
+    ghost remaining = { λ left. at_most (length left.positions) };
 
     #[inline]
     fn next(&mut self) -> Option<View<'a, V>> {
@@ -151,7 +151,7 @@ impl<'a, K: Element, V: Element> Iterator for Values<'a, K, V> {
 
     #[inline]
     fn size_hint(&self) -> (usize, Option<usize>)
-        ensures { HintsExactly result (length self.now.places) }
+        ensures { HintsExactly result (length self.now.positions) }
     {
         self.rest.size_hint()
     }
@@ -185,9 +185,9 @@ impl<'a, K: Element, V: Element, H, W: Width> ArchivedIndexMap<'a, K, V, H, W> {
     #[inline]
     pub fn iter(self) -> Iter<'a, K, V>
         ensures archive { result.archive ≡ index_archive self.entry }
-        ensures places { result.places ≡ key_positions self.entry }
-        ensures count { length result.places ≡ index_len self.entry }
-        ensures stand { AllStand (entry_shape K.shape V.shape) result }
+        ensures positions { result.positions ≡ key_positions self.entry }
+        ensures count { length result.positions ≡ index_len self.entry }
+        ensures all_valid { AllValid (entry_spec K.spec V.spec) result }
     {
         Iter {
             archive: self.view.bytes(),
@@ -203,9 +203,9 @@ impl<'a, K: Element, V: Element, H, W: Width> ArchivedIndexMap<'a, K, V, H, W> {
     #[inline]
     pub fn keys(self) -> Keys<'a, K, V>
         ensures archive { result.archive ≡ index_archive self.entry }
-        ensures places { result.places ≡ key_positions self.entry }
-        ensures count { length result.places ≡ index_len self.entry }
-        ensures stand { AllStand (entry_shape K.shape V.shape) result }
+        ensures positions { result.positions ≡ key_positions self.entry }
+        ensures count { length result.positions ≡ index_len self.entry }
+        ensures all_valid { AllValid (entry_spec K.spec V.spec) result }
     {
         Keys { pairs: self.iter() }
     }
@@ -214,9 +214,9 @@ impl<'a, K: Element, V: Element, H, W: Width> ArchivedIndexMap<'a, K, V, H, W> {
     #[inline]
     pub fn values(self) -> Values<'a, K, V>
         ensures archive { result.archive ≡ index_archive self.entry }
-        ensures places { result.places ≡ key_positions self.entry }
-        ensures count { length result.places ≡ index_len self.entry }
-        ensures stand { AllStand (entry_shape K.shape V.shape) result }
+        ensures positions { result.positions ≡ key_positions self.entry }
+        ensures count { length result.positions ≡ index_len self.entry }
+        ensures all_valid { AllValid (entry_spec K.spec V.spec) result }
     {
         Values { rest: self.iter() }
     }
@@ -229,7 +229,7 @@ impl<'a, K: Element, V: Element, H, W: Width> IntoIterator for ArchivedIndexMap<
     type IntoIter = Iter<'a, K, V>;
 
     ghost into_iter_gives = { λ map pairs. (pairs.archive ≡ index_archive map)
-        × (pairs.places ≡ key_positions map) × (length pairs.places ≡ index_len map) };
+        × (pairs.positions ≡ key_positions map) × (length pairs.positions ≡ index_len map) };
 
     #[inline]
     fn into_iter(self) -> Iter<'a, K, V> {
@@ -244,7 +244,8 @@ impl<'a, K: Element, V: Element, H, W: Width> IntoIterator for &ArchivedIndexMap
     type IntoIter = Iter<'a, K, V>;
 
     ghost into_iter_gives = { λ map pairs. (pairs.archive ≡ index_archive map.now)
-        × (pairs.places ≡ key_positions map.now) × (length pairs.places ≡ index_len map.now) };
+        × (pairs.positions ≡ key_positions map.now)
+        × (length pairs.positions ≡ index_len map.now) };
 
     #[inline]
     fn into_iter(self) -> Iter<'a, K, V> {

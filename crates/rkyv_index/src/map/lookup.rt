@@ -10,16 +10,16 @@
 //! A lookup in an untrusted map may read every group of its control bytes once.
 //! `FxHasher64` takes no secret key, so it doesn't protect from chosen input.
 ghost use Rattle.std.specs.Prelude.{IfSome, ◌<◌, ◌^◌, ◌≡◌, ◌≤◌};
-ghost use Rattle.rkyv_base.specs.Entry.{entry_shape};
+ghost use Rattle.rkyv_base.specs.Entry.{entry_spec};
 ghost use Rattle.rkyv_scan.specs.Hash.{hash_of_calls};
-ghost use Rattle.rkyv_base.specs.View.{IsView, bytes_of, pos_of};
+ghost use Rattle.rkyv_base.specs.View.{IsValidView, bytes_of, pos_of};
 ghost use Rattle.rkyv_base.specs.declared.view.View.{View};
 ghost use Rattle.rkyv_table.specs.Table.Header.{len_at};
 ghost use Rattle.rkyv_keys.specs.Asked.{asked};
-ghost use Rattle.rkyv_index.specs.Index.{IsFoundAt, IsHeldPlace, IsKeyIn, IsPairAt, IsValueAt};
-ghost use Rattle.rkyv_index.specs.Index.{MayAskKeys, MayAskKeysIn, ReadsFew, hash_at};
+ghost use Rattle.rkyv_index.specs.Index.{IsFoundAt, IsStoredIndex, IsKeyIn, IsPairAt, IsValueAt};
+ghost use Rattle.rkyv_index.specs.Index.{MayAskKeys, MayAskKeysIn, ReadsWithinBound, hash_at};
 ghost use Rattle.rkyv_index.specs.IndexFormat.{hash_of};
-ghost use Rattle.rkyv_index.specs.IndexLayout.{entries_pos, index_shape};
+ghost use Rattle.rkyv_index.specs.IndexLayout.{entries_pos, index_spec};
 ghost use Rattle.rkyv_index.specs.Lookups.{GetsBy, GetsKey, TellsKey, full_part, pair_part};
 ghost use Rattle.rkyv_index.specs.Lookups.{place_part, value_part};
 
@@ -48,7 +48,7 @@ impl<'a, K: KeyElement, V: Element, H: KeyHasher, W: Width> ArchivedIndexMap<'a,
         ensures found { GetsBy place_part self.entry (hash_of H.hasher Q.calls key.now)
             (hash_at H.hasher K.key_calls) (F.post cmp key.entry) result }
         ensures hash { hash_of_calls H.hasher (Q.calls key.now) < 2 ^ 64 }
-        ensures bounded { ReadsFew self.entry strides.old strides.new }
+        ensures bounded { ReadsWithinBound self.entry strides.old strides.new }
     {
         let hash = hash_value::<Q, H>(key);
         let table = self.table();
@@ -57,11 +57,11 @@ impl<'a, K: KeyElement, V: Element, H: KeyHasher, W: Width> ArchivedIndexMap<'a,
             table,
             hash,
             |place|
-                requires map { IsView (index_shape W.word (entry_shape K.shape V.shape)) view }
+                requires map { IsValidView (index_spec W.word (entry_spec K.spec V.spec)) view }
                 requires begin { begin ≡ entries_pos W.word (bytes_of view) (pos_of view) }
                 requires below { place < len_at W.word (bytes_of view) (pos_of view) }
-                requires callable { MayAskKeysIn W.word K.shape V.shape view (F.pre cmp key) }
-                ensures { (k : View K) × IsKeyIn W.word K.shape V.shape view.entry place k
+                requires callable { MayAskKeysIn W.word K.spec V.spec view (F.pre cmp key) }
+                ensures { (k : View K) × IsKeyIn W.word K.spec V.spec view.entry place k
                     × F.post cmp key.entry k result }
             { cmp(key, key_in(view, begin, place)) },
             strides,
@@ -116,7 +116,7 @@ impl<'a, K: KeyElement, V: Element, H: KeyHasher, W: Width> ArchivedIndexMap<'a,
             key,
             |key, stored|
                 requires query { Q.can_read key.now }
-                requires key { IsView K.shape stored }
+                requires key { IsValidView K.spec stored }
                 ensures { result ≡ Q.fits key.entry.now stored.entry.archive.now stored.entry.pos }
             { key.same(stored) },
             &mut Strides::new(),
@@ -170,7 +170,7 @@ impl<'a, K: KeyElement, V: Element, H: KeyHasher, W: Width> ArchivedIndexMap<'a,
     /// Returns the pair at a found index.
     #[inline]
     fn pair_of(self, place: Option<usize>) -> Option<PairView<'a, K, V>>
-        requires held { IfSome place (IsHeldPlace self) }
+        requires held { IfSome place (IsStoredIndex self) }
         ensures { IsPairAt self.entry result place }
     {
         match place {
@@ -182,7 +182,7 @@ impl<'a, K: KeyElement, V: Element, H: KeyHasher, W: Width> ArchivedIndexMap<'a,
     /// Returns the value at a found index.
     #[inline]
     fn value_of(self, place: Option<usize>) -> Option<View<'a, V>>
-        requires held { IfSome place (IsHeldPlace self) }
+        requires held { IfSome place (IsStoredIndex self) }
         ensures { IsValueAt self.entry result place }
     {
         match place {
@@ -342,7 +342,7 @@ impl<'a, K: KeyElement, V: Element, H: KeyHasher, W: Width> ArchivedIndexMap<'a,
         requires callable { MayAskKeys self (F.pre cmp key) }
         ensures found { GetsBy place_part self.entry (hash_of H.hasher Q.calls key.now)
             (hash_at H.hasher K.key_calls) (F.post cmp key.entry) result }
-        ensures bounded { ReadsFew self.entry strides.old strides.new }
+        ensures bounded { ReadsWithinBound self.entry strides.old strides.new }
     {
         self.find(key, cmp, strides)
     }

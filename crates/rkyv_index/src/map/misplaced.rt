@@ -14,7 +14,7 @@ use rkyv_scan::hash::KeyHasher;
 
 // Returns `true` if and only if a lookup didn't find the index `place`.
 #[inline]
-fn is_elsewhere(place: usize, found: Option<usize>) -> bool
+fn is_in_another_bucket(place: usize, found: Option<usize>) -> bool
     ensures { result ≡ not (is_answer place found) }
 {
     match found {
@@ -35,7 +35,7 @@ impl<'a, K: KeyElement, V: Element, H: KeyHasher, W: Width> Entries<'a, K, V, H,
             (hash_at H.hasher K.key_calls) K.same place result }
     {
         let key = self.entry(place).key();
-        is_elsewhere(place, self.map.find_key(&key))
+        is_in_another_bucket(place, self.map.find_key(&key))
     }
 }
 

@@ -13,7 +13,7 @@ use rkyv_scan::hash::KeyHasher;
 use std::marker::PhantomData;
 
 /// A value that has a hash under the hasher `H`.
-pub(crate) trait Hashed<H> {
+pub(crate) trait HashedEntry<H> {
     // The condition under which the value can be hashed.
     ghost can_hash: { Self → Type 0 };
 
@@ -31,7 +31,7 @@ pub(crate) trait Hashed<H> {
 }
 
 // The hash of an entry is that of its key.
-impl<BK: Lend<A>, BV, A: KeyHash, B, H: KeyHasher> Hashed<H> for EntryAdapter<BK, BV, A, B> {
+impl<BK: Lend<A>, BV, A: KeyHash, B, H: KeyHasher> HashedEntry<H> for EntryAdapter<BK, BV, A, B> {
     ghost can_hash = { λ entry. A.can_read (BK.lent entry.key) };
 
     ghost hash = { λ entry. hash_of H.hasher A.calls (BK.lent entry.key) };
@@ -64,7 +64,7 @@ impl<'a, U, H, W> HashedPlaces<'a, U, H, W> {
     }
 }
 
-impl<'a, U: Hashed<H>, H, W: PlaceWidth> Iterator for HashedPlaces<'a, U, H, W> {
+impl<'a, U: HashedEntry<H>, H, W: PlaceWidth> Iterator for HashedPlaces<'a, U, H, W> {
     type Item = (u64, W::Place);
 
     ghost can_next = { λ s. (s.place + length (iter_rest s.values) ≤ W.LIMIT)

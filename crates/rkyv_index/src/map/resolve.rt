@@ -5,7 +5,7 @@ ghost use Rattle.rkyv_index.specs.IndexHeader.{IndexResolver, WritesIndexHeader}
 
 use crate::map::ArchivedIndexMap;
 use rkyv_base::archive::ResolveResult;
-use rkyv_base::element::Shaped;
+use rkyv_base::element::HasSpec;
 use rkyv_base::errors::DistanceTooLarge;
 use rkyv_base::width::{Narrow, Width};
 use rkyv_table::table::ArchivedHashTable;
@@ -65,7 +65,7 @@ impl<W: Width> IndexMapResolver<W> {
     }
 }
 
-impl<'a, K: Shaped, V: Shaped, H, W: Width> ArchivedIndexMap<'a, K, V, H, W> {
+impl<'a, K: HasSpec, V: HasSpec, H, W: Width> ArchivedIndexMap<'a, K, V, H, W> {
     /// Writes the header of a written map over the whole of `out`, for a header at `pos`.
     ///
     /// It is the header of the table of indices, and then the distance to the entries.

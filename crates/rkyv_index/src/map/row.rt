@@ -37,7 +37,7 @@ pub(crate) fn write_row<W: Width, S: Writer, U: Archive<W>>(
     serializer: &mut S,
 ) -> WriteResult<(), S>
     requires count { length resolvers.items ≡ length values.now }
-    requires room { 0 < length values.now → length scratch.old ≡ U.Archived.shape.size }
+    requires room { 0 < length values.now → length scratch.old ≡ U.Archived.spec.size }
     requires within { end_of (S.output serializer.old) ≤ W.LIMIT }
     ensures { WritesRow (row_of U.format W.LIMIT values.now) resolvers.items
         (S.output serializer.old) (S.output serializer.new) result }

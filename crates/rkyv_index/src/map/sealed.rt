@@ -9,14 +9,15 @@
 //!
 //! A lookup in an untrusted map may read every group of its control bytes once.
 ghost use Rattle.std.specs.Prelude.{IfSome, length, ◌+◌, ◌<◌, ◌≡◌, ◌≤◌};
-ghost use Rattle.rkyv_base.specs.Entry.{entry_shape};
+ghost use Rattle.rkyv_base.specs.Entry.{entry_spec};
 ghost use Rattle.rkyv_base.specs.Seal.{LiesIn, SealAt, archive_in, bytes_in, pos_in, seal_pos};
 ghost use Rattle.rkyv_base.specs.Sealing.{value_pos};
-ghost use Rattle.rkyv_base.specs.Shape.{Viewed};
-ghost use Rattle.rkyv_base.specs.View.{IsView};
+ghost use Rattle.rkyv_base.specs.ElementSpec.{Viewable};
+ghost use Rattle.rkyv_base.specs.View.{IsValidView};
 ghost use Rattle.rkyv_table.specs.Table.Header.{len_at};
 ghost use Rattle.rkyv_table.specs.Table.PairSeals.{LendsPair, LendsValue};
-ghost use Rattle.rkyv_index.specs.Index.{FindsBy, FindsFirstBy, FindsFirstKey, FindsKey, IsHeldAt};
+ghost use Rattle.rkyv_index.specs.Index.{FindsBy, FindsFirstBy, FindsFirstKey, FindsKey};
+ghost use Rattle.rkyv_index.specs.Index.{IsStoredAt};
 ghost use Rattle.rkyv_index.specs.Index.{IsPlace, MayAskKeysOf, hash_at, index_bytes, index_pos};
 ghost use Rattle.rkyv_index.specs.IndexFormat.{hash_of};
 ghost use Rattle.rkyv_index.specs.SealedIndex.{
@@ -48,9 +49,9 @@ fn value_seal<'a, K: Element, V: Element, H, W>(
     this: ArchiveSeal<'a, IndexMapOf<K, V, H, W>>,
     pos: u64,
 ) -> Seal<'a, V>
-    requires { value_pos K.shape V.shape pos + V.shape.size ≤ length (archive_in this) }
-    ensures at { SealAt result this.entry.archive (value_pos K.shape V.shape pos) }
-    ensures inside { LiesIn V.shape result }
+    requires { value_pos K.spec V.spec pos + V.spec.size ≤ length (archive_in this) }
+    ensures at { SealAt result this.entry.archive (value_pos K.spec V.spec pos) }
+    ensures inside { LiesIn V.spec result }
 {
     let (archive, _) = this.into_parts();
     Seal::over(archive, pos as usize + value_offset::<K, V>())
@@ -63,7 +64,7 @@ impl<'a, K: KeyElement, V: Element, H: KeyHasher, W: Width> ArchivedIndexMap<'a,
     fn read<'s>(
         this: &'s ArchiveSeal<'_, IndexMapOf<K, V, H, W>>,
     ) -> ArchivedIndexMap<'s, K, V, H, W>
-        requires { IsIndexSeal W.word K.shape V.shape this.now }
+        requires { IsIndexSeal W.word K.spec V.spec this.now }
         ensures bytes { index_bytes result ≡ archive_in this.now }
         ensures pos { index_pos result ≡ pos_in this.now }
     {
@@ -77,16 +78,16 @@ impl<'a, K: KeyElement, V: Element, H: KeyHasher, W: Width> ArchivedIndexMap<'a,
         key: &Q,
         cmp: F,
     ) -> Option<usize>
-        requires map { IsIndexSeal W.word K.shape V.shape this.now }
+        requires map { IsIndexSeal W.word K.spec V.spec this.now }
         requires query { Q.can_read key.now }
-        requires callable { MayAskKeysOf (index_in W.word K.shape V.shape this.now)
+        requires callable { MayAskKeysOf (index_in W.word K.spec V.spec this.now)
             (F.pre cmp key) }
-        ensures held { IfSome result (IsHeldAt W.word (archive_in this.now) (pos_in this.now)) }
+        ensures held { IfSome result (IsStoredAt W.word (archive_in this.now) (pos_in this.now)) }
         ensures below { IfSome result
             (λ i. i < len_at W.word (archive_in this.now) (pos_in this.now)) }
-        ensures answer { FindsBy (index_in W.word K.shape V.shape this.now)
+        ensures answer { FindsBy (index_in W.word K.spec V.spec this.now)
             (F.post cmp key.entry) (hash_of H.hasher Q.calls key.now) (IsPlace result) }
-        ensures first { FindsFirstBy (index_in W.word K.shape V.shape this.now)
+        ensures first { FindsFirstBy (index_in W.word K.spec V.spec this.now)
             (F.post cmp key.entry) (hash_of H.hasher Q.calls key.now)
             (hash_at H.hasher K.key_calls) (IsPlace result) }
     {
@@ -99,14 +100,14 @@ impl<'a, K: KeyElement, V: Element, H: KeyHasher, W: Width> ArchivedIndexMap<'a,
         this: &ArchiveSeal<'_, IndexMapOf<K, V, H, W>>,
         key: &Q,
     ) -> Option<usize>
-        requires map { IsIndexSeal W.word K.shape V.shape this.now }
+        requires map { IsIndexSeal W.word K.spec V.spec this.now }
         requires query { Q.can_read key.now }
-        ensures held { IfSome result (IsHeldAt W.word (archive_in this.now) (pos_in this.now)) }
+        ensures held { IfSome result (IsStoredAt W.word (archive_in this.now) (pos_in this.now)) }
         ensures below { IfSome result
             (λ i. i < len_at W.word (archive_in this.now) (pos_in this.now)) }
-        ensures answer { FindsKey (index_in W.word K.shape V.shape this.now)
+        ensures answer { FindsKey (index_in W.word K.spec V.spec this.now)
             (hash_of H.hasher Q.calls key.now) (Q.fits key.now) (IsPlace result) }
-        ensures first { FindsFirstKey (index_in W.word K.shape V.shape this.now)
+        ensures first { FindsFirstKey (index_in W.word K.spec V.spec this.now)
             (hash_at H.hasher K.key_calls) (Q.fits key.now) (IsPlace result) }
     {
         Self::read(this).find_key(key)
@@ -115,10 +116,10 @@ impl<'a, K: KeyElement, V: Element, H: KeyHasher, W: Width> ArchivedIndexMap<'a,
     /// Returns the position of the pair at the index `place`.
     #[inline]
     fn pair_pos_in(this: &ArchiveSeal<'_, IndexMapOf<K, V, H, W>>, place: usize) -> u64
-        requires map { IsIndexSeal W.word K.shape V.shape this.now }
+        requires map { IsIndexSeal W.word K.spec V.spec this.now }
         requires below { place < len_at W.word (archive_in this.now) (pos_in this.now) }
-        ensures at { IsPairPlace W.word K.shape V.shape this.now place result }
-        ensures entry { Viewed (entry_shape K.shape V.shape) (archive_in this.now) result }
+        ensures at { IsPairPlace W.word K.spec V.spec this.now place result }
+        ensures entry { Viewable (entry_spec K.spec V.spec) (archive_in this.now) result }
     {
         Self::read(this).entries().entry(place).pos()
     }
@@ -129,11 +130,11 @@ impl<'a, K: KeyElement, V: Element, H: KeyHasher, W: Width> ArchivedIndexMap<'a,
         this: ArchiveSeal<'a, IndexMapOf<K, V, H, W>>,
         place: usize,
     ) -> (View<'a, K>, Seal<'a, V>)
-        requires map { IsIndexSeal W.word K.shape V.shape this }
+        requires map { IsIndexSeal W.word K.spec V.spec this }
         requires below { place < len_at W.word (archive_in this) (pos_in this) }
-        ensures inside { LiesIn V.shape result.1 }
-        ensures lent { LendsPair K.shape V.shape (archive_in this.entry)
-            (IsPairPlace W.word K.shape V.shape this.entry place) result }
+        ensures inside { LiesIn V.spec result.1 }
+        ensures lent { LendsPair K.spec V.spec (archive_in this.entry)
+            (IsPairPlace W.word K.spec V.spec this.entry place) result }
     {
         let pos = Self::pair_pos_in(&this, place);
         this.split_value(pos)
@@ -142,12 +143,12 @@ impl<'a, K: KeyElement, V: Element, H: KeyHasher, W: Width> ArchivedIndexMap<'a,
     /// Returns a seal of the value at the index `place`.
     #[inline]
     fn lend_value(this: ArchiveSeal<'a, IndexMapOf<K, V, H, W>>, place: usize) -> Seal<'a, V>
-        requires map { IsIndexSeal W.word K.shape V.shape this }
+        requires map { IsIndexSeal W.word K.spec V.spec this }
         requires below { place < len_at W.word (archive_in this) (pos_in this) }
-        ensures inside { LiesIn V.shape result }
-        ensures viewed { Viewed V.shape (bytes_in result) (seal_pos result) }
-        ensures lent { LendsValue K.shape V.shape (archive_in this.entry)
-            (IsPairPlace W.word K.shape V.shape this.entry place) result }
+        ensures inside { LiesIn V.spec result }
+        ensures viewable { Viewable V.spec (bytes_in result) (seal_pos result) }
+        ensures lent { LendsValue K.spec V.spec (archive_in this.entry)
+            (IsPairPlace W.word K.spec V.spec this.entry place) result }
     {
         let pos = Self::pair_pos_in(&this, place);
         value_seal(this, pos)
@@ -159,13 +160,13 @@ impl<'a, K: KeyElement, V: Element, H: KeyHasher, W: Width> ArchivedIndexMap<'a,
         this: ArchiveSeal<'a, IndexMapOf<K, V, H, W>>,
         place: Option<usize>,
     ) -> Option<(usize, View<'a, K>, Seal<'a, V>)>
-        requires map { IsIndexSeal W.word K.shape V.shape this }
-        requires held { IfSome place (IsHeldAt W.word (archive_in this) (pos_in this)) }
+        requires map { IsIndexSeal W.word K.spec V.spec this }
+        requires held { IfSome place (IsStoredAt W.word (archive_in this) (pos_in this)) }
         requires below { IfSome place
             (λ i. i < len_at W.word (archive_in this) (pos_in this)) }
-        ensures inside { IfSome result (λ full. LiesIn V.shape full.2) }
-        ensures viewed { IfSome result (λ full. IsView K.shape full.1) }
-        ensures walked { IfSome result (IsFullSeal W.word K.shape V.shape this.entry) }
+        ensures inside { IfSome result (λ full. LiesIn V.spec full.2) }
+        ensures viewable { IfSome result (λ full. IsValidView K.spec full.1) }
+        ensures walked { IfSome result (IsFullSeal W.word K.spec V.spec this.entry) }
         ensures at { IsFullSealAt result place }
     {
         match place {
@@ -183,14 +184,14 @@ impl<'a, K: KeyElement, V: Element, H: KeyHasher, W: Width> ArchivedIndexMap<'a,
         this: ArchiveSeal<'a, IndexMapOf<K, V, H, W>>,
         place: Option<usize>,
     ) -> Option<(View<'a, K>, Seal<'a, V>)>
-        requires map { IsIndexSeal W.word K.shape V.shape this }
-        requires held { IfSome place (IsHeldAt W.word (archive_in this) (pos_in this)) }
+        requires map { IsIndexSeal W.word K.spec V.spec this }
+        requires held { IfSome place (IsStoredAt W.word (archive_in this) (pos_in this)) }
         requires below { IfSome place
             (λ i. i < len_at W.word (archive_in this) (pos_in this)) }
-        ensures inside { IfSome result (λ pair. LiesIn V.shape pair.1) }
-        ensures viewed { IfSome result (λ pair. IsView K.shape pair.0) }
-        ensures walked { IfSome result (IsPairSeal W.word K.shape V.shape this.entry) }
-        ensures at { SealsPair W.word K.shape V.shape this.entry result place }
+        ensures inside { IfSome result (λ pair. LiesIn V.spec pair.1) }
+        ensures viewable { IfSome result (λ pair. IsValidView K.spec pair.0) }
+        ensures walked { IfSome result (IsPairSeal W.word K.spec V.spec this.entry) }
+        ensures at { SealsPair W.word K.spec V.spec this.entry result place }
     {
         match place {
             Some(place) => Some(Self::lend_pair(this, place)),
@@ -204,14 +205,15 @@ impl<'a, K: KeyElement, V: Element, H: KeyHasher, W: Width> ArchivedIndexMap<'a,
         this: ArchiveSeal<'a, IndexMapOf<K, V, H, W>>,
         place: Option<usize>,
     ) -> Option<Seal<'a, V>>
-        requires map { IsIndexSeal W.word K.shape V.shape this }
-        requires held { IfSome place (IsHeldAt W.word (archive_in this) (pos_in this)) }
+        requires map { IsIndexSeal W.word K.spec V.spec this }
+        requires held { IfSome place (IsStoredAt W.word (archive_in this) (pos_in this)) }
         requires below { IfSome place
             (λ i. i < len_at W.word (archive_in this) (pos_in this)) }
-        ensures inside { IfSome result (LiesIn V.shape) }
-        ensures viewed { IfSome result (λ value. Viewed V.shape (bytes_in value) (seal_pos value)) }
-        ensures walked { IfSome result (IsValueSeal W.word K.shape V.shape this.entry) }
-        ensures at { SealsValue W.word K.shape V.shape this.entry result place }
+        ensures inside { IfSome result (LiesIn V.spec) }
+        ensures viewable { IfSome result (λ value. Viewable V.spec (bytes_in value)
+            (seal_pos value)) }
+        ensures walked { IfSome result (IsValueSeal W.word K.spec V.spec this.entry) }
+        ensures at { SealsValue W.word K.spec V.spec this.entry result place }
     {
         match place {
             Some(place) => Some(Self::lend_value(this, place)),
@@ -241,16 +243,16 @@ impl<'a, K: KeyElement, V: Element, H: KeyHasher, W: Width> ArchivedIndexMap<'a,
         key: &Q,
         cmp: F,
     ) -> Option<(usize, View<'a, K>, Seal<'a, V>)>
-        requires map { IsIndexSeal W.word K.shape V.shape this }
+        requires map { IsIndexSeal W.word K.spec V.spec this }
         requires query { Q.can_read key.now }
-        requires callable { MayAskKeysOf (index_in W.word K.shape V.shape this)
+        requires callable { MayAskKeysOf (index_in W.word K.spec V.spec this)
             (F.pre cmp key) }
-        ensures inside { IfSome result (λ full. LiesIn V.shape full.2) }
-        ensures viewed { IfSome result (λ full. IsView K.shape full.1) }
-        ensures walked { IfSome result (IsFullSeal W.word K.shape V.shape this.entry) }
-        ensures answer { FindsBy (index_in W.word K.shape V.shape this.entry)
+        ensures inside { IfSome result (λ full. LiesIn V.spec full.2) }
+        ensures viewable { IfSome result (λ full. IsValidView K.spec full.1) }
+        ensures walked { IfSome result (IsFullSeal W.word K.spec V.spec this.entry) }
+        ensures answer { FindsBy (index_in W.word K.spec V.spec this.entry)
             (F.post cmp key.entry) (hash_of H.hasher Q.calls key.now) (IsFullSealAt result) }
-        ensures first { FindsFirstBy (index_in W.word K.shape V.shape this.entry)
+        ensures first { FindsFirstBy (index_in W.word K.spec V.spec this.entry)
             (F.post cmp key.entry) (hash_of H.hasher Q.calls key.now)
             (hash_at H.hasher K.key_calls) (IsFullSealAt result) }
     {
@@ -292,14 +294,14 @@ impl<'a, K: KeyElement, V: Element, H: KeyHasher, W: Width> ArchivedIndexMap<'a,
         this: ArchiveSeal<'a, IndexMapOf<K, V, H, W>>,
         key: &Q,
     ) -> Option<(usize, View<'a, K>, Seal<'a, V>)>
-        requires map { IsIndexSeal W.word K.shape V.shape this }
+        requires map { IsIndexSeal W.word K.spec V.spec this }
         requires query { Q.can_read key.now }
-        ensures inside { IfSome result (λ full. LiesIn V.shape full.2) }
-        ensures viewed { IfSome result (λ full. IsView K.shape full.1) }
-        ensures walked { IfSome result (IsFullSeal W.word K.shape V.shape this.entry) }
-        ensures answer { FindsKey (index_in W.word K.shape V.shape this.entry)
+        ensures inside { IfSome result (λ full. LiesIn V.spec full.2) }
+        ensures viewable { IfSome result (λ full. IsValidView K.spec full.1) }
+        ensures walked { IfSome result (IsFullSeal W.word K.spec V.spec this.entry) }
+        ensures answer { FindsKey (index_in W.word K.spec V.spec this.entry)
             (hash_of H.hasher Q.calls key.now) (Q.fits key.now) (IsFullSealAt result) }
-        ensures first { FindsFirstKey (index_in W.word K.shape V.shape this.entry)
+        ensures first { FindsFirstKey (index_in W.word K.spec V.spec this.entry)
             (hash_at H.hasher K.key_calls) (Q.fits key.now) (IsFullSealAt result) }
     {
         let place = Self::find_key_in(&this, key);
@@ -326,20 +328,20 @@ impl<'a, K: KeyElement, V: Element, H: KeyHasher, W: Width> ArchivedIndexMap<'a,
         key: &Q,
         cmp: F,
     ) -> Option<(View<'a, K>, Seal<'a, V>)>
-        requires map { IsIndexSeal W.word K.shape V.shape this }
+        requires map { IsIndexSeal W.word K.spec V.spec this }
         requires query { Q.can_read key.now }
-        requires callable { MayAskKeysOf (index_in W.word K.shape V.shape this)
+        requires callable { MayAskKeysOf (index_in W.word K.spec V.spec this)
             (F.pre cmp key) }
-        ensures inside { IfSome result (λ pair. LiesIn V.shape pair.1) }
-        ensures viewed { IfSome result (λ pair. IsView K.shape pair.0) }
-        ensures walked { IfSome result (IsPairSeal W.word K.shape V.shape this.entry) }
-        ensures answer { FindsBy (index_in W.word K.shape V.shape this.entry)
+        ensures inside { IfSome result (λ pair. LiesIn V.spec pair.1) }
+        ensures viewable { IfSome result (λ pair. IsValidView K.spec pair.0) }
+        ensures walked { IfSome result (IsPairSeal W.word K.spec V.spec this.entry) }
+        ensures answer { FindsBy (index_in W.word K.spec V.spec this.entry)
             (F.post cmp key.entry) (hash_of H.hasher Q.calls key.now)
-            (SealsPair W.word K.shape V.shape this.entry result) }
-        ensures first { FindsFirstBy (index_in W.word K.shape V.shape this.entry)
+            (SealsPair W.word K.spec V.spec this.entry result) }
+        ensures first { FindsFirstBy (index_in W.word K.spec V.spec this.entry)
             (F.post cmp key.entry) (hash_of H.hasher Q.calls key.now)
             (hash_at H.hasher K.key_calls)
-            (SealsPair W.word K.shape V.shape this.entry result) }
+            (SealsPair W.word K.spec V.spec this.entry result) }
     {
         let place = Self::find_in(&this, key, cmp);
         Self::pair_seal_of(this, place)
@@ -363,17 +365,17 @@ impl<'a, K: KeyElement, V: Element, H: KeyHasher, W: Width> ArchivedIndexMap<'a,
         this: ArchiveSeal<'a, IndexMapOf<K, V, H, W>>,
         key: &Q,
     ) -> Option<(View<'a, K>, Seal<'a, V>)>
-        requires map { IsIndexSeal W.word K.shape V.shape this }
+        requires map { IsIndexSeal W.word K.spec V.spec this }
         requires query { Q.can_read key.now }
-        ensures inside { IfSome result (λ pair. LiesIn V.shape pair.1) }
-        ensures viewed { IfSome result (λ pair. IsView K.shape pair.0) }
-        ensures walked { IfSome result (IsPairSeal W.word K.shape V.shape this.entry) }
-        ensures answer { FindsKey (index_in W.word K.shape V.shape this.entry)
+        ensures inside { IfSome result (λ pair. LiesIn V.spec pair.1) }
+        ensures viewable { IfSome result (λ pair. IsValidView K.spec pair.0) }
+        ensures walked { IfSome result (IsPairSeal W.word K.spec V.spec this.entry) }
+        ensures answer { FindsKey (index_in W.word K.spec V.spec this.entry)
             (hash_of H.hasher Q.calls key.now) (Q.fits key.now)
-            (SealsPair W.word K.shape V.shape this.entry result) }
-        ensures first { FindsFirstKey (index_in W.word K.shape V.shape this.entry)
+            (SealsPair W.word K.spec V.spec this.entry result) }
+        ensures first { FindsFirstKey (index_in W.word K.spec V.spec this.entry)
             (hash_at H.hasher K.key_calls) (Q.fits key.now)
-            (SealsPair W.word K.shape V.shape this.entry result) }
+            (SealsPair W.word K.spec V.spec this.entry result) }
     {
         let place = Self::find_key_in(&this, key);
         Self::pair_seal_of(this, place)
@@ -396,20 +398,21 @@ impl<'a, K: KeyElement, V: Element, H: KeyHasher, W: Width> ArchivedIndexMap<'a,
         key: &Q,
         cmp: F,
     ) -> Option<Seal<'a, V>>
-        requires map { IsIndexSeal W.word K.shape V.shape this }
+        requires map { IsIndexSeal W.word K.spec V.spec this }
         requires query { Q.can_read key.now }
-        requires callable { MayAskKeysOf (index_in W.word K.shape V.shape this)
+        requires callable { MayAskKeysOf (index_in W.word K.spec V.spec this)
             (F.pre cmp key) }
-        ensures inside { IfSome result (LiesIn V.shape) }
-        ensures viewed { IfSome result (λ value. Viewed V.shape (bytes_in value) (seal_pos value)) }
-        ensures walked { IfSome result (IsValueSeal W.word K.shape V.shape this.entry) }
-        ensures answer { FindsBy (index_in W.word K.shape V.shape this.entry)
+        ensures inside { IfSome result (LiesIn V.spec) }
+        ensures viewable { IfSome result (λ value. Viewable V.spec (bytes_in value)
+            (seal_pos value)) }
+        ensures walked { IfSome result (IsValueSeal W.word K.spec V.spec this.entry) }
+        ensures answer { FindsBy (index_in W.word K.spec V.spec this.entry)
             (F.post cmp key.entry) (hash_of H.hasher Q.calls key.now)
-            (SealsValue W.word K.shape V.shape this.entry result) }
-        ensures first { FindsFirstBy (index_in W.word K.shape V.shape this.entry)
+            (SealsValue W.word K.spec V.spec this.entry result) }
+        ensures first { FindsFirstBy (index_in W.word K.spec V.spec this.entry)
             (F.post cmp key.entry) (hash_of H.hasher Q.calls key.now)
             (hash_at H.hasher K.key_calls)
-            (SealsValue W.word K.shape V.shape this.entry result) }
+            (SealsValue W.word K.spec V.spec this.entry result) }
     {
         let place = Self::find_in(&this, key, cmp);
         Self::value_seal_of(this, place)
@@ -446,17 +449,18 @@ impl<'a, K: KeyElement, V: Element, H: KeyHasher, W: Width> ArchivedIndexMap<'a,
         this: ArchiveSeal<'a, IndexMapOf<K, V, H, W>>,
         key: &Q,
     ) -> Option<Seal<'a, V>>
-        requires map { IsIndexSeal W.word K.shape V.shape this }
+        requires map { IsIndexSeal W.word K.spec V.spec this }
         requires query { Q.can_read key.now }
-        ensures inside { IfSome result (LiesIn V.shape) }
-        ensures viewed { IfSome result (λ value. Viewed V.shape (bytes_in value) (seal_pos value)) }
-        ensures walked { IfSome result (IsValueSeal W.word K.shape V.shape this.entry) }
-        ensures answer { FindsKey (index_in W.word K.shape V.shape this.entry)
+        ensures inside { IfSome result (LiesIn V.spec) }
+        ensures viewable { IfSome result (λ value. Viewable V.spec (bytes_in value)
+            (seal_pos value)) }
+        ensures walked { IfSome result (IsValueSeal W.word K.spec V.spec this.entry) }
+        ensures answer { FindsKey (index_in W.word K.spec V.spec this.entry)
             (hash_of H.hasher Q.calls key.now) (Q.fits key.now)
-            (SealsValue W.word K.shape V.shape this.entry result) }
-        ensures first { FindsFirstKey (index_in W.word K.shape V.shape this.entry)
+            (SealsValue W.word K.spec V.spec this.entry result) }
+        ensures first { FindsFirstKey (index_in W.word K.spec V.spec this.entry)
             (hash_at H.hasher K.key_calls) (Q.fits key.now)
-            (SealsValue W.word K.shape V.shape this.entry result) }
+            (SealsValue W.word K.spec V.spec this.entry result) }
     {
         let place = Self::find_key_in(&this, key);
         Self::value_seal_of(this, place)

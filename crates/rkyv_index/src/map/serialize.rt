@@ -6,19 +6,19 @@
 ghost use Rattle.std.specs.Prelude.{List, ℕ};
 ghost use Rattle.rkyv_base.specs.Format.{Format};
 ghost use Rattle.rkyv_base.specs.Pairs.{written_as};
-ghost use Rattle.rkyv_table.specs.Table.Lent.{lent_pairs};
-ghost use Rattle.rkyv_index.specs.Handing.{WritesUnder, input};
+ghost use Rattle.rkyv_table.specs.Table.ItemValues.{lent_pairs};
+ghost use Rattle.rkyv_index.specs.Writing.{WritesUnder, input};
 ghost use Rattle.rkyv_index.specs.IndexFormat.{hash_of, index_format};
 ghost use Rattle.rkyv_index.specs.IndexHeader.{IndexResolver};
 
 use crate::map::resolve::IndexMapResolver;
-use crate::map::taking::{Room, take_entries};
+use crate::map::source::{Room, take_entries};
 use crate::map::write::write_index;
 use crate::map::{ArchivedIndexMap, IndexMapOf};
 use crate::width::PlaceWidth;
 use rkyv_base::adapter::EntryAdapter;
 use rkyv_base::archive::{Archive, Serialize, WriteResult};
-use rkyv_base::element::{Element, StandsFor};
+use rkyv_base::element::{Element, Represents};
 use rkyv_base::entry::Entry;
 use rkyv_base::errors::{IteratorLengthMismatch, WriteError};
 use rkyv_base::lend::Lend;
@@ -47,7 +47,7 @@ impl<
     BV: Lend<B>,
 > ListFormat<(BK, BV), (A, B)> for IndexMapOf<K, V, H, W> {
     ghost format = { λ load_factor. written_as (lent_pairs BK.lent BV.lent)
-        (index_format W.word W.Place.shape W.Place.encoding K.shape V.shape A.format B.format
+        (index_format W.word W.Place.spec W.Place.encoding K.spec V.spec A.format B.format
         (hash_of H.hasher A.calls) load_factor) };
 }
 
@@ -114,9 +114,9 @@ impl<'a, K: KeyElement, V: Element, H: KeyHasher, W: PlaceWidth> ArchivedIndexMa
         serializer: &mut S,
     ) -> WriteResult<IndexMapResolver<W>, S>
     where
-        K: StandsFor<A>,
-        V: StandsFor<B>,
-        requires can { I.can_next iter }
+        K: Represents<A>,
+        V: Represents<B>,
+        requires ready { I.can_next iter }
         ensures { let f = ⟦<IndexMapOf<K, V, H, W> as ListFormat<(BK, BV), (A, B)>>⟧.format in
             WritesUnder W.Width (input I.next_gives iter len load_factor) f
             (S.output serializer.old) (S.output serializer.new) result }

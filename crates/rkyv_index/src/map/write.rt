@@ -7,10 +7,10 @@
 
 ghost use Rattle.std.specs.Prelude.{◌≡◌, ◌<◌, ◌≤◌, [], length, vec_capacity};
 ghost use Rattle.rkyv_table.specs.Table.Serializing.{HasCapacity};
-ghost use Rattle.rkyv_index.specs.Handing.{WritesEntries, WritesPlaces, hashed, hashed_row};
+ghost use Rattle.rkyv_index.specs.Writing.{WritesEntries, WritesPlaces, hashed, hashed_row};
 ghost use Rattle.rkyv_index.specs.IndexFormat.{indices};
 
-use crate::map::places::{Hashed, HashedPlaces};
+use crate::map::places::{HashedEntry, HashedPlaces};
 use crate::map::resolve::IndexMapResolver;
 use crate::map::row::{serialize_row, write_row};
 use crate::width::PlaceWidth;
@@ -23,7 +23,7 @@ use std::alloc::Global;
 
 // Writes the table of the indices of `entries`, each under the hash of its entry.
 #[inline]
-fn write_places<W: PlaceWidth, H, S: Writer, U: Hashed<H>>(
+fn write_places<W: PlaceWidth, H, S: Writer, U: HashedEntry<H>>(
     alloc: Global,
     entries: &[U],
     load_factor: (usize, usize),
@@ -31,7 +31,7 @@ fn write_places<W: PlaceWidth, H, S: Writer, U: Hashed<H>>(
 ) -> WriteResult<HashTableResolver<W>, S>
     requires capacity { HasCapacity (length entries.now) load_factor W.MAX_CAPACITY }
     requires hashes { (entry : U) → U.can_hash entry }
-    ensures { WritesPlaces W.Width (indices W.Place.shape W.Place.encoding)
+    ensures { WritesPlaces W.Width (indices W.Place.spec W.Place.encoding)
         (hashed U.hash load_factor entries.now)
         (S.output serializer.old) (S.output serializer.new) result }
 {
@@ -48,7 +48,7 @@ fn write_places<W: PlaceWidth, H, S: Writer, U: Hashed<H>>(
 // Writes the table of indices, the parts of the entries, zeros and the entries.
 //
 // Returns the resolver of the index map.
-pub(crate) fn write_index<W: PlaceWidth, H, S: Writer, U: Hashed<H> + Serialize<S, W>>(
+pub(crate) fn write_index<W: PlaceWidth, H, S: Writer, U: HashedEntry<H> + Serialize<S, W>>(
     alloc: Global,
     entries: &[U],
     resolvers: Vec<U::Resolver>,
@@ -60,9 +60,9 @@ pub(crate) fn write_index<W: PlaceWidth, H, S: Writer, U: Hashed<H> + Serialize<
     requires hashes { (entry : U) → U.can_hash entry }
     requires empty { resolvers.items ≡ [] }
     requires places { length entries.now ≤ vec_capacity resolvers }
-    requires room { 0 < length entries.now → length scratch.old ≡ U.Archived.shape.size }
-    ensures { WritesEntries W.Width (indices W.Place.shape W.Place.encoding)
-        (hashed_row U.Archived.shape U.format U.hash load_factor entries.now)
+    requires room { 0 < length entries.now → length scratch.old ≡ U.Archived.spec.size }
+    ensures { WritesEntries W.Width (indices W.Place.spec W.Place.encoding)
+        (hashed_row U.Archived.spec U.format U.hash load_factor entries.now)
         (S.output serializer.old) (S.output serializer.new) result }
 {
     let table = write_places::<W, H, _, _>(alloc, entries, load_factor, serializer)?;

@@ -8,7 +8,7 @@ use crate::set::ArchivedIndexSet;
 use rkyv_base::element::Element;
 use rkyv_base::errors::ReadError;
 use rkyv_base::width::Width;
-use rkyv_keys::reading::Deserialize;
+use rkyv_keys::deserialize::Deserialize;
 use std::alloc::Global;
 
 impl<'a, K: Element, H, W: Width> ArchivedIndexSet<'a, K, H, W> {
@@ -19,7 +19,7 @@ impl<'a, K: Element, H, W: Width> ArchivedIndexSet<'a, K, H, W> {
         K: Deserialize<A>,
         requires below { place < index_len (keys_of self) }
         ensures { let at = key_pos (keys_of self.entry) place in
-            MatchResult result (K.stands (set_bytes self.entry) at)
+            MatchResult result (K.represents (set_bytes self.entry) at)
             (K.refuses (set_bytes self.entry) at) }
     {
         K::deserialize(alloc, self.map.entries().entry(place).key())
@@ -45,7 +45,7 @@ impl<'a, K: Element, H, W: Width> ArchivedIndexSet<'a, K, H, W> {
     where
         K: Deserialize<A>,
         ensures { MatchResult result
-            (λ list. ReadsItems K.stands self.entry list.items)
+            (λ list. ReadsItems K.represents self.entry list.items)
             (items_refuse K.refuses self.entry) }
     {
         let mut list = Vec::new(alloc);

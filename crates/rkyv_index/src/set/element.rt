@@ -1,20 +1,22 @@
 //! The header of an index set as an element, and its validator.
-ghost use Rattle.rkyv_base.specs.Empty.{unit_element, unit_shape};
-ghost use Rattle.rkyv_base.specs.Entry.{entry_element, entry_shape};
+ghost use Rattle.rkyv_base.specs.Empty.{unit_spec};
+ghost use Rattle.rkyv_base.specs.Lemmas.Empty.{unit_element};
+ghost use Rattle.rkyv_base.specs.Entry.{entry_spec};
+ghost use Rattle.rkyv_base.specs.Lemmas.Entry.{entry_element};
 ghost use Rattle.rkyv_index.specs.Lemmas.IndexLaws.{index_element};
-ghost use Rattle.rkyv_index.specs.IndexSet.{index_set_shape};
+ghost use Rattle.rkyv_index.specs.IndexSet.{index_set_spec};
 
 use crate::map::IndexMapOf;
 use crate::set::IndexSetOf;
-use rkyv_base::element::{Element, PartRange, Shaped};
+use rkyv_base::element::{Element, HasSpec, PartRange};
 use rkyv_base::errors::VerifyError;
 use rkyv_base::width::{Width, Word};
 
-impl<K: Shaped, H, W: Word> Shaped for IndexSetOf<K, H, W> {
-    ghost shape = { index_set_shape W.word K.shape };
+impl<K: HasSpec, H, W: Word> HasSpec for IndexSetOf<K, H, W> {
+    ghost spec = { index_set_spec W.word K.spec };
 
-    ghost laws = { index_element W.word W.kind (entry_shape K.shape unit_shape)
-        (entry_element K.shape unit_shape K.laws unit_element) };
+    ghost laws = { index_element W.word W.kind (entry_spec K.spec unit_spec)
+        (entry_element K.spec unit_spec K.laws unit_element) };
 }
 
 impl<K: Element, H, W: Width> Element for IndexSetOf<K, H, W> {

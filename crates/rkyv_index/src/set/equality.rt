@@ -1,17 +1,19 @@
 //! Equality of index sets, and counting the keys that a lookup of their own doesn't find.
 ghost use Rattle.std.specs.Cmp.{partial_equiv_from_equiv};
 ghost use Rattle.std.specs.Prelude.{◌≡◌};
-ghost use Rattle.rkyv_base.specs.Empty.{unit_element, unit_shape};
-ghost use Rattle.rkyv_base.specs.Entry.{entry_element, entry_shape};
-ghost use Rattle.rkyv_base.specs.View.{IsView};
-ghost use Rattle.rkyv_keys.specs.OfEntries.{entry_equivalence};
-ghost use Rattle.rkyv_keys.specs.OfUnits.{unit_equivalence};
+ghost use Rattle.rkyv_base.specs.Empty.{unit_spec};
+ghost use Rattle.rkyv_base.specs.Lemmas.Empty.{unit_element};
+ghost use Rattle.rkyv_base.specs.Entry.{entry_spec};
+ghost use Rattle.rkyv_base.specs.Lemmas.Entry.{entry_element};
+ghost use Rattle.rkyv_base.specs.View.{IsValidView};
+ghost use Rattle.rkyv_keys.specs.Lemmas.OfEntries.{entry_equivalence};
+ghost use Rattle.rkyv_keys.specs.Lemmas.OfUnits.{unit_equivalence};
 ghost use Rattle.rkyv_keys.specs.Places.{at_views};
 ghost use Rattle.rkyv_index.specs.Lemmas.EqualLaws.{index_equivalence};
 ghost use Rattle.rkyv_index.specs.Equality.{CountsRepeated, index_misplaced};
 ghost use Rattle.rkyv_index.specs.Index.{hash_at};
-ghost use Rattle.rkyv_index.specs.Lemmas.ViewedEqual.{sets_equality};
-ghost use Rattle.rkyv_index.specs.IndexSet.{index_of_set, index_set_equal, index_set_shape};
+ghost use Rattle.rkyv_index.specs.Lemmas.ViewableEqual.{sets_equality};
+ghost use Rattle.rkyv_index.specs.IndexSet.{index_of_set, index_set_equal, index_set_spec};
 ghost use Rattle.rkyv_index.specs.IndexSet.{index_sets_equal};
 
 use crate::set::{ArchivedIndexSet, IndexSetOf};
@@ -65,20 +67,20 @@ impl<'a, K: ElementEquiv, H, W: Width> Eq for ArchivedIndexSet<'a, K, H, W> {
 }
 
 impl<K: ElementEq, H, W: Width> ElementEq for IndexSetOf<K, H, W> {
-    ghost same = { index_set_equal W.word K.shape K.same };
+    ghost same = { index_set_equal W.word K.spec K.same };
 
     #[inline]
     fn same(a: View<'_, IndexSetOf<K, H, W>>, b: View<'_, IndexSetOf<K, H, W>>) -> bool
-        requires a { IsView (index_set_shape W.word K.shape) a }
-        requires b { IsView (index_set_shape W.word K.shape) b }
-        ensures { result ≡ at_views (index_set_equal W.word K.shape K.same) a.entry b.entry }
+        requires a { IsValidView (index_set_spec W.word K.spec) a }
+        requires b { IsValidView (index_set_spec W.word K.spec) b }
+        ensures { result ≡ at_views (index_set_equal W.word K.spec K.same) a.entry b.entry }
     {
         ArchivedIndexSet::of(a).eq_index(ArchivedIndexSet::of(b))
     }
 }
 
 impl<K: ElementEquiv, H, W: Width> ElementEquiv for IndexSetOf<K, H, W> {
-    ghost equivalence = { index_equivalence W.word (entry_shape K.shape unit_shape)
-        (entry_element K.shape unit_shape K.laws unit_element) (entry_equivalence K.laws
+    ghost equivalence = { index_equivalence W.word (entry_spec K.spec unit_spec)
+        (entry_element K.spec unit_spec K.laws unit_element) (entry_equivalence K.laws
         unit_element K.equivalence unit_equivalence) };
 }

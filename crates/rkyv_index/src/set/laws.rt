@@ -3,7 +3,7 @@ ghost use Rattle.rkyv_index.specs.Index.{hash_at};
 ghost use Rattle.rkyv_index.specs.Reading.{ItemsReadBackAreListed};
 
 use rkyv_base::width::Width;
-use rkyv_keys::equality::StandsAlone;
+use rkyv_keys::equality::RepresentsUniquely;
 use rkyv_keys::keys::KeyElement;
 use rkyv_scan::hash::KeyHasher;
 
@@ -12,10 +12,10 @@ use rkyv_scan::hash::KeyHasher;
 /// The bytes that are written of a list represent that list. `deserialize_items` deserializes.
 pub fn items_read_back_are_listed<
     A: PartialEq,
-    K: KeyElement + StandsAlone<A>,
+    K: KeyElement + RepresentsUniquely<A>,
     H: KeyHasher,
     W: Width,
 >()
-    ensures { ItemsReadBackAreListed W.word K.shape K.stands
+    ensures { ItemsReadBackAreListed W.word K.spec K.represents
         (hash_at H.hasher K.key_calls) A.eq }
 {}

@@ -5,11 +5,11 @@
 
 ghost use Rattle.std.specs.Prelude.{◌≡◌, ◌+◌, ◌<◌, ◌^◌, length};
 ghost use Rattle.rkyv_base.specs.Pairs.{written_as};
-ghost use Rattle.rkyv_index.specs.Handing.{WritesUnder, input};
+ghost use Rattle.rkyv_index.specs.Writing.{WritesUnder, input};
 ghost use Rattle.rkyv_index.specs.IndexFormat.{hash_of};
 ghost use Rattle.rkyv_index.specs.IndexHeader.{WritesIndexHeader};
 ghost use Rattle.rkyv_index.specs.SetFormat.{index_set_format};
-ghost use Rattle.rkyv_table.specs.Table.Lent.{lent_keys};
+ghost use Rattle.rkyv_table.specs.Table.ItemValues.{lent_keys};
 
 use crate::map::ArchivedIndexMap;
 use crate::map::resolve::IndexMapResolver;
@@ -17,14 +17,14 @@ use crate::map::serialize::ListFormat;
 use crate::set::{ArchivedIndexSet, IndexSetOf};
 use crate::width::PlaceWidth;
 use rkyv_base::archive::{Archive, ResolveResult, Serialize, WriteResult};
-use rkyv_base::element::{Element, StandsFor};
+use rkyv_base::element::{Element, Represents};
 use rkyv_base::lend::Lend;
 use rkyv_base::width::Narrow;
 use rkyv_base::writer::Writer;
 use rkyv_keys::hash::KeyHash;
 use rkyv_keys::keys::{KeyElement, NativeKey};
 use rkyv_scan::hash::KeyHasher;
-use rkyv_table::table::lent::WithUnits;
+use rkyv_table::table::list_inputs::WithUnits;
 use std::alloc::Global;
 
 /// The resolver of a written index set: that of the index map of its keys.
@@ -35,7 +35,7 @@ impl<K: Element, H: KeyHasher, W: PlaceWidth, A: KeyHash + Archive<W>, BK: Lend<
     A,
 > for IndexSetOf<K, H, W> {
     ghost format = { λ load_factor. written_as (lent_keys BK.lent)
-        (index_set_format W.word W.Place.shape W.Place.encoding K.shape A.format (hash_of
+        (index_set_format W.word W.Place.spec W.Place.encoding K.spec A.format (hash_of
         H.hasher A.calls)
         load_factor) };
 }
@@ -77,8 +77,8 @@ impl<'a, K: KeyElement, H: KeyHasher, W: PlaceWidth> ArchivedIndexSet<'a, K, H, 
         serializer: &mut S,
     ) -> WriteResult<IndexSetResolver<W>, S>
     where
-        K: StandsFor<A>,
-        requires can { I.can_next iter }
+        K: Represents<A>,
+        requires ready { I.can_next iter }
         ensures { let f = ⟦<IndexSetOf<K, H, W> as ListFormat<BK, A>>⟧.format in
             WritesUnder W.Width (input I.next_gives iter len load_factor) f
             (S.output serializer.old) (S.output serializer.new) result }

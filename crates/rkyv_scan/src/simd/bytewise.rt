@@ -40,7 +40,7 @@ impl Marks for Bitmask {
 
     ghost ascend = { λ m. flags_ascend m.marks };
 
-    ghost can = { λ _. tt };
+    ghost ready = { λ _. tt };
 
     ghost gives = { λ _ _ _ h. h };
 

@@ -37,7 +37,7 @@ impl Marks for Bitmask {
 
     ghost ascend = { λ m. mask_ascends 8 7 8 m.bits };
 
-    ghost can = { λ _. tt };
+    ghost ready = { λ _. tt };
 
     ghost gives = { λ _ _ _ h. h };
 

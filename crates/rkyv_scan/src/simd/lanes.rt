@@ -36,7 +36,7 @@ impl Marks for Bitmask {
 
     ghost ascend = { λ m. mask_ascends 1 0 16 m.bits };
 
-    ghost can = { λ _. tt };
+    ghost ready = { λ _. tt };
 
     ghost gives = { λ _ _ _ h. h };
 

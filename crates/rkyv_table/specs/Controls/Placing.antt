@@ -30,7 +30,7 @@ homes cap hashes = fold (with_home cap) [] hashes
 
 -- the control bytes mirror those of the buckets: from `cap` on they repeat the first ones,
 -- and from `2 * cap` on they are empty
-pub record Repeats (cap : ℕ) (controls : List ℕ) : Type 0 where
+pub record IsWrapped (cap : ℕ) (controls : List ℕ) : Type 0 where
   pub count : length controls ≡ control_count cap
   pub repeated : (q : ℕ) → cap ≤ q → q < 2 * cap → q < control_count cap
       → slice_index controls q ≡ slice_index controls (q - cap)
@@ -45,13 +45,13 @@ walk controls cap = filter (λ b. is_full (slice_index controls b)) (range_with_
 pub record Accepted (cap len : ℕ) (controls : List ℕ) : Type 0 where
   pub room : len < cap
   pub full : length (walk controls cap) ≡ len
-  pub repeats : Repeats cap controls
+  pub repeats : IsWrapped cap controls
 
 -- the control bytes of a written table: the tag at each home bucket, and 255 at other buckets
 -- and from `2 * cap` on
 pub record Written (cap : ℕ) (hashes homes controls : List ℕ) : Type 0 where
   pub placed : Homes cap hashes homes
-  pub repeats : Repeats cap controls
+  pub repeats : IsWrapped cap controls
   pub tags : (i : ℕ) → i < length hashes
       → slice_index controls (slice_index homes i) ≡ tag (slice_index hashes i)
   pub others : (b : ℕ) → b < cap → is_free homes b ≡ true → slice_index controls b ≡ 255

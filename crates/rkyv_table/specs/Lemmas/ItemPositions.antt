@@ -10,9 +10,9 @@ use Rattle.std.proofs.lemmas.Bool.{cases_Bool, cases_eq, lt-ltb, both_ways}
 use Rattle.std.proofs.lemmas.Int.{ints}
 use Rattle.rkyv_base.specs.Bytes.{signed_at}
 use Rattle.rkyv_base.specs.Parts.{PartIn}
-use Rattle.rkyv_base.specs.Shape.{IsElement, Shape}
+use Rattle.rkyv_base.specs.ElementSpec.{IsElement, ElementSpec}
 use Rattle.rkyv_scan.specs.Groups.{is_full}
-use Rattle.rkyv_table.specs.Table.Header.{begin_told, cap_at, controls_pos, len_at}
+use Rattle.rkyv_table.specs.Table.Header.{decode_begin, cap_at, controls_pos, len_at}
 use Rattle.rkyv_table.specs.Controls.Numbers.{control_count}
 use Rattle.rkyv_table.specs.Lemmas.PlaceLaws.{all_between}
 use Rattle.rkyv_table.specs.Table.Places.{AllHold}
@@ -24,7 +24,7 @@ use Rattle.rkyv_table.specs.Lemmas.TableLaws.{bucket_inside}
 
 -- the value at `q` is valid in a range of its own between `lo` and `hi`. It leaves a lower end
 -- that is at most `l`
-pub record HoldsWithin (s : Shape) (b : List ℕ) (q lo hi l : ℕ) : Type 0 where
+pub record HoldsWithin (s : ElementSpec) (b : List ℕ) (q lo hi l : ℕ) : Type 0 where
   pub lower : ℕ
   pub rest : ℕ
   pub above : lo ≤ lower
@@ -33,7 +33,7 @@ pub record HoldsWithin (s : Shape) (b : List ℕ) (q lo hi l : ℕ) : Type 0 whe
   pub holds : s.holds b q lower hi rest
 
 -- the same with a lesser lower end of the range
-abbrev pub within_lower : (s : Shape) (b : List ℕ) (q lo lo' hi l : ℕ) → lo' ≤ lo
+abbrev pub within_lower : (s : ElementSpec) (b : List ℕ) (q lo lo' hi l : ℕ) → lo' ≤ lo
     → HoldsWithin s b q lo hi l → HoldsWithin s b q lo' hi l
 within_lower s b q lo lo' hi l less h = record {
   lower = h.lower;
@@ -44,7 +44,7 @@ within_lower s b q lo lo' hi l less h = record {
   holds = h.holds;
 }
 
-module _ (s : Shape) (law : IsElement s) (at : ℕ → ℕ) where
+module _ (s : ElementSpec) (law : IsElement s) (at : ℕ → ℕ) where
   -- each of several values that are valid in order is valid within the range
   pub each_holds : (P : ℕ → Bool) (b : List ℕ) (hi a n lo l i : ℕ) → lo ≤ hi
       → AllHold s at b hi (filter P (range_with_len a n)) lo l → a ≤ i → i < a + n → P i ≡ true
@@ -53,7 +53,7 @@ module _ (s : Shape) (law : IsElement s) (at : ℕ → ℕ) where
   each_holds P b hi a (suc n) lo l i o h from to t = elim (cases_Bool (P a)) [
     | inl y ↦
         let h' : AllHold s at b hi (a ∷ filter P (range_with_len (a + 1) n)) lo l = rw y at h in
-        let k : (lo ≤ h'.0) × (h'.0 ≤ hi) = law.between b (at a) lo hi h'.0 o h'.1 in
+        let k : (lo ≤ h'.0) × (h'.0 ≤ hi) = law.rest_in_range b (at a) lo hi h'.0 o h'.1 in
         let after = all_between s law at b hi (filter P (range_with_len (a + 1) n)) h'.0 l k.1
         h'.2 in
         elim (cases_eq a i) [
@@ -80,7 +80,7 @@ module _ (s : Shape) (law : IsElement s) (at : ℕ → ℕ) where
   ]
 
 -- the item in a full bucket is valid within the range
-pub bucket_holds_within : (s : Shape) → IsElement s → (b : List ℕ) (begin cap lo l i : ℕ)
+pub bucket_holds_within : (s : ElementSpec) → IsElement s → (b : List ℕ) (begin cap lo l i : ℕ)
     → lo ≤ begin → ItemsHold s b begin cap lo l → i < cap
     → slice_index (controls_at s.size b begin cap) i < 128
     → HoldsWithin s b (bucket_at s.size begin cap i) lo begin l
@@ -92,7 +92,7 @@ bucket_holds_within s law b begin cap lo l i o h below full =
     (lt-ltb (slice_index (controls_at s.size b begin cap) i) 128 full)
 
 module _ (w : Width) (size : ℕ) (b : List ℕ) (p begin : ℕ) (told : pos begin
-    ≡ begin_told w size b p) where
+    ≡ decode_begin w size b p) where
   -- the position of the control bytes
   pub told_pos : controls_pos w b p ≡ begin + cap_at w b p * size
   told_pos =
@@ -114,13 +114,14 @@ module _ (w : Width) (size : ℕ) (b : List ℕ) (p begin : ℕ) (told : pos beg
       ap (λ z. z - (i + 1) * size) told_pos ∙ omega (arith, m)
 
 -- the buckets and the control bytes of a valid table whose header has buckets
-pub record HeldPart (w : Width) (s : Shape) (b : List ℕ) (p lo hi l : ℕ) : Type 0 where
+pub record HeldPart (w : Width) (s : ElementSpec) (b : List ℕ) (p lo hi l : ℕ) : Type 0 where
   pub begin : ℕ
-  pub part : PartIn (begin_told w s.size b p) (part_size s.size (cap_at w b p)) s.align lo hi begin
+  pub part : PartIn (decode_begin w s.size b p) (part_size s.size
+      (cap_at w b p)) s.align lo hi begin
   pub is : IsPart s b (cap_at w b p) (len_at w b p) lo begin
   pub ends : l ≡ begin + part_size s.size (cap_at w b p)
 
-module _ (w : Width) (s : Shape) (law : IsElement s) (b : List ℕ) (p lo hi l : ℕ)
+module _ (w : Width) (s : ElementSpec) (law : IsElement s) (b : List ℕ) (p lo hi l : ℕ)
     (h : TableHolds w s b p lo hi l) where
   pub holds_at : 0 < cap_at w b p → HeldPart w s b p lo hi l
   holds_at some = elim h [

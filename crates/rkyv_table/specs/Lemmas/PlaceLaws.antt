@@ -6,9 +6,10 @@ use Rattle.std.proofs.Common.{refl, arith, subst, sym, ◌∙◌, inl, inr}
 use Rattle.std.proofs.Props.{props}
 use Rattle.std.proofs.lemmas.Bool.{cases_Bool}
 use Rattle.rkyv_base.specs.declared.errors.VerifyError.{VerifyError}
-use Rattle.rkyv_base.specs.Bytes.{Same, same_part}
+use Rattle.rkyv_base.specs.Bytes.{AgreeOn}
+use Rattle.rkyv_base.specs.Lemmas.Bytes.{agree_on_part}
 use Rattle.rkyv_base.specs.Lemmas.Props.{only_one, prop_by}
-use Rattle.rkyv_base.specs.Shape.{Shape, IsElement}
+use Rattle.rkyv_base.specs.ElementSpec.{ElementSpec, IsElement}
 use Rattle.rkyv_table.specs.Table.Places.{AllHold, FirstFails}
 
 -- all are below `n`
@@ -26,12 +27,12 @@ filter_below P a (suc n) m h = elim (cases_Bool (P a)) [
 pub range_below : (P : ℕ → Bool) (n : ℕ) → AllBelow n (filter P (range_with_len 0 n))
 range_below P n = filter_below P 0 n n (omega arith)
 
-module _ (s : Shape) (law : IsElement s) (at : ℕ → ℕ) where
+module _ (s : ElementSpec) (law : IsElement s) (at : ℕ → ℕ) where
   pub all_between : (b : List ℕ) (hi : ℕ) (is : List ℕ) (lo l : ℕ) → lo ≤ hi
       → AllHold s at b hi is lo l → (lo ≤ l) × (l ≤ hi)
   all_between b hi [] lo l o h = (omega arith, omega arith)
   all_between b hi (i ∷ is) lo l o h =
-      let k : (lo ≤ h.0) × (h.0 ≤ hi) = law.between b (at i) lo hi h.0 o h.1 in
+      let k : (lo ≤ h.0) × (h.0 ≤ hi) = law.rest_in_range b (at i) lo hi h.0 o h.1 in
       let r : (h.0 ≤ l) × (l ≤ hi) = all_between b hi is h.0 l k.1 h.2 in
       (omega arith, r.1)
 
@@ -40,7 +41,7 @@ module _ (s : Shape) (law : IsElement s) (at : ℕ → ℕ) where
       → AllHold s at b hi is lo l' → l ≡ l'
   all_one b hi [] lo l l' h h' = h ∙ sym h'
   all_one b hi (i ∷ is) lo l l' h h' =
-      let q : h'.0 ≡ h.0 = law.one b (at i) lo hi h'.0 h.0 h'.1 h.1 in
+      let q : h'.0 ≡ h.0 = law.rest_unique b (at i) lo hi h'.0 h.0 h'.1 h.1 in
       all_one b hi is h.0 l l' h.2 (subst (λ m. AllHold s at b hi is m l') q h'.2)
 
   pub all_prop : (b : List ℕ) (hi : ℕ) (is : List ℕ) (lo l : ℕ)
@@ -50,15 +51,15 @@ module _ (s : Shape) (law : IsElement s) (at : ℕ → ℕ) where
       prop_by {B = (m : ℕ) × (s.holds b (at i) lo hi m × AllHold s at b hi is m l)}
       (λ h. (h.0, (h.1, h.2))) (λ h. (h.0, h.1.0, h.1.1)) (λ _. refl)
       (only_one (λ m. ×_prop (law.proper b (at i) lo hi m) (all_prop b hi is m l))
-      (λ m m' h h'. law.one b (at i) lo hi m m' h.0 h'.0))
+      (λ m m' h h'. law.rest_unique b (at i) lo hi m m' h.0 h'.0))
 
-  pub all_clear : (b : List ℕ) (hi : ℕ) (is : List ℕ) (lo l : ℕ) (e : VerifyError)
+  pub all_exclusive : (b : List ℕ) (hi : ℕ) (is : List ℕ) (lo l : ℕ) (e : VerifyError)
       → AllHold s at b hi is lo l → FirstFails s at b hi is lo e → ⊥
-  all_clear b hi [] lo l e h f = f
-  all_clear b hi (i ∷ is) lo l e h (inl f) = law.clear b (at i) lo hi h.0 e h.1 f
-  all_clear b hi (i ∷ is) lo l e h (inr f) =
-      let q : f.0 ≡ h.0 = law.one b (at i) lo hi f.0 h.0 f.1 h.1 in
-      all_clear b hi is h.0 l e h.2 (subst (λ m. FirstFails s at b hi is m e) q f.2)
+  all_exclusive b hi [] lo l e h f = f
+  all_exclusive b hi (i ∷ is) lo l e h (inl f) = law.exclusive b (at i) lo hi h.0 e h.1 f
+  all_exclusive b hi (i ∷ is) lo l e h (inr f) =
+      let q : f.0 ≡ h.0 = law.rest_unique b (at i) lo hi f.0 h.0 f.1 h.1 in
+      all_exclusive b hi is h.0 l e h.2 (subst (λ m. FirstFails s at b hi is m e) q f.2)
 
   -- the first fault of the values is unique
   pub all_one_failure : (b : List ℕ) (hi : ℕ) (is : List ℕ) (lo : ℕ) (e e' : VerifyError)
@@ -66,11 +67,11 @@ module _ (s : Shape) (law : IsElement s) (at : ℕ → ℕ) where
   all_one_failure b hi [] lo e e' f g = absurd f
   all_one_failure b hi (i ∷ is) lo e e' (inl f) (inl g) = law.one_failure b (at i) lo hi e e' f g
   all_one_failure b hi (i ∷ is) lo e e' (inl f) (inr g) =
-      absurd (law.clear b (at i) lo hi g.0 e g.1 f)
+      absurd (law.exclusive b (at i) lo hi g.0 e g.1 f)
   all_one_failure b hi (i ∷ is) lo e e' (inr f) (inl g) =
-      absurd (law.clear b (at i) lo hi f.0 e' f.1 g)
+      absurd (law.exclusive b (at i) lo hi f.0 e' f.1 g)
   all_one_failure b hi (i ∷ is) lo e e' (inr f) (inr g) =
-      let q : g.0 ≡ f.0 = law.one b (at i) lo hi g.0 f.0 g.1 f.1 in
+      let q : g.0 ≡ f.0 = law.rest_unique b (at i) lo hi g.0 f.0 g.1 f.1 in
       all_one_failure b hi is f.0 e e' f.2 (subst (λ m. FirstFails s at b hi is m e') q g.2)
 
   pub all_lower : (b : List ℕ) (hi : ℕ) (is : List ℕ) (lo lo' l : ℕ) → lo' ≤ lo → lo ≤ hi
@@ -78,26 +79,26 @@ module _ (s : Shape) (law : IsElement s) (at : ℕ → ℕ) where
       → (l' : ℕ) × AllHold s at b hi is lo' l' × (l' ≤ l)
   all_lower b hi [] lo lo' l o o' h = (lo', refl, omega arith)
   all_lower b hi (i ∷ is) lo lo' l o o' h =
-      let k : (lo ≤ h.0) × (h.0 ≤ hi) = law.between b (at i) lo hi h.0 o' h.1 in
+      let k : (lo ≤ h.0) × (h.0 ≤ hi) = law.rest_in_range b (at i) lo hi h.0 o' h.1 in
       let d : (m : ℕ) × s.holds b (at i) lo' hi m × (m ≤ h.0) =
-      law.lower b (at i) lo lo' hi h.0 o o' h.1 in
+      law.lower_lo b (at i) lo lo' hi h.0 o o' h.1 in
       let r : (m : ℕ) × AllHold s at b hi is d.0 m × (m ≤ l) =
       all_lower b hi is h.0 d.0 l d.2 k.1 h.2 in
       (r.0, (d.0, d.1, r.1), r.2)
 
   -- the validity of the values depends only on the bytes from `x` on and below `y`,
   -- if the positions below `n` are in there
-  pub all_near : (b c : List ℕ) (x y n hi : ℕ) (is : List ℕ) (lo l : ℕ) → Same b c x y → x ≤ lo
+  pub all_local : (b c : List ℕ) (x y n hi : ℕ) (is : List ℕ) (lo l : ℕ) → AgreeOn b c x y → x ≤ lo
       → lo ≤ hi → hi ≤ y → AllBelow n is
       → ((i : ℕ) → i < n → (x ≤ at i) × (at i + s.size ≤ y)) → AllHold s at b hi is lo l
       → AllHold s at c hi is lo l
-  all_near b c x y n hi [] lo l same o o' o'' below inside h = h
-  all_near b c x y n hi (i ∷ is) lo l same o o' o'' below inside h =
-      let k : (lo ≤ h.0) × (h.0 ≤ hi) = law.between b (at i) lo hi h.0 o' h.1 in
+  all_local b c x y n hi [] lo l same o o' o'' below inside h = h
+  all_local b c x y n hi (i ∷ is) lo l same o o' o'' below inside h =
+      let k : (lo ≤ h.0) × (h.0 ≤ hi) = law.rest_in_range b (at i) lo hi h.0 o' h.1 in
       let u : (x ≤ at i) × (at i + s.size ≤ y) = inside i below.0 in (
         h.0,
-        law.near b c (at i) lo hi h.0 o'
-            (same_part b c x y (at i) (at i + s.size) u.0 u.1 (omega arith) same)
-            (same_part b c x y lo h.0 o (omega arith) k.0 same) h.1,
-        all_near b c x y n hi is h.0 l same (omega arith) k.1 o'' below.1 inside h.2,
+        law.local b c (at i) lo hi h.0 o'
+            (agree_on_part b c x y (at i) (at i + s.size) u.0 u.1 (omega arith) same)
+            (agree_on_part b c x y lo h.0 o (omega arith) k.0 same) h.1,
+        all_local b c x y n hi is h.0 l same (omega arith) k.1 o'' below.1 inside h.2,
       )

@@ -2,8 +2,9 @@
 use Rattle.std.proofs.Common.{◌≡◌, ℕ, ◌+◌, ◌*◌, ◌<◌, ◌≤◌, ap, ◌∙◌, arith, List}
 use Rattle.std.specs.Int.{Width, byte_len}
 use Rattle.std.specs.Prelude.{slice_range}
-use Rattle.rkyv_base.specs.Bytes.{Same, same_part}
-use Rattle.rkyv_base.specs.Shape.{IsElement, Shape}
+use Rattle.rkyv_base.specs.Bytes.{AgreeOn}
+use Rattle.rkyv_base.specs.Lemmas.Bytes.{agree_on_part}
+use Rattle.rkyv_base.specs.ElementSpec.{IsElement, ElementSpec}
 use Rattle.rkyv_table.specs.Controls.Numbers.{control_count}
 use Rattle.rkyv_table.specs.Lemmas.ItemPositions.{holds_at, told_pos}
 use Rattle.rkyv_table.specs.Lemmas.SameHeader.{cap_same, pos_same}
@@ -11,8 +12,9 @@ use Rattle.rkyv_table.specs.Table.Header.{cap_at, controls_pos}
 use Rattle.rkyv_table.specs.Table.Layout.{TableHolds}
 use Rattle.rkyv_table.specs.Table.Positions.{table_controls}
 
-pub same_controls : (w : Width) (s : Shape) → IsElement s → (b c : List ℕ) (p lo hi l : ℕ) → lo ≤ hi
-    → TableHolds w s b p lo hi l → Same b c p (p + 3 * byte_len w) → Same b c lo l
+pub same_controls : (w : Width) (s : ElementSpec) → IsElement s → (b c : List ℕ) (p lo hi l : ℕ)
+    → lo ≤ hi
+    → TableHolds w s b p lo hi l → AgreeOn b c p (p + 3 * byte_len w) → AgreeOn b c lo l
     → 0 < cap_at w b p → table_controls w b p ≡ table_controls w c p
 same_controls w s law b c p lo hi l o h fixed part some =
     let t = holds_at w s law b p lo hi l h some in
@@ -20,7 +22,7 @@ same_controls w s law b c p lo hi l o h fixed part some =
     let above = t.part.above in
     let ends = t.ends in
     let z = controls_pos w b p in
-    same_part b c lo l z (z + control_count (cap_at w b p)) (omega (arith, at, above))
+    agree_on_part b c lo l z (z + control_count (cap_at w b p)) (omega (arith, at, above))
     (omega (arith, at, ends)) (omega arith) part
     ∙ ap (λ n. slice_range c n (n + control_count (cap_at w b p))) (pos_same w b c p fixed)
     ∙ ap (λ n. slice_range c (controls_pos w c p) (controls_pos w c p + control_count n))

@@ -2,15 +2,17 @@
 use Rattle.std.specs.Prelude.{◌≡◌, ℕ, ◌+◌, ◌-◌, ◌*◌, ◌≤◌, pos, ◌+ℤ◌, ◌-ℤ◌, List, unsigned_abs}
 use Rattle.std.specs.Int.{Width, byte_len, cast_signed, from_le_bytes}
 use Rattle.std.proofs.Common.{arith, ap, subst, ◌∙◌}
-use Rattle.rkyv_base.specs.Bytes.{Same, number_at, same_part, signed_at}
-use Rattle.rkyv_table.specs.Table.Header.{begin_told, cap_at, controls_pos, len_at}
+use Rattle.rkyv_base.specs.Bytes.{AgreeOn, number_at, signed_at}
+use Rattle.rkyv_base.specs.Lemmas.Bytes.{agree_on_part}
+use Rattle.rkyv_table.specs.Table.Header.{decode_begin, cap_at, controls_pos, len_at}
 use Rattle.rkyv_table.specs.Table.Positions.{item_at}
 
-module _ (w : Width) (b c : List ℕ) (p : ℕ) (same : Same b c p (p + 3 * byte_len w)) where
+module _ (w : Width) (b c : List ℕ) (p : ℕ) (same : AgreeOn b c p (p + 3 * byte_len w)) where
   number_same : (k : ℕ) → k + byte_len w ≤ 3 * byte_len w
       → number_at w b (p + k) ≡ number_at w c (p + k)
   number_same k fits = ap (from_le_bytes w)
-      (same_part b c p (p + 3 * byte_len w) (p + k) (p + k + byte_len w) (omega arith) (omega arith)
+      (agree_on_part b c p (p + 3 * byte_len w) (p + k) (p + k + byte_len w) (omega arith)
+      (omega arith)
       (omega arith) same)
 
   pub len_same : len_at w b p ≡ len_at w c p
@@ -25,7 +27,7 @@ module _ (w : Width) (b c : List ℕ) (p : ℕ) (same : Same b c p (p + 3 * byte
       ap (cast_signed w) (subst (λ n. number_at w b n
       ≡ number_at w c n) z (number_same 0 (omega arith)))
 
-  pub begin_same : (size : ℕ) → begin_told w size b p ≡ begin_told w size c p
+  pub begin_same : (size : ℕ) → decode_begin w size b p ≡ decode_begin w size c p
   begin_same size =
       ap (λ d. (pos p +ℤ d) -ℤ pos (cap_at w b p * size)) distance_same
       ∙ ap (λ n. (pos p +ℤ signed_at w c p) -ℤ pos (n * size)) cap_same

@@ -3,11 +3,13 @@ use Rattle.std.proofs.Common.{arith, refl, sym, ◌∙◌, ap, subst, zero, leng
 use Rattle.std.proofs.lemmas.Option.{none-some, same_Some}
 use Rattle.std.specs.Prelude.{◌≡◌, ℕ, suc, ◌+◌, ◌-◌, ◌*◌, ◌%◌, ◌≤◌, List, [], ◌∷◌, ◌++◌, drop}
 use Rattle.std.specs.Prelude.{length, slice_get, Option, Some, None}
-use Rattle.rkyv_base.specs.Bytes.{Sits, sits_back, sits_front}
+use Rattle.rkyv_base.specs.Bytes.{OccursAt}
+use Rattle.rkyv_base.specs.Lemmas.Bytes.{occurs_back, occurs_front}
 use Rattle.rkyv_base.specs.Format.{Format, IsFormat}
-use Rattle.rkyv_base.specs.Shape.{IsAlign, IsElement, Shape, by_align, sum_multiple}
+use Rattle.rkyv_base.specs.ElementSpec.{IsAlign, IsElement, ElementSpec}
+use Rattle.rkyv_base.specs.Lemmas.ElementSpec.{by_align, sum_multiple}
 use Rattle.rkyv_base.specs.Writing.{zeros}
-use Rattle.rkyv_table.specs.Table.Buckets.{images_length}
+use Rattle.rkyv_table.specs.Lemmas.Buckets.{images_length}
 use Rattle.rkyv_table.specs.Table.Places.{AllHold}
 use Rattle.rkyv_table.specs.Lemmas.PlaceLaws.{all_lower}
 use Rattle.rkyv_table.specs.Lemmas.SlotWalk.{filled_from}
@@ -27,8 +29,8 @@ same_both x y xs ys e = (same_Some x y (ap (λ l. slice_get l 0) e), ap (λ l. d
 zero_multiple : (a : ℕ) → IsAlign a → 0 % a ≡ 0
 zero_multiple a al = by_align (λ v. 0 % v ≡ 0) refl refl refl refl a al
 
-module _ {X R : Type 0} (s : Shape) (laws : IsElement s) (stands : List ℕ → ℕ → X
-    → Type 0) (f : Format X R) (fl : IsFormat s stands f) (c : List ℕ) (cap begin : ℕ)
+module _ {X R : Type 0} (s : ElementSpec) (laws : IsElement s) (represents : List ℕ → ℕ → X
+    → Type 0) (f : Format X R) (fl : IsFormat s represents f) (c : List ℕ) (cap begin : ℕ)
     (aligned : begin % s.align ≡ 0) where
   many : (n : ℕ) → (n * s.size) % s.align ≡ 0
   many zero = subst (λ k. k % s.align ≡ 0) (sym (zero_times s.size))
@@ -40,31 +42,35 @@ module _ {X R : Type 0} (s : Shape) (laws : IsElement s) (stands : List ℕ → 
   at = bucket_at s.size begin cap
 
   -- each item is represented in its bucket, counted from `b` on
-  abbrev pub SlotsStand : ℕ → List (Option X) → Type 0
-  SlotsStand b ss = (i : ℕ) (x : X) → slice_get ss i ≡ Some (Some x) → stands c (at (b + i)) x
+  abbrev pub SlotsRepresent : ℕ → List (Option X) → Type 0
+  SlotsRepresent b ss = (i : ℕ) (x : X) → slice_get ss i ≡ Some (Some x)
+      → represents c (at (b + i)) x
 
-  next_stand : (b : ℕ) (ss : List (Option X)) → SlotsStand (b + 1) ss → SlotsStand b (None ∷ ss)
-  next_stand b ss h zero x e = absurd (none-some x (same_Some None (Some x) e))
-  next_stand b ss h (suc i) x e =
+  next_represent : (b : ℕ) (ss : List (Option X)) → SlotsRepresent (b + 1) ss
+      → SlotsRepresent b (None ∷ ss)
+  next_represent b ss h zero x e = absurd (none-some x (same_Some None (Some x) e))
+  next_represent b ss h (suc i) x e =
       let n : (b + 1) + i ≡ b + suc i = omega arith in
-      subst (λ k. stands c (at k) x) n (h i x e)
+      subst (λ k. represents c (at k) x) n (h i x e)
 
-  more_stand : (b : ℕ) (y : X) (ss : List (Option X)) → stands c (at b) y → SlotsStand (b + 1) ss
-      → SlotsStand b (Some y ∷ ss)
-  more_stand b y ss one h zero x e =
+  more_represent : (b : ℕ) (y : X) (ss : List (Option X)) → represents c (at b) y
+      → SlotsRepresent (b + 1) ss
+      → SlotsRepresent b (Some y ∷ ss)
+  more_represent b y ss one h zero x e =
       let n : b ≡ b + 0 = omega arith in
-      subst (λ k. stands c (at k) x) n
-      (subst (λ v. stands c (at b) v) (same_Some y x (same_Some (Some y) (Some x) e)) one)
-  more_stand b y ss one h (suc i) x e =
+      subst (λ k. represents c (at k) x) n
+      (subst (λ v. represents c (at b) v) (same_Some y x (same_Some (Some y) (Some x) e)) one)
+  more_represent b y ss one h (suc i) x e =
       let n : (b + 1) + i ≡ b + suc i = omega arith in
-      subst (λ k. stands c (at k) x) n (h i x e)
+      subst (λ k. represents c (at k) x) n (h i x e)
 
   -- the buckets from `b` on are valid and represent their items
   pub slots_sound : (ss : List (Option X)) (b p z : ℕ) (part out : List ℕ) (rs : List R)
       → b + length ss ≡ cap → SlotParts f ss p part rs → SlotImages s.size f ss rs z out
-      → Sits c p part → Sits c begin out → begin + length ss * s.size ≡ z → p + length part ≤ begin
+      → OccursAt c p part → OccursAt c begin out → begin + length ss * s.size ≡ z
+      → p + length part ≤ begin
       → (l : ℕ) × AllHold s at c begin (filled_from b ss) p l × (l ≤ p + length part)
-      × SlotsStand b ss
+      × SlotsRepresent b ss
   slots_sound [] b p z part out rs n m i sp so e o =
       (p, refl, omega arith, λ k x g. absurd (none-some (Some x) g))
   slots_sound (None ∷ ss) b p z part out rs n m i sp so e o =
@@ -72,8 +78,8 @@ module _ {X R : Type 0} (s : Shape) (laws : IsElement s) (stands : List ℕ → 
       omega (arith, e, times_one (length ss) s.size) in
       let n' : (b + 1) + length ss ≡ cap = omega (arith, n) in
       let rec = slots_sound ss (b + 1) p (z - s.size) part i.0 rs n' m i.1 sp
-      (sits_front c begin i.0 (zeros s.size) (subst (Sits c begin) i.2 so)) e' o in
-      (rec.0, rec.1, rec.2, next_stand b ss rec.3)
+      (occurs_front c begin i.0 (zeros s.size) (subst (OccursAt c begin) i.2 so)) e' o in
+      (rec.0, rec.1, rec.2, next_represent b ss rec.3)
   slots_sound (Some x ∷ ss) b p z part out rs n m i sp so e o =
       let e' : begin + length ss * s.size ≡ z - s.size =
       omega (arith, e, times_one (length ss) s.size) in
@@ -83,25 +89,25 @@ module _ {X R : Type 0} (s : Shape) (laws : IsElement s) (stands : List ℕ → 
       let a : List ℕ = m.0 in
       let q : List ℕ = m.2 in
       let same = same_both m.1 i.0 m.3 i.1 (sym m.7 ∙ i.4) in
-      let spq : Sits c p (a ++ q) = subst (Sits c p) m.6 sp in
-      let sio : Sits c begin (i.2 ++ i.3) = subst (Sits c begin) i.7 so in
+      let spq : OccursAt c p (a ++ q) = subst (OccursAt c p) m.6 sp in
+      let sio : OccursAt c begin (i.2 ++ i.3) = subst (OccursAt c begin) i.7 so in
       let k : length i.2 ≡ length ss * s.size =
-      images_length s.size f (λ v r w o g. fl.whole v r w o g) ss i.1 (z - s.size) i.2
+      images_length s.size f (λ v r w o g. fl.size_exact v r w o g) ss i.1 (z - s.size) i.2
       i.6 in
-      let sone : Sits c (at b) i.3 =
-      subst (λ y. Sits c y i.3) (ap (λ y. begin + y) k ∙ e'
-      ∙ here) (sits_back c begin i.2 i.3 sio) in
+      let sone : OccursAt c (at b) i.3 =
+      subst (λ y. OccursAt c y i.3) (ap (λ y. begin + y) k ∙ e'
+      ∙ here) (occurs_back c begin i.2 i.3 sio) in
       let np : length part ≡ length a + length q = ap length m.6 ∙ length-append a q in
       let al : at b % s.align ≡ 0 = sum_multiple begin ((cap - (b + 1)) * s.size) s.align
       laws.align_is aligned (many (cap - (b + 1))) in
       let im : f.image x i.0 (at b) i.3 = subst (λ y. f.image x i.0 y i.3) here i.5 in
       let d = fl.sound x i.0 c p (at b) a i.3 (subst (λ r. f.parts x p a r) same.0 m.4) im
-      (sits_front c p a q spq) sone (omega arith) al in
-      let w = laws.between c (at b) p (p + length a) d.0 (omega arith) d.1 in
-      let h1 = laws.higher c (at b) p (p + length a) begin d.0 (omega arith) d.1 in
+      (occurs_front c p a q spq) sone (omega arith) al in
+      let w = laws.rest_in_range c (at b) p (p + length a) d.0 (omega arith) d.1 in
+      let h1 = laws.widen_hi c (at b) p (p + length a) begin d.0 (omega arith) d.1 in
       let rec = slots_sound ss (b + 1) (p + length a) (z - s.size) q i.2 i.1 n'
-      (subst (λ y. SlotParts f ss (p + length a) q y) same.1 m.5) i.6 (sits_back c p a q spq)
-      (sits_front c begin i.2 i.3 sio) e' (omega arith) in
+      (subst (λ y. SlotParts f ss (p + length a) q y) same.1 m.5) i.6 (occurs_back c p a q spq)
+      (occurs_front c begin i.2 i.3 sio) e' (omega arith) in
       let low = all_lower s laws at c begin (filled_from (b + 1) ss) (p + length a) d.0 rec.0 w.1
       (omega arith) rec.1 in
-      (low.0, (d.0, h1, low.1), omega (arith, low.2, rec.2, np), more_stand b x ss d.2 rec.3)
+      (low.0, (d.0, h1, low.1), omega (arith, low.2, rec.2, np), more_represent b x ss d.2 rec.3)

@@ -11,7 +11,7 @@ use Rattle.std.specs.Prelude.{filter, length, slice_get, slice_index, Option, So
 use Rattle.rkyv_scan.specs.Groups.{is_full}
 use Rattle.rkyv_table.specs.Controls.Placing.{is_free, walk}
 use Rattle.rkyv_table.specs.Table.Slots.{filled}
-use Rattle.rkyv_table.specs.Table.Taking.{Placed, hashes_of, items_of}
+use Rattle.rkyv_table.specs.Table.PlacedItems.{Placed, hashes_of, items_of}
 
 -- the buckets from `b` on whose slots have an item
 abbrev pub filled_from : {X : Type 0} → ℕ → List (Option X) → List ℕ

@@ -10,24 +10,28 @@ use Rattle.std.proofs.lemmas.Nat.{mul-mod}
 use Rattle.rkyv_scan.specs.Groups.{is_full}
 use Rattle.rkyv_base.specs.declared.errors.VerifyError.{VerifyError}
 use Rattle.rkyv_base.specs.declared.errors.VerifyError.TheVariants.{UnwrappedControlByte}
-use Rattle.rkyv_base.specs.Bytes.{Same, same_part}
+use Rattle.rkyv_base.specs.Bytes.{AgreeOn}
+use Rattle.rkyv_base.specs.Lemmas.Bytes.{agree_on_part}
 use Rattle.rkyv_base.specs.Lemmas.Props.{either_prop, only_one, prop_by}
-use Rattle.rkyv_base.specs.Parts.{PartIn, part_clear, part_one, part_one_failure, part_prop}
-use Rattle.rkyv_base.specs.Parts.{part_wider}
-use Rattle.rkyv_base.specs.Shape.{Shape, IsElement, IsAlign, by_align, sum_multiple}
-use Rattle.rkyv_base.specs.Text.{IsArchiveWord, by_archive_word}
-use Rattle.rkyv_table.specs.Table.Header.{begin_told, cap_at, len_at}
+use Rattle.rkyv_base.specs.Parts.{PartIn}
+use Rattle.rkyv_base.specs.Lemmas.Parts.{part_exclusive, part_one, part_one_failure, part_prop}
+use Rattle.rkyv_base.specs.Lemmas.Parts.{part_wider}
+use Rattle.rkyv_base.specs.ElementSpec.{ElementSpec, IsElement, IsAlign}
+use Rattle.rkyv_base.specs.Lemmas.ElementSpec.{by_align, sum_multiple}
+use Rattle.rkyv_base.specs.Text.{IsArchiveWord}
+use Rattle.rkyv_base.specs.Lemmas.Text.{by_archive_word}
+use Rattle.rkyv_table.specs.Table.Header.{decode_begin, cap_at, len_at}
 use Rattle.rkyv_table.specs.Controls.Numbers.{control_count}
 use Rattle.rkyv_table.specs.Table.Places.{AllHold}
-use Rattle.rkyv_table.specs.Lemmas.PlaceLaws.{AllBelow, all_clear, all_lower, all_near}
+use Rattle.rkyv_table.specs.Lemmas.PlaceLaws.{AllBelow, all_exclusive, all_lower, all_local}
 use Rattle.rkyv_table.specs.Lemmas.PlaceLaws.{all_one, all_prop}
 use Rattle.rkyv_table.specs.Lemmas.PlaceLaws.{all_one_failure, range_below}
-use Rattle.rkyv_table.specs.Controls.Placing.{Accepted, Repeats, walk}
-use Rattle.rkyv_table.specs.Controls.Repeating.{FirstUnlike}
+use Rattle.rkyv_table.specs.Controls.Placing.{Accepted, IsWrapped, walk}
+use Rattle.rkyv_table.specs.Controls.Repeating.{FirstUnwrapped}
 use Rattle.rkyv_table.specs.Lemmas.SameHeader.{begin_same, cap_same, len_same}
 use Rattle.rkyv_table.specs.Table.Layout.{FailsInside, IsPart, ItemsHold, TableAt, TableFailsAt}
 use Rattle.rkyv_table.specs.Table.Layout.{TableHolds, bucket_at, controls_at, part_size}
-use Rattle.rkyv_table.specs.Table.Layout.{table_shape}
+use Rattle.rkyv_table.specs.Table.Layout.{table_spec}
 
 -- a bucket is between the begin of the buckets and the control bytes
 pub bucket_inside : (size begin cap i : ℕ) → i < cap → (begin ≤ bucket_at size begin cap i)
@@ -37,7 +41,7 @@ bucket_inside size begin cap i h =
     (omega arith, omega (arith, m))
 
 -- a bucket is aligned
-pub bucket_aligned : (s : Shape) → IsElement s → (begin cap i : ℕ) → begin % s.align ≡ 0
+pub bucket_aligned : (s : ElementSpec) → IsElement s → (begin cap i : ℕ) → begin % s.align ≡ 0
     → bucket_at s.size begin cap i % s.align ≡ 0
 bucket_aligned s law begin cap i h =
     let z : ((cap - (i + 1)) % s.align * 0) % s.align ≡ 0 =
@@ -53,14 +57,15 @@ unfolding walk
 walk_below controls cap = range_below (λ b. is_full (slice_index controls b)) cap
 
 -- control bytes that mirror those of the buckets have no first failure
-repeats_clear : (cap q : ℕ) (controls : List ℕ) → Repeats cap controls → FirstUnlike cap controls q
+repeats_exclusive : (cap q : ℕ) (controls : List ℕ) → IsWrapped cap controls
+    → FirstUnwrapped cap controls q
     → ⊥
-repeats_clear cap q controls r u =
+repeats_exclusive cap q controls r u =
     u.unlike ((λ lt. r.repeated q u.from lt u.below), (λ ge. r.past q ge u.below))
 
 -- the first failure of control bytes is unique
-unlike_one : (cap q q' : ℕ) (controls : List ℕ) → FirstUnlike cap controls q
-    → FirstUnlike cap controls q' → q ≡ q'
+unlike_one : (cap q q' : ℕ) (controls : List ℕ) → FirstUnwrapped cap controls q
+    → FirstUnwrapped cap controls q' → q ≡ q'
 unlike_one cap q q' controls u u' = elim (cases_lt q q') [
   | inl below ↦ absurd (u.unlike (u'.least q u.from below))
   | inr above ↦ elim (cases_lt q' q) [
@@ -69,7 +74,7 @@ unlike_one cap q q' controls u u' = elim (cases_lt q q') [
   ]
 ]
 
-module _ (s : Shape) where
+module _ (s : ElementSpec) where
   -- a table that is valid by some numbers of a header is valid by equal numbers
   pub of_numbers : (b : List ℕ) {told told' : ℤ} {cap cap' len len' lo hi l : ℕ} → told ≡ told'
       → cap ≡ cap' → len ≡ len'
@@ -87,7 +92,7 @@ module _ (s : Shape) where
       (subst (λ y. TableFailsAt s b told' y len lo hi x) f
       (subst (λ y. TableFailsAt s b y cap len lo hi x) e h))
 
-module _ (s : Shape) (law : IsElement s) where
+module _ (s : ElementSpec) (law : IsElement s) where
   at_between : (b : List ℕ) (told : ℤ) (cap len lo hi l : ℕ) → lo ≤ hi
       → TableAt s b told cap len lo hi l → (lo ≤ l) × (l ≤ hi)
   at_between b told cap len lo hi l o (inl h) = (omega (arith, h.2), omega (arith, h.2))
@@ -131,28 +136,29 @@ module _ (s : Shape) (law : IsElement s) where
       (λ n n' h k. part_one told (part_size s.size cap) s.align lo hi n n' h.0 k.0)))
       (λ h k. omega (arith, h.1, k.2.controls.room))
 
-  inside_clear : (b : List ℕ) (cap len lo begin : ℕ) (e : VerifyError) → IsPart s b cap len lo begin
+  inside_exclusive : (b : List ℕ) (cap len lo begin : ℕ) (e : VerifyError)
+      → IsPart s b cap len lo begin
       → FailsInside s b cap len lo begin e → ⊥
-  inside_clear b cap len lo begin e is (inl f) =
-      all_clear s law (bucket_at s.size begin cap) b begin
+  inside_exclusive b cap len lo begin e is (inl f) =
+      all_exclusive s law (bucket_at s.size begin cap) b begin
       (walk (controls_at s.size b begin cap) cap) lo is.last e is.items f
-  inside_clear b cap len lo begin e is (inr (last, items, inl (unequal, x))) =
+  inside_exclusive b cap len lo begin e is (inr (last, items, inl (unequal, x))) =
       unequal is.controls.full
-  inside_clear b cap len lo begin e is (inr (last, items, inr (equal, q, unlike, x))) =
-      repeats_clear cap q (controls_at s.size b begin cap) is.controls.repeats unlike
+  inside_exclusive b cap len lo begin e is (inr (last, items, inr (equal, q, unlike, x))) =
+      repeats_exclusive cap q (controls_at s.size b begin cap) is.controls.repeats unlike
 
-  at_clear : (b : List ℕ) (told : ℤ) (cap len lo hi l : ℕ) (e : VerifyError)
+  at_exclusive : (b : List ℕ) (told : ℤ) (cap len lo hi l : ℕ) (e : VerifyError)
       → TableAt s b told cap len lo hi l → TableFailsAt s b told cap len lo hi e → ⊥
-  at_clear b told cap len lo hi l e (inl h) (inl f) = omega (arith, h.0, f.1)
-  at_clear b told cap len lo hi l e (inl h) (inr (inl f)) = omega (arith, h.1, f.0)
-  at_clear b told cap len lo hi l e (inl h) (inr (inr f)) = omega (arith, h.1, f.0)
-  at_clear b told cap len lo hi l e (inr (n, part, is, x)) (inl f) =
+  at_exclusive b told cap len lo hi l e (inl h) (inl f) = omega (arith, h.0, f.1)
+  at_exclusive b told cap len lo hi l e (inl h) (inr (inl f)) = omega (arith, h.1, f.0)
+  at_exclusive b told cap len lo hi l e (inl h) (inr (inr f)) = omega (arith, h.1, f.0)
+  at_exclusive b told cap len lo hi l e (inr (n, part, is, x)) (inl f) =
       omega (arith, f.0, is.controls.room)
-  at_clear b told cap len lo hi l e (inr (n, part, is, x)) (inr (inl f)) =
-      part_clear told (part_size s.size cap) s.align lo hi n e part f.1
-  at_clear b told cap len lo hi l e (inr (n, part, is, x)) (inr (inr (room, n', part', f))) =
+  at_exclusive b told cap len lo hi l e (inr (n, part, is, x)) (inr (inl f)) =
+      part_exclusive told (part_size s.size cap) s.align lo hi n e part f.1
+  at_exclusive b told cap len lo hi l e (inr (n, part, is, x)) (inr (inr (room, n', part', f))) =
       let same : n' ≡ n = part_one told (part_size s.size cap) s.align lo hi n' n part' part in
-      inside_clear b cap len lo n e is (subst (λ m. FailsInside s b cap len lo m e) same f)
+      inside_exclusive b cap len lo n e is (subst (λ m. FailsInside s b cap len lo m e) same f)
 
   inside_one_failure : (b : List ℕ) (cap len lo begin : ℕ) (e e' : VerifyError)
       → FailsInside s b cap len lo begin e → FailsInside s b cap len lo begin e' → e ≡ e'
@@ -160,10 +166,10 @@ module _ (s : Shape) (law : IsElement s) where
       all_one_failure s law (bucket_at s.size begin cap) b begin
       (walk (controls_at s.size b begin cap) cap) lo e e' f g
   inside_one_failure b cap len lo begin e e' (inl f) (inr g) =
-      absurd (all_clear s law (bucket_at s.size begin cap) b begin
+      absurd (all_exclusive s law (bucket_at s.size begin cap) b begin
       (walk (controls_at s.size b begin cap) cap) lo g.0 e g.1 f)
   inside_one_failure b cap len lo begin e e' (inr f) (inl g) =
-      absurd (all_clear s law (bucket_at s.size begin cap) b begin
+      absurd (all_exclusive s law (bucket_at s.size begin cap) b begin
       (walk (controls_at s.size b begin cap) cap) lo f.0 e' f.1 g)
   inside_one_failure b cap len lo begin e e' (inr (last, items, inl f))
       (inr (last', items', inl g)) = f.1 ∙ sym g.1
@@ -186,9 +192,9 @@ module _ (s : Shape) (law : IsElement s) where
   at_one_failure b told cap len lo hi e e' (inr (inl f)) (inr (inl g)) =
       part_one_failure told (part_size s.size cap) s.align lo hi e e' f.1 g.1
   at_one_failure b told cap len lo hi e e' (inr (inl f)) (inr (inr g)) =
-      absurd (part_clear told (part_size s.size cap) s.align lo hi g.1 e g.2 f.1)
+      absurd (part_exclusive told (part_size s.size cap) s.align lo hi g.1 e g.2 f.1)
   at_one_failure b told cap len lo hi e e' (inr (inr f)) (inr (inl g)) =
-      absurd (part_clear told (part_size s.size cap) s.align lo hi f.1 e' f.2 g.1)
+      absurd (part_exclusive told (part_size s.size cap) s.align lo hi f.1 e' f.2 g.1)
   at_one_failure b told cap len lo hi e e' (inr (inr f)) (inr (inr g)) =
       let same : g.1 ≡ f.1 = part_one told (part_size s.size cap) s.align lo hi g.1 f.1 g.2 f.2 in
       inside_one_failure b cap len lo f.1 e e' f.3
@@ -229,13 +235,14 @@ module _ (s : Shape) (law : IsElement s) where
   )
 
   is_near : (b c : List ℕ) (cap len lo begin : ℕ) → lo ≤ begin
-      → Same b c lo (begin + part_size s.size cap) → IsPart s b cap len lo begin
+      → AgreeOn b c lo (begin + part_size s.size cap) → IsPart s b cap len lo begin
       → IsPart s c cap len lo begin
   is_near b c cap len lo begin low same is =
       let e : controls_at s.size b begin cap ≡ controls_at s.size c begin cap =
-      same_part b c lo (begin + part_size s.size cap) (begin + cap * s.size) (begin + cap * s.size
+      agree_on_part b c lo (begin + part_size s.size cap) (begin + cap * s.size)
+      (begin + cap * s.size
       + control_count cap) (omega arith) (omega arith) (omega arith) same in
-      let items = all_near s law (bucket_at s.size begin cap) b c lo (begin + part_size s.size cap)
+      let items = all_local s law (bucket_at s.size begin cap) b c lo (begin + part_size s.size cap)
       cap begin (walk (controls_at s.size b begin cap) cap) lo is.last
       same (omega arith) low (omega arith) (walk_below (controls_at s.size b begin cap) cap)
       (λ i h. let u = bucket_inside s.size begin cap i h in
@@ -247,40 +254,41 @@ module _ (s : Shape) (law : IsElement s) where
             AllHold s (bucket_at s.size begin cap) c begin (walk x cap) lo is.last) e items;
       }
 
-  at_near : (b c : List ℕ) (told : ℤ) (cap len lo hi l : ℕ) → Same b c lo l
+  at_local : (b c : List ℕ) (told : ℤ) (cap len lo hi l : ℕ) → AgreeOn b c lo l
       → TableAt s b told cap len lo hi l → TableAt s c told cap len lo hi l
-  at_near b c told cap len lo hi l same (inl h) = inl h
-  at_near b c told cap len lo hi l same (inr (n, part, is, e)) =
-      inr (n, part, is_near b c cap len lo n part.above (subst (Same b c lo) e same) is, e)
+  at_local b c told cap len lo hi l same (inl h) = inl h
+  at_local b c told cap len lo hi l same (inr (n, part, is, e)) =
+      inr (n, part, is_near b c cap len lo n part.above (subst (AgreeOn b c lo) e same) is, e)
 
-  holds_near : (w : Width) (b c : List ℕ) (p lo hi l : ℕ) → Same b c p (p + 3 * byte_len w)
-      → Same b c lo l → TableHolds w s b p lo hi l → TableHolds w s c p lo hi l
-  holds_near w b c p lo hi l fixed part h =
-      at_near b c (begin_told w s.size c p) (cap_at w c p) (len_at w c p) lo hi l part
+  holds_local : (w : Width) (b c : List ℕ) (p lo hi l : ℕ) → AgreeOn b c p (p + 3 * byte_len w)
+      → AgreeOn b c lo l → TableHolds w s b p lo hi l → TableHolds w s c p lo hi l
+  holds_local w b c p lo hi l fixed part h =
+      at_local b c (decode_begin w s.size c p) (cap_at w c p) (len_at w c p) lo hi l part
       (of_numbers s b (begin_same w b c p fixed s.size) (cap_same w b c p fixed)
       (len_same w b c p fixed) h)
 
-pub table_element : (w : Width) → IsArchiveWord w → (s : Shape) → IsElement s
-    → IsElement (table_shape w s)
+pub table_element : (w : Width) → IsArchiveWord w → (s : ElementSpec) → IsElement s
+    → IsElement (table_spec w s)
 table_element w kind s law = record {
   align_is = by_archive_word (λ v. IsAlign (byte_len v)) (inr (inr (inl refl)))
       (inr (inr (inr refl))) w kind;
   size_whole = by_archive_word (λ v. (3 * byte_len v) % byte_len v ≡ 0) refl refl w kind;
   size_small = by_archive_word (λ v. 3 * byte_len v ≤ 1073741824) (omega arith) (omega arith) w
       kind;
-  proper = λ b p lo hi l. at_proper s law b (begin_told w s.size b p) (cap_at w b p)
+  proper = λ b p lo hi l. at_proper s law b (decode_begin w s.size b p) (cap_at w b p)
       (len_at w b p) lo hi l;
-  between = λ b p lo hi l o h. at_between s law b (begin_told w s.size b p) (cap_at w b p)
+  rest_in_range = λ b p lo hi l o h. at_between s law b (decode_begin w s.size b p) (cap_at w b p)
       (len_at w b p) lo hi l o h;
-  one = λ b p lo hi l l' h h'. at_one s law b (begin_told w s.size b p) (cap_at w b p)
+  rest_unique = λ b p lo hi l l' h h'. at_one s law b (decode_begin w s.size b p) (cap_at w b p)
       (len_at w b p) lo hi l l' h h';
-  clear = λ b p lo hi l e h f. at_clear s law b (begin_told w s.size b p) (cap_at w b p)
+  exclusive = λ b p lo hi l e h f. at_exclusive s law b (decode_begin w s.size b p) (cap_at w b p)
       (len_at w b p) lo hi l e h f;
   one_failure = λ b p lo hi e e' f g.
-      at_one_failure s law b (begin_told w s.size b p) (cap_at w b p) (len_at w b p) lo hi e e' f g;
-  higher = λ b p lo hi hi' l o h.
-      at_higher s law b (begin_told w s.size b p) (cap_at w b p) (len_at w b p) lo hi hi' l o h;
-  lower = λ b p lo lo' hi l o o' h.
-      at_lower s law b (begin_told w s.size b p) (cap_at w b p) (len_at w b p) lo lo' hi l o h;
-  near = λ b c p lo hi l o fixed part h. holds_near s law w b c p lo hi l fixed part h;
+      at_one_failure s law b (decode_begin w s.size b p) (cap_at w b p)
+      (len_at w b p) lo hi e e' f g;
+  widen_hi = λ b p lo hi hi' l o h.
+      at_higher s law b (decode_begin w s.size b p) (cap_at w b p) (len_at w b p) lo hi hi' l o h;
+  lower_lo = λ b p lo lo' hi l o o' h.
+      at_lower s law b (decode_begin w s.size b p) (cap_at w b p) (len_at w b p) lo lo' hi l o h;
+  local = λ b c p lo hi l o fixed part h. holds_local s law w b c p lo hi l fixed part h;
 }

@@ -8,14 +8,16 @@ use Rattle.std.specs.Int.{Width}
 use Rattle.std.specs.Prelude.{◌≡◌, ℕ, suc, ◌+◌, ◌*◌, ◌/◌, ◌%◌, ◌<◌, ◌≤◌, cond, max, pos, ◌+ℤ◌, ◌-ℤ◌}
 use Rattle.std.specs.Prelude.{FitsSigned, List, [], ◌++◌, length, slice_get, slice_index}
 use Rattle.std.specs.Prelude.{slice_range, Option, Some}
-use Rattle.rkyv_base.specs.Bytes.{Sits, signed_at, sits_back, sits_front}
-use Rattle.rkyv_base.specs.Entry.{round_up, round_up-multiple}
+use Rattle.rkyv_base.specs.Bytes.{OccursAt, signed_at}
+use Rattle.rkyv_base.specs.Lemmas.Bytes.{occurs_back, occurs_front}
+use Rattle.rkyv_base.specs.Entry.{round_up}
+use Rattle.rkyv_base.specs.Lemmas.Entry.{round_up-multiple}
 use Rattle.rkyv_base.specs.Format.{Format, IsFormat}
-use Rattle.rkyv_base.specs.Shape.{IsElement, Shape}
+use Rattle.rkyv_base.specs.ElementSpec.{IsElement, ElementSpec}
 use Rattle.rkyv_base.specs.Text.{IsArchiveWord}
 use Rattle.rkyv_base.specs.Writing.{padding, zeros}
-use Rattle.rkyv_table.specs.Table.Buckets.{images_length}
-use Rattle.rkyv_table.specs.Table.Header.{IsHeader, begin_told, cap_at, header_bytes, len_at}
+use Rattle.rkyv_table.specs.Lemmas.Buckets.{images_length}
+use Rattle.rkyv_table.specs.Table.Header.{IsHeader, decode_begin, cap_at, header_bytes, len_at}
 use Rattle.rkyv_table.specs.Lemmas.HeaderReads.{cap_reads, distance_reads, header_length, len_reads}
 use Rattle.rkyv_table.specs.Controls.Numbers.{capacity}
 use Rattle.rkyv_table.specs.Controls.Placing.{Accepted, Written, walk}
@@ -24,10 +26,11 @@ use Rattle.rkyv_table.specs.Lemmas.SlotSound.{slots_sound}
 use Rattle.rkyv_table.specs.Lemmas.SlotWalk.{filled_count, filled_from, walk_filled}
 use Rattle.rkyv_table.specs.Table.Slots.{TableBytes}
 use Rattle.rkyv_table.specs.Table.Layout.{IsPart, TableAt, TableHolds, bucket_at, controls_at}
-use Rattle.rkyv_table.specs.Table.Layout.{part_size, table_shape}
-use Rattle.rkyv_table.specs.Table.TableFormat.{BucketsStand, TableParts, TableResolver, TableStands}
+use Rattle.rkyv_table.specs.Table.Layout.{part_size, table_spec}
+use Rattle.rkyv_table.specs.Table.TableFormat.{BucketsRepresent, TableParts, TableResolver}
+use Rattle.rkyv_table.specs.Table.TableFormat.{TableRepresents}
 use Rattle.rkyv_table.specs.Table.TableFormat.{resolved_capacity, table_format}
-use Rattle.rkyv_table.specs.Table.Taking.{Placed, hashes_of}
+use Rattle.rkyv_table.specs.Table.PlacedItems.{Placed, hashes_of}
 
 -- some bucket stays empty
 pub capacity_above : (len : ℕ) (factor : ℕ × ℕ) → 0 < len → len < capacity len factor
@@ -44,8 +47,8 @@ below_capacity zero factor = omega arith
 below_capacity (suc n) factor = let h = capacity_above (suc n) factor (omega arith) in
     omega (arith, h)
 
-module _ {X R : Type 0} (s : Shape) (laws : IsElement s) (stands : List ℕ → ℕ → X
-    → Type 0) (f : Format X R) (fl : IsFormat s stands f)
+module _ {X R : Type 0} (s : ElementSpec) (laws : IsElement s) (represents : List ℕ → ℕ → X
+    → Type 0) (f : Format X R) (fl : IsFormat s represents f)
     (c : List ℕ) (p cap : ℕ) (pairs : List (ℕ × X)) (slots : List (Option X)) (controls : List ℕ)
     (placed : Placed cap pairs slots controls) (room : length pairs < cap) where
   hashes_count : length (hashes_of pairs) ≡ length pairs
@@ -60,7 +63,7 @@ module _ {X R : Type 0} (s : Shape) (laws : IsElement s) (stands : List ℕ → 
   }
 
   module _ (z : ℕ) (bytes : List ℕ) (t : TableBytes s f slots controls p z bytes)
-      (sits : Sits c p bytes) where
+      (sits : OccursAt c p bytes) where
     abbrev pub begin : ℕ
     begin = round_up (p + length t.part) s.align
 
@@ -73,20 +76,20 @@ module _ {X R : Type 0} (s : Shape) (laws : IsElement s) (stands : List ℕ → 
     pub begin_aligned : begin % s.align ≡ 0
     begin_aligned = round_up-multiple (p + length t.part) s.align laws.align_is
 
-    in_order : Sits c p (t.part ++ (pad ++ (t.buckets ++ controls)))
-    in_order = subst (Sits c p) t.is sits
+    in_order : OccursAt c p (t.part ++ (pad ++ (t.buckets ++ controls)))
+    in_order = subst (OccursAt c p) t.is sits
 
-    area : Sits c begin (t.buckets ++ controls)
-    area = subst (λ k. Sits c k (t.buckets ++ controls))
+    area : OccursAt c begin (t.buckets ++ controls)
+    area = subst (λ k. OccursAt c k (t.buckets ++ controls))
         (ap (λ k. (p + length t.part) + k) pad_length)
-        (sits_back c (p + length t.part) pad (t.buckets ++ controls) (sits_back c p t.part (pad
+        (occurs_back c (p + length t.part) pad (t.buckets ++ controls) (occurs_back c p t.part (pad
         ++ (t.buckets ++ controls)) in_order))
 
     slots_size : length slots * s.size ≡ cap * s.size
     slots_size = ap (λ k. k * s.size) placed.slotted.count
 
     pub buckets_size : length t.buckets ≡ cap * s.size
-    buckets_size = images_length s.size f (λ v r q o g. fl.whole v r q o g) slots t.resolvers z
+    buckets_size = images_length s.size f (λ v r q o g. fl.size_exact v r q o g) slots t.resolvers z
         t.buckets t.shown ∙ slots_size
 
     pub controls_begin : z ≡ begin + cap * s.size
@@ -101,9 +104,9 @@ module _ {X R : Type 0} (s : Shape) (laws : IsElement s) (stands : List ℕ → 
         let n = placed.written.repeats.count in
         omega (arith, a, b, d, e, n, pad_length, buckets_size)
 
-    controls_sit : Sits c (begin + cap * s.size) controls
-    controls_sit = subst (λ k. Sits c k controls) (ap (λ k. begin + k) buckets_size)
-        (sits_back c begin t.buckets controls area)
+    controls_sit : OccursAt c (begin + cap * s.size) controls
+    controls_sit = subst (λ k. OccursAt c k controls) (ap (λ k. begin + k) buckets_size)
+        (occurs_back c begin t.buckets controls area)
 
     pub controls_there : controls_at s.size c begin cap ≡ controls
     controls_there = ap (λ k. slice_range c (begin + cap * s.size) (begin + cap * s.size + k))
@@ -111,17 +114,17 @@ module _ {X R : Type 0} (s : Shape) (laws : IsElement s) (stands : List ℕ → 
 
     items : (l : ℕ) × AllHold s (bucket_at s.size begin cap) c begin (filled_from 0 slots) p l
         × (l ≤ p + length t.part) × ((i : ℕ) (x : X) → slice_get slots i ≡ Some (Some x)
-        → stands c (bucket_at s.size begin cap (0 + i)) x)
+        → represents c (bucket_at s.size begin cap (0 + i)) x)
     items =
         let at : begin + length slots * s.size ≡ z = sym t.at in
         let n : 0 + length slots ≡ cap = omega (arith, placed.slotted.count) in
-        slots_sound s laws stands f fl c cap begin begin_aligned slots 0 p z t.part t.buckets
+        slots_sound s laws represents f fl c cap begin begin_aligned slots 0 p z t.part t.buckets
         t.resolvers n t.made t.shown
-        (sits_front c p t.part (pad ++ (t.buckets ++ controls)) in_order)
-        (sits_front c begin t.buckets controls area) at (omega arith)
+        (occurs_front c p t.part (pad ++ (t.buckets ++ controls)) in_order)
+        (occurs_front c begin t.buckets controls area) at (omega arith)
 
-    pub part_stands : IsPart s c cap (length pairs) p begin
-    part_stands = record {
+    pub part_represents : IsPart s c cap (length pairs) p begin
+    part_represents = record {
       controls = subst (Accepted cap (length pairs)) (sym controls_there) written_accepted;
       last = items.0;
       items = subst (λ is. AllHold s (bucket_at s.size begin cap) c begin is p items.0)
@@ -129,31 +132,32 @@ module _ {X R : Type 0} (s : Shape) (laws : IsElement s) (stands : List ℕ → 
           ∙ walk_filled cap pairs slots controls placed)) items.1;
     }
 
-    pub buckets_stand : BucketsStand s.size stands c cap begin pairs
-    buckets_stand = record {
+    pub buckets_represent : BucketsRepresent s.size represents c cap begin pairs
+    buckets_represent = record {
       homes = placed.homes;
       hashes = placed.hashes;
       controls = subst (Written cap (hashes_of pairs) placed.homes) (sym controls_there)
           placed.written;
       items = λ i x e.
           let n : 0 + slice_index placed.homes i ≡ slice_index placed.homes i = omega arith in
-          subst (λ k. stands c (bucket_at s.size begin cap k) x) n
+          subst (λ k. represents c (bucket_at s.size begin cap k) x) n
           (items.3 (slice_index placed.homes i) x (placed.slotted.at i x e));
     }
 
-module _ {X R : Type 0} (w : Width) (kind : IsArchiveWord w) (s : Shape) (laws : IsElement s)
-    (stands : List ℕ → ℕ → X → Type 0) (f : Format X R) (fl : IsFormat s stands f) (factor : ℕ × ℕ)
+module _ {X R : Type 0} (w : Width) (kind : IsArchiveWord w) (s : ElementSpec) (laws : IsElement s)
+    (represents : List ℕ → ℕ → X
+    → Type 0) (f : Format X R) (fl : IsFormat s represents f) (factor : ℕ × ℕ)
   where
     abbrev Sound : List (ℕ × X) → List ℕ → ℕ → ℕ → ℕ → Type 0
     Sound pairs c p p0 hi = (l : ℕ) × TableHolds w s c p p0 hi l
-        × TableStands w s stands factor c p pairs
+        × TableRepresents w s represents factor c p pairs
 
     module _ (pairs : List (ℕ × X)) (r : TableResolver) (c : List ℕ) (p0 p : ℕ) (part out : List ℕ)
         (t : TableParts w s f factor pairs p0 part r)
         (i : IsHeader w r.len (resolved_capacity r) r.pos p out)
-        (sp : Sits c p0 part) (so : Sits c p out) where
-      header : Sits c p (header_bytes w i.distance r.len (resolved_capacity r))
-      header = subst (Sits c p) i.is so
+        (sp : OccursAt c p0 part) (so : OccursAt c p out) where
+      header : OccursAt c p (header_bytes w i.distance r.len (resolved_capacity r))
+      header = subst (OccursAt c p) i.is so
 
       capacity_is : resolved_capacity r ≡ capacity (length pairs) factor
       capacity_is = ap (λ n. capacity n r.load_factor) t.len ∙ ap (capacity (length pairs)) t.factor
@@ -190,7 +194,7 @@ module _ {X R : Type 0} (w : Width) (kind : IsArchiveWord w) (s : Shape) (laws :
         room = capacity_above (length pairs) factor some
 
         abbrev B : ℕ
-        B = begin s laws stands f fl c p0 C pairs slots controls placed room r.pos part b sp
+        B = begin s laws represents f fl c p0 C pairs slots controls placed room r.pos part b sp
 
         distance_is : i.distance ≡ pos r.pos -ℤ pos p
         distance_is = elim i.told [
@@ -198,9 +202,10 @@ module _ {X R : Type 0} (w : Width) (kind : IsArchiveWord w) (s : Shape) (laws :
           | inr h ↦ h.1
         ]
 
-        begin_is : begin_told w s.size c p ≡ pos B
+        begin_is : decode_begin w s.size c p ≡ pos B
         begin_is =
-            let z = controls_begin s laws stands f fl c p0 C pairs slots controls placed room r.pos
+            let z = controls_begin s laws represents f fl c p0 C pairs slots controls placed room
+            r.pos
             part b sp in
             let e : (pos p +ℤ (pos r.pos -ℤ pos p)) -ℤ pos (C * s.size) ≡ pos B =
             omega (arith, ints, z) in
@@ -210,7 +215,8 @@ module _ {X R : Type 0} (w : Width) (kind : IsArchiveWord w) (s : Shape) (laws :
         table_at : TableAt s c (pos B) C (length pairs) p0 (p0 + length part)
             (B + part_size s.size C)
         table_at =
-            let e = bytes_end s laws stands f fl c p0 C pairs slots controls placed room r.pos part
+            let e = bytes_end s laws represents f fl c p0 C pairs slots controls placed room r.pos
+            part
             b
             sp in
             inr (
@@ -220,11 +226,13 @@ module _ {X R : Type 0} (w : Width) (kind : IsArchiveWord w) (s : Shape) (laws :
                 above = omega arith;
                 below = omega (arith, e);
                 aligned =
-                    begin_aligned s laws stands f fl c p0 C pairs slots controls placed room r.pos
+                    begin_aligned s laws represents f fl c p0 C pairs slots controls placed room
+                    r.pos
                     part
                     b sp;
               },
-              part_stands s laws stands f fl c p0 C pairs slots controls placed room r.pos part b
+              part_represents s laws represents f fl c p0 C pairs slots controls placed room r.pos
+                  part b
                   sp,
               refl,
             )
@@ -244,7 +252,8 @@ module _ {X R : Type 0} (w : Width) (kind : IsArchiveWord w) (s : Shape) (laws :
             buckets = λ h. (
               B,
               sym begin_is,
-              buckets_stand s laws stands f fl c p0 C pairs slots controls placed room r.pos part b
+              buckets_represent s laws represents f fl c p0 C pairs slots controls placed room r.pos
+                  part b
                   sp,
             );
           },
@@ -257,12 +266,12 @@ module _ {X R : Type 0} (w : Width) (kind : IsArchiveWord w) (s : Shape) (laws :
       ]
 
     -- the format of a table is lawful: written tables are valid and represent their pairs
-    pub table_is_format : IsFormat (table_shape w s) (TableStands w s stands factor)
+    pub table_is_format : IsFormat (table_spec w s) (TableRepresents w s represents factor)
         (table_format w s f factor)
     table_is_format = record {
-      whole = λ pairs r p out i. ap length i.is
+      size_exact = λ pairs r p out i. ap length i.is
           ∙ header_length w kind i.distance r.len (resolved_capacity r);
-      clear = λ pairs r p out i f. elim i.told [
+      exclusive = λ pairs r p out i f. elim i.told [
         | inl h ↦ omega (arith, h.0, f.0)
         | inr h ↦ f.1 (subst (FitsSigned w) h.1 i.fits)
       ];

@@ -2,8 +2,8 @@
 use Rattle.std.specs.Prelude.{◌≡◌, ℕ, Bool, true, List, Option, None, Some, IfSome, MatchOption}
 use Rattle.std.specs.Int.{Width}
 use Rattle.std.specs.List.{find}
-use Rattle.rkyv_base.specs.Shape.{Shape, Viewed}
-use Rattle.rkyv_base.specs.declared.element.Shaped.{Ghosts as Shapes}
+use Rattle.rkyv_base.specs.ElementSpec.{ElementSpec, Viewable}
+use Rattle.rkyv_base.specs.declared.element.HasSpec.{Ghosts as Specs}
 use Rattle.rkyv_base.specs.declared.view.View.{View}
 use Rattle.rkyv_base.specs.declared.width.Word.{Ghosts as Words}
 use Rattle.rkyv_scan.specs.Groups.{Kind, generic_kind}
@@ -13,39 +13,39 @@ use Rattle.rkyv_table.specs.Table.Positions.{lookup_end}
 use Rattle.rkyv_table.specs.Table.Positions.{pos_found}
 use Rattle.rkyv_table.specs.Table.SealedItems.{IsItemAt}
 
--- a table in bytes. `word`: width of the archive, `shape`: shape of the items,
+-- a table in bytes. `word`: width of the archive, `spec`: spec of the items,
 -- `bytes`: the archive, `pos`: position of the header
 pub record TableIn : Type 1 where
   pub word : Width
-  pub shape : Shape
+  pub spec : ElementSpec
   pub bytes : List ℕ
   pub pos : ℕ
 
 -- the table of elements `t` in the width `w` whose header is at `pos`
-abbrev pub table_in : {W T : Type 0} → Words W → Shapes T → List ℕ → ℕ → TableIn
-table_in w t bytes pos = record { word = w.word; shape = t.shape; bytes = bytes; pos = pos }
+abbrev pub table_in : {W T : Type 0} → Words W → Specs T → List ℕ → ℕ → TableIn
+table_in w t bytes pos = record { word = w.word; spec = t.spec; bytes = bytes; pos = pos }
 
 -- `v`: view of an item of the table whose header is at `p` in `b`
-pub record IsItemOf {T : Type 0} (w : Width) (s : Shape) (b : List ℕ) (p : ℕ)
+pub record IsItemOf {T : Type 0} (w : Width) (s : ElementSpec) (b : List ℕ) (p : ℕ)
     (v : View T) : Type 0 where
   pub archive : v.archive.now ≡ b
   pub bucket : ℕ
   pub walked : IsWalked w b p bucket
   pub place : v.pos ≡ item_at w s.size b p bucket
-  pub viewed : Viewed s b v.pos
+  pub viewable : Viewable s b v.pos
 
 -- the comparison can be called with each item
-abbrev pub MayAskOf : {T : Type 0} → (View T → Type 0) → Width → Shape → List ℕ → ℕ → Type 0
+abbrev pub MayAskOf : {T : Type 0} → (View T → Type 0) → Width → ElementSpec → List ℕ → ℕ → Type 0
 MayAskOf {T} pre w s b p = (v : View T) → IsItemOf w s b p v → pre v
 
 -- the comparison returns `accept q` for the item at each position `q`
-abbrev pub AnswersOf : {T : Type 0} → (View T → Bool → Type 0) → Width → Shape → List ℕ → ℕ
+abbrev pub AnswersOf : {T : Type 0} → (View T → Bool → Type 0) → Width → ElementSpec → List ℕ → ℕ
     → (ℕ → Bool) → Type 0
 AnswersOf {T} post w s b p accept =
     (v : View T) (r : Bool) → IsItemOf w s b p v → post v r → r ≡ accept v.pos
 
 -- `q`: position of an item for which the comparison returned `true`
-abbrev pub AcceptedOf : {T : Type 0} → (View T → Bool → Type 0) → Width → Shape → List ℕ → ℕ
+abbrev pub AcceptedOf : {T : Type 0} → (View T → Bool → Type 0) → Width → ElementSpec → List ℕ → ℕ
     → ℕ → Type 0
 AcceptedOf {T} post w s b p q = (v : View T) × IsItemOf w s b p v × (v.pos ≡ q) × post v true
 
@@ -53,7 +53,7 @@ AcceptedOf {T} post w s b p q = (v : View T) × IsItemOf w s b p v × (v.pos ≡
 -- for it. If the comparison depends only on positions, the control bytes decide which one it is.
 -- In a written table whose accepted items are under `hash`, it is the first of them
 pub record LooksUp {T : Type 0} (post : View T → Bool → Type 0) (kind : Kind) (w : Width)
-    (s : Shape) (b : List ℕ) (p hash : ℕ) (found : Option ℕ) : Type 0 where
+    (s : ElementSpec) (b : List ℕ) (p hash : ℕ) (found : Option ℕ) : Type 0 where
   pub accepted : IfSome found (AcceptedOf post w s b p)
   pub answer : (accept : ℕ → Bool) → AnswersOf post w s b p accept
       → found ≡ pos_found kind w s.size b p hash accept
@@ -63,7 +63,8 @@ pub record LooksUp {T : Type 0} (post : View T → Bool → Type 0) (kind : Kind
       → found ≡ find accept (home_positions w s.size b p homes)
 
 -- `count`: number of strides that a lookup reads, if the comparison depends only on positions
-abbrev pub ReadsExactly : {T : Type 0} → (View T → Bool → Type 0) → Kind → Width → Shape → List ℕ
+abbrev pub ReadsExactly : {T : Type 0} → (View T → Bool → Type 0) → Kind → Width → ElementSpec
+    → List ℕ
     → ℕ → ℕ → ℕ → Type 0
 ReadsExactly post kind w s b p hash count =
     (accept : ℕ → Bool) → AnswersOf post w s b p accept
@@ -84,6 +85,6 @@ pub record LendsFound {T R : Type 0} (t : TableIn) (post : View T → Bool → T
     (Writes : R → List ℕ → ℕ → List ℕ → Type 0) (hash : ℕ) (result : Option R)
     (c : List ℕ) : Type 0 where
   pub found : Option ℕ
-  pub looks : LooksUp post generic_kind t.word t.shape t.bytes t.pos hash found
-  pub item : IfSome found (λ q. (i : ℕ) × IsItemAt t.word t.shape t.bytes t.pos i q)
+  pub looks : LooksUp post generic_kind t.word t.spec t.bytes t.pos hash found
+  pub item : IfSome found (λ q. (i : ℕ) × IsItemAt t.word t.spec t.bytes t.pos i q)
   pub writes : WritesFound Writes t.bytes found result c

@@ -3,11 +3,11 @@ use Rattle.std.specs.Prelude.{◌≡◌, ℕ, ◌^◌, ◌<◌, Bool, true, List
 use Rattle.std.specs.Prelude.{MatchOption}
 use Rattle.std.specs.Int.{Width}
 use Rattle.std.specs.List.{All, find}
-use Rattle.rkyv_base.specs.Shape.{Shape}
+use Rattle.rkyv_base.specs.ElementSpec.{ElementSpec}
 use Rattle.rkyv_scan.specs.Groups.{IsKind, Kind}
 use Rattle.rkyv_table.specs.Table.Positions.{pos_found}
-use Rattle.rkyv_table.specs.Table.TableFormat.{TableStands}
-use Rattle.rkyv_table.specs.Table.Taking.{items_of}
+use Rattle.rkyv_table.specs.Table.TableFormat.{TableRepresents}
+use Rattle.rkyv_table.specs.Table.PlacedItems.{items_of}
 
 -- the first accepted item
 abbrev pub first_of : {X : Type 0} → (X → Bool) → List X → Option X
@@ -20,21 +20,23 @@ AreUnder hash accept pairs = All (λ pair. accept pair.1 ≡ true → pair.0 ≡
 -- the test of positions and `accept` agree on each item and its position
 abbrev pub TellsOf : {X : Type 0} → (List ℕ → ℕ → X → Type 0) → List ℕ → (X → Bool) → List X
     → (ℕ → Bool) → Type 0
-TellsOf {X} stands c accept items told =
-    (i q : ℕ) (x : X) → slice_get items i ≡ Some x → stands c q x → told q ≡ accept x
+TellsOf {X} represents c accept items told =
+    (i q : ℕ) (x : X) → slice_get items i ≡ Some x → represents c q x → told q ≡ accept x
 
 -- `result`: position of the first accepted item, or `None` if and only if no item is accepted
 abbrev pub IsFirstOf : {X : Type 0} → (List ℕ → ℕ → X → Type 0) → List ℕ → (X → Bool) → List X
     → Option ℕ → Type 0
-IsFirstOf {X} stands c accept items result =
+IsFirstOf {X} represents c accept items result =
     MatchOption result (first_of accept items ≡ None)
-    (λ q. (x : X) × (first_of accept items ≡ Some x) × stands c q x)
+    (λ q. (x : X) × (first_of accept items ≡ Some x) × represents c q x)
 
 -- a lookup in a table that represents the pairs finds the first accepted item,
 -- if each accepted item is under `hash`
-abbrev pub AnswersFirst : {X : Type 0} → Width → Shape → (List ℕ → ℕ → X → Type 0) → ℕ × ℕ → Type 0
-AnswersFirst {X} w s stands load_factor =
+abbrev pub AnswersFirst : {X : Type 0} → Width → ElementSpec → (List ℕ → ℕ → X → Type 0) → ℕ × ℕ
+    → Type 0
+AnswersFirst {X} w s represents load_factor =
     (kind : Kind) (c : List ℕ) (p hash : ℕ) (pairs : List (ℕ × X)) (accept : X → Bool)
-    (told : ℕ → Bool) → IsKind kind → hash < 2 ^ 64 → TableStands w s stands load_factor c p pairs
-    → AreUnder hash accept pairs → TellsOf stands c accept (items_of pairs) told
-    → IsFirstOf stands c accept (items_of pairs) (pos_found kind w s.size c p hash told)
+    (told : ℕ → Bool) → IsKind kind → hash < 2 ^ 64
+    → TableRepresents w s represents load_factor c p pairs
+    → AreUnder hash accept pairs → TellsOf represents c accept (items_of pairs) told
+    → IsFirstOf represents c accept (items_of pairs) (pos_found kind w s.size c p hash told)

@@ -18,8 +18,8 @@ abbrev pub controls_pos : Width → List ℕ → ℕ → ℕ
 controls_pos w b p = unsigned_abs (pos p +ℤ signed_at w b p)
 
 -- the position at which the buckets begin, by the header at `p`, for items of `size` bytes
-abbrev pub begin_told : Width → ℕ → List ℕ → ℕ → ℤ
-begin_told w size b p = (pos p +ℤ signed_at w b p) -ℤ pos (cap_at w b p * size)
+abbrev pub decode_begin : Width → ℕ → List ℕ → ℕ → ℤ
+decode_begin w size b p = (pos p +ℤ signed_at w b p) -ℤ pos (cap_at w b p * size)
 
 -- the bytes of a header
 abbrev pub header_bytes : Width → ℤ → ℕ → ℕ → List ℕ
@@ -36,5 +36,5 @@ pub record IsHeader (w : Width) (len cap z p : ℕ) (out : List ℕ) : Type 0 wh
 
 -- the distance from a header at `p` to the first control byte at `z` doesn't fit, and the table
 -- isn't empty
-abbrev pub HeaderFar : Width → ℕ → ℕ → ℕ → Type 0
-HeaderFar w len z p = (0 < len) × (FitsSigned w (pos z -ℤ pos p) → ⊥)
+abbrev pub HeaderOverflows : Width → ℕ → ℕ → ℕ → Type 0
+HeaderOverflows w len z p = (0 < len) × (FitsSigned w (pos z -ℤ pos p) → ⊥)

@@ -1,30 +1,34 @@
 -- The input of a table.
 use Rattle.std.specs.Prelude.{◌≡◌, ℕ, List, length, MatchResult, Option, Result}
 use Rattle.std.specs.Iterator.{Drains}
-use Rattle.rkyv_table.specs.Table.Counting.{GaveBoth, GaveOther, Uneven}
-use Rattle.rkyv_table.specs.Table.Taking.{Placed}
+use Rattle.rkyv_table.specs.Table.Counting.{YieldsBoth, YieldsOtherCount, CountsDiffer}
+use Rattle.rkyv_table.specs.Table.PlacedItems.{Placed}
 
--- an input. `gave`: its items, `gave_other`: another number of items than a claimed one
+-- an input. `yields`: its items, `yields_other_count`: another number of items than a claimed one
 pub record Input (X : Type 0) : Type 1 where
-  pub gave : List X → Type 0
-  pub gave_other : ℕ → ℕ → Type 0
+  pub yields : List X → Type 0
+  pub yields_other_count : ℕ → ℕ → Type 0
 
 -- the items of one iterator
 abbrev pub from_iter : {S A : Type 0} → (S → Option A → S → Type 0) → S → Input A
-from_iter steps s = record { gave = Drains steps s; gave_other = λ len. GaveOther steps len s }
+from_iter steps s = record {
+  yields = Drains steps s;
+  yields_other_count =
+      λ len. YieldsOtherCount steps len s;
+}
 
 -- the items of an iterator, each with the next hash of another
 abbrev pub from_both : {S A T : Type 0} → (S → Option A → S → Type 0)
     → (T → Option ℕ → T → Type 0) → S → T → Input (ℕ × A)
 from_both items hashes s t = record {
-  gave = GaveBoth items hashes s t;
-  gave_other = λ len. Uneven items hashes len s t;
+  yields = YieldsBoth items hashes s t;
+  yields_other_count = λ len. CountsDiffer items hashes len s t;
 }
 
 -- the input has `len` pairs, and their items are placed; or the result is another number of pairs
 abbrev pub TakesItems : {X : Type 0} → Input (ℕ × X) → ℕ → ℕ → List (Option X) → List ℕ
     → Result Unit ℕ → Type 0
 TakesItems {X} input len cap slots controls result = MatchResult result
-    (λ _. (pairs : List (ℕ × X)) × input.gave pairs × (length pairs ≡ len)
+    (λ _. (pairs : List (ℕ × X)) × input.yields pairs × (length pairs ≡ len)
     × Placed cap pairs slots controls)
-    (input.gave_other len)
+    (input.yields_other_count len)

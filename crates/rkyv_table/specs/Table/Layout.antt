@@ -7,12 +7,12 @@ use Rattle.rkyv_base.specs.declared.errors.VerifyError.TheVariants.{InvalidLengt
 use Rattle.rkyv_base.specs.declared.errors.VerifyError.TheVariants.{WrongNumberOfElements}
 use Rattle.rkyv_base.specs.declared.errors.VerifyError.TheVariants.{UnwrappedControlByte}
 use Rattle.rkyv_base.specs.Parts.{PartIn, PartFails}
-use Rattle.rkyv_base.specs.Shape.{Shape}
-use Rattle.rkyv_table.specs.Table.Header.{begin_told, cap_at, len_at}
+use Rattle.rkyv_base.specs.ElementSpec.{ElementSpec}
+use Rattle.rkyv_table.specs.Table.Header.{decode_begin, cap_at, len_at}
 use Rattle.rkyv_table.specs.Controls.Numbers.{control_count}
 use Rattle.rkyv_table.specs.Table.Places.{AllHold, FirstFails}
 use Rattle.rkyv_table.specs.Controls.Placing.{Accepted, walk}
-use Rattle.rkyv_table.specs.Controls.Repeating.{FirstUnlike}
+use Rattle.rkyv_table.specs.Controls.Repeating.{FirstUnwrapped}
 
 -- the number of bytes of the buckets and the control bytes
 abbrev pub part_size : ℕ → ℕ → ℕ
@@ -29,20 +29,20 @@ bucket_at size begin cap i = begin + (cap - (i + 1)) * size
 
 -- the items in the full buckets are valid in bucket order, with their parts from `lo`
 -- on and below `begin`
-abbrev pub ItemsHold : Shape → List ℕ → ℕ → ℕ → ℕ → ℕ → Type 0
+abbrev pub ItemsHold : ElementSpec → List ℕ → ℕ → ℕ → ℕ → ℕ → Type 0
 ItemsHold s b begin cap lo l =
     AllHold s (bucket_at s.size begin cap) b begin (walk (controls_at s.size b begin cap) cap) lo l
 
 -- the buckets and control bytes at `begin` are valid: the control bytes are those of `len` items,
 -- and each item is valid
-pub record IsPart (s : Shape) (b : List ℕ) (cap len lo begin : ℕ) : Type 0 where
+pub record IsPart (s : ElementSpec) (b : List ℕ) (cap len lo begin : ℕ) : Type 0 where
   pub controls : Accepted cap len (controls_at s.size b begin cap)
   pub last : ℕ
   pub items : ItemsHold s b begin cap lo last
 
 -- `e`: first fault of the buckets and control bytes. It is that of an item, or else of the number
 -- of items, or else of a control byte after those of the buckets
-abbrev pub FailsInside : Shape → List ℕ → ℕ → ℕ → ℕ → ℕ → VerifyError → Type 0
+abbrev pub FailsInside : ElementSpec → List ℕ → ℕ → ℕ → ℕ → ℕ → VerifyError → Type 0
 FailsInside s b cap len lo begin e =
     FirstFails s (bucket_at s.size begin cap) b begin (walk (controls_at s.size b begin cap) cap) lo
     e
@@ -50,11 +50,11 @@ FailsInside s b cap len lo begin e =
     × (((length (walk (controls_at s.size b begin cap) cap) ≢ len)
     × (e ≡ WrongNumberOfElements len (length (walk (controls_at s.size b begin cap) cap))))
     ⊎ ((length (walk (controls_at s.size b begin cap) cap) ≡ len) × (q : ℕ)
-    × FirstUnlike cap (controls_at s.size b begin cap) q × (e ≡ UnwrappedControlByte q))))
+    × FirstUnwrapped cap (controls_at s.size b begin cap) q × (e ≡ UnwrappedControlByte q))))
 
 -- a valid table with these numbers in its header, and `l` as the new lower end. An empty table
 -- has no part
-abbrev pub TableAt : Shape → List ℕ → ℤ → ℕ → ℕ → ℕ → ℕ → ℕ → Type 0
+abbrev pub TableAt : ElementSpec → List ℕ → ℤ → ℕ → ℕ → ℕ → ℕ → ℕ → Type 0
 TableAt s b told cap len lo hi l =
     ((len ≡ 0) × (cap ≡ 0) × (l ≡ lo))
     ⊎ ((begin : ℕ) × PartIn told (part_size s.size cap) s.align lo hi begin
@@ -62,7 +62,7 @@ TableAt s b told cap len lo hi l =
 
 -- `e`: first fault of a table. The length isn't below the capacity, or else the part
 -- isn't in the range, or else it has a fault inside
-abbrev pub TableFailsAt : Shape → List ℕ → ℤ → ℕ → ℕ → ℕ → ℕ → VerifyError → Type 0
+abbrev pub TableFailsAt : ElementSpec → List ℕ → ℤ → ℕ → ℕ → ℕ → ℕ → VerifyError → Type 0
 TableFailsAt s b told cap len lo hi e =
     ((cap ≤ len) × (0 < len) × (e ≡ InvalidLength len cap))
     ⊎ ((len < cap) × PartFails told (part_size s.size cap) s.align lo hi e)
@@ -70,18 +70,19 @@ TableFailsAt s b told cap len lo hi e =
     × FailsInside s b cap len lo begin e)
 
 -- the header at `p` is that of a valid table
-abbrev pub TableHolds : Width → Shape → List ℕ → ℕ → ℕ → ℕ → ℕ → Type 0
-TableHolds w s b p lo hi l = TableAt s b (begin_told w s.size b p) (cap_at w b p) (len_at w b p) lo
+abbrev pub TableHolds : Width → ElementSpec → List ℕ → ℕ → ℕ → ℕ → ℕ → Type 0
+TableHolds w s b p lo hi l =
+    TableAt s b (decode_begin w s.size b p) (cap_at w b p) (len_at w b p) lo
     hi l
 
 -- `e`: first fault of the table whose header is at `p`
-abbrev pub TableFails : Width → Shape → List ℕ → ℕ → ℕ → ℕ → VerifyError → Type 0
-TableFails w s b p lo hi e = TableFailsAt s b (begin_told w s.size b p) (cap_at w b p)
+abbrev pub TableFails : Width → ElementSpec → List ℕ → ℕ → ℕ → ℕ → VerifyError → Type 0
+TableFails w s b p lo hi e = TableFailsAt s b (decode_begin w s.size b p) (cap_at w b p)
     (len_at w b p) lo hi e
 
--- the header of a table of items of the shape `s`: three words
-abbrev pub table_shape : Width → Shape → Shape
-table_shape w s = record {
+-- the header of a table of items of the spec `s`: three words
+abbrev pub table_spec : Width → ElementSpec → ElementSpec
+table_spec w s = record {
   size = 3 * byte_len w;
   align = byte_len w;
   holds =

@@ -1,5 +1,5 @@
 -- The number of items of a table that a lookup of their own doesn't find.
-use Rattle.rkyv_base.specs.declared.element.Shaped.{Ghosts as Shapes}
+use Rattle.rkyv_base.specs.declared.element.HasSpec.{Ghosts as Specs}
 use Rattle.rkyv_base.specs.declared.width.Word.{Ghosts as Words}
 use Rattle.std.specs.Prelude.{◌≡◌, ℕ, ◌+◌, ◌/◌, ◌<◌, ◌≤◌, ◌^◌, ◌⊎◌, Bool, List, MatchOption, Option}
 use Rattle.rkyv_base.specs.declared.view.View.{View}
@@ -13,7 +13,7 @@ use Rattle.rkyv_table.specs.Table.Positions.{table_controls}
 use Rattle.rkyv_table.specs.Table.Reading.{table_pos}
 use Rattle.rkyv_table.specs.declared.table.ArchivedHashTable.{ArchivedHashTable}
 
-module _ {T W : Type 0} {ts : Shapes T} {wt : Words W} where
+module _ {T W : Type 0} {ts : Specs T} {wt : Words W} where
   -- the comparison can be called with any two items
   abbrev pub MayCompare : (View T → View T → Type 0) → ArchivedHashTable T W ts wt → Type 0
   MayCompare pre t = (x y : View T) → IsItem t x → IsItem t y → pre x y
@@ -65,7 +65,7 @@ module _ {T W : Type 0} {ts : Shapes T} {wt : Words W} where
       → ℕ → Option ℕ → Type 0
   FindsOwn compares kind t hash bucket result =
       (same : ℕ → ℕ → Bool) → ComparesAs compares t same
-      → result ≡ bucket_found kind wt.word ts.shape.size (table_bytes t) (table_pos t) hash
+      → result ≡ bucket_found kind wt.word ts.spec.size (table_bytes t) (table_pos t) hash
       (same (item_pos t bucket))
 
   -- the strides that a lookup of the item in `bucket` reads are counted
@@ -73,7 +73,7 @@ module _ {T W : Type 0} {ts : Shapes T} {wt : Words W} where
       (t : ArchivedHashTable T W ts wt) (hash bucket before after : ℕ) : Type 0 where
     pub bounded : CountsWithin t before after
     pub counted : (same : ℕ → ℕ → Bool) → ComparesAs compares t same
-        → after ≡ before + lookup_end generic_kind wt.word ts.shape.size (table_bytes t)
+        → after ≡ before + lookup_end generic_kind wt.word ts.spec.size (table_bytes t)
         (table_pos t) hash (same (item_pos t bucket))
 
   -- `result`: number of misplaced items, if both functions depend only on positions of items

@@ -2,22 +2,23 @@
 use Rattle.std.specs.Prelude.{◌≡◌, ℕ, List, drop, take}
 use Rattle.rkyv_base.specs.Seal.{bytes_in, seal_pos}
 use Rattle.rkyv_base.specs.Sealing.{value_pos}
-use Rattle.rkyv_base.specs.Shape.{Shape}
-use Rattle.rkyv_base.specs.View.{IsView, bytes_of, pos_of}
+use Rattle.rkyv_base.specs.ElementSpec.{ElementSpec}
+use Rattle.rkyv_base.specs.View.{IsValidView, bytes_of, pos_of}
 use Rattle.rkyv_base.specs.declared.seal.Seal.{Seal}
 use Rattle.rkyv_base.specs.declared.view.View.{View}
 
 -- `pair`: view of the key and seal of the value. The bytes are split at the begin of the value
-pub record LendsPair {K V : Type 0} (k v : Shape) (b : List ℕ) (At : ℕ → Type 0)
+pub record LendsPair {K V : Type 0} (k v : ElementSpec) (b : List ℕ) (At : ℕ → Type 0)
     (pair : View K × Seal V) : Type 0 where
   pub at : At (pos_of pair.0)
-  pub key : IsView k pair.0
+  pub key : IsValidView k pair.0
   pub front : bytes_of pair.0 ≡ take (value_pos k v (pos_of pair.0)) b
   pub back : bytes_in pair.1 ≡ drop (value_pos k v (pos_of pair.0)) b
   pub begin : seal_pos pair.1 ≡ 0
 
 -- `value`: seal of the value of a pair whose key has a position in `At`
-pub record LendsValue {V : Type 0} (k v : Shape) (b : List ℕ) (At : ℕ → Type 0) (value : Seal V) :
+pub record LendsValue {V : Type 0} (k v : ElementSpec) (b : List ℕ) (At : ℕ
+    → Type 0) (value : Seal V) :
     Type 0 where
   pub key : ℕ
   pub at : At key

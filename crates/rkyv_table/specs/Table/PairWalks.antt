@@ -2,29 +2,31 @@
 -- of the remaining keys.
 use Rattle.std.specs.Prelude.{◌≡◌, ℕ, ◌+◌, [], ◌∷◌, Option, MatchOption}
 use Rattle.rkyv_base.specs.Entry.{value_offset}
-use Rattle.rkyv_base.specs.Shape.{Shape}
-use Rattle.rkyv_base.specs.View.{IsAt, IsView}
+use Rattle.rkyv_base.specs.ElementSpec.{ElementSpec}
+use Rattle.rkyv_base.specs.View.{IsAt, IsValidView}
 use Rattle.rkyv_base.specs.declared.view.View.{View}
 use Rattle.rkyv_table.specs.Table.RawItems.{ItemsLeft}
 
 -- `place` was the first remaining position, and the archive is unchanged
 pub record TakesFirst (before : ItemsLeft) (place : ℕ) (after : ItemsLeft) : Type 0 where
-  pub first : before.places ≡ place ∷ after.places
+  pub first : before.positions ≡ place ∷ after.positions
   pub archive : after.archive ≡ before.archive
 
 -- no position remained
 pub record IsAtEnd (before after : ItemsLeft) : Type 0 where
-  pub none : before.places ≡ []
+  pub none : before.positions ≡ []
   pub still : after ≡ before
 
 -- `view`: view of a valid value at position `place` of the archive
-pub record ViewsAt {T : Type 0} (s : Shape) (before : ItemsLeft) (place : ℕ) (view : View T) : Type
+pub record ViewsAt {T : Type 0} (s : ElementSpec) (before : ItemsLeft) (place : ℕ)
+    (view : View T) : Type
     0 where
   pub at : IsAt view before.archive place
-  pub viewed : IsView s view
+  pub viewable : IsValidView s view
 
 -- the step returns the first remaining key and its value
-abbrev pub TakesPair : {K V : Type 0} → Shape → Shape → ItemsLeft → Option (View K × View V)
+abbrev pub TakesPair : {K V : Type 0} → ElementSpec → ElementSpec → ItemsLeft
+    → Option (View K × View V)
     → ItemsLeft → Type 0
 TakesPair {K} {V} k v before result after = MatchOption result (IsAtEnd before after)
     (λ (pair : View K × View V). TakesFirst before pair.0.pos after
@@ -32,12 +34,13 @@ TakesPair {K} {V} k v before result after = MatchOption result (IsAtEnd before a
     × ViewsAt v before (pair.0.pos + value_offset k v) pair.1)
 
 -- the step returns the first remaining key
-abbrev pub TakesKey : {K : Type 0} → Shape → ItemsLeft → Option (View K) → ItemsLeft → Type 0
+abbrev pub TakesKey : {K : Type 0} → ElementSpec → ItemsLeft → Option (View K) → ItemsLeft → Type 0
 TakesKey {K} k before result after = MatchOption result (IsAtEnd before after)
     (λ (key : View K). TakesFirst before key.pos after × ViewsAt k before key.pos key)
 
 -- the step returns the value of the first remaining key
-abbrev pub TakesValue : {V : Type 0} → Shape → Shape → ItemsLeft → Option (View V) → ItemsLeft
+abbrev pub TakesValue : {V : Type 0} → ElementSpec → ElementSpec → ItemsLeft → Option (View V)
+    → ItemsLeft
     → Type 0
 TakesValue {V} k v before result after = MatchOption result (IsAtEnd before after)
     (λ (value : View V). (place : ℕ) × TakesFirst before place after

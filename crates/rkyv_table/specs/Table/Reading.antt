@@ -2,25 +2,25 @@
 use Rattle.std.specs.Prelude.{◌≡◌, ℕ, ◌+◌, ◌/◌, ◌<◌, ◌^◌, List, Bool, true}
 use Rattle.std.specs.Prelude.{Option, IfSome}
 use Rattle.std.specs.List.{find}
-use Rattle.rkyv_base.specs.View.{IsView, bytes_of, pos_of, pos_of_found}
+use Rattle.rkyv_base.specs.View.{IsValidView, bytes_of, pos_of, pos_of_found}
 use Rattle.rkyv_base.specs.declared.view.View.{View}
-use Rattle.rkyv_base.specs.declared.element.Shaped.{Ghosts as Shapes}
+use Rattle.rkyv_base.specs.declared.element.HasSpec.{Ghosts as Specs}
 use Rattle.rkyv_base.specs.declared.width.Word.{Ghosts as Words}
 use Rattle.rkyv_scan.specs.Groups.{Kind}
 use Rattle.rkyv_table.specs.Controls.Finding.{ReadsWithin, found}
 use Rattle.rkyv_table.specs.Table.Header.{cap_at, controls_pos, len_at}
 use Rattle.rkyv_table.specs.Controls.Laws.{IsUnderHash}
 use Rattle.rkyv_table.specs.Controls.Numbers.{probe_capacity}
-use Rattle.rkyv_table.specs.Table.Layout.{table_shape}
+use Rattle.rkyv_table.specs.Table.Layout.{table_spec}
 use Rattle.rkyv_table.specs.declared.table.ArchivedHashTable.{ArchivedHashTable}
-use Rattle.rkyv_table.specs.declared.table.items.Items.{Items}
+use Rattle.rkyv_table.specs.declared.table.items.ParsedTable.{ParsedTable}
 use Rattle.rkyv_table.specs.Table.Positions.{IsWalked, WrittenAt, home_positions, item_at}
 use Rattle.rkyv_table.specs.Table.Positions.{lookup_end, pos_found, table_controls}
 
-module _ {T W : Type 0} {ts : Shapes T} {wt : Words W} where
+module _ {T W : Type 0} {ts : Specs T} {wt : Words W} where
   -- the archive has a valid table at the position of the table
   abbrev pub IsTable : ArchivedHashTable T W ts wt → Type 0
-  IsTable t = IsView (table_shape wt.word ts.shape) t.view
+  IsTable t = IsValidView (table_spec wt.word ts.spec) t.view
 
   -- the archive of the table
   abbrev pub table_bytes : ArchivedHashTable T W ts wt → List ℕ
@@ -32,17 +32,17 @@ module _ {T W : Type 0} {ts : Shapes T} {wt : Words W} where
 
   -- the position of the item in bucket `i`
   abbrev pub item_pos : ArchivedHashTable T W ts wt → ℕ → ℕ
-  item_pos t i = item_at wt.word ts.shape.size (table_bytes t) (table_pos t) i
+  item_pos t i = item_at wt.word ts.spec.size (table_bytes t) (table_pos t) i
 
   -- bucket `i` of the table is full
-  abbrev pub IsFullIn : ArchivedHashTable T W ts wt → ℕ → Type 0
-  IsFullIn t i = IsWalked wt.word (table_bytes t) (table_pos t) i
+  abbrev pub IsFullResult : ArchivedHashTable T W ts wt → ℕ → Type 0
+  IsFullResult t i = IsWalked wt.word (table_bytes t) (table_pos t) i
 
   -- `v`: view of the item in bucket `i` of the table
   pub record IsItemIn (t : ArchivedHashTable T W ts wt) (i : ℕ) (v : View T) : Type 0 where
     pub archive : v.archive ≡ t.view.archive
-    pub viewed : IsView ts.shape v
-    pub walked : IsFullIn t i
+    pub viewable : IsValidView ts.spec v
+    pub walked : IsFullResult t i
     pub place : v.pos ≡ item_pos t i
 
   -- `v`: view of an item of the table
@@ -51,19 +51,19 @@ module _ {T W : Type 0} {ts : Shapes T} {wt : Words W} where
 
   -- `q`: position of an item of the table
   abbrev pub IsItemPos : ArchivedHashTable T W ts wt → ℕ → Type 0
-  IsItemPos t q = (i : ℕ) × IsFullIn t i × (q ≡ item_pos t i)
+  IsItemPos t q = (i : ℕ) × IsFullResult t i × (q ≡ item_pos t i)
 
   -- the comparison can be called with each item
   abbrev pub MayAsk : (View T → Type 0) → ArchivedHashTable T W ts wt → Type 0
   MayAsk pre t = (v : View T) → IsItem t v → pre v
 
   -- `items`: numbers and control bytes of a table, as read from its header
-  pub record AreItems (items : Items T W ts wt) : Type 0 where
+  pub record IsParsed (items : ParsedTable T W ts wt) : Type 0 where
     pub table : IsTable items.table
     pub len : items.len ≡ len_at wt.word (table_bytes items.table) (table_pos items.table)
     pub cap : items.cap ≡ cap_at wt.word (table_bytes items.table) (table_pos items.table)
     pub small : items.cap < 2 ^ 64
-    pub place : 0 < items.cap → items.place
+    pub place : 0 < items.cap → items.buckets_end
         ≡ controls_pos wt.word (table_bytes items.table) (table_pos items.table)
     pub controls : 0 < items.cap → items.controls.now
         ≡ table_controls wt.word (table_bytes items.table) (table_pos items.table)
@@ -81,7 +81,7 @@ module _ {T W : Type 0} {ts : Shapes T} {wt : Words W} where
     abbrev pub FindsFound : Kind → ArchivedHashTable T W ts wt → ℕ → Option ℕ → Type 0
     FindsFound kind t hash result =
         (accept : ℕ → Bool) → Answers t accept → result
-        ≡ pos_found kind wt.word ts.shape.size (table_bytes t) (table_pos t) hash accept
+        ≡ pos_found kind wt.word ts.spec.size (table_bytes t) (table_pos t) hash accept
 
     -- the position that a lookup finds in a written table: that of the first accepted item
     -- in insertion order. This is for a comparison by positions that accepts only items under
@@ -91,15 +91,15 @@ module _ {T W : Type 0} {ts : Shapes T} {wt : Words W} where
         (hashes homes : List ℕ) (accept : ℕ → Bool)
         → WrittenAt wt.word (table_bytes t) (table_pos t) hashes homes → Answers t accept
         → IsUnderHash hash hashes
-        (home_positions wt.word ts.shape.size (table_bytes t) (table_pos t) homes) accept
+        (home_positions wt.word ts.spec.size (table_bytes t) (table_pos t) homes) accept
         → result
-        ≡ find accept (home_positions wt.word ts.shape.size (table_bytes t) (table_pos t) homes)
+        ≡ find accept (home_positions wt.word ts.spec.size (table_bytes t) (table_pos t) homes)
 
     -- the lookup reads as many strides as the number of the one at which it ends
     abbrev pub CountsEnd : Kind → ArchivedHashTable T W ts wt → ℕ → ℕ → ℕ → Type 0
     CountsEnd kind t hash before after =
         (accept : ℕ → Bool) → Answers t accept → after ≡ before
-        + lookup_end kind wt.word ts.shape.size (table_bytes t) (table_pos t) hash accept
+        + lookup_end kind wt.word ts.spec.size (table_bytes t) (table_pos t) hash accept
 
     -- `result`: position of the item that a lookup finds
     pub record FindsItemPos (kind : Kind) (t : ArchivedHashTable T W ts wt) (hash : ℕ)
@@ -115,7 +115,7 @@ module _ {T W : Type 0} {ts : Shapes T} {wt : Words W} where
       ReadsWithin (len_at wt.word (table_bytes t) (table_pos t))
       (probe_capacity (cap_at wt.word (table_bytes t) (table_pos t)) / 16) before after
 
-module _ {T W : Type 0} {ts : Shapes T} {wt : Words W} (post : View T → Bool → Type 0)
+module _ {T W : Type 0} {ts : Specs T} {wt : Words W} (post : View T → Bool → Type 0)
     (kind : Kind) (t : ArchivedHashTable T W ts wt) (hash : ℕ) where
   -- `result`: view of the item that a lookup finds. It is an item of the table
   -- for which the comparison returned `true`. In any table the control bytes decide

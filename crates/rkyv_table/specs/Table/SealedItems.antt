@@ -3,13 +3,13 @@ use Rattle.std.specs.Prelude.{◌≡◌, ℕ, ◌+◌, ◌<◌, [], ◌∷◌, �
 use Rattle.std.specs.Borrow.{MutBor}
 use Rattle.std.specs.Int.{Width}
 use Rattle.rkyv_base.specs.Seal.{LiesIn, bytes_in, seal_pos}
-use Rattle.rkyv_base.specs.Shape.{Shape, Viewed}
+use Rattle.rkyv_base.specs.ElementSpec.{ElementSpec, Viewable}
 use Rattle.rkyv_base.specs.declared.seal.Seal.{Seal}
 use Rattle.rkyv_table.specs.Table.Header.{cap_at, controls_pos}
 use Rattle.rkyv_table.specs.Table.Positions.{IsWalked, item_at, table_controls}
 use Rattle.rkyv_base.specs.declared.seal.ArchiveSeal.{ArchiveSeal}
 use Rattle.rkyv_table.specs.Table.SealedTable.{KeepsTable, KeptByWrites}
-use Rattle.rkyv_table.specs.Table.Layout.{table_shape}
+use Rattle.rkyv_table.specs.Table.Layout.{table_spec}
 use Rattle.rkyv_table.specs.Controls.Walking.{full_from}
 use Rattle.rkyv_table.specs.declared.table.raw_iter_seal.Place.{Place}
 use Rattle.rkyv_table.specs.declared.table.raw_iter_seal.RawIterSeal.{RawIterSeal}
@@ -27,11 +27,12 @@ abbrev pub buckets_left : {T : Type 0} → Width → ℕ → RawIterSeal T → L
 buckets_left w p r = full_from (table_controls w r.archive.now p) r.cap r.next
 
 -- a cursor over the valid table at `p` of its archive, with the numbers of the table
-pub record IsSealIter {T : Type 0} (w : Width) (s : Shape) (p : ℕ) (r : RawIterSeal T) : Type 0
+pub record IsSealIter {T : Type 0} (w : Width) (s : ElementSpec) (p : ℕ)
+    (r : RawIterSeal T) : Type 0
   where
-    pub table : Viewed (table_shape w s) r.archive.now p
+    pub table : Viewable (table_spec w s) r.archive.now p
     pub cap : r.cap ≡ cap_at w r.archive.now p
-    pub place : 0 < r.cap → r.place ≡ controls_pos w r.archive.now p
+    pub place : 0 < r.cap → r.buckets_end ≡ controls_pos w r.archive.now p
     pub left : r.left ≡ length (buckets_left w p r)
 
 -- both cursors have the same reference and the same bytes
@@ -41,14 +42,15 @@ pub record SameArchive {T : Type 0} (before after : RawIterSeal T) : Type 0 wher
 
 -- `q`: position of the item in bucket `i` of the table at `p`. Each write of the item alone
 -- that keeps it valid keeps the table
-pub record IsItemAt (w : Width) (s : Shape) (b : List ℕ) (p i q : ℕ) : Type 0 where
+pub record IsItemAt (w : Width) (s : ElementSpec) (b : List ℕ) (p i q : ℕ) : Type 0 where
   pub walked : IsWalked w b p i
   pub place : q ≡ item_at w s.size b p i
-  pub viewed : Viewed s b q
+  pub viewable : Viewable s b q
   pub kept : KeptByWrites w s b p i
 
 -- the first remaining bucket, with its item at `q`, and the cursor over the others
-pub record TakesBucket {T : Type 0} (w : Width) (s : Shape) (p : ℕ) (before after : RawIterSeal T)
+pub record TakesBucket {T : Type 0} (w : Width) (s : ElementSpec) (p : ℕ)
+    (before after : RawIterSeal T)
     (q : ℕ) : Type 0 where
   pub bucket : ℕ
   pub first : buckets_left w p before ≡ bucket ∷ buckets_left w p after
@@ -56,7 +58,8 @@ pub record TakesBucket {T : Type 0} (w : Width) (s : Shape) (p : ℕ) (before af
   pub iter : IsSealIter w s p after
 
 -- a step over the positions of a table's items: none remains, or the first is taken
-abbrev pub TakesPosition : {T : Type 0} → Shape → RawIterSeal T → Option ℕ → RawIterSeal T → Type 0
+abbrev pub TakesPosition : {T : Type 0} → ElementSpec → RawIterSeal T → Option ℕ → RawIterSeal T
+    → Type 0
 TakesPosition s before result after =
     (w : Width) (p : ℕ) → IsSealIter w s p before
     → MatchOption result ((buckets_left w p before ≡ []) × (buckets_left w p after ≡ [])
@@ -68,7 +71,7 @@ CountsDown before result after =
     MatchOption result (after.left ≡ before.left) (λ _. before.left ≡ after.left + 1)
 
 -- the seal of the first remaining item of a cursor over a table, or `None` if none remains
-abbrev pub LendsFirst : {T : Type 0} → Shape → RawIterSeal T → Option (Seal T) → Type 0
+abbrev pub LendsFirst : {T : Type 0} → ElementSpec → RawIterSeal T → Option (Seal T) → Type 0
 LendsFirst s before result =
     (w : Width) (p : ℕ) → IsSealIter w s p before
     → MatchOption result (buckets_left w p before ≡ [])
@@ -76,7 +79,7 @@ LendsFirst s before result =
     × IsItemAt w s before.archive.now p i (seal_pos x))
 
 -- the bucket and the position of the first remaining item of a cursor over a table
-abbrev pub FindsFirstLeft : {T : Type 0} → Shape → RawIterSeal T → Option Place → Type 0
+abbrev pub FindsFirstLeft : {T : Type 0} → ElementSpec → RawIterSeal T → Option Place → Type 0
 FindsFirstLeft s r result =
     (w : Width) (p : ℕ) → IsSealIter w s p r
     → MatchOption result (buckets_left w p r ≡ [])
@@ -91,21 +94,21 @@ pub record LendsArchive {T U : Type 0} (a : ArchiveSeal U) (r : RawIterSeal T) :
 -- the cursor is at the same bucket, over the same reference, with any bytes
 pub record StaysThere {T : Type 0} (before after : RawIterSeal T) : Type 0 where
   pub reference : after.archive.ghost_name ≡ before.archive.ghost_name
-  pub place : after.place ≡ before.place
+  pub place : after.buckets_end ≡ before.buckets_end
   pub cap : after.cap ≡ before.cap
   pub next : after.next ≡ before.next
   pub left : after.left ≡ before.left
 
 -- a cursor over a table whose item at `q` was written is still one. The table is kept,
 -- and the same buckets remain
-abbrev pub KeepsCursor : {T : Type 0} → Shape → RawIterSeal T → ℕ → RawIterSeal T → Type 0
+abbrev pub KeepsCursor : {T : Type 0} → ElementSpec → RawIterSeal T → ℕ → RawIterSeal T → Type 0
 KeepsCursor s before q after =
     (w : Width) (p i : ℕ) → IsSealIter w s p before → IsItemAt w s before.archive.now p i q
     → KeepsTable w s before.archive.now after.archive.now p i × IsSealIter w s p after
     × (buckets_left w p after ≡ buckets_left w p before)
 
 -- `write` can be called with the archive and each position at which an item fits
-abbrev pub MayWriteNext : {F T : Type 0} → (F → MutBor (List ℕ) → ℕ → Type 0) → Shape
+abbrev pub MayWriteNext : {F T : Type 0} → (F → MutBor (List ℕ) → ℕ → Type 0) → ElementSpec
     → RawIterSeal T → F → Type 0
 MayWriteNext pre s before write = (b : MutBor (List ℕ)) (q : ℕ) → b.now ≡ before.archive.now
     → q + s.size ≤ length b.now → pre write b q
@@ -122,7 +125,7 @@ WrittenBy post write r b q c =
     (x : MutBor (List ℕ)) × (y : MutBor (List ℕ)) × (x.now ≡ b) × (y.now ≡ c) × post write x q r y
 
 -- a step over the positions of a table's items, and the write of the taken item
-pub record StepsAndWrites {T : Type 0} (s : Shape) (Writes : List ℕ → ℕ → List ℕ
+pub record StepsAndWrites {T : Type 0} (s : ElementSpec) (Writes : List ℕ → ℕ → List ℕ
     → Type 0) (before : RawIterSeal T) (result : Option ℕ) (after : RawIterSeal T) : Type 0 where
   pub stepped : RawIterSeal T
   pub archive : SameArchive before stepped
@@ -148,13 +151,14 @@ pub record SealedBy {F R T : Type 0} (post : F → MutBor (Seal T) → R → Mut
   pub leaves : left.now.bytes.ghost_name ≡ given.now.bytes.ghost_name → bytes_in left.now ≡ c
 
 -- `write` can be called with a seal of each item that fits in the archive
-abbrev pub MaySealNext : {F T : Type 0} → (F → MutBor (Seal T) → Type 0) → Shape → RawIterSeal T → F
+abbrev pub MaySealNext : {F T : Type 0} → (F → MutBor (Seal T) → Type 0) → ElementSpec
+    → RawIterSeal T → F
     → Type 0
 MaySealNext {F} {T} pre s before write = (x : MutBor (Seal T)) → bytes_in x.now ≡ before.archive.now
     → LiesIn s x.now → pre write x
 
 -- `write` can be called with a seal of each item that fits in the bytes
-abbrev pub MaySealIn : {F T : Type 0} → (F → MutBor (Seal T) → Type 0) → Shape → F → List ℕ
+abbrev pub MaySealIn : {F T : Type 0} → (F → MutBor (Seal T) → Type 0) → ElementSpec → F → List ℕ
     → Type 0
 MaySealIn {F} {T} pre s write b = (x : MutBor (Seal T)) → bytes_in x.now ≡ b → LiesIn s x.now
     → pre write x

@@ -1,12 +1,12 @@
 -- The result of a lookup that returns a seal.
-use Rattle.rkyv_base.specs.declared.element.Shaped.{Ghosts as Shapes}
+use Rattle.rkyv_base.specs.declared.element.HasSpec.{Ghosts as Specs}
 use Rattle.rkyv_base.specs.declared.width.Word.{Ghosts as Words}
 use Rattle.std.specs.Prelude.{◌≡◌, ℕ, Bool, List, Option}
 use Rattle.std.specs.Int.{Width}
 use Rattle.std.specs.List.{find}
 use Rattle.std.specs.Option.{option_map}
 use Rattle.rkyv_base.specs.Seal.{SealAt, archive_in, seal_pos, pos_in}
-use Rattle.rkyv_base.specs.Shape.{Shape, Viewed}
+use Rattle.rkyv_base.specs.ElementSpec.{ElementSpec, Viewable}
 use Rattle.rkyv_base.specs.declared.seal.ArchiveSeal.{ArchiveSeal}
 use Rattle.rkyv_base.specs.declared.seal.Seal.{Seal}
 use Rattle.rkyv_base.specs.declared.view.View.{View}
@@ -17,37 +17,38 @@ use Rattle.rkyv_table.specs.Table.Bare.{AnswersOf, MayAskOf}
 use Rattle.rkyv_table.specs.Table.Positions.{item_at, pos_found}
 use Rattle.rkyv_table.specs.Table.Reading.{table_bytes, table_pos}
 use Rattle.rkyv_table.specs.Table.SealedTable.{KeptByWrites}
-use Rattle.rkyv_table.specs.Table.Layout.{table_shape}
+use Rattle.rkyv_table.specs.Table.Layout.{table_spec}
 use Rattle.rkyv_table.specs.declared.table.ArchivedHashTable.{ArchivedHashTable}
 use Rattle.rkyv_table.specs.declared.table.TableOf.{TableOf}
 
 -- the archive has a valid table at the position of the seal
-abbrev pub IsTableSeal : {T W : Type 0} → Width → Shape → ArchiveSeal (TableOf T W) → Type 0
-IsTableSeal w s a = Viewed (table_shape w s) (archive_in a) (pos_in a)
+abbrev pub IsTableSeal : {T W : Type 0} → Width → ElementSpec → ArchiveSeal (TableOf T W) → Type 0
+IsTableSeal w s a = Viewable (table_spec w s) (archive_in a) (pos_in a)
 
 -- the table `t` is read at the seal `a`
-abbrev pub IsReadAt : {T W : Type 0} {ts : Shapes T} {wt : Words W} → ArchiveSeal (TableOf T W)
+abbrev pub IsReadAt : {T W : Type 0} {ts : Specs T} {wt : Words W} → ArchiveSeal (TableOf T W)
     → ArchivedHashTable T W ts wt → Type 0
 IsReadAt a t = (table_bytes t ≡ archive_in a) × (table_pos t ≡ pos_in a)
 
 -- the comparison can be called with each item
-abbrev pub MayAskAt : {T W : Type 0} → (View T → Type 0) → Width → Shape → ArchiveSeal (TableOf T W)
+abbrev pub MayAskAt : {T W : Type 0} → (View T → Type 0) → Width → ElementSpec
+    → ArchiveSeal (TableOf T W)
     → Type 0
 MayAskAt pre w s a = MayAskOf pre w s (archive_in a) (pos_in a)
 
 -- the comparison returns `accept q` for the item at each position `q`
-abbrev pub AnswersAt : {T W : Type 0} → (View T → Bool → Type 0) → Width → Shape
+abbrev pub AnswersAt : {T W : Type 0} → (View T → Bool → Type 0) → Width → ElementSpec
     → ArchiveSeal (TableOf T W) → (ℕ → Bool) → Type 0
 AnswersAt post w s a accept = AnswersOf post w s (archive_in a) (pos_in a) accept
 
 -- `x`: seal of an item of the table. Each write through it alone that keeps the item valid keeps
 -- the table
-pub record IsItemSeal {T W : Type 0} (w : Width) (s : Shape) (a : ArchiveSeal (TableOf T W))
+pub record IsItemSeal {T W : Type 0} (w : Width) (s : ElementSpec) (a : ArchiveSeal (TableOf T W))
     (x : Seal T) : Type 0 where
   pub bucket : ℕ
   pub walked : IsWalked w (archive_in a) (pos_in a) bucket
   pub at : SealAt x a.archive (item_at w s.size (archive_in a) (pos_in a) bucket)
-  pub viewed : Viewed s (archive_in a) (seal_pos x)
+  pub viewable : Viewable s (archive_in a) (seal_pos x)
   pub kept : KeptByWrites w s (archive_in a) (pos_in a) bucket
 
 -- the position of a returned seal
@@ -55,7 +56,7 @@ abbrev pub pos_of_seal : {T : Type 0} → Option (Seal T) → Option ℕ
 pos_of_seal seal = option_map seal_pos seal
 
 -- the position that a lookup finds in any valid table, if the comparison depends only on positions
-abbrev pub SealsFound : {T W : Type 0} → (View T → Bool → Type 0) → Width → Shape
+abbrev pub SealsFound : {T W : Type 0} → (View T → Bool → Type 0) → Width → ElementSpec
     → ArchiveSeal (TableOf T W) → ℕ → Option ℕ → Type 0
 SealsFound post w s a hash result =
     (accept : ℕ → Bool) → AnswersAt post w s a accept
@@ -63,7 +64,7 @@ SealsFound post w s a hash result =
 
 -- the position that a lookup finds in a written table: that of the first accepted item
 -- in insertion order. This is for a comparison by positions that accepts only items under `hash`
-abbrev pub SealsFirst : {T W : Type 0} → (View T → Bool → Type 0) → Width → Shape
+abbrev pub SealsFirst : {T W : Type 0} → (View T → Bool → Type 0) → Width → ElementSpec
     → ArchiveSeal (TableOf T W) → ℕ → Option ℕ → Type 0
 SealsFirst post w s a hash result =
     (hashes homes : List ℕ) (accept : ℕ → Bool) → WrittenAt w (archive_in a) (pos_in a) hashes homes

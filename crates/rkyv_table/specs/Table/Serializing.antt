@@ -8,15 +8,15 @@ use Rattle.rkyv_base.specs.declared.errors.WriteError.TheVariants.{CapacityTooLa
 use Rattle.rkyv_base.specs.declared.errors.WriteError.TheVariants.{PositionTooLarge}
 use Rattle.rkyv_base.specs.declared.errors.WriteError.TheVariants.{DistanceTooLarge, TextTooLong}
 use Rattle.rkyv_base.specs.declared.errors.WriteError.TheVariants.{Writer, Memory, Refused}
-use Rattle.rkyv_base.specs.Format.{Format, GaveUp, Serialized}
-use Rattle.rkyv_base.specs.Shape.{Shape}
+use Rattle.rkyv_base.specs.Format.{Format, SerializeFails, Serialized}
+use Rattle.rkyv_base.specs.ElementSpec.{ElementSpec}
 use Rattle.rkyv_base.specs.Text.{IsArchiveWord}
-use Rattle.rkyv_base.specs.Writing.{Appended, Output, Told, end_of}
+use Rattle.rkyv_base.specs.Writing.{Appended, Output, WriteFails, end_of}
 use Rattle.rkyv_table.specs.Controls.Numbers.{IsLoadFactor, capacity}
 use Rattle.rkyv_table.specs.Table.Input.{Input}
 use Rattle.rkyv_table.specs.Table.Slots.{ItemFormat, TableBytes, TableNext}
 use Rattle.rkyv_table.specs.Table.TableFormat.{TableResolver, table_format}
-use Rattle.rkyv_table.specs.Table.Taking.{Placed}
+use Rattle.rkyv_table.specs.Table.PlacedItems.{Placed}
 
 -- the members of a `Width` and its `Word`
 abbrev pub WidthMembers : Type 0
@@ -53,29 +53,29 @@ module _ (len : ℕ) (load_factor : ℕ × ℕ) (max : ℕ) (other : ℕ → Typ
   OwnCause (Refused c) = ⊥
 
 -- the input has `len` items, and they are `items`
-abbrev pub Came : {X : Type 0} → (List X → Type 0) → ℕ → List X → Type 0
-Came gave len items = gave items × (length items ≡ len)
+abbrev pub YieldsExactly : {X : Type 0} → (List X → Type 0) → ℕ → List X → Type 0
+YieldsExactly yields len items = yields items × (length items ≡ len)
 
-module _ {X R : Type 0} (gave : List X → Type 0) (len : ℕ) (load_factor : ℕ × ℕ) (max : ℕ)
+module _ {X R : Type 0} (yields : List X → Type 0) (len : ℕ) (load_factor : ℕ × ℕ) (max : ℕ)
     (f : Format (List X) R) (o o' : Output) (limit : ℕ) where
   -- the items of the input were written
   abbrev pub WroteItems : R → Type 0
-  WroteItems r = HasCapacity len load_factor max × (items : List X) × Came gave len items
+  WroteItems r = HasCapacity len load_factor max × (items : List X) × YieldsExactly yields len items
       × Serialized limit f items o o' r
 
   -- an error before the first byte, and nothing was written; or else writing the items failed
-  abbrev pub NoItems : {F : Type 0} → (ℕ → Type 0) → WriteError F → Type 0
-  NoItems other e = (OwnCause len load_factor max other e × (o' ≡ o))
-      ⊎ (HasCapacity len load_factor max × (items : List X) × Came gave len items
-      × GaveUp limit f items o o' e)
+  abbrev pub WriteItemsFails : {F : Type 0} → (ℕ → Type 0) → WriteError F → Type 0
+  WriteItemsFails other e = (OwnCause len load_factor max other e × (o' ≡ o))
+      ⊎ (HasCapacity len load_factor max × (items : List X) × YieldsExactly yields len items
+      × SerializeFails limit f items o o' e)
 
 -- `len` items are written in the format `f` under a load factor, with at most `max` buckets
 -- and no position above `limit`. The result is their resolver, or an error
 abbrev pub WritesItems : {X R F : Type 0} → Input X → ℕ → ℕ × ℕ → ℕ → ℕ → Format (List X) R
     → Output → Output → Result R (WriteError F) → Type 0
 WritesItems input len load_factor max limit f o o' result = MatchResult result
-    (WroteItems input.gave len load_factor max f o o' limit)
-    (NoItems input.gave len load_factor max f o o' limit (input.gave_other len))
+    (WroteItems input.yields len load_factor max f o o' limit)
+    (WriteItemsFails input.yields len load_factor max f o o' limit (input.yields_other_count len))
 
 -- items to be written as a table. `input`: input pairs of hash and item, `len`: their claimed
 -- number, `load_factor`: the load factor
@@ -95,42 +95,42 @@ abbrev pub WritesTable : {X R F : Type 0} → WidthMembers → ItemFormat X R �
     → Output → Result TableResolver (WriteError F) → Type 0
 WritesTable w items given o o' result =
     WritesItems given.input given.len given.load_factor w.MAX_CAPACITY w.LIMIT
-    (table_format w.word items.shape items.format given.load_factor) o o' result
+    (table_format w.word items.spec items.format given.load_factor) o o' result
 
 -- the errors with which the items are not placed
-abbrev pub NotPlaced : {F : Type 0} → ℕ → (ℕ → Type 0) → WriteError F → Type 0
-NotPlaced len other (InvalidLoadFactor n d) = ⊥
-NotPlaced len other (CapacityTooLarge l) = ⊥
-NotPlaced len other Memory = ⊤
-NotPlaced len other (IteratorLengthMismatch m) = (m.expected ≡ len) × other m.actual
-NotPlaced len other PositionTooLarge = ⊥
-NotPlaced len other DistanceTooLarge = ⊥
-NotPlaced len other TextTooLong = ⊥
-NotPlaced len other (Writer fault) = ⊥
-NotPlaced len other (Refused c) = ⊥
+abbrev pub PlacingFails : {F : Type 0} → ℕ → (ℕ → Type 0) → WriteError F → Type 0
+PlacingFails len other (InvalidLoadFactor n d) = ⊥
+PlacingFails len other (CapacityTooLarge l) = ⊥
+PlacingFails len other Memory = ⊤
+PlacingFails len other (IteratorLengthMismatch m) = (m.expected ≡ len) × other m.actual
+PlacingFails len other PositionTooLarge = ⊥
+PlacingFails len other DistanceTooLarge = ⊥
+PlacingFails len other TextTooLong = ⊥
+PlacingFails len other (Writer fault) = ⊥
+PlacingFails len other (Refused c) = ⊥
 
 -- `pairs`: input pairs, which are placed in `slots` and `controls`
-pub record Taken {X : Type 0} (gave : List (ℕ × X)
+pub record InputPlaced {X : Type 0} (yields : List (ℕ × X)
     → Type 0) (len cap : ℕ) (slots : List (Option X)) (controls : List ℕ)
     (pairs : List (ℕ × X)) : Type 0 where
-  pub came : Came gave len pairs
+  pub exactly : YieldsExactly yields len pairs
   pub placed : Placed cap pairs slots controls
 
-module _ {X R : Type 0} (gave : List (ℕ × X) → Type 0) where
-  module _ (len cap : ℕ) (s : Shape) (f : Format X R) (o o' : Output) (limit : ℕ) where
+module _ {X R : Type 0} (yields : List (ℕ × X) → Type 0) where
+  module _ (len cap : ℕ) (s : ElementSpec) (f : Format X R) (o o' : Output) (limit : ℕ) where
     -- the bytes of the table of the input pairs were appended, with the first control byte at `z`
     abbrev pub WroteFilled : ℕ → Type 0
     WroteFilled z = (pairs : List (ℕ × X)) × (slots : List (Option X)) × (controls : List ℕ)
-        × Taken gave len cap slots controls pairs
+        × InputPlaced yields len cap slots controls pairs
         × (bytes : List ℕ) × Appended limit bytes o o'
         × TableBytes s f slots controls (end_of o) z bytes
 
     -- the items were not placed, and nothing was written; or else writing the input pairs failed
-    abbrev pub NoFilled : {F : Type 0} → (ℕ → Type 0) → WriteError F → Type 0
-    NoFilled other e = (NotPlaced len other e × (o' ≡ o))
+    abbrev pub WriteFilledFails : {F : Type 0} → (ℕ → Type 0) → WriteError F → Type 0
+    WriteFilledFails other e = (PlacingFails len other e × (o' ≡ o))
         ⊎ ((pairs : List (ℕ × X)) × (slots : List (Option X)) × (controls : List ℕ)
-        × Taken gave len cap slots controls pairs
-        × Told limit (TableNext s f slots controls (end_of o)) o o' e)
+        × InputPlaced yields len cap slots controls pairs
+        × WriteFails limit (TableNext s f slots controls (end_of o)) o o' e)
 
 -- items to be placed in buckets. `input`: input pairs of hash and item,
 -- `len`: their claimed number, `cap`: number of buckets
@@ -148,6 +148,6 @@ bucket_input input len cap = record { input = input; len = len; cap = cap }
 abbrev pub WritesFilled : {X R F : Type 0} → ℕ → ItemFormat X R → BucketInput X → Output → Output
     → Result ℕ (WriteError F) → Type 0
 WritesFilled limit items given o o' result = MatchResult result
-    (WroteFilled given.input.gave given.len given.cap items.shape items.format o o' limit)
-    (NoFilled given.input.gave given.len given.cap items.shape items.format o o' limit
-    (given.input.gave_other given.len))
+    (WroteFilled given.input.yields given.len given.cap items.spec items.format o o' limit)
+    (WriteFilledFails given.input.yields given.len given.cap items.spec items.format o o' limit
+    (given.input.yields_other_count given.len))

@@ -4,8 +4,9 @@ use Rattle.std.specs.Prelude.{drop, MatchResult, Option, Result, Some, None, sli
 use Rattle.rkyv_base.specs.Entry.{round_up}
 use Rattle.rkyv_base.specs.Format.{Format}
 use Rattle.rkyv_base.specs.Pairs.{written_as}
-use Rattle.rkyv_base.specs.Shape.{Shape}
-use Rattle.rkyv_base.specs.Writing.{Appended, Appends, Output, Step, Told, Within, distance, end_of}
+use Rattle.rkyv_base.specs.ElementSpec.{ElementSpec}
+use Rattle.rkyv_base.specs.Writing.{Appended, Appends, Output, Step, WriteFails, Within, distance}
+use Rattle.rkyv_base.specs.Writing.{end_of}
 use Rattle.rkyv_base.specs.Writing.{padding, piece, refusal, zeros}
 use Rattle.rkyv_base.specs.declared.errors.WriteError.{WriteError}
 
@@ -15,14 +16,14 @@ filled [] = 0
 filled (None ∷ ss) = filled ss
 filled (Some x ∷ ss) = suc (filled ss)
 
--- how items are written. `shape`: shape of their elements, `format`: their format
+-- how items are written. `spec`: spec of their elements, `format`: their format
 pub record ItemFormat (X R : Type 0) : Type 1 where
-  pub shape : Shape
+  pub spec : ElementSpec
   pub format : Format X R
 
 -- the format of items that lend values in the format `f`, as `lent` says
-abbrev pub item_format : {X V R : Type 0} → Shape → (X → V) → Format V R → ItemFormat X R
-item_format s lent f = record { shape = s; format = written_as lent f }
+abbrev pub item_format : {X V R : Type 0} → ElementSpec → (X → V) → Format V R → ItemFormat X R
+item_format s lent f = record { spec = s; format = written_as lent f }
 
 -- `slots`: a slot for each bucket, `resolvers`: resolvers of their items, in bucket order
 pub record ResolvedSlots (X R : Type 0) : Type 0 where
@@ -64,7 +65,7 @@ abbrev pub WritesParts : {X R U F : Type 0} → ℕ → Format X R → ResolvedS
 WritesParts limit f x o o' result = MatchResult result
     (λ _. (part : List ℕ) × Appends o o' part × SlotParts f x.slots (end_of o) part x.resolvers
     × Within limit o' part)
-    (Told limit (PartsNext f x.slots (end_of o)) o o')
+    (WriteFails limit (PartsNext f x.slots (end_of o)) o o')
 
 module _ {X R : Type 0} (size : ℕ) (f : Format X R) where
   -- `out`: buckets before position `z`, from the highest to bucket 0
@@ -82,15 +83,16 @@ module _ {X R : Type 0} (size : ℕ) (f : Format X R) where
   Filled (Some x) left more p out = (r : R) × (left ≡ more ++ r ∷ []) × f.image x r p out
 
   -- a distance of the item by the last resolver is too large
-  abbrev pub TooFar : Option X → List R → ℕ → Type 0
-  TooFar None left p = ⊥
-  TooFar (Some x) left p = (r : R) × (more : List R) × (left ≡ more ++ r ∷ []) × f.far x r p
+  abbrev pub BucketOverflows : Option X → List R → ℕ → Type 0
+  BucketOverflows None left p = ⊥
+  BucketOverflows (Some x) left p = (r : R) × (more : List R) × (left ≡ more ++ r ∷ [])
+      × f.overflow x r p
 
   -- `step`: step of writing one bucket at position `p`, its bytes or the error for its distance
   abbrev pub BucketStep : Option X → List R → ℕ → Step → Type 0
   BucketStep s left p step =
       ((more : List R) × (out : List ℕ) × Filled s left more p out × (step ≡ piece out))
-      ⊎ (TooFar s left p × (step ≡ refusal distance))
+      ⊎ (BucketOverflows s left p × (step ≡ refusal distance))
 
   module _ (slots : List (Option X)) (rs : List R) (p : ℕ) where
     -- `front`: buckets above `i`, written from `p` on, `left`: resolvers of the other items
@@ -122,17 +124,18 @@ bucket_with pos bytes = record { pos = pos; bytes = bytes }
 abbrev pub FillsBucket : {X R U E : Type 0} → ItemFormat X R → Option X → List R → List R → Bucket
     → Result U E → Type 0
 FillsBucket items s left more b result = MatchResult result
-    (λ _. Filled items.shape.size items.format s left more b.pos b.bytes)
-    (λ _. TooFar items.shape.size items.format s left b.pos)
+    (λ _. Filled items.spec.size items.format s left more b.pos b.bytes)
+    (λ _. BucketOverflows items.spec.size items.format s left b.pos)
 
 -- the buckets of the slots `x` are written within the limit, or writing failed
 abbrev pub WritesBuckets : {X R U F : Type 0} → ℕ → ItemFormat X R → ResolvedSlots X R → Output
     → Output → Result U (WriteError F) → Type 0
 WritesBuckets limit items x o o' result = MatchResult result
-    (λ _. WroteBuckets items.shape.size items.format limit x.slots x.resolvers o o')
-    (Told limit (BucketNext items.shape.size items.format x.slots x.resolvers (end_of o)) o o')
+    (λ _. WroteBuckets items.spec.size items.format limit x.slots x.resolvers o o')
+    (WriteFails limit (BucketNext items.spec.size items.format x.slots x.resolvers (end_of o)) o o')
 
-module _ {X R : Type 0} (s : Shape) (f : Format X R) (slots : List (Option X)) (controls : List ℕ)
+module _ {X R : Type 0} (s : ElementSpec) (f : Format X R) (slots : List (Option X))
+    (controls : List ℕ)
     (p : ℕ) where
   -- `bytes`: bytes of a table written from position `p` on, `z`: position of
   -- its first control byte. They are the parts of the items, zeros, the buckets
@@ -169,5 +172,5 @@ abbrev pub WritesSlots : {X R F : Type 0} → ℕ → ItemFormat X R → PlacedS
     → Result ℕ (WriteError F) → Type 0
 WritesSlots limit items x o o' result = MatchResult result
     (λ z. (bytes : List ℕ) × Appended limit bytes o o'
-    × TableBytes items.shape items.format x.slots x.controls (end_of o) z bytes)
-    (Told limit (TableNext items.shape items.format x.slots x.controls (end_of o)) o o')
+    × TableBytes items.spec items.format x.slots x.controls (end_of o) z bytes)
+    (WriteFails limit (TableNext items.spec items.format x.slots x.controls (end_of o)) o o')

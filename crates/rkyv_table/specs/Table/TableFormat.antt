@@ -4,15 +4,15 @@ use Rattle.std.specs.Prelude.{MatchResult, Option, Result, Some}
 use Rattle.std.specs.Int.{Width}
 use mir.Val.{bits}
 use Rattle.rkyv_base.specs.Format.{Format, IsFormat}
-use Rattle.rkyv_base.specs.Shape.{Shape}
+use Rattle.rkyv_base.specs.ElementSpec.{ElementSpec}
 use Rattle.rkyv_base.specs.Writing.{Step}
-use Rattle.rkyv_table.specs.Table.Header.{HeaderFar, IsHeader, begin_told, cap_at, len_at}
+use Rattle.rkyv_table.specs.Table.Header.{HeaderOverflows, IsHeader, decode_begin, cap_at, len_at}
 use Rattle.rkyv_table.specs.Controls.Laws.{AreHashes}
 use Rattle.rkyv_table.specs.Controls.Numbers.{capacity}
 use Rattle.rkyv_table.specs.Controls.Placing.{Written}
 use Rattle.rkyv_table.specs.Table.Slots.{TableBytes, TableNext}
-use Rattle.rkyv_table.specs.Table.Layout.{bucket_at, controls_at, table_shape}
-use Rattle.rkyv_table.specs.Table.Taking.{Placed, hashes_of, items_of}
+use Rattle.rkyv_table.specs.Table.Layout.{bucket_at, controls_at, table_spec}
+use Rattle.rkyv_table.specs.Table.PlacedItems.{Placed, hashes_of, items_of}
 
 -- the resolver of a table. `pos`: position of its first control byte, or 0 if it is empty
 pub record TableResolver : Type 0 where
@@ -34,14 +34,14 @@ abbrev pub WritesHeader : {T E : Type 0} → Width → TableResolver → ℕ →
     → Type 0
 WritesHeader w r p before after result = MatchResult result
     (λ _. IsHeader w r.len (resolved_capacity r) r.pos p after)
-    (λ _. HeaderFar w r.len r.pos p × (after ≡ before))
+    (λ _. HeaderOverflows w r.len r.pos p × (after ≡ before))
 
 -- the pairs are placed in as many buckets as they need
 abbrev pub InBuckets : {X : Type 0} → ℕ × ℕ → List (ℕ × X) → List (Option X) → List ℕ → Type 0
 InBuckets load_factor pairs slots controls =
     (0 < length pairs) × Placed (capacity (length pairs) load_factor) pairs slots controls
 
-module _ {X R : Type 0} (w : Width) (s : Shape) (f : Format X R) (load_factor : ℕ × ℕ)
+module _ {X R : Type 0} (w : Width) (s : ElementSpec) (f : Format X R) (load_factor : ℕ × ℕ)
     (pairs : List (ℕ × X)) (p : ℕ) where
   -- `part`: bytes of the table, or none for no pairs, `z`: position of its first control byte.
   -- Each item is in its home bucket
@@ -64,35 +64,35 @@ module _ {X R : Type 0} (w : Width) (s : Shape) (f : Format X R) (load_factor : 
 
 -- the format of a list of pairs of hash and item, in insertion order, as a table under
 -- a load factor
-abbrev pub table_format : {X R : Type 0} → Width → Shape → Format X R → ℕ × ℕ
+abbrev pub table_format : {X R : Type 0} → Width → ElementSpec → Format X R → ℕ × ℕ
     → Format (List (ℕ × X)) TableResolver
 table_format w s f load_factor = record {
   parts = TableParts w s f load_factor;
   next = PairsNext w s f load_factor;
   image = λ pairs r p out. IsHeader w r.len (resolved_capacity r) r.pos p out;
-  far = λ pairs r p. HeaderFar w r.len r.pos p;
+  overflow = λ pairs r p. HeaderOverflows w r.len r.pos p;
 }
 
 -- the buckets from `begin` on represent the pairs: the control bytes are those of the hashes,
 -- and each item is in its home bucket
-pub record BucketsStand {X : Type 0} (size : ℕ) (stands : List ℕ → ℕ → X
+pub record BucketsRepresent {X : Type 0} (size : ℕ) (represents : List ℕ → ℕ → X
     → Type 0) (c : List ℕ) (cap begin : ℕ) (pairs : List (ℕ × X)) : Type 0 where
   pub homes : List ℕ
   pub hashes : AreHashes (hashes_of pairs)
   pub controls : Written cap (hashes_of pairs) homes (controls_at size c begin cap)
   pub items : (i : ℕ) (x : X) → slice_get (items_of pairs) i ≡ Some x
-      → stands c (bucket_at size begin cap (slice_index homes i)) x
+      → represents c (bucket_at size begin cap (slice_index homes i)) x
 
 -- the table whose header is at `p` represents the pairs
-pub record TableStands {X : Type 0} (w : Width) (s : Shape) (stands : List ℕ → ℕ → X
+pub record TableRepresents {X : Type 0} (w : Width) (s : ElementSpec) (represents : List ℕ → ℕ → X
     → Type 0) (load_factor : ℕ × ℕ) (c : List ℕ) (p : ℕ) (pairs : List (ℕ × X)) : Type 0 where
   pub len : len_at w c p ≡ length pairs
   pub cap : cap_at w c p ≡ capacity (length pairs) load_factor
-  pub buckets : 0 < length pairs → (begin : ℕ) × (pos begin ≡ begin_told w s.size c p)
-      × BucketsStand s.size stands c (capacity (length pairs) load_factor) begin pairs
+  pub buckets : 0 < length pairs → (begin : ℕ) × (pos begin ≡ decode_begin w s.size c p)
+      × BucketsRepresent s.size represents c (capacity (length pairs) load_factor) begin pairs
 
 -- the format of a table is lawful: written tables are valid and represent their pairs
-abbrev pub WrittenTablesStand : {X R : Type 0} → Width → Shape → (List ℕ → ℕ → X → Type 0)
+abbrev pub WrittenTablesRepresent : {X R : Type 0} → Width → ElementSpec → (List ℕ → ℕ → X → Type 0)
     → Format X R → ℕ × ℕ → Type 0
-WrittenTablesStand w s stands f load_factor = IsFormat (table_shape w s)
-    (TableStands w s stands load_factor) (table_format w s f load_factor)
+WrittenTablesRepresent w s represents f load_factor = IsFormat (table_spec w s)
+    (TableRepresents w s represents load_factor) (table_format w s f load_factor)

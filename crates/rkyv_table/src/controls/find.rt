@@ -9,8 +9,8 @@ ghost use Rattle.rkyv_table.specs.Controls.Shown.{IsFullBucket};
 ghost use Rattle.rkyv_table.specs.Controls.Finding.{AnswersAs, FindsBucket, candidates, lookup};
 ghost use Rattle.rkyv_table.specs.Controls.Finding.{shows_empty};
 ghost use Rattle.rkyv_table.specs.Controls.Placing.{Accepted};
-ghost use Rattle.rkyv_table.specs.Controls.Seen.{IsAcceptedBy, IsMarked, IsShown};
-ghost use Rattle.rkyv_table.specs.Controls.Seen.{IsShownIfAccepted, SeesFirst};
+ghost use Rattle.rkyv_table.specs.Controls.StrideOutcome.{IsAcceptedBy, IsMarked, IsShown};
+ghost use Rattle.rkyv_table.specs.Controls.StrideOutcome.{IsShownIfAccepted, SeesFirst};
 
 use crate::controls::numbers::{bucket_of, start, tag};
 use crate::controls::probe::Probe;
@@ -90,10 +90,10 @@ fn first_accepted<M: Marks, F: Fn(usize) -> bool>(
 
 // The outcome of one stride: an accepted bucket, or else an empty control byte, or neither.
 #[derive(Drop)]
-enum Seen {
+enum StrideOutcome {
     Accepted(usize),
-    Empty,
-    Full,
+    HasEmpty,
+    Continue,
 }
 
 // Reads one stride: as one group if groups are sixteen wide, else as groups in order.
@@ -104,7 +104,7 @@ fn scan<G: GroupKind, F: Fn(usize) -> bool>(
     cap: usize,
     tag: u8,
     cmp: &F,
-) -> Seen
+) -> StrideOutcome
     requires whole { length stride.now ≡ 16 }
     requires small { cap < 2 ^ 63 }
     requires fits { pos + 16 < 2 ^ 64 }
@@ -120,12 +120,12 @@ fn scan<G: GroupKind, F: Fn(usize) -> bool>(
     if G::WIDTH == 16 {
         let whole = G::read(stride, 0);
         return match first_accepted(whole.match_byte(tag), pos, cap, cmp) {
-            Some(bucket) => Seen::Accepted(bucket),
+            Some(bucket) => StrideOutcome::Accepted(bucket),
             None => {
                 if whole.match_empty().any_bit_set() {
-                    Seen::Empty
+                    StrideOutcome::HasEmpty
                 } else {
-                    Seen::Full
+                    StrideOutcome::Continue
                 }
             }
         };
@@ -135,13 +135,17 @@ fn scan<G: GroupKind, F: Fn(usize) -> bool>(
         let at = i * G::WIDTH;
         let group = G::read(stride, at);
         if let Some(bucket) = first_accepted(group.match_byte(tag), pos + at, cap, cmp) {
-            return Seen::Accepted(bucket);
+            return StrideOutcome::Accepted(bucket);
         }
         if group.match_empty().any_bit_set() {
             empty = true;
         }
     }
-    if empty { Seen::Empty } else { Seen::Full }
+    if empty {
+        StrideOutcome::HasEmpty
+    } else {
+        StrideOutcome::Continue
+    }
 }
 
 /// Returns the bucket of an item that the comparison accepts, by a given start, or `None`.
@@ -179,9 +183,9 @@ pub fn find_from<G: GroupKind, F: Fn(usize) -> bool>(
     let tag = tag(hash);
     for pos in Probe::starting_at(start, cap) {
         match scan::<G, F>(strides.stride(controls, pos), pos, cap, tag, &cmp) {
-            Seen::Accepted(bucket) => return Some(bucket),
-            Seen::Empty => return None,
-            Seen::Full => {}
+            StrideOutcome::Accepted(bucket) => return Some(bucket),
+            StrideOutcome::HasEmpty => return None,
+            StrideOutcome::Continue => {}
         }
     }
     None

@@ -6,7 +6,7 @@ ghost use Rattle.std.specs.List.{find};
 ghost use Rattle.rkyv_table.specs.Controls.Shown.{HasRoom, empty_place, fresh_controls};
 ghost use Rattle.rkyv_table.specs.Controls.Shown.{is_empty_at, with_control};
 ghost use Rattle.rkyv_table.specs.Controls.Numbers.{tag};
-ghost use Rattle.rkyv_table.specs.Controls.Placing.{Repeats, Written};
+ghost use Rattle.rkyv_table.specs.Controls.Placing.{IsWrapped, Written};
 ghost use Rattle.rkyv_table.specs.Controls.Probe.{shown};
 
 use crate::controls::numbers::{bucket_of, tag};
@@ -39,7 +39,7 @@ fn first_empty<G: GroupKind>(controls: &[u8], pos: usize) -> Option<usize>
 /// - Some bucket is empty.
 #[inline]
 pub fn place_one<G: GroupKind>(controls: &mut [u8], cap: usize, hash: u64) -> usize
-    requires repeats { Repeats cap controls.old }
+    requires repeats { IsWrapped cap controls.old }
     requires room { HasRoom cap controls.old }
     ensures first { find (is_empty_at controls.old) (shown hash cap) ≡ Some result }
     ensures after { controls.new ≡ with_control controls.old cap result (tag hash) }
@@ -58,7 +58,7 @@ pub fn place_one<G: GroupKind>(controls: &mut [u8], cap: usize, hash: u64) -> us
 /// - `start` is `hash % cap`.
 #[inline]
 pub fn place_from<G: GroupKind>(controls: &mut [u8], cap: usize, start: usize, hash: u64) -> usize
-    requires repeats { Repeats cap controls.old }
+    requires repeats { IsWrapped cap controls.old }
     requires room { HasRoom cap controls.old }
     requires begun { start ≡ hash % cap }
     ensures first { find (is_empty_at controls.old) (shown hash cap) ≡ Some result }

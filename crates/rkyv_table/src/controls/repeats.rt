@@ -1,15 +1,15 @@
 //! Validating the control bytes after those of the buckets.
 ghost use Rattle.std.specs.Prelude.{IfErr, IfOk, IsTrue, length, ◌<◌, ◌≡◌, ◌≤◌, ◌↔◌};
 ghost use Rattle.rkyv_table.specs.Controls.Numbers.{control_count};
-ghost use Rattle.rkyv_table.specs.Controls.Placing.{Repeats};
-ghost use Rattle.rkyv_table.specs.Controls.Repeating.{FirstUnlike, RepeatsAt};
+ghost use Rattle.rkyv_table.specs.Controls.Placing.{IsWrapped};
+ghost use Rattle.rkyv_table.specs.Controls.Repeating.{FirstUnwrapped, IsWrappedAt};
 
 // Returns `true` if the control byte at an index from `cap` on is as it must be.
 #[inline]
-fn is_repeated(controls: &[u8], cap: usize, place: usize) -> bool
+fn is_wrapped(controls: &[u8], cap: usize, place: usize) -> bool
     requires from { cap ≤ place }
     requires inside { place < length controls.now }
-    ensures { IsTrue result ↔ RepeatsAt cap controls.now place }
+    ensures { IsTrue result ↔ IsWrappedAt cap controls.now place }
 {
     if place - cap < cap {
         controls[place] == controls[place - cap]
@@ -30,13 +30,13 @@ fn is_repeated(controls: &[u8], cap: usize, place: usize) -> bool
 /// # Errors
 ///
 /// - The lowest index whose control byte isn't as it must be.
-pub fn check_repeats(controls: &[u8], cap: usize) -> Result<(), usize>
+pub fn check_wrapped(controls: &[u8], cap: usize) -> Result<(), usize>
     requires count { length controls.now ≡ control_count cap }
-    ensures repeats { IfOk result (λ _. Repeats cap controls.now) }
-    ensures fails { IfErr result (FirstUnlike cap controls.now) }
+    ensures repeats { IfOk result (λ _. IsWrapped cap controls.now) }
+    ensures fails { IfErr result (FirstUnwrapped cap controls.now) }
 {
     for place in cap..controls.len() {
-        if !is_repeated(controls, cap, place) {
+        if !is_wrapped(controls, cap, place) {
             return Err(place);
         }
     }

@@ -23,10 +23,10 @@ fn fill_bucket<W: Width, U: Archive<W>, X: Lend<U>>(
     bucket: &mut [u8],
 ) -> ResolveResult
     requires some { IfSome slot.now (λ _. 0 < length rest.old.items) }
-    requires room { length bucket.old ≡ U.Archived.shape.size }
-    requires fits { pos + U.Archived.shape.size < 2 ^ 64 }
-    ensures kept { length bucket.new ≡ U.Archived.shape.size }
-    ensures answer { FillsBucket (item_format U.Archived.shape X.lent U.format) slot.now
+    requires room { length bucket.old ≡ U.Archived.spec.size }
+    requires fits { pos + U.Archived.spec.size < 2 ^ 64 }
+    ensures kept { length bucket.new ≡ U.Archived.spec.size }
+    ensures answer { FillsBucket (item_format U.Archived.spec X.lent U.format) slot.now
         rest.old.items rest.new.items (bucket_with pos bucket.new) result }
 {
     match slot {
@@ -51,10 +51,10 @@ fn write_by<W: Width, S: Writer, U: Archive<W>, X: Lend<U>>(
     serializer: &mut S,
 ) -> WriteResult<(), S>
     requires count { length resolvers.items ≡ filled slots.now }
-    requires room { length bucket.old ≡ U.Archived.shape.size }
+    requires room { length bucket.old ≡ U.Archived.spec.size }
     requires within { end_of (S.output serializer.old) ≤ W.LIMIT }
-    ensures kept { length bucket.new ≡ U.Archived.shape.size }
-    ensures answer { WritesBuckets W.LIMIT (item_format U.Archived.shape X.lent U.format)
+    ensures kept { length bucket.new ≡ U.Archived.spec.size }
+    ensures answer { WritesBuckets W.LIMIT (item_format U.Archived.spec X.lent U.format)
         (slots_with slots.now resolvers.items)
         (S.output serializer.old) (S.output serializer.new) result }
 {
@@ -83,10 +83,10 @@ pub(crate) fn write_buckets<W: Width, S: Writer, U: Archive<W>, X: Lend<U>>(
     serializer: &mut S,
 ) -> WriteResult<(), S>
     requires count { length resolvers.items ≡ filled slots.now }
-    requires room { length bucket.old ≡ U.Archived.shape.size }
+    requires room { length bucket.old ≡ U.Archived.spec.size }
     requires within { end_of (S.output serializer.old) ≤ W.LIMIT }
-    ensures kept { length bucket.new ≡ U.Archived.shape.size }
-    ensures answer { WritesBuckets W.LIMIT (item_format U.Archived.shape X.lent U.format)
+    ensures kept { length bucket.new ≡ U.Archived.spec.size }
+    ensures answer { WritesBuckets W.LIMIT (item_format U.Archived.spec X.lent U.format)
         (slots_with slots.now resolvers.items)
         (S.output serializer.old) (S.output serializer.new) result }
 {

@@ -28,8 +28,8 @@ pub(crate) fn write_table<W: Width, S: Writer, U: Serialize<S, W>, X: Lend<U>>(
 ) -> WriteResult<u64, S>
     requires empty { resolvers.items ≡ [] }
     requires places { filled slots.now ≤ vec_capacity resolvers }
-    requires room { length bucket.old ≡ U.Archived.shape.size }
-    ensures { WritesSlots W.LIMIT (item_format U.Archived.shape X.lent U.format)
+    requires room { length bucket.old ≡ U.Archived.spec.size }
+    ensures { WritesSlots W.LIMIT (item_format U.Archived.spec X.lent U.format)
         (placed_slots slots.now controls.now)
         (S.output serializer.old) (S.output serializer.new) result }
 {

@@ -1,18 +1,18 @@
 //! The header of a table as an element.
 //!
 //! Its validator is `ArchivedHashTable::verify`.
-ghost use Rattle.rkyv_table.specs.Table.Layout.{table_shape};
+ghost use Rattle.rkyv_table.specs.Table.Layout.{table_spec};
 ghost use Rattle.rkyv_table.specs.Lemmas.TableLaws.{table_element};
 
 use crate::table::{ArchivedHashTable, TableOf};
-use rkyv_base::element::{Element, PartRange, Shaped};
+use rkyv_base::element::{Element, HasSpec, PartRange};
 use rkyv_base::errors::VerifyError;
 use rkyv_base::width::{Width, Word};
 
-impl<T: Shaped, W: Word> Shaped for TableOf<T, W> {
-    ghost shape = { table_shape W.word T.shape };
+impl<T: HasSpec, W: Word> HasSpec for TableOf<T, W> {
+    ghost spec = { table_spec W.word T.spec };
 
-    ghost laws = { table_element W.word W.kind T.shape T.laws };
+    ghost laws = { table_element W.word W.kind T.spec T.laws };
 }
 
 impl<T: Element, W: Width> Element for TableOf<T, W> {

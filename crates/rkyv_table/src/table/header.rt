@@ -33,11 +33,11 @@ pub(crate) fn read_header<W: Width>(bytes: &[u8], pos: u64) -> Header
     ensures len { result.len ≡ len_at W.word bytes.now pos }
     ensures cap { result.cap ≡ cap_at W.word bytes.now pos }
 {
-    let place = pos as usize;
+    let at = pos as usize;
     Header {
-        distance: W::read_distance(bytes, place),
-        len: W::read_count(bytes, place + W::ALIGN),
-        cap: W::read_count(bytes, place + 2 * W::ALIGN),
+        distance: W::read_distance(bytes, at),
+        len: W::read_count(bytes, at + W::ALIGN),
+        cap: W::read_count(bytes, at + 2 * W::ALIGN),
     }
 }
 
@@ -64,7 +64,7 @@ pub(crate) fn part_size(cap: u64, size: usize) -> u128
 ///
 /// It is computed from untrusted numbers, and may be negative or beyond the archive.
 #[inline]
-pub(crate) fn begin_told(pos: u64, header: Header, size: usize) -> i128
+pub(crate) fn decode_begin(pos: u64, header: Header, size: usize) -> i128
     requires { size ≤ 1073741824 }
     ensures { result ≡ (int pos +ℤ header.distance) -ℤ int (header.cap * size) }
 {
@@ -84,17 +84,17 @@ pub(crate) fn bucket_position(begin: u64, cap: usize, bucket: usize, size: usize
 /// Returns the position of the first control byte, by a header at `pos` of a table with buckets.
 #[inline]
 pub(crate) fn controls_pos(pos: u64, header: Header) -> usize
-    requires { (place : ℕ) × (int place ≡ int pos +ℤ header.distance) × (place < 2 ^ 64) }
+    requires { (at : ℕ) × (int at ≡ int pos +ℤ header.distance) × (at < 2 ^ 64) }
     ensures { result ≡ unsigned_abs (int pos +ℤ header.distance) }
 {
     (i128::from(pos) + i128::from(header.distance)) as usize
 }
 
-/// Returns the control bytes of `cap` buckets, from position `place` on.
+/// Returns the control bytes of `cap` buckets, from position `at` on.
 #[inline]
-pub(crate) fn controls_from(bytes: &[u8], place: usize, cap: usize) -> &[u8]
-    requires { place + control_count cap ≤ length bytes.now }
-    ensures { result.now ≡ slice_range bytes.now place (place + control_count cap) }
+pub(crate) fn controls_from(bytes: &[u8], at: usize, cap: usize) -> &[u8]
+    requires { at + control_count cap ≤ length bytes.now }
+    ensures { result.now ≡ slice_range bytes.now at (at + control_count cap) }
 {
-    &bytes[place..place + control_count(cap)]
+    &bytes[at..at + control_count(cap)]
 }

@@ -5,7 +5,7 @@ ghost use Rattle.rkyv_base.specs.Pairs.{pair_format, written_as};
 ghost use Rattle.rkyv_base.specs.Scalar.{scalar_format};
 ghost use Rattle.rkyv_base.specs.TextWriting.{text_format};
 ghost use Rattle.rkyv_table.specs.Table.FirstItem.{AnswersFirst};
-ghost use Rattle.rkyv_table.specs.Table.Lending.{lent_stands};
+ghost use Rattle.rkyv_table.specs.Table.Lending.{lent_represents};
 ghost use Rattle.rkyv_table.specs.Table.OneWay.{WritesOneWay};
 ghost use Rattle.rkyv_table.specs.Table.TableFormat.{table_format};
 ghost use Rattle.rkyv_table.specs.Table.WalkLaws.{WalkVisitsHomes};
@@ -28,7 +28,8 @@ pub fn walk_visits_homes()
 /// of the lookup.
 pub fn lookups_answer_the_first<W: Width, U: Archive<W>, X: Lend<U>>()
     ensures { (load_factor : ℕ × ℕ) →
-        AnswersFirst W.word U.Archived.shape (lent_stands X.lent U.Archived.stands) load_factor }
+        AnswersFirst W.word U.Archived.spec (lent_represents X.lent
+        U.Archived.represents) load_factor }
 {}
 
 /// States that if items are written in one way, so is a table of them.
@@ -37,7 +38,7 @@ pub fn lookups_answer_the_first<W: Width, U: Archive<W>, X: Lend<U>>()
 /// and the position. The kind of group that places the items makes no difference.
 pub fn tables_are_written_one_way<W: Width, U: Archive<W>, X: Lend<U>>()
     ensures { (load_factor : ℕ × ℕ) → WritesOneWay U.format
-        → WritesOneWay (table_format W.word U.Archived.shape (written_as X.lent U.format)
+        → WritesOneWay (table_format W.word U.Archived.spec (written_as X.lent U.format)
         load_factor) }
 {}
 
@@ -47,5 +48,5 @@ pub fn ready_elements_are_written_one_way<W: Width, N: Scalar, A: Archive<W>, B:
     ensures texts { WritesOneWay (text_format W.word) }
     ensures units { WritesOneWay unit_format }
     ensures pairs { WritesOneWay A.format → WritesOneWay B.format
-        → WritesOneWay (pair_format A.Archived.shape B.Archived.shape A.format B.format) }
+        → WritesOneWay (pair_format A.Archived.spec B.Archived.spec A.format B.format) }
 {}

@@ -2,7 +2,7 @@
 //!
 //! - `get_with` returns a view of the item, and `get_pos_with` its position.
 //! - `get_counted` also counts the strides that are read.
-//! - `get_by` takes the kind of group, and the others use `simd::halves::Group`.
+//! - `get_by` takes the kind of group, and the others use `simd::paired::Group`.
 //!
 //! A lookup in an untrusted table may read every group of its control bytes once. In any table
 //! it reads at most ceil(capacity / 16) strides.
@@ -13,12 +13,11 @@ ghost use Rattle.rkyv_table.specs.Table.Reading.{MayAsk};
 
 use crate::controls::find::Strides;
 use crate::table::ArchivedHashTable;
-use crate::table::items::Items;
+use crate::table::items::ParsedTable;
 use rkyv_base::element::Element;
 use rkyv_base::view::{View, found_pos};
 use rkyv_base::width::Width;
-use rkyv_scan::simd::GroupKind;
-use rkyv_scan::simd::halves::Group;
+use rkyv_scan::simd::{GroupKind, paired};
 
 // Every lookup is one call of the items' `find`.
 impl<'a, T: Element, W: Width> ArchivedHashTable<'a, T, W> {
@@ -57,7 +56,7 @@ impl<'a, T: Element, W: Width> ArchivedHashTable<'a, T, W> {
         requires callable { MayAsk (F.pre cmp) self }
         ensures { FindsItem (F.post cmp) generic_kind self.entry hash result }
     {
-        self.get_by::<Group, F>(hash, cmp)
+        self.get_by::<paired::Group, F>(hash, cmp)
     }
 
     /// Returns an item that the comparison accepts, by groups of the kind `G`, or `None`.
@@ -85,7 +84,7 @@ impl<'a, T: Element, W: Width> ArchivedHashTable<'a, T, W> {
         requires callable { MayAsk (F.pre cmp) self }
         ensures { FindsItem (F.post cmp) G.kind self.entry hash result }
     {
-        let items = Items::of(self);
+        let items = ParsedTable::of(self);
         items.find::<G, F>(self.start(hash), hash, cmp, &mut Strides::new())
     }
 
@@ -141,7 +140,7 @@ impl<'a, T: Element, W: Width> ArchivedHashTable<'a, T, W> {
         ensures counts { CountsStrides (F.post cmp) generic_kind self.entry hash
             strides.old strides.new }
     {
-        let items = Items::of(self);
-        items.find::<Group, F>(self.start(hash), hash, cmp, strides)
+        let items = ParsedTable::of(self);
+        items.find::<paired::Group, F>(self.start(hash), hash, cmp, strides)
     }
 }

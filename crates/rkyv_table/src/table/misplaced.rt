@@ -9,19 +9,18 @@ ghost use Rattle.rkyv_table.specs.Table.Misplaced.{RepeatedAreMisplaced};
 ghost use Rattle.rkyv_table.specs.Table.MisplacedIn.{AnswersOf, CountsMisplaced, CountsOwn};
 ghost use Rattle.rkyv_table.specs.Table.MisplacedIn.{CountsUpTo, FindsOwn, MayCompare, ReadsUpTo};
 ghost use Rattle.rkyv_table.specs.Table.Positions.{IsWalked};
-ghost use Rattle.rkyv_table.specs.Table.Reading.{AreItems, MayAsk, table_bytes, table_pos};
+ghost use Rattle.rkyv_table.specs.Table.Reading.{IsParsed, MayAsk, table_bytes, table_pos};
 
 use crate::controls::find::{Strides, find};
 use crate::table::ArchivedHashTable;
-use crate::table::items::Items;
+use crate::table::items::ParsedTable;
 use rkyv_base::element::Element;
 use rkyv_base::view::View;
 use rkyv_base::width::Width;
-use rkyv_scan::Group;
 
 /// Returns `true` if a lookup found another bucket, or none.
 #[inline]
-pub fn is_elsewhere(bucket: usize, found: Option<usize>) -> bool
+pub fn is_in_another_bucket(bucket: usize, found: Option<usize>) -> bool
     ensures { result ≡ not (is_answer bucket found) }
 {
     match found {
@@ -44,13 +43,13 @@ impl<'a, T: Element, W: Width> ArchivedHashTable<'a, T, W> {
     // Returns the bucket that a lookup of the item in `bucket` finds, and counts its strides.
     #[inline]
     fn own_lookup<S: Fn(View<'a, T>, View<'a, T>) -> bool>(
-        items: Items<'a, T, W>,
+        items: ParsedTable<'a, T, W>,
         bucket: usize,
         hash: u64,
         same: &S,
         strides: &mut Strides,
     ) -> Option<usize>
-        requires items { AreItems items }
+        requires items { IsParsed items }
         requires walked { IsWalked W.word (table_bytes items.table) (table_pos items.table) bucket }
         requires room { strides.old ≤ 2 ^ 63 }
         requires comparable { MayCompare (S.pre same.now) items.table }
@@ -59,13 +58,13 @@ impl<'a, T: Element, W: Width> ArchivedHashTable<'a, T, W> {
         ensures counts { CountsOwn (S.post same.now) items.entry.table hash bucket strides.old
             strides.new }
     {
-        find::<Group, _>(
+        find::<rkyv_scan::Group, _>(
             items.controls,
             items.cap,
             items.len,
             hash,
             |other|
-                requires items { AreItems items }
+                requires items { IsParsed items }
                 requires walked { IsWalked W.word (table_bytes items.table) (table_pos items.table)
                     bucket }
                 requires other { IsWalked W.word (table_bytes items.table) (table_pos items.table)
@@ -118,12 +117,12 @@ impl<'a, T: Element, W: Width> ArchivedHashTable<'a, T, W> {
         ensures { CountsMisplaced (H.post hash_of) (S.post same) generic_kind
             self.entry result }
     {
-        let items = Items::of(self);
+        let items = ParsedTable::of(self);
         let mut count = 0;
-        for bucket in items.walk::<Group>() {
+        for bucket in items.walk::<rkyv_scan::Group>() {
             let hash = hash_of(items.item(bucket));
             let found = Self::own_lookup(items, bucket, hash, &same, &mut Strides::new());
-            if is_elsewhere(bucket, found) {
+            if is_in_another_bucket(bucket, found) {
                 count += 1;
             }
         }
@@ -178,16 +177,16 @@ impl<'a, T: Element, W: Width> ArchivedHashTable<'a, T, W> {
             result }
         ensures bounded { ReadsUpTo self.entry limit strides.old strides.new }
     {
-        let items = Items::of(self);
+        let items = ParsedTable::of(self);
         let before = strides.count();
         let mut misplaced = 0;
-        for bucket in items.walk::<Group>() {
+        for bucket in items.walk::<rkyv_scan::Group>() {
             let hash = hash_of(items.item(bucket));
             let answer = Self::own_lookup(items, bucket, hash, &same, strides);
             if is_past(before, strides.count(), limit) {
                 return None;
             }
-            if is_elsewhere(bucket, answer) {
+            if is_in_another_bucket(bucket, answer) {
                 misplaced += 1;
             }
         }

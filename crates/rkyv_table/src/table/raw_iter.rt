@@ -5,20 +5,20 @@ ghost use Rattle.std.specs.Prelude.{[], IfSome, MatchOption, length, slice_index
 ghost use Rattle.std.specs.Prelude.{◌≤◌, ◌∷◌, ◌≡◌};
 ghost use Rattle.rkyv_scan.specs.Groups.{is_full, mask_places, places_where};
 ghost use Rattle.std.specs.Iterator.{at_most};
-ghost use Rattle.rkyv_base.specs.View.{IsView, archive_of, pos_of};
+ghost use Rattle.rkyv_base.specs.View.{IsValidView, archive_of, pos_of};
 ghost use Rattle.rkyv_table.specs.Table.Header.{len_at};
 ghost use Rattle.rkyv_table.specs.Table.Hints.{HintsExactly};
-ghost use Rattle.rkyv_table.specs.Table.RawItems.{AllStand, TakesPos};
+ghost use Rattle.rkyv_table.specs.Table.RawItems.{AllValid, TakesPos};
 ghost use Rattle.rkyv_table.specs.Table.Positions.{item_positions};
 ghost use Rattle.rkyv_table.specs.Table.Reading.{table_bytes, table_pos};
 
 use crate::table::ArchivedHashTable;
-use crate::table::items::Items;
+use crate::table::items::ParsedTable;
 use rkyv_base::element::Element;
 use rkyv_base::view::View;
 use rkyv_base::width::Width;
-use rkyv_scan::simd::generic::{Bitmask, Group};
-use rkyv_scan::simd::{GroupKind, Marks};
+use rkyv_scan::simd::generic::Bitmask;
+use rkyv_scan::simd::{GroupKind, Marks, generic};
 use std::marker::{Model, PhantomData};
 
 /// The positions of the items of a table that remain, in bucket order.
@@ -26,7 +26,7 @@ use std::marker::{Model, PhantomData};
 pub struct RawIter<'a, T> {
     archive: &'a [u8],
     // The position at which the buckets of the current group end.
-    place: usize,
+    buckets_end: usize,
     // The number of bytes of a bucket.
     size: usize,
     // The number of items that remain.
@@ -41,18 +41,18 @@ pub struct RawIter<'a, T> {
 
 impl<'a, T> Model for RawIter<'a, T> {
     ghost use Rattle.rkyv_scan.specs.Groups.{mask_places};
-    ghost use Rattle.rkyv_table.specs.Table.RawItems.{IsRawIter, ItemsLeft, places_left};
+    ghost use Rattle.rkyv_table.specs.Table.RawItems.{IsRawIter, ItemsLeft, positions_left};
 
     ghost Value = { ItemsLeft };
 
     ghost view = { λ r. record {
       archive = r.archive;
-      places =
-          places_left r.place r.size r.count r.controls.now r.base
+      positions =
+          positions_left r.buckets_end r.size r.count r.controls.now r.base
           (mask_places 8 7 8 r.marks.bits);
     } };
 
-    ghost invariant = { λ r. IsRawIter r.place r.size r.count r.controls.now r.base
+    ghost invariant = { λ r. IsRawIter r.buckets_end r.size r.count r.controls.now r.base
         (mask_places 8 7 8 r.marks.bits) };
 }
 
@@ -67,7 +67,7 @@ fn first_marks(controls: &[u8], len: usize) -> Bitmask
     if len == 0 {
         Bitmask::EMPTY
     } else {
-        Group::read(controls, 0).match_full()
+        generic::Group::read(controls, 0).match_full()
     }
 }
 
@@ -75,11 +75,11 @@ impl<T> RawIter<'static, T> {
     /// Returns a walk over no items.
     #[inline]
     pub fn empty() -> RawIter<'static, T>
-        ensures { result.places ≡ [] }
+        ensures { result.positions ≡ [] }
     {
         RawIter {
             archive: &[],
-            place: 0,
+            buckets_end: 0,
             size: 0,
             count: 0,
             controls: &[],
@@ -98,14 +98,14 @@ impl<'a, T: Element> RawIter<'a, T> {
     /// - The archive has a valid item at each position that remains.
     #[inline]
     pub fn next_view(&mut self) -> Option<View<'a, T>>
-        requires { AllStand T.shape self.old }
+        requires { AllValid T.spec self.old }
         ensures archive { self.new.archive ≡ self.old.archive }
         ensures takes { MatchOption result
-            ((self.old.places ≡ []) × (self.new.places ≡ []))
-            (λ v. (self.old.places ≡ pos_of v ∷ self.new.places)
+            ((self.old.positions ≡ []) × (self.new.positions ≡ []))
+            (λ v. (self.old.positions ≡ pos_of v ∷ self.new.positions)
             × (archive_of v ≡ self.old.archive)) }
-        ensures viewed { IfSome result (IsView T.shape) }
-        ensures stand { AllStand T.shape self.new }
+        ensures viewable { IfSome result (IsValidView T.spec) }
+        ensures all_valid { AllValid T.spec self.new }
     {
         let pos = self.next()?;
         Some(View::new(self.archive, pos))
@@ -117,7 +117,7 @@ impl<'a, T> Iterator for RawIter<'a, T> {
 
     ghost next_gives = { TakesPos };
 
-    ghost remaining = { λ left. at_most (length left.places) };
+    ghost remaining = { λ left. at_most (length left.positions) };
 
     #[inline]
     fn next(&mut self) -> Option<u64> {
@@ -125,18 +125,18 @@ impl<'a, T> Iterator for RawIter<'a, T> {
             if let Some(j) = self.marks.lowest_set_bit() {
                 self.marks = self.marks.remove_lowest_bit();
                 self.count -= 1;
-                return Some((self.place - (j + 1) * self.size) as u64);
+                return Some((self.buckets_end - (j + 1) * self.size) as u64);
             }
-            self.base += Group::WIDTH;
-            self.place -= Group::WIDTH * self.size;
-            self.marks = Group::read(self.controls, self.base).match_full();
+            self.base += generic::Group::WIDTH;
+            self.buckets_end -= generic::Group::WIDTH * self.size;
+            self.marks = generic::Group::read(self.controls, self.base).match_full();
         }
         None
     }
 
     #[inline]
     fn size_hint(&self) -> (usize, Option<usize>)
-        ensures { HintsExactly result (length self.now.places) }
+        ensures { HintsExactly result (length self.now.positions) }
     {
         (self.count, Some(self.count))
     }
@@ -168,16 +168,16 @@ impl<'a, T: Element, W: Width> ArchivedHashTable<'a, T, W> {
     #[inline]
     pub fn raw_iter(self) -> RawIter<'a, T>
         ensures archive { result.archive ≡ archive_of self.entry.view }
-        ensures places { result.places
-            ≡ item_positions W.word T.shape.size (table_bytes self.entry) (table_pos self.entry) }
-        ensures count { length result.places
+        ensures positions { result.positions
+            ≡ item_positions W.word T.spec.size (table_bytes self.entry) (table_pos self.entry) }
+        ensures count { length result.positions
             ≡ len_at W.word (table_bytes self.entry) (table_pos self.entry) }
-        ensures stand { AllStand T.shape result }
+        ensures all_valid { AllValid T.spec result }
     {
-        let items = Items::of(self);
+        let items = ParsedTable::of(self);
         RawIter {
             archive: self.view.bytes(),
-            place: items.place,
+            buckets_end: items.buckets_end,
             size: T::size(),
             count: items.len,
             controls: items.controls,

@@ -37,11 +37,11 @@ ghost use Rattle.rkyv_table.specs.Table.SealedItems.{
 ghost use Rattle.rkyv_table.specs.Table.Bare.{LendsFound, MayAskOf, table_in};
 ghost use Rattle.rkyv_table.specs.Table.RawItems.{pos_before};
 ghost use Rattle.rkyv_table.specs.Table.SealedLookup.{IsTableSeal};
-ghost use Rattle.rkyv_base.specs.Shape.{Viewed};
-ghost use Rattle.rkyv_table.specs.Table.Layout.{table_shape};
+ghost use Rattle.rkyv_base.specs.ElementSpec.{Viewable};
+ghost use Rattle.rkyv_table.specs.Table.Layout.{table_spec};
 
 use crate::controls::walk::next_full;
-use crate::table::items::Items;
+use crate::table::items::ParsedTable;
 use crate::table::{ArchivedHashTable, TableOf};
 use rkyv_base::element::Element;
 use rkyv_base::scalars::Scalar;
@@ -50,31 +50,32 @@ use rkyv_base::view::View;
 use rkyv_base::width::Width;
 use std::marker::PhantomData;
 
-/// Returns the `count` bytes from position `place` on, or `None` if there are fewer.
+/// Returns the `count` bytes from position `pos` on, or `None` if there are fewer.
 #[inline]
-fn part(bytes: &[u8], place: usize, count: usize) -> Option<&[u8]>
-    ensures { MatchOption result (length bytes.now < place + count)
-        (λ part. (place + count ≤ length bytes.now)
-        × (part.now ≡ slice_range bytes.now place (place + count))) }
+fn part(bytes: &[u8], pos: usize, count: usize) -> Option<&[u8]>
+    ensures { MatchOption result (length bytes.now < pos + count)
+        (λ part. (pos + count ≤ length bytes.now)
+        × (part.now ≡ slice_range bytes.now pos (pos + count))) }
 {
-    if bytes.len() < place || bytes.len() - place < count {
+    if bytes.len() < pos || bytes.len() - pos < count {
         return None;
     }
-    Some(&bytes[place..place + count])
+    Some(&bytes[pos..pos + count])
 }
 
-/// Returns the position of a bucket before the position `place`, or `None` if there is no room.
+/// Returns the position of a bucket before the position `buckets_end`, or `None` if there is no
+/// room.
 #[inline]
-fn pos_before(place: usize, bucket: usize, size: usize) -> Option<usize>
+fn pos_before(buckets_end: usize, bucket: usize, size: usize) -> Option<usize>
     requires { size ≤ 1073741824 }
-    ensures { MatchOption result (place < (bucket + 1) * size)
-        (λ q. ((bucket + 1) * size ≤ place) × (q ≡ pos_before place size bucket)) }
+    ensures { MatchOption result (buckets_end < (bucket + 1) * size)
+        (λ q. ((bucket + 1) * size ≤ buckets_end) × (q ≡ pos_before buckets_end size bucket)) }
 {
     let behind = (bucket as u128 + 1) * size as u128;
-    if behind > place as u128 {
+    if behind > buckets_end as u128 {
         return None;
     }
-    Some(place - behind as usize)
+    Some(buckets_end - behind as usize)
 }
 
 /// A bucket, and the position of its item.
@@ -93,7 +94,7 @@ struct Place {
 pub struct RawIterSeal<'a, T> {
     archive: &'a mut [u8],
     // The position of the first control byte, at which the buckets end.
-    place: usize,
+    buckets_end: usize,
     cap: usize,
     // The bucket that is read next.
     next: usize,
@@ -115,20 +116,20 @@ impl<'a, T: Element> RawIterSeal<'a, T> {
     fn first(&self) -> Option<Place>
         ensures some { IfSome result (λ _. 0 < items_left self.now) }
         ensures below { IfSome result (λ f. f.bucket < self.now.cap) }
-        ensures inside { IfSome result (λ f. f.at + T.shape.size ≤ length (cursor_bytes self.now)) }
-        ensures first { FindsFirstLeft T.shape self.now result }
+        ensures inside { IfSome result (λ f. f.at + T.spec.size ≤ length (cursor_bytes self.now)) }
+        ensures first { FindsFirstLeft T.spec self.now result }
     {
         if self.left == 0 {
             return None;
         }
-        let bucket = match part(&*self.archive, self.place, self.cap) {
+        let bucket = match part(&*self.archive, self.buckets_end, self.cap) {
             Some(controls) => match next_full(controls, self.cap, self.next) {
                 Some(bucket) => bucket,
                 None => return None,
             },
             None => return None,
         };
-        match pos_before(self.place, bucket, T::size()) {
+        match pos_before(self.buckets_end, bucket, T::size()) {
             Some(at) => Some(Place { bucket, at }),
             None => None,
         }
@@ -139,8 +140,8 @@ impl<'a, T: Element> RawIterSeal<'a, T> {
     pub fn next_pos(&mut self) -> Option<u64>
         ensures archive { SameArchive self.old self.new }
         ensures counts { CountsDown self.old result self.new }
-        ensures inside { IfSome result (λ q. q + T.shape.size ≤ length (cursor_bytes self.old)) }
-        ensures takes { TakesPosition T.shape self.old result self.new }
+        ensures inside { IfSome result (λ q. q + T.spec.size ≤ length (cursor_bytes self.old)) }
+        ensures takes { TakesPosition T.spec self.old result self.new }
     {
         match self.first() {
             Some(first) => {
@@ -157,9 +158,9 @@ impl<'a, T: Element> RawIterSeal<'a, T> {
     /// The contract of `next_seal_with` also covers the items that remain.
     #[inline]
     pub fn next_seal(&mut self) -> Option<Seal<'_, T>>
-        ensures inside { IfSome result (LiesIn T.shape) }
+        ensures inside { IfSome result (LiesIn T.spec) }
         ensures bytes { IfSome result (λ s. bytes_in s ≡ cursor_bytes self.old) }
-        ensures first { LendsFirst T.shape self.old result }
+        ensures first { LendsFirst T.spec self.old result }
     {
         match self.next_pos() {
             Some(pos) => {
@@ -181,9 +182,9 @@ impl<'a, T: Element> RawIterSeal<'a, T> {
     /// - `write` can be called with the archive and each position at which an item fits.
     #[inline]
     pub fn next_with<F: FnOnce(&mut [u8], u64)>(&mut self, write: F) -> Option<u64>
-        requires { MayWriteNext F.pre T.shape self.old write }
+        requires { MayWriteNext F.pre T.spec self.old write }
         ensures reference { self.new.archive.ghost_name ≡ self.old.archive.ghost_name }
-        ensures steps { StepsAndWrites T.shape (WrittenBy F.post write tt) self.old result
+        ensures steps { StepsAndWrites T.spec (WrittenBy F.post write tt) self.old result
             self.new }
     {
         let next = self.next_pos();
@@ -197,11 +198,11 @@ impl<'a, T: Element> RawIterSeal<'a, T> {
 
 /// Calls `write` with a seal at a position of the bytes, and returns its result.
 #[inline]
-fn lend_seal<T, R, F: FnOnce(&mut Seal<'_, T>) -> R>(bytes: &mut [u8], place: usize, write: F) -> R
-    requires { MaySeal F.pre write bytes.old place }
-    ensures { SealedBy F.post write result bytes.old place bytes.new }
+fn lend_seal<T, R, F: FnOnce(&mut Seal<'_, T>) -> R>(bytes: &mut [u8], pos: usize, write: F) -> R
+    requires { MaySeal F.pre write bytes.old pos }
+    ensures { SealedBy F.post write result bytes.old pos bytes.new }
 {
-    let mut seal = Seal::<T>::over(bytes, place);
+    let mut seal = Seal::<T>::over(bytes, pos);
     write(&mut seal)
 }
 
@@ -215,9 +216,9 @@ impl<'a, T: Element> RawIterSeal<'a, T> {
     /// - `write` can be called with a seal of each item that fits in the archive.
     #[inline]
     pub fn next_seal_with<F: FnOnce(&mut Seal<'_, T>)>(&mut self, write: F) -> Option<u64>
-        requires { MaySealNext F.pre T.shape self.old write }
+        requires { MaySealNext F.pre T.spec self.old write }
         ensures reference { self.new.archive.ghost_name ≡ self.old.archive.ghost_name }
-        ensures steps { StepsAndWrites T.shape (SealedBy F.post write tt) self.old result self.new }
+        ensures steps { StepsAndWrites T.spec (SealedBy F.post write tt) self.old result self.new }
     {
         let next = self.next_pos();
         if let Some(pos) = next {
@@ -270,13 +271,13 @@ impl<'a, T> RawIterSeal<'a, T> {
     /// - The scalar fits in the archive at that position.
     #[inline]
     pub fn write_at<N: Scalar>(&mut self, pos: u64, offset: usize, value: N)
-        requires { pos + offset + N.shape.size ≤ length (cursor_bytes self.old) }
+        requires { pos + offset + N.spec.size ≤ length (cursor_bytes self.old) }
         ensures stays { StaysThere self.old self.new }
         ensures written { cursor_bytes self.new
             ≡ with_value N.encoding (cursor_bytes self.old) (pos + offset) value }
-        ensures sealed { Sealed (cursor_bytes self.old) (pos + offset) (N.shape.size)
+        ensures sealed { Sealed (cursor_bytes self.old) (pos + offset) (N.spec.size)
             (cursor_bytes self.new) }
-        ensures holds { Keeps N.shape (cursor_bytes self.old)
+        ensures holds { Keeps N.spec (cursor_bytes self.old)
             (cursor_bytes self.new) (pos + offset) }
     {
         let bytes = &mut *self.archive;
@@ -292,11 +293,11 @@ impl<'a, N: Scalar> RawIterSeal<'a, N> {
     /// - The scalar fits in the archive at that position.
     #[inline]
     pub fn set_at(&mut self, pos: u64, value: N)
-        requires { pos + N.shape.size ≤ length (cursor_bytes self.old) }
+        requires { pos + N.spec.size ≤ length (cursor_bytes self.old) }
         ensures stays { StaysThere self.old self.new }
         ensures written { cursor_bytes self.new
             ≡ with_value N.encoding (cursor_bytes self.old) pos value }
-        ensures kept { KeepsCursor N.shape self.old pos self.new }
+        ensures kept { KeepsCursor N.spec self.old pos self.new }
     {
         let bytes = &mut *self.archive;
         set_at(bytes, pos as usize, value);
@@ -326,9 +327,9 @@ impl<'a, T: Element, W: Width> ArchivedHashTable<'a, T, W> {
     /// ```
     #[inline]
     pub fn raw_iter_seal(this: ArchiveSeal<'a, TableOf<T, W>>) -> RawIterSeal<'a, T>
-        requires table { IsTableSeal W.word T.shape this }
+        requires table { IsTableSeal W.word T.spec this }
         ensures archive { LendsArchive this.entry result }
-        ensures iter { IsSealIter W.word T.shape (pos_in this.entry) result }
+        ensures iter { IsSealIter W.word T.spec (pos_in this.entry) result }
         ensures buckets { buckets_left W.word (pos_in this.entry) result
             ≡ walk (table_controls W.word (archive_in this.entry) (pos_in this.entry))
             (cap_at W.word (archive_in this.entry) (pos_in this.entry)) }
@@ -350,8 +351,8 @@ impl<'a, T: Element, W: Width> ArchivedHashTable<'a, T, W> {
     /// ```rust
     /// // Sets each item of a table, which stays valid.
     /// fn set_all<N: Scalar, W: Width>(archive: &mut [u8], pos: u64, value: N)
-    ///     requires { Viewed (table_shape W.word N.shape) archive.old pos }
-    ///     ensures { Viewed (table_shape W.word N.shape) archive.new pos }
+    ///     requires { Viewable (table_spec W.word N.spec) archive.old pos }
+    ///     ensures { Viewable (table_spec W.word N.spec) archive.new pos }
     /// {
     ///     let mut rest = ArchivedHashTable::<N, W>::raw_iter_over(archive, pos);
     ///     while let Some(next) = rest.next_pos() {
@@ -361,19 +362,19 @@ impl<'a, T: Element, W: Width> ArchivedHashTable<'a, T, W> {
     /// ```
     #[inline]
     pub fn raw_iter_over(archive: &'a mut [u8], pos: u64) -> RawIterSeal<'a, T>
-        requires table { Viewed (table_shape W.word T.shape) archive.old pos }
+        requires table { Viewable (table_spec W.word T.spec) archive.old pos }
         ensures reference { result.archive.ghost_name ≡ archive.entry.ghost_name }
         ensures bytes { cursor_bytes result ≡ archive.old }
-        ensures iter { IsSealIter W.word T.shape pos result }
+        ensures iter { IsSealIter W.word T.spec pos result }
         ensures buckets { buckets_left W.word pos result
             ≡ walk (table_controls W.word archive.old pos) (cap_at W.word archive.old pos) }
         ensures count { items_left result ≡ len_at W.word archive.old pos }
     {
-        let items = Items::of(ArchivedHashTable::<T, W>::of(View::new(&*archive, pos)));
-        let (place, cap, left) = (items.place, items.cap, items.len);
+        let items = ParsedTable::of(ArchivedHashTable::<T, W>::of(View::new(&*archive, pos)));
+        let (buckets_end, cap, left) = (items.buckets_end, items.cap, items.len);
         RawIterSeal {
             archive,
-            place,
+            buckets_end,
             cap,
             next: 0,
             left,
@@ -403,7 +404,7 @@ impl<'a, T: Element, W: Width> ArchivedHashTable<'a, T, W> {
     ///     hash,
     ///     accepts,
     ///     |seal: &mut Seal<'_, N>|
-    ///         requires { LiesIn N.shape seal.old }
+    ///         requires { LiesIn N.spec seal.old }
     ///     {
     ///         seal.set(value);
     ///         seal.to_native()
@@ -418,15 +419,15 @@ impl<'a, T: Element, W: Width> ArchivedHashTable<'a, T, W> {
         cmp: F,
         write: G,
     ) -> Option<R>
-        requires table { Viewed (table_shape W.word T.shape) archive.old pos }
-        requires callable { MayAskOf (F.pre cmp) W.word T.shape archive.old pos }
-        requires writable { MaySealIn G.pre T.shape write archive.old }
-        ensures { LendsFound (table_in W.Word T.Shaped archive.old pos) (F.post cmp)
+        requires table { Viewable (table_spec W.word T.spec) archive.old pos }
+        requires callable { MayAskOf (F.pre cmp) W.word T.spec archive.old pos }
+        requires writable { MaySealIn G.pre T.spec write archive.old }
+        ensures { LendsFound (table_in W.Word T.HasSpec archive.old pos) (F.post cmp)
             (SealedBy G.post write) hash result archive.new }
     {
         let table = ArchivedHashTable::<T, W>::of(View::new(&*archive, pos));
         match table.get_pos_with(hash, cmp) {
-            Some(place) => Some(lend_seal(archive, place as usize, write)),
+            Some(item_pos) => Some(lend_seal(archive, item_pos as usize, write)),
             None => None,
         }
     }

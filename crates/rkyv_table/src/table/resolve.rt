@@ -13,7 +13,7 @@ ghost use Rattle.rkyv_table.specs.Table.TableFormat.{resolved_capacity, resolver
 use crate::controls::numbers::capacity;
 use crate::table::ArchivedHashTable;
 use rkyv_base::archive::ResolveResult;
-use rkyv_base::element::Shaped;
+use rkyv_base::element::HasSpec;
 use rkyv_base::errors::DistanceTooLarge;
 use rkyv_base::width::{Narrow, Width};
 use std::marker::{Model, PhantomData};
@@ -112,7 +112,7 @@ fn resolved_capacity<W: Width>(resolver: &HashTableResolver<W>) -> usize
     }
 }
 
-impl<'a, T: Shaped, W: Width> ArchivedHashTable<'a, T, W> {
+impl<'a, T: HasSpec, W: Width> ArchivedHashTable<'a, T, W> {
     /// Writes the header of a written table over the whole of `out`, for a header at `pos`.
     ///
     /// The header has the distance from `pos` to the first control byte, the length

@@ -17,16 +17,15 @@ ghost use Rattle.rkyv_table.specs.Table.Slots.{item_format};
 use crate::controls::numbers::{CapacityError, capacity, control_count};
 use crate::table::ArchivedHashTable;
 use crate::table::bytes::write_table;
-use crate::table::hands_in::{HandsIn, ItemsAndHashes, Pairs};
 use crate::table::resolve::HashTableResolver;
+use crate::table::source::{ItemSource, ItemsAndHashes, Pairs};
 use rkyv_base::archive::{Serialize, WriteResult};
-use rkyv_base::element::{Element, Shaped};
+use rkyv_base::element::{Element, HasSpec};
 use rkyv_base::errors::{IteratorLengthMismatch, WriteError};
 use rkyv_base::lend::Lend;
 use rkyv_base::width::Width;
 use rkyv_base::writer::Writer;
-use rkyv_scan::simd::GroupKind;
-use rkyv_scan::simd::generic::Group;
+use rkyv_scan::simd::{GroupKind, generic};
 use std::alloc::{AllocError, Global};
 use std::marker::PhantomData;
 
@@ -72,18 +71,18 @@ impl<X: Drop, R: Drop> Room<X, R> {
 }
 
 // Places and writes `len` items, and returns the position of the first control byte.
-fn serialize_filled<
+fn serialize_nonempty<
     W: Width,
     G: GroupKind,
     S: Writer,
     U: Serialize<S, W>,
     X: Lend<U> + Drop,
-    H: HandsIn<X>,
+    H: ItemSource<X>,
 >(alloc: Global, given: H, len: usize, cap: usize, serializer: &mut S) -> WriteResult<u64, S>
-    requires can { H.can given }
+    requires ready { H.ready given }
     requires below { len < cap }
     requires fits { cap ≤ W.MAX_CAPACITY }
-    ensures { WritesFilled W.LIMIT (item_format U.Archived.shape X.lent U.format)
+    ensures { WritesFilled W.LIMIT (item_format U.Archived.spec X.lent U.format)
         (bucket_input (H.input given) len cap)
         (S.output serializer.old) (S.output serializer.new) result }
 {
@@ -101,7 +100,7 @@ fn serialize_filled<
     let resolvers = room.resolvers;
     let slots = slots.as_mut_slice();
     let (controls, bucket) = scratch.as_mut_slice().split_at_mut(control_count(cap));
-    match given.take_into::<G>(len, cap, controls, slots) {
+    match given.place_all::<G>(len, cap, controls, slots) {
         Ok(()) => {}
         Err(actual) => {
             return Err(WriteError::IteratorLengthMismatch(IteratorLengthMismatch {
@@ -117,13 +116,13 @@ fn serialize_filled<
 }
 
 // Writes the table of an input, and returns its resolver.
-fn serialize_given<
+fn serialize_source<
     W: Width,
     G: GroupKind,
     S: Writer,
     U: Serialize<S, W>,
     X: Lend<U> + Drop,
-    H: HandsIn<X>,
+    H: ItemSource<X>,
 >(
     alloc: Global,
     given: H,
@@ -131,8 +130,8 @@ fn serialize_given<
     load_factor: (usize, usize),
     serializer: &mut S,
 ) -> WriteResult<HashTableResolver<W>, S>
-    requires { H.can given }
-    ensures { WritesTable W.Width (item_format U.Archived.shape X.lent U.format)
+    requires { H.ready given }
+    ensures { WritesTable W.Width (item_format U.Archived.spec X.lent U.format)
         (table_input (H.input given) len load_factor)
         (S.output serializer.old) (S.output serializer.new) result }
 {
@@ -147,7 +146,7 @@ fn serialize_given<
         Err(CapacityError::CapacityTooLarge) => return Err(WriteError::CapacityTooLarge { len }),
     };
     if len == 0 {
-        return match given.take_none() {
+        return match given.expect_none() {
             Ok(()) => Ok(HashTableResolver {
                 pos: 0,
                 len,
@@ -160,7 +159,7 @@ fn serialize_given<
             })),
         };
     }
-    match serialize_filled::<W, G, S, U, X, H>(alloc, given, len, cap, serializer) {
+    match serialize_nonempty::<W, G, S, U, X, H>(alloc, given, len, cap, serializer) {
         Ok(pos) => Ok(HashTableResolver {
             pos,
             len,
@@ -171,7 +170,7 @@ fn serialize_given<
     }
 }
 
-impl<'a, T: Shaped, W: Width> ArchivedHashTable<'a, T, W> {
+impl<'a, T: HasSpec, W: Width> ArchivedHashTable<'a, T, W> {
     /// Writes a table of `len` items, each under the next of the hashes, and returns its resolver.
     ///
     /// Each item goes into its home bucket: the first bucket that its hash shows
@@ -230,12 +229,12 @@ impl<'a, T: Shaped, W: Width> ArchivedHashTable<'a, T, W> {
         serializer: &mut S,
     ) -> WriteResult<HashTableResolver<W>, S>
         requires { I.can_next items × J.can_next hashes }
-        ensures { WritesTable W.Width (item_format T.shape X.lent U.format)
+        ensures { WritesTable W.Width (item_format T.spec X.lent U.format)
             (table_input (from_both I.next_gives J.next_gives items hashes) len load_factor)
             (S.output serializer.old) (S.output serializer.new) result }
     {
         let given = ItemsAndHashes { items, hashes };
-        serialize_given::<W, Group, S, U, X, ItemsAndHashes<I, J>>(
+        serialize_source::<W, generic::Group, S, U, X, ItemsAndHashes<I, J>>(
             alloc,
             given,
             len,
@@ -289,11 +288,11 @@ impl<'a, T: Shaped, W: Width> ArchivedHashTable<'a, T, W> {
         serializer: &mut S,
     ) -> WriteResult<HashTableResolver<W>, S>
         requires { I.can_next pairs }
-        ensures { WritesTable W.Width (item_format T.shape X.lent U.format)
+        ensures { WritesTable W.Width (item_format T.spec X.lent U.format)
             (table_input (from_iter I.next_gives pairs) len load_factor)
             (S.output serializer.old) (S.output serializer.new) result }
     {
-        serialize_given::<W, G, S, U, X, Pairs<I>>(
+        serialize_source::<W, G, S, U, X, Pairs<I>>(
             alloc,
             Pairs { pairs },
             len,

@@ -6,9 +6,9 @@ ghost use Rattle.std.specs.Prelude.{◌≡◌, ℕ, ◌%◌, ◌+◌, ◌<◌, �
 ghost use Rattle.std.specs.Prelude.{MatchResult, None, Some, replicate, IfSome, length, slice_set};
 ghost use Rattle.std.specs.Iterator.{Drains};
 ghost use Rattle.rkyv_table.specs.Controls.Shown.{fresh_controls};
-ghost use Rattle.rkyv_table.specs.Table.Counting.{GaveOther};
+ghost use Rattle.rkyv_table.specs.Table.Counting.{YieldsOtherCount};
 ghost use Rattle.rkyv_table.specs.Table.Input.{TakesItems, from_iter};
-ghost use Rattle.rkyv_table.specs.Table.Taking.{HasPlace, Placed};
+ghost use Rattle.rkyv_table.specs.Table.PlacedItems.{HasPlace, Placed};
 
 use crate::controls::place::place_from;
 use crate::controls::reciprocal::Reciprocal;
@@ -65,7 +65,7 @@ pub(crate) fn take_pairs<G: GroupKind, X: Drop, I: Iterator<Item = (u64, X)>>(
     controls: &mut [u8],
     slots: &mut [Option<X>],
 ) -> Result<(), usize>
-    requires can { I.can_next pairs }
+    requires ready { I.can_next pairs }
     requires room { len < cap }
     requires fresh { controls.old ≡ fresh_controls cap }
     requires empty { slots.old ≡ replicate cap None }
@@ -89,12 +89,12 @@ pub(crate) fn take_pairs<G: GroupKind, X: Drop, I: Iterator<Item = (u64, X)>>(
 }
 
 // Checks that an iterator has no items, with one call. An `Err` has 1.
-pub(crate) fn take_none<I: Iterator>(items: I) -> Result<(), usize>
+pub(crate) fn expect_none<I: Iterator>(items: I) -> Result<(), usize>
 where
     I::Item: Drop,
     requires { I.can_next items }
     ensures { MatchResult result (λ _. Drains I.next_gives items [])
-        (GaveOther I.next_gives 0 items) }
+        (YieldsOtherCount I.next_gives 0 items) }
 {
     let mut rest = items;
     match next_item(&mut rest) {

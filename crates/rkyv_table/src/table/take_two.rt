@@ -15,7 +15,7 @@ use rkyv_scan::simd::GroupKind;
 fn count_rest<I: Iterator>(rest: I, seen: usize, len: usize) -> usize
 where
     I::Item: Drop,
-    requires can { I.can_next rest }
+    requires ready { I.can_next rest }
     requires below { seen ≤ len }
     requires fits { len + 1 < 2 ^ 64 }
     ensures { CountedOn I.next_gives len rest seen result }
@@ -41,7 +41,7 @@ pub(crate) fn take_two<G: GroupKind, X: Drop, I: Iterator<Item = X>, J: Iterator
     controls: &mut [u8],
     slots: &mut [Option<X>],
 ) -> Result<(), usize>
-    requires can { I.can_next items × J.can_next hashes }
+    requires ready { I.can_next items × J.can_next hashes }
     requires room { len < cap }
     requires fresh { controls.old ≡ fresh_controls cap }
     requires empty { slots.old ≡ replicate cap None }
@@ -59,11 +59,11 @@ pub(crate) fn take_two<G: GroupKind, X: Drop, I: Iterator<Item = X>, J: Iterator
                     place_item::<G, X>(controls, slots, cap, start, hash, item);
                 }
                 None => {
-                    let came = count_rest(rest, count + 1, len);
-                    if came == len {
+                    let exactly = count_rest(rest, count + 1, len);
+                    if exactly == len {
                         return Err(count);
                     }
-                    return Err(came);
+                    return Err(exactly);
                 }
             },
             None => return Err(count),

@@ -12,11 +12,11 @@ ghost use Rattle.rkyv_table.specs.Controls.Numbers.{control_count};
 ghost use Rattle.rkyv_table.specs.Table.Places.{ChecksValue, FirstFails, SomeHold};
 ghost use Rattle.rkyv_table.specs.Controls.Placing.{walk};
 ghost use Rattle.rkyv_table.specs.Table.Layout.{FailsInside, IsPart, bucket_at, part_size};
-ghost use Rattle.rkyv_table.specs.Table.Layout.{table_shape};
+ghost use Rattle.rkyv_table.specs.Table.Layout.{table_spec};
 
 use crate::controls::numbers::control_count;
-use crate::controls::repeats::check_repeats;
-use crate::table::header::{begin_told, bucket_position, part_size, read_header};
+use crate::controls::repeats::check_wrapped;
+use crate::table::header::{bucket_position, decode_begin, part_size, read_header};
 use rkyv_base::element::{Element, PartRange};
 use rkyv_base::errors::VerifyError;
 use rkyv_base::part::part_in;
@@ -33,14 +33,14 @@ fn check_item<T: Element>(
     lo: u64,
 ) -> Result<u64, VerifyError>
     requires bucket { bucket < cap }
-    requires inside { begin + cap * T.shape.size ≤ length bytes.now }
-    requires aligned { begin % T.shape.align ≡ 0 }
+    requires inside { begin + cap * T.spec.size ≤ length bytes.now }
+    requires aligned { begin % T.spec.align ≡ 0 }
     requires ordered { lo ≤ begin }
-    ensures { ChecksValue T.shape bytes.now (bucket_at T.shape.size begin cap bucket) lo begin
+    ensures { ChecksValue T.spec bytes.now (bucket_at T.spec.size begin cap bucket) lo begin
         result }
 {
-    let place = bucket_position(begin, cap, bucket, T::size());
-    let rest = T::check(bytes, place, PartRange { lo, hi: begin })?;
+    let at = bucket_position(begin, cap, bucket, T::size());
+    let rest = T::check(bytes, at, PartRange { lo, hi: begin })?;
     Ok(rest.lo)
 }
 
@@ -54,14 +54,14 @@ fn check_items<G: GroupKind, T: Element>(
 ) -> Result<usize, VerifyError>
     requires some { 0 < cap }
     requires count { length controls.now ≡ control_count cap }
-    requires inside { begin + cap * T.shape.size ≤ length bytes.now }
-    requires aligned { begin % T.shape.align ≡ 0 }
+    requires inside { begin + cap * T.spec.size ≤ length bytes.now }
+    requires aligned { begin % T.spec.align ≡ 0 }
     requires ordered { lo ≤ begin }
     ensures hold { IfOk result (λ _.
-        SomeHold T.shape (bucket_at T.shape.size begin cap) bytes.now begin (walk controls.now cap)
+        SomeHold T.spec (bucket_at T.spec.size begin cap) bytes.now begin (walk controls.now cap)
         lo) }
     ensures count { IfOk result (λ n. n ≡ length (walk controls.now cap)) }
-    ensures fails { IfErr result (FirstFails T.shape (bucket_at T.shape.size begin cap) bytes.now
+    ensures fails { IfErr result (FirstFails T.spec (bucket_at T.spec.size begin cap) bytes.now
         begin (walk controls.now cap) lo) }
 {
     let mut low = lo;
@@ -94,16 +94,16 @@ fn check_part<G: GroupKind, T: Element>(
     lo: u64,
 ) -> Result<u64, VerifyError>
     requires room { len < cap }
-    requires inside { begin + part_size T.shape.size cap ≤ length bytes.now }
-    requires aligned { begin % T.shape.align ≡ 0 }
+    requires inside { begin + part_size T.spec.size cap ≤ length bytes.now }
+    requires aligned { begin % T.spec.align ≡ 0 }
     requires ordered { lo ≤ begin }
-    ensures is { IfOk result (λ _. IsPart T.shape bytes.now cap len lo begin) }
-    ensures ends { IfOk result (λ end. end ≡ begin + part_size T.shape.size cap) }
-    ensures fails { IfErr result (FailsInside T.shape bytes.now cap len lo begin) }
+    ensures is { IfOk result (λ _. IsPart T.spec bytes.now cap len lo begin) }
+    ensures ends { IfOk result (λ end. end ≡ begin + part_size T.spec.size cap) }
+    ensures fails { IfErr result (FailsInside T.spec bytes.now cap len lo begin) }
 {
-    let place = begin as usize + cap * T::size();
-    let end = place + control_count(cap);
-    let controls = &bytes[place..end];
+    let at = begin as usize + cap * T::size();
+    let end = at + control_count(cap);
+    let controls = &bytes[at..end];
     let actual = check_items::<G, T>(bytes, controls, begin, cap, lo)?;
     if actual != len {
         return Err(VerifyError::WrongNumberOfElements {
@@ -111,7 +111,7 @@ fn check_part<G: GroupKind, T: Element>(
             actual,
         });
     }
-    match check_repeats(controls, cap) {
+    match check_wrapped(controls, cap) {
         Ok(()) => Ok(end as u64),
         Err(index) => Err(VerifyError::UnwrappedControlByte { index }),
     }
@@ -126,8 +126,8 @@ pub(crate) fn verify_by<G: GroupKind, W: Width, T: Element>(
     requires inside { pos + 3 * byte_len W.word ≤ length bytes.now }
     requires ordered { (range.lo ≤ range.hi) × (range.hi ≤ pos) }
     ensures { MatchResult result
-        (Passes (table_shape W.word T.shape) bytes.now pos range)
-        (Fails (table_shape W.word T.shape) bytes.now pos range) }
+        (Passes (table_spec W.word T.spec) bytes.now pos range)
+        (Fails (table_spec W.word T.spec) bytes.now pos range) }
 {
     let header = read_header::<W>(bytes, pos);
     if header.len == 0 && header.cap == 0 {
@@ -138,7 +138,7 @@ pub(crate) fn verify_by<G: GroupKind, W: Width, T: Element>(
         return Err(VerifyError::InvalidLength { len, cap });
     }
     let size = T::size();
-    let told = begin_told(pos, header, size);
+    let told = decode_begin(pos, header, size);
     let align = T::align() as u64;
     let begin = part_in(told, part_size(header.cap, size), align, range)?;
     let end = check_part::<G, T>(bytes, begin, cap, len, range.lo)?;

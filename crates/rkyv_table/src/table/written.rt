@@ -1,13 +1,13 @@
 //! Laws of written tables, in any archive that contains their bytes.
 
 ghost use Rattle.std.specs.Prelude.{ℕ};
-ghost use Rattle.rkyv_base.specs.Format.{StandsNear};
+ghost use Rattle.rkyv_base.specs.Format.{RepresentsLocally};
 ghost use Rattle.rkyv_base.specs.Pairs.{written_as};
-ghost use Rattle.rkyv_table.specs.Table.Lending.{lent_stands};
-ghost use Rattle.rkyv_table.specs.Table.Layout.{table_shape};
-ghost use Rattle.rkyv_table.specs.Table.TableFormat.{TableStands, WrittenTablesStand};
+ghost use Rattle.rkyv_table.specs.Table.Lending.{lent_represents};
+ghost use Rattle.rkyv_table.specs.Table.Layout.{table_spec};
+ghost use Rattle.rkyv_table.specs.Table.TableFormat.{TableRepresents, WrittenTablesRepresent};
 ghost use Rattle.rkyv_table.specs.Table.Passing.{WrittenTablesPass};
-ghost use Rattle.rkyv_table.specs.Table.WrittenTables.{StandingWereWritten};
+ghost use Rattle.rkyv_table.specs.Table.WrittenTables.{ValidWereWritten};
 
 use rkyv_base::archive::Archive;
 use rkyv_base::lend::Lend;
@@ -17,9 +17,9 @@ use rkyv_base::width::Width;
 ///
 /// The header is aligned and after the written bytes. It has the length and the capacity
 /// of the table. The control bytes are those of the hashes, and each item is in its home bucket.
-pub fn written_tables_stand<W: Width, U: Archive<W>, X: Lend<U>>()
-    ensures { (load_factor : ℕ × ℕ) → WrittenTablesStand W.word U.Archived.shape
-        (lent_stands X.lent U.Archived.stands) (written_as X.lent U.format) load_factor }
+pub fn written_tables_represent<W: Width, U: Archive<W>, X: Lend<U>>()
+    ensures { (load_factor : ℕ × ℕ) → WrittenTablesRepresent W.word U.Archived.spec
+        (lent_represents X.lent U.Archived.represents) (written_as X.lent U.format) load_factor }
 {}
 
 /// States that the written table is valid in each range around the written bytes.
@@ -27,21 +27,21 @@ pub fn written_tables_stand<W: Width, U: Archive<W>, X: Lend<U>>()
 /// Such a range begins at or before the first written byte, and ends at or after the last.
 pub fn written_tables_pass<W: Width, U: Archive<W>, X: Lend<U>>()
     ensures { (load_factor : ℕ × ℕ) →
-        WrittenTablesPass W.word U.Archived.shape (written_as X.lent U.format) load_factor }
+        WrittenTablesPass W.word U.Archived.spec (written_as X.lent U.format) load_factor }
 {}
 
 /// States that the represented items depend only on the bytes that decide the table's validity.
-pub fn tables_stand_nearby<W: Width, U: Archive<W>, X: Lend<U>>()
-    ensures { (load_factor : ℕ × ℕ) → let s = U.Archived.shape in
-        StandsNear (table_shape W.word s)
-        (TableStands W.word s (lent_stands X.lent U.Archived.stands) load_factor) }
+pub fn tables_represent_locally<W: Width, U: Archive<W>, X: Lend<U>>()
+    ensures { (load_factor : ℕ × ℕ) → let s = U.Archived.spec in
+        RepresentsLocally (table_spec W.word s)
+        (TableRepresents W.word s (lent_represents X.lent U.Archived.represents) load_factor) }
 {}
 
 /// States that a table that represents items was written from them, in order.
 ///
 /// Each item is under its hash and in its home bucket. So a lookup finds the first accepted item.
-pub fn standing_tables_were_written<W: Width, U: Archive<W>, X: Lend<U>>()
+pub fn valid_tables_were_written<W: Width, U: Archive<W>, X: Lend<U>>()
     ensures { (load_factor : ℕ × ℕ) →
-        StandingWereWritten W.word U.Archived.shape (lent_stands X.lent U.Archived.stands)
+        ValidWereWritten W.word U.Archived.spec (lent_represents X.lent U.Archived.represents)
         load_factor }
 {}

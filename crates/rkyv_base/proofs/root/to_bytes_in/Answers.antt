@@ -9,5 +9,5 @@ returns-in_err-write_root_in g c =
 
 pub returns : goal.returns
 returns g c =
-    archive_made g.W.Width.LIMIT g.V.Archived.Shaped.shape g.V.Archived.Shaped.laws g.V.Archived.StandsFor.stands g.V.Archive.format g.met.V.Archive.laws
+    archive_made g.W.Width.LIMIT g.V.Archived.HasSpec.spec g.V.Archived.HasSpec.laws g.V.Archived.Represents.represents g.V.Archive.format g.met.V.Archive.laws
     c.args.value.now _ _ _ (rw c.new-writer.ensures at c.in_ok-write_root_in.ensures) c.into_vec.ensures

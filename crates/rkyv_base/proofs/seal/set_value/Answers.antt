@@ -1,11 +1,12 @@
-use Rattle.rkyv_base.specs.Scalar.{scalar_element, scalar_shape}
-use Rattle.rkyv_base.proofs.Sealing.{entry_kept, viewed_kept}
+use Rattle.rkyv_base.specs.Scalar.{scalar_spec}
+use Rattle.rkyv_base.specs.Lemmas.Scalar.{scalar_element}
+use Rattle.rkyv_base.proofs.Sealing.{entry_kept, viewable_kept}
 use Rattle.rkyv_base.proofs.seal.set_value.Goals as goal
 
 pub returns-clause-holds : goal.returns-clause-holds
 returns-clause-holds g c =
-    entry_kept g.K.Shaped.shape g.N.Shaped.shape g.K.Shaped.laws g.N.Shaped.laws
+    entry_kept g.K.HasSpec.spec g.N.HasSpec.spec g.K.HasSpec.laws g.N.HasSpec.laws
     c.args.archive.now _ c.args.entry_pos (rw c.value_offset.ensures.value at c.set_at.ensures.sealed) (rw c.value_offset.ensures.value at c.set_at.ensures.holds)
 
-pub returns-clause-viewed : goal.returns-clause-viewed
-returns-clause-viewed g c = viewed_kept _ c.args.archive.now _ c.args.entry_pos c.set_at.ensures.sealed.same_length (returns-clause-holds g c) c.requires
+pub returns-clause-viewable : goal.returns-clause-viewable
+returns-clause-viewable g c = viewable_kept _ c.args.archive.now _ c.args.entry_pos c.set_at.ensures.sealed.same_length (returns-clause-holds g c) c.requires

@@ -1,9 +1,10 @@
 use Rattle.std.proofs.Common.{◌∙◌, ap, sym}
-use Rattle.rkyv_base.specs.Text.{inline_text, is_far, inline_reads, fixed_bytes}
+use Rattle.rkyv_base.specs.Text.{inline_text, is_out_of_line, fixed_bytes}
+use Rattle.rkyv_base.specs.Lemmas.Text.{inline_reads}
 use Rattle.rkyv_base.proofs.text.text_part.Goals as goal
 
 pub returns : goal.returns
 returns g c =
-    let near = sym (ap is_far c.fixed_at-fixed.ensures) ∙ sym c.is_elsewhere.ensures ∙ c.if-is_elsewhere.false in
+    let local = sym (ap is_out_of_line c.fixed_at-fixed.ensures) ∙ sym c.is_in_another_bucket.ensures ∙ c.if-is_in_another_bucket.false in
     c.inline_part.ensures ∙ ap inline_text c.fixed_at-fixed.ensures
-    ∙ sym (inline_reads g.W.Word.word (fixed_bytes g.W.Word.word c.args.bytes.now c.args.pos) c.args.bytes.now c.args.pos near)
+    ∙ sym (inline_reads g.W.Word.word (fixed_bytes g.W.Word.word c.args.bytes.now c.args.pos) c.args.bytes.now c.args.pos local)

@@ -7,11 +7,11 @@ use Rattle.rkyv_base.proofs.writer.align_for_in.Goals as goal
 pub returns-in_err-append_in : goal.returns-in_err-append_in
 returns-in_err-append_in g c =
     let p = err_from_is_err_and c.from_residual.result c.from_residual.ensures.1 in
-    rw (p.1, p.2) (told_of_zeros g.W.Width.LIMIT g.T.Shaped.shape.align (end_of (g.S.Writer.output c.args.serializer.now)) _ _ _ c.in_err-append_in.field-0.0
-    g.T.Shaped.laws.align_is (rw (c.align-align.ensures, c.pos.ensures) refl) c.in_err-append_in.ensures)
+    rw (p.1, p.2) (told_of_zeros g.W.Width.LIMIT g.T.HasSpec.spec.align (end_of (g.S.Writer.output c.args.serializer.now)) _ _ _ c.in_err-append_in.field-0.0
+    g.T.HasSpec.laws.align_is (rw (c.align-align.ensures, c.pos.ensures) refl) c.in_err-append_in.ensures)
 
 pub returns : goal.returns
 returns g c =
     let h = c.in_ok-append_in.ensures in
-    aligned_by_zeros g.W.Width.LIMIT g.T.Shaped.shape.align _ c.pos-2.result _ _ g.T.Shaped.laws.align_is
+    aligned_by_zeros g.W.Width.LIMIT g.T.HasSpec.spec.align _ c.pos-2.result _ _ g.T.HasSpec.laws.align_is
     (rw (c.align-align.ensures, c.pos.ensures) refl) c.pos-2.ensures h.0 h.1

@@ -3,17 +3,17 @@ use Rattle.std.specs.declared.vec.Vec.{Vec}
 use Rattle.rkyv_base.specs.declared.errors.WriteError.{WriteError}
 use Rattle.rkyv_dict.specs.Built.{Builds, form_of_pairs}
 use Rattle.rkyv_dict.specs.Forms.{pairs_seen}
-use Rattle.rkyv_dict.specs.declared.form.Bits.{Bits}
-use Rattle.rkyv_dict.specs.declared.form.Bits.TheVariants.{Bits32, Bits64}
+use Rattle.rkyv_dict.specs.declared.form.ArchiveWidth.{ArchiveWidth}
+use Rattle.rkyv_dict.specs.declared.form.ArchiveWidth.TheVariants.{Bits32, Bits64}
 use Rattle.rkyv_dict.specs.declared.form.PairList.{PairList}
 use Rattle.rkyv_dict.proofs.TextLists.{texts_built}
 use Rattle.rkyv_dict.proofs.archives.build.Goals as goal
 
 -- a build of a list and a width that equal known ones
-of_known : {F Z : Type 0} (factor : ℕ × ℕ) (result : Result (Vec ℕ Z) (WriteError F)) (bits width : Bits) (list known : PairList) → bits ≡ width → list ≡ known
+of_known : {F Z : Type 0} (factor : ℕ × ℕ) (result : Result (Vec ℕ Z) (WriteError F)) (bits width : ArchiveWidth) (list known : PairList) → bits ≡ width → list ≡ known
     → Builds (form_of_pairs width (pairs_seen known)) factor (pairs_seen known) result → Builds (form_of_pairs bits (pairs_seen list)) factor (pairs_seen list) result
 of_known factor result bits width list known e h built =
-    let Built : Bits → PairList → Type 0 = λ b l. Builds (form_of_pairs b (pairs_seen l)) factor (pairs_seen l) result in
+    let Built : ArchiveWidth → PairList → Type 0 = λ b l. Builds (form_of_pairs b (pairs_seen l)) factor (pairs_seen l) result in
     subst (λ b. Built b list) (sym e) (subst (Built width) (sym h) built)
 
 pub returns-in-Texts-Bits32 : goal.returns-in-Texts-Bits32

@@ -7,6 +7,6 @@ use Rattle.rkyv_dict.proofs.archives.count_misplaced.Goals as goal
 pub returns : goal.returns
 unfolding keys_misplaced
 returns g c =
-    let s = g.P.Shaped.shape in
+    let s = g.P.HasSpec.spec in
     c.misplaced.ensures
     ∙ read_at (map_misplaced g.W.Word.word s s (λ b q. hash (g.P.KeyElement.key_calls b q)) g.P.ElementEq.same) c.map_of.result.view _ _ c.map_of.ensures.at

@@ -1,7 +1,7 @@
 use Rattle.std.proofs.Common.{subst, ◌≡◌, ◌++◌, ℕ, Bool, List, Option, IfSome, OnOk, string_bytes}
 use Rattle.std.specs.List.{find}
 use Rattle.rkyv_scan.specs.Groups.{generic_kind}
-use Rattle.rkyv_base.specs.Entry.{entry_shape, value_offset}
+use Rattle.rkyv_base.specs.Entry.{entry_spec, value_offset}
 use Rattle.rkyv_table.specs.Table.Positions.{home_positions, pos_found}
 use Rattle.rkyv_collections.specs.Map.{MapWrittenAt, map_archive}
 use Rattle.rkyv_dict.specs.Archives.{hash, value_line, value_under}
@@ -12,23 +12,23 @@ use Rattle.rkyv_dict.proofs.archives.push_found.Goals as goal
 pub returns-clause-found : goal.returns-clause-found
 unfolding value_under
 returns-clause-found g c =
-    let s = g.P.Shaped.shape in
+    let s = g.P.HasSpec.spec in
     let m = c.map_of.result in
     let fits : List ℕ → ℕ → Bool = g.Q.Query.fits c.args.key.now in
-    let place : List ℕ → ℕ → Option ℕ = λ b p. pos_found generic_kind g.W.Word.word (entry_shape s s).size b p (hash (g.Q.KeyHash.calls c.args.key.now)) (fits b) in
+    let place : List ℕ → ℕ → Option ℕ = λ b p. pos_found generic_kind g.W.Word.word (entry_spec s s).size b p (hash (g.Q.KeyHash.calls c.args.key.now)) (fits b) in
     let same : IfSome c.get.result (λ v. v.archive ≡ map_archive m) = some_map c.get.result (λ v is. is.at.0) c.get.ensures.walked in
-    let text = text_read g.P.Part.text (value_offset s s) m.view _ _ c.map_of.ensures.at c.get.result same place c.get.ensures.answer in
+    let text = text_read g.P.Printable.text (value_offset s s) m.view _ _ c.map_of.ensures.at c.get.result same place c.get.ensures.answer in
     subst (λ t. OnOk c.push_text.result (string_bytes c.push_text.new.out ≡ string_bytes c.args.out.now ++ value_line t)) text c.push_text.ensures
 
 pub returns-clause-first : goal.returns-clause-first
 unfolding HasHomes first_under
 returns-clause-first g c homes written =
-    let s = g.P.Shaped.shape in
+    let s = g.P.HasSpec.spec in
     let w = g.W.Word.word in
     let m = c.map_of.result in
     let fits : List ℕ → ℕ → Bool = g.Q.Query.fits c.args.key.now in
-    let place : List ℕ → ℕ → Option ℕ = λ b p. find (fits b) (home_positions w (entry_shape s s).size b p homes) in
+    let place : List ℕ → ℕ → Option ℕ = λ b p. find (fits b) (home_positions w (entry_spec s s).size b p homes) in
     let same : IfSome c.get.result (λ v. v.archive ≡ map_archive m) = some_map c.get.result (λ v is. is.at.0) c.get.ensures.walked in
-    let here = back_at (λ b p. MapWrittenAt w (entry_shape s s) (λ c q. hash (g.P.KeyElement.key_calls c q)) b p homes) m.view _ _ c.map_of.ensures.at written in
-    let text = text_read g.P.Part.text (value_offset s s) m.view _ _ c.map_of.ensures.at c.get.result same place (c.get.ensures.first homes here) in
+    let here = back_at (λ b p. MapWrittenAt w (entry_spec s s) (λ c q. hash (g.P.KeyElement.key_calls c q)) b p homes) m.view _ _ c.map_of.ensures.at written in
+    let text = text_read g.P.Printable.text (value_offset s s) m.view _ _ c.map_of.ensures.at c.get.result same place (c.get.ensures.first homes here) in
     subst (λ t. OnOk c.push_text.result (string_bytes c.push_text.new.out ≡ string_bytes c.args.out.now ++ value_line t)) text c.push_text.ensures

@@ -8,18 +8,18 @@ use Rattle.rkyv_dict.proofs.archives.push_lines.Goals as goal
 
 pub loop-key-init : goal.loop-key-init
 loop-key-init g c =
-    let s = g.P.Shaped.shape in
-    let line : ℕ → List ℕ = line_at s g.P.Part.text (map_bytes c.args.map) in
+    let s = g.P.HasSpec.spec in
+    let line : ℕ → List ℕ = line_at s g.P.Printable.text (map_bytes c.args.map) in
     let walk : ItemsLeft = c.iter-key-items.result in
     let same : c.into_iter-key-iterator.result ≡ walk = cc in (
       ap (λ (left : ItemsLeft). left.archive) same ∙ c.iter-key-items.ensures.archive,
-      ap (λ places. string_bytes c.args.out.now ++ flat_map line places) (sym (ap (λ (left : ItemsLeft). left.places) same ∙ c.iter-key-items.ensures.places)),
+      ap (λ positions. string_bytes c.args.out.now ++ flat_map line positions) (sym (ap (λ (left : ItemsLeft). left.positions) same ∙ c.iter-key-items.ensures.positions)),
     )
 
 pub loop-key-preserved : goal.loop-key-preserved
 loop-key-preserved g c =
-    let s = g.P.Shaped.shape in
-    let text = g.P.Part.text in
+    let s = g.P.HasSpec.spec in
+    let text = g.P.Printable.text in
     let archive = map_archive c.args.map in
     let before : ItemsLeft = c.loop-key.key-iterator in
     let after : ItemsLeft = c.next.new.self in

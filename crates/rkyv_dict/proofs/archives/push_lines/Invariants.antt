@@ -7,7 +7,7 @@ use Rattle.rkyv_dict.proofs.archives.push_lines.Given as goal
 -- the lines of the remaining pairs are the remaining lines
 abbrev pub invariant-loop-key : goal.invariant-loop-key
 invariant-loop-key g l =
-    let s = g.P.Shaped.shape in
-    let line = line_at s g.P.Part.text (map_bytes l.map) in
+    let s = g.P.HasSpec.spec in
+    let line = line_at s g.P.Printable.text (map_bytes l.map) in
     (l.key-iterator.archive ≡ map_archive l.map)
-    × (string_bytes l.initial.out ++ flat_map line (key_positions l.map) ≡ string_bytes l.out ++ flat_map line l.key-iterator.places)
+    × (string_bytes l.initial.out ++ flat_map line (key_positions l.map) ≡ string_bytes l.out ++ flat_map line l.key-iterator.positions)

@@ -1,6 +1,6 @@
 use Rattle.std.proofs.Common.{ap, ◌∙◌, ◌≡◌, ◌++◌, ℕ, List, append_assoc, codes, decimal, string_bytes}
 use Rattle.std.specs.List.{flat_map}
-use Rattle.rkyv_base.specs.Entry.{entry_shape}
+use Rattle.rkyv_base.specs.Entry.{entry_spec}
 use Rattle.rkyv_table.specs.Table.Header.{len_at}
 use Rattle.rkyv_table.specs.Table.Positions.{item_positions}
 use Rattle.rkyv_collections.specs.Map.{map_bytes, map_len, map_pos}
@@ -12,12 +12,12 @@ use Rattle.rkyv_dict.proofs.archives.push_map.Goals as goal
 pub returns : goal.returns
 unfolding pair_count pair_lines pair_positions
 returns g c =
-    let s = g.P.Shaped.shape in
+    let s = g.P.HasSpec.spec in
     let w = g.W.Word.word in
     let m = c.map_of-map.result in
     let old = string_bytes c.args.out.now in
     let head : ℕ → List ℕ = λ n. line (codes "entries " ++ decimal n) in
-    let rest : List ℕ → ℕ → List ℕ = λ b p. flat_map (line_at s g.P.Part.text b) (item_positions w (entry_shape s s).size b p) in
+    let rest : List ℕ → ℕ → List ℕ = λ b p. flat_map (line_at s g.P.Printable.text b) (item_positions w (entry_spec s s).size b p) in
     let here : List ℕ = rest (map_bytes m) (map_pos m) in
     let counted : string_bytes c.push_count.new.out ≡ old ++ head (map_len m) = c.in_ok-push_count.ensures ∙ ap (λ n. old ++ head n) c.len.ensures in
     let placed = read_at (λ b p. head (len_at w b p) ++ rest b p) m.view _ _ c.map_of-map.ensures.at in

@@ -3,7 +3,7 @@ use Rattle.rkyv_dict.specs.Archives.{value_line}
 use Rattle.rkyv_dict.specs.Built.{Holds}
 use Rattle.rkyv_dict.specs.First.{first_value}
 use Rattle.rkyv_dict.specs.Forms.{key_seen}
-use Rattle.rkyv_dict.specs.declared.form.Bits.TheVariants.{Bits32, Bits64}
+use Rattle.rkyv_dict.specs.declared.form.ArchiveWidth.TheVariants.{Bits32, Bits64}
 use Rattle.rkyv_dict.specs.declared.form.Kind.TheVariants.{Num, Text}
 use Rattle.rkyv_dict.proofs.Firsts.{first_number, first_text, form_is}
 use Rattle.rkyv_dict.proofs.archives.push_value.Goals as goal

@@ -2,23 +2,23 @@ use Rattle.std.proofs.Common.{ℕ, ◌-◌, ◌∙◌, subst, sym, length, List}
 use Rattle.std.specs.Borrow.{Bor}
 use Rattle.rkyv_scan.specs.Hash.{fx_hasher, low_halves}
 use Rattle.rkyv_index.specs.Index.{hash_at}
-use Rattle.rkyv_index.specs.IndexSet.{index_set_shape, keys_of, set_bytes, set_pos}
-use Rattle.rkyv_index.specs.SetFormat.{IndexSetStands}
+use Rattle.rkyv_index.specs.IndexSet.{index_set_spec, keys_of, set_bytes, set_pos}
+use Rattle.rkyv_index.specs.SetFormat.{IndexSetRepresents}
 use Rattle.rkyv_index.proofs.round_trip.items_come_back.Goals as goal
 
 pub returns-in-Ok-deserialize_items : goal.returns-in-Ok-deserialize_items
 returns-in-Ok-deserialize_items g c =
     let w = g.W.Word.word in
-    let k = g.A.Archived.Shaped.shape in
-    let s = index_set_shape w k in
+    let k = g.A.Archived.HasSpec.spec in
+    let s = index_set_spec w k in
     let listed = c.args.items.now.0.items in
-    let Told : List ℕ → ℕ → Type 0 = λ b p. IndexSetStands w k g.A.Archived.StandsFor.stands (hash_at (fx_hasher low_halves) g.A.Archived.KeyElement.key_calls) (7, 8) b p listed in
+    let P : List ℕ → ℕ → Type 0 = λ b p. IndexSetRepresents w k g.A.Archived.Represents.represents (hash_at (fx_hasher low_halves) g.A.Archived.KeyElement.key_calls) (7, 8) b p listed in
     let root = c.in-Ok-access_in.ensures.root.1 in
     let read = c.as_slice.result in
-    let here = subst (λ (xs : List ℕ). Told xs (length xs - s.size)) (sym c.as_slice.ensures.value) c.in-Ok.ensures.1 in
-    let there = subst (λ (a : Bor (List ℕ)). Told a.now (length read.now - s.size)) (sym root.0) here in
-    let viewed = subst (λ (q : ℕ). Told c.in-Ok-access_in.root.archive.now q) (sym root.1) there in
+    let here = subst (λ (xs : List ℕ). P xs (length xs - s.size)) (sym c.as_slice.ensures.value) c.in-Ok.ensures.1 in
+    let there = subst (λ (a : Bor (List ℕ)). P a.now (length read.now - s.size)) (sym root.0) here in
+    let viewable = subst (λ (q : ℕ). P c.in-Ok-access_in.root.archive.now q) (sym root.1) there in
     let at = c.of.ensures.at in
-    let lent = subst (λ (a : Bor (List ℕ)). Told a.now c.in-Ok-access_in.root.pos) (sym at.0) viewed in
-    let stands = subst (λ (q : ℕ). Told (keys_of c.of.result).view.archive.now q) (sym at.1) lent in
-    c.eq.ensures ∙ c.items_read_back_are_listed.ensures (set_bytes c.of.result) (set_pos c.of.result) (7, 8) listed c.in-Ok-deserialize_items.back.items c.of.result.map.valid stands c.in-Ok-deserialize_items.ensures
+    let lent = subst (λ (a : Bor (List ℕ)). P a.now c.in-Ok-access_in.root.pos) (sym at.0) viewable in
+    let represents = subst (λ (q : ℕ). P (keys_of c.of.result).view.archive.now q) (sym at.1) lent in
+    c.eq.ensures ∙ c.items_read_back_are_listed.ensures (set_bytes c.of.result) (set_pos c.of.result) (7, 8) listed c.in-Ok-deserialize_items.back.items c.of.result.map.valid represents c.in-Ok-deserialize_items.ensures

@@ -4,13 +4,13 @@ use Rattle.rkyv_base.proofs.seal.ArchiveSeal.split_value.Goals as goal
 pub new-requires : goal.new-requires
 new-requires g c =
     rw (c.split_at_mut-front.ensures.front, c.value_offset.ensures.value)
-    (key_in_front g.K.Shaped.shape g.V.Shaped.shape g.K.Shaped.laws g.V.Shaped.laws c.args.self.archive.now c.args.entry_pos c.requires)
+    (key_in_front g.K.HasSpec.spec g.V.HasSpec.spec g.K.HasSpec.laws g.V.HasSpec.laws c.args.self.archive.now c.args.entry_pos c.requires)
 
-pub returns-clause-viewed : goal.returns-clause-viewed
-returns-clause-viewed g c =
+pub returns-clause-viewable : goal.returns-clause-viewable
+returns-clause-viewable g c =
     rw (c.new.ensures.0, c.new.ensures.1, c.split_at_mut-front.ensures.front, c.value_offset.ensures.value)
-    (key_in_front g.K.Shaped.shape g.V.Shaped.shape g.K.Shaped.laws g.V.Shaped.laws c.args.self.archive.now c.args.entry_pos c.requires)
+    (key_in_front g.K.HasSpec.spec g.V.HasSpec.spec g.K.HasSpec.laws g.V.HasSpec.laws c.args.self.archive.now c.args.entry_pos c.requires)
 
 pub returns-clause-kept : goal.returns-clause-kept
 returns-clause-kept g c =
-    λ d. entry_kept g.K.Shaped.shape g.V.Shaped.shape g.K.Shaped.laws g.V.Shaped.laws c.args.self.archive.now d c.args.entry_pos
+    λ d. entry_kept g.K.HasSpec.spec g.V.HasSpec.spec g.K.HasSpec.laws g.V.HasSpec.laws c.args.self.archive.now d c.args.entry_pos

@@ -6,10 +6,10 @@ use Rattle.rkyv_collections.proofs.map.ArchivedHashMap.answers_as.Goals as goal
 
 pub returns-in-Some : goal.returns-in-Some
 returns-in-Some g c =
-    asked_value g.W.Word.word g.K.Shaped.shape g.V.Shaped.shape (hash_of g.H.KeyHasher.hasher g.A.KeyHash.calls) g.A.Query.fits g.V.MatchesNative.equals (map_bytes c.args.self) (map_pos c.args.self)
+    asked_value g.W.Word.word g.K.HasSpec.spec g.V.HasSpec.spec (hash_of g.H.KeyHasher.hasher g.A.KeyHash.calls) g.A.Query.fits g.V.MatchesNative.equals (map_bytes c.args.self) (map_pos c.args.self)
     c.args.key.now (g.A.PartialEq.eq c.args.key.now) c.args.other.now.entries c.in-Some.value.now c.finds_equal.result c.in-Some.ensures.value c.finds_equal.ensures
 
 pub returns-in-None : goal.returns-in-None
 returns-in-None g c =
-    asked_none g.W.Word.word g.K.Shaped.shape g.V.Shaped.shape (hash_of g.H.KeyHasher.hasher g.A.KeyHash.calls) g.A.Query.fits g.V.MatchesNative.equals (map_bytes c.args.self) (map_pos c.args.self)
+    asked_none g.W.Word.word g.K.HasSpec.spec g.V.HasSpec.spec (hash_of g.H.KeyHasher.hasher g.A.KeyHash.calls) g.A.Query.fits g.V.MatchesNative.equals (map_bytes c.args.self) (map_pos c.args.self)
     c.args.key.now (g.A.PartialEq.eq c.args.key.now) c.args.other.now.entries c.contains_key.result _ c.in-None.ensures.value c.contains_key.ensures.answer refl

@@ -3,7 +3,7 @@ use Rattle.std.specs.Borrow.{Bor}
 use Rattle.std.specs.HashMap.{get}
 use Rattle.std.specs.Map.{lookup}
 use Rattle.std.proofs.lemmas.Result.{err_from_is_err_and}
-use Rattle.rkyv_base.specs.Pairs.{PairStands}
+use Rattle.rkyv_base.specs.Pairs.{PairRepresents}
 use Rattle.rkyv_keys.specs.OfEntries.{entry_refuses}
 use Rattle.rkyv_collections.specs.Map.{map_archive, map_pos}
 use Rattle.rkyv_collections.proofs.StdReading.{walks_first, walks_key, walks_last, walks_next}
@@ -13,8 +13,8 @@ pub loop-key-init : goal.loop-key-init
 loop-key-init g c =
     let walk = c.iter-key-items.ensures in
     let empty = c.with_hasher-map.ensures in (
-      walks_first g.W.Word.word g.K.Shaped.shape g.V.Shaped.shape g.K.StandsFor.stands g.V.StandsFor.stands g.A.PartialEq.eq (map_archive c.args.self) (map_pos c.args.self) g.K.Shaped.laws g.V.Shaped.laws
-          c.into_iter-key-iterator.result c.iter-key-items.result c.into_iter-key-iterator.ensures.into_iter_gives walk.archive walk.places
+      walks_first g.W.Word.word g.K.HasSpec.spec g.V.HasSpec.spec g.K.Represents.represents g.V.Represents.represents g.A.PartialEq.eq (map_archive c.args.self) (map_pos c.args.self) g.K.HasSpec.laws g.V.HasSpec.laws
+          c.into_iter-key-iterator.result c.iter-key-items.result c.into_iter-key-iterator.ensures.into_iter_gives walk.archive walk.positions
           (get g.A.PartialEq.eq c.with_hasher-map.result) (λ q. ap (lookup (g.A.PartialEq.eq q)) empty.empty),
       empty.unique,
       refl,
@@ -25,8 +25,8 @@ loop-key-preserved g c =
     let on = c.loop-key.invariant in
     let step = c.in-Some.ensures.steps in
     let made = c.in_ok-insert_read.ensures in
-    let there = subst (λ (a : Bor (List ℕ)). PairStands g.K.Shaped.shape g.V.Shaped.shape g.K.StandsFor.stands g.V.StandsFor.stands a.now c.in-Some.key.pos made.0) (step.1.at.0 ∙ on.0.0) made.1 in (
-      walks_next g.W.Word.word g.K.Shaped.shape g.V.Shaped.shape g.K.StandsFor.stands g.V.StandsFor.stands g.A.PartialEq.eq (map_archive c.args.self) (map_pos c.args.self)
+    let there = subst (λ (a : Bor (List ℕ)). PairRepresents g.K.HasSpec.spec g.V.HasSpec.spec g.K.Represents.represents g.V.Represents.represents a.now c.in-Some.key.pos made.0) (step.1.at.0 ∙ on.0.0) made.1 in (
+      walks_next g.W.Word.word g.K.HasSpec.spec g.V.HasSpec.spec g.K.Represents.represents g.V.Represents.represents g.A.PartialEq.eq (map_archive c.args.self) (map_pos c.args.self)
           c.loop-key.key-iterator c.next.new.self c.in-Some.key.pos (get g.A.PartialEq.eq c.loop-key.map) step.0 on.0
           (get g.A.PartialEq.eq c.insert_read.new.map) made.0.0 made.0.1 there made.2.0,
       made.3,
@@ -37,7 +37,7 @@ pub returns-in_err-insert_read : goal.returns-in_err-insert_read
 returns-in_err-insert_read g c =
     let on = c.loop-key.invariant in
     let step = c.in-Some.ensures.steps in
-    let key = walks_key g.W.Word.word g.K.Shaped.shape g.V.Shaped.shape g.K.StandsFor.stands g.V.StandsFor.stands g.A.PartialEq.eq (map_archive c.args.self) (map_pos c.args.self)
+    let key = walks_key g.W.Word.word g.K.HasSpec.spec g.V.HasSpec.spec g.K.Represents.represents g.V.Represents.represents g.A.PartialEq.eq (map_archive c.args.self) (map_pos c.args.self)
     c.loop-key.key-iterator c.next.new.self c.in-Some.key.pos (get g.A.PartialEq.eq c.loop-key.map) step.0 on.0 in
     let p = err_from_is_err_and c.from_residual.result c.from_residual.ensures.1 in
     rw (p.1, p.2) (elim c.in_err-insert_read.ensures [
@@ -45,13 +45,13 @@ returns-in_err-insert_read g c =
       | inr part ↦ inr (
         c.in-Some.key.pos,
         key,
-        subst (λ (a : Bor (List ℕ)). entry_refuses g.K.Shaped.shape g.V.Shaped.shape g.K.Deserialize.refuses g.V.Deserialize.refuses a.now c.in-Some.key.pos c.in_err-insert_read.field-0.0) (step.1.at.0 ∙ on.0.0) part,
+        subst (λ (a : Bor (List ℕ)). entry_refuses g.K.HasSpec.spec g.V.HasSpec.spec g.K.Deserialize.refuses g.V.Deserialize.refuses a.now c.in-Some.key.pos c.in_err-insert_read.field-0.0) (step.1.at.0 ∙ on.0.0) part,
       )
     ])
 
 pub returns : goal.returns
 returns g c =
     let on = c.loop-key.invariant in
-    let last = walks_last g.W.Word.word g.K.Shaped.shape g.V.Shaped.shape g.K.StandsFor.stands g.V.StandsFor.stands g.A.PartialEq.eq (map_archive c.args.self) (map_pos c.args.self)
+    let last = walks_last g.W.Word.word g.K.HasSpec.spec g.V.HasSpec.spec g.K.Represents.represents g.V.Represents.represents g.A.PartialEq.eq (map_archive c.args.self) (map_pos c.args.self)
     c.loop-key.key-iterator (get g.A.PartialEq.eq c.loop-key.map) on.0 c.in-None.ensures.steps.none in
     (record { pairs = last.0; read = last.1; inserted = (last.2, on.1) }, on.2 ∙ c.with_hasher-map.ensures.hasher)

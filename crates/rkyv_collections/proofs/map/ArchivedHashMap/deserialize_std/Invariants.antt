@@ -8,7 +8,7 @@ use Rattle.rkyv_collections.proofs.map.ArchivedHashMap.deserialize_std.Given as 
 -- inserted in order
 abbrev pub invariant-loop-key : goal.invariant-loop-key
 invariant-loop-key g l =
-    WalksOn g.W.Word.word g.K.Shaped.shape g.V.Shaped.shape g.K.StandsFor.stands g.V.StandsFor.stands g.A.PartialEq.eq
+    WalksOn g.W.Word.word g.K.HasSpec.spec g.V.HasSpec.spec g.K.Represents.represents g.V.Represents.represents g.A.PartialEq.eq
     (map_archive l.self) (map_pos l.self) l.key-iterator (get g.A.PartialEq.eq l.map)
     × IsUnique g.A.PartialEq.eq l.map
     × (hasher_of l.map ≡ hasher_of l.initial.map)

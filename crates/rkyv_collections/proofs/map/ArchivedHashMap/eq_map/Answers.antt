@@ -7,13 +7,13 @@ use Rattle.rkyv_collections.proofs.map.ArchivedHashMap.eq_map.Goals as goal
 
 pub loop-key-init : goal.loop-key-init
 loop-key-init g c =
-    let k = g.K.Shaped.shape in
-    let v = g.V.Shaped.shape in
+    let k = g.K.HasSpec.spec in
+    let v = g.V.HasSpec.spec in
     let other = c.args.other in
     let key_hash = hash_at g.H.KeyHasher.hasher g.K.KeyElement.key_calls in
     let matches : ℕ → Bool = λ q. pair_matches g.W.Word.word k v key_hash g.K.ElementEq.same g.V.ElementEq.same (map_bytes c.args.self) q (map_bytes other) (map_pos other) in
     let walk : ItemsLeft = c.iter-key-items.result in
     let same : c.into_iter-key-iterator.result ≡ walk = cc in (
       ap (λ (left : ItemsLeft). left.archive) same ∙ c.iter-key-items.ensures.archive,
-      ap (list_all matches) (sym (ap (λ (left : ItemsLeft). left.places) same ∙ c.iter-key-items.ensures.places)),
+      ap (list_all matches) (sym (ap (λ (left : ItemsLeft). left.positions) same ∙ c.iter-key-items.ensures.positions)),
     )

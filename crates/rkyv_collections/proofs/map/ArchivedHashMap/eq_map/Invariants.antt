@@ -8,9 +8,9 @@ use Rattle.rkyv_collections.proofs.map.ArchivedHashMap.eq_map.Given as goal
 abbrev pub invariant-loop-key : goal.invariant-loop-key
 invariant-loop-key g l =
     let w = g.W.Word.word in
-    let k = g.K.Shaped.shape in
-    let v = g.V.Shaped.shape in
+    let k = g.K.HasSpec.spec in
+    let v = g.V.HasSpec.spec in
     let key_hash = hash_at g.H.KeyHasher.hasher g.K.KeyElement.key_calls in
     let matches : ℕ → Bool = λ q. pair_matches w k v key_hash g.K.ElementEq.same g.V.ElementEq.same (map_bytes l.self) q (map_bytes l.other) (map_pos l.other) in
     (l.key-iterator.archive ≡ map_archive l.self)
-    × (list_all matches (key_positions l.self) ≡ list_all matches l.key-iterator.places)
+    × (list_all matches (key_positions l.self) ≡ list_all matches l.key-iterator.positions)

@@ -8,4 +8,4 @@ use Rattle.rkyv_collections.proofs.map.ArchivedHashMap.eq_std.Given as goal
 abbrev pub invariant-loop-key : goal.invariant-loop-key
 invariant-loop-key g l =
     let hash = hash_of g.H.KeyHasher.hasher g.A.KeyHash.calls in
-    Decides (FindsPair g.W.Word.word g.K.Shaped.shape g.V.Shaped.shape hash g.A.Query.fits g.V.MatchesNative.equals (map_bytes l.self) (map_pos l.self)) l.other.entries l.key-iterator
+    Decides (FindsPair g.W.Word.word g.K.HasSpec.spec g.V.HasSpec.spec hash g.A.Query.fits g.V.MatchesNative.equals (map_bytes l.self) (map_pos l.self)) l.other.entries l.key-iterator

@@ -11,12 +11,12 @@ returns-clause-walked g c =
 
 pub returns-clause-finds : goal.returns-clause-finds
 returns-clause-finds g c =
-    let Told = IsEntryAt c.find.result in
-    let says : (place : Option ℕ) → Told place → c.found_pos.result ≡ place = λ place at. c.found_pos.ensures ∙ at in
+    let P = IsEntryAt c.find.result in
+    let says : (place : Option ℕ) → P place → c.found_pos.result ≡ place = λ place at. c.found_pos.ensures ∙ at in
     let hash = hash_of g.H.KeyHasher.hasher g.Q.KeyHash.calls c.args.key.now in
     let key_hash = hash_at g.H.KeyHasher.hasher g.K.KeyElement.key_calls in
     let read = c.map_in.ensures in
     record {
-      answer = by_read c.map_in.result (archive_in c.args.this.now) (pos_in c.args.this.now) read.bytes read.pos Told (λ place. c.found_pos.result ≡ place) says _ hash c.find.ensures.found.answer;
-      first = first_by_read c.map_in.result (archive_in c.args.this.now) (pos_in c.args.this.now) read.bytes read.pos Told (λ place. c.found_pos.result ≡ place) says _ hash key_hash c.find.ensures.found.first;
+      answer = by_read c.map_in.result (archive_in c.args.this.now) (pos_in c.args.this.now) read.bytes read.pos P (λ place. c.found_pos.result ≡ place) says _ hash c.find.ensures.found.answer;
+      first = first_by_read c.map_in.result (archive_in c.args.this.now) (pos_in c.args.this.now) read.bytes read.pos P (λ place. c.found_pos.result ≡ place) says _ hash key_hash c.find.ensures.found.first;
     }

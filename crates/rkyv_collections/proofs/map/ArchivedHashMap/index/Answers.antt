@@ -11,4 +11,4 @@ value-requires g c = let there = rw c.unwrap.ensures at c.find_key.ensures.walke
 pub returns : goal.returns
 returns g c =
     let got = rw c.unwrap.ensures at c.find_key.ensures in
-    value_of_key got (c.value.result, refl, c.value.ensures.at, c.value.ensures.viewed)
+    value_of_key got (c.value.result, refl, c.value.ensures.at, c.value.ensures.viewable)

@@ -4,16 +4,16 @@ use Rattle.rkyv_collections.proofs.map.ArchivedHashMap.lend_value.Goals as goal
 
 pub value_seal-requires : goal.value_seal-requires
 value_seal-requires g c =
-    let pair = found_place g.W.Word.word g.K.Shaped.shape g.V.Shaped.shape g.K.Shaped.laws g.V.Shaped.laws (archive_in c.args.this) (pos_in c.args.this) c.requires.map c.args.found c.in-Some.pos c.in-Some.is c.requires.found in
+    let pair = found_place g.W.Word.word g.K.HasSpec.spec g.V.HasSpec.spec g.K.HasSpec.laws g.V.HasSpec.laws (archive_in c.args.this) (pos_in c.args.this) c.requires.map c.args.found c.in-Some.pos c.in-Some.is c.requires.found in
     pair.1.value.inside
 
 pub returns-in-Some-clause-walked : goal.returns-in-Some-clause-walked
 returns-in-Some-clause-walked g c =
-    let pair = found_place g.W.Word.word g.K.Shaped.shape g.V.Shaped.shape g.K.Shaped.laws g.V.Shaped.laws (archive_in c.args.this) (pos_in c.args.this) c.requires.map c.args.found c.in-Some.pos c.in-Some.is c.requires.found in
+    let pair = found_place g.W.Word.word g.K.HasSpec.spec g.V.HasSpec.spec g.K.HasSpec.laws g.V.HasSpec.laws (archive_in c.args.this) (pos_in c.args.this) c.requires.map c.args.found c.in-Some.pos c.in-Some.is c.requires.found in
     let e = c.value_seal.ensures.at in
     (pair.0, record { key = c.in-Some.pos; at = pair.1; bytes = e.bytes; place = e.place })
 
-pub returns-in-Some-clause-viewed : goal.returns-in-Some-clause-viewed
-returns-in-Some-clause-viewed g c =
-    let pair = found_place g.W.Word.word g.K.Shaped.shape g.V.Shaped.shape g.K.Shaped.laws g.V.Shaped.laws (archive_in c.args.this) (pos_in c.args.this) c.requires.map c.args.found c.in-Some.pos c.in-Some.is c.requires.found in
+pub returns-in-Some-clause-viewable : goal.returns-in-Some-clause-viewable
+returns-in-Some-clause-viewable g c =
+    let pair = found_place g.W.Word.word g.K.HasSpec.spec g.V.HasSpec.spec g.K.HasSpec.laws g.V.HasSpec.laws (archive_in c.args.this) (pos_in c.args.this) c.requires.map c.args.found c.in-Some.pos c.in-Some.is c.requires.found in
     rw (c.value_seal.ensures.at.bytes, c.value_seal.ensures.at.place) pair.1.value

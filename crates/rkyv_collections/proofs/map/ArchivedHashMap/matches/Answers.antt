@@ -15,7 +15,7 @@ some_matches same offset (Some q) at e = let h : at ≡ q + offset = cc in ap sa
 pub returns-in-Some : goal.returns-in-Some
 returns-in-Some g c =
     let same = g.V.ElementEq.same in
-    let offset = value_offset g.K.Shaped.shape g.V.Shaped.shape in
+    let offset = value_offset g.K.HasSpec.spec g.V.HasSpec.spec in
     let key = c.args.key in
     let found = c.in-Some.found in
     c.same.ensures

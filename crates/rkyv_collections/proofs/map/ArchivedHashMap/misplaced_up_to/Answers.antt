@@ -1,7 +1,7 @@
 use Rattle.std.proofs.Common.{ap, subst, zero-add, ◌∙◌, ◌≡◌, ◌+◌, ◌<◌, ◌≤◌, ◌^◌, ◌⊎◌, Bool, ℕ, List, MatchOption}
 use Rattle.std.specs.Borrow.{Bor}
 use Rattle.rkyv_scan.specs.Groups.{generic_kind}
-use Rattle.rkyv_base.specs.Entry.{entry_shape}
+use Rattle.rkyv_base.specs.Entry.{entry_spec}
 use Rattle.rkyv_base.specs.View.{bytes_of}
 use Rattle.rkyv_base.specs.declared.entry.Entry.{Entry}
 use Rattle.rkyv_base.specs.declared.view.View.{View}
@@ -15,7 +15,7 @@ use Rattle.rkyv_collections.proofs.map.ArchivedHashMap.misplaced_up_to.Goals as 
 pub returns : goal.returns
 returns g c =
     let w = g.W.Word.word in
-    let s = entry_shape g.K.Shaped.shape g.V.Shaped.shape in
+    let s = entry_spec g.K.HasSpec.spec g.V.HasSpec.spec in
     let t = c.table.result in
     let b : List ℕ = map_bytes c.args.self in
     let key_hash = hash_at g.H.KeyHasher.hasher g.K.KeyElement.key_calls in

@@ -1,9 +1,9 @@
 use Rattle.std.proofs.Common.{MatchResult, subst}
 use Rattle.std.specs.Iterator.{Drains}
 use Rattle.rkyv_base.specs.Pairs.{written_as}
-use Rattle.rkyv_table.specs.Table.Counting.{GaveOther}
-use Rattle.rkyv_table.specs.Table.Serializing.{NoItems, WroteItems}
-use Rattle.rkyv_table.specs.Table.Lent.{lent_pairs}
+use Rattle.rkyv_table.specs.Table.Counting.{YieldsOtherCount}
+use Rattle.rkyv_table.specs.Table.Serializing.{WriteItemsFails, WroteItems}
+use Rattle.rkyv_table.specs.Table.ItemValues.{lent_pairs}
 use Rattle.rkyv_collections.specs.MapFormat.{hash_of, map_format}
 use Rattle.rkyv_collections.proofs.HashedPairs.{answers_map}
 use Rattle.rkyv_collections.proofs.map.ArchivedHashMap.serialize_from_iter.Goals as goal
@@ -13,13 +13,13 @@ returns g c =
     let hash = hash_of g.H.KeyHasher.hasher g.A.KeyHash.calls in
     let steps = g.I.Iterator.next_gives in
     let w = g.W.Word.word in
-    let k = g.K.Shaped.shape in
-    let v = g.V.Shaped.shape in
+    let k = g.K.HasSpec.spec in
+    let v = g.V.HasSpec.spec in
     let len = c.args.len in
     let factor = c.args.load_factor in
     let max = g.W.Width.MAX_CAPACITY in
     let o = g.S.Writer.output c.args.serializer.now in
     let o' = g.S.Writer.output c.serialize_by.new.serializer in
     let f = written_as (lent_pairs g.BK.Lend.lent g.BV.Lend.lent) (map_format w k v g.A.Archive.format g.B.Archive.format hash factor) in
-    subst (λ iter. MatchResult c.serialize_by.result (WroteItems (Drains steps iter) len factor max f o o' g.W.Width.LIMIT) (NoItems (Drains steps iter) len factor max f o o' g.W.Width.LIMIT (GaveOther steps len iter))) c.new-entries.ensures
+    subst (λ iter. MatchResult c.serialize_by.result (WroteItems (Drains steps iter) len factor max f o o' g.W.Width.LIMIT) (WriteItemsFails (Drains steps iter) len factor max f o o' g.W.Width.LIMIT (YieldsOtherCount steps len iter))) c.new-entries.ensures
     (answers_map (λ s. s.pairs) steps g.BK.Lend.lent g.BV.Lend.lent hash len factor max w k v g.A.Archive.format g.B.Archive.format o o' c.new-entries.result g.W.Width.LIMIT c.serialize_by.result c.serialize_by.ensures)

@@ -12,9 +12,9 @@ returns-clause-walked g c =
 
 pub returns-clause-inside : goal.returns-clause-inside
 returns-clause-inside g c =
-    value_inside g.W.Word.word g.K.Shaped.shape g.V.Shaped.shape g.K.Shaped.laws g.V.Shaped.laws c.args.archive.now c.args.root c.requires.map c.found_pos.result (value_read c.map_over.result c.args.archive.now c.args.root c.map_over.ensures.bytes c.map_over.ensures.pos c.get.result c.found_pos.result (sym c.found_pos.ensures) c.get.ensures.walked)
+    value_inside g.W.Word.word g.K.HasSpec.spec g.V.HasSpec.spec g.K.HasSpec.laws g.V.HasSpec.laws c.args.archive.now c.args.root c.requires.map c.found_pos.result (value_read c.map_over.result c.args.archive.now c.args.root c.map_over.ensures.bytes c.map_over.ensures.pos c.get.result c.found_pos.result (sym c.found_pos.ensures) c.get.ensures.walked)
 
 pub returns-clause-finds : goal.returns-clause-finds
 returns-clause-finds g c =
-    tells_read c.map_over.result c.args.archive.now c.args.root c.map_over.ensures.bytes c.map_over.ensures.pos (IsValueAt g.K.Shaped.shape g.V.Shaped.shape c.get.result) (λ found. c.found_pos.result ≡ option_map (value_pos g.K.Shaped.shape g.V.Shaped.shape) found) (λ found at. c.found_pos.ensures ∙ at)
+    tells_read c.map_over.result c.args.archive.now c.args.root c.map_over.ensures.bytes c.map_over.ensures.pos (IsValueAt g.K.HasSpec.spec g.V.HasSpec.spec c.get.result) (λ found. c.found_pos.result ≡ option_map (value_pos g.K.HasSpec.spec g.V.HasSpec.spec) found) (λ found at. c.found_pos.ensures ∙ at)
     (asked g.H.KeyHasher.hasher g.K.KeyElement.key_calls g.K.ElementEq.same (g.Q.KeyHash.calls c.args.key.now) (g.Q.Query.fits c.args.key.now)) c.get.ensures.answer c.get.ensures.first c.get.ensures.complete

@@ -1,9 +1,10 @@
 use Rattle.std.proofs.Common.{ap, false, refl, subst, true}
 use Rattle.rkyv_scan.specs.Hash.{hash_of_calls}
-use Rattle.rkyv_base.specs.Scalar.{ScalarStands, scalar_near}
+use Rattle.rkyv_base.specs.Scalar.{ScalarRepresents}
+use Rattle.rkyv_base.specs.Lemmas.Scalar.{scalar_local}
 use Rattle.rkyv_collections.specs.InPlace.{SetsFound}
 use Rattle.rkyv_collections.specs.Map.{hash_at}
-use Rattle.rkyv_collections.specs.MapShape.{map_shape}
+use Rattle.rkyv_collections.specs.MapSpec.{map_spec}
 use Rattle.rkyv_collections.proofs.FirstWrites.{first_behind, none_behind}
 use Rattle.rkyv_collections.proofs.NestedWrites.{unwritten, value_nested_at}
 use Rattle.rkyv_collections.proofs.SealedMap.{tells_more}
@@ -18,30 +19,30 @@ returns-in-Some-clause-answer g c =
     let e = g.N.Scalar.encoding in
     let key_hash = hash_at g.H.KeyHasher.hasher g.K.KeyElement.key_calls in
     let t = c.in-Some.ensures.walked in
-    let kept = map_kept_at g.K.Shaped.shape g.N.Shaped.shape g.K.Shaped.laws g.N.Shaped.laws g.W.Word.word key_hash
-    (λ x y q lo hi l o holds fixed part. ap (hash_of_calls g.H.KeyHasher.hasher) (g.met.K.KeyElement.key.near x y q lo hi l o holds fixed part))
+    let kept = map_kept_at g.K.HasSpec.spec g.N.HasSpec.spec g.K.HasSpec.laws g.N.HasSpec.laws g.W.Word.word key_hash
+    (λ x y q lo hi l o holds fixed part. ap (hash_of_calls g.H.KeyHasher.hasher) (g.met.K.KeyElement.key.local x y q lo hi l o holds fixed part))
     c.args.archive.now c.set_at.new.bytes c.args.root t.0 c.in-Some.pos c.requires.map t.1 t.2 c.set_at.ensures.sealed c.set_at.ensures.holds in
-    tells_more _ _ _ _ (λ place at. subst (SetsFound g.W.Word.word g.K.Shaped.shape g.N.Shaped.shape e key_hash c.args.archive.now c.args.root c.args.value true c.set_at.new.bytes) at (refl, c.set_at.ensures.written, (t.1.0, kept))) c.in-Some.ensures.finds
+    tells_more _ _ _ _ (λ place at. subst (SetsFound g.W.Word.word g.K.HasSpec.spec g.N.HasSpec.spec e key_hash c.args.archive.now c.args.root c.args.value true c.set_at.new.bytes) at (refl, c.set_at.ensures.written, (t.1.0, kept))) c.in-Some.ensures.finds
 
 pub returns-in-Some-clause-listed : goal.returns-in-Some-clause-listed
 returns-in-Some-clause-listed g c = λ factor pairs st.
     let e = g.N.Scalar.encoding in
     let h = g.H.KeyHasher in
-    let k = g.K.Shaped.shape in
+    let k = g.K.HasSpec.spec in
     let b = c.args.archive.now in
     let fits = g.A.Query.fits c.args.key.now b in
     let set = c.set_at.ensures in
-    first_behind g.W.Word.word k g.N.Shaped.shape g.K.Shaped.laws g.N.Shaped.laws g.K.StandsFor.stands (ScalarStands e)
+    first_behind g.W.Word.word k g.N.HasSpec.spec g.K.HasSpec.laws g.N.HasSpec.laws g.K.Represents.represents (ScalarRepresents e)
     (hash_at h.hasher g.K.KeyElement.key_calls) factor b c.args.root pairs c.args.value fits (g.A.PartialEq.eq c.args.key.now) c.requires.map
-    (λ a q s there. g.met.A.NativeKey.native c.args.key.now a b q s there) st g.met.K.StandsFor.near (scalar_near g.N.Shaped.shape e g.met.N.Scalar.laws)
-    (λ x y q lo hi l o holds fixed part. ap (hash_of_calls h.hasher) (g.met.K.KeyElement.key.near x y q lo hi l o holds fixed part))
+    (λ a q s there. g.met.A.NativeKey.native c.args.key.now a b q s there) st g.met.K.Represents.local (scalar_local g.N.HasSpec.spec e g.met.N.Scalar.laws)
+    (λ x y q lo hi l o holds fixed part. ap (hash_of_calls h.hasher) (g.met.K.KeyElement.key.local x y q lo hi l o holds fixed part))
     c.set_at.new.bytes c.in-Some.pos (c.in-Some.ensures.finds.first st.homes st.written) set.sealed set.holds set.reads
 
 pub returns-in-None-clause-answer : goal.returns-in-None-clause-answer
 returns-in-None-clause-answer g c =
     let h = g.H.KeyHasher in
     let b = c.args.archive.now in
-    tells_more _ _ _ _ (λ place at. subst (SetsFound g.W.Word.word g.K.Shaped.shape g.N.Shaped.shape g.N.Scalar.encoding (hash_at h.hasher g.K.KeyElement.key_calls) b c.args.root c.args.value false b)
+    tells_more _ _ _ _ (λ place at. subst (SetsFound g.W.Word.word g.K.HasSpec.spec g.N.HasSpec.spec g.N.Scalar.encoding (hash_at h.hasher g.K.KeyElement.key_calls) b c.args.root c.args.value false b)
     at (refl, refl)) c.in-None.ensures.finds
 
 pub returns-in-None-clause-listed : goal.returns-in-None-clause-listed
@@ -49,7 +50,7 @@ returns-in-None-clause-listed g c = λ factor pairs st.
     let e = g.N.Scalar.encoding in
     let h = g.H.KeyHasher in
     let b = c.args.archive.now in
-    none_behind g.W.Word.word g.K.Shaped.shape g.N.Shaped.shape g.K.Shaped.laws g.N.Shaped.laws g.K.StandsFor.stands (ScalarStands e)
+    none_behind g.W.Word.word g.K.HasSpec.spec g.N.HasSpec.spec g.K.HasSpec.laws g.N.HasSpec.laws g.K.Represents.represents (ScalarRepresents e)
     (hash_at h.hasher g.K.KeyElement.key_calls) factor b c.args.root pairs c.args.value (g.A.Query.fits c.args.key.now b) (g.A.PartialEq.eq c.args.key.now) c.requires.map
     (λ a q s there. g.met.A.NativeKey.native c.args.key.now a b q s there) st (c.in-None.ensures.finds.first st.homes st.written)
 
@@ -57,8 +58,8 @@ pub returns-in-Some-clause-parts : goal.returns-in-Some-clause-parts
 returns-in-Some-clause-parts g c =
     let e = g.N.Scalar.encoding in
     let t = c.in-Some.ensures.walked in
-    value_nested_at g.W.Word.word g.K.Shaped.shape g.N.Shaped.shape g.K.Shaped.laws g.N.Shaped.laws
+    value_nested_at g.W.Word.word g.K.HasSpec.spec g.N.HasSpec.spec g.K.HasSpec.laws g.N.HasSpec.laws
     c.args.archive.now c.set_at.new.bytes c.args.root t.0 c.in-Some.pos c.requires.map t.1 t.2 c.set_at.ensures.sealed c.set_at.ensures.holds
 
 pub returns-in-None-clause-parts : goal.returns-in-None-clause-parts
-returns-in-None-clause-parts g c = unwritten (map_shape g.W.Word.word g.K.Shaped.shape g.N.Shaped.shape) c.args.archive.now c.args.root
+returns-in-None-clause-parts g c = unwritten (map_spec g.W.Word.word g.K.HasSpec.spec g.N.HasSpec.spec) c.args.archive.now c.args.root

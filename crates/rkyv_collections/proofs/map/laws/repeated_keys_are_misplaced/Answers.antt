@@ -6,7 +6,7 @@ use Rattle.rkyv_collections.proofs.map.laws.repeated_keys_are_misplaced.Goals as
 
 pub returns : goal.returns
 returns g c =
-    repeated_keys_misplaced g.W.Word.word g.K.Shaped.shape g.V.Shaped.shape g.K.Shaped.laws g.V.Shaped.laws
+    repeated_keys_misplaced g.W.Word.word g.K.HasSpec.spec g.V.HasSpec.spec g.K.HasSpec.laws g.V.HasSpec.laws
     (hash_at g.H.KeyHasher.hasher g.K.KeyElement.key_calls) g.K.ElementEq.same
     g.met.K.ElementEquiv.equivalence
-    (λ b c q r h g' same. ap (hash_of_calls g.H.KeyHasher.hasher) (g.met.K.KeyElement.key.alike b c q r h g' same))
+    (λ b c q r h g' same. ap (hash_of_calls g.H.KeyHasher.hasher) (g.met.K.KeyElement.key.same_calls b c q r h g' same))

@@ -4,8 +4,8 @@ use Rattle.rkyv_collections.proofs.map.laws.walks_give_listed.Goals as goal
 
 pub returns-clause-homes : goal.returns-clause-homes
 returns-clause-homes g c =
-    walks_visit_pairs g.W.Word.word g.K.Shaped.shape g.V.Shaped.shape g.K.StandsFor.stands g.V.StandsFor.stands (hash_at g.H.KeyHasher.hasher g.K.KeyElement.key_calls)
+    walks_visit_pairs g.W.Word.word g.K.HasSpec.spec g.V.HasSpec.spec g.K.Represents.represents g.V.Represents.represents (hash_at g.H.KeyHasher.hasher g.K.KeyElement.key_calls)
 
 pub returns-clause-pairs : goal.returns-clause-pairs
 returns-clause-pairs g c =
-    walks_give_listed g.W.Word.word g.K.Shaped.shape g.V.Shaped.shape g.K.StandsFor.stands g.V.StandsFor.stands (hash_at g.H.KeyHasher.hasher g.K.KeyElement.key_calls)
+    walks_give_listed g.W.Word.word g.K.HasSpec.spec g.V.HasSpec.spec g.K.Represents.represents g.V.Represents.represents (hash_at g.H.KeyHasher.hasher g.K.KeyElement.key_calls)

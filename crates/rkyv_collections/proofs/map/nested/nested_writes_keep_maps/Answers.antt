@@ -9,8 +9,8 @@ use Rattle.rkyv_collections.proofs.map.nested.nested_writes_keep_maps.Goals as g
 pub returns : goal.returns
 returns g c = λ b d p q view at writes.
     let h = g.H.KeyHasher in
-    let k = g.K.Shaped.shape in
-    let v = g.V.Shaped.shape in
-    nested_kept g.W.Word.word k v g.K.Shaped.laws g.V.Shaped.laws (hash_at h.hasher g.K.KeyElement.key_calls)
-    (λ x y r lo hi l o holds fixed part. ap (hash_of_calls h.hasher) (g.met.K.KeyElement.key.near x y r lo hi l o holds fixed part))
+    let k = g.K.HasSpec.spec in
+    let v = g.V.HasSpec.spec in
+    nested_kept g.W.Word.word k v g.K.HasSpec.laws g.V.HasSpec.laws (hash_at h.hasher g.K.KeyElement.key_calls)
+    (λ x y r lo hi l o holds fixed part. ap (hash_of_calls h.hasher) (g.met.K.KeyElement.key.local x y r lo hi l o holds fixed part))
     b d p at.0 view at.1 (subst (λ z. WritesParts v b d (value_pos k v z)) at.2 writes)

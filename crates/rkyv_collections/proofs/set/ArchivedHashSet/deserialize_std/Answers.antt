@@ -2,17 +2,18 @@ use Rattle.std.proofs.Common.{ap, inl, inr, refl, subst, sym, ◌∙◌, ℕ, Li
 use Rattle.std.specs.Borrow.{Bor}
 use Rattle.std.specs.List.{IsDistinct}
 use Rattle.std.proofs.lemmas.Result.{err_from_is_err_and}
-use Rattle.rkyv_base.specs.Empty.{unit_element, unit_shape, unit_stands}
+use Rattle.rkyv_base.specs.Empty.{unit_spec, unit_represents}
+use Rattle.rkyv_base.specs.Lemmas.Empty.{unit_element}
 use Rattle.rkyv_collections.specs.Set.{set_archive, set_pos}
-use Rattle.rkyv_collections.specs.StdSet.{keys_with_units}
+use Rattle.rkyv_collections.specs.Lemmas.StdSet.{keys_with_units}
 use Rattle.rkyv_collections.proofs.StdReading.{found_units, key_inserted, walks_first, walks_key, walks_last, walks_next}
 use Rattle.rkyv_collections.proofs.set.ArchivedHashSet.deserialize_std.Goals as goal
 
 pub loop-key-init : goal.loop-key-init
 loop-key-init g c =
     let keys = c.iter-key-items.ensures in (
-      walks_first g.W.Word.word g.K.Shaped.shape unit_shape g.K.StandsFor.stands unit_stands g.A.PartialEq.eq (set_archive c.args.self) (set_pos c.args.self) g.K.Shaped.laws unit_element
-          c.into_iter-key-iterator.result c.iter-key-items.result c.into_iter-key-iterator.ensures.into_iter_gives keys.archive keys.places
+      walks_first g.W.Word.word g.K.HasSpec.spec unit_spec g.K.Represents.represents unit_represents g.A.PartialEq.eq (set_archive c.args.self) (set_pos c.args.self) g.K.HasSpec.laws unit_element
+          c.into_iter-key-iterator.result c.iter-key-items.result c.into_iter-key-iterator.ensures.into_iter_gives keys.archive keys.positions
           (found_units g.A.PartialEq.eq c.with_hasher-set.result.keys) (λ q. ap (λ (xs : List g.row.A.Denot). found_units g.A.PartialEq.eq xs q) c.with_hasher-set.ensures.empty),
       c.with_hasher-set.ensures.unique,
       refl,
@@ -23,10 +24,10 @@ loop-key-preserved g c =
     let on = c.loop-key.invariant in
     let taken = c.in-Some.ensures.steps in
     let made = c.in_ok-insert_read.ensures in (
-      walks_next g.W.Word.word g.K.Shaped.shape unit_shape g.K.StandsFor.stands unit_stands g.A.PartialEq.eq (set_archive c.args.self) (set_pos c.args.self)
+      walks_next g.W.Word.word g.K.HasSpec.spec unit_spec g.K.Represents.represents unit_represents g.A.PartialEq.eq (set_archive c.args.self) (set_pos c.args.self)
           c.loop-key.key-iterator c.next.new.self c.in-Some.key.pos (found_units g.A.PartialEq.eq c.loop-key.set.keys) taken.0 on.0
           (found_units g.A.PartialEq.eq c.insert_read.new.set.keys) made.0 tt
-          (subst (λ (a : Bor (List ℕ)). g.K.StandsFor.stands a.now c.in-Some.key.pos made.0) (taken.1.at.0 ∙ on.0.0) made.1, tt)
+          (subst (λ (a : Bor (List ℕ)). g.K.Represents.represents a.now c.in-Some.key.pos made.0) (taken.1.at.0 ∙ on.0.0) made.1, tt)
           (key_inserted g.A.PartialEq.eq c.loop-key.set c.insert_read.new.set made.0 made.2),
       made.3,
       made.4 ∙ on.2,
@@ -36,7 +37,7 @@ pub returns-in_err-insert_read : goal.returns-in_err-insert_read
 returns-in_err-insert_read g c =
     let on = c.loop-key.invariant in
     let taken = c.in-Some.ensures.steps in
-    let member = walks_key g.W.Word.word g.K.Shaped.shape unit_shape g.K.StandsFor.stands unit_stands g.A.PartialEq.eq (set_archive c.args.self) (set_pos c.args.self)
+    let member = walks_key g.W.Word.word g.K.HasSpec.spec unit_spec g.K.Represents.represents unit_represents g.A.PartialEq.eq (set_archive c.args.self) (set_pos c.args.self)
     c.loop-key.key-iterator c.next.new.self c.in-Some.key.pos (found_units g.A.PartialEq.eq c.loop-key.set.keys) taken.0 on.0 in
     let p = err_from_is_err_and c.from_residual.result c.from_residual.ensures.1 in
     rw (p.1, p.2) (elim c.in_err-insert_read.ensures [
@@ -51,7 +52,7 @@ returns-in_err-insert_read g c =
 pub returns : goal.returns
 returns g c =
     let on = c.loop-key.invariant in
-    let last = walks_last g.W.Word.word g.K.Shaped.shape unit_shape g.K.StandsFor.stands unit_stands g.A.PartialEq.eq (set_archive c.args.self) (set_pos c.args.self)
+    let last = walks_last g.W.Word.word g.K.HasSpec.spec unit_spec g.K.Represents.represents unit_represents g.A.PartialEq.eq (set_archive c.args.self) (set_pos c.args.self)
     c.loop-key.key-iterator (found_units g.A.PartialEq.eq c.loop-key.set.keys) on.0 c.in-None.ensures.steps.none in
     let unique = subst (λ (ks : List g.row.A.Denot). IsDistinct g.A.PartialEq.eq ks) (sym (keys_with_units c.loop-key.set.keys)) on.1 in
     (record { pairs = last.0; read = last.1; inserted = (last.2, unique) }, on.2 ∙ c.with_hasher-set.ensures.hasher)

@@ -1,6 +1,6 @@
 use Rattle.std.proofs.Common.{◌≡◌}
 use Rattle.std.specs.HashSet.{IsUnique, hasher_of}
-use Rattle.rkyv_base.specs.Empty.{unit_shape, unit_stands}
+use Rattle.rkyv_base.specs.Empty.{unit_spec, unit_represents}
 use Rattle.rkyv_collections.specs.Set.{set_archive, set_pos}
 use Rattle.rkyv_collections.proofs.StdReading.{WalksOn, found_units}
 use Rattle.rkyv_collections.proofs.set.ArchivedHashSet.deserialize_std.Given as goal
@@ -8,6 +8,6 @@ use Rattle.rkyv_collections.proofs.set.ArchivedHashSet.deserialize_std.Given as 
 -- the remaining keys are in the archived set, and their insertion ends with all keys inserted
 abbrev pub invariant-loop-key : goal.invariant-loop-key
 invariant-loop-key g l =
-    WalksOn g.W.Word.word g.K.Shaped.shape unit_shape g.K.StandsFor.stands unit_stands g.A.PartialEq.eq (set_archive l.self) (set_pos l.self) l.key-iterator (found_units g.A.PartialEq.eq l.set.keys)
+    WalksOn g.W.Word.word g.K.HasSpec.spec unit_spec g.K.Represents.represents unit_represents g.A.PartialEq.eq (set_archive l.self) (set_pos l.self) l.key-iterator (found_units g.A.PartialEq.eq l.set.keys)
     × IsUnique g.A.PartialEq.eq l.set
     × (hasher_of l.set ≡ hasher_of l.initial.set)

@@ -1,4 +1,4 @@
-use Rattle.rkyv_base.specs.Empty.{unit_shape, unit_stands}
+use Rattle.rkyv_base.specs.Empty.{unit_spec, unit_represents}
 use Rattle.rkyv_collections.specs.MapFormat.{hash_of}
 use Rattle.rkyv_collections.specs.Set.{set_bytes, set_pos}
 use Rattle.rkyv_collections.specs.StdEquality.{FindsPair}
@@ -9,4 +9,4 @@ use Rattle.rkyv_collections.proofs.set.ArchivedHashSet.eq_std.Given as goal
 abbrev pub invariant-loop-key : goal.invariant-loop-key
 invariant-loop-key g l =
     let hash = hash_of g.H.KeyHasher.hasher g.A.KeyHash.calls in
-    Decides (λ key. FindsPair g.W.Word.word g.K.Shaped.shape unit_shape hash g.A.Query.fits unit_stands (set_bytes l.self) (set_pos l.self) (key, tt)) l.other.keys l.key-iterator
+    Decides (λ key. FindsPair g.W.Word.word g.K.HasSpec.spec unit_spec hash g.A.Query.fits unit_represents (set_bytes l.self) (set_pos l.self) (key, tt)) l.other.keys l.key-iterator

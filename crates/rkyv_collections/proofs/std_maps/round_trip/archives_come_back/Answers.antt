@@ -4,7 +4,7 @@ use Rattle.rkyv_collections.proofs.std_maps.round_trip.archives_come_back.Goals 
 
 pub returns : goal.returns
 returns g c = λ value b made.
-    let s = g.M.Archived.Shaped.shape in (
-      root_keeps g.W.Width.LIMIT s g.M.Archived.Shaped.laws g.M.Archived.MatchesNative.equals g.M.Archive.format g.met.M.EqualsWritten.equal value b (length b - s.size) made.2,
-      λ back stands. g.met.M.Archived.StandsAlone.alone back value b (length b - s.size) made.0.stands stands made.1,
+    let s = g.M.Archived.HasSpec.spec in (
+      root_keeps g.W.Width.LIMIT s g.M.Archived.HasSpec.laws g.M.Archived.MatchesNative.equals g.M.Archive.format g.met.M.EqualsWritten.equal value b (length b - s.size) made.2,
+      λ back represents. g.met.M.Archived.RepresentsUniquely.alone back value b (length b - s.size) made.0.valid represents made.1,
     )

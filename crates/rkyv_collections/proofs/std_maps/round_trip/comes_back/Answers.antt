@@ -7,9 +7,9 @@ pub returns-then-not-eq_native : goal.returns-then-not-eq_native
 returns-then-not-eq_native g c =
     let value = c.args.value.now in
     let b : List ℕ = c.in-Ok.bytes.items in
-    let size = g.M.Archived.Shaped.shape.size in
+    let size = g.M.Archived.HasSpec.spec.size in
     let equals = g.M.Archived.MatchesNative.equals in
-    let at = root_keeps g.W.Width.LIMIT g.M.Archived.Shaped.shape g.M.Archived.Shaped.laws equals g.M.Archive.format g.met.M.EqualsWritten.equal value b (length b - size) c.in-Ok.ensures.2 in
+    let at = root_keeps g.W.Width.LIMIT g.M.Archived.HasSpec.spec g.M.Archived.HasSpec.laws equals g.M.Archive.format g.met.M.EqualsWritten.equal value b (length b - size) c.in-Ok.ensures.2 in
     let root = c.in-Ok-access_in.ensures.root.1 in
     let read = c.as_slice.result in
     let here = subst (λ (xs : List ℕ). equals xs (length xs - size) value) (sym c.as_slice.ensures.value) at in

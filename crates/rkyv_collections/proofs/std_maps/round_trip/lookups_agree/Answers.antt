@@ -1,10 +1,10 @@
 use Rattle.std.proofs.Common.{ℕ, ◌-◌, subst, sym, length, List}
 use Rattle.std.specs.Borrow.{Bor}
 use Rattle.rkyv_base.specs.Access.{Accepted}
-use Rattle.rkyv_base.specs.Entry.{entry_element}
+use Rattle.rkyv_base.specs.Lemmas.Entry.{entry_element}
 use Rattle.rkyv_base.specs.View.{bytes_of, pos_of}
 use Rattle.rkyv_table.specs.Lemmas.TableLaws.{table_element}
-use Rattle.rkyv_collections.specs.MapShape.{map_shape}
+use Rattle.rkyv_collections.specs.MapSpec.{map_spec}
 use Rattle.rkyv_collections.specs.MapFormat.{hash_of}
 use Rattle.rkyv_collections.specs.StdLookups.{FindsAsked}
 use Rattle.rkyv_collections.proofs.Headline.{root_keeps}
@@ -16,25 +16,25 @@ returns g c =
     let key = c.args.key.now in
     let met = g.met.A in
     let w = g.W.Word.word in
-    let s = map_shape w g.A.Archived.Shaped.shape g.B.Archived.Shaped.shape in
-    let kl = g.A.Archived.Shaped.laws in
-    let vl = g.B.Archived.Shaped.laws in
+    let s = map_spec w g.A.Archived.HasSpec.spec g.B.Archived.HasSpec.spec in
+    let kl = g.A.Archived.HasSpec.laws in
+    let vl = g.B.Archived.HasSpec.laws in
     let b : List ℕ = c.in-Ok.bytes.items in
-    let told : List ℕ → ℕ → Type 0 = λ b p. FindsAsked w g.A.Archived.Shaped.shape (hash_of g.H.KeyHasher.hasher g.A.KeyHash.calls) g.A.Query.fits g.B.Archived.Shaped.shape g.B.Archived.MatchesNative.equals b p key (g.A.PartialEq.eq key) c.args.map.now.map.entries in
+    let told : List ℕ → ℕ → Type 0 = λ b p. FindsAsked w g.A.Archived.HasSpec.spec (hash_of g.H.KeyHasher.hasher g.A.KeyHash.calls) g.A.Query.fits g.B.Archived.HasSpec.spec g.B.Archived.MatchesNative.equals b p key (g.A.PartialEq.eq key) c.args.map.now.map.entries in
     let at = root_keeps g.W.Width.LIMIT s (table_element w g.met.W.Width.layout.kind _ (entry_element _ _ kl vl)) _ _
     (seen_looked_up g.H.KeyHasher.hasher g.met.H.KeyHasher.fits w g.met.W.Width.layout.kind g.W.Width.MAX_CAPACITY kl vl met.Query.query met.Query.query met.NativeKey.native met.Eq.laws.refl met.NativeKey.reads
     met.Archive.laws g.met.B.EqualsWritten.equal (λ x. x.map.entries))
     c.args.map.now b (length b - s.size) c.in-Ok.ensures.2 in
-    let asked : told b (length b - s.size) = at key (g.A.PartialEq.eq key) (met.NativeKey.reads key) (λ a q stands there. met.NativeKey.native key a b q stands there) in
+    let asked : told b (length b - s.size) = at key (g.A.PartialEq.eq key) (met.NativeKey.reads key) (λ a q represents there. met.NativeKey.native key a b q represents there) in
     let root = c.in-Ok-access_in.ensures.root.1 in
     let read = c.as_slice.result in
     let here = subst (λ (xs : List ℕ). told xs (length xs - s.size)) (sym c.as_slice.ensures.value) asked in
     let there = subst (λ (a : Bor (List ℕ)). told a.now (length read.now - s.size)) (sym root.0) here in
-    let viewed = subst (λ (q : ℕ). told c.in-Ok-access_in.root.archive.now q) (sym root.1) there in
-    c.answers_as.ensures.1 (subst (λ view. told (bytes_of view) (pos_of view)) (sym c.of.ensures.view) viewed)
+    let viewable = subst (λ (q : ℕ). told c.in-Ok-access_in.root.archive.now q) (sym root.1) there in
+    c.answers_as.ensures.1 (subst (λ view. told (bytes_of view) (pos_of view)) (sym c.of.ensures.view) viewable)
 
 -- the written archive is accepted
 pub returns-in-Err-access_in : goal.returns-in-Err-access_in
 returns-in-Err-access_in g c =
-    let s = map_shape g.W.Word.word g.A.Archived.Shaped.shape g.B.Archived.Shaped.shape in
+    let s = map_spec g.W.Word.word g.A.Archived.HasSpec.spec g.B.Archived.HasSpec.spec in
     c.in-Err-access_in.ensures.accepts (subst (Accepted g.W.Width.LIMIT s) (sym c.as_slice.ensures.value) c.in-Ok.ensures.0)

@@ -21,11 +21,11 @@ returns-in-SetLoadFactor c = adds_as _ _ (state_seen c.args.self.now) _ _ _ c.in
 pub returns-in-PutNumbers : goal.returns-in-PutNumbers
 returns-in-PutNumbers c =
     let s = c.args.self.now in
-    let put = pair_put s.bits s.load_factor (pairs_seen s.list) (pairs_seen c.put_numbers.new.list) _ _ s.archive s.handed_in c.put_numbers.ensures.first in
+    let put = pair_put s.bits s.load_factor (pairs_seen s.list) (pairs_seen c.put_numbers.new.list) _ _ s.archive s.built_in_list c.put_numbers.ensures.first in
     on_ok_map c.put_numbers.result _ _ (λ e. adds_as _ _ (state_seen s) _ _ _ c.in-PutNumbers.is (adds_none _ _ (refl, put e))) c.put_numbers.ensures.added
 
 pub returns-in-PutTexts : goal.returns-in-PutTexts
 returns-in-PutTexts c =
     let s = c.args.self.now in
-    let put = pair_put s.bits s.load_factor (pairs_seen s.list) (pairs_seen c.put_texts.new.list) _ _ s.archive s.handed_in c.put_texts.ensures.first in
+    let put = pair_put s.bits s.load_factor (pairs_seen s.list) (pairs_seen c.put_texts.new.list) _ _ s.archive s.built_in_list c.put_texts.ensures.first in
     on_ok_map c.put_texts.result _ _ (λ e. adds_as _ _ (state_seen s) _ _ _ c.in-PutTexts.is (adds_none _ _ (refl, put e))) c.put_texts.ensures.added

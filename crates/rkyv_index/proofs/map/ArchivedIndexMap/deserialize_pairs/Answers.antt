@@ -2,7 +2,7 @@ use Rattle.std.proofs.Common.{◌≡◌, ◌+◌, ◌++◌, ◌∷◌, ◌∙◌
 use Rattle.std.proofs.lemmas.List.{length_push}
 use Rattle.std.specs.List.{slice_get}
 use Rattle.std.proofs.lemmas.Result.{err_from_is_err_and}
-use Rattle.rkyv_base.specs.Pairs.{PairStands}
+use Rattle.rkyv_base.specs.Pairs.{PairRepresents}
 use Rattle.rkyv_index.specs.Index.{index_bytes, key_pos}
 use Rattle.rkyv_index.proofs.ReadPairs.{pushed_too}
 use Rattle.rkyv_index.proofs.map.ArchivedIndexMap.deserialize_pairs.Goals as goal
@@ -11,13 +11,13 @@ pub loop-place-preserved : goal.loop-place-preserved
 loop-place-preserved g c =
     let m = c.args.self in
     let read : List (g.row.A.Denot × g.row.B.Denot) = c.loop-place.list.items in
-    let Stands : ℕ → g.row.A.Denot × g.row.B.Denot → Type 0 = λ i pair.
-    PairStands g.K.Shaped.shape g.V.Shaped.shape g.K.StandsFor.stands g.V.StandsFor.stands (index_bytes m) (key_pos m i) pair in
+    let Related : ℕ → g.row.A.Denot × g.row.B.Denot → Type 0 = λ i pair.
+    PairRepresents g.K.HasSpec.spec g.V.HasSpec.spec g.K.Represents.represents g.V.Represents.represents (index_bytes m) (key_pos m i) pair in
     let items : c.push.new.self.items ≡ read ++ c.in_ok-pair.pair ∷ [] = c.in-Ok.ensures.items in
     let inv = c.loop-place.invariant in
-    let here = subst (λ n. Stands n c.in_ok-pair.pair) (sym inv.0) c.in_ok-pair.ensures in (
+    let here = subst (λ n. Related n c.in_ok-pair.pair) (sym inv.0) c.in_ok-pair.ensures in (
       ap length items ∙ length_push read c.in_ok-pair.pair ∙ ap (λ n. n + 1) inv.0,
-      λ i pair e. pushed_too Stands read c.in_ok-pair.pair inv.1 here i pair (ap (λ (xs : List (g.row.A.Denot × g.row.B.Denot)). slice_get xs i) (sym items) ∙ e),
+      λ i pair e. pushed_too Related read c.in_ok-pair.pair inv.1 here i pair (ap (λ (xs : List (g.row.A.Denot × g.row.B.Denot)). slice_get xs i) (sym items) ∙ e),
     )
 
 pub returns-in_err-pair : goal.returns-in_err-pair

@@ -6,4 +6,4 @@ use Rattle.rkyv_index.proofs.map.ArchivedIndexMap.deserialize_pairs.Given as goa
 abbrev pub invariant-loop-place : goal.invariant-loop-place
 invariant-loop-place g l =
     (length l.list.items ≡ l.place)
-    × ArePairsRead g.K.StandsFor.stands g.V.StandsFor.stands l.self l.list.items
+    × ArePairsRead g.K.Represents.represents g.V.Represents.represents l.self l.list.items

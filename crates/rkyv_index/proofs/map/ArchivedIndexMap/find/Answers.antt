@@ -20,7 +20,7 @@ find_place-requires g c κs =
                   m.begins,
                   (
                     subst (λ n. n < index_len m) (sym e) there.1,
-                    λ j key is. c.requires.callable j key (record { below = is.below; at = is.at; viewed = is.viewed }),
+                    λ j key is. c.requires.callable j key (record { below = is.below; at = is.at; viewable = is.viewable }),
                   ),
                 ),
               ),
@@ -31,15 +31,15 @@ find_place-requires g c κs =
 pub returns-clause-found : goal.returns-clause-found
 returns-clause-found g c =
     let w = g.W.Word.word in
-    let k = g.K.Shaped.shape in
-    let v = g.V.Shaped.shape in
+    let k = g.K.HasSpec.spec in
+    let v = g.V.HasSpec.spec in
     let m = c.args.self in
     let f = c.find_place.ensures.found in
     gets_place m g.W.Place.Scalar.encoding g.met.W.Place.Scalar.laws g.met.W.Width.place c.table-table.result c.table-table.ensures.at
     (hash_at g.H.KeyHasher.hasher g.K.KeyElement.key_calls) _ (goal.F-post g c.args.cmp c.args.key)
     (λ h r x.
     let there = subst (λ n. IsKeyIn w k v m.view n x.2.0) x.1 x.2.1 in
-    (x.2.0, record { below = there.below; at = there.at; viewed = there.viewed }, x.2.2))
+    (x.2.0, record { below = there.below; at = there.at; viewable = there.viewable }, x.2.2))
     c.hash_value-hash.result _ c.hash_value-hash.ensures f.held f.found c.find_place.result
     (f.is ∙ place_found m g.W.Place.Scalar.encoding g.met.W.Place.Scalar.laws g.met.W.Width.place c.table-table.result c.table-table.ensures.at f.held f.found.walked)
 

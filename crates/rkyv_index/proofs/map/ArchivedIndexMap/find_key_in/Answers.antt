@@ -2,13 +2,13 @@ use Rattle.std.proofs.Common.{◌<◌}
 use Rattle.std.specs.Prelude.{IfSome}
 use Rattle.std.proofs.lemmas.Option.{IfSome_then}
 use Rattle.rkyv_table.specs.Table.Header.{len_at}
-use Rattle.rkyv_index.specs.Index.{IsHeldAt, IsPlace, hash_at}
+use Rattle.rkyv_index.specs.Index.{IsStoredAt, IsPlace, hash_at}
 use Rattle.rkyv_index.specs.IndexFormat.{hash_of}
 use Rattle.rkyv_index.proofs.SealedIndex.{as_read, finds_first_key_read, finds_key_read}
 use Rattle.rkyv_index.proofs.map.ArchivedIndexMap.find_key_in.Goals as goal
 
 pub returns-clause-held : goal.returns-clause-held
-returns-clause-held g c = as_read c.read.result _ _ c.read.ensures.bytes c.read.ensures.pos (λ d r. IfSome c.find_key.result (IsHeldAt g.W.Word.word d r)) (IfSome_then c.find_key.result c.find_key.ensures.walked (λ i there. there.0))
+returns-clause-held g c = as_read c.read.result _ _ c.read.ensures.bytes c.read.ensures.pos (λ d r. IfSome c.find_key.result (IsStoredAt g.W.Word.word d r)) (IfSome_then c.find_key.result c.find_key.ensures.walked (λ i there. there.0))
 
 pub returns-clause-below : goal.returns-clause-below
 returns-clause-below g c = as_read c.read.result _ _ c.read.ensures.bytes c.read.ensures.pos (λ d r. IfSome c.find_key.result (λ i. i < len_at g.W.Word.word d r)) (IfSome_then c.find_key.result c.find_key.ensures.walked (λ i there. there.1))

@@ -1,7 +1,7 @@
 use Rattle.std.proofs.Common.{refl, rules}
 use Rattle.rkyv_index.specs.Index.{IsPairOf}
 use Rattle.rkyv_index.specs.Lookups.{full_part}
-use Rattle.rkyv_index.proofs.Told.{by_as}
+use Rattle.rkyv_index.proofs.FromIndex.{by_as}
 use Rattle.rkyv_index.proofs.map.ArchivedIndexMap.get_full_with.Goals as goal
 
 pub returns-in-Some : goal.returns-in-Some

@@ -3,7 +3,7 @@ use Rattle.rkyv_index.specs.SealedIndex.{SealsValue}
 use Rattle.rkyv_index.proofs.map.ArchivedIndexMap.get_seal.Goals as goal
 
 pub returns-clause-answer : goal.returns-clause-answer
-returns-clause-answer g c = subst (SealsValue g.W.Word.word g.K.Shaped.shape g.V.Shaped.shape c.args.this c.value_seal_of.result) c.find_key_in-place.ensures.answer c.value_seal_of.ensures.at
+returns-clause-answer g c = subst (SealsValue g.W.Word.word g.K.HasSpec.spec g.V.HasSpec.spec c.args.this c.value_seal_of.result) c.find_key_in-place.ensures.answer c.value_seal_of.ensures.at
 
 pub returns-clause-first : goal.returns-clause-first
-returns-clause-first g c homes written = subst (SealsValue g.W.Word.word g.K.Shaped.shape g.V.Shaped.shape c.args.this c.value_seal_of.result) (c.find_key_in-place.ensures.first homes written) c.value_seal_of.ensures.at
+returns-clause-first g c homes written = subst (SealsValue g.W.Word.word g.K.HasSpec.spec g.V.HasSpec.spec c.args.this c.value_seal_of.result) (c.find_key_in-place.ensures.first homes written) c.value_seal_of.ensures.at

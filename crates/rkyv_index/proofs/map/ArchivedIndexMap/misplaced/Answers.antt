@@ -1,6 +1,6 @@
 use Rattle.std.proofs.Common.{subst, ◌≡◌, ◌+◌, ◌-◌, ◌<◌, ◌≤◌, ◌∙◌, ap, arith, sym, true, false, Bool, List, ℕ, filter, length}
 use Rattle.std.specs.List.{range_with_len}
-use Rattle.rkyv_index.specs.Equality.{TellsRepeated, is_misplaced, is_repeated}
+use Rattle.rkyv_index.specs.Equality.{TellsRepeated, is_misplaced, is_wrapped}
 use Rattle.rkyv_index.specs.Index.{hash_at, index_len, index_of}
 use Rattle.rkyv_index.specs.declared.map.ArchivedIndexMap.{ArchivedIndexMap}
 use Rattle.rkyv_index.proofs.Checking.{all_left, filter_skip, filter_step, none_left}
@@ -28,7 +28,7 @@ loop-place-init g c =
     let n : ℕ = index_len c.args.self in
     let key_hash = hash_at g.H.KeyHasher.hasher g.K.KeyElement.key_calls in
     let e = left_first (is_misplaced m key_hash g.K.ElementEq.same) n in
-    let f = left_first (is_repeated m key_hash g.K.ElementEq.same) n in
+    let f = left_first (is_wrapped m key_hash g.K.ElementEq.same) n in
     record { few = omega arith; told = omega (arith, e); repeated = λ homes written. omega (arith, f) }
 
 pub loop-place-preserved : goal.loop-place-preserved
@@ -39,7 +39,7 @@ loop-place-preserved g c =
     let key_hash = hash_at g.H.KeyHasher.hasher g.K.KeyElement.key_calls in
     let same = g.K.ElementEq.same in
     let P : ℕ → Bool = is_misplaced m key_hash same in
-    let R : ℕ → Bool = is_repeated m key_hash same in
+    let R : ℕ → Bool = is_wrapped m key_hash same in
     let i : ℕ = c.loop-place.place in
     let end : c.len-place-end.result ≡ n = c.len-place-end.ensures in
     let test = c.loop-place-test.true in

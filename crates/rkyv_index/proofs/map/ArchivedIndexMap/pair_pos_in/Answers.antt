@@ -1,11 +1,12 @@
 use Rattle.std.proofs.Common.{◌≡◌, ◌<◌, ◌∙◌, ap, refl, subst, sym, List, ℕ}
-use Rattle.rkyv_base.specs.Entry.{entry_element, entry_shape}
-use Rattle.rkyv_base.specs.Shape.{Viewed}
+use Rattle.rkyv_base.specs.Entry.{entry_spec}
+use Rattle.rkyv_base.specs.Lemmas.Entry.{entry_element}
+use Rattle.rkyv_base.specs.ElementSpec.{Viewable}
 use Rattle.rkyv_table.specs.Table.Header.{len_at}
 use Rattle.rkyv_index.specs.Index.{index_len, key_pos}
 use Rattle.rkyv_index.specs.SealedIndex.{IsPairPos}
 use Rattle.rkyv_index.specs.ValueWrites.{pair_at}
-use Rattle.rkyv_index.proofs.Held.{entry_viewed}
+use Rattle.rkyv_index.proofs.Held.{entry_viewable}
 use Rattle.rkyv_table.proofs.Moved.{moved}
 use Rattle.rkyv_index.proofs.SealedIndex.{as_read}
 use Rattle.rkyv_index.proofs.ValueWrites.{pair_place}
@@ -19,18 +20,18 @@ entry-requires-clause-below g c =
 pub returns-clause-at : goal.returns-clause-at
 returns-clause-at g c =
     let w = g.W.Word.word in
-    let k = g.K.Shaped.shape in
-    let v = g.V.Shaped.shape in
+    let k = g.K.HasSpec.spec in
+    let v = g.V.HasSpec.spec in
     let there : (b : List ℕ) → ℕ → ℕ = λ b p. pair_at w k v b p c.args.place in
     let is = c.pos.ensures ∙ c.entry.ensures.at.1 ∙ ap (λ m. key_pos m c.args.place) c.entries.ensures.map
     ∙ as_read c.read.result _ _ c.read.ensures.bytes c.read.ensures.pos (λ d r. key_pos c.read.result c.args.place ≡ there d r) refl in
     subst (IsPairPos w k v _ _ c.args.place) (sym is)
-    (pair_place w g.met.W.Width.layout.kind k v g.K.Shaped.laws g.V.Shaped.laws _ _ c.requires.map c.args.place c.requires.below)
+    (pair_place w g.met.W.Width.layout.kind k v g.K.HasSpec.laws g.V.HasSpec.laws _ _ c.requires.map c.args.place c.requires.below)
 
 pub returns-clause-entry : goal.returns-clause-entry
 returns-clause-entry g c =
-    let k = g.K.Shaped.shape in
-    let v = g.V.Shaped.shape in
+    let k = g.K.HasSpec.spec in
+    let v = g.V.HasSpec.spec in
     let at = returns-clause-at g c in
-    subst (Viewed (entry_shape k v) _) (sym at.place)
-    (entry_viewed g.W.Word.word g.met.W.Width.layout.kind (entry_shape k v) (entry_element k v g.K.Shaped.laws g.V.Shaped.laws) _ _ c.requires.map c.args.place c.requires.below)
+    subst (Viewable (entry_spec k v) _) (sym at.place)
+    (entry_viewable g.W.Word.word g.met.W.Width.layout.kind (entry_spec k v) (entry_element k v g.K.HasSpec.laws g.V.HasSpec.laws) _ _ c.requires.map c.args.place c.requires.below)

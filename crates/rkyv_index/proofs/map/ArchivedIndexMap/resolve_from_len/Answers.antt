@@ -3,10 +3,10 @@ use Rattle.std.specs.Prelude.{FitsSigned}
 use Rattle.std.specs.Int.{byte_len, cast_unsigned, to_le_bytes, w64}
 use Rattle.std.proofs.lemmas.Int.{to_z-of_z}
 use Rattle.std.proofs.lemmas.Result.{err_from_is_err_and}
-use Rattle.rkyv_table.specs.Table.Header.{HeaderFar, IsHeader}
+use Rattle.rkyv_table.specs.Table.Header.{HeaderOverflows, IsHeader}
 use Rattle.rkyv_table.specs.Controls.Numbers.{capacity}
 use Rattle.rkyv_index.specs.IndexHeader.{IndexResolver}
-use Rattle.rkyv_index.proofs.Headers.{far_of, header_of}
+use Rattle.rkyv_index.proofs.Headers.{overflow_of, header_of}
 use Rattle.rkyv_index.proofs.map.ArchivedIndexMap.resolve_from_len.Goals as goal
 
 pub returns : goal.returns
@@ -27,6 +27,6 @@ pub returns-in_err-resolve_from_len : goal.returns-in_err-resolve_from_len
 returns-in_err-resolve_from_len g c =
     let p = err_from_is_err_and c.from_residual.result c.from_residual.ensures.1 in
     rw p.1 (
-      far_of g.W.Word.word _ c.args.len c.args.load_factor c.args.pos c.requires.same (inl (subst (λ (r : IndexResolver). HeaderFar g.W.Word.word c.args.len r.table.pos c.args.pos) c.resolver.view_is c.in_err-resolve_from_len.ensures.0)),
+      overflow_of g.W.Word.word _ c.args.len c.args.load_factor c.args.pos c.requires.same (inl (subst (λ (r : IndexResolver). HeaderOverflows g.W.Word.word c.args.len r.table.pos c.args.pos) c.resolver.view_is c.in_err-resolve_from_len.ensures.0)),
       ap (λ (y : List ℕ). y ++ c.split_at_mut-table.result.1.now) c.in_err-resolve_from_len.ensures.1 ∙ sym c.split_at_mut-table.ensures.value,
     )

@@ -1,9 +1,9 @@
 use Rattle.std.proofs.Common.{◌≡◌, List, length, ap, sym, subst, ◌∙◌}
 use Rattle.std.specs.Iterator.{Drains}
 use Rattle.rkyv_base.specs.declared.adapter.EntryAdapter.{EntryAdapter}
-use Rattle.rkyv_table.specs.Table.Counting.{GaveOther}
+use Rattle.rkyv_table.specs.Table.Counting.{YieldsOtherCount}
 use Rattle.rkyv_table.specs.Table.Serializing.{HasCapacity}
-use Rattle.rkyv_index.specs.Handing.{made_of}
+use Rattle.rkyv_index.specs.Writing.{made_of}
 use Rattle.rkyv_index.specs.IndexFormat.{hash_of}
 use Rattle.rkyv_index.proofs.SeenRow.{answers_items}
 use Rattle.rkyv_index.proofs.map.ArchivedIndexMap.serialize_from_iter.Goals as goal
@@ -16,8 +16,8 @@ returns g c =
     let hash = hash_of g.H.KeyHasher.hasher g.A.KeyHash.calls in
     let entries : List (EntryAdapter g.row.BK.Denot g.row.BV.Denot g.row.A.Denot g.row.B.Denot) = c.as_slice.result.now in
     let there = sym c.as_slice.ensures.value in
-    let came : Drains steps c.args.iter (made_of entries) = subst (λ (xs : List (EntryAdapter g.row.BK.Denot g.row.BV.Denot g.row.A.Denot g.row.B.Denot)). Drains steps c.args.iter (made_of xs)) there c.in-Ok-take_entries.ensures.0 in
+    let exactly : Drains steps c.args.iter (made_of entries) = subst (λ (xs : List (EntryAdapter g.row.BK.Denot g.row.BV.Denot g.row.A.Denot g.row.B.Denot)). Drains steps c.args.iter (made_of xs)) there c.in-Ok-take_entries.ensures.0 in
     let count : length entries ≡ c.args.len = ap length c.as_slice.ensures.value ∙ c.in-Ok-take_entries.ensures.1 in
-    answers_items g.row.S-Fault.Denot g.BK.Lend.lent g.BV.Lend.lent g.W.Word.word g.W.Place.Shaped.shape g.W.Place.Scalar.encoding g.K.Shaped.shape g.V.Shaped.shape g.A.Archive.format g.B.Archive.format hash c.args.load_factor
-    (Drains steps c.args.iter) (GaveOther steps c.args.len c.args.iter) c.args.len g.W.Width.MAX_CAPACITY g.W.Width.LIMIT has entries came count
+    answers_items g.row.S-Fault.Denot g.BK.Lend.lent g.BV.Lend.lent g.W.Word.word g.W.Place.HasSpec.spec g.W.Place.Scalar.encoding g.K.HasSpec.spec g.V.HasSpec.spec g.A.Archive.format g.B.Archive.format hash c.args.load_factor
+    (Drains steps c.args.iter) (YieldsOtherCount steps c.args.len c.args.iter) c.args.len g.W.Width.MAX_CAPACITY g.W.Width.LIMIT has entries exactly count
     (g.S.Writer.output c.args.serializer.now) (g.S.Writer.output c.write_index.new.serializer) c.write_index.result c.write_index.ensures

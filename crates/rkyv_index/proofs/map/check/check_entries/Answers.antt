@@ -7,12 +7,12 @@ use Rattle.rkyv_index.proofs.map.check.check_entries.Goals as goal
 
 pub check-requires-clause-aligned : goal.check-requires-clause-aligned
 check-requires-clause-aligned g c =
-    let s = g.T.Shaped.shape in
-    rw c.loop-i.invariant.at (entry_aligned s g.T.Shaped.laws c.args.begin c.loop-i.i c.requires.aligned)
+    let s = g.T.HasSpec.spec in
+    rw c.loop-i.invariant.at (entry_aligned s g.T.HasSpec.laws c.args.begin c.loop-i.i c.requires.aligned)
 
 pub returns-in_err-rest-clause-fails : goal.returns-in_err-rest-clause-fails
 returns-in_err-rest-clause-fails g c =
-    let s = g.T.Shaped.shape in
+    let s = g.T.HasSpec.spec in
     let b : List ℕ = c.args.bytes.now in
     let inv = c.loop-i.invariant in
     let here = subst (λ q. s.fails b q c.loop-i.low c.args.begin c.in_err-rest.field-0.0) inv.at c.in_err-rest.ensures in
@@ -22,13 +22,13 @@ returns-in_err-rest-clause-fails g c =
 
 pub loop-i-preserved : goal.loop-i-preserved
 loop-i-preserved g c =
-    let s = g.T.Shaped.shape in
+    let s = g.T.HasSpec.spec in
     let b : List ℕ = c.args.bytes.now in
     let inv = c.loop-i.invariant in
     let step = sym (places_step c.loop-i.i c.args.len c.loop-i-test.true) in
     let at = entry_at s.size c.args.begin in
     let here = subst (λ q. s.holds b q c.loop-i.low c.args.begin c.in_ok-rest.rest.lo) inv.at c.in_ok-rest.ensures.1 in
-    let k = g.T.Shaped.laws.between b (at c.loop-i.i) c.loop-i.low c.args.begin c.in_ok-rest.rest.lo inv.ordered here in
+    let k = g.T.HasSpec.laws.rest_in_range b (at c.loop-i.i) c.loop-i.low c.args.begin c.in_ok-rest.rest.lo inv.ordered here in
     record {
       at = ap (λ q. q + c.size.result) inv.at ∙ ap (λ n. at c.loop-i.i + n) c.size.ensures ∙ entry_next s.size c.args.begin c.loop-i.i;
       ordered = k.1;

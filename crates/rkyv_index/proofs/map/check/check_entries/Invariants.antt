@@ -8,7 +8,7 @@ use Rattle.rkyv_index.proofs.map.check.check_entries.Given as goal
 -- `at` is the position of the next entry. The result for the remaining entries is that for all
 abbrev pub invariant-loop-i : goal.invariant-loop-i
 invariant-loop-i g l =
-    let s = g.T.Shaped.shape in
+    let s = g.T.HasSpec.spec in
     let is = range_with_len l.i (l.len - l.i) in
     record {
       at : l.at ≡ entry_at s.size l.begin l.i;

@@ -4,34 +4,34 @@ use Rattle.std.specs.Int.{byte_len}
 use Rattle.std.specs.List.{All}
 use Rattle.std.proofs.lemmas.List.Elements.{All-cons, All-head, All-rest}
 use Rattle.rkyv_base.specs.Bytes.{number_at}
-use Rattle.rkyv_base.specs.Shape.{Viewed}
-use Rattle.rkyv_table.specs.Table.Layout.{table_shape}
+use Rattle.rkyv_base.specs.ElementSpec.{Viewable}
+use Rattle.rkyv_table.specs.Table.Layout.{table_spec}
 use Rattle.rkyv_table.specs.Table.Header.{len_at}
 use Rattle.rkyv_table.specs.Table.Positions.{item_positions}
-use Rattle.rkyv_table.specs.Table.RawItems.{AllStand, ItemsLeft}
+use Rattle.rkyv_table.specs.Table.RawItems.{AllValid, ItemsLeft}
 use Rattle.rkyv_index.specs.IndexLayout.{FirstNotBelow, PlacesBelow}
-use Rattle.rkyv_index.specs.Lemmas.PlaceShapes.{places_viewed}
+use Rattle.rkyv_index.specs.Lemmas.PlaceSpecs.{places_viewable}
 use Rattle.rkyv_index.proofs.Checking.{view_there}
 use Rattle.rkyv_index.proofs.map.check.check_places.Goals as goal
 
 pub new-requires : goal.new-requires
-new-requires g c = places_viewed g.W.Word.word g.W.Place.Shaped.shape g.W.Place.Scalar.encoding g.met.W.Place.Scalar.laws g.met.W.Width.place c.args.bytes.now c.args.pos c.requires
+new-requires g c = places_viewable g.W.Word.word g.W.Place.HasSpec.spec g.W.Place.Scalar.encoding g.met.W.Place.Scalar.laws g.met.W.Width.place c.args.bytes.now c.args.pos c.requires
 
 pub of-table-requires : goal.of-table-requires
 of-table-requires g c =
-    let s = table_shape g.W.Word.word g.W.Place.Shaped.shape in
+    let s = table_spec g.W.Word.word g.W.Place.HasSpec.spec in
     view_there s c.new.result c.args.bytes c.args.pos c.new.ensures
-    (places_viewed g.W.Word.word g.W.Place.Shaped.shape g.W.Place.Scalar.encoding g.met.W.Place.Scalar.laws g.met.W.Width.place c.args.bytes.now c.args.pos c.requires)
+    (places_viewable g.W.Word.word g.W.Place.HasSpec.spec g.W.Place.Scalar.encoding g.met.W.Place.Scalar.laws g.met.W.Width.place c.args.bytes.now c.args.pos c.requires)
 
 pub read_count-place-requires : goal.read_count-place-requires
 read_count-place-requires g c =
-    let s = g.W.Place.Shaped.shape in
+    let s = g.W.Place.HasSpec.spec in
     let before = c.loop-at.at-iterator in
     let after = c.next.new.self in
     let inv = c.loop-at.invariant in
     let e = c.in-Some.ensures.steps in
-    let here : Viewed s before.archive.now c.in-Some.at =
-    All-head (Viewed s before.archive.now) c.in-Some.at after.places (subst (All (Viewed s before.archive.now)) e.takes inv.stand) in
+    let here : Viewable s before.archive.now c.in-Some.at =
+    All-head (Viewable s before.archive.now) c.in-Some.at after.positions (subst (All (Viewable s before.archive.now)) e.takes inv.all_valid) in
     let size = g.met.W.Place.Scalar.laws.size ∙ ap byte_len g.met.W.Width.place.word in
     subst (λ n. c.in-Some.at + n ≤ length c.args.bytes.now) size
     (subst (λ (b : List ℕ). c.in-Some.at + s.size ≤ length b) inv.archive here.inside)
@@ -39,7 +39,7 @@ read_count-place-requires g c =
 pub loop-at-preserved : goal.loop-at-preserved
 loop-at-preserved g c =
     let w = g.W.Word.word in
-    let s = g.W.Place.Shaped.shape in
+    let s = g.W.Place.HasSpec.spec in
     let b : List ℕ = c.args.bytes.now in
     let n : ℕ = c.len-len.result in
     let at : ℕ = c.in-Some.at in
@@ -49,11 +49,11 @@ loop-at-preserved g c =
     let e = c.in-Some.ensures.steps in
     let less : number_at w b at < n = subst (λ x. x < n) c.read_count-place.ensures c.if-place-len.false in
     record {
-      stand = All-rest (Viewed s after.archive.now) at after.places before.places e.takes
-          (subst (λ (a : Bor (List ℕ)). All (Viewed s a.now) before.places) (sym e.archive) inv.stand);
+      all_valid = All-rest (Viewable s after.archive.now) at after.positions before.positions e.takes
+          (subst (λ (a : Bor (List ℕ)). All (Viewable s a.now) before.positions) (sym e.archive) inv.all_valid);
       archive = ap (λ (a : Bor (List ℕ)). a.now) e.archive ∙ inv.archive;
       len = inv.len;
-      below = λ h. inv.below (subst (PlacesBelow w b n) (sym e.takes) (All-cons (λ q. number_at w b q < n) at after.places less h));
+      below = λ h. inv.below (subst (PlacesBelow w b n) (sym e.takes) (All-cons (λ q. number_at w b q < n) at after.positions less h));
       failed = λ x f. inv.failed x (subst (λ (qs : List ℕ). FirstNotBelow w b n qs x) (sym e.takes) (inr (less, f)));
     }
 
@@ -61,7 +61,7 @@ loop-at-preserved g c =
 pub loop-at-init : goal.loop-at-init
 loop-at-init g c =
     let w = g.W.Word.word in
-    let s = g.W.Place.Shaped.shape in
+    let s = g.W.Place.HasSpec.spec in
     let b : List ℕ = c.args.bytes.now in
     let n : ℕ = c.len-len.result in
     let t = c.of-table.result in
@@ -70,11 +70,11 @@ loop-at-init g c =
     let archive : t.view.archive ≡ c.args.bytes = ap (λ v. v.archive) c.of-table.ensures.view ∙ c.new.ensures.0 in
     let pos : t.view.pos ≡ c.args.pos = ap (λ v. v.pos) c.of-table.ensures.view ∙ c.new.ensures.1 in
     let size : s.size ≡ byte_len w = g.met.W.Place.Scalar.laws.size ∙ ap byte_len g.met.W.Width.place.word in
-    let places : c.into_iter-at-iterator.result.places ≡ item_positions w (byte_len w) b c.args.pos =
-    ap (λ (l : ItemsLeft). l.places) into ∙ raw.places ∙ ap (λ k. item_positions w k t.view.archive.now t.view.pos) size
+    let places : c.into_iter-at-iterator.result.positions ≡ item_positions w (byte_len w) b c.args.pos =
+    ap (λ (l : ItemsLeft). l.positions) into ∙ raw.positions ∙ ap (λ k. item_positions w k t.view.archive.now t.view.pos) size
     ∙ ap (λ (a : Bor (List ℕ)). item_positions w (byte_len w) a.now t.view.pos) archive ∙ ap (item_positions w (byte_len w) b) pos in
     record {
-      stand = subst (AllStand s) (sym into) raw.stand;
+      all_valid = subst (AllValid s) (sym into) raw.all_valid;
       archive = ap (λ (l : ItemsLeft). l.archive.now) into ∙ ap (λ (a : Bor (List ℕ)). a.now) (raw.archive ∙ archive);
       len = c.len-len.ensures ∙ ap (λ (a : Bor (List ℕ)). len_at w a.now t.view.pos) archive ∙ ap (len_at w b) pos;
       below = λ h. subst (PlacesBelow w b n) places h;

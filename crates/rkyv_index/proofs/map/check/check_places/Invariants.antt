@@ -2,7 +2,7 @@ use Rattle.std.proofs.Common.{◌≡◌}
 use Rattle.std.specs.Int.{byte_len}
 use Rattle.rkyv_base.specs.declared.errors.VerifyError.{VerifyError}
 use Rattle.rkyv_table.specs.Table.Header.{len_at}
-use Rattle.rkyv_table.specs.Table.RawItems.{AllStand}
+use Rattle.rkyv_table.specs.Table.RawItems.{AllValid}
 use Rattle.rkyv_table.specs.Table.Positions.{item_positions}
 use Rattle.rkyv_index.specs.IndexLayout.{FirstNotBelow, PlacesBelow}
 use Rattle.rkyv_index.proofs.map.check.check_places.Given as goal
@@ -13,9 +13,9 @@ invariant-loop-at g l =
     let w = g.W.Word.word in
     let all = item_positions w (byte_len w) l.bytes l.pos in
     record {
-      stand : AllStand g.W.Place.Shaped.shape l.at-iterator;
+      all_valid : AllValid g.W.Place.HasSpec.spec l.at-iterator;
       archive : l.at-iterator.archive.now ≡ l.bytes;
       len : l.len ≡ len_at w l.bytes l.pos;
-      below : PlacesBelow w l.bytes l.len l.at-iterator.places → PlacesBelow w l.bytes l.len all;
-      failed : (e : VerifyError) → FirstNotBelow w l.bytes l.len l.at-iterator.places e → FirstNotBelow w l.bytes l.len all e;
+      below : PlacesBelow w l.bytes l.len l.at-iterator.positions → PlacesBelow w l.bytes l.len all;
+      failed : (e : VerifyError) → FirstNotBelow w l.bytes l.len l.at-iterator.positions e → FirstNotBelow w l.bytes l.len all e;
     }

@@ -1,27 +1,28 @@
 use Rattle.std.proofs.Common.{◌≡◌, ◌∙◌, ap}
-use Rattle.rkyv_base.specs.Entry.{entry_element, entry_shape}
+use Rattle.rkyv_base.specs.Entry.{entry_spec}
+use Rattle.rkyv_base.specs.Lemmas.Entry.{entry_element}
 use Rattle.rkyv_base.specs.View.{IsAt}
 use Rattle.rkyv_index.specs.IndexLayout.{entry_at, pair_pos}
 use Rattle.rkyv_index.proofs.Checking.{view_there}
-use Rattle.rkyv_index.proofs.Held.{entry_viewed}
+use Rattle.rkyv_index.proofs.Held.{entry_viewable}
 use Rattle.rkyv_index.proofs.map.entries.key_in.Goals as goal
 
 pub at-requires : goal.at-requires
 at-requires g c =
     let m = c.args.view in
-    let k = g.K.Shaped.shape in
-    let v = g.V.Shaped.shape in
-    let there = entry_viewed g.W.Word.word g.met.W.Width.layout.kind (entry_shape k v) (entry_element k v g.K.Shaped.laws g.V.Shaped.laws) m.archive.now m.pos c.requires.map c.args.place c.requires.below in
+    let k = g.K.HasSpec.spec in
+    let v = g.V.HasSpec.spec in
+    let there = entry_viewable g.W.Word.word g.met.W.Width.layout.kind (entry_spec k v) (entry_element k v g.K.HasSpec.laws g.V.HasSpec.laws) m.archive.now m.pos c.requires.map c.args.place c.requires.below in
     rw (c.entry_pos-at.ensures, c.size.ensures, c.requires.begin) there
 
 pub key-requires : goal.key-requires
 key-requires g c =
     let m = c.args.view in
     let w = g.W.Word.word in
-    let k = g.K.Shaped.shape in
-    let v = g.V.Shaped.shape in
-    let s = entry_shape k v in
-    let there = entry_viewed w g.met.W.Width.layout.kind s (entry_element k v g.K.Shaped.laws g.V.Shaped.laws) m.archive.now m.pos c.requires.map c.args.place c.requires.below in
+    let k = g.K.HasSpec.spec in
+    let v = g.V.HasSpec.spec in
+    let s = entry_spec k v in
+    let there = entry_viewable w g.met.W.Width.layout.kind s (entry_element k v g.K.HasSpec.laws g.V.HasSpec.laws) m.archive.now m.pos c.requires.map c.args.place c.requires.below in
     let at : c.entry_pos-at.result ≡ pair_pos w s.size m.archive.now m.pos c.args.place =
     c.entry_pos-at.ensures ∙ ap (λ n. entry_at n c.args.begin c.args.place) c.size.ensures ∙ ap (λ q. entry_at s.size q c.args.place) c.requires.begin in
     let is : IsAt c.at.result m.archive (pair_pos w s.size m.archive.now m.pos c.args.place) = (c.at.ensures.0, c.at.ensures.1 ∙ at) in
@@ -30,7 +31,7 @@ key-requires g c =
 pub returns : goal.returns
 returns g c =
     let m = c.args.view in
-    let s = entry_shape g.K.Shaped.shape g.V.Shaped.shape in
+    let s = entry_spec g.K.HasSpec.spec g.V.HasSpec.spec in
     let at : c.entry_pos-at.result ≡ pair_pos g.W.Word.word s.size m.archive.now m.pos c.args.place =
     c.entry_pos-at.ensures ∙ ap (λ n. entry_at n c.args.begin c.args.place) c.size.ensures ∙ ap (λ q. entry_at s.size q c.args.place) c.requires.begin in
-    record { below = c.requires.below; at = (c.key.ensures.at.0 ∙ c.at.ensures.0, c.key.ensures.at.1 ∙ c.at.ensures.1 ∙ at); viewed = c.key.ensures.viewed }
+    record { below = c.requires.below; at = (c.key.ensures.at.0 ∙ c.at.ensures.0, c.key.ensures.at.1 ∙ c.at.ensures.1 ∙ at); viewable = c.key.ensures.viewable }

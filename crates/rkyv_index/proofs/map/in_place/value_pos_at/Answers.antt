@@ -20,8 +20,8 @@ returns-clause-at g c =
     let bytes = ap (λ v. v.archive.now) c.of-map.ensures.view ∙ ap (λ a. a.now) c.new.ensures.0 in
     let place = ap (λ v. v.pos) c.of-map.ensures.view ∙ c.new.ensures.1 in
     let w = g.W.Word.word in
-    let k = g.K.Shaped.shape in
-    let v = g.V.Shaped.shape in
+    let k = g.K.HasSpec.spec in
+    let v = g.V.HasSpec.spec in
     let i = c.args.place in
     let entry = c.entry.ensures.at.1 ∙ ap (λ m. key_pos m i) c.entries.ensures.map
     ∙ as_read c.of-map.result _ _ bytes place (λ d r. key_pos c.of-map.result i ≡ pair_at w k v d r i) refl in
@@ -29,6 +29,6 @@ returns-clause-at g c =
 
 pub returns-clause-inside : goal.returns-clause-inside
 returns-clause-inside g c =
-    let v = g.V.Shaped.shape in
-    let pair = pair_place g.W.Word.word g.met.W.Width.layout.kind g.K.Shaped.shape v g.K.Shaped.laws g.V.Shaped.laws c.args.archive.now c.args.root c.requires.map c.args.place c.requires.below in
+    let v = g.V.HasSpec.spec in
+    let pair = pair_place g.W.Word.word g.met.W.Width.layout.kind g.K.HasSpec.spec v g.K.HasSpec.laws g.V.HasSpec.laws c.args.archive.now c.args.root c.requires.map c.args.place c.requires.below in
     subst (λ n. n + v.size ≤ length c.args.archive.now) (sym (returns-clause-at g c)) pair.value.inside

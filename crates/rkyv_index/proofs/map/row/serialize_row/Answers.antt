@@ -2,7 +2,7 @@ use Rattle.std.proofs.Common.{arith, ◌++◌, refl}
 use Rattle.std.proofs.lemmas.List.{length-take}
 use Rattle.std.proofs.lemmas.Option.{slice_get_read}
 use Rattle.std.proofs.lemmas.Result.{err_from_is_err_and}
-use Rattle.rkyv_base.proofs.GivingUp.{appends_after, grows, within_after}
+use Rattle.rkyv_base.proofs.WritingSteps.{appends_after, grows, within_after}
 use Rattle.rkyv_index.proofs.RowSteps.{parts_count, step_part, step_told}
 use Rattle.rkyv_index.proofs.map.row.serialize_row.Goals as goal
 

@@ -6,5 +6,5 @@ use Rattle.rkyv_index.proofs.map.row.write_row.Given as goal
 abbrev pub invariant-loop-value : goal.invariant-loop-value
 invariant-loop-value g l = record {
   written : Written g.U.Archive.format g.W.Width.LIMIT l.values (into_iter_items l.initial.rest) (g.S.Writer.output l.initial.serializer) l.value-index (into_iter_items l.rest) (g.S.Writer.output l.serializer);
-  room : 0 < length l.values → length l.scratch ≡ g.U.Archived.Shaped.shape.size;
+  room : 0 < length l.values → length l.scratch ≡ g.U.Archived.HasSpec.spec.size;
 }

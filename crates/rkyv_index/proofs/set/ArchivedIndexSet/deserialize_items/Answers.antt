@@ -11,13 +11,13 @@ pub loop-place-preserved : goal.loop-place-preserved
 loop-place-preserved g c =
     let s = c.args.self in
     let read : List g.row.A.Denot = c.loop-place.list.items in
-    let Stands : ℕ → g.row.A.Denot → Type 0 = λ i item.
-    g.K.StandsFor.stands (set_bytes s) (key_pos (keys_of s) i) item in
+    let Related : ℕ → g.row.A.Denot → Type 0 = λ i item.
+    g.K.Represents.represents (set_bytes s) (key_pos (keys_of s) i) item in
     let items : c.push.new.self.items ≡ read ++ c.in_ok-item.item ∷ [] = c.in-Ok.ensures.items in
     let inv = c.loop-place.invariant in
-    let here = subst (λ n. Stands n c.in_ok-item.item) (sym inv.0) c.in_ok-item.ensures in (
+    let here = subst (λ n. Related n c.in_ok-item.item) (sym inv.0) c.in_ok-item.ensures in (
       ap length items ∙ length_push read c.in_ok-item.item ∙ ap (λ n. n + 1) inv.0,
-      λ i item e. pushed_too Stands read c.in_ok-item.item inv.1 here i item (ap (λ (xs : List g.row.A.Denot). slice_get xs i) (sym items) ∙ e),
+      λ i item e. pushed_too Related read c.in_ok-item.item inv.1 here i item (ap (λ (xs : List g.row.A.Denot). slice_get xs i) (sym items) ∙ e),
     )
 
 pub returns-in_err-item : goal.returns-in_err-item

@@ -6,4 +6,4 @@ use Rattle.rkyv_index.proofs.set.ArchivedIndexSet.deserialize_items.Given as goa
 abbrev pub invariant-loop-place : goal.invariant-loop-place
 invariant-loop-place g l =
     (length l.list.items ≡ l.place)
-    × AreItemsRead g.K.StandsFor.stands l.self l.list.items
+    × AreItemsRead g.K.Represents.represents l.self l.list.items

@@ -1,4 +1,4 @@
-use Rattle.rkyv_index.proofs.Told.{key_of_full}
+use Rattle.rkyv_index.proofs.FromIndex.{key_of_full}
 use Rattle.rkyv_index.proofs.set.ArchivedIndexSet.get_full.Goals as goal
 
 pub returns-in-Some : goal.returns-in-Some

@@ -1,7 +1,7 @@
 use Rattle.std.proofs.Common.{arith, ◌≡◌, ℕ, ◌+◌, ◌/◌, ◌<◌, sym, ap, ◌∙◌, Bool, List, Option, length, drop, length-take, length-drop, []}
 use Rattle.rkyv_table.specs.Controls.Shown.{IsFullBucket}
 use Rattle.rkyv_table.specs.Controls.Finding.{AnswersAs, ReadsWithin, end, found}
-use Rattle.rkyv_table.specs.Controls.Seen.{IsShown}
+use Rattle.rkyv_table.specs.Controls.StrideOutcome.{IsShown}
 use Rattle.rkyv_table.proofs.Coverage.{count_strides, stride_below}
 use Rattle.rkyv_table.proofs.FirstFree.{member_front, member_rest}
 use Rattle.rkyv_table.specs.Controls.Numbers.{probe_capacity, tag}
@@ -119,11 +119,11 @@ returns-in-Accepted g c =
       counted = λ accept answers. counted g at accept answers (ends accept answers).1;
     }
 
-pub returns-in-Empty : goal.returns-in-Empty
-returns-in-Empty g c =
-    let at = (goal.at.returns-in-Empty g c).After-cmp-1 in
+pub returns-in-HasEmpty : goal.returns-in-HasEmpty
+returns-in-HasEmpty g c =
+    let at = (goal.at.returns-in-HasEmpty g c).After-cmp-1 in
     let ends = λ (accept : ℕ → Bool) (answers : AnswersAs (goal.F-post g c.args.cmp) (IsFullBucket c.args.cap c.args.controls.now) accept).
-    (let s = rw c.tag-tag.ensures at (c.in-Empty.ensures.seen c.args.controls.now c.stride.ensures.value accept (asked g at accept answers)) in
+    (let s = rw c.tag-tag.ensures at (c.in-HasEmpty.ensures.seen c.args.controls.now c.stride.ensures.value accept (asked g at accept answers)) in
     ends_by_empty g.G.GroupKind.kind c.args.controls.now c.args.cap (tag c.args.hash) accept c.in-Some.pos c.next.new.self c.loop-pos.pos-iterator c.in-Some.ensures.steps s.0 s.1) in
     record {
       walked = tt;
@@ -139,7 +139,7 @@ loop-pos-preserved g c =
     let more = c.in-Some.ensures.steps in
     let d = c.stride.ensures.counted in
     let on = λ (accept : ℕ → Bool) (answers : AnswersAs (goal.F-post g c.args.cmp) (IsFullBucket c.args.cap c.args.controls.now) accept).
-    (let s = rw c.tag-tag.ensures at (c.in-Full.ensures.seen c.args.controls.now c.stride.ensures.value accept (asked g at accept answers)) in
+    (let s = rw c.tag-tag.ensures at (c.in-Continue.ensures.seen c.args.controls.now c.stride.ensures.value accept (asked g at accept answers)) in
     goes_on g.G.GroupKind.kind c.args.controls.now c.args.cap (tag c.args.hash) accept c.in-Some.pos c.next.new.self c.loop-pos.pos-iterator more s.0 s.1) in
     record {
       members = λ p m. c.loop-pos.invariant.members p (member_rest c.in-Some.pos p c.next.new.self c.loop-pos.pos-iterator more m);

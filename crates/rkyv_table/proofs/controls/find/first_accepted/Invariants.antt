@@ -1,6 +1,6 @@
 use Rattle.std.proofs.Common.{◌≡◌, ℕ, ◌+◌, ◌%◌, Bool, map, length, drop}
 use Rattle.std.specs.List.{find}
-use Rattle.rkyv_table.specs.Controls.Seen.{IsMarked}
+use Rattle.rkyv_table.specs.Controls.StrideOutcome.{IsMarked}
 use Rattle.rkyv_table.specs.Controls.Finding.{AnswersAs}
 use Rattle.rkyv_table.proofs.controls.find.first_accepted.Given as goal
 

@@ -5,7 +5,7 @@ use Rattle.rkyv_table.proofs.Groups.{candidates_in, empty_in, all_candidates, al
 use Rattle.rkyv_table.proofs.Search.{width_some}
 use Rattle.rkyv_table.proofs.WholeStride.{whole_found, whole_none, whole_shown}
 use Rattle.std.proofs.lemmas.Bool.{or_right}
-use Rattle.rkyv_table.specs.Controls.Seen.{IsMarked, IsShown}
+use Rattle.rkyv_table.specs.Controls.StrideOutcome.{IsMarked, IsShown}
 use Rattle.rkyv_table.proofs.Marks.{place_full, marked_shown}
 use Rattle.rkyv_table.proofs.controls.find.scan.Goals as goal
 use Rattle.rkyv_table.proofs.controls.find.scan.Goals.{After-match_byte, After-match_byte-in-loop-i, then-any_bit_set-2, else-any_bit_set-2}

@@ -1,5 +1,5 @@
-use Rattle.rkyv_table.proofs.HomeList.{homes_stand}
+use Rattle.rkyv_table.proofs.HomeList.{homes_represent}
 use Rattle.rkyv_table.proofs.controls.laws.homes_exist.Goals as goal
 
 pub returns : goal.returns
-returns c = homes_stand
+returns c = homes_represent

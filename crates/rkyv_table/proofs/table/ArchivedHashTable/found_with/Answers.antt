@@ -15,8 +15,8 @@ pub lend_seal-requires : goal.lend_seal-requires
 lend_seal-requires g c =
     let bytes = ap (λ v. v.archive.now) c.of-table.ensures.view ∙ ap (λ v. v.now) c.new.ensures.0 in
     let place = ap (λ v. v.pos) c.of-table.ensures.view ∙ c.new.ensures.1 in
-    let item = item_at_found c.args.archive.now c.args.pos c.of-table.result bytes place g.T.Shaped.laws c.requires.table c.in-Some.place c.in-Some.ensures.walked in
-    λ x same at. c.requires.writable x same (omega (arith, item.1.viewed.inside, at, ap length same))
+    let item = item_at_found c.args.archive.now c.args.pos c.of-table.result bytes place g.T.HasSpec.laws c.requires.table c.in-Some.item_pos c.in-Some.ensures.walked in
+    λ x same at. c.requires.writable x same (omega (arith, item.1.viewable.inside, at, ap length same))
 
 pub returns-in-Some : goal.returns-in-Some
 returns-in-Some g c =
@@ -24,9 +24,9 @@ returns-in-Some g c =
     let place = ap (λ v. v.pos) c.of-table.ensures.view ∙ c.new.ensures.1 in
     let e = c.in-Some.ensures in
     record {
-      found = Some c.in-Some.place;
-      looks = looks_up_some c.args.archive.now c.args.pos c.of-table.result bytes place _ generic_kind c.args.hash c.in-Some.place e.answer e.first e.accepted;
-      item = item_at_found c.args.archive.now c.args.pos c.of-table.result bytes place g.T.Shaped.laws c.requires.table c.in-Some.place e.walked;
+      found = Some c.in-Some.item_pos;
+      looks = looks_up_some c.args.archive.now c.args.pos c.of-table.result bytes place _ generic_kind c.args.hash c.in-Some.item_pos e.answer e.first e.accepted;
+      item = item_at_found c.args.archive.now c.args.pos c.of-table.result bytes place g.T.HasSpec.laws c.requires.table c.in-Some.item_pos e.walked;
       writes = (c.lend_seal.result, refl, c.lend_seal.ensures);
     }
 

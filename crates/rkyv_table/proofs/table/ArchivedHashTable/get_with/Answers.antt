@@ -1,5 +1,5 @@
-use Rattle.rkyv_table.proofs.FoundItems.{found_by_halves}
+use Rattle.rkyv_table.proofs.FoundItems.{found_by_paired}
 use Rattle.rkyv_table.proofs.table.ArchivedHashTable.get_with.Goals as goal
 
 pub returns : goal.returns
-returns g c = found_by_halves _ c.args.self c.args.hash c.get_by.result c.get_by.ensures
+returns g c = found_by_paired _ c.args.self c.args.hash c.get_by.result c.get_by.ensures

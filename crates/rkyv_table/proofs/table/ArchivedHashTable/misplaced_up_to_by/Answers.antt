@@ -11,12 +11,12 @@ use Rattle.rkyv_table.proofs.MisplacedIn.{Spending, TellsMisplaced, bucket_told,
 use Rattle.rkyv_table.proofs.RawWalks.{walked_all}
 use Rattle.rkyv_table.proofs.Walks.{walk_small}
 use Rattle.rkyv_table.proofs.table.ArchivedHashTable.misplaced_up_to_by.Goals as goal
-use Rattle.rkyv_table.proofs.table.ArchivedHashTable.misplaced_up_to_by.Goals.{After-is_elsewhere, After-own_lookup-answer, In-Some}
+use Rattle.rkyv_table.proofs.table.ArchivedHashTable.misplaced_up_to_by.Goals.{After-is_in_another_bucket, After-own_lookup-answer, In-Some}
 
 pub loop-bucket-init : goal.loop-bucket-init
 loop-bucket-init g c =
     let w = g.W.Word.word in
-    let s = g.T.Shaped.shape in
+    let s = g.T.HasSpec.spec in
     let b = table_bytes c.args.self in
     let p = table_pos c.args.self in
     let e : c.into_iter-bucket-iterator.result ≡ walk (table_controls w b p) (cap_at w b p) =
@@ -25,7 +25,7 @@ loop-bucket-init g c =
     let l = ap length e in
     let small = walk_small (table_controls w b p) (cap_at w b p) in
     record {
-      walked = subst (All (IsWalked w b p)) (sym e) (walked_all w s g.T.Shaped.laws b p);
+      walked = subst (All (IsWalked w b p)) (sym e) (walked_all w s g.T.HasSpec.laws b p);
       counted = omega arith;
       told = λ hash_of same hash_as same_as.
           zero-add _ ∙ ap (λ xs. length (filter (bucket_misplaced generic_kind c.args.self hash_of same) xs)) e;
@@ -54,10 +54,10 @@ module _ (g : _) (c : After-own_lookup-answer g) where
       c.loop-bucket.bucket-iterator c.next.new.self c.in-Some.ensures.steps c.item.result c.item.ensures c.hash_of-hash.ensures c.own_lookup-answer.ensures.counts c.loop-bucket.invariant.spent
 
 -- the lookup decides if the item is misplaced
-module _ (g : _) (c : After-is_elsewhere g) where
-  tells : TellsMisplaced generic_kind c.args.self (goal.H-post g c.args.hash_of) (goal.S-post g c.args.same) c.in-Some.bucket c.is_elsewhere.result
+module _ (g : _) (c : After-is_in_another_bucket g) where
+  tells : TellsMisplaced generic_kind c.args.self (goal.H-post g c.args.hash_of) (goal.S-post g c.args.same) c.in-Some.bucket c.is_in_another_bucket.result
   tells = λ hash_of same hash_as same_as.
-      c.is_elsewhere.ensures ∙ bucket_told generic_kind c.of-items.result.table c.args.self c.of-items.ensures.table _ _ c.in-Some.bucket c.hash_of-hash.result c.item.result c.item.ensures c.hash_of-hash.ensures
+      c.is_in_another_bucket.ensures ∙ bucket_told generic_kind c.of-items.result.table c.args.self c.of-items.ensures.table _ _ c.in-Some.bucket c.hash_of-hash.result c.item.result c.item.ensures c.hash_of-hash.ensures
       c.own_lookup-answer.result c.own_lookup-answer.ensures.found hash_of same hash_as same_as
 
 pub item-requires-clause-walked : goal.item-requires-clause-walked
@@ -89,16 +89,16 @@ returns-then-is_past-clause-counts g c = λ hash_of same hash_as same_as.
     subst (λ n. (c.args.limit < strides) ⊎ (2 ^ 63 < n + strides)) c.count-before.ensures
     (past_all c.count-before.result _ _ strides (sum_by (bucket_strides generic_kind c.args.self hash_of same) c.next.new.self) all (rw c.count.ensures at c.is_past.ensures.past c.if-is_past.true))
 
-pub loop-bucket-preserved-then-is_elsewhere : goal.loop-bucket-preserved-then-is_elsewhere
-loop-bucket-preserved-then-is_elsewhere g c =
+pub loop-bucket-preserved-then-is_in_another_bucket : goal.loop-bucket-preserved-then-is_in_another_bucket
+loop-bucket-preserved-then-is_in_another_bucket g c =
     let l = ap length c.in-Some.ensures.steps in
     let counted = c.loop-bucket.invariant.counted in
-    let at = goal.at.loop-bucket-preserved-then-is_elsewhere g c in
+    let at = goal.at.loop-bucket-preserved-then-is_in_another_bucket g c in
     record {
       walked = rest g at.In-Some;
       counted = omega arith;
-      told = counted_one generic_kind c.args.self _ _ c.loop-bucket.misplaced c.in-Some.bucket c.loop-bucket.bucket-iterator c.next.new.self c.in-Some.ensures.steps c.is_elsewhere.result
-          (tells g at.After-is_elsewhere) c.loop-bucket.invariant.told c.if-is_elsewhere.true;
+      told = counted_one generic_kind c.args.self _ _ c.loop-bucket.misplaced c.in-Some.bucket c.loop-bucket.bucket-iterator c.next.new.self c.in-Some.ensures.steps c.is_in_another_bucket.result
+          (tells g at.After-is_in_another_bucket) c.loop-bucket.invariant.told c.if-is_in_another_bucket.true;
       spent = spent g at.After-own_lookup-answer;
       within = omega (arith, reads_on _ _ _ _ c.own_lookup-answer.ensures.counts.bounded, c.loop-bucket.invariant.within, c.count.ensures, c.is_past.ensures.within c.if-is_past.false);
     }
@@ -111,8 +111,8 @@ loop-bucket-preserved g c =
     record {
       walked = rest g at.In-Some;
       counted = omega arith;
-      told = counted_none generic_kind c.args.self _ _ c.loop-bucket.misplaced c.in-Some.bucket c.loop-bucket.bucket-iterator c.next.new.self c.in-Some.ensures.steps c.is_elsewhere.result
-          (tells g at.After-is_elsewhere) c.loop-bucket.invariant.told c.if-is_elsewhere.false;
+      told = counted_none generic_kind c.args.self _ _ c.loop-bucket.misplaced c.in-Some.bucket c.loop-bucket.bucket-iterator c.next.new.self c.in-Some.ensures.steps c.is_in_another_bucket.result
+          (tells g at.After-is_in_another_bucket) c.loop-bucket.invariant.told c.if-is_in_another_bucket.false;
       spent = spent g at.After-own_lookup-answer;
       within = omega (arith, reads_on _ _ _ _ c.own_lookup-answer.ensures.counts.bounded, c.loop-bucket.invariant.within, c.count.ensures, c.is_past.ensures.within c.if-is_past.false);
     }

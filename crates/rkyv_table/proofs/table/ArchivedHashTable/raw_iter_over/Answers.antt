@@ -22,10 +22,10 @@ module _ (g : _) (c : After-of-items g) where
 pub returns-clause-iter : goal.returns-clause-iter
 returns-clause-iter g c =
     let after = (goal.at.returns-clause-iter g c).After-of-items in
-    begun_at g.T.Shaped.laws (sealed g after) c.requires.table c.of-items.result c.of-items.ensures.items (read g after) _ refl refl refl refl refl
+    begun_at g.T.HasSpec.laws (sealed g after) c.requires.table c.of-items.result c.of-items.ensures.items (read g after) _ refl refl refl refl refl
 
 pub returns-clause-buckets : goal.returns-clause-buckets
 returns-clause-buckets g c =
     let after = (goal.at.returns-clause-buckets g c).After-of-items in
-    let r : RawIterSeal g.row.T.Denot = record { archive = c.args.archive; place = c.of-items.result.place; cap = c.of-items.result.cap; next = 0; left = c.of-items.result.len; kind = record {} } in
-    all_left_at g.T.Shaped.laws (sealed g after) c.requires.table c.of-items.result c.of-items.ensures.items (read g after) r refl refl refl refl refl
+    let r : RawIterSeal g.row.T.Denot = record { archive = c.args.archive; buckets_end = c.of-items.result.buckets_end; cap = c.of-items.result.cap; next = 0; left = c.of-items.result.len; kind = record {} } in
+    all_left_at g.T.HasSpec.laws (sealed g after) c.requires.table c.of-items.result c.of-items.ensures.items (read g after) r refl refl refl refl refl

@@ -1,5 +1,5 @@
 use Rattle.std.proofs.Common.{FitsSigned, inl, pos, refl, rules}
-use Rattle.rkyv_base.specs.Text.{by_archive_word}
+use Rattle.rkyv_base.specs.Lemmas.Text.{by_archive_word}
 use Rattle.rkyv_table.proofs.table.ArchivedHashTable.resolve_from_len.Goals as goal
 
 pub returns-then-len-eq0 : goal.returns-then-len-eq0

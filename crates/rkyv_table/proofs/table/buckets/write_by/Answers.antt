@@ -1,18 +1,18 @@
 use Rattle.std.proofs.Common.{arith, ◌≡◌, ◌+◌, ◌-◌}
 use Rattle.rkyv_base.specs.Pairs.{written_as}
-use Rattle.rkyv_table.proofs.BucketSteps.{Down, down_rooms, down_read, down_step, down_init, down_end, told_bucket, told_far}
+use Rattle.rkyv_table.proofs.BucketSteps.{Down, down_rooms, down_read, down_step, down_init, down_end, told_bucket, overflow_fails}
 use Rattle.rkyv_table.proofs.table.buckets.write_by.Goals as goal
 use Rattle.rkyv_table.proofs.table.buckets.write_by.Goals.{In-loop-above}
 
 pub loop-above-init : goal.loop-above-init
 loop-above-init g c = record {
-  down = down_init g.U.Archived.Shaped.shape.size g.W.Width.LIMIT (written_as g.X.Lend.lent g.U.Archive.format) c.args.slots.now c.args.resolvers.items (g.S.Writer.output c.args.serializer.now) c.requires.count c.requires.within;
+  down = down_init g.U.Archived.HasSpec.spec.size g.W.Width.LIMIT (written_as g.X.Lend.lent g.U.Archive.format) c.args.slots.now c.args.resolvers.items (g.S.Writer.output c.args.serializer.now) c.requires.count c.requires.within;
   room = c.requires.room;
 }
 
 -- one turn
 module _ (g : _) (c : In-loop-above g) where
-  down_here : Down g.U.Archived.Shaped.shape.size g.W.Width.LIMIT (written_as g.X.Lend.lent g.U.Archive.format) c.args.slots.now c.args.resolvers.items (g.S.Writer.output c.args.serializer.now) ((c.loop-above.above - 1) + 1) c.loop-above.rest.items (g.S.Writer.output c.loop-above.serializer)
+  down_here : Down g.U.Archived.HasSpec.spec.size g.W.Width.LIMIT (written_as g.X.Lend.lent g.U.Archive.format) c.args.slots.now c.args.resolvers.items (g.S.Writer.output c.args.serializer.now) ((c.loop-above.above - 1) + 1) c.loop-above.rest.items (g.S.Writer.output c.loop-above.serializer)
   down_here =
       let e : (c.loop-above.above - 1) + 1 ≡ c.loop-above.above = omega (arith, c.loop-above-test.true) in
       rw e c.loop-above.invariant.down
@@ -20,31 +20,31 @@ module _ (g : _) (c : In-loop-above g) where
 pub fill_bucket-requires-clause-some : goal.fill_bucket-requires-clause-some
 fill_bucket-requires-clause-some g c =
     let d = down_here g (goal.at.fill_bucket-requires-clause-some g c).In-loop-above in
-    let e = down_read g.U.Archived.Shaped.shape.size g.W.Width.LIMIT (written_as g.X.Lend.lent g.U.Archive.format) c.args.slots.now c.args.resolvers.items (g.S.Writer.output c.args.serializer.now) (c.loop-above.above - 1) c.loop-above.rest.items (g.S.Writer.output c.loop-above.serializer) (g.S.Writer.output c.loop-above.serializer) d c.index-slots-above.result c.index-slots-above.is in
-    down_rooms g.U.Archived.Shaped.shape.size g.W.Width.LIMIT (written_as g.X.Lend.lent g.U.Archive.format) c.args.slots.now c.args.resolvers.items (g.S.Writer.output c.args.serializer.now) (c.loop-above.above - 1) c.loop-above.rest.items (g.S.Writer.output c.loop-above.serializer) (g.S.Writer.output c.loop-above.serializer) d c.index-slots-above.result e
+    let e = down_read g.U.Archived.HasSpec.spec.size g.W.Width.LIMIT (written_as g.X.Lend.lent g.U.Archive.format) c.args.slots.now c.args.resolvers.items (g.S.Writer.output c.args.serializer.now) (c.loop-above.above - 1) c.loop-above.rest.items (g.S.Writer.output c.loop-above.serializer) (g.S.Writer.output c.loop-above.serializer) d c.index-slots-above.result c.index-slots-above.is in
+    down_rooms g.U.Archived.HasSpec.spec.size g.W.Width.LIMIT (written_as g.X.Lend.lent g.U.Archive.format) c.args.slots.now c.args.resolvers.items (g.S.Writer.output c.args.serializer.now) (c.loop-above.above - 1) c.loop-above.rest.items (g.S.Writer.output c.loop-above.serializer) (g.S.Writer.output c.loop-above.serializer) d c.index-slots-above.result e
 
 pub returns-in-Err-clause-answer : goal.returns-in-Err-clause-answer
 returns-in-Err-clause-answer g c =
     let d = down_here g (goal.at.returns-in-Err-clause-answer g c).In-loop-above in
-    let e = down_read g.U.Archived.Shaped.shape.size g.W.Width.LIMIT (written_as g.X.Lend.lent g.U.Archive.format) c.args.slots.now c.args.resolvers.items (g.S.Writer.output c.args.serializer.now) (c.loop-above.above - 1) c.loop-above.rest.items (g.S.Writer.output c.loop-above.serializer) (g.S.Writer.output c.loop-above.serializer) d c.index-slots-above.result c.index-slots-above.is in
-    told_far g.U.Archived.Shaped.shape.size g.W.Width.LIMIT (written_as g.X.Lend.lent g.U.Archive.format) c.args.slots.now c.args.resolvers.items (g.S.Writer.output c.args.serializer.now) (c.loop-above.above - 1) c.loop-above.rest.items (g.S.Writer.output c.loop-above.serializer) (g.S.Writer.output c.loop-above.serializer) d c.index-slots-above.result e (rw c.pos.ensures at c.in-Err.ensures.answer)
+    let e = down_read g.U.Archived.HasSpec.spec.size g.W.Width.LIMIT (written_as g.X.Lend.lent g.U.Archive.format) c.args.slots.now c.args.resolvers.items (g.S.Writer.output c.args.serializer.now) (c.loop-above.above - 1) c.loop-above.rest.items (g.S.Writer.output c.loop-above.serializer) (g.S.Writer.output c.loop-above.serializer) d c.index-slots-above.result c.index-slots-above.is in
+    overflow_fails g.U.Archived.HasSpec.spec.size g.W.Width.LIMIT (written_as g.X.Lend.lent g.U.Archive.format) c.args.slots.now c.args.resolvers.items (g.S.Writer.output c.args.serializer.now) (c.loop-above.above - 1) c.loop-above.rest.items (g.S.Writer.output c.loop-above.serializer) (g.S.Writer.output c.loop-above.serializer) d c.index-slots-above.result e (rw c.pos.ensures at c.in-Err.ensures.answer)
 
 pub returns-in-Err-append_in-clause-answer : goal.returns-in-Err-append_in-clause-answer
 returns-in-Err-append_in-clause-answer g c =
     let d = down_here g (goal.at.returns-in-Err-append_in-clause-answer g c).In-loop-above in
-    let e = down_read g.U.Archived.Shaped.shape.size g.W.Width.LIMIT (written_as g.X.Lend.lent g.U.Archive.format) c.args.slots.now c.args.resolvers.items (g.S.Writer.output c.args.serializer.now) (c.loop-above.above - 1) c.loop-above.rest.items (g.S.Writer.output c.loop-above.serializer) (g.S.Writer.output c.append_in.new.serializer) d c.index-slots-above.result c.index-slots-above.is in
-    told_bucket g.U.Archived.Shaped.shape.size g.W.Width.LIMIT (written_as g.X.Lend.lent g.U.Archive.format) c.args.slots.now c.args.resolvers.items (g.S.Writer.output c.args.serializer.now) (c.loop-above.above - 1) c.loop-above.rest.items (g.S.Writer.output c.loop-above.serializer) (g.S.Writer.output c.append_in.new.serializer) d c.index-slots-above.result e c.fill_bucket.new.rest.items c.fill_bucket.new.bucket c.in-Err-append_in.e (rw c.pos.ensures at c.in-Ok.ensures.answer) c.in-Err-append_in.ensures
+    let e = down_read g.U.Archived.HasSpec.spec.size g.W.Width.LIMIT (written_as g.X.Lend.lent g.U.Archive.format) c.args.slots.now c.args.resolvers.items (g.S.Writer.output c.args.serializer.now) (c.loop-above.above - 1) c.loop-above.rest.items (g.S.Writer.output c.loop-above.serializer) (g.S.Writer.output c.append_in.new.serializer) d c.index-slots-above.result c.index-slots-above.is in
+    told_bucket g.U.Archived.HasSpec.spec.size g.W.Width.LIMIT (written_as g.X.Lend.lent g.U.Archive.format) c.args.slots.now c.args.resolvers.items (g.S.Writer.output c.args.serializer.now) (c.loop-above.above - 1) c.loop-above.rest.items (g.S.Writer.output c.loop-above.serializer) (g.S.Writer.output c.append_in.new.serializer) d c.index-slots-above.result e c.fill_bucket.new.rest.items c.fill_bucket.new.bucket c.in-Err-append_in.e (rw c.pos.ensures at c.in-Ok.ensures.answer) c.in-Err-append_in.ensures
 
 pub loop-above-preserved : goal.loop-above-preserved
 loop-above-preserved g c =
     let d = down_here g (goal.at.loop-above-preserved g c).In-loop-above in
-    let e = down_read g.U.Archived.Shaped.shape.size g.W.Width.LIMIT (written_as g.X.Lend.lent g.U.Archive.format) c.args.slots.now c.args.resolvers.items (g.S.Writer.output c.args.serializer.now) (c.loop-above.above - 1) c.loop-above.rest.items (g.S.Writer.output c.loop-above.serializer) (g.S.Writer.output c.append_in.new.serializer) d c.index-slots-above.result c.index-slots-above.is in
+    let e = down_read g.U.Archived.HasSpec.spec.size g.W.Width.LIMIT (written_as g.X.Lend.lent g.U.Archive.format) c.args.slots.now c.args.resolvers.items (g.S.Writer.output c.args.serializer.now) (c.loop-above.above - 1) c.loop-above.rest.items (g.S.Writer.output c.loop-above.serializer) (g.S.Writer.output c.append_in.new.serializer) d c.index-slots-above.result c.index-slots-above.is in
     record {
-      down = down_step g.U.Archived.Shaped.shape.size g.W.Width.LIMIT (written_as g.X.Lend.lent g.U.Archive.format) c.args.slots.now c.args.resolvers.items (g.S.Writer.output c.args.serializer.now) (c.loop-above.above - 1) c.loop-above.rest.items (g.S.Writer.output c.loop-above.serializer) (g.S.Writer.output c.append_in.new.serializer) d c.index-slots-above.result c.fill_bucket.new.rest.items c.fill_bucket.new.bucket e (rw c.pos.ensures at c.in-Ok.ensures.answer) c.in-Ok.ensures.kept c.in-Ok-append_in.ensures.0 c.in-Ok-append_in.ensures.1;
+      down = down_step g.U.Archived.HasSpec.spec.size g.W.Width.LIMIT (written_as g.X.Lend.lent g.U.Archive.format) c.args.slots.now c.args.resolvers.items (g.S.Writer.output c.args.serializer.now) (c.loop-above.above - 1) c.loop-above.rest.items (g.S.Writer.output c.loop-above.serializer) (g.S.Writer.output c.append_in.new.serializer) d c.index-slots-above.result c.fill_bucket.new.rest.items c.fill_bucket.new.bucket e (rw c.pos.ensures at c.in-Ok.ensures.answer) c.in-Ok.ensures.kept c.in-Ok-append_in.ensures.0 c.in-Ok-append_in.ensures.1;
       room = c.in-Ok.ensures.kept;
     }
 
 pub returns-clause-answer : goal.returns-clause-answer
 returns-clause-answer g c =
     let z : c.loop-above.above ≡ 0 = omega (arith, c.loop-above-test.false) in
-    down_end g.U.Archived.Shaped.shape.size g.W.Width.LIMIT (written_as g.X.Lend.lent g.U.Archive.format) c.args.slots.now c.args.resolvers.items (g.S.Writer.output c.args.serializer.now) c.loop-above.rest.items (g.S.Writer.output c.loop-above.serializer) (rw z at c.loop-above.invariant.down)
+    down_end g.U.Archived.HasSpec.spec.size g.W.Width.LIMIT (written_as g.X.Lend.lent g.U.Archive.format) c.args.slots.now c.args.resolvers.items (g.S.Writer.output c.args.serializer.now) c.loop-above.rest.items (g.S.Writer.output c.loop-above.serializer) (rw z at c.loop-above.invariant.down)

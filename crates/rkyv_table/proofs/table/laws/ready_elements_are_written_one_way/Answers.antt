@@ -6,5 +6,5 @@ returns g c = record {
   scalars = scalars_one_way g.N.Scalar.encoding;
   texts = texts_one_way g.W.Word.word g.met.W.Width.layout.kind;
   units = units_one_way;
-  pairs = λ a b. pairs_one_way g.A.Archived.Shaped.shape g.B.Archived.Shaped.shape g.A.Archive.format g.B.Archive.format a b;
+  pairs = λ a b. pairs_one_way g.A.Archived.HasSpec.spec g.B.Archived.HasSpec.spec g.A.Archive.format g.B.Archive.format a b;
 }

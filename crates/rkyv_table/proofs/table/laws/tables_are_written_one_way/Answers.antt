@@ -6,4 +6,4 @@ use Rattle.rkyv_table.proofs.table.laws.tables_are_written_one_way.Goals as goal
 pub returns : goal.returns
 returns g c = λ load_factor one.
     let f = g.U.Archive.format in
-    tables_one_way g.W.Word.word g.U.Archived.Shaped.shape (written_as g.X.Lend.lent f) (seen_one_way g.X.Lend.lent f one) load_factor
+    tables_one_way g.W.Word.word g.U.Archived.HasSpec.spec (written_as g.X.Lend.lent f) (seen_one_way g.X.Lend.lent f one) load_factor

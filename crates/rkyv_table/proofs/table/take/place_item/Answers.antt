@@ -1,5 +1,5 @@
 use Rattle.std.proofs.Common.{arith, ◌<◌, ◌^◌, rules}
-use Rattle.rkyv_table.proofs.Taking.{bucket_inside, placed_more, placed_room}
+use Rattle.rkyv_table.proofs.PlacingSteps.{bucket_inside, placed_more, placed_room}
 use Rattle.rkyv_table.proofs.table.take.place_item.Goals as goal
 
 pub place_from-bucket-requires-clause-repeats : goal.place_from-bucket-requires-clause-repeats

@@ -1,11 +1,11 @@
 use Rattle.std.proofs.Common.{arith, ◌≡◌, ◌+◌, ◌++◌, ◌∷◌, [], refl, ap, ◌∙◌, inr}
 use Rattle.std.proofs.lemmas.List.{length_push}
-use Rattle.rkyv_table.proofs.Taking.{placed_none, yields_more}
+use Rattle.rkyv_table.proofs.PlacingSteps.{placed_none, yields_more}
 use Rattle.rkyv_table.proofs.table.take.take_pairs.Goals as goal
 
 pub loop-count-init : goal.loop-count-init
 loop-count-init g c = record {
-  can = c.requires.can;
+  ready = c.requires.ready;
   taken = ([], refl, refl, rw (c.requires.fresh, c.requires.empty) (placed_none c.args.cap (let r = c.requires.room in omega arith)));
 }
 
@@ -20,7 +20,7 @@ pub loop-count-preserved : goal.loop-count-preserved
 loop-count-preserved g c =
     let i = c.loop-count.invariant.taken in
     record {
-      can = c.in-Some.ensures.keeps;
+      ready = c.in-Some.ensures.keeps;
       taken = (i.0 ++ (c.in-Some.hash, c.in-Some.item) ∷ [], yields_more g.I.Iterator.next_gives _ _ _ i.0 _ i.1 c.in-Some.ensures.steps, length_push i.0 _ ∙ ap (λ n. n + 1) i.2, c.place_item.ensures i.0 i.3);
     }
 

@@ -4,6 +4,6 @@ use Rattle.rkyv_table.proofs.table.take_two.count_rest.Given as goal
 
 abbrev pub invariant-loop-count : goal.invariant-loop-count
 invariant-loop-count g l = record {
-  can : g.I.Iterator.can_next l.others;
-  came : (ys : List g.row.I-Item.Denot) × Yields g.I.Iterator.next_gives l.initial.others ys l.others × (l.count ≡ l.seen + length ys);
+  ready : g.I.Iterator.can_next l.others;
+  exactly : (ys : List g.row.I-Item.Denot) × Yields g.I.Iterator.next_gives l.initial.others ys l.others × (l.count ≡ l.seen + length ys);
 }

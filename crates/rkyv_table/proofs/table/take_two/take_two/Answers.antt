@@ -2,13 +2,13 @@ use Rattle.std.proofs.Common.{arith, ◌≡◌, ◌+◌, ◌++◌, ◌∷◌, []
 use Rattle.std.specs.Iterator.{Yields}
 use Rattle.std.proofs.lemmas.List.{length_push, length-map, map-append}
 use Rattle.rkyv_table.specs.Table.Counting.{Counted, CountedOn}
-use Rattle.rkyv_table.specs.Table.Taking.{items_of, hashes_of}
-use Rattle.rkyv_table.proofs.Taking.{yields_more, yields_join, placed_none}
+use Rattle.rkyv_table.specs.Table.PlacedItems.{items_of, hashes_of}
+use Rattle.rkyv_table.proofs.PlacingSteps.{yields_more, yields_join, placed_none}
 use Rattle.rkyv_table.proofs.table.take_two.take_two.Goals as goal
 
 pub loop-count-init : goal.loop-count-init
 loop-count-init g c = record {
-  can = c.requires.can;
+  ready = c.requires.ready;
   taken = ([], refl, refl, refl, rw (c.requires.fresh, c.requires.empty) (placed_none c.args.cap (let r = c.requires.room in omega arith)));
 }
 
@@ -25,7 +25,7 @@ loop-count-preserved g c =
     let mi = map-append (λ (y : ℕ × g.row.X.Denot). y.1) i.0 ((c.in-Some-next_item.hash, c.in-Some.item) ∷ []) in
     let mh = map-append (λ (y : ℕ × g.row.X.Denot). y.0) i.0 ((c.in-Some-next_item.hash, c.in-Some.item) ∷ []) in
     record {
-      can = (c.in-Some.ensures.keeps, c.in-Some-next_item.ensures.keeps);
+      ready = (c.in-Some.ensures.keeps, c.in-Some-next_item.ensures.keeps);
       taken = (
         i.0 ++ (c.in-Some-next_item.hash, c.in-Some.item) ∷ [],
         rw mi (yields_more g.I.Iterator.next_gives _ _ _ (items_of i.0) _ i.1 c.in-Some.ensures.steps),
@@ -61,20 +61,20 @@ returns-in-None g c =
     let n = items_count i.0 in
     inl ((items_of i.0, omega (arith, n, i.3), inl (omega (arith, c.loop-count-test.true), (_, (_, i.1, c.in-None.ensures.steps)))), λ z. omega (arith, z, c.loop-count-test.true))
 
-pub returns-then-came-len : goal.returns-then-came-len
-returns-then-came-len g c =
+pub returns-then-exactly-len : goal.returns-then-exactly-len
+returns-then-exactly-len g c =
     let i = c.loop-count.invariant.taken in
     let n1 : c.loop-count.count + 1 ≡ length (items_of i.0) + 1 = (let n = items_count i.0 in omega (arith, i.3)) in
     let n0 = hashes_count i.0 in
-    let k = counted_after g.I.Iterator.next_gives c.args.len c.count_rest-came.result _ _ _ (items_of i.0) c.in-Some.item i.1 c.in-Some.ensures.steps (rw n1 at c.count_rest-came.ensures) in
-    inr (rw c.if-came-len.true at k, ((hashes_of i.0, omega (arith, n0, i.3), inl (omega (arith, c.loop-count-test.true), (_, (_, i.2, c.in-None-next_item.ensures.steps)))), λ z. omega (arith, z, c.loop-count-test.true)))
+    let k = counted_after g.I.Iterator.next_gives c.args.len c.count_rest-exactly.result _ _ _ (items_of i.0) c.in-Some.item i.1 c.in-Some.ensures.steps (rw n1 at c.count_rest-exactly.ensures) in
+    inr (rw c.if-exactly-len.true at k, ((hashes_of i.0, omega (arith, n0, i.3), inl (omega (arith, c.loop-count-test.true), (_, (_, i.2, c.in-None-next_item.ensures.steps)))), λ z. omega (arith, z, c.loop-count-test.true)))
 
 pub returns-in-None-next_item : goal.returns-in-None-next_item
 returns-in-None-next_item g c =
     let i = c.loop-count.invariant.taken in
     let n1 : c.loop-count.count + 1 ≡ length (items_of i.0) + 1 = (let n = items_count i.0 in omega (arith, i.3)) in
-    let k = counted_after g.I.Iterator.next_gives c.args.len c.count_rest-came.result _ _ _ (items_of i.0) c.in-Some.item i.1 c.in-Some.ensures.steps (rw n1 at c.count_rest-came.ensures) in
-    inl (k, c.if-came-len.false)
+    let k = counted_after g.I.Iterator.next_gives c.args.len c.count_rest-exactly.result _ _ _ (items_of i.0) c.in-Some.item i.1 c.in-Some.ensures.steps (rw n1 at c.count_rest-exactly.ensures) in
+    inl (k, c.if-exactly-len.false)
 
 pub returns-in-Some-next_item-2 : goal.returns-in-Some-next_item-2
 returns-in-Some-next_item-2 g c =

@@ -1,11 +1,11 @@
 use Rattle.std.proofs.Common.{◌≡◌, ℕ, List, length}
 use Rattle.std.specs.Iterator.{Yields}
-use Rattle.rkyv_table.specs.Table.Taking.{Placed, hashes_of, items_of}
+use Rattle.rkyv_table.specs.Table.PlacedItems.{Placed, hashes_of, items_of}
 use Rattle.rkyv_table.proofs.table.take_two.take_two.Given as goal
 
 abbrev pub invariant-loop-count : goal.invariant-loop-count
 invariant-loop-count g l = record {
-  can : g.I.Iterator.can_next l.rest × g.J.Iterator.can_next l.marks;
+  ready : g.I.Iterator.can_next l.rest × g.J.Iterator.can_next l.marks;
   taken : (xs : List (ℕ × g.row.X.Denot)) × Yields g.I.Iterator.next_gives l.initial.rest (items_of xs) l.rest × Yields g.J.Iterator.next_gives l.initial.marks (hashes_of xs) l.marks
       × (length xs ≡ l.count) × Placed l.cap xs l.slots l.controls;
 }

@@ -2,11 +2,11 @@ use Rattle.std.proofs.Common.{◌≡◌, List, ap, length, refl, rules, sym, ◌
 use Rattle.std.specs.Borrow.{Bor}
 use Rattle.std.specs.Iterator.{Drains, YieldsFirstBy}
 use Rattle.std.specs.Slice.Iter.{iter_rest}
-use Rattle.rkyv_table.specs.Table.Counting.{GaveOther}
+use Rattle.rkyv_table.specs.Table.Counting.{YieldsOtherCount}
 use Rattle.rkyv_collections.specs.MapFormat.{hash_of}
 use Rattle.rkyv_collections.specs.SetFormat.{set_format}
-use Rattle.rkyv_table.specs.Table.Lent.{lent_keys}
-use Rattle.rkyv_table.specs.declared.table.lent.Refs.{Refs}
+use Rattle.rkyv_table.specs.Table.ItemValues.{lent_keys}
+use Rattle.rkyv_table.specs.declared.table.list_inputs.Refs.{Refs}
 use Rattle.rkyv_table.proofs.Listing.{all_came, answers_listed, no_other_came}
 use Rattle.rkyv_collections.proofs.lists.items.SetItemsSerialize.serialize.Goals as goal
 
@@ -19,10 +19,10 @@ returns g c =
     let steps = YieldsFirstBy view rest in
     let factor = c.args.self.now.load_factor in
     let hash = hash_of g.H.KeyHasher.hasher g.A.KeyHash.calls in
-    let f = set_format g.W.Word.word g.A.Archived.Shaped.shape g.A.Archive.format hash factor in
+    let f = set_format g.W.Word.word g.A.Archived.HasSpec.spec g.A.Archive.format hash factor in
     let all : iter_rest left.items ≡ values = search rules in
     let count : length values ≡ length values = refl in
-    answers_listed (Drains steps left) (GaveOther steps (length values) left) (lent_keys (λ k. k.now)) values
+    answers_listed (Drains steps left) (YieldsOtherCount steps (length values) left) (lent_keys (λ k. k.now)) values
     (λ given d. all_came view rest given left d ∙ all) (λ n h. no_other_came view rest (length values) left (ap length all ∙ sym count) n h)
     (length values) count factor g.W.Width.MAX_CAPACITY g.W.Width.LIMIT f (g.S.Writer.output c.args.serializer.now) (g.S.Writer.output c.serialize_from_iter.new.serializer)
     c.serialize_from_iter.result c.serialize_from_iter.ensures

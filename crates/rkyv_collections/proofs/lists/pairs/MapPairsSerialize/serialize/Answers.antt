@@ -2,26 +2,26 @@ use Rattle.std.proofs.Common.{◌≡◌, List, ap, length, refl, rules, sym, ◌
 use Rattle.std.specs.Borrow.{Bor}
 use Rattle.std.specs.Iterator.{Drains, YieldsFirstBy}
 use Rattle.std.specs.Slice.Iter.{iter_rest}
-use Rattle.rkyv_table.specs.Table.Counting.{GaveOther}
-use Rattle.rkyv_table.specs.Table.Lent.{lent_pairs}
+use Rattle.rkyv_table.specs.Table.Counting.{YieldsOtherCount}
+use Rattle.rkyv_table.specs.Table.ItemValues.{lent_pairs}
 use Rattle.rkyv_collections.specs.MapFormat.{hash_of, map_format}
-use Rattle.rkyv_table.specs.declared.table.lent.Halves.{Halves}
+use Rattle.rkyv_table.specs.declared.table.list_inputs.PairRefs.{PairRefs}
 use Rattle.rkyv_table.proofs.Listing.{all_came, answers_listed, no_other_came}
 use Rattle.rkyv_collections.proofs.lists.pairs.MapPairsSerialize.serialize.Goals as goal
 
 pub returns : goal.returns
 returns g c =
     let values = c.args.self.now.pairs.now in
-    let halves : Halves g.row.A.Denot g.row.B.Denot = c.of-halves.result in
+    let halves : PairRefs g.row.A.Denot g.row.B.Denot = c.of-halves.result in
     let view : Bor g.row.A.Denot × Bor g.row.B.Denot → g.row.A.Denot × g.row.B.Denot = λ halves. (halves.0.now, halves.1.now) in
-    let rest : Halves g.row.A.Denot g.row.B.Denot → List (g.row.A.Denot × g.row.B.Denot) = λ s. iter_rest s.pairs in
+    let rest : PairRefs g.row.A.Denot g.row.B.Denot → List (g.row.A.Denot × g.row.B.Denot) = λ s. iter_rest s.pairs in
     let steps = YieldsFirstBy view rest in
     let factor = c.args.self.now.load_factor in
     let hash = hash_of g.H.KeyHasher.hasher g.A.KeyHash.calls in
-    let f = map_format g.W.Word.word g.A.Archived.Shaped.shape g.B.Archived.Shaped.shape g.A.Archive.format g.B.Archive.format hash factor in
+    let f = map_format g.W.Word.word g.A.Archived.HasSpec.spec g.B.Archived.HasSpec.spec g.A.Archive.format g.B.Archive.format hash factor in
     let all : iter_rest halves.pairs ≡ values = search rules in
     let count : length values ≡ length values = refl in
-    answers_listed (Drains steps halves) (GaveOther steps (length values) halves) (lent_pairs (λ k. k.now) (λ k. k.now)) values
+    answers_listed (Drains steps halves) (YieldsOtherCount steps (length values) halves) (lent_pairs (λ k. k.now) (λ k. k.now)) values
     (λ items d. all_came view rest items halves d ∙ all) (λ n h. no_other_came view rest (length values) halves (ap length all ∙ sym count) n h)
     (length values) count factor g.W.Width.MAX_CAPACITY g.W.Width.LIMIT f (g.S.Writer.output c.args.serializer.now) (g.S.Writer.output c.serialize_from_iter.new.serializer)
     c.serialize_from_iter.result c.serialize_from_iter.ensures

@@ -1,6 +1,6 @@
 use Rattle.std.proofs.Common.{subst, ◌↔◌}
 use Rattle.std.specs.Prelude.{IsTrue}
-use Rattle.rkyv_base.specs.View.{StandsAt}
+use Rattle.rkyv_base.specs.View.{AtView}
 use Rattle.rkyv_collections.specs.MapFormat.{hash_of}
 use Rattle.rkyv_collections.specs.StdEquality.{StdMapEquals}
 use Rattle.rkyv_collections.proofs.std_maps.equality.HashMapOfMatchesNativeHashMap.eq_native.Goals as goal
@@ -8,5 +8,5 @@ use Rattle.rkyv_collections.proofs.std_maps.equality.HashMapOfMatchesNativeHashM
 pub returns : goal.returns
 returns g c =
     let hash = hash_of g.H.KeyHasher.hasher g.A.KeyHash.calls in
-    subst (λ view. IsTrue c.eq_std.result ↔ StandsAt (StdMapEquals g.W.Word.word g.K.Shaped.shape g.V.Shaped.shape hash g.A.Query.fits g.V.MatchesNative.equals {S = g.row.T.Denot}) view c.args.value.now)
+    subst (λ view. IsTrue c.eq_std.result ↔ AtView (StdMapEquals g.W.Word.word g.K.HasSpec.spec g.V.HasSpec.spec hash g.A.Query.fits g.V.MatchesNative.equals {S = g.row.T.Denot}) view c.args.value.now)
     c.of.ensures.view c.eq_std.ensures

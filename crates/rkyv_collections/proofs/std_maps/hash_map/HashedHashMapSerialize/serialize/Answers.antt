@@ -1,6 +1,6 @@
 use Rattle.std.proofs.Common.{refl}
 use Rattle.std.specs.Map.Iter.{deref_pair}
-use Rattle.rkyv_table.specs.Table.Lent.{lent_pairs}
+use Rattle.rkyv_table.specs.Table.ItemValues.{lent_pairs}
 use Rattle.rkyv_table.specs.Table.Listed.{listed}
 use Rattle.rkyv_collections.specs.MapFormat.{hash_of, map_format}
 use Rattle.rkyv_collections.proofs.StdWriting.{answers_distinct, answers_shown}
@@ -10,7 +10,7 @@ pub returns : goal.returns
 returns g c =
     let m = c.args.self.now.map in
     let hash = hash_of g.H.KeyHasher.hasher g.A.KeyHash.calls in
-    let f = map_format g.W.Word.word g.A.Archived.Shaped.shape g.B.Archived.Shaped.shape g.A.Archive.format g.B.Archive.format hash (7, 8) in
+    let f = map_format g.W.Word.word g.A.Archived.HasSpec.spec g.B.Archived.HasSpec.spec g.A.Archive.format g.B.Archive.format hash (7, 8) in
     let o = g.S.Writer.output c.args.serializer.now in
     let o' = g.S.Writer.output c.serialize_from_iter.new.serializer in
     answers_distinct g.A.PartialEq.eq (listed g.W.Width.MAX_CAPACITY (7, 8) f) m.entries c.iter.ensures.unique g.W.Width.LIMIT o o' c.serialize_from_iter.result

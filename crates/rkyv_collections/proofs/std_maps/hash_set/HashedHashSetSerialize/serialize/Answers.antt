@@ -1,10 +1,10 @@
 use Rattle.std.proofs.Common.{subst, sym, List}
 use Rattle.std.specs.List.{IsDistinct}
-use Rattle.rkyv_base.specs.Empty.{unit_format, unit_shape}
+use Rattle.rkyv_base.specs.Empty.{unit_format, unit_spec}
 use Rattle.rkyv_table.specs.Table.Listed.{listed}
 use Rattle.rkyv_collections.specs.MapFormat.{hash_of, map_format}
-use Rattle.rkyv_table.specs.Table.Lent.{with_units}
-use Rattle.rkyv_collections.specs.StdSet.{keys_with_units}
+use Rattle.rkyv_table.specs.Table.ItemValues.{with_units}
+use Rattle.rkyv_collections.specs.Lemmas.StdSet.{keys_with_units}
 use Rattle.rkyv_collections.proofs.StdWriting.{answers_distinct, answers_keys}
 use Rattle.rkyv_collections.proofs.std_maps.hash_set.HashedHashSetSerialize.serialize.Goals as goal
 
@@ -12,7 +12,7 @@ pub returns : goal.returns
 returns g c =
     let keys = c.args.self.now.map.keys in
     let hash = hash_of g.H.KeyHasher.hasher g.A.KeyHash.calls in
-    let f = map_format g.W.Word.word g.A.Archived.Shaped.shape unit_shape g.A.Archive.format unit_format hash (7, 8) in
+    let f = map_format g.W.Word.word g.A.Archived.HasSpec.spec unit_spec g.A.Archive.format unit_format hash (7, 8) in
     let o = g.S.Writer.output c.args.serializer.now in
     let o' = g.S.Writer.output c.serialize_from_iter.new.serializer in
     let unique = subst (λ (ks : List g.row.A.Denot). IsDistinct g.A.PartialEq.eq ks) (sym (keys_with_units keys)) c.iter.ensures.unique in

@@ -1,9 +1,9 @@
 use Rattle.std.proofs.Common.{◌≡◌, inl, inr, refl, subst, List, ℕ}
 use Rattle.std.proofs.lemmas.Result.{err_from_is_err_and}
-use Rattle.rkyv_base.specs.Entry.{entry_shape}
-use Rattle.rkyv_index.specs.IndexLayout.{EntriesFail, EntriesIn, entries_told}
-use Rattle.rkyv_index.specs.Lemmas.PlaceShapes.{words_fail, words_hold}
-use Rattle.rkyv_index.proofs.Checking.{table_viewed}
+use Rattle.rkyv_base.specs.Entry.{entry_spec}
+use Rattle.rkyv_index.specs.IndexLayout.{EntriesFail, EntriesIn, decode_entries}
+use Rattle.rkyv_index.specs.Lemmas.PlaceSpecs.{words_fail, words_hold}
+use Rattle.rkyv_index.proofs.Checking.{table_viewable}
 use Rattle.rkyv_index.proofs.map.element.IndexMapOfElement.check.Goals as goal
 
 -- a property of two numbers is one of equal numbers
@@ -14,19 +14,19 @@ pub returns-in_err-rest : goal.returns-in_err-rest
 returns-in_err-rest g c =
     let e = g.W.Place.Scalar.encoding in
     let p = err_from_is_err_and c.from_residual.result c.from_residual.ensures.1 in
-    rw (p.1, p.2) (inl (words_fail g.W.Word.word g.W.Place.Shaped.shape e g.met.W.Place.Scalar.laws g.met.W.Width.place c.args.bytes.now c.args.pos c.args.range.lo c.args.range.hi c.in_err-rest.field-0.0 c.in_err-rest.ensures))
+    rw (p.1, p.2) (inl (words_fail g.W.Word.word g.W.Place.HasSpec.spec e g.met.W.Place.Scalar.laws g.met.W.Width.place c.args.bytes.now c.args.pos c.args.range.lo c.args.range.hi c.in_err-rest.field-0.0 c.in_err-rest.ensures))
 
 pub check_places-requires : goal.check_places-requires
 check_places-requires g c =
     let w = g.W.Word.word in
-    table_viewed w g.met.W.Width.layout.kind g.W.Place.Shaped.shape g.W.Place.Scalar.encoding g.met.W.Place.Scalar.laws g.met.W.Width.place c.args.bytes.now c.args.pos c.args.range.lo c.args.range.hi c.in_ok-rest.rest.lo
+    table_viewable w g.met.W.Width.layout.kind g.W.Place.HasSpec.spec g.W.Place.Scalar.encoding g.met.W.Place.Scalar.laws g.met.W.Width.place c.args.bytes.now c.args.pos c.args.range.lo c.args.range.hi c.in_ok-rest.rest.lo
     c.requires.inside c.requires.aligned c.requires.ordered.0 c.requires.ordered.1 c.in_ok-rest.ensures.1
 
 pub returns-in_err-len : goal.returns-in_err-len
 returns-in_err-len g c =
     let w = g.W.Word.word in
     let b : List ℕ = c.args.bytes.now in
-    let table = words_hold w g.W.Place.Shaped.shape g.W.Place.Scalar.encoding g.met.W.Place.Scalar.laws g.met.W.Width.place b c.args.pos c.args.range.lo c.args.range.hi c.in_ok-rest.rest.lo c.in_ok-rest.ensures.1 in
+    let table = words_hold w g.W.Place.HasSpec.spec g.W.Place.Scalar.encoding g.met.W.Place.Scalar.laws g.met.W.Width.place b c.args.pos c.args.range.lo c.args.range.hi c.in_ok-rest.rest.lo c.in_ok-rest.ensures.1 in
     let p = err_from_is_err_and c.from_residual-in_err-len.result c.from_residual-in_err-len.ensures.1 in
     rw (p.1, p.2) (inr (c.in_ok-rest.rest.lo, table, inl c.in_err-len.ensures.fails))
 
@@ -36,14 +36,14 @@ returns-in_err-end g c =
     let w = g.W.Word.word in
     let b = c.args.bytes.now in
     let m = c.in_ok-rest.rest.lo in
-    let table = words_hold w g.W.Place.Shaped.shape g.W.Place.Scalar.encoding g.met.W.Place.Scalar.laws g.met.W.Width.place b c.args.pos c.args.range.lo c.args.range.hi m c.in_ok-rest.ensures.1 in
+    let table = words_hold w g.W.Place.HasSpec.spec g.W.Place.Scalar.encoding g.met.W.Place.Scalar.laws g.met.W.Width.place b c.args.pos c.args.range.lo c.args.range.hi m c.in_ok-rest.ensures.1 in
     let p = err_from_is_err_and c.from_residual-in_err-end.result c.from_residual-in_err-end.ensures.1 in
     rw (p.1, p.2) (inr (
       m,
       table,
       inr (
         c.in_ok-len.ensures.below,
-        both (λ n hi. EntriesFail (entry_shape g.K.Shaped.shape g.V.Shaped.shape) b (entries_told w b c.args.pos) n m hi c.in_err-end.field-0.0) _ _ _ _ c.in_ok-len.ensures.len c.in_ok-rest.ensures.0 c.in_err-end.ensures,
+        both (λ n hi. EntriesFail (entry_spec g.K.HasSpec.spec g.V.HasSpec.spec) b (decode_entries w b c.args.pos) n m hi c.in_err-end.field-0.0) _ _ _ _ c.in_ok-len.ensures.len c.in_ok-rest.ensures.0 c.in_err-end.ensures,
       ),
     ))
 
@@ -55,8 +55,8 @@ returns g c =
       refl,
       record {
         middle = m;
-        table = words_hold w g.W.Place.Shaped.shape g.W.Place.Scalar.encoding g.met.W.Place.Scalar.laws g.met.W.Width.place b c.args.pos c.args.range.lo c.args.range.hi m c.in_ok-rest.ensures.1;
+        table = words_hold w g.W.Place.HasSpec.spec g.W.Place.Scalar.encoding g.met.W.Place.Scalar.laws g.met.W.Width.place b c.args.pos c.args.range.lo c.args.range.hi m c.in_ok-rest.ensures.1;
         below = c.in_ok-len.ensures.below;
-        entries = both (λ n hi. EntriesIn (entry_shape g.K.Shaped.shape g.V.Shaped.shape) b (entries_told w b c.args.pos) n m hi c.in_ok-end.end) _ _ _ _ c.in_ok-len.ensures.len c.in_ok-rest.ensures.0 c.in_ok-end.ensures;
+        entries = both (λ n hi. EntriesIn (entry_spec g.K.HasSpec.spec g.V.HasSpec.spec) b (decode_entries w b c.args.pos) n m hi c.in_ok-end.end) _ _ _ _ c.in_ok-len.ensures.len c.in_ok-rest.ensures.0 c.in_ok-end.ensures;
       },
     )

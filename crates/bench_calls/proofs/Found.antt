@@ -1,0 +1,24 @@
+-- The value behind the key that a lookup finds.
+use Rattle.rkyv_base.specs.declared.element.HasSpec.{Ghosts as Specs}
+use Rattle.rkyv_base.specs.declared.width.Word.{Ghosts as Words}
+use Rattle.std.proofs.Common.{◌≡◌, ℕ, ◌+◌, ap, refl, ◌∙◌, Option, None, Some}
+use Rattle.std.specs.Borrow.{Bor}
+use Rattle.std.specs.Int.{w32}
+use Rattle.std.specs.Prelude.{IfSome, List}
+use Rattle.rkyv_base.specs.Bytes.{number_at}
+use Rattle.rkyv_base.specs.Entry.{value_offset}
+use Rattle.rkyv_base.specs.ElementSpec.{ElementSpec}
+use Rattle.rkyv_base.specs.declared.view.View.{View}
+use Rattle.rkyv_collections.specs.Map.{IsValueAt, IsValueIn, map_bytes}
+use Rattle.rkyv_collections.specs.declared.map.ArchivedHashMap.{ArchivedHashMap}
+use Rattle.bench_calls.specs.Archives.{number_spec}
+use Rattle.bench_calls.specs.Totals.{number_seen, value_or_miss}
+
+pub found_seen : {K V H W : Type 0} {ks : Specs K} {vs : Specs V} {wt : Words W} (key : ElementSpec) (m : ArchivedHashMap K V H W ks vs wt) (found : Option (View V)) (place : Option ℕ) → IfSome found (IsValueIn m) → IsValueAt key number_spec found place
+    → number_seen found ≡ value_or_miss key (map_bytes m) place
+found_seen key m None None walked at = refl
+found_seen key m None (Some q) walked at = cc
+found_seen key m (Some value) None walked at = cc
+found_seen key m (Some value) (Some q) walked at =
+    let place : value.pos ≡ q + value_offset key number_spec = cc in
+    ap (λ (a : Bor (List ℕ)). number_at w32 a.now value.pos) walked.at.0 ∙ ap (number_at w32 (map_bytes m)) place

@@ -1,0 +1,41 @@
+-- The sum of a walk over the pairs of a map or an index map.
+use Rattle.std.proofs.Common.{◌≡◌, ℕ, ◌+◌, ◌%◌, ◌^◌, ◌∙◌, ap, sym, List, [], ◌∷◌, map, Some}
+use Rattle.std.specs.Borrow.{Bor}
+use Rattle.std.specs.Int.{w32}
+use Rattle.rkyv_base.specs.Bytes.{number_at}
+use Rattle.rkyv_base.specs.ElementSpec.{ElementSpec}
+use Rattle.rkyv_base.specs.View.{IsAt}
+use Rattle.rkyv_base.specs.declared.view.View.{View}
+use Rattle.rkyv_table.specs.Table.PairWalks.{IsAtEnd, TakesPair}
+use Rattle.rkyv_table.specs.Table.RawItems.{ItemsLeft}
+use Rattle.bench_calls.specs.Archives.{number_spec}
+use Rattle.bench_calls.specs.Totals.{CountsAll, pair_seen, pair_weight, total}
+use Rattle.bench_calls.proofs.Sums.{counted_all, sum_seen}
+
+-- the weights of the remaining pairs
+abbrev weights : ElementSpec → (List ℕ → ℕ → ℕ) → ItemsLeft → List ℕ
+weights key weight left = map (pair_weight key weight left.archive.now) left.positions
+
+none_left : (key : ElementSpec) (weight : List ℕ → ℕ → ℕ) (s t : ItemsLeft) → IsAtEnd s t → weights key weight s ≡ []
+none_left key weight s t h = ap (map (pair_weight key weight s.archive.now)) h.none
+
+module _ {K V : Type 0} (key : ElementSpec) (weight : List ℕ → ℕ → ℕ) where
+  takes : (s : ItemsLeft) (pair : View K × View V) (t : ItemsLeft) → TakesPair key number_spec s (Some pair) t → weights key weight s ≡ pair_seen weight pair ∷ weights key weight t
+  takes s pair t h =
+      let b = s.archive.now in
+      let k = pair.0 in
+      let v = pair.1 in
+      let seen : pair_seen weight pair ≡ pair_weight key weight b k.pos =
+      ap (λ (a : Bor (List ℕ)). weight a.now k.pos + number_at w32 v.archive.now v.pos) h.1.at.0
+      ∙ ap (λ (a : Bor (List ℕ)). weight b k.pos + number_at w32 a.now v.pos) h.2.at.0 ∙ ap (λ q. weight b k.pos + number_at w32 b q) h.2.at.1 in
+      ap (map (pair_weight key weight b)) h.0.first
+      ∙ ap (λ (a : Bor (List ℕ)). pair_weight key weight b k.pos ∷ map (pair_weight key weight a.now) t.positions) (sym h.0.archive) ∙ ap (λ n. n ∷ weights key weight t) (sym seen)
+
+  -- the sum over the yielded pairs is that over the positions of the viewed map in its archive
+  pub walk_counted : {T : Type 0} (positions : List ℕ → ℕ → List ℕ) (v : View T) (archive : Bor (List ℕ)) (p : ℕ) (left : ItemsLeft) (result : ℕ) → IsAt v archive p → left.archive ≡ v.archive
+      → left.positions ≡ positions v.archive.now v.pos → CountsAll (pair_seen {K = K} {V = V} weight) (TakesPair key number_spec) left result → result ≡ total (pair_weight key weight archive.now) (positions archive.now p)
+  walk_counted positions v archive p left result at same all_valid exactly =
+      let weigh = pair_weight key weight left.archive.now in
+      exactly.2 ∙ counted_all (TakesPair key number_spec) (pair_seen weight) (weights key weight) takes (none_left key weight) (λ n. n) exactly.0 left exactly.1 ∙ ap (λ n. n % 2 ^ 64) (sym (sum_seen weigh (λ n. n) left.positions))
+      ∙ ap (total weigh) all_valid ∙ ap (λ (a : Bor (List ℕ)). total (pair_weight key weight a.now) (positions v.archive.now v.pos)) (same ∙ at.0)
+      ∙ ap (λ (a : Bor (List ℕ)). total (pair_weight key weight archive.now) (positions a.now v.pos)) at.0 ∙ ap (λ q. total (pair_weight key weight archive.now) (positions archive.now q)) at.1

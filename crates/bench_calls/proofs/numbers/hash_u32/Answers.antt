@@ -1,0 +1,9 @@
+use Rattle.std.proofs.Common.{◌∙◌, ap}
+use Rattle.bench_calls.specs.Totals.{number_hash, total}
+use Rattle.bench_calls.proofs.Sums.{counted_slice}
+use Rattle.bench_calls.proofs.numbers.hash_u32.Goals as goal
+
+pub returns : goal.returns
+returns c =
+    let exactly = c.hash_total.ensures in
+    exactly.2 ∙ counted_slice number_hash exactly.0 c.iter.result exactly.1 ∙ ap (total number_hash) c.iter.ensures.rest

@@ -1,0 +1,12 @@
+use Rattle.std.proofs.Common.{◌≡◌}
+use Rattle.bench_calls.specs.Archives.{root}
+use Rattle.bench_calls.specs.Cuts.{texts}
+use Rattle.bench_calls.specs.Totals.{text_looked_up_at}
+use Rattle.bench_calls.proofs.CutTexts.{texts_counted_at, texts_left}
+use Rattle.bench_calls.proofs.texts.lookup_text.Goals as goal
+
+pub returns : goal.returns
+returns c =
+    let asked = texts c.args.bytes.now c.args.ends.now in
+    let all : texts_left c.cut.result ≡ asked = cc (c.cut.ensures.bytes, c.cut.ensures.from, c.cut.ensures.ends) in
+    texts_counted_at text_looked_up_at c.map_in.result.view c.args.archive (root c.args.archive.now) c.cut.result asked c.lookup_total.result c.map_in.ensures.at all c.lookup_total.ensures

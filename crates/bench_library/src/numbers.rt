@@ -1,0 +1,70 @@
+//! The calls for maps of numbers to numbers.
+
+ghost use Rattle.std.specs.Prelude.{◌≡◌};
+ghost use Rattle.bench_calls.specs.Archives.{IsArchive, IsLengthAnd1, number_spec};
+ghost use Rattle.bench_calls.specs.Building.{IsBuilt, MapsNumbers};
+ghost use Rattle.bench_calls.specs.Totals.{number_hash, number_looked_up, number_weight};
+ghost use Rattle.bench_calls.specs.Totals.{total, walk_total};
+
+use bench_calls::numbers::{access_u32, build_u32, hash_u32, lookup_u32, walk_u32};
+use std::alloc::Global;
+
+/// Returns the sum modulo 2^64 of the hashes of the keys.
+#[unsafe(no_mangle)]
+pub extern "C" fn rkyv_bench_hash_u32(keys: &[u32]) -> u64
+    ensures { result ≡ total number_hash keys.now }
+{
+    hash_u32(keys)
+}
+
+/// Archives a map of the keys into the front of `out`, and returns the length of the archive.
+///
+/// Each key has the value at its index.
+/// Keys without a value, and values without a key, are left out. The load factor is 7 / 8.
+///
+/// Returns 0, with `out` unchanged, if the write fails or the archive doesn't fit.
+#[unsafe(no_mangle)]
+pub extern "C" fn rkyv_bench_build_u32(
+    alloc: Global,
+    keys: &[u32],
+    values: &[u32],
+    out: &mut [u8],
+) -> usize
+    ensures { IsBuilt (MapsNumbers keys.now values.now) out.old out.new result }
+{
+    build_u32(alloc, keys, values, out)
+}
+
+/// Validates an archive, and returns the length of its map plus 1, or 0 if it isn't valid.
+#[unsafe(no_mangle)]
+pub extern "C" fn rkyv_bench_access_u32(archive: &[u8]) -> usize
+    ensures { IsLengthAnd1 number_spec archive.now result }
+{
+    access_u32(archive)
+}
+
+/// Returns the sum modulo 2^64 of the values of the keys, with 2^32 for each that isn't found.
+///
+/// # Requires
+///
+/// - The archive is valid: `rkyv_bench_access_u32` returned more than 0.
+#[unsafe(no_mangle)]
+pub extern "C" fn rkyv_bench_lookup_u32(archive: &[u8], keys: &[u32]) -> u64
+    requires { IsArchive number_spec archive.now }
+    ensures { result ≡ total (number_looked_up archive.now) keys.now }
+{
+    lookup_u32(archive, keys)
+}
+
+/// Returns the sum modulo 2^64 of all keys and all values.
+///
+/// # Requires
+///
+/// - The archive is valid: `rkyv_bench_access_u32` returned more than 0.
+#[unsafe(no_mangle)]
+pub extern "C" fn rkyv_bench_walk_u32(archive: &[u8]) -> u64
+    requires { IsArchive number_spec archive.now }
+    ensures { result ≡ walk_total number_spec number_weight archive.now }
+{
+    walk_u32(archive)
+}

@@ -1,0 +1,84 @@
+//! The calls for maps of texts to numbers.
+
+ghost use Rattle.std.specs.Prelude.{◌≡◌};
+ghost use Rattle.bench_calls.specs.Archives.{IsArchive, IsLengthAnd1, short_text};
+ghost use Rattle.bench_calls.specs.Building.{IsBuilt, MapsTexts};
+ghost use Rattle.bench_calls.specs.Cuts.{AreTexts, texts};
+ghost use Rattle.bench_calls.specs.Totals.{text_hash, text_looked_up, text_weight, total};
+ghost use Rattle.bench_calls.specs.Totals.{walk_total};
+
+use bench_calls::texts::{access_text, build_text, hash_text, lookup_text, walk_text};
+use std::alloc::Global;
+
+/// Returns the sum modulo 2^64 of the hashes of the texts.
+///
+/// # Requires
+///
+/// - Each text is inside `bytes` and is UTF-8, and `ends` doesn't decrease.
+#[unsafe(no_mangle)]
+pub extern "C" fn rkyv_bench_hash_text(bytes: &[u8], ends: &[u32]) -> u64
+    requires { AreTexts bytes.now ends.now }
+    ensures { result ≡ total text_hash (texts bytes.now ends.now) }
+{
+    hash_text(bytes, ends)
+}
+
+/// Archives a map of the texts into the front of `out`, and returns the length of the archive.
+///
+/// Each text has the value at its index.
+/// Texts without a value, and values without a text, are left out. The load factor is 7 / 8.
+///
+/// Returns 0, with `out` unchanged, if the write fails or the archive doesn't fit.
+///
+/// # Requires
+///
+/// - Each text is inside `bytes` and is UTF-8, and `ends` doesn't decrease.
+#[unsafe(no_mangle)]
+pub extern "C" fn rkyv_bench_build_text(
+    alloc: Global,
+    bytes: &[u8],
+    ends: &[u32],
+    values: &[u32],
+    out: &mut [u8],
+) -> usize
+    requires { AreTexts bytes.now ends.now }
+    ensures { IsBuilt (MapsTexts (texts bytes.now ends.now) values.now) out.old out.new result }
+{
+    build_text(alloc, bytes, ends, values, out)
+}
+
+/// Validates an archive, and returns the length of its map plus 1, or 0 if it isn't valid.
+#[unsafe(no_mangle)]
+pub extern "C" fn rkyv_bench_access_text(archive: &[u8]) -> usize
+    ensures { IsLengthAnd1 short_text archive.now result }
+{
+    access_text(archive)
+}
+
+/// Returns the sum modulo 2^64 of the values of the texts, with 2^32 for each that isn't found.
+///
+/// # Requires
+///
+/// - The archive is valid: `rkyv_bench_access_text` returned more than 0.
+/// - Each text is inside `bytes` and is UTF-8, and `ends` doesn't decrease.
+#[unsafe(no_mangle)]
+pub extern "C" fn rkyv_bench_lookup_text(archive: &[u8], bytes: &[u8], ends: &[u32]) -> u64
+    requires archive { IsArchive short_text archive.now }
+    requires texts { AreTexts bytes.now ends.now }
+    ensures { result ≡ total (text_looked_up archive.now) (texts bytes.now ends.now) }
+{
+    lookup_text(archive, bytes, ends)
+}
+
+/// Returns the sum modulo 2^64 of the lengths of all keys, in bytes, and of all values.
+///
+/// # Requires
+///
+/// - The archive is valid: `rkyv_bench_access_text` returned more than 0.
+#[unsafe(no_mangle)]
+pub extern "C" fn rkyv_bench_walk_text(archive: &[u8]) -> u64
+    requires { IsArchive short_text archive.now }
+    ensures { result ≡ walk_total short_text text_weight archive.now }
+{
+    walk_text(archive)
+}

@@ -1,0 +1,57 @@
+use Rattle.std.proofs.Common.{◌≡◌, ◌+◌, ◌∙◌, ℕ, List, Option, None, Some, ap, sym}
+use Rattle.std.specs.Int.{w32, w64}
+use Rattle.std.specs.Option.{option_map}
+use Rattle.rkyv_scan.specs.Groups.{generic_kind}
+use Rattle.rkyv_scan.specs.Hash.{fx_hasher, low_halves}
+use Rattle.rkyv_base.specs.Lemmas.Access.{root_viewable}
+use Rattle.rkyv_base.specs.Bytes.{number_at}
+use Rattle.rkyv_base.specs.Entry.{entry_spec, value_offset}
+use Rattle.rkyv_base.specs.Numbers.{unsigned}
+use Rattle.rkyv_base.specs.Scalar.{ScalarRepresents}
+use Rattle.rkyv_base.specs.Text.{text_at}
+use Rattle.rkyv_keys.specs.Calls.{text_calls}
+use Rattle.rkyv_keys.specs.OfTexts.{same_bytes}
+use Rattle.rkyv_table.specs.Table.Positions.{pos_found}
+use Rattle.rkyv_table.proofs.Moved.{moved}
+use Rattle.rkyv_collections.specs.MapFormat.{hash_of}
+use Rattle.rkyv_collections.proofs.FoundValues.{none_listed, number_listed, read_at}
+use Rattle.example_symbols.specs.Table.{IsTable, Represents, SymbolsRepresent, address_found, address_spec, header_spec, name_spec}
+use Rattle.example_symbols.proofs.Found.{none_read, number_read}
+use Rattle.example_symbols.proofs.table.address_in.Goals as goal
+
+-- the position of the value whose key a lookup of the name finds in some bytes
+abbrev place : List ℕ → List ℕ → ℕ → Option ℕ
+place name b p = option_map (λ q. q + value_offset name_spec address_spec)
+    (pos_found generic_kind w32 (entry_spec name_spec address_spec).size b p (hash_of (fx_hasher low_halves) text_calls name) (λ q. same_bytes name (text_at w32 b q)))
+
+pub access_unchecked-requires : goal.access_unchecked-requires
+unfolding IsTable
+access_unchecked-requires c = root_viewable 4_294_967_295 header_spec c.args.table.now c.requires
+
+pub returns-in-Some-clause-found : goal.returns-in-Some-clause-found
+unfolding address_found
+returns-in-Some-clause-found c =
+    let at = read_at c.of-map.result _ _ _ c.of-map.ensures.view c.access_unchecked.ensures.at in
+    let b = c.args.table.now in
+    let read : number_at w64 b c.in-Some.address.pos ≡ c.to_native.result = ap (λ x. number_at w64 x c.in-Some.address.pos) (sym (ap (λ a. a.now) c.in-Some.ensures.walked.at.0 ∙ at.0)) ∙ c.to_native.ensures in
+    number_read (number_at w64 b) _ _ _ _ read (moved (λ x p. Some c.in-Some.address.pos ≡ place c.args.name.now x p) _ _ _ _ at.0 at.1 c.in-Some.ensures.answer)
+
+pub returns-in-None-clause-found : goal.returns-in-None-clause-found
+unfolding address_found
+returns-in-None-clause-found c =
+    let at = read_at c.of-map.result _ _ _ c.of-map.ensures.view c.access_unchecked.ensures.at in
+    none_read (number_at w64 c.args.table.now) _ _ (moved (λ x p. None ≡ place c.args.name.now x p) _ _ _ _ at.0 at.1 c.in-None.ensures.answer)
+
+pub returns-in-Some-clause-listed : goal.returns-in-Some-clause-listed
+unfolding Represents
+returns-in-Some-clause-listed c = λ symbols represents.
+    let at = read_at c.of-map.result _ _ _ c.of-map.ensures.view c.access_unchecked.ensures.at in
+    let listed = c.lookups_find_listed.ensures c.of-map.result _ (λ held. same_bytes c.args.name.now held.now) (7, 8) symbols (λ held q s there. ap (same_bytes c.args.name.now) there) (moved (λ b p. SymbolsRepresent (7, 8) b p symbols) _ _ _ _ (sym at.0) (sym at.1) represents) in
+    number_listed (number_at w64) c.in-Some.address _ _ c.to_native.ensures (listed.gives_value (Some c.in-Some.address) c.in-Some.ensures.walked c.in-Some.ensures.first)
+
+pub returns-in-None-clause-listed : goal.returns-in-None-clause-listed
+unfolding Represents
+returns-in-None-clause-listed c = λ symbols represents.
+    let at = read_at c.of-map.result _ _ _ c.of-map.ensures.view c.access_unchecked.ensures.at in
+    let listed = c.lookups_find_listed.ensures c.of-map.result _ (λ held. same_bytes c.args.name.now held.now) (7, 8) symbols (λ held q s there. ap (same_bytes c.args.name.now) there) (moved (λ b p. SymbolsRepresent (7, 8) b p symbols) _ _ _ _ (sym at.0) (sym at.1) represents) in
+    none_listed (ScalarRepresents (unsigned w64)) _ (listed.gives_value None c.in-None.ensures.walked c.in-None.ensures.first)

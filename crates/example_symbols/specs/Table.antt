@@ -1,0 +1,95 @@
+-- Tables of symbols: validity, the list that a table represents, and the address of a name.
+use Rattle.std.specs.Prelude.{ℕ, ◌+◌, ◌-◌, List, length, Option}
+use Rattle.std.specs.Borrow.{Bor}
+use Rattle.std.specs.Int.{w32, w64}
+use Rattle.std.specs.Option.{option_map}
+use Rattle.rkyv_scan.specs.Groups.{generic_kind}
+use Rattle.rkyv_scan.specs.Hash.{fx_hasher, low_halves}
+use Rattle.rkyv_base.specs.Access.{Accepted, AccessFails}
+use Rattle.rkyv_base.specs.Bytes.{number_at}
+use Rattle.rkyv_base.specs.Entry.{entry_spec, value_offset}
+use Rattle.rkyv_base.specs.Format.{Format}
+use Rattle.rkyv_base.specs.Numbers.{unsigned}
+use Rattle.rkyv_base.specs.Pairs.{written_as}
+use Rattle.rkyv_base.specs.Root.{ArchiveOf, ArchiveRefused}
+use Rattle.rkyv_base.specs.Scalar.{ScalarRepresents, scalar_format, scalar_spec}
+use Rattle.rkyv_base.specs.ElementSpec.{ElementSpec}
+use Rattle.rkyv_base.specs.Text.{text_at, text_spec}
+use Rattle.rkyv_base.specs.TextWriting.{text_format}
+use Rattle.rkyv_base.specs.declared.errors.VerifyError.{VerifyError}
+use Rattle.rkyv_base.specs.declared.errors.WriteError.{WriteError}
+use Rattle.rkyv_keys.specs.Calls.{text_calls}
+use Rattle.rkyv_keys.specs.OfTexts.{same_bytes}
+use Rattle.rkyv_keys.specs.Lemmas.OfTexts.{IsTextOf, text_key_calls}
+use Rattle.rkyv_table.specs.Table.Positions.{pos_found}
+use Rattle.rkyv_table.specs.Table.TableFormat.{TableResolver}
+use Rattle.rkyv_table.specs.Table.Listed.{listed}
+use Rattle.rkyv_collections.specs.ListedLookups.{first_value}
+use Rattle.rkyv_collections.specs.Map.{hash_at}
+use Rattle.rkyv_collections.specs.MapSpec.{map_spec}
+use Rattle.rkyv_collections.specs.MapFormat.{MapRepresents, hash_of, map_format}
+
+-- names, each with its address
+abbrev pub Symbols : Type 0
+Symbols = List (Bor (List ℕ) × ℕ)
+
+-- the spec of an address
+abbrev pub address_spec : ElementSpec
+address_spec = scalar_spec (unsigned w64)
+
+-- the spec of a name
+abbrev pub name_spec : ElementSpec
+name_spec = text_spec w32
+
+-- the spec of a table's header
+abbrev pub header_spec : ElementSpec
+header_spec = map_spec w32 name_spec address_spec
+
+-- `table` is a valid table
+unfoldable pub IsTable : List ℕ → Type 0
+IsTable table = Accepted 4_294_967_295 header_spec table
+
+-- the map at a position represents the symbols, under the load factor
+abbrev pub SymbolsRepresent : ℕ × ℕ → List ℕ → ℕ → Symbols → Type 0
+SymbolsRepresent factor = MapRepresents w32 name_spec address_spec (IsTextOf w32 (λ name. name.now))
+    (ScalarRepresents (unsigned w64)) (hash_at (fx_hasher low_halves) (text_key_calls w32)) factor
+
+-- the position of the header of `table`
+abbrev pub root : List ℕ → ℕ
+root table = length table - header_spec.size
+
+-- `table` represents the symbols
+unfoldable pub Represents : List ℕ → Symbols → Type 0
+Represents table symbols = SymbolsRepresent (7, 8) table (root table) symbols
+
+-- the format of a list of symbols, under the load factor
+abbrev pub symbols_format : ℕ × ℕ → Format Symbols TableResolver
+symbols_format factor = listed 4_294_967_295 factor (map_format w32 name_spec address_spec
+    (written_as (λ name. name.now) (text_format w32)) (scalar_format (unsigned w64))
+    (hash_of (fx_hasher low_halves) (λ name. text_calls name.now)) factor)
+
+-- `table` is the table of the symbols: valid, it represents them, and it has no other bytes
+unfoldable pub IsTableOf : Symbols → List ℕ → Type 0
+IsTableOf symbols table =
+    ArchiveOf 4_294_967_295 header_spec (SymbolsRepresent (7, 8)) (symbols_format
+    (7, 8)) symbols table
+
+-- `e` is the first error of the validation of `table`
+unfoldable pub IsRefused : List ℕ → VerifyError → Type 0
+IsRefused table e = AccessFails 4_294_967_295 header_spec table e
+
+-- the write of the symbols fails with `e`
+unfoldable pub TableFails : {F : Type 0} → Symbols → WriteError F → Type 0
+TableFails symbols e = ArchiveRefused 4_294_967_295 header_spec (symbols_format (7, 8)) symbols e
+
+-- the address of the first symbol with the name
+abbrev pub first_address : List ℕ → Symbols → Option ℕ
+first_address name symbols = first_value (λ held. same_bytes name held.now) symbols
+
+-- the address that a lookup of `name` finds in any valid table
+unfoldable pub address_found : List ℕ → List ℕ → Option ℕ
+address_found name table =
+    option_map (λ q. number_at w64 table (q + value_offset name_spec address_spec))
+    (pos_found generic_kind w32 (entry_spec name_spec address_spec).size table (root table)
+    (hash_of (fx_hasher low_halves) text_calls name)
+    (λ q. same_bytes name (text_at w32 table q)))

@@ -1,0 +1,73 @@
+//! The commands of the program.
+ghost use Rattle.std.specs.Prelude.{IfSome, ◌≡◌, ◌≤◌};
+ghost use Rattle.std.specs.Str.{bytes_eq};
+ghost use Rattle.example_symbols_program.specs.Commands.{command_of, least_count};
+
+/// What `--help` prints.
+pub const USAGE: &str = "usage: symbols COMMAND
+
+  write TABLE INDEX    reads lines of nm from standard input, and writes a table of their names
+                       and an index of their addresses
+  get TABLE [NAME ..]  prints the address of each name, or 'none'; without names, of each line of
+                       standard input
+  list INDEX           prints the addresses and their names in ascending order of address
+  all TABLE INDEX      does the same as write, and then prints the address of each name, the index,
+                       and the error of the table without its last byte
+  -h, --help           prints this text
+
+exit status: 0 if each name is found, 1 if a name isn't found, 2 if the command line has an unknown
+command or a wrong number of arguments, 3 if there is another error";
+
+/// A command, without its arguments.
+#[derive(Clone, Copy, Debug, PartialEq, Eq)]
+pub enum Command {
+    /// `--help` or `-h`: print the usage.
+    Help,
+    /// `write TABLE INDEX`: write a table and an index.
+    Write,
+    /// `all TABLE INDEX`: write a table and an index, read them back, and print them.
+    All,
+    /// `get TABLE [NAME ..]`: look up names in a table.
+    Get,
+    /// `list INDEX`: print an index.
+    List,
+}
+
+/// Returns whether the word equals the name.
+fn is_word(word: &str, name: &str) -> bool
+    ensures { result ≡ bytes_eq word.now name.now }
+{
+    word == name
+}
+
+/// Returns the command with the name and `count` arguments.
+///
+/// It is `None` if the name is unknown, or the command takes another number of arguments.
+pub fn command_of(name: &str, count: usize) -> Option<Command>
+    ensures command { result ≡ command_of name.now count }
+    ensures enough { IfSome result (λ command. least_count command ≤ count) }
+{
+    if is_word(name, "--help") {
+        Some(Command::Help)
+    } else if is_word(name, "-h") {
+        Some(Command::Help)
+    } else if is_word(name, "write") {
+        if count == 2 {
+            Some(Command::Write)
+        } else {
+            None
+        }
+    } else if is_word(name, "all") {
+        if count == 2 { Some(Command::All) } else { None }
+    } else if is_word(name, "get") {
+        if count >= 1 { Some(Command::Get) } else { None }
+    } else if is_word(name, "list") {
+        if count == 1 {
+            Some(Command::List)
+        } else {
+            None
+        }
+    } else {
+        None
+    }
+}

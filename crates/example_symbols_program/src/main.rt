@@ -1,0 +1,214 @@
+//! A symbol table of the output of `nm`: written to files, read back, looked up and listed.
+#![tactic(auto)]
+
+ghost use Rattle.std.specs.Prelude.{IfOk, None, Ok, OnOk, length, ◌≡◌};
+ghost use Rattle.example_symbols.specs.Table.{IsTable, address_found};
+ghost use Rattle.example_symbols_program.specs.Commands.{command_of};
+ghost use Rattle.example_symbols_program.specs.Outcomes.{outcome_of};
+
+mod by_address;
+mod command;
+mod errors;
+mod outcome;
+
+use crate::command::{Command, USAGE, command_of};
+use crate::errors::{SymbolsError, file_error, invalid_error, write_error};
+use crate::outcome::{Outcome, exit_status};
+use example_symbols::lines::parse;
+use example_symbols::table::{address_in, archive, check};
+use std::alloc::AllocError;
+use std::process::ExitCode;
+use std::{env, fs, io};
+
+/// Writes the table of the symbols to one file, and their index to another.
+fn write(
+    rt: &HostRuntime,
+    symbols: &[(&str, u64)],
+    table: &str,
+    index: &str,
+) -> Result<(), SymbolsError> {
+    match archive(rt.alloc(), symbols) {
+        Ok(bytes) => write_file(rt, table, bytes.as_slice())?,
+        Err(error) => return Err(write_error(rt.alloc(), table, error)),
+    }
+    match by_address::archive(rt.alloc(), symbols) {
+        Ok(bytes) => write_file(rt, index, bytes.as_slice())?,
+        Err(error) => return Err(write_error(rt.alloc(), index, error)),
+    }
+    println!(rt; "symbols {}", symbols.len())?;
+    Ok(())
+}
+
+/// Writes the bytes to a file.
+fn write_file(rt: &HostRuntime, file: &str, bytes: &[u8]) -> Result<(), SymbolsError> {
+    match fs::write(rt, file, bytes) {
+        Ok(()) => Ok(()),
+        Err(error) => Err(file_error(rt.alloc(), file, error)),
+    }
+}
+
+/// Returns the bytes of a file.
+fn read_file(rt: &HostRuntime, file: &str) -> Result<Vec<u8>, SymbolsError> {
+    match fs::read(rt, file) {
+        Ok(bytes) => Ok(bytes),
+        Err(error) => Err(file_error(rt.alloc(), file, error)),
+    }
+}
+
+/// Returns the text on standard input.
+fn read_input(rt: &HostRuntime) -> Result<String, SymbolsError> {
+    match io::read_to_string(rt.alloc(), rt.reader()) {
+        Ok(text) => Ok(text),
+        Err(error) => Err(SymbolsError::Input(error)),
+    }
+}
+
+/// Prints the address of a name in a table, or a line with `none`.
+fn answer(rt: &HostRuntime, table: &[u8], name: &str) -> Result<Outcome, SymbolsError>
+    requires { IsTable table.now }
+    ensures { IfOk result (λ outcome. outcome ≡ outcome_of (address_found name.now table.now)) }
+{
+    match address_in(table, name) {
+        Some(address) => {
+            println!(rt; "{address:016x} {name}")?;
+            Ok(Outcome::Complete)
+        }
+        None => {
+            println!(rt; "none {name}")?;
+            Ok(Outcome::Missing)
+        }
+    }
+}
+
+/// Validates the table of a file.
+fn opened(rt: &HostRuntime, file: &str, table: &[u8]) -> Result<(), SymbolsError>
+    ensures { OnOk result (IsTable table.now) }
+{
+    match check(table) {
+        Ok(()) => Ok(()),
+        Err(error) => Err(invalid_error(rt.alloc(), file, error)),
+    }
+}
+
+/// Prints the addresses of names in the table of a file.
+///
+/// The names are the arguments, or the lines of standard input if there are no arguments.
+fn get(rt: &HostRuntime, table: &str, names: &[String]) -> Result<Outcome, SymbolsError> {
+    let bytes = read_file(rt, table)?;
+    opened(rt, table, bytes.as_slice())?;
+    let mut outcome = Outcome::Complete;
+    for name in names {
+        outcome = outcome.and(answer(rt, bytes.as_slice(), name.as_str())?);
+    }
+    if names.is_empty() {
+        let text = read_input(rt)?;
+        for name in text.lines() {
+            outcome = outcome.and(answer(rt, bytes.as_slice(), name)?);
+        }
+    }
+    Ok(outcome)
+}
+
+/// Prints the names in the index of a file, by ascending address.
+fn list(rt: &HostRuntime, index: &str) -> Result<Outcome, SymbolsError> {
+    let bytes = read_file(rt, index)?;
+    let map = match by_address::open(bytes.as_slice()) {
+        Ok(map) => map,
+        Err(error) => return Err(invalid_error(rt.alloc(), index, error)),
+    };
+    for place in 0..map.len() {
+        if let Some((address, name)) = by_address::entry(map, place) {
+            println!(rt; "{address:016x} {name}")?;
+        }
+    }
+    Ok(Outcome::Complete)
+}
+
+/// Validates a table without its last byte, and prints the result.
+fn cut_short(rt: &HostRuntime, table: &[u8]) -> Result<(), SymbolsError> {
+    if let Some((_, front)) = table.split_last() {
+        match check(front) {
+            Ok(()) => println!(rt; "cut short: accepted")?,
+            Err(refused) => println!(rt; "cut short: {refused:?}")?,
+        }
+    }
+    Ok(())
+}
+
+/// Writes the table and the index of the lines of standard input to files.
+///
+/// If `all` is `true`, it then reads the files back and prints:
+///
+/// - the address of each name in the table,
+/// - the entries of the index,
+/// - the validation error of the table without its last byte.
+fn build(rt: &HostRuntime, table: &str, index: &str, all: bool) -> Result<Outcome, SymbolsError> {
+    let text = read_input(rt)?;
+    let symbols = parse(rt.alloc(), text.as_str())?;
+    write(rt, symbols.as_slice(), table, index)?;
+    let mut outcome = Outcome::Complete;
+    if all {
+        let bytes = read_file(rt, table)?;
+        opened(rt, table, bytes.as_slice())?;
+        for (name, _) in symbols.iter() {
+            outcome = outcome.and(answer(rt, bytes.as_slice(), name)?);
+        }
+        outcome = outcome.and(list(rt, index)?);
+        cut_short(rt, bytes.as_slice())?;
+    }
+    Ok(outcome)
+}
+
+/// Prints the usage to standard error.
+fn misused(rt: &HostRuntime) -> Outcome
+    ensures { result ≡ Outcome.Misused }
+{
+    let _ = rt.eprintln(USAGE);
+    Outcome::Misused
+}
+
+/// Executes the command with the name and the arguments.
+///
+/// If they are no command, it prints the usage to standard error.
+fn execute(rt: &HostRuntime, name: &str, arguments: &[String]) -> Result<Outcome, SymbolsError>
+    ensures { command_of name.now (length arguments.now) ≡ None → result ≡ Ok Outcome.Misused }
+{
+    match command_of(name, arguments.len()) {
+        Some(Command::Help) => {
+            println!(rt; "{USAGE}")?;
+            Ok(Outcome::Complete)
+        }
+        Some(Command::Write) => build(rt, arguments[0].as_str(), arguments[1].as_str(), false),
+        Some(Command::All) => build(rt, arguments[0].as_str(), arguments[1].as_str(), true),
+        Some(Command::Get) => get(rt, arguments[0].as_str(), &arguments[1..]),
+        Some(Command::List) => list(rt, arguments[0].as_str()),
+        None => Ok(misused(rt)),
+    }
+}
+
+/// Executes the command of the command line.
+fn run(rt: &HostRuntime) -> Result<Outcome, SymbolsError> {
+    let given = match env::args(rt) {
+        Ok(given) => given,
+        Err(error) => return Err(SymbolsError::Arguments(error)),
+    };
+    let mut words: Vec<String> = Vec::new(rt.alloc());
+    for word in given.skip(1) {
+        match words.push(word) {
+            Ok(()) => {}
+            Err(refused) => return Err(SymbolsError::Memory(AllocError::from(refused))),
+        }
+    }
+    match words.as_slice().split_first() {
+        Some((name, arguments)) => execute(rt, name.as_str(), arguments),
+        None => Ok(misused(rt)),
+    }
+}
+
+fn main(rt: HostRuntime) -> ExitCode {
+    let outcome = run(&rt);
+    if let Err(error) = &outcome {
+        let _ = eprintln!(rt; "symbols: {error}");
+    }
+    ExitCode::from(exit_status(&outcome))
+}

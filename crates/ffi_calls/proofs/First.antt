@@ -1,0 +1,56 @@
+-- The results for the first pair of a list whose key passes the test.
+use Rattle.rkyv_base.specs.declared.element.HasSpec.{Ghosts as Specs}
+use Rattle.rkyv_base.specs.declared.width.Word.{Ghosts as Words}
+use Rattle.std.proofs.Common.{◌≡◌, ◌∙◌, ℕ, Bool, List, None, Option, Some, ap, false, subst, sym, true}
+use Rattle.std.specs.Option.{is_some}
+use Rattle.std.specs.Borrow.{Bor}
+use Rattle.std.specs.Prelude.{IfSome, MatchOption}
+use Rattle.std.proofs.lemmas.Option.{same_Some}
+use Rattle.rkyv_base.specs.ElementSpec.{ElementSpec, Viewable}
+use Rattle.rkyv_base.specs.declared.view.View.{View}
+use Rattle.rkyv_base.specs.View.{pos_of_found}
+use Rattle.rkyv_collections.specs.Map.{IsValueIn, map_bytes}
+use Rattle.rkyv_collections.specs.declared.map.ArchivedHashMap.{ArchivedHashMap}
+use Rattle.rkyv_collections.specs.ListedLookups.{IsFoundValue}
+
+-- the value is at the position `place`
+abbrev RepresentsIn : {B : Type 0} → (List ℕ → ℕ → B → Type 0) → List ℕ → Option ℕ → B → Type 0
+RepresentsIn represents b place x = (q : ℕ) × (place ≡ Some q) × represents b q x
+
+-- a valid element at a position is one at the position of a view of it
+pub view_represents : {T : Type 0} (s : ElementSpec) (view : View T) (a : Bor (List ℕ)) (p : ℕ) → view.archive ≡ a → view.pos ≡ p → Viewable s a.now p → Viewable s view.archive.now view.pos
+view_represents s view a p e f h = subst (Viewable s view.archive.now) (sym f) (subst (λ (d : Bor (List ℕ)). Viewable s d.now p) (sym e) h)
+
+-- the position of a value that is found in a map over the bytes `b`, and its validity
+module _ {K V H W : Type 0} {ks : Specs K} {vs : Specs V} {wt : Words W} (m : ArchivedHashMap K V H W ks vs wt) (b : List ℕ) (same : map_bytes m ≡ b) where
+  pub found_viewable : (found : Option (View V)) (place : Option ℕ) → place ≡ pos_of_found found → IfSome found (IsValueIn m) → IfSome place (Viewable vs.spec b)
+  found_viewable None place e h = subst (λ (o : Option ℕ). IfSome o (Viewable vs.spec b)) (sym e) h
+  found_viewable (Some value) place e h = subst (λ (o : Option ℕ). IfSome o (Viewable vs.spec b)) (sym e) (subst (λ d. Viewable vs.spec d value.pos) (ap (λ (a : Bor (List ℕ)). a.now) h.at.0 ∙ same) h.viewable)
+
+  pub found_placed : {B : Type 0} (represents : List ℕ → ℕ → B → Type 0) (found : Option (View V)) (place : Option ℕ) (o : Option B) → place ≡ pos_of_found found → IfSome found (IsValueIn m)
+      → IsFoundValue represents found o → MatchOption o (place ≡ None) (RepresentsIn represents b place)
+  found_placed represents None place None e within h = e
+  found_placed represents None place (Some x) e within h = absurd h
+  found_placed represents (Some value) place None e within h = absurd h
+  found_placed represents (Some value) place (Some x) e within h = (value.pos, e, subst (λ d. represents d value.pos x) (ap (λ (a : Bor (List ℕ)). a.now) within.at.0 ∙ same) h)
+
+-- the number at `place`, and at `None` the number before
+module _ {N : Type 0} (num : ℕ → ℕ) (value : ℕ → N) (place : Option ℕ) (status after before : ℕ) where
+  abbrev Given : Option N → Type 0
+  Given o = MatchOption o ((status ≡ 1) × (after ≡ before)) (λ x. (status ≡ 0) × (value after ≡ x))
+
+  abbrev Placed : Option N → Type 0
+  Placed o = MatchOption o (place ≡ None) (λ x. (q : ℕ) × (place ≡ Some q) × (value (num q) ≡ x))
+
+  pub first_given : (pos : ℕ) (o : Option N) → place ≡ Some pos → status ≡ 0 → after ≡ num pos → Placed o → Given o
+  first_given pos None p z e h = absurd cc
+  first_given pos (Some x) p z e h = (z, ap value (e ∙ ap num (same_Some pos h.0 (sym p ∙ h.1))) ∙ h.2)
+
+  pub none_given : (o : Option N) → place ≡ None → status ≡ 1 → after ≡ before → Placed o → Given o
+  none_given None p z e h = (z, e)
+  none_given (Some x) p z e h = absurd (let wrong = h.1 in cc)
+
+-- the status of an overwrite, by the pair that it changes
+pub first_set : {P : Type 0} (o : Option P) (found : Bool) (status : ℕ) → found ≡ is_some o → (found ≡ true → status ≡ 0) → (found ≡ false → status ≡ 1) → MatchOption o (status ≡ 1) (λ pair. status ≡ 0)
+first_set None found status e met missed = missed e
+first_set (Some p) found status e met missed = met e

@@ -1,0 +1,57 @@
+-- The result of an overwrite in place, after which the archive is valid.
+use Rattle.std.proofs.Common.{◌≡◌, ℕ, ◌-◌, ◌%◌, ◌∙◌, Bool, List, None, Option, Some, ap, arith, false, length, subst, sym, true}
+use Rattle.std.specs.Int.{Width}
+use Rattle.std.specs.Option.{option_map}
+use Rattle.std.specs.Prelude.{MatchOption}
+use Rattle.rkyv_scan.specs.Groups.{generic_kind}
+use Rattle.rkyv_scan.specs.Hash.{HasherCall}
+use Rattle.rkyv_base.specs.Access.{Accepted}
+use Rattle.rkyv_base.specs.Entry.{entry_spec}
+use Rattle.rkyv_base.specs.Scalar.{Encoding}
+use Rattle.rkyv_base.specs.Sealing.{value_pos, with_value}
+use Rattle.rkyv_base.specs.ElementSpec.{ElementSpec, ValidAt, Viewable}
+use Rattle.rkyv_table.specs.Table.Positions.{pos_found}
+use Rattle.rkyv_collections.specs.InPlace.{SetsFound}
+use Rattle.rkyv_collections.specs.MapSpec.{map_spec}
+use Rattle.ffi_calls.specs.Archives.{hash_by, map_in, root, value_found}
+
+module _ {N : Type 0} (w : Width) (k v : ElementSpec) (e : Encoding N) (key_hash : List ℕ → ℕ → ℕ) (b : List ℕ) (p : ℕ) (value : N) (result : Bool) (c : List ℕ) where
+  -- the result of an overwrite, by its status
+  status_of_set : (status : ℕ) (place : Option ℕ) → (result ≡ true → status ≡ 0) → (result ≡ false → status ≡ 1) → SetsFound w k v e key_hash b p value result c place
+      → MatchOption place ((status ≡ 1) × (c ≡ b)) (λ q. (status ≡ 0) × (c ≡ with_value e b q value))
+  status_of_set status None found missed h = (missed h.0, h.1)
+  status_of_set status (Some q) found missed h = (found h.0, h.1)
+
+  -- the map is valid after the overwrite
+  represents_after_set : (place : Option ℕ) → SetsFound w k v e key_hash b p value result c place → Viewable (map_spec w k v) b p → Viewable (map_spec w k v) c p
+  represents_after_set None h there = subst (λ x. Viewable (map_spec w k v) x p) (sym h.1) there
+  represents_after_set (Some q) h there = h.2.1.valid
+
+-- bytes of the same length with a valid root are a valid archive
+accepted_again : (limit : ℕ) (s : ElementSpec) (b c : List ℕ) (p : ℕ) → Accepted limit s b → p ≡ length b - s.size → length c ≡ length b → Viewable s c p → Accepted limit s c
+accepted_again limit s b c p a at same v =
+    let within = a.within in
+    let inside = a.inside in
+    record {
+      within = omega arith;
+      inside = omega arith;
+      aligned = subst (λ n. (n - s.size) % s.align ≡ 0) (sym same) a.aligned;
+      valid = subst (ValidAt s c) (at ∙ ap (λ n. n - s.size) (sym same)) v.valid;
+    }
+
+-- an overwrite at the position that a lookup finds in the map at the root of an archive
+module _ {N : Type 0} (w : Width) (k v : ElementSpec) (e : Encoding N) (key_hash : List ℕ → ℕ → ℕ) (b : List ℕ) (p : ℕ) (calls : List HasherCall) (fits : ℕ → Bool) (value : N) (result : Bool) (c : List ℕ)
+    (at : p ≡ root w k v b) (set : SetsFound w k v e key_hash b p value result c (option_map (value_pos k v) (pos_found generic_kind w (entry_spec k v).size b p (hash_by calls) fits))) where
+  abbrev place_at : ℕ → Option ℕ
+  place_at q = option_map (value_pos k v) (pos_found generic_kind w (entry_spec k v).size b q (hash_by calls) fits)
+
+  -- the archive is valid after the overwrite
+  pub set_kept : (limit : ℕ) → Accepted limit (map_spec w k v) b → Viewable (map_spec w k v) b p → length c ≡ length b → Accepted limit (map_spec w k v) c
+  set_kept limit accepted viewable same = accepted_again limit (map_spec w k v) b c p accepted at same (represents_after_set w k v e key_hash b p value result c (place_at p) set viewable)
+
+  -- the status of the overwrite, by the position that the lookup finds
+  pub set_told : (status : ℕ) → (result ≡ true → status ≡ 0) → (result ≡ false → status ≡ 1)
+      → MatchOption (value_found (map_in w k v b) calls fits) ((status ≡ 1) × (c ≡ b)) (λ q. (status ≡ 0) × (c ≡ with_value e b q value))
+  set_told status met missed =
+      let P : Option ℕ → Type 0 = λ o. MatchOption o ((status ≡ 1) × (c ≡ b)) (λ q. (status ≡ 0) × (c ≡ with_value e b q value)) in
+      subst P (ap place_at at) (status_of_set w k v e key_hash b p value result c status (place_at p) met missed set)

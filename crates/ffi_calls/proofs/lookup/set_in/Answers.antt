@@ -1,0 +1,52 @@
+use Rattle.std.proofs.Common.{◌≡◌, ◌∙◌, ℕ, ◌-◌, List, ap, arith, inl, inr, length, refl, subst, sym}
+use Rattle.rkyv_scan.specs.Hash.{fx_hasher, low_halves}
+use Rattle.rkyv_base.specs.Scalar.{ScalarRepresents}
+use Rattle.rkyv_collections.specs.Map.{hash_at}
+use Rattle.rkyv_collections.specs.MapFormat.{MapRepresents}
+use Rattle.rkyv_collections.specs.MapSpec.{map_spec}
+use Rattle.ffi_calls.proofs.Writing.{set_kept, set_told}
+use Rattle.rkyv_collections.specs.InPlace.{with_first}
+use Rattle.rkyv_collections.specs.ListedLookups.{first_pair}
+use Rattle.ffi_calls.proofs.First.{first_set}
+use Rattle.ffi_calls.proofs.lookup.set_in.Goals as goal
+
+pub returns-in-None-clause-sets : goal.returns-in-None-clause-sets
+returns-in-None-clause-sets g c = inl (c.in-None.ensures.told, refl, refl)
+
+pub returns-clause-kept : goal.returns-clause-kept
+returns-clause-kept g c =
+    let set = c.set_value_of-found in
+    let same : length set.new.archive ≡ length c.args.archive.now = omega (arith, set.auto.archive) in
+    set_kept g.W.Word.word g.K.HasSpec.spec g.V.HasSpec.spec g.V.Scalar.encoding (hash_at (fx_hasher low_halves) g.K.KeyElement.key_calls) c.args.archive.now c.root_of-root.result (g.A.KeyHash.calls c.args.key.now)
+    (g.A.Query.fits c.args.key.now c.args.archive.now) c.in-Some.number set.result set.new.archive c.root_of-root.ensures.at set.ensures.answer.answer g.W.Width.LIMIT c.requires.archive c.root_of-root.ensures.viewable same
+
+pub returns-clause-sets : goal.returns-clause-sets
+returns-clause-sets g c =
+    let set = c.set_value_of-found in
+    let told = set_told g.W.Word.word g.K.HasSpec.spec g.V.HasSpec.spec g.V.Scalar.encoding (hash_at (fx_hasher low_halves) g.K.KeyElement.key_calls) c.args.archive.now c.root_of-root.result (g.A.KeyHash.calls c.args.key.now)
+    (g.A.Query.fits c.args.key.now c.args.archive.now) c.in-Some.number set.result set.new.archive c.root_of-root.ensures.at set.ensures.answer.answer c.status_of.result c.status_of.ensures.yes c.status_of.ensures.no in
+    inr (c.in-Some.ensures.read.0, (c.in-Some.number, c.in-Some.ensures.told, told))
+
+pub returns-in-None-clause-listed : goal.returns-in-None-clause-listed
+returns-in-None-clause-listed g c = λ factor pairs represents. inl (c.in-None.ensures.told, refl)
+
+pub returns-clause-listed : goal.returns-clause-listed
+returns-clause-listed g c = λ factor pairs represents.
+    let e = g.V.Scalar.encoding in
+    let b = c.args.archive.now in
+    let set = c.set_value_of-found in
+    let asks = g.A.PartialEq.eq c.args.key.now in
+    let Related : List ℕ → ℕ → List (g.row.A.Denot × g.row.V.Denot) → Type 0 = λ d r ps. MapRepresents g.W.Word.word g.K.HasSpec.spec g.V.HasSpec.spec g.K.Represents.represents (ScalarRepresents e) (hash_at (fx_hasher low_halves) g.K.KeyElement.key_calls) factor d r ps in
+    let at = c.root_of-root.ensures.at in
+    let same : length set.new.archive ≡ length b = omega (arith, set.auto.archive) in
+    let after = set.ensures.listed factor pairs (subst (λ p. Related b p pairs) (sym at) represents) in
+    let root_after = at ∙ ap (λ n. n - (map_spec g.W.Word.word g.K.HasSpec.spec g.V.HasSpec.spec).size) (sym same) in
+    inr (
+      c.in-Some.ensures.read.0,
+      (
+        c.in-Some.number,
+        c.in-Some.ensures.told,
+        first_set (first_pair asks pairs) set.result c.status_of.result after.0 c.status_of.ensures.yes c.status_of.ensures.no,
+        subst (λ p. Related set.new.archive p (with_first asks c.in-Some.number pairs)) root_after after.1,
+      ),
+    )

@@ -1,0 +1,134 @@
+-- The archives of maps: forms, validity, lookups and overwrites.
+use Rattle.std.specs.Prelude.{◌≡◌, ℕ, ◌-◌, ◌<◌, ◌^◌, ◌≤◌, ◌⊎◌, Bool, true, false, List, length}
+use Rattle.std.specs.Prelude.{MatchOption, Option}
+use Rattle.std.specs.Int.{Width, w32, w64}
+use Rattle.std.specs.Option.{option_map}
+use mir.Val.{bits}
+use Rattle.rkyv_scan.specs.Groups.{generic_kind}
+use Rattle.rkyv_scan.specs.Hash.{HasherCall, fx_hash, low_halves}
+use Rattle.rkyv_base.specs.Access.{Accepted, AccessFails}
+use Rattle.rkyv_base.specs.Bytes.{number_at}
+use Rattle.rkyv_base.specs.Entry.{entry_spec}
+use Rattle.rkyv_base.specs.Numbers.{unsigned}
+use Rattle.rkyv_base.specs.Scalar.{Encoding, scalar_spec}
+use Rattle.rkyv_base.specs.Sealing.{value_pos, with_value}
+use Rattle.rkyv_base.specs.ElementSpec.{ElementSpec, Viewable}
+use Rattle.rkyv_base.specs.Text.{text_spec}
+use Rattle.rkyv_base.specs.declared.errors.VerifyError.{VerifyError}
+use Rattle.rkyv_collections.specs.MapAt.{MapAt}
+use Rattle.rkyv_collections.specs.MapSpec.{map_spec}
+use Rattle.rkyv_table.specs.Table.Positions.{pos_found}
+use Rattle.ffi_calls.specs.Status.{refusal}
+use Rattle.ffi_calls.specs.declared.form.Form.{Form}
+
+-- `shorter` if the flag is `false`, `longer` if it is `true`
+abbrev pub by_form : {A : Type 0} → A → A → Bool → A
+by_form shorter longer false = shorter
+by_form shorter longer true = longer
+
+-- the word of 32 bits, or of 64 bits if the flag is `true`
+abbrev pub word_of : Bool → Width
+word_of = by_form w32 w64
+
+-- the greatest length of an archive, narrow or wide, in bytes
+abbrev pub limit_of : Bool → ℕ
+limit_of = by_form 4_294_967_295 9_223_372_036_854_775_807
+
+-- the greatest number of buckets, narrow or wide
+abbrev pub most_of : Bool → ℕ
+most_of = by_form 4_294_967_295 4_611_686_018_427_387_904
+
+-- the form of the two flags
+abbrev pub form_of : Bool → Bool → Form
+form_of long_values wide = record { long_values = long_values; wide = wide }
+
+-- the spec of a key that is a number of 32 bits
+abbrev pub number_key : ElementSpec
+number_key = scalar_spec (unsigned w32)
+
+-- the spec of a key that is a text
+abbrev pub text_key : Form → ElementSpec
+text_key form = text_spec (word_of form.wide)
+
+-- the encoding of a value, a number of 32 or of 64 bits
+abbrev pub value_encoding : Form → Encoding ℕ
+value_encoding form = unsigned (word_of form.long_values)
+
+-- the spec of a value
+abbrev pub value_spec : Form → ElementSpec
+value_spec form = scalar_spec (value_encoding form)
+
+-- the spec of the header of a map of numbers
+abbrev pub number_map : Form → ElementSpec
+number_map form = map_spec (word_of form.wide) number_key (value_spec form)
+
+-- the spec of the header of a map of texts
+abbrev pub text_map : Form → ElementSpec
+text_map form = map_spec (word_of form.wide) (text_key form) (value_spec form)
+
+-- a valid map is at position `p`
+abbrev pub IsMapAt : Width → ElementSpec → ElementSpec → List ℕ → ℕ → Type 0
+IsMapAt w k v b p = Viewable (map_spec w k v) b p
+
+-- `b` is the valid archive of a map with keys of spec `k` and values of spec `v`
+abbrev pub IsMapArchive : Width → ℕ → ElementSpec → ElementSpec → List ℕ → Type 0
+IsMapArchive w limit k v b = Accepted limit (map_spec w k v) b
+
+-- a valid pair of such a map is at position `p`
+abbrev pub IsPairAt : ElementSpec → ElementSpec → List ℕ → ℕ → Type 0
+IsPairAt k v b p = Viewable (entry_spec k v) b p
+
+-- `b` is the valid archive of a map of numbers in the form
+abbrev pub IsNumberArchive : Form → List ℕ → Type 0
+IsNumberArchive form b = Accepted (limit_of form.wide) (number_map form) b
+
+-- `b` is the valid archive of a map of texts in the form
+abbrev pub IsTextArchive : Form → List ℕ → Type 0
+IsTextArchive form b = Accepted (limit_of form.wide) (text_map form) b
+
+-- `b` is valid and the status is 0, or the status is that of the first validation error
+abbrev pub Opens : ℕ → ElementSpec → List ℕ → ℕ → Type 0
+Opens limit s b status = (Accepted limit s b × (status ≡ 0))
+    ⊎ ((e : VerifyError) × AccessFails limit s b e × (status ≡ refusal e))
+
+-- the hash of hasher calls
+abbrev pub hash_by : List HasherCall → ℕ
+hash_by calls = fx_hash low_halves calls
+
+-- the position of the header of a map at the end of `b`
+abbrev pub root : Width → ElementSpec → ElementSpec → List ℕ → ℕ
+root w k v b = length b - (map_spec w k v).size
+
+-- the map at the root of the archive `b`
+abbrev pub map_in : Width → ElementSpec → ElementSpec → List ℕ → MapAt
+map_in w k v b = record { word = w; key = k; value = v; bytes = b; pos = root w k v b }
+
+-- the map of numbers, in the form, at the root of an archive
+abbrev pub numbers_in : Form → List ℕ → MapAt
+numbers_in form = map_in (word_of form.wide) number_key (value_spec form)
+
+-- the map of texts, in the form, at the root of an archive
+abbrev pub texts_in : Form → List ℕ → MapAt
+texts_in form = map_in (word_of form.wide) (text_key form) (value_spec form)
+
+-- the position of the value that a lookup finds.
+-- `calls`: hasher calls of the key, `fits`: test of the key at a position
+abbrev pub value_found : MapAt → List HasherCall → (ℕ → Bool) → Option ℕ
+value_found m calls fits = option_map (value_pos m.key m.value)
+    (pos_found generic_kind m.word (entry_spec m.key m.value).size m.bytes m.pos (hash_by calls)
+    fits)
+
+-- the status is 0 and `after` is the number at `place`.
+-- At `None` the status is 1 and `after` is `before`.
+abbrev pub Gives : Width → List ℕ → Option ℕ → ℕ → ℕ → ℕ → Type 0
+Gives v b place before status after = MatchOption place ((status ≡ 1) × (after ≡ before))
+    (λ q. (status ≡ 0) × (after ≡ number_at v b q))
+
+-- `c` is `b` with the value of `number` at `place`, and the status is 0.
+-- If `number` has too many bits, or at `None`, no byte is changed.
+abbrev pub Sets : {N : Type 0} → Encoding N → List ℕ → Option ℕ → ℕ → ℕ → List ℕ → Type 0
+Sets {N} e b place number status c =
+    ((2 ^ bits e.word ≤ number) × (status ≡ 3) × (c ≡ b))
+    ⊎ ((number < 2 ^ bits e.word) × ((value : N) × (e.code value ≡ number)
+    × MatchOption place ((status ≡ 1) × (c ≡ b))
+    (λ q. (status ≡ 0) × (c ≡ with_value e b q value))))

@@ -1,0 +1,150 @@
+-- The items to be archived, and the results of their write.
+use Rattle.std.specs.Prelude.{◌≡◌, ℕ, ◌<◌, ◌^◌, ◌≤◌, ◌⊎◌, All, List, Some, map, slice_get, take}
+use Rattle.std.specs.Borrow.{Bor}
+use Rattle.std.specs.Int.{w32}
+use Rattle.std.specs.Str.{IsUtf8}
+use mir.Val.{bits}
+use Rattle.rkyv_base.specs.Numbers.{unsigned}
+use Rattle.rkyv_base.specs.Scalar.{Encoding, ScalarRepresents, scalar_format}
+use Rattle.rkyv_base.specs.ElementSpec.{ElementSpec}
+use Rattle.rkyv_base.specs.Pairs.{written_as}
+use Rattle.rkyv_base.specs.Text.{text_spec}
+use Rattle.rkyv_base.specs.TextWriting.{text_format}
+use Rattle.rkyv_base.specs.declared.errors.WriteError.{WriteError}
+use Rattle.rkyv_base.specs.declared.writer.NoMemory.{NoMemory}
+use Rattle.rkyv_keys.specs.Calls.{text_calls}
+use Rattle.rkyv_keys.specs.Lemmas.OfTexts.{text_key_calls}
+use Rattle.ffi_calls.specs.Archives.{limit_of, most_of, number_key, value_encoding, value_spec}
+use Rattle.ffi_calls.specs.Archives.{word_of}
+use Rattle.ffi_calls.specs.Listed.{TextRepresents, calls_of_number_at, number_calls}
+use Rattle.ffi_calls.specs.Lists.{ArchiveWidth, IsArchiveOf, ArchiveFails, format_of}
+use Rattle.ffi_calls.specs.Lists.{natives}
+use Rattle.ffi_calls.specs.Status.{write_refusal}
+use Rattle.ffi_calls.specs.declared.building.Built.{Built}
+use Rattle.ffi_calls.specs.declared.form.Form.{Form}
+use Rattle.ffi_calls.specs.declared.number_items.NumberItem.{NumberItem}
+use Rattle.ffi_calls.specs.declared.text_items.TextItem.{TextItem}
+
+module _ {N : Type 0} (width : ArchiveWidth) (v : ElementSpec) (e : Encoding N) where
+  -- a list of bytes is the archive of pairs of numbers
+  abbrev pub AreNumbers : List (ℕ × N) → List ℕ → Type 0
+  AreNumbers = IsArchiveOf width
+      (format_of number_key v (scalar_format (unsigned w32)) number_calls e)
+      (natives (ScalarRepresents (unsigned w32)) calls_of_number_at e)
+
+  -- the write of pairs of numbers fails with an error
+  abbrev pub AreNoNumbers : List (ℕ × N) → WriteError NoMemory → Type 0
+  AreNoNumbers = ArchiveFails width
+      (format_of number_key v (scalar_format (unsigned w32)) number_calls e)
+
+  -- a list of bytes is the archive of pairs of texts
+  abbrev pub AreTexts : List (Bor (List ℕ) × N) → List ℕ → Type 0
+  AreTexts = IsArchiveOf width
+      (format_of (text_spec width.word) v (written_as (λ text. text.now) (text_format width.word))
+      (λ text. text_calls text.now) e)
+      (natives (TextRepresents width.word) (text_key_calls width.word) e)
+
+  -- the write of pairs of texts fails with an error
+  abbrev pub AreNoTexts : List (Bor (List ℕ) × N) → WriteError NoMemory → Type 0
+  AreNoTexts = ArchiveFails width
+      (format_of (text_spec width.word) v (written_as (λ text. text.now) (text_format width.word))
+      (λ text. text_calls text.now) e)
+
+-- `IsCause` applies to the first of `items` that doesn't fit; all items before it fit
+abbrev pub FirstUnfit : {I : Type 0} → (I → Type 0) → (I → Type 0) → List I → Type 0
+FirstUnfit {I} Fits IsCause items = (n : ℕ) × ((item : I)
+    × (slice_get items n ≡ Some item) × All Fits (take n items) × IsCause item)
+
+module _ {N : Type 0} (e : Encoding N) where
+  -- the value of `item` has no more bits than the word
+  abbrev pub NumberFits : NumberItem → Type 0
+  NumberFits item = item.value < 2 ^ bits e.word
+
+  -- the key and the value of `item`
+  abbrev pub number_pair : NumberItem → ℕ × N
+  number_pair item = (item.key, e.value item.value)
+
+  -- `pairs` are the pairs of the items, in order, and all values fit the word
+  abbrev pub ArePairsOfNumbers : List NumberItem → List (ℕ × N) → Type 0
+  ArePairsOfNumbers items pairs = All NumberFits items × (pairs ≡ map number_pair items)
+
+  -- `status` is that of an allocation failure, or of the first value with more bits than the word
+  abbrev pub PairsOfNumbersFail : List NumberItem → ℕ → Type 0
+  PairsOfNumbersFail items status = (status ≡ 12)
+      ⊎ FirstUnfit NumberFits (λ item. (2 ^ bits e.word ≤ item.value) × (status ≡ 3)) items
+
+  -- the key of `item` is UTF-8, and its value has no more bits than the word
+  abbrev pub TextFits : TextItem → Type 0
+  TextFits item = IsUtf8 item.key.now × (item.value < 2 ^ bits e.word)
+
+  -- the bytes of the key of `item`, and its value
+  abbrev pub text_pair : TextItem → List ℕ × N
+  text_pair item = (item.key.now, e.value item.value)
+
+  -- the bytes of the text, and the value
+  abbrev pub text_seen : Bor (List ℕ) × N → List ℕ × N
+  text_seen pair = (pair.0.now, pair.1)
+
+  -- `pairs` are the pairs of the items, in order; all keys are UTF-8, and all values fit the word
+  abbrev pub ArePairsOfTexts : List TextItem → List (Bor (List ℕ) × N) → Type 0
+  ArePairsOfTexts items pairs =
+      All TextFits items × (map text_seen pairs ≡ map text_pair items)
+
+  -- `status` is that of `item`: its key isn't UTF-8, or its key is and its value has too many bits
+  abbrev pub TextFails : ℕ → TextItem → Type 0
+  TextFails status item = ((IsUtf8 item.key.now → ⊥) × (status ≡ 4))
+      ⊎ (IsUtf8 item.key.now × (2 ^ bits e.word ≤ item.value) × (status ≡ 3))
+
+  -- `status` is that of an allocation failure, or of the first item that doesn't fit
+  abbrev pub PairsOfTextsFail : List TextItem → ℕ → Type 0
+  PairsOfTextsFail items status = (status ≡ 12) ⊎ FirstUnfit TextFits (TextFails status) items
+
+module _ {N : Type 0} (width : ArchiveWidth) (v : ElementSpec) (e : Encoding N) where
+  -- `b` is the archive of the pairs of the items
+  abbrev pub NumbersMade : List NumberItem → List ℕ → Type 0
+  NumbersMade items b = (pairs : List (ℕ × N)) × ArePairsOfNumbers e items pairs
+      × AreNumbers width v e pairs b
+
+  -- `status` is that of items without pairs, or of the error of the write of their pairs
+  abbrev pub NumbersRefused : List NumberItem → ℕ → Type 0
+  NumbersRefused items status = PairsOfNumbersFail e items status
+      ⊎ ((pairs : List (ℕ × N)) × (error : WriteError NoMemory) × ArePairsOfNumbers e items pairs
+      × AreNoNumbers width v e pairs error × (status ≡ write_refusal error))
+
+  -- `b` is the archive of the pairs of the items
+  abbrev pub TextsMade : List TextItem → List ℕ → Type 0
+  TextsMade items b = (pairs : List (Bor (List ℕ) × N)) × ArePairsOfTexts e items pairs
+      × AreTexts width v e pairs b
+
+  -- `status` is that of items without pairs, or of the error of the write of their pairs
+  abbrev pub TextsRefused : List TextItem → ℕ → Type 0
+  TextsRefused items status = PairsOfTextsFail e items status
+      ⊎ ((pairs : List (Bor (List ℕ) × N)) × (error : WriteError NoMemory)
+      × ArePairsOfTexts e items pairs × AreNoTexts width v e pairs error
+      × (status ≡ write_refusal error))
+
+-- the width of an archive in the form
+abbrev pub width_of : Form → ArchiveWidth
+width_of form =
+    record { word = word_of form.wide; limit = limit_of form.wide; most = most_of form.wide }
+
+-- a list of bytes is the archive of the pairs of numbers in the form
+abbrev pub IsArchiveOfNumbers : Form → List NumberItem → List ℕ → Type 0
+IsArchiveOfNumbers form = NumbersMade (width_of form) (value_spec form) (value_encoding form)
+
+-- a list of bytes is the archive of the pairs of texts in the form
+abbrev pub IsArchiveOfTexts : Form → List TextItem → List ℕ → Type 0
+IsArchiveOfTexts form = TextsMade (width_of form) (value_spec form) (value_encoding form)
+
+-- a status is the error of the write of the pairs of numbers in the form
+abbrev pub ArchiveOfNumbersFails : Form → List NumberItem → ℕ → Type 0
+ArchiveOfNumbersFails form = NumbersRefused (width_of form) (value_spec form) (value_encoding form)
+
+-- a status is the error of the write of the pairs of texts in the form
+abbrev pub ArchiveOfTextsFails : Form → List TextItem → ℕ → Type 0
+ArchiveOfTextsFails form = TextsRefused (width_of form) (value_spec form) (value_encoding form)
+
+-- the status is 0 and `after` has the archive, or it is an error and `after` is `before`
+abbrev pub HandsOut : (List ℕ → Type 0) → (ℕ → Type 0) → Built → ℕ → Built → Type 0
+HandsOut IsMade IsRefused before status after =
+    ((status ≡ 0) × IsMade after.bytes.now) ⊎ (IsRefused status × (after ≡ before))

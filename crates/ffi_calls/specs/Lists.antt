@@ -1,0 +1,122 @@
+-- Maps that represent lists of pairs, and the archives of such lists.
+use Rattle.std.specs.Prelude.{◌≡◌, ℕ, ◌<◌, ◌^◌, ◌≤◌, ◌⊎◌, Bool, List, MatchOption, None}
+use Rattle.std.specs.Prelude.{Option, Some}
+use Rattle.std.specs.Int.{Width}
+use mir.Val.{bits}
+use Rattle.rkyv_scan.specs.Hash.{HasherCall, fx_hasher, low_halves}
+use Rattle.rkyv_base.specs.Access.{Accepted}
+use Rattle.rkyv_base.specs.Format.{Format}
+use Rattle.rkyv_base.specs.Root.{ArchiveOf, ArchiveRefused}
+use Rattle.rkyv_base.specs.Scalar.{Encoding, ScalarRepresents, scalar_format}
+use Rattle.rkyv_base.specs.ElementSpec.{ElementSpec}
+use Rattle.rkyv_base.specs.declared.errors.WriteError.{WriteError}
+use Rattle.rkyv_table.specs.Table.Listed.{listed}
+use Rattle.rkyv_table.specs.Table.TableFormat.{TableResolver}
+use Rattle.rkyv_collections.specs.InPlace.{with_first}
+use Rattle.rkyv_collections.specs.ListedLookups.{first_pair, first_value}
+use Rattle.rkyv_collections.specs.ListedWalks.{WalksVisitPairs}
+use Rattle.rkyv_collections.specs.MapAt.{AskedValue, MapAt, asked_value}
+use Rattle.rkyv_collections.specs.MapSpec.{map_spec}
+use Rattle.rkyv_collections.specs.MapFormat.{MapRepresents, map_format}
+use Rattle.rkyv_collections.specs.Natives.{NativePairs, PairFormat, WidthMembers, native_pairs}
+use Rattle.rkyv_collections.specs.Natives.{pair_format}
+use Rattle.ffi_calls.specs.Archives.{map_in}
+
+-- the pairs of numbers under keys that `represents` relates to bytes, with the hasher calls
+-- `key_calls`
+abbrev pub natives : {A N : Type 0} → (List ℕ → ℕ → A → Type 0)
+    → (List ℕ → ℕ → List HasherCall) → Encoding N → NativePairs A N
+natives represents key_calls e =
+    native_pairs represents (ScalarRepresents e) (fx_hasher low_halves) key_calls
+
+-- how pairs of keys and numbers are written: by the specs of keys and values, the format and the
+-- hasher calls of a key, and the encoding of values
+abbrev pub format_of : {A N R : Type 0} → ElementSpec → ElementSpec → Format A R → (A
+    → List HasherCall)
+    → Encoding N → PairFormat A N R (Unit {0})
+format_of k v format calls e = pair_format k v format (scalar_format e) (fx_hasher low_halves) calls
+
+-- the lookup of keys by the values that they represent
+abbrev pub asked_key : {A : Type 0} → (List ℕ → ℕ → A → Type 0) → (List ℕ → ℕ → List HasherCall)
+    → (A → Bool) → AskedValue A
+asked_key represents key_calls asks = asked_value (fx_hasher low_halves) key_calls represents asks
+
+-- the map represents the pairs, under the load factor
+abbrev pub PairsRepresent : {A N : Type 0} → MapAt → NativePairs A N → ℕ × ℕ → List (A × N) → Type 0
+PairsRepresent m native factor pairs = MapRepresents m.word m.key m.value native.key native.value
+    native.key_hash factor m.bytes m.pos pairs
+
+module _ {A N : Type 0} (m : MapAt) (a : AskedValue A) (e : Encoding N) where
+  -- the pairs of keys that a lookup asks for, and of values
+  abbrev pub asked_pairs : NativePairs A N
+  asked_pairs = record { key = a.represents; value = ScalarRepresents e; key_hash = a.key_hash }
+
+  -- `place` is the position of the first value whose key is accepted, or both are `None`
+  abbrev pub PosOfFirst : Option ℕ → Type 0
+  PosOfFirst place = (factor : ℕ × ℕ) (pairs : List (A × N))
+      → PairsRepresent m asked_pairs factor pairs
+      → MatchOption (first_value a.asks pairs) (place ≡ None)
+      (λ x. (q : ℕ) × (place ≡ Some q) × ScalarRepresents e m.bytes q x)
+
+  -- The result of a lookup is the value of the first pair whose key is accepted.
+  -- Without one the status is 1 and `after` is `before`.
+  abbrev pub GivesFirst : ℕ → ℕ → ℕ → Type 0
+  GivesFirst before status after = (factor : ℕ × ℕ) (pairs : List (A × N))
+      → PairsRepresent m asked_pairs factor pairs
+      → MatchOption (first_value a.asks pairs) ((status ≡ 1) × (after ≡ before))
+      (λ value. (status ≡ 0) × (e.value after ≡ value))
+
+  -- After an overwrite `c` represents the list with the value of `number` in the first such pair.
+  -- If no key is accepted the status is 1; if `number` has too many bits it is 3.
+  abbrev pub SetsFirstOf : ℕ → ℕ → List ℕ → Type 0
+  SetsFirstOf number status c = (factor : ℕ × ℕ) (pairs : List (A × N))
+      → PairsRepresent m asked_pairs factor pairs
+      → ((2 ^ bits e.word ≤ number) × (status ≡ 3))
+      ⊎ ((number < 2 ^ bits e.word) × ((value : N) × (e.code value ≡ number)
+      × MatchOption (first_pair a.asks pairs) (status ≡ 1) (λ pair. status ≡ 0)
+      × PairsRepresent (map_in m.word m.key m.value c) asked_pairs factor
+      (with_first a.asks value pairs)))
+
+-- A walk over an archive of a list visits the home buckets of its pairs, each once and ascending.
+-- It visits no other bucket, and the n-th home bucket has the n-th pair.
+abbrev pub WalksVisitListed : {A N : Type 0} → Width → ElementSpec → ElementSpec → NativePairs A N
+    → Type 0
+WalksVisitListed w k v native = WalksVisitPairs w k v native.key native.value native.key_hash
+
+-- the width of an archive. `word`: its word, `limit`: greatest length of an archive in bytes,
+-- `most`: greatest number of buckets
+pub record ArchiveWidth : Type 0 where
+  pub word : Width
+  pub limit : ℕ
+  pub most : ℕ
+
+-- the width with the members of a `Width`
+abbrev pub archive_width : WidthMembers → ArchiveWidth
+archive_width w = record { word = w.word; limit = w.LIMIT; most = w.MAX_CAPACITY }
+
+module _ {A N R : Type 0} (width : ArchiveWidth) (format : PairFormat A N R (Unit {0})) where
+  -- the format of a list of pairs as a map under the load factor 7 / 8
+  abbrev pub pairs_format : Format (List (A × N)) TableResolver
+  pairs_format = listed width.most (7, 8) (map_format width.word format.key_spec
+      format.value_spec format.key format.value format.hash (7, 8))
+
+  -- the spec of the header of the map
+  abbrev pub header_spec : ElementSpec
+  header_spec = map_spec width.word format.key_spec format.value_spec
+
+  -- `b` is the archive of the pairs, in this order.
+  -- It is valid, represents them, and has no other bytes.
+  unfoldable pub IsArchiveOf : NativePairs A N → List (A × N) → List ℕ → Type 0
+  IsArchiveOf native pairs b = ArchiveOf width.limit header_spec (MapRepresents width.word
+      format.key_spec format.value_spec native.key native.value native.key_hash (7, 8))
+      pairs_format pairs b
+
+  -- the write of the pairs fails with `error`
+  unfoldable pub ArchiveFails : {F : Type 0} → List (A × N) → WriteError F → Type 0
+  ArchiveFails pairs error = ArchiveRefused width.limit header_spec pairs_format pairs error
+
+  -- an archive of a list is valid, and represents the list
+  abbrev pub ArchivesRepresent : NativePairs A N → Type 0
+  ArchivesRepresent native = (pairs : List (A × N)) (b : List ℕ) → IsArchiveOf native pairs b
+      → Accepted width.limit header_spec b
+      × PairsRepresent (map_in width.word format.key_spec format.value_spec b) native (7, 8) pairs

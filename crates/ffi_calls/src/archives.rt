@@ -1,0 +1,49 @@
+//! The archive of a map: its validation, its header, and its number of pairs.
+
+ghost use Rattle.std.specs.Prelude.{◌≡◌};
+ghost use Rattle.rkyv_base.specs.Access.{Accepted};
+ghost use Rattle.rkyv_base.specs.ElementSpec.{Viewable};
+ghost use Rattle.rkyv_collections.specs.MapSpec.{map_spec};
+ghost use Rattle.ffi_calls.specs.Archives.{IsMapArchive, Opens, map_in, root};
+ghost use Rattle.ffi_calls.specs.Calls.{Counts};
+
+use crate::status::{DONE, refusal};
+use crate::value::Value;
+use rkyv_base::access::{access_in, access_unchecked};
+use rkyv_base::element::Element;
+use rkyv_base::view::View;
+use rkyv_base::width::Width;
+use rkyv_collections::FxHasher64;
+use rkyv_collections::map::{ArchivedHashMap, HashMapOf};
+
+/// Validates the archive of a map; returns `DONE` or the status of the first error.
+pub(crate) fn open_map<K: Element, V: Element, W: Width>(archive: &[u8]) -> u32
+    ensures told { Opens W.LIMIT (map_spec W.word K.spec V.spec) archive.now result }
+    ensures accepts { Accepted W.LIMIT (map_spec W.word K.spec V.spec) archive.now
+        → result ≡ 0 }
+{
+    match access_in::<W, HashMapOf<K, V, FxHasher64, W>>(archive) {
+        Ok(_) => DONE,
+        Err(e) => refusal(&e),
+    }
+}
+
+/// Returns the position of the map's header in a valid archive.
+#[inline]
+pub(crate) fn root_of<K: Element, V: Element, W: Width>(archive: &[u8]) -> u64
+    requires { Accepted W.LIMIT (map_spec W.word K.spec V.spec) archive.now }
+    ensures at { result ≡ root W.word K.spec V.spec archive.now }
+    ensures viewable { Viewable (map_spec W.word K.spec V.spec) archive.now result }
+{
+    access_unchecked::<HashMapOf<K, V, FxHasher64, W>>(archive).pos()
+}
+
+/// Returns the number of pairs of the map in a valid archive.
+#[inline]
+pub(crate) fn pair_count<K: Element, V: Value, W: Width>(archive: &[u8]) -> usize
+    requires { IsMapArchive W.word W.LIMIT K.spec V.spec archive.now }
+    ensures { Counts (map_in W.word K.spec V.spec archive.now) result }
+{
+    let root = root_of::<K, V, W>(archive);
+    ArchivedHashMap::<K, V, FxHasher64, W>::of(View::new(archive, root)).len()
+}

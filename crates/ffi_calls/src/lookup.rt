@@ -1,0 +1,126 @@
+//! Lookup of a key's value, and its overwrite in place.
+
+ghost use Rattle.std.specs.Prelude.{IfSome, false, true, ◌≡◌};
+ghost use Rattle.rkyv_base.specs.Bytes.{number_at};
+ghost use Rattle.rkyv_base.specs.ElementSpec.{Viewable};
+ghost use Rattle.rkyv_base.specs.View.{pos_of_found};
+ghost use Rattle.ffi_calls.specs.Archives.{Gives, IsMapArchive, Sets, map_in, value_found};
+ghost use Rattle.ffi_calls.specs.Lists.{GivesFirst, PosOfFirst, SetsFirstOf, asked_key};
+
+use crate::archives::root_of;
+use crate::status::{DONE, NOT_FOUND, VALUE_TOO_LARGE};
+use crate::value::Value;
+use rkyv_base::element::{Element, Represents};
+use rkyv_base::view::View;
+use rkyv_base::width::Width;
+use rkyv_collections::map::ArchivedHashMap;
+use rkyv_collections::map::in_place::set_value_of;
+use rkyv_collections::map::laws::lookups_find_listed;
+use rkyv_collections::{FxHasher64, KeyElement, NativeKey};
+
+/// Returns the position of the value that a lookup finds.
+#[inline]
+fn found_pos<V: Element>(found: Option<View<'_, V>>) -> Option<u64>
+    ensures { result ≡ pos_of_found found.entry }
+{
+    match found {
+        Some(value) => Some(value.pos()),
+        None => None,
+    }
+}
+
+/// Returns the position of the value that a lookup of the key finds in a valid archive.
+#[inline]
+fn value_pos_in<A: NativeKey<K>, K: KeyElement + Represents<A>, V: Value, W: Width>(
+    archive: &[u8],
+    key: &A,
+) -> Option<u64>
+    requires archive { IsMapArchive W.word W.LIMIT K.spec V.spec archive.now }
+    requires query { A.can_read key.now }
+    ensures viewable { IfSome result (Viewable V.spec archive.now) }
+    ensures found { result ≡ value_found (map_in W.word K.spec V.spec archive.now)
+        (A.calls key.now) (A.fits key.now archive.now) }
+    ensures listed { PosOfFirst (map_in W.word K.spec V.spec archive.now)
+        (asked_key K.represents K.key_calls (A.eq key.now)) V.encoding result }
+{
+    lookups_find_listed::<A, V, K, V, FxHasher64, W>();
+    let root = root_of::<K, V, W>(archive);
+    let map = ArchivedHashMap::<K, V, FxHasher64, W>::of(View::new(archive, root));
+    found_pos(map.get(key))
+}
+
+/// Returns the number at a position.
+#[inline]
+pub(crate) fn number_in<V: Value>(archive: &[u8], pos: u64) -> u64
+    requires { Viewable V.spec archive.now pos }
+    ensures { result ≡ number_at V.encoding.word archive.now pos }
+{
+    View::<V>::new(archive, pos).to_native().to_number()
+}
+
+/// Looks up a key in a valid archive, and stores its value in `value`.
+///
+/// # Errors
+///
+/// - `NOT_FOUND`: the lookup doesn't find the key; `value` is unchanged then.
+pub(crate) fn get_in<A: NativeKey<K>, K: KeyElement + Represents<A>, V: Value, W: Width>(
+    archive: &[u8],
+    key: &A,
+    value: &mut u64,
+) -> u32
+    requires archive { IsMapArchive W.word W.LIMIT K.spec V.spec archive.now }
+    requires query { A.can_read key.now }
+    ensures gives { Gives V.encoding.word archive.now
+        (value_found (map_in W.word K.spec V.spec archive.now) (A.calls key.now)
+        (A.fits key.now archive.now)) value.old result value.new }
+    ensures listed { GivesFirst (map_in W.word K.spec V.spec archive.now)
+        (asked_key K.represents K.key_calls (A.eq key.now)) V.encoding value.old result value.new }
+{
+    match value_pos_in::<A, K, V, W>(archive, key) {
+        Some(pos) => {
+            *value = number_in::<V>(archive, pos);
+            DONE
+        }
+        None => NOT_FOUND,
+    }
+}
+
+/// Returns `DONE` if a key is found, and `NOT_FOUND` if it isn't.
+#[inline]
+fn status_of(found: bool) -> u32
+    ensures yes { found ≡ true → result ≡ 0 }
+    ensures no { found ≡ false → result ≡ 1 }
+{
+    if found { DONE } else { NOT_FOUND }
+}
+
+/// Looks up a key in a valid archive, and overwrites its value in place.
+///
+/// # Errors
+///
+/// - `VALUE_TOO_LARGE`: the value has more bits than the values of the map.
+/// - `NOT_FOUND`: the lookup doesn't find the key.
+///
+/// After an error no byte is changed.
+pub(crate) fn set_in<A: NativeKey<K>, K: KeyElement + Represents<A>, V: Value, W: Width>(
+    archive: &mut [u8],
+    key: &A,
+    value: u64,
+) -> u32
+    requires archive { IsMapArchive W.word W.LIMIT K.spec V.spec archive.old }
+    requires query { A.can_read key.now }
+    ensures kept { IsMapArchive W.word W.LIMIT K.spec V.spec archive.new }
+    ensures sets { Sets V.encoding archive.old
+        (value_found (map_in W.word K.spec V.spec archive.old) (A.calls key.now)
+        (A.fits key.now archive.old)) value result archive.new }
+    ensures listed { SetsFirstOf (map_in W.word K.spec V.spec archive.old)
+        (asked_key K.represents K.key_calls (A.eq key.now)) V.encoding value result archive.new }
+{
+    let number = match V::of_number(value) {
+        Some(number) => number,
+        None => return VALUE_TOO_LARGE,
+    };
+    let root = root_of::<K, V, W>(&*archive);
+    let found = set_value_of::<A, K, V, FxHasher64, W>(archive, root, key, number);
+    status_of(found)
+}

@@ -1,0 +1,89 @@
+//! The statuses that calls return.
+
+ghost use Rattle.std.specs.Prelude.{◌≡◌};
+ghost use Rattle.ffi_calls.specs.Status.{container_refusal, refusal, write_refusal};
+
+use rkyv_base::errors::{VerifyError, WriteError};
+use rkyv_base::writer::NoMemory;
+use rkyv_container::errors::ContainerError;
+
+/// The call succeeded.
+pub const DONE: u32 = 0;
+
+/// The lookup doesn't find the key.
+pub const NOT_FOUND: u32 = 1;
+
+/// No pair remains.
+pub const END: u32 = 2;
+
+/// The value has more bits than the values of the map.
+pub const VALUE_TOO_LARGE: u32 = 3;
+
+/// The key isn't a text: its bytes aren't UTF-8.
+pub const NOT_TEXT: u32 = 4;
+
+/// An allocation failed.
+pub const NO_MEMORY: u32 = 12;
+
+/// The length in a container's header isn't the number of bytes behind the header.
+pub const WRONG_LENGTH: u32 = 46;
+
+/// Returns the status of a validation error: 16 to 23.
+#[tactic(auto, unfolding(crate::specs::Status::refusal))]
+pub(crate) fn refusal(error: &VerifyError) -> u32
+    ensures { result ≡ refusal error.now }
+{
+    match error {
+        VerifyError::OutOfRange { .. } => 16,
+        VerifyError::Unaligned { .. } => 17,
+        VerifyError::InvalidLength { .. } => 18,
+        VerifyError::WrongNumberOfElements { .. } => 19,
+        VerifyError::UnwrappedControlByte { .. } => 20,
+        VerifyError::PlaceOutOfRange { .. } => 21,
+        VerifyError::InvalidValue { .. } => 22,
+        VerifyError::Refused(_) => 23,
+    }
+}
+
+/// Returns the status of a write error: `NO_MEMORY`, or 23 to 29.
+#[tactic(auto, unfolding(crate::specs::Status::write_refusal))]
+pub(crate) fn write_refusal(error: &WriteError<NoMemory>) -> u32
+    ensures { result ≡ write_refusal error.now }
+{
+    match error {
+        WriteError::Memory => NO_MEMORY,
+        WriteError::Writer(_) => NO_MEMORY,
+        WriteError::Refused(_) => 23,
+        WriteError::CapacityTooLarge { .. } => 24,
+        WriteError::PositionTooLarge => 25,
+        WriteError::DistanceTooLarge => 26,
+        WriteError::TextTooLong => 27,
+        WriteError::InvalidLoadFactor { .. } => 28,
+        WriteError::IteratorLengthMismatch(_) => 29,
+    }
+}
+
+/// Returns the status of a container's error: 32 to 47.
+#[tactic(auto, unfolding(crate::specs::Status::container_refusal))]
+pub(crate) fn container_refusal(error: &ContainerError) -> u32
+    ensures { result ≡ container_refusal error.now }
+{
+    match error {
+        ContainerError::TooShort { .. } => 32,
+        ContainerError::WrongMagic => 33,
+        ContainerError::UnsupportedVersion(_) => 34,
+        ContainerError::UnknownKind(_) => 35,
+        ContainerError::UnknownKeyType(_) => 36,
+        ContainerError::UnknownValueType(_) => 37,
+        ContainerError::UnknownWidth(_) => 38,
+        ContainerError::UnknownFlags(_) => 39,
+        ContainerError::UnexpectedChecksum(_) => 40,
+        ContainerError::NonzeroReserved(_) => 41,
+        ContainerError::WrongKind { .. } => 42,
+        ContainerError::WrongKeyType { .. } => 43,
+        ContainerError::WrongValueType { .. } => 44,
+        ContainerError::WrongWidth { .. } => 45,
+        ContainerError::WrongLength { .. } => 46,
+        ContainerError::WrongChecksum { .. } => 47,
+    }
+}

@@ -1,0 +1,146 @@
+//! The calls for maps of numbers of 32 bits.
+
+ghost use Rattle.std.specs.Prelude.{◌≡◌};
+ghost use Rattle.ffi_calls.specs.Archives.{IsNumberArchive, Opens, form_of, limit_of};
+ghost use Rattle.ffi_calls.specs.Archives.{number_map, numbers_in};
+ghost use Rattle.ffi_calls.specs.Calls.{Counts, GivesNumber, SetsNumber, StepsNumbers};
+ghost use Rattle.ffi_calls.specs.Listed.{GivesFirstNumber, SetsFirstNumber};
+ghost use Rattle.ffi_calls.specs.Items.{HandsOut, IsArchiveOfNumbers, ArchiveOfNumbersFails};
+
+use ffi_calls::building::Built;
+use ffi_calls::form::Form;
+use ffi_calls::number_items::{NumberItem, build_numbers};
+use ffi_calls::numbers::{
+    NumberPair, count_numbers, get_number, next_number, open_numbers, set_number,
+};
+use std::alloc::Global;
+
+/// Validates the archive of a map of numbers.
+///
+/// # Errors
+///
+/// - 16 to 23: the first validation error.
+#[unsafe(no_mangle)]
+pub extern "C" fn rkyv_c_open_numbers(archive: &[u8], long_values: bool, wide: bool) -> u32
+    ensures told { Opens (limit_of wide) (number_map (form_of long_values wide)) archive.now
+        result }
+    ensures accepts { IsNumberArchive (form_of long_values wide) archive.now → result ≡ 0 }
+{
+    open_numbers(archive, Form { long_values, wide })
+}
+
+/// Returns the number of pairs of the map.
+///
+/// # Requires
+///
+/// - The archive is valid: `rkyv_c_open_numbers` returned 0.
+#[unsafe(no_mangle)]
+pub extern "C" fn rkyv_c_count_numbers(archive: &[u8], long_values: bool, wide: bool) -> usize
+    requires { IsNumberArchive (form_of long_values wide) archive.now }
+    ensures { Counts (numbers_in (form_of long_values wide) archive.now) result }
+{
+    count_numbers(archive, Form { long_values, wide })
+}
+
+/// Looks up a key, and stores its value in `value`.
+///
+/// # Errors
+///
+/// - 1: the lookup doesn't find the key; `value` is unchanged then.
+///
+/// # Requires
+///
+/// - The archive is valid: `rkyv_c_open_numbers` returned 0.
+#[unsafe(no_mangle)]
+pub extern "C" fn rkyv_c_get_number(
+    archive: &[u8],
+    long_values: bool,
+    wide: bool,
+    key: u32,
+    value: &mut u64,
+) -> u32
+    requires { IsNumberArchive (form_of long_values wide) archive.now }
+    ensures gives { GivesNumber (form_of long_values wide) archive.now key value.old result
+        value.new }
+    ensures listed { GivesFirstNumber (form_of long_values wide) archive.now key value.old result
+        value.new }
+{
+    get_number(archive, Form { long_values, wide }, key, value)
+}
+
+/// Looks up a key, and overwrites its value in place. The archive stays valid.
+///
+/// # Errors
+///
+/// - 3: the values of the map have 32 bits and the new one has more.
+/// - 1: the lookup doesn't find the key.
+///
+/// After an error no byte is changed.
+///
+/// # Requires
+///
+/// - The archive is valid: `rkyv_c_open_numbers` returned 0.
+#[unsafe(no_mangle)]
+pub extern "C" fn rkyv_c_set_number(
+    archive: &mut [u8],
+    long_values: bool,
+    wide: bool,
+    key: u32,
+    value: u64,
+) -> u32
+    requires { IsNumberArchive (form_of long_values wide) archive.old }
+    ensures kept { IsNumberArchive (form_of long_values wide) archive.new }
+    ensures sets { SetsNumber (form_of long_values wide) archive.old key value result archive.new }
+    ensures listed { SetsFirstNumber (form_of long_values wide) archive.old key value result
+        archive.new }
+{
+    set_number(archive, Form { long_values, wide }, key, value)
+}
+
+/// Stores the next pair, in bucket order, in `pair`.
+///
+/// # Errors
+///
+/// - 2: no pair remains; `pair` is unchanged then.
+///
+/// # Requires
+///
+/// - The archive is valid: `rkyv_c_open_numbers` returned 0.
+#[unsafe(no_mangle)]
+pub extern "C" fn rkyv_c_next_number(
+    archive: &[u8],
+    long_values: bool,
+    wide: bool,
+    pair: &mut NumberPair,
+) -> u32
+    requires { IsNumberArchive (form_of long_values wide) archive.now }
+    ensures { StepsNumbers (form_of long_values wide) archive.now pair.old result pair.new }
+{
+    next_number(archive, Form { long_values, wide }, pair)
+}
+
+/// Writes the archive of the items, in insertion order, and stores its bytes in `built`.
+///
+/// The archive is a map under the load factor 7 / 8. Its bytes are a block of `rattle_alloc` or
+/// `rattle_realloc`, which the caller frees.
+///
+/// # Errors
+///
+/// - 12: an allocation fails.
+/// - 3: a value has more bits than the values of the map.
+/// - 23 to 29: the error of the write.
+///
+/// After an error `built` is unchanged.
+#[unsafe(no_mangle)]
+pub extern "C" fn rkyv_c_build_numbers(
+    alloc: Global,
+    items: &[NumberItem],
+    long_values: bool,
+    wide: bool,
+    built: &mut Built<'_>,
+) -> u32
+    ensures { HandsOut (IsArchiveOfNumbers (form_of long_values wide) items.now)
+        (ArchiveOfNumbersFails (form_of long_values wide) items.now) built.old result built.new }
+{
+    build_numbers(alloc, items, Form { long_values, wide }, built)
+}

@@ -1,0 +1,158 @@
+//! The calls for maps of texts.
+
+ghost use Rattle.std.specs.Prelude.{IsTrue, ◌↔◌, ◌≡◌};
+ghost use Rattle.std.specs.Str.{IsUtf8};
+ghost use Rattle.ffi_calls.specs.Archives.{IsTextArchive, Opens, form_of, limit_of, text_map};
+ghost use Rattle.ffi_calls.specs.Archives.{texts_in};
+ghost use Rattle.ffi_calls.specs.Calls.{Counts, GivesText, SetsText, StepsTexts};
+ghost use Rattle.ffi_calls.specs.Listed.{GivesFirstText, SetsFirstText};
+ghost use Rattle.ffi_calls.specs.Items.{HandsOut, IsArchiveOfTexts, ArchiveOfTextsFails};
+
+use ffi_calls::building::Built;
+use ffi_calls::form::Form;
+use ffi_calls::text_items::{TextItem, build_texts};
+use ffi_calls::texts::{TextPair, count_texts, get_text, is_text, next_text, open_texts, set_text};
+use std::alloc::Global;
+
+/// Validates the archive of a map of texts.
+///
+/// # Errors
+///
+/// - 16 to 23: the first validation error.
+#[unsafe(no_mangle)]
+pub extern "C" fn rkyv_c_open_texts(archive: &[u8], long_values: bool, wide: bool) -> u32
+    ensures told { Opens (limit_of wide) (text_map (form_of long_values wide)) archive.now result }
+    ensures accepts { IsTextArchive (form_of long_values wide) archive.now → result ≡ 0 }
+{
+    open_texts(archive, Form { long_values, wide })
+}
+
+/// Returns the number of pairs of the map.
+///
+/// # Requires
+///
+/// - The archive is valid: `rkyv_c_open_texts` returned 0.
+#[unsafe(no_mangle)]
+pub extern "C" fn rkyv_c_count_texts(archive: &[u8], long_values: bool, wide: bool) -> usize
+    requires { IsTextArchive (form_of long_values wide) archive.now }
+    ensures { Counts (texts_in (form_of long_values wide) archive.now) result }
+{
+    count_texts(archive, Form { long_values, wide })
+}
+
+/// Looks up a key, and stores its value in `value`.
+///
+/// # Errors
+///
+/// - 4: the bytes of the key aren't UTF-8.
+/// - 1: the lookup doesn't find the key.
+///
+/// After an error `value` is unchanged.
+///
+/// # Requires
+///
+/// - The archive is valid: `rkyv_c_open_texts` returned 0.
+#[unsafe(no_mangle)]
+pub extern "C" fn rkyv_c_get_text(
+    archive: &[u8],
+    long_values: bool,
+    wide: bool,
+    key: &[u8],
+    value: &mut u64,
+) -> u32
+    requires { IsTextArchive (form_of long_values wide) archive.now }
+    ensures gives { GivesText (form_of long_values wide) archive.now key.now value.old result
+        value.new }
+    ensures listed { IsUtf8 key.now
+        → GivesFirstText (form_of long_values wide) archive.now key.now value.old result value.new }
+{
+    get_text(archive, Form { long_values, wide }, key, value)
+}
+
+/// Looks up a key, and overwrites its value in place. The archive stays valid.
+///
+/// # Errors
+///
+/// - 4: the bytes of the key aren't UTF-8.
+/// - 3: the values of the map have 32 bits and the new one has more.
+/// - 1: the lookup doesn't find the key.
+///
+/// After an error no byte is changed.
+///
+/// # Requires
+///
+/// - The archive is valid: `rkyv_c_open_texts` returned 0.
+#[unsafe(no_mangle)]
+pub extern "C" fn rkyv_c_set_text(
+    archive: &mut [u8],
+    long_values: bool,
+    wide: bool,
+    key: &[u8],
+    value: u64,
+) -> u32
+    requires { IsTextArchive (form_of long_values wide) archive.old }
+    ensures kept { IsTextArchive (form_of long_values wide) archive.new }
+    ensures sets { SetsText (form_of long_values wide) archive.old key.now value result
+        archive.new }
+    ensures listed { IsUtf8 key.now
+        → SetsFirstText (form_of long_values wide) archive.old key.now value result archive.new }
+{
+    set_text(archive, Form { long_values, wide }, key, value)
+}
+
+/// Stores the next pair, in bucket order, in `pair`, with a key borrowed from the archive.
+///
+/// # Errors
+///
+/// - 2: no pair remains; `pair` is unchanged then.
+///
+/// # Requires
+///
+/// - The archive is valid: `rkyv_c_open_texts` returned 0.
+#[unsafe(no_mangle)]
+pub extern "C" fn rkyv_c_next_text<'a>(
+    archive: &'a [u8],
+    long_values: bool,
+    wide: bool,
+    pair: &mut TextPair<'a>,
+) -> u32
+    requires { IsTextArchive (form_of long_values wide) archive.now }
+    ensures { StepsTexts (form_of long_values wide) archive.now pair.old result pair.new }
+{
+    next_text(archive, Form { long_values, wide }, pair)
+}
+
+/// Returns whether the bytes are a text: UTF-8.
+#[unsafe(no_mangle)]
+pub extern "C" fn rkyv_c_is_text(bytes: &[u8]) -> bool
+    ensures { IsTrue result ↔ IsUtf8 bytes.now }
+{
+    is_text(bytes)
+}
+
+/// Writes the archive of the items, in insertion order, and stores its bytes in `built`.
+///
+/// The archive is a map under the load factor 7 / 8. Its bytes are a block of `rattle_alloc` or
+/// `rattle_realloc`, which the caller frees.
+///
+/// # Errors
+///
+/// - 12: an allocation fails.
+/// - 4: a key isn't UTF-8.
+/// - 3: a value has more bits than the values of the map.
+/// - 23 to 29: the error of the write, which is 27 if a key is too long.
+///
+/// After an error `built` is unchanged.
+#[unsafe(no_mangle)]
+pub extern "C" fn rkyv_c_build_texts(
+    alloc: Global,
+    items: &[TextItem<'_>],
+    long_values: bool,
+    wide: bool,
+    built: &mut Built<'_>,
+) -> u32
+    ensures { HandsOut (IsArchiveOfTexts (form_of long_values wide) items.now)
+        (ArchiveOfTextsFails (form_of long_values wide) items.now) built.old result built.new }
+{
+    build_texts(alloc, items, Form { long_values, wide }, built)
+}

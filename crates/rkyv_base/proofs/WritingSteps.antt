@@ -1,0 +1,81 @@
+-- Writes in a row: the appended bytes, and the error of a later write.
+use Rattle.std.specs.Prelude.{◌≡◌, ℕ, ◌+◌, ◌^◌, ◌-◌, min, List, [], ◌++◌, length, take}
+use Rattle.std.proofs.Common.{arith, refl, subst, sym, ◌∙◌, ap, inl, inr, append_assoc, append-nil, length-append}
+use Rattle.rkyv_base.specs.declared.errors.WriteError.{WriteError}
+use Rattle.rkyv_base.specs.declared.errors.WriteError.TheVariants.{InvalidLoadFactor, IteratorLengthMismatch, CapacityTooLarge, PositionTooLarge, DistanceTooLarge, TextTooLong, Writer, Memory, Refused}
+use Rattle.rkyv_base.specs.Writing.{Output, end_of, Appends, Extends, WriteFails, CauseApplies, FaultsDuring, Reached, Step, Within, piece}
+
+-- the appended bytes follow the earlier bytes
+pub grows : (o o1 : Output) (p : List ℕ) → Appends o o1 p → Extends o o1 p
+grows o o1 p a = record { start = a.start; bytes = a.bytes }
+
+-- two parts in a row are one
+pub grows_after : (o o1 o2 : Output) (p q : List ℕ) → Extends o o1 p → Extends o1 o2 q → Extends o o2 (p ++ q)
+grows_after o o1 o2 p q a b = record {
+  start = b.start ∙ a.start;
+  bytes = b.bytes ∙ ap (λ (x : List ℕ). x ++ q) a.bytes ∙ append_assoc o.bytes p q;
+}
+
+pub appends_after : (o o1 o2 : Output) (p q : List ℕ) → Appends o o1 p → Appends o1 o2 q → Appends o o2 (p ++ q)
+appends_after o o1 o2 p q a b =
+    let g = grows_after o o1 o2 p q (grows o o1 p a) (grows o1 o2 q b) in
+    record { start = g.start; bytes = g.bytes; failures = b.failures ∙ a.failures }
+
+-- the end moves by the length of the part
+pub end-grows : (o o1 : Output) (a : List ℕ) → Extends o o1 a → end_of o1 ≡ end_of o + length a
+end-grows o o1 a h = omega (arith, h.start, ap length h.bytes, length-append o.bytes a)
+
+pub end-appends : (o o1 : Output) (a : List ℕ) → Appends o o1 a → end_of o1 ≡ end_of o + length a
+end-appends o o1 a h = end-grows o o1 a (grows o o1 a h)
+
+-- two parts in a row that end within the limit do so together
+pub within_after : (limit : ℕ) (o1 o2 : Output) (p q : List ℕ) → Extends o1 o2 q → Within limit o1 p → Within limit o2 q → Within limit o2 (p ++ q)
+within_after limit o1 o2 p q g a (inr b) = inr b
+within_after limit o1 o2 p q g (inl a) (inl b) = inl (ap (λ (x : List ℕ). x ++ q) a ∙ b)
+within_after limit o1 o2 p q g (inr a) (inl b) = inr (omega (arith, end-grows o1 o2 q g, ap length b, a))
+
+module _ (limit : ℕ) (next next' : List ℕ → Step → Type 0) (o o1 o2 : Output) (p : List ℕ)
+    (a : Appends o o1 p) (inside : Within limit o1 p) (hn : (f : List ℕ) (step : Step) → next' f step → next (p ++ f) step) where
+  reached_after : (f : List ℕ) (step : Step) → Extends o1 o2 f → Reached limit next' o1 o2 f step → Reached limit next o o2 (p ++ f) step
+  reached_after f step g r = (within_after limit o1 o2 p f g inside r.0, r.1 ∙ a.failures, hn f step r.2)
+
+  faults_after : (f : List ℕ) → FaultsDuring limit next' o1 o2 f → FaultsDuring limit next o o2 (p ++ f)
+  faults_after f h = record {
+    before = p ++ h.before;
+    bytes = h.bytes;
+    comes = hn h.before (piece h.bytes) h.comes;
+    fits = omega (arith, end-appends o o1 p a, h.fits, length-append p h.before);
+    taken = h.taken;
+    is = ap (λ (x : List ℕ). p ++ x) h.is ∙ sym (append_assoc p h.before (take h.taken h.bytes));
+    counted = subst (λ n. o2.failures ≡ min (n + 1) (2 ^ 64 - 1)) a.failures h.counted;
+  }
+
+  cause_after : {F : Type 0} (e : WriteError F) (f : List ℕ) → Extends o1 o2 f → CauseApplies limit next' o1 o2 f e → CauseApplies limit next o o2 (p ++ f) e
+  cause_after (InvalidLoadFactor n d) f g c = reached_after f _ g c
+  cause_after (IteratorLengthMismatch m) f g c = reached_after f _ g c
+  cause_after (CapacityTooLarge n) f g c = reached_after f _ g c
+  cause_after PositionTooLarge f g c = (c.0, reached_after f _ g c.1, c.2)
+  cause_after DistanceTooLarge f g c = reached_after f _ g c
+  cause_after TextTooLong f g c = reached_after f _ g c
+  cause_after (Writer x) f g c = faults_after f c
+  cause_after Memory f g c = reached_after f _ g c
+  cause_after (Refused n) f g c = reached_after f _ g c
+
+-- the error of a later part is an error of the whole
+pub told_after : {F : Type 0} (limit : ℕ) (next next' : List ℕ → Step → Type 0) (o o1 o2 : Output) (p : List ℕ) (e : WriteError F)
+    → Appends o o1 p → Within limit o1 p → ((f : List ℕ) (step : Step) → next' f step → next (p ++ f) step)
+    → WriteFails limit next' o1 o2 e → WriteFails limit next o o2 e
+told_after limit next next' o o1 o2 p e a inside hn t = record {
+  front = p ++ t.front;
+  kept = grows_after o o1 o2 p t.front (grows o o1 p a) t.kept;
+  cause = cause_after limit next next' o o1 o2 p a inside hn e t.front t.kept t.cause;
+}
+
+-- nothing was appended
+pub none_appended : (o : Output) → Appends o o []
+none_appended o = record { start = refl; bytes = sym (append-nil o.bytes); failures = refl }
+
+-- an error under one rule for the next step is an error under a wider one
+pub told_as : {F : Type 0} (limit : ℕ) (next next' : List ℕ → Step → Type 0) (o o' : Output) (e : WriteError F)
+    → ((f : List ℕ) (step : Step) → next' f step → next f step) → WriteFails limit next' o o' e → WriteFails limit next o o' e
+told_as limit next next' o o' e hn t = told_after limit next next' o o o' [] e (none_appended o) (inl refl) hn t

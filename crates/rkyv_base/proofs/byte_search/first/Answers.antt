@@ -1,0 +1,36 @@
+use Rattle.std.proofs.Common.{◌+◌, ℕ, List, arith, length, take, drop, ◌∙◌, ap}
+use Rattle.std.specs.List.{position}
+use Rattle.rkyv_base.proofs.FirstMark.{eight, whole, tail_is, eight_stretch, rest_stretch, stretch_hit, stretch_miss, none_first}
+use Rattle.rkyv_base.proofs.byte_search.first.Goals as goal
+
+pub returns-in-Some : goal.returns-in-Some
+returns-in-Some g c =
+    let xs : List ℕ = c.args.bytes.now in
+    let at = c.loop-at.at in
+    let t = c.loop-at-test.true in
+    let i = c.loop-at.invariant.0 in
+    stretch_hit g.S.ByteClass.in_class xs (take 8 (drop at xs)) at c.in-Some.len (eight_stretch xs at (omega arith)) c.loop-at.invariant.1 (c.in-Some.ensures ∙ ap (λ ys. position g.S.ByteClass.in_class (take 8 ys)) (tail_is xs at i))
+
+pub loop-at-preserved : goal.loop-at-preserved
+loop-at-preserved g c =
+    let xs : List ℕ = c.args.bytes.now in
+    let at = c.loop-at.at in
+    let t = c.loop-at-test.true in
+    let i = c.loop-at.invariant.0 in
+    let e = eight xs at (omega arith) in
+    let m = stretch_miss g.S.ByteClass.in_class xs (take 8 (drop at xs)) at (eight_stretch xs at (omega arith)) c.loop-at.invariant.1 (c.in_default.ensures ∙ ap (λ ys. position g.S.ByteClass.in_class (take 8 ys)) (tail_is xs at i)) in
+    (omega arith, λ k l. m k (omega arith))
+
+pub returns-in-Some-first_of_bytes : goal.returns-in-Some-first_of_bytes
+returns-in-Some-first_of_bytes g c =
+    let xs : List ℕ = c.args.bytes.now in
+    let at = c.loop-at.at in
+    stretch_hit g.S.ByteClass.in_class xs (drop at xs) at c.in-Some-first_of_bytes.len (rest_stretch xs at c.loop-at.invariant.0) c.loop-at.invariant.1 (c.in-Some-first_of_bytes.ensures ∙ ap (position g.S.ByteClass.in_class) (tail_is xs at c.loop-at.invariant.0))
+
+pub returns-in-None : goal.returns-in-None
+returns-in-None g c =
+    let xs : List ℕ = c.args.bytes.now in
+    let at = c.loop-at.at in
+    let e = whole xs at c.loop-at.invariant.0 in
+    none_first g.S.ByteClass.in_class xs (at + length (drop at xs)) (omega arith)
+    (stretch_miss g.S.ByteClass.in_class xs (drop at xs) at (rest_stretch xs at c.loop-at.invariant.0) c.loop-at.invariant.1 (c.in-None.ensures ∙ ap (position g.S.ByteClass.in_class) (tail_is xs at c.loop-at.invariant.0)))

@@ -1,6 +1,0 @@
-use Rattle.std.proofs.Common.{leb}
-use Rattle.rkyv_base.proofs.FirstMark.{splat_bitmask}
-use Rattle.rkyv_base.proofs.sought.HighSought.marks.Goals as goal
-
-pub returns : goal.returns
-returns c = splat_bitmask leb 128 c.args.eight c.fits-eight.0

@@ -1,0 +1,14 @@
+-- Lemmas: the conditions under which an archive is accepted, and the errors otherwise.
+use Rattle.std.specs.Prelude.{ℕ, ◌-◌, List, length}
+use Rattle.std.proofs.Common.{arith}
+use Rattle.rkyv_base.specs.ElementSpec.{ElementSpec, Viewable}
+use Rattle.rkyv_base.specs.Access.{Accepted}
+
+-- the root of an accepted archive
+pub root_viewable : (limit : ℕ) (s : ElementSpec) (b : List ℕ) → Accepted limit s b
+    → Viewable s b (length b - s.size)
+root_viewable limit s b a = record {
+  inside = omega (arith, a.inside);
+  aligned = a.aligned;
+  valid = a.valid;
+}

@@ -1,0 +1,69 @@
+-- Lemmas: numbers and lists of bytes at a position of an archive.
+use Rattle.std.specs.Prelude.{◌≡◌, ℕ, ◌+◌, ◌-◌, ◌≤◌, List, ◌++◌, length, drop, slice_range}
+use Rattle.std.proofs.Common.{refl, arith, sym, ◌∙◌, ap, length-append}
+use Rattle.std.proofs.lemmas.List.{drop-take, take-take, drop-drop, take_all}
+use Rattle.std.proofs.Math.Seq.{take-append_seam, drop-append_seam}
+use Rattle.rkyv_base.specs.Bytes.{AgreeOn, OccursAt}
+
+-- a part of a range, cut out of the range
+pub slice_of_slice : (b : List ℕ) (i j i' j' : ℕ) → i ≤ i' → j' ≤ j → i' ≤ j'
+    → slice_range (slice_range b i j) (i' - i) (j' - i) ≡ slice_range b i' j'
+slice_of_slice b i j i' j' hi hj hij =
+    let e1 : j - i ≡ (i' - i) + (j - i') = omega arith in
+    let e2 : (j' - i) - (i' - i) ≡ j' - i' = omega arith in
+    let e3 : i + (i' - i) ≡ i' = omega arith in
+    let k : j' - i' ≤ j - i' = omega arith in
+    rw (
+      e2,
+      e1,
+      drop-take (i' - i) (j - i') (drop i b),
+      take-take (j' - i') (j - i')
+          (drop (i' - i) (drop i b)) k,
+      drop-drop (i' - i) i b,
+      e3,
+    ) refl
+
+-- two lists that agree in a range agree in each part of it
+pub agree_on_part : (b c : List ℕ) (i j i' j' : ℕ) → i ≤ i' → j' ≤ j → i' ≤ j' → AgreeOn b c i j
+    → AgreeOn b c i' j'
+agree_on_part b c i j i' j' hi hj hij s =
+    sym (slice_of_slice b i j i' j' hi hj hij)
+    ∙ ap (λ (x : List ℕ). slice_range x (i' - i) (j' - i)) s
+    ∙ slice_of_slice c i j i' j' hi hj hij
+
+-- a front and a back of bytes in an archive
+pub occurs_front : (c : List ℕ) (p : ℕ) (x y : List ℕ) → OccursAt c p (x ++ y) → OccursAt c p x
+occurs_front c p x y s =
+    let n : length (x ++ y) ≡ length x + length y = length-append x y in
+    record {
+      inside = omega (arith, s.inside);
+      there =
+          let cut = slice_of_slice c p (p + length (x ++ y)) p (p + length x) (omega arith)
+          (omega arith) (omega arith) in
+          let k : (p + length x) - p ≡ length x = omega arith in
+          let z : p - p ≡ 0 = omega arith in
+          let z0 : length x - 0 ≡ length x = omega arith in
+          sym cut ∙ rw (s.there, k, z, z0) (take-append_seam x y);
+    }
+
+pub occurs_back : (c : List ℕ) (p : ℕ) (x y : List ℕ) → OccursAt c p (x ++ y)
+    → OccursAt c (p + length x) y
+occurs_back c p x y s =
+    let n : length (x ++ y) ≡ length x + length y = length-append x y in
+    record {
+      inside = omega (arith, s.inside);
+      there =
+          let cut = slice_of_slice c p (p + length (x ++ y)) (p + length x)
+          (p + length x + length y) (omega arith) (omega arith) (omega arith) in
+          let k : (p + length x) - p ≡ length x = omega arith in
+          let m : (p + length x + length y) - p ≡ length x + length y = omega arith in
+          let z : (length x + length y) - length x ≡ length y = omega arith in
+          sym cut ∙ rw (s.there, k, m, z, drop-append_seam x y)
+          (take_all (length y) y (omega arith));
+    }
+
+-- a middle part of bytes in an archive
+pub occurs_third : (c : List ℕ) (p : ℕ) (x y z w : List ℕ) → OccursAt c p ((x ++ y) ++ (z ++ w))
+    → OccursAt c (p + length (x ++ y)) z
+occurs_third c p x y z w s = occurs_front c (p + length (x ++ y)) z w
+    (occurs_back c p (x ++ y) (z ++ w) s)

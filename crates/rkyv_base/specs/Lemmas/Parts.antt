@@ -1,0 +1,55 @@
+-- Lemmas: the range of bytes for the parts of a value.
+use Rattle.std.specs.Prelude.{◌≡◌, ℕ, ◌%◌, ◌≤◌, ℤ}
+use Rattle.std.proofs.Common.{arith, ap, inl, inr, subst, sym, ◌∙◌}
+use Rattle.std.proofs.Props.{props}
+use Rattle.std.proofs.lemmas.Int.{ints}
+use Rattle.rkyv_base.specs.declared.errors.VerifyError.{VerifyError}
+use Rattle.rkyv_base.specs.declared.errors.VerifyError.TheVariants.{Unaligned}
+use Rattle.rkyv_base.specs.Parts.{PartIn, PartFails}
+
+-- a part has one position alone
+pub part_one : (begin : ℤ) (size align lo hi at at' : ℕ) → PartIn begin size align lo hi at
+    → PartIn begin size align lo hi at' → at ≡ at'
+part_one begin size align lo hi at at' p q = omega (arith, ints, p.begins, q.begins)
+
+pub part_prop : (begin : ℤ) (size align lo hi at : ℕ) → IsProp (PartIn begin size align lo hi at)
+part_prop begin size align lo hi at = hlevel props
+
+-- a part in the range has no fault
+pub part_exclusive : (begin : ℤ) (size align lo hi at : ℕ) (e : VerifyError)
+    → PartIn begin size align lo hi at → PartFails begin size align lo hi e → ⊥
+part_exclusive begin size align lo hi at e p (inl (inl h, q)) =
+    omega (arith, ints, p.begins, p.above, h)
+part_exclusive begin size align lo hi at e p (inl (inr h, q)) =
+    omega (arith, ints, p.begins, p.below, h)
+part_exclusive begin size align lo hi at e p (inr (k, begins, above, below, unaligned, q)) =
+    let same : at ≡ k = omega (arith, ints, p.begins, begins) in
+    unaligned (subst (λ n. n % align ≡ 0) same p.aligned)
+
+-- a part has one fault alone
+pub part_one_failure : (begin : ℤ) (size align lo hi : ℕ) (e e' : VerifyError)
+    → PartFails begin size align lo hi e → PartFails begin size align lo hi e' → e ≡ e'
+part_one_failure begin size align lo hi e e' (inl h) (inl k) = h.1 ∙ sym k.1
+part_one_failure begin size align lo hi e e' (inl (inl h, q))
+    (inr (at, begins, above, below, unaligned, q')) = absurd (omega (arith, ints, begins, above, h))
+part_one_failure begin size align lo hi e e' (inl (inr h, q))
+    (inr (at, begins, above, below, unaligned, q')) = absurd (omega (arith, ints, begins, below, h))
+part_one_failure begin size align lo hi e e' (inr (at, begins, above, below, unaligned, q))
+    (inl (inl h, q')) = absurd (omega (arith, ints, begins, above, h))
+part_one_failure begin size align lo hi e e' (inr (at, begins, above, below, unaligned, q))
+    (inl (inr h, q')) = absurd (omega (arith, ints, begins, below, h))
+part_one_failure begin size align lo hi e e' (inr (at, begins, above, below, unaligned, q))
+    (inr (at', begins', above', below', unaligned', q')) =
+    let same : at ≡ at' = omega (arith, ints, begins, begins') in
+    q ∙ ap (λ n. Unaligned n align) same ∙ sym q'
+
+-- a part is also in a wider range
+pub part_wider : (begin : ℤ) (size align lo lo' hi hi' at : ℕ) → lo' ≤ lo → hi ≤ hi'
+    → PartIn begin size align lo hi at → PartIn begin size align lo' hi' at
+part_wider begin size align lo lo' hi hi' at low high p =
+    record {
+      begins = p.begins;
+      above = omega (arith, p.above);
+      below = omega (arith, p.below);
+      aligned = p.aligned;
+    }

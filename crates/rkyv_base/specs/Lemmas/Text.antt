@@ -1,0 +1,219 @@
+-- Lemmas: text in an archive: inline in its fixed bytes, or out of line, with a length and a
+-- distance.
+use Rattle.std.specs.Prelude.{◌≡◌, ℕ, ◌+◌, ◌%◌, ◌<◌, ◌≤◌, pos, unsigned_abs, true, false, List}
+use Rattle.std.specs.Prelude.{slice_range}
+use Rattle.std.specs.Int.{Width, w32, w64, byte_len}
+use Rattle.std.specs.Str.{IsUtf8}
+use Rattle.std.specs.Coded.{le_prop, ×_prop}
+use Rattle.std.proofs.Common.{refl, arith, subst, sym, ◌∙◌, ap, inl, inr}
+use Rattle.std.proofs.Props.{props}
+use Rattle.rkyv_base.specs.declared.errors.VerifyError.{VerifyError}
+use Rattle.rkyv_base.specs.Bytes.{AgreeOn}
+use Rattle.rkyv_base.specs.Lemmas.Bytes.{agree_on_part}
+use Rattle.rkyv_base.specs.ElementSpec.{IsAlign, IsElement, Viewable}
+use Rattle.rkyv_base.specs.Format.{RepresentsLocally}
+use Rattle.rkyv_base.specs.Lemmas.Props.{either_prop, only_one, prop_by}
+use Rattle.rkyv_base.specs.Parts.{PartIn}
+use Rattle.rkyv_base.specs.Lemmas.Parts.{part_one, part_prop, part_exclusive, part_one_failure}
+use Rattle.rkyv_base.specs.Lemmas.Parts.{part_wider}
+use Rattle.rkyv_base.specs.Text.{text_size, fixed_bytes, is_out_of_line, inline_text}
+use Rattle.rkyv_base.specs.Text.{out_of_line_length, out_of_line_begin, text_of, text_at, TextReads}
+use Rattle.rkyv_base.specs.Text.{InlineHolds, OutOfLineHolds, FixedHolds, OutOfLineFails}
+use Rattle.rkyv_base.specs.Text.{FixedFails, text_spec, IsArchiveWord}
+
+-- a property of both words is one of either
+pub by_archive_word : (P : Width → Type 0) → P w32 → P w64 → (w : Width) → IsArchiveWord w → P w
+by_archive_word P p32 p64 w (inl e) = subst P (sym e) p32
+by_archive_word P p32 p64 w (inr e) = subst P (sym e) p64
+
+module _ (w : Width) where
+  -- a text is inline or out of line, and an out-of-line text has one position
+  out_of_line_prop : (s b : List ℕ) (p lo hi l : ℕ) → IsProp (OutOfLineHolds w s b p lo hi l)
+  out_of_line_prop s b p lo hi l =
+      let P : ℕ → Type 0 =
+      λ at. PartIn (out_of_line_begin w s p) (out_of_line_length w s) 1 lo hi at
+      × (IsUtf8 (slice_range b at (at + out_of_line_length w s))
+      × (l ≡ at + out_of_line_length w s)) in
+      prop_by {B = (is_out_of_line s ≡ true) × ((text_size w < out_of_line_length w s) × ((at : ℕ)
+      × P at))}
+      (λ h. (h.0, (h.1, (h.2, (h.3, (h.4, h.5))))))
+      (λ h. (h.0, h.1.0, h.1.1.0, h.1.1.1.0, h.1.1.1.1.0, h.1.1.1.1.1)) (λ _. refl)
+      (×_prop (hlevel props) (×_prop le_prop (only_one
+      (λ at. ×_prop (part_prop (out_of_line_begin w s p) (out_of_line_length w s) 1 lo hi at)
+      (×_prop (hlevel props) (hlevel props)))
+      (λ at at' h k. part_one (out_of_line_begin w s p)
+      (out_of_line_length w s) 1 lo hi at at' h.0 k.0))))
+
+  inline_prop : (s : List ℕ) (lo l : ℕ) → IsProp (InlineHolds s lo l)
+  inline_prop s lo l =
+      prop_by {B = (is_out_of_line s ≡ false) × (IsUtf8 (inline_text s) × (l ≡ lo))}
+      (λ h. (h.0, (h.1, h.2))) (λ h. (h.0, h.1.0, h.1.1)) (λ _. refl)
+      (×_prop (hlevel props) (×_prop (hlevel props) (hlevel props)))
+
+  fixed_prop : (s b : List ℕ) (p lo hi l : ℕ) → IsProp (FixedHolds w s b p lo hi l)
+  fixed_prop s b p lo hi l =
+      either_prop (inline_prop s lo l) (out_of_line_prop s b p lo hi l) (λ h k. cc (h.0, k.0))
+
+  holds_between : (s b : List ℕ) (p lo hi l : ℕ) → lo ≤ hi → FixedHolds w s b p lo hi l → (lo ≤ l)
+      × (l ≤ hi)
+  holds_between s b p lo hi l o (inl h) = (omega (arith, h.2), omega (arith, h.2))
+  holds_between s b p lo hi l o (inr (f, n, at, part, u, q)) =
+      (omega (arith, part.above, q), omega (arith, part.below, q))
+
+  holds_one : (s b : List ℕ) (p lo hi l l' : ℕ) → FixedHolds w s b p lo hi l
+      → FixedHolds w s b p lo hi l' → l ≡ l'
+  holds_one s b p lo hi l l' (inl h) (inl k) = h.2 ∙ sym k.2
+  holds_one s b p lo hi l l' (inl h) (inr k) = cc (h.0, k.0)
+  holds_one s b p lo hi l l' (inr h) (inl k) = cc (h.0, k.0)
+  holds_one s b p lo hi l l' (inr (f, n, at, part, u, q)) (inr (f', n', at', part', u', q')) =
+      let same : at ≡ at' =
+      part_one (out_of_line_begin w s p) (out_of_line_length w s) 1 lo hi at at' part part' in
+      omega (arith, same, q, q')
+
+  holds_exclusive : (s b : List ℕ) (p lo hi l : ℕ) (e : VerifyError) → FixedHolds w s b p lo hi l
+      → FixedFails w s b p lo hi e → ⊥
+  holds_exclusive s b p lo hi l e (inl h) (inl k) = k.1 h.1
+  holds_exclusive s b p lo hi l e (inl h) (inr k) = cc (h.0, k.0)
+  holds_exclusive s b p lo hi l e (inr h) (inl k) = cc (h.0, k.0)
+  holds_exclusive s b p lo hi l e (inr h) (inr (f, inl k)) = omega (arith, h.1, k.0)
+  holds_exclusive s b p lo hi l e (inr (f, n, at, part, u, q)) (inr (f', inr (inl k))) =
+      part_exclusive (out_of_line_begin w s p) (out_of_line_length w s) 1 lo hi at e part k.1
+  holds_exclusive s b p lo hi l e (inr (f, n, at, part, u, q))
+      (inr (f', inr (inr (n', at', part', none, q')))) =
+      let same : at ≡ at' =
+      part_one (out_of_line_begin w s p) (out_of_line_length w s) 1 lo hi at at' part part' in
+      none (subst (λ k. IsUtf8 (slice_range b k (k + out_of_line_length w s))) same u)
+
+  out_of_line_one_failure : (s b : List ℕ) (p lo hi : ℕ) (e e' : VerifyError)
+      → OutOfLineFails w s b p lo hi e
+      → OutOfLineFails w s b p lo hi e' → e ≡ e'
+  out_of_line_one_failure s b p lo hi e e' (inl f) (inl g) = f.1 ∙ sym g.1
+  out_of_line_one_failure s b p lo hi e e' (inl f) (inr (inl g)) = absurd (omega (arith, f.0, g.0))
+  out_of_line_one_failure s b p lo hi e e' (inl f) (inr (inr g)) = absurd (omega (arith, f.0, g.0))
+  out_of_line_one_failure s b p lo hi e e' (inr (inl f)) (inl g) = absurd (omega (arith, f.0, g.0))
+  out_of_line_one_failure s b p lo hi e e' (inr (inr f)) (inl g) = absurd (omega (arith, f.0, g.0))
+  out_of_line_one_failure s b p lo hi e e' (inr (inl f)) (inr (inl g)) =
+      part_one_failure (out_of_line_begin w s p) (out_of_line_length w s) 1 lo hi e e' f.1 g.1
+  out_of_line_one_failure s b p lo hi e e' (inr (inl f)) (inr (inr g)) =
+      absurd (part_exclusive (out_of_line_begin w s p)
+      (out_of_line_length w s) 1 lo hi g.1 e g.2 f.1)
+  out_of_line_one_failure s b p lo hi e e' (inr (inr f)) (inr (inl g)) =
+      absurd (part_exclusive (out_of_line_begin w s p)
+      (out_of_line_length w s) 1 lo hi f.1 e' f.2 g.1)
+  out_of_line_one_failure s b p lo hi e e' (inr (inr f)) (inr (inr g)) = f.4 ∙ sym g.4
+
+  fixed_one_failure : (s b : List ℕ) (p lo hi : ℕ) (e e' : VerifyError) → FixedFails w s b p lo hi e
+      → FixedFails w s b p lo hi e' → e ≡ e'
+  fixed_one_failure s b p lo hi e e' (inl f) (inl g) = f.2 ∙ sym g.2
+  fixed_one_failure s b p lo hi e e' (inl f) (inr g) = cc (f.0, g.0)
+  fixed_one_failure s b p lo hi e e' (inr f) (inl g) = cc (f.0, g.0)
+  fixed_one_failure s b p lo hi e e' (inr f) (inr g) =
+      out_of_line_one_failure s b p lo hi e e' f.1 g.1
+
+  holds_wider : (s b : List ℕ) (p lo lo' hi hi' l : ℕ) → lo' ≤ lo → hi ≤ hi'
+      → OutOfLineHolds w s b p lo hi l → OutOfLineHolds w s b p lo' hi' l
+  holds_wider s b p lo lo' hi hi' l low high (f, n, at, part, u, q) = (
+    f,
+    n,
+    at,
+    part_wider (out_of_line_begin w s p) (out_of_line_length w s) 1 lo lo' hi hi' at low high part,
+    u,
+    q,
+  )
+
+  holds_higher : (s b : List ℕ) (p lo hi hi' l : ℕ) → hi ≤ hi' → FixedHolds w s b p lo hi l
+      → FixedHolds w s b p lo hi' l
+  holds_higher s b p lo hi hi' l o (inl h) = inl h
+  holds_higher s b p lo hi hi' l o (inr h) =
+      inr (holds_wider s b p lo lo hi hi' l (omega arith) o h)
+
+  holds_lower : (s b : List ℕ) (p lo lo' hi l : ℕ) → lo' ≤ lo → FixedHolds w s b p lo hi l
+      → (l' : ℕ) × FixedHolds w s b p lo' hi l' × (l' ≤ l)
+  holds_lower s b p lo lo' hi l o (inl h) = (lo', inl (h.0, h.1, refl), omega (arith, h.2))
+  holds_lower s b p lo lo' hi l o (inr h) =
+      (l, inr (holds_wider s b p lo lo' hi hi l o (omega arith) h), omega arith)
+
+  -- the out-of-line text is below the new lower end, so it is the same if those bytes are
+  same_text : (s b c : List ℕ) (p lo hi l : ℕ) → AgreeOn b c lo l
+      → (h : OutOfLineHolds w s b p lo hi l)
+      → slice_range b h.2 (h.2 + out_of_line_length w s) ≡ slice_range c h.2
+      (h.2 + out_of_line_length w s)
+  same_text s b c p lo hi l part (f, n, at, at_part, u, q) =
+      agree_on_part b c lo l at (at + out_of_line_length w s) at_part.above (omega (arith, q))
+      (omega arith)
+      part
+
+  holds_local : (s b c : List ℕ) (p lo hi l : ℕ) → AgreeOn b c lo l → FixedHolds w s b p lo hi l
+      → FixedHolds w s c p lo hi l
+  holds_local s b c p lo hi l part (inl h) = inl h
+  holds_local s b c p lo hi l part (inr h) =
+      inr (h.0, h.1, h.2, h.3, subst IsUtf8 (same_text s b c p lo hi l part h) h.4, h.5)
+
+  -- inline text, and out-of-line text, as read
+  pub inline_reads : (s b : List ℕ) (p : ℕ) → is_out_of_line s ≡ false
+      → text_of w s b p ≡ inline_text s
+  unfolding text_of
+  inline_reads s b p local = rw local refl
+
+  pub out_of_line_reads : (s b : List ℕ) (p at : ℕ) → is_out_of_line s ≡ true
+      → pos at ≡ out_of_line_begin w s p
+      → text_of w s b p ≡ slice_range b at (at + out_of_line_length w s)
+  unfolding text_of
+  out_of_line_reads s b p at overflow begins =
+      let there : unsigned_abs (out_of_line_begin w s p) ≡ at = ap unsigned_abs (sym begins) in
+      rw (overflow, there) refl
+
+  reads_local : (s b c : List ℕ) (p lo hi l : ℕ) (t : List ℕ) → FixedHolds w s b p lo hi l
+      → AgreeOn b c lo l → text_of w s b p ≡ t → text_of w s c p ≡ t
+  reads_local s b c p lo hi l t (inl h) part e = inline_reads s c p h.0
+      ∙ sym (inline_reads s b p h.0) ∙ e
+  reads_local s b c p lo hi l t (inr h) part e =
+      out_of_line_reads s c p h.2 h.0 h.3.begins ∙ sym (same_text s b c p lo hi l part h)
+      ∙ sym (out_of_line_reads s b p h.2 h.0 h.3.begins) ∙ e
+
+  -- a valid text is UTF-8
+  holds_text : (s b : List ℕ) (p lo hi l : ℕ) → FixedHolds w s b p lo hi l
+      → IsUtf8 (text_of w s b p)
+  holds_text s b p lo hi l (inl h) = subst IsUtf8 (sym (inline_reads s b p h.0)) h.1
+  holds_text s b p lo hi l (inr h) =
+      subst IsUtf8 (sym (out_of_line_reads s b p h.2 h.0 h.3.begins)) h.4
+
+  -- the text of a view is UTF-8
+  pub viewable_text : (b : List ℕ) (p : ℕ) → Viewable (text_spec w) b p → IsUtf8 (text_at w b p)
+  viewable_text b p v = holds_text (fixed_bytes w b p) b p 0 p v.valid.0 v.valid.1
+
+  -- the out-of-line text of a view is before the view's position
+  pub viewable_out_of_line : (b : List ℕ) (p : ℕ) → Viewable (text_spec w) b p
+      → is_out_of_line (fixed_bytes w b p) ≡ true
+      → (at : ℕ) × (pos at ≡ out_of_line_begin w (fixed_bytes w b p) p)
+      × (at + out_of_line_length w (fixed_bytes w b p) ≤ p)
+  viewable_out_of_line b p v overflow =
+      elim (v.valid.1) [
+        | inl h ↦ cc (h.0, overflow)
+        | inr h ↦ (h.2, h.3.begins, h.3.below)
+      ]
+
+  -- the text depends only on the bytes on which validity depends
+  pub text_local : RepresentsLocally (text_spec w) (TextReads w)
+  text_local t b c p lo hi l o h fixed part reads =
+      reads_local (fixed_bytes w c p) b c p lo hi l t
+      (subst (λ s. FixedHolds w s b p lo hi l) fixed h) part
+      (subst (λ s. text_of w s b p ≡ t) fixed reads)
+
+module _ (w : Width) (kind : IsArchiveWord w) where
+  pub text_element : IsElement (text_spec w)
+  text_element = record {
+    align_is = by_archive_word (λ v. IsAlign (byte_len v)) (inr (inr (inl refl)))
+        (inr (inr (inr refl))) w kind;
+    size_whole = by_archive_word (λ v. text_size v % byte_len v ≡ 0) refl refl w kind;
+    size_small = by_archive_word (λ v. text_size v ≤ 1073741824) (omega arith) (omega arith) w kind;
+    proper = λ b p lo hi l. fixed_prop w (fixed_bytes w b p) b p lo hi l;
+    rest_in_range = λ b p lo hi l o h. holds_between w (fixed_bytes w b p) b p lo hi l o h;
+    rest_unique = λ b p lo hi l l' h h'. holds_one w (fixed_bytes w b p) b p lo hi l l' h h';
+    exclusive = λ b p lo hi l e h f. holds_exclusive w (fixed_bytes w b p) b p lo hi l e h f;
+    one_failure = λ b p lo hi e e' f g. fixed_one_failure w (fixed_bytes w b p) b p lo hi e e' f g;
+    widen_hi = λ b p lo hi hi' l o h. holds_higher w (fixed_bytes w b p) b p lo hi hi' l o h;
+    lower_lo = λ b p lo lo' hi l o o' h. holds_lower w (fixed_bytes w b p) b p lo lo' hi l o h;
+    local = λ b c p lo hi l o fixed part h. holds_local w (fixed_bytes w c p) b c p lo hi l part
+        (subst (λ s. FixedHolds w s b p lo hi l) fixed h);
+  }

@@ -1,6 +1,0 @@
-use Rattle.std.proofs.Common.{◌∙◌}
-use Rattle.rkyv_bench_calls.proofs.Found.{found_seen}
-use Rattle.rkyv_bench_calls.proofs.lookups.ArchivedHashMapU32Lookup.value_or_miss.Goals as goal
-
-pub returns : goal.returns
-returns g c = c.number_or_miss.ensures ∙ found_seen g.K.Shaped.shape c.args.self.now c.get.result _ c.get.ensures.walked c.get.ensures.answer

@@ -1,7 +1,0 @@
-use Rattle.rkyv_bench_calls.specs.Archives.{root}
-use Rattle.rkyv_bench_calls.specs.Totals.{number_looked_up_at}
-use Rattle.rkyv_bench_calls.proofs.Sums.{slice_counted_at}
-use Rattle.rkyv_bench_calls.proofs.numbers.lookup_u32.Goals as goal
-
-pub returns : goal.returns
-returns c = slice_counted_at number_looked_up_at c.map_in.result.view c.args.archive (root c.args.archive.now) c.iter.result c.args.keys.now c.lookup_total.result c.map_in.ensures.at c.iter.ensures.rest c.lookup_total.ensures

@@ -1,4 +1,0 @@
-use Rattle.rkyv_c_calls.proofs.laws.walks_visit_listed.Goals as goal
-
-pub returns : goal.returns
-returns g c = c.walks_give_listed.ensures.homes

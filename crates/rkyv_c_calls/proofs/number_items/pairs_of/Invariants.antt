@@ -1,7 +1,0 @@
-use Rattle.rkyv_c_calls.specs.Items.{NumberFits, number_pair}
-use Rattle.rkyv_c_calls.proofs.Collected.{Collected}
-use Rattle.rkyv_c_calls.proofs.number_items.pairs_of.Given as goal
-
--- the pairs are those of the items that are read
-abbrev pub invariant-loop-item : goal.invariant-loop-item
-invariant-loop-item g l = let e = g.V.Scalar.encoding in Collected (NumberFits e) (number_pair e) l.items l.item-index l.pairs.items

@@ -1,8 +1,0 @@
-use Rattle.rkyv_c_calls.specs.Archives.{limit_of, number_map}
-use Rattle.rkyv_c_calls_tests.proofs.Opened.{opened}
-use Rattle.rkyv_c_calls_tests.proofs.tests.numbers.is_map.Goals as goal
-
-pub returns-then-open_numbers-eq-DONE : goal.returns-then-open_numbers-eq-DONE
-returns-then-open_numbers-eq-DONE c = λ yes.
-    let form = c.args.form in
-    opened (limit_of form.wide) (number_map form) c.args.archive.now c.open_numbers.result c.open_numbers.ensures.told c.if-open_numbers-eq-DONE.true

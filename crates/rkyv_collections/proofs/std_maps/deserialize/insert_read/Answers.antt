@@ -1,0 +1,19 @@
+use Rattle.std.proofs.Common.{subst, ℕ, List}
+use Rattle.std.specs.Borrow.{Bor}
+use Rattle.rkyv_base.specs.View.{bytes_of}
+use Rattle.rkyv_collections.proofs.std_maps.deserialize.insert_read.Goals as goal
+
+pub returns-in-Ok : goal.returns-in-Ok
+returns-in-Ok g c =
+    let at = c.requires.pair in
+    let value = c.in_ok-mapped.mapped in (
+      (c.in_ok-read.read, value),
+      (
+        c.in_ok-read.ensures,
+        subst (λ (q : ℕ). g.V.Represents.represents (bytes_of c.args.key) q value) at.1
+            (subst (λ (a : Bor (List ℕ)). g.V.Represents.represents a.now c.args.value.pos value) at.0 c.in_ok-mapped.ensures),
+      ),
+      c.in-Ok.ensures.updates,
+      c.in-Ok.ensures.unique,
+      c.in-Ok.ensures.hasher,
+    )

@@ -1,0 +1,219 @@
+//! Opening, walking over and looking up in a set.
+//!
+//! `get` returns a view of the key that a query finds, and `contains` returns `true`
+//! if there is one.
+//!
+//! A lookup in an untrusted set may read every group of its control bytes once.
+//! `FxHasher64` takes no secret key, so it doesn't protect from chosen input.
+
+ghost use Rattle.std.specs.Prelude.{IsTrue, length, ◌↔◌, ◌≡◌};
+ghost use Rattle.rkyv_base.specs.Empty.{unit_spec};
+ghost use Rattle.rkyv_base.specs.Lemmas.Empty.{unit_element};
+ghost use Rattle.rkyv_base.specs.View.{IsValidView, archive_of, pos_of};
+ghost use Rattle.rkyv_collections.specs.MapSpec.{map_element};
+ghost use Rattle.rkyv_keys.specs.Asked.{asked};
+ghost use Rattle.rkyv_collections.specs.Map.{IsFoundAt};
+ghost use Rattle.rkyv_collections.specs.Set.{GetsMember, IsSetAt, TellsMember};
+ghost use Rattle.rkyv_collections.specs.Set.{member_positions, set_archive, set_len, set_spec};
+
+use crate::map::iter::Keys;
+use crate::map::{ArchivedHashMap, HashMapOf};
+use crate::set::{ArchivedHashSet, HashSetOf};
+use rkyv_base::element::{Element, HasSpec, PartRange};
+use rkyv_base::errors::VerifyError;
+use rkyv_base::view::View;
+use rkyv_base::width::{Width, Word};
+use rkyv_keys::keys::{KeyElement, Query};
+use rkyv_scan::hash::KeyHasher;
+
+impl<K: HasSpec, H, W: Word> HasSpec for HashSetOf<K, H, W> {
+    ghost spec = { set_spec W.word K.spec };
+
+    ghost laws = { map_element W.word W.kind K.spec unit_spec K.laws unit_element };
+}
+
+impl<K: Element, H, W: Width> Element for HashSetOf<K, H, W> {
+    #[inline]
+    fn size() -> usize {
+        HashMapOf::<K, (), H, W>::size()
+    }
+
+    #[inline]
+    fn align() -> usize {
+        HashMapOf::<K, (), H, W>::align()
+    }
+
+    #[inline]
+    fn check(bytes: &[u8], pos: u64, range: PartRange) -> Result<PartRange, VerifyError> {
+        HashMapOf::<K, (), H, W>::check(bytes, pos, range)
+    }
+}
+
+impl<'a, K: Element, H, W: Width> ArchivedHashSet<'a, K, H, W> {
+    /// Returns the set at a view of its header, which is decoded here, once.
+    ///
+    /// # Requires
+    ///
+    /// - The view is of a valid set.
+    ///
+    /// # Examples
+    ///
+    /// ```rust
+    /// // Returns the number of words, and whether one is among them.
+    /// fn has_word(archive: &[u8], word: &str) -> Result<(usize, bool), VerifyError> {
+    ///     let words = ArchivedHashSet::of(access::<HashSetOf<Text>>(archive)?);
+    ///     Ok((words.len(), words.contains(&word)))
+    /// }
+    /// ```
+    #[inline]
+    pub fn of(view: View<'a, HashSetOf<K, H, W>>) -> ArchivedHashSet<'a, K, H, W>
+        requires { IsValidView (set_spec W.word K.spec) view }
+        ensures at { IsSetAt result (archive_of view.entry) (pos_of view.entry) }
+    {
+        ArchivedHashSet {
+            map: ArchivedHashMap::of(view.at::<HashMapOf<K, (), H, W>>(view.pos())),
+        }
+    }
+
+    /// Returns `true` if and only if the set has no keys.
+    #[inline]
+    pub fn is_empty(self) -> bool
+        ensures { IsTrue result ↔ (set_len self.entry ≡ 0) }
+    {
+        self.map.is_empty()
+    }
+
+    /// Returns the number of keys.
+    #[inline]
+    pub fn len(self) -> usize
+        ensures { result ≡ set_len self.entry }
+    {
+        self.map.len()
+    }
+
+    /// Returns an iterator over the keys, in bucket order.
+    ///
+    /// # Examples
+    ///
+    /// ```rust
+    /// // Returns the sum of the keys of a set.
+    /// fn sum(archive: &[u8]) -> Result<u8, VerifyError> {
+    ///     let set = ArchivedHashSet::of(access::<HashSetOf<u8>>(archive)?);
+    ///     let mut sum = 0u8;
+    ///     for key in set.iter() {
+    ///         sum = sum.wrapping_add(key.to_native());
+    ///     }
+    ///     Ok(sum)
+    /// }
+    ///
+    /// assert_eq!(rt; sum(&three_keys()).ok(), Some(6));
+    /// ```
+    #[inline]
+    pub fn iter(self) -> Keys<'a, K, (), H, W>
+        ensures archive { result.archive ≡ set_archive self.entry }
+        ensures positions { result.positions ≡ member_positions self.entry }
+        ensures count { length result.positions ≡ set_len self.entry }
+    {
+        self.map.keys()
+    }
+}
+
+/// `for key in set` visits the keys, in bucket order.
+impl<'a, K: Element, H, W: Width> IntoIterator for ArchivedHashSet<'a, K, H, W> {
+    type Item = View<'a, K>;
+
+    type IntoIter = Keys<'a, K, (), H, W>;
+
+    ghost into_iter_gives = { λ set keys. (keys.archive ≡ set_archive set)
+        × (keys.positions ≡ member_positions set) × (length keys.positions ≡ set_len set) };
+
+    #[inline]
+    fn into_iter(self) -> Keys<'a, K, (), H, W> {
+        self.iter()
+    }
+}
+
+/// `for key in &set` visits the keys, in bucket order.
+impl<'a, K: Element, H, W: Width> IntoIterator for &ArchivedHashSet<'a, K, H, W> {
+    type Item = View<'a, K>;
+
+    type IntoIter = Keys<'a, K, (), H, W>;
+
+    ghost into_iter_gives = { λ set keys. (keys.archive ≡ set_archive set.now)
+        × (keys.positions ≡ member_positions set.now) × (length keys.positions ≡ set_len set.now) };
+
+    #[inline]
+    fn into_iter(self) -> Keys<'a, K, (), H, W> {
+        self.iter()
+    }
+}
+
+impl<'a, K: KeyElement, H: KeyHasher, W: Width> ArchivedHashSet<'a, K, H, W> {
+    /// Returns the key that the query finds, or `None`.
+    ///
+    /// In a written set, it is the first key in insertion order that the query fits.
+    ///
+    /// In an untrusted set, a lookup may miss a key that the query fits.
+    /// No key is missed if `misplaced` is 0. The lookup then finds the one key that the query fits,
+    /// and `None` if and only if it fits none.
+    ///
+    /// A lookup in an untrusted set may read every group of its control bytes once.
+    ///
+    /// # Requires
+    ///
+    /// - The query can be read.
+    ///
+    /// # Examples
+    ///
+    /// ```rust
+    /// // Returns the key of a set that a query finds.
+    /// fn stored(archive: &[u8], key: u8) -> Result<Option<u8>, VerifyError> {
+    ///     let set = ArchivedHashSet::of(access::<HashSetOf<u8>>(archive)?);
+    ///     match set.get(&key) {
+    ///         Some(stored) => Ok(Some(stored.to_native())),
+    ///         None => Ok(None),
+    ///     }
+    /// }
+    ///
+    /// let found = [stored(&three_keys(), 3).ok(), stored(&three_keys(), 4).ok()];
+    /// assert_eq!(rt; found, [Some(Some(3)), Some(None)]);
+    /// ```
+    #[inline]
+    pub fn get<Q: Query<K>>(self, key: &Q) -> Option<View<'a, K>>
+        requires query { Q.can_read key.now }
+        ensures { GetsMember self.entry
+            (asked H.hasher K.key_calls K.same (Q.calls key.now) (Q.fits key.now)) result }
+    {
+        match self.map.get_key_value(key) {
+            Some((stored, _)) => Some(stored),
+            None => None,
+        }
+    }
+
+    /// Returns `true` if and only if the query finds a key.
+    ///
+    /// A lookup in an untrusted set may read every group of its control bytes once.
+    ///
+    /// # Requires
+    ///
+    /// - The query can be read.
+    ///
+    /// # Examples
+    ///
+    /// ```rust
+    /// // Returns the number of words, and whether one is among them.
+    /// fn has_word(archive: &[u8], word: &str) -> Result<(usize, bool), VerifyError> {
+    ///     let words = ArchivedHashSet::of(access::<HashSetOf<Text>>(archive)?);
+    ///     Ok((words.len(), words.contains(&word)))
+    /// }
+    /// ```
+    #[inline]
+    pub fn contains<Q: Query<K>>(self, key: &Q) -> bool
+        requires query { Q.can_read key.now }
+        ensures { TellsMember self.entry
+            (asked H.hasher K.key_calls K.same (Q.calls key.now) (Q.fits key.now)) (IsFoundAt
+            result) }
+    {
+        self.map.contains_key(key)
+    }
+}

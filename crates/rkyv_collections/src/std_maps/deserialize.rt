@@ -1,0 +1,131 @@
+//! Deserializing archived maps as maps of std.
+//!
+//! `deserialize_std` takes the hash state of the new map. `Deserialize` takes the default one.
+
+ghost use Rattle.std.specs.Prelude.{MatchResult, ◌+◌};
+ghost use Rattle.rkyv_base.specs.Entry.{value_offset};
+ghost use Rattle.rkyv_base.specs.Pairs.{PairRepresents};
+ghost use Rattle.rkyv_base.specs.View.{IsAt, IsValidView, AtView, archive_of, pos_of};
+ghost use Rattle.rkyv_collections.specs.Map.{map_view};
+ghost use Rattle.rkyv_collections.specs.MapSpec.{map_spec};
+ghost use Rattle.rkyv_collections.specs.StdMap.{Inserts, ReadsStdMap, StdMapRepresents};
+ghost use Rattle.rkyv_collections.specs.StdMap.{insert_refuses, std_map_refuses};
+
+use crate::map::{ArchivedHashMap, HashMapOf};
+use crate::std_maps::hashed::Hashed;
+use rkyv_base::element::Element;
+use rkyv_base::errors::ReadError;
+use rkyv_base::view::View;
+use rkyv_base::width::Width;
+use rkyv_keys::deserialize::Deserialize;
+use std::alloc::Global;
+use std::collections::HashMap;
+use std::hash::{BuildHasher, BuildHasherDefault, Hash};
+
+/// Deserializes a pair and inserts it.
+#[inline]
+fn insert_read<K: Deserialize<A>, V: Deserialize<B>, A: Eq + Hash + Drop, B: Drop, T: BuildHasher>(
+    map: &mut HashMap<A, B, T>,
+    alloc: Global,
+    key: View<'_, K>,
+    value: View<'_, V>,
+) -> Result<(), ReadError>
+    requires key { IsValidView K.spec key }
+    requires value { IsValidView V.spec value }
+    requires pair { IsAt value (archive_of key) (pos_of key + value_offset K.spec V.spec) }
+    ensures { MatchResult result
+        (λ _. Inserts A.eq (AtView (PairRepresents K.spec V.spec K.represents
+        V.represents) key.entry)
+        map.old map.new)
+        (AtView (insert_refuses K.spec V.spec K.refuses V.refuses) key.entry) }
+{
+    let read = K::deserialize(alloc, key)?;
+    let mapped = V::deserialize(alloc, value)?;
+    match map.insert(read, mapped) {
+        Ok(_) => Ok(()),
+        Err(_) => Err(ReadError::Memory),
+    }
+}
+
+impl<'a, K: Element, V: Element, H, W: Width> ArchivedHashMap<'a, K, V, H, W> {
+    /// Returns the map of std of the pairs, with the hash state `state`.
+    ///
+    /// The pairs are inserted in bucket order. Of pairs with equal keys,
+    /// the value of the last is kept.
+    ///
+    /// # Errors
+    ///
+    /// - The error of deserializing a key or a value.
+    /// - `Memory`: memory for an insertion could not be allocated.
+    ///
+    /// # Examples
+    ///
+    /// ```rust
+    /// type Ages = HashMap<String, u8>;
+    ///
+    /// // Archives a map of std's, and reads it back.
+    /// fn ages_come_back(alloc: Global, ages: Ages) -> Result<Ages, Fail> {
+    ///     let ages: Hashed<Ages> = Hashed::new(ages);
+    ///     let archive = to_bytes(alloc, &ages)?;
+    ///     let map = ArchivedHashMap::of(access::<HashMapOf<Text, u8>>(archive.as_slice())?);
+    ///     Ok(map.deserialize_std(alloc, BuildHasherDefault::new())?)
+    /// }
+    /// ```
+    pub fn deserialize_std<A: Eq + Hash + Drop, B: Drop, T: BuildHasher + Drop>(
+        self,
+        alloc: Global,
+        state: T,
+    ) -> Result<HashMap<A, B, T>, ReadError>
+    where
+        K: Deserialize<A>,
+        V: Deserialize<B>,
+        ensures { ReadsStdMap (StdMapRepresents K.spec V.spec K.represents V.represents W.word A.eq)
+            (std_map_refuses W.word K.spec V.spec K.refuses V.refuses) (map_view self.entry) state
+            result }
+    {
+        let mut map = HashMap::with_hasher(alloc, state);
+        for (key, value) in self.iter() {
+            insert_read(&mut map, alloc, key, value)?;
+        }
+        Ok(map)
+    }
+}
+
+impl<K: Deserialize<A>, V: Deserialize<B>, H, W: Width, A: Eq + Hash + Drop, B: Drop> Deserialize<
+    HashMap<A, B>,
+> for HashMapOf<K, V, H, W> {
+    ghost refuses = { std_map_refuses W.word K.spec V.spec K.refuses V.refuses };
+
+    #[inline]
+    fn deserialize(alloc: Global, view: View<'_, Self>) -> Result<HashMap<A, B>, ReadError>
+        requires { IsValidView (map_spec W.word K.spec V.spec) view }
+        ensures { MatchResult result
+            (AtView (StdMapRepresents K.spec V.spec K.represents V.represents
+            W.word A.eq) view.entry)
+            (AtView (std_map_refuses W.word K.spec V.spec K.refuses V.refuses) view.entry) }
+    {
+        ArchivedHashMap::of(view).deserialize_std(alloc, BuildHasherDefault::new())
+    }
+}
+
+impl<K: Deserialize<A>, V: Deserialize<B>, H, W: Width, A: Eq + Hash + Drop, B: Drop> Deserialize<
+    Hashed<HashMap<A, B>, H>,
+> for HashMapOf<K, V, H, W> {
+    ghost refuses = { std_map_refuses W.word K.spec V.spec K.refuses V.refuses };
+
+    #[inline]
+    fn deserialize(
+        alloc: Global,
+        view: View<'_, Self>,
+    ) -> Result<Hashed<HashMap<A, B>, H>, ReadError>
+        requires { IsValidView (map_spec W.word K.spec V.spec) view }
+        ensures { MatchResult result
+            (λ x. AtView (StdMapRepresents K.spec V.spec K.represents V.represents
+            W.word A.eq) view.entry
+            x.map)
+            (AtView (std_map_refuses W.word K.spec V.spec K.refuses V.refuses) view.entry) }
+    {
+        let map = ArchivedHashMap::of(view).deserialize_std(alloc, BuildHasherDefault::new())?;
+        Ok(Hashed::new(map))
+    }
+}

@@ -1,0 +1,275 @@
+-- Writing a list with its header, step by step, and the written list.
+use Rattle.std.proofs.Common.{◌≡◌, ℕ, ◌+◌, ◌-◌, ◌*◌, ◌%◌, ◌≤◌, ◌∙◌, inl, inr, refl, sym, ap, subst, arith, append_assoc, length-append, length-take, suc, Bool, true, List, [], ◌∷◌, ◌++◌, length, slice_get, slice_index, Some, take}
+use Rattle.std.specs.Int.{Width, byte_len}
+use Rattle.std.specs.List.{find}
+use Rattle.std.specs.Option.{option_map}
+use Rattle.std.proofs.lemmas.Bool.{cases_Bool}
+use Rattle.std.proofs.lemmas.Option.{slice_get-map, slice_get_cases}
+use Rattle.std.proofs.lemmas.List.{get_or-map, length-map, length-replicate, take_all}
+use Rattle.rkyv_base.specs.Bytes.{OccursAt}
+use Rattle.rkyv_base.specs.Lemmas.Bytes.{occurs_back, occurs_front}
+use Rattle.rkyv_base.specs.Checking.{Fails}
+use Rattle.rkyv_base.specs.Entry.{round_up}
+use Rattle.rkyv_base.specs.Lemmas.Entry.{round_up-multiple}
+use Rattle.rkyv_base.specs.Format.{Format, IsFormat}
+use Rattle.rkyv_base.specs.Root.{RootNext}
+use Rattle.rkyv_base.specs.ElementSpec.{IsElement, ElementSpec}
+use Rattle.rkyv_base.specs.Text.{IsArchiveWord}
+use Rattle.rkyv_base.specs.Lemmas.Text.{by_archive_word}
+use Rattle.rkyv_base.specs.Writing.{Appends, Output, end_of, padding, zeros}
+use Rattle.rkyv_base.specs.declared.element.PartRange.{PartRange}
+use Rattle.rkyv_base.specs.declared.errors.VerifyError.{VerifyError}
+use Rattle.rkyv_base.specs.declared.errors.WriteError.{WriteError}
+use Rattle.rkyv_base.specs.declared.element.HasSpec.{Ghosts as Specs}
+use Rattle.rkyv_base.specs.declared.element.Represents.{Ghosts as Related}
+use Rattle.rkyv_base.specs.declared.view.View.{View}
+use Rattle.rkyv_base.specs.declared.width.Width.{Ghosts as Widths}
+use Rattle.rkyv_base.specs.declared.width.Word.{Ghosts as Words}
+use Rattle.rkyv_base.proofs.WritingSteps.{appends_after, end-appends, told_as}
+use Rattle.rkyv_table.specs.Lemmas.TableLaws.{table_element}
+use Rattle.rkyv_table.specs.Table.Bare.{TableIn}
+use Rattle.rkyv_table.specs.Table.Layout.{table_spec}
+use Rattle.rkyv_table.specs.Table.Passing.{HoldsAround, WrittenTablesPass}
+use Rattle.rkyv_table.specs.Table.Serializing.{WriteItemsFails}
+use Rattle.rkyv_table.specs.Table.FirstItem.{AreUnder, IsFirstOf}
+use Rattle.rkyv_table.specs.Table.Header.{IsHeader, cap_at}
+use Rattle.rkyv_table.specs.Controls.Numbers.{capacity}
+use Rattle.rkyv_table.specs.Controls.Laws.{IsUnderHash}
+use Rattle.rkyv_table.specs.Table.Positions.{home_positions, table_controls}
+use Rattle.rkyv_table.specs.Table.PlacedItems.{hashes_of, items_of}
+use Rattle.rkyv_table.specs.Table.WalkLaws.{VisitsHomes, WalkVisitsHomes}
+use Rattle.rkyv_table.specs.Table.WrittenTables.{ValidWereWritten}
+use Rattle.rkyv_table.proofs.WalkedHomes.{none_visits}
+use Rattle.rkyv_table.proofs.WrittenTables.{home_count}
+use Rattle.rkyv_table.specs.Table.TableFormat.{TableResolver, TableRepresents, resolved_capacity, table_format}
+use Rattle.rkyv_end_to_end.specs.Listing.{
+  AgreesAt,
+  ElementMembers,
+  Encoding,
+  IsWrittenList,
+  ListBytes,
+  ListInput,
+  ListsAreValid,
+  VisitsItems,
+  WidthMembers,
+  WriteAndFindFails,
+  WriteListFails,
+  ReportsList,
+  WroteList,
+  list_format,
+  table_of,
+}
+use Rattle.rkyv_end_to_end.specs.Report.{LookOverFails, ReportsTable}
+use Rattle.rkyv_end_to_end.specs.declared.looking.LookError.{LookError}
+use Rattle.rkyv_end_to_end.specs.declared.looking.LookError.TheVariants.{Memory, Verify}
+use Rattle.rkyv_end_to_end.specs.declared.looking.TableReport.{TableReport}
+use Rattle.rkyv_end_to_end.specs.declared.whole.ListError.TheVariants.{Look}
+
+-- the members of a width, from those of its two traits
+abbrev pub width_members : {W P : Type 0} → Words W → Widths W P → WidthMembers
+width_members w v = record {
+  word = w.word;
+  kind = w.kind;
+  LIMIT = v.LIMIT;
+  ALIGN = v.ALIGN;
+  MAX_CAPACITY = v.MAX_CAPACITY;
+  TABLE_SIZE = v.TABLE_SIZE;
+  INDEX_SIZE = v.INDEX_SIZE;
+  TEXT_SIZE = v.TEXT_SIZE;
+  TEXT_LIMIT = v.TEXT_LIMIT;
+}
+
+-- the members of an element, from those of its two traits
+abbrev pub element_members : {T V : Type 0} → Specs T → Related T V → ElementMembers V
+element_members e v = record { spec = e.spec; laws = e.laws; represents = v.represents }
+
+-- an error of writing the table is an error of writing the list
+pub no_list : {X R F : Type 0} (list : ListInput X R) (o o' : Output) (e : WriteError F)
+    → WriteItemsFails list.input.yields list.len list.load_factor list.width.MAX_CAPACITY (list_format list) o o' list.width.LIMIT (list.input.yields_other_count list.len) e → WriteListFails list o o' e
+no_list list o o' e (inl h) = inl h
+no_list list o o' e (inr h) =
+    let f = list_format list in
+    inr (h.0, h.1, h.2, told_as list.width.LIMIT (RootNext (byte_len list.width.word) f h.1 (end_of o)) (f.next h.1 (end_of o)) o o' e (λ front step n. inr (inl n)) h.3)
+
+-- the buffer has room for a header
+pub header_small : (w : Width) → IsArchiveWord w → (size align : ℕ) → align ≡ byte_len w → size ≡ 3 * align → size ≤ 24
+header_small w kind size align a t =
+    let small : 3 * byte_len w ≤ 24 = by_archive_word (λ v. 3 * byte_len v ≤ 24) (omega arith) (omega arith) w kind in
+    omega arith
+
+pub room_of : (n m : ℕ) (xs : List ℕ) → n ≡ m → m ≤ length xs → length (take n xs) ≡ m
+room_of n m xs e h = length-take n xs ∙ omega arith
+
+-- the header that was resolved is the image of the list
+pub image_of : (w : Width) (r : TableResolver) (len : ℕ) (load_factor : ℕ × ℕ) (p q : ℕ) (out : List ℕ) → r.len ≡ len → r.load_factor ≡ load_factor → p ≡ q
+    → IsHeader w len (capacity len load_factor) r.pos p out → IsHeader w r.len (resolved_capacity r) r.pos q out
+image_of w r len load_factor p q out l e at h =
+    subst (λ (n : ℕ). IsHeader w n (capacity n r.load_factor) r.pos q out) (sym l)
+    (subst (λ (x : ℕ × ℕ). IsHeader w len (capacity len x) r.pos q out) (sym e)
+    (subst (λ (n : ℕ). IsHeader w len (capacity len load_factor) r.pos n out) at h))
+
+-- the table, the zeros and the header, one after the other
+pub list_wrote : {X : Type 0} (align : ℕ) (f : Format (List (ℕ × X)) TableResolver) (pairs : List (ℕ × X)) (o o1 o2 o3 : Output) (part : List ℕ) (r : TableResolver) (out : List ℕ) (end p : ℕ)
+    → Appends o o1 part → f.parts pairs (end_of o) part r → Appends o1 o2 (zeros (padding align (end_of o1))) → f.image pairs r (end_of o2) out → Appends o2 o3 out
+    → end ≡ end_of o1 → p ≡ end_of o2 → (bytes : List ℕ) × Appends o o3 bytes × ListBytes align f pairs (end_of o) end p bytes
+list_wrote align f pairs o o1 o2 o3 part r out end p a made b image c ends at =
+    let z : List ℕ = zeros (padding align (end_of o1)) in
+    let n : length z ≡ padding align (end_of o1) = length-replicate (padding align (end_of o1)) 0 in
+    let next : end_of o2 ≡ round_up (end_of o1) align = end-appends o1 o2 z b ∙ ap (λ k. end_of o1 + k) n in
+    let all : Appends o o3 ((part ++ z) ++ out) = appends_after o o2 o3 (part ++ z) out (appends_after o o1 o2 part z a b) c in
+    let P = λ (e q : ℕ). ListBytes align f pairs (end_of o) e q (part ++ (z ++ out)) in
+    let there : P (end_of o1) (end_of o2) = record {
+      part = part;
+      resolver = r;
+      header = out;
+      parts = made;
+      image = image;
+      ends = end-appends o o1 part a;
+      at = next;
+      is = refl;
+    } in
+    (part ++ (z ++ out), subst (Appends o o3) (append_assoc part z out) all, subst (P end) (sym at) (subst (λ e. P e (end_of o2)) (sym ends) there))
+
+-- the bytes appended to a writer from position 0 are at its end
+pub appended_sits : (o o' : Output) (x : List ℕ) → o.start ≡ 0 → Appends o o' x → OccursAt o'.bytes (end_of o) x
+appended_sits o o' x from a =
+    let b : List ℕ = o.bytes ++ x in
+    let k : 0 + length b - 0 ≡ length b = omega arith in
+    let all : OccursAt b 0 b = record { inside = omega arith; there = rw k (take_all (length b) b (omega arith)) } in
+    let at : 0 + length o.bytes ≡ end_of o = omega (arith, from) in
+    subst (λ (c : List ℕ). OccursAt c (end_of o) x) (sym a.bytes) (subst (λ q. OccursAt b q x) at (occurs_back b 0 o.bytes x all))
+
+module _ {X : Type 0} (w : Width) (s : ElementSpec) (represents : List ℕ → ℕ → X → Type 0) (load_factor : ℕ × ℕ) (were : ValidWereWritten w s represents load_factor) (visits : WalkVisitsHomes) where
+  -- the walk over a valid table
+  items_visited : (c : List ℕ) (p : ℕ) (pairs : List (ℕ × X)) → TableRepresents w s represents load_factor c p pairs → VisitsItems (record { word = w; spec = s; bytes = c; pos = p }) represents pairs
+  items_visited c p pairs all_valid =
+      let is = were c p pairs all_valid in
+      let written = is.written in
+      let count = length-map pairs (λ (x : ℕ × X). x.0) in
+      record {
+        homes = is.homes;
+        written = written;
+        at = is.at;
+        visits = elim written.placed [
+          | inl none ↦
+              let n : length pairs ≡ 0 = omega (arith, ap length none.0, count) in
+              let cap : cap_at w c p ≡ 0 = all_valid.cap ∙ rw n refl in
+              let controls : List ℕ = table_controls w c p in
+              subst (λ n. VisitsHomes n is.homes controls) (sym cap) (subst (λ (xs : List ℕ). VisitsHomes 0 xs controls) (sym none.1) (none_visits controls))
+          | inr some ↦ visits (cap_at w c p) (hashes_of pairs) is.homes (table_controls w c p) some.0 written.fit some.1
+        ];
+      }
+
+module _ {X R : Type 0} (w : Width) (items : Encoding X R) (load_factor : ℕ × ℕ) (were : ValidWereWritten w items.spec items.represents load_factor) (visits : WalkVisitsHomes)
+    (kind : IsArchiveWord w) (law : IsElement items.spec)
+    (format : IsFormat (table_spec w items.spec) (TableRepresents w items.spec items.represents load_factor) (table_format w items.spec items.format load_factor))
+    (passing : WrittenTablesPass w items.spec items.format load_factor) where
+  -- a written list is valid in each archive that has its bytes
+  pub lists_valid : ListsAreValid w items load_factor
+  lists_valid pairs begin end p bytes c l sits =
+      let s : ElementSpec = items.spec in
+      let part : List ℕ = l.part in
+      let out : List ℕ = l.header in
+      let z : List ℕ = zeros (padding (byte_len w) end) in
+      let n : length z ≡ padding (byte_len w) end = length-replicate (padding (byte_len w) end) 0 in
+      let whole : length out ≡ 3 * byte_len w = format.size_exact pairs l.resolver p out l.image in
+      let sb : OccursAt c begin (part ++ (z ++ out)) = subst (OccursAt c begin) l.is sits in
+      let sp : OccursAt c begin part = occurs_front c begin part (z ++ out) sb in
+      let at : begin + length part + length z ≡ p = omega (arith, n, l.at, l.ends) in
+      let so : OccursAt c p out = subst (λ q. OccursAt c q out) at (occurs_back c (begin + length part) z out (occurs_back c begin part (z ++ out) sb)) in
+      let aligned : p % byte_len w ≡ 0 = subst (λ q. q % byte_len w ≡ 0) (sym l.at) (round_up-multiple end (byte_len w) (table_element w kind s law).align_is) in
+      let up : begin + length part ≤ p = omega (arith, l.at, l.ends) in
+      let sound = format.sound pairs l.resolver c begin p part out l.parts l.image sp so up aligned in
+      let all_valid : TableRepresents w s items.represents load_factor c p pairs = sound.2 in
+      let around = passing pairs l.resolver c begin p part out l.parts l.image sp so up aligned in
+      let len : length bytes ≡ length part + (length z + length out) = ap length l.is ∙ length-append part (z ++ out) ∙ ap (λ k. length part + k) (length-append z out) in (
+        record {
+          behind = (omega (arith, l.ends), omega (arith, l.at));
+          aligned = aligned;
+          passes = subst (HoldsAround (table_spec w s) c p begin) (sym l.ends) around;
+          all_valid = all_valid;
+          items = items_visited w s items.represents load_factor were visits c p pairs all_valid;
+        },
+        omega (arith, len, whole, at),
+      )
+
+-- the first position that is told is that of the first item that is accepted
+first_along : {X : Type 0} (represents : List ℕ → ℕ → X → Type 0) (c : List ℕ) (accept : X → Bool) (told : ℕ → Bool) (items : List X) (qs : List ℕ)
+    → length items ≡ length qs → ((i : ℕ) (x : X) → slice_get items i ≡ Some x → represents c (slice_index qs i) x) → AgreesAt qs items accept told → IsFirstOf represents c accept items (find told qs)
+first_along represents c accept told [] [] n there agrees = refl
+first_along represents c accept told [] (q ∷ qs) n there agrees = absurd (omega arith)
+first_along represents c accept told (x ∷ xs) [] n there agrees = absurd (omega arith)
+first_along represents c accept told (x ∷ xs) (q ∷ qs) k there agrees =
+    let same : told q ≡ accept x = agrees 0 x refl in
+    elim (cases_Bool (told q)) [
+      | inl y ↦ rw (y, sym same ∙ y) (x, refl, there 0 x refl)
+      | inr n ↦ rw (n, sym same ∙ n) (first_along represents c accept told xs qs (omega (arith, k)) (λ i y e. there (suc i) y e) (λ i y e. agrees (suc i) y e))
+    ]
+
+-- the items and the lookup of a written list
+module _ {X : Type 0} (t : TableIn) (represents : List ℕ → ℕ → X → Type 0) (pairs : List (ℕ × X)) (items : VisitsItems t represents pairs) (hash : ℕ) (accept : X → Bool) (told : ℕ → Bool) where
+  abbrev positions : List ℕ
+  positions = home_positions t.word t.spec.size t.bytes t.pos items.homes
+
+  hashes_count : length (hashes_of pairs) ≡ length pairs
+  hashes_count = length-map pairs (λ (y : ℕ × X). y.0)
+
+  positions_count : length (items_of pairs) ≡ length positions
+  positions_count = length-map pairs (λ (y : ℕ × X). y.1) ∙ sym hashes_count ∙ sym (home_count t.word t.bytes t.pos (hashes_of pairs) items.homes items.written) ∙ sym (length-map items.homes _)
+
+  -- only positions of items with the hash are accepted
+  pub told_under : AreUnder hash accept pairs → AgreesAt positions (items_of pairs) accept told → IsUnderHash hash (hashes_of pairs) positions told
+  told_under under agrees i below t = elim (slice_get_cases pairs i).1 [
+    | inl e ↦
+        let pair = e.0 in
+        let item : slice_get (items_of pairs) i ≡ Some pair.1 = slice_get-map (λ (y : ℕ × X). y.1) pairs i ∙ ap (option_map (λ (y : ℕ × X). y.1)) e.2 in
+        let same = agrees i pair.1 item in
+        let own : pair.0 ≡ hash = subst (λ (y : ℕ × X). accept y.1 ≡ true → y.0 ≡ hash) e.3 (under i pair e.1) (sym same ∙ t) in
+        get_or-map (λ (y : ℕ × X). y.0) pairs i pair 0 e.1 ∙ ap (λ (y : ℕ × X). y.0) e.3 ∙ own
+    | inr past ↦ absurd (omega (arith, past.0, below, hashes_count))
+  ]
+
+  -- the first accepted position is that of the first accepted item
+  pub first_at_home : AgreesAt positions (items_of pairs) accept told → IsFirstOf represents t.bytes accept (items_of pairs) (find told positions)
+  first_at_home agrees = first_along represents t.bytes accept told (items_of pairs) positions positions_count items.at agrees
+
+-- a written list that was looked up
+module _ {T X R : Type 0} (list : ListInput X R) (post : View T → Bool → Type 0) (hash : ℕ) (o o' : Output) where
+  pub written_found : (end p : ℕ) (wrote : WroteList list o o' end p) → IsWrittenList (table_of list o' p) list.items.represents list.load_factor (end_of o) end wrote.1
+      → p + 3 * byte_len list.width.word ≡ end_of o + length wrote.2 → (b : List ℕ) → b ≡ o'.bytes → (report : TableReport)
+      → ReportsTable (record { word = list.width.word; spec = list.items.spec; bytes = b; pos = p }) post hash report → ReportsList list post hash o o' report
+  written_found end p wrote valid whole b same report reports =
+      let t : TableIn = table_of list o' p in
+      let there : ReportsTable t post hash report =
+      subst (λ (c : List ℕ). ReportsTable (record { word = list.width.word; spec = list.items.spec; bytes = c; pos = p }) post hash report) same reports in
+      let pairs : List (ℕ × X) = wrote.1 in
+      record {
+        fits = wrote.0;
+        pairs = pairs;
+        bytes = wrote.2;
+        end = end;
+        p = p;
+        appends = wrote.3;
+        ends = whole ∙ sym (end-appends o o' wrote.2 wrote.3.1.0);
+        written = valid;
+        first = λ accept told answers agrees under.
+            subst (IsFirstOf list.items.represents o'.bytes accept (items_of pairs))
+            (sym (there.looks.first (hashes_of pairs) valid.items.homes told valid.items.written answers
+            (told_under t list.items.represents pairs valid.items hash accept told under agrees)))
+            (first_at_home t list.items.represents pairs valid.items hash accept told agrees);
+        reports = there;
+      }
+
+-- the bytes of a written list are not refused
+pub not_refused : (w : Width) → IsArchiveWord w → (s : ElementSpec) → IsElement s → (c b : List ℕ) (p begin end : ℕ) → HoldsAround (table_spec w s) c p begin end → b ≡ c → (range : PartRange)
+    → range.lo ≡ begin → range.hi ≡ end → (e : VerifyError) → Fails (table_spec w s) b p range e → ⊥
+not_refused w kind s law c b p begin end around same range low high e fails =
+    let there = subst (λ (x : List ℕ). (table_spec w s).fails x p range.lo range.hi e) same fails in
+    let holds = around range.lo range.hi (omega (arith, low)) (omega (arith, high)) in
+    (table_element w kind s law).exclusive c p range.lo range.hi holds.0 e holds.1 there
+
+-- looking over a written list fails for want of memory alone
+pub look_fails : {X R : Type 0} (list : ListInput X R) (o o' : Output) (t : TableIn) (end p : ℕ) (range : PartRange) → WroteList list o o' end p
+    → ((e : VerifyError) → Fails (table_spec t.word t.spec) t.bytes t.pos range e → ⊥) → (u : LookError) → LookOverFails t range u → WriteAndFindFails list o o' (Look u)
+look_fails list o o' t end p range wrote passes (Verify e) fails = absurd (passes e fails)
+look_fails list o o' t end p range wrote passes Memory accepts = (end, p, wrote)

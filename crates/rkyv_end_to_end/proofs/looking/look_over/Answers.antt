@@ -1,0 +1,27 @@
+use Rattle.rkyv_end_to_end.proofs.Reports.{accepted_viewable, table_reported}
+use Rattle.rkyv_end_to_end.specs.declared.looking.TableReport.{TableReport}
+use Rattle.rkyv_end_to_end.proofs.looking.look_over.Goals as goal
+
+pub walk-requires : goal.walk-requires
+walk-requires g c =
+    accepted_viewable g.W.Word.word g.met.W.Width.layout.kind g.T.HasSpec.spec g.T.HasSpec.laws c.args.bytes.now c.args.pos c.args.range c.in-Ok.field-0
+    c.requires.inside c.requires.aligned c.requires.ordered.0 c.requires.ordered.1 c.in-Ok.ensures
+
+pub look_up-answer-requires-clause-table : goal.look_up-answer-requires-clause-table
+look_up-answer-requires-clause-table g c =
+    accepted_viewable g.W.Word.word g.met.W.Width.layout.kind g.T.HasSpec.spec g.T.HasSpec.laws c.args.bytes.now c.args.pos c.args.range c.in-Ok.field-0
+    c.requires.inside c.requires.aligned c.requires.ordered.0 c.requires.ordered.1 c.in-Ok.ensures
+
+pub returns : goal.returns
+returns g c =
+    let w = g.W.Word.word in
+    let s = g.T.HasSpec.spec in
+    let law = g.T.HasSpec.laws in
+    let represents = accepted_viewable w g.met.W.Width.layout.kind s law c.args.bytes.now c.args.pos c.args.range c.in-Ok.field-0
+    c.requires.inside c.requires.aligned c.requires.ordered.0 c.requires.ordered.1 c.in-Ok.ensures in
+    let answer = c.look_up-answer in
+    let report : TableReport = record { walked = c.in-Ok-walk.walked; found = answer.result.found; strides = answer.result.strides } in (
+      c.in-Ok.field-0,
+      c.in-Ok.ensures,
+      table_reported (goal.F-post g c.args.cmp) w s c.args.bytes.now c.args.pos law represents c.args.hash report c.in-Ok-walk.ensures answer.ensures.looks answer.ensures.reads answer.ensures.exact,
+    )

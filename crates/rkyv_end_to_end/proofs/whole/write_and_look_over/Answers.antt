@@ -1,0 +1,36 @@
+use Rattle.std.proofs.Common.{refl}
+use Rattle.rkyv_base.specs.Writing.{end_of, vec_output}
+use Rattle.rkyv_base.specs.declared.element.PartRange.{PartRange}
+use Rattle.rkyv_table.specs.Table.Bare.{table_in}
+use Rattle.rkyv_end_to_end.specs.Listing.{encoding, list_of, pairs_of}
+use Rattle.rkyv_end_to_end.proofs.Listing.{appended_sits, element_members, look_fails, not_refused, width_members, written_found}
+use Rattle.rkyv_end_to_end.proofs.whole.write_and_look_over.Goals as goal
+
+pub returns-in-Ok-look_over : goal.returns-in-Ok-look_over
+returns-in-Ok-look_over g c =
+    let items = encoding (element_members g.U.Archived.HasSpec g.U.Archived.Represents) g.U.Archive g.X.Lend in
+    let input = pairs_of g.I.Iterator g.J.Iterator c.args.items c.args.hashes in
+    let list = list_of (width_members g.W.Word g.W.Width) items input c.args.len c.args.load_factor in
+    let o = vec_output c.args.serializer.now in
+    let o' = vec_output c.write_list-wrote.new.serializer in
+    let wrote = c.in-Ok.ensures in
+    let at = c.in-Ok.at in
+    let sits = appended_sits o o' wrote.2 refl wrote.3.1.0 in
+    let valid = c.written_lists_represent.ensures c.args.load_factor wrote.1 (end_of o) at.end at.pos wrote.2 o'.bytes wrote.3.2 sits in
+    written_found list (goal.F-post g c.args.cmp) c.args.hash o o' at.end at.pos wrote valid.0 valid.1 c.bytes.result.now c.bytes.ensures c.in-Ok-look_over.report c.in-Ok-look_over.ensures.2
+
+pub returns-in-Err-look_over : goal.returns-in-Err-look_over
+returns-in-Err-look_over g c =
+    let items = encoding (element_members g.U.Archived.HasSpec g.U.Archived.Represents) g.U.Archive g.X.Lend in
+    let input = pairs_of g.I.Iterator g.J.Iterator c.args.items c.args.hashes in
+    let list = list_of (width_members g.W.Word g.W.Width) items input c.args.len c.args.load_factor in
+    let o = vec_output c.args.serializer.now in
+    let o' = vec_output c.write_list-wrote.new.serializer in
+    let wrote = c.in-Ok.ensures in
+    let at = c.in-Ok.at in
+    let sits = appended_sits o o' wrote.2 refl wrote.3.1.0 in
+    let valid = c.written_lists_represent.ensures c.args.load_factor wrote.1 (end_of o) at.end at.pos wrote.2 o'.bytes wrote.3.2 sits in
+    let range : PartRange = record { lo = c.pos-begin.result; hi = at.end } in
+    look_fails list o o' (table_in g.W.Word g.U.Archived.HasSpec c.bytes.result.now at.pos) at.end at.pos range wrote
+    (not_refused g.W.Word.word g.met.W.Width.layout.kind g.U.Archived.HasSpec.spec g.U.Archived.HasSpec.laws o'.bytes c.bytes.result.now at.pos (end_of o) at.end valid.0.passes c.bytes.ensures range c.pos-begin.ensures refl)
+    c.in-Err-look_over.e c.in-Err-look_over.ensures

@@ -1,0 +1,247 @@
+-- A list that is written as a table followed by its header, and the result of its lookup.
+use Rattle.std.specs.Prelude.{◌≡◌, ℕ, ◌+◌, ◌*◌, ◌%◌, ◌≤◌, ◌⊎◌, Bool, List, ◌++◌, length}
+use Rattle.std.specs.Prelude.{slice_get, slice_index, MatchResult, Option, Result, Some}
+use Rattle.std.specs.Int.{Width, byte_len}
+use Rattle.std.specs.declared.iter.Iterator.{Ghosts as Iterators}
+use Rattle.rkyv_base.specs.Bytes.{OccursAt}
+use Rattle.rkyv_base.specs.Entry.{round_up}
+use Rattle.rkyv_base.specs.Format.{Format}
+use Rattle.rkyv_base.specs.Pairs.{written_as}
+use Rattle.rkyv_base.specs.Root.{WriteRootFails}
+use Rattle.rkyv_base.specs.ElementSpec.{IsElement, ElementSpec}
+use Rattle.rkyv_base.specs.Text.{IsArchiveWord}
+use Rattle.rkyv_base.specs.View.{IsValidView}
+use Rattle.rkyv_base.specs.Writing.{Appended, Output, end_of, vec_output, padding, zeros}
+use Rattle.rkyv_base.specs.declared.archive.Archive.{Ghosts as Archives}
+use Rattle.rkyv_base.specs.declared.errors.WriteError.{WriteError}
+use Rattle.rkyv_base.specs.declared.lend.Lend.{Ghosts as Lends}
+use Rattle.rkyv_base.specs.declared.view.View.{View}
+use Rattle.rkyv_table.specs.Table.Bare.{AnswersOf, TableIn}
+use Rattle.rkyv_table.specs.Table.FirstItem.{AreUnder, IsFirstOf}
+use Rattle.rkyv_table.specs.Table.Header.{cap_at}
+use Rattle.rkyv_table.specs.Table.Input.{Input, from_both}
+use Rattle.rkyv_table.specs.Table.Layout.{table_spec}
+use Rattle.rkyv_table.specs.Table.Lending.{lent_represents}
+use Rattle.rkyv_table.specs.Table.Passing.{HoldsAround}
+use Rattle.rkyv_table.specs.Table.Positions.{WrittenAt, home_positions, table_controls}
+use Rattle.rkyv_table.specs.Table.Serializing.{YieldsExactly, HasCapacity, OwnCause}
+use Rattle.rkyv_table.specs.Table.TableFormat.{TableResolver, TableRepresents, table_format}
+use Rattle.rkyv_table.specs.Table.PlacedItems.{hashes_of, items_of}
+use Rattle.rkyv_table.specs.Table.WalkLaws.{VisitsHomes}
+use Rattle.rkyv_end_to_end.specs.Report.{ReportsTable}
+use Rattle.rkyv_end_to_end.specs.declared.looking.LookError.TheVariants.{Memory, Verify}
+use Rattle.rkyv_end_to_end.specs.declared.looking.TableReport.{TableReport}
+use Rattle.rkyv_end_to_end.specs.declared.whole.ListError.{ListError}
+use Rattle.rkyv_end_to_end.specs.declared.whole.ListError.TheVariants.{Look, Write}
+use Rattle.rkyv_end_to_end.specs.declared.writing.Written.{Written}
+
+-- the comparison can be called on each valid item, at any position
+abbrev pub CanCompareAny : {T : Type 0} → (View T → Type 0) → ElementSpec → Type 0
+CanCompareAny {T} pre s = (v : View T) → IsValidView s v → pre v
+
+-- the members of a `Width` and its `Word`
+abbrev pub WidthMembers : Type 0
+WidthMembers = record {
+  word : Width;
+  kind : IsArchiveWord word;
+  LIMIT : ℕ;
+  ALIGN : ℕ;
+  MAX_CAPACITY : ℕ;
+  TABLE_SIZE : ℕ;
+  INDEX_SIZE : ℕ;
+  TEXT_SIZE : ℕ;
+  TEXT_LIMIT : ℕ;
+}
+
+-- the members of an element, and what its values represent
+abbrev pub ElementMembers : Type 0 → Type 1
+ElementMembers V = record {
+  spec : ElementSpec;
+  laws : IsElement spec;
+  represents : List ℕ → ℕ → V → Type 0;
+}
+
+-- the encoding of an item. `spec`: spec of its element, `represents`: bytes at a position
+-- represent the item, `format`: its format
+pub record Encoding (X R : Type 0) : Type 1 where
+  pub spec : ElementSpec
+  pub represents : List ℕ → ℕ → X → Type 0
+  pub format : Format X R
+
+-- the encoding of items `X` that lend values `V`
+abbrev pub encoding : {X V W A R P : Type 0} → ElementMembers V → Archives V W A R P → Lends X V
+    → Encoding X R
+encoding e a l = record {
+  spec = e.spec;
+  represents = lent_represents l.lent e.represents;
+  format = written_as l.lent a.format;
+}
+
+-- the input pairs: each item of `items` with the next hash of `hashes`
+abbrev pub pairs_of : {S A T : Type 0} → Iterators S A → Iterators T ℕ → S → T → Input (ℕ × A)
+pairs_of i j items hashes = from_both i.next_gives j.next_gives items hashes
+
+-- a list to be written. `width`: width of the archive, `items`: encoding of the items,
+-- `input`: input pairs of hash and item, `len`: their number, `load_factor`: its load factor
+pub record ListInput (X R : Type 0) : Type 1 where
+  pub width : WidthMembers
+  pub items : Encoding X R
+  pub input : Input (ℕ × X)
+  pub len : ℕ
+  pub load_factor : ℕ × ℕ
+
+-- the list of `len` items of the input
+abbrev pub list_of : {X R : Type 0} → WidthMembers → Encoding X R → Input (ℕ × X) → ℕ → ℕ × ℕ
+    → ListInput X R
+list_of width items input len load_factor = record {
+  width = width;
+  items = items;
+  input = input;
+  len = len;
+  load_factor = load_factor;
+}
+
+-- the format of the list, in pairs of hash and item
+abbrev pub list_format : {X R : Type 0} → ListInput X R → Format (List (ℕ × X)) TableResolver
+list_format list =
+    table_format list.width.word list.items.spec list.items.format list.load_factor
+
+-- `bytes`: bytes of a list written from `begin` on. They are the table, which ends at `end`,
+-- zeros up to the header's alignment, and the header at `p`
+pub record ListBytes {X : Type 0} (align : ℕ) (f : Format (List (ℕ × X)) TableResolver)
+    (pairs : List (ℕ × X)) (begin end p : ℕ) (bytes : List ℕ) : Type 0 where
+  pub part : List ℕ
+  pub resolver : TableResolver
+  pub header : List ℕ
+  pub parts : f.parts pairs begin part resolver
+  pub image : f.image pairs resolver p header
+  pub ends : end ≡ begin + length part
+  pub at : p ≡ round_up end align
+  pub is : bytes ≡ part ++ (zeros (padding align end) ++ header)
+
+module _ {X R : Type 0} (list : ListInput X R) (o o' : Output) where
+  -- `pairs`: the input pairs, `bytes`: the appended bytes. They are those of the list,
+  -- whose table ends at `end`, and whose header is at `p`
+  abbrev pub AppendsList : List (ℕ × X) → List ℕ → ℕ → ℕ → Type 0
+  AppendsList pairs bytes end p = YieldsExactly list.input.yields list.len pairs
+      × Appended list.width.LIMIT bytes o o'
+      × ListBytes (byte_len list.width.word) (list_format list) pairs (end_of o) end p bytes
+
+  -- the input pairs were written as a table, followed by its header
+  abbrev pub WroteList : ℕ → ℕ → Type 0
+  WroteList end p = HasCapacity list.len list.load_factor list.width.MAX_CAPACITY
+      × (pairs : List (ℕ × X)) × (bytes : List ℕ) × AppendsList pairs bytes end p
+
+  -- `e`: error of the call itself, before it wrote anything, or error
+  -- of writing the pairs, the zeros or the header
+  abbrev pub WriteListFails : {F : Type 0} → WriteError F → Type 0
+  WriteListFails e =
+      (OwnCause list.len list.load_factor list.width.MAX_CAPACITY
+      (list.input.yields_other_count list.len) e × (o' ≡ o))
+      ⊎ (HasCapacity list.len list.load_factor list.width.MAX_CAPACITY
+      × (pairs : List (ℕ × X)) × YieldsExactly list.input.yields list.len pairs
+      × WriteRootFails list.width.LIMIT (byte_len list.width.word) (list_format list) pairs o o' e)
+
+-- `result`: the positions of the list that was written as a table with its header, or the error
+abbrev pub WritesList : {X R F : Type 0} → ListInput X R → Output → Output
+    → Result Written (WriteError F) → Type 0
+WritesList list o o' result = MatchResult result
+    (λ at. WroteList list o o' at.end at.pos)
+    (WriteListFails list o o')
+
+-- the walk over the table visits each item's home bucket once, in bucket order, and no other
+-- bucket. A home bucket is the first in the probe order of the item's hash that no earlier item has
+pub record VisitsItems {X : Type 0} (t : TableIn) (represents : List ℕ → ℕ → X → Type 0)
+    (pairs : List (ℕ × X)) : Type 0 where
+  pub homes : List ℕ
+  pub written : WrittenAt t.word t.bytes t.pos (hashes_of pairs) homes
+  pub at : (i : ℕ) (x : X) → slice_get (items_of pairs) i ≡ Some x → represents t.bytes
+      (slice_index (home_positions t.word t.spec.size t.bytes t.pos homes) i) x
+  pub visits : VisitsHomes (cap_at t.word t.bytes t.pos) homes
+      (table_controls t.word t.bytes t.pos)
+
+-- the positions of the items, first inserted first
+abbrev pub positions_of : {X : Type 0} {t : TableIn} {represents : List ℕ → ℕ → X → Type 0}
+    {pairs : List (ℕ × X)} → VisitsItems t represents pairs → List ℕ
+positions_of {t = t} visits =
+    home_positions t.word t.spec.size t.bytes t.pos visits.homes
+
+-- a list that was written as a table from `begin` to `end`. The table is valid in each range
+-- around it, each item is in its home bucket, and the walk visits these alone
+pub record IsWrittenList {X : Type 0} (t : TableIn) (represents : List ℕ → ℕ → X → Type 0)
+    (load_factor : ℕ × ℕ) (begin end : ℕ) (pairs : List (ℕ × X)) : Type 0 where
+  pub behind : (begin ≤ end) × (end ≤ t.pos)
+  pub aligned : t.pos % byte_len t.word ≡ 0
+  pub passes : HoldsAround (table_spec t.word t.spec) t.bytes t.pos begin end
+  pub all_valid : TableRepresents t.word t.spec represents load_factor t.bytes t.pos pairs
+  pub items : VisitsItems t represents pairs
+
+-- each written list is valid, in each archive that has its bytes
+abbrev pub ListsAreValid : {X R : Type 0} → Width → Encoding X R → ℕ × ℕ → Type 0
+ListsAreValid {X} w items load_factor =
+    (pairs : List (ℕ × X)) (begin end p : ℕ) (bytes c : List ℕ)
+    → ListBytes (byte_len w) (table_format w items.spec items.format load_factor) pairs begin end
+    p bytes
+    → OccursAt c begin bytes
+    → IsWrittenList (record { word = w; spec = items.spec; bytes = c; pos = p })
+    items.represents load_factor begin end pairs
+    × (p + 3 * byte_len w ≡ begin + length bytes)
+
+-- `told` returns at the position of each item what `accept` returns for the item
+abbrev pub AgreesAt : {X : Type 0} → List ℕ → List X → (X → Bool) → (ℕ → Bool) → Type 0
+AgreesAt {X} positions items accept told =
+    (i : ℕ) (x : X) → slice_get items i ≡ Some x → told (slice_index positions i) ≡ accept x
+
+-- the lookup finds the first accepted item, or none if no item is accepted.
+-- The comparison must be a function of the position, agree with `accept` at the position of each
+-- item, and accept only items with the hash `hash`
+abbrev pub FindsFirstItem : {T X : Type 0} {t : TableIn} {represents : List ℕ → ℕ → X → Type 0}
+    {pairs : List (ℕ × X)} → VisitsItems t represents pairs → (View T → Bool → Type 0) → ℕ
+    → Option ℕ → Type 0
+FindsFirstItem {X = X} {t = t} {represents = represents} {pairs = pairs} visits post hash found =
+    (accept : X → Bool) (told : ℕ → Bool) → AnswersOf post t.word t.spec t.bytes t.pos told
+    → AgreesAt (positions_of visits) (items_of pairs) accept told → AreUnder hash accept pairs
+    → IsFirstOf represents t.bytes accept (items_of pairs) found
+
+-- the table of the list in the output `o`, with its header at `p`
+abbrev pub table_of : {X R : Type 0} → ListInput X R → Output → ℕ → TableIn
+table_of list o p = record {
+  word = list.width.word;
+  spec = list.items.spec;
+  bytes = o.bytes;
+  pos = p;
+}
+
+-- `report`: the items and the lookup of a written list. The earlier bytes are unchanged, and the
+-- appended bytes are those of the list. Its table ends at `end`, and the header at `p` ends the
+-- output. The list is valid, the walk visits its items alone, and the lookup finds the first
+-- accepted one
+pub record ReportsList {T X R : Type 0} (list : ListInput X R) (post : View T → Bool → Type 0)
+    (hash : ℕ) (o o' : Output) (report : TableReport) : Type 0 where
+  pub fits : HasCapacity list.len list.load_factor list.width.MAX_CAPACITY
+  pub pairs : List (ℕ × X)
+  pub bytes : List ℕ
+  pub end : ℕ
+  pub p : ℕ
+  pub appends : AppendsList list o o' pairs bytes end p
+  pub ends : p + 3 * byte_len list.width.word ≡ end_of o'
+  pub written : IsWrittenList (table_of list o' p) list.items.represents list.load_factor
+      (end_of o) end pairs
+  pub first : FindsFirstItem written.items post hash report.found
+  pub reports : ReportsTable (table_of list o' p) post hash report
+
+-- the list was not written, or memory for the positions could not be allocated.
+-- The bytes of a written list are always valid
+abbrev pub WriteAndFindFails : {X R : Type 0} → ListInput X R → Output → Output → ListError
+    → Type 0
+WriteAndFindFails list o o' (Write e) = WriteListFails list o o' e
+WriteAndFindFails list o o' (Look (Verify e)) = ⊥
+WriteAndFindFails list o o' (Look Memory) = (end : ℕ) × (p : ℕ) × WroteList list o o' end p
+
+-- `result`: the items and one lookup of the list, which was written, or the error.
+-- `old`, `new`: bytes and count of failed writes of the writer to memory, before and after
+abbrev pub WritesAndFinds : {T X R : Type 0} → ListInput X R → (View T → Bool → Type 0) → ℕ
+    → List ℕ × ℕ → List ℕ × ℕ → Result TableReport ListError → Type 0
+WritesAndFinds list post hash old new result = MatchResult result
+    (ReportsList list post hash (vec_output old) (vec_output new))
+    (WriteAndFindFails list (vec_output old) (vec_output new))

@@ -1,0 +1,144 @@
+//! Validation, walk and lookup of a table in untrusted bytes.
+
+ghost use Rattle.std.specs.Prelude.{IfOk, length, ◌%◌, ◌*◌, ◌+◌, ◌≡◌, ◌≤◌};
+ghost use Rattle.std.specs.Int.{byte_len};
+ghost use Rattle.rkyv_base.specs.ElementSpec.{Viewable};
+ghost use Rattle.rkyv_table.specs.Table.Bare.{MayAskOf, table_in};
+ghost use Rattle.rkyv_table.specs.Table.Layout.{table_spec};
+ghost use Rattle.rkyv_table.specs.Table.Positions.{item_positions};
+ghost use Rattle.rkyv_end_to_end.specs.Report.{CanCompareItems, LooksOver, LooksUpIn};
+ghost use Rattle.rkyv_end_to_end.specs.Report.{ReadsExactlyIn, ReadsWithinBound};
+
+use rkyv_base::element::{Element, PartRange};
+use rkyv_base::errors::VerifyError;
+use rkyv_base::view::{View, found_pos};
+use rkyv_base::width::Width;
+use rkyv_table::Strides;
+use rkyv_table::table::ArchivedHashTable;
+use std::alloc::{AllocError, Global};
+use thiserror::Error;
+
+/// The items of a table, and the result of one lookup.
+#[derive(Debug, Drop)]
+pub struct TableReport {
+    /// The positions of its items, in bucket order.
+    pub walked: Vec<u64>,
+    /// The position of the item that the lookup found.
+    pub found: Option<u64>,
+    /// The number of strides of sixteen control bytes that the lookup read.
+    pub strides: u64,
+}
+
+/// The error of `look_over`.
+#[derive(Debug, Drop, Error)]
+pub enum LookError {
+    /// The bytes are not a valid table.
+    #[error("{0}")]
+    Verify(VerifyError),
+    /// Memory for the positions could not be allocated.
+    #[error("no memory")]
+    Memory,
+}
+
+// The result of one lookup.
+#[derive(Drop)]
+struct Answer {
+    found: Option<u64>,
+    strides: u64,
+}
+
+// Returns the positions of the items of the table at `pos`, in bucket order.
+fn walk<W: Width, T: Element>(alloc: Global, bytes: &[u8], pos: u64) -> Result<Vec<u64>, AllocError>
+    requires { Viewable (table_spec W.word T.spec) bytes.now pos }
+    ensures { IfOk result (λ walked. walked.items
+        ≡ item_positions W.word T.spec.size bytes.now pos) }
+{
+    let mut walked = Vec::new(alloc);
+    for item in ArchivedHashTable::<T, W>::of(View::new(bytes, pos)).raw_iter() {
+        walked.push(item)?;
+    }
+    Ok(walked)
+}
+
+// Looks up `hash` in the table at `pos`, and counts the strides that it reads.
+fn look_up<W: Width, T: Element, F: Fn(View<'_, T>) -> bool>(
+    bytes: &[u8],
+    pos: u64,
+    hash: u64,
+    cmp: F,
+) -> Answer
+    requires table { Viewable (table_spec W.word T.spec) bytes.now pos }
+    requires callable { MayAskOf (F.pre cmp) W.word T.spec bytes.now pos }
+    ensures looks { LooksUpIn (table_in W.Word T.HasSpec bytes.now pos) (F.post cmp) hash
+        result.found }
+    ensures reads { ReadsWithinBound W.word bytes.now pos result.strides }
+    ensures exact { ReadsExactlyIn (table_in W.Word T.HasSpec bytes.now pos) (F.post cmp) hash
+        result.strides }
+{
+    let table = ArchivedHashTable::<T, W>::of(View::new(bytes, pos));
+    let mut strides = Strides::new();
+    let found = found_pos(table.get_counted(hash, cmp, &mut strides));
+    Answer {
+        found,
+        strides: strides.count(),
+    }
+}
+
+/// Validates the table whose header is at `pos`, walks over its items, and looks up `hash`.
+///
+/// The items of the table must be in the range.
+///
+/// The contract is for all bytes, and for any results of the comparison. Each item of the walk
+/// is valid and inside the bytes. The lookup finds no item, or one that the comparison accepted.
+/// It reads at most ceil(buckets / 16) strides of sixteen control bytes.
+///
+/// # Requires
+///
+/// - The header at `pos` ends inside `bytes`.
+/// - `pos` is a multiple of the size of a word.
+/// - The range ends at or after its start, and at or before `pos`.
+/// - `cmp` can be called on each item of the table.
+///
+/// # Errors
+///
+/// - `Verify`: the bytes are not a valid table. It has the first fault.
+/// - `Memory`: the table is valid, and memory for the positions could not be allocated.
+///
+/// # Examples
+///
+/// ```rust
+/// // Looks up a hash in that table, with a comparison that accepts every item.
+/// fn look(alloc: Global, bytes: &[u8; 60], hash: u64) -> Result<TableReport, LookError> {
+///     let range = PartRange { lo: 0, hi: 48 };
+///     look_over::<Narrow, Entry<u32, u32>, _>(alloc, bytes, 48, range, hash, |_| true)
+/// }
+/// ```
+pub fn look_over<W: Width, T: Element, F: Fn(View<'_, T>) -> bool>(
+    alloc: Global,
+    bytes: &[u8],
+    pos: u64,
+    range: PartRange,
+    hash: u64,
+    cmp: F,
+) -> Result<TableReport, LookError>
+    requires inside { pos + 3 * byte_len W.word ≤ length bytes.now }
+    requires aligned { pos % byte_len W.word ≡ 0 }
+    requires ordered { (range.lo ≤ range.hi) × (range.hi ≤ pos) }
+    requires callable { CanCompareItems (table_in W.Word T.HasSpec bytes.now pos) (F.pre cmp) }
+    ensures { LooksOver (table_in W.Word T.HasSpec bytes.now pos) range (F.post cmp) hash result }
+{
+    match ArchivedHashTable::<T, W>::verify(bytes, pos, range) {
+        Ok(_) => {}
+        Err(e) => return Err(LookError::Verify(e)),
+    }
+    let walked = match walk::<W, T>(alloc, bytes, pos) {
+        Ok(walked) => walked,
+        Err(_) => return Err(LookError::Memory),
+    };
+    let answer = look_up::<W, T, _>(bytes, pos, hash, cmp);
+    Ok(TableReport {
+        walked,
+        found: answer.found,
+        strides: answer.strides,
+    })
+}

@@ -1,0 +1,110 @@
+//! A list from its items to its lookup.
+
+ghost use Rattle.std.specs.Prelude.{ℕ};
+ghost use Rattle.rkyv_end_to_end.specs.Listing.{CanCompareAny, ListsAreValid, WritesAndFinds};
+ghost use Rattle.rkyv_end_to_end.specs.Listing.{encoding, list_of, pairs_of};
+
+use crate::looking::{LookError, TableReport, look_over};
+use crate::writing::write_list;
+use rkyv_base::archive::{Archive, Serialize};
+use rkyv_base::element::PartRange;
+use rkyv_base::errors::WriteError;
+use rkyv_base::lend::Lend;
+use rkyv_base::view::View;
+use rkyv_base::width::Width;
+use rkyv_base::writer::{NoMemory, VecWriter, Writer};
+use rkyv_table::table::laws::walk_visits_homes;
+use rkyv_table::table::written::{
+    valid_tables_were_written, written_tables_pass, written_tables_represent,
+};
+use std::alloc::Global;
+use thiserror::Error;
+
+/// The error of `write_and_look_over`.
+#[derive(Debug, Drop, Error)]
+pub enum ListError {
+    /// The list can't be written.
+    #[error("{0}")]
+    Write(WriteError<NoMemory>),
+    /// The list was written, and memory for the positions could not be allocated.
+    ///
+    /// It is never `LookError::Verify`, since the written bytes are valid.
+    #[error("{0}")]
+    Look(LookError),
+}
+
+/// States that a written table with its header is valid in each archive that has its bytes.
+///
+/// It is valid with each range around the table. Each item is in its home bucket,
+/// and the walk visits these buckets and no others.
+pub fn written_lists_represent<W: Width, U: Archive<W>, X: Lend<U>>()
+    ensures { (load_factor : ℕ × ℕ) →
+        ListsAreValid W.word (encoding U.Archived.Represents U.Archive X.Lend) load_factor }
+{
+    written_tables_represent::<W, U, X>();
+    written_tables_pass::<W, U, X>();
+    valid_tables_were_written::<W, U, X>();
+    walk_visits_homes();
+}
+
+/// Writes a list of `len` items as a table, validates it, walks over it, and looks up `hash`.
+///
+/// Each item has the next of the hashes. The table follows the bytes that the writer already has,
+/// and the header follows the table.
+///
+/// - The appended bytes are the table, zeros up to the header's alignment, and the header.
+/// - They are valid.
+/// - The walk visits each item once, and nothing else.
+/// - The lookup finds the first inserted item that the comparison accepts.
+///   This is under two conditions: the comparison depends on the item alone,
+///   and accepts only items with the hash `hash`.
+/// - The lookup reads at most ceil(buckets / 16) strides of sixteen control bytes.
+///
+/// # Requires
+///
+/// - Both iterators can be advanced.
+/// - `cmp` can be called on each valid item.
+///
+/// # Errors
+///
+/// - `Write`: the list can't be written. It has the error of the write.
+/// - `Look(LookError::Memory)`: memory for the positions could not be allocated.
+pub fn write_and_look_over<
+    W: Width,
+    U: Serialize<VecWriter, W>,
+    X: Lend<U> + Drop,
+    I: Iterator<Item = X>,
+    J: Iterator<Item = u64>,
+    F: Fn(View<'_, U::Archived>) -> bool,
+>(
+    alloc: Global,
+    items: I,
+    hashes: J,
+    len: usize,
+    load_factor: (usize, usize),
+    serializer: &mut VecWriter,
+    hash: u64,
+    cmp: F,
+) -> Result<TableReport, ListError>
+    requires ready { I.can_next items × J.can_next hashes }
+    requires callable { CanCompareAny (F.pre cmp) U.Archived.spec }
+    ensures { WritesAndFinds (list_of W.Width (encoding U.Archived.Represents U.Archive X.Lend)
+        (pairs_of I.Iterator J.Iterator items hashes) len load_factor)
+        (F.post cmp) hash serializer.old serializer.new result }
+{
+    let begin = serializer.pos();
+    let wrote = write_list::<W, _, U, _, _, _>(alloc, items, hashes, len, load_factor, serializer);
+    let at = match wrote {
+        Ok(at) => at,
+        Err(e) => return Err(ListError::Write(e)),
+    };
+    written_lists_represent::<W, U, X>();
+    let range = PartRange {
+        lo: begin,
+        hi: at.end,
+    };
+    match look_over::<W, U::Archived, _>(alloc, serializer.bytes(), at.pos, range, hash, cmp) {
+        Ok(report) => Ok(report),
+        Err(e) => Err(ListError::Look(e)),
+    }
+}

@@ -1,0 +1,74 @@
+//! Writing a list as a table, followed by its header.
+
+ghost use Rattle.rkyv_end_to_end.specs.Listing.{WritesList, encoding, list_of, pairs_of};
+
+use rkyv_base::archive::{Serialize, WriteResult};
+use rkyv_base::errors::WriteError;
+use rkyv_base::lend::Lend;
+use rkyv_base::width::Width;
+use rkyv_base::writer::{Writer, align_for_in, append_in};
+use rkyv_table::table::{ArchivedHashTable, TableOf};
+use std::alloc::Global;
+
+/// The positions of a written list: the end of its table, and its header.
+#[derive(Clone, Copy, Debug)]
+pub(crate) struct Written {
+    pub(crate) end: u64,
+    pub(crate) pos: u64,
+}
+
+/// Writes a list of `len` items as a table, followed by its aligned header.
+///
+/// Each item has the next of the hashes.
+///
+/// # Errors
+///
+/// - The errors of `serialize_from_iter`.
+/// - The error of appending zeros up to the header's alignment.
+/// - `DistanceTooLarge`: the distance to the table doesn't fit in the width.
+/// - The error of appending the header.
+pub(crate) fn write_list<
+    W: Width,
+    S: Writer,
+    U: Serialize<S, W>,
+    X: Lend<U> + Drop,
+    I: Iterator<Item = X>,
+    J: Iterator<Item = u64>,
+>(
+    alloc: Global,
+    items: I,
+    hashes: J,
+    len: usize,
+    load_factor: (usize, usize),
+    serializer: &mut S,
+) -> WriteResult<Written, S>
+    requires { I.can_next items × J.can_next hashes }
+    ensures { WritesList (list_of W.Width (encoding U.Archived.Represents U.Archive X.Lend)
+        (pairs_of I.Iterator J.Iterator items hashes) len load_factor)
+        (S.output serializer.old) (S.output serializer.new) result }
+{
+    let resolver = ArchivedHashTable::<U::Archived, W>::serialize_from_iter::<_, U, X, _, _>(
+        alloc,
+        items,
+        hashes,
+        len,
+        load_factor,
+        serializer,
+    )?;
+    let end = serializer.pos();
+    let pos = align_for_in::<W, TableOf<U::Archived, W>, _>(serializer)?;
+    let mut scratch = [0u8; 24];
+    let out = &mut scratch[..W::TABLE_SIZE];
+    match ArchivedHashTable::<U::Archived, W>::resolve_from_len(
+        len,
+        load_factor,
+        resolver,
+        pos,
+        out,
+    ) {
+        Ok(()) => {}
+        Err(_) => return Err(WriteError::DistanceTooLarge),
+    }
+    append_in::<W, S>(serializer, out)?;
+    Ok(Written { end, pos })
+}

@@ -1,0 +1,229 @@
+-- Index maps in two archives that have the same bytes.
+use Rattle.std.proofs.Common.{◌≡◌, ℕ, ◌+◌, ◌*◌, ◌<◌, ◌≤◌, sym, ap, subst, ◌∙◌, arith}
+use Rattle.std.proofs.Common.{List, length, map, get_or, slice_index}
+use Rattle.std.specs.Prelude.{unsigned_abs}
+use Rattle.std.specs.Int.{Width, byte_len}
+use Rattle.std.proofs.lemmas.List.{ext_get_or, get_or-map, length-map}
+use Rattle.std.proofs.lemmas.List.FromFn.{get_or-range_with_len, length-range_with_len}
+use Rattle.std.proofs.lemmas.Option.{slice_get_within}
+use Rattle.rkyv_scan.specs.Hash.{Hasher, HasherCall, hash_of_calls}
+use Rattle.rkyv_base.specs.Bytes.{AgreeOn, number_at}
+use Rattle.rkyv_base.specs.Lemmas.Bytes.{agree_on_part}
+use Rattle.rkyv_base.specs.Entry.{entry_spec}
+use Rattle.rkyv_base.specs.Lemmas.Entry.{entry_element, same_key}
+use Rattle.rkyv_base.specs.Format.{RepresentsLocally}
+use Rattle.rkyv_base.specs.Pairs.{PairRepresents}
+use Rattle.rkyv_base.specs.Lemmas.Pairs.{pair_local}
+use Rattle.rkyv_base.specs.ElementSpec.{IsElement, ElementSpec}
+use Rattle.rkyv_base.specs.Text.{IsArchiveWord}
+use Rattle.rkyv_keys.specs.Equality.{Comparison}
+use Rattle.rkyv_keys.specs.Keys.{IsKey}
+use Rattle.rkyv_table.specs.Table.Header.{cap_at, len_at}
+use Rattle.rkyv_table.specs.Lemmas.ItemPositions.{HoldsWithin}
+use Rattle.rkyv_table.specs.Lemmas.PlaceLaws.{all_between}
+use Rattle.rkyv_table.specs.Table.Positions.{IsWalked, WrittenAt, home_positions, item_at}
+use Rattle.rkyv_table.specs.Table.Positions.{table_controls}
+use Rattle.rkyv_table.specs.Lemmas.SameHeader.{cap_same, len_same}
+use Rattle.rkyv_table.specs.Lemmas.TableLaws.{table_element}
+use Rattle.rkyv_table.specs.Lemmas.SameControls.{same_controls}
+use Rattle.rkyv_table.proofs.SameTable.{written_there}
+use Rattle.rkyv_table.proofs.WrittenTables.{home_pos, home_walked}
+use Rattle.rkyv_index.specs.Index.{hash_at}
+use Rattle.rkyv_index.specs.IndexFormat.{IndexRepresents, IndexWrittenAt}
+use Rattle.rkyv_index.specs.IndexLayout.{entries_pos, pair_pos}
+use Rattle.rkyv_index.specs.Lemmas.IndexLaws.{each_holds, entry_inside, place_element}
+use Rattle.rkyv_index.specs.Lemmas.IndexLaws.{head_same, place_same_at, told_same}
+use Rattle.rkyv_index.specs.IndexLayout.{IndexHolds, entry_at}
+use Rattle.rkyv_index.specs.IndexLayout.{index_spec, place_spec, places_of}
+
+-- the hash of a valid key depends only on the bytes of the key and its parts
+abbrev pub HashLocal : ElementSpec → (List ℕ → ℕ → ℕ) → Type 0
+HashLocal k hash = (b c : List ℕ) (q lo hi l : ℕ) → lo ≤ hi → k.holds b q lo hi l → AgreeOn b c q
+    (q + k.size) → AgreeOn b c lo l → hash b q ≡ hash c q
+
+-- An index map that was written in `b` was also written in `c`. Both have the same header
+-- of the table at `p`, and the same control bytes if it has buckets. The numbers in full buckets
+-- and the hashes of the keys are the same.
+module _ (w : Width) (size : ℕ) (key_hash : List ℕ → ℕ → ℕ) (b c : List ℕ) (p : ℕ)
+    (head : AgreeOn b c p (p + 3 * byte_len w))
+    (controls : 0 < cap_at w b p → table_controls w b p ≡ table_controls w c p)
+    (read : (i : ℕ) → IsWalked w b p i → number_at w b (item_at w (byte_len w) b p i)
+    ≡ number_at w c (item_at w (byte_len w) c p i))
+    (same_calls : (i : ℕ) → i < len_at w b p → key_hash b (pair_pos w size b p i)
+    ≡ key_hash c (pair_pos w size c p i)) where
+  abbrev hashes_in : List ℕ → List ℕ
+  hashes_in d = map (λ i. key_hash d (pair_pos w size d p i)) (places_of (len_at w d p))
+
+  len_is : len_at w b p ≡ len_at w c p
+  len_is = len_same w b c p head
+
+  same_hashes : hashes_in b ≡ hashes_in c
+  same_hashes =
+      let n = len_at w b p in
+      let is = places_of n in
+      let count = length-range_with_len 0 n in
+      let f : ℕ → ℕ = λ i. key_hash b (pair_pos w size b p i) in
+      let g : ℕ → ℕ = λ i. key_hash c (pair_pos w size c p i) in
+      ext_get_or 0 (map f is) (map g is) (length-map is f ∙ sym (length-map is g))
+      (λ i below.
+      let inside : i < n = omega (arith, below, length-map is f, count) in
+      let here : i < length is = omega (arith, inside, count) in
+      let at : get_or is i 0 ≡ i = get_or-range_with_len 0 n i 0 inside ∙ omega arith in
+      get_or-map f is i 0 0 here ∙ ap f at ∙ same_calls i inside ∙ ap g (sym at)
+      ∙ sym (get_or-map g is i 0 0 here))
+      ∙ ap (λ m. map g (places_of m)) len_is
+
+  same_places : (homes : List ℕ) → IndexWrittenAt w size key_hash b p homes
+      → map (number_at w c) (home_positions w (byte_len w) c p homes) ≡ places_of (len_at w c p)
+  same_places homes written =
+      let hb = home_positions w (byte_len w) b p homes in
+      let hc = home_positions w (byte_len w) c p homes in
+      let nb : length hb ≡ length homes = length-map homes (item_at w (byte_len w) b p) in
+      let nc : length hc ≡ length homes = length-map homes (item_at w (byte_len w) c p) in
+      ext_get_or 0 (map (number_at w c) hc) (map (number_at w b) hb)
+      (length-map hc (number_at w c) ∙ nc ∙ sym nb ∙ sym (length-map hb (number_at w b)))
+      (λ i below.
+      let n : i < length homes = omega (arith, below, length-map hc (number_at w c), nc) in
+      let walked = home_walked w b p (hashes_in b) homes written.table i n in
+      get_or-map (number_at w c) hc i 0 0 (omega (arith, n, nc)) ∙ ap (number_at w c)
+      (home_pos w (byte_len w) c p homes i n) ∙ sym (read (slice_index homes i) walked)
+      ∙ ap (number_at w b) (sym (home_pos w (byte_len w) b p homes i n))
+      ∙ sym (get_or-map (number_at w b) hb i 0 0 (omega (arith, n, nb))))
+      ∙ written.places ∙ ap places_of len_is
+
+  pub written_again : (homes : List ℕ) → IndexWrittenAt w size key_hash b p homes
+      → IndexWrittenAt w size key_hash c p homes
+  written_again homes written = record {
+    table = subst (λ (xs : List ℕ). WrittenAt w c p xs homes) same_hashes
+        (written_there w b c p head controls (hashes_in b) homes written.table);
+    places = same_places homes written;
+  }
+
+module _ (w : Width) (kind : IsArchiveWord w) (k v : ElementSpec) (kl : IsElement k)
+    (vl : IsElement v)
+    {A B : Type 0} (key : List ℕ → ℕ → A → Type 0) (value : List ℕ → ℕ → B → Type 0)
+    (hash : List ℕ → ℕ
+    → ℕ) (factor : ℕ × ℕ) (local : HashLocal k hash) (kn : RepresentsLocally k key)
+    (vn : RepresentsLocally v value) (pairs : List (A × B)) (b c : List ℕ) (p lo hi l : ℕ)
+    (o : lo ≤ hi) where
+  abbrev S : ElementSpec
+  S = entry_spec k v
+
+  abbrev law : IsElement S
+  law = entry_element k v kl vl
+
+  module _ (h : IndexHolds w S b p lo hi l) (fixed : AgreeOn b c p (p + 4 * byte_len w))
+      (part : AgreeOn b c lo l) (st : IndexRepresents w k v key value hash factor b p pairs) where
+    head : AgreeOn b c p (p + 3 * byte_len w)
+    head = head_same w b c p fixed
+
+    same_pos : (i : ℕ) → pair_pos w S.size b p i ≡ pair_pos w S.size c p i
+    same_pos i = ap (λ z. entry_at S.size (unsigned_abs z) i) (told_same w b c p fixed)
+
+    same_len : len_at w b p ≡ len_at w c p
+    same_len = len_same w b c p head
+
+    same_cap : cap_at w b p ≡ cap_at w c p
+    same_cap = cap_same w b c p head
+
+    begin_is : entries_pos w b p ≡ h.entries.begin
+    begin_is = ap unsigned_abs (sym h.entries.part.begins)
+
+    table_ends : (lo ≤ h.middle) × (h.middle ≤ hi)
+    table_ends =
+        (table_element w kind (place_spec w) (place_element w kind)).rest_in_range b p lo hi
+        h.middle o h.table
+
+    last_ends : (h.middle ≤ h.entries.last) × (h.entries.last ≤ h.entries.begin)
+    last_ends = all_between S law (entry_at S.size h.entries.begin) b h.entries.begin
+        (places_of (len_at w b p)) h.middle h.entries.last h.entries.part.above h.entries.hold
+
+    -- each entry is valid, and inside the part
+    entry_there : (i : ℕ) → i < len_at w b p → HoldsWithin S b (pair_pos w S.size b p i) h.middle
+        h.entries.begin h.entries.last
+        × (h.entries.begin ≤ pair_pos w S.size b p i) × (pair_pos w S.size b p i + S.size ≤ l)
+    entry_there i below =
+        let r = each_holds S law (entry_at S.size h.entries.begin) b h.entries.begin 0
+        (len_at w b p) h.middle h.entries.last i h.entries.part.above h.entries.hold
+        (omega arith) (omega arith) in
+        let u = entry_inside S.size h.entries.begin (len_at w b p) i below in
+        let e = h.entries.ends in
+        subst (λ n. HoldsWithin S b (entry_at S.size n i) h.middle h.entries.begin h.entries.last
+        × (h.entries.begin ≤ entry_at S.size n i) × (entry_at S.size n i + S.size ≤ l))
+        (sym begin_is)
+        (r, u.0, omega (arith, u.1, e))
+
+    module _ (i : ℕ) (below : i < len_at w b p) where
+      abbrev q : ℕ
+      q = pair_pos w S.size b p i
+
+      same_entry : AgreeOn b c q (q + S.size)
+      same_entry =
+          let r = entry_there i below in
+          let above = h.entries.part.above in
+          agree_on_part b c lo l q (q + S.size) (omega (arith, r.1, above, table_ends)) r.2
+          (omega arith) part
+
+      same_hash : hash b q ≡ hash c q
+      same_hash =
+          let r = (entry_there i below).0 in
+          let e = r.holds in
+          let x = kl.rest_in_range b q r.lower h.entries.begin e.1 r.below e.2 in
+          let y = vl.rest_in_range b _ e.1 h.entries.begin r.rest x.1 e.3 in
+          let ends = h.entries.ends in
+          local b c q r.lower h.entries.begin e.1 r.below e.2 (same_key k v kl vl b c q e.0
+          same_entry)
+          (agree_on_part b c lo l r.lower e.1 (omega (arith, r.above, table_ends))
+          (omega (arith, x.1, ends)) x.0 part)
+
+      same_pair : (pair : A × B) → PairRepresents k v key value b q pair
+          → PairRepresents k v key value c q
+          pair
+      same_pair pair there =
+          let r = (entry_there i below).0 in
+          let x = law.rest_in_range b q r.lower h.entries.begin r.rest r.below r.holds in
+          let ends = h.entries.ends in
+          let within = r.ends in
+          pair_local k v kl vl key value kn vn pair b c q r.lower h.entries.begin r.rest r.below
+          r.holds same_entry
+          (agree_on_part b c lo l r.lower r.rest (omega (arith, r.above, table_ends))
+          (omega (arith, within, last_ends, ends)) x.0 part) there
+
+    table_local : AgreeOn b c lo h.middle
+    table_local =
+        let ends = h.entries.ends in
+        let above = h.entries.part.above in
+        agree_on_part b c lo l lo h.middle (omega arith) (omega
+        (arith, above, ends)) table_ends.0 part
+
+    represents_again : IndexRepresents w k v key value hash factor c p pairs
+    represents_again = record {
+      homes = st.homes;
+      written = written_again w S.size hash b c p head
+          (same_controls w (place_spec w) (place_element w kind) b c p lo hi h.middle o h.table
+          head table_local)
+          (place_same_at w kind b c p lo hi h.middle o head table_local h.table)
+          (λ i below. same_hash i below ∙ ap (hash c) (same_pos i)) st.homes st.written;
+      len = sym same_len ∙ st.len;
+      cap = sym same_cap ∙ st.cap;
+      at = λ i pair e.
+          let inside = slice_get_within pairs i pair e in
+          let n = st.len in
+          subst (λ z. PairRepresents k v key value c z pair) (same_pos i)
+          (same_pair i (omega (arith, inside, n)) pair (st.at i pair e));
+    }
+
+module _ {State : Type 0} (hasher : Hasher State)
+    (w : Width) (kind : IsArchiveWord w) {k v : ElementSpec} (kl : IsElement k) (vl : IsElement v)
+    {A B : Type 0} {key : List ℕ → ℕ → A → Type 0} {value : List ℕ → ℕ → B → Type 0}
+    {same : Comparison} {key_calls : List ℕ → ℕ → List HasherCall} (factor : ℕ × ℕ) where
+  -- the list that an index map represents depends only on the bytes of its header and its parts
+  pub index_represents_local : IsKey k same key_calls → RepresentsLocally k key
+      → RepresentsLocally v value
+      → RepresentsLocally (index_spec w (entry_spec k v)) (IndexRepresents w k v key value
+      (hash_at hasher key_calls) factor)
+  index_represents_local key_law kn vn pairs b c p lo hi l o h fixed part st =
+      represents_again w kind k v kl vl key value (hash_at hasher key_calls) factor
+      (λ b' c' q lo' hi' l' o' h' fixed' part'. ap (hash_of_calls hasher)
+      (key_law.local b' c' q lo' hi' l' o' h' fixed' part')) kn vn pairs b c p lo hi l o h fixed
+      part st

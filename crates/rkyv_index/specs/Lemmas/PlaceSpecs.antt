@@ -1,0 +1,156 @@
+-- A table of the indices of a width is a table of words.
+use Rattle.std.specs.Prelude.{◌≡◌, ℕ, ℤ, List, [], ◌∷◌}
+use Rattle.std.specs.Int.{Width, byte_len}
+use Rattle.std.proofs.Common.{subst, sym, inl, inr}
+use Rattle.rkyv_base.specs.declared.errors.VerifyError.{VerifyError}
+use Rattle.rkyv_base.specs.Layout.{IsPlace}
+use Rattle.rkyv_base.specs.Scalar.{Encoding, IsScalar}
+use Rattle.rkyv_base.specs.ElementSpec.{ElementSpec, Viewable}
+use Rattle.rkyv_table.specs.Table.Header.{decode_begin, cap_at, len_at}
+use Rattle.rkyv_table.specs.Controls.Placing.{walk}
+use Rattle.rkyv_table.specs.Table.Places.{AllHold, FirstFails}
+use Rattle.rkyv_table.specs.Table.Layout.{FailsInside, IsPart, TableAt, TableFails, TableFailsAt}
+use Rattle.rkyv_table.specs.Table.Layout.{TableHolds, bucket_at, controls_at, table_spec}
+use Rattle.rkyv_index.specs.IndexLayout.{place_spec}
+
+-- specs of one size and alignment
+module _ (size align : ℕ) (holds holds' : List ℕ → ℕ → ℕ → ℕ → ℕ → Type 0) (fails fails' : List ℕ
+    → ℕ → ℕ → ℕ → VerifyError → Type 0)
+    (to : (b : List ℕ) (p lo hi l : ℕ) → holds b p lo hi l → holds' b p lo hi l)
+    (fail : (b : List ℕ) (p lo hi : ℕ) (e : VerifyError) → fails b p lo hi e → fails' b p lo hi e)
+  where
+    abbrev from : ElementSpec
+    from = record { size = size; align = align; holds = holds; fails = fails }
+
+    abbrev onto : ElementSpec
+    onto = record { size = size; align = align; holds = holds'; fails = fails' }
+
+    all_as : (at : ℕ → ℕ) (b : List ℕ) (hi : ℕ) (is : List ℕ) (lo l : ℕ) → AllHold from at b hi is
+        lo
+        l → AllHold onto at b hi is lo l
+    all_as at b hi [] lo l h = h
+    all_as at b hi (i ∷ is) lo l h = (h.0, to b (at i) lo hi h.0 h.1, all_as at b hi is h.0 l h.2)
+
+    first_as : (at : ℕ → ℕ) (b : List ℕ) (hi : ℕ) (is : List ℕ) (lo : ℕ) (e : VerifyError)
+        → FirstFails from at b hi is lo e → FirstFails onto at b hi is lo e
+    first_as at b hi [] lo e f = f
+    first_as at b hi (i ∷ is) lo e (inl f) = inl (fail b (at i) lo hi e f)
+    first_as at b hi (i ∷ is) lo e (inr f) = inr (
+      f.0,
+      to b (at i) lo hi f.0 f.1,
+      first_as at b hi is
+          f.0 e f.2,
+    )
+
+    part_as : (b : List ℕ) (cap len lo begin : ℕ) → IsPart from b cap len lo begin → IsPart onto b
+        cap
+        len lo begin
+    part_as b cap len lo begin is = record {
+      controls = is.controls;
+      last = is.last;
+      items = all_as (bucket_at size begin cap) b begin (walk (controls_at size b begin cap) cap) lo
+          is.last is.items;
+    }
+
+    inside_as : (b : List ℕ) (cap len lo begin : ℕ) (e : VerifyError) → FailsInside from b cap len
+        lo
+        begin e → FailsInside onto b cap len lo begin e
+    inside_as b cap len lo begin e (inl f) = inl (first_as (bucket_at size begin cap) b begin
+        (walk (controls_at size b begin cap) cap) lo e f)
+    inside_as b cap len lo begin e (inr f) =
+        inr (
+          f.0,
+          all_as (bucket_at size begin cap) b begin (walk (controls_at size b begin cap) cap)
+              lo f.0 f.1,
+          f.2,
+        )
+
+    at_as : (b : List ℕ) (told : ℤ) (cap len lo hi l : ℕ) → TableAt from b told cap len lo hi l
+        → TableAt onto b told cap len lo hi l
+    at_as b told cap len lo hi l (inl h) = inl h
+    at_as b told cap len lo hi l (inr (n, part, is, e)) = inr (
+      n,
+      part,
+      part_as b cap len lo n is,
+      e,
+    )
+
+    fails_at_as : (b : List ℕ) (told : ℤ) (cap len lo hi : ℕ) (e : VerifyError) → TableFailsAt from
+        b
+        told cap len lo hi e → TableFailsAt onto b told cap len lo hi e
+    fails_at_as b told cap len lo hi e (inl f) = inl f
+    fails_at_as b told cap len lo hi e (inr (inl f)) = inr (inl f)
+    fails_at_as b told cap len lo hi e (inr (inr (room, n, part, f))) =
+        inr (inr (room, n, part, inside_as b cap len lo n e f))
+
+    pub holds_as : (w : Width) (b : List ℕ) (p lo hi l : ℕ) → TableHolds w from b p lo hi l
+        → TableHolds w onto b p lo hi l
+    holds_as w b p lo hi l h =
+        at_as b (decode_begin w size b p) (cap_at w b p) (len_at w b p) lo hi l
+        h
+
+    pub fails_as : (w : Width) (b : List ℕ) (p lo hi : ℕ) (e : VerifyError) → TableFails w from b p
+        lo
+        hi e → TableFails w onto b p lo hi e
+    fails_as w b p lo hi e f = fails_at_as b (decode_begin w size b p) (cap_at w b p) (len_at w b p)
+        lo
+        hi e f
+
+module _ {V : Type 0} (w : Width) (s : ElementSpec) (e : Encoding V) (laws : IsScalar s e)
+    (is : IsPlace w e) where
+  abbrev n : ℕ
+  n = byte_len e.word
+
+  -- the spec of the numbers, with this size and alignment
+  abbrev sized : ℕ → ℕ → ElementSpec
+  sized size align = record { size = size; align = align; holds = s.holds; fails = s.fails }
+
+  to_word : (b : List ℕ) (p lo hi l : ℕ) → s.holds b p lo hi l → l ≡ lo
+  to_word b p lo hi l h = ((laws.holds b p lo hi l).0 h).0
+
+  never : (b : List ℕ) (p lo hi : ℕ) (x : VerifyError) → s.fails b p lo hi x → ⊥
+  never b p lo hi x f = ((laws.fails b p lo hi x).0 f).1 (is.any _)
+
+  -- a table of the width's numbers is valid if and only if it is as a table of words
+  pub words_hold : (b : List ℕ) (p lo hi l : ℕ) → TableHolds w s b p lo hi l → TableHolds w
+      (place_spec w) b p lo hi l
+  words_hold b p lo hi l h =
+      let there : TableHolds w (sized n n) b p lo hi l =
+      subst (λ a. TableHolds w (sized n a) b p lo hi l) laws.align
+      (subst (λ k. TableHolds w (sized k s.align) b p lo hi l) laws.size h) in
+      subst (λ v. TableHolds w (place_spec v) b p lo hi l) is.word
+      (holds_as n n s.holds (λ b p lo hi l. l
+      ≡ lo) s.fails (λ b p lo hi e. ⊥) to_word never w b p lo
+      hi l there)
+
+  pub words_fail : (b : List ℕ) (p lo hi : ℕ) (x : VerifyError) → TableFails w s b p lo hi x
+      → TableFails w (place_spec w) b p lo hi x
+  words_fail b p lo hi x f =
+      let there : TableFails w (sized n n) b p lo hi x =
+      subst (λ a. TableFails w (sized n a) b p lo hi x) laws.align
+      (subst (λ k. TableFails w (sized k s.align) b p lo hi x) laws.size f) in
+      subst (λ v. TableFails w (place_spec v) b p lo hi x) is.word
+      (fails_as n n s.holds (λ b p lo hi l. l
+      ≡ lo) s.fails (λ b p lo hi e. ⊥) to_word never w b p lo
+      hi x there)
+
+  pub places_hold : (b : List ℕ) (p lo hi l : ℕ) → TableHolds w (place_spec w) b p lo hi l
+      → TableHolds w s b p lo hi l
+  places_hold b p lo hi l h =
+      let there : TableHolds w (sized n n) b p lo hi l =
+      holds_as n n (λ b p lo hi l. l ≡ lo) s.holds (λ b p lo hi e. ⊥) s.fails
+      (λ b p lo hi l h. (laws.holds b p lo hi l).1 (h, is.any _))
+      (λ b p lo hi x f. absurd f) w b p lo hi l
+      (subst (λ v. TableHolds w (place_spec v) b p lo hi l) (sym is.word) h) in
+      subst (λ k. TableHolds w (sized k s.align) b p lo hi l) (sym laws.size)
+      (subst (λ a. TableHolds w (sized n a) b p lo hi l) (sym laws.align) there)
+
+  -- a table of words at `p` is also a table of the width's numbers
+  pub places_viewable : (b : List ℕ) (p : ℕ) → Viewable (table_spec w (place_spec w)) b p
+      → Viewable (table_spec w s) b p
+  places_viewable b p v = record {
+    inside = v.inside;
+    aligned = v.aligned;
+    valid =
+        (v.valid.0, places_hold b p 0 p v.valid.0 v.valid.1);
+  }

@@ -1,0 +1,244 @@
+//! Opening, walking over and looking up in an index set.
+//!
+//! - `get` returns a view of the key that a query finds, and `get_full` also its index.
+//! - `get_index_of` returns the index, and `contains` returns `true` if a key is found.
+//! - `get_index` returns the key at an index.
+//!
+//! A lookup in an untrusted set may read every group of its control bytes once.
+//! `FxHasher64` takes no secret key, so it doesn't protect from chosen input.
+ghost use Rattle.std.specs.Prelude.{IfSome, IsTrue, MatchOption, length, ◌↔◌, ◌≡◌, ◌≤◌};
+ghost use Rattle.rkyv_base.specs.Empty.{unit_spec};
+ghost use Rattle.rkyv_base.specs.Entry.{entry_spec};
+ghost use Rattle.rkyv_base.specs.View.{IsAt, IsValidView, archive_of, pos_of};
+ghost use Rattle.rkyv_table.specs.Table.RawItems.{AllValid};
+ghost use Rattle.rkyv_index.specs.Index.{IsFoundAt, IsStoredIndex, IsKeyOf, index_archive};
+ghost use Rattle.rkyv_index.specs.Index.{index_len, key_positions};
+ghost use Rattle.rkyv_index.specs.IndexSet.{IsMemberAt, index_set_spec, keys_of};
+ghost use Rattle.rkyv_index.specs.Lookups.{GetsKey, TellsKey, full_key_part, key_part};
+ghost use Rattle.rkyv_index.specs.Lookups.{place_part};
+ghost use Rattle.rkyv_keys.specs.Asked.{asked};
+
+use crate::map::iter::Keys;
+use crate::map::{ArchivedIndexMap, IndexMapOf};
+use crate::set::{ArchivedIndexSet, IndexSetOf};
+use rkyv_base::element::Element;
+use rkyv_base::view::View;
+use rkyv_base::width::Width;
+use rkyv_keys::keys::{KeyElement, Query};
+use rkyv_scan::hash::KeyHasher;
+
+impl<'a, K: Element, H, W: Width> ArchivedIndexSet<'a, K, H, W> {
+    /// Returns the set at a view of its header, which is decoded here, once.
+    ///
+    /// # Requires
+    ///
+    /// - The view is of a valid index set.
+    #[inline]
+    pub fn of(view: View<'a, IndexSetOf<K, H, W>>) -> ArchivedIndexSet<'a, K, H, W>
+        requires { IsValidView (index_set_spec W.word K.spec) view }
+        ensures at { IsAt (keys_of result).view (archive_of view.entry) (pos_of view.entry) }
+    {
+        ArchivedIndexSet {
+            map: ArchivedIndexMap::of(view.at::<IndexMapOf<K, (), H, W>>(view.pos())),
+        }
+    }
+
+    /// Returns `true` if and only if the set has no keys.
+    #[inline]
+    pub fn is_empty(self) -> bool
+        ensures { IsTrue result ↔ (index_len (keys_of self.entry) ≡ 0) }
+    {
+        self.map.is_empty()
+    }
+
+    /// Returns the number of keys.
+    #[inline]
+    pub fn len(self) -> usize
+        ensures { result ≡ index_len (keys_of self.entry) }
+    {
+        self.map.len()
+    }
+
+    /// Returns an iterator over the keys, in order.
+    #[inline]
+    pub fn iter(self) -> Keys<'a, K, ()>
+        ensures archive { result.archive ≡ index_archive (keys_of self.entry) }
+        ensures positions { result.positions ≡ key_positions
+            (keys_of self.entry) }
+        ensures count { length result.positions ≡ index_len (keys_of self.entry) }
+        ensures all_valid { AllValid (entry_spec K.spec unit_spec) result }
+    {
+        self.map.keys()
+    }
+
+    /// Returns the key at an index, or `None` if the index isn't below the length.
+    ///
+    /// # Examples
+    ///
+    /// ```rust
+    /// // Returns whether the text with this number is `text`.
+    /// fn has_number(table: &[u8], number: usize, text: &str) -> Result<bool, VerifyError> {
+    ///     let set = ArchivedIndexSet::of(access::<IndexSetOf<Text>>(table)?);
+    ///     match set.get_index(number) {
+    ///         Some(stored) => Ok(stored.as_str() == text),
+    ///         None => Ok(false),
+    ///     }
+    /// }
+    /// ```
+    #[inline]
+    pub fn get_index(self, place: usize) -> Option<View<'a, K>>
+        ensures { MatchOption result
+            (index_len (keys_of self.entry) ≤ place)
+            (λ key. IsKeyOf (keys_of self.entry) place key) }
+    {
+        match self.map.get_index(place) {
+            Some((key, _)) => Some(key),
+            None => None,
+        }
+    }
+}
+
+/// `for key in set` visits the keys, in order.
+impl<'a, K: Element, H, W: Width> IntoIterator for ArchivedIndexSet<'a, K, H, W> {
+    type Item = View<'a, K>;
+
+    type IntoIter = Keys<'a, K, ()>;
+
+    ghost into_iter_gives = { λ set keys. (keys.archive ≡ index_archive (keys_of set))
+        × (keys.positions ≡ key_positions (keys_of set))
+        × (length keys.positions ≡ index_len (keys_of set)) };
+
+    #[inline]
+    fn into_iter(self) -> Keys<'a, K, ()> {
+        self.iter()
+    }
+}
+
+/// `for key in &set` visits the keys, in order.
+impl<'a, K: Element, H, W: Width> IntoIterator for &ArchivedIndexSet<'a, K, H, W> {
+    type Item = View<'a, K>;
+
+    type IntoIter = Keys<'a, K, ()>;
+
+    ghost into_iter_gives = { λ set keys. (keys.archive ≡ index_archive (keys_of set.now))
+        × (keys.positions ≡ key_positions (keys_of set.now))
+        × (length keys.positions ≡ index_len (keys_of set.now)) };
+
+    #[inline]
+    fn into_iter(self) -> Keys<'a, K, ()> {
+        self.iter()
+    }
+}
+
+impl<'a, K: KeyElement, H: KeyHasher, W: Width> ArchivedIndexSet<'a, K, H, W> {
+    /// Returns the key that the query finds, with its index, or `None`.
+    ///
+    /// In a written set, it is the first key in insertion order that the query fits.
+    ///
+    /// In an untrusted set, a lookup may miss a key that the query fits.
+    /// No key is missed if `misplaced` is 0. The lookup then finds the one key that the query fits,
+    /// and `None` if and only if it fits none.
+    ///
+    /// A lookup in an untrusted set may read every group of its control bytes once.
+    /// `FxHasher64` takes no secret key, so it doesn't protect from chosen input.
+    ///
+    /// # Requires
+    ///
+    /// - The query can be read.
+    #[inline]
+    pub fn get_full<Q: Query<K>>(self, key: &Q) -> Option<(usize, View<'a, K>)>
+        requires query { Q.can_read key.now }
+        ensures { GetsKey full_key_part (keys_of self.entry)
+            (asked H.hasher K.key_calls K.same (Q.calls key.now) (Q.fits key.now)) result }
+    {
+        match self.map.get_full(key) {
+            Some((place, stored, _)) => Some((place, stored)),
+            None => None,
+        }
+    }
+
+    /// Returns the key that the query finds, or `None`.
+    ///
+    /// It looks up as `get_full` does.
+    ///
+    /// A lookup in an untrusted set may read every group of its control bytes once.
+    ///
+    /// # Requires
+    ///
+    /// - The query can be read.
+    ///
+    /// # Examples
+    ///
+    /// ```rust
+    /// let set = ArchivedIndexSet::of(access::<Keys>(bytes.as_slice())?);
+    /// let stored = match set.get(&3) {
+    ///     Some(key) => key.to_native(),
+    ///     None => 0,
+    /// };
+    /// ```
+    #[inline]
+    pub fn get<Q: Query<K>>(self, key: &Q) -> Option<View<'a, K>>
+        requires query { Q.can_read key.now }
+        ensures { GetsKey key_part (keys_of self.entry)
+            (asked H.hasher K.key_calls K.same (Q.calls key.now) (Q.fits key.now)) result }
+    {
+        self.key_of(self.map.find_key(key))
+    }
+
+    /// Returns the key at a found index.
+    #[inline]
+    fn key_of(self, place: Option<usize>) -> Option<View<'a, K>>
+        requires held { IfSome place (IsStoredIndex (keys_of self)) }
+        ensures { IsMemberAt self.entry result place }
+    {
+        match place {
+            Some(place) => Some(self.map.entries().entry(place).key()),
+            None => None,
+        }
+    }
+
+    /// Returns the index of the key that the query finds, or `None`.
+    ///
+    /// It looks up as `get_full` does.
+    ///
+    /// A lookup in an untrusted set may read every group of its control bytes once.
+    ///
+    /// # Requires
+    ///
+    /// - The query can be read.
+    ///
+    /// # Examples
+    ///
+    /// ```rust
+    /// // Returns the index of a word.
+    /// fn index_of(archive: &[u8], word: &str) -> Result<Option<usize>, VerifyError> {
+    ///     let words = ArchivedIndexSet::of(access::<IndexSetOf<Text>>(archive)?);
+    ///     Ok(words.get_index_of(&word))
+    /// }
+    /// ```
+    #[inline]
+    pub fn get_index_of<Q: Query<K>>(self, key: &Q) -> Option<usize>
+        requires query { Q.can_read key.now }
+        ensures { GetsKey place_part (keys_of self.entry)
+            (asked H.hasher K.key_calls K.same (Q.calls key.now) (Q.fits key.now)) result }
+    {
+        self.map.get_index_of(key)
+    }
+
+    /// Returns `true` if and only if the query finds a key.
+    ///
+    /// A lookup in an untrusted set may read every group of its control bytes once.
+    ///
+    /// # Requires
+    ///
+    /// - The query can be read.
+    #[inline]
+    pub fn contains<Q: Query<K>>(self, key: &Q) -> bool
+        requires query { Q.can_read key.now }
+        ensures { TellsKey (keys_of self.entry)
+            (asked H.hasher K.key_calls K.same (Q.calls key.now) (Q.fits key.now))
+            (IsFoundAt result) }
+    {
+        self.map.contains_key(key)
+    }
+}

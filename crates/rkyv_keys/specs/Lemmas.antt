@@ -1,0 +1,8 @@
+-- Lemmas for the laws of traits and of their impls. A law can import from specs/ alone.
+pub mod Asking
+pub mod Fixed
+pub mod OfEntries
+pub mod OfTexts
+pub mod OfUnits
+pub mod OfValues
+pub mod OfViews

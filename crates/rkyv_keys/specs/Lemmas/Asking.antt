@@ -1,0 +1,71 @@
+-- Lemmas: laws of native keys and queries on written keys.
+use Rattle.std.specs.Prelude.{◌≡◌, ℕ, Bool, true, List}
+use Rattle.std.proofs.Common.{sym, ◌∙◌, arith}
+use Rattle.std.proofs.lemmas.Bool.Decides.{same_from_decides}
+use Rattle.rkyv_scan.specs.Hash.{HasherCall}
+use Rattle.rkyv_base.specs.ElementSpec.{IsElement, ElementSpec, ValidAt}
+use Rattle.rkyv_keys.specs.Equality.{Comparison, IsEquivalence, RepresentsOnce}
+use Rattle.rkyv_keys.specs.Keys.{FitsItsEqual, IsKey, IsQuery}
+use Rattle.rkyv_keys.specs.Asking.{HashesAsWritten, AsksForValues, RestsOnKeys}
+
+module _ {V : Type 0} (s : ElementSpec) (same : Comparison) (key_calls : List ℕ → ℕ
+    → List HasherCall)
+    (reads : V → Type 0) (calls : V → List HasherCall) (fits : V → List ℕ → ℕ → Bool)
+    (represents : List ℕ → ℕ → V → Type 0) (equal : V → V → Bool) (itself : (v : V)
+    → equal v v ≡ true)
+    (query : IsQuery s same key_calls reads calls fits)
+    (native : FitsItsEqual s represents equal fits) where
+  fits_written : (v : V) (b : List ℕ) (p : ℕ) → ValidAt s b p → represents b p v → fits v b p ≡ true
+  fits_written v b p h st = native v v b p h st ∙ itself v
+
+  pub hashes_as_written : HashesAsWritten s represents key_calls reads calls
+  hashes_as_written v b p r h st = query.same_calls v b p r h (fits_written v b p h st)
+
+  -- two keys that represent one value are the same
+  pub same_written : (v : V) (b c : List ℕ) (p r : ℕ) → reads v → ValidAt s b p → ValidAt s c r
+      → represents b p v → represents c r v → same b p c r ≡ true
+  same_written v b c p r ready h g st tt' =
+      sym (query.respects_same v b c p r ready h g
+      (fits_written v b p h st)) ∙ fits_written v c r g tt'
+
+  module _ {Q : Type 0} (can_read : Q → Type 0) (q_calls : Q → List HasherCall) (q_fits : Q → List ℕ
+      → ℕ → Bool)
+      (laws : IsQuery s same key_calls can_read q_calls q_fits)
+      (equivalence : IsEquivalence s same) where
+    pub asks_for_values : AsksForValues s represents reads can_read q_fits
+    asks_for_values q v b c p r ready can' h g st st' =
+        let there = same_written v b c p r can' h g st st' in
+        let back = equivalence.symmetric b c p r h g there in
+        same_from_decides (q_fits q b p) (q_fits q c r) (
+          λ x. laws.respects_same q b c p r ready h g x ∙ there,
+          λ x. laws.respects_same q c b r p
+              ready g h x ∙ back,
+        )
+        (λ x. x, λ x. x)
+
+-- a key represents only the values that are equal to it, if values are looked up by themselves
+pub native_alone : {V : Type 0} (s : ElementSpec) (represents : List ℕ → ℕ → V → Type 0) (equal : V
+    → V
+    → Bool) (fits : V → List ℕ → ℕ → Bool)
+    → FitsItsEqual s represents equal fits → ((v : V) → equal v v ≡ true)
+    → RepresentsOnce s represents equal
+native_alone s represents equal fits native itself v x b p h st st' = sym (native v x b p h st')
+    ∙ native v v b p h st ∙ itself v
+
+-- a query depends on the keys alone, since a copy of a key is the same as the key
+pub rests_on_keys : {Q : Type 0} {s : ElementSpec} {same : Comparison}
+    {key_calls : List ℕ → ℕ → List HasherCall} {can_read : Q → Type 0} {calls : Q → List HasherCall}
+    {fits : Q → List ℕ → ℕ → Bool} → IsElement s → IsEquivalence s same → IsKey s same key_calls
+    → IsQuery s same key_calls can_read calls fits → RestsOnKeys s can_read fits
+rests_on_keys {s = s} {same = same} {fits = fits} laws equivalence key query q b c p l ready h fixed
+    part =
+    let st : ValidAt s b p = (l, h) in
+    let st' : ValidAt s c p = (l, laws.local b c p 0 p l (omega arith) fixed part h) in
+    let there : same b p c p ≡ true = key.copied b c p 0 p l (omega arith) h fixed part in
+    let back : same c p b p ≡ true = equivalence.symmetric b c p p st st' there in
+    same_from_decides (fits q c p) (fits q b p) (
+      λ x. query.respects_same q c b p p ready st' st x ∙ back,
+      λ x. query.respects_same q b c p p ready st st' x
+          ∙ there,
+    )
+    (λ x. x, λ x. x)

@@ -1,0 +1,122 @@
+-- Lemmas: entries, by their key and their value.
+use Rattle.std.specs.Prelude.{ℕ, ◌+◌, ◌≤◌, Bool, ◌&&◌, List}
+use Rattle.std.proofs.Common.{arith}
+use Rattle.std.proofs.lemmas.Bool.{and_parts, and_from}
+use Rattle.rkyv_scan.specs.Hash.{HasherCall}
+use Rattle.rkyv_base.specs.ElementSpec.{ElementSpec, IsElement, ValidAt}
+use Rattle.rkyv_base.specs.Lemmas.ElementSpec.{valid_at}
+use Rattle.rkyv_base.specs.Entry.{entry_spec, value_offset}
+use Rattle.rkyv_base.specs.Lemmas.Entry.{same_parts}
+use Rattle.rkyv_base.specs.Pairs.{PairRepresents}
+use Rattle.rkyv_keys.specs.Equality.{Comparison, EqualsOnce, IsEquivalence, RepresentsOnce}
+use Rattle.rkyv_keys.specs.Keys.{IsKey, IsQuery, FitsItsEqual}
+use Rattle.rkyv_keys.specs.OfEntries.{entry_same, entry_calls, entry_fits, entry_equals, pair_calls}
+use Rattle.rkyv_keys.specs.OfEntries.{BothRead}
+
+module _ {k v : ElementSpec} (kl : IsElement k) (vl : IsElement v) where
+  pub valid_key : (b : List ℕ) (p : ℕ) → ValidAt (entry_spec k v) b p → ValidAt k b p
+  valid_key b p h = (h.1.1, h.1.2)
+
+  pub valid_value : (b : List ℕ) (p : ℕ) → ValidAt (entry_spec k v) b p
+      → ValidAt v b (p + value_offset k v)
+  valid_value b p h =
+      let x : (0 ≤ h.1.1) × (h.1.1 ≤ p) = kl.rest_in_range b p 0 p h.1.1 (omega arith) h.1.2 in
+      valid_at v vl b (p + value_offset k v) h.1.1 p h.0 x.1 (omega arith) h.1.3
+
+  module _ {ks vs : Comparison} where
+    pub entry_equivalence : IsEquivalence k ks → IsEquivalence v vs
+        → IsEquivalence (entry_spec k v) (entry_same k v ks vs)
+    entry_equivalence ke ve =
+        let off = value_offset k v in
+        record {
+          reflexive = λ b p h. and_from (ks b p b p) (vs b (p + off) b (p + off))
+              (ke.reflexive b p (valid_key b p h))
+              (ve.reflexive b (p + off) (valid_value b p h));
+          symmetric = λ b c p q h g s.
+              let t = and_parts (ks b p c q) (vs b (p + off) c (q + off)) s in
+              and_from (ks c q b p) (vs c (q + off) b (p + off))
+              (ke.symmetric b c p q (valid_key b p h) (valid_key c q g) t.0)
+              (ve.symmetric b c (p + off) (q + off) (valid_value b p h) (valid_value c q g)
+              t.1);
+          transitive = λ b c d p q r h g i s t.
+              let x = and_parts (ks b p c q) (vs b (p + off) c (q + off)) s in
+              let y = and_parts (ks c q d r) (vs c (q + off) d (r + off)) t in
+              and_from (ks b p d r) (vs b (p + off) d (r + off))
+              (ke.transitive b c d p q r (valid_key b p h) (valid_key c q g)
+              (valid_key d r i) x.0 y.0)
+              (ve.transitive b c d (p + off) (q + off) (r + off) (valid_value b p h)
+              (valid_value c q g) (valid_value d r i) x.1 y.1);
+        }
+
+    module _ {kc vc : List ℕ → ℕ → List HasherCall} where
+      pub entry_key : IsKey k ks kc → IsKey v vs vc
+          → IsKey (entry_spec k v) (entry_same k v ks vs) (entry_calls k v kc vc)
+      entry_key kk vk =
+          let off = value_offset k v in
+          record {
+            same_calls = λ b c p q h g s.
+                let t = and_parts (ks b p c q) (vs b (p + off) c (q + off)) s in
+                let x = kk.same_calls b c p q (valid_key b p h) (valid_key c q g) t.0 in
+                let y = vk.same_calls b c (p + off) (q + off) (valid_value b p h)
+                (valid_value c q g) t.1 in
+                cc;
+            local = λ b c p lo hi l o h fixed part.
+                let s = same_parts k v kl vl b c p lo hi l o h fixed part in
+                let ke = kk.local b c p lo hi h.1 o h.2 s.key s.key_parts in
+                let ve = vk.local b c (p + off) h.1 hi l s.room h.3 s.value s.value_parts in
+                cc;
+            copied = λ b c p lo hi l o h fixed part.
+                let s = same_parts k v kl vl b c p lo hi l o h fixed part in
+                and_from (ks b p c p) (vs b (p + off) c (p + off))
+                (kk.copied b c p lo hi h.1 o h.2 s.key s.key_parts)
+                (vk.copied b c (p + off) h.1 hi l s.room h.3 s.value s.value_parts);
+          }
+
+      module _ {A B : Type 0} {kr : A → Type 0} {vr : B → Type 0} {ac : A → List HasherCall} {bc : B
+          → List HasherCall}
+          {kf : A → List ℕ → ℕ → Bool} {vf : B → List ℕ → ℕ → Bool} where
+        pub entry_query : IsQuery k ks kc kr ac kf → IsQuery v vs vc vr bc vf
+            → IsQuery (entry_spec k v) (entry_same k v ks vs) (entry_calls k v kc vc)
+            (BothRead kr vr) (pair_calls ac bc) (entry_fits k v kf vf)
+        entry_query kq vq =
+            let off = value_offset k v in
+            record {
+              same_calls = λ q b p r h f.
+                  let t = and_parts (kf q.0 b p) (vf q.1 b (p + off)) f in
+                  let x = kq.same_calls q.0 b p r.0 (valid_key b p h) t.0 in
+                  let y = vq.same_calls q.1 b (p + off) r.1 (valid_value b p h) t.1 in
+                  cc;
+              respects_same = λ q b c p r ready h g f.
+                  let t = and_parts (kf q.0 b p) (vf q.1 b (p + off)) f in
+                  let x = kq.respects_same q.0 b c p r ready.0 (valid_key b p h) (valid_key c r g)
+                  t.0 in
+                  let y = vq.respects_same q.1 b c (p + off) (r + off) ready.1 (valid_value b p h)
+                  (valid_value c r g) t.1 in
+                  cc;
+            }
+
+  module _ {A B : Type 0} (key : List ℕ → ℕ → A → Type 0) (value : List ℕ → ℕ → B → Type 0) where
+    pub entry_equals_once : (key_equals : List ℕ → ℕ → A → Type 0)
+        (value_equals : List ℕ → ℕ → B → Type 0) (ke : A → A → Bool) (ve : B → B → Bool)
+        → EqualsOnce k key key_equals ke → EqualsOnce v value value_equals ve
+        → EqualsOnce (entry_spec k v) (PairRepresents k v key value)
+        (entry_equals k v key_equals value_equals) (λ x y. ke x.0 y.0 && ve x.1 y.1)
+    entry_equals_once key_equals value_equals ke ve ka va x y b p h st eq =
+        and_from (ke x.0 y.0) (ve x.1 y.1) (ka x.0 y.0 b p (valid_key b p h) st.0 eq.0)
+        (va x.1 y.1 b (p + value_offset k v) (valid_value b p h) st.1 eq.1)
+
+    pub entry_alone : (ke : A → A → Bool) (ve : B → B → Bool) → RepresentsOnce k key ke
+        → RepresentsOnce v value ve
+        → RepresentsOnce (entry_spec k v) (PairRepresents k v key value)
+        (λ x y. ke x.0 y.0 && ve x.1 y.1)
+    entry_alone ke ve ka va = entry_equals_once key value ke ve ka va
+
+    pub entry_fits_its_equal : (ka : A → A → Bool) (va : B → B → Bool) (kf : A → List ℕ → ℕ → Bool)
+        (vf : B → List ℕ → ℕ → Bool)
+        → FitsItsEqual k key ka kf → FitsItsEqual v value va vf
+        → FitsItsEqual (entry_spec k v) (PairRepresents k v key value) (λ x y. ka x.0 y.0
+        && va x.1 y.1) (entry_fits k v kf vf)
+    entry_fits_its_equal ka va kf vf kn vn q pair b p h st =
+        let x = kn q.0 pair.0 b p (valid_key b p h) st.0 in
+        let y = vn q.1 pair.1 b (p + value_offset k v) (valid_value b p h) st.1 in
+        cc

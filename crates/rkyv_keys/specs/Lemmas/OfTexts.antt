@@ -1,0 +1,63 @@
+-- Lemmas: text, by its bytes, inline or out of line.
+use Rattle.std.specs.Prelude.{◌≡◌, ℕ, Bool, true, List}
+use Rattle.std.proofs.Common.{refl}
+use Rattle.std.specs.Int.{Width}
+use Rattle.std.specs.Cmp.Lexicographic.{bytes_decides}
+use Rattle.rkyv_scan.specs.Hash.{HasherCall}
+use Rattle.rkyv_base.specs.Text.{TextReads, text_at, text_spec}
+use Rattle.rkyv_base.specs.Lemmas.Text.{text_local}
+use Rattle.rkyv_keys.specs.Calls.{text_calls}
+use Rattle.rkyv_keys.specs.Lemmas.Asking.{native_alone}
+use Rattle.rkyv_keys.specs.Equality.{Comparison, IsEquivalence, RepresentsOnce}
+use Rattle.rkyv_keys.specs.Keys.{FitsItsEqual, IsKey, IsQuery, ReadsAnywhere}
+use Rattle.rkyv_keys.specs.Fixed.{MakesFixedCalls}
+use Rattle.rkyv_keys.specs.Lemmas.Fixed.{text_fixed}
+use Rattle.rkyv_keys.specs.OfValues.{value_calls, value_fits}
+use Rattle.rkyv_keys.specs.Lemmas.OfValues.{value_equivalence}
+use Rattle.rkyv_keys.specs.OfValues.{values_same}
+use Rattle.rkyv_keys.specs.Lemmas.OfValues.{value_fits_its_equal, value_key, value_query}
+use Rattle.rkyv_keys.specs.OfTexts.{same_bytes}
+
+bytes_equal_themselves : (x : List ℕ) → same_bytes x x ≡ true
+bytes_equal_themselves x = (bytes_decides x x).1 refl
+
+module _ (w : Width) where
+  -- the texts at both positions have the same bytes
+  abbrev pub text_same : Comparison
+  text_same = values_same (text_at w) same_bytes
+
+  -- the calls of the text at a position
+  abbrev pub text_key_calls : List ℕ → ℕ → List HasherCall
+  text_key_calls = value_calls (text_at w) text_calls
+
+  -- the text at a position has the bytes of the query
+  abbrev pub text_fits : {Q : Type 0} → (Q → List ℕ) → Q → List ℕ → ℕ → Bool
+  text_fits seen = value_fits (text_at w) same_bytes seen
+
+  -- the text at position `p` is that of the value `q`
+  abbrev pub IsTextOf : {Q : Type 0} → (Q → List ℕ) → List ℕ → ℕ → Q → Type 0
+  IsTextOf seen b p q = TextReads w b p (seen q)
+
+  pub text_equivalence : IsEquivalence (text_spec w) text_same
+  text_equivalence = value_equivalence (text_spec w) (text_at w) same_bytes bytes_decides
+
+  pub text_key : IsKey (text_spec w) text_same text_key_calls
+  text_key = value_key (text_spec w) (text_at w) same_bytes bytes_decides text_calls (text_local w)
+
+  pub text_key_fixed : MakesFixedCalls (text_spec w) text_key_calls
+  text_key_fixed b p h = text_fixed (text_at w b p)
+
+  module _ {Q : Type 0} (seen : Q → List ℕ) where
+    pub text_query : IsQuery (text_spec w) text_same text_key_calls ReadsAnywhere
+        (λ q. text_calls (seen q)) (text_fits seen)
+    text_query = value_query (text_spec w) (text_at w) same_bytes bytes_decides text_calls seen
+
+    pub text_fits_its_equal : FitsItsEqual (text_spec w) (IsTextOf seen)
+        (λ q v. same_bytes (seen q) (seen v)) (text_fits seen)
+    text_fits_its_equal = value_fits_its_equal (text_spec w) (text_at w) same_bytes seen
+
+    -- a text represents only values with its bytes
+    pub text_alone : RepresentsOnce (text_spec w) (IsTextOf seen) (λ q v. same_bytes (seen q)
+        (seen v))
+    text_alone = native_alone (text_spec w) (IsTextOf seen) (λ q v. same_bytes (seen q) (seen v))
+        (text_fits seen) text_fits_its_equal (λ v. bytes_equal_themselves (seen v))

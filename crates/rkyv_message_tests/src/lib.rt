@@ -1,9 +1,0 @@
-//! Tests of `rkyv_message`.
-#![tactic(auto)]
-
-#[cfg(test)]
-mod caller;
-#[cfg(test)]
-mod damaged;
-#[cfg(test)]
-mod numbers;

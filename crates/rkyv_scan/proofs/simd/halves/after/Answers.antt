@@ -1,7 +1,0 @@
-use Rattle.std.proofs.Common.{refl}
-use Rattle.rkyv_scan.specs.Lemmas.HalfBits.{bits_after}
-use Rattle.rkyv_scan.proofs.simd.halves.after.Goals as goal
-
-pub returns : goal.returns
-unfolding bits_after
-returns c = refl

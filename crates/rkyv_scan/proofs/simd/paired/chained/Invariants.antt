@@ -1,0 +1,6 @@
+use Rattle.std.proofs.Common.{◌≡◌}
+use Rattle.rkyv_scan.specs.Lemmas.HalfBits.{chain}
+use Rattle.rkyv_scan.proofs.simd.paired.chained.Given as goal
+
+abbrev pub invariant-loop-step : goal.invariant-loop-step
+invariant-loop-step l = l.marks ≡ chain l.equal l.next l.step

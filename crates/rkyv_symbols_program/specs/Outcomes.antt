@@ -1,9 +1,0 @@
--- Outcomes of commands.
-use Rattle.std.specs.Prelude.{Option, Some, None}
-use Rattle.rkyv_symbols_program.specs.declared.outcome.Outcome.{Outcome}
-use Rattle.rkyv_symbols_program.specs.declared.outcome.Outcome.TheVariants.{Complete, Missing}
-
--- the outcome of a lookup with the result `found`
-abbrev pub outcome_of : {A : Type 0} → Option A → Outcome
-outcome_of (Some _) = Complete
-outcome_of None = Missing

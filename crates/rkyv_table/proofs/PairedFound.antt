@@ -1,0 +1,37 @@
+-- A lookup by groups of sixteen as two halves has the result of one by groups of eight.
+use Rattle.std.proofs.Common.{◌≡◌, ℕ, suc, ◌+◌, ◌-◌, ◌*◌, ◌/◌, ◌%◌, ◌<◌, ◌≤◌, Bool, ◌||◌, cond, eqb, refl, ap, ◌∙◌, arith, List, drop, map, take, None}
+use Rattle.std.specs.List.{find, list_any, position_or_len}
+use Rattle.std.specs.Option.{option_and_then}
+use Rattle.rkyv_scan.specs.Groups.{generic_kind, is_word_match_at}
+use Rattle.rkyv_scan.specs.Paired.{paired_kind}
+use Rattle.rkyv_table.specs.Controls.Finding.{candidates, end, found, marked, shows_empty}
+use Rattle.rkyv_table.specs.Controls.Numbers.{tag}
+use Rattle.rkyv_table.specs.Controls.Probe.{strides}
+use Rattle.rkyv_table.proofs.Groups.{group_of}
+use Rattle.rkyv_table.proofs.Walks.{filter_agree_range}
+
+marked_alike : (controls : List ℕ) (t p q : ℕ) → p ≤ q → q < p + 16 → marked paired_kind controls t p q ≡ marked generic_kind controls t p q
+marked_alike controls t p q lo hi =
+    let d = q - p in
+    let w : d / 16 * 16 ≡ 0 = omega arith in
+    let z : p + d / 16 * 16 ≡ p = omega arith in
+    let r : d % 16 ≡ d = omega arith in
+    let s : List ℕ = take 16 (drop p controls) in
+    let e : take 8 (drop (d / 8 * 8) s) ≡ take 8 (drop (p + d / 8 * 8) controls) = group_of controls s p (d / 8 * 8) 8 (omega arith) refl in
+    (λ i. is_word_match_at (take 8 (drop (r i / 8 * 8) (take 16 (drop (z i) controls)))) t (r i % 8))
+    ∙ ap (λ xs. is_word_match_at xs t (d % 8)) e
+
+candidates_alike : (controls : List ℕ) (cap t p : ℕ) → candidates paired_kind controls cap t p ≡ candidates generic_kind controls cap t p
+unfolding candidates
+candidates_alike controls cap t p =
+    ap (map (λ q. q % cap)) (filter_agree_range (marked paired_kind controls t p) (marked generic_kind controls t p) p 16 (λ q lo hi. marked_alike controls t p q lo hi))
+
+pub found_paired : (controls : List ℕ) (cap len hash : ℕ) (accept : ℕ → Bool) → found paired_kind controls cap len hash accept ≡ found generic_kind controls cap len hash accept
+found_paired controls cap len hash accept =
+    ap (λ (cands : ℕ → List ℕ). cond (eqb len 0) None (option_and_then (λ p. find accept (cands p)) (find (λ p. list_any accept (cands p) || shows_empty controls p) (strides hash cap))))
+    (λ i. λ p. candidates_alike controls cap (tag hash) p i)
+
+pub end_paired : (controls : List ℕ) (cap len hash : ℕ) (accept : ℕ → Bool) → end paired_kind controls cap len hash accept ≡ end generic_kind controls cap len hash accept
+end_paired controls cap len hash accept =
+    ap (λ (cands : ℕ → List ℕ). cond (eqb len 0) 0 (suc (position_or_len (λ p. list_any accept (cands p) || shows_empty controls p) (strides hash cap))))
+    (λ i. λ p. candidates_alike controls cap (tag hash) p i)

@@ -1,0 +1,128 @@
+-- The facts about a valid table that its readers need.
+use Rattle.rkyv_base.specs.declared.element.HasSpec.{Ghosts as Specs}
+use Rattle.rkyv_base.specs.declared.width.Word.{Ghosts as Words}
+use Rattle.std.proofs.Common.{◌≡◌, ℕ, ◌+◌, ◌*◌, ◌%◌, ◌<◌, ◌≤◌, inl, inr, refl, sym, ap, subst, ◌∙◌, arith, List, Bool, length, slice_range, pos, ◌+ℤ◌}
+use Rattle.std.specs.Int.{Width}
+use Rattle.std.proofs.lemmas.Int.{ints}
+use Rattle.std.proofs.lemmas.Bool.{cases_eq}
+use Rattle.std.proofs.Math.Nat.{mul-le-mul_right}
+use Rattle.std.proofs.lemmas.Grind.{common_steps}
+use Rattle.rkyv_scan.specs.Groups.{Kind}
+use Rattle.rkyv_base.specs.Bytes.{signed_at}
+use Rattle.rkyv_base.specs.declared.view.View.{View}
+use Rattle.rkyv_base.specs.ElementSpec.{ElementSpec, IsElement, Viewable}
+use Rattle.rkyv_base.specs.Lemmas.ElementSpec.{valid_at}
+use Rattle.rkyv_table.specs.Controls.Shown.{IsFullBucket}
+use Rattle.rkyv_table.specs.Controls.Finding.{end, found}
+use Rattle.rkyv_table.specs.Table.Header.{cap_at, controls_pos, len_at}
+use Rattle.rkyv_table.specs.Lemmas.ItemPositions.{HeldPart, holds_at, item_holds, told_controls, told_item, told_pos}
+use Rattle.rkyv_table.specs.Controls.Numbers.{control_count}
+use Rattle.rkyv_table.specs.Controls.Placing.{Accepted}
+use Rattle.rkyv_table.specs.Table.Positions.{IsWalked, item_at, table_controls}
+use Rattle.rkyv_table.specs.Table.Reading.{IsParsed, table_bytes, table_pos}
+use Rattle.rkyv_table.specs.declared.table.items.ParsedTable.{ParsedTable}
+use Rattle.rkyv_table.specs.Table.Layout.{table_spec}
+use Rattle.rkyv_table.specs.Lemmas.TableLaws.{bucket_aligned}
+
+range_count : (b : List ℕ) (at n : ℕ) → at + n ≤ length b → length (slice_range b at (at + n)) ≡ n
+range_count b at n inside = grind (arith, common_steps)
+
+module _ (w : Width) (s : ElementSpec) (law : IsElement s) (b : List ℕ) (p : ℕ) (v : Viewable (table_spec w s) b p) where
+  -- the buckets and control bytes of a table with buckets
+  pub part_of : 0 < cap_at w b p → HeldPart w s b p 0 p v.valid.0
+  part_of h = holds_at w s law b p 0 p v.valid.0 v.valid.1 h
+
+  -- its control bytes are valid
+  pub controls_accepted : 0 < cap_at w b p → Accepted (cap_at w b p) (len_at w b p) (table_controls w b p)
+  controls_accepted h =
+      let t = part_of h in
+      subst (Accepted (cap_at w b p) (len_at w b p)) (sym (told_controls w s.size b p t.begin t.part.begins)) t.is.controls
+
+  -- the end and the begin of its control bytes
+  pub controls_inside : 0 < cap_at w b p → (controls_pos w b p + control_count (cap_at w b p) ≤ length b) × (pos (controls_pos w b p) ≡ pos p +ℤ signed_at w b p)
+  controls_inside h =
+      let t = part_of h in
+      let begins = t.part.begins in
+      let e = told_pos w s.size b p t.begin begins in
+      let below = t.part.below in
+      let inside = v.inside in
+      (omega arith, omega (arith, ints, begins, e))
+
+  -- a table with buckets has at least sixteen control bytes
+  pub controls_length : 0 < cap_at w b p → length (table_controls w b p) ≡ control_count (cap_at w b p)
+  controls_length h = range_count b (controls_pos w b p) (control_count (cap_at w b p)) (controls_inside h).0
+
+  pub controls_count : 0 < cap_at w b p → 16 ≤ length (table_controls w b p)
+  controls_count h = let e = controls_length h in omega (arith, e)
+
+  -- a bucket is before the control bytes
+  pub item_before : (i : ℕ) → i < cap_at w b p → (i + 1) * s.size ≤ controls_pos w b p
+  item_before i h =
+      let t = part_of (omega arith) in
+      let e = told_pos w s.size b p t.begin t.part.begins in
+      let m : (i + 1) * s.size ≤ cap_at w b p * s.size = mul-le-mul_right s.size (omega arith) in
+      omega arith
+
+  -- a full bucket has a valid item
+  pub item_viewable : (i : ℕ) → IsWalked w b p i → Viewable s b (item_at w s.size b p i)
+  item_viewable i walked =
+      let t = part_of (omega (arith, walked.0)) in
+      let one = item_holds w s law b p 0 p v.valid.0 v.valid.1 i walked t in
+      let at = told_item w s.size b p t.begin t.part.begins i walked.0 in
+      let ends = t.ends in
+      let below = t.part.below in
+      let inside = v.inside in
+      record {
+        inside = omega (arith, one.2, ends);
+        aligned = subst (λ q. q % s.align ≡ 0) (sym at) (bucket_aligned s law t.begin (cap_at w b p) i t.part.aligned);
+        valid = valid_at s law b (item_at w s.size b p i) one.0.lower t.begin one.0.rest one.0.below one.1 one.0.holds;
+      }
+
+  -- a table with items has buckets
+  pub some_cap : 0 < len_at w b p → 0 < cap_at w b p
+  some_cap h = elim v.valid.1 [
+    | inl e ↦ absurd (omega (arith, e.0))
+    | inr t ↦ let r = t.2.controls.room in omega arith
+  ]
+
+  -- a table without buckets has no items
+  pub no_items : cap_at w b p ≡ 0 → len_at w b p ≡ 0
+  no_items h = elim v.valid.1 [
+    | inl e ↦ e.0
+    | inr t ↦ let r = t.2.controls.room in absurd (omega arith)
+  ]
+
+-- the numbers that were read of a header are those of the header
+module _ {T W : Type 0} {ts : Specs T} {wt : Words W} (law : IsElement ts.spec) (items : ParsedTable T W ts wt) (are : IsParsed items) where
+  pub read_accepted : 0 < items.len → Accepted items.cap items.len items.controls.now
+  read_accepted some =
+      let v = are.table in
+      let n = some_cap wt.word ts.spec law (table_bytes items.table) (table_pos items.table) v (rw are.len at some) in
+      let a = controls_accepted wt.word ts.spec law (table_bytes items.table) (table_pos items.table) v n in
+      rw (are.controls (rw are.cap n), are.cap, are.len) a
+
+  pub read_walked : (i : ℕ) → IsFullBucket items.cap items.controls.now i → IsWalked wt.word (table_bytes items.table) (table_pos items.table) i
+  read_walked i full = rw (are.controls (omega (arith, full.0)), are.cap) at full
+
+  -- a function of the control bytes, the capacity and the length is the same of those that were
+  -- read. Without items it doesn't depend on the first two
+  read_same : {A : Type 0} (f : List ℕ → ℕ → ℕ → A) → ((c d : List ℕ) (m n : ℕ) → f c m 0 ≡ f d n 0) → f items.controls.now items.cap items.len
+      ≡ f (table_controls wt.word (table_bytes items.table) (table_pos items.table)) (cap_at wt.word (table_bytes items.table) (table_pos items.table)) (len_at wt.word (table_bytes items.table) (table_pos items.table))
+  read_same f none_alike = elim (cases_eq items.cap 0) [
+    | inl none ↦
+        let z = no_items wt.word ts.spec law (table_bytes items.table) (table_pos items.table) are.table (sym are.cap ∙ none) in
+        rw (are.len, z) (none_alike items.controls.now _ items.cap _)
+    | inr some ↦ rw (are.controls (omega arith), are.cap, are.len) refl
+  ]
+
+  pub read_found : (kind : Kind) (hash : ℕ) (accept : ℕ → Bool) → found kind items.controls.now items.cap items.len hash accept
+      ≡ found kind (table_controls wt.word (table_bytes items.table) (table_pos items.table)) (cap_at wt.word (table_bytes items.table) (table_pos items.table)) (len_at wt.word (table_bytes items.table) (table_pos items.table)) hash accept
+  read_found kind hash accept = read_same (λ controls cap len. found kind controls cap len hash accept) (λ c d m n. refl)
+
+  pub read_end : (kind : Kind) (hash : ℕ) (accept : ℕ → Bool) → end kind items.controls.now items.cap items.len hash accept
+      ≡ end kind (table_controls wt.word (table_bytes items.table) (table_pos items.table)) (cap_at wt.word (table_bytes items.table) (table_pos items.table)) (len_at wt.word (table_bytes items.table) (table_pos items.table)) hash accept
+  read_end kind hash accept = read_same (λ controls cap len. end kind controls cap len hash accept) (λ c d m n. refl)
+
+-- views of one position of one archive are one view
+pub view_is : {T : Type 0} (v u : View T) → v.archive ≡ u.archive → v.pos ≡ u.pos → v ≡ u
+view_is v u archive place = ap (λ a. record v { archive = a }) archive ∙ ap (λ n. record u { pos = n }) place

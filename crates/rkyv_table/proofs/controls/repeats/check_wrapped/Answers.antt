@@ -1,0 +1,31 @@
+use Rattle.std.proofs.Common.{◌∙◌, arith, inl, inr, subst, sym}
+use Rattle.std.proofs.lemmas.Bool.{cases_eq, true≢false}
+use Rattle.rkyv_table.specs.Controls.Repeating.{IsWrappedAt}
+use Rattle.rkyv_table.proofs.controls.repeats.check_wrapped.Goals as goal
+
+pub returns-then-not-is_wrapped-clause-fails : goal.returns-then-not-is_wrapped-clause-fails
+returns-then-not-is_wrapped-clause-fails c =
+    let count = c.requires.count in
+    record {
+      from = c.loop-place.auto.place;
+      below = omega arith;
+      unlike = λ r. true≢false (sym (c.is_wrapped.ensures.1 r) ∙ c.if-not-is_wrapped.true);
+      least = c.loop-place.invariant;
+    }
+
+pub loop-place-preserved : goal.loop-place-preserved
+loop-place-preserved c = λ q lo hi. elim (cases_eq q c.loop-place.place) [
+  | inl e ↦ subst (IsWrappedAt c.args.cap c.args.controls.now) (sym e) (c.is_wrapped.ensures.0 c.if-not-is_wrapped.false)
+  | inr n ↦ c.loop-place.invariant q lo (omega arith)
+]
+
+pub returns-clause-repeats : goal.returns-clause-repeats
+returns-clause-repeats c =
+    let count = c.requires.count in
+    let inv = c.loop-place.invariant in
+    let done = c.loop-place-test.false in
+    record {
+      count = count;
+      repeated = λ q lo two l. (inv q lo (omega arith)).0 two;
+      past = λ q two l. (inv q (omega arith) (omega arith)).1 two;
+    }

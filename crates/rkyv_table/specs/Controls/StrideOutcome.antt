@@ -1,0 +1,41 @@
+-- The outcome of one stride of a lookup.
+use Rattle.std.specs.Prelude.{◌≡◌, ℕ, ◌+◌, ◌%◌, ◌<◌, ⊤, List, Bool, true, false, length}
+use Rattle.std.specs.Prelude.{slice_index, Some, None}
+use Rattle.std.specs.List.{find}
+use Rattle.rkyv_table.specs.Controls.Finding.{AnswersAs}
+use Rattle.rkyv_table.specs.declared.controls.find.StrideOutcome.{StrideOutcome}
+use Rattle.rkyv_table.specs.declared.controls.find.StrideOutcome.TheVariants.{Accepted, HasEmpty}
+use Rattle.rkyv_table.specs.declared.controls.find.StrideOutcome.TheVariants.{Continue}
+
+-- `b`: bucket of a marked index of the group that begins at `p`
+abbrev pub IsMarked : ℕ → ℕ → List ℕ → ℕ → Type 0
+IsMarked p cap places b = (k : ℕ) × (k < length places) × (b ≡ (p + slice_index places k) % cap)
+
+-- `b`: bucket of a full control byte of the stride that begins at `p`
+abbrev pub IsShown : List ℕ → ℕ → ℕ → ℕ → Type 0
+IsShown stride p cap b = (q : ℕ) × (q < 16) × (slice_index stride q < 128) × (b ≡ (p + q) % cap)
+
+-- an accepted bucket is one of a full control byte of the stride
+abbrev pub IsShownIfAccepted : List ℕ → ℕ → ℕ → StrideOutcome → Type 0
+IsShownIfAccepted stride p cap (Accepted b) = IsShown stride p cap b
+IsShownIfAccepted stride p cap HasEmpty = ⊤
+IsShownIfAccepted stride p cap Continue = ⊤
+
+-- the first accepted bucket of `buckets`, the candidates of the stride; without one, `HasEmpty`
+-- if the stride shows an empty control byte, as `empty` says, else `Continue`
+abbrev pub IsStrideOutcome : List ℕ → Bool → (ℕ → Bool) → StrideOutcome → Type 0
+IsStrideOutcome buckets empty accept (Accepted b) = find accept buckets ≡ Some b
+IsStrideOutcome buckets empty accept HasEmpty = (find accept buckets ≡ None) × (empty ≡ true)
+IsStrideOutcome buckets empty accept Continue = (find accept buckets ≡ None) × (empty ≡ false)
+
+-- `seen`: outcome of the stride with the candidates `buckets`, if the comparison depends only
+-- on the bucket
+abbrev pub SeesFirst : (ℕ → Bool → Type 0) → (ℕ → Type 0) → List ℕ → Bool → StrideOutcome → Type 0
+SeesFirst post asked buckets empty seen =
+    (accept : ℕ → Bool) → AnswersAs post asked accept → IsStrideOutcome buckets empty accept seen
+
+-- an accepted bucket is one for which the comparison returned `true`
+abbrev pub IsAcceptedBy : (ℕ → Bool → Type 0) → StrideOutcome → Type 0
+IsAcceptedBy post (Accepted b) = post b true
+IsAcceptedBy post HasEmpty = ⊤
+IsAcceptedBy post Continue = ⊤

@@ -1,0 +1,180 @@
+//! Reading a table in place.
+//!
+//! - `verify` validates a table for the validator of an element.
+//! - `of` decodes the header at a view of a valid table.
+//! - `len`, `capacity` and `is_empty` return its numbers.
+ghost use Rattle.std.specs.Prelude.{IsTrue, MatchResult, length, ◌%◌, ◌*◌, ◌+◌, ◌<◌, ◌↔◌, ◌≡◌, ◌≤◌};
+ghost use Rattle.std.specs.Int.{byte_len};
+ghost use Rattle.rkyv_base.specs.Checking.{Fails, Passes};
+ghost use Rattle.rkyv_base.specs.View.{IsValidView, bytes_of, pos_of};
+ghost use Rattle.rkyv_table.specs.Table.Decoded.{IsDecoded};
+ghost use Rattle.rkyv_table.specs.Table.Header.{cap_at, len_at};
+ghost use Rattle.rkyv_table.specs.Table.Reading.{table_bytes, table_pos};
+ghost use Rattle.rkyv_table.specs.Table.Layout.{table_spec};
+
+use crate::controls::reciprocal::Reciprocal;
+use crate::table::decoded::Decoded;
+use crate::table::header::{controls_pos, read_header};
+use crate::table::verify::verify_by;
+use crate::table::{ArchivedHashTable, TableOf};
+use rkyv_base::element::{Element, PartRange};
+use rkyv_base::errors::VerifyError;
+use rkyv_base::view::View;
+use rkyv_base::width::Width;
+use rkyv_scan::simd::lanes;
+
+impl<'a, T: Element, W: Width> ArchivedHashTable<'a, T, W> {
+    /// Validates the table whose header is at `pos`, and returns the rest of the range.
+    ///
+    /// The items, their parts and the control bytes are in `range`. The rest of the range begins
+    /// at the end of the control bytes.
+    ///
+    /// An empty header is valid, and nothing else is read, as in rkyv. The buckets are not compared
+    /// with the hashes of the items.
+    ///
+    /// # Requires
+    ///
+    /// - The header is inside `bytes`, and `pos` is aligned.
+    /// - `range.lo` is at most `range.hi`, and `range.hi` is at most `pos`.
+    ///
+    /// # Errors
+    ///
+    /// - `InvalidLength`: the length isn't below the capacity, and they aren't both 0.
+    /// - `OutOfRange` or `Unaligned`: the buckets and control bytes aren't in the range, or aren't
+    ///   aligned.
+    /// - The error of the first invalid item, in bucket order.
+    /// - `WrongNumberOfElements`: the length isn't the number of full buckets.
+    /// - `UnwrappedControlByte`: the lowest index from the capacity on whose control byte
+    ///   isn't as it must be.
+    ///
+    /// # Examples
+    ///
+    /// ```rust
+    /// let whole = PartRange { lo: 0, hi: 48 };
+    /// let accepted = matches!(
+    ///     ArchivedHashTable::<Entry<u32, u32>, Narrow>::verify(&one_number(), 48, whole),
+    ///     Ok(PartRange { lo: 47, hi: 48 })
+    /// );
+    /// ```
+    #[inline]
+    pub fn verify(bytes: &[u8], pos: u64, range: PartRange) -> Result<PartRange, VerifyError>
+        requires inside { pos + 3 * byte_len W.word ≤ length bytes.now }
+        requires aligned { pos % byte_len W.word ≡ 0 }
+        requires ordered { (range.lo ≤ range.hi) × (range.hi ≤ pos) }
+        ensures { MatchResult result
+            (Passes (table_spec W.word T.spec) bytes.now pos range)
+            (Fails (table_spec W.word T.spec) bytes.now pos range) }
+    {
+        verify_by::<lanes::Group, W, T>(bytes, pos, range)
+    }
+
+    /// Returns the table at a view of its header, which is decoded here, once.
+    ///
+    /// # Requires
+    ///
+    /// - The view is of a valid table.
+    #[inline]
+    pub fn of(view: View<'a, TableOf<T, W>>) -> ArchivedHashTable<'a, T, W>
+        requires { IsValidView (table_spec W.word T.spec) view }
+        ensures view { result.view ≡ view.entry }
+    {
+        ArchivedHashTable {
+            view,
+            header: decode::<T, W>(view),
+        }
+    }
+
+    /// Returns the table at a view of its header, which was decoded before.
+    ///
+    /// # Requires
+    ///
+    /// - The view is of a valid table.
+    /// - `header` is what the view's header says.
+    #[inline]
+    pub fn with_header(
+        view: View<'a, TableOf<T, W>>,
+        header: Decoded,
+    ) -> ArchivedHashTable<'a, T, W>
+        requires view { IsValidView (table_spec W.word T.spec) view }
+        requires header { IsDecoded W.word (bytes_of view) (pos_of view) header }
+        ensures view { result.view ≡ view.entry }
+    {
+        ArchivedHashTable { view, header }
+    }
+
+    /// Returns its decoded header.
+    #[inline]
+    pub fn header(self) -> Decoded
+        ensures { IsDecoded W.word (table_bytes self.entry) (table_pos self.entry) result }
+    {
+        self.header
+    }
+
+    /// Returns `true` if it has no items.
+    #[inline]
+    pub fn is_empty(self) -> bool
+        ensures { IsTrue result ↔ (len_at W.word (table_bytes self.entry) (table_pos self.entry)
+            ≡ 0) }
+    {
+        self.header.len == 0
+    }
+
+    /// Returns the number of its items.
+    #[inline]
+    pub fn len(self) -> usize
+        ensures { result ≡ len_at W.word (table_bytes self.entry) (table_pos self.entry) }
+    {
+        self.header.len
+    }
+
+    /// Returns the number of its buckets.
+    #[inline]
+    pub fn capacity(self) -> usize
+        ensures { result ≡ cap_at W.word (table_bytes self.entry) (table_pos self.entry) }
+    {
+        self.header.cap
+    }
+
+    /// Returns the bucket at which the probe sequence of a hash begins, if there are buckets.
+    #[inline]
+    pub(crate) fn start(self, hash: u64) -> usize
+        ensures { 0 < self.entry.header.cap → result ≡ hash % self.entry.header.cap }
+    {
+        self.header.reciprocal.rest(hash) as usize
+    }
+}
+
+// The capacity, or 1 if there are no buckets.
+#[inline]
+fn divisor_of(cap: usize) -> u64
+    ensures some { 0 < result }
+    ensures same { 0 < cap → result ≡ cap }
+{
+    if cap == 0 { 1 } else { cap as u64 }
+}
+
+// Decodes the header of a table; takes one division.
+#[inline]
+fn decode<T: Element, W: Width>(view: View<'_, TableOf<T, W>>) -> Decoded
+    requires { IsValidView (table_spec W.word T.spec) view }
+    ensures { IsDecoded W.word (bytes_of view.entry) (pos_of view.entry) result }
+{
+    let pos = view.pos();
+    let header = read_header::<W>(view.bytes(), pos);
+    let (len, cap) = (header.len as usize, header.cap as usize);
+    let reciprocal = Reciprocal::new(divisor_of(cap));
+    if cap == 0 {
+        return Decoded {
+            controls_pos: 0,
+            len,
+            cap,
+            reciprocal,
+        };
+    }
+    Decoded {
+        controls_pos: controls_pos(pos, header),
+        len,
+        cap,
+        reciprocal,
+    }
+}

@@ -1,6 +1,0 @@
-use Rattle.std.proofs.Common.{◌≡◌}
-use Rattle.rkyv_table.specs.Table.SealedItems.{IsSealIter}
-use Rattle.rkyv_table_tests.proofs.tests.in_place.set_all_by_seals.Given as goal
-
-abbrev pub invariant-loop : goal.invariant-loop
-invariant-loop g l = (l.rest.archive.ghost_name ≡ l.initial.rest.archive.ghost_name) × IsSealIter g.W.Word.word g.N.Shaped.shape l.pos l.rest

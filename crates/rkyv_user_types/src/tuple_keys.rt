@@ -1,0 +1,133 @@
+//! `TupleEntry` as a key: equality, hashing, lookup and deserialization.
+
+ghost use Rattle.std.specs.Prelude.{◌&&◌, ◌↔◌, ◌≡◌, IsTrue, MatchResult};
+ghost use Rattle.std.specs.Cmp.{and_equiv, and_per, on_equiv, on_per};
+ghost use Rattle.rkyv_base.specs.Entry.{entry_spec};
+ghost use Rattle.rkyv_base.specs.View.{IsValidView, AtView};
+ghost use Rattle.rkyv_keys.specs.Places.{at_view};
+ghost use Rattle.rkyv_keys.specs.OfEntries.{BothRead, entry_fits};
+ghost use Rattle.rkyv_keys.specs.Lemmas.OfEntries.{entry_query};
+ghost use Rattle.rkyv_keys.specs.OfEntries.{entry_refuses, pair_calls};
+ghost use Rattle.rkyv_keys.specs.Lemmas.OfEntries.{entry_fits_its_equal};
+ghost use Rattle.rkyv_user_types.specs.Seeing.{PairEntryRepresents, query_seen, seen_equals};
+
+use crate::tuple::{AsTuple, FromTuple, TupleEntry};
+use rkyv_base::element::Represents;
+use rkyv_base::entry::Entry;
+use rkyv_base::errors::ReadError;
+use rkyv_base::view::View;
+use rkyv_keys::deserialize::Deserialize;
+use rkyv_keys::equality::MatchesNative;
+use rkyv_keys::hash::KeyHash;
+use rkyv_keys::keys::{KeyElement, NativeKey, Query};
+use rkyv_scan::hash::KeyHasher;
+use std::alloc::Global;
+
+impl<A: PartialEq + Drop, B: PartialEq + Drop, T: AsTuple<First = A, Second = B>> PartialEq
+    for TupleEntry<T> {
+    ghost eq = { λ x y.
+        A.eq (T.tuple x.0).0 (T.tuple y.0).0 && B.eq (T.tuple x.0).1 (T.tuple y.0).1 };
+
+    ghost laws = { and_per (on_per (λ x. (T.tuple x.0).0) A.laws)
+        (on_per (λ x. (T.tuple x.0).1) B.laws) };
+
+    #[inline]
+    fn eq(&self, other: &TupleEntry<T>) -> bool {
+        self.0.tuple() == other.0.tuple()
+    }
+}
+
+impl<A: Eq + Drop, B: Eq + Drop, T: AsTuple<First = A, Second = B>> Eq for TupleEntry<T> {
+    ghost laws = { and_equiv (on_equiv (λ x. (T.tuple x.0).0) A.Eq.laws)
+        (on_equiv (λ x. (T.tuple x.0).1) B.Eq.laws) };
+}
+
+impl<A: KeyHash + Drop, B: KeyHash + Drop, T: AsTuple<First = A, Second = B>> KeyHash
+    for TupleEntry<T> {
+    ghost calls = { λ x. pair_calls A.calls B.calls (T.tuple x.0) };
+
+    ghost can_read = { λ x. BothRead A.can_read B.can_read (T.tuple x.0) };
+
+    #[inline]
+    fn hash<H: KeyHasher>(&self, state: &mut H) {
+        self.0.tuple().hash(state);
+    }
+}
+
+impl<
+    K: KeyElement,
+    V: KeyElement,
+    A: Query<K> + Drop,
+    B: Query<V> + Drop,
+    T: AsTuple<First = A, Second = B>,
+> Query<Entry<K, V>> for TupleEntry<T> {
+    ghost fits = { λ x. entry_fits K.spec V.spec A.fits B.fits (T.tuple x.0) };
+
+    #[inline]
+    fn same(&self, key: View<'_, Entry<K, V>>) -> bool
+        requires query { BothRead A.can_read B.can_read (T.tuple self.now.0) }
+        requires key { IsValidView (entry_spec K.spec V.spec) key }
+        ensures { result
+            ≡ at_view (entry_fits K.spec V.spec A.fits B.fits (T.tuple self.now.0)) key.entry }
+    {
+        self.0.tuple().same(key)
+    }
+
+    ghost query = { query_seen (λ x. T.tuple x.0) (entry_query K.laws V.laws A.query B.query) };
+}
+
+impl<
+    K: KeyElement + Represents<A>,
+    V: KeyElement + Represents<B>,
+    A: NativeKey<K> + Drop,
+    B: NativeKey<V> + Drop,
+    T: AsTuple<First = A, Second = B>,
+> NativeKey<Entry<K, V>> for TupleEntry<T> {
+    ghost native = { λ x y. entry_fits_its_equal K.laws V.laws K.represents V.represents A.eq B.eq
+        A.fits B.fits A.native B.native (T.tuple x.0) (T.tuple y.0) };
+
+    ghost reads = { λ x. (A.reads (T.tuple x.0).0, B.reads (T.tuple x.0).1) };
+}
+
+impl<
+    A: Drop,
+    B: Drop,
+    T: AsTuple<First = A, Second = B>,
+    K: MatchesNative<A>,
+    V: MatchesNative<B>,
+> MatchesNative<TupleEntry<T>> for Entry<K, V> {
+    ghost equals = { seen_equals K.spec V.spec K.equals V.equals (λ x. T.tuple x.0) };
+
+    #[inline]
+    fn eq_native(view: View<'_, Entry<K, V>>, value: &TupleEntry<T>) -> bool
+        requires { IsValidView (entry_spec K.spec V.spec) view }
+        ensures { IsTrue result ↔ AtView
+            (seen_equals K.spec V.spec K.equals V.equals (λ x. T.tuple x.0))
+            view.entry value.now }
+    {
+        Entry::<K, V>::eq_native(view, &value.0.tuple())
+    }
+}
+
+impl<
+    A: Drop,
+    B,
+    T: FromTuple<First = A, Second = B>,
+    K: Deserialize<A>,
+    V: Deserialize<B>,
+> Deserialize<TupleEntry<T>> for Entry<K, V> {
+    ghost refuses = { entry_refuses K.spec V.spec K.refuses V.refuses };
+
+    #[inline]
+    fn deserialize(alloc: Global, view: View<'_, Entry<K, V>>) -> Result<TupleEntry<T>, ReadError>
+        requires { IsValidView (entry_spec K.spec V.spec) view }
+        ensures { MatchResult result
+            (AtView (PairEntryRepresents K.spec V.spec K.represents V.represents
+            (λ x. T.tuple x.0)) view.entry)
+            (AtView (entry_refuses K.spec V.spec K.refuses V.refuses) view.entry) }
+    {
+        let first = K::deserialize(alloc, view.key())?;
+        let second = V::deserialize(alloc, view.value())?;
+        Ok(TupleEntry(T::from_tuple(first, second)))
+    }
+}

@@ -1,0 +1,116 @@
+//! Iterators, which are called only after the allocations.
+
+use rkyv_base::width::Narrow;
+use rkyv_base::writer::VecWriter;
+use rkyv_collections::map::ArchivedHashMap;
+use rkyv_collections::set::ArchivedHashSet;
+use rkyv_scan::hash::FxHasher64;
+use std::alloc::Global;
+use std::cell::Cell;
+use std::iter;
+use test_support::asks::{Answer, answer_of, asks_of_pairs, asks_of_table, gives};
+
+type Numbers = ArchivedHashMap<'static, i8, i8, FxHasher64, Narrow>;
+
+type Keys = ArchivedHashSet<'static, i8, FxHasher64, Narrow>;
+
+// Returns whether the number of calls of an iterator of two items fits the outcome.
+// There is no call if an allocation fails first, and else one for each item and one for the end.
+fn fits(answer: Answer, asks: usize) -> bool {
+    match answer {
+        Answer::Memory => asks == 0,
+        Answer::Written | Answer::Growth => asks == 3,
+        _ => false,
+    }
+}
+
+// Writes a table of two items and two hashes.
+// Returns the outcome, and whether the calls of both iterators fit it.
+fn table(alloc: Global) -> (Answer, bool) {
+    let (answer, items, hashes) = asks_of_table(alloc, 2, 2, 2);
+    (answer, fits(answer, items) && fits(answer, hashes))
+}
+
+// Writes a table of two pairs of hash and item, as `table` does.
+fn table_of_pairs(alloc: Global) -> (Answer, bool) {
+    let (answer, asks) = asks_of_pairs(alloc, 2, 2);
+    (answer, fits(answer, asks))
+}
+
+// Writes a map of two pairs, as `table` does.
+fn map(alloc: Global) -> (Answer, bool) {
+    let asks = Cell::new(0usize);
+    let mut writer = VecWriter::new(alloc);
+    let answer = Numbers::serialize_from_iter::<VecWriter, i8, i8, i8, i8, _>(
+        alloc,
+        iter::from_fn(|| if gives(&asks, 2) {
+            Some((1i8, 2i8))
+        } else {
+            None
+        }),
+        2,
+        (7, 8),
+        &mut writer,
+    );
+    let answer = answer_of(answer, &writer);
+    (answer, fits(answer, asks.get()))
+}
+
+// Writes a set of two keys, as `table` does.
+fn set(alloc: Global) -> (Answer, bool) {
+    let asks = Cell::new(0usize);
+    let mut writer = VecWriter::new(alloc);
+    let answer = Keys::serialize_from_iter::<VecWriter, i8, i8, _>(
+        alloc,
+        iter::from_fn(|| if gives(&asks, 2) { Some(1i8) } else { None }),
+        2,
+        (7, 8),
+        &mut writer,
+    );
+    let answer = answer_of(answer, &writer);
+    (answer, fits(answer, asks.get()))
+}
+
+#[test]
+fn no_item_and_no_hash_of_a_table_is_taken(rt: HostRuntime) {
+    let (_, right) = table(rt.alloc());
+    assert!(rt; right);
+}
+
+#[test]
+fn a_table_succeeds(rt: HostRuntime) {
+    assert_eq!(rt; table(rt.alloc()), (Answer::Written, true));
+}
+
+#[test]
+fn no_pair_of_a_table_is_taken(rt: HostRuntime) {
+    let (_, right) = table_of_pairs(rt.alloc());
+    assert!(rt; right);
+}
+
+#[test]
+fn a_table_of_pairs_succeeds(rt: HostRuntime) {
+    assert_eq!(rt; table_of_pairs(rt.alloc()), (Answer::Written, true));
+}
+
+#[test]
+fn no_pair_of_a_map_is_taken(rt: HostRuntime) {
+    let (_, right) = map(rt.alloc());
+    assert!(rt; right);
+}
+
+#[test]
+fn a_map_succeeds(rt: HostRuntime) {
+    assert_eq!(rt; map(rt.alloc()), (Answer::Written, true));
+}
+
+#[test]
+fn no_key_of_a_set_is_taken(rt: HostRuntime) {
+    let (_, right) = set(rt.alloc());
+    assert!(rt; right);
+}
+
+#[test]
+fn a_set_succeeds(rt: HostRuntime) {
+    assert_eq!(rt; set(rt.alloc()), (Answer::Written, true));
+}

@@ -1,0 +1,152 @@
+//! The error of a failed allocation: that of the writer, which counts a failure, or of the call.
+
+use rkyv_base::archive::Serialize;
+use rkyv_base::errors::WriteError;
+use rkyv_base::root::{to_bytes, write_root};
+use rkyv_base::width::Narrow;
+use rkyv_base::writer::{NoMemory, VecWriter, Writer};
+use rkyv_table::table::ArchivedHashTable;
+use std::alloc::Global;
+use test_support::archives::archive;
+
+// How a write ends.
+#[derive(Clone, Copy, Debug, PartialEq, Eq)]
+enum Ending {
+    // The write succeeds.
+    Written,
+    // An allocation of the call fails.
+    Memory,
+    // An allocation of the writer fails.
+    Writer,
+    // The write fails in any other way.
+    Other,
+}
+
+fn ending_of<R: Drop>(answer: Result<R, WriteError<NoMemory>>) -> Ending {
+    match answer {
+        Ok(_) => Ending::Written,
+        Err(WriteError::Memory) => Ending::Memory,
+        Err(WriteError::Writer(NoMemory)) => Ending::Writer,
+        Err(_) => Ending::Other,
+    }
+}
+
+// Returns `true` if the writer, which was new before the write, is as the ending says.
+//
+// After an allocation of the call has failed it is unchanged. After one of its own has failed it
+// has one failure, and the pieces before the failed one.
+fn fits(ending: Ending, writer: &VecWriter, bytes: &[u8]) -> bool {
+    let written = writer.bytes();
+    match ending {
+        Ending::Written => writer.failures() == 0 && written == bytes,
+        Ending::Memory => writer.failures() == 0 && written.is_empty(),
+        Ending::Writer => {
+            writer.failures() == 1 && written.len() < bytes.len() && bytes.starts_with(written)
+        }
+        Ending::Other => false,
+    }
+}
+
+// Writes a root, and returns how that ends and whether the writer fits it.
+fn root<V: Serialize<VecWriter, Narrow>>(alloc: Global, value: &V, bytes: &[u8]) -> (Ending, bool) {
+    let mut writer = VecWriter::new(alloc);
+    let ending = ending_of(write_root(alloc, value, &mut writer));
+    (ending, fits(ending, &writer, bytes))
+}
+
+// Writes the table of a text under the hash 0, and returns the same.
+fn table(alloc: Global, text: &str, bytes: &[u8]) -> (Ending, bool) {
+    let mut writer = VecWriter::new(alloc);
+    let ending = ending_of(ArchivedHashTable::<_, Narrow>::serialize_from_iter::<
+        VecWriter,
+        &str,
+        &str,
+        _,
+        _,
+    >(
+        alloc,
+        [text].into_iter(),
+        [0u64].into_iter(),
+        1,
+        (7, 8),
+        &mut writer,
+    ));
+    (ending, fits(ending, &writer, bytes))
+}
+
+// Returns the archive of the text wonderful.
+fn wonderful() -> [u8; 20] {
+    archive(b"wonderful\0\0\0", &[0x89, 0, 0, 0, 0xf4, 0xff, 0xff, 0xff])
+}
+
+// Returns the table of the text wonderful under the hash 0, without its header.
+//
+// The text's bytes from 0 on, buckets from 12 on, controls from 28 on.
+fn table_of_wonderful() -> [u8; 59] {
+    archive(
+        b"wonderful\0\0\0\0\0\0\0\0\0\0\0\x89\0\0\0\xec\xff\xff\xff\0\xff\0",
+        &[],
+    )
+}
+
+#[test]
+fn a_failed_allocation_of_the_writer_is_its_fault(rt: HostRuntime) {
+    let (_, right) = root(rt.alloc(), &7u32, &[7, 0, 0, 0]);
+    assert!(rt; right);
+}
+
+#[test]
+fn a_root_succeeds(rt: HostRuntime) {
+    assert_eq!(rt;
+        root(rt.alloc(), &7u32, &[7, 0, 0, 0]),
+        (Ending::Written, true)
+    );
+}
+
+#[test]
+fn no_text_is_written_before_the_memory_of_its_root(rt: HostRuntime) {
+    let (_, right) = root(rt.alloc(), &"wonderful", &wonderful());
+    assert!(rt; right);
+}
+
+#[test]
+fn the_root_of_a_text_succeeds(rt: HostRuntime) {
+    let written = root(rt.alloc(), &"wonderful", &wonderful());
+    assert_eq!(rt; written, (Ending::Written, true));
+}
+
+#[test]
+fn no_part_of_a_table_is_written_before_its_memory(rt: HostRuntime) {
+    let (_, right) = table(rt.alloc(), "wonderful", &table_of_wonderful());
+    assert!(rt; right);
+}
+
+#[test]
+fn a_table_of_a_text_succeeds(rt: HostRuntime) {
+    let written = table(rt.alloc(), "wonderful", &table_of_wonderful());
+    assert_eq!(rt; written, (Ending::Written, true));
+}
+
+#[test]
+fn an_archive_is_whole_or_has_an_error_of_memory(rt: HostRuntime) {
+    let right = match to_bytes(rt.alloc(), &"wonderful") {
+        Ok(bytes) => bytes.as_slice() == wonderful().as_slice(),
+        Err(WriteError::Memory | WriteError::Writer(NoMemory)) => true,
+        Err(_) => false,
+    };
+    assert!(rt; right);
+}
+
+#[test]
+fn the_archive_of_a_text_succeeds(rt: HostRuntime) {
+    let whole = match to_bytes(rt.alloc(), &"wonderful") {
+        Ok(bytes) => bytes.as_slice() == wonderful().as_slice(),
+        Err(_) => false,
+    };
+    assert!(rt; whole);
+}
+
+#[test]
+fn the_unit_value_needs_no_memory(rt: HostRuntime) {
+    assert_eq!(rt; root(rt.alloc(), &(), &[]), (Ending::Written, true));
+}

@@ -1,0 +1,139 @@
+//! The number of allocations of a call.
+//!
+//! Each test makes eight allocations: those of its call, after as many of its own as are missing.
+//! So each fails if the eighth allocation fails, and each passes if the ninth one would.
+
+use rkyv_base::archive::Serialize;
+use rkyv_base::errors::WriteError;
+use rkyv_base::root::{to_bytes, write_root};
+use rkyv_base::width::Narrow;
+use rkyv_base::writer::{VecWriter, Writer};
+use rkyv_table::table::ArchivedHashTable;
+use std::alloc::Global;
+use test_support::writers::{Broken, BrokenWriter};
+
+// Makes a number of allocations, and returns `true` if none fails.
+fn allocates(alloc: Global, count: usize) -> bool {
+    for _ in 0..count {
+        if (vec![in alloc; 7u8]).is_err() {
+            return false;
+        }
+    }
+    true
+}
+
+// Makes new writers, and returns their number.
+fn new_writers(alloc: Global) -> usize {
+    let mut count = 0usize;
+    for _ in 0..20 {
+        let writer = VecWriter::new(alloc);
+        if writer.bytes().is_empty() {
+            count = count.wrapping_add(1);
+        }
+    }
+    count
+}
+
+// Writes the table of an item under the hash 0, and returns whether it is written.
+fn writes_table<U: Serialize<VecWriter, Narrow>>(alloc: Global, items: &[U]) -> bool {
+    let mut writer = VecWriter::new(alloc);
+    ArchivedHashTable::<U::Archived, Narrow>::serialize_from_iter::<VecWriter, U, &U, _, _>(
+        alloc,
+        items.iter(),
+        [0u64].into_iter().take(items.len()),
+        items.len(),
+        (7, 8),
+        &mut writer,
+    )
+    .is_ok()
+}
+
+// Writes the table of an item to a writer that fails, and returns whether that is the error.
+fn fails_to_write_table<U: Serialize<BrokenWriter, Narrow>>(alloc: Global, item: &U) -> bool {
+    let mut writer = BrokenWriter::new(0);
+    let answer = ArchivedHashTable::<U::Archived, Narrow>::serialize_from_iter::<
+        BrokenWriter,
+        U,
+        &U,
+        _,
+        _,
+    >(
+        alloc,
+        [item].into_iter(),
+        [0u64].into_iter(),
+        1,
+        (7, 8),
+        &mut writer,
+    );
+    matches!(answer, Err(WriteError::Writer(Broken))) && writer.failures() == 1
+}
+
+#[test]
+fn a_new_writer_makes_no_allocation_and_succeeds(rt: HostRuntime) {
+    let made = new_writers(rt.alloc());
+    assert_eq!(rt; (made, allocates(rt.alloc(), 8)), (20, true));
+}
+
+#[test]
+fn an_archive_of_no_bytes_makes_no_allocation_and_succeeds(rt: HostRuntime) {
+    let written = to_bytes(rt.alloc(), &()).is_ok();
+    assert!(rt; written && allocates(rt.alloc(), 8));
+}
+
+// One is for the fixed bytes of the root, and the other one is the writer's.
+#[test]
+fn a_number_makes_two_allocations_and_succeeds(rt: HostRuntime) {
+    let ready = allocates(rt.alloc(), 6);
+    assert!(rt; ready && to_bytes(rt.alloc(), &7u32).is_ok());
+}
+
+#[test]
+fn an_inline_text_makes_two_allocations_and_succeeds(rt: HostRuntime) {
+    let ready = allocates(rt.alloc(), 6);
+    assert!(rt; ready && to_bytes(rt.alloc(), &"hello").is_ok());
+}
+
+// The writer makes one for each of its three pieces: 9, 3 and 8 bytes, and doubles what it has.
+#[test]
+fn a_far_text_makes_four_allocations_and_succeeds(rt: HostRuntime) {
+    let ready = allocates(rt.alloc(), 4);
+    assert!(rt; ready && to_bytes(rt.alloc(), &"wonderful").is_ok());
+}
+
+// The allocation is that for the fixed bytes of the root.
+#[test]
+fn a_root_makes_one_allocation_of_its_own_and_succeeds(rt: HostRuntime) {
+    let ready = allocates(rt.alloc(), 7);
+    let mut writer = BrokenWriter::new(0);
+    let broken = matches!(
+        write_root(rt.alloc(), &7u32, &mut writer),
+        Err(WriteError::Writer(Broken))
+    );
+    assert!(rt; ready && broken);
+}
+
+// They are for the slots of items, for the controls and a bucket, and for the resolvers.
+#[test]
+fn a_table_makes_three_allocations_of_its_own_and_succeeds(rt: HostRuntime) {
+    let ready = allocates(rt.alloc(), 5);
+    assert!(rt; ready && fails_to_write_table(rt.alloc(), &7u8));
+}
+
+#[test]
+fn a_table_of_texts_makes_as_many_and_succeeds(rt: HostRuntime) {
+    let ready = allocates(rt.alloc(), 5);
+    assert!(rt; ready && fails_to_write_table(rt.alloc(), &"hello"));
+}
+
+// The writer makes one for the first bucket and one for the controls.
+#[test]
+fn a_table_in_memory_makes_five_allocations_and_succeeds(rt: HostRuntime) {
+    let ready = allocates(rt.alloc(), 3);
+    assert!(rt; ready && writes_table(rt.alloc(), &[7u8]));
+}
+
+#[test]
+fn a_table_of_no_items_makes_no_allocation_and_succeeds(rt: HostRuntime) {
+    let written = writes_table::<u8>(rt.alloc(), &[]);
+    assert!(rt; written && allocates(rt.alloc(), 8));
+}

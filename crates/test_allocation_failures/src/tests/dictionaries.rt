@@ -1,0 +1,45 @@
+//! Archives of a dictionary that is built.
+
+use rkyv_base::errors::WriteError;
+use rkyv_base::writer::NoMemory;
+use rkyv_dict::archives::build;
+use rkyv_dict::errors::wants_memory;
+use rkyv_dict::form::{ArchiveWidth, PairList};
+use std::alloc::Global;
+use test_support::archives::archive;
+
+// Returns the map of the text a to the text b.
+fn one_text() -> [u8; 76] {
+    archive(
+        &[
+            0x61, 0xff, 0xff, 0xff, 0xff, 0xff, 0xff, 0xff, 0x62, 0xff, 0xff, 0xff, 0xff, 0xff,
+            0xff, 0xff, 0, 0, 0, 0, 0, 0, 0, 0, 0, 0, 0, 0, 0, 0, 0, 0, 0xff, 0x55, 0xff, 0x55,
+        ],
+        &[0, 0xe0, 0xff, 0xff, 0xff, 1, 0, 0, 0, 2, 0, 0, 0],
+    )
+}
+
+// Returns the archive of the texts a and b, or `None` if their list fails to allocate.
+fn built(alloc: Global) -> Option<Result<Vec<u8>, WriteError<NoMemory>>> {
+    let list = PairList::Texts(vec![in alloc; ("a", "b")].ok()?);
+    Some(build(alloc, ArchiveWidth::Bits32, &list, (7, 8)))
+}
+
+#[test]
+fn a_build_is_whole_or_wants_memory(rt: HostRuntime) {
+    let right = match built(rt.alloc()) {
+        Some(Ok(bytes)) => bytes.as_slice() == one_text().as_slice(),
+        Some(Err(cause)) => wants_memory(&cause),
+        None => true,
+    };
+    assert!(rt; right);
+}
+
+#[test]
+fn a_build_succeeds(rt: HostRuntime) {
+    let whole = match built(rt.alloc()) {
+        Some(Ok(bytes)) => bytes.as_slice() == one_text().as_slice(),
+        _ => false,
+    };
+    assert!(rt; whole);
+}

@@ -1,0 +1,158 @@
+//! Index maps and sets that are archived.
+
+use rkyv_base::access::access;
+use rkyv_base::errors::{ReadError, VerifyError, WriteError};
+use rkyv_base::root::to_bytes;
+use rkyv_base::width::Narrow;
+use rkyv_base::writer::{NoMemory, VecWriter, append};
+use rkyv_index::{
+    ArchivedIndexMap, ArchivedIndexSet, IndexMapOf, IndexSetOf, OrderedItems, OrderedPairs,
+};
+use rkyv_scan::hash::FxHasher64;
+use std::alloc::Global;
+use test_support::archives::{four_entries, one_index_key};
+
+// Returns the four pairs, or `None` if their list fails to allocate.
+fn four(alloc: Global) -> Option<Vec<(i8, i8)>> {
+    vec![in alloc; (1i8, 2i8), (3, 4), (5, 6), (7, 8)].ok()
+}
+
+// Returns the archive of the four pairs, or `None` if their list fails to allocate.
+fn four_built(alloc: Global) -> Option<Result<Vec<u8>, WriteError<NoMemory>>> {
+    let list = OrderedPairs(four(alloc)?);
+    Some(to_bytes(alloc, &list))
+}
+
+// Returns the archive of the set of 1, or `None` if its list fails to allocate.
+fn one_built(alloc: Global) -> Option<Result<Vec<u8>, WriteError<NoMemory>>> {
+    let list = OrderedItems(vec![in alloc; 1i8].ok()?);
+    Some(to_bytes(alloc, &list))
+}
+
+// Returns whether these bytes are built, or an allocation fails.
+fn is_whole_or_wants_memory(
+    built: Option<Result<Vec<u8>, WriteError<NoMemory>>>,
+    bytes: &[u8],
+) -> bool {
+    match built {
+        Some(Ok(built)) => built.as_slice() == bytes,
+        Some(Err(WriteError::Memory)) => true,
+        Some(Err(WriteError::Writer(NoMemory))) => true,
+        Some(Err(_)) => false,
+        None => true,
+    }
+}
+
+// Returns whether these bytes are built.
+fn is_whole(built: Option<Result<Vec<u8>, WriteError<NoMemory>>>, bytes: &[u8]) -> bool {
+    match built {
+        Some(Ok(built)) => built.as_slice() == bytes,
+        _ => false,
+    }
+}
+
+#[test]
+fn a_map_is_whole_or_wants_memory(rt: HostRuntime) {
+    let right = is_whole_or_wants_memory(four_built(rt.alloc()), &four_entries());
+    assert!(rt; right);
+}
+
+#[test]
+fn a_set_is_whole_or_wants_memory(rt: HostRuntime) {
+    let right = is_whole_or_wants_memory(one_built(rt.alloc()), &one_index_key());
+    assert!(rt; right);
+}
+
+#[test]
+fn a_map_succeeds(rt: HostRuntime) {
+    assert!(rt; is_whole(four_built(rt.alloc()), &four_entries()));
+}
+
+#[test]
+fn a_set_succeeds(rt: HostRuntime) {
+    assert!(rt; is_whole(one_built(rt.alloc()), &one_index_key()));
+}
+
+// Writes the four pairs behind a byte 9, or returns `None` if either fails to allocate.
+// Returns whether they are written, and whether the byte 9 is unchanged.
+// After `Memory`, no byte may be behind it.
+fn behind_a_nine(alloc: Global) -> Option<(bool, bool)> {
+    let pairs = four(alloc)?;
+    let mut writer = VecWriter::new(alloc);
+    append(&mut writer, &[9]).ok()?;
+    let answer = ArchivedIndexMap::<i8, i8, FxHasher64, Narrow>::serialize_from_iter::<
+        VecWriter,
+        i8,
+        i8,
+        i8,
+        i8,
+        _,
+    >(alloc, pairs.into_iter(), 4, (7, 8), &mut writer);
+    let nothing = writer.bytes() == [9].as_slice();
+    let kept = matches!(writer.bytes(), [9, ..]);
+    match answer {
+        Ok(_) => Some((true, kept)),
+        Err(WriteError::Memory) => Some((false, nothing)),
+        Err(WriteError::Writer(NoMemory)) => Some((false, kept)),
+        Err(_) => Some((false, false)),
+    }
+}
+
+#[test]
+fn no_byte_is_written_before_the_growths(rt: HostRuntime) {
+    let right = match behind_a_nine(rt.alloc()) {
+        Some((_, right)) => right,
+        None => true,
+    };
+    assert!(rt; right);
+}
+
+#[test]
+fn a_map_behind_a_byte_succeeds(rt: HostRuntime) {
+    assert_eq!(rt; behind_a_nine(rt.alloc()), Some((true, true)));
+}
+
+// Returns whether the four pairs are read back from their archive, or the error.
+fn pairs_back(alloc: Global) -> Result<Result<bool, ReadError>, VerifyError> {
+    let bytes = four_entries();
+    let root = ArchivedIndexMap::of(access::<IndexMapOf<i8, i8>>(&bytes)?);
+    let back: Result<Vec<(i8, i8)>, ReadError> = root.deserialize_pairs(alloc);
+    match back {
+        Ok(list) => Ok(Ok(list.as_slice() == [(1i8, 2i8), (3, 4), (5, 6), (7, 8)].as_slice())),
+        Err(e) => Ok(Err(e)),
+    }
+}
+
+// Returns whether the one key is read back from its archive, or the error.
+fn items_back(alloc: Global) -> Result<Result<bool, ReadError>, VerifyError> {
+    let bytes = one_index_key();
+    let root = ArchivedIndexSet::of(access::<IndexSetOf<i8>>(&bytes)?);
+    let back: Result<Vec<i8>, ReadError> = root.deserialize_items(alloc);
+    match back {
+        Ok(list) => Ok(Ok(list.as_slice() == [1i8].as_slice())),
+        Err(e) => Ok(Err(e)),
+    }
+}
+
+// Returns whether the list is whole, or its allocation fails.
+fn is_back_or_wants_memory(back: Result<Result<bool, ReadError>, VerifyError>) -> bool {
+    match back {
+        Ok(Ok(whole)) => whole,
+        Ok(Err(cause)) => matches!(cause, ReadError::Memory),
+        Err(_) => false,
+    }
+}
+
+#[test]
+fn lists_are_read_back_or_want_memory(rt: HostRuntime) {
+    let pairs = is_back_or_wants_memory(pairs_back(rt.alloc()));
+    let items = is_back_or_wants_memory(items_back(rt.alloc()));
+    assert!(rt; pairs && items);
+}
+
+#[test]
+fn reading_lists_back_succeeds(rt: HostRuntime) {
+    let pairs = matches!(pairs_back(rt.alloc()), Ok(Ok(true)));
+    let items = matches!(items_back(rt.alloc()), Ok(Ok(true)));
+    assert!(rt; pairs && items);
+}

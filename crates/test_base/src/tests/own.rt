@@ -1,0 +1,162 @@
+//! Tests of a user's own types that implement the traits.
+ghost use Rattle.std.specs.Prelude.{[], length, ⊤, ◌≡◌};
+ghost use Rattle.std.specs.Int.{w32};
+ghost use Rattle.std.proofs.Common.{inl, inr, lit≤, refl};
+ghost use Rattle.rkyv_base.specs.Lemmas.AnyBytes.{any_bytes, any_bytes-element};
+ghost use Rattle.rkyv_base.specs.Format.{no_overflow, nothing_next};
+ghost use Rattle.rkyv_base.specs.Numbers.{unsigned};
+ghost use Rattle.rkyv_base.specs.Lemmas.Numbers.{unsigned_codes};
+ghost use Rattle.rkyv_base.specs.Scalar.{scalar_spec};
+ghost use Rattle.rkyv_base.specs.Lemmas.Scalar.{scalar_element, scalar_laws};
+
+use crate::tests::refusals::{Refusal, refused};
+use rkyv_base::access::access;
+use rkyv_base::element::HasSpec;
+use rkyv_base::{
+    Archive, Element, Entry, Narrow, PartRange, Represents, ResolveResult, Scalar, Serialize,
+    VecWriter, VerifyError, Width, WriteError, WriteResult, Writer, to_bytes, whole_size,
+};
+use std::alloc::Global;
+use test_support::written::is_archived_as;
+
+// A user's own scalar.
+#[derive(Clone, Copy, Debug, PartialEq, Eq)]
+struct Grams(u32);
+
+impl HasSpec for Grams {
+    ghost spec = { scalar_spec (unsigned w32) };
+
+    ghost laws = { scalar_element (unsigned w32) (inr (inr (inl refl))) (unsigned_codes w32) };
+}
+
+impl Scalar for Grams {
+    ghost encoding = { record {
+      word = w32;
+      code = λ g. g.0;
+      value = λ n. record { 0 = n };
+      IsCode =
+          λ n. ⊤;
+    } };
+
+    fn byte_count() -> usize {
+        4
+    }
+
+    fn is_value(_bytes: &[u8]) -> bool {
+        true
+    }
+
+    fn read(bytes: &[u8]) -> Grams {
+        Grams(u32::read(bytes))
+    }
+
+    fn write(self, bytes: &mut [u8]) {
+        self.0.write(bytes);
+    }
+
+    ghost laws = { scalar_laws _ (inr (inr (inl refl))) };
+}
+
+// A user's own element, of the greatest size. All bytes are valid for it.
+struct Huge;
+
+impl HasSpec for Huge {
+    ghost spec = { any_bytes 1073741824 1 };
+
+    ghost laws = { any_bytes-element 1073741824 1 (inl refl) refl (lit≤ tt) };
+}
+
+impl Element for Huge {
+    fn size() -> usize {
+        1_073_741_824
+    }
+
+    fn align() -> usize {
+        1
+    }
+
+    fn check(_bytes: &[u8], _pos: u64, range: PartRange) -> Result<PartRange, VerifyError> {
+        Ok(range)
+    }
+}
+
+impl Represents<Huge> for Huge {
+    ghost represents = { λ b p v. ⊤ };
+
+    ghost local = { λ v b c p lo hi l o h same part st. st };
+}
+
+impl<W: Width> Archive<W> for Huge {
+    type Archived = Huge;
+
+    type Resolver = ();
+
+    ghost format = { record {
+      parts = λ v p part r. part ≡ [];
+      next = nothing_next;
+      image = λ v r p out. length out ≡ 1073741824;
+      overflow = no_overflow;
+    } };
+
+    fn resolve(&self, _resolver: (), _pos: u64, _out: &mut [u8]) -> ResolveResult {
+        Ok(())
+    }
+
+    ghost laws = { record {
+      size_exact = λ v r p out i. i;
+      exclusive = λ v r p out i f. f;
+      sound = λ v r c p0 p part out h i s t o al. (p0, refl, tt);
+    } };
+}
+
+impl<S: Writer, W: Width> Serialize<S, W> for Huge {
+    fn serialize(&self, _alloc: Global, _serializer: &mut S) -> WriteResult<(), S> {
+        Ok(())
+    }
+}
+
+// Returns the value of an entry of a `bool` and such a scalar.
+fn grams_of(bytes: &[u8]) -> Result<Grams, VerifyError> {
+    Ok(access::<Entry<bool, Grams>>(bytes)?.value().to_native())
+}
+
+#[test]
+fn an_own_scalar_is_archived(rt: HostRuntime) {
+    let bytes = [1, 0, 0, 0, 2, 1, 0, 0];
+    let archived = is_archived_as(rt.alloc(), &(true, Grams(258)), &bytes);
+    assert_eq!(rt; (archived, grams_of(&bytes).ok()), (true, Some(Grams(258))));
+}
+
+// Returns `true` if archiving a value fails with `Refused(0)`.
+fn is_refused<V: Serialize<VecWriter, Narrow>>(alloc: Global, value: &V) -> bool {
+    matches!(to_bytes(alloc, value), Err(WriteError::Refused(0)))
+}
+
+#[test]
+fn an_entry_too_large_is_refused(rt: HostRuntime) {
+    let sizes = [
+        <Entry<Huge, ()> as Element>::size(),
+        whole_size::<Huge, u16>(),
+        <Entry<Huge, u16> as Element>::size(),
+        <Entry<Huge, u16> as Element>::align(),
+    ];
+    let refusals = [
+        refused::<Narrow, Entry<Huge, ()>>(&[]),
+        refused::<Narrow, Entry<Huge, u16>>(&[]),
+    ];
+    let refused = [
+        is_refused(rt.alloc(), &(Huge, 7u16)),
+        is_refused(rt.alloc(), &(1u8, (7u16, Huge))),
+    ];
+    assert_eq!(rt;
+        (sizes, refusals, refused),
+        (
+            [1_073_741_824, 1_073_741_826, 0, 2],
+            [
+                Some(Refusal::OutOfRange(-1_073_741_824, 1_073_741_824)),
+                Some(Refusal::Refused(0))
+            ],
+            [true; 2]
+        )
+    );
+}

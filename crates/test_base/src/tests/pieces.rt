@@ -1,0 +1,136 @@
+//! Tests of the pieces in which archives are written.
+
+use rkyv_base::archive::Serialize;
+use rkyv_base::limit::{LimitFault, LimitWriter};
+use rkyv_base::root::{write_root, write_root_in};
+use rkyv_base::width::{Narrow, Wide};
+use rkyv_base::writer::{Writer, align_for, append, append_in};
+use std::alloc::Global;
+use test_support::writers::PieceWriter;
+
+// Returns `true` if the root of a narrow archive is written in pieces of these lengths.
+fn is_written_in<V: Serialize<PieceWriter, Narrow>>(
+    alloc: Global,
+    value: &V,
+    lengths: &[usize],
+) -> bool {
+    let mut writer = PieceWriter::new(alloc);
+    let written = write_root(alloc, value, &mut writer).is_ok();
+    written && writer.lengths() == lengths
+}
+
+// Returns `true` if the root of a wide archive is written in pieces of these lengths.
+fn is_written_wide_in<V: Serialize<PieceWriter, Wide>>(
+    alloc: Global,
+    value: &V,
+    lengths: &[usize],
+) -> bool {
+    let mut writer = PieceWriter::new(alloc);
+    let written = write_root_in::<Wide, PieceWriter, V>(alloc, value, &mut writer).is_ok();
+    written && writer.lengths() == lengths
+}
+
+#[test]
+fn a_root_is_zeros_and_one_piece(rt: HostRuntime) {
+    let alloc = rt.alloc();
+    let written = [
+        is_written_in(alloc, &7u8, &[0, 1]),
+        is_written_in(alloc, &(1u32, 2u32), &[0, 8]),
+        is_written_in(alloc, &(1u8, (2u64, true)), &[0, 24]),
+        is_written_in(alloc, &(), &[0, 0]),
+        is_written_wide_in(alloc, &(1u8, 2u64), &[0, 16]),
+    ];
+    assert_eq!(rt; written, [true; 5]);
+}
+
+#[test]
+fn each_text_is_one_piece(rt: HostRuntime) {
+    let alloc = rt.alloc();
+    let written = [
+        is_written_in(alloc, &"wonderful", &[9, 3, 8]),
+        is_written_in(alloc, &("wonderful", "marvellous"), &[9, 10, 1, 16]),
+        is_written_in(
+            alloc,
+            &("wonderful", ("hello", "magnificent")),
+            &[9, 11, 0, 24],
+        ),
+        is_written_wide_in(alloc, &"wonderful wonders", &[17, 7, 16]),
+    ];
+    assert_eq!(rt; written, [true; 4]);
+}
+
+#[test]
+fn an_inline_text_has_no_piece_of_its_own(rt: HostRuntime) {
+    let alloc = rt.alloc();
+    let written = [
+        is_written_in(alloc, &"hello", &[0, 8]),
+        is_written_in(alloc, &"", &[0, 8]),
+        is_written_in(alloc, &("hello", "wonderful"), &[9, 3, 16]),
+        is_written_wide_in(alloc, &"wonderful", &[0, 16]),
+    ];
+    assert_eq!(rt; written, [true; 4]);
+}
+
+// Appends two bytes, and aligns for numbers of 2, 4 and 8 bytes, with a byte after each.
+fn align_thrice(writer: &mut PieceWriter) -> Option<[u64; 3]> {
+    append(writer, &[1, 2]).ok()?;
+    let second = align_for::<u16, PieceWriter>(writer).ok()?;
+    append(writer, &[3]).ok()?;
+    let fourth = align_for::<u32, PieceWriter>(writer).ok()?;
+    append(writer, &[4]).ok()?;
+    let eighth = align_for::<u64, PieceWriter>(writer).ok()?;
+    Some([second, fourth, eighth])
+}
+
+#[test]
+fn zeros_are_one_piece(rt: HostRuntime) {
+    let mut writer = PieceWriter::new(rt.alloc());
+    let aligned = align_thrice(&mut writer);
+    assert_eq!(rt;
+        (aligned, writer.lengths(), writer.bytes()),
+        (
+            Some([2, 4, 8]),
+            [2, 0, 1, 1, 1, 3].as_slice(),
+            [1, 2, 3, 0, 4, 0, 0, 0].as_slice()
+        )
+    );
+}
+
+#[test]
+fn append_passes_an_empty_piece_on(rt: HostRuntime) {
+    let mut writer = PieceWriter::new(rt.alloc());
+    let written = [
+        append(&mut writer, &[]).is_ok(),
+        append(&mut writer, &[1]).is_ok(),
+        append_in::<Wide, PieceWriter>(&mut writer, &[]).is_ok(),
+    ];
+    assert_eq!(rt;
+        (written, writer.lengths(), writer.failures()),
+        ([true; 3], [0, 1, 0].as_slice(), 0)
+    );
+}
+
+#[test]
+fn a_limit_passes_an_empty_piece_on(rt: HostRuntime) {
+    let mut writer = LimitWriter::new(PieceWriter::new(rt.alloc()), 0);
+    let written = [writer.write(&[]).is_ok(), append(&mut writer, &[]).is_ok()];
+    let failures = writer.failures();
+    assert_eq!(rt;
+        (written, writer.into_inner().lengths(), failures),
+        ([true; 2], [0, 0].as_slice(), 0)
+    );
+}
+
+#[test]
+fn a_limit_passes_the_front_of_a_piece_on(rt: HostRuntime) {
+    let mut writer = LimitWriter::new(PieceWriter::new(rt.alloc()), 3);
+    let whole = writer.write(&[1]).is_ok();
+    let front = matches!(writer.write(&[2, 3, 4]), Err(LimitFault::Full));
+    let none = matches!(writer.write(&[5]), Err(LimitFault::Full));
+    let empty = writer.write(&[]).is_ok();
+    let inner = writer.into_inner();
+    assert_eq!(rt;
+        ([whole, front, none, empty], inner.lengths(), inner.bytes()),
+        ([true; 4], [1, 2, 0].as_slice(), [1, 2, 3].as_slice())
+    );
+}

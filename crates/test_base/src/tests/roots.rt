@@ -1,0 +1,80 @@
+//! Tests of whole archives of numbers and pairs.
+ghost use Rattle.std.specs.Prelude.{IfOk, ◌≡◌};
+
+use crate::tests::refusals::{Refusal, refused};
+use rkyv_base::access::access;
+use rkyv_base::entry::Entry;
+use rkyv_base::errors::WriteError;
+use rkyv_base::root::to_bytes;
+use rkyv_base::width::Narrow;
+use rkyv_base::writer::NoMemory;
+use std::alloc::Global;
+use test_support::written::is_archived_as;
+
+#[test]
+fn pairs_are_padded(rt: HostRuntime) {
+    let alloc = rt.alloc();
+    let padded = [
+        is_archived_as(alloc, &(1u8, 2u32), &[1, 0, 0, 0, 2, 0, 0, 0]),
+        is_archived_as(alloc, &(1u32, 2u8), &[1, 0, 0, 0, 2, 0, 0, 0]),
+        is_archived_as(alloc, &((), 2u16), &[2, 0]),
+    ];
+    assert_eq!(rt; padded, [true; 3]);
+}
+
+// Returns the parts of a pair and of its inner pair, read in place.
+fn parts(bytes: &[u8]) -> Option<(u8, i32, bool)> {
+    let root = access::<Entry<u8, Entry<i32, bool>>>(bytes).ok()?;
+    let inner = root.value();
+    Some((
+        root.key().to_native(),
+        inner.key().to_native(),
+        inner.value().to_native(),
+    ))
+}
+
+// Returns the same parts of the archive of 1, -2 and `true`.
+fn parts_written(alloc: Global) -> Option<(u8, i32, bool)> {
+    match to_bytes(alloc, &(1u8, (-2i32, true))) {
+        Ok(bytes) => parts(bytes.as_slice()),
+        Err(_) => None,
+    }
+}
+
+#[test]
+fn pairs_are_read_in_place(rt: HostRuntime) {
+    assert_eq!(rt; parts_written(rt.alloc()), Some((1, -2, true)));
+}
+
+#[test]
+fn what_is_no_value_is_refused(rt: HostRuntime) {
+    let refused = [
+        refused::<Narrow, bool>(&[2]),
+        refused::<Narrow, char>(&[0x00, 0xd8, 0x00, 0x00]),
+        refused::<Narrow, u32>(&[0, 0, 0]),
+        refused::<Narrow, u32>(&[0, 0, 0, 0, 0]),
+    ];
+    assert_eq!(rt;
+        refused,
+        [
+            Some(Refusal::InvalidValue(0)),
+            Some(Refusal::InvalidValue(0)),
+            Some(Refusal::OutOfRange(-1, 4)),
+            Some(Refusal::Unaligned(1, 4))
+        ]
+    );
+}
+
+/// Archives a pair, and returns its key, read in place. It is the key that was archived.
+fn archived_key(alloc: Global, pair: &(u32, bool)) -> Result<u32, WriteError<NoMemory>>
+    ensures { IfOk result (λ key. key ≡ pair.now.0) }
+{
+    let bytes = to_bytes(alloc, pair)?;
+    let root = access::<Entry<u32, bool>>(bytes.as_slice()).unwrap();
+    Ok(root.key().to_native())
+}
+
+#[test]
+fn an_archived_key_is_read_back(rt: HostRuntime) {
+    assert_eq!(rt; archived_key(rt.alloc(), &(7, true)).ok(), Some(7));
+}

@@ -1,0 +1,273 @@
+//! Tests of values that are written in place.
+
+ghost use Rattle.std.specs.Prelude.{◌≡◌, ◌+◌, ◌≤◌, length};
+ghost use Rattle.std.specs.Int.{w32, w64};
+ghost use Rattle.rkyv_base.specs.Bytes.{number_at};
+ghost use Rattle.rkyv_base.specs.Entry.{entry_spec};
+ghost use Rattle.rkyv_base.specs.Numbers.{signed, unsigned};
+ghost use Rattle.rkyv_base.specs.Scalar.{scalar_spec};
+ghost use Rattle.rkyv_base.specs.Sealing.{with_value};
+ghost use Rattle.rkyv_base.specs.ElementSpec.{Viewable};
+
+use crate::tests::refusals::{Refusal, refused_to_write};
+use rkyv_base::access::access;
+use rkyv_base::{
+    ArchiveSeal, Entry, Narrow, Seal, Text, VerifyError, View, Wide, Width, access_mut,
+    access_mut_in, set_at, set_value, split_at_value, to_bytes,
+};
+use std::test::Fail;
+use test_support::written::is_archived_as;
+
+// Writes by `Seal::over`. The contract states all bytes after the write.
+fn sets_over(bytes: &mut [u8], place: usize, value: i64)
+    requires { place + 8 ≤ length bytes.old }
+    ensures { bytes.new ≡ with_value (signed w64) bytes.old place value }
+{
+    let mut seal = Seal::<i64>::over(bytes, place);
+    seal.set(value);
+}
+
+// Reads the key and writes the value by `split_at_value`. The contract states all bytes after the
+// write.
+#[tactic(auto, using(rkyv_base::proofs::Sealing::joined, rkyv_base::proofs::Sealing::key_in_front))]
+fn sets_behind_key(archive: &mut [u8], entry_pos: u64, value: u32) -> u32
+    requires inside { entry_pos + 8 ≤ length archive.old }
+    requires entry { Viewable (entry_spec (scalar_spec (unsigned w32))
+        (scalar_spec (unsigned w32)))
+        archive.old entry_pos }
+    ensures key { result ≡ number_at w32 archive.old entry_pos }
+    ensures written { archive.new ≡ with_value (unsigned w32) archive.old (entry_pos + 4) value }
+{
+    let (front, back) = split_at_value::<u32, u32>(archive, entry_pos);
+    let key = View::<u32>::new(front, entry_pos);
+    let mut seal = Seal::<u32>::over(back, 0);
+    seal.set(value);
+    key.to_native()
+}
+
+#[test]
+fn numbers_are_written_over_bytes(rt: HostRuntime) {
+    let mut bytes = [1, 2, 3];
+    let mut seal = Seal::<u8>::over(&mut bytes, 1);
+    let before = seal.to_native();
+    seal.set(255);
+    let after = seal.to_native();
+    drop(seal);
+    let mut others = [9; 10];
+    sets_over(&mut others, 1, -2);
+    let signed = others;
+    set_at(&mut others, 4, 16_909_060u32);
+    assert_eq!(rt;
+        (before, after, bytes, signed, others),
+        (
+            2,
+            255,
+            [1, 255, 3],
+            [9, 254, 255, 255, 255, 255, 255, 255, 255, 9],
+            [9, 254, 255, 255, 4, 3, 2, 1, 255, 9]
+        )
+    );
+}
+
+// Writes a `bool` over the root of an archive. Returns its position, the value of a view,
+// the old value, and the new value.
+fn root_replaced(bytes: &mut [u8], value: bool) -> Result<(u64, bool, bool, bool), VerifyError> {
+    let whole = access_mut::<bool>(bytes)?;
+    let (root, viewable) = (whole.pos(), whole.as_view().to_native());
+    let mut seal = whole.seal_at::<bool>(root);
+    let before = seal.to_native();
+    seal.set(value);
+    Ok((root, viewable, before, seal.to_native()))
+}
+
+#[test]
+fn roots_are_written_in_place(rt: HostRuntime) {
+    let mut bytes = [1];
+    let replaced = root_replaced(&mut bytes, false).ok();
+    let written = is_archived_as(rt.alloc(), &true, &[1]);
+    assert_eq!(rt;
+        (replaced, bytes, written),
+        (Some((0, true, true, false)), [0], true)
+    );
+}
+
+// Writes a character over the root of a wide archive. Returns the old value and the new value.
+fn wide_root_replaced(bytes: &mut [u8], value: char) -> Result<(char, char), VerifyError> {
+    let whole = access_mut_in::<Wide, char>(bytes)?;
+    let root = whole.pos();
+    let mut seal = whole.seal_at::<char>(root);
+    let before = seal.to_native();
+    seal.set(value);
+    Ok((before, seal.to_native()))
+}
+
+#[test]
+fn wide_roots_are_written_in_place(rt: HostRuntime) {
+    let mut bytes = [0x61, 0, 0, 0];
+    let replaced = wide_root_replaced(&mut bytes, '€').ok();
+    assert_eq!(rt; (replaced, bytes), (Some(('a', '€')), [0xac, 0x20, 0, 0]));
+}
+
+// Writes a number over the value of an entry. Returns the key and the old value.
+fn value_replaced(bytes: &mut [u8], value: u32) -> Result<(u8, u32), VerifyError> {
+    let whole = access_mut::<Entry<u8, u32>>(bytes)?;
+    let (key, mut seal) = whole.split_value::<u8, u32>(0);
+    let before = (key.to_native(), seal.to_native());
+    seal.set(value);
+    Ok(before)
+}
+
+// Returns the value of an entry.
+fn value_of(bytes: &[u8]) -> Result<u32, VerifyError> {
+    Ok(access::<Entry<u8, u32>>(bytes)?.value().to_native())
+}
+
+#[test]
+fn values_of_entries_are_written_in_place(rt: HostRuntime) {
+    let mut bytes = [1, 0, 0, 0, 2, 0, 0, 0];
+    let before = value_replaced(&mut bytes, 16_909_060).ok();
+    let after = value_of(&bytes).ok();
+    set_value::<u8, u32>(&mut bytes, 0, 7);
+    assert_eq!(rt;
+        (before, after, bytes),
+        (Some((1, 2)), Some(16_909_060), [1, 0, 0, 0, 7, 0, 0, 0])
+    );
+}
+
+#[test]
+fn a_value_is_written_behind_its_key(rt: HostRuntime) -> Result<(), Fail> {
+    let mut bytes = to_bytes(rt.alloc(), &(1u32, 2u32))?;
+    let key = sets_behind_key(bytes.as_mut_slice(), 0, 9);
+    assert_eq!(rt;
+        (key, bytes.as_slice()),
+        (1, [1, 0, 0, 0, 9, 0, 0, 0].as_slice())
+    );
+    Ok(())
+}
+
+#[test]
+fn an_archive_is_lent_and_given_back(rt: HostRuntime) {
+    let mut bytes = [1, 2];
+    let mut whole = ArchiveSeal::<u8>::new(&mut bytes, 1);
+    let begun = whole.pos();
+    let mut seal = whole.as_mut().seal_at::<u8>(0);
+    seal.set(7);
+    drop(seal);
+    let (archive, pos) = whole.into_parts();
+    assert_eq!(rt; (begun, pos, &*archive), (1, 1, [7, 2].as_slice()));
+}
+
+#[test]
+fn what_is_refused_to_readers_is_refused_to_writers(rt: HostRuntime) {
+    let (mut bytes, mut zeros) = ([2], [0, 0, 0, 0, 0]);
+    let refused = [
+        refused_to_write::<Narrow, bool>(&mut bytes),
+        refused_to_write::<Narrow, u32>(&mut zeros),
+        refused_to_write::<Wide, u64>(&mut zeros),
+    ];
+    assert_eq!(rt;
+        (refused, bytes),
+        (
+            [
+                Some(Refusal::InvalidValue(0)),
+                Some(Refusal::Unaligned(1, 4)),
+                Some(Refusal::OutOfRange(-3, 8))
+            ],
+            [2]
+        )
+    );
+}
+
+// Returns `true` if a seal of the text at the root has this text.
+#[tactic(auto, using(rkyv_base::proofs::SealedText::viewable_sealed))]
+fn shows_in_place<W: Width>(bytes: &mut [u8], text: &str) -> Result<bool, VerifyError> {
+    let whole = access_mut_in::<W, Text<W>>(bytes)?;
+    let root = whole.pos();
+    let seal = whole.seal_at::<Text<W>>(root);
+    Ok(seal.as_str() == Some(text))
+}
+
+#[test]
+fn inline_text_is_read_in_place(rt: HostRuntime) {
+    let mut bytes = *b"hello\xff\xff\xff";
+    assert_eq!(rt;
+        shows_in_place::<Narrow>(&mut bytes, "hello").ok(),
+        Some(true)
+    );
+}
+
+#[test]
+fn inline_text_is_raised_in_place(rt: HostRuntime) {
+    let mut bytes = [0x68, 0x65, 0x6c, 0x6c, 0x6f, 255, 255, 255, 97];
+    let mut full = [0x7a; 8];
+    let mut seal = Seal::<Text>::over(&mut bytes, 0);
+    let raised = seal.make_ascii_uppercase();
+    drop(seal);
+    let mut seal = Seal::<Text>::over(&mut full, 0);
+    let full_raised = seal.make_ascii_uppercase();
+    drop(seal);
+    assert_eq!(rt;
+        (raised, bytes, full_raised, full),
+        (
+            true,
+            [0x48, 0x45, 0x4c, 0x4c, 0x4f, 255, 255, 255, 97],
+            true,
+            [0x5a; 8]
+        )
+    );
+}
+
+// Returns two flags: a seal of the text at the root has no text, and it raises the text.
+#[tactic(auto, using(rkyv_base::proofs::SealedText::viewable_sealed))]
+fn raises_elsewhere<W: Width>(bytes: &mut [u8]) -> Result<(bool, bool), VerifyError> {
+    let whole = access_mut_in::<W, Text<W>>(bytes)?;
+    let root = whole.pos();
+    let mut seal = whole.seal_at::<Text<W>>(root);
+    Ok((seal.as_str().is_none(), seal.make_ascii_uppercase()))
+}
+
+#[test]
+fn text_out_of_line_stays(rt: HostRuntime) {
+    let wonderful = *b"wonderful\0\0\0\x89\0\0\0\xf4\xff\xff\xff";
+    let mut bytes = wonderful;
+    let raised = raises_elsewhere::<Narrow>(&mut bytes).ok();
+    let same = is_archived_as(rt.alloc(), &"wonderful", &bytes);
+    assert_eq!(rt;
+        (raised, bytes, same),
+        (Some((true, false)), wonderful, true)
+    );
+}
+
+#[test]
+fn wide_text_is_read_in_place(rt: HostRuntime) {
+    let mut bytes = *b"wonderful\xff\xff\xff\xff\xff\xff\xff";
+    assert_eq!(rt;
+        shows_in_place::<Wide>(&mut bytes, "wonderful").ok(),
+        Some(true)
+    );
+}
+
+#[test]
+fn wide_text_is_raised_in_place(rt: HostRuntime) {
+    let mut bytes = [
+        0x77, 0x6f, 0x6e, 0x64, 0x65, 0x72, 0x66, 0x75, 0x6c, 255, 97, 97, 97, 97, 97, 97,
+    ];
+    let mut seal = Seal::<Text<Wide>>::over(&mut bytes, 0);
+    let is_raised = seal.make_ascii_uppercase();
+    drop(seal);
+    let raised = [
+        0x57, 0x4f, 0x4e, 0x44, 0x45, 0x52, 0x46, 0x55, 0x4c, 255, 97, 97, 97, 97, 97, 97,
+    ];
+    assert_eq!(rt; (is_raised, bytes), (true, raised));
+}
+
+#[test]
+fn wide_text_out_of_line_stays(rt: HostRuntime) {
+    // The text, five zeros, its length, and the distance back to its start.
+    let mut bytes =
+        *b"most wonderful text\0\0\0\0\0\x93\0\0\0\0\0\0\0\xe8\xff\xff\xff\xff\xff\xff\xff";
+    assert_eq!(rt;
+        raises_elsewhere::<Wide>(&mut bytes).ok(),
+        Some((true, false))
+    );
+}

@@ -1,0 +1,233 @@
+//! Tests of text: its bytes, its errors, and reading it in place.
+use crate::tests::refusals::{Refusal, refused};
+use rkyv_base::{
+    Archive, Entry, Narrow, Text, TextResolver, VerifyError, Wide, Width, access_in, to_bytes_in,
+};
+use std::alloc::{AllocError, Global};
+use test_support::written::is_archived_as;
+
+/// Returns the text at the root of an archive.
+#[tactic(auto, using(rkyv_base::specs::Lemmas::Access::root_viewable))]
+fn text_of<W: Width>(bytes: &[u8]) -> Result<&str, VerifyError> {
+    match access_in::<W, Text<W>>(bytes) {
+        Ok(root) => Ok(root.as_str()),
+        Err(e) => Err(e),
+    }
+}
+
+/// Returns the two texts at the root of an archive.
+#[tactic(auto, using(rkyv_base::specs::Lemmas::Access::root_viewable))]
+fn texts_of<W: Width>(bytes: &[u8]) -> Result<(&str, &str), VerifyError> {
+    match access_in::<W, Entry<Text<W>, Text<W>>>(bytes) {
+        Ok(root) => Ok((root.key().as_str(), root.value().as_str())),
+        Err(e) => Err(e),
+    }
+}
+
+/// Returns `len` letters a.
+fn letters(alloc: Global, len: usize) -> Result<String, AllocError> {
+    let mut text = String::new(alloc);
+    for _ in 0..len {
+        text.push('a')?;
+    }
+    Ok(text)
+}
+
+// Returns `true` if this text is the root of an archive.
+fn is_root<W: Width>(bytes: &[u8], text: &str) -> bool {
+    match text_of::<W>(bytes) {
+        Ok(found) => found == text,
+        Err(_) => false,
+    }
+}
+
+// Returns `true` if a text is archived as these bytes, and reads back from them.
+fn represents_as<W: Width>(alloc: Global, text: &str, bytes: &[u8]) -> bool {
+    match to_bytes_in::<W, &str>(alloc, &text) {
+        Ok(archive) => archive.as_slice() == bytes && is_root::<W>(bytes, text),
+        Err(_) => false,
+    }
+}
+
+#[test]
+fn short_text_is_inline(rt: HostRuntime) {
+    let alloc = rt.alloc();
+    let wide = b"wonderful\xff\xff\xff\xff\xff\xff\xff";
+    let right = [
+        represents_as::<Narrow>(alloc, "hello", b"hello\xff\xff\xff"),
+        represents_as::<Wide>(alloc, "wonderful", wide),
+    ];
+    assert_eq!(rt; right, [true; 2]);
+}
+
+#[test]
+fn long_text_is_before_its_fixed_bytes(rt: HostRuntime) {
+    let alloc = rt.alloc();
+    let narrow = b"wonderful\0\0\0\x89\0\0\0\xf4\xff\xff\xff";
+    let wide = b"wonderfulwonderfu\0\0\0\0\0\0\0\x91\0\0\0\0\0\0\0\xe8\xff\xff\xff\xff\xff\xff\xff";
+    let right = [
+        represents_as::<Narrow>(alloc, "wonderful", narrow),
+        represents_as::<Wide>(alloc, "wonderfulwonderfu", wide),
+    ];
+    assert_eq!(rt; right, [true; 2]);
+}
+
+// Returns `true` if these two texts are the root of an archive.
+fn are_root(bytes: &[u8], texts: (&str, &str)) -> bool {
+    match texts_of::<Narrow>(bytes) {
+        Ok(found) => found == texts,
+        Err(_) => false,
+    }
+}
+
+#[test]
+fn two_texts_are_one_behind_the_other(rt: HostRuntime) {
+    let mut bytes = *b"wonderfulexcellent\0\0\x89\0\0\0\xec\xff\xff\xff\x89\0\0\0\xed\xff\xff\xff";
+    let archived = is_archived_as(rt.alloc(), &("wonderful", "excellent"), &bytes);
+    let read = are_root(&bytes, ("wonderful", "excellent"));
+    bytes[32] = 0xe4;
+    let refused = refused::<Narrow, Entry<Text, Text>>(&bytes);
+    assert_eq!(rt;
+        (archived, read, refused),
+        (true, true, Some(Refusal::OutOfRange(0, 9)))
+    );
+}
+
+#[test]
+fn what_is_no_text_is_refused(rt: HostRuntime) {
+    let mut bytes = *b"wonderful\0\0\0\x89\0\0\0\xf4\xff\xff\xff";
+    bytes[0] = 0xff;
+    let refused = [
+        refused::<Narrow, Text>(b"\x89\0\0\0\xf4\xff\xff\xff"),
+        refused::<Narrow, Text>(b"\x88\0\0\0\0\0\0\0"),
+        refused::<Wide, Text<Wide>>(b"\x90\0\0\0\0\0\0\0\0\0\0\0\0\0\0\0"),
+        refused::<Narrow, Text>(&bytes),
+        refused::<Narrow, Text>(b"\xc3\xff\xff\xff\xff\xff\xff\xff"),
+    ];
+    let invalid = Some(Refusal::InvalidValue(0));
+    assert_eq!(rt;
+        refused,
+        [
+            Some(Refusal::OutOfRange(-12, 9)),
+            invalid,
+            invalid,
+            Some(Refusal::InvalidValue(12)),
+            invalid
+        ]
+    );
+}
+
+#[test]
+fn text_ends_before_the_first_ff(rt: HostRuntime) {
+    let right = [
+        is_root::<Narrow>(b"\xff\xff\xff\xff\xff\xff\xff\xff", ""),
+        is_root::<Narrow>(b"ab\xffcdefg", "ab"),
+        is_root::<Narrow>(b"abcdefgh", "abcdefgh"),
+    ];
+    assert_eq!(rt; right, [true; 3]);
+}
+
+// Returns `true` if an owned text is archived as a borrowed one is, and reads back.
+fn is_read_back<W: Width>(alloc: Global, text: &String) -> bool {
+    match to_bytes_in::<W, String>(alloc, text) {
+        Ok(archive) => represents_as::<W>(alloc, text.as_str(), archive.as_slice()),
+        Err(_) => false,
+    }
+}
+
+// Returns `true` if `len` letters are archived so, in both widths.
+fn are_read_back(alloc: Global, len: usize) -> bool {
+    match letters(alloc, len) {
+        Ok(text) => is_read_back::<Narrow>(alloc, &text) && is_read_back::<Wide>(alloc, &text),
+        Err(_) => false,
+    }
+}
+
+#[test]
+fn lengths_read_back(rt: HostRuntime) {
+    let mut right = true;
+    for len in [0, 1, 8, 9, 16, 17, 63, 64, 100, 1000] {
+        right = right && are_read_back(rt.alloc(), len);
+    }
+    assert!(rt; right);
+}
+
+// Returns `true` if an archive has eight fixed bytes after `root` bytes,
+// and they begin with this word.
+fn has_root(bytes: &[u8], root: usize, word: &[u8]) -> bool {
+    match bytes.split_at_checked(root) {
+        Some((_, fixed)) => fixed.len() == 8 && fixed.starts_with(word),
+        None => false,
+    }
+}
+
+// Returns `true` if the archive of `len` letters has such fixed bytes.
+fn has_word(alloc: Global, len: usize, root: usize, word: &[u8]) -> bool {
+    match letters(alloc, len) {
+        Ok(text) => match to_bytes_in::<Narrow, String>(alloc, &text) {
+            Ok(archive) => has_root(archive.as_slice(), root, word),
+            Err(_) => false,
+        },
+        Err(_) => false,
+    }
+}
+
+#[test]
+fn the_first_word_tells_the_length(rt: HostRuntime) {
+    let alloc = rt.alloc();
+    let right = [
+        has_word(alloc, 9, 12, &[0x89, 0, 0, 0]),
+        has_word(alloc, 63, 64, &[0xbf, 0, 0, 0]),
+        has_word(alloc, 64, 64, &[0x80, 1, 0, 0]),
+        has_word(alloc, 100, 100, &[0xa4, 1, 0, 0]),
+    ];
+    assert_eq!(rt; right, [true; 4]);
+}
+
+// Returns `true` if a text is archived in this width, and reads back.
+fn is_kept<W: Width>(alloc: Global, text: &str) -> bool {
+    match to_bytes_in::<W, &str>(alloc, &text) {
+        Ok(archive) => is_root::<W>(archive.as_slice(), text),
+        Err(_) => false,
+    }
+}
+
+#[test]
+fn wide_characters_are_inline_and_out_of_line(rt: HostRuntime) {
+    let alloc = rt.alloc();
+    let mut right = true;
+    for text in ["é", "éééé", "ééééé", "😀", "😀😀", "😀😀a", "ééééé😀😀😀😀"] {
+        right = right && is_kept::<Narrow>(alloc, text) && is_kept::<Wide>(alloc, text);
+    }
+    assert!(rt; right);
+}
+
+#[test]
+fn a_distance_that_does_not_fit_is_refused(rt: HostRuntime) {
+    let (mut local, mut inline, mut wide) = ([0; 8], [0; 8], [0; 16]);
+    let overflow = TextResolver { pos: 0 };
+    let fits = Archive::<Narrow>::resolve(
+        &"wonderful",
+        overflow,
+        2_147_483_648,
+        &mut local,
+    ).is_ok();
+    let long = Archive::<Narrow>::resolve(
+        &"wonderful",
+        overflow,
+        2_147_483_652,
+        &mut inline,
+    ).is_ok();
+    let short = Archive::<Narrow>::resolve(&"hello", overflow, 2_147_483_652, &mut inline).is_ok();
+    let text = "wonderfulwonderfu";
+    let wide_fits = Archive::<Wide>::resolve(&text, overflow, 2_147_483_652, &mut wide).is_ok();
+    assert_eq!(rt;
+        ([fits, long, short, wide_fits], local, inline, wide),
+        (
+            [true, false, true, true],
+            [0x89, 0, 0, 0, 0, 0, 0, 0x80],
+            *b"hello\xff\xff\xff",
+            *b"\x91\0\0\0\0\0\0\0\xfc\xff\xff\x7f\xff\xff\xff\xff"
+        )
+    );
+}

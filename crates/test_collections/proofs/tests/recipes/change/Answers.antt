@@ -1,0 +1,15 @@
+use Rattle.std.proofs.Common.{subst, sym}
+use Rattle.std.specs.Int.{w32}
+use Rattle.rkyv_base.specs.Numbers.{unsigned}
+use Rattle.rkyv_base.specs.Scalar.{scalar_spec}
+use Rattle.rkyv_base.specs.Seal.{bytes_in, pos_in}
+use Rattle.rkyv_base.specs.ElementSpec.{Viewable}
+use Rattle.rkyv_base.specs.Text.{text_spec}
+use Rattle.rkyv_collections.specs.MapSpec.{map_spec}
+use Rattle.test_collections.proofs.tests.recipes.change.Goals as goal
+
+pub get_seal-requires-in-Some-clause-map : goal.get_seal-requires-in-Some-clause-map
+get_seal-requires-in-Some-clause-map c =
+    let things = map_spec w32 (text_spec w32) (scalar_spec (unsigned w32)) in
+    let at = c.into_archive.ensures in
+    subst (λ b. Viewable things b (pos_in c.into_archive.result)) (sym at.bytes) (subst (Viewable things (bytes_in c.in-Some.things)) (sym at.place) c.in-Some.ensures.viewable)

@@ -1,0 +1,110 @@
+//! Tests of the number of calls of the iterators of pairs and of keys.
+
+use rkyv_base::width::Narrow;
+use rkyv_base::writer::VecWriter;
+use rkyv_collections::map::ArchivedHashMap;
+use rkyv_collections::set::ArchivedHashSet;
+use rkyv_scan::hash::FxHasher64;
+use std::alloc::Global;
+use std::cell::Cell;
+use std::iter;
+use test_support::asks::{Answer, answer_of, gives, most_asks, wanted};
+
+type Numbers = ArchivedHashMap<'static, i8, i8, FxHasher64, Narrow>;
+
+type Keys = ArchivedHashSet<'static, i8, FxHasher64, Narrow>;
+
+// Writes a map of `pairs` pairs under the claimed length `len`.
+// Returns the result, and the number of calls of the iterator.
+fn asks_of_map(
+    alloc: Global,
+    pairs: usize,
+    len: usize,
+    load_factor: (usize, usize),
+) -> (Answer, usize) {
+    let asks = Cell::new(0usize);
+    let mut writer = VecWriter::new(alloc);
+    let answer = Numbers::serialize_from_iter::<VecWriter, i8, i8, i8, i8, _>(
+        alloc,
+        iter::from_fn(|| if gives(&asks, pairs) {
+            Some((1i8, 2i8))
+        } else {
+            None
+        }),
+        len,
+        load_factor,
+        &mut writer,
+    );
+    (answer_of(answer, &writer), asks.get())
+}
+
+// Does the same with a set of `keys` keys.
+fn asks_of_set(
+    alloc: Global,
+    keys: usize,
+    len: usize,
+    load_factor: (usize, usize),
+) -> (Answer, usize) {
+    let asks = Cell::new(0usize);
+    let mut writer = VecWriter::new(alloc);
+    let answer = Keys::serialize_from_iter::<VecWriter, i8, i8, _>(
+        alloc,
+        iter::from_fn(|| if gives(&asks, keys) { Some(1i8) } else { None }),
+        len,
+        load_factor,
+        &mut writer,
+    );
+    (answer_of(answer, &writer), asks.get())
+}
+
+// Writes maps and sets of up to five items under claimed lengths of up to three.
+// Returns the numbers of maps and of sets with the expected result and without a surplus call.
+fn right_of_both(alloc: Global) -> (usize, usize) {
+    let (mut maps, mut sets) = (0usize, 0usize);
+    for len in 0..4 {
+        for items in 0..6 {
+            let (wanted, most) = (wanted(items, len), most_asks(items, len));
+            let (map, map_asks) = asks_of_map(alloc, items, len, (7, 8));
+            if map == wanted && map_asks <= most {
+                maps = maps.wrapping_add(1);
+            }
+            let (set, set_asks) = asks_of_set(alloc, items, len, (7, 8));
+            if set == wanted && set_asks <= most {
+                sets = sets.wrapping_add(1);
+            }
+        }
+    }
+    (maps, sets)
+}
+
+#[test]
+fn iterators_are_asked_once_more_than_is_claimed_at_most(rt: HostRuntime) {
+    assert_eq!(rt; right_of_both(rt.alloc()), (4 * 6, 4 * 6));
+}
+
+#[test]
+fn an_end_or_a_surplus_is_the_last_answer(rt: HostRuntime) {
+    let (all, alloc, usual) = (usize::MAX, rt.alloc(), (7, 8));
+    let maps = [
+        asks_of_map(alloc, 2, 3, usual),
+        asks_of_map(alloc, 1, 0, usual),
+        asks_of_map(alloc, all, 2, usual),
+        asks_of_map(alloc, 0, 0, usual),
+        asks_of_map(alloc, 1, 1, (8, 7)),
+    ];
+    let sets = [
+        asks_of_set(alloc, 2, 3, usual),
+        asks_of_set(alloc, 1, 0, usual),
+        asks_of_set(alloc, all, 2, usual),
+        asks_of_set(alloc, 0, 0, usual),
+        asks_of_set(alloc, 1, 1, (8, 7)),
+    ];
+    let wanted = [
+        (Answer::Mismatch(3, 2), 3),
+        (Answer::Mismatch(0, 1), 1),
+        (Answer::Mismatch(2, 3), 3),
+        (Answer::Written, 1),
+        (Answer::LoadFactor(8, 7), 0),
+    ];
+    assert_eq!(rt; (maps, sets), (wanted, wanted));
+}

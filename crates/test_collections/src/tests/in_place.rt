@@ -1,0 +1,121 @@
+//! Tests of values of maps that a closure or a cursor writes over the plain bytes.
+
+use rkyv_base::access::{access_in, access_mut};
+use rkyv_base::element::Element;
+use rkyv_base::errors::VerifyError;
+use rkyv_base::scalars::Scalar;
+use rkyv_base::width::{Narrow, Width};
+use rkyv_collections::map::{ArchivedHashMap, HashMapOf};
+use rkyv_keys::keys::{KeyElement, Query};
+use rkyv_scan::hash::{FxHasher64, KeyHasher};
+use test_support::archives::four_pairs;
+
+type Small = HashMapOf<i8, i8>;
+
+// Writes `byte` at `pos`, if the archive has this position. Returns `pos`.
+fn change(archive: &mut [u8], pos: u64, byte: u8) -> u64 {
+    match archive.get_mut(pos as usize) {
+        Some(old) => *old = byte,
+        None => {}
+    }
+    pos
+}
+
+// Returns the archive of the four pairs with other buckets.
+fn four_with(buckets: [u8; 10]) -> [u8; 56] {
+    let mut bytes = four_pairs();
+    bytes[..10].copy_from_slice(&buckets);
+    bytes
+}
+
+// Writes a byte over the value of a key. Returns the position of the value, if the key is found.
+fn change_found<K: KeyElement, N: Scalar, H: KeyHasher, W: Width, Q: Query<K>>(
+    bytes: &mut [u8],
+    key: &Q,
+    byte: u8,
+) -> Result<Option<u64>, VerifyError>
+    requires { Q.can_read key.now }
+{
+    let root = match access_in::<W, HashMapOf<K, N, H, W>>(&*bytes) {
+        Ok(map) => map.pos(),
+        Err(e) => return Err(e),
+    };
+    Ok(ArchivedHashMap::<K, N, H, W>::found_with(
+        bytes,
+        root,
+        key,
+        |archive: &mut [u8], pos: u64| change(archive, pos, byte),
+    ))
+}
+
+// Does the same in a map of `i8` to `i8`.
+fn change_small(bytes: &mut [u8], key: i8, byte: u8) -> Option<Option<u64>> {
+    change_found::<i8, i8, FxHasher64, Narrow, i8>(bytes, &key, byte).ok()
+}
+
+#[test]
+fn a_found_value_is_written_over_the_bare_bytes(rt: HostRuntime) {
+    let mut bytes = four_pairs();
+    let place = change_small(&mut bytes, 7, 70);
+    let same = bytes == four_with([3, 4, 1, 2, 0, 0, 7, 70, 5, 6]);
+    assert_eq!(rt; (place, same), (Some(Some(7)), true));
+}
+
+#[test]
+fn where_no_key_fits_the_bare_bytes_stay(rt: HostRuntime) {
+    let mut bytes = four_pairs();
+    let place = change_small(&mut bytes, 9, 70);
+    assert_eq!(rt; (place, bytes == four_pairs()), (Some(None), true));
+}
+
+// Writes a byte behind the key of each pair while the cursor steps. Returns the results of five
+// steps, which are positions of keys or `None`, and the number of pairs left.
+fn change_stepping(bytes: &mut [u8], byte: u8) -> Result<([Option<u64>; 5], usize), VerifyError> {
+    let whole = access_mut::<Small>(bytes)?;
+    let mut rest = ArchivedHashMap::iter_seal(whole);
+    let mut positions = [None; 5];
+    for place in &mut positions {
+        *place = rest.next_with(|archive: &mut [u8], pos: u64| {
+            let _value = change(archive, pos.wrapping_add(1), byte);
+        });
+    }
+    Ok((positions, rest.len()))
+}
+
+#[test]
+fn pairs_are_written_while_the_cursor_steps(rt: HostRuntime) {
+    let mut bytes = four_pairs();
+    let stepped = change_stepping(&mut bytes, 20).ok();
+    let same = bytes == four_with([3, 20, 1, 20, 0, 0, 7, 20, 5, 20]);
+    assert_eq!(rt;
+        (stepped, same),
+        (Some(([Some(8), Some(6), Some(2), Some(0), None], 0)), true)
+    );
+}
+
+// Writes these numbers over the values of the map in the plain bytes, one after the other.
+// Returns the number of values left.
+fn write_over<K: Element, N: Scalar, H, W: Width>(
+    bytes: &mut [u8],
+    values: &[N],
+) -> Result<usize, VerifyError> {
+    let root = match access_in::<W, HashMapOf<K, N, H, W>>(&*bytes) {
+        Ok(map) => map.pos(),
+        Err(e) => return Err(e),
+    };
+    let mut rest = ArchivedHashMap::<K, N, H, W>::values_over(bytes, root);
+    for value in values {
+        if let Some(pos) = rest.next_pos() {
+            rest.set_at(pos, *value);
+        }
+    }
+    Ok(rest.len())
+}
+
+#[test]
+fn values_are_written_over_the_bare_bytes(rt: HostRuntime) {
+    let mut bytes = four_pairs();
+    let left = write_over::<i8, i8, FxHasher64, Narrow>(&mut bytes, &[10, 11, 12]).ok();
+    let same = bytes == four_with([3, 4, 1, 12, 0, 0, 7, 11, 5, 10]);
+    assert_eq!(rt; (left, same), (Some(1), true));
+}

@@ -1,0 +1,77 @@
+//! Tests of lists of items that are archived as sets.
+
+use rkyv_base::access::access;
+use rkyv_base::errors::{VerifyError, WriteError};
+use rkyv_base::root::to_bytes;
+use rkyv_collections::SetItems;
+use rkyv_collections::set::{ArchivedHashSet, HashSetOf};
+use std::alloc::Global;
+use test_support::archives::{archive, three_keys};
+
+// Returns the archive of a list of items, as a set.
+fn archive_of(alloc: Global, items: SetItems<'_, u8>) -> Option<Vec<u8>> {
+    to_bytes(alloc, &items).ok()
+}
+
+// Returns the length of an archived set, the number of items in a walk, and whether it has 1 and 4.
+fn read(bytes: &[u8]) -> Result<(usize, usize, [bool; 2]), VerifyError> {
+    let set = ArchivedHashSet::of(access::<HashSetOf<u8>>(bytes)?);
+    let mut walked = 0usize;
+    for _ in set.iter() {
+        walked = walked.wrapping_add(1);
+    }
+    let has = [set.contains(&1u8), set.contains(&4u8)];
+    Ok((set.len(), walked, has))
+}
+
+// Returns whether the archive of a list is `archive`, and the results of `read` for it.
+fn written_and_read(
+    alloc: Global,
+    items: SetItems<'_, u8>,
+    archive: &[u8],
+) -> Option<(bool, (usize, usize, [bool; 2]))> {
+    let bytes = archive_of(alloc, items)?;
+    let answers = read(bytes.as_slice()).ok()?;
+    Some((bytes.as_slice() == archive, answers))
+}
+
+// Returns the set of the items 1 and 1, in four buckets: entries at 0, controls at 4, header at 36.
+fn one_item_twice() -> [u8; 48] {
+    archive(
+        &[0, 1, 1, 0, 0xff, 0x28, 0x28, 0xff, 0xff, 0x28, 0x28],
+        &[0, 0xe0, 0xff, 0xff, 0xff, 2, 0, 0, 0, 4, 0, 0, 0],
+    )
+}
+
+#[test]
+fn a_list_is_archived_as_a_set(rt: HostRuntime) {
+    let items = [1, 2, 3];
+    let read = written_and_read(rt.alloc(), SetItems::new(&items), &three_keys());
+    assert_eq!(rt; read, Some((true, (3, 3, [true, false]))));
+}
+
+#[test]
+fn equal_items_of_a_list_are_kept(rt: HostRuntime) {
+    let items = [1, 1];
+    let list = SetItems::with_load_factor(&items, (1, 2));
+    let read = written_and_read(rt.alloc(), list, &one_item_twice());
+    assert_eq!(rt; read, Some((true, (2, 2, [true, false]))));
+}
+
+// Returns whether writing a list fails with the error for its load factor.
+fn is_refused(alloc: Global, items: SetItems<'_, u8>) -> bool {
+    matches!(
+        to_bytes(alloc, &items),
+        Err(WriteError::InvalidLoadFactor {
+            numerator: 8,
+            denominator: 7,
+        })
+    )
+}
+
+#[test]
+fn a_list_under_a_load_factor_above_1_is_refused(rt: HostRuntime) {
+    let items = [1];
+    let refused = is_refused(rt.alloc(), SetItems::with_load_factor(&items, (8, 7)));
+    assert!(rt; refused);
+}

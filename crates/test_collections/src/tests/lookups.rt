@@ -1,0 +1,73 @@
+//! Tests of several lookups in one map.
+
+use rkyv_base::access::access_in;
+use rkyv_base::errors::VerifyError;
+use rkyv_base::scalars::Scalar;
+use rkyv_base::width::{Narrow, Wide, Width};
+use rkyv_collections::map::{ArchivedHashMap, HashMapOf};
+use rkyv_keys::keys::{KeyElement, Query};
+use rkyv_scan::hash::{FxHasher64, KeyHasher};
+use test_support::archives::{four_pairs, no_items, one_key_twice, one_wide_number};
+
+// Returns the value of a key, the positions of both, and whether the map has the key.
+fn found<K: KeyElement, N: Scalar, H: KeyHasher, W: Width, Q: Query<K>>(
+    bytes: &[u8],
+    key: &Q,
+) -> Result<(Option<N>, Option<(u64, u64)>, bool), VerifyError>
+    requires { Q.can_read key.now }
+{
+    let root = access_in::<W, HashMapOf<K, N, H, W>>(bytes)?;
+    let map = ArchivedHashMap::<K, N, H, W>::of(root);
+    let there = map.contains_key(key);
+    let positions = match map.get_key_value(key) {
+        Some((stored, value)) => Some((stored.pos(), value.pos())),
+        None => None,
+    };
+    match map.get(key) {
+        Some(value) => Ok((Some(value.to_native()), positions, there)),
+        None => Ok((None, positions, there)),
+    }
+}
+
+// Does the same in a map of `i8` to `i8`.
+fn small(bytes: &[u8], key: i8) -> Option<(Option<i8>, Option<(u64, u64)>, bool)> {
+    found::<i8, i8, FxHasher64, Narrow, i8>(bytes, &key).ok()
+}
+
+#[test]
+fn pairs_are_found_with_their_positions(rt: HostRuntime) {
+    let four = four_pairs();
+    let found = [
+        small(&four, 1),
+        small(&four, 5),
+        small(&four, 2),
+        small(&one_key_twice(), 1),
+        small(&no_items(), 1),
+    ];
+    assert_eq!(rt;
+        found,
+        [
+            Some((Some(2), Some((2, 3)), true)),
+            Some((Some(6), Some((8, 9)), true)),
+            Some((None, None, false)),
+            Some((Some(2), Some((4, 5)), true)),
+            Some((None, None, false))
+        ]
+    );
+}
+
+#[test]
+fn a_pair_of_a_wide_archive_is_found_with_its_position(rt: HostRuntime) {
+    let bytes = one_wide_number();
+    let found = [
+        found::<u32, u32, FxHasher64, Wide, u32>(&bytes, &1).ok(),
+        found::<u32, u32, FxHasher64, Wide, u32>(&bytes, &2).ok(),
+    ];
+    assert_eq!(rt;
+        found,
+        [
+            Some((Some(2), Some((0, 4)), true)),
+            Some((None, None, false))
+        ]
+    );
+}

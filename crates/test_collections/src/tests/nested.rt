@@ -1,0 +1,70 @@
+//! Tests of a map whose values are maps: writing, reading, and values that share bytes.
+
+use rkyv_base::access::access;
+use rkyv_base::entry::Entry;
+use rkyv_base::errors::VerifyError;
+use rkyv_collections::MapPairs;
+use rkyv_collections::map::{ArchivedHashMap, HashMapOf};
+use std::alloc::Global;
+use test_support::archives::two_maps;
+use test_support::written::is_archived_as;
+
+type Inner = HashMapOf<u16, u16>;
+
+type Outer = HashMapOf<Entry<u8, u8>, Inner>;
+
+type Numbers<'a> = MapPairs<'a, u16, u16>;
+
+// Returns whether (1, 2) and (3, 4), each mapped to the map of 1337 to 42, are archived as `bytes`.
+fn two_maps_are(alloc: Global, bytes: &[u8]) -> bool {
+    let inner: Numbers<'_> = MapPairs::new(&[(1337, 42)]);
+    let pairs = [((1u8, 2u8), inner), ((3, 4), inner)];
+    let list: MapPairs<'_, (u8, u8), Numbers<'_>> = MapPairs::new(&pairs);
+    is_archived_as(alloc, &list, bytes)
+}
+
+// Returns the number of values that map 1337 to 42. Then comes whether the outer map has the keys
+// (1, 2), (3, 4) and (1, 4).
+fn reads(bytes: &[u8]) -> Result<(usize, [bool; 3]), VerifyError> {
+    let map = ArchivedHashMap::of(access::<Outer>(bytes)?);
+    let mut count = 0usize;
+    for value in map.values() {
+        match ArchivedHashMap::of(value).get(&1337u16) {
+            Some(number) if number.to_native() == 42 => count = count.wrapping_add(1),
+            _ => {}
+        }
+    }
+    let keys = [
+        map.contains_key(&(1u8, 2u8)),
+        map.contains_key(&(3u8, 4u8)),
+        map.contains_key(&(1u8, 4u8)),
+    ];
+    Ok((count, keys))
+}
+
+#[test]
+fn two_maps_are_written(rt: HostRuntime) {
+    assert!(rt; two_maps_are(rt.alloc(), &two_maps()));
+}
+
+#[test]
+fn two_maps_are_read(rt: HostRuntime) {
+    assert_eq!(rt; reads(&two_maps()).ok(), Some((2, [true, true, false])));
+}
+
+// Returns the archive of the two maps, with both values at the bytes of the first map.
+fn one_map_twice() -> [u8; 172] {
+    let mut bytes = two_maps();
+    bytes[84..88].copy_from_slice(&(-76i32).to_le_bytes());
+    bytes
+}
+
+#[test]
+fn maps_share_no_bytes(rt: HostRuntime) {
+    assert!(rt;
+        matches!(
+            access::<Outer>(&one_map_twice()),
+            Err(VerifyError::OutOfRange { pos: 0, size: 39 })
+        )
+    );
+}

@@ -1,0 +1,349 @@
+//! The programs of the page of recipes that are about maps and sets.
+
+ghost use Rattle.std.specs.Int.{w32};
+ghost use Rattle.std.specs.Prelude.{IfOk, IfSome, length, ◌+◌, ◌≤◌};
+ghost use Rattle.rkyv_base.specs.Numbers.{unsigned};
+ghost use Rattle.rkyv_base.specs.Scalar.{scalar_spec};
+ghost use Rattle.rkyv_base.specs.ElementSpec.{Viewable};
+ghost use Rattle.rkyv_base.specs.Text.{text_spec};
+ghost use Rattle.rkyv_collections.specs.MapSpec.{map_spec};
+
+use rkyv_base::access::{access, access_in, access_mut};
+use rkyv_base::entry::Entry;
+use rkyv_base::errors::{VerifyError, WriteError};
+use rkyv_base::root::{to_bytes, to_bytes_in};
+use rkyv_base::seal::set_at;
+use rkyv_base::text::Text;
+use rkyv_base::width::{Narrow, Wide};
+use rkyv_base::writer::NoMemory;
+use rkyv_collections::map::in_place::set_value_of;
+use rkyv_collections::map::{ArchivedHashMap, HashMapOf};
+use rkyv_collections::set::{ArchivedHashSet, HashSetOf};
+use rkyv_collections::std_maps::hashed::Hashed;
+use rkyv_collections::{FxHasher64, MapPairs, SetItems};
+use std::alloc::Global;
+use std::collections::{HashMap, HashSet};
+use std::hash::{BuildHasherDefault, RandomState};
+use std::test::Fail;
+
+type Ages = HashMap<String, u8>;
+
+// Returns a map of std's with two pairs.
+fn two_ages(alloc: Global) -> Result<Ages, Fail> {
+    let mut ages = HashMap::new(alloc);
+    ages.insert(String::from_str(alloc, "ann")?, 41)?;
+    ages.insert(String::from_str(alloc, "bob")?, 7)?;
+    Ok(ages)
+}
+
+// Archives a map of std's, and reads it back.
+fn ages_come_back(alloc: Global, ages: Ages) -> Result<Ages, Fail> {
+    let ages: Hashed<Ages> = Hashed::new(ages);
+    let archive = to_bytes(alloc, &ages)?;
+    let map = ArchivedHashMap::of(access::<HashMapOf<Text, u8>>(archive.as_slice())?);
+    Ok(map.deserialize_std(alloc, BuildHasherDefault::new())?)
+}
+
+#[test]
+fn a_map_of_std(rt: HostRuntime) -> Result<(), Fail> {
+    let alloc = rt.alloc();
+    let back = ages_come_back(alloc, two_ages(alloc)?)?;
+    let ages = two_ages(alloc)?;
+    assert!(rt; back == ages);
+    Ok(())
+}
+
+// Archives a set of std's, and reads it back with a state of its own.
+fn primes_come_back(alloc: Global, state: RandomState) -> Result<HashSet<u32, RandomState>, Fail> {
+    let mut primes = HashSet::new(alloc);
+    primes.insert(2)?;
+    primes.insert(3)?;
+    let primes: Hashed<HashSet<u32>> = Hashed::new(primes);
+    let archive = to_bytes(alloc, &primes)?;
+    let set = ArchivedHashSet::of(access::<HashSetOf<u32>>(archive.as_slice())?);
+    Ok(set.deserialize_std(alloc, state)?)
+}
+
+#[test]
+fn a_set_of_std(rt: HostRuntime) -> Result<(), Fail> {
+    let back = primes_come_back(rt.alloc(), RandomState::new(&rt)?)?;
+    let found = (back.len(), back.contains(&3), back.contains(&4));
+    assert_eq!(rt; found, (2, true, false));
+    Ok(())
+}
+
+type Rooms = HashMapOf<Text, HashMapOf<Text, u32>>;
+
+// Archives two rooms, each with the numbers of its things.
+fn write_rooms(alloc: Global) -> Result<Vec<u8>, WriteError<NoMemory>> {
+    let north = MapPairs::new(&[("desk", 2), ("chair", 4)]);
+    let south = MapPairs::new(&[("desk", 1)]);
+    let rooms = [("north", north), ("south", south)];
+    let list: MapPairs<'_, &str, MapPairs<'_, &str, u32>> = MapPairs::new(&rooms);
+    to_bytes(alloc, &list)
+}
+
+// Returns the number of a thing in a room.
+fn number_of(archive: &[u8], room: &str, thing: &str) -> Result<Option<u32>, VerifyError> {
+    let rooms = ArchivedHashMap::of(access::<Rooms>(archive)?);
+    match rooms.get(&room) {
+        Some(things) => match ArchivedHashMap::of(things).get(&thing) {
+            Some(number) => Ok(Some(number.to_native())),
+            None => Ok(None),
+        },
+        None => Ok(None),
+    }
+}
+
+// Writes the number of a thing, by a seal of each map. Returns `false` if there is none.
+fn change(archive: &mut [u8], room: &str, thing: &str, number: u32) -> Result<bool, VerifyError> {
+    let rooms = access_mut::<Rooms>(archive)?;
+    match ArchivedHashMap::get_seal(rooms, &room) {
+        Some(things) => match ArchivedHashMap::get_seal(things.into_archive(), &thing) {
+            Some(mut seal) => {
+                seal.set(number);
+                Ok(true)
+            }
+            None => Ok(false),
+        },
+        None => Ok(false),
+    }
+}
+
+// Returns the position of a room's map, which is valid.
+fn pos_of_room(archive: &[u8], room: &str) -> Result<Option<u64>, VerifyError>
+    ensures { IfOk result (λ found. IfSome found (Viewable
+        (map_spec w32 (text_spec w32) (scalar_spec (unsigned w32))) archive.now)) }
+{
+    let root = match access::<Rooms>(archive) {
+        Ok(root) => root,
+        Err(refused) => return Err(refused),
+    };
+    let map = ArchivedHashMap::of(root);
+    match map.get(&room) {
+        Some(things) => Ok(Some(things.pos())),
+        None => Ok(None),
+    }
+}
+
+// Writes the number of a thing in a room. Returns `false` if there is none.
+fn set_number(
+    archive: &mut [u8],
+    room: &str,
+    thing: &str,
+    number: u32,
+) -> Result<bool, VerifyError> {
+    match pos_of_room(&*archive, room) {
+        Ok(Some(pos)) => Ok(set_value_of::<&str, Text, u32, FxHasher64, Narrow>(
+            archive, pos, &thing, number,
+        )),
+        Ok(None) => Ok(false),
+        Err(refused) => Err(refused),
+    }
+}
+
+#[test]
+fn a_map_of_maps(rt: HostRuntime) -> Result<(), Fail> {
+    let mut archive = write_rooms(rt.alloc())?;
+    let before = number_of(archive.as_slice(), "north", "chair")?;
+    let written = [
+        set_number(archive.as_mut_slice(), "north", "chair", 5)?,
+        set_number(archive.as_mut_slice(), "south", "chair", 6)?,
+        set_number(archive.as_mut_slice(), "west", "chair", 7)?,
+        change(archive.as_mut_slice(), "south", "desk", 8)?,
+        change(archive.as_mut_slice(), "south", "chair", 9)?,
+    ];
+    assert_eq!(rt;
+        (before, written),
+        (Some(4), [true, false, false, true, false])
+    );
+    let numbers = [
+        number_of(archive.as_slice(), "north", "chair")?,
+        number_of(archive.as_slice(), "north", "desk")?,
+        number_of(archive.as_slice(), "south", "desk")?,
+    ];
+    assert_eq!(rt; numbers, [Some(5), Some(2), Some(8)]);
+    Ok(())
+}
+
+type Prices = HashMapOf<Text, u32>;
+
+// Writes the price of a name. Returns `false` if the map has no such name.
+fn set_price(archive: &mut [u8], name: &str, price: u32) -> Result<bool, VerifyError> {
+    let root = match access::<Prices>(&*archive) {
+        Ok(prices) => prices.pos(),
+        Err(refused) => return Err(refused),
+    };
+    Ok(set_value_of::<&str, Text, u32, FxHasher64, Narrow>(archive, root, &name, price))
+}
+
+// Adds 1 to the price of a name, by a seal. Returns the price before.
+fn raise_price(archive: &mut [u8], name: &str) -> Result<Option<u32>, VerifyError> {
+    let prices = access_mut::<Prices>(archive)?;
+    match ArchivedHashMap::get_seal(prices, &name) {
+        Some(mut price) => {
+            let before = price.to_native();
+            price.set(before.wrapping_add(1));
+            Ok(Some(before))
+        }
+        None => Ok(None),
+    }
+}
+
+// Doubles each price, by a cursor over the values.
+fn double_prices(archive: &mut [u8]) -> Result<(), VerifyError> {
+    let mut rest = ArchivedHashMap::values_seal(access_mut::<Prices>(archive)?);
+    for _ in 0..rest.len() {
+        if let Some(mut price) = rest.next_seal() {
+            let doubled = price.to_native().wrapping_mul(2);
+            price.set(doubled);
+        }
+    }
+    Ok(())
+}
+
+// Sets each price of more than a limit to the limit, by a cursor over the pairs, but for one name.
+fn cap_prices(archive: &mut [u8], limit: u32, free: &str) -> Result<(), VerifyError> {
+    let mut rest = ArchivedHashMap::iter_seal(access_mut::<Prices>(archive)?);
+    for _ in 0..rest.len() {
+        if let Some((name, mut price)) = rest.next_seal() {
+            if price.to_native() > limit && name.as_str() != free {
+                price.set(limit);
+            }
+        }
+    }
+    Ok(())
+}
+
+fn price_of(archive: &[u8], name: &str) -> Result<Option<u32>, VerifyError> {
+    match ArchivedHashMap::of(access::<Prices>(archive)?).get(&name) {
+        Some(price) => Ok(Some(price.to_native())),
+        None => Ok(None),
+    }
+}
+
+fn prices(archive: &[u8]) -> Result<[Option<u32>; 3], VerifyError> {
+    Ok([
+        price_of(archive, "tea")?,
+        price_of(archive, "coffee")?,
+        price_of(archive, "cake")?,
+    ])
+}
+
+fn write_prices(alloc: Global) -> Result<Vec<u8>, WriteError<NoMemory>> {
+    let list: MapPairs<'_, &str, u32> = MapPairs::new(&[("tea", 3), ("coffee", 4), ("cake", 5)]);
+    to_bytes(alloc, &list)
+}
+
+#[test]
+fn prices_in_place(rt: HostRuntime) -> Result<(), Fail> {
+    let mut archive = write_prices(rt.alloc())?;
+    let written = set_price(archive.as_mut_slice(), "tea", 2)?;
+    let missing = set_price(archive.as_mut_slice(), "milk", 9)?;
+    let before = raise_price(archive.as_mut_slice(), "cake")?;
+    assert_eq!(rt; (written, missing, before), (true, false, Some(5)));
+    let first = prices(archive.as_slice())?;
+    assert_eq!(rt; first, [Some(2), Some(4), Some(6)]);
+    double_prices(archive.as_mut_slice())?;
+    let doubled = prices(archive.as_slice())?;
+    assert_eq!(rt; doubled, [Some(4), Some(8), Some(12)]);
+    cap_prices(archive.as_mut_slice(), 6, "cake")?;
+    let capped = prices(archive.as_slice())?;
+    assert_eq!(rt; capped, [Some(4), Some(6), Some(12)]);
+    Ok(())
+}
+
+type Points = HashMapOf<Text, Entry<i32, i32>>;
+
+// Writes both parts of the pair at `pos`.
+fn write_point(bytes: &mut [u8], pos: u64, point: (i32, i32))
+    requires { pos + 8 ≤ length bytes.old }
+{
+    set_at(bytes, pos as usize, point.0);
+    set_at(bytes, pos as usize + 4, point.1);
+}
+
+// Writes the point of a name. Returns `false` if the map has no such name.
+fn move_point(archive: &mut [u8], name: &str, point: (i32, i32)) -> Result<bool, VerifyError> {
+    let root = match access::<Points>(&*archive) {
+        Ok(points) => points.pos(),
+        Err(refused) => return Err(refused),
+    };
+    let found = ArchivedHashMap::<Text, Entry<i32, i32>, FxHasher64, Narrow>::found_with(
+        archive,
+        root,
+        &name,
+        |bytes: &mut [u8], pos: u64| write_point(bytes, pos, point),
+    );
+    Ok(found.is_some())
+}
+
+// Returns the point of a name.
+fn point_of(archive: &[u8], name: &str) -> Result<Option<(i32, i32)>, VerifyError> {
+    match ArchivedHashMap::of(access::<Points>(archive)?).get(&name) {
+        Some(point) => Ok(Some((point.key().to_native(), point.value().to_native()))),
+        None => Ok(None),
+    }
+}
+
+#[test]
+fn points_in_place(rt: HostRuntime) -> Result<(), Fail> {
+    let list: MapPairs<'_, &str, (i32, i32)> = MapPairs::new(&[("a", (1, 2)), ("b", (3, 4))]);
+    let mut archive = to_bytes(rt.alloc(), &list)?;
+    let moved = move_point(archive.as_mut_slice(), "b", (-3, 5))?;
+    let missing = move_point(archive.as_mut_slice(), "c", (0, 0))?;
+    assert_eq!(rt; (moved, missing), (true, false));
+    let points = [
+        point_of(archive.as_slice(), "a")?,
+        point_of(archive.as_slice(), "b")?,
+    ];
+    assert_eq!(rt; points, [Some((1, 2)), Some((-3, 5))]);
+    Ok(())
+}
+
+type Sizes = HashMapOf<Text<Wide>, u64, FxHasher64, Wide>;
+
+// Archives names with sizes, with positions of 64 bits.
+fn write_sizes(alloc: Global, sizes: &[(&str, u64)]) -> Result<Vec<u8>, WriteError<NoMemory>> {
+    let list: MapPairs<'_, &str, u64> = MapPairs::new(sizes);
+    to_bytes_in::<Wide, MapPairs<'_, &str, u64>>(alloc, &list)
+}
+
+// Returns the size of a name.
+fn size_of(archive: &[u8], name: &str) -> Result<Option<u64>, VerifyError> {
+    let sizes = ArchivedHashMap::of(access_in::<Wide, Sizes>(archive)?);
+    match sizes.get(&name) {
+        Some(size) => Ok(Some(size.to_native())),
+        None => Ok(None),
+    }
+}
+
+#[test]
+fn a_wide_archive(rt: HostRuntime) -> Result<(), Fail> {
+    let archive = write_sizes(rt.alloc(), &[("disk", 5_000_000_000), ("file", 12)])?;
+    let disk = size_of(archive.as_slice(), "disk")?;
+    let tape = size_of(archive.as_slice(), "tape")?;
+    assert_eq!(rt; (disk, tape), (Some(5_000_000_000), None));
+    Ok(())
+}
+
+// Archives words as a set.
+fn write_words(alloc: Global, words: &[&str]) -> Result<Vec<u8>, WriteError<NoMemory>> {
+    let items: SetItems<'_, &str> = SetItems::new(words);
+    to_bytes(alloc, &items)
+}
+
+// Returns the number of words, and whether one is among them.
+fn has_word(archive: &[u8], word: &str) -> Result<(usize, bool), VerifyError> {
+    let words = ArchivedHashSet::of(access::<HashSetOf<Text>>(archive)?);
+    Ok((words.len(), words.contains(&word)))
+}
+
+#[test]
+fn a_set(rt: HostRuntime) -> Result<(), Fail> {
+    let archive = write_words(rt.alloc(), &["red", "green"])?;
+    let green = has_word(archive.as_slice(), "green")?;
+    let blue = has_word(archive.as_slice(), "blue")?;
+    assert_eq!(rt; (green, blue), ((2, true), (2, false)));
+    Ok(())
+}

@@ -1,0 +1,493 @@
+//! Tests of values of maps that are written in place.
+ghost use Rattle.std.specs.Prelude.{IfOk, IfSome, ℕ, ◌≡◌};
+ghost use Rattle.std.specs.Option.{option_map};
+ghost use Rattle.rkyv_base.specs.Sealing.{value_at, value_pos};
+ghost use Rattle.rkyv_base.specs.ElementSpec.{Viewable};
+ghost use Rattle.rkyv_scan.specs.Hash.{hash_of_calls};
+ghost use Rattle.rkyv_collections.specs.Map.{hash_at};
+ghost use Rattle.rkyv_collections.specs.MapAt.{map_at};
+ghost use Rattle.rkyv_collections.specs.MapSpec.{IsKeyPosAt, map_spec};
+ghost use Rattle.test_collections.specs.InMaps.{FindsIn, KeepsIn};
+
+use crate::tests::answers::number_of;
+use rkyv_base::access::{access, access_in, access_mut};
+use rkyv_base::element::Element;
+use rkyv_base::errors::VerifyError;
+use rkyv_base::root::to_bytes;
+use rkyv_base::scalars::Scalar;
+use rkyv_base::seal::set_at;
+use rkyv_base::text::Text;
+use rkyv_base::view::View;
+use rkyv_base::width::{Narrow, Width};
+use rkyv_collections::MapPairs;
+use rkyv_collections::map::sealed::{value_writes_keep_maps, values_written_represent};
+use rkyv_collections::map::{ArchivedHashMap, HashMapOf};
+use rkyv_keys::keys::{KeyElement, Query};
+use rkyv_scan::hash::{FxHasher64, KeyHasher};
+use std::alloc::Global;
+use test_support::archives::{four_pairs, one_number};
+
+type Numbers = HashMapOf<u32, u32>;
+
+type Small = HashMapOf<i8, i8>;
+
+type Texts = HashMapOf<Text, Text>;
+
+// Returns the position of a key's value, by a plain lookup in the map at `root`.
+fn value_found<K: KeyElement, V: Element, H: KeyHasher, W: Width, Q: Query<K>>(
+    bytes: &[u8],
+    root: u64,
+    key: &Q,
+) -> Option<u64>
+    requires map { Viewable (map_spec W.word K.spec V.spec) bytes.now root }
+    requires query { Q.can_read key.now }
+    ensures walked { IfSome result (λ pos. (place : ℕ)
+        × IsKeyPosAt W.word K.spec V.spec bytes.now root place
+        × (pos ≡ value_pos K.spec V.spec place)) }
+    ensures answer { let hash = hash_of_calls H.hasher (Q.calls key.now) in
+        FindsIn (map_at W.Word K.HasSpec V.HasSpec bytes.now root) hash (Q.fits key.now)
+        (λ place. result ≡ option_map (value_pos K.spec V.spec) place) }
+{
+    let map = ArchivedHashMap::<K, V, H, W>::of(View::new(bytes, root));
+    match map.get(key) {
+        Some(value) => Some(value.pos()),
+        None => None,
+    }
+}
+
+// Writes the value at `pos` of the map at `root`, over the plain bytes.
+fn write_value<K: KeyElement, N: Scalar, H: KeyHasher, W: Width>(
+    bytes: &mut [u8],
+    root: u64,
+    pos: u64,
+    value: N,
+)
+    requires map { Viewable (map_spec W.word K.spec N.spec) bytes.old root }
+    requires place { (place : ℕ) × IsKeyPosAt W.word K.spec N.spec bytes.old
+        root place × (pos ≡ value_pos K.spec N.spec place) }
+    ensures kept { let key_hash = hash_at H.hasher K.key_calls in
+        (i : ℕ) × KeepsIn (map_at W.Word K.HasSpec N.HasSpec bytes.old root) key_hash bytes.new i }
+    ensures reads { value_at N.encoding bytes.new pos ≡ value }
+{
+    set_at(bytes, pos as usize, value);
+}
+
+// Writes the value of a key in place, if the map has the key, and looks the key up again.
+// Returns the value from the second lookup, which is the new value.
+fn stored<K: KeyElement, N: Scalar, H: KeyHasher, W: Width, Q: Query<K>>(
+    bytes: &mut [u8],
+    root: u64,
+    key: &Q,
+    value: N,
+) -> Option<N>
+    requires map { Viewable (map_spec W.word K.spec N.spec) bytes.old root }
+    requires query { Q.can_read key.now }
+    ensures { let hash = hash_of_calls H.hasher (Q.calls key.now) in
+        FindsIn (map_at W.Word K.HasSpec N.HasSpec bytes.old root) hash (Q.fits key.now)
+        (λ at. result ≡ option_map (λ _. value) at) }
+{
+    let pos = match value_found::<K, N, H, W, Q>(&*bytes, root, key) {
+        Some(pos) => pos,
+        None => return None,
+    };
+    write_value::<K, N, H, W>(bytes, root, pos, value);
+    match value_found::<K, N, H, W, Q>(&*bytes, root, key) {
+        Some(found) => Some(View::<N>::new(&*bytes, found).to_native()),
+        None => None,
+    }
+}
+
+// Does the same as `stored`, after it validates the archive.
+fn stored_in<K: KeyElement, N: Scalar, H: KeyHasher, W: Width, Q: Query<K>>(
+    bytes: &mut [u8],
+    key: &Q,
+    value: N,
+) -> Result<Option<N>, VerifyError>
+    requires { Q.can_read key.now }
+    ensures { IfOk result (λ found. IfSome found (λ n. n ≡ value)) }
+{
+    let root = match access_in::<W, HashMapOf<K, N, H, W>>(&*bytes) {
+        Ok(map) => map.pos(),
+        Err(e) => return Err(e),
+    };
+    Ok(stored::<K, N, H, W, Q>(bytes, root, key, value))
+}
+
+// Does the same as `stored_in`, with numbers.
+fn number_stored(bytes: &mut [u8], key: u32, value: u32) -> Result<Option<u32>, VerifyError>
+    ensures { IfOk result (λ found. IfSome found (λ n. n ≡ value)) }
+{
+    stored_in::<u32, u32, FxHasher64, Narrow, u32>(bytes, &key, value)
+}
+
+#[test]
+fn a_stored_value_is_looked_up(rt: HostRuntime) {
+    let mut bytes = one_number();
+    let stored = [
+        number_stored(&mut bytes, 1, 7).ok(),
+        number_stored(&mut bytes, 2, 7).ok(),
+    ];
+    assert_eq!(rt; (stored, bytes[4]), ([Some(Some(7)), Some(None)], 7));
+}
+
+// Writes a number over the value of a key. Returns the values before and after the write.
+fn replace(bytes: &mut [u8], key: u32, value: u32) -> Result<Option<(u32, u32)>, VerifyError> {
+    let whole = access_mut::<Numbers>(bytes)?;
+    match ArchivedHashMap::get_seal(whole, &key) {
+        Some(mut seal) => {
+            let before = seal.to_native();
+            seal.set(value);
+            Ok(Some((before, seal.to_native())))
+        }
+        None => Ok(None),
+    }
+}
+
+// Does the same by `get_key_value_seal`. Returns the key, and the value before the write.
+fn replace_beside_key(
+    bytes: &mut [u8],
+    key: u32,
+    value: u32,
+) -> Result<Option<(u32, u32)>, VerifyError> {
+    let whole = access_mut::<Numbers>(bytes)?;
+    match ArchivedHashMap::get_key_value_seal(whole, &key) {
+        Some((found, mut seal)) => {
+            let before = (found.to_native(), seal.to_native());
+            seal.set(value);
+            Ok(Some(before))
+        }
+        None => Ok(None),
+    }
+}
+
+#[test]
+fn a_found_value_is_written_in_place(rt: HostRuntime) {
+    value_writes_keep_maps::<u32, u32, FxHasher64, Narrow>();
+    values_written_represent::<u32, u32, u32, u32, FxHasher64, Narrow>();
+    let mut bytes = one_number();
+    let replaced = replace(&mut bytes, 1, 16_909_060).ok();
+    let found = number_of::<u32, u32, FxHasher64, Narrow, u32>(&bytes, &1).ok();
+    let mut wanted = one_number();
+    wanted[4..8].copy_from_slice(&[4, 3, 2, 1]);
+    assert_eq!(rt;
+        (replaced, found, bytes == wanted),
+        (Some(Some((2, 16_909_060))), Some(Some(16_909_060)), true)
+    );
+}
+
+#[test]
+fn where_no_key_fits_nothing_is_lent(rt: HostRuntime) {
+    let mut bytes = one_number();
+    let replaced = replace(&mut bytes, 2, 7).ok();
+    let beside_key = replace_beside_key(&mut bytes, 2, 7).ok();
+    let by_comparison = replace_by(&mut bytes, 1, 7, false).ok();
+    let key_by_comparison = key_by(&mut bytes, 2, true).ok();
+    assert_eq!(rt;
+        (replaced, beside_key, by_comparison, key_by_comparison),
+        (Some(None), Some(None), Some(None), Some(None))
+    );
+    assert_eq!(rt; bytes, one_number());
+}
+
+#[test]
+fn a_pair_is_lent_with_its_key(rt: HostRuntime) {
+    let mut bytes = one_number();
+    let before = replace_beside_key(&mut bytes, 1, 7).ok();
+    assert_eq!(rt; (before, bytes[4]), (Some(Some((1, 2))), 7));
+}
+
+// Writes a number over the value that is found by a comparison that always returns `accepts`.
+// Returns the value before the write.
+fn replace_by(
+    bytes: &mut [u8],
+    key: u32,
+    value: u32,
+    accepts: bool,
+) -> Result<Option<u32>, VerifyError> {
+    let whole = access_mut::<Numbers>(bytes)?;
+    match ArchivedHashMap::get_seal_with(whole, &key, |_: &u32, _: View<'_, u32>| accepts) {
+        Some(mut seal) => {
+            let before = seal.to_native();
+            seal.set(value);
+            Ok(Some(before))
+        }
+        None => Ok(None),
+    }
+}
+
+// Returns the key that is found by such a comparison.
+fn key_by(bytes: &mut [u8], key: u32, accepts: bool) -> Result<Option<u32>, VerifyError> {
+    let whole = access_mut::<Numbers>(bytes)?;
+    match ArchivedHashMap::get_key_value_seal_with(
+        whole,
+        &key,
+        |_: &u32, _: View<'_, u32>| accepts,
+    ) {
+        Some((found, _)) => Ok(Some(found.to_native())),
+        None => Ok(None),
+    }
+}
+
+#[test]
+fn a_comparison_may_be_handed_in(rt: HostRuntime) {
+    let mut bytes = one_number();
+    let key = key_by(&mut bytes, 1, true).ok();
+    let before = replace_by(&mut bytes, 1, 7, true).ok();
+    assert_eq!(rt; (key, before, bytes[4]), (Some(Some(1)), Some(Some(2)), 7));
+}
+
+// Writes these numbers over the values that a cursor reaches, one after the other.
+// Returns `true` if the map has as many values, each `len` is right, and no seal follows the last.
+fn write_values(bytes: &mut [u8], values: &[i8]) -> Result<bool, VerifyError> {
+    let whole = access_mut::<Small>(bytes)?;
+    let mut rest = ArchivedHashMap::values_seal(whole);
+    let mut right = true;
+    let mut left = values.len();
+    for value in values {
+        right = right && rest.len() == left;
+        left = left.saturating_sub(1);
+        match rest.next_seal() {
+            Some(mut seal) => seal.set(*value),
+            None => return Ok(false),
+        }
+    }
+    let ended = rest.len() == 0 && rest.next_seal().is_none();
+    Ok(right && ended && rest.next_seal().is_none() && rest.len() == 0)
+}
+
+// Does the same by the positions of the values, but compares only the last `len`.
+fn write_values_by_pos(bytes: &mut [u8], values: &[i8]) -> Result<bool, VerifyError> {
+    let whole = access_mut::<Small>(bytes)?;
+    let mut rest = ArchivedHashMap::values_seal(whole);
+    for value in values {
+        match rest.next_pos() {
+            Some(pos) => rest.set_at(pos, *value),
+            None => return Ok(false),
+        }
+    }
+    let ended = rest.len() == 0 && rest.next_pos().is_none();
+    Ok(ended && rest.next_pos().is_none() && rest.len() == 0)
+}
+
+// Writes the numbers of these pairs over the values.
+// Returns `true` if the map has exactly their keys, in this order.
+fn write_pairs(bytes: &mut [u8], pairs: &[(i8, i8)]) -> Result<bool, VerifyError> {
+    let whole = access_mut::<Small>(bytes)?;
+    let mut rest = ArchivedHashMap::iter_seal(whole);
+    let mut right = true;
+    for pair in pairs {
+        match rest.next_seal() {
+            Some((key, mut value)) => {
+                right = right && key.to_native() == pair.0;
+                value.set(pair.1);
+            }
+            None => return Ok(false),
+        }
+    }
+    let ended = rest.len() == 0 && rest.next_seal().is_none();
+    Ok(right && ended && rest.next_seal().is_none() && rest.len() == 0)
+}
+
+// Returns the archive of the four pairs with other buckets.
+fn four_with(buckets: [u8; 10]) -> [u8; 56] {
+    let mut bytes = four_pairs();
+    bytes[..10].copy_from_slice(&buckets);
+    bytes
+}
+
+#[test]
+fn each_value_is_written(rt: HostRuntime) {
+    let mut bytes = four_pairs();
+    let written = write_values(&mut bytes, &[0; 4]).ok();
+    let found = [
+        number_of::<i8, i8, FxHasher64, Narrow, i8>(&bytes, &1).ok(),
+        number_of::<i8, i8, FxHasher64, Narrow, i8>(&bytes, &3).ok(),
+        number_of::<i8, i8, FxHasher64, Narrow, i8>(&bytes, &5).ok(),
+        number_of::<i8, i8, FxHasher64, Narrow, i8>(&bytes, &7).ok(),
+    ];
+    let same = bytes == four_with([3, 0, 1, 0, 0, 0, 7, 0, 5, 0]);
+    assert_eq!(rt;
+        (written, found, same),
+        (Some(true), [Some(Some(0)); 4], true)
+    );
+}
+
+#[test]
+fn values_are_written_by_position(rt: HostRuntime) {
+    let mut bytes = four_pairs();
+    let written = write_values_by_pos(&mut bytes, &[10, 11, 12, 13]).ok();
+    let same = bytes == four_with([3, 13, 1, 12, 0, 0, 7, 11, 5, 10]);
+    assert_eq!(rt; (written, same), (Some(true), true));
+}
+
+// Writes `byte` at `pos`, if the archive has this position.
+fn change(archive: &mut [u8], pos: u64, byte: u8) {
+    match archive.get_mut(pos as usize) {
+        Some(old) => *old = byte,
+        None => {}
+    }
+}
+
+// Writes 20 and 21 over the first two values while the cursor steps. Returns their positions.
+fn write_stepping(bytes: &mut [u8]) -> Result<[Option<u64>; 2], VerifyError> {
+    let whole = access_mut::<Small>(bytes)?;
+    let mut rest = ArchivedHashMap::values_seal(whole);
+    let first = rest.next_with(|archive: &mut [u8], pos: u64| change(archive, pos, 20));
+    let second = rest.next_with(|archive: &mut [u8], pos: u64| change(archive, pos, 21));
+    Ok([first, second])
+}
+
+#[test]
+fn values_are_written_while_the_cursor_steps(rt: HostRuntime) {
+    let mut bytes = four_pairs();
+    let positions = write_stepping(&mut bytes).ok();
+    let same = bytes == four_with([3, 4, 1, 2, 0, 0, 7, 21, 5, 20]);
+    assert_eq!(rt; (positions, same), (Some([Some(9), Some(7)]), true));
+}
+
+#[test]
+fn pairs_are_lent_by_ascending_bucket(rt: HostRuntime) {
+    let mut bytes = four_pairs();
+    let written = write_pairs(&mut bytes, &[(5, -5), (7, -7), (1, -1), (3, -3)]).ok();
+    let same = bytes == four_with([3, 0xfd, 1, 0xff, 0, 0, 7, 0xf9, 5, 0xfb]);
+    assert_eq!(rt; (written, same), (Some(true), true));
+}
+
+// Writes a number behind the first key. Returns the number of pairs before the step, the key and
+// its position, and the number of pairs left.
+fn write_first(
+    bytes: &mut [u8],
+    value: i8,
+) -> Result<Option<(usize, u64, i8, usize)>, VerifyError> {
+    let whole = access_mut::<Small>(bytes)?;
+    let mut rest = ArchivedHashMap::iter_seal(whole);
+    let before = rest.len();
+    match rest.next_pos() {
+        Some(pos) => {
+            let key = rest.key_at(pos).to_native();
+            rest.set_at(pos, value);
+            Ok(Some((before, pos, key, rest.len())))
+        }
+        None => Ok(None),
+    }
+}
+
+#[test]
+fn pairs_are_written_by_position(rt: HostRuntime) {
+    let mut bytes = four_pairs();
+    let first = write_first(&mut bytes, 9).ok();
+    let same = bytes == four_with([3, 4, 1, 2, 0, 0, 7, 8, 5, 9]);
+    assert_eq!(rt; (first, same), (Some(Some((4, 8, 5, 3))), true));
+}
+
+// Returns the archive of three texts, mapped to these values.
+fn archive_of(alloc: Global, values: [&str; 3]) -> Option<Vec<u8>> {
+    let pairs = [("hello", values[0]), ("foo", values[1]), ("baz", values[2])];
+    let list: MapPairs<'_, &str, &str> = MapPairs::new(&pairs);
+    to_bytes(alloc, &list).ok()
+}
+
+// Returns whether `bytes` are that archive.
+fn is_archived_as(alloc: Global, values: [&str; 3], bytes: &[u8]) -> bool {
+    match archive_of(alloc, values) {
+        Some(archive) => archive.as_slice() == bytes,
+        None => false,
+    }
+}
+
+// Returns whether the value of a key is `text`, as read by a seal.
+fn is_text_in_place(bytes: &mut [u8], key: &str, text: &str) -> Result<Option<bool>, VerifyError> {
+    let whole = access_mut::<Texts>(bytes)?;
+    match ArchivedHashMap::get_seal(whole, &key) {
+        Some(seal) => Ok(Some(seal.as_str() == Some(text))),
+        None => Ok(None),
+    }
+}
+
+// Returns whether the value of a key is `text`.
+fn is_text(bytes: &[u8], key: &str, text: &str) -> Result<Option<bool>, VerifyError> {
+    let map = ArchivedHashMap::of(access::<Texts>(bytes)?);
+    match map.get(&key) {
+        Some(value) => Ok(Some(value.as_str() == text)),
+        None => Ok(None),
+    }
+}
+
+// Writes the value of a key in upper case. Returns the result of the seal.
+fn raise(bytes: &mut [u8], key: &str) -> Result<Option<bool>, VerifyError> {
+    let whole = access_mut::<Texts>(bytes)?;
+    match ArchivedHashMap::get_seal(whole, &key) {
+        Some(mut seal) => Ok(Some(seal.make_ascii_uppercase())),
+        None => Ok(None),
+    }
+}
+
+// Writes three values in upper case. Returns the number of seals that return `true`.
+fn raise_three(bytes: &mut [u8]) -> Result<Option<usize>, VerifyError> {
+    let whole = access_mut::<Texts>(bytes)?;
+    let mut rest = ArchivedHashMap::values_seal(whole);
+    let mut raised = 0usize;
+    for _ in 0..3 {
+        match rest.next_seal() {
+            Some(mut seal) => {
+                if seal.make_ascii_uppercase() {
+                    raised = raised.wrapping_add(1);
+                }
+            }
+            None => return Ok(None),
+        }
+    }
+    Ok(Some(raised))
+}
+
+// Compares a value, writes it in upper case, and compares it again. Returns the three results.
+fn raise_and_read(bytes: &mut [u8]) -> [Option<Option<bool>>; 3] {
+    [
+        is_text_in_place(&mut *bytes, "hello", "world").ok(),
+        raise(&mut *bytes, "hello").ok(),
+        is_text(&*bytes, "hello", "WORLD").ok(),
+    ]
+}
+
+// Does the same in a new archive. Returns the results, and whether the archive is as expected.
+fn raised(alloc: Global) -> Option<([Option<Option<bool>>; 3], bool)> {
+    let mut bytes = archive_of(alloc, ["world", "bar", "bat"])?;
+    let answers = raise_and_read(bytes.as_mut_slice());
+    let same = is_archived_as(alloc, ["WORLD", "bar", "bat"], bytes.as_slice());
+    Some((answers, same))
+}
+
+#[test]
+fn a_text_is_raised_in_place(rt: HostRuntime) {
+    assert_eq!(rt; raised(rt.alloc()), Some(([Some(Some(true)); 3], true)));
+}
+
+// Writes each text of an archive in upper case. Returns the number of texts that are written,
+// and whether the archive is as expected.
+fn each_raised(alloc: Global) -> Option<(Option<Option<usize>>, bool)> {
+    let mut bytes = archive_of(alloc, ["world", "bar", "bat"])?;
+    let raised = raise_three(bytes.as_mut_slice()).ok();
+    let same = is_archived_as(alloc, ["WORLD", "BAR", "BAT"], bytes.as_slice());
+    Some((raised, same))
+}
+
+#[test]
+fn each_text_is_raised_in_place(rt: HostRuntime) {
+    assert_eq!(rt; each_raised(rt.alloc()), Some((Some(Some(3)), true)));
+}
+
+// Writes a text out of line in upper case. Returns the result, and whether the archive is the same.
+fn raised_out_of_line(alloc: Global) -> Option<(Option<Option<bool>>, bool)> {
+    let mut bytes = archive_of(alloc, ["wonderful", "bar", "bat"])?;
+    let raised = raise(bytes.as_mut_slice(), "hello").ok();
+    let same = is_archived_as(alloc, ["wonderful", "bar", "bat"], bytes.as_slice());
+    Some((raised, same))
+}
+
+#[test]
+fn a_text_out_of_line_stays(rt: HostRuntime) {
+    assert_eq!(rt;
+        raised_out_of_line(rt.alloc()),
+        Some((Some(Some(false)), true))
+    );
+}

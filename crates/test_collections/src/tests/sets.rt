@@ -1,0 +1,122 @@
+//! Tests of reading sets in place, from fixed bytes.
+
+use crate::tests::answers::{
+    equal_maps, equal_sets, map_prints, member_of, set_counts, set_misplaced_up_to, set_prints,
+};
+use rkyv_base::access::access_in;
+use rkyv_base::errors::VerifyError;
+use rkyv_base::width::{Narrow, Wide};
+use rkyv_collections::map::{ArchivedHashMap, HashMapOf};
+use rkyv_collections::set::{ArchivedHashSet, HashSetOf};
+use rkyv_scan::hash::{FxHasher64, FxHasher64Wide};
+use test_support::archives::{no_items, one_unit, set_in_a_map, three_keys, two_units};
+
+#[test]
+fn a_set_is_read(rt: HostRuntime) {
+    let three = three_keys();
+    let none = no_items();
+    let counts = [
+        set_counts::<u8, FxHasher64, Narrow>(&three).ok(),
+        set_counts::<u8, FxHasher64, Narrow>(&none).ok(),
+    ];
+    let members = [
+        member_of::<u8, FxHasher64, Narrow, u8>(&three, &3).ok(),
+        member_of::<u8, FxHasher64, Narrow, u8>(&three, &4).ok(),
+        member_of::<u8, FxHasher64, Narrow, u8>(&none, &4).ok(),
+    ];
+    let printed = [
+        set_prints::<u8, FxHasher64, Narrow>(rt.alloc(), &three, "{1, 2, 3}"),
+        set_prints::<u8, FxHasher64, Narrow>(rt.alloc(), &none, "{}"),
+    ];
+    assert_eq!(rt;
+        (counts, members, printed),
+        (
+            [Some((false, 3, 0)), Some((true, 0, 0))],
+            [
+                Some((true, Some(0))),
+                Some((false, None)),
+                Some((false, None))
+            ],
+            [true; 2]
+        )
+    );
+}
+
+#[test]
+fn counting_misplaced_keys_of_a_set_ends_at_a_limit(rt: HostRuntime) {
+    let three = three_keys();
+    let counted = [
+        set_misplaced_up_to::<u8, FxHasher64, Narrow>(&three, 2).ok(),
+        set_misplaced_up_to::<u8, FxHasher64, Narrow>(&three, 3).ok(),
+    ];
+    assert_eq!(rt; counted, [Some(None), Some(Some(0))]);
+}
+
+#[test]
+fn sets_are_compared(rt: HostRuntime) {
+    let bytes = three_keys();
+    let mut other = three_keys();
+    other[2] = 9;
+    let equal = [
+        equal_sets::<u8, FxHasher64, Narrow>(&bytes, &bytes).ok(),
+        equal_sets::<u8, FxHasher64, Narrow>(&bytes, &other).ok(),
+    ];
+    assert_eq!(rt; equal, [Some((true, true)), Some((false, false))]);
+}
+
+#[test]
+fn sets_of_units_are_read(rt: HostRuntime) {
+    let unit = one_unit();
+    let units = two_units();
+    let counts = [
+        set_counts::<(), FxHasher64, Narrow>(&unit).ok(),
+        set_counts::<(), FxHasher64, Narrow>(&units).ok(),
+    ];
+    let members = [
+        member_of::<(), FxHasher64, Narrow, ()>(&unit, &()).ok(),
+        member_of::<(), FxHasher64, Narrow, ()>(&units, &()).ok(),
+        member_of::<(), FxHasher64, Narrow, ()>(&no_items(), &()).ok(),
+    ];
+    let printed = [
+        set_prints::<(), FxHasher64, Narrow>(rt.alloc(), &unit, "{()}"),
+        set_prints::<(), FxHasher64, Narrow>(rt.alloc(), &units, "{(), ()}"),
+    ];
+    assert_eq!(rt;
+        (counts, members, printed),
+        (
+            [Some((false, 1, 0)), Some((false, 2, 1))],
+            [
+                Some((true, Some(0))),
+                Some((true, Some(0))),
+                Some((false, None))
+            ],
+            [true; 2]
+        )
+    );
+}
+
+type Inner = HashSetOf<i8, FxHasher64Wide, Wide>;
+
+// Returns the length of the set at key 1, whether it has 1, and whether it has 2.
+fn inner_set(bytes: &[u8]) -> Result<Option<(usize, bool, bool)>, VerifyError> {
+    let root = access_in::<Wide, HashMapOf<i8, Inner, FxHasher64Wide, Wide>>(bytes)?;
+    let map = ArchivedHashMap::of(root);
+    match map.get(&1i8) {
+        Some(value) => {
+            let set = ArchivedHashSet::of(value);
+            Ok(Some((set.len(), set.contains(&1i8), set.contains(&2i8))))
+        }
+        None => Ok(None),
+    }
+}
+
+#[test]
+fn a_set_is_the_value_of_a_map(rt: HostRuntime) {
+    let bytes = set_in_a_map();
+    let equal = equal_maps::<i8, Inner, FxHasher64Wide, Wide>(&bytes, &bytes).ok();
+    let printed = map_prints::<i8, Inner, FxHasher64Wide, Wide>(rt.alloc(), &bytes, "{1: {1}}");
+    assert_eq!(rt;
+        (inner_set(&bytes).ok(), equal, printed),
+        (Some(Some((1, true, false))), Some((true, true)), true)
+    );
+}

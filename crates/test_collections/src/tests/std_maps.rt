@@ -1,0 +1,608 @@
+//! Round trips of std's maps and sets.
+
+use rkyv_base::access::access;
+use rkyv_base::archive::Serialize;
+use rkyv_base::errors::{VerifyError, WriteError};
+use rkyv_base::limit::{LimitFault, LimitWriter};
+use rkyv_base::root::{to_bytes, write_root};
+use rkyv_base::text::Text;
+use rkyv_base::width::{Narrow, Wide, Width};
+use rkyv_base::writer::VecWriter;
+use rkyv_collections::map::{ArchivedHashMap, HashMapOf};
+use rkyv_collections::set::{ArchivedHashSet, HashSetOf};
+use rkyv_collections::std_maps::equality::EqArchived;
+use rkyv_collections::std_maps::hashed::Hashed;
+use rkyv_collections::std_maps::round_trip::comes_back;
+use rkyv_keys::deserialize::Deserialize;
+use rkyv_keys::equality::{EqualsWritten, MatchesNative, RepresentsUniquely};
+use rkyv_keys::keys::{KeyElement, NativeKey};
+use rkyv_scan::hash::{FxHasher64, FxHasher64Wide, KeyHasher};
+use std::alloc::{AllocError, Global};
+use std::collections::{HashMap, HashSet};
+use std::hash::{BuildHasher, BuildHasherDefault, Hash, RandomState};
+use std::test::Fail;
+use test_support::archives::{nested, no_items, one_key_twice, one_number, one_pair, one_unit};
+use test_support::written::is_archived_as;
+
+type Nested = Hashed<HashMap<i8, Hashed<HashMap<i8, i8>>>>;
+
+type Pairs = Hashed<HashMap<(u8, u8), Hashed<HashMap<u16, u16>>>>;
+
+// Returns whether a map is the same after a round trip through an archive.
+fn map_comes_back<
+    W: Width,
+    H: KeyHasher,
+    A: Serialize<VecWriter, W> + Eq + Hash + Drop,
+    B: Serialize<VecWriter, W> + EqualsWritten<W> + PartialEq + Drop,
+>(alloc: Global, map: &Hashed<HashMap<A, B>, H>) -> Option<bool>
+where
+    A::Archived: KeyElement + Deserialize<A> + RepresentsUniquely<A>,
+    A: NativeKey<A::Archived>,
+    B::Archived: Deserialize<B> + MatchesNative<B> + RepresentsUniquely<B>,
+{
+    comes_back::<W, Hashed<HashMap<A, B>, H>>(alloc, map).ok()
+}
+
+// Returns whether a set is the same after a round trip through an archive.
+fn set_comes_back<W: Width, A: Serialize<VecWriter, W> + Eq + Hash + Drop>(
+    alloc: Global,
+    set: &Hashed<HashSet<A>>,
+) -> Option<bool>
+where
+    A::Archived: KeyElement + Deserialize<A> + RepresentsUniquely<A>,
+    A: NativeKey<A::Archived>,
+{
+    comes_back::<W, Hashed<HashSet<A>>>(alloc, set).ok()
+}
+
+// Returns the archive of a map.
+fn archived<
+    H: KeyHasher,
+    A: Serialize<VecWriter, Narrow> + Eq + Hash,
+    B: Serialize<VecWriter, Narrow>,
+>(alloc: Global, map: &Hashed<HashMap<A, B>, H>) -> Option<Vec<u8>>
+where
+    A::Archived: KeyElement,
+    A: NativeKey<A::Archived>,
+{
+    to_bytes(alloc, map).ok()
+}
+
+// Returns whether the archive of a map is `bytes`.
+fn is_archived<
+    H: KeyHasher,
+    A: Serialize<VecWriter, Narrow> + Eq + Hash,
+    B: Serialize<VecWriter, Narrow>,
+>(alloc: Global, map: &Hashed<HashMap<A, B>, H>, bytes: &[u8]) -> bool
+where
+    A::Archived: KeyElement,
+    A: NativeKey<A::Archived>,
+{
+    match archived(alloc, map) {
+        Some(archive) => archive.as_slice() == bytes,
+        None => false,
+    }
+}
+
+// Returns the map of these pairs.
+fn map_of<A: Eq + Hash + Copy + Drop, B: Copy + Drop>(
+    alloc: Global,
+    pairs: &[(A, B)],
+) -> Result<HashMap<A, B>, AllocError> {
+    let mut map = HashMap::new(alloc);
+    for (key, value) in pairs {
+        map.insert(*key, *value)?;
+    }
+    Ok(map)
+}
+
+// Returns the map of one pair.
+fn one_of<A: Eq + Hash + Drop, B: Drop>(
+    alloc: Global,
+    key: A,
+    value: B,
+) -> Result<HashMap<A, B>, AllocError> {
+    let mut map = HashMap::new(alloc);
+    map.insert(key, value)?;
+    Ok(map)
+}
+
+// Returns the set of one key.
+fn set_of_one<A: Eq + Hash + Drop>(alloc: Global, key: A) -> Result<HashSet<A>, AllocError> {
+    let mut set = HashSet::new(alloc);
+    set.insert(key)?;
+    Ok(set)
+}
+
+// Returns the map of these texts to numbers.
+fn numbers_of(alloc: Global, pairs: &[(&str, i32)]) -> Result<HashMap<String, i32>, AllocError> {
+    let mut map = HashMap::new(alloc);
+    for (key, value) in pairs {
+        let text = String::from_str(alloc, *key)?;
+        map.insert(text, *value)?;
+    }
+    Ok(map)
+}
+
+// Inserts the texts of these pairs.
+fn insert_texts<T: BuildHasher>(
+    map: &mut HashMap<String, String, T>,
+    alloc: Global,
+    pairs: &[(&str, &str)],
+) -> Result<(), AllocError> {
+    for (key, value) in pairs {
+        let text = String::from_str(alloc, *key)?;
+        let mapped = String::from_str(alloc, *value)?;
+        map.insert(text, mapped)?;
+    }
+    Ok(())
+}
+
+// Inserts these pairs.
+fn insert_small<T: BuildHasher>(
+    map: &mut HashMap<i8, i8, T>,
+    pairs: &[(i8, i8)],
+) -> Result<(), AllocError> {
+    for (key, value) in pairs {
+        map.insert(*key, *value)?;
+    }
+    Ok(())
+}
+
+// Returns the set of these texts.
+fn words_of(alloc: Global, words: &[&str]) -> Result<HashSet<String>, AllocError> {
+    let mut set = HashSet::new(alloc);
+    for word in words {
+        set.insert(String::from_str(alloc, *word)?)?;
+    }
+    Ok(set)
+}
+
+// Returns the map of the texts of 0 to 99 to their numbers.
+fn hundred(alloc: Global) -> Result<HashMap<String, u32>, AllocError> {
+    let mut map = HashMap::new(alloc);
+    for number in 0..100 {
+        map.insert(format!(in alloc; "{number}")?, number)?;
+    }
+    Ok(map)
+}
+
+// Returns whether an archived map equals a map of std's, by the calls of both sides.
+fn equals_small(bytes: &[u8], map: &HashMap<i8, i8>) -> Result<(bool, bool), VerifyError> {
+    let root = ArchivedHashMap::of(access::<HashMapOf<i8, i8>>(bytes)?);
+    Ok((root.eq_std(map), map.eq_archived(root)))
+}
+
+// Does the same with the map of 1 to 2 and 3 to 4.
+fn equals_two(alloc: Global, bytes: &[u8]) -> Option<(bool, bool)> {
+    let two = map_of(alloc, &[(1i8, 2i8), (3, 4)]).ok()?;
+    equals_small(bytes, &two).ok()
+}
+
+// Tests the map of 1 to 2. Returns whether its archive is as expected, and whether that equals the
+// map by the calls of both sides. Then come the round trips in both widths, and the length.
+fn of_one_pair(alloc: Global) -> Option<(bool, Option<(bool, bool)>, [Option<bool>; 2], usize)> {
+    let map: Hashed<HashMap<i8, i8>> = Hashed::new(map_of(alloc, &[(1, 2)]).ok()?);
+    let written = is_archived(alloc, &map, &one_pair());
+    let equal = equals_small(&one_pair(), map.get()).ok();
+    let back = [
+        map_comes_back::<Narrow, _, _, _>(alloc, &map),
+        map_comes_back::<Wide, _, _, _>(alloc, &map),
+    ];
+    Some((written, equal, back, map.into_inner().len()))
+}
+
+#[test]
+fn a_map_of_one_pair(rt: HostRuntime) {
+    let one = of_one_pair(rt.alloc());
+    let two = equals_two(rt.alloc(), &one_pair());
+    assert_eq!(rt;
+        (one, two),
+        (
+            Some((true, Some((true, true)), [Some(true); 2], 1)),
+            Some((false, false))
+        )
+    );
+}
+
+// Returns whether the map of four pairs is the same after a round trip.
+fn four_come_back(alloc: Global) -> Option<bool> {
+    let pairs = [(1i8, 2i8), (3, 4), (5, 6), (7, 8)];
+    let map: Hashed<HashMap<i8, i8>> = Hashed::new(map_of(alloc, &pairs).ok()?);
+    map_comes_back::<Narrow, _, _, _>(alloc, &map)
+}
+
+#[test]
+fn four_pairs(rt: HostRuntime) {
+    assert_eq!(rt; four_come_back(rt.alloc()), Some(true));
+}
+
+// Returns whether the archive of the empty map is as expected, and the result of its round trip.
+fn of_no_pair(alloc: Global) -> (bool, Option<bool>) {
+    let map: Hashed<HashMap<i8, i32>> = Hashed::new(HashMap::new(alloc));
+    let written = is_archived(alloc, &map, &no_items());
+    (written, map_comes_back::<Narrow, _, _, _>(alloc, &map))
+}
+
+#[test]
+fn the_empty_map(rt: HostRuntime) {
+    assert_eq!(rt; of_no_pair(rt.alloc()), (true, Some(true)));
+}
+
+// Returns the map of 1 to the map of 1 to 2.
+fn map_in_a_map(alloc: Global) -> Result<Nested, AllocError> {
+    let inner = one_of(alloc, 1, 2)?;
+    Ok(Hashed::new(one_of(alloc, 1, Hashed::new(inner))?))
+}
+
+// Returns whether the archive of that map is as expected, and its round trips in both widths.
+fn of_nested(alloc: Global) -> Option<(bool, [Option<bool>; 2])> {
+    let outer = map_in_a_map(alloc).ok()?;
+    let written = is_archived(alloc, &outer, &nested());
+    let back = [
+        map_comes_back::<Narrow, _, _, _>(alloc, &outer),
+        map_comes_back::<Wide, _, _, _>(alloc, &outer),
+    ];
+    Some((written, back))
+}
+
+#[test]
+fn a_map_in_a_map(rt: HostRuntime) {
+    assert_eq!(rt; of_nested(rt.alloc()), Some((true, [Some(true); 2])));
+}
+
+// Returns the map of (1, 2) and (3, 4), each mapped to the map of 1337 to 42.
+fn two_maps(alloc: Global) -> Result<Pairs, AllocError> {
+    let mut pairs = one_of(alloc, (1, 2), Hashed::new(one_of(alloc, 1337, 42)?))?;
+    let inner = one_of(alloc, 1337, 42)?;
+    pairs.insert((3, 4), Hashed::new(inner))?;
+    Ok(Hashed::new(pairs))
+}
+
+// Returns the length of the archive of that map, and the result of its round trip.
+fn of_two_maps(alloc: Global) -> Option<(usize, Option<bool>)> {
+    let pairs = two_maps(alloc).ok()?;
+    let len = archived(alloc, &pairs)?.len();
+    Some((len, map_comes_back::<Narrow, _, _, _>(alloc, &pairs)))
+}
+
+#[test]
+fn two_maps_in_a_map(rt: HostRuntime) {
+    assert_eq!(rt; of_two_maps(rt.alloc()), Some((172, Some(true))));
+}
+
+// Returns whether the map of these texts to numbers is the same after a round trip.
+fn numbers_come_back(alloc: Global, pairs: &[(&str, i32)]) -> Option<bool> {
+    let map: Hashed<HashMap<String, i32>> = Hashed::new(numbers_of(alloc, pairs).ok()?);
+    map_comes_back::<Narrow, _, _, _>(alloc, &map)
+}
+
+#[test]
+fn texts_to_numbers(rt: HostRuntime) {
+    let pairs = [
+        ("Hello", 12),
+        ("world", 34),
+        ("foo", 56),
+        ("bar", 78),
+        ("baz", 90),
+    ];
+    assert_eq!(rt; numbers_come_back(rt.alloc(), &pairs), Some(true));
+}
+
+// Returns whether the map of these texts is the same after a round trip.
+fn texts_come_back(alloc: Global, pairs: &[(&str, &str)]) -> Option<bool> {
+    let mut texts = HashMap::new(alloc);
+    insert_texts(&mut texts, alloc, pairs).ok()?;
+    let map: Hashed<HashMap<String, String>> = Hashed::new(texts);
+    map_comes_back::<Narrow, _, _, _>(alloc, &map)
+}
+
+#[test]
+fn texts_to_texts(rt: HostRuntime) {
+    let pairs = [("hello", "world"), ("foo", "bar"), ("baz", "bat")];
+    assert_eq!(rt; texts_come_back(rt.alloc(), &pairs), Some(true));
+}
+
+// Returns whether the map of the unit value to 10 is the same after a round trip.
+fn unit_to_number(alloc: Global) -> Option<bool> {
+    let map: Hashed<HashMap<(), i32>> = Hashed::new(map_of(alloc, &[((), 10)]).ok()?);
+    map_comes_back::<Narrow, _, _, _>(alloc, &map)
+}
+
+// Returns whether the map of the unit value to itself is the same after a round trip.
+fn unit_to_unit(alloc: Global) -> Option<bool> {
+    let map: Hashed<HashMap<(), ()>> = Hashed::new(map_of(alloc, &[((), ())]).ok()?);
+    map_comes_back::<Narrow, _, _, _>(alloc, &map)
+}
+
+// Returns whether the archive of the set of the unit value is as expected, and its round trip.
+fn set_of_unit(alloc: Global) -> Option<(bool, Option<bool>)> {
+    let set: Hashed<HashSet<()>> = Hashed::new(set_of_one(alloc, ()).ok()?);
+    let written = is_archived_as(alloc, &set, &one_unit());
+    Some((written, set_comes_back::<Narrow, ()>(alloc, &set)))
+}
+
+#[test]
+fn units_to_numbers_and_to_units(rt: HostRuntime) {
+    let alloc = rt.alloc();
+    let maps = [unit_to_number(alloc), unit_to_unit(alloc)];
+    assert_eq!(rt;
+        (maps, set_of_unit(alloc)),
+        ([Some(true); 2], Some((true, Some(true))))
+    );
+}
+
+// Returns the number of archived pairs that std's map has, and of std's pairs that the archived map
+// has. Then comes whether the two maps are equal.
+fn found_both_ways(
+    bytes: &[u8],
+    map: &HashMap<String, u32>,
+) -> Result<(usize, usize, bool), VerifyError> {
+    let root = ArchivedHashMap::of(access::<HashMapOf<Text, u32>>(bytes)?);
+    let (mut there, mut back) = (0usize, 0usize);
+    for (key, value) in root.iter() {
+        match map.get(key.as_str()) {
+            Some(number) if *number == value.to_native() => there = there.wrapping_add(1),
+            _ => {}
+        }
+    }
+    for (key, number) in map.iter() {
+        match root.get(key) {
+            Some(value) if value.to_native() == *number => back = back.wrapping_add(1),
+            _ => {}
+        }
+    }
+    Ok((there, back, root.eq_std(map)))
+}
+
+// Returns the results of `found_both_ways` for the hundred texts.
+fn found_of_hundred(alloc: Global) -> Option<(usize, usize, bool)> {
+    let map: Hashed<HashMap<String, u32>> = Hashed::new(hundred(alloc).ok()?);
+    let bytes = archived(alloc, &map)?;
+    found_both_ways(bytes.as_slice(), map.get()).ok()
+}
+
+#[test]
+fn a_hundred_texts(rt: HostRuntime) {
+    assert_eq!(rt; found_of_hundred(rt.alloc()), Some((100, 100, true)));
+}
+
+// Returns whether the hundred texts are the same after round trips in both widths, under the hasher
+// that feeds all bits.
+fn hundred_come_back(alloc: Global) -> Option<[Option<bool>; 2]> {
+    let map: Hashed<HashMap<String, u32>, FxHasher64Wide> = Hashed::new(hundred(alloc).ok()?);
+    Some([
+        map_comes_back::<Narrow, _, _, _>(alloc, &map),
+        map_comes_back::<Wide, _, _, _>(alloc, &map),
+    ])
+}
+
+#[test]
+fn a_hundred_texts_under_the_hasher_that_feeds_all_bits(rt: HostRuntime) {
+    assert_eq!(rt; hundred_come_back(rt.alloc()), Some([Some(true); 2]));
+}
+
+// Reads an archive back into a map of std's. Returns its length and its value of 1.
+fn read_back(alloc: Global, bytes: &[u8]) -> Result<Option<(usize, i8)>, VerifyError> {
+    let root = ArchivedHashMap::of(access::<HashMapOf<i8, i8>>(bytes)?);
+    let map: HashMap<i8, i8> = match root.deserialize_std(alloc, BuildHasherDefault::new()) {
+        Ok(map) => map,
+        Err(_) => return Ok(None),
+    };
+    match map.get(&1) {
+        Some(value) => Ok(Some((map.len(), *value))),
+        None => Ok(None),
+    }
+}
+
+#[test]
+fn the_later_of_equal_keys(rt: HostRuntime) {
+    let bytes = one_key_twice();
+    let mut same = one_key_twice();
+    same[3] = 2;
+    let equal = [
+        equals_two(rt.alloc(), &bytes),
+        equals_two(rt.alloc(), &same),
+    ];
+    let back = read_back(rt.alloc(), &bytes).ok();
+    assert_eq!(rt;
+        (back, equal),
+        (Some(Some((1, 9))), [Some((false, false)); 2])
+    );
+}
+
+// Returns whether the archive of the map of 1 to 2 is as expected under the hasher `H`.
+fn is_one_number<H: KeyHasher>(alloc: Global) -> Option<bool> {
+    let map: Hashed<HashMap<u32, u32>, H> = Hashed::new(map_of(alloc, &[(1, 2)]).ok()?);
+    Some(is_archived(alloc, &map, &one_number()))
+}
+
+#[test]
+fn both_hashers_write_a_number_alike(rt: HostRuntime) {
+    let written = [
+        is_one_number::<FxHasher64>(rt.alloc()),
+        is_one_number::<FxHasher64Wide>(rt.alloc()),
+    ];
+    assert_eq!(rt; written, [Some(true); 2]);
+}
+
+// Writes the map of 1 to 2 with a limit. Returns `true` if the writer keeps the first `limit`
+// bytes, and fails with `Full` if and only if these are not all.
+fn keeps_a_front(alloc: Global, map: &Hashed<HashMap<u32, u32>>, limit: u64) -> bool {
+    let mut writer = LimitWriter::new(VecWriter::new(alloc), limit);
+    let told = match write_root(alloc, map, &mut writer) {
+        Ok(pos) => limit == 60 && pos == 48,
+        Err(WriteError::Writer(LimitFault::Full)) => limit < 60,
+        Err(_) => false,
+    };
+    told && one_number().get(..limit as usize) == Some(writer.into_inner().bytes())
+}
+
+// Returns the number of limits, up to the archive's length, that keep a front of it.
+fn limits_that_keep(alloc: Global) -> Option<usize> {
+    let map: Hashed<HashMap<u32, u32>> = Hashed::new(map_of(alloc, &[(1, 2)]).ok()?);
+    let mut right = 0usize;
+    for limit in 0..61 {
+        if keeps_a_front(alloc, &map, limit) {
+            right = right.wrapping_add(1);
+        }
+    }
+    Some(right)
+}
+
+#[test]
+fn a_limit_keeps_a_front_of_the_archive(rt: HostRuntime) {
+    assert_eq!(rt; limits_that_keep(rt.alloc()), Some(61));
+}
+
+// Returns the number of archived texts that std's set has, and the number of std's texts that the
+// archived set has. Then comes whether they are equal, by the calls of both sides.
+fn members_both_ways(
+    bytes: &[u8],
+    words: &HashSet<String>,
+) -> Result<(usize, usize, (bool, bool)), VerifyError> {
+    let root = ArchivedHashSet::of(access::<HashSetOf<Text>>(bytes)?);
+    let (mut there, mut back) = (0usize, 0usize);
+    for key in root.iter() {
+        if words.contains(key.as_str()) {
+            there = there.wrapping_add(1);
+        }
+    }
+    for word in words.iter() {
+        if root.contains(word) {
+            back = back.wrapping_add(1);
+        }
+    }
+    Ok((there, back, (root.eq_std(words), words.eq_archived(root))))
+}
+
+// Returns these results for `words`, and the round trips of their set in both widths.
+fn of_words(
+    alloc: Global,
+    words: &[&str],
+) -> Option<(Option<(usize, usize, (bool, bool))>, [Option<bool>; 2])> {
+    let words: Hashed<HashSet<String>> = Hashed::new(words_of(alloc, words).ok()?);
+    let bytes = to_bytes(alloc, &words).ok()?;
+    let back = [
+        set_comes_back::<Narrow, String>(alloc, &words),
+        set_comes_back::<Wide, String>(alloc, &words),
+    ];
+    Some((members_both_ways(bytes.as_slice(), words.get()).ok(), back))
+}
+
+#[test]
+fn sets_of_texts(rt: HostRuntime) {
+    let words = ["hello", "world", "foo", "bar", "wonderful text"];
+    assert_eq!(rt;
+        of_words(rt.alloc(), &words),
+        Some((Some((5, 5, (true, true))), [Some(true); 2]))
+    );
+}
+
+#[test]
+fn a_set_of_five_short_texts(rt: HostRuntime) {
+    let words = ["hello", "world", "foo", "bar", "baz"];
+    assert_eq!(rt;
+        of_words(rt.alloc(), &words),
+        Some((Some((5, 5, (true, true))), [Some(true); 2]))
+    );
+}
+
+type Sets = Hashed<HashMap<i8, Hashed<HashSet<i8>>>>;
+
+// Returns the map of 1 to the set of 2.
+fn set_in_a_map(alloc: Global) -> Result<Sets, AllocError> {
+    let set = set_of_one(alloc, 2)?;
+    Ok(Hashed::new(one_of(alloc, 1, Hashed::new(set))?))
+}
+
+// Returns whether that map is the same after round trips in both widths.
+fn sets_come_back(alloc: Global) -> Option<[Option<bool>; 2]> {
+    let outer = set_in_a_map(alloc).ok()?;
+    Some([
+        map_comes_back::<Narrow, _, _, _>(alloc, &outer),
+        map_comes_back::<Wide, _, _, _>(alloc, &outer),
+    ])
+}
+
+#[test]
+fn a_set_in_a_map(rt: HostRuntime) {
+    assert_eq!(rt; sets_come_back(rt.alloc()), Some([Some(true); 2]));
+}
+
+// Returns whether an archived map equals `map`, and is read back as `map` with this hash state.
+fn is_read_with<T: BuildHasher + Copy + Drop>(
+    alloc: Global,
+    bytes: &[u8],
+    map: &HashMap<i8, i8, T>,
+    state: T,
+) -> Result<bool, VerifyError> {
+    let root = ArchivedHashMap::of(access::<HashMapOf<i8, i8>>(bytes)?);
+    match root.deserialize_std::<i8, i8, T>(alloc, state) {
+        Ok(back) => Ok(root.eq_std(map) && back == *map),
+        Err(_) => Ok(false),
+    }
+}
+
+// Returns whether a map with this hash state is the same after a round trip.
+fn comes_back_with<T: BuildHasher + Copy + Drop>(
+    alloc: Global,
+    map: &Hashed<HashMap<i8, i8, T>>,
+    state: T,
+) -> bool {
+    match to_bytes(alloc, map) {
+        Ok(bytes) => matches!(
+            is_read_with(alloc, bytes.as_slice(), map.get(), state),
+            Ok(true)
+        ),
+        Err(_) => false,
+    }
+}
+
+// Does the same as `is_read_with`, for a map of texts.
+fn texts_are_read_with<T: BuildHasher + Copy + Drop>(
+    alloc: Global,
+    bytes: &[u8],
+    map: &HashMap<String, String, T>,
+    state: T,
+) -> Result<bool, VerifyError> {
+    let root = ArchivedHashMap::of(access::<HashMapOf<Text, Text>>(bytes)?);
+    match root.deserialize_std::<String, String, T>(alloc, state) {
+        Ok(back) => Ok(root.eq_std(map) && back == *map),
+        Err(_) => Ok(false),
+    }
+}
+
+fn texts_come_back_with<T: BuildHasher + Copy + Drop>(
+    alloc: Global,
+    map: &Hashed<HashMap<String, String, T>>,
+    state: T,
+) -> bool {
+    match to_bytes(alloc, map) {
+        Ok(bytes) => {
+            matches!(
+                texts_are_read_with(alloc, bytes.as_slice(), map.get(), state),
+                Ok(true)
+            )
+        }
+        Err(_) => false,
+    }
+}
+
+#[test]
+fn maps_with_a_hash_state_of_their_own(rt: HostRuntime) -> Result<(), Fail> {
+    let (alloc, state) = (rt.alloc(), RandomState::new(&rt)?);
+    let empty = Hashed::new(HashMap::with_hasher(alloc, state));
+    let mut small = HashMap::with_hasher(alloc, state);
+    insert_small(&mut small, &[(1, 2), (3, 4), (5, 6), (7, 8)])?;
+    let mut texts = HashMap::with_hasher(alloc, state);
+    let pairs = [("hello", "world"), ("foo", "bar"), ("baz", "bat")];
+    insert_texts(&mut texts, alloc, &pairs)?;
+    let back = [
+        comes_back_with(alloc, &empty, state),
+        comes_back_with(alloc, &Hashed::new(small), state),
+        texts_come_back_with(alloc, &Hashed::new(texts), state),
+    ];
+    assert_eq!(rt; back, [true; 3]);
+    Ok(())
+}

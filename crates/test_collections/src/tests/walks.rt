@@ -1,0 +1,220 @@
+//! Tests of walks over maps and sets: the items, their order, and the number left.
+use rkyv_base::access::access;
+use rkyv_base::element::Element;
+use rkyv_base::errors::VerifyError;
+use rkyv_collections::map::iter::{Iter, Keys, Values};
+use rkyv_collections::map::{ArchivedHashMap, HashMapOf};
+use rkyv_collections::set::{ArchivedHashSet, HashSetOf};
+use test_support::archives::{four_pairs, no_items, one_unit, three_keys};
+
+// Returns the positions of the next key and its value.
+fn next_pair<K: Element, V: Element, H, W>(rest: &mut Iter<'_, K, V, H, W>) -> Option<(u64, u64)> {
+    match rest.next() {
+        Some((key, value)) => Some((key.pos(), value.pos())),
+        None => None,
+    }
+}
+
+// Returns the position of the next key.
+fn next_key<K: Element, V: Element, H, W>(rest: &mut Keys<'_, K, V, H, W>) -> Option<u64> {
+    match rest.next() {
+        Some(key) => Some(key.pos()),
+        None => None,
+    }
+}
+
+// Returns the position of the next value.
+fn next_value<K: Element, V: Element, H, W>(rest: &mut Values<'_, K, V, H, W>) -> Option<u64> {
+    match rest.next() {
+        Some(value) => Some(value.pos()),
+        None => None,
+    }
+}
+
+// Walks over the pairs of a map. Returns the results of the first six steps. Then come `len` and
+// `size_hint` before the steps, after two of them and after all.
+fn pairs_of<K: Element, V: Element>(
+    bytes: &[u8],
+) -> Result<
+    (
+        [Option<(u64, u64)>; 6],
+        [(usize, (usize, Option<usize>)); 3],
+    ),
+    VerifyError,
+> {
+    let map = ArchivedHashMap::of(access::<HashMapOf<K, V>>(bytes)?);
+    let mut rest = map.iter();
+    let before = (rest.len(), rest.size_hint());
+    let (first, second) = (next_pair(&mut rest), next_pair(&mut rest));
+    let rest_in_range = (rest.len(), rest.size_hint());
+    let others = [
+        first,
+        second,
+        next_pair(&mut rest),
+        next_pair(&mut rest),
+        next_pair(&mut rest),
+        next_pair(&mut rest),
+    ];
+    Ok((
+        others,
+        [before, rest_in_range, (rest.len(), rest.size_hint())],
+    ))
+}
+
+// Does the same with keys. Returns the number left after one step.
+fn keys_of<K: Element, V: Element>(
+    bytes: &[u8],
+) -> Result<([Option<u64>; 6], (usize, (usize, Option<usize>))), VerifyError> {
+    let map = ArchivedHashMap::of(access::<HashMapOf<K, V>>(bytes)?);
+    let mut rest = map.keys();
+    let first = next_key(&mut rest);
+    let left = (rest.len(), rest.size_hint());
+    let keys = [
+        first,
+        next_key(&mut rest),
+        next_key(&mut rest),
+        next_key(&mut rest),
+        next_key(&mut rest),
+        next_key(&mut rest),
+    ];
+    Ok((keys, left))
+}
+
+// Does the same with values.
+fn values_of<K: Element, V: Element>(
+    bytes: &[u8],
+) -> Result<([Option<u64>; 6], (usize, (usize, Option<usize>))), VerifyError> {
+    let map = ArchivedHashMap::of(access::<HashMapOf<K, V>>(bytes)?);
+    let mut rest = map.values();
+    let first = next_value(&mut rest);
+    let left = (rest.len(), rest.size_hint());
+    let values = [
+        first,
+        next_value(&mut rest),
+        next_value(&mut rest),
+        next_value(&mut rest),
+        next_value(&mut rest),
+        next_value(&mut rest),
+    ];
+    Ok((values, left))
+}
+
+// Returns the number of pairs whose value a lookup of their key finds at the same position.
+fn found_by_own_keys(bytes: &[u8]) -> Result<usize, VerifyError> {
+    let map = ArchivedHashMap::of(access::<HashMapOf<i8, i8>>(bytes)?);
+    let mut count = 0usize;
+    for (key, value) in map {
+        match map.get(&key.to_native()) {
+            Some(found) => {
+                if found.pos() == value.pos() {
+                    count = count.wrapping_add(1);
+                }
+            }
+            None => {}
+        }
+    }
+    Ok(count)
+}
+
+// Walks over a set. Returns the number of keys, the results of the first five steps, and
+// `size_hint` after them.
+fn members<K: Element>(
+    bytes: &[u8],
+) -> Result<(usize, [Option<u64>; 5], (usize, Option<usize>)), VerifyError> {
+    let set = ArchivedHashSet::of(access::<HashSetOf<K>>(bytes)?);
+    let mut rest = set.iter();
+    let before = rest.len();
+    let given = [
+        next_key(&mut rest),
+        next_key(&mut rest),
+        next_key(&mut rest),
+        next_key(&mut rest),
+        next_key(&mut rest),
+    ];
+    Ok((before, given, rest.size_hint()))
+}
+
+// Returns the sum of the keys and values of a map, and that of the keys of a set, by `for`.
+fn sums(map: &[u8], set: &[u8]) -> Result<[u8; 3], VerifyError> {
+    let map = ArchivedHashMap::of(access::<HashMapOf<u8, u8>>(map)?);
+    let set = ArchivedHashSet::of(access::<HashSetOf<u8>>(set)?);
+    let mut sums = [0u8; 3];
+    for (key, value) in &map {
+        sums[0] = sums[0].wrapping_add(key.to_native());
+        sums[0] = sums[0].wrapping_add(value.to_native());
+    }
+    for key in set {
+        sums[1] = sums[1].wrapping_add(key.to_native());
+    }
+    for key in &set {
+        sums[2] = sums[2].wrapping_add(key.to_native());
+    }
+    Ok(sums)
+}
+
+#[test]
+fn maps_and_sets_are_walked_by_for(rt: HostRuntime) {
+    assert_eq!(rt; sums(&four_pairs(), &three_keys()).ok(), Some([36, 6, 6]));
+}
+
+// In bucket order, the pairs are 5 to 6, 7 to 8, 1 to 2 and 3 to 4. The first has the last two
+// bytes before the controls.
+#[test]
+fn pairs_are_walked_by_ascending_bucket(rt: HostRuntime) {
+    let bytes = four_pairs();
+    let pairs = pairs_of::<i8, i8>(&bytes).ok();
+    let (a, b, c, d) = ((8, 9), (6, 7), (2, 3), (0, 1));
+    let left = [(4, (4, Some(4))), (2, (2, Some(2))), (0, (0, Some(0)))];
+    assert_eq!(rt;
+        (pairs, found_by_own_keys(&bytes).ok()),
+        (
+            Some(([Some(a), Some(b), Some(c), Some(d), None, None], left)),
+            Some(4)
+        )
+    );
+}
+
+#[test]
+fn keys_and_values_are_walked_by_ascending_bucket(rt: HostRuntime) {
+    let bytes = four_pairs();
+    let keys = keys_of::<i8, i8>(&bytes).ok();
+    let values = values_of::<i8, i8>(&bytes).ok();
+    let left = (3, (3, Some(3)));
+    assert_eq!(rt;
+        (keys, values),
+        (
+            Some(([Some(8), Some(6), Some(2), Some(0), None, None], left)),
+            Some(([Some(9), Some(7), Some(3), Some(1), None, None], left))
+        )
+    );
+}
+
+#[test]
+fn a_walk_over_the_empty_map_gives_nothing(rt: HostRuntime) {
+    let bytes = no_items();
+    let pairs = pairs_of::<i8, i8>(&bytes).ok();
+    let keys = keys_of::<i8, i8>(&bytes).ok();
+    let values = values_of::<i8, i8>(&bytes).ok();
+    let left = (0, (0, Some(0)));
+    assert_eq!(rt;
+        (pairs, keys, values),
+        (
+            Some(([None; 6], [left; 3])),
+            Some(([None; 6], left)),
+            Some(([None; 6], left))
+        )
+    );
+}
+
+#[test]
+fn keys_of_a_set_are_walked_by_ascending_bucket(rt: HostRuntime) {
+    let three = members::<u8>(&three_keys()).ok();
+    let one_unit = members::<()>(&one_unit()).ok();
+    assert_eq!(rt;
+        (three, one_unit),
+        (
+            Some((3, [Some(2), Some(1), Some(0), None, None], (0, Some(0)))),
+            Some((1, [Some(0), None, None, None, None], (0, Some(0))))
+        )
+    );
+}

@@ -1,0 +1,190 @@
+//! Tests of the written bytes of maps and sets.
+
+use crate::tests::answers::{counts, number_of};
+use rkyv_base::archive::Serialize;
+use rkyv_base::element::Represents;
+use rkyv_base::errors::WriteError;
+use rkyv_base::root::to_bytes;
+use rkyv_base::width::Narrow;
+use rkyv_base::writer::{NoMemory, VecWriter};
+use rkyv_collections::MapPairs;
+use rkyv_collections::map::ArchivedHashMap;
+use rkyv_collections::map::written::written_maps_represent;
+use rkyv_collections::set::ArchivedHashSet;
+use rkyv_collections::set::written::written_sets_represent;
+use rkyv_keys::keys::{KeyElement, NativeKey};
+use rkyv_scan::hash::FxHasher64;
+use std::alloc::Global;
+use test_support::archives::{nested, no_items, three_keys};
+use test_support::written::{is_archived_as, is_then_empty};
+
+type Numbers = ArchivedHashMap<'static, i8, i8, FxHasher64, Narrow>;
+
+// Writes the map of these pairs at position 0. Returns the position that resolves the map, if the
+// written bytes are `front` and then `empty` empty controls.
+fn map_pos(
+    alloc: Global,
+    pairs: &[(i8, i8)],
+    front: &[u8],
+    empty: usize,
+) -> Result<Option<u64>, WriteError<NoMemory>> {
+    let mut writer = VecWriter::new(alloc);
+    let resolver = Numbers::serialize_from_iter::<VecWriter, i8, i8, i8, i8, _>(
+        alloc,
+        pairs.iter().copied(),
+        pairs.len(),
+        (7, 8),
+        &mut writer,
+    )?;
+    if is_then_empty(writer.bytes(), front, empty) {
+        return Ok(Some(resolver.pos()));
+    }
+    Ok(None)
+}
+
+// Does the same with the set of these keys.
+fn set_pos<
+    K: KeyElement
+        + NativeKey<K>
+        + Serialize<VecWriter, Narrow, Archived = K>
+        + Copy
+        + Represents<K>,
+>(
+    alloc: Global,
+    keys: &[K],
+    front: &[u8],
+    empty: usize,
+) -> Result<Option<u64>, WriteError<NoMemory>> {
+    let mut writer = VecWriter::new(alloc);
+    let resolver = ArchivedHashSet::<K, FxHasher64, Narrow>::serialize_from_iter::<
+        VecWriter,
+        K,
+        &K,
+        _,
+    >(alloc, keys.iter(), keys.len(), (7, 8), &mut writer)?;
+    if is_then_empty(writer.bytes(), front, empty) {
+        return Ok(Some(resolver.pos()));
+    }
+    Ok(None)
+}
+
+#[test]
+fn maps_are_written(rt: HostRuntime) {
+    written_maps_represent::<Narrow, FxHasher64, i8, i8, i8, i8>();
+    let alloc = rt.alloc();
+    let one = [1, 2, 0, 0, 0xff, 0x28, 0xff, 0x28];
+    let twice = [0, 0, 1, 9, 1, 2, 0x28, 0x28, 0xff, 0x28, 0x28, 0xff];
+    let four = [
+        3, 4, 1, 2, 0, 0, 7, 8, 5, 6, 0x4b, 0x1d, 0xff, 0x28, 0x7a, 0x4b, 0x1d, 0xff, 0x28, 0x7a,
+    ];
+    let written = [
+        map_pos(alloc, &[(1, 2)], &one, 27).ok(),
+        map_pos(alloc, &[(1, 2), (1, 9)], &twice, 25).ok(),
+        map_pos(alloc, &[(1, 2), (3, 4), (5, 6), (7, 8)], &four, 21).ok(),
+        map_pos(alloc, &[], &[], 0).ok(),
+    ];
+    assert_eq!(rt;
+        written,
+        [Some(Some(4)), Some(Some(6)), Some(Some(10)), Some(Some(0))]
+    );
+}
+
+#[test]
+fn sets_are_written(rt: HostRuntime) {
+    written_sets_represent::<Narrow, FxHasher64, u8, u8>();
+    let alloc = rt.alloc();
+    let three = [3, 2, 1, 0, 0xff, 0x28, 0x51, 0x7a, 0xff, 0x28, 0x51, 0x7a];
+    let written = [
+        set_pos::<()>(alloc, &[()], &[0, 0xff, 0], 28).ok(),
+        set_pos::<u8>(alloc, &[1, 2, 3], &three, 23).ok(),
+        set_pos::<u8>(alloc, &[], &[], 0).ok(),
+    ];
+    assert_eq!(rt; written, [Some(Some(0)), Some(Some(4)), Some(Some(0))]);
+}
+
+// Returns the header of the set of 1, 2 and 3 at position 36, and whether it fits.
+fn set_header(alloc: Global) -> Result<([u8; 12], bool), WriteError<NoMemory>> {
+    let mut writer = VecWriter::new(alloc);
+    let resolver = ArchivedHashSet::<u8, FxHasher64, Narrow>::serialize_from_iter::<
+        VecWriter,
+        u8,
+        u8,
+        _,
+    >(alloc, [1u8, 2, 3].into_iter(), 3, (7, 8), &mut writer)?;
+    let (len, load_factor) = (resolver.len(), resolver.load_factor());
+    let mut header = [0u8; 12];
+    let fits = ArchivedHashSet::<u8, FxHasher64, Narrow>::resolve_from_len(
+        len,
+        load_factor,
+        resolver,
+        36,
+        &mut header,
+    ).is_ok();
+    Ok((header, fits))
+}
+
+#[test]
+fn the_header_of_a_set(rt: HostRuntime) {
+    let mut header = [0; 12];
+    header.copy_from_slice(&three_keys()[36..]);
+    assert_eq!(rt; set_header(rt.alloc()).ok(), Some((header, true)));
+}
+
+// A list of pairs of small numbers.
+type Small<'a> = MapPairs<'a, i8, i8>;
+
+#[test]
+fn the_empty_map(rt: HostRuntime) {
+    let list: Small<'_> = MapPairs::new(&[]);
+    let same = is_archived_as(rt.alloc(), &list, &no_items());
+    assert!(rt; same);
+}
+
+// Returns the archive of a list of five pairs, two of them with one key.
+fn archived_list(alloc: Global) -> Option<Vec<u8>> {
+    let list: Small<'_> = MapPairs::new(&[(1, 2), (3, 4), (5, 6), (7, 8), (3, 9)]);
+    to_bytes(alloc, &list).ok()
+}
+
+// Returns the values of the keys 3, 7 and 2 in a map.
+fn three_values(bytes: &[u8]) -> [Option<Option<i8>>; 3] {
+    [
+        number_of::<i8, i8, FxHasher64, Narrow, i8>(bytes, &3).ok(),
+        number_of::<i8, i8, FxHasher64, Narrow, i8>(bytes, &7).ok(),
+        number_of::<i8, i8, FxHasher64, Narrow, i8>(bytes, &2).ok(),
+    ]
+}
+
+// Returns the same values in the archive of that list, and its counts.
+fn list_values(alloc: Global) -> Option<([Option<Option<i8>>; 3], Option<(bool, usize, usize)>)> {
+    let bytes = archived_list(alloc)?;
+    let bytes = bytes.as_slice();
+    Some((
+        three_values(bytes),
+        counts::<i8, i8, FxHasher64, Narrow>(bytes).ok(),
+    ))
+}
+
+#[test]
+fn a_list_is_looked_up(rt: HostRuntime) {
+    assert_eq!(rt;
+        list_values(rt.alloc()),
+        Some((
+            [Some(Some(4)), Some(Some(8)), Some(None)],
+            Some((false, 5, 6))
+        ))
+    );
+}
+
+// Returns whether the map of 1 to the map of 1 to 2 is archived as `bytes`.
+fn one_in_one_is(alloc: Global, bytes: &[u8]) -> bool {
+    let inner: Small<'_> = MapPairs::new(&[(1, 2)]);
+    let pairs = [(1i8, inner)];
+    let list: MapPairs<'_, i8, Small<'_>> = MapPairs::new(&pairs);
+    is_archived_as(alloc, &list, bytes)
+}
+
+#[test]
+fn a_map_of_maps(rt: HostRuntime) {
+    assert!(rt; one_in_one_is(rt.alloc(), &nested()));
+}

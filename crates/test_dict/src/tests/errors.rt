@@ -1,0 +1,73 @@
+//! The numbers and names of errors, and the errors that end a run.
+
+use rkyv_base::{IteratorLengthMismatch, NoMemory, VerifyError, WriteError};
+use rkyv_dict::errors::{cause_text, refusal_text, wants_memory};
+
+fn refusal(error: VerifyError) -> &'static str {
+    refusal_text(&error)
+}
+
+fn cause(error: WriteError<NoMemory>) -> (&'static str, bool) {
+    (cause_text(&error), wants_memory(&error))
+}
+
+#[test]
+fn refusals_are_told(rt: HostRuntime) {
+    let told = [
+        refusal(VerifyError::OutOfRange { pos: -12, size: 9 }),
+        refusal(VerifyError::Unaligned { pos: 1, align: 4 }),
+        refusal(VerifyError::InvalidLength { len: 3, cap: 2 }),
+        refusal(VerifyError::WrongNumberOfElements {
+            expected: 0,
+            actual: 1,
+        }),
+        refusal(VerifyError::UnwrappedControlByte { index: 16 }),
+        refusal(VerifyError::PlaceOutOfRange { place: 4, len: 3 }),
+        refusal(VerifyError::InvalidValue { pos: 12 }),
+        refusal(VerifyError::Refused(0)),
+    ];
+    let names = [
+        "1 OutOfRange",
+        "2 Unaligned",
+        "3 InvalidLength",
+        "4 WrongNumberOfElements",
+        "5 UnwrappedControlByte",
+        "6 PlaceOutOfRange",
+        "7 InvalidValue",
+        "8 Refused",
+    ];
+    assert_eq!(rt; told, names);
+}
+
+#[test]
+fn causes_are_told(rt: HostRuntime) {
+    let told = [
+        cause(WriteError::InvalidLoadFactor {
+            numerator: 8,
+            denominator: 7,
+        }),
+        cause(WriteError::IteratorLengthMismatch(IteratorLengthMismatch {
+            expected: 3,
+            actual: 2,
+        })),
+        cause(WriteError::CapacityTooLarge { len: 4_294_967_295 }),
+        cause(WriteError::PositionTooLarge),
+        cause(WriteError::DistanceTooLarge),
+        cause(WriteError::TextTooLong),
+        cause(WriteError::Writer(NoMemory)),
+        cause(WriteError::Memory),
+        cause(WriteError::Refused(5)),
+    ];
+    let names = [
+        ("1 InvalidLoadFactor", false),
+        ("2 IteratorLengthMismatch", false),
+        ("3 CapacityTooLarge", false),
+        ("4 PositionTooLarge", false),
+        ("5 DistanceTooLarge", false),
+        ("6 TextTooLong", false),
+        ("7 Writer", true),
+        ("8 Memory", true),
+        ("9 Refused", false),
+    ];
+    assert_eq!(rt; told, names);
+}

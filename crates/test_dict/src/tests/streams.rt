@@ -1,0 +1,168 @@
+//! Readers and writers that fail, and the exit status of the run.
+
+use crate::tests::scripts::{ANSWERS, SCRIPT, answers};
+use rkyv_dict::run::{RunError, exit_status, run};
+use std::alloc::{AllocError, Global};
+use std::io;
+use std::io::{Read, Write};
+
+/// A reader of at most `most` bytes at a time, which fails once with `fails_at` bytes left.
+#[derive(Drop)]
+struct Slow<'a> {
+    rest: &'a [u8],
+    most: usize,
+    fails_at: Option<usize>,
+}
+
+impl Read for Slow<'_> {
+    fn read(&mut self, buf: &mut [u8]) -> io::Result<usize> {
+        if self.fails_at == Some(self.rest.len()) {
+            self.fails_at = None;
+            return Err(io::Error::from(io::ErrorKind::Other));
+        }
+        let n = buf.len().min(self.most).min(self.rest.len());
+        let (front, rest) = self.rest.split_at(n);
+        buf[..n].copy_from_slice(front);
+        self.rest = rest;
+        Ok(n)
+    }
+}
+
+/// A writer of at most `most` bytes of a piece, which fails after `left` bytes.
+#[derive(Drop)]
+struct Short {
+    taken: Vec<u8>,
+    most: usize,
+    left: usize,
+}
+
+impl Write for Short {
+    fn write(&mut self, buf: &[u8]) -> io::Result<usize> {
+        if self.left == 0 {
+            return Err(io::Error::from(io::ErrorKind::Other));
+        }
+        let n = buf.len().min(self.most).min(self.left);
+        self.taken.extend_from_slice(&buf[..n])?;
+        self.left -= n;
+        Ok(n)
+    }
+
+    fn flush(&mut self) -> io::Result<()> {
+        Ok(())
+    }
+}
+
+// Runs the script from a reader that fails once with `left` bytes left.
+// Returns the exit status and the written bytes.
+fn read_fails(alloc: Global, most: usize, left: usize) -> (u8, Vec<u8>) {
+    let mut out = Vec::new(alloc);
+    let mut reader = Slow {
+        rest: SCRIPT,
+        most,
+        fails_at: Some(left),
+    };
+    let outcome = run(alloc, &mut reader, &mut out);
+    (exit_status(&outcome), out)
+}
+
+// Runs the script into a writer that fails after `left` bytes.
+// Returns the exit status and the written bytes.
+fn write_fails(alloc: Global, most: usize, left: usize) -> (u8, Vec<u8>) {
+    let mut writer = Short {
+        taken: Vec::new(alloc),
+        most,
+        left,
+    };
+    let mut reader = SCRIPT;
+    let outcome = run(alloc, &mut reader, &mut writer);
+    (exit_status(&outcome), writer.taken)
+}
+
+// Returns whether a run into a writer that fails after `left` bytes writes just these bytes.
+fn leaves_a_beginning(alloc: Global, most: usize, left: usize) -> bool {
+    let (status, taken) = write_fails(alloc, most, left);
+    match ANSWERS.as_bytes().get(..left) {
+        Some(beginning) => status == 3 && taken.as_slice() == beginning,
+        None => false,
+    }
+}
+
+// Returns the script after `count` empty lines.
+fn behind_empty_lines(alloc: Global, count: u32) -> Result<Vec<u8>, AllocError> {
+    let mut script = Vec::new(alloc);
+    for _ in 0..count {
+        script.push(b'\n')?;
+    }
+    script.extend_from_slice(SCRIPT)?;
+    Ok(script)
+}
+
+// Returns the messages of all errors, and the exit statuses of all outcomes.
+fn told(alloc: Global) -> Result<(String, [u8; 4]), AllocError> {
+    let (read, write, memory) = (RunError::Read, RunError::Write, RunError::Memory);
+    let text = format!(in alloc; "{read}, {write}, {memory}")?;
+    let statuses = [
+        exit_status(&Ok(())),
+        exit_status(&Err(read)),
+        exit_status(&Err(write)),
+        exit_status(&Err(memory)),
+    ];
+    Ok((text, statuses))
+}
+
+#[test]
+fn outcomes_are_told(rt: HostRuntime) -> Result<(), AllocError> {
+    let (text, statuses) = told(rt.alloc())?;
+    assert_eq!(rt;
+        (text.as_str(), statuses),
+        ("read fault, write fault, no memory", [0, 2, 3, 4])
+    );
+    Ok(())
+}
+
+#[test]
+fn a_read_that_fails_ends_the_run(rt: HostRuntime) {
+    let (at_the_end, nothing) = read_fails(rt.alloc(), 1, 0);
+    let (rest_in_range, none_then) = read_fails(rt.alloc(), 1, 20);
+    let (at_once, none_still) = read_fails(rt.alloc(), 100, SCRIPT.len());
+    let written = [nothing.len(), none_then.len(), none_still.len()];
+    assert_eq!(rt;
+        ((at_the_end, rest_in_range, at_once), written),
+        ((2, 2, 2), [0, 0, 0])
+    );
+}
+
+#[test]
+fn many_reads_are_made(rt: HostRuntime) -> Result<(), AllocError> {
+    let script = behind_empty_lines(rt.alloc(), 3000)?;
+    let mut reader = Slow {
+        rest: script.as_slice(),
+        most: 1,
+        fails_at: None,
+    };
+    let mut out = Vec::new(rt.alloc());
+    let status = exit_status(&run(rt.alloc(), &mut reader, &mut out));
+    assert_eq!(rt; (status, out.as_slice()), (0, ANSWERS.as_bytes()));
+    Ok(())
+}
+
+#[test]
+fn a_write_that_fails_leaves_a_beginning(rt: HostRuntime) {
+    let wrong = (0..ANSWERS.len()).find(|left| !leaves_a_beginning(rt.alloc(), 7, *left));
+    let (whole, all) = write_fails(rt.alloc(), 1, ANSWERS.len());
+    assert_eq!(rt;
+        (wrong, whole, all.as_slice()),
+        (None, 0, ANSWERS.as_bytes())
+    );
+}
+
+#[test]
+fn a_write_that_takes_nothing_fails(rt: HostRuntime) {
+    let (status, taken) = write_fails(rt.alloc(), 0, 9);
+    assert_eq!(rt; (status, taken.as_slice()), (3, b"".as_slice()));
+}
+
+#[test]
+fn the_script_is_answered(rt: HostRuntime) {
+    assert!(rt; answers(rt.alloc(), SCRIPT, ANSWERS));
+}

@@ -1,0 +1,89 @@
+//! Tests of a list in both widths, and of archives from other sources.
+
+use rkyv_base::element::PartRange;
+use rkyv_base::entry::Entry;
+use rkyv_base::errors::VerifyError;
+use rkyv_base::width::{Narrow, Wide, Width};
+use rkyv_base::writer::{VecWriter, Writer};
+use rkyv_end_to_end::{
+    LookError, TableReport, look_over, write_and_look_over, written_lists_represent,
+};
+use std::alloc::Global;
+
+// Returns `true` if the walk, the result and the strides of a lookup are these.
+fn is_report(report: &TableReport, walked: &[u64], found: Option<u64>, strides: u64) -> bool {
+    report.walked.as_slice() == walked && report.found == found && report.strides == strides
+}
+
+// Writes 10, 20 and 30 after a zero, the first two with the hash 2 and the last with 5.
+// Returns `true` if the header ends at `end`, the walk visits the items of four buckets in order,
+// and a lookup is right. The lookup by 2 of a number above 10 finds 20.
+fn is_looked_over<W: Width>(alloc: Global, end: u64) -> bool {
+    let mut writer = VecWriter::new(alloc);
+    if writer.write(&[0]).is_err() {
+        return false;
+    }
+    let items = [10u8, 20, 30];
+    let hashes = [2u64, 2, 5];
+    match write_and_look_over::<W, u8, &u8, _, _, _>(
+        alloc,
+        items.iter(),
+        hashes.iter().copied(),
+        3,
+        (1, 1),
+        &mut writer,
+        2,
+        |item| item.to_native() > 10,
+    ) {
+        Ok(report) => is_report(&report, &[3, 2, 1], Some(1), 1) && writer.pos() == end,
+        Err(_) => false,
+    }
+}
+
+#[test]
+fn a_list_is_found_as_it_was_written(rt: HostRuntime) {
+    written_lists_represent::<Narrow, u8, &u8>();
+    let alloc = rt.alloc();
+    let seen = [
+        is_looked_over::<Narrow>(alloc, 48),
+        is_looked_over::<Wide>(alloc, 64),
+    ];
+    assert_eq!(rt; seen, [true; 2]);
+}
+
+// The archive of a table of one pair of numbers, in the second of two buckets.
+const ONE_PAIR: [u8; 60] = [
+    0x01, 0x00, 0x00, 0x00, 0x02, 0x00, 0x00, 0x00, 0x00, 0x00, 0x00, 0x00, 0x00, 0x00, 0x00, 0x00,
+    0xff, 0x28, 0xff, 0x28, 0xff, 0xff, 0xff, 0xff, 0xff, 0xff, 0xff, 0xff, 0xff, 0xff, 0xff, 0xff,
+    0xff, 0xff, 0xff, 0xff, 0xff, 0xff, 0xff, 0xff, 0xff, 0xff, 0xff, 0xff, 0xff, 0xff, 0xff, 0x00,
+    0xe0, 0xff, 0xff, 0xff, 0x01, 0x00, 0x00, 0x00, 0x02, 0x00, 0x00, 0x00,
+];
+
+// Looks up a hash in that table, with a comparison that accepts every item.
+fn look(alloc: Global, bytes: &[u8; 60], hash: u64) -> Result<TableReport, LookError> {
+    let range = PartRange { lo: 0, hi: 48 };
+    look_over::<Narrow, Entry<u32, u32>, _>(alloc, bytes, 48, range, hash, |_| true)
+}
+
+#[test]
+fn untrusted_bytes_are_reported_or_refused(rt: HostRuntime) {
+    let alloc = rt.alloc();
+    let found = match look(alloc, &ONE_PAIR, 0x5000_0000_0000_0001) {
+        Ok(report) => is_report(&report, &[0], Some(0), 1),
+        Err(_) => false,
+    };
+    let none = match look(alloc, &ONE_PAIR, 1) {
+        Ok(report) => is_report(&report, &[0], None, 1),
+        Err(_) => false,
+    };
+    let mut bytes = ONE_PAIR;
+    bytes[52] = 0;
+    let refused = matches!(
+        look(alloc, &bytes, 1),
+        Err(LookError::Verify(VerifyError::WrongNumberOfElements {
+            expected: 0,
+            actual: 1,
+        }))
+    );
+    assert_eq!(rt; [found, none, refused], [true; 3]);
+}

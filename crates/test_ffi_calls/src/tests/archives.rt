@@ -1,0 +1,85 @@
+//! The forms of maps, and archives of known bytes that `test_support` doesn't have.
+//!
+//! The comment of an archive has the position of each part. The hash of the number 1 is
+//! 517cc1b727220a95, with the tag 28. That of the empty text is 2b44f56ffae88a6b, with the tag 15.
+//! Both are odd, so each pair is in bucket 1 of two.
+
+use ffi_calls::form::Form;
+use test_support::archives::archive;
+
+/// Values of 32 bits in a narrow archive.
+pub const SHORT: Form = Form {
+    long_values: false,
+    wide: false,
+};
+
+/// Values of 64 bits in a narrow archive.
+pub const LONG: Form = Form {
+    long_values: true,
+    wide: false,
+};
+
+/// Values of 32 bits in a wide archive.
+pub const WIDE: Form = Form {
+    long_values: false,
+    wide: true,
+};
+
+/// Values of 64 bits in a wide archive.
+pub const WIDE_LONG: Form = Form {
+    long_values: true,
+    wide: true,
+};
+
+// The header of a narrow map of one pair in two buckets, after a zero of padding.
+// Control byte 0 is 32 bytes before it.
+const HEADER: [u8; 13] = [0, 0xe0, 0xff, 0xff, 0xff, 1, 0, 0, 0, 2, 0, 0, 0];
+
+// The header of a wide map, likewise.
+const WIDE_HEADER: [u8; 25] = [
+    0, 0xe0, 0xff, 0xff, 0xff, 0xff, 0xff, 0xff, 0xff, 1, 0, 0, 0, 0, 0, 0, 0, 2, 0, 0, 0, 0, 0, 0,
+    0,
+];
+
+// The buckets of the map of 1 to 2 with values of 64 bits, and the first control bytes.
+const LONG_BUCKETS: [u8; 36] = [
+    1, 0, 0, 0, 0, 0, 0, 0, 2, 0, 0, 0, 0, 0, 0, 0, 0, 0, 0, 0, 0, 0, 0, 0, 0, 0, 0, 0, 0, 0, 0, 0,
+    0xff, 0x28, 0xff, 0x28,
+];
+
+/// Returns the map of 1 to 2, with a value of 64 bits.
+///
+/// Buckets from 0 on, controls from 32 on, header at 64.
+pub fn one_long_number() -> [u8; 76] {
+    archive(&LONG_BUCKETS, &HEADER)
+}
+
+/// Returns the wide map of 1 to 2, with a value of 64 bits.
+///
+/// Buckets from 0 on, controls from 32 on, header at 64.
+pub fn one_wide_long_number() -> [u8; 88] {
+    archive(&LONG_BUCKETS, &WIDE_HEADER)
+}
+
+/// Returns the map of the empty text to 7, with a value of 32 bits.
+///
+/// Buckets from 0 on, controls from 24 on, header at 56.
+pub fn empty_text() -> [u8; 68] {
+    let front = [
+        0xff, 0xff, 0xff, 0xff, 0xff, 0xff, 0xff, 0xff, 7, 0, 0, 0, 0, 0, 0, 0, 0, 0, 0, 0, 0, 0,
+        0, 0, 0xff, 0x15, 0xff, 0x15,
+    ];
+    archive(&front, &HEADER)
+}
+
+/// Returns the wide map of the empty text to 7, whose bytes are the same in both widths of values.
+///
+/// Buckets from 0 on, controls from 48 on, header at 80.
+pub fn empty_wide_text() -> [u8; 104] {
+    let front = [
+        0xff, 0xff, 0xff, 0xff, 0xff, 0xff, 0xff, 0xff, 0xff, 0xff, 0xff, 0xff, 0xff, 0xff, 0xff,
+        0xff, 7, 0, 0, 0, 0, 0, 0, 0, 0, 0, 0, 0, 0, 0, 0, 0, 0, 0, 0, 0, 0, 0, 0, 0, 0, 0, 0, 0,
+        0, 0, 0, 0, 0xff, 0x15, 0xff, 0x15,
+    ];
+    archive(&front, &WIDE_HEADER)
+}

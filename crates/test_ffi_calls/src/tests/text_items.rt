@@ -1,0 +1,111 @@
+//! Tests of archives of pairs of texts and numbers.
+
+use crate::tests::archives::{LONG, SHORT, WIDE, WIDE_LONG, empty_text, empty_wide_text};
+use ffi_calls::building::Built;
+use ffi_calls::form::Form;
+use ffi_calls::status::DONE;
+use ffi_calls::text_items::{TextItem, build_texts};
+use std::alloc::Global;
+use test_support::archives::{no_items, one_symbol};
+
+// Returns the status of a write of the items, and whether `built` has `bytes` if it is 0.
+// After an error the flag is whether `built` is unchanged.
+fn write(alloc: Global, items: &[TextItem<'_>], form: Form, bytes: &[u8]) -> (u32, bool) {
+    let mut before = [1, 2];
+    let mut built = Built { bytes: &mut before };
+    let status = build_texts(alloc, items, form, &mut built);
+    let wanted = if status == DONE { bytes } else { &[1, 2] };
+    let Built { bytes: after } = built;
+    (status, &*after == wanted)
+}
+
+// Writes one pair.
+fn write_one(alloc: Global, form: Form, key: &[u8], value: u64, bytes: &[u8]) -> (u32, bool) {
+    write(alloc, &[TextItem { key, value }], form, bytes)
+}
+
+// Writes the pairs of the keys, each with its value.
+fn write_two(alloc: Global, form: Form, keys: [&[u8]; 2], values: [u64; 2]) -> (u32, bool) {
+    let items = [
+        TextItem {
+            key: keys[0],
+            value: values[0],
+        },
+        TextItem {
+            key: keys[1],
+            value: values[1],
+        },
+    ];
+    write(alloc, &items, form, &[])
+}
+
+// Returns whether the result is that of the archive, or of an allocation that fails.
+fn is_permitted(written: (u32, bool)) -> bool {
+    written == (0, true) || written == (12, true)
+}
+
+#[test]
+fn one_pair_has_its_bytes_or_no_memory(rt: HostRuntime) {
+    let alloc = rt.alloc();
+    assert!(rt; is_permitted(write_one(alloc, SHORT, b"", 7, &empty_text())));
+    assert!(rt; is_permitted(write_one(alloc, LONG, b"main", 4096, &one_symbol())));
+    assert!(rt; is_permitted(write_one(alloc, WIDE, b"", 7, &empty_wide_text())));
+    assert!(rt; is_permitted(write_one(alloc, WIDE_LONG, b"", 7, &empty_wide_text())));
+}
+
+#[test]
+fn one_pair_succeeds(rt: HostRuntime) {
+    let alloc = rt.alloc();
+    assert_eq!(rt; write_one(alloc, SHORT, b"", 7, &empty_text()), (0, true));
+    assert_eq!(rt;
+        write_one(alloc, LONG, b"main", 4096, &one_symbol()),
+        (0, true)
+    );
+    assert_eq!(rt;
+        write_one(alloc, WIDE, b"", 7, &empty_wide_text()),
+        (0, true)
+    );
+    assert_eq!(rt;
+        write_one(alloc, WIDE_LONG, b"", 7, &empty_wide_text()),
+        (0, true)
+    );
+}
+
+#[test]
+fn no_pair_succeeds(rt: HostRuntime) {
+    assert_eq!(rt; write(rt.alloc(), &[], SHORT, &no_items()), (0, true));
+    assert_eq!(rt; write(rt.alloc(), &[], LONG, &no_items()), (0, true));
+    let mut wide = [0; 24];
+    wide[0] = 1;
+    assert_eq!(rt; write(rt.alloc(), &[], WIDE, &wide), (0, true));
+    assert_eq!(rt; write(rt.alloc(), &[], WIDE_LONG, &wide), (0, true));
+}
+
+#[test]
+fn the_rejection_of_the_first_that_does_not_fit_succeeds(rt: HostRuntime) {
+    let alloc = rt.alloc();
+    let large = 0x1_0000_0000u64;
+    let text: &[u8] = b"main";
+    let other: &[u8] = &[0x80];
+    assert_eq!(rt;
+        write_two(alloc, SHORT, [text, other], [large, 1]),
+        (3, true)
+    );
+    assert_eq!(rt;
+        write_two(alloc, SHORT, [other, text], [1, large]),
+        (4, true)
+    );
+    assert_eq!(rt;
+        write_two(alloc, WIDE, [other, text], [large, 1]),
+        (4, true)
+    );
+    assert_eq!(rt; write_two(alloc, WIDE, [text, text], [1, large]), (3, true));
+    assert_eq!(rt;
+        write_two(alloc, LONG, [text, other], [u64::MAX, 1]),
+        (4, true)
+    );
+    assert_eq!(rt;
+        write_two(alloc, WIDE_LONG, [other, other], [large, large]),
+        (4, true)
+    );
+}

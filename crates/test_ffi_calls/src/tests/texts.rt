@@ -1,0 +1,153 @@
+//! Tests of lookups, overwrites and walks of maps of texts.
+
+ghost use Rattle.std.specs.Prelude.{IsTrue};
+ghost use Rattle.ffi_calls.specs.Archives.{IsTextArchive};
+
+use crate::tests::archives::{LONG, SHORT, WIDE, WIDE_LONG, empty_text, empty_wide_text};
+use ffi_calls::form::Form;
+use ffi_calls::status::DONE;
+use ffi_calls::texts::{TextPair, count_texts, get_text, is_text, next_text, open_texts, set_text};
+use test_support::archives::one_symbol;
+
+// Returns whether the archive is valid in the form.
+fn is_map(archive: &[u8], form: Form) -> bool
+    ensures { IsTrue result → IsTextArchive form archive.now }
+{
+    if open_texts(archive, form) == DONE {
+        true
+    } else {
+        false
+    }
+}
+
+// Returns the number of pairs, and the status and the value of a lookup that replaces the value 9.
+fn lookup(archive: &[u8], form: Form, key: &[u8]) -> Option<(usize, u32, u64)> {
+    if !is_map(archive, form) {
+        return None;
+    }
+    let mut value = 9u64;
+    let status = get_text(archive, form, key, &mut value);
+    Some((count_texts(archive, form), status, value))
+}
+
+// Returns the status of a step from the given bucket on, if the pair is as wanted afterwards.
+// It has the key `?` and the value 9 at first.
+fn step(archive: &[u8], form: Form, from: u64, next: u64, key: &[u8], value: u64) -> Option<u32> {
+    if !is_map(archive, form) {
+        return None;
+    }
+    let mut pair = TextPair {
+        next: from,
+        value: 9,
+        key: b"?",
+    };
+    let status = next_text(archive, form, &mut pair);
+    if pair.next == next && pair.key == key && pair.value == value {
+        Some(status)
+    } else {
+        None
+    }
+}
+
+// Returns the status of an overwrite, if the archive is valid before and after it.
+fn overwrite(archive: &mut [u8], form: Form, key: &[u8], value: u64) -> Option<u32> {
+    if !is_map(&*archive, form) {
+        return None;
+    }
+    let status = set_text(archive, form, key, value);
+    if is_map(&*archive, form) {
+        Some(status)
+    } else {
+        None
+    }
+}
+
+#[test]
+fn texts_are_utf8(rt: HostRuntime) {
+    assert!(rt; is_text(b"") && is_text(b"main") && is_text(&[0xc3, 0xa9]));
+    assert!(rt; !is_text(&[0x80]) && !is_text(&[0xc3]) && !is_text(&[0x61, 0xff]));
+}
+
+#[test]
+fn lookups_find_the_text(rt: HostRuntime) {
+    assert_eq!(rt; lookup(&empty_text(), SHORT, b""), Some((1, 0, 7)));
+    assert_eq!(rt; lookup(&one_symbol(), LONG, b"main"), Some((1, 0, 4096)));
+    assert_eq!(rt; lookup(&empty_wide_text(), WIDE, b""), Some((1, 0, 7)));
+    assert_eq!(rt; lookup(&empty_wide_text(), WIDE_LONG, b""), Some((1, 0, 7)));
+}
+
+#[test]
+fn lookups_find_no_other_text(rt: HostRuntime) {
+    assert_eq!(rt; lookup(&empty_text(), SHORT, b"a"), Some((1, 1, 9)));
+    assert_eq!(rt; lookup(&one_symbol(), LONG, b"mai"), Some((1, 1, 9)));
+    assert_eq!(rt;
+        lookup(&empty_wide_text(), WIDE, &[0x61, 0xff]),
+        Some((1, 4, 9))
+    );
+    assert_eq!(rt;
+        lookup(&empty_wide_text(), WIDE_LONG, &[0xc3]),
+        Some((1, 4, 9))
+    );
+}
+
+#[test]
+fn steps_read_the_pair(rt: HostRuntime) {
+    assert_eq!(rt; step(&empty_text(), SHORT, 0, 2, b"", 7), Some(0));
+    assert_eq!(rt; step(&one_symbol(), LONG, 0, 1, b"main", 4096), Some(0));
+    assert_eq!(rt; step(&empty_wide_text(), WIDE, 1, 2, b"", 7), Some(0));
+    assert_eq!(rt; step(&empty_wide_text(), WIDE_LONG, 0, 2, b"", 7), Some(0));
+}
+
+#[test]
+fn steps_end_after_the_last_pair(rt: HostRuntime) {
+    assert_eq!(rt; step(&empty_text(), SHORT, 2, 2, b"?", 9), Some(2));
+    assert_eq!(rt; step(&one_symbol(), LONG, 1, 1, b"?", 9), Some(2));
+    assert_eq!(rt;
+        step(&empty_wide_text(), WIDE, u64::MAX, u64::MAX, b"?", 9),
+        Some(2)
+    );
+    assert_eq!(rt; step(&empty_wide_text(), WIDE_LONG, 2, 2, b"?", 9), Some(2));
+}
+
+#[test]
+fn overwrites_reject_keys_and_values(rt: HostRuntime) {
+    let mut narrow = empty_text();
+    let mut wide = empty_wide_text();
+    assert_eq!(rt;
+        overwrite(&mut narrow, SHORT, &[0x80], 0x1_0000_0000),
+        Some(4)
+    );
+    assert_eq!(rt; overwrite(&mut narrow, SHORT, b"", 0x1_0000_0000), Some(3));
+    assert_eq!(rt; overwrite(&mut narrow, SHORT, b"a", 0x1_0000_0000), Some(3));
+    assert_eq!(rt; overwrite(&mut narrow, SHORT, b"a", 8), Some(1));
+    assert_eq!(rt; overwrite(&mut wide, WIDE, b"a", u64::MAX), Some(3));
+    assert_eq!(rt; overwrite(&mut wide, WIDE_LONG, b"a", u64::MAX), Some(1));
+    assert_eq!(rt; overwrite(&mut wide, WIDE_LONG, &[0x80], 8), Some(4));
+    assert!(rt; narrow == empty_text() && wide == empty_wide_text());
+}
+
+#[test]
+fn overwrites_change_the_value_alone(rt: HostRuntime) {
+    let mut narrow = empty_text();
+    let mut long = one_symbol();
+    let mut wide = empty_wide_text();
+    let mut wide_long = empty_wide_text();
+    assert_eq!(rt; overwrite(&mut narrow, SHORT, b"", 0x0405), Some(0));
+    assert_eq!(rt; overwrite(&mut long, LONG, b"main", 0x1_0000_0002), Some(0));
+    assert_eq!(rt; overwrite(&mut wide, WIDE, b"", 0xffff_ffff), Some(0));
+    assert_eq!(rt;
+        overwrite(&mut wide_long, WIDE_LONG, b"", u64::MAX),
+        Some(0)
+    );
+    let mut bytes = empty_text();
+    bytes[8..12].copy_from_slice(&[5, 4, 0, 0]);
+    assert!(rt; narrow == bytes);
+    let mut bytes = one_symbol();
+    bytes[24..32].copy_from_slice(&[2, 0, 0, 0, 1, 0, 0, 0]);
+    assert!(rt; long == bytes);
+    let mut bytes = empty_wide_text();
+    bytes[16..20].copy_from_slice(&[0xff; 4]);
+    assert!(rt; wide == bytes);
+    bytes[20..24].copy_from_slice(&[0xff; 4]);
+    assert!(rt; wide_long == bytes);
+}

@@ -1,0 +1,72 @@
+//! Tests of valid and invalid archives of index maps.
+
+use crate::tests::archives::{no_pairs, no_wide_pairs, one_pair, wide_pair};
+use rkyv_base::access::{access, access_in};
+use rkyv_base::errors::VerifyError;
+use rkyv_base::width::Wide;
+use rkyv_index::{ArchivedIndexMap, IndexMapOf};
+use rkyv_scan::hash::FxHasher64;
+use std::test::Fail;
+use test_support::archives::four_entries;
+
+type Small = IndexMapOf<i8, i8>;
+
+// Returns the index and the length in the error of an index out of range, or zeros.
+fn refused_place(bytes: &[u8]) -> (usize, usize) {
+    match access::<Small>(bytes) {
+        Err(VerifyError::PlaceOutOfRange { place, len }) => (place, len),
+        _ => (0, 0),
+    }
+}
+
+#[test]
+fn a_place_that_is_none_is_refused(rt: HostRuntime) -> Result<(), Fail> {
+    let mut one = one_pair();
+    one[0] = 1;
+    assert_eq!(rt; refused_place(&one), (1, 1));
+    let mut four = four_entries();
+    four[12] = 4;
+    assert_eq!(rt; refused_place(&four), (4, 4));
+    Ok(())
+}
+
+#[test]
+fn entries_may_be_anywhere(rt: HostRuntime) -> Result<(), Fail> {
+    let mut bytes = four_entries();
+    bytes[72] = 0xec;
+    let map = ArchivedIndexMap::of(access::<Small>(&bytes)?);
+    let mut digits = 0i32;
+    for (key, value) in map {
+        let pair = i32::from(key.to_native()).wrapping_mul(10);
+        let pair = pair.wrapping_add(i32::from(value.to_native()));
+        digits = digits.wrapping_mul(100).wrapping_add(pair);
+    }
+    assert_eq!(rt; digits, 23456780);
+    Ok(())
+}
+
+#[test]
+fn empty_maps_are_accepted(rt: HostRuntime) -> Result<(), Fail> {
+    let bytes = no_pairs();
+    let map = ArchivedIndexMap::of(access::<Small>(&bytes)?);
+    assert!(rt; map.is_empty());
+    assert!(rt; map.get(&5).is_none());
+    assert!(rt; map.iter().next().is_none());
+    let wide = no_wide_pairs();
+    let root = access_in::<Wide, IndexMapOf<i8, i8, FxHasher64, Wide>>(&wide)?;
+    assert!(rt; ArchivedIndexMap::of(root).is_empty());
+    Ok(())
+}
+
+#[test]
+fn a_wide_map_is_accepted(rt: HostRuntime) -> Result<(), Fail> {
+    let bytes = wide_pair();
+    let root = access_in::<Wide, IndexMapOf<i8, i8, FxHasher64, Wide>>(&bytes)?;
+    let map = ArchivedIndexMap::of(root);
+    let found = match map.get_full(&1) {
+        Some((place, _, value)) => (place, value.to_native()),
+        None => (9, 0),
+    };
+    assert_eq!(rt; found, (0, 2));
+    Ok(())
+}

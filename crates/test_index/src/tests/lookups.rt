@@ -1,0 +1,205 @@
+//! Tests of lookups, walks, equality and printing of index maps.
+
+use crate::tests::archives::{no_pairs, one_key_twice, one_pair};
+use crate::tests::writing::narrow;
+use rkyv_base::access::access;
+use rkyv_base::view::View;
+use rkyv_index::{ArchivedIndexMap, IndexMapOf};
+use rkyv_table::Strides;
+use std::cell::Cell;
+use std::test::Fail;
+use test_support::archives::four_entries;
+
+type Small = IndexMapOf<i8, i8>;
+
+#[test]
+fn a_key_is_found_with_its_place(rt: HostRuntime) -> Result<(), Fail> {
+    let bytes = four_entries();
+    let map = ArchivedIndexMap::of(access::<Small>(&bytes)?);
+    let found = match map.get_full(&7) {
+        Some((place, key, value)) => (place, key.to_native(), value.to_native()),
+        None => (0, 0, 0),
+    };
+    let second = match map.get_index(1) {
+        Some((key, value)) => (key.to_native(), value.to_native()),
+        None => (0, 0),
+    };
+    assert_eq!(rt; (found, second), ((3, 7, 8), (3, 4)));
+    let past = map.get_index(4).is_none();
+    let none = map.get_index_of(&9).is_none();
+    assert!(rt; past && none);
+    Ok(())
+}
+
+#[test]
+fn every_form_finds_the_same(rt: HostRuntime) -> Result<(), Fail> {
+    let bytes = four_entries();
+    let map = ArchivedIndexMap::of(access::<Small>(&bytes)?);
+    let value = match map.get(&5) {
+        Some(value) => value.to_native(),
+        None => 0,
+    };
+    let key = match map.get_key_value(&5) {
+        Some((key, _)) => key.to_native(),
+        None => 0,
+    };
+    let place = map.get_index_of(&5);
+    assert_eq!(rt; (key, value), (5, 6));
+    assert!(rt; place == Some(2));
+    assert!(rt; map.contains_key(&5));
+    Ok(())
+}
+
+#[test]
+fn a_comparison_is_handed_in(rt: HostRuntime) -> Result<(), Fail> {
+    let bytes = four_entries();
+    let map = ArchivedIndexMap::of(access::<Small>(&bytes)?);
+    let found = match map.get_full_with(&5i8, |_: &i8, _: View<'_, i8>| true) {
+        Some((place, _, value)) => (place, value.to_native()),
+        None => (0, 0),
+    };
+    let value = match map.get_with(&5i8, |_: &i8, _: View<'_, i8>| true) {
+        Some(value) => value.to_native(),
+        None => 0,
+    };
+    let key = match map.get_key_value_with(&5i8, |_: &i8, _: View<'_, i8>| true) {
+        Some((key, _)) => key.to_native(),
+        None => 0,
+    };
+    let place = map.get_index_of_with(&5i8, |_: &i8, _: View<'_, i8>| true);
+    assert_eq!(rt; (found, value, key), ((2, 6), 6, 5));
+    assert!(rt; place == Some(2));
+    Ok(())
+}
+
+#[test]
+fn a_walk_keeps_the_order(rt: HostRuntime) -> Result<(), Fail> {
+    let bytes = four_entries();
+    let map = ArchivedIndexMap::of(access::<Small>(&bytes)?);
+    let mut keys = 0i32;
+    for key in map.keys() {
+        keys = keys
+            .wrapping_mul(10)
+            .wrapping_add(i32::from(key.to_native()));
+    }
+    let mut values = 0i32;
+    for value in map.values() {
+        values = values
+            .wrapping_mul(10)
+            .wrapping_add(i32::from(value.to_native()));
+    }
+    assert_eq!(rt; (keys, values), (1357, 2468));
+    Ok(())
+}
+
+#[test]
+fn lengths_of_walks_are_exact(rt: HostRuntime) -> Result<(), Fail> {
+    let bytes = four_entries();
+    let map = ArchivedIndexMap::of(access::<Small>(&bytes)?);
+    let mut pairs = map.iter();
+    let before = pairs.len();
+    let _first = pairs.next();
+    let _second = pairs.next();
+    assert_eq!(rt; (before, pairs.len(), pairs.size_hint().0), (4, 2, 2));
+    Ok(())
+}
+
+#[test]
+fn of_equal_keys_the_first_is_found(rt: HostRuntime) -> Result<(), Fail> {
+    let bytes = one_key_twice();
+    let map = ArchivedIndexMap::of(access::<Small>(&bytes)?);
+    let found = match map.get_full(&1) {
+        Some((place, _, value)) => (place, value.to_native()),
+        None => (9, 0),
+    };
+    let second = match map.get_index(1) {
+        Some((key, value)) => (key.to_native(), value.to_native()),
+        None => (0, 0),
+    };
+    assert_eq!(rt;
+        (map.len(), found, second, map.misplaced()),
+        (2, (0, 2), (1, 9), 1)
+    );
+    Ok(())
+}
+
+#[test]
+fn a_comparison_that_accepts_none(rt: HostRuntime) -> Result<(), Fail> {
+    let bytes = one_key_twice();
+    let map = ArchivedIndexMap::of(access::<Small>(&bytes)?);
+    let asks = Cell::new(0usize);
+    let found = map.get_with(&1i8, |_: &i8, _: View<'_, i8>| {
+        asks.set(asks.get().wrapping_add(1));
+        false
+    });
+    assert!(rt; found.is_none());
+    assert_eq!(rt; asks.get(), 4);
+    Ok(())
+}
+
+#[test]
+fn strides_are_counted(rt: HostRuntime) -> Result<(), Fail> {
+    let four = four_entries();
+    let map = ArchivedIndexMap::of(access::<Small>(&four)?);
+    let none = no_pairs();
+    let empty = ArchivedIndexMap::of(access::<Small>(&none)?);
+    let mut strides = Strides::new();
+    let found = map.get_index_of_counted(&5i8, |_: &i8, _: View<'_, i8>| true, &mut strides);
+    let one = strides.count();
+    let refused = map.get_index_of_counted(&5i8, |_: &i8, _: View<'_, i8>| false, &mut strides);
+    let two = strides.count();
+    let nothing = empty.get_index_of_counted(&5i8, |_: &i8, _: View<'_, i8>| true, &mut strides);
+    assert_eq!(rt;
+        (found, refused, nothing, one, two, strides.count()),
+        (Some(2), None, None, 1, 2, 2)
+    );
+    Ok(())
+}
+
+#[test]
+fn a_place_that_two_buckets_hold(rt: HostRuntime) -> Result<(), Fail> {
+    let mut bytes = one_key_twice();
+    bytes[4] = 0;
+    let map = ArchivedIndexMap::of(access::<Small>(&bytes)?);
+    let found = match map.get_full(&1) {
+        Some((place, key, value)) => (place, key.to_native(), value.to_native()),
+        None => (9, 0, 0),
+    };
+    assert_eq!(rt; (found, map.misplaced()), ((0, 1, 2), 1));
+    Ok(())
+}
+
+#[test]
+fn a_key_that_was_changed_is_misplaced(rt: HostRuntime) -> Result<(), Fail> {
+    let mut bytes = one_pair();
+    bytes[39] = 5;
+    let map = ArchivedIndexMap::of(access::<Small>(&bytes)?);
+    let pair = match map.get_index(0) {
+        Some((key, value)) => (key.to_native(), value.to_native()),
+        None => (0, 0),
+    };
+    assert_eq!(rt; (pair, map.misplaced()), ((5, 2), 1));
+    assert!(rt; map.get_full(&5).is_none());
+    Ok(())
+}
+
+#[test]
+fn equality_is_that_of_the_lists(rt: HostRuntime) -> Result<(), Fail> {
+    let bytes = four_entries();
+    let map = ArchivedIndexMap::of(access::<Small>(&bytes)?);
+    let backwards = narrow(rt.alloc(), &[(7, 8), (5, 6), (3, 4), (1, 2)])?;
+    let other = ArchivedIndexMap::of(access::<Small>(backwards.as_slice())?);
+    let own = map.eq_index(map);
+    let turned = map.eq_index(other);
+    assert_eq!(rt; (own, turned, map.misplaced()), (true, false, 0));
+    Ok(())
+}
+
+#[test]
+fn maps_are_printed(rt: HostRuntime) -> Result<(), Fail> {
+    let bytes = four_entries();
+    let map = ArchivedIndexMap::of(access::<Small>(&bytes)?);
+    let text = format!(in rt.alloc(); "{map:?}")?;
+    assert_eq!(rt; text.as_str(), "{1: 2, 3: 4, 5: 6, 7: 8}");
+    Ok(())
+}

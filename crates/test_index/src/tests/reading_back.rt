@@ -1,0 +1,97 @@
+//! Tests of index maps and index sets that are read back into lists.
+
+use crate::tests::archives::{no_pairs, one_key_twice, wide_pair};
+use rkyv_base::access::{access, access_in};
+use rkyv_base::root::to_bytes;
+use rkyv_base::width::{Narrow, Wide, Width};
+use rkyv_index::round_trip::{items_come_back, pairs_come_back};
+use rkyv_index::{
+    ArchivedIndexMap, ArchivedIndexSet, IndexMapOf, IndexSetOf, OrderedItems, OrderedPairs,
+};
+use rkyv_scan::hash::FxHasher64;
+use std::alloc::Global;
+use std::test::Fail;
+use test_support::archives::{four_entries, one_index_key};
+
+// Returns the pairs in the archive of an index map, if it is valid and no allocation fails.
+fn read<W: Width>(alloc: Global, bytes: &[u8]) -> Option<Vec<(i8, i8)>> {
+    match access_in::<W, IndexMapOf<i8, i8, FxHasher64, W>>(bytes) {
+        Ok(root) => ArchivedIndexMap::of(root).deserialize_pairs(alloc).ok(),
+        Err(_) => None,
+    }
+}
+
+// Returns whether these are exactly the pairs in the archive.
+fn is_read<W: Width>(alloc: Global, bytes: &[u8], pairs: &[(i8, i8)]) -> bool {
+    match read::<W>(alloc, bytes) {
+        Some(list) => list.as_slice() == pairs,
+        None => false,
+    }
+}
+
+#[test]
+fn pairs_are_read_back_in_their_order(rt: HostRuntime) {
+    let alloc = rt.alloc();
+    let read = [
+        is_read::<Narrow>(alloc, &four_entries(), &[(1, 2), (3, 4), (5, 6), (7, 8)]),
+        is_read::<Narrow>(alloc, &one_key_twice(), &[(1, 2), (1, 9)]),
+        is_read::<Narrow>(alloc, &no_pairs(), &[]),
+        is_read::<Wide>(alloc, &wide_pair(), &[(1, 2)]),
+        is_read::<Narrow>(alloc, &four_entries(), &[(1, 2), (3, 4), (7, 8), (5, 6)]),
+    ];
+    assert_eq!(rt; read, [true, true, true, true, false]);
+}
+
+// Returns the items in the archive of an index set, if it is valid and no allocation fails.
+fn items(alloc: Global, bytes: &[u8]) -> Option<Vec<i8>> {
+    match access::<IndexSetOf<i8>>(bytes) {
+        Ok(root) => ArchivedIndexSet::of(root).deserialize_items(alloc).ok(),
+        Err(_) => None,
+    }
+}
+
+// Returns whether these are exactly the items in the archive.
+fn are_items(alloc: Global, bytes: &[u8], expected: &[i8]) -> bool {
+    match items(alloc, bytes) {
+        Some(list) => list.as_slice() == expected,
+        None => false,
+    }
+}
+
+#[test]
+fn items_are_read_back_in_their_order(rt: HostRuntime) -> Result<(), Fail> {
+    let alloc = rt.alloc();
+    let written = to_bytes(alloc, &OrderedItems(vec![in alloc; 4i8, 1, 3]?))?;
+    let read = [
+        are_items(alloc, written.as_slice(), &[4, 1, 3]),
+        are_items(alloc, &one_index_key(), &[1]),
+        are_items(alloc, &no_pairs(), &[]),
+        are_items(alloc, written.as_slice(), &[1, 3, 4]),
+    ];
+    assert_eq!(rt; read, [true, true, true, false]);
+    Ok(())
+}
+
+// Returns whether the list of these names is the same after a round trip through a wide archive.
+fn names_come_back(alloc: Global, first: &str, second: &str) -> Option<bool> {
+    let first = String::from_str(alloc, first).ok()?;
+    let second = String::from_str(alloc, second).ok()?;
+    let names = OrderedItems(vec![in alloc; first, second].ok()?);
+    items_come_back::<Wide, String>(alloc, &names).ok()
+}
+
+// Returns whether a list of pairs, two of them with one key, is the same after a narrow round trip.
+fn numbers_come_back(alloc: Global) -> Option<bool> {
+    let pairs = OrderedPairs(vec![in alloc; (3i8, 4i8), (1, 2), (3, 5)].ok()?);
+    pairs_come_back::<Narrow, i8, i8>(alloc, &pairs).ok()
+}
+
+#[test]
+fn lists_come_back(rt: HostRuntime) {
+    let alloc = rt.alloc();
+    let back = [
+        names_come_back(alloc, "main", "a name of more than eight bytes"),
+        numbers_come_back(alloc),
+    ];
+    assert_eq!(rt; back, [Some(true); 2]);
+}

@@ -1,0 +1,244 @@
+//! Tests of values of index maps that are written in place.
+ghost use Rattle.std.specs.Prelude.{IfSome, ◌<◌};
+ghost use Rattle.rkyv_base.specs.Entry.{entry_spec};
+ghost use Rattle.rkyv_base.specs.ElementSpec.{Viewable};
+ghost use Rattle.rkyv_table.specs.Table.Header.{len_at};
+ghost use Rattle.rkyv_index.specs.IndexLayout.{index_spec};
+
+use crate::tests::archives::one_pair;
+use rkyv_base::access::{access, access_in, access_mut};
+use rkyv_base::element::{Element, Represents};
+use rkyv_base::errors::VerifyError;
+use rkyv_base::scalars::Scalar;
+use rkyv_base::view::View;
+use rkyv_base::width::{Narrow, Width};
+use rkyv_index::map::in_place::set_value_at;
+use rkyv_index::map::laws::{
+    value_writes_keep_answers, value_writes_keep_index_maps, values_written_represent,
+};
+use rkyv_index::{ArchivedIndexMap, IndexMapOf};
+use rkyv_keys::keys::{KeyElement, Query};
+use rkyv_scan::hash::{FxHasher64, KeyHasher};
+use test_support::archives::four_entries;
+
+type Small = IndexMapOf<i8, i8>;
+
+// Returns the value of a key, by a plain lookup.
+fn value_of(bytes: &[u8], key: i8) -> Result<Option<i8>, VerifyError> {
+    match ArchivedIndexMap::of(access::<Small>(bytes)?).get(&key) {
+        Some(value) => Ok(Some(value.to_native())),
+        None => Ok(None),
+    }
+}
+
+// Writes a number over the value of a key. Returns the index, the key, and the value before that.
+fn replace(bytes: &mut [u8], key: i8, value: i8) -> Result<Option<(usize, i8, i8)>, VerifyError> {
+    let whole = access_mut::<Small>(bytes)?;
+    match ArchivedIndexMap::get_full_seal(whole, &key) {
+        Some((place, stored, mut seal)) => {
+            let before = (place, stored.to_native(), seal.to_native());
+            seal.set(value);
+            Ok(Some(before))
+        }
+        None => Ok(None),
+    }
+}
+
+// Does the same by a comparison that always returns `accepts`.
+fn replace_by(
+    bytes: &mut [u8],
+    key: i8,
+    value: i8,
+    accepts: bool,
+) -> Result<Option<(usize, i8, i8)>, VerifyError> {
+    let whole = access_mut::<Small>(bytes)?;
+    match ArchivedIndexMap::get_full_seal_with(whole, &key, |_: &i8, _: View<'_, i8>| accepts) {
+        Some((place, stored, mut seal)) => {
+            let before = (place, stored.to_native(), seal.to_native());
+            seal.set(value);
+            Ok(Some(before))
+        }
+        None => Ok(None),
+    }
+}
+
+// Does the same by `get_key_value_seal`. Returns the key, and the value before the write.
+fn replace_beside_key(
+    bytes: &mut [u8],
+    key: i8,
+    value: i8,
+) -> Result<Option<(i8, i8)>, VerifyError> {
+    let whole = access_mut::<Small>(bytes)?;
+    match ArchivedIndexMap::get_key_value_seal(whole, &key) {
+        Some((stored, mut seal)) => {
+            let before = (stored.to_native(), seal.to_native());
+            seal.set(value);
+            Ok(Some(before))
+        }
+        None => Ok(None),
+    }
+}
+
+// Returns the key that is found by a comparison that always returns `accepts`.
+fn key_by(bytes: &mut [u8], key: i8, accepts: bool) -> Result<Option<i8>, VerifyError> {
+    let whole = access_mut::<Small>(bytes)?;
+    match ArchivedIndexMap::get_key_value_seal_with(
+        whole,
+        &key,
+        |_: &i8, _: View<'_, i8>| accepts,
+    ) {
+        Some((stored, _)) => Ok(Some(stored.to_native())),
+        None => Ok(None),
+    }
+}
+
+// Writes a number over the value of a key. Returns the values before and after the write.
+fn replace_value(bytes: &mut [u8], key: i8, value: i8) -> Result<Option<(i8, i8)>, VerifyError> {
+    let whole = access_mut::<Small>(bytes)?;
+    match ArchivedIndexMap::get_seal(whole, &key) {
+        Some(mut seal) => {
+            let before = seal.to_native();
+            seal.set(value);
+            Ok(Some((before, seal.to_native())))
+        }
+        None => Ok(None),
+    }
+}
+
+// Returns the value that is found by a comparison that always returns `accepts`.
+fn value_by(bytes: &mut [u8], key: i8, accepts: bool) -> Result<Option<i8>, VerifyError> {
+    let whole = access_mut::<Small>(bytes)?;
+    match ArchivedIndexMap::get_seal_with(whole, &key, |_: &i8, _: View<'_, i8>| accepts) {
+        Some(seal) => Ok(Some(seal.to_native())),
+        None => Ok(None),
+    }
+}
+
+#[test]
+fn a_found_value_is_written_in_place(rt: HostRuntime) {
+    value_writes_keep_index_maps::<i8, i8, FxHasher64, Narrow>();
+    value_writes_keep_answers::<i8, i8, i8, FxHasher64, Narrow>();
+    values_written_represent::<i8, i8, i8, i8, FxHasher64, Narrow>();
+    let mut bytes = one_pair();
+    let replaced = replace(&mut bytes, 1, -1).ok();
+    let found = value_of(&bytes, 1).ok();
+    let mut wanted = one_pair();
+    wanted[40] = 0xff;
+    assert_eq!(rt;
+        (replaced, found, bytes == wanted),
+        (Some(Some((0, 1, 2))), Some(Some(-1)), true)
+    );
+}
+
+#[test]
+fn every_form_writes_the_same(rt: HostRuntime) {
+    let mut bytes = four_entries();
+    let replaced = [
+        replace(&mut bytes, 7, 80).ok(),
+        replace_by(&mut bytes, 3, 40, true).ok(),
+    ];
+    let beside_key = replace_beside_key(&mut bytes, 5, 60).ok();
+    let value = replace_value(&mut bytes, 1, 20).ok();
+    let by_comparison = (
+        key_by(&mut bytes, 5, true).ok(),
+        value_by(&mut bytes, 5, true).ok(),
+    );
+    let mut wanted = four_entries();
+    wanted[51..59].copy_from_slice(&[1, 20, 3, 40, 5, 60, 7, 80]);
+    assert_eq!(rt;
+        (replaced, beside_key, value, by_comparison, bytes == wanted),
+        (
+            [Some(Some((3, 7, 8))), Some(Some((1, 3, 4)))],
+            Some(Some((5, 6))),
+            Some(Some((2, 20))),
+            (Some(Some(5)), Some(Some(60))),
+            true,
+        )
+    );
+}
+
+#[test]
+fn where_no_key_fits_nothing_is_lent(rt: HostRuntime) {
+    let mut bytes = four_entries();
+    let full = [
+        replace(&mut bytes, 9, 80).ok(),
+        replace_by(&mut bytes, 3, 40, false).ok(),
+    ];
+    let beside_key = replace_beside_key(&mut bytes, 2, 60).ok();
+    let value = replace_value(&mut bytes, 2, 20).ok();
+    let by_comparison = (
+        key_by(&mut bytes, 5, false).ok(),
+        value_by(&mut bytes, 5, false).ok(),
+    );
+    assert_eq!(rt;
+        (
+            full,
+            beside_key,
+            value,
+            by_comparison,
+            bytes == four_entries()
+        ),
+        (
+            [Some(None); 2],
+            Some(None),
+            Some(None),
+            (Some(None), Some(None)),
+            true
+        )
+    );
+}
+
+// Returns the index of a key, by a plain lookup in the map at `root`.
+fn place_of<K: KeyElement, V: Element, H: KeyHasher, W: Width, Q: Query<K>>(
+    bytes: &[u8],
+    root: u64,
+    key: &Q,
+) -> Option<usize>
+    requires map { Viewable (index_spec W.word (entry_spec K.spec V.spec)) bytes.now root }
+    requires query { Q.can_read key.now }
+    ensures { IfSome result (λ place. place < len_at W.word bytes.now root) }
+{
+    ArchivedIndexMap::<K, V, H, W>::of(View::new(bytes, root)).get_index_of(key)
+}
+
+// Validates an archive, and writes a value over that of a key, by its index. Returns the index.
+fn write_at<A, K: KeyElement + Represents<A>, N: Scalar, H: KeyHasher, W: Width, Q: Query<K>>(
+    bytes: &mut [u8],
+    key: &Q,
+    value: N,
+) -> Result<Option<usize>, VerifyError>
+    requires { Q.can_read key.now }
+{
+    let root = match access_in::<W, IndexMapOf<K, N, H, W>>(&*bytes) {
+        Ok(map) => map.pos(),
+        Err(e) => return Err(e),
+    };
+    match place_of::<K, N, H, W, Q>(&*bytes, root, key) {
+        Some(place) => {
+            set_value_at::<A, K, N, H, W>(bytes, root, place, value);
+            Ok(Some(place))
+        }
+        None => Ok(None),
+    }
+}
+
+// Does the same as `write_at`, with small numbers.
+fn write_small(bytes: &mut [u8], key: i8, value: i8) -> Result<Option<usize>, VerifyError> {
+    write_at::<i8, i8, i8, FxHasher64, Narrow, i8>(bytes, &key, value)
+}
+
+#[test]
+fn a_value_is_written_by_its_place(rt: HostRuntime) {
+    let mut bytes = four_entries();
+    let written = [
+        write_small(&mut bytes, 5, -1).ok(),
+        write_small(&mut bytes, 9, 0).ok(),
+    ];
+    let found = value_of(&bytes, 5).ok();
+    let mut wanted = four_entries();
+    wanted[56] = 0xff;
+    assert_eq!(rt;
+        (written, found, bytes == wanted),
+        ([Some(Some(2)), Some(None)], Some(Some(-1)), true)
+    );
+}

@@ -1,0 +1,161 @@
+//! Tests of the written bytes of index maps, and of the errors of a write.
+
+use crate::tests::archives::{no_pairs, no_wide_pairs, one_key_twice, one_pair, wide_pair};
+use rkyv_base::access::access;
+use rkyv_base::errors::{IteratorLengthMismatch, WriteError};
+use rkyv_base::limit::{LimitFault, LimitWriter};
+use rkyv_base::root::{to_bytes, to_bytes_in, write_root};
+use rkyv_base::width::{Narrow, Wide};
+use rkyv_base::writer::{NoMemory, VecWriter};
+use rkyv_index::{ArchivedIndexMap, IndexMapOf, OrderedPairs};
+use rkyv_scan::hash::FxHasher64;
+use std::alloc::{AllocError, Global};
+use std::test::Fail;
+use test_support::archives::four_entries;
+
+fn list_of(alloc: Global, pairs: &[(i8, i8)]) -> Result<OrderedPairs<i8, i8>, AllocError> {
+    let mut list = Vec::new(alloc);
+    for pair in pairs {
+        list.push(*pair)?;
+    }
+    Ok(OrderedPairs(list))
+}
+
+// Returns the archive of the pairs as an index map.
+pub(crate) fn narrow(alloc: Global, pairs: &[(i8, i8)]) -> Result<Vec<u8>, WriteError<NoMemory>> {
+    match list_of(alloc, pairs) {
+        Ok(list) => to_bytes(alloc, &list),
+        Err(_) => Err(WriteError::Memory),
+    }
+}
+
+// Returns the archive of the pairs as a wide index map.
+pub(crate) fn wide(alloc: Global, pairs: &[(i8, i8)]) -> Result<Vec<u8>, WriteError<NoMemory>> {
+    match list_of(alloc, pairs) {
+        Ok(list) => to_bytes_in::<Wide, _>(alloc, &list),
+        Err(_) => Err(WriteError::Memory),
+    }
+}
+
+#[test]
+fn pairs_are_written(rt: HostRuntime) -> Result<(), Fail> {
+    let alloc = rt.alloc();
+    let none = narrow(alloc, &[])?;
+    let one = narrow(alloc, &[(1, 2)])?;
+    let four = narrow(alloc, &[(1, 2), (3, 4), (5, 6), (7, 8)])?;
+    assert_eq!(rt; none.as_slice(), no_pairs().as_slice());
+    assert_eq!(rt; one.as_slice(), one_pair().as_slice());
+    assert_eq!(rt; four.as_slice(), four_entries().as_slice());
+    let twice = narrow(alloc, &[(1, 2), (1, 9)])?;
+    assert_eq!(rt; twice.as_slice(), one_key_twice().as_slice());
+    Ok(())
+}
+
+#[test]
+fn wide_pairs_are_written(rt: HostRuntime) -> Result<(), Fail> {
+    let alloc = rt.alloc();
+    let none = wide(alloc, &[])?;
+    let one = wide(alloc, &[(1, 2)])?;
+    assert_eq!(rt; none.as_slice(), no_wide_pairs().as_slice());
+    assert_eq!(rt; one.as_slice(), wide_pair().as_slice());
+    Ok(())
+}
+
+#[test]
+fn an_index_map_of_index_maps(rt: HostRuntime) -> Result<(), Fail> {
+    let alloc = rt.alloc();
+    let inner = list_of(alloc, &[(1, 2)])?;
+    let outer = OrderedPairs(vec![in alloc; (1i8, inner)]?);
+    let bytes = to_bytes(alloc, &outer)?;
+    let root = access::<IndexMapOf<i8, IndexMapOf<i8, i8>>>(bytes.as_slice())?;
+    let found = match ArchivedIndexMap::of(root).get_full(&1) {
+        Some((_, _, inner)) => match ArchivedIndexMap::of(inner).get_full(&1) {
+            Some((_, _, value)) => value.to_native(),
+            None => 0,
+        },
+        None => 0,
+    };
+    assert_eq!(rt; (bytes.len(), found), (120, 2));
+    Ok(())
+}
+
+// Writes the pairs as an index map at position 0, with a claimed length.
+// Returns the bytes before the header.
+fn written(
+    alloc: Global,
+    pairs: Vec<(i8, i8)>,
+    len: usize,
+    load_factor: (usize, usize),
+) -> Result<Vec<u8>, WriteError<NoMemory>> {
+    let mut writer = VecWriter::new(alloc);
+    let resolver = ArchivedIndexMap::<i8, i8, FxHasher64, Narrow>::serialize_from_iter::<
+        VecWriter,
+        i8,
+        i8,
+        i8,
+        i8,
+        _,
+    >(alloc, pairs.into_iter(), len, load_factor, &mut writer)?;
+    let _len = resolver.len();
+    Ok(writer.into_vec())
+}
+
+#[test]
+fn bad_load_factors_and_lengths(rt: HostRuntime) -> Result<(), Fail> {
+    let alloc = rt.alloc();
+    assert!(rt;
+        matches!(
+            written(alloc, vec![in alloc; (1, 2)]?, 2, (8, 7)),
+            Err(WriteError::InvalidLoadFactor {
+                numerator: 8,
+                denominator: 7,
+            })
+        )
+    );
+    assert!(rt;
+        matches!(
+            written(alloc, vec![in alloc; (1, 2)]?, 1, (1, 4294967296)),
+            Err(WriteError::CapacityTooLarge { len: 1 })
+        )
+    );
+    Ok(())
+}
+
+#[test]
+fn another_number_of_pairs(rt: HostRuntime) -> Result<(), Fail> {
+    let alloc = rt.alloc();
+    assert!(rt;
+        matches!(
+            written(alloc, vec![in alloc; (1, 2)]?, 3, (7, 8)),
+            Err(WriteError::IteratorLengthMismatch(IteratorLengthMismatch {
+                expected: 3,
+                actual: 1,
+            }))
+        )
+    );
+    assert!(rt;
+        matches!(
+            written(alloc, vec![in alloc; (1, 2)]?, 0, (7, 8)),
+            Err(WriteError::IteratorLengthMismatch(IteratorLengthMismatch {
+                expected: 0,
+                actual: 1,
+            }))
+        )
+    );
+    Ok(())
+}
+
+#[test]
+fn a_full_writer(rt: HostRuntime) -> Result<(), Fail> {
+    let alloc = rt.alloc();
+    let list = list_of(alloc, &[(1, 2)])?;
+    let mut writer = LimitWriter::new(VecWriter::new(alloc), 40);
+    assert!(rt;
+        matches!(
+            write_root(alloc, &list, &mut writer),
+            Err(WriteError::Writer(LimitFault::Full))
+        )
+    );
+    assert_eq!(rt; writer.into_inner().into_vec().len(), 40);
+    Ok(())
+}

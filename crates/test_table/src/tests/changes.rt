@@ -1,0 +1,74 @@
+//! Archives with one byte changed to each other value.
+
+use crate::tests::archives::hash_of_u32;
+use crate::tests::reading::{count_walked, value_of, walks_over};
+use rkyv_base::access::access;
+use rkyv_base::entry::Entry;
+use rkyv_base::errors::VerifyError;
+use rkyv_base::width::Narrow;
+use rkyv_table::table::TableOf;
+use test_support::archives::one_number;
+use test_support::changes::{Answers, answers_to_changes};
+
+// Returns `true` if a lookup of a number reads one stride.
+fn is_one_stride(bytes: &[u8], key: u32) -> bool {
+    match value_of::<Narrow>(bytes, hash_of_u32(key), key) {
+        Ok((_, strides)) => strides == 1,
+        Err(_) => false,
+    }
+}
+
+// Returns `true` if a walk over a valid archive returns one item, and a lookup of each number
+// from 0 to 9 reads one stride.
+fn is_small(bytes: &[u8]) -> Result<bool, VerifyError> {
+    let mut right = count_walked::<Entry<u32, u32>, Narrow>(bytes)? == 1;
+    for key in 0..10 {
+        right = right && is_one_stride(bytes, key);
+    }
+    Ok(right)
+}
+
+#[test]
+fn each_change_of_one_byte_is_answered(rt: HostRuntime) {
+    let mut bytes = one_number();
+    let answers = answers_to_changes(&mut bytes, is_small);
+    assert_eq!(rt;
+        answers,
+        Answers {
+            right: 7764,
+            accepted: 7764,
+            place_out_of_range: 0,
+            unwrapped: 4220,
+            out_of_range: 2037,
+            invalid_length: 1021,
+            wrong_number: 257,
+            unaligned: 1,
+            other: 0,
+        }
+    );
+}
+
+#[test]
+fn one_change_leads_to_a_place_between_items(rt: HostRuntime) {
+    let mut bytes = one_number();
+    bytes[48] = 0xe1;
+    assert!(rt;
+        matches!(
+            access::<TableOf<Entry<u32, u32>>>(&bytes),
+            Err(VerifyError::Unaligned { pos: 1, align: 4 })
+        )
+    );
+}
+
+#[test]
+fn a_changed_key_is_walked_and_not_found(rt: HostRuntime) {
+    let mut bytes = one_number();
+    bytes[0] = 5;
+    let pair = [5, 0, 0, 0, 2, 0, 0, 0];
+    let walked = walks_over::<Entry<u32, u32>, Narrow>(&bytes, &pair).ok();
+    let found = [
+        value_of::<Narrow>(&bytes, hash_of_u32(1), 1).ok(),
+        value_of::<Narrow>(&bytes, hash_of_u32(5), 5).ok(),
+    ];
+    assert_eq!(rt; (walked, found), (Some(true), [Some((None, 1)); 2]));
+}

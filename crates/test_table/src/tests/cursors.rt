@@ -1,0 +1,86 @@
+//! The calls of a cursor over the items of a table, each by itself.
+
+use crate::tests::archives::two_archived;
+use rkyv_base::access::{access, access_mut};
+use rkyv_base::entry::Entry;
+use rkyv_base::errors::VerifyError;
+use rkyv_base::width::Narrow;
+use rkyv_table::table::{ArchivedHashTable, TableOf};
+use test_support::archives::one_number;
+
+// The positions of the items of the table of 10 and 20, by ascending bucket, and the number of
+// items that are left before the first, before the second and after both.
+fn positions_over(bytes: &mut [u8]) -> Result<([Option<u64>; 3], [usize; 3]), VerifyError> {
+    let pos = access::<TableOf<u8>>(&*bytes)?.pos();
+    let mut rest = ArchivedHashTable::<u8, Narrow>::raw_iter_over(bytes, pos);
+    let before = rest.len();
+    let first = rest.next_pos();
+    let rest_in_range = rest.len();
+    let second = rest.next_pos();
+    let third = rest.next_pos();
+    Ok(([first, second, third], [before, rest_in_range, rest.len()]))
+}
+
+#[test]
+fn a_cursor_over_bare_bytes_yields_each_position(rt: HostRuntime) {
+    let mut bytes = two_archived();
+    let walked = positions_over(&mut bytes).ok();
+    assert_eq!(rt;
+        (walked, bytes),
+        (Some(([Some(2), Some(0), None], [2, 1, 0])), two_archived())
+    );
+}
+
+// Writes the numbers 3 and 4 over the key 1 and the value 2 of 32 bits, by a cursor.
+// Returns the position of the pair, and whether there is no other.
+fn write_pair(bytes: &mut [u8]) -> Result<Option<(u64, bool)>, VerifyError> {
+    let whole = access_mut::<TableOf<Entry<u32, u32>>>(bytes)?;
+    let mut rest = ArchivedHashTable::raw_iter_seal(whole);
+    let pos = match rest.next_pos() {
+        Some(pos) => pos,
+        None => return Ok(None),
+    };
+    if pos > 52 || rest.bytes().len() != 60 {
+        return Ok(None);
+    }
+    rest.write_at(pos, 0, 3u32);
+    rest.write_at(pos, 4, 4u32);
+    Ok(Some((pos, rest.next_pos().is_none())))
+}
+
+#[test]
+fn a_scalar_is_written_at_an_offset_of_an_item(rt: HostRuntime) {
+    let mut bytes = one_number();
+    let written = write_pair(&mut bytes).ok();
+    let mut wanted = one_number();
+    wanted[0] = 3;
+    wanted[4] = 4;
+    assert_eq!(rt; (written, bytes), (Some(Some((0, true))), wanted));
+}
+
+// Writes a byte over the first item of the table of 10 and 20, in the bytes of the cursor.
+// Returns the number of these bytes, and the position of the second item.
+fn write_in_bytes(bytes: &mut [u8], byte: u8) -> Result<(usize, Option<u64>), VerifyError> {
+    let whole = access_mut::<TableOf<u8>>(bytes)?;
+    let mut rest = ArchivedHashTable::raw_iter_seal(whole);
+    let pos = rest.next_pos();
+    let archive = rest.bytes_mut();
+    let count = archive.len();
+    match pos {
+        Some(pos) => match archive.get_mut(pos as usize) {
+            Some(old) => *old = byte,
+            None => {}
+        },
+        None => {}
+    }
+    Ok((count, rest.next_pos()))
+}
+
+#[test]
+fn the_bytes_of_a_cursor_are_the_archive(rt: HostRuntime) {
+    let mut bytes = two_archived();
+    let written = write_in_bytes(&mut bytes, 30).ok();
+    let mut wanted = two_archived();
+    wanted[2] = 30;
+    assert_eq!(rt; (written, bytes), (Some((48, Some(0))), wanted));
+}

@@ -1,0 +1,159 @@
+//! Writing each item of a table in place, by a cursor over the bare bytes.
+//!
+//! The calls are proved for every scalar and both widths, and run over numbers.
+ghost use Rattle.rkyv_base.specs.Seal.{LiesIn, SealStays, bytes_in, seal_pos};
+ghost use Rattle.rkyv_base.specs.Sealing.{Keeps, Sealed};
+ghost use Rattle.rkyv_base.specs.ElementSpec.{Viewable};
+ghost use Rattle.rkyv_table.specs.Table.Bare.{MayAskOf};
+ghost use Rattle.rkyv_table.specs.Table.Layout.{table_spec};
+
+use crate::tests::archives::two_archived;
+use rkyv_base::access::{access, access_mut};
+use rkyv_base::errors::VerifyError;
+use rkyv_base::scalars::Scalar;
+use rkyv_base::seal::Seal;
+use rkyv_base::view::View;
+use rkyv_base::width::{Narrow, Width};
+use rkyv_table::table::{ArchivedHashTable, TableOf};
+
+// Sets each item of a table, which stays valid.
+fn set_all<N: Scalar, W: Width>(archive: &mut [u8], pos: u64, value: N)
+    requires { Viewable (table_spec W.word N.spec) archive.old pos }
+    ensures { Viewable (table_spec W.word N.spec) archive.new pos }
+{
+    let mut rest = ArchivedHashTable::<N, W>::raw_iter_over(archive, pos);
+    while let Some(next) = rest.next_pos() {
+        rest.set_at(next, value);
+    }
+}
+
+// Sets each item of a table by seals. The table stays valid.
+fn set_all_by_seals<N: Scalar, W: Width>(archive: &mut [u8], pos: u64, value: N)
+    requires { Viewable (table_spec W.word N.spec) archive.old pos }
+    ensures { Viewable (table_spec W.word N.spec) archive.new pos }
+{
+    let mut rest = ArchivedHashTable::<N, W>::raw_iter_over(archive, pos);
+    for _ in 0..rest.len() {
+        rest.next_seal_with(
+            |seal: &mut Seal<'_, N>|
+                requires { LiesIn N.spec seal.old }
+                ensures stays { SealStays seal.old seal.new }
+                ensures sealed { Sealed (bytes_in seal.old) (seal_pos seal.old)
+                    N.spec.size (bytes_in seal.new) }
+                ensures holds { Keeps N.spec (bytes_in seal.old)
+                    (bytes_in seal.new) (seal_pos seal.old) }
+            {
+                seal.set(value);
+            },
+        );
+    }
+}
+
+// Sets each number of an archived table to 7, and then by seals to 9. Returns the bytes after each.
+fn set_twice(bytes: &mut [u8; 48]) -> Result<([u8; 48], [u8; 48]), VerifyError> {
+    let pos = access::<TableOf<u8>>(bytes)?.pos();
+    set_all::<u8, Narrow>(bytes, pos, 7);
+    let first = *bytes;
+    set_all_by_seals::<u8, Narrow>(bytes, pos, 9);
+    Ok((first, *bytes))
+}
+
+#[test]
+fn each_item_is_set(rt: HostRuntime) {
+    let mut bytes = two_archived();
+    let written = set_twice(&mut bytes).ok();
+    let mut sevens = two_archived();
+    sevens[0] = 7;
+    sevens[2] = 7;
+    let mut nines = two_archived();
+    nines[0] = 9;
+    nines[2] = 9;
+    assert_eq!(rt; written, Some((sevens, nines)));
+}
+
+// Writes a number over the item that is found under a hash, and returns the number that is read
+// back.
+fn set_found<N: Scalar, W: Width, F: Fn(View<'_, N>) -> bool>(
+    archive: &mut [u8],
+    pos: u64,
+    hash: u64,
+    accepts: F,
+    value: N,
+) -> Option<N>
+    requires table { Viewable (table_spec W.word N.spec) archive.old pos }
+    requires callable { MayAskOf (F.pre accepts) W.word N.spec archive.old pos }
+{
+    ArchivedHashTable::<N, W>::found_with(
+        archive,
+        pos,
+        hash,
+        accepts,
+        |seal: &mut Seal<'_, N>|
+            requires { LiesIn N.spec seal.old }
+        {
+            seal.set(value);
+            seal.to_native()
+        },
+    )
+}
+
+// Writes a number over another one, if that is found under a hash.
+fn set_number(
+    bytes: &mut [u8],
+    hash: u64,
+    wanted: u8,
+    number: u8,
+) -> Result<Option<u8>, VerifyError> {
+    let pos = access::<TableOf<u8>>(&*bytes)?.pos();
+    Ok(set_found::<u8, Narrow, _>(bytes, pos, hash, |item| item.to_native() == wanted, number))
+}
+
+#[test]
+fn a_found_item_is_lent_over_the_bare_bytes(rt: HostRuntime) {
+    let mut bytes = two_archived();
+    let found = set_number(&mut bytes, 2, 20, 30).ok();
+    let mut wanted = two_archived();
+    wanted[2] = 30;
+    assert_eq!(rt; (found, bytes), (Some(Some(30)), wanted));
+}
+
+#[test]
+fn where_no_item_fits_the_bare_bytes_stay(rt: HostRuntime) {
+    let mut bytes = two_archived();
+    let found = set_number(&mut bytes, 2, 30, 40).ok();
+    assert_eq!(rt; (found, bytes), (Some(None), two_archived()));
+}
+
+// Writes a byte over a byte of an archive.
+fn change(archive: &mut [u8], pos: u64, byte: u8) {
+    match archive.get_mut(pos as usize) {
+        Some(old) => *old = byte,
+        None => {}
+    }
+}
+
+// Writes 7 and 9 over the two items of a table while the cursor steps. Returns the three results,
+// and the number of items that remain.
+fn write_stepping(bytes: &mut [u8]) -> Result<([Option<u64>; 3], usize), VerifyError> {
+    let whole = access_mut::<TableOf<u8>>(bytes)?;
+    let mut rest = ArchivedHashTable::raw_iter_seal(whole);
+    let places = [
+        rest.next_with(|archive: &mut [u8], pos: u64| change(archive, pos, 7)),
+        rest.next_with(|archive: &mut [u8], pos: u64| change(archive, pos, 9)),
+        rest.next_with(|archive: &mut [u8], pos: u64| change(archive, pos, 11)),
+    ];
+    Ok((places, rest.len()))
+}
+
+#[test]
+fn items_are_written_while_the_cursor_steps(rt: HostRuntime) {
+    let mut bytes = two_archived();
+    let stepped = write_stepping(&mut bytes).ok();
+    let mut wanted = two_archived();
+    wanted[2] = 7;
+    wanted[0] = 9;
+    assert_eq!(rt;
+        (stepped, bytes),
+        (Some(([Some(2), Some(0), None], 0)), wanted)
+    );
+}

@@ -1,0 +1,440 @@
+//! Lookups: the found item, and the number of strides and items that are read.
+
+use crate::tests::archives::{
+    EVEN_TAG, archived, fifteen_archived, hash_of_i8, hash_of_u32, hash_of_usize, sixteen_archived,
+    tags_archived, two_archived,
+};
+use crate::tests::reading::{answers_of, counts, first_pos, value_of, value_of_small};
+use rkyv_base::access::access;
+use rkyv_base::element::Element;
+use rkyv_base::entry::Entry;
+use rkyv_base::errors::VerifyError;
+use rkyv_base::width::Narrow;
+use rkyv_scan::hash::{FxHasher64, FxHasher64Wide};
+use rkyv_scan::simd::{GroupKind, bytewise, generic, lanes};
+use rkyv_table::controls::find::Strides;
+use rkyv_table::table::{ArchivedHashTable, TableOf};
+use std::alloc::Global;
+use std::cell::Cell;
+use test_support::archives::{four_pairs, no_items, one_key_twice, one_number, one_unit};
+
+// Returns `true` if the number is the wanted one, or if none is wanted.
+fn is_accepted(number: u8, wanted: Option<u8>) -> bool {
+    match wanted {
+        Some(wanted) => number == wanted,
+        None => true,
+    }
+}
+
+// Returns the number that is found under a hash, and the number of strides that are read.
+// All numbers are accepted if none is wanted.
+fn counted_or_refused(
+    bytes: &[u8],
+    hash: u64,
+    wanted: Option<u8>,
+) -> Result<(Option<u8>, u64), VerifyError> {
+    let table = ArchivedHashTable::of(access::<TableOf<u8>>(bytes)?);
+    let mut strides = Strides::new();
+    let found = table.get_counted(
+        hash,
+        |item| is_accepted(item.to_native(), wanted),
+        &mut strides,
+    );
+    match found {
+        Some(item) => Ok((Some(item.to_native()), strides.count())),
+        None => Ok((None, strides.count())),
+    }
+}
+
+fn counted(bytes: &[u8], hash: u64, wanted: Option<u8>) -> Option<(Option<u8>, u64)> {
+    counted_or_refused(bytes, hash, wanted).ok()
+}
+
+// Returns the same number, by groups of the kind `G`.
+fn found_by<G: GroupKind>(
+    bytes: &[u8],
+    hash: u64,
+    wanted: Option<u8>,
+) -> Result<Option<u8>, VerifyError> {
+    let table = ArchivedHashTable::of(access::<TableOf<u8>>(bytes)?);
+    match table.get_by::<G, _>(hash, |item| is_accepted(item.to_native(), wanted)) {
+        Some(item) => Ok(Some(item.to_native())),
+        None => Ok(None),
+    }
+}
+
+// Returns the same number, by groups of each kind.
+fn found(bytes: &[u8], hash: u64, wanted: Option<u8>) -> [Option<Option<u8>>; 3] {
+    [
+        found_by::<bytewise::Group>(bytes, hash, wanted).ok(),
+        found_by::<generic::Group>(bytes, hash, wanted).ok(),
+        found_by::<lanes::Group>(bytes, hash, wanted).ok(),
+    ]
+}
+
+// Returns `true` if a copy of a table is empty.
+fn is_empty_copied<T: Element>(bytes: &[u8]) -> Option<bool> {
+    let table = ArchivedHashTable::of(access::<TableOf<T>>(bytes).ok()?);
+    let same = table.clone().ok()?;
+    Some(same.is_empty())
+}
+
+#[test]
+fn a_pair_is_found_in_one_stride(rt: HostRuntime) {
+    let archive = one_number();
+    let bytes: &[u8] = &archive;
+    let empty = is_empty_copied::<Entry<u32, u32>>(bytes);
+    let counts = counts::<Entry<u32, u32>, Narrow>(bytes).ok();
+    let found = [
+        value_of::<Narrow>(bytes, hash_of_u32(1), 1).ok(),
+        value_of::<Narrow>(bytes, hash_of_u32(2), 2).ok(),
+    ];
+    assert_eq!(rt;
+        (empty, counts, found),
+        (
+            Some(false),
+            Some((1, 2)),
+            [Some((Some(2), 1)), Some((None, 1))]
+        )
+    );
+}
+
+// Returns `true` if a lookup of each key finds its value, or `None`, in one stride.
+fn leads(bytes: &[u8], pairs: &[(i8, Option<i8>)]) -> bool {
+    for (key, value) in pairs {
+        if value_of_small(bytes, hash_of_i8(*key), *key).ok() != Some((*value, 1)) {
+            return false;
+        }
+    }
+    true
+}
+
+#[test]
+fn a_pair_is_found_in_another_bucket_than_its_start(rt: HostRuntime) {
+    let archive = four_pairs();
+    let bytes: &[u8] = &archive;
+    let counts = counts::<Entry<i8, i8>, Narrow>(bytes).ok();
+    // bucket 0 is the last one before the control bytes, which begin at 10
+    let pos = first_pos::<Entry<i8, i8>, Narrow>(bytes, hash_of_i8(5)).ok();
+    let pairs = [
+        (0, None),
+        (1, Some(2)),
+        (2, None),
+        (3, Some(4)),
+        (4, None),
+        (5, Some(6)),
+        (6, None),
+        (7, Some(8)),
+        (8, None),
+    ];
+    assert_eq!(rt;
+        (counts, hash_of_i8(5) % 5, pos, leads(bytes, &pairs)),
+        (Some((4, 5)), 4, Some(Some(8)), true)
+    );
+}
+
+#[test]
+fn the_first_of_two_under_one_hash_is_found(rt: HostRuntime) {
+    let archive = two_archived();
+    let bytes: &[u8] = &archive;
+    let counted = [
+        counted(bytes, 2, None),
+        counted(bytes, 2, Some(10)),
+        counted(bytes, 2, Some(20)),
+        counted(bytes, 2, Some(30)),
+    ];
+    assert_eq!(rt;
+        (found(bytes, 2, None), counted),
+        (
+            [Some(Some(10)); 3],
+            [
+                Some((Some(10), 1)),
+                Some((Some(10), 1)),
+                Some((Some(20), 1)),
+                Some((None, 1))
+            ]
+        )
+    );
+}
+
+// Returns the number of calls of a comparison that accepts no item.
+fn asks_under<T: Element>(bytes: &[u8], hash: u64) -> Result<usize, VerifyError> {
+    let table = ArchivedHashTable::of(access::<TableOf<T>>(bytes)?);
+    let asks = Cell::new(0usize);
+    let found = table.get_pos_with(hash, |_| {
+        asks.set(asks.get().wrapping_add(1));
+        false
+    });
+    match found {
+        Some(_) => Ok(0),
+        None => Ok(asks.get()),
+    }
+}
+
+#[test]
+fn the_first_of_a_repeated_key_is_found(rt: HostRuntime) {
+    let archive = one_key_twice();
+    let (bytes, hash): (&[u8], u64) = (&archive, hash_of_i8(1));
+    // in a small table each control byte is there twice, and so each item is compared twice
+    let asks = asks_under::<Entry<i8, i8>>(bytes, hash).ok();
+    assert_eq!(rt;
+        (value_of_small(bytes, hash, 1).ok(), asks),
+        (Some((Some(2), 1)), Some(4))
+    );
+}
+
+#[test]
+fn an_item_of_no_bytes_is_found(rt: HostRuntime) {
+    let archive = one_unit();
+    let bytes: &[u8] = &archive;
+    let found = [
+        first_pos::<(), Narrow>(bytes, 0).ok(),
+        first_pos::<(), Narrow>(bytes, 1 << 57).ok(),
+    ];
+    assert_eq!(rt; found, [Some(Some(0)), Some(None)]);
+}
+
+// Returns the number of starts, of sixteen, with which a lookup returns `None` after one stride.
+fn starts_of_one_stride(bytes: &[u8]) -> usize {
+    let mut count = 0usize;
+    for start in 0..16 {
+        if counted(bytes, start, Some(0)) == Some((None, 1)) {
+            count = count.wrapping_add(1);
+        }
+    }
+    count
+}
+
+#[test]
+fn sixteen_buckets_are_one_stride(rt: HostRuntime) {
+    assert_eq!(rt; starts_of_one_stride(&fifteen_archived()), 16);
+}
+
+#[test]
+fn the_second_stride_is_read_where_the_first_is_full(rt: HostRuntime) {
+    let archive = sixteen_archived();
+    let bytes: &[u8] = &archive;
+    let counted = [
+        counted(bytes, 16, Some(1)),
+        counted(bytes, 16, Some(16)),
+        counted(bytes, 16, Some(17)),
+    ];
+    assert_eq!(rt;
+        (counted, found(bytes, 16, Some(9))),
+        (
+            [Some((Some(1), 1)), Some((Some(16), 1)), Some((None, 2))],
+            [Some(Some(9)); 3]
+        )
+    );
+}
+
+/// The calls of a comparison that accepts no item, in the table of sixteen items under one hash.
+#[derive(Drop)]
+pub(crate) struct Asks {
+    count: Cell<usize>,
+    in_order: Cell<bool>,
+}
+
+impl Asks {
+    /// Returns a record of no calls.
+    pub(crate) fn new() -> Asks {
+        Asks {
+            count: Cell::new(0),
+            in_order: Cell::new(true),
+        }
+    }
+
+    /// Records a call for an item, and returns `false`.
+    ///
+    /// The items are to be 1 to 16, and then 2 to 16.
+    pub(crate) fn accepts(&self, item: u8) -> bool {
+        let ask = self.count.get();
+        self.count.set(ask.wrapping_add(1));
+        let wanted = match ask {
+            0..16 => ask + 1,
+            _ => ask - 14,
+        };
+        self.in_order
+            .set(self.in_order.get() && usize::from(item) == wanted);
+        false
+    }
+
+    /// Returns `true` if there were sixteen calls and then fifteen, in order.
+    pub(crate) fn are_all(&self) -> bool {
+        self.count.get() == 31 && self.in_order.get()
+    }
+}
+
+// Looks up in the table of sixteen items under one hash, and accepts no item. Returns whether
+// each lookup finds nothing and compares each item that it is to compare, and the number
+// of strides. The lookups are by a view, by a position, and with counted strides.
+fn asks_plainly(bytes: &[u8]) -> Result<([bool; 6], u64), VerifyError> {
+    let table = ArchivedHashTable::of(access::<TableOf<u8>>(bytes)?);
+    let (by_view, by_pos, by_count) = (Asks::new(), Asks::new(), Asks::new());
+    let view = table.get_with(16, |item| by_view.accepts(item.to_native()));
+    let pos = table.get_pos_with(16, |item| by_pos.accepts(item.to_native()));
+    let mut strides = Strides::new();
+    let counted = table.get_counted(16, |item| by_count.accepts(item.to_native()), &mut strides);
+    let none = [
+        view.is_none(),
+        by_view.are_all(),
+        pos.is_none(),
+        by_pos.are_all(),
+        counted.is_none(),
+        by_count.are_all(),
+    ];
+    Ok((none, strides.count()))
+}
+
+// Looks up in the same way, by groups of the kind `G`.
+fn asks_by<G: GroupKind>(bytes: &[u8]) -> Result<[bool; 2], VerifyError> {
+    let table = ArchivedHashTable::of(access::<TableOf<u8>>(bytes)?);
+    let asks = Asks::new();
+    let found = table.get_by::<G, _>(16, |item| asks.accepts(item.to_native()));
+    Ok([found.is_none(), asks.are_all()])
+}
+
+#[test]
+fn a_lookup_that_finds_nothing_asks_for_each_item(rt: HostRuntime) {
+    let archive = sixteen_archived();
+    let bytes: &[u8] = &archive;
+    let by_kind = [
+        asks_by::<bytewise::Group>(bytes).ok(),
+        asks_by::<generic::Group>(bytes).ok(),
+        asks_by::<lanes::Group>(bytes).ok(),
+    ];
+    assert_eq!(rt;
+        (asks_plainly(bytes).ok(), by_kind),
+        (Some(([true; 6], 2)), [Some([true; 2]); 3])
+    );
+}
+
+#[test]
+fn an_empty_table_is_not_read(rt: HostRuntime) {
+    let archive = no_items();
+    let bytes: &[u8] = &archive;
+    let answers = (
+        is_empty_copied::<u8>(bytes),
+        answers_of::<u8>(bytes, 2).ok(),
+    );
+    let found = (
+        first_pos::<u8, Narrow>(bytes, 2).ok(),
+        counted(bytes, 2, None),
+        found(bytes, 2, None),
+    );
+    assert_eq!(rt;
+        (answers, found),
+        (
+            (Some(true), Some((true, 0, 0, true))),
+            (Some(None), Some((None, 0)), [Some(None); 3])
+        )
+    );
+}
+
+// A group of one word marks a tag that differs in the lowest bit right above an equal one.
+#[test]
+fn an_item_under_another_hash_may_be_asked_for(rt: HostRuntime) {
+    let archive = tags_archived();
+    let bytes: &[u8] = &archive;
+    let (first, second) = (
+        found(bytes, EVEN_TAG, None),
+        found(bytes, EVEN_TAG, Some(20)),
+    );
+    assert_eq!(rt;
+        (first, second, counted(bytes, EVEN_TAG, Some(20))),
+        (
+            [Some(Some(10)); 3],
+            [Some(None), Some(Some(20)), Some(None)],
+            Some((Some(20), 1))
+        )
+    );
+}
+
+// Returns the number that is found if the second call and each later one are
+// accepted, and the number of strides that are read.
+fn second_counted(bytes: &[u8], hash: u64) -> Result<(Option<u8>, u64), VerifyError> {
+    let table = ArchivedHashTable::of(access::<TableOf<u8>>(bytes)?);
+    let asked = Cell::new(false);
+    let mut strides = Strides::new();
+    match table.get_counted(hash, |_| asked.replace(true), &mut strides) {
+        Some(item) => Ok((Some(item.to_native()), strides.count())),
+        None => Ok((None, strides.count())),
+    }
+}
+
+#[test]
+fn a_comparison_may_change_its_mind(rt: HostRuntime) {
+    let found = second_counted(&two_archived(), 2).ok();
+    assert_eq!(rt; found, Some((Some(20), 1)));
+}
+
+// Returns whether a number is found under a hash, and the number of strides that are read.
+fn is_found(bytes: &[u8], hash: u64, wanted: u64) -> Result<(bool, u64), VerifyError> {
+    let table = ArchivedHashTable::of(access::<TableOf<u64>>(bytes)?);
+    let mut strides = Strides::new();
+    let found = table.get_counted(hash, |item| item.to_native() == wanted, &mut strides);
+    Ok((found.is_some(), strides.count()))
+}
+
+// Returns the same of three numbers in a table of two, each under its hash.
+fn are_found(
+    alloc: Global,
+    numbers: [u64; 2],
+    hashes: [u64; 2],
+    wanted: [(u64, u64); 3],
+) -> Option<[Option<(bool, u64)>; 3]> {
+    let bytes = archived(alloc, &numbers, &hashes, (7, 8)).ok()?;
+    let bytes = bytes.as_slice();
+    let [(one, first), (two, second), (three, third)] = wanted;
+    Some([
+        is_found(bytes, one, first).ok(),
+        is_found(bytes, two, second).ok(),
+        is_found(bytes, three, third).ok(),
+    ])
+}
+
+#[test]
+fn a_table_is_asked_by_another_hasher(rt: HostRuntime) {
+    let large = 4_294_967_297;
+    let hashes = [
+        hash_of_usize::<FxHasher64>(1),
+        hash_of_usize::<FxHasher64>(large),
+    ];
+    let (one, other) = (
+        hash_of_usize::<FxHasher64Wide>(1),
+        hash_of_usize::<FxHasher64Wide>(large),
+    );
+    let (numbers, large) = ([1, large as u64], large as u64);
+    let wanted = [(one, 1), (other, large), (hashes[1], large)];
+    assert_eq!(rt;
+        are_found(rt.alloc(), numbers, hashes, wanted),
+        Some([Some((true, 1)), Some((false, 1)), Some((true, 1))])
+    );
+}
+
+// Returns `true` if an untrusted table has the number under the hash.
+fn has_number(bytes: &[u8], hash: u64, wanted: u32) -> Result<bool, VerifyError> {
+    let table = ArchivedHashTable::of(access::<TableOf<u32>>(bytes)?);
+    Ok(
+        table
+            .get_with(hash, |item| item.to_native() == wanted)
+            .is_some(),
+    )
+}
+
+// Looks up 7 and 9 in a table that has 7 under 16, and in too few bytes.
+fn has_numbers(alloc: Global) -> Option<[Option<bool>; 3]> {
+    // the tags of the hashes differ in more than their lowest bit
+    let bytes = archived(alloc, &[7u32, 9], &[16, 1 << 58], (7, 8)).ok()?;
+    Some([
+        has_number(bytes.as_slice(), 16, 7).ok(),
+        has_number(bytes.as_slice(), 16, 9).ok(),
+        has_number(&[0; 11], 16, 7).ok(),
+    ])
+}
+
+#[test]
+fn a_number_of_a_stranger_is_looked_up(rt: HostRuntime) {
+    let found = has_numbers(rt.alloc());
+    assert_eq!(rt; found, Some([Some(true), Some(false), None]));
+}

@@ -1,0 +1,108 @@
+//! Items that a lookup of their own doesn't find.
+
+use crate::tests::archives::{hash_of_i8, hash_of_u32, two_archived};
+use rkyv_base::access::access;
+use rkyv_base::entry::Entry;
+use rkyv_base::errors::VerifyError;
+use rkyv_table::controls::find::Strides;
+use rkyv_table::table::{ArchivedHashTable, TableOf};
+use test_support::archives::{four_pairs, no_items, one_key_twice, one_number, two_units};
+
+// Returns the number of misplaced pairs of a table. Pairs with one key are the same.
+fn misplaced_small(bytes: &[u8]) -> Result<usize, VerifyError> {
+    let table = ArchivedHashTable::of(access::<TableOf<Entry<i8, i8>>>(bytes)?);
+    Ok(table.misplaced_by(
+        |pair| hash_of_i8(pair.key().to_native()),
+        |own, other| own.key().to_native() == other.key().to_native(),
+    ))
+}
+
+fn misplaced(bytes: &[u8]) -> Result<usize, VerifyError> {
+    let table = ArchivedHashTable::of(access::<TableOf<Entry<u32, u32>>>(bytes)?);
+    Ok(table.misplaced_by(
+        |pair| hash_of_u32(pair.key().to_native()),
+        |own, other| own.key().to_native() == other.key().to_native(),
+    ))
+}
+
+#[test]
+fn pairs_that_were_written_are_in_their_places(rt: HostRuntime) {
+    let misplaced = [
+        misplaced_small(&four_pairs()).ok(),
+        misplaced(&one_number()).ok(),
+        misplaced_small(&no_items()).ok(),
+    ];
+    assert_eq!(rt; misplaced, [Some(0); 3]);
+}
+
+#[test]
+fn a_repeated_key_is_misplaced(rt: HostRuntime) {
+    assert_eq!(rt; misplaced_small(&one_key_twice()).ok(), Some(1));
+}
+
+// Returns the number of misplaced units of a table. All units are the same.
+fn misplaced_units(bytes: &[u8]) -> Result<usize, VerifyError> {
+    let table = ArchivedHashTable::of(access::<TableOf<()>>(bytes)?);
+    Ok(table.misplaced_by(|_| 0, |_, _| true))
+}
+
+#[test]
+fn items_of_no_bytes_are_told_by_their_buckets(rt: HostRuntime) {
+    assert_eq!(rt; misplaced_units(&two_units()).ok(), Some(1));
+}
+
+#[test]
+fn a_changed_key_is_misplaced(rt: HostRuntime) {
+    let mut bytes = one_number();
+    bytes[0] = 5;
+    assert_eq!(rt; misplaced(&bytes).ok(), Some(1));
+}
+
+// Returns the number of misplaced numbers under the hash 2. An item is first the same as those
+// that aren't less, and then the same as those that aren't greater.
+fn misplaced_by_order(bytes: &[u8]) -> Result<(usize, usize), VerifyError> {
+    let table = ArchivedHashTable::of(access::<TableOf<u8>>(bytes)?);
+    let by_less = table.misplaced_by(|_| 2, |own, other| own.to_native() <= other.to_native());
+    let by_more = table.misplaced_by(|_| 2, |own, other| own.to_native() >= other.to_native());
+    Ok((by_less, by_more))
+}
+
+#[test]
+fn the_own_item_is_asked_of_first(rt: HostRuntime) {
+    assert_eq!(rt; misplaced_by_order(&two_archived()).ok(), Some((0, 1)));
+}
+
+// Returns the number of misplaced pairs of a table, and the number of strides that were read.
+fn counted_up_to(bytes: &[u8], limit: u64) -> Result<(Option<usize>, u64), VerifyError> {
+    let table = ArchivedHashTable::of(access::<TableOf<Entry<i8, i8>>>(bytes)?);
+    let mut strides = Strides::new();
+    let misplaced = table.misplaced_up_to_by(
+        |pair| hash_of_i8(pair.key().to_native()),
+        |own, other| own.key().to_native() == other.key().to_native(),
+        limit,
+        &mut strides,
+    );
+    Ok((misplaced, strides.count()))
+}
+
+// A table of at most sixteen buckets has one stride, so each lookup reads one.
+#[test]
+fn counting_ends_with_the_first_stride_past_the_limit(rt: HostRuntime) {
+    let counted = [
+        counted_up_to(&four_pairs(), 0).ok(),
+        counted_up_to(&four_pairs(), 3).ok(),
+        counted_up_to(&four_pairs(), 4).ok(),
+        counted_up_to(&one_key_twice(), 2).ok(),
+        counted_up_to(&no_items(), 0).ok(),
+    ];
+    assert_eq!(rt;
+        counted,
+        [
+            Some((None, 1)),
+            Some((None, 4)),
+            Some((Some(0), 4)),
+            Some((Some(1), 2)),
+            Some((Some(0), 0))
+        ]
+    );
+}

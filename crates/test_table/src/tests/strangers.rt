@@ -1,0 +1,181 @@
+//! Untrusted headers and control bytes.
+
+use crate::tests::archives::{bools_archived, fifteen_archived};
+use crate::tests::reading::{answers_of, counts};
+use rkyv_base::access::{access, access_in};
+use rkyv_base::element::PartRange;
+use rkyv_base::entry::Entry;
+use rkyv_base::errors::VerifyError;
+use rkyv_base::width::{Narrow, Wide};
+use rkyv_table::table::{ArchivedHashTable, TableOf};
+use test_support::archives::one_number;
+
+#[test]
+fn the_distance_of_an_empty_table_is_not_read(rt: HostRuntime) {
+    let answers = answers_of::<Entry<u32, u32>>(&[77, 0, 0, 0, 0, 0, 0, 0, 0, 0, 0, 0], 0).ok();
+    assert_eq!(rt; answers, Some((true, 0, 0, true)));
+}
+
+#[test]
+fn a_length_that_is_the_capacity_is_refused(rt: HostRuntime) {
+    assert!(rt;
+        matches!(
+            access::<TableOf<Entry<u32, u32>>>(&[1, 0, 0, 0, 2, 0, 0, 0, 2, 0, 0, 0]),
+            Err(VerifyError::InvalidLength { len: 2, cap: 2 })
+        )
+    );
+}
+
+#[test]
+fn more_items_than_the_length_are_refused(rt: HostRuntime) {
+    let mut bytes = one_number();
+    bytes[52] = 0;
+    assert!(rt;
+        matches!(
+            access::<TableOf<Entry<u32, u32>>>(&bytes),
+            Err(VerifyError::WrongNumberOfElements {
+                expected: 0,
+                actual: 1,
+            })
+        )
+    );
+}
+
+#[test]
+fn a_table_that_has_buckets_and_no_items_is_accepted(rt: HostRuntime) {
+    let mut bytes = one_number();
+    bytes[17] = 0xff;
+    bytes[19] = 0xff;
+    bytes[52] = 0;
+    let answers = answers_of::<Entry<u32, u32>>(&bytes, 0x5000_0000_0000_0001).ok();
+    assert_eq!(rt; answers, Some((true, 0, 2, true)));
+}
+
+#[test]
+fn controls_that_do_not_repeat_are_refused(rt: HostRuntime) {
+    let mut large = fifteen_archived();
+    large[32] = 1;
+    let sixteen = matches!(
+        access::<TableOf<u8>>(&large),
+        Err(VerifyError::UnwrappedControlByte { index: 16 })
+    );
+    let mut bytes = one_number();
+    bytes[20] = 0;
+    let two = matches!(
+        access::<TableOf<Entry<u32, u32>>>(&bytes),
+        Err(VerifyError::UnwrappedControlByte { index: 4 })
+    );
+    assert_eq!(rt; (sixteen, two), (true, true));
+}
+
+#[test]
+fn an_empty_control_may_be_another_byte_than_is_written(rt: HostRuntime) {
+    let mut bytes = one_number();
+    bytes[16] = 0x80;
+    bytes[18] = 0x80;
+    let counts = counts::<Entry<u32, u32>, Narrow>(&bytes).ok();
+    assert_eq!(rt; counts, Some((1, 2)));
+}
+
+#[test]
+fn the_part_of_a_table_is_the_range_up_to_its_end(rt: HostRuntime) {
+    let whole = PartRange { lo: 0, hi: 48 };
+    let accepted = matches!(
+        ArchivedHashTable::<Entry<u32, u32>, Narrow>::verify(&one_number(), 48, whole),
+        Ok(PartRange { lo: 47, hi: 48 })
+    );
+    let narrower = PartRange { lo: 1, hi: 48 };
+    let begins_before = matches!(
+        ArchivedHashTable::<Entry<u32, u32>, Narrow>::verify(&one_number(), 48, narrower),
+        Err(VerifyError::OutOfRange { pos: 0, size: 47 })
+    );
+    let shorter = PartRange { lo: 0, hi: 46 };
+    let ends_behind = matches!(
+        ArchivedHashTable::<Entry<u32, u32>, Narrow>::verify(&one_number(), 48, shorter),
+        Err(VerifyError::OutOfRange { pos: 0, size: 47 })
+    );
+    assert_eq!(rt; [accepted, begins_before, ends_behind], [true; 3]);
+}
+
+// Returns `true` if the first `len` bytes of the archive of one pair have the expected result.
+fn is_answered(len: usize, front: &[u8]) -> bool {
+    let answer = access::<TableOf<Entry<u32, u32>>>(front);
+    match len {
+        0..12 => matches!(
+            answer,
+            Err(VerifyError::OutOfRange { pos, size: 12 }) if pos == len as i128 - 12
+        ),
+        12 => matches!(answer, Err(VerifyError::InvalidLength { len: 2, cap: 0 })),
+        16 => matches!(counts::<Entry<u32, u32>, Narrow>(front), Ok((0, 0))),
+        20 => matches!(
+            answer,
+            Err(VerifyError::OutOfRange {
+                pos: -5_502_486_512,
+                size: 6_190_297_351,
+            })
+        ),
+        24 | 52 => matches!(answer, Err(VerifyError::OutOfRange { .. })),
+        28 | 32 | 36 | 40 | 44 => matches!(
+            answer,
+            Err(VerifyError::InvalidLength {
+                len: 4_294_967_295,
+                cap: 4_294_967_295,
+            })
+        ),
+        48 => matches!(
+            answer,
+            Err(VerifyError::InvalidLength {
+                len: 4_294_967_295,
+                cap: 16_777_215,
+            })
+        ),
+        56 => matches!(
+            answer,
+            Err(VerifyError::InvalidLength {
+                len: 4_294_967_264,
+                cap: 1,
+            })
+        ),
+        _ => matches!(
+            answer,
+            Err(VerifyError::Unaligned { pos, align: 4 }) if pos == len as u64 - 12
+        ),
+    }
+}
+
+#[test]
+fn fronts_of_an_archive_are_answered(rt: HostRuntime) {
+    let mut right = access::<TableOf<Entry<u32, u32>>>(&one_number()).is_ok();
+    for len in 0..60 {
+        right = right && is_answered(len, &one_number()[..len]);
+    }
+    assert!(rt; right);
+}
+
+#[test]
+fn a_narrow_archive_is_no_wide_one(rt: HostRuntime) {
+    assert!(rt;
+        matches!(
+            access_in::<Wide, TableOf<Entry<u32, u32>, Wide>>(&one_number()),
+            Err(VerifyError::Unaligned { pos: 36, align: 8 })
+        )
+    );
+}
+
+#[test]
+fn an_item_that_is_no_value_is_refused(rt: HostRuntime) {
+    let mut bytes = bools_archived();
+    let written = counts::<bool, Narrow>(&bytes).ok();
+    // an empty bucket can have any bytes
+    bytes[1] = 2;
+    let changed = counts::<bool, Narrow>(&bytes).ok();
+    bytes[0] = 2;
+    let refused = matches!(
+        access::<TableOf<bool>>(&bytes),
+        Err(VerifyError::InvalidValue { pos: 0 })
+    );
+    assert_eq!(rt;
+        (written, changed, refused),
+        (Some((2, 3)), Some((2, 3)), true)
+    );
+}

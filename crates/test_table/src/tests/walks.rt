@@ -1,0 +1,103 @@
+//! Walks over the items of tables.
+
+use crate::tests::archives::{sixteen_archived, two_archived};
+use crate::tests::reading::walks_over;
+use rkyv_base::access::access;
+use rkyv_base::element::Element;
+use rkyv_base::entry::Entry;
+use rkyv_base::errors::VerifyError;
+use rkyv_base::width::Narrow;
+use rkyv_table::table::raw_iter::RawIter;
+use rkyv_table::table::{ArchivedHashTable, TableOf};
+use test_support::archives::{four_pairs, no_items, one_key_twice, two_units};
+
+// Returns `true` if a walk over a table of numbers returns `items` and then `None`. The number
+// of items that remain is right at each step.
+fn walks(bytes: &[u8], items: &[u8]) -> Result<bool, VerifyError> {
+    let table = ArchivedHashTable::of(access::<TableOf<u8>>(bytes)?);
+    let mut rest = table.raw_iter();
+    let mut right = true;
+    let mut left = items.len();
+    for wanted in items {
+        right = right && rest.len() == left && rest.size_hint() == (left, Some(left));
+        left = left.saturating_sub(1);
+        match rest.next() {
+            Some(pos) => right = right && bytes.get(pos as usize) == Some(wanted),
+            None => return Ok(false),
+        }
+    }
+    right = right && rest.len() == 0 && rest.size_hint() == (0, Some(0));
+    Ok(right && rest.next().is_none() && rest.next().is_none())
+}
+
+#[test]
+fn items_are_walked_by_ascending_bucket(rt: HostRuntime) {
+    let sixteen = [2, 3, 4, 5, 6, 7, 8, 9, 10, 11, 12, 13, 14, 15, 16, 1];
+    let walked = [
+        walks(&two_archived(), &[20, 10]).ok(),
+        walks(&sixteen_archived(), &sixteen).ok(),
+        walks(&no_items(), &[]).ok(),
+    ];
+    assert_eq!(rt; walked, [Some(true); 3]);
+}
+
+#[test]
+fn pairs_are_walked_by_ascending_bucket(rt: HostRuntime) {
+    let pairs = [5, 6, 7, 8, 1, 2, 3, 4];
+    let walked = walks_over::<Entry<i8, i8>, Narrow>(&four_pairs(), &pairs).ok();
+    assert_eq!(rt; walked, Some(true));
+}
+
+#[test]
+fn a_repeated_key_is_walked_twice(rt: HostRuntime) {
+    let walked = walks_over::<Entry<i8, i8>, Narrow>(&one_key_twice(), &[1, 2, 1, 9]).ok();
+    assert_eq!(rt; walked, Some(true));
+}
+
+// Returns the first four results of a walk.
+fn four_asks<T: Element>(bytes: &[u8]) -> Result<[Option<u64>; 4], VerifyError> {
+    let table = ArchivedHashTable::of(access::<TableOf<T>>(bytes)?);
+    let mut rest = table.raw_iter();
+    Ok([rest.next(), rest.next(), rest.next(), rest.next()])
+}
+
+#[test]
+fn a_walk_gives_positions(rt: HostRuntime) {
+    let given = four_asks::<u8>(&two_archived()).ok();
+    assert_eq!(rt; given, Some([Some(2), Some(0), None, None]));
+}
+
+#[test]
+fn items_of_no_bytes_are_walked(rt: HostRuntime) {
+    let given = four_asks::<()>(&two_units()).ok();
+    assert_eq!(rt; given, Some([Some(0), Some(0), None, None]));
+}
+
+#[test]
+fn an_empty_walk_gives_nothing(rt: HostRuntime) {
+    let mut rest = RawIter::<u8>::empty();
+    let none = [
+        rest.next().is_none(),
+        rest.next().is_none(),
+        rest.next_view().is_none(),
+    ];
+    assert_eq!(rt; (rest.len(), none), (0, [true; 3]));
+}
+
+// Returns the numbers of a table of two, by the views of a walk, and whether the walk then ends.
+fn two_views(bytes: &[u8]) -> Result<Option<(u8, u8, bool)>, VerifyError> {
+    let table = ArchivedHashTable::of(access::<TableOf<u8>>(bytes)?);
+    let mut rest = table.raw_iter();
+    let (first, second) = match (rest.next_view(), rest.next_view()) {
+        (Some(first), Some(second)) => (first.to_native(), second.to_native()),
+        _ => return Ok(None),
+    };
+    let ended = rest.next_view().is_none() && rest.next_view().is_none();
+    Ok(Some((first, second, ended)))
+}
+
+#[test]
+fn a_walk_gives_views(rt: HostRuntime) {
+    let views = two_views(&two_archived()).ok();
+    assert_eq!(rt; views, Some(Some((20, 10, true))));
+}

@@ -1,0 +1,142 @@
+//! Tables in wide archives.
+
+use crate::tests::archives::hash_of_u32;
+use crate::tests::reading::{counts, first_pos, value_of, walks_over};
+use rkyv_base::access::access_in;
+use rkyv_base::element::{Element, PartRange};
+use rkyv_base::entry::Entry;
+use rkyv_base::errors::{VerifyError, WriteError};
+use rkyv_base::width::Wide;
+use rkyv_base::writer::{NoMemory, VecWriter, align_for_in, append_in};
+use rkyv_scan::simd::lanes;
+use rkyv_table::table::{ArchivedHashTable, TableOf};
+use std::alloc::Global;
+use test_support::archives::one_wide_number;
+
+// Writes the archive of a table of the pairs, each under the hash of its first number.
+fn write_archive(
+    alloc: Global,
+    pairs: &[(u32, u32)],
+    writer: &mut VecWriter,
+) -> Result<(), WriteError<NoMemory>> {
+    let hashed = pairs.iter().map(|pair| (hash_of_u32(pair.0), pair));
+    let resolver = ArchivedHashTable::<Entry<u32, u32>, Wide>::serialize_by::<
+        lanes::Group,
+        VecWriter,
+        (u32, u32),
+        &(u32, u32),
+        _,
+    >(alloc, hashed, pairs.len(), (7, 8), writer)?;
+    let root = align_for_in::<Wide, u64, VecWriter>(writer)?;
+    let (len, load_factor) = (resolver.len(), resolver.load_factor());
+    let mut header = [0u8; 24];
+    match ArchivedHashTable::<Entry<u32, u32>, Wide>::resolve_from_len(
+        len,
+        load_factor,
+        resolver,
+        root,
+        &mut header,
+    ) {
+        Ok(()) => append_in::<Wide, VecWriter>(writer, &header),
+        Err(_) => Err(WriteError::DistanceTooLarge),
+    }
+}
+
+// Returns `true` if the bytes are those of such an archive.
+fn is_archive(alloc: Global, pairs: &[(u32, u32)], bytes: &[u8]) -> bool {
+    let mut writer = VecWriter::new(alloc);
+    match write_archive(alloc, pairs, &mut writer) {
+        Ok(()) => writer.bytes() == bytes,
+        Err(_) => false,
+    }
+}
+
+#[test]
+fn a_wide_pair_is_written(rt: HostRuntime) {
+    assert!(rt; is_archive(rt.alloc(), &[(1, 2)], &one_wide_number()));
+}
+
+#[test]
+fn no_wide_items_write_a_header_alone(rt: HostRuntime) {
+    let header = [
+        1, 0, 0, 0, 0, 0, 0, 0, 0, 0, 0, 0, 0, 0, 0, 0, 0, 0, 0, 0, 0, 0, 0, 0,
+    ];
+    let written = is_archive(rt.alloc(), &[], &header);
+    let counts = counts::<Entry<u32, u32>, Wide>(&header).ok();
+    assert_eq!(rt; (written, counts), (true, Some((0, 0))));
+}
+
+#[test]
+fn a_wide_pair_is_read(rt: HostRuntime) {
+    let archive = one_wide_number();
+    let bytes: &[u8] = &archive;
+    let layout = (
+        <TableOf<u8, Wide> as Element>::size(),
+        <TableOf<u8, Wide> as Element>::align(),
+    );
+    let counts = counts::<Entry<u32, u32>, Wide>(bytes).ok();
+    let found = [
+        value_of::<Wide>(bytes, hash_of_u32(1), 1).ok(),
+        value_of::<Wide>(bytes, hash_of_u32(2), 2).ok(),
+    ];
+    let pos = first_pos::<Entry<u32, u32>, Wide>(bytes, hash_of_u32(1)).ok();
+    let walked = walks_over::<Entry<u32, u32>, Wide>(bytes, &[1, 0, 0, 0, 2, 0, 0, 0]).ok();
+    assert_eq!(rt;
+        (layout, counts, found, pos, walked),
+        (
+            (24, 8),
+            Some((1, 2)),
+            [Some((Some(2), 1)), Some((None, 1))],
+            Some(Some(0)),
+            Some(true)
+        )
+    );
+}
+
+#[test]
+fn the_part_of_a_wide_table_is_the_range_up_to_its_end(rt: HostRuntime) {
+    let whole = PartRange { lo: 0, hi: 48 };
+    assert!(rt;
+        matches!(
+            ArchivedHashTable::<Entry<u32, u32>, Wide>::verify(&one_wide_number(), 48, whole),
+            Ok(PartRange { lo: 47, hi: 48 })
+        )
+    );
+}
+
+#[test]
+fn a_wide_capacity_that_no_archive_has_room_for_is_out_of_range(rt: HostRuntime) {
+    let bytes = [
+        0, 0, 0, 0, 0, 0, 0, 0, 1, 0, 0, 0, 0, 0, 0, 0, 0xff, 0xff, 0xff, 0xff, 0xff, 0xff, 0xff,
+        0xff,
+    ];
+    assert!(rt;
+        matches!(
+            access_in::<Wide, TableOf<Entry<u32, u32>, Wide>>(&bytes),
+            Err(VerifyError::OutOfRange {
+                pos: -147_573_952_589_676_412_920,
+                size: 166_020_696_663_385_964_551,
+            })
+        )
+    );
+}
+
+#[test]
+fn wide_capacities_are_refused(rt: HostRuntime) {
+    let mut writer = VecWriter::new(rt.alloc());
+    assert!(rt;
+        matches!(
+            ArchivedHashTable::<u8, Wide>::serialize_from_iter::<VecWriter, u8, u8, _, _>(
+                rt.alloc(),
+                [7u8].into_iter(),
+                [0u64].into_iter(),
+                4_611_686_018_427_387_904,
+                (1, 1),
+                &mut writer,
+            ),
+            Err(WriteError::CapacityTooLarge {
+                len: 4_611_686_018_427_387_904,
+            })
+        )
+    );
+}

@@ -1,0 +1,80 @@
+//! Writers that fail in the middle of a table.
+
+use crate::tests::archives::{hash_of_u32, write_header};
+use rkyv_base::archive::WriteResult;
+use rkyv_base::errors::WriteError;
+use rkyv_base::limit::{LimitFault, LimitWriter};
+use rkyv_base::width::Narrow;
+use rkyv_base::writer::{VecWriter, Writer};
+use rkyv_table::table::ArchivedHashTable;
+use std::alloc::Global;
+use test_support::archives::one_number;
+use test_support::writers::{Broken, BrokenWriter, LateWriter};
+
+// Writes the table of the pair 1 and 2, and its header.
+fn write_one_pair<S: Writer>(alloc: Global, writer: &mut S) -> WriteResult<(), S> {
+    let resolver = match ArchivedHashTable::<_, Narrow>::serialize_from_iter::<
+        S,
+        (u32, u32),
+        (u32, u32),
+        _,
+        _,
+    >(
+        alloc,
+        [(1u32, 2u32)].into_iter(),
+        [hash_of_u32(1)].into_iter(),
+        1,
+        (7, 8),
+        writer,
+    ) {
+        Ok(resolver) => resolver,
+        Err(error) => return Err(error),
+    };
+    write_header(resolver, writer)
+}
+
+#[test]
+fn a_table_past_the_greatest_position_is_refused(rt: HostRuntime) {
+    let mut writer = LateWriter::new(rt.alloc());
+    let refused = matches!(
+        write_one_pair(rt.alloc(), &mut writer),
+        Err(WriteError::PositionTooLarge)
+    );
+    assert_eq!(rt;
+        (refused, writer.failures(), writer.bytes()),
+        (true, 0, [0, 0].as_slice())
+    );
+}
+
+#[test]
+fn nothing_is_written_after_a_fault(rt: HostRuntime) {
+    let mut writer = BrokenWriter::new(0);
+    let refused = matches!(
+        write_one_pair(rt.alloc(), &mut writer),
+        Err(WriteError::Writer(Broken))
+    );
+    assert_eq!(rt; (refused, writer.asked(), writer.failures()), (true, 1, 1));
+}
+
+// Returns `true` if a writer with this limit keeps as many bytes of the archive, and reports
+// that it is full unless these are all.
+fn keeps_a_front(alloc: Global, limit: u64) -> bool {
+    let mut writer = LimitWriter::new(VecWriter::new(alloc), limit);
+    let (written, full) = match write_one_pair(alloc, &mut writer) {
+        Ok(()) => (true, false),
+        Err(WriteError::Writer(LimitFault::Full)) => (false, true),
+        Err(_) => (false, false),
+    };
+    let counted = writer.pos() == limit && writer.failures() == u64::from(full);
+    let told = if limit < 60 { full } else { written };
+    told && counted && one_number().get(..limit as usize) == Some(writer.into_inner().bytes())
+}
+
+#[test]
+fn a_limit_keeps_a_front_of_the_table(rt: HostRuntime) {
+    let mut right = true;
+    for limit in 0..61 {
+        right = right && keeps_a_front(rt.alloc(), limit);
+    }
+    assert!(rt; right);
+}

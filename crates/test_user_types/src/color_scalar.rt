@@ -1,0 +1,71 @@
+//! Colors as scalars, and as keys.
+
+ghost use Rattle.std.specs.Prelude.{◌≡◌};
+ghost use Rattle.std.proofs.Common.{inl, refl};
+ghost use Rattle.rkyv_scan.specs.Hash.{U8};
+ghost use Rattle.rkyv_base.specs.Scalar.{scalar_spec};
+ghost use Rattle.rkyv_base.specs.Lemmas.Scalar.{scalar_element, scalar_laws};
+ghost use Rattle.rkyv_user_types.specs.Variants.{variants_tell};
+ghost use Rattle.test_user_types.specs.Color.{code, color_codes, color_encoding};
+ghost use Rattle.test_user_types.specs.contracts.color.Color.{the_type};
+
+use crate::color::Color;
+use rkyv_base::element::HasSpec;
+use rkyv_base::scalars::Scalar;
+use rkyv_keys::scalars::ScalarKey;
+use rkyv_scan::hash::KeyHasher;
+
+/// Returns the number of a color.
+fn number(color: Color) -> u8
+    ensures { result ≡ code color }
+{
+    match color {
+        Color::Red => 0,
+        Color::Green => 1,
+        Color::Blue => 2,
+    }
+}
+
+impl HasSpec for Color {
+    ghost spec = { scalar_spec color_encoding };
+
+    ghost laws = { scalar_element color_encoding (inl refl) color_codes };
+}
+
+impl Scalar for Color {
+    ghost encoding = { color_encoding };
+
+    fn byte_count() -> usize {
+        1
+    }
+
+    fn is_value(bytes: &[u8]) -> bool {
+        bytes[0] < 3
+    }
+
+    fn read(bytes: &[u8]) -> Color {
+        match bytes[0] {
+            0 => Color::Red,
+            1 => Color::Green,
+            _ => Color::Blue,
+        }
+    }
+
+    fn write(self, bytes: &mut [u8]) {
+        bytes[0] = number(self);
+    }
+
+    ghost laws = { scalar_laws color_encoding (inl refl) };
+}
+
+impl ScalarKey for Color {
+    ghost call = { λ color. U8 (code color) };
+
+    fn feed<H: KeyHasher>(self, state: &mut H) {
+        state.write_u8(number(self));
+    }
+
+    ghost tells = { variants_tell the_type tt };
+
+    ghost fixed = { λ color. tt };
+}

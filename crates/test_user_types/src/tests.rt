@@ -1,0 +1,129 @@
+//! Types of a user's own as values and as keys.
+
+mod as_keys;
+
+use crate::color::Color;
+use crate::pixel::Pixel;
+use crate::point::Point;
+use crate::spot::Spot;
+use crate::spot_archived::{ArchivedSpot, spot_of};
+use crate::symbol::Symbol;
+use crate::wide::{archive_wide, wide_name};
+use rkyv_base::access::access;
+use rkyv_base::element::Element;
+use rkyv_base::entry::Entry;
+use rkyv_base::errors::VerifyError;
+use rkyv_base::root::to_bytes;
+use rkyv_keys::deserialize::Deserialize;
+use rkyv_keys::equality::MatchesNative;
+use rkyv_keys::hash::hash_value;
+use rkyv_keys::keys::Query;
+use rkyv_scan::hash::FxHasher64;
+use rkyv_user_types::pair::PairEntry;
+use rkyv_user_types::tuple::TupleEntry;
+use std::test::Fail;
+
+#[test]
+fn a_point_is_a_pair(rt: HostRuntime) -> Result<(), Fail> {
+    let point = PairEntry(Point { x: -2, y: 3 });
+    let other = PairEntry(Point { x: 3, y: -2 });
+    let bytes = to_bytes(rt.alloc(), &point)?;
+    let root = access::<Entry<i32, i32>>(bytes.as_slice())?;
+    let back: PairEntry<Point> = Entry::<i32, i32>::deserialize(rt.alloc(), root)?;
+    let hashes = [
+        hash_value::<PairEntry<Point>, FxHasher64>(&point),
+        hash_value::<(i32, i32), FxHasher64>(&(-2, 3)),
+    ];
+    let seen = [
+        bytes.as_slice() == [0xfe, 0xff, 0xff, 0xff, 3, 0, 0, 0].as_slice(),
+        root.key().to_native() == -2,
+        back == point,
+        back != other,
+        point.same(root),
+        !other.same(root),
+        Entry::<i32, i32>::eq_native(root, &point),
+        !Entry::<i32, i32>::eq_native(root, &other),
+        hashes[0] == hashes[1],
+    ];
+    assert_eq!(rt; seen, [true; 9]);
+    Ok(())
+}
+
+#[test]
+fn a_pixel_is_a_tuple(rt: HostRuntime) -> Result<(), Fail> {
+    let pixel = TupleEntry(Pixel {
+        level: 7,
+        x: 300,
+        y: 2,
+    });
+    let other = TupleEntry(Pixel {
+        level: 7,
+        x: 2,
+        y: 300,
+    });
+    let bytes = to_bytes(rt.alloc(), &pixel)?;
+    let root = access::<Entry<u8, Entry<u16, u16>>>(bytes.as_slice())?;
+    let back: TupleEntry<Pixel> = Entry::<u8, Entry<u16, u16>>::deserialize(rt.alloc(), root)?;
+    let seen = [
+        bytes.as_slice() == [7, 0, 44, 1, 2, 0].as_slice(),
+        root.value().key().to_native() == 300,
+        back == pixel,
+        back != other,
+        pixel.same(root),
+        !other.same(root),
+        Entry::<u8, Entry<u16, u16>>::eq_native(root, &pixel),
+        !Entry::<u8, Entry<u16, u16>>::eq_native(root, &other),
+        hash_value::<TupleEntry<Pixel>, FxHasher64>(&pixel)
+            == hash_value::<(u8, (u16, u16)), FxHasher64>(&(7, (300, 2))),
+    ];
+    assert_eq!(rt; seen, [true; 9]);
+    Ok(())
+}
+
+#[test]
+fn a_symbol_is_a_pair_with_a_text(rt: HostRuntime) -> Result<(), Fail> {
+    let name = String::from_str(rt.alloc(), "a name of more than sixteen bytes")?;
+    let symbol = PairEntry(Symbol {
+        name,
+        address: 0x1_0000_0000,
+    });
+    let bytes = archive_wide(rt.alloc(), &symbol)?;
+    let name = wide_name(bytes.as_slice())?;
+    assert_eq!(rt; name, "a name of more than sixteen bytes");
+    Ok(())
+}
+
+#[test]
+fn a_color_is_a_scalar(rt: HostRuntime) -> Result<(), Fail> {
+    let bytes = to_bytes(rt.alloc(), &(Color::Blue, 5u8))?;
+    let root = access::<Entry<Color, u8>>(bytes.as_slice())?;
+    let seen = [
+        bytes.as_slice() == [2, 5].as_slice(),
+        root.key().to_native() == Color::Blue,
+        Color::Blue.same(root.key()),
+        !Color::Red.same(root.key()),
+        matches!(
+            access::<Color>(&[3]),
+            Err(VerifyError::InvalidValue { pos: 0 })
+        ),
+    ];
+    assert_eq!(rt; seen, [true; 5]);
+    Ok(())
+}
+
+#[test]
+fn a_spot_is_an_entry_by_hand(rt: HostRuntime) -> Result<(), Fail> {
+    let spot = Spot { x: -2, y: 3 };
+    let bytes = to_bytes(rt.alloc(), &spot)?;
+    let root = access::<ArchivedSpot>(bytes.as_slice())?;
+    let seen = [
+        bytes.as_slice() == [0xfe, 0xff, 0xff, 0xff, 3, 0, 0, 0].as_slice(),
+        spot_of(root) == spot,
+        spot.same(root),
+        !Spot { x: 3, y: -2 }.same(root),
+        ArchivedSpot::eq_native(root, &spot),
+        ArchivedSpot::size() == 8,
+    ];
+    assert_eq!(rt; seen, [true; 6]);
+    Ok(())
+}
