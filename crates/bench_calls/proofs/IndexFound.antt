@@ -9,7 +9,7 @@ use Rattle.rkyv_base.specs.Entry.{entry_spec, value_offset}
 use Rattle.rkyv_base.specs.View.{pos_of}
 use Rattle.rkyv_base.specs.declared.view.View.{View}
 use Rattle.rkyv_index.specs.Index.{IsValueAt, index_bytes, index_pos, key_pos}
-use Rattle.rkyv_index.specs.IndexLayout.{pair_pos}
+use Rattle.rkyv_index.specs.Index.IndexLayout.{pair_pos}
 use Rattle.rkyv_index.specs.declared.map.ArchivedIndexMap.{ArchivedIndexMap}
 use Rattle.bench_calls.specs.Archives.{number_spec}
 use Rattle.bench_calls.specs.Index.{index_key_pos, place_or_miss}

@@ -11,7 +11,7 @@ use Rattle.rkyv_base.specs.Scalar.{ScalarRepresents, scalar_format}
 use Rattle.rkyv_base.specs.Text.{TextReads, text_at}
 use Rattle.rkyv_base.specs.TextWriting.{text_format}
 use Rattle.rkyv_table.specs.Table.Listed.{listed}
-use Rattle.rkyv_collections.specs.MapFormat.{MapRepresents, map_format}
+use Rattle.rkyv_collections.specs.Map.MapFormat.{MapRepresents, map_format}
 use Rattle.bench_calls.specs.Archives.{map_of, number_spec, short_text}
 use Rattle.bench_calls.specs.Totals.{number_hash, text_hash}
 

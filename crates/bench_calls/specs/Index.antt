@@ -18,8 +18,8 @@ use Rattle.rkyv_scan.specs.Hash.{HasherCall}
 use Rattle.rkyv_table.specs.Table.Header.{len_at}
 use Rattle.rkyv_table.specs.Table.Listed.{listed}
 use Rattle.rkyv_index.specs.Index.{index_bytes, index_found, index_pos, pair_positions}
-use Rattle.rkyv_index.specs.IndexFormat.{IndexRepresents, index_format}
-use Rattle.rkyv_index.specs.IndexLayout.{index_spec, pair_pos}
+use Rattle.rkyv_index.specs.Index.IndexFormat.{IndexRepresents, index_format}
+use Rattle.rkyv_index.specs.Index.IndexLayout.{index_spec, pair_pos}
 use Rattle.rkyv_index.specs.declared.map.ArchivedIndexMap.{ArchivedIndexMap}
 use Rattle.bench_calls.specs.Archives.{IsAnd1, number_spec}
 use Rattle.bench_calls.specs.Totals.{hash_by, is_number, number_calls, number_hash}

@@ -6,8 +6,8 @@ ghost use Rattle.rkyv_base.specs.Pairs.{written_as};
 ghost use Rattle.rkyv_base.specs.Lemmas.Pairs.{written_as-format};
 ghost use Rattle.rkyv_table.specs.Table.Listed.{listed, listed_format};
 ghost use Rattle.rkyv_index.specs.Index.{hash_at};
-ghost use Rattle.rkyv_index.specs.IndexFormat.{IndexRepresents, hash_of, index_format};
-ghost use Rattle.rkyv_index.specs.IndexLayout.{index_spec};
+ghost use Rattle.rkyv_index.specs.Index.IndexFormat.{IndexRepresents, hash_of, index_format};
+ghost use Rattle.rkyv_index.specs.Index.IndexLayout.{index_spec};
 ghost use Rattle.rkyv_index.specs.Lemmas.IndexLocal.{index_represents_local};
 ghost use Rattle.rkyv_index.specs.Lemmas.IndexSound.{index_sound};
 

@@ -4,7 +4,7 @@
 ghost use Rattle.std.specs.Int.{w64};
 ghost use Rattle.std.specs.Prelude.{ℕ, ◌≡◌};
 ghost use Rattle.rkyv_base.specs.Numbers.{unsigned};
-ghost use Rattle.rkyv_collections.specs.ListArchives.{
+ghost use Rattle.rkyv_collections.specs.Map.ListArchives.{
   IsTextMap,
   OpensTextMap,
   TextMapResult,
@@ -18,7 +18,7 @@ use rkyv_base::root::to_bytes;
 use rkyv_base::text::Text;
 use rkyv_base::width::Narrow;
 use rkyv_base::writer::NoMemory;
-use rkyv_collections::map::list_archives::scalars_found_are_listed;
+use rkyv_collections::map::laws::list_archives::scalars_found_are_listed;
 use rkyv_collections::map::{ArchivedHashMap, HashMapOf};
 use rkyv_collections::{FxHasher64, MapPairs};
 use std::alloc::Global;

@@ -37,7 +37,7 @@ use rkyv_base::width::Narrow;
 use rkyv_base::writer::NoMemory;
 use rkyv_collections::map::in_place::set_value_of;
 use rkyv_collections::map::laws::lookups_find_listed;
-use rkyv_collections::map::nested::{nested_writes_keep_maps, nested_writes_represent};
+use rkyv_collections::map::laws::nested::{nested_writes_keep_maps, nested_writes_represent};
 use rkyv_collections::map::{ArchivedHashMap, HashMapOf};
 use rkyv_collections::{FxHasher64, MapPairs};
 use std::alloc::Global;
@@ -89,11 +89,7 @@ fn pos_of_part(message: &[u8], part: &str) -> Result<Option<u64>, VerifyError>
         → IfOk result (λ found. ArePartsFields message.now part.now parts found) }
 {
     lookups_find_listed::<&str, Fields<'_>, Text, HashMapOf<Text, u32>, FxHasher64, Narrow>();
-    let root = match access::<HashMapOf<Text, HashMapOf<Text, u32>>>(message) {
-        Ok(root) => root,
-        Err(refused) => return Err(refused),
-    };
-    let map = ArchivedHashMap::of(root);
+    let map = ArchivedHashMap::of(access::<HashMapOf<Text, HashMapOf<Text, u32>>>(message)?);
     match map.get(&part) {
         Some(fields) => Ok(Some(fields.pos())),
         None => Ok(None),
@@ -117,10 +113,9 @@ pub fn number_of(message: &[u8], part: &str, field: &str) -> Result<Option<u32>,
     ensures listed { (parts : Parts) → Represents message.now parts
         → IfOk result (λ found. found ≡ first_number part.now field.now parts) }
 {
-    match pos_of_part(message, part) {
-        Ok(Some(pos)) => Ok(field_number(ArchivedHashMap::of(View::new(message, pos)), field)),
-        Ok(None) => Ok(None),
-        Err(refused) => Err(refused),
+    match pos_of_part(message, part)? {
+        Some(pos) => Ok(field_number(ArchivedHashMap::of(View::new(message, pos)), field)),
+        None => Ok(None),
     }
 }
 
@@ -150,11 +145,10 @@ pub fn set_number(
 {
     nested_writes_keep_maps::<Text, HashMapOf<Text, u32>, FxHasher64, Narrow>();
     nested_writes_represent::<&str, Fields<'_>, Text, HashMapOf<Text, u32>, FxHasher64, Narrow>();
-    match pos_of_part(&*message, part) {
-        Ok(Some(pos)) => Ok(set_value_of::<&str, Text, u32, FxHasher64, Narrow>(
+    match pos_of_part(&*message, part)? {
+        Some(pos) => Ok(set_value_of::<&str, Text, u32, FxHasher64, Narrow>(
             message, pos, &field, number,
         )),
-        Ok(None) => Ok(false),
-        Err(refused) => Err(refused),
+        None => Ok(false),
     }
 }

@@ -24,10 +24,10 @@ use Rattle.rkyv_keys.specs.Lemmas.OfTexts.{IsTextOf, text_key_calls}
 use Rattle.rkyv_table.specs.Table.Positions.{pos_found}
 use Rattle.rkyv_table.specs.Table.TableFormat.{TableResolver}
 use Rattle.rkyv_table.specs.Table.Listed.{listed}
-use Rattle.rkyv_collections.specs.ListedLookups.{first_value}
+use Rattle.rkyv_collections.specs.Map.ListedLookups.{first_value}
 use Rattle.rkyv_collections.specs.Map.{hash_at}
-use Rattle.rkyv_collections.specs.MapSpec.{map_spec}
-use Rattle.rkyv_collections.specs.MapFormat.{MapRepresents, hash_of, map_format}
+use Rattle.rkyv_collections.specs.Map.MapSpec.{map_spec}
+use Rattle.rkyv_collections.specs.Map.MapFormat.{MapRepresents, hash_of, map_format}
 
 -- names, each with its address
 abbrev pub Symbols : Type 0

@@ -52,10 +52,8 @@ pub fn check(table: &[u8]) -> Result<(), VerifyError>
     ensures checked { MatchResult result (λ _. IsTable table.now) (IsRefused table.now) }
     ensures accepts { IsTable table.now → IsOk result }
 {
-    match access::<HashMapOf<Text, u64>>(table) {
-        Ok(_) => Ok(()),
-        Err(refused) => Err(refused),
-    }
+    access::<HashMapOf<Text, u64>>(table)?;
+    Ok(())
 }
 
 /// Returns the address that a lookup of the name finds in a valid table, which isn't validated.
@@ -93,8 +91,6 @@ pub fn address_of(table: &[u8], name: &str) -> Result<Option<u64>, VerifyError>
     ensures listed { (symbols : Symbols) → Represents table.now symbols
         → IfOk result (λ found. found ≡ first_address name.now symbols) }
 {
-    match check(table) {
-        Ok(()) => Ok(address_in(table, name)),
-        Err(refused) => Err(refused),
-    }
+    check(table)?;
+    Ok(address_in(table, name))
 }

@@ -27,9 +27,9 @@ use Rattle.rkyv_keys.specs.OfScalars.{one_call, scalar_calls}
 use Rattle.rkyv_keys.specs.Lemmas.OfTexts.{IsTextOf}
 use Rattle.rkyv_table.specs.Table.Listed.{listed}
 use Rattle.rkyv_index.specs.Index.{IsPairOf, hash_at}
-use Rattle.rkyv_index.specs.IndexFormat.{IndexRepresents, hash_of, index_format}
-use Rattle.rkyv_index.specs.IndexHeader.{IndexResolver}
-use Rattle.rkyv_index.specs.IndexLayout.{index_spec}
+use Rattle.rkyv_index.specs.Index.IndexFormat.{IndexRepresents, hash_of, index_format}
+use Rattle.rkyv_index.specs.Index.IndexHeader.{IndexResolver}
+use Rattle.rkyv_index.specs.Index.IndexLayout.{index_spec}
 use Rattle.rkyv_index.specs.declared.lists.OrderedPairs.{OrderedPairs}
 use Rattle.rkyv_index.specs.declared.map.ArchivedIndexMap.{ArchivedIndexMap}
 use Rattle.example_symbols.specs.Table.{Symbols, address_spec, name_spec}

@@ -71,10 +71,7 @@ pub fn open(index: &[u8]) -> Result<ArchivedIndexMap<'_, u64, Text>, VerifyError
     ensures root { OpensIndex ⟦<Index as Element>⟧.spec index.entry result }
     ensures accepts { Accepted 4294967295 ⟦<Index as Element>⟧.spec index.now → IsOk result }
 {
-    match access::<IndexMapOf<u64, Text>>(index) {
-        Ok(root) => Ok(ArchivedIndexMap::of(root)),
-        Err(refused) => Err(refused),
-    }
+    Ok(ArchivedIndexMap::of(access::<IndexMapOf<u64, Text>>(index)?))
 }
 
 /// Returns the address and the name at index `place` of the map, or `None` from its length on.

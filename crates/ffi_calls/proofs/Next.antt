@@ -5,7 +5,7 @@ use Rattle.rkyv_base.specs.Bytes.{number_at}
 use Rattle.rkyv_base.specs.Scalar.{Encoding}
 use Rattle.rkyv_base.specs.Sealing.{value_pos}
 use Rattle.rkyv_base.specs.ElementSpec.{ElementSpec}
-use Rattle.rkyv_collections.specs.MapAt.{MapAt}
+use Rattle.rkyv_collections.specs.Map.MapAt.{MapAt}
 use Rattle.ffi_calls.specs.Archives.{map_in, root}
 use Rattle.ffi_calls.specs.Walking.{bucket_value, buckets_from, pair_pos}
 

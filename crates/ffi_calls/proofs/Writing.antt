@@ -11,8 +11,8 @@ use Rattle.rkyv_base.specs.Scalar.{Encoding}
 use Rattle.rkyv_base.specs.Sealing.{value_pos, with_value}
 use Rattle.rkyv_base.specs.ElementSpec.{ElementSpec, ValidAt, Viewable}
 use Rattle.rkyv_table.specs.Table.Positions.{pos_found}
-use Rattle.rkyv_collections.specs.InPlace.{SetsFound}
-use Rattle.rkyv_collections.specs.MapSpec.{map_spec}
+use Rattle.rkyv_collections.specs.Map.InPlace.{SetsFound}
+use Rattle.rkyv_collections.specs.Map.MapSpec.{map_spec}
 use Rattle.ffi_calls.specs.Archives.{hash_by, map_in, root, value_found}
 
 module _ {N : Type 0} (w : Width) (k v : ElementSpec) (e : Encoding N) (key_hash : List ℕ → ℕ → ℕ) (b : List ℕ) (p : ℕ) (value : N) (result : Bool) (c : List ℕ) where

@@ -15,8 +15,8 @@ use Rattle.rkyv_base.specs.Sealing.{value_pos, with_value}
 use Rattle.rkyv_base.specs.ElementSpec.{ElementSpec, Viewable}
 use Rattle.rkyv_base.specs.Text.{text_spec}
 use Rattle.rkyv_base.specs.declared.errors.VerifyError.{VerifyError}
-use Rattle.rkyv_collections.specs.MapAt.{MapAt}
-use Rattle.rkyv_collections.specs.MapSpec.{map_spec}
+use Rattle.rkyv_collections.specs.Map.MapAt.{MapAt}
+use Rattle.rkyv_collections.specs.Map.MapSpec.{map_spec}
 use Rattle.rkyv_table.specs.Table.Positions.{pos_found}
 use Rattle.ffi_calls.specs.Status.{refusal}
 use Rattle.ffi_calls.specs.declared.form.Form.{Form}

@@ -7,7 +7,7 @@ use Rattle.rkyv_base.specs.Text.{text_at}
 use Rattle.rkyv_keys.specs.Calls.{text_calls}
 use Rattle.rkyv_keys.specs.OfTexts.{same_bytes}
 use Rattle.rkyv_table.specs.Table.Header.{len_at}
-use Rattle.rkyv_collections.specs.MapAt.{MapAt}
+use Rattle.rkyv_collections.specs.Map.MapAt.{MapAt}
 use Rattle.ffi_calls.specs.Archives.{Gives, Sets, numbers_in, texts_in, value_encoding}
 use Rattle.ffi_calls.specs.Archives.{value_found, word_of}
 use Rattle.ffi_calls.specs.Listed.{number_calls}

@@ -8,7 +8,7 @@ use Rattle.rkyv_base.specs.Numbers.{unsigned}
 use Rattle.rkyv_base.specs.Scalar.{ScalarRepresents}
 use Rattle.rkyv_keys.specs.OfTexts.{same_bytes}
 use Rattle.rkyv_keys.specs.Lemmas.OfTexts.{IsTextOf, text_key_calls}
-use Rattle.rkyv_collections.specs.MapAt.{AskedValue}
+use Rattle.rkyv_collections.specs.Map.MapAt.{AskedValue}
 use Rattle.ffi_calls.specs.Archives.{numbers_in, texts_in, value_encoding, word_of}
 use Rattle.ffi_calls.specs.Lists.{GivesFirst, SetsFirstOf, asked_key}
 use Rattle.ffi_calls.specs.declared.form.Form.{Form}

@@ -3,6 +3,7 @@ use Rattle.std.specs.Prelude.{◌≡◌, ℕ, ◌<◌, ◌^◌, ◌≤◌, ◌�
 use Rattle.std.specs.Prelude.{Option, Some}
 use Rattle.std.specs.Int.{Width}
 use mir.Val.{bits}
+use Rattle.rkyv_base.specs.Members.{WidthMembers}
 use Rattle.rkyv_scan.specs.Hash.{HasherCall, fx_hasher, low_halves}
 use Rattle.rkyv_base.specs.Access.{Accepted}
 use Rattle.rkyv_base.specs.Format.{Format}
@@ -12,13 +13,14 @@ use Rattle.rkyv_base.specs.ElementSpec.{ElementSpec}
 use Rattle.rkyv_base.specs.declared.errors.WriteError.{WriteError}
 use Rattle.rkyv_table.specs.Table.Listed.{listed}
 use Rattle.rkyv_table.specs.Table.TableFormat.{TableResolver}
-use Rattle.rkyv_collections.specs.InPlace.{with_first}
-use Rattle.rkyv_collections.specs.ListedLookups.{first_pair, first_value}
-use Rattle.rkyv_collections.specs.ListedWalks.{WalksVisitPairs}
-use Rattle.rkyv_collections.specs.MapAt.{AskedValue, MapAt, asked_value}
-use Rattle.rkyv_collections.specs.MapSpec.{map_spec}
-use Rattle.rkyv_collections.specs.MapFormat.{MapRepresents, map_format}
-use Rattle.rkyv_collections.specs.Natives.{NativePairs, PairFormat, WidthMembers, native_pairs}
+use Rattle.rkyv_collections.specs.Map.InPlace.{with_first}
+use Rattle.rkyv_collections.specs.Map.ListedLookups.{first_pair, first_value}
+use Rattle.rkyv_collections.specs.Map.ListedWalks.{WalksVisitPairs}
+use Rattle.rkyv_collections.specs.Map.MapAt.{AskedValue, MapAt, asked_value}
+use Rattle.rkyv_collections.specs.Map.MapSpec.{map_spec}
+use Rattle.rkyv_collections.specs.Map.MapFormat.{MapRepresents, map_format}
+use Rattle.rkyv_keys.specs.Natives.{NativePairs, native_pairs}
+use Rattle.rkyv_collections.specs.Natives.{PairFormat}
 use Rattle.rkyv_collections.specs.Natives.{pair_format}
 use Rattle.ffi_calls.specs.Archives.{map_in}
 

@@ -9,7 +9,7 @@ use Rattle.rkyv_base.specs.Text.{text_at}
 use Rattle.rkyv_table.specs.Controls.Walking.{full_from}
 use Rattle.rkyv_table.specs.Table.Header.{cap_at}
 use Rattle.rkyv_table.specs.Table.Positions.{item_at, table_controls}
-use Rattle.rkyv_collections.specs.MapAt.{MapAt}
+use Rattle.rkyv_collections.specs.Map.MapAt.{MapAt}
 use Rattle.ffi_calls.specs.declared.numbers.NumberPair.{NumberPair}
 use Rattle.ffi_calls.specs.declared.texts.TextPair.{TextPair}
 use Rattle.ffi_calls.specs.declared.walk.BucketPos.{BucketPos}

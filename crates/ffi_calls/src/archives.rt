@@ -3,7 +3,7 @@
 ghost use Rattle.std.specs.Prelude.{◌≡◌};
 ghost use Rattle.rkyv_base.specs.Access.{Accepted};
 ghost use Rattle.rkyv_base.specs.ElementSpec.{Viewable};
-ghost use Rattle.rkyv_collections.specs.MapSpec.{map_spec};
+ghost use Rattle.rkyv_collections.specs.Map.MapSpec.{map_spec};
 ghost use Rattle.ffi_calls.specs.Archives.{IsMapArchive, Opens, map_in, root};
 ghost use Rattle.ffi_calls.specs.Calls.{Counts};
 

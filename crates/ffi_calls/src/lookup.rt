@@ -3,31 +3,19 @@
 ghost use Rattle.std.specs.Prelude.{IfSome, false, true, ◌≡◌};
 ghost use Rattle.rkyv_base.specs.Bytes.{number_at};
 ghost use Rattle.rkyv_base.specs.ElementSpec.{Viewable};
-ghost use Rattle.rkyv_base.specs.View.{pos_of_found};
 ghost use Rattle.ffi_calls.specs.Archives.{Gives, IsMapArchive, Sets, map_in, value_found};
 ghost use Rattle.ffi_calls.specs.Lists.{GivesFirst, PosOfFirst, SetsFirstOf, asked_key};
 
 use crate::archives::root_of;
 use crate::status::{DONE, NOT_FOUND, VALUE_TOO_LARGE};
 use crate::value::Value;
-use rkyv_base::element::{Element, Represents};
-use rkyv_base::view::View;
+use rkyv_base::element::Represents;
+use rkyv_base::view::{View, found_pos};
 use rkyv_base::width::Width;
 use rkyv_collections::map::ArchivedHashMap;
 use rkyv_collections::map::in_place::set_value_of;
 use rkyv_collections::map::laws::lookups_find_listed;
 use rkyv_collections::{FxHasher64, KeyElement, NativeKey};
-
-/// Returns the position of the value that a lookup finds.
-#[inline]
-fn found_pos<V: Element>(found: Option<View<'_, V>>) -> Option<u64>
-    ensures { result ≡ pos_of_found found.entry }
-{
-    match found {
-        Some(value) => Some(value.pos()),
-        None => None,
-    }
-}
 
 /// Returns the position of the value that a lookup of the key finds in a valid archive.
 #[inline]

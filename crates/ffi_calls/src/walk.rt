@@ -9,7 +9,7 @@ ghost use Rattle.rkyv_base.specs.Sealing.{value_pos};
 ghost use Rattle.rkyv_base.specs.ElementSpec.{Viewable};
 ghost use Rattle.rkyv_table.specs.Controls.Numbers.{control_count};
 ghost use Rattle.rkyv_table.specs.Table.Header.{cap_at, controls_pos};
-ghost use Rattle.rkyv_collections.specs.MapAt.{map_at};
+ghost use Rattle.rkyv_collections.specs.Map.MapAt.{map_at};
 ghost use Rattle.ffi_calls.specs.Archives.{IsMapAt, IsPairAt};
 ghost use Rattle.ffi_calls.specs.Walking.{IsNextBucket};
 

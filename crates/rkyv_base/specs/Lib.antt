@@ -13,6 +13,8 @@ pub mod View
 pub mod Access
 pub mod Pairs
 pub mod Root
+pub mod Members
+pub mod Same
 pub mod Lemmas
 pub mod Empty
 pub mod Parts

@@ -3,8 +3,10 @@
 //! - `WriteError` is the error of a write, with the fault of the writer.
 //! - `VerifyError` is the first fault of a validation.
 //! - `ReadError` is the error of a deserialization.
+//! - `RoundTripError` is the error of writing a value and deserializing it.
 //! - `DistanceTooLarge` is the error of `resolve` alone.
 
+use crate::writer::NoMemory;
 use thiserror::Error;
 
 /// The error for a distance from a position to a part that doesn't fit in the width.
@@ -104,4 +106,15 @@ pub enum ReadError {
     /// The type refuses the value, for a reason of its own.
     #[error("refused {0}")]
     Refused(u32),
+}
+
+/// The error of a round trip: a value is written to memory, and deserialized from its archive.
+#[derive(Debug, Drop, Error)]
+pub enum RoundTripError {
+    /// The value could not be written.
+    #[error("{0}")]
+    Write(WriteError<NoMemory>),
+    /// The value could not be deserialized.
+    #[error("{0}")]
+    Read(ReadError),
 }

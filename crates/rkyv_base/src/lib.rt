@@ -21,6 +21,7 @@ mod byte_search;
 pub mod element;
 pub mod entry;
 pub mod errors;
+pub mod laws;
 pub mod lend;
 pub mod limit;
 pub mod numbers;

@@ -15,10 +15,10 @@ use Rattle.rkyv_keys.specs.Keys.{IsQuery}
 use Rattle.rkyv_keys.specs.Lemmas.OfEntries.{valid_key}
 use Rattle.rkyv_table.specs.Table.Positions.{WrittenAt, home_positions, item_at, pos_found}
 use Rattle.rkyv_keys.specs.declared.hash.KeyHash.{Ghosts as KeyHashes}
-use Rattle.rkyv_collections.specs.BothHashers.{QueriedAlike, fx_hash_at}
-use Rattle.rkyv_collections.specs.Equality.{pair_at}
+use Rattle.rkyv_collections.specs.Map.BothHashers.{QueriedAlike, fx_hash_at}
+use Rattle.rkyv_collections.specs.Map.Equality.{pair_at}
 use Rattle.rkyv_collections.specs.Map.{MapWrittenAt}
-use Rattle.rkyv_collections.specs.MapSpec.{map_spec}
+use Rattle.rkyv_collections.specs.Map.MapSpec.{map_spec}
 use Rattle.rkyv_collections.proofs.WrittenPairs.{first_accepted, pair_represents, place_of_pair}
 
 module _ (w : Width) (k v : ElementSpec) (kl : IsElement k) (vl : IsElement v) (key_calls : List ℕ → ℕ → List HasherCall) (fixed : MakesFixedCalls k key_calls)

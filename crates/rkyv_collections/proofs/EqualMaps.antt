@@ -17,7 +17,7 @@ use Rattle.rkyv_table.specs.Table.Positions.{home_positions, item_at, item_posit
 use Rattle.rkyv_table.proofs.Lists.{any_member, contains_member, none_find, some_find}
 use Rattle.rkyv_table.proofs.Search.{cases_option}
 use Rattle.rkyv_table.proofs.Written.{first_within}
-use Rattle.rkyv_collections.specs.Equality.{EachIsIn, EqualHaveSamePairs, IsWrittenApart, pair_at, pair_matches}
+use Rattle.rkyv_collections.specs.Map.Equality.{EachIsIn, EqualHaveSamePairs, IsWrittenApart, pair_at, pair_matches}
 use Rattle.rkyv_collections.proofs.Matching.{IsMatching, column_matched, rows_within}
 use Rattle.rkyv_collections.proofs.WrittenPairs.{all_handed, all_walked, first_accepted, hash_small, pair_count, pair_represents, place_of_pair}
 

@@ -14,11 +14,11 @@ use Rattle.rkyv_base.specs.Sealing.{Keeps, Sealed, value_pos}
 use Rattle.rkyv_base.specs.ElementSpec.{IsElement, ElementSpec, ValidAt, Viewable}
 use Rattle.rkyv_keys.specs.Lemmas.OfEntries.{valid_key}
 use Rattle.rkyv_table.specs.Table.Positions.{home_positions, item_at}
-use Rattle.rkyv_collections.specs.InPlace.{WritesFound, with_first}
+use Rattle.rkyv_collections.specs.Map.InPlace.{WritesFound, with_first}
 use Rattle.rkyv_collections.specs.Lemmas.MapLaws.{HashLocal}
-use Rattle.rkyv_collections.specs.ListedLookups.{AsksFor, first_pair}
-use Rattle.rkyv_collections.specs.MapSpec.{map_spec}
-use Rattle.rkyv_collections.specs.MapFormat.{MapRepresents}
+use Rattle.rkyv_collections.specs.Map.ListedLookups.{AsksFor, first_pair}
+use Rattle.rkyv_collections.specs.Map.MapSpec.{map_spec}
+use Rattle.rkyv_collections.specs.Map.MapFormat.{MapRepresents}
 use Rattle.rkyv_table.specs.Table.SealedTable.{WritesValue}
 use Rattle.rkyv_collections.proofs.ValueWrites.{written_value_represents}
 use Rattle.rkyv_collections.proofs.WrittenPairs.{pair_represents, place_of_pair}

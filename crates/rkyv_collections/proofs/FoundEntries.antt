@@ -1,7 +1,7 @@
 -- From a lookup in the table of a map to a lookup in the map.
 use Rattle.rkyv_base.specs.declared.element.HasSpec.{Ghosts as Specs}
 use Rattle.rkyv_base.specs.declared.width.Word.{Ghosts as Words}
-use Rattle.std.proofs.Common.{◌≡◌, ℕ, ◌<◌, ◌^◌, ◌∙◌, ap, sym, Bool, List, None, Option, Some, map}
+use Rattle.std.proofs.Common.{◌≡◌, ℕ, ◌<◌, ◌^◌, ◌∙◌, ap, sym, Bool, true, List, None, Option, Some, map}
 use Rattle.std.specs.Borrow.{Bor}
 use Rattle.std.specs.List.{find}
 use Rattle.std.specs.Prelude.{IfSome}
@@ -17,13 +17,14 @@ use Rattle.rkyv_keys.specs.Equality.{Comparison}
 use Rattle.rkyv_keys.specs.Keys.{IsQuery}
 use Rattle.rkyv_table.specs.Controls.Laws.{IsUnderHash}
 use Rattle.rkyv_table.specs.Table.Positions.{WrittenAt, home_positions, pos_found}
-use Rattle.rkyv_table.specs.Table.Reading.{Answers, FindsFirst, FindsFound, IsItem}
+use Rattle.rkyv_table.specs.Table.Reading.{Answers, FindsFirst, FindsFound, FindsItem, IsItem}
 use Rattle.rkyv_table.specs.Table.Reading.{table_bytes, table_pos}
 use Rattle.rkyv_table.specs.declared.table.ArchivedHashTable.{ArchivedHashTable}
 use Rattle.rkyv_collections.specs.Map.{AnswersKeys, AreUnderHash, FindsBy, FindsFirstBy, FindsKey}
 use Rattle.rkyv_collections.specs.Map.{IsEntryAt, IsEntryIn, IsMap, MapWrittenAt, hash_at}
 use Rattle.rkyv_collections.specs.Map.{map_archive, map_bytes, map_pos}
-use Rattle.rkyv_collections.specs.Misplaced.{FindsOneKey}
+use Rattle.rkyv_collections.specs.Map.Lookups.{IsAcceptedKey}
+use Rattle.rkyv_collections.specs.Map.Misplaced.{FindsOneKey}
 use Rattle.rkyv_collections.specs.declared.map.ArchivedHashMap.{ArchivedHashMap}
 use Rattle.rkyv_collections.proofs.Lookups.{entry_of_item, key_of_entry, under_hash}
 use Rattle.rkyv_collections.proofs.MisplacedKeys.{finds_the_one}
@@ -85,6 +86,16 @@ module _ {K V H W : Type 0} {ks : Specs K} {vs : Specs V} {wt : Words W} (m : Ar
 
     pub found_by_key : FindsFound compared generic_kind t hash (pos_of_found result) → AskedByKey → FindsBy m post asked (IsEntryAt result)
     found_by_key found by_key = λ accept answers. found accept (answered by_key accept answers) ∙ found_there hash asked accept same_hash
+
+    -- the comparison accepted the key of the found entry
+    accepted_of : AskedByKey → (found : Option (View (Entry K V))) → IfSome found (IsItem t) → IfSome found (λ entry. compared entry true) → IfSome (pos_of_found found) (IsAcceptedKey m post)
+    accepted_of by_key None item told = told
+    accepted_of by_key (Some entry) item told =
+        let e = by_key entry true told in
+        (e.0, key_of_entry m entry e.0 (entry_of_item m t at entry item) e.1 e.2, e.1.1, e.3)
+
+    pub accepted_by_key : FindsItem compared generic_kind t hash result → AskedByKey → IfSome (pos_of_found result) (IsAcceptedKey m post)
+    accepted_by_key got by_key = accepted_of by_key result got.walked got.accepted
 
     pub first_by_key : FindsFirst compared t hash (pos_of_found result) → AskedByKey → (key_hash : List ℕ → ℕ → ℕ) → FindsFirstBy m post asked key_hash (IsEntryAt result)
     first_by_key found by_key key_hash = λ accept answers under homes written.

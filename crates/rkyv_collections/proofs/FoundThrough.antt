@@ -15,8 +15,8 @@ use Rattle.rkyv_base.specs.declared.view.View.{View}
 use Rattle.rkyv_keys.specs.Equality.{Comparison}
 use Rattle.rkyv_keys.specs.Keys.{IsQuery}
 use Rattle.rkyv_keys.specs.Asked.{Asked, asked}
-use Rattle.rkyv_collections.specs.Lookups.{GetsBy, GetsKey, IsPairOfEntry, IsValueOfEntry, Part}
-use Rattle.rkyv_collections.specs.Lookups.{entry_part, key_part, pair_part, value_part}
+use Rattle.rkyv_collections.specs.Map.Lookups.{GetsBy, GetsKey, IsPairOfEntry, IsValueOfEntry, Part}
+use Rattle.rkyv_collections.specs.Map.Lookups.{entry_part, key_part, pair_part, value_part}
 use Rattle.rkyv_collections.specs.Map.{AnswersKeys, IsEntryAt, IsEntryIn, IsMap, IsPairAt}
 use Rattle.rkyv_collections.specs.Map.{IsPairIn, IsValueAt, IsValueIn, hash_at, key_pos_found}
 use Rattle.rkyv_collections.specs.Map.{map_bytes}
@@ -39,6 +39,7 @@ module _ {K V H W : Type 0} {ks : Specs K} {vs : Specs V} {wt : Words W} (m : Ar
     pub by_through : (hash : ℕ) (key_hash : List ℕ → ℕ → ℕ) (post : View K → Bool → Type 0) → GetsBy part m hash key_hash post found → GetsBy out m hash key_hash post result
     by_through hash key_hash post h = record {
       walked = walks h.walked;
+      accepted = (h.accepted.0, at h.accepted.0 h.accepted.1, h.accepted.2);
       answer = λ accept answers. at _ (h.answer accept answers);
       first = λ accept answers under homes written. at _ (h.first accept answers under homes written);
     }

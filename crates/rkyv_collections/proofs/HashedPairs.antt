@@ -14,10 +14,10 @@ use Rattle.rkyv_base.specs.declared.errors.WriteError.{WriteError}
 use Rattle.rkyv_table.specs.Table.Counting.{YieldsOtherCount}
 use Rattle.rkyv_table.specs.Table.Serializing.{WriteItemsFails, WroteItems}
 use Rattle.rkyv_table.specs.Table.TableFormat.{TableResolver, table_format}
-use Rattle.rkyv_collections.specs.HashedPairs.{HashedStep}
+use Rattle.rkyv_collections.specs.Map.HashedPairs.{HashedStep}
 use Rattle.rkyv_table.specs.Table.Serializing.{WriteItemsFails, WroteItems}
 use Rattle.rkyv_table.specs.Table.ItemValues.{lent_pairs}
-use Rattle.rkyv_collections.specs.MapFormat.{keyed, map_format}
+use Rattle.rkyv_collections.specs.Map.MapFormat.{keyed, map_format}
 use Rattle.rkyv_table.proofs.Through.{drains_through, other_through, own_counted}
 use Rattle.rkyv_collections.proofs.SeenItems.{seen_fails, seen_pairs, seen_serialized}
 

@@ -8,10 +8,10 @@ use Rattle.rkyv_base.specs.Scalar.{Encoding, ScalarRepresents}
 use Rattle.rkyv_base.specs.ElementSpec.{ElementSpec}
 use Rattle.rkyv_base.specs.declared.errors.WriteError.{WriteError}
 use Rattle.rkyv_base.specs.declared.view.View.{View}
-use Rattle.rkyv_collections.specs.ListArchives.{IsListArchive, TextMapFails, TextMapResult, TextMapRepresents, TextPairs, map_root, scalar_found, text_map_format, text_map_spec}
-use Rattle.rkyv_collections.specs.ListedLookups.{IsFoundValue}
-use Rattle.rkyv_collections.specs.MapSpec.{map_spec}
-use Rattle.rkyv_collections.specs.MapFormat.{MapRepresents}
+use Rattle.rkyv_collections.specs.Map.ListArchives.{IsListArchive, TextMapFails, TextMapResult, TextMapRepresents, TextPairs, map_root, scalar_found, text_map_format, text_map_spec}
+use Rattle.rkyv_collections.specs.Map.ListedLookups.{IsFoundValue}
+use Rattle.rkyv_collections.specs.Map.MapSpec.{map_spec}
+use Rattle.rkyv_collections.specs.Map.MapFormat.{MapRepresents}
 
 -- the result of `to_bytes` for a list with these pairs
 pub list_archive : {A B : Type 0} {limit : ℕ} {w : Width} {k v : ElementSpec} {key : List ℕ → ℕ → A → Type 0} {value : List ℕ → ℕ → B → Type 0} {hash : List ℕ → ℕ → ℕ} {factor : ℕ × ℕ}

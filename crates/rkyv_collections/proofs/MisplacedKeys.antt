@@ -24,10 +24,10 @@ use Rattle.rkyv_table.proofs.ParsedTable.{controls_accepted, item_viewable, no_i
 use Rattle.rkyv_table.proofs.Misplaced.{complete, repeated_misplaced}
 use Rattle.rkyv_table.proofs.RawWalks.{walk_count}
 use Rattle.rkyv_table.proofs.Walks.{filter_agree_range, full_walked, walked_full}
-use Rattle.rkyv_collections.specs.Equality.{pair_at}
+use Rattle.rkyv_collections.specs.Map.Equality.{pair_at}
 use Rattle.rkyv_collections.specs.Map.{MapWrittenAt, hash_at}
-use Rattle.rkyv_collections.specs.MapSpec.{map_spec}
-use Rattle.rkyv_collections.specs.Misplaced.{FindsTheOne, RepeatedKeysAreMisplaced, map_misplaced}
+use Rattle.rkyv_collections.specs.Map.MapSpec.{map_spec}
+use Rattle.rkyv_collections.specs.Map.Misplaced.{FindsTheOne, RepeatedKeysAreMisplaced, map_misplaced}
 use Rattle.rkyv_collections.proofs.WrittenPairs.{hash_of_pair, pair_count, pair_represents}
 
 -- the number of repeated items is that of repeated positions

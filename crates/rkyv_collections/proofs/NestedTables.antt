@@ -21,7 +21,7 @@ use Rattle.rkyv_table.specs.Table.Layout.{IsPart, ItemsHold, TableAt, bucket_at,
 use Rattle.rkyv_table.specs.Table.Places.{AllHold}
 use Rattle.rkyv_table.specs.Table.Positions.{IsWalked, item_at, table_controls}
 use Rattle.rkyv_table.proofs.ParsedTable.{part_of}
-use Rattle.rkyv_collections.specs.NestedWrites.{HoldsBefore, StaysAt, WritesParts}
+use Rattle.rkyv_collections.specs.Map.NestedWrites.{HoldsBefore, StaysAt, WritesParts}
 
 -- the bytes before the lower end and those from the upper end on are the same
 module _ (b c : List ℕ) (lo l : ℕ) (o : lo ≤ l) (sealed : Sealed b lo (l - lo) c) where

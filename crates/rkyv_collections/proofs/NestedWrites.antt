@@ -21,12 +21,12 @@ use Rattle.rkyv_table.specs.Lemmas.SameHeader.{item_same}
 use Rattle.rkyv_table.proofs.ParsedTable.{item_viewable}
 use Rattle.rkyv_table.proofs.SameTable.{written_there}
 use Rattle.rkyv_table.proofs.SealedTable.{value_kept}
-use Rattle.rkyv_collections.specs.InPlace.{with_first}
+use Rattle.rkyv_collections.specs.Map.InPlace.{with_first}
 use Rattle.rkyv_collections.specs.Lemmas.MapLaws.{HashLocal}
-use Rattle.rkyv_collections.specs.ListedLookups.{AsksFor}
-use Rattle.rkyv_collections.specs.MapSpec.{IsKeyPosAt, map_spec}
-use Rattle.rkyv_collections.specs.MapFormat.{MapRepresents}
-use Rattle.rkyv_collections.specs.NestedWrites.{HoldsBefore, KeepsOuterMap, StaysAt, WritesParts}
+use Rattle.rkyv_collections.specs.Map.ListedLookups.{AsksFor}
+use Rattle.rkyv_collections.specs.Map.MapSpec.{IsKeyPosAt, map_spec}
+use Rattle.rkyv_collections.specs.Map.MapFormat.{MapRepresents}
+use Rattle.rkyv_collections.specs.Map.NestedWrites.{HoldsBefore, KeepsOuterMap, StaysAt, WritesParts}
 use Rattle.rkyv_table.specs.Table.SealedTable.{WritesValue}
 use Rattle.rkyv_collections.proofs.FirstWrites.{count, each_alike, nth_found, some_place}
 use Rattle.rkyv_collections.proofs.NewValues.{home, new_value_represents, own_place, own_walked, written_again}

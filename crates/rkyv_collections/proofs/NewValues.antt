@@ -17,7 +17,7 @@ use Rattle.rkyv_table.proofs.Lists.{set_each}
 use Rattle.rkyv_table.proofs.WrittenAccepted.{homes_apart}
 use Rattle.rkyv_table.proofs.WrittenTables.{home_count, home_pos, home_walked}
 use Rattle.rkyv_collections.specs.Map.{MapWrittenAt}
-use Rattle.rkyv_collections.specs.MapFormat.{MapRepresents}
+use Rattle.rkyv_collections.specs.Map.MapFormat.{MapRepresents}
 
 -- if all entries have the same positions and their keys the same hashes, a written map is still one
 pub written_again : (w : Width) (s : ElementSpec) (key_hash : List ℕ → ℕ → ℕ) (b c : List ℕ) (p : ℕ) → ((j : ℕ) → item_at w s.size c p j ≡ item_at w s.size b p j)

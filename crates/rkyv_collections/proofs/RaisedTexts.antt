@@ -19,12 +19,12 @@ use Rattle.rkyv_base.specs.Lemmas.Text.{text_local}
 use Rattle.rkyv_base.proofs.SealedText.{raised_holds, raised_reads, raised_sealed}
 use Rattle.rkyv_keys.specs.Lemmas.OfTexts.{IsTextOf}
 use Rattle.rkyv_table.specs.Table.Positions.{home_positions}
-use Rattle.rkyv_collections.specs.InPlace.{with_first}
-use Rattle.rkyv_collections.specs.InPlaceText.{raised_list, text_raised, with_first_raised}
+use Rattle.rkyv_collections.specs.Map.InPlace.{with_first}
+use Rattle.rkyv_collections.specs.Map.InPlaceText.{raised_list, text_raised, with_first_raised}
 use Rattle.rkyv_collections.specs.Lemmas.MapLaws.{HashLocal}
-use Rattle.rkyv_collections.specs.ListedLookups.{AsksFor, IsPairOf, first_pair}
-use Rattle.rkyv_collections.specs.MapSpec.{map_spec}
-use Rattle.rkyv_collections.specs.MapFormat.{MapRepresents}
+use Rattle.rkyv_collections.specs.Map.ListedLookups.{AsksFor, IsPairOf, first_pair}
+use Rattle.rkyv_collections.specs.Map.MapSpec.{map_spec}
+use Rattle.rkyv_collections.specs.Map.MapFormat.{MapRepresents}
 use Rattle.rkyv_collections.proofs.FirstWrites.{first_behind, some_place}
 use Rattle.rkyv_collections.proofs.FoundPairs.{first_listed}
 

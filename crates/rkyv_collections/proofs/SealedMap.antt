@@ -18,11 +18,11 @@ use Rattle.rkyv_base.specs.declared.entry.Entry.{Entry}
 use Rattle.rkyv_collections.specs.Map.{AnswersKeys, AreUnderHashAt, FindsBy, FindsFirstBy}
 use Rattle.rkyv_collections.specs.Map.{FindsFirstKey, FindsFirstKeyAt, FindsKey, FindsKeyAt}
 use Rattle.rkyv_collections.specs.Map.{IsEntryAt, IsEntryIn, IsValueIn, map_bytes, map_pos}
-use Rattle.rkyv_collections.specs.MapAt.{MapAt, TellsKeyAt, map_at}
-use Rattle.rkyv_collections.specs.MapSpec.{IsKeyPosAt, map_spec}
-use Rattle.rkyv_collections.specs.Misplaced.{FindsOneKey, FindsOneKeyAt}
+use Rattle.rkyv_collections.specs.Map.MapAt.{MapAt, TellsKeyAt, map_at}
+use Rattle.rkyv_collections.specs.Map.MapSpec.{IsKeyPosAt, map_spec}
+use Rattle.rkyv_collections.specs.Map.Misplaced.{FindsOneKey, FindsOneKeyAt}
 use Rattle.rkyv_keys.specs.Asked.{Asked}
-use Rattle.rkyv_collections.specs.SealedMap.{AnswersKeysAt, FindsByAt, FindsFirstByAt, IsPairPos, TellsByAt}
+use Rattle.rkyv_collections.specs.Map.SealedMap.{AnswersKeysAt, FindsByAt, FindsFirstByAt, IsPairPos, TellsByAt}
 use Rattle.rkyv_collections.specs.declared.map.ArchivedHashMap.{ArchivedHashMap}
 
 module _ (w : Width) (k v : ElementSpec) (kl : IsElement k) (vl : IsElement v) (b : List ℕ) (p : ℕ) (view : Viewable (map_spec w k v) b p) where

@@ -21,8 +21,8 @@ use Rattle.rkyv_table.specs.declared.table.raw_iter_seal.RawIterSeal.{RawIterSea
 use Rattle.rkyv_table.proofs.ParsedTable.{item_viewable}
 use Rattle.rkyv_table.proofs.SealedItems.{cursor_kept, full_end, full_skipped}
 use Rattle.rkyv_table.proofs.SealedTable.{table_kept}
-use Rattle.rkyv_collections.specs.SealedMap.{IsPairPos}
-use Rattle.rkyv_collections.specs.SealedPairs.{IsPairIter, KeepsPairs, TakesKeyPos, TakesPairAt}
+use Rattle.rkyv_collections.specs.Map.SealedMap.{IsPairPos}
+use Rattle.rkyv_collections.specs.Map.SealedPairs.{IsPairIter, KeepsPairs, TakesKeyPos, TakesPairAt}
 use Rattle.rkyv_table.specs.Table.PairSeals.{LendsPair}
 use Rattle.rkyv_table.proofs.PairSeals.{pair_lent}
 use Rattle.rkyv_collections.proofs.SealedMap.{pair_place}

@@ -18,11 +18,11 @@ use Rattle.rkyv_keys.specs.Equality.{Comparison}
 use Rattle.rkyv_keys.specs.Keys.{FitsItsEqual, IsQuery}
 use Rattle.rkyv_keys.specs.Lemmas.OfEntries.{valid_key}
 use Rattle.rkyv_table.specs.Table.Positions.{home_positions, pos_found}
-use Rattle.rkyv_collections.specs.Equality.{pair_at}
-use Rattle.rkyv_collections.specs.ListedLookups.{IsPairOf, first_pair}
+use Rattle.rkyv_collections.specs.Map.Equality.{pair_at}
+use Rattle.rkyv_collections.specs.Map.ListedLookups.{IsPairOf, first_pair}
 use Rattle.rkyv_collections.specs.Map.{hash_at}
-use Rattle.rkyv_collections.specs.MapSpec.{map_spec}
-use Rattle.rkyv_collections.specs.MapFormat.{MapRepresents, hash_of, map_format}
+use Rattle.rkyv_collections.specs.Map.MapSpec.{map_spec}
+use Rattle.rkyv_collections.specs.Map.MapFormat.{MapRepresents, hash_of, map_format}
 use Rattle.rkyv_collections.specs.Lemmas.MapSound.{listed_map_sound}
 use Rattle.rkyv_table.specs.Table.Listed.{listed}
 use Rattle.rkyv_table.specs.Table.TableFormat.{TableResolver}
@@ -30,9 +30,9 @@ use Rattle.rkyv_base.specs.Pairs.{written_as}
 use Rattle.rkyv_base.specs.Lemmas.Pairs.{written_as-format}
 use Rattle.rkyv_collections.specs.Lemmas.EntriesFound.{decode_entries}
 use Rattle.rkyv_table.specs.Table.ItemValues.{with_units}
-use Rattle.rkyv_collections.specs.StdEquality.{FindsPair}
-use Rattle.rkyv_collections.specs.StdLookups.{FindsAsked, FindsEntries, FindsMembers, IsValueBehind}
-use Rattle.rkyv_collections.specs.StdMap.{of_entries}
+use Rattle.rkyv_collections.specs.StdMaps.StdEquality.{FindsPair}
+use Rattle.rkyv_collections.specs.StdMaps.StdLookups.{FindsAsked, FindsEntries, FindsMembers, IsValueBehind}
+use Rattle.rkyv_collections.specs.StdMaps.StdMap.{of_entries}
 use Rattle.rkyv_collections.proofs.FoundPairs.{first_listed}
 use Rattle.rkyv_collections.proofs.StdReading.{unit_lookup}
 use Rattle.rkyv_collections.proofs.WrittenPairs.{first_accepted, pair_represents}

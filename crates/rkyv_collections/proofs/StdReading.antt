@@ -17,9 +17,9 @@ use Rattle.rkyv_table.specs.Table.Positions.{IsWalked, item_at, item_positions, 
 use Rattle.rkyv_table.specs.Table.PairWalks.{TakesFirst}
 use Rattle.rkyv_table.specs.Table.RawItems.{ItemsLeft}
 use Rattle.rkyv_table.proofs.RawWalks.{walked_all}
-use Rattle.rkyv_collections.specs.MapSpec.{IsKeyPosAt}
+use Rattle.rkyv_collections.specs.Map.MapSpec.{IsKeyPosAt}
 use Rattle.rkyv_table.specs.Table.ItemValues.{with_units}
-use Rattle.rkyv_collections.specs.StdMap.{ArePairsAt}
+use Rattle.rkyv_collections.specs.StdMaps.StdMap.{ArePairsAt}
 
 -- each position of the walk is that of a key of the map
 keys_walked : (w : Width) (k v : ElementSpec) → IsElement k → IsElement v → (b : List ℕ) (p : ℕ) → All (IsKeyPosAt w k v b p) (item_positions w (entry_spec k v).size b p)

@@ -14,7 +14,7 @@ use Rattle.rkyv_table.specs.Table.TableFormat.{TableResolver}
 use Rattle.rkyv_table.specs.Table.Serializing.{WriteItemsFails, WroteItems}
 use Rattle.rkyv_table.specs.Table.Listed.{listed}
 use Rattle.rkyv_table.specs.Table.ItemValues.{lent_keys, with_units}
-use Rattle.rkyv_collections.specs.StdMap.{of_entries}
+use Rattle.rkyv_collections.specs.StdMaps.StdMap.{of_entries}
 use Rattle.rkyv_table.proofs.Listing.{all_came, answers_listed, no_other_came}
 
 -- an iterator over the items of the list, with the length of the list

@@ -26,11 +26,11 @@ use Rattle.rkyv_table.proofs.Misplaced.{found_agree}
 use Rattle.rkyv_table.proofs.SealedTable.{item_stays, lookup_kept, value_kept, written_kept}
 use Rattle.rkyv_table.proofs.Walks.{walked_full}
 use Rattle.rkyv_collections.specs.Map.{MapWrittenAt}
-use Rattle.rkyv_collections.specs.MapSpec.{IsKeyPosAt, map_spec}
-use Rattle.rkyv_collections.specs.MapFormat.{MapRepresents}
+use Rattle.rkyv_collections.specs.Map.MapSpec.{IsKeyPosAt, map_spec}
+use Rattle.rkyv_collections.specs.Map.MapFormat.{MapRepresents}
 use Rattle.rkyv_collections.specs.Lemmas.MapLaws.{HashLocal}
 use Rattle.rkyv_collections.proofs.NewValues.{home, new_value_represents, own_place, own_walked, written_again}
-use Rattle.rkyv_collections.specs.ValueWrites.{KeepsMap, entry_at}
+use Rattle.rkyv_collections.specs.Map.ValueWrites.{KeepsMap, entry_at}
 
 map_of_found : (f g : ℕ → ℕ) → ((i : ℕ) → f i ≡ g i) → (o : Option ℕ) → option_map f o ≡ option_map g o
 map_of_found f g same None = refl

@@ -19,8 +19,8 @@ use Rattle.rkyv_table.specs.Table.Positions.{WrittenAt, home_positions, item_at,
 use Rattle.rkyv_table.specs.Table.WalkLaws.{VisitsHomes}
 use Rattle.rkyv_table.proofs.WalkedHomes.{none_visits, walked_homes}
 use Rattle.rkyv_table.proofs.WrittenTables.{home_count, home_pos}
-use Rattle.rkyv_collections.specs.ListedWalks.{GivesEach, SetWalksGiveListed, WalksGiveListed, WalksVisitPairs, key_positions_at}
-use Rattle.rkyv_collections.specs.MapFormat.{MapRepresents}
+use Rattle.rkyv_collections.specs.Map.ListedWalks.{GivesEach, SetWalksGiveListed, WalksGiveListed, WalksVisitPairs, key_positions_at}
+use Rattle.rkyv_collections.specs.Map.MapFormat.{MapRepresents}
 
 -- ---- distinct numbers, and a list of the same length that has each of them
 

@@ -1,4 +1,22 @@
 -- Hash maps in an archive, and the results of lookups in them.
+pub mod MapSpec
+pub mod Equality
+pub mod Misplaced
+pub mod MapAt
+pub mod Lookups
+pub mod MapFormat
+pub mod HashedPairs
+pub mod Writing
+pub mod SealedMap
+pub mod SealedPairs
+pub mod ValueWrites
+pub mod ListedLookups
+pub mod ListedWalks
+pub mod BothHashers
+pub mod InPlace
+pub mod ListArchives
+pub mod NestedWrites
+pub mod InPlaceText
 use Rattle.rkyv_base.specs.declared.element.HasSpec.{Ghosts as Specs}
 use Rattle.rkyv_base.specs.declared.width.Word.{Ghosts as Words}
 use Rattle.std.specs.Prelude.{◌≡◌, ℕ, ◌+◌, ◌↔◌, List, Bool, true, Option, IsSome, IsTrue, map}
@@ -18,7 +36,7 @@ use Rattle.rkyv_table.specs.Table.Positions.{WrittenAt, home_positions}
 use Rattle.rkyv_table.specs.Table.Positions.{item_positions, pos_found}
 use Rattle.rkyv_collections.specs.declared.map.ArchivedHashMap.{ArchivedHashMap}
 use Rattle.rkyv_collections.specs.declared.map.HashMapOf.{HashMapOf}
-use Rattle.rkyv_collections.specs.MapSpec.{IsKeyPosAt, map_spec}
+use Rattle.rkyv_collections.specs.Map.MapSpec.{IsKeyPosAt, map_spec}
 
 module _ {K V H W : Type 0} {ks : Specs K} {vs : Specs V} {wt : Words W} where
   -- the view of `m` is of a valid map

@@ -1,32 +1,8 @@
 -- Native keys and values: how they are written, what represents them, how they are looked up.
 use Rattle.std.specs.Prelude.{ℕ, Bool, List}
-use Rattle.std.specs.Int.{Width}
 use Rattle.rkyv_scan.specs.Hash.{Hasher, HasherCall, hash_of_calls}
 use Rattle.rkyv_base.specs.Format.{Format}
-use Rattle.rkyv_base.specs.ElementSpec.{IsElement, ElementSpec}
-use Rattle.rkyv_base.specs.Text.{IsArchiveWord}
-
--- the members of a `Width` and its `Word`
-abbrev pub WidthMembers : Type 0
-WidthMembers = record {
-  word : Width;
-  kind : IsArchiveWord word;
-  LIMIT : ℕ;
-  ALIGN : ℕ;
-  MAX_CAPACITY : ℕ;
-  TABLE_SIZE : ℕ;
-  INDEX_SIZE : ℕ;
-  TEXT_SIZE : ℕ;
-  TEXT_LIMIT : ℕ;
-}
-
--- the members of an element, and what its values represent
-abbrev pub ElementMembers : Type 0 → Type 1
-ElementMembers V = record {
-  spec : ElementSpec;
-  laws : IsElement spec;
-  represents : List ℕ → ℕ → V → Type 0;
-}
+use Rattle.rkyv_base.specs.ElementSpec.{ElementSpec}
 
 -- how native keys are written. `spec`: spec of their elements, `format`: their format,
 -- `hash`: hash of a native key
@@ -63,22 +39,6 @@ pair_format key_spec value_spec key value hasher calls = record {
   key = key;
   value = value;
   hash = λ a. hash_of_calls hasher (calls a);
-}
-
--- the native pairs of a map. `key` and `value`: bytes at a position represent a key or a value,
--- `key_hash`: hash of the key at a position
-pub record NativePairs (A B : Type 0) : Type 1 where
-  pub key : List ℕ → ℕ → A → Type 0
-  pub value : List ℕ → ℕ → B → Type 0
-  pub key_hash : List ℕ → ℕ → ℕ
-
--- the native pairs of a map with a hasher, whose keys have the hasher calls `key_calls`
-abbrev pub native_pairs : {State A B : Type 0} → (List ℕ → ℕ → A → Type 0)
-    → (List ℕ → ℕ → B → Type 0) → Hasher State → (List ℕ → ℕ → List HasherCall) → NativePairs A B
-native_pairs key value hasher key_calls = record {
-  key = key;
-  value = value;
-  key_hash = λ b q. hash_of_calls hasher (key_calls b q);
 }
 
 -- the native keys of a map, which are its queries. `represents`: bytes at a position represent a

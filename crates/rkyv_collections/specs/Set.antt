@@ -1,4 +1,5 @@
 -- Hash sets in an archive, and the results of lookups in them, as in the map of the keys.
+pub mod SetFormat
 use Rattle.rkyv_base.specs.declared.element.HasSpec.{Ghosts as Specs}
 use Rattle.rkyv_base.specs.declared.width.Word.{Ghosts as Words}
 use Rattle.std.specs.Prelude.{ℕ, List, Option}
@@ -11,13 +12,13 @@ use Rattle.rkyv_base.specs.declared.view.View.{View}
 use Rattle.rkyv_keys.specs.Asked.{Asked}
 use Rattle.rkyv_keys.specs.Equality.{Comparison}
 use Rattle.rkyv_keys.specs.OfUnits.{unit_same}
-use Rattle.rkyv_collections.specs.Equality.{map_equal}
-use Rattle.rkyv_collections.specs.Lookups.{GetsKey, TellsKey, key_part}
+use Rattle.rkyv_collections.specs.Map.Equality.{map_equal}
+use Rattle.rkyv_collections.specs.Map.Lookups.{GetsKey, TellsKey, key_part}
 use Rattle.rkyv_collections.specs.Map.{IsKeyIn, IsMap, key_positions, map_archive, map_bytes}
 use Rattle.rkyv_collections.specs.Map.{map_len, map_pos}
-use Rattle.rkyv_collections.specs.MapSpec.{map_spec}
+use Rattle.rkyv_collections.specs.Map.MapSpec.{map_spec}
 use Rattle.rkyv_collections.specs.Map.{map_view}
-use Rattle.rkyv_collections.specs.Misplaced.{map_misplaced}
+use Rattle.rkyv_collections.specs.Map.Misplaced.{map_misplaced}
 use Rattle.rkyv_collections.specs.declared.map.HashMapOf.{HashMapOf}
 use Rattle.rkyv_collections.specs.declared.set.ArchivedHashSet.{ArchivedHashSet}
 

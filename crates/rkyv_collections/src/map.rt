@@ -1,31 +1,19 @@
 //! Hash maps.
 //!
-//! - `writing` writes maps from iterators, and `written` has the law of their bytes.
-//! - `iter` has the iterators over a map, and `iter_seal` the cursors that write values.
-//! - `in_place` and `in_place_text` write the value of one key over the bytes of an archive.
-//! - `laws`, `list_archives`, `nested` and `sealed` have laws that a proof cites.
+//! - `write` writes maps from iterators.
+//! - `read` has lookups, iterators and comparisons.
+//! - `in_place` writes values over the bytes of an archive.
+//! - `laws` has laws that a proof cites.
 ghost use Rattle.rkyv_base.specs.Lemmas.ElementSpec.{viewable_prop};
 ghost use Rattle.rkyv_base.specs.View.{IsValidView};
 ghost use Rattle.rkyv_table.specs.Table.Decoded.{IsDecoded};
-ghost use Rattle.rkyv_collections.specs.MapSpec.{map_element, map_spec};
+ghost use Rattle.rkyv_collections.specs.Map.MapSpec.{map_element, map_spec};
 
-mod accessors;
-mod debug;
 mod element;
-mod equality;
-mod hashing;
 pub mod in_place;
-pub mod in_place_text;
-pub mod iter;
-pub mod iter_seal;
 pub mod laws;
-pub mod list_archives;
-mod lookup;
-mod misplaced;
-pub mod nested;
-pub mod sealed;
-pub mod writing;
-pub mod written;
+pub mod read;
+pub mod write;
 
 use rkyv_base::element::HasSpec;
 use rkyv_base::view::View;

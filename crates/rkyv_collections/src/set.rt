@@ -1,14 +1,13 @@
 //! Hash sets.
 //!
-//! A set is the map of its keys to the unit value. `writing` writes sets from iterators,
-//! `written` has the law of their bytes, and `laws` that of a walk.
+//! A set is the map of its keys to the unit value. `write` writes sets from iterators,
+//! and `laws` has laws of their bytes and of a walk.
 
 mod accessors;
 mod debug;
 mod equality;
 pub mod laws;
-pub mod writing;
-pub mod written;
+pub mod write;
 
 use crate::map::ArchivedHashMap;
 use rkyv_base::element::HasSpec;

@@ -2,7 +2,7 @@
 //!
 //! - `hashed` has the wrapper for archiving them.
 //! - `equality` compares them with archived maps and sets.
-//! - `laws` and `round_trip` have the laws of their archives.
+//! - `round_trip` writes, opens and compares them, and `laws` has the laws of their archives.
 
 mod deserialize;
 pub mod equality;

@@ -17,7 +17,7 @@ use Rattle.rkyv_base.specs.TextWriting.{text_format}
 use Rattle.rkyv_base.specs.Writing.{padding, zeros}
 use Rattle.rkyv_base.specs.declared.errors.VerifyError.{VerifyError}
 use Rattle.rkyv_table.specs.Table.Listed.{listed}
-use Rattle.rkyv_collections.specs.MapFormat.{keyed, map_format}
+use Rattle.rkyv_collections.specs.Map.MapFormat.{keyed, map_format}
 use Rattle.rkyv_dict.specs.Archives.{IsArchive, IsMapArchive, IsRefused, MapArchiveFails, hash, header_spec, pair_spec}
 use Rattle.rkyv_dict.specs.Built.{IsArchiveOf, PairsRepresentAt, built_in, pairs_format}
 use Rattle.rkyv_dict.specs.Forms.{Pairs, buckets_of, numbers, texts, word_of}

@@ -20,7 +20,7 @@ use Rattle.rkyv_base.specs.Writing.{Refusal, Step, no_memory, piece, refusal}
 use Rattle.rkyv_base.specs.declared.errors.WriteError.{WriteError}
 use Rattle.rkyv_base.specs.declared.writer.NoMemory.{NoMemory}
 use Rattle.rkyv_table.specs.Table.Listed.{ListRefuses, listed}
-use Rattle.rkyv_collections.specs.MapFormat.{keyed, map_format}
+use Rattle.rkyv_collections.specs.Map.MapFormat.{keyed, map_format}
 use Rattle.rkyv_keys.specs.Calls.{text_calls}
 use Rattle.rkyv_scan.specs.Hash.{HasherCall}
 use Rattle.rkyv_table.proofs.ReadyOneWay.{pairs_one_way, scalars_one_way, texts_one_way}

@@ -19,7 +19,7 @@ use Rattle.rkyv_table.specs.Table.Serializing.{HasCapacity}
 use Rattle.rkyv_table.specs.Table.Positions.{home_positions}
 use Rattle.rkyv_table.specs.Table.TableFormat.{PairsNext, TableParts, TableResolver}
 use Rattle.rkyv_table.specs.Table.Listed.{ListRefuses}
-use Rattle.rkyv_collections.specs.MapFormat.{keyed}
+use Rattle.rkyv_collections.specs.Map.MapFormat.{keyed}
 use Rattle.rkyv_collections.proofs.SeenItems.{seen_pairs, seen_pairs_next, seen_table, was_seen}
 use Rattle.rkyv_dict.specs.Archives.{hash, header_spec, pair_spec, root}
 use Rattle.rkyv_dict.specs.Built.{BuildRefused, IsArchiveOf, IsBuilt, ArchiveFails, PairsRepresentAt, form_of_pairs, pairs_format}

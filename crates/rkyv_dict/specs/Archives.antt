@@ -16,8 +16,8 @@ use Rattle.rkyv_keys.specs.Calls.{text_calls}
 use Rattle.rkyv_keys.specs.OfTexts.{same_bytes}
 use Rattle.rkyv_table.specs.Table.Header.{len_at}
 use Rattle.rkyv_table.specs.Table.Positions.{item_positions, pos_found}
-use Rattle.rkyv_collections.specs.MapSpec.{map_spec}
-use Rattle.rkyv_collections.specs.Misplaced.{map_misplaced}
+use Rattle.rkyv_collections.specs.Map.MapSpec.{map_spec}
+use Rattle.rkyv_collections.specs.Map.Misplaced.{map_misplaced}
 use Rattle.rkyv_dict.specs.declared.form.ArchiveWidth.{ArchiveWidth}
 use Rattle.rkyv_dict.specs.declared.form.Form.{Form}
 use Rattle.rkyv_dict.specs.declared.form.Kind.{Kind}

@@ -47,10 +47,8 @@ fn check_map<P: Printable, W: Width>(bytes: &[u8]) -> Result<usize, VerifyError>
         (λ n. IsMapArchive m bytes.now × (n ≡ pair_count m bytes.now))
         (MapArchiveFails m bytes.now) }
 {
-    match access_in::<W, HashMapOf<P, P, FxHasher64, W>>(bytes) {
-        Ok(root) => Ok(ArchivedHashMap::of(root).len()),
-        Err(e) => Err(e),
-    }
+    let root = access_in::<W, HashMapOf<P, P, FxHasher64, W>>(bytes)?;
+    Ok(ArchivedHashMap::of(root).len())
 }
 
 /// Returns a view of the map in a valid archive.

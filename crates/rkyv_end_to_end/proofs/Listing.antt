@@ -6,6 +6,7 @@ use Rattle.std.specs.Option.{option_map}
 use Rattle.std.proofs.lemmas.Bool.{cases_Bool}
 use Rattle.std.proofs.lemmas.Option.{slice_get-map, slice_get_cases}
 use Rattle.std.proofs.lemmas.List.{get_or-map, length-map, length-replicate, take_all}
+use Rattle.rkyv_base.specs.Members.{ElementMembers, WidthMembers}
 use Rattle.rkyv_base.specs.Bytes.{OccursAt}
 use Rattle.rkyv_base.specs.Lemmas.Bytes.{occurs_back, occurs_front}
 use Rattle.rkyv_base.specs.Checking.{Fails}
@@ -42,23 +43,7 @@ use Rattle.rkyv_table.specs.Table.WrittenTables.{ValidWereWritten}
 use Rattle.rkyv_table.proofs.WalkedHomes.{none_visits}
 use Rattle.rkyv_table.proofs.WrittenTables.{home_count}
 use Rattle.rkyv_table.specs.Table.TableFormat.{TableResolver, TableRepresents, resolved_capacity, table_format}
-use Rattle.rkyv_end_to_end.specs.Listing.{
-  AgreesAt,
-  ElementMembers,
-  Encoding,
-  IsWrittenList,
-  ListBytes,
-  ListInput,
-  ListsAreValid,
-  VisitsItems,
-  WidthMembers,
-  WriteAndFindFails,
-  WriteListFails,
-  ReportsList,
-  WroteList,
-  list_format,
-  table_of,
-}
+use Rattle.rkyv_end_to_end.specs.Listing.{AgreesAt, Encoding, IsWrittenList, ListBytes, ListInput, ListsAreValid, VisitsItems, WriteAndFindFails, WriteListFails, ReportsList, WroteList, list_format, table_of}
 use Rattle.rkyv_end_to_end.specs.Report.{LookOverFails, ReportsTable}
 use Rattle.rkyv_end_to_end.specs.declared.looking.LookError.{LookError}
 use Rattle.rkyv_end_to_end.specs.declared.looking.LookError.TheVariants.{Memory, Verify}

@@ -3,13 +3,13 @@ use Rattle.std.specs.Prelude.{◌≡◌, ℕ, ◌+◌, ◌*◌, ◌%◌, ◌≤�
 use Rattle.std.specs.Prelude.{slice_get, slice_index, MatchResult, Option, Result, Some}
 use Rattle.std.specs.Int.{Width, byte_len}
 use Rattle.std.specs.declared.iter.Iterator.{Ghosts as Iterators}
+use Rattle.rkyv_base.specs.Members.{ElementMembers, WidthMembers}
 use Rattle.rkyv_base.specs.Bytes.{OccursAt}
 use Rattle.rkyv_base.specs.Entry.{round_up}
 use Rattle.rkyv_base.specs.Format.{Format}
 use Rattle.rkyv_base.specs.Pairs.{written_as}
 use Rattle.rkyv_base.specs.Root.{WriteRootFails}
-use Rattle.rkyv_base.specs.ElementSpec.{IsElement, ElementSpec}
-use Rattle.rkyv_base.specs.Text.{IsArchiveWord}
+use Rattle.rkyv_base.specs.ElementSpec.{ElementSpec}
 use Rattle.rkyv_base.specs.View.{IsValidView}
 use Rattle.rkyv_base.specs.Writing.{Appended, Output, end_of, vec_output, padding, zeros}
 use Rattle.rkyv_base.specs.declared.archive.Archive.{Ghosts as Archives}
@@ -33,33 +33,11 @@ use Rattle.rkyv_end_to_end.specs.declared.looking.LookError.TheVariants.{Memory,
 use Rattle.rkyv_end_to_end.specs.declared.looking.TableReport.{TableReport}
 use Rattle.rkyv_end_to_end.specs.declared.whole.ListError.{ListError}
 use Rattle.rkyv_end_to_end.specs.declared.whole.ListError.TheVariants.{Look, Write}
-use Rattle.rkyv_end_to_end.specs.declared.writing.Written.{Written}
+use Rattle.rkyv_end_to_end.specs.declared.writing.WrittenList.{WrittenList}
 
 -- the comparison can be called on each valid item, at any position
 abbrev pub CanCompareAny : {T : Type 0} → (View T → Type 0) → ElementSpec → Type 0
 CanCompareAny {T} pre s = (v : View T) → IsValidView s v → pre v
-
--- the members of a `Width` and its `Word`
-abbrev pub WidthMembers : Type 0
-WidthMembers = record {
-  word : Width;
-  kind : IsArchiveWord word;
-  LIMIT : ℕ;
-  ALIGN : ℕ;
-  MAX_CAPACITY : ℕ;
-  TABLE_SIZE : ℕ;
-  INDEX_SIZE : ℕ;
-  TEXT_SIZE : ℕ;
-  TEXT_LIMIT : ℕ;
-}
-
--- the members of an element, and what its values represent
-abbrev pub ElementMembers : Type 0 → Type 1
-ElementMembers V = record {
-  spec : ElementSpec;
-  laws : IsElement spec;
-  represents : List ℕ → ℕ → V → Type 0;
-}
 
 -- the encoding of an item. `spec`: spec of its element, `represents`: bytes at a position
 -- represent the item, `format`: its format
@@ -144,7 +122,7 @@ module _ {X R : Type 0} (list : ListInput X R) (o o' : Output) where
 
 -- `result`: the positions of the list that was written as a table with its header, or the error
 abbrev pub WritesList : {X R F : Type 0} → ListInput X R → Output → Output
-    → Result Written (WriteError F) → Type 0
+    → Result WrittenList (WriteError F) → Type 0
 WritesList list o o' result = MatchResult result
     (λ at. WroteList list o o' at.end at.pos)
     (WriteListFails list o o')

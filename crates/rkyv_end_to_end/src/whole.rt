@@ -1,9 +1,9 @@
 //! A list from its items to its lookup.
 
-ghost use Rattle.std.specs.Prelude.{ℕ};
-ghost use Rattle.rkyv_end_to_end.specs.Listing.{CanCompareAny, ListsAreValid, WritesAndFinds};
+ghost use Rattle.rkyv_end_to_end.specs.Listing.{CanCompareAny, WritesAndFinds};
 ghost use Rattle.rkyv_end_to_end.specs.Listing.{encoding, list_of, pairs_of};
 
+use crate::laws::written_lists_represent;
 use crate::looking::{LookError, TableReport, look_over};
 use crate::writing::write_list;
 use rkyv_base::archive::{Archive, Serialize};
@@ -13,10 +13,6 @@ use rkyv_base::lend::Lend;
 use rkyv_base::view::View;
 use rkyv_base::width::Width;
 use rkyv_base::writer::{NoMemory, VecWriter, Writer};
-use rkyv_table::table::laws::walk_visits_homes;
-use rkyv_table::table::written::{
-    valid_tables_were_written, written_tables_pass, written_tables_represent,
-};
 use std::alloc::Global;
 use thiserror::Error;
 
@@ -31,20 +27,6 @@ pub enum ListError {
     /// It is never `LookError::Verify`, since the written bytes are valid.
     #[error("{0}")]
     Look(LookError),
-}
-
-/// States that a written table with its header is valid in each archive that has its bytes.
-///
-/// It is valid with each range around the table. Each item is in its home bucket,
-/// and the walk visits these buckets and no others.
-pub fn written_lists_represent<W: Width, U: Archive<W>, X: Lend<U>>()
-    ensures { (load_factor : ℕ × ℕ) →
-        ListsAreValid W.word (encoding U.Archived.Represents U.Archive X.Lend) load_factor }
-{
-    written_tables_represent::<W, U, X>();
-    written_tables_pass::<W, U, X>();
-    valid_tables_were_written::<W, U, X>();
-    walk_visits_homes();
 }
 
 /// Writes a list of `len` items as a table, validates it, walks over it, and looks up `hash`.

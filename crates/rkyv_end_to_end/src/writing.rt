@@ -10,16 +10,24 @@ use rkyv_base::writer::{Writer, align_for_in, append_in};
 use rkyv_table::table::{ArchivedHashTable, TableOf};
 use std::alloc::Global;
 
-/// The positions of a written list: the end of its table, and its header.
+/// The positions of a written list.
 #[derive(Clone, Copy, Debug)]
-pub(crate) struct Written {
-    pub(crate) end: u64,
-    pub(crate) pos: u64,
+pub struct WrittenList {
+    /// The position after the table.
+    pub end: u64,
+    /// The position of the header.
+    pub pos: u64,
 }
 
 /// Writes a list of `len` items as a table, followed by its aligned header.
 ///
-/// Each item has the next of the hashes.
+/// Each item has the next of the hashes. The writer may be of any type. The law
+/// `written_lists_represent` says what is true of any archive that has the written bytes,
+/// so `look_over` finds there what was inserted first.
+///
+/// # Requires
+///
+/// - Both iterators can be advanced.
 ///
 /// # Errors
 ///
@@ -27,7 +35,7 @@ pub(crate) struct Written {
 /// - The error of appending zeros up to the header's alignment.
 /// - `DistanceTooLarge`: the distance to the table doesn't fit in the width.
 /// - The error of appending the header.
-pub(crate) fn write_list<
+pub fn write_list<
     W: Width,
     S: Writer,
     U: Serialize<S, W>,
@@ -41,7 +49,7 @@ pub(crate) fn write_list<
     len: usize,
     load_factor: (usize, usize),
     serializer: &mut S,
-) -> WriteResult<Written, S>
+) -> WriteResult<WrittenList, S>
     requires { I.can_next items × J.can_next hashes }
     ensures { WritesList (list_of W.Width (encoding U.Archived.Represents U.Archive X.Lend)
         (pairs_of I.Iterator J.Iterator items hashes) len load_factor)
@@ -70,5 +78,5 @@ pub(crate) fn write_list<
         Err(_) => return Err(WriteError::DistanceTooLarge),
     }
     append_in::<W, S>(serializer, out)?;
-    Ok(Written { end, pos })
+    Ok(WrittenList { end, pos })
 }

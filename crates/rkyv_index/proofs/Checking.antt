@@ -15,7 +15,7 @@ use Rattle.rkyv_base.specs.View.{IsAt, IsValidView}
 use Rattle.rkyv_base.specs.declared.view.View.{View}
 use Rattle.rkyv_table.specs.Table.Layout.{TableHolds, table_spec}
 use Rattle.rkyv_table.specs.Lemmas.TableLaws.{table_element}
-use Rattle.rkyv_index.specs.IndexLayout.{entry_at, place_spec}
+use Rattle.rkyv_index.specs.Index.IndexLayout.{entry_at, place_spec}
 use Rattle.rkyv_index.specs.Lemmas.IndexLaws.{place_element}
 use Rattle.rkyv_index.specs.Lemmas.PlaceSpecs.{words_hold}
 

@@ -23,11 +23,11 @@ use Rattle.rkyv_table.specs.Table.Positions.{item_at, table_controls}
 use Rattle.rkyv_table.proofs.ParsedTable.{controls_accepted, no_items}
 use Rattle.rkyv_table.proofs.Misplaced.{found_agree, found_walked}
 use Rattle.rkyv_table.proofs.Walks.{walked_full}
-use Rattle.rkyv_index.specs.Complete.{FindsTheOne}
-use Rattle.rkyv_index.specs.Equality.{index_misplaced, own_found}
+use Rattle.rkyv_index.specs.Index.Complete.{FindsTheOne}
+use Rattle.rkyv_index.specs.Index.Equality.{index_misplaced, own_found}
 use Rattle.rkyv_index.specs.Index.{Index, hash_at, index_found}
-use Rattle.rkyv_index.specs.IndexLayout.{pair_pos}
-use Rattle.rkyv_index.specs.IndexLayout.{index_spec, place_spec}
+use Rattle.rkyv_index.specs.Index.IndexLayout.{pair_pos}
+use Rattle.rkyv_index.specs.Index.IndexLayout.{index_spec, place_spec}
 use Rattle.rkyv_index.specs.Lemmas.IndexLaws.{place_element}
 use Rattle.rkyv_index.proofs.Held.{entry_viewable, place_below, table_there}
 

@@ -7,7 +7,7 @@ use Rattle.std.specs.Prelude.{IfSome}
 use Rattle.rkyv_base.specs.declared.view.View.{View}
 use Rattle.rkyv_keys.specs.Asked.{Asked}
 use Rattle.rkyv_index.specs.Index.{IsFoundAt, IsFullKeyIn, IsStored, IsStoredIndex, MatchesAt, full_key_place, result_index}
-use Rattle.rkyv_index.specs.Lookups.{GetsBy, GetsKey, Part, TellsKey, full_key_part, full_part, part_at, place_part}
+use Rattle.rkyv_index.specs.Index.Lookups.{GetsBy, GetsKey, Part, TellsKey, full_key_part, full_part, part_at, place_part}
 use Rattle.rkyv_index.specs.declared.map.ArchivedIndexMap.{ArchivedIndexMap}
 
 -- `answer` is `true` if and only if an index is found

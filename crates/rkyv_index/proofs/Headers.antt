@@ -2,7 +2,7 @@
 use Rattle.std.proofs.Common.{◌≡◌, ℕ, List, subst}
 use Rattle.std.specs.Int.{Width}
 use Rattle.rkyv_table.specs.Controls.Numbers.{capacity}
-use Rattle.rkyv_index.specs.IndexHeader.{IndexOverflows, IndexResolver, IsIndexHeader}
+use Rattle.rkyv_index.specs.Index.IndexHeader.{IndexOverflows, IndexResolver, IsIndexHeader}
 
 module _ (w : Width) (r : IndexResolver) (len : ℕ) (load_factor : ℕ × ℕ) (p : ℕ) (same : (len ≡ r.table.len) × (load_factor ≡ r.table.load_factor)) where
   pub header_of : (out : List ℕ) → IsIndexHeader w len (capacity len load_factor) r p out → IsIndexHeader w r.table.len (capacity r.table.len r.table.load_factor) r p out

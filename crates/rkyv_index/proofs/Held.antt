@@ -18,8 +18,8 @@ use Rattle.rkyv_table.specs.Lemmas.TableLaws.{table_element}
 use Rattle.rkyv_table.proofs.ParsedTable.{item_viewable}
 use Rattle.rkyv_table.proofs.Walks.{full_walked}
 use Rattle.rkyv_index.specs.Index.{pair_positions, row}
-use Rattle.rkyv_index.specs.IndexLayout.{entries_pos, pair_pos}
-use Rattle.rkyv_index.specs.IndexLayout.{IndexHolds, decode_entries, entry_at, index_spec, place_spec}
+use Rattle.rkyv_index.specs.Index.IndexLayout.{entries_pos, pair_pos}
+use Rattle.rkyv_index.specs.Index.IndexLayout.{IndexHolds, decode_entries, entry_at, index_spec, place_spec}
 use Rattle.rkyv_index.specs.Lemmas.IndexLaws.{All-unmap, each_holds, entry_inside, place_element}
 use Rattle.rkyv_index.specs.Lemmas.PlaceSpecs.{places_viewable}
 use Rattle.rkyv_index.proofs.Checking.{entry_aligned}

@@ -12,9 +12,9 @@ use Rattle.rkyv_table.specs.Table.Counting.{YieldsOtherCount}
 use Rattle.rkyv_table.specs.Table.Serializing.{WriteItemsFails, WroteItems}
 use Rattle.rkyv_table.specs.Table.TableFormat.{PairsNext, TableResolver, table_format}
 use Rattle.rkyv_table.proofs.TableSteps.{told_piece, zeros_behind}
-use Rattle.rkyv_index.specs.Writing.{NoOther, OwnOrSerializeFails}
-use Rattle.rkyv_index.specs.IndexFormat.{BeforeRow, BeforeZeros, IndexNext, places_from, row_format}
-use Rattle.rkyv_index.specs.Row.{RowNext, RowParts, RowPartsNext, WroteRow}
+use Rattle.rkyv_index.specs.Index.Writing.{NoOther, OwnOrSerializeFails}
+use Rattle.rkyv_index.specs.Index.IndexFormat.{BeforeRow, BeforeZeros, IndexNext, places_from, row_format}
+use Rattle.rkyv_index.specs.Index.Row.{RowNext, RowParts, RowPartsNext, WroteRow}
 use Rattle.rkyv_table.proofs.Through.{own_counted}
 
 -- an iterator whose state has the list of the items that remain

@@ -12,8 +12,10 @@ pub mod RowSteps
 pub mod IndexSteps
 pub mod SeenRow
 pub mod EntrySteps
-pub mod IsWrapped
+pub mod Counted
+pub mod FirstAccepted
 pub mod ReadPairs
 pub mod ValueWrites
 pub mod SealedIndex
 pub mod Headers
+pub mod Listed

@@ -19,13 +19,13 @@ use Rattle.rkyv_base.specs.View.{IsAt, bytes_of, pos_of_found}
 use Rattle.rkyv_base.specs.declared.view.View.{View}
 use Rattle.rkyv_table.specs.Controls.Laws.{IsUnderHash}
 use Rattle.rkyv_table.specs.Table.Positions.{IsWalked, WrittenAt, home_positions, item_at}
-use Rattle.rkyv_table.specs.Table.Positions.{pos_found}
-use Rattle.rkyv_table.specs.Table.Reading.{Answers, FindsFirst, FindsFound, IsItem}
+use Rattle.rkyv_table.specs.Table.Positions.{lookup_end, pos_found}
+use Rattle.rkyv_table.specs.Table.Reading.{Answers, CountsEnd, FindsFirst, FindsFound, IsItem}
 use Rattle.rkyv_table.specs.Table.Reading.{table_bytes, table_pos}
 use Rattle.rkyv_table.specs.declared.table.ArchivedHashTable.{ArchivedHashTable}
-use Rattle.rkyv_index.specs.Index.{AnswersKeys, AreUnderHash, IsStored, IsKeyOf, IsPlaceOf, IsWritten, index_archive, index_bytes, index_found, index_len, index_of, index_pos, key_pos}
-use Rattle.rkyv_index.specs.IndexFormat.{IndexWrittenAt}
-use Rattle.rkyv_index.specs.IndexLayout.{places_of}
+use Rattle.rkyv_index.specs.Index.{AnswersKeys, AreUnderHash, IsStored, IsKeyOf, IsPlaceOf, IsWritten, index_archive, index_bytes, index_found, index_len, index_of, index_pos, index_strides, key_pos}
+use Rattle.rkyv_index.specs.Index.IndexFormat.{IndexWrittenAt}
+use Rattle.rkyv_index.specs.Index.IndexLayout.{places_of}
 use Rattle.rkyv_index.specs.declared.map.ArchivedIndexMap.{ArchivedIndexMap}
 use Rattle.rkyv_index.proofs.Held.{place_below, place_inside}
 
@@ -66,6 +66,13 @@ module _ {K V H W P N : Type 0} {ks : Specs K} {vs : Specs V} {ts : Specs P} {wt
       ap (λ n. pos_found generic_kind w n (table_bytes t) (table_pos t) hash accept) size_is
       ∙ ap (λ (x : List ℕ). pos_found generic_kind w (byte_len w) x (table_pos t) hash accept) bytes_same
       ∙ ap (λ q. pos_found generic_kind w (byte_len w) (index_bytes m) q hash accept) at.1
+
+  end_is : (hash : ℕ) (accept : ℕ → Bool) → lookup_end generic_kind w ts.spec.size (table_bytes t) (table_pos t) hash accept
+      ≡ lookup_end generic_kind w (byte_len w) (index_bytes m) (index_pos m) hash accept
+  end_is hash accept =
+      ap (λ n. lookup_end generic_kind w n (table_bytes t) (table_pos t) hash accept) size_is
+      ∙ ap (λ (x : List ℕ). lookup_end generic_kind w (byte_len w) x (table_pos t) hash accept) bytes_same
+      ∙ ap (λ q. lookup_end generic_kind w (byte_len w) (index_bytes m) q hash accept) at.1
 
   homes_are : (homes : List ℕ) → home_positions w ts.spec.size (table_bytes t) (table_pos t) homes ≡ home_positions w (byte_len w) (index_bytes m) (index_pos m) homes
   homes_are homes =
@@ -158,6 +165,12 @@ module _ {K V H W P N : Type 0} {ks : Specs K} {vs : Specs V} {ts : Specs P} {wt
     pub finds_place : FindsFound Post generic_kind t hash (pos_of_found result)
         → option_map (number_at w (index_bytes m)) (pos_of_found result) ≡ index_found w (index_bytes m) (index_pos m) hash accept
     finds_place found = place_is result hash accept (found accept_at items_answer)
+
+    -- it reads as many strides
+    pub counts_place : (asked before after : ℕ) → hash ≡ asked → CountsEnd Post generic_kind t hash before after
+        → after ≡ before + index_strides w (index_bytes m) (index_pos m) asked accept
+    counts_place asked before after under counts =
+        counts accept_at items_answer ∙ ap (λ n. before + n) (end_is hash accept_at ∙ ap (λ h. index_strides w (index_bytes m) (index_pos m) h accept) under)
 
     pub finds_first_place : (key_hash : List ℕ → ℕ → ℕ) → AreUnderHash (index_of m) hash key_hash accept → FindsFirst Post t hash (pos_of_found result)
         → (homes : List ℕ) → IsWritten (index_of m) key_hash homes → option_map (number_at w (index_bytes m)) (pos_of_found result) ≡ find accept (places_of (index_len m))

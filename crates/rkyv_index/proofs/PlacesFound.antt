@@ -16,10 +16,10 @@ use Rattle.rkyv_base.specs.declared.view.View.{View}
 use Rattle.rkyv_table.specs.Controls.Finding.{ReadsWithin}
 use Rattle.rkyv_table.specs.Controls.Numbers.{probe_capacity}
 use Rattle.rkyv_table.specs.Table.Header.{cap_at, len_at}
-use Rattle.rkyv_table.specs.Table.Reading.{CountsWithin, FindsItem, IsItem, table_pos}
+use Rattle.rkyv_table.specs.Table.Reading.{CountsStrides, CountsWithin, FindsItem, IsItem, table_pos}
 use Rattle.rkyv_table.specs.declared.table.ArchivedHashTable.{ArchivedHashTable}
 use Rattle.rkyv_index.specs.Index.{IsAccepted, IsStoredIndex, IsKeyOf, ReadsWithinBound, index_archive, index_bytes, index_found, index_pos}
-use Rattle.rkyv_index.specs.Lookups.{GetsBy, place_part}
+use Rattle.rkyv_index.specs.Index.Lookups.{GetsBy, place_part}
 use Rattle.rkyv_index.specs.declared.map.ArchivedIndexMap.{ArchivedIndexMap}
 use Rattle.rkyv_index.proofs.Lookups.{finds_first_place, finds_place, item_held, item_place, read_there}
 
@@ -31,6 +31,14 @@ finds_as A B weaker t hash held got = record {
   accepted = IfSome_then held got.accepted (λ h a. weaker h true a);
   answer = λ accept answers. got.answer accept (λ h r item a. answers h r item (weaker h r a));
   first = λ hashes homes accept written answers under. got.first hashes homes accept written (λ h r item a. answers h r item (weaker h r a)) under;
+}
+
+-- it reads as many strides
+pub counts_as : {P W : Type 0} {ts : Specs P} {wt : Words W} (A B : View P → Bool → Type 0) → ((h : View P) (r : Bool) → A h r → B h r) → (t : ArchivedHashTable P W ts wt) (hash before after : ℕ)
+    → CountsStrides A generic_kind t hash before after → CountsStrides B generic_kind t hash before after
+counts_as A B weaker t hash before after counts = record {
+  bounded = counts.bounded;
+  counted = λ accept answers. counts.counted accept (λ h r item a. answers h r item (weaker h r a));
 }
 
 module _ {K V H W P N : Type 0} {ks : Specs K} {vs : Specs V} {ts : Specs P} {wt : Words W} (m : ArchivedIndexMap K V H W ks vs wt) (e : Encoding N) (pk : IsScalar ts.spec e) (place : IsPlace wt.word e)

@@ -8,10 +8,10 @@ use Rattle.rkyv_base.specs.declared.view.View.{View}
 use Rattle.rkyv_keys.specs.Asked.{asked}
 use Rattle.rkyv_keys.specs.Equality.{Comparison}
 use Rattle.rkyv_keys.specs.Keys.{IsQuery}
-use Rattle.rkyv_index.specs.Complete.{FindsTheOne}
+use Rattle.rkyv_index.specs.Index.Complete.{FindsTheOne}
 use Rattle.rkyv_index.specs.Index.{fits_at, hash_at, index_len, index_of}
-use Rattle.rkyv_index.specs.IndexFormat.{hash_of}
-use Rattle.rkyv_index.specs.Lookups.{GetsBy, GetsKey, place_part}
+use Rattle.rkyv_index.specs.Index.IndexFormat.{hash_of}
+use Rattle.rkyv_index.specs.Index.Lookups.{GetsBy, GetsKey, place_part}
 use Rattle.rkyv_index.specs.declared.map.ArchivedIndexMap.{ArchivedIndexMap}
 use Rattle.rkyv_index.proofs.Completeness.{finds_the_one}
 use Rattle.rkyv_index.proofs.Queries.{answers_fits, query_under_hash}

@@ -9,7 +9,7 @@ use Rattle.rkyv_base.specs.Format.{Format}
 use Rattle.rkyv_base.specs.Writing.{Appends, Only, Output, WriteFails, Within, end_of, piece}
 use Rattle.rkyv_base.proofs.WritingSteps.{appends_after, end-appends, grows, none_appended, told_after}
 use Rattle.rkyv_table.proofs.PartSteps.{part_last, part_longer}
-use Rattle.rkyv_index.specs.Row.{Before, RowImages, RowNext, RowParts, RowPartsNext, WroteRow}
+use Rattle.rkyv_index.specs.Index.Row.{Before, RowImages, RowNext, RowParts, RowPartsNext, WroteRow}
 
 plus_zero : (p : ℕ) → p + 0 ≡ p
 plus_zero p = omega arith

@@ -10,8 +10,8 @@ use Rattle.rkyv_base.specs.declared.view.View.{View}
 use Rattle.rkyv_table.specs.Table.Header.{len_at}
 use Rattle.rkyv_table.proofs.Moved.{moved}
 use Rattle.rkyv_index.specs.Index.{AnswersKeys, AreUnderHash, FindsFirstKey, FindsFirstPlace, FindsKey, FindsPlace, IsKeyOf, index_bytes, index_of, index_pos}
-use Rattle.rkyv_index.specs.SealedIndex.{IsKeyAt, index_at}
-use Rattle.rkyv_index.specs.ValueWrites.{pair_at}
+use Rattle.rkyv_index.specs.Index.SealedIndex.{IsKeyAt, index_at}
+use Rattle.rkyv_index.specs.Index.ValueWrites.{pair_at}
 use Rattle.rkyv_index.specs.declared.map.ArchivedIndexMap.{ArchivedIndexMap}
 
 -- the index map that is read has the bytes `b` and the position `p`

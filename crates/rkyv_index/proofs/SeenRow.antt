@@ -18,12 +18,12 @@ use Rattle.rkyv_base.specs.Writing.{Output, Step, end_of}
 use Rattle.rkyv_base.proofs.WritingSteps.{told_as}
 use Rattle.rkyv_table.specs.Table.Serializing.{HasCapacity, OwnCause}
 use Rattle.rkyv_table.specs.Table.TableFormat.{PairsNext, TableParts, TableResolver}
-use Rattle.rkyv_index.specs.Writing.{NoOther, OwnOrSerializeFails, made_of}
+use Rattle.rkyv_index.specs.Index.Writing.{NoOther, OwnOrSerializeFails, made_of}
 use Rattle.rkyv_table.specs.Table.Serializing.{WriteItemsFails, WroteItems}
 use Rattle.rkyv_table.specs.Table.ItemValues.{lent_pairs}
-use Rattle.rkyv_index.specs.IndexFormat.{BeforeRow, BeforeZeros, IndexNext, IndexParts, index_format, places_from, row_format}
-use Rattle.rkyv_index.specs.IndexHeader.{IndexResolver}
-use Rattle.rkyv_index.specs.Row.{Before, RowImages, RowNext, RowParts, RowPartsNext}
+use Rattle.rkyv_index.specs.Index.IndexFormat.{BeforeRow, BeforeZeros, IndexNext, IndexParts, index_format, places_from, row_format}
+use Rattle.rkyv_index.specs.Index.IndexHeader.{IndexResolver}
+use Rattle.rkyv_index.specs.Index.Row.{Before, RowImages, RowNext, RowParts, RowPartsNext}
 use Rattle.rkyv_table.proofs.Through.{own_counted}
 
 module _ {X Y R : Type 0} (seen : X → Y) (f : Format Y R) where

@@ -36,16 +36,16 @@ use Rattle.rkyv_table.proofs.ParsedTable.{controls_accepted, some_cap}
 use Rattle.rkyv_table.proofs.Misplaced.{found_agree, found_walked}
 use Rattle.rkyv_table.proofs.Walks.{walked_full}
 use Rattle.rkyv_index.specs.Index.{fits_in, hash_at, index_found}
-use Rattle.rkyv_index.specs.IndexFormat.{IndexRepresents, IndexWrittenAt}
-use Rattle.rkyv_index.specs.IndexLayout.{EntriesIn, IndexHolds, entries_pos, decode_entries, entry_at, index_spec, pair_pos, place_spec, places_of}
+use Rattle.rkyv_index.specs.Index.IndexFormat.{IndexRepresents, IndexWrittenAt}
+use Rattle.rkyv_index.specs.Index.IndexLayout.{EntriesIn, IndexHolds, entries_pos, decode_entries, entry_at, index_spec, pair_pos, place_spec, places_of}
 use Rattle.rkyv_index.specs.Lemmas.IndexLaws.{each_holds, entry_inside, head_same, index_again, place_element, place_same_at, places_below, told_same}
 use Rattle.rkyv_table.specs.Lemmas.SameControls.{same_controls}
 use Rattle.rkyv_scan.specs.Hash.{Hasher, HasherCall, hash_of_calls}
 use Rattle.rkyv_keys.specs.Equality.{Comparison}
 use Rattle.rkyv_keys.specs.Keys.{IsKey}
 use Rattle.rkyv_index.specs.Lemmas.IndexLocal.{HashLocal, written_again}
-use Rattle.rkyv_index.specs.SealedIndex.{IsPairPos}
-use Rattle.rkyv_index.specs.ValueWrites.{KeepsEntries, KeepsIndexMap, index_kind, pair_at}
+use Rattle.rkyv_index.specs.Index.SealedIndex.{IsPairPos}
+use Rattle.rkyv_index.specs.Index.ValueWrites.{KeepsEntries, KeepsIndexMap, index_kind, pair_at}
 use Rattle.rkyv_index.proofs.Held.{begin_is, entries_inside, entry_viewable, place_below, table_there}
 
 -- the hash of a valid key depends only on the bytes of the key and its parts

@@ -1,4 +1,17 @@
 -- Index maps in an archive, and lookups in them.
+pub mod IndexLayout
+pub mod IndexHeader
+pub mod Row
+pub mod IndexFormat
+pub mod ValueWrites
+pub mod SealedIndex
+pub mod Walking
+pub mod Equality
+pub mod Complete
+pub mod Lookups
+pub mod ListedLookups
+pub mod Reading
+pub mod Writing
 use Rattle.rkyv_base.specs.declared.element.HasSpec.{Ghosts as Specs}
 use Rattle.rkyv_base.specs.declared.width.Word.{Ghosts as Words}
 use Rattle.std.specs.Prelude.{◌≡◌, ℕ, suc, zero, ◌+◌, ◌/◌, ◌<◌, ◌≤◌, ◌↔◌, List, [], ◌∷◌, Bool, true}
@@ -18,13 +31,13 @@ use Rattle.rkyv_base.specs.declared.view.View.{View}
 use Rattle.rkyv_table.specs.Controls.Finding.{ReadsWithin}
 use Rattle.rkyv_table.specs.Table.Header.{cap_at, len_at}
 use Rattle.rkyv_table.specs.Controls.Numbers.{probe_capacity}
-use Rattle.rkyv_table.specs.Table.Positions.{IsWalked, item_at, pos_found}
+use Rattle.rkyv_table.specs.Table.Positions.{IsWalked, item_at, lookup_end, pos_found}
 use Rattle.rkyv_table.specs.Table.Reading.{FindsItem, IsItem}
 use Rattle.rkyv_table.specs.declared.table.ArchivedHashTable.{ArchivedHashTable}
-use Rattle.rkyv_index.specs.IndexFormat.{IndexWrittenAt}
-use Rattle.rkyv_index.specs.IndexLayout.{entries_pos, pair_pos, places_of}
+use Rattle.rkyv_index.specs.Index.IndexFormat.{IndexWrittenAt}
+use Rattle.rkyv_index.specs.Index.IndexLayout.{entries_pos, pair_pos, places_of}
 use Rattle.rkyv_index.specs.declared.map.ArchivedIndexMap.{ArchivedIndexMap}
-use Rattle.rkyv_index.specs.declared.map.entries.Entries.{Entries}
+use Rattle.rkyv_index.specs.declared.map.read.entries.Entries.{Entries}
 
 -- the hash of the key at `q`
 abbrev pub hash_at : {State : Type 0} → Hasher State
@@ -49,6 +62,12 @@ IsStoredAt w b p i = (bucket : ℕ) × IsWalked w b p bucket
 abbrev pub index_found : Width → List ℕ → ℕ → ℕ → (ℕ → Bool) → Option ℕ
 index_found w b p hash accept = option_map (number_at w b) (pos_found generic_kind w (byte_len w) b
     p hash (λ q. accept (number_at w b q)))
+
+-- the number of strides that a lookup under `hash` reads. `accept i`: the key at index `i`
+-- is accepted
+abbrev pub index_strides : Width → List ℕ → ℕ → ℕ → (ℕ → Bool) → ℕ
+index_strides w b p hash accept = lookup_end generic_kind w (byte_len w) b p hash (λ q.
+    accept (number_at w b q))
 
 module _ {K V H W : Type 0} {ks : Specs K} {vs : Specs V} {wt : Words W} where
   -- the archive of the map
@@ -123,6 +142,12 @@ module _ {K V H W : Type 0} {ks : Specs K} {vs : Specs V} {wt : Words W} where
   ReadsWithinBound m before after = ReadsWithin (index_len m) (probe_capacity (cap_at wt.word
       (index_bytes m)
       (index_pos m)) / 16) before after
+
+  -- at most `limit` strides are read, and those of one more lookup. `before`, `after`: counts
+  -- of strides
+  abbrev pub ReadsUpTo : ArchivedIndexMap K V H W ks vs wt → ℕ → ℕ → ℕ → Type 0
+  ReadsUpTo m limit before after = after ≤ before + limit
+      + probe_capacity (cap_at wt.word (index_bytes m) (index_pos m)) / 16
 
 -- `item`: a position inside its archive, with an index below the length of the map at `m`
 abbrev pub IsPlaceOf : {M P : Type 0} → Width → View M → View P → Type 0
@@ -241,6 +266,17 @@ module _ {K : Type 0} (m : Index K) where
   abbrev pub FindsFirstPlace : (List ℕ → ℕ → ℕ) → (ℕ → Bool) → (Option ℕ → Type 0) → Type 0
   FindsFirstPlace key_hash accept Fact = (homes : List ℕ) → IsWritten key_hash homes
       → Fact (find accept index_places)
+
+  -- a lookup by a comparison reads these strides, under a hash. `before`, `after`: counts
+  -- of strides
+  abbrev pub CountsBy : (View K → Bool → Type 0) → ℕ → ℕ → ℕ → Type 0
+  CountsBy post hash before after = (accept : ℕ → Bool) → AnswersKeys post accept
+      → after ≡ before + index_strides m.word m.bytes m.pos hash accept
+
+  -- a lookup of a query reads these strides, under a hash. `fits`: test of the keys
+  abbrev pub CountsKey : ℕ → (List ℕ → ℕ → Bool) → ℕ → ℕ → Type 0
+  CountsKey hash fits before after =
+      after ≡ before + index_strides m.word m.bytes m.pos hash (fits_at fits)
 
   -- `Fact` is a property of the index that a lookup by a comparison finds, under a hash.
   -- `accept i`: result of the comparison for the key at index `i`

@@ -30,8 +30,8 @@ pub mod set;
 pub mod width;
 
 pub use lists::{OrderedItems, OrderedPairs};
-pub use map::iter::{Iter, Keys, Values};
-pub use map::resolve::IndexMapResolver;
+pub use map::read::iter::{Iter, Keys, Values};
+pub use map::write::resolve::IndexMapResolver;
 pub use map::{ArchivedIndexMap, IndexMapOf};
-pub use set::writing::IndexSetResolver;
+pub use set::write::IndexSetResolver;
 pub use set::{ArchivedIndexSet, IndexSetOf};

@@ -1,9 +1,8 @@
 //! Index maps.
 //!
-//! - `serialize` writes maps from iterators, `resolve` has their resolver, and `written`
-//!   has the law of their bytes.
-//! - `iter` has the iterators over a map, and `deserialize` returns a list of its pairs.
-//! - `in_place` writes the value at an index over the bytes of an archive.
+//! - `write` writes maps from iterators, and their headers.
+//! - `read` has lookups, iterators and comparisons, and returns lists of pairs.
+//! - `in_place` writes values over the bytes of an archive.
 //! - `laws` has laws that a proof cites.
 ghost use Rattle.std.specs.Prelude.{◌≡◌};
 ghost use Rattle.rkyv_base.specs.Entry.{entry_spec};
@@ -11,29 +10,15 @@ ghost use Rattle.rkyv_base.specs.Lemmas.Entry.{entry_element};
 ghost use Rattle.rkyv_base.specs.Lemmas.ElementSpec.{viewable_prop};
 ghost use Rattle.rkyv_base.specs.View.{IsValidView};
 ghost use Rattle.rkyv_table.specs.Table.Decoded.{IsDecoded};
-ghost use Rattle.rkyv_index.specs.IndexLayout.{entries_pos, index_spec};
+ghost use Rattle.rkyv_index.specs.Index.IndexLayout.{entries_pos, index_spec};
 ghost use Rattle.rkyv_index.specs.Lemmas.IndexLaws.{index_element};
 
-mod accessors;
 mod check;
-mod debug;
-pub mod deserialize;
 mod element;
-pub(crate) mod entries;
-mod equality;
 pub mod in_place;
-pub mod iter;
 pub mod laws;
-mod lookup;
-mod misplaced;
-mod places;
-pub mod resolve;
-mod row;
-mod sealed;
-pub mod serialize;
-mod source;
-mod write;
-pub mod written;
+pub mod read;
+pub mod write;
 
 use rkyv_base::element::HasSpec;
 use rkyv_base::view::View;

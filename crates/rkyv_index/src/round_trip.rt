@@ -1,6 +1,8 @@
 //! Round trips: lists that are written as index maps and index sets, opened and deserialized.
 
-ghost use Rattle.std.specs.Prelude.{◌≡◌, IfOk, true};
+ghost use Rattle.std.specs.Prelude.{◌≡◌, IfErr, IfOk, true};
+ghost use Rattle.rkyv_keys.specs.RoundTrips.{RoundTripFails};
+ghost use Rattle.rkyv_index.specs.Index.Reading.{items_trip, pairs_trip};
 
 use crate::lists::{OrderedItems, OrderedPairs};
 use crate::map::laws::pairs_read_back_are_listed;
@@ -9,24 +11,15 @@ use crate::set::laws::items_read_back_are_listed;
 use crate::set::{ArchivedIndexSet, IndexSetOf};
 use crate::width::PlaceWidth;
 use rkyv_base::access::access_in;
-use rkyv_base::archive::Serialize;
-use rkyv_base::errors::{ReadError, WriteError};
+use rkyv_base::archive::{Archive, Serialize};
+pub use rkyv_base::errors::RoundTripError;
 use rkyv_base::root::to_bytes_in;
-use rkyv_base::writer::{NoMemory, VecWriter};
+use rkyv_base::writer::VecWriter;
 use rkyv_keys::deserialize::Deserialize;
 use rkyv_keys::equality::RepresentsUniquely;
 use rkyv_keys::keys::{KeyElement, NativeKey};
 use rkyv_scan::hash::FxHasher64;
 use std::alloc::Global;
-
-/// The error of a round trip.
-#[derive(Debug, Drop)]
-pub enum RoundTripError {
-    /// The list could not be written.
-    Write(WriteError<NoMemory>),
-    /// The list could not be deserialized.
-    Read(ReadError),
-}
 
 /// Writes a list of pairs, opens the archive, deserializes the index map and compares the lists.
 ///
@@ -46,7 +39,9 @@ where
     A::Archived: KeyElement + Deserialize<A> + RepresentsUniquely<A>,
     A: NativeKey<A::Archived>,
     B::Archived: Deserialize<B> + RepresentsUniquely<B>,
-    ensures { IfOk result (λ same. same ≡ true) }
+    ensures same { IfOk result (λ same. same ≡ true) }
+    ensures error { IfErr result (RoundTripFails (pairs_trip W.LIMIT W.word A.Archived.Deserialize
+        B.Archived.Deserialize ⟦<OrderedPairs<A, B> as Archive<W>>⟧.format) pairs.now) }
 {
     pairs_read_back_are_listed::<A, B, A::Archived, B::Archived, FxHasher64, W>();
     let bytes = match to_bytes_in::<W, OrderedPairs<A, B>>(alloc, pairs) {
@@ -81,7 +76,9 @@ pub fn items_come_back<W: PlaceWidth, A: Serialize<VecWriter, W> + Drop>(
 where
     A::Archived: KeyElement + Deserialize<A> + RepresentsUniquely<A>,
     A: NativeKey<A::Archived>,
-    ensures { IfOk result (λ same. same ≡ true) }
+    ensures same { IfOk result (λ same. same ≡ true) }
+    ensures error { IfErr result (RoundTripFails (items_trip W.LIMIT W.word A.Archived.Deserialize
+        ⟦<OrderedItems<A> as Archive<W>>⟧.format) items.now) }
 {
     items_read_back_are_listed::<A, A::Archived, FxHasher64, W>();
     let bytes = match to_bytes_in::<W, OrderedItems<A>>(alloc, items) {

@@ -1,6 +1,6 @@
 //! Index sets.
 //!
-//! A set is the index map of its keys to the unit value. `writing` writes sets from iterators,
+//! A set is the index map of its keys to the unit value. `write` writes sets from iterators,
 //! `deserialize` returns a list of the keys, and `laws` has the law of that list.
 
 mod accessors;
@@ -9,7 +9,7 @@ pub mod deserialize;
 mod element;
 mod equality;
 pub mod laws;
-pub mod writing;
+pub mod write;
 
 use crate::map::ArchivedIndexMap;
 use rkyv_base::element::HasSpec;

@@ -6,7 +6,7 @@
 ghost use Rattle.std.specs.Prelude.{◌≡◌, ◌<◌, ◌^◌};
 ghost use Rattle.std.proofs.Common.{refl};
 ghost use mir.Val.{bits};
-ghost use Rattle.rkyv_index.specs.IndexFormat.{CodesReadBack};
+ghost use Rattle.rkyv_index.specs.Index.IndexFormat.{CodesReadBack};
 
 use rkyv_base::width::{Narrow, Wide, Width};
 

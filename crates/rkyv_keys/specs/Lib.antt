@@ -4,6 +4,7 @@ pub mod Calls
 pub mod Equality
 pub mod Fixed
 pub mod Keys
+pub mod Natives
 pub mod OfEntries
 pub mod OfScalars
 pub mod OfTexts
@@ -12,5 +13,6 @@ pub mod OfValues
 pub mod OfViews
 pub mod Places
 pub mod Reading
+pub mod RoundTrips
 pub mod Ready
 pub mod Lemmas

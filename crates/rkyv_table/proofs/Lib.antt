@@ -47,3 +47,4 @@ pub mod FoundItems
 pub mod Listing
 pub mod Through
 pub mod UnitItems
+pub mod NewItems

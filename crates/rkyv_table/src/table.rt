@@ -5,7 +5,7 @@
 //! - `lookup` finds an item, `raw_iter` walks over all items, and `misplaced` counts those that
 //!   a lookup of their own doesn't find.
 //! - `sealed` and `raw_iter_seal` write items in place.
-//! - `laws`, `written` and `sealed` have laws that a proof cites.
+//! - `laws` has laws that a proof cites.
 //!
 //! `docs/FORMAT.md` has the layout of a table.
 ghost use Rattle.rkyv_base.specs.Lemmas.ElementSpec.{viewable_prop};
@@ -35,7 +35,6 @@ mod source;
 pub mod take;
 mod take_two;
 mod verify;
-pub mod written;
 
 use crate::table::decoded::Decoded;
 use rkyv_base::element::HasSpec;

@@ -3,10 +3,11 @@
 use rkyv_base::element::PartRange;
 use rkyv_base::entry::Entry;
 use rkyv_base::errors::VerifyError;
+use rkyv_base::limit::LimitWriter;
 use rkyv_base::width::{Narrow, Wide, Width};
 use rkyv_base::writer::{VecWriter, Writer};
 use rkyv_end_to_end::{
-    LookError, TableReport, look_over, write_and_look_over, written_lists_represent,
+    LookError, TableReport, look_over, write_and_look_over, write_list, written_lists_represent,
 };
 use std::alloc::Global;
 
@@ -49,6 +50,52 @@ fn a_list_is_found_as_it_was_written(rt: HostRuntime) {
         is_looked_over::<Wide>(alloc, 64),
     ];
     assert_eq!(rt; seen, [true; 2]);
+}
+
+// Does the same with a writer of at most `limit` bytes, and looks over its bytes afterwards.
+fn is_limited<W: Width>(alloc: Global, limit: u64) -> bool {
+    let mut writer = LimitWriter::new(VecWriter::new(alloc), limit);
+    if writer.write(&[0]).is_err() {
+        return false;
+    }
+    let items = [10u8, 20, 30];
+    let hashes = [2u64, 2, 5];
+    let wrote = write_list::<W, _, u8, &u8, _, _>(
+        alloc,
+        items.iter(),
+        hashes.iter().copied(),
+        3,
+        (1, 1),
+        &mut writer,
+    );
+    let at = match wrote {
+        Ok(at) => at,
+        Err(_) => return false,
+    };
+    let range = PartRange { lo: 1, hi: at.end };
+    let inner = writer.into_inner();
+    match look_over::<W, u8, _>(
+        alloc,
+        inner.bytes(),
+        at.pos,
+        range,
+        2,
+        |item| item.to_native() > 10,
+    ) {
+        Ok(report) => is_report(&report, &[3, 2, 1], Some(1), 1),
+        Err(_) => false,
+    }
+}
+
+#[test]
+fn a_list_is_written_by_any_writer(rt: HostRuntime) {
+    let alloc = rt.alloc();
+    let seen = [
+        is_limited::<Narrow>(alloc, 48),
+        is_limited::<Narrow>(alloc, 47),
+        is_limited::<Wide>(alloc, 64),
+    ];
+    assert_eq!(rt; seen, [true, false, true]);
 }
 
 // The archive of a table of one pair of numbers, in the second of two buckets.

@@ -11,9 +11,9 @@ use Rattle.rkyv_base.specs.ElementSpec.{IsElement, ElementSpec, Viewable}
 use Rattle.rkyv_base.specs.Lemmas.ElementSpec.{valid_at}
 use Rattle.rkyv_base.specs.Text.{IsArchiveWord}
 use Rattle.rkyv_table.specs.Lemmas.TableLaws.{table_element}
-use Rattle.rkyv_collections.specs.MapSpec.{map_spec}
-use Rattle.rkyv_collections.specs.MapFormat.{MapRepresents}
-use Rattle.rkyv_collections.specs.StdMap.{of_entries}
+use Rattle.rkyv_collections.specs.Map.MapSpec.{map_spec}
+use Rattle.rkyv_collections.specs.Map.MapFormat.{MapRepresents}
+use Rattle.rkyv_collections.specs.StdMaps.StdMap.{of_entries}
 
 pub decode_entries : (w : Width) → IsArchiveWord w → {k v : ElementSpec} → IsElement k → IsElement v
     → {A B R : Type 0} {key : List ℕ → ℕ → A → Type 0} {value : List ℕ → ℕ → B → Type 0}

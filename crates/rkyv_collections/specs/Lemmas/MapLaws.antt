@@ -27,8 +27,8 @@ use Rattle.rkyv_table.specs.Lemmas.ItemPositions.{HeldPart, HoldsWithin, holds_a
 use Rattle.rkyv_table.specs.Lemmas.SameHeader.{cap_same, len_same, pos_same}
 use Rattle.rkyv_table.specs.Table.WrittenTables.{IsWrittenOf}
 use Rattle.rkyv_table.proofs.WrittenTables.{home_count, home_pos, home_walked, table_written}
-use Rattle.rkyv_collections.specs.MapSpec.{map_spec}
-use Rattle.rkyv_collections.specs.MapFormat.{MapRepresents, keyed, map_format}
+use Rattle.rkyv_collections.specs.Map.MapSpec.{map_spec}
+use Rattle.rkyv_collections.specs.Map.MapFormat.{MapRepresents, keyed, map_format}
 use Rattle.rkyv_table.specs.Lemmas.SameControls.{same_controls}
 
 -- the hash of a key depends only on the bytes on which the validity of the key depends

@@ -12,11 +12,11 @@ use Rattle.rkyv_scan.specs.Hash.{Hasher, HasherCall}
 use Rattle.rkyv_keys.specs.Equality.{Comparison}
 use Rattle.rkyv_keys.specs.Keys.{FitsItsEqual, IsKey, IsQuery}
 use Rattle.rkyv_collections.specs.Map.{hash_at}
-use Rattle.rkyv_collections.specs.MapFormat.{MapRepresents, hash_of, map_format}
+use Rattle.rkyv_collections.specs.Map.MapFormat.{MapRepresents, hash_of, map_format}
 use Rattle.rkyv_collections.specs.Lemmas.MapSound.{map_local, map_sound}
 use Rattle.rkyv_table.specs.Table.Listed.{listed, listed_format}
 use Rattle.rkyv_collections.specs.Set.{set_spec}
-use Rattle.rkyv_collections.specs.SetFormat.{SetRepresents, set_format}
+use Rattle.rkyv_collections.specs.Set.SetFormat.{SetRepresents, set_format}
 use Rattle.rkyv_table.specs.Table.ItemValues.{with_units}
 
 module _ {State : Type 0} (hasher : Hasher State) (w : Width) {k : ElementSpec} (kl : IsElement k)

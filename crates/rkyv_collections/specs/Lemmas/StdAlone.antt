@@ -25,11 +25,11 @@ use Rattle.rkyv_table.specs.Lemmas.ItemPositions.{holds_at, item_holds}
 use Rattle.rkyv_table.specs.Controls.Placing.{walk}
 use Rattle.rkyv_table.specs.Table.Positions.{IsWalked, item_at, item_positions, table_controls}
 use Rattle.rkyv_table.proofs.RawWalks.{walked_all}
-use Rattle.rkyv_collections.specs.MapSpec.{map_spec}
+use Rattle.rkyv_collections.specs.Map.MapSpec.{map_spec}
 use Rattle.rkyv_collections.specs.Set.{set_spec}
 use Rattle.rkyv_table.specs.Table.ItemValues.{with_units}
-use Rattle.rkyv_collections.specs.StdMap.{ArePairsAt, EntriesRepresent, StdMapRepresents}
-use Rattle.rkyv_collections.specs.StdSet.{StdSetRepresents}
+use Rattle.rkyv_collections.specs.StdMaps.StdMap.{ArePairsAt, EntriesRepresent, StdMapRepresents}
+use Rattle.rkyv_collections.specs.StdMaps.StdSet.{StdSetRepresents}
 
 module _ {A B : Type 0} (equal : A → A → Bool) (laws : IsEquivalence equal) (same : B → B → Bool)
   where

@@ -27,11 +27,11 @@ use Rattle.rkyv_table.proofs.FirstFound.{first_found}
 use Rattle.rkyv_table.proofs.ParsedTable.{item_viewable}
 use Rattle.rkyv_table.proofs.WrittenTables.{home_count, home_pos, home_walked}
 use Rattle.rkyv_collections.specs.Map.{hash_at}
-use Rattle.rkyv_collections.specs.MapSpec.{map_spec}
-use Rattle.rkyv_collections.specs.MapFormat.{MapRepresents, hash_of}
+use Rattle.rkyv_collections.specs.Map.MapSpec.{map_spec}
+use Rattle.rkyv_collections.specs.Map.MapFormat.{MapRepresents, hash_of}
 use Rattle.rkyv_collections.specs.Lemmas.EntriesFound.{decode_entries}
-use Rattle.rkyv_collections.specs.StdEquality.{EntriesEqual, FindsPair}
-use Rattle.rkyv_collections.specs.StdMap.{of_entries}
+use Rattle.rkyv_collections.specs.StdMaps.StdEquality.{EntriesEqual, FindsPair}
+use Rattle.rkyv_collections.specs.StdMaps.StdMap.{of_entries}
 
 -- the first number of a list that passes the test
 find_only : (test : ℕ → Bool) (xs : List ℕ) (n : ℕ) → n < length xs → test (get_or xs n 0) ≡ true

@@ -11,7 +11,7 @@ use Rattle.rkyv_base.specs.Format.{Format, IsFormat}
 use Rattle.rkyv_base.specs.ElementSpec.{ElementSpec}
 use Rattle.rkyv_table.specs.Table.Header.{len_at}
 use Rattle.rkyv_table.specs.Table.ItemValues.{with_units}
-use Rattle.rkyv_collections.specs.StdEquality.{EntriesEqual, FindsPair}
+use Rattle.rkyv_collections.specs.StdMaps.StdEquality.{EntriesEqual, FindsPair}
 
 pub keys_with_units : {A : Type 0} (keys : List A) → keys_of (with_units keys) ≡ keys
 keys_with_units [] = refl

@@ -3,12 +3,12 @@
 ghost use Rattle.std.specs.Prelude.{◌≡◌};
 ghost use Rattle.rkyv_table.specs.Table.Listed.{listed, written_under, written_under-format};
 ghost use Rattle.rkyv_collections.specs.Map.{hash_at};
-ghost use Rattle.rkyv_collections.specs.MapFormat.{hash_of};
+ghost use Rattle.rkyv_collections.specs.Map.MapFormat.{hash_of};
 ghost use Rattle.rkyv_collections.specs.Set.{set_spec};
-ghost use Rattle.rkyv_collections.specs.SetFormat.{SetRepresents, set_format};
+ghost use Rattle.rkyv_collections.specs.Set.SetFormat.{SetRepresents, set_format};
 ghost use Rattle.rkyv_collections.specs.Lemmas.SetSound.{listed_set_sound, set_local};
 
-use crate::set::writing::HashSetResolver;
+use crate::set::write::HashSetResolver;
 use crate::set::{ArchivedHashSet, HashSetOf};
 use rkyv_base::archive::{Archive, ResolveResult, Serialize, WriteResult};
 use rkyv_base::element::Represents;

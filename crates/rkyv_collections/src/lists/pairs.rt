@@ -3,11 +3,11 @@
 ghost use Rattle.std.specs.Prelude.{◌≡◌};
 ghost use Rattle.rkyv_table.specs.Table.Listed.{listed, written_under, written_under-format};
 ghost use Rattle.rkyv_collections.specs.Map.{hash_at};
-ghost use Rattle.rkyv_collections.specs.MapSpec.{map_spec};
-ghost use Rattle.rkyv_collections.specs.MapFormat.{MapRepresents, hash_of, map_format};
+ghost use Rattle.rkyv_collections.specs.Map.MapSpec.{map_spec};
+ghost use Rattle.rkyv_collections.specs.Map.MapFormat.{MapRepresents, hash_of, map_format};
 ghost use Rattle.rkyv_collections.specs.Lemmas.MapSound.{listed_map_sound, map_local};
 
-use crate::map::writing::HashMapResolver;
+use crate::map::write::HashMapResolver;
 use crate::map::{ArchivedHashMap, HashMapOf};
 use rkyv_base::archive::{Archive, ResolveResult, Serialize, WriteResult};
 use rkyv_base::element::Represents;

@@ -15,18 +15,23 @@
 //! Take the first call that fits. The contract of `set_value_of` also has the list that the map
 //! represents afterwards. The contract of `found_with` covers all bytes of the archive afterwards.
 //!
-//! `make_ascii_uppercase_of` is in `map::in_place_text`.
+//! `make_ascii_uppercase_of` is in `map::in_place::text`.
 //! `get_seal_with` and `get_key_value_seal_with` look up by a comparison.
-//! If the map is a value of another map, `map::nested` has the laws of the outer map.
+//! If the map is a value of another map, `map::laws::nested` has the laws of the outer map.
 ghost use Rattle.std.specs.Prelude.{IfSome, length, ℕ, ◌+◌, ◌≡◌, ◌≤◌};
 ghost use Rattle.rkyv_base.specs.Sealing.{value_pos};
 ghost use Rattle.rkyv_base.specs.ElementSpec.{Viewable};
-ghost use Rattle.rkyv_collections.specs.InPlace.{MayWriteFound, SetsFirst, SetsValue, WritesFound};
+ghost use Rattle.rkyv_collections.specs.Map.InPlace.{MayWriteFound, SetsFirst, SetsValue};
+ghost use Rattle.rkyv_collections.specs.Map.InPlace.{WritesFound};
 ghost use Rattle.rkyv_collections.specs.Map.{map_bytes, map_pos};
-ghost use Rattle.rkyv_collections.specs.MapAt.{TellsValueAt, asked_value, map_at};
-ghost use Rattle.rkyv_collections.specs.MapSpec.{IsKeyPosAt, map_spec};
+ghost use Rattle.rkyv_collections.specs.Map.MapAt.{TellsValueAt, asked_value, map_at};
+ghost use Rattle.rkyv_collections.specs.Map.MapSpec.{IsKeyPosAt, map_spec};
 ghost use Rattle.rkyv_keys.specs.Asked.{asked};
-ghost use Rattle.rkyv_collections.specs.NestedWrites.{WritesParts};
+ghost use Rattle.rkyv_collections.specs.Map.NestedWrites.{WritesParts};
+
+pub mod iter_seal;
+pub mod sealed;
+pub mod text;
 
 use crate::map::ArchivedHashMap;
 use rkyv_base::element::{Element, Represents};

@@ -1,13 +1,27 @@
-//! Laws of equality, lookups and walks of maps, over their definitions alone.
-ghost use Rattle.rkyv_collections.specs.BothHashers.{ComparedAlike, QueriedAlike, WrittenAlike};
-ghost use Rattle.rkyv_collections.specs.Equality.{EqualHaveSamePairs};
-ghost use Rattle.rkyv_collections.specs.ListedLookups.{LookupsFindListed};
-ghost use Rattle.rkyv_collections.specs.ListedWalks.{WalksGiveListed, WalksVisitPairs};
+//! Laws of maps, over their definitions alone.
+//!
+//! - This module has laws of equality, lookups and walks.
+//! - `written` is about the bytes of written maps, and `list_archives` about root maps.
+//! - `in_place` is about writes of one value, and `nested` about maps that are values of maps.
+ghost use Rattle.rkyv_collections.specs.Map.BothHashers.{ComparedAlike, QueriedAlike, WrittenAlike};
+ghost use Rattle.rkyv_collections.specs.Map.Equality.{EqualHaveSamePairs};
+ghost use Rattle.rkyv_collections.specs.Map.ListedLookups.{LookupsFindListed};
+ghost use Rattle.rkyv_collections.specs.Map.ListedWalks.{WalksGiveListed, WalksVisitPairs};
 ghost use Rattle.rkyv_collections.specs.Map.{hash_at};
-ghost use Rattle.rkyv_collections.specs.Misplaced.{RepeatedKeysAreMisplaced};
-ghost use Rattle.rkyv_collections.specs.Natives.{native_pairs};
+ghost use Rattle.rkyv_collections.specs.Map.Misplaced.{RepeatedKeysAreMisplaced};
+ghost use Rattle.rkyv_keys.specs.Natives.{native_pairs};
+ghost use Rattle.rkyv_base.specs.Same.{SameSpec, SameValues};
+ghost use Rattle.rkyv_collections.specs.Map.MapSpec.{map_spec};
+ghost use Rattle.rkyv_collections.specs.Listed.{map_list};
 
-use rkyv_base::element::{Element, Represents};
+pub mod in_place;
+pub mod list_archives;
+pub mod nested;
+pub mod written;
+
+use crate::lists::MapPairs;
+use crate::map::HashMapOf;
+use rkyv_base::element::{Element, HasSpec, Represents};
 use rkyv_base::width::Width;
 use rkyv_keys::equality::ElementEquiv;
 use rkyv_keys::keys::{FixedKey, KeyElement, Query};
@@ -79,4 +93,21 @@ pub fn both_hashers_look_up_alike<Q: Query<K>, K: FixedKey, V: Element, W: Width
     ensures written { WrittenAlike W.word K.spec V.spec K.key_calls }
     ensures compared { ComparedAlike W.word K.spec V.spec }
     ensures queried { QueriedAlike W.word K.spec V.spec K.key_calls Q.KeyHash Q.fits }
+{}
+
+/// States the layout of a map, and that it represents the pairs of a list in insertion order.
+pub fn maps_are_laid_out<'a, W, H, A, B, K, V>()
+where
+    A: 'a,
+    B: 'a,
+    W: Width,
+    H: KeyHasher,
+    K: KeyElement + Represents<A>,
+    V: Represents<B>,
+    ensures spec { SameSpec ⟦<HashMapOf<K, V, H, W> as HasSpec>⟧.spec
+        (map_spec W.word K.spec V.spec) }
+    ensures list { SameValues
+        ⟦<HashMapOf<K, V, H, W> as Represents<MapPairs<'a, A, B, H>>>⟧.represents
+        (map_list W.word K.Represents V.Represents (hash_at H.hasher K.key_calls)
+        (λ x. x.load_factor) (λ x. x.pairs.now)) }
 {}

@@ -10,13 +10,13 @@ ghost use Rattle.std.specs.Prelude.{IsTrue, length, ◌↔◌, ◌≡◌};
 ghost use Rattle.rkyv_base.specs.Empty.{unit_spec};
 ghost use Rattle.rkyv_base.specs.Lemmas.Empty.{unit_element};
 ghost use Rattle.rkyv_base.specs.View.{IsValidView, archive_of, pos_of};
-ghost use Rattle.rkyv_collections.specs.MapSpec.{map_element};
+ghost use Rattle.rkyv_collections.specs.Map.MapSpec.{map_element};
 ghost use Rattle.rkyv_keys.specs.Asked.{asked};
 ghost use Rattle.rkyv_collections.specs.Map.{IsFoundAt};
 ghost use Rattle.rkyv_collections.specs.Set.{GetsMember, IsSetAt, TellsMember};
 ghost use Rattle.rkyv_collections.specs.Set.{member_positions, set_archive, set_len, set_spec};
 
-use crate::map::iter::Keys;
+use crate::map::read::iter::Keys;
 use crate::map::{ArchivedHashMap, HashMapOf};
 use crate::set::{ArchivedHashSet, HashSetOf};
 use rkyv_base::element::{Element, HasSpec, PartRange};

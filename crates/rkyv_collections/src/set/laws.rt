@@ -1,9 +1,16 @@
-//! A law of walks over sets, over their definitions alone.
+//! Laws of sets, over their definitions alone: of walks, and in `written` of their bytes.
 
-ghost use Rattle.rkyv_collections.specs.ListedWalks.{SetWalksGiveListed};
+ghost use Rattle.rkyv_collections.specs.Map.ListedWalks.{SetWalksGiveListed};
 ghost use Rattle.rkyv_collections.specs.Map.{hash_at};
+ghost use Rattle.rkyv_base.specs.Same.{SameSpec, SameValues};
+ghost use Rattle.rkyv_collections.specs.Set.{set_spec};
+ghost use Rattle.rkyv_collections.specs.Listed.{set_list};
 
-use rkyv_base::element::Represents;
+pub mod written;
+
+use crate::lists::SetItems;
+use crate::set::HashSetOf;
+use rkyv_base::element::{HasSpec, Represents};
 use rkyv_base::width::Width;
 use rkyv_keys::keys::KeyElement;
 use rkyv_scan::hash::KeyHasher;
@@ -13,4 +20,17 @@ use rkyv_scan::hash::KeyHasher;
 /// The positions of a walk have the keys of the list, each once, in some order.
 pub fn walks_give_listed<A, K: KeyElement + Represents<A>, H: KeyHasher, W: Width>()
     ensures { SetWalksGiveListed W.word K.spec K.represents (hash_at H.hasher K.key_calls) }
+{}
+
+/// States the layout of a set, and that it represents the keys of a list in insertion order.
+pub fn sets_are_laid_out<'a, W, H, A, K>()
+where
+    A: 'a,
+    W: Width,
+    H: KeyHasher,
+    K: KeyElement + Represents<A>,
+    ensures spec { SameSpec ⟦<HashSetOf<K, H, W> as HasSpec>⟧.spec (set_spec W.word K.spec) }
+    ensures list { SameValues ⟦<HashSetOf<K, H, W> as Represents<SetItems<'a, A, H>>>⟧.represents
+        (set_list W.word K.Represents (hash_at H.hasher K.key_calls) (λ x. x.load_factor)
+        (λ x. x.items.now)) }
 {}

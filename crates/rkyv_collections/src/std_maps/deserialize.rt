@@ -7,9 +7,9 @@ ghost use Rattle.rkyv_base.specs.Entry.{value_offset};
 ghost use Rattle.rkyv_base.specs.Pairs.{PairRepresents};
 ghost use Rattle.rkyv_base.specs.View.{IsAt, IsValidView, AtView, archive_of, pos_of};
 ghost use Rattle.rkyv_collections.specs.Map.{map_view};
-ghost use Rattle.rkyv_collections.specs.MapSpec.{map_spec};
-ghost use Rattle.rkyv_collections.specs.StdMap.{Inserts, ReadsStdMap, StdMapRepresents};
-ghost use Rattle.rkyv_collections.specs.StdMap.{insert_refuses, std_map_refuses};
+ghost use Rattle.rkyv_collections.specs.Map.MapSpec.{map_spec};
+ghost use Rattle.rkyv_collections.specs.StdMaps.StdMap.{Inserts, ReadsStdMap, StdMapRepresents};
+ghost use Rattle.rkyv_collections.specs.StdMaps.StdMap.{insert_refuses, std_map_refuses};
 
 use crate::map::{ArchivedHashMap, HashMapOf};
 use crate::std_maps::hashed::Hashed;

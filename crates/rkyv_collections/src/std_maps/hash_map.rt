@@ -4,13 +4,14 @@ ghost use Rattle.rkyv_base.specs.Pairs.{written_as};
 ghost use Rattle.rkyv_base.specs.Lemmas.Pairs.{written_as-format};
 ghost use Rattle.rkyv_table.specs.Table.Listed.{listed};
 ghost use Rattle.rkyv_collections.specs.Map.{hash_at};
-ghost use Rattle.rkyv_collections.specs.MapSpec.{map_spec};
-ghost use Rattle.rkyv_collections.specs.MapFormat.{hash_of, map_format};
+ghost use Rattle.rkyv_collections.specs.Map.MapSpec.{map_spec};
+ghost use Rattle.rkyv_collections.specs.Map.MapFormat.{hash_of, map_format};
 ghost use Rattle.rkyv_collections.specs.Lemmas.MapSound.{listed_map_sound};
-ghost use Rattle.rkyv_collections.specs.StdMap.{EntriesRepresent, StdMapRepresents, of_entries};
+ghost use Rattle.rkyv_collections.specs.StdMaps.StdMap.{EntriesRepresent, StdMapRepresents};
+ghost use Rattle.rkyv_collections.specs.StdMaps.StdMap.{of_entries};
 ghost use Rattle.rkyv_collections.specs.Lemmas.StdMapLaws.{entries_local, entries_sound};
 
-use crate::map::writing::HashMapResolver;
+use crate::map::write::HashMapResolver;
 use crate::map::{ArchivedHashMap, HashMapOf};
 use crate::std_maps::hashed::Hashed;
 use rkyv_base::archive::{Archive, ResolveResult, Serialize, WriteResult};

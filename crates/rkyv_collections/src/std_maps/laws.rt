@@ -1,11 +1,15 @@
-//! Laws of lookups in archives of maps and sets of std, over their definitions alone.
+//! Laws of archives of maps and sets of std, over their definitions alone.
+//!
+//! They are about lookups in these archives, and about values that are read back.
 
 ghost use Rattle.rkyv_collections.specs.Natives.{queried};
-ghost use Rattle.rkyv_collections.specs.StdLookups.{FindsInWrittenMap, FindsInWrittenSet};
+ghost use Rattle.rkyv_collections.specs.StdMaps.RoundTrips.{ArchivesComeBack};
+ghost use Rattle.rkyv_collections.specs.StdMaps.StdLookups.{FindsInWrittenMap, FindsInWrittenSet};
 
 use crate::std_maps::hashed::Hashed;
 use rkyv_base::archive::Archive;
 use rkyv_base::width::Width;
+use rkyv_keys::equality::{EqualsWritten, MatchesNative, RepresentsUniquely};
 use rkyv_keys::keys::{KeyElement, NativeKey, Query};
 use rkyv_scan::hash::KeyHasher;
 use std::collections::{HashMap, HashSet};
@@ -54,4 +58,17 @@ where
     ensures { let format = ⟦<Hashed<HashSet<A, T>, H> as Archive<W>>⟧.format in
         FindsInWrittenSet W.word A.Archived.Represents (queried H.hasher Q.calls Q.fits) Q.can_read
         format }
+{}
+
+/// States that the root of an archive of a value equals the value.
+///
+/// Each value that the root represents equals it too.
+///
+/// The archive is one that `to_bytes` makes. The root equals the value in place.
+/// A deserialized value is represented by the root, and so it is `==` to the value.
+pub fn archives_come_back<W: Width, M: EqualsWritten<W> + PartialEq>()
+where
+    M::Archived: MatchesNative<M> + RepresentsUniquely<M>,
+    ensures { ArchivesComeBack W.LIMIT M.Archived.spec M.Archived.represents M.Archived.equals
+        M.format M.eq }
 {}

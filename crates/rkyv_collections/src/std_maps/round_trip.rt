@@ -2,19 +2,21 @@
 //!
 //! - `comes_back` writes a value, opens and deserializes it, and compares both.
 //! - `lookups_agree` compares a lookup in the archive with one in the map of std.
-//! - `archives_come_back` is the law behind `comes_back`.
+//! - `laws::archives_come_back` is the law behind `comes_back`.
 
-ghost use Rattle.std.specs.Prelude.{◌≡◌, IfOk, true};
-ghost use Rattle.rkyv_collections.specs.RoundTrips.{ArchivesComeBack};
+ghost use Rattle.std.specs.Prelude.{◌≡◌, IfErr, IfOk, true};
+ghost use Rattle.rkyv_keys.specs.Reading.{nothing_fails};
+ghost use Rattle.rkyv_keys.specs.RoundTrips.{RoundTripFails, round_trip};
+ghost use Rattle.rkyv_collections.specs.Map.MapSpec.{map_spec};
 
 use crate::map::{ArchivedHashMap, HashMapOf};
 use crate::std_maps::hashed::Hashed;
 use rkyv_base::access::access_in;
-use rkyv_base::archive::Serialize;
-use rkyv_base::errors::{ReadError, WriteError};
+use rkyv_base::archive::{Archive, Serialize};
+pub use rkyv_base::errors::RoundTripError;
 use rkyv_base::root::to_bytes_in;
 use rkyv_base::width::Width;
-use rkyv_base::writer::{NoMemory, VecWriter};
+use rkyv_base::writer::VecWriter;
 use rkyv_keys::deserialize::Deserialize;
 use rkyv_keys::equality::{EqualsWritten, MatchesNative, RepresentsUniquely};
 use rkyv_keys::keys::{KeyElement, NativeKey};
@@ -22,28 +24,6 @@ use rkyv_scan::hash::KeyHasher;
 use std::alloc::Global;
 use std::collections::HashMap;
 use std::hash::{BuildHasher, Hash};
-
-/// The error of a round trip.
-#[derive(Debug, Drop)]
-pub enum RoundTripError {
-    /// The value could not be written.
-    Write(WriteError<NoMemory>),
-    /// The value could not be deserialized.
-    Read(ReadError),
-}
-
-/// States that the root of an archive of a value equals the value.
-///
-/// Each value that the root represents equals it too.
-///
-/// The archive is one that `to_bytes` makes. The root equals the value in place.
-/// A deserialized value is represented by the root, and so it is `==` to the value.
-pub fn archives_come_back<W: Width, M: EqualsWritten<W> + PartialEq>()
-where
-    M::Archived: MatchesNative<M> + RepresentsUniquely<M>,
-    ensures { ArchivesComeBack W.LIMIT M.Archived.spec M.Archived.represents M.Archived.equals
-        M.format M.eq }
-{}
 
 /// Writes a value, opens the archive, compares the root with the value, and deserializes it.
 ///
@@ -60,7 +40,9 @@ pub fn comes_back<W: Width, M: Serialize<VecWriter, W> + EqualsWritten<W> + Part
 ) -> Result<bool, RoundTripError>
 where
     M::Archived: Deserialize<M> + MatchesNative<M> + RepresentsUniquely<M>,
-    ensures { IfOk result (λ same. same ≡ true) }
+    ensures same { IfOk result (λ same. same ≡ true) }
+    ensures error { IfErr result (RoundTripFails (round_trip W.LIMIT M.Archived.spec M.format
+        M.Archived.refuses) value.now) }
 {
     let bytes = match to_bytes_in::<W, M>(alloc, value) {
         Ok(bytes) => bytes,
@@ -98,7 +80,10 @@ where
     A::Archived: KeyElement,
     A: NativeKey<A::Archived>,
     B::Archived: MatchesNative<B>,
-    ensures { IfOk result (λ same. same ≡ true) }
+    ensures same { IfOk result (λ same. same ≡ true) }
+    ensures error { IfErr result (RoundTripFails (round_trip W.LIMIT
+        (map_spec W.word A.Archived.spec B.Archived.spec)
+        ⟦<Hashed<HashMap<A, B, T>, H> as Archive<W>>⟧.format nothing_fails) map.now) }
 {
     let bytes = match to_bytes_in::<W, Hashed<HashMap<A, B, T>, H>>(alloc, map) {
         Ok(bytes) => bytes,

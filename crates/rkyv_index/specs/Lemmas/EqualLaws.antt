@@ -9,9 +9,9 @@ use Rattle.rkyv_base.specs.ElementSpec.{IsElement, ElementSpec, ValidAt}
 use Rattle.rkyv_base.specs.Lemmas.ElementSpec.{valid_at}
 use Rattle.rkyv_keys.specs.Equality.{Comparison, IsEquivalence}
 use Rattle.rkyv_table.specs.Table.Header.{len_at}
-use Rattle.rkyv_index.specs.Equality.{index_equal, same_at}
-use Rattle.rkyv_index.specs.IndexLayout.{entries_pos, pair_pos}
-use Rattle.rkyv_index.specs.IndexLayout.{IndexHolds, entry_at, index_spec, places_of}
+use Rattle.rkyv_index.specs.Index.Equality.{index_equal, same_at}
+use Rattle.rkyv_index.specs.Index.IndexLayout.{entries_pos, pair_pos}
+use Rattle.rkyv_index.specs.Index.IndexLayout.{IndexHolds, entry_at, index_spec, places_of}
 use Rattle.rkyv_index.specs.Lemmas.IndexLaws.{each_holds, entry_inside}
 
 -- `list_all f` of a range is `true` if and only if `f` is `true` for each number in it

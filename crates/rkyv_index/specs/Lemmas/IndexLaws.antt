@@ -35,10 +35,11 @@ use Rattle.rkyv_table.specs.Table.Layout.{TableHolds, table_spec}
 use Rattle.rkyv_table.specs.Lemmas.TableLaws.{table_element}
 use Rattle.rkyv_table.proofs.RawWalks.{walked_all}
 use Rattle.rkyv_table.proofs.Walks.{walk_none}
-use Rattle.rkyv_index.specs.IndexLayout.{EntriesFail, EntriesHold, EntriesIn, FirstNotBelow}
-use Rattle.rkyv_index.specs.IndexLayout.{IndexFails}
-use Rattle.rkyv_index.specs.IndexLayout.{IndexHolds, PlacesBelow, distance_pos, decode_entries}
-use Rattle.rkyv_index.specs.IndexLayout.{entry_at, index_spec, place_spec, places_of}
+use Rattle.rkyv_index.specs.Index.IndexLayout.{EntriesFail, EntriesHold, EntriesIn, FirstNotBelow}
+use Rattle.rkyv_index.specs.Index.IndexLayout.{IndexFails}
+use Rattle.rkyv_index.specs.Index.IndexLayout.{IndexHolds, PlacesBelow, distance_pos}
+use Rattle.rkyv_index.specs.Index.IndexLayout.{decode_entries}
+use Rattle.rkyv_index.specs.Index.IndexLayout.{entry_at, index_spec, place_spec, places_of}
 
 -- an index in a bucket is an element
 pub place_element : (w : Width) → IsArchiveWord w → IsElement (place_spec w)

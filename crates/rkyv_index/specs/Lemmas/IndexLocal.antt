@@ -29,12 +29,12 @@ use Rattle.rkyv_table.specs.Lemmas.SameControls.{same_controls}
 use Rattle.rkyv_table.proofs.SameTable.{written_there}
 use Rattle.rkyv_table.proofs.WrittenTables.{home_pos, home_walked}
 use Rattle.rkyv_index.specs.Index.{hash_at}
-use Rattle.rkyv_index.specs.IndexFormat.{IndexRepresents, IndexWrittenAt}
-use Rattle.rkyv_index.specs.IndexLayout.{entries_pos, pair_pos}
+use Rattle.rkyv_index.specs.Index.IndexFormat.{IndexRepresents, IndexWrittenAt}
+use Rattle.rkyv_index.specs.Index.IndexLayout.{entries_pos, pair_pos}
 use Rattle.rkyv_index.specs.Lemmas.IndexLaws.{each_holds, entry_inside, place_element}
 use Rattle.rkyv_index.specs.Lemmas.IndexLaws.{head_same, place_same_at, told_same}
-use Rattle.rkyv_index.specs.IndexLayout.{IndexHolds, entry_at}
-use Rattle.rkyv_index.specs.IndexLayout.{index_spec, place_spec, places_of}
+use Rattle.rkyv_index.specs.Index.IndexLayout.{IndexHolds, entry_at}
+use Rattle.rkyv_index.specs.Index.IndexLayout.{index_spec, place_spec, places_of}
 
 -- the hash of a valid key depends only on the bytes of the key and its parts
 abbrev pub HashLocal : ElementSpec → (List ℕ → ℕ → ℕ) → Type 0

@@ -29,7 +29,7 @@ use Rattle.rkyv_keys.specs.Lemmas.Asking.{hashes_as_written}
 use Rattle.rkyv_keys.specs.Equality.{Comparison}
 use Rattle.rkyv_keys.specs.Keys.{FitsItsEqual, IsQuery}
 use Rattle.rkyv_scan.specs.Hash.{Hasher, HasherCall, hash_of_calls}
-use Rattle.rkyv_index.specs.IndexFormat.{hash_of}
+use Rattle.rkyv_index.specs.Index.IndexFormat.{hash_of}
 use Rattle.rkyv_index.specs.Index.{hash_at}
 use Rattle.rkyv_table.specs.Table.Header.{cap_at, len_at}
 use Rattle.rkyv_table.specs.Lemmas.HeaderReads.{header_length}
@@ -48,14 +48,16 @@ use Rattle.rkyv_table.specs.Table.WrittenTables.{IsWrittenOf}
 use Rattle.rkyv_table.proofs.WalkedHomes.{walked_homes}
 use Rattle.rkyv_table.proofs.Walks.{full_walked, walked_full}
 use Rattle.rkyv_table.proofs.WrittenTables.{home_count, home_pos, table_written}
-use Rattle.rkyv_index.specs.IndexFormat.{BeforeZeros, CodesReadBack, IndexParts, IndexRepresents}
-use Rattle.rkyv_index.specs.IndexFormat.{RowRepresents, index_format, places_from, row_format}
-use Rattle.rkyv_index.specs.IndexHeader.{IndexOverflows, IndexResolver, IsIndexHeader}
-use Rattle.rkyv_index.specs.IndexLayout.{entries_pos, pair_pos}
-use Rattle.rkyv_index.specs.IndexLayout.{IndexHolds, PlacesBelow, distance_pos, decode_entries}
-use Rattle.rkyv_index.specs.IndexLayout.{index_spec, places_of}
+use Rattle.rkyv_index.specs.Index.IndexFormat.{BeforeZeros, CodesReadBack, IndexParts}
+use Rattle.rkyv_index.specs.Index.IndexFormat.{IndexRepresents}
+use Rattle.rkyv_index.specs.Index.IndexFormat.{RowRepresents, index_format, places_from, row_format}
+use Rattle.rkyv_index.specs.Index.IndexHeader.{IndexOverflows, IndexResolver, IsIndexHeader}
+use Rattle.rkyv_index.specs.Index.IndexLayout.{entries_pos, pair_pos}
+use Rattle.rkyv_index.specs.Index.IndexLayout.{IndexHolds, PlacesBelow, distance_pos}
+use Rattle.rkyv_index.specs.Index.IndexLayout.{decode_entries}
+use Rattle.rkyv_index.specs.Index.IndexLayout.{index_spec, places_of}
 use Rattle.rkyv_index.specs.Lemmas.PlaceSpecs.{words_hold}
-use Rattle.rkyv_index.specs.Row.{RowImages}
+use Rattle.rkyv_index.specs.Index.Row.{RowImages}
 use Rattle.rkyv_index.specs.Lemmas.RowSound.{images_length, row_sound}
 
 module _ {X P : Type 0} (own : X → ℕ) (v : ℕ → P) where

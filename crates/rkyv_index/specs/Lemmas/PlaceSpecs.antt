@@ -11,7 +11,7 @@ use Rattle.rkyv_table.specs.Controls.Placing.{walk}
 use Rattle.rkyv_table.specs.Table.Places.{AllHold, FirstFails}
 use Rattle.rkyv_table.specs.Table.Layout.{FailsInside, IsPart, TableAt, TableFails, TableFailsAt}
 use Rattle.rkyv_table.specs.Table.Layout.{TableHolds, bucket_at, controls_at, table_spec}
-use Rattle.rkyv_index.specs.IndexLayout.{place_spec}
+use Rattle.rkyv_index.specs.Index.IndexLayout.{place_spec}
 
 -- specs of one size and alignment
 module _ (size align : ℕ) (holds holds' : List ℕ → ℕ → ℕ → ℕ → ℕ → Type 0) (fails fails' : List ℕ

@@ -12,7 +12,7 @@ use Rattle.rkyv_base.specs.Lemmas.ElementSpec.{valid_at, sum_multiple}
 use Rattle.rkyv_table.specs.Lemmas.PlaceLaws.{all_lower}
 use Rattle.rkyv_table.specs.Lemmas.SlotSound.{same_both}
 use Rattle.rkyv_table.specs.Table.Places.{AllHold}
-use Rattle.rkyv_index.specs.Row.{RowImages, RowParts}
+use Rattle.rkyv_index.specs.Index.Row.{RowImages, RowParts}
 
 next_times : (n size : ℕ) → (n + 1) * size ≡ n * size + size
 next_times n size = omega arith

@@ -14,12 +14,12 @@ use Rattle.rkyv_keys.specs.Equality.{Comparison}
 use Rattle.rkyv_keys.specs.Keys.{FitsItsEqual, IsKey, IsQuery}
 use Rattle.rkyv_scan.specs.Hash.{Hasher, HasherCall}
 use Rattle.rkyv_index.specs.Index.{hash_at}
-use Rattle.rkyv_index.specs.IndexFormat.{hash_of}
-use Rattle.rkyv_index.specs.IndexFormat.{CodesReadBack, IndexRepresents, index_format}
+use Rattle.rkyv_index.specs.Index.IndexFormat.{hash_of}
+use Rattle.rkyv_index.specs.Index.IndexFormat.{CodesReadBack, IndexRepresents, index_format}
 use Rattle.rkyv_index.specs.Lemmas.IndexLocal.{index_represents_local}
 use Rattle.rkyv_index.specs.Lemmas.IndexSound.{index_sound}
-use Rattle.rkyv_index.specs.IndexSet.{index_set_spec}
-use Rattle.rkyv_index.specs.SetFormat.{IndexSetRepresents, index_set_format}
+use Rattle.rkyv_index.specs.Set.IndexSet.{index_set_spec}
+use Rattle.rkyv_index.specs.Set.SetFormat.{IndexSetRepresents, index_set_format}
 use Rattle.rkyv_table.specs.Table.ItemValues.{with_units}
 
 module _ {State : Type 0} (hasher : Hasher State)

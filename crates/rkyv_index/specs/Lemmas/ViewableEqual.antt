@@ -10,9 +10,9 @@ use Rattle.rkyv_keys.specs.Equality.{Comparison, IsEquivalence}
 use Rattle.rkyv_keys.specs.Lemmas.OfEntries.{entry_equivalence}
 use Rattle.rkyv_keys.specs.OfUnits.{unit_same}
 use Rattle.rkyv_keys.specs.Lemmas.OfUnits.{unit_equivalence}
-use Rattle.rkyv_index.specs.Equality.{index_maps_equal}
+use Rattle.rkyv_index.specs.Index.Equality.{index_maps_equal}
 use Rattle.rkyv_index.specs.Index.{index_bytes, index_pos}
-use Rattle.rkyv_index.specs.IndexSet.{index_sets_equal, keys_of, unit_specs}
+use Rattle.rkyv_index.specs.Set.IndexSet.{index_sets_equal, keys_of, unit_specs}
 use Rattle.rkyv_index.specs.Lemmas.EqualLaws.{index_equivalence}
 use Rattle.rkyv_index.specs.declared.map.ArchivedIndexMap.{ArchivedIndexMap}
 

@@ -12,7 +12,7 @@ ghost use Rattle.rkyv_table.specs.Table.Header.{len_at};
 ghost use Rattle.rkyv_table.specs.Table.Places.{FirstFails, SomeHold};
 ghost use Rattle.rkyv_table.specs.Table.Positions.{item_positions};
 ghost use Rattle.rkyv_table.specs.Table.Layout.{table_spec};
-ghost use Rattle.rkyv_index.specs.IndexLayout.{
+ghost use Rattle.rkyv_index.specs.Index.IndexLayout.{
   EntriesFail,
   EntriesIn,
   FirstNotBelow,

@@ -18,9 +18,11 @@ ghost use Rattle.rkyv_base.specs.Sealing.{value_pos, with_value};
 ghost use Rattle.rkyv_base.specs.ElementSpec.{Viewable};
 ghost use Rattle.rkyv_table.specs.Table.Header.{len_at};
 ghost use Rattle.rkyv_index.specs.Index.{hash_at};
-ghost use Rattle.rkyv_index.specs.IndexFormat.{IndexRepresents};
-ghost use Rattle.rkyv_index.specs.IndexLayout.{index_spec};
-ghost use Rattle.rkyv_index.specs.ValueWrites.{KeepsIndexMap, SetsPlace, index_kind, pair_at};
+ghost use Rattle.rkyv_index.specs.Index.IndexFormat.{IndexRepresents};
+ghost use Rattle.rkyv_index.specs.Index.IndexLayout.{index_spec};
+ghost use Rattle.rkyv_index.specs.Index.ValueWrites.{KeepsIndexMap, SetsPlace, index_kind, pair_at};
+
+mod sealed;
 
 use crate::map::ArchivedIndexMap;
 use rkyv_base::element::{Element, Represents};

@@ -1,17 +1,29 @@
 //! Laws of index maps, over their definitions alone.
 //!
 //! They are about writes of one value in place, and about lists that are deserialized.
+//! `written` is about the bytes of written index maps.
 ghost use Rattle.rkyv_index.specs.Index.{hash_at};
-ghost use Rattle.rkyv_index.specs.IndexFormat.{hash_of};
-ghost use Rattle.rkyv_index.specs.Reading.{PairsReadBackAreListed, reads_as};
-ghost use Rattle.rkyv_index.specs.ValueWrites.{ValueWritesKeepAnswers, ValuesWrittenRepresent};
-ghost use Rattle.rkyv_index.specs.ValueWrites.{ValueWritesKeepIndexMaps};
+ghost use Rattle.rkyv_index.specs.Index.IndexFormat.{hash_of};
+ghost use Rattle.rkyv_index.specs.Index.Reading.{PairsReadBackAreListed, reads_as};
+ghost use Rattle.rkyv_index.specs.Index.ValueWrites.{ValueWritesKeepAnswers};
+ghost use Rattle.rkyv_index.specs.Index.ValueWrites.{ValuesWrittenRepresent};
+ghost use Rattle.rkyv_index.specs.Index.ValueWrites.{ValueWritesKeepIndexMaps};
+ghost use Rattle.rkyv_base.specs.Entry.{entry_spec};
+ghost use Rattle.rkyv_base.specs.Same.{SameSpec, SameValues};
+ghost use Rattle.rkyv_index.specs.Index.IndexLayout.{index_spec};
+ghost use Rattle.rkyv_index.specs.Listed.{ordered_pairs};
+ghost use Rattle.rkyv_keys.specs.Natives.{native_pairs};
+ghost use Rattle.rkyv_index.specs.Index.ListedLookups.{LookupsFindListed};
 
-use rkyv_base::element::{Element, Represents};
+pub mod written;
+
+use crate::lists::OrderedPairs;
+use crate::map::IndexMapOf;
+use rkyv_base::element::{Element, HasSpec, Represents};
 use rkyv_base::width::Width;
 use rkyv_keys::equality::RepresentsUniquely;
 use rkyv_keys::keys::{KeyElement, Query};
-use rkyv_scan::hash::KeyHasher;
+use rkyv_scan::hash::{FxHasher64, KeyHasher};
 
 /// States that a write of one value in place that keeps it valid keeps the index map.
 ///
@@ -50,4 +62,34 @@ pub fn pairs_read_back_are_listed<
 >()
     ensures { PairsReadBackAreListed W.word (reads_as K.spec K.represents A.eq)
         (reads_as V.spec V.represents B.eq) (hash_at H.hasher K.key_calls) }
+{}
+
+/// States the layout of an index map, and that it represents the pairs of a list in order.
+pub fn index_maps_are_laid_out<W, A, B, K: KeyElement + Represents<A>, V: Represents<B>>()
+where
+    W: Width,
+    ensures spec { SameSpec ⟦<IndexMapOf<K, V, FxHasher64, W> as HasSpec>⟧.spec
+        (index_spec W.word (entry_spec K.spec V.spec)) }
+    ensures list { SameValues
+        ⟦<IndexMapOf<K, V, FxHasher64, W> as Represents<OrderedPairs<A, B>>>⟧.represents
+        (ordered_pairs W.word K.Represents V.Represents K.key_calls (λ x. x.0.items)) }
+{}
+
+/// States that a lookup finds the index of the first pair of the list with an accepted key.
+///
+/// The index map represents the list. It finds none if the list has no such pair.
+/// The clause `first` of a lookup is about this index.
+///
+/// The comparison must decide by the values that the keys represent. That of a native key accepts
+/// the keys that equal it. An index set is the index map of its keys to the unit value.
+pub fn lookups_find_listed<
+    A,
+    B,
+    K: KeyElement + Represents<A>,
+    V: Represents<B>,
+    H: KeyHasher,
+    W: Width,
+>()
+    ensures { LookupsFindListed H W.Word K.HasSpec V.HasSpec
+        (native_pairs K.represents V.represents H.hasher K.key_calls) }
 {}

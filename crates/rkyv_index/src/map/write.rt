@@ -7,12 +7,18 @@
 
 ghost use Rattle.std.specs.Prelude.{◌≡◌, ◌<◌, ◌≤◌, [], length, vec_capacity};
 ghost use Rattle.rkyv_table.specs.Table.Serializing.{HasCapacity};
-ghost use Rattle.rkyv_index.specs.Writing.{WritesEntries, WritesPlaces, hashed, hashed_row};
-ghost use Rattle.rkyv_index.specs.IndexFormat.{indices};
+ghost use Rattle.rkyv_index.specs.Index.Writing.{WritesEntries, WritesPlaces, hashed, hashed_row};
+ghost use Rattle.rkyv_index.specs.Index.IndexFormat.{indices};
 
-use crate::map::places::{HashedEntry, HashedPlaces};
-use crate::map::resolve::IndexMapResolver;
-use crate::map::row::{serialize_row, write_row};
+pub(crate) mod places;
+pub mod resolve;
+mod row;
+pub mod serialize;
+mod source;
+
+use crate::map::write::places::{HashedEntry, HashedPlaces};
+use crate::map::write::resolve::IndexMapResolver;
+use crate::map::write::row::{serialize_row, write_row};
 use crate::width::PlaceWidth;
 use rkyv_base::archive::{Serialize, WriteResult};
 use rkyv_base::writer::{Writer, align_for_in};

@@ -13,12 +13,12 @@ ghost use Rattle.rkyv_base.specs.View.{IsAt, IsValidView, archive_of, pos_of};
 ghost use Rattle.rkyv_table.specs.Table.RawItems.{AllValid};
 ghost use Rattle.rkyv_index.specs.Index.{IsFoundAt, IsStoredIndex, IsKeyOf, index_archive};
 ghost use Rattle.rkyv_index.specs.Index.{index_len, key_positions};
-ghost use Rattle.rkyv_index.specs.IndexSet.{IsMemberAt, index_set_spec, keys_of};
-ghost use Rattle.rkyv_index.specs.Lookups.{GetsKey, TellsKey, full_key_part, key_part};
-ghost use Rattle.rkyv_index.specs.Lookups.{place_part};
+ghost use Rattle.rkyv_index.specs.Set.IndexSet.{IsMemberAt, index_set_spec, keys_of};
+ghost use Rattle.rkyv_index.specs.Index.Lookups.{GetsKey, TellsKey, full_key_part, key_part};
+ghost use Rattle.rkyv_index.specs.Index.Lookups.{place_part};
 ghost use Rattle.rkyv_keys.specs.Asked.{asked};
 
-use crate::map::iter::Keys;
+use crate::map::read::iter::Keys;
 use crate::map::{ArchivedIndexMap, IndexMapOf};
 use crate::set::{ArchivedIndexSet, IndexSetOf};
 use rkyv_base::element::Element;

@@ -1,8 +1,8 @@
 //! Deserializing an index set into a list of keys.
 ghost use Rattle.std.specs.Prelude.{MatchResult, ◌<◌};
 ghost use Rattle.rkyv_index.specs.Index.{index_len, key_pos};
-ghost use Rattle.rkyv_index.specs.IndexSet.{keys_of, set_bytes};
-ghost use Rattle.rkyv_index.specs.Reading.{ReadsItems, items_refuse};
+ghost use Rattle.rkyv_index.specs.Set.IndexSet.{keys_of, set_bytes, set_pos};
+ghost use Rattle.rkyv_index.specs.Index.Reading.{ReadsItems, items_refuse};
 
 use crate::set::ArchivedIndexSet;
 use rkyv_base::element::Element;
@@ -30,7 +30,7 @@ impl<'a, K: Element, H, W: Width> ArchivedIndexSet<'a, K, H, W> {
     /// # Errors
     ///
     /// - `Memory`: the list could not be allocated.
-    /// - The error of deserializing a key.
+    /// - The first error of deserializing a key.
     ///
     /// # Examples
     ///
@@ -46,7 +46,7 @@ impl<'a, K: Element, H, W: Width> ArchivedIndexSet<'a, K, H, W> {
         K: Deserialize<A>,
         ensures { MatchResult result
             (λ list. ReadsItems K.represents self.entry list.items)
-            (items_refuse K.refuses self.entry) }
+            (items_refuse W.word K.Deserialize (set_bytes self.entry) (set_pos self.entry)) }
     {
         let mut list = Vec::new(alloc);
         for place in 0..self.len() {

@@ -4,7 +4,7 @@ ghost use Rattle.rkyv_base.specs.Lemmas.Empty.{unit_element};
 ghost use Rattle.rkyv_base.specs.Entry.{entry_spec};
 ghost use Rattle.rkyv_base.specs.Lemmas.Entry.{entry_element};
 ghost use Rattle.rkyv_index.specs.Lemmas.IndexLaws.{index_element};
-ghost use Rattle.rkyv_index.specs.IndexSet.{index_set_spec};
+ghost use Rattle.rkyv_index.specs.Set.IndexSet.{index_set_spec};
 
 use crate::map::IndexMapOf;
 use crate::set::IndexSetOf;

@@ -10,11 +10,11 @@ ghost use Rattle.rkyv_keys.specs.Lemmas.OfEntries.{entry_equivalence};
 ghost use Rattle.rkyv_keys.specs.Lemmas.OfUnits.{unit_equivalence};
 ghost use Rattle.rkyv_keys.specs.Places.{at_views};
 ghost use Rattle.rkyv_index.specs.Lemmas.EqualLaws.{index_equivalence};
-ghost use Rattle.rkyv_index.specs.Equality.{CountsRepeated, index_misplaced};
+ghost use Rattle.rkyv_index.specs.Index.Equality.{CountsRepeated, CountsUpTo, index_misplaced};
 ghost use Rattle.rkyv_index.specs.Index.{hash_at};
 ghost use Rattle.rkyv_index.specs.Lemmas.ViewableEqual.{sets_equality};
-ghost use Rattle.rkyv_index.specs.IndexSet.{index_of_set, index_set_equal, index_set_spec};
-ghost use Rattle.rkyv_index.specs.IndexSet.{index_sets_equal};
+ghost use Rattle.rkyv_index.specs.Set.IndexSet.{index_of_set, index_set_equal, index_set_spec};
+ghost use Rattle.rkyv_index.specs.Set.IndexSet.{index_sets_equal};
 
 use crate::set::{ArchivedIndexSet, IndexSetOf};
 use rkyv_base::view::View;
@@ -48,6 +48,22 @@ impl<'a, K: KeyElement, H: KeyHasher, W: Width> ArchivedIndexSet<'a, K, H, W> {
             (hash_at H.hasher K.key_calls) K.same result }
     {
         self.map.misplaced()
+    }
+
+    /// Returns the number of misplaced keys, or `None` at a limit on the strides that it reads.
+    ///
+    /// The number is the result of `misplaced`.
+    ///
+    /// The result is `None` if the lookups of all keys read more than `limit` strides of sixteen
+    /// control bytes, or more than 2^63. Otherwise the number is exact.
+    ///
+    /// It reads at most `limit` strides and those of one more lookup, so its cost on an untrusted
+    /// set is bounded.
+    pub fn misplaced_up_to(self, limit: u64) -> Option<usize>
+        ensures { CountsUpTo (index_of_set self.entry) (hash_at H.hasher K.key_calls) K.same limit 0
+            result }
+    {
+        self.map.misplaced_up_to(limit)
     }
 }
 

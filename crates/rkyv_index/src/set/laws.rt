@@ -1,11 +1,17 @@
 //! A law of index sets that are deserialized, over their definitions alone.
 ghost use Rattle.rkyv_index.specs.Index.{hash_at};
-ghost use Rattle.rkyv_index.specs.Reading.{ItemsReadBackAreListed};
+ghost use Rattle.rkyv_index.specs.Index.Reading.{ItemsReadBackAreListed};
+ghost use Rattle.rkyv_base.specs.Same.{SameSpec, SameValues};
+ghost use Rattle.rkyv_index.specs.Set.IndexSet.{index_set_spec};
+ghost use Rattle.rkyv_index.specs.Listed.{ordered_items};
 
+use crate::lists::OrderedItems;
+use crate::set::IndexSetOf;
+use rkyv_base::element::{HasSpec, Represents};
 use rkyv_base::width::Width;
 use rkyv_keys::equality::RepresentsUniquely;
 use rkyv_keys::keys::KeyElement;
-use rkyv_scan::hash::KeyHasher;
+use rkyv_scan::hash::{FxHasher64, KeyHasher};
 
 /// States that a list deserialized from an index set is `==` to the list that it represents.
 ///
@@ -18,4 +24,13 @@ pub fn items_read_back_are_listed<
 >()
     ensures { ItemsReadBackAreListed W.word K.spec K.represents
         (hash_at H.hasher K.key_calls) A.eq }
+{}
+
+/// States the layout of an index set, and that it represents the keys of a list in order.
+pub fn index_sets_are_laid_out<W: Width, A, K: KeyElement + Represents<A>>()
+    ensures spec { SameSpec ⟦<IndexSetOf<K, FxHasher64, W> as HasSpec>⟧.spec
+        (index_set_spec W.word K.spec) }
+    ensures list { SameValues
+        ⟦<IndexSetOf<K, FxHasher64, W> as Represents<OrderedItems<A>>>⟧.represents
+        (ordered_items W.word K.Represents K.key_calls (λ x. x.0.items)) }
 {}

@@ -14,6 +14,10 @@ use Rattle.rkyv_table.specs.Table.Reading.{table_pos}
 use Rattle.rkyv_table.specs.declared.table.ArchivedHashTable.{ArchivedHashTable}
 
 module _ {T W : Type 0} {ts : Specs T} {wt : Words W} where
+  -- the number of items
+  abbrev pub table_len : ArchivedHashTable T W ts wt → ℕ
+  table_len t = len_at wt.word (table_bytes t) (table_pos t)
+
   -- the comparison can be called with any two items
   abbrev pub MayCompare : (View T → View T → Type 0) → ArchivedHashTable T W ts wt → Type 0
   MayCompare pre t = (x y : View T) → IsItem t x → IsItem t y → pre x y

@@ -7,7 +7,7 @@ use Rattle.rkyv_base.specs.declared.view.View.{View}
 use Rattle.rkyv_base.specs.declared.element.HasSpec.{Ghosts as Specs}
 use Rattle.rkyv_base.specs.declared.width.Word.{Ghosts as Words}
 use Rattle.rkyv_scan.specs.Groups.{Kind}
-use Rattle.rkyv_table.specs.Controls.Finding.{ReadsWithin, found}
+use Rattle.rkyv_table.specs.Controls.Finding.{ReadsWithin}
 use Rattle.rkyv_table.specs.Table.Header.{cap_at, controls_pos, len_at}
 use Rattle.rkyv_table.specs.Controls.Laws.{IsUnderHash}
 use Rattle.rkyv_table.specs.Controls.Numbers.{probe_capacity}

@@ -1,6 +1,6 @@
 -- The result of writing a table.
 use Rattle.std.specs.Prelude.{◌≡◌, ℕ, ◌<◌, ◌≤◌, ◌⊎◌, ⊤, List, length, MatchResult, Option, Result}
-use Rattle.std.specs.Int.{Width}
+use Rattle.rkyv_base.specs.Members.{WidthMembers}
 use Rattle.rkyv_base.specs.declared.errors.WriteError.{WriteError}
 use Rattle.rkyv_base.specs.declared.errors.WriteError.TheVariants.{InvalidLoadFactor}
 use Rattle.rkyv_base.specs.declared.errors.WriteError.TheVariants.{IteratorLengthMismatch}
@@ -10,27 +10,12 @@ use Rattle.rkyv_base.specs.declared.errors.WriteError.TheVariants.{DistanceTooLa
 use Rattle.rkyv_base.specs.declared.errors.WriteError.TheVariants.{Writer, Memory, Refused}
 use Rattle.rkyv_base.specs.Format.{Format, SerializeFails, Serialized}
 use Rattle.rkyv_base.specs.ElementSpec.{ElementSpec}
-use Rattle.rkyv_base.specs.Text.{IsArchiveWord}
 use Rattle.rkyv_base.specs.Writing.{Appended, Output, WriteFails, end_of}
 use Rattle.rkyv_table.specs.Controls.Numbers.{IsLoadFactor, capacity}
 use Rattle.rkyv_table.specs.Table.Input.{Input}
 use Rattle.rkyv_table.specs.Table.Slots.{ItemFormat, TableBytes, TableNext}
 use Rattle.rkyv_table.specs.Table.TableFormat.{TableResolver, table_format}
 use Rattle.rkyv_table.specs.Table.PlacedItems.{Placed}
-
--- the members of a `Width` and its `Word`
-abbrev pub WidthMembers : Type 0
-WidthMembers = record {
-  word : Width;
-  kind : IsArchiveWord word;
-  LIMIT : ℕ;
-  ALIGN : ℕ;
-  MAX_CAPACITY : ℕ;
-  TABLE_SIZE : ℕ;
-  INDEX_SIZE : ℕ;
-  TEXT_SIZE : ℕ;
-  TEXT_LIMIT : ℕ;
-}
 
 -- `len` items have a capacity of at most `max`
 abbrev pub HasCapacity : ℕ → ℕ × ℕ → ℕ → Type 0

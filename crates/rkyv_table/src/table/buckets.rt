@@ -62,14 +62,11 @@ fn write_by<W: Width, S: Writer, U: Archive<W>, X: Lend<U>>(
     let mut above = slots.len();
     while above > 0 {
         above -= 1;
-        match fill_bucket::<W, U, X>(&slots[above], &mut rest, serializer.pos(), bucket) {
+        match fill_bucket::<W, U, _>(&slots[above], &mut rest, serializer.pos(), bucket) {
             Ok(()) => {}
             Err(_) => return Err(WriteError::DistanceTooLarge),
         }
-        match append_in::<W, S>(serializer, bucket) {
-            Ok(()) => {}
-            Err(e) => return Err(e),
-        }
+        append_in::<W, S>(serializer, bucket)?;
     }
     Ok(())
 }
@@ -93,7 +90,7 @@ pub(crate) fn write_buckets<W: Width, S: Writer, U: Archive<W>, X: Lend<U>>(
     let size = <U::Archived as Element>::size();
     if size <= 64 {
         let mut local = [0u8; 64];
-        return write_by::<W, S, U, X>(slots, resolvers, &mut local[..size], serializer);
+        return write_by::<W, _, U, _>(slots, resolvers, &mut local[..size], serializer);
     }
-    write_by::<W, S, U, X>(slots, resolvers, bucket, serializer)
+    write_by::<W, _, U, _>(slots, resolvers, bucket, serializer)
 }

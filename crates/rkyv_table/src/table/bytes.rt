@@ -34,21 +34,10 @@ pub(crate) fn write_table<W: Width, S: Writer, U: Serialize<S, W>, X: Lend<U>>(
         (S.output serializer.old) (S.output serializer.new) result }
 {
     let mut kept = resolvers;
-    match serialize_slots::<W, S, U, X>(alloc, slots, &mut kept, serializer) {
-        Ok(()) => {}
-        Err(e) => return Err(e),
-    }
-    match align_for_in::<W, U::Archived, S>(serializer) {
-        Ok(_) => {}
-        Err(e) => return Err(e),
-    }
-    match write_buckets::<W, S, U, X>(slots, kept, bucket, serializer) {
-        Ok(()) => {}
-        Err(e) => return Err(e),
-    }
+    serialize_slots::<W, _, U, _>(alloc, slots, &mut kept, serializer)?;
+    align_for_in::<W, U::Archived, _>(serializer)?;
+    write_buckets::<W, _, U, _>(slots, kept, bucket, serializer)?;
     let pos = serializer.pos();
-    match append_in::<W, S>(serializer, controls) {
-        Ok(()) => Ok(pos),
-        Err(e) => Err(e),
-    }
+    append_in::<W, _>(serializer, controls)?;
+    Ok(pos)
 }

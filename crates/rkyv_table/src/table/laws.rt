@@ -1,4 +1,7 @@
-//! Laws of walks and lookups in tables, over their definitions alone.
+//! Laws of tables, over their definitions alone.
+//!
+//! - `written` is about the bytes of written tables, `misplaced` about misplaced items.
+//! - `in_place` is about writes of one item in place.
 ghost use Rattle.std.specs.Prelude.{ℕ};
 ghost use Rattle.rkyv_base.specs.Empty.{unit_format};
 ghost use Rattle.rkyv_base.specs.Pairs.{pair_format, written_as};
@@ -9,8 +12,16 @@ ghost use Rattle.rkyv_table.specs.Table.Lending.{lent_represents};
 ghost use Rattle.rkyv_table.specs.Table.OneWay.{WritesOneWay};
 ghost use Rattle.rkyv_table.specs.Table.TableFormat.{table_format};
 ghost use Rattle.rkyv_table.specs.Table.WalkLaws.{WalkVisitsHomes};
+ghost use Rattle.rkyv_base.specs.Same.{SameSpec};
+ghost use Rattle.rkyv_table.specs.Table.Layout.{table_spec};
 
+pub mod in_place;
+pub mod misplaced;
+pub mod written;
+
+use crate::table::TableOf;
 use rkyv_base::archive::Archive;
+use rkyv_base::element::{Element, HasSpec};
 use rkyv_base::lend::Lend;
 use rkyv_base::scalars::Scalar;
 use rkyv_base::width::Width;
@@ -49,4 +60,9 @@ pub fn ready_elements_are_written_one_way<W: Width, N: Scalar, A: Archive<W>, B:
     ensures units { WritesOneWay unit_format }
     ensures pairs { WritesOneWay A.format → WritesOneWay B.format
         → WritesOneWay (pair_format A.Archived.spec B.Archived.spec A.format B.format) }
+{}
+
+/// States the layout of a table: the header, with the buckets and control bytes before it.
+pub fn tables_are_laid_out<W: Width, T: Element>()
+    ensures { SameSpec ⟦<TableOf<T, W> as HasSpec>⟧.spec (table_spec W.word T.spec) }
 {}

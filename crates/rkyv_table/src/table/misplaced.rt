@@ -2,12 +2,12 @@
 //!
 //! - `misplaced_by` looks up each item. Its cost on untrusted bytes may be quadratic.
 //! - `misplaced_up_to_by` ends at a limit on the strides that are read.
-ghost use Rattle.std.specs.Prelude.{false, not, true, ◌+◌, ◌<◌, ◌^◌, ◌≡◌, ◌≤◌, ◌⊎◌};
+ghost use Rattle.std.specs.Prelude.{IfSome, false, not, true, ◌+◌, ◌<◌, ◌^◌, ◌≡◌, ◌≤◌, ◌⊎◌};
 ghost use Rattle.rkyv_scan.specs.Groups.{generic_kind};
-ghost use Rattle.rkyv_table.specs.Table.Misplaced.{is_answer, NoneMisplacedIsComplete};
-ghost use Rattle.rkyv_table.specs.Table.Misplaced.{RepeatedAreMisplaced};
+ghost use Rattle.rkyv_table.specs.Table.Misplaced.{is_answer};
 ghost use Rattle.rkyv_table.specs.Table.MisplacedIn.{AnswersOf, CountsMisplaced, CountsOwn};
 ghost use Rattle.rkyv_table.specs.Table.MisplacedIn.{CountsUpTo, FindsOwn, MayCompare, ReadsUpTo};
+ghost use Rattle.rkyv_table.specs.Table.MisplacedIn.{table_len};
 ghost use Rattle.rkyv_table.specs.Table.Positions.{IsWalked};
 ghost use Rattle.rkyv_table.specs.Table.Reading.{IsParsed, MayAsk, table_bytes, table_pos};
 
@@ -29,9 +29,13 @@ pub fn is_in_another_bucket(bucket: usize, found: Option<usize>) -> bool
     }
 }
 
-// Returns `true` if more than `limit` strides are counted after `before`, or more than 2^63 in all.
+/// Returns `true` if more than `limit` strides are counted after `before`, or more than 2^63.
+///
+/// # Requires
+///
+/// - `count` is at least `before`.
 #[inline]
-fn is_past(before: u64, count: u64, limit: u64) -> bool
+pub fn is_past(before: u64, count: u64, limit: u64) -> bool
     requires { before ≤ count }
     ensures past { result ≡ true → (before + limit < count) ⊎ (2 ^ 63 < count) }
     ensures within { result ≡ false → (count ≤ before + limit) × (count ≤ 2 ^ 63) }
@@ -83,7 +87,8 @@ impl<'a, T: Element, W: Width> ArchivedHashTable<'a, T, W> {
     /// for which `same` returns `true`, with the item as the first argument. An item
     /// is found if the lookup returns its bucket.
     ///
-    /// The number is specified if both functions depend only on the positions of their arguments.
+    /// It is at most the length. The number is specified if both functions depend only
+    /// on the positions of their arguments.
     /// `repeated_are_misplaced` relates it to repeated items of a written table.
     ///
     /// Each item is looked up once. Items that share one hash cost a number of comparisons
@@ -114,8 +119,9 @@ impl<'a, T: Element, W: Width> ArchivedHashTable<'a, T, W> {
     ) -> usize
         requires hashable { MayAsk (H.pre hash_of) self }
         requires comparable { MayCompare (S.pre same) self }
-        ensures { CountsMisplaced (H.post hash_of) (S.post same) generic_kind
+        ensures counts { CountsMisplaced (H.post hash_of) (S.post same) generic_kind
             self.entry result }
+        ensures within { result ≤ table_len self.entry }
     {
         let items = ParsedTable::of(self);
         let mut count = 0;
@@ -175,6 +181,7 @@ impl<'a, T: Element, W: Width> ArchivedHashTable<'a, T, W> {
         requires room { strides.old ≤ 2 ^ 63 }
         ensures counts { CountsUpTo (H.post hash_of) (S.post same) self.entry limit strides.old
             result }
+        ensures within { IfSome result (λ count. count ≤ table_len self.entry) }
         ensures bounded { ReadsUpTo self.entry limit strides.old strides.new }
     {
         let items = ParsedTable::of(self);
@@ -193,22 +200,3 @@ impl<'a, T: Element, W: Width> ArchivedHashTable<'a, T, W> {
         Some(misplaced)
     }
 }
-
-/// States that the number of misplaced items is that of items that are the same as an earlier one.
-///
-/// The control bytes are written ones.
-/// Each item has the hash under which it was written. The relation is an equivalence on the items,
-/// and related items have the same hash.
-pub fn repeated_are_misplaced()
-    ensures { RepeatedAreMisplaced }
-{}
-
-/// States that a lookup finds the only accepted item if no item is misplaced.
-///
-/// It finds `None` if there is no accepted item.
-///
-/// Each accepted item has the hash of the lookup, and the items that are the same as it are those
-/// that are accepted.
-pub fn none_misplaced_is_complete()
-    ensures { NoneMisplacedIsComplete }
-{}

@@ -25,10 +25,8 @@ pub(crate) fn serialize_slots<W: Width, S: Writer, U: Serialize<S, W>, X: Lend<U
 {
     for slot in slots {
         if let Some(item) = slot {
-            match item.lend().serialize(alloc, serializer) {
-                Ok(resolver) => resolvers.push_reserved(resolver),
-                Err(e) => return Err(e),
-            }
+            let resolver = item.lend().serialize(alloc, serializer)?;
+            resolvers.push_reserved(resolver);
         }
     }
     Ok(())

@@ -1,17 +1,11 @@
-//! Lookups that return a seal, and laws of writes in place.
+//! Lookups that return a seal.
 //!
 //! - `get_seal_with` takes a seal of the table. Its contract doesn't cover the bytes afterwards.
 //! - `found_with` of `raw_iter_seal` takes bytes and a closure.
-ghost use Rattle.std.specs.Prelude.{IfSome, List, ℕ};
-ghost use Rattle.rkyv_base.specs.Entry.{entry_spec};
+ghost use Rattle.std.specs.Prelude.{IfSome};
 ghost use Rattle.rkyv_base.specs.Seal.{LiesIn};
-ghost use Rattle.rkyv_base.specs.ElementSpec.{Viewable};
-ghost use Rattle.rkyv_table.specs.Table.Positions.{IsWalked};
 ghost use Rattle.rkyv_table.specs.Table.SealedLookup.{IsItemSeal, IsTableSeal, MayAskAt};
 ghost use Rattle.rkyv_table.specs.Table.SealedLookup.{SealsFirst, SealsFound, pos_of_seal};
-ghost use Rattle.rkyv_table.specs.Table.SealedTable.{KeepsTable, KeptByValueWrites, KeptByWrites};
-ghost use Rattle.rkyv_table.specs.Table.SealedTable.{SameLookups};
-ghost use Rattle.rkyv_table.specs.Table.Layout.{table_spec};
 
 use crate::table::{ArchivedHashTable, TableOf};
 use rkyv_base::element::Element;
@@ -64,29 +58,3 @@ impl<'a, T: Element, W: Width> ArchivedHashTable<'a, T, W> {
         }
     }
 }
-
-/// States that if a write changes one item alone and keeps it valid, the table stays valid.
-///
-/// The header, the control bytes and the bytes of the other items are unchanged.
-pub fn writes_keep_the_table<T: Element, W: Width>()
-    ensures { (b : List ℕ) (p i : ℕ) → Viewable (table_spec W.word T.spec) b p
-        → IsWalked W.word b p i
-        → KeptByWrites W.word T.spec b p i }
-{}
-
-/// States that a table stays valid if a write changes one entry's value and keeps it valid.
-///
-/// The header, the control bytes, the other entries and the key of this one are unchanged.
-pub fn value_writes_keep_the_table<K: Element, V: Element, W: Width>()
-    ensures { (b : List ℕ) (p i : ℕ) → Viewable (table_spec W.word (entry_spec K.spec V.spec)) b p
-        → IsWalked W.word b p i
-        → KeptByValueWrites W.word K.spec V.spec b p i }
-{}
-
-/// States that a lookup in a kept table finds the same bucket at the same position as before.
-///
-/// A written table is still one.
-pub fn writes_keep_lookups<T: Element, W: Width>()
-    ensures { (b c : List ℕ) (p i : ℕ) → KeepsTable W.word T.spec b c p i
-        → SameLookups W.word T.spec b c p }
-{}

@@ -109,10 +109,7 @@ fn serialize_nonempty<
             }));
         }
     }
-    match write_table::<W, S, U, X>(alloc, slots, controls, bucket, resolvers, serializer) {
-        Ok(pos) => Ok(pos),
-        Err(e) => Err(e),
-    }
+    write_table::<W, _, U, _>(alloc, slots, controls, bucket, resolvers, serializer)
 }
 
 // Writes the table of an input, and returns its resolver.
@@ -159,15 +156,13 @@ fn serialize_source<
             })),
         };
     }
-    match serialize_nonempty::<W, G, S, U, X, H>(alloc, given, len, cap, serializer) {
-        Ok(pos) => Ok(HashTableResolver {
-            pos,
-            len,
-            load_factor,
-            width: PhantomData,
-        }),
-        Err(e) => Err(e),
-    }
+    let pos = serialize_nonempty::<W, G, _, U, _, _>(alloc, given, len, cap, serializer)?;
+    Ok(HashTableResolver {
+        pos,
+        len,
+        load_factor,
+        width: PhantomData,
+    })
 }
 
 impl<'a, T: HasSpec, W: Width> ArchivedHashTable<'a, T, W> {

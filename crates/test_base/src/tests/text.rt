@@ -9,19 +9,14 @@ use test_support::written::is_archived_as;
 /// Returns the text at the root of an archive.
 #[tactic(auto, using(rkyv_base::specs::Lemmas::Access::root_viewable))]
 fn text_of<W: Width>(bytes: &[u8]) -> Result<&str, VerifyError> {
-    match access_in::<W, Text<W>>(bytes) {
-        Ok(root) => Ok(root.as_str()),
-        Err(e) => Err(e),
-    }
+    Ok(access_in::<W, Text<W>>(bytes)?.as_str())
 }
 
 /// Returns the two texts at the root of an archive.
 #[tactic(auto, using(rkyv_base::specs::Lemmas::Access::root_viewable))]
 fn texts_of<W: Width>(bytes: &[u8]) -> Result<(&str, &str), VerifyError> {
-    match access_in::<W, Entry<Text<W>, Text<W>>>(bytes) {
-        Ok(root) => Ok((root.key().as_str(), root.value().as_str())),
-        Err(e) => Err(e),
-    }
+    let root = access_in::<W, Entry<Text<W>, Text<W>>>(bytes)?;
+    Ok((root.key().as_str(), root.value().as_str()))
 }
 
 /// Returns `len` letters a.

@@ -155,10 +155,8 @@ fn write_whole(
     alloc: Global,
     writer: &mut LimitWriter<VecWriter>,
 ) -> Result<u64, WriteError<LimitFault<NoMemory>>> {
-    match append(writer, &[9]) {
-        Ok(()) => write_root(alloc, &(1u8, 2u32), writer),
-        Err(e) => Err(e),
-    }
+    append(writer, &[9])?;
+    write_root(alloc, &(1u8, 2u32), writer)
 }
 
 // Returns `true` if a writer with this limit is full, and has a front of these bytes.

@@ -36,10 +36,7 @@ fn change_found<K: KeyElement, N: Scalar, H: KeyHasher, W: Width, Q: Query<K>>(
 ) -> Result<Option<u64>, VerifyError>
     requires { Q.can_read key.now }
 {
-    let root = match access_in::<W, HashMapOf<K, N, H, W>>(&*bytes) {
-        Ok(map) => map.pos(),
-        Err(e) => return Err(e),
-    };
+    let root = access_in::<W, HashMapOf<K, N, H, W>>(&*bytes)?.pos();
     Ok(ArchivedHashMap::<K, N, H, W>::found_with(
         bytes,
         root,
@@ -99,10 +96,7 @@ fn write_over<K: Element, N: Scalar, H, W: Width>(
     bytes: &mut [u8],
     values: &[N],
 ) -> Result<usize, VerifyError> {
-    let root = match access_in::<W, HashMapOf<K, N, H, W>>(&*bytes) {
-        Ok(map) => map.pos(),
-        Err(e) => return Err(e),
-    };
+    let root = access_in::<W, HashMapOf<K, N, H, W>>(&*bytes)?.pos();
     let mut rest = ArchivedHashMap::<K, N, H, W>::values_over(bytes, root);
     for value in values {
         if let Some(pos) = rest.next_pos() {

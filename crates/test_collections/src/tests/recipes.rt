@@ -6,7 +6,7 @@ ghost use Rattle.rkyv_base.specs.Numbers.{unsigned};
 ghost use Rattle.rkyv_base.specs.Scalar.{scalar_spec};
 ghost use Rattle.rkyv_base.specs.ElementSpec.{Viewable};
 ghost use Rattle.rkyv_base.specs.Text.{text_spec};
-ghost use Rattle.rkyv_collections.specs.MapSpec.{map_spec};
+ghost use Rattle.rkyv_collections.specs.Map.MapSpec.{map_spec};
 
 use rkyv_base::access::{access, access_in, access_mut};
 use rkyv_base::entry::Entry;

@@ -5,8 +5,8 @@ ghost use Rattle.rkyv_base.specs.Sealing.{value_at, value_pos};
 ghost use Rattle.rkyv_base.specs.ElementSpec.{Viewable};
 ghost use Rattle.rkyv_scan.specs.Hash.{hash_of_calls};
 ghost use Rattle.rkyv_collections.specs.Map.{hash_at};
-ghost use Rattle.rkyv_collections.specs.MapAt.{map_at};
-ghost use Rattle.rkyv_collections.specs.MapSpec.{IsKeyPosAt, map_spec};
+ghost use Rattle.rkyv_collections.specs.Map.MapAt.{map_at};
+ghost use Rattle.rkyv_collections.specs.Map.MapSpec.{IsKeyPosAt, map_spec};
 ghost use Rattle.test_collections.specs.InMaps.{FindsIn, KeepsIn};
 
 use crate::tests::answers::number_of;
@@ -20,7 +20,7 @@ use rkyv_base::text::Text;
 use rkyv_base::view::View;
 use rkyv_base::width::{Narrow, Width};
 use rkyv_collections::MapPairs;
-use rkyv_collections::map::sealed::{value_writes_keep_maps, values_written_represent};
+use rkyv_collections::map::laws::in_place::{value_writes_keep_maps, values_written_represent};
 use rkyv_collections::map::{ArchivedHashMap, HashMapOf};
 use rkyv_keys::keys::{KeyElement, Query};
 use rkyv_scan::hash::{FxHasher64, KeyHasher};
@@ -106,10 +106,7 @@ fn stored_in<K: KeyElement, N: Scalar, H: KeyHasher, W: Width, Q: Query<K>>(
     requires { Q.can_read key.now }
     ensures { IfOk result (λ found. IfSome found (λ n. n ≡ value)) }
 {
-    let root = match access_in::<W, HashMapOf<K, N, H, W>>(&*bytes) {
-        Ok(map) => map.pos(),
-        Err(e) => return Err(e),
-    };
+    let root = access_in::<W, HashMapOf<K, N, H, W>>(&*bytes)?.pos();
     Ok(stored::<K, N, H, W, Q>(bytes, root, key, value))
 }
 

@@ -5,7 +5,7 @@ use rkyv_base::errors::VerifyError;
 use rkyv_base::root::to_bytes;
 use rkyv_base::text::Text;
 use rkyv_base::width::Narrow;
-use rkyv_collections::map::in_place_text::make_ascii_uppercase_of;
+use rkyv_collections::map::in_place::text::make_ascii_uppercase_of;
 use rkyv_collections::map::{ArchivedHashMap, HashMapOf};
 use rkyv_collections::{FxHasher64, MapPairs};
 use std::alloc::Global;

@@ -2,7 +2,7 @@
 use rkyv_base::access::access;
 use rkyv_base::element::Element;
 use rkyv_base::errors::VerifyError;
-use rkyv_collections::map::iter::{Iter, Keys, Values};
+use rkyv_collections::map::read::iter::{Iter, Keys, Values};
 use rkyv_collections::map::{ArchivedHashMap, HashMapOf};
 use rkyv_collections::set::{ArchivedHashSet, HashSetOf};
 use test_support::archives::{four_pairs, no_items, one_unit, three_keys};

@@ -1,9 +1,10 @@
 //! The examples of the docs of entry points that no other test has.
 
-use crate::tests::archives::one_key_twice;
+use crate::tests::archives::{no_pairs, one_key_twice};
 use rkyv_base::access::access;
 use rkyv_base::errors::VerifyError;
 use rkyv_index::{ArchivedIndexMap, IndexMapOf};
+use rkyv_table::Strides;
 use test_support::archives::four_entries;
 
 // Returns the number of pairs of an index map, and the value of a key.
@@ -28,4 +29,51 @@ fn misplaced(archive: &[u8]) -> Result<usize, VerifyError> {
 #[test]
 fn a_repeated_key_is_counted(rt: HostRuntime) {
     assert_eq!(rt; misplaced(&one_key_twice()).ok(), Some(1));
+}
+
+fn misplaced_within(archive: &[u8], limit: u64) -> Result<Option<usize>, VerifyError> {
+    Ok(ArchivedIndexMap::of(access::<IndexMapOf<i8, i8>>(archive)?).misplaced_up_to(limit))
+}
+
+#[test]
+fn misplaced_keys_are_counted_up_to_a_limit(rt: HostRuntime) {
+    let four = four_entries();
+    let twice = one_key_twice();
+    let counted = [
+        misplaced_within(&four, 3).ok(),
+        misplaced_within(&four, 4).ok(),
+        misplaced_within(&four, u64::MAX).ok(),
+        misplaced_within(&twice, 1).ok(),
+        misplaced_within(&twice, 2).ok(),
+        misplaced_within(&no_pairs(), 0).ok(),
+    ];
+    assert_eq!(rt;
+        counted,
+        [
+            Some(None),
+            Some(Some(0)),
+            Some(Some(0)),
+            Some(None),
+            Some(Some(1)),
+            Some(Some(0))
+        ]
+    );
+}
+
+// Returns the count of misplaced keys of an index map, and of the strides that it reads.
+fn misplaced_counted(archive: &[u8], limit: u64) -> Result<(Option<usize>, u64), VerifyError> {
+    let map = ArchivedIndexMap::of(access::<IndexMapOf<i8, i8>>(archive)?);
+    let mut strides = Strides::new();
+    let misplaced = map.misplaced_up_to_counted(limit, &mut strides);
+    Ok((misplaced, strides.count()))
+}
+
+#[test]
+fn the_strides_of_all_lookups_are_counted(rt: HostRuntime) {
+    let four = four_entries();
+    let counted = [
+        misplaced_counted(&four, 4).ok(),
+        misplaced_counted(&four, 1).ok(),
+    ];
+    assert_eq!(rt; counted, [Some((Some(0), 4)), Some((None, 2))]);
 }

@@ -156,6 +156,28 @@ fn strides_are_counted(rt: HostRuntime) -> Result<(), Fail> {
     Ok(())
 }
 
+// Seventeen equal keys fill the sixteen buckets of the first stride of their hash, and one of the
+// second stride, which has an empty control byte behind it.
+#[test]
+fn strides_of_seventeen_keys_under_one_hash(rt: HostRuntime) -> Result<(), Fail> {
+    let bytes = narrow(rt.alloc(), &[(1, 2); 17])?;
+    let map = ArchivedIndexMap::of(access::<Small>(bytes.as_slice())?);
+    let last = match map.get_index(16) {
+        Some((key, _)) => key.pos(),
+        None => 0,
+    };
+    let mut strides = Strides::new();
+    let first = map.get_index_of_counted(&1i8, |_: &i8, _: View<'_, i8>| true, &mut strides);
+    let one = strides.count();
+    let at = |_: &i8, key: View<'_, i8>| key.pos() == last;
+    let behind = map.get_index_of_counted(&1i8, at, &mut strides);
+    let three = strides.count();
+    let refused = map.get_index_of_counted(&1i8, |_: &i8, _: View<'_, i8>| false, &mut strides);
+    assert_eq!(rt; (first, behind, refused), (Some(0), Some(16), None));
+    assert_eq!(rt; (one, three, strides.count()), (1, 3, 5));
+    Ok(())
+}
+
 #[test]
 fn a_place_that_two_buckets_hold(rt: HostRuntime) -> Result<(), Fail> {
     let mut bytes = one_key_twice();

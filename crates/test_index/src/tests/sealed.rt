@@ -3,7 +3,7 @@ ghost use Rattle.std.specs.Prelude.{IfSome, ◌<◌};
 ghost use Rattle.rkyv_base.specs.Entry.{entry_spec};
 ghost use Rattle.rkyv_base.specs.ElementSpec.{Viewable};
 ghost use Rattle.rkyv_table.specs.Table.Header.{len_at};
-ghost use Rattle.rkyv_index.specs.IndexLayout.{index_spec};
+ghost use Rattle.rkyv_index.specs.Index.IndexLayout.{index_spec};
 
 use crate::tests::archives::one_pair;
 use rkyv_base::access::{access, access_in, access_mut};
@@ -209,10 +209,7 @@ fn write_at<A, K: KeyElement + Represents<A>, N: Scalar, H: KeyHasher, W: Width,
 ) -> Result<Option<usize>, VerifyError>
     requires { Q.can_read key.now }
 {
-    let root = match access_in::<W, IndexMapOf<K, N, H, W>>(&*bytes) {
-        Ok(map) => map.pos(),
-        Err(e) => return Err(e),
-    };
+    let root = access_in::<W, IndexMapOf<K, N, H, W>>(&*bytes)?.pos();
     match place_of::<K, N, H, W, Q>(&*bytes, root, key) {
         Some(place) => {
             set_value_at::<A, K, N, H, W>(bytes, root, place, value);

@@ -80,6 +80,8 @@ fn keys_are_found(rt: HostRuntime) -> Result<(), Fail> {
         None => 0,
     };
     assert_eq!(rt; (stored, first, set.len(), set.misplaced()), (3, 4, 3, 0));
+    let up_to = (set.misplaced_up_to(2), set.misplaced_up_to(3));
+    assert_eq!(rt; up_to, (None, Some(0)));
     let has = set.contains(&3);
     let none = set.contains(&2);
     let same = set.eq_index(set);

@@ -3,7 +3,7 @@ use Rattle.std.specs.Borrow.{Bor}
 use Rattle.std.specs.Int.{w32}
 use Rattle.rkyv_base.specs.Numbers.{unsigned}
 use Rattle.rkyv_base.specs.Scalar.{ScalarRepresents}
-use Rattle.rkyv_collections.specs.StdMap.{EntriesRepresent}
+use Rattle.rkyv_collections.specs.StdMaps.StdMap.{EntriesRepresent}
 use Rattle.bench_calls.specs.Archives.{number_spec}
 use Rattle.bench_calls.proofs.std_numbers.read_std_u32.Goals as goal
 

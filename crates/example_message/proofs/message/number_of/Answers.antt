@@ -10,34 +10,34 @@ use Rattle.example_message.proofs.message.number_of.Goals as goal
 
 pub of-requires : goal.of-requires
 of-requires c =
-    let same : c.in-Ok-Some.field-0 ≡ Some c.in-Ok-Some.pos = cc in
-    moved IsFields _ _ _ _ (sym (ap (λ a. a.now) c.new.ensures.0)) (sym c.new.ensures.1) (subst (λ o. IfSome o (IsFields c.args.message.now)) same c.in-Ok-Some.ensures.viewable)
+    let same : c.in_ok-pos.field-0 ≡ Some c.in-Some.pos = c.in-Some.is in
+    moved IsFields _ _ _ _ (sym (ap (λ a. a.now) c.new.ensures.0)) (sym c.new.ensures.1) (subst (λ o. IfSome o (IsFields c.args.message.now)) same c.in_ok-pos.ensures.viewable)
 
-pub returns-in-Ok-Some-clause-listed : goal.returns-in-Ok-Some-clause-listed
-returns-in-Ok-Some-clause-listed c = λ parts represents.
-    let same : c.in-Ok-Some.field-0 ≡ Some c.in-Ok-Some.pos = cc in
+pub returns-in-Some-clause-listed : goal.returns-in-Some-clause-listed
+returns-in-Some-clause-listed c = λ parts represents.
+    let same : c.in_ok-pos.field-0 ≡ Some c.in-Some.pos = c.in-Some.is in
     let at = read_at c.of.result _ _ _ c.of.ensures.view c.new.ensures in
-    number_told c.args.message.now c.args.field.now c.in-Ok-Some.pos _ _ (subst (ArePartsFields c.args.message.now c.args.part.now parts) same (c.in-Ok-Some.ensures.listed parts represents))
+    number_told c.args.message.now c.args.field.now c.in-Some.pos _ _ (subst (ArePartsFields c.args.message.now c.args.part.now parts) same (c.in_ok-pos.ensures.listed parts represents))
     (λ factor list there. c.field_number.ensures.listed factor list (moved (λ x q. FieldsRepresent factor x q list) _ _ _ _ (sym at.0) (sym at.1) there))
 
-pub returns-in-Ok-None-clause-listed : goal.returns-in-Ok-None-clause-listed
-returns-in-Ok-None-clause-listed c = λ parts represents.
-    let same : c.in-Ok-None.field-0 ≡ None = cc in
-    none_told c.args.message.now c.args.field.now _ (subst (ArePartsFields c.args.message.now c.args.part.now parts) same (c.in-Ok-None.ensures.listed parts represents))
+pub returns-in-None-clause-listed : goal.returns-in-None-clause-listed
+returns-in-None-clause-listed c = λ parts represents.
+    let same : c.in_ok-pos.field-0 ≡ None = c.in-None.is in
+    none_told c.args.message.now c.args.field.now _ (subst (ArePartsFields c.args.message.now c.args.part.now parts) same (c.in_ok-pos.ensures.listed parts represents))
 
-pub returns-in-Ok-Some-clause-found : goal.returns-in-Ok-Some-clause-found
-returns-in-Ok-Some-clause-found c =
-    let same : c.in-Ok-Some.field-0 ≡ Some c.in-Ok-Some.pos = cc in
+pub returns-in-Some-clause-found : goal.returns-in-Some-clause-found
+returns-in-Some-clause-found c =
+    let same : c.in_ok-pos.field-0 ≡ Some c.in-Some.pos = c.in-Some.is in
     let b = c.args.message.now in
     let field = c.args.field.now in
     let at = read_at c.of.result _ _ _ c.of.ensures.view c.new.ensures in
     let number = c.field_number.result in
-    subst (λ p. number ≡ option_map (number_at w32 b) (number_in_fields field b p)) (sym same ∙ c.in-Ok-Some.ensures.found)
+    subst (λ p. number ≡ option_map (number_at w32 b) (number_in_fields field b p)) (sym same ∙ c.in_ok-pos.ensures.found)
     (moved (λ x q. number ≡ option_map (number_at w32 x) (value_found number_spec field x q)) _ _ _ _ at.0 at.1 c.field_number.ensures.found)
 
-pub returns-in-Ok-None-clause-found : goal.returns-in-Ok-None-clause-found
-returns-in-Ok-None-clause-found c =
-    let same : c.in-Ok-None.field-0 ≡ None = cc in
+pub returns-in-None-clause-found : goal.returns-in-None-clause-found
+returns-in-None-clause-found c =
+    let same : c.in_ok-pos.field-0 ≡ None = c.in-None.is in
     let b = c.args.message.now in
     let none : Option ℕ = None in
-    subst (λ p. none ≡ option_map (number_at w32 b) (number_in_fields c.args.field.now b p)) (sym same ∙ c.in-Ok-None.ensures.found) refl
+    subst (λ p. none ≡ option_map (number_at w32 b) (number_in_fields c.args.field.now b p)) (sym same ∙ c.in_ok-pos.ensures.found) refl

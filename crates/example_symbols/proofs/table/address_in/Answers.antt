@@ -13,7 +13,7 @@ use Rattle.rkyv_keys.specs.Calls.{text_calls}
 use Rattle.rkyv_keys.specs.OfTexts.{same_bytes}
 use Rattle.rkyv_table.specs.Table.Positions.{pos_found}
 use Rattle.rkyv_table.proofs.Moved.{moved}
-use Rattle.rkyv_collections.specs.MapFormat.{hash_of}
+use Rattle.rkyv_collections.specs.Map.MapFormat.{hash_of}
 use Rattle.rkyv_collections.proofs.FoundValues.{none_listed, number_listed, read_at}
 use Rattle.example_symbols.specs.Table.{IsTable, Represents, SymbolsRepresent, address_found, address_spec, header_spec, name_spec}
 use Rattle.example_symbols.proofs.Found.{none_read, number_read}

@@ -1,14 +1,19 @@
+use Rattle.std.proofs.lemmas.Result.{err_from_is_err_and}
 use Rattle.example_symbols.specs.Table.{IsRefused, IsTable}
 use Rattle.example_symbols.proofs.table.check.Goals as goal
 
-pub returns-in-Ok-clause-checked : goal.returns-in-Ok-clause-checked
+pub returns-clause-checked : goal.returns-clause-checked
 unfolding IsTable
-returns-in-Ok-clause-checked c = c.in-Ok.ensures.root.0
+returns-clause-checked c = c.in_ok-access.ensures.root.0
 
-pub returns-in-Err-clause-checked : goal.returns-in-Err-clause-checked
+pub returns-in_err-access-clause-checked : goal.returns-in_err-access-clause-checked
 unfolding IsRefused
-returns-in-Err-clause-checked c = c.in-Err.ensures.root
+returns-in_err-access-clause-checked c =
+    let p = err_from_is_err_and c.from_residual.result c.from_residual.ensures.1 in
+    rw (p.1, p.2) c.in_err-access.ensures.root
 
-pub returns-in-Err-clause-accepts : goal.returns-in-Err-clause-accepts
+pub returns-in_err-access-clause-accepts : goal.returns-in_err-access-clause-accepts
 unfolding IsTable
-returns-in-Err-clause-accepts c = c.in-Err.ensures.accepts
+returns-in_err-access-clause-accepts c =
+    let p = err_from_is_err_and c.from_residual.result c.from_residual.ensures.1 in
+    rw p.1 c.in_err-access.ensures.accepts

@@ -1,6 +1,6 @@
 use Rattle.std.proofs.Common.{◌∙◌, ap}
 use Rattle.rkyv_table.specs.Table.Header.{len_at}
-use Rattle.rkyv_collections.specs.MapSpec.{map_spec}
+use Rattle.rkyv_collections.specs.Map.MapSpec.{map_spec}
 use Rattle.ffi_calls.proofs.First.{view_represents}
 use Rattle.ffi_calls.proofs.archives.pair_count.Goals as goal
 

@@ -2,11 +2,11 @@ use Rattle.std.proofs.Common.{◌≡◌, ◌∙◌, ℕ, ◌-◌, List, ap, arit
 use Rattle.rkyv_scan.specs.Hash.{fx_hasher, low_halves}
 use Rattle.rkyv_base.specs.Scalar.{ScalarRepresents}
 use Rattle.rkyv_collections.specs.Map.{hash_at}
-use Rattle.rkyv_collections.specs.MapFormat.{MapRepresents}
-use Rattle.rkyv_collections.specs.MapSpec.{map_spec}
+use Rattle.rkyv_collections.specs.Map.MapFormat.{MapRepresents}
+use Rattle.rkyv_collections.specs.Map.MapSpec.{map_spec}
 use Rattle.ffi_calls.proofs.Writing.{set_kept, set_told}
-use Rattle.rkyv_collections.specs.InPlace.{with_first}
-use Rattle.rkyv_collections.specs.ListedLookups.{first_pair}
+use Rattle.rkyv_collections.specs.Map.InPlace.{with_first}
+use Rattle.rkyv_collections.specs.Map.ListedLookups.{first_pair}
 use Rattle.ffi_calls.proofs.First.{first_set}
 use Rattle.ffi_calls.proofs.lookup.set_in.Goals as goal
 

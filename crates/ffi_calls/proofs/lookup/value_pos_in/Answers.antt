@@ -9,10 +9,10 @@ use Rattle.rkyv_table.specs.Table.Positions.{pos_found}
 use Rattle.rkyv_base.specs.View.{pos_of_found}
 use Rattle.rkyv_table.proofs.Moved.{moved}
 use Rattle.rkyv_collections.proofs.SealedMap.{as_read}
-use Rattle.rkyv_collections.specs.ListedLookups.{first_value}
+use Rattle.rkyv_collections.specs.Map.ListedLookups.{first_value}
 use Rattle.rkyv_collections.specs.Map.{hash_at, map_bytes, map_pos}
-use Rattle.rkyv_collections.specs.MapFormat.{MapRepresents}
-use Rattle.rkyv_collections.specs.MapSpec.{map_spec}
+use Rattle.rkyv_collections.specs.Map.MapFormat.{MapRepresents}
+use Rattle.rkyv_collections.specs.Map.MapSpec.{map_spec}
 use Rattle.ffi_calls.specs.Archives.{hash_by, root}
 use Rattle.ffi_calls.proofs.First.{found_placed, found_viewable, view_represents}
 use Rattle.ffi_calls.proofs.lookup.value_pos_in.Goals as goal

@@ -1,15 +1,18 @@
 use Rattle.std.proofs.Common.{◌∙◌, ap}
+use Rattle.std.proofs.lemmas.Result.{err_from_is_err_and}
 use Rattle.rkyv_table.specs.Table.Header.{len_at}
 use Rattle.rkyv_dict.specs.Archives.{IsMapArchive, MapArchiveFails, pair_count}
 use Rattle.rkyv_dict.proofs.Roots.{read_at}
 use Rattle.rkyv_dict.proofs.archives.check_map.Goals as goal
 
-pub returns-in-Ok : goal.returns-in-Ok
+pub returns : goal.returns
 unfolding IsMapArchive pair_count
-returns-in-Ok g c =
+returns g c =
     let len = len_at g.W.Word.word in
-    (c.in-Ok.ensures.root.0, c.len.ensures ∙ ap (λ v. len v.archive.now v.pos) c.of.ensures.view ∙ read_at len c.in-Ok.root _ _ c.in-Ok.ensures.root.1)
+    (c.in_ok-root.ensures.root.0, c.len.ensures ∙ ap (λ v. len v.archive.now v.pos) c.of.ensures.view ∙ read_at len c.in_ok-root.root _ _ c.in_ok-root.ensures.root.1)
 
-pub returns-in-Err : goal.returns-in-Err
+pub returns-in_err-root : goal.returns-in_err-root
 unfolding MapArchiveFails
-returns-in-Err g c = c.in-Err.ensures.root
+returns-in_err-root g c =
+    let p = err_from_is_err_and c.from_residual.result c.from_residual.ensures.1 in
+    rw (p.1, p.2) c.in_err-root.ensures.root

@@ -1,5 +1,5 @@
 use Rattle.std.proofs.Common.{◌∙◌}
-use Rattle.rkyv_collections.specs.Misplaced.{map_misplaced}
+use Rattle.rkyv_collections.specs.Map.Misplaced.{map_misplaced}
 use Rattle.rkyv_dict.specs.Archives.{hash, keys_misplaced}
 use Rattle.rkyv_dict.proofs.Roots.{read_at}
 use Rattle.rkyv_dict.proofs.archives.count_misplaced.Goals as goal

@@ -1,6 +1,6 @@
 use Rattle.std.proofs.Common.{refl}
 use Rattle.rkyv_collections.specs.Map.{map_bytes, map_pos}
-use Rattle.rkyv_collections.specs.MapFormat.{hash_of}
+use Rattle.rkyv_collections.specs.Map.MapFormat.{hash_of}
 use Rattle.rkyv_collections.proofs.StdFinding.{asked_none, asked_value}
 use Rattle.rkyv_collections.proofs.map.ArchivedHashMap.answers_as.Goals as goal
 

@@ -1,5 +1,7 @@
+use Rattle.std.proofs.Common.{refl}
+use Rattle.rkyv_base.specs.View.{pos_of_found}
 use Rattle.rkyv_collections.specs.Map.{hash_at}
-use Rattle.rkyv_collections.proofs.FoundEntries.{entry_found, first_by_key, found_by_key}
+use Rattle.rkyv_collections.proofs.FoundEntries.{accepted_by_key, entry_found, first_by_key, found_by_key}
 use Rattle.rkyv_collections.proofs.map.ArchivedHashMap.find.Goals as goal
 
 pub returns-clause-found : goal.returns-clause-found
@@ -14,6 +16,7 @@ returns-clause-found g c =
     let got = c.get_with.ensures in
     record {
       walked = entry_found c.args.self t at result got.walked;
+      accepted = (pos_of_found result, refl, accepted_by_key c.args.self t at _ post _ _ c.hash_value-hash.ensures result got (λ entry r e. e.1));
       answer = found_by_key c.args.self t at _ post _ _ c.hash_value-hash.ensures result got.answer (λ entry r e. e.1);
       first = first_by_key c.args.self t at _ post _ _ c.hash_value-hash.ensures result got.first (λ entry r e. e.1) (hash_at g.H.KeyHasher.hasher g.K.KeyElement.key_calls);
     }

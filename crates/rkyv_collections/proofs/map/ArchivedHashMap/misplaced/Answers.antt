@@ -26,7 +26,7 @@ returns g c =
     misplaced generic_kind (table_controls w a p) (cap_at w a p) (len_at w a p) (λ i. hash_of (item_at w s.size a p i)) (λ i j. same (item_at w s.size a p i) (item_at w s.size a p j)) in
     let here : (x : View (Entry g.row.K.Denot g.row.V.Denot)) → IsItem t x → bytes_of x ≡ b =
     λ x item. ap (λ (a : Bor (List ℕ)). a.now) (item.1.archive ∙ c.table.ensures.at.0) in
-    c.misplaced_by.ensures hash_of same
+    c.misplaced_by.ensures.counts hash_of same
     (λ x h item e. e.1 ∙ ap (λ a. key_hash a x.pos) (here x item))
     (λ x y r own other e. e.2 ∙ ap (λ a. same_key a x.pos (bytes_of y) y.pos) (here x own) ∙ ap (λ a. same_key b x.pos a y.pos) (here y other))
     ∙ ap (λ (a : Bor (List ℕ)). of a.now (table_pos t)) c.table.ensures.at.0

@@ -4,7 +4,7 @@ use Rattle.rkyv_base.specs.Pairs.{written_as}
 use Rattle.rkyv_table.specs.Table.Counting.{YieldsOtherCount}
 use Rattle.rkyv_table.specs.Table.Serializing.{WriteItemsFails, WroteItems}
 use Rattle.rkyv_table.specs.Table.ItemValues.{lent_pairs}
-use Rattle.rkyv_collections.specs.MapFormat.{hash_of, map_format}
+use Rattle.rkyv_collections.specs.Map.MapFormat.{hash_of, map_format}
 use Rattle.rkyv_collections.proofs.HashedPairs.{answers_map}
 use Rattle.rkyv_collections.proofs.map.ArchivedHashMap.serialize_from_iter.Goals as goal
 

@@ -2,9 +2,9 @@ use Rattle.std.proofs.Common.{ap, false, refl, subst, true}
 use Rattle.rkyv_scan.specs.Hash.{hash_of_calls}
 use Rattle.rkyv_base.specs.Scalar.{ScalarRepresents}
 use Rattle.rkyv_base.specs.Lemmas.Scalar.{scalar_local}
-use Rattle.rkyv_collections.specs.InPlace.{SetsFound}
+use Rattle.rkyv_collections.specs.Map.InPlace.{SetsFound}
 use Rattle.rkyv_collections.specs.Map.{hash_at}
-use Rattle.rkyv_collections.specs.MapSpec.{map_spec}
+use Rattle.rkyv_collections.specs.Map.MapSpec.{map_spec}
 use Rattle.rkyv_collections.proofs.FirstWrites.{first_behind, none_behind}
 use Rattle.rkyv_collections.proofs.NestedWrites.{unwritten, value_nested_at}
 use Rattle.rkyv_collections.proofs.SealedMap.{tells_more}

@@ -1,7 +1,7 @@
 use Rattle.rkyv_base.specs.Empty.{unit_spec, unit_represents}
-use Rattle.rkyv_collections.specs.MapFormat.{hash_of}
+use Rattle.rkyv_collections.specs.Map.MapFormat.{hash_of}
 use Rattle.rkyv_collections.specs.Set.{set_bytes, set_pos}
-use Rattle.rkyv_collections.specs.StdEquality.{FindsPair}
+use Rattle.rkyv_collections.specs.StdMaps.StdEquality.{FindsPair}
 use Rattle.rkyv_collections.proofs.StdComparing.{Decides}
 use Rattle.rkyv_collections.proofs.set.ArchivedHashSet.eq_std.Given as goal
 

@@ -1,6 +1,6 @@
 use Rattle.rkyv_base.specs.Empty.{unit_format, unit_spec}
 use Rattle.rkyv_table.proofs.UnitItems.{answers_set}
-use Rattle.rkyv_collections.specs.MapFormat.{hash_of, map_format}
+use Rattle.rkyv_collections.specs.Map.MapFormat.{hash_of, map_format}
 use Rattle.rkyv_collections.proofs.set.ArchivedHashSet.serialize_from_iter.Goals as goal
 
 pub returns : goal.returns

@@ -4,15 +4,15 @@ use Rattle.rkyv_base.specs.Access.{Accepted}
 use Rattle.rkyv_base.specs.Lemmas.Entry.{entry_element}
 use Rattle.rkyv_base.specs.View.{bytes_of, pos_of}
 use Rattle.rkyv_table.specs.Lemmas.TableLaws.{table_element}
-use Rattle.rkyv_collections.specs.MapSpec.{map_spec}
-use Rattle.rkyv_collections.specs.MapFormat.{hash_of}
-use Rattle.rkyv_collections.specs.StdLookups.{FindsAsked}
+use Rattle.rkyv_collections.specs.Map.MapSpec.{map_spec}
+use Rattle.rkyv_collections.specs.Map.MapFormat.{hash_of}
+use Rattle.rkyv_collections.specs.StdMaps.StdLookups.{FindsAsked}
 use Rattle.rkyv_collections.proofs.Headline.{root_keeps}
 use Rattle.rkyv_collections.proofs.StdFinding.{seen_looked_up}
 use Rattle.rkyv_collections.proofs.std_maps.round_trip.lookups_agree.Goals as goal
 
-pub returns : goal.returns
-returns g c =
+pub returns-clause-same : goal.returns-clause-same
+returns-clause-same g c =
     let key = c.args.key.now in
     let met = g.met.A in
     let w = g.W.Word.word in
@@ -34,7 +34,7 @@ returns g c =
     c.answers_as.ensures.1 (subst (λ view. told (bytes_of view) (pos_of view)) (sym c.of.ensures.view) viewable)
 
 -- the written archive is accepted
-pub returns-in-Err-access_in : goal.returns-in-Err-access_in
-returns-in-Err-access_in g c =
+pub returns-in-Err-access_in-clause-same : goal.returns-in-Err-access_in-clause-same
+returns-in-Err-access_in-clause-same g c =
     let s = map_spec g.W.Word.word g.A.Archived.HasSpec.spec g.B.Archived.HasSpec.spec in
     c.in-Err-access_in.ensures.accepts (subst (Accepted g.W.Width.LIMIT s) (sym c.as_slice.ensures.value) c.in-Ok.ensures.0)

@@ -4,8 +4,8 @@ use Rattle.std.specs.Iterator.{Drains, YieldsFirstBy}
 use Rattle.std.specs.Slice.Iter.{iter_rest}
 use Rattle.rkyv_table.specs.Table.Counting.{YieldsOtherCount}
 use Rattle.rkyv_scan.specs.Hash.{fx_hasher, low_halves}
-use Rattle.rkyv_index.specs.IndexFormat.{hash_of}
-use Rattle.rkyv_index.specs.SetFormat.{index_set_format}
+use Rattle.rkyv_index.specs.Index.IndexFormat.{hash_of}
+use Rattle.rkyv_index.specs.Set.SetFormat.{index_set_format}
 use Rattle.rkyv_table.specs.Table.ItemValues.{lent_keys}
 use Rattle.rkyv_table.specs.declared.table.list_inputs.Refs.{Refs}
 use Rattle.rkyv_table.proofs.Listing.{all_came, answers_listed, no_other_came}

@@ -5,8 +5,8 @@ use Rattle.std.specs.Slice.Iter.{iter_rest}
 use Rattle.rkyv_table.specs.Table.Counting.{YieldsOtherCount}
 use Rattle.rkyv_scan.specs.Hash.{fx_hasher, low_halves}
 use Rattle.rkyv_table.specs.Table.ItemValues.{lent_pairs}
-use Rattle.rkyv_index.specs.IndexFormat.{hash_of}
-use Rattle.rkyv_index.specs.IndexFormat.{index_format}
+use Rattle.rkyv_index.specs.Index.IndexFormat.{hash_of}
+use Rattle.rkyv_index.specs.Index.IndexFormat.{index_format}
 use Rattle.rkyv_table.specs.declared.table.list_inputs.PairRefs.{PairRefs}
 use Rattle.rkyv_table.proofs.Listing.{all_came, answers_listed, no_other_came}
 use Rattle.rkyv_index.proofs.lists.OrderedPairsSerialize.serialize.Goals as goal

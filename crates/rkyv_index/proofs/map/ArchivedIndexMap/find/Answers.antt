@@ -1,6 +1,6 @@
-use Rattle.std.proofs.Common.{refl, subst, sym, ◌∙◌, ◌<◌}
+use Rattle.std.proofs.Common.{None, refl, subst, sym, ◌∙◌, ◌<◌}
 use Rattle.rkyv_index.specs.Index.{IsKeyIn, hash_at, index_len}
-use Rattle.rkyv_index.proofs.Lookups.{item_place}
+use Rattle.rkyv_index.proofs.Lookups.{counts_place, item_place}
 use Rattle.rkyv_index.proofs.PlacesFound.{gets_place, place_found, reads_few}
 use Rattle.rkyv_index.proofs.map.ArchivedIndexMap.find.Goals as goal
 
@@ -46,4 +46,17 @@ returns-clause-found g c =
 pub returns-clause-bounded : goal.returns-clause-bounded
 returns-clause-bounded g c =
     reads_few c.args.self g.W.Place.Scalar.encoding g.met.W.Place.Scalar.laws g.met.W.Width.place
-    c.table-table.result c.table-table.ensures.at _ _ c.find_place.ensures.bounded
+    c.table-table.result c.table-table.ensures.at _ _ c.find_place.ensures.counts.bounded
+
+pub returns-clause-counted : goal.returns-clause-counted
+returns-clause-counted g c = λ accept answers.
+    let w = g.W.Word.word in
+    let k = g.K.HasSpec.spec in
+    let v = g.V.HasSpec.spec in
+    let m = c.args.self in
+    counts_place m g.W.Place.Scalar.encoding g.met.W.Place.Scalar.laws g.met.W.Width.place c.table-table.result c.table-table.ensures.at
+    _ (goal.F-post g c.args.cmp c.args.key)
+    (λ h r x.
+    let there = subst (λ n. IsKeyIn w k v m.view n x.2.0) x.1 x.2.1 in
+    (x.2.0, record { below = there.below; at = there.at; viewable = there.viewable }, x.2.2))
+    None accept answers c.hash_value-hash.result _ _ _ c.hash_value-hash.ensures c.find_place.ensures.counts.counted

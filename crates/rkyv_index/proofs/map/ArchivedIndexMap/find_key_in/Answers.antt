@@ -3,7 +3,7 @@ use Rattle.std.specs.Prelude.{IfSome}
 use Rattle.std.proofs.lemmas.Option.{IfSome_then}
 use Rattle.rkyv_table.specs.Table.Header.{len_at}
 use Rattle.rkyv_index.specs.Index.{IsStoredAt, IsPlace, hash_at}
-use Rattle.rkyv_index.specs.IndexFormat.{hash_of}
+use Rattle.rkyv_index.specs.Index.IndexFormat.{hash_of}
 use Rattle.rkyv_index.proofs.SealedIndex.{as_read, finds_first_key_read, finds_key_read}
 use Rattle.rkyv_index.proofs.map.ArchivedIndexMap.find_key_in.Goals as goal
 

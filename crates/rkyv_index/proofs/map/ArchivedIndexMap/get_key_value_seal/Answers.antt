@@ -1,5 +1,5 @@
 use Rattle.std.proofs.Common.{subst}
-use Rattle.rkyv_index.specs.SealedIndex.{SealsPair}
+use Rattle.rkyv_index.specs.Index.SealedIndex.{SealsPair}
 use Rattle.rkyv_index.proofs.map.ArchivedIndexMap.get_key_value_seal.Goals as goal
 
 pub returns-clause-answer : goal.returns-clause-answer

@@ -1,5 +1,5 @@
 use Rattle.std.proofs.Common.{subst}
-use Rattle.rkyv_index.specs.SealedIndex.{SealsValue}
+use Rattle.rkyv_index.specs.Index.SealedIndex.{SealsValue}
 use Rattle.rkyv_index.proofs.map.ArchivedIndexMap.get_seal_with.Goals as goal
 
 pub returns-clause-answer : goal.returns-clause-answer

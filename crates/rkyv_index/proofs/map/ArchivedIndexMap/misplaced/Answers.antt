@@ -1,26 +1,10 @@
-use Rattle.std.proofs.Common.{subst, ◌≡◌, ◌+◌, ◌-◌, ◌<◌, ◌≤◌, ◌∙◌, ap, arith, sym, true, false, Bool, List, ℕ, filter, length}
-use Rattle.std.specs.List.{range_with_len}
-use Rattle.rkyv_index.specs.Equality.{TellsRepeated, is_misplaced, is_wrapped}
+use Rattle.std.proofs.Common.{subst, ◌≡◌, ◌<◌, ◌∙◌, ap, arith, sym, Bool, ℕ}
+use Rattle.rkyv_index.specs.Index.Equality.{TellsRepeated, is_misplaced, is_repeated}
 use Rattle.rkyv_index.specs.Index.{hash_at, index_len, index_of}
 use Rattle.rkyv_index.specs.declared.map.ArchivedIndexMap.{ArchivedIndexMap}
-use Rattle.rkyv_index.proofs.Checking.{all_left, filter_skip, filter_step, none_left}
+use Rattle.rkyv_index.proofs.Counted.{all_told, left_first, none_more, one_more}
 use Rattle.rkyv_index.proofs.map.ArchivedIndexMap.misplaced.Goals.{then-is_misplaced, else-is_misplaced}
 use Rattle.rkyv_index.proofs.map.ArchivedIndexMap.misplaced.Goals as goal
-
--- at first, all indices remain
-left_first : (P : ℕ → Bool) (n : ℕ) → length (filter P (range_with_len 0 (n - 0))) ≡ length (filter P (range_with_len 0 n))
-left_first P n = ap (λ (xs : List ℕ). length (filter P xs)) (all_left n)
-
--- the next index is counted or skipped, and at the end none remains
-module _ (P : ℕ → Bool) (count i n all : ℕ) (told : count + length (filter P (range_with_len i (n - i))) ≡ all) where
-  one_more : (next : ℕ) → i < n → P i ≡ true → next ≡ count + 1 → next + length (filter P (range_with_len (i + 1) (n - (i + 1)))) ≡ all
-  one_more next below passes e = let s = filter_step P i n below passes in omega (arith, s, e, told)
-
-  none_more : (next : ℕ) → i < n → P i ≡ false → next ≡ count → next + length (filter P (range_with_len (i + 1) (n - (i + 1)))) ≡ all
-  none_more next below fails e = let s = filter_skip P i n below fails in omega (arith, s, e, told)
-
-  all_told : n ≤ i → count ≡ all
-  all_told end = let none = ap (λ (xs : List ℕ). length (filter P xs)) (none_left i n end) in omega (arith, told, none)
 
 pub loop-place-init : goal.loop-place-init
 loop-place-init g c =
@@ -28,7 +12,7 @@ loop-place-init g c =
     let n : ℕ = index_len c.args.self in
     let key_hash = hash_at g.H.KeyHasher.hasher g.K.KeyElement.key_calls in
     let e = left_first (is_misplaced m key_hash g.K.ElementEq.same) n in
-    let f = left_first (is_wrapped m key_hash g.K.ElementEq.same) n in
+    let f = left_first (is_repeated m key_hash g.K.ElementEq.same) n in
     record { few = omega arith; told = omega (arith, e); repeated = λ homes written. omega (arith, f) }
 
 pub loop-place-preserved : goal.loop-place-preserved
@@ -39,7 +23,7 @@ loop-place-preserved g c =
     let key_hash = hash_at g.H.KeyHasher.hasher g.K.KeyElement.key_calls in
     let same = g.K.ElementEq.same in
     let P : ℕ → Bool = is_misplaced m key_hash same in
-    let R : ℕ → Bool = is_wrapped m key_hash same in
+    let R : ℕ → Bool = is_repeated m key_hash same in
     let i : ℕ = c.loop-place.place in
     let end : c.len-place-end.result ≡ n = c.len-place-end.ensures in
     let test = c.loop-place-test.true in

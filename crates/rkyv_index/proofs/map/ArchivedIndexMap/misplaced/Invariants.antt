@@ -1,6 +1,6 @@
 use Rattle.std.proofs.Common.{List, ℕ, ◌≡◌, ◌≤◌, ◌+◌, ◌-◌, filter, length}
 use Rattle.std.specs.List.{range_with_len}
-use Rattle.rkyv_index.specs.Equality.{index_misplaced, index_repeated, is_misplaced, is_wrapped}
+use Rattle.rkyv_index.specs.Index.Equality.{index_misplaced, index_repeated, is_misplaced, is_repeated}
 use Rattle.rkyv_index.specs.Index.{IsWritten, hash_at, index_len, index_of}
 use Rattle.rkyv_index.proofs.map.ArchivedIndexMap.misplaced.Given as goal
 
@@ -15,5 +15,5 @@ invariant-loop-place g l =
       few : l.count ≤ l.place;
       told : l.count + length (filter (is_misplaced m key_hash same) (range_with_len l.place (n - l.place))) ≡ index_misplaced m key_hash same;
       repeated : (homes : List ℕ) → IsWritten m key_hash homes
-          → l.count + length (filter (is_wrapped m key_hash same) (range_with_len l.place (n - l.place))) ≡ index_repeated m key_hash same;
+          → l.count + length (filter (is_repeated m key_hash same) (range_with_len l.place (n - l.place))) ≡ index_repeated m key_hash same;
     }

@@ -4,8 +4,8 @@ use Rattle.rkyv_base.specs.Lemmas.Entry.{entry_element}
 use Rattle.rkyv_base.specs.ElementSpec.{Viewable}
 use Rattle.rkyv_table.specs.Table.Header.{len_at}
 use Rattle.rkyv_index.specs.Index.{index_len, key_pos}
-use Rattle.rkyv_index.specs.SealedIndex.{IsPairPos}
-use Rattle.rkyv_index.specs.ValueWrites.{pair_at}
+use Rattle.rkyv_index.specs.Index.SealedIndex.{IsPairPos}
+use Rattle.rkyv_index.specs.Index.ValueWrites.{pair_at}
 use Rattle.rkyv_index.proofs.Held.{entry_viewable}
 use Rattle.rkyv_table.proofs.Moved.{moved}
 use Rattle.rkyv_index.proofs.SealedIndex.{as_read}

@@ -5,7 +5,7 @@ use Rattle.std.proofs.lemmas.Int.{to_z-of_z}
 use Rattle.std.proofs.lemmas.Result.{err_from_is_err_and}
 use Rattle.rkyv_table.specs.Table.Header.{HeaderOverflows, IsHeader}
 use Rattle.rkyv_table.specs.Controls.Numbers.{capacity}
-use Rattle.rkyv_index.specs.IndexHeader.{IndexResolver}
+use Rattle.rkyv_index.specs.Index.IndexHeader.{IndexResolver}
 use Rattle.rkyv_index.proofs.Headers.{overflow_of, header_of}
 use Rattle.rkyv_index.proofs.map.ArchivedIndexMap.resolve_from_len.Goals as goal
 

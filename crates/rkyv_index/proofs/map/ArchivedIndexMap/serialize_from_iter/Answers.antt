@@ -3,8 +3,8 @@ use Rattle.std.specs.Iterator.{Drains}
 use Rattle.rkyv_base.specs.declared.adapter.EntryAdapter.{EntryAdapter}
 use Rattle.rkyv_table.specs.Table.Counting.{YieldsOtherCount}
 use Rattle.rkyv_table.specs.Table.Serializing.{HasCapacity}
-use Rattle.rkyv_index.specs.Writing.{made_of}
-use Rattle.rkyv_index.specs.IndexFormat.{hash_of}
+use Rattle.rkyv_index.specs.Index.Writing.{made_of}
+use Rattle.rkyv_index.specs.Index.IndexFormat.{hash_of}
 use Rattle.rkyv_index.proofs.SeenRow.{answers_items}
 use Rattle.rkyv_index.proofs.map.ArchivedIndexMap.serialize_from_iter.Goals as goal
 

@@ -1,7 +1,7 @@
 use Rattle.std.proofs.Common.{◌∙◌, ◌+◌, ap, inl, inr, subst, sym, List, ℕ}
 use Rattle.std.proofs.lemmas.Result.{err_from_is_err_and}
 use Rattle.rkyv_table.specs.Table.Places.{AllHold, FirstFails}
-use Rattle.rkyv_index.specs.IndexLayout.{entry_at}
+use Rattle.rkyv_index.specs.Index.IndexLayout.{entry_at}
 use Rattle.rkyv_index.proofs.Checking.{entry_aligned, entry_next, places_step}
 use Rattle.rkyv_index.proofs.map.check.check_entries.Goals as goal
 

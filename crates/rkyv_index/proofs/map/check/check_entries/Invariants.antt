@@ -2,7 +2,7 @@ use Rattle.std.proofs.Common.{◌≡◌, ◌≤◌, ◌-◌, ℕ}
 use Rattle.std.specs.List.{range_with_len}
 use Rattle.rkyv_base.specs.declared.errors.VerifyError.{VerifyError}
 use Rattle.rkyv_table.specs.Table.Places.{AllHold, FirstFails}
-use Rattle.rkyv_index.specs.IndexLayout.{entry_at, places_of}
+use Rattle.rkyv_index.specs.Index.IndexLayout.{entry_at, places_of}
 use Rattle.rkyv_index.proofs.map.check.check_entries.Given as goal
 
 -- `at` is the position of the next entry. The result for the remaining entries is that for all

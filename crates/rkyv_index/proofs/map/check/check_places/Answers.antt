@@ -9,7 +9,7 @@ use Rattle.rkyv_table.specs.Table.Layout.{table_spec}
 use Rattle.rkyv_table.specs.Table.Header.{len_at}
 use Rattle.rkyv_table.specs.Table.Positions.{item_positions}
 use Rattle.rkyv_table.specs.Table.RawItems.{AllValid, ItemsLeft}
-use Rattle.rkyv_index.specs.IndexLayout.{FirstNotBelow, PlacesBelow}
+use Rattle.rkyv_index.specs.Index.IndexLayout.{FirstNotBelow, PlacesBelow}
 use Rattle.rkyv_index.specs.Lemmas.PlaceSpecs.{places_viewable}
 use Rattle.rkyv_index.proofs.Checking.{view_there}
 use Rattle.rkyv_index.proofs.map.check.check_places.Goals as goal

@@ -4,7 +4,7 @@ use Rattle.rkyv_base.specs.declared.errors.VerifyError.{VerifyError}
 use Rattle.rkyv_table.specs.Table.Header.{len_at}
 use Rattle.rkyv_table.specs.Table.RawItems.{AllValid}
 use Rattle.rkyv_table.specs.Table.Positions.{item_positions}
-use Rattle.rkyv_index.specs.IndexLayout.{FirstNotBelow, PlacesBelow}
+use Rattle.rkyv_index.specs.Index.IndexLayout.{FirstNotBelow, PlacesBelow}
 use Rattle.rkyv_index.proofs.map.check.check_places.Given as goal
 
 -- the remaining indices are inside the archive. The result for them is that for all

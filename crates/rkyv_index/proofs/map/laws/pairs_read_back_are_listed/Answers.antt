@@ -4,8 +4,8 @@ use Rattle.rkyv_base.specs.Entry.{entry_spec}
 use Rattle.rkyv_base.specs.Lemmas.Entry.{entry_element}
 use Rattle.rkyv_keys.specs.Lemmas.OfEntries.{entry_alone}
 use Rattle.rkyv_table.specs.Table.Header.{len_at}
-use Rattle.rkyv_index.specs.Reading.{pairs_equal}
-use Rattle.rkyv_index.specs.ValueWrites.{pair_at}
+use Rattle.rkyv_index.specs.Index.Reading.{pairs_equal}
+use Rattle.rkyv_index.specs.Index.ValueWrites.{pair_at}
 use Rattle.rkyv_index.proofs.Held.{entry_viewable}
 use Rattle.rkyv_index.proofs.ReadPairs.{equal_lists}
 use Rattle.rkyv_index.proofs.map.laws.pairs_read_back_are_listed.Goals as goal

@@ -1,6 +1,6 @@
 use Rattle.std.proofs.Common.{◌∙◌, ap}
 use Rattle.std.specs.Slice.Iter.{iter_rest}
-use Rattle.rkyv_index.specs.IndexFormat.{places_from}
+use Rattle.rkyv_index.specs.Index.IndexFormat.{places_from}
 use Rattle.rkyv_index.proofs.IndexSteps.{answers_places}
 use Rattle.rkyv_index.proofs.map.write.write_places.Goals as goal
 

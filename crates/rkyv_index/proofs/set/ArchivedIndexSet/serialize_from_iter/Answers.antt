@@ -1,6 +1,6 @@
 use Rattle.rkyv_base.specs.Empty.{unit_format, unit_spec}
 use Rattle.rkyv_table.proofs.UnitItems.{answers_set}
-use Rattle.rkyv_index.specs.IndexFormat.{hash_of, index_format}
+use Rattle.rkyv_index.specs.Index.IndexFormat.{hash_of, index_format}
 use Rattle.rkyv_index.proofs.set.ArchivedIndexSet.serialize_from_iter.Goals as goal
 
 pub returns : goal.returns

@@ -10,7 +10,7 @@ use Rattle.rkyv_base.specs.Lemmas.Entry.{entry_element}
 use Rattle.rkyv_keys.specs.Lemmas.OfEntries.{valid_key}
 use Rattle.rkyv_table.specs.Table.Header.{len_at}
 use Rattle.rkyv_table.specs.Table.ItemValues.{with_units}
-use Rattle.rkyv_index.specs.ValueWrites.{pair_at}
+use Rattle.rkyv_index.specs.Index.ValueWrites.{pair_at}
 use Rattle.rkyv_index.proofs.Held.{entry_viewable}
 use Rattle.rkyv_index.proofs.ReadPairs.{equal_lists}
 use Rattle.rkyv_index.proofs.set.laws.items_read_back_are_listed.Goals as goal

@@ -8,7 +8,7 @@ use Rattle.rkyv_table.specs.Controls.Placing.{walk}
 use Rattle.rkyv_table.specs.Table.Positions.{IsWalked, table_controls}
 use Rattle.rkyv_table.specs.Table.Reading.{IsItem, table_bytes, table_pos}
 use Rattle.rkyv_table.proofs.MisplacedIn.{TellsMisplaced, bucket_told, counted_none, counted_one}
-use Rattle.rkyv_table.proofs.RawWalks.{walked_all}
+use Rattle.rkyv_table.proofs.RawWalks.{walk_count, walked_all}
 use Rattle.rkyv_table.proofs.Walks.{walk_small}
 use Rattle.rkyv_table.proofs.table.ArchivedHashTable.misplaced_by.Goals as goal
 use Rattle.rkyv_table.proofs.table.ArchivedHashTable.misplaced_by.Goals.{After-is_in_another_bucket, In-Some}
@@ -24,9 +24,11 @@ loop-bucket-init g c =
     ∙ ap (λ t. walk (table_controls w (table_bytes t) (table_pos t)) (cap_at w (table_bytes t) (table_pos t))) c.of-items.ensures.table in
     let l = ap length e in
     let small = walk_small (table_controls w b p) (cap_at w b p) in
+    let all = walk_count w s g.T.HasSpec.laws b p c.args.self.valid in
     record {
       walked = subst (All (IsWalked w b p)) (sym e) (walked_all w s g.T.HasSpec.laws b p);
       counted = omega arith;
+      few = omega (arith, l, all);
       told = λ hash_of same hash_as same_as.
           zero-add _ ∙ ap (λ xs. length (filter (bucket_misplaced generic_kind c.args.self hash_of same) xs)) e;
     }
@@ -77,6 +79,7 @@ loop-bucket-preserved-then-is_in_another_bucket g c =
     record {
       walked = rest g at.In-Some;
       counted = omega arith;
+      few = omega (arith, l, c.loop-bucket.invariant.few);
       told = counted_one generic_kind c.args.self _ _ c.loop-bucket.count c.in-Some.bucket c.loop-bucket.bucket-iterator c.next.new.self c.in-Some.ensures.steps c.is_in_another_bucket.result
           (tells g at.After-is_in_another_bucket) c.loop-bucket.invariant.told c.if-is_in_another_bucket.true;
     }
@@ -89,13 +92,17 @@ loop-bucket-preserved g c =
     record {
       walked = rest g at.In-Some;
       counted = omega arith;
+      few = omega (arith, l, c.loop-bucket.invariant.few);
       told = counted_none generic_kind c.args.self _ _ c.loop-bucket.count c.in-Some.bucket c.loop-bucket.bucket-iterator c.next.new.self c.in-Some.ensures.steps c.is_in_another_bucket.result
           (tells g at.After-is_in_another_bucket) c.loop-bucket.invariant.told c.if-is_in_another_bucket.false;
     }
 
-pub returns : goal.returns
-returns g c = λ hash_of same hash_as same_as.
+pub returns-clause-counts : goal.returns-clause-counts
+returns-clause-counts g c = λ hash_of same hash_as same_as.
     let Q = bucket_misplaced generic_kind c.args.self hash_of same in
     let n = ap (λ xs. length (filter Q xs)) c.in-None.ensures.steps.0 in
     let told = c.loop-bucket.invariant.told hash_of same hash_as same_as in
     omega (arith, n, told)
+
+pub returns-clause-within : goal.returns-clause-within
+returns-clause-within g c = omega (arith, c.loop-bucket.invariant.few)

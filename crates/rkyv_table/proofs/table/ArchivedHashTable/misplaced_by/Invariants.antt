@@ -2,6 +2,7 @@ use Rattle.std.proofs.Common.{◌+◌, ◌≤◌, length}
 use Rattle.std.specs.List.{All}
 use Rattle.rkyv_scan.specs.Groups.{generic_kind}
 use Rattle.rkyv_table.specs.Table.Header.{cap_at}
+use Rattle.rkyv_table.specs.Table.MisplacedIn.{table_len}
 use Rattle.rkyv_table.specs.Table.Positions.{IsWalked}
 use Rattle.rkyv_table.specs.Table.Reading.{table_bytes, table_pos}
 use Rattle.rkyv_table.proofs.MisplacedIn.{Counting}
@@ -11,5 +12,6 @@ abbrev pub invariant-loop-bucket : goal.invariant-loop-bucket
 invariant-loop-bucket g l = record {
   walked : All (IsWalked g.W.Word.word (table_bytes l.fn.self) (table_pos l.fn.self)) l.bucket-iterator;
   counted : l.count + length l.bucket-iterator ≤ cap_at g.W.Word.word (table_bytes l.fn.self) (table_pos l.fn.self);
+  few : l.count + length l.bucket-iterator ≤ table_len l.fn.self;
   told : Counting generic_kind l.fn.self (goal.H-post g l.fn.hash_of) (goal.S-post g l.fn.same) l.count l.bucket-iterator;
 }

@@ -8,7 +8,7 @@ use Rattle.rkyv_table.specs.Table.MisplacedIn.{bucket_misplaced, bucket_strides,
 use Rattle.rkyv_table.specs.Table.Positions.{IsWalked, table_controls}
 use Rattle.rkyv_table.specs.Table.Reading.{IsItem, table_bytes, table_pos}
 use Rattle.rkyv_table.proofs.MisplacedIn.{Spending, TellsMisplaced, bucket_told, counted_none, counted_one, past_all, reads_on, spent_one}
-use Rattle.rkyv_table.proofs.RawWalks.{walked_all}
+use Rattle.rkyv_table.proofs.RawWalks.{walk_count, walked_all}
 use Rattle.rkyv_table.proofs.Walks.{walk_small}
 use Rattle.rkyv_table.proofs.table.ArchivedHashTable.misplaced_up_to_by.Goals as goal
 use Rattle.rkyv_table.proofs.table.ArchivedHashTable.misplaced_up_to_by.Goals.{After-is_in_another_bucket, After-own_lookup-answer, In-Some}
@@ -24,9 +24,11 @@ loop-bucket-init g c =
     ∙ ap (λ t. walk (table_controls w (table_bytes t) (table_pos t)) (cap_at w (table_bytes t) (table_pos t))) c.of-items.ensures.table in
     let l = ap length e in
     let small = walk_small (table_controls w b p) (cap_at w b p) in
+    let all = walk_count w s g.T.HasSpec.laws b p c.args.self.valid in
     record {
       walked = subst (All (IsWalked w b p)) (sym e) (walked_all w s g.T.HasSpec.laws b p);
       counted = omega arith;
+      few = omega (arith, l, all);
       told = λ hash_of same hash_as same_as.
           zero-add _ ∙ ap (λ xs. length (filter (bucket_misplaced generic_kind c.args.self hash_of same) xs)) e;
       spent = λ hash_of same hash_as same_as.
@@ -97,6 +99,7 @@ loop-bucket-preserved-then-is_in_another_bucket g c =
     record {
       walked = rest g at.In-Some;
       counted = omega arith;
+      few = omega (arith, l, c.loop-bucket.invariant.few);
       told = counted_one generic_kind c.args.self _ _ c.loop-bucket.misplaced c.in-Some.bucket c.loop-bucket.bucket-iterator c.next.new.self c.in-Some.ensures.steps c.is_in_another_bucket.result
           (tells g at.After-is_in_another_bucket) c.loop-bucket.invariant.told c.if-is_in_another_bucket.true;
       spent = spent g at.After-own_lookup-answer;
@@ -111,6 +114,7 @@ loop-bucket-preserved g c =
     record {
       walked = rest g at.In-Some;
       counted = omega arith;
+      few = omega (arith, l, c.loop-bucket.invariant.few);
       told = counted_none generic_kind c.args.self _ _ c.loop-bucket.misplaced c.in-Some.bucket c.loop-bucket.bucket-iterator c.next.new.self c.in-Some.ensures.steps c.is_in_another_bucket.result
           (tells g at.After-is_in_another_bucket) c.loop-bucket.invariant.told c.if-is_in_another_bucket.false;
       spent = spent g at.After-own_lookup-answer;
@@ -126,3 +130,6 @@ returns-clause-counts g c = λ hash_of same hash_as same_as.
     let spent = c.loop-bucket.invariant.spent hash_of same hash_as same_as in
     let most = c.loop-bucket.invariant.within.1 in
     (omega (arith, rest, spent, most), omega (arith, n, told))
+
+pub returns-clause-within : goal.returns-clause-within
+returns-clause-within g c = omega (arith, c.loop-bucket.invariant.few)

@@ -5,7 +5,7 @@ use Rattle.rkyv_base.specs.Scalar.{scalar_spec}
 use Rattle.rkyv_base.specs.Seal.{bytes_in, pos_in}
 use Rattle.rkyv_base.specs.ElementSpec.{Viewable}
 use Rattle.rkyv_base.specs.Text.{text_spec}
-use Rattle.rkyv_collections.specs.MapSpec.{map_spec}
+use Rattle.rkyv_collections.specs.Map.MapSpec.{map_spec}
 use Rattle.test_collections.proofs.tests.recipes.change.Goals as goal
 
 pub get_seal-requires-in-Some-clause-map : goal.get_seal-requires-in-Some-clause-map

@@ -5,7 +5,7 @@ use Rattle.rkyv_base.specs.Numbers.{signed}
 use Rattle.rkyv_base.specs.Scalar.{scalar_spec}
 use Rattle.rkyv_base.specs.ElementSpec.{Viewable}
 use Rattle.rkyv_base.specs.Text.{text_spec}
-use Rattle.rkyv_collections.specs.MapSpec.{map_spec}
+use Rattle.rkyv_collections.specs.Map.MapSpec.{map_spec}
 use Rattle.test_collections.proofs.tests.recipes.move_point.Goals as goal
 
 pub found_with-found-requires-clause-map : goal.found_with-found-requires-clause-map

@@ -6,7 +6,7 @@ use Rattle.rkyv_base.specs.ElementSpec.{Viewable}
 use Rattle.rkyv_base.specs.Text.{text_spec}
 use Rattle.rkyv_table.proofs.Moved.{moved}
 use Rattle.rkyv_collections.proofs.FoundValues.{read_at}
-use Rattle.rkyv_collections.specs.MapSpec.{map_spec}
+use Rattle.rkyv_collections.specs.Map.MapSpec.{map_spec}
 use Rattle.test_collections.proofs.tests.recipes.pos_of_room.Goals as goal
 
 pub returns-in-Some : goal.returns-in-Some

@@ -2,7 +2,7 @@ use Rattle.std.proofs.Common.{◌≡◌, ℕ, None, Option, Some, ap, refl, subs
 use Rattle.std.specs.Prelude.{IfSome}
 use Rattle.std.specs.Option.{option_map}
 use Rattle.rkyv_base.specs.ElementSpec.{Viewable}
-use Rattle.rkyv_collections.specs.MapSpec.{map_spec}
+use Rattle.rkyv_collections.specs.Map.MapSpec.{map_spec}
 use Rattle.test_collections.proofs.tests.sealed.stored_in.Goals as goal
 
 -- the value in `result`, if there is one, is `y`

@@ -5,7 +5,7 @@ use Rattle.rkyv_scan.specs.Hash.{hash_of_calls}
 use Rattle.rkyv_base.specs.Entry.{entry_spec}
 use Rattle.rkyv_base.specs.Sealing.{value_pos}
 use Rattle.rkyv_table.specs.Table.Positions.{pos_found}
-use Rattle.rkyv_collections.specs.MapSpec.{IsKeyPosAt}
+use Rattle.rkyv_collections.specs.Map.MapSpec.{IsKeyPosAt}
 use Rattle.test_collections.proofs.Views.{told_of_view}
 use Rattle.test_collections.proofs.tests.sealed.value_found.Goals as goal
 

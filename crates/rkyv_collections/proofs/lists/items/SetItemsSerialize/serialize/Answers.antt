@@ -3,8 +3,8 @@ use Rattle.std.specs.Borrow.{Bor}
 use Rattle.std.specs.Iterator.{Drains, YieldsFirstBy}
 use Rattle.std.specs.Slice.Iter.{iter_rest}
 use Rattle.rkyv_table.specs.Table.Counting.{YieldsOtherCount}
-use Rattle.rkyv_collections.specs.MapFormat.{hash_of}
-use Rattle.rkyv_collections.specs.SetFormat.{set_format}
+use Rattle.rkyv_collections.specs.Map.MapFormat.{hash_of}
+use Rattle.rkyv_collections.specs.Set.SetFormat.{set_format}
 use Rattle.rkyv_table.specs.Table.ItemValues.{lent_keys}
 use Rattle.rkyv_table.specs.declared.table.list_inputs.Refs.{Refs}
 use Rattle.rkyv_table.proofs.Listing.{all_came, answers_listed, no_other_came}

@@ -2,7 +2,7 @@ use Rattle.std.proofs.Common.{refl}
 use Rattle.std.specs.Map.Iter.{deref_pair}
 use Rattle.rkyv_table.specs.Table.ItemValues.{lent_pairs}
 use Rattle.rkyv_table.specs.Table.Listed.{listed}
-use Rattle.rkyv_collections.specs.MapFormat.{hash_of, map_format}
+use Rattle.rkyv_collections.specs.Map.MapFormat.{hash_of, map_format}
 use Rattle.rkyv_collections.proofs.StdWriting.{answers_distinct, answers_shown}
 use Rattle.rkyv_collections.proofs.std_maps.hash_map.HashedHashMapSerialize.serialize.Goals as goal
 

@@ -2,7 +2,7 @@ use Rattle.std.proofs.Common.{subst, sym, List}
 use Rattle.std.specs.List.{IsDistinct}
 use Rattle.rkyv_base.specs.Empty.{unit_format, unit_spec}
 use Rattle.rkyv_table.specs.Table.Listed.{listed}
-use Rattle.rkyv_collections.specs.MapFormat.{hash_of, map_format}
+use Rattle.rkyv_collections.specs.Map.MapFormat.{hash_of, map_format}
 use Rattle.rkyv_table.specs.Table.ItemValues.{with_units}
 use Rattle.rkyv_collections.specs.Lemmas.StdSet.{keys_with_units}
 use Rattle.rkyv_collections.proofs.StdWriting.{answers_distinct, answers_keys}

@@ -1,0 +1,82 @@
+//! Laws of the elements of this crate: their layout, their bytes, and the values they represent.
+//!
+//! An implementation names these in its own ghost members. The laws say them of each type,
+//! by the definitions in `specs/`.
+
+ghost use Rattle.std.specs.Int.{w8, w16, w32, w64};
+ghost use Rattle.std.specs.Prelude.{string_bytes};
+ghost use Rattle.rkyv_base.specs.Empty.{unit_format, unit_represents, unit_spec};
+ghost use Rattle.rkyv_base.specs.Entry.{entry_spec};
+ghost use Rattle.rkyv_base.specs.Numbers.{bool_encoding, char_encoding, signed, unsigned};
+ghost use Rattle.rkyv_base.specs.Pairs.{PairRepresents, pair_format, written_as};
+ghost use Rattle.rkyv_base.specs.Same.{SameEncoding, SameFormat, SameSpec, SameValues};
+ghost use Rattle.rkyv_base.specs.Scalar.{IsScalar, ScalarRepresents, scalar_format};
+ghost use Rattle.rkyv_base.specs.Text.{TextReads, text_spec};
+ghost use Rattle.rkyv_base.specs.TextWriting.{text_format};
+
+use crate::archive::Archive;
+use crate::element::{HasSpec, Represents};
+use crate::entry::Entry;
+use crate::scalars::Scalar;
+use crate::text::Text;
+use crate::width::Width;
+
+/// States by which numbers the integers are encoded: in as many bits as their types have.
+///
+/// A signed integer is in two's complement.
+pub fn integers_are_encoded_by_their_types()
+    ensures u8 { SameEncoding ⟦<u8 as Scalar>⟧.encoding (unsigned w8) }
+    ensures u16 { SameEncoding ⟦<u16 as Scalar>⟧.encoding (unsigned w16) }
+    ensures u32 { SameEncoding ⟦<u32 as Scalar>⟧.encoding (unsigned w32) }
+    ensures u64 { SameEncoding ⟦<u64 as Scalar>⟧.encoding (unsigned w64) }
+    ensures i8 { SameEncoding ⟦<i8 as Scalar>⟧.encoding (signed w8) }
+    ensures i16 { SameEncoding ⟦<i16 as Scalar>⟧.encoding (signed w16) }
+    ensures i32 { SameEncoding ⟦<i32 as Scalar>⟧.encoding (signed w32) }
+    ensures i64 { SameEncoding ⟦<i64 as Scalar>⟧.encoding (signed w64) }
+{}
+
+/// States by which numbers `bool` and `char` are encoded.
+///
+/// A `bool` is the byte 0 or 1, and a `char` its code in four bytes.
+pub fn marks_are_encoded_as_numbers()
+    ensures bool { SameEncoding ⟦<bool as Scalar>⟧.encoding bool_encoding }
+    ensures char { SameEncoding ⟦<char as Scalar>⟧.encoding char_encoding }
+{}
+
+/// States that a scalar is one aligned little-endian number, which is that of its value.
+pub fn scalars_are_numbers<W: Width, N: Scalar>()
+    ensures spec { IsScalar N.spec N.encoding }
+    ensures values { SameValues ⟦<N as Represents<N>>⟧.represents (ScalarRepresents N.encoding) }
+    ensures bytes { SameFormat ⟦<N as Archive<W>>⟧.format (scalar_format N.encoding) }
+{}
+
+/// States the layout of text, and that `&str` and `String` are archived as their bytes.
+pub fn texts_are_their_bytes<'t, W: Width>()
+    ensures spec { SameSpec ⟦<Text<W> as HasSpec>⟧.spec (text_spec W.word) }
+    ensures slices { SameValues ⟦<Text<W> as Represents<&'t str>>⟧.represents
+        (λ b p t. TextReads W.word b p t.now) }
+    ensures strings { SameValues ⟦<Text<W> as Represents<String>>⟧.represents
+        (λ b p t. TextReads W.word b p (string_bytes t)) }
+    ensures slice_bytes { SameFormat ⟦<&'t str as Archive<W>>⟧.format
+        (written_as (λ t. t.now) (text_format W.word)) }
+    ensures string_bytes { SameFormat ⟦<String as Archive<W>>⟧.format
+        (written_as string_bytes (text_format W.word)) }
+{}
+
+/// States that the unit value has no bytes.
+pub fn units_are_empty<W: Width>()
+    ensures spec { SameSpec ⟦<() as HasSpec>⟧.spec unit_spec }
+    ensures values { SameValues ⟦<() as Represents<()>>⟧.represents unit_represents }
+    ensures bytes { SameFormat ⟦<() as Archive<W>>⟧.format unit_format }
+{}
+
+/// States that an entry is its key, padded, and then its value, and that a pair is archived so.
+pub fn entries_are_their_parts<W: Width, A: Archive<W>, B: Archive<W>>()
+    ensures spec { SameSpec ⟦<Entry<A::Archived, B::Archived> as HasSpec>⟧.spec
+        (entry_spec A.Archived.spec B.Archived.spec) }
+    ensures values { SameValues ⟦<Entry<A::Archived, B::Archived> as Represents<(A, B)>>⟧.represents
+        (PairRepresents A.Archived.spec B.Archived.spec A.Archived.represents
+        B.Archived.represents) }
+    ensures bytes { SameFormat ⟦<(A, B) as Archive<W>>⟧.format
+        (pair_format A.Archived.spec B.Archived.spec A.format B.format) }
+{}

@@ -1,0 +1,16 @@
+use Rattle.std.proofs.Common.{ap, subst}
+use Rattle.rkyv_base.specs.Sealing.{value_pos}
+use Rattle.rkyv_scan.specs.Hash.{hash_of_calls}
+use Rattle.rkyv_collections.specs.Map.{hash_at}
+use Rattle.rkyv_collections.specs.Map.NestedWrites.{WritesParts}
+use Rattle.rkyv_collections.proofs.NestedWrites.{nested_kept}
+use Rattle.rkyv_collections.proofs.map.laws.nested.nested_writes_keep_maps.Goals as goal
+
+pub returns : goal.returns
+returns g c = λ b d p q view at writes.
+    let h = g.H.KeyHasher in
+    let k = g.K.HasSpec.spec in
+    let v = g.V.HasSpec.spec in
+    nested_kept g.W.Word.word k v g.K.HasSpec.laws g.V.HasSpec.laws (hash_at h.hasher g.K.KeyElement.key_calls)
+    (λ x y r lo hi l o holds fixed part. ap (hash_of_calls h.hasher) (g.met.K.KeyElement.key.local x y r lo hi l o holds fixed part))
+    b d p at.0 view at.1 (subst (λ z. WritesParts v b d (value_pos k v z)) at.2 writes)

@@ -1,0 +1,5 @@
+use Rattle.rkyv_collections.proofs.Lookups.{some_at}
+use Rattle.rkyv_collections.proofs.map.read.lookup.is_found.Goals as goal
+
+pub returns : goal.returns
+returns g c = λ place at. some_at c.args.found place c.is_some.result c.is_some.ensures at

@@ -1,0 +1,60 @@
+-- Calls that write the value of a key over the bytes of an archive.
+use Rattle.std.specs.Prelude.{◌≡◌, ℕ, ◌+◌, ◌≤◌, Bool, List, [], ◌∷◌, MatchOption, None, Option}
+use Rattle.std.specs.Prelude.{Some, cond, false, length, true}
+use Rattle.std.specs.Borrow.{MutBor}
+use Rattle.std.specs.Int.{Width}
+use Rattle.std.specs.Option.{is_some}
+use Rattle.rkyv_base.specs.Scalar.{Encoding, ScalarRepresents}
+use Rattle.rkyv_base.specs.Sealing.{with_value}
+use Rattle.rkyv_base.specs.ElementSpec.{ElementSpec}
+use Rattle.rkyv_keys.specs.Asked.{Asked}
+use Rattle.rkyv_table.specs.Table.SealedItems.{WrittenBy}
+use Rattle.rkyv_collections.specs.Map.ListedLookups.{first_pair}
+use Rattle.rkyv_collections.specs.Map.MapAt.{AskedValue, MapAt, TellsValueAt}
+use Rattle.rkyv_collections.specs.Map.MapFormat.{MapRepresents}
+use Rattle.rkyv_collections.specs.Map.ValueWrites.{KeepsMap}
+
+-- the writer can be called with the archive and each position at which a value fits
+abbrev pub MayWriteFound : {F : Type 0} → ElementSpec → (F → MutBor (List ℕ) → ℕ → Type 0) → List ℕ
+    → F
+    → Type 0
+MayWriteFound v pre archive write =
+    (b : MutBor (List ℕ)) (q : ℕ) → b.now ≡ archive → q + v.size ≤ length b.now → pre write b q
+
+-- No value is found, and the archive is unchanged. Or the writer is called with the archive
+-- and the position of the value
+abbrev pub WritesFound : {F R : Type 0} → (F → MutBor (List ℕ) → ℕ → R → MutBor (List ℕ) → Type 0)
+    → F → List ℕ → Option R → List ℕ → Option ℕ → Type 0
+WritesFound {F} {R} post write b result c place = MatchOption place ((result ≡ None) × (c ≡ b))
+    (λ q. (r : R) × (result ≡ Some r) × WrittenBy post write r b q c)
+
+-- the list with `value` in the first pair with an accepted key
+abbrev pub with_first : {A B : Type 0} → (A → Bool) → B → List (A × B) → List (A × B)
+with_first asks value [] = []
+with_first asks value (pair ∷ rest) =
+    cond (asks pair.0) ((pair.0, value) ∷ rest) (pair ∷ with_first asks value rest)
+
+module _ {N : Type 0} (w : Width) (k v : ElementSpec) (e : Encoding N) where
+  -- No value is found, and the archive is unchanged. Or the value at the position is the new one,
+  -- all other bytes are unchanged, and the map is kept
+  abbrev pub SetsFound : (List ℕ → ℕ → ℕ) → List ℕ → ℕ → N → Bool → List ℕ → Option ℕ → Type 0
+  SetsFound key_hash b p value result c place = MatchOption place ((result ≡ false) × (c ≡ b))
+      (λ q. (result ≡ true) × (c ≡ with_value e b q value)
+      × ((i : ℕ) × KeepsMap w k v key_hash b c p i))
+
+-- the value that a lookup finds is written, if it finds one. `result`: it finds one, `c`: bytes
+-- afterwards
+abbrev pub SetsValue : {N : Type 0} → MapAt → Asked → Encoding N → N → Bool → List ℕ → Type 0
+SetsValue m a e value result c = TellsValueAt m a
+    (SetsFound m.word m.key m.value e a.key_hash m.bytes m.pos value result c)
+
+-- a map that represents a list of pairs represents the list with the new value in the first pair
+-- with an accepted key
+abbrev pub SetsFirst : {A N : Type 0} → MapAt → AskedValue A → Encoding N → N → Bool → List ℕ
+    → Type 0
+SetsFirst {A} {N} m a e value result c = (factor : ℕ × ℕ) (pairs : List (A × N))
+    → MapRepresents m.word m.key m.value a.represents
+    (ScalarRepresents e) a.key_hash factor m.bytes m.pos pairs
+    → (result ≡ is_some (first_pair a.asks pairs))
+    × MapRepresents m.word m.key m.value a.represents (ScalarRepresents e) a.key_hash factor c m.pos
+    (with_first a.asks value pairs)

@@ -1,0 +1,84 @@
+-- Lookups in a map that represents a list of pairs, in terms of the list alone.
+use Rattle.rkyv_base.specs.declared.element.HasSpec.{Ghosts as Specs}
+use Rattle.rkyv_base.specs.declared.width.Word.{Ghosts as Words}
+use Rattle.std.specs.Prelude.{◌≡◌, ℕ, Bool, IfSome, List, None, Option, Some}
+use Rattle.std.specs.List.{find}
+use Rattle.std.specs.Option.{is_some, option_map}
+use Rattle.rkyv_base.specs.Pairs.{PairRepresents}
+use Rattle.rkyv_base.specs.ElementSpec.{ElementSpec, ValidAt}
+use Rattle.rkyv_base.specs.View.{AtView}
+use Rattle.rkyv_base.specs.declared.view.View.{View}
+use Rattle.rkyv_collections.specs.Map.{FindsFirstKey, IsEntryAt, IsFoundAt, IsKeyIn}
+use Rattle.rkyv_collections.specs.Map.{IsPairAt, IsPairIn, IsValueAt, IsValueIn, map_bytes, map_pos}
+use Rattle.rkyv_collections.specs.Map.MapFormat.{MapRepresents}
+use Rattle.rkyv_keys.specs.Natives.{NativePairs}
+use Rattle.rkyv_collections.specs.declared.map.ArchivedHashMap.{ArchivedHashMap}
+
+-- a valid key is accepted if and only if `asks` accepts the value that it represents
+abbrev pub AsksFor : {A : Type 0} → ElementSpec → (List ℕ → ℕ → A → Type 0) → List ℕ → (ℕ → Bool)
+    → (A → Bool) → Type 0
+AsksFor {A} k key b accept asks = (a : A) (q : ℕ) → ValidAt k b q → key b q a → accept q ≡ asks a
+
+-- the first pair with an accepted key
+abbrev pub first_pair : {A B : Type 0} → (A → Bool) → List (A × B) → Option (A × B)
+first_pair asks pairs = find (λ pair. asks pair.0) pairs
+
+abbrev pub first_value : {A B : Type 0} → (A → Bool) → List (A × B) → Option B
+first_value asks pairs = option_map (λ pair. pair.1) (first_pair asks pairs)
+
+-- the view is of the value, or there is neither
+abbrev pub IsFoundValue : {V B : Type 0} → (List ℕ → ℕ → B → Type 0) → Option (View V) → Option B
+    → Type 0
+IsFoundValue represents None None = Unit {0}
+IsFoundValue represents (Some view) (Some value) = AtView represents view value
+IsFoundValue represents None (Some value) = ⊥
+IsFoundValue represents (Some view) None = ⊥
+
+-- the views are of the key and the value of the pair, or there is neither
+abbrev pub IsFoundPair : {K V A B : Type 0} → (List ℕ → ℕ → A → Type 0) → (List ℕ → ℕ → B → Type 0)
+    → Option (View K × View V) → Option (A × B) → Type 0
+IsFoundPair key value None None = Unit {0}
+IsFoundPair key value (Some views) (Some pair) =
+    AtView key views.0 pair.0 × AtView value views.1 pair.1
+IsFoundPair key value None (Some pair) = ⊥
+IsFoundPair key value (Some views) None = ⊥
+
+module _ {A B : Type 0} (k v : ElementSpec) (key : List ℕ → ℕ → A → Type 0)
+    (value : List ℕ → ℕ → B → Type 0) where
+  -- the position is that of the pair, or there is neither
+  abbrev pub IsPairOf : List ℕ → Option ℕ → Option (A × B) → Type 0
+  IsPairOf b None None = Unit {0}
+  IsPairOf b (Some q) (Some pair) = PairRepresents k v key value b q pair
+  IsPairOf b None (Some pair) = ⊥
+  IsPairOf b (Some q) None = ⊥
+
+module _ {A B K V H W : Type 0} {ks : Specs K} {vs : Specs V} {wt : Words W}
+    (key : List ℕ → ℕ → A → Type 0) (value : List ℕ → ℕ → B → Type 0) (key_hash : List ℕ → ℕ → ℕ)
+    (m : ArchivedHashMap K V H W ks vs wt) (accept : ℕ → Bool) (asks : A → Bool) where
+  -- The results of `get_key_value`, a set's `get`, `get` and `contains_key`,
+  -- by their clauses on the first accepted key. They are the first pair
+  -- of the list with an accepted key, its key, its value, and `true` if there is one
+  pub record FindsListed (pairs : List (A × B)) : Type 0 where
+    pub gives_pair : (result : Option (View K × View V)) → IfSome result (IsPairIn m)
+        → FindsFirstKey m key_hash accept (IsPairAt result)
+        → IsFoundPair key value result (first_pair asks pairs)
+    pub gives_key : (result : Option (View K)) → IfSome result (IsKeyIn m)
+        → FindsFirstKey m key_hash accept (IsEntryAt result)
+        → IsFoundValue key result (option_map (λ pair. pair.0) (first_pair asks pairs))
+    pub gives_value : (result : Option (View V)) → IfSome result (IsValueIn m)
+        → FindsFirstKey m key_hash accept (IsValueAt ks.spec vs.spec result)
+        → IsFoundValue value result (first_value asks pairs)
+    pub contains : (result : Bool) → FindsFirstKey m key_hash accept (IsFoundAt result)
+        → result ≡ is_some (first_pair asks pairs)
+
+-- In a map that represents a list of pairs, a lookup finds the first pair
+-- of the list with an accepted key. `wt`: word of the archive, `native`: what represents the pairs
+abbrev pub LookupsFindListed : {A B K V W : Type 0} → (H : Type 0) → Words W → Specs K → Specs V
+    → NativePairs A B → Type 0
+LookupsFindListed {A} {B} {K} {V} {W} H wt ks vs native =
+    (m : ArchivedHashMap K V H W ks vs wt) (accept : ℕ → Bool) (asks : A → Bool) (factor : ℕ × ℕ)
+    (pairs : List (A × B))
+    → AsksFor ks.spec native.key (map_bytes m) accept asks
+    → MapRepresents wt.word ks.spec vs.spec native.key native.value native.key_hash factor
+    (map_bytes m) (map_pos m) pairs
+    → FindsListed native.key native.value native.key_hash m accept asks pairs

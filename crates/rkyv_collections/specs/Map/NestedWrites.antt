@@ -1,0 +1,84 @@
+-- Maps with a value that is written among its parts, as a map that is a value.
+use Rattle.std.specs.Prelude.{◌≡◌, ◌≢◌, ℕ, ◌+◌, ◌*◌, ◌-◌, ◌≤◌, List, Some}
+use Rattle.std.specs.Int.{Width, byte_len}
+use Rattle.std.specs.Option.{option_map}
+use Rattle.rkyv_base.specs.Bytes.{AgreeOn}
+use Rattle.rkyv_base.specs.Entry.{entry_spec}
+use Rattle.rkyv_base.specs.Sealing.{Sealed, value_pos}
+use Rattle.rkyv_base.specs.ElementSpec.{ElementSpec, Viewable}
+use Rattle.rkyv_table.specs.Table.Positions.{IsWalked, table_controls}
+use Rattle.rkyv_collections.specs.Map.InPlace.{with_first}
+use Rattle.rkyv_collections.specs.Map.{FindsFirstKeyAt, MapWrittenAt}
+use Rattle.rkyv_collections.specs.Map.MapSpec.{IsKeyPosAt, map_spec}
+use Rattle.rkyv_collections.specs.Map.MapFormat.{MapRepresents}
+use Rattle.rkyv_collections.specs.Natives.{NativeKeys}
+use Rattle.rkyv_table.specs.Table.SealedTable.{WritesValue}
+use Rattle.rkyv_collections.specs.Map.ValueWrites.{entry_at}
+
+-- `c`: bytes `b` after a write among the parts of the value at `q`. A valid value
+-- stays valid with the same lower end, and the bytes outside its parts are unchanged
+pub record WritesParts (s : ElementSpec) (b c : List ℕ) (q : ℕ) : Type 0 where
+  pub holds : (lo hi l : ℕ) → lo ≤ hi → hi ≤ q → s.holds b q lo hi l → s.holds c q lo hi l
+  pub sealed : (lo hi l : ℕ) → lo ≤ hi → hi ≤ q → s.holds b q lo hi l → Sealed b lo (l - lo) c
+
+-- the value at `q` is valid, with its parts in some range before it
+pub record HoldsBefore (s : ElementSpec) (b : List ℕ) (q : ℕ) : Type 0 where
+  pub lower : ℕ
+  pub upper : ℕ
+  pub rest : ℕ
+  pub order : lower ≤ upper
+  pub before : upper ≤ q
+  pub holds : s.holds b q lower upper rest
+
+-- the value at `q` is the same in both: its own bytes, and the range of its parts
+pub record StaysAt (s : ElementSpec) (b c : List ℕ) (q : ℕ) : Type 0 where
+  pub held : HoldsBefore s b q
+  pub fixed : AgreeOn b c q (q + s.size)
+  pub parts : AgreeOn b c held.lower held.rest
+
+module _ (w : Width) (k v : ElementSpec) where
+  -- The map at `p` in `b`, after a write among the parts of the value in bucket `i`, is a map
+  -- in `c`. Its header, its control bytes, the positions of its entries,
+  -- all keys and all other values are unchanged. A written map is still one,
+  -- and the write is among the parts of the map
+  pub record KeepsOuterMap (key_hash : List ℕ → ℕ → ℕ) (b c : List ℕ) (p i : ℕ) : Type 0 where
+    pub valid : Viewable (map_spec w k v) c p
+    pub nested : WritesParts (map_spec w k v) b c p
+    pub header : AgreeOn b c p (p + 3 * byte_len w)
+    pub controls : table_controls w c p ≡ table_controls w b p
+    pub positions : (j : ℕ) → entry_at w k v c p j ≡ entry_at w k v b p j
+    pub keys : (j : ℕ) → IsWalked w b p j → StaysAt k b c (entry_at w k v b p j)
+    pub values : (j : ℕ) → IsWalked w b p j → j ≢ i
+        → StaysAt v b c (value_pos k v (entry_at w k v b p j))
+    pub hashes : (j : ℕ) → IsWalked w b p j
+        → key_hash c (entry_at w k v b p j) ≡ key_hash b (entry_at w k v b p j)
+    pub written : (homes : List ℕ) → MapWrittenAt w (entry_spec k v) key_hash b p homes
+        → MapWrittenAt w (entry_spec k v) key_hash c p homes
+
+  -- a write of one value in place is a write among the parts of the map
+  abbrev pub ValueWritesAreNested : Type 0
+  ValueWritesAreNested =
+      (b c : List ℕ) (p i : ℕ) → Viewable (map_spec w k v) b p → IsWalked w b p i
+      → WritesValue k v b c (entry_at w k v b p i) → WritesParts (map_spec w k v) b c p
+
+  -- a write among the parts of the value of a key keeps the map
+  abbrev pub NestedWritesKeepMaps : (List ℕ → ℕ → ℕ) → Type 0
+  NestedWritesKeepMaps key_hash =
+      (b c : List ℕ) (p q : ℕ) → Viewable (map_spec w k v) b p → (at : IsKeyPosAt w k v b p q)
+      → WritesParts v b c (value_pos k v q) → KeepsOuterMap key_hash b c p at.0
+
+  -- The map represents a list of pairs, and the value of the first pair with a key
+  -- equal to `asked` is written among its parts. The map then represents
+  -- the list with the new value there. `keys`: native keys of the map, `value`: what represents
+  -- a value
+  abbrev pub NestedWritesRepresent : {A B : Type 0} → NativeKeys A → (List ℕ → ℕ → B → Type 0)
+      → Type 0
+  NestedWritesRepresent {A} {B} keys value =
+      (b c : List ℕ) (p pos : ℕ) (factor : ℕ × ℕ) (pairs : List (A × B)) (asked : A) (new : B)
+      → Viewable (map_spec w k v) b p
+      → MapRepresents w k v keys.represents value keys.key_hash factor b p pairs
+      → FindsFirstKeyAt w k v b p keys.key_hash (keys.fits asked b)
+      (λ place. Some pos ≡ option_map (value_pos k v) place)
+      → WritesParts v b c pos → value c pos new
+      → MapRepresents w k v keys.represents value keys.key_hash factor c p
+      (with_first (keys.equal asked) new pairs)

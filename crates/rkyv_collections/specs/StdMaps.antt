@@ -1,0 +1,6 @@
+-- Definitions on maps and sets of std: represented, compared, looked up, read back.
+pub mod StdMap
+pub mod StdEquality
+pub mod StdSet
+pub mod StdLookups
+pub mod RoundTrips

@@ -1,0 +1,85 @@
+-- Lookups in an archive of a map or a set of std.
+use Rattle.rkyv_base.specs.Members.{ElementMembers}
+use Rattle.rkyv_base.specs.declared.element.HasSpec.{Ghosts as Specs}
+use Rattle.rkyv_base.specs.declared.width.Word.{Ghosts as Words}
+use Rattle.std.specs.Prelude.{◌≡◌, ℕ, ◌+◌, Bool, List, None, Option, Some}
+use Rattle.std.specs.HashMap.{HashMap}
+use Rattle.std.specs.HashSet.{HashSet}
+use Rattle.std.specs.Int.{Width}
+use Rattle.std.specs.List.{list_any}
+use Rattle.std.specs.Map.{lookup}
+use Rattle.std.specs.Option.{is_some}
+use Rattle.rkyv_scan.specs.Groups.{generic_kind}
+use Rattle.rkyv_base.specs.Empty.{unit_spec}
+use Rattle.rkyv_base.specs.Entry.{entry_spec, value_offset}
+use Rattle.rkyv_base.specs.Format.{Format, IsFormat}
+use Rattle.rkyv_base.specs.ElementSpec.{ElementSpec}
+use Rattle.rkyv_table.specs.Table.Positions.{pos_found}
+use Rattle.rkyv_collections.specs.Map.ListedLookups.{AsksFor}
+use Rattle.rkyv_collections.specs.Map.{map_bytes, map_pos}
+use Rattle.rkyv_collections.specs.Map.MapSpec.{map_spec}
+use Rattle.rkyv_collections.specs.Natives.{Queried}
+use Rattle.rkyv_collections.specs.Set.{set_spec}
+use Rattle.rkyv_collections.specs.declared.map.ArchivedHashMap.{ArchivedHashMap}
+use Rattle.rkyv_collections.specs.declared.std_maps.hashed.Hashed.{Hashed}
+
+-- the value is `offset` bytes behind the position, or there is neither
+abbrev pub IsValueBehind : {B : Type 0} → (List ℕ → ℕ → B → Type 0) → List ℕ → ℕ → Option ℕ
+    → Option B → Type 0
+IsValueBehind value b offset None None = Unit {0}
+IsValueBehind value b offset (Some q) (Some x) = value b (q + offset) x
+IsValueBehind value b offset None (Some x) = ⊥
+IsValueBehind value b offset (Some q) None = ⊥
+
+module _ {Q A : Type 0} (w : Width) (k : ElementSpec) (hash : Q → ℕ) (fits : Q → List ℕ → ℕ → Bool)
+  where
+    -- The query finds the value of the first entry with an accepted key, in the map at `p`.
+    -- It finds none if and only if no entry has one
+    abbrev pub FindsAsked : {B : Type 0} → ElementSpec → (List ℕ → ℕ → B → Type 0) → List ℕ → ℕ → Q
+        → (A → Bool) → List (A × B) → Type 0
+    FindsAsked v value b p q asks entries =
+        IsValueBehind value b (value_offset k v)
+        (pos_found generic_kind w (entry_spec k v).size b p (hash q) (fits q b))
+        (lookup asks entries)
+
+    module _ (key : List ℕ → ℕ → A → Type 0) (can_read : Q → Type 0) where
+      -- each query that can be read finds in the map at `p` the value that `entries` have
+      abbrev pub FindsEntries : {B : Type 0} → ElementSpec → (List ℕ → ℕ → B → Type 0) → List ℕ → ℕ
+          → List (A × B) → Type 0
+      FindsEntries v value b p entries = (q : Q) (asks : A → Bool) → can_read q
+          → AsksFor k key b (fits q b) asks → FindsAsked v value b p q asks entries
+
+      -- each query that can be read is found in the set at `p` if and only if a key is accepted
+      abbrev pub FindsMembers : List ℕ → ℕ → List A → Type 0
+      FindsMembers b p keys = (q : Q) (asks : A → Bool) → can_read q
+          → AsksFor k key b (fits q b) asks
+          → is_some
+          (pos_found generic_kind w (entry_spec k unit_spec).size b p (hash q) (fits q b))
+          ≡ list_any asks keys
+
+-- The query finds the value of the first entry with an accepted key in the map.
+-- It finds none if and only if no entry has one
+abbrev pub FindsAskedIn : {A B K V H W Q : Type 0} {ks : Specs K} {vs : Specs V} {wt : Words W}
+    → ArchivedHashMap K V H W ks vs wt → Queried Q → (List ℕ → ℕ → B → Type 0) → Q → (A → Bool)
+    → List (A × B) → Type 0
+FindsAskedIn {ks = ks} {vs = vs} {wt = wt} m queries value q asks entries =
+    FindsAsked wt.word ks.spec queries.hash queries.fits vs.spec value (map_bytes m) (map_pos m) q
+    asks entries
+
+-- In any archive with the written bytes of a map of std, each query that can be read finds
+-- the value that the map has. `k`, `v`: what represents the keys and the values
+abbrev pub FindsInWrittenMap : {A B S H R Q : Type 0} → Width → ElementMembers A
+    → ElementMembers B → Queried Q → (Q → Type 0) → Format (Hashed (HashMap A B S) H) R → Type 0
+FindsInWrittenMap w k v queries can_read f = IsFormat (map_spec w k.spec v.spec)
+    (λ b p x. FindsEntries w k.spec queries.hash queries.fits k.represents can_read v.spec
+    v.represents
+    b p x.map.entries)
+    f
+
+-- In any archive with the written bytes of a set of std, each query
+-- that can be read is looked up. It is found if and only if the set has an accepted key
+abbrev pub FindsInWrittenSet : {A S H R Q : Type 0} → Width → ElementMembers A → Queried Q
+    → (Q → Type 0) → Format (Hashed (HashSet A S) H) R → Type 0
+FindsInWrittenSet w k queries can_read f = IsFormat (set_spec w k.spec)
+    (λ b p x. FindsMembers w k.spec queries.hash queries.fits k.represents can_read b p x.map.keys)
+    f

@@ -1,0 +1,73 @@
+-- Maps of std: the archived maps that represent them, and their format.
+use Rattle.std.specs.Prelude.{◌≡◌, ℕ, ◌⊎◌, Bool, List, MatchResult, None, Result, Some}
+use Rattle.std.specs.HashMap.{HashMap, IsUnique, Updates, hasher_of}
+use Rattle.std.specs.Int.{Width}
+use Rattle.std.specs.List.{AllZip, IsDistinct}
+use Rattle.std.specs.Map.{keys_of, lookup, update_all}
+use Rattle.rkyv_base.specs.Entry.{entry_spec}
+use Rattle.rkyv_base.specs.Format.{Format}
+use Rattle.rkyv_base.specs.Pairs.{PairRepresents}
+use Rattle.rkyv_base.specs.ElementSpec.{ElementSpec}
+use Rattle.rkyv_base.specs.View.{AtView}
+use Rattle.rkyv_base.specs.declared.errors.ReadError.{ReadError}
+use Rattle.rkyv_base.specs.declared.errors.ReadError.TheVariants.{Memory}
+use Rattle.rkyv_base.specs.declared.view.View.{View}
+use Rattle.rkyv_keys.specs.OfEntries.{entry_refuses}
+use Rattle.rkyv_keys.specs.Reading.{Refusals}
+use Rattle.rkyv_table.specs.Table.Positions.{item_positions}
+use Rattle.rkyv_collections.specs.Map.MapSpec.{IsKeyPosAt}
+
+module _ {A B : Type 0} (k v : ElementSpec) (key : List ℕ → ℕ → A → Type 0) (value : List ℕ → ℕ → B
+    → Type 0) where
+  -- each position has the next of the pairs
+  abbrev pub ArePairsAt : List ℕ → List ℕ → List (A × B) → Type 0
+  ArePairsAt b positions pairs = AllZip (PairRepresents k v key value b) positions pairs
+
+  -- The map at `p` represents entries of distinct keys. A lookup among
+  -- them is the same as after inserting its pairs in bucket order. Of pairs with equal keys,
+  -- the value of the last is kept
+  pub record EntriesRepresent (w : Width) (equal : A → A → Bool) (b : List ℕ) (p : ℕ)
+      (entries : List (A × B)) : Type 0 where
+    pub pairs : List (A × B)
+    pub read : ArePairsAt b (item_positions w (entry_spec k v).size b p) pairs
+    pub inserted : ((q : A) → lookup (equal q) entries ≡ update_all equal (λ _. None) pairs q)
+        × IsDistinct equal (keys_of entries)
+
+  -- the map at `p` represents a map of std: its pairs, inserted in bucket order
+  abbrev pub StdMapRepresents : {S : Type 0} → Width → (A → A → Bool) → List ℕ → ℕ → HashMap A B S
+      → Type 0
+  StdMapRepresents w equal b p m = EntriesRepresent w equal b p m.entries
+
+-- the format of entries with distinct keys: that of a list of pairs
+abbrev pub of_entries : {A B R : Type 0} → (A → A → Bool) → Format (List (A × B)) R
+    → Format (List (A × B)) R
+of_entries equal f = record {
+  parts = λ entries p part r. IsDistinct equal (keys_of entries) × f.parts entries p part r;
+  next = f.next;
+  image = f.image;
+  overflow = f.overflow;
+}
+
+-- `e`: error of deserializing the map at `p`. Memory could not be allocated,
+-- or a key or a value of the map has the error
+abbrev pub std_map_refuses : Width → ElementSpec → ElementSpec → Refusals → Refusals → Refusals
+std_map_refuses w k v key value b p e =
+    (e ≡ Memory) ⊎ ((q : ℕ) × IsKeyPosAt w k v b p q × entry_refuses k v key value b q e)
+
+-- `result`: map of std that the view represents, with the hash state `state`, or an error
+abbrev pub ReadsStdMap : {A B S T : Type 0} → (List ℕ → ℕ → HashMap A B S → Type 0) → Refusals
+    → View T → S → Result (HashMap A B S) ReadError → Type 0
+ReadsStdMap represents refuses view state result = MatchResult result
+    (λ m. AtView represents view m × (hasher_of m ≡ state)) (AtView refuses view)
+
+-- a pair with the property was inserted
+abbrev pub Inserts : {A B S : Type 0} → (A → A → Bool) → (A × B → Type 0) → HashMap A B S
+    → HashMap A B S → Type 0
+Inserts {A} {B} equal P m n =
+    (pair : A × B) × P pair × Updates equal m n pair.0 (Some pair.1) × IsUnique equal n
+    × (hasher_of n ≡ hasher_of m)
+
+-- `e`: error of inserting a pair. Memory could not be allocated, or the key or the value
+-- has the error
+abbrev pub insert_refuses : ElementSpec → ElementSpec → Refusals → Refusals → Refusals
+insert_refuses k v key value b q e = (e ≡ Memory) ⊎ entry_refuses k v key value b q e

@@ -1,0 +1,411 @@
+//! Cursors over the pairs and the values of a map, for writing the values in place.
+//!
+//! - `next_with` passes the archive and the position of the next key or value to a closure.
+//!   Its contract also covers the cursor afterwards.
+//! - `next_pos` returns the position of the next key or value. `set_at` then writes a scalar there,
+//!   and `key_at` reads a key.
+//! - `next_seal` returns a seal of the next value, and leaves the cursor afterwards unspecified.
+//!
+//! `map::in_place` has a table of all calls that write values.
+ghost use Rattle.std.specs.Prelude.{IfSome, IsSome, IsTrue, drop, length, take, ◌+◌, ◌↔◌, ◌≡◌, ◌≤◌};
+ghost use Rattle.rkyv_base.specs.Seal.{LiesIn, archive_in, bytes_in, seal_pos, pos_in};
+ghost use Rattle.rkyv_base.specs.Sealing.{value_pos, with_value};
+ghost use Rattle.rkyv_base.specs.ElementSpec.{Viewable};
+ghost use Rattle.rkyv_base.specs.View.{IsValidView, bytes_of, pos_of};
+ghost use Rattle.rkyv_table.specs.Table.SealedItems.{CountsDown, LendsArchive, SameArchive};
+ghost use Rattle.rkyv_table.specs.Table.SealedItems.{StaysThere, WrittenBy, cursor_bytes};
+ghost use Rattle.rkyv_table.specs.Table.SealedItems.{items_left};
+ghost use Rattle.rkyv_collections.specs.Map.MapSpec.{map_spec};
+ghost use Rattle.rkyv_collections.specs.Map.SealedMap.{IsMapSeal};
+ghost use Rattle.rkyv_collections.specs.Map.SealedPairs.{HasAllPairs, KeepsPairs, KeepsValues};
+ghost use Rattle.rkyv_collections.specs.Map.SealedPairs.{LendsFirstPair, LendsFirstValue};
+ghost use Rattle.rkyv_collections.specs.Map.SealedPairs.{MayWritePair};
+ghost use Rattle.rkyv_collections.specs.Map.SealedPairs.{MayWriteValue, StepsAndWritesPair};
+ghost use Rattle.rkyv_collections.specs.Map.SealedPairs.{StepsAndWritesValue, TakesKeyPos};
+ghost use Rattle.rkyv_collections.specs.Map.SealedPairs.{TakesValuePos, entries_in, entries_of};
+
+use crate::map::{ArchivedHashMap, HashMapOf};
+use rkyv_base::element::{Element, PartRange};
+use rkyv_base::entry::{Entry, LARGEST, value_offset, whole_size};
+use rkyv_base::scalars::Scalar;
+use rkyv_base::seal::{ArchiveSeal, Seal};
+use rkyv_base::view::View;
+use rkyv_base::width::{Narrow, Width};
+use rkyv_scan::hash::FxHasher64;
+use rkyv_table::table::ArchivedHashTable;
+use rkyv_table::table::raw_iter_seal::RawIterSeal;
+use std::marker::PhantomData;
+
+/// Returns `true` if and only if the bytes have a valid value at `pos`.
+#[inline]
+fn represents<T: Element>(bytes: &[u8], pos: u64) -> bool
+    requires { pos + T.spec.size ≤ length bytes.now }
+    ensures { IsTrue result ↔ Viewable T.spec bytes.now pos }
+{
+    if pos % T::align() as u64 != 0 {
+        return false;
+    }
+    match T::check(bytes, pos, PartRange { lo: 0, hi: pos }) {
+        Ok(_) => true,
+        Err(_) => false,
+    }
+}
+
+/// Returns a view of the key at `pos` and a seal of the value behind it.
+///
+/// Returns `None` if the archive has no valid key at `pos`.
+#[inline]
+fn pair_at<K: Element, V: Element>(
+    archive: &mut [u8],
+    pos: u64,
+) -> Option<(View<'_, K>, Seal<'_, V>)>
+    requires { value_pos K.spec V.spec pos + V.spec.size ≤ length archive.old }
+    ensures inside { IfSome result (λ pair. LiesIn V.spec pair.1) }
+    ensures viewable { IfSome result (λ pair. IsValidView K.spec pair.0) }
+    ensures key { IfSome result (λ pair. (pos_of pair.0 ≡ pos)
+        × (bytes_of pair.0 ≡ take (value_pos K.spec V.spec pos) archive.old)) }
+    ensures value { IfSome result (λ pair. (seal_pos pair.1 ≡ 0)
+        × (bytes_in pair.1 ≡ drop (value_pos K.spec V.spec pos) archive.old)) }
+    ensures found { Viewable K.spec archive.old pos → IsSome result }
+{
+    let begin = pos as usize + value_offset::<K, V>();
+    let (front, back) = archive.split_at_mut(begin);
+    if !represents::<K>(&*front, pos) {
+        return None;
+    }
+    Some((View::new(front, pos), Seal::over(back, 0)))
+}
+
+/// Returns the position of the value behind the key at `pos`.
+#[inline]
+fn behind<K: Element, V: Element>(bytes: &[u8], pos: u64) -> u64
+    requires { value_pos K.spec V.spec pos ≤ length bytes.now }
+    ensures { result ≡ value_pos K.spec V.spec pos }
+{
+    pos + value_offset::<K, V>() as u64
+}
+
+/// A cursor over the pairs of a map, in bucket order, for writing their values in place.
+///
+/// `iter_seal` and `iter_over` return it. While the archive has a valid map,
+/// `next_pos` and `next_with` return each pair once, and then `None`.
+#[derive(Drop)]
+pub struct IterMut<'a, K, V, H = FxHasher64, W = Narrow> {
+    entries: RawIterSeal<'a, Entry<K, V>>,
+    hasher: PhantomData<H>,
+    width: PhantomData<W>,
+}
+
+impl<'a, K: Element, V: Element, H, W> IterMut<'a, K, V, H, W> {
+    /// Returns the number of pairs that remain.
+    #[inline]
+    pub fn len(&self) -> usize
+        ensures { result ≡ items_left (entries_in self.now) }
+    {
+        self.entries.len()
+    }
+
+    /// Returns the position of the key of the next pair, or `None` at the end.
+    #[inline]
+    pub fn next_pos(&mut self) -> Option<u64>
+        ensures archive { SameArchive (entries_in self.old) (entries_in self.new) }
+        ensures counts { CountsDown (entries_in self.old) result (entries_in self.new) }
+        ensures inside { IfSome result (λ q. value_pos K.spec V.spec q + V.spec.size
+            ≤ length (cursor_bytes (entries_in self.old))) }
+        ensures takes { TakesKeyPos K.spec V.spec (entries_in self.old) result
+            (entries_in self.new) }
+    {
+        if whole_size::<K, V>() > LARGEST {
+            return None;
+        }
+        self.entries.next_pos()
+    }
+
+    /// Calls `write` with the archive and the position of the next key, and returns the position.
+    ///
+    /// If no pair remains, the result is `None`, and nothing is written.
+    ///
+    /// # Requires
+    ///
+    /// - `write` can be called with the archive and each position at which a pair fits.
+    #[inline]
+    pub fn next_with<F: FnOnce(&mut [u8], u64)>(&mut self, write: F) -> Option<u64>
+        requires { MayWritePair K.spec V.spec F.pre (entries_in self.old) write }
+        ensures { StepsAndWritesPair K.spec V.spec (WrittenBy F.post write tt)
+            (entries_in self.old) result (entries_in self.new) }
+    {
+        let next = self.next_pos();
+        if let Some(pos) = next {
+            self.entries.write_with(pos, write);
+        }
+        next
+    }
+
+    /// Returns a view of the key at `pos`.
+    ///
+    /// # Requires
+    ///
+    /// - The archive has a valid key at `pos`.
+    #[inline]
+    pub fn key_at(&self, pos: u64) -> View<'_, K>
+        requires { Viewable K.spec (cursor_bytes (entries_in self.now)) pos }
+        ensures bytes { bytes_of result ≡ cursor_bytes (entries_in self.now) }
+        ensures place { pos_of result ≡ pos }
+        ensures viewable { IsValidView K.spec result }
+    {
+        View::new(self.entries.bytes(), pos)
+    }
+
+    /// Returns a view of the next key and a seal of its value, or `None` at the end.
+    ///
+    /// The archive is cut in two at the start of the value. The view is of the front,
+    /// and the seal is at the start of the back.
+    ///
+    /// The key is validated again. If it is not valid any more, the result is `None`.
+    /// The contract of `next_with` also covers the pairs that remain.
+    #[inline]
+    pub fn next_seal(&mut self) -> Option<(View<'_, K>, Seal<'_, V>)>
+        ensures inside { IfSome result (λ pair. LiesIn V.spec pair.1) }
+        ensures viewable { IfSome result (λ pair. IsValidView K.spec pair.0) }
+        ensures first { LendsFirstPair K.spec V.spec (entries_in self.old) result }
+    {
+        match self.next_pos() {
+            Some(pos) => pair_at::<K, V>(self.entries.bytes_mut(), pos),
+            None => None,
+        }
+    }
+}
+
+impl<'a, K: Element, N: Scalar, H, W> IterMut<'a, K, N, H, W> {
+    /// Writes a scalar as the value behind the key at `pos`. All other bytes are unchanged.
+    ///
+    /// # Requires
+    ///
+    /// - The value behind the key ends inside the archive.
+    #[inline]
+    pub fn set_at(&mut self, pos: u64, value: N)
+        requires { value_pos K.spec N.spec pos + N.spec.size
+            ≤ length (cursor_bytes (entries_in self.old)) }
+        ensures stays { StaysThere (entries_in self.old) (entries_in self.new) }
+        ensures written { cursor_bytes (entries_in self.new)
+            ≡ with_value N.encoding (cursor_bytes (entries_in self.old))
+            (value_pos K.spec N.spec pos) value }
+        ensures kept { KeepsPairs K.spec N.spec (entries_in self.old) pos
+            (entries_in self.new) }
+    {
+        self.entries.write_at(pos, value_offset::<K, N>(), value);
+    }
+}
+
+/// A cursor over the values of a map, in bucket order, for writing them in place.
+///
+/// `values_seal` and `values_over` return it. While the archive has a valid map,
+/// `next_pos` and `next_with` return each value once, and then `None`.
+#[derive(Drop)]
+pub struct ValuesMut<'a, K, V, H = FxHasher64, W = Narrow> {
+    pairs: IterMut<'a, K, V, H, W>,
+}
+
+impl<'a, K: Element, V: Element, H, W> ValuesMut<'a, K, V, H, W> {
+    /// Returns the number of values that remain.
+    #[inline]
+    pub fn len(&self) -> usize
+        ensures { result ≡ items_left (entries_of self.now) }
+    {
+        self.pairs.len()
+    }
+
+    /// Returns the position of the next value, or `None` at the end.
+    #[inline]
+    pub fn next_pos(&mut self) -> Option<u64>
+        ensures archive { SameArchive (entries_of self.old) (entries_of self.new) }
+        ensures counts { CountsDown (entries_of self.old) result (entries_of self.new) }
+        ensures inside { IfSome result (λ q. q + V.spec.size
+            ≤ length (cursor_bytes (entries_of self.old))) }
+        ensures takes { TakesValuePos K.spec V.spec (entries_of self.old) result
+            (entries_of self.new) }
+    {
+        match self.pairs.next_pos() {
+            Some(key) => Some(behind::<K, V>(self.pairs.entries.bytes(), key)),
+            None => None,
+        }
+    }
+
+    /// Calls `write` with the archive and the position of the next value, and returns the position.
+    ///
+    /// If no value remains, the result is `None`, and nothing is written.
+    ///
+    /// # Requires
+    ///
+    /// - `write` can be called with the archive and each position at which a value fits.
+    #[inline]
+    pub fn next_with<F: FnOnce(&mut [u8], u64)>(&mut self, write: F) -> Option<u64>
+        requires { MayWriteValue K.spec V.spec F.pre (entries_of self.old) write }
+        ensures { StepsAndWritesValue K.spec V.spec (WrittenBy F.post write tt)
+            (entries_of self.old) result (entries_of self.new) }
+    {
+        let next = self.next_pos();
+        if let Some(pos) = next {
+            self.pairs.entries.write_with(pos, write);
+        }
+        next
+    }
+
+    /// Returns a seal of the next value, or `None` at the end.
+    ///
+    /// The contract of `next_with` also covers the values that remain.
+    #[inline]
+    pub fn next_seal(&mut self) -> Option<Seal<'_, V>>
+        ensures inside { IfSome result (LiesIn V.spec) }
+        ensures first { LendsFirstValue K.spec V.spec (entries_of self.old) result }
+    {
+        match self.next_pos() {
+            Some(pos) => {
+                let bytes = self.pairs.entries.bytes_mut();
+                Some(Seal::over(bytes, pos as usize))
+            }
+            None => None,
+        }
+    }
+}
+
+impl<'a, K: Element, N: Scalar, H, W> ValuesMut<'a, K, N, H, W> {
+    /// Writes a scalar as the value at `pos`. All other bytes are unchanged.
+    ///
+    /// # Requires
+    ///
+    /// - The value ends inside the archive.
+    #[inline]
+    pub fn set_at(&mut self, pos: u64, value: N)
+        requires { pos + N.spec.size ≤ length (cursor_bytes (entries_of self.old)) }
+        ensures stays { StaysThere (entries_of self.old) (entries_of self.new) }
+        ensures written { cursor_bytes (entries_of self.new)
+            ≡ with_value N.encoding (cursor_bytes (entries_of self.old)) pos value }
+        ensures kept { KeepsValues K.spec N.spec (entries_of self.old) pos
+            (entries_of self.new) }
+    {
+        self.pairs.entries.write_at(pos, 0, value);
+    }
+}
+
+impl<'a, K: Element, V: Element, H, W: Width> ArchivedHashMap<'a, K, V, H, W> {
+    /// Returns a cursor over the pairs of a sealed map, in bucket order, for writing their values.
+    ///
+    /// # Requires
+    ///
+    /// - The archive has a valid map at the position of the seal.
+    ///
+    /// # Examples
+    ///
+    /// ```rust
+    /// type Prices = HashMapOf<Text, u32>;
+    ///
+    /// fn cap_prices(archive: &mut [u8], limit: u32, free: &str) -> Result<(), VerifyError> {
+    ///     let mut rest = ArchivedHashMap::iter_seal(access_mut::<Prices>(archive)?);
+    ///     for _ in 0..rest.len() {
+    ///         if let Some((name, mut price)) = rest.next_seal() {
+    ///             if price.to_native() > limit && name.as_str() != free {
+    ///                 price.set(limit);
+    ///             }
+    ///         }
+    ///     }
+    ///     Ok(())
+    /// }
+    /// ```
+    #[inline]
+    pub fn iter_seal(this: ArchiveSeal<'a, HashMapOf<K, V, H, W>>) -> IterMut<'a, K, V, H, W>
+        requires map { IsMapSeal W.word K.spec V.spec this }
+        ensures archive { LendsArchive this.entry (entries_in result) }
+        ensures all { HasAllPairs K.spec V.spec W.word (archive_in this.entry)
+            (pos_in this.entry) (entries_in result) }
+    {
+        let (archive, pos) = this.into_parts();
+        Self::iter_over(archive, pos)
+    }
+
+    /// Returns a cursor over the pairs of the map at `pos` of an archive, for writing their values.
+    ///
+    /// The pairs are in bucket order.
+    ///
+    /// # Requires
+    ///
+    /// - The archive has a valid map at `pos`.
+    #[inline]
+    pub fn iter_over(archive: &'a mut [u8], pos: u64) -> IterMut<'a, K, V, H, W>
+        requires map { Viewable (map_spec W.word K.spec V.spec) archive.old pos }
+        ensures reference { (entries_in result).archive.ghost_name ≡ archive.entry.ghost_name }
+        ensures bytes { cursor_bytes (entries_in result) ≡ archive.old }
+        ensures all { HasAllPairs K.spec V.spec W.word archive.old pos (entries_in result) }
+    {
+        IterMut {
+            entries: ArchivedHashTable::<Entry<K, V>, W>::raw_iter_over(archive, pos),
+            hasher: PhantomData,
+            width: PhantomData,
+        }
+    }
+
+    /// Returns a cursor over the values of a sealed map, in bucket order, for writing them.
+    ///
+    /// # Requires
+    ///
+    /// - The archive has a valid map at the position of the seal.
+    ///
+    /// # Examples
+    ///
+    /// ```rust
+    /// type Prices = HashMapOf<Text, u32>;
+    ///
+    /// // Doubles each price, by a cursor over the values.
+    /// fn double_prices(archive: &mut [u8]) -> Result<(), VerifyError> {
+    ///     let mut rest = ArchivedHashMap::values_seal(access_mut::<Prices>(archive)?);
+    ///     for _ in 0..rest.len() {
+    ///         if let Some(mut price) = rest.next_seal() {
+    ///             let doubled = price.to_native().wrapping_mul(2);
+    ///             price.set(doubled);
+    ///         }
+    ///     }
+    ///     Ok(())
+    /// }
+    /// ```
+    #[inline]
+    pub fn values_seal(this: ArchiveSeal<'a, HashMapOf<K, V, H, W>>) -> ValuesMut<'a, K, V, H, W>
+        requires map { IsMapSeal W.word K.spec V.spec this }
+        ensures archive { LendsArchive this.entry (entries_of result) }
+        ensures all { HasAllPairs K.spec V.spec W.word (archive_in this.entry)
+            (pos_in this.entry) (entries_of result) }
+    {
+        ValuesMut {
+            pairs: Self::iter_seal(this),
+        }
+    }
+
+    /// Returns a cursor over the values of the map at `pos` of an archive, for writing them.
+    ///
+    /// The values are in bucket order.
+    ///
+    /// # Requires
+    ///
+    /// - The archive has a valid map at `pos`.
+    ///
+    /// # Examples
+    ///
+    /// ```rust
+    /// let mut rest = ArchivedHashMap::<K, N, H, W>::values_over(bytes, root);
+    /// for value in values {
+    ///     if let Some(pos) = rest.next_pos() {
+    ///         rest.set_at(pos, *value);
+    ///     }
+    /// }
+    /// ```
+    #[inline]
+    pub fn values_over(archive: &'a mut [u8], pos: u64) -> ValuesMut<'a, K, V, H, W>
+        requires map { Viewable (map_spec W.word K.spec V.spec) archive.old pos }
+        ensures reference { (entries_of result).archive.ghost_name ≡ archive.entry.ghost_name }
+        ensures bytes { cursor_bytes (entries_of result) ≡ archive.old }
+        ensures all { HasAllPairs K.spec V.spec W.word archive.old pos (entries_of result) }
+    {
+        ValuesMut {
+            pairs: Self::iter_over(archive, pos),
+        }
+    }
+}

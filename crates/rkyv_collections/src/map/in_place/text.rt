@@ -1,0 +1,81 @@
+//! Writing the inline text of a key in place.
+//!
+//! `map::in_place` has a table of all calls that write values.
+ghost use Rattle.std.specs.Prelude.{length, ◌+◌, ◌≤◌};
+ghost use Rattle.rkyv_base.specs.SealedText.{Raised};
+ghost use Rattle.rkyv_base.specs.ElementSpec.{Viewable};
+ghost use Rattle.rkyv_base.specs.Text.{text_size};
+ghost use Rattle.rkyv_collections.specs.Map.InPlaceText.{RaisesFirst, RaisesText, text_map_at};
+ghost use Rattle.rkyv_collections.specs.Map.InPlaceText.{text_map_spec};
+ghost use Rattle.rkyv_collections.specs.Map.MapAt.{asked_value};
+ghost use Rattle.rkyv_collections.specs.Map.NestedWrites.{WritesParts};
+ghost use Rattle.rkyv_keys.specs.Asked.{asked};
+
+use crate::map::ArchivedHashMap;
+use rkyv_base::element::Represents;
+use rkyv_base::seal::Seal;
+use rkyv_base::text::Text;
+use rkyv_base::width::Width;
+use rkyv_keys::keys::{KeyElement, NativeKey};
+use rkyv_scan::hash::KeyHasher;
+
+/// Writes the inline text at a position in upper case, and returns `true` if it is inline.
+#[inline]
+fn uppercase_at<W: Width>(bytes: &mut [u8], pos: usize) -> bool
+    requires { pos + text_size W.word ≤ length bytes.old }
+    ensures { Raised W.word bytes.old pos bytes.new result }
+{
+    let mut seal = Seal::<Text<W>>::over(bytes, pos);
+    let is_inline = seal.make_ascii_uppercase();
+    drop(seal);
+    is_inline
+}
+
+/// Writes each letter from a to z of the text of a key in upper case, if the text is inline.
+///
+/// The map is at `root` of the archive. If it represents a list of pairs,
+/// the text is that of the first pair with an equal key.
+///
+/// - `Some(true)`: the text is inline, and is written. All other bytes are unchanged.
+/// - `Some(false)`: the text is out of line. Nothing is written.
+/// - `None`: no key is found. Nothing is written.
+///
+/// In an untrusted archive, the lookup may read every group of control bytes once.
+///
+/// # Requires
+///
+/// - The archive has a valid map to texts at `root`.
+/// - The key can be read, as each native key can.
+///
+/// # Examples
+///
+/// ```rust
+/// // Writes the text of a key in upper case. Returns the result of the call.
+/// fn raise(bytes: &mut [u8], key: &str) -> Result<Option<bool>, VerifyError> {
+///     let root = match access::<HashMapOf<Text, Text>>(&*bytes) {
+///         Ok(root) => root.pos(),
+///         Err(refused) => return Err(refused),
+///     };
+///     Ok(make_ascii_uppercase_of::<&str, Text, FxHasher64, Narrow>(bytes, root, &key))
+/// }
+/// ```
+pub fn make_ascii_uppercase_of<
+    A: NativeKey<K>,
+    K: KeyElement + Represents<A>,
+    H: KeyHasher,
+    W: Width,
+>(archive: &mut [u8], root: u64, key: &A) -> Option<bool>
+    requires map { Viewable (text_map_spec W.word K.spec) archive.old root }
+    requires query { A.can_read key.now }
+    ensures answer { RaisesText (text_map_at W.Word K.HasSpec archive.old root)
+        (asked H.hasher K.key_calls K.same (A.calls key.now) (A.fits key.now))
+        result archive.new }
+    ensures listed { RaisesFirst (text_map_at W.Word K.HasSpec archive.old root)
+        (asked_value H.hasher K.key_calls K.represents (A.eq key.now)) result archive.new }
+    ensures parts { WritesParts (text_map_spec W.word K.spec) archive.old archive.new root }
+{
+    match ArchivedHashMap::<K, Text<W>, H, W>::value_pos_in(&*archive, root, key) {
+        Some(pos) => Some(uppercase_at::<W>(archive, pos as usize)),
+        None => None,
+    }
+}

@@ -1,0 +1,36 @@
+//! Laws of writes of one value in place.
+
+ghost use Rattle.rkyv_collections.specs.Map.{hash_at};
+ghost use Rattle.rkyv_collections.specs.Map.MapFormat.{hash_of};
+ghost use Rattle.rkyv_collections.specs.Map.ValueWrites.{ValueWritesKeepAnswers};
+ghost use Rattle.rkyv_collections.specs.Map.ValueWrites.{ValueWritesKeepMaps};
+ghost use Rattle.rkyv_collections.specs.Map.ValueWrites.{ValuesWrittenRepresent};
+
+use rkyv_base::element::{Element, Represents};
+use rkyv_base::width::Width;
+use rkyv_keys::keys::{KeyElement, Query};
+use rkyv_scan::hash::KeyHasher;
+
+/// States that a write of one value in place that keeps it valid keeps the map.
+///
+/// - The map is valid. All keys and all other values are unchanged.
+/// - Each lookup whose comparison depends only on the key finds the same key.
+/// - A written map is still one.
+pub fn value_writes_keep_maps<K: KeyElement, V: Element, H: KeyHasher, W: Width>()
+    ensures { ValueWritesKeepMaps W.word K.spec V.spec
+        (hash_at H.hasher K.key_calls) }
+{}
+
+/// States that each query finds the same key after a write of one value that keeps it valid.
+pub fn value_writes_keep_answers<K: KeyElement, V: Element, Q: Query<K>, H: KeyHasher, W: Width>()
+    ensures { let hash = hash_of H.hasher Q.calls in
+        ValueWritesKeepAnswers W.word K.spec V.spec Q.can_read hash Q.fits }
+{}
+
+/// States that a write of one value in place replaces it in the represented list of pairs.
+pub fn values_written_represent<A, B, K: KeyElement, V: Represents<B>, H: KeyHasher, W: Width>()
+where
+    K: Represents<A>,
+    ensures { ValuesWrittenRepresent W.word K.spec V.spec K.represents V.represents
+        (hash_at H.hasher K.key_calls) }
+{}

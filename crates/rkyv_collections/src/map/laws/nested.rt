@@ -1,0 +1,44 @@
+//! Laws of writes among the parts of a value, as to a map that is the value of another map.
+ghost use Rattle.rkyv_collections.specs.Map.{hash_at};
+ghost use Rattle.rkyv_collections.specs.Natives.{native_keys};
+ghost use Rattle.rkyv_collections.specs.Map.NestedWrites.{
+  NestedWritesKeepMaps,
+  NestedWritesRepresent,
+  ValueWritesAreNested,
+};
+
+use rkyv_base::element::{Element, Represents};
+use rkyv_base::width::Width;
+use rkyv_keys::keys::{KeyElement, NativeKey};
+use rkyv_scan::hash::KeyHasher;
+
+/// States that a write of one value that keeps it valid is a write among its map's parts.
+///
+/// So the map may itself be the value of another map.
+pub fn value_writes_are_nested<K: KeyElement, V: Element, W: Width>()
+    ensures { ValueWritesAreNested W.word K.spec V.spec }
+{}
+
+/// States that a write among the parts of a value that keeps it valid keeps the map.
+///
+/// - The map is valid. All keys and all other values are unchanged.
+/// - A written map is still one.
+/// - The write is one among the parts of the map.
+pub fn nested_writes_keep_maps<K: KeyElement, V: Element, H: KeyHasher, W: Width>()
+    ensures { NestedWritesKeepMaps W.word K.spec V.spec (hash_at H.hasher K.key_calls) }
+{}
+
+/// States that a write among the parts of a found value replaces it in the represented list.
+///
+/// The map represents the list with the new value in the first pair with an equal key.
+pub fn nested_writes_represent<
+    A: NativeKey<K>,
+    B,
+    K: KeyElement + Represents<A>,
+    V: Represents<B>,
+    H: KeyHasher,
+    W: Width,
+>()
+    ensures { NestedWritesRepresent W.word K.spec V.spec
+        (native_keys K.represents (hash_at H.hasher K.key_calls) A.fits A.eq) V.represents }
+{}

@@ -1,0 +1,29 @@
+//! The law of written maps, in any archive that contains their bytes.
+
+ghost use Rattle.rkyv_collections.specs.Map.MapFormat.{WrittenMapsRepresent};
+ghost use Rattle.rkyv_keys.specs.Natives.{native_pairs};
+ghost use Rattle.rkyv_collections.specs.Natives.{pair_format};
+
+use rkyv_base::archive::Archive;
+use rkyv_base::element::Represents;
+use rkyv_base::width::Width;
+use rkyv_keys::keys::{KeyElement, NativeKey};
+use rkyv_scan::hash::KeyHasher;
+
+/// States that a written map with its header is valid in any archive that has its bytes.
+///
+/// The header is aligned and after the written bytes. It has the length and the capacity
+/// of the map. The entries are under the hashes of their keys in insertion order.
+/// Each pair is in its home bucket.
+pub fn written_maps_represent<
+    W: Width,
+    H: KeyHasher,
+    K: KeyElement + Represents<A>,
+    V: Represents<B>,
+    A: NativeKey<K> + Archive<W, Archived = K>,
+    B: Archive<W, Archived = V>,
+>()
+    ensures { WrittenMapsRepresent W.word
+        (pair_format K.spec V.spec A.format B.format H.hasher A.calls)
+        (native_pairs K.represents V.represents H.hasher K.key_calls) }
+{}

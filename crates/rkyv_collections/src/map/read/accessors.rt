@@ -1,0 +1,88 @@
+//! Opening a map, and the numbers of its header.
+//!
+//! `of` decodes the header once. The map is a copy of the view and the numbers, so it can be passed
+//! by value.
+ghost use Rattle.std.specs.Prelude.{IsTrue, ◌↔◌, ◌≡◌};
+ghost use Rattle.rkyv_base.specs.View.{IsAt, IsValidView};
+ghost use Rattle.rkyv_collections.specs.Map.{map_archive, map_cap, map_len, map_pos};
+ghost use Rattle.rkyv_collections.specs.Map.MapSpec.{map_spec};
+
+use crate::map::{ArchivedHashMap, HashMapOf};
+use rkyv_base::element::Element;
+use rkyv_base::entry::Entry;
+use rkyv_base::view::View;
+use rkyv_base::width::Width;
+use rkyv_table::table::{ArchivedHashTable, TableOf};
+
+impl<'a, K: Element, V: Element, H, W: Width> ArchivedHashMap<'a, K, V, H, W> {
+    /// Returns the map at a view of its header, which is decoded here, once.
+    ///
+    /// # Requires
+    ///
+    /// - The view is of a valid map.
+    ///
+    /// # Examples
+    ///
+    /// ```rust
+    /// use rkyv_base::access::access;
+    /// use rkyv_base::errors::VerifyError;
+    /// use rkyv_collections::map::{ArchivedHashMap, HashMapOf};
+    ///
+    /// // Returns the number of pairs of a map, and the value of a key.
+    /// fn look_up(archive: &[u8], key: i8) -> Result<(usize, Option<i8>), VerifyError> {
+    ///     let map = ArchivedHashMap::of(access::<HashMapOf<i8, i8>>(archive)?);
+    ///     match map.get(&key) {
+    ///         Some(value) => Ok((map.len(), Some(value.to_native()))),
+    ///         None => Ok((map.len(), None)),
+    ///     }
+    /// }
+    ///
+    /// assert_eq!(rt; look_up(&four_pairs(), 3).ok(), Some((4, Some(4))));
+    /// ```
+    #[inline]
+    pub fn of(view: View<'a, HashMapOf<K, V, H, W>>) -> ArchivedHashMap<'a, K, V, H, W>
+        requires { IsValidView (map_spec W.word K.spec V.spec) view }
+        ensures view { result.view ≡ view.entry }
+    {
+        let table = ArchivedHashTable::of(view.at::<TableOf<Entry<K, V>, W>>(view.pos()));
+        ArchivedHashMap {
+            view,
+            header: table.header(),
+        }
+    }
+
+    /// Returns the table of the entries.
+    #[inline]
+    pub(crate) fn table(self) -> ArchivedHashTable<'a, Entry<K, V>, W>
+        ensures at { IsAt result.view (map_archive self.entry) (map_pos self.entry) }
+    {
+        ArchivedHashTable::with_header(
+            self.view.at::<TableOf<Entry<K, V>, W>>(self.view.pos()),
+            self.header,
+        )
+    }
+
+    /// Returns `true` if and only if the map has no pairs.
+    #[inline]
+    pub fn is_empty(self) -> bool
+        ensures { IsTrue result ↔ (map_len self.entry ≡ 0) }
+    {
+        self.len() == 0
+    }
+
+    /// Returns the number of pairs.
+    #[inline]
+    pub fn len(self) -> usize
+        ensures { result ≡ map_len self.entry }
+    {
+        self.header.len()
+    }
+
+    /// Returns the number of buckets.
+    #[inline]
+    pub fn capacity(self) -> usize
+        ensures { result ≡ map_cap self.entry }
+    {
+        self.header.capacity()
+    }
+}

@@ -1,0 +1,88 @@
+//! Equality of maps.
+//!
+//! `eq_map` compares two maps by lookups, in any order of their pairs. `ElementEq` does the same
+//! for maps that are values.
+ghost use Rattle.std.specs.Prelude.{◌+◌, ◌≡◌};
+ghost use Rattle.rkyv_base.specs.Entry.{value_offset};
+ghost use Rattle.rkyv_base.specs.View.{IsAt, IsValidView, archive_of, pos_of};
+ghost use Rattle.rkyv_keys.specs.Places.{at_views};
+ghost use Rattle.rkyv_collections.specs.Map.Equality.{finds_same, map_equal};
+ghost use Rattle.rkyv_collections.specs.Map.{hash_at, map_view};
+ghost use Rattle.rkyv_collections.specs.Map.MapSpec.{map_spec};
+
+use crate::map::{ArchivedHashMap, HashMapOf};
+use rkyv_base::view::View;
+use rkyv_base::width::Width;
+use rkyv_keys::equality::ElementEq;
+use rkyv_keys::keys::KeyElement;
+use rkyv_scan::hash::KeyHasher;
+
+impl<'a, K: KeyElement, V: ElementEq, H: KeyHasher, W: Width> ArchivedHashMap<'a, K, V, H, W> {
+    /// Returns `true` if and only if a lookup of the key finds a value that is the same.
+    #[inline]
+    fn matches(self, key: View<'_, K>, value: View<'_, V>) -> bool
+        requires key { IsValidView K.spec key }
+        requires value { IsValidView V.spec value }
+        requires pair { IsAt value (archive_of key) (pos_of key + value_offset K.spec V.spec) }
+        ensures { let key_hash = hash_at H.hasher K.key_calls in
+            result ≡ finds_same self.entry key_hash K.same V.same key.entry }
+    {
+        match self.get(&key) {
+            Some(found) => V::same(value, found),
+            None => false,
+        }
+    }
+
+    /// Returns `true` if and only if both maps have the same length and the same pairs.
+    ///
+    /// They have the same pairs if a lookup of each key of this map finds the same value
+    /// in `other`. A map with misplaced keys may differ from itself.
+    ///
+    /// Each pair costs a lookup in `other`. In an untrusted map, keys that share a hash make
+    /// the cost quadratic in their number.
+    ///
+    /// # Examples
+    ///
+    /// ```rust
+    /// // Returns whether the maps in two archives have the same pairs.
+    /// fn equal(first: &[u8], second: &[u8]) -> Result<bool, VerifyError> {
+    ///     let first = ArchivedHashMap::of(access::<HashMapOf<i8, i8>>(first)?);
+    ///     let second = ArchivedHashMap::of(access::<HashMapOf<i8, i8>>(second)?);
+    ///     Ok(first.eq_map(second))
+    /// }
+    ///
+    /// let same = equal(&four_pairs(), &four_pairs_backwards()).ok();
+    /// assert_eq!(rt; same, Some(true));
+    /// ```
+    #[inline]
+    pub fn eq_map(self, other: ArchivedHashMap<'_, K, V, H, W>) -> bool
+        ensures { let key_hash = hash_at H.hasher K.key_calls in
+            result ≡ at_views (map_equal W.word K.spec V.spec key_hash K.same V.same)
+            (map_view self.entry) (map_view other.entry) }
+    {
+        if self.len() != other.len() {
+            return false;
+        }
+        for (key, value) in self.iter() {
+            if !other.matches(key, value) {
+                return false;
+            }
+        }
+        true
+    }
+}
+
+impl<K: KeyElement, V: ElementEq, H: KeyHasher, W: Width> ElementEq for HashMapOf<K, V, H, W> {
+    ghost same = { map_equal W.word K.spec V.spec (hash_at H.hasher K.key_calls) K.same V.same };
+
+    #[inline]
+    fn same(a: View<'_, HashMapOf<K, V, H, W>>, b: View<'_, HashMapOf<K, V, H, W>>) -> bool
+        requires a { IsValidView (map_spec W.word K.spec V.spec) a }
+        requires b { IsValidView (map_spec W.word K.spec V.spec) b }
+        ensures { let key_hash = hash_at H.hasher K.key_calls in
+            result ≡ at_views (map_equal W.word K.spec V.spec key_hash K.same V.same) a.entry
+            b.entry }
+    {
+        ArchivedHashMap::of(a).eq_map(ArchivedHashMap::of(b))
+    }
+}

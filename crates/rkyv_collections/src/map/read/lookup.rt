@@ -1,0 +1,263 @@
+//! Lookups: finding a pair of a map by its key.
+//!
+//! - `get` returns a view of the value, and `get_key_value` also of the key.
+//! - `contains_key` returns `true` if a key is found. `index` takes a key that must be found.
+//! - `get_with` and `get_key_value_with` take a comparison in place of the query's own.
+//!
+//! A lookup in an untrusted map may read every group of its control bytes once.
+//! `FxHasher64` takes no secret key, so it doesn't protect from chosen input.
+ghost use Rattle.std.specs.Prelude.{IfSome, IsSome, Option, Some, ◌<◌, ◌^◌, ◌≡◌, ℕ};
+ghost use Rattle.rkyv_scan.specs.Hash.{hash_of_calls};
+ghost use Rattle.rkyv_base.specs.Entry.{entry_spec};
+ghost use Rattle.rkyv_base.specs.View.{IsAt, IsValidView, archive_of, pos_of};
+ghost use Rattle.rkyv_base.specs.declared.view.View.{View};
+ghost use Rattle.rkyv_collections.specs.Map.Lookups.{GetsBy, GetsKey, IsPairOfEntry};
+ghost use Rattle.rkyv_collections.specs.Map.Lookups.{IsValueOfEntry};
+ghost use Rattle.rkyv_collections.specs.Map.Lookups.{TellsKey, entry_part, pair_part, value_part};
+ghost use Rattle.rkyv_keys.specs.Asked.{asked};
+ghost use Rattle.rkyv_collections.specs.Map.{FindsKey, IsEntryAt, IsFoundAt, MayAskKeys, hash_at};
+ghost use Rattle.rkyv_collections.specs.Map.{map_bytes};
+ghost use Rattle.rkyv_collections.specs.Map.MapFormat.{hash_of};
+
+use crate::map::ArchivedHashMap;
+use rkyv_base::element::Element;
+use rkyv_base::entry::Entry;
+use rkyv_base::view::{PairView, View};
+use rkyv_base::width::Width;
+use rkyv_keys::hash::{KeyHash, hash_value};
+use rkyv_keys::keys::{KeyElement, Query};
+use rkyv_scan::hash::KeyHasher;
+
+/// Returns `true` if and only if an entry is found.
+#[inline]
+pub(crate) fn is_found<T: Element>(found: Option<View<'_, T>>) -> bool
+    ensures { (place : Option ℕ) → IsEntryAt found.entry place → IsFoundAt result place }
+{
+    found.is_some()
+}
+
+/// Returns the key and the value of a found entry.
+#[inline]
+pub(crate) fn found_pair<'a, K: Element, V: Element>(
+    found: Option<View<'a, Entry<K, V>>>,
+) -> Option<PairView<'a, K, V>>
+    requires { IfSome found (IsValidView (entry_spec K.spec V.spec)) }
+    ensures { IsPairOfEntry K.spec V.spec result found.entry }
+{
+    match found {
+        Some(entry) => Some((entry.key(), entry.value())),
+        None => None,
+    }
+}
+
+/// Returns the value of a found entry.
+#[inline]
+pub(crate) fn found_value<'a, K: Element, V: Element>(
+    found: Option<View<'a, Entry<K, V>>>,
+) -> Option<View<'a, V>>
+    requires { IfSome found (IsValidView (entry_spec K.spec V.spec)) }
+    ensures { IsValueOfEntry K.spec V.spec result found.entry }
+{
+    match found {
+        Some(entry) => Some(entry.value()),
+        None => None,
+    }
+}
+
+// Every lookup is one call of `find`.
+impl<'a, K: KeyElement, V: Element, H: KeyHasher, W: Width> ArchivedHashMap<'a, K, V, H, W> {
+    /// Returns an entry whose key the comparison accepts, under the hash of `key`, or `None`.
+    #[inline]
+    pub(crate) fn find<Q: KeyHash, F>(self, key: &Q, cmp: F) -> Option<View<'a, Entry<K, V>>>
+    where
+        F: Fn(&Q, View<'a, K>) -> bool,
+        requires query { Q.can_read key.now }
+        requires callable { MayAskKeys self (F.pre cmp key) }
+        ensures found { GetsBy entry_part self.entry (hash_of H.hasher Q.calls key.now)
+            (hash_at H.hasher K.key_calls) (F.post cmp key.entry) result }
+        ensures hash { hash_of_calls H.hasher (Q.calls key.now) < 2 ^ 64 }
+    {
+        let hash = hash_value::<Q, H>(key);
+        self.table().get_with(
+            hash,
+            |entry|
+                requires entry { IsValidView (entry_spec K.spec V.spec) entry }
+                requires callable { (k : View K) → IsAt k (archive_of entry) (pos_of entry)
+                    → IsValidView K.spec k → F.pre cmp key k }
+                ensures { (k : View K) × IsAt k (archive_of entry.entry) (pos_of entry.entry)
+                    × IsValidView K.spec k × F.post cmp key.entry k result }
+            { cmp(key, entry.key()) },
+        )
+    }
+
+    /// Returns a pair whose key the comparison accepts, in a lookup under the hash of `key`.
+    ///
+    /// The result is `None` or a pair of the map, whatever the comparison returns.
+    /// The comparison is called with keys of the map alone, and may be called twice with one.
+    ///
+    /// If the comparison depends only on the position of a key, the control bytes decide which pair
+    /// it is. In a written map, it is the first accepted pair in insertion order
+    /// if each accepted key is under the hash of `key`.
+    ///
+    /// A lookup in an untrusted map may read every group of its control bytes once.
+    ///
+    /// # Requires
+    ///
+    /// - `key` can be read.
+    /// - The comparison can be called with `key` and each key of the map.
+    #[inline]
+    pub fn get_key_value_with<Q: KeyHash, F>(self, key: &Q, cmp: F) -> Option<PairView<'a, K, V>>
+    where
+        F: Fn(&Q, View<'a, K>) -> bool,
+        requires query { Q.can_read key.now }
+        requires callable { MayAskKeys self (F.pre cmp key) }
+        ensures { GetsBy pair_part self.entry (hash_of H.hasher Q.calls key.now)
+            (hash_at H.hasher K.key_calls) (F.post cmp key.entry) result }
+    {
+        found_pair(self.find(key, cmp))
+    }
+
+    /// Returns the value of a pair whose key the comparison accepts, or `None`.
+    ///
+    /// It looks up as `get_key_value_with` does.
+    ///
+    /// A lookup in an untrusted map may read every group of its control bytes once.
+    ///
+    /// # Requires
+    ///
+    /// - `key` can be read.
+    /// - The comparison can be called with `key` and each key of the map.
+    #[inline]
+    pub fn get_with<Q: KeyHash, F>(self, key: &Q, cmp: F) -> Option<View<'a, V>>
+    where
+        F: Fn(&Q, View<'a, K>) -> bool,
+        requires query { Q.can_read key.now }
+        requires callable { MayAskKeys self (F.pre cmp key) }
+        ensures { GetsBy value_part self.entry (hash_of H.hasher Q.calls key.now)
+            (hash_at H.hasher K.key_calls) (F.post cmp key.entry) result }
+    {
+        found_value(self.find(key, cmp))
+    }
+
+    /// Returns the entry of the key that the query finds, or `None`.
+    #[inline]
+    pub(crate) fn find_key<Q: Query<K>>(self, key: &Q) -> Option<View<'a, Entry<K, V>>>
+        requires query { Q.can_read key.now }
+        ensures { GetsKey entry_part self.entry
+            (asked H.hasher K.key_calls K.same (Q.calls key.now) (Q.fits key.now)) result }
+    {
+        self.find(
+            key,
+            |key, stored|
+                requires query { Q.can_read key.now }
+                requires key { IsValidView K.spec stored }
+                ensures { result ≡ Q.fits key.entry.now stored.entry.archive.now stored.entry.pos }
+            { key.same(stored) },
+        )
+    }
+
+    /// Returns the pair of the key that the query finds, or `None`.
+    ///
+    /// In a written map, it is the first pair in insertion order whose key the query fits.
+    ///
+    /// In an untrusted map, a lookup may miss a key that the query fits.
+    /// No key is missed if `misplaced` is 0. The lookup then finds the one key that the query fits,
+    /// and `None` if and only if it fits none.
+    ///
+    /// A lookup in an untrusted map may read every group of its control bytes once.
+    /// `FxHasher64` takes no secret key, so it doesn't protect from chosen input.
+    ///
+    /// # Requires
+    ///
+    /// - The query can be read.
+    #[inline]
+    pub fn get_key_value<Q: Query<K>>(self, key: &Q) -> Option<PairView<'a, K, V>>
+        requires query { Q.can_read key.now }
+        ensures { GetsKey pair_part self.entry
+            (asked H.hasher K.key_calls K.same (Q.calls key.now) (Q.fits key.now)) result }
+    {
+        found_pair(self.find_key(key))
+    }
+
+    /// Returns the value of the key that the query finds, or `None`.
+    ///
+    /// It looks up as `get_key_value` does.
+    ///
+    /// A lookup in an untrusted map may read every group of its control bytes once.
+    ///
+    /// # Requires
+    ///
+    /// - The query can be read.
+    ///
+    /// # Examples
+    ///
+    /// ```rust
+    /// type Prices = HashMapOf<Text, u32>;
+    ///
+    /// fn price_of(archive: &[u8], name: &str) -> Result<Option<u32>, VerifyError> {
+    ///     match ArchivedHashMap::of(access::<Prices>(archive)?).get(&name) {
+    ///         Some(price) => Ok(Some(price.to_native())),
+    ///         None => Ok(None),
+    ///     }
+    /// }
+    /// ```
+    #[inline]
+    pub fn get<Q: Query<K>>(self, key: &Q) -> Option<View<'a, V>>
+        requires query { Q.can_read key.now }
+        ensures { GetsKey value_part self.entry
+            (asked H.hasher K.key_calls K.same (Q.calls key.now) (Q.fits key.now)) result }
+    {
+        found_value(self.find_key(key))
+    }
+
+    /// Returns `true` if and only if the query finds a key.
+    ///
+    /// A lookup in an untrusted map may read every group of its control bytes once.
+    ///
+    /// # Requires
+    ///
+    /// - The query can be read.
+    #[inline]
+    pub fn contains_key<Q: Query<K>>(self, key: &Q) -> bool
+        requires query { Q.can_read key.now }
+        ensures { TellsKey self.entry
+            (asked H.hasher K.key_calls K.same (Q.calls key.now) (Q.fits key.now)) (IsFoundAt
+            result) }
+    {
+        is_found(self.find_key(key))
+    }
+
+    /// Returns the value of the key that the query finds.
+    ///
+    /// A lookup in an untrusted map may read every group of its control bytes once.
+    ///
+    /// # Requires
+    ///
+    /// - The query can be read.
+    /// - The query finds a key. `contains_key` then returns `true`.
+    ///
+    /// # Examples
+    ///
+    /// ```rust
+    /// // Returns the value of a key by `index`, if the map has the key.
+    /// fn indexed(bytes: &[u8], key: u32) -> Result<Option<u32>, VerifyError> {
+    ///     let root = access_in::<Wide, HashMapOf<u32, u32, FxHasher64, Wide>>(bytes)?;
+    ///     let map = ArchivedHashMap::of(root);
+    ///     if map.contains_key(&key) {
+    ///         return Ok(Some(map.index(&key).to_native()));
+    ///     }
+    ///     Ok(None)
+    /// }
+    /// ```
+    #[inline]
+    pub fn index<Q: Query<K>>(self, key: &Q) -> View<'a, V>
+        requires query { Q.can_read key.now }
+        requires found { FindsKey self
+            (hash_of H.hasher Q.calls key.now)
+            (Q.fits key.now (map_bytes self)) IsSome }
+        ensures { GetsKey value_part self.entry
+            (asked H.hasher K.key_calls K.same (Q.calls key.now) (Q.fits key.now)) (Some result) }
+    {
+        self.find_key(key).unwrap().value()
+    }
+}

@@ -1,0 +1,135 @@
+//! Writing maps from iterators of pairs.
+//!
+//! `serialize_from_iter` writes the entries and returns a resolver. Its `resolve` then writes
+//! the header.
+
+ghost use Rattle.std.specs.Prelude.{◌≡◌, ◌+◌, ◌<◌, ◌^◌, length};
+ghost use Rattle.rkyv_table.specs.Table.TableFormat.{resolver_of};
+ghost use Rattle.rkyv_collections.specs.Natives.{pair_format};
+ghost use Rattle.rkyv_collections.specs.Map.Writing.{ResolvesMap, WritesMap, pairs_in};
+
+mod hashing;
+
+use crate::map::ArchivedHashMap;
+use crate::map::write::hashing::HashedEntries;
+use rkyv_base::adapter::EntryAdapter;
+use rkyv_base::archive::{ResolveResult, Serialize, WriteResult};
+use rkyv_base::element::{HasSpec, Represents};
+use rkyv_base::entry::Entry;
+use rkyv_base::lend::Lend;
+use rkyv_base::width::{Narrow, Width};
+use rkyv_base::writer::Writer;
+use rkyv_keys::keys::{KeyElement, NativeKey};
+use rkyv_scan::Group;
+use rkyv_scan::hash::KeyHasher;
+use rkyv_table::table::ArchivedHashTable;
+use rkyv_table::table::resolve::HashTableResolver;
+use std::alloc::Global;
+
+/// The resolver of a written map: that of the table of its entries.
+pub type HashMapResolver<W = Narrow> = HashTableResolver<W>;
+
+impl<'a, K: KeyElement, V: HasSpec, H: KeyHasher, W: Width> ArchivedHashMap<'a, K, V, H, W> {
+    /// Writes a map of `len` pairs and returns its resolver.
+    ///
+    /// The pairs have their keys and values as themselves or by reference.
+    /// Pairs with equal keys are kept, and a lookup finds the first.
+    ///
+    /// The bytes are those of a table of the entries, each under the hash of its key.
+    /// The table's own `serialize_from_iter` has the layout. Nothing is written for no pairs.
+    ///
+    /// By tests alone: the iterator is called at most `len + 1` times,
+    /// and not after it returned `None`. No pair is taken before an allocation failure
+    /// of this call.
+    ///
+    /// # Requires
+    ///
+    /// - The iterator can be called.
+    ///
+    /// # Errors
+    ///
+    /// - `InvalidLoadFactor`: the load factor isn't above 0 and at most 1.
+    /// - `CapacityTooLarge`: the capacity is above `W::MAX_CAPACITY`.
+    /// - `Memory`: memory for placing the pairs could not be allocated.
+    /// - `IteratorLengthMismatch`: the number of pairs isn't `len`. The number is counted up
+    ///   to `len + 1`.
+    /// - The error of the first key, value or piece that fails.
+    ///
+    /// Nothing is written with the first four errors. The bytes written before the call
+    /// are unchanged.
+    ///
+    /// # Examples
+    ///
+    /// ```rust
+    /// type Numbers = ArchivedHashMap<'static, i8, i8, FxHasher64, Narrow>;
+    ///
+    /// let mut writer = VecWriter::new(alloc);
+    /// let resolver = Numbers::serialize_from_iter::<VecWriter, i8, i8, i8, i8, _>(
+    ///     alloc,
+    ///     pairs.iter().copied(),
+    ///     pairs.len(),
+    ///     (7, 8),
+    ///     &mut writer,
+    /// )?;
+    /// ```
+    pub fn serialize_from_iter<
+        S: Writer,
+        A: NativeKey<K> + Serialize<S, W, Archived = K>,
+        B: Serialize<S, W, Archived = V>,
+        BK: Lend<A> + Drop,
+        BV: Lend<B> + Drop,
+        I: Iterator<Item = (BK, BV)>,
+    >(
+        alloc: Global,
+        iter: I,
+        len: usize,
+        load_factor: (usize, usize),
+        serializer: &mut S,
+    ) -> WriteResult<HashMapResolver<W>, S>
+    where
+        K: Represents<A>,
+        V: Represents<B>,
+        requires ready { I.can_next iter }
+        ensures { WritesMap W.Width
+            (pair_format K.spec V.spec A.format B.format H.hasher A.calls)
+            (pairs_in BK.Lend BV.Lend I.Iterator iter len load_factor)
+            (S.output serializer.old) (S.output serializer.new) result }
+    {
+        let entries = HashedEntries::new(iter);
+        ArchivedHashTable::<Entry<K, V>, W>::serialize_by::<
+            Group,
+            S,
+            EntryAdapter<BK, BV, A, B>,
+            EntryAdapter<BK, BV, A, B>,
+            HashedEntries<I, A, B, H>,
+        >(alloc, entries, len, load_factor, serializer)
+    }
+
+    /// Writes the header of a written map over the whole of `out`, for a header at `pos`.
+    ///
+    /// # Requires
+    ///
+    /// - `len` and `load_factor` are those of the resolver.
+    /// - `out` has the size of a header.
+    /// - The header ends below 2^64.
+    ///
+    /// # Errors
+    ///
+    /// - `DistanceTooLarge`: the map isn't empty, and the distance doesn't fit in the width.
+    ///   `out` is unchanged.
+    pub fn resolve_from_len(
+        len: usize,
+        load_factor: (usize, usize),
+        resolver: HashMapResolver<W>,
+        pos: u64,
+        out: &mut [u8],
+    ) -> ResolveResult
+        requires same { (len ≡ resolver.len) × (load_factor ≡ resolver.load_factor) }
+        requires room { length out.old ≡ W.TABLE_SIZE }
+        requires fits { pos + W.TABLE_SIZE < 2 ^ 64 }
+        ensures { ResolvesMap W.word (resolver_of len load_factor resolver.pos) pos
+            out.old out.new result }
+    {
+        ArchivedHashTable::<Entry<K, V>, W>::resolve_from_len(len, load_factor, resolver, pos, out)
+    }
+}

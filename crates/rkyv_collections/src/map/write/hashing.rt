@@ -1,0 +1,53 @@
+//! Pairs under the hashes of their keys, as the input of a call that writes a table.
+
+ghost use Rattle.std.specs.Prelude.{◌≡◌};
+ghost use Rattle.rkyv_collections.specs.Map.HashedPairs.{HashedStep};
+ghost use Rattle.rkyv_collections.specs.Map.MapFormat.{hash_of};
+
+use rkyv_base::adapter::EntryAdapter;
+use rkyv_base::lend::Lend;
+use rkyv_keys::hash::{KeyHash, hash_value};
+use rkyv_scan::hash::KeyHasher;
+use std::marker::PhantomData;
+
+/// The pairs of an iterator, each as an entry under the hash of its key.
+#[derive(Drop)]
+pub(crate) struct HashedEntries<I, A, B, H> {
+    pairs: I,
+    kinds: PhantomData<(A, B, H)>,
+}
+
+impl<I, A, B, H> HashedEntries<I, A, B, H> {
+    #[inline]
+    pub(crate) fn new(pairs: I) -> HashedEntries<I, A, B, H>
+        ensures { result.pairs ≡ pairs }
+    {
+        HashedEntries {
+            pairs,
+            kinds: PhantomData,
+        }
+    }
+}
+
+impl<A: KeyHash, B, H: KeyHasher, BK: Lend<A>, BV: Lend<B>, I: Iterator<Item = (BK, BV)>> Iterator
+    for HashedEntries<I, A, B, H> {
+    type Item = (u64, EntryAdapter<BK, BV, A, B>);
+
+    ghost can_next = { λ s. I.can_next s.pairs × ((key : A) → A.can_read key) };
+
+    ghost next_gives = { λ s r t. HashedStep I.next_gives (λ key.
+        hash_of H.hasher A.calls (BK.lent key)) s.pairs r t.pairs };
+
+    ghost remaining = { λ s. I.remaining s.pairs };
+
+    #[inline]
+    fn next(&mut self) -> Option<(u64, EntryAdapter<BK, BV, A, B>)> {
+        match self.pairs.next() {
+            Some((key, value)) => {
+                let hash = hash_value::<A, H>(key.lend());
+                Some((hash, EntryAdapter::new(key, value)))
+            }
+            None => None,
+        }
+    }
+}

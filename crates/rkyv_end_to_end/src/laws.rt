@@ -1,0 +1,25 @@
+//! The law of written lists.
+ghost use Rattle.std.specs.Prelude.{ℕ};
+ghost use Rattle.rkyv_end_to_end.specs.Listing.{ListsAreValid, encoding};
+
+use rkyv_base::archive::Archive;
+use rkyv_base::lend::Lend;
+use rkyv_base::width::Width;
+use rkyv_table::table::laws::walk_visits_homes;
+use rkyv_table::table::laws::written::{
+    valid_tables_were_written, written_tables_pass, written_tables_represent,
+};
+
+/// States that a written table with its header is valid in each archive that has its bytes.
+///
+/// It is valid with each range around the table. Each item is in its home bucket,
+/// and the walk visits these buckets and no others.
+pub fn written_lists_represent<W: Width, U: Archive<W>, X: Lend<U>>()
+    ensures { (load_factor : ℕ × ℕ) →
+        ListsAreValid W.word (encoding U.Archived.Represents U.Archive X.Lend) load_factor }
+{
+    written_tables_represent::<W, U, X>();
+    written_tables_pass::<W, U, X>();
+    valid_tables_were_written::<W, U, X>();
+    walk_visits_homes();
+}

@@ -1,0 +1,16 @@
+use Rattle.rkyv_index.specs.Index.{fits_at, index_of}
+use Rattle.rkyv_index.proofs.Queries.{answers_fits}
+use Rattle.rkyv_index.proofs.QueryPlaces.{query_place}
+use Rattle.rkyv_index.proofs.map.ArchivedIndexMap.find_counted.Goals as goal
+
+pub returns-clause-found : goal.returns-clause-found
+returns-clause-found g c =
+    query_place c.args.self
+    g.H.KeyHasher.hasher g.K.ElementEq.same g.K.KeyElement.key_calls g.Q.KeyHash.can_read g.Q.KeyHash.calls g.Q.Query.fits g.met.Q.Query.query c.args.key.now c.requires.query c.find.ensures.hash
+    _ (λ key r e. e.1) c.find.result c.find.ensures.found
+
+pub returns-clause-counted : goal.returns-clause-counted
+returns-clause-counted g c =
+    let m = c.args.self in
+    let fits = g.Q.Query.fits c.args.key.now in
+    c.find.ensures.counted (fits_at (index_of m) fits) (answers_fits m fits _ (λ key r e. e.1))

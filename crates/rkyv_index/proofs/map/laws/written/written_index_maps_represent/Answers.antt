@@ -1,0 +1,9 @@
+use Rattle.rkyv_index.specs.Lemmas.IndexSound.{index_sound}
+use Rattle.rkyv_index.proofs.map.laws.written.written_index_maps_represent.Goals as goal
+
+pub returns : goal.returns
+returns g c = λ factor.
+    let h = g.H.KeyHasher in
+    let key = g.met.A in
+    index_sound h.hasher g.W.Word.word g.met.W.Width.layout.kind g.W.Place.HasSpec.spec g.W.Place.Scalar.encoding g.W.Place.HasSpec.laws g.met.W.Place.Scalar.laws g.met.W.Width.place g.met.W.PlaceWidth.reads_back g.K.HasSpec.laws g.V.HasSpec.laws factor
+    key.Query.query key.NativeKey.native key.Eq.laws.refl key.NativeKey.reads key.Archive.laws g.met.B.Archive.laws

@@ -1,0 +1,30 @@
+use Rattle.std.proofs.Common.{◌∙◌, ap}
+use Rattle.rkyv_base.specs.Entry.{entry_spec}
+use Rattle.rkyv_base.specs.Lemmas.Entry.{entry_element}
+use Rattle.rkyv_base.specs.View.{IsAt}
+use Rattle.rkyv_index.specs.Index.{key_pos}
+use Rattle.rkyv_index.specs.Index.IndexLayout.{entry_at}
+use Rattle.rkyv_index.proofs.Checking.{view_there}
+use Rattle.rkyv_index.proofs.Held.{entry_viewable}
+use Rattle.rkyv_index.proofs.map.read.entries.Entries.entry.Goals as goal
+
+pub at-requires : goal.at-requires
+at-requires g c =
+    let m = c.args.self.map.view in
+    let k = g.K.HasSpec.spec in
+    let v = g.V.HasSpec.spec in
+    let e = c.requires.entries in
+    let there = entry_viewable g.W.Word.word g.met.W.Width.layout.kind (entry_spec k v) (entry_element k v g.K.HasSpec.laws g.V.HasSpec.laws) m.archive.now m.pos c.args.self.map.valid c.args.place c.requires.below in
+    rw (c.entry_pos-at.ensures, c.size.ensures, e.begin) there
+
+pub returns : goal.returns
+returns g c =
+    let m = c.args.self.map.view in
+    let k = g.K.HasSpec.spec in
+    let v = g.V.HasSpec.spec in
+    let s = entry_spec k v in
+    let e = c.requires.entries in
+    let there = entry_viewable g.W.Word.word g.met.W.Width.layout.kind s (entry_element k v g.K.HasSpec.laws g.V.HasSpec.laws) m.archive.now m.pos c.args.self.map.valid c.args.place c.requires.below in
+    let at = c.entry_pos-at.ensures ∙ ap (λ n. entry_at n c.args.self.begin c.args.place) c.size.ensures ∙ ap (λ q. entry_at s.size q c.args.place) e.begin in
+    let is : IsAt c.at.result m.archive (key_pos c.args.self.map c.args.place) = (c.at.ensures.0, c.at.ensures.1 ∙ at) in
+    record { below = c.requires.below; at = is; viewable = view_there s c.at.result m.archive (key_pos c.args.self.map c.args.place) is there }

@@ -1,0 +1,31 @@
+use Rattle.std.proofs.Common.{Some, ap, sym, ◌∙◌}
+use Rattle.std.specs.Option.{option_map}
+use Rattle.rkyv_index.specs.Index.{place_at}
+use Rattle.rkyv_index.proofs.PlacesFound.{counts_as, finds_as}
+use Rattle.rkyv_index.proofs.map.read.entries.find_place.Goals as goal
+
+pub returns-in-Some-clause-found : goal.returns-in-Some-clause-found
+returns-in-Some-clause-found g c =
+    let w = g.W.Word.word in
+    let held = c.get_counted-held.result in
+    record {
+      held = held;
+      found = finds_as _ _ (λ h r x. x.1) c.args.table c.args.hash held c.get_counted-held.ensures.found;
+      is = ap Some c.read_place.ensures ∙ ap (option_map (place_at w)) (sym c.in-Some.is);
+    }
+
+pub returns-clause-found : goal.returns-clause-found
+returns-clause-found g c =
+    let w = g.W.Word.word in
+    let held = c.get_counted-held.result in
+    record {
+      held = held;
+      found = finds_as _ _ (λ h r x. x.1) c.args.table c.args.hash held c.get_counted-held.ensures.found;
+      is = ap (option_map (place_at w)) (sym c.in-None.is);
+    }
+
+pub returns-in-Some-clause-counts : goal.returns-in-Some-clause-counts
+returns-in-Some-clause-counts g c = counts_as _ _ (λ h r x. x.1) c.args.table c.args.hash _ _ c.get_counted-held.ensures.counts
+
+pub returns-clause-counts : goal.returns-clause-counts
+returns-clause-counts g c = counts_as _ _ (λ h r x. x.1) c.args.table c.args.hash _ _ c.get_counted-held.ensures.counts

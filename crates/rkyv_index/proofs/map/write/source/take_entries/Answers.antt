@@ -1,0 +1,31 @@
+use Rattle.std.proofs.Common.{arith, ◌≡◌, ◌+◌, ◌++◌, ◌∷◌, [], refl, ap, ◌∙◌, inl, inr, length}
+use Rattle.std.proofs.lemmas.List.{length-map, length_push}
+use Rattle.rkyv_index.specs.Index.Writing.{made_of}
+use Rattle.rkyv_index.proofs.EntrySteps.{made_more}
+use Rattle.rkyv_table.proofs.PlacingSteps.{yields_more}
+use Rattle.rkyv_index.proofs.map.write.source.take_entries.Goals as goal
+
+pub returns-in-None : goal.returns-in-None
+returns-in-None g c =
+    let i = c.loop-count.invariant in
+    let n = length-map {B = g.row.BK.Denot × g.row.BV.Denot} c.loop-count.entries.items (λ e. (e.key, e.value)) in
+    let t = c.loop-count-test.true in
+    ((made_of c.loop-count.entries.items, omega (arith, n, i.count), inl (omega arith, (_, (_, i.taken, c.in-None.ensures.steps)))), λ z. omega (arith, z, t))
+
+pub loop-count-preserved : goal.loop-count-preserved
+loop-count-preserved g c =
+    let i = c.loop-count.invariant in
+    record {
+      ready = c.in-Some.ensures.keeps;
+      taken = rw (c.push_reserved.ensures.items) (made_more g.I.Iterator.next_gives _ _ _ c.loop-count.entries.items c.new.result i.taken (rw (c.new.ensures.key, c.new.ensures.value) c.in-Some.ensures.steps));
+      count = ap length c.push_reserved.ensures.items ∙ length_push c.loop-count.entries.items _ ∙ ap (λ n. n + 1) i.count;
+      room = rw c.push_reserved.ensures.capacity i.room;
+    }
+
+pub returns-in-Some-next_pair : goal.returns-in-Some-next_pair
+returns-in-Some-next_pair g c =
+    let i = c.loop-count.invariant in
+    let e : c.loop-count.count ≡ c.args.len = omega (arith, c.loop-count.auto.count-end, c.loop-count-test.false) in
+    let k = length-map {B = g.row.BK.Denot × g.row.BV.Denot} c.loop-count.entries.items (λ e. (e.key, e.value)) in
+    let n = length_push (made_of c.loop-count.entries.items) c.in-Some-next_pair.field-0 in
+    ((made_of c.loop-count.entries.items ++ c.in-Some-next_pair.field-0 ∷ [], omega (arith, n, k, i.count, e), inr (refl, (_, yields_more g.I.Iterator.next_gives _ _ _ (made_of c.loop-count.entries.items) _ i.taken c.in-Some-next_pair.ensures.steps))), λ z. omega (arith, z))

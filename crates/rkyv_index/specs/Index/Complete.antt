@@ -1,0 +1,31 @@
+-- Lookups that find the one key that fits.
+use Rattle.std.specs.Prelude.{◌≡◌, ℕ, ◌<◌, Bool, true, false, Option, MatchOption}
+use Rattle.std.specs.Prelude.{List}
+use Rattle.rkyv_keys.specs.Equality.{Comparison}
+use Rattle.rkyv_table.specs.Table.Header.{len_at}
+use Rattle.rkyv_index.specs.Index.Equality.{index_misplaced}
+use Rattle.rkyv_index.specs.Index.{Index, fits_at}
+
+module _ (len : ℕ) (fits : ℕ → Bool) where
+  -- `fits i` is `false` for each index `i` below `len`
+  abbrev pub NoneFits : Type 0
+  NoneFits = (i : ℕ) → i < len → fits i ≡ false
+
+  -- `place`: the only index below `len` that fits
+  pub record FitsAlone (place : ℕ) : Type 0 where
+    pub below : place < len
+    pub fitting : fits place ≡ true
+    pub alone : (i : ℕ) → i < len → fits i ≡ true → i ≡ place
+
+  -- `found`: the only index that fits, or `None` if none fits
+  abbrev pub FindsTheOne : Option ℕ → Type 0
+  FindsTheOne found = MatchOption found NoneFits FitsAlone
+
+-- if no key is misplaced, `P` is a property of the only index whose key fits,
+-- or of `None` if no key fits
+abbrev pub FindsOneKey : {K : Type 0} → Index K → (List ℕ → ℕ → ℕ) → Comparison
+    → (List ℕ → ℕ → Bool) → (Option ℕ → Type 0) → Type 0
+FindsOneKey m key_hash same fits P =
+    index_misplaced m key_hash same ≡ 0
+    → (place : Option ℕ) × FindsTheOne (len_at m.word m.bytes m.pos) (fits_at m fits) place
+    × P place

@@ -1,0 +1,161 @@
+-- The format of a list as an index map, and the bytes that represent the list.
+use Rattle.std.specs.Prelude.{◌≡◌, ℕ, ◌+◌, ◌⊎◌, List, [], ◌∷◌, ◌++◌, length, map, slice_get, Some}
+use Rattle.std.specs.Int.{Width, byte_len}
+use Rattle.rkyv_base.specs.Bytes.{number_at}
+use Rattle.rkyv_base.specs.Entry.{entry_spec}
+use Rattle.rkyv_base.specs.Format.{Format, IsFormat}
+use Rattle.rkyv_base.specs.Pairs.{PairRepresents, pair_format}
+use Rattle.rkyv_base.specs.Scalar.{Encoding, scalar_format}
+use Rattle.rkyv_base.specs.ElementSpec.{ElementSpec}
+use Rattle.rkyv_base.specs.Writing.{Step, padding, piece, zeros}
+use Rattle.rkyv_scan.specs.Hash.{Hasher, HasherCall, hash_of_calls}
+use Rattle.rkyv_table.specs.Table.Header.{cap_at, len_at}
+use Rattle.rkyv_table.specs.Controls.Numbers.{capacity}
+use Rattle.rkyv_table.specs.Table.Positions.{WrittenAt, home_positions}
+use Rattle.rkyv_table.specs.Table.TableFormat.{PairsNext, TableParts, TableResolver}
+use Rattle.rkyv_table.specs.Table.TableFormat.{resolved_capacity}
+use Rattle.rkyv_index.specs.Index.IndexHeader.{IndexOverflows, IndexResolver, IsIndexHeader}
+use Rattle.rkyv_index.specs.Index.IndexLayout.{index_spec, pair_pos, places_of}
+use Rattle.rkyv_index.specs.Index.Row.{RowImages, RowNext, RowParts, RowPartsNext}
+
+-- the code of each number that is encoded by `e` is the number
+abbrev pub CodesReadBack : {P : Type 0} → Encoding P → Type 0
+CodesReadBack e = (n : ℕ) → e.code (e.value n) ≡ n
+
+-- the indices of the values from `i` on, each under the hash of its value
+abbrev pub places_from : {X P : Type 0} → (X → ℕ) → (ℕ → P) → ℕ → List X → List (ℕ × P)
+places_from hash place i [] = []
+places_from hash place i (x ∷ xs) = (hash x, place i) ∷ places_from hash place (i + 1) xs
+
+module _ {P X R : Type 0} (w : Width) (ps : ElementSpec) (e : Encoding P) (s : ElementSpec)
+    (f : Format X R)
+    (hash : X → ℕ)
+    (load_factor : ℕ × ℕ) (xs : List X) (p : ℕ) where
+  -- the indices of `xs`, each under the hash of its value
+  abbrev pub places : List (ℕ × P)
+  places = places_from hash e.value 0 xs
+
+  -- `part`: bytes of the table of indices, which are written first. `r`: its resolver
+  abbrev pub PlaceTable : List ℕ → TableResolver → Type 0
+  PlaceTable part r = TableParts w ps (scalar_format e) load_factor places p part r
+
+  -- `front`: bytes of the table of indices, and then the parts of the values
+  pub record BeforeZeros (front : List ℕ) (t : TableResolver) (rs : List R) : Type 0 where
+    pub table : List ℕ
+    pub row : List ℕ
+    pub made : PlaceTable table t
+    pub parts : RowParts f xs (p + length table) row rs
+    pub is : front ≡ table ++ row
+
+  -- `front`: those bytes, and then zeros up to the alignment of the values
+  pub record BeforeRow (front : List ℕ) (t : TableResolver) (rs : List R) : Type 0 where
+    pub head : List ℕ
+    pub made : BeforeZeros head t rs
+    pub is : front ≡ head ++ zeros (padding s.align (p + length head))
+
+  -- `part`: bytes of the written index map. `r`: its resolver
+  pub record IndexParts (part : List ℕ) (r : IndexResolver) : Type 0 where
+    pub front : List ℕ
+    pub resolvers : List R
+    pub row : List ℕ
+    pub before : BeforeRow front r.table resolvers
+    pub at : r.entries ≡ p + length front
+    pub shown : RowImages f xs resolvers r.entries row
+    pub is : part ≡ front ++ row
+
+  -- `step`: next step after `front`. It is a step of the table, of the parts of a value,
+  -- of the zeros, or of the own bytes of a value
+  abbrev pub IndexNext : List ℕ → Step → Type 0
+  IndexNext front step = PairsNext w ps (scalar_format e) load_factor places p front
+      step
+      ⊎ ((table : List ℕ) × (t : TableResolver) × (rest : List ℕ) × PlaceTable table t
+      × RowPartsNext f xs (p + length table) rest step × (front ≡ table ++ rest))
+      ⊎ ((t : TableResolver) × (rs : List R) × BeforeZeros front t rs
+      × (step ≡ piece (zeros (padding s.align (p + length front)))))
+      ⊎ ((a : List ℕ) × (t : TableResolver) × (rs : List R) × (rest : List ℕ) × BeforeRow a t rs
+      × RowNext f xs rs (p + length a) rest step × (front ≡ a ++ rest))
+
+-- the format of a list of values of spec `s` as an index map under a load factor.
+-- The indices have the spec `ps` and the encoding `e`. Each value is under its hash
+abbrev pub row_format : {P X R : Type 0} → Width → ElementSpec → Encoding P → ElementSpec
+    → Format X R → (X
+    → ℕ) → ℕ × ℕ
+    → Format (List X) IndexResolver
+row_format w ps e s f hash load_factor = record {
+  parts = IndexParts w ps e s f hash load_factor;
+  next = IndexNext w ps e s f hash load_factor;
+  image = λ xs r p out. IsIndexHeader w r.table.len (resolved_capacity r.table) r p out;
+  overflow = λ xs r p. IndexOverflows w r.table.len r p;
+}
+
+-- the hash of a value by its hasher calls
+abbrev pub hash_of : {State A : Type 0} → Hasher State
+    → (A → List HasherCall) → A → ℕ
+hash_of hasher calls value = hash_of_calls hasher (calls value)
+
+-- The format of a list of pairs, in insertion order, as an index map under a load factor.
+-- Its table has the index of each pair under the hash of its key. The parts of the entries follow,
+-- then zeros, and then the entries.
+abbrev pub index_format : {P A B R Q : Type 0} → Width → ElementSpec → Encoding P → ElementSpec
+    → ElementSpec
+    → Format A R
+    → Format B Q → (A → ℕ) → ℕ × ℕ → Format (List (A × B)) IndexResolver
+index_format w ps e k v key value hash load_factor = row_format w ps e (entry_spec k v)
+    (pair_format k v key value) (λ pair. hash pair.0) load_factor
+
+-- the map at `p` was written: its table has the indices in order, each under the hash of its key
+-- and with the home buckets `homes`
+pub record IndexWrittenAt (w : Width) (size : ℕ) (key_hash : List ℕ → ℕ → ℕ) (b : List ℕ) (p : ℕ)
+    (homes : List ℕ) : Type 0 where
+  pub table : WrittenAt w b p (map (λ i. key_hash b (pair_pos w size b p i))
+      (places_of (len_at w b p))) homes
+  pub places : map (number_at w b) (home_positions w (byte_len w) b p homes) ≡ places_of
+      (len_at w b p)
+
+-- The index map at `p` represents the list `xs`: it was written, and the values are in a row,
+-- in insertion order. `hash b q`: hash of the value at `q`.
+pub record RowRepresents {X : Type 0} (w : Width) (size : ℕ) (represents : List ℕ → ℕ → X → Type 0)
+    (hash : List ℕ → ℕ → ℕ) (load_factor : ℕ × ℕ) (b : List ℕ) (p : ℕ) (xs : List X) : Type 0 where
+  pub homes : List ℕ
+  pub written : IndexWrittenAt w size hash b p homes
+  pub len : len_at w b p ≡ length xs
+  pub cap : cap_at w b p ≡ capacity (length xs) load_factor
+  pub at : (i : ℕ) (x : X) → slice_get xs i ≡ Some x → represents b (pair_pos w size b p i) x
+
+-- the index map at `p` represents the list `pairs`, under the hashes of their keys
+abbrev pub IndexRepresents : {A B : Type 0} → Width → ElementSpec → ElementSpec → (List ℕ → ℕ → A
+    → Type 0)
+    → (List ℕ → ℕ → B → Type 0) → (List ℕ → ℕ → ℕ) → ℕ × ℕ → List ℕ → ℕ → List (A × B) → Type 0
+IndexRepresents w k v key value hash load_factor b p pairs = RowRepresents w (entry_spec k v).size
+    (PairRepresents k v key value) hash load_factor b p pairs
+
+-- how indices are written: their spec and their encoding
+pub record PlacesAs (P : Type 0) : Type 1 where
+  pub spec : ElementSpec
+  pub encoding : Encoding P
+
+-- indices of this spec and encoding
+abbrev pub indices : {P : Type 0} → ElementSpec → Encoding P → PlacesAs P
+indices spec encoding = record { spec = spec; encoding = encoding }
+
+-- how values are archived by an element: its spec, the values that it represents,
+-- and their format
+pub record ArchivedAs (A R : Type 0) : Type 1 where
+  pub spec : ElementSpec
+  pub represents : List ℕ → ℕ → A → Type 0
+  pub format : Format A R
+
+-- values that are archived by an element of this spec
+abbrev pub element : {A R : Type 0} → ElementSpec → (List ℕ → ℕ → A → Type 0) → Format A R
+    → ArchivedAs A R
+element spec represents format = record { spec = spec; represents = represents; format = format }
+
+-- Under each load factor, written bytes of pairs and an aligned header behind them are a valid
+-- index map. It represents the pairs, in any archive that has these bytes.
+abbrev pub WrittenIndexMaps : {P A B R Q : Type 0} → Width → PlacesAs P
+    → ArchivedAs A R → ArchivedAs B Q → (List ℕ → ℕ → ℕ) → (A → ℕ) → Type 0
+WrittenIndexMaps w places k v key_hash hash =
+    (load_factor : ℕ × ℕ) → IsFormat (index_spec w (entry_spec k.spec v.spec))
+    (IndexRepresents w k.spec v.spec k.represents v.represents key_hash load_factor)
+    (index_format w places.spec places.encoding k.spec v.spec k.format v.format hash
+    load_factor)

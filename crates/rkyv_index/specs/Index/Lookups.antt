@@ -1,0 +1,84 @@
+-- The clauses of lookups on their results.
+use Rattle.rkyv_base.specs.declared.element.HasSpec.{Ghosts as Specs}
+use Rattle.rkyv_base.specs.declared.width.Word.{Ghosts as Words}
+use Rattle.std.specs.Prelude.{◌≡◌, ℕ, Bool, IfSome, List, Option}
+use Rattle.rkyv_base.specs.declared.view.View.{View}
+use Rattle.rkyv_keys.specs.Asked.{Asked}
+use Rattle.rkyv_index.specs.Index.Complete.{FindsOneKey}
+use Rattle.rkyv_index.specs.Index.{FindsBy, FindsFirstBy, FindsFirstKey, FindsKey, IsAccepted}
+use Rattle.rkyv_index.specs.Index.{IsFullResult, IsFullKeyIn, IsStored, IsStoredIndex, IsKeyOf}
+use Rattle.rkyv_index.specs.Index.{IsPairOf}
+use Rattle.rkyv_index.specs.Index.{IsPlace, MatchesAt, IsValueOf, full_key_place, result_index}
+use Rattle.rkyv_index.specs.Index.{index_of}
+use Rattle.rkyv_index.specs.declared.map.ArchivedIndexMap.{ArchivedIndexMap}
+
+-- What a lookup in `M` returns of the pair that it finds. `In m x`: `x` is of a pair of `m`
+-- whose index a full bucket has, `At m result place`: the result is of the pair at the index,
+-- or there is neither
+pub record Part (M X : Type 0) : Type 1 where
+  pub In : M → X → Type 0
+  pub At : M → Option X → Option ℕ → Type 0
+
+module _ {K V H W : Type 0} {ks : Specs K} {vs : Specs V} {wt : Words W} where
+  -- the index
+  abbrev pub place_part : Part (ArchivedIndexMap K V H W ks vs wt) ℕ
+  place_part = record { In = IsStoredIndex; At = λ m. IsPlace }
+
+  -- the index, the key and the value
+  abbrev pub full_part : Part (ArchivedIndexMap K V H W ks vs wt) (ℕ × View K × View V)
+  full_part = record { In = IsFullResult; At = λ m result place. result_index result ≡ place }
+
+  -- the index and the key
+  abbrev pub full_key_part : Part (ArchivedIndexMap K V H W ks vs wt) (ℕ × View K)
+  full_key_part = record {
+    In = IsFullKeyIn;
+    At = λ m result place. full_key_place result ≡ place;
+  }
+
+  -- what `Related` describes, without the index
+  abbrev pub part_at : {X : Type 0} → (ArchivedIndexMap K V H W ks vs wt → ℕ → X → Type 0)
+      → Part (ArchivedIndexMap K V H W ks vs wt) X
+  part_at Related = record {
+    In = λ m x. (i : ℕ) × IsStored m i × Related m i x;
+    At = λ m. MatchesAt (Related m);
+  }
+
+  -- the key and the value
+  abbrev pub pair_part : Part (ArchivedIndexMap K V H W ks vs wt) (View K × View V)
+  pair_part = part_at IsPairOf
+
+  -- the key
+  abbrev pub key_part : Part (ArchivedIndexMap K V H W ks vs wt) (View K)
+  key_part = part_at IsKeyOf
+
+  -- the value
+  abbrev pub value_part : Part (ArchivedIndexMap K V H W ks vs wt) (View V)
+  value_part = part_at IsValueOf
+
+  module _ (m : ArchivedIndexMap K V H W ks vs wt) where
+    -- `P` is a property of the index that a lookup finds: in any map, in a written map,
+    -- and if no key is misplaced
+    pub record TellsKey (a : Asked) (P : Option ℕ → Type 0) : Type 0 where
+      pub answer : FindsKey (index_of m) a.hash a.fits P
+      pub first : FindsFirstKey (index_of m) a.key_hash a.fits P
+      pub complete : FindsOneKey (index_of m) a.key_hash a.same a.fits P
+
+  module _ {X : Type 0} (part : Part (ArchivedIndexMap K V H W ks vs wt) X)
+      (m : ArchivedIndexMap K V H W ks vs wt) where
+    -- `result`: part of the pair that a lookup finds. `answer`: in any map, by the control bytes.
+    -- `first`: in a written map, of the first key that fits. `complete`: of the only key that fits,
+    -- if no key is misplaced
+    pub record GetsKey (a : Asked) (result : Option X) : Type 0 where
+      pub walked : IfSome result (part.In m)
+      pub answer : FindsKey (index_of m) a.hash a.fits (part.At m result)
+      pub first : FindsFirstKey (index_of m) a.key_hash a.fits (part.At m result)
+      pub complete : FindsOneKey (index_of m) a.key_hash a.same a.fits (part.At m result)
+
+    -- `result`: part of the pair that a lookup by a comparison finds, under the hash.
+    -- `accepted`: the comparison accepted the key of the pair
+    pub record GetsBy (hash : ℕ) (key_hash : List ℕ → ℕ → ℕ) (post : View K → Bool → Type 0)
+        (result : Option X) : Type 0 where
+      pub walked : IfSome result (part.In m)
+      pub accepted : (place : Option ℕ) × part.At m result place × IfSome place (IsAccepted m post)
+      pub answer : FindsBy (index_of m) post hash (part.At m result)
+      pub first : FindsFirstBy (index_of m) post hash key_hash (part.At m result)

@@ -1,0 +1,96 @@
+-- Lookups in an index map that return a seal of the value.
+use Rattle.std.specs.Prelude.{◌≡◌, ℕ, ◌<◌, List, Option}
+use Rattle.std.specs.Int.{Width}
+use Rattle.std.specs.Option.{option_map}
+use Rattle.rkyv_base.specs.Entry.{entry_spec}
+use Rattle.rkyv_base.specs.Seal.{archive_in, pos_in}
+use Rattle.rkyv_base.specs.Sealing.{value_pos}
+use Rattle.rkyv_base.specs.ElementSpec.{ElementSpec, Viewable}
+use Rattle.rkyv_base.specs.View.{IsValidView, bytes_of, pos_of}
+use Rattle.rkyv_base.specs.declared.seal.ArchiveSeal.{ArchiveSeal}
+use Rattle.rkyv_base.specs.declared.seal.Seal.{Seal}
+use Rattle.rkyv_base.specs.declared.view.View.{View}
+use Rattle.rkyv_table.specs.Table.Header.{len_at}
+use Rattle.rkyv_table.specs.Table.PairSeals.{LendsPair, LendsValue}
+use Rattle.rkyv_index.specs.Index.{Index, IsStoredAt, MatchesAt}
+use Rattle.rkyv_index.specs.Index.IndexLayout.{index_spec}
+use Rattle.rkyv_index.specs.Index.ValueWrites.{KeptByWrites, pair_at}
+use Rattle.rkyv_index.specs.declared.map.IndexMapOf.{IndexMapOf}
+
+-- the archive has a valid index map at the position of the seal `a`
+abbrev pub IsIndexSeal : {K V H W : Type 0} → Width → ElementSpec → ElementSpec
+    → ArchiveSeal (IndexMapOf K V H W) → Type 0
+IsIndexSeal w k v a = Viewable (index_spec w (entry_spec k v)) (archive_in a) (pos_in a)
+
+-- `key`: view of the key at index `i` of the map at `p`, in the bytes `b`
+pub record IsKeyAt {K : Type 0} (w : Width) (k v : ElementSpec) (b : List ℕ) (p i : ℕ)
+    (key : View K) :
+    Type 0 where
+  pub below : i < len_at w b p
+  pub bytes : bytes_of key ≡ b
+  pub place : pos_of key ≡ pair_at w k v b p i
+  pub viewable : IsValidView k key
+
+-- the index map at `p` of the bytes `b`. Its keys are viewed in any archive with the same bytes
+abbrev pub index_at : {K : Type 0} → Width → ElementSpec → ElementSpec → List ℕ → ℕ → Index K
+index_at w k v b p = record {
+  word = w;
+  key = k;
+  value = v;
+  bytes = b;
+  pos = p;
+  is_key = IsKeyAt w k v b p;
+}
+
+-- the index map at the seal `a`
+abbrev pub index_in : {K V H W : Type 0} → Width → ElementSpec → ElementSpec
+    → ArchiveSeal (IndexMapOf K V H W) → Index K
+index_in w k v a = index_at w k v (archive_in a) (pos_in a)
+
+-- `q`: position of the pair at index `i` of the map at `p`, with a valid key and value.
+-- A write of the value alone that keeps it valid keeps the index map
+pub record IsPairPos (w : Width) (k v : ElementSpec) (b : List ℕ) (p i q : ℕ) : Type 0 where
+  pub below : i < len_at w b p
+  pub place : q ≡ pair_at w k v b p i
+  pub key : Viewable k b q
+  pub value : Viewable v b (value_pos k v q)
+  pub kept : KeptByWrites w k v b p i
+
+module _ {K V H W : Type 0} (w : Width) (k v : ElementSpec) (a : ArchiveSeal
+    (IndexMapOf K V H W)) where
+  -- `q`: position of the pair at index `i` of the index map at the seal
+  abbrev pub IsPairPlace : ℕ → ℕ → Type 0
+  IsPairPlace i q = IsPairPos w k v (archive_in a) (pos_in a) i q
+
+  -- `full`: an index in a full bucket, the view of its key and the seal of its value
+  abbrev pub IsFullSeal : ℕ × View K × Seal V → Type 0
+  IsFullSeal full = IsStoredAt w (archive_in a) (pos_in a) full.0
+      × LendsPair k v (archive_in a) (IsPairPlace full.0) (full.1, full.2)
+
+  -- `pair`: view of the key and seal of the value at an index in a full bucket
+  abbrev pub IsPairSeal : View K × Seal V → Type 0
+  IsPairSeal pair = (i : ℕ) × IsStoredAt w (archive_in a) (pos_in a) i
+      × LendsPair k v (archive_in a) (IsPairPlace i) pair
+
+  -- `value`: seal of the value at an index in a full bucket
+  abbrev pub IsValueSeal : Seal V → Type 0
+  IsValueSeal value = (i : ℕ) × IsStoredAt w (archive_in a) (pos_in a) i
+      × LendsValue k v (archive_in a) (IsPairPlace i) value
+
+  -- `result`: the pair at the index `place`, or `None` if `place` is `None`
+  abbrev pub SealsPair : Option (View K × Seal V) → Option ℕ → Type 0
+  SealsPair result place =
+      MatchesAt (λ i. LendsPair k v (archive_in a) (IsPairPlace i)) result place
+
+  -- `result`: the value at the index `place`, or `None` if `place` is `None`
+  abbrev pub SealsValue : Option (Seal V) → Option ℕ → Type 0
+  SealsValue result place =
+      MatchesAt (λ i. LendsValue k v (archive_in a) (IsPairPlace i)) result place
+
+-- the index in `result`
+abbrev pub full_seal_place : {K V : Type 0} → Option (ℕ × View K × Seal V) → Option ℕ
+full_seal_place {K} {V} result = option_map (λ (full : ℕ × View K × Seal V). full.0) result
+
+-- `result` has the index `place`, or both are `None`
+abbrev pub IsFullSealAt : {K V : Type 0} → Option (ℕ × View K × Seal V) → Option ℕ → Type 0
+IsFullSealAt result place = full_seal_place result ≡ place

@@ -1,0 +1,3 @@
+-- Definitions on index sets.
+pub mod IndexSet
+pub mod SetFormat

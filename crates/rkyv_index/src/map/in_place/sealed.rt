@@ -1,0 +1,468 @@
+//! Lookups that return a seal of the value.
+//!
+//! - `get_seal` returns a seal of the value, and `get_key_value_seal` also a view of the key.
+//!   `get_full_seal` returns the index, too.
+//! - `get_seal_with`, `get_key_value_seal_with` and `get_full_seal_with` take a comparison.
+//!
+//! Take `set_value_at` of `map::in_place` to write a scalar by an index. `map::laws` has the laws
+//! of writes in place.
+//!
+//! A lookup in an untrusted map may read every group of its control bytes once.
+ghost use Rattle.std.specs.Prelude.{IfSome, length, ◌+◌, ◌<◌, ◌≡◌, ◌≤◌};
+ghost use Rattle.rkyv_base.specs.Entry.{entry_spec};
+ghost use Rattle.rkyv_base.specs.Seal.{LiesIn, SealAt, archive_in, bytes_in, pos_in, seal_pos};
+ghost use Rattle.rkyv_base.specs.Sealing.{value_pos};
+ghost use Rattle.rkyv_base.specs.ElementSpec.{Viewable};
+ghost use Rattle.rkyv_base.specs.View.{IsValidView};
+ghost use Rattle.rkyv_table.specs.Table.Header.{len_at};
+ghost use Rattle.rkyv_table.specs.Table.PairSeals.{LendsPair, LendsValue};
+ghost use Rattle.rkyv_index.specs.Index.{FindsBy, FindsFirstBy, FindsFirstKey, FindsKey};
+ghost use Rattle.rkyv_index.specs.Index.{IsStoredAt};
+ghost use Rattle.rkyv_index.specs.Index.{IsPlace, MayAskKeysOf, hash_at, index_bytes, index_pos};
+ghost use Rattle.rkyv_index.specs.Index.IndexFormat.{hash_of};
+ghost use Rattle.rkyv_index.specs.Index.SealedIndex.{
+  IsFullSeal,
+  IsFullSealAt,
+  IsIndexSeal,
+  IsPairPlace,
+  IsPairSeal,
+  SealsPair,
+  IsValueSeal,
+  SealsValue,
+  index_in,
+};
+
+use crate::map::{ArchivedIndexMap, IndexMapOf};
+use rkyv_base::element::Element;
+use rkyv_base::entry::value_offset;
+use rkyv_base::seal::{ArchiveSeal, Seal};
+use rkyv_base::view::View;
+use rkyv_base::width::Width;
+use rkyv_keys::hash::KeyHash;
+use rkyv_keys::keys::{KeyElement, Query};
+use rkyv_scan::hash::KeyHasher;
+use rkyv_table::Strides;
+
+/// Returns a seal of the value behind the key at `pos`.
+#[inline]
+fn value_seal<'a, K: Element, V: Element, H, W>(
+    this: ArchiveSeal<'a, IndexMapOf<K, V, H, W>>,
+    pos: u64,
+) -> Seal<'a, V>
+    requires { value_pos K.spec V.spec pos + V.spec.size ≤ length (archive_in this) }
+    ensures at { SealAt result this.entry.archive (value_pos K.spec V.spec pos) }
+    ensures inside { LiesIn V.spec result }
+{
+    let (archive, _) = this.into_parts();
+    Seal::over(archive, pos as usize + value_offset::<K, V>())
+}
+
+// Every sealed lookup finds an index, and then returns a seal of the pair or value at it.
+impl<'a, K: KeyElement, V: Element, H: KeyHasher, W: Width> ArchivedIndexMap<'a, K, V, H, W> {
+    /// Returns the index map at the seal, to be read.
+    #[inline]
+    fn read<'s>(
+        this: &'s ArchiveSeal<'_, IndexMapOf<K, V, H, W>>,
+    ) -> ArchivedIndexMap<'s, K, V, H, W>
+        requires { IsIndexSeal W.word K.spec V.spec this.now }
+        ensures bytes { index_bytes result ≡ archive_in this.now }
+        ensures pos { index_pos result ≡ pos_in this.now }
+    {
+        ArchivedIndexMap::of(this.as_view())
+    }
+
+    /// Returns the index that `find` finds, or `None`.
+    #[inline]
+    fn find_in<Q: KeyHash, F: Fn(&Q, View<'_, K>) -> bool>(
+        this: &ArchiveSeal<'_, IndexMapOf<K, V, H, W>>,
+        key: &Q,
+        cmp: F,
+    ) -> Option<usize>
+        requires map { IsIndexSeal W.word K.spec V.spec this.now }
+        requires query { Q.can_read key.now }
+        requires callable { MayAskKeysOf (index_in W.word K.spec V.spec this.now)
+            (F.pre cmp key) }
+        ensures held { IfSome result (IsStoredAt W.word (archive_in this.now) (pos_in this.now)) }
+        ensures below { IfSome result
+            (λ i. i < len_at W.word (archive_in this.now) (pos_in this.now)) }
+        ensures answer { FindsBy (index_in W.word K.spec V.spec this.now)
+            (F.post cmp key.entry) (hash_of H.hasher Q.calls key.now) (IsPlace result) }
+        ensures first { FindsFirstBy (index_in W.word K.spec V.spec this.now)
+            (F.post cmp key.entry) (hash_of H.hasher Q.calls key.now)
+            (hash_at H.hasher K.key_calls) (IsPlace result) }
+    {
+        Self::read(this).find(key, cmp, &mut Strides::new())
+    }
+
+    /// Returns the index of the key that the query finds, or `None`.
+    #[inline]
+    fn find_key_in<Q: Query<K>>(
+        this: &ArchiveSeal<'_, IndexMapOf<K, V, H, W>>,
+        key: &Q,
+    ) -> Option<usize>
+        requires map { IsIndexSeal W.word K.spec V.spec this.now }
+        requires query { Q.can_read key.now }
+        ensures held { IfSome result (IsStoredAt W.word (archive_in this.now) (pos_in this.now)) }
+        ensures below { IfSome result
+            (λ i. i < len_at W.word (archive_in this.now) (pos_in this.now)) }
+        ensures answer { FindsKey (index_in W.word K.spec V.spec this.now)
+            (hash_of H.hasher Q.calls key.now) (Q.fits key.now) (IsPlace result) }
+        ensures first { FindsFirstKey (index_in W.word K.spec V.spec this.now)
+            (hash_at H.hasher K.key_calls) (Q.fits key.now) (IsPlace result) }
+    {
+        Self::read(this).find_key(key)
+    }
+
+    /// Returns the position of the pair at the index `place`.
+    #[inline]
+    fn pair_pos_in(this: &ArchiveSeal<'_, IndexMapOf<K, V, H, W>>, place: usize) -> u64
+        requires map { IsIndexSeal W.word K.spec V.spec this.now }
+        requires below { place < len_at W.word (archive_in this.now) (pos_in this.now) }
+        ensures at { IsPairPlace W.word K.spec V.spec this.now place result }
+        ensures entry { Viewable (entry_spec K.spec V.spec) (archive_in this.now) result }
+    {
+        Self::read(this).entries().entry(place).pos()
+    }
+
+    /// Returns a view of the key at the index `place` and a seal of its value.
+    #[inline]
+    fn lend_pair(
+        this: ArchiveSeal<'a, IndexMapOf<K, V, H, W>>,
+        place: usize,
+    ) -> (View<'a, K>, Seal<'a, V>)
+        requires map { IsIndexSeal W.word K.spec V.spec this }
+        requires below { place < len_at W.word (archive_in this) (pos_in this) }
+        ensures inside { LiesIn V.spec result.1 }
+        ensures lent { LendsPair K.spec V.spec (archive_in this.entry)
+            (IsPairPlace W.word K.spec V.spec this.entry place) result }
+    {
+        let pos = Self::pair_pos_in(&this, place);
+        this.split_value(pos)
+    }
+
+    /// Returns a seal of the value at the index `place`.
+    #[inline]
+    fn lend_value(this: ArchiveSeal<'a, IndexMapOf<K, V, H, W>>, place: usize) -> Seal<'a, V>
+        requires map { IsIndexSeal W.word K.spec V.spec this }
+        requires below { place < len_at W.word (archive_in this) (pos_in this) }
+        ensures inside { LiesIn V.spec result }
+        ensures viewable { Viewable V.spec (bytes_in result) (seal_pos result) }
+        ensures lent { LendsValue K.spec V.spec (archive_in this.entry)
+            (IsPairPlace W.word K.spec V.spec this.entry place) result }
+    {
+        let pos = Self::pair_pos_in(&this, place);
+        value_seal(this, pos)
+    }
+
+    /// Returns a found index, a view of its key and a seal of its value.
+    #[inline]
+    fn full_seal_of(
+        this: ArchiveSeal<'a, IndexMapOf<K, V, H, W>>,
+        place: Option<usize>,
+    ) -> Option<(usize, View<'a, K>, Seal<'a, V>)>
+        requires map { IsIndexSeal W.word K.spec V.spec this }
+        requires held { IfSome place (IsStoredAt W.word (archive_in this) (pos_in this)) }
+        requires below { IfSome place
+            (λ i. i < len_at W.word (archive_in this) (pos_in this)) }
+        ensures inside { IfSome result (λ full. LiesIn V.spec full.2) }
+        ensures viewable { IfSome result (λ full. IsValidView K.spec full.1) }
+        ensures walked { IfSome result (IsFullSeal W.word K.spec V.spec this.entry) }
+        ensures at { IsFullSealAt result place }
+    {
+        match place {
+            Some(place) => {
+                let (key, value) = Self::lend_pair(this, place);
+                Some((place, key, value))
+            }
+            None => None,
+        }
+    }
+
+    /// Returns a view of the key at a found index and a seal of its value.
+    #[inline]
+    fn pair_seal_of(
+        this: ArchiveSeal<'a, IndexMapOf<K, V, H, W>>,
+        place: Option<usize>,
+    ) -> Option<(View<'a, K>, Seal<'a, V>)>
+        requires map { IsIndexSeal W.word K.spec V.spec this }
+        requires held { IfSome place (IsStoredAt W.word (archive_in this) (pos_in this)) }
+        requires below { IfSome place
+            (λ i. i < len_at W.word (archive_in this) (pos_in this)) }
+        ensures inside { IfSome result (λ pair. LiesIn V.spec pair.1) }
+        ensures viewable { IfSome result (λ pair. IsValidView K.spec pair.0) }
+        ensures walked { IfSome result (IsPairSeal W.word K.spec V.spec this.entry) }
+        ensures at { SealsPair W.word K.spec V.spec this.entry result place }
+    {
+        match place {
+            Some(place) => Some(Self::lend_pair(this, place)),
+            None => None,
+        }
+    }
+
+    /// Returns a seal of the value at a found index.
+    #[inline]
+    fn value_seal_of(
+        this: ArchiveSeal<'a, IndexMapOf<K, V, H, W>>,
+        place: Option<usize>,
+    ) -> Option<Seal<'a, V>>
+        requires map { IsIndexSeal W.word K.spec V.spec this }
+        requires held { IfSome place (IsStoredAt W.word (archive_in this) (pos_in this)) }
+        requires below { IfSome place
+            (λ i. i < len_at W.word (archive_in this) (pos_in this)) }
+        ensures inside { IfSome result (LiesIn V.spec) }
+        ensures viewable { IfSome result (λ value. Viewable V.spec (bytes_in value)
+            (seal_pos value)) }
+        ensures walked { IfSome result (IsValueSeal W.word K.spec V.spec this.entry) }
+        ensures at { SealsValue W.word K.spec V.spec this.entry result place }
+    {
+        match place {
+            Some(place) => Some(Self::lend_value(this, place)),
+            None => None,
+        }
+    }
+}
+
+impl<'a, K: KeyElement, V: Element, H: KeyHasher, W: Width> ArchivedIndexMap<'a, K, V, H, W> {
+    /// Returns the index, the key and a seal of the value that the comparison finds, or `None`.
+    ///
+    /// It looks up as `get_full_with` does.
+    ///
+    /// The archive is cut in two at the start of the value. The view is of the front,
+    /// and the seal is at the start of the back.
+    ///
+    /// A lookup in an untrusted map may read every group of its control bytes once.
+    ///
+    /// # Requires
+    ///
+    /// - The archive has a valid index map at the position of the seal.
+    /// - `key` can be read.
+    /// - The comparison can be called with `key` and each key of the map.
+    #[inline]
+    pub fn get_full_seal_with<Q: KeyHash, F: Fn(&Q, View<'_, K>) -> bool>(
+        this: ArchiveSeal<'a, IndexMapOf<K, V, H, W>>,
+        key: &Q,
+        cmp: F,
+    ) -> Option<(usize, View<'a, K>, Seal<'a, V>)>
+        requires map { IsIndexSeal W.word K.spec V.spec this }
+        requires query { Q.can_read key.now }
+        requires callable { MayAskKeysOf (index_in W.word K.spec V.spec this)
+            (F.pre cmp key) }
+        ensures inside { IfSome result (λ full. LiesIn V.spec full.2) }
+        ensures viewable { IfSome result (λ full. IsValidView K.spec full.1) }
+        ensures walked { IfSome result (IsFullSeal W.word K.spec V.spec this.entry) }
+        ensures answer { FindsBy (index_in W.word K.spec V.spec this.entry)
+            (F.post cmp key.entry) (hash_of H.hasher Q.calls key.now) (IsFullSealAt result) }
+        ensures first { FindsFirstBy (index_in W.word K.spec V.spec this.entry)
+            (F.post cmp key.entry) (hash_of H.hasher Q.calls key.now)
+            (hash_at H.hasher K.key_calls) (IsFullSealAt result) }
+    {
+        let place = Self::find_in(&this, key, cmp);
+        Self::full_seal_of(this, place)
+    }
+
+    /// Returns the index, the key and a seal of the value that the query finds, or `None`.
+    ///
+    /// It looks up as `get_full` does.
+    ///
+    /// The archive is cut in two at the start of the value. The view is of the front,
+    /// and the seal is at the start of the back.
+    ///
+    /// A lookup in an untrusted map may read every group of its control bytes once.
+    ///
+    /// # Requires
+    ///
+    /// - The archive has a valid index map at the position of the seal.
+    /// - The query can be read.
+    ///
+    /// # Examples
+    ///
+    /// ```rust
+    /// type Small = IndexMapOf<i8, i8>;
+    ///
+    /// let whole = access_mut::<Small>(bytes)?;
+    /// match ArchivedIndexMap::get_full_seal(whole, &key) {
+    ///     Some((place, stored, mut seal)) => {
+    ///         let before = (place, stored.to_native(), seal.to_native());
+    ///         seal.set(value);
+    ///         Ok(Some(before))
+    ///     }
+    ///     None => Ok(None),
+    /// }
+    /// ```
+    #[inline]
+    pub fn get_full_seal<Q: Query<K>>(
+        this: ArchiveSeal<'a, IndexMapOf<K, V, H, W>>,
+        key: &Q,
+    ) -> Option<(usize, View<'a, K>, Seal<'a, V>)>
+        requires map { IsIndexSeal W.word K.spec V.spec this }
+        requires query { Q.can_read key.now }
+        ensures inside { IfSome result (λ full. LiesIn V.spec full.2) }
+        ensures viewable { IfSome result (λ full. IsValidView K.spec full.1) }
+        ensures walked { IfSome result (IsFullSeal W.word K.spec V.spec this.entry) }
+        ensures answer { FindsKey (index_in W.word K.spec V.spec this.entry)
+            (hash_of H.hasher Q.calls key.now) (Q.fits key.now) (IsFullSealAt result) }
+        ensures first { FindsFirstKey (index_in W.word K.spec V.spec this.entry)
+            (hash_at H.hasher K.key_calls) (Q.fits key.now) (IsFullSealAt result) }
+    {
+        let place = Self::find_key_in(&this, key);
+        Self::full_seal_of(this, place)
+    }
+
+    /// Returns a key that the comparison accepts and a seal of its value, or `None`.
+    ///
+    /// It looks up as `get_key_value_with` does.
+    ///
+    /// The archive is cut in two at the start of the value. The view is of the front,
+    /// and the seal is at the start of the back.
+    ///
+    /// A lookup in an untrusted map may read every group of its control bytes once.
+    ///
+    /// # Requires
+    ///
+    /// - The archive has a valid index map at the position of the seal.
+    /// - `key` can be read.
+    /// - The comparison can be called with `key` and each key of the map.
+    #[inline]
+    pub fn get_key_value_seal_with<Q: KeyHash, F: Fn(&Q, View<'_, K>) -> bool>(
+        this: ArchiveSeal<'a, IndexMapOf<K, V, H, W>>,
+        key: &Q,
+        cmp: F,
+    ) -> Option<(View<'a, K>, Seal<'a, V>)>
+        requires map { IsIndexSeal W.word K.spec V.spec this }
+        requires query { Q.can_read key.now }
+        requires callable { MayAskKeysOf (index_in W.word K.spec V.spec this)
+            (F.pre cmp key) }
+        ensures inside { IfSome result (λ pair. LiesIn V.spec pair.1) }
+        ensures viewable { IfSome result (λ pair. IsValidView K.spec pair.0) }
+        ensures walked { IfSome result (IsPairSeal W.word K.spec V.spec this.entry) }
+        ensures answer { FindsBy (index_in W.word K.spec V.spec this.entry)
+            (F.post cmp key.entry) (hash_of H.hasher Q.calls key.now)
+            (SealsPair W.word K.spec V.spec this.entry result) }
+        ensures first { FindsFirstBy (index_in W.word K.spec V.spec this.entry)
+            (F.post cmp key.entry) (hash_of H.hasher Q.calls key.now)
+            (hash_at H.hasher K.key_calls)
+            (SealsPair W.word K.spec V.spec this.entry result) }
+    {
+        let place = Self::find_in(&this, key, cmp);
+        Self::pair_seal_of(this, place)
+    }
+
+    /// Returns the key that the query finds and a seal of its value, or `None`.
+    ///
+    /// It looks up as `get_key_value` does.
+    ///
+    /// The archive is cut in two at the start of the value. The view is of the front,
+    /// and the seal is at the start of the back.
+    ///
+    /// A lookup in an untrusted map may read every group of its control bytes once.
+    ///
+    /// # Requires
+    ///
+    /// - The archive has a valid index map at the position of the seal.
+    /// - The query can be read.
+    #[inline]
+    pub fn get_key_value_seal<Q: Query<K>>(
+        this: ArchiveSeal<'a, IndexMapOf<K, V, H, W>>,
+        key: &Q,
+    ) -> Option<(View<'a, K>, Seal<'a, V>)>
+        requires map { IsIndexSeal W.word K.spec V.spec this }
+        requires query { Q.can_read key.now }
+        ensures inside { IfSome result (λ pair. LiesIn V.spec pair.1) }
+        ensures viewable { IfSome result (λ pair. IsValidView K.spec pair.0) }
+        ensures walked { IfSome result (IsPairSeal W.word K.spec V.spec this.entry) }
+        ensures answer { FindsKey (index_in W.word K.spec V.spec this.entry)
+            (hash_of H.hasher Q.calls key.now) (Q.fits key.now)
+            (SealsPair W.word K.spec V.spec this.entry result) }
+        ensures first { FindsFirstKey (index_in W.word K.spec V.spec this.entry)
+            (hash_at H.hasher K.key_calls) (Q.fits key.now)
+            (SealsPair W.word K.spec V.spec this.entry result) }
+    {
+        let place = Self::find_key_in(&this, key);
+        Self::pair_seal_of(this, place)
+    }
+
+    /// Returns a seal of the value of a key that the comparison accepts, or `None`.
+    ///
+    /// It looks up as `get_with` does. The seal is over the whole archive.
+    ///
+    /// A lookup in an untrusted map may read every group of its control bytes once.
+    ///
+    /// # Requires
+    ///
+    /// - The archive has a valid index map at the position of the seal.
+    /// - `key` can be read.
+    /// - The comparison can be called with `key` and each key of the map.
+    #[inline]
+    pub fn get_seal_with<Q: KeyHash, F: Fn(&Q, View<'_, K>) -> bool>(
+        this: ArchiveSeal<'a, IndexMapOf<K, V, H, W>>,
+        key: &Q,
+        cmp: F,
+    ) -> Option<Seal<'a, V>>
+        requires map { IsIndexSeal W.word K.spec V.spec this }
+        requires query { Q.can_read key.now }
+        requires callable { MayAskKeysOf (index_in W.word K.spec V.spec this)
+            (F.pre cmp key) }
+        ensures inside { IfSome result (LiesIn V.spec) }
+        ensures viewable { IfSome result (λ value. Viewable V.spec (bytes_in value)
+            (seal_pos value)) }
+        ensures walked { IfSome result (IsValueSeal W.word K.spec V.spec this.entry) }
+        ensures answer { FindsBy (index_in W.word K.spec V.spec this.entry)
+            (F.post cmp key.entry) (hash_of H.hasher Q.calls key.now)
+            (SealsValue W.word K.spec V.spec this.entry result) }
+        ensures first { FindsFirstBy (index_in W.word K.spec V.spec this.entry)
+            (F.post cmp key.entry) (hash_of H.hasher Q.calls key.now)
+            (hash_at H.hasher K.key_calls)
+            (SealsValue W.word K.spec V.spec this.entry result) }
+    {
+        let place = Self::find_in(&this, key, cmp);
+        Self::value_seal_of(this, place)
+    }
+
+    /// Returns a seal of the value of the key that the query finds, or `None`.
+    ///
+    /// It looks up as `get` does. The seal is over the whole archive.
+    ///
+    /// A lookup in an untrusted map may read every group of its control bytes once.
+    ///
+    /// # Requires
+    ///
+    /// - The archive has a valid index map at the position of the seal.
+    /// - The query can be read.
+    ///
+    /// # Examples
+    ///
+    /// ```rust
+    /// type Small = IndexMapOf<i8, i8>;
+    ///
+    /// let whole = access_mut::<Small>(bytes)?;
+    /// match ArchivedIndexMap::get_seal(whole, &key) {
+    ///     Some(mut seal) => {
+    ///         let before = seal.to_native();
+    ///         seal.set(value);
+    ///         Ok(Some((before, seal.to_native())))
+    ///     }
+    ///     None => Ok(None),
+    /// }
+    /// ```
+    #[inline]
+    pub fn get_seal<Q: Query<K>>(
+        this: ArchiveSeal<'a, IndexMapOf<K, V, H, W>>,
+        key: &Q,
+    ) -> Option<Seal<'a, V>>
+        requires map { IsIndexSeal W.word K.spec V.spec this }
+        requires query { Q.can_read key.now }
+        ensures inside { IfSome result (LiesIn V.spec) }
+        ensures viewable { IfSome result (λ value. Viewable V.spec (bytes_in value)
+            (seal_pos value)) }
+        ensures walked { IfSome result (IsValueSeal W.word K.spec V.spec this.entry) }
+        ensures answer { FindsKey (index_in W.word K.spec V.spec this.entry)
+            (hash_of H.hasher Q.calls key.now) (Q.fits key.now)
+            (SealsValue W.word K.spec V.spec this.entry result) }
+        ensures first { FindsFirstKey (index_in W.word K.spec V.spec this.entry)
+            (hash_at H.hasher K.key_calls) (Q.fits key.now)
+            (SealsValue W.word K.spec V.spec this.entry result) }
+    {
+        let place = Self::find_key_in(&this, key);
+        Self::value_seal_of(this, place)
+    }
+}

@@ -1,0 +1,29 @@
+//! The law of written index maps, in any archive that contains their bytes.
+
+ghost use Rattle.rkyv_index.specs.Index.{hash_at};
+ghost use Rattle.rkyv_index.specs.Index.IndexFormat.{WrittenIndexMaps, element, hash_of};
+ghost use Rattle.rkyv_index.specs.Index.IndexFormat.{indices};
+
+use crate::width::PlaceWidth;
+use rkyv_base::archive::Archive;
+use rkyv_base::element::Represents;
+use rkyv_keys::keys::{KeyElement, NativeKey};
+use rkyv_scan::hash::KeyHasher;
+
+/// States that a written index map with its header is valid in any archive with its bytes.
+///
+/// The header is aligned and after the written bytes. It has the length and the capacity
+/// of the map. The table has the indices in order, each under the hash of its key.
+/// The pairs are in a row, in insertion order.
+pub fn written_index_maps_represent<
+    W: PlaceWidth,
+    H: KeyHasher,
+    K: KeyElement + Represents<A>,
+    V: Represents<B>,
+    A: NativeKey<K> + Archive<W, Archived = K>,
+    B: Archive<W, Archived = V>,
+>()
+    ensures { WrittenIndexMaps W.word (indices W.Place.spec W.Place.encoding)
+        (element K.spec K.represents A.format) (element V.spec V.represents B.format)
+        (hash_at H.hasher K.key_calls) (hash_of H.hasher A.calls) }
+{}

@@ -1,0 +1,11 @@
+//! Reading an index map: its length, lookups, iterators, comparisons, the count of misplaced keys,
+//! and lists of its pairs.
+
+mod accessors;
+mod debug;
+pub mod deserialize;
+pub(crate) mod entries;
+mod equality;
+pub mod iter;
+mod lookup;
+mod misplaced;

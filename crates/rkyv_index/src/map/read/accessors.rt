@@ -1,0 +1,127 @@
+//! Opening an index map, the number of its pairs, and the pair at an index.
+//!
+//! `of` decodes the header once. `get_index` reads no control bytes.
+ghost use Rattle.std.specs.Prelude.{IsTrue, MatchOption, pos as int, unsigned_abs, ℕ, ◌<◌, ◌^◌};
+ghost use Rattle.std.specs.Prelude.{◌↔◌, ◌≡◌, ◌≤◌};
+ghost use Rattle.rkyv_base.specs.Entry.{entry_spec};
+ghost use Rattle.rkyv_base.specs.View.{IsValidView, bytes_of, pos_of};
+ghost use Rattle.rkyv_table.specs.Table.Decoded.{IsDecoded};
+ghost use Rattle.rkyv_index.specs.Index.{IsPairOf, index_len};
+ghost use Rattle.rkyv_index.specs.Index.IndexLayout.{entries_pos, index_spec};
+
+use crate::map::check::decode_begin;
+use crate::map::{ArchivedIndexMap, IndexMapOf};
+use rkyv_base::element::Element;
+use rkyv_base::view::{PairView, View};
+use rkyv_base::width::Width;
+use rkyv_table::table::decoded::Decoded;
+use rkyv_table::table::{ArchivedHashTable, TableOf};
+
+// Converts a position that is at least 0 and below 2^64.
+#[inline]
+fn decode_pos(told: i128) -> u64
+    requires { (at : ℕ) × (int at ≡ told) × (at < 2 ^ 64) }
+    ensures { result ≡ unsigned_abs told }
+{
+    told as u64
+}
+
+// Decodes the header of the table of indices of a map.
+#[inline]
+fn decode<K: Element, V: Element, H, W: Width>(view: View<'_, IndexMapOf<K, V, H, W>>) -> Decoded
+    requires { IsValidView (index_spec W.word (entry_spec K.spec V.spec)) view }
+    ensures { IsDecoded W.word (bytes_of view.entry) (pos_of view.entry) result }
+{
+    ArchivedHashTable::of(view.at::<TableOf<W::Place, W>>(view.pos())).header()
+}
+
+// Returns the position of the first entry of a map.
+#[inline]
+fn begin<K: Element, V: Element, H, W: Width>(view: View<'_, IndexMapOf<K, V, H, W>>) -> u64
+    requires { IsValidView (index_spec W.word (entry_spec K.spec V.spec)) view }
+    ensures { result ≡ entries_pos W.word (bytes_of view.entry) (pos_of view.entry) }
+{
+    decode_pos(decode_begin::<W>(view.bytes(), view.pos()))
+}
+
+impl<'a, K: Element, V: Element, H, W: Width> ArchivedIndexMap<'a, K, V, H, W> {
+    /// Returns the map at a view of its header, which is decoded here, once.
+    ///
+    /// # Requires
+    ///
+    /// - The view is of a valid index map.
+    ///
+    /// # Examples
+    ///
+    /// ```rust
+    /// use rkyv_base::access::access;
+    /// use rkyv_base::errors::VerifyError;
+    /// use rkyv_index::{ArchivedIndexMap, IndexMapOf};
+    ///
+    /// // Returns the number of pairs of an index map, and the value of a key.
+    /// fn look_up(archive: &[u8], key: i8) -> Result<(usize, Option<i8>), VerifyError> {
+    ///     let map = ArchivedIndexMap::of(access::<IndexMapOf<i8, i8>>(archive)?);
+    ///     match map.get(&key) {
+    ///         Some(value) => Ok((map.len(), Some(value.to_native()))),
+    ///         None => Ok((map.len(), None)),
+    ///     }
+    /// }
+    ///
+    /// assert_eq!(rt; look_up(&four_entries(), 3).ok(), Some((4, Some(4))));
+    /// ```
+    #[inline]
+    pub fn of(view: View<'a, IndexMapOf<K, V, H, W>>) -> ArchivedIndexMap<'a, K, V, H, W>
+        requires { IsValidView (index_spec W.word (entry_spec K.spec V.spec)) view }
+        ensures view { result.view ≡ view.entry }
+    {
+        ArchivedIndexMap {
+            view,
+            header: decode(view),
+            begin: begin(view),
+        }
+    }
+
+    /// Returns `true` if and only if the map has no pairs.
+    #[inline]
+    pub fn is_empty(self) -> bool
+        ensures { IsTrue result ↔ (index_len self.entry ≡ 0) }
+    {
+        self.len() == 0
+    }
+
+    /// Returns the number of pairs.
+    #[inline]
+    pub fn len(self) -> usize
+        ensures { result ≡ index_len self.entry }
+    {
+        self.header.len()
+    }
+
+    /// Returns the key and the value at an index, or `None` if the index isn't below the length.
+    ///
+    /// # Examples
+    ///
+    /// ```rust
+    /// type Prices = IndexMapOf<Text, u32>;
+    ///
+    /// // Returns the name at an index, borrowed from the archive.
+    /// fn name_at(archive: &[u8], index: usize) -> Result<Option<&str>, VerifyError> {
+    ///     let prices = ArchivedIndexMap::of(access::<Prices>(archive)?);
+    ///     match prices.get_index(index) {
+    ///         Some((name, _)) => Ok(Some(name.as_str())),
+    ///         None => Ok(None),
+    ///     }
+    /// }
+    /// ```
+    #[inline]
+    pub fn get_index(self, place: usize) -> Option<PairView<'a, K, V>>
+        ensures { MatchOption result
+            (index_len self.entry ≤ place)
+            (λ pair. IsPairOf self.entry place pair) }
+    {
+        if place >= self.len() {
+            return None;
+        }
+        Some(self.entries().pair(place))
+    }
+}

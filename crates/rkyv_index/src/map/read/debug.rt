@@ -1,0 +1,28 @@
+//! Formatting of index maps by `Debug`.
+ghost use Rattle.rkyv_base.specs.Entry.{entry_spec};
+ghost use Rattle.rkyv_base.specs.View.{IsValidView};
+ghost use Rattle.rkyv_index.specs.Index.IndexLayout.{index_spec};
+
+use crate::map::{ArchivedIndexMap, IndexMapOf};
+use rkyv_base::view::View;
+use rkyv_base::width::Width;
+use rkyv_keys::debug::{ElementDebug, Shown};
+use std::fmt::{self, Debug, Formatter, Write};
+
+impl<K: ElementDebug, V: ElementDebug, H, W: Width> ElementDebug for IndexMapOf<K, V, H, W> {
+    fn debug<U: Write>(view: View<'_, IndexMapOf<K, V, H, W>>, f: &mut Formatter<U>) -> fmt::Result
+        requires { IsValidView (index_spec W.word (entry_spec K.spec V.spec)) view }
+    {
+        let mut printed = f.debug_map();
+        for (key, value) in ArchivedIndexMap::of(view).iter() {
+            printed.entry(&Shown::new(key), &Shown::new(value));
+        }
+        printed.finish()
+    }
+}
+
+impl<'a, K: ElementDebug, V: ElementDebug, H, W: Width> Debug for ArchivedIndexMap<'a, K, V, H, W> {
+    fn fmt<U: Write>(&self, f: &mut Formatter<U>) -> fmt::Result {
+        Shown::new(self.view).fmt(f)
+    }
+}

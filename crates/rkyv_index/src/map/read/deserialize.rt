@@ -1,0 +1,70 @@
+//! Deserializing an index map into a list of pairs.
+ghost use Rattle.std.specs.Prelude.{MatchResult, ◌<◌};
+ghost use Rattle.rkyv_index.specs.Index.{index_bytes, index_len, index_pos};
+ghost use Rattle.rkyv_index.specs.Index.Reading.{IsPairRead, ReadsPairs, pair_refuses};
+ghost use Rattle.rkyv_index.specs.Index.Reading.{pairs_refuse};
+
+use crate::map::ArchivedIndexMap;
+use rkyv_base::element::Element;
+use rkyv_base::entry::Entry;
+use rkyv_base::errors::ReadError;
+use rkyv_base::width::Width;
+use rkyv_keys::deserialize::Deserialize;
+use std::alloc::Global;
+
+impl<'a, K: Element, V: Element, H, W: Width> ArchivedIndexMap<'a, K, V, H, W> {
+    // Deserializes the pair at the index `place`.
+    #[inline]
+    fn read_pair<A: Drop, B>(self, alloc: Global, place: usize) -> Result<(A, B), ReadError>
+    where
+        K: Deserialize<A>,
+        V: Deserialize<B>,
+        requires below { place < index_len self }
+        ensures { MatchResult result
+            (IsPairRead K.represents V.represents self.entry place)
+            (pair_refuses K.refuses V.refuses self.entry place) }
+    {
+        Entry::<K, V>::deserialize(alloc, self.entries().entry(place))
+    }
+
+    /// Deserializes the pairs into a list, in order.
+    ///
+    /// # Errors
+    ///
+    /// - `Memory`: the list could not be allocated.
+    /// - The first error of deserializing a key or a value.
+    ///
+    /// # Examples
+    ///
+    /// ```rust
+    /// // Returns the pairs in the archive of an index map, if it is valid and no allocation fails.
+    /// fn read<W: Width>(alloc: Global, bytes: &[u8]) -> Option<Vec<(i8, i8)>> {
+    ///     match access_in::<W, IndexMapOf<i8, i8, FxHasher64, W>>(bytes) {
+    ///         Ok(root) => ArchivedIndexMap::of(root).deserialize_pairs(alloc).ok(),
+    ///         Err(_) => None,
+    ///     }
+    /// }
+    /// ```
+    pub fn deserialize_pairs<A: Drop, B: Drop>(
+        self,
+        alloc: Global,
+    ) -> Result<Vec<(A, B)>, ReadError>
+    where
+        K: Deserialize<A>,
+        V: Deserialize<B>,
+        ensures { MatchResult result
+            (λ list. ReadsPairs K.represents V.represents self.entry list.items)
+            (pairs_refuse W.word K.Deserialize V.Deserialize (index_bytes self.entry)
+            (index_pos self.entry)) }
+    {
+        let mut list = Vec::new(alloc);
+        for place in 0..self.len() {
+            let pair = self.read_pair(alloc, place)?;
+            match list.push(pair) {
+                Ok(()) => {}
+                Err(_) => return Err(ReadError::Memory),
+            }
+        }
+        Ok(list)
+    }
+}

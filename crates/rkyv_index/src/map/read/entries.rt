@@ -1,0 +1,147 @@
+//! The entries of an index map, and the indices in its table.
+ghost use Rattle.std.specs.Prelude.{length, ◌*◌, ◌+◌, ◌<◌, ◌^◌, ◌≡◌, ◌≤◌};
+ghost use Rattle.std.specs.Int.{byte_len};
+ghost use Rattle.rkyv_base.specs.Entry.{entry_spec};
+ghost use Rattle.rkyv_base.specs.View.{IsAt, IsValidView, bytes_of, pos_of};
+ghost use Rattle.rkyv_table.specs.Table.Header.{len_at};
+ghost use Rattle.rkyv_scan.specs.Groups.{generic_kind};
+ghost use Rattle.rkyv_table.specs.Table.Reading.{CountsStrides};
+ghost use Rattle.rkyv_index.specs.Index.{AnswersPlace, AreEntries, FindsHeld, IsEntryOf};
+ghost use Rattle.rkyv_index.specs.Index.{IsKeyIn, IsPairOf, MayAskPlace, MayAskPlaces};
+ghost use Rattle.rkyv_index.specs.Index.{index_archive, index_len, index_pos, place_at};
+ghost use Rattle.rkyv_index.specs.Index.IndexLayout.{entries_pos, entry_at, index_spec};
+
+use crate::map::{ArchivedIndexMap, IndexMapOf};
+use rkyv_base::element::{Element, HasSpec};
+use rkyv_base::entry::Entry;
+use rkyv_base::view::{PairView, View};
+use rkyv_base::width::{Width, Word};
+use rkyv_table::Strides;
+use rkyv_table::table::{ArchivedHashTable, TableOf};
+use std::alloc::AllocError;
+
+/// An index map and the position of its first entry.
+pub(crate) struct Entries<'a, K: HasSpec, V: HasSpec, H, W: Word> {
+    pub(crate) map: ArchivedIndexMap<'a, K, V, H, W>,
+    pub(crate) begin: u64,
+}
+
+impl<'a, K: HasSpec, V: HasSpec, H, W: Word> Clone for Entries<'a, K, V, H, W> {
+    #[inline]
+    fn clone(&self) -> Result<Entries<'a, K, V, H, W>, AllocError> {
+        Ok(*self)
+    }
+}
+
+impl<'a, K: HasSpec, V: HasSpec, H, W: Word> Copy for Entries<'a, K, V, H, W> {}
+
+/// Returns the position of entry `i` of a row of entries from `begin` on.
+#[inline]
+fn entry_pos(begin: u64, i: usize, size: usize) -> u64
+    requires { begin + i * size < 2 ^ 64 }
+    ensures { result ≡ entry_at size begin i }
+{
+    begin + (i * size) as u64
+}
+
+impl<'a, K: Element, V: Element, H, W: Width> ArchivedIndexMap<'a, K, V, H, W> {
+    /// Returns the table of the indices.
+    #[inline]
+    pub(crate) fn table(self) -> ArchivedHashTable<'a, W::Place, W>
+        ensures at { IsAt result.view (index_archive self.entry) (index_pos self.entry) }
+    {
+        let view = self.view.at::<TableOf<W::Place, W>>(self.view.pos());
+        ArchivedHashTable::with_header(view, self.header)
+    }
+
+    /// Returns the map and the position of its first entry.
+    #[inline]
+    pub(crate) fn entries(self) -> Entries<'a, K, V, H, W>
+        ensures entries { AreEntries result }
+        ensures map { result.map ≡ self.entry }
+    {
+        Entries {
+            map: self,
+            begin: self.begin,
+        }
+    }
+}
+
+impl<'a, K: Element, V: Element, H, W: Width> Entries<'a, K, V, H, W> {
+    /// Returns a view of the entry at the index `place`.
+    #[inline]
+    pub(crate) fn entry(self, place: usize) -> View<'a, Entry<K, V>>
+        requires entries { AreEntries self }
+        requires below { place < index_len self.map }
+        ensures { IsEntryOf self.entry.map place result }
+    {
+        let at = entry_pos(self.begin, place, Entry::<K, V>::size());
+        self.map.view.at::<Entry<K, V>>(at)
+    }
+
+    /// Returns views of the key and the value at the index `place`.
+    #[inline]
+    pub(crate) fn pair(self, place: usize) -> PairView<'a, K, V>
+        requires entries { AreEntries self }
+        requires below { place < index_len self.map }
+        ensures { IsPairOf self.entry.map place result }
+    {
+        let entry = self.entry(place);
+        (entry.key(), entry.value())
+    }
+}
+
+/// Returns a view of the key at the index `place` of the map at `view`.
+#[inline]
+pub(crate) fn key_in<'a, K: Element, V: Element, H, W: Width>(
+    view: View<'a, IndexMapOf<K, V, H, W>>,
+    begin: u64,
+    place: usize,
+) -> View<'a, K>
+    requires map { IsValidView (index_spec W.word (entry_spec K.spec V.spec)) view }
+    requires begin { begin ≡ entries_pos W.word (bytes_of view) (pos_of view) }
+    requires below { place < len_at W.word (bytes_of view) (pos_of view) }
+    ensures { IsKeyIn W.word K.spec V.spec view.entry place result }
+{
+    let at = entry_pos(begin, place, Entry::<K, V>::size());
+    view.at::<Entry<K, V>>(at).key()
+}
+
+/// Returns the index at an item of a table of indices.
+#[inline]
+fn read_place<W: Width>(item: View<'_, W::Place>) -> usize
+    requires { pos_of item + byte_len W.word ≤ length (bytes_of item) }
+    ensures { result ≡ place_at W.word item.entry }
+{
+    W::read_count(item.bytes(), item.pos() as usize) as usize
+}
+
+/// Returns an index in a table under `hash` that the comparison accepts, or `None`.
+///
+/// The count is increased by the strides of sixteen control bytes that are read.
+#[inline]
+pub(crate) fn find_place<W: Width, F: Fn(usize) -> bool>(
+    table: ArchivedHashTable<'_, W::Place, W>,
+    hash: u64,
+    accepts: F,
+    strides: &mut Strides,
+) -> Option<usize>
+    requires room { strides.old ≤ 2 ^ 63 }
+    requires callable { MayAskPlaces (F.pre accepts) table }
+    ensures found { FindsHeld (F.post accepts) table.entry hash result }
+    ensures counts { CountsStrides (AnswersPlace W.word (F.post accepts)) generic_kind table.entry
+        hash strides.old strides.new }
+{
+    let held = table.get_counted(
+        hash,
+        |item|
+            requires { MayAskPlace W.word (F.pre accepts) item }
+            ensures { AnswersPlace W.word (F.post accepts) item.entry result }
+        { accepts(read_place::<W>(item)) },
+        strides,
+    );
+    match held {
+        Some(item) => Some(read_place::<W>(item)),
+        None => None,
+    }
+}

@@ -1,0 +1,89 @@
+//! Equality of index maps.
+//!
+//! `==` and `eq_index` compare the pairs in order. `ElementEq` does the same for index maps
+//! that are values.
+ghost use Rattle.std.specs.Cmp.{partial_equiv_from_equiv};
+ghost use Rattle.std.specs.Prelude.{◌<◌, ◌≡◌};
+ghost use Rattle.rkyv_base.specs.Entry.{entry_spec};
+ghost use Rattle.rkyv_base.specs.Lemmas.Entry.{entry_element};
+ghost use Rattle.rkyv_base.specs.View.{IsValidView};
+ghost use Rattle.rkyv_keys.specs.Lemmas.OfEntries.{entry_equivalence};
+ghost use Rattle.rkyv_keys.specs.Places.{at_views};
+ghost use Rattle.rkyv_index.specs.Lemmas.EqualLaws.{index_equivalence};
+ghost use Rattle.rkyv_index.specs.Lemmas.ViewableEqual.{maps_equality};
+ghost use Rattle.rkyv_index.specs.Index.Equality.{index_map_equal, index_maps_equal};
+ghost use Rattle.rkyv_index.specs.Index.IndexLayout.{index_spec};
+
+use crate::map::{ArchivedIndexMap, IndexMapOf};
+use rkyv_base::entry::Entry;
+use rkyv_base::view::View;
+use rkyv_base::width::Width;
+use rkyv_keys::equality::{ElementEq, ElementEquiv};
+
+impl<'a, K: ElementEq, V: ElementEq, H, W: Width> ArchivedIndexMap<'a, K, V, H, W> {
+    /// Returns `true` if and only if both maps have the same length and the same pairs in order.
+    ///
+    /// # Examples
+    ///
+    /// ```rust
+    /// let bytes = four_entries();
+    /// let map = ArchivedIndexMap::of(access::<Small>(&bytes)?);
+    /// let backwards = narrow(rt.alloc(), &[(7, 8), (5, 6), (3, 4), (1, 2)])?;
+    /// let other = ArchivedIndexMap::of(access::<Small>(backwards.as_slice())?);
+    /// let own = map.eq_index(map);
+    /// let turned = map.eq_index(other);
+    /// assert_eq!(rt; (own, turned, map.misplaced()), (true, false, 0));
+    /// ```
+    pub fn eq_index(self, other: ArchivedIndexMap<'_, K, V, H, W>) -> bool
+        ensures { result ≡ index_maps_equal K.same V.same self.entry other.entry }
+    {
+        let len = self.len();
+        if len != other.len() {
+            return false;
+        }
+        let own = self.entries();
+        let others = other.entries();
+        for place in 0..len {
+            if !Entry::<K, V>::same(own.entry(place), others.entry(place)) {
+                return false;
+            }
+        }
+        true
+    }
+}
+
+/// Returns `true` if and only if both maps have the same length and the same pairs in order.
+impl<'a, K: ElementEquiv, V: ElementEquiv, H, W: Width> PartialEq
+    for ArchivedIndexMap<'a, K, V, H, W> {
+    ghost eq = { index_maps_equal K.same V.same };
+
+    ghost laws = { partial_equiv_from_equiv (maps_equality K.equivalence V.equivalence) };
+
+    fn eq(&self, other: &ArchivedIndexMap<'a, K, V, H, W>) -> bool {
+        self.eq_index(*other)
+    }
+}
+
+impl<'a, K: ElementEquiv, V: ElementEquiv, H, W: Width> Eq for ArchivedIndexMap<'a, K, V, H, W> {
+    ghost laws = { maps_equality K.equivalence V.equivalence };
+}
+
+impl<K: ElementEq, V: ElementEq, H, W: Width> ElementEq for IndexMapOf<K, V, H, W> {
+    ghost same = { index_map_equal W.word K.spec V.spec K.same V.same };
+
+    #[inline]
+    fn same(a: View<'_, IndexMapOf<K, V, H, W>>, b: View<'_, IndexMapOf<K, V, H, W>>) -> bool
+        requires a { IsValidView (index_spec W.word (entry_spec K.spec V.spec)) a }
+        requires b { IsValidView (index_spec W.word (entry_spec K.spec V.spec)) b }
+        ensures { result ≡ at_views (index_map_equal W.word K.spec V.spec K.same V.same)
+            a.entry b.entry }
+    {
+        ArchivedIndexMap::of(a).eq_index(ArchivedIndexMap::of(b))
+    }
+}
+
+impl<K: ElementEquiv, V: ElementEquiv, H, W: Width> ElementEquiv for IndexMapOf<K, V, H, W> {
+    ghost equivalence = { index_equivalence W.word (entry_spec K.spec V.spec)
+        (entry_element K.spec V.spec K.laws V.laws) (entry_equivalence K.laws V.laws K.equivalence
+        V.equivalence) };
+}

@@ -1,0 +1,404 @@
+//! Lookups: finding a pair of an index map by its key.
+//!
+//! - `get` returns a view of the value, `get_key_value` also of the key, and `get_full` also
+//!   the index.
+//! - `get_index_of` returns the index, and `contains_key` returns `true` if a key is found.
+//! - `get_with`, `get_key_value_with`, `get_full_with` and `get_index_of_with` take a comparison
+//!   in place of the query's own.
+//! - `get_index_of_counted` counts the strides of control bytes that are read.
+//!
+//! A lookup in an untrusted map may read every group of its control bytes once.
+//! `FxHasher64` takes no secret key, so it doesn't protect from chosen input.
+ghost use Rattle.std.specs.Prelude.{IfSome, ◌<◌, ◌^◌, ◌≡◌, ◌≤◌};
+ghost use Rattle.rkyv_base.specs.Entry.{entry_spec};
+ghost use Rattle.rkyv_scan.specs.Hash.{hash_of_calls};
+ghost use Rattle.rkyv_base.specs.View.{IsValidView, bytes_of, pos_of};
+ghost use Rattle.rkyv_base.specs.declared.view.View.{View};
+ghost use Rattle.rkyv_table.specs.Table.Header.{len_at};
+ghost use Rattle.rkyv_keys.specs.Asked.{asked};
+ghost use Rattle.rkyv_index.specs.Index.{IsFoundAt, IsStoredIndex, IsKeyIn, IsPairAt, IsValueAt};
+ghost use Rattle.rkyv_index.specs.Index.{CountsBy, CountsKey, index_of};
+ghost use Rattle.rkyv_index.specs.Index.{MayAskKeys, MayAskKeysIn, ReadsWithinBound, hash_at};
+ghost use Rattle.rkyv_index.specs.Index.IndexFormat.{hash_of};
+ghost use Rattle.rkyv_index.specs.Index.IndexLayout.{entries_pos, index_spec};
+ghost use Rattle.rkyv_index.specs.Index.Lookups.{GetsBy, GetsKey, TellsKey, full_part, pair_part};
+ghost use Rattle.rkyv_index.specs.Index.Lookups.{place_part, value_part};
+
+use crate::map::ArchivedIndexMap;
+use crate::map::read::entries::{find_place, key_in};
+use rkyv_base::element::Element;
+use rkyv_base::view::{PairView, View};
+use rkyv_base::width::Width;
+use rkyv_keys::hash::{KeyHash, hash_value};
+use rkyv_keys::keys::{KeyElement, Query};
+use rkyv_scan::hash::KeyHasher;
+use rkyv_table::Strides;
+
+// Every lookup is one call of `find`.
+impl<'a, K: KeyElement, V: Element, H: KeyHasher, W: Width> ArchivedIndexMap<'a, K, V, H, W> {
+    /// Returns the index of a key under the hash of `key` that the comparison accepts, or `None`.
+    ///
+    /// The count is increased by the strides of sixteen control bytes that are read.
+    #[inline]
+    pub(crate) fn find<Q: KeyHash, F>(self, key: &Q, cmp: F, strides: &mut Strides) -> Option<usize>
+    where
+        F: Fn(&Q, View<'a, K>) -> bool,
+        requires query { Q.can_read key.now }
+        requires room { strides.old ≤ 2 ^ 63 }
+        requires callable { MayAskKeys self (F.pre cmp key) }
+        ensures found { GetsBy place_part self.entry (hash_of H.hasher Q.calls key.now)
+            (hash_at H.hasher K.key_calls) (F.post cmp key.entry) result }
+        ensures hash { hash_of_calls H.hasher (Q.calls key.now) < 2 ^ 64 }
+        ensures bounded { ReadsWithinBound self.entry strides.old strides.new }
+        ensures counted { CountsBy (index_of self.entry) (F.post cmp key.entry)
+            (hash_of H.hasher Q.calls key.now) strides.old strides.new }
+    {
+        let hash = hash_value::<Q, H>(key);
+        let table = self.table();
+        let (view, begin) = (self.view, self.begin);
+        find_place::<W, _>(
+            table,
+            hash,
+            |place|
+                requires map { IsValidView (index_spec W.word (entry_spec K.spec V.spec)) view }
+                requires begin { begin ≡ entries_pos W.word (bytes_of view) (pos_of view) }
+                requires below { place < len_at W.word (bytes_of view) (pos_of view) }
+                requires callable { MayAskKeysIn W.word K.spec V.spec view (F.pre cmp key) }
+                ensures { (k : View K) × IsKeyIn W.word K.spec V.spec view.entry place k
+                    × F.post cmp key.entry k result }
+            { cmp(key, key_in(view, begin, place)) },
+            strides,
+        )
+    }
+
+    /// Returns a pair whose key the comparison accepts, with its index, under the hash of `key`.
+    ///
+    /// The result is `None` or a pair of the map, whatever the comparison returns.
+    /// The comparison is called with keys of the map alone, and may be called twice with one.
+    ///
+    /// If the comparison depends only on the index of a key, the control bytes decide which pair
+    /// it is. In a written map, it is the first accepted pair in insertion order
+    /// if each accepted key is under the hash of `key`.
+    ///
+    /// A lookup in an untrusted map may read every group of its control bytes once.
+    ///
+    /// # Requires
+    ///
+    /// - `key` can be read.
+    /// - The comparison can be called with `key` and each key of the map.
+    #[inline]
+    pub fn get_full_with<Q: KeyHash, F>(
+        self,
+        key: &Q,
+        cmp: F,
+    ) -> Option<(usize, View<'a, K>, View<'a, V>)>
+    where
+        F: Fn(&Q, View<'a, K>) -> bool,
+        requires query { Q.can_read key.now }
+        requires callable { MayAskKeys self (F.pre cmp key) }
+        ensures { GetsBy full_part self.entry (hash_of H.hasher Q.calls key.now)
+            (hash_at H.hasher K.key_calls) (F.post cmp key.entry) result }
+    {
+        match self.find(key, cmp, &mut Strides::new()) {
+            Some(place) => {
+                let entry = self.entries().entry(place);
+                Some((place, entry.key(), entry.value()))
+            }
+            None => None,
+        }
+    }
+
+    /// Returns the index of the key that the query finds, and counts the strides it reads.
+    #[inline]
+    pub(crate) fn find_counted<Q: Query<K>>(self, key: &Q, strides: &mut Strides) -> Option<usize>
+        requires query { Q.can_read key.now }
+        requires room { strides.old ≤ 2 ^ 63 }
+        ensures found { GetsKey place_part self.entry
+            (asked H.hasher K.key_calls K.same (Q.calls key.now) (Q.fits key.now)) result }
+        ensures bounded { ReadsWithinBound self.entry strides.old strides.new }
+        ensures counted { CountsKey (index_of self.entry) (hash_of H.hasher Q.calls key.now)
+            (Q.fits key.now) strides.old strides.new }
+    {
+        self.find(
+            key,
+            |key, stored|
+                requires query { Q.can_read key.now }
+                requires key { IsValidView K.spec stored }
+                ensures { result ≡ Q.fits key.entry.now stored.entry.archive.now stored.entry.pos }
+            { key.same(stored) },
+            strides,
+        )
+    }
+
+    /// Returns the index of the key that the query finds, or `None`.
+    #[inline]
+    pub(crate) fn find_key<Q: Query<K>>(self, key: &Q) -> Option<usize>
+        requires query { Q.can_read key.now }
+        ensures { GetsKey place_part self.entry
+            (asked H.hasher K.key_calls K.same (Q.calls key.now) (Q.fits key.now)) result }
+    {
+        self.find_counted(key, &mut Strides::new())
+    }
+
+    /// Returns the pair of the key that the query finds, with its index, or `None`.
+    ///
+    /// In a written map, it is the first pair in insertion order whose key the query fits.
+    ///
+    /// In an untrusted map, a lookup may miss a key that the query fits.
+    /// No key is missed if `misplaced` is 0. The lookup then finds the one key that the query fits,
+    /// and `None` if and only if it fits none.
+    ///
+    /// A lookup in an untrusted map may read every group of its control bytes once.
+    /// `FxHasher64` takes no secret key, so it doesn't protect from chosen input.
+    ///
+    /// # Requires
+    ///
+    /// - The query can be read.
+    ///
+    /// # Examples
+    ///
+    /// ```rust
+    /// type Prices = IndexMapOf<Text, u32>;
+    ///
+    /// // Returns the index of a name, and its price.
+    /// fn find(archive: &[u8], name: &str) -> Result<Option<(usize, u32)>, VerifyError> {
+    ///     let prices = ArchivedIndexMap::of(access::<Prices>(archive)?);
+    ///     match prices.get_full(&name) {
+    ///         Some((index, _, price)) => Ok(Some((index, price.to_native()))),
+    ///         None => Ok(None),
+    ///     }
+    /// }
+    /// ```
+    #[inline]
+    pub fn get_full<Q: Query<K>>(self, key: &Q) -> Option<(usize, View<'a, K>, View<'a, V>)>
+        requires query { Q.can_read key.now }
+        ensures { GetsKey full_part self.entry
+            (asked H.hasher K.key_calls K.same (Q.calls key.now) (Q.fits key.now)) result }
+    {
+        match self.find_key(key) {
+            Some(place) => {
+                let entry = self.entries().entry(place);
+                Some((place, entry.key(), entry.value()))
+            }
+            None => None,
+        }
+    }
+
+    /// Returns the pair at a found index.
+    #[inline]
+    fn pair_of(self, place: Option<usize>) -> Option<PairView<'a, K, V>>
+        requires held { IfSome place (IsStoredIndex self) }
+        ensures { IsPairAt self.entry result place }
+    {
+        match place {
+            Some(place) => Some(self.entries().pair(place)),
+            None => None,
+        }
+    }
+
+    /// Returns the value at a found index.
+    #[inline]
+    fn value_of(self, place: Option<usize>) -> Option<View<'a, V>>
+        requires held { IfSome place (IsStoredIndex self) }
+        ensures { IsValueAt self.entry result place }
+    {
+        match place {
+            Some(place) => Some(self.entries().entry(place).value()),
+            None => None,
+        }
+    }
+
+    /// Returns a pair whose key the comparison accepts, or `None`.
+    ///
+    /// It looks up as `get_full_with` does.
+    ///
+    /// A lookup in an untrusted map may read every group of its control bytes once.
+    ///
+    /// # Requires
+    ///
+    /// - `key` can be read.
+    /// - The comparison can be called with `key` and each key of the map.
+    #[inline]
+    pub fn get_key_value_with<Q: KeyHash, F>(self, key: &Q, cmp: F) -> Option<PairView<'a, K, V>>
+    where
+        F: Fn(&Q, View<'a, K>) -> bool,
+        requires query { Q.can_read key.now }
+        requires callable { MayAskKeys self (F.pre cmp key) }
+        ensures { GetsBy pair_part self.entry (hash_of H.hasher Q.calls key.now)
+            (hash_at H.hasher K.key_calls) (F.post cmp key.entry) result }
+    {
+        self.pair_of(self.find(key, cmp, &mut Strides::new()))
+    }
+
+    /// Returns the pair of the key that the query finds, or `None`.
+    ///
+    /// It looks up as `get_full` does.
+    ///
+    /// A lookup in an untrusted map may read every group of its control bytes once.
+    ///
+    /// # Requires
+    ///
+    /// - The query can be read.
+    #[inline]
+    pub fn get_key_value<Q: Query<K>>(self, key: &Q) -> Option<PairView<'a, K, V>>
+        requires query { Q.can_read key.now }
+        ensures { GetsKey pair_part self.entry
+            (asked H.hasher K.key_calls K.same (Q.calls key.now) (Q.fits key.now)) result }
+    {
+        self.pair_of(self.find_key(key))
+    }
+
+    /// Returns the value of a pair whose key the comparison accepts, or `None`.
+    ///
+    /// It looks up as `get_full_with` does.
+    ///
+    /// A lookup in an untrusted map may read every group of its control bytes once.
+    ///
+    /// # Requires
+    ///
+    /// - `key` can be read.
+    /// - The comparison can be called with `key` and each key of the map.
+    #[inline]
+    pub fn get_with<Q: KeyHash, F>(self, key: &Q, cmp: F) -> Option<View<'a, V>>
+    where
+        F: Fn(&Q, View<'a, K>) -> bool,
+        requires query { Q.can_read key.now }
+        requires callable { MayAskKeys self (F.pre cmp key) }
+        ensures { GetsBy value_part self.entry (hash_of H.hasher Q.calls key.now)
+            (hash_at H.hasher K.key_calls) (F.post cmp key.entry) result }
+    {
+        self.value_of(self.find(key, cmp, &mut Strides::new()))
+    }
+
+    /// Returns the value of the key that the query finds, or `None`.
+    ///
+    /// It looks up as `get_full` does.
+    ///
+    /// A lookup in an untrusted map may read every group of its control bytes once.
+    ///
+    /// # Requires
+    ///
+    /// - The query can be read.
+    ///
+    /// # Examples
+    ///
+    /// ```rust
+    /// type Prices = IndexMapOf<Text, u32>;
+    ///
+    /// // Returns the price of a name.
+    /// fn price_of(archive: &[u8], name: &str) -> Result<Option<u32>, VerifyError> {
+    ///     let prices = ArchivedIndexMap::of(access::<Prices>(archive)?);
+    ///     match prices.get(&name) {
+    ///         Some(price) => Ok(Some(price.to_native())),
+    ///         None => Ok(None),
+    ///     }
+    /// }
+    /// ```
+    #[inline]
+    pub fn get<Q: Query<K>>(self, key: &Q) -> Option<View<'a, V>>
+        requires query { Q.can_read key.now }
+        ensures { GetsKey value_part self.entry
+            (asked H.hasher K.key_calls K.same (Q.calls key.now) (Q.fits key.now)) result }
+    {
+        self.value_of(self.find_key(key))
+    }
+
+    /// Returns the index of a pair whose key the comparison accepts, or `None`.
+    ///
+    /// It looks up as `get_full_with` does.
+    ///
+    /// A lookup in an untrusted map may read every group of its control bytes once.
+    ///
+    /// # Requires
+    ///
+    /// - `key` can be read.
+    /// - The comparison can be called with `key` and each key of the map.
+    #[inline]
+    pub fn get_index_of_with<Q: KeyHash, F>(self, key: &Q, cmp: F) -> Option<usize>
+    where
+        F: Fn(&Q, View<'a, K>) -> bool,
+        requires query { Q.can_read key.now }
+        requires callable { MayAskKeys self (F.pre cmp key) }
+        ensures { GetsBy place_part self.entry (hash_of H.hasher Q.calls key.now)
+            (hash_at H.hasher K.key_calls) (F.post cmp key.entry) result }
+    {
+        self.find(key, cmp, &mut Strides::new())
+    }
+
+    /// Returns the index of a key that the comparison accepts, and counts the strides it reads.
+    ///
+    /// It looks up as `get_index_of_with` does. A stride has sixteen control bytes.
+    ///
+    /// It reads no stride in an empty map, else at least one and at most ceil(n / 16),
+    /// where n is the number of buckets. The number is exact if the comparison depends only
+    /// on the index of a key.
+    ///
+    /// # Requires
+    ///
+    /// - `key` can be read.
+    /// - `strides` has at most 9,223,372,036,854,775,808 strides.
+    /// - The comparison can be called with `key` and each key of the map.
+    ///
+    /// # Examples
+    ///
+    /// ```rust
+    /// let mut strides = Strides::new();
+    /// let found = map.get_index_of_counted(&5i8, |_: &i8, _: View<'_, i8>| true, &mut strides);
+    /// let one = strides.count();
+    /// ```
+    #[inline]
+    pub fn get_index_of_counted<Q: KeyHash, F>(
+        self,
+        key: &Q,
+        cmp: F,
+        strides: &mut Strides,
+    ) -> Option<usize>
+    where
+        F: Fn(&Q, View<'a, K>) -> bool,
+        requires query { Q.can_read key.now }
+        requires room { strides.old ≤ 2 ^ 63 }
+        requires callable { MayAskKeys self (F.pre cmp key) }
+        ensures found { GetsBy place_part self.entry (hash_of H.hasher Q.calls key.now)
+            (hash_at H.hasher K.key_calls) (F.post cmp key.entry) result }
+        ensures bounded { ReadsWithinBound self.entry strides.old strides.new }
+        ensures counted { CountsBy (index_of self.entry) (F.post cmp key.entry)
+            (hash_of H.hasher Q.calls key.now) strides.old strides.new }
+    {
+        self.find(key, cmp, strides)
+    }
+
+    /// Returns the index of the pair whose key the query finds, or `None`.
+    ///
+    /// It looks up as `get_full` does.
+    ///
+    /// A lookup in an untrusted map may read every group of its control bytes once.
+    ///
+    /// # Requires
+    ///
+    /// - The query can be read.
+    #[inline]
+    pub fn get_index_of<Q: Query<K>>(self, key: &Q) -> Option<usize>
+        requires query { Q.can_read key.now }
+        ensures { GetsKey place_part self.entry
+            (asked H.hasher K.key_calls K.same (Q.calls key.now) (Q.fits key.now)) result }
+    {
+        self.find_key(key)
+    }
+
+    /// Returns `true` if and only if the query finds a key.
+    ///
+    /// A lookup in an untrusted map may read every group of its control bytes once.
+    ///
+    /// # Requires
+    ///
+    /// - The query can be read.
+    #[inline]
+    pub fn contains_key<Q: Query<K>>(self, key: &Q) -> bool
+        requires query { Q.can_read key.now }
+        ensures { TellsKey self.entry
+            (asked H.hasher K.key_calls K.same (Q.calls key.now) (Q.fits key.now))
+            (IsFoundAt result) }
+    {
+        self.find_key(key).is_some()
+    }
+}

@@ -1,0 +1,136 @@
+//! Counting the keys of an index map that a lookup of their own doesn't find.
+//!
+//! - `misplaced` looks up each key. Its cost on an untrusted map may be quadratic.
+//! - `misplaced_up_to` ends at a limit on the strides that are read.
+ghost use Rattle.std.specs.Prelude.{◌+◌, ◌<◌, ◌^◌, ◌≡◌, ◌≤◌};
+ghost use Rattle.rkyv_index.specs.Index.Equality.{CountsRepeated, TellsRepeated, index_misplaced};
+ghost use Rattle.rkyv_index.specs.Index.Equality.{CountsUpTo, is_misplaced, own_strides};
+ghost use Rattle.rkyv_index.specs.Index.{AreEntries, ReadsUpTo, ReadsWithinBound, hash_at};
+ghost use Rattle.rkyv_index.specs.Index.{index_len, index_of};
+
+use crate::map::ArchivedIndexMap;
+use crate::map::read::entries::Entries;
+use rkyv_base::element::Element;
+use rkyv_base::width::Width;
+use rkyv_keys::keys::KeyElement;
+use rkyv_scan::hash::KeyHasher;
+use rkyv_table::Strides;
+use rkyv_table::table::misplaced::{is_in_another_bucket, is_past};
+
+impl<'a, K: KeyElement, V: Element, H: KeyHasher, W: Width> Entries<'a, K, V, H, W> {
+    // Returns `true` if and only if a lookup of the key at `place` doesn't find `place`.
+    // The count is increased by the strides that the lookup reads.
+    #[inline]
+    fn is_misplaced(self, place: usize, strides: &mut Strides) -> bool
+        requires entries { AreEntries self }
+        requires below { place < index_len self.map }
+        requires room { strides.old ≤ 2 ^ 63 }
+        ensures told { result ≡ is_misplaced (index_of self.entry.map)
+            (hash_at H.hasher K.key_calls) K.same place }
+        ensures repeated { TellsRepeated (index_of self.entry.map)
+            (hash_at H.hasher K.key_calls) K.same place result }
+        ensures bounded { ReadsWithinBound self.entry.map strides.old strides.new }
+        ensures counted { strides.new ≡ strides.old + own_strides (index_of self.entry.map)
+            (hash_at H.hasher K.key_calls) K.same place }
+    {
+        let key = self.entry(place).key();
+        is_in_another_bucket(place, self.map.find_counted(&key, strides))
+    }
+}
+
+impl<'a, K: KeyElement, V: Element, H: KeyHasher, W: Width> ArchivedIndexMap<'a, K, V, H, W> {
+    /// Returns the number of keys that a lookup of their own doesn't find.
+    ///
+    /// A key is found if the lookup returns its own index. Otherwise the lookup finds another key
+    /// that is the same, or none.
+    ///
+    /// In a written map, it is the number of keys that are the same as an earlier key
+    /// in insertion order. An untrusted map may have other misplaced keys.
+    ///
+    /// Each key is looked up once, and each lookup may read every group of the control bytes.
+    /// Keys that share a hash cost a number of comparisons that is quadratic in their number.
+    /// `FxHasher64` takes no secret key, so chosen keys can share one.
+    ///
+    /// # Examples
+    ///
+    /// ```rust
+    /// // Returns the number of keys of an index map that a lookup of their own doesn't find.
+    /// fn misplaced(archive: &[u8]) -> Result<usize, VerifyError> {
+    ///     Ok(ArchivedIndexMap::of(access::<IndexMapOf<i8, i8>>(archive)?).misplaced())
+    /// }
+    ///
+    /// assert_eq!(rt; misplaced(&one_key_twice()).ok(), Some(1));
+    /// ```
+    pub fn misplaced(self) -> usize
+        ensures told { result ≡ index_misplaced (index_of self.entry)
+            (hash_at H.hasher K.key_calls) K.same }
+        ensures repeated { CountsRepeated (index_of self.entry)
+            (hash_at H.hasher K.key_calls) K.same result }
+    {
+        let entries = self.entries();
+        let mut count = 0;
+        for place in 0..self.len() {
+            if entries.is_misplaced(place, &mut Strides::new()) {
+                count += 1;
+            }
+        }
+        count
+    }
+
+    /// Returns the number of misplaced keys, or `None` at a limit on the strides that it reads.
+    ///
+    /// The number is the result of `misplaced`.
+    ///
+    /// The result is `None` if the lookups of all keys read more than `limit` strides of sixteen
+    /// control bytes, or more than 2^63. Otherwise the number is exact.
+    ///
+    /// It reads at most `limit` strides and those of one more lookup, so its cost on an untrusted
+    /// map is bounded: `misplaced_up_to_counted` counts them. A written map without repeated hashes
+    /// takes about one stride for each key.
+    ///
+    /// # Examples
+    ///
+    /// ```rust
+    /// fn misplaced_within(archive: &[u8], limit: u64) -> Result<Option<usize>, VerifyError> {
+    ///     Ok(ArchivedIndexMap::of(access::<IndexMapOf<i8, i8>>(archive)?).misplaced_up_to(limit))
+    /// }
+    /// ```
+    pub fn misplaced_up_to(self, limit: u64) -> Option<usize>
+        ensures { CountsUpTo (index_of self.entry) (hash_at H.hasher K.key_calls) K.same limit 0
+            result }
+    {
+        self.misplaced_up_to_counted(limit, &mut Strides::new())
+    }
+
+    /// Returns the number of misplaced keys, or `None` at a limit, and counts the strides it reads.
+    ///
+    /// It counts as `misplaced_up_to` does. The result is also `None` if `strides` would count more
+    /// than 2^63.
+    ///
+    /// It reads at most `limit` strides and those of one more lookup, which are at most
+    /// ceil(n / 16), where n is the number of buckets.
+    ///
+    /// # Requires
+    ///
+    /// - `strides` has at most 2^63 strides.
+    pub fn misplaced_up_to_counted(self, limit: u64, strides: &mut Strides) -> Option<usize>
+        requires room { strides.old ≤ 2 ^ 63 }
+        ensures counts { CountsUpTo (index_of self.entry) (hash_at H.hasher K.key_calls) K.same
+            limit strides.old result }
+        ensures bounded { ReadsUpTo self.entry limit strides.old strides.new }
+    {
+        let entries = self.entries();
+        let before = strides.count();
+        let mut count = 0;
+        for place in 0..self.len() {
+            let another = entries.is_misplaced(place, strides);
+            if is_past(before, strides.count(), limit) {
+                return None;
+            }
+            if another {
+                count += 1;
+            }
+        }
+        Some(count)
+    }
+}

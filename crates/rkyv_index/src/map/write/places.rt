@@ -1,0 +1,90 @@
+//! The indices of entries, each under the hash of its entry, as the input of a table.
+
+ghost use Rattle.std.specs.Prelude.{ℕ, ◌≡◌, ◌+◌, ◌≤◌, length};
+ghost use Rattle.std.specs.Iterator.{YieldsFirst, at_most};
+ghost use Rattle.std.specs.Slice.Iter.{iter_rest};
+ghost use Rattle.rkyv_index.specs.Index.IndexFormat.{hash_of, places_from};
+
+use crate::width::PlaceWidth;
+use rkyv_base::adapter::EntryAdapter;
+use rkyv_base::lend::Lend;
+use rkyv_keys::hash::{KeyHash, hash_value};
+use rkyv_scan::hash::KeyHasher;
+use std::marker::PhantomData;
+
+/// A value that has a hash under the hasher `H`.
+pub(crate) trait HashedEntry<H> {
+    // The condition under which the value can be hashed.
+    ghost can_hash: { Self → Type 0 };
+
+    // The hash of the value.
+    ghost hash: { Self → ℕ };
+
+    /// Returns the hash of the value.
+    ///
+    /// # Requires
+    ///
+    /// - The value can be hashed.
+    fn hash(&self) -> u64
+        requires { can_hash self.now }
+        ensures { result ≡ hash self.now };
+}
+
+// The hash of an entry is that of its key.
+impl<BK: Lend<A>, BV, A: KeyHash, B, H: KeyHasher> HashedEntry<H> for EntryAdapter<BK, BV, A, B> {
+    ghost can_hash = { λ entry. A.can_read (BK.lent entry.key) };
+
+    ghost hash = { λ entry. hash_of H.hasher A.calls (BK.lent entry.key) };
+
+    #[inline]
+    fn hash(&self) -> u64 {
+        hash_value::<A, H>(self.key.lend())
+    }
+}
+
+/// An iterator over the indices of values from 0 on, each with the hash of its value.
+#[derive(Drop)]
+pub(crate) struct HashedPlaces<'a, U, H, W> {
+    values: std::slice::Iter<'a, U>,
+    place: u64,
+    kinds: PhantomData<(H, W)>,
+}
+
+impl<'a, U, H, W> HashedPlaces<'a, U, H, W> {
+    #[inline]
+    pub(crate) fn new(values: &'a [U]) -> HashedPlaces<'a, U, H, W>
+        ensures rest { iter_rest result.values ≡ values.now }
+        ensures place { result.place ≡ 0 }
+    {
+        HashedPlaces {
+            values: values.iter(),
+            place: 0,
+            kinds: PhantomData,
+        }
+    }
+}
+
+impl<'a, U: HashedEntry<H>, H, W: PlaceWidth> Iterator for HashedPlaces<'a, U, H, W> {
+    type Item = (u64, W::Place);
+
+    ghost can_next = { λ s. (s.place + length (iter_rest s.values) ≤ W.LIMIT)
+        × ((value : U) → U.can_hash value) };
+
+    ghost next_gives = { YieldsFirst (λ s. places_from U.hash W.Place.encoding.value s.place
+        (iter_rest s.values)) };
+
+    ghost remaining = { λ s. at_most (length (iter_rest s.values)) };
+
+    #[inline]
+    fn next(&mut self) -> Option<(u64, W::Place)> {
+        match self.values.next() {
+            Some(value) => {
+                let hash = value.hash();
+                let place = W::to_place(self.place);
+                self.place += 1;
+                Some((hash, place))
+            }
+            None => None,
+        }
+    }
+}

@@ -1,0 +1,111 @@
+//! The resolver of a written index map, and writing its header.
+
+ghost use Rattle.std.specs.Prelude.{◌≡◌, ◌+◌, ◌<◌, ◌^◌, length};
+ghost use Rattle.rkyv_index.specs.Index.IndexHeader.{IndexResolver, WritesIndexHeader};
+
+use crate::map::ArchivedIndexMap;
+use rkyv_base::archive::ResolveResult;
+use rkyv_base::element::HasSpec;
+use rkyv_base::errors::DistanceTooLarge;
+use rkyv_base::width::{Narrow, Width};
+use rkyv_table::table::ArchivedHashTable;
+use rkyv_table::table::resolve::HashTableResolver;
+use std::marker::Model;
+
+/// The resolver of a written index map: that of its table, and the position of its entries.
+#[derive(Drop)]
+pub struct IndexMapResolver<W: Width = Narrow> {
+    pub(crate) table: HashTableResolver<W>,
+    pub(crate) entries: u64,
+}
+
+impl<W: Width> Model for IndexMapResolver<W> {
+    ghost Value = { IndexResolver };
+
+    ghost view = { λ r. record { table = r.table; entries = r.entries } };
+}
+
+impl<W: Width> IndexMapResolver<W> {
+    /// Returns the number of pairs of the map.
+    #[inline]
+    pub fn len(&self) -> usize
+        ensures { result ≡ self.now.table.len }
+    {
+        self.table.len()
+    }
+
+    /// Returns the load factor of the map.
+    #[inline]
+    pub fn load_factor(&self) -> (usize, usize)
+        ensures { result ≡ self.now.table.load_factor }
+    {
+        self.table.load_factor()
+    }
+
+    /// Writes the header of the written map over the whole of `out`, for a header at `pos`.
+    ///
+    /// It is the header that `resolve_from_len` writes.
+    ///
+    /// # Requires
+    ///
+    /// - `out` has the size of a header.
+    /// - The header ends below 2^64.
+    ///
+    /// # Errors
+    ///
+    /// - `DistanceTooLarge`: the map isn't empty, and the distance to the table doesn't fit
+    ///   in the width. Or the distance to the entries doesn't fit. `out` is unchanged.
+    pub fn resolve(self, pos: u64, out: &mut [u8]) -> ResolveResult
+        requires room { length out.old ≡ W.INDEX_SIZE }
+        requires fits { pos + W.INDEX_SIZE < 2 ^ 64 }
+        ensures { WritesIndexHeader W.word self pos out.old out.new result }
+    {
+        let (len, load_factor) = (self.len(), self.load_factor());
+        ArchivedIndexMap::<'_, (), (), (), W>::resolve_from_len(len, load_factor, self, pos, out)
+    }
+}
+
+impl<'a, K: HasSpec, V: HasSpec, H, W: Width> ArchivedIndexMap<'a, K, V, H, W> {
+    /// Writes the header of a written map over the whole of `out`, for a header at `pos`.
+    ///
+    /// It is the header of the table of indices, and then the distance to the entries.
+    ///
+    /// # Requires
+    ///
+    /// - `len` and `load_factor` are those of the resolver.
+    /// - `out` has the size of a header.
+    /// - The header ends below 2^64.
+    ///
+    /// # Errors
+    ///
+    /// - `DistanceTooLarge`: the map isn't empty, and the distance to the table doesn't fit
+    ///   in the width. Or the distance to the entries doesn't fit, also of an empty map.
+    ///   `out` is unchanged.
+    pub fn resolve_from_len(
+        len: usize,
+        load_factor: (usize, usize),
+        resolver: IndexMapResolver<W>,
+        pos: u64,
+        out: &mut [u8],
+    ) -> ResolveResult
+        requires same { (len ≡ resolver.table.len) × (load_factor ≡ resolver.table.load_factor) }
+        requires room { length out.old ≡ W.INDEX_SIZE }
+        requires fits { pos + W.INDEX_SIZE < 2 ^ 64 }
+        ensures { WritesIndexHeader W.word resolver pos out.old out.new result }
+    {
+        let distance = match W::distance(resolver.entries, pos + W::TABLE_SIZE as u64) {
+            Some(distance) => distance,
+            None => return Err(DistanceTooLarge),
+        };
+        let (table, entries) = out.split_at_mut(W::TABLE_SIZE);
+        ArchivedHashTable::<W::Place, W>::resolve_from_len(
+            len,
+            load_factor,
+            resolver.table,
+            pos,
+            table,
+        )?;
+        W::write_distance(entries, distance);
+        Ok(())
+    }
+}

@@ -1,0 +1,161 @@
+//! Writing index maps from iterators of pairs.
+//!
+//! `serialize_from_iter` writes a table of indices and the entries, and returns a resolver.
+//! Its `resolve` then writes the header.
+
+ghost use Rattle.std.specs.Prelude.{List, ℕ};
+ghost use Rattle.rkyv_base.specs.Format.{Format};
+ghost use Rattle.rkyv_base.specs.Pairs.{written_as};
+ghost use Rattle.rkyv_table.specs.Table.ItemValues.{lent_pairs};
+ghost use Rattle.rkyv_index.specs.Index.Writing.{WritesUnder, input};
+ghost use Rattle.rkyv_index.specs.Index.IndexFormat.{hash_of, index_format};
+ghost use Rattle.rkyv_index.specs.Index.IndexHeader.{IndexResolver};
+
+use crate::map::write::resolve::IndexMapResolver;
+use crate::map::write::source::{Room, take_entries};
+use crate::map::write::write_index;
+use crate::map::{ArchivedIndexMap, IndexMapOf};
+use crate::width::PlaceWidth;
+use rkyv_base::adapter::EntryAdapter;
+use rkyv_base::archive::{Archive, Serialize, WriteResult};
+use rkyv_base::element::{Element, Represents};
+use rkyv_base::entry::Entry;
+use rkyv_base::errors::{IteratorLengthMismatch, WriteError};
+use rkyv_base::lend::Lend;
+use rkyv_base::writer::Writer;
+use rkyv_keys::hash::KeyHash;
+use rkyv_keys::keys::{KeyElement, NativeKey};
+use rkyv_scan::hash::KeyHasher;
+use rkyv_table::controls::numbers::{CapacityError, capacity};
+use std::alloc::Global;
+
+/// The format of lists under each load factor.
+///
+/// A list has items of `I`, and each owns or borrows an `X`.
+pub trait ListFormat<I, X> {
+    ghost format: { ℕ × ℕ → Format (List I) IndexResolver };
+}
+
+impl<
+    K: Element,
+    V: Element,
+    H: KeyHasher,
+    W: PlaceWidth,
+    A: KeyHash + Archive<W>,
+    B: Archive<W>,
+    BK: Lend<A>,
+    BV: Lend<B>,
+> ListFormat<(BK, BV), (A, B)> for IndexMapOf<K, V, H, W> {
+    ghost format = { λ load_factor. written_as (lent_pairs BK.lent BV.lent)
+        (index_format W.word W.Place.spec W.Place.encoding K.spec V.spec A.format B.format
+        (hash_of H.hasher A.calls) load_factor) };
+}
+
+impl<'a, K: KeyElement, V: Element, H: KeyHasher, W: PlaceWidth> ArchivedIndexMap<'a, K, V, H, W> {
+    /// Writes an index map of `len` pairs and returns its resolver.
+    ///
+    /// The pairs have their keys and values as themselves or by reference.
+    /// Pairs with equal keys are kept, and a lookup finds the first.
+    ///
+    /// The layout is:
+    ///
+    /// 1. the table of the indices, each under the hash of its key, as `serialize_by` of the table
+    ///    writes it,
+    /// 2. the parts of the entries, in insertion order,
+    /// 3. zeros up to the alignment of an entry,
+    /// 4. the entries, in insertion order.
+    ///
+    /// The table of no pairs has no bytes.
+    ///
+    /// Not in the contract: the iterator is called at most `len + 1` times,
+    /// and not after it returned `None`. Memory for the pairs is allocated before one is taken,
+    /// and memory for the table afterwards.
+    ///
+    /// # Requires
+    ///
+    /// - The iterator can be called.
+    ///
+    /// # Errors
+    ///
+    /// - `InvalidLoadFactor`: the load factor isn't above 0 and at most 1.
+    /// - `CapacityTooLarge`: the capacity is above `W::MAX_CAPACITY`.
+    /// - `Memory`: `len` isn't 0, and memory for the pairs or for the table could not be allocated.
+    /// - `IteratorLengthMismatch`: the number of pairs isn't `len`. The number is counted up
+    ///   to `len + 1`.
+    /// - The error of the first key, value or piece that fails.
+    ///
+    /// Nothing is written with the first four errors. The bytes written before the call
+    /// are unchanged.
+    ///
+    /// # Examples
+    ///
+    /// ```rust
+    /// let resolver = ArchivedIndexMap::<i8, i8, FxHasher64, Narrow>::serialize_from_iter::<
+    ///     VecWriter,
+    ///     i8,
+    ///     i8,
+    ///     i8,
+    ///     i8,
+    ///     _,
+    /// >(alloc, pairs.into_iter(), len, load_factor, &mut writer)?;
+    /// ```
+    pub fn serialize_from_iter<
+        S: Writer,
+        A: NativeKey<K> + Serialize<S, W, Archived = K>,
+        B: Serialize<S, W, Archived = V>,
+        BK: Lend<A> + Drop,
+        BV: Lend<B> + Drop,
+        I: Iterator<Item = (BK, BV)>,
+    >(
+        alloc: Global,
+        iter: I,
+        len: usize,
+        load_factor: (usize, usize),
+        serializer: &mut S,
+    ) -> WriteResult<IndexMapResolver<W>, S>
+    where
+        K: Represents<A>,
+        V: Represents<B>,
+        requires ready { I.can_next iter }
+        ensures { let f = ⟦<IndexMapOf<K, V, H, W> as ListFormat<(BK, BV), (A, B)>>⟧.format in
+            WritesUnder W.Width (input I.next_gives iter len load_factor) f
+            (S.output serializer.old) (S.output serializer.new) result }
+    {
+        match capacity(len, load_factor, W::MAX_CAPACITY) {
+            Ok(_) => {}
+            Err(CapacityError::InvalidLoadFactor) => {
+                return Err(WriteError::InvalidLoadFactor {
+                    numerator: load_factor.0,
+                    denominator: load_factor.1,
+                });
+            }
+            Err(CapacityError::CapacityTooLarge) => {
+                return Err(WriteError::CapacityTooLarge { len });
+            }
+        }
+        let room = match Room::new(alloc, len, Entry::<K, V>::size()) {
+            Ok(room) => room,
+            Err(_) => return Err(WriteError::Memory),
+        };
+        let mut entries = room.entries;
+        let mut scratch = room.scratch;
+        let resolvers = room.resolvers;
+        match take_entries(iter, len, &mut entries) {
+            Ok(()) => {}
+            Err(actual) => {
+                return Err(WriteError::IteratorLengthMismatch(IteratorLengthMismatch {
+                    expected: len,
+                    actual,
+                }));
+            }
+        }
+        write_index::<W, H, _, EntryAdapter<_, _, A, B>>(
+            alloc,
+            entries.as_slice(),
+            resolvers,
+            scratch.as_mut_slice(),
+            load_factor,
+            serializer,
+        )
+    }
+}

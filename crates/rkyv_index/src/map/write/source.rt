@@ -1,0 +1,86 @@
+//! Taking the pairs of an index map, and allocating the memory for them.
+
+ghost use Rattle.std.specs.Prelude.{◌≡◌, ◌<◌, ◌≤◌, [], IfOk, IfSome, MatchResult, OnErr, length};
+ghost use Rattle.std.specs.Prelude.{vec_capacity};
+ghost use Rattle.std.specs.Iterator.{Drains};
+ghost use Rattle.rkyv_table.specs.Table.Counting.{YieldsOtherCount};
+ghost use Rattle.rkyv_index.specs.Index.Writing.{made_of};
+
+use rkyv_base::adapter::EntryAdapter;
+use rkyv_base::lend::Lend;
+use std::alloc::{AllocError, Global};
+
+// The memory for writing entries: vectors with room for each entry and each resolver,
+// and the bytes of one entry. For no entries, nothing is allocated.
+#[derive(Drop)]
+pub(crate) struct Room<X, R> {
+    pub(crate) entries: Vec<X>,
+    pub(crate) resolvers: Vec<R>,
+    pub(crate) scratch: Vec<u8>,
+}
+
+impl<X: Drop, R: Drop> Room<X, R> {
+    pub(crate) fn new(alloc: Global, len: usize, size: usize) -> Result<Room<X, R>, AllocError>
+        ensures entries { IfOk result (λ r. (r.entries.items ≡ [])
+            × (len ≤ vec_capacity r.entries)) }
+        ensures resolvers { IfOk result (λ r. (r.resolvers.items ≡ [])
+            × (len ≤ vec_capacity r.resolvers)) }
+        ensures scratch { IfOk result (λ r. 0 < len → length r.scratch.items ≡ size) }
+        ensures some { OnErr result (0 < len) }
+    {
+        if len == 0 {
+            return Ok(Room {
+                entries: Vec::new(alloc),
+                resolvers: Vec::new(alloc),
+                scratch: Vec::new(alloc),
+            });
+        }
+        let entries = Vec::with_capacity(alloc, len)?;
+        let resolvers = Vec::with_capacity(alloc, len)?;
+        let scratch = vec![in alloc; 0u8; size]?;
+        Ok(Room {
+            entries,
+            resolvers,
+            scratch,
+        })
+    }
+}
+
+// Calls an iterator, which need not end.
+#[inline]
+fn next_pair<I: Iterator>(rest: &mut I) -> Option<I::Item>
+    requires { I.can_next rest.old }
+    ensures steps { I.next_gives rest.old result rest.new }
+    ensures keeps { IfSome result (λ _. I.can_next rest.new) }
+{
+    rest.next()
+}
+
+// Takes `len` pairs as entries. An `Err` has the number of pairs, counted up to `len + 1`.
+pub(crate) fn take_entries<
+    A,
+    B,
+    BK: Lend<A> + Drop,
+    BV: Lend<B> + Drop,
+    I: Iterator<Item = (BK, BV)>,
+>(iter: I, len: usize, entries: &mut Vec<EntryAdapter<BK, BV, A, B>>) -> Result<(), usize>
+    requires ready { I.can_next iter }
+    requires empty { entries.old.items ≡ [] }
+    requires room { len ≤ vec_capacity entries.old }
+    ensures { MatchResult result
+        (λ _. Drains I.next_gives iter (made_of entries.new.items) × (length entries.new.items
+        ≡ len))
+        (YieldsOtherCount I.next_gives len iter) }
+{
+    let mut rest = iter;
+    for count in 0..len {
+        match next_pair(&mut rest) {
+            Some((key, value)) => entries.push_reserved(EntryAdapter::new(key, value)),
+            None => return Err(count),
+        }
+    }
+    match next_pair(&mut rest) {
+        Some(_) => Err(len + 1),
+        None => Ok(()),
+    }
+}

@@ -1,0 +1,19 @@
+-- The native pairs that a map represents.
+use Rattle.std.specs.Prelude.{ℕ, List}
+use Rattle.rkyv_scan.specs.Hash.{Hasher, HasherCall, hash_of_calls}
+
+-- the native pairs of a map. `key` and `value`: bytes at a position represent a key or a value,
+-- `key_hash`: hash of the key at a position
+pub record NativePairs (A B : Type 0) : Type 1 where
+  pub key : List ℕ → ℕ → A → Type 0
+  pub value : List ℕ → ℕ → B → Type 0
+  pub key_hash : List ℕ → ℕ → ℕ
+
+-- the native pairs of a map with a hasher, whose keys have the hasher calls `key_calls`
+abbrev pub native_pairs : {State A B : Type 0} → (List ℕ → ℕ → A → Type 0)
+    → (List ℕ → ℕ → B → Type 0) → Hasher State → (List ℕ → ℕ → List HasherCall) → NativePairs A B
+native_pairs key value hasher key_calls = record {
+  key = key;
+  value = value;
+  key_hash = λ b q. hash_of_calls hasher (key_calls b q);
+}

@@ -1,0 +1,28 @@
+-- Round trips: a value is written to memory, and deserialized from its archive.
+use Rattle.std.specs.Prelude.{ℕ, ◌-◌, List, length}
+use Rattle.rkyv_base.specs.ElementSpec.{ElementSpec}
+use Rattle.rkyv_base.specs.Format.{Format}
+use Rattle.rkyv_base.specs.Root.{ArchiveRefused, RootBytes}
+use Rattle.rkyv_base.specs.declared.errors.RoundTripError.{RoundTripError}
+use Rattle.rkyv_base.specs.declared.errors.RoundTripError.TheVariants.{Read, Write}
+use Rattle.rkyv_keys.specs.Reading.{Refusals}
+
+-- how a value is written and deserialized. `limit`: greatest position of the archive,
+-- `spec`: spec of the element
+pub record RoundTrip (V R : Type 0) : Type 1 where
+  pub limit : ℕ
+  pub spec : ElementSpec
+  pub format : Format V R
+  pub refuses : Refusals
+
+-- the round trip of values with this element and this format
+abbrev pub round_trip : {V R : Type 0} → ℕ → ElementSpec → Format V R → Refusals → RoundTrip V R
+round_trip limit spec format refuses =
+    record { limit = limit; spec = spec; format = format; refuses = refuses }
+
+-- `e`: error of the round trip of the value `v`. It can't be written, or its root
+-- can't be deserialized from the bytes of its archive
+abbrev pub RoundTripFails : {V R : Type 0} → RoundTrip V R → V → RoundTripError → Type 0
+RoundTripFails t v (Write e) = ArchiveRefused t.limit t.spec t.format v e
+RoundTripFails t v (Read e) = (b : List ℕ) × RootBytes t.spec.align t.format v 0 b (length b
+    - t.spec.size) × t.refuses b (length b - t.spec.size) e

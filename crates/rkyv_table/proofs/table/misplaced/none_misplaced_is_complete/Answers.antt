@@ -1,5 +1,0 @@
-use Rattle.rkyv_table.proofs.Misplaced.{complete}
-use Rattle.rkyv_table.proofs.table.misplaced.none_misplaced_is_complete.Goals as goal
-
-pub returns : goal.returns
-returns c = complete

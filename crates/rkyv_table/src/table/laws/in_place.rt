@@ -1,0 +1,47 @@
+//! Laws of writes in place.
+
+ghost use Rattle.std.specs.Prelude.{List, ℕ};
+ghost use Rattle.rkyv_base.specs.Entry.{entry_spec};
+ghost use Rattle.rkyv_base.specs.ElementSpec.{Viewable};
+ghost use Rattle.rkyv_table.specs.Table.Positions.{IsWalked};
+ghost use Rattle.rkyv_table.specs.Table.SealedTable.{KeepsTable, KeptByValueWrites, KeptByWrites};
+ghost use Rattle.rkyv_table.specs.Table.SealedTable.{SameLookups};
+ghost use Rattle.rkyv_table.specs.Table.Layout.{table_spec};
+ghost use Rattle.rkyv_table.specs.Table.WrittenTables.{ItemsWrittenRepresent};
+
+use rkyv_base::element::{Element, Represents};
+use rkyv_base::width::Width;
+
+/// States that if a write changes one item alone and keeps it valid, the table stays valid.
+///
+/// The header, the control bytes and the bytes of the other items are unchanged.
+pub fn writes_keep_the_table<T: Element, W: Width>()
+    ensures { (b : List ℕ) (p i : ℕ) → Viewable (table_spec W.word T.spec) b p
+        → IsWalked W.word b p i
+        → KeptByWrites W.word T.spec b p i }
+{}
+
+/// States that a table stays valid if a write changes one entry's value and keeps it valid.
+///
+/// The header, the control bytes, the other entries and the key of this one are unchanged.
+pub fn value_writes_keep_the_table<K: Element, V: Element, W: Width>()
+    ensures { (b : List ℕ) (p i : ℕ) → Viewable (table_spec W.word (entry_spec K.spec V.spec)) b p
+        → IsWalked W.word b p i
+        → KeptByValueWrites W.word K.spec V.spec b p i }
+{}
+
+/// States that a lookup in a kept table finds the same bucket at the same position as before.
+///
+/// A written table is still one.
+pub fn writes_keep_lookups<T: Element, W: Width>()
+    ensures { (b c : List ℕ) (p i : ℕ) → KeepsTable W.word T.spec b c p i
+        → SameLookups W.word T.spec b c p }
+{}
+
+/// States that a write of one item in place replaces it in the list from which a table was written.
+///
+/// The write changes the bytes of this item alone and keeps it valid, and they represent the new
+/// item. The new item is under the hash of the old one.
+pub fn items_written_represent<X, T: Represents<X>, W: Width>()
+    ensures { ItemsWrittenRepresent W.word T.spec T.represents }
+{}

@@ -1,0 +1,5 @@
+//! Tests of `example_message`.
+
+mod caller;
+mod damaged;
+mod numbers;

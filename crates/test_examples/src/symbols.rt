@@ -1,0 +1,5 @@
+//! Tests of `example_symbols`.
+
+mod caller;
+mod damaged;
+mod tables;
