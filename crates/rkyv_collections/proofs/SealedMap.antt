@@ -17,12 +17,13 @@ use Rattle.rkyv_table.proofs.SealedTable.{value_kept}
 use Rattle.rkyv_base.specs.declared.entry.Entry.{Entry}
 use Rattle.rkyv_collections.specs.Map.{AnswersKeys, AreUnderHashAt, FindsBy, FindsFirstBy}
 use Rattle.rkyv_collections.specs.Map.{FindsFirstKey, FindsFirstKeyAt, FindsKey, FindsKeyAt}
-use Rattle.rkyv_collections.specs.Map.{IsEntryAt, IsEntryIn, IsValueIn, map_bytes, map_pos}
+use Rattle.rkyv_collections.specs.Map.{IsEntryAt, IsEntryIn, IsKeyIn, IsValueIn, map_bytes, map_pos}
+use Rattle.rkyv_collections.specs.Map.Lookups.{IsAcceptedKey}
 use Rattle.rkyv_collections.specs.Map.MapAt.{MapAt, TellsKeyAt, map_at}
 use Rattle.rkyv_collections.specs.Map.MapSpec.{IsKeyPosAt, map_spec}
 use Rattle.rkyv_collections.specs.Map.Misplaced.{FindsOneKey, FindsOneKeyAt}
 use Rattle.rkyv_keys.specs.Asked.{Asked}
-use Rattle.rkyv_collections.specs.Map.SealedMap.{AnswersKeysAt, FindsByAt, FindsFirstByAt, IsPairPos, TellsByAt}
+use Rattle.rkyv_collections.specs.Map.SealedMap.{AnswersKeysAt, FindsByAt, FindsFirstByAt, IsAcceptedKeyAt, IsKeyAt, IsPairPos, TellsByAt}
 use Rattle.rkyv_collections.specs.declared.map.ArchivedHashMap.{ArchivedHashMap}
 
 module _ (w : Width) (k v : ElementSpec) (kl : IsElement k) (vl : IsElement v) (b : List ℕ) (p : ℕ) (view : Viewable (map_spec w k v) b p) where
@@ -67,13 +68,20 @@ module _ {K V H W : Type 0} {ks : Specs K} {vs : Specs V} {wt : Words W} (m : Ar
   as_read F x = moved F (map_bytes m) b (map_pos m) p bytes place x
 
   module _ where
+    key_at : (key : View K) → IsKeyIn m key → IsKeyAt wt.word ks.spec vs.spec b p key
+    key_at key is = record {
+      bytes = ap (λ (archive : Bor (List ℕ)). archive.now) is.archive ∙ bytes;
+      viewable = is.viewable;
+      place = as_read (λ c q. IsKeyPosAt wt.word ks.spec vs.spec c q (pos_of key)) is.place;
+    }
+
     answers_read : (post : View K → Bool → Type 0) (accept : ℕ → Bool) → AnswersKeysAt wt.word ks.spec vs.spec b p post accept → AnswersKeys m post accept
-    answers_read post accept answers key r is told =
-        answers key r (record {
-          bytes = ap (λ (archive : Bor (List ℕ)). archive.now) is.archive ∙ bytes;
-          viewable = is.viewable;
-          place = as_read (λ c q. IsKeyPosAt wt.word ks.spec vs.spec c q (pos_of key)) is.place;
-        }) told
+    answers_read post accept answers key r is told = answers key r (key_at key is) told
+
+    -- an accepted key, by its position
+    pub accepted_read : (post : View K → Bool → Type 0) (place : Option ℕ) → IfSome place (IsAcceptedKey m post) → IfSome place (IsAcceptedKeyAt wt.word ks.spec vs.spec b p post)
+    accepted_read post None accepted = tt
+    accepted_read post (Some q) accepted = (accepted.0, key_at accepted.0 accepted.1, accepted.2, accepted.3)
 
     -- a found entry has its key in the map, and a found value is behind a key
     pub entry_read : (result : Option (View (Entry K V))) (pos : Option ℕ) → IsEntryAt result pos → IfSome result (IsEntryIn m) → IfSome pos (IsKeyPosAt wt.word ks.spec vs.spec b p)
@@ -121,6 +129,7 @@ tells_more m a Fact Said says t = record {
 pub tells_more_by : {K : Type 0} (m : MapAt) (hash : ℕ) (key_hash : List ℕ → ℕ → ℕ) (post : View K → Bool → Type 0) (Fact Said : Option ℕ → Type 0) → ((place : Option ℕ) → Fact place → Said place)
     → TellsByAt m hash key_hash post Fact → TellsByAt m hash key_hash post Said
 tells_more_by m hash key_hash post Fact Said says t = record {
+  accepted = (t.accepted.0, says t.accepted.0 t.accepted.1, t.accepted.2);
   answer = λ accept answers. says _ (t.answer accept answers);
   first = λ accept answers under homes written. says _ (t.first accept answers under homes written);
 }

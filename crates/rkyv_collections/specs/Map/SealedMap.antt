@@ -1,7 +1,7 @@
 -- Lookups in a map that return a seal of the value.
 use Rattle.rkyv_base.specs.declared.element.HasSpec.{Ghosts as Specs}
 use Rattle.rkyv_base.specs.declared.width.Word.{Ghosts as Words}
-use Rattle.std.specs.Prelude.{◌≡◌, ℕ, List, Bool, Option}
+use Rattle.std.specs.Prelude.{◌≡◌, ℕ, List, Bool, true, IfSome, Option}
 use Rattle.std.specs.Int.{Width}
 use Rattle.std.specs.Option.{option_map}
 use Rattle.rkyv_base.specs.Entry.{entry_spec}
@@ -46,6 +46,11 @@ module _ {K : Type 0} (w : Width) (k v : ElementSpec) (b : List ℕ) (p : ℕ) w
   AnswersKeysAt post accept = (key : View K) (r : Bool) → IsKeyAt w k v b p key → post key r
       → r ≡ accept (pos_of key)
 
+  -- the comparison with `post` accepts the key at the position
+  abbrev pub IsAcceptedKeyAt : (View K → Bool → Type 0) → ℕ → Type 0
+  IsAcceptedKeyAt post q = (key : View K) × IsKeyAt w k v b p key × (pos_of key ≡ q)
+      × post key true
+
   -- the property applies to the position that a lookup by a comparison finds,
   -- if the comparison depends only on the position of a key
   abbrev pub FindsByAt : (View K → Bool → Type 0) → ℕ → (Option ℕ → Type 0) → Type 0
@@ -76,9 +81,12 @@ abbrev pub map_sealed : {K V H W : Type 0} → Words W → Specs K → Specs V
 map_sealed wt ks vs a = map_at wt ks vs (archive_in a) (pos_in a)
 
 -- the property applies to the position of the key that a lookup by a comparison finds
--- under the hash, or to `None`: in any map and in a written one
+-- under the hash, or to `None`: in any map and in a written one.
+-- `accepted`: the comparison accepted the key
 pub record TellsByAt {K : Type 0} (m : MapAt) (hash : ℕ) (key_hash : List ℕ → ℕ → ℕ)
     (post : View K → Bool → Type 0) (P : Option ℕ → Type 0) : Type 0 where
+  pub accepted : (place : Option ℕ) × P place
+      × IfSome place (IsAcceptedKeyAt m.word m.key m.value m.bytes m.pos post)
   pub answer : FindsByAt m.word m.key m.value m.bytes m.pos post hash P
   pub first : FindsFirstByAt m.word m.key m.value m.bytes m.pos post hash key_hash P
 

@@ -2,7 +2,7 @@ use Rattle.std.proofs.Common.{◌≡◌, ℕ, Option, sym, ◌∙◌}
 use Rattle.rkyv_base.specs.Seal.{archive_in, pos_in}
 use Rattle.rkyv_collections.specs.Map.{IsEntryAt, hash_at}
 use Rattle.rkyv_collections.specs.Map.MapFormat.{hash_of}
-use Rattle.rkyv_collections.proofs.SealedMap.{by_read, entry_read, first_by_read}
+use Rattle.rkyv_collections.proofs.SealedMap.{accepted_read, by_read, entry_read, first_by_read}
 use Rattle.rkyv_collections.proofs.map.ArchivedHashMap.find_pos.Goals as goal
 
 pub returns-clause-walked : goal.returns-clause-walked
@@ -16,7 +16,9 @@ returns-clause-finds g c =
     let hash = hash_of g.H.KeyHasher.hasher g.Q.KeyHash.calls c.args.key.now in
     let key_hash = hash_at g.H.KeyHasher.hasher g.K.KeyElement.key_calls in
     let read = c.map_in.ensures in
+    let accepted = c.find.ensures.found.accepted in
     record {
+      accepted = (accepted.0, says accepted.0 accepted.1, accepted_read c.map_in.result (archive_in c.args.this.now) (pos_in c.args.this.now) read.bytes read.pos (goal.F-post g c.args.cmp c.args.key) accepted.0 accepted.2);
       answer = by_read c.map_in.result (archive_in c.args.this.now) (pos_in c.args.this.now) read.bytes read.pos P (λ place. c.found_pos.result ≡ place) says _ hash c.find.ensures.found.answer;
       first = first_by_read c.map_in.result (archive_in c.args.this.now) (pos_in c.args.this.now) read.bytes read.pos P (λ place. c.found_pos.result ≡ place) says _ hash key_hash c.find.ensures.found.first;
     }
