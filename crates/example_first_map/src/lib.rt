@@ -2,7 +2,7 @@
 #![tactic(auto)]
 
 ghost use Rattle.std.specs.Int.{w64};
-ghost use Rattle.std.specs.Prelude.{ℕ, ◌≡◌};
+ghost use Rattle.std.specs.Prelude.{IfOk, ℕ, ◌≡◌};
 ghost use Rattle.rkyv_base.specs.Numbers.{unsigned};
 ghost use Rattle.rkyv_collections.specs.Map.ListArchives.{
   IsTextMap,
@@ -10,6 +10,7 @@ ghost use Rattle.rkyv_collections.specs.Map.ListArchives.{
   TextMapResult,
   TextPairs,
   first_of_text,
+  text_found,
 };
 
 use rkyv_base::access::access;
@@ -45,7 +46,9 @@ pub fn write(alloc: Global, symbols: &[(&str, u64)]) -> Result<Vec<u8>, WriteErr
 /// The same as for `access`.
 pub fn look_up(table: &[u8], name: &str) -> Result<Option<u64>, VerifyError>
     ensures opened { OpensTextMap (unsigned w64) table.now result }
-    ensures found { (symbols : TextPairs ℕ) → IsTextMap (unsigned w64) table.now symbols
+    ensures found { IfOk result
+        (λ address. address ≡ text_found (unsigned w64) name.now table.now) }
+    ensures listed { (symbols : TextPairs ℕ) → IsTextMap (unsigned w64) table.now symbols
         → result ≡ Ok (first_of_text name.now symbols) }
 {
     scalars_found_are_listed::<&str, u64, Text, FxHasher64, Narrow>();

@@ -1,20 +1,22 @@
 -- Archives with a root map that represents a list of pairs, and the scalars that are found in one.
 use Rattle.rkyv_base.specs.declared.element.HasSpec.{Ghosts as Specs}
 use Rattle.rkyv_base.specs.declared.width.Word.{Ghosts as Words}
-use Rattle.std.specs.Prelude.{◌≡◌, ℕ, ◌-◌, IfSome, List, MatchResult, Option, Result, length}
+use Rattle.std.specs.Prelude.{◌≡◌, ℕ, ◌+◌, ◌-◌, IfSome, List, MatchResult, Option, Result, length}
 use Rattle.std.specs.Borrow.{Bor}
 use Rattle.std.specs.Int.{Width, w32}
 use Rattle.std.specs.Option.{option_map}
 use Rattle.std.specs.declared.vec.Vec.{Vec}
+use Rattle.rkyv_scan.specs.Groups.{generic_kind}
 use Rattle.rkyv_scan.specs.Hash.{fx_hasher, low_halves}
 use Rattle.rkyv_base.specs.Access.{Accepted, AccessFails}
+use Rattle.rkyv_base.specs.Entry.{entry_spec, value_offset}
 use Rattle.rkyv_base.specs.Format.{Format}
 use Rattle.rkyv_base.specs.Pairs.{written_as}
 use Rattle.rkyv_base.specs.Root.{ArchiveRefused}
 use Rattle.rkyv_base.specs.Scalar.{Encoding, ScalarRepresents, scalar_format, scalar_spec}
 use Rattle.rkyv_base.specs.Sealing.{value_at}
 use Rattle.rkyv_base.specs.ElementSpec.{ElementSpec}
-use Rattle.rkyv_base.specs.Text.{text_spec}
+use Rattle.rkyv_base.specs.Text.{text_at, text_spec}
 use Rattle.rkyv_base.specs.TextWriting.{text_format}
 use Rattle.rkyv_base.specs.View.{IsAt, bytes_of, pos_of}
 use Rattle.rkyv_base.specs.declared.errors.VerifyError.{VerifyError}
@@ -24,6 +26,7 @@ use Rattle.rkyv_keys.specs.Calls.{text_calls}
 use Rattle.rkyv_keys.specs.OfTexts.{same_bytes}
 use Rattle.rkyv_keys.specs.Lemmas.OfTexts.{IsTextOf, text_key_calls}
 use Rattle.rkyv_table.specs.Table.Listed.{listed}
+use Rattle.rkyv_table.specs.Table.Positions.{pos_found}
 use Rattle.rkyv_table.specs.Table.TableFormat.{TableResolver}
 use Rattle.rkyv_collections.specs.Map.ListedLookups.{first_value}
 use Rattle.rkyv_collections.specs.Map.{FindsFirstKey, IsValueAt, IsValueIn, hash_at, map_bytes}
@@ -96,6 +99,15 @@ OpensTextMap e b result = MatchResult result
 -- the value of the first pair whose key is `text`
 abbrev pub first_of_text : {N : Type 0} → List ℕ → TextPairs N → Option N
 first_of_text text pairs = first_value (λ held. same_bytes text held.now) pairs
+
+-- the value of the pair that a lookup of `text` finds in the map at the root of the archive `b`,
+-- which may represent no list
+abbrev pub text_found : {N : Type 0} → Encoding N → List ℕ → List ℕ → Option N
+text_found e text b =
+    option_map (λ q. value_at e b (q + value_offset (text_spec w32) (scalar_spec e)))
+    (pos_found generic_kind w32 (entry_spec (text_spec w32) (scalar_spec e)).size b
+    (map_root w32 (text_spec w32) (scalar_spec e) b)
+    (hash_of (fx_hasher low_halves) text_calls text) (λ q. same_bytes text (text_at w32 b q)))
 
 -- the scalar at the view, if there is a view
 abbrev pub scalar_found : {N : Type 0} → Encoding N → Option (View N) → Option N
