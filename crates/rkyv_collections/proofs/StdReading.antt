@@ -1,11 +1,13 @@
 -- Deserializing a map of std, pair by pair.
-use Rattle.std.proofs.Common.{◌≡◌, ℕ, refl, ap, ◌∙◌, Bool, true, false, cond, inl, inr, subst, sym, List, [], ◌∷◌, Option, Some, None}
+use Rattle.std.proofs.Common.{◌≡◌, ℕ, refl, ap, ◌∙◌, Bool, true, false, cond, inl, inr, subst, sym, List, [], ◌∷◌, ◌++◌, append_assoc, append-nil, Option, Some, None}
 use Rattle.std.specs.Borrow.{Bor}
 use Rattle.std.specs.Int.{Width}
 use Rattle.std.specs.HashSet.{HashSet, Updates}
-use Rattle.std.specs.List.{All, list_any}
+use Rattle.std.specs.List.{All, find, list_any}
+use Rattle.std.specs.Option.{option_or}
 use Rattle.std.proofs.lemmas.Bool.{cases_Bool}
-use Rattle.std.specs.Map.{lookup, update_all}
+use Rattle.std.specs.Map.{keys_of, lookup, update_all}
+use Rattle.std.proofs.lemmas.List.Folds.{find-append}
 use Rattle.std.proofs.lemmas.List.Elements.{All-head, All-map, All-tail, All-weaker}
 use Rattle.rkyv_base.specs.Entry.{entry_spec}
 use Rattle.rkyv_base.specs.Lemmas.Entry.{entry_element}
@@ -19,7 +21,7 @@ use Rattle.rkyv_table.specs.Table.RawItems.{ItemsLeft}
 use Rattle.rkyv_table.proofs.RawWalks.{walked_all}
 use Rattle.rkyv_collections.specs.Map.MapSpec.{IsKeyPosAt}
 use Rattle.rkyv_table.specs.Table.ItemValues.{with_units}
-use Rattle.rkyv_collections.specs.StdMaps.StdMap.{ArePairsAt}
+use Rattle.rkyv_collections.specs.StdMaps.StdMap.{AddsKey, ArePairsAt}
 
 -- each position of the walk is that of a key of the map
 keys_walked : (w : Width) (k v : ElementSpec) → IsElement k → IsElement v → (b : List ℕ) (p : ℕ) → All (IsKeyPosAt w k v b p) (item_positions w (entry_spec k v).size b p)
@@ -29,24 +31,37 @@ keys_walked w k v kl vl b p =
     (All-weaker (IsWalked w b p) (λ i. IsKeyPosAt w k v b p (item_at w (entry_spec k v).size b p i)) (λ i h. (i, h, refl)) ws (walked_all w (entry_spec k v) (entry_element k v kl vl) b p))
 
 module _ {A B : Type 0} (k v : ElementSpec) (key : List ℕ → ℕ → A → Type 0) (value : List ℕ → ℕ → B → Type 0) (equal : A → A → Bool) (b : List ℕ) (all : List ℕ) where
+  -- All pairs, inserted in order into an empty map: a lookup finds the values `f`,
+  -- and the stored keys are among `ks`
+  abbrev pub ReadsAll : (A → Option B) → List A → Type 0
+  ReadsAll f ks =
+      (pairs : List (A × B)) × ArePairsAt k v key value b all pairs × ((q : A) → f q ≡ update_all equal (λ _. None) pairs q)
+      × ((q : A) → find (equal q) ks ≡ find (equal q) (keys_of pairs))
+
   -- the insertion of the remaining pairs into the found ones is that of all pairs in order
   -- into an empty map
-  abbrev LeadsOn : List ℕ → (A → Option B) → Type 0
-  LeadsOn left f =
+  abbrev LeadsOn : List ℕ → (A → Option B) → List A → Type 0
+  LeadsOn left f ks =
       (rest : List (A × B)) → ArePairsAt k v key value b left rest → (g : A → Option B) → ((q : A) → g q ≡ update_all equal f rest q)
-      → (pairs : List (A × B)) × ArePairsAt k v key value b all pairs × ((q : A) → g q ≡ update_all equal (λ _. None) pairs q)
+      → (ns : List A) → ((q : A) → find (equal q) ns ≡ find (equal q) (ks ++ keys_of rest)) → ReadsAll g ns
 
-  leads_first : (f : A → Option B) → ((q : A) → f q ≡ None) → LeadsOn all f
-  leads_first f empty rest read g e = (rest, read, λ q. e q ∙ ap (λ (h : A → Option B). update_all equal h rest q) (λ i x. empty x i))
+  leads_first : (f : A → Option B) (ks : List A) → ((q : A) → f q ≡ None) → ks ≡ [] → LeadsOn all f ks
+  leads_first f ks empty none rest read g e ns stored =
+      (rest, read, λ q. e q ∙ ap (λ (h : A → Option B). update_all equal h rest q) (λ i x. empty x i), λ q. stored q ∙ ap (λ (xs : List A). find (equal q) (xs ++ keys_of rest)) none)
 
-  leads_next : (place : ℕ) (left : List ℕ) (f f' : A → Option B) (a : A) (x : B) → LeadsOn (place ∷ left) f → PairRepresents k v key value b place (a, x)
-      → ((q : A) → f' q ≡ cond (equal a q) (Some x) (f q)) → LeadsOn left f'
-  leads_next place left f f' a x h st u rest read g e =
-      h ((a, x) ∷ rest) (st, read) g (λ q. e q ∙ ap (λ (t : A → Option B). update_all equal t rest q) (λ i z. u z i))
+  -- a key behind others
+  added_first : (ks ms : List A) (a : A) → AddsKey equal ks ms a → (rest : List A) (q : A) → find (equal q) (ms ++ rest) ≡ find (equal q) (ks ++ a ∷ rest)
+  added_first ks ms a adds rest q =
+      find-append (equal q) ms rest ∙ ap (λ (o : Option A). option_or o (find (equal q) rest)) (adds q) ∙ sym (find-append (equal q) (ks ++ a ∷ []) rest)
+      ∙ ap (find (equal q)) (append_assoc ks (a ∷ []) rest)
 
-  leads_last : (f : A → Option B) → LeadsOn [] f
-      → (pairs : List (A × B)) × ArePairsAt k v key value b all pairs × ((q : A) → f q ≡ update_all equal (λ _. None) pairs q)
-  leads_last f h = h [] tt f (λ q. refl)
+  leads_next : (place : ℕ) (left : List ℕ) (f f' : A → Option B) (ks ms : List A) (a : A) (x : B) → LeadsOn (place ∷ left) f ks → PairRepresents k v key value b place (a, x)
+      → ((q : A) → f' q ≡ cond (equal a q) (Some x) (f q)) → AddsKey equal ks ms a → LeadsOn left f' ms
+  leads_next place left f f' ks ms a x h st u adds rest read g e ns stored =
+      h ((a, x) ∷ rest) (st, read) g (λ q. e q ∙ ap (λ (t : A → Option B). update_all equal t rest q) (λ i z. u z i)) ns (λ q. stored q ∙ added_first ks ms a adds (keys_of rest) q)
+
+  leads_last : (f : A → Option B) (ks : List A) → LeadsOn [] f ks → ReadsAll f ks
+  leads_last f ks h = h [] tt f (λ q. refl) ks (λ q. ap (find (equal q)) (sym (append-nil ks)))
 
 -- The remaining pairs of a walk are in the archived map at `p`. Their insertion into the found ones
 -- is that of all pairs in order
@@ -54,36 +69,37 @@ module _ {A B : Type 0} (w : Width) (k v : ElementSpec) (key : List ℕ → ℕ 
   abbrev pub all_positions : List ℕ
   all_positions = item_positions w (entry_spec k v).size archive.now p
 
-  abbrev pub WalksOn : ItemsLeft → (A → Option B) → Type 0
-  WalksOn left found = (left.archive ≡ archive) × All (IsKeyPosAt w k v archive.now p) left.positions
-      × LeadsOn k v key value equal archive.now all_positions left.positions found
+  abbrev pub WalksOn : ItemsLeft → (A → Option B) → List A → Type 0
+  WalksOn left found stored = (left.archive ≡ archive) × All (IsKeyPosAt w k v archive.now p) left.positions
+      × LeadsOn k v key value equal archive.now all_positions left.positions found stored
 
   pub walks_first : IsElement k → IsElement v → (left walk : ItemsLeft) → left ≡ walk → walk.archive ≡ archive → walk.positions ≡ all_positions
-      → (found : A → Option B) → ((q : A) → found q ≡ None) → WalksOn left found
-  walks_first kl vl left walk same whole positions found empty =
+      → (found : A → Option B) (stored : List A) → ((q : A) → found q ≡ None) → stored ≡ [] → WalksOn left found stored
+  walks_first kl vl left walk same whole positions found stored empty none =
       let at : left.positions ≡ all_positions = ap (λ (x : ItemsLeft). x.positions) same ∙ positions in (
         ap (λ (x : ItemsLeft). x.archive) same ∙ whole,
         subst (All (IsKeyPosAt w k v archive.now p)) (sym at) (keys_walked w k v kl vl archive.now p),
-        subst (λ (xs : List ℕ). LeadsOn k v key value equal archive.now all_positions xs found) (sym at) (leads_first k v key value equal archive.now all_positions found empty),
+        subst (λ (xs : List ℕ). LeadsOn k v key value equal archive.now all_positions xs found stored) (sym at) (leads_first k v key value equal archive.now all_positions found stored empty none),
       )
 
-  module _ (before after : ItemsLeft) (place : ℕ) (found : A → Option B) (step : TakesFirst before place after) (on : WalksOn before found) where
+  module _ (before after : ItemsLeft) (place : ℕ) (found : A → Option B) (stored : List A) (step : TakesFirst before place after) (on : WalksOn before found stored) where
     -- the next key is one of the map, in the same bytes
     pub walks_key : IsKeyPosAt w k v archive.now p place
     walks_key = All-head (IsKeyPosAt w k v archive.now p) place after.positions (subst (All (IsKeyPosAt w k v archive.now p)) step.first on.1)
 
-    pub walks_next : (found' : A → Option B) (a : A) (x : B) → PairRepresents k v key value archive.now place (a, x) → ((q : A) → found' q ≡ cond (equal a q) (Some x) (found q)) → WalksOn after found'
-    walks_next found' a x represents inserted = (
+    pub walks_next : (found' : A → Option B) (stored' : List A) (a : A) (x : B) → PairRepresents k v key value archive.now place (a, x) → ((q : A) → found' q ≡ cond (equal a q) (Some x) (found q))
+        → AddsKey equal stored stored' a → WalksOn after found' stored'
+    walks_next found' stored' a x represents inserted adds = (
       step.archive ∙ on.0,
       All-tail (IsKeyPosAt w k v archive.now p) place after.positions (subst (All (IsKeyPosAt w k v archive.now p)) step.first on.1),
-      leads_next k v key value equal archive.now all_positions place after.positions found found' a x
-          (subst (λ (xs : List ℕ). LeadsOn k v key value equal archive.now all_positions xs found) step.first on.2) represents inserted,
+      leads_next k v key value equal archive.now all_positions place after.positions found found' stored stored' a x
+          (subst (λ (xs : List ℕ). LeadsOn k v key value equal archive.now all_positions xs found stored) step.first on.2) represents inserted adds,
     )
 
-  pub walks_last : (left : ItemsLeft) (found : A → Option B) → WalksOn left found → left.positions ≡ []
-      → (pairs : List (A × B)) × ArePairsAt k v key value archive.now all_positions pairs × ((q : A) → found q ≡ update_all equal (λ _. None) pairs q)
-  walks_last left found on none =
-      leads_last k v key value equal archive.now all_positions found (subst (λ (xs : List ℕ). LeadsOn k v key value equal archive.now all_positions xs found) none on.2)
+  pub walks_last : (left : ItemsLeft) (found : A → Option B) (stored : List A) → WalksOn left found stored → left.positions ≡ []
+      → ReadsAll k v key value equal archive.now all_positions found stored
+  walks_last left found stored on none =
+      leads_last k v key value equal archive.now all_positions found stored (subst (λ (xs : List ℕ). LeadsOn k v key value equal archive.now all_positions xs found stored) none on.2)
 
 -- a lookup among keys, each with the unit value
 pub unit_lookup : {A : Type 0} (test : A → Bool) (keys : List A) → lookup test (with_units keys) ≡ cond (list_any test keys) (Some tt) None

@@ -7,3 +7,4 @@ pub mod StdMapLaws
 pub mod StdEqualLaws
 pub mod StdAlone
 pub mod StdSet
+pub mod StoredKeys

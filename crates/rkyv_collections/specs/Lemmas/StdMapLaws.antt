@@ -4,7 +4,7 @@ use Rattle.std.proofs.Common.{◌∙◌, arith, inl, inr, ◌⊎◌, Bool, true,
 use Rattle.std.proofs.Common.{◌∷◌, map, length, slice_get, slice_index, Option, Some, None}
 use Rattle.std.specs.Cmp.{IsEquivalence}
 use Rattle.std.specs.Int.{Width, byte_len}
-use Rattle.std.specs.List.{All, AllZip, Contains, IsDistinct}
+use Rattle.std.specs.List.{All, AllZip, Contains, IsDistinct, find}
 use Rattle.std.specs.Map.{keys_of, lookup, update_all}
 use Rattle.std.proofs.lemmas.Bool.{both_ways, cases_Bool, cases_eq, cases_lt, eq-eqb}
 use Rattle.std.proofs.lemmas.List.{get_or_default}
@@ -35,6 +35,7 @@ use Rattle.rkyv_table.proofs.WrittenTables.{home_count, home_pos}
 use Rattle.rkyv_collections.specs.Map.MapSpec.{map_spec}
 use Rattle.rkyv_collections.specs.Map.MapFormat.{MapRepresents}
 use Rattle.rkyv_collections.specs.Lemmas.EntriesFound.{decode_entries}
+use Rattle.rkyv_collections.specs.Lemmas.StoredKeys.{find_in_distinct, key_contained, no_key}
 use Rattle.rkyv_table.specs.Lemmas.SameControls.{same_controls}
 use Rattle.rkyv_collections.specs.StdMaps.StdMap.{ArePairsAt, EntriesRepresent, of_entries}
 
@@ -107,6 +108,7 @@ module _ (k v : ElementSpec) (kl : IsElement k) (vl : IsElement v) (w : Width) w
             (pairs_again (walk (table_controls w b p) (cap_at w b p)) (walked_all w S law b p)
             st.pairs st.read);
         inserted = st.inserted;
+        stored = st.stored;
       }
 
   -- the represented entries depend only on the bytes on which the validity of the map depends
@@ -200,6 +202,37 @@ module _ {A B : Type 0} (equal : A → A → Bool) (laws : IsEquivalence equal) 
           absurd (both_ways (equal y.0 q) other (h y (z.0.0, z.0.1, z.0.2 ∙ at, z.0.3)))
       rest (inr (j, (suc n, l, at), h)) other = inr (j, (n, omega (arith, l), at), h)
 
+  -- the pair in a bucket has the key that a lookup finds among all keys
+  picked_key : (i : ℕ) (y : A × B) → Picks i y → (q : A) → equal y.0 q ≡ true
+      → find (equal q) (keys_of pairs) ≡ Some y.0
+  picked_key i y h q e =
+      find_in_distinct equal laws (keys_of pairs) apart y.0
+      (key_contained pairs h.0 y h.3) q (laws.symm q y.0 ∙ e)
+
+  -- a lookup finds the same key among the pairs of the buckets and among all pairs
+  stored : (q : A) (is : List ℕ) (ys : List (A × B)) → AllZip Picks is ys
+      → (lookup (equal q) pairs ≡ None)
+      ⊎ ((i : ℕ) × Contains is i × ((y : A × B) → Picks i y → equal y.0 q ≡ true))
+      → find (equal q) (keys_of pairs) ≡ find (equal q) (keys_of ys)
+  stored q [] [] z (inl none) = no_key (equal q) pairs none
+  stored q [] [] z (inr h) = absurd (omega (arith, h.1.1))
+  stored q [] (y ∷ ys) z hit = absurd z
+  stored q (i ∷ is) [] z hit = absurd z
+  stored q (i ∷ is) (y ∷ ys) z hit = elim (cases_Bool (equal y.0 q)) [
+    | inl same ↦ picked_key i y z.0 q same ∙ rw (laws.symm q y.0 ∙ same) refl
+    | inr other ↦ rw (laws.symm q y.0 ∙ other) (stored q is ys z.1 (left hit other))
+  ]
+    where
+      left : (lookup (equal q) pairs ≡ None)
+          ⊎ ((j : ℕ) × Contains (i ∷ is) j × ((x : A × B) → Picks j x → equal x.0 q ≡ true))
+          → equal y.0 q ≡ false
+          → (lookup (equal q) pairs ≡ None)
+          ⊎ ((j : ℕ) × Contains is j × ((x : A × B) → Picks j x → equal x.0 q ≡ true))
+      left (inl none) other = inl none
+      left (inr (j, (zero, l, at), h)) other =
+          absurd (both_ways (equal y.0 q) other (h y (z.0.0, z.0.1, z.0.2 ∙ at, z.0.3)))
+      left (inr (j, (suc n, l, at), h)) other = inr (j, (n, omega (arith, l), at), h)
+
   beyond : (n : ℕ) → n < length homes → length pairs ≤ n → ⊥
   beyond n h g = omega (arith, h, g, count)
 
@@ -287,6 +320,7 @@ module _ (k v : ElementSpec) (kl : IsElement k) (vl : IsElement v) (w : Width) {
       pub reads_written : (ys : List (A × B))
           × ArePairsAt k v key value b (item_positions w (entry_spec k v).size b p) ys
           × ((q : A) → lookup (equal q) pairs ≡ update_all equal (λ _. None) ys q)
+          × ((q : A) → find (equal q) (keys_of pairs) ≡ find (equal q) (keys_of ys))
       unfolding walked Visits Hits
       reads_written =
           let picked = pick_all equal laws pairs apart st.homes visits.1 home_total (λ i y.
@@ -303,6 +337,13 @@ module _ (k v : ElementSpec) (kl : IsElement k) (vl : IsElement v) (w : Width) {
                   | inl none ↦ inl (sym none)
                   | inr hit ↦ inr (hit.0, (visits.0 hit.0).1 hit.1, hit.2)
                 ])),
+            λ q. stored equal laws pairs apart st.homes visits.1 home_total q walked picked.0
+                picked.2
+                (elim (found_picked equal laws pairs apart st.homes visits.1 home_total q
+                (lookup (equal q) pairs) refl) [
+                  | inl none ↦ inl none
+                  | inr hit ↦ inr (hit.0, (visits.0 hit.0).1 hit.1, hit.2)
+                ]),
           )
 
     -- written bytes of entries with distinct keys represent them
@@ -313,4 +354,9 @@ module _ (k v : ElementSpec) (kl : IsElement k) (vl : IsElement v) (w : Width) {
         decode_entries w kind kl vl factor equal (EntriesRepresent k v key value w equal)
         (λ b p view es st apart.
         let read = reads_written b p view es st apart in
-        record { pairs = read.0; read = read.1; inserted = (read.2, apart) }) f base
+        record {
+          pairs = read.0;
+          read = read.1;
+          inserted = (read.2, apart);
+          stored = read.3;
+        }) f base

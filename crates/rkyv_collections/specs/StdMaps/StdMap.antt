@@ -1,8 +1,9 @@
 -- Maps of std: the archived maps that represent them, and their format.
-use Rattle.std.specs.Prelude.{◌≡◌, ℕ, ◌⊎◌, Bool, List, MatchResult, None, Result, Some}
-use Rattle.std.specs.HashMap.{HashMap, IsUnique, Updates, hasher_of}
+use Rattle.std.specs.Prelude.{◌≡◌, ℕ, ◌⊎◌, Bool, List, [], ◌∷◌, ◌++◌}
+use Rattle.std.specs.Prelude.{MatchResult, None, Result, Some}
+use Rattle.std.specs.HashMap.{HashMap, IsUnique, Updates, hasher_of, keys}
 use Rattle.std.specs.Int.{Width}
-use Rattle.std.specs.List.{AllZip, IsDistinct}
+use Rattle.std.specs.List.{AllZip, IsDistinct, find}
 use Rattle.std.specs.Map.{keys_of, lookup, update_all}
 use Rattle.rkyv_base.specs.Entry.{entry_spec}
 use Rattle.rkyv_base.specs.Format.{Format}
@@ -25,13 +26,14 @@ module _ {A B : Type 0} (k v : ElementSpec) (key : List ℕ → ℕ → A → Ty
 
   -- The map at `p` represents entries of distinct keys. A lookup among
   -- them is the same as after inserting its pairs in bucket order. Of pairs with equal keys,
-  -- the value of the last is kept
+  -- the key of the first and the value of the last are kept
   pub record EntriesRepresent (w : Width) (equal : A → A → Bool) (b : List ℕ) (p : ℕ)
       (entries : List (A × B)) : Type 0 where
     pub pairs : List (A × B)
     pub read : ArePairsAt b (item_positions w (entry_spec k v).size b p) pairs
     pub inserted : ((q : A) → lookup (equal q) entries ≡ update_all equal (λ _. None) pairs q)
         × IsDistinct equal (keys_of entries)
+    pub stored : (q : A) → find (equal q) (keys_of entries) ≡ find (equal q) (keys_of pairs)
 
   -- the map at `p` represents a map of std: its pairs, inserted in bucket order
   abbrev pub StdMapRepresents : {S : Type 0} → Width → (A → A → Bool) → List ℕ → ℕ → HashMap A B S
@@ -60,12 +62,18 @@ abbrev pub ReadsStdMap : {A B S T : Type 0} → (List ℕ → ℕ → HashMap A 
 ReadsStdMap represents refuses view state result = MatchResult result
     (λ m. AtView represents view m × (hasher_of m ≡ state)) (AtView refuses view)
 
+-- the keys `after` are those `before` and `a`: a lookup finds the same key in both.
+-- If a key before equals `a`, that key is kept
+abbrev pub AddsKey : {A : Type 0} → (A → A → Bool) → List A → List A → A → Type 0
+AddsKey equal before after a =
+    (q : _) → find (equal q) after ≡ find (equal q) (before ++ a ∷ [])
+
 -- a pair with the property was inserted
 abbrev pub Inserts : {A B S : Type 0} → (A → A → Bool) → (A × B → Type 0) → HashMap A B S
     → HashMap A B S → Type 0
 Inserts {A} {B} equal P m n =
-    (pair : A × B) × P pair × Updates equal m n pair.0 (Some pair.1) × IsUnique equal n
-    × (hasher_of n ≡ hasher_of m)
+    (pair : A × B) × P pair × Updates equal m n pair.0 (Some pair.1)
+    × AddsKey equal (keys m) (keys n) pair.0 × IsUnique equal n × (hasher_of n ≡ hasher_of m)
 
 -- `e`: error of inserting a pair. Memory could not be allocated, or the key or the value
 -- has the error

@@ -19,7 +19,7 @@ use Rattle.rkyv_collections.specs.Natives.{Queried}
 use Rattle.rkyv_collections.specs.Set.{set_bytes, set_pos}
 use Rattle.rkyv_collections.specs.StdMaps.StdEquality.{FindsPair}
 use Rattle.rkyv_collections.specs.declared.set.ArchivedHashSet.{ArchivedHashSet}
-use Rattle.rkyv_collections.specs.StdMaps.StdMap.{EntriesRepresent}
+use Rattle.rkyv_collections.specs.StdMaps.StdMap.{AddsKey, EntriesRepresent}
 
 -- the set at `p` represents a set of std: its keys, each with the unit value
 abbrev pub StdSetRepresents : {A S : Type 0} → ElementSpec → (List ℕ → ℕ → A → Type 0) → Width
@@ -31,8 +31,8 @@ StdSetRepresents k key w equal b p s =
 abbrev pub InsertsKey : {A S : Type 0} → (A → A → Bool) → (A → Type 0) → HashSet A S → HashSet A S
     → Type 0
 InsertsKey {A} equal Fact s n =
-    (key : A) × Fact key × Updates equal s n key true × IsUnique equal n
-    × (hasher_of n ≡ hasher_of s)
+    (key : A) × Fact key × Updates equal s n key true × AddsKey equal s.keys n.keys key
+    × IsUnique equal n × (hasher_of n ≡ hasher_of s)
 
 -- `e`: error of inserting a key. Memory could not be allocated, or the key has the error
 abbrev pub key_refuses : Refusals → Refusals

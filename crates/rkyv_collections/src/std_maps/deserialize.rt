@@ -51,7 +51,7 @@ impl<'a, K: Element, V: Element, H, W: Width> ArchivedHashMap<'a, K, V, H, W> {
     /// Returns the map of std of the pairs, with the hash state `state`.
     ///
     /// The pairs are inserted in bucket order. Of pairs with equal keys,
-    /// the value of the last is kept.
+    /// the key of the first and the value of the last are kept.
     ///
     /// # Errors
     ///

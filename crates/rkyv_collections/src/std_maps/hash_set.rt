@@ -135,7 +135,7 @@ fn insert_read<K: Deserialize<A>, A: Eq + Hash + Drop, T: BuildHasher>(
 impl<'a, K: Element, H, W: Width> ArchivedHashSet<'a, K, H, W> {
     /// Returns the set of std of the keys, with the hash state `state`.
     ///
-    /// The keys are inserted in bucket order.
+    /// The keys are inserted in bucket order. Of equal keys, the first is kept.
     ///
     /// # Errors
     ///

@@ -1,7 +1,7 @@
 use Rattle.std.proofs.Common.{ap, inl, inr, refl, subst, ◌∙◌, ℕ, List}
 use Rattle.std.specs.Borrow.{Bor}
-use Rattle.std.specs.HashMap.{get}
-use Rattle.std.specs.Map.{lookup}
+use Rattle.std.specs.HashMap.{get, keys}
+use Rattle.std.specs.Map.{keys_of, lookup}
 use Rattle.std.proofs.lemmas.Result.{err_from_is_err_and}
 use Rattle.rkyv_base.specs.Pairs.{PairRepresents}
 use Rattle.rkyv_keys.specs.OfEntries.{entry_refuses}
@@ -15,7 +15,7 @@ loop-key-init g c =
     let empty = c.with_hasher-map.ensures in (
       walks_first g.W.Word.word g.K.HasSpec.spec g.V.HasSpec.spec g.K.Represents.represents g.V.Represents.represents g.A.PartialEq.eq (map_archive c.args.self) (map_pos c.args.self) g.K.HasSpec.laws g.V.HasSpec.laws
           c.into_iter-key-iterator.result c.iter-key-items.result c.into_iter-key-iterator.ensures.into_iter_gives walk.archive walk.positions
-          (get g.A.PartialEq.eq c.with_hasher-map.result) (λ q. ap (lookup (g.A.PartialEq.eq q)) empty.empty),
+          (get g.A.PartialEq.eq c.with_hasher-map.result) (keys c.with_hasher-map.result) (λ q. ap (lookup (g.A.PartialEq.eq q)) empty.empty) (ap keys_of empty.empty),
       empty.unique,
       refl,
     )
@@ -27,10 +27,10 @@ loop-key-preserved g c =
     let made = c.in_ok-insert_read.ensures in
     let there = subst (λ (a : Bor (List ℕ)). PairRepresents g.K.HasSpec.spec g.V.HasSpec.spec g.K.Represents.represents g.V.Represents.represents a.now c.in-Some.key.pos made.0) (step.1.at.0 ∙ on.0.0) made.1 in (
       walks_next g.W.Word.word g.K.HasSpec.spec g.V.HasSpec.spec g.K.Represents.represents g.V.Represents.represents g.A.PartialEq.eq (map_archive c.args.self) (map_pos c.args.self)
-          c.loop-key.key-iterator c.next.new.self c.in-Some.key.pos (get g.A.PartialEq.eq c.loop-key.map) step.0 on.0
-          (get g.A.PartialEq.eq c.insert_read.new.map) made.0.0 made.0.1 there made.2.0,
-      made.3,
-      made.4 ∙ on.2,
+          c.loop-key.key-iterator c.next.new.self c.in-Some.key.pos (get g.A.PartialEq.eq c.loop-key.map) (keys c.loop-key.map) step.0 on.0
+          (get g.A.PartialEq.eq c.insert_read.new.map) (keys c.insert_read.new.map) made.0.0 made.0.1 there made.2.0 made.3,
+      made.4,
+      made.5 ∙ on.2,
     )
 
 pub returns-in_err-insert_read : goal.returns-in_err-insert_read
@@ -38,7 +38,7 @@ returns-in_err-insert_read g c =
     let on = c.loop-key.invariant in
     let step = c.in-Some.ensures.steps in
     let key = walks_key g.W.Word.word g.K.HasSpec.spec g.V.HasSpec.spec g.K.Represents.represents g.V.Represents.represents g.A.PartialEq.eq (map_archive c.args.self) (map_pos c.args.self)
-    c.loop-key.key-iterator c.next.new.self c.in-Some.key.pos (get g.A.PartialEq.eq c.loop-key.map) step.0 on.0 in
+    c.loop-key.key-iterator c.next.new.self c.in-Some.key.pos (get g.A.PartialEq.eq c.loop-key.map) (keys c.loop-key.map) step.0 on.0 in
     let p = err_from_is_err_and c.from_residual.result c.from_residual.ensures.1 in
     rw (p.1, p.2) (elim c.in_err-insert_read.ensures [
       | inl memory ↦ inl memory
@@ -53,5 +53,5 @@ pub returns : goal.returns
 returns g c =
     let on = c.loop-key.invariant in
     let last = walks_last g.W.Word.word g.K.HasSpec.spec g.V.HasSpec.spec g.K.Represents.represents g.V.Represents.represents g.A.PartialEq.eq (map_archive c.args.self) (map_pos c.args.self)
-    c.loop-key.key-iterator (get g.A.PartialEq.eq c.loop-key.map) on.0 c.in-None.ensures.steps.none in
-    (record { pairs = last.0; read = last.1; inserted = (last.2, on.1) }, on.2 ∙ c.with_hasher-map.ensures.hasher)
+    c.loop-key.key-iterator (get g.A.PartialEq.eq c.loop-key.map) (keys c.loop-key.map) on.0 c.in-None.ensures.steps.none in
+    (record { pairs = last.0; read = last.1; inserted = (last.2, on.1); stored = last.3 }, on.2 ∙ c.with_hasher-map.ensures.hasher)

@@ -1,6 +1,6 @@
 use Rattle.std.proofs.Common.{ap, inl, inr, refl, subst, sym, ◌∙◌, ℕ, List}
 use Rattle.std.specs.Borrow.{Bor}
-use Rattle.std.specs.List.{IsDistinct}
+use Rattle.std.specs.List.{IsDistinct, find}
 use Rattle.std.proofs.lemmas.Result.{err_from_is_err_and}
 use Rattle.rkyv_base.specs.Empty.{unit_spec, unit_represents}
 use Rattle.rkyv_base.specs.Lemmas.Empty.{unit_element}
@@ -14,7 +14,7 @@ loop-key-init g c =
     let keys = c.iter-key-items.ensures in (
       walks_first g.W.Word.word g.K.HasSpec.spec unit_spec g.K.Represents.represents unit_represents g.A.PartialEq.eq (set_archive c.args.self) (set_pos c.args.self) g.K.HasSpec.laws unit_element
           c.into_iter-key-iterator.result c.iter-key-items.result c.into_iter-key-iterator.ensures.into_iter_gives keys.archive keys.positions
-          (found_units g.A.PartialEq.eq c.with_hasher-set.result.keys) (λ q. ap (λ (xs : List g.row.A.Denot). found_units g.A.PartialEq.eq xs q) c.with_hasher-set.ensures.empty),
+          (found_units g.A.PartialEq.eq c.with_hasher-set.result.keys) c.with_hasher-set.result.keys (λ q. ap (λ (xs : List g.row.A.Denot). found_units g.A.PartialEq.eq xs q) c.with_hasher-set.ensures.empty) c.with_hasher-set.ensures.empty,
       c.with_hasher-set.ensures.unique,
       refl,
     )
@@ -25,12 +25,12 @@ loop-key-preserved g c =
     let taken = c.in-Some.ensures.steps in
     let made = c.in_ok-insert_read.ensures in (
       walks_next g.W.Word.word g.K.HasSpec.spec unit_spec g.K.Represents.represents unit_represents g.A.PartialEq.eq (set_archive c.args.self) (set_pos c.args.self)
-          c.loop-key.key-iterator c.next.new.self c.in-Some.key.pos (found_units g.A.PartialEq.eq c.loop-key.set.keys) taken.0 on.0
-          (found_units g.A.PartialEq.eq c.insert_read.new.set.keys) made.0 tt
+          c.loop-key.key-iterator c.next.new.self c.in-Some.key.pos (found_units g.A.PartialEq.eq c.loop-key.set.keys) c.loop-key.set.keys taken.0 on.0
+          (found_units g.A.PartialEq.eq c.insert_read.new.set.keys) c.insert_read.new.set.keys made.0 tt
           (subst (λ (a : Bor (List ℕ)). g.K.Represents.represents a.now c.in-Some.key.pos made.0) (taken.1.at.0 ∙ on.0.0) made.1, tt)
-          (key_inserted g.A.PartialEq.eq c.loop-key.set c.insert_read.new.set made.0 made.2),
-      made.3,
-      made.4 ∙ on.2,
+          (key_inserted g.A.PartialEq.eq c.loop-key.set c.insert_read.new.set made.0 made.2) made.3,
+      made.4,
+      made.5 ∙ on.2,
     )
 
 pub returns-in_err-insert_read : goal.returns-in_err-insert_read
@@ -38,7 +38,7 @@ returns-in_err-insert_read g c =
     let on = c.loop-key.invariant in
     let taken = c.in-Some.ensures.steps in
     let member = walks_key g.W.Word.word g.K.HasSpec.spec unit_spec g.K.Represents.represents unit_represents g.A.PartialEq.eq (set_archive c.args.self) (set_pos c.args.self)
-    c.loop-key.key-iterator c.next.new.self c.in-Some.key.pos (found_units g.A.PartialEq.eq c.loop-key.set.keys) taken.0 on.0 in
+    c.loop-key.key-iterator c.next.new.self c.in-Some.key.pos (found_units g.A.PartialEq.eq c.loop-key.set.keys) c.loop-key.set.keys taken.0 on.0 in
     let p = err_from_is_err_and c.from_residual.result c.from_residual.ensures.1 in
     rw (p.1, p.2) (elim c.in_err-insert_read.ensures [
       | inl memory ↦ inl memory
@@ -53,6 +53,7 @@ pub returns : goal.returns
 returns g c =
     let on = c.loop-key.invariant in
     let last = walks_last g.W.Word.word g.K.HasSpec.spec unit_spec g.K.Represents.represents unit_represents g.A.PartialEq.eq (set_archive c.args.self) (set_pos c.args.self)
-    c.loop-key.key-iterator (found_units g.A.PartialEq.eq c.loop-key.set.keys) on.0 c.in-None.ensures.steps.none in
+    c.loop-key.key-iterator (found_units g.A.PartialEq.eq c.loop-key.set.keys) c.loop-key.set.keys on.0 c.in-None.ensures.steps.none in
     let unique = subst (λ (ks : List g.row.A.Denot). IsDistinct g.A.PartialEq.eq ks) (sym (keys_with_units c.loop-key.set.keys)) on.1 in
-    (record { pairs = last.0; read = last.1; inserted = (last.2, unique) }, on.2 ∙ c.with_hasher-set.ensures.hasher)
+    let stored : (q : g.row.A.Denot) → _ = λ q. ap (find (g.A.PartialEq.eq q)) (keys_with_units c.loop-key.set.keys) ∙ last.3 q in
+    (record { pairs = last.0; read = last.1; inserted = (last.2, unique); stored = stored }, on.2 ∙ c.with_hasher-set.ensures.hasher)

@@ -1,6 +1,7 @@
 use Rattle.std.proofs.Common.{subst, ℕ, List}
 use Rattle.std.specs.Borrow.{Bor}
 use Rattle.rkyv_base.specs.View.{bytes_of}
+use Rattle.rkyv_collections.specs.Lemmas.StoredKeys.{entry_added}
 use Rattle.rkyv_collections.proofs.std_maps.deserialize.insert_read.Goals as goal
 
 pub returns-in-Ok : goal.returns-in-Ok
@@ -14,6 +15,7 @@ returns-in-Ok g c =
             (subst (λ (a : Bor (List ℕ)). g.V.Represents.represents a.now c.args.value.pos value) at.0 c.in_ok-mapped.ensures),
       ),
       c.in-Ok.ensures.updates,
+      entry_added g.A.PartialEq.eq g.met.A.Eq.laws c.args.map.now c.insert.new.self c.in_ok-read.read value c.in-Ok.field-0 c.in-Ok.ensures.old c.in-Ok.ensures.unique c.in-Ok.ensures.entries c.in-Ok.ensures.keys_stay,
       c.in-Ok.ensures.unique,
       c.in-Ok.ensures.hasher,
     )
