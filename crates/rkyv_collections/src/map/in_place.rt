@@ -90,10 +90,7 @@ impl<'a, K: KeyElement, V: Element, H: KeyHasher, W: Width> ArchivedHashMap<'a, 
     /// ```rust
     /// type Points = HashMapOf<Text, Entry<i32, i32>>;
     ///
-    /// let root = match access::<Points>(&*archive) {
-    ///     Ok(points) => points.pos(),
-    ///     Err(refused) => return Err(refused),
-    /// };
+    /// let root = access::<Points>(&*archive)?.pos();
     /// let found = ArchivedHashMap::<Text, Entry<i32, i32>, FxHasher64, Narrow>::found_with(
     ///     archive,
     ///     root,
@@ -143,10 +140,7 @@ impl<'a, K: KeyElement, V: Element, H: KeyHasher, W: Width> ArchivedHashMap<'a, 
 ///
 /// // Writes the price of a name. Returns `false` if the map has no such name.
 /// fn set_price(archive: &mut [u8], name: &str, price: u32) -> Result<bool, VerifyError> {
-///     let root = match access::<Prices>(&*archive) {
-///         Ok(prices) => prices.pos(),
-///         Err(refused) => return Err(refused),
-///     };
+///     let root = access::<Prices>(&*archive)?.pos();
 ///     Ok(set_value_of::<&str, Text, u32, FxHasher64, Narrow>(archive, root, &name, price))
 /// }
 /// ```

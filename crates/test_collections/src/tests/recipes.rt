@@ -115,11 +115,7 @@ fn pos_of_room(archive: &[u8], room: &str) -> Result<Option<u64>, VerifyError>
     ensures { IfOk result (λ found. IfSome found (Viewable
         (map_spec w32 (text_spec w32) (scalar_spec (unsigned w32))) archive.now)) }
 {
-    let root = match access::<Rooms>(archive) {
-        Ok(root) => root,
-        Err(refused) => return Err(refused),
-    };
-    let map = ArchivedHashMap::of(root);
+    let map = ArchivedHashMap::of(access::<Rooms>(archive)?);
     match map.get(&room) {
         Some(things) => Ok(Some(things.pos())),
         None => Ok(None),
@@ -170,10 +166,7 @@ type Prices = HashMapOf<Text, u32>;
 
 // Writes the price of a name. Returns `false` if the map has no such name.
 fn set_price(archive: &mut [u8], name: &str, price: u32) -> Result<bool, VerifyError> {
-    let root = match access::<Prices>(&*archive) {
-        Ok(prices) => prices.pos(),
-        Err(refused) => return Err(refused),
-    };
+    let root = access::<Prices>(&*archive)?.pos();
     Ok(set_value_of::<&str, Text, u32, FxHasher64, Narrow>(archive, root, &name, price))
 }
 
@@ -265,10 +258,7 @@ fn write_point(bytes: &mut [u8], pos: u64, point: (i32, i32))
 
 // Writes the point of a name. Returns `false` if the map has no such name.
 fn move_point(archive: &mut [u8], name: &str, point: (i32, i32)) -> Result<bool, VerifyError> {
-    let root = match access::<Points>(&*archive) {
-        Ok(points) => points.pos(),
-        Err(refused) => return Err(refused),
-    };
+    let root = access::<Points>(&*archive)?.pos();
     let found = ArchivedHashMap::<Text, Entry<i32, i32>, FxHasher64, Narrow>::found_with(
         archive,
         root,

@@ -21,10 +21,7 @@ fn texts(alloc: Global) -> Result<Vec<u8>, Fail> {
 
 // Writes the text of a key in upper case. Returns the result of the call.
 fn raise(bytes: &mut [u8], key: &str) -> Result<Option<bool>, VerifyError> {
-    let root = match access::<HashMapOf<Text, Text>>(&*bytes) {
-        Ok(root) => root.pos(),
-        Err(refused) => return Err(refused),
-    };
+    let root = access::<HashMapOf<Text, Text>>(&*bytes)?.pos();
     Ok(make_ascii_uppercase_of::<&str, Text, FxHasher64, Narrow>(bytes, root, &key))
 }
 

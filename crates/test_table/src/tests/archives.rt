@@ -127,10 +127,7 @@ pub(crate) fn write_header<S: Writer>(
     resolver: HashTableResolver,
     writer: &mut S,
 ) -> WriteResult<(), S> {
-    let root = match align_for::<u32, S>(writer) {
-        Ok(root) => root,
-        Err(error) => return Err(error),
-    };
+    let root = align_for::<u32, S>(writer)?;
     let mut header = [0u8; 12];
     let (len, load_factor) = (resolver.len(), resolver.load_factor());
     match ArchivedHashTable::<(), Narrow>::resolve_from_len(

@@ -13,7 +13,7 @@ use test_support::writers::{Broken, BrokenWriter, LateWriter};
 
 // Writes the table of the pair 1 and 2, and its header.
 fn write_one_pair<S: Writer>(alloc: Global, writer: &mut S) -> WriteResult<(), S> {
-    let resolver = match ArchivedHashTable::<_, Narrow>::serialize_from_iter::<
+    let resolver = ArchivedHashTable::<_, Narrow>::serialize_from_iter::<
         S,
         (u32, u32),
         (u32, u32),
@@ -26,10 +26,7 @@ fn write_one_pair<S: Writer>(alloc: Global, writer: &mut S) -> WriteResult<(), S
         1,
         (7, 8),
         writer,
-    ) {
-        Ok(resolver) => resolver,
-        Err(error) => return Err(error),
-    };
+    )?;
     write_header(resolver, writer)
 }
 

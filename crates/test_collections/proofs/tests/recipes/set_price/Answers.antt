@@ -10,5 +10,5 @@ use Rattle.test_collections.proofs.tests.recipes.set_price.Goals as goal
 pub set_value_of-requires-clause-map : goal.set_value_of-requires-clause-map
 set_value_of-requires-clause-map c =
     let s = map_spec w32 (text_spec w32) (scalar_spec (unsigned w32)) in
-    let at = c.in-Ok.ensures.root.1 in
-    subst (Viewable s c.args.archive.now) (sym c.pos-root.ensures) (subst (λ b. Viewable s b c.in-Ok.prices.pos) (ap (λ a. a.now) at.0) c.in-Ok.ensures.viewable)
+    let at = c.in_ok-access.ensures.root.1 in
+    subst (Viewable s c.args.archive.now) (sym c.pos-root.ensures) (subst (λ b. Viewable s b c.in_ok-access.access.pos) (ap (λ a. a.now) at.0) c.in_ok-access.ensures.viewable)
