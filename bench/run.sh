@@ -1,6 +1,25 @@
 #!/usr/bin/env bash
-# Proves and builds the static library, and measures it: prints a table in Markdown.
+# Proves and builds the static libraries, measures them, and writes RESULTS.md and the plots.
+#
+#   bench/run.sh            measures the library and the Rust crate, in about ten minutes
+#   bench/run.sh --print    prints the table of the library alone, and writes nothing
 set -euo pipefail
 cd "$(dirname "$0")"
+
 (cd ../crates/bench_library && rt lib) >&2
-exec cargo run --release --offline "$@"
+cargo build --release --offline
+library=target/release/rkyv_bench_driver
+if [ "${1:-}" = --print ]; then
+    exec "$library" "${@:2}"
+fi
+
+(cd ../crates/ffi_rkyv && rt lib) >&2
+(cd client && cargo build --release --offline)
+crate=client/target/release/rkyv_maps_bench
+tables="$(mktemp -d)"
+trap 'rm -rf "$tables"' EXIT
+"$library" > "$tables/library"
+"$crate" > "$tables/crate"
+"$library" --sizes > "$tables/library-sizes"
+"$crate" --sizes > "$tables/crate-sizes"
+./plot "$tables"

@@ -1,6 +1,7 @@
 //! Measures archived hash maps against std's `HashMap`, and prints a table in Markdown.
 //!
-//! With the argument `--keep-memory`, the program keeps freed memory.
+//! With the argument `--keep-memory`, the program keeps freed memory. With `--sizes` it takes fewer
+//! measures, of maps of 100 to 10,000,000 entries.
 
 // With the feature `older`, the measures that an older library lacks are left out.
 #![cfg_attr(feature = "older", allow(dead_code, unused_imports))]
@@ -58,6 +59,28 @@ const OF_TEXTS: &[Measure] = &[
     Measure::Hits,
     Measure::Misses,
     Measure::Walk,
+];
+
+// The measures over the number of entries.
+const BY_SIZE: &[Measure] = &[
+    Measure::Build,
+    Measure::Access,
+    Measure::Hits,
+    Measure::Misses,
+    Measure::Walk,
+];
+
+// The numbers of entries, each with a number of rounds.
+
+const COUNTS: &[(usize, usize)] = &[(1_000, 31), (100_000, 31), (1_000_000, 15)];
+
+const SIZES: &[(usize, usize)] = &[
+    (100, 15),
+    (1_000, 15),
+    (10_000, 15),
+    (100_000, 15),
+    (1_000_000, 7),
+    (10_000_000, 3),
 ];
 
 // The hashes of an index map's keys are those of a hash map's.
@@ -403,12 +426,7 @@ fn load() -> String {
 
 // Index maps, and std's maps written and read back.
 #[cfg(not(feature = "older"))]
-fn run_other_maps(
-    numbers: [Numbers; 3],
-    lists: &[Vec<u32>; 3],
-    values: &[u32],
-    rounds: usize,
-) {
+fn run_other_maps(numbers: [Numbers; 3], lists: &[Vec<u32>; 3], values: &[u32], rounds: usize) {
     let of_index_maps = numbers.map(Ordered);
     run(
         "index u32",
@@ -426,7 +444,14 @@ fn run_other_maps(
 }
 
 fn main() {
-    let keeps = std::env::args().any(|argument| argument == "--keep-memory");
+    let given = |name: &str| std::env::args().any(|argument| argument == name);
+    let by_size = given("--sizes");
+    let (counts, of_numbers, of_texts) = if by_size {
+        (SIZES, BY_SIZE, BY_SIZE)
+    } else {
+        (COUNTS, OF_NUMBERS, OF_TEXTS)
+    };
+    let keeps = given("--keep-memory");
     if keeps {
         library::keep_memory();
     }
@@ -443,7 +468,7 @@ fn main() {
     println!();
     println!("| keys | entries | measure | ours, ns | std SipHash, ns | std Fx, ns | ours / SipHash | ours / Fx | |");
     println!("|---|--:|---|--:|--:|--:|--:|--:|---|");
-    for (count, rounds) in [(1_000, 31), (100_000, 31), (1_000_000, 15)] {
+    for (count, rounds) in counts.iter().copied() {
         let mut random = XorShift32::new();
         let keys = numbers(&mut random, count);
         let misses = numbers(&mut random, count);
@@ -451,25 +476,27 @@ fn main() {
         let mut hits = keys.clone();
         XorShift64::new().shuffle(&mut hits);
         let lists = [keys, hits, misses];
-        let of_numbers = lists.each_ref().map(|list| Numbers(list.clone()));
+        let number_keys = lists.each_ref().map(|list| Numbers(list.clone()));
         run(
             "u32",
-            OF_NUMBERS,
-            &workload(&of_numbers, &lists, &values),
+            of_numbers,
+            &workload(&number_keys, &lists, &values),
             rounds,
         );
-        let of_texts = lists.each_ref().map(|list| texts(list));
-        let text_lists = of_texts
+        let text_keys = lists.each_ref().map(|list| texts(list));
+        let text_lists = text_keys
             .each_ref()
             .map(|list| list.iter().collect::<Vec<&str>>());
         run(
             "text",
-            OF_TEXTS,
-            &workload(&of_texts, &text_lists, &values),
+            of_texts,
+            &workload(&text_keys, &text_lists, &values),
             rounds,
         );
         #[cfg(not(feature = "older"))]
-        run_other_maps(of_numbers, &lists, &values, rounds);
+        if !by_size {
+            run_other_maps(number_keys, &lists, &values, rounds);
+        }
     }
     println!();
     println!("Load after: {}.", load());
