@@ -6,3 +6,4 @@ pub mod Items
 pub mod Walking
 pub mod Calls
 pub mod Containers
+pub mod Explanation

@@ -7,7 +7,9 @@ ghost use Rattle.std.specs.Prelude.{length, ◌++◌, ◌≡◌};
 ghost use Rattle.ffi_calls.specs.Containers.{IsWrittenContainer, OpensContainer, OpensOwnForm};
 ghost use Rattle.ffi_calls.specs.Containers.{ReadsWidth, UpdatesContainer, contents_of};
 ghost use Rattle.ffi_calls.specs.Containers.{key_type, value_type, width_by};
+ghost use Rattle.ffi_calls.specs.Explanation.{ExplainsContainer};
 
+use crate::explanation::{Explanation, explain_error, explained};
 use crate::form::Form;
 use crate::status::{DONE, WRONG_LENGTH, container_refusal};
 use rkyv_container::container::{open_as, seal};
@@ -126,6 +128,18 @@ pub fn open_container<'a>(
             DONE
         }
         Err(error) => container_refusal(&error),
+    }
+}
+
+/// Opens the container of a map, and returns its first error with its numbers.
+///
+/// The archive is not validated.
+pub fn explain_container(bytes: &[u8], of_texts: bool, form: Form) -> Explanation
+    ensures { ExplainsContainer of_texts form bytes.now result }
+{
+    match open_as(bytes, contents_of(of_texts, form)) {
+        Ok(_) => explained(DONE, 0, 0, 0),
+        Err(error) => explain_error(&error),
     }
 }
 

@@ -3,6 +3,7 @@
 //! - `numbers` and `texts` validate, look up, overwrite and walk the maps.
 //! - `number_items` and `text_items` write archives.
 //! - `containers` writes the headers of containers, opens containers, and updates their checksums.
+//! - `explanation` tells the first validation error of an archive, with its numbers.
 //! - `form` has the two flags of a map's form, and `status` the statuses that calls return.
 //! - `laws` states that archives represent their lists, and that walks visit each pair once.
 #![tactic(auto)]
@@ -10,6 +11,7 @@
 mod archives;
 pub mod building;
 pub mod containers;
+pub mod explanation;
 pub mod form;
 pub mod laws;
 mod lookup;

@@ -8,10 +8,12 @@ ghost use Rattle.rkyv_base.specs.Bytes.{number_at};
 ghost use Rattle.ffi_calls.specs.Archives.{IsMapArchive, IsNumberArchive, IsPairAt, Opens};
 ghost use Rattle.ffi_calls.specs.Archives.{limit_of, map_in, number_key, number_map, numbers_in};
 ghost use Rattle.ffi_calls.specs.Calls.{Counts, GivesNumber, SetsNumber, StepsNumbers};
+ghost use Rattle.ffi_calls.specs.Explanation.{Explains};
 ghost use Rattle.ffi_calls.specs.Listed.{GivesFirstNumber, SetsFirstNumber};
 ghost use Rattle.ffi_calls.specs.Walking.{NextNumber};
 
 use crate::archives::{open_map, pair_count, root_of};
+use crate::explanation::{Explanation, explain_map};
 use crate::form::Form;
 use crate::lookup::{get_in, set_in};
 use crate::status::{DONE, END};
@@ -47,6 +49,18 @@ pub fn open_numbers(archive: &[u8], form: Form) -> u32
         (true, false) => open_map::<u32, u64, Narrow>(archive),
         (false, true) => open_map::<u32, u32, Wide>(archive),
         (true, true) => open_map::<u32, u64, Wide>(archive),
+    }
+}
+
+/// Validates the archive of a map of numbers, and returns the first error with its numbers.
+pub fn explain_numbers(archive: &[u8], form: Form) -> Explanation
+    ensures { Explains (limit_of form.wide) (number_map form) archive.now result }
+{
+    match (form.long_values, form.wide) {
+        (false, false) => explain_map::<u32, u32, Narrow>(archive),
+        (true, false) => explain_map::<u32, u64, Narrow>(archive),
+        (false, true) => explain_map::<u32, u32, Wide>(archive),
+        (true, true) => explain_map::<u32, u64, Wide>(archive),
     }
 }
 

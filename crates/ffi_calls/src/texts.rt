@@ -9,10 +9,12 @@ ghost use Rattle.ffi_calls.specs.Archives.{Gives, IsMapArchive, IsPairAt, IsText
 ghost use Rattle.ffi_calls.specs.Archives.{Opens, Sets, limit_of, map_in, text_map, texts_in};
 ghost use Rattle.ffi_calls.specs.Archives.{value_encoding, word_of};
 ghost use Rattle.ffi_calls.specs.Calls.{Counts, GivesText, SetsText, StepsTexts, text_found};
+ghost use Rattle.ffi_calls.specs.Explanation.{Explains};
 ghost use Rattle.ffi_calls.specs.Listed.{GivesFirstText, SetsFirstText};
 ghost use Rattle.ffi_calls.specs.Walking.{NextText};
 
 use crate::archives::{open_map, pair_count, root_of};
+use crate::explanation::{Explanation, explain_map};
 use crate::form::Form;
 use crate::lookup::{get_in, set_in};
 use crate::status::{DONE, END, NOT_TEXT};
@@ -70,6 +72,18 @@ pub fn open_texts(archive: &[u8], form: Form) -> u32
         (true, false) => open_map::<Text<Narrow>, u64, Narrow>(archive),
         (false, true) => open_map::<Text<Wide>, u32, Wide>(archive),
         (true, true) => open_map::<Text<Wide>, u64, Wide>(archive),
+    }
+}
+
+/// Validates the archive of a map of texts, and returns the first error with its numbers.
+pub fn explain_texts(archive: &[u8], form: Form) -> Explanation
+    ensures { Explains (limit_of form.wide) (text_map form) archive.now result }
+{
+    match (form.long_values, form.wide) {
+        (false, false) => explain_map::<Text<Narrow>, u32, Narrow>(archive),
+        (true, false) => explain_map::<Text<Narrow>, u64, Narrow>(archive),
+        (false, true) => explain_map::<Text<Wide>, u32, Wide>(archive),
+        (true, true) => explain_map::<Text<Wide>, u64, Wide>(archive),
     }
 }
 

@@ -4,10 +4,12 @@ ghost use Rattle.std.specs.Prelude.{length, ◌++◌, ◌≡◌};
 ghost use Rattle.ffi_calls.specs.Archives.{form_of};
 ghost use Rattle.ffi_calls.specs.Containers.{IsWrittenContainer, OpensContainer, OpensOwnForm};
 ghost use Rattle.ffi_calls.specs.Containers.{ReadsWidth, UpdatesContainer};
+ghost use Rattle.ffi_calls.specs.Explanation.{ExplainsContainer};
 
 use ffi_calls::containers::{
-    Opened, container_width, open_container, update_container, write_header,
+    Opened, container_width, explain_container, open_container, update_container, write_header,
 };
+use ffi_calls::explanation::Explanation;
 use ffi_calls::form::Form;
 
 /// Writes the header of the container of an archive. It has a checksum if `checked` is `true`.
@@ -71,6 +73,22 @@ pub extern "C" fn rkyv_c_open_container<'a>(
     ensures opens { OpensOwnForm of_texts (form_of long_values wide) bytes.now result }
 {
     open_container(bytes, of_texts, Form { long_values, wide }, opened)
+}
+
+/// Opens the container of a map, and stores its first error with its numbers.
+///
+/// The archive is not validated.
+#[unsafe(no_mangle)]
+pub extern "C" fn rkyv_c_explain_container(
+    bytes: &[u8],
+    of_texts: bool,
+    long_values: bool,
+    wide: bool,
+    explanation: &mut Explanation,
+)
+    ensures { ExplainsContainer of_texts (form_of long_values wide) bytes.now explanation.new }
+{
+    *explanation = explain_container(bytes, of_texts, Form { long_values, wide });
 }
 
 /// Writes the header of a container anew after its archive was changed in place.

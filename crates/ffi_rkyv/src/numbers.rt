@@ -4,14 +4,16 @@ ghost use Rattle.std.specs.Prelude.{◌≡◌};
 ghost use Rattle.ffi_calls.specs.Archives.{IsNumberArchive, Opens, form_of, limit_of};
 ghost use Rattle.ffi_calls.specs.Archives.{number_map, numbers_in};
 ghost use Rattle.ffi_calls.specs.Calls.{Counts, GivesNumber, SetsNumber, StepsNumbers};
+ghost use Rattle.ffi_calls.specs.Explanation.{Explains};
 ghost use Rattle.ffi_calls.specs.Listed.{GivesFirstNumber, SetsFirstNumber};
 ghost use Rattle.ffi_calls.specs.Items.{HandsOut, IsArchiveOfNumbers, ArchiveOfNumbersFails};
 
 use ffi_calls::building::Built;
+use ffi_calls::explanation::Explanation;
 use ffi_calls::form::Form;
 use ffi_calls::number_items::{NumberItem, build_numbers};
 use ffi_calls::numbers::{
-    NumberPair, count_numbers, get_number, next_number, open_numbers, set_number,
+    NumberPair, count_numbers, explain_numbers, get_number, next_number, open_numbers, set_number,
 };
 use std::alloc::Global;
 
@@ -27,6 +29,20 @@ pub extern "C" fn rkyv_c_open_numbers(archive: &[u8], long_values: bool, wide: b
     ensures accepts { IsNumberArchive (form_of long_values wide) archive.now → result ≡ 0 }
 {
     open_numbers(archive, Form { long_values, wide })
+}
+
+/// Validates the archive of a map of numbers, and stores the first error with its numbers.
+#[unsafe(no_mangle)]
+pub extern "C" fn rkyv_c_explain_numbers(
+    archive: &[u8],
+    long_values: bool,
+    wide: bool,
+    explanation: &mut Explanation,
+)
+    ensures { Explains (limit_of wide) (number_map (form_of long_values wide)) archive.now
+        explanation.new }
+{
+    *explanation = explain_numbers(archive, Form { long_values, wide });
 }
 
 /// Returns the number of pairs of the map.

@@ -5,13 +5,17 @@ ghost use Rattle.std.specs.Str.{IsUtf8};
 ghost use Rattle.ffi_calls.specs.Archives.{IsTextArchive, Opens, form_of, limit_of, text_map};
 ghost use Rattle.ffi_calls.specs.Archives.{texts_in};
 ghost use Rattle.ffi_calls.specs.Calls.{Counts, GivesText, SetsText, StepsTexts};
+ghost use Rattle.ffi_calls.specs.Explanation.{Explains};
 ghost use Rattle.ffi_calls.specs.Listed.{GivesFirstText, SetsFirstText};
 ghost use Rattle.ffi_calls.specs.Items.{HandsOut, IsArchiveOfTexts, ArchiveOfTextsFails};
 
 use ffi_calls::building::Built;
+use ffi_calls::explanation::Explanation;
 use ffi_calls::form::Form;
 use ffi_calls::text_items::{TextItem, build_texts};
-use ffi_calls::texts::{TextPair, count_texts, get_text, is_text, next_text, open_texts, set_text};
+use ffi_calls::texts::{
+    TextPair, count_texts, explain_texts, get_text, is_text, next_text, open_texts, set_text,
+};
 use std::alloc::Global;
 
 /// Validates the archive of a map of texts.
@@ -25,6 +29,20 @@ pub extern "C" fn rkyv_c_open_texts(archive: &[u8], long_values: bool, wide: boo
     ensures accepts { IsTextArchive (form_of long_values wide) archive.now → result ≡ 0 }
 {
     open_texts(archive, Form { long_values, wide })
+}
+
+/// Validates the archive of a map of texts, and stores the first error with its numbers.
+#[unsafe(no_mangle)]
+pub extern "C" fn rkyv_c_explain_texts(
+    archive: &[u8],
+    long_values: bool,
+    wide: bool,
+    explanation: &mut Explanation,
+)
+    ensures { Explains (limit_of wide) (text_map (form_of long_values wide)) archive.now
+        explanation.new }
+{
+    *explanation = explain_texts(archive, Form { long_values, wide });
 }
 
 /// Returns the number of pairs of the map.

@@ -2,6 +2,7 @@
 
 mod archives;
 mod containers;
+mod explanations;
 mod number_items;
 mod numbers;
 mod text_items;

@@ -11,7 +11,7 @@ use ffi_calls::form::Form;
 /// The container of the bytes 1, 2, 3 as a narrow map of texts to numbers of 64 bits.
 ///
 /// The sums of Adler-32 are 1 + 1 + 2 + 3 = 7 and 3 + 3 * 1 + 2 * 2 + 3 = 13.
-const TEXTS: [u8; 35] = [
+pub(crate) const TEXTS: [u8; 35] = [
     0x89, b'R', b'K', b'Y', b'V', b'\r', b'\n', 0x1a, // magic bytes
     1, 0, 1, 4, 0x18, 4, 1, 0, // version, hash map, text, u64, narrow, a checksum
     3, 0, 0, 0, 0, 0, 0, 0, // length

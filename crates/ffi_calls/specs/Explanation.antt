@@ -1,0 +1,76 @@
+-- Why an archive is invalid, or a container: the first error, with its numbers.
+use Rattle.std.specs.Prelude.{◌≡◌, ℕ, ℤ, ◌⊎◌, ◌-◌, ◌^◌, Bool, cond, int_lt, min, negsuc, List}
+use Rattle.std.specs.Prelude.{pos as int}
+use Rattle.rkyv_base.specs.Access.{Accepted, AccessFails}
+use Rattle.rkyv_base.specs.ElementSpec.{ElementSpec}
+use Rattle.rkyv_base.specs.declared.errors.VerifyError.{VerifyError}
+use Rattle.rkyv_base.specs.declared.errors.VerifyError.TheVariants.{OutOfRange, Unaligned}
+use Rattle.rkyv_base.specs.declared.errors.VerifyError.TheVariants.{InvalidLength}
+use Rattle.rkyv_base.specs.declared.errors.VerifyError.TheVariants.{WrongNumberOfElements}
+use Rattle.rkyv_base.specs.declared.errors.VerifyError.TheVariants.{UnwrappedControlByte}
+use Rattle.rkyv_base.specs.declared.errors.VerifyError.TheVariants.{PlaceOutOfRange, InvalidValue}
+use Rattle.rkyv_base.specs.declared.errors.VerifyError.TheVariants.{Refused}
+use Rattle.rkyv_container.specs.Codes.{item_code, kind_code, width_code}
+use Rattle.rkyv_container.specs.Container.{OpenAsFails}
+use Rattle.rkyv_container.specs.declared.errors.ContainerError.{ContainerError}
+use Rattle.rkyv_container.specs.declared.errors.ContainerError.TheVariants as container
+use Rattle.ffi_calls.specs.Containers.{IsMapContainer, contents_of}
+use Rattle.ffi_calls.specs.declared.form.Form.{Form}
+use Rattle.ffi_calls.specs.declared.explanation.Explanation.{Explanation}
+
+-- the integer of 64 bits that is nearest to `z`
+abbrev pub nearest : ℤ → ℤ
+nearest z = cond (int_lt z (negsuc (2 ^ 63 - 1))) (negsuc (2 ^ 63 - 1))
+    (cond (int_lt (int (2 ^ 63 - 1)) z) (int (2 ^ 63 - 1)) z)
+
+-- an explanation with these numbers
+abbrev pub explained : ℕ → ℤ → ℕ → ℕ → Explanation
+explained status position first second =
+    record { status = status; position = position; first = first; second = second }
+
+-- the explanation of a validation error
+unfoldable pub explain : VerifyError → Explanation
+explain (OutOfRange pos size) = explained 16 (nearest pos) (min size (2 ^ 64 - 1)) 0
+explain (Unaligned pos align) = explained 17 (nearest (int pos)) align 0
+explain (InvalidLength len cap) = explained 18 (int 0) len cap
+explain (WrongNumberOfElements expected actual) = explained 19 (int 0) expected actual
+explain (UnwrappedControlByte index) = explained 20 (int 0) index 0
+explain (PlaceOutOfRange place len) = explained 21 (int 0) place len
+explain (InvalidValue pos) = explained 22 (nearest (int pos)) 0 0
+explain (Refused reason) = explained 23 (int 0) reason 0
+
+-- the explanation of a container's error; kinds, types and widths are their codes
+unfoldable pub explain_container : ContainerError → Explanation
+explain_container (container.TooShort len) = explained 32 (int 0) len 0
+explain_container container.WrongMagic = explained 33 (int 0) 0 0
+explain_container (container.UnsupportedVersion version) = explained 34 (int 0) version 0
+explain_container (container.UnknownKind code) = explained 35 (int 0) code 0
+explain_container (container.UnknownKeyType code) = explained 36 (int 0) code 0
+explain_container (container.UnknownValueType code) = explained 37 (int 0) code 0
+explain_container (container.UnknownWidth code) = explained 38 (int 0) code 0
+explain_container (container.UnknownFlags flags) = explained 39 (int 0) flags 0
+explain_container (container.UnexpectedChecksum checksum) = explained 40 (int 0) checksum 0
+explain_container (container.NonzeroReserved number) = explained 41 (int 0) number 0
+explain_container (container.WrongKind expected found) =
+    explained 42 (int 0) (kind_code expected) (kind_code found)
+explain_container (container.WrongKeyType expected found) =
+    explained 43 (int 0) (item_code expected) (item_code found)
+explain_container (container.WrongValueType expected found) =
+    explained 44 (int 0) (item_code expected) (item_code found)
+explain_container (container.WrongWidth expected found) =
+    explained 45 (int 0) (width_code expected) (width_code found)
+explain_container (container.WrongLength expected found) = explained 46 (int 0) expected found
+explain_container (container.WrongChecksum expected found) = explained 47 (int 0) expected found
+
+-- `b` is valid and there is no error, or it is the first validation error
+abbrev pub Explains : ℕ → ElementSpec → List ℕ → Explanation → Type 0
+Explains limit s b result = (Accepted limit s b × (result ≡ explained 0 (int 0) 0 0))
+    ⊎ ((e : VerifyError) × AccessFails limit s b e × (result ≡ explain e))
+
+-- `b` is the container of a map in the form and there is no error, or it is the container's
+-- first one
+abbrev pub ExplainsContainer : Bool → Form → List ℕ → Explanation → Type 0
+ExplainsContainer of_texts form b result =
+    ((a : List ℕ) × IsMapContainer of_texts form a b × (result ≡ explained 0 (int 0) 0 0))
+    ⊎ ((e : ContainerError) × OpenAsFails (contents_of of_texts form) b e
+    × (result ≡ explain_container e))
