@@ -40,6 +40,10 @@ extern "C" {
  * requires that it has 32 bytes. The others require nothing. */
 uint32_t rkyv_c_open_numbers(const uint8_t *archive, size_t length, bool long_values, bool wide);
 uint32_t rkyv_c_open_texts(const uint8_t *archive, size_t length, bool long_values, bool wide);
+void rkyv_c_explain_numbers(const uint8_t *archive, size_t length, bool long_values, bool wide,
+                            rkyv_error *error);
+void rkyv_c_explain_texts(const uint8_t *archive, size_t length, bool long_values, bool wide,
+                          rkyv_error *error);
 size_t rkyv_c_count_numbers(const uint8_t *archive, size_t length, bool long_values, bool wide);
 size_t rkyv_c_count_texts(const uint8_t *archive, size_t length, bool long_values, bool wide);
 uint32_t rkyv_c_get_number(const uint8_t *archive, size_t length, bool long_values, bool wide,
@@ -64,6 +68,8 @@ void rkyv_c_write_header(const uint8_t *archive, size_t length, bool of_texts, b
 uint32_t rkyv_c_container_width(const uint8_t *bytes, size_t length, bool *wide);
 uint32_t rkyv_c_open_container(const uint8_t *bytes, size_t length, bool of_texts,
                                bool long_values, bool wide, opened *opened);
+void rkyv_c_explain_container(const uint8_t *bytes, size_t length, bool of_texts,
+                              bool long_values, bool wide, rkyv_error *error);
 uint32_t rkyv_c_update_container(uint8_t *bytes, size_t length);
 
 #ifdef __cplusplus
@@ -247,6 +253,61 @@ rkyv_status rkyv_map_open_container(const void *bytes, size_t length, uint32_t k
 rkyv_status rkyv_map_open_container_writable(void *bytes, size_t length, uint32_t kind,
                                              uint32_t width, rkyv_map *map) {
     return open_container(bytes, bytes, length, kind, width, map);
+}
+
+/* Stores the error of validation of an archive. */
+static void explain(const uint8_t *archive, size_t length, uint32_t kind, bool wide,
+                    rkyv_error *error) {
+    if (is_of_texts(kind)) {
+        rkyv_c_explain_texts(archive, length, has_long_values(kind), wide, error);
+    } else {
+        rkyv_c_explain_numbers(archive, length, has_long_values(kind), wide, error);
+    }
+}
+
+rkyv_status rkyv_map_explain(const void *bytes, size_t length, uint32_t kind, uint32_t width,
+                             rkyv_error *error) {
+    if (error == NULL) {
+        return RKYV_NULL;
+    }
+    rkyv_status status = check_types(kind, width);
+    if (status == RKYV_OK) {
+        status = check_bytes(bytes, length);
+    }
+    if (status == RKYV_OK) {
+        explain(bytes_of(bytes), length, kind, width == 64, error);
+    }
+    return status;
+}
+
+rkyv_status rkyv_container_explain(const void *bytes, size_t length, uint32_t kind, uint32_t width,
+                                   rkyv_error *error) {
+    opened found = {nothing, 0};
+    bool wide = width == 64;
+    if (error == NULL) {
+        return RKYV_NULL;
+    }
+    rkyv_status status = check_types(kind, width != RKYV_ANY_WIDTH ? width : 32);
+    if (status == RKYV_OK) {
+        status = check_bytes(bytes, length);
+    }
+    if (status != RKYV_OK) {
+        return status;
+    }
+    const uint8_t *container = bytes_of(bytes);
+    if (width == RKYV_ANY_WIDTH) {
+        /* If the header has an error, it is the same one for both widths. */
+        rkyv_c_container_width(container, length, &wide);
+    }
+    rkyv_c_explain_container(container, length, is_of_texts(kind), has_long_values(kind), wide,
+                             error);
+    if (error->status == RKYV_OK
+        && rkyv_c_open_container(container, length, is_of_texts(kind), has_long_values(kind), wide,
+                                 &found)
+               == RKYV_OK) {
+        explain(found.bytes, found.length, kind, wide, error);
+    }
+    return RKYV_OK;
 }
 
 static bool is_any(uint32_t kind) {

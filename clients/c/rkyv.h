@@ -174,8 +174,47 @@ typedef struct rkyv_text_pair {
     size_t key_length;
 } rkyv_text_pair;
 
+/* An error of opening, with its numbers. A number that the error does not have is 0.
+ *
+ *   RKYV_OUT_OF_RANGE                position and size in bytes of a part of the map
+ *   RKYV_UNALIGNED                   position and alignment of a part of the map
+ *   RKYV_INVALID_LENGTH              number of pairs, number of buckets
+ *   RKYV_WRONG_NUMBER_OF_ELEMENTS    number of pairs, number of full buckets
+ *   RKYV_UNWRAPPED_CONTROL_BYTE      index of a control byte
+ *   RKYV_INVALID_VALUE               position of a key
+ *
+ * RKYV_CONTAINER_TOO_SHORT has the number of bytes, and RKYV_CONTAINER_WRONG_MAGIC no number. From
+ * RKYV_CONTAINER_UNSUPPORTED_VERSION to RKYV_CONTAINER_NONZERO_RESERVED it is the number in the
+ * header, and from RKYV_CONTAINER_WRONG_COLLECTION on what is expected and what is found.
+ *
+ * `position` counts from the first byte of the archive, and is negative before it. The numbers
+ * besides it are `first` and `second`, in this order. Collections, types and widths have the codes
+ * of docs/FORMAT.md. */
+typedef struct rkyv_error {
+    uint32_t status;
+    int64_t position;
+    uint64_t first;
+    uint64_t second;
+} rkyv_error;
+
 /* Returns the name of a status, such as "RKYV_OK", or "unknown". */
 const char *rkyv_status_name(uint32_t status);
+
+/* Stores the error of validation with which `rkyv_map_open` fails on these bytes, and its numbers.
+ * Its status is RKYV_OK if it does not fail. `bytes` may be null if `length` is 0.
+ *
+ * Errors:
+ *   - RKYV_NULL: `error` is null;
+ *   - RKYV_UNKNOWN_KIND, RKYV_UNKNOWN_WIDTH;
+ *   - RKYV_NULL: `bytes` is null;
+ *   - RKYV_TOO_LONG. */
+rkyv_status rkyv_map_explain(const void *bytes, size_t length, uint32_t kind, uint32_t width,
+                             rkyv_error *error);
+
+/* Stores the error of the container or of validation with which `rkyv_map_open_container` fails on
+ * these bytes, as `rkyv_map_explain` does. `width` is 32, 64 or RKYV_ANY_WIDTH. */
+rkyv_status rkyv_container_explain(const void *bytes, size_t length, uint32_t kind, uint32_t width,
+                                   rkyv_error *error);
 
 /* Validates the bytes and opens the map whose archive they are, to read. `kind` is a `rkyv_kind`,
  * `width` is 32 or 64. `bytes` may be null if `length` is 0.

@@ -209,6 +209,51 @@ static void errors(void) {
     returns("a key", rkyv_map_open(bytes, length, RKYV_TEXT_TO_U64, 64, &map), RKYV_INVALID_VALUE);
 }
 
+/* Tests the numbers of an error. */
+static void is_error(const char *what, rkyv_error error, uint32_t status, int64_t position,
+                     uint64_t first, uint64_t second) {
+    same(what, error.status, status);
+    same(what, (uint64_t)error.position, (uint64_t)position);
+    same(what, error.first, first);
+    same(what, error.second, second);
+}
+
+/* The error of opening the map of 1 to 2 with one byte changed. */
+static rkyv_error explained(size_t position, uint8_t byte) {
+    uint8_t bytes[64];
+    size_t length = one_to_two(bytes);
+    rkyv_error error = {9, 9, 9, 9};
+    bytes[position] = byte;
+    returns("explain", rkyv_map_explain(bytes, length, RKYV_NUMBER_TO_U32, 32, &error), RKYV_OK);
+    return error;
+}
+
+static void explanations(void) {
+    uint8_t bytes[104];
+    size_t length = empty_to_seven(bytes);
+    rkyv_error error = {9, 9, 9, 9};
+
+    is_error("no error", explained(0, 1), RKYV_OK, 0, 0, 0);
+    is_error("a distance", explained(48, 0xe1), RKYV_UNALIGNED, 1, 4, 0);
+    is_error("a length", explained(52, 2), RKYV_INVALID_LENGTH, 0, 2, 2);
+    is_error("a control", explained(17, 0xff), RKYV_WRONG_NUMBER_OF_ELEMENTS, 0, 1, 0);
+    is_error("a repeated control", explained(19, 0xff), RKYV_UNWRAPPED_CONTROL_BYTE, 0, 3, 0);
+    returns("empty", rkyv_map_explain(NULL, 0, RKYV_NUMBER_TO_U32, 32, &error), RKYV_OK);
+    is_error("empty", error, RKYV_OUT_OF_RANGE, -12, 12, 0);
+    bytes[0] = 0xc3;
+    returns("a key", rkyv_map_explain(bytes, length, RKYV_TEXT_TO_U64, 64, &error), RKYV_OK);
+    is_error("a key", error, RKYV_INVALID_VALUE, 0, 0, 0);
+
+    returns("no error", rkyv_map_explain(bytes, length, RKYV_TEXT_TO_U64, 64, NULL), RKYV_NULL);
+    returns("null", rkyv_map_explain(NULL, 1, RKYV_TEXT_TO_U64, 64, &error), RKYV_NULL);
+    returns("too long", rkyv_map_explain(bytes, SIZE_MAX, RKYV_TEXT_TO_U64, 64, &error),
+            RKYV_TOO_LONG);
+    returns("kind 0", rkyv_map_explain(bytes, length, 0, 64, &error), RKYV_UNKNOWN_KIND);
+    returns("width 16", rkyv_map_explain(bytes, length, RKYV_TEXT_TO_U64, 16, &error),
+            RKYV_UNKNOWN_WIDTH);
+    is_error("kept", error, RKYV_INVALID_VALUE, 0, 0, 0);
+}
+
 /* The container of the map of 1 to 2 has 92 bytes. */
 #define CONTAINER 92
 
@@ -230,6 +275,46 @@ static const uint8_t header_of_one_to_two[RKYV_CONTAINER_HEADER] = {
     0x89, 'R', 'K', 'Y', 'V', 0x0d, 0x0a, 0x1a, 1, 0, 1, 0x14, 0x14, 4, 0, 0,
     60,   0,   0,   0,   0,   0,    0,    0,    0, 0, 0, 0,    0,    0, 0, 0,
 };
+
+/* The error of opening the container of the map of 1 to 2 with one byte changed. */
+static rkyv_error explained_container(size_t position, uint8_t byte, uint32_t kind,
+                                      uint32_t width) {
+    uint8_t bytes[CONTAINER];
+    rkyv_error error = {9, 9, 9, 9};
+    container_of(bytes, false);
+    bytes[position] = byte;
+    returns("explain", rkyv_container_explain(bytes, CONTAINER, kind, width, &error), RKYV_OK);
+    return error;
+}
+
+static void container_explanations(void) {
+    const uint32_t kind = RKYV_NUMBER_TO_U32;
+    uint8_t bytes[CONTAINER];
+    rkyv_error error = {9, 9, 9, 9};
+
+    is_error("no error", explained_container(32, 1, kind, 32), RKYV_OK, 0, 0, 0);
+    is_error("any width", explained_container(32, 1, kind, RKYV_ANY_WIDTH), RKYV_OK, 0, 0, 0);
+    is_error("magic", explained_container(1, 'r', kind, RKYV_ANY_WIDTH),
+             RKYV_CONTAINER_WRONG_MAGIC, 0, 0, 0);
+    is_error("version", explained_container(8, 2, kind, RKYV_ANY_WIDTH),
+             RKYV_CONTAINER_UNSUPPORTED_VERSION, 0, 2, 0);
+    is_error("width", explained_container(32, 1, kind, 64), RKYV_CONTAINER_WRONG_WIDTH, 0, 8, 4);
+    is_error("values", explained_container(32, 1, RKYV_NUMBER_TO_U64, 32),
+             RKYV_CONTAINER_WRONG_VALUE_TYPE, 0, 0x18, 0x14);
+    is_error("keys", explained_container(32, 1, RKYV_TEXT_TO_U32, RKYV_ANY_WIDTH),
+             RKYV_CONTAINER_WRONG_KEY_TYPE, 0, 4, 0x14);
+    is_error("archive", explained_container(32 + 52, 2, kind, RKYV_ANY_WIDTH),
+             RKYV_INVALID_LENGTH, 0, 2, 2);
+    container_of(bytes, false);
+    returns("cut", rkyv_container_explain(bytes, CONTAINER - 1, kind, 32, &error), RKYV_OK);
+    is_error("cut", error, RKYV_CONTAINER_WRONG_LENGTH, 0, 60, 59);
+    returns("no error", rkyv_container_explain(bytes, CONTAINER, kind, 32, NULL), RKYV_NULL);
+    returns("null", rkyv_container_explain(NULL, 1, kind, 32, &error), RKYV_NULL);
+    returns("kind 0", rkyv_container_explain(bytes, CONTAINER, 0, 32, &error), RKYV_UNKNOWN_KIND);
+    returns("width 16", rkyv_container_explain(bytes, CONTAINER, kind, 16, &error),
+            RKYV_UNKNOWN_WIDTH);
+    returns("too long", rkyv_container_explain(bytes, SIZE_MAX, kind, 32, &error), RKYV_TOO_LONG);
+}
 
 static void containers(void) {
     uint8_t bytes[CONTAINER];
@@ -659,7 +744,9 @@ int main(void) {
     texts();
     anywhere();
     errors();
+    explanations();
     containers();
+    container_explanations();
     text_container();
     damaged_containers();
     written_containers();

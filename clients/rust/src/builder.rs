@@ -85,11 +85,11 @@ impl<K: Key + ?Sized, V: Value> Builder<K, V> {
     /// returns. The builder keeps its pairs, so that an archive of another width can be built.
     ///
     /// # Errors
-    /// - [`Error::NoMemory`]
-    /// - [`Error::CapacityTooLarge`]
-    /// - [`Error::PositionTooLarge`]
-    /// - [`Error::DistanceTooLarge`]
-    /// - [`Error::TextTooLong`]
+    /// - [`ErrorKind::NoMemory`]
+    /// - [`ErrorKind::CapacityTooLarge`]
+    /// - [`ErrorKind::PositionTooLarge`]
+    /// - [`ErrorKind::DistanceTooLarge`]
+    /// - [`ErrorKind::TextTooLong`]
     pub fn build(&self, width: Width) -> Result<Archive<K, V>, Error> {
         let builder = OwnedBuilder::new(kind::<K, V>(), width)?;
         for (key, value) in self.pairs() {

@@ -23,18 +23,19 @@ pub enum Checksum {
 ///
 /// # Errors
 /// The first of these, after which nothing is changed:
-/// - an error of the header, from [`Error::ContainerTooShort`] to [`Error::NonzeroReserved`]
-/// - [`Error::WrongLength`]
+/// - an error of the header, from [`ErrorKind::ContainerTooShort`] to [`ErrorKind::NonzeroReserved`]
+/// - [`ErrorKind::WrongLength`]
 ///
 /// # Examples
 /// ```
-/// use rkyv_maps::{update_container, Builder, Checksum, Error, Map, MapMut, Width};
+/// use rkyv_maps::{update_container, Builder, Checksum, Error, ErrorKind, Map, MapMut, Width};
 ///
 /// # fn main() -> Result<(), Error> {
 /// let archive = Builder::<str, u64>::from([("visits", 10)]).build(Width::Narrow)?;
 /// let mut container = archive.to_container(Checksum::Adler32);
 /// assert!(MapMut::<str, u64>::open_container(&mut container)?.set("visits", 11));
-/// assert_eq!(Map::<str, u64>::open_container(&container).err(), Some(Error::WrongChecksum));
+/// let error = Map::<str, u64>::open_container(&container).unwrap_err();
+/// assert_eq!(error.kind(), ErrorKind::WrongChecksum);
 /// update_container(&mut container)?;
 /// assert_eq!(Map::<str, u64>::open_container(&container)?.at("visits"), 11);
 /// # Ok(())

@@ -1,15 +1,106 @@
 use std::fmt;
 
-use crate::raw;
+use crate::raw::{self, RawError};
 
 /// Why bytes are not an archive or a container of a map, or why no archive could be built.
+///
+/// Its text has the position and the numbers of the error.
+///
+/// ```
+/// use rkyv_maps::{ErrorKind, Map, Width};
+///
+/// let error = Map::<u32, u32>::open(&[0; 13], Width::Narrow).unwrap_err();
+/// assert_eq!(error.kind(), ErrorKind::Unaligned);
+/// assert_eq!(error.position(), Some(1));
+/// assert_eq!(
+///     error.to_string(),
+///     "the map or a part of it is not at a multiple of its alignment \
+///      (position 1, alignment 4)"
+/// );
+/// ```
+#[derive(Clone, Copy, Debug, PartialEq, Eq, Hash)]
+pub struct Error {
+    kind: ErrorKind,
+    numbers: Option<RawError>,
+}
+
+impl Error {
+    /// The kind of the error.
+    pub fn kind(&self) -> ErrorKind {
+        self.kind
+    }
+
+    /// The position in the archive of the part that is not valid, if the error has one. It is
+    /// negative if the part is before the archive.
+    pub fn position(&self) -> Option<i64> {
+        use ErrorKind::{InvalidValue, OutOfRange, Unaligned};
+        match self.kind {
+            OutOfRange | Unaligned | InvalidValue => self.numbers.map(|numbers| numbers.position),
+            _ => None,
+        }
+    }
+}
+
+impl From<ErrorKind> for Error {
+    fn from(kind: ErrorKind) -> Self {
+        Error {
+            kind,
+            numbers: None,
+        }
+    }
+}
+
+impl fmt::Display for Error {
+    fn fmt(&self, f: &mut fmt::Formatter<'_>) -> fmt::Result {
+        write!(f, "{}", self.kind)?;
+        let Some(RawError {
+            position,
+            first,
+            second,
+            ..
+        }) = self.numbers
+        else {
+            return Ok(());
+        };
+        match self.kind {
+            ErrorKind::OutOfRange => write!(f, " (position {position}, {first} bytes)"),
+            ErrorKind::Unaligned => write!(f, " (position {position}, alignment {first})"),
+            ErrorKind::InvalidLength => write!(f, " ({first} pairs, {second} buckets)"),
+            ErrorKind::WrongNumberOfElements => {
+                write!(f, " ({first} pairs, {second} full buckets)")
+            }
+            ErrorKind::UnwrappedControlByte => write!(f, " (index {first})"),
+            ErrorKind::InvalidValue => write!(f, " (position {position})"),
+            ErrorKind::ContainerTooShort => write!(f, " ({first} bytes)"),
+            ErrorKind::UnsupportedVersion
+            | ErrorKind::UnknownCollection
+            | ErrorKind::UnknownKeyType
+            | ErrorKind::UnknownValueType
+            | ErrorKind::UnknownWidth
+            | ErrorKind::UnknownFlags
+            | ErrorKind::UnexpectedChecksum
+            | ErrorKind::NonzeroReserved => write!(f, " ({first})"),
+            ErrorKind::WrongCollection
+            | ErrorKind::WrongKeyType
+            | ErrorKind::WrongValueType
+            | ErrorKind::WrongWidth
+            | ErrorKind::WrongLength
+            | ErrorKind::WrongChecksum => write!(f, " (expected {first}, found {second})"),
+            _ => Ok(()),
+        }
+    }
+}
+
+impl std::error::Error for Error {}
+
+/// The kind of an [`Error`].
 ///
 /// [`Map::open`](crate::Map::open) and [`MapMut::open`](crate::MapMut::open) fail with the first
 /// group, [`Builder::build`](crate::Builder::build) with the second. The calls that open a
 /// container fail with the third group, or with the first one if its archive is not valid.
 #[derive(Clone, Copy, Debug, PartialEq, Eq, Hash)]
 #[non_exhaustive]
-pub enum Error {
+pub enum ErrorKind {
     /// The map or a part of it is outside the bytes that it may use.
     OutOfRange,
     /// The map or a part of it is not at a multiple of its alignment.
@@ -71,82 +162,107 @@ pub enum Error {
     Status(u32),
 }
 
-impl fmt::Display for Error {
+impl fmt::Display for ErrorKind {
     fn fmt(&self, f: &mut fmt::Formatter<'_>) -> fmt::Result {
         f.write_str(match self {
-            Error::OutOfRange => "the map or a part of it is outside the bytes that it may use",
-            Error::Unaligned => "the map or a part of it is not at a multiple of its alignment",
-            Error::InvalidLength => "the number of pairs is not less than the number of buckets",
-            Error::WrongNumberOfElements => {
+            ErrorKind::OutOfRange => "the map or a part of it is outside the bytes that it may use",
+            ErrorKind::Unaligned => "the map or a part of it is not at a multiple of its alignment",
+            ErrorKind::InvalidLength => {
+                "the number of pairs is not less than the number of buckets"
+            }
+            ErrorKind::WrongNumberOfElements => {
                 "the number of full buckets differs from the number of pairs"
             }
-            Error::UnwrappedControlByte => {
+            ErrorKind::UnwrappedControlByte => {
                 "a mirrored control byte differs from the one that it mirrors"
             }
-            Error::InvalidValue => "a text key is not UTF-8, or its length is malformed",
-            Error::NoMemory => "the C library failed to allocate memory",
-            Error::CapacityTooLarge => "the map needs more buckets than the width can count",
-            Error::PositionTooLarge => "the archive would be longer than the width allows",
-            Error::DistanceTooLarge => {
+            ErrorKind::InvalidValue => "a text key is not UTF-8, or its length is malformed",
+            ErrorKind::NoMemory => "the C library failed to allocate memory",
+            ErrorKind::CapacityTooLarge => "the map needs more buckets than the width can count",
+            ErrorKind::PositionTooLarge => "the archive would be longer than the width allows",
+            ErrorKind::DistanceTooLarge => {
                 "a distance between two parts of the archive does not fit the width"
             }
-            Error::TextTooLong => "a text key is too long for the width",
-            Error::ContainerTooShort => "the container is shorter than its header of 32 bytes",
-            Error::WrongMagic => "the first eight bytes are not those of a container",
-            Error::UnsupportedVersion => "the version of the container is not 1",
-            Error::UnknownCollection => "the container has an unknown kind of collection",
-            Error::UnknownKeyType => "the container has an unknown type of keys",
-            Error::UnknownValueType => "the container has an unknown type of values",
-            Error::UnknownWidth => "the container has an unknown width",
-            Error::UnknownFlags => "the container has unknown flags",
-            Error::UnexpectedChecksum => "the container has a checksum, but no flag for one",
-            Error::NonzeroReserved => "the reserved bytes of the container are not 0",
-            Error::WrongCollection => "the container has no hash map",
-            Error::WrongKeyType => "the keys in the container are of another type",
-            Error::WrongValueType => "the values in the container are of another type",
-            Error::WrongWidth => "the archive in the container has another width",
-            Error::WrongLength => "the length of the archive is not that in the header",
-            Error::WrongChecksum => "the checksum of the archive is not that in the header",
-            Error::Status(status) => {
+            ErrorKind::TextTooLong => "a text key is too long for the width",
+            ErrorKind::ContainerTooShort => "the container is shorter than its header of 32 bytes",
+            ErrorKind::WrongMagic => "the first eight bytes are not those of a container",
+            ErrorKind::UnsupportedVersion => "the version of the container is not 1",
+            ErrorKind::UnknownCollection => "the container has an unknown kind of collection",
+            ErrorKind::UnknownKeyType => "the container has an unknown type of keys",
+            ErrorKind::UnknownValueType => "the container has an unknown type of values",
+            ErrorKind::UnknownWidth => "the container has an unknown width",
+            ErrorKind::UnknownFlags => "the container has unknown flags",
+            ErrorKind::UnexpectedChecksum => "the container has a checksum, but no flag for one",
+            ErrorKind::NonzeroReserved => "the reserved bytes of the container are not 0",
+            ErrorKind::WrongCollection => "the container has no hash map",
+            ErrorKind::WrongKeyType => "the keys in the container are of another type",
+            ErrorKind::WrongValueType => "the values in the container are of another type",
+            ErrorKind::WrongWidth => "the archive in the container has another width",
+            ErrorKind::WrongLength => "the length of the archive is not that in the header",
+            ErrorKind::WrongChecksum => "the checksum of the archive is not that in the header",
+            ErrorKind::Status(status) => {
                 return write!(f, "the C library returned the unexpected status {status}");
             }
         })
     }
 }
 
-impl std::error::Error for Error {}
+impl ErrorKind {
+    /// The kind of the error with a status.
+    fn of(status: u32) -> Self {
+        match status {
+            12 => ErrorKind::NoMemory,
+            16 => ErrorKind::OutOfRange,
+            17 => ErrorKind::Unaligned,
+            18 => ErrorKind::InvalidLength,
+            19 => ErrorKind::WrongNumberOfElements,
+            20 => ErrorKind::UnwrappedControlByte,
+            22 => ErrorKind::InvalidValue,
+            24 => ErrorKind::CapacityTooLarge,
+            25 => ErrorKind::PositionTooLarge,
+            26 => ErrorKind::DistanceTooLarge,
+            27 => ErrorKind::TextTooLong,
+            32 => ErrorKind::ContainerTooShort,
+            33 => ErrorKind::WrongMagic,
+            34 => ErrorKind::UnsupportedVersion,
+            35 => ErrorKind::UnknownCollection,
+            36 => ErrorKind::UnknownKeyType,
+            37 => ErrorKind::UnknownValueType,
+            38 => ErrorKind::UnknownWidth,
+            39 => ErrorKind::UnknownFlags,
+            40 => ErrorKind::UnexpectedChecksum,
+            41 => ErrorKind::NonzeroReserved,
+            42 => ErrorKind::WrongCollection,
+            43 => ErrorKind::WrongKeyType,
+            44 => ErrorKind::WrongValueType,
+            45 => ErrorKind::WrongWidth,
+            46 => ErrorKind::WrongLength,
+            47 => ErrorKind::WrongChecksum,
+            other => ErrorKind::Status(other),
+        }
+    }
+}
 
 /// `Ok` if the status is that of success, else the error that it is.
 pub(crate) fn check(status: u32) -> Result<(), Error> {
-    Err(match status {
-        raw::OK => return Ok(()),
-        12 => Error::NoMemory,
-        16 => Error::OutOfRange,
-        17 => Error::Unaligned,
-        18 => Error::InvalidLength,
-        19 => Error::WrongNumberOfElements,
-        20 => Error::UnwrappedControlByte,
-        22 => Error::InvalidValue,
-        24 => Error::CapacityTooLarge,
-        25 => Error::PositionTooLarge,
-        26 => Error::DistanceTooLarge,
-        27 => Error::TextTooLong,
-        32 => Error::ContainerTooShort,
-        33 => Error::WrongMagic,
-        34 => Error::UnsupportedVersion,
-        35 => Error::UnknownCollection,
-        36 => Error::UnknownKeyType,
-        37 => Error::UnknownValueType,
-        38 => Error::UnknownWidth,
-        39 => Error::UnknownFlags,
-        40 => Error::UnexpectedChecksum,
-        41 => Error::NonzeroReserved,
-        42 => Error::WrongCollection,
-        43 => Error::WrongKeyType,
-        44 => Error::WrongValueType,
-        45 => Error::WrongWidth,
-        46 => Error::WrongLength,
-        47 => Error::WrongChecksum,
-        other => Error::Status(other),
+    match status {
+        raw::OK => Ok(()),
+        _ => Err(ErrorKind::of(status).into()),
+    }
+}
+
+/// `Ok` if the status of a call that opens is that of success, else the error that it is. `explain`
+/// is the call that explains it.
+pub(crate) fn check_open(
+    status: u32,
+    explain: impl FnOnce(*mut RawError) -> u32,
+) -> Result<(), Error> {
+    let mut error = RawError::default();
+    check(status).map_err(|plain| match explain(&mut error) {
+        raw::OK if error.status == status => Error {
+            numbers: Some(error),
+            ..plain
+        },
+        _ => plain,
     })
 }

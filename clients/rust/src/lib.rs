@@ -31,7 +31,7 @@
 //! A container records them: it is a header of 32 bytes and the archive behind it. It has the length
 //! of the archive too, and a [`Checksum`] if asked for. Write files as containers, with
 //! [`Archive::to_container`] or [`Archive::write_container`]. [`Map::open_container`] fails with an
-//! [`Error`] of its own if a type, the length or the checksum is wrong.
+//! [`ErrorKind`] of its own if a type, the length or the checksum is wrong.
 //!
 //! A container detects a wrong type and an accident, not an attacker. So its archive is validated as
 //! any other. [`MapMut::open_container`] writes values in place, and [`update_container`] then
@@ -64,7 +64,7 @@ mod types;
 
 pub use builder::{Archive, Builder};
 pub use container::{update_container, Checksum};
-pub use error::Error;
+pub use error::{Error, ErrorKind};
 pub use iter::{Iter, Keys, Values};
 pub use map::{Map, MapMut};
 pub use types::{Key, Value, Width};

@@ -1,7 +1,7 @@
 use std::fmt;
 use std::marker::PhantomData;
 
-use crate::error::check;
+use crate::error::{check, check_open};
 use crate::iter::{Iter, Keys, Values};
 use crate::raw::{self, RawMap};
 use crate::types::kind;
@@ -56,19 +56,23 @@ impl<'a, K: Key + ?Sized, V: Value> Map<'a, K, V> {
     ///
     /// # Errors
     /// The first error of validation:
-    /// - [`Error::OutOfRange`]
-    /// - [`Error::Unaligned`]
-    /// - [`Error::InvalidLength`]
-    /// - [`Error::WrongNumberOfElements`]
-    /// - [`Error::UnwrappedControlByte`]
-    /// - [`Error::InvalidValue`]
+    /// - [`ErrorKind::OutOfRange`]
+    /// - [`ErrorKind::Unaligned`]
+    /// - [`ErrorKind::InvalidLength`]
+    /// - [`ErrorKind::WrongNumberOfElements`]
+    /// - [`ErrorKind::UnwrappedControlByte`]
+    /// - [`ErrorKind::InvalidValue`]
     pub fn open(bytes: &'a [u8], width: Width) -> Result<Self, Error> {
         let (pointer, length) = (bytes.as_ptr().cast(), bytes.len());
         let mut raw = RawMap::CLOSED;
         // SAFETY: pointer and length are those of one slice, which the map borrows.
         let status =
             unsafe { raw::rkyv_map_open(pointer, length, kind::<K, V>(), width as u32, &mut raw) };
-        check(status).map(|()| Map {
+        // SAFETY: the same; `error` has room for the error.
+        let explain = |error| unsafe {
+            raw::rkyv_map_explain(pointer, length, kind::<K, V>(), width as u32, error)
+        };
+        check_open(status, explain).map(|()| Map {
             raw,
             bytes: PhantomData,
             types: PhantomData,
@@ -82,32 +86,33 @@ impl<'a, K: Key + ?Sized, V: Value> Map<'a, K, V> {
     ///
     /// # Errors
     /// The first of these:
-    /// - [`Error::ContainerTooShort`]
-    /// - [`Error::WrongMagic`]
-    /// - [`Error::UnsupportedVersion`]
-    /// - [`Error::UnknownCollection`]
-    /// - [`Error::UnknownKeyType`]
-    /// - [`Error::UnknownValueType`]
-    /// - [`Error::UnknownWidth`]
-    /// - [`Error::UnknownFlags`]
-    /// - [`Error::UnexpectedChecksum`]
-    /// - [`Error::NonzeroReserved`]
-    /// - [`Error::WrongCollection`]
-    /// - [`Error::WrongKeyType`]
-    /// - [`Error::WrongValueType`]
-    /// - [`Error::WrongLength`]
-    /// - [`Error::WrongChecksum`]
+    /// - [`ErrorKind::ContainerTooShort`]
+    /// - [`ErrorKind::WrongMagic`]
+    /// - [`ErrorKind::UnsupportedVersion`]
+    /// - [`ErrorKind::UnknownCollection`]
+    /// - [`ErrorKind::UnknownKeyType`]
+    /// - [`ErrorKind::UnknownValueType`]
+    /// - [`ErrorKind::UnknownWidth`]
+    /// - [`ErrorKind::UnknownFlags`]
+    /// - [`ErrorKind::UnexpectedChecksum`]
+    /// - [`ErrorKind::NonzeroReserved`]
+    /// - [`ErrorKind::WrongCollection`]
+    /// - [`ErrorKind::WrongKeyType`]
+    /// - [`ErrorKind::WrongValueType`]
+    /// - [`ErrorKind::WrongLength`]
+    /// - [`ErrorKind::WrongChecksum`]
     /// - those of [`open`](Map::open)
     ///
     /// # Examples
     /// ```
-    /// use rkyv_maps::{Builder, Checksum, Error, Map, Width};
+    /// use rkyv_maps::{Builder, Checksum, Error, ErrorKind, Map, Width};
     ///
     /// # fn main() -> Result<(), Error> {
     /// let archive = Builder::<str, u64>::from([("main", 0x1139)]).build(Width::Narrow)?;
     /// let container = archive.to_container(Checksum::Adler32);
     /// assert_eq!(Map::<str, u64>::open_container(&container)?.at("main"), 0x1139);
-    /// assert_eq!(Map::<u32, u64>::open_container(&container).err(), Some(Error::WrongKeyType));
+    /// let error = Map::<u32, u64>::open_container(&container).unwrap_err();
+    /// assert_eq!(error.kind(), ErrorKind::WrongKeyType);
     /// # Ok(())
     /// # }
     /// ```
@@ -118,8 +123,8 @@ impl<'a, K: Key + ?Sized, V: Value> Map<'a, K, V> {
     /// Opens the map in a container that has an archive of the given width.
     ///
     /// # Errors
-    /// As [`open_container`](Map::open_container), and after [`Error::WrongValueType`]:
-    /// - [`Error::WrongWidth`]
+    /// As [`open_container`](Map::open_container), and after [`ErrorKind::WrongValueType`]:
+    /// - [`ErrorKind::WrongWidth`]
     pub fn open_container_with_width(container: &'a [u8], width: Width) -> Result<Self, Error> {
         Map::open_in(container, width as u32)
     }
@@ -131,7 +136,11 @@ impl<'a, K: Key + ?Sized, V: Value> Map<'a, K, V> {
         let status = unsafe {
             raw::rkyv_map_open_container(pointer, length, kind::<K, V>(), width, &mut raw)
         };
-        check(status).map(|()| Map {
+        // SAFETY: the same; `error` has room for the error.
+        let explain = |error| unsafe {
+            raw::rkyv_container_explain(pointer, length, kind::<K, V>(), width, error)
+        };
+        check_open(status, explain).map(|()| Map {
             raw,
             bytes: PhantomData,
             types: PhantomData,
@@ -276,7 +285,10 @@ impl<'a, K: Key + ?Sized, V: Value> MapMut<'a, K, V> {
         // SAFETY: pointer and length are those of one slice, which the map borrows mutably.
         let status =
             unsafe { raw::rkyv_map_open_writable(pointer, length, kind, width as u32, &mut raw) };
-        check(status).map(|()| MapMut {
+        // SAFETY: the same; `error` has room for the error.
+        let explain =
+            |error| unsafe { raw::rkyv_map_explain(pointer, length, kind, width as u32, error) };
+        check_open(status, explain).map(|()| MapMut {
             raw,
             bytes: PhantomData,
             types: PhantomData,
@@ -310,7 +322,10 @@ impl<'a, K: Key + ?Sized, V: Value> MapMut<'a, K, V> {
         let status = unsafe {
             raw::rkyv_map_open_container_writable(pointer, length, kind, width, &mut raw)
         };
-        check(status).map(|()| MapMut {
+        // SAFETY: the same; `error` has room for the error.
+        let explain =
+            |error| unsafe { raw::rkyv_container_explain(pointer, length, kind, width, error) };
+        check_open(status, explain).map(|()| MapMut {
             raw,
             bytes: PhantomData,
             types: PhantomData,

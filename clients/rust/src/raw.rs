@@ -41,6 +41,16 @@ pub struct RawTextPair {
     pub key_length: usize,
 }
 
+/// An error of opening, with its numbers: the `rkyv_error` of the header.
+#[repr(C)]
+#[derive(Clone, Copy, Debug, Default, PartialEq, Eq, Hash)]
+pub struct RawError {
+    pub status: u32,
+    pub position: i64,
+    pub first: u64,
+    pub second: u64,
+}
+
 /// A builder: the `rkyv_builder` of the header.
 #[repr(C)]
 pub struct RawBuilder {
@@ -84,6 +94,20 @@ unsafe extern "C" {
         kind: u32,
         width: u32,
         map: *mut RawMap,
+    ) -> u32;
+    pub fn rkyv_map_explain(
+        bytes: *const c_void,
+        length: usize,
+        kind: u32,
+        width: u32,
+        error: *mut RawError,
+    ) -> u32;
+    pub fn rkyv_container_explain(
+        bytes: *const c_void,
+        length: usize,
+        kind: u32,
+        width: u32,
+        error: *mut RawError,
     ) -> u32;
     pub fn rkyv_map_width(map: *const RawMap, width: *mut u32) -> u32;
     pub fn rkyv_map_count(map: *const RawMap, count: *mut usize) -> u32;

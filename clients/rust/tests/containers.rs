@@ -1,7 +1,7 @@
 //! Containers: each opens as its own types alone, and each damaged header has the stated error.
 
 use rkyv_maps::{
-    update_container, Archive, Builder, Checksum, Error, Key, Map, MapMut, Value, Width,
+    update_container, Archive, Builder, Checksum, Error, ErrorKind, Key, Map, MapMut, Value, Width,
 };
 
 const WIDTHS: [Width; 2] = [Width::Narrow, Width::Wide];
@@ -38,15 +38,26 @@ fn pairs<V: Value>(count: u32) -> impl Iterator<Item = (u32, V)> {
 }
 
 /// The error with which bytes are opened as a container of a type, to read and to write.
-fn error_as<K: Key + ?Sized, V: Value>(bytes: &[u8]) -> Option<Error> {
-    let error = Map::<K, V>::open_container(bytes).err();
+fn error_as<K: Key + ?Sized, V: Value>(bytes: &[u8]) -> Option<ErrorKind> {
+    let error = Map::<K, V>::open_container(bytes)
+        .err()
+        .map(|error| error.kind());
     let mut copy = bytes.to_vec();
-    assert_eq!(MapMut::<K, V>::open_container(&mut copy).err(), error);
+    assert_eq!(
+        MapMut::<K, V>::open_container(&mut copy)
+            .err()
+            .map(|error| error.kind()),
+        error
+    );
     for width in WIDTHS {
-        let other = Map::<K, V>::open_container_with_width(bytes, width).err();
-        let written = MapMut::<K, V>::open_container_with_width(&mut copy, width).err();
+        let other = Map::<K, V>::open_container_with_width(bytes, width)
+            .err()
+            .map(|error| error.kind());
+        let written = MapMut::<K, V>::open_container_with_width(&mut copy, width)
+            .err()
+            .map(|error| error.kind());
         assert_eq!(written, other);
-        assert!(other == error || other == Some(Error::WrongWidth));
+        assert!(other == error || other == Some(ErrorKind::WrongWidth));
     }
     assert_eq!(copy, bytes);
     error
@@ -54,7 +65,7 @@ fn error_as<K: Key + ?Sized, V: Value>(bytes: &[u8]) -> Option<Error> {
 
 /// The errors with which bytes are opened as `u32` to `u32`, `u32` to `u64`, `str` to `u32`, and
 /// `str` to `u64`.
-fn errors(bytes: &[u8]) -> [Option<Error>; 4] {
+fn errors(bytes: &[u8]) -> [Option<ErrorKind>; 4] {
     [
         error_as::<u32, u32>(bytes),
         error_as::<u32, u64>(bytes),
@@ -88,9 +99,9 @@ fn containers_open_as_their_own_types_alone() {
         for (number, _, _, bytes) in containers(count) {
             let wanted = [0, 1, 2, 3].map(|other| {
                 if other / 2 != number / 2 {
-                    return Some(Error::WrongKeyType);
+                    return Some(ErrorKind::WrongKeyType);
                 }
-                (other % 2 != number % 2).then_some(Error::WrongValueType)
+                (other % 2 != number % 2).then_some(ErrorKind::WrongValueType)
             });
             assert_eq!(errors(&bytes), wanted, "type {number}, {count} pairs");
         }
@@ -103,11 +114,18 @@ fn containers_open_with_their_own_width_alone() {
         let bytes = str::sample::<u64>(3, width).to_container(Checksum::None);
         for other in WIDTHS {
             let map = Map::<str, u64>::open_container_with_width(&bytes, other);
-            let wanted = (other != width).then_some(Error::WrongWidth);
-            assert_eq!(map.err(), wanted, "{width:?} as {other:?}");
+            let wanted = (other != width).then_some(ErrorKind::WrongWidth);
+            assert_eq!(
+                map.err().map(|error| error.kind()),
+                wanted,
+                "{width:?} as {other:?}"
+            );
         }
         let wrong = Map::<str, u32>::open_container_with_width(&bytes, width);
-        assert_eq!(wrong.err(), Some(Error::WrongValueType));
+        assert_eq!(
+            wrong.err().map(|error| error.kind()),
+            Some(ErrorKind::WrongValueType)
+        );
     }
 }
 
@@ -169,38 +187,40 @@ fn adler32(bytes: &[u8]) -> u32 {
 }
 
 /// The error of a header of a map of `str` to `u64` with one wrong byte, as the format has it.
-fn header_error(index: usize, byte: u8, checksum: Checksum, width: Width) -> Option<Error> {
+fn header_error(index: usize, byte: u8, checksum: Checksum, width: Width) -> Option<ErrorKind> {
     const ITEMS: [u8; 13] = [
         0x01, 0x02, 0x03, 0x04, 0x05, 0x11, 0x12, 0x14, 0x18, 0x21, 0x22, 0x24, 0x28,
     ];
     let checked = checksum == Checksum::Adler32;
     Some(match index {
-        0..8 => Error::WrongMagic,
-        8..10 => Error::UnsupportedVersion,
-        10 if (1..=4).contains(&byte) => Error::WrongCollection,
-        10 => Error::UnknownCollection,
-        11 if ITEMS.contains(&byte) => Error::WrongKeyType,
-        11 => Error::UnknownKeyType,
-        12 if ITEMS.contains(&byte) => Error::WrongValueType,
-        12 => Error::UnknownValueType,
+        0..8 => ErrorKind::WrongMagic,
+        8..10 => ErrorKind::UnsupportedVersion,
+        10 if (1..=4).contains(&byte) => ErrorKind::WrongCollection,
+        10 => ErrorKind::UnknownCollection,
+        11 if ITEMS.contains(&byte) => ErrorKind::WrongKeyType,
+        11 => ErrorKind::UnknownKeyType,
+        12 if ITEMS.contains(&byte) => ErrorKind::WrongValueType,
+        12 => ErrorKind::UnknownValueType,
         // The archive of the other width is not valid.
         13 if byte == 4 || byte == 8 => return other_width_error(width),
-        13 => Error::UnknownWidth,
+        13 => ErrorKind::UnknownWidth,
         // Without the flag the checksum is unexpected. With it, 0 is not the checksum.
-        14 if byte == 0 => Error::UnexpectedChecksum,
-        14 if byte == 1 => Error::WrongChecksum,
-        14..16 => Error::UnknownFlags,
-        16..24 => Error::WrongLength,
-        24..28 if checked => Error::WrongChecksum,
-        24..28 => Error::UnexpectedChecksum,
-        _ => Error::NonzeroReserved,
+        14 if byte == 0 => ErrorKind::UnexpectedChecksum,
+        14 if byte == 1 => ErrorKind::WrongChecksum,
+        14..16 => ErrorKind::UnknownFlags,
+        16..24 => ErrorKind::WrongLength,
+        24..28 if checked => ErrorKind::WrongChecksum,
+        24..28 => ErrorKind::UnexpectedChecksum,
+        _ => ErrorKind::NonzeroReserved,
     })
 }
 
 /// The error of the sample archive, without its container, as one of the other width.
-fn other_width_error(width: Width) -> Option<Error> {
+fn other_width_error(width: Width) -> Option<ErrorKind> {
     let other = WIDTHS.into_iter().find(|other| *other != width).unwrap();
-    Map::<str, u64>::open(str::sample::<u64>(5, width).as_bytes(), other).err()
+    Map::<str, u64>::open(str::sample::<u64>(5, width).as_bytes(), other)
+        .err()
+        .map(|error| error.kind())
 }
 
 #[test]
@@ -212,7 +232,9 @@ fn damaged_headers_fail_byte_by_byte() {
                 let kept = bytes[index];
                 for byte in (0..=255).filter(|byte| *byte != kept) {
                     bytes[index] = byte;
-                    let error = Map::<str, u64>::open_container(&bytes).err();
+                    let error = Map::<str, u64>::open_container(&bytes)
+                        .err()
+                        .map(|error| error.kind());
                     let wanted = header_error(index, byte, checksum, width);
                     assert_eq!(error, wanted, "byte {index} is {byte}");
                     assert!(error.is_some(), "byte {index} is {byte}");
@@ -230,14 +252,14 @@ fn other_lengths_fail() {
         let length = bytes.len();
         for cut in 0..length {
             let wanted = if cut < 32 {
-                Error::ContainerTooShort
+                ErrorKind::ContainerTooShort
             } else {
-                Error::WrongLength
+                ErrorKind::WrongLength
             };
             assert_eq!(errors(&bytes[..cut])[number], Some(wanted), "{cut} bytes");
         }
         bytes.push(0);
-        assert_eq!(errors(&bytes)[number], Some(Error::WrongLength));
+        assert_eq!(errors(&bytes)[number], Some(ErrorKind::WrongLength));
     }
 }
 
@@ -247,13 +269,13 @@ fn archives_are_no_containers() {
         let archive = str::sample::<u64>(3, width);
         assert_eq!(
             errors(archive.as_bytes()),
-            [Some(Error::WrongMagic); 4],
+            [Some(ErrorKind::WrongMagic); 4],
             "{width:?}"
         );
         let container = archive.to_container(Checksum::None);
         assert!(Map::<str, u64>::open(&container[32..], width).is_ok());
     }
-    assert_eq!(errors(&[]), [Some(Error::ContainerTooShort); 4]);
+    assert_eq!(errors(&[]), [Some(ErrorKind::ContainerTooShort); 4]);
 }
 
 #[test]
@@ -266,7 +288,7 @@ fn checksums_detect_each_byte() {
             for bit in 0..8 {
                 bytes[index] ^= 1 << bit;
                 let error = errors(&bytes)[number];
-                assert_eq!(error, Some(Error::WrongChecksum), "byte {index}");
+                assert_eq!(error, Some(ErrorKind::WrongChecksum), "byte {index}");
                 bytes[index] ^= 1 << bit;
             }
         }
@@ -283,7 +305,9 @@ fn damaged_archives_fail_as_without_a_container() {
         for index in 32..bytes.len() {
             for other in [0, 1, 0x7f, 0x80, 0xff] {
                 let kept = std::mem::replace(&mut bytes[index], other);
-                let wanted = Map::<str, u64>::open(&bytes[32..], width).err();
+                let wanted = Map::<str, u64>::open(&bytes[32..], width)
+                    .err()
+                    .map(|error| error.kind());
                 assert_eq!(error_as::<str, u64>(&bytes), wanted, "byte {index}");
                 damaged += usize::from(wanted.is_some());
                 bytes[index] = kept;
@@ -300,7 +324,7 @@ fn updates_write_the_checksum() {
         let mut map = MapMut::<u32, u64>::open_container(&mut bytes).unwrap();
         assert!(map.set(&5, 500));
         let error = error_as::<u32, u64>(&bytes);
-        assert_eq!(error, Some(Error::WrongChecksum));
+        assert_eq!(error, Some(ErrorKind::WrongChecksum));
         assert_eq!(update_container(&mut bytes), Ok(()));
         let sum = adler32(&bytes[32..]).to_le_bytes();
         assert_eq!(bytes[24..28], sum);
@@ -321,50 +345,80 @@ fn updates_fail_for_no_container() {
         let mut bytes = container.clone();
         change(&mut bytes);
         let kept = bytes.clone();
-        let error = update_container(&mut bytes).err();
+        let error = update_container(&mut bytes).err().map(|error| error.kind());
         assert_eq!(bytes, kept);
         error
     };
-    assert_eq!(rejected(Vec::clear), Some(Error::ContainerTooShort));
-    assert_eq!(rejected(|bytes| bytes[0] = 0), Some(Error::WrongMagic));
+    assert_eq!(rejected(Vec::clear), Some(ErrorKind::ContainerTooShort));
+    assert_eq!(rejected(|bytes| bytes[0] = 0), Some(ErrorKind::WrongMagic));
     assert_eq!(
         rejected(|bytes| bytes[8] = 2),
-        Some(Error::UnsupportedVersion)
+        Some(ErrorKind::UnsupportedVersion)
     );
     assert_eq!(
         rejected(|bytes| bytes[31] = 1),
-        Some(Error::NonzeroReserved)
+        Some(ErrorKind::NonzeroReserved)
     );
-    assert_eq!(rejected(|bytes| bytes.push(0)), Some(Error::WrongLength));
+    assert_eq!(
+        rejected(|bytes| bytes.push(0)),
+        Some(ErrorKind::WrongLength)
+    );
     assert_eq!(
         rejected(|bytes| bytes.truncate(40)),
-        Some(Error::WrongLength)
+        Some(ErrorKind::WrongLength)
     );
 }
 
 #[test]
 fn errors_have_texts() {
     let errors = [
-        Error::ContainerTooShort,
-        Error::WrongMagic,
-        Error::UnsupportedVersion,
-        Error::UnknownCollection,
-        Error::UnknownKeyType,
-        Error::UnknownValueType,
-        Error::UnknownWidth,
-        Error::UnknownFlags,
-        Error::UnexpectedChecksum,
-        Error::NonzeroReserved,
-        Error::WrongCollection,
-        Error::WrongKeyType,
-        Error::WrongValueType,
-        Error::WrongWidth,
-        Error::WrongLength,
-        Error::WrongChecksum,
+        ErrorKind::ContainerTooShort,
+        ErrorKind::WrongMagic,
+        ErrorKind::UnsupportedVersion,
+        ErrorKind::UnknownCollection,
+        ErrorKind::UnknownKeyType,
+        ErrorKind::UnknownValueType,
+        ErrorKind::UnknownWidth,
+        ErrorKind::UnknownFlags,
+        ErrorKind::UnexpectedChecksum,
+        ErrorKind::NonzeroReserved,
+        ErrorKind::WrongCollection,
+        ErrorKind::WrongKeyType,
+        ErrorKind::WrongValueType,
+        ErrorKind::WrongWidth,
+        ErrorKind::WrongLength,
+        ErrorKind::WrongChecksum,
     ];
-    let mut texts: Vec<_> = errors.iter().map(Error::to_string).collect();
+    let mut texts: Vec<_> = errors.iter().map(ErrorKind::to_string).collect();
     texts.sort();
     texts.dedup();
     assert_eq!(texts.len(), errors.len());
     assert!(texts.iter().all(|text| text.len() > 10));
+}
+
+#[test]
+fn errors_of_containers_have_numbers() {
+    let archive = Builder::<u32, u32>::from([(1, 2)])
+        .build(Width::Narrow)
+        .unwrap();
+    let container = archive.to_container(Checksum::None);
+    let ends_with = |error: Error, end: &str| {
+        let text = error.to_string();
+        assert!(text.ends_with(end), "{text}");
+        assert_eq!(error.position(), None);
+    };
+    let types = Map::<u32, u64>::open_container(&container).unwrap_err();
+    ends_with(types, " (expected 24, found 20)");
+    let width = Map::<u32, u32>::open_container_with_width(&container, Width::Wide);
+    ends_with(width.unwrap_err(), " (expected 8, found 4)");
+    let cut = Map::<u32, u32>::open_container(&container[..31]).unwrap_err();
+    ends_with(cut, " (31 bytes)");
+    let mut damaged = container.clone();
+    damaged[8] = 2;
+    let version = Map::<u32, u32>::open_container(&damaged).unwrap_err();
+    ends_with(version, " (2)");
+    let mut longer = container.clone();
+    longer.push(0);
+    let length = MapMut::<u32, u32>::open_container(&mut longer).unwrap_err();
+    ends_with(length, " (expected 60, found 61)");
 }

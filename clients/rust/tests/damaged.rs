@@ -2,7 +2,7 @@
 
 use std::borrow::Borrow;
 
-use rkyv_maps::{Builder, Error, Key, Map, MapMut, Value, Width};
+use rkyv_maps::{Builder, ErrorKind, Key, Map, MapMut, Value, Width};
 
 const WIDTHS: [Width; 2] = [Width::Narrow, Width::Wide];
 
@@ -132,8 +132,10 @@ fn keys_in_buckets_fail() {
     assert_eq!(bytes[bucket], 0x91);
     for (begin, distance) in (-(bucket as i32)..40).enumerate() {
         bytes[bucket + 4..bucket + 8].copy_from_slice(&distance.to_le_bytes());
-        let error = Map::<str, u64>::open(&bytes, Width::Narrow).err();
-        let wanted = (begin + 17 > 24).then_some(Error::OutOfRange);
+        let error = Map::<str, u64>::open(&bytes, Width::Narrow)
+            .err()
+            .map(|error| error.kind());
+        let wanted = (begin + 17 > 24).then_some(ErrorKind::OutOfRange);
         assert_eq!(error, wanted, "at {begin}");
     }
 }

@@ -5,7 +5,9 @@ use std::collections::HashMap;
 use std::iter::FusedIterator;
 use std::panic::{catch_unwind, RefUnwindSafe, UnwindSafe};
 
-use rkyv_maps::{Archive, Builder, Error, Iter, Key, Keys, Map, MapMut, Value, Values, Width};
+use rkyv_maps::{
+    Archive, Builder, Error, ErrorKind, Iter, Key, Keys, Map, MapMut, Value, Values, Width,
+};
 
 /// The narrow archive of the map of 1 to 2.
 fn one_to_two() -> Vec<u8> {
@@ -111,41 +113,78 @@ fn invalid_bytes_fail() {
     let damaged = |index: usize, byte| {
         let mut bytes = one_to_two();
         bytes[index] = byte;
-        Map::<u32, u32>::open(&bytes, Width::Narrow).err()
+        Map::<u32, u32>::open(&bytes, Width::Narrow)
+            .err()
+            .map(|error| error.kind())
     };
     assert_eq!(
-        Map::<u32, u32>::open(&[], Width::Narrow).err(),
-        Some(Error::OutOfRange)
+        Map::<u32, u32>::open(&[], Width::Narrow)
+            .err()
+            .map(|error| error.kind()),
+        Some(ErrorKind::OutOfRange)
     );
     assert_eq!(
-        Map::<u32, u32>::open(&bytes, Width::Wide).err(),
-        Some(Error::Unaligned)
+        Map::<u32, u32>::open(&bytes, Width::Wide)
+            .err()
+            .map(|error| error.kind()),
+        Some(ErrorKind::Unaligned)
     );
-    assert_eq!(damaged(48, 0), Some(Error::OutOfRange));
-    assert_eq!(damaged(52, 2), Some(Error::InvalidLength));
-    assert_eq!(damaged(17, 0xff), Some(Error::WrongNumberOfElements));
-    assert_eq!(damaged(19, 0xff), Some(Error::UnwrappedControlByte));
+    assert_eq!(damaged(48, 0), Some(ErrorKind::OutOfRange));
+    assert_eq!(damaged(52, 2), Some(ErrorKind::InvalidLength));
+    assert_eq!(damaged(17, 0xff), Some(ErrorKind::WrongNumberOfElements));
+    assert_eq!(damaged(19, 0xff), Some(ErrorKind::UnwrappedControlByte));
     let mut bytes = empty_to_seven();
     bytes[0] = 0xc3;
-    let error = MapMut::<str, u64>::open(&mut bytes, Width::Wide).err();
-    assert_eq!(error, Some(Error::InvalidValue));
+    let error = MapMut::<str, u64>::open(&mut bytes, Width::Wide)
+        .err()
+        .map(|error| error.kind());
+    assert_eq!(error, Some(ErrorKind::InvalidValue));
+}
+
+#[test]
+fn errors_have_a_position_and_numbers() {
+    let error_of = |index: usize, byte| {
+        let mut bytes = one_to_two();
+        bytes[index] = byte;
+        Map::<u32, u32>::open(&bytes, Width::Narrow).unwrap_err()
+    };
+    let empty = Map::<u32, u32>::open(&[], Width::Narrow).unwrap_err();
+    assert_eq!(empty.position(), Some(-12));
+    assert!(empty.to_string().ends_with(" (position -12, 12 bytes)"));
+    let unaligned = error_of(48, 0xe1);
+    assert_eq!(unaligned.position(), Some(1));
+    assert!(unaligned
+        .to_string()
+        .ends_with(" (position 1, alignment 4)"));
+    let length = error_of(52, 2);
+    assert_eq!(length.position(), None);
+    assert!(length.to_string().ends_with(" (2 pairs, 2 buckets)"));
+    let number = error_of(17, 0xff).to_string();
+    assert!(number.ends_with(" (1 pairs, 0 full buckets)"));
+    let control = error_of(19, 0xff).to_string();
+    assert!(control.ends_with(" (index 3)"));
+    let mut bytes = empty_to_seven();
+    bytes[0] = 0xc3;
+    let text = MapMut::<str, u64>::open(&mut bytes, Width::Wide).unwrap_err();
+    assert_eq!(text.position(), Some(0));
+    assert!(text.to_string().ends_with(" (position 0)"));
 }
 
 #[test]
 fn errors_display_sentences() {
     let errors = [
-        Error::OutOfRange,
-        Error::Unaligned,
-        Error::InvalidLength,
-        Error::WrongNumberOfElements,
-        Error::UnwrappedControlByte,
-        Error::InvalidValue,
-        Error::NoMemory,
-        Error::CapacityTooLarge,
-        Error::PositionTooLarge,
-        Error::DistanceTooLarge,
-        Error::TextTooLong,
-        Error::Status(99),
+        ErrorKind::OutOfRange,
+        ErrorKind::Unaligned,
+        ErrorKind::InvalidLength,
+        ErrorKind::WrongNumberOfElements,
+        ErrorKind::UnwrappedControlByte,
+        ErrorKind::InvalidValue,
+        ErrorKind::NoMemory,
+        ErrorKind::CapacityTooLarge,
+        ErrorKind::PositionTooLarge,
+        ErrorKind::DistanceTooLarge,
+        ErrorKind::TextTooLong,
+        ErrorKind::Status(99),
     ];
     for error in errors {
         let text = error.to_string();
@@ -154,7 +193,7 @@ fn errors_display_sentences() {
             "{text}"
         );
     }
-    let boxed: Box<dyn std::error::Error + Send + Sync> = Error::Unaligned.into();
+    let boxed: Box<dyn std::error::Error + Send + Sync> = Error::from(ErrorKind::Unaligned).into();
     assert_eq!(
         boxed.to_string(),
         "the map or a part of it is not at a multiple of its alignment"
