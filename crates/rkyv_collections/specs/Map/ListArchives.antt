@@ -71,6 +71,10 @@ IsTextMap e b pairs = IsListArchive 4_294_967_295 w32 (text_spec w32) (scalar_sp
     (IsTextOf w32 (λ text. text.now)) (ScalarRepresents e)
     (hash_at (fx_hasher low_halves) (text_key_calls w32)) b pairs
 
+-- the same, and the load factor is `factor`
+abbrev pub IsTextMapUnder : {N : Type 0} → Encoding N → ℕ × ℕ → List ℕ → TextPairs N → Type 0
+IsTextMapUnder e factor b pairs = (is : IsTextMap e b pairs) × (is.load_factor ≡ factor)
+
 -- the format of the pairs under a load factor
 abbrev pub text_map_format : {N : Type 0} → Encoding N → ℕ × ℕ → Format (TextPairs N) TableResolver
 text_map_format e factor = listed 4_294_967_295 factor
@@ -83,11 +87,13 @@ abbrev pub TextMapFails : {F N : Type 0} → Encoding N → TextPairs N → Writ
 TextMapFails e pairs why =
     ArchiveRefused 4_294_967_295 (text_map_spec e) (text_map_format e (7, 8)) pairs why
 
--- the result of archiving the pairs: the bytes of such an archive, or an error
+-- the result of archiving the pairs: the bytes of such an archive under the load factor 7 / 8,
+-- or an error
 abbrev pub TextMapResult : {F N Z : Type 0} → Encoding N → TextPairs N
     → Result (Vec ℕ Z) (WriteError F) → Type 0
 TextMapResult e pairs result =
-    MatchResult result (λ archive. IsTextMap e archive.items pairs) (TextMapFails e pairs)
+    MatchResult result (λ archive. IsTextMapUnder e (7, 8) archive.items pairs)
+    (TextMapFails e pairs)
 
 -- The bytes are opened if and only if they are a narrow archive whose root is a map of texts
 -- to scalars. The error is the first fault of the bytes
