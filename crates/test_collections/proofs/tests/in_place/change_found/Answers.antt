@@ -7,4 +7,4 @@ pub found_with-requires-clause-map : goal.found_with-requires-clause-map
 found_with-requires-clause-map g c =
     let s = map_spec g.W.Word.word g.K.HasSpec.spec g.N.HasSpec.spec in
     let at = c.in_ok-access_in.ensures.root.1 in
-    subst (Viewable s c.args.bytes.now) (sym c.pos-root.ensures) (subst (λ b. Viewable s b c.in_ok-access_in.access_in.pos) (ap (λ a. a.now) at.0) c.in_ok-access_in.ensures.viewable)
+    subst (Viewable s c.args.bytes.now) (sym c.pos-root.ensures) (subst (λ b. Viewable s b c.in_ok-access_in.field-0.pos) (ap (λ a. a.now) at.0) c.in_ok-access_in.ensures.viewable)

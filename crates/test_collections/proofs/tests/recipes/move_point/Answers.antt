@@ -13,4 +13,4 @@ found_with-found-requires-clause-map c =
     let number = scalar_spec (signed w32) in
     let s = map_spec w32 (text_spec w32) (entry_spec number number) in
     let at = c.in_ok-access.ensures.root.1 in
-    subst (Viewable s c.args.archive.now) (sym c.pos-root.ensures) (subst (λ b. Viewable s b c.in_ok-access.access.pos) (ap (λ a. a.now) at.0) c.in_ok-access.ensures.viewable)
+    subst (Viewable s c.args.archive.now) (sym c.pos-root.ensures) (subst (λ b. Viewable s b c.in_ok-access.field-0.pos) (ap (λ a. a.now) at.0) c.in_ok-access.ensures.viewable)

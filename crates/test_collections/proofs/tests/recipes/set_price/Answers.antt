@@ -11,4 +11,4 @@ pub set_value_of-requires-clause-map : goal.set_value_of-requires-clause-map
 set_value_of-requires-clause-map c =
     let s = map_spec w32 (text_spec w32) (scalar_spec (unsigned w32)) in
     let at = c.in_ok-access.ensures.root.1 in
-    subst (Viewable s c.args.archive.now) (sym c.pos-root.ensures) (subst (λ b. Viewable s b c.in_ok-access.access.pos) (ap (λ a. a.now) at.0) c.in_ok-access.ensures.viewable)
+    subst (Viewable s c.args.archive.now) (sym c.pos-root.ensures) (subst (λ b. Viewable s b c.in_ok-access.field-0.pos) (ap (λ a. a.now) at.0) c.in_ok-access.ensures.viewable)

@@ -9,4 +9,4 @@ pub make_ascii_uppercase_of-requires-clause-map : goal.make_ascii_uppercase_of-r
 make_ascii_uppercase_of-requires-clause-map c =
     let s = map_spec w32 (text_spec w32) (text_spec w32) in
     let root = c.in_ok-access.ensures.root.1 in
-    subst (Viewable s c.args.bytes.now) (sym c.pos-root.ensures) (subst (λ b. Viewable s b c.in_ok-access.access.pos) (ap (λ a. a.now) root.0) c.in_ok-access.ensures.viewable)
+    subst (Viewable s c.args.bytes.now) (sym c.pos-root.ensures) (subst (λ b. Viewable s b c.in_ok-access.field-0.pos) (ap (λ a. a.now) root.0) c.in_ok-access.ensures.viewable)
