@@ -20,8 +20,8 @@ use rkyv_base::lend::Lend;
 use rkyv_base::width::{Narrow, Width};
 use rkyv_base::writer::Writer;
 use rkyv_keys::keys::{KeyElement, NativeKey};
-use rkyv_scan::Group;
 use rkyv_scan::hash::KeyHasher;
+use rkyv_scan::simd::lanes;
 use rkyv_table::table::ArchivedHashTable;
 use rkyv_table::table::resolve::HashTableResolver;
 use std::alloc::Global;
@@ -97,7 +97,7 @@ impl<'a, K: KeyElement, V: HasSpec, H: KeyHasher, W: Width> ArchivedHashMap<'a, 
     {
         let entries = HashedEntries::new(iter);
         ArchivedHashTable::<Entry<K, V>, W>::serialize_by::<
-            Group,
+            lanes::Group,
             S,
             EntryAdapter<BK, BV, A, B>,
             EntryAdapter<BK, BV, A, B>,

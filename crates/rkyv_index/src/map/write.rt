@@ -22,7 +22,7 @@ use crate::map::write::row::{serialize_row, write_row};
 use crate::width::PlaceWidth;
 use rkyv_base::archive::{Serialize, WriteResult};
 use rkyv_base::writer::{Writer, align_for_in};
-use rkyv_scan::Group;
+use rkyv_scan::simd::lanes;
 use rkyv_table::table::ArchivedHashTable;
 use rkyv_table::table::resolve::HashTableResolver;
 use std::alloc::Global;
@@ -43,7 +43,7 @@ fn write_places<W: PlaceWidth, H, S: Writer, U: HashedEntry<H>>(
 {
     let places = HashedPlaces::<'_, U, H, W>::new(entries);
     ArchivedHashTable::<W::Place, W>::serialize_by::<
-        Group,
+        lanes::Group,
         S,
         W::Place,
         W::Place,

@@ -25,7 +25,7 @@ use rkyv_base::errors::{IteratorLengthMismatch, WriteError};
 use rkyv_base::lend::Lend;
 use rkyv_base::width::Width;
 use rkyv_base::writer::Writer;
-use rkyv_scan::simd::{GroupKind, generic};
+use rkyv_scan::simd::{GroupKind, lanes};
 use std::alloc::{AllocError, Global};
 use std::marker::PhantomData;
 
@@ -229,7 +229,7 @@ impl<'a, T: HasSpec, W: Width> ArchivedHashTable<'a, T, W> {
             (S.output serializer.old) (S.output serializer.new) result }
     {
         let given = ItemsAndHashes { items, hashes };
-        serialize_source::<W, generic::Group, S, U, X, ItemsAndHashes<I, J>>(
+        serialize_source::<W, lanes::Group, S, U, X, ItemsAndHashes<I, J>>(
             alloc,
             given,
             len,
