@@ -2,6 +2,7 @@
 ghost use Rattle.std.specs.Prelude.{◌%◌, ◌*◌, ◌+◌, ◌-◌, ◌/◌, ◌<◌, ◌^◌, ◌≡◌, ◌≤◌};
 
 /// A divisor and its reciprocal, which takes remainders without a division.
+#[repr(C)]
 #[derive(Clone, Copy)]
 pub struct Reciprocal {
     divisor: u64,

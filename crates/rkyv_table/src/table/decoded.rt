@@ -8,7 +8,9 @@ use crate::controls::reciprocal::Reciprocal;
 
 /// The decoded header of a table, with the reciprocal of its capacity.
 ///
-/// A table, map or set decodes its header once. Its lookups then take no division.
+/// A table, map or set decodes its header once. Its lookups then take no division. A caller in C
+/// can keep it between calls.
+#[repr(C)]
 #[derive(Clone, Copy)]
 pub struct Decoded {
     // The position of the first control byte; without meaning if there are no buckets.
@@ -36,5 +38,13 @@ impl Decoded {
         ensures { result ≡ self.cap }
     {
         self.cap
+    }
+
+    /// Returns the position of the first control byte. It has no meaning if there are no buckets.
+    #[inline]
+    pub fn controls_pos(self) -> usize
+        ensures { result ≡ self.controls_pos }
+    {
+        self.controls_pos
     }
 }

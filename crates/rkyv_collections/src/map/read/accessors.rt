@@ -3,8 +3,9 @@
 //! `of` decodes the header once. The map is a copy of the view and the numbers, so it can be passed
 //! by value.
 ghost use Rattle.std.specs.Prelude.{IsTrue, ◌↔◌, ◌≡◌};
-ghost use Rattle.rkyv_base.specs.View.{IsAt, IsValidView};
-ghost use Rattle.rkyv_collections.specs.Map.{map_archive, map_cap, map_len, map_pos};
+ghost use Rattle.rkyv_base.specs.View.{IsAt, IsValidView, bytes_of, pos_of};
+ghost use Rattle.rkyv_table.specs.Table.Decoded.{IsDecoded};
+ghost use Rattle.rkyv_collections.specs.Map.{map_archive, map_bytes, map_cap, map_len, map_pos};
 ghost use Rattle.rkyv_collections.specs.Map.MapSpec.{map_spec};
 
 use crate::map::{ArchivedHashMap, HashMapOf};
@@ -12,6 +13,7 @@ use rkyv_base::element::Element;
 use rkyv_base::entry::Entry;
 use rkyv_base::view::View;
 use rkyv_base::width::Width;
+use rkyv_table::table::decoded::Decoded;
 use rkyv_table::table::{ArchivedHashTable, TableOf};
 
 impl<'a, K: Element, V: Element, H, W: Width> ArchivedHashMap<'a, K, V, H, W> {
@@ -49,6 +51,32 @@ impl<'a, K: Element, V: Element, H, W: Width> ArchivedHashMap<'a, K, V, H, W> {
             view,
             header: table.header(),
         }
+    }
+
+    /// Returns the map at a view of its header, which was decoded before.
+    ///
+    /// # Requires
+    ///
+    /// - The view is of a valid map.
+    /// - `header` is what the view's header says.
+    #[inline]
+    pub fn with_header(
+        view: View<'a, HashMapOf<K, V, H, W>>,
+        header: Decoded,
+    ) -> ArchivedHashMap<'a, K, V, H, W>
+        requires view { IsValidView (map_spec W.word K.spec V.spec) view }
+        requires header { IsDecoded W.word (bytes_of view) (pos_of view) header }
+        ensures view { result.view ≡ view.entry }
+    {
+        ArchivedHashMap { view, header }
+    }
+
+    /// Returns its decoded header, for `with_header`.
+    #[inline]
+    pub fn header(self) -> Decoded
+        ensures { IsDecoded W.word (map_bytes self.entry) (map_pos self.entry) result }
+    {
+        self.header
     }
 
     /// Returns the table of the entries.
