@@ -4,3 +4,4 @@ pub mod Collected
 pub mod First
 pub mod Next
 pub mod Statuses
+pub mod Together

@@ -10,10 +10,13 @@ use Rattle.rkyv_base.specs.Entry.{entry_spec}
 use Rattle.rkyv_base.specs.Scalar.{Encoding}
 use Rattle.rkyv_base.specs.Sealing.{value_pos, with_value}
 use Rattle.rkyv_base.specs.ElementSpec.{ElementSpec, ValidAt, Viewable}
+use Rattle.rkyv_table.specs.Lemmas.SameHeader.{cap_same, len_same, pos_same}
+use Rattle.rkyv_table.specs.Table.Decoded.{IsDecoded}
 use Rattle.rkyv_table.specs.Table.Positions.{pos_found}
+use Rattle.rkyv_table.specs.declared.table.decoded.Decoded.{Decoded}
 use Rattle.rkyv_collections.specs.Map.InPlace.{SetsFound}
 use Rattle.rkyv_collections.specs.Map.MapSpec.{map_spec}
-use Rattle.ffi_calls.specs.Archives.{hash_by, map_in, root, value_found}
+use Rattle.ffi_calls.specs.Archives.{KeepsHeader, hash_by, map_in, root, value_found}
 
 module _ {N : Type 0} (w : Width) (k v : ElementSpec) (e : Encoding N) (key_hash : List ℕ → ℕ → ℕ) (b : List ℕ) (p : ℕ) (value : N) (result : Bool) (c : List ℕ) where
   -- the result of an overwrite, by its status
@@ -26,6 +29,19 @@ module _ {N : Type 0} (w : Width) (k v : ElementSpec) (e : Encoding N) (key_hash
   represents_after_set : (place : Option ℕ) → SetsFound w k v e key_hash b p value result c place → Viewable (map_spec w k v) b p → Viewable (map_spec w k v) c p
   represents_after_set None h there = subst (λ x. Viewable (map_spec w k v) x p) (sym h.1) there
   represents_after_set (Some q) h there = h.2.1.valid
+
+  -- the decoded header of the map is that of the map after the overwrite
+  header_after_set : (place : Option ℕ) → SetsFound w k v e key_hash b p value result c place → (header : Decoded) → IsDecoded w b p header → IsDecoded w c p header
+  header_after_set None h header is = subst (λ x. IsDecoded w x p header) (sym h.1) is
+  header_after_set (Some q) h header is =
+      let same = h.2.1.table.header in
+      record {
+        len = is.len ∙ len_same w b c p same;
+        cap = is.cap ∙ cap_same w b c p same;
+        small = is.small;
+        controls_pos = λ some. is.controls_pos some ∙ pos_same w b c p same;
+        divisor = is.divisor;
+      }
 
 -- bytes of the same length with a valid root are a valid archive
 accepted_again : (limit : ℕ) (s : ElementSpec) (b c : List ℕ) (p : ℕ) → Accepted limit s b → p ≡ length b - s.size → length c ≡ length b → Viewable s c p → Accepted limit s c
@@ -48,6 +64,12 @@ module _ {N : Type 0} (w : Width) (k v : ElementSpec) (e : Encoding N) (key_hash
   -- the archive is valid after the overwrite
   pub set_kept : (limit : ℕ) → Accepted limit (map_spec w k v) b → Viewable (map_spec w k v) b p → length c ≡ length b → Accepted limit (map_spec w k v) c
   set_kept limit accepted viewable same = accepted_again limit (map_spec w k v) b c p accepted at same (represents_after_set w k v e key_hash b p value result c (place_at p) set viewable)
+
+  -- the decoded header stays that of the map
+  pub set_keeps_header : length c ≡ length b → KeepsHeader (map_in w k v b) (map_in w k v c)
+  set_keeps_header same header is =
+      let here = subst (λ q. IsDecoded w b q header) (sym at) is in
+      subst (λ q. IsDecoded w c q header) (at ∙ ap (λ n. n - (map_spec w k v).size) (sym same)) (header_after_set w k v e key_hash b p value result c (place_at p) set header here)
 
   -- the status of the overwrite, by the position that the lookup finds
   pub set_told : (status : ℕ) → (result ≡ true → status ≡ 0) → (result ≡ false → status ≡ 1)

@@ -17,7 +17,9 @@ use Rattle.rkyv_base.specs.Text.{text_spec}
 use Rattle.rkyv_base.specs.declared.errors.VerifyError.{VerifyError}
 use Rattle.rkyv_collections.specs.Map.MapAt.{MapAt}
 use Rattle.rkyv_collections.specs.Map.MapSpec.{map_spec}
+use Rattle.rkyv_table.specs.Table.Decoded.{IsDecoded}
 use Rattle.rkyv_table.specs.Table.Positions.{pos_found}
+use Rattle.rkyv_table.specs.declared.table.decoded.Decoded.{Decoded}
 use Rattle.ffi_calls.specs.Status.{refusal}
 use Rattle.ffi_calls.specs.declared.form.Form.{Form}
 
@@ -110,6 +112,14 @@ numbers_in form = map_in (word_of form.wide) number_key (value_spec form)
 -- the map of texts, in the form, at the root of an archive
 abbrev pub texts_in : Form → List ℕ → MapAt
 texts_in form = map_in (word_of form.wide) (text_key form) (value_spec form)
+
+-- the decoded header of the map
+abbrev pub IsHeaderOf : MapAt → Decoded → Type 0
+IsHeaderOf m header = IsDecoded m.word m.bytes m.pos header
+
+-- each decoded header of the map `m` is one of the map `n`
+abbrev pub KeepsHeader : MapAt → MapAt → Type 0
+KeepsHeader m n = (header : Decoded) → IsHeaderOf m header → IsHeaderOf n header
 
 -- the position of the value that a lookup finds.
 -- `calls`: hasher calls of the key, `fits`: test of the key at a position

@@ -6,19 +6,13 @@ use Rattle.rkyv_base.specs.Bytes.{number_at}
 use Rattle.rkyv_base.specs.Text.{text_at}
 use Rattle.rkyv_keys.specs.Calls.{text_calls}
 use Rattle.rkyv_keys.specs.OfTexts.{same_bytes}
-use Rattle.rkyv_table.specs.Table.Header.{len_at}
-use Rattle.rkyv_collections.specs.Map.MapAt.{MapAt}
 use Rattle.ffi_calls.specs.Archives.{Gives, Sets, numbers_in, texts_in, value_encoding}
 use Rattle.ffi_calls.specs.Archives.{value_found, word_of}
 use Rattle.ffi_calls.specs.Listed.{number_calls}
-use Rattle.ffi_calls.specs.Walking.{NextNumber, NextText}
+use Rattle.ffi_calls.specs.Walking.{NextNumber, NextNumbers, NextText, NextTexts}
 use Rattle.ffi_calls.specs.declared.form.Form.{Form}
 use Rattle.ffi_calls.specs.declared.numbers.NumberPair.{NumberPair}
 use Rattle.ffi_calls.specs.declared.texts.TextPair.{TextPair}
-
--- `count` is the number of pairs of the map
-abbrev pub Counts : MapAt → ℕ → Type 0
-Counts m count = count ≡ len_at m.word m.bytes m.pos
 
 -- the position of the value that a lookup of the number `key` finds
 abbrev pub number_found : Form → List ℕ → ℕ → Option ℕ
@@ -57,6 +51,14 @@ SetsText form b key value status c =
 abbrev pub StepsNumbers : Form → List ℕ → NumberPair → ℕ → NumberPair → Type 0
 StepsNumbers form b = NextNumber (numbers_in form b) (value_encoding form)
 
+-- the result of steps to the next pairs of a map of numbers
+abbrev pub StepsAllNumbers : Form → List ℕ → ℕ → List NumberPair → ℕ → List NumberPair → Type 0
+StepsAllNumbers form b = NextNumbers (numbers_in form b) (value_encoding form)
+
 -- the result of a step to the next pair of a map of texts
 abbrev pub StepsTexts : Form → List ℕ → TextPair → ℕ → TextPair → Type 0
 StepsTexts form b = NextText (texts_in form b) (value_encoding form)
+
+-- the result of steps to the next pairs of a map of texts
+abbrev pub StepsAllTexts : Form → List ℕ → ℕ → List TextPair → ℕ → List TextPair → Type 0
+StepsAllTexts form b = NextTexts (texts_in form b) (value_encoding form)

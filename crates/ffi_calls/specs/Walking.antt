@@ -1,5 +1,6 @@
 -- Walks over the pairs of a map, from a bucket on.
-use Rattle.std.specs.Prelude.{◌≡◌, ℕ, ◌+◌, ◌⊎◌, List, [], ◌∷◌, MatchOption, Option}
+use Rattle.std.specs.Prelude.{◌≡◌, ℕ, ◌+◌, ◌⊎◌, List, [], ◌∷◌, MatchOption, Option, drop, length}
+use Rattle.std.specs.Prelude.{take}
 use Rattle.std.specs.Int.{w32}
 use Rattle.rkyv_base.specs.Bytes.{number_at}
 use Rattle.rkyv_base.specs.Entry.{entry_spec}
@@ -37,19 +38,50 @@ Steps buckets next IsTold before status after =
     ⊎ ((bucket : ℕ) × (buckets (next before) ≡ bucket ∷ buckets (bucket + 1)) × (status ≡ 0)
     × (next after ≡ bucket + 1) × IsTold bucket after)
 
+-- each pair is that of the bucket at its index, and its `next` is behind the bucket
+abbrev pub ArePairsIn : {P : Type 0} → (P → ℕ) → (ℕ → P → Type 0) → List ℕ → List P → Type 0
+ArePairsIn next IsTold [] pairs = pairs ≡ []
+ArePairsIn next IsTold (bucket ∷ buckets) [] = ⊥
+ArePairsIn next IsTold (bucket ∷ buckets) (pair ∷ pairs) =
+    (next pair ≡ bucket + 1) × IsTold bucket pair × ArePairsIn next IsTold buckets pairs
+
+-- the result of steps from the bucket `from` on: `after` begins with the pairs in the first full
+-- buckets, at most as many as `before` has. Their number is `count`, and the rest is unchanged.
+abbrev pub StepsAll : {P : Type 0} → (ℕ → List ℕ) → (P → ℕ) → (ℕ → P → Type 0) → ℕ → List P → ℕ
+    → List P
+    → Type 0
+StepsAll buckets next IsTold from before count after =
+    let reached = take (length before) (buckets from) in
+    (count ≡ length reached) × ArePairsIn next IsTold reached (take count after)
+    × (drop count after ≡ drop count before)
+
 module _ {N : Type 0} (m : MapAt) (e : Encoding N) where
   -- the value of the pair in a bucket
   abbrev pub bucket_value : ℕ → ℕ
   bucket_value bucket = number_at e.word m.bytes (value_pos m.key m.value (pair_pos m bucket))
 
+  -- the pair has the number and the value in the bucket
+  abbrev pub IsNumberPair : ℕ → NumberPair → Type 0
+  IsNumberPair bucket pair =
+      (pair.key ≡ number_at w32 m.bytes (pair_pos m bucket)) × (pair.value ≡ bucket_value bucket)
+
   -- the result of a step to the next pair of a map of numbers
   abbrev pub NextNumber : NumberPair → ℕ → NumberPair → Type 0
-  NextNumber = Steps (buckets_from m) (λ (pair : NumberPair). pair.next)
-      (λ bucket (pair : NumberPair). (pair.key ≡ number_at w32 m.bytes (pair_pos m bucket))
-      × (pair.value ≡ bucket_value bucket))
+  NextNumber = Steps (buckets_from m) (λ (pair : NumberPair). pair.next) IsNumberPair
+
+  -- the result of steps to the next pairs of a map of numbers
+  abbrev pub NextNumbers : ℕ → List NumberPair → ℕ → List NumberPair → Type 0
+  NextNumbers = StepsAll (buckets_from m) (λ (pair : NumberPair). pair.next) IsNumberPair
+
+  -- the pair has the text and the value in the bucket
+  abbrev pub IsTextPair : ℕ → TextPair → Type 0
+  IsTextPair bucket pair = (pair.key.now ≡ text_at m.word m.bytes (pair_pos m bucket))
+      × (pair.value ≡ bucket_value bucket)
 
   -- the result of a step to the next pair of a map of texts
   abbrev pub NextText : TextPair → ℕ → TextPair → Type 0
-  NextText = Steps (buckets_from m) (λ (pair : TextPair). pair.next)
-      (λ bucket (pair : TextPair). (pair.key.now ≡ text_at m.word m.bytes (pair_pos m bucket))
-      × (pair.value ≡ bucket_value bucket))
+  NextText = Steps (buckets_from m) (λ (pair : TextPair). pair.next) IsTextPair
+
+  -- the result of steps to the next pairs of a map of texts
+  abbrev pub NextTexts : ℕ → List TextPair → ℕ → List TextPair → Type 0
+  NextTexts = StepsAll (buckets_from m) (λ (pair : TextPair). pair.next) IsTextPair

@@ -1,20 +1,20 @@
-//! The archive of a map: its validation, its header, and its number of pairs.
+//! The archive of a map: its validation, and its header, which is decoded once.
 
 ghost use Rattle.std.specs.Prelude.{◌≡◌};
 ghost use Rattle.rkyv_base.specs.Access.{Accepted};
 ghost use Rattle.rkyv_base.specs.ElementSpec.{Viewable};
 ghost use Rattle.rkyv_collections.specs.Map.MapSpec.{map_spec};
-ghost use Rattle.ffi_calls.specs.Archives.{IsMapArchive, Opens, map_in, root};
-ghost use Rattle.ffi_calls.specs.Calls.{Counts};
+ghost use Rattle.rkyv_collections.specs.Map.{map_bytes, map_pos};
+ghost use Rattle.ffi_calls.specs.Archives.{IsHeaderOf, IsMapArchive, Opens, map_in, root};
 
 use crate::status::{DONE, refusal};
-use crate::value::Value;
 use rkyv_base::access::{access_in, access_unchecked};
 use rkyv_base::element::Element;
 use rkyv_base::view::View;
 use rkyv_base::width::Width;
 use rkyv_collections::FxHasher64;
 use rkyv_collections::map::{ArchivedHashMap, HashMapOf};
+use rkyv_table::table::decoded::Decoded;
 
 /// Validates the archive of a map; returns `DONE` or the status of the first error.
 pub(crate) fn open_map<K: Element, V: Element, W: Width>(archive: &[u8]) -> u32
@@ -38,12 +38,27 @@ pub(crate) fn root_of<K: Element, V: Element, W: Width>(archive: &[u8]) -> u64
     access_unchecked::<HashMapOf<K, V, FxHasher64, W>>(archive).pos()
 }
 
-/// Returns the number of pairs of the map in a valid archive.
+/// Returns the decoded header of the map in a valid archive.
 #[inline]
-pub(crate) fn pair_count<K: Element, V: Value, W: Width>(archive: &[u8]) -> usize
+pub(crate) fn header_of<K: Element, V: Element, W: Width>(archive: &[u8]) -> Decoded
     requires { IsMapArchive W.word W.LIMIT K.spec V.spec archive.now }
-    ensures { Counts (map_in W.word K.spec V.spec archive.now) result }
+    ensures { IsHeaderOf (map_in W.word K.spec V.spec archive.now) result }
 {
     let root = root_of::<K, V, W>(archive);
-    ArchivedHashMap::<K, V, FxHasher64, W>::of(View::new(archive, root)).len()
+    ArchivedHashMap::<K, V, FxHasher64, W>::of(View::new(archive, root)).header()
+}
+
+/// Returns the map in a valid archive, by its decoded header.
+#[inline]
+pub(crate) fn map_of<'a, K: Element, V: Element, W: Width>(
+    archive: &'a [u8],
+    header: &Decoded,
+) -> ArchivedHashMap<'a, K, V, FxHasher64, W>
+    requires archive { IsMapArchive W.word W.LIMIT K.spec V.spec archive.now }
+    requires header { IsHeaderOf (map_in W.word K.spec V.spec archive.now) header.now }
+    ensures bytes { map_bytes result ≡ archive.now }
+    ensures pos { map_pos result ≡ root W.word K.spec V.spec archive.now }
+{
+    let root = root_of::<K, V, W>(archive);
+    ArchivedHashMap::with_header(View::new(archive, root), *header)
 }

@@ -3,27 +3,30 @@
 ghost use Rattle.std.specs.Prelude.{IfSome, false, true, ◌≡◌};
 ghost use Rattle.rkyv_base.specs.Bytes.{number_at};
 ghost use Rattle.rkyv_base.specs.ElementSpec.{Viewable};
-ghost use Rattle.ffi_calls.specs.Archives.{Gives, IsMapArchive, Sets, map_in, value_found};
+ghost use Rattle.ffi_calls.specs.Archives.{Gives, IsHeaderOf, IsMapArchive, KeepsHeader, Sets};
+ghost use Rattle.ffi_calls.specs.Archives.{map_in, value_found};
 ghost use Rattle.ffi_calls.specs.Lists.{GivesFirst, PosOfFirst, SetsFirstOf, asked_key};
 
-use crate::archives::root_of;
+use crate::archives::{map_of, root_of};
 use crate::status::{DONE, NOT_FOUND, VALUE_TOO_LARGE};
 use crate::value::Value;
 use rkyv_base::element::Represents;
 use rkyv_base::view::{View, found_pos};
 use rkyv_base::width::Width;
-use rkyv_collections::map::ArchivedHashMap;
 use rkyv_collections::map::in_place::set_value_of;
 use rkyv_collections::map::laws::lookups_find_listed;
 use rkyv_collections::{FxHasher64, KeyElement, NativeKey};
+use rkyv_table::table::decoded::Decoded;
 
 /// Returns the position of the value that a lookup of the key finds in a valid archive.
 #[inline]
 fn value_pos_in<A: NativeKey<K>, K: KeyElement + Represents<A>, V: Value, W: Width>(
     archive: &[u8],
+    header: &Decoded,
     key: &A,
 ) -> Option<u64>
     requires archive { IsMapArchive W.word W.LIMIT K.spec V.spec archive.now }
+    requires header { IsHeaderOf (map_in W.word K.spec V.spec archive.now) header.now }
     requires query { A.can_read key.now }
     ensures viewable { IfSome result (Viewable V.spec archive.now) }
     ensures found { result ≡ value_found (map_in W.word K.spec V.spec archive.now)
@@ -32,9 +35,7 @@ fn value_pos_in<A: NativeKey<K>, K: KeyElement + Represents<A>, V: Value, W: Wid
         (asked_key K.represents K.key_calls (A.eq key.now)) V.encoding result }
 {
     lookups_find_listed::<A, V, K, V, FxHasher64, W>();
-    let root = root_of::<K, V, W>(archive);
-    let map = ArchivedHashMap::<K, V, FxHasher64, W>::of(View::new(archive, root));
-    found_pos(map.get(key))
+    found_pos(map_of::<K, V, W>(archive, header).get(key))
 }
 
 /// Returns the number at a position.
@@ -46,17 +47,19 @@ pub(crate) fn number_in<V: Value>(archive: &[u8], pos: u64) -> u64
     View::<V>::new(archive, pos).to_native().to_number()
 }
 
-/// Looks up a key in a valid archive, and stores its value in `value`.
+/// Looks up a key in a valid archive, by its decoded header, and stores its value in `value`.
 ///
 /// # Errors
 ///
 /// - `NOT_FOUND`: the lookup doesn't find the key; `value` is unchanged then.
 pub(crate) fn get_in<A: NativeKey<K>, K: KeyElement + Represents<A>, V: Value, W: Width>(
     archive: &[u8],
+    header: &Decoded,
     key: &A,
     value: &mut u64,
 ) -> u32
     requires archive { IsMapArchive W.word W.LIMIT K.spec V.spec archive.now }
+    requires header { IsHeaderOf (map_in W.word K.spec V.spec archive.now) header.now }
     requires query { A.can_read key.now }
     ensures gives { Gives V.encoding.word archive.now
         (value_found (map_in W.word K.spec V.spec archive.now) (A.calls key.now)
@@ -64,7 +67,7 @@ pub(crate) fn get_in<A: NativeKey<K>, K: KeyElement + Represents<A>, V: Value, W
     ensures listed { GivesFirst (map_in W.word K.spec V.spec archive.now)
         (asked_key K.represents K.key_calls (A.eq key.now)) V.encoding value.old result value.new }
 {
-    match value_pos_in::<A, K, V, W>(archive, key) {
+    match value_pos_in::<A, K, V, W>(archive, header, key) {
         Some(pos) => {
             *value = number_in::<V>(archive, pos);
             DONE
@@ -98,6 +101,8 @@ pub(crate) fn set_in<A: NativeKey<K>, K: KeyElement + Represents<A>, V: Value, W
     requires archive { IsMapArchive W.word W.LIMIT K.spec V.spec archive.old }
     requires query { A.can_read key.now }
     ensures kept { IsMapArchive W.word W.LIMIT K.spec V.spec archive.new }
+    ensures header { KeepsHeader (map_in W.word K.spec V.spec archive.old)
+        (map_in W.word K.spec V.spec archive.new) }
     ensures sets { Sets V.encoding archive.old
         (value_found (map_in W.word K.spec V.spec archive.old) (A.calls key.now)
         (A.fits key.now archive.old)) value result archive.new }

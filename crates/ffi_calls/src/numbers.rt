@@ -5,14 +5,15 @@
 ghost use Rattle.std.specs.Prelude.{◌≡◌};
 ghost use Rattle.std.specs.Int.{w32};
 ghost use Rattle.rkyv_base.specs.Bytes.{number_at};
-ghost use Rattle.ffi_calls.specs.Archives.{IsMapArchive, IsNumberArchive, IsPairAt, Opens};
+ghost use Rattle.ffi_calls.specs.Archives.{IsHeaderOf, IsMapArchive, IsNumberArchive, IsPairAt};
+ghost use Rattle.ffi_calls.specs.Archives.{KeepsHeader, Opens};
 ghost use Rattle.ffi_calls.specs.Archives.{limit_of, map_in, number_key, number_map, numbers_in};
-ghost use Rattle.ffi_calls.specs.Calls.{Counts, GivesNumber, SetsNumber, StepsNumbers};
+ghost use Rattle.ffi_calls.specs.Calls.{GivesNumber, SetsNumber, StepsNumbers, StepsAllNumbers};
 ghost use Rattle.ffi_calls.specs.Explanation.{Explains};
 ghost use Rattle.ffi_calls.specs.Listed.{GivesFirstNumber, SetsFirstNumber};
-ghost use Rattle.ffi_calls.specs.Walking.{NextNumber};
+ghost use Rattle.ffi_calls.specs.Walking.{NextNumber, NextNumbers};
 
-use crate::archives::{open_map, pair_count, root_of};
+use crate::archives::{header_of, open_map};
 use crate::explanation::{Explanation, explain_map};
 use crate::form::Form;
 use crate::lookup::{get_in, set_in};
@@ -22,6 +23,7 @@ use crate::walk::{next_bucket, value_in};
 use rkyv_base::entry::Entry;
 use rkyv_base::view::View;
 use rkyv_base::width::{Narrow, Wide, Width};
+use rkyv_table::table::decoded::Decoded;
 
 /// A pair of a map, and the bucket at which a walk continues.
 #[repr(C)]
@@ -64,20 +66,20 @@ pub fn explain_numbers(archive: &[u8], form: Form) -> Explanation
     }
 }
 
-/// Returns the number of pairs of the map.
+/// Returns the decoded header of the map, which the other calls take.
 ///
 /// # Requires
 ///
 /// - The archive is valid: `open_numbers` returned `DONE`.
-pub fn count_numbers(archive: &[u8], form: Form) -> usize
+pub fn decode_numbers(archive: &[u8], form: Form) -> Decoded
     requires { IsNumberArchive form archive.now }
-    ensures { Counts (numbers_in form archive.now) result }
+    ensures { IsHeaderOf (numbers_in form archive.now) result }
 {
     match (form.long_values, form.wide) {
-        (false, false) => pair_count::<u32, u32, Narrow>(archive),
-        (true, false) => pair_count::<u32, u64, Narrow>(archive),
-        (false, true) => pair_count::<u32, u32, Wide>(archive),
-        (true, true) => pair_count::<u32, u64, Wide>(archive),
+        (false, false) => header_of::<u32, u32, Narrow>(archive),
+        (true, false) => header_of::<u32, u64, Narrow>(archive),
+        (false, true) => header_of::<u32, u32, Wide>(archive),
+        (true, true) => header_of::<u32, u64, Wide>(archive),
     }
 }
 
@@ -90,20 +92,23 @@ pub fn count_numbers(archive: &[u8], form: Form) -> usize
 /// # Requires
 ///
 /// - The archive is valid: `open_numbers` returned `DONE`.
-pub fn get_number(archive: &[u8], form: Form, key: u32, value: &mut u64) -> u32
-    requires { IsNumberArchive form archive.now }
+/// - `header` is its decoded header.
+pub fn get_number(archive: &[u8], form: Form, header: &Decoded, key: u32, value: &mut u64) -> u32
+    requires archive { IsNumberArchive form archive.now }
+    requires header { IsHeaderOf (numbers_in form archive.now) header.now }
     ensures gives { GivesNumber form archive.now key value.old result value.new }
     ensures listed { GivesFirstNumber form archive.now key value.old result value.new }
 {
     match (form.long_values, form.wide) {
-        (false, false) => get_in::<u32, u32, u32, Narrow>(archive, &key, value),
-        (true, false) => get_in::<u32, u32, u64, Narrow>(archive, &key, value),
-        (false, true) => get_in::<u32, u32, u32, Wide>(archive, &key, value),
-        (true, true) => get_in::<u32, u32, u64, Wide>(archive, &key, value),
+        (false, false) => get_in::<u32, u32, u32, Narrow>(archive, header, &key, value),
+        (true, false) => get_in::<u32, u32, u64, Narrow>(archive, header, &key, value),
+        (false, true) => get_in::<u32, u32, u32, Wide>(archive, header, &key, value),
+        (true, true) => get_in::<u32, u32, u64, Wide>(archive, header, &key, value),
     }
 }
 
-/// Looks up a key, and overwrites its value in place. The archive stays valid.
+/// Looks up a key, and overwrites its value in place. The archive stays valid, and its header as it
+/// is.
 ///
 /// # Errors
 ///
@@ -118,6 +123,7 @@ pub fn get_number(archive: &[u8], form: Form, key: u32, value: &mut u64) -> u32
 pub fn set_number(archive: &mut [u8], form: Form, key: u32, value: u64) -> u32
     requires { IsNumberArchive form archive.old }
     ensures kept { IsNumberArchive form archive.new }
+    ensures header { KeepsHeader (numbers_in form archive.old) (numbers_in form archive.new) }
     ensures sets { SetsNumber form archive.old key value result archive.new }
     ensures listed { SetsFirstNumber form archive.old key value result archive.new }
 {
@@ -139,13 +145,13 @@ fn key_in<V: Value>(archive: &[u8], pos: u64) -> u32
 }
 
 /// Stores the next pair of the map at the root of an archive, or returns `END`.
-fn next_in<V: Value, W: Width>(archive: &[u8], pair: &mut NumberPair) -> u32
-    requires { IsMapArchive W.word W.LIMIT number_key V.spec archive.now }
+fn next_in<V: Value, W: Width>(archive: &[u8], header: &Decoded, pair: &mut NumberPair) -> u32
+    requires archive { IsMapArchive W.word W.LIMIT number_key V.spec archive.now }
+    requires header { IsHeaderOf (map_in W.word number_key V.spec archive.now) header.now }
     ensures { NextNumber (map_in W.word number_key V.spec archive.now) V.encoding pair.old result
         pair.new }
 {
-    let root = root_of::<u32, V, W>(archive);
-    let item = match next_bucket::<u32, V, W>(archive, root, pair.next) {
+    let item = match next_bucket::<u32, V, W>(archive, header, pair.next) {
         Some(item) => item,
         None => return END,
     };
@@ -168,14 +174,70 @@ fn next_in<V: Value, W: Width>(archive: &[u8], pair: &mut NumberPair) -> u32
 /// # Requires
 ///
 /// - The archive is valid: `open_numbers` returned `DONE`.
-pub fn next_number(archive: &[u8], form: Form, pair: &mut NumberPair) -> u32
-    requires { IsNumberArchive form archive.now }
+/// - `header` is its decoded header.
+pub fn next_number(archive: &[u8], form: Form, header: &Decoded, pair: &mut NumberPair) -> u32
+    requires archive { IsNumberArchive form archive.now }
+    requires header { IsHeaderOf (numbers_in form archive.now) header.now }
     ensures { StepsNumbers form archive.now pair.old result pair.new }
 {
     match (form.long_values, form.wide) {
-        (false, false) => next_in::<u32, Narrow>(archive, pair),
-        (true, false) => next_in::<u64, Narrow>(archive, pair),
-        (false, true) => next_in::<u32, Wide>(archive, pair),
-        (true, true) => next_in::<u64, Wide>(archive, pair),
+        (false, false) => next_in::<u32, Narrow>(archive, header, pair),
+        (true, false) => next_in::<u64, Narrow>(archive, header, pair),
+        (false, true) => next_in::<u32, Wide>(archive, header, pair),
+        (true, true) => next_in::<u64, Wide>(archive, header, pair),
+    }
+}
+
+/// Stores the next pairs of the map in a valid archive, and returns their number.
+fn next_pairs_in<V: Value, W: Width>(
+    archive: &[u8],
+    header: &Decoded,
+    from: u64,
+    pairs: &mut [NumberPair],
+) -> usize
+    requires archive { IsMapArchive W.word W.LIMIT number_key V.spec archive.now }
+    requires header { IsHeaderOf (map_in W.word number_key V.spec archive.now) header.now }
+    ensures { NextNumbers (map_in W.word number_key V.spec archive.now) V.encoding from pairs.old
+        result pairs.new }
+{
+    let mut pair = NumberPair {
+        next: from,
+        value: 0,
+        key: 0,
+    };
+    for count in 0..pairs.len() {
+        if next_in::<V, W>(archive, header, &mut pair) == END {
+            return count;
+        }
+        pairs[count] = pair;
+    }
+    pairs.len()
+}
+
+/// Stores the next pairs from the bucket `from` on, in bucket order, and returns their number.
+///
+/// If fewer pairs are stored than `pairs` has room for, no pair remains. Otherwise a next call goes
+/// on at the `next` of the last pair.
+///
+/// # Requires
+///
+/// - The archive is valid: `open_numbers` returned `DONE`.
+/// - `header` is its decoded header.
+pub fn next_numbers(
+    archive: &[u8],
+    form: Form,
+    header: &Decoded,
+    from: u64,
+    pairs: &mut [NumberPair],
+) -> usize
+    requires archive { IsNumberArchive form archive.now }
+    requires header { IsHeaderOf (numbers_in form archive.now) header.now }
+    ensures { StepsAllNumbers form archive.now from pairs.old result pairs.new }
+{
+    match (form.long_values, form.wide) {
+        (false, false) => next_pairs_in::<u32, Narrow>(archive, header, from, pairs),
+        (true, false) => next_pairs_in::<u64, Narrow>(archive, header, from, pairs),
+        (false, true) => next_pairs_in::<u32, Wide>(archive, header, from, pairs),
+        (true, true) => next_pairs_in::<u64, Wide>(archive, header, from, pairs),
     }
 }

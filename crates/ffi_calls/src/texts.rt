@@ -5,15 +5,16 @@
 ghost use Rattle.std.specs.Prelude.{IsTrue, ◌↔◌, MatchOption, ◌≡◌};
 ghost use Rattle.std.specs.Str.{IsUtf8};
 ghost use Rattle.rkyv_base.specs.Text.{text_at, text_spec};
-ghost use Rattle.ffi_calls.specs.Archives.{Gives, IsMapArchive, IsPairAt, IsTextArchive};
+ghost use Rattle.ffi_calls.specs.Archives.{Gives, IsHeaderOf, IsMapArchive, IsPairAt};
+ghost use Rattle.ffi_calls.specs.Archives.{IsTextArchive, KeepsHeader};
 ghost use Rattle.ffi_calls.specs.Archives.{Opens, Sets, limit_of, map_in, text_map, texts_in};
 ghost use Rattle.ffi_calls.specs.Archives.{value_encoding, word_of};
-ghost use Rattle.ffi_calls.specs.Calls.{Counts, GivesText, SetsText, StepsTexts, text_found};
+ghost use Rattle.ffi_calls.specs.Calls.{GivesText, SetsText, StepsTexts, StepsAllTexts, text_found};
 ghost use Rattle.ffi_calls.specs.Explanation.{Explains};
 ghost use Rattle.ffi_calls.specs.Listed.{GivesFirstText, SetsFirstText};
-ghost use Rattle.ffi_calls.specs.Walking.{NextText};
+ghost use Rattle.ffi_calls.specs.Walking.{NextText, NextTexts};
 
-use crate::archives::{open_map, pair_count, root_of};
+use crate::archives::{header_of, open_map};
 use crate::explanation::{Explanation, explain_map};
 use crate::form::Form;
 use crate::lookup::{get_in, set_in};
@@ -24,6 +25,7 @@ use rkyv_base::entry::Entry;
 use rkyv_base::text::Text;
 use rkyv_base::view::View;
 use rkyv_base::width::{Narrow, Wide, Width};
+use rkyv_table::table::decoded::Decoded;
 
 /// A pair of a map, and the bucket at which a walk continues.
 #[repr(C)]
@@ -87,35 +89,36 @@ pub fn explain_texts(archive: &[u8], form: Form) -> Explanation
     }
 }
 
-/// Returns the number of pairs of the map.
+/// Returns the decoded header of the map, which the other calls take.
 ///
 /// # Requires
 ///
 /// - The archive is valid: `open_texts` returned `DONE`.
-pub fn count_texts(archive: &[u8], form: Form) -> usize
+pub fn decode_texts(archive: &[u8], form: Form) -> Decoded
     requires { IsTextArchive form archive.now }
-    ensures { Counts (texts_in form archive.now) result }
+    ensures { IsHeaderOf (texts_in form archive.now) result }
 {
     match (form.long_values, form.wide) {
-        (false, false) => pair_count::<Text<Narrow>, u32, Narrow>(archive),
-        (true, false) => pair_count::<Text<Narrow>, u64, Narrow>(archive),
-        (false, true) => pair_count::<Text<Wide>, u32, Wide>(archive),
-        (true, true) => pair_count::<Text<Wide>, u64, Wide>(archive),
+        (false, false) => header_of::<Text<Narrow>, u32, Narrow>(archive),
+        (true, false) => header_of::<Text<Narrow>, u64, Narrow>(archive),
+        (false, true) => header_of::<Text<Wide>, u32, Wide>(archive),
+        (true, true) => header_of::<Text<Wide>, u64, Wide>(archive),
     }
 }
 
 /// Looks up a text, and stores its value in `value`.
-fn get_of(archive: &[u8], form: Form, key: &str, value: &mut u64) -> u32
-    requires { IsTextArchive form archive.now }
+fn get_of(archive: &[u8], form: Form, header: &Decoded, key: &str, value: &mut u64) -> u32
+    requires archive { IsTextArchive form archive.now }
+    requires header { IsHeaderOf (texts_in form archive.now) header.now }
     ensures gives { Gives (word_of form.long_values) archive.now
         (text_found form archive.now key.now) value.old result value.new }
     ensures listed { GivesFirstText form archive.now key.now value.old result value.new }
 {
     match (form.long_values, form.wide) {
-        (false, false) => get_in::<&str, Text<Narrow>, u32, Narrow>(archive, &key, value),
-        (true, false) => get_in::<&str, Text<Narrow>, u64, Narrow>(archive, &key, value),
-        (false, true) => get_in::<&str, Text<Wide>, u32, Wide>(archive, &key, value),
-        (true, true) => get_in::<&str, Text<Wide>, u64, Wide>(archive, &key, value),
+        (false, false) => get_in::<&str, Text<Narrow>, u32, Narrow>(archive, header, &key, value),
+        (true, false) => get_in::<&str, Text<Narrow>, u64, Narrow>(archive, header, &key, value),
+        (false, true) => get_in::<&str, Text<Wide>, u32, Wide>(archive, header, &key, value),
+        (true, true) => get_in::<&str, Text<Wide>, u64, Wide>(archive, header, &key, value),
     }
 }
 
@@ -131,14 +134,16 @@ fn get_of(archive: &[u8], form: Form, key: &str, value: &mut u64) -> u32
 /// # Requires
 ///
 /// - The archive is valid: `open_texts` returned `DONE`.
-pub fn get_text(archive: &[u8], form: Form, key: &[u8], value: &mut u64) -> u32
-    requires { IsTextArchive form archive.now }
+/// - `header` is its decoded header.
+pub fn get_text(archive: &[u8], form: Form, header: &Decoded, key: &[u8], value: &mut u64) -> u32
+    requires archive { IsTextArchive form archive.now }
+    requires header { IsHeaderOf (texts_in form archive.now) header.now }
     ensures gives { GivesText form archive.now key.now value.old result value.new }
     ensures listed { IsUtf8 key.now
         → GivesFirstText form archive.now key.now value.old result value.new }
 {
     match text_of(key) {
-        Some(text) => get_of(archive, form, text, value),
+        Some(text) => get_of(archive, form, header, text, value),
         None => NOT_TEXT,
     }
 }
@@ -147,6 +152,7 @@ pub fn get_text(archive: &[u8], form: Form, key: &[u8], value: &mut u64) -> u32
 fn set_of(archive: &mut [u8], form: Form, key: &str, value: u64) -> u32
     requires { IsTextArchive form archive.old }
     ensures kept { IsTextArchive form archive.new }
+    ensures header { KeepsHeader (texts_in form archive.old) (texts_in form archive.new) }
     ensures sets { Sets (value_encoding form) archive.old
         (text_found form archive.old key.now) value result archive.new }
     ensures listed { SetsFirstText form archive.old key.now value result archive.new }
@@ -159,7 +165,8 @@ fn set_of(archive: &mut [u8], form: Form, key: &str, value: u64) -> u32
     }
 }
 
-/// Looks up a key, and overwrites its value in place. The archive stays valid.
+/// Looks up a key, and overwrites its value in place. The archive stays valid, and its header as it
+/// is.
 ///
 /// # Errors
 ///
@@ -175,6 +182,7 @@ fn set_of(archive: &mut [u8], form: Form, key: &str, value: u64) -> u32
 pub fn set_text(archive: &mut [u8], form: Form, key: &[u8], value: u64) -> u32
     requires { IsTextArchive form archive.old }
     ensures kept { IsTextArchive form archive.new }
+    ensures header { KeepsHeader (texts_in form archive.old) (texts_in form archive.new) }
     ensures sets { SetsText form archive.old key.now value result archive.new }
     ensures listed { IsUtf8 key.now
         → SetsFirstText form archive.old key.now value result archive.new }
@@ -195,13 +203,17 @@ fn key_in<V: Value, W: Width>(archive: &[u8], pos: u64) -> &[u8]
 }
 
 /// Stores the next pair of the map at the root of an archive, or returns `END`.
-fn next_in<'a, V: Value, W: Width>(archive: &'a [u8], pair: &mut TextPair<'a>) -> u32
-    requires { IsMapArchive W.word W.LIMIT (text_spec W.word) V.spec archive.now }
+fn next_in<'a, V: Value, W: Width>(
+    archive: &'a [u8],
+    header: &Decoded,
+    pair: &mut TextPair<'a>,
+) -> u32
+    requires archive { IsMapArchive W.word W.LIMIT (text_spec W.word) V.spec archive.now }
+    requires header { IsHeaderOf (map_in W.word (text_spec W.word) V.spec archive.now) header.now }
     ensures { NextText (map_in W.word (text_spec W.word) V.spec archive.now) V.encoding pair.old
         result pair.new }
 {
-    let root = root_of::<Text<W>, V, W>(archive);
-    let item = match next_bucket::<Text<W>, V, W>(archive, root, pair.next) {
+    let item = match next_bucket::<Text<W>, V, W>(archive, header, pair.next) {
         Some(item) => item,
         None => return END,
     };
@@ -224,14 +236,75 @@ fn next_in<'a, V: Value, W: Width>(archive: &'a [u8], pair: &mut TextPair<'a>) -
 /// # Requires
 ///
 /// - The archive is valid: `open_texts` returned `DONE`.
-pub fn next_text<'a>(archive: &'a [u8], form: Form, pair: &mut TextPair<'a>) -> u32
-    requires { IsTextArchive form archive.now }
+/// - `header` is its decoded header.
+pub fn next_text<'a>(
+    archive: &'a [u8],
+    form: Form,
+    header: &Decoded,
+    pair: &mut TextPair<'a>,
+) -> u32
+    requires archive { IsTextArchive form archive.now }
+    requires header { IsHeaderOf (texts_in form archive.now) header.now }
     ensures { StepsTexts form archive.now pair.old result pair.new }
 {
     match (form.long_values, form.wide) {
-        (false, false) => next_in::<u32, Narrow>(archive, pair),
-        (true, false) => next_in::<u64, Narrow>(archive, pair),
-        (false, true) => next_in::<u32, Wide>(archive, pair),
-        (true, true) => next_in::<u64, Wide>(archive, pair),
+        (false, false) => next_in::<u32, Narrow>(archive, header, pair),
+        (true, false) => next_in::<u64, Narrow>(archive, header, pair),
+        (false, true) => next_in::<u32, Wide>(archive, header, pair),
+        (true, true) => next_in::<u64, Wide>(archive, header, pair),
+    }
+}
+
+/// Stores the next pairs of the map in a valid archive, and returns their number.
+fn next_pairs_in<'a, V: Value, W: Width>(
+    archive: &'a [u8],
+    header: &Decoded,
+    from: u64,
+    pairs: &mut [TextPair<'a>],
+) -> usize
+    requires archive { IsMapArchive W.word W.LIMIT (text_spec W.word) V.spec archive.now }
+    requires header { IsHeaderOf (map_in W.word (text_spec W.word) V.spec archive.now) header.now }
+    ensures { NextTexts (map_in W.word (text_spec W.word) V.spec archive.now) V.encoding from
+        pairs.old result pairs.new }
+{
+    let mut pair = TextPair {
+        next: from,
+        value: 0,
+        key: &[],
+    };
+    for count in 0..pairs.len() {
+        if next_in::<V, W>(archive, header, &mut pair) == END {
+            return count;
+        }
+        pairs[count] = pair;
+    }
+    pairs.len()
+}
+
+/// Stores the next pairs from the bucket `from` on, in bucket order, and returns their number.
+///
+/// If fewer pairs are stored than `pairs` has room for, no pair remains. Otherwise a next call goes
+/// on at the `next` of the last pair.
+///
+/// # Requires
+///
+/// - The archive is valid: `open_texts` returned `DONE`.
+/// - `header` is its decoded header.
+pub fn next_texts<'a>(
+    archive: &'a [u8],
+    form: Form,
+    header: &Decoded,
+    from: u64,
+    pairs: &mut [TextPair<'a>],
+) -> usize
+    requires archive { IsTextArchive form archive.now }
+    requires header { IsHeaderOf (texts_in form archive.now) header.now }
+    ensures { StepsAllTexts form archive.now from pairs.old result pairs.new }
+{
+    match (form.long_values, form.wide) {
+        (false, false) => next_pairs_in::<u32, Narrow>(archive, header, from, pairs),
+        (true, false) => next_pairs_in::<u64, Narrow>(archive, header, from, pairs),
+        (false, true) => next_pairs_in::<u32, Wide>(archive, header, from, pairs),
+        (true, true) => next_pairs_in::<u64, Wide>(archive, header, from, pairs),
     }
 }

@@ -1,9 +1,10 @@
 //! The calls for maps of numbers of 32 bits.
 
 ghost use Rattle.std.specs.Prelude.{◌≡◌};
-ghost use Rattle.ffi_calls.specs.Archives.{IsNumberArchive, Opens, form_of, limit_of};
+ghost use Rattle.ffi_calls.specs.Archives.{IsHeaderOf, IsNumberArchive, KeepsHeader, Opens};
+ghost use Rattle.ffi_calls.specs.Archives.{form_of, limit_of};
 ghost use Rattle.ffi_calls.specs.Archives.{number_map, numbers_in};
-ghost use Rattle.ffi_calls.specs.Calls.{Counts, GivesNumber, SetsNumber, StepsNumbers};
+ghost use Rattle.ffi_calls.specs.Calls.{GivesNumber, SetsNumber, StepsNumbers, StepsAllNumbers};
 ghost use Rattle.ffi_calls.specs.Explanation.{Explains};
 ghost use Rattle.ffi_calls.specs.Listed.{GivesFirstNumber, SetsFirstNumber};
 ghost use Rattle.ffi_calls.specs.Items.{HandsOut, IsArchiveOfNumbers, ArchiveOfNumbersFails};
@@ -13,8 +14,10 @@ use ffi_calls::explanation::Explanation;
 use ffi_calls::form::Form;
 use ffi_calls::number_items::{NumberItem, build_numbers};
 use ffi_calls::numbers::{
-    NumberPair, count_numbers, explain_numbers, get_number, next_number, open_numbers, set_number,
+    NumberPair, decode_numbers, explain_numbers, get_number, next_number, next_numbers,
+    open_numbers, set_number,
 };
+use rkyv_table::table::decoded::Decoded;
 use std::alloc::Global;
 
 /// Validates the archive of a map of numbers.
@@ -45,17 +48,22 @@ pub extern "C" fn rkyv_c_explain_numbers(
     *explanation = explain_numbers(archive, Form { long_values, wide });
 }
 
-/// Returns the number of pairs of the map.
+/// Stores the decoded header of the map in `header`, for the other calls.
 ///
 /// # Requires
 ///
 /// - The archive is valid: `rkyv_c_open_numbers` returned 0.
 #[unsafe(no_mangle)]
-pub extern "C" fn rkyv_c_count_numbers(archive: &[u8], long_values: bool, wide: bool) -> usize
+pub extern "C" fn rkyv_c_decode_numbers(
+    archive: &[u8],
+    long_values: bool,
+    wide: bool,
+    header: &mut Decoded,
+)
     requires { IsNumberArchive (form_of long_values wide) archive.now }
-    ensures { Counts (numbers_in (form_of long_values wide) archive.now) result }
+    ensures { IsHeaderOf (numbers_in (form_of long_values wide) archive.now) header.new }
 {
-    count_numbers(archive, Form { long_values, wide })
+    *header = decode_numbers(archive, Form { long_values, wide });
 }
 
 /// Looks up a key, and stores its value in `value`.
@@ -67,24 +75,28 @@ pub extern "C" fn rkyv_c_count_numbers(archive: &[u8], long_values: bool, wide: 
 /// # Requires
 ///
 /// - The archive is valid: `rkyv_c_open_numbers` returned 0.
+/// - `header` is its decoded header.
 #[unsafe(no_mangle)]
 pub extern "C" fn rkyv_c_get_number(
     archive: &[u8],
     long_values: bool,
     wide: bool,
+    header: &Decoded,
     key: u32,
     value: &mut u64,
 ) -> u32
-    requires { IsNumberArchive (form_of long_values wide) archive.now }
+    requires archive { IsNumberArchive (form_of long_values wide) archive.now }
+    requires header { IsHeaderOf (numbers_in (form_of long_values wide) archive.now) header.now }
     ensures gives { GivesNumber (form_of long_values wide) archive.now key value.old result
         value.new }
     ensures listed { GivesFirstNumber (form_of long_values wide) archive.now key value.old result
         value.new }
 {
-    get_number(archive, Form { long_values, wide }, key, value)
+    get_number(archive, Form { long_values, wide }, header, key, value)
 }
 
-/// Looks up a key, and overwrites its value in place. The archive stays valid.
+/// Looks up a key, and overwrites its value in place. The archive stays valid, and its header as it
+/// is.
 ///
 /// # Errors
 ///
@@ -106,6 +118,8 @@ pub extern "C" fn rkyv_c_set_number(
 ) -> u32
     requires { IsNumberArchive (form_of long_values wide) archive.old }
     ensures kept { IsNumberArchive (form_of long_values wide) archive.new }
+    ensures header { KeepsHeader (numbers_in (form_of long_values wide) archive.old)
+        (numbers_in (form_of long_values wide) archive.new) }
     ensures sets { SetsNumber (form_of long_values wide) archive.old key value result archive.new }
     ensures listed { SetsFirstNumber (form_of long_values wide) archive.old key value result
         archive.new }
@@ -122,17 +136,46 @@ pub extern "C" fn rkyv_c_set_number(
 /// # Requires
 ///
 /// - The archive is valid: `rkyv_c_open_numbers` returned 0.
+/// - `header` is its decoded header.
 #[unsafe(no_mangle)]
 pub extern "C" fn rkyv_c_next_number(
     archive: &[u8],
     long_values: bool,
     wide: bool,
+    header: &Decoded,
     pair: &mut NumberPair,
 ) -> u32
-    requires { IsNumberArchive (form_of long_values wide) archive.now }
+    requires archive { IsNumberArchive (form_of long_values wide) archive.now }
+    requires header { IsHeaderOf (numbers_in (form_of long_values wide) archive.now) header.now }
     ensures { StepsNumbers (form_of long_values wide) archive.now pair.old result pair.new }
 {
-    next_number(archive, Form { long_values, wide }, pair)
+    next_number(archive, Form { long_values, wide }, header, pair)
+}
+
+/// Stores the next pairs from the bucket `from` on, in bucket order, and returns their number.
+///
+/// If fewer pairs are stored than `pairs` has room for, no pair remains. Otherwise a next call goes
+/// on at the `next` of the last pair.
+///
+/// # Requires
+///
+/// - The archive is valid: `rkyv_c_open_numbers` returned 0.
+/// - `header` is its decoded header.
+#[unsafe(no_mangle)]
+pub extern "C" fn rkyv_c_next_numbers(
+    archive: &[u8],
+    long_values: bool,
+    wide: bool,
+    header: &Decoded,
+    from: u64,
+    pairs: &mut [NumberPair],
+) -> usize
+    requires archive { IsNumberArchive (form_of long_values wide) archive.now }
+    requires header { IsHeaderOf (numbers_in (form_of long_values wide) archive.now) header.now }
+    ensures { StepsAllNumbers (form_of long_values wide) archive.now from pairs.old result
+        pairs.new }
+{
+    next_numbers(archive, Form { long_values, wide }, header, from, pairs)
 }
 
 /// Writes the archive of the items, in insertion order, and stores its bytes in `built`.

@@ -3,8 +3,8 @@
 ghost use Rattle.std.specs.Prelude.{IsTrue, ◌↔◌, ◌≡◌};
 ghost use Rattle.std.specs.Str.{IsUtf8};
 ghost use Rattle.ffi_calls.specs.Archives.{IsTextArchive, Opens, form_of, limit_of, text_map};
-ghost use Rattle.ffi_calls.specs.Archives.{texts_in};
-ghost use Rattle.ffi_calls.specs.Calls.{Counts, GivesText, SetsText, StepsTexts};
+ghost use Rattle.ffi_calls.specs.Archives.{IsHeaderOf, KeepsHeader, texts_in};
+ghost use Rattle.ffi_calls.specs.Calls.{GivesText, SetsText, StepsTexts, StepsAllTexts};
 ghost use Rattle.ffi_calls.specs.Explanation.{Explains};
 ghost use Rattle.ffi_calls.specs.Listed.{GivesFirstText, SetsFirstText};
 ghost use Rattle.ffi_calls.specs.Items.{HandsOut, IsArchiveOfTexts, ArchiveOfTextsFails};
@@ -14,8 +14,10 @@ use ffi_calls::explanation::Explanation;
 use ffi_calls::form::Form;
 use ffi_calls::text_items::{TextItem, build_texts};
 use ffi_calls::texts::{
-    TextPair, count_texts, explain_texts, get_text, is_text, next_text, open_texts, set_text,
+    TextPair, decode_texts, explain_texts, get_text, is_text, next_text, next_texts, open_texts,
+    set_text,
 };
+use rkyv_table::table::decoded::Decoded;
 use std::alloc::Global;
 
 /// Validates the archive of a map of texts.
@@ -45,17 +47,22 @@ pub extern "C" fn rkyv_c_explain_texts(
     *explanation = explain_texts(archive, Form { long_values, wide });
 }
 
-/// Returns the number of pairs of the map.
+/// Stores the decoded header of the map in `header`, for the other calls.
 ///
 /// # Requires
 ///
 /// - The archive is valid: `rkyv_c_open_texts` returned 0.
 #[unsafe(no_mangle)]
-pub extern "C" fn rkyv_c_count_texts(archive: &[u8], long_values: bool, wide: bool) -> usize
+pub extern "C" fn rkyv_c_decode_texts(
+    archive: &[u8],
+    long_values: bool,
+    wide: bool,
+    header: &mut Decoded,
+)
     requires { IsTextArchive (form_of long_values wide) archive.now }
-    ensures { Counts (texts_in (form_of long_values wide) archive.now) result }
+    ensures { IsHeaderOf (texts_in (form_of long_values wide) archive.now) header.new }
 {
-    count_texts(archive, Form { long_values, wide })
+    *header = decode_texts(archive, Form { long_values, wide });
 }
 
 /// Looks up a key, and stores its value in `value`.
@@ -70,24 +77,28 @@ pub extern "C" fn rkyv_c_count_texts(archive: &[u8], long_values: bool, wide: bo
 /// # Requires
 ///
 /// - The archive is valid: `rkyv_c_open_texts` returned 0.
+/// - `header` is its decoded header.
 #[unsafe(no_mangle)]
 pub extern "C" fn rkyv_c_get_text(
     archive: &[u8],
     long_values: bool,
     wide: bool,
+    header: &Decoded,
     key: &[u8],
     value: &mut u64,
 ) -> u32
-    requires { IsTextArchive (form_of long_values wide) archive.now }
+    requires archive { IsTextArchive (form_of long_values wide) archive.now }
+    requires header { IsHeaderOf (texts_in (form_of long_values wide) archive.now) header.now }
     ensures gives { GivesText (form_of long_values wide) archive.now key.now value.old result
         value.new }
     ensures listed { IsUtf8 key.now
         → GivesFirstText (form_of long_values wide) archive.now key.now value.old result value.new }
 {
-    get_text(archive, Form { long_values, wide }, key, value)
+    get_text(archive, Form { long_values, wide }, header, key, value)
 }
 
-/// Looks up a key, and overwrites its value in place. The archive stays valid.
+/// Looks up a key, and overwrites its value in place. The archive stays valid, and its header as it
+/// is.
 ///
 /// # Errors
 ///
@@ -110,6 +121,8 @@ pub extern "C" fn rkyv_c_set_text(
 ) -> u32
     requires { IsTextArchive (form_of long_values wide) archive.old }
     ensures kept { IsTextArchive (form_of long_values wide) archive.new }
+    ensures header { KeepsHeader (texts_in (form_of long_values wide) archive.old)
+        (texts_in (form_of long_values wide) archive.new) }
     ensures sets { SetsText (form_of long_values wide) archive.old key.now value result
         archive.new }
     ensures listed { IsUtf8 key.now
@@ -127,17 +140,46 @@ pub extern "C" fn rkyv_c_set_text(
 /// # Requires
 ///
 /// - The archive is valid: `rkyv_c_open_texts` returned 0.
+/// - `header` is its decoded header.
 #[unsafe(no_mangle)]
 pub extern "C" fn rkyv_c_next_text<'a>(
     archive: &'a [u8],
     long_values: bool,
     wide: bool,
+    header: &Decoded,
     pair: &mut TextPair<'a>,
 ) -> u32
-    requires { IsTextArchive (form_of long_values wide) archive.now }
+    requires archive { IsTextArchive (form_of long_values wide) archive.now }
+    requires header { IsHeaderOf (texts_in (form_of long_values wide) archive.now) header.now }
     ensures { StepsTexts (form_of long_values wide) archive.now pair.old result pair.new }
 {
-    next_text(archive, Form { long_values, wide }, pair)
+    next_text(archive, Form { long_values, wide }, header, pair)
+}
+
+/// Stores the next pairs from the bucket `from` on, in bucket order, and returns their number.
+///
+/// If fewer pairs are stored than `pairs` has room for, no pair remains. Otherwise a next call goes
+/// on at the `next` of the last pair.
+///
+/// # Requires
+///
+/// - The archive is valid: `rkyv_c_open_texts` returned 0.
+/// - `header` is its decoded header.
+#[unsafe(no_mangle)]
+pub extern "C" fn rkyv_c_next_texts<'a>(
+    archive: &'a [u8],
+    long_values: bool,
+    wide: bool,
+    header: &Decoded,
+    from: u64,
+    pairs: &mut [TextPair<'a>],
+) -> usize
+    requires archive { IsTextArchive (form_of long_values wide) archive.now }
+    requires header { IsHeaderOf (texts_in (form_of long_values wide) archive.now) header.now }
+    ensures { StepsAllTexts (form_of long_values wide) archive.now from pairs.old result
+        pairs.new }
+{
+    next_texts(archive, Form { long_values, wide }, header, from, pairs)
 }
 
 /// Returns whether the bytes are a text: UTF-8.

@@ -6,7 +6,7 @@ ghost use Rattle.ffi_calls.specs.Archives.{IsNumberArchive};
 use crate::tests::archives::{LONG, SHORT, WIDE, WIDE_LONG, one_long_number, one_wide_long_number};
 use ffi_calls::form::Form;
 use ffi_calls::numbers::{
-    NumberPair, count_numbers, get_number, next_number, open_numbers, set_number,
+    NumberPair, decode_numbers, get_number, next_number, next_numbers, open_numbers, set_number,
 };
 use ffi_calls::status::DONE;
 use test_support::archives::{one_number, one_wide_number};
@@ -27,9 +27,10 @@ fn lookup(archive: &[u8], form: Form, key: u32) -> Option<(usize, u32, u64)> {
     if !is_map(archive, form) {
         return None;
     }
+    let header = decode_numbers(archive, form);
     let mut value = 9u64;
-    let status = get_number(archive, form, key, &mut value);
-    Some((count_numbers(archive, form), status, value))
+    let status = get_number(archive, form, &header, key, &mut value);
+    Some((header.len(), status, value))
 }
 
 // Returns the statuses of two steps of a walk, and the pair after each, from the given bucket on.
@@ -38,15 +39,43 @@ fn steps(archive: &[u8], form: Form, from: u64) -> Option<[(u32, u64, u32, u64);
     if !is_map(archive, form) {
         return None;
     }
+    let header = decode_numbers(archive, form);
     let mut pair = NumberPair {
         next: from,
         value: 9,
         key: 9,
     };
-    let status = next_number(archive, form, &mut pair);
+    let status = next_number(archive, form, &header, &mut pair);
     let first = (status, pair.next, pair.key, pair.value);
-    let status = next_number(archive, form, &mut pair);
+    let status = next_number(archive, form, &header, &mut pair);
     Some([first, (status, pair.next, pair.key, pair.value)])
+}
+
+// Returns the numbers of a pair.
+fn numbers_of(pair: NumberPair) -> (u64, u32, u64) {
+    (pair.next, pair.key, pair.value)
+}
+
+// Returns how many pairs are stored over three, from the given bucket on, and the three afterwards.
+// Each is 9 to 9 at first.
+fn several(archive: &[u8], form: Form, from: u64) -> Option<(usize, [(u64, u32, u64); 3])> {
+    if !is_map(archive, form) {
+        return None;
+    }
+    let header = decode_numbers(archive, form);
+    let nine = NumberPair {
+        next: 9,
+        value: 9,
+        key: 9,
+    };
+    let mut pairs = [nine; 3];
+    let count = next_numbers(archive, form, &header, from, &mut pairs);
+    let seen = [
+        numbers_of(pairs[0]),
+        numbers_of(pairs[1]),
+        numbers_of(pairs[2]),
+    ];
+    Some((count, seen))
 }
 
 // Returns the status of an overwrite, and whether the archive is valid before and after it.
@@ -60,6 +89,23 @@ fn overwrite(archive: &mut [u8], form: Form, key: u32, value: u64) -> Option<u32
     } else {
         None
     }
+}
+
+// Returns the statuses of an overwrite and of a lookup by the header from before, and its value.
+fn overwrite_and_get(
+    archive: &mut [u8],
+    form: Form,
+    key: u32,
+    value: u64,
+) -> Option<(u32, u32, u64)> {
+    if !is_map(&*archive, form) {
+        return None;
+    }
+    let header = decode_numbers(&*archive, form);
+    let status = set_number(archive, form, key, value);
+    let mut found = 9u64;
+    let again = get_number(&*archive, form, &header, key, &mut found);
+    Some((status, again, found))
 }
 
 #[test]
@@ -93,6 +139,34 @@ fn walks_visit_bucket_1_and_end(rt: HostRuntime) {
     assert_eq!(rt; steps(&one_wide_long_number(), WIDE_LONG, 1), wanted);
     let ended = (2, u64::MAX, 9, 9);
     assert_eq!(rt; steps(&one_number(), SHORT, u64::MAX), Some([ended, ended]));
+}
+
+#[test]
+fn several_pairs_are_stored_at_once(rt: HostRuntime) {
+    let nine = (9, 9, 9);
+    let one = Some((1, [(2, 1, 2), nine, nine]));
+    let none = Some((0, [nine; 3]));
+    assert_eq!(rt; several(&one_number(), SHORT, 0), one);
+    assert_eq!(rt; several(&one_long_number(), LONG, 1), one);
+    assert_eq!(rt; several(&one_wide_number(), WIDE, 2), none);
+    assert_eq!(rt; several(&one_wide_long_number(), WIDE_LONG, 0), one);
+    assert_eq!(rt; several(&one_number(), SHORT, u64::MAX), none);
+}
+
+#[test]
+fn headers_serve_after_overwrites(rt: HostRuntime) {
+    assert_eq!(rt;
+        overwrite_and_get(&mut one_number(), SHORT, 1, 3),
+        Some((0, 0, 3))
+    );
+    assert_eq!(rt;
+        overwrite_and_get(&mut one_wide_long_number(), WIDE_LONG, 1, u64::MAX),
+        Some((0, 0, u64::MAX))
+    );
+    assert_eq!(rt;
+        overwrite_and_get(&mut one_number(), SHORT, 2, 3),
+        Some((1, 1, 9))
+    );
 }
 
 #[test]

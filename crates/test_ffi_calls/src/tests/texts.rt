@@ -6,7 +6,9 @@ ghost use Rattle.ffi_calls.specs.Archives.{IsTextArchive};
 use crate::tests::archives::{LONG, SHORT, WIDE, WIDE_LONG, empty_text, empty_wide_text};
 use ffi_calls::form::Form;
 use ffi_calls::status::DONE;
-use ffi_calls::texts::{TextPair, count_texts, get_text, is_text, next_text, open_texts, set_text};
+use ffi_calls::texts::{
+    TextPair, decode_texts, get_text, is_text, next_text, next_texts, open_texts, set_text,
+};
 use test_support::archives::one_symbol;
 
 // Returns whether the archive is valid in the form.
@@ -25,9 +27,10 @@ fn lookup(archive: &[u8], form: Form, key: &[u8]) -> Option<(usize, u32, u64)> {
     if !is_map(archive, form) {
         return None;
     }
+    let header = decode_texts(archive, form);
     let mut value = 9u64;
-    let status = get_text(archive, form, key, &mut value);
-    Some((count_texts(archive, form), status, value))
+    let status = get_text(archive, form, &header, key, &mut value);
+    Some((header.len(), status, value))
 }
 
 // Returns the status of a step from the given bucket on, if the pair is as wanted afterwards.
@@ -36,14 +39,40 @@ fn step(archive: &[u8], form: Form, from: u64, next: u64, key: &[u8], value: u64
     if !is_map(archive, form) {
         return None;
     }
+    let header = decode_texts(archive, form);
     let mut pair = TextPair {
         next: from,
         value: 9,
         key: b"?",
     };
-    let status = next_text(archive, form, &mut pair);
+    let status = next_text(archive, form, &header, &mut pair);
     if pair.next == next && pair.key == key && pair.value == value {
         Some(status)
+    } else {
+        None
+    }
+}
+
+// Returns how many pairs are stored over two, from the given bucket on, if the first is as wanted
+// afterwards and the second is unchanged. Each has the key `?` and the value 9 at first.
+fn several(archive: &[u8], form: Form, from: u64, key: &[u8], value: u64) -> Option<usize> {
+    if !is_map(archive, form) {
+        return None;
+    }
+    let header = decode_texts(archive, form);
+    let nine = TextPair {
+        next: 9,
+        value: 9,
+        key: b"?",
+    };
+    let mut pairs = [nine; 2];
+    let count = next_texts(archive, form, &header, from, &mut pairs);
+    if pairs[0].key == key
+        && pairs[0].value == value
+        && pairs[1].key == nine.key
+        && pairs[1].next == 9
+    {
+        Some(count)
     } else {
         None
     }
@@ -60,6 +89,23 @@ fn overwrite(archive: &mut [u8], form: Form, key: &[u8], value: u64) -> Option<u
     } else {
         None
     }
+}
+
+// Returns the statuses of an overwrite and of a lookup by the header from before, and its value.
+fn overwrite_and_get(
+    archive: &mut [u8],
+    form: Form,
+    key: &[u8],
+    value: u64,
+) -> Option<(u32, u32, u64)> {
+    if !is_map(&*archive, form) {
+        return None;
+    }
+    let header = decode_texts(&*archive, form);
+    let status = set_text(archive, form, key, value);
+    let mut found = 9u64;
+    let again = get_text(&*archive, form, &header, key, &mut found);
+    Some((status, again, found))
 }
 
 #[test]
@@ -107,6 +153,30 @@ fn steps_end_after_the_last_pair(rt: HostRuntime) {
         Some(2)
     );
     assert_eq!(rt; step(&empty_wide_text(), WIDE_LONG, 2, 2, b"?", 9), Some(2));
+}
+
+#[test]
+fn several_pairs_are_stored_at_once(rt: HostRuntime) {
+    assert_eq!(rt; several(&empty_text(), SHORT, 0, b"", 7), Some(1));
+    assert_eq!(rt; several(&one_symbol(), LONG, 0, b"main", 4096), Some(1));
+    assert_eq!(rt; several(&empty_wide_text(), WIDE, 1, b"", 7), Some(1));
+    assert_eq!(rt; several(&empty_wide_text(), WIDE_LONG, 2, b"?", 9), Some(0));
+}
+
+#[test]
+fn headers_serve_after_overwrites(rt: HostRuntime) {
+    assert_eq!(rt;
+        overwrite_and_get(&mut empty_text(), SHORT, b"", 3),
+        Some((0, 0, 3))
+    );
+    assert_eq!(rt;
+        overwrite_and_get(&mut one_symbol(), LONG, b"mai", 3),
+        Some((1, 1, 9))
+    );
+    assert_eq!(rt;
+        overwrite_and_get(&mut empty_wide_text(), WIDE, &[0xc3], 3),
+        Some((4, 4, 9))
+    );
 }
 
 #[test]

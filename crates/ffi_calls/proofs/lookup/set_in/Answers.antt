@@ -4,7 +4,7 @@ use Rattle.rkyv_base.specs.Scalar.{ScalarRepresents}
 use Rattle.rkyv_collections.specs.Map.{hash_at}
 use Rattle.rkyv_collections.specs.Map.MapFormat.{MapRepresents}
 use Rattle.rkyv_collections.specs.Map.MapSpec.{map_spec}
-use Rattle.ffi_calls.proofs.Writing.{set_kept, set_told}
+use Rattle.ffi_calls.proofs.Writing.{set_keeps_header, set_kept, set_told}
 use Rattle.rkyv_collections.specs.Map.InPlace.{with_first}
 use Rattle.rkyv_collections.specs.Map.ListedLookups.{first_pair}
 use Rattle.ffi_calls.proofs.First.{first_set}
@@ -19,6 +19,16 @@ returns-clause-kept g c =
     let same : length set.new.archive ≡ length c.args.archive.now = omega (arith, set.auto.archive) in
     set_kept g.W.Word.word g.K.HasSpec.spec g.V.HasSpec.spec g.V.Scalar.encoding (hash_at (fx_hasher low_halves) g.K.KeyElement.key_calls) c.args.archive.now c.root_of-root.result (g.A.KeyHash.calls c.args.key.now)
     (g.A.Query.fits c.args.key.now c.args.archive.now) c.in-Some.number set.result set.new.archive c.root_of-root.ensures.at set.ensures.answer.answer g.W.Width.LIMIT c.requires.archive c.root_of-root.ensures.viewable same
+
+pub returns-in-None-clause-header : goal.returns-in-None-clause-header
+returns-in-None-clause-header g c = λ header is. is
+
+pub returns-clause-header : goal.returns-clause-header
+returns-clause-header g c =
+    let set = c.set_value_of-found in
+    let same : length set.new.archive ≡ length c.args.archive.now = omega (arith, set.auto.archive) in
+    set_keeps_header g.W.Word.word g.K.HasSpec.spec g.V.HasSpec.spec g.V.Scalar.encoding (hash_at (fx_hasher low_halves) g.K.KeyElement.key_calls) c.args.archive.now c.root_of-root.result (g.A.KeyHash.calls c.args.key.now)
+    (g.A.Query.fits c.args.key.now c.args.archive.now) c.in-Some.number set.result set.new.archive c.root_of-root.ensures.at set.ensures.answer.answer same
 
 pub returns-clause-sets : goal.returns-clause-sets
 returns-clause-sets g c =

@@ -1,4 +1,4 @@
-use Rattle.std.proofs.Common.{◌≡◌, ℕ, ◌∙◌, List, ap, sym}
+use Rattle.std.proofs.Common.{◌≡◌, ℕ, ◌∙◌, List, sym}
 use Rattle.std.specs.Option.{option_map}
 use Rattle.rkyv_scan.specs.Groups.{generic_kind}
 use Rattle.rkyv_scan.specs.Hash.{fx_hasher, low_halves}
@@ -12,35 +12,31 @@ use Rattle.rkyv_collections.proofs.SealedMap.{as_read}
 use Rattle.rkyv_collections.specs.Map.ListedLookups.{first_value}
 use Rattle.rkyv_collections.specs.Map.{hash_at, map_bytes, map_pos}
 use Rattle.rkyv_collections.specs.Map.MapFormat.{MapRepresents}
-use Rattle.rkyv_collections.specs.Map.MapSpec.{map_spec}
 use Rattle.ffi_calls.specs.Archives.{hash_by, root}
-use Rattle.ffi_calls.proofs.First.{found_placed, found_viewable, view_represents}
+use Rattle.ffi_calls.proofs.First.{found_placed, found_viewable}
 use Rattle.ffi_calls.proofs.lookup.value_pos_in.Goals as goal
-
-pub of-map-requires : goal.of-map-requires
-of-map-requires g c = view_represents (map_spec g.W.Word.word g.K.HasSpec.spec g.V.HasSpec.spec) c.new.result c.args.archive c.root_of-root.result c.new.ensures.0 c.new.ensures.1 c.root_of-root.ensures.viewable
 
 pub returns-clause-viewable : goal.returns-clause-viewable
 returns-clause-viewable g c =
-    let bytes = ap (λ v. v.archive.now) c.of-map.ensures.view ∙ ap (λ a. a.now) c.new.ensures.0 in
-    found_viewable c.of-map.result c.args.archive.now bytes c.get.result c.found_pos.result c.found_pos.ensures c.get.ensures.walked
+    let bytes = c.map_of.ensures.bytes in
+    found_viewable c.map_of.result c.args.archive.now bytes c.get.result c.found_pos.result c.found_pos.ensures c.get.ensures.walked
 
 pub returns-clause-found : goal.returns-clause-found
 returns-clause-found g c =
-    let bytes = ap (λ v. v.archive.now) c.of-map.ensures.view ∙ ap (λ a. a.now) c.new.ensures.0 in
-    let place = ap (λ v. v.pos) c.of-map.ensures.view ∙ c.new.ensures.1 ∙ c.root_of-root.ensures.at in
+    let bytes = c.map_of.ensures.bytes in
+    let place = c.map_of.ensures.pos in
     let k = g.K.HasSpec.spec in
     let v = g.V.HasSpec.spec in
     c.found_pos.ensures
-    ∙ as_read c.of-map.result c.args.archive.now (root g.W.Word.word k v c.args.archive.now) bytes place
+    ∙ as_read c.map_of.result c.args.archive.now (root g.W.Word.word k v c.args.archive.now) bytes place
     (λ d r. pos_of_found c.get.result ≡ option_map (value_pos k v) (pos_found generic_kind g.W.Word.word (entry_spec k v).size d r (hash_by (g.A.KeyHash.calls c.args.key.now)) (g.A.Query.fits c.args.key.now d)))
     c.get.ensures.answer
 
 pub returns-clause-listed : goal.returns-clause-listed
 returns-clause-listed g c = λ factor pairs represents.
-    let bytes = ap (λ v. v.archive.now) c.of-map.ensures.view ∙ ap (λ a. a.now) c.new.ensures.0 in
-    let place = ap (λ v. v.pos) c.of-map.ensures.view ∙ c.new.ensures.1 ∙ c.root_of-root.ensures.at in
-    let m = c.of-map.result in
+    let bytes = c.map_of.ensures.bytes in
+    let place = c.map_of.ensures.pos in
+    let m = c.map_of.result in
     let e = g.V.Scalar.encoding in
     let asks = g.A.PartialEq.eq c.args.key.now in
     let Related : List ℕ → ℕ → Type 0 = λ d r. MapRepresents g.W.Word.word g.K.HasSpec.spec g.V.HasSpec.spec g.K.Represents.represents (ScalarRepresents e) (hash_at (fx_hasher low_halves) g.K.KeyElement.key_calls) factor d r pairs in

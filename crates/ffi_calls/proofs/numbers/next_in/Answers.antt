@@ -1,17 +1,17 @@
 use Rattle.std.proofs.Common.{inl, inr, refl}
 use Rattle.std.specs.Int.{w32}
 use Rattle.rkyv_base.specs.Bytes.{number_at}
-use Rattle.ffi_calls.specs.Archives.{number_key}
-use Rattle.ffi_calls.proofs.Next.{none_left, pair_told, some_left}
+use Rattle.ffi_calls.specs.Archives.{map_in, number_key}
+use Rattle.ffi_calls.proofs.Next.{pair_told}
 use Rattle.ffi_calls.proofs.numbers.next_in.Goals as goal
 
 pub returns-in-None : goal.returns-in-None
-returns-in-None g c = inl (none_left g.W.Word.word number_key g.V.HasSpec.spec g.V.Scalar.encoding c.args.archive.now c.root_of-root.result c.root_of-root.ensures.at c.args.pair.now.next c.in-None.ensures.next, refl, refl)
+returns-in-None g c = inl (c.in-None.ensures.next, refl, refl)
 
 pub returns : goal.returns
 returns g c =
     let item = c.in-Some.item in
     let next = c.in-Some.ensures.next in
-    let taken = some_left g.W.Word.word number_key g.V.HasSpec.spec g.V.Scalar.encoding c.args.archive.now c.root_of-root.result c.root_of-root.ensures.at c.args.pair.now.next item.bucket next.0 in
-    let told = pair_told g.W.Word.word number_key g.V.HasSpec.spec g.V.Scalar.encoding c.args.archive.now c.root_of-root.result c.root_of-root.ensures.at (number_at w32 c.args.archive.now) item.bucket item.pos c.key_in-key.result c.value_in-value.result next.1 c.key_in-key.ensures c.value_in-value.ensures in
-    inr (item.bucket, taken, refl, refl, told)
+    let b = c.args.archive.now in
+    let told = pair_told (map_in g.W.Word.word number_key g.V.HasSpec.spec b) g.V.Scalar.encoding (number_at w32 b) item.bucket item.pos c.key_in-key.result c.value_in-value.result next.1 c.key_in-key.ensures c.value_in-value.ensures in
+    inr (item.bucket, next.0, refl, refl, told)

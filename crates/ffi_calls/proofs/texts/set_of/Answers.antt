@@ -1,4 +1,4 @@
-use Rattle.ffi_calls.specs.Archives.{IsTextArchive, Sets, value_encoding}
+use Rattle.ffi_calls.specs.Archives.{IsTextArchive, KeepsHeader, Sets, texts_in, value_encoding}
 use Rattle.ffi_calls.specs.Calls.{text_found}
 use Rattle.ffi_calls.specs.Listed.{SetsFirstText}
 use Rattle.ffi_calls.proofs.Forms.{at_form, of_form}
@@ -51,3 +51,15 @@ returns-in-false-true-clause-listed c = at_form (λ f. SetsFirstText f c.args.ar
 
 pub returns-in-false-false-clause-listed : goal.returns-in-false-false-clause-listed
 returns-in-false-false-clause-listed c = at_form (λ f. SetsFirstText f c.args.archive.now c.args.key.now c.args.value c.set_in-in-false-false.result c.set_in-in-false-false.new.archive) c.args.form c.in-false-false.is-0 c.in-false-false.is-1 c.set_in-in-false-false.ensures.listed
+
+pub returns-in-true-true-clause-header : goal.returns-in-true-true-clause-header
+returns-in-true-true-clause-header c = at_form (λ f. KeepsHeader (texts_in f c.args.archive.now) (texts_in f c.set_in.new.archive)) c.args.form c.in-true-true.is-0 c.in-true-true.is-1 c.set_in.ensures.header
+
+pub returns-in-true-false-clause-header : goal.returns-in-true-false-clause-header
+returns-in-true-false-clause-header c = at_form (λ f. KeepsHeader (texts_in f c.args.archive.now) (texts_in f c.set_in-in-true-false.new.archive)) c.args.form c.in-true-false.is-0 c.in-true-false.is-1 c.set_in-in-true-false.ensures.header
+
+pub returns-in-false-true-clause-header : goal.returns-in-false-true-clause-header
+returns-in-false-true-clause-header c = at_form (λ f. KeepsHeader (texts_in f c.args.archive.now) (texts_in f c.set_in-in-false-true.new.archive)) c.args.form c.in-false-true.is-0 c.in-false-true.is-1 c.set_in-in-false-true.ensures.header
+
+pub returns-in-false-false-clause-header : goal.returns-in-false-false-clause-header
+returns-in-false-false-clause-header c = at_form (λ f. KeepsHeader (texts_in f c.args.archive.now) (texts_in f c.set_in-in-false-false.new.archive)) c.args.form c.in-false-false.is-0 c.in-false-false.is-1 c.set_in-in-false-false.ensures.header

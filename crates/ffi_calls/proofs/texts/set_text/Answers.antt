@@ -19,3 +19,6 @@ returns-in-Some-clause-listed c = λ text.
 
 pub returns-in-None-clause-listed : goal.returns-in-None-clause-listed
 returns-in-None-clause-listed c = λ text. absurd (c.in-None.ensures text)
+
+pub returns-in-None-clause-header : goal.returns-in-None-clause-header
+returns-in-None-clause-header c = λ header is. is

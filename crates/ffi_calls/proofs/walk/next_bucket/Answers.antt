@@ -1,21 +1,39 @@
-use Rattle.std.proofs.Common.{◌≡◌, ℕ, ◌*◌, ◌+◌, ◌-◌, ◌<◌, ◌∙◌, List, [], ◌∷◌, ap, arith, slice_index, subst, sym}
+use Rattle.std.proofs.Common.{◌≡◌, ℕ, ◌*◌, ◌+◌, ◌-◌, ◌<◌, ◌≤◌, ◌∙◌, List, [], ◌∷◌, ap, arith, length, slice_index, subst, sym}
 use Rattle.rkyv_base.specs.Entry.{entry_spec}
-use Rattle.rkyv_base.specs.Lemmas.Entry.{entry_element}
 use Rattle.rkyv_base.specs.ElementSpec.{Viewable}
+use Rattle.rkyv_base.specs.Lemmas.Access.{root_viewable}
+use Rattle.rkyv_base.specs.Lemmas.Entry.{entry_element}
+use Rattle.rkyv_table.specs.Controls.Numbers.{control_count}
 use Rattle.rkyv_table.specs.Controls.Walking.{full_from}
-use Rattle.rkyv_table.specs.Table.Header.{cap_at}
+use Rattle.rkyv_table.specs.Table.Header.{cap_at, controls_pos}
 use Rattle.rkyv_table.specs.Table.Positions.{IsWalked, item_at, table_controls}
-use Rattle.rkyv_table.proofs.ParsedTable.{item_before, item_viewable}
+use Rattle.rkyv_table.proofs.ParsedTable.{controls_inside, item_before, item_viewable}
 use Rattle.rkyv_table.proofs.SealedItems.{full_end}
+use Rattle.rkyv_collections.specs.Map.MapSpec.{map_spec}
+use Rattle.ffi_calls.specs.Archives.{root}
 use Rattle.ffi_calls.proofs.walk.next_bucket.Goals as goal
 
 pub returns-then-from-cap-clause-next : goal.returns-then-from-cap-clause-next
 returns-then-from-cap-clause-next g c =
     let w = g.W.Word.word in
     let b = c.args.archive.now in
-    let p = c.args.root in
-    let cap = c.bucket_count-cap.ensures in
+    let p = root w g.K.HasSpec.spec g.V.HasSpec.spec b in
+    let cap : c.capacity-cap.result ≡ cap_at w b p = c.capacity-cap.ensures ∙ c.requires.header.cap in
     full_end (table_controls w b p) (cap_at w b p) c.args.from (omega arith)
+
+pub controls_from-controls-requires : goal.controls_from-controls-requires
+controls_from-controls-requires g c =
+    let w = g.W.Word.word in
+    let k = g.K.HasSpec.spec in
+    let v = g.V.HasSpec.spec in
+    let b = c.args.archive.now in
+    let p = root w k v b in
+    let cap : c.capacity-cap.result ≡ cap_at w b p = c.capacity-cap.ensures ∙ c.requires.header.cap in
+    let some : 0 < cap_at w b p = omega arith in
+    let decoded : 0 < c.args.header.now.cap = omega (arith, c.requires.header.cap) in
+    let at : c.controls_pos-begin.result ≡ controls_pos w b p = c.controls_pos-begin.ensures ∙ c.requires.header.controls_pos decoded in
+    let inside = controls_inside w (entry_spec k v) (entry_element k v g.K.HasSpec.laws g.V.HasSpec.laws) b p (root_viewable g.W.Width.LIMIT (map_spec w k v) b c.requires.archive) some in
+    subst (λ n. n + control_count c.capacity-cap.result ≤ length b) (sym at) (subst (λ n. controls_pos w b p + control_count n ≤ length b) (sym cap) inside.0)
 
 pub pos_before-requires : goal.pos_before-requires
 pos_before-requires g c =
@@ -23,15 +41,17 @@ pos_before-requires g c =
     let k = g.K.HasSpec.spec in
     let v = g.V.HasSpec.spec in
     let b = c.args.archive.now in
-    let p = c.args.root in
+    let p = root w k v b in
     let i = c.in-Some.bucket in
-    let cap = c.bucket_count-cap.ensures in
-    let law = entry_element k v g.K.HasSpec.laws g.V.HasSpec.laws in
+    let cap : c.capacity-cap.result ≡ cap_at w b p = c.capacity-cap.ensures ∙ c.requires.header.cap in
     let below : i < cap_at w b p = omega (arith, c.in-Some.ensures.0) in
-    let before = item_before w (entry_spec k v) law b p c.requires i below in
+    let decoded : 0 < c.args.header.now.cap = omega (arith, c.requires.header.cap) in
+    let at : c.controls_pos-begin.result ≡ controls_pos w b p = c.controls_pos-begin.ensures ∙ c.requires.header.controls_pos decoded in
+    let law = entry_element k v g.K.HasSpec.laws g.V.HasSpec.laws in
+    let before = item_before w (entry_spec k v) law b p (root_viewable g.W.Width.LIMIT (map_spec w k v) b c.requires.archive) i below in
     record {
       small = omega (arith, c.in-Some.ensures.0);
-      room = rw (c.size-size.ensures, c.controls_in-begin.ensures.at) before;
+      room = rw (c.size-size.ensures, at) before;
     }
 
 pub returns-in-Some-clause-next : goal.returns-in-Some-clause-next
@@ -39,15 +59,16 @@ returns-in-Some-clause-next g c =
     let w = g.W.Word.word in
     let s = entry_spec g.K.HasSpec.spec g.V.HasSpec.spec in
     let b = c.args.archive.now in
-    let p = c.args.root in
+    let p = root w g.K.HasSpec.spec g.V.HasSpec.spec b in
     let i = c.in-Some.bucket in
-    let cap = c.bucket_count-cap.ensures in
-    let at = c.controls_in-begin.ensures.at in
-    let controls : c.controls_from-controls.result.now ≡ table_controls w b p = rw (at, cap) at c.controls_from-controls.ensures in
-    let taken : full_from (table_controls w b p) c.bucket_count-cap.result c.args.from ≡ i ∷ full_from (table_controls w b p) c.bucket_count-cap.result (i + 1) =
-    subst (λ (xs : List ℕ). full_from xs c.bucket_count-cap.result c.args.from ≡ i ∷ full_from xs c.bucket_count-cap.result (i + 1)) controls c.in-Some.ensures.2 in (
+    let cap : c.capacity-cap.result ≡ cap_at w b p = c.capacity-cap.ensures ∙ c.requires.header.cap in
+    let decoded : 0 < c.args.header.now.cap = omega (arith, c.requires.header.cap) in
+    let at : c.controls_pos-begin.result ≡ controls_pos w b p = c.controls_pos-begin.ensures ∙ c.requires.header.controls_pos decoded in
+    let controls : c.controls_from-controls.result.now ≡ table_controls w b p = rw (at, cap) at c.controls_from-controls.ensures.bytes in
+    let taken : full_from (table_controls w b p) c.capacity-cap.result c.args.from ≡ i ∷ full_from (table_controls w b p) c.capacity-cap.result (i + 1) =
+    subst (λ (xs : List ℕ). full_from xs c.capacity-cap.result c.args.from ≡ i ∷ full_from xs c.capacity-cap.result (i + 1)) controls c.in-Some.ensures.2 in (
       rw cap at taken,
-      c.pos_before.ensures ∙ ap (λ n. c.controls_in-begin.result - (i + 1) * n) c.size-size.ensures ∙ ap (λ n. n - (i + 1) * s.size) at,
+      c.pos_before.ensures ∙ ap (λ n. c.controls_pos-begin.result - (i + 1) * n) c.size-size.ensures ∙ ap (λ n. n - (i + 1) * s.size) at,
     )
 
 pub returns-in-Some-clause-viewable : goal.returns-in-Some-clause-viewable
@@ -57,25 +78,27 @@ returns-in-Some-clause-viewable g c =
     let v = g.V.HasSpec.spec in
     let s = entry_spec k v in
     let b = c.args.archive.now in
-    let p = c.args.root in
+    let p = root w k v b in
     let i = c.in-Some.bucket in
-    let cap = c.bucket_count-cap.ensures in
-    let at = c.controls_in-begin.ensures.at in
+    let cap : c.capacity-cap.result ≡ cap_at w b p = c.capacity-cap.ensures ∙ c.requires.header.cap in
+    let decoded : 0 < c.args.header.now.cap = omega (arith, c.requires.header.cap) in
+    let at : c.controls_pos-begin.result ≡ controls_pos w b p = c.controls_pos-begin.ensures ∙ c.requires.header.controls_pos decoded in
     let law = entry_element k v g.K.HasSpec.laws g.V.HasSpec.laws in
-    let controls : c.controls_from-controls.result.now ≡ table_controls w b p = rw (at, cap) at c.controls_from-controls.ensures in
+    let controls : c.controls_from-controls.result.now ≡ table_controls w b p = rw (at, cap) at c.controls_from-controls.ensures.bytes in
     let walked : IsWalked w b p i = (subst (λ n. i < n) cap c.in-Some.ensures.0, subst (λ (xs : List ℕ). slice_index xs i < 128) controls c.in-Some.ensures.1) in
     let item : c.pos_before.result ≡ item_at w s.size b p i =
-    c.pos_before.ensures ∙ ap (λ n. c.controls_in-begin.result - (i + 1) * n) c.size-size.ensures ∙ ap (λ n. n - (i + 1) * s.size) at in
-    subst (Viewable s b) (sym item) (item_viewable w s law b p c.requires i walked)
+    c.pos_before.ensures ∙ ap (λ n. c.controls_pos-begin.result - (i + 1) * n) c.size-size.ensures ∙ ap (λ n. n - (i + 1) * s.size) at in
+    subst (Viewable s b) (sym item) (item_viewable w s law b p (root_viewable g.W.Width.LIMIT (map_spec w k v) b c.requires.archive) i walked)
 
 pub returns-in-None-clause-next : goal.returns-in-None-clause-next
 returns-in-None-clause-next g c =
     let w = g.W.Word.word in
     let b = c.args.archive.now in
-    let p = c.args.root in
-    let cap = c.bucket_count-cap.ensures in
-    let at = c.controls_in-begin.ensures.at in
-    let controls : c.controls_from-controls.result.now ≡ table_controls w b p = rw (at, cap) at c.controls_from-controls.ensures in
-    let none : full_from (table_controls w b p) c.bucket_count-cap.result c.args.from ≡ [] =
-    subst (λ (xs : List ℕ). full_from xs c.bucket_count-cap.result c.args.from ≡ []) controls c.in-None.ensures in
+    let p = root w g.K.HasSpec.spec g.V.HasSpec.spec b in
+    let cap : c.capacity-cap.result ≡ cap_at w b p = c.capacity-cap.ensures ∙ c.requires.header.cap in
+    let decoded : 0 < c.args.header.now.cap = omega (arith, c.requires.header.cap) in
+    let at : c.controls_pos-begin.result ≡ controls_pos w b p = c.controls_pos-begin.ensures ∙ c.requires.header.controls_pos decoded in
+    let controls : c.controls_from-controls.result.now ≡ table_controls w b p = rw (at, cap) at c.controls_from-controls.ensures.bytes in
+    let none : full_from (table_controls w b p) c.capacity-cap.result c.args.from ≡ [] =
+    subst (λ (xs : List ℕ). full_from xs c.capacity-cap.result c.args.from ≡ []) controls c.in-None.ensures in
     rw cap at none

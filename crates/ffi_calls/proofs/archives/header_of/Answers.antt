@@ -1,0 +1,16 @@
+use Rattle.std.proofs.Common.{◌∙◌, ap}
+use Rattle.rkyv_table.specs.Table.Decoded.{IsDecoded}
+use Rattle.rkyv_collections.specs.Map.MapSpec.{map_spec}
+use Rattle.rkyv_table.proofs.Moved.{moved}
+use Rattle.ffi_calls.specs.Archives.{root}
+use Rattle.ffi_calls.proofs.First.{view_represents}
+use Rattle.ffi_calls.proofs.archives.header_of.Goals as goal
+
+pub of-requires : goal.of-requires
+of-requires g c = view_represents (map_spec g.W.Word.word g.K.HasSpec.spec g.V.HasSpec.spec) c.new.result c.args.archive c.root_of-root.result c.new.ensures.0 c.new.ensures.1 c.root_of-root.ensures.viewable
+
+pub returns : goal.returns
+returns g c =
+    let bytes = ap (λ v. v.archive.now) c.of.ensures.view ∙ ap (λ a. a.now) c.new.ensures.0 in
+    let place = ap (λ v. v.pos) c.of.ensures.view ∙ c.new.ensures.1 ∙ c.root_of-root.ensures.at in
+    moved (λ d r. IsDecoded g.W.Word.word d r c.header.result) c.of.result.view.archive.now c.args.archive.now c.of.result.view.pos (root g.W.Word.word g.K.HasSpec.spec g.V.HasSpec.spec c.args.archive.now) bytes place c.header.ensures

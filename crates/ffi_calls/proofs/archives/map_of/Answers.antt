@@ -1,0 +1,21 @@
+use Rattle.std.proofs.Common.{◌∙◌, ap, sym}
+use Rattle.rkyv_table.specs.Table.Decoded.{IsDecoded}
+use Rattle.rkyv_table.proofs.Moved.{moved}
+use Rattle.rkyv_collections.specs.Map.MapSpec.{map_spec}
+use Rattle.ffi_calls.specs.Archives.{root}
+use Rattle.ffi_calls.proofs.First.{view_represents}
+use Rattle.ffi_calls.proofs.archives.map_of.Goals as goal
+
+pub with_header-requires-clause-view : goal.with_header-requires-clause-view
+with_header-requires-clause-view g c = view_represents (map_spec g.W.Word.word g.K.HasSpec.spec g.V.HasSpec.spec) c.new.result c.args.archive c.root_of-root.result c.new.ensures.0 c.new.ensures.1 c.root_of-root.ensures.viewable
+
+pub with_header-requires-clause-header : goal.with_header-requires-clause-header
+with_header-requires-clause-header g c =
+    let place = c.new.ensures.1 ∙ c.root_of-root.ensures.at in
+    moved (λ d r. IsDecoded g.W.Word.word d r c.args.header.now) c.args.archive.now c.new.result.archive.now (root g.W.Word.word g.K.HasSpec.spec g.V.HasSpec.spec c.args.archive.now) c.new.result.pos (sym (ap (λ a. a.now) c.new.ensures.0)) (sym place) c.requires.header
+
+pub returns-clause-bytes : goal.returns-clause-bytes
+returns-clause-bytes g c = ap (λ v. v.archive.now) c.with_header.ensures.view ∙ ap (λ a. a.now) c.new.ensures.0
+
+pub returns-clause-pos : goal.returns-clause-pos
+returns-clause-pos g c = ap (λ v. v.pos) c.with_header.ensures.view ∙ c.new.ensures.1 ∙ c.root_of-root.ensures.at
