@@ -35,29 +35,39 @@ typedef struct opened {
 extern "C" {
 #endif
 
-/* The proved library. The functions that count, get, set and return the next pair require valid
- * bytes: the function that opens has returned 0 for them. The function that writes a header
- * requires that it has 32 bytes. The others require nothing. */
+/* The proved library. The functions that decode, get, set and return the next pair require valid
+ * bytes: the function that opens has returned 0 for them. Those that take a decoded header require
+ * that it is of these bytes. To set a value leaves it as it is. The function that writes the header
+ * of a container requires that it has 32 bytes. The others require nothing. */
 uint32_t rkyv_c_open_numbers(const uint8_t *archive, size_t length, bool long_values, bool wide);
 uint32_t rkyv_c_open_texts(const uint8_t *archive, size_t length, bool long_values, bool wide);
 void rkyv_c_explain_numbers(const uint8_t *archive, size_t length, bool long_values, bool wide,
                             rkyv_error *error);
 void rkyv_c_explain_texts(const uint8_t *archive, size_t length, bool long_values, bool wide,
                           rkyv_error *error);
-size_t rkyv_c_count_numbers(const uint8_t *archive, size_t length, bool long_values, bool wide);
-size_t rkyv_c_count_texts(const uint8_t *archive, size_t length, bool long_values, bool wide);
+void rkyv_c_decode_numbers(const uint8_t *archive, size_t length, bool long_values, bool wide,
+                           rkyv_table_header *header);
+void rkyv_c_decode_texts(const uint8_t *archive, size_t length, bool long_values, bool wide,
+                         rkyv_table_header *header);
 uint32_t rkyv_c_get_number(const uint8_t *archive, size_t length, bool long_values, bool wide,
-                           uint32_t key, uint64_t *value);
+                           const rkyv_table_header *header, uint32_t key, uint64_t *value);
 uint32_t rkyv_c_get_text(const uint8_t *archive, size_t length, bool long_values, bool wide,
-                         const uint8_t *key, size_t key_length, uint64_t *value);
+                         const rkyv_table_header *header, const uint8_t *key, size_t key_length,
+                         uint64_t *value);
 uint32_t rkyv_c_set_number(uint8_t *archive, size_t length, bool long_values, bool wide,
                            uint32_t key, uint64_t value);
 uint32_t rkyv_c_set_text(uint8_t *archive, size_t length, bool long_values, bool wide,
                          const uint8_t *key, size_t key_length, uint64_t value);
 uint32_t rkyv_c_next_number(const uint8_t *archive, size_t length, bool long_values, bool wide,
-                            rkyv_number_pair *pair);
+                            const rkyv_table_header *header, rkyv_number_pair *pair);
 uint32_t rkyv_c_next_text(const uint8_t *archive, size_t length, bool long_values, bool wide,
-                          rkyv_text_pair *pair);
+                          const rkyv_table_header *header, rkyv_text_pair *pair);
+size_t rkyv_c_next_numbers(const uint8_t *archive, size_t length, bool long_values, bool wide,
+                           const rkyv_table_header *header, uint64_t from,
+                           rkyv_number_pair *pairs, size_t room);
+size_t rkyv_c_next_texts(const uint8_t *archive, size_t length, bool long_values, bool wide,
+                         const rkyv_table_header *header, uint64_t from, rkyv_text_pair *pairs,
+                         size_t room);
 bool rkyv_c_is_text(const uint8_t *bytes, size_t length);
 uint32_t rkyv_c_build_numbers(const number_item *items, size_t count, bool long_values, bool wide,
                               built *built);
@@ -177,9 +187,11 @@ const char *rkyv_status_name(uint32_t status) {
     }
 }
 
+/* A handle of no open map. */
+static const rkyv_map closed = {NULL, NULL, 0, 0, 0, {0, 0, 0, 1, UINT64_MAX}};
+
 static rkyv_status open_map(const void *bytes, void *writable, size_t length, uint32_t kind,
                             uint32_t width, rkyv_map *map) {
-    const rkyv_map closed = {NULL, NULL, 0, 0, 0};
     if (map == NULL) {
         return RKYV_NULL;
     }
@@ -197,8 +209,17 @@ static rkyv_status open_map(const void *bytes, void *writable, size_t length, ui
             ? rkyv_c_open_texts(archive, length, has_long_values(kind), width == 64)
             : rkyv_c_open_numbers(archive, length, has_long_values(kind), width == 64));
     if (status == RKYV_OK) {
-        const rkyv_map opened = {archive, (uint8_t *)writable, length, kind, width};
-        *map = opened;
+        map->bytes = archive;
+        map->writable = (uint8_t *)writable;
+        map->length = length;
+        map->kind = kind;
+        map->width = width;
+        if (is_of_texts(kind)) {
+            rkyv_c_decode_texts(archive, length, has_long_values(kind), width == 64, &map->header);
+        } else {
+            rkyv_c_decode_numbers(archive, length, has_long_values(kind), width == 64,
+                                  &map->header);
+        }
     }
     return status;
 }
@@ -216,7 +237,6 @@ rkyv_status rkyv_map_open_writable(void *bytes, size_t length, uint32_t kind, ui
 /* Opens the map in a container. `writable` is the address of the container, or null. */
 static rkyv_status open_container(const void *bytes, void *writable, size_t length, uint32_t kind,
                                   uint32_t width, rkyv_map *map) {
-    const rkyv_map closed = {NULL, NULL, 0, 0, 0};
     opened found = {nothing, 0};
     bool wide = width == 64;
     if (map == NULL) {
@@ -335,10 +355,7 @@ rkyv_status rkyv_map_count(const rkyv_map *map, size_t *count) {
     if (count == NULL) {
         return RKYV_NULL;
     }
-    bool long_values = has_long_values(map->kind);
-    *count = is_of_texts(map->kind)
-        ? rkyv_c_count_texts(map->bytes, map->length, long_values, is_wide(map))
-        : rkyv_c_count_numbers(map->bytes, map->length, long_values, is_wide(map));
+    *count = map->header.length;
     return RKYV_OK;
 }
 
@@ -351,7 +368,7 @@ rkyv_status rkyv_map_get_number(const rkyv_map *map, uint32_t key, uint64_t *val
         return RKYV_NULL;
     }
     return (rkyv_status)rkyv_c_get_number(map->bytes, map->length, has_long_values(map->kind),
-                                          is_wide(map), key, value);
+                                          is_wide(map), &map->header, key, value);
 }
 
 rkyv_status rkyv_map_get_text(const rkyv_map *map, const char *key, size_t length,
@@ -367,7 +384,7 @@ rkyv_status rkyv_map_get_text(const rkyv_map *map, const char *key, size_t lengt
         return RKYV_NULL;
     }
     return (rkyv_status)rkyv_c_get_text(map->bytes, map->length, has_long_values(map->kind),
-                                        is_wide(map), bytes_of(key), length, value);
+                                        is_wide(map), &map->header, bytes_of(key), length, value);
 }
 
 rkyv_status rkyv_map_set_number(const rkyv_map *map, uint32_t key, uint64_t value) {
@@ -407,7 +424,7 @@ rkyv_status rkyv_map_next_number(const rkyv_map *map, rkyv_number_pair *pair) {
         return RKYV_NULL;
     }
     return (rkyv_status)rkyv_c_next_number(map->bytes, map->length, has_long_values(map->kind),
-                                           is_wide(map), pair);
+                                           is_wide(map), &map->header, pair);
 }
 
 rkyv_status rkyv_map_next_text(const rkyv_map *map, rkyv_text_pair *pair) {
@@ -421,11 +438,53 @@ rkyv_status rkyv_map_next_text(const rkyv_map *map, rkyv_text_pair *pair) {
     /* The key of the caller's pair may be null, but not that of the library's. */
     rkyv_text_pair next = {pair->next, 0, (const char *)nothing, 0};
     status = (rkyv_status)rkyv_c_next_text(map->bytes, map->length, has_long_values(map->kind),
-                                           is_wide(map), &next);
+                                           is_wide(map), &map->header, &next);
     if (status == RKYV_OK) {
         *pair = next;
     }
     return status;
+}
+
+/* RKYV_OK if `room` pairs of `size` bytes each may be stored at `pairs`, and a number at `count`. */
+static rkyv_status check_pairs(const void *pairs, size_t room, size_t size, const size_t *count) {
+    if (count == NULL || (pairs == NULL && room != 0)) {
+        return RKYV_NULL;
+    }
+    return room <= PTRDIFF_MAX / size ? RKYV_OK : RKYV_TOO_LONG;
+}
+
+rkyv_status rkyv_map_next_numbers(const rkyv_map *map, uint64_t from, rkyv_number_pair *pairs,
+                                  size_t room, size_t *count) {
+    rkyv_number_pair none = {0, 0, 0};
+    rkyv_status status = check_map(map, is_of_numbers);
+    if (status == RKYV_OK) {
+        status = check_pairs(pairs, room, sizeof(rkyv_number_pair), count);
+    }
+    if (status == RKYV_OK) {
+        *count = rkyv_c_next_numbers(map->bytes, map->length, has_long_values(map->kind),
+                                     is_wide(map), &map->header, from,
+                                     pairs != NULL ? pairs : &none, room);
+    }
+    return status;
+}
+
+rkyv_status rkyv_map_next_texts(const rkyv_map *map, uint64_t from, rkyv_text_pair *pairs,
+                                size_t room, size_t *count) {
+    rkyv_text_pair none = {0, 0, (const char *)nothing, 0};
+    rkyv_status status = check_map(map, is_of_texts);
+    if (status == RKYV_OK) {
+        status = check_pairs(pairs, room, sizeof(rkyv_text_pair), count);
+    }
+    if (status != RKYV_OK) {
+        return status;
+    }
+    /* The keys of the caller's pairs may be null, but not those of the library's. */
+    for (size_t i = 0; i < room; i++) {
+        pairs[i] = none;
+    }
+    *count = rkyv_c_next_texts(map->bytes, map->length, has_long_values(map->kind), is_wide(map),
+                               &map->header, from, pairs != NULL ? pairs : &none, room);
+    return RKYV_OK;
 }
 
 /* The pairs, an array of `number_item` or `text_item`, and the concatenated bytes of the text keys.

@@ -149,6 +149,15 @@ typedef enum rkyv_kind {
     RKYV_TEXT_TO_U64 = 4
 } rkyv_kind;
 
+/* The decoded header of a map's table. Its members are private. */
+typedef struct rkyv_table_header {
+    size_t controls_position;
+    size_t length;
+    size_t capacity;
+    uint64_t divisor;
+    uint64_t inverse;
+} rkyv_table_header;
+
 /* A handle of an open map. Its members are private. It may be copied, and needs no closing. */
 typedef struct rkyv_map {
     const uint8_t *bytes;
@@ -156,6 +165,7 @@ typedef struct rkyv_map {
     size_t length;
     uint32_t kind;
     uint32_t width;
+    rkyv_table_header header;
 } rkyv_map;
 
 /* A pair of a map with number keys. `next` is the bucket at which the iteration continues. */
@@ -329,6 +339,23 @@ rkyv_status rkyv_map_next_number(const rkyv_map *map, rkyv_number_pair *pair);
 
 /* Stores the next pair of a map with text keys, as `rkyv_map_next_number` does. */
 rkyv_status rkyv_map_next_text(const rkyv_map *map, rkyv_text_pair *pair);
+
+/* Stores the next pairs of a map with number keys, in the order of the archive, over the `room` pairs
+ * at `pairs`, and their number in `count`: one call in the place of many. `from` is 0 at first, and
+ * then the `next` of the last pair. If fewer than `room` pairs are stored, none remains. The others
+ * of the `room` pairs have no meaning then. `pairs` may be null if `room` is 0.
+ *
+ * Errors, after which no pair is stored:
+ *   - RKYV_NULL: `map` is null;
+ *   - RKYV_CLOSED, RKYV_WRONG_KIND;
+ *   - RKYV_NULL: `count` or `pairs` is null;
+ *   - RKYV_TOO_LONG: the pairs have more than PTRDIFF_MAX bytes. */
+rkyv_status rkyv_map_next_numbers(const rkyv_map *map, uint64_t from, rkyv_number_pair *pairs,
+                                  size_t room, size_t *count);
+
+/* Stores the next pairs of a map with text keys, as `rkyv_map_next_numbers` does. */
+rkyv_status rkyv_map_next_texts(const rkyv_map *map, uint64_t from, rkyv_text_pair *pairs,
+                                size_t room, size_t *count);
 
 /* The pairs of a map that is to be archived. */
 typedef struct rkyv_builder rkyv_builder;

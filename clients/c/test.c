@@ -154,6 +154,104 @@ static void texts(void) {
     returns("set a number", rkyv_map_set_number(&map, 1, 1), RKYV_WRONG_KIND);
 }
 
+/* An archive of 40 pairs of the kind: i to 100 + i, with the keys as numbers or as letters. */
+static uint8_t *forty_pairs(uint32_t kind, size_t *length) {
+    uint8_t *bytes = NULL;
+    rkyv_builder *builder;
+    returns("new", rkyv_builder_new(kind, 32, &builder), RKYV_OK);
+    for (uint32_t i = 0; i < 40; i++) {
+        const char key[] = {(char)('A' + i), 0};
+        returns("put",
+                kind == RKYV_NUMBER_TO_U32 ? rkyv_builder_put_number(builder, i, 100 + i)
+                                           : rkyv_builder_put_text(builder, key, 1, 100 + i),
+                RKYV_OK);
+    }
+    returns("finish", rkyv_builder_finish(builder, &bytes, length), RKYV_OK);
+    rkyv_builder_free(builder);
+    return bytes;
+}
+
+/* Several pairs of one call are those of as many calls for one. */
+static void several_numbers(void) {
+    size_t length, count = 9;
+    uint8_t *bytes = forty_pairs(RKYV_NUMBER_TO_U32, &length);
+    rkyv_map map, closed = {NULL, NULL, 0, 0, 0, {0, 0, 0, 0, 0}};
+    rkyv_number_pair pairs[50], text = {0, 0, 0};
+    rkyv_text_pair others[1];
+
+    returns("open", rkyv_map_open(bytes, length, RKYV_NUMBER_TO_U32, 32, &map), RKYV_OK);
+    for (size_t room = 1; room <= 50; room++) {
+        rkyv_number_pair one = text;
+        size_t seen = 0;
+        do {
+            returns("next pairs", rkyv_map_next_numbers(&map, one.next, pairs, room, &count),
+                    RKYV_OK);
+            for (size_t i = 0; i < count; i++) {
+                returns("next", rkyv_map_next_number(&map, &one), RKYV_OK);
+                same("key", pairs[i].key, one.key);
+                same("value", pairs[i].value, one.value);
+                same("value of the key", pairs[i].value, 100 + pairs[i].key);
+                same("bucket", pairs[i].next, one.next);
+            }
+            seen += count;
+        } while (count == room);
+        same("all", seen, 40);
+        returns("end", rkyv_map_next_number(&map, &one), RKYV_END);
+    }
+    returns("no room", rkyv_map_next_numbers(&map, 0, NULL, 0, &count), RKYV_OK);
+    same("none", count, 0);
+    returns("far behind", rkyv_map_next_numbers(&map, UINT64_MAX, pairs, 50, &count), RKYV_OK);
+    same("none", count, 0);
+    count = 9;
+    returns("of null", rkyv_map_next_numbers(NULL, 0, pairs, 50, &count), RKYV_NULL);
+    returns("of no map", rkyv_map_next_numbers(&closed, 0, pairs, 50, &count), RKYV_CLOSED);
+    returns("texts", rkyv_map_next_texts(&map, 0, others, 1, &count), RKYV_WRONG_KIND);
+    returns("to null", rkyv_map_next_numbers(&map, 0, NULL, 1, &count), RKYV_NULL);
+    returns("no count", rkyv_map_next_numbers(&map, 0, pairs, 1, NULL), RKYV_NULL);
+    returns("too many", rkyv_map_next_numbers(&map, 0, pairs, SIZE_MAX, &count), RKYV_TOO_LONG);
+    same("kept", count, 9);
+    rkyv_bytes_free(bytes);
+    same("blocks", blocks, 0);
+}
+
+static void several_texts(void) {
+    size_t length, count = 9;
+    uint8_t *bytes = forty_pairs(RKYV_TEXT_TO_U32, &length);
+    rkyv_map map;
+    rkyv_text_pair pairs[50];
+    rkyv_number_pair others[1];
+
+    returns("open", rkyv_map_open(bytes, length, RKYV_TEXT_TO_U32, 32, &map), RKYV_OK);
+    for (size_t room = 1; room <= 50; room++) {
+        rkyv_text_pair one = {0, 0, NULL, 0};
+        size_t seen = 0;
+        do {
+            returns("next pairs", rkyv_map_next_texts(&map, one.next, pairs, room, &count),
+                    RKYV_OK);
+            for (size_t i = 0; i < count; i++) {
+                returns("next", rkyv_map_next_text(&map, &one), RKYV_OK);
+                same("key", (uint64_t)(pairs[i].key - (const char *)bytes),
+                     (uint64_t)(one.key - (const char *)bytes));
+                same("length", pairs[i].key_length, 1);
+                same("value", pairs[i].value, one.value);
+                same("value of the key", pairs[i].value, 100 + (uint64_t)(*pairs[i].key - 'A'));
+                same("bucket", pairs[i].next, one.next);
+            }
+            seen += count;
+        } while (count == room);
+        same("all", seen, 40);
+    }
+    returns("no room", rkyv_map_next_texts(&map, 0, NULL, 0, &count), RKYV_OK);
+    same("none", count, 0);
+    returns("of null", rkyv_map_next_texts(NULL, 0, pairs, 50, &count), RKYV_NULL);
+    returns("numbers", rkyv_map_next_numbers(&map, 0, others, 1, &count), RKYV_WRONG_KIND);
+    returns("to null", rkyv_map_next_texts(&map, 0, NULL, 1, &count), RKYV_NULL);
+    returns("no count", rkyv_map_next_texts(&map, 0, pairs, 1, NULL), RKYV_NULL);
+    returns("too many", rkyv_map_next_texts(&map, 0, pairs, SIZE_MAX, &count), RKYV_TOO_LONG);
+    rkyv_bytes_free(bytes);
+    same("blocks", blocks, 0);
+}
+
 /* An archive may be at any address: positions count from its first byte. */
 static void anywhere(void) {
     uint8_t bytes[112];
@@ -181,7 +279,7 @@ static void errors(void) {
     uint8_t bytes[104];
     uint64_t value = 9;
     size_t length = one_to_two(bytes), count;
-    rkyv_map map, closed = {NULL, NULL, 0, 0, 0};
+    rkyv_map map, closed = {NULL, NULL, 0, 0, 0, {0, 0, 0, 0, 0}};
     rkyv_number_pair pair = {0, 0, 0};
 
     returns("no map", rkyv_map_open(bytes, length, RKYV_NUMBER_TO_U32, 32, NULL), RKYV_NULL);
@@ -742,6 +840,8 @@ static void invalid_items(void) {
 int main(void) {
     numbers();
     texts();
+    several_numbers();
+    several_texts();
     anywhere();
     errors();
     explanations();

@@ -2,40 +2,68 @@ use std::fmt;
 use std::iter::FusedIterator;
 use std::marker::PhantomData;
 
-use crate::raw::RawMap;
+use crate::raw::{self, RawMap};
 use crate::{Key, Value};
+
+/// The number of pairs that one call of the library stores.
+const BATCH: usize = 16;
 
 /// An iterator over the pairs of a [`Map`](crate::Map), in the order of the archive.
 #[must_use = "iterators are lazy and do nothing unless consumed"]
-pub struct Iter<'a, K: ?Sized, V> {
+pub struct Iter<'a, K: Key + ?Sized, V> {
     raw: RawMap,
-    next: u64,
+    /// The pairs that were stored last. Those before `taken` were returned, and those from `stored`
+    /// on have no meaning.
+    pairs: [K::Pair; BATCH],
+    taken: usize,
+    stored: usize,
+    /// The bucket behind the pairs that were stored.
+    from: u64,
     left: usize,
     bytes: PhantomData<&'a [u8]>,
     types: PhantomData<fn(&K) -> V>,
 }
 
-// SAFETY: as a map, an iterator is a shared borrow of bytes, which its calls only read. The
-// position is its own.
-unsafe impl<K: ?Sized, V> Send for Iter<'_, K, V> {}
+// SAFETY: as a map, an iterator is a shared borrow of bytes, which its calls only read. The pairs
+// and the position are its own.
+unsafe impl<K: Key + ?Sized, V> Send for Iter<'_, K, V> {}
 
-// SAFETY: a shared reference to an iterator gives access to its bytes and position only to read.
-unsafe impl<K: ?Sized, V> Sync for Iter<'_, K, V> {}
+// SAFETY: a shared reference to an iterator gives access to its bytes, pairs and position only to
+// read.
+unsafe impl<K: Key + ?Sized, V> Sync for Iter<'_, K, V> {}
 
-impl<K: ?Sized, V> Iter<'_, K, V> {
+impl<K: Key + ?Sized, V> Iter<'_, K, V> {
     /// The pairs of an open map with `len` pairs, whose bytes are borrowed.
     pub(crate) fn new(raw: RawMap, len: usize) -> Self {
         Iter {
             raw,
-            next: 0,
+            pairs: [K::NO_PAIR; BATCH],
+            taken: 0,
+            stored: 0,
+            from: 0,
             left: len,
             bytes: PhantomData,
             types: PhantomData,
         }
     }
+
+    /// Stores the next pairs. At least one is left.
+    #[inline(never)]
+    fn store(&mut self) {
+        // SAFETY: the map is open, and its bytes are borrowed for 'a.
+        let status =
+            unsafe { K::next_pairs(&self.raw, self.from, &mut self.pairs, &mut self.stored) };
+        assert!(
+            status == raw::OK && self.stored > 0,
+            "an open map has {} more pairs: {status}",
+            self.left
+        );
+        self.taken = 0;
+        self.from = K::behind(&self.pairs[self.stored - 1]);
+    }
 }
 
-impl<K: ?Sized, V> Clone for Iter<'_, K, V> {
+impl<K: Key + ?Sized, V> Clone for Iter<'_, K, V> {
     fn clone(&self) -> Self {
         Iter { ..*self }
     }
@@ -48,14 +76,14 @@ impl<'a, K: Key + ?Sized, V: Value> Iterator for Iter<'a, K, V> {
         if self.left == 0 {
             return None;
         }
-        // SAFETY: the map is open, and its bytes are borrowed for 'a.
-        match unsafe { K::next(&self.raw, &mut self.next) } {
-            Ok((key, value)) => {
-                self.left -= 1;
-                Some((key, V::of(value)))
-            }
-            Err(status) => unreachable!("an open map has {} more pairs: {status}", self.left),
+        if self.taken == self.stored {
+            self.store();
         }
+        // SAFETY: the pair is one of the map, which is open, and its bytes are borrowed for 'a.
+        let (key, value) = unsafe { K::key_value(&self.pairs[self.taken]) };
+        self.taken += 1;
+        self.left -= 1;
+        Some((key, V::of(value)))
     }
 
     fn size_hint(&self) -> (usize, Option<usize>) {
@@ -77,17 +105,17 @@ macro_rules! part {
     ($(#[$doc:meta])* $name:ident, $item:ty, $index:tt) => {
         $(#[$doc])*
         #[must_use = "iterators are lazy and do nothing unless consumed"]
-        pub struct $name<'a, K: ?Sized, V> {
+        pub struct $name<'a, K: Key + ?Sized, V> {
             pairs: Iter<'a, K, V>,
         }
 
-        impl<'a, K: ?Sized, V> $name<'a, K, V> {
+        impl<'a, K: Key + ?Sized, V> $name<'a, K, V> {
             pub(crate) fn new(pairs: Iter<'a, K, V>) -> Self {
                 $name { pairs }
             }
         }
 
-        impl<K: ?Sized, V> Clone for $name<'_, K, V> {
+        impl<K: Key + ?Sized, V> Clone for $name<'_, K, V> {
             fn clone(&self) -> Self {
                 $name::new(self.pairs.clone())
             }

@@ -2,6 +2,17 @@
 
 use std::ffi::c_void;
 
+/// The decoded header of a table: the `rkyv_table_header` of the header.
+#[repr(C)]
+#[derive(Clone, Copy)]
+struct RawTableHeader {
+    controls_position: usize,
+    length: usize,
+    capacity: usize,
+    divisor: u64,
+    inverse: u64,
+}
+
 /// A handle: the `rkyv_map` of the header.
 #[repr(C)]
 #[derive(Clone, Copy)]
@@ -11,6 +22,7 @@ pub struct RawMap {
     length: usize,
     kind: u32,
     width: u32,
+    header: RawTableHeader,
 }
 
 impl RawMap {
@@ -21,11 +33,19 @@ impl RawMap {
         length: 0,
         kind: 0,
         width: 0,
+        header: RawTableHeader {
+            controls_position: 0,
+            length: 0,
+            capacity: 0,
+            divisor: 1,
+            inverse: u64::MAX,
+        },
     };
 }
 
 /// A pair of a map with number keys: the `rkyv_number_pair` of the header.
 #[repr(C)]
+#[derive(Clone, Copy)]
 pub struct RawNumberPair {
     pub next: u64,
     pub value: u64,
@@ -34,6 +54,7 @@ pub struct RawNumberPair {
 
 /// A pair of a map with text keys: the `rkyv_text_pair` of the header.
 #[repr(C)]
+#[derive(Clone, Copy)]
 pub struct RawTextPair {
     pub next: u64,
     pub value: u64,
@@ -120,8 +141,20 @@ unsafe extern "C" {
     ) -> u32;
     pub fn rkyv_map_set_number(map: *const RawMap, key: u32, value: u64) -> u32;
     pub fn rkyv_map_set_text(map: *const RawMap, key: *const u8, length: usize, value: u64) -> u32;
-    pub fn rkyv_map_next_number(map: *const RawMap, pair: *mut RawNumberPair) -> u32;
-    pub fn rkyv_map_next_text(map: *const RawMap, pair: *mut RawTextPair) -> u32;
+    pub fn rkyv_map_next_numbers(
+        map: *const RawMap,
+        from: u64,
+        pairs: *mut RawNumberPair,
+        room: usize,
+        count: *mut usize,
+    ) -> u32;
+    pub fn rkyv_map_next_texts(
+        map: *const RawMap,
+        from: u64,
+        pairs: *mut RawTextPair,
+        room: usize,
+        count: *mut usize,
+    ) -> u32;
     pub fn rkyv_builder_new(kind: u32, width: u32, builder: *mut *mut RawBuilder) -> u32;
     pub fn rkyv_builder_put_number(builder: *mut RawBuilder, key: u32, value: u64) -> u32;
     pub fn rkyv_builder_put_text(

@@ -74,6 +74,8 @@ pub struct Texts {
 }
 
 pub(crate) mod sealed {
+    use std::panic::{RefUnwindSafe, UnwindSafe};
+
     use super::{RawBuilder, RawMap};
 
     /// The calls for a type of keys.
@@ -109,14 +111,32 @@ pub(crate) mod sealed {
         /// `builder` is one of `rkyv_builder_new` that is not freed and that nobody else uses.
         unsafe fn put(builder: *mut RawBuilder, key: &Self, value: u64) -> u32;
 
-        /// The next pair, or the status if there is none.
+        /// A pair as the library stores it.
+        type Pair: Copy + RefUnwindSafe + UnwindSafe;
+
+        /// A pair that a call overwrites.
+        const NO_PAIR: Self::Pair;
+
+        /// Stores the next pairs from the bucket `from` on, their number in `count`, and returns the
+        /// status.
         ///
         /// # Safety
-        /// `map` is closed, or it is open and its bytes are borrowed for `'a`.
-        unsafe fn next<'a>(
+        /// `map` is closed, or it is open and its bytes are borrowed.
+        unsafe fn next_pairs(
             map: &RawMap,
-            next: &mut u64,
-        ) -> Result<(<Self as super::Key>::Ref<'a>, u64), u32>
+            from: u64,
+            pairs: &mut [Self::Pair],
+            count: &mut usize,
+        ) -> u32;
+
+        /// The bucket behind a pair.
+        fn behind(pair: &Self::Pair) -> u64;
+
+        /// The key and the value of a pair.
+        ///
+        /// # Safety
+        /// The pair is one of an open map, whose bytes are borrowed for `'a`.
+        unsafe fn key_value<'a>(pair: &Self::Pair) -> (<Self as super::Key>::Ref<'a>, u64)
         where
             Self: super::Key;
     }
@@ -166,19 +186,31 @@ impl SealedKey for u32 {
         unsafe { raw::rkyv_builder_put_number(builder, *key, value) }
     }
 
-    unsafe fn next<'a>(map: &RawMap, next: &mut u64) -> Result<(<u32 as Key>::Ref<'a>, u64), u32> {
-        let mut pair = RawNumberPair {
-            next: *next,
-            value: 0,
-            key: 0,
-        };
-        // SAFETY: the caller ensures that the bytes of an open map are borrowed.
-        let status = unsafe { raw::rkyv_map_next_number(map, &mut pair) };
-        if status != raw::OK {
-            return Err(status);
-        }
-        *next = pair.next;
-        Ok((pair.key, pair.value))
+    type Pair = RawNumberPair;
+
+    const NO_PAIR: RawNumberPair = RawNumberPair {
+        next: 0,
+        value: 0,
+        key: 0,
+    };
+
+    unsafe fn next_pairs(
+        map: &RawMap,
+        from: u64,
+        pairs: &mut [RawNumberPair],
+        count: &mut usize,
+    ) -> u32 {
+        // SAFETY: pointer and length are those of one slice. The caller ensures that the bytes of
+        // an open map are borrowed.
+        unsafe { raw::rkyv_map_next_numbers(map, from, pairs.as_mut_ptr(), pairs.len(), count) }
+    }
+
+    fn behind(pair: &RawNumberPair) -> u64 {
+        pair.next
+    }
+
+    unsafe fn key_value<'a>(pair: &RawNumberPair) -> (<u32 as Key>::Ref<'a>, u64) {
+        (pair.key, pair.value)
     }
 }
 
@@ -225,25 +257,37 @@ impl SealedKey for str {
         unsafe { raw::rkyv_builder_put_text(builder, key.as_ptr(), key.len(), value) }
     }
 
-    unsafe fn next<'a>(map: &RawMap, next: &mut u64) -> Result<(<str as Key>::Ref<'a>, u64), u32> {
-        let mut pair = RawTextPair {
-            next: *next,
-            value: 0,
-            key: std::ptr::null(),
-            key_length: 0,
-        };
-        // SAFETY: the caller ensures that the bytes of an open map are borrowed.
-        let status = unsafe { raw::rkyv_map_next_text(map, &mut pair) };
-        if status != raw::OK {
-            return Err(status);
-        }
-        *next = pair.next;
+    type Pair = RawTextPair;
+
+    const NO_PAIR: RawTextPair = RawTextPair {
+        next: 0,
+        value: 0,
+        key: std::ptr::null(),
+        key_length: 0,
+    };
+
+    unsafe fn next_pairs(
+        map: &RawMap,
+        from: u64,
+        pairs: &mut [RawTextPair],
+        count: &mut usize,
+    ) -> u32 {
+        // SAFETY: pointer and length are those of one slice. The caller ensures that the bytes of
+        // an open map are borrowed.
+        unsafe { raw::rkyv_map_next_texts(map, from, pairs.as_mut_ptr(), pairs.len(), count) }
+    }
+
+    fn behind(pair: &RawTextPair) -> u64 {
+        pair.next
+    }
+
+    unsafe fn key_value<'a>(pair: &RawTextPair) -> (<str as Key>::Ref<'a>, u64) {
         // SAFETY: the key is a part of the archive, which is borrowed for 'a, and never null.
         let key = unsafe { std::slice::from_raw_parts(pair.key, pair.key_length) };
         // SAFETY: opening the map has validated each key as UTF-8. Only values are written, and a
         // valid archive has no byte that is of both a key and a value.
         let key = unsafe { std::str::from_utf8_unchecked(key) };
-        Ok((key, pair.value))
+        (key, pair.value)
     }
 }
 
