@@ -1,11 +1,14 @@
 -- Steps of the validation of an index map.
-use Rattle.std.proofs.Common.{◌≡◌, ℕ, suc, ◌+◌, ◌-◌, ◌*◌, ◌%◌, ◌<◌, ◌≤◌, refl, sym, ap, subst, ◌∙◌, arith, List, [], ◌∷◌, Bool, true, false, filter, length, ℤ, FitsSigned, to_z, of_z}
+use Rattle.std.proofs.Common.{◌≡◌, ℕ, inl, inr, suc, ◌+◌, ◌-◌, ◌*◌, ◌%◌, ◌<◌, ◌≤◌, refl, sym, ap, subst, ◌∙◌, arith, List, [], ◌∷◌, Bool, true, false, filter, length, ℤ, FitsSigned, to_z, of_z}
 use Rattle.std.specs.Borrow.{Bor}
 use Rattle.std.specs.Int.{Width, byte_len, w128}
 use Rattle.std.specs.List.{list_all, range_with_len}
-use Rattle.std.proofs.Math.Nat.{add-mul, mul-zero}
+use Rattle.std.proofs.Math.Nat.{add-mul, mul-le-mul_right, mul-zero}
+use Rattle.std.proofs.lemmas.Bool.{cases_eq}
+use Rattle.std.proofs.lemmas.List.Elements.{All-map, All-weaker}
 use Rattle.std.proofs.lemmas.Int.{to_z-of_z}
 use Rattle.std.proofs.lemmas.Nat.{mul-mod}
+use Rattle.rkyv_base.specs.Bytes.{number_at}
 use Rattle.rkyv_base.specs.Layout.{IsPlace}
 use Rattle.rkyv_base.specs.Scalar.{Encoding, IsScalar}
 use Rattle.rkyv_base.specs.ElementSpec.{IsElement, ElementSpec, Viewable}
@@ -13,9 +16,16 @@ use Rattle.rkyv_base.specs.Lemmas.ElementSpec.{by_align, valid_at, sum_multiple}
 use Rattle.rkyv_base.specs.Text.{IsArchiveWord}
 use Rattle.rkyv_base.specs.View.{IsAt, IsValidView}
 use Rattle.rkyv_base.specs.declared.view.View.{View}
+use Rattle.rkyv_table.specs.Controls.Placing.{walk}
+use Rattle.rkyv_table.specs.Table.Header.{cap_at, controls_pos}
 use Rattle.rkyv_table.specs.Table.Layout.{TableHolds, table_spec}
+use Rattle.rkyv_table.specs.Table.Positions.{IsWalked, item_at, item_positions, table_controls}
+use Rattle.rkyv_table.specs.Table.Decoded.{IsDecoded}
+use Rattle.rkyv_table.specs.declared.table.decoded.Decoded.{Decoded}
+use Rattle.rkyv_table.proofs.ParsedTable.{controls_inside, item_before}
+use Rattle.rkyv_table.proofs.RawWalks.{walked_all}
 use Rattle.rkyv_table.specs.Lemmas.TableLaws.{table_element}
-use Rattle.rkyv_index.specs.Index.IndexLayout.{entry_at, place_spec}
+use Rattle.rkyv_index.specs.Index.IndexLayout.{AreBelow, PlacesBelow, entry_at, place_spec}
 use Rattle.rkyv_index.specs.Lemmas.IndexLaws.{place_element}
 use Rattle.rkyv_index.specs.Lemmas.PlaceSpecs.{words_hold}
 
@@ -76,3 +86,74 @@ none_left i n above = let z : n - i ≡ 0 = omega arith in ap (range_with_len i)
 
 pub all_left : (n : ℕ) → range_with_len 0 (n - 0) ≡ range_with_len 0 n
 all_left n = let z : n - 0 ≡ n = omega arith in ap (range_with_len 0) z
+
+-- a word of several is inside the bytes
+pub word_inside : (size begin i count len : ℕ) → i < count → begin + count * size ≤ len → begin + i * size + size ≤ len
+word_inside size begin i count len small inside =
+    let most : (i + 1) * size ≤ count * size = mul-le-mul_right size (omega arith) in
+    let next : (i + 1) * size ≡ i * size + 1 * size = add-mul i 1 size in
+    omega arith
+
+-- one index more is below the length
+pub below_next : (w : Width) (b : List ℕ) (begin n len : ℕ) → AreBelow w b begin n len → number_at w b (begin + n * byte_len w) < len → AreBelow w b begin (n + 1) len
+below_next w b begin n len h last i small = elim (cases_eq i n) [
+  | inl e ↦ subst (λ j. number_at w b (begin + j * byte_len w) < len) (sym e) last
+  | inr other ↦ h i (omega (arith, small, other))
+]
+
+-- the indices of the full buckets are below `n` if those of all buckets are
+module _ (w : Width) (kind : IsArchiveWord w) (b : List ℕ) (p n begin : ℕ) (v : Viewable (table_spec w (place_spec w)) b p) (at : 0 < cap_at w b p → begin ≡ controls_pos w b p - cap_at w b p * byte_len w) where
+  bucket_below : AreBelow w b begin (cap_at w b p) n → (i : ℕ) → IsWalked w b p i → number_at w b (item_at w (byte_len w) b p i) < n
+  bucket_below all i walked =
+      let size = byte_len w in
+      let cap = cap_at w b p in
+      let small : i < cap = walked.0 in
+      let k = cap - (i + 1) in
+      let whole : (i + 1) + k ≡ cap = omega arith in
+      let split : cap * size ≡ (i + 1) * size + k * size = ap (λ m. m * size) (sym whole) ∙ add-mul (i + 1) k size in
+      let last : (cap - 1 + 1) * size ≤ controls_pos w b p = item_before w (place_spec w) (place_element w kind) b p v (cap - 1) (omega arith) in
+      let before : cap * size ≤ controls_pos w b p = subst (λ m. m * size ≤ controls_pos w b p) (omega arith) last in
+      let told = at (omega arith) in
+      let there : begin + k * size ≡ item_at w size b p i = omega (arith, split, before, told) in
+      subst (λ q. number_at w b q < n) there (all k (omega arith))
+
+  pub buckets_below : AreBelow w b begin (cap_at w b p) n → PlacesBelow w b n (item_positions w (byte_len w) b p)
+  buckets_below all =
+      let is = walk (table_controls w b p) (cap_at w b p) in
+      All-map (λ q. number_at w b q < n) (item_at w (byte_len w) b p) is
+      (All-weaker (IsWalked w b p) (λ i. number_at w b (item_at w (byte_len w) b p i) < n) (bucket_below all) is (walked_all w (place_spec w) (place_element w kind) b p))
+
+-- the buckets of a table, by its decoded header
+module _ (w : Width) (kind : IsArchiveWord w) (b : List ℕ) (p : ℕ) (v : Viewable (table_spec w (place_spec w)) b p) (header : Decoded) (is : IsDecoded w b p header) where
+  -- they are before the control bytes
+  pub decoded_before : 0 < header.cap → header.cap * byte_len w ≤ header.controls_pos
+  decoded_before some =
+      let cap = is.cap in
+      let whole : cap_at w b p - 1 + 1 ≡ header.cap = omega (arith, cap) in
+      let last = item_before w (place_spec w) (place_element w kind) b p v (cap_at w b p - 1) (omega (arith, cap)) in
+      subst (λ c. header.cap * byte_len w ≤ c) (sym (is.controls_pos some)) (subst (λ m. m * byte_len w ≤ controls_pos w b p) whole last)
+
+  module _ (begin : ℕ) (none_at : header.cap ≡ 0 → begin ≡ 0) (some_at : 0 < header.cap → begin ≡ header.controls_pos - header.cap * byte_len w) where
+    -- they are inside the bytes
+    pub decoded_inside : begin + header.cap * byte_len w ≤ length b
+    decoded_inside = elim (cases_eq header.cap 0) [
+      | inl none ↦
+          let zero : header.cap * byte_len w ≡ 0 * byte_len w = ap (λ m. m * byte_len w) none in
+          let at = none_at none in
+          omega arith
+      | inr other ↦
+          let some : 0 < header.cap = omega arith in
+          let at = some_at some in
+          let before = decoded_before some in
+          let cap = is.cap in
+          let controls = is.controls_pos some in
+          let inside = (controls_inside w (place_spec w) (place_element w kind) b p v (omega (arith, cap))).0 in
+          omega arith
+    ]
+
+    -- they begin at the last one
+    pub decoded_begin : 0 < cap_at w b p → begin ≡ controls_pos w b p - cap_at w b p * byte_len w
+    decoded_begin some =
+        let cap = is.cap in
+        let there : 0 < header.cap = omega (arith, cap) in
+        some_at there ∙ ap (λ c. c - header.cap * byte_len w) (is.controls_pos there) ∙ ap (λ m. controls_pos w b p - m * byte_len w) cap

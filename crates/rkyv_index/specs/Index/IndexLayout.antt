@@ -47,6 +47,11 @@ pair_pos w size b p i = entry_at size (entries_pos w b p) i
 abbrev pub places_of : ℕ → List ℕ
 places_of len = range_with_len 0 len
 
+-- the `count` indices from position `begin` on are below `n`
+abbrev pub AreBelow : Width → List ℕ → ℕ → ℕ → ℕ → Type 0
+AreBelow w b begin count n =
+    (i : ℕ) → i < count → number_at w b (begin + i * byte_len w) < n
+
 -- the index at each of the positions `qs` is below `n`
 abbrev pub PlacesBelow : Width → List ℕ → ℕ → List ℕ → Type 0
 PlacesBelow w b n qs = All (λ q. number_at w b q < n) qs

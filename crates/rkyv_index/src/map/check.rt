@@ -5,7 +5,7 @@
 //! 3. The entries are in the range, and aligned.
 //! 4. Each entry is valid, in order.
 ghost use Rattle.std.specs.Prelude.{IfErr, IfOk, MatchResult, length, pos as int, ◌%◌, ◌*◌, ◌+ℤ◌};
-ghost use Rattle.std.specs.Prelude.{◌+◌, ◌<◌, ◌≡◌, ◌≤◌};
+ghost use Rattle.std.specs.Prelude.{true, ◌+◌, ◌-◌, ◌<◌, ◌≡◌, ◌≤◌};
 ghost use Rattle.std.specs.Int.{byte_len};
 ghost use Rattle.rkyv_base.specs.ElementSpec.{Viewable};
 ghost use Rattle.rkyv_table.specs.Table.Header.{len_at};
@@ -13,6 +13,7 @@ ghost use Rattle.rkyv_table.specs.Table.Places.{FirstFails, SomeHold};
 ghost use Rattle.rkyv_table.specs.Table.Positions.{item_positions};
 ghost use Rattle.rkyv_table.specs.Table.Layout.{table_spec};
 ghost use Rattle.rkyv_index.specs.Index.IndexLayout.{
+  AreBelow,
   EntriesFail,
   EntriesIn,
   FirstNotBelow,
@@ -28,11 +29,49 @@ use rkyv_base::errors::VerifyError;
 use rkyv_base::part::{distance_target, part_in};
 use rkyv_base::view::View;
 use rkyv_base::width::Width;
+use rkyv_table::table::decoded::Decoded;
 use rkyv_table::table::{ArchivedHashTable, TableOf};
+
+/// Returns the position of the last bucket, at which the buckets begin, or 0 without buckets.
+#[inline]
+fn buckets_begin<W: Width>(header: Decoded) -> usize
+    requires { 0 < header.cap → header.cap * byte_len W.word ≤ header.controls_pos }
+    ensures none { header.cap ≡ 0 → result ≡ 0 }
+    ensures some { 0 < header.cap
+        → result ≡ header.controls_pos - header.cap * byte_len W.word }
+{
+    if header.capacity() == 0 {
+        return 0;
+    }
+    header.controls_pos() - header.capacity() * W::ALIGN
+}
+
+/// Returns `true` only if `below` is and the index is below `len`.
+#[inline]
+fn and_below(below: bool, place: u64, len: usize) -> bool
+    ensures { result ≡ true → (below ≡ true) × (place < len) }
+{
+    if place < len as u64 { below } else { false }
+}
+
+/// Returns `true` only if each of the `count` indices from `begin` on is below `len`.
+///
+/// All of them are read, without a branch for each.
+fn all_below<W: Width>(bytes: &[u8], begin: usize, count: usize, len: usize) -> bool
+    requires { begin + count * byte_len W.word ≤ length bytes.now }
+    ensures { result ≡ true → AreBelow W.word bytes.now begin count len }
+{
+    let mut below = true;
+    for i in 0..count {
+        below = and_below(below, W::read_count(bytes, begin + i * W::ALIGN), len);
+    }
+    below
+}
 
 /// Checks that each index in the table at `pos` is below the length, and returns the length.
 ///
-/// The indices are checked in bucket order.
+/// First the indices of all buckets are read in a row, empty ones too. Those of full buckets are
+/// checked in bucket order if one is not below the length.
 ///
 /// # Requires
 ///
@@ -51,6 +90,10 @@ pub(crate) fn check_places<W: Width>(bytes: &[u8], pos: u64) -> Result<usize, Ve
 {
     let table = ArchivedHashTable::<W::Place, W>::of(View::new(bytes, pos));
     let len = table.len();
+    let header = table.header();
+    if all_below::<W>(bytes, buckets_begin::<W>(header), header.capacity(), len) {
+        return Ok(len);
+    }
     for at in table.raw_iter() {
         let place = W::read_count(bytes, at as usize) as usize;
         if place >= len {

@@ -31,6 +31,18 @@ fn a_place_that_is_none_is_refused(rt: HostRuntime) -> Result<(), Fail> {
 }
 
 #[test]
+fn an_empty_bucket_may_hold_any_index(rt: HostRuntime) -> Result<(), Fail> {
+    let mut four = four_entries();
+    four[8..12].fill(0xff);
+    let map = ArchivedIndexMap::of(access::<Small>(&four)?);
+    assert_eq!(rt; map.len(), 4);
+    assert_eq!(rt; map.get_index_of(&5), Some(2));
+    four[12] = 4;
+    assert_eq!(rt; refused_place(&four), (4, 4));
+    Ok(())
+}
+
+#[test]
 fn entries_may_be_anywhere(rt: HostRuntime) -> Result<(), Fail> {
     let mut bytes = four_entries();
     bytes[72] = 0xec;
