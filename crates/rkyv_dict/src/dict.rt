@@ -121,7 +121,7 @@ impl<'a> Dict<'a> {
         archives::push_pairs(self.form(), archive.bytes.as_slice(), out)
     }
 
-    /// Appends the output of `audit`.
+    /// Appends the output of `audit`. Keys that share a hash take quadratic time.
     fn push_audit(&self, out: &mut String) -> Result<(), AllocError>
         requires { IsSound (state_seen self.now) }
         ensures { let s = state_seen self.now in

@@ -284,6 +284,9 @@ pub struct FxHasher<S> {
 
 /// The hasher of archived maps. Its words of a `usize` or an `isize` have 32 bits on every machine.
 ///
+/// It takes no secret key, so whoever chooses the keys can let them share a hash. A lookup among
+/// such keys may read the whole table, and writing them takes quadratic time.
+///
 /// # Examples
 ///
 /// ```rust
