@@ -49,11 +49,14 @@ void rkyv_c_decode_numbers(const uint8_t *archive, size_t length, bool long_valu
                            rkyv_table_header *header);
 void rkyv_c_decode_texts(const uint8_t *archive, size_t length, bool long_values, bool wide,
                          rkyv_table_header *header);
-uint32_t rkyv_c_get_number(const uint8_t *archive, size_t length, bool long_values, bool wide,
-                           const rkyv_table_header *header, uint32_t key, uint64_t *value);
-uint32_t rkyv_c_get_text(const uint8_t *archive, size_t length, bool long_values, bool wide,
-                         const rkyv_table_header *header, const uint8_t *key, size_t key_length,
-                         uint64_t *value);
+typedef uint32_t get_number(const uint8_t *archive, size_t length, const rkyv_table_header *header,
+                            uint32_t key, uint64_t *value);
+typedef uint32_t get_text(const uint8_t *archive, size_t length, const rkyv_table_header *header,
+                          const uint8_t *key, size_t key_length, uint64_t *value);
+get_number rkyv_c_get_number_u32_narrow, rkyv_c_get_number_u64_narrow;
+get_number rkyv_c_get_number_u32_wide, rkyv_c_get_number_u64_wide;
+get_text rkyv_c_get_text_u32_narrow, rkyv_c_get_text_u64_narrow;
+get_text rkyv_c_get_text_u32_wide, rkyv_c_get_text_u64_wide;
 uint32_t rkyv_c_set_number(uint8_t *archive, size_t length, bool long_values, bool wide,
                            uint32_t key, uint64_t value);
 uint32_t rkyv_c_set_text(uint8_t *archive, size_t length, bool long_values, bool wide,
@@ -104,6 +107,14 @@ static bool has_long_values(uint32_t kind) {
 static bool is_wide(const rkyv_map *map) {
     return map->width == 64;
 }
+
+/* The functions that look up, by the type of the values and the width. */
+static get_number *const get_numbers[2][2] = {
+    {rkyv_c_get_number_u32_narrow, rkyv_c_get_number_u32_wide},
+    {rkyv_c_get_number_u64_narrow, rkyv_c_get_number_u64_wide}};
+static get_text *const get_texts[2][2] = {
+    {rkyv_c_get_text_u32_narrow, rkyv_c_get_text_u32_wide},
+    {rkyv_c_get_text_u64_narrow, rkyv_c_get_text_u64_wide}};
 
 /* RKYV_OK if the handle is of an open map with keys of the kind. */
 static rkyv_status check_map(const rkyv_map *map, bool has_kind(uint32_t kind)) {
@@ -367,8 +378,8 @@ rkyv_status rkyv_map_get_number(const rkyv_map *map, uint32_t key, uint64_t *val
     if (value == NULL) {
         return RKYV_NULL;
     }
-    return (rkyv_status)rkyv_c_get_number(map->bytes, map->length, has_long_values(map->kind),
-                                          is_wide(map), &map->header, key, value);
+    get_number *get = get_numbers[has_long_values(map->kind)][is_wide(map)];
+    return (rkyv_status)get(map->bytes, map->length, &map->header, key, value);
 }
 
 rkyv_status rkyv_map_get_text(const rkyv_map *map, const char *key, size_t length,
@@ -383,8 +394,8 @@ rkyv_status rkyv_map_get_text(const rkyv_map *map, const char *key, size_t lengt
     if (value == NULL) {
         return RKYV_NULL;
     }
-    return (rkyv_status)rkyv_c_get_text(map->bytes, map->length, has_long_values(map->kind),
-                                        is_wide(map), &map->header, bytes_of(key), length, value);
+    get_text *get = get_texts[has_long_values(map->kind)][is_wide(map)];
+    return (rkyv_status)get(map->bytes, map->length, &map->header, bytes_of(key), length, value);
 }
 
 rkyv_status rkyv_map_set_number(const rkyv_map *map, uint32_t key, uint64_t value) {

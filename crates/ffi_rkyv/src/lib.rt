@@ -8,5 +8,6 @@
 #![tactic(auto)]
 
 mod containers;
+mod lookups;
 mod numbers;
 mod texts;

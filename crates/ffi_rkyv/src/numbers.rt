@@ -4,9 +4,9 @@ ghost use Rattle.std.specs.Prelude.{◌≡◌};
 ghost use Rattle.ffi_calls.specs.Archives.{IsHeaderOf, IsNumberArchive, KeepsHeader, Opens};
 ghost use Rattle.ffi_calls.specs.Archives.{form_of, limit_of};
 ghost use Rattle.ffi_calls.specs.Archives.{number_map, numbers_in};
-ghost use Rattle.ffi_calls.specs.Calls.{GivesNumber, SetsNumber, StepsNumbers, StepsAllNumbers};
+ghost use Rattle.ffi_calls.specs.Calls.{SetsNumber, StepsNumbers, StepsAllNumbers};
 ghost use Rattle.ffi_calls.specs.Explanation.{Explains};
-ghost use Rattle.ffi_calls.specs.Listed.{GivesFirstNumber, SetsFirstNumber};
+ghost use Rattle.ffi_calls.specs.Listed.{SetsFirstNumber};
 ghost use Rattle.ffi_calls.specs.Items.{HandsOut, IsArchiveOfNumbers, ArchiveOfNumbersFails};
 
 use ffi_calls::building::Built;
@@ -14,8 +14,8 @@ use ffi_calls::explanation::Explanation;
 use ffi_calls::form::Form;
 use ffi_calls::number_items::{NumberItem, build_numbers};
 use ffi_calls::numbers::{
-    NumberPair, decode_numbers, explain_numbers, get_number, next_number, next_numbers,
-    open_numbers, set_number,
+    NumberPair, decode_numbers, explain_numbers, next_number, next_numbers, open_numbers,
+    set_number,
 };
 use rkyv_table::table::decoded::Decoded;
 use std::alloc::Global;
@@ -64,35 +64,6 @@ pub extern "C" fn rkyv_c_decode_numbers(
     ensures { IsHeaderOf (numbers_in (form_of long_values wide) archive.now) header.new }
 {
     *header = decode_numbers(archive, Form { long_values, wide });
-}
-
-/// Looks up a key, and stores its value in `value`.
-///
-/// # Errors
-///
-/// - 1: the lookup doesn't find the key; `value` is unchanged then.
-///
-/// # Requires
-///
-/// - The archive is valid: `rkyv_c_open_numbers` returned 0.
-/// - `header` is its decoded header.
-#[unsafe(no_mangle)]
-pub extern "C" fn rkyv_c_get_number(
-    archive: &[u8],
-    long_values: bool,
-    wide: bool,
-    header: &Decoded,
-    key: u32,
-    value: &mut u64,
-) -> u32
-    requires archive { IsNumberArchive (form_of long_values wide) archive.now }
-    requires header { IsHeaderOf (numbers_in (form_of long_values wide) archive.now) header.now }
-    ensures gives { GivesNumber (form_of long_values wide) archive.now key value.old result
-        value.new }
-    ensures listed { GivesFirstNumber (form_of long_values wide) archive.now key value.old result
-        value.new }
-{
-    get_number(archive, Form { long_values, wide }, header, key, value)
 }
 
 /// Looks up a key, and overwrites its value in place. The archive stays valid, and its header as it

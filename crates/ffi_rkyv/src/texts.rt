@@ -4,9 +4,9 @@ ghost use Rattle.std.specs.Prelude.{IsTrue, ◌↔◌, ◌≡◌};
 ghost use Rattle.std.specs.Str.{IsUtf8};
 ghost use Rattle.ffi_calls.specs.Archives.{IsTextArchive, Opens, form_of, limit_of, text_map};
 ghost use Rattle.ffi_calls.specs.Archives.{IsHeaderOf, KeepsHeader, texts_in};
-ghost use Rattle.ffi_calls.specs.Calls.{GivesText, SetsText, StepsTexts, StepsAllTexts};
+ghost use Rattle.ffi_calls.specs.Calls.{SetsText, StepsTexts, StepsAllTexts};
 ghost use Rattle.ffi_calls.specs.Explanation.{Explains};
-ghost use Rattle.ffi_calls.specs.Listed.{GivesFirstText, SetsFirstText};
+ghost use Rattle.ffi_calls.specs.Listed.{SetsFirstText};
 ghost use Rattle.ffi_calls.specs.Items.{HandsOut, IsArchiveOfTexts, ArchiveOfTextsFails};
 
 use ffi_calls::building::Built;
@@ -14,8 +14,7 @@ use ffi_calls::explanation::Explanation;
 use ffi_calls::form::Form;
 use ffi_calls::text_items::{TextItem, build_texts};
 use ffi_calls::texts::{
-    TextPair, decode_texts, explain_texts, get_text, is_text, next_text, next_texts, open_texts,
-    set_text,
+    TextPair, decode_texts, explain_texts, is_text, next_text, next_texts, open_texts, set_text,
 };
 use rkyv_table::table::decoded::Decoded;
 use std::alloc::Global;
@@ -63,38 +62,6 @@ pub extern "C" fn rkyv_c_decode_texts(
     ensures { IsHeaderOf (texts_in (form_of long_values wide) archive.now) header.new }
 {
     *header = decode_texts(archive, Form { long_values, wide });
-}
-
-/// Looks up a key, and stores its value in `value`.
-///
-/// # Errors
-///
-/// - 4: the bytes of the key aren't UTF-8.
-/// - 1: the lookup doesn't find the key.
-///
-/// After an error `value` is unchanged.
-///
-/// # Requires
-///
-/// - The archive is valid: `rkyv_c_open_texts` returned 0.
-/// - `header` is its decoded header.
-#[unsafe(no_mangle)]
-pub extern "C" fn rkyv_c_get_text(
-    archive: &[u8],
-    long_values: bool,
-    wide: bool,
-    header: &Decoded,
-    key: &[u8],
-    value: &mut u64,
-) -> u32
-    requires archive { IsTextArchive (form_of long_values wide) archive.now }
-    requires header { IsHeaderOf (texts_in (form_of long_values wide) archive.now) header.now }
-    ensures gives { GivesText (form_of long_values wide) archive.now key.now value.old result
-        value.new }
-    ensures listed { IsUtf8 key.now
-        → GivesFirstText (form_of long_values wide) archive.now key.now value.old result value.new }
-{
-    get_text(archive, Form { long_values, wide }, header, key, value)
 }
 
 /// Looks up a key, and overwrites its value in place. The archive stays valid, and its header as it

@@ -1,0 +1,267 @@
+//! Lookups, with a function for each type of values and each width.
+//!
+//! So a lookup decides nothing of these. The functions are named for the type and the width.
+
+ghost use Rattle.std.specs.Prelude.{false, true};
+ghost use Rattle.std.specs.Str.{IsUtf8};
+ghost use Rattle.ffi_calls.specs.Archives.{IsHeaderOf, IsNumberArchive, IsTextArchive, form_of};
+ghost use Rattle.ffi_calls.specs.Archives.{numbers_in, texts_in};
+ghost use Rattle.ffi_calls.specs.Calls.{GivesNumber, GivesText};
+ghost use Rattle.ffi_calls.specs.Listed.{GivesFirstNumber, GivesFirstText};
+
+use ffi_calls::form::Form;
+use ffi_calls::numbers::get_number;
+use ffi_calls::texts::get_text;
+use rkyv_table::table::decoded::Decoded;
+
+/// Looks up a key of a narrow map of numbers to `u32`, and stores its value in `value`.
+///
+/// # Errors
+///
+/// - 1: the lookup doesn't find the key; `value` is unchanged then.
+///
+/// # Requires
+///
+/// - The archive is valid: `rkyv_c_open_numbers` returned 0.
+/// - `header` is its decoded header.
+#[unsafe(no_mangle)]
+pub extern "C" fn rkyv_c_get_number_u32_narrow(
+    archive: &[u8],
+    header: &Decoded,
+    key: u32,
+    value: &mut u64,
+) -> u32
+    requires archive { IsNumberArchive (form_of false false) archive.now }
+    requires header { IsHeaderOf (numbers_in (form_of false false) archive.now) header.now }
+    ensures gives { GivesNumber (form_of false false) archive.now key value.old result value.new }
+    ensures listed { GivesFirstNumber (form_of false false) archive.now key value.old result
+        value.new }
+{
+    let form = Form {
+        long_values: false,
+        wide: false,
+    };
+    get_number(archive, form, header, key, value)
+}
+
+/// Looks up a key of a narrow map of numbers to `u64`, and stores its value in `value`.
+///
+/// # Errors
+///
+/// - 1: the lookup doesn't find the key; `value` is unchanged then.
+///
+/// # Requires
+///
+/// - The archive is valid: `rkyv_c_open_numbers` returned 0.
+/// - `header` is its decoded header.
+#[unsafe(no_mangle)]
+pub extern "C" fn rkyv_c_get_number_u64_narrow(
+    archive: &[u8],
+    header: &Decoded,
+    key: u32,
+    value: &mut u64,
+) -> u32
+    requires archive { IsNumberArchive (form_of true false) archive.now }
+    requires header { IsHeaderOf (numbers_in (form_of true false) archive.now) header.now }
+    ensures gives { GivesNumber (form_of true false) archive.now key value.old result value.new }
+    ensures listed { GivesFirstNumber (form_of true false) archive.now key value.old result
+        value.new }
+{
+    let form = Form {
+        long_values: true,
+        wide: false,
+    };
+    get_number(archive, form, header, key, value)
+}
+
+/// Looks up a key of a wide map of numbers to `u32`, and stores its value in `value`.
+///
+/// # Errors
+///
+/// - 1: the lookup doesn't find the key; `value` is unchanged then.
+///
+/// # Requires
+///
+/// - The archive is valid: `rkyv_c_open_numbers` returned 0.
+/// - `header` is its decoded header.
+#[unsafe(no_mangle)]
+pub extern "C" fn rkyv_c_get_number_u32_wide(
+    archive: &[u8],
+    header: &Decoded,
+    key: u32,
+    value: &mut u64,
+) -> u32
+    requires archive { IsNumberArchive (form_of false true) archive.now }
+    requires header { IsHeaderOf (numbers_in (form_of false true) archive.now) header.now }
+    ensures gives { GivesNumber (form_of false true) archive.now key value.old result value.new }
+    ensures listed { GivesFirstNumber (form_of false true) archive.now key value.old result
+        value.new }
+{
+    let form = Form {
+        long_values: false,
+        wide: true,
+    };
+    get_number(archive, form, header, key, value)
+}
+
+/// Looks up a key of a wide map of numbers to `u64`, and stores its value in `value`.
+///
+/// # Errors
+///
+/// - 1: the lookup doesn't find the key; `value` is unchanged then.
+///
+/// # Requires
+///
+/// - The archive is valid: `rkyv_c_open_numbers` returned 0.
+/// - `header` is its decoded header.
+#[unsafe(no_mangle)]
+pub extern "C" fn rkyv_c_get_number_u64_wide(
+    archive: &[u8],
+    header: &Decoded,
+    key: u32,
+    value: &mut u64,
+) -> u32
+    requires archive { IsNumberArchive (form_of true true) archive.now }
+    requires header { IsHeaderOf (numbers_in (form_of true true) archive.now) header.now }
+    ensures gives { GivesNumber (form_of true true) archive.now key value.old result value.new }
+    ensures listed { GivesFirstNumber (form_of true true) archive.now key value.old result
+        value.new }
+{
+    let form = Form {
+        long_values: true,
+        wide: true,
+    };
+    get_number(archive, form, header, key, value)
+}
+
+/// Looks up a key of a narrow map of texts to `u32`, and stores its value in `value`.
+///
+/// # Errors
+///
+/// - 4: the bytes of the key aren't UTF-8.
+/// - 1: the lookup doesn't find the key.
+///
+/// After an error `value` is unchanged.
+///
+/// # Requires
+///
+/// - The archive is valid: `rkyv_c_open_texts` returned 0.
+/// - `header` is its decoded header.
+#[unsafe(no_mangle)]
+pub extern "C" fn rkyv_c_get_text_u32_narrow(
+    archive: &[u8],
+    header: &Decoded,
+    key: &[u8],
+    value: &mut u64,
+) -> u32
+    requires archive { IsTextArchive (form_of false false) archive.now }
+    requires header { IsHeaderOf (texts_in (form_of false false) archive.now) header.now }
+    ensures gives { GivesText (form_of false false) archive.now key.now value.old result value.new }
+    ensures listed { IsUtf8 key.now
+        → GivesFirstText (form_of false false) archive.now key.now value.old result value.new }
+{
+    let form = Form {
+        long_values: false,
+        wide: false,
+    };
+    get_text(archive, form, header, key, value)
+}
+
+/// Looks up a key of a narrow map of texts to `u64`, and stores its value in `value`.
+///
+/// # Errors
+///
+/// - 4: the bytes of the key aren't UTF-8.
+/// - 1: the lookup doesn't find the key.
+///
+/// After an error `value` is unchanged.
+///
+/// # Requires
+///
+/// - The archive is valid: `rkyv_c_open_texts` returned 0.
+/// - `header` is its decoded header.
+#[unsafe(no_mangle)]
+pub extern "C" fn rkyv_c_get_text_u64_narrow(
+    archive: &[u8],
+    header: &Decoded,
+    key: &[u8],
+    value: &mut u64,
+) -> u32
+    requires archive { IsTextArchive (form_of true false) archive.now }
+    requires header { IsHeaderOf (texts_in (form_of true false) archive.now) header.now }
+    ensures gives { GivesText (form_of true false) archive.now key.now value.old result value.new }
+    ensures listed { IsUtf8 key.now
+        → GivesFirstText (form_of true false) archive.now key.now value.old result value.new }
+{
+    let form = Form {
+        long_values: true,
+        wide: false,
+    };
+    get_text(archive, form, header, key, value)
+}
+
+/// Looks up a key of a wide map of texts to `u32`, and stores its value in `value`.
+///
+/// # Errors
+///
+/// - 4: the bytes of the key aren't UTF-8.
+/// - 1: the lookup doesn't find the key.
+///
+/// After an error `value` is unchanged.
+///
+/// # Requires
+///
+/// - The archive is valid: `rkyv_c_open_texts` returned 0.
+/// - `header` is its decoded header.
+#[unsafe(no_mangle)]
+pub extern "C" fn rkyv_c_get_text_u32_wide(
+    archive: &[u8],
+    header: &Decoded,
+    key: &[u8],
+    value: &mut u64,
+) -> u32
+    requires archive { IsTextArchive (form_of false true) archive.now }
+    requires header { IsHeaderOf (texts_in (form_of false true) archive.now) header.now }
+    ensures gives { GivesText (form_of false true) archive.now key.now value.old result value.new }
+    ensures listed { IsUtf8 key.now
+        → GivesFirstText (form_of false true) archive.now key.now value.old result value.new }
+{
+    let form = Form {
+        long_values: false,
+        wide: true,
+    };
+    get_text(archive, form, header, key, value)
+}
+
+/// Looks up a key of a wide map of texts to `u64`, and stores its value in `value`.
+///
+/// # Errors
+///
+/// - 4: the bytes of the key aren't UTF-8.
+/// - 1: the lookup doesn't find the key.
+///
+/// After an error `value` is unchanged.
+///
+/// # Requires
+///
+/// - The archive is valid: `rkyv_c_open_texts` returned 0.
+/// - `header` is its decoded header.
+#[unsafe(no_mangle)]
+pub extern "C" fn rkyv_c_get_text_u64_wide(
+    archive: &[u8],
+    header: &Decoded,
+    key: &[u8],
+    value: &mut u64,
+) -> u32
+    requires archive { IsTextArchive (form_of true true) archive.now }
+    requires header { IsHeaderOf (texts_in (form_of true true) archive.now) header.now }
+    ensures gives { GivesText (form_of true true) archive.now key.now value.old result value.new }
+    ensures listed { IsUtf8 key.now
+        → GivesFirstText (form_of true true) archive.now key.now value.old result value.new }
+{
+    let form = Form {
+        long_values: true,
+        wide: true,
+    };
+    get_text(archive, form, header, key, value)
+}
