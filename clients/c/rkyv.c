@@ -116,16 +116,20 @@ static get_text *const get_texts[2][2] = {
     {rkyv_c_get_text_u32_narrow, rkyv_c_get_text_u32_wide},
     {rkyv_c_get_text_u64_narrow, rkyv_c_get_text_u64_wide}};
 
-/* RKYV_OK if the handle is of an open map with keys of the kind. */
-static rkyv_status check_map(const rkyv_map *map, bool has_kind(uint32_t kind)) {
+/* Whether there is such a kind. The kind of a handle of no open map is 0. */
+static bool is_kind(uint32_t kind) {
+    return is_of_numbers(kind) || is_of_texts(kind);
+}
+
+/* RKYV_OK if the handle is of an open map with such a kind. */
+static rkyv_status check_map(const rkyv_map *map, bool is_such(uint32_t kind)) {
     if (map == NULL) {
         return RKYV_NULL;
     }
-    if (map->bytes == NULL || !(is_of_numbers(map->kind) || is_of_texts(map->kind))
-        || (map->width != 32 && map->width != 64)) {
-        return RKYV_CLOSED;
+    if (is_such(map->kind)) {
+        return RKYV_OK;
     }
-    return has_kind(map->kind) ? RKYV_OK : RKYV_WRONG_KIND;
+    return is_kind(map->kind) ? RKYV_WRONG_KIND : RKYV_CLOSED;
 }
 
 /* RKYV_OK if `length` bytes may be at the address. */
@@ -138,7 +142,7 @@ static rkyv_status check_bytes(const void *bytes, size_t length) {
 
 /* RKYV_OK if there is such a kind and such a width. */
 static rkyv_status check_types(uint32_t kind, uint32_t width) {
-    if (!is_of_numbers(kind) && !is_of_texts(kind)) {
+    if (!is_kind(kind)) {
         return RKYV_UNKNOWN_KIND;
     }
     return width == 32 || width == 64 ? RKYV_OK : RKYV_UNKNOWN_WIDTH;
@@ -341,13 +345,8 @@ rkyv_status rkyv_container_explain(const void *bytes, size_t length, uint32_t ki
     return RKYV_OK;
 }
 
-static bool is_any(uint32_t kind) {
-    (void)kind;
-    return true;
-}
-
 rkyv_status rkyv_map_width(const rkyv_map *map, uint32_t *width) {
-    rkyv_status status = check_map(map, is_any);
+    rkyv_status status = check_map(map, is_kind);
     if (status != RKYV_OK) {
         return status;
     }
@@ -359,7 +358,7 @@ rkyv_status rkyv_map_width(const rkyv_map *map, uint32_t *width) {
 }
 
 rkyv_status rkyv_map_count(const rkyv_map *map, size_t *count) {
-    rkyv_status status = check_map(map, is_any);
+    rkyv_status status = check_map(map, is_kind);
     if (status != RKYV_OK) {
         return status;
     }
