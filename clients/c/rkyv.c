@@ -7,18 +7,6 @@
 #include <stdbool.h>
 #include <string.h>
 
-/* A pair of a builder. Its layout is that of the library's. */
-typedef struct number_item {
-    uint64_t value;
-    uint32_t key;
-} number_item;
-
-typedef struct text_item {
-    const uint8_t *key;
-    size_t key_length;
-    uint64_t value;
-} text_item;
-
 /* The bytes of an archive that the library has built. */
 typedef struct built {
     uint8_t *bytes;
@@ -72,9 +60,9 @@ size_t rkyv_c_next_texts(const uint8_t *archive, size_t length, bool long_values
                          const rkyv_table_header *header, uint64_t from, rkyv_text_pair *pairs,
                          size_t room);
 bool rkyv_c_is_text(const uint8_t *bytes, size_t length);
-uint32_t rkyv_c_build_numbers(const number_item *items, size_t count, bool long_values, bool wide,
+uint32_t rkyv_c_build_numbers(const rkyv_number_item *items, size_t count, bool long_values, bool wide,
                               built *built);
-uint32_t rkyv_c_build_texts(const text_item *items, size_t count, bool long_values, bool wide,
+uint32_t rkyv_c_build_texts(const rkyv_text_item *items, size_t count, bool long_values, bool wide,
                             built *built);
 void rkyv_c_write_header(const uint8_t *archive, size_t length, bool of_texts, bool long_values,
                          bool wide, bool checked, uint8_t *header, size_t header_length);
@@ -497,8 +485,8 @@ rkyv_status rkyv_map_next_texts(const rkyv_map *map, uint64_t from, rkyv_text_pa
     return RKYV_OK;
 }
 
-/* The pairs, an array of `number_item` or `text_item`, and the concatenated bytes of the text keys.
- * The arrays move when they grow. So a `text_item` gets the address of its key when an archive is
+/* The pairs, an array of `rkyv_number_item` or `rkyv_text_item`, and the concatenated bytes of the text keys.
+ * The arrays move when they grow. So a `rkyv_text_item` gets the address of its key when an archive is
  * built. */
 struct rkyv_builder {
     void *items;
@@ -570,11 +558,11 @@ static rkyv_status check_pair(const rkyv_builder *builder, bool has_kind(uint32_
 rkyv_status rkyv_builder_put_number(rkyv_builder *builder, uint32_t key, uint64_t value) {
     rkyv_status status = check_pair(builder, is_of_numbers, value);
     if (status == RKYV_OK) {
-        status = grow(&builder->items, &builder->room, builder->count, 1, sizeof(number_item));
+        status = grow(&builder->items, &builder->room, builder->count, 1, sizeof(rkyv_number_item));
     }
     if (status == RKYV_OK) {
-        const number_item item = {value, key};
-        ((number_item *)builder->items)[builder->count++] = item;
+        const rkyv_number_item item = {value, key};
+        ((rkyv_number_item *)builder->items)[builder->count++] = item;
     }
     return status;
 }
@@ -594,38 +582,47 @@ rkyv_status rkyv_builder_put_text(rkyv_builder *builder, const char *key, size_t
         builder->keys = (uint8_t *)keys;
     }
     if (status == RKYV_OK) {
-        status = grow(&builder->items, &builder->room, builder->count, 1, sizeof(text_item));
+        status = grow(&builder->items, &builder->room, builder->count, 1, sizeof(rkyv_text_item));
     }
     if (status == RKYV_OK) {
-        const text_item item = {NULL, length, value};
+        const rkyv_text_item item = {NULL, length, value};
         if (length != 0) {
             memcpy(builder->keys + builder->keys_length, key, length);
         }
         builder->keys_length += length;
-        ((text_item *)builder->items)[builder->count++] = item;
+        ((rkyv_text_item *)builder->items)[builder->count++] = item;
     }
     return status;
 }
 
 static rkyv_status build_numbers(const rkyv_builder *builder, built *made) {
-    static const number_item none[1] = {{0, 0}};
-    const number_item *items = (const number_item *)builder->items;
+    static const rkyv_number_item none[1] = {{0, 0}};
+    const rkyv_number_item *items = (const rkyv_number_item *)builder->items;
     return (rkyv_status)rkyv_c_build_numbers(items != NULL ? items : none, builder->count,
                                              has_long_values(builder->kind), builder->width == 64,
                                              made);
 }
 
 static rkyv_status build_texts(rkyv_builder *builder, built *made) {
-    static const text_item none[1] = {{NULL, 0, 0}};
-    text_item *items = (text_item *)builder->items;
+    static const rkyv_text_item none[1] = {{NULL, 0, 0}};
+    rkyv_text_item *items = (rkyv_text_item *)builder->items;
     const uint8_t *key = builder->keys != NULL ? builder->keys : nothing;
     for (size_t i = 0; i < builder->count; i++) {
-        items[i].key = key;
+        items[i].key = (const char *)key;
         key += items[i].key_length;
     }
     return (rkyv_status)rkyv_c_build_texts(items != NULL ? items : none, builder->count,
                                            has_long_values(builder->kind), builder->width == 64,
                                            made);
+}
+
+/* Stores what was built. */
+static rkyv_status hand_out(rkyv_status status, built made, uint8_t **bytes, size_t *length) {
+    if (status == RKYV_OK) {
+        *bytes = made.bytes;
+        *length = made.length;
+    }
+    return status;
 }
 
 rkyv_status rkyv_builder_finish(rkyv_builder *builder, uint8_t **bytes, size_t *length) {
@@ -636,11 +633,56 @@ rkyv_status rkyv_builder_finish(rkyv_builder *builder, uint8_t **bytes, size_t *
     }
     rkyv_status status = is_of_texts(builder->kind) ? build_texts(builder, &made)
                                                     : build_numbers(builder, &made);
-    if (status == RKYV_OK) {
-        *bytes = made.bytes;
-        *length = made.length;
+    return hand_out(status, made, bytes, length);
+}
+
+/* RKYV_OK if there is such a kind and such a width, and the arguments of a call that builds may be
+ * `count` pairs of `size` bytes each at `items`, and places for the result. */
+static rkyv_status check_items(const void *items, size_t count, size_t size, uint32_t kind,
+                               bool is_such(uint32_t kind), uint32_t width, uint8_t **bytes,
+                               const size_t *length) {
+    rkyv_status status = check_types(kind, width);
+    if (status != RKYV_OK) {
+        return status;
     }
-    return status;
+    if (!is_such(kind)) {
+        return RKYV_WRONG_KIND;
+    }
+    if (bytes == NULL || length == NULL || (items == NULL && count != 0)) {
+        return RKYV_NULL;
+    }
+    return count <= PTRDIFF_MAX / size ? RKYV_OK : RKYV_TOO_LONG;
+}
+
+rkyv_status rkyv_build_numbers(const rkyv_number_item *items, size_t count, uint32_t kind,
+                               uint32_t width, uint8_t **bytes, size_t *length) {
+    static const rkyv_number_item no_items[1] = {{0, 0}};
+    uint8_t none[1];
+    built made = {none, 0};
+    rkyv_status status = check_items(items, count, sizeof(rkyv_number_item), kind, is_of_numbers,
+                                     width, bytes, length);
+    if (status == RKYV_OK) {
+        status = (rkyv_status)rkyv_c_build_numbers(items != NULL ? items : no_items, count,
+                                                   has_long_values(kind), width == 64, &made);
+    }
+    return hand_out(status, made, bytes, length);
+}
+
+rkyv_status rkyv_build_texts(const rkyv_text_item *items, size_t count, uint32_t kind,
+                             uint32_t width, uint8_t **bytes, size_t *length) {
+    static const rkyv_text_item no_items[1] = {{(const char *)nothing, 0, 0}};
+    uint8_t none[1];
+    built made = {none, 0};
+    rkyv_status status = check_items(items, count, sizeof(rkyv_text_item), kind, is_of_texts,
+                                     width, bytes, length);
+    for (size_t i = 0; status == RKYV_OK && i < count; i++) {
+        status = items[i].key != NULL ? check_bytes(items[i].key, items[i].key_length) : RKYV_NULL;
+    }
+    if (status == RKYV_OK) {
+        status = (rkyv_status)rkyv_c_build_texts(items != NULL ? items : no_items, count,
+                                                 has_long_values(kind), width == 64, &made);
+    }
+    return hand_out(status, made, bytes, length);
 }
 
 void rkyv_builder_free(rkyv_builder *builder) {

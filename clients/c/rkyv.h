@@ -396,10 +396,47 @@ rkyv_status rkyv_builder_put_text(rkyv_builder *builder, const char *key, size_t
  *     RKYV_TEXT_TOO_LONG. */
 rkyv_status rkyv_builder_finish(rkyv_builder *builder, uint8_t **bytes, size_t *length);
 
+/* A pair with a number key that is to be archived. */
+typedef struct rkyv_number_item {
+    uint64_t value;
+    uint32_t key;
+} rkyv_number_item;
+
+/* A pair with a text key of `key_length` bytes that is to be archived. `key` is not null. */
+typedef struct rkyv_text_item {
+    const char *key;
+    size_t key_length;
+    uint64_t value;
+} rkyv_text_item;
+
+/* Allocates the archive of the `count` pairs at `items`, as a builder of these pairs does, without a
+ * copy of them. The caller frees it with `rkyv_bytes_free`. `kind` is a `rkyv_kind` of number keys,
+ * `width` is 32 or 64. `items` may be null if `count` is 0.
+ *
+ * Errors:
+ *   - RKYV_UNKNOWN_KIND, RKYV_UNKNOWN_WIDTH, RKYV_WRONG_KIND;
+ *   - RKYV_NULL: `bytes`, `length` or `items` is null;
+ *   - RKYV_TOO_LONG: the pairs have more than PTRDIFF_MAX bytes;
+ *   - the first error of building: RKYV_VALUE_TOO_LARGE, RKYV_NO_MEMORY, or RKYV_CAPACITY_TOO_LARGE
+ *     to RKYV_DISTANCE_TOO_LARGE. */
+rkyv_status rkyv_build_numbers(const rkyv_number_item *items, size_t count, uint32_t kind,
+                               uint32_t width, uint8_t **bytes, size_t *length);
+
+/* Allocates the archive of pairs with text keys, as `rkyv_build_numbers` does.
+ *
+ * Errors:
+ *   - RKYV_UNKNOWN_KIND, RKYV_UNKNOWN_WIDTH, RKYV_WRONG_KIND;
+ *   - RKYV_NULL: `bytes`, `length`, `items` or a key is null;
+ *   - RKYV_TOO_LONG: the pairs have more than PTRDIFF_MAX bytes, or a key has;
+ *   - the first error of building: RKYV_NOT_TEXT, RKYV_VALUE_TOO_LARGE, RKYV_NO_MEMORY, or
+ *     RKYV_CAPACITY_TOO_LARGE to RKYV_TEXT_TOO_LONG. */
+rkyv_status rkyv_build_texts(const rkyv_text_item *items, size_t count, uint32_t kind,
+                             uint32_t width, uint8_t **bytes, size_t *length);
+
 /* Frees a builder, which may be null. The archives that it built stay. */
 void rkyv_builder_free(rkyv_builder *builder);
 
-/* Frees an archive that a builder built. It may be null. */
+/* Frees an archive that a call built. It may be null. */
 void rkyv_bytes_free(uint8_t *bytes);
 
 /* Stores the number of bytes of the container of an archive of `length` bytes: 32 more.

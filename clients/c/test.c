@@ -722,6 +722,60 @@ static void built_texts(void) {
     same("blocks", blocks, 0);
 }
 
+/* One call builds the archive that a builder builds of the same pairs. */
+static void built_at_once(void) {
+    static const uint8_t empty[] = {1, 0, 0, 0, 0, 0, 0, 0, 0, 0, 0, 0};
+    const rkyv_number_item numbers[] = {{2, 1}, {3, 1}, {1ull << 32, 1}};
+    const rkyv_text_item texts[] = {{"", 0, 7}, {"a\xff", 2, 7}, {NULL, 0, 7}};
+    const rkyv_text_item long_text[] = {{"", SIZE_MAX, 7}};
+    uint8_t wanted[104], *bytes = NULL;
+    size_t length = one_to_two(wanted), got = 9;
+
+    returns("build", rkyv_build_numbers(numbers, 1, RKYV_NUMBER_TO_U32, 32, &bytes, &got), RKYV_OK);
+    same("length", got, length);
+    same("bytes", memcmp(bytes, wanted, length) == 0, 1);
+    rkyv_bytes_free(bytes);
+    returns("none", rkyv_build_numbers(NULL, 0, RKYV_NUMBER_TO_U32, 32, &bytes, &got), RKYV_OK);
+    same("length", got, sizeof empty);
+    same("bytes", memcmp(bytes, empty, sizeof empty) == 0, 1);
+    rkyv_bytes_free(bytes);
+    length = empty_to_seven(wanted);
+    returns("build", rkyv_build_texts(texts, 1, RKYV_TEXT_TO_U64, 64, &bytes, &got), RKYV_OK);
+    same("length", got, length);
+    same("bytes", memcmp(bytes, wanted, length) == 0, 1);
+    rkyv_bytes_free(bytes);
+    returns("none", rkyv_build_texts(NULL, 0, RKYV_TEXT_TO_U32, 32, &bytes, &got), RKYV_OK);
+    same("length", got, sizeof empty);
+    rkyv_bytes_free(bytes);
+
+    bytes = NULL;
+    got = 9;
+    returns("too much", rkyv_build_numbers(numbers, 3, RKYV_NUMBER_TO_U32, 32, &bytes, &got),
+            RKYV_VALUE_TOO_LARGE);
+    returns("no text", rkyv_build_texts(texts, 2, RKYV_TEXT_TO_U64, 64, &bytes, &got),
+            RKYV_NOT_TEXT);
+    returns("no key", rkyv_build_texts(texts, 3, RKYV_TEXT_TO_U64, 64, &bytes, &got), RKYV_NULL);
+    returns("too long", rkyv_build_texts(long_text, 1, RKYV_TEXT_TO_U64, 64, &bytes, &got),
+            RKYV_TOO_LONG);
+    returns("kind 0", rkyv_build_numbers(numbers, 1, 0, 32, &bytes, &got), RKYV_UNKNOWN_KIND);
+    returns("width 8", rkyv_build_numbers(numbers, 1, RKYV_NUMBER_TO_U32, 8, &bytes, &got),
+            RKYV_UNKNOWN_WIDTH);
+    returns("of texts", rkyv_build_numbers(numbers, 1, RKYV_TEXT_TO_U32, 32, &bytes, &got),
+            RKYV_WRONG_KIND);
+    returns("of numbers", rkyv_build_texts(texts, 1, RKYV_NUMBER_TO_U64, 64, &bytes, &got),
+            RKYV_WRONG_KIND);
+    returns("null", rkyv_build_numbers(NULL, 1, RKYV_NUMBER_TO_U32, 32, &bytes, &got), RKYV_NULL);
+    returns("no bytes", rkyv_build_numbers(numbers, 1, RKYV_NUMBER_TO_U32, 32, NULL, &got),
+            RKYV_NULL);
+    returns("no length", rkyv_build_texts(texts, 1, RKYV_TEXT_TO_U32, 32, &bytes, NULL),
+            RKYV_NULL);
+    returns("too many", rkyv_build_texts(texts, SIZE_MAX, RKYV_TEXT_TO_U32, 32, &bytes, &got),
+            RKYV_TOO_LONG);
+    same("kept", got, 9);
+    same("none", bytes == NULL, 1);
+    same("blocks", blocks, 0);
+}
+
 static void unbuilt(void) {
     uint8_t *bytes = NULL;
     size_t length = 0;
@@ -853,6 +907,7 @@ int main(void) {
     container_errors();
     built_numbers();
     built_texts();
+    built_at_once();
     unbuilt();
     failing_memory(RKYV_NUMBER_TO_U64);
     failing_memory(RKYV_TEXT_TO_U64);

@@ -6,7 +6,7 @@ use std::ptr::NonNull;
 
 use crate::container::header_of;
 use crate::error::check;
-use crate::raw::{self, RawBuilder};
+use crate::raw;
 use crate::types::kind;
 use crate::{Checksum, Error, Key, Map, MapMut, Value, Width};
 
@@ -81,8 +81,7 @@ impl<K: Key + ?Sized, V: Value> Builder<K, V> {
 
     /// Builds the archive of the pairs.
     ///
-    /// The C library copies the pairs, and needs about 45 to 100 bytes more for each until it
-    /// returns. The builder keeps its pairs, so that an archive of another width can be built.
+    /// This needs about 60 to 120 bytes more for each pair until it returns. The builder keeps its pairs, so that an archive of another width can be built.
     ///
     /// # Errors
     /// - [`ErrorKind::NoMemory`]
@@ -91,16 +90,23 @@ impl<K: Key + ?Sized, V: Value> Builder<K, V> {
     /// - [`ErrorKind::DistanceTooLarge`]
     /// - [`ErrorKind::TextTooLong`]
     pub fn build(&self, width: Width) -> Result<Archive<K, V>, Error> {
-        let builder = OwnedBuilder::new(kind::<K, V>(), width)?;
-        for (key, value) in self.pairs() {
-            // SAFETY: the builder is freed when it is dropped, and is not shared.
-            check(unsafe { K::put(builder.0.as_ptr(), key, value.into()) })?;
+        let mut items = Vec::new();
+        if items.try_reserve_exact(self.len()).is_err() {
+            check(raw::NO_MEMORY)?;
         }
+        items.extend(self.pairs().map(|(key, value)| K::item(key, value.into())));
         let mut bytes = std::ptr::null_mut();
         let mut length = 0;
-        // SAFETY: as above. The other two pointers are to be written.
-        let status =
-            unsafe { raw::rkyv_builder_finish(builder.0.as_ptr(), &mut bytes, &mut length) };
+        // SAFETY: the keys are borrowed from the builder.
+        let status = unsafe {
+            K::build(
+                &items,
+                kind::<K, V>(),
+                width as u32,
+                &mut bytes,
+                &mut length,
+            )
+        };
         check(status)?;
         Ok(Archive {
             bytes: NonNull::new(bytes).expect("the bytes of an archive are not null"),
@@ -159,27 +165,6 @@ impl<K: Key + ?Sized, V: Value, Q: Borrow<K>> FromIterator<(Q, V)> for Builder<K
 impl<K: Key + ?Sized, V: Value, Q: Borrow<K>, const N: usize> From<[(Q, V); N]> for Builder<K, V> {
     fn from(pairs: [(Q, V); N]) -> Self {
         pairs.into_iter().collect()
-    }
-}
-
-/// A builder of the C library, which is freed when it is dropped.
-struct OwnedBuilder(NonNull<RawBuilder>);
-
-impl OwnedBuilder {
-    fn new(kind: u32, width: Width) -> Result<Self, Error> {
-        let mut builder = std::ptr::null_mut();
-        // SAFETY: the pointer is to be written.
-        check(unsafe { raw::rkyv_builder_new(kind, width as u32, &mut builder) })?;
-        Ok(OwnedBuilder(
-            NonNull::new(builder).expect("a new builder is not null"),
-        ))
-    }
-}
-
-impl Drop for OwnedBuilder {
-    fn drop(&mut self) {
-        // SAFETY: the builder is freed only here.
-        unsafe { raw::rkyv_builder_free(self.0.as_ptr()) }
     }
 }
 
@@ -290,7 +275,7 @@ impl<K: ?Sized, V> fmt::Debug for Archive<K, V> {
 
 impl<K: ?Sized, V> Drop for Archive<K, V> {
     fn drop(&mut self) {
-        // SAFETY: the bytes are of `rkyv_builder_finish`, and are freed only here.
+        // SAFETY: the bytes are of a call that builds, and are freed only here.
         unsafe { raw::rkyv_bytes_free(self.bytes.as_ptr()) }
     }
 }

@@ -72,14 +72,24 @@ pub struct RawError {
     pub second: u64,
 }
 
-/// A builder: the `rkyv_builder` of the header.
+/// A pair with a number key to be archived: the `rkyv_number_item` of the header.
 #[repr(C)]
-pub struct RawBuilder {
-    _private: [u8; 0],
+pub struct RawNumberItem {
+    pub value: u64,
+    pub key: u32,
+}
+
+/// A pair with a text key to be archived: the `rkyv_text_item` of the header.
+#[repr(C)]
+pub struct RawTextItem {
+    pub key: *const u8,
+    pub key_length: usize,
+    pub value: u64,
 }
 
 pub const OK: u32 = 0;
 pub const NOT_FOUND: u32 = 1;
+pub const NO_MEMORY: u32 = 12;
 
 /// The number of bytes of a container's header.
 pub const HEADER_LEN: usize = 32;
@@ -155,20 +165,22 @@ unsafe extern "C" {
         room: usize,
         count: *mut usize,
     ) -> u32;
-    pub fn rkyv_builder_new(kind: u32, width: u32, builder: *mut *mut RawBuilder) -> u32;
-    pub fn rkyv_builder_put_number(builder: *mut RawBuilder, key: u32, value: u64) -> u32;
-    pub fn rkyv_builder_put_text(
-        builder: *mut RawBuilder,
-        key: *const u8,
-        length: usize,
-        value: u64,
-    ) -> u32;
-    pub fn rkyv_builder_finish(
-        builder: *mut RawBuilder,
+    pub fn rkyv_build_numbers(
+        items: *const RawNumberItem,
+        count: usize,
+        kind: u32,
+        width: u32,
         bytes: *mut *mut u8,
         length: *mut usize,
     ) -> u32;
-    pub fn rkyv_builder_free(builder: *mut RawBuilder);
+    pub fn rkyv_build_texts(
+        items: *const RawTextItem,
+        count: usize,
+        kind: u32,
+        width: u32,
+        bytes: *mut *mut u8,
+        length: *mut usize,
+    ) -> u32;
     pub fn rkyv_bytes_free(bytes: *mut u8);
     pub fn rkyv_container_header(
         archive: *const c_void,

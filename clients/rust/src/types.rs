@@ -3,7 +3,7 @@ use std::fmt::{Debug, Display};
 use std::hash::Hash;
 
 use self::sealed::{SealedKey, SealedValue};
-use crate::raw::{self, RawBuilder, RawMap, RawNumberPair, RawTextPair};
+use crate::raw::{self, RawMap, RawNumberItem, RawNumberPair, RawTextItem, RawTextPair};
 
 /// The width of an archive: the size of its counts, distances and positions.
 ///
@@ -76,7 +76,7 @@ pub struct Texts {
 pub(crate) mod sealed {
     use std::panic::{RefUnwindSafe, UnwindSafe};
 
-    use super::{RawBuilder, RawMap};
+    use super::RawMap;
 
     /// The calls for a type of keys.
     pub trait SealedKey: 'static {
@@ -105,11 +105,22 @@ pub(crate) mod sealed {
         /// `map` is closed, or it is open and its bytes are borrowed, mutably if it is writable.
         unsafe fn set(map: &RawMap, key: &Self, value: u64) -> u32;
 
-        /// Appends a pair and returns the status.
+        /// A pair that is to be archived, as the library takes it. It may point to its key.
+        type Item;
+
+        fn item(key: &Self, value: u64) -> Self::Item;
+
+        /// Allocates the archive of the pairs, and returns the status.
         ///
         /// # Safety
-        /// `builder` is one of `rkyv_builder_new` that is not freed and that nobody else uses.
-        unsafe fn put(builder: *mut RawBuilder, key: &Self, value: u64) -> u32;
+        /// The keys to which the items point are borrowed.
+        unsafe fn build(
+            items: &[Self::Item],
+            kind: u32,
+            width: u32,
+            bytes: &mut *mut u8,
+            length: &mut usize,
+        ) -> u32;
 
         /// A pair as the library stores it.
         type Pair: Copy + RefUnwindSafe + UnwindSafe;
@@ -181,9 +192,21 @@ impl SealedKey for u32 {
         unsafe { raw::rkyv_map_set_number(map, *key, value) }
     }
 
-    unsafe fn put(builder: *mut RawBuilder, key: &u32, value: u64) -> u32 {
-        // SAFETY: the caller ensures that the builder is not freed.
-        unsafe { raw::rkyv_builder_put_number(builder, *key, value) }
+    type Item = RawNumberItem;
+
+    fn item(key: &u32, value: u64) -> RawNumberItem {
+        RawNumberItem { value, key: *key }
+    }
+
+    unsafe fn build(
+        items: &[RawNumberItem],
+        kind: u32,
+        width: u32,
+        bytes: &mut *mut u8,
+        length: &mut usize,
+    ) -> u32 {
+        // SAFETY: pointer and length are those of one slice.
+        unsafe { raw::rkyv_build_numbers(items.as_ptr(), items.len(), kind, width, bytes, length) }
     }
 
     type Pair = RawNumberPair;
@@ -251,10 +274,26 @@ impl SealedKey for str {
         unsafe { raw::rkyv_map_set_text(map, key.as_ptr(), key.len(), value) }
     }
 
-    unsafe fn put(builder: *mut RawBuilder, key: &str, value: u64) -> u32 {
-        // SAFETY: pointer and length are those of one text. The caller ensures that the builder is
-        // not freed.
-        unsafe { raw::rkyv_builder_put_text(builder, key.as_ptr(), key.len(), value) }
+    type Item = RawTextItem;
+
+    fn item(key: &str, value: u64) -> RawTextItem {
+        RawTextItem {
+            key: key.as_ptr(),
+            key_length: key.len(),
+            value,
+        }
+    }
+
+    unsafe fn build(
+        items: &[RawTextItem],
+        kind: u32,
+        width: u32,
+        bytes: &mut *mut u8,
+        length: &mut usize,
+    ) -> u32 {
+        // SAFETY: pointer and length are those of one slice. The caller ensures that the keys are
+        // borrowed.
+        unsafe { raw::rkyv_build_texts(items.as_ptr(), items.len(), kind, width, bytes, length) }
     }
 
     type Pair = RawTextPair;
