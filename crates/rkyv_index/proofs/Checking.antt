@@ -22,6 +22,7 @@ use Rattle.rkyv_table.specs.Table.Layout.{TableHolds, table_spec}
 use Rattle.rkyv_table.specs.Table.Positions.{IsWalked, item_at, item_positions, table_controls}
 use Rattle.rkyv_table.specs.Table.Decoded.{IsDecoded}
 use Rattle.rkyv_table.specs.declared.table.decoded.Decoded.{Decoded}
+use Rattle.rkyv_table.proofs.Moved.{moved}
 use Rattle.rkyv_table.proofs.ParsedTable.{controls_inside, item_before}
 use Rattle.rkyv_table.proofs.RawWalks.{walked_all}
 use Rattle.rkyv_table.specs.Lemmas.TableLaws.{table_element}
@@ -122,6 +123,11 @@ module _ (w : Width) (kind : IsArchiveWord w) (b : List ℕ) (p n begin : ℕ) (
       let is = walk (table_controls w b p) (cap_at w b p) in
       All-map (λ q. number_at w b q < n) (item_at w (byte_len w) b p) is
       (All-weaker (IsWalked w b p) (λ i. number_at w b (item_at w (byte_len w) b p i) < n) (bucket_below all) is (walked_all w (place_spec w) (place_element w kind) b p))
+
+-- a property of the bytes and the position of a view is one of those that it is of
+pub holds_there : {T : Type 0} (view new : View T) (a : Bor (List ℕ)) (p : ℕ) → view ≡ new → IsAt new a p → (P : List ℕ → ℕ → Type 0) → P view.archive.now view.pos → P a.now p
+holds_there view new a p same at P =
+    moved P view.archive.now a.now view.pos p (ap (λ v. v.archive.now) same ∙ ap (λ b. b.now) at.0) (ap (λ v. v.pos) same ∙ at.1)
 
 -- the buckets of a table, by its decoded header
 module _ (w : Width) (kind : IsArchiveWord w) (b : List ℕ) (p : ℕ) (v : Viewable (table_spec w (place_spec w)) b p) (header : Decoded) (is : IsDecoded w b p header) where

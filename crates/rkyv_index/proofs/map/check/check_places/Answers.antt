@@ -13,7 +13,7 @@ use Rattle.rkyv_table.specs.Table.RawItems.{AllValid, ItemsLeft}
 use Rattle.rkyv_table.proofs.Moved.{moved}
 use Rattle.rkyv_index.specs.Index.IndexLayout.{AreBelow, FirstNotBelow, PlacesBelow}
 use Rattle.rkyv_index.specs.Lemmas.PlaceSpecs.{places_viewable}
-use Rattle.rkyv_index.proofs.Checking.{buckets_below, decoded_before, decoded_begin, decoded_inside, view_there}
+use Rattle.rkyv_index.proofs.Checking.{buckets_below, decoded_before, decoded_begin, decoded_inside, holds_there, view_there}
 use Rattle.rkyv_index.proofs.map.check.check_places.Goals as goal
 
 pub new-requires : goal.new-requires
@@ -29,39 +29,29 @@ pub buckets_begin-requires : goal.buckets_begin-requires
 buckets_begin-requires g c =
     let w = g.W.Word.word in
     let b = c.args.bytes.now in
-    let archive = ap (λ v. v.archive.now) c.of-table.ensures.view ∙ ap (λ a. a.now) c.new.ensures.0 in
-    let pos = ap (λ v. v.pos) c.of-table.ensures.view ∙ c.new.ensures.1 in
     let header = c.header-header.result in
-    let is : IsDecoded w b c.args.pos header = moved (λ d r. IsDecoded w d r header) c.of-table.result.view.archive.now b c.of-table.result.view.pos c.args.pos archive pos c.header-header.ensures in
+    let is = holds_there c.of-table.result.view c.new.result c.args.bytes c.args.pos c.of-table.ensures.view c.new.ensures (λ d r. IsDecoded w d r header) c.header-header.ensures in
     decoded_before w g.W.Word.kind b c.args.pos c.requires header is
 
 pub all_below-requires : goal.all_below-requires
 all_below-requires g c =
     let w = g.W.Word.word in
     let b = c.args.bytes.now in
-    let archive = ap (λ v. v.archive.now) c.of-table.ensures.view ∙ ap (λ a. a.now) c.new.ensures.0 in
-    let pos = ap (λ v. v.pos) c.of-table.ensures.view ∙ c.new.ensures.1 in
     let header = c.header-header.result in
-    let is : IsDecoded w b c.args.pos header = moved (λ d r. IsDecoded w d r header) c.of-table.result.view.archive.now b c.of-table.result.view.pos c.args.pos archive pos c.header-header.ensures in
+    let is = holds_there c.of-table.result.view c.new.result c.args.bytes c.args.pos c.of-table.ensures.view c.new.ensures (λ d r. IsDecoded w d r header) c.header-header.ensures in
     subst (λ n. c.buckets_begin.result + n * byte_len w ≤ length b) (sym c.capacity.ensures)
     (decoded_inside w g.W.Word.kind b c.args.pos c.requires header is c.buckets_begin.result c.buckets_begin.ensures.none c.buckets_begin.ensures.some)
 
 pub returns-then-all_below-clause-len : goal.returns-then-all_below-clause-len
-returns-then-all_below-clause-len g c =
-    let w = g.W.Word.word in
-    let archive = ap (λ v. v.archive.now) c.of-table.ensures.view ∙ ap (λ a. a.now) c.new.ensures.0 in
-    let pos = ap (λ v. v.pos) c.of-table.ensures.view ∙ c.new.ensures.1 in
-    c.len-len.ensures ∙ ap (λ b. len_at w b c.of-table.result.view.pos) archive ∙ ap (len_at w c.args.bytes.now) pos
+returns-then-all_below-clause-len g c = holds_there c.of-table.result.view c.new.result c.args.bytes c.args.pos c.of-table.ensures.view c.new.ensures (λ d r. c.len-len.result ≡ len_at g.W.Word.word d r) c.len-len.ensures
 
 pub returns-then-all_below-clause-below : goal.returns-then-all_below-clause-below
 returns-then-all_below-clause-below g c =
     let w = g.W.Word.word in
     let b = c.args.bytes.now in
-    let archive = ap (λ v. v.archive.now) c.of-table.ensures.view ∙ ap (λ a. a.now) c.new.ensures.0 in
-    let pos = ap (λ v. v.pos) c.of-table.ensures.view ∙ c.new.ensures.1 in
     let header = c.header-header.result in
-    let is : IsDecoded w b c.args.pos header = moved (λ d r. IsDecoded w d r header) c.of-table.result.view.archive.now b c.of-table.result.view.pos c.args.pos archive pos c.header-header.ensures in
-    let len : c.len-len.result ≡ len_at w b c.args.pos = c.len-len.ensures ∙ ap (λ d. len_at w d c.of-table.result.view.pos) archive ∙ ap (len_at w b) pos in
+    let is = holds_there c.of-table.result.view c.new.result c.args.bytes c.args.pos c.of-table.ensures.view c.new.ensures (λ d r. IsDecoded w d r header) c.header-header.ensures in
+    let len = holds_there c.of-table.result.view c.new.result c.args.bytes c.args.pos c.of-table.ensures.view c.new.ensures (λ d r. c.len-len.result ≡ len_at w d r) c.len-len.ensures in
     let begin = c.buckets_begin.result in
     let all : AreBelow w b begin (cap_at w b c.args.pos) (len_at w b c.args.pos) =
     moved (λ m n. AreBelow w b begin m n) c.capacity.result (cap_at w b c.args.pos) c.len-len.result (len_at w b c.args.pos) (c.capacity.ensures ∙ is.cap) len (c.all_below.ensures c.if-all_below.true) in
