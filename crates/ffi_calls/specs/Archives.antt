@@ -68,10 +68,6 @@ number_map form = map_spec (word_of form.wide) number_key (value_spec form)
 abbrev pub text_map : Form → ElementSpec
 text_map form = map_spec (word_of form.wide) (text_key form) (value_spec form)
 
--- a valid map is at position `p`
-abbrev pub IsMapAt : Width → ElementSpec → ElementSpec → List ℕ → ℕ → Type 0
-IsMapAt w k v b p = Viewable (map_spec w k v) b p
-
 -- `b` is the valid archive of a map with keys of spec `k` and values of spec `v`
 abbrev pub IsMapArchive : Width → ℕ → ElementSpec → ElementSpec → List ℕ → Type 0
 IsMapArchive w limit k v b = Accepted limit (map_spec w k v) b
