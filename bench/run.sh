@@ -1,7 +1,7 @@
 #!/usr/bin/env bash
 # Proves and builds the static libraries, measures them, and writes RESULTS.md and the plots.
 #
-#   bench/run.sh            measures the library and the Rust crate, in about ten minutes
+#   bench/run.sh            measures the library and the Rust crate, in about twenty minutes
 #   bench/run.sh --print    prints the table of the library alone, and writes nothing
 set -euo pipefail
 cd "$(dirname "$0")"
