@@ -1,6 +1,6 @@
 //! Lookups, with a function for each type of values and each width.
 //!
-//! So a lookup decides nothing of these. The functions are named for the type and the width.
+//! The names end with the type and the width. A lookup has no branch on either.
 
 ghost use Rattle.std.specs.Prelude.{false, true};
 ghost use Rattle.std.specs.Str.{IsUtf8};
