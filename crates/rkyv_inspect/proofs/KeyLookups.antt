@@ -1,0 +1,37 @@
+-- Lookups of the keys of a map.
+use Rattle.std.proofs.Common.{◌≡◌, ◌∙◌, ◌<◌, ℕ, ap, arith, inl, inr, refl, subst, sym, Bool, List}
+use Rattle.std.specs.Borrow.{Bor}
+use Rattle.std.proofs.lemmas.Bool.{cases_eq}
+use Rattle.rkyv_base.specs.View.{IsAt, bytes_of, pos_of}
+use Rattle.rkyv_base.specs.declared.element.HasSpec.{Ghosts as Specs}
+use Rattle.rkyv_base.specs.declared.view.View.{View}
+use Rattle.rkyv_base.specs.declared.width.Word.{Ghosts as Words}
+use Rattle.rkyv_keys.specs.Equality.{Comparison}
+use Rattle.rkyv_table.specs.Table.Reading.{Answers, table_bytes}
+use Rattle.rkyv_table.specs.declared.table.ArchivedHashTable.{ArchivedHashTable}
+use Rattle.rkyv_inspect.specs.Summaries.{some_controls}
+
+-- a comparison with the key at `q` depends only on the position of an item
+pub own_answers : {T W : Type 0} {ts : Specs T} {wt : Words W} (t : ArchivedHashTable T W ts wt) (same : Comparison) (q : ℕ) (post : View T → Bool → Type 0)
+    → ((v : View T) (r : Bool) → post v r → r ≡ same (table_bytes t) q (bytes_of v) (pos_of v)) → Answers post t (same (table_bytes t) q (table_bytes t))
+own_answers t same q post asks v r item told = asks v r told ∙ ap (λ (a : Bor (List ℕ)). same (table_bytes t) q a.now (pos_of v)) item.1.archive
+
+-- a function of the bytes and the position of a view is that of the archive and the position
+pub read_at : {X T : Type 0} (f : List ℕ → ℕ → X) (v : View T) (archive : Bor (List ℕ)) (p : ℕ) → IsAt v archive p → f (bytes_of v) (pos_of v) ≡ f archive.now p
+read_at f v archive p at = ap (λ (a : Bor (List ℕ)). f a.now (pos_of v)) at.0 ∙ ap (f archive.now) at.1
+
+-- a property of a view is one of the archive and the position
+pub forth_at : {T : Type 0} (P : List ℕ → ℕ → Type 0) (v : View T) (archive : Bor (List ℕ)) (p : ℕ) → IsAt v archive p → P (bytes_of v) (pos_of v) → P archive.now p
+forth_at P v archive p at x = subst (P archive.now) at.1 (subst (λ (a : Bor (List ℕ)). P a.now (pos_of v)) at.0 x)
+
+-- the position of the control bytes has no meaning without buckets
+controls_if : (count at place : ℕ) → (0 < count → at ≡ place) → some_controls count at ≡ some_controls count place
+controls_if count at place same = elim (cases_eq count 0) [
+  | inl none ↦ subst (λ n. some_controls n at ≡ some_controls n place) (sym none) refl
+  | inr some ↦ ap (some_controls count) (same (omega arith))
+]
+
+pub same_controls : (read header_cap header_at count at place : ℕ) → read ≡ header_cap → header_cap ≡ count → at ≡ header_at → (0 < header_cap → header_at ≡ place)
+    → some_controls read at ≡ some_controls count place
+same_controls read header_cap header_at count at place e f h same =
+    ap (λ n. some_controls n at) (e ∙ f) ∙ ap (some_controls count) h ∙ controls_if count header_at place (λ some. same (omega arith))

@@ -1,0 +1,4 @@
+pub mod Coverings
+pub mod Histograms
+pub mod KeyLookups
+pub mod Dispatch

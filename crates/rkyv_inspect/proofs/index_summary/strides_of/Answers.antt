@@ -1,0 +1,23 @@
+use Rattle.std.proofs.Common.{◌≡◌, ◌∙◌, ap, arith, Bool, ℕ, List}
+use Rattle.rkyv_base.specs.View.{bytes_of, pos_of}
+use Rattle.rkyv_index.specs.Index.{hash_at, index_archive, index_bytes, index_pos, index_strides, key_pos}
+use Rattle.rkyv_inspect.proofs.KeyLookups.{read_at}
+use Rattle.rkyv_inspect.proofs.index_summary.strides_of.Goals as goal
+
+pub returns-clause-reads : goal.returns-clause-reads
+returns-clause-reads g c =
+    let map = c.args.map in
+    let is = c.key_at-key.ensures in
+    let key = c.key_at-key.result in
+    let same = g.K.ElementEq.same in
+    let key_hash = hash_at g.H.KeyHasher.hasher g.K.KeyElement.key_calls in
+    let b : List ℕ = index_bytes map in
+    let q : ℕ = key_pos map c.args.place in
+    let accept : ℕ → Bool = λ i. same b q b (key_pos map i) in
+    let counted = c.get_index_of_counted.ensures.counted accept (λ i other r of told.
+    told.1 ∙ read_at (λ a p. same a p (bytes_of other) (pos_of other)) key (index_archive map) q is.at
+    ∙ read_at (same b q) other (index_archive map) (key_pos map i) of.at) in
+    let hash = read_at key_hash key (index_archive map) q is.at in
+    let end : ℕ → ℕ = λ h. index_strides g.W.Word.word b (index_pos map) h accept in
+    let moved : end (key_hash (bytes_of key) (pos_of key)) ≡ end (key_hash b q) = ap end hash in
+    omega (arith, counted, moved, c.count.ensures, c.new-strides.ensures)

@@ -1,0 +1,92 @@
+-- The types, widths and kinds of archived collections.
+use Rattle.std.specs.Prelude.{ℕ, ◌==◌, Bool, [], ◌∷◌, true, false}
+use Rattle.std.specs.Int.{Width, w32, w64}
+use Rattle.rkyv_scan.specs.Hash.{HasherCall, U32 as CallsU32, U64 as CallsU64, fx_hash}
+use Rattle.rkyv_scan.specs.Hash.{low_halves}
+use Rattle.rkyv_base.specs.Bytes.{number_at}
+use Rattle.rkyv_base.specs.Empty.{unit_spec}
+use Rattle.rkyv_base.specs.Entry.{entry_spec}
+use Rattle.rkyv_base.specs.ElementSpec.{ElementSpec}
+use Rattle.rkyv_base.specs.Numbers.{unsigned}
+use Rattle.rkyv_base.specs.Scalar.{scalar_spec}
+use Rattle.rkyv_base.specs.Text.{text_at, text_spec}
+use Rattle.rkyv_collections.specs.Map.MapSpec.{map_spec}
+use Rattle.rkyv_container.specs.declared.contents.ItemType.{ItemType}
+use Rattle.rkyv_container.specs.declared.contents.ItemType.TheVariants.{
+  Text,
+  U32,
+  U64,
+  Unit as UnitType,
+}
+use Rattle.rkyv_container.specs.declared.contents.Kind.{Kind}
+use Rattle.rkyv_container.specs.declared.contents.Kind.TheVariants.{
+  HashMap,
+  HashSet,
+  IndexMap,
+  IndexSet,
+}
+use Rattle.rkyv_container.specs.declared.contents.Width.{Width as ArchiveWidth}
+use Rattle.rkyv_container.specs.declared.contents.Width.TheVariants.{Narrow, Wide}
+use Rattle.rkyv_index.specs.Index.IndexLayout.{index_spec}
+use Rattle.rkyv_keys.specs.Calls.{text_calls}
+use Rattle.rkyv_keys.specs.OfTexts.{same_bytes}
+use Rattle.rkyv_keys.specs.OfUnits.{unit_calls, unit_same}
+use Rattle.rkyv_inspect.specs.Summaries.{KeyType, key_type}
+
+-- the word of a count or a distance
+abbrev pub word_of : ArchiveWidth → Width
+word_of Narrow = w32
+word_of Wide = w64
+
+-- the greatest length of an archive, in bytes
+abbrev pub limit_of : ArchiveWidth → ℕ
+limit_of Narrow = 4_294_967_295
+limit_of Wide = 9_223_372_036_854_775_807
+
+-- numbers as keys, of words of width `n`. `call`: hasher call of a number
+abbrev pub number_keys : Width → (ℕ → HasherCall) → KeyType
+number_keys n call = key_type (scalar_spec (unsigned n))
+    (λ b p c q. number_at n b p == number_at n c q)
+    (λ b p. fx_hash low_halves (call (number_at n b p) ∷ []))
+
+-- texts as keys, in archives of the word `w`
+abbrev pub text_keys : Width → KeyType
+text_keys w = key_type (text_spec w) (λ b p c q. same_bytes (text_at w b p) (text_at w c q))
+    (λ b p. fx_hash low_halves (text_calls (text_at w b p)))
+
+-- unit values as keys
+abbrev pub unit_keys : KeyType
+unit_keys = key_type unit_spec unit_same (λ b p. fx_hash low_halves (unit_calls b p))
+
+-- the keys of a supported type
+abbrev pub keys_of : Width → ItemType → KeyType
+keys_of w U32 = number_keys w32 CallsU32
+keys_of w U64 = number_keys w64 CallsU64
+keys_of w Text = text_keys w
+keys_of w _ = unit_keys
+
+-- the spec of the values of a supported type
+abbrev pub value_spec : Width → ItemType → ElementSpec
+value_spec w U32 = scalar_spec (unsigned w32)
+value_spec w U64 = scalar_spec (unsigned w64)
+value_spec w Text = text_spec w
+value_spec w _ = unit_spec
+
+-- keys of the type are supported
+abbrev pub is_key_type : ItemType → Bool
+is_key_type U32 = true
+is_key_type U64 = true
+is_key_type Text = true
+is_key_type _ = false
+
+-- values of the type are supported
+abbrev pub is_value_type : ItemType → Bool
+is_value_type UnitType = true
+is_value_type item = is_key_type item
+
+-- the spec of the header of a collection of the kind. A set is the map of its keys to unit values
+abbrev pub root_spec : Kind → Width → ElementSpec → ElementSpec → ElementSpec
+root_spec HashMap w k v = map_spec w k v
+root_spec HashSet w k v = map_spec w k v
+root_spec IndexMap w k v = index_spec w (entry_spec k v)
+root_spec IndexSet w k v = index_spec w (entry_spec k v)

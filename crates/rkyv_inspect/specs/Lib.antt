@@ -1,0 +1,5 @@
+pub mod Collections
+pub mod Histogram
+pub mod Inspections
+pub mod Regions
+pub mod Summaries

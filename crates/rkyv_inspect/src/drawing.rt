@@ -1,0 +1,117 @@
+//! The drawing of an archive's regions, as SVG.
+
+use crate::inspection::Inspection;
+use crate::regions::{Region, RegionKind};
+use std::fmt::{self, Display, Formatter, Write};
+
+/// A drawing of the regions of an archive: a standalone SVG.
+///
+/// Each region is one rectangle, whose width is the number of its bytes and whose title is its
+/// text.
+///
+/// # Examples
+///
+/// ```rust
+/// // Returns the drawing of an archive.
+/// fn draw(alloc: Global, archive: &[u8], contents: Contents) -> Result<String, InspectError> {
+///     let inspection = inspect(alloc, archive, contents, 1_000_000)?;
+///     Ok(format!(in alloc; "{}", Drawing::new(&inspection, archive.len()))?)
+/// }
+/// ```
+#[derive(Clone, Copy)]
+pub struct Drawing<'a> {
+    inspection: &'a Inspection,
+    len: usize,
+}
+
+impl<'a> Drawing<'a> {
+    /// Returns the drawing of an inspection of an archive of `len` bytes.
+    pub fn new(inspection: &'a Inspection, len: usize) -> Drawing<'a> {
+        Drawing { inspection, len }
+    }
+}
+
+impl Display for Drawing<'_> {
+    fn fmt<W: Write>(&self, f: &mut Formatter<W>) -> fmt::Result {
+        write!(
+            f,
+            "<svg xmlns=\"http://www.w3.org/2000/svg\" width=\"960\" height=\"120\">\n"
+        )?;
+        write!(
+            f,
+            "<svg width=\"960\" height=\"80\" viewBox=\"0 0 {} 1\"",
+            self.len
+        )?;
+        write!(f, " preserveAspectRatio=\"none\">\n")?;
+        for region in &self.inspection.regions {
+            write!(f, "{}", Rect(region))?;
+        }
+        write!(f, "</svg>\n")?;
+        write!(
+            f,
+            "<text x=\"0\" y=\"110\" font-family=\"sans-serif\" font-size=\"16\">"
+        )?;
+        write!(
+            f,
+            "{} bytes: {}</text>\n",
+            self.len, self.inspection.contents.kind
+        )?;
+        write!(f, "</svg>\n")
+    }
+}
+
+/// The rectangle of a region.
+#[derive(Clone, Copy)]
+struct Rect<'a>(&'a Region);
+
+impl Display for Rect<'_> {
+    fn fmt<W: Write>(&self, f: &mut Formatter<W>) -> fmt::Result {
+        let region = self.0;
+        let width = region.end.saturating_sub(region.begin);
+        write!(
+            f,
+            "<rect x=\"{}\" y=\"0\" width=\"{width}\" height=\"1\"",
+            region.begin
+        )?;
+        write!(f, " fill=\"{}\">", fill_of(region.kind))?;
+        write!(
+            f,
+            "<title>{}: {}</title></rect>\n",
+            region.begin,
+            Escaped(region.text.as_str())
+        )
+    }
+}
+
+/// A text in which the characters of markup are escaped.
+#[derive(Clone, Copy)]
+struct Escaped<'a>(&'a str);
+
+impl Display for Escaped<'_> {
+    fn fmt<W: Write>(&self, f: &mut Formatter<W>) -> fmt::Result {
+        for c in self.0.chars() {
+            match c {
+                '<' => write!(f, "&lt;")?,
+                '>' => write!(f, "&gt;")?,
+                '&' => write!(f, "&amp;")?,
+                '"' => write!(f, "&quot;")?,
+                _ => write!(f, "{c}")?,
+            }
+        }
+        Ok(())
+    }
+}
+
+/// Returns the colour of a region.
+fn fill_of(kind: RegionKind) -> &'static str {
+    match kind {
+        RegionKind::OutOfLine => "#999999",
+        RegionKind::Text => "#e6c229",
+        RegionKind::FullBucket | RegionKind::Entry => "#2e8b57",
+        RegionKind::EmptyBucket => "#d9ead3",
+        RegionKind::Controls => "#1f77b4",
+        RegionKind::MirroredControls => "#9ecae1",
+        RegionKind::Padding => "#eeeeee",
+        RegionKind::Header => "#a64d79",
+    }
+}

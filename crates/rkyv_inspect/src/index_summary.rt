@@ -1,0 +1,155 @@
+//! Summaries of index maps.
+ghost use Rattle.std.specs.Prelude.{IfOk, ◌/◌, ◌<◌, ◌≡◌, ◌≤◌};
+ghost use Rattle.rkyv_base.specs.Entry.{entry_spec};
+ghost use Rattle.rkyv_base.specs.View.{IsValidView, bytes_of, pos_of};
+ghost use Rattle.rkyv_index.specs.Index.IndexLayout.{index_spec};
+ghost use Rattle.rkyv_index.specs.Index.{IsKeyOf, hash_at, index_bytes, index_len, index_pos};
+ghost use Rattle.rkyv_table.specs.Controls.Numbers.{probe_capacity};
+ghost use Rattle.rkyv_table.specs.Table.Decoded.{IsDecoded};
+ghost use Rattle.rkyv_table.specs.Table.Header.{cap_at};
+ghost use Rattle.rkyv_inspect.specs.Summaries.{CountsIndexStrides, IsIndexSummary, LooksUpIndices};
+ghost use Rattle.rkyv_inspect.specs.Summaries.{index_key_strides, key_type, keyed_map};
+
+use crate::histogram::{count_one, zeros};
+use crate::map_summary::{controls_of, most_strides};
+use crate::summary::{Lookups, Summary};
+use rkyv_base::element::Element;
+use rkyv_base::view::View;
+use rkyv_base::width::Width;
+use rkyv_index::{ArchivedIndexMap, IndexMapOf};
+use rkyv_keys::keys::KeyElement;
+use rkyv_scan::hash::KeyHasher;
+use rkyv_table::table::decoded::Decoded;
+use rkyv_table::{ArchivedHashTable, Strides, TableOf};
+use std::alloc::{AllocError, Global};
+
+/// Returns the key at an index of the map.
+fn key_at<'a, K: KeyElement, V: Element, H: KeyHasher, W: Width>(
+    map: ArchivedIndexMap<'a, K, V, H, W>,
+    place: usize,
+) -> View<'a, K>
+    requires { place < index_len map }
+    ensures { IsKeyOf map.entry place result }
+{
+    match map.get_index(place) {
+        Some((key, _)) => key,
+        None => unreachable!(),
+    }
+}
+
+/// Returns the number of strides that a lookup of the key at an index of the map reads.
+fn strides_of<K: KeyElement, V: Element, H: KeyHasher, W: Width>(
+    map: ArchivedIndexMap<'_, K, V, H, W>,
+    place: usize,
+) -> usize
+    requires { place < index_len map }
+    ensures reads { let keys = key_type K.spec K.same (hash_at H.hasher K.key_calls) in
+        let m = keyed_map W.word keys V.spec (index_bytes map.entry) (index_pos map.entry) in
+        result ≡ index_key_strides m place }
+    ensures most { result
+        ≤ probe_capacity (cap_at W.word (index_bytes map.entry) (index_pos map.entry)) / 16 }
+{
+    let key = key_at(map, place);
+    let mut strides = Strides::new();
+    let _ = map.get_index_of_counted(
+        &key,
+        |key, stored|
+            requires key { IsValidView K.spec key.now }
+            requires stored { IsValidView K.spec stored }
+            ensures { result ≡ K.same (bytes_of key.entry.now) (pos_of key.entry.now)
+                (bytes_of stored.entry) (pos_of stored.entry) }
+        { K::same(*key, stored) },
+        &mut strides,
+    );
+    strides.count() as usize
+}
+
+/// Returns the histogram of the strides that lookups of all keys of a map read.
+///
+/// # Requires
+///
+/// - `capacity` is the number of buckets.
+fn strides_histogram<K: KeyElement, V: Element, H: KeyHasher, W: Width>(
+    alloc: Global,
+    map: ArchivedIndexMap<'_, K, V, H, W>,
+    capacity: usize,
+) -> Result<Vec<usize>, AllocError>
+    requires { capacity ≡ cap_at W.word (index_bytes map) (index_pos map) }
+    ensures { let m = keyed_map W.word
+        (key_type K.spec K.same (hash_at H.hasher K.key_calls)) V.spec (index_bytes map.entry)
+        (index_pos map.entry) in
+        IfOk result (λ counts. CountsIndexStrides m counts.items) }
+{
+    let mut counts = zeros(alloc, most_strides(capacity) + 1)?;
+    for place in 0..map.len() {
+        count_one(&mut counts, strides_of(map, place));
+    }
+    Ok(counts)
+}
+
+/// Looks up each key of a map, unless the lookups read more than `limit` strides.
+///
+/// # Requires
+///
+/// - `capacity` is the number of buckets.
+fn index_lookups<K: KeyElement, V: Element, H: KeyHasher, W: Width>(
+    alloc: Global,
+    map: ArchivedIndexMap<'_, K, V, H, W>,
+    capacity: usize,
+    limit: u64,
+) -> Result<Option<Lookups>, AllocError>
+    requires { capacity ≡ cap_at W.word (index_bytes map) (index_pos map) }
+    ensures { let keys = key_type K.spec K.same (hash_at H.hasher K.key_calls) in
+        let m = keyed_map W.word keys V.spec (index_bytes map.entry) (index_pos map.entry) in
+        IfOk result (LooksUpIndices m limit) }
+{
+    let misplaced = match map.misplaced_up_to(limit) {
+        Some(misplaced) => misplaced,
+        None => return Ok(None),
+    };
+    let strides = strides_histogram(alloc, map, capacity)?;
+    Ok(Some(Lookups { misplaced, strides }))
+}
+
+/// Returns the numbers of the index map at a view of its header.
+///
+/// Each key is looked up, unless the lookups read more than `limit` strides.
+///
+/// # Errors
+///
+/// - The histogram fails to allocate.
+///
+/// # Requires
+///
+/// - The view is of a valid index map.
+pub fn index_summary<K: KeyElement, V: Element, H: KeyHasher, W: Width>(
+    alloc: Global,
+    root: View<'_, IndexMapOf<K, V, H, W>>,
+    limit: u64,
+) -> Result<Summary, AllocError>
+    requires { IsValidView (index_spec W.word (entry_spec K.spec V.spec)) root }
+    ensures { let keys = key_type K.spec K.same (hash_at H.hasher K.key_calls) in
+        let m = keyed_map W.word keys V.spec (bytes_of root.entry) (pos_of root.entry) in
+        IfOk result (IsIndexSummary m limit) }
+{
+    let header = header_of(root);
+    let map = ArchivedIndexMap::of(root);
+    let lookups = index_lookups(alloc, map, header.capacity(), limit)?;
+    Ok(Summary {
+        len: header.len(),
+        capacity: header.capacity(),
+        header_pos: root.pos(),
+        controls_pos: controls_of(header.capacity(), header.controls_pos()),
+        lookups,
+    })
+}
+
+/// Returns the decoded header of the table of indices of an index map.
+pub(crate) fn header_of<K: Element, V: Element, H, W: Width>(
+    root: View<'_, IndexMapOf<K, V, H, W>>,
+) -> Decoded
+    requires { IsValidView (index_spec W.word (entry_spec K.spec V.spec)) root }
+    ensures { IsDecoded W.word (bytes_of root.entry) (pos_of root.entry) result }
+{
+    ArchivedHashTable::of(root.at::<TableOf<W::Place, W>>(root.pos())).header()
+}

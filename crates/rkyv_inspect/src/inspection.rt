@@ -1,0 +1,183 @@
+//! Inspections of archives of all kinds, types and widths.
+ghost use Rattle.rkyv_scan.specs.Hash.{fx_hasher, low_halves};
+ghost use Rattle.rkyv_collections.specs.Map.{hash_at};
+ghost use Rattle.rkyv_inspect.specs.Inspections.{Inspects, InspectsContents, InspectsKeys};
+ghost use Rattle.rkyv_inspect.specs.Inspections.{InspectsValues, target};
+ghost use Rattle.rkyv_inspect.specs.Summaries.{key_type};
+
+use crate::errors::InspectError;
+use crate::fields::Field;
+use crate::index_regions::index_regions;
+use crate::index_summary::index_summary;
+use crate::map_regions::map_regions;
+use crate::map_summary::map_summary;
+use crate::regions::Region;
+use crate::summary::Summary;
+use rkyv_base::access::access_in;
+use rkyv_base::text::Text;
+use rkyv_base::width::{Narrow, Wide, Width as ArchiveWidth};
+use rkyv_collections::map::HashMapOf;
+use rkyv_container::contents::{Contents, ItemType, Kind, Width};
+use rkyv_index::IndexMapOf;
+use rkyv_keys::keys::KeyElement;
+use rkyv_scan::hash::FxHasher64;
+use std::alloc::Global;
+
+/// The inspection of a valid archive.
+#[derive(Debug, Drop)]
+pub struct Inspection {
+    /// The kind of the collection, its types and its width.
+    pub contents: Contents,
+    /// The numbers of its header, and the lookups of all keys.
+    pub summary: Summary,
+    /// Its bytes, field by field.
+    pub regions: Vec<Region>,
+}
+
+/// Inspects the archive of a hash map.
+fn inspect_hash_map<K: KeyElement + Field, V: Field, W: ArchiveWidth>(
+    alloc: Global,
+    archive: &[u8],
+    contents: Contents,
+    limit: u64,
+) -> Result<Inspection, InspectError>
+    ensures { let keys = key_type K.spec K.same (hash_at (fx_hasher low_halves) K.key_calls) in
+        Inspects (target W.word W.LIMIT contents archive.now limit) Kind.HashMap keys V.spec
+        result }
+{
+    let root = match access_in::<W, HashMapOf<K, V, FxHasher64, W>>(archive) {
+        Ok(root) => root,
+        Err(error) => return Err(InspectError::Invalid(error)),
+    };
+    let summary = map_summary(alloc, root, limit)?;
+    let regions = map_regions(alloc, root)?;
+    Ok(Inspection {
+        contents,
+        summary,
+        regions,
+    })
+}
+
+/// Inspects the archive of an index map.
+fn inspect_index_map<K: KeyElement + Field, V: Field, W: ArchiveWidth>(
+    alloc: Global,
+    archive: &[u8],
+    contents: Contents,
+    limit: u64,
+) -> Result<Inspection, InspectError>
+    ensures { let keys = key_type K.spec K.same (hash_at (fx_hasher low_halves) K.key_calls) in
+        Inspects (target W.word W.LIMIT contents archive.now limit) Kind.IndexMap keys V.spec
+        result }
+{
+    let root = match access_in::<W, IndexMapOf<K, V, FxHasher64, W>>(archive) {
+        Ok(root) => root,
+        Err(error) => return Err(InspectError::Invalid(error)),
+    };
+    let summary = index_summary(alloc, root, limit)?;
+    let regions = index_regions(alloc, root)?;
+    Ok(Inspection {
+        contents,
+        summary,
+        regions,
+    })
+}
+
+/// Inspects the archive of a map with keys and values of these types. A set has unit values.
+fn inspect_kind<K: KeyElement + Field, V: Field, W: ArchiveWidth>(
+    alloc: Global,
+    archive: &[u8],
+    contents: Contents,
+    limit: u64,
+) -> Result<Inspection, InspectError>
+    ensures { let keys = key_type K.spec K.same (hash_at (fx_hasher low_halves) K.key_calls) in
+        Inspects (target W.word W.LIMIT contents archive.now limit) contents.kind keys V.spec
+        result }
+{
+    match contents.kind {
+        Kind::HashMap => inspect_hash_map::<K, V, W>(alloc, archive, contents, limit),
+        Kind::HashSet => inspect_hash_map::<K, V, W>(alloc, archive, contents, limit),
+        Kind::IndexMap => inspect_index_map::<K, V, W>(alloc, archive, contents, limit),
+        Kind::IndexSet => inspect_index_map::<K, V, W>(alloc, archive, contents, limit),
+    }
+}
+
+/// Inspects the archive of a collection with keys of this type.
+fn inspect_keys<K: KeyElement + Field, W: ArchiveWidth>(
+    alloc: Global,
+    archive: &[u8],
+    contents: Contents,
+    limit: u64,
+) -> Result<Inspection, InspectError>
+    ensures { let keys = key_type K.spec K.same (hash_at (fx_hasher low_halves) K.key_calls) in
+        InspectsValues (target W.word W.LIMIT contents archive.now limit) keys result }
+{
+    match contents.value {
+        ItemType::Unit => inspect_kind::<K, (), W>(alloc, archive, contents, limit),
+        ItemType::U32 => inspect_kind::<K, u32, W>(alloc, archive, contents, limit),
+        ItemType::U64 => inspect_kind::<K, u64, W>(alloc, archive, contents, limit),
+        ItemType::Text => inspect_kind::<K, Text<W>, W>(alloc, archive, contents, limit),
+        other => Err(InspectError::Unsupported(other)),
+    }
+}
+
+/// Inspects the archive of a collection in this width.
+fn inspect_width<W: ArchiveWidth>(
+    alloc: Global,
+    archive: &[u8],
+    contents: Contents,
+    limit: u64,
+) -> Result<Inspection, InspectError>
+    ensures { InspectsKeys (target W.word W.LIMIT contents archive.now limit) result }
+{
+    match contents.key {
+        ItemType::U32 => inspect_keys::<u32, W>(alloc, archive, contents, limit),
+        ItemType::U64 => inspect_keys::<u64, W>(alloc, archive, contents, limit),
+        ItemType::Text => inspect_keys::<Text<W>, W>(alloc, archive, contents, limit),
+        other => Err(InspectError::Unsupported(other)),
+    }
+}
+
+/// Validates an archive, and returns its numbers, the lookups of all keys, and its regions.
+///
+/// The lookups are left out if they read more than `limit` strides of sixteen control bytes. So the
+/// cost on an untrusted archive is bounded.
+///
+/// # Errors
+///
+/// - `Unsupported`: the types of keys and values aren't numbers of 32 or 64 bits or text, or those
+///   of values unit.
+/// - `Invalid`: the bytes aren't a valid archive of this collection.
+/// - `Memory`: an allocation failed.
+///
+/// # Examples
+///
+/// ```rust
+/// // Returns the number of keys that a lookup of their own doesn't find, if it could be counted.
+/// fn misplaced(
+///     alloc: Global,
+///     archive: &[u8],
+///     contents: Contents,
+/// ) -> Result<Option<usize>, InspectError> {
+///     let inspection = inspect(alloc, archive, contents, 1_000_000)?;
+///     match inspection.summary.lookups {
+///         Some(lookups) => Ok(Some(lookups.misplaced)),
+///         None => Ok(None),
+///     }
+/// }
+///
+/// let found = misplaced(rt.alloc(), &MISPLACED, numbers()).ok();
+/// assert_eq!(rt; found, Some(Some(1)));
+/// ```
+pub fn inspect(
+    alloc: Global,
+    archive: &[u8],
+    contents: Contents,
+    limit: u64,
+) -> Result<Inspection, InspectError>
+    ensures { InspectsContents contents archive.now limit result }
+{
+    match contents.width {
+        Width::Narrow => inspect_width::<Narrow>(alloc, archive, contents, limit),
+        Width::Wide => inspect_width::<Wide>(alloc, archive, contents, limit),
+    }
+}

@@ -1,0 +1,178 @@
+//! The text of an inspection: its numbers, and a line for each region.
+
+use crate::inspection::Inspection;
+use crate::regions::{Region, RegionKind, bytes_in};
+use crate::summary::{Lookups, Summary};
+use rkyv_container::Header;
+use rkyv_container::contents::ItemType;
+use std::fmt::{self, Display, Formatter, Write};
+
+/// The number of bytes of a region that are printed.
+const SHOWN: usize = 8;
+
+/// The header of a container, as a line of text.
+#[derive(Clone, Copy)]
+pub struct ContainerLine(pub Header);
+
+impl Display for ContainerLine {
+    fn fmt<W: Write>(&self, f: &mut Formatter<W>) -> fmt::Result {
+        let contents = self.0.contents;
+        write!(f, "container: {} of {}", contents.kind, contents.key)?;
+        if contents.value != ItemType::Unit {
+            write!(f, " to {}", contents.value)?;
+        }
+        write!(f, ", {}, archive of {} bytes", contents.width, self.0.len)?;
+        match self.0.checksum {
+            Some(checksum) => write!(f, ", checksum {checksum:08x}\n"),
+            None => write!(f, ", no checksum\n"),
+        }
+    }
+}
+
+/// The numbers of a summary, as lines of text.
+#[derive(Clone, Copy)]
+struct Numbers<'a>(&'a Summary);
+
+impl Display for Numbers<'_> {
+    fn fmt<W: Write>(&self, f: &mut Formatter<W>) -> fmt::Result {
+        let summary = self.0;
+        write!(f, "items: {}\n", summary.len)?;
+        write!(f, "buckets: {}\n", summary.capacity)?;
+        write!(f, "load: {}%\n", percent(summary.len, summary.capacity))?;
+        match summary.controls_pos {
+            Some(pos) => write!(f, "control bytes at: {pos}\n")?,
+            None => write!(f, "control bytes at: none\n")?,
+        }
+        write!(f, "header at: {}\n", summary.header_pos)?;
+        match &summary.lookups {
+            Some(lookups) => write!(f, "{}", LookupLines(lookups)),
+            None => write!(f, "misplaced keys: more than could be counted\n"),
+        }
+    }
+}
+
+/// Returns the hundredths that `part` is of `whole`, or 0 if there is no whole.
+fn percent(part: usize, whole: usize) -> u128 {
+    if whole == 0 {
+        return 0;
+    }
+    part as u128 * 100 / whole as u128
+}
+
+/// The lookups of all keys, as lines of text.
+#[derive(Clone, Copy)]
+struct LookupLines<'a>(&'a Lookups);
+
+impl Display for LookupLines<'_> {
+    fn fmt<W: Write>(&self, f: &mut Formatter<W>) -> fmt::Result {
+        for (strides, keys) in self.0.strides.iter().enumerate() {
+            if *keys > 0 {
+                write!(f, "{strides} strides: {keys} keys\n")?;
+            }
+        }
+        write!(f, "misplaced keys: {}\n", self.0.misplaced)
+    }
+}
+
+/// Up to eight bytes in hexadecimal, and two dots if there are more.
+#[derive(Clone, Copy)]
+struct Hex<'a>(&'a [u8]);
+
+impl Display for Hex<'_> {
+    fn fmt<W: Write>(&self, f: &mut Formatter<W>) -> fmt::Result {
+        for byte in self.0.iter().take(SHOWN) {
+            write!(f, "{byte:02x} ")?;
+        }
+        for _ in self.0.len()..SHOWN {
+            write!(f, "   ")?;
+        }
+        if self.0.len() > SHOWN {
+            write!(f, "..")
+        } else {
+            write!(f, "  ")
+        }
+    }
+}
+
+/// The line of a region.
+#[derive(Clone, Copy)]
+struct Line<'a> {
+    archive: &'a [u8],
+    region: &'a Region,
+    color: bool,
+}
+
+impl Display for Line<'_> {
+    fn fmt<W: Write>(&self, f: &mut Formatter<W>) -> fmt::Result {
+        let region = self.region;
+        let hex = Hex(bytes_in(self.archive, region.begin, region.end));
+        if self.color {
+            let code = color_of(region.kind);
+            write!(
+                f,
+                "{:>8}  \x1b[{code}m{hex}\x1b[0m  {}\n",
+                region.begin, region.text
+            )
+        } else {
+            write!(f, "{:>8}  {hex}  {}\n", region.begin, region.text)
+        }
+    }
+}
+
+/// Returns the number of a terminal's colour for the bytes of a region.
+fn color_of(kind: RegionKind) -> u8 {
+    match kind {
+        RegionKind::OutOfLine | RegionKind::Padding => 90,
+        RegionKind::Text => 33,
+        RegionKind::FullBucket | RegionKind::Entry => 32,
+        RegionKind::EmptyBucket => 37,
+        RegionKind::Controls => 36,
+        RegionKind::MirroredControls => 34,
+        RegionKind::Header => 35,
+    }
+}
+
+/// The text of an inspection, in colour or not.
+///
+/// # Examples
+///
+/// ```rust
+/// // Returns the text of an inspection, without colour.
+/// fn text_of(alloc: Global, archive: &[u8], contents: Contents) -> Result<String, InspectError> {
+///     let inspection = inspect(alloc, archive, contents, 1_000_000)?;
+///     Ok(format!(in alloc; "{}", Printed::new(archive, &inspection, false))?)
+/// }
+/// ```
+#[derive(Clone, Copy)]
+pub struct Printed<'a> {
+    archive: &'a [u8],
+    inspection: &'a Inspection,
+    color: bool,
+}
+
+impl<'a> Printed<'a> {
+    /// Returns the text of an inspection of an archive, in the colours of a terminal or not.
+    pub fn new(archive: &'a [u8], inspection: &'a Inspection, color: bool) -> Printed<'a> {
+        Printed {
+            archive,
+            inspection,
+            color,
+        }
+    }
+}
+
+impl Display for Printed<'_> {
+    fn fmt<W: Write>(&self, f: &mut Formatter<W>) -> fmt::Result {
+        write!(f, "{}", Numbers(&self.inspection.summary))?;
+        write!(f, "bytes: {}\n", self.archive.len())?;
+        for region in &self.inspection.regions {
+            let line = Line {
+                archive: self.archive,
+                region,
+                color: self.color,
+            };
+            write!(f, "{line}")?;
+        }
+        Ok(())
+    }
+}

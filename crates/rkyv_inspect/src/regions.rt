@@ -1,0 +1,172 @@
+//! The regions of an archive: its bytes, field by field.
+ghost use Rattle.std.specs.Prelude.{IfOk, OnOk, length, max, min, ◌≡◌, ◌≤◌};
+ghost use Rattle.rkyv_inspect.specs.Regions.{Covers, IsRegionList};
+
+use std::alloc::{AllocError, Global};
+
+/// The kind of a region.
+#[derive(Clone, Copy, Debug, PartialEq, Eq)]
+pub enum RegionKind {
+    /// Bytes that no field is known of.
+    OutOfLine,
+    /// The bytes of an out-of-line text.
+    Text,
+    /// A bucket with an item.
+    FullBucket,
+    /// A bucket without an item.
+    EmptyBucket,
+    /// The control bytes of the buckets.
+    Controls,
+    /// The control bytes behind those of the buckets.
+    MirroredControls,
+    /// An entry of an index map.
+    Entry,
+    /// Zeros before an aligned field.
+    Padding,
+    /// A field of the header.
+    Header,
+}
+
+/// A region of an archive: the bytes from `begin` on and before `end`.
+#[derive(Debug, Drop)]
+pub struct Region {
+    /// The position of the first byte.
+    pub begin: usize,
+    /// The position after the last byte.
+    pub end: usize,
+    /// The kind of the field.
+    pub kind: RegionKind,
+    /// The name of the field, with its value.
+    pub text: String,
+}
+
+/// The regions of the first bytes of an archive, in ascending order.
+#[derive(Drop)]
+pub(crate) struct RegionList {
+    pub(crate) regions: Vec<Region>,
+    /// The position at which the last region ends.
+    pub(crate) end: usize,
+    /// The length of the archive.
+    pub(crate) len: usize,
+}
+
+impl RegionList {
+    /// Returns a list without regions, of an archive of `len` bytes.
+    pub(crate) fn new(alloc: Global, len: usize) -> RegionList
+        ensures list { IsRegionList result }
+        ensures len { result.len ≡ len }
+    {
+        RegionList {
+            regions: Vec::new(alloc),
+            end: 0,
+            len,
+        }
+    }
+
+    /// Appends the region up to the position `end`, if it has bytes.
+    ///
+    /// It ends at the end of the archive if `end` is behind that.
+    ///
+    /// # Errors
+    ///
+    /// - The list fails to allocate.
+    pub(crate) fn add(
+        &mut self,
+        end: usize,
+        kind: RegionKind,
+        text: String,
+    ) -> Result<(), AllocError>
+        requires { IsRegionList self.old }
+        ensures list { OnOk result (IsRegionList self.new) }
+        ensures end { OnOk result (self.new.end ≡ max self.old.end (min end self.old.len)) }
+        ensures len { self.new.len ≡ self.old.len }
+    {
+        let begin = self.end;
+        let end = end.min(self.len);
+        if end <= begin {
+            return Ok(());
+        }
+        self.regions.push(Region {
+            begin,
+            end,
+            kind,
+            text,
+        })?;
+        self.end = end;
+        Ok(())
+    }
+
+    /// Appends a region up to the position `end`, if it has bytes, with a constant text.
+    ///
+    /// # Errors
+    ///
+    /// - The text or the list fails to allocate.
+    pub(crate) fn add_named(
+        &mut self,
+        alloc: Global,
+        end: usize,
+        kind: RegionKind,
+        name: &str,
+    ) -> Result<(), AllocError>
+        requires { IsRegionList self.old }
+        ensures list { OnOk result (IsRegionList self.new) }
+        ensures end { OnOk result (self.new.end ≡ max self.old.end (min end self.old.len)) }
+        ensures len { self.new.len ≡ self.old.len }
+    {
+        let text = String::from_str(alloc, name)?;
+        self.add(end, kind, text)
+    }
+
+    /// Appends the bytes up to the position `end`: padding, or out-of-line bytes.
+    ///
+    /// # Errors
+    ///
+    /// - The text or the list fails to allocate.
+    pub(crate) fn add_gap(
+        &mut self,
+        alloc: Global,
+        bytes: &[u8],
+        end: usize,
+    ) -> Result<(), AllocError>
+        requires { IsRegionList self.old }
+        ensures list { OnOk result (IsRegionList self.new) }
+        ensures end { OnOk result (self.new.end ≡ max self.old.end (min end self.old.len)) }
+        ensures len { self.new.len ≡ self.old.len }
+    {
+        if is_padding(bytes_in(bytes, self.end, end)) {
+            self.add_named(alloc, end, RegionKind::Padding, "padding")
+        } else {
+            self.add_named(alloc, end, RegionKind::OutOfLine, "out-of-line bytes")
+        }
+    }
+
+    /// Returns the regions, after a last one for the other bytes of the archive.
+    ///
+    /// # Errors
+    ///
+    /// - The text or the list fails to allocate.
+    pub(crate) fn finish(self, alloc: Global) -> Result<Vec<Region>, AllocError>
+        requires { IsRegionList self }
+        ensures { IfOk result (λ regions. Covers 0 regions.items self.len) }
+    {
+        let mut list = self;
+        let end = list.len;
+        list.add_named(alloc, end, RegionKind::OutOfLine, "other bytes")?;
+        Ok(list.regions)
+    }
+}
+
+/// Returns the bytes from `begin` on and before `end`, or none if they aren't all there.
+pub(crate) fn bytes_in(bytes: &[u8], begin: usize, end: usize) -> &[u8]
+    ensures { length result.now ≤ length bytes.now }
+{
+    if begin <= end && end <= bytes.len() {
+        return &bytes[begin..end];
+    }
+    &[]
+}
+
+/// Returns `true` if and only if the bytes are fewer than eight, and zeros.
+fn is_padding(bytes: &[u8]) -> bool {
+    bytes.len() < 8 && bytes.iter().all(|byte| *byte == 0)
+}

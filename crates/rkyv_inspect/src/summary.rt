@@ -1,0 +1,27 @@
+//! Summaries of archived maps: the numbers of the header, and the lookups of all keys.
+
+/// The lookups of all keys of a map, each by its own key.
+#[derive(Debug, Drop)]
+pub struct Lookups {
+    /// The number of keys that a lookup of their own doesn't find.
+    pub misplaced: usize,
+    /// The histogram of strides: entry n is the number of keys whose lookup reads n strides.
+    ///
+    /// A stride has sixteen control bytes.
+    pub strides: Vec<usize>,
+}
+
+/// The numbers of an archived map.
+#[derive(Debug, Drop)]
+pub struct Summary {
+    /// The number of items.
+    pub len: usize,
+    /// The number of buckets.
+    pub capacity: usize,
+    /// The position of the header.
+    pub header_pos: u64,
+    /// The position of the first control byte, or `None` if there are no buckets.
+    pub controls_pos: Option<usize>,
+    /// The lookups of all keys, or `None` if they read more strides than a limit.
+    pub lookups: Option<Lookups>,
+}

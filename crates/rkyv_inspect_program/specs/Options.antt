@@ -1,0 +1,70 @@
+-- The options of a command line.
+use Rattle.std.specs.Prelude.{◌≡◌, ℕ, List, Option, Some, None, codes, if◌then◌else◌}
+use Rattle.std.specs.Str.{bytes_eq}
+use Rattle.rkyv_container.specs.declared.contents.ItemType.{ItemType}
+use Rattle.rkyv_container.specs.declared.contents.ItemType.TheVariants.{
+  Text,
+  U32,
+  U64,
+  Unit as UnitType,
+}
+use Rattle.rkyv_container.specs.declared.contents.Kind.{Kind as Collection}
+use Rattle.rkyv_container.specs.declared.contents.Kind.TheVariants.{
+  HashMap,
+  HashSet,
+  IndexMap,
+  IndexSet,
+}
+use Rattle.rkyv_container.specs.declared.contents.Width.{Width as ArchiveWidth}
+use Rattle.rkyv_container.specs.declared.contents.Width.TheVariants.{Narrow, Wide}
+use Rattle.rkyv_inspect_program.specs.declared.options.Name.{Name}
+use Rattle.rkyv_inspect_program.specs.declared.options.Name.TheVariants.{
+  Color,
+  Help,
+  Key,
+  Kind,
+  Svg,
+  Value,
+  Width,
+}
+
+-- the option of this name
+abbrev pub name_of : List ℕ → Option Name
+name_of word = if bytes_eq word (codes "--kind") then Some Kind
+    else if bytes_eq word (codes "--key") then Some Key
+    else if bytes_eq word (codes "--value") then Some Value
+    else if bytes_eq word (codes "--width") then Some Width
+    else if bytes_eq word (codes "--color") then Some Color
+    else if bytes_eq word (codes "--svg") then Some Svg
+    else if bytes_eq word (codes "--help") then Some Help
+    else if bytes_eq word (codes "-h") then Some Help
+    else None
+
+-- the kind of collection of this name
+abbrev pub kind_named : List ℕ → Option Collection
+kind_named word = if bytes_eq word (codes "hash-map") then Some HashMap
+    else if bytes_eq word (codes "hash-set") then Some HashSet
+    else if bytes_eq word (codes "index-map") then Some IndexMap
+    else if bytes_eq word (codes "index-set") then Some IndexSet
+    else None
+
+-- the supported type of this name
+abbrev pub type_named : List ℕ → Option ItemType
+type_named word = if bytes_eq word (codes "u32") then Some U32
+    else if bytes_eq word (codes "u64") then Some U64
+    else if bytes_eq word (codes "text") then Some Text
+    else None
+
+-- the width of this number of bits
+abbrev pub width_named : List ℕ → Option ArchiveWidth
+width_named word = if bytes_eq word (codes "32") then Some Narrow
+    else if bytes_eq word (codes "64") then Some Wide
+    else None
+
+-- `value`: type of the values of a collection of the kind. Of a map it is `given`, and of a set it
+-- is unit and none is given
+abbrev pub FitsKind : Collection → Option ItemType → ItemType → Type 0
+FitsKind HashMap given value = given ≡ Some value
+FitsKind IndexMap given value = given ≡ Some value
+FitsKind HashSet given value = (given ≡ None) × (value ≡ UnitType)
+FitsKind IndexSet given value = (given ≡ None) × (value ≡ UnitType)

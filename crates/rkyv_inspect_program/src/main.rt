@@ -1,0 +1,131 @@
+//! A program that inspects an archive in a file.
+#![tactic(auto)]
+
+mod errors;
+mod options;
+mod outcome;
+
+use crate::errors::{ProgramError, container_error, file_error, inspect_error};
+use crate::options::{Options, USAGE};
+use crate::outcome::{Outcome, exit_status};
+use rkyv_container::contents::Contents;
+use rkyv_container::{Header, open};
+use rkyv_inspect::{ContainerLine, Drawing, Printed, inspect};
+use std::alloc::AllocError;
+use std::io::{BufWriter, Write};
+use std::process::ExitCode;
+use std::{env, fs, io};
+
+/// The greatest number of strides that the lookups of all keys may read.
+const STRIDES: u64 = 16_777_216;
+
+/// Prints the inspection of an archive, and the header of its container before it.
+fn print(
+    rt: &HostRuntime,
+    file: &str,
+    archive: &[u8],
+    contents: Contents,
+    header: Option<Header>,
+    options: Options<'_>,
+) -> Result<Outcome, ProgramError> {
+    let inspection = match inspect(rt.alloc(), archive, contents, STRIDES) {
+        Ok(inspection) => inspection,
+        Err(error) => return Err(inspect_error(rt.alloc(), file, error)),
+    };
+    let mut out = BufWriter::new(rt.alloc(), io::writer(rt))?;
+    if options.svg {
+        write!(out, "{}", Drawing::new(&inspection, archive.len()))?;
+    } else {
+        if let Some(header) = header {
+            write!(out, "{}", ContainerLine(header))?;
+        }
+        write!(out, "{}", Printed::new(archive, &inspection, options.color))?;
+    }
+    out.flush()?;
+    Ok(Outcome::Complete)
+}
+
+/// Prints the inspection of a bare archive.
+fn inspect_archive(
+    rt: &HostRuntime,
+    file: &str,
+    contents: Contents,
+    options: Options<'_>,
+) -> Result<Outcome, ProgramError> {
+    let bytes = read_file(rt, file)?;
+    print(rt, file, bytes.as_slice(), contents, None, options)
+}
+
+/// Prints the inspection of a container.
+fn inspect_container(
+    rt: &HostRuntime,
+    file: &str,
+    options: Options<'_>,
+) -> Result<Outcome, ProgramError> {
+    let bytes = read_file(rt, file)?;
+    match open(bytes.as_slice()) {
+        Ok((header, archive)) => print(rt, file, archive, header.contents, Some(header), options),
+        Err(error) => Err(container_error(rt.alloc(), file, error)),
+    }
+}
+
+/// Returns the bytes of a file.
+fn read_file(rt: &HostRuntime, file: &str) -> Result<Vec<u8>, ProgramError> {
+    match fs::read(rt, file) {
+        Ok(bytes) => Ok(bytes),
+        Err(error) => Err(file_error(rt.alloc(), file, error)),
+    }
+}
+
+/// Prints the usage to standard error.
+fn misused(rt: &HostRuntime) -> Outcome {
+    let _ = rt.eprintln(USAGE);
+    Outcome::Misused
+}
+
+/// Executes the command line with these words.
+fn execute(rt: &HostRuntime, words: &[String]) -> Result<Outcome, ProgramError> {
+    let options = match Options::parse(words) {
+        Some(options) => options,
+        None => return Ok(misused(rt)),
+    };
+    if options.help {
+        println!(rt; "{USAGE}")?;
+        return Ok(Outcome::Complete);
+    }
+    let file = match options.file {
+        Some(file) => file,
+        None => return Ok(misused(rt)),
+    };
+    if !options.is_bare() {
+        return inspect_container(rt, file, options);
+    }
+    match options.contents() {
+        Some(contents) => inspect_archive(rt, file, contents, options),
+        None => Ok(misused(rt)),
+    }
+}
+
+/// Executes the command of the command line.
+fn run(rt: &HostRuntime) -> Result<Outcome, ProgramError> {
+    let given = match env::args(rt) {
+        Ok(given) => given,
+        Err(error) => return Err(ProgramError::Arguments(error)),
+    };
+    let mut words: Vec<String> = Vec::new(rt.alloc());
+    for word in given.skip(1) {
+        match words.push(word) {
+            Ok(()) => {}
+            Err(refused) => return Err(ProgramError::Memory(AllocError::from(refused))),
+        }
+    }
+    execute(rt, words.as_slice())
+}
+
+fn main(rt: HostRuntime) -> ExitCode {
+    let outcome = run(&rt);
+    if let Err(error) = &outcome {
+        let _ = eprintln!(rt; "inspect: {error}");
+    }
+    ExitCode::from(exit_status(&outcome))
+}

@@ -1,0 +1,276 @@
+//! The options of the command line.
+ghost use Rattle.std.specs.Prelude.{IfSome, ◌≡◌};
+ghost use Rattle.std.specs.Str.{bytes_eq};
+ghost use Rattle.rkyv_inspect_program.specs.Options.{FitsKind, kind_named, name_of, type_named};
+ghost use Rattle.rkyv_inspect_program.specs.Options.{width_named};
+
+use rkyv_container::contents::{Contents, ItemType, Kind, Width};
+
+/// What `--help` prints.
+pub const USAGE: &str = "usage: inspect [OPTION ..] FILE
+
+Validates an archive of a map or a set, and prints its numbers, the strides that lookups of its
+keys read, and its bytes field by field. Without --kind, FILE is a container.
+
+  --kind KIND    FILE is a bare archive of this kind: hash-map, hash-set, index-map or index-set
+  --key TYPE     the type of its keys: u32, u64 or text
+  --value TYPE   the type of its values, of a map alone: u32, u64 or text
+  --width BITS   the width of the archive: 32, which is taken without this option, or 64
+  --color        prints the bytes in colour
+  --svg          prints a drawing of the fields alone, as SVG
+  -h, --help     prints this text
+
+exit status: 0 if the archive is valid, 1 if it is invalid, 2 if the command line isn't one of
+these, 3 if there is another error";
+
+/// The name of an option.
+#[derive(Clone, Copy, Debug, PartialEq, Eq)]
+pub enum Name {
+    /// `--kind`, before a kind.
+    Kind,
+    /// `--key`, before a type.
+    Key,
+    /// `--value`, before a type.
+    Value,
+    /// `--width`, before a number of bits.
+    Width,
+    /// `--color`.
+    Color,
+    /// `--svg`.
+    Svg,
+    /// `--help` or `-h`.
+    Help,
+}
+
+/// The options of a command line.
+#[derive(Clone, Copy, Debug)]
+pub struct Options<'a> {
+    /// The file.
+    pub file: Option<&'a str>,
+    /// The kind of a bare archive.
+    pub kind: Option<Kind>,
+    /// The type of its keys.
+    pub key: Option<ItemType>,
+    /// The type of its values.
+    pub value: Option<ItemType>,
+    /// Its width.
+    pub width: Option<Width>,
+    /// Whether the bytes are printed in colour.
+    pub color: bool,
+    /// Whether the drawing is printed alone.
+    pub svg: bool,
+    /// Whether the usage is printed.
+    pub help: bool,
+}
+
+/// Returns whether the word equals the name.
+fn is_word(word: &str, name: &str) -> bool
+    ensures { result ≡ bytes_eq word.now name.now }
+{
+    word == name
+}
+
+/// Returns the option of this name, or `None` if the word is none.
+pub fn name_of(word: &str) -> Option<Name>
+    ensures { result ≡ name_of word.now }
+{
+    if is_word(word, "--kind") {
+        Some(Name::Kind)
+    } else if is_word(word, "--key") {
+        Some(Name::Key)
+    } else if is_word(word, "--value") {
+        Some(Name::Value)
+    } else if is_word(word, "--width") {
+        Some(Name::Width)
+    } else if is_word(word, "--color") {
+        Some(Name::Color)
+    } else if is_word(word, "--svg") {
+        Some(Name::Svg)
+    } else if is_word(word, "--help") {
+        Some(Name::Help)
+    } else if is_word(word, "-h") {
+        Some(Name::Help)
+    } else {
+        None
+    }
+}
+
+/// Returns the kind of this name, or `None` if no kind has it.
+pub fn kind_named(word: &str) -> Option<Kind>
+    ensures { result ≡ kind_named word.now }
+{
+    if is_word(word, "hash-map") {
+        Some(Kind::HashMap)
+    } else if is_word(word, "hash-set") {
+        Some(Kind::HashSet)
+    } else if is_word(word, "index-map") {
+        Some(Kind::IndexMap)
+    } else if is_word(word, "index-set") {
+        Some(Kind::IndexSet)
+    } else {
+        None
+    }
+}
+
+/// Returns the type of this name, or `None` if no supported type has it.
+pub fn type_named(word: &str) -> Option<ItemType>
+    ensures { result ≡ type_named word.now }
+{
+    if is_word(word, "u32") {
+        Some(ItemType::U32)
+    } else if is_word(word, "u64") {
+        Some(ItemType::U64)
+    } else if is_word(word, "text") {
+        Some(ItemType::Text)
+    } else {
+        None
+    }
+}
+
+/// Returns the width of this number of bits, or `None` if no width has it.
+pub fn width_named(word: &str) -> Option<Width>
+    ensures { result ≡ width_named word.now }
+{
+    if is_word(word, "32") {
+        Some(Width::Narrow)
+    } else if is_word(word, "64") {
+        Some(Width::Wide)
+    } else {
+        None
+    }
+}
+
+/// Returns the type of the values of a collection of this kind, or `None` if they don't fit.
+///
+/// A set has unit values and takes no type, and a map takes one.
+fn value_of(kind: Kind, value: Option<ItemType>) -> Option<ItemType>
+    ensures { IfSome result (FitsKind kind value) }
+{
+    match (kind, value) {
+        (Kind::HashMap | Kind::IndexMap, Some(value)) => Some(value),
+        (Kind::HashSet | Kind::IndexSet, None) => Some(ItemType::Unit),
+        _ => None,
+    }
+}
+
+/// The first words of a command line.
+#[derive(Clone, Copy)]
+struct Words<'a> {
+    /// The options that they name.
+    options: Options<'a>,
+    /// The option whose value is the next word, if there is one.
+    awaited: Option<Name>,
+}
+
+/// Returns words after which no value is awaited.
+fn whole(options: Options<'_>) -> Words<'_> {
+    Words {
+        options,
+        awaited: None,
+    }
+}
+
+impl<'a> Words<'a> {
+    /// Returns the words with one more, or `None` if it isn't an option, a value or a file.
+    fn after(self, word: &'a str) -> Option<Words<'a>> {
+        match self.awaited {
+            Some(name) => Some(whole(self.options.after_value(name, word)?)),
+            None => self.options.after_word(word),
+        }
+    }
+}
+
+impl<'a> Options<'a> {
+    /// Returns the options of a command line without words.
+    fn none() -> Options<'a> {
+        Options {
+            file: None,
+            kind: None,
+            key: None,
+            value: None,
+            width: None,
+            color: false,
+            svg: false,
+            help: false,
+        }
+    }
+
+    /// Returns the words so far after one that isn't the value of an option.
+    ///
+    /// The result is `None` if there is a file already.
+    fn after_word(self, word: &'a str) -> Option<Words<'a>> {
+        match name_of(word) {
+            Some(Name::Color) => Some(whole(Options {
+                color: true,
+                ..self
+            })),
+            Some(Name::Svg) => Some(whole(Options { svg: true, ..self })),
+            Some(Name::Help) => Some(whole(Options { help: true, ..self })),
+            Some(name) => Some(Words {
+                options: self,
+                awaited: Some(name),
+            }),
+            None => match self.file {
+                Some(_) => None,
+                None => Some(whole(Options {
+                    file: Some(word),
+                    ..self
+                })),
+            },
+        }
+    }
+
+    /// Returns the options after the value of an option, or `None` if it has no such value.
+    fn after_value(self, name: Name, word: &str) -> Option<Options<'a>> {
+        match name {
+            Name::Kind => Some(Options {
+                kind: Some(kind_named(word)?),
+                ..self
+            }),
+            Name::Key => Some(Options {
+                key: Some(type_named(word)?),
+                ..self
+            }),
+            Name::Value => Some(Options {
+                value: Some(type_named(word)?),
+                ..self
+            }),
+            Name::Width => Some(Options {
+                width: Some(width_named(word)?),
+                ..self
+            }),
+            Name::Color | Name::Svg | Name::Help => None,
+        }
+    }
+
+    /// Returns the options of a command line, or `None` if a word isn't one of them.
+    pub fn parse(words: &'a [String]) -> Option<Options<'a>> {
+        let mut so_far = whole(Options::none());
+        for word in words {
+            match so_far.after(word.as_str()) {
+                Some(next) => so_far = next,
+                None => return None,
+            }
+        }
+        match so_far.awaited {
+            Some(_) => None,
+            None => Some(so_far.options),
+        }
+    }
+
+    /// Returns whether they name the contents of a bare archive.
+    pub fn is_bare(self) -> bool {
+        self.kind.is_some() || self.key.is_some() || self.value.is_some() || self.width.is_some()
+    }
+
+    /// Returns the contents of a bare archive, or `None` if an option is missing or doesn't fit.
+    pub fn contents(self) -> Option<Contents> {
+        let kind = self.kind?;
+        Some(Contents {
+            kind,
+            key: self.key?,
+            value: value_of(kind, self.value)?,
+            width: self.width.unwrap_or(Width::Narrow),
+        })
+    }
+}
