@@ -159,7 +159,7 @@ fn inspect_width<W: ArchiveWidth>(
 ///     contents: Contents,
 /// ) -> Result<Option<usize>, InspectError> {
 ///     let inspection = inspect(alloc, archive, contents, 1_000_000)?;
-///     match inspection.summary.lookups {
+///     match &inspection.summary.lookups {
 ///         Some(lookups) => Ok(Some(lookups.misplaced)),
 ///         None => Ok(None),
 ///     }
