@@ -34,19 +34,19 @@ module _ {K V H W : Type 0} {ks : Specs K} {vs : Specs V} {wt : Words W} (m : Ar
   found_placed represents (Some value) place None e within h = absurd h
   found_placed represents (Some value) place (Some x) e within h = (value.pos, e, subst (λ d. represents d value.pos x) (ap (λ (a : Bor (List ℕ)). a.now) within.at.0 ∙ same) h)
 
--- the number at `place`, and at `None` the number before
-module _ {N : Type 0} (num : ℕ → ℕ) (value : ℕ → N) (place : Option ℕ) (status after before : ℕ) where
-  abbrev Given : Option N → Type 0
-  Given o = MatchOption o ((status ≡ 1) × (after ≡ before)) (λ x. (status ≡ 0) × (value after ≡ x))
+-- the value at `place`, and at `None` the one before. `At`: the value at a position
+module _ {X B : Type 0} (At : ℕ → B → Type 0) (IsValue : X → B → Type 0) (place : Option ℕ) (status : ℕ) (after before : X) where
+  abbrev Given : Option B → Type 0
+  Given o = MatchOption o ((status ≡ 1) × (after ≡ before)) (λ x. (status ≡ 0) × IsValue after x)
 
-  abbrev Placed : Option N → Type 0
-  Placed o = MatchOption o (place ≡ None) (λ x. (q : ℕ) × (place ≡ Some q) × (value (num q) ≡ x))
+  abbrev Placed : Option B → Type 0
+  Placed o = MatchOption o (place ≡ None) (λ x. (q : ℕ) × (place ≡ Some q) × At q x)
 
-  pub first_given : (pos : ℕ) (o : Option N) → place ≡ Some pos → status ≡ 0 → after ≡ num pos → Placed o → Given o
-  first_given pos None p z e h = absurd cc
-  first_given pos (Some x) p z e h = (z, ap value (e ∙ ap num (same_Some pos h.0 (sym p ∙ h.1))) ∙ h.2)
+  pub first_given : (pos : ℕ) (o : Option B) → place ≡ Some pos → status ≡ 0 → ((x : B) → At pos x → IsValue after x) → Placed o → Given o
+  first_given pos None p z shows h = absurd cc
+  first_given pos (Some x) p z shows h = (z, shows x (subst (λ q. At q x) (sym (same_Some pos h.0 (sym p ∙ h.1))) h.2))
 
-  pub none_given : (o : Option N) → place ≡ None → status ≡ 1 → after ≡ before → Placed o → Given o
+  pub none_given : (o : Option B) → place ≡ None → status ≡ 1 → after ≡ before → Placed o → Given o
   none_given None p z e h = (z, e)
   none_given (Some x) p z e h = absurd (let wrong = h.1 in cc)
 

@@ -1,4 +1,4 @@
--- Properties of a form, by its two flags.
+-- Properties of a form, by its two flags, and of one flag.
 use Rattle.std.proofs.Common.{◌≡◌, Bool, subst, sym}
 use Rattle.ffi_calls.specs.Archives.{form_of}
 use Rattle.ffi_calls.specs.declared.form.Form.{Form}
@@ -10,3 +10,11 @@ at_form P form {x} {y} e f h = subst (λ v. P (form_of v form.wide)) (sym e) (su
 -- the converse
 pub of_form : (P : Form → Type 0) (form : Form) {x y : Bool} → form.long_values ≡ x → form.wide ≡ y → P form → P (form_of x y)
 of_form P form {x} {y} e f h = subst (λ v. P (form_of x v)) f (subst (λ v. P (form_of v form.wide)) e h)
+
+-- a property of a flag's value is one of the flag
+pub at_flag : (P : Bool → Type 0) {flag x : Bool} → flag ≡ x → P x → P flag
+at_flag P e h = subst P (sym e) h
+
+-- the converse
+pub of_flag : (P : Bool → Type 0) {flag x : Bool} → flag ≡ x → P flag → P x
+of_flag P e h = subst P e h

@@ -2,6 +2,9 @@ pub mod Writing
 pub mod Forms
 pub mod Collected
 pub mod First
+pub mod Members
 pub mod Next
 pub mod Statuses
 pub mod Together
+pub mod IndexPairs
+pub mod IndexFound

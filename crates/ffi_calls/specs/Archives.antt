@@ -124,11 +124,16 @@ value_found m calls fits = option_map (value_pos m.key m.value)
     (pos_found generic_kind m.word (entry_spec m.key m.value).size m.bytes m.pos (hash_by calls)
     fits)
 
+-- the status is 0 and `after` has the value at `place`, by `IsAt`.
+-- At `None` the status is 1 and `after` is `before`.
+abbrev pub GivesAt : {X : Type 0} → (ℕ → X → Type 0) → Option ℕ → X → ℕ → X → Type 0
+GivesAt IsAt place before status after = MatchOption place ((status ≡ 1) × (after ≡ before))
+    (λ q. (status ≡ 0) × IsAt q after)
+
 -- the status is 0 and `after` is the number at `place`.
 -- At `None` the status is 1 and `after` is `before`.
 abbrev pub Gives : Width → List ℕ → Option ℕ → ℕ → ℕ → ℕ → Type 0
-Gives v b place before status after = MatchOption place ((status ≡ 1) × (after ≡ before))
-    (λ q. (status ≡ 0) × (after ≡ number_at v b q))
+Gives v b = GivesAt (λ (q : ℕ) (after : ℕ). after ≡ number_at v b q)
 
 -- `c` is `b` with the value of `number` at `place`, and the status is 0.
 -- If `number` has too many bits, or at `None`, no byte is changed.

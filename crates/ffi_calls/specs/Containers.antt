@@ -38,14 +38,13 @@ contents_of of_texts form = record {
   width = width_by form.wide;
 }
 
--- `b` is a container of the archive `a` of a map in the form
-abbrev pub IsMapContainer : Bool → Form → List ℕ → List ℕ → Type 0
-IsMapContainer of_texts form = IsContainerOf (contents_of of_texts form)
+-- `b` is the container of the archive `a` with these contents; `checked`: it has a checksum
+abbrev pub IsWrittenAs : Contents → Bool → List ℕ → List ℕ → Type 0
+IsWrittenAs contents checked a = IsContainer (header_of contents a checked) a
 
 -- `b` is the container of the archive `a` of a map in the form; `checked`: it has a checksum
 abbrev pub IsWrittenContainer : Bool → Form → Bool → List ℕ → List ℕ → Type 0
-IsWrittenContainer of_texts form checked a =
-    IsContainer (header_of (contents_of of_texts form) a checked) a
+IsWrittenContainer of_texts form = IsWrittenAs (contents_of of_texts form)
 
 -- The status is 0 and `after` is whether the header in `b` has the greater width.
 -- Or it is that of the first error of the header, and `after` is `before`.
@@ -55,19 +54,26 @@ ReadsWidth b before status after =
     ⊎ ((e : ContainerError) × FirstFails (header_checks b) e × (status ≡ container_refusal e)
     × (after ≡ before))
 
--- The status is 0, and `after` has the archive of the container `b` of a map in the form.
+-- The status is 0, and `after` has the archive of the container `b` with these contents.
 -- Or the status is that of the first error of the container, and `after` is `before`.
+abbrev pub OpensAs : Contents → List ℕ → Opened → ℕ → Opened → Type 0
+OpensAs contents b before status after =
+    (IsContainerOf contents after.archive.now b × (status ≡ 0))
+    ⊎ ((e : ContainerError) × OpenAsFails contents b e × (status ≡ container_refusal e)
+    × (after ≡ before))
+
+-- a container of any contents is opened if and only if they are the expected ones
+abbrev pub OpensOwn : Contents → List ℕ → ℕ → Type 0
+OpensOwn expected b status = (contents : Contents) (a : List ℕ) → IsContainerOf contents a b
+    → (status ≡ 0) ↔ (contents ≡ expected)
+
+-- the result of opening the container `b` of a map in the form
 abbrev pub OpensContainer : Bool → Form → List ℕ → Opened → ℕ → Opened → Type 0
-OpensContainer of_texts form b before status after =
-    (IsMapContainer of_texts form after.archive.now b × (status ≡ 0))
-    ⊎ ((e : ContainerError) × OpenAsFails (contents_of of_texts form) b e
-    × (status ≡ container_refusal e) × (after ≡ before))
+OpensContainer of_texts form = OpensAs (contents_of of_texts form)
 
 -- a container of any map is opened if and only if its map is in the form
 abbrev pub OpensOwnForm : Bool → Form → List ℕ → ℕ → Type 0
-OpensOwnForm of_texts form b status = (contents : Contents) (a : List ℕ)
-    → IsContainerOf contents a b
-    → (status ≡ 0) ↔ (contents ≡ contents_of of_texts form)
+OpensOwnForm of_texts form = OpensOwn (contents_of of_texts form)
 
 -- The container `before` becomes that of the bytes behind its header, and the status is 0.
 -- Its contents, its length and whether it has a checksum stay. If the header has an error, or

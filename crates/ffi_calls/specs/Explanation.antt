@@ -11,10 +11,11 @@ use Rattle.rkyv_base.specs.declared.errors.VerifyError.TheVariants.{UnwrappedCon
 use Rattle.rkyv_base.specs.declared.errors.VerifyError.TheVariants.{PlaceOutOfRange, InvalidValue}
 use Rattle.rkyv_base.specs.declared.errors.VerifyError.TheVariants.{Refused}
 use Rattle.rkyv_container.specs.Codes.{item_code, kind_code, width_code}
-use Rattle.rkyv_container.specs.Container.{OpenAsFails}
+use Rattle.rkyv_container.specs.Container.{IsContainerOf, OpenAsFails}
+use Rattle.rkyv_container.specs.declared.contents.Contents.{Contents}
 use Rattle.rkyv_container.specs.declared.errors.ContainerError.{ContainerError}
 use Rattle.rkyv_container.specs.declared.errors.ContainerError.TheVariants as container
-use Rattle.ffi_calls.specs.Containers.{IsMapContainer, contents_of}
+use Rattle.ffi_calls.specs.Containers.{contents_of}
 use Rattle.ffi_calls.specs.declared.form.Form.{Form}
 use Rattle.ffi_calls.specs.declared.explanation.Explanation.{Explanation}
 
@@ -67,10 +68,13 @@ abbrev pub Explains : ℕ → ElementSpec → List ℕ → Explanation → Type 
 Explains limit s b result = (Accepted limit s b × (result ≡ explained 0 (int 0) 0 0))
     ⊎ ((e : VerifyError) × AccessFails limit s b e × (result ≡ explain e))
 
+-- `b` is a container with these contents and there is no error, or it is the container's first one
+abbrev pub ExplainsAs : Contents → List ℕ → Explanation → Type 0
+ExplainsAs contents b result =
+    ((a : List ℕ) × IsContainerOf contents a b × (result ≡ explained 0 (int 0) 0 0))
+    ⊎ ((e : ContainerError) × OpenAsFails contents b e × (result ≡ explain_container e))
+
 -- `b` is the container of a map in the form and there is no error, or it is the container's
 -- first one
 abbrev pub ExplainsContainer : Bool → Form → List ℕ → Explanation → Type 0
-ExplainsContainer of_texts form b result =
-    ((a : List ℕ) × IsMapContainer of_texts form a b × (result ≡ explained 0 (int 0) 0 0))
-    ⊎ ((e : ContainerError) × OpenAsFails (contents_of of_texts form) b e
-    × (result ≡ explain_container e))
+ExplainsContainer of_texts form = ExplainsAs (contents_of of_texts form)

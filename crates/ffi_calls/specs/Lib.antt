@@ -5,5 +5,17 @@ pub mod Listed
 pub mod Items
 pub mod Walking
 pub mod Calls
+pub mod LongNumbers
+pub mod TextValues
+pub mod TextItems
 pub mod Containers
 pub mod Explanation
+pub mod LongNumberContainers
+pub mod TextValueContainers
+pub mod Sets
+pub mod SetItems
+pub mod SetContainers
+pub mod IndexArchives
+pub mod IndexLists
+pub mod IndexItems
+pub mod IndexContainers

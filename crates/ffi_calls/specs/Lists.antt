@@ -24,19 +24,30 @@ use Rattle.rkyv_collections.specs.Natives.{PairFormat}
 use Rattle.rkyv_collections.specs.Natives.{pair_format}
 use Rattle.ffi_calls.specs.Archives.{map_in}
 
+-- the pairs that bytes represent. `key` and `value`: what represents the keys and the values,
+-- `key_calls`: hasher calls of the key at a position
+abbrev pub fx_pairs : {A B : Type 0} → (List ℕ → ℕ → A → Type 0) → (List ℕ → ℕ → B → Type 0)
+    → (List ℕ → ℕ → List HasherCall) → NativePairs A B
+fx_pairs key value key_calls = native_pairs key value (fx_hasher low_halves) key_calls
+
+-- how pairs are written. `k` and `v`: specs of keys and values, `key` and `value`: their formats,
+-- `calls`: hasher calls of a key
+abbrev pub fx_format : {A B R Q : Type 0} → ElementSpec → ElementSpec → Format A R → Format B Q
+    → (A → List HasherCall) → PairFormat A B R Q
+fx_format k v key value calls = pair_format k v key value (fx_hasher low_halves) calls
+
 -- the pairs of numbers under keys that `represents` relates to bytes, with the hasher calls
 -- `key_calls`
 abbrev pub natives : {A N : Type 0} → (List ℕ → ℕ → A → Type 0)
     → (List ℕ → ℕ → List HasherCall) → Encoding N → NativePairs A N
-natives represents key_calls e =
-    native_pairs represents (ScalarRepresents e) (fx_hasher low_halves) key_calls
+natives represents key_calls e = fx_pairs represents (ScalarRepresents e) key_calls
 
 -- how pairs of keys and numbers are written: by the specs of keys and values, the format and the
 -- hasher calls of a key, and the encoding of values
 abbrev pub format_of : {A N R : Type 0} → ElementSpec → ElementSpec → Format A R → (A
     → List HasherCall)
     → Encoding N → PairFormat A N R (Unit {0})
-format_of k v format calls e = pair_format k v format (scalar_format e) (fx_hasher low_halves) calls
+format_of k v format calls e = fx_format k v format (scalar_format e) calls
 
 -- the lookup of keys by the values that they represent
 abbrev pub asked_key : {A : Type 0} → (List ℕ → ℕ → A → Type 0) → (List ℕ → ℕ → List HasherCall)
@@ -48,35 +59,41 @@ abbrev pub PairsRepresent : {A N : Type 0} → MapAt → NativePairs A N → ℕ
 PairsRepresent m native factor pairs = MapRepresents m.word m.key m.value native.key native.value
     native.key_hash factor m.bytes m.pos pairs
 
-module _ {A N : Type 0} (m : MapAt) (a : AskedValue A) (e : Encoding N) where
+module _ {A B : Type 0} (m : MapAt) (a : AskedValue A) (value : List ℕ → ℕ → B → Type 0) where
   -- the pairs of keys that a lookup asks for, and of values
-  abbrev pub asked_pairs : NativePairs A N
-  asked_pairs = record { key = a.represents; value = ScalarRepresents e; key_hash = a.key_hash }
+  abbrev pub asked_pairs : NativePairs A B
+  asked_pairs = record { key = a.represents; value = value; key_hash = a.key_hash }
 
   -- `place` is the position of the first value whose key is accepted, or both are `None`
   abbrev pub PosOfFirst : Option ℕ → Type 0
-  PosOfFirst place = (factor : ℕ × ℕ) (pairs : List (A × N))
+  PosOfFirst place = (factor : ℕ × ℕ) (pairs : List (A × B))
       → PairsRepresent m asked_pairs factor pairs
       → MatchOption (first_value a.asks pairs) (place ≡ None)
-      (λ x. (q : ℕ) × (place ≡ Some q) × ScalarRepresents e m.bytes q x)
+      (λ x. (q : ℕ) × (place ≡ Some q) × value m.bytes q x)
 
-  -- The result of a lookup is the value of the first pair whose key is accepted.
+  -- The result of a lookup is the value of the first pair whose key is accepted, by `IsValue`.
   -- Without one the status is 1 and `after` is `before`.
-  abbrev pub GivesFirst : ℕ → ℕ → ℕ → Type 0
-  GivesFirst before status after = (factor : ℕ × ℕ) (pairs : List (A × N))
+  abbrev pub GivesFirstBy : {X : Type 0} → (X → B → Type 0) → X → ℕ → X → Type 0
+  GivesFirstBy IsValue before status after = (factor : ℕ × ℕ) (pairs : List (A × B))
       → PairsRepresent m asked_pairs factor pairs
       → MatchOption (first_value a.asks pairs) ((status ≡ 1) × (after ≡ before))
-      (λ value. (status ≡ 0) × (e.value after ≡ value))
+      (λ x. (status ≡ 0) × IsValue after x)
+
+module _ {A N : Type 0} (m : MapAt) (a : AskedValue A) (e : Encoding N) where
+  -- The result of a lookup is the number of the first pair whose key is accepted.
+  -- Without one the status is 1 and `after` is `before`.
+  abbrev pub GivesFirst : ℕ → ℕ → ℕ → Type 0
+  GivesFirst = GivesFirstBy m a (ScalarRepresents e) (λ (after : ℕ) (x : N). e.value after ≡ x)
 
   -- After an overwrite `c` represents the list with the value of `number` in the first such pair.
   -- If no key is accepted the status is 1; if `number` has too many bits it is 3.
   abbrev pub SetsFirstOf : ℕ → ℕ → List ℕ → Type 0
   SetsFirstOf number status c = (factor : ℕ × ℕ) (pairs : List (A × N))
-      → PairsRepresent m asked_pairs factor pairs
+      → PairsRepresent m (asked_pairs m a (ScalarRepresents e)) factor pairs
       → ((2 ^ bits e.word ≤ number) × (status ≡ 3))
       ⊎ ((number < 2 ^ bits e.word) × ((value : N) × (e.code value ≡ number)
       × MatchOption (first_pair a.asks pairs) (status ≡ 1) (λ pair. status ≡ 0)
-      × PairsRepresent (map_in m.word m.key m.value c) asked_pairs factor
+      × PairsRepresent (map_in m.word m.key m.value c) (asked_pairs m a (ScalarRepresents e)) factor
       (with_first a.asks value pairs)))
 
 -- A walk over an archive of a list visits the home buckets of its pairs, each once and ascending.
@@ -96,7 +113,7 @@ pub record ArchiveWidth : Type 0 where
 abbrev pub archive_width : WidthMembers → ArchiveWidth
 archive_width w = record { word = w.word; limit = w.LIMIT; most = w.MAX_CAPACITY }
 
-module _ {A N R : Type 0} (width : ArchiveWidth) (format : PairFormat A N R (Unit {0})) where
+module _ {A N R Q : Type 0} (width : ArchiveWidth) (format : PairFormat A N R Q) where
   -- the format of a list of pairs as a map under the load factor 7 / 8
   abbrev pub pairs_format : Format (List (A × N)) TableResolver
   pairs_format = listed width.most (7, 8) (map_format width.word format.key_spec
@@ -122,3 +139,8 @@ module _ {A N R : Type 0} (width : ArchiveWidth) (format : PairFormat A N R (Uni
   ArchivesRepresent native = (pairs : List (A × N)) (b : List ℕ) → IsArchiveOf native pairs b
       → Accepted width.limit header_spec b
       × PairsRepresent (map_in width.word format.key_spec format.value_spec b) native (7, 8) pairs
+
+-- `b` is the archive of the pairs, in this order, in the width with the members of a `Width`
+abbrev pub IsWritten : {A N R Q : Type 0} → WidthMembers → PairFormat A N R Q → NativePairs A N
+    → List (A × N) → List ℕ → Type 0
+IsWritten w format native pairs b = IsArchiveOf (archive_width w) format native pairs b

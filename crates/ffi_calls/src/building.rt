@@ -1,11 +1,10 @@
 //! Archives of lists of pairs.
 
 ghost use Rattle.std.specs.Prelude.{IfErr, IfOk, MatchResult, ◌≡◌};
-ghost use Rattle.ffi_calls.specs.Lists.{IsArchiveOf, ArchiveFails, archive_width};
-ghost use Rattle.ffi_calls.specs.Lists.{natives, format_of};
+ghost use Rattle.ffi_calls.specs.Lists.{ArchiveFails, IsWritten, archive_width, fx_format};
+ghost use Rattle.ffi_calls.specs.Lists.{fx_pairs};
 
 use crate::status::DONE;
-use crate::value::Value;
 use rkyv_base::archive::Serialize;
 use rkyv_base::errors::WriteError;
 use rkyv_base::root::to_bytes_in;
@@ -15,20 +14,22 @@ use rkyv_collections::{KeyElement, MapPairs, NativeKey};
 use std::alloc::Global;
 
 /// Writes the archive of the pairs, in insertion order, under the load factor 7 / 8.
-pub(crate) fn archive_of<A: NativeKey<A::Archived> + Serialize<VecWriter, W>, V: Value, W: Width>(
-    alloc: Global,
-    pairs: &[(A, V)],
-) -> Result<Vec<u8>, WriteError<NoMemory>>
+pub(crate) fn archive_of<
+    A: NativeKey<A::Archived> + Serialize<VecWriter, W>,
+    B: Serialize<VecWriter, W>,
+    W: Width,
+>(alloc: Global, list: &[(A, B)]) -> Result<Vec<u8>, WriteError<NoMemory>>
 where
     A::Archived: KeyElement,
-    ensures made { IfOk result (λ v. IsArchiveOf (archive_width W.Width)
-        (format_of A.Archived.spec V.spec A.format A.calls V.encoding)
-        (natives A.Archived.represents A.Archived.key_calls V.encoding) pairs.now v.items) }
-    ensures refused { IfErr result (ArchiveFails (archive_width W.Width)
-        (format_of A.Archived.spec V.spec A.format A.calls V.encoding) pairs.now) }
+    ensures ok { IfOk result (λ v. IsWritten W.Width
+        (fx_format A.Archived.spec B.Archived.spec A.format B.format A.calls)
+        (fx_pairs A.Archived.represents B.Archived.represents A.Archived.key_calls) list.now
+        v.items) }
+    ensures err { IfErr result (ArchiveFails (archive_width W.Width)
+        (fx_format A.Archived.spec B.Archived.spec A.format B.format A.calls) list.now) }
 {
-    let list: MapPairs<'_, A, V> = MapPairs::new(pairs);
-    match to_bytes_in::<W, MapPairs<'_, A, V>>(alloc, &list) {
+    let pairs: MapPairs<'_, A, B> = MapPairs::new(list);
+    match to_bytes_in::<W, MapPairs<'_, A, B>>(alloc, &pairs) {
         Ok(archive) => Ok(archive),
         Err(error) => Err(error),
     }

@@ -4,10 +4,11 @@
 //! container, and `open_container` finds its archive. None of them validates an archive.
 
 ghost use Rattle.std.specs.Prelude.{length, ◌++◌, ◌≡◌};
-ghost use Rattle.ffi_calls.specs.Containers.{IsWrittenContainer, OpensContainer, OpensOwnForm};
-ghost use Rattle.ffi_calls.specs.Containers.{ReadsWidth, UpdatesContainer, contents_of};
-ghost use Rattle.ffi_calls.specs.Containers.{key_type, value_type, width_by};
-ghost use Rattle.ffi_calls.specs.Explanation.{ExplainsContainer};
+ghost use Rattle.ffi_calls.specs.Containers.{IsWrittenAs, IsWrittenContainer, OpensAs};
+ghost use Rattle.ffi_calls.specs.Containers.{OpensContainer, OpensOwn, OpensOwnForm, ReadsWidth};
+ghost use Rattle.ffi_calls.specs.Containers.{UpdatesContainer, contents_of, key_type, value_type};
+ghost use Rattle.ffi_calls.specs.Containers.{width_by};
+ghost use Rattle.ffi_calls.specs.Explanation.{ExplainsAs, ExplainsContainer};
 
 use crate::explanation::{Explanation, explain_error, explained};
 use crate::form::Form;
@@ -24,7 +25,7 @@ pub struct Opened<'a> {
 }
 
 /// Returns the contents of the container of a map.
-fn contents_of(of_texts: bool, form: Form) -> Contents
+pub(crate) fn contents_of(of_texts: bool, form: Form) -> Contents
     ensures { result ≡ contents_of of_texts form }
 {
     Contents {
@@ -36,7 +37,7 @@ fn contents_of(of_texts: bool, form: Form) -> Contents
 }
 
 /// Returns the type of keys.
-fn key_type(of_texts: bool) -> ItemType
+pub(crate) fn key_type(of_texts: bool) -> ItemType
     ensures { result ≡ key_type of_texts }
 {
     if of_texts {
@@ -46,7 +47,7 @@ fn key_type(of_texts: bool) -> ItemType
 }
 
 /// Returns the type of values.
-fn value_type(long_values: bool) -> ItemType
+pub(crate) fn value_type(long_values: bool) -> ItemType
     ensures { result ≡ value_type long_values }
 {
     if long_values {
@@ -56,7 +57,7 @@ fn value_type(long_values: bool) -> ItemType
 }
 
 /// Returns the width of an archive.
-fn width_of(wide: bool) -> Width
+pub(crate) fn width_of(wide: bool) -> Width
     ensures { result ≡ width_by wide }
 {
     if wide {
@@ -75,6 +76,46 @@ fn is_wide(width: Width) -> bool
     }
 }
 
+/// Writes the header of the container of an archive with these contents.
+pub(crate) fn write_header_as(archive: &[u8], contents: Contents, checked: bool, header: &mut [u8])
+    requires { length header.old ≡ 32 }
+    ensures { IsWrittenAs contents checked archive.now (header.new ++ archive.now) }
+{
+    Header::new(contents, archive, checked).write(header);
+}
+
+/// Opens the container with these contents, and stores its archive in `opened`.
+///
+/// # Errors
+///
+/// - The status of the first error of the container: 32 to 47. `opened` is unchanged then.
+pub(crate) fn open_container_as<'a>(
+    bytes: &'a [u8],
+    contents: Contents,
+    opened: &mut Opened<'a>,
+) -> u32
+    ensures told { OpensAs contents bytes.now opened.old result opened.new }
+    ensures opens { OpensOwn contents bytes.now result }
+{
+    match open_as(bytes, contents) {
+        Ok(archive) => {
+            opened.archive = archive;
+            DONE
+        }
+        Err(error) => container_refusal(&error),
+    }
+}
+
+/// Opens the container with these contents, and returns its first error with its numbers.
+pub(crate) fn explain_container_as(bytes: &[u8], contents: Contents) -> Explanation
+    ensures { ExplainsAs contents bytes.now result }
+{
+    match open_as(bytes, contents) {
+        Ok(_) => explained(DONE, 0, 0, 0),
+        Err(error) => explain_error(&error),
+    }
+}
+
 /// Writes the header of the container of an archive. It has a checksum if `checked` is `true`.
 ///
 /// The archive is not validated.
@@ -86,7 +127,7 @@ pub fn write_header(archive: &[u8], of_texts: bool, form: Form, checked: bool, h
     requires { length header.old ≡ 32 }
     ensures { IsWrittenContainer of_texts form checked archive.now (header.new ++ archive.now) }
 {
-    Header::new(contents_of(of_texts, form), archive, checked).write(header);
+    write_header_as(archive, contents_of(of_texts, form), checked, header);
 }
 
 /// Reads the width of a container of any contents, and stores in `wide` whether it is wide.
@@ -122,13 +163,7 @@ pub fn open_container<'a>(
     ensures told { OpensContainer of_texts form bytes.now opened.old result opened.new }
     ensures opens { OpensOwnForm of_texts form bytes.now result }
 {
-    match open_as(bytes, contents_of(of_texts, form)) {
-        Ok(archive) => {
-            opened.archive = archive;
-            DONE
-        }
-        Err(error) => container_refusal(&error),
-    }
+    open_container_as(bytes, contents_of(of_texts, form), opened)
 }
 
 /// Opens the container of a map, and returns its first error with its numbers.
@@ -137,10 +172,7 @@ pub fn open_container<'a>(
 pub fn explain_container(bytes: &[u8], of_texts: bool, form: Form) -> Explanation
     ensures { ExplainsContainer of_texts form bytes.now result }
 {
-    match open_as(bytes, contents_of(of_texts, form)) {
-        Ok(_) => explained(DONE, 0, 0, 0),
-        Err(error) => explain_error(&error),
-    }
+    explain_container_as(bytes, contents_of(of_texts, form))
 }
 
 /// Writes the header of a container anew after its archive was changed in place.

@@ -59,7 +59,7 @@ pub(crate) fn explained(status: u32, position: i64, first: u64, second: u64) -> 
 
 // Returns the explanation of a validation error.
 #[tactic(auto, unfolding(crate::specs::Explanation::explain))]
-fn explain(error: &VerifyError) -> Explanation
+pub(crate) fn explain(error: &VerifyError) -> Explanation
     ensures { result ≡ explain error.now }
 {
     match error {

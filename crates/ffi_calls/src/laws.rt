@@ -1,31 +1,56 @@
 //! Laws of archives that represent lists of pairs, each a function whose contract is the statement.
 
+ghost use Rattle.ffi_calls.specs.IndexItems.{IndexesRepresent, index_width};
 ghost use Rattle.ffi_calls.specs.Lists.{ArchivesRepresent, WalksVisitListed, archive_width};
-ghost use Rattle.ffi_calls.specs.Lists.{natives, format_of};
+ghost use Rattle.ffi_calls.specs.Lists.{fx_format, fx_pairs};
+ghost use Rattle.ffi_calls.specs.SetItems.{SetArchivesRepresent, fx_items};
 
-use crate::value::Value;
 use rkyv_base::archive::Archive;
 use rkyv_base::element::Represents;
 use rkyv_base::width::Width;
 use rkyv_collections::map::laws::walks_give_listed;
 use rkyv_collections::{FxHasher64, KeyElement, NativeKey};
+use rkyv_index::width::PlaceWidth;
 
 /// States that a walk over an archive of a list visits each pair's home bucket once, and no other.
 ///
 /// The buckets ascend, and the n-th home bucket has the n-th pair of the list.
 /// Repeated calls for the next pair, from bucket 0 on, thus return each pair of the list once.
-pub fn walks_visit_listed<A, K: KeyElement + Represents<A>, V: Value, W: Width>()
+pub fn walks_visit_listed<A, B, K: KeyElement + Represents<A>, V: Represents<B>, W: Width>()
     ensures { WalksVisitListed W.word K.spec V.spec
-        (natives K.represents K.key_calls V.encoding) }
+        (fx_pairs K.represents V.represents K.key_calls) }
 {
-    walks_give_listed::<A, V, K, V, FxHasher64, W>();
+    walks_give_listed::<A, B, K, V, FxHasher64, W>();
 }
 
 /// States that an archive that is written from a list of pairs is valid, and represents the list.
-pub fn archives_represent_their_lists<A: NativeKey<A::Archived> + Archive<W>, V: Value, W: Width>()
+pub fn archives_represent_their_lists<A, B, W>()
+where
+    W: Width,
+    A: NativeKey<A::Archived> + Archive<W>,
+    A::Archived: KeyElement,
+    B: Archive<W>,
+    ensures { ArchivesRepresent (archive_width W.Width)
+        (fx_format A.Archived.spec B.Archived.spec A.format B.format A.calls)
+        (fx_pairs A.Archived.represents B.Archived.represents A.Archived.key_calls) }
+{}
+
+/// States that a set that is written from a list of items is valid, and represents the list.
+pub fn set_archives_represent_their_lists<A: NativeKey<A::Archived> + Archive<W>, W: Width>()
 where
     A::Archived: KeyElement,
-    ensures { ArchivesRepresent (archive_width W.Width)
-        (format_of A.Archived.spec V.spec A.format A.calls V.encoding)
-        (natives A.Archived.represents A.Archived.key_calls V.encoding) }
+    ensures { SetArchivesRepresent (archive_width W.Width)
+        (fx_items A.Archived.spec A.format A.calls) A.Archived.represents A.Archived.key_calls }
+{}
+
+/// States that an index map that is written from a list of pairs is valid, and represents the list.
+pub fn indexes_represent_their_lists<A, B, K, V, W: PlaceWidth>()
+where
+    A: NativeKey<K> + Archive<W, Archived = K>,
+    B: Archive<W, Archived = V>,
+    K: KeyElement + Represents<A>,
+    V: Represents<B>,
+    ensures { IndexesRepresent (index_width W.Width W.Place.spec W.Place.encoding)
+        (fx_format K.spec V.spec A.format B.format A.calls)
+        (fx_pairs K.represents V.represents K.key_calls) }
 {}

@@ -20,11 +20,13 @@ use rkyv_table::table::decoded::Decoded;
 
 /// Returns the position of the value that a lookup of the key finds in a valid archive.
 #[inline]
-fn value_pos_in<A: NativeKey<K>, K: KeyElement + Represents<A>, V: Value, W: Width>(
-    archive: &[u8],
-    header: &Decoded,
-    key: &A,
-) -> Option<u64>
+pub(crate) fn value_pos_in<
+    A: NativeKey<K>,
+    B,
+    K: KeyElement + Represents<A>,
+    V: Represents<B>,
+    W: Width,
+>(archive: &[u8], header: &Decoded, key: &A) -> Option<u64>
     requires archive { IsMapArchive W.word W.LIMIT K.spec V.spec archive.now }
     requires header { IsHeaderOf (map_in W.word K.spec V.spec archive.now) header.now }
     requires query { A.can_read key.now }
@@ -32,9 +34,9 @@ fn value_pos_in<A: NativeKey<K>, K: KeyElement + Represents<A>, V: Value, W: Wid
     ensures found { result ≡ value_found (map_in W.word K.spec V.spec archive.now)
         (A.calls key.now) (A.fits key.now archive.now) }
     ensures listed { PosOfFirst (map_in W.word K.spec V.spec archive.now)
-        (asked_key K.represents K.key_calls (A.eq key.now)) V.encoding result }
+        (asked_key K.represents K.key_calls (A.eq key.now)) V.represents result }
 {
-    lookups_find_listed::<A, V, K, V, FxHasher64, W>();
+    lookups_find_listed::<A, B, K, V, FxHasher64, W>();
     found_pos(map_of::<K, V, W>(archive, header).get(key))
 }
 
@@ -67,7 +69,7 @@ pub(crate) fn get_in<A: NativeKey<K>, K: KeyElement + Represents<A>, V: Value, W
     ensures listed { GivesFirst (map_in W.word K.spec V.spec archive.now)
         (asked_key K.represents K.key_calls (A.eq key.now)) V.encoding value.old result value.new }
 {
-    match value_pos_in::<A, K, V, W>(archive, header, key) {
+    match value_pos_in::<A, V, K, V, W>(archive, header, key) {
         Some(pos) => {
             *value = number_in::<V>(archive, pos);
             DONE

@@ -24,7 +24,7 @@ pub struct NumberItem {
 }
 
 /// Returns the pairs of the items.
-fn pairs_of<V: Value>(alloc: Global, items: &[NumberItem]) -> Result<Vec<(u32, V)>, u32>
+pub(crate) fn pairs_of<V: Value>(alloc: Global, items: &[NumberItem]) -> Result<Vec<(u32, V)>, u32>
     ensures { MatchResult result (λ pairs. ArePairsOfNumbers V.encoding items.now pairs.items)
         (PairsOfNumbersFail V.encoding items.now) }
 {

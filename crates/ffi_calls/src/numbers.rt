@@ -20,6 +20,7 @@ use crate::lookup::{get_in, set_in};
 use crate::status::{DONE, END};
 use crate::value::Value;
 use crate::walk::{next_bucket, value_in};
+use rkyv_base::element::Element;
 use rkyv_base::entry::Entry;
 use rkyv_base::view::View;
 use rkyv_base::width::{Narrow, Wide, Width};
@@ -136,7 +137,7 @@ pub fn set_number(archive: &mut [u8], form: Form, key: u32, value: u64) -> u32
 }
 
 /// Returns the key of the pair at a position.
-fn key_in<V: Value>(archive: &[u8], pos: u64) -> u32
+pub(crate) fn key_in<V: Element>(archive: &[u8], pos: u64) -> u32
     requires { IsPairAt number_key V.spec archive.now pos }
     ensures { result ≡ number_at w32 archive.now pos }
 {

@@ -25,7 +25,10 @@ pub struct TextItem<'a> {
 }
 
 /// Returns the pairs of the items.
-fn pairs_of<'a, V: Value>(alloc: Global, items: &[TextItem<'a>]) -> Result<Vec<(&'a str, V)>, u32>
+pub(crate) fn pairs_of<'a, V: Value>(
+    alloc: Global,
+    items: &[TextItem<'a>],
+) -> Result<Vec<(&'a str, V)>, u32>
     ensures { MatchResult result (λ pairs. ArePairsOfTexts V.encoding items.now pairs.items)
         (PairsOfTextsFail V.encoding items.now) }
 {

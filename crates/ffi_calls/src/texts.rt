@@ -21,6 +21,7 @@ use crate::lookup::{get_in, set_in};
 use crate::status::{DONE, END, NOT_TEXT};
 use crate::value::Value;
 use crate::walk::{next_bucket, value_in};
+use rkyv_base::element::Element;
 use rkyv_base::entry::Entry;
 use rkyv_base::text::Text;
 use rkyv_base::view::View;
@@ -194,7 +195,7 @@ pub fn set_text(archive: &mut [u8], form: Form, key: &[u8], value: u64) -> u32
 }
 
 /// Returns the bytes of the key of the pair at a position.
-fn key_in<V: Value, W: Width>(archive: &[u8], pos: u64) -> &[u8]
+pub(crate) fn key_in<V: Element, W: Width>(archive: &[u8], pos: u64) -> &[u8]
     requires { IsPairAt (text_spec W.word) V.spec archive.now pos }
     ensures { result.now ≡ text_at W.word archive.now pos }
 {

@@ -1,10 +1,10 @@
 use Rattle.ffi_calls.specs.Lists.{IsArchiveOf, ArchiveFails}
 use Rattle.ffi_calls.proofs.building.archive_of.Goals as goal
 
-pub returns-in-Ok-clause-made : goal.returns-in-Ok-clause-made
+pub returns-in-Ok-clause-ok : goal.returns-in-Ok-clause-ok
 unfolding IsArchiveOf
-returns-in-Ok-clause-made g c = rw c.new-list.ensures.load_factor at (rw c.new-list.ensures.pairs at c.in-Ok.ensures)
+returns-in-Ok-clause-ok g c = rw c.new-pairs.ensures.load_factor at (rw c.new-pairs.ensures.pairs at c.in-Ok.ensures)
 
-pub returns-in-Err-clause-refused : goal.returns-in-Err-clause-refused
+pub returns-in-Err-clause-err : goal.returns-in-Err-clause-err
 unfolding ArchiveFails
-returns-in-Err-clause-refused g c = rw c.new-list.ensures.load_factor at (rw c.new-list.ensures.pairs at c.in-Err.ensures)
+returns-in-Err-clause-err g c = rw c.new-pairs.ensures.load_factor at (rw c.new-pairs.ensures.pairs at c.in-Err.ensures)

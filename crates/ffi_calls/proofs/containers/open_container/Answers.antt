@@ -1,17 +1,9 @@
-use Rattle.std.proofs.Common.{◌∙◌, inr, refl, subst, sym}
-use Rattle.std.proofs.lemmas.Bool.{false≢true}
-use Rattle.rkyv_container.specs.Container.{OpenAsFails}
-use Rattle.ffi_calls.proofs.Statuses.{refusal_fails}
+use Rattle.std.proofs.Common.{subst}
+use Rattle.ffi_calls.specs.Containers.{OpensAs, OpensOwn}
 use Rattle.ffi_calls.proofs.containers.open_container.Goals as goal
 
-pub returns-in-Ok-clause-opens : goal.returns-in-Ok-clause-opens
-returns-in-Ok-clause-opens c contents a h =
-    ((λ _. (c.in-Ok.ensures.opens contents a h).0 refl ∙ c.contents_of.ensures), (λ _. refl))
+pub returns-clause-told : goal.returns-clause-told
+returns-clause-told c = subst (λ contents. OpensAs contents c.args.bytes.now c.args.opened.now c.open_container_as.result c.open_container_as.new.opened) c.contents_of.ensures c.open_container_as.ensures.told
 
-pub returns-in-Err-clause-told : goal.returns-in-Err-clause-told
-returns-in-Err-clause-told c =
-    inr (c.in-Err.error, subst (λ x. OpenAsFails x c.args.bytes.now c.in-Err.error) c.contents_of.ensures ((c.in-Err.ensures.err c.in-Err.error).0 refl), c.container_refusal.ensures, refl)
-
-pub returns-in-Err-clause-opens : goal.returns-in-Err-clause-opens
-returns-in-Err-clause-opens c contents a h =
-    ((λ e. absurd (refusal_fails c.in-Err.error (sym c.container_refusal.ensures ∙ e))), (λ e. absurd (false≢true ((c.in-Err.ensures.opens contents a h).1 (e ∙ sym c.contents_of.ensures)))))
+pub returns-clause-opens : goal.returns-clause-opens
+returns-clause-opens c = subst (λ contents. OpensOwn contents c.args.bytes.now c.open_container_as.result) c.contents_of.ensures c.open_container_as.ensures.opens

@@ -13,5 +13,5 @@ returns g c =
     let item = c.in-Some.item in
     let next = c.in-Some.ensures.next in
     let b = c.args.archive.now in
-    let told = pair_told (map_in g.W.Word.word number_key g.V.HasSpec.spec b) g.V.Scalar.encoding (number_at w32 b) item.bucket item.pos c.key_in-key.result c.value_in-value.result next.1 c.key_in-key.ensures c.value_in-value.ensures in
+    let told = pair_told (map_in g.W.Word.word number_key g.V.HasSpec.spec b) (number_at w32 b) (number_at g.V.Scalar.encoding.word b) item.bucket item.pos c.key_in-key.result c.value_in-value.result next.1 c.key_in-key.ensures c.value_in-value.ensures in
     inr (item.bucket, next.0, refl, refl, told)

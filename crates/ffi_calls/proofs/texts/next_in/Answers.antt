@@ -1,4 +1,5 @@
 use Rattle.std.proofs.Common.{inl, inr, refl}
+use Rattle.rkyv_base.specs.Bytes.{number_at}
 use Rattle.rkyv_base.specs.Text.{text_at, text_spec}
 use Rattle.ffi_calls.specs.Archives.{map_in}
 use Rattle.ffi_calls.proofs.Next.{pair_told}
@@ -12,5 +13,5 @@ returns g c =
     let item = c.in-Some.item in
     let next = c.in-Some.ensures.next in
     let b = c.args.archive.now in
-    let told = pair_told (map_in g.W.Word.word (text_spec g.W.Word.word) g.V.HasSpec.spec b) g.V.Scalar.encoding (text_at g.W.Word.word b) item.bucket item.pos c.key_in-key.result.now c.value_in-value.result next.1 c.key_in-key.ensures c.value_in-value.ensures in
+    let told = pair_told (map_in g.W.Word.word (text_spec g.W.Word.word) g.V.HasSpec.spec b) (text_at g.W.Word.word b) (number_at g.V.Scalar.encoding.word b) item.bucket item.pos c.key_in-key.result.now c.value_in-value.result next.1 c.key_in-key.ensures c.value_in-value.ensures in
     inr (item.bucket, next.0, refl, refl, told)

@@ -1,0 +1,30 @@
+-- Lookups in sets, as lookups in maps to the unit value.
+use Rattle.std.proofs.Common.{◌≡◌, ℕ, Bool, List, [], ◌∷◌, None, Option, Some, cond, false, refl, true}
+use Rattle.std.specs.List.{find}
+use Rattle.std.specs.Option.{option_map}
+use Rattle.std.specs.Prelude.{MatchOption}
+use Rattle.rkyv_table.specs.Table.ItemValues.{with_units}
+use Rattle.rkyv_collections.specs.Map.ListedLookups.{first_value}
+use Rattle.ffi_calls.specs.Sets.{IsFoundStatus}
+
+-- an item is found if and only if its pair with the unit value is
+module _ {A : Type 0} (asks : A → Bool) (status : ℕ) where
+  by_test : (b : Bool) (x : A) (o : Option (A × Unit {0})) (p : Option A)
+      → (IsFoundStatus (option_map (λ (pair : A × Unit {0}). pair.1) o) status → IsFoundStatus p status)
+      → IsFoundStatus (option_map (λ (pair : A × Unit {0}). pair.1) (cond b (Some (x, tt)) o)) status → IsFoundStatus (cond b (Some x) p) status
+  by_test true x o p h f = f
+  by_test false x o p h f = h f
+
+  pub item_found : (items : List A) → IsFoundStatus (first_value asks (with_units items)) status → IsFoundStatus (find asks items) status
+  item_found [] f = f
+  item_found (x ∷ xs) f = by_test (asks x) x (find (λ (pair : A × Unit {0}). asks pair.0) (with_units xs)) (find asks xs) (item_found xs) f
+
+-- the status by the position that is found
+module _ {B : Type 0} (At : ℕ → B → Type 0) where
+  pub found_status : (pos : ℕ) (o : Option B) → MatchOption o (Some pos ≡ None) (λ x. (q : ℕ) × (Some pos ≡ Some q) × At q x) → IsFoundStatus o 0
+  found_status pos None h = absurd cc
+  found_status pos (Some x) h = refl
+
+  pub missing_status : (o : Option B) (place : Option ℕ) → place ≡ None → MatchOption o (place ≡ None) (λ x. (q : ℕ) × (place ≡ Some q) × At q x) → IsFoundStatus o 1
+  missing_status None place none h = refl
+  missing_status (Some x) place none h = absurd (let wrong = h.1 in cc)

@@ -1,0 +1,6 @@
+use Rattle.ffi_calls.specs.SetItems.{IsSetArchive}
+use Rattle.ffi_calls.proofs.laws.set_archives_represent_their_lists.Goals as goal
+
+pub returns : goal.returns
+unfolding IsSetArchive
+returns g c = λ items b made. (made.0, made.1)

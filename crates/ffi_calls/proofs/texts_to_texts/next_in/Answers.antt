@@ -1,0 +1,16 @@
+use Rattle.std.proofs.Common.{inl, inr, refl}
+use Rattle.rkyv_base.specs.Text.{text_at, text_spec}
+use Rattle.ffi_calls.specs.Archives.{map_in}
+use Rattle.ffi_calls.proofs.Next.{pair_told}
+use Rattle.ffi_calls.proofs.texts_to_texts.next_in.Goals as goal
+
+pub returns-in-None : goal.returns-in-None
+returns-in-None g c = inl (c.in-None.ensures.next, refl, refl)
+
+pub returns : goal.returns
+returns g c =
+    let item = c.in-Some.item in
+    let next = c.in-Some.ensures.next in
+    let b = c.args.archive.now in
+    let told = pair_told (map_in g.W.Word.word (text_spec g.W.Word.word) (text_spec g.W.Word.word) b) (text_at g.W.Word.word b) (text_at g.W.Word.word b) item.bucket item.pos c.key_in-key.result.now c.text_value_in-value.result.now next.1 c.key_in-key.ensures c.text_value_in-value.ensures in
+    inr (item.bucket, next.0, refl, refl, told)

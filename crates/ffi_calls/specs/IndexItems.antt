@@ -1,0 +1,128 @@
+-- The archives of items as index maps, and the results of their write.
+use Rattle.std.specs.Prelude.{◌≡◌, ℕ, ◌⊎◌, List}
+use Rattle.std.specs.Borrow.{Bor}
+use Rattle.std.specs.Int.{w32}
+use Rattle.rkyv_base.specs.Access.{Accepted}
+use Rattle.rkyv_base.specs.Format.{Format}
+use Rattle.rkyv_base.specs.Members.{WidthMembers}
+use Rattle.rkyv_base.specs.Numbers.{unsigned}
+use Rattle.rkyv_base.specs.Root.{ArchiveOf, ArchiveRefused}
+use Rattle.rkyv_base.specs.Scalar.{Encoding, ScalarRepresents, scalar_format, scalar_spec}
+use Rattle.rkyv_base.specs.ElementSpec.{ElementSpec}
+use Rattle.rkyv_base.specs.Pairs.{written_as}
+use Rattle.rkyv_base.specs.Text.{text_spec}
+use Rattle.rkyv_base.specs.TextWriting.{text_format}
+use Rattle.rkyv_base.specs.declared.errors.WriteError.{WriteError}
+use Rattle.rkyv_base.specs.declared.writer.NoMemory.{NoMemory}
+use Rattle.rkyv_keys.specs.Calls.{text_calls}
+use Rattle.rkyv_keys.specs.Lemmas.OfTexts.{text_key_calls}
+use Rattle.rkyv_keys.specs.Natives.{NativePairs}
+use Rattle.rkyv_collections.specs.Natives.{PairFormat}
+use Rattle.rkyv_table.specs.Table.Listed.{listed}
+use Rattle.rkyv_index.specs.Index.IndexFormat.{IndexRepresents, PlacesAs, index_format, indices}
+use Rattle.rkyv_index.specs.Index.IndexHeader.{IndexResolver}
+use Rattle.ffi_calls.specs.Archives.{number_key, value_encoding, value_spec, word_of}
+use Rattle.ffi_calls.specs.IndexArchives.{index_in, index_map}
+use Rattle.ffi_calls.specs.IndexLists.{IndexRepresentsPairs}
+use Rattle.ffi_calls.specs.Items.{ArePairsOfNumbers, ArePairsOfTexts, PairsOfNumbersFail}
+use Rattle.ffi_calls.specs.Items.{PairsOfTextsFail, width_of}
+use Rattle.ffi_calls.specs.Listed.{TextRepresents, calls_of_number_at, number_calls}
+use Rattle.ffi_calls.specs.Lists.{ArchiveWidth, archive_width, format_of, natives}
+use Rattle.ffi_calls.specs.Status.{write_refusal}
+use Rattle.ffi_calls.specs.declared.form.Form.{Form}
+use Rattle.ffi_calls.specs.declared.number_items.NumberItem.{NumberItem}
+use Rattle.ffi_calls.specs.declared.text_items.TextItem.{TextItem}
+
+-- the width of an archive of an index map. `indices`: how its indices are written
+pub record IndexWidth (P : Type 0) : Type 1 where
+  pub archive : ArchiveWidth
+  pub indices : PlacesAs P
+
+-- the width with the members of a `Width`, whose indices have this spec and encoding
+abbrev pub index_width : {P : Type 0} → WidthMembers → ElementSpec → Encoding P → IndexWidth P
+index_width w spec encoding =
+    record { archive = archive_width w; indices = indices spec encoding }
+
+module _ {P A N R Q : Type 0} (width : IndexWidth P) (format : PairFormat A N R Q) where
+  -- the format of a list of pairs as an index map under the load factor 7 / 8
+  abbrev pub index_pairs_format : Format (List (A × N)) IndexResolver
+  index_pairs_format = listed width.archive.most (7, 8) (index_format width.archive.word
+      width.indices.spec width.indices.encoding format.key_spec format.value_spec format.key
+      format.value format.hash (7, 8))
+
+  -- the spec of the header of the index map
+  abbrev pub index_header_spec : ElementSpec
+  index_header_spec = index_map width.archive.word format.key_spec format.value_spec
+
+  -- `b` is the archive of the pairs as an index map, in this order.
+  -- It is valid, represents them, and has no other bytes.
+  unfoldable pub IsIndexOf : NativePairs A N → List (A × N) → List ℕ → Type 0
+  IsIndexOf native pairs b = ArchiveOf width.archive.limit index_header_spec
+      (IndexRepresents width.archive.word format.key_spec format.value_spec native.key native.value
+      native.key_hash (7, 8)) index_pairs_format pairs b
+
+  -- the write of the pairs fails with `error`
+  unfoldable pub IndexFails : {F : Type 0} → List (A × N) → WriteError F → Type 0
+  IndexFails pairs error =
+      ArchiveRefused width.archive.limit index_header_spec index_pairs_format pairs error
+
+  -- an archive of a list as an index map is valid, and represents the list
+  abbrev pub IndexesRepresent : NativePairs A N → Type 0
+  IndexesRepresent native = (pairs : List (A × N)) (b : List ℕ) → IsIndexOf native pairs b
+      → Accepted width.archive.limit index_header_spec b
+      × IndexRepresentsPairs (index_in width.archive.word format.key_spec format.value_spec b)
+      native (7, 8) pairs
+
+module _ {P N : Type 0} (width : IndexWidth P) (v : ElementSpec) (e : Encoding N) where
+  -- `b` is the archive of the pairs of the items as an index map
+  abbrev pub NumberIndexMade : List NumberItem → List ℕ → Type 0
+  NumberIndexMade items b = (pairs : List (ℕ × N)) × ArePairsOfNumbers e items pairs
+      × IsIndexOf width (format_of number_key v (scalar_format (unsigned w32)) number_calls e)
+      (natives (ScalarRepresents (unsigned w32)) calls_of_number_at e) pairs b
+
+  -- `status` is that of items without pairs, or of the error of the write of their pairs
+  abbrev pub NumberIndexRefused : List NumberItem → ℕ → Type 0
+  NumberIndexRefused items status = PairsOfNumbersFail e items status
+      ⊎ ((pairs : List (ℕ × N)) × (error : WriteError NoMemory) × ArePairsOfNumbers e items pairs
+      × IndexFails width (format_of number_key v (scalar_format (unsigned w32)) number_calls e)
+      pairs error × (status ≡ write_refusal error))
+
+  -- `b` is the archive of the pairs of the items as an index map
+  abbrev pub TextIndexMade : List TextItem → List ℕ → Type 0
+  TextIndexMade items b = let w = width.archive.word in
+      (pairs : List (Bor (List ℕ) × N)) × ArePairsOfTexts e items pairs
+      × IsIndexOf width (format_of (text_spec w) v (written_as (λ text. text.now) (text_format w))
+      (λ text. text_calls text.now) e)
+      (natives (TextRepresents w) (text_key_calls w) e) pairs b
+
+  -- `status` is that of items without pairs, or of the error of the write of their pairs
+  abbrev pub TextIndexRefused : List TextItem → ℕ → Type 0
+  TextIndexRefused items status = let w = width.archive.word in PairsOfTextsFail e items status
+      ⊎ ((pairs : List (Bor (List ℕ) × N)) × (error : WriteError NoMemory)
+      × ArePairsOfTexts e items pairs
+      × IndexFails width (format_of (text_spec w) v (written_as (λ text. text.now) (text_format w))
+      (λ text. text_calls text.now) e) pairs error × (status ≡ write_refusal error))
+
+-- the width of an archive of an index map in the form
+abbrev pub index_width_of : Form → IndexWidth ℕ
+index_width_of form = let e = unsigned (word_of form.wide) in
+    record { archive = width_of form; indices = indices (scalar_spec e) e }
+
+-- a list of bytes is the archive of the pairs of numbers as an index map in the form
+abbrev pub IsIndexOfNumbers : Form → List NumberItem → List ℕ → Type 0
+IsIndexOfNumbers form =
+    NumberIndexMade (index_width_of form) (value_spec form) (value_encoding form)
+
+-- a list of bytes is the archive of the pairs of texts as an index map in the form
+abbrev pub IsIndexOfTexts : Form → List TextItem → List ℕ → Type 0
+IsIndexOfTexts form = TextIndexMade (index_width_of form) (value_spec form) (value_encoding form)
+
+-- a status is the error of the write of the pairs of numbers as an index map in the form
+abbrev pub IndexOfNumbersFails : Form → List NumberItem → ℕ → Type 0
+IndexOfNumbersFails form =
+    NumberIndexRefused (index_width_of form) (value_spec form) (value_encoding form)
+
+-- a status is the error of the write of the pairs of texts as an index map in the form
+abbrev pub IndexOfTextsFails : Form → List TextItem → ℕ → Type 0
+IndexOfTextsFails form =
+    TextIndexRefused (index_width_of form) (value_spec form) (value_encoding form)

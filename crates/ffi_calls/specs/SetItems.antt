@@ -1,0 +1,132 @@
+-- The archives of sets, the items to be archived, and the results of their write.
+use Rattle.std.specs.Prelude.{◌≡◌, ℕ, ◌⊎◌, All, Bool, List, map}
+use Rattle.std.specs.Borrow.{Bor}
+use Rattle.std.specs.Int.{w32}
+use Rattle.std.specs.Str.{IsUtf8}
+use Rattle.rkyv_scan.specs.Hash.{HasherCall, fx_hasher, hash_of_calls, low_halves}
+use Rattle.rkyv_base.specs.Access.{Accepted}
+use Rattle.rkyv_base.specs.ElementSpec.{ElementSpec}
+use Rattle.rkyv_base.specs.Empty.{unit_spec}
+use Rattle.rkyv_base.specs.Format.{Format}
+use Rattle.rkyv_base.specs.Numbers.{unsigned}
+use Rattle.rkyv_base.specs.Root.{ArchiveOf, ArchiveRefused}
+use Rattle.rkyv_base.specs.Scalar.{ScalarRepresents, scalar_format}
+use Rattle.rkyv_base.specs.Text.{text_spec}
+use Rattle.rkyv_base.specs.declared.errors.WriteError.{WriteError}
+use Rattle.rkyv_base.specs.declared.strings.TextResolver.{TextResolver}
+use Rattle.rkyv_base.specs.declared.writer.NoMemory.{NoMemory}
+use Rattle.rkyv_keys.specs.Calls.{text_calls}
+use Rattle.rkyv_keys.specs.Lemmas.OfTexts.{text_key_calls}
+use Rattle.rkyv_table.specs.Table.Listed.{listed}
+use Rattle.rkyv_table.specs.Table.TableFormat.{TableResolver}
+use Rattle.rkyv_collections.specs.Natives.{KeyFormat, key_format}
+use Rattle.rkyv_collections.specs.Set.{set_spec}
+use Rattle.rkyv_collections.specs.Set.SetFormat.{SetRepresents, set_format}
+use Rattle.ffi_calls.specs.Archives.{number_key, root}
+use Rattle.ffi_calls.specs.Listed.{TextRepresents, calls_of_number_at, number_calls}
+use Rattle.ffi_calls.specs.Lists.{ArchiveWidth}
+use Rattle.ffi_calls.specs.Status.{write_refusal}
+use Rattle.ffi_calls.specs.TextItems.{ArePairsOf, PairsFail, bytes_format, width_by}
+use Rattle.ffi_calls.specs.declared.text_set_items.SetText.{SetText}
+
+-- how items are written: by their spec, their format and their hasher calls
+abbrev pub fx_items : {A R : Type 0} → ElementSpec → Format A R → (A → List HasherCall)
+    → KeyFormat A R
+fx_items k format calls = key_format k format (fx_hasher low_halves) calls
+
+-- the hash of the item at a position, by its hasher calls
+abbrev pub fx_hash_at : (List ℕ → ℕ → List HasherCall) → List ℕ → ℕ → ℕ
+fx_hash_at calls b q = hash_of_calls (fx_hasher low_halves) (calls b q)
+
+module _ {A R : Type 0} (width : ArchiveWidth) (format : KeyFormat A R) where
+  -- the format of a list of items as a set under the load factor 7 / 8
+  abbrev pub items_format : Format (List A) TableResolver
+  items_format = listed width.most (7, 8) (set_format width.word format.spec format.format
+      format.hash (7, 8))
+
+  -- `b` is the archive of the items, in this order. It is valid, represents them, and has no other
+  -- bytes. `represents` and `calls`: what represents an item, and its hasher calls at a position
+  unfoldable pub IsSetArchive : (List ℕ → ℕ → A → Type 0) → (List ℕ → ℕ → List HasherCall)
+      → List A → List ℕ → Type 0
+  IsSetArchive represents calls items b = ArchiveOf width.limit (set_spec width.word format.spec)
+      (SetRepresents width.word format.spec represents (fx_hash_at calls) (7, 8)) items_format
+      items b
+
+  -- the write of the items fails with `error`
+  unfoldable pub SetArchiveFails : {F : Type 0} → List A → WriteError F → Type 0
+  SetArchiveFails items error =
+      ArchiveRefused width.limit (set_spec width.word format.spec) items_format items error
+
+  -- an archive of items is valid, and represents them
+  abbrev pub SetArchivesRepresent : (List ℕ → ℕ → A → Type 0) → (List ℕ → ℕ → List HasherCall)
+      → Type 0
+  SetArchivesRepresent represents calls = (items : List A) (b : List ℕ)
+      → IsSetArchive represents calls items b
+      → Accepted width.limit (set_spec width.word format.spec) b
+      × SetRepresents width.word format.spec represents (fx_hash_at calls) (7, 8) b
+      (root width.word format.spec unit_spec b) items
+
+-- the text of `item` is UTF-8
+abbrev pub SetTextFits : SetText → Type 0
+SetTextFits item = IsUtf8 item.text.now
+
+-- the bytes of `item`
+abbrev pub set_text_image : SetText → List ℕ
+set_text_image item = item.text.now
+
+-- the bytes of the text
+abbrev pub set_text_seen : Bor (List ℕ) → List ℕ
+set_text_seen text = text.now
+
+-- `texts` are the texts of the items, in order, and all are UTF-8
+abbrev pub AreSetTexts : List SetText → List (Bor (List ℕ)) → Type 0
+AreSetTexts = ArePairsOf SetTextFits set_text_image set_text_seen
+
+-- a status is that of an allocation failure, or of the first item that isn't UTF-8
+abbrev pub SetTextsFail : List SetText → ℕ → Type 0
+SetTextsFail = PairsFail SetTextFits set_text_image set_text_seen
+
+module _ (width : ArchiveWidth) where
+  -- a list of bytes is the archive of the set of numbers
+  abbrev pub NumberSetMade : List ℕ → List ℕ → Type 0
+  NumberSetMade = IsSetArchive width
+      (fx_items number_key (scalar_format (unsigned w32)) number_calls)
+      (ScalarRepresents (unsigned w32)) calls_of_number_at
+
+  -- a status is the error of the write of the set of numbers
+  abbrev pub NumberSetRefused : List ℕ → ℕ → Type 0
+  NumberSetRefused items status = (error : WriteError NoMemory) × SetArchiveFails width
+      (fx_items number_key (scalar_format (unsigned w32)) number_calls) items error
+      × (status ≡ write_refusal error)
+
+  -- how the texts of a set are written
+  abbrev pub text_items : KeyFormat (Bor (List ℕ)) TextResolver
+  text_items = fx_items (text_spec width.word) (bytes_format width) (λ text. text_calls text.now)
+
+  -- `b` is the archive of the set of the texts of the items
+  abbrev pub TextSetMade : List SetText → List ℕ → Type 0
+  TextSetMade items b = (texts : List (Bor (List ℕ))) × AreSetTexts items texts
+      × IsSetArchive width text_items (TextRepresents width.word) (text_key_calls width.word) texts
+      b
+
+  -- `status` is that of items without texts, or of the error of the write of the set
+  abbrev pub TextSetRefused : List SetText → ℕ → Type 0
+  TextSetRefused items status = SetTextsFail items status
+      ⊎ ((texts : List (Bor (List ℕ))) × (error : WriteError NoMemory) × AreSetTexts items texts
+      × SetArchiveFails width text_items texts error × (status ≡ write_refusal error))
+
+-- a list of bytes is the archive of the set of numbers, narrow or wide
+abbrev pub IsArchiveOfNumberSet : Bool → List ℕ → List ℕ → Type 0
+IsArchiveOfNumberSet wide = NumberSetMade (width_by wide)
+
+-- a status is the error of the write of the set of numbers, narrow or wide
+abbrev pub ArchiveOfNumberSetFails : Bool → List ℕ → ℕ → Type 0
+ArchiveOfNumberSetFails wide = NumberSetRefused (width_by wide)
+
+-- a list of bytes is the archive of the set of texts, narrow or wide
+abbrev pub IsArchiveOfTextSet : Bool → List SetText → List ℕ → Type 0
+IsArchiveOfTextSet wide = TextSetMade (width_by wide)
+
+-- a status is the error of the write of the set of texts, narrow or wide
+abbrev pub ArchiveOfTextSetFails : Bool → List SetText → ℕ → Type 0
+ArchiveOfTextSetFails wide = TextSetRefused (width_by wide)

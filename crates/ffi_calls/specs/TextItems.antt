@@ -1,0 +1,154 @@
+-- The items with texts as values that are to be archived, and the results of their write.
+use Rattle.std.specs.Prelude.{◌≡◌, ℕ, ◌⊎◌, All, Bool, List, map}
+use Rattle.std.specs.Borrow.{Bor}
+use Rattle.std.specs.Int.{w32}
+use Rattle.std.specs.Str.{IsUtf8}
+use Rattle.rkyv_base.specs.Format.{Format}
+use Rattle.rkyv_base.specs.Numbers.{unsigned}
+use Rattle.rkyv_base.specs.Pairs.{written_as}
+use Rattle.rkyv_base.specs.Scalar.{ScalarRepresents, scalar_format}
+use Rattle.rkyv_base.specs.Text.{text_spec}
+use Rattle.rkyv_base.specs.TextWriting.{text_format}
+use Rattle.rkyv_base.specs.declared.errors.WriteError.{WriteError}
+use Rattle.rkyv_base.specs.declared.strings.TextResolver.{TextResolver}
+use Rattle.rkyv_base.specs.declared.writer.NoMemory.{NoMemory}
+use Rattle.rkyv_keys.specs.Calls.{text_calls}
+use Rattle.rkyv_keys.specs.Lemmas.OfTexts.{text_key_calls}
+use Rattle.rkyv_keys.specs.Natives.{NativePairs}
+use Rattle.rkyv_collections.specs.Natives.{PairFormat}
+use Rattle.ffi_calls.specs.Archives.{limit_of, most_of, number_key, word_of}
+use Rattle.ffi_calls.specs.Items.{FirstUnfit}
+use Rattle.ffi_calls.specs.Listed.{TextRepresents, calls_of_number_at, number_calls}
+use Rattle.ffi_calls.specs.Lists.{ArchiveFails, ArchiveWidth, IsArchiveOf, fx_format}
+use Rattle.ffi_calls.specs.Lists.{fx_pairs}
+use Rattle.ffi_calls.specs.Status.{write_refusal}
+use Rattle.ffi_calls.specs.declared.numbers_to_texts_items.NumberTextItem.{NumberTextItem}
+use Rattle.ffi_calls.specs.declared.texts_to_texts_items.TextTextItem.{TextTextItem}
+
+-- the items of a map, and its pairs. `Fits`: the texts of an item are UTF-8, `image`: key and
+-- value of an item, `seen`: those of a pair, with the bytes of a text in place of the text
+module _ {I P S : Type 0} (Fits : I → Type 0) (image : I → S) (seen : P → S) where
+  -- `pairs` are the pairs of the items, in order, and all texts are UTF-8
+  abbrev pub ArePairsOf : List I → List P → Type 0
+  ArePairsOf items pairs = All Fits items × (map seen pairs ≡ map image items)
+
+  -- `status` is that of an allocation failure, or of the first item with a text that isn't UTF-8
+  abbrev pub PairsFail : List I → ℕ → Type 0
+  PairsFail items status =
+      (status ≡ 12) ⊎ FirstUnfit Fits (λ item. (Fits item → ⊥) × (status ≡ 4)) items
+
+-- the results of a write. `ArePairs`: pairs of the items, `Fails`: status of items without pairs
+module _ {I A B R Q : Type 0} (ArePairs : List I → List (A × B) → Type 0) (Fails : List I → ℕ
+    → Type 0) (width : ArchiveWidth) (format : PairFormat A B R Q) where
+  -- `b` is the archive of the pairs of the items. `native`: what represents the pairs
+  abbrev pub ItemsMade : NativePairs A B → List I → List ℕ → Type 0
+  ItemsMade native items b = (pairs : List (A × B)) × ArePairs items pairs
+      × IsArchiveOf width format native pairs b
+
+  -- `status` is that of items without pairs, or of the error of the write of their pairs
+  abbrev pub ItemsRefused : List I → ℕ → Type 0
+  ItemsRefused items status = Fails items status
+      ⊎ ((pairs : List (A × B)) × (error : WriteError NoMemory) × ArePairs items pairs
+      × ArchiveFails width format pairs error × (status ≡ write_refusal error))
+
+-- the text that is the value of `item` is UTF-8
+abbrev pub NumberTextFits : NumberTextItem → Type 0
+NumberTextFits item = IsUtf8 item.value.now
+
+-- the key of `item`, and the bytes of its value
+abbrev pub number_text_image : NumberTextItem → ℕ × List ℕ
+number_text_image item = (item.key, item.value.now)
+
+-- the number, and the bytes of the text
+abbrev pub number_text_seen : ℕ × Bor (List ℕ) → ℕ × List ℕ
+number_text_seen pair = (pair.0, pair.1.now)
+
+-- `pairs` are the pairs of the items, in order, and all values are UTF-8
+abbrev pub AreNumberTexts : List NumberTextItem → List (ℕ × Bor (List ℕ)) → Type 0
+AreNumberTexts = ArePairsOf NumberTextFits number_text_image number_text_seen
+
+-- a status is that of an allocation failure, or of the first value that isn't UTF-8
+abbrev pub NumberTextsFail : List NumberTextItem → ℕ → Type 0
+NumberTextsFail = PairsFail NumberTextFits number_text_image number_text_seen
+
+-- the texts of `item` are UTF-8
+abbrev pub TextTextFits : TextTextItem → Type 0
+TextTextFits item = IsUtf8 item.key.now × IsUtf8 item.value.now
+
+-- the bytes of the key and of the value of `item`
+abbrev pub text_text_image : TextTextItem → List ℕ × List ℕ
+text_text_image item = (item.key.now, item.value.now)
+
+-- the bytes of both texts
+abbrev pub text_text_seen : Bor (List ℕ) × Bor (List ℕ) → List ℕ × List ℕ
+text_text_seen pair = (pair.0.now, pair.1.now)
+
+-- `pairs` are the pairs of the items, in order, and all texts are UTF-8
+abbrev pub AreTextTexts : List TextTextItem → List (Bor (List ℕ) × Bor (List ℕ)) → Type 0
+AreTextTexts = ArePairsOf TextTextFits text_text_image text_text_seen
+
+-- a status is that of an allocation failure, or of the first item with a text that isn't UTF-8
+abbrev pub TextTextsFail : List TextTextItem → ℕ → Type 0
+TextTextsFail = PairsFail TextTextFits text_text_image text_text_seen
+
+module _ (width : ArchiveWidth) where
+  -- how a text is written
+  abbrev pub bytes_format : Format (Bor (List ℕ)) TextResolver
+  bytes_format = written_as (λ text. text.now) (text_format width.word)
+
+  -- how pairs of numbers and texts are written
+  abbrev pub number_texts_format : PairFormat ℕ (Bor (List ℕ)) (Unit {0}) TextResolver
+  number_texts_format = fx_format number_key (text_spec width.word)
+      (scalar_format (unsigned w32)) bytes_format number_calls
+
+  -- how pairs of texts are written
+  abbrev pub text_texts_format : PairFormat (Bor (List ℕ)) (Bor (List ℕ)) TextResolver TextResolver
+  text_texts_format = fx_format (text_spec width.word) (text_spec width.word) bytes_format
+      bytes_format (λ text. text_calls text.now)
+
+  -- the pairs of numbers and texts that bytes represent
+  abbrev pub number_texts_natives : NativePairs ℕ (Bor (List ℕ))
+  number_texts_natives = fx_pairs (ScalarRepresents (unsigned w32)) (TextRepresents width.word)
+      calls_of_number_at
+
+  -- the pairs of texts that bytes represent
+  abbrev pub text_texts_natives : NativePairs (Bor (List ℕ)) (Bor (List ℕ))
+  text_texts_natives = fx_pairs (TextRepresents width.word) (TextRepresents width.word)
+      (text_key_calls width.word)
+
+  -- a list of bytes is the archive of the pairs of numbers and texts
+  abbrev pub NumberTextsMade : List NumberTextItem → List ℕ → Type 0
+  NumberTextsMade =
+      ItemsMade AreNumberTexts NumberTextsFail width number_texts_format number_texts_natives
+
+  -- a status is the error of the write of the pairs of numbers and texts
+  abbrev pub NumberTextsRefused : List NumberTextItem → ℕ → Type 0
+  NumberTextsRefused = ItemsRefused AreNumberTexts NumberTextsFail width number_texts_format
+
+  -- a list of bytes is the archive of the pairs of texts
+  abbrev pub TextTextsMade : List TextTextItem → List ℕ → Type 0
+  TextTextsMade = ItemsMade AreTextTexts TextTextsFail width text_texts_format text_texts_natives
+
+  -- a status is the error of the write of the pairs of texts
+  abbrev pub TextTextsRefused : List TextTextItem → ℕ → Type 0
+  TextTextsRefused = ItemsRefused AreTextTexts TextTextsFail width text_texts_format
+
+-- the width of an archive, narrow or wide
+abbrev pub width_by : Bool → ArchiveWidth
+width_by wide = record { word = word_of wide; limit = limit_of wide; most = most_of wide }
+
+-- a list of bytes is the archive of the pairs of numbers and texts, narrow or wide
+abbrev pub IsArchiveOfNumberTexts : Bool → List NumberTextItem → List ℕ → Type 0
+IsArchiveOfNumberTexts wide = NumberTextsMade (width_by wide)
+
+-- a status is the error of the write of the pairs of numbers and texts, narrow or wide
+abbrev pub ArchiveOfNumberTextsFails : Bool → List NumberTextItem → ℕ → Type 0
+ArchiveOfNumberTextsFails wide = NumberTextsRefused (width_by wide)
+
+-- a list of bytes is the archive of the pairs of texts, narrow or wide
+abbrev pub IsArchiveOfTextTexts : Bool → List TextTextItem → List ℕ → Type 0
+IsArchiveOfTextTexts wide = TextTextsMade (width_by wide)
+
+-- a status is the error of the write of the pairs of texts, narrow or wide
+abbrev pub ArchiveOfTextTextsFails : Bool → List TextTextItem → ℕ → Type 0
+ArchiveOfTextTextsFails wide = TextTextsRefused (width_by wide)

@@ -1,0 +1,65 @@
+//! Sets: the lookup of an item, and the archive of a list of items.
+
+ghost use Rattle.std.specs.Prelude.{IfErr, IfOk};
+ghost use Rattle.rkyv_base.specs.Empty.{unit_spec};
+ghost use Rattle.ffi_calls.specs.Archives.{IsHeaderOf, IsMapArchive, value_found};
+ghost use Rattle.ffi_calls.specs.Lists.{archive_width, asked_key};
+ghost use Rattle.ffi_calls.specs.SetItems.{IsSetArchive, SetArchiveFails, fx_items};
+ghost use Rattle.ffi_calls.specs.Sets.{FindsItem, IsFoundStatus, set_in};
+
+use crate::lookup::value_pos_in;
+use crate::status::{DONE, NOT_FOUND};
+use rkyv_base::archive::Serialize;
+use rkyv_base::element::Represents;
+use rkyv_base::errors::WriteError;
+use rkyv_base::root::to_bytes_in;
+use rkyv_base::width::Width;
+use rkyv_base::writer::{NoMemory, VecWriter};
+use rkyv_collections::{KeyElement, NativeKey, SetItems};
+use rkyv_table::table::decoded::Decoded;
+use std::alloc::Global;
+
+/// Looks up an item of the set in a valid archive, by its decoded header, and returns `DONE` if it
+/// is found.
+///
+/// # Errors
+///
+/// - `NOT_FOUND`: the lookup doesn't find the item.
+pub(crate) fn contains_in<A: NativeKey<K>, K: KeyElement + Represents<A>, W: Width>(
+    archive: &[u8],
+    header: &Decoded,
+    item: &A,
+) -> u32
+    requires archive { IsMapArchive W.word W.LIMIT K.spec unit_spec archive.now }
+    requires header { IsHeaderOf (set_in W.word K.spec archive.now) header.now }
+    requires query { A.can_read item.now }
+    ensures found { IsFoundStatus (value_found (set_in W.word K.spec archive.now)
+        (A.calls item.now) (A.fits item.now archive.now)) result }
+    ensures listed { FindsItem (set_in W.word K.spec archive.now)
+        (asked_key K.represents K.key_calls (A.eq item.now)) result }
+{
+    match value_pos_in::<A, (), K, (), W>(archive, header, item) {
+        Some(_) => DONE,
+        None => NOT_FOUND,
+    }
+}
+
+/// Writes the archive of a set of the items, in insertion order, under the load factor 7 / 8.
+pub(crate) fn set_archive_of<A: NativeKey<A::Archived> + Serialize<VecWriter, W>, W: Width>(
+    alloc: Global,
+    items: &[A],
+) -> Result<Vec<u8>, WriteError<NoMemory>>
+where
+    A::Archived: KeyElement,
+    ensures ok { IfOk result (λ v. IsSetArchive (archive_width W.Width)
+        (fx_items A.Archived.spec A.format A.calls) A.Archived.represents A.Archived.key_calls
+        items.now v.items) }
+    ensures err { IfErr result (SetArchiveFails (archive_width W.Width)
+        (fx_items A.Archived.spec A.format A.calls) items.now) }
+{
+    let set: SetItems<'_, A> = SetItems::new(items);
+    match to_bytes_in::<W, SetItems<'_, A>>(alloc, &set) {
+        Ok(archive) => Ok(archive),
+        Err(error) => Err(error),
+    }
+}

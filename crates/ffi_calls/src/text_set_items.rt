@@ -1,0 +1,95 @@
+//! Archives of sets of texts.
+
+ghost use Rattle.std.specs.Prelude.{MatchResult};
+ghost use Rattle.ffi_calls.specs.Items.{HandsOut};
+ghost use Rattle.ffi_calls.specs.Lists.{archive_width};
+ghost use Rattle.ffi_calls.specs.SetItems.{AreSetTexts, ArchiveOfTextSetFails};
+ghost use Rattle.ffi_calls.specs.SetItems.{IsArchiveOfTextSet, SetTextsFail, TextSetMade};
+ghost use Rattle.ffi_calls.specs.SetItems.{TextSetRefused};
+
+use crate::building::{Built, hand_out};
+use crate::sets::set_archive_of;
+use crate::status::{NO_MEMORY, NOT_TEXT, write_refusal};
+use crate::texts::text_of;
+use rkyv_base::width::{Narrow, Wide, Width};
+use std::alloc::Global;
+
+/// An item to be archived.
+#[repr(C)]
+#[derive(Clone, Copy)]
+pub struct SetText<'a> {
+    /// The text, which `build_text_set` rejects if it isn't UTF-8.
+    pub text: &'a [u8],
+}
+
+/// Returns the texts of the items.
+fn texts_of<'a>(alloc: Global, items: &[SetText<'a>]) -> Result<Vec<&'a str>, u32>
+    ensures { MatchResult result (λ texts. AreSetTexts items.now texts.items)
+        (SetTextsFail items.now) }
+{
+    let mut texts = match Vec::with_capacity(alloc, items.len()) {
+        Ok(texts) => texts,
+        Err(_) => return Err(NO_MEMORY),
+    };
+    for item in items {
+        let text = match text_of(item.text) {
+            Some(text) => text,
+            None => return Err(NOT_TEXT),
+        };
+        match texts.push(text) {
+            Ok(()) => {}
+            Err(_) => return Err(NO_MEMORY),
+        }
+    }
+    Ok(texts)
+}
+
+/// Writes the archive of the items.
+fn archive_in<W: Width>(alloc: Global, items: &[SetText<'_>]) -> Result<Vec<u8>, u32>
+    ensures { MatchResult result (λ v. TextSetMade (archive_width W.Width) items.now v.items)
+        (TextSetRefused (archive_width W.Width) items.now) }
+{
+    let texts = match texts_of(alloc, items) {
+        Ok(texts) => texts,
+        Err(status) => return Err(status),
+    };
+    match set_archive_of::<&str, W>(alloc, texts.as_slice()) {
+        Ok(archive) => Ok(archive),
+        Err(error) => Err(write_refusal(&error)),
+    }
+}
+
+/// Writes the archive of the items, narrow or wide.
+fn archive_by(alloc: Global, items: &[SetText<'_>], wide: bool) -> Result<Vec<u8>, u32>
+    ensures { MatchResult result (λ v. IsArchiveOfTextSet wide items.now v.items)
+        (ArchiveOfTextSetFails wide items.now) }
+{
+    if wide {
+        archive_in::<Wide>(alloc, items)
+    } else {
+        archive_in::<Narrow>(alloc, items)
+    }
+}
+
+/// Writes the archive of a set of the items, in insertion order, and leaks its bytes into `built`.
+///
+/// Equal items are kept. The set is under the load factor 7 / 8.
+///
+/// # Errors
+///
+/// - `NO_MEMORY`: an allocation fails.
+/// - `NOT_TEXT`: an item isn't UTF-8.
+/// - A status from 23 on: the write fails.
+///
+/// After an error `built` is unchanged.
+pub fn build_text_set(
+    alloc: Global,
+    items: &[SetText<'_>],
+    wide: bool,
+    built: &mut Built<'_>,
+) -> u32
+    ensures { HandsOut (IsArchiveOfTextSet wide items.now) (ArchiveOfTextSetFails wide items.now)
+        built.old result built.new }
+{
+    hand_out(archive_by(alloc, items, wide), built)
+}
