@@ -1,4 +1,4 @@
-//! Hash maps of numbers and of texts behind a C interface.
+//! Hash maps and index maps of numbers and of texts behind a C interface.
 //!
 //! A slice is passed as a pointer, then a length in elements. A parameter `alloc` has no bytes: C
 //! passes nothing for it. `clients/c` has the header for C programs. Its functions check their
@@ -8,6 +8,20 @@
 #![tactic(auto)]
 
 mod containers;
+mod index_containers;
+mod index_numbers;
+mod index_texts;
+mod long_lookups;
+mod long_number_containers;
+mod long_numbers;
 mod lookups;
+mod number_sets;
 mod numbers;
+mod numbers_to_texts;
+mod set_containers;
+mod set_lookups;
+mod text_lookups;
+mod text_sets;
+mod text_value_containers;
 mod texts;
+mod texts_to_texts;

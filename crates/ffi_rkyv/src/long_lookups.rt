@@ -1,0 +1,135 @@
+//! Lookups of numbers of 64 bits, with a function for each type of values and each width.
+//!
+//! The names end with the type and the width. A lookup has no branch on either.
+
+ghost use Rattle.std.specs.Prelude.{false, true};
+ghost use Rattle.ffi_calls.specs.Archives.{IsHeaderOf, form_of};
+ghost use Rattle.ffi_calls.specs.LongNumbers.{GivesFirstLongNumber, GivesLongNumber};
+ghost use Rattle.ffi_calls.specs.LongNumbers.{IsLongNumberArchive, long_numbers_in};
+
+use ffi_calls::form::Form;
+use ffi_calls::long_numbers::get_long_number;
+use rkyv_table::table::decoded::Decoded;
+
+/// Looks up a key of a narrow map of numbers of 64 bits to `u32`, and stores its value in `value`.
+///
+/// # Errors
+///
+/// - 1: the lookup doesn't find the key; `value` is unchanged then.
+///
+/// # Requires
+///
+/// - The archive is valid: `rkyv_c_open_long_numbers` returned 0.
+/// - `header` is its decoded header.
+#[unsafe(no_mangle)]
+pub extern "C" fn rkyv_c_get_long_number_u32_narrow(
+    archive: &[u8],
+    header: &Decoded,
+    key: u64,
+    value: &mut u64,
+) -> u32
+    requires archive { IsLongNumberArchive (form_of false false) archive.now }
+    requires header { IsHeaderOf (long_numbers_in (form_of false false) archive.now) header.now }
+    ensures gives { GivesLongNumber (form_of false false) archive.now key value.old result
+        value.new }
+    ensures listed { GivesFirstLongNumber (form_of false false) archive.now key value.old result
+        value.new }
+{
+    let form = Form {
+        long_values: false,
+        wide: false,
+    };
+    get_long_number(archive, form, header, key, value)
+}
+
+/// Looks up a key of a narrow map of numbers of 64 bits to `u64`, and stores its value in `value`.
+///
+/// # Errors
+///
+/// - 1: the lookup doesn't find the key; `value` is unchanged then.
+///
+/// # Requires
+///
+/// - The archive is valid: `rkyv_c_open_long_numbers` returned 0.
+/// - `header` is its decoded header.
+#[unsafe(no_mangle)]
+pub extern "C" fn rkyv_c_get_long_number_u64_narrow(
+    archive: &[u8],
+    header: &Decoded,
+    key: u64,
+    value: &mut u64,
+) -> u32
+    requires archive { IsLongNumberArchive (form_of true false) archive.now }
+    requires header { IsHeaderOf (long_numbers_in (form_of true false) archive.now) header.now }
+    ensures gives { GivesLongNumber (form_of true false) archive.now key value.old result
+        value.new }
+    ensures listed { GivesFirstLongNumber (form_of true false) archive.now key value.old result
+        value.new }
+{
+    let form = Form {
+        long_values: true,
+        wide: false,
+    };
+    get_long_number(archive, form, header, key, value)
+}
+
+/// Looks up a key of a wide map of numbers of 64 bits to `u32`, and stores its value in `value`.
+///
+/// # Errors
+///
+/// - 1: the lookup doesn't find the key; `value` is unchanged then.
+///
+/// # Requires
+///
+/// - The archive is valid: `rkyv_c_open_long_numbers` returned 0.
+/// - `header` is its decoded header.
+#[unsafe(no_mangle)]
+pub extern "C" fn rkyv_c_get_long_number_u32_wide(
+    archive: &[u8],
+    header: &Decoded,
+    key: u64,
+    value: &mut u64,
+) -> u32
+    requires archive { IsLongNumberArchive (form_of false true) archive.now }
+    requires header { IsHeaderOf (long_numbers_in (form_of false true) archive.now) header.now }
+    ensures gives { GivesLongNumber (form_of false true) archive.now key value.old result
+        value.new }
+    ensures listed { GivesFirstLongNumber (form_of false true) archive.now key value.old result
+        value.new }
+{
+    let form = Form {
+        long_values: false,
+        wide: true,
+    };
+    get_long_number(archive, form, header, key, value)
+}
+
+/// Looks up a key of a wide map of numbers of 64 bits to `u64`, and stores its value in `value`.
+///
+/// # Errors
+///
+/// - 1: the lookup doesn't find the key; `value` is unchanged then.
+///
+/// # Requires
+///
+/// - The archive is valid: `rkyv_c_open_long_numbers` returned 0.
+/// - `header` is its decoded header.
+#[unsafe(no_mangle)]
+pub extern "C" fn rkyv_c_get_long_number_u64_wide(
+    archive: &[u8],
+    header: &Decoded,
+    key: u64,
+    value: &mut u64,
+) -> u32
+    requires archive { IsLongNumberArchive (form_of true true) archive.now }
+    requires header { IsHeaderOf (long_numbers_in (form_of true true) archive.now) header.now }
+    ensures gives { GivesLongNumber (form_of true true) archive.now key value.old result value.new }
+    ensures listed { GivesFirstLongNumber (form_of true true) archive.now key value.old result
+        value.new }
+{
+    let form = Form {
+        long_values: true,
+        wide: true,
+    };
+    get_long_number(archive, form, header, key, value)
+}

@@ -1,0 +1,96 @@
+//! Lookups in sets, with a function for each width.
+//!
+//! The names end with the width. A lookup has no branch on it.
+
+ghost use Rattle.std.specs.Prelude.{false, true};
+ghost use Rattle.std.specs.Str.{IsUtf8};
+ghost use Rattle.ffi_calls.specs.Archives.{IsHeaderOf};
+ghost use Rattle.ffi_calls.specs.Sets.{FindsListedNumber, FindsListedText, FindsNumber};
+ghost use Rattle.ffi_calls.specs.Sets.{FindsText, IsNumberSet, IsTextSet, number_set_in};
+ghost use Rattle.ffi_calls.specs.Sets.{text_set_in};
+
+use ffi_calls::number_sets::contains_number;
+use ffi_calls::text_sets::contains_text;
+use rkyv_table::table::decoded::Decoded;
+
+/// Looks up an item of a narrow set of numbers, and returns 0 if it is found.
+///
+/// # Errors
+///
+/// - 1: the lookup doesn't find the item.
+///
+/// # Requires
+///
+/// - The archive is valid: `rkyv_c_open_number_set` returned 0.
+/// - `header` is its decoded header.
+#[unsafe(no_mangle)]
+pub extern "C" fn rkyv_c_contains_number_narrow(archive: &[u8], header: &Decoded, item: u32) -> u32
+    requires archive { IsNumberSet false archive.now }
+    requires header { IsHeaderOf (number_set_in false archive.now) header.now }
+    ensures found { FindsNumber false archive.now item result }
+    ensures listed { FindsListedNumber false archive.now item result }
+{
+    contains_number(archive, false, header, item)
+}
+
+/// Looks up an item of a wide set of numbers, and returns 0 if it is found.
+///
+/// # Errors
+///
+/// - 1: the lookup doesn't find the item.
+///
+/// # Requires
+///
+/// - The archive is valid: `rkyv_c_open_number_set` returned 0.
+/// - `header` is its decoded header.
+#[unsafe(no_mangle)]
+pub extern "C" fn rkyv_c_contains_number_wide(archive: &[u8], header: &Decoded, item: u32) -> u32
+    requires archive { IsNumberSet true archive.now }
+    requires header { IsHeaderOf (number_set_in true archive.now) header.now }
+    ensures found { FindsNumber true archive.now item result }
+    ensures listed { FindsListedNumber true archive.now item result }
+{
+    contains_number(archive, true, header, item)
+}
+
+/// Looks up an item of a narrow set of texts, and returns 0 if it is found.
+///
+/// # Errors
+///
+/// - 4: the bytes of the item aren't UTF-8.
+/// - 1: the lookup doesn't find the item.
+///
+/// # Requires
+///
+/// - The archive is valid: `rkyv_c_open_text_set` returned 0.
+/// - `header` is its decoded header.
+#[unsafe(no_mangle)]
+pub extern "C" fn rkyv_c_contains_text_narrow(archive: &[u8], header: &Decoded, item: &[u8]) -> u32
+    requires archive { IsTextSet false archive.now }
+    requires header { IsHeaderOf (text_set_in false archive.now) header.now }
+    ensures found { FindsText false archive.now item.now result }
+    ensures listed { IsUtf8 item.now → FindsListedText false archive.now item.now result }
+{
+    contains_text(archive, false, header, item)
+}
+
+/// Looks up an item of a wide set of texts, and returns 0 if it is found.
+///
+/// # Errors
+///
+/// - 4: the bytes of the item aren't UTF-8.
+/// - 1: the lookup doesn't find the item.
+///
+/// # Requires
+///
+/// - The archive is valid: `rkyv_c_open_text_set` returned 0.
+/// - `header` is its decoded header.
+#[unsafe(no_mangle)]
+pub extern "C" fn rkyv_c_contains_text_wide(archive: &[u8], header: &Decoded, item: &[u8]) -> u32
+    requires archive { IsTextSet true archive.now }
+    requires header { IsHeaderOf (text_set_in true archive.now) header.now }
+    ensures found { FindsText true archive.now item.now result }
+    ensures listed { IsUtf8 item.now → FindsListedText true archive.now item.now result }
+{
+    contains_text(archive, true, header, item)
+}

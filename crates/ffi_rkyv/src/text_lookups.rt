@@ -1,0 +1,124 @@
+//! Lookups in maps to texts, with a function for each width.
+//!
+//! The names end with the width. A lookup has no branch on it.
+
+ghost use Rattle.std.specs.Prelude.{false, true};
+ghost use Rattle.std.specs.Str.{IsUtf8};
+ghost use Rattle.ffi_calls.specs.Archives.{IsHeaderOf};
+ghost use Rattle.ffi_calls.specs.TextValues.{GivesFirstTextOfNumber, GivesFirstTextOfText};
+ghost use Rattle.ffi_calls.specs.TextValues.{GivesTextOfNumber, GivesTextOfText};
+ghost use Rattle.ffi_calls.specs.TextValues.{IsNumberTextArchive, IsTextTextArchive};
+ghost use Rattle.ffi_calls.specs.TextValues.{number_texts_in, text_texts_in};
+
+use ffi_calls::numbers_to_texts::get_text_of_number;
+use ffi_calls::text_values::TextValue;
+use ffi_calls::texts_to_texts::get_text_of_text;
+use rkyv_table::table::decoded::Decoded;
+
+/// Looks up a key of a narrow map of numbers to texts, and stores its text in `value`.
+///
+/// # Errors
+///
+/// - 1: the lookup doesn't find the key; `value` is unchanged then.
+///
+/// # Requires
+///
+/// - The archive is valid: `rkyv_c_open_numbers_to_texts` returned 0.
+/// - `header` is its decoded header.
+#[unsafe(no_mangle)]
+pub extern "C" fn rkyv_c_get_text_of_number_narrow<'a>(
+    archive: &'a [u8],
+    header: &Decoded,
+    key: u32,
+    value: &mut TextValue<'a>,
+) -> u32
+    requires archive { IsNumberTextArchive false archive.now }
+    requires header { IsHeaderOf (number_texts_in false archive.now) header.now }
+    ensures gives { GivesTextOfNumber false archive.now key value.old result value.new }
+    ensures listed { GivesFirstTextOfNumber false archive.now key value.old result value.new }
+{
+    get_text_of_number(archive, false, header, key, value)
+}
+
+/// Looks up a key of a wide map of numbers to texts, and stores its text in `value`.
+///
+/// # Errors
+///
+/// - 1: the lookup doesn't find the key; `value` is unchanged then.
+///
+/// # Requires
+///
+/// - The archive is valid: `rkyv_c_open_numbers_to_texts` returned 0.
+/// - `header` is its decoded header.
+#[unsafe(no_mangle)]
+pub extern "C" fn rkyv_c_get_text_of_number_wide<'a>(
+    archive: &'a [u8],
+    header: &Decoded,
+    key: u32,
+    value: &mut TextValue<'a>,
+) -> u32
+    requires archive { IsNumberTextArchive true archive.now }
+    requires header { IsHeaderOf (number_texts_in true archive.now) header.now }
+    ensures gives { GivesTextOfNumber true archive.now key value.old result value.new }
+    ensures listed { GivesFirstTextOfNumber true archive.now key value.old result value.new }
+{
+    get_text_of_number(archive, true, header, key, value)
+}
+
+/// Looks up a key of a narrow map of texts to texts, and stores its text in `value`.
+///
+/// # Errors
+///
+/// - 4: the bytes of the key aren't UTF-8.
+/// - 1: the lookup doesn't find the key.
+///
+/// After an error `value` is unchanged.
+///
+/// # Requires
+///
+/// - The archive is valid: `rkyv_c_open_texts_to_texts` returned 0.
+/// - `header` is its decoded header.
+#[unsafe(no_mangle)]
+pub extern "C" fn rkyv_c_get_text_of_text_narrow<'a>(
+    archive: &'a [u8],
+    header: &Decoded,
+    key: &[u8],
+    value: &mut TextValue<'a>,
+) -> u32
+    requires archive { IsTextTextArchive false archive.now }
+    requires header { IsHeaderOf (text_texts_in false archive.now) header.now }
+    ensures gives { GivesTextOfText false archive.now key.now value.old result value.new }
+    ensures listed { IsUtf8 key.now
+        → GivesFirstTextOfText false archive.now key.now value.old result value.new }
+{
+    get_text_of_text(archive, false, header, key, value)
+}
+
+/// Looks up a key of a wide map of texts to texts, and stores its text in `value`.
+///
+/// # Errors
+///
+/// - 4: the bytes of the key aren't UTF-8.
+/// - 1: the lookup doesn't find the key.
+///
+/// After an error `value` is unchanged.
+///
+/// # Requires
+///
+/// - The archive is valid: `rkyv_c_open_texts_to_texts` returned 0.
+/// - `header` is its decoded header.
+#[unsafe(no_mangle)]
+pub extern "C" fn rkyv_c_get_text_of_text_wide<'a>(
+    archive: &'a [u8],
+    header: &Decoded,
+    key: &[u8],
+    value: &mut TextValue<'a>,
+) -> u32
+    requires archive { IsTextTextArchive true archive.now }
+    requires header { IsHeaderOf (text_texts_in true archive.now) header.now }
+    ensures gives { GivesTextOfText true archive.now key.now value.old result value.new }
+    ensures listed { IsUtf8 key.now
+        → GivesFirstTextOfText true archive.now key.now value.old result value.new }
+{
+    get_text_of_text(archive, true, header, key, value)
+}

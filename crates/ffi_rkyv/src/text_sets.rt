@@ -1,0 +1,127 @@
+//! The calls for sets of texts.
+
+ghost use Rattle.std.specs.Prelude.{◌≡◌};
+ghost use Rattle.ffi_calls.specs.Archives.{IsHeaderOf, Opens, limit_of};
+ghost use Rattle.ffi_calls.specs.Explanation.{Explains};
+ghost use Rattle.ffi_calls.specs.Items.{HandsOut};
+ghost use Rattle.ffi_calls.specs.SetItems.{ArchiveOfTextSetFails, IsArchiveOfTextSet};
+ghost use Rattle.ffi_calls.specs.Sets.{IsTextSet, NextTextMember, NextTextMembers};
+ghost use Rattle.ffi_calls.specs.Sets.{text_set, text_set_in};
+
+use ffi_calls::building::Built;
+use ffi_calls::explanation::Explanation;
+use ffi_calls::text_set_items::{SetText, build_text_set};
+use ffi_calls::text_sets::{
+    TextMember, decode_text_set, explain_text_set, next_text_member, next_text_members,
+    open_text_set,
+};
+use rkyv_table::table::decoded::Decoded;
+use std::alloc::Global;
+
+/// Validates the archive of a set of texts.
+///
+/// # Errors
+///
+/// - 16 to 23: the first validation error.
+#[unsafe(no_mangle)]
+pub extern "C" fn rkyv_c_open_text_set(archive: &[u8], wide: bool) -> u32
+    ensures told { Opens (limit_of wide) (text_set wide) archive.now result }
+    ensures accepts { IsTextSet wide archive.now → result ≡ 0 }
+{
+    open_text_set(archive, wide)
+}
+
+/// Validates the archive of a set of texts, and stores the first error with its numbers.
+#[unsafe(no_mangle)]
+pub extern "C" fn rkyv_c_explain_text_set(archive: &[u8], wide: bool, explanation: &mut Explanation)
+    ensures { Explains (limit_of wide) (text_set wide) archive.now explanation.new }
+{
+    *explanation = explain_text_set(archive, wide);
+}
+
+/// Stores the decoded header of the set in `header`, for the other calls.
+///
+/// # Requires
+///
+/// - The archive is valid: `rkyv_c_open_text_set` returned 0.
+#[unsafe(no_mangle)]
+pub extern "C" fn rkyv_c_decode_text_set(archive: &[u8], wide: bool, header: &mut Decoded)
+    requires { IsTextSet wide archive.now }
+    ensures { IsHeaderOf (text_set_in wide archive.now) header.new }
+{
+    *header = decode_text_set(archive, wide);
+}
+
+/// Stores the next item, in bucket order, in `member`, borrowed from the archive.
+///
+/// # Errors
+///
+/// - 2: no item remains; `member` is unchanged then.
+///
+/// # Requires
+///
+/// - The archive is valid: `rkyv_c_open_text_set` returned 0.
+/// - `header` is its decoded header.
+#[unsafe(no_mangle)]
+pub extern "C" fn rkyv_c_next_text_member<'a>(
+    archive: &'a [u8],
+    wide: bool,
+    header: &Decoded,
+    member: &mut TextMember<'a>,
+) -> u32
+    requires archive { IsTextSet wide archive.now }
+    requires header { IsHeaderOf (text_set_in wide archive.now) header.now }
+    ensures { NextTextMember (text_set_in wide archive.now) member.old result member.new }
+{
+    next_text_member(archive, wide, header, member)
+}
+
+/// Stores the next items from the bucket `from` on, in bucket order, and returns their number.
+///
+/// If fewer items are stored than `members` has room for, no item remains. Otherwise a next call
+/// goes on at the `next` of the last member.
+///
+/// # Requires
+///
+/// - The archive is valid: `rkyv_c_open_text_set` returned 0.
+/// - `header` is its decoded header.
+#[unsafe(no_mangle)]
+pub extern "C" fn rkyv_c_next_text_members<'a>(
+    archive: &'a [u8],
+    wide: bool,
+    header: &Decoded,
+    from: u64,
+    members: &mut [TextMember<'a>],
+) -> usize
+    requires archive { IsTextSet wide archive.now }
+    requires header { IsHeaderOf (text_set_in wide archive.now) header.now }
+    ensures { NextTextMembers (text_set_in wide archive.now) from members.old result
+        members.new }
+{
+    next_text_members(archive, wide, header, from, members)
+}
+
+/// Writes the archive of a set of the items, in insertion order, and stores its bytes in `built`.
+///
+/// Equal items are kept. The set is under the load factor 7 / 8. Its bytes are a block of
+/// `rattle_alloc` or `rattle_realloc`, which the caller frees.
+///
+/// # Errors
+///
+/// - 12: an allocation fails.
+/// - 4: an item isn't UTF-8.
+/// - 23 to 29: the error of the write, which is 27 if an item is too long.
+///
+/// After an error `built` is unchanged.
+#[unsafe(no_mangle)]
+pub extern "C" fn rkyv_c_build_text_set(
+    alloc: Global,
+    items: &[SetText<'_>],
+    wide: bool,
+    built: &mut Built<'_>,
+) -> u32
+    ensures { HandsOut (IsArchiveOfTextSet wide items.now)
+        (ArchiveOfTextSetFails wide items.now) built.old result built.new }
+{
+    build_text_set(alloc, items, wide, built)
+}

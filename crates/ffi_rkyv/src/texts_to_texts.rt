@@ -1,0 +1,131 @@
+//! The calls for maps of texts to texts.
+
+ghost use Rattle.std.specs.Prelude.{◌≡◌};
+ghost use Rattle.ffi_calls.specs.Archives.{IsHeaderOf, Opens, limit_of};
+ghost use Rattle.ffi_calls.specs.Explanation.{Explains};
+ghost use Rattle.ffi_calls.specs.Items.{HandsOut};
+ghost use Rattle.ffi_calls.specs.TextItems.{ArchiveOfTextTextsFails, IsArchiveOfTextTexts};
+ghost use Rattle.ffi_calls.specs.TextValues.{IsTextTextArchive, NextTextText};
+ghost use Rattle.ffi_calls.specs.TextValues.{NextTextTexts, text_text_map, text_texts_in};
+
+use ffi_calls::building::Built;
+use ffi_calls::explanation::Explanation;
+use ffi_calls::texts_to_texts::{
+    TextTextPair, decode_texts_to_texts, explain_texts_to_texts, next_text_text, next_text_texts,
+    open_texts_to_texts,
+};
+use ffi_calls::texts_to_texts_items::{TextTextItem, build_texts_to_texts};
+use rkyv_table::table::decoded::Decoded;
+use std::alloc::Global;
+
+/// Validates the archive of a map of texts to texts.
+///
+/// # Errors
+///
+/// - 16 to 23: the first validation error.
+#[unsafe(no_mangle)]
+pub extern "C" fn rkyv_c_open_texts_to_texts(archive: &[u8], wide: bool) -> u32
+    ensures told { Opens (limit_of wide) (text_text_map wide) archive.now result }
+    ensures accepts { IsTextTextArchive wide archive.now → result ≡ 0 }
+{
+    open_texts_to_texts(archive, wide)
+}
+
+/// Validates the archive of a map of texts to texts, and stores the first error with its
+/// numbers.
+#[unsafe(no_mangle)]
+pub extern "C" fn rkyv_c_explain_texts_to_texts(
+    archive: &[u8],
+    wide: bool,
+    explanation: &mut Explanation,
+)
+    ensures { Explains (limit_of wide) (text_text_map wide) archive.now explanation.new }
+{
+    *explanation = explain_texts_to_texts(archive, wide);
+}
+
+/// Stores the decoded header of the map in `header`, for the other calls.
+///
+/// # Requires
+///
+/// - The archive is valid: `rkyv_c_open_texts_to_texts` returned 0.
+#[unsafe(no_mangle)]
+pub extern "C" fn rkyv_c_decode_texts_to_texts(archive: &[u8], wide: bool, header: &mut Decoded)
+    requires { IsTextTextArchive wide archive.now }
+    ensures { IsHeaderOf (text_texts_in wide archive.now) header.new }
+{
+    *header = decode_texts_to_texts(archive, wide);
+}
+
+/// Stores the next pair, in bucket order, in `pair`, with texts borrowed from the archive.
+///
+/// # Errors
+///
+/// - 2: no pair remains; `pair` is unchanged then.
+///
+/// # Requires
+///
+/// - The archive is valid: `rkyv_c_open_texts_to_texts` returned 0.
+/// - `header` is its decoded header.
+#[unsafe(no_mangle)]
+pub extern "C" fn rkyv_c_next_text_text<'a>(
+    archive: &'a [u8],
+    wide: bool,
+    header: &Decoded,
+    pair: &mut TextTextPair<'a>,
+) -> u32
+    requires archive { IsTextTextArchive wide archive.now }
+    requires header { IsHeaderOf (text_texts_in wide archive.now) header.now }
+    ensures { NextTextText (text_texts_in wide archive.now) pair.old result pair.new }
+{
+    next_text_text(archive, wide, header, pair)
+}
+
+/// Stores the next pairs from the bucket `from` on, in bucket order, and returns their number.
+///
+/// If fewer pairs are stored than `pairs` has room for, no pair remains. Otherwise a next call goes
+/// on at the `next` of the last pair.
+///
+/// # Requires
+///
+/// - The archive is valid: `rkyv_c_open_texts_to_texts` returned 0.
+/// - `header` is its decoded header.
+#[unsafe(no_mangle)]
+pub extern "C" fn rkyv_c_next_text_texts<'a>(
+    archive: &'a [u8],
+    wide: bool,
+    header: &Decoded,
+    from: u64,
+    pairs: &mut [TextTextPair<'a>],
+) -> usize
+    requires archive { IsTextTextArchive wide archive.now }
+    requires header { IsHeaderOf (text_texts_in wide archive.now) header.now }
+    ensures { NextTextTexts (text_texts_in wide archive.now) from pairs.old result pairs.new }
+{
+    next_text_texts(archive, wide, header, from, pairs)
+}
+
+/// Writes the archive of the items, in insertion order, and stores its bytes in `built`.
+///
+/// The archive is a map under the load factor 7 / 8. Its bytes are a block of `rattle_alloc` or
+/// `rattle_realloc`, which the caller frees.
+///
+/// # Errors
+///
+/// - 12: an allocation fails.
+/// - 4: a key or a value isn't UTF-8.
+/// - 23 to 29: the error of the write, which is 27 if a text is too long.
+///
+/// After an error `built` is unchanged.
+#[unsafe(no_mangle)]
+pub extern "C" fn rkyv_c_build_texts_to_texts(
+    alloc: Global,
+    items: &[TextTextItem<'_>],
+    wide: bool,
+    built: &mut Built<'_>,
+) -> u32
+    ensures { HandsOut (IsArchiveOfTextTexts wide items.now)
+        (ArchiveOfTextTextsFails wide items.now) built.old result built.new }
+{
+    build_texts_to_texts(alloc, items, wide, built)
+}
