@@ -33,10 +33,10 @@ pub const WIDE_LONG: Form = Form {
 
 // The header of a narrow map of one pair in two buckets, after a zero of padding.
 // Control byte 0 is 32 bytes before it.
-const HEADER: [u8; 13] = [0, 0xe0, 0xff, 0xff, 0xff, 1, 0, 0, 0, 2, 0, 0, 0];
+pub(crate) const HEADER: [u8; 13] = [0, 0xe0, 0xff, 0xff, 0xff, 1, 0, 0, 0, 2, 0, 0, 0];
 
 // The header of a wide map, likewise.
-const WIDE_HEADER: [u8; 25] = [
+pub(crate) const WIDE_HEADER: [u8; 25] = [
     0, 0xe0, 0xff, 0xff, 0xff, 0xff, 0xff, 0xff, 0xff, 1, 0, 0, 0, 0, 0, 0, 0, 2, 0, 0, 0, 0, 0, 0,
     0,
 ];
@@ -59,6 +59,17 @@ pub fn one_long_number() -> [u8; 76] {
 /// Buckets from 0 on, controls from 32 on, header at 64.
 pub fn one_wide_long_number() -> [u8; 88] {
     archive(&LONG_BUCKETS, &WIDE_HEADER)
+}
+
+/// Returns the map of 4,294,967,297 to 2, with a key of 64 bits, and a value of 32 or of 64 bits.
+///
+/// Its hash is 789ecc4c27220a95, with the tag 3c. Buckets, controls and header are as above.
+pub fn one_great_number() -> [u8; 76] {
+    let mut bytes = one_long_number();
+    bytes[4] = 1;
+    bytes[33] = 0x3c;
+    bytes[35] = 0x3c;
+    bytes
 }
 
 /// Returns the map of the empty text to 7, with a value of 32 bits.

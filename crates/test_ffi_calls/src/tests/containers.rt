@@ -19,6 +19,11 @@ pub(crate) const TEXTS: [u8; 35] = [
     1, 2, 3,
 ];
 
+/// Returns the header of a container with three bytes.
+pub(crate) fn header_in(container: &[u8; 35]) -> &[u8] {
+    &container[..32]
+}
+
 // Returns the status of opening a container, and the length of the archive that is found.
 fn opened(bytes: &[u8], of_texts: bool, form: Form) -> (u32, usize) {
     let mut opened = Opened { archive: &[] };

@@ -1,0 +1,141 @@
+//! Tests of lookups in index maps of texts, and of their pairs by index.
+
+ghost use Rattle.std.specs.Prelude.{IsTrue};
+ghost use Rattle.ffi_calls.specs.IndexArchives.{IsTextIndex};
+
+use crate::tests::archives::{LONG, SHORT, WIDE, WIDE_LONG};
+use crate::tests::index_archives::{
+    NO_PAIRS, NO_WIDE_PAIRS, empty_text, empty_wide_text, one_symbol, two_texts,
+};
+use ffi_calls::form::Form;
+use ffi_calls::index::IndexedValue;
+use ffi_calls::index_texts::{
+    IndexTextPair, count_index_texts, get_index_text, index_text_at, index_texts_from,
+    open_index_texts,
+};
+use ffi_calls::status::DONE;
+
+// Returns whether the archive is valid in the form.
+fn is_map(archive: &[u8], form: Form) -> bool
+    ensures { IsTrue result → IsTextIndex form archive.now }
+{
+    if open_index_texts(archive, form) == DONE {
+        true
+    } else {
+        false
+    }
+}
+
+// Returns the number of pairs, and the status, the index and the value of a lookup.
+// It replaces the index 8 and the value 9.
+fn lookup(archive: &[u8], form: Form, key: &[u8]) -> Option<(usize, u32, usize, u64)> {
+    if !is_map(archive, form) {
+        return None;
+    }
+    let mut found = IndexedValue { index: 8, value: 9 };
+    let status = get_index_text(archive, form, key, &mut found);
+    let IndexedValue { index, value } = found;
+    Some((count_index_texts(archive, form), status, index, value))
+}
+
+// Returns the status of reading the pair at an index, if the pair is as wanted afterwards.
+// It has the key `?` and the value 9 at first.
+fn pair_at(archive: &[u8], form: Form, index: usize, key: &[u8], value: u64) -> Option<u32> {
+    if !is_map(archive, form) {
+        return None;
+    }
+    let mut pair = IndexTextPair {
+        value: 9,
+        key: b"?",
+    };
+    let status = index_text_at(archive, form, index, &mut pair);
+    if pair.key == key && pair.value == value {
+        Some(status)
+    } else {
+        None
+    }
+}
+
+// Returns how many pairs are stored over two, from an index on, if the first is as wanted
+// afterwards. Each has the key `?` and the value 9 at first.
+fn several(archive: &[u8], form: Form, from: usize, key: &[u8], value: u64) -> Option<usize> {
+    if !is_map(archive, form) {
+        return None;
+    }
+    let nine = IndexTextPair {
+        value: 9,
+        key: b"?",
+    };
+    let mut pairs = [nine; 2];
+    let count = index_texts_from(archive, form, from, &mut pairs);
+    if pairs[0].key == key && pairs[0].value == value {
+        Some(count)
+    } else {
+        None
+    }
+}
+
+#[test]
+fn lookups_find_the_text(rt: HostRuntime) {
+    assert_eq!(rt; lookup(&empty_text(), SHORT, b""), Some((1, 0, 0, 7)));
+    assert_eq!(rt; lookup(&one_symbol(), LONG, b"main"), Some((1, 0, 0, 4096)));
+    assert_eq!(rt; lookup(&empty_wide_text(), WIDE, b""), Some((1, 0, 0, 7)));
+    assert_eq!(rt;
+        lookup(&empty_wide_text(), WIDE_LONG, b""),
+        Some((1, 0, 0, 7))
+    );
+}
+
+#[test]
+fn lookups_find_texts_out_of_line(rt: HostRuntime) {
+    let bytes = two_texts();
+    assert_eq!(rt;
+        lookup(&bytes, SHORT, b"a text out of line"),
+        Some((2, 0, 0, 1))
+    );
+    assert_eq!(rt; lookup(&bytes, SHORT, b"b"), Some((2, 0, 1, 2)));
+    assert_eq!(rt; lookup(&bytes, SHORT, b"a text"), Some((2, 1, 8, 9)));
+}
+
+#[test]
+fn lookups_find_no_other_text(rt: HostRuntime) {
+    assert_eq!(rt; lookup(&empty_text(), SHORT, b"a"), Some((1, 1, 8, 9)));
+    assert_eq!(rt; lookup(&NO_PAIRS, LONG, b""), Some((0, 1, 8, 9)));
+    assert_eq!(rt; lookup(&NO_WIDE_PAIRS, WIDE, b"a"), Some((0, 1, 8, 9)));
+    assert_eq!(rt;
+        lookup(&empty_wide_text(), WIDE_LONG, &[0xc3]),
+        Some((1, 4, 8, 9))
+    );
+}
+
+#[test]
+fn pairs_are_in_insertion_order(rt: HostRuntime) {
+    let bytes = two_texts();
+    assert_eq!(rt;
+        pair_at(&bytes, SHORT, 0, b"a text out of line", 1),
+        Some(0)
+    );
+    assert_eq!(rt; pair_at(&bytes, SHORT, 1, b"b", 2), Some(0));
+    assert_eq!(rt; pair_at(&bytes, SHORT, 2, b"?", 9), Some(2));
+}
+
+#[test]
+fn pairs_are_read_in_each_form(rt: HostRuntime) {
+    assert_eq!(rt; pair_at(&one_symbol(), LONG, 0, b"main", 4096), Some(0));
+    assert_eq!(rt; pair_at(&empty_wide_text(), WIDE, 0, b"", 7), Some(0));
+    assert_eq!(rt; pair_at(&empty_wide_text(), WIDE_LONG, 0, b"", 7), Some(0));
+    assert_eq!(rt; pair_at(&NO_PAIRS, LONG, 0, b"?", 9), Some(2));
+}
+
+#[test]
+fn several_pairs_are_stored_at_once(rt: HostRuntime) {
+    let bytes = two_texts();
+    assert_eq!(rt;
+        several(&bytes, SHORT, 0, b"a text out of line", 1),
+        Some(2)
+    );
+    assert_eq!(rt; several(&bytes, SHORT, 1, b"b", 2), Some(1));
+    assert_eq!(rt; several(&one_symbol(), LONG, 1, b"?", 9), Some(0));
+    assert_eq!(rt; several(&empty_wide_text(), WIDE, 0, b"", 7), Some(1));
+    assert_eq!(rt; several(&empty_wide_text(), WIDE_LONG, 0, b"", 7), Some(1));
+}

@@ -1,0 +1,113 @@
+//! Tests of the validation of index maps: the statuses, and the numbers of the first error.
+
+use crate::tests::archives::{LONG, SHORT, WIDE, WIDE_LONG};
+use crate::tests::index_archives::{
+    NO_PAIRS, NO_WIDE_PAIRS, empty_text, one_number, one_wide_number, two_texts,
+};
+use ffi_calls::explanation::Explanation;
+use ffi_calls::form::Form;
+use ffi_calls::index_numbers::{explain_index_numbers, open_index_numbers};
+use ffi_calls::index_texts::{explain_index_texts, open_index_texts};
+
+// Returns the status, the position and the two numbers.
+fn numbers_of(explanation: Explanation) -> (u32, i64, u64, u64) {
+    let Explanation {
+        status,
+        position,
+        first,
+        second,
+    } = explanation;
+    (status, position, first, second)
+}
+
+// Returns the statuses of the bytes as an index map of numbers and as one of texts.
+fn opened(bytes: &[u8], form: Form) -> (u32, u32) {
+    (
+        open_index_numbers(bytes, form),
+        open_index_texts(bytes, form),
+    )
+}
+
+// Returns the error of the index map of 1 to 2 with another byte at `pos`.
+fn number_with(pos: usize, byte: u8) -> (u32, i64, u64, u64) {
+    let mut bytes = one_number();
+    match bytes.get_mut(pos) {
+        Some(old) => *old = byte,
+        None => {}
+    }
+    numbers_of(explain_index_numbers(&bytes, SHORT))
+}
+
+// Returns the error of the index map of two texts with another byte at `pos`.
+fn text_with(pos: usize, byte: u8) -> (u32, i64, u64, u64) {
+    let mut bytes = two_texts();
+    match bytes.get_mut(pos) {
+        Some(old) => *old = byte,
+        None => {}
+    }
+    numbers_of(explain_index_texts(&bytes, SHORT))
+}
+
+#[test]
+fn empty_maps_are_valid(rt: HostRuntime) {
+    assert_eq!(rt; opened(&NO_PAIRS, SHORT), (0, 0));
+    assert_eq!(rt; opened(&NO_PAIRS, LONG), (0, 0));
+    assert_eq!(rt; opened(&NO_WIDE_PAIRS, WIDE), (0, 0));
+    assert_eq!(rt; opened(&NO_WIDE_PAIRS, WIDE_LONG), (0, 0));
+}
+
+#[test]
+fn too_few_bytes_are_out_of_range(rt: HostRuntime) {
+    assert_eq!(rt; opened(&[], SHORT), (16, 16));
+    assert_eq!(rt; opened(&[0; 15], LONG), (16, 16));
+    assert_eq!(rt; opened(&NO_PAIRS, WIDE), (16, 16));
+    assert_eq!(rt; opened(&[0; 31], WIDE_LONG), (16, 16));
+    assert_eq!(rt;
+        numbers_of(explain_index_numbers(&[0; 15], SHORT)),
+        (16, -1, 16, 0)
+    );
+}
+
+#[test]
+fn valid_archives_have_no_error(rt: HostRuntime) {
+    assert_eq!(rt; number_with(0, 0), (0, 0, 0, 0));
+    assert_eq!(rt; text_with(0, 0), (0, 0, 0, 0));
+}
+
+#[test]
+fn tables_have_the_errors_of_tables(rt: HostRuntime) {
+    assert_eq!(rt; number_with(48, 0xd9), (17, 1, 4, 0));
+    assert_eq!(rt; number_with(52, 2), (18, 0, 2, 2));
+    assert_eq!(rt; number_with(9, 0xff), (19, 0, 1, 0));
+    assert_eq!(rt; number_with(11, 0x29), (20, 0, 3, 0));
+}
+
+#[test]
+fn indices_from_the_length_on_are_out_of_range(rt: HostRuntime) {
+    assert_eq!(rt; number_with(0, 1), (21, 0, 1, 1));
+    assert_eq!(rt; number_with(3, 1), (21, 0, 0x0100_0000, 1));
+    assert_eq!(rt; text_with(4, 2), (21, 0, 2, 2));
+}
+
+// The entries of one number have 8 bytes, and those of two texts 24.
+#[test]
+fn entries_have_a_position_and_a_size(rt: HostRuntime) {
+    assert_eq!(rt; number_with(60, 0), (16, -196, 8, 0));
+    assert_eq!(rt; number_with(60, 0xeb), (17, 39, 4, 0));
+    assert_eq!(rt; text_with(100, 0xc0), (16, 36, 24, 0));
+}
+
+#[test]
+fn keys_that_are_no_text_are_invalid_values(rt: HostRuntime) {
+    assert_eq!(rt; text_with(43, 0xc3), (22, 64, 0, 0));
+    assert_eq!(rt; text_with(76, 0xc3), (22, 76, 0, 0));
+}
+
+#[test]
+fn bytes_of_another_form_are_rejected(rt: HostRuntime) {
+    assert_eq!(rt; open_index_numbers(&one_wide_number(), WIDE), 0);
+    assert_eq!(rt; open_index_texts(&empty_text(), SHORT), 0);
+    assert!(rt; open_index_numbers(&one_number(), WIDE) != 0);
+    assert!(rt; open_index_numbers(&one_number(), LONG) != 0);
+    assert!(rt; open_index_texts(&empty_text(), LONG) != 0);
+}

@@ -1,0 +1,195 @@
+//! Tests of validation, lookups and walks of maps of texts to texts.
+
+ghost use Rattle.std.specs.Prelude.{IsTrue};
+ghost use Rattle.ffi_calls.specs.TextValues.{IsTextTextArchive};
+
+use crate::tests::text_archives::{empty_to_text, empty_to_wide_text};
+use ffi_calls::explanation::Explanation;
+use ffi_calls::status::DONE;
+use ffi_calls::text_values::TextValue;
+use ffi_calls::texts_to_texts::{
+    TextTextPair, decode_texts_to_texts, explain_texts_to_texts, get_text_of_text, next_text_text,
+    next_text_texts, open_texts_to_texts,
+};
+use test_support::archives::no_items;
+
+// Returns whether the archive is valid.
+fn is_map(archive: &[u8], wide: bool) -> bool
+    ensures { IsTrue result → IsTextTextArchive wide archive.now }
+{
+    if open_texts_to_texts(archive, wide) == DONE {
+        true
+    } else {
+        false
+    }
+}
+
+// Returns the number of pairs and the status of a lookup, if the value is `wanted` afterwards.
+// It is `?` at first.
+fn lookup(archive: &[u8], wide: bool, key: &[u8], wanted: &[u8]) -> Option<(usize, u32)> {
+    if !is_map(archive, wide) {
+        return None;
+    }
+    let header = decode_texts_to_texts(archive, wide);
+    let mut value = TextValue { text: b"?" };
+    let status = get_text_of_text(archive, wide, &header, key, &mut value);
+    if value.text == wanted {
+        Some((header.len(), status))
+    } else {
+        None
+    }
+}
+
+// Returns whether the pair has these parts.
+fn is_pair(pair: TextTextPair<'_>, next: u64, key: &[u8], value: &[u8]) -> bool {
+    pair.next == next && pair.key == key && pair.value == value
+}
+
+// Returns the status of a step from the given bucket on, if the pair is as wanted afterwards.
+// It is `!` to `?` at first.
+fn step(archive: &[u8], wide: bool, from: u64, next: u64, pair: [&[u8]; 2]) -> Option<u32> {
+    if !is_map(archive, wide) {
+        return None;
+    }
+    let header = decode_texts_to_texts(archive, wide);
+    let mut found = TextTextPair {
+        next: from,
+        key: b"!",
+        value: b"?",
+    };
+    let status = next_text_text(archive, wide, &header, &mut found);
+    if is_pair(found, next, pair[0], pair[1]) {
+        Some(status)
+    } else {
+        None
+    }
+}
+
+// Returns how many pairs are stored over two, from the given bucket on, if the first is as wanted
+// afterwards and the second is unchanged. Each is `!` to `?` at first.
+fn several(archive: &[u8], wide: bool, from: u64, next: u64, pair: [&[u8]; 2]) -> Option<usize> {
+    if !is_map(archive, wide) {
+        return None;
+    }
+    let header = decode_texts_to_texts(archive, wide);
+    let nine = TextTextPair {
+        next: 9,
+        key: b"!",
+        value: b"?",
+    };
+    let mut pairs = [nine; 2];
+    let count = next_text_texts(archive, wide, &header, from, &mut pairs);
+    if is_pair(pairs[0], next, pair[0], pair[1]) && is_pair(pairs[1], 9, b"!", b"?") {
+        Some(count)
+    } else {
+        None
+    }
+}
+
+// Returns the status of the map of the empty text with another byte at `pos`, and its explanation.
+fn status_with(pos: usize, byte: u8) -> (u32, (u32, i64, u64, u64)) {
+    let mut bytes = empty_to_text();
+    match bytes.get_mut(pos) {
+        Some(old) => *old = byte,
+        None => {}
+    }
+    let Explanation {
+        status,
+        position,
+        first,
+        second,
+    } = explain_texts_to_texts(&bytes, false);
+    (
+        open_texts_to_texts(&bytes, false),
+        (status, position, first, second),
+    )
+}
+
+#[test]
+fn lookups_find_the_text(rt: HostRuntime) {
+    assert_eq!(rt;
+        lookup(&empty_to_text(), false, b"", b"wonderful"),
+        Some((1, 0))
+    );
+    assert_eq!(rt;
+        lookup(&empty_to_wide_text(), true, b"", b"a text of 17 byte"),
+        Some((1, 0))
+    );
+}
+
+#[test]
+fn lookups_find_no_other_text(rt: HostRuntime) {
+    assert_eq!(rt; lookup(&empty_to_text(), false, b"a", b"?"), Some((1, 1)));
+    assert_eq!(rt;
+        lookup(&empty_to_text(), false, &[0xc3], b"?"),
+        Some((1, 4))
+    );
+    assert_eq!(rt;
+        lookup(&empty_to_wide_text(), true, b"wonderful", b"?"),
+        Some((1, 1))
+    );
+    assert_eq!(rt;
+        lookup(&empty_to_wide_text(), true, &[0x80], b"?"),
+        Some((1, 4))
+    );
+    assert_eq!(rt; lookup(&no_items(), false, b"", b"?"), Some((0, 1)));
+}
+
+#[test]
+fn steps_read_the_pair_and_end(rt: HostRuntime) {
+    let other: [&[u8]; 2] = [b"!", b"?"];
+    assert_eq!(rt;
+        step(&empty_to_text(), false, 0, 2, [b"", b"wonderful"]),
+        Some(0)
+    );
+    assert_eq!(rt; step(&empty_to_text(), false, 2, 2, other), Some(2));
+    assert_eq!(rt;
+        step(
+            &empty_to_wide_text(),
+            true,
+            1,
+            2,
+            [b"", b"a text of 17 byte"]
+        ),
+        Some(0)
+    );
+    assert_eq!(rt; step(&empty_to_wide_text(), true, 7, 7, other), Some(2));
+}
+
+#[test]
+fn several_pairs_are_stored_at_once(rt: HostRuntime) {
+    assert_eq!(rt;
+        several(&empty_to_text(), false, 0, 2, [b"", b"wonderful"]),
+        Some(1)
+    );
+    assert_eq!(rt;
+        several(
+            &empty_to_wide_text(),
+            true,
+            0,
+            2,
+            [b"", b"a text of 17 byte"]
+        ),
+        Some(1)
+    );
+    assert_eq!(rt;
+        several(&empty_to_wide_text(), true, 2, 9, [b"!", b"?"]),
+        Some(0)
+    );
+}
+
+#[test]
+fn damaged_archives_have_statuses(rt: HostRuntime) {
+    assert_eq!(rt; status_with(0, b'W'), (0, (0, 0, 0, 0)));
+    assert_eq!(rt; status_with(8, 0xc3), (22, (22, 20, 0, 0)));
+    assert_eq!(rt; status_with(12, 0xc3), (22, (22, 12, 0, 0)));
+    assert_eq!(rt; status_with(20, 0x88), (22, (22, 20, 0, 0)));
+    assert_eq!(rt; status_with(24, 0xf0), (16, (16, 4, 9, 0)));
+    assert_eq!(rt; status_with(45, 0xff), (19, (19, 0, 1, 0)));
+}
+
+#[test]
+fn archives_of_another_width_are_rejected(rt: HostRuntime) {
+    assert!(rt; is_map(&no_items(), false) && !is_map(&no_items(), true));
+    assert!(rt; !is_map(&empty_to_text(), true) && !is_map(&empty_to_wide_text(), false));
+}
