@@ -1,8 +1,9 @@
-/* An example of the builder of rkyv.h: builds the archive of a map.
+/* An example of the calls of rkyv.h that build: builds the archive of a map or a set.
  *
  *     build KIND WIDTH FILE [container] < PAIRS
  *
- * KIND is the number of a `rkyv_kind`. A pair is a line `VALUE KEY`. The file has the archive, or
+ * KIND is the number of a `rkyv_kind`. A pair is a line `VALUE KEY`, without spaces in the value. An
+ * item of a set is a line with a space in front. The file has the archive, or
  * its container with a checksum. The last status is printed. The file is written only if it is
  * RKYV_OK. If it can't be written, the program exits with 1. */
 #include "rkyv.h"
@@ -10,6 +11,16 @@
 #include <stdio.h>
 #include <stdlib.h>
 #include <string.h>
+
+/* The greatest number of items of a set, and of pairs of maps that a builder doesn't build. */
+#define ROOM 2048
+
+static char line[1 << 16];
+
+static int is_of_texts(uint32_t kind) {
+    return kind == RKYV_TEXT_TO_U32 || kind == RKYV_TEXT_TO_U64 || kind == RKYV_INDEX_TEXT_TO_U32
+        || kind == RKYV_INDEX_TEXT_TO_U64;
+}
 
 /* Appends the pair of a line. */
 static rkyv_status put(rkyv_builder *builder, int of_texts, char *line) {
@@ -30,8 +41,74 @@ static int written(const char *path, const uint8_t *header, size_t header_length
     return file != NULL && fclose(file) == 0 && count == header_length + length;
 }
 
+/* Builds the archive of the pairs of all lines by a builder. */
+static rkyv_status build(uint32_t kind, uint32_t width, uint8_t **bytes, size_t *length) {
+    rkyv_builder *builder;
+    rkyv_status status = rkyv_builder_new(kind, width, &builder);
+    while (status == RKYV_OK && fgets(line, sizeof line, stdin) != NULL) {
+        status = put(builder, is_of_texts(kind), line);
+    }
+    if (status == RKYV_OK) {
+        status = rkyv_builder_finish(builder, bytes, length);
+    }
+    rkyv_builder_free(builder);
+    return status;
+}
+
+/* Builds the archive of the pairs of all lines, or of a set, by one call. */
+static rkyv_status build_at_once(uint32_t kind, uint32_t width, uint8_t **bytes, size_t *length) {
+    static rkyv_text_text_item texts[ROOM];
+    static rkyv_number_text_item numbers[ROOM];
+    static rkyv_set_text set_texts[ROOM];
+    static uint32_t set_numbers[ROOM];
+    static rkyv_long_number_item long_numbers[ROOM];
+    static char *lines[ROOM];
+    size_t count = 0;
+    while (count < ROOM && fgets(line, sizeof line, stdin) != NULL) {
+        char *value = (char *)malloc(strlen(line) + 1);
+        if (value == NULL) {
+            break;
+        }
+        lines[count] = strcpy(value, line);
+        size_t value_length = strcspn(value, " ");
+        const char *key = value + value_length + 1;
+        const rkyv_text_text_item text = {key, strcspn(key, "\n"), value, value_length};
+        const rkyv_number_text_item number = {value, value_length,
+                                              (uint32_t)strtoul(key, NULL, 10)};
+        const rkyv_set_text set_text = {text.key, text.key_length};
+        const rkyv_long_number_item long_number = {strtoull(value, NULL, 10),
+                                                   strtoull(key, NULL, 10)};
+        texts[count] = text;
+        long_numbers[count] = long_number;
+        set_texts[count] = set_text;
+        set_numbers[count] = number.key;
+        numbers[count++] = number;
+    }
+    rkyv_status status;
+    switch (kind) {
+    case RKYV_NUMBER_TO_TEXT:
+        status = rkyv_build_number_texts(numbers, count, width, bytes, length);
+        break;
+    case RKYV_TEXT_TO_TEXT:
+        status = rkyv_build_text_texts(texts, count, width, bytes, length);
+        break;
+    case RKYV_LONG_NUMBER_TO_U32:
+    case RKYV_LONG_NUMBER_TO_U64:
+        status = rkyv_build_long_numbers(long_numbers, count, kind, width, bytes, length);
+        break;
+    case RKYV_SET_OF_NUMBERS:
+        status = rkyv_build_number_set(set_numbers, count, width, bytes, length);
+        break;
+    default:
+        status = rkyv_build_text_set(set_texts, count, width, bytes, length);
+    }
+    while (count > 0) {
+        free(lines[--count]);
+    }
+    return status;
+}
+
 int main(int count, char **words) {
-    static char line[1 << 16];
     int in_container = count == 5 && strcmp(words[4], "container") == 0;
     if (count != 4 && !in_container) {
         fprintf(stderr, "build KIND WIDTH FILE [container] < PAIRS\n");
@@ -41,15 +118,8 @@ int main(int count, char **words) {
     uint32_t width = (uint32_t)strtoul(words[2], NULL, 10);
     uint8_t header[RKYV_CONTAINER_HEADER] = {0}, *bytes = NULL;
     size_t length = 0;
-    rkyv_builder *builder;
-    rkyv_status status = rkyv_builder_new(kind, width, &builder);
-    while (status == RKYV_OK && fgets(line, sizeof line, stdin) != NULL) {
-        status = put(builder, kind == RKYV_TEXT_TO_U32 || kind == RKYV_TEXT_TO_U64, line);
-    }
-    if (status == RKYV_OK) {
-        status = rkyv_builder_finish(builder, &bytes, &length);
-    }
-    rkyv_builder_free(builder);
+    rkyv_status status = kind >= RKYV_NUMBER_TO_TEXT ? build_at_once(kind, width, &bytes, &length)
+                                                     : build(kind, width, &bytes, &length);
     if (status == RKYV_OK && in_container) {
         status = rkyv_container_header(bytes, length, kind, width, true, header);
     }

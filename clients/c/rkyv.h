@@ -1,15 +1,18 @@
 /*
- * Hash maps in rkyv's archived byte format.
+ * Hash maps, hash sets and index maps in rkyv's archived byte format. An index map keeps its pairs in
+ * the order in which they were added, and is looked up by key or by index.
  *
- * A map has the keys and values of a `rkyv_kind`. Its archive has a width: 32 or 64, the number of
+ * A map has the keys and values of a `rkyv_kind`, and a set its items. Sets are opened as maps are,
+ * and what is said of a map applies to a set too. Its archive has a width: 32 or 64, the number of
  * bits of its positions. The bytes of an archive record neither: open an archive with the kind and
  * the width that it was built with. An archive of one kind may be valid as another, and then has
  * meaningless pairs. A container records both: it is a header of 32 bytes with the archive behind
  * it. A container of one kind is never opened as another.
  *
  * `rkyv_map_open` and `rkyv_map_open_container` validate untrusted bytes once and fill a handle.
- * The other calls of a map take the handle. A builder collects pairs and builds the archive of
- * their map.
+ * The other calls of a map take the handle. `rkyv_index_open` and `rkyv_index_open_container` do
+ * the same for index maps. A builder collects pairs and builds the archive of their map, of any
+ * kind.
  *
  * A call returns RKYV_OK or the first of the errors listed at it. After an error its outputs are
  * unchanged, unless its comment says otherwise. The calls keep no state. Two threads may use two
@@ -46,11 +49,11 @@ typedef enum rkyv_status {
 
     /* The lookup does not find the key. */
     RKYV_NOT_FOUND = 1,
-    /* No pair remains. */
+    /* No pair remains, or none has the index. */
     RKYV_END = 2,
     /* The value has more than 32 bits, but the values of the map have 32. */
     RKYV_VALUE_TOO_LARGE = 3,
-    /* The bytes of the key are not UTF-8. */
+    /* The bytes of the key, or of a text that is to be archived, are not UTF-8. */
     RKYV_NOT_TEXT = 4,
     /* A pointer is null. */
     RKYV_NULL = 5,
@@ -60,7 +63,8 @@ typedef enum rkyv_status {
     RKYV_UNKNOWN_KIND = 7,
     /* The width is neither 32 nor 64. */
     RKYV_UNKNOWN_WIDTH = 8,
-    /* The call is for number keys and the map has text keys, or the reverse. */
+    /* The call is for another collection, or for keys or values of another type, than those of the map
+     * or of the kind. */
     RKYV_WRONG_KIND = 9,
     /* The handle is not of an open map. */
     RKYV_CLOSED = 10,
@@ -83,9 +87,9 @@ typedef enum rkyv_status {
     RKYV_WRONG_NUMBER_OF_ELEMENTS = 19,
     /* A mirrored control byte differs from the one that it mirrors. */
     RKYV_UNWRAPPED_CONTROL_BYTE = 20,
-    /* An index of an index map is not less than its length. No call here returns it. */
+    /* An index in the table of an index map is not less than the number of pairs. */
     RKYV_PLACE_OUT_OF_RANGE = 21,
-    /* A text key is not UTF-8, or its length is malformed. */
+    /* A text is not UTF-8, or its length is malformed. */
     RKYV_INVALID_VALUE = 22,
     /* The type has no valid values. No call here returns it. */
     RKYV_REFUSED = 23,
@@ -98,7 +102,7 @@ typedef enum rkyv_status {
     RKYV_POSITION_TOO_LARGE = 25,
     /* A distance between two parts of the archive does not fit the width. */
     RKYV_DISTANCE_TOO_LARGE = 26,
-    /* A text key reaches the width's limit: 1073741824 bytes, or 4611686018427387904. */
+    /* A text reaches the width's limit: 1073741824 bytes, or 4611686018427387904. */
     RKYV_TEXT_TOO_LONG = 27,
     /* The load factor is invalid. No call here returns it. */
     RKYV_INVALID_LOAD_FACTOR = 28,
@@ -127,7 +131,7 @@ typedef enum rkyv_status {
     RKYV_CONTAINER_UNEXPECTED_CHECKSUM = 40,
     /* The last four bytes of the header are not 0. */
     RKYV_CONTAINER_NONZERO_RESERVED = 41,
-    /* The container has another kind of collection than a hash map. */
+    /* The container has another kind of collection. */
     RKYV_CONTAINER_WRONG_COLLECTION = 42,
     /* The keys in the container are of another type. */
     RKYV_CONTAINER_WRONG_KEY_TYPE = 43,
@@ -141,12 +145,24 @@ typedef enum rkyv_status {
     RKYV_CONTAINER_WRONG_CHECKSUM = 47
 } rkyv_status;
 
-/* The types of the keys and values of a map: a number key has 32 bits, a text key is UTF-8. */
+/* The types of the keys and values of a map, or of the items of a set, which is a map of its items to
+ * nothing. A number key and a number of a set have 32 bits, those of the kinds with LONG 64. A text is
+ * UTF-8. The kinds with INDEX are of index maps, and the others of hash maps and sets. */
 typedef enum rkyv_kind {
     RKYV_NUMBER_TO_U32 = 1,
     RKYV_NUMBER_TO_U64 = 2,
     RKYV_TEXT_TO_U32 = 3,
-    RKYV_TEXT_TO_U64 = 4
+    RKYV_TEXT_TO_U64 = 4,
+    RKYV_INDEX_NUMBER_TO_U32 = 5,
+    RKYV_INDEX_NUMBER_TO_U64 = 6,
+    RKYV_INDEX_TEXT_TO_U32 = 7,
+    RKYV_INDEX_TEXT_TO_U64 = 8,
+    RKYV_NUMBER_TO_TEXT = 9,
+    RKYV_TEXT_TO_TEXT = 10,
+    RKYV_SET_OF_NUMBERS = 11,
+    RKYV_SET_OF_TEXTS = 12,
+    RKYV_LONG_NUMBER_TO_U32 = 13,
+    RKYV_LONG_NUMBER_TO_U64 = 14
 } rkyv_kind;
 
 /* The decoded header of a map's table. Its members are private. */
@@ -175,6 +191,13 @@ typedef struct rkyv_number_pair {
     uint32_t key;
 } rkyv_number_pair;
 
+/* A pair of a map with number keys of 64 bits. `next` is the bucket at which the iteration continues. */
+typedef struct rkyv_long_number_pair {
+    uint64_t next;
+    uint64_t value;
+    uint64_t key;
+} rkyv_long_number_pair;
+
 /* A pair of a map with text keys. `next` is the bucket at which the iteration continues. The key is
  * `key_length` bytes of the archive. It is not terminated by a zero byte, and may contain one. */
 typedef struct rkyv_text_pair {
@@ -184,6 +207,40 @@ typedef struct rkyv_text_pair {
     size_t key_length;
 } rkyv_text_pair;
 
+/* A pair of a map of numbers to texts. `next` is the bucket at which the iteration continues. The
+ * value is `value_length` bytes of the archive. It is not terminated by a zero byte, and may contain
+ * one. */
+typedef struct rkyv_number_text_pair {
+    uint64_t next;
+    const char *value;
+    size_t value_length;
+    uint32_t key;
+} rkyv_number_text_pair;
+
+/* A pair of a map of texts to texts, as `rkyv_number_text_pair`: the key is `key_length` bytes of the
+ * archive. */
+typedef struct rkyv_text_text_pair {
+    uint64_t next;
+    const char *key;
+    size_t key_length;
+    const char *value;
+    size_t value_length;
+} rkyv_text_text_pair;
+
+/* An item of a set of numbers. `next` is the bucket at which the iteration continues. */
+typedef struct rkyv_number_member {
+    uint64_t next;
+    uint32_t item;
+} rkyv_number_member;
+
+/* An item of a set of texts. `next` is the bucket at which the iteration continues. The item is
+ * `item_length` bytes of the archive. It is not terminated by a zero byte, and may contain one. */
+typedef struct rkyv_text_member {
+    uint64_t next;
+    const char *item;
+    size_t item_length;
+} rkyv_text_member;
+
 /* An error of opening, with its numbers. A number that the error does not have is 0.
  *
  *   RKYV_OUT_OF_RANGE                position and size in bytes of a part of the map
@@ -191,7 +248,8 @@ typedef struct rkyv_text_pair {
  *   RKYV_INVALID_LENGTH              number of pairs, number of buckets
  *   RKYV_WRONG_NUMBER_OF_ELEMENTS    number of pairs, number of full buckets
  *   RKYV_UNWRAPPED_CONTROL_BYTE      index of a control byte
- *   RKYV_INVALID_VALUE               position of a key
+ *   RKYV_PLACE_OUT_OF_RANGE          index in the table of an index map, number of pairs
+ *   RKYV_INVALID_VALUE               position of a text
  *
  * RKYV_CONTAINER_TOO_SHORT has the number of bytes, and RKYV_CONTAINER_WRONG_MAGIC no number. From
  * RKYV_CONTAINER_UNSUPPORTED_VERSION to RKYV_CONTAINER_NONZERO_RESERVED it is the number in the
@@ -211,7 +269,8 @@ typedef struct rkyv_error {
 const char *rkyv_status_name(uint32_t status);
 
 /* Stores the error of validation with which `rkyv_map_open` fails on these bytes, and its numbers.
- * Its status is RKYV_OK if it does not fail. `bytes` may be null if `length` is 0.
+ * For a kind of index maps, it is the error of `rkyv_index_open`. Its status is RKYV_OK if the call
+ * does not fail. `bytes` may be null if `length` is 0.
  *
  * Errors:
  *   - RKYV_NULL: `error` is null;
@@ -221,17 +280,18 @@ const char *rkyv_status_name(uint32_t status);
 rkyv_status rkyv_map_explain(const void *bytes, size_t length, uint32_t kind, uint32_t width,
                              rkyv_error *error);
 
-/* Stores the error of the container or of validation with which `rkyv_map_open_container` fails on
- * these bytes, as `rkyv_map_explain` does. `width` is 32, 64 or RKYV_ANY_WIDTH. */
+/* Stores the error of the container or of validation with which `rkyv_map_open_container` or
+ * `rkyv_index_open_container` fails on these bytes, as `rkyv_map_explain` does. `width` is 32, 64
+ * or RKYV_ANY_WIDTH. */
 rkyv_status rkyv_container_explain(const void *bytes, size_t length, uint32_t kind, uint32_t width,
                                    rkyv_error *error);
 
-/* Validates the bytes and opens the map whose archive they are, to read. `kind` is a `rkyv_kind`,
- * `width` is 32 or 64. `bytes` may be null if `length` is 0.
+/* Validates the bytes and opens the map whose archive they are, to read. `kind` is a `rkyv_kind` of
+ * hash maps, `width` is 32 or 64. `bytes` may be null if `length` is 0.
  *
  * Errors, after which the handle is not of an open map:
  *   - RKYV_NULL: `map` is null;
- *   - RKYV_UNKNOWN_KIND, RKYV_UNKNOWN_WIDTH;
+ *   - RKYV_UNKNOWN_KIND, RKYV_UNKNOWN_WIDTH, RKYV_WRONG_KIND;
  *   - RKYV_NULL: `bytes` is null;
  *   - RKYV_TOO_LONG;
  *   - the first error of validation: RKYV_OUT_OF_RANGE to RKYV_INVALID_VALUE. */
@@ -257,7 +317,7 @@ rkyv_status rkyv_map_open_writable(void *bytes, size_t length, uint32_t kind, ui
  *
  * Errors, after which the handle is not of an open map:
  *   - RKYV_NULL: `map` is null;
- *   - RKYV_UNKNOWN_KIND, RKYV_UNKNOWN_WIDTH;
+ *   - RKYV_UNKNOWN_KIND, RKYV_UNKNOWN_WIDTH, RKYV_WRONG_KIND;
  *   - RKYV_NULL: `bytes` is null;
  *   - RKYV_TOO_LONG;
  *   - the first error of the container: RKYV_CONTAINER_TOO_SHORT to RKYV_CONTAINER_WRONG_CHECKSUM;
@@ -278,7 +338,8 @@ rkyv_status rkyv_map_open_container_writable(void *bytes, size_t length, uint32_
  *   - RKYV_NULL: `width` is null. */
 rkyv_status rkyv_map_width(const rkyv_map *map, uint32_t *width);
 
-/* Stores the number of pairs. Pairs with equal keys count separately.
+/* Stores the number of pairs, or of items. Pairs with equal keys count separately, and so do equal
+ * items.
  *
  * Errors:
  *   - RKYV_NULL: `map` is null;
@@ -296,6 +357,9 @@ rkyv_status rkyv_map_count(const rkyv_map *map, size_t *count);
  *   - RKYV_NOT_FOUND. */
 rkyv_status rkyv_map_get_number(const rkyv_map *map, uint32_t key, uint64_t *value);
 
+/* Stores the value of a number key of 64 bits, as `rkyv_map_get_number` does. */
+rkyv_status rkyv_map_get_long_number(const rkyv_map *map, uint64_t key, uint64_t *value);
+
 /* Stores the value of a text key of `length` bytes, as `rkyv_map_get_number` does. `key` may be
  * null if `length` is 0.
  *
@@ -309,12 +373,58 @@ rkyv_status rkyv_map_get_number(const rkyv_map *map, uint32_t key, uint64_t *val
 rkyv_status rkyv_map_get_text(const rkyv_map *map, const char *key, size_t length,
                               uint64_t *value);
 
+/* Stores the value of a number key that is a text: the address of its first byte and its number of
+ * bytes. They are bytes of the archive. They are not terminated by a zero byte, and may contain one.
+ * In a map that `rkyv_build_number_texts` has built, it is the value of the first pair with the key.
+ *
+ * Errors:
+ *   - RKYV_NULL: `map` is null;
+ *   - RKYV_CLOSED, RKYV_WRONG_KIND;
+ *   - RKYV_NULL: `value` or `value_length` is null;
+ *   - RKYV_NOT_FOUND. */
+rkyv_status rkyv_map_get_text_of_number(const rkyv_map *map, uint32_t key, const char **value,
+                                        size_t *value_length);
+
+/* Stores the value of a text key of `length` bytes, as `rkyv_map_get_text_of_number` does. `key` may
+ * be null if `length` is 0.
+ *
+ * Errors:
+ *   - RKYV_NULL: `map` is null;
+ *   - RKYV_CLOSED, RKYV_WRONG_KIND;
+ *   - RKYV_NULL: `key` is null;
+ *   - RKYV_TOO_LONG;
+ *   - RKYV_NULL: `value` or `value_length` is null;
+ *   - RKYV_NOT_TEXT, RKYV_NOT_FOUND. */
+rkyv_status rkyv_map_get_text_of_text(const rkyv_map *map, const char *key, size_t length,
+                                      const char **value, size_t *value_length);
+
+/* Looks up a number in a set of numbers, and returns RKYV_OK if it is found. In a set that
+ * `rkyv_build_number_set` has built, each of its items is found, and nothing else.
+ *
+ * Errors:
+ *   - RKYV_NULL: `set` is null;
+ *   - RKYV_CLOSED, RKYV_WRONG_KIND, RKYV_NOT_FOUND. */
+rkyv_status rkyv_set_contains_number(const rkyv_map *set, uint32_t item);
+
+/* Looks up a text of `length` bytes in a set of texts, as `rkyv_set_contains_number` does. `item` may
+ * be null if `length` is 0.
+ *
+ * Errors:
+ *   - RKYV_NULL: `set` is null;
+ *   - RKYV_CLOSED, RKYV_WRONG_KIND;
+ *   - RKYV_NULL: `item` is null;
+ *   - RKYV_TOO_LONG, RKYV_NOT_TEXT, RKYV_NOT_FOUND. */
+rkyv_status rkyv_set_contains_text(const rkyv_map *set, const char *item, size_t length);
+
 /* Writes the value of a number key in place: the value that `rkyv_map_get_number` finds.
  *
  * Errors, after which no byte is changed:
  *   - RKYV_NULL: `map` is null;
  *   - RKYV_CLOSED, RKYV_WRONG_KIND, RKYV_READ_ONLY, RKYV_VALUE_TOO_LARGE, RKYV_NOT_FOUND. */
 rkyv_status rkyv_map_set_number(const rkyv_map *map, uint32_t key, uint64_t value);
+
+/* Writes the value of a number key of 64 bits in place, as `rkyv_map_set_number` does. */
+rkyv_status rkyv_map_set_long_number(const rkyv_map *map, uint64_t key, uint64_t value);
 
 /* Writes the value of a text key of `length` bytes in place: the value that `rkyv_map_get_text`
  * finds. `key` may be null if `length` is 0.
@@ -337,6 +447,9 @@ rkyv_status rkyv_map_set_text(const rkyv_map *map, const char *key, size_t lengt
  *   - RKYV_END. */
 rkyv_status rkyv_map_next_number(const rkyv_map *map, rkyv_number_pair *pair);
 
+/* Stores the next pair of a map with number keys of 64 bits, as `rkyv_map_next_number` does. */
+rkyv_status rkyv_map_next_long_number(const rkyv_map *map, rkyv_long_number_pair *pair);
+
 /* Stores the next pair of a map with text keys, as `rkyv_map_next_number` does. */
 rkyv_status rkyv_map_next_text(const rkyv_map *map, rkyv_text_pair *pair);
 
@@ -353,19 +466,167 @@ rkyv_status rkyv_map_next_text(const rkyv_map *map, rkyv_text_pair *pair);
 rkyv_status rkyv_map_next_numbers(const rkyv_map *map, uint64_t from, rkyv_number_pair *pairs,
                                   size_t room, size_t *count);
 
+/* Stores the next pairs of a map with number keys of 64 bits, as `rkyv_map_next_numbers` does. */
+rkyv_status rkyv_map_next_long_numbers(const rkyv_map *map, uint64_t from,
+                                       rkyv_long_number_pair *pairs, size_t room, size_t *count);
+
 /* Stores the next pairs of a map with text keys, as `rkyv_map_next_numbers` does. */
 rkyv_status rkyv_map_next_texts(const rkyv_map *map, uint64_t from, rkyv_text_pair *pairs,
                                 size_t room, size_t *count);
 
+/* Stores the next pair of a map of numbers to texts, as `rkyv_map_next_number` does. */
+rkyv_status rkyv_map_next_number_text(const rkyv_map *map, rkyv_number_text_pair *pair);
+
+/* Stores the next pair of a map of texts to texts, as `rkyv_map_next_number` does. */
+rkyv_status rkyv_map_next_text_text(const rkyv_map *map, rkyv_text_text_pair *pair);
+
+/* Stores the next pairs of a map of numbers to texts, as `rkyv_map_next_numbers` does. */
+rkyv_status rkyv_map_next_number_texts(const rkyv_map *map, uint64_t from,
+                                       rkyv_number_text_pair *pairs, size_t room, size_t *count);
+
+/* Stores the next pairs of a map of texts to texts, as `rkyv_map_next_numbers` does. */
+rkyv_status rkyv_map_next_text_texts(const rkyv_map *map, uint64_t from,
+                                     rkyv_text_text_pair *pairs, size_t room, size_t *count);
+
+/* Stores the next item of a set of numbers, as `rkyv_map_next_number` does with pairs. */
+rkyv_status rkyv_set_next_number(const rkyv_map *set, rkyv_number_member *member);
+
+/* Stores the next item of a set of texts, as `rkyv_map_next_number` does with pairs. */
+rkyv_status rkyv_set_next_text(const rkyv_map *set, rkyv_text_member *member);
+
+/* Stores the next items of a set of numbers, as `rkyv_map_next_numbers` does with pairs. */
+rkyv_status rkyv_set_next_numbers(const rkyv_map *set, uint64_t from, rkyv_number_member *members,
+                                  size_t room, size_t *count);
+
+/* Stores the next items of a set of texts, as `rkyv_map_next_numbers` does with pairs. */
+rkyv_status rkyv_set_next_texts(const rkyv_map *set, uint64_t from, rkyv_text_member *members,
+                                size_t room, size_t *count);
+
+/* A handle of an open index map. Its members are private. It may be copied, and needs no
+ * closing. */
+typedef struct rkyv_index_map {
+    const uint8_t *bytes;
+    size_t length;
+    size_t count;
+    uint32_t kind;
+    uint32_t width;
+} rkyv_index_map;
+
+/* A pair of an index map with number keys. */
+typedef struct rkyv_index_number_pair {
+    uint64_t value;
+    uint32_t key;
+} rkyv_index_number_pair;
+
+/* A pair of an index map with text keys. The key is `key_length` bytes of the archive. It is not
+ * terminated by a zero byte, and may contain one. */
+typedef struct rkyv_index_text_pair {
+    uint64_t value;
+    const char *key;
+    size_t key_length;
+} rkyv_index_text_pair;
+
+/* Validates the bytes and opens the index map whose archive they are, to read. `kind` is a
+ * `rkyv_kind` of index maps, `width` is 32 or 64. `bytes` may be null if `length` is 0.
+ *
+ * Errors, after which the handle is not of an open map:
+ *   - RKYV_NULL: `map` is null;
+ *   - RKYV_UNKNOWN_KIND, RKYV_UNKNOWN_WIDTH, RKYV_WRONG_KIND;
+ *   - RKYV_NULL: `bytes` is null;
+ *   - RKYV_TOO_LONG;
+ *   - the first error of validation: RKYV_OUT_OF_RANGE to RKYV_INVALID_VALUE. */
+rkyv_status rkyv_index_open(const void *bytes, size_t length, uint32_t kind, uint32_t width,
+                            rkyv_index_map *map);
+
+/* Opens the index map in a container, as `rkyv_map_open_container` does for hash maps.
+ *
+ * Errors, after which the handle is not of an open map:
+ *   - RKYV_NULL: `map` is null;
+ *   - RKYV_UNKNOWN_KIND, RKYV_UNKNOWN_WIDTH, RKYV_WRONG_KIND;
+ *   - RKYV_NULL: `bytes` is null;
+ *   - RKYV_TOO_LONG;
+ *   - the first error of the container: RKYV_CONTAINER_TOO_SHORT to RKYV_CONTAINER_WRONG_CHECKSUM;
+ *   - the first error of validation: RKYV_OUT_OF_RANGE to RKYV_INVALID_VALUE. */
+rkyv_status rkyv_index_open_container(const void *bytes, size_t length, uint32_t kind,
+                                      uint32_t width, rkyv_index_map *map);
+
+/* Stores the width of the index map's archive: 32 or 64.
+ *
+ * Errors:
+ *   - RKYV_NULL: `map` is null;
+ *   - RKYV_CLOSED;
+ *   - RKYV_NULL: `width` is null. */
+rkyv_status rkyv_index_width(const rkyv_index_map *map, uint32_t *width);
+
+/* Stores the number of pairs. Pairs with equal keys count separately.
+ *
+ * Errors:
+ *   - RKYV_NULL: `map` is null;
+ *   - RKYV_CLOSED;
+ *   - RKYV_NULL: `count` is null. */
+rkyv_status rkyv_index_count(const rkyv_index_map *map, size_t *count);
+
+/* Stores the index of a number key and its value. In a map that a builder has built, these are of
+ * the first pair with the key. `index` is not stored if it is null, and neither is `value`.
+ *
+ * Errors:
+ *   - RKYV_NULL: `map` is null;
+ *   - RKYV_CLOSED, RKYV_WRONG_KIND, RKYV_NOT_FOUND. */
+rkyv_status rkyv_index_get_number(const rkyv_index_map *map, uint32_t key, size_t *index,
+                                  uint64_t *value);
+
+/* Stores the index of a text key of `length` bytes and its value, as `rkyv_index_get_number` does.
+ * `key` may be null if `length` is 0.
+ *
+ * Errors:
+ *   - RKYV_NULL: `map` is null;
+ *   - RKYV_CLOSED, RKYV_WRONG_KIND;
+ *   - RKYV_NULL: `key` is null;
+ *   - RKYV_TOO_LONG, RKYV_NOT_TEXT, RKYV_NOT_FOUND. */
+rkyv_status rkyv_index_get_text(const rkyv_index_map *map, const char *key, size_t length,
+                                size_t *index, uint64_t *value);
+
+/* Stores the pair at an index of a map with number keys. Indices count from 0, in the order in
+ * which the pairs were added.
+ *
+ * Errors:
+ *   - RKYV_NULL: `map` is null;
+ *   - RKYV_CLOSED, RKYV_WRONG_KIND;
+ *   - RKYV_NULL: `pair` is null;
+ *   - RKYV_END: the index is not less than the number of pairs. */
+rkyv_status rkyv_index_number_at(const rkyv_index_map *map, size_t index,
+                                 rkyv_index_number_pair *pair);
+
+/* Stores the pair at an index of a map with text keys, as `rkyv_index_number_at` does. */
+rkyv_status rkyv_index_text_at(const rkyv_index_map *map, size_t index,
+                               rkyv_index_text_pair *pair);
+
+/* Stores the pairs from the index `from` on of a map with number keys, over the `room` pairs at
+ * `pairs`, and their number in `count`: one call in the place of many. If fewer than `room` pairs
+ * are stored, none remains. The others of the `room` pairs have no meaning then. `pairs` may be null
+ * if `room` is 0.
+ *
+ * Errors, after which no pair is stored:
+ *   - RKYV_NULL: `map` is null;
+ *   - RKYV_CLOSED, RKYV_WRONG_KIND;
+ *   - RKYV_NULL: `count` or `pairs` is null;
+ *   - RKYV_TOO_LONG: the pairs have more than PTRDIFF_MAX bytes. */
+rkyv_status rkyv_index_numbers_from(const rkyv_index_map *map, size_t from,
+                                    rkyv_index_number_pair *pairs, size_t room, size_t *count);
+
+/* Stores the pairs from an index on of a map with text keys, as `rkyv_index_numbers_from` does. */
+rkyv_status rkyv_index_texts_from(const rkyv_index_map *map, size_t from,
+                                  rkyv_index_text_pair *pairs, size_t room, size_t *count);
+
 /* The pairs of a map that is to be archived. */
 typedef struct rkyv_builder rkyv_builder;
 
-/* Allocates a builder without pairs. `kind` is a `rkyv_kind`, `width` is 32 or 64. The caller frees
- * the builder with `rkyv_builder_free`.
+/* Allocates a builder without pairs. `kind` is a `rkyv_kind` with values that are numbers, `width` is
+ * 32 or 64. The caller frees the builder with `rkyv_builder_free`.
  *
  * Errors, after which `*builder` is null:
  *   - RKYV_NULL: `builder` is null;
- *   - RKYV_UNKNOWN_KIND, RKYV_UNKNOWN_WIDTH, RKYV_NO_MEMORY. */
+ *   - RKYV_UNKNOWN_KIND, RKYV_UNKNOWN_WIDTH, RKYV_WRONG_KIND, RKYV_NO_MEMORY. */
 rkyv_status rkyv_builder_new(uint32_t kind, uint32_t width, rkyv_builder **builder);
 
 /* Appends a pair with a number key. If an earlier pair has the same key, lookups find the earlier
@@ -387,8 +648,9 @@ rkyv_status rkyv_builder_put_number(rkyv_builder *builder, uint32_t key, uint64_
 rkyv_status rkyv_builder_put_text(rkyv_builder *builder, const char *key, size_t length,
                                   uint64_t value);
 
-/* Allocates the archive of the pairs. The caller frees it with `rkyv_bytes_free`. The builder keeps
- * its pairs and takes further ones.
+/* Allocates the archive of the pairs. In an index map, they are in the order in which they were
+ * added. The caller frees it with `rkyv_bytes_free`. The builder keeps its pairs and takes further
+ * ones.
  *
  * Errors:
  *   - RKYV_NULL: a pointer is null;
@@ -401,6 +663,12 @@ typedef struct rkyv_number_item {
     uint64_t value;
     uint32_t key;
 } rkyv_number_item;
+
+/* A pair with a number key of 64 bits that is to be archived. */
+typedef struct rkyv_long_number_item {
+    uint64_t value;
+    uint64_t key;
+} rkyv_long_number_item;
 
 /* A pair with a text key of `key_length` bytes that is to be archived. `key` is not null. */
 typedef struct rkyv_text_item {
@@ -422,6 +690,10 @@ typedef struct rkyv_text_item {
 rkyv_status rkyv_build_numbers(const rkyv_number_item *items, size_t count, uint32_t kind,
                                uint32_t width, uint8_t **bytes, size_t *length);
 
+/* Allocates the archive of pairs with number keys of 64 bits, as `rkyv_build_numbers` does. */
+rkyv_status rkyv_build_long_numbers(const rkyv_long_number_item *items, size_t count, uint32_t kind,
+                                    uint32_t width, uint8_t **bytes, size_t *length);
+
 /* Allocates the archive of pairs with text keys, as `rkyv_build_numbers` does.
  *
  * Errors:
@@ -432,6 +704,75 @@ rkyv_status rkyv_build_numbers(const rkyv_number_item *items, size_t count, uint
  *     RKYV_CAPACITY_TOO_LARGE to RKYV_TEXT_TOO_LONG. */
 rkyv_status rkyv_build_texts(const rkyv_text_item *items, size_t count, uint32_t kind,
                              uint32_t width, uint8_t **bytes, size_t *length);
+
+/* A pair of a number and a text that is to be archived. `value` is not null. */
+typedef struct rkyv_number_text_item {
+    const char *value;
+    size_t value_length;
+    uint32_t key;
+} rkyv_number_text_item;
+
+/* A pair of two texts that is to be archived. `key` and `value` are not null. */
+typedef struct rkyv_text_text_item {
+    const char *key;
+    size_t key_length;
+    const char *value;
+    size_t value_length;
+} rkyv_text_text_item;
+
+/* Allocates the archive of a map of the kind RKYV_NUMBER_TO_TEXT: of the `count` pairs at `items`. If
+ * two have the same key, lookups find the first one. The caller frees it with `rkyv_bytes_free`.
+ * `width` is 32 or 64. `items` may be null if `count` is 0.
+ *
+ * Errors:
+ *   - RKYV_UNKNOWN_WIDTH;
+ *   - RKYV_NULL: `bytes`, `length`, `items` or a value is null;
+ *   - RKYV_TOO_LONG: the pairs have more than PTRDIFF_MAX bytes, or a value has;
+ *   - the first error of building: RKYV_NOT_TEXT, RKYV_NO_MEMORY, or RKYV_CAPACITY_TOO_LARGE to
+ *     RKYV_TEXT_TOO_LONG. */
+rkyv_status rkyv_build_number_texts(const rkyv_number_text_item *items, size_t count,
+                                    uint32_t width, uint8_t **bytes, size_t *length);
+
+/* Allocates the archive of a map of the kind RKYV_TEXT_TO_TEXT, as `rkyv_build_number_texts` does.
+ *
+ * Errors:
+ *   - RKYV_UNKNOWN_WIDTH;
+ *   - RKYV_NULL: `bytes`, `length`, `items`, a key or a value is null;
+ *   - RKYV_TOO_LONG: the pairs have more than PTRDIFF_MAX bytes, or a text has;
+ *   - the first error of building: RKYV_NOT_TEXT, RKYV_NO_MEMORY, or RKYV_CAPACITY_TOO_LARGE to
+ *     RKYV_TEXT_TOO_LONG. */
+rkyv_status rkyv_build_text_texts(const rkyv_text_text_item *items, size_t count, uint32_t width,
+                                  uint8_t **bytes, size_t *length);
+
+/* Allocates the archive of a set of the kind RKYV_SET_OF_NUMBERS: of the `count` numbers at `items`.
+ * Equal items are kept, each as an item of its own. The caller frees it with `rkyv_bytes_free`.
+ * `width` is 32 or 64. `items` may be null if `count` is 0.
+ *
+ * Errors:
+ *   - RKYV_UNKNOWN_WIDTH;
+ *   - RKYV_NULL: `bytes`, `length` or `items` is null;
+ *   - RKYV_TOO_LONG: the items have more than PTRDIFF_MAX bytes;
+ *   - the first error of building: RKYV_NO_MEMORY, or RKYV_CAPACITY_TOO_LARGE to
+ *     RKYV_DISTANCE_TOO_LARGE. */
+rkyv_status rkyv_build_number_set(const uint32_t *items, size_t count, uint32_t width,
+                                  uint8_t **bytes, size_t *length);
+
+/* A text of `length` bytes that is to be archived in a set. `text` is not null. */
+typedef struct rkyv_set_text {
+    const char *text;
+    size_t length;
+} rkyv_set_text;
+
+/* Allocates the archive of a set of the kind RKYV_SET_OF_TEXTS, as `rkyv_build_number_set` does.
+ *
+ * Errors:
+ *   - RKYV_UNKNOWN_WIDTH;
+ *   - RKYV_NULL: `bytes`, `length`, `items` or a text is null;
+ *   - RKYV_TOO_LONG: the items have more than PTRDIFF_MAX bytes, or a text has;
+ *   - the first error of building: RKYV_NOT_TEXT, RKYV_NO_MEMORY, or RKYV_CAPACITY_TOO_LARGE to
+ *     RKYV_TEXT_TOO_LONG. */
+rkyv_status rkyv_build_text_set(const rkyv_set_text *items, size_t count, uint32_t width,
+                                uint8_t **bytes, size_t *length);
 
 /* Frees a builder, which may be null. The archives that it built stay. */
 void rkyv_builder_free(rkyv_builder *builder);

@@ -288,7 +288,9 @@ static void errors(void) {
     returns("too long", rkyv_map_open(bytes, SIZE_MAX, RKYV_NUMBER_TO_U32, 32, &map),
             RKYV_TOO_LONG);
     returns("kind 0", rkyv_map_open(bytes, length, 0, 32, &map), RKYV_UNKNOWN_KIND);
-    returns("kind 5", rkyv_map_open(bytes, length, 5, 32, &map), RKYV_UNKNOWN_KIND);
+    returns("kind 99", rkyv_map_open(bytes, length, 99, 32, &map), RKYV_UNKNOWN_KIND);
+    returns("an index map", rkyv_map_open(bytes, length, RKYV_INDEX_NUMBER_TO_U32, 32, &map),
+            RKYV_WRONG_KIND);
     returns("width 16", rkyv_map_open(bytes, length, RKYV_NUMBER_TO_U32, 16, &map),
             RKYV_UNKNOWN_WIDTH);
     returns("closed", rkyv_map_count(&closed, &count), RKYV_CLOSED);
@@ -634,7 +636,7 @@ static void container_errors(void) {
                     RKYV_WRONG_SIZE);
         }
     }
-    returns("kind 9", rkyv_container_header(archive, length, 9, 32, true, bytes),
+    returns("kind 99", rkyv_container_header(archive, length, 99, 32, true, bytes),
             RKYV_UNKNOWN_KIND);
     returns("width 33", rkyv_container_header(archive, length, kind, 33, true, bytes),
             RKYV_UNKNOWN_WIDTH);
@@ -819,8 +821,9 @@ static uint8_t *made_with(size_t one, uint32_t kind, size_t *length) {
     }
     for (uint32_t i = 0; i < 40; i++) {
         memset(key, (int)('a' + i % 26), sizeof key);
-        while (again(kind == RKYV_TEXT_TO_U64 ? rkyv_builder_put_text(builder, key, i, i)
-                                              : rkyv_builder_put_number(builder, i, i))) {
+        while (again(kind == RKYV_TEXT_TO_U64 || kind == RKYV_INDEX_TEXT_TO_U64
+                         ? rkyv_builder_put_text(builder, key, i, i)
+                         : rkyv_builder_put_number(builder, i, i))) {
         }
     }
     while (again(rkyv_builder_finish(builder, &bytes, length))) {
@@ -891,6 +894,846 @@ static void invalid_items(void) {
     free(zeros);
 }
 
+/* The map of 1 to the texts "wonderful" and "x", by two pairs. The first text is out of line: its nine
+ * bytes, then three buckets of a key and a text, 31 control bytes, and the header. Both pairs have
+ * the home bucket 0 of three. Buckets are in descending order. */
+static size_t one_to_texts(uint8_t *bytes) {
+    static const uint8_t front[] = {
+        'w', 'o', 'n', 'd', 'e', 'r', 'f', 'u', 'l', 0, 0, 0, 0, 0, 0, 0, 0, 0, 0, 0, 0, 0, 0, 0,
+        1,   0,   0,   0,   'x', 255, 255, 255, 255, 255, 255, 255, 1, 0, 0, 0, 0x89, 0, 0, 0,
+        0xd8, 255, 255, 255, 0x28, 0x28, 255, 0x28, 0x28};
+    static const uint8_t header[] = {0, 0xe0, 255, 255, 255, 2, 0, 0, 0, 3, 0, 0, 0};
+    memset(bytes, 0xff, 92);
+    memcpy(bytes, front, sizeof front);
+    memcpy(bytes + 79, header, sizeof header);
+    return 92;
+}
+
+/* The wide map of the empty text to "wonderful", which is inline in a wide archive. */
+static size_t empty_to_wonderful(uint8_t *bytes) {
+    memset(bytes, 0, 120);
+    memset(bytes, 0xff, 32);
+    memcpy(bytes + 16, "wonderful", 9);
+    memset(bytes + 64, 0xff, 31);
+    bytes[65] = 0x15;
+    bytes[67] = 0x15;
+    memset(bytes + 97, 0xff, 7);
+    bytes[96] = 0xe0;
+    bytes[104] = 1;
+    bytes[112] = 2;
+    return 120;
+}
+
+/* Tests that a text has these bytes. */
+static void reads(const char *what, const char *text, size_t length, const char *wanted) {
+    if (length != strlen(wanted) || memcmp(text, wanted, length) != 0) {
+        faults++;
+        printf("%s: %.*s, not %s\n", what, (int)length, text, wanted);
+    }
+}
+
+static void numbers_to_texts(void) {
+    const uint32_t kind = RKYV_NUMBER_TO_TEXT;
+    uint8_t bytes[92];
+    size_t length = one_to_texts(bytes), count = 9, size = 9;
+    uint64_t number = 9;
+    const char *value = "?";
+    rkyv_map map, closed = {NULL, NULL, 0, 0, 0, {0, 0, 0, 0, 0}};
+    rkyv_number_text_pair pair = {0, NULL, 9, 9}, pairs[3];
+    rkyv_text_text_pair texts[1];
+    rkyv_number_pair none = {0, 0, 0};
+
+    returns("open", rkyv_map_open(bytes, length, kind, 32, &map), RKYV_OK);
+    returns("count", rkyv_map_count(&map, &count), RKYV_OK);
+    same("count", count, 2);
+    returns("get another", rkyv_map_get_text_of_number(&map, 2, &value, &size), RKYV_NOT_FOUND);
+    reads("kept", value, 1, "?");
+    same("kept", size, 9);
+    returns("get", rkyv_map_get_text_of_number(&map, 1, &value, &size), RKYV_OK);
+    reads("the first value", value, size, "wonderful");
+    same("of the archive", value == (const char *)bytes, 1);
+    returns("next", rkyv_map_next_number_text(&map, &pair), RKYV_OK);
+    same("key", pair.key, 1);
+    reads("value", pair.value, pair.value_length, "wonderful");
+    returns("next", rkyv_map_next_number_text(&map, &pair), RKYV_OK);
+    same("key", pair.key, 1);
+    reads("value", pair.value, pair.value_length, "x");
+    returns("end", rkyv_map_next_number_text(&map, &pair), RKYV_END);
+    reads("kept", pair.value, pair.value_length, "x");
+    for (size_t room = 0; room <= 3; room++) {
+        returns("several", rkyv_map_next_number_texts(&map, 0, pairs, room, &count), RKYV_OK);
+        same("their number", count, room < 2 ? room : 2);
+        if (room != 0) {
+            reads("first", pairs[0].value, pairs[0].value_length, "wonderful");
+            same("bucket", pairs[0].next, 1);
+        }
+        if (room > 1) {
+            reads("second", pairs[1].value, pairs[1].value_length, "x");
+            same("key", pairs[1].key, 1);
+        }
+    }
+    returns("no room", rkyv_map_next_number_texts(&map, 0, NULL, 0, &count), RKYV_OK);
+    same("none", count, 0);
+    returns("behind", rkyv_map_next_number_texts(&map, UINT64_MAX, pairs, 3, &count), RKYV_OK);
+    same("none", count, 0);
+
+    count = 9;
+    returns("null", rkyv_map_get_text_of_number(NULL, 1, &value, &size), RKYV_NULL);
+    returns("closed", rkyv_map_get_text_of_number(&closed, 1, &value, &size), RKYV_CLOSED);
+    returns("no value", rkyv_map_get_text_of_number(&map, 1, NULL, &size), RKYV_NULL);
+    returns("no length", rkyv_map_get_text_of_number(&map, 1, &value, NULL), RKYV_NULL);
+    returns("a number", rkyv_map_get_number(&map, 1, &number), RKYV_WRONG_KIND);
+    returns("a text", rkyv_map_get_text(&map, "", 0, &number), RKYV_WRONG_KIND);
+    returns("a text key", rkyv_map_get_text_of_text(&map, "", 0, &value, &size), RKYV_WRONG_KIND);
+    returns("set", rkyv_map_set_number(&map, 1, 1), RKYV_WRONG_KIND);
+    returns("next number", rkyv_map_next_number(&map, &none), RKYV_WRONG_KIND);
+    returns("next texts", rkyv_map_next_text_texts(&map, 0, texts, 1, &count), RKYV_WRONG_KIND);
+    returns("next text", rkyv_map_next_text_text(&map, texts), RKYV_WRONG_KIND);
+    returns("next null", rkyv_map_next_number_text(&map, NULL), RKYV_NULL);
+    returns("next of null", rkyv_map_next_number_text(NULL, &pair), RKYV_NULL);
+    returns("closed", rkyv_map_next_number_text(&closed, &pair), RKYV_CLOSED);
+    returns("to null", rkyv_map_next_number_texts(&map, 0, NULL, 1, &count), RKYV_NULL);
+    returns("no count", rkyv_map_next_number_texts(&map, 0, pairs, 1, NULL), RKYV_NULL);
+    returns("of null", rkyv_map_next_number_texts(NULL, 0, pairs, 1, &count), RKYV_NULL);
+    returns("closed", rkyv_map_next_number_texts(&closed, 0, pairs, 1, &count), RKYV_CLOSED);
+    returns("too many", rkyv_map_next_number_texts(&map, 0, pairs, SIZE_MAX, &count),
+            RKYV_TOO_LONG);
+    same("kept", count, 9);
+
+    bytes[44] = 0xd7;
+    returns("a distance", rkyv_map_open(bytes, length, kind, 32, &map), RKYV_OUT_OF_RANGE);
+    bytes[44] = 0xd8;
+    bytes[8] = 0xc3;
+    returns("a value", rkyv_map_open(bytes, length, kind, 32, &map), RKYV_INVALID_VALUE);
+    rkyv_error error = {9, 9, 9, 9};
+    returns("explain", rkyv_map_explain(bytes, length, kind, 32, &error), RKYV_OK);
+    is_error("a value", error, RKYV_INVALID_VALUE, 40, 0, 0);
+}
+
+static void texts_to_texts(void) {
+    const uint32_t kind = RKYV_TEXT_TO_TEXT;
+    uint8_t bytes[120];
+    size_t length = empty_to_wonderful(bytes), count = 9, size = 9;
+    uint64_t number = 9;
+    const char *value = "?";
+    rkyv_map map, closed = {NULL, NULL, 0, 0, 0, {0, 0, 0, 0, 0}};
+    rkyv_text_text_pair pair = {0, NULL, 9, NULL, 9}, pairs[2];
+    rkyv_number_text_pair numbers[1];
+    rkyv_text_pair none = {0, 0, NULL, 0};
+
+    returns("open", rkyv_map_open_writable(bytes, length, kind, 64, &map), RKYV_OK);
+    returns("count", rkyv_map_count(&map, &count), RKYV_OK);
+    same("count", count, 1);
+    returns("get", rkyv_map_get_text_of_text(&map, NULL, 0, &value, &size), RKYV_OK);
+    reads("value", value, size, "wonderful");
+    returns("get another", rkyv_map_get_text_of_text(&map, "a", 1, &value, &size), RKYV_NOT_FOUND);
+    returns("no text", rkyv_map_get_text_of_text(&map, "\xc3", 1, &value, &size), RKYV_NOT_TEXT);
+    reads("kept", value, size, "wonderful");
+    returns("next", rkyv_map_next_text_text(&map, &pair), RKYV_OK);
+    reads("key", pair.key, pair.key_length, "");
+    reads("value", pair.value, pair.value_length, "wonderful");
+    returns("end", rkyv_map_next_text_text(&map, &pair), RKYV_END);
+    reads("kept", pair.value, pair.value_length, "wonderful");
+    returns("several", rkyv_map_next_text_texts(&map, 0, pairs, 2, &count), RKYV_OK);
+    same("one", count, 1);
+    reads("key", pairs[0].key, pairs[0].key_length, "");
+    reads("value", pairs[0].value, pairs[0].value_length, "wonderful");
+    same("bucket", pairs[0].next, 2);
+    returns("no room", rkyv_map_next_text_texts(&map, 0, NULL, 0, &count), RKYV_OK);
+    same("none", count, 0);
+
+    count = 9;
+    returns("null", rkyv_map_get_text_of_text(NULL, "", 0, &value, &size), RKYV_NULL);
+    returns("closed", rkyv_map_get_text_of_text(&closed, "", 0, &value, &size), RKYV_CLOSED);
+    returns("no key", rkyv_map_get_text_of_text(&map, NULL, 1, &value, &size), RKYV_NULL);
+    returns("too long", rkyv_map_get_text_of_text(&map, "", SIZE_MAX, &value, &size),
+            RKYV_TOO_LONG);
+    returns("no value", rkyv_map_get_text_of_text(&map, "", 0, NULL, &size), RKYV_NULL);
+    returns("no length", rkyv_map_get_text_of_text(&map, "", 0, &value, NULL), RKYV_NULL);
+    returns("a number", rkyv_map_get_text(&map, "", 0, &number), RKYV_WRONG_KIND);
+    returns("a number key", rkyv_map_get_text_of_number(&map, 1, &value, &size), RKYV_WRONG_KIND);
+    returns("set", rkyv_map_set_text(&map, "", 0, 1), RKYV_WRONG_KIND);
+    returns("next of numbers", rkyv_map_next_number_text(&map, numbers), RKYV_WRONG_KIND);
+    returns("next", rkyv_map_next_number_texts(&map, 0, numbers, 1, &count), RKYV_WRONG_KIND);
+    returns("next text", rkyv_map_next_text(&map, &none), RKYV_WRONG_KIND);
+    returns("next null", rkyv_map_next_text_text(&map, NULL), RKYV_NULL);
+    returns("next of null", rkyv_map_next_text_text(NULL, &pair), RKYV_NULL);
+    returns("to null", rkyv_map_next_text_texts(&map, 0, NULL, 1, &count), RKYV_NULL);
+    returns("no count", rkyv_map_next_text_texts(&map, 0, pairs, 1, NULL), RKYV_NULL);
+    returns("closed", rkyv_map_next_text_texts(&closed, 0, pairs, 1, &count), RKYV_CLOSED);
+    returns("too many", rkyv_map_next_text_texts(&map, 0, pairs, SIZE_MAX, &count), RKYV_TOO_LONG);
+    same("kept", count, 9);
+
+    bytes[16] = 0xc3;
+    returns("a value", rkyv_map_open(bytes, length, kind, 64, &map), RKYV_INVALID_VALUE);
+    bytes[16] = 'w';
+    bytes[0] = 0xc3;
+    returns("a key", rkyv_map_open(bytes, length, kind, 64, &map), RKYV_INVALID_VALUE);
+}
+
+static void built_to_texts(void) {
+    const rkyv_number_text_item numbers[] = {
+        {"wonderful", 9, 1}, {"x", 1, 1}, {"a\xff", 2, 1}, {NULL, 0, 1}};
+    const rkyv_text_text_item texts[] = {
+        {"", 0, "wonderful", 9}, {"\xc3", 1, "", 0}, {NULL, 0, "", 0}};
+    const rkyv_text_text_item no_value[] = {{"", 0, NULL, 0}}, no_text[] = {{"", 0, "\xc3", 1}};
+    const rkyv_text_text_item long_value[] = {{"", 0, "", SIZE_MAX}};
+    uint8_t wanted[120], *bytes = NULL;
+    size_t length = one_to_texts(wanted), got = 9;
+    rkyv_builder *builder;
+
+    returns("build", rkyv_build_number_texts(numbers, 2, 32, &bytes, &got), RKYV_OK);
+    same("length", got, length);
+    same("bytes", memcmp(bytes, wanted, length) == 0, 1);
+    rkyv_bytes_free(bytes);
+    length = empty_to_wonderful(wanted);
+    returns("build", rkyv_build_text_texts(texts, 1, 64, &bytes, &got), RKYV_OK);
+    same("length", got, length);
+    same("bytes", memcmp(bytes, wanted, length) == 0, 1);
+    rkyv_bytes_free(bytes);
+    returns("none", rkyv_build_number_texts(NULL, 0, 64, &bytes, &got), RKYV_OK);
+    same("length", got, 24);
+    rkyv_bytes_free(bytes);
+    returns("none", rkyv_build_text_texts(NULL, 0, 32, &bytes, &got), RKYV_OK);
+    same("length", got, 12);
+    rkyv_bytes_free(bytes);
+
+    bytes = NULL;
+    got = 9;
+    returns("no text", rkyv_build_number_texts(numbers, 3, 32, &bytes, &got), RKYV_NOT_TEXT);
+    returns("null", rkyv_build_number_texts(numbers, 4, 32, &bytes, &got), RKYV_NULL);
+    returns("width 8", rkyv_build_number_texts(numbers, 1, 8, &bytes, &got), RKYV_UNKNOWN_WIDTH);
+    returns("no items", rkyv_build_number_texts(NULL, 1, 32, &bytes, &got), RKYV_NULL);
+    returns("no bytes", rkyv_build_number_texts(numbers, 1, 32, NULL, &got), RKYV_NULL);
+    returns("no length", rkyv_build_number_texts(numbers, 1, 32, &bytes, NULL), RKYV_NULL);
+    returns("too many", rkyv_build_number_texts(numbers, SIZE_MAX, 32, &bytes, &got),
+            RKYV_TOO_LONG);
+    returns("no text", rkyv_build_text_texts(texts, 2, 32, &bytes, &got), RKYV_NOT_TEXT);
+    returns("no text", rkyv_build_text_texts(no_text, 1, 64, &bytes, &got), RKYV_NOT_TEXT);
+    returns("no key", rkyv_build_text_texts(texts, 3, 32, &bytes, &got), RKYV_NULL);
+    returns("no value", rkyv_build_text_texts(no_value, 1, 32, &bytes, &got), RKYV_NULL);
+    returns("too long", rkyv_build_text_texts(long_value, 1, 32, &bytes, &got), RKYV_TOO_LONG);
+    returns("width 16", rkyv_build_text_texts(texts, 1, 16, &bytes, &got), RKYV_UNKNOWN_WIDTH);
+    returns("too many", rkyv_build_text_texts(texts, SIZE_MAX, 64, &bytes, &got), RKYV_TOO_LONG);
+    returns("a builder", rkyv_builder_new(RKYV_NUMBER_TO_TEXT, 32, &builder), RKYV_WRONG_KIND);
+    same("none", builder == NULL, 1);
+    same("kept", got, 9);
+    same("none", bytes == NULL, 1);
+    same("blocks", blocks, 0);
+}
+
+/* Each request of memory fails in turn, and then the build. */
+static void failing_builds_to_texts(void) {
+    const rkyv_text_text_item texts[] = {{"", 0, "wonderful", 9}, {"a", 1, "b", 1}};
+    uint8_t *bytes = NULL;
+    size_t length = 9, all;
+    requests = 0;
+    returns("build", rkyv_build_text_texts(texts, 2, 32, &bytes, &length), RKYV_OK);
+    all = requests;
+    rkyv_bytes_free(bytes);
+    bytes = NULL;
+    for (size_t one = 0; one < all; one++) {
+        requests = 0;
+        failing = one;
+        returns("fail", rkyv_build_text_texts(texts, 2, 32, &bytes, &length), RKYV_NO_MEMORY);
+        same("none", bytes == NULL, 1);
+        same("blocks", blocks, 0);
+    }
+    failing = SIZE_MAX;
+}
+
+/* The container of a map to texts opens as its own kind and width alone. */
+static void text_value_containers(void) {
+    const uint32_t kind = RKYV_NUMBER_TO_TEXT;
+    uint8_t archive[92], bytes[124];
+    size_t length = one_to_texts(archive), size = 9;
+    const char *value = "?";
+    rkyv_map map;
+    rkyv_error error = {9, 9, 9, 9};
+
+    returns("write", rkyv_container_write(archive, length, kind, 32, true, bytes, sizeof bytes),
+            RKYV_OK);
+    same("collection", bytes[10], 1);
+    same("keys", bytes[11], 0x14);
+    same("values", bytes[12], 4);
+    same("width", bytes[13], 4);
+    returns("open", rkyv_map_open_container(bytes, sizeof bytes, kind, RKYV_ANY_WIDTH, &map),
+            RKYV_OK);
+    returns("get", rkyv_map_get_text_of_number(&map, 1, &value, &size), RKYV_OK);
+    reads("value", value, size, "wonderful");
+    returns("texts", rkyv_map_open_container(bytes, sizeof bytes, RKYV_TEXT_TO_TEXT, 32, &map),
+            RKYV_CONTAINER_WRONG_KEY_TYPE);
+    returns("numbers", rkyv_map_open_container(bytes, sizeof bytes, RKYV_NUMBER_TO_U32, 32, &map),
+            RKYV_CONTAINER_WRONG_VALUE_TYPE);
+    returns("wide", rkyv_map_open_container(bytes, sizeof bytes, kind, 64, &map),
+            RKYV_CONTAINER_WRONG_WIDTH);
+    returns("explain", rkyv_container_explain(bytes, sizeof bytes, RKYV_TEXT_TO_TEXT, 32, &error),
+            RKYV_OK);
+    is_error("keys", error, RKYV_CONTAINER_WRONG_KEY_TYPE, 0, 4, 0x14);
+    bytes[32] = 'W';
+    returns("changed", rkyv_map_open_container(bytes, sizeof bytes, kind, 32, &map),
+            RKYV_CONTAINER_WRONG_CHECKSUM);
+    returns("update", rkyv_container_update(bytes, sizeof bytes), RKYV_OK);
+    returns("explain", rkyv_container_explain(bytes, sizeof bytes, kind, RKYV_ANY_WIDTH, &error),
+            RKYV_OK);
+    is_error("no error", error, RKYV_OK, 0, 0, 0);
+}
+
+/* The set of the number 1: two buckets of a number, 31 control bytes, and the header. */
+static size_t set_of_one(uint8_t *bytes) {
+    static const uint8_t front[] = {1, 0, 0, 0, 0, 0, 0, 0, 0xff, 0x28, 0xff, 0x28};
+    static const uint8_t header[] = {0, 0xe0, 255, 255, 255, 1, 0, 0, 0, 2, 0, 0, 0};
+    memset(bytes, 0xff, 52);
+    memcpy(bytes, front, sizeof front);
+    memcpy(bytes + 39, header, sizeof header);
+    return 52;
+}
+
+/* The wide set of the empty text. */
+static size_t set_of_empty(uint8_t *bytes) {
+    memset(bytes, 0, 88);
+    memset(bytes, 0xff, 16);
+    memset(bytes + 32, 0xff, 31);
+    bytes[33] = 0x15;
+    bytes[35] = 0x15;
+    memset(bytes + 65, 0xff, 7);
+    bytes[64] = 0xe0;
+    bytes[72] = 1;
+    bytes[80] = 2;
+    return 88;
+}
+
+static void number_sets(void) {
+    const uint32_t kind = RKYV_SET_OF_NUMBERS;
+    uint8_t bytes[52];
+    size_t length = set_of_one(bytes), count = 9;
+    uint64_t value = 9;
+    rkyv_map set, closed = {NULL, NULL, 0, 0, 0, {0, 0, 0, 0, 0}};
+    rkyv_number_member member = {0, 9}, members[2] = {{9, 9}, {9, 9}};
+    rkyv_text_member text = {0, NULL, 0};
+    rkyv_error error = {9, 9, 9, 9};
+
+    returns("open", rkyv_map_open(bytes, length, kind, 32, &set), RKYV_OK);
+    returns("count", rkyv_map_count(&set, &count), RKYV_OK);
+    same("count", count, 1);
+    returns("contains", rkyv_set_contains_number(&set, 1), RKYV_OK);
+    returns("contains another", rkyv_set_contains_number(&set, 2), RKYV_NOT_FOUND);
+    returns("next", rkyv_set_next_number(&set, &member), RKYV_OK);
+    same("item", member.item, 1);
+    returns("end", rkyv_set_next_number(&set, &member), RKYV_END);
+    same("kept", member.item, 1);
+    returns("several", rkyv_set_next_numbers(&set, 0, members, 2, &count), RKYV_OK);
+    same("one", count, 1);
+    same("item", members[0].item, 1);
+    same("bucket", members[0].next, 2);
+    same("unchanged", members[1].item, 9);
+    returns("no room", rkyv_set_next_numbers(&set, 0, NULL, 0, &count), RKYV_OK);
+    same("none", count, 0);
+
+    count = 9;
+    returns("null", rkyv_set_contains_number(NULL, 1), RKYV_NULL);
+    returns("closed", rkyv_set_contains_number(&closed, 1), RKYV_CLOSED);
+    returns("a text", rkyv_set_contains_text(&set, "", 0), RKYV_WRONG_KIND);
+    returns("a value", rkyv_map_get_number(&set, 1, &value), RKYV_WRONG_KIND);
+    returns("next text", rkyv_set_next_text(&set, &text), RKYV_WRONG_KIND);
+    returns("next texts", rkyv_set_next_texts(&set, 0, &text, 1, &count), RKYV_WRONG_KIND);
+    returns("next null", rkyv_set_next_number(&set, NULL), RKYV_NULL);
+    returns("of null", rkyv_set_next_number(NULL, &member), RKYV_NULL);
+    returns("to null", rkyv_set_next_numbers(&set, 0, NULL, 1, &count), RKYV_NULL);
+    returns("no count", rkyv_set_next_numbers(&set, 0, members, 1, NULL), RKYV_NULL);
+    returns("closed", rkyv_set_next_numbers(&closed, 0, members, 1, &count), RKYV_CLOSED);
+    returns("too many", rkyv_set_next_numbers(&set, 0, members, SIZE_MAX, &count), RKYV_TOO_LONG);
+    same("kept", count, 9);
+    bytes[44] = 2;
+    returns("a length", rkyv_map_open(bytes, length, kind, 32, &set), RKYV_INVALID_LENGTH);
+    returns("explain", rkyv_map_explain(bytes, length, kind, 32, &error), RKYV_OK);
+    is_error("a length", error, RKYV_INVALID_LENGTH, 0, 2, 2);
+}
+
+static void text_sets(void) {
+    const uint32_t kind = RKYV_SET_OF_TEXTS;
+    uint8_t bytes[88];
+    size_t length = set_of_empty(bytes), count = 9;
+    rkyv_map set, closed = {NULL, NULL, 0, 0, 0, {0, 0, 0, 0, 0}};
+    rkyv_text_member member = {0, NULL, 9}, members[2];
+    rkyv_error error = {9, 9, 9, 9};
+
+    returns("open", rkyv_map_open(bytes, length, kind, 64, &set), RKYV_OK);
+    returns("contains", rkyv_set_contains_text(&set, NULL, 0), RKYV_OK);
+    returns("contains another", rkyv_set_contains_text(&set, "a", 1), RKYV_NOT_FOUND);
+    returns("no text", rkyv_set_contains_text(&set, "\xc3", 1), RKYV_NOT_TEXT);
+    returns("next", rkyv_set_next_text(&set, &member), RKYV_OK);
+    reads("item", member.item, member.item_length, "");
+    returns("end", rkyv_set_next_text(&set, &member), RKYV_END);
+    returns("several", rkyv_set_next_texts(&set, 0, members, 2, &count), RKYV_OK);
+    same("one", count, 1);
+    reads("item", members[0].item, members[0].item_length, "");
+    returns("no room", rkyv_set_next_texts(&set, 0, NULL, 0, &count), RKYV_OK);
+    same("none", count, 0);
+
+    count = 9;
+    returns("null", rkyv_set_contains_text(NULL, "", 0), RKYV_NULL);
+    returns("closed", rkyv_set_contains_text(&closed, "", 0), RKYV_CLOSED);
+    returns("null item", rkyv_set_contains_text(&set, NULL, 1), RKYV_NULL);
+    returns("too long", rkyv_set_contains_text(&set, "", SIZE_MAX), RKYV_TOO_LONG);
+    returns("a number", rkyv_set_contains_number(&set, 1), RKYV_WRONG_KIND);
+    returns("next null", rkyv_set_next_text(&set, NULL), RKYV_NULL);
+    returns("closed", rkyv_set_next_text(&closed, &member), RKYV_CLOSED);
+    returns("to null", rkyv_set_next_texts(&set, 0, NULL, 1, &count), RKYV_NULL);
+    returns("no count", rkyv_set_next_texts(&set, 0, members, 1, NULL), RKYV_NULL);
+    returns("too many", rkyv_set_next_texts(&set, 0, members, SIZE_MAX, &count), RKYV_TOO_LONG);
+    same("kept", count, 9);
+    bytes[0] = 0xc3;
+    returns("an item", rkyv_map_open(bytes, length, kind, 64, &set), RKYV_INVALID_VALUE);
+    returns("explain", rkyv_map_explain(bytes, length, kind, 64, &error), RKYV_OK);
+    is_error("an item", error, RKYV_INVALID_VALUE, 0, 0, 0);
+}
+
+static void built_sets(void) {
+    static const uint32_t one[] = {1};
+    const rkyv_set_text texts[] = {{"", 0}, {"\xc3", 1}, {NULL, 0}};
+    const rkyv_set_text long_text[] = {{"", SIZE_MAX}};
+    uint8_t wanted[88], *bytes = NULL;
+    size_t length = set_of_one(wanted), got = 9;
+    rkyv_builder *builder;
+
+    returns("build", rkyv_build_number_set(one, 1, 32, &bytes, &got), RKYV_OK);
+    same("length", got, length);
+    same("bytes", memcmp(bytes, wanted, length) == 0, 1);
+    rkyv_bytes_free(bytes);
+    length = set_of_empty(wanted);
+    returns("build", rkyv_build_text_set(texts, 1, 64, &bytes, &got), RKYV_OK);
+    same("length", got, length);
+    same("bytes", memcmp(bytes, wanted, length) == 0, 1);
+    rkyv_bytes_free(bytes);
+    returns("none", rkyv_build_number_set(NULL, 0, 64, &bytes, &got), RKYV_OK);
+    same("length", got, 24);
+    rkyv_bytes_free(bytes);
+    returns("none", rkyv_build_text_set(NULL, 0, 32, &bytes, &got), RKYV_OK);
+    same("length", got, 12);
+    rkyv_bytes_free(bytes);
+
+    bytes = NULL;
+    got = 9;
+    returns("no text", rkyv_build_text_set(texts, 2, 32, &bytes, &got), RKYV_NOT_TEXT);
+    returns("null", rkyv_build_text_set(texts, 3, 32, &bytes, &got), RKYV_NULL);
+    returns("too long", rkyv_build_text_set(long_text, 1, 32, &bytes, &got), RKYV_TOO_LONG);
+    returns("width 8", rkyv_build_number_set(one, 1, 8, &bytes, &got), RKYV_UNKNOWN_WIDTH);
+    returns("no items", rkyv_build_number_set(NULL, 1, 32, &bytes, &got), RKYV_NULL);
+    returns("no bytes", rkyv_build_number_set(one, 1, 32, NULL, &got), RKYV_NULL);
+    returns("no length", rkyv_build_text_set(texts, 1, 32, &bytes, NULL), RKYV_NULL);
+    returns("too many", rkyv_build_number_set(one, SIZE_MAX, 32, &bytes, &got), RKYV_TOO_LONG);
+    returns("a builder", rkyv_builder_new(RKYV_SET_OF_TEXTS, 32, &builder), RKYV_WRONG_KIND);
+    same("kept", got, 9);
+    same("none", bytes == NULL, 1);
+    same("blocks", blocks, 0);
+}
+
+/* The container of a set opens as its own kind alone. */
+static void set_containers(void) {
+    uint8_t archive[52], bytes[84];
+    size_t length = set_of_one(archive);
+    rkyv_map set;
+
+    returns("write", rkyv_container_write(archive, length, RKYV_SET_OF_NUMBERS, 32, true, bytes,
+                                          sizeof bytes),
+            RKYV_OK);
+    same("collection", bytes[10], 2);
+    same("items", bytes[11], 0x14);
+    same("values", bytes[12], 1);
+    returns("open", rkyv_map_open_container(bytes, sizeof bytes, RKYV_SET_OF_NUMBERS,
+                                            RKYV_ANY_WIDTH, &set),
+            RKYV_OK);
+    returns("contains", rkyv_set_contains_number(&set, 1), RKYV_OK);
+    returns("texts", rkyv_map_open_container(bytes, sizeof bytes, RKYV_SET_OF_TEXTS, 32, &set),
+            RKYV_CONTAINER_WRONG_KEY_TYPE);
+    returns("a map", rkyv_map_open_container(bytes, sizeof bytes, RKYV_NUMBER_TO_U32, 32, &set),
+            RKYV_CONTAINER_WRONG_COLLECTION);
+}
+
+/* The index map of the pairs 1 and 2, 5 and 6, and 1 and 9: the indices 2, 1, 0 and none in the
+ * buckets 3 to 0, 31 control bytes, the pairs, and the header. The tags of 1 and 5 are 28 and 4b. */
+static size_t three_pairs(uint8_t *bytes) {
+    static const uint8_t buckets[] = {2, 0, 0, 0, 1, 0, 0, 0, 0, 0, 0, 0, 0, 0, 0, 0};
+    static const uint8_t controls[] = {0xff, 0x28, 0x4b, 0x28, 0xff, 0x28, 0x4b, 0x28};
+    static const uint8_t rest[] = {1, 0, 0, 0, 2, 0, 0, 0, 5, 0, 0, 0, 6, 0, 0, 0,
+                                   1, 0, 0, 0, 9, 0, 0, 0, 0xc8, 0xff, 0xff, 0xff,
+                                   3, 0, 0, 0, 4, 0, 0, 0, 0xdc, 0xff, 0xff, 0xff};
+    memset(bytes, 0xff, 88);
+    memcpy(bytes, buckets, sizeof buckets);
+    memcpy(bytes + 16, controls, sizeof controls);
+    bytes[47] = 0;
+    memcpy(bytes + 48, rest, sizeof rest);
+    return 88;
+}
+
+/* The wide index map of the empty text to 7. */
+static size_t indexed_empty(uint8_t *bytes) {
+    memset(bytes, 0, 104);
+    memset(bytes + 16, 0xff, 31);
+    bytes[17] = 0x15;
+    bytes[19] = 0x15;
+    memset(bytes + 48, 0xff, 16);
+    bytes[64] = 7;
+    memset(bytes + 72, 0xff, 8);
+    bytes[72] = 0xc8;
+    bytes[80] = 1;
+    bytes[88] = 2;
+    memset(bytes + 96, 0xff, 8);
+    bytes[96] = 0xd0;
+    return 104;
+}
+
+static void indexed_numbers(void) {
+    static const rkyv_index_number_pair wanted[] = {{2, 1}, {6, 5}, {9, 1}};
+    uint8_t bytes[88];
+    size_t length = three_pairs(bytes), count = 9, index = 9;
+    uint64_t value = 9;
+    uint32_t width = 9;
+    rkyv_index_map map, closed = {NULL, 0, 0, 0, 0};
+    rkyv_index_number_pair pairs[4], pair = {9, 9};
+    rkyv_index_text_pair text = {9, NULL, 9};
+
+    returns("open", rkyv_index_open(bytes, length, RKYV_INDEX_NUMBER_TO_U32, 32, &map), RKYV_OK);
+    returns("count", rkyv_index_count(&map, &count), RKYV_OK);
+    same("count", count, 3);
+    returns("width", rkyv_index_width(&map, &width), RKYV_OK);
+    same("width", width, 32);
+    returns("get another", rkyv_index_get_number(&map, 2, &index, &value), RKYV_NOT_FOUND);
+    same("kept", index == 9 && value == 9, 1);
+    returns("get", rkyv_index_get_number(&map, 5, &index, &value), RKYV_OK);
+    same("found", index == 1 && value == 6, 1);
+    returns("get the first", rkyv_index_get_number(&map, 1, &index, &value), RKYV_OK);
+    same("found", index == 0 && value == 2, 1);
+    returns("get the index", rkyv_index_get_number(&map, 5, &index, NULL), RKYV_OK);
+    returns("get the value", rkyv_index_get_number(&map, 5, NULL, &value), RKYV_OK);
+    same("found", index == 1 && value == 6, 1);
+    returns("get nothing", rkyv_index_get_number(&map, 5, NULL, NULL), RKYV_OK);
+    for (size_t i = 0; i < 3; i++) {
+        returns("at", rkyv_index_number_at(&map, i, &pair), RKYV_OK);
+        same("pair", pair.key == wanted[i].key && pair.value == wanted[i].value, 1);
+    }
+    returns("behind", rkyv_index_number_at(&map, 3, &pair), RKYV_END);
+    returns("far behind", rkyv_index_number_at(&map, SIZE_MAX, &pair), RKYV_END);
+    same("kept", pair.key == 1 && pair.value == 9, 1);
+    for (size_t from = 0; from < 5; from++) {
+        for (size_t room = 0; room < 5; room++) {
+            size_t left = from < 3 ? 3 - from : 0;
+            returns("from", rkyv_index_numbers_from(&map, from, pairs, room, &count), RKYV_OK);
+            same("stored", count, room < left ? room : left);
+            for (size_t i = 0; i < count; i++) {
+                same("key", pairs[i].key, wanted[from + i].key);
+                same("value", pairs[i].value, wanted[from + i].value);
+            }
+        }
+    }
+    returns("no room", rkyv_index_numbers_from(&map, 0, NULL, 0, &count), RKYV_OK);
+    returns("far", rkyv_index_numbers_from(&map, SIZE_MAX, pairs, 4, &count), RKYV_OK);
+    same("none", count, 0);
+
+    returns("get of null", rkyv_index_get_number(NULL, 1, &index, &value), RKYV_NULL);
+    returns("get of no map", rkyv_index_get_number(&closed, 1, &index, &value), RKYV_CLOSED);
+    returns("get a text", rkyv_index_get_text(&map, "a", 1, &index, &value), RKYV_WRONG_KIND);
+    returns("count null", rkyv_index_count(&map, NULL), RKYV_NULL);
+    returns("count of no map", rkyv_index_count(&closed, &count), RKYV_CLOSED);
+    returns("width null", rkyv_index_width(&map, NULL), RKYV_NULL);
+    returns("width of null", rkyv_index_width(NULL, &width), RKYV_NULL);
+    returns("at null", rkyv_index_number_at(&map, 0, NULL), RKYV_NULL);
+    returns("text at", rkyv_index_text_at(&map, 0, &text), RKYV_WRONG_KIND);
+    returns("texts", rkyv_index_texts_from(&map, 0, &text, 1, &count), RKYV_WRONG_KIND);
+    returns("to null", rkyv_index_numbers_from(&map, 0, NULL, 1, &count), RKYV_NULL);
+    returns("no count", rkyv_index_numbers_from(&map, 0, pairs, 1, NULL), RKYV_NULL);
+    returns("too many", rkyv_index_numbers_from(&map, 0, pairs, SIZE_MAX, &count), RKYV_TOO_LONG);
+}
+
+static void indexed_texts(void) {
+    uint8_t bytes[104], *built = NULL;
+    size_t length = indexed_empty(bytes), count = 9, index = 9;
+    uint64_t value = 9;
+    rkyv_index_map map;
+    rkyv_index_text_pair pairs[50], pair = {9, NULL, 9};
+    rkyv_index_number_pair number = {9, 9};
+
+    returns("open", rkyv_index_open(bytes, length, RKYV_INDEX_TEXT_TO_U32, 64, &map), RKYV_OK);
+    returns("get", rkyv_index_get_text(&map, NULL, 0, &index, &value), RKYV_OK);
+    same("found", index == 0 && value == 7, 1);
+    returns("get another", rkyv_index_get_text(&map, "a", 1, &index, &value), RKYV_NOT_FOUND);
+    returns("no text", rkyv_index_get_text(&map, "a\xff", 2, &index, &value), RKYV_NOT_TEXT);
+    returns("null", rkyv_index_get_text(&map, NULL, 1, &index, &value), RKYV_NULL);
+    returns("too long", rkyv_index_get_text(&map, "a", SIZE_MAX, &index, &value), RKYV_TOO_LONG);
+    returns("at", rkyv_index_text_at(&map, 0, &pair), RKYV_OK);
+    same("pair", pair.key == (const char *)bytes + 48 && pair.key_length == 0 && pair.value == 7, 1);
+    returns("behind", rkyv_index_text_at(&map, 1, &pair), RKYV_END);
+    same("kept", pair.value, 7);
+    returns("at null", rkyv_index_text_at(&map, 0, NULL), RKYV_NULL);
+    returns("a number", rkyv_index_get_number(&map, 1, &index, &value), RKYV_WRONG_KIND);
+    returns("number at", rkyv_index_number_at(&map, 0, &number), RKYV_WRONG_KIND);
+    returns("numbers", rkyv_index_numbers_from(&map, 0, &number, 1, &count), RKYV_WRONG_KIND);
+
+    built = forty_pairs(RKYV_INDEX_TEXT_TO_U32, &length);
+    returns("open", rkyv_index_open(built, length, RKYV_INDEX_TEXT_TO_U32, 32, &map), RKYV_OK);
+    for (size_t room = 1; room <= 50; room++) {
+        size_t seen = 0;
+        do {
+            returns("from", rkyv_index_texts_from(&map, seen, pairs, room, &count), RKYV_OK);
+            for (size_t i = 0; i < count; i++, seen++) {
+                returns("at", rkyv_index_text_at(&map, seen, &pair), RKYV_OK);
+                same("key", (uint64_t)(pairs[i].key - (const char *)built),
+                     (uint64_t)(pair.key - (const char *)built));
+                same("letter", (uint64_t)(*pair.key - 'A'), seen);
+                same("value", pairs[i].value, 100 + seen);
+                returns("get", rkyv_index_get_text(&map, pair.key, 1, &index, &value), RKYV_OK);
+                same("index", index, seen);
+            }
+        } while (count == room);
+        same("all", seen, 40);
+    }
+    returns("no room", rkyv_index_texts_from(&map, 0, NULL, 0, &count), RKYV_OK);
+    returns("to null", rkyv_index_texts_from(&map, 0, NULL, 1, &count), RKYV_NULL);
+    returns("no count", rkyv_index_texts_from(&map, 0, pairs, 1, NULL), RKYV_NULL);
+    returns("too many", rkyv_index_texts_from(&map, 0, pairs, SIZE_MAX, &count), RKYV_TOO_LONG);
+    rkyv_bytes_free(built);
+    same("blocks", blocks, 0);
+}
+
+/* The error of opening the index map of three pairs with one byte changed. */
+static rkyv_error indexed_error(size_t position, uint8_t byte) {
+    uint8_t bytes[88];
+    size_t length = three_pairs(bytes);
+    rkyv_error error = {9, 9, 9, 9};
+    rkyv_index_map map;
+    bytes[position] = byte;
+    returns("explain", rkyv_map_explain(bytes, length, RKYV_INDEX_NUMBER_TO_U32, 32, &error),
+            RKYV_OK);
+    returns("open", rkyv_index_open(bytes, length, RKYV_INDEX_NUMBER_TO_U32, 32, &map),
+            (rkyv_status)error.status);
+    return error;
+}
+
+static void indexed_errors(void) {
+    uint8_t bytes[104];
+    size_t length = three_pairs(bytes), count = 9;
+    rkyv_error error = {9, 9, 9, 9};
+    rkyv_index_map map;
+
+    returns("no map", rkyv_index_open(bytes, length, RKYV_INDEX_NUMBER_TO_U32, 32, NULL),
+            RKYV_NULL);
+    returns("kind 0", rkyv_index_open(bytes, length, 0, 32, &map), RKYV_UNKNOWN_KIND);
+    returns("closed", rkyv_index_count(&map, &count), RKYV_CLOSED);
+    returns("width 16", rkyv_index_open(bytes, length, RKYV_INDEX_TEXT_TO_U64, 16, &map),
+            RKYV_UNKNOWN_WIDTH);
+    returns("a hash map", rkyv_index_open(bytes, length, RKYV_NUMBER_TO_U32, 32, &map),
+            RKYV_WRONG_KIND);
+    returns("null", rkyv_index_open(NULL, 1, RKYV_INDEX_NUMBER_TO_U32, 32, &map), RKYV_NULL);
+    returns("too long", rkyv_index_open(bytes, SIZE_MAX, RKYV_INDEX_NUMBER_TO_U32, 32, &map),
+            RKYV_TOO_LONG);
+    returns("empty", rkyv_index_open(NULL, 0, RKYV_INDEX_NUMBER_TO_U32, 32, &map),
+            RKYV_OUT_OF_RANGE);
+    is_error("no error", indexed_error(0, 2), RKYV_OK, 0, 0, 0);
+    is_error("a distance", indexed_error(72, 0xc9), RKYV_UNALIGNED, 1, 4, 0);
+    is_error("a length", indexed_error(76, 4), RKYV_INVALID_LENGTH, 0, 4, 4);
+    is_error("a control", indexed_error(17, 0xff), RKYV_WRONG_NUMBER_OF_ELEMENTS, 0, 3, 2);
+    is_error("a repeated control", indexed_error(21, 0x29), RKYV_UNWRAPPED_CONTROL_BYTE, 0, 5, 0);
+    is_error("an index", indexed_error(0, 3), RKYV_PLACE_OUT_OF_RANGE, 0, 3, 3);
+    is_error("entries", indexed_error(84, 0xe0), RKYV_OUT_OF_RANGE, 52, 24, 0);
+    length = indexed_empty(bytes);
+    bytes[48] = 0xc3;
+    returns("explain", rkyv_map_explain(bytes, length, RKYV_INDEX_TEXT_TO_U64, 64, &error),
+            RKYV_OK);
+    is_error("a key", error, RKYV_INVALID_VALUE, 48, 0, 0);
+}
+
+static void indexed_containers(void) {
+    uint8_t bytes[88], container[120];
+    size_t length = three_pairs(bytes), count = 9;
+    uint32_t kind = RKYV_INDEX_NUMBER_TO_U32;
+    rkyv_error error = {9, 9, 9, 9};
+    rkyv_index_map map;
+    rkyv_map other;
+
+    returns("write", rkyv_container_write(bytes, length, kind, 32, true, container, 120), RKYV_OK);
+    same("codes", container[10] == 3 && container[11] == 0x14 && container[12] == 0x14, 1);
+    returns("open", rkyv_index_open_container(container, 120, kind, 32, &map), RKYV_OK);
+    returns("open", rkyv_index_open_container(container, 120, kind, RKYV_ANY_WIDTH, &map), RKYV_OK);
+    returns("count", rkyv_index_count(&map, &count), RKYV_OK);
+    same("count", count, 3);
+    returns("no error", rkyv_container_explain(container, 120, kind, RKYV_ANY_WIDTH, &error),
+            RKYV_OK);
+    is_error("no error", error, RKYV_OK, 0, 0, 0);
+    returns("as a hash map", rkyv_map_open_container(container, 120, RKYV_NUMBER_TO_U32, 32, &other),
+            RKYV_CONTAINER_WRONG_COLLECTION);
+    returns("explained", rkyv_container_explain(container, 120, RKYV_NUMBER_TO_U32, 32, &error),
+            RKYV_OK);
+    is_error("as a hash map", error, RKYV_CONTAINER_WRONG_COLLECTION, 0, 1, 3);
+    returns("as texts", rkyv_index_open_container(container, 120, RKYV_INDEX_TEXT_TO_U32, 32, &map),
+            RKYV_CONTAINER_WRONG_KEY_TYPE);
+    returns("as u64", rkyv_index_open_container(container, 120, RKYV_INDEX_NUMBER_TO_U64, 32, &map),
+            RKYV_CONTAINER_WRONG_VALUE_TYPE);
+    returns("as wide", rkyv_index_open_container(container, 120, kind, 64, &map),
+            RKYV_CONTAINER_WRONG_WIDTH);
+    returns("cut", rkyv_index_open_container(container, 31, kind, RKYV_ANY_WIDTH, &map),
+            RKYV_CONTAINER_TOO_SHORT);
+    returns("closed", rkyv_index_count(&map, &count), RKYV_CLOSED);
+    container[32] = 3;
+    returns("damaged", rkyv_index_open_container(container, 120, kind, 32, &map),
+            RKYV_CONTAINER_WRONG_CHECKSUM);
+    returns("update", rkyv_container_update(container, 120), RKYV_OK);
+    returns("an index", rkyv_index_open_container(container, 120, kind, 32, &map),
+            RKYV_PLACE_OUT_OF_RANGE);
+    returns("explained", rkyv_container_explain(container, 120, kind, 32, &error), RKYV_OK);
+    is_error("an index", error, RKYV_PLACE_OUT_OF_RANGE, 0, 3, 3);
+    returns("write a hash map", rkyv_container_write(bytes, length, RKYV_NUMBER_TO_U32, 32, true,
+                                                     container, 120),
+            RKYV_OK);
+    returns("as an index map", rkyv_index_open_container(container, 120, kind, 32, &map),
+            RKYV_CONTAINER_WRONG_COLLECTION);
+    returns("no map", rkyv_index_open_container(container, 120, kind, 32, NULL), RKYV_NULL);
+    returns("kind 0", rkyv_index_open_container(container, 120, 0, 32, &map), RKYV_UNKNOWN_KIND);
+    returns("a hash map", rkyv_index_open_container(container, 120, RKYV_TEXT_TO_U64, 32, &map),
+            RKYV_WRONG_KIND);
+    returns("an index map", rkyv_map_open_container(container, 120, kind, 32, &other),
+            RKYV_WRONG_KIND);
+}
+
+static void indexed_archives(void) {
+    static const rkyv_number_item numbers[] = {{2, 1}, {6, 5}, {9, 1}};
+    static const rkyv_text_item texts[] = {{"", 0, 7}};
+    uint8_t wanted[104], *bytes = NULL;
+    size_t length = three_pairs(wanted), got = 0;
+    rkyv_builder *builder;
+
+    returns("new", rkyv_builder_new(RKYV_INDEX_NUMBER_TO_U32, 32, &builder), RKYV_OK);
+    for (size_t i = 0; i < 3; i++) {
+        returns("put", rkyv_builder_put_number(builder, numbers[i].key, numbers[i].value), RKYV_OK);
+    }
+    returns("too large", rkyv_builder_put_number(builder, 1, 1ull << 32), RKYV_VALUE_TOO_LARGE);
+    makes(builder, wanted, length);
+    rkyv_builder_free(builder);
+    returns("build", rkyv_build_numbers(numbers, 3, RKYV_INDEX_NUMBER_TO_U32, 32, &bytes, &got),
+            RKYV_OK);
+    same("archive", got == length && memcmp(bytes, wanted, got) == 0, 1);
+    rkyv_bytes_free(bytes);
+    length = indexed_empty(wanted);
+    returns("build", rkyv_build_texts(texts, 1, RKYV_INDEX_TEXT_TO_U64, 64, &bytes, &got), RKYV_OK);
+    same("archive", got == length && memcmp(bytes, wanted, got) == 0, 1);
+    rkyv_bytes_free(bytes);
+    returns("no items", rkyv_build_texts(NULL, 0, RKYV_INDEX_TEXT_TO_U32, 32, &bytes, &got),
+            RKYV_OK);
+    same("empty", got, 16);
+    rkyv_bytes_free(bytes);
+    returns("texts", rkyv_build_texts(texts, 1, RKYV_INDEX_NUMBER_TO_U32, 32, &bytes, &got),
+            RKYV_WRONG_KIND);
+    same("blocks", blocks, 0);
+}
+
+/* The map of 4,294,967,297 to 2: two buckets of a key of 64 bits and a value, 31 control bytes, and the
+ * header. The hash of the key is 789ecc4c27220a95, with the tag 3c, so it is in bucket 1. The bytes are
+ * the same for values of 32 and of 64 bits. */
+static size_t great_number(uint8_t *bytes) {
+    static const uint8_t front[] = {1, 0, 0, 0, 1, 0, 0, 0, 2};
+    static const uint8_t header[] = {0, 0xe0, 0xff, 0xff, 0xff, 1, 0, 0, 0, 2, 0, 0, 0};
+    memset(bytes, 0, 32);
+    memcpy(bytes, front, sizeof front);
+    memset(bytes + 32, 0xff, 31);
+    bytes[33] = 0x3c;
+    bytes[35] = 0x3c;
+    memcpy(bytes + 63, header, sizeof header);
+    return 76;
+}
+
+static void long_numbers(void) {
+    const uint64_t key = 0x100000001;
+    const uint32_t kind = RKYV_LONG_NUMBER_TO_U32, wider = RKYV_LONG_NUMBER_TO_U64;
+    uint8_t bytes[76];
+    size_t length = great_number(bytes), count = 9;
+    uint64_t value = 9;
+    rkyv_map map, closed = {NULL, NULL, 0, 0, 0, {0, 0, 0, 0, 0}};
+    rkyv_long_number_pair pair = {0, 9, 9}, pairs[2] = {{9, 9, 9}, {9, 9, 9}};
+    rkyv_number_pair number = {0, 0, 0};
+    rkyv_error error = {9, 9, 9, 9};
+
+    returns("open", rkyv_map_open(bytes, length, kind, 32, &map), RKYV_OK);
+    returns("count", rkyv_map_count(&map, &count), RKYV_OK);
+    same("count", count, 1);
+    returns("get another", rkyv_map_get_long_number(&map, 1, &value), RKYV_NOT_FOUND);
+    same("kept", value, 9);
+    returns("get", rkyv_map_get_long_number(&map, key, &value), RKYV_OK);
+    same("value", value, 2);
+    returns("next", rkyv_map_next_long_number(&map, &pair), RKYV_OK);
+    same("pair", pair.key == key && pair.value == 2 && pair.next == 2, 1);
+    returns("end", rkyv_map_next_long_number(&map, &pair), RKYV_END);
+    returns("several", rkyv_map_next_long_numbers(&map, 0, pairs, 2, &count), RKYV_OK);
+    same("one", count, 1);
+    same("pair", pairs[0].key == key && pairs[0].value == 2 && pairs[1].key == 9, 1);
+    returns("no room", rkyv_map_next_long_numbers(&map, 0, NULL, 0, &count), RKYV_OK);
+    same("none", count, 0);
+    count = 9;
+    returns("null", rkyv_map_get_long_number(NULL, key, &value), RKYV_NULL);
+    returns("closed", rkyv_map_get_long_number(&closed, key, &value), RKYV_CLOSED);
+    returns("no value", rkyv_map_get_long_number(&map, key, NULL), RKYV_NULL);
+    returns("a short key", rkyv_map_get_number(&map, 1, &value), RKYV_WRONG_KIND);
+    returns("a short pair", rkyv_map_next_number(&map, &number), RKYV_WRONG_KIND);
+    returns("read only", rkyv_map_set_long_number(&map, key, 1), RKYV_READ_ONLY);
+    returns("next null", rkyv_map_next_long_number(&map, NULL), RKYV_NULL);
+    returns("of null", rkyv_map_next_long_number(NULL, &pair), RKYV_NULL);
+    returns("closed", rkyv_map_next_long_numbers(&closed, 0, pairs, 2, &count), RKYV_CLOSED);
+    returns("to null", rkyv_map_next_long_numbers(&map, 0, NULL, 1, &count), RKYV_NULL);
+    returns("too many", rkyv_map_next_long_numbers(&map, 0, pairs, SIZE_MAX, &count),
+            RKYV_TOO_LONG);
+    same("kept", count, 9);
+
+    returns("write", rkyv_map_open_writable(bytes, length, wider, 32, &map), RKYV_OK);
+    returns("set another", rkyv_map_set_long_number(&map, 1, 3), RKYV_NOT_FOUND);
+    returns("set", rkyv_map_set_long_number(&map, key, UINT64_MAX), RKYV_OK);
+    returns("get", rkyv_map_get_long_number(&map, key, &value), RKYV_OK);
+    same("value", value == UINT64_MAX, 1);
+    returns("write", rkyv_map_open_writable(bytes, length, kind, 32, &map), RKYV_OK);
+    returns("set", rkyv_map_set_long_number(&map, key, 1ull << 32), RKYV_VALUE_TOO_LARGE);
+    returns("set null", rkyv_map_set_long_number(NULL, key, 1), RKYV_NULL);
+    bytes[68] = 2;
+    returns("a length", rkyv_map_open(bytes, length, kind, 32, &map), RKYV_INVALID_LENGTH);
+    returns("explain", rkyv_map_explain(bytes, length, wider, 32, &error), RKYV_OK);
+    is_error("a length", error, RKYV_INVALID_LENGTH, 0, 2, 2);
+}
+
+static void built_long_numbers(void) {
+    static const rkyv_long_number_item items[] = {{2, 0x100000001}, {1ull << 32, 1}};
+    const uint32_t kind = RKYV_LONG_NUMBER_TO_U32;
+    uint8_t wanted[76], container[108], *bytes = NULL;
+    size_t length = great_number(wanted), got = 9;
+    rkyv_builder *builder;
+    rkyv_map map;
+
+    returns("build", rkyv_build_long_numbers(items, 1, kind, 32, &bytes, &got), RKYV_OK);
+    same("bytes", got == length && memcmp(bytes, wanted, length) == 0, 1);
+    rkyv_bytes_free(bytes);
+    returns("none", rkyv_build_long_numbers(NULL, 0, kind, 64, &bytes, &got), RKYV_OK);
+    same("length", got, 24);
+    rkyv_bytes_free(bytes);
+    bytes = NULL;
+    got = 9;
+    returns("too large", rkyv_build_long_numbers(items, 2, kind, 32, &bytes, &got),
+            RKYV_VALUE_TOO_LARGE);
+    returns("short keys", rkyv_build_long_numbers(items, 1, RKYV_NUMBER_TO_U32, 32, &bytes, &got),
+            RKYV_WRONG_KIND);
+    returns("no items", rkyv_build_long_numbers(NULL, 1, kind, 32, &bytes, &got), RKYV_NULL);
+    returns("width 8", rkyv_build_long_numbers(items, 1, kind, 8, &bytes, &got),
+            RKYV_UNKNOWN_WIDTH);
+    returns("too many", rkyv_build_long_numbers(items, SIZE_MAX, kind, 32, &bytes, &got),
+            RKYV_TOO_LONG);
+    returns("a builder", rkyv_builder_new(kind, 32, &builder), RKYV_WRONG_KIND);
+    same("kept", bytes == NULL && got == 9, 1);
+    same("blocks", blocks, 0);
+
+    returns("write", rkyv_container_write(wanted, length, kind, 32, true, container, 108), RKYV_OK);
+    same("codes", container[10] == 1 && container[11] == 0x18 && container[12] == 0x14, 1);
+    returns("open", rkyv_map_open_container(container, 108, kind, RKYV_ANY_WIDTH, &map), RKYV_OK);
+    returns("short keys", rkyv_map_open_container(container, 108, RKYV_NUMBER_TO_U32, 32, &map),
+            RKYV_CONTAINER_WRONG_KEY_TYPE);
+    returns("wide values", rkyv_map_open_container(container, 108, RKYV_LONG_NUMBER_TO_U64, 32, &map),
+            RKYV_CONTAINER_WRONG_VALUE_TYPE);
+}
+
 int main(void) {
     numbers();
     texts();
@@ -911,7 +1754,25 @@ int main(void) {
     unbuilt();
     failing_memory(RKYV_NUMBER_TO_U64);
     failing_memory(RKYV_TEXT_TO_U64);
+    failing_memory(RKYV_INDEX_NUMBER_TO_U64);
+    failing_memory(RKYV_INDEX_TEXT_TO_U64);
     invalid_items();
+    numbers_to_texts();
+    texts_to_texts();
+    built_to_texts();
+    failing_builds_to_texts();
+    text_value_containers();
+    number_sets();
+    text_sets();
+    built_sets();
+    set_containers();
+    long_numbers();
+    built_long_numbers();
+    indexed_numbers();
+    indexed_texts();
+    indexed_errors();
+    indexed_containers();
+    indexed_archives();
     if (faults == 0) {
         printf("all as expected\n");
     }

@@ -7,12 +7,15 @@ use std::ptr::NonNull;
 use crate::container::header_of;
 use crate::error::check;
 use crate::raw;
-use crate::types::kind;
-use crate::{Checksum, Error, Key, Map, MapMut, Value, Width};
+use crate::types::{index_kind, kind};
+use crate::{Checksum, Error, IndexMap, Key, Map, MapMut, Number, Value, Width};
 
 /// The pairs of a map that is to be archived.
 ///
-/// The keys are `u32` or `str`, the values `u32` or `u64`. Pairs are kept in insertion order. Of
+/// [`build`](Builder::build) makes a [`Map`] of them. [`build_index`](Builder::build_index) makes an
+/// [`IndexMap`], if the values are numbers.
+///
+/// The keys are `u32` or `str`, the values `u32`, `u64` or `str`. Pairs are kept in insertion order. Of
 /// pairs with equal keys, lookups return the value of the first one, unlike those of std's maps.
 ///
 /// # Examples
@@ -27,23 +30,23 @@ use crate::{Checksum, Error, Key, Map, MapMut, Value, Width};
 /// # Ok(())
 /// # }
 /// ```
-pub struct Builder<K: Key + ?Sized, V> {
+pub struct Builder<K: Key + ?Sized, V: Value + ?Sized> {
     keys: K::Keys,
-    values: Vec<V>,
+    values: V::Values,
 }
 
-impl<K: Key + ?Sized, V: Value> Builder<K, V> {
+impl<K: Key + ?Sized, V: Value + ?Sized> Builder<K, V> {
     /// Returns a builder without pairs.
     pub fn new() -> Self {
         Builder {
             keys: K::Keys::default(),
-            values: Vec::new(),
+            values: V::Values::default(),
         }
     }
 
     /// Returns a builder without pairs that has room for `capacity` of them.
     ///
-    /// The bytes of text keys are not counted.
+    /// The bytes of texts are not counted.
     pub fn with_capacity(capacity: usize) -> Self {
         let mut builder = Builder::new();
         builder.reserve(capacity);
@@ -53,35 +56,36 @@ impl<K: Key + ?Sized, V: Value> Builder<K, V> {
     /// Reserves room for at least `additional` more pairs.
     pub fn reserve(&mut self, additional: usize) {
         K::reserve(&mut self.keys, additional);
-        self.values.reserve(additional);
+        V::reserve(&mut self.values, additional);
     }
 
     /// Returns the number of pairs that the builder has room for without allocating.
     ///
-    /// The bytes of text keys are not counted.
+    /// The bytes of texts are not counted.
     pub fn capacity(&self) -> usize {
-        K::capacity(&self.keys).min(self.values.capacity())
+        K::capacity(&self.keys).min(V::capacity(&self.values))
     }
 
     /// Returns the number of pairs. Pairs with equal keys count separately.
     pub fn len(&self) -> usize {
-        self.values.len()
+        V::len(&self.values)
     }
 
     /// Returns `true` if the builder has no pairs.
     pub fn is_empty(&self) -> bool {
-        self.values.is_empty()
+        self.len() == 0
     }
 
     /// Appends a pair. If an earlier pair has the same key, lookups return the earlier value.
-    pub fn push(&mut self, key: &K, value: V) {
+    pub fn push(&mut self, key: &K, value: V::Ref<'_>) {
         K::push(&mut self.keys, key);
-        self.values.push(value);
+        V::push(&mut self.values, value.borrow());
     }
 
     /// Builds the archive of the pairs.
     ///
-    /// This needs about 60 to 120 bytes more for each pair until it returns. The builder keeps its pairs, so that an archive of another width can be built.
+    /// This needs about 60 to 120 bytes more for each pair until it returns. The builder keeps its
+    /// pairs, so that an archive of another width can be built.
     ///
     /// # Errors
     /// - [`ErrorKind::NoMemory`]
@@ -90,24 +94,27 @@ impl<K: Key + ?Sized, V: Value> Builder<K, V> {
     /// - [`ErrorKind::DistanceTooLarge`]
     /// - [`ErrorKind::TextTooLong`]
     pub fn build(&self, width: Width) -> Result<Archive<K, V>, Error> {
+        self.archive(width, V::item::<K>, |items, bytes, length| {
+            // SAFETY: the texts are borrowed from the builder.
+            unsafe { V::build::<K>(items, width as u32, bytes, length) }
+        })
+    }
+
+    /// Builds an archive of the pairs as items of the library, by a call that returns the status.
+    fn archive<T>(
+        &self,
+        width: Width,
+        item: impl Fn(&K, V::Ref<'_>) -> T,
+        build: impl FnOnce(&[T], &mut *mut u8, &mut usize) -> u32,
+    ) -> Result<Archive<K, V>, Error> {
         let mut items = Vec::new();
         if items.try_reserve_exact(self.len()).is_err() {
             check(raw::NO_MEMORY)?;
         }
-        items.extend(self.pairs().map(|(key, value)| K::item(key, value.into())));
+        items.extend(self.pairs().map(|(key, value)| item(key, value)));
         let mut bytes = std::ptr::null_mut();
         let mut length = 0;
-        // SAFETY: the keys are borrowed from the builder.
-        let status = unsafe {
-            K::build(
-                &items,
-                kind::<K, V>(),
-                width as u32,
-                &mut bytes,
-                &mut length,
-            )
-        };
-        check(status)?;
+        check(build(&items, &mut bytes, &mut length))?;
         Ok(Archive {
             bytes: NonNull::new(bytes).expect("the bytes of an archive are not null"),
             length,
@@ -116,18 +123,51 @@ impl<K: Key + ?Sized, V: Value> Builder<K, V> {
         })
     }
 
-    fn pairs(&self) -> impl Iterator<Item = (&K, V)> {
-        K::iter(&self.keys).zip(self.values.iter().copied())
+    pub(crate) fn keys(&self) -> impl Iterator<Item = &K> {
+        K::iter(&self.keys)
+    }
+
+    fn pairs(&self) -> impl Iterator<Item = (&K, V::Ref<'_>)> {
+        K::iter(&self.keys).zip(V::iter(&self.values))
     }
 }
 
-impl<K: Key + ?Sized, V: Value> Default for Builder<K, V> {
+impl<K: Key + ?Sized, V: Number> Builder<K, V> {
+    /// Builds the archive of the pairs as an index map, which keeps them in insertion order.
+    ///
+    /// It needs memory as [`build`](Builder::build) does.
+    ///
+    /// # Errors
+    /// As [`build`](Builder::build).
+    ///
+    /// # Examples
+    /// ```
+    /// use rkyv_maps::{Builder, Width};
+    ///
+    /// # fn main() -> Result<(), rkyv_maps::Error> {
+    /// let builder = Builder::<str, u32>::from([("tea", 3), ("coffee", 4)]);
+    /// let archive = builder.build_index(Width::Narrow)?;
+    /// assert_eq!(archive.open().get_index(1), Some(("coffee", 4)));
+    /// # Ok(())
+    /// # }
+    /// ```
+    pub fn build_index(&self, width: Width) -> Result<IndexArchive<K, V>, Error> {
+        let item = |key: &K, value: V| K::item(key, value.into());
+        let archive = self.archive(width, item, |items, bytes, length| {
+            // SAFETY: the keys are borrowed from the builder.
+            unsafe { K::build(items, index_kind::<K, V>(), width as u32, bytes, length) }
+        });
+        archive.map(IndexArchive)
+    }
+}
+
+impl<K: Key + ?Sized, V: Value + ?Sized> Default for Builder<K, V> {
     fn default() -> Self {
         Builder::new()
     }
 }
 
-impl<K: Key + ?Sized, V: Value> Clone for Builder<K, V> {
+impl<K: Key + ?Sized, V: Value + ?Sized> Clone for Builder<K, V> {
     fn clone(&self) -> Self {
         Builder {
             keys: self.keys.clone(),
@@ -136,34 +176,53 @@ impl<K: Key + ?Sized, V: Value> Clone for Builder<K, V> {
     }
 }
 
-impl<K: Key + ?Sized, V: Value> fmt::Debug for Builder<K, V> {
+impl<K: Key + ?Sized, V: Value + ?Sized> fmt::Debug for Builder<K, V> {
     fn fmt(&self, f: &mut fmt::Formatter<'_>) -> fmt::Result {
         f.debug_map().entries(self.pairs()).finish()
     }
 }
 
-/// Appends the pairs. A key may be owned or borrowed: `u32` or `&u32`, `String` or `&str`.
-impl<K: Key + ?Sized, V: Value, Q: Borrow<K>> Extend<(Q, V)> for Builder<K, V> {
-    fn extend<I: IntoIterator<Item = (Q, V)>>(&mut self, pairs: I) {
+/// Appends the pairs. A key or a value may be owned or borrowed: `u32` or `&u32`, `String` or `&str`.
+impl<K, V, Q, R> Extend<(Q, R)> for Builder<K, V>
+where
+    K: Key + ?Sized,
+    V: Value + ?Sized,
+    Q: Borrow<K>,
+    R: Borrow<V>,
+{
+    fn extend<I: IntoIterator<Item = (Q, R)>>(&mut self, pairs: I) {
         let pairs = pairs.into_iter();
         self.reserve(pairs.size_hint().0);
         for (key, value) in pairs {
-            self.push(key.borrow(), value);
+            K::push(&mut self.keys, key.borrow());
+            V::push(&mut self.values, value.borrow());
         }
     }
 }
 
-/// Collects pairs. A key may be owned or borrowed: `u32` or `&u32`, `String` or `&str`.
-impl<K: Key + ?Sized, V: Value, Q: Borrow<K>> FromIterator<(Q, V)> for Builder<K, V> {
-    fn from_iter<I: IntoIterator<Item = (Q, V)>>(pairs: I) -> Self {
+/// Collects pairs. A key or a value may be owned or borrowed: `u32` or `&u32`, `String` or `&str`.
+impl<K, V, Q, R> FromIterator<(Q, R)> for Builder<K, V>
+where
+    K: Key + ?Sized,
+    V: Value + ?Sized,
+    Q: Borrow<K>,
+    R: Borrow<V>,
+{
+    fn from_iter<I: IntoIterator<Item = (Q, R)>>(pairs: I) -> Self {
         let mut builder = Builder::new();
         builder.extend(pairs);
         builder
     }
 }
 
-impl<K: Key + ?Sized, V: Value, Q: Borrow<K>, const N: usize> From<[(Q, V); N]> for Builder<K, V> {
-    fn from(pairs: [(Q, V); N]) -> Self {
+impl<K, V, Q, R, const N: usize> From<[(Q, R); N]> for Builder<K, V>
+where
+    K: Key + ?Sized,
+    V: Value + ?Sized,
+    Q: Borrow<K>,
+    R: Borrow<V>,
+{
+    fn from(pairs: [(Q, R); N]) -> Self {
         pairs.into_iter().collect()
     }
 }
@@ -187,21 +246,21 @@ impl<K: Key + ?Sized, V: Value, Q: Borrow<K>, const N: usize> From<[(Q, V); N]> 
 /// # Ok(())
 /// # }
 /// ```
-pub struct Archive<K: ?Sized, V> {
+pub struct Archive<K: ?Sized, V: ?Sized> {
     bytes: NonNull<u8>,
     length: usize,
     width: Width,
-    types: PhantomData<fn(&K) -> V>,
+    types: PhantomData<fn(&K, &V)>,
 }
 
 // SAFETY: an archive owns its bytes, as a `Vec` does, and the C library frees a block on any
 // thread.
-unsafe impl<K: ?Sized, V> Send for Archive<K, V> {}
+unsafe impl<K: ?Sized, V: ?Sized> Send for Archive<K, V> {}
 
 // SAFETY: a shared reference to an archive only reads the bytes.
-unsafe impl<K: ?Sized, V> Sync for Archive<K, V> {}
+unsafe impl<K: ?Sized, V: ?Sized> Sync for Archive<K, V> {}
 
-impl<K: ?Sized, V> Archive<K, V> {
+impl<K: ?Sized, V: ?Sized> Archive<K, V> {
     /// Returns the bytes.
     pub fn as_bytes(&self) -> &[u8] {
         // SAFETY: the archive owns the bytes until it is dropped.
@@ -214,7 +273,7 @@ impl<K: ?Sized, V> Archive<K, V> {
     }
 }
 
-impl<K: Key + ?Sized, V: Value> Archive<K, V> {
+impl<K: Key + ?Sized, V: Value + ?Sized> Archive<K, V> {
     /// Opens the map, with the types and the width that the archive was built with.
     ///
     /// This validates the bytes, as [`Map::open`] does. A built archive is valid.
@@ -222,21 +281,11 @@ impl<K: Key + ?Sized, V: Value> Archive<K, V> {
         Map::open(self.as_bytes(), self.width).expect("a built archive is valid")
     }
 
-    /// Opens the map to read and to write values in place.
-    ///
-    /// This validates the bytes, as [`MapMut::open`] does. A built archive is valid.
-    pub fn open_mut(&mut self) -> MapMut<'_, K, V> {
-        // SAFETY: the archive owns the bytes until it is dropped, and is borrowed mutably.
-        let bytes = unsafe { std::slice::from_raw_parts_mut(self.bytes.as_ptr(), self.length) };
-        MapMut::open(bytes, self.width).expect("a built archive is valid")
-    }
-
     /// Returns the container of the archive: a header of 32 bytes, and a copy of the archive.
     ///
     /// [`Map::open_container`] opens it, with the types of this archive alone.
     pub fn to_container(&self, checksum: Checksum) -> Vec<u8> {
-        let header = header_of::<K, V>(self.as_bytes(), self.width, checksum);
-        [&header, self.as_bytes()].concat()
+        container(kind::<K, V>(), self, checksum)
     }
 
     /// Writes the container of the archive, as [`to_container`](Archive::to_container) returns it.
@@ -245,26 +294,54 @@ impl<K: Key + ?Sized, V: Value> Archive<K, V> {
     ///
     /// # Errors
     /// Those of the writer. It may then have taken a part of the container.
-    pub fn write_container<W: Write>(&self, checksum: Checksum, mut writer: W) -> io::Result<()> {
-        writer.write_all(&header_of::<K, V>(self.as_bytes(), self.width, checksum))?;
-        writer.write_all(self.as_bytes())
+    pub fn write_container<W: Write>(&self, checksum: Checksum, writer: W) -> io::Result<()> {
+        write_container(kind::<K, V>(), self, checksum, writer)
     }
 }
 
-impl<K: ?Sized, V> AsRef<[u8]> for Archive<K, V> {
+impl<K: Key + ?Sized, V: Number> Archive<K, V> {
+    /// Opens the map to read and to write values in place.
+    ///
+    /// This validates the bytes, as [`MapMut::open`] does. A built archive is valid.
+    pub fn open_mut(&mut self) -> MapMut<'_, K, V> {
+        // SAFETY: the archive owns the bytes until it is dropped, and is borrowed mutably.
+        let bytes = unsafe { std::slice::from_raw_parts_mut(self.bytes.as_ptr(), self.length) };
+        MapMut::open(bytes, self.width).expect("a built archive is valid")
+    }
+}
+
+/// The container of an archive of a map of the kind.
+fn container<K: ?Sized, V: ?Sized>(kind: u32, archive: &Archive<K, V>, checksum: Checksum) -> Vec<u8> {
+    let bytes = archive.as_bytes();
+    [&header_of(kind, bytes, archive.width, checksum), bytes].concat()
+}
+
+/// Writes the container of an archive of a map of the kind.
+fn write_container<K: ?Sized, V: ?Sized>(
+    kind: u32,
+    archive: &Archive<K, V>,
+    checksum: Checksum,
+    mut writer: impl Write,
+) -> io::Result<()> {
+    let bytes = archive.as_bytes();
+    writer.write_all(&header_of(kind, bytes, archive.width, checksum))?;
+    writer.write_all(bytes)
+}
+
+impl<K: ?Sized, V: ?Sized> AsRef<[u8]> for Archive<K, V> {
     fn as_ref(&self) -> &[u8] {
         self.as_bytes()
     }
 }
 
-impl<K: ?Sized, V> From<Archive<K, V>> for Vec<u8> {
+impl<K: ?Sized, V: ?Sized> From<Archive<K, V>> for Vec<u8> {
     /// Copies the bytes and frees those of the C library.
     fn from(archive: Archive<K, V>) -> Vec<u8> {
         archive.as_bytes().to_vec()
     }
 }
 
-impl<K: ?Sized, V> fmt::Debug for Archive<K, V> {
+impl<K: ?Sized, V: ?Sized> fmt::Debug for Archive<K, V> {
     fn fmt(&self, f: &mut fmt::Formatter<'_>) -> fmt::Result {
         f.debug_struct("Archive")
             .field("width", &self.width)
@@ -273,9 +350,89 @@ impl<K: ?Sized, V> fmt::Debug for Archive<K, V> {
     }
 }
 
-impl<K: ?Sized, V> Drop for Archive<K, V> {
+impl<K: ?Sized, V: ?Sized> Drop for Archive<K, V> {
     fn drop(&mut self) {
         // SAFETY: the bytes are of a call that builds, and are freed only here.
         unsafe { raw::rkyv_bytes_free(self.bytes.as_ptr()) }
+    }
+}
+
+/// The bytes of an archive that [`Builder::build_index`] has built.
+///
+/// As those of an [`Archive`], they are in memory of the C library, and don't record the types and
+/// the width. A container does: write one to a file.
+///
+/// # Examples
+/// ```
+/// use rkyv_maps::{Builder, Checksum, IndexMap, Width};
+///
+/// # fn main() -> Result<(), rkyv_maps::Error> {
+/// let builder = Builder::<str, u32>::from([("one", 1), ("two", 2)]);
+/// let container = builder.build_index(Width::Narrow)?.to_container(Checksum::Adler32);
+/// let map = IndexMap::<str, u32>::open_container(&container)?;
+/// assert_eq!(map.get_index_of("two"), Some(1));
+/// # Ok(())
+/// # }
+/// ```
+pub struct IndexArchive<K: ?Sized, V>(Archive<K, V>);
+
+impl<K: ?Sized, V> IndexArchive<K, V> {
+    /// Returns the bytes.
+    pub fn as_bytes(&self) -> &[u8] {
+        self.0.as_bytes()
+    }
+
+    /// Returns the width that the archive was built with.
+    pub fn width(&self) -> Width {
+        self.0.width()
+    }
+}
+
+impl<K: Key + ?Sized, V: Number> IndexArchive<K, V> {
+    /// Opens the index map, with the types and the width that the archive was built with.
+    ///
+    /// This validates the bytes, as [`IndexMap::open`] does. A built archive is valid.
+    pub fn open(&self) -> IndexMap<'_, K, V> {
+        IndexMap::open(self.as_bytes(), self.width()).expect("a built archive is valid")
+    }
+
+    /// Returns the container of the archive: a header of 32 bytes, and a copy of the archive.
+    ///
+    /// [`IndexMap::open_container`] opens it, with the types of this archive alone.
+    pub fn to_container(&self, checksum: Checksum) -> Vec<u8> {
+        container(index_kind::<K, V>(), &self.0, checksum)
+    }
+
+    /// Writes the container of the archive, as [`to_container`](IndexArchive::to_container) returns
+    /// it.
+    ///
+    /// The archive is written in place, without a copy in memory.
+    ///
+    /// # Errors
+    /// Those of the writer. It may then have taken a part of the container.
+    pub fn write_container<W: Write>(&self, checksum: Checksum, writer: W) -> io::Result<()> {
+        write_container(index_kind::<K, V>(), &self.0, checksum, writer)
+    }
+}
+
+impl<K: ?Sized, V> AsRef<[u8]> for IndexArchive<K, V> {
+    fn as_ref(&self) -> &[u8] {
+        self.as_bytes()
+    }
+}
+
+impl<K: ?Sized, V> From<IndexArchive<K, V>> for Vec<u8> {
+    /// Copies the bytes and frees those of the C library.
+    fn from(archive: IndexArchive<K, V>) -> Vec<u8> {
+        archive.0.into()
+    }
+}
+
+impl<K: ?Sized, V> fmt::Debug for IndexArchive<K, V> {
+    fn fmt(&self, f: &mut fmt::Formatter<'_>) -> fmt::Result {
+        f.debug_struct("IndexArchive")
+            .field("width", &self.width())
+            .field("bytes", &self.as_bytes())
+            .finish()
     }
 }

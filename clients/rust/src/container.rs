@@ -1,7 +1,6 @@
 use crate::error::check;
 use crate::raw::{self, HEADER_LEN};
-use crate::types::kind;
-use crate::{Error, Key, Value, Width};
+use crate::{Error, Width};
 
 /// Whether a container has a checksum of its archive.
 ///
@@ -47,8 +46,9 @@ pub fn update_container(container: &mut [u8]) -> Result<(), Error> {
     check(unsafe { raw::rkyv_container_update(pointer, length) })
 }
 
-/// The header of the container of an archive of such a map.
-pub(crate) fn header_of<K: Key + ?Sized, V: Value>(
+/// The header of the container of an archive of a map of the kind.
+pub(crate) fn header_of(
+    kind: u32,
     archive: &[u8],
     width: Width,
     checksum: Checksum,
@@ -59,7 +59,7 @@ pub(crate) fn header_of<K: Key + ?Sized, V: Value>(
         raw::rkyv_container_header(
             archive.as_ptr().cast(),
             archive.len(),
-            kind::<K, V>(),
+            kind,
             width as u32,
             checksum == Checksum::Adler32,
             header.as_mut_ptr(),

@@ -70,6 +70,7 @@ impl fmt::Display for Error {
                 write!(f, " ({first} pairs, {second} full buckets)")
             }
             ErrorKind::UnwrappedControlByte => write!(f, " (index {first})"),
+            ErrorKind::PlaceOutOfRange => write!(f, " (index {first}, {second} pairs)"),
             ErrorKind::InvalidValue => write!(f, " (position {position})"),
             ErrorKind::ContainerTooShort => write!(f, " ({first} bytes)"),
             ErrorKind::UnsupportedVersion
@@ -95,9 +96,10 @@ impl std::error::Error for Error {}
 
 /// The kind of an [`Error`].
 ///
-/// [`Map::open`](crate::Map::open) and [`MapMut::open`](crate::MapMut::open) fail with the first
-/// group, [`Builder::build`](crate::Builder::build) with the second. The calls that open a
-/// container fail with the third group, or with the first one if its archive is not valid.
+/// [`Map::open`](crate::Map::open), [`MapMut::open`](crate::MapMut::open) and
+/// [`IndexMap::open`](crate::IndexMap::open) fail with the first group,
+/// [`Builder::build`](crate::Builder::build) with the second. The calls that open a container fail
+/// with the third group, or with the first one if its archive is not valid.
 #[derive(Clone, Copy, Debug, PartialEq, Eq, Hash)]
 #[non_exhaustive]
 pub enum ErrorKind {
@@ -111,6 +113,8 @@ pub enum ErrorKind {
     WrongNumberOfElements,
     /// A mirrored control byte differs from the one that it mirrors.
     UnwrappedControlByte,
+    /// An index in the table of an index map is not less than the number of pairs.
+    PlaceOutOfRange,
     /// A text key is not UTF-8, or its length is malformed.
     InvalidValue,
 
@@ -145,7 +149,7 @@ pub enum ErrorKind {
     UnexpectedChecksum,
     /// The last four bytes of the header of a container are not 0.
     NonzeroReserved,
-    /// A container has another kind of collection than a hash map.
+    /// A container has another kind of collection.
     WrongCollection,
     /// The keys in a container are of another type.
     WrongKeyType,
@@ -176,6 +180,9 @@ impl fmt::Display for ErrorKind {
             ErrorKind::UnwrappedControlByte => {
                 "a mirrored control byte differs from the one that it mirrors"
             }
+            ErrorKind::PlaceOutOfRange => {
+                "an index in the table is not less than the number of pairs"
+            }
             ErrorKind::InvalidValue => "a text key is not UTF-8, or its length is malformed",
             ErrorKind::NoMemory => "the C library failed to allocate memory",
             ErrorKind::CapacityTooLarge => "the map needs more buckets than the width can count",
@@ -194,7 +201,7 @@ impl fmt::Display for ErrorKind {
             ErrorKind::UnknownFlags => "the container has unknown flags",
             ErrorKind::UnexpectedChecksum => "the container has a checksum, but no flag for one",
             ErrorKind::NonzeroReserved => "the reserved bytes of the container are not 0",
-            ErrorKind::WrongCollection => "the container has no hash map",
+            ErrorKind::WrongCollection => "the container has another kind of collection",
             ErrorKind::WrongKeyType => "the keys in the container are of another type",
             ErrorKind::WrongValueType => "the values in the container are of another type",
             ErrorKind::WrongWidth => "the archive in the container has another width",
@@ -217,6 +224,7 @@ impl ErrorKind {
             18 => ErrorKind::InvalidLength,
             19 => ErrorKind::WrongNumberOfElements,
             20 => ErrorKind::UnwrappedControlByte,
+            21 => ErrorKind::PlaceOutOfRange,
             22 => ErrorKind::InvalidValue,
             24 => ErrorKind::CapacityTooLarge,
             25 => ErrorKind::PositionTooLarge,

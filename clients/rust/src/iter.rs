@@ -10,34 +10,34 @@ const BATCH: usize = 16;
 
 /// An iterator over the pairs of a [`Map`](crate::Map), in the order of the archive.
 #[must_use = "iterators are lazy and do nothing unless consumed"]
-pub struct Iter<'a, K: Key + ?Sized, V> {
+pub struct Iter<'a, K: Key + ?Sized, V: Value + ?Sized> {
     raw: RawMap,
     /// The pairs that were stored last. Those before `taken` were returned, and those from `stored`
     /// on have no meaning.
-    pairs: [K::Pair; BATCH],
+    pairs: [V::Pair<K>; BATCH],
     taken: usize,
     stored: usize,
     /// The bucket behind the pairs that were stored.
     from: u64,
     left: usize,
     bytes: PhantomData<&'a [u8]>,
-    types: PhantomData<fn(&K) -> V>,
+    types: PhantomData<fn(&K, &V)>,
 }
 
 // SAFETY: as a map, an iterator is a shared borrow of bytes, which its calls only read. The pairs
 // and the position are its own.
-unsafe impl<K: Key + ?Sized, V> Send for Iter<'_, K, V> {}
+unsafe impl<K: Key + ?Sized, V: Value + ?Sized> Send for Iter<'_, K, V> {}
 
 // SAFETY: a shared reference to an iterator gives access to its bytes, pairs and position only to
 // read.
-unsafe impl<K: Key + ?Sized, V> Sync for Iter<'_, K, V> {}
+unsafe impl<K: Key + ?Sized, V: Value + ?Sized> Sync for Iter<'_, K, V> {}
 
-impl<K: Key + ?Sized, V> Iter<'_, K, V> {
+impl<K: Key + ?Sized, V: Value + ?Sized> Iter<'_, K, V> {
     /// The pairs of an open map with `len` pairs, whose bytes are borrowed.
     pub(crate) fn new(raw: RawMap, len: usize) -> Self {
         Iter {
             raw,
-            pairs: [K::NO_PAIR; BATCH],
+            pairs: [V::no_pair::<K>(); BATCH],
             taken: 0,
             stored: 0,
             from: 0,
@@ -52,27 +52,27 @@ impl<K: Key + ?Sized, V> Iter<'_, K, V> {
     fn store(&mut self) {
         // SAFETY: the map is open, and its bytes are borrowed for 'a.
         let status =
-            unsafe { K::next_pairs(&self.raw, self.from, &mut self.pairs, &mut self.stored) };
+            unsafe { V::next_pairs::<K>(&self.raw, self.from, &mut self.pairs, &mut self.stored) };
         assert!(
             status == raw::OK && self.stored > 0,
             "an open map has {} more pairs: {status}",
             self.left
         );
         self.taken = 0;
-        self.from = K::behind(&self.pairs[self.stored - 1]);
+        self.from = V::behind::<K>(&self.pairs[self.stored - 1]);
     }
 }
 
-impl<K: Key + ?Sized, V> Clone for Iter<'_, K, V> {
+impl<K: Key + ?Sized, V: Value + ?Sized> Clone for Iter<'_, K, V> {
     fn clone(&self) -> Self {
         Iter { ..*self }
     }
 }
 
-impl<'a, K: Key + ?Sized, V: Value> Iterator for Iter<'a, K, V> {
-    type Item = (K::Ref<'a>, V);
+impl<'a, K: Key + ?Sized, V: Value + ?Sized> Iterator for Iter<'a, K, V> {
+    type Item = (K::Ref<'a>, V::Ref<'a>);
 
-    fn next(&mut self) -> Option<(K::Ref<'a>, V)> {
+    fn next(&mut self) -> Option<(K::Ref<'a>, V::Ref<'a>)> {
         if self.left == 0 {
             return None;
         }
@@ -80,10 +80,10 @@ impl<'a, K: Key + ?Sized, V: Value> Iterator for Iter<'a, K, V> {
             self.store();
         }
         // SAFETY: the pair is one of the map, which is open, and its bytes are borrowed for 'a.
-        let (key, value) = unsafe { K::key_value(&self.pairs[self.taken]) };
+        let pair = unsafe { V::key_value::<K>(&self.pairs[self.taken]) };
         self.taken += 1;
         self.left -= 1;
-        Some((key, V::of(value)))
+        Some(pair)
     }
 
     fn size_hint(&self) -> (usize, Option<usize>) {
@@ -91,11 +91,11 @@ impl<'a, K: Key + ?Sized, V: Value> Iterator for Iter<'a, K, V> {
     }
 }
 
-impl<K: Key + ?Sized, V: Value> ExactSizeIterator for Iter<'_, K, V> {}
+impl<K: Key + ?Sized, V: Value + ?Sized> ExactSizeIterator for Iter<'_, K, V> {}
 
-impl<K: Key + ?Sized, V: Value> FusedIterator for Iter<'_, K, V> {}
+impl<K: Key + ?Sized, V: Value + ?Sized> FusedIterator for Iter<'_, K, V> {}
 
-impl<K: Key + ?Sized, V: Value> fmt::Debug for Iter<'_, K, V> {
+impl<K: Key + ?Sized, V: Value + ?Sized> fmt::Debug for Iter<'_, K, V> {
     fn fmt(&self, f: &mut fmt::Formatter<'_>) -> fmt::Result {
         f.debug_list().entries(self.clone()).finish()
     }
@@ -105,23 +105,23 @@ macro_rules! part {
     ($(#[$doc:meta])* $name:ident, $item:ty, $index:tt) => {
         $(#[$doc])*
         #[must_use = "iterators are lazy and do nothing unless consumed"]
-        pub struct $name<'a, K: Key + ?Sized, V> {
+        pub struct $name<'a, K: Key + ?Sized, V: Value + ?Sized> {
             pairs: Iter<'a, K, V>,
         }
 
-        impl<'a, K: Key + ?Sized, V> $name<'a, K, V> {
+        impl<'a, K: Key + ?Sized, V: Value + ?Sized> $name<'a, K, V> {
             pub(crate) fn new(pairs: Iter<'a, K, V>) -> Self {
                 $name { pairs }
             }
         }
 
-        impl<K: Key + ?Sized, V> Clone for $name<'_, K, V> {
+        impl<K: Key + ?Sized, V: Value + ?Sized> Clone for $name<'_, K, V> {
             fn clone(&self) -> Self {
                 $name::new(self.pairs.clone())
             }
         }
 
-        impl<'a, K: Key + ?Sized, V: Value> Iterator for $name<'a, K, V> {
+        impl<'a, K: Key + ?Sized, V: Value + ?Sized> Iterator for $name<'a, K, V> {
             type Item = $item;
 
             fn next(&mut self) -> Option<$item> {
@@ -133,11 +133,11 @@ macro_rules! part {
             }
         }
 
-        impl<K: Key + ?Sized, V: Value> ExactSizeIterator for $name<'_, K, V> {}
+        impl<K: Key + ?Sized, V: Value + ?Sized> ExactSizeIterator for $name<'_, K, V> {}
 
-        impl<K: Key + ?Sized, V: Value> FusedIterator for $name<'_, K, V> {}
+        impl<K: Key + ?Sized, V: Value + ?Sized> FusedIterator for $name<'_, K, V> {}
 
-        impl<K: Key + ?Sized, V: Value> fmt::Debug for $name<'_, K, V> {
+        impl<K: Key + ?Sized, V: Value + ?Sized> fmt::Debug for $name<'_, K, V> {
             fn fmt(&self, f: &mut fmt::Formatter<'_>) -> fmt::Result {
                 f.debug_list().entries(self.clone()).finish()
             }
@@ -152,5 +152,5 @@ part! {
 
 part! {
     /// An iterator over the values of a [`Map`](crate::Map), in the order of the archive.
-    Values, V, 1
+    Values, V::Ref<'a>, 1
 }

@@ -1,8 +1,13 @@
-//! Hash maps in rkyv's archived byte format, over the proved static library `ffi_rkyv`.
+//! Hash maps and index maps in rkyv's archived byte format, over the proved static library
+//! `ffi_rkyv`.
 //!
 //! A [`Builder`] collects pairs and builds the bytes of an archive. A [`Map`] borrows such bytes:
-//! [`Map::open`] validates them once, and lookups and iteration then read them in place. A
-//! [`MapMut`] also writes values in place. Keys are `u32` or `str`, values are `u32` or `u64`.
+//! [`Map::open`] validates them once, and lookups and iteration then read them in place. Keys are
+//! `u32` or `str`, values are `u32`, `u64` or `str`. A [`MapMut`] also writes numbers in place. A
+//! [`SetBuilder`] and a [`Set`] are the same for sets of `u32` or `str`.
+//!
+//! An [`IndexMap`] keeps its pairs in insertion order. It is looked up by key or by index, as a
+//! table of interned texts is. [`Builder::build_index`] builds the bytes of its archive.
 //!
 //! ```
 //! use rkyv_maps::{Builder, Map, Width};
@@ -57,17 +62,21 @@
 mod builder;
 mod container;
 mod error;
+pub mod index_map;
 mod iter;
 mod map;
 mod raw;
+mod set;
 mod types;
 
-pub use builder::{Archive, Builder};
+pub use builder::{Archive, Builder, IndexArchive};
 pub use container::{update_container, Checksum};
 pub use error::{Error, ErrorKind};
+pub use index_map::IndexMap;
 pub use iter::{Iter, Keys, Values};
 pub use map::{Map, MapMut};
-pub use types::{Key, Value, Width};
+pub use set::{Members, Set, SetArchive, SetBuilder};
+pub use types::{Key, Number, Value, Width};
 
 /// The program of the README, which is tested as an example.
 #[cfg(doctest)]

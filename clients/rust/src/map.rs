@@ -5,9 +5,10 @@ use crate::error::{check, check_open};
 use crate::iter::{Iter, Keys, Values};
 use crate::raw::{self, RawMap};
 use crate::types::kind;
-use crate::{Error, Key, Value, Width};
+use crate::{Error, Key, Number, Value, Width};
 
-/// A map of `K`, which is `u32` or `str`, to `V`, which is `u32` or `u64`, that borrows an archive.
+/// A map of `K`, which is `u32` or `str`, to `V`, which is `u32`, `u64` or `str`, that borrows an
+/// archive.
 ///
 /// A `Map` is a few words: copy it freely. Lookups and iteration allocate nothing and read the
 /// bytes in place, at any alignment.
@@ -26,29 +27,44 @@ use crate::{Error, Key, Value, Width};
 /// # Ok(())
 /// # }
 /// ```
-pub struct Map<'a, K: ?Sized, V> {
+///
+/// Values that are texts are parts of the archive:
+///
+/// ```
+/// use rkyv_maps::{Builder, Map, Width};
+///
+/// # fn main() -> Result<(), rkyv_maps::Error> {
+/// let builder = Builder::<str, str>::from([("tea", "Tee"), ("cake", "Kuchen")]);
+/// let bytes: Vec<u8> = builder.build(Width::Narrow)?.into();
+/// let map = Map::<str, str>::open(&bytes, Width::Narrow)?;
+/// let cake: &str = map.get("cake").expect("the word is there");
+/// assert_eq!(cake, "Kuchen");
+/// # Ok(())
+/// # }
+/// ```
+pub struct Map<'a, K: ?Sized, V: ?Sized> {
     raw: RawMap,
     bytes: PhantomData<&'a [u8]>,
-    types: PhantomData<fn(&K) -> V>,
+    types: PhantomData<fn(&K, &V)>,
 }
 
 // SAFETY: a map is a shared borrow of bytes, which may be sent to another thread. Its calls only
 // read the bytes, and keep no state.
-unsafe impl<K: ?Sized, V> Send for Map<'_, K, V> {}
+unsafe impl<K: ?Sized, V: ?Sized> Send for Map<'_, K, V> {}
 
 // SAFETY: as above. Several threads may read by one handle at the same time.
-unsafe impl<K: ?Sized, V> Sync for Map<'_, K, V> {}
+unsafe impl<K: ?Sized, V: ?Sized> Sync for Map<'_, K, V> {}
 
 // Not derived: a derived impl would require `K: Copy`, which `str` isn't.
-impl<K: ?Sized, V> Clone for Map<'_, K, V> {
+impl<K: ?Sized, V: ?Sized> Clone for Map<'_, K, V> {
     fn clone(&self) -> Self {
         *self
     }
 }
 
-impl<K: ?Sized, V> Copy for Map<'_, K, V> {}
+impl<K: ?Sized, V: ?Sized> Copy for Map<'_, K, V> {}
 
-impl<'a, K: Key + ?Sized, V: Value> Map<'a, K, V> {
+impl<'a, K: Key + ?Sized, V: Value + ?Sized> Map<'a, K, V> {
     /// Validates the bytes and opens the map whose archive they are.
     ///
     /// Validation reads all bytes once. The bytes of an archive don't record their types:
@@ -178,22 +194,21 @@ impl<'a, K: Key + ?Sized, V: Value> Map<'a, K, V> {
     ///
     /// In a map that a [`Builder`](crate::Builder) has built, this is the value of the first pair
     /// with the key.
-    pub fn get(&self, key: &K) -> Option<V> {
-        let mut value = 0;
-        // SAFETY: the map is open and borrows its bytes.
-        let status = unsafe { K::get(&self.raw, key, &mut value) };
-        found(status).then(|| V::of(value))
+    pub fn get(&self, key: &K) -> Option<V::Ref<'a>> {
+        // SAFETY: the map is open and borrows its bytes for 'a.
+        let (status, value) = unsafe { V::get(&self.raw, key) };
+        found(status).then_some(value)
     }
 
     /// Returns the value of a key.
     ///
     /// This takes the role of `Index`, whose result would be a reference to the value. The bytes of
-    /// a value needn't be aligned, so there is no such reference.
+    /// a number needn't be aligned, so there is no such reference.
     ///
     /// # Panics
     /// If the lookup doesn't find the key.
     #[track_caller]
-    pub fn at(&self, key: &K) -> V {
+    pub fn at(&self, key: &K) -> V::Ref<'a> {
         self.get(key)
             .unwrap_or_else(|| panic!("no entry found for key {key:?}"))
     }
@@ -219,14 +234,14 @@ impl<'a, K: Key + ?Sized, V: Value> Map<'a, K, V> {
     }
 }
 
-impl<K: Key + ?Sized, V: Value> fmt::Debug for Map<'_, K, V> {
+impl<K: Key + ?Sized, V: Value + ?Sized> fmt::Debug for Map<'_, K, V> {
     fn fmt(&self, f: &mut fmt::Formatter<'_>) -> fmt::Result {
         f.debug_map().entries(self).finish()
     }
 }
 
-impl<'a, K: Key + ?Sized, V: Value> IntoIterator for Map<'a, K, V> {
-    type Item = (K::Ref<'a>, V);
+impl<'a, K: Key + ?Sized, V: Value + ?Sized> IntoIterator for Map<'a, K, V> {
+    type Item = (K::Ref<'a>, V::Ref<'a>);
     type IntoIter = Iter<'a, K, V>;
 
     fn into_iter(self) -> Iter<'a, K, V> {
@@ -234,8 +249,8 @@ impl<'a, K: Key + ?Sized, V: Value> IntoIterator for Map<'a, K, V> {
     }
 }
 
-impl<'a, K: Key + ?Sized, V: Value> IntoIterator for &Map<'a, K, V> {
-    type Item = (K::Ref<'a>, V);
+impl<'a, K: Key + ?Sized, V: Value + ?Sized> IntoIterator for &Map<'a, K, V> {
+    type Item = (K::Ref<'a>, V::Ref<'a>);
     type IntoIter = Iter<'a, K, V>;
 
     fn into_iter(self) -> Iter<'a, K, V> {
@@ -243,7 +258,7 @@ impl<'a, K: Key + ?Sized, V: Value> IntoIterator for &Map<'a, K, V> {
     }
 }
 
-/// A map whose values can be written in place.
+/// A map whose values, which are numbers, can be written in place.
 ///
 /// Keys can't be inserted or removed: the bytes keep their length.
 ///
@@ -273,7 +288,7 @@ unsafe impl<K: ?Sized, V> Send for MapMut<'_, K, V> {}
 // SAFETY: a shared reference to the map only reads the bytes. Writing takes a mutable one.
 unsafe impl<K: ?Sized, V> Sync for MapMut<'_, K, V> {}
 
-impl<'a, K: Key + ?Sized, V: Value> MapMut<'a, K, V> {
+impl<'a, K: Key + ?Sized, V: Number> MapMut<'a, K, V> {
     /// Validates the bytes and opens the map whose archive they are, to read and to write.
     ///
     /// # Errors
@@ -400,7 +415,7 @@ impl<'a, K: Key + ?Sized, V: Value> MapMut<'a, K, V> {
     }
 }
 
-impl<'m, K: Key + ?Sized, V: Value> IntoIterator for &'m MapMut<'_, K, V> {
+impl<'m, K: Key + ?Sized, V: Number> IntoIterator for &'m MapMut<'_, K, V> {
     type Item = (K::Ref<'m>, V);
     type IntoIter = Iter<'m, K, V>;
 
@@ -409,7 +424,7 @@ impl<'m, K: Key + ?Sized, V: Value> IntoIterator for &'m MapMut<'_, K, V> {
     }
 }
 
-impl<'a, K: Key + ?Sized, V: Value> From<MapMut<'a, K, V>> for Map<'a, K, V> {
+impl<'a, K: Key + ?Sized, V: Number> From<MapMut<'a, K, V>> for Map<'a, K, V> {
     /// Ends writing: the map borrows the bytes for the same lifetime.
     fn from(map: MapMut<'a, K, V>) -> Self {
         Map {
@@ -420,7 +435,7 @@ impl<'a, K: Key + ?Sized, V: Value> From<MapMut<'a, K, V>> for Map<'a, K, V> {
     }
 }
 
-impl<K: Key + ?Sized, V: Value> fmt::Debug for MapMut<'_, K, V> {
+impl<K: Key + ?Sized, V: Number> fmt::Debug for MapMut<'_, K, V> {
     fn fmt(&self, f: &mut fmt::Formatter<'_>) -> fmt::Result {
         self.as_map().fmt(f)
     }

@@ -1,7 +1,7 @@
 //! Containers: each opens as its own types alone, and each damaged header has the stated error.
 
 use rkyv_maps::{
-    update_container, Archive, Builder, Checksum, Error, ErrorKind, Key, Map, MapMut, Value, Width,
+    update_container, Archive, Builder, Checksum, Error, ErrorKind, Key, Map, MapMut, Number, Width,
 };
 
 const WIDTHS: [Width; 2] = [Width::Narrow, Width::Wide];
@@ -9,12 +9,12 @@ const CHECKSUMS: [Checksum; 2] = [Checksum::None, Checksum::Adler32];
 
 /// The archive of the numbers 1 to `count` as keys, or of their texts, each with itself as value.
 trait Sample: Key {
-    fn sample<V: Value>(count: u32, width: Width) -> Archive<Self, V>;
+    fn sample<V: Number>(count: u32, width: Width) -> Archive<Self, V>;
 }
 
 impl Sample for u32 {
-    fn sample<V: Value>(count: u32, width: Width) -> Archive<u32, V> {
-        pairs(count)
+    fn sample<V: Number>(count: u32, width: Width) -> Archive<u32, V> {
+        pairs::<V>(count)
             .collect::<Builder<u32, V>>()
             .build(width)
             .unwrap()
@@ -22,13 +22,13 @@ impl Sample for u32 {
 }
 
 impl Sample for str {
-    fn sample<V: Value>(count: u32, width: Width) -> Archive<str, V> {
-        let texts = pairs(count).map(|(number, value)| (number.to_string(), value));
+    fn sample<V: Number>(count: u32, width: Width) -> Archive<str, V> {
+        let texts = pairs::<V>(count).map(|(number, value)| (number.to_string(), value));
         texts.collect::<Builder<str, V>>().build(width).unwrap()
     }
 }
 
-fn pairs<V: Value>(count: u32) -> impl Iterator<Item = (u32, V)> {
+fn pairs<V: Number>(count: u32) -> impl Iterator<Item = (u32, V)> {
     let value = |number| {
         V::try_from(u64::from(number))
             .ok()
@@ -38,7 +38,7 @@ fn pairs<V: Value>(count: u32) -> impl Iterator<Item = (u32, V)> {
 }
 
 /// The error with which bytes are opened as a container of a type, to read and to write.
-fn error_as<K: Key + ?Sized, V: Value>(bytes: &[u8]) -> Option<ErrorKind> {
+fn error_as<K: Key + ?Sized, V: Number>(bytes: &[u8]) -> Option<ErrorKind> {
     let error = Map::<K, V>::open_container(bytes)
         .err()
         .map(|error| error.kind());

@@ -2,12 +2,12 @@
 
 use std::borrow::Borrow;
 
-use rkyv_maps::{Builder, ErrorKind, Key, Map, MapMut, Value, Width};
+use rkyv_maps::{Builder, ErrorKind, Key, Map, MapMut, Number, Width};
 
 const WIDTHS: [Width; 2] = [Width::Narrow, Width::Wide];
 
 /// Opens bytes as a map, and uses each pair. Returns whether the bytes are valid.
-fn opens_safely<K: Key + ?Sized, V: Value>(bytes: &[u8], width: Width) -> bool {
+fn opens_safely<K: Key + ?Sized, V: Number>(bytes: &[u8], width: Width) -> bool {
     let Ok(map) = Map::<K, V>::open(bytes, width) else {
         return false;
     };

@@ -6,7 +6,7 @@ use std::iter::FusedIterator;
 use std::panic::{catch_unwind, RefUnwindSafe, UnwindSafe};
 
 use rkyv_maps::{
-    Archive, Builder, Error, ErrorKind, Iter, Key, Keys, Map, MapMut, Value, Values, Width,
+    Archive, Builder, Error, ErrorKind, Iter, Key, Keys, Map, MapMut, Number, Values, Width,
 };
 
 /// The narrow archive of the map of 1 to 2.
@@ -239,7 +239,7 @@ fn builders_collect_owned_and_borrowed_keys() {
 }
 
 /// Compares a map with one of std that has the first value of each key.
-fn compare_with_std<K: Key + ?Sized, V: Value>(pairs: &[(&K, V)], absent: &[&K]) {
+fn compare_with_std<K: Key + ?Sized, V: Number>(pairs: &[(&K, V)], absent: &[&K]) {
     let mut first = HashMap::new();
     for (key, value) in pairs {
         first.entry(*key).or_insert(*value);
@@ -341,13 +341,13 @@ fn an_absent_key_panics_with_a_text() {
 }
 
 /// The sum of the values of a map, each found by its key.
-fn total<K: Key + ?Sized, V: Value>(map: Map<'_, K, V>) -> u64 {
+fn total<K: Key + ?Sized, V: Number>(map: Map<'_, K, V>) -> u64 {
     let values = map.keys().map(|key| map.at(key.borrow()));
     values.map(Into::into).sum()
 }
 
 /// The archive of a list of pairs, and the sum of its values.
-fn built_total<K: Key + ?Sized, V: Value>(pairs: &[(&K, V)]) -> u64 {
+fn built_total<K: Key + ?Sized, V: Number>(pairs: &[(&K, V)]) -> u64 {
     let archive = pairs
         .iter()
         .copied()
@@ -403,7 +403,7 @@ fn threads_share_a_map() {
 
 /// The auto traits hold in generic code, whose bounds are those of the traits alone.
 #[allow(dead_code)]
-const fn generic<K: Key + ?Sized, V: Value>() {
+const fn generic<K: Key + ?Sized, V: Number>() {
     const fn is_safe<T: Send + Sync + UnwindSafe + RefUnwindSafe>() {}
     is_safe::<Map<'static, K, V>>();
     is_safe::<Iter<'static, K, V>>();
