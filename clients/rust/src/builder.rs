@@ -311,7 +311,11 @@ impl<K: Key + ?Sized, V: Number> Archive<K, V> {
 }
 
 /// The container of an archive of a map of the kind.
-fn container<K: ?Sized, V: ?Sized>(kind: u32, archive: &Archive<K, V>, checksum: Checksum) -> Vec<u8> {
+fn container<K: ?Sized, V: ?Sized>(
+    kind: u32,
+    archive: &Archive<K, V>,
+    checksum: Checksum,
+) -> Vec<u8> {
     let bytes = archive.as_bytes();
     [&header_of(kind, bytes, archive.width, checksum), bytes].concat()
 }
