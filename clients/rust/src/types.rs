@@ -993,7 +993,7 @@ impl SealedValue for Unit {
     }
 
     fn iter(values: &usize) -> impl Iterator<Item = Unit> {
-        std::iter::repeat(Unit).take(*values)
+        std::iter::repeat_n(Unit, *values)
     }
 
     unsafe fn get<'a, K: Key + ?Sized>(map: &RawMap, key: &K) -> (u32, <Unit as Value>::Ref<'a>) {
