@@ -6,7 +6,7 @@ ghost use Rattle.std.specs.Prelude.{◌↔◌, ◌≡◌, ◌≤◌};
 ghost use Rattle.rkyv_base.specs.Entry.{entry_spec};
 ghost use Rattle.rkyv_base.specs.View.{IsValidView, bytes_of, pos_of};
 ghost use Rattle.rkyv_table.specs.Table.Decoded.{IsDecoded};
-ghost use Rattle.rkyv_index.specs.Index.{IsPairOf, index_len};
+ghost use Rattle.rkyv_index.specs.Index.{IsPairOf, index_bytes, index_len, index_pos};
 ghost use Rattle.rkyv_index.specs.Index.IndexLayout.{entries_pos, index_spec};
 
 use crate::map::check::decode_begin;
@@ -74,11 +74,37 @@ impl<'a, K: Element, V: Element, H, W: Width> ArchivedIndexMap<'a, K, V, H, W> {
         requires { IsValidView (index_spec W.word (entry_spec K.spec V.spec)) view }
         ensures view { result.view ≡ view.entry }
     {
+        ArchivedIndexMap::with_header(view, decode(view))
+    }
+
+    /// Returns the map at a view of its header, which was decoded before.
+    ///
+    /// # Requires
+    ///
+    /// - The view is of a valid index map.
+    /// - `header` is what the view's header says.
+    #[inline]
+    pub fn with_header(
+        view: View<'a, IndexMapOf<K, V, H, W>>,
+        header: Decoded,
+    ) -> ArchivedIndexMap<'a, K, V, H, W>
+        requires view { IsValidView (index_spec W.word (entry_spec K.spec V.spec)) view }
+        requires header { IsDecoded W.word (bytes_of view) (pos_of view) header }
+        ensures view { result.view ≡ view.entry }
+    {
         ArchivedIndexMap {
             view,
-            header: decode(view),
+            header,
             begin: begin(view),
         }
+    }
+
+    /// Returns its decoded header, for `with_header`.
+    #[inline]
+    pub fn header(self) -> Decoded
+        ensures { IsDecoded W.word (index_bytes self.entry) (index_pos self.entry) result }
+    {
+        self.header
     }
 
     /// Returns `true` if and only if the map has no pairs.
