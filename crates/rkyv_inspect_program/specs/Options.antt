@@ -1,6 +1,20 @@
 -- The options of a command line.
-use Rattle.std.specs.Prelude.{◌≡◌, ℕ, List, Option, Some, None, codes, if◌then◌else◌}
+use Rattle.std.specs.Prelude.{
+  ◌≡◌,
+  ◌⊎◌,
+  ℕ,
+  List,
+  Option,
+  Some,
+  None,
+  IsSome,
+  false,
+  unwrap_or,
+  codes,
+  if◌then◌else◌,
+}
 use Rattle.std.specs.Str.{bytes_eq}
+use Rattle.rkyv_container.specs.declared.contents.Contents.{Contents}
 use Rattle.rkyv_container.specs.declared.contents.ItemType.{ItemType}
 use Rattle.rkyv_container.specs.declared.contents.ItemType.TheVariants.{
   Text,
@@ -17,6 +31,7 @@ use Rattle.rkyv_container.specs.declared.contents.Kind.TheVariants.{
 }
 use Rattle.rkyv_container.specs.declared.contents.Width.{Width as ArchiveWidth}
 use Rattle.rkyv_container.specs.declared.contents.Width.TheVariants.{Narrow, Wide}
+use Rattle.rkyv_inspect_program.specs.declared.options.Options.{Options}
 use Rattle.rkyv_inspect_program.specs.declared.options.Name.{Name}
 use Rattle.rkyv_inspect_program.specs.declared.options.Name.TheVariants.{
   Color,
@@ -61,10 +76,36 @@ width_named word = if bytes_eq word (codes "32") then Some Narrow
     else if bytes_eq word (codes "64") then Some Wide
     else None
 
--- `value`: type of the values of a collection of the kind. Of a map it is `given`, and of a set it
--- is unit and none is given
-abbrev pub FitsKind : Collection → Option ItemType → ItemType → Type 0
-FitsKind HashMap given value = given ≡ Some value
-FitsKind IndexMap given value = given ≡ Some value
-FitsKind HashSet given value = (given ≡ None) × (value ≡ UnitType)
-FitsKind IndexSet given value = (given ≡ None) × (value ≡ UnitType)
+-- the unit type, if no type is given
+abbrev pub unit_value : Option ItemType → Option ItemType
+unit_value None = Some UnitType
+unit_value (Some _) = None
+
+-- the type of the values of a collection of the kind: of a map the given type, and of a set the
+-- unit type if no type is given
+abbrev pub value_of : Collection → Option ItemType → Option ItemType
+value_of HashMap given = given
+value_of IndexMap given = given
+value_of HashSet given = unit_value given
+value_of IndexSet given = unit_value given
+
+-- the options name the contents of a bare archive
+pub record NamesContents (options : Options) (contents : Contents) : Type 0 where
+  pub kind : options.kind ≡ Some contents.kind
+  pub key : options.key ≡ Some contents.key
+  pub value : value_of contents.kind options.value ≡ Some contents.value
+  pub width : unwrap_or options.width Narrow ≡ contents.width
+
+-- the options name no contents of a bare archive
+abbrev pub NamesNoContents : Options → Type 0
+NamesNoContents options = (contents : Contents) → NamesContents options contents → ⊥
+
+-- the kind, a type or the width is given
+abbrev pub IsBare : Options → Type 0
+IsBare options =
+    IsSome options.kind ⊎ IsSome options.key ⊎ IsSome options.value ⊎ IsSome options.width
+
+-- the options don't ask for the usage, and lack the file, or the contents of a bare archive
+pub record IsIncomplete (options : Options) : Type 0 where
+  pub help : options.help ≡ false
+  pub lacks : (options.file ≡ None) ⊎ (IsBare options × NamesNoContents options)

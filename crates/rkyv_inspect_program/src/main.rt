@@ -1,6 +1,9 @@
 //! A program that inspects an archive in a file.
 #![tactic(auto)]
 
+ghost use Rattle.std.specs.Prelude.{IfOk, Ok, map, string_bytes, ◌↔◌, ◌≡◌};
+ghost use Rattle.rkyv_inspect_program.specs.CommandLines.{IsMisused};
+
 mod errors;
 mod options;
 mod outcome;
@@ -27,7 +30,9 @@ fn print(
     contents: Contents,
     header: Option<Header>,
     options: Options<'_>,
-) -> Result<Outcome, ProgramError> {
+) -> Result<Outcome, ProgramError>
+    ensures { IfOk result (λ outcome. outcome ≡ Outcome.Complete) }
+{
     let inspection = match inspect(rt.alloc(), archive, contents, STRIDES) {
         Ok(inspection) => inspection,
         Err(error) => return Err(inspect_error(rt.alloc(), file, error)),
@@ -51,7 +56,9 @@ fn inspect_archive(
     file: &str,
     contents: Contents,
     options: Options<'_>,
-) -> Result<Outcome, ProgramError> {
+) -> Result<Outcome, ProgramError>
+    ensures { IfOk result (λ outcome. outcome ≡ Outcome.Complete) }
+{
     let bytes = read_file(rt, file)?;
     print(rt, file, bytes.as_slice(), contents, None, options)
 }
@@ -61,7 +68,9 @@ fn inspect_container(
     rt: &HostRuntime,
     file: &str,
     options: Options<'_>,
-) -> Result<Outcome, ProgramError> {
+) -> Result<Outcome, ProgramError>
+    ensures { IfOk result (λ outcome. outcome ≡ Outcome.Complete) }
+{
     let bytes = read_file(rt, file)?;
     match open(bytes.as_slice()) {
         Ok((header, archive)) => print(rt, file, archive, header.contents, Some(header), options),
@@ -78,13 +87,19 @@ fn read_file(rt: &HostRuntime, file: &str) -> Result<Vec<u8>, ProgramError> {
 }
 
 /// Prints the usage to standard error.
-fn misused(rt: &HostRuntime) -> Outcome {
+fn misused(rt: &HostRuntime) -> Outcome
+    ensures { result ≡ Outcome.Misused }
+{
     let _ = rt.eprintln(USAGE);
     Outcome::Misused
 }
 
 /// Executes the command line with these words.
-fn execute(rt: &HostRuntime, words: &[String]) -> Result<Outcome, ProgramError> {
+///
+/// If they are misused, it prints the usage to standard error.
+fn execute(rt: &HostRuntime, words: &[String]) -> Result<Outcome, ProgramError>
+    ensures { (result ≡ Ok Outcome.Misused) ↔ IsMisused (map string_bytes words.now) }
+{
     let options = match Options::parse(words) {
         Some(options) => options,
         None => return Ok(misused(rt)),

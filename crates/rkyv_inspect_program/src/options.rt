@@ -1,7 +1,11 @@
 //! The options of the command line.
-ghost use Rattle.std.specs.Prelude.{IfSome, ◌≡◌};
+ghost use Rattle.std.specs.Prelude.{IsTrue, MatchOption, [], map, option_map, string_bytes};
+ghost use Rattle.std.specs.Prelude.{◌↔◌, ◌≡◌};
 ghost use Rattle.std.specs.Str.{bytes_eq};
-ghost use Rattle.rkyv_inspect_program.specs.Options.{FitsKind, kind_named, name_of, type_named};
+ghost use Rattle.rkyv_inspect_program.specs.CommandLines.{IsAfter, NamesNoOptions, NamesOptions};
+ghost use Rattle.rkyv_inspect_program.specs.CommandLines.{awaiting, whole};
+ghost use Rattle.rkyv_inspect_program.specs.Options.{IsBare, NamesContents, NamesNoContents};
+ghost use Rattle.rkyv_inspect_program.specs.Options.{kind_named, name_of, type_named, value_of};
 ghost use Rattle.rkyv_inspect_program.specs.Options.{width_named};
 
 use rkyv_container::contents::{Contents, ItemType, Kind, Width};
@@ -144,7 +148,7 @@ pub fn width_named(word: &str) -> Option<Width>
 ///
 /// A set has unit values and takes no type, and a map takes one.
 fn value_of(kind: Kind, value: Option<ItemType>) -> Option<ItemType>
-    ensures { IfSome result (FitsKind kind value) }
+    ensures { result ≡ value_of kind value }
 {
     match (kind, value) {
         (Kind::HashMap | Kind::IndexMap, Some(value)) => Some(value),
@@ -163,7 +167,9 @@ struct Words<'a> {
 }
 
 /// Returns words after which no value is awaited.
-fn whole(options: Options<'_>) -> Words<'_> {
+fn whole(options: Options<'_>) -> Words<'_>
+    ensures { result ≡ whole options.entry }
+{
     Words {
         options,
         awaited: None,
@@ -172,7 +178,9 @@ fn whole(options: Options<'_>) -> Words<'_> {
 
 impl<'a> Words<'a> {
     /// Returns the words with one more, or `None` if it isn't an option, a value or a file.
-    fn after(self, word: &'a str) -> Option<Words<'a>> {
+    fn after(self, word: &'a str) -> Option<Words<'a>>
+        ensures { IsAfter self.entry word.now result }
+    {
         match self.awaited {
             Some(name) => Some(whole(self.options.after_value(name, word)?)),
             None => self.options.after_word(word),
@@ -182,7 +190,9 @@ impl<'a> Words<'a> {
 
 impl<'a> Options<'a> {
     /// Returns the options of a command line without words.
-    fn none() -> Options<'a> {
+    fn none() -> Options<'a>
+        ensures { NamesOptions [] result }
+    {
         Options {
             file: None,
             kind: None,
@@ -198,7 +208,9 @@ impl<'a> Options<'a> {
     /// Returns the words so far after one that isn't the value of an option.
     ///
     /// The result is `None` if there is a file already.
-    fn after_word(self, word: &'a str) -> Option<Words<'a>> {
+    fn after_word(self, word: &'a str) -> Option<Words<'a>>
+        ensures { IsAfter (whole self.entry) word.now result }
+    {
         match name_of(word) {
             Some(Name::Color) => Some(whole(Options {
                 color: true,
@@ -221,7 +233,9 @@ impl<'a> Options<'a> {
     }
 
     /// Returns the options after the value of an option, or `None` if it has no such value.
-    fn after_value(self, name: Name, word: &str) -> Option<Options<'a>> {
+    fn after_value(self, name: Name, word: &str) -> Option<Options<'a>>
+        ensures { IsAfter (awaiting self.entry name) word.now (option_map whole result) }
+    {
         match name {
             Name::Kind => Some(Options {
                 kind: Some(kind_named(word)?),
@@ -243,8 +257,13 @@ impl<'a> Options<'a> {
         }
     }
 
-    /// Returns the options of a command line, or `None` if a word isn't one of them.
-    pub fn parse(words: &'a [String]) -> Option<Options<'a>> {
+    /// Returns the options of a command line, or `None` if its words name none.
+    ///
+    /// Of an option that is given more than once, the last value counts. There is at most one file.
+    pub fn parse(words: &'a [String]) -> Option<Options<'a>>
+        ensures { let words = map string_bytes words.now in
+            MatchOption result (NamesNoOptions words) (NamesOptions words) }
+    {
         let mut so_far = whole(Options::none());
         for word in words {
             match so_far.after(word.as_str()) {
@@ -258,13 +277,17 @@ impl<'a> Options<'a> {
         }
     }
 
-    /// Returns whether they name the contents of a bare archive.
-    pub fn is_bare(self) -> bool {
+    /// Returns whether the kind of a bare archive, a type or its width is given.
+    pub fn is_bare(self) -> bool
+        ensures { IsTrue result ↔ IsBare self.entry }
+    {
         self.kind.is_some() || self.key.is_some() || self.value.is_some() || self.width.is_some()
     }
 
     /// Returns the contents of a bare archive, or `None` if an option is missing or doesn't fit.
-    pub fn contents(self) -> Option<Contents> {
+    pub fn contents(self) -> Option<Contents>
+        ensures { MatchOption result (NamesNoContents self.entry) (NamesContents self.entry) }
+    {
         let kind = self.kind?;
         Some(Contents {
             kind,

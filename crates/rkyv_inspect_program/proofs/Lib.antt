@@ -1,0 +1,4 @@
+pub mod Adding
+pub mod Arguments
+pub mod Parsing
+pub mod Uniqueness
