@@ -1,5 +1,10 @@
--- The exit statuses of the program.
-use Rattle.std.specs.Prelude.{Err, Ok, Result, ℕ}
+-- The outcomes of the program, and their exit statuses.
+use Rattle.std.specs.Prelude.{Err, List, Ok, Result, ℕ, ◌≡◌}
+use Rattle.rkyv_container.specs.declared.contents.Contents.{Contents}
+use Rattle.rkyv_inspect.specs.Inspections.{InspectsContents}
+use Rattle.rkyv_inspect.specs.declared.errors.InspectError.{InspectError}
+use Rattle.rkyv_inspect.specs.declared.errors.InspectError.TheVariants.{Invalid as InvalidArchive}
+use Rattle.rkyv_inspect.specs.declared.inspection.Inspection.{Inspection}
 use Rattle.rkyv_inspect_program.specs.declared.errors.ProgramError.{ProgramError}
 use Rattle.rkyv_inspect_program.specs.declared.errors.ProgramError.TheVariants.{Container, Invalid}
 use Rattle.rkyv_inspect_program.specs.declared.outcome.Outcome.{Outcome}
@@ -13,3 +18,14 @@ status_of (Ok Misused) = 2
 status_of (Err (Container _ _)) = 1
 status_of (Err (Invalid _ _)) = 1
 status_of (Err _) = 3
+
+-- `error`: error of the program for the `cause`. It is an invalid archive only if the cause is
+abbrev pub IsCausedBy : InspectError → ProgramError → Type 0
+IsCausedBy cause (Invalid file fault) = cause ≡ InvalidArchive fault
+IsCausedBy cause _ = Unit {0}
+
+-- the archive `bytes` has an inspection with these contents, so it is valid. `limit`: limit of
+-- strides
+abbrev pub HasInspection : Contents → List ℕ → ℕ → Type 0
+HasInspection contents bytes limit =
+    (inspection : Inspection) × InspectsContents contents bytes limit (Ok inspection)

@@ -1,4 +1,5 @@
 //! The errors of the program.
+ghost use Rattle.rkyv_inspect_program.specs.Outcomes.{IsCausedBy};
 
 use rkyv_base::errors::VerifyError;
 use rkyv_container::ContainerError;
@@ -50,7 +51,9 @@ pub fn container_error(alloc: Global, file: &str, error: ContainerError) -> Prog
 }
 
 /// Returns the error of an inspection of a file.
-pub fn inspect_error(alloc: Global, file: &str, error: InspectError) -> ProgramError {
+pub fn inspect_error(alloc: Global, file: &str, error: InspectError) -> ProgramError
+    ensures { IsCausedBy error result }
+{
     match (String::from_str(alloc, file), error) {
         (Ok(file), InspectError::Invalid(error)) => ProgramError::Invalid { file, error },
         (Ok(file), error) => ProgramError::Inspection { file, error },

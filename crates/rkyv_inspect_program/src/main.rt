@@ -3,6 +3,7 @@
 
 ghost use Rattle.std.specs.Prelude.{IfOk, Ok, map, string_bytes, ◌↔◌, ◌≡◌};
 ghost use Rattle.rkyv_inspect_program.specs.CommandLines.{IsMisused};
+ghost use Rattle.rkyv_inspect_program.specs.Outcomes.{HasInspection};
 
 mod errors;
 mod options;
@@ -31,7 +32,8 @@ fn print(
     header: Option<Header>,
     options: Options<'_>,
 ) -> Result<Outcome, ProgramError>
-    ensures { IfOk result (λ outcome. outcome ≡ Outcome.Complete) }
+    ensures { IfOk result (λ outcome. (outcome ≡ Outcome.Complete)
+        × HasInspection contents archive.now STRIDES) }
 {
     let inspection = match inspect(rt.alloc(), archive, contents, STRIDES) {
         Ok(inspection) => inspection,
