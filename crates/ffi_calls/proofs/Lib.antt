@@ -5,6 +5,7 @@ pub mod First
 pub mod Members
 pub mod Next
 pub mod Statuses
+pub mod Codes
 pub mod Together
 pub mod IndexPairs
 pub mod IndexFound

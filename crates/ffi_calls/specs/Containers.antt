@@ -1,50 +1,54 @@
--- Containers of maps, and the results of the calls for them.
-use Rattle.std.specs.Prelude.{ℕ, ◌≡◌, ◌↔◌, ◌⊎◌, Bool, List, drop, length}
+-- Containers of archives, and the results of the calls for them.
+use Rattle.std.specs.Prelude.{ℕ, ◌≡◌, ◌↔◌, ◌⊎◌, ◌++◌, Bool, List, drop, length}
 use Rattle.std.specs.Option.{is_some}
 use Rattle.rkyv_container.specs.declared.contents.Contents.{Contents}
-use Rattle.rkyv_container.specs.declared.contents.ItemType.{ItemType}
-use Rattle.rkyv_container.specs.declared.contents.ItemType.TheVariants.{Text, U32, U64}
-use Rattle.rkyv_container.specs.declared.contents.Kind.TheVariants.{HashMap}
 use Rattle.rkyv_container.specs.declared.contents.Width.{Width}
 use Rattle.rkyv_container.specs.declared.contents.Width.TheVariants.{Narrow, Wide}
 use Rattle.rkyv_container.specs.declared.errors.ContainerError.{ContainerError}
 use Rattle.rkyv_container.specs.declared.header.Header.{Header}
 use Rattle.rkyv_container.specs.Checks.{FirstFails}
+use Rattle.rkyv_container.specs.Codes.{item_code, kind_code, width_code}
 use Rattle.rkyv_container.specs.Container.{IsContainer, IsContainerOf, OpenAsFails, header_of}
 use Rattle.rkyv_container.specs.Header.{IsHeader, header_checks}
 use Rattle.ffi_calls.specs.Archives.{by_form}
 use Rattle.ffi_calls.specs.Status.{container_refusal}
+use Rattle.ffi_calls.specs.declared.containers.Codes.{Codes}
 use Rattle.ffi_calls.specs.declared.containers.Opened.{Opened}
-use Rattle.ffi_calls.specs.declared.form.Form.{Form}
-
--- the type of keys: numbers of 32 bits, or texts if the flag is `true`
-abbrev pub key_type : Bool → ItemType
-key_type = by_form U32 Text
-
--- the type of values: numbers of 32 bits, or of 64 bits if the flag is `true`
-abbrev pub value_type : Bool → ItemType
-value_type = by_form U32 U64
 
 -- the width of an archive: narrow, or wide if the flag is `true`
 abbrev pub width_by : Bool → Width
 width_by = by_form Narrow Wide
 
--- the contents of the container of a map: its key type, its value type and its width
-abbrev pub contents_of : Bool → Form → Contents
-contents_of of_texts form = record {
-  kind = HashMap;
-  key = key_type of_texts;
-  value = value_type form.long_values;
-  width = width_by form.wide;
-}
+-- the codes of a kind, of a type of keys, of a type of values and of a width
+abbrev pub codes_of : ℕ → ℕ → ℕ → ℕ → Codes
+codes_of kind key value width = record { kind = kind; key = key; value = value; width = width }
+
+-- the contents `c` have the codes
+abbrev pub HasCodes : Codes → Contents → Type 0
+HasCodes codes c =
+    (kind_code c.kind ≡ codes.kind) × (item_code c.key ≡ codes.key)
+    × (item_code c.value ≡ codes.value) × (width_code c.width ≡ codes.width)
+
+-- no contents have the codes
+abbrev pub AreUnknown : Codes → Type 0
+AreUnknown codes = (c : Contents) → HasCodes codes c → ⊥
+
+-- `Known` of the contents with the codes, or `Unknown` if no contents have them
+abbrev pub MatchCodes : Codes → (Contents → Type 0) → Type 0 → Type 0
+MatchCodes codes Known Unknown =
+    ((c : Contents) × HasCodes codes c × Known c) ⊎ (AreUnknown codes × Unknown)
 
 -- `b` is the container of the archive `a` with these contents; `checked`: it has a checksum
 abbrev pub IsWrittenAs : Contents → Bool → List ℕ → List ℕ → Type 0
 IsWrittenAs contents checked a = IsContainer (header_of contents a checked) a
 
--- `b` is the container of the archive `a` of a map in the form; `checked`: it has a checksum
-abbrev pub IsWrittenContainer : Bool → Form → Bool → List ℕ → List ℕ → Type 0
-IsWrittenContainer of_texts form = IsWrittenAs (contents_of of_texts form)
+-- The status is 0, and `after` is the header of the container of the archive `a`, whose contents
+-- have the codes; `checked`: it has a checksum. Or no contents have them, the status is 7, and
+-- `after` is `before`.
+abbrev pub WritesContainerHeader : Codes → Bool → List ℕ → List ℕ → ℕ → List ℕ → Type 0
+WritesContainerHeader codes checked a before status after =
+    MatchCodes codes (λ c. (status ≡ 0) × IsWrittenAs c checked a (after ++ a))
+    ((status ≡ 7) × (after ≡ before))
 
 -- The status is 0 and `after` is whether the header in `b` has the greater width.
 -- Or it is that of the first error of the header, and `after` is `before`.
@@ -67,13 +71,17 @@ abbrev pub OpensOwn : Contents → List ℕ → ℕ → Type 0
 OpensOwn expected b status = (contents : Contents) (a : List ℕ) → IsContainerOf contents a b
     → (status ≡ 0) ↔ (contents ≡ expected)
 
--- the result of opening the container `b` of a map in the form
-abbrev pub OpensContainer : Bool → Form → List ℕ → Opened → ℕ → Opened → Type 0
-OpensContainer of_texts form = OpensAs (contents_of of_texts form)
+-- The status is 0, and `after` has the archive of the container `b`, whose contents have the codes.
+-- Or the status is that of the first error of the container, or 7 if no contents have the codes,
+-- and `after` is `before`.
+abbrev pub OpensContainer : Codes → List ℕ → Opened → ℕ → Opened → Type 0
+OpensContainer codes b before status after =
+    MatchCodes codes (λ c. OpensAs c b before status after) ((status ≡ 7) × (after ≡ before))
 
--- a container of any map is opened if and only if its map is in the form
-abbrev pub OpensOwnForm : Bool → Form → List ℕ → ℕ → Type 0
-OpensOwnForm of_texts form = OpensOwn (contents_of of_texts form)
+-- a container of any contents is opened if and only if they have the codes
+abbrev pub OpensOwnCodes : Codes → List ℕ → ℕ → Type 0
+OpensOwnCodes codes b status = (contents : Contents) (a : List ℕ) → IsContainerOf contents a b
+    → (status ≡ 0) ↔ HasCodes codes contents
 
 -- The container `before` becomes that of the bytes behind its header, and the status is 0.
 -- Its contents, its length and whether it has a checksum stay. If the header has an error, or

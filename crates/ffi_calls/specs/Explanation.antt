@@ -1,5 +1,5 @@
 -- Why an archive is invalid, or a container: the first error, with its numbers.
-use Rattle.std.specs.Prelude.{◌≡◌, ℕ, ℤ, ◌⊎◌, ◌-◌, ◌^◌, Bool, cond, int_lt, min, negsuc, List}
+use Rattle.std.specs.Prelude.{◌≡◌, ℕ, ℤ, ◌⊎◌, ◌-◌, ◌^◌, cond, int_lt, min, negsuc, List}
 use Rattle.std.specs.Prelude.{pos as int}
 use Rattle.rkyv_base.specs.Access.{Accepted, AccessFails}
 use Rattle.rkyv_base.specs.ElementSpec.{ElementSpec}
@@ -15,8 +15,8 @@ use Rattle.rkyv_container.specs.Container.{IsContainerOf, OpenAsFails}
 use Rattle.rkyv_container.specs.declared.contents.Contents.{Contents}
 use Rattle.rkyv_container.specs.declared.errors.ContainerError.{ContainerError}
 use Rattle.rkyv_container.specs.declared.errors.ContainerError.TheVariants as container
-use Rattle.ffi_calls.specs.Containers.{contents_of}
-use Rattle.ffi_calls.specs.declared.form.Form.{Form}
+use Rattle.ffi_calls.specs.Containers.{MatchCodes}
+use Rattle.ffi_calls.specs.declared.containers.Codes.{Codes}
 use Rattle.ffi_calls.specs.declared.explanation.Explanation.{Explanation}
 
 -- the integer of 64 bits that is nearest to `z`
@@ -74,7 +74,8 @@ ExplainsAs contents b result =
     ((a : List ℕ) × IsContainerOf contents a b × (result ≡ explained 0 (int 0) 0 0))
     ⊎ ((e : ContainerError) × OpenAsFails contents b e × (result ≡ explain_container e))
 
--- `b` is the container of a map in the form and there is no error, or it is the container's
--- first one
-abbrev pub ExplainsContainer : Bool → Form → List ℕ → Explanation → Type 0
-ExplainsContainer of_texts form = ExplainsAs (contents_of of_texts form)
+-- `b` is a container whose contents have the codes and there is no error, or it is the container's
+-- first one. If no contents have the codes, its status is 7, and its numbers are 0.
+abbrev pub ExplainsContainer : Codes → List ℕ → Explanation → Type 0
+ExplainsContainer codes b result =
+    MatchCodes codes (λ c. ExplainsAs c b result) (result ≡ explained 7 (int 0) 0 0)

@@ -10,12 +10,8 @@ pub mod TextValues
 pub mod TextItems
 pub mod Containers
 pub mod Explanation
-pub mod LongNumberContainers
-pub mod TextValueContainers
 pub mod Sets
 pub mod SetItems
-pub mod SetContainers
 pub mod IndexArchives
 pub mod IndexLists
 pub mod IndexItems
-pub mod IndexContainers

@@ -2,17 +2,18 @@
 //!
 //! `write_header` writes the header of an archive. `container_width` reads the width of a
 //! container, and `open_container` finds its archive. None of them validates an archive.
+//!
+//! The contents of a container are given by the four codes in its header. `docs/FORMAT.md` lists
+//! the codes.
 
-ghost use Rattle.std.specs.Prelude.{length, ◌++◌, ◌≡◌};
-ghost use Rattle.ffi_calls.specs.Containers.{IsWrittenAs, IsWrittenContainer, OpensAs};
-ghost use Rattle.ffi_calls.specs.Containers.{OpensContainer, OpensOwn, OpensOwnForm, ReadsWidth};
-ghost use Rattle.ffi_calls.specs.Containers.{UpdatesContainer, contents_of, key_type, value_type};
-ghost use Rattle.ffi_calls.specs.Containers.{width_by};
+ghost use Rattle.std.specs.Prelude.{length, MatchOption, ◌≡◌};
+ghost use Rattle.ffi_calls.specs.Containers.{AreUnknown, HasCodes, OpensAs, OpensContainer};
+ghost use Rattle.ffi_calls.specs.Containers.{OpensOwn, OpensOwnCodes, ReadsWidth};
+ghost use Rattle.ffi_calls.specs.Containers.{UpdatesContainer, WritesContainerHeader, width_by};
 ghost use Rattle.ffi_calls.specs.Explanation.{ExplainsAs, ExplainsContainer};
 
 use crate::explanation::{Explanation, explain_error, explained};
-use crate::form::Form;
-use crate::status::{DONE, WRONG_LENGTH, container_refusal};
+use crate::status::{DONE, UNKNOWN_KIND, WRONG_LENGTH, container_refusal};
 use rkyv_container::container::{open_as, seal};
 use rkyv_container::contents::{Contents, ItemType, Kind, Width};
 use rkyv_container::header::{HEADER_LEN, Header};
@@ -24,46 +25,34 @@ pub struct Opened<'a> {
     pub archive: &'a [u8],
 }
 
-/// Returns the contents of the container of a map.
-pub(crate) fn contents_of(of_texts: bool, form: Form) -> Contents
-    ensures { result ≡ contents_of of_texts form }
-{
-    Contents {
-        kind: Kind::HashMap,
-        key: key_type(of_texts),
-        value: value_type(form.long_values),
-        width: width_of(form.wide),
-    }
+/// The codes of a container's contents, as in its header.
+#[repr(C)]
+#[derive(Clone, Copy)]
+pub struct Codes {
+    /// The code of the kind of collection, from 1 to 4.
+    pub kind: u8,
+    /// The code of the type of the keys.
+    pub key: u8,
+    /// The code of the type of the values. It is 1 for a set.
+    pub value: u8,
+    /// The code of the width: 4 if it is narrow, 8 if it is wide.
+    pub width: u8,
 }
 
-/// Returns the type of keys.
-pub(crate) fn key_type(of_texts: bool) -> ItemType
-    ensures { result ≡ key_type of_texts }
+/// Returns the contents with these codes, or `None` if no contents have them.
+fn contents_of(codes: Codes) -> Option<Contents>
+    ensures { MatchOption result (AreUnknown codes) (HasCodes codes) }
 {
-    if of_texts {
-        return ItemType::Text;
-    }
-    ItemType::U32
-}
-
-/// Returns the type of values.
-pub(crate) fn value_type(long_values: bool) -> ItemType
-    ensures { result ≡ value_type long_values }
-{
-    if long_values {
-        return ItemType::U64;
-    }
-    ItemType::U32
-}
-
-/// Returns the width of an archive.
-pub(crate) fn width_of(wide: bool) -> Width
-    ensures { result ≡ width_by wide }
-{
-    if wide {
-        return Width::Wide;
-    }
-    Width::Narrow
+    let kind = Kind::from_code(codes.kind)?;
+    let key = ItemType::from_code(codes.key)?;
+    let value = ItemType::from_code(codes.value)?;
+    let width = Width::from_code(codes.width)?;
+    Some(Contents {
+        kind,
+        key,
+        value,
+        width,
+    })
 }
 
 /// Returns whether a width is wide.
@@ -76,24 +65,12 @@ fn is_wide(width: Width) -> bool
     }
 }
 
-/// Writes the header of the container of an archive with these contents.
-pub(crate) fn write_header_as(archive: &[u8], contents: Contents, checked: bool, header: &mut [u8])
-    requires { length header.old ≡ 32 }
-    ensures { IsWrittenAs contents checked archive.now (header.new ++ archive.now) }
-{
-    Header::new(contents, archive, checked).write(header);
-}
-
 /// Opens the container with these contents, and stores its archive in `opened`.
 ///
 /// # Errors
 ///
 /// - The status of the first error of the container: 32 to 47. `opened` is unchanged then.
-pub(crate) fn open_container_as<'a>(
-    bytes: &'a [u8],
-    contents: Contents,
-    opened: &mut Opened<'a>,
-) -> u32
+fn open_container_as<'a>(bytes: &'a [u8], contents: Contents, opened: &mut Opened<'a>) -> u32
     ensures told { OpensAs contents bytes.now opened.old result opened.new }
     ensures opens { OpensOwn contents bytes.now result }
 {
@@ -107,7 +84,7 @@ pub(crate) fn open_container_as<'a>(
 }
 
 /// Opens the container with these contents, and returns its first error with its numbers.
-pub(crate) fn explain_container_as(bytes: &[u8], contents: Contents) -> Explanation
+fn explain_container_as(bytes: &[u8], contents: Contents) -> Explanation
     ensures { ExplainsAs contents bytes.now result }
 {
     match open_as(bytes, contents) {
@@ -123,11 +100,21 @@ pub(crate) fn explain_container_as(bytes: &[u8], contents: Contents) -> Explanat
 /// # Requires
 ///
 /// - `header` has 32 bytes.
-pub fn write_header(archive: &[u8], of_texts: bool, form: Form, checked: bool, header: &mut [u8])
+///
+/// # Errors
+///
+/// - `UNKNOWN_KIND`: no contents have the codes. `header` is unchanged then.
+pub fn write_header(archive: &[u8], codes: Codes, checked: bool, header: &mut [u8]) -> u32
     requires { length header.old ≡ 32 }
-    ensures { IsWrittenContainer of_texts form checked archive.now (header.new ++ archive.now) }
+    ensures { WritesContainerHeader codes checked archive.now header.old result header.new }
 {
-    write_header_as(archive, contents_of(of_texts, form), checked, header);
+    match contents_of(codes) {
+        Some(contents) => {
+            Header::new(contents, archive, checked).write(header);
+            DONE
+        }
+        None => UNKNOWN_KIND,
+    }
 }
 
 /// Reads the width of a container of any contents, and stores in `wide` whether it is wide.
@@ -147,32 +134,35 @@ pub fn container_width(bytes: &[u8], wide: &mut bool) -> u32
     }
 }
 
-/// Opens the container of a map, and stores its archive in `opened`.
+/// Opens the container of the contents with the codes, and stores its archive in `opened`.
 ///
-/// The archive is not validated.
+/// The archive is not validated. A container of other contents is never opened.
 ///
 /// # Errors
 ///
+/// - `UNKNOWN_KIND`: no contents have the codes. `opened` is unchanged then.
 /// - The status of the first error of the container: 32 to 47. `opened` is unchanged then.
-pub fn open_container<'a>(
-    bytes: &'a [u8],
-    of_texts: bool,
-    form: Form,
-    opened: &mut Opened<'a>,
-) -> u32
-    ensures told { OpensContainer of_texts form bytes.now opened.old result opened.new }
-    ensures opens { OpensOwnForm of_texts form bytes.now result }
+pub fn open_container<'a>(bytes: &'a [u8], codes: Codes, opened: &mut Opened<'a>) -> u32
+    ensures told { OpensContainer codes bytes.now opened.old result opened.new }
+    ensures opens { OpensOwnCodes codes bytes.now result }
 {
-    open_container_as(bytes, contents_of(of_texts, form), opened)
+    match contents_of(codes) {
+        Some(contents) => open_container_as(bytes, contents, opened),
+        None => UNKNOWN_KIND,
+    }
 }
 
-/// Opens the container of a map, and returns its first error with its numbers.
+/// Opens such a container as `open_container` does, and returns its first error with its numbers.
 ///
-/// The archive is not validated.
-pub fn explain_container(bytes: &[u8], of_texts: bool, form: Form) -> Explanation
-    ensures { ExplainsContainer of_texts form bytes.now result }
+/// The archive is not validated. If no contents have the codes, the status is `UNKNOWN_KIND`, and
+/// the numbers are 0.
+pub fn explain_container(bytes: &[u8], codes: Codes) -> Explanation
+    ensures { ExplainsContainer codes bytes.now result }
 {
-    explain_container_as(bytes, contents_of(of_texts, form))
+    match contents_of(codes) {
+        Some(contents) => explain_container_as(bytes, contents),
+        None => explained(UNKNOWN_KIND, 0, 0, 0),
+    }
 }
 
 /// Writes the header of a container anew after its archive was changed in place.

@@ -22,6 +22,9 @@ pub const VALUE_TOO_LARGE: u32 = 3;
 /// The key isn't a text: its bytes aren't UTF-8.
 pub const NOT_TEXT: u32 = 4;
 
+/// No contents of a container have the codes.
+pub const UNKNOWN_KIND: u32 = 7;
+
 /// An allocation failed.
 pub const NO_MEMORY: u32 = 12;
 

@@ -1,9 +1,5 @@
-use Rattle.std.proofs.Common.{subst}
-use Rattle.ffi_calls.specs.Containers.{OpensAs, OpensOwn}
+use Rattle.ffi_calls.proofs.Codes.{opens_codes}
 use Rattle.ffi_calls.proofs.containers.open_container.Goals as goal
 
-pub returns-clause-told : goal.returns-clause-told
-returns-clause-told c = subst (λ contents. OpensAs contents c.args.bytes.now c.args.opened.now c.open_container_as.result c.open_container_as.new.opened) c.contents_of.ensures c.open_container_as.ensures.told
-
-pub returns-clause-opens : goal.returns-clause-opens
-returns-clause-opens c = subst (λ contents. OpensOwn contents c.args.bytes.now c.open_container_as.result) c.contents_of.ensures c.open_container_as.ensures.opens
+pub returns-in-Some-clause-opens : goal.returns-in-Some-clause-opens
+returns-in-Some-clause-opens c = opens_codes c.args.codes c.args.bytes.now c.open_container_as.result c.in-Some.contents c.in-Some.ensures c.open_container_as.ensures.opens

@@ -1,6 +1,0 @@
-use Rattle.std.proofs.Common.{subst}
-use Rattle.ffi_calls.specs.Explanation.{ExplainsAs}
-use Rattle.ffi_calls.proofs.text_value_containers.explain_container_to_texts.Goals as goal
-
-pub returns : goal.returns
-returns c = subst (λ contents. ExplainsAs contents c.args.bytes.now c.explain_container_as.result) c.contents_to_texts.ensures c.explain_container_as.ensures
