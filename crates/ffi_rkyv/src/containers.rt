@@ -1,16 +1,18 @@
 //! The calls for containers of archives.
+//!
+//! The contents of a container are given by the four codes in its header: those of the kind of
+//! collection, of the types of keys and of values, and of the width.
 
-ghost use Rattle.std.specs.Prelude.{length, ◌++◌, ◌≡◌};
-ghost use Rattle.ffi_calls.specs.Archives.{form_of};
-ghost use Rattle.ffi_calls.specs.Containers.{IsWrittenContainer, OpensContainer, OpensOwnForm};
-ghost use Rattle.ffi_calls.specs.Containers.{ReadsWidth, UpdatesContainer};
+ghost use Rattle.std.specs.Prelude.{length, ◌≡◌};
+ghost use Rattle.ffi_calls.specs.Containers.{OpensContainer, OpensOwnCodes, ReadsWidth};
+ghost use Rattle.ffi_calls.specs.Containers.{UpdatesContainer, WritesContainerHeader, codes_of};
 ghost use Rattle.ffi_calls.specs.Explanation.{ExplainsContainer};
 
 use ffi_calls::containers::{
-    Opened, container_width, explain_container, open_container, update_container, write_header,
+    Codes, Opened, container_width, explain_container, open_container, update_container,
+    write_header,
 };
 use ffi_calls::explanation::Explanation;
-use ffi_calls::form::Form;
 
 /// Writes the header of the container of an archive. It has a checksum if `checked` is `true`.
 ///
@@ -19,26 +21,31 @@ use ffi_calls::form::Form;
 /// # Requires
 ///
 /// - `header` has 32 bytes.
+///
+/// # Errors
+///
+/// - 7: no contents have the codes; `header` is unchanged then.
 #[unsafe(no_mangle)]
 pub extern "C" fn rkyv_c_write_header(
     archive: &[u8],
-    of_texts: bool,
-    long_values: bool,
-    wide: bool,
+    kind: u8,
+    key: u8,
+    value: u8,
+    width: u8,
     checked: bool,
     header: &mut [u8],
-)
+) -> u32
     requires { length header.old ≡ 32 }
-    ensures { IsWrittenContainer of_texts (form_of long_values wide) checked archive.now
-        (header.new ++ archive.now) }
+    ensures { WritesContainerHeader (codes_of kind key value width) checked archive.now header.old
+        result header.new }
 {
-    write_header(
-        archive,
-        of_texts,
-        Form { long_values, wide },
-        checked,
-        header,
-    );
+    let codes = Codes {
+        kind,
+        key,
+        value,
+        width,
+    };
+    write_header(archive, codes, checked, header)
 }
 
 /// Reads the width of a container of any contents, and stores in `wide` whether it is wide.
@@ -53,42 +60,58 @@ pub extern "C" fn rkyv_c_container_width(bytes: &[u8], wide: &mut bool) -> u32
     container_width(bytes, wide)
 }
 
-/// Opens the container of a map, and stores its archive in `opened`.
+/// Opens the container of the contents with the codes, and stores its archive in `opened`.
 ///
-/// The archive is not validated.
+/// The archive is not validated. A container of other contents is never opened.
 ///
 /// # Errors
 ///
+/// - 7: no contents have the codes; `opened` is unchanged then.
 /// - 32 to 47: the first error of the container; `opened` is unchanged then.
 #[unsafe(no_mangle)]
 pub extern "C" fn rkyv_c_open_container<'a>(
     bytes: &'a [u8],
-    of_texts: bool,
-    long_values: bool,
-    wide: bool,
+    kind: u8,
+    key: u8,
+    value: u8,
+    width: u8,
     opened: &mut Opened<'a>,
 ) -> u32
-    ensures told { OpensContainer of_texts (form_of long_values wide) bytes.now opened.old result
+    ensures told { OpensContainer (codes_of kind key value width) bytes.now opened.old result
         opened.new }
-    ensures opens { OpensOwnForm of_texts (form_of long_values wide) bytes.now result }
+    ensures opens { OpensOwnCodes (codes_of kind key value width) bytes.now result }
 {
-    open_container(bytes, of_texts, Form { long_values, wide }, opened)
+    let codes = Codes {
+        kind,
+        key,
+        value,
+        width,
+    };
+    open_container(bytes, codes, opened)
 }
 
-/// Opens the container of a map, and stores its first error with its numbers.
+/// Opens the container of the contents with the codes, and stores its first error with its numbers.
 ///
-/// The archive is not validated.
+/// The archive is not validated. If no contents have the codes, the status is 7, and the numbers
+/// are 0.
 #[unsafe(no_mangle)]
 pub extern "C" fn rkyv_c_explain_container(
     bytes: &[u8],
-    of_texts: bool,
-    long_values: bool,
-    wide: bool,
+    kind: u8,
+    key: u8,
+    value: u8,
+    width: u8,
     explanation: &mut Explanation,
 )
-    ensures { ExplainsContainer of_texts (form_of long_values wide) bytes.now explanation.new }
+    ensures { ExplainsContainer (codes_of kind key value width) bytes.now explanation.new }
 {
-    *explanation = explain_container(bytes, of_texts, Form { long_values, wide });
+    let codes = Codes {
+        kind,
+        key,
+        value,
+        width,
+    };
+    *explanation = explain_container(bytes, codes);
 }
 
 /// Writes the header of a container anew after its archive was changed in place.

@@ -8,20 +8,16 @@
 #![tactic(auto)]
 
 mod containers;
-mod index_containers;
 mod index_numbers;
 mod index_texts;
 mod long_lookups;
-mod long_number_containers;
 mod long_numbers;
 mod lookups;
 mod number_sets;
 mod numbers;
 mod numbers_to_texts;
-mod set_containers;
 mod set_lookups;
 mod text_lookups;
 mod text_sets;
-mod text_value_containers;
 mod texts;
 mod texts_to_texts;
