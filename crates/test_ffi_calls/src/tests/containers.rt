@@ -1,12 +1,12 @@
-//! Tests of the calls for containers, on a container of three bytes.
+//! Tests of the calls for containers, on containers of three bytes.
 //!
 //! These calls don't validate an archive, so the three bytes are none.
 
-use crate::tests::archives::{LONG, SHORT, WIDE, WIDE_LONG};
 use ffi_calls::containers::{
-    Opened, container_width, open_container, update_container, write_header,
+    Codes, Opened, container_width, explain_container, open_container, update_container,
+    write_header,
 };
-use ffi_calls::form::Form;
+use ffi_calls::explanation::Explanation;
 
 /// The container of the bytes 1, 2, 3 as a narrow map of texts to numbers of 64 bits.
 ///
@@ -19,17 +19,78 @@ pub(crate) const TEXTS: [u8; 35] = [
     1, 2, 3,
 ];
 
-/// Returns the header of a container with three bytes.
-pub(crate) fn header_in(container: &[u8; 35]) -> &[u8] {
+/// Returns the codes of a hash map.
+pub(crate) fn map(key: u8, value: u8, width: u8) -> Codes {
+    Codes {
+        kind: 1,
+        key,
+        value,
+        width,
+    }
+}
+
+// Returns the codes of an index map.
+fn index_map(key: u8, value: u8, width: u8) -> Codes {
+    Codes {
+        kind: 3,
+        ..map(key, value, width)
+    }
+}
+
+// Returns the codes of a set.
+fn set(item: u8, width: u8) -> Codes {
+    Codes {
+        kind: 2,
+        ..map(item, 1, width)
+    }
+}
+
+// Returns the container of the bytes 1, 2, 3 with these contents.
+fn container(codes: Codes) -> [u8; 35] {
+    let mut bytes = TEXTS;
+    bytes[10] = codes.kind;
+    bytes[11] = codes.key;
+    bytes[12] = codes.value;
+    bytes[13] = codes.width;
+    bytes
+}
+
+// Returns the header of a container with three bytes.
+fn header_in(container: &[u8; 35]) -> &[u8] {
     &container[..32]
 }
 
 // Returns the status of opening a container, and the length of the archive that is found.
-fn opened(bytes: &[u8], of_texts: bool, form: Form) -> (u32, usize) {
+fn opened(bytes: &[u8], codes: Codes) -> (u32, usize) {
     let mut opened = Opened { archive: &[] };
-    let status = open_container(bytes, of_texts, form, &mut opened);
+    let status = open_container(bytes, codes, &mut opened);
     let Opened { archive } = opened;
     (status, archive.len())
+}
+
+// Returns the status, the position and the two numbers of the first error of a container.
+fn explained(bytes: &[u8], codes: Codes) -> (u32, i64, u64, u64) {
+    let Explanation {
+        status,
+        position,
+        first,
+        second,
+    } = explain_container(bytes, codes);
+    (status, position, first, second)
+}
+
+// Returns the status of writing a header, and whether the header is then `wanted`.
+fn writes(codes: Codes, checked: bool, wanted: &[u8]) -> (u32, bool) {
+    let mut header = [9; 32];
+    let status = write_header(&[1, 2, 3], codes, checked, &mut header);
+    (status, header.as_slice() == wanted)
+}
+
+// Returns whether a header without a checksum has these codes and flags.
+fn writes_codes(codes: Codes, wanted: &[u8]) -> (u32, bool) {
+    let mut header = [9; 32];
+    let status = write_header(&[1, 2, 3], codes, false, &mut header);
+    (status, &header[10..16] == wanted)
 }
 
 // Returns the status of opening the container with another byte at `pos`.
@@ -39,7 +100,7 @@ fn status_with(pos: usize, byte: u8) -> u32 {
         Some(old) => *old = byte,
         None => {}
     }
-    opened(&bytes, true, LONG).0
+    opened(&bytes, map(4, 0x18, 4)).0
 }
 
 // Returns the status of updating the container with another byte at `pos`, and the byte at 24.
@@ -62,20 +123,122 @@ fn width_of(bytes: &[u8], before: bool) -> (u32, bool) {
 
 #[test]
 fn containers_open_as_their_own_form(rt: HostRuntime) {
-    assert_eq!(rt; opened(&TEXTS, true, LONG), (0, 3));
-    assert_eq!(rt; opened(&TEXTS, false, LONG), (43, 0));
-    assert_eq!(rt; opened(&TEXTS, true, SHORT), (44, 0));
-    assert_eq!(rt; opened(&TEXTS, true, WIDE_LONG), (45, 0));
-    assert_eq!(rt; opened(&TEXTS, false, WIDE), (43, 0));
+    assert_eq!(rt; opened(&TEXTS, map(4, 0x18, 4)), (0, 3));
+    assert_eq!(rt; opened(&TEXTS, map(0x14, 0x18, 4)), (43, 0));
+    assert_eq!(rt; opened(&TEXTS, map(4, 0x14, 4)), (44, 0));
+    assert_eq!(rt; opened(&TEXTS, map(4, 0x18, 8)), (45, 0));
+    assert_eq!(rt; opened(&TEXTS, map(0x14, 0x14, 8)), (43, 0));
+    assert_eq!(rt; opened(&TEXTS, map(0x18, 0x18, 4)), (43, 0));
+}
+
+#[test]
+fn containers_of_long_numbers_open_as_their_own_form(rt: HostRuntime) {
+    let numbers = container(map(0x18, 0x14, 8));
+    assert_eq!(rt; opened(&numbers, map(0x18, 0x14, 8)), (0, 3));
+    assert_eq!(rt; opened(&numbers, map(0x14, 0x14, 8)), (43, 0));
+    assert_eq!(rt; opened(&numbers, map(0x18, 0x18, 8)), (44, 0));
+    assert_eq!(rt; opened(&numbers, map(0x18, 0x14, 4)), (45, 0));
+}
+
+#[test]
+fn containers_of_index_maps_open_as_their_own_form(rt: HostRuntime) {
+    let texts = container(index_map(4, 0x18, 4));
+    assert_eq!(rt; opened(&texts, index_map(4, 0x18, 4)), (0, 3));
+    assert_eq!(rt; opened(&texts, index_map(0x14, 0x18, 4)), (43, 0));
+    assert_eq!(rt; opened(&texts, index_map(4, 0x14, 4)), (44, 0));
+    assert_eq!(rt; opened(&texts, index_map(4, 0x18, 8)), (45, 0));
+    assert_eq!(rt; opened(&texts[..34], index_map(4, 0x18, 4)), (46, 0));
+    assert_eq!(rt; opened(&TEXTS, index_map(4, 0x18, 4)), (42, 0));
+    assert_eq!(rt; opened(&texts, map(4, 0x18, 4)), (42, 0));
+}
+
+#[test]
+fn containers_to_texts_open_as_their_own_form(rt: HostRuntime) {
+    let texts = container(map(4, 4, 4));
+    let wide = container(map(0x14, 4, 8));
+    assert_eq!(rt; opened(&texts, map(4, 4, 4)), (0, 3));
+    assert_eq!(rt; opened(&wide, map(0x14, 4, 8)), (0, 3));
+    assert_eq!(rt; opened(&texts, map(0x14, 4, 4)), (43, 0));
+    assert_eq!(rt; opened(&texts, map(4, 4, 8)), (45, 0));
+    assert_eq!(rt; opened(&wide, map(4, 4, 8)), (43, 0));
+    assert_eq!(rt; opened(&TEXTS, map(4, 4, 4)), (44, 0));
+    assert_eq!(rt; opened(&texts, map(4, 0x18, 4)), (44, 0));
+}
+
+#[test]
+fn containers_of_sets_open_as_their_own_form(rt: HostRuntime) {
+    let numbers = container(set(0x14, 4));
+    let texts = container(set(4, 8));
+    assert_eq!(rt; opened(&numbers, set(0x14, 4)), (0, 3));
+    assert_eq!(rt; opened(&texts, set(4, 8)), (0, 3));
+    assert_eq!(rt; opened(&numbers, set(4, 4)), (43, 0));
+    assert_eq!(rt; opened(&texts, set(4, 4)), (45, 0));
+    assert_eq!(rt; opened(&TEXTS, set(4, 4)), (42, 0));
+    assert_eq!(rt; opened(&texts, map(4, 0x18, 4)), (42, 0));
+}
+
+#[test]
+fn errors_have_their_numbers(rt: HostRuntime) {
+    let index = container(index_map(4, 0x18, 4));
+    assert_eq!(rt; explained(&index, index_map(4, 0x18, 4)), (0, 0, 0, 0));
+    assert_eq!(rt; explained(&TEXTS, index_map(4, 0x18, 4)), (42, 0, 3, 1));
+    assert_eq!(rt;
+        explained(&index, index_map(0x14, 0x18, 4)),
+        (43, 0, 0x14, 4)
+    );
+    assert_eq!(rt;
+        explained(&index[..31], index_map(4, 0x18, 4)),
+        (32, 0, 31, 0)
+    );
+    assert_eq!(rt; explained(&TEXTS, set(4, 4)), (42, 0, 2, 1));
+}
+
+#[test]
+fn errors_of_containers_to_texts_have_their_numbers(rt: HostRuntime) {
+    let texts = container(map(4, 4, 4));
+    assert_eq!(rt; explained(&texts, map(4, 4, 4)), (0, 0, 0, 0));
+    assert_eq!(rt; explained(&texts, map(0x14, 4, 4)), (43, 0, 0x14, 4));
+    assert_eq!(rt; explained(&TEXTS, map(4, 4, 4)), (44, 0, 4, 0x18));
+    assert_eq!(rt; explained(&texts, map(4, 4, 8)), (45, 0, 8, 4));
+    assert_eq!(rt; explained(&TEXTS[..31], map(4, 4, 4)), (32, 0, 31, 0));
 }
 
 #[test]
 fn headers_are_those_of_the_format(rt: HostRuntime) {
+    assert_eq!(rt; writes(map(4, 0x18, 4), true, &TEXTS[..32]), (0, true));
+    let index = container(index_map(4, 0x18, 4));
+    assert_eq!(rt;
+        writes(index_map(4, 0x18, 4), true, header_in(&index)),
+        (0, true)
+    );
+    let texts = container(map(4, 4, 4));
+    assert_eq!(rt; writes(map(4, 4, 4), true, header_in(&texts)), (0, true));
+    let set_of_texts = container(set(4, 8));
+    assert_eq!(rt;
+        writes(set(4, 8), true, header_in(&set_of_texts)),
+        (0, true)
+    );
+}
+
+#[test]
+fn headers_without_a_checksum_are_those_of_the_format(rt: HostRuntime) {
+    assert_eq!(rt;
+        writes_codes(map(0x14, 0x14, 8), &[1, 0x14, 0x14, 8, 0, 0]),
+        (0, true)
+    );
+    assert_eq!(rt;
+        writes_codes(index_map(0x14, 0x14, 8), &[3, 0x14, 0x14, 8, 0, 0]),
+        (0, true)
+    );
+    assert_eq!(rt;
+        writes_codes(map(0x14, 4, 8), &[1, 0x14, 4, 8, 0, 0]),
+        (0, true)
+    );
     let mut header = [9; 32];
-    write_header(&[1, 2, 3], true, LONG, true, &mut header);
-    assert_eq!(rt; header.as_slice(), &TEXTS[..32]);
-    write_header(&[1, 2, 3], false, WIDE, false, &mut header);
-    assert_eq!(rt; &header[10..16], [1, 0x14, 0x14, 8, 0, 0].as_slice());
+    assert_eq!(rt;
+        write_header(&[1, 2, 3], map(0x14, 0x14, 8), false, &mut header),
+        0
+    );
     assert_eq!(rt;
         &header[16..],
         [3, 0, 0, 0, 0, 0, 0, 0, 0, 0, 0, 0, 0, 0, 0, 0].as_slice()
@@ -83,8 +246,37 @@ fn headers_are_those_of_the_format(rt: HostRuntime) {
 }
 
 #[test]
+fn codes_of_no_contents_have_a_status(rt: HostRuntime) {
+    assert_eq!(rt;
+        opened(
+            &TEXTS,
+            Codes {
+                kind: 0,
+                ..map(4, 0x18, 4)
+            }
+        ),
+        (7, 0)
+    );
+    assert_eq!(rt;
+        opened(
+            &TEXTS,
+            Codes {
+                kind: 5,
+                ..map(4, 0x18, 4)
+            }
+        ),
+        (7, 0)
+    );
+    assert_eq!(rt; opened(&TEXTS, map(6, 0x18, 4)), (7, 0));
+    assert_eq!(rt; opened(&TEXTS, map(4, 0, 4)), (7, 0));
+    assert_eq!(rt; opened(&TEXTS, map(4, 0x18, 32)), (7, 0));
+    assert_eq!(rt; explained(&TEXTS, map(4, 0x18, 0)), (7, 0, 0, 0));
+    assert_eq!(rt; writes(map(4, 0x18, 64), true, &[9; 32]), (7, true));
+}
+
+#[test]
 fn wrong_headers_have_statuses(rt: HostRuntime) {
-    assert_eq!(rt; opened(&TEXTS[..31], true, LONG), (32, 0));
+    assert_eq!(rt; opened(&TEXTS[..31], map(4, 0x18, 4)), (32, 0));
     assert_eq!(rt; status_with(0, 0), 33);
     assert_eq!(rt; status_with(8, 2), 34);
     assert_eq!(rt; status_with(10, 5), 35);
@@ -113,6 +305,10 @@ fn widths_are_read(rt: HostRuntime) {
     wide[13] = 8;
     assert_eq!(rt; width_of(&wide, false), (0, true));
     assert_eq!(rt; width_of(&TEXTS[..31], true), (32, true));
+    assert_eq!(rt;
+        width_of(&container(index_map(4, 0x18, 4)), true),
+        (0, false)
+    );
 }
 
 #[test]
@@ -121,4 +317,8 @@ fn updates_correct_the_checksum(rt: HostRuntime) {
     assert_eq!(rt; updated_with(24, 0), (0, 7));
     assert_eq!(rt; updated_with(16, 2), (46, 7));
     assert_eq!(rt; updated_with(0, 0), (33, 7));
+    let mut index = container(index_map(4, 0x18, 4));
+    index[34] = 4;
+    assert_eq!(rt; update_container(&mut index), 0);
+    assert_eq!(rt; (index[10], index[24]), (3, 8));
 }

@@ -1,7 +1,7 @@
 //! Tests of the first error of an archive or a container, with its position and its numbers.
 
 use crate::tests::archives::{LONG, SHORT, WIDE, WIDE_LONG};
-use crate::tests::containers::TEXTS;
+use crate::tests::containers::{TEXTS, map};
 use ffi_calls::containers::explain_container;
 use ffi_calls::explanation::Explanation;
 use ffi_calls::form::Form;
@@ -54,7 +54,7 @@ fn container_with(pos: usize, byte: u8) -> Numbers {
         Some(old) => *old = byte,
         None => {}
     }
-    numbers_of(explain_container(&bytes, true, LONG))
+    numbers_of(explain_container(&bytes, map(4, 0x18, 4)))
 }
 
 #[test]
@@ -106,7 +106,7 @@ fn other_errors_have_their_numbers(rt: HostRuntime) {
 fn containers_have_their_numbers(rt: HostRuntime) {
     assert_eq!(rt; container_with(0, 0x89), (0, 0, 0, 0));
     assert_eq!(rt;
-        numbers_of(explain_container(&TEXTS[..31], true, LONG)),
+        numbers_of(explain_container(&TEXTS[..31], map(4, 0x18, 4))),
         (32, 0, 31, 0)
     );
     assert_eq!(rt; container_with(1, b'r'), (33, 0, 0, 0));
@@ -115,19 +115,19 @@ fn containers_have_their_numbers(rt: HostRuntime) {
     assert_eq!(rt; container_with(14, 3), (39, 0, 3, 0));
     assert_eq!(rt; container_with(10, 2), (42, 0, 1, 2));
     assert_eq!(rt;
-        numbers_of(explain_container(&TEXTS, false, LONG)),
+        numbers_of(explain_container(&TEXTS, map(0x14, 0x18, 4))),
         (43, 0, 0x14, 4)
     );
     assert_eq!(rt;
-        numbers_of(explain_container(&TEXTS, true, SHORT)),
+        numbers_of(explain_container(&TEXTS, map(4, 0x14, 4))),
         (44, 0, 0x14, 0x18)
     );
     assert_eq!(rt;
-        numbers_of(explain_container(&TEXTS, true, WIDE_LONG)),
+        numbers_of(explain_container(&TEXTS, map(4, 0x18, 8))),
         (45, 0, 8, 4)
     );
     assert_eq!(rt;
-        numbers_of(explain_container(&TEXTS[..34], true, LONG)),
+        numbers_of(explain_container(&TEXTS[..34], map(4, 0x18, 4))),
         (46, 0, 3, 2)
     );
     assert_eq!(rt; container_with(34, 4), (47, 0, 13 << 16 | 7, 14 << 16 | 8));

@@ -1,19 +1,14 @@
-//! Tests of validation, lookups, walks and archives of sets, and of their containers.
+//! Tests of validation, lookups, walks and archives of sets.
 
 ghost use Rattle.std.specs.Prelude.{IsTrue};
 ghost use Rattle.ffi_calls.specs.Sets.{IsNumberSet, IsTextSet};
 
-use crate::tests::archives::{HEADER, LONG, WIDE_HEADER};
-use crate::tests::containers::{TEXTS, header_in};
+use crate::tests::archives::{HEADER, WIDE_HEADER};
 use ffi_calls::building::Built;
-use ffi_calls::containers::{Opened, open_container};
 use ffi_calls::explanation::Explanation;
 use ffi_calls::number_sets::{
     NumberMember, build_number_set, contains_number, decode_number_set, explain_number_set,
     next_number_member, next_number_members, open_number_set,
-};
-use ffi_calls::set_containers::{
-    explain_container_of_set, open_container_of_set, write_header_of_set,
 };
 use ffi_calls::status::DONE;
 use ffi_calls::text_set_items::{SetText, build_text_set};
@@ -213,32 +208,6 @@ fn is_permitted(written: (u32, bool)) -> bool {
     written == (0, true) || written == (12, true)
 }
 
-// Returns the container of the bytes 1, 2, 3 as a set with the given codes of items and width.
-fn with_codes(item: u8, width: u8) -> [u8; 35] {
-    let mut bytes = TEXTS;
-    bytes[10] = 2;
-    bytes[11] = item;
-    bytes[12] = 1;
-    bytes[13] = width;
-    bytes
-}
-
-// Returns the status of opening a container of a set, and the length of the archive that is found.
-fn opened(bytes: &[u8], of_texts: bool, wide: bool) -> (u32, usize) {
-    let mut opened = Opened { archive: &[] };
-    let status = open_container_of_set(bytes, of_texts, wide, &mut opened);
-    let Opened { archive } = opened;
-    (status, archive.len())
-}
-
-// Returns the same of opening it as a map of texts to numbers of 64 bits.
-fn opened_as_map(bytes: &[u8]) -> (u32, usize) {
-    let mut opened = Opened { archive: &[] };
-    let status = open_container(bytes, true, LONG, &mut opened);
-    let Opened { archive } = opened;
-    (status, archive.len())
-}
-
 #[test]
 fn lookups_find_the_items_alone(rt: HostRuntime) {
     assert_eq!(rt; number_found(&one(), false, 1), Some((1, 0)));
@@ -304,23 +273,4 @@ fn sets_succeed(rt: HostRuntime) {
     assert_eq!(rt; write_text(alloc, b"", true, &wide_empty_text()), (0, true));
     assert_eq!(rt; write_texts(alloc, &[], false, &no_items()), (0, true));
     assert_eq!(rt; write_text(alloc, &[0x80], false, &[]), (4, true));
-}
-
-#[test]
-fn containers_open_as_their_own_kind(rt: HostRuntime) {
-    let numbers = with_codes(0x14, 4);
-    let texts = with_codes(4, 8);
-    assert_eq!(rt; opened(&numbers, false, false), (0, 3));
-    assert_eq!(rt; opened(&texts, true, true), (0, 3));
-    assert_eq!(rt; opened(&numbers, true, false), (43, 0));
-    assert_eq!(rt; opened(&texts, true, false), (45, 0));
-    assert_eq!(rt; opened(&TEXTS, true, false), (42, 0));
-    assert_eq!(rt; opened_as_map(&texts), (42, 0));
-    assert_eq!(rt;
-        numbers_of(explain_container_of_set(&TEXTS, true, false)),
-        (42, 0, 2, 1)
-    );
-    let mut header = [9; 32];
-    write_header_of_set(&[1, 2, 3], true, true, true, &mut header);
-    assert_eq!(rt; header.as_slice(), header_in(&texts));
 }
