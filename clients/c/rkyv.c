@@ -19,6 +19,14 @@ typedef struct opened {
     size_t length;
 } opened;
 
+/* The codes of a container's contents: its kind of collection, its types and its width. */
+typedef struct codes {
+    uint8_t kind;
+    uint8_t key;
+    uint8_t value;
+    uint8_t width;
+} codes;
+
 /* A value that is a text, which the library has found. */
 typedef struct text_value {
     const char *text;
@@ -76,13 +84,14 @@ uint32_t rkyv_c_build_numbers(const rkyv_number_item *items, size_t count, bool 
                               built *built);
 uint32_t rkyv_c_build_texts(const rkyv_text_item *items, size_t count, bool long_values, bool wide,
                             built *built);
-void rkyv_c_write_header(const uint8_t *archive, size_t length, bool of_texts, bool long_values,
-                         bool wide, bool checked, uint8_t *header, size_t header_length);
+uint32_t rkyv_c_write_header(const uint8_t *archive, size_t length, uint8_t kind, uint8_t key,
+                             uint8_t value, uint8_t width, bool checked, uint8_t *header,
+                             size_t header_length);
 uint32_t rkyv_c_container_width(const uint8_t *bytes, size_t length, bool *wide);
-uint32_t rkyv_c_open_container(const uint8_t *bytes, size_t length, bool of_texts,
-                               bool long_values, bool wide, opened *opened);
-void rkyv_c_explain_container(const uint8_t *bytes, size_t length, bool of_texts,
-                              bool long_values, bool wide, rkyv_error *error);
+uint32_t rkyv_c_open_container(const uint8_t *bytes, size_t length, uint8_t kind, uint8_t key,
+                               uint8_t value, uint8_t width, opened *opened);
+void rkyv_c_explain_container(const uint8_t *bytes, size_t length, uint8_t kind, uint8_t key,
+                              uint8_t value, uint8_t width, rkyv_error *error);
 uint32_t rkyv_c_update_container(uint8_t *bytes, size_t length);
 
 /* The same for maps to texts. */
@@ -118,12 +127,6 @@ uint32_t rkyv_c_build_numbers_to_texts(const rkyv_number_text_item *items, size_
                                        built *built);
 uint32_t rkyv_c_build_texts_to_texts(const rkyv_text_text_item *items, size_t count, bool wide,
                                      built *built);
-void rkyv_c_write_header_to_texts(const uint8_t *archive, size_t length, bool of_texts, bool wide,
-                                  bool checked, uint8_t *header, size_t header_length);
-uint32_t rkyv_c_open_container_to_texts(const uint8_t *bytes, size_t length, bool of_texts,
-                                        bool wide, opened *opened);
-void rkyv_c_explain_container_to_texts(const uint8_t *bytes, size_t length, bool of_texts,
-                                       bool wide, rkyv_error *error);
 
 /* The same for sets. */
 uint32_t rkyv_c_open_number_set(const uint8_t *archive, size_t length, bool wide);
@@ -154,12 +157,6 @@ size_t rkyv_c_next_text_members(const uint8_t *archive, size_t length, bool wide
                                 rkyv_text_member *members, size_t room);
 uint32_t rkyv_c_build_number_set(const uint32_t *items, size_t count, bool wide, built *built);
 uint32_t rkyv_c_build_text_set(const rkyv_set_text *items, size_t count, bool wide, built *built);
-void rkyv_c_write_header_of_set(const uint8_t *archive, size_t length, bool of_texts, bool wide,
-                                bool checked, uint8_t *header, size_t header_length);
-uint32_t rkyv_c_open_container_of_set(const uint8_t *bytes, size_t length, bool of_texts, bool wide,
-                                      opened *opened);
-void rkyv_c_explain_container_of_set(const uint8_t *bytes, size_t length, bool of_texts, bool wide,
-                                     rkyv_error *error);
 
 /* The same for maps whose keys are numbers of 64 bits. */
 uint32_t rkyv_c_open_long_numbers(const uint8_t *archive, size_t length, bool long_values,
@@ -181,13 +178,6 @@ size_t rkyv_c_next_long_numbers(const uint8_t *archive, size_t length, bool long
                                 rkyv_long_number_pair *pairs, size_t room);
 uint32_t rkyv_c_build_long_numbers(const rkyv_long_number_item *items, size_t count,
                                    bool long_values, bool wide, built *built);
-void rkyv_c_write_header_of_long_numbers(const uint8_t *archive, size_t length, bool long_values,
-                                         bool wide, bool checked, uint8_t *header,
-                                         size_t header_length);
-uint32_t rkyv_c_open_container_of_long_numbers(const uint8_t *bytes, size_t length,
-                                               bool long_values, bool wide, opened *opened);
-void rkyv_c_explain_container_of_long_numbers(const uint8_t *bytes, size_t length, bool long_values,
-                                              bool wide, rkyv_error *error);
 
 /* The same for index maps. They have no decoded header. */
 uint32_t rkyv_c_index_open_numbers(const uint8_t *archive, size_t length, bool long_values,
@@ -218,13 +208,6 @@ uint32_t rkyv_c_index_build_numbers(const rkyv_number_item *items, size_t count,
                                     bool wide, built *built);
 uint32_t rkyv_c_index_build_texts(const rkyv_text_item *items, size_t count, bool long_values,
                                   bool wide, built *built);
-void rkyv_c_index_write_header(const uint8_t *archive, size_t length, bool of_texts,
-                               bool long_values, bool wide, bool checked, uint8_t *header,
-                               size_t header_length);
-uint32_t rkyv_c_index_open_container(const uint8_t *bytes, size_t length, bool of_texts,
-                                     bool long_values, bool wide, opened *opened);
-void rkyv_c_index_explain_container(const uint8_t *bytes, size_t length, bool of_texts,
-                                    bool long_values, bool wide, rkyv_error *error);
 
 #ifdef __cplusplus
 }
@@ -287,6 +270,34 @@ static bool has_long_values(uint32_t kind) {
     return kind == RKYV_NUMBER_TO_U64 || kind == RKYV_TEXT_TO_U64
         || kind == RKYV_INDEX_NUMBER_TO_U64 || kind == RKYV_INDEX_TEXT_TO_U64
         || kind == RKYV_LONG_NUMBER_TO_U64;
+}
+
+/* The codes of the containers of maps of the kind, as docs/FORMAT.md lists them. */
+static codes codes_of(uint32_t kind, bool wide) {
+    enum { HASH_MAP = 1, HASH_SET = 2, INDEX_MAP = 3 };
+    enum { UNIT = 0x01, TEXT = 0x04, U32 = 0x14, U64 = 0x18 };
+    bool text_keys = is_of_texts(kind) || is_text_to_text(kind) || is_text_set(kind);
+    codes contents = {HASH_MAP, U32, U32, 4};
+    if (is_set(kind)) {
+        contents.kind = HASH_SET;
+        contents.value = UNIT;
+    } else if (is_to_texts(kind)) {
+        contents.value = TEXT;
+    } else if (has_long_values(kind)) {
+        contents.value = U64;
+    }
+    if (is_index(kind)) {
+        contents.kind = INDEX_MAP;
+    }
+    if (text_keys) {
+        contents.key = TEXT;
+    } else if (is_of_long_numbers(kind)) {
+        contents.key = U64;
+    }
+    if (wide) {
+        contents.width = 8;
+    }
+    return contents;
 }
 
 static bool is_wide(const rkyv_map *map) {
@@ -490,23 +501,9 @@ rkyv_status rkyv_map_open_writable(void *bytes, size_t length, uint32_t kind, ui
 /* Finds the archive in a container of such a map. */
 static rkyv_status find_archive(const uint8_t *container, size_t length, uint32_t kind, bool wide,
                                 opened *found) {
-    uint32_t status;
-    if (is_set(kind)) {
-        status = rkyv_c_open_container_of_set(container, length, is_text_set(kind), wide, found);
-    } else if (is_to_texts(kind)) {
-        status = rkyv_c_open_container_to_texts(container, length, is_text_to_text(kind), wide,
-                                                found);
-    } else if (is_index(kind)) {
-        status = rkyv_c_index_open_container(container, length, is_of_texts(kind),
-                                             has_long_values(kind), wide, found);
-    } else if (is_of_long_numbers(kind)) {
-        status = rkyv_c_open_container_of_long_numbers(container, length, has_long_values(kind), wide,
-                                                       found);
-    } else {
-        status = rkyv_c_open_container(container, length, is_of_texts(kind), has_long_values(kind),
-                                       wide, found);
-    }
-    return (rkyv_status)status;
+    codes contents = codes_of(kind, wide);
+    return (rkyv_status)rkyv_c_open_container(container, length, contents.kind, contents.key,
+                                              contents.value, contents.width, found);
 }
 
 /* Opens the map in a container. `writable` is the address of the container, or null. */
@@ -607,20 +604,9 @@ rkyv_status rkyv_container_explain(const void *bytes, size_t length, uint32_t ki
         /* If the header has an error, it is the same one for both widths. */
         rkyv_c_container_width(container, length, &wide);
     }
-    if (is_set(kind)) {
-        rkyv_c_explain_container_of_set(container, length, is_text_set(kind), wide, error);
-    } else if (is_to_texts(kind)) {
-        rkyv_c_explain_container_to_texts(container, length, is_text_to_text(kind), wide, error);
-    } else if (is_index(kind)) {
-        rkyv_c_index_explain_container(container, length, is_of_texts(kind), has_long_values(kind),
-                                       wide, error);
-    } else if (is_of_long_numbers(kind)) {
-        rkyv_c_explain_container_of_long_numbers(container, length, has_long_values(kind), wide,
-                                                 error);
-    } else {
-        rkyv_c_explain_container(container, length, is_of_texts(kind), has_long_values(kind), wide,
-                                 error);
-    }
+    codes contents = codes_of(kind, wide);
+    rkyv_c_explain_container(container, length, contents.kind, contents.key, contents.value,
+                             contents.width, error);
     if (error->status == RKYV_OK
         && find_archive(container, length, kind, wide, &found) == RKYV_OK) {
         explain(found.bytes, found.length, kind, wide, error);
@@ -1370,24 +1356,12 @@ static rkyv_status check_archive(const void *archive, size_t length, uint32_t ki
     return status == RKYV_OK ? check_bytes(archive, length) : status;
 }
 
-static void write_header(const uint8_t *archive, size_t length, uint32_t kind, uint32_t width,
-                         bool checksum, uint8_t *header) {
-    if (is_set(kind)) {
-        rkyv_c_write_header_of_set(archive, length, is_text_set(kind), width == 64, checksum, header,
-                                   RKYV_CONTAINER_HEADER);
-    } else if (is_to_texts(kind)) {
-        rkyv_c_write_header_to_texts(archive, length, is_text_to_text(kind), width == 64, checksum,
-                                     header, RKYV_CONTAINER_HEADER);
-    } else if (is_index(kind)) {
-        rkyv_c_index_write_header(archive, length, is_of_texts(kind), has_long_values(kind),
-                                  width == 64, checksum, header, RKYV_CONTAINER_HEADER);
-    } else if (is_of_long_numbers(kind)) {
-        rkyv_c_write_header_of_long_numbers(archive, length, has_long_values(kind), width == 64,
-                                            checksum, header, RKYV_CONTAINER_HEADER);
-    } else {
-        rkyv_c_write_header(archive, length, is_of_texts(kind), has_long_values(kind), width == 64,
-                            checksum, header, RKYV_CONTAINER_HEADER);
-    }
+static rkyv_status write_header(const uint8_t *archive, size_t length, uint32_t kind,
+                                uint32_t width, bool checksum, uint8_t *header) {
+    codes contents = codes_of(kind, width == 64);
+    return (rkyv_status)rkyv_c_write_header(archive, length, contents.kind, contents.key,
+                                            contents.value, contents.width, checksum, header,
+                                            RKYV_CONTAINER_HEADER);
 }
 
 rkyv_status rkyv_container_header(const void *archive, size_t length, uint32_t kind,
@@ -1397,7 +1371,7 @@ rkyv_status rkyv_container_header(const void *archive, size_t length, uint32_t k
         status = RKYV_NULL;
     }
     if (status == RKYV_OK) {
-        write_header(bytes_of(archive), length, kind, width, checksum, header);
+        status = write_header(bytes_of(archive), length, kind, width, checksum, header);
     }
     return status;
 }
@@ -1418,7 +1392,7 @@ rkyv_status rkyv_container_write(const void *archive, size_t length, uint32_t ki
     if (status == RKYV_OK) {
         uint8_t *header = (uint8_t *)container, *copy = header + RKYV_CONTAINER_HEADER;
         memmove(copy, bytes_of(archive), length);
-        write_header(copy, length, kind, width, checksum, header);
+        status = write_header(copy, length, kind, width, checksum, header);
     }
     return status;
 }
