@@ -63,7 +63,7 @@ abbrev pub FindsNumber : Bool → List ℕ → ℕ → ℕ → Type 0
 FindsNumber wide b item = IsFoundStatus (value_found (number_set_in wide b) (number_calls item)
     (λ q. item == number_at w32 b q))
 
--- the result of a lookup tells whether a listed item is the number
+-- the result of a lookup is whether a listed item is the number
 abbrev pub FindsListedNumber : Bool → List ℕ → ℕ → ℕ → Type 0
 FindsListedNumber wide b item = FindsItem (number_set_in wide b) (asked_number item)
 
@@ -77,7 +77,7 @@ abbrev pub FindsText : Bool → List ℕ → List ℕ → ℕ → Type 0
 FindsText wide b item status = ((IsUtf8 item → ⊥) × (status ≡ 4))
     ⊎ (IsUtf8 item × IsFoundStatus (member_found wide b item) status)
 
--- the result of a lookup tells whether a listed item is the text
+-- the result of a lookup is whether a listed item is the text
 abbrev pub FindsListedText : Bool → List ℕ → List ℕ → ℕ → Type 0
 FindsListedText wide b item = FindsItem (text_set_in wide b) (asked_text (word_of wide) item)
 

@@ -9,7 +9,7 @@
 //! - `index_numbers` and `index_texts` validate, look up and read index maps, and `index_items`
 //!   writes their archives. `index` has what both kinds of keys share.
 //! - `containers` writes the headers of containers, opens containers, and updates their checksums.
-//! - `explanation` tells the first validation error of an archive, with its numbers.
+//! - `explanation` explains the first validation error of an archive, with its numbers.
 //! - `form` has the two flags of a map's form, and `status` the statuses that calls return.
 //! - `laws` states that archives represent their lists, and that walks visit each pair once.
 #![tactic(auto)]

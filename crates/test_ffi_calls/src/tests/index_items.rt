@@ -70,7 +70,7 @@ fn one_number_succeeds(rt: HostRuntime) {
 }
 
 #[test]
-fn equal_keys_succeed(rt: HostRuntime) {
+fn equal_keys_succeeds(rt: HostRuntime) {
     let items = [
         NumberItem { value: 2, key: 1 },
         NumberItem { value: 6, key: 5 },
@@ -95,7 +95,7 @@ fn one_text_succeeds(rt: HostRuntime) {
 }
 
 #[test]
-fn texts_out_of_line_succeed(rt: HostRuntime) {
+fn texts_out_of_line_succeeds(rt: HostRuntime) {
     let items = [
         TextItem {
             key: b"a text out of line",

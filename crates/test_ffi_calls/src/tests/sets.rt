@@ -264,7 +264,7 @@ fn sets_have_their_bytes_or_no_memory(rt: HostRuntime) {
 }
 
 #[test]
-fn sets_succeed(rt: HostRuntime) {
+fn sets_succeeds(rt: HostRuntime) {
     let alloc = rt.alloc();
     assert_eq!(rt; write_numbers(alloc, &[1], false, &one()), (0, true));
     assert_eq!(rt; write_numbers(alloc, &[1], true, &wide_one()), (0, true));

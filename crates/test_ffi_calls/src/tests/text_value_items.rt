@@ -74,7 +74,7 @@ fn pairs_have_their_bytes_or_no_memory(rt: HostRuntime) {
 }
 
 #[test]
-fn pairs_of_numbers_succeed(rt: HostRuntime) {
+fn pairs_of_numbers_succeeds(rt: HostRuntime) {
     let alloc = rt.alloc();
     assert_eq!(rt; write_one(alloc, false, b"tea", &one_to_tea()), (0, true));
     assert_eq!(rt;
@@ -88,7 +88,7 @@ fn pairs_of_numbers_succeed(rt: HostRuntime) {
 }
 
 #[test]
-fn pairs_of_texts_succeed(rt: HostRuntime) {
+fn pairs_of_texts_succeeds(rt: HostRuntime) {
     let alloc = rt.alloc();
     assert_eq!(rt;
         write_text(alloc, false, b"", b"wonderful", &empty_to_text()),
