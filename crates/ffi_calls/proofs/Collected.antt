@@ -1,9 +1,10 @@
 -- A loop that takes items in turn, and keeps an image of each.
-use Rattle.std.proofs.Common.{◌≡◌, ◌∙◌, ℕ, ◌+◌, ◌<◌, ◌++◌, List, [], ◌∷◌, ap, arith, get_or, length, map, subst, suc, sym, take}
-use Rattle.std.specs.Prelude.{All}
+use Rattle.std.proofs.Common.{◌≡◌, ◌∙◌, ℕ, ◌+◌, ◌<◌, ◌++◌, List, [], ◌∷◌, Some, ap, arith, get_or, length, map, subst, suc, sym, take}
+use Rattle.std.specs.Prelude.{All, slice_get}
 use Rattle.std.proofs.Math.Seq.{take-suc}
-use Rattle.std.proofs.lemmas.List.{map-append, take_all}
+use Rattle.std.proofs.lemmas.List.{get_or-map, length-map, map-append, take_all}
 use Rattle.std.proofs.lemmas.List.Elements.{All-append}
+use Rattle.std.proofs.lemmas.Option.{slice_get-get_or}
 
 module _ {I Q : Type 0} (Fits : I → Type 0) (pair : I → Q) (items : List I) where
   -- the first `n` items fit, and `seen` are their images
@@ -31,3 +32,21 @@ module _ {I Q : Type 0} (Fits : I → Type 0) (pair : I → Q) (items : List I) 
 -- a pair appended to equal lists, given the equality of both halves
 pub same_pair : {A B : Type 0} (before : List (A × B)) (a x : A) (b y : B) → a ≡ x → b ≡ y → before ++ ((a, b) ∷ []) ≡ before ++ ((x, y) ∷ [])
 same_pair before a x b y e f = ap (λ k. before ++ ((k, b) ∷ [])) e ∙ ap (λ v. before ++ ((x, v) ∷ [])) f
+
+-- the same of items that are read from others by `f`
+module _ {P I Q : Type 0} (f : P → I) (Fits : I → Type 0) (pair : I → Q) (items : List P) where
+  -- an item that is read is there
+  pub item_there : (n : ℕ) (d : P) (item : I) → n < length items → item ≡ f (get_or items n d) → slice_get (map f items) n ≡ Some item
+  item_there n d item small is =
+      let all = length-map items f in
+      slice_get-get_or (map f items) n item (omega (arith, all, small)) ∙ ap Some (get_or-map f items n d item small ∙ sym is)
+
+  pub one_read : (n : ℕ) (d : P) (item : I) (seen after : List Q) → n < length items → item ≡ f (get_or items n d) → Fits item → after ≡ seen ++ (pair item ∷ []) → Collected Fits pair (map f items) n seen
+      → Collected Fits pair (map f items) (n + 1) after
+  one_read n d item seen after small is fits e h =
+      let all = length-map items f in
+      let there : get_or (map f items) n item ≡ item = get_or-map f items n d item small ∙ sym is in
+      one_more Fits pair (map f items) n item seen after (omega (arith, all, small)) (subst Fits (sym there) fits) (e ∙ ap (λ x. seen ++ (pair x ∷ [])) (sym there)) h
+
+  pub all_read : (n : ℕ) (seen : List Q) → n ≡ length items → Collected Fits pair (map f items) n seen → All Fits (map f items) × (seen ≡ map pair (map f items))
+  all_read n seen e h = let all = length-map items f in all_of_them Fits pair (map f items) n seen (omega (arith, all, e)) h

@@ -1,19 +1,16 @@
--- The map of a view, and the key and the value of the pair at an index, as numbers and as bytes.
+-- The map of a view, and the stored key and value of the pair at an index.
 use Rattle.rkyv_base.specs.declared.element.HasSpec.{Ghosts as Specs}
 use Rattle.rkyv_base.specs.declared.width.Word.{Ghosts as Words}
-use Rattle.std.proofs.Common.{◌≡◌, ◌∙◌, ℕ, List, Option, Some, ap, refl, subst}
-use Rattle.std.specs.Borrow.{Bor}
+use Rattle.std.proofs.Common.{◌≡◌, ℕ, List, refl}
 use Rattle.std.specs.Int.{Width}
-use Rattle.rkyv_base.specs.Bytes.{number_at}
-use Rattle.rkyv_base.specs.Scalar.{Encoding}
 use Rattle.rkyv_base.specs.ElementSpec.{ElementSpec}
 use Rattle.rkyv_base.specs.declared.view.View.{View}
 use Rattle.rkyv_table.proofs.Moved.{moved}
 use Rattle.rkyv_collections.specs.Map.MapAt.{MapAt}
 use Rattle.rkyv_index.specs.Index.{IsKeyOf, IsValueOf, index_bytes}
 use Rattle.rkyv_index.specs.declared.map.ArchivedIndexMap.{ArchivedIndexMap}
-use Rattle.ffi_calls.specs.IndexArchives.{GivesIndexed, index_at, pair_pos_at, value_at_index}
-use Rattle.ffi_calls.specs.declared.index.IndexedValue.{IndexedValue}
+use Rattle.ffi_calls.specs.IndexArchives.{index_at, pair_pos_at, value_pos_at}
+use Rattle.ffi_calls.proofs.Next.{there}
 
 -- the map at a position
 abbrev map_of : Width → ElementSpec → ElementSpec → List ℕ → ℕ → MapAt
@@ -25,15 +22,9 @@ of_same_map P w k v b c p q e f h = moved (λ x y. P (map_of w k v x y)) b c p q
 
 module _ {K V H W : Type 0} {ks : Specs K} {vs : Specs V} {wt : Words W} (m : ArchivedIndexMap K V H W ks vs wt) where
   -- what is read at the view of a key is read at its pair
-  pub key_there : {X : Type 0} (read : List ℕ → ℕ → X) (i : ℕ) (key : View K) (x : X) → x ≡ read key.archive.now key.pos → IsKeyOf m i key → x ≡ read (index_bytes m) (pair_pos_at (index_at m) i)
-  key_there read i key x e is = e ∙ ap (λ (a : Bor (List ℕ)). read a.now key.pos) is.at.0 ∙ ap (read (index_bytes m)) is.at.1
+  pub key_there : {X : Type 0} (reads : List ℕ → ℕ → X → Type 0) (i : ℕ) (key : View K) (x : X) → reads key.archive.now key.pos x → IsKeyOf m i key → reads (index_bytes m) (pair_pos_at (index_at m) i) x
+  key_there reads i key x read is = there (λ b q. reads b q x) key.archive _ key.pos _ (index_bytes m) is.at.0 refl is.at.1 read
 
-  module _ {N : Type 0} (e : Encoding N) where
-    -- the number at the view of a value is that of its pair
-    pub value_there : (i : ℕ) (value : View V) (number : ℕ) → number ≡ number_at e.word value.archive.now value.pos → IsValueOf m i value → number ≡ value_at_index (index_at m) e i
-    value_there i value number n is = n ∙ ap (λ (a : Bor (List ℕ)). number_at e.word a.now value.pos) is.at.0 ∙ ap (number_at e.word (index_bytes m)) is.at.1
-
-    -- the index that is found, and its value
-    pub indexed : (i number : ℕ) (before after : IndexedValue) (place : Option ℕ) → Some i ≡ place → after.index ≡ i → after.value ≡ number → number ≡ value_at_index (index_at m) e i
-        → GivesIndexed (index_at m) e place before 0 after
-    indexed i number before after place found at is value = subst (λ (o : Option ℕ). GivesIndexed (index_at m) e o before 0 after) found (refl, at, is ∙ value)
+  -- what is read at the view of a value is read at that of its pair
+  pub value_there : {Y : Type 0} (reads : List ℕ → ℕ → Y → Type 0) (i : ℕ) (value : View V) (y : Y) → reads value.archive.now value.pos y → IsValueOf m i value → reads (index_bytes m) (value_pos_at (index_at m) i) y
+  value_there reads i value y read is = there (λ b q. reads b q y) value.archive _ value.pos _ (index_bytes m) is.at.0 refl is.at.1 read

@@ -1,10 +1,7 @@
--- The key and value of the next pair of a walk.
-use Rattle.std.proofs.Common.{◌≡◌, ℕ, ◌∙◌, ap}
-use Rattle.rkyv_base.specs.Sealing.{value_pos}
-use Rattle.rkyv_collections.specs.Map.MapAt.{MapAt}
-use Rattle.ffi_calls.specs.Walking.{pair_pos}
+-- What is read at a view is read at its position in the archive.
+use Rattle.std.proofs.Common.{◌≡◌, ℕ, List, subst}
+use Rattle.std.specs.Borrow.{Bor}
 
--- the key and value at the pair's position are those of the bucket
-pub pair_told : {X Y : Type 0} (m : MapAt) (key_at : ℕ → X) (value_at : ℕ → Y) (i item : ℕ) (key : X) (value : Y) → item ≡ pair_pos m i → key ≡ key_at item
-    → value ≡ value_at (value_pos m.key m.value item) → (key ≡ key_at (pair_pos m i)) × (value ≡ value_at (value_pos m.key m.value (pair_pos m i)))
-pair_told m key_at value_at i item key value at is_key is_value = (is_key ∙ ap key_at at, is_value ∙ ap (λ q. value_at (value_pos m.key m.value q)) at)
+-- a property of the bytes of a view and of its position is one of the archive and of the position there
+pub there : (P : List ℕ → ℕ → Type 0) (a archive : Bor (List ℕ)) (p q : ℕ) (b : List ℕ) → a ≡ archive → archive.now ≡ b → p ≡ q → P a.now p → P b q
+there P a archive p q b e same at h = subst (P b) at (subst (λ bytes. P bytes p) same (subst (λ (x : Bor (List ℕ)). P x.now p) e h))

@@ -1,11 +1,12 @@
 -- The result of an overwrite in place, after which the archive is valid.
-use Rattle.std.proofs.Common.{◌≡◌, ℕ, ◌-◌, ◌%◌, ◌∙◌, Bool, List, None, Option, Some, ap, arith, false, length, subst, sym, true}
-use Rattle.std.specs.Int.{Width}
+use Rattle.std.proofs.Common.{◌≡◌, ℕ, ◌*◌, ◌+◌, ◌-◌, ◌%◌, ◌∙◌, Bool, List, None, Option, Some, ap, arith, false, length, subst, sym, true}
+use Rattle.std.specs.Int.{Width, byte_len}
 use Rattle.std.specs.Option.{option_map}
 use Rattle.std.specs.Prelude.{MatchOption}
 use Rattle.rkyv_scan.specs.Groups.{generic_kind}
 use Rattle.rkyv_scan.specs.Hash.{HasherCall}
 use Rattle.rkyv_base.specs.Access.{Accepted}
+use Rattle.rkyv_base.specs.Bytes.{AgreeOn}
 use Rattle.rkyv_base.specs.Entry.{entry_spec}
 use Rattle.rkyv_base.specs.Scalar.{Encoding}
 use Rattle.rkyv_base.specs.Sealing.{value_pos, with_value}
@@ -17,6 +18,16 @@ use Rattle.rkyv_table.specs.declared.table.decoded.Decoded.{Decoded}
 use Rattle.rkyv_collections.specs.Map.InPlace.{SetsFound}
 use Rattle.rkyv_collections.specs.Map.MapSpec.{map_spec}
 use Rattle.ffi_calls.specs.Archives.{KeepsHeader, hash_by, map_in, root, value_found}
+
+-- a decoded header is one of the same header in other bytes
+pub decoded_again : (w : Width) (b c : List ℕ) (p : ℕ) → AgreeOn b c p (p + 3 * byte_len w) → (header : Decoded) → IsDecoded w b p header → IsDecoded w c p header
+decoded_again w b c p same header is = record {
+  len = is.len ∙ len_same w b c p same;
+  cap = is.cap ∙ cap_same w b c p same;
+  small = is.small;
+  controls_pos = λ some. is.controls_pos some ∙ pos_same w b c p same;
+  divisor = is.divisor;
+}
 
 module _ {N : Type 0} (w : Width) (k v : ElementSpec) (e : Encoding N) (key_hash : List ℕ → ℕ → ℕ) (b : List ℕ) (p : ℕ) (value : N) (result : Bool) (c : List ℕ) where
   -- the result of an overwrite, by its status
@@ -33,18 +44,10 @@ module _ {N : Type 0} (w : Width) (k v : ElementSpec) (e : Encoding N) (key_hash
   -- the decoded header of the map is that of the map after the overwrite
   header_after_set : (place : Option ℕ) → SetsFound w k v e key_hash b p value result c place → (header : Decoded) → IsDecoded w b p header → IsDecoded w c p header
   header_after_set None h header is = subst (λ x. IsDecoded w x p header) (sym h.1) is
-  header_after_set (Some q) h header is =
-      let same = h.2.1.table.header in
-      record {
-        len = is.len ∙ len_same w b c p same;
-        cap = is.cap ∙ cap_same w b c p same;
-        small = is.small;
-        controls_pos = λ some. is.controls_pos some ∙ pos_same w b c p same;
-        divisor = is.divisor;
-      }
+  header_after_set (Some q) h header is = decoded_again w b c p h.2.1.table.header header is
 
 -- bytes of the same length with a valid root are a valid archive
-accepted_again : (limit : ℕ) (s : ElementSpec) (b c : List ℕ) (p : ℕ) → Accepted limit s b → p ≡ length b - s.size → length c ≡ length b → Viewable s c p → Accepted limit s c
+pub accepted_again : (limit : ℕ) (s : ElementSpec) (b c : List ℕ) (p : ℕ) → Accepted limit s b → p ≡ length b - s.size → length c ≡ length b → Viewable s c p → Accepted limit s c
 accepted_again limit s b c p a at same v =
     let within = a.within in
     let inside = a.inside in

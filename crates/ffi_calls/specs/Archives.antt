@@ -7,7 +7,6 @@ use mir.Val.{bits}
 use Rattle.rkyv_scan.specs.Groups.{generic_kind}
 use Rattle.rkyv_scan.specs.Hash.{HasherCall, fx_hash, low_halves}
 use Rattle.rkyv_base.specs.Access.{Accepted, AccessFails}
-use Rattle.rkyv_base.specs.Bytes.{number_at}
 use Rattle.rkyv_base.specs.Entry.{entry_spec}
 use Rattle.rkyv_base.specs.Numbers.{unsigned}
 use Rattle.rkyv_base.specs.Scalar.{Encoding, scalar_spec}
@@ -20,6 +19,7 @@ use Rattle.rkyv_collections.specs.Map.MapSpec.{map_spec}
 use Rattle.rkyv_table.specs.Table.Decoded.{IsDecoded}
 use Rattle.rkyv_table.specs.Table.Positions.{pos_found}
 use Rattle.rkyv_table.specs.declared.table.decoded.Decoded.{Decoded}
+use Rattle.ffi_calls.specs.Keys.{NumberKey}
 use Rattle.ffi_calls.specs.Status.{refusal}
 use Rattle.ffi_calls.specs.declared.form.Form.{Form}
 
@@ -44,10 +44,6 @@ most_of = by_form 4_294_967_295 4_611_686_018_427_387_904
 abbrev pub form_of : Bool → Bool → Form
 form_of long_values wide = record { long_values = long_values; wide = wide }
 
--- the spec of a key that is a number of 32 bits
-abbrev pub number_key : ElementSpec
-number_key = scalar_spec (unsigned w32)
-
 -- the spec of a key that is a text
 abbrev pub text_key : Form → ElementSpec
 text_key form = text_spec (word_of form.wide)
@@ -61,8 +57,8 @@ abbrev pub value_spec : Form → ElementSpec
 value_spec form = scalar_spec (value_encoding form)
 
 -- the spec of the header of a map of numbers
-abbrev pub number_map : Form → ElementSpec
-number_map form = map_spec (word_of form.wide) number_key (value_spec form)
+abbrev pub number_map : {A : Type 0} → NumberKey A → Form → ElementSpec
+number_map k form = map_spec (word_of form.wide) k.spec (value_spec form)
 
 -- the spec of the header of a map of texts
 abbrev pub text_map : Form → ElementSpec
@@ -77,8 +73,8 @@ abbrev pub IsPairAt : ElementSpec → ElementSpec → List ℕ → ℕ → Type 
 IsPairAt k v b p = Viewable (entry_spec k v) b p
 
 -- `b` is the valid archive of a map of numbers in the form
-abbrev pub IsNumberArchive : Form → List ℕ → Type 0
-IsNumberArchive form b = Accepted (limit_of form.wide) (number_map form) b
+abbrev pub IsNumberArchive : {A : Type 0} → NumberKey A → Form → List ℕ → Type 0
+IsNumberArchive k form b = Accepted (limit_of form.wide) (number_map k form) b
 
 -- `b` is the valid archive of a map of texts in the form
 abbrev pub IsTextArchive : Form → List ℕ → Type 0
@@ -102,8 +98,8 @@ abbrev pub map_in : Width → ElementSpec → ElementSpec → List ℕ → MapAt
 map_in w k v b = record { word = w; key = k; value = v; bytes = b; pos = root w k v b }
 
 -- the map of numbers, in the form, at the root of an archive
-abbrev pub numbers_in : Form → List ℕ → MapAt
-numbers_in form = map_in (word_of form.wide) number_key (value_spec form)
+abbrev pub numbers_in : {A : Type 0} → NumberKey A → Form → List ℕ → MapAt
+numbers_in k form = map_in (word_of form.wide) k.spec (value_spec form)
 
 -- the map of texts, in the form, at the root of an archive
 abbrev pub texts_in : Form → List ℕ → MapAt
@@ -129,11 +125,6 @@ value_found m calls fits = option_map (value_pos m.key m.value)
 abbrev pub GivesAt : {X : Type 0} → (ℕ → X → Type 0) → Option ℕ → X → ℕ → X → Type 0
 GivesAt IsAt place before status after = MatchOption place ((status ≡ 1) × (after ≡ before))
     (λ q. (status ≡ 0) × IsAt q after)
-
--- the status is 0 and `after` is the number at `place`.
--- At `None` the status is 1 and `after` is `before`.
-abbrev pub Gives : Width → List ℕ → Option ℕ → ℕ → ℕ → ℕ → Type 0
-Gives v b = GivesAt (λ (q : ℕ) (after : ℕ). after ≡ number_at v b q)
 
 -- `c` is `b` with the value of `number` at `place`, and the status is 0.
 -- If `number` has too many bits, or at `None`, no byte is changed.

@@ -1,32 +1,45 @@
 -- Results of the calls for maps of numbers, and for maps of texts.
-use Rattle.std.specs.Prelude.{◌≡◌, ℕ, ◌==◌, ◌⊎◌, List, Option}
-use Rattle.std.specs.Int.{w32}
+use Rattle.std.specs.Prelude.{◌≡◌, ℕ, ◌⊎◌, List, Option}
+use Rattle.std.specs.Borrow.{Bor}
 use Rattle.std.specs.Str.{IsUtf8}
-use Rattle.rkyv_base.specs.Bytes.{number_at}
 use Rattle.rkyv_base.specs.Text.{text_at}
+use Rattle.rkyv_base.specs.Scalar.{ScalarRepresents}
 use Rattle.rkyv_keys.specs.Calls.{text_calls}
+use Rattle.rkyv_keys.specs.OfScalars.{one_call, scalar_fits}
 use Rattle.rkyv_keys.specs.OfTexts.{same_bytes}
-use Rattle.ffi_calls.specs.Archives.{Gives, Sets, numbers_in, texts_in, value_encoding}
+use Rattle.ffi_calls.specs.Archives.{GivesAt, Sets, numbers_in, texts_in, value_encoding}
 use Rattle.ffi_calls.specs.Archives.{value_found, word_of}
-use Rattle.ffi_calls.specs.Listed.{number_calls}
-use Rattle.ffi_calls.specs.Walking.{NextNumber, NextNumbers, NextText, NextTexts}
+use Rattle.ffi_calls.specs.Keys.{NumberKey}
+use Rattle.ffi_calls.specs.Reading.{ReadsText, ReadsWord}
+use Rattle.ffi_calls.specs.Walking.{StoresNextPairs}
 use Rattle.ffi_calls.specs.declared.form.Form.{Form}
-use Rattle.ffi_calls.specs.declared.numbers.NumberPair.{NumberPair}
-use Rattle.ffi_calls.specs.declared.texts.TextPair.{TextPair}
+use Rattle.ffi_calls.specs.declared.pairs.Pair.{Pair}
+use Rattle.ffi_calls.specs.declared.pairs.Step.{Step}
 
--- the position of the value that a lookup of the number `key` finds
-abbrev pub number_found : Form → List ℕ → ℕ → Option ℕ
-number_found form b key = value_found (numbers_in form b) (number_calls key)
-    (λ q. key == number_at w32 b q)
+module _ {A : Type 0} (k : NumberKey A) (form : Form) (b : List ℕ) where
+  -- the position of the value that a lookup of the number `key` finds
+  abbrev pub number_found : A → Option ℕ
+  number_found key = value_found (numbers_in k form b) (one_call k.call key)
+      (scalar_fits k.encoding k.eq key b)
+
+  -- the result of a lookup of the number `key`, whose value replaces `before`
+  abbrev pub GivesNumber : A → ℕ → ℕ → ℕ → Type 0
+  GivesNumber key = GivesAt (ReadsWord (word_of form.long_values) b) (number_found key)
+
+  -- the result of an overwrite of the value of the number `key` in `b`
+  abbrev pub SetsNumber : A → ℕ → ℕ → List ℕ → Type 0
+  SetsNumber key = Sets (value_encoding form) b (number_found key)
+
+  -- the result of steps to the next pairs of a map of numbers
+  abbrev pub StoresNextNumbers : ℕ → List (Step (Pair A ℕ)) → ℕ → List (Step (Pair A ℕ)) → Type 0
+  StoresNextNumbers =
+      StoresNextPairs (numbers_in k form b) (ScalarRepresents k.encoding)
+      (ReadsWord (word_of form.long_values))
 
 -- the position of the value that a lookup of the text `key` finds
 abbrev pub text_found : Form → List ℕ → List ℕ → Option ℕ
 text_found form b key = value_found (texts_in form b) (text_calls key)
     (λ q. same_bytes key (text_at (word_of form.wide) b q))
-
--- the result of a lookup of the number `key`, whose value replaces `before`
-abbrev pub GivesNumber : Form → List ℕ → ℕ → ℕ → ℕ → ℕ → Type 0
-GivesNumber form b key = Gives (word_of form.long_values) b (number_found form b key)
 
 -- the result of a lookup of `key`, whose value replaces `before`.
 -- The status is 4 and `before` is unchanged if `key` isn't UTF-8.
@@ -34,11 +47,7 @@ abbrev pub GivesText : Form → List ℕ → List ℕ → ℕ → ℕ → ℕ �
 GivesText form b key before status after =
     ((IsUtf8 key → ⊥) × (status ≡ 4) × (after ≡ before))
     ⊎ (IsUtf8 key
-    × Gives (word_of form.long_values) b (text_found form b key) before status after)
-
--- the result of an overwrite of the value of the number `key` in `b`
-abbrev pub SetsNumber : Form → List ℕ → ℕ → ℕ → ℕ → List ℕ → Type 0
-SetsNumber form b key = Sets (value_encoding form) b (number_found form b key)
+    × GivesAt (ReadsWord (word_of form.long_values) b) (text_found form b key) before status after)
 
 -- the result of an overwrite of the value of `key` in `b`.
 -- The status is 4 and no byte is changed if `key` isn't UTF-8.
@@ -47,18 +56,8 @@ SetsText form b key value status c =
     ((IsUtf8 key → ⊥) × (status ≡ 4) × (c ≡ b))
     ⊎ (IsUtf8 key × Sets (value_encoding form) b (text_found form b key) value status c)
 
--- the result of a step to the next pair of a map of numbers
-abbrev pub StepsNumbers : Form → List ℕ → NumberPair → ℕ → NumberPair → Type 0
-StepsNumbers form b = NextNumber (numbers_in form b) (value_encoding form)
-
--- the result of steps to the next pairs of a map of numbers
-abbrev pub StepsAllNumbers : Form → List ℕ → ℕ → List NumberPair → ℕ → List NumberPair → Type 0
-StepsAllNumbers form b = NextNumbers (numbers_in form b) (value_encoding form)
-
--- the result of a step to the next pair of a map of texts
-abbrev pub StepsTexts : Form → List ℕ → TextPair → ℕ → TextPair → Type 0
-StepsTexts form b = NextText (texts_in form b) (value_encoding form)
-
 -- the result of steps to the next pairs of a map of texts
-abbrev pub StepsAllTexts : Form → List ℕ → ℕ → List TextPair → ℕ → List TextPair → Type 0
-StepsAllTexts form b = NextTexts (texts_in form b) (value_encoding form)
+abbrev pub StoresNextTexts : Form → List ℕ → ℕ → List (Step (Pair (Bor (List ℕ)) ℕ)) → ℕ
+    → List (Step (Pair (Bor (List ℕ)) ℕ)) → Type 0
+StoresNextTexts form b = StoresNextPairs (texts_in form b) (ReadsText (word_of form.wide))
+    (ReadsWord (word_of form.long_values))

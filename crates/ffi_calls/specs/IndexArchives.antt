@@ -1,40 +1,41 @@
 -- The archives of index maps: validity, lookups, and pairs by their index.
 use Rattle.rkyv_base.specs.declared.element.HasSpec.{Ghosts as Specs}
 use Rattle.rkyv_base.specs.declared.width.Word.{Ghosts as Words}
-use Rattle.std.specs.Prelude.{◌≡◌, ℕ, ◌+◌, ◌-◌, ◌<◌, ◌==◌, ◌≤◌, ◌⊎◌, Bool, List, MatchOption}
+use Rattle.std.specs.Prelude.{◌≡◌, ℕ, ◌+◌, ◌-◌, ◌<◌, ◌≤◌, ◌⊎◌, Bool, List, MatchOption}
 use Rattle.std.specs.Prelude.{Option, Some, drop, length, min, slice_get}
-use Rattle.std.specs.Int.{Width, w32}
+use Rattle.std.specs.Borrow.{Bor}
+use Rattle.std.specs.Int.{Width}
 use Rattle.std.specs.Str.{IsUtf8}
 use Rattle.rkyv_scan.specs.Hash.{HasherCall}
 use Rattle.rkyv_base.specs.Access.{Accepted}
-use Rattle.rkyv_base.specs.Bytes.{number_at}
 use Rattle.rkyv_base.specs.Entry.{entry_spec}
-use Rattle.rkyv_base.specs.Scalar.{Encoding}
 use Rattle.rkyv_base.specs.Sealing.{value_pos}
 use Rattle.rkyv_base.specs.ElementSpec.{ElementSpec}
 use Rattle.rkyv_base.specs.Text.{text_at}
+use Rattle.rkyv_base.specs.Scalar.{ScalarRepresents}
 use Rattle.rkyv_keys.specs.Calls.{text_calls}
+use Rattle.rkyv_keys.specs.OfScalars.{one_call, scalar_fits}
 use Rattle.rkyv_keys.specs.OfTexts.{same_bytes}
 use Rattle.rkyv_table.specs.Table.Header.{len_at}
 use Rattle.rkyv_collections.specs.Map.MapAt.{MapAt}
 use Rattle.rkyv_index.specs.Index.{index_bytes, index_found, index_pos}
 use Rattle.rkyv_index.specs.Index.IndexLayout.{index_spec, pair_pos}
 use Rattle.rkyv_index.specs.declared.map.ArchivedIndexMap.{ArchivedIndexMap}
-use Rattle.ffi_calls.specs.Archives.{hash_by, limit_of, number_key, text_key, value_encoding}
-use Rattle.ffi_calls.specs.Archives.{value_spec, word_of}
-use Rattle.ffi_calls.specs.Listed.{number_calls}
+use Rattle.ffi_calls.specs.Archives.{hash_by, limit_of, text_key, value_spec}
+use Rattle.ffi_calls.specs.Archives.{word_of}
+use Rattle.ffi_calls.specs.Keys.{NumberKey}
 use Rattle.ffi_calls.specs.declared.form.Form.{Form}
-use Rattle.ffi_calls.specs.declared.index.IndexedValue.{IndexedValue}
-use Rattle.ffi_calls.specs.declared.index_numbers.IndexNumberPair.{IndexNumberPair}
-use Rattle.ffi_calls.specs.declared.index_texts.IndexTextPair.{IndexTextPair}
+use Rattle.ffi_calls.specs.Reading.{ReadsText, ReadsWord}
+use Rattle.ffi_calls.specs.declared.pairs.Indexed.{Indexed}
+use Rattle.ffi_calls.specs.declared.pairs.Pair.{Pair}
 
 -- the spec of the header of an index map with keys of spec `k` and values of spec `v`
 abbrev pub index_map : Width → ElementSpec → ElementSpec → ElementSpec
 index_map w k v = index_spec w (entry_spec k v)
 
 -- the spec of the header of an index map of numbers
-abbrev pub number_index : Form → ElementSpec
-number_index form = index_map (word_of form.wide) number_key (value_spec form)
+abbrev pub number_index : {A : Type 0} → NumberKey A → Form → ElementSpec
+number_index k form = index_map (word_of form.wide) k.spec (value_spec form)
 
 -- the spec of the header of an index map of texts
 abbrev pub text_index : Form → ElementSpec
@@ -45,8 +46,8 @@ abbrev pub IsIndexArchive : Width → ℕ → ElementSpec → ElementSpec → Li
 IsIndexArchive w limit k v b = Accepted limit (index_map w k v) b
 
 -- `b` is the valid archive of an index map of numbers in the form
-abbrev pub IsNumberIndex : Form → List ℕ → Type 0
-IsNumberIndex form b = Accepted (limit_of form.wide) (number_index form) b
+abbrev pub IsNumberIndex : {A : Type 0} → NumberKey A → Form → List ℕ → Type 0
+IsNumberIndex k form b = Accepted (limit_of form.wide) (number_index k form) b
 
 -- `b` is the valid archive of an index map of texts in the form
 abbrev pub IsTextIndex : Form → List ℕ → Type 0
@@ -73,8 +74,8 @@ index_at {ks = ks} {vs} {wt} m = record {
 }
 
 -- the index map of numbers, in the form, at the end of an archive
-abbrev pub number_index_in : Form → List ℕ → MapAt
-number_index_in form = index_in (word_of form.wide) number_key (value_spec form)
+abbrev pub number_index_in : {A : Type 0} → NumberKey A → Form → List ℕ → MapAt
+number_index_in k form = index_in (word_of form.wide) k.spec (value_spec form)
 
 -- the index map of texts, in the form, at the end of an archive
 abbrev pub text_index_in : Form → List ℕ → MapAt
@@ -88,9 +89,9 @@ pair_count m = len_at m.word m.bytes m.pos
 abbrev pub pair_pos_at : MapAt → ℕ → ℕ
 pair_pos_at m i = pair_pos m.word (entry_spec m.key m.value).size m.bytes m.pos i
 
--- the value of the pair at index `i`
-abbrev pub value_at_index : {N : Type 0} → MapAt → Encoding N → ℕ → ℕ
-value_at_index m e i = number_at e.word m.bytes (value_pos m.key m.value (pair_pos_at m i))
+-- the position of the value of the pair at index `i`
+abbrev pub value_pos_at : MapAt → ℕ → ℕ
+value_pos_at m i = value_pos m.key m.value (pair_pos_at m i)
 
 -- the index that a lookup finds. `calls`: hasher calls of the key, `fits`: test of the key
 -- at a position
@@ -99,11 +100,20 @@ found_index m calls fits =
     index_found m.word m.bytes m.pos (hash_by calls) (λ i. fits (pair_pos_at m i))
 
 -- the status is 0 and `after` has the index `place` and the value at it.
--- At `None` the status is 1 and `after` is `before`.
-abbrev pub GivesIndexed : {N : Type 0} → MapAt → Encoding N → Option ℕ → IndexedValue → ℕ
-    → IndexedValue → Type 0
-GivesIndexed m e place before status after = MatchOption place ((status ≡ 1) × (after ≡ before))
-    (λ i. (status ≡ 0) × (after.index ≡ i) × (after.value ≡ value_at_index m e i))
+-- At `None` the status is 1 and `after` is `before`. `value`: the stored value at a position
+abbrev pub GivesIndexed : {Y : Type 0} → MapAt → (List ℕ → ℕ → Y → Type 0) → Option ℕ → Indexed Y
+    → ℕ → Indexed Y → Type 0
+GivesIndexed m value place before status after =
+    MatchOption place ((status ≡ 1) × (after ≡ before))
+    (λ i. (status ≡ 0) × (after.index ≡ i) × value m.bytes (value_pos_at m i) after.value)
+
+-- the key and the value of the pair are those at index `i`. `key` and `value`: the stored key and
+-- the stored value at a position
+abbrev pub IsIndexPair : {X Y : Type 0} → MapAt → (List ℕ → ℕ → X → Type 0) → (List ℕ → ℕ → Y
+    → Type 0)
+    → ℕ → Pair X Y → Type 0
+IsIndexPair m key value i pair =
+    key m.bytes (pair_pos_at m i) pair.key × value m.bytes (value_pos_at m i) pair.value
 
 -- `result` is the pair at index `i`, or `None` if the map has no such index.
 -- `IsPair i pair`: `pair` is the pair at index `i`
@@ -111,77 +121,52 @@ abbrev pub IsPairAtIndex : {P : Type 0} → MapAt → (ℕ → P → Type 0) →
 IsPairAtIndex m IsPair i result =
     MatchOption result (pair_count m ≤ i) (λ pair. (i < pair_count m) × IsPair i pair)
 
--- the status is 0 and `after` is the pair at index `i`.
--- If the map has no such index, the status is 2 and `after` is `before`.
-abbrev pub StoresPair : {P : Type 0} → MapAt → (ℕ → P → Type 0) → ℕ → P → ℕ → P → Type 0
-StoresPair m IsPair i before status after =
-    ((pair_count m ≤ i) × (status ≡ 2) × (after ≡ before))
-    ⊎ ((i < pair_count m) × (status ≡ 0) × IsPair i after)
-
 -- `after` begins with the pairs from index `from` on, at most as many as `before` has.
 -- Their number is `count`, and the rest is unchanged.
-pub record StoresPairs {P : Type 0} (m : MapAt) (IsPair : ℕ → P → Type 0) (from : ℕ)
-    (before : List P) (count : ℕ) (after : List P) : Type 0 where
+pub record StoresPairs {X Y : Type 0} (m : MapAt) (key : List ℕ → ℕ → X → Type 0)
+    (value : List ℕ → ℕ → Y → Type 0) (from : ℕ) (before : List (Pair X Y)) (count : ℕ)
+    (after : List (Pair X Y)) : Type 0 where
   pub number : count ≡ min (length before) (pair_count m - from)
-  pub pairs : (i : ℕ) (pair : P) → i < count → slice_get after i ≡ Some pair
-      → IsPair (from + i) pair
+  pub pairs : (i : ℕ) (pair : Pair X Y) → i < count → slice_get after i ≡ Some pair
+      → IsIndexPair m key value (from + i) pair
   pub rest : drop count after ≡ drop count before
 
-module _ {N : Type 0} (m : MapAt) (e : Encoding N) where
-  -- `pair` has the number and the value at index `i`
-  abbrev pub IsNumberAt : ℕ → IndexNumberPair → Type 0
-  IsNumberAt i pair = (pair.key ≡ number_at w32 m.bytes (pair_pos_at m i))
-      × (pair.value ≡ value_at_index m e i)
+module _ {A : Type 0} (k : NumberKey A) (form : Form) (b : List ℕ) where
+  -- the index that a lookup of the number `key` finds
+  abbrev pub number_index_found : A → Option ℕ
+  number_index_found key = found_index (number_index_in k form b) (one_call k.call key)
+      (scalar_fits k.encoding k.eq key b)
 
-  -- `pair` has the text and the value at index `i`
-  abbrev pub IsTextAt : ℕ → IndexTextPair → Type 0
-  IsTextAt i pair = (pair.key.now ≡ text_at m.word m.bytes (pair_pos_at m i))
-      × (pair.value ≡ value_at_index m e i)
+  -- the result of a lookup of the number `key`, whose index and value replace `before`
+  abbrev pub GivesIndexedNumber : A → Indexed ℕ → ℕ → Indexed ℕ → Type 0
+  GivesIndexedNumber key = GivesIndexed (number_index_in k form b)
+      (ReadsWord (word_of form.long_values)) (number_index_found key)
 
--- the index that a lookup of the number `key` finds
-abbrev pub number_index_found : Form → List ℕ → ℕ → Option ℕ
-number_index_found form b key = found_index (number_index_in form b) (number_calls key)
-    (λ q. key == number_at w32 b q)
+  -- the result of reading the pairs of numbers from an index on
+  abbrev pub StoresNumbers : ℕ → List (Pair A ℕ) → ℕ → List (Pair A ℕ) → Type 0
+  StoresNumbers =
+      StoresPairs (number_index_in k form b) (ScalarRepresents k.encoding)
+      (ReadsWord (word_of form.long_values))
 
 -- the index that a lookup of the text `key` finds
 abbrev pub text_index_found : Form → List ℕ → List ℕ → Option ℕ
 text_index_found form b key = found_index (text_index_in form b) (text_calls key)
     (λ q. same_bytes key (text_at (word_of form.wide) b q))
 
--- the result of a lookup of the number `key`, whose index and value replace `before`
-abbrev pub GivesIndexedNumber : Form → List ℕ → ℕ → IndexedValue → ℕ → IndexedValue → Type 0
-GivesIndexedNumber form b key = GivesIndexed (number_index_in form b) (value_encoding form)
-    (number_index_found form b key)
-
 -- the result of a lookup of the text `key`, whose index and value replace `before`
-abbrev pub GivesIndexedText : Form → List ℕ → List ℕ → IndexedValue → ℕ → IndexedValue → Type 0
-GivesIndexedText form b key = GivesIndexed (text_index_in form b) (value_encoding form)
-    (text_index_found form b key)
+abbrev pub GivesIndexedText : Form → List ℕ → List ℕ → Indexed ℕ → ℕ → Indexed ℕ → Type 0
+GivesIndexedText form b key = GivesIndexed (text_index_in form b)
+    (ReadsWord (word_of form.long_values)) (text_index_found form b key)
 
 -- the result of a lookup of the bytes `key`, as that of the text.
 -- The status is 4 and `before` is unchanged if `key` isn't UTF-8.
-abbrev pub GivesIndexedBytes : Form → List ℕ → List ℕ → IndexedValue → ℕ → IndexedValue → Type 0
+abbrev pub GivesIndexedBytes : Form → List ℕ → List ℕ → Indexed ℕ → ℕ → Indexed ℕ → Type 0
 GivesIndexedBytes form b key before status after =
     ((IsUtf8 key → ⊥) × (status ≡ 4) × (after ≡ before))
     ⊎ (IsUtf8 key × GivesIndexedText form b key before status after)
 
--- the result of reading the pair of numbers at index `i`
-abbrev pub StoresNumber : Form → List ℕ → ℕ → IndexNumberPair → ℕ → IndexNumberPair → Type 0
-StoresNumber form b = let m = number_index_in form b in
-    StoresPair m (IsNumberAt m (value_encoding form))
-
--- the result of reading the pairs of numbers from an index on
-abbrev pub StoresNumbers : Form → List ℕ → ℕ → List IndexNumberPair → ℕ → List IndexNumberPair
-    → Type 0
-StoresNumbers form b = let m = number_index_in form b in
-    StoresPairs m (IsNumberAt m (value_encoding form))
-
--- the result of reading the pair of a text and a number at index `i`
-abbrev pub StoresText : Form → List ℕ → ℕ → IndexTextPair → ℕ → IndexTextPair → Type 0
-StoresText form b = let m = text_index_in form b in
-    StoresPair m (IsTextAt m (value_encoding form))
-
 -- the result of reading the pairs of texts and numbers from an index on
-abbrev pub StoresTexts : Form → List ℕ → ℕ → List IndexTextPair → ℕ → List IndexTextPair → Type 0
-StoresTexts form b = let m = text_index_in form b in
-    StoresPairs m (IsTextAt m (value_encoding form))
+abbrev pub StoresTexts : Form → List ℕ → ℕ → List (Pair (Bor (List ℕ)) ℕ) → ℕ
+    → List (Pair (Bor (List ℕ)) ℕ) → Type 0
+StoresTexts form b = StoresPairs (text_index_in form b) (ReadsText (word_of form.wide))
+    (ReadsWord (word_of form.long_values))

@@ -1,13 +1,13 @@
 -- The archives of items as index maps, and the results of their write.
-use Rattle.std.specs.Prelude.{◌≡◌, ℕ, ◌⊎◌, List}
+use Rattle.std.specs.Prelude.{◌≡◌, ℕ, ◌⊎◌, List, MatchResult, Result}
 use Rattle.std.specs.Borrow.{Bor}
-use Rattle.std.specs.Int.{w32}
+use Rattle.std.specs.declared.vec.Vec.{Vec}
 use Rattle.rkyv_base.specs.Access.{Accepted}
 use Rattle.rkyv_base.specs.Format.{Format}
 use Rattle.rkyv_base.specs.Members.{WidthMembers}
 use Rattle.rkyv_base.specs.Numbers.{unsigned}
 use Rattle.rkyv_base.specs.Root.{ArchiveOf, ArchiveRefused}
-use Rattle.rkyv_base.specs.Scalar.{Encoding, ScalarRepresents, scalar_format, scalar_spec}
+use Rattle.rkyv_base.specs.Scalar.{Encoding, scalar_spec}
 use Rattle.rkyv_base.specs.ElementSpec.{ElementSpec}
 use Rattle.rkyv_base.specs.Pairs.{written_as}
 use Rattle.rkyv_base.specs.Text.{text_spec}
@@ -15,23 +15,22 @@ use Rattle.rkyv_base.specs.TextWriting.{text_format}
 use Rattle.rkyv_base.specs.declared.errors.WriteError.{WriteError}
 use Rattle.rkyv_base.specs.declared.writer.NoMemory.{NoMemory}
 use Rattle.rkyv_keys.specs.Calls.{text_calls}
-use Rattle.rkyv_keys.specs.Lemmas.OfTexts.{text_key_calls}
 use Rattle.rkyv_keys.specs.Natives.{NativePairs}
 use Rattle.rkyv_collections.specs.Natives.{PairFormat}
 use Rattle.rkyv_table.specs.Table.Listed.{listed}
 use Rattle.rkyv_index.specs.Index.IndexFormat.{IndexRepresents, PlacesAs, index_format, indices}
 use Rattle.rkyv_index.specs.Index.IndexHeader.{IndexResolver}
-use Rattle.ffi_calls.specs.Archives.{number_key, value_encoding, value_spec, word_of}
+use Rattle.ffi_calls.specs.Archives.{value_encoding, value_spec, word_of}
 use Rattle.ffi_calls.specs.IndexArchives.{index_in, index_map}
 use Rattle.ffi_calls.specs.IndexLists.{IndexRepresentsPairs}
 use Rattle.ffi_calls.specs.Items.{ArePairsOfNumbers, ArePairsOfTexts, PairsOfNumbersFail}
-use Rattle.ffi_calls.specs.Items.{PairsOfTextsFail, width_of}
-use Rattle.ffi_calls.specs.Listed.{TextRepresents, calls_of_number_at, number_calls}
-use Rattle.ffi_calls.specs.Lists.{ArchiveWidth, archive_width, format_of, natives}
+use Rattle.ffi_calls.specs.Items.{PairsOfTextsFail, numbers_format, width_of}
+use Rattle.ffi_calls.specs.Keys.{NumberKey}
+use Rattle.ffi_calls.specs.Listed.{number_natives, text_natives}
+use Rattle.ffi_calls.specs.Lists.{ArchiveWidth, archive_width, format_of}
 use Rattle.ffi_calls.specs.Status.{write_refusal}
 use Rattle.ffi_calls.specs.declared.form.Form.{Form}
-use Rattle.ffi_calls.specs.declared.number_items.NumberItem.{NumberItem}
-use Rattle.ffi_calls.specs.declared.text_items.TextItem.{TextItem}
+use Rattle.ffi_calls.specs.declared.pairs.Pair.{Pair}
 
 -- the width of an archive of an index map. `indices`: how its indices are written
 pub record IndexWidth (P : Type 0) : Type 1 where
@@ -73,35 +72,49 @@ module _ {P A N R Q : Type 0} (width : IndexWidth P) (format : PairFormat A N R 
       × IndexRepresentsPairs (index_in width.archive.word format.key_spec format.value_spec b)
       native (7, 8) pairs
 
-module _ {P N : Type 0} (width : IndexWidth P) (v : ElementSpec) (e : Encoding N) where
+module _ {A P N : Type 0} (k : NumberKey A) (width : IndexWidth P) (v : ElementSpec)
+    (e : Encoding N) where
   -- `b` is the archive of the pairs of the items as an index map
-  abbrev pub NumberIndexMade : List NumberItem → List ℕ → Type 0
-  NumberIndexMade items b = (pairs : List (ℕ × N)) × ArePairsOfNumbers e items pairs
-      × IsIndexOf width (format_of number_key v (scalar_format (unsigned w32)) number_calls e)
-      (natives (ScalarRepresents (unsigned w32)) calls_of_number_at e) pairs b
+  abbrev pub NumberIndexMade : List (Pair A ℕ) → List ℕ → Type 0
+  NumberIndexMade items b = (pairs : List (A × N)) × ArePairsOfNumbers e items pairs
+      × IsIndexOf width (numbers_format k v e) (number_natives k e) pairs b
 
   -- `status` is that of items without pairs, or of the error of the write of their pairs
-  abbrev pub NumberIndexRefused : List NumberItem → ℕ → Type 0
+  abbrev pub NumberIndexRefused : List (Pair A ℕ) → ℕ → Type 0
   NumberIndexRefused items status = PairsOfNumbersFail e items status
-      ⊎ ((pairs : List (ℕ × N)) × (error : WriteError NoMemory) × ArePairsOfNumbers e items pairs
-      × IndexFails width (format_of number_key v (scalar_format (unsigned w32)) number_calls e)
-      pairs error × (status ≡ write_refusal error))
+      ⊎ ((pairs : List (A × N)) × (error : WriteError NoMemory) × ArePairsOfNumbers e items pairs
+      × IndexFails width (numbers_format k v e) pairs error × (status ≡ write_refusal error))
 
+-- the result of the write of the pairs of the items: the archive, or the status of an error
+abbrev pub WritesNumberIndex : {A P N Z : Type 0} → NumberKey A → IndexWidth P → ElementSpec
+    → Encoding N → List (Pair A ℕ) → Result (Vec ℕ Z) ℕ → Type 0
+WritesNumberIndex k width v e items result =
+    MatchResult result (λ a. NumberIndexMade k width v e items a.items)
+    (NumberIndexRefused k width v e items)
+
+module _ {P N : Type 0} (width : IndexWidth P) (v : ElementSpec) (e : Encoding N) where
   -- `b` is the archive of the pairs of the items as an index map
-  abbrev pub TextIndexMade : List TextItem → List ℕ → Type 0
+  abbrev pub TextIndexMade : List (Pair (Bor (List ℕ)) ℕ) → List ℕ → Type 0
   TextIndexMade items b = let w = width.archive.word in
       (pairs : List (Bor (List ℕ) × N)) × ArePairsOfTexts e items pairs
       × IsIndexOf width (format_of (text_spec w) v (written_as (λ text. text.now) (text_format w))
       (λ text. text_calls text.now) e)
-      (natives (TextRepresents w) (text_key_calls w) e) pairs b
+      (text_natives w e) pairs b
 
   -- `status` is that of items without pairs, or of the error of the write of their pairs
-  abbrev pub TextIndexRefused : List TextItem → ℕ → Type 0
+  abbrev pub TextIndexRefused : List (Pair (Bor (List ℕ)) ℕ) → ℕ → Type 0
   TextIndexRefused items status = let w = width.archive.word in PairsOfTextsFail e items status
       ⊎ ((pairs : List (Bor (List ℕ) × N)) × (error : WriteError NoMemory)
       × ArePairsOfTexts e items pairs
       × IndexFails width (format_of (text_spec w) v (written_as (λ text. text.now) (text_format w))
       (λ text. text_calls text.now) e) pairs error × (status ≡ write_refusal error))
+
+-- the result of the write of the pairs of the items: the archive, or the status of an error
+abbrev pub WritesTextIndex : {P N Z : Type 0} → IndexWidth P → ElementSpec → Encoding N
+    → List (Pair (Bor (List ℕ)) ℕ) → Result (Vec ℕ Z) ℕ → Type 0
+WritesTextIndex width v e items result =
+    MatchResult result (λ a. TextIndexMade width v e items a.items)
+    (TextIndexRefused width v e items)
 
 -- the width of an archive of an index map in the form
 abbrev pub index_width_of : Form → IndexWidth ℕ
@@ -109,20 +122,22 @@ index_width_of form = let e = unsigned (word_of form.wide) in
     record { archive = width_of form; indices = indices (scalar_spec e) e }
 
 -- a list of bytes is the archive of the pairs of numbers as an index map in the form
-abbrev pub IsIndexOfNumbers : Form → List NumberItem → List ℕ → Type 0
-IsIndexOfNumbers form =
-    NumberIndexMade (index_width_of form) (value_spec form) (value_encoding form)
+abbrev pub IsIndexOfNumbers : {A : Type 0} → NumberKey A → Form → List (Pair A ℕ) → List ℕ
+    → Type 0
+IsIndexOfNumbers k form =
+    NumberIndexMade k (index_width_of form) (value_spec form) (value_encoding form)
 
 -- a list of bytes is the archive of the pairs of texts as an index map in the form
-abbrev pub IsIndexOfTexts : Form → List TextItem → List ℕ → Type 0
+abbrev pub IsIndexOfTexts : Form → List (Pair (Bor (List ℕ)) ℕ) → List ℕ → Type 0
 IsIndexOfTexts form = TextIndexMade (index_width_of form) (value_spec form) (value_encoding form)
 
 -- a status is the error of the write of the pairs of numbers as an index map in the form
-abbrev pub IndexOfNumbersFails : Form → List NumberItem → ℕ → Type 0
-IndexOfNumbersFails form =
-    NumberIndexRefused (index_width_of form) (value_spec form) (value_encoding form)
+abbrev pub IndexOfNumbersFails : {A : Type 0} → NumberKey A → Form → List (Pair A ℕ) → ℕ
+    → Type 0
+IndexOfNumbersFails k form =
+    NumberIndexRefused k (index_width_of form) (value_spec form) (value_encoding form)
 
 -- a status is the error of the write of the pairs of texts as an index map in the form
-abbrev pub IndexOfTextsFails : Form → List TextItem → ℕ → Type 0
+abbrev pub IndexOfTextsFails : Form → List (Pair (Bor (List ℕ)) ℕ) → ℕ → Type 0
 IndexOfTextsFails form =
     TextIndexRefused (index_width_of form) (value_spec form) (value_encoding form)

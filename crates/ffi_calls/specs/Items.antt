@@ -1,11 +1,11 @@
 -- The items to be archived, and the results of their write.
-use Rattle.std.specs.Prelude.{◌≡◌, ℕ, ◌<◌, ◌^◌, ◌≤◌, ◌⊎◌, All, List, Some, map, slice_get, take}
+use Rattle.std.specs.Prelude.{◌≡◌, ℕ, ◌<◌, ◌^◌, ◌≤◌, ◌⊎◌, All, List, MatchResult, Result, Some}
+use Rattle.std.specs.Prelude.{map, slice_get, take}
 use Rattle.std.specs.Borrow.{Bor}
-use Rattle.std.specs.Int.{w32}
 use Rattle.std.specs.Str.{IsUtf8}
+use Rattle.std.specs.declared.vec.Vec.{Vec}
 use mir.Val.{bits}
-use Rattle.rkyv_base.specs.Numbers.{unsigned}
-use Rattle.rkyv_base.specs.Scalar.{Encoding, ScalarRepresents, scalar_format}
+use Rattle.rkyv_base.specs.Scalar.{Encoding, scalar_format}
 use Rattle.rkyv_base.specs.ElementSpec.{ElementSpec}
 use Rattle.rkyv_base.specs.Pairs.{written_as}
 use Rattle.rkyv_base.specs.Text.{text_spec}
@@ -14,29 +14,24 @@ use Rattle.rkyv_base.specs.declared.errors.WriteError.{WriteError}
 use Rattle.rkyv_base.specs.declared.writer.NoMemory.{NoMemory}
 use Rattle.rkyv_keys.specs.Calls.{text_calls}
 use Rattle.rkyv_keys.specs.Lemmas.OfTexts.{text_key_calls}
-use Rattle.ffi_calls.specs.Archives.{limit_of, most_of, number_key, value_encoding, value_spec}
-use Rattle.ffi_calls.specs.Archives.{word_of}
-use Rattle.ffi_calls.specs.Listed.{TextRepresents, calls_of_number_at, number_calls}
+use Rattle.rkyv_keys.specs.OfScalars.{one_call}
+use Rattle.rkyv_collections.specs.Natives.{PairFormat}
+use Rattle.ffi_calls.specs.Archives.{limit_of, most_of, value_encoding, value_spec, word_of}
+use Rattle.ffi_calls.specs.Keys.{NumberKey}
+use Rattle.ffi_calls.specs.Listed.{TextRepresents, number_natives}
 use Rattle.ffi_calls.specs.Lists.{ArchiveWidth, IsArchiveOf, ArchiveFails, format_of}
 use Rattle.ffi_calls.specs.Lists.{natives}
 use Rattle.ffi_calls.specs.Status.{write_refusal}
 use Rattle.ffi_calls.specs.declared.building.Built.{Built}
 use Rattle.ffi_calls.specs.declared.form.Form.{Form}
-use Rattle.ffi_calls.specs.declared.number_items.NumberItem.{NumberItem}
-use Rattle.ffi_calls.specs.declared.text_items.TextItem.{TextItem}
+use Rattle.ffi_calls.specs.declared.pairs.Pair.{Pair}
+
+module _ {A N : Type 0} (k : NumberKey A) (v : ElementSpec) (e : Encoding N) where
+  -- how pairs of numbers are written
+  abbrev pub numbers_format : PairFormat A N (Unit {0}) (Unit {0})
+  numbers_format = format_of k.spec v (scalar_format k.encoding) (one_call k.call) e
 
 module _ {N : Type 0} (width : ArchiveWidth) (v : ElementSpec) (e : Encoding N) where
-  -- a list of bytes is the archive of pairs of numbers
-  abbrev pub AreNumbers : List (ℕ × N) → List ℕ → Type 0
-  AreNumbers = IsArchiveOf width
-      (format_of number_key v (scalar_format (unsigned w32)) number_calls e)
-      (natives (ScalarRepresents (unsigned w32)) calls_of_number_at e)
-
-  -- the write of pairs of numbers fails with an error
-  abbrev pub AreNoNumbers : List (ℕ × N) → WriteError NoMemory → Type 0
-  AreNoNumbers = ArchiveFails width
-      (format_of number_key v (scalar_format (unsigned w32)) number_calls e)
-
   -- a list of bytes is the archive of pairs of texts
   abbrev pub AreTexts : List (Bor (List ℕ) × N) → List ℕ → Type 0
   AreTexts = IsArchiveOf width
@@ -55,30 +50,31 @@ abbrev pub FirstUnfit : {I : Type 0} → (I → Type 0) → (I → Type 0) → L
 FirstUnfit {I} Fits IsCause items = (n : ℕ) × ((item : I)
     × (slice_get items n ≡ Some item) × All Fits (take n items) × IsCause item)
 
-module _ {N : Type 0} (e : Encoding N) where
+module _ {A N : Type 0} (e : Encoding N) where
   -- the value of `item` has no more bits than the word
-  abbrev pub NumberFits : NumberItem → Type 0
+  abbrev pub NumberFits : Pair A ℕ → Type 0
   NumberFits item = item.value < 2 ^ bits e.word
 
   -- the key and the value of `item`
-  abbrev pub number_pair : NumberItem → ℕ × N
+  abbrev pub number_pair : Pair A ℕ → A × N
   number_pair item = (item.key, e.value item.value)
 
   -- `pairs` are the pairs of the items, in order, and all values fit the word
-  abbrev pub ArePairsOfNumbers : List NumberItem → List (ℕ × N) → Type 0
+  abbrev pub ArePairsOfNumbers : List (Pair A ℕ) → List (A × N) → Type 0
   ArePairsOfNumbers items pairs = All NumberFits items × (pairs ≡ map number_pair items)
 
   -- `status` is that of an allocation failure, or of the first value with more bits than the word
-  abbrev pub PairsOfNumbersFail : List NumberItem → ℕ → Type 0
+  abbrev pub PairsOfNumbersFail : List (Pair A ℕ) → ℕ → Type 0
   PairsOfNumbersFail items status = (status ≡ 12)
       ⊎ FirstUnfit NumberFits (λ item. (2 ^ bits e.word ≤ item.value) × (status ≡ 3)) items
 
+module _ {N : Type 0} (e : Encoding N) where
   -- the key of `item` is UTF-8, and its value has no more bits than the word
-  abbrev pub TextFits : TextItem → Type 0
+  abbrev pub TextFits : Pair (Bor (List ℕ)) ℕ → Type 0
   TextFits item = IsUtf8 item.key.now × (item.value < 2 ^ bits e.word)
 
   -- the bytes of the key of `item`, and its value
-  abbrev pub text_pair : TextItem → List ℕ × N
+  abbrev pub text_pair : Pair (Bor (List ℕ)) ℕ → List ℕ × N
   text_pair item = (item.key.now, e.value item.value)
 
   -- the bytes of the text, and the value
@@ -86,38 +82,47 @@ module _ {N : Type 0} (e : Encoding N) where
   text_seen pair = (pair.0.now, pair.1)
 
   -- `pairs` are the pairs of the items, in order; all keys are UTF-8, and all values fit the word
-  abbrev pub ArePairsOfTexts : List TextItem → List (Bor (List ℕ) × N) → Type 0
+  abbrev pub ArePairsOfTexts : List (Pair (Bor (List ℕ)) ℕ) → List (Bor (List ℕ) × N) → Type 0
   ArePairsOfTexts items pairs =
       All TextFits items × (map text_seen pairs ≡ map text_pair items)
 
   -- `status` is that of `item`: its key isn't UTF-8, or its key is and its value has too many bits
-  abbrev pub TextFails : ℕ → TextItem → Type 0
+  abbrev pub TextFails : ℕ → Pair (Bor (List ℕ)) ℕ → Type 0
   TextFails status item = ((IsUtf8 item.key.now → ⊥) × (status ≡ 4))
       ⊎ (IsUtf8 item.key.now × (2 ^ bits e.word ≤ item.value) × (status ≡ 3))
 
   -- `status` is that of an allocation failure, or of the first item that doesn't fit
-  abbrev pub PairsOfTextsFail : List TextItem → ℕ → Type 0
+  abbrev pub PairsOfTextsFail : List (Pair (Bor (List ℕ)) ℕ) → ℕ → Type 0
   PairsOfTextsFail items status = (status ≡ 12) ⊎ FirstUnfit TextFits (TextFails status) items
+
+module _ {A N : Type 0} (k : NumberKey A) (width : ArchiveWidth) (v : ElementSpec)
+    (e : Encoding N) where
+  -- `b` is the archive of the pairs of the items
+  abbrev pub NumbersMade : List (Pair A ℕ) → List ℕ → Type 0
+  NumbersMade items b = (pairs : List (A × N)) × ArePairsOfNumbers e items pairs
+      × IsArchiveOf width (numbers_format k v e) (number_natives k e) pairs b
+
+  -- `status` is that of items without pairs, or of the error of the write of their pairs
+  abbrev pub NumbersRefused : List (Pair A ℕ) → ℕ → Type 0
+  NumbersRefused items status = PairsOfNumbersFail e items status
+      ⊎ ((pairs : List (A × N)) × (error : WriteError NoMemory) × ArePairsOfNumbers e items pairs
+      × ArchiveFails width (numbers_format k v e) pairs error × (status ≡ write_refusal error))
+
+-- the result of the write of the pairs of the items: the archive, or the status of an error
+abbrev pub WritesNumbers : {A N Z : Type 0} → NumberKey A → ArchiveWidth → ElementSpec → Encoding N
+    → List (Pair A ℕ) → Result (Vec ℕ Z) ℕ → Type 0
+WritesNumbers k width v e items result =
+    MatchResult result (λ a. NumbersMade k width v e items a.items)
+    (NumbersRefused k width v e items)
 
 module _ {N : Type 0} (width : ArchiveWidth) (v : ElementSpec) (e : Encoding N) where
   -- `b` is the archive of the pairs of the items
-  abbrev pub NumbersMade : List NumberItem → List ℕ → Type 0
-  NumbersMade items b = (pairs : List (ℕ × N)) × ArePairsOfNumbers e items pairs
-      × AreNumbers width v e pairs b
-
-  -- `status` is that of items without pairs, or of the error of the write of their pairs
-  abbrev pub NumbersRefused : List NumberItem → ℕ → Type 0
-  NumbersRefused items status = PairsOfNumbersFail e items status
-      ⊎ ((pairs : List (ℕ × N)) × (error : WriteError NoMemory) × ArePairsOfNumbers e items pairs
-      × AreNoNumbers width v e pairs error × (status ≡ write_refusal error))
-
-  -- `b` is the archive of the pairs of the items
-  abbrev pub TextsMade : List TextItem → List ℕ → Type 0
+  abbrev pub TextsMade : List (Pair (Bor (List ℕ)) ℕ) → List ℕ → Type 0
   TextsMade items b = (pairs : List (Bor (List ℕ) × N)) × ArePairsOfTexts e items pairs
       × AreTexts width v e pairs b
 
   -- `status` is that of items without pairs, or of the error of the write of their pairs
-  abbrev pub TextsRefused : List TextItem → ℕ → Type 0
+  abbrev pub TextsRefused : List (Pair (Bor (List ℕ)) ℕ) → ℕ → Type 0
   TextsRefused items status = PairsOfTextsFail e items status
       ⊎ ((pairs : List (Bor (List ℕ) × N)) × (error : WriteError NoMemory)
       × ArePairsOfTexts e items pairs × AreNoTexts width v e pairs error
@@ -129,19 +134,22 @@ width_of form =
     record { word = word_of form.wide; limit = limit_of form.wide; most = most_of form.wide }
 
 -- a list of bytes is the archive of the pairs of numbers in the form
-abbrev pub IsArchiveOfNumbers : Form → List NumberItem → List ℕ → Type 0
-IsArchiveOfNumbers form = NumbersMade (width_of form) (value_spec form) (value_encoding form)
+abbrev pub IsArchiveOfNumbers : {A : Type 0} → NumberKey A → Form → List (Pair A ℕ) → List ℕ
+    → Type 0
+IsArchiveOfNumbers k form = NumbersMade k (width_of form) (value_spec form) (value_encoding form)
 
 -- a list of bytes is the archive of the pairs of texts in the form
-abbrev pub IsArchiveOfTexts : Form → List TextItem → List ℕ → Type 0
+abbrev pub IsArchiveOfTexts : Form → List (Pair (Bor (List ℕ)) ℕ) → List ℕ → Type 0
 IsArchiveOfTexts form = TextsMade (width_of form) (value_spec form) (value_encoding form)
 
 -- a status is the error of the write of the pairs of numbers in the form
-abbrev pub ArchiveOfNumbersFails : Form → List NumberItem → ℕ → Type 0
-ArchiveOfNumbersFails form = NumbersRefused (width_of form) (value_spec form) (value_encoding form)
+abbrev pub ArchiveOfNumbersFails : {A : Type 0} → NumberKey A → Form → List (Pair A ℕ) → ℕ
+    → Type 0
+ArchiveOfNumbersFails k form =
+    NumbersRefused k (width_of form) (value_spec form) (value_encoding form)
 
 -- a status is the error of the write of the pairs of texts in the form
-abbrev pub ArchiveOfTextsFails : Form → List TextItem → ℕ → Type 0
+abbrev pub ArchiveOfTextsFails : Form → List (Pair (Bor (List ℕ)) ℕ) → ℕ → Type 0
 ArchiveOfTextsFails form = TextsRefused (width_of form) (value_spec form) (value_encoding form)
 
 -- the status is 0 and `after` has the archive, or it is an error and `after` is `before`

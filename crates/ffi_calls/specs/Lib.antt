@@ -1,11 +1,12 @@
 pub mod Status
+pub mod Reading
+pub mod Keys
 pub mod Archives
 pub mod Lists
 pub mod Listed
 pub mod Items
 pub mod Walking
 pub mod Calls
-pub mod LongNumbers
 pub mod TextValues
 pub mod TextItems
 pub mod Containers
@@ -15,3 +16,6 @@ pub mod SetItems
 pub mod IndexArchives
 pub mod IndexLists
 pub mod IndexItems
+pub mod IndexInPlace
+pub mod IndexTextValues
+pub mod Lemmas

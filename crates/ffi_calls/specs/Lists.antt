@@ -73,18 +73,13 @@ module _ {A B : Type 0} (m : MapAt) (a : AskedValue A) (value : List ℕ → ℕ
 
   -- The result of a lookup is the value of the first pair whose key is accepted, by `IsValue`.
   -- Without one the status is 1 and `after` is `before`.
-  abbrev pub GivesFirstBy : {X : Type 0} → (X → B → Type 0) → X → ℕ → X → Type 0
-  GivesFirstBy IsValue before status after = (factor : ℕ × ℕ) (pairs : List (A × B))
+  abbrev pub GivesFirst : {X : Type 0} → (X → B → Type 0) → X → ℕ → X → Type 0
+  GivesFirst IsValue before status after = (factor : ℕ × ℕ) (pairs : List (A × B))
       → PairsRepresent m asked_pairs factor pairs
       → MatchOption (first_value a.asks pairs) ((status ≡ 1) × (after ≡ before))
       (λ x. (status ≡ 0) × IsValue after x)
 
 module _ {A N : Type 0} (m : MapAt) (a : AskedValue A) (e : Encoding N) where
-  -- The result of a lookup is the number of the first pair whose key is accepted.
-  -- Without one the status is 1 and `after` is `before`.
-  abbrev pub GivesFirst : ℕ → ℕ → ℕ → Type 0
-  GivesFirst = GivesFirstBy m a (ScalarRepresents e) (λ (after : ℕ) (x : N). e.value after ≡ x)
-
   -- After an overwrite `c` represents the list with the value of `number` in the first such pair.
   -- If no key is accepted the status is 1; if `number` has too many bits it is 3.
   abbrev pub SetsFirstOf : ℕ → ℕ → List ℕ → Type 0

@@ -1,14 +1,12 @@
 -- The archives of sets, the items to be archived, and the results of their write.
-use Rattle.std.specs.Prelude.{◌≡◌, ℕ, ◌⊎◌, All, Bool, List, map}
+use Rattle.std.specs.Prelude.{◌≡◌, ℕ, ◌⊎◌, Bool, List}
 use Rattle.std.specs.Borrow.{Bor}
-use Rattle.std.specs.Int.{w32}
 use Rattle.std.specs.Str.{IsUtf8}
 use Rattle.rkyv_scan.specs.Hash.{HasherCall, fx_hasher, hash_of_calls, low_halves}
 use Rattle.rkyv_base.specs.Access.{Accepted}
 use Rattle.rkyv_base.specs.ElementSpec.{ElementSpec}
 use Rattle.rkyv_base.specs.Empty.{unit_spec}
 use Rattle.rkyv_base.specs.Format.{Format}
-use Rattle.rkyv_base.specs.Numbers.{unsigned}
 use Rattle.rkyv_base.specs.Root.{ArchiveOf, ArchiveRefused}
 use Rattle.rkyv_base.specs.Scalar.{ScalarRepresents, scalar_format}
 use Rattle.rkyv_base.specs.Text.{text_spec}
@@ -17,13 +15,15 @@ use Rattle.rkyv_base.specs.declared.strings.TextResolver.{TextResolver}
 use Rattle.rkyv_base.specs.declared.writer.NoMemory.{NoMemory}
 use Rattle.rkyv_keys.specs.Calls.{text_calls}
 use Rattle.rkyv_keys.specs.Lemmas.OfTexts.{text_key_calls}
+use Rattle.rkyv_keys.specs.OfScalars.{one_call, scalar_calls}
 use Rattle.rkyv_table.specs.Table.Listed.{listed}
 use Rattle.rkyv_table.specs.Table.TableFormat.{TableResolver}
 use Rattle.rkyv_collections.specs.Natives.{KeyFormat, key_format}
 use Rattle.rkyv_collections.specs.Set.{set_spec}
 use Rattle.rkyv_collections.specs.Set.SetFormat.{SetRepresents, set_format}
-use Rattle.ffi_calls.specs.Archives.{number_key, root}
-use Rattle.ffi_calls.specs.Listed.{TextRepresents, calls_of_number_at, number_calls}
+use Rattle.ffi_calls.specs.Archives.{root}
+use Rattle.ffi_calls.specs.Keys.{NumberKey}
+use Rattle.ffi_calls.specs.Listed.{TextRepresents}
 use Rattle.ffi_calls.specs.Lists.{ArchiveWidth}
 use Rattle.ffi_calls.specs.Status.{write_refusal}
 use Rattle.ffi_calls.specs.TextItems.{ArePairsOf, PairsFail, bytes_format, width_by}
@@ -86,19 +86,22 @@ AreSetTexts = ArePairsOf SetTextFits set_text_image set_text_seen
 abbrev pub SetTextsFail : List SetText → ℕ → Type 0
 SetTextsFail = PairsFail SetTextFits set_text_image set_text_seen
 
-module _ (width : ArchiveWidth) where
+module _ {A : Type 0} (k : NumberKey A) (width : ArchiveWidth) where
+  -- how the numbers of a set are written
+  abbrev pub number_items : KeyFormat A (Unit {0})
+  number_items = fx_items k.spec (scalar_format k.encoding) (one_call k.call)
+
   -- a list of bytes is the archive of the set of numbers
-  abbrev pub NumberSetMade : List ℕ → List ℕ → Type 0
-  NumberSetMade = IsSetArchive width
-      (fx_items number_key (scalar_format (unsigned w32)) number_calls)
-      (ScalarRepresents (unsigned w32)) calls_of_number_at
+  abbrev pub NumberSetMade : List A → List ℕ → Type 0
+  NumberSetMade = IsSetArchive width number_items (ScalarRepresents k.encoding)
+      (scalar_calls k.encoding k.call)
 
   -- a status is the error of the write of the set of numbers
-  abbrev pub NumberSetRefused : List ℕ → ℕ → Type 0
-  NumberSetRefused items status = (error : WriteError NoMemory) × SetArchiveFails width
-      (fx_items number_key (scalar_format (unsigned w32)) number_calls) items error
-      × (status ≡ write_refusal error)
+  abbrev pub NumberSetRefused : List A → ℕ → Type 0
+  NumberSetRefused items status = (error : WriteError NoMemory)
+      × SetArchiveFails width number_items items error × (status ≡ write_refusal error)
 
+module _ (width : ArchiveWidth) where
   -- how the texts of a set are written
   abbrev pub text_items : KeyFormat (Bor (List ℕ)) TextResolver
   text_items = fx_items (text_spec width.word) (bytes_format width) (λ text. text_calls text.now)
@@ -116,12 +119,12 @@ module _ (width : ArchiveWidth) where
       × SetArchiveFails width text_items texts error × (status ≡ write_refusal error))
 
 -- a list of bytes is the archive of the set of numbers, narrow or wide
-abbrev pub IsArchiveOfNumberSet : Bool → List ℕ → List ℕ → Type 0
-IsArchiveOfNumberSet wide = NumberSetMade (width_by wide)
+abbrev pub IsArchiveOfNumberSet : {A : Type 0} → NumberKey A → Bool → List A → List ℕ → Type 0
+IsArchiveOfNumberSet k wide = NumberSetMade k (width_by wide)
 
 -- a status is the error of the write of the set of numbers, narrow or wide
-abbrev pub ArchiveOfNumberSetFails : Bool → List ℕ → ℕ → Type 0
-ArchiveOfNumberSetFails wide = NumberSetRefused (width_by wide)
+abbrev pub ArchiveOfNumberSetFails : {A : Type 0} → NumberKey A → Bool → List A → ℕ → Type 0
+ArchiveOfNumberSetFails k wide = NumberSetRefused k (width_by wide)
 
 -- a list of bytes is the archive of the set of texts, narrow or wide
 abbrev pub IsArchiveOfTextSet : Bool → List SetText → List ℕ → Type 0

@@ -1,10 +1,8 @@
 -- The items with texts as values that are to be archived, and the results of their write.
 use Rattle.std.specs.Prelude.{◌≡◌, ℕ, ◌⊎◌, All, Bool, List, map}
 use Rattle.std.specs.Borrow.{Bor}
-use Rattle.std.specs.Int.{w32}
 use Rattle.std.specs.Str.{IsUtf8}
 use Rattle.rkyv_base.specs.Format.{Format}
-use Rattle.rkyv_base.specs.Numbers.{unsigned}
 use Rattle.rkyv_base.specs.Pairs.{written_as}
 use Rattle.rkyv_base.specs.Scalar.{ScalarRepresents, scalar_format}
 use Rattle.rkyv_base.specs.Text.{text_spec}
@@ -15,15 +13,16 @@ use Rattle.rkyv_base.specs.declared.writer.NoMemory.{NoMemory}
 use Rattle.rkyv_keys.specs.Calls.{text_calls}
 use Rattle.rkyv_keys.specs.Lemmas.OfTexts.{text_key_calls}
 use Rattle.rkyv_keys.specs.Natives.{NativePairs}
+use Rattle.rkyv_keys.specs.OfScalars.{one_call, scalar_calls}
 use Rattle.rkyv_collections.specs.Natives.{PairFormat}
-use Rattle.ffi_calls.specs.Archives.{limit_of, most_of, number_key, word_of}
+use Rattle.ffi_calls.specs.Archives.{limit_of, most_of, word_of}
 use Rattle.ffi_calls.specs.Items.{FirstUnfit}
-use Rattle.ffi_calls.specs.Listed.{TextRepresents, calls_of_number_at, number_calls}
+use Rattle.ffi_calls.specs.Keys.{NumberKey}
+use Rattle.ffi_calls.specs.Listed.{TextRepresents}
 use Rattle.ffi_calls.specs.Lists.{ArchiveFails, ArchiveWidth, IsArchiveOf, fx_format}
 use Rattle.ffi_calls.specs.Lists.{fx_pairs}
 use Rattle.ffi_calls.specs.Status.{write_refusal}
-use Rattle.ffi_calls.specs.declared.numbers_to_texts_items.NumberTextItem.{NumberTextItem}
-use Rattle.ffi_calls.specs.declared.texts_to_texts_items.TextTextItem.{TextTextItem}
+use Rattle.ffi_calls.specs.declared.pairs.Pair.{Pair}
 
 -- the items of a map, and its pairs. `Fits`: the texts of an item are UTF-8, `image`: key and
 -- value of an item, `seen`: those of a pair, with the bytes of a text in place of the text
@@ -52,31 +51,32 @@ module _ {I A B R Q : Type 0} (ArePairs : List I → List (A × B) → Type 0) (
       × ArchiveFails width format pairs error × (status ≡ write_refusal error))
 
 -- the text that is the value of `item` is UTF-8
-abbrev pub NumberTextFits : NumberTextItem → Type 0
+abbrev pub NumberTextFits : {A : Type 0} → Pair A (Bor (List ℕ)) → Type 0
 NumberTextFits item = IsUtf8 item.value.now
 
 -- the key of `item`, and the bytes of its value
-abbrev pub number_text_image : NumberTextItem → ℕ × List ℕ
+abbrev pub number_text_image : {A : Type 0} → Pair A (Bor (List ℕ)) → A × List ℕ
 number_text_image item = (item.key, item.value.now)
 
 -- the number, and the bytes of the text
-abbrev pub number_text_seen : ℕ × Bor (List ℕ) → ℕ × List ℕ
+abbrev pub number_text_seen : {A : Type 0} → A × Bor (List ℕ) → A × List ℕ
 number_text_seen pair = (pair.0, pair.1.now)
 
 -- `pairs` are the pairs of the items, in order, and all values are UTF-8
-abbrev pub AreNumberTexts : List NumberTextItem → List (ℕ × Bor (List ℕ)) → Type 0
+abbrev pub AreNumberTexts : {A : Type 0} → List (Pair A (Bor (List ℕ))) → List (A × Bor (List ℕ))
+    → Type 0
 AreNumberTexts = ArePairsOf NumberTextFits number_text_image number_text_seen
 
 -- a status is that of an allocation failure, or of the first value that isn't UTF-8
-abbrev pub NumberTextsFail : List NumberTextItem → ℕ → Type 0
+abbrev pub NumberTextsFail : {A : Type 0} → List (Pair A (Bor (List ℕ))) → ℕ → Type 0
 NumberTextsFail = PairsFail NumberTextFits number_text_image number_text_seen
 
 -- the texts of `item` are UTF-8
-abbrev pub TextTextFits : TextTextItem → Type 0
+abbrev pub TextTextFits : Pair (Bor (List ℕ)) (Bor (List ℕ)) → Type 0
 TextTextFits item = IsUtf8 item.key.now × IsUtf8 item.value.now
 
 -- the bytes of the key and of the value of `item`
-abbrev pub text_text_image : TextTextItem → List ℕ × List ℕ
+abbrev pub text_text_image : Pair (Bor (List ℕ)) (Bor (List ℕ)) → List ℕ × List ℕ
 text_text_image item = (item.key.now, item.value.now)
 
 -- the bytes of both texts
@@ -84,11 +84,12 @@ abbrev pub text_text_seen : Bor (List ℕ) × Bor (List ℕ) → List ℕ × Lis
 text_text_seen pair = (pair.0.now, pair.1.now)
 
 -- `pairs` are the pairs of the items, in order, and all texts are UTF-8
-abbrev pub AreTextTexts : List TextTextItem → List (Bor (List ℕ) × Bor (List ℕ)) → Type 0
+abbrev pub AreTextTexts : List (Pair (Bor (List ℕ)) (Bor (List ℕ)))
+    → List (Bor (List ℕ) × Bor (List ℕ)) → Type 0
 AreTextTexts = ArePairsOf TextTextFits text_text_image text_text_seen
 
 -- a status is that of an allocation failure, or of the first item with a text that isn't UTF-8
-abbrev pub TextTextsFail : List TextTextItem → ℕ → Type 0
+abbrev pub TextTextsFail : List (Pair (Bor (List ℕ)) (Bor (List ℕ))) → ℕ → Type 0
 TextTextsFail = PairsFail TextTextFits text_text_image text_text_seen
 
 module _ (width : ArchiveWidth) where
@@ -96,59 +97,62 @@ module _ (width : ArchiveWidth) where
   abbrev pub bytes_format : Format (Bor (List ℕ)) TextResolver
   bytes_format = written_as (λ text. text.now) (text_format width.word)
 
-  -- how pairs of numbers and texts are written
-  abbrev pub number_texts_format : PairFormat ℕ (Bor (List ℕ)) (Unit {0}) TextResolver
-  number_texts_format = fx_format number_key (text_spec width.word)
-      (scalar_format (unsigned w32)) bytes_format number_calls
-
   -- how pairs of texts are written
   abbrev pub text_texts_format : PairFormat (Bor (List ℕ)) (Bor (List ℕ)) TextResolver TextResolver
   text_texts_format = fx_format (text_spec width.word) (text_spec width.word) bytes_format
       bytes_format (λ text. text_calls text.now)
-
-  -- the pairs of numbers and texts that bytes represent
-  abbrev pub number_texts_natives : NativePairs ℕ (Bor (List ℕ))
-  number_texts_natives = fx_pairs (ScalarRepresents (unsigned w32)) (TextRepresents width.word)
-      calls_of_number_at
 
   -- the pairs of texts that bytes represent
   abbrev pub text_texts_natives : NativePairs (Bor (List ℕ)) (Bor (List ℕ))
   text_texts_natives = fx_pairs (TextRepresents width.word) (TextRepresents width.word)
       (text_key_calls width.word)
 
+  -- a list of bytes is the archive of the pairs of texts
+  abbrev pub TextTextsMade : List (Pair (Bor (List ℕ)) (Bor (List ℕ))) → List ℕ → Type 0
+  TextTextsMade = ItemsMade AreTextTexts TextTextsFail width text_texts_format text_texts_natives
+
+  -- a status is the error of the write of the pairs of texts
+  abbrev pub TextTextsRefused : List (Pair (Bor (List ℕ)) (Bor (List ℕ))) → ℕ → Type 0
+  TextTextsRefused = ItemsRefused AreTextTexts TextTextsFail width text_texts_format
+
+module _ {A : Type 0} (k : NumberKey A) (width : ArchiveWidth) where
+  -- how pairs of numbers and texts are written
+  abbrev pub number_texts_format : PairFormat A (Bor (List ℕ)) (Unit {0}) TextResolver
+  number_texts_format = fx_format k.spec (text_spec width.word) (scalar_format k.encoding)
+      (bytes_format width) (one_call k.call)
+
+  -- the pairs of numbers and texts that bytes represent
+  abbrev pub number_texts_natives : NativePairs A (Bor (List ℕ))
+  number_texts_natives = fx_pairs (ScalarRepresents k.encoding) (TextRepresents width.word)
+      (scalar_calls k.encoding k.call)
+
   -- a list of bytes is the archive of the pairs of numbers and texts
-  abbrev pub NumberTextsMade : List NumberTextItem → List ℕ → Type 0
+  abbrev pub NumberTextsMade : List (Pair A (Bor (List ℕ))) → List ℕ → Type 0
   NumberTextsMade =
       ItemsMade AreNumberTexts NumberTextsFail width number_texts_format number_texts_natives
 
   -- a status is the error of the write of the pairs of numbers and texts
-  abbrev pub NumberTextsRefused : List NumberTextItem → ℕ → Type 0
+  abbrev pub NumberTextsRefused : List (Pair A (Bor (List ℕ))) → ℕ → Type 0
   NumberTextsRefused = ItemsRefused AreNumberTexts NumberTextsFail width number_texts_format
-
-  -- a list of bytes is the archive of the pairs of texts
-  abbrev pub TextTextsMade : List TextTextItem → List ℕ → Type 0
-  TextTextsMade = ItemsMade AreTextTexts TextTextsFail width text_texts_format text_texts_natives
-
-  -- a status is the error of the write of the pairs of texts
-  abbrev pub TextTextsRefused : List TextTextItem → ℕ → Type 0
-  TextTextsRefused = ItemsRefused AreTextTexts TextTextsFail width text_texts_format
 
 -- the width of an archive, narrow or wide
 abbrev pub width_by : Bool → ArchiveWidth
 width_by wide = record { word = word_of wide; limit = limit_of wide; most = most_of wide }
 
 -- a list of bytes is the archive of the pairs of numbers and texts, narrow or wide
-abbrev pub IsArchiveOfNumberTexts : Bool → List NumberTextItem → List ℕ → Type 0
-IsArchiveOfNumberTexts wide = NumberTextsMade (width_by wide)
+abbrev pub IsArchiveOfNumberTexts : {A : Type 0} → NumberKey A → Bool → List (Pair A (Bor (List ℕ)))
+    → List ℕ → Type 0
+IsArchiveOfNumberTexts k wide = NumberTextsMade k (width_by wide)
 
 -- a status is the error of the write of the pairs of numbers and texts, narrow or wide
-abbrev pub ArchiveOfNumberTextsFails : Bool → List NumberTextItem → ℕ → Type 0
-ArchiveOfNumberTextsFails wide = NumberTextsRefused (width_by wide)
+abbrev pub ArchiveOfNumberTextsFails : {A : Type 0} → NumberKey A → Bool
+    → List (Pair A (Bor (List ℕ))) → ℕ → Type 0
+ArchiveOfNumberTextsFails k wide = NumberTextsRefused k (width_by wide)
 
 -- a list of bytes is the archive of the pairs of texts, narrow or wide
-abbrev pub IsArchiveOfTextTexts : Bool → List TextTextItem → List ℕ → Type 0
+abbrev pub IsArchiveOfTextTexts : Bool → List (Pair (Bor (List ℕ)) (Bor (List ℕ))) → List ℕ → Type 0
 IsArchiveOfTextTexts wide = TextTextsMade (width_by wide)
 
 -- a status is the error of the write of the pairs of texts, narrow or wide
-abbrev pub ArchiveOfTextTextsFails : Bool → List TextTextItem → ℕ → Type 0
+abbrev pub ArchiveOfTextTextsFails : Bool → List (Pair (Bor (List ℕ)) (Bor (List ℕ))) → ℕ → Type 0
 ArchiveOfTextTextsFails wide = TextTextsRefused (width_by wide)

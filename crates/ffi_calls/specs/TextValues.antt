@@ -1,24 +1,25 @@
 -- Maps to texts: their archives, and the results of lookups and iterations.
-use Rattle.std.specs.Prelude.{◌≡◌, ℕ, ◌==◌, ◌⊎◌, Bool, List, Option}
+use Rattle.std.specs.Prelude.{◌≡◌, ℕ, ◌⊎◌, Bool, List, Option}
 use Rattle.std.specs.Borrow.{Bor}
-use Rattle.std.specs.Int.{Width, w32}
+use Rattle.std.specs.Int.{Width}
 use Rattle.std.specs.Str.{IsUtf8}
 use Rattle.rkyv_base.specs.Access.{Accepted}
-use Rattle.rkyv_base.specs.Bytes.{number_at}
 use Rattle.rkyv_base.specs.ElementSpec.{ElementSpec}
-use Rattle.rkyv_base.specs.Sealing.{value_pos}
 use Rattle.rkyv_base.specs.Text.{text_at, text_spec}
+use Rattle.rkyv_base.specs.Scalar.{ScalarRepresents}
 use Rattle.rkyv_keys.specs.Calls.{text_calls}
+use Rattle.rkyv_keys.specs.OfScalars.{one_call, scalar_fits}
 use Rattle.rkyv_keys.specs.OfTexts.{same_bytes}
 use Rattle.rkyv_collections.specs.Map.MapAt.{AskedValue, MapAt}
 use Rattle.rkyv_collections.specs.Map.MapSpec.{map_spec}
-use Rattle.ffi_calls.specs.Archives.{GivesAt, limit_of, map_in, number_key, value_found, word_of}
-use Rattle.ffi_calls.specs.Listed.{TextRepresents, asked_number, asked_text, number_calls}
-use Rattle.ffi_calls.specs.Lists.{GivesFirstBy}
-use Rattle.ffi_calls.specs.Walking.{Steps, StepsAll, buckets_from, pair_pos}
-use Rattle.ffi_calls.specs.declared.numbers_to_texts.NumberTextPair.{NumberTextPair}
-use Rattle.ffi_calls.specs.declared.text_values.TextValue.{TextValue}
-use Rattle.ffi_calls.specs.declared.texts_to_texts.TextTextPair.{TextTextPair}
+use Rattle.ffi_calls.specs.Archives.{GivesAt, limit_of, map_in, value_found, word_of}
+use Rattle.ffi_calls.specs.Keys.{NumberKey}
+use Rattle.ffi_calls.specs.Listed.{TextRepresents, asked_number, asked_text}
+use Rattle.ffi_calls.specs.Lists.{GivesFirst}
+use Rattle.ffi_calls.specs.Reading.{HasBytesOf, ReadsText}
+use Rattle.ffi_calls.specs.Walking.{StoresNextPairs}
+use Rattle.ffi_calls.specs.declared.pairs.Pair.{Pair}
+use Rattle.ffi_calls.specs.declared.pairs.Step.{Step}
 
 -- the spec of a text, narrow or wide
 abbrev pub text_by : Bool → ElementSpec
@@ -29,24 +30,24 @@ abbrev pub to_texts_in : Width → ElementSpec → List ℕ → MapAt
 to_texts_in w k = map_in w k (text_spec w)
 
 -- the spec of the header of a map of numbers to texts, narrow or wide
-abbrev pub number_text_map : Bool → ElementSpec
-number_text_map wide = map_spec (word_of wide) number_key (text_by wide)
+abbrev pub number_text_map : {A : Type 0} → NumberKey A → Bool → ElementSpec
+number_text_map k wide = map_spec (word_of wide) k.spec (text_by wide)
 
 -- the spec of the header of a map of texts to texts, narrow or wide
 abbrev pub text_text_map : Bool → ElementSpec
 text_text_map wide = map_spec (word_of wide) (text_by wide) (text_by wide)
 
 -- `b` is the valid archive of a map of numbers to texts, narrow or wide
-abbrev pub IsNumberTextArchive : Bool → List ℕ → Type 0
-IsNumberTextArchive wide b = Accepted (limit_of wide) (number_text_map wide) b
+abbrev pub IsNumberTextArchive : {A : Type 0} → NumberKey A → Bool → List ℕ → Type 0
+IsNumberTextArchive k wide b = Accepted (limit_of wide) (number_text_map k wide) b
 
 -- `b` is the valid archive of a map of texts to texts, narrow or wide
 abbrev pub IsTextTextArchive : Bool → List ℕ → Type 0
 IsTextTextArchive wide b = Accepted (limit_of wide) (text_text_map wide) b
 
 -- the map of numbers to texts, narrow or wide, at the root of an archive
-abbrev pub number_texts_in : Bool → List ℕ → MapAt
-number_texts_in wide = to_texts_in (word_of wide) number_key
+abbrev pub number_texts_in : {A : Type 0} → NumberKey A → Bool → List ℕ → MapAt
+number_texts_in k wide = to_texts_in (word_of wide) k.spec
 
 -- the map of texts to texts, narrow or wide, at the root of an archive
 abbrev pub text_texts_in : Bool → List ℕ → MapAt
@@ -54,20 +55,26 @@ text_texts_in wide = to_texts_in (word_of wide) (text_by wide)
 
 -- the status is 0 and `after` has the text at `place`.
 -- At `None` the status is 1 and `after` is `before`.
-abbrev pub GivesTextAt : MapAt → Option ℕ → TextValue → ℕ → TextValue → Type 0
-GivesTextAt m = GivesAt (λ (q : ℕ) (after : TextValue). after.text.now ≡ text_at m.word m.bytes q)
+abbrev pub GivesTextAt : MapAt → Option ℕ → Bor (List ℕ) → ℕ → Bor (List ℕ) → Type 0
+GivesTextAt m = GivesAt (ReadsText m.word m.bytes)
 
 -- The result of a lookup is the text of the first pair whose key is accepted.
 -- Without one the status is 1 and `after` is `before`.
-abbrev pub GivesFirstTextAt : {A : Type 0} → MapAt → AskedValue A → TextValue → ℕ → TextValue
+abbrev pub GivesFirstText : {A : Type 0} → MapAt → AskedValue A → Bor (List ℕ) → ℕ → Bor (List ℕ)
     → Type 0
-GivesFirstTextAt m a = GivesFirstBy m a (TextRepresents m.word)
-    (λ (after : TextValue) (text : Bor (List ℕ)). after.text.now ≡ text.now)
+GivesFirstText m a = GivesFirst m a (TextRepresents m.word) HasBytesOf
 
--- the result of a lookup of the number `key`, whose text replaces `before`
-abbrev pub GivesTextOfNumber : Bool → List ℕ → ℕ → TextValue → ℕ → TextValue → Type 0
-GivesTextOfNumber wide b key = GivesTextAt (number_texts_in wide b)
-    (value_found (number_texts_in wide b) (number_calls key) (λ q. key == number_at w32 b q))
+module _ {A : Type 0} (k : NumberKey A) (wide : Bool) (b : List ℕ) where
+  -- the result of a lookup of the number `key`, whose text replaces `before`
+  abbrev pub GivesTextOfNumber : A → Bor (List ℕ) → ℕ → Bor (List ℕ) → Type 0
+  GivesTextOfNumber key = GivesTextAt (number_texts_in k wide b)
+      (value_found (number_texts_in k wide b) (one_call k.call key)
+      (scalar_fits k.encoding k.eq key b))
+
+  -- the result of a lookup of `key` is the text of the first pair with the number
+  abbrev pub GivesFirstTextOfNumber : A → Bor (List ℕ) → ℕ → Bor (List ℕ) → Type 0
+  GivesFirstTextOfNumber key =
+      GivesFirstText (number_texts_in k wide b) (asked_number k key)
 
 -- the position of the value that a lookup of the text `key` finds
 abbrev pub text_of_text_found : Bool → List ℕ → List ℕ → Option ℕ
@@ -76,50 +83,27 @@ text_of_text_found wide b key = value_found (text_texts_in wide b) (text_calls k
 
 -- the result of a lookup of `key`, whose text replaces `before`.
 -- The status is 4 and `before` is unchanged if `key` isn't UTF-8.
-abbrev pub GivesTextOfText : Bool → List ℕ → List ℕ → TextValue → ℕ → TextValue → Type 0
+abbrev pub GivesTextOfText : Bool → List ℕ → List ℕ → Bor (List ℕ) → ℕ → Bor (List ℕ) → Type 0
 GivesTextOfText wide b key before status after =
     ((IsUtf8 key → ⊥) × (status ≡ 4) × (after ≡ before))
     ⊎ (IsUtf8 key
     × GivesTextAt (text_texts_in wide b) (text_of_text_found wide b key) before status after)
 
--- the result of a lookup of `key` is the text of the first pair with the number
-abbrev pub GivesFirstTextOfNumber : Bool → List ℕ → ℕ → TextValue → ℕ → TextValue → Type 0
-GivesFirstTextOfNumber wide b key = GivesFirstTextAt (number_texts_in wide b) (asked_number key)
-
 -- the result of a lookup of `key` is the text of the first pair with the text
-abbrev pub GivesFirstTextOfText : Bool → List ℕ → List ℕ → TextValue → ℕ → TextValue → Type 0
+abbrev pub GivesFirstTextOfText : Bool → List ℕ → List ℕ → Bor (List ℕ) → ℕ → Bor (List ℕ) → Type 0
 GivesFirstTextOfText wide b key =
-    GivesFirstTextAt (text_texts_in wide b) (asked_text (word_of wide) key)
+    GivesFirstText (text_texts_in wide b) (asked_text (word_of wide) key)
 
-module _ (m : MapAt) where
-  -- the text that is the value of the pair in a bucket
-  abbrev pub bucket_text : ℕ → List ℕ
-  bucket_text bucket = text_at m.word m.bytes (value_pos m.key m.value (pair_pos m bucket))
+-- the result of steps to the next pairs of a map of numbers to texts
+abbrev pub StoresNextNumberTexts : {A : Type 0} → NumberKey A → Bool → List ℕ → ℕ
+    → List (Step (Pair A (Bor (List ℕ)))) → ℕ → List (Step (Pair A (Bor (List ℕ)))) → Type 0
+StoresNextNumberTexts k wide b =
+    StoresNextPairs (number_texts_in k wide b) (ScalarRepresents k.encoding)
+    (ReadsText (word_of wide))
 
-  -- the pair has the number and the text in the bucket
-  abbrev pub IsNumberTextPair : ℕ → NumberTextPair → Type 0
-  IsNumberTextPair bucket pair = (pair.key ≡ number_at w32 m.bytes (pair_pos m bucket))
-      × (pair.value.now ≡ bucket_text bucket)
-
-  -- the result of a step to the next pair of a map of numbers to texts
-  abbrev pub NextNumberText : NumberTextPair → ℕ → NumberTextPair → Type 0
-  NextNumberText =
-      Steps (buckets_from m) (λ (pair : NumberTextPair). pair.next) IsNumberTextPair
-
-  -- the result of steps to the next pairs of a map of numbers to texts
-  abbrev pub NextNumberTexts : ℕ → List NumberTextPair → ℕ → List NumberTextPair → Type 0
-  NextNumberTexts =
-      StepsAll (buckets_from m) (λ (pair : NumberTextPair). pair.next) IsNumberTextPair
-
-  -- the pair has the texts of the key and of the value in the bucket
-  abbrev pub IsTextTextPair : ℕ → TextTextPair → Type 0
-  IsTextTextPair bucket pair = (pair.key.now ≡ text_at m.word m.bytes (pair_pos m bucket))
-      × (pair.value.now ≡ bucket_text bucket)
-
-  -- the result of a step to the next pair of a map of texts to texts
-  abbrev pub NextTextText : TextTextPair → ℕ → TextTextPair → Type 0
-  NextTextText = Steps (buckets_from m) (λ (pair : TextTextPair). pair.next) IsTextTextPair
-
-  -- the result of steps to the next pairs of a map of texts to texts
-  abbrev pub NextTextTexts : ℕ → List TextTextPair → ℕ → List TextTextPair → Type 0
-  NextTextTexts = StepsAll (buckets_from m) (λ (pair : TextTextPair). pair.next) IsTextTextPair
+-- the result of steps to the next pairs of a map of texts to texts
+abbrev pub StoresNextTextTexts : Bool → List ℕ → ℕ
+    → List (Step (Pair (Bor (List ℕ)) (Bor (List ℕ)))) → ℕ
+    → List (Step (Pair (Bor (List ℕ)) (Bor (List ℕ)))) → Type 0
+StoresNextTextTexts wide b = StoresNextPairs (text_texts_in wide b) (ReadsText (word_of wide))
+    (ReadsText (word_of wide))

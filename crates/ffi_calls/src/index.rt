@@ -1,18 +1,20 @@
 //! Index maps: their validation, the map in a valid archive, and lookups of keys.
 
-ghost use Rattle.std.specs.Prelude.{◌≡◌};
+ghost use Rattle.std.specs.Prelude.{map, ◌≡◌};
 ghost use Rattle.rkyv_base.specs.Access.{Accepted};
 ghost use Rattle.rkyv_index.specs.Index.{index_bytes, index_pos};
-ghost use Rattle.ffi_calls.specs.Archives.{Opens};
+ghost use Rattle.ffi_calls.specs.Archives.{IsHeaderOf, Opens};
 ghost use Rattle.ffi_calls.specs.Explanation.{Explains};
-ghost use Rattle.ffi_calls.specs.IndexArchives.{GivesIndexed, IsIndexArchive, found_index};
-ghost use Rattle.ffi_calls.specs.IndexArchives.{index_in, index_map, index_root, pair_count};
-ghost use Rattle.ffi_calls.specs.IndexLists.{GivesFirstIndexed};
-ghost use Rattle.ffi_calls.specs.Lists.{asked_key};
+ghost use Rattle.ffi_calls.specs.IndexArchives.{GivesIndexed, IsIndexArchive, IsIndexPair};
+ghost use Rattle.ffi_calls.specs.IndexArchives.{IsPairAtIndex, StoresPairs, found_index, index_at};
+ghost use Rattle.ffi_calls.specs.IndexArchives.{index_in, index_map, index_root};
+ghost use Rattle.ffi_calls.specs.IndexLists.{GivesFirstIndexed, StoresListed};
+ghost use Rattle.ffi_calls.specs.Lists.{asked_key, fx_pairs};
 
 use crate::explanation::{Explanation, explain, explained};
+use crate::pairs::{Indexed, IndexedOf, Pair, PairOf};
+use crate::reading::{ReadAs, StoresNative};
 use crate::status::{DONE, NOT_FOUND, refusal};
-use crate::value::Value;
 use rkyv_base::access::{access_in, access_unchecked};
 use rkyv_base::element::{Element, Represents};
 use rkyv_base::width::Width;
@@ -20,16 +22,7 @@ use rkyv_index::map::laws::lookups_find_listed;
 use rkyv_index::{ArchivedIndexMap, IndexMapOf};
 use rkyv_keys::keys::{KeyElement, NativeKey};
 use rkyv_scan::hash::FxHasher64;
-
-/// The index of a pair in insertion order, and its value.
-#[repr(C)]
-#[derive(Clone, Copy)]
-pub struct IndexedValue {
-    /// The index of the pair.
-    pub index: usize,
-    /// The value of the pair.
-    pub value: u64,
-}
+use rkyv_table::table::decoded::Decoded;
 
 /// Validates the archive of an index map; returns `DONE` or the status of the first error.
 pub(crate) fn open_index<K: Element, V: Element, W: Width>(archive: &[u8]) -> u32
@@ -53,24 +46,28 @@ pub(crate) fn explain_index<K: Element, V: Element, W: Width>(archive: &[u8]) ->
     }
 }
 
-/// Returns the index map in a valid archive.
+/// Returns the decoded header of the index map in a valid archive.
+pub(crate) fn index_header_of<K: Element, V: Element, W: Width>(archive: &[u8]) -> Decoded
+    requires { IsIndexArchive W.word W.LIMIT K.spec V.spec archive.now }
+    ensures { IsHeaderOf (index_in W.word K.spec V.spec archive.now) result }
+{
+    let root = access_unchecked::<IndexMapOf<K, V, FxHasher64, W>>(archive);
+    ArchivedIndexMap::of(root).header()
+}
+
+/// Returns the index map in a valid archive, by its decoded header.
 #[inline]
 pub(crate) fn index_of<'a, K: Element, V: Element, W: Width>(
     archive: &'a [u8],
+    header: &Decoded,
 ) -> ArchivedIndexMap<'a, K, V, FxHasher64, W>
-    requires { IsIndexArchive W.word W.LIMIT K.spec V.spec archive.now }
+    requires archive { IsIndexArchive W.word W.LIMIT K.spec V.spec archive.now }
+    requires header { IsHeaderOf (index_in W.word K.spec V.spec archive.now) header.now }
     ensures bytes { index_bytes result ≡ archive.now }
     ensures pos { index_pos result ≡ index_root W.word K.spec V.spec archive.now }
 {
-    ArchivedIndexMap::of(access_unchecked::<IndexMapOf<K, V, FxHasher64, W>>(archive))
-}
-
-/// Returns the number of pairs of the index map in a valid archive.
-pub(crate) fn count_in<K: Element, V: Element, W: Width>(archive: &[u8]) -> usize
-    requires { IsIndexArchive W.word W.LIMIT K.spec V.spec archive.now }
-    ensures { result ≡ pair_count (index_in W.word K.spec V.spec archive.now) }
-{
-    index_of::<K, V, W>(archive).len()
+    let root = access_unchecked::<IndexMapOf<K, V, FxHasher64, W>>(archive);
+    ArchivedIndexMap::with_header(root, *header)
 }
 
 /// Looks up a key in a valid archive, and stores the index and the value of its pair in `found`.
@@ -78,28 +75,84 @@ pub(crate) fn count_in<K: Element, V: Element, W: Width>(archive: &[u8]) -> usiz
 /// # Errors
 ///
 /// - `NOT_FOUND`: the lookup doesn't find the key; `found` is unchanged then.
-pub(crate) fn find_in<A: NativeKey<K>, K: KeyElement + Represents<A>, V: Value, W: Width>(
-    archive: &[u8],
-    key: &A,
-    found: &mut IndexedValue,
-) -> u32
+pub(crate) fn find_in<
+    'a,
+    A: NativeKey<K>,
+    Y: Copy,
+    B,
+    I: IndexedOf<Y>,
+    K: KeyElement + Represents<A>,
+    V: ReadAs<'a, Y> + StoresNative<Y, B>,
+    W: Width,
+>(archive: &'a [u8], header: &Decoded, key: &A, found: &mut I) -> u32
     requires archive { IsIndexArchive W.word W.LIMIT K.spec V.spec archive.now }
+    requires header { IsHeaderOf (index_in W.word K.spec V.spec archive.now) header.now }
     requires query { A.can_read key.now }
-    ensures gives { GivesIndexed (index_in W.word K.spec V.spec archive.now) V.encoding
-        (found_index (index_in W.word K.spec V.spec archive.now) (A.calls key.now)
-        (A.fits key.now archive.now)) found.old result found.new }
+    ensures gives { let m = index_in W.word K.spec V.spec archive.now in GivesIndexed m V.reads
+        (found_index m (A.calls key.now) (A.fits key.now archive.now)) (I.indexed_of found.old)
+        result (I.indexed_of found.new) }
     ensures listed { GivesFirstIndexed (index_in W.word K.spec V.spec archive.now)
-        (asked_key K.represents K.key_calls (A.eq key.now)) V.encoding found.old result found.new }
+        (asked_key K.represents K.key_calls (A.eq key.now)) V.represents V.is_of
+        (I.indexed_of found.old) result (I.indexed_of found.new) }
 {
-    lookups_find_listed::<A, V, K, V, FxHasher64, W>();
-    match index_of::<K, V, W>(archive).get_full(key) {
+    lookups_find_listed::<A, B, K, V, FxHasher64, W>();
+    match index_of::<K, V, W>(archive, header).get_full(key) {
         Some((index, _, value)) => {
-            *found = IndexedValue {
+            *found = I::of_indexed(Indexed {
                 index,
-                value: value.to_native().to_number(),
-            };
+                value: V::read_as(value),
+            });
             DONE
         }
         None => NOT_FOUND,
     }
+}
+
+/// Returns the pair at an index of a map, or `None` if the index isn't below the length.
+#[inline]
+fn pair_of<'a, X, Y, K: ReadAs<'a, X>, V: ReadAs<'a, Y>, W: Width>(
+    map: ArchivedIndexMap<'a, K, V, FxHasher64, W>,
+    index: usize,
+) -> Option<Pair<X, Y>>
+    ensures { let m = index_at map.entry in
+        IsPairAtIndex m (IsIndexPair m K.reads V.reads) index result }
+{
+    match map.get_index(index) {
+        Some((key, value)) => Some(Pair {
+            value: V::read_as(value),
+            key: K::read_as(key),
+        }),
+        None => None,
+    }
+}
+
+/// Stores the pairs from an index on of the map in a valid archive, and returns their number.
+pub(crate) fn pairs_in<
+    'a,
+    X: Copy,
+    A,
+    Y: Copy,
+    B,
+    P: PairOf<X, Y>,
+    K: KeyElement + ReadAs<'a, X> + StoresNative<X, A>,
+    V: ReadAs<'a, Y> + StoresNative<Y, B>,
+    W: Width,
+>(archive: &'a [u8], header: &Decoded, from: usize, pairs: &mut [P]) -> usize
+    requires archive { IsIndexArchive W.word W.LIMIT K.spec V.spec archive.now }
+    requires header { IsHeaderOf (index_in W.word K.spec V.spec archive.now) header.now }
+    ensures stores { StoresPairs (index_in W.word K.spec V.spec archive.now) K.reads V.reads from
+        (map P.pair_of pairs.old) result (map P.pair_of pairs.new) }
+    ensures listed { StoresListed (index_in W.word K.spec V.spec archive.now)
+        (fx_pairs K.represents V.represents K.key_calls) K.is_of V.is_of from
+        (map P.pair_of pairs.old) result (map P.pair_of pairs.new) }
+{
+    let map = index_of::<K, V, W>(archive, header);
+    let number = pairs.len().min(map.len().saturating_sub(from));
+    for count in 0..number {
+        match pair_of::<X, Y, K, V, W>(map, from + count) {
+            Some(pair) => pairs[count] = P::of_pair(pair),
+            None => unreachable!(),
+        }
+    }
+    number
 }

@@ -1,18 +1,18 @@
 //! Archives of pairs as index maps.
 
-ghost use Rattle.std.specs.Prelude.{MatchResult};
+ghost use Rattle.std.specs.Prelude.{MatchResult, map};
 ghost use Rattle.ffi_calls.specs.IndexItems.{IndexOfNumbersFails, IndexOfTextsFails};
-ghost use Rattle.ffi_calls.specs.IndexItems.{IsIndexOfNumbers, IsIndexOfTexts, NumberIndexMade};
-ghost use Rattle.ffi_calls.specs.IndexItems.{NumberIndexRefused, TextIndexMade};
-ghost use Rattle.ffi_calls.specs.IndexItems.{TextIndexRefused, index_width};
+ghost use Rattle.ffi_calls.specs.IndexItems.{IsIndexOfNumbers, IsIndexOfTexts, WritesNumberIndex};
+ghost use Rattle.ffi_calls.specs.IndexItems.{WritesTextIndex, index_width};
 ghost use Rattle.ffi_calls.specs.Items.{HandsOut};
 
 use crate::building::{Built, hand_out};
 use crate::form::Form;
-use crate::number_items::{self, NumberItem};
+use crate::pairs::PairOf;
+use crate::reading::NumberKey;
 use crate::status::write_refusal;
-use crate::text_items::{self, TextItem};
 use crate::value::Value;
+use crate::{number_items, text_items};
 use rkyv_base::root::to_bytes_in;
 use rkyv_base::width::{Narrow, Wide};
 use rkyv_index::OrderedPairs;
@@ -20,31 +20,37 @@ use rkyv_index::width::PlaceWidth;
 use std::alloc::Global;
 
 /// Writes the archive of the items as an index map, in their order, under the load factor 7 / 8.
-fn numbers_in<V: Value, W: PlaceWidth>(alloc: Global, items: &[NumberItem]) -> Result<Vec<u8>, u32>
+fn numbers_in<K: NumberKey, V: Value, W: PlaceWidth, P: PairOf<K, u64>>(
+    alloc: Global,
+    items: &[P],
+) -> Result<Vec<u8>, u32>
     ensures { let w = index_width W.Width W.Place.spec W.Place.encoding in
-        MatchResult result (λ v. NumberIndexMade w V.spec V.encoding items.now v.items)
-        (NumberIndexRefused w V.spec V.encoding items.now) }
+        WritesNumberIndex K.NumberKey w V.spec V.encoding (map P.pair_of items.now) result }
 {
-    let pairs = match number_items::pairs_of::<V>(alloc, items) {
+    let pairs = match number_items::pairs_of::<K, V, P>(alloc, items) {
         Ok(pairs) => pairs,
         Err(status) => return Err(status),
     };
-    match to_bytes_in::<W, OrderedPairs<u32, V>>(alloc, &OrderedPairs(pairs)) {
+    match to_bytes_in::<W, OrderedPairs<K, V>>(alloc, &OrderedPairs(pairs)) {
         Ok(archive) => Ok(archive),
         Err(error) => Err(write_refusal(&error)),
     }
 }
 
 /// Writes the archive of the items in the form.
-fn numbers_by(alloc: Global, items: &[NumberItem], form: Form) -> Result<Vec<u8>, u32>
-    ensures { MatchResult result (λ v. IsIndexOfNumbers form items.now v.items)
-        (IndexOfNumbersFails form items.now) }
+fn numbers_by<K: NumberKey, P: PairOf<K, u64>>(
+    alloc: Global,
+    items: &[P],
+    form: Form,
+) -> Result<Vec<u8>, u32>
+    ensures { MatchResult result (λ v. IsIndexOfNumbers K.NumberKey form (map P.pair_of items.now)
+        v.items) (IndexOfNumbersFails K.NumberKey form (map P.pair_of items.now)) }
 {
     match (form.long_values, form.wide) {
-        (false, false) => numbers_in::<u32, Narrow>(alloc, items),
-        (true, false) => numbers_in::<u64, Narrow>(alloc, items),
-        (false, true) => numbers_in::<u32, Wide>(alloc, items),
-        (true, true) => numbers_in::<u64, Wide>(alloc, items),
+        (false, false) => numbers_in::<K, u32, Narrow, P>(alloc, items),
+        (true, false) => numbers_in::<K, u64, Narrow, P>(alloc, items),
+        (false, true) => numbers_in::<K, u32, Wide, P>(alloc, items),
+        (true, true) => numbers_in::<K, u64, Wide, P>(alloc, items),
     }
 }
 
@@ -59,25 +65,28 @@ fn numbers_by(alloc: Global, items: &[NumberItem], form: Form) -> Result<Vec<u8>
 /// - A status from 23 on: the write fails.
 ///
 /// After an error `built` is unchanged.
-pub fn build_index_numbers(
+pub fn build_index_numbers<K: NumberKey, P: PairOf<K, u64>>(
     alloc: Global,
-    items: &[NumberItem],
+    items: &[P],
     form: Form,
     built: &mut Built<'_>,
 ) -> u32
-    ensures { HandsOut (IsIndexOfNumbers form items.now) (IndexOfNumbersFails form items.now)
-        built.old result built.new }
+    ensures { HandsOut (IsIndexOfNumbers K.NumberKey form (map P.pair_of items.now))
+        (IndexOfNumbersFails K.NumberKey form (map P.pair_of items.now)) built.old result
+        built.new }
 {
     hand_out(numbers_by(alloc, items, form), built)
 }
 
 /// Writes the archive of the items as an index map, in their order, under the load factor 7 / 8.
-fn texts_in<V: Value, W: PlaceWidth>(alloc: Global, items: &[TextItem<'_>]) -> Result<Vec<u8>, u32>
+fn texts_in<'a, V: Value, W: PlaceWidth, P: PairOf<&'a [u8], u64>>(
+    alloc: Global,
+    items: &[P],
+) -> Result<Vec<u8>, u32>
     ensures { let w = index_width W.Width W.Place.spec W.Place.encoding in
-        MatchResult result (λ v. TextIndexMade w V.spec V.encoding items.now v.items)
-        (TextIndexRefused w V.spec V.encoding items.now) }
+        WritesTextIndex w V.spec V.encoding (map P.pair_of items.now) result }
 {
-    let pairs = match text_items::pairs_of::<V>(alloc, items) {
+    let pairs = match text_items::pairs_of::<V, P>(alloc, items) {
         Ok(pairs) => pairs,
         Err(status) => return Err(status),
     };
@@ -88,15 +97,19 @@ fn texts_in<V: Value, W: PlaceWidth>(alloc: Global, items: &[TextItem<'_>]) -> R
 }
 
 /// Writes the archive of the items in the form.
-fn texts_by(alloc: Global, items: &[TextItem<'_>], form: Form) -> Result<Vec<u8>, u32>
-    ensures { MatchResult result (λ v. IsIndexOfTexts form items.now v.items)
-        (IndexOfTextsFails form items.now) }
+fn texts_by<'a, P: PairOf<&'a [u8], u64>>(
+    alloc: Global,
+    items: &[P],
+    form: Form,
+) -> Result<Vec<u8>, u32>
+    ensures { MatchResult result (λ v. IsIndexOfTexts form (map P.pair_of items.now) v.items)
+        (IndexOfTextsFails form (map P.pair_of items.now)) }
 {
     match (form.long_values, form.wide) {
-        (false, false) => texts_in::<u32, Narrow>(alloc, items),
-        (true, false) => texts_in::<u64, Narrow>(alloc, items),
-        (false, true) => texts_in::<u32, Wide>(alloc, items),
-        (true, true) => texts_in::<u64, Wide>(alloc, items),
+        (false, false) => texts_in::<u32, Narrow, P>(alloc, items),
+        (true, false) => texts_in::<u64, Narrow, P>(alloc, items),
+        (false, true) => texts_in::<u32, Wide, P>(alloc, items),
+        (true, true) => texts_in::<u64, Wide, P>(alloc, items),
     }
 }
 
@@ -112,14 +125,14 @@ fn texts_by(alloc: Global, items: &[TextItem<'_>], form: Form) -> Result<Vec<u8>
 /// - A status from 23 on: the write fails.
 ///
 /// After an error `built` is unchanged.
-pub fn build_index_texts(
+pub fn build_index_texts<'a, P: PairOf<&'a [u8], u64>>(
     alloc: Global,
-    items: &[TextItem<'_>],
+    items: &[P],
     form: Form,
     built: &mut Built<'_>,
 ) -> u32
-    ensures { HandsOut (IsIndexOfTexts form items.now) (IndexOfTextsFails form items.now)
-        built.old result built.new }
+    ensures { HandsOut (IsIndexOfTexts form (map P.pair_of items.now)) (IndexOfTextsFails form (map
+        P.pair_of items.now)) built.old result built.new }
 {
     hand_out(texts_by(alloc, items, form), built)
 }

@@ -1,81 +1,67 @@
-//! Index maps whose keys are numbers of 32 bits.
+//! Index maps whose keys are numbers.
 //!
 //! `open_index_numbers` validates an archive; the other calls require a valid one.
 
-ghost use Rattle.std.specs.Prelude.{◌≡◌};
-ghost use Rattle.ffi_calls.specs.Archives.{Opens, limit_of, number_key};
+ghost use Rattle.std.specs.Prelude.{map, ◌≡◌};
+ghost use Rattle.ffi_calls.specs.Archives.{IsHeaderOf, KeepsHeader, Opens, limit_of};
 ghost use Rattle.ffi_calls.specs.Explanation.{Explains};
-ghost use Rattle.ffi_calls.specs.IndexArchives.{GivesIndexedNumber, IsIndexArchive, IsNumberAt};
-ghost use Rattle.ffi_calls.specs.IndexArchives.{IsNumberIndex, IsPairAtIndex, StoresNumber};
-ghost use Rattle.ffi_calls.specs.IndexArchives.{StoresNumbers, StoresPair, StoresPairs, index_at};
-ghost use Rattle.ffi_calls.specs.IndexArchives.{index_in, number_index, number_index_in};
-ghost use Rattle.ffi_calls.specs.IndexArchives.{pair_count};
-ghost use Rattle.ffi_calls.specs.IndexLists.{GivesFirstIndexedNumber, StoresListedNumber};
-ghost use Rattle.ffi_calls.specs.IndexLists.{IsListedNumber, StoresAllListed, StoresListed};
-ghost use Rattle.ffi_calls.specs.IndexLists.{StoresListedNumbers, number_natives};
+ghost use Rattle.ffi_calls.specs.IndexArchives.{GivesIndexedNumber, IsNumberIndex, StoresNumbers};
+ghost use Rattle.ffi_calls.specs.IndexArchives.{number_index, number_index_in};
+ghost use Rattle.ffi_calls.specs.IndexInPlace.{SetsFirstIndexedNumber, SetsIndexedNumber};
+ghost use Rattle.ffi_calls.specs.IndexLists.{GivesFirstIndexedNumber, StoresListedNumbers};
 
 use crate::explanation::Explanation;
 use crate::form::Form;
-use crate::index::{IndexedValue, count_in, explain_index, find_in, index_of, open_index};
-use crate::status::{DONE, END};
-use crate::value::Value;
-use rkyv_base::width::{Narrow, Wide, Width};
-use rkyv_index::ArchivedIndexMap;
-use rkyv_scan::hash::FxHasher64;
-
-/// A pair of an index map.
-#[repr(C)]
-#[derive(Clone, Copy)]
-pub struct IndexNumberPair {
-    /// The value of the pair.
-    pub value: u64,
-    /// The key of the pair.
-    pub key: u32,
-}
+use crate::index::{explain_index, find_in, index_header_of, open_index, pairs_in};
+use crate::index_in_place::set_indexed_in;
+use crate::pairs::{IndexedOf, PairOf};
+use crate::reading::NumberKey;
+use rkyv_base::width::{Narrow, Wide};
+use rkyv_table::table::decoded::Decoded;
 
 /// Validates the archive of an index map of numbers.
 ///
 /// # Errors
 ///
 /// - The status of the first validation error: 16 to 23.
-pub fn open_index_numbers(archive: &[u8], form: Form) -> u32
-    ensures told { Opens (limit_of form.wide) (number_index form) archive.now result }
-    ensures accepts { IsNumberIndex form archive.now → result ≡ 0 }
+pub fn open_index_numbers<K: NumberKey>(archive: &[u8], form: Form) -> u32
+    ensures told { Opens (limit_of form.wide) (number_index K.NumberKey form) archive.now result }
+    ensures accepts { IsNumberIndex K.NumberKey form archive.now → result ≡ 0 }
 {
     match (form.long_values, form.wide) {
-        (false, false) => open_index::<u32, u32, Narrow>(archive),
-        (true, false) => open_index::<u32, u64, Narrow>(archive),
-        (false, true) => open_index::<u32, u32, Wide>(archive),
-        (true, true) => open_index::<u32, u64, Wide>(archive),
+        (false, false) => open_index::<K, u32, Narrow>(archive),
+        (true, false) => open_index::<K, u64, Narrow>(archive),
+        (false, true) => open_index::<K, u32, Wide>(archive),
+        (true, true) => open_index::<K, u64, Wide>(archive),
     }
 }
 
 /// Validates the archive of an index map of numbers, and returns the first error with its numbers.
-pub fn explain_index_numbers(archive: &[u8], form: Form) -> Explanation
-    ensures { Explains (limit_of form.wide) (number_index form) archive.now result }
+pub fn explain_index_numbers<K: NumberKey>(archive: &[u8], form: Form) -> Explanation
+    ensures { Explains (limit_of form.wide) (number_index K.NumberKey form) archive.now result }
 {
     match (form.long_values, form.wide) {
-        (false, false) => explain_index::<u32, u32, Narrow>(archive),
-        (true, false) => explain_index::<u32, u64, Narrow>(archive),
-        (false, true) => explain_index::<u32, u32, Wide>(archive),
-        (true, true) => explain_index::<u32, u64, Wide>(archive),
+        (false, false) => explain_index::<K, u32, Narrow>(archive),
+        (true, false) => explain_index::<K, u64, Narrow>(archive),
+        (false, true) => explain_index::<K, u32, Wide>(archive),
+        (true, true) => explain_index::<K, u64, Wide>(archive),
     }
 }
 
-/// Returns the number of pairs. Pairs with equal keys count separately.
+/// Returns the decoded header of the index map, which the other calls take.
 ///
 /// # Requires
 ///
 /// - The archive is valid: `open_index_numbers` returned `DONE`.
-pub fn count_index_numbers(archive: &[u8], form: Form) -> usize
-    requires { IsNumberIndex form archive.now }
-    ensures { result ≡ pair_count (number_index_in form archive.now) }
+pub fn decode_index_numbers<K: NumberKey>(archive: &[u8], form: Form) -> Decoded
+    requires { IsNumberIndex K.NumberKey form archive.now }
+    ensures { IsHeaderOf (number_index_in K.NumberKey form archive.now) result }
 {
     match (form.long_values, form.wide) {
-        (false, false) => count_in::<u32, u32, Narrow>(archive),
-        (true, false) => count_in::<u32, u64, Narrow>(archive),
-        (false, true) => count_in::<u32, u32, Wide>(archive),
-        (true, true) => count_in::<u32, u64, Wide>(archive),
+        (false, false) => index_header_of::<K, u32, Narrow>(archive),
+        (true, false) => index_header_of::<K, u64, Narrow>(archive),
+        (false, true) => index_header_of::<K, u32, Wide>(archive),
+        (true, true) => index_header_of::<K, u64, Wide>(archive),
     }
 }
 
@@ -88,93 +74,57 @@ pub fn count_index_numbers(archive: &[u8], form: Form) -> usize
 /// # Requires
 ///
 /// - The archive is valid: `open_index_numbers` returned `DONE`.
-pub fn get_index_number(archive: &[u8], form: Form, key: u32, found: &mut IndexedValue) -> u32
-    requires { IsNumberIndex form archive.now }
-    ensures gives { GivesIndexedNumber form archive.now key found.old result found.new }
-    ensures listed { GivesFirstIndexedNumber form archive.now key found.old result found.new }
+/// - `header` is its decoded header.
+pub fn get_index_number<K: NumberKey, I: IndexedOf<u64>>(
+    archive: &[u8],
+    form: Form,
+    header: &Decoded,
+    key: K,
+    found: &mut I,
+) -> u32
+    requires archive { IsNumberIndex K.NumberKey form archive.now }
+    requires header { IsHeaderOf (number_index_in K.NumberKey form archive.now) header.now }
+    ensures gives { GivesIndexedNumber K.NumberKey form archive.now key (I.indexed_of found.old)
+        result (I.indexed_of found.new) }
+    ensures listed { GivesFirstIndexedNumber K.NumberKey form archive.now key (I.indexed_of
+        found.old) result (I.indexed_of found.new) }
 {
     match (form.long_values, form.wide) {
-        (false, false) => find_in::<u32, u32, u32, Narrow>(archive, &key, found),
-        (true, false) => find_in::<u32, u32, u64, Narrow>(archive, &key, found),
-        (false, true) => find_in::<u32, u32, u32, Wide>(archive, &key, found),
-        (true, true) => find_in::<u32, u32, u64, Wide>(archive, &key, found),
+        (false, false) => find_in::<K, u64, u32, I, K, u32, Narrow>(archive, header, &key, found),
+        (true, false) => find_in::<K, u64, u64, I, K, u64, Narrow>(archive, header, &key, found),
+        (false, true) => find_in::<K, u64, u32, I, K, u32, Wide>(archive, header, &key, found),
+        (true, true) => find_in::<K, u64, u64, I, K, u64, Wide>(archive, header, &key, found),
     }
 }
 
-/// Returns the pair at an index of a map, or `None` if the index isn't below the length.
-#[inline]
-fn pair_of<V: Value, W: Width>(
-    map: ArchivedIndexMap<'_, u32, V, FxHasher64, W>,
-    index: usize,
-) -> Option<IndexNumberPair>
-    ensures { IsPairAtIndex (index_at map.entry) (IsNumberAt (index_at map.entry) V.encoding) index
-        result }
-{
-    match map.get_index(index) {
-        Some((key, value)) => Some(IndexNumberPair {
-            value: value.to_native().to_number(),
-            key: key.to_native(),
-        }),
-        None => None,
-    }
-}
-
-/// Stores the pair at an index of the map in a valid archive, or returns `END`.
-fn pair_in<V: Value, W: Width>(archive: &[u8], index: usize, pair: &mut IndexNumberPair) -> u32
-    requires { IsIndexArchive W.word W.LIMIT number_key V.spec archive.now }
-    ensures stores { let map = index_in W.word number_key V.spec archive.now in
-        StoresPair map (IsNumberAt map V.encoding) index pair.old result pair.new }
-    ensures listed { StoresListed (index_in W.word number_key V.spec archive.now)
-        (number_natives V.encoding) (IsListedNumber V.encoding) index pair.old result pair.new }
-{
-    match pair_of(index_of::<u32, V, W>(archive), index) {
-        Some(found) => {
-            *pair = found;
-            DONE
-        }
-        None => END,
-    }
-}
-
-/// Stores the pair at an index, in insertion order, in `pair`.
+/// Looks up a key, and overwrites its value in place. The archive stays valid, and its header as it
+/// is.
 ///
 /// # Errors
 ///
-/// - `END`: the index isn't below the number of pairs; `pair` is unchanged then.
+/// - `VALUE_TOO_LARGE`: the values of the map have 32 bits and the new one has more.
+/// - `NOT_FOUND`: the lookup doesn't find the key.
+///
+/// After an error no byte is changed.
 ///
 /// # Requires
 ///
 /// - The archive is valid: `open_index_numbers` returned `DONE`.
-pub fn index_number_at(archive: &[u8], form: Form, index: usize, pair: &mut IndexNumberPair) -> u32
-    requires { IsNumberIndex form archive.now }
-    ensures stores { StoresNumber form archive.now index pair.old result pair.new }
-    ensures listed { StoresListedNumber form archive.now index pair.old result pair.new }
+pub fn set_index_number<K: NumberKey>(archive: &mut [u8], form: Form, key: K, value: u64) -> u32
+    requires { IsNumberIndex K.NumberKey form archive.old }
+    ensures kept { IsNumberIndex K.NumberKey form archive.new }
+    ensures header { KeepsHeader (number_index_in K.NumberKey form archive.old)
+        (number_index_in K.NumberKey form archive.new) }
+    ensures sets { SetsIndexedNumber K.NumberKey form archive.old key value result archive.new }
+    ensures listed { SetsFirstIndexedNumber K.NumberKey form archive.old key value result
+        archive.new }
 {
     match (form.long_values, form.wide) {
-        (false, false) => pair_in::<u32, Narrow>(archive, index, pair),
-        (true, false) => pair_in::<u64, Narrow>(archive, index, pair),
-        (false, true) => pair_in::<u32, Wide>(archive, index, pair),
-        (true, true) => pair_in::<u64, Wide>(archive, index, pair),
+        (false, false) => set_indexed_in::<K, K, u32, Narrow>(archive, &key, value),
+        (true, false) => set_indexed_in::<K, K, u64, Narrow>(archive, &key, value),
+        (false, true) => set_indexed_in::<K, K, u32, Wide>(archive, &key, value),
+        (true, true) => set_indexed_in::<K, K, u64, Wide>(archive, &key, value),
     }
-}
-
-/// Stores the pairs from an index on of the map in a valid archive, and returns their number.
-fn pairs_in<V: Value, W: Width>(archive: &[u8], from: usize, pairs: &mut [IndexNumberPair]) -> usize
-    requires { IsIndexArchive W.word W.LIMIT number_key V.spec archive.now }
-    ensures stores { let map = index_in W.word number_key V.spec archive.now in
-        StoresPairs map (IsNumberAt map V.encoding) from pairs.old result pairs.new }
-    ensures listed { StoresAllListed (index_in W.word number_key V.spec archive.now)
-        (number_natives V.encoding) (IsListedNumber V.encoding) from pairs.old result pairs.new }
-{
-    let map = index_of::<u32, V, W>(archive);
-    let number = pairs.len().min(map.len().saturating_sub(from));
-    for count in 0..number {
-        match pair_of(map, from + count) {
-            Some(pair) => pairs[count] = pair,
-            None => unreachable!(),
-        }
-    }
-    number
 }
 
 /// Stores the pairs from the index `from` on, in insertion order, and returns their number.
@@ -184,20 +134,29 @@ fn pairs_in<V: Value, W: Width>(archive: &[u8], from: usize, pairs: &mut [IndexN
 /// # Requires
 ///
 /// - The archive is valid: `open_index_numbers` returned `DONE`.
-pub fn index_numbers_from(
+/// - `header` is its decoded header.
+pub fn index_numbers_from<K: NumberKey, P: PairOf<K, u64>>(
     archive: &[u8],
     form: Form,
+    header: &Decoded,
     from: usize,
-    pairs: &mut [IndexNumberPair],
+    pairs: &mut [P],
 ) -> usize
-    requires { IsNumberIndex form archive.now }
-    ensures stores { StoresNumbers form archive.now from pairs.old result pairs.new }
-    ensures listed { StoresListedNumbers form archive.now from pairs.old result pairs.new }
+    requires archive { IsNumberIndex K.NumberKey form archive.now }
+    requires header { IsHeaderOf (number_index_in K.NumberKey form archive.now) header.now }
+    ensures stores { StoresNumbers K.NumberKey form archive.now from (map P.pair_of pairs.old)
+        result (map P.pair_of pairs.new) }
+    ensures listed { StoresListedNumbers K.NumberKey form archive.now from (map P.pair_of pairs.old)
+        result (map P.pair_of pairs.new) }
 {
     match (form.long_values, form.wide) {
-        (false, false) => pairs_in::<u32, Narrow>(archive, from, pairs),
-        (true, false) => pairs_in::<u64, Narrow>(archive, from, pairs),
-        (false, true) => pairs_in::<u32, Wide>(archive, from, pairs),
-        (true, true) => pairs_in::<u64, Wide>(archive, from, pairs),
+        (false, false) => {
+            pairs_in::<K, K, u64, u32, P, K, u32, Narrow>(archive, header, from, pairs)
+        }
+        (true, false) => pairs_in::<K, K, u64, u64, P, K, u64, Narrow>(
+            archive, header, from, pairs,
+        ),
+        (false, true) => pairs_in::<K, K, u64, u32, P, K, u32, Wide>(archive, header, from, pairs),
+        (true, true) => pairs_in::<K, K, u64, u64, P, K, u64, Wide>(archive, header, from, pairs),
     }
 }

@@ -1,13 +1,13 @@
 //! Lookup of a key's value, and its overwrite in place.
 
 ghost use Rattle.std.specs.Prelude.{IfSome, false, true, ◌≡◌};
-ghost use Rattle.rkyv_base.specs.Bytes.{number_at};
 ghost use Rattle.rkyv_base.specs.ElementSpec.{Viewable};
-ghost use Rattle.ffi_calls.specs.Archives.{Gives, IsHeaderOf, IsMapArchive, KeepsHeader, Sets};
+ghost use Rattle.ffi_calls.specs.Archives.{GivesAt, IsHeaderOf, IsMapArchive, KeepsHeader, Sets};
 ghost use Rattle.ffi_calls.specs.Archives.{map_in, value_found};
 ghost use Rattle.ffi_calls.specs.Lists.{GivesFirst, PosOfFirst, SetsFirstOf, asked_key};
 
 use crate::archives::{map_of, root_of};
+use crate::reading::{ReadAs, StoresNative};
 use crate::status::{DONE, NOT_FOUND, VALUE_TOO_LARGE};
 use crate::value::Value;
 use rkyv_base::element::Represents;
@@ -40,38 +40,33 @@ pub(crate) fn value_pos_in<
     found_pos(map_of::<K, V, W>(archive, header).get(key))
 }
 
-/// Returns the number at a position.
-#[inline]
-pub(crate) fn number_in<V: Value>(archive: &[u8], pos: u64) -> u64
-    requires { Viewable V.spec archive.now pos }
-    ensures { result ≡ number_at V.encoding.word archive.now pos }
-{
-    View::<V>::new(archive, pos).to_native().to_number()
-}
-
 /// Looks up a key in a valid archive, by its decoded header, and stores its value in `value`.
 ///
 /// # Errors
 ///
 /// - `NOT_FOUND`: the lookup doesn't find the key; `value` is unchanged then.
-pub(crate) fn get_in<A: NativeKey<K>, K: KeyElement + Represents<A>, V: Value, W: Width>(
-    archive: &[u8],
-    header: &Decoded,
-    key: &A,
-    value: &mut u64,
-) -> u32
+pub(crate) fn get_in<
+    'a,
+    A: NativeKey<K>,
+    X: Copy,
+    B,
+    K: KeyElement + Represents<A>,
+    V: ReadAs<'a, X> + StoresNative<X, B>,
+    W: Width,
+>(archive: &'a [u8], header: &Decoded, key: &A, value: &mut X) -> u32
     requires archive { IsMapArchive W.word W.LIMIT K.spec V.spec archive.now }
     requires header { IsHeaderOf (map_in W.word K.spec V.spec archive.now) header.now }
     requires query { A.can_read key.now }
-    ensures gives { Gives V.encoding.word archive.now
+    ensures gives { GivesAt (V.reads archive.now)
         (value_found (map_in W.word K.spec V.spec archive.now) (A.calls key.now)
         (A.fits key.now archive.now)) value.old result value.new }
     ensures listed { GivesFirst (map_in W.word K.spec V.spec archive.now)
-        (asked_key K.represents K.key_calls (A.eq key.now)) V.encoding value.old result value.new }
+        (asked_key K.represents K.key_calls (A.eq key.now)) V.represents V.is_of value.old result
+        value.new }
 {
-    match value_pos_in::<A, V, K, V, W>(archive, header, key) {
+    match value_pos_in::<A, B, K, V, W>(archive, header, key) {
         Some(pos) => {
-            *value = number_in::<V>(archive, pos);
+            *value = V::read_as(View::new(archive, pos));
             DONE
         }
         None => NOT_FOUND,

@@ -1,38 +1,34 @@
 //! Archives of pairs of numbers.
 
-ghost use Rattle.std.specs.Prelude.{MatchResult};
+ghost use Rattle.std.specs.Prelude.{MatchResult, map};
 ghost use Rattle.ffi_calls.specs.Items.{IsArchiveOfNumbers, ArchiveOfNumbersFails};
 ghost use Rattle.ffi_calls.specs.Items.{ArePairsOfNumbers, HandsOut, PairsOfNumbersFail};
-ghost use Rattle.ffi_calls.specs.Items.{NumbersMade, NumbersRefused};
+ghost use Rattle.ffi_calls.specs.Items.{WritesNumbers};
 ghost use Rattle.ffi_calls.specs.Lists.{archive_width};
 
 use crate::building::{Built, archive_of, hand_out};
 use crate::form::Form;
+use crate::pairs::PairOf;
+use crate::reading::NumberKey;
 use crate::status::{NO_MEMORY, VALUE_TOO_LARGE, write_refusal};
 use crate::value::Value;
 use rkyv_base::width::{Narrow, Wide, Width};
 use std::alloc::Global;
 
-/// A pair to be archived.
-#[repr(C)]
-#[derive(Clone, Copy)]
-pub struct NumberItem {
-    /// The value, which `build_numbers` rejects if it has more bits than the values of the map.
-    pub value: u64,
-    /// The key.
-    pub key: u32,
-}
-
 /// Returns the pairs of the items.
-pub(crate) fn pairs_of<V: Value>(alloc: Global, items: &[NumberItem]) -> Result<Vec<(u32, V)>, u32>
-    ensures { MatchResult result (λ pairs. ArePairsOfNumbers V.encoding items.now pairs.items)
-        (PairsOfNumbersFail V.encoding items.now) }
+pub(crate) fn pairs_of<K: Copy, V: Value, P: PairOf<K, u64>>(
+    alloc: Global,
+    items: &[P],
+) -> Result<Vec<(K, V)>, u32>
+    ensures { MatchResult result (λ pairs. ArePairsOfNumbers V.encoding (map P.pair_of items.now)
+        pairs.items) (PairsOfNumbersFail V.encoding (map P.pair_of items.now)) }
 {
     let mut pairs = match Vec::with_capacity(alloc, items.len()) {
         Ok(pairs) => pairs,
         Err(_) => return Err(NO_MEMORY),
     };
     for item in items {
+        let item = item.pair();
         let value = match V::of_number(item.value) {
             Some(value) => value,
             None => return Err(VALUE_TOO_LARGE),
@@ -46,31 +42,37 @@ pub(crate) fn pairs_of<V: Value>(alloc: Global, items: &[NumberItem]) -> Result<
 }
 
 /// Writes the archive of the items.
-fn archive_in<V: Value, W: Width>(alloc: Global, items: &[NumberItem]) -> Result<Vec<u8>, u32>
-    ensures { let width = archive_width W.Width in MatchResult result
-        (λ v. NumbersMade width V.spec V.encoding items.now v.items)
-        (NumbersRefused width V.spec V.encoding items.now) }
+fn archive_in<K: NumberKey, V: Value, W: Width, P: PairOf<K, u64>>(
+    alloc: Global,
+    items: &[P],
+) -> Result<Vec<u8>, u32>
+    ensures { WritesNumbers K.NumberKey (archive_width W.Width) V.spec V.encoding
+        (map P.pair_of items.now) result }
 {
-    let pairs = match pairs_of::<V>(alloc, items) {
+    let pairs = match pairs_of::<K, V, P>(alloc, items) {
         Ok(pairs) => pairs,
         Err(status) => return Err(status),
     };
-    match archive_of::<u32, V, W>(alloc, pairs.as_slice()) {
+    match archive_of::<K, V, W>(alloc, pairs.as_slice()) {
         Ok(archive) => Ok(archive),
         Err(error) => Err(write_refusal(&error)),
     }
 }
 
 /// Writes the archive of the items in the form.
-fn archive_by(alloc: Global, items: &[NumberItem], form: Form) -> Result<Vec<u8>, u32>
-    ensures { MatchResult result (λ v. IsArchiveOfNumbers form items.now v.items)
-        (ArchiveOfNumbersFails form items.now) }
+fn archive_by<K: NumberKey, P: PairOf<K, u64>>(
+    alloc: Global,
+    items: &[P],
+    form: Form,
+) -> Result<Vec<u8>, u32>
+    ensures { MatchResult result (λ v. IsArchiveOfNumbers K.NumberKey form (map P.pair_of items.now)
+        v.items) (ArchiveOfNumbersFails K.NumberKey form (map P.pair_of items.now)) }
 {
     match (form.long_values, form.wide) {
-        (false, false) => archive_in::<u32, Narrow>(alloc, items),
-        (true, false) => archive_in::<u64, Narrow>(alloc, items),
-        (false, true) => archive_in::<u32, Wide>(alloc, items),
-        (true, true) => archive_in::<u64, Wide>(alloc, items),
+        (false, false) => archive_in::<K, u32, Narrow, P>(alloc, items),
+        (true, false) => archive_in::<K, u64, Narrow, P>(alloc, items),
+        (false, true) => archive_in::<K, u32, Wide, P>(alloc, items),
+        (true, true) => archive_in::<K, u64, Wide, P>(alloc, items),
     }
 }
 
@@ -85,9 +87,15 @@ fn archive_by(alloc: Global, items: &[NumberItem], form: Form) -> Result<Vec<u8>
 /// - A status from 23 on: the write fails.
 ///
 /// After an error `built` is unchanged.
-pub fn build_numbers(alloc: Global, items: &[NumberItem], form: Form, built: &mut Built<'_>) -> u32
-    ensures { HandsOut (IsArchiveOfNumbers form items.now)
-        (ArchiveOfNumbersFails form items.now) built.old result built.new }
+pub fn build_numbers<K: NumberKey, P: PairOf<K, u64>>(
+    alloc: Global,
+    items: &[P],
+    form: Form,
+    built: &mut Built<'_>,
+) -> u32
+    ensures { HandsOut (IsArchiveOfNumbers K.NumberKey form (map P.pair_of items.now))
+        (ArchiveOfNumbersFails K.NumberKey form (map P.pair_of items.now)) built.old result
+        built.new }
 {
     hand_out(archive_by(alloc, items, form), built)
 }

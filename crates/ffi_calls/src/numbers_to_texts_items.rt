@@ -1,6 +1,6 @@
 //! Archives of pairs of numbers and texts.
 
-ghost use Rattle.std.specs.Prelude.{MatchResult};
+ghost use Rattle.std.specs.Prelude.{MatchResult, map};
 ghost use Rattle.ffi_calls.specs.Items.{HandsOut};
 ghost use Rattle.ffi_calls.specs.Lists.{archive_width};
 ghost use Rattle.ffi_calls.specs.TextItems.{ArchiveOfNumberTextsFails, AreNumberTexts};
@@ -8,31 +8,27 @@ ghost use Rattle.ffi_calls.specs.TextItems.{IsArchiveOfNumberTexts, NumberTextsF
 ghost use Rattle.ffi_calls.specs.TextItems.{NumberTextsMade, NumberTextsRefused};
 
 use crate::building::{Built, archive_of, hand_out};
+use crate::pairs::PairOf;
+use crate::reading::NumberKey;
 use crate::status::{NO_MEMORY, NOT_TEXT, write_refusal};
 use crate::texts::text_of;
 use rkyv_base::width::{Narrow, Wide, Width};
 use std::alloc::Global;
 
-/// A pair to be archived.
-#[repr(C)]
-#[derive(Clone, Copy)]
-pub struct NumberTextItem<'a> {
-    /// The value, which `build_numbers_to_texts` rejects if it isn't UTF-8.
-    pub value: &'a [u8],
-    /// The key.
-    pub key: u32,
-}
-
 /// Returns the pairs of the items.
-fn pairs_of<'a>(alloc: Global, items: &[NumberTextItem<'a>]) -> Result<Vec<(u32, &'a str)>, u32>
-    ensures { MatchResult result (λ pairs. AreNumberTexts items.now pairs.items)
-        (NumberTextsFail items.now) }
+pub(crate) fn pairs_of<'a, K: Copy, P: PairOf<K, &'a [u8]>>(
+    alloc: Global,
+    items: &[P],
+) -> Result<Vec<(K, &'a str)>, u32>
+    ensures { MatchResult result (λ pairs. AreNumberTexts (map P.pair_of items.now) pairs.items)
+        (NumberTextsFail (map P.pair_of items.now)) }
 {
     let mut pairs = match Vec::with_capacity(alloc, items.len()) {
         Ok(pairs) => pairs,
         Err(_) => return Err(NO_MEMORY),
     };
     for item in items {
+        let item = item.pair();
         let value = match text_of(item.value) {
             Some(value) => value,
             None => return Err(NOT_TEXT),
@@ -46,29 +42,37 @@ fn pairs_of<'a>(alloc: Global, items: &[NumberTextItem<'a>]) -> Result<Vec<(u32,
 }
 
 /// Writes the archive of the items.
-fn archive_in<W: Width>(alloc: Global, items: &[NumberTextItem<'_>]) -> Result<Vec<u8>, u32>
-    ensures { MatchResult result (λ v. NumberTextsMade (archive_width W.Width) items.now v.items)
-        (NumberTextsRefused (archive_width W.Width) items.now) }
+fn archive_in<'a, K: NumberKey, W: Width, P: PairOf<K, &'a [u8]>>(
+    alloc: Global,
+    items: &[P],
+) -> Result<Vec<u8>, u32>
+    ensures { MatchResult result (λ v. NumberTextsMade K.NumberKey (archive_width W.Width) (map
+        P.pair_of items.now) v.items) (NumberTextsRefused K.NumberKey (archive_width W.Width) (map
+        P.pair_of items.now)) }
 {
-    let pairs = match pairs_of(alloc, items) {
+    let pairs = match pairs_of::<K, P>(alloc, items) {
         Ok(pairs) => pairs,
         Err(status) => return Err(status),
     };
-    match archive_of::<u32, &str, W>(alloc, pairs.as_slice()) {
+    match archive_of::<K, &str, W>(alloc, pairs.as_slice()) {
         Ok(archive) => Ok(archive),
         Err(error) => Err(write_refusal(&error)),
     }
 }
 
 /// Writes the archive of the items, narrow or wide.
-fn archive_by(alloc: Global, items: &[NumberTextItem<'_>], wide: bool) -> Result<Vec<u8>, u32>
-    ensures { MatchResult result (λ v. IsArchiveOfNumberTexts wide items.now v.items)
-        (ArchiveOfNumberTextsFails wide items.now) }
+fn archive_by<'a, K: NumberKey, P: PairOf<K, &'a [u8]>>(
+    alloc: Global,
+    items: &[P],
+    wide: bool,
+) -> Result<Vec<u8>, u32>
+    ensures { MatchResult result (λ v. IsArchiveOfNumberTexts K.NumberKey wide (map P.pair_of
+        items.now) v.items) (ArchiveOfNumberTextsFails K.NumberKey wide (map P.pair_of items.now)) }
 {
     if wide {
-        archive_in::<Wide>(alloc, items)
+        archive_in::<K, Wide, P>(alloc, items)
     } else {
-        archive_in::<Narrow>(alloc, items)
+        archive_in::<K, Narrow, P>(alloc, items)
     }
 }
 
@@ -83,14 +87,15 @@ fn archive_by(alloc: Global, items: &[NumberTextItem<'_>], wide: bool) -> Result
 /// - A status from 23 on: the write fails.
 ///
 /// After an error `built` is unchanged.
-pub fn build_numbers_to_texts(
+pub fn build_numbers_to_texts<'a, K: NumberKey, P: PairOf<K, &'a [u8]>>(
     alloc: Global,
-    items: &[NumberTextItem<'_>],
+    items: &[P],
     wide: bool,
     built: &mut Built<'_>,
 ) -> u32
-    ensures { HandsOut (IsArchiveOfNumberTexts wide items.now)
-        (ArchiveOfNumberTextsFails wide items.now) built.old result built.new }
+    ensures { HandsOut (IsArchiveOfNumberTexts K.NumberKey wide (map P.pair_of items.now))
+        (ArchiveOfNumberTextsFails K.NumberKey wide (map P.pair_of items.now)) built.old result
+        built.new }
 {
     hand_out(archive_by(alloc, items, wide), built)
 }

@@ -2,35 +2,24 @@
 //!
 //! `open_text_set` validates an archive; the other calls require a valid one.
 
-ghost use Rattle.std.specs.Prelude.{◌≡◌};
+ghost use Rattle.std.specs.Prelude.{map, ◌≡◌};
 ghost use Rattle.std.specs.Str.{IsUtf8};
-ghost use Rattle.rkyv_base.specs.Empty.{unit_spec};
-ghost use Rattle.rkyv_base.specs.Text.{text_spec};
-ghost use Rattle.ffi_calls.specs.Archives.{IsHeaderOf, IsMapArchive, Opens, limit_of};
+ghost use Rattle.ffi_calls.specs.Archives.{IsHeaderOf, Opens, limit_of};
 ghost use Rattle.ffi_calls.specs.Explanation.{Explains};
 ghost use Rattle.ffi_calls.specs.Sets.{FindsListedText, FindsText, IsFoundStatus, IsTextSet};
-ghost use Rattle.ffi_calls.specs.Sets.{NextTextMember, NextTextMembers, member_found, set_in};
-ghost use Rattle.ffi_calls.specs.Sets.{text_set, text_set_in};
+ghost use Rattle.ffi_calls.specs.Sets.{StoresNextTextMembers, member_found, text_set};
+ghost use Rattle.ffi_calls.specs.Sets.{text_set_in};
 
 use crate::archives::{header_of, open_map};
 use crate::explanation::{Explanation, explain_map};
+use crate::pairs::StepOf;
 use crate::sets::contains_in;
-use crate::status::{DONE, END, NOT_TEXT};
-use crate::texts::{key_in, text_of};
-use crate::walk::next_bucket;
+use crate::status::NOT_TEXT;
+use crate::texts::text_of;
+use crate::walk::next_pairs_in;
 use rkyv_base::text::Text;
-use rkyv_base::width::{Narrow, Wide, Width};
+use rkyv_base::width::{Narrow, Wide};
 use rkyv_table::table::decoded::Decoded;
-
-/// An item of a set, and the bucket at which a walk continues.
-#[repr(C)]
-#[derive(Clone, Copy)]
-pub struct TextMember<'a> {
-    /// The bucket at which the walk continues: 0 at the beginning.
-    pub next: u64,
-    /// The bytes of the item, which are borrowed from the archive.
-    pub item: &'a [u8],
-}
 
 /// Validates the archive of a set of texts.
 ///
@@ -112,77 +101,6 @@ pub fn contains_text(archive: &[u8], wide: bool, header: &Decoded, item: &[u8]) 
     }
 }
 
-/// Stores the next item of the set at the root of an archive, or returns `END`.
-fn next_in<'a, W: Width>(archive: &'a [u8], header: &Decoded, member: &mut TextMember<'a>) -> u32
-    requires archive { IsMapArchive W.word W.LIMIT (text_spec W.word) unit_spec archive.now }
-    requires header { IsHeaderOf (set_in W.word (text_spec W.word) archive.now) header.now }
-    ensures { NextTextMember (set_in W.word (text_spec W.word) archive.now) member.old result
-        member.new }
-{
-    let found = match next_bucket::<Text<W>, (), W>(archive, header, member.next) {
-        Some(found) => found,
-        None => return END,
-    };
-    let item = key_in::<(), W>(archive, found.pos);
-    *member = TextMember {
-        next: found.bucket + 1,
-        item,
-    };
-    DONE
-}
-
-/// Stores the next item, in bucket order, in `member`.
-///
-/// # Errors
-///
-/// - `END`: no item remains; `member` is unchanged then.
-///
-/// # Requires
-///
-/// - The archive is valid: `open_text_set` returned `DONE`.
-/// - `header` is its decoded header.
-pub fn next_text_member<'a>(
-    archive: &'a [u8],
-    wide: bool,
-    header: &Decoded,
-    member: &mut TextMember<'a>,
-) -> u32
-    requires archive { IsTextSet wide archive.now }
-    requires header { IsHeaderOf (text_set_in wide archive.now) header.now }
-    ensures { NextTextMember (text_set_in wide archive.now) member.old result member.new }
-{
-    if wide {
-        next_in::<Wide>(archive, header, member)
-    } else {
-        next_in::<Narrow>(archive, header, member)
-    }
-}
-
-/// Stores the next items of the set in a valid archive, and returns their number.
-fn next_members_in<'a, W: Width>(
-    archive: &'a [u8],
-    header: &Decoded,
-    from: u64,
-    members: &mut [TextMember<'a>],
-) -> usize
-    requires archive { IsMapArchive W.word W.LIMIT (text_spec W.word) unit_spec archive.now }
-    requires header { IsHeaderOf (set_in W.word (text_spec W.word) archive.now) header.now }
-    ensures { NextTextMembers (set_in W.word (text_spec W.word) archive.now) from members.old result
-        members.new }
-{
-    let mut member = TextMember {
-        next: from,
-        item: &[],
-    };
-    for count in 0..members.len() {
-        if next_in::<W>(archive, header, &mut member) == END {
-            return count;
-        }
-        members[count] = member;
-    }
-    members.len()
-}
-
 /// Stores the next items from the bucket `from` on, in bucket order, and returns their number.
 ///
 /// If fewer items are stored than `members` has room for, no item remains. Otherwise a next call
@@ -192,21 +110,21 @@ fn next_members_in<'a, W: Width>(
 ///
 /// - The archive is valid: `open_text_set` returned `DONE`.
 /// - `header` is its decoded header.
-pub fn next_text_members<'a>(
+pub fn next_text_members<'a, S: StepOf<&'a [u8], ()>>(
     archive: &'a [u8],
     wide: bool,
     header: &Decoded,
     from: u64,
-    members: &mut [TextMember<'a>],
+    members: &mut [S],
 ) -> usize
     requires archive { IsTextSet wide archive.now }
     requires header { IsHeaderOf (text_set_in wide archive.now) header.now }
-    ensures { NextTextMembers (text_set_in wide archive.now) from members.old result
-        members.new }
+    ensures { StoresNextTextMembers wide archive.now from (map S.step_of members.old) result (map
+        S.step_of members.new) }
 {
     if wide {
-        next_members_in::<Wide>(archive, header, from, members)
+        next_pairs_in::<&[u8], (), S, Text<Wide>, (), Wide>(archive, header, from, members)
     } else {
-        next_members_in::<Narrow>(archive, header, from, members)
+        next_pairs_in::<&[u8], (), S, Text<Narrow>, (), Narrow>(archive, header, from, members)
     }
 }

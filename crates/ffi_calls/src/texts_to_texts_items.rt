@@ -1,6 +1,6 @@
 //! Archives of pairs of texts and texts.
 
-ghost use Rattle.std.specs.Prelude.{MatchResult};
+ghost use Rattle.std.specs.Prelude.{MatchResult, map};
 ghost use Rattle.ffi_calls.specs.Items.{HandsOut};
 ghost use Rattle.ffi_calls.specs.Lists.{archive_width};
 ghost use Rattle.ffi_calls.specs.TextItems.{ArchiveOfTextTextsFails, AreTextTexts};
@@ -8,31 +8,26 @@ ghost use Rattle.ffi_calls.specs.TextItems.{IsArchiveOfTextTexts, TextTextsFail}
 ghost use Rattle.ffi_calls.specs.TextItems.{TextTextsMade, TextTextsRefused};
 
 use crate::building::{Built, archive_of, hand_out};
+use crate::pairs::PairOf;
 use crate::status::{NO_MEMORY, NOT_TEXT, write_refusal};
 use crate::texts::text_of;
 use rkyv_base::width::{Narrow, Wide, Width};
 use std::alloc::Global;
 
-/// A pair to be archived.
-#[repr(C)]
-#[derive(Clone, Copy)]
-pub struct TextTextItem<'a> {
-    /// The key, which `build_texts_to_texts` rejects if it isn't UTF-8.
-    pub key: &'a [u8],
-    /// The value, which `build_texts_to_texts` rejects if it isn't UTF-8.
-    pub value: &'a [u8],
-}
-
 /// Returns the pairs of the items.
-fn pairs_of<'a>(alloc: Global, items: &[TextTextItem<'a>]) -> Result<Vec<(&'a str, &'a str)>, u32>
-    ensures { MatchResult result (λ pairs. AreTextTexts items.now pairs.items)
-        (TextTextsFail items.now) }
+pub(crate) fn pairs_of<'a, P: PairOf<&'a [u8], &'a [u8]>>(
+    alloc: Global,
+    items: &[P],
+) -> Result<Vec<(&'a str, &'a str)>, u32>
+    ensures { MatchResult result (λ pairs. AreTextTexts (map P.pair_of items.now) pairs.items)
+        (TextTextsFail (map P.pair_of items.now)) }
 {
     let mut pairs = match Vec::with_capacity(alloc, items.len()) {
         Ok(pairs) => pairs,
         Err(_) => return Err(NO_MEMORY),
     };
     for item in items {
+        let item = item.pair();
         let key = match text_of(item.key) {
             Some(key) => key,
             None => return Err(NOT_TEXT),
@@ -50,11 +45,14 @@ fn pairs_of<'a>(alloc: Global, items: &[TextTextItem<'a>]) -> Result<Vec<(&'a st
 }
 
 /// Writes the archive of the items.
-fn archive_in<W: Width>(alloc: Global, items: &[TextTextItem<'_>]) -> Result<Vec<u8>, u32>
-    ensures { MatchResult result (λ v. TextTextsMade (archive_width W.Width) items.now v.items)
-        (TextTextsRefused (archive_width W.Width) items.now) }
+fn archive_in<'a, W: Width, P: PairOf<&'a [u8], &'a [u8]>>(
+    alloc: Global,
+    items: &[P],
+) -> Result<Vec<u8>, u32>
+    ensures { MatchResult result (λ v. TextTextsMade (archive_width W.Width) (map P.pair_of
+        items.now) v.items) (TextTextsRefused (archive_width W.Width) (map P.pair_of items.now)) }
 {
-    let pairs = match pairs_of(alloc, items) {
+    let pairs = match pairs_of::<P>(alloc, items) {
         Ok(pairs) => pairs,
         Err(status) => return Err(status),
     };
@@ -65,14 +63,18 @@ fn archive_in<W: Width>(alloc: Global, items: &[TextTextItem<'_>]) -> Result<Vec
 }
 
 /// Writes the archive of the items, narrow or wide.
-fn archive_by(alloc: Global, items: &[TextTextItem<'_>], wide: bool) -> Result<Vec<u8>, u32>
-    ensures { MatchResult result (λ v. IsArchiveOfTextTexts wide items.now v.items)
-        (ArchiveOfTextTextsFails wide items.now) }
+fn archive_by<'a, P: PairOf<&'a [u8], &'a [u8]>>(
+    alloc: Global,
+    items: &[P],
+    wide: bool,
+) -> Result<Vec<u8>, u32>
+    ensures { MatchResult result (λ v. IsArchiveOfTextTexts wide (map P.pair_of items.now) v.items)
+        (ArchiveOfTextTextsFails wide (map P.pair_of items.now)) }
 {
     if wide {
-        archive_in::<Wide>(alloc, items)
+        archive_in::<Wide, P>(alloc, items)
     } else {
-        archive_in::<Narrow>(alloc, items)
+        archive_in::<Narrow, P>(alloc, items)
     }
 }
 
@@ -87,14 +89,14 @@ fn archive_by(alloc: Global, items: &[TextTextItem<'_>], wide: bool) -> Result<V
 /// - A status from 23 on: the write fails.
 ///
 /// After an error `built` is unchanged.
-pub fn build_texts_to_texts(
+pub fn build_texts_to_texts<'a, P: PairOf<&'a [u8], &'a [u8]>>(
     alloc: Global,
-    items: &[TextTextItem<'_>],
+    items: &[P],
     wide: bool,
     built: &mut Built<'_>,
 ) -> u32
-    ensures { HandsOut (IsArchiveOfTextTexts wide items.now)
-        (ArchiveOfTextTextsFails wide items.now) built.old result built.new }
+    ensures { HandsOut (IsArchiveOfTextTexts wide (map P.pair_of items.now))
+        (ArchiveOfTextTextsFails wide (map P.pair_of items.now)) built.old result built.new }
 {
     hand_out(archive_by(alloc, items, wide), built)
 }

@@ -1,16 +1,15 @@
 //! A walk over the pairs of a map, from any bucket on.
 
-ghost use Rattle.std.specs.Prelude.{IfSome, length, slice_range, ◌*◌};
+ghost use Rattle.std.specs.Prelude.{IfSome, length, map, slice_range, ◌*◌};
 ghost use Rattle.std.specs.Prelude.{◌+◌, ◌-◌, ◌<◌, ◌^◌, ◌≡◌, ◌≤◌};
-ghost use Rattle.rkyv_base.specs.Bytes.{number_at};
 ghost use Rattle.rkyv_base.specs.Entry.{entry_spec};
-ghost use Rattle.rkyv_base.specs.Sealing.{value_pos};
 ghost use Rattle.rkyv_base.specs.ElementSpec.{Viewable};
 ghost use Rattle.rkyv_table.specs.Controls.Numbers.{control_count};
-ghost use Rattle.ffi_calls.specs.Archives.{IsHeaderOf, IsMapArchive, IsPairAt, map_in};
-ghost use Rattle.ffi_calls.specs.Walking.{IsNextBucket};
+ghost use Rattle.ffi_calls.specs.Archives.{IsHeaderOf, IsMapArchive, map_in};
+ghost use Rattle.ffi_calls.specs.Walking.{FindsNextPair, IsNextBucket, StoresNextPairs};
 
-use crate::value::Value;
+use crate::pairs::{Pair, Step, StepOf};
+use crate::reading::ReadAs;
 use rkyv_base::element::Element;
 use rkyv_base::entry::Entry;
 use rkyv_base::view::View;
@@ -49,7 +48,7 @@ fn pos_before(item: usize, bucket: usize, size: usize) -> u64
 /// Returns the first full bucket from `from` on, in the map in a valid archive, with the position
 /// of its pair.
 #[inline]
-pub(crate) fn next_bucket<K: Element, V: Element, W: Width>(
+fn next_bucket<K: Element, V: Element, W: Width>(
     archive: &[u8],
     header: &Decoded,
     from: u64,
@@ -77,12 +76,55 @@ pub(crate) fn next_bucket<K: Element, V: Element, W: Width>(
     }
 }
 
-/// Returns the value of the pair at a position, as a number of 64 bits.
+/// Returns the step to the first pair from the bucket `from` on, or `None` if no pair remains.
 #[inline]
-pub(crate) fn value_in<K: Element, V: Value>(archive: &[u8], pos: u64) -> u64
-    requires { IsPairAt K.spec V.spec archive.now pos }
-    ensures { result ≡ number_at V.encoding.word archive.now (value_pos K.spec V.spec pos) }
+fn next_in<'a, X, Y, K: ReadAs<'a, X>, V: ReadAs<'a, Y>, W: Width>(
+    archive: &'a [u8],
+    header: &Decoded,
+    from: u64,
+) -> Option<Step<Pair<X, Y>>>
+    requires archive { IsMapArchive W.word W.LIMIT K.spec V.spec archive.now }
+    requires header { IsHeaderOf (map_in W.word K.spec V.spec archive.now) header.now }
+    ensures { FindsNextPair (map_in W.word K.spec V.spec archive.now) K.reads V.reads from result }
 {
-    let entry: View<'_, Entry<K, V>> = View::new(archive, pos);
-    entry.value().to_native().to_number()
+    let item = match next_bucket::<K, V, W>(archive, header, from) {
+        Some(item) => item,
+        None => return None,
+    };
+    let entry: View<'_, Entry<K, V>> = View::new(archive, item.pos);
+    Some(Step {
+        next: item.bucket + 1,
+        pair: Pair {
+            value: V::read_as(entry.value()),
+            key: K::read_as(entry.key()),
+        },
+    })
+}
+
+/// Stores the next pairs of the map in a valid archive, from a bucket on, and returns their number.
+pub(crate) fn next_pairs_in<
+    'a,
+    X: Copy,
+    Y: Copy,
+    S: StepOf<X, Y>,
+    K: ReadAs<'a, X>,
+    V: ReadAs<'a, Y>,
+    W: Width,
+>(archive: &'a [u8], header: &Decoded, from: u64, pairs: &mut [S]) -> usize
+    requires archive { IsMapArchive W.word W.LIMIT K.spec V.spec archive.now }
+    requires header { IsHeaderOf (map_in W.word K.spec V.spec archive.now) header.now }
+    ensures { StoresNextPairs (map_in W.word K.spec V.spec archive.now) K.reads V.reads from
+        (map S.step_of pairs.old) result (map S.step_of pairs.new) }
+{
+    let mut next = from;
+    for count in 0..pairs.len() {
+        match next_in::<X, Y, K, V, W>(archive, header, next) {
+            Some(step) => {
+                next = step.next;
+                pairs[count] = S::of_step(step);
+            }
+            None => return count,
+        }
+    }
+    pairs.len()
 }

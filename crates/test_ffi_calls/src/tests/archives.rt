@@ -35,7 +35,10 @@ pub const WIDE_LONG: Form = Form {
 // Control byte 0 is 32 bytes before it.
 pub(crate) const HEADER: [u8; 13] = [0, 0xe0, 0xff, 0xff, 0xff, 1, 0, 0, 0, 2, 0, 0, 0];
 
-// The header of a wide map, likewise.
+// The header of a narrow map of two pairs in three buckets, likewise.
+pub(crate) const HEADER_OF_TWO: [u8; 13] = [0, 0xe0, 0xff, 0xff, 0xff, 2, 0, 0, 0, 3, 0, 0, 0];
+
+// The header of a wide map of one pair in two buckets, likewise.
 pub(crate) const WIDE_HEADER: [u8; 25] = [
     0, 0xe0, 0xff, 0xff, 0xff, 0xff, 0xff, 0xff, 0xff, 1, 0, 0, 0, 0, 0, 0, 0, 2, 0, 0, 0, 0, 0, 0,
     0,
@@ -61,11 +64,48 @@ pub fn one_wide_long_number() -> [u8; 88] {
     archive(&LONG_BUCKETS, &WIDE_HEADER)
 }
 
+/// Returns the map of the pairs 1 and 2, and 1 and 9, with values of 32 bits.
+///
+/// Buckets from 0 on, controls from 24 on, header at 56. The home of both pairs is bucket 0, so the
+/// second is in bucket 1.
+pub fn one_number_twice() -> [u8; 68] {
+    let front = [
+        0, 0, 0, 0, 0, 0, 0, 0, // bucket 2
+        1, 0, 0, 0, 9, 0, 0, 0, // bucket 1
+        1, 0, 0, 0, 2, 0, 0, 0, // bucket 0
+        0x28, 0x28, 0xff, 0x28, 0x28,
+    ];
+    archive(&front, &HEADER_OF_TWO)
+}
+
+/// Returns the map of the pairs 1 and 2, and 4,294,967,297 and 9, with keys of 64 bits.
+///
+/// Buckets from 0 on, controls from 48 on, header at 80. The home of both pairs is bucket 0, so the
+/// second is in bucket 1. The bytes are the same in both widths of values.
+pub fn two_long_numbers() -> [u8; 92] {
+    let front = [
+        0, 0, 0, 0, 0, 0, 0, 0, 0, 0, 0, 0, 0, 0, 0, 0, // bucket 2
+        1, 0, 0, 0, 1, 0, 0, 0, 9, 0, 0, 0, 0, 0, 0, 0, // bucket 1
+        1, 0, 0, 0, 0, 0, 0, 0, 2, 0, 0, 0, 0, 0, 0, 0, // bucket 0
+        0x28, 0x3c, 0xff, 0x28, 0x3c,
+    ];
+    archive(&front, &HEADER_OF_TWO)
+}
+
 /// Returns the map of 4,294,967,297 to 2, with a key of 64 bits, and a value of 32 or of 64 bits.
 ///
 /// Its hash is 789ecc4c27220a95, with the tag 3c. Buckets, controls and header are as above.
 pub fn one_great_number() -> [u8; 76] {
     let mut bytes = one_long_number();
+    bytes[4] = 1;
+    bytes[33] = 0x3c;
+    bytes[35] = 0x3c;
+    bytes
+}
+
+/// Returns the wide map of 4,294,967,297 to 2, likewise.
+pub fn one_wide_great_number() -> [u8; 88] {
+    let mut bytes = one_wide_long_number();
     bytes[4] = 1;
     bytes[33] = 0x3c;
     bytes[35] = 0x3c;
@@ -81,6 +121,20 @@ pub fn empty_text() -> [u8; 68] {
         0, 0, 0xff, 0x15, 0xff, 0x15,
     ];
     archive(&front, &HEADER)
+}
+
+/// Returns the map of the pairs of the empty text and 7, and of the empty text and 8.
+///
+/// Buckets from 0 on, controls from 36 on, header at 68. The home of both pairs is bucket 0, so the
+/// second is in bucket 1.
+pub fn empty_text_twice() -> [u8; 80] {
+    let front = [
+        0, 0, 0, 0, 0, 0, 0, 0, 0, 0, 0, 0, // bucket 2
+        0xff, 0xff, 0xff, 0xff, 0xff, 0xff, 0xff, 0xff, 8, 0, 0, 0, // bucket 1
+        0xff, 0xff, 0xff, 0xff, 0xff, 0xff, 0xff, 0xff, 7, 0, 0, 0, // bucket 0
+        0x15, 0x15, 0xff, 0x15, 0x15,
+    ];
+    archive(&front, &HEADER_OF_TWO)
 }
 
 /// Returns the wide map of the empty text to 7, whose bytes are the same in both widths of values.

@@ -1,6 +1,9 @@
 //! Tests of the first error of an archive or a container, with its position and its numbers.
 
-use crate::tests::archives::{LONG, SHORT, WIDE, WIDE_LONG};
+use crate::tests::archives::{
+    LONG, SHORT, WIDE, WIDE_LONG, empty_text, empty_wide_text, one_great_number, one_long_number,
+    one_wide_great_number, one_wide_long_number,
+};
 use crate::tests::containers::{TEXTS, map};
 use ffi_calls::containers::explain_container;
 use ffi_calls::explanation::Explanation;
@@ -24,7 +27,17 @@ fn numbers_of(explanation: Explanation) -> Numbers {
 
 // Explains the bytes as a map of numbers.
 fn of_numbers(bytes: &[u8], form: Form) -> Numbers {
-    numbers_of(explain_numbers(bytes, form))
+    numbers_of(explain_numbers::<u32>(bytes, form))
+}
+
+// Explains the bytes as a map of numbers of 64 bits.
+fn of_long_numbers(bytes: &[u8], form: Form) -> Numbers {
+    numbers_of(explain_numbers::<u64>(bytes, form))
+}
+
+// Explains the bytes as a map of texts.
+fn of_texts(bytes: &[u8], form: Form) -> Numbers {
+    numbers_of(explain_texts(bytes, form))
 }
 
 // Explains the map of 1 to 2 with another byte at `pos`.
@@ -44,7 +57,7 @@ fn symbol_with(pos: usize, byte: u8) -> Numbers {
         Some(old) => *old = byte,
         None => {}
     }
-    numbers_of(explain_texts(&bytes, LONG))
+    of_texts(&bytes, LONG)
 }
 
 // Explains the container of three bytes with another byte at `pos`.
@@ -61,21 +74,42 @@ fn container_with(pos: usize, byte: u8) -> Numbers {
 fn valid_archives_have_no_error(rt: HostRuntime) {
     assert_eq!(rt; of_numbers(&no_items(), SHORT), (0, 0, 0, 0));
     assert_eq!(rt; of_numbers(&one_number(), SHORT), (0, 0, 0, 0));
+    assert_eq!(rt; of_numbers(&one_long_number(), LONG), (0, 0, 0, 0));
     assert_eq!(rt; of_numbers(&one_wide_number(), WIDE), (0, 0, 0, 0));
     assert_eq!(rt;
-        numbers_of(explain_texts(&one_symbol(), LONG)),
+        of_numbers(&one_wide_long_number(), WIDE_LONG),
         (0, 0, 0, 0)
     );
+}
+
+#[test]
+fn valid_archives_of_long_numbers_have_no_error(rt: HostRuntime) {
+    assert_eq!(rt; of_long_numbers(&one_long_number(), SHORT), (0, 0, 0, 0));
+    assert_eq!(rt; of_long_numbers(&one_great_number(), LONG), (0, 0, 0, 0));
+    assert_eq!(rt;
+        of_long_numbers(&one_wide_long_number(), WIDE),
+        (0, 0, 0, 0)
+    );
+    assert_eq!(rt;
+        of_long_numbers(&one_wide_great_number(), WIDE_LONG),
+        (0, 0, 0, 0)
+    );
+}
+
+#[test]
+fn valid_archives_of_texts_have_no_error(rt: HostRuntime) {
+    assert_eq!(rt; of_texts(&empty_text(), SHORT), (0, 0, 0, 0));
+    assert_eq!(rt; of_texts(&one_symbol(), LONG), (0, 0, 0, 0));
+    assert_eq!(rt; of_texts(&empty_wide_text(), WIDE), (0, 0, 0, 0));
+    assert_eq!(rt; of_texts(&empty_wide_text(), WIDE_LONG), (0, 0, 0, 0));
 }
 
 #[test]
 fn roots_out_of_range_have_a_position_and_a_size(rt: HostRuntime) {
     assert_eq!(rt; of_numbers(&[], SHORT), (16, -12, 12, 0));
     assert_eq!(rt; of_numbers(&[0; 11], LONG), (16, -1, 12, 0));
-    assert_eq!(rt;
-        numbers_of(explain_texts(&[0; 23], WIDE_LONG)),
-        (16, -1, 24, 0)
-    );
+    assert_eq!(rt; of_texts(&[0; 23], WIDE_LONG), (16, -1, 24, 0));
+    assert_eq!(rt; of_long_numbers(&[0; 23], WIDE), (16, -1, 24, 0));
 }
 
 // The buckets have 16 bytes, and the control bytes 31.

@@ -1,8 +1,9 @@
 //! Archives of index maps of known bytes.
 //!
 //! The comment of an archive has the position of each part: of the buckets of its table of indices,
-//! the control bytes, the entries and the header. The tag of the number 1 is 28, of 5 it is 4b, of
-//! the empty text 15, of `main` 38, of `a text out of line` 44, and of `b` 53.
+//! the control bytes, the entries and the header. The tag of the number 1 is 28, that of 5 is 4b,
+//! that of 4,294,967,297 is 3c, and that of the empty text is 15. Those of `main`,
+//! `a text out of line` and `b` are 38, 44 and 53.
 
 use test_support::archives::archive;
 
@@ -29,6 +30,8 @@ pub fn one_number() -> [u8; 64] {
 }
 
 /// Returns the index map of 1 to 2, with a value of 64 bits.
+///
+/// The bytes are the same for a key of 64 bits, and for one with a value of 32 bits.
 ///
 /// Buckets from 0 on, controls from 8 on, entries from 40 on, header at 56.
 pub fn one_long_number() -> [u8; 72] {
@@ -58,6 +61,8 @@ pub fn one_wide_number() -> [u8; 88] {
 
 /// Returns the wide index map of 1 to 2, with a value of 64 bits.
 ///
+/// The bytes are the same for a key of 64 bits, and for one with a value of 32 bits.
+///
 /// Buckets from 0 on, controls from 16 on, entries from 48 on, header at 64.
 pub fn one_wide_long_number() -> [u8; 96] {
     archive(
@@ -86,6 +91,35 @@ pub fn one_number_twice() -> [u8; 88] {
             0xff, 0xff, 3, 0, 0, 0, 4, 0, 0, 0, 0xdc, 0xff, 0xff, 0xff,
         ],
     )
+}
+
+/// Returns the index map of the pairs 1 and 2, 4,294,967,297 and 6, and 1 and 9.
+///
+/// The keys have 64 bits. Buckets from 0 on, controls from 16 on, entries from 48 on, header at 96.
+/// The home of each pair is bucket 1. The bytes are the same in both widths of values.
+pub fn long_number_twice() -> [u8; 112] {
+    archive(
+        &[
+            2, 0, 0, 0, 1, 0, 0, 0, 0, 0, 0, 0, 0, 0, 0, 0, 0xff, 0x28, 0x3c, 0x28, 0xff, 0x28,
+            0x3c, 0x28,
+        ],
+        &[
+            0, 1, 0, 0, 0, 0, 0, 0, 0, 2, 0, 0, 0, 0, 0, 0, 0, 1, 0, 0, 0, 1, 0, 0, 0, 6, 0, 0, 0,
+            0, 0, 0, 0, 1, 0, 0, 0, 0, 0, 0, 0, 9, 0, 0, 0, 0, 0, 0, 0, 0xb0, 0xff, 0xff, 0xff, 3,
+            0, 0, 0, 4, 0, 0, 0, 0xc4, 0xff, 0xff, 0xff,
+        ],
+    )
+}
+
+/// Returns the wide index map of 4,294,967,297 to 2, with a key of 64 bits.
+///
+/// Buckets, controls, entries and header are as for 1.
+pub fn one_wide_great_number() -> [u8; 96] {
+    let mut bytes = one_wide_long_number();
+    bytes[17] = 0x3c;
+    bytes[19] = 0x3c;
+    bytes[52] = 1;
+    bytes
 }
 
 /// Returns the index map of the empty text to 7.

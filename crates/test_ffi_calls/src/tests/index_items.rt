@@ -2,20 +2,29 @@
 
 use crate::tests::archives::{LONG, SHORT, WIDE, WIDE_LONG};
 use crate::tests::index_archives::{
-    NO_PAIRS, NO_WIDE_PAIRS, empty_text, empty_wide_text, one_long_number, one_number,
-    one_number_twice, one_symbol, one_wide_long_number, one_wide_number, two_texts,
+    NO_PAIRS, NO_WIDE_PAIRS, empty_text, empty_wide_text, long_number_twice, one_long_number,
+    one_number, one_number_twice, one_symbol, one_wide_great_number, one_wide_long_number,
+    one_wide_number, two_texts,
 };
 use ffi_calls::building::Built;
 use ffi_calls::form::Form;
 use ffi_calls::index_items::{build_index_numbers, build_index_texts};
-use ffi_calls::number_items::NumberItem;
+use ffi_calls::pairs::Pair;
+use ffi_calls::reading::NumberKey;
 use ffi_calls::status::DONE;
-use ffi_calls::text_items::TextItem;
 use std::alloc::Global;
+
+// The number whose low 32 bits are 1, and whose high 32 bits are 1.
+const GREAT: u64 = 0x1_0000_0001;
 
 // Returns the status of a write of the items, and whether `built` has `bytes` if it is 0.
 // After an error the flag is whether `built` is unchanged.
-fn numbers(alloc: Global, items: &[NumberItem], form: Form, bytes: &[u8]) -> (u32, bool) {
+fn numbers<K: NumberKey>(
+    alloc: Global,
+    items: &[Pair<K, u64>],
+    form: Form,
+    bytes: &[u8],
+) -> (u32, bool) {
     let mut before = [1, 2];
     let mut built = Built { bytes: &mut before };
     let status = build_index_numbers(alloc, items, form, &mut built);
@@ -26,11 +35,24 @@ fn numbers(alloc: Global, items: &[NumberItem], form: Form, bytes: &[u8]) -> (u3
 
 // Writes the pair of 1 and 2.
 fn one(alloc: Global, form: Form, bytes: &[u8]) -> (u32, bool) {
-    numbers(alloc, &[NumberItem { value: 2, key: 1 }], form, bytes)
+    numbers(
+        alloc,
+        &[Pair {
+            value: 2,
+            key: 1u32,
+        }],
+        form,
+        bytes,
+    )
+}
+
+// Writes the pair of a key of 64 bits and a value.
+fn long(alloc: Global, form: Form, key: u64, value: u64, bytes: &[u8]) -> (u32, bool) {
+    numbers(alloc, &[Pair { value, key }], form, bytes)
 }
 
 // Does the same with the items of texts.
-fn texts(alloc: Global, items: &[TextItem<'_>], form: Form, bytes: &[u8]) -> (u32, bool) {
+fn texts(alloc: Global, items: &[Pair<&[u8], u64>], form: Form, bytes: &[u8]) -> (u32, bool) {
     let mut before = [1, 2];
     let mut built = Built { bytes: &mut before };
     let status = build_index_texts(alloc, items, form, &mut built);
@@ -41,7 +63,7 @@ fn texts(alloc: Global, items: &[TextItem<'_>], form: Form, bytes: &[u8]) -> (u3
 
 // Writes one pair of a text.
 fn text(alloc: Global, form: Form, key: &[u8], value: u64, bytes: &[u8]) -> (u32, bool) {
-    texts(alloc, &[TextItem { key, value }], form, bytes)
+    texts(alloc, &[Pair { key, value }], form, bytes)
 }
 
 // Returns whether the result is that of the archive, or of an allocation that fails.
@@ -54,6 +76,7 @@ fn pairs_have_their_bytes_or_no_memory(rt: HostRuntime) {
     let alloc = rt.alloc();
     assert!(rt; is_permitted(one(alloc, SHORT, &one_number())));
     assert!(rt; is_permitted(one(alloc, WIDE_LONG, &one_wide_long_number())));
+    assert!(rt; is_permitted(long(alloc, WIDE, GREAT, 2, &one_wide_great_number())));
     assert!(rt; is_permitted(text(alloc, LONG, b"main", 4096, &one_symbol())));
     assert!(rt; is_permitted(text(alloc, WIDE, b"", 7, &empty_wide_text())));
 }
@@ -70,14 +93,46 @@ fn one_number_succeeds(rt: HostRuntime) {
 }
 
 #[test]
-fn equal_keys_succeeds(rt: HostRuntime) {
+fn one_long_number_succeeds(rt: HostRuntime) {
+    let alloc = rt.alloc();
+    let done = (0, true);
+    assert_eq!(rt; long(alloc, SHORT, 1, 2, &one_long_number()), done);
+    assert_eq!(rt; long(alloc, LONG, 1, 2, &one_long_number()), done);
+    assert_eq!(rt; long(alloc, WIDE, 1, 2, &one_wide_long_number()), done);
+    assert_eq!(rt; long(alloc, WIDE_LONG, 1, 2, &one_wide_long_number()), done);
+    assert_eq!(rt;
+        long(alloc, WIDE_LONG, GREAT, 2, &one_wide_great_number()),
+        done
+    );
+}
+
+#[test]
+fn a_write_of_equal_keys_succeeds(rt: HostRuntime) {
     let items = [
-        NumberItem { value: 2, key: 1 },
-        NumberItem { value: 6, key: 5 },
-        NumberItem { value: 9, key: 1 },
+        Pair {
+            value: 2,
+            key: 1u32,
+        },
+        Pair { value: 6, key: 5 },
+        Pair { value: 9, key: 1 },
     ];
     assert_eq!(rt;
         numbers(rt.alloc(), &items, SHORT, &one_number_twice()),
+        (0, true)
+    );
+    let items = [
+        Pair {
+            value: 2,
+            key: 1u64,
+        },
+        Pair {
+            value: 6,
+            key: GREAT,
+        },
+        Pair { value: 9, key: 1 },
+    ];
+    assert_eq!(rt;
+        numbers(rt.alloc(), &items, LONG, &long_number_twice()),
         (0, true)
     );
 }
@@ -95,15 +150,16 @@ fn one_text_succeeds(rt: HostRuntime) {
 }
 
 #[test]
-fn texts_out_of_line_succeeds(rt: HostRuntime) {
+fn a_write_of_texts_out_of_line_succeeds(rt: HostRuntime) {
+    let keys: [&[u8]; 2] = [b"a text out of line", b"b"];
     let items = [
-        TextItem {
-            key: b"a text out of line",
+        Pair {
             value: 1,
+            key: keys[0],
         },
-        TextItem {
-            key: b"b",
+        Pair {
             value: 2,
+            key: keys[1],
         },
     ];
     assert_eq!(rt; texts(rt.alloc(), &items, SHORT, &two_texts()), (0, true));
@@ -111,8 +167,19 @@ fn texts_out_of_line_succeeds(rt: HostRuntime) {
 
 #[test]
 fn no_pair_succeeds(rt: HostRuntime) {
-    assert_eq!(rt; numbers(rt.alloc(), &[], SHORT, &NO_PAIRS), (0, true));
-    assert_eq!(rt; numbers(rt.alloc(), &[], WIDE, &NO_WIDE_PAIRS), (0, true));
+    assert_eq!(rt;
+        numbers::<u32>(rt.alloc(), &[], SHORT, &NO_PAIRS),
+        (0, true)
+    );
+    assert_eq!(rt;
+        numbers::<u32>(rt.alloc(), &[], WIDE, &NO_WIDE_PAIRS),
+        (0, true)
+    );
+    assert_eq!(rt; numbers::<u64>(rt.alloc(), &[], LONG, &NO_PAIRS), (0, true));
+    assert_eq!(rt;
+        numbers::<u64>(rt.alloc(), &[], WIDE, &NO_WIDE_PAIRS),
+        (0, true)
+    );
     assert_eq!(rt; texts(rt.alloc(), &[], LONG, &NO_PAIRS), (0, true));
     assert_eq!(rt;
         texts(rt.alloc(), &[], WIDE_LONG, &NO_WIDE_PAIRS),
@@ -124,12 +191,14 @@ fn no_pair_succeeds(rt: HostRuntime) {
 fn the_rejection_of_a_pair_succeeds(rt: HostRuntime) {
     let alloc = rt.alloc();
     let large = 0x1_0000_0000u64;
-    let item = NumberItem {
+    let item = Pair {
         value: large,
-        key: 1,
+        key: 1u32,
     };
     assert_eq!(rt; numbers(alloc, &[item], SHORT, &[]), (3, true));
     assert_eq!(rt; numbers(alloc, &[item], WIDE, &[]), (3, true));
+    assert_eq!(rt; long(alloc, SHORT, GREAT, large, &[]), (3, true));
+    assert_eq!(rt; long(alloc, WIDE, 1, u64::MAX, &[]), (3, true));
     assert_eq!(rt; text(alloc, SHORT, b"main", large, &[]), (3, true));
     assert_eq!(rt; text(alloc, LONG, &[0x80], large, &[]), (4, true));
 }

@@ -5,22 +5,25 @@ ghost use Rattle.ffi_calls.specs.IndexArchives.{IsNumberIndex};
 
 use crate::tests::archives::{LONG, SHORT, WIDE, WIDE_LONG};
 use crate::tests::index_archives::{
-    NO_PAIRS, NO_WIDE_PAIRS, one_long_number, one_number, one_number_twice, one_wide_long_number,
-    one_wide_number,
+    NO_PAIRS, NO_WIDE_PAIRS, long_number_twice, one_long_number, one_number, one_number_twice,
+    one_wide_great_number, one_wide_long_number, one_wide_number,
 };
 use ffi_calls::form::Form;
-use ffi_calls::index::IndexedValue;
 use ffi_calls::index_numbers::{
-    IndexNumberPair, count_index_numbers, get_index_number, index_number_at, index_numbers_from,
-    open_index_numbers,
+    decode_index_numbers, get_index_number, index_numbers_from, open_index_numbers,
 };
+use ffi_calls::pairs::{Indexed, Pair};
+use ffi_calls::reading::NumberKey;
 use ffi_calls::status::DONE;
 
-// Returns whether the archive is valid in the form.
-fn is_map(archive: &[u8], form: Form) -> bool
-    ensures { IsTrue result → IsNumberIndex form archive.now }
+// The number whose low 32 bits are 1, and whose high 32 bits are 1.
+const GREAT: u64 = 0x1_0000_0001;
+
+/// Returns whether the archive is valid in the form.
+pub(crate) fn is_map<K: NumberKey>(archive: &[u8], form: Form) -> bool
+    ensures { IsTrue result → IsNumberIndex K.NumberKey form archive.now }
 {
-    if open_index_numbers(archive, form) == DONE {
+    if open_index_numbers::<K>(archive, form) == DONE {
         true
     } else {
         false
@@ -29,106 +32,147 @@ fn is_map(archive: &[u8], form: Form) -> bool
 
 // Returns the number of pairs, and the status, the index and the value of a lookup.
 // It replaces the index 8 and the value 9.
-fn lookup(archive: &[u8], form: Form, key: u32) -> Option<(usize, u32, usize, u64)> {
-    if !is_map(archive, form) {
+fn lookup<K: NumberKey>(archive: &[u8], form: Form, key: K) -> Option<(usize, u32, usize, u64)> {
+    if !is_map::<K>(archive, form) {
         return None;
     }
-    let mut found = IndexedValue { index: 8, value: 9 };
-    let status = get_index_number(archive, form, key, &mut found);
-    let IndexedValue { index, value } = found;
-    Some((count_index_numbers(archive, form), status, index, value))
+    let header = decode_index_numbers::<K>(archive, form);
+    let mut found = Indexed {
+        index: 8,
+        value: 9u64,
+    };
+    let status = get_index_number(archive, form, &header, key, &mut found);
+    let Indexed { index, value } = found;
+    Some((header.len(), status, index, value))
 }
 
-// Returns the status of reading the pair at an index, and its key and value.
-// They are 9 at first.
-fn pair_at(archive: &[u8], form: Form, index: usize) -> Option<(u32, u32, u64)> {
-    if !is_map(archive, form) {
+// Stores the pairs from an index on, and returns their number.
+fn read<K: NumberKey>(
+    archive: &[u8],
+    form: Form,
+    from: usize,
+    pairs: &mut [Pair<K, u64>],
+) -> Option<usize> {
+    if !is_map::<K>(archive, form) {
         return None;
     }
-    let mut pair = IndexNumberPair { value: 9, key: 9 };
-    let status = index_number_at(archive, form, index, &mut pair);
-    let IndexNumberPair { value, key } = pair;
-    Some((status, key, value))
+    let header = decode_index_numbers::<K>(archive, form);
+    Some(index_numbers_from(archive, form, &header, from, pairs))
 }
 
 // Returns the numbers of a pair.
-fn numbers_of(pair: IndexNumberPair) -> (u32, u64) {
+fn numbers_of<K>(pair: Pair<K, u64>) -> (K, u64) {
     (pair.key, pair.value)
+}
+
+// A pair that no call stores.
+const NINE: Pair<u32, u64> = Pair { value: 9, key: 9 };
+
+// A pair that no call stores, with a key of 64 bits.
+const LONG_NINE: Pair<u64, u64> = Pair { value: 9, key: 9 };
+
+// Returns how many pairs are stored over one, from an index on, and the one afterwards.
+// It is 9 to 9 at first.
+fn pair_at(archive: &[u8], form: Form, index: usize) -> Option<(usize, (u32, u64))> {
+    let mut pairs = [NINE];
+    let count = read(archive, form, index, &mut pairs)?;
+    Some((count, numbers_of(pairs[0])))
 }
 
 // Returns how many pairs are stored over two, from an index on, and the two afterwards.
 // Each is 9 to 9 at first.
 fn several(archive: &[u8], form: Form, from: usize) -> Option<(usize, [(u32, u64); 2])> {
-    if !is_map(archive, form) {
-        return None;
-    }
-    let nine = IndexNumberPair { value: 9, key: 9 };
-    let mut pairs = [nine; 2];
-    let count = index_numbers_from(archive, form, from, &mut pairs);
+    let mut pairs = [NINE; 2];
+    let count = read(archive, form, from, &mut pairs)?;
+    Some((count, [numbers_of(pairs[0]), numbers_of(pairs[1])]))
+}
+
+// Returns the same for keys of 64 bits.
+fn several_long(archive: &[u8], form: Form, from: usize) -> Option<(usize, [(u64, u64); 2])> {
+    let mut pairs = [LONG_NINE; 2];
+    let count = read(archive, form, from, &mut pairs)?;
     Some((count, [numbers_of(pairs[0]), numbers_of(pairs[1])]))
 }
 
 #[test]
 fn lookups_find_the_number(rt: HostRuntime) {
-    assert_eq!(rt; lookup(&one_number(), SHORT, 1), Some((1, 0, 0, 2)));
-    assert_eq!(rt; lookup(&one_long_number(), LONG, 1), Some((1, 0, 0, 2)));
-    assert_eq!(rt; lookup(&one_wide_number(), WIDE, 1), Some((1, 0, 0, 2)));
+    assert_eq!(rt; lookup(&one_number(), SHORT, 1u32), Some((1, 0, 0, 2)));
+    assert_eq!(rt; lookup(&one_long_number(), LONG, 1u32), Some((1, 0, 0, 2)));
+    assert_eq!(rt; lookup(&one_wide_number(), WIDE, 1u32), Some((1, 0, 0, 2)));
     assert_eq!(rt;
-        lookup(&one_wide_long_number(), WIDE_LONG, 1),
+        lookup(&one_wide_long_number(), WIDE_LONG, 1u32),
         Some((1, 0, 0, 2))
     );
 }
 
 #[test]
 fn lookups_find_no_other_number(rt: HostRuntime) {
-    assert_eq!(rt; lookup(&one_number(), SHORT, 2), Some((1, 1, 8, 9)));
-    assert_eq!(rt; lookup(&one_long_number(), LONG, 0), Some((1, 1, 8, 9)));
+    assert_eq!(rt; lookup(&one_number(), SHORT, 2u32), Some((1, 1, 8, 9)));
+    assert_eq!(rt; lookup(&one_long_number(), LONG, 0u32), Some((1, 1, 8, 9)));
     assert_eq!(rt;
         lookup(&one_wide_number(), WIDE, u32::MAX),
         Some((1, 1, 8, 9))
     );
     assert_eq!(rt;
-        lookup(&one_wide_long_number(), WIDE_LONG, 2),
+        lookup(&one_wide_long_number(), WIDE_LONG, 2u32),
         Some((1, 1, 8, 9))
     );
 }
 
 #[test]
+fn lookups_of_long_numbers_compare_all_64_bits(rt: HostRuntime) {
+    let found = Some((1, 0, 0, 2));
+    let none = Some((1, 1, 8, 9));
+    assert_eq!(rt; lookup(&one_long_number(), SHORT, 1u64), found);
+    assert_eq!(rt; lookup(&one_long_number(), LONG, 1u64), found);
+    assert_eq!(rt; lookup(&one_wide_long_number(), WIDE, 1u64), found);
+    assert_eq!(rt; lookup(&one_wide_long_number(), WIDE_LONG, 1u64), found);
+    assert_eq!(rt; lookup(&one_wide_great_number(), WIDE, GREAT), found);
+    assert_eq!(rt; lookup(&one_long_number(), SHORT, GREAT), none);
+    assert_eq!(rt; lookup(&one_long_number(), LONG, u64::MAX), none);
+    assert_eq!(rt; lookup(&one_wide_great_number(), WIDE, 1u64), none);
+    assert_eq!(rt; lookup(&one_wide_great_number(), WIDE_LONG, 0u64), none);
+}
+
+#[test]
 fn lookups_in_an_empty_map_find_nothing(rt: HostRuntime) {
-    assert_eq!(rt; lookup(&NO_PAIRS, SHORT, 1), Some((0, 1, 8, 9)));
-    assert_eq!(rt; lookup(&NO_PAIRS, LONG, 1), Some((0, 1, 8, 9)));
-    assert_eq!(rt; lookup(&NO_WIDE_PAIRS, WIDE, 1), Some((0, 1, 8, 9)));
-    assert_eq!(rt; lookup(&NO_WIDE_PAIRS, WIDE_LONG, 1), Some((0, 1, 8, 9)));
+    assert_eq!(rt; lookup(&NO_PAIRS, SHORT, 1u32), Some((0, 1, 8, 9)));
+    assert_eq!(rt; lookup(&NO_PAIRS, LONG, 1u32), Some((0, 1, 8, 9)));
+    assert_eq!(rt; lookup(&NO_WIDE_PAIRS, WIDE, 1u32), Some((0, 1, 8, 9)));
+    assert_eq!(rt; lookup(&NO_WIDE_PAIRS, WIDE_LONG, 1u32), Some((0, 1, 8, 9)));
 }
 
 #[test]
 fn lookups_find_the_first_of_equal_keys(rt: HostRuntime) {
     let bytes = one_number_twice();
-    assert_eq!(rt; lookup(&bytes, SHORT, 1), Some((3, 0, 0, 2)));
-    assert_eq!(rt; lookup(&bytes, SHORT, 5), Some((3, 0, 1, 6)));
+    assert_eq!(rt; lookup(&bytes, SHORT, 1u32), Some((3, 0, 0, 2)));
+    assert_eq!(rt; lookup(&bytes, SHORT, 5u32), Some((3, 0, 1, 6)));
+    let bytes = long_number_twice();
+    assert_eq!(rt; lookup(&bytes, SHORT, 1u64), Some((3, 0, 0, 2)));
+    assert_eq!(rt; lookup(&bytes, LONG, GREAT), Some((3, 0, 1, 6)));
 }
 
 #[test]
 fn pairs_are_in_insertion_order(rt: HostRuntime) {
     let bytes = one_number_twice();
-    assert_eq!(rt; pair_at(&bytes, SHORT, 0), Some((0, 1, 2)));
-    assert_eq!(rt; pair_at(&bytes, SHORT, 1), Some((0, 5, 6)));
-    assert_eq!(rt; pair_at(&bytes, SHORT, 2), Some((0, 1, 9)));
-    assert_eq!(rt; pair_at(&bytes, SHORT, 3), Some((2, 9, 9)));
+    assert_eq!(rt; pair_at(&bytes, SHORT, 0), Some((1, (1, 2))));
+    assert_eq!(rt; pair_at(&bytes, SHORT, 1), Some((1, (5, 6))));
+    assert_eq!(rt; pair_at(&bytes, SHORT, 2), Some((1, (1, 9))));
+    assert_eq!(rt; pair_at(&bytes, SHORT, 3), Some((0, (9, 9))));
 }
 
 #[test]
 fn pairs_are_read_in_each_form(rt: HostRuntime) {
-    assert_eq!(rt; pair_at(&one_long_number(), LONG, 0), Some((0, 1, 2)));
-    assert_eq!(rt; pair_at(&one_wide_number(), WIDE, 0), Some((0, 1, 2)));
+    assert_eq!(rt; pair_at(&one_long_number(), LONG, 0), Some((1, (1, 2))));
+    assert_eq!(rt; pair_at(&one_wide_number(), WIDE, 0), Some((1, (1, 2))));
     assert_eq!(rt;
         pair_at(&one_wide_long_number(), WIDE_LONG, 0),
-        Some((0, 1, 2))
+        Some((1, (1, 2)))
     );
-    assert_eq!(rt; pair_at(&NO_PAIRS, SHORT, 0), Some((2, 9, 9)));
+    assert_eq!(rt; pair_at(&NO_PAIRS, SHORT, 0), Some((0, (9, 9))));
     assert_eq!(rt;
         pair_at(&one_wide_number(), WIDE, usize::MAX),
-        Some((2, 9, 9))
+        Some((0, (9, 9)))
     );
 }
 
@@ -151,4 +195,34 @@ fn several_pairs_are_stored_in_each_form(rt: HostRuntime) {
     assert_eq!(rt; several(&one_long_number(), LONG, 0), one);
     assert_eq!(rt; several(&one_wide_number(), WIDE, 0), one);
     assert_eq!(rt; several(&one_wide_long_number(), WIDE_LONG, 0), one);
+}
+
+#[test]
+fn several_pairs_of_long_numbers_are_stored_at_once(rt: HostRuntime) {
+    let bytes = long_number_twice();
+    assert_eq!(rt;
+        several_long(&bytes, SHORT, 0),
+        Some((2, [(1, 2), (GREAT, 6)]))
+    );
+    assert_eq!(rt;
+        several_long(&bytes, LONG, 1),
+        Some((2, [(GREAT, 6), (1, 9)]))
+    );
+    assert_eq!(rt; several_long(&bytes, LONG, 2), Some((1, [(1, 9), (9, 9)])));
+    assert_eq!(rt;
+        several_long(&bytes, SHORT, usize::MAX),
+        Some((0, [(9, 9), (9, 9)]))
+    );
+    assert_eq!(rt;
+        several_long(&one_wide_great_number(), WIDE, 0),
+        Some((1, [(GREAT, 2), (9, 9)]))
+    );
+    assert_eq!(rt;
+        several_long(&one_wide_long_number(), WIDE_LONG, 0),
+        Some((1, [(1, 2), (9, 9)]))
+    );
+    assert_eq!(rt;
+        several_long(&NO_WIDE_PAIRS, WIDE, 0),
+        Some((0, [(9, 9), (9, 9)]))
+    );
 }

@@ -8,15 +8,14 @@ use crate::tests::index_archives::{
     NO_PAIRS, NO_WIDE_PAIRS, empty_text, empty_wide_text, one_symbol, two_texts,
 };
 use ffi_calls::form::Form;
-use ffi_calls::index::IndexedValue;
 use ffi_calls::index_texts::{
-    IndexTextPair, count_index_texts, get_index_text, index_text_at, index_texts_from,
-    open_index_texts,
+    decode_index_texts, get_index_text, index_texts_from, open_index_texts,
 };
+use ffi_calls::pairs::{Indexed, Pair};
 use ffi_calls::status::DONE;
 
-// Returns whether the archive is valid in the form.
-fn is_map(archive: &[u8], form: Form) -> bool
+/// Returns whether the archive is valid in the form.
+pub(crate) fn is_map(archive: &[u8], form: Form) -> bool
     ensures { IsTrue result → IsTextIndex form archive.now }
 {
     if open_index_texts(archive, form) == DONE {
@@ -32,25 +31,33 @@ fn lookup(archive: &[u8], form: Form, key: &[u8]) -> Option<(usize, u32, usize, 
     if !is_map(archive, form) {
         return None;
     }
-    let mut found = IndexedValue { index: 8, value: 9 };
-    let status = get_index_text(archive, form, key, &mut found);
-    let IndexedValue { index, value } = found;
-    Some((count_index_texts(archive, form), status, index, value))
+    let header = decode_index_texts(archive, form);
+    let mut found = Indexed {
+        index: 8,
+        value: 9u64,
+    };
+    let status = get_index_text(archive, form, &header, key, &mut found);
+    let Indexed { index, value } = found;
+    Some((header.len(), status, index, value))
 }
 
-// Returns the status of reading the pair at an index, if the pair is as wanted afterwards.
+// A pair that no call stores.
+const NINE: Pair<&[u8], u64> = Pair {
+    value: 9,
+    key: b"?",
+};
+
+// Returns how many pairs are stored over one, from an index on, if the one is as wanted afterwards.
 // It has the key `?` and the value 9 at first.
-fn pair_at(archive: &[u8], form: Form, index: usize, key: &[u8], value: u64) -> Option<u32> {
+fn pair_at(archive: &[u8], form: Form, index: usize, key: &[u8], value: u64) -> Option<usize> {
     if !is_map(archive, form) {
         return None;
     }
-    let mut pair = IndexTextPair {
-        value: 9,
-        key: b"?",
-    };
-    let status = index_text_at(archive, form, index, &mut pair);
-    if pair.key == key && pair.value == value {
-        Some(status)
+    let header = decode_index_texts(archive, form);
+    let mut pairs = [NINE];
+    let count = index_texts_from(archive, form, &header, index, &mut pairs);
+    if pairs[0].key == key && pairs[0].value == value {
+        Some(count)
     } else {
         None
     }
@@ -62,12 +69,9 @@ fn several(archive: &[u8], form: Form, from: usize, key: &[u8], value: u64) -> O
     if !is_map(archive, form) {
         return None;
     }
-    let nine = IndexTextPair {
-        value: 9,
-        key: b"?",
-    };
-    let mut pairs = [nine; 2];
-    let count = index_texts_from(archive, form, from, &mut pairs);
+    let header = decode_index_texts(archive, form);
+    let mut pairs = [NINE; 2];
+    let count = index_texts_from(archive, form, &header, from, &mut pairs);
     if pairs[0].key == key && pairs[0].value == value {
         Some(count)
     } else {
@@ -113,18 +117,18 @@ fn pairs_are_in_insertion_order(rt: HostRuntime) {
     let bytes = two_texts();
     assert_eq!(rt;
         pair_at(&bytes, SHORT, 0, b"a text out of line", 1),
-        Some(0)
+        Some(1)
     );
-    assert_eq!(rt; pair_at(&bytes, SHORT, 1, b"b", 2), Some(0));
-    assert_eq!(rt; pair_at(&bytes, SHORT, 2, b"?", 9), Some(2));
+    assert_eq!(rt; pair_at(&bytes, SHORT, 1, b"b", 2), Some(1));
+    assert_eq!(rt; pair_at(&bytes, SHORT, 2, b"?", 9), Some(0));
 }
 
 #[test]
 fn pairs_are_read_in_each_form(rt: HostRuntime) {
-    assert_eq!(rt; pair_at(&one_symbol(), LONG, 0, b"main", 4096), Some(0));
-    assert_eq!(rt; pair_at(&empty_wide_text(), WIDE, 0, b"", 7), Some(0));
-    assert_eq!(rt; pair_at(&empty_wide_text(), WIDE_LONG, 0, b"", 7), Some(0));
-    assert_eq!(rt; pair_at(&NO_PAIRS, LONG, 0, b"?", 9), Some(2));
+    assert_eq!(rt; pair_at(&one_symbol(), LONG, 0, b"main", 4096), Some(1));
+    assert_eq!(rt; pair_at(&empty_wide_text(), WIDE, 0, b"", 7), Some(1));
+    assert_eq!(rt; pair_at(&empty_wide_text(), WIDE_LONG, 0, b"", 7), Some(1));
+    assert_eq!(rt; pair_at(&NO_PAIRS, LONG, 0, b"?", 9), Some(0));
 }
 
 #[test]

@@ -2,7 +2,9 @@
 
 use crate::tests::archives::{LONG, SHORT, WIDE, WIDE_LONG};
 use crate::tests::index_archives::{
-    NO_PAIRS, NO_WIDE_PAIRS, empty_text, one_number, one_wide_number, two_texts,
+    NO_PAIRS, NO_WIDE_PAIRS, empty_text, empty_wide_text, long_number_twice, one_long_number,
+    one_number, one_symbol, one_wide_great_number, one_wide_long_number, one_wide_number,
+    two_texts,
 };
 use ffi_calls::explanation::Explanation;
 use ffi_calls::form::Form;
@@ -23,9 +25,24 @@ fn numbers_of(explanation: Explanation) -> (u32, i64, u64, u64) {
 // Returns the statuses of the bytes as an index map of numbers and as one of texts.
 fn opened(bytes: &[u8], form: Form) -> (u32, u32) {
     (
-        open_index_numbers(bytes, form),
+        open_index_numbers::<u32>(bytes, form),
         open_index_texts(bytes, form),
     )
+}
+
+// Explains the bytes as an index map of numbers.
+fn of_numbers(bytes: &[u8], form: Form) -> (u32, i64, u64, u64) {
+    numbers_of(explain_index_numbers::<u32>(bytes, form))
+}
+
+// Explains the bytes as an index map of numbers of 64 bits.
+fn of_long_numbers(bytes: &[u8], form: Form) -> (u32, i64, u64, u64) {
+    numbers_of(explain_index_numbers::<u64>(bytes, form))
+}
+
+// Explains the bytes as an index map of texts.
+fn of_texts(bytes: &[u8], form: Form) -> (u32, i64, u64, u64) {
+    numbers_of(explain_index_texts(bytes, form))
 }
 
 // Returns the error of the index map of 1 to 2 with another byte at `pos`.
@@ -35,7 +52,18 @@ fn number_with(pos: usize, byte: u8) -> (u32, i64, u64, u64) {
         Some(old) => *old = byte,
         None => {}
     }
-    numbers_of(explain_index_numbers(&bytes, SHORT))
+    of_numbers(&bytes, SHORT)
+}
+
+// Returns the error of the wide index map of 1 to 2 with a key of 64 bits, with another byte at
+// `pos`.
+fn long_with(pos: usize, byte: u8) -> (u32, i64, u64, u64) {
+    let mut bytes = one_wide_long_number();
+    match bytes.get_mut(pos) {
+        Some(old) => *old = byte,
+        None => {}
+    }
+    of_long_numbers(&bytes, WIDE)
 }
 
 // Returns the error of the index map of two texts with another byte at `pos`.
@@ -45,7 +73,7 @@ fn text_with(pos: usize, byte: u8) -> (u32, i64, u64, u64) {
         Some(old) => *old = byte,
         None => {}
     }
-    numbers_of(explain_index_texts(&bytes, SHORT))
+    of_texts(&bytes, SHORT)
 }
 
 #[test]
@@ -62,16 +90,34 @@ fn too_few_bytes_are_out_of_range(rt: HostRuntime) {
     assert_eq!(rt; opened(&[0; 15], LONG), (16, 16));
     assert_eq!(rt; opened(&NO_PAIRS, WIDE), (16, 16));
     assert_eq!(rt; opened(&[0; 31], WIDE_LONG), (16, 16));
-    assert_eq!(rt;
-        numbers_of(explain_index_numbers(&[0; 15], SHORT)),
-        (16, -1, 16, 0)
-    );
+    assert_eq!(rt; of_numbers(&[0; 15], SHORT), (16, -1, 16, 0));
+    assert_eq!(rt; of_long_numbers(&[0; 31], WIDE), (16, -1, 32, 0));
+    assert_eq!(rt; of_texts(&[0; 31], WIDE_LONG), (16, -1, 32, 0));
 }
 
 #[test]
 fn valid_archives_have_no_error(rt: HostRuntime) {
     assert_eq!(rt; number_with(0, 0), (0, 0, 0, 0));
     assert_eq!(rt; text_with(0, 0), (0, 0, 0, 0));
+}
+
+#[test]
+fn valid_archives_of_each_form_have_no_error(rt: HostRuntime) {
+    assert_eq!(rt; of_numbers(&one_long_number(), LONG), (0, 0, 0, 0));
+    assert_eq!(rt; of_numbers(&one_wide_number(), WIDE), (0, 0, 0, 0));
+    assert_eq!(rt;
+        of_numbers(&one_wide_long_number(), WIDE_LONG),
+        (0, 0, 0, 0)
+    );
+    assert_eq!(rt; of_long_numbers(&one_long_number(), SHORT), (0, 0, 0, 0));
+    assert_eq!(rt; of_long_numbers(&long_number_twice(), LONG), (0, 0, 0, 0));
+    assert_eq!(rt;
+        of_long_numbers(&one_wide_great_number(), WIDE_LONG),
+        (0, 0, 0, 0)
+    );
+    assert_eq!(rt; of_texts(&one_symbol(), LONG), (0, 0, 0, 0));
+    assert_eq!(rt; of_texts(&empty_wide_text(), WIDE), (0, 0, 0, 0));
+    assert_eq!(rt; of_texts(&empty_wide_text(), WIDE_LONG), (0, 0, 0, 0));
 }
 
 #[test]
@@ -104,10 +150,40 @@ fn keys_that_are_no_text_are_invalid_values(rt: HostRuntime) {
 }
 
 #[test]
+fn archives_of_long_numbers_have_their_errors(rt: HostRuntime) {
+    assert_eq!(rt; long_with(52, 1), (0, 0, 0, 0));
+    assert_eq!(rt; long_with(64, 0xd1), (17, 1, 8, 0));
+    assert_eq!(rt; long_with(72, 2), (18, 0, 2, 2));
+    assert_eq!(rt; long_with(17, 0xff), (19, 0, 1, 0));
+    assert_eq!(rt; long_with(19, 0x29), (20, 0, 3, 0));
+    assert_eq!(rt; long_with(0, 1), (21, 0, 1, 1));
+    assert_eq!(rt; long_with(88, 0xd7), (17, 47, 8, 0));
+    assert_eq!(rt; long_with(88, 0xd0), (16, 40, 16, 0));
+}
+
+#[test]
+fn keys_of_64_bits_have_their_archives(rt: HostRuntime) {
+    assert_eq!(rt; open_index_numbers::<u64>(&one_long_number(), SHORT), 0);
+    assert_eq!(rt; open_index_numbers::<u64>(&one_long_number(), LONG), 0);
+    assert_eq!(rt;
+        open_index_numbers::<u64>(&one_wide_great_number(), WIDE),
+        0
+    );
+    assert_eq!(rt;
+        open_index_numbers::<u64>(&one_wide_long_number(), WIDE_LONG),
+        0
+    );
+    assert_eq!(rt; open_index_numbers::<u64>(&NO_PAIRS, LONG), 0);
+    assert_eq!(rt; open_index_numbers::<u64>(&[0; 31], WIDE), 16);
+    assert!(rt; open_index_numbers::<u64>(&one_number(), SHORT) != 0);
+    assert!(rt; open_index_numbers::<u64>(&one_wide_number(), WIDE) != 0);
+}
+
+#[test]
 fn bytes_of_another_form_are_rejected(rt: HostRuntime) {
-    assert_eq!(rt; open_index_numbers(&one_wide_number(), WIDE), 0);
+    assert_eq!(rt; open_index_numbers::<u32>(&one_wide_number(), WIDE), 0);
     assert_eq!(rt; open_index_texts(&empty_text(), SHORT), 0);
-    assert!(rt; open_index_numbers(&one_number(), WIDE) != 0);
-    assert!(rt; open_index_numbers(&one_number(), LONG) != 0);
+    assert!(rt; open_index_numbers::<u32>(&one_number(), WIDE) != 0);
+    assert!(rt; open_index_numbers::<u32>(&one_number(), LONG) != 0);
     assert!(rt; open_index_texts(&empty_text(), LONG) != 0);
 }

@@ -3,21 +3,28 @@
 ghost use Rattle.std.specs.Prelude.{IsTrue};
 ghost use Rattle.ffi_calls.specs.TextValues.{IsNumberTextArchive};
 
-use crate::tests::text_archives::{one_to_tea, one_to_two_texts, one_to_wide_text};
+use crate::tests::text_archives::{
+    great_to_wide_text, long_to_tea, long_to_two_texts, one_to_tea, one_to_two_texts,
+    one_to_wide_text,
+};
 use ffi_calls::explanation::Explanation;
 use ffi_calls::numbers_to_texts::{
-    NumberTextPair, decode_numbers_to_texts, explain_numbers_to_texts, get_text_of_number,
-    next_number_text, next_number_texts, open_numbers_to_texts,
+    decode_numbers_to_texts, explain_numbers_to_texts, get_text_of_number, next_number_texts,
+    open_numbers_to_texts,
 };
+use ffi_calls::pairs::{Pair, Step};
+use ffi_calls::reading::NumberKey;
 use ffi_calls::status::DONE;
-use ffi_calls::text_values::TextValue;
 use test_support::archives::no_items;
 
+// The number whose low 32 bits are 1, and whose high 32 bits are 1.
+const GREAT: u64 = 0x1_0000_0001;
+
 // Returns whether the archive is valid.
-fn is_map(archive: &[u8], wide: bool) -> bool
-    ensures { IsTrue result → IsNumberTextArchive wide archive.now }
+fn is_map<K: NumberKey>(archive: &[u8], wide: bool) -> bool
+    ensures { IsTrue result → IsNumberTextArchive K.NumberKey wide archive.now }
 {
-    if open_numbers_to_texts(archive, wide) == DONE {
+    if open_numbers_to_texts::<K>(archive, wide) == DONE {
         true
     } else {
         false
@@ -26,40 +33,64 @@ fn is_map(archive: &[u8], wide: bool) -> bool
 
 // Returns the number of pairs and the status of a lookup, if the value is `wanted` afterwards.
 // It is `?` at first.
-fn lookup(archive: &[u8], wide: bool, key: u32, wanted: &[u8]) -> Option<(usize, u32)> {
-    if !is_map(archive, wide) {
+fn lookup<'a, K: NumberKey>(
+    archive: &'a [u8],
+    wide: bool,
+    key: K,
+    wanted: &[u8],
+) -> Option<(usize, u32)> {
+    if !is_map::<K>(archive, wide) {
         return None;
     }
-    let header = decode_numbers_to_texts(archive, wide);
-    let mut value = TextValue { text: b"?" };
+    let header = decode_numbers_to_texts::<K>(archive, wide);
+    let mut value: &'a [u8] = b"?";
     let status = get_text_of_number(archive, wide, &header, key, &mut value);
-    if value.text == wanted {
+    if value == wanted {
         Some((header.len(), status))
     } else {
         None
     }
 }
 
-// Returns whether the pair has these parts.
-fn is_pair(pair: NumberTextPair<'_>, next: u64, key: u32, value: &[u8]) -> bool {
-    pair.next == next && pair.key == key && pair.value == value
-}
-
-// Returns the status of a step from the given bucket on, if the pair is as wanted afterwards.
-// It is 9 to `?` at first.
-fn step(archive: &[u8], wide: bool, from: u64, next: u64, key: u32, value: &[u8]) -> Option<u32> {
-    if !is_map(archive, wide) {
-        return None;
-    }
-    let header = decode_numbers_to_texts(archive, wide);
-    let mut pair = NumberTextPair {
-        next: from,
+// A step that no call stores.
+const NINE: Step<Pair<u32, &[u8]>> = Step {
+    next: 9,
+    pair: Pair {
         value: b"?",
         key: 9,
-    };
-    let status = next_number_text(archive, wide, &header, &mut pair);
-    if is_pair(pair, next, key, value) {
-        Some(status)
+    },
+};
+
+// A step that no call stores, with a key of 64 bits.
+const LONG_NINE: Step<Pair<u64, &[u8]>> = Step {
+    next: 9,
+    pair: Pair {
+        value: b"?",
+        key: 9,
+    },
+};
+
+// Returns whether the step has these parts.
+fn is_step(step: Step<Pair<u32, &[u8]>>, next: u64, key: u32, value: &[u8]) -> bool {
+    step.next == next && step.pair.key == key && step.pair.value == value
+}
+
+// Returns whether the step has these parts, with a key of 64 bits.
+fn is_long_step(step: Step<Pair<u64, &[u8]>>, next: u64, key: u64, value: &[u8]) -> bool {
+    step.next == next && step.pair.key == key && step.pair.value == value
+}
+
+// Returns how many pairs are stored over one, from the given bucket on, if the one is as wanted
+// afterwards. It is 9 to `?` at first.
+fn step(archive: &[u8], wide: bool, from: u64, next: u64, key: u32, value: &[u8]) -> Option<usize> {
+    if !is_map::<u32>(archive, wide) {
+        return None;
+    }
+    let header = decode_numbers_to_texts::<u32>(archive, wide);
+    let mut pairs = [NINE];
+    let count = next_number_texts(archive, wide, &header, from, &mut pairs);
+    if is_step(pairs[0], next, key, value) {
+        Some(count)
     } else {
         None
     }
@@ -74,20 +105,39 @@ fn several(
     first: (u64, u32, &[u8]),
     second: (u64, u32, &[u8]),
 ) -> Option<usize> {
-    if !is_map(archive, wide) {
+    if !is_map::<u32>(archive, wide) {
         return None;
     }
-    let header = decode_numbers_to_texts(archive, wide);
-    let nine = NumberTextPair {
-        next: 9,
-        value: b"?",
-        key: 9,
-    };
-    let mut pairs = [nine; 3];
+    let header = decode_numbers_to_texts::<u32>(archive, wide);
+    let mut pairs = [NINE; 3];
     let count = next_number_texts(archive, wide, &header, from, &mut pairs);
-    if is_pair(pairs[0], first.0, first.1, first.2)
-        && is_pair(pairs[1], second.0, second.1, second.2)
-        && is_pair(pairs[2], 9, 9, b"?")
+    if is_step(pairs[0], first.0, first.1, first.2)
+        && is_step(pairs[1], second.0, second.1, second.2)
+        && is_step(pairs[2], 9, 9, b"?")
+    {
+        Some(count)
+    } else {
+        None
+    }
+}
+
+// Returns how many pairs with keys of 64 bits are stored over two, if the two are as wanted
+// afterwards. Each is 9 to `?` at first.
+fn several_long(
+    archive: &[u8],
+    wide: bool,
+    from: u64,
+    first: (u64, u64, &[u8]),
+    second: (u64, u64, &[u8]),
+) -> Option<usize> {
+    if !is_map::<u64>(archive, wide) {
+        return None;
+    }
+    let header = decode_numbers_to_texts::<u64>(archive, wide);
+    let mut pairs = [LONG_NINE; 2];
+    let count = next_number_texts(archive, wide, &header, from, &mut pairs);
+    if is_long_step(pairs[0], first.0, first.1, first.2)
+        && is_long_step(pairs[1], second.0, second.1, second.2)
     {
         Some(count)
     } else {
@@ -107,49 +157,95 @@ fn status_with(pos: usize, byte: u8) -> (u32, (u32, i64, u64, u64)) {
         position,
         first,
         second,
-    } = explain_numbers_to_texts(&bytes, false);
+    } = explain_numbers_to_texts::<u32>(&bytes, false);
     (
-        open_numbers_to_texts(&bytes, false),
+        open_numbers_to_texts::<u32>(&bytes, false),
+        (status, position, first, second),
+    )
+}
+
+// Does the same for the map of 1 and 4,294,967,297 to two texts.
+fn long_status_with(pos: usize, byte: u8) -> (u32, (u32, i64, u64, u64)) {
+    let mut bytes = long_to_two_texts();
+    match bytes.get_mut(pos) {
+        Some(old) => *old = byte,
+        None => {}
+    }
+    let Explanation {
+        status,
+        position,
+        first,
+        second,
+    } = explain_numbers_to_texts::<u64>(&bytes, false);
+    (
+        open_numbers_to_texts::<u64>(&bytes, false),
         (status, position, first, second),
     )
 }
 
 #[test]
 fn lookups_find_the_text_of_the_first_pair(rt: HostRuntime) {
-    assert_eq!(rt; lookup(&one_to_tea(), false, 1, b"tea"), Some((1, 0)));
+    assert_eq!(rt; lookup(&one_to_tea(), false, 1u32, b"tea"), Some((1, 0)));
     assert_eq!(rt;
-        lookup(&one_to_two_texts(), false, 1, b"wonderful"),
+        lookup(&one_to_two_texts(), false, 1u32, b"wonderful"),
         Some((2, 0))
     );
     assert_eq!(rt;
-        lookup(&one_to_wide_text(), true, 1, b"wonderful"),
+        lookup(&one_to_wide_text(), true, 1u32, b"wonderful"),
         Some((1, 0))
     );
 }
 
 #[test]
 fn lookups_find_no_other_number(rt: HostRuntime) {
-    assert_eq!(rt; lookup(&one_to_tea(), false, 2, b"?"), Some((1, 1)));
-    assert_eq!(rt; lookup(&one_to_wide_text(), true, 0, b"?"), Some((1, 1)));
-    assert_eq!(rt; lookup(&no_items(), false, 1, b"?"), Some((0, 1)));
+    assert_eq!(rt; lookup(&one_to_tea(), false, 2u32, b"?"), Some((1, 1)));
+    assert_eq!(rt; lookup(&one_to_wide_text(), true, 0u32, b"?"), Some((1, 1)));
+    assert_eq!(rt; lookup(&no_items(), false, 1u32, b"?"), Some((0, 1)));
 }
 
 #[test]
-fn steps_read_the_pair_and_end(rt: HostRuntime) {
-    assert_eq!(rt; step(&one_to_tea(), false, 0, 2, 1, b"tea"), Some(0));
-    assert_eq!(rt; step(&one_to_tea(), false, 2, 2, 9, b"?"), Some(2));
+fn lookups_of_long_numbers_compare_all_64_bits(rt: HostRuntime) {
+    assert_eq!(rt; lookup(&long_to_tea(), false, 1u64, b"tea"), Some((1, 0)));
+    assert_eq!(rt; lookup(&long_to_tea(), false, GREAT, b"?"), Some((1, 1)));
+    assert_eq!(rt;
+        lookup(&long_to_two_texts(), false, 1u64, b"wonderful"),
+        Some((2, 0))
+    );
+    assert_eq!(rt;
+        lookup(&long_to_two_texts(), false, GREAT, b"x"),
+        Some((2, 0))
+    );
+    assert_eq!(rt;
+        lookup(&one_to_wide_text(), true, 1u64, b"wonderful"),
+        Some((1, 0))
+    );
+    assert_eq!(rt;
+        lookup(&great_to_wide_text(), true, GREAT, b"wonderful"),
+        Some((1, 0))
+    );
+    assert_eq!(rt;
+        lookup(&great_to_wide_text(), true, 1u64, b"?"),
+        Some((1, 1))
+    );
+    assert_eq!(rt; lookup(&no_items(), false, 1u64, b"?"), Some((0, 1)));
+}
+
+#[test]
+fn walks_visit_the_pair_and_end(rt: HostRuntime) {
+    assert_eq!(rt; step(&one_to_tea(), false, 0, 2, 1, b"tea"), Some(1));
+    assert_eq!(rt; step(&one_to_tea(), false, 2, 9, 9, b"?"), Some(0));
     assert_eq!(rt;
         step(&one_to_two_texts(), false, 0, 1, 1, b"wonderful"),
-        Some(0)
+        Some(1)
     );
-    assert_eq!(rt; step(&one_to_two_texts(), false, 1, 2, 1, b"x"), Some(0));
+    assert_eq!(rt; step(&one_to_two_texts(), false, 1, 2, 1, b"x"), Some(1));
     assert_eq!(rt;
         step(&one_to_wide_text(), true, 1, 2, 1, b"wonderful"),
-        Some(0)
+        Some(1)
     );
     assert_eq!(rt;
-        step(&one_to_wide_text(), true, u64::MAX, u64::MAX, 9, b"?"),
-        Some(2)
+        step(&one_to_wide_text(), true, u64::MAX, 9, 9, b"?"),
+        Some(0)
     );
 }
 
@@ -178,6 +274,35 @@ fn several_pairs_are_stored_at_once(rt: HostRuntime) {
 }
 
 #[test]
+fn several_pairs_of_long_numbers_are_stored_at_once(rt: HostRuntime) {
+    let nine: (u64, u64, &[u8]) = (9, 9, b"?");
+    let second: (u64, u64, &[u8]) = (2, GREAT, b"x");
+    assert_eq!(rt;
+        several_long(&long_to_two_texts(), false, 0, (1, 1, b"wonderful"), second),
+        Some(2)
+    );
+    assert_eq!(rt;
+        several_long(&long_to_two_texts(), false, 1, second, nine),
+        Some(1)
+    );
+    assert_eq!(rt; several_long(&long_to_tea(), false, 2, nine, nine), Some(0));
+    assert_eq!(rt;
+        several_long(
+            &great_to_wide_text(),
+            true,
+            0,
+            (2, GREAT, b"wonderful"),
+            nine
+        ),
+        Some(1)
+    );
+    assert_eq!(rt;
+        several_long(&one_to_wide_text(), true, u64::MAX, nine, nine),
+        Some(0)
+    );
+}
+
+#[test]
 fn damaged_archives_have_statuses(rt: HostRuntime) {
     assert_eq!(rt; status_with(0, b'W'), (0, (0, 0, 0, 0)));
     assert_eq!(rt; status_with(8, 0xc3), (22, (22, 40, 0, 0)));
@@ -191,8 +316,38 @@ fn damaged_archives_have_statuses(rt: HostRuntime) {
 }
 
 #[test]
+fn damaged_archives_of_long_numbers_have_statuses(rt: HostRuntime) {
+    assert_eq!(rt; long_status_with(0, b'W'), (0, (0, 0, 0, 0)));
+    assert_eq!(rt; long_status_with(8, 0xc3), (22, (22, 56, 0, 0)));
+    assert_eq!(rt; long_status_with(40, 0xc3), (22, (22, 40, 0, 0)));
+    assert_eq!(rt; long_status_with(60, 0xc7), (16, (16, -1, 9, 0)));
+    assert_eq!(rt; long_status_with(100, 3), (18, (18, 0, 3, 3)));
+    assert_eq!(rt; long_status_with(100, 1), (19, (19, 0, 1, 2)));
+    assert_eq!(rt; long_status_with(94, 0), (20, (20, 0, 30, 0)));
+    assert_eq!(rt; long_status_with(96, 0xe1), (17, (17, 17, 8, 0)));
+}
+
+#[test]
+fn wide_archives_are_explained(rt: HostRuntime) {
+    let mut bytes = one_to_wide_text();
+    bytes[8] = 0xc3;
+    let short = explain_numbers_to_texts::<u32>(&bytes, true);
+    assert_eq!(rt; (short.status, short.position), (22, 8));
+    let long = explain_numbers_to_texts::<u64>(&bytes, true);
+    assert_eq!(rt; (long.status, long.position), (22, 8));
+}
+
+#[test]
 fn archives_of_another_width_are_rejected(rt: HostRuntime) {
-    assert!(rt; is_map(&no_items(), false) && !is_map(&no_items(), true));
-    assert!(rt; !is_map(&one_to_tea(), true) && !is_map(&one_to_wide_text(), false));
-    assert!(rt; !is_map(&[], false) && !is_map(&[0; 23], true));
+    assert!(rt; is_map::<u32>(&no_items(), false) && !is_map::<u32>(&no_items(), true));
+    assert!(rt; !is_map::<u32>(&one_to_tea(), true));
+    assert!(rt; !is_map::<u32>(&one_to_wide_text(), false));
+    assert!(rt; !is_map::<u32>(&[], false) && !is_map::<u32>(&[0; 23], true));
+}
+
+#[test]
+fn archives_of_another_key_are_rejected(rt: HostRuntime) {
+    assert!(rt; is_map::<u64>(&no_items(), false) && !is_map::<u64>(&no_items(), true));
+    assert!(rt; !is_map::<u64>(&one_to_tea(), false) && is_map::<u64>(&long_to_tea(), false));
+    assert!(rt; !is_map::<u64>(&[], false) && !is_map::<u64>(&[0; 23], true));
 }

@@ -3,14 +3,15 @@
 use crate::tests::archives::{LONG, SHORT, WIDE, WIDE_LONG, empty_text, empty_wide_text};
 use ffi_calls::building::Built;
 use ffi_calls::form::Form;
+use ffi_calls::pairs::Pair;
 use ffi_calls::status::DONE;
-use ffi_calls::text_items::{TextItem, build_texts};
+use ffi_calls::text_items::build_texts;
 use std::alloc::Global;
 use test_support::archives::{no_items, one_symbol};
 
 // Returns the status of a write of the items, and whether `built` has `bytes` if it is 0.
 // After an error the flag is whether `built` is unchanged.
-fn write(alloc: Global, items: &[TextItem<'_>], form: Form, bytes: &[u8]) -> (u32, bool) {
+fn write(alloc: Global, items: &[Pair<&[u8], u64>], form: Form, bytes: &[u8]) -> (u32, bool) {
     let mut before = [1, 2];
     let mut built = Built { bytes: &mut before };
     let status = build_texts(alloc, items, form, &mut built);
@@ -21,17 +22,17 @@ fn write(alloc: Global, items: &[TextItem<'_>], form: Form, bytes: &[u8]) -> (u3
 
 // Writes one pair.
 fn write_one(alloc: Global, form: Form, key: &[u8], value: u64, bytes: &[u8]) -> (u32, bool) {
-    write(alloc, &[TextItem { key, value }], form, bytes)
+    write(alloc, &[Pair { key, value }], form, bytes)
 }
 
 // Writes the pairs of the keys, each with its value.
 fn write_two(alloc: Global, form: Form, keys: [&[u8]; 2], values: [u64; 2]) -> (u32, bool) {
     let items = [
-        TextItem {
+        Pair {
             key: keys[0],
             value: values[0],
         },
-        TextItem {
+        Pair {
             key: keys[1],
             value: values[1],
         },

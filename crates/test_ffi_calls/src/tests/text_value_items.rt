@@ -1,20 +1,26 @@
 //! Tests of archives of pairs with texts as values.
 
 use crate::tests::text_archives::{
-    empty_to_text, empty_to_wide_text, one_to_tea, one_to_two_texts, one_to_wide_text,
+    empty_to_text, empty_to_two_texts, empty_to_wide_text, great_to_wide_text, long_to_tea,
+    long_to_two_texts, one_to_tea, one_to_two_texts, one_to_wide_text,
 };
 use ffi_calls::building::Built;
-use ffi_calls::numbers_to_texts_items::{NumberTextItem, build_numbers_to_texts};
+use ffi_calls::numbers_to_texts_items::build_numbers_to_texts;
+use ffi_calls::pairs::Pair;
+use ffi_calls::reading::NumberKey;
 use ffi_calls::status::DONE;
-use ffi_calls::texts_to_texts_items::{TextTextItem, build_texts_to_texts};
+use ffi_calls::texts_to_texts_items::build_texts_to_texts;
 use std::alloc::Global;
 use test_support::archives::no_items;
 
+// The number whose low 32 bits are 1, and whose high 32 bits are 1.
+const GREAT: u64 = 0x1_0000_0001;
+
 // Returns the status of a write of the items, and whether `built` has `bytes` if it is 0.
 // After an error the flag is whether `built` is unchanged.
-fn write_numbers(
+fn write_numbers<'a, K: NumberKey>(
     alloc: Global,
-    items: &[NumberTextItem<'_>],
+    items: &'a [Pair<K, &'a [u8]>],
     wide: bool,
     bytes: &[u8],
 ) -> (u32, bool) {
@@ -29,11 +35,11 @@ fn write_numbers(
 // Writes the pairs of 1 to the values.
 fn write_two(alloc: Global, wide: bool, values: [&[u8]; 2], bytes: &[u8]) -> (u32, bool) {
     let items = [
-        NumberTextItem {
+        Pair {
             value: values[0],
-            key: 1,
+            key: 1u32,
         },
-        NumberTextItem {
+        Pair {
             value: values[1],
             key: 1,
         },
@@ -43,11 +49,36 @@ fn write_two(alloc: Global, wide: bool, values: [&[u8]; 2], bytes: &[u8]) -> (u3
 
 // Writes the pair of 1 to the value.
 fn write_one(alloc: Global, wide: bool, value: &[u8], bytes: &[u8]) -> (u32, bool) {
-    write_numbers(alloc, &[NumberTextItem { value, key: 1 }], wide, bytes)
+    write_numbers(alloc, &[Pair { value, key: 1u32 }], wide, bytes)
+}
+
+// Writes the pairs of 1 and 4,294,967,297 to the values, with keys of 64 bits.
+fn write_two_long(alloc: Global, wide: bool, values: [&[u8]; 2], bytes: &[u8]) -> (u32, bool) {
+    let items = [
+        Pair {
+            value: values[0],
+            key: 1,
+        },
+        Pair {
+            value: values[1],
+            key: GREAT,
+        },
+    ];
+    write_numbers(alloc, &items, wide, bytes)
+}
+
+// Writes the pair of a key of 64 bits to the value.
+fn write_long(alloc: Global, wide: bool, key: u64, value: &[u8], bytes: &[u8]) -> (u32, bool) {
+    write_numbers(alloc, &[Pair { value, key }], wide, bytes)
 }
 
 // Returns the same of items with texts as keys.
-fn write_texts(alloc: Global, items: &[TextTextItem<'_>], wide: bool, bytes: &[u8]) -> (u32, bool) {
+fn write_texts(
+    alloc: Global,
+    items: &[Pair<&[u8], &[u8]>],
+    wide: bool,
+    bytes: &[u8],
+) -> (u32, bool) {
     let mut before = [1, 2];
     let mut built = Built { bytes: &mut before };
     let status = build_texts_to_texts(alloc, items, wide, &mut built);
@@ -58,7 +89,23 @@ fn write_texts(alloc: Global, items: &[TextTextItem<'_>], wide: bool, bytes: &[u
 
 // Writes the pair of a key and a value.
 fn write_text(alloc: Global, wide: bool, key: &[u8], value: &[u8], bytes: &[u8]) -> (u32, bool) {
-    write_texts(alloc, &[TextTextItem { key, value }], wide, bytes)
+    write_texts(alloc, &[Pair { value, key }], wide, bytes)
+}
+
+// Writes the pairs of the empty text to the values.
+fn write_two_texts(alloc: Global, wide: bool, values: [&[u8]; 2], bytes: &[u8]) -> (u32, bool) {
+    let key: &[u8] = b"";
+    let items = [
+        Pair {
+            value: values[0],
+            key,
+        },
+        Pair {
+            value: values[1],
+            key,
+        },
+    ];
+    write_texts(alloc, &items, wide, bytes)
 }
 
 // Returns whether the result is that of the archive, or of an allocation that fails.
@@ -70,11 +117,12 @@ fn is_permitted(written: (u32, bool)) -> bool {
 fn pairs_have_their_bytes_or_no_memory(rt: HostRuntime) {
     let alloc = rt.alloc();
     assert!(rt; is_permitted(write_one(alloc, false, b"tea", &one_to_tea())));
+    assert!(rt; is_permitted(write_long(alloc, true, 1, b"wonderful", &one_to_wide_text())));
     assert!(rt; is_permitted(write_text(alloc, false, b"", b"wonderful", &empty_to_text())));
 }
 
 #[test]
-fn pairs_of_numbers_succeeds(rt: HostRuntime) {
+fn a_write_of_numbers_succeeds(rt: HostRuntime) {
     let alloc = rt.alloc();
     assert_eq!(rt; write_one(alloc, false, b"tea", &one_to_tea()), (0, true));
     assert_eq!(rt;
@@ -88,7 +136,26 @@ fn pairs_of_numbers_succeeds(rt: HostRuntime) {
 }
 
 #[test]
-fn pairs_of_texts_succeeds(rt: HostRuntime) {
+fn a_write_of_long_numbers_succeeds(rt: HostRuntime) {
+    let alloc = rt.alloc();
+    let done = (0, true);
+    assert_eq!(rt; write_long(alloc, false, 1, b"tea", &long_to_tea()), done);
+    assert_eq!(rt;
+        write_two_long(alloc, false, [b"wonderful", b"x"], &long_to_two_texts()),
+        done
+    );
+    assert_eq!(rt;
+        write_long(alloc, true, 1, b"wonderful", &one_to_wide_text()),
+        done
+    );
+    assert_eq!(rt;
+        write_long(alloc, true, GREAT, b"wonderful", &great_to_wide_text()),
+        done
+    );
+}
+
+#[test]
+fn a_write_of_texts_succeeds(rt: HostRuntime) {
     let alloc = rt.alloc();
     assert_eq!(rt;
         write_text(alloc, false, b"", b"wonderful", &empty_to_text()),
@@ -104,6 +171,10 @@ fn pairs_of_texts_succeeds(rt: HostRuntime) {
         ),
         (0, true)
     );
+    assert_eq!(rt;
+        write_two_texts(alloc, false, [b"wonderful", b"x"], &empty_to_two_texts()),
+        (0, true)
+    );
 }
 
 #[test]
@@ -111,8 +182,16 @@ fn no_pair_succeeds(rt: HostRuntime) {
     let alloc = rt.alloc();
     let mut wide = [0; 24];
     wide[0] = 1;
-    assert_eq!(rt; write_numbers(alloc, &[], false, &no_items()), (0, true));
-    assert_eq!(rt; write_numbers(alloc, &[], true, &wide), (0, true));
+    assert_eq!(rt;
+        write_numbers::<u32>(alloc, &[], false, &no_items()),
+        (0, true)
+    );
+    assert_eq!(rt; write_numbers::<u32>(alloc, &[], true, &wide), (0, true));
+    assert_eq!(rt;
+        write_numbers::<u64>(alloc, &[], false, &no_items()),
+        (0, true)
+    );
+    assert_eq!(rt; write_numbers::<u64>(alloc, &[], true, &wide), (0, true));
     assert_eq!(rt; write_texts(alloc, &[], false, &no_items()), (0, true));
     assert_eq!(rt; write_texts(alloc, &[], true, &wide), (0, true));
 }
@@ -122,6 +201,11 @@ fn the_rejection_of_other_bytes_succeeds(rt: HostRuntime) {
     let alloc = rt.alloc();
     assert_eq!(rt; write_one(alloc, false, &[0x80], &[]), (4, true));
     assert_eq!(rt; write_two(alloc, true, [b"x", &[0xc3]], &[]), (4, true));
+    assert_eq!(rt; write_long(alloc, true, GREAT, &[0x80], &[]), (4, true));
+    assert_eq!(rt;
+        write_two_long(alloc, false, [b"x", &[0xc3]], &[]),
+        (4, true)
+    );
     assert_eq!(rt; write_text(alloc, false, &[0x80], b"x", &[]), (4, true));
     assert_eq!(rt;
         write_text(alloc, true, b"x", &[0x61, 0xff], &[]),

@@ -3,12 +3,13 @@
 ghost use Rattle.std.specs.Prelude.{IsTrue};
 ghost use Rattle.ffi_calls.specs.Archives.{IsTextArchive};
 
-use crate::tests::archives::{LONG, SHORT, WIDE, WIDE_LONG, empty_text, empty_wide_text};
-use ffi_calls::form::Form;
-use ffi_calls::status::DONE;
-use ffi_calls::texts::{
-    TextPair, decode_texts, get_text, is_text, next_text, next_texts, open_texts, set_text,
+use crate::tests::archives::{
+    LONG, SHORT, WIDE, WIDE_LONG, empty_text, empty_text_twice, empty_wide_text,
 };
+use ffi_calls::form::Form;
+use ffi_calls::pairs::{Pair, Step};
+use ffi_calls::status::DONE;
+use ffi_calls::texts::{decode_texts, get_text, is_text, next_texts, open_texts, set_text};
 use test_support::archives::one_symbol;
 
 // Returns whether the archive is valid in the form.
@@ -33,44 +34,53 @@ fn lookup(archive: &[u8], form: Form, key: &[u8]) -> Option<(usize, u32, u64)> {
     Some((header.len(), status, value))
 }
 
-// Returns the status of a step from the given bucket on, if the pair is as wanted afterwards.
-// It has the key `?` and the value 9 at first.
-fn step(archive: &[u8], form: Form, from: u64, next: u64, key: &[u8], value: u64) -> Option<u32> {
+// A step that no call stores.
+const NINE: Step<Pair<&[u8], u64>> = Step {
+    next: 9,
+    pair: Pair {
+        value: 9,
+        key: b"?",
+    },
+};
+
+// Returns whether the step has these parts.
+fn is_step(step: Step<Pair<&[u8], u64>>, next: u64, key: &[u8], value: u64) -> bool {
+    step.next == next && step.pair.key == key && step.pair.value == value
+}
+
+// Returns how many pairs are stored over one, from the given bucket on, if the one is as wanted
+// afterwards. It has the key `?` and the value 9 at first.
+fn step(archive: &[u8], form: Form, from: u64, next: u64, key: &[u8], value: u64) -> Option<usize> {
     if !is_map(archive, form) {
         return None;
     }
     let header = decode_texts(archive, form);
-    let mut pair = TextPair {
-        next: from,
-        value: 9,
-        key: b"?",
-    };
-    let status = next_text(archive, form, &header, &mut pair);
-    if pair.next == next && pair.key == key && pair.value == value {
-        Some(status)
+    let mut pairs = [NINE];
+    let count = next_texts(archive, form, &header, from, &mut pairs);
+    if is_step(pairs[0], next, key, value) {
+        Some(count)
     } else {
         None
     }
 }
 
-// Returns how many pairs are stored over two, from the given bucket on, if the first is as wanted
-// afterwards and the second is unchanged. Each has the key `?` and the value 9 at first.
-fn several(archive: &[u8], form: Form, from: u64, key: &[u8], value: u64) -> Option<usize> {
+// Returns how many pairs are stored over two, from the given bucket on, if the two are as wanted
+// afterwards. Each has the key `?` and the value 9 at first.
+fn several(
+    archive: &[u8],
+    form: Form,
+    from: u64,
+    first: (u64, &[u8], u64),
+    second: (u64, &[u8], u64),
+) -> Option<usize> {
     if !is_map(archive, form) {
         return None;
     }
     let header = decode_texts(archive, form);
-    let nine = TextPair {
-        next: 9,
-        value: 9,
-        key: b"?",
-    };
-    let mut pairs = [nine; 2];
+    let mut pairs = [NINE; 2];
     let count = next_texts(archive, form, &header, from, &mut pairs);
-    if pairs[0].key == key
-        && pairs[0].value == value
-        && pairs[1].key == nine.key
-        && pairs[1].next == 9
+    if is_step(pairs[0], first.0, first.1, first.2)
+        && is_step(pairs[1], second.0, second.1, second.2)
     {
         Some(count)
     } else {
@@ -137,30 +147,50 @@ fn lookups_find_no_other_text(rt: HostRuntime) {
 }
 
 #[test]
-fn steps_read_the_pair(rt: HostRuntime) {
-    assert_eq!(rt; step(&empty_text(), SHORT, 0, 2, b"", 7), Some(0));
-    assert_eq!(rt; step(&one_symbol(), LONG, 0, 1, b"main", 4096), Some(0));
-    assert_eq!(rt; step(&empty_wide_text(), WIDE, 1, 2, b"", 7), Some(0));
-    assert_eq!(rt; step(&empty_wide_text(), WIDE_LONG, 0, 2, b"", 7), Some(0));
+fn walks_visit_the_pair(rt: HostRuntime) {
+    assert_eq!(rt; step(&empty_text(), SHORT, 0, 2, b"", 7), Some(1));
+    assert_eq!(rt; step(&one_symbol(), LONG, 0, 1, b"main", 4096), Some(1));
+    assert_eq!(rt; step(&empty_wide_text(), WIDE, 1, 2, b"", 7), Some(1));
+    assert_eq!(rt; step(&empty_wide_text(), WIDE_LONG, 0, 2, b"", 7), Some(1));
 }
 
 #[test]
-fn steps_end_after_the_last_pair(rt: HostRuntime) {
-    assert_eq!(rt; step(&empty_text(), SHORT, 2, 2, b"?", 9), Some(2));
-    assert_eq!(rt; step(&one_symbol(), LONG, 1, 1, b"?", 9), Some(2));
+fn walks_end_behind_the_last_pair(rt: HostRuntime) {
+    assert_eq!(rt; step(&empty_text(), SHORT, 2, 9, b"?", 9), Some(0));
+    assert_eq!(rt; step(&one_symbol(), LONG, 1, 9, b"?", 9), Some(0));
     assert_eq!(rt;
-        step(&empty_wide_text(), WIDE, u64::MAX, u64::MAX, b"?", 9),
-        Some(2)
+        step(&empty_wide_text(), WIDE, u64::MAX, 9, b"?", 9),
+        Some(0)
     );
-    assert_eq!(rt; step(&empty_wide_text(), WIDE_LONG, 2, 2, b"?", 9), Some(2));
+    assert_eq!(rt; step(&empty_wide_text(), WIDE_LONG, 2, 9, b"?", 9), Some(0));
+}
+
+#[test]
+fn walks_of_two_pairs_go_on(rt: HostRuntime) {
+    let bytes = empty_text_twice();
+    assert_eq!(rt; step(&bytes, SHORT, 0, 1, b"", 7), Some(1));
+    assert_eq!(rt; step(&bytes, SHORT, 1, 2, b"", 8), Some(1));
+    assert_eq!(rt; step(&bytes, SHORT, 2, 9, b"?", 9), Some(0));
 }
 
 #[test]
 fn several_pairs_are_stored_at_once(rt: HostRuntime) {
-    assert_eq!(rt; several(&empty_text(), SHORT, 0, b"", 7), Some(1));
-    assert_eq!(rt; several(&one_symbol(), LONG, 0, b"main", 4096), Some(1));
-    assert_eq!(rt; several(&empty_wide_text(), WIDE, 1, b"", 7), Some(1));
-    assert_eq!(rt; several(&empty_wide_text(), WIDE_LONG, 2, b"?", 9), Some(0));
+    let nine: (u64, &[u8], u64) = (9, b"?", 9);
+    let seven: (u64, &[u8], u64) = (2, b"", 7);
+    assert_eq!(rt; several(&empty_text(), SHORT, 0, seven, nine), Some(1));
+    assert_eq!(rt;
+        several(&one_symbol(), LONG, 0, (1, b"main", 4096), nine),
+        Some(1)
+    );
+    assert_eq!(rt; several(&empty_wide_text(), WIDE, 1, seven, nine), Some(1));
+    assert_eq!(rt;
+        several(&empty_wide_text(), WIDE_LONG, 2, nine, nine),
+        Some(0)
+    );
+    assert_eq!(rt;
+        several(&empty_text_twice(), SHORT, 0, (1, b"", 7), (2, b"", 8)),
+        Some(2)
+    );
 }
 
 #[test]

@@ -3,13 +3,13 @@
 ghost use Rattle.std.specs.Prelude.{IsTrue};
 ghost use Rattle.ffi_calls.specs.TextValues.{IsTextTextArchive};
 
-use crate::tests::text_archives::{empty_to_text, empty_to_wide_text};
+use crate::tests::text_archives::{empty_to_text, empty_to_two_texts, empty_to_wide_text};
 use ffi_calls::explanation::Explanation;
+use ffi_calls::pairs::{Pair, Step};
 use ffi_calls::status::DONE;
-use ffi_calls::text_values::TextValue;
 use ffi_calls::texts_to_texts::{
-    TextTextPair, decode_texts_to_texts, explain_texts_to_texts, get_text_of_text, next_text_text,
-    next_text_texts, open_texts_to_texts,
+    decode_texts_to_texts, explain_texts_to_texts, get_text_of_text, next_text_texts,
+    open_texts_to_texts,
 };
 use test_support::archives::no_items;
 
@@ -31,35 +31,40 @@ fn lookup(archive: &[u8], wide: bool, key: &[u8], wanted: &[u8]) -> Option<(usiz
         return None;
     }
     let header = decode_texts_to_texts(archive, wide);
-    let mut value = TextValue { text: b"?" };
+    let mut value: &[u8] = b"?";
     let status = get_text_of_text(archive, wide, &header, key, &mut value);
-    if value.text == wanted {
+    if value == wanted {
         Some((header.len(), status))
     } else {
         None
     }
 }
 
-// Returns whether the pair has these parts.
-fn is_pair(pair: TextTextPair<'_>, next: u64, key: &[u8], value: &[u8]) -> bool {
-    pair.next == next && pair.key == key && pair.value == value
+// A step that no call stores.
+const NINE: Step<Pair<&[u8], &[u8]>> = Step {
+    next: 9,
+    pair: Pair {
+        value: b"?",
+        key: b"!",
+    },
+};
+
+// Returns whether the step has these parts.
+fn is_step(step: Step<Pair<&[u8], &[u8]>>, next: u64, pair: [&[u8]; 2]) -> bool {
+    step.next == next && step.pair.key == pair[0] && step.pair.value == pair[1]
 }
 
-// Returns the status of a step from the given bucket on, if the pair is as wanted afterwards.
-// It is `!` to `?` at first.
-fn step(archive: &[u8], wide: bool, from: u64, next: u64, pair: [&[u8]; 2]) -> Option<u32> {
+// Returns how many pairs are stored over one, from the given bucket on, if the one is as wanted
+// afterwards. It is `!` to `?` at first.
+fn step(archive: &[u8], wide: bool, from: u64, next: u64, pair: [&[u8]; 2]) -> Option<usize> {
     if !is_map(archive, wide) {
         return None;
     }
     let header = decode_texts_to_texts(archive, wide);
-    let mut found = TextTextPair {
-        next: from,
-        key: b"!",
-        value: b"?",
-    };
-    let status = next_text_text(archive, wide, &header, &mut found);
-    if is_pair(found, next, pair[0], pair[1]) {
-        Some(status)
+    let mut pairs = [NINE];
+    let count = next_text_texts(archive, wide, &header, from, &mut pairs);
+    if is_step(pairs[0], next, pair) {
+        Some(count)
     } else {
         None
     }
@@ -72,14 +77,9 @@ fn several(archive: &[u8], wide: bool, from: u64, next: u64, pair: [&[u8]; 2]) -
         return None;
     }
     let header = decode_texts_to_texts(archive, wide);
-    let nine = TextTextPair {
-        next: 9,
-        key: b"!",
-        value: b"?",
-    };
-    let mut pairs = [nine; 2];
+    let mut pairs = [NINE; 2];
     let count = next_text_texts(archive, wide, &header, from, &mut pairs);
-    if is_pair(pairs[0], next, pair[0], pair[1]) && is_pair(pairs[1], 9, b"!", b"?") {
+    if is_step(pairs[0], next, pair) && is_step(pairs[1], 9, [b"!", b"?"]) {
         Some(count)
     } else {
         None
@@ -136,13 +136,13 @@ fn lookups_find_no_other_text(rt: HostRuntime) {
 }
 
 #[test]
-fn steps_read_the_pair_and_end(rt: HostRuntime) {
+fn walks_visit_the_pair_and_end(rt: HostRuntime) {
     let other: [&[u8]; 2] = [b"!", b"?"];
     assert_eq!(rt;
         step(&empty_to_text(), false, 0, 2, [b"", b"wonderful"]),
-        Some(0)
+        Some(1)
     );
-    assert_eq!(rt; step(&empty_to_text(), false, 2, 2, other), Some(2));
+    assert_eq!(rt; step(&empty_to_text(), false, 2, 9, other), Some(0));
     assert_eq!(rt;
         step(
             &empty_to_wide_text(),
@@ -151,9 +151,17 @@ fn steps_read_the_pair_and_end(rt: HostRuntime) {
             2,
             [b"", b"a text of 17 byte"]
         ),
-        Some(0)
+        Some(1)
     );
-    assert_eq!(rt; step(&empty_to_wide_text(), true, 7, 7, other), Some(2));
+    assert_eq!(rt; step(&empty_to_wide_text(), true, 7, 9, other), Some(0));
+}
+
+#[test]
+fn walks_of_two_pairs_go_on(rt: HostRuntime) {
+    let bytes = empty_to_two_texts();
+    assert_eq!(rt; step(&bytes, false, 0, 1, [b"", b"wonderful"]), Some(1));
+    assert_eq!(rt; step(&bytes, false, 1, 2, [b"", b"x"]), Some(1));
+    assert_eq!(rt; step(&bytes, false, 2, 9, [b"!", b"?"]), Some(0));
 }
 
 #[test]
@@ -186,6 +194,14 @@ fn damaged_archives_have_statuses(rt: HostRuntime) {
     assert_eq!(rt; status_with(20, 0x88), (22, (22, 20, 0, 0)));
     assert_eq!(rt; status_with(24, 0xf0), (16, (16, 4, 9, 0)));
     assert_eq!(rt; status_with(45, 0xff), (19, (19, 0, 1, 0)));
+}
+
+#[test]
+fn wide_archives_are_explained(rt: HostRuntime) {
+    let mut bytes = empty_to_wide_text();
+    bytes[16] = 0xc3;
+    let error = explain_texts_to_texts(&bytes, true);
+    assert_eq!(rt; (error.status, error.position), (22, 40));
 }
 
 #[test]

@@ -13,7 +13,7 @@ fn number_with(pos: usize, byte: u8) -> u32 {
         Some(old) => *old = byte,
         None => {}
     }
-    open_numbers(&bytes, SHORT)
+    open_numbers::<u32>(&bytes, SHORT)
 }
 
 // Returns the status of the map of `main` to 4096 with another byte at `pos`.
@@ -28,7 +28,7 @@ fn symbol_with(pos: usize, byte: u8) -> u32 {
 
 // Returns the statuses of the bytes as a map of numbers and as a map of texts.
 fn opened(bytes: &[u8], form: Form) -> (u32, u32) {
-    (open_numbers(bytes, form), open_texts(bytes, form))
+    (open_numbers::<u32>(bytes, form), open_texts(bytes, form))
 }
 
 #[test]
@@ -47,7 +47,7 @@ fn too_few_bytes_are_out_of_range(rt: HostRuntime) {
     assert_eq!(rt; opened(&[0; 11], LONG), (16, 16));
     assert_eq!(rt; opened(&no_items(), WIDE), (16, 16));
     assert_eq!(rt; opened(&[0; 23], WIDE_LONG), (16, 16));
-    assert_eq!(rt; open_numbers(&one_number()[4..], SHORT), 16);
+    assert_eq!(rt; open_numbers::<u32>(&one_number()[4..], SHORT), 16);
     assert_eq!(rt; open_texts(&empty_text()[4..], SHORT), 16);
 }
 
@@ -86,9 +86,9 @@ fn keys_that_are_no_text_are_invalid_values(rt: HostRuntime) {
 
 #[test]
 fn bytes_of_another_form_are_rejected(rt: HostRuntime) {
-    assert_eq!(rt; open_numbers(&one_wide_number(), WIDE), 0);
+    assert_eq!(rt; open_numbers::<u32>(&one_wide_number(), WIDE), 0);
     assert_eq!(rt; open_texts(&empty_wide_text(), WIDE_LONG), 0);
-    assert!(rt; open_numbers(&one_number(), WIDE) != 0);
-    assert!(rt; open_numbers(&one_number(), LONG) != 0);
+    assert!(rt; open_numbers::<u32>(&one_number(), WIDE) != 0);
+    assert!(rt; open_numbers::<u32>(&one_number(), LONG) != 0);
     assert!(rt; open_texts(&empty_text(), LONG) != 0);
 }

@@ -1,29 +1,46 @@
 use Rattle.std.proofs.Common.{◌≡◌}
 use Rattle.ffi_calls.specs.Archives.{Opens, limit_of}
 use Rattle.ffi_calls.specs.IndexArchives.{IsNumberIndex, number_index}
+use Rattle.ffi_calls.specs.Keys.{NumberKey}
 use Rattle.ffi_calls.proofs.Forms.{at_form}
 use Rattle.ffi_calls.proofs.index_numbers.open_index_numbers.Goals as goal
 
 pub returns-in-true-true-clause-told : goal.returns-in-true-true-clause-told
-returns-in-true-true-clause-told c = at_form (λ f. Opens (limit_of f.wide) (number_index f) c.args.archive.now c.open_index.result) c.args.form c.in-true-true.is-0 c.in-true-true.is-1 c.open_index.ensures.told
+returns-in-true-true-clause-told g c =
+    let k : NumberKey _ = record { eq = g.K.PartialEq.eq; spec = g.K.HasSpec.spec; encoding = g.K.Scalar.encoding; call = g.K.ScalarKey.call } in
+    at_form (λ f. Opens (limit_of f.wide) (number_index k f) c.args.archive.now c.open_index.result) c.args.form c.in-true-true.is-0 c.in-true-true.is-1 c.open_index.ensures.told
 
 pub returns-in-true-false-clause-told : goal.returns-in-true-false-clause-told
-returns-in-true-false-clause-told c = at_form (λ f. Opens (limit_of f.wide) (number_index f) c.args.archive.now c.open_index-in-true-false.result) c.args.form c.in-true-false.is-0 c.in-true-false.is-1 c.open_index-in-true-false.ensures.told
+returns-in-true-false-clause-told g c =
+    let k : NumberKey _ = record { eq = g.K.PartialEq.eq; spec = g.K.HasSpec.spec; encoding = g.K.Scalar.encoding; call = g.K.ScalarKey.call } in
+    at_form (λ f. Opens (limit_of f.wide) (number_index k f) c.args.archive.now c.open_index-in-true-false.result) c.args.form c.in-true-false.is-0 c.in-true-false.is-1 c.open_index-in-true-false.ensures.told
 
 pub returns-in-false-true-clause-told : goal.returns-in-false-true-clause-told
-returns-in-false-true-clause-told c = at_form (λ f. Opens (limit_of f.wide) (number_index f) c.args.archive.now c.open_index-in-false-true.result) c.args.form c.in-false-true.is-0 c.in-false-true.is-1 c.open_index-in-false-true.ensures.told
+returns-in-false-true-clause-told g c =
+    let k : NumberKey _ = record { eq = g.K.PartialEq.eq; spec = g.K.HasSpec.spec; encoding = g.K.Scalar.encoding; call = g.K.ScalarKey.call } in
+    at_form (λ f. Opens (limit_of f.wide) (number_index k f) c.args.archive.now c.open_index-in-false-true.result) c.args.form c.in-false-true.is-0 c.in-false-true.is-1 c.open_index-in-false-true.ensures.told
 
 pub returns-in-false-false-clause-told : goal.returns-in-false-false-clause-told
-returns-in-false-false-clause-told c = at_form (λ f. Opens (limit_of f.wide) (number_index f) c.args.archive.now c.open_index-in-false-false.result) c.args.form c.in-false-false.is-0 c.in-false-false.is-1 c.open_index-in-false-false.ensures.told
+returns-in-false-false-clause-told g c =
+    let k : NumberKey _ = record { eq = g.K.PartialEq.eq; spec = g.K.HasSpec.spec; encoding = g.K.Scalar.encoding; call = g.K.ScalarKey.call } in
+    at_form (λ f. Opens (limit_of f.wide) (number_index k f) c.args.archive.now c.open_index-in-false-false.result) c.args.form c.in-false-false.is-0 c.in-false-false.is-1 c.open_index-in-false-false.ensures.told
 
 pub returns-in-true-true-clause-accepts : goal.returns-in-true-true-clause-accepts
-returns-in-true-true-clause-accepts c = at_form (λ f. IsNumberIndex f c.args.archive.now → c.open_index.result ≡ 0) c.args.form c.in-true-true.is-0 c.in-true-true.is-1 c.open_index.ensures.accepts
+returns-in-true-true-clause-accepts g c =
+    let k : NumberKey _ = record { eq = g.K.PartialEq.eq; spec = g.K.HasSpec.spec; encoding = g.K.Scalar.encoding; call = g.K.ScalarKey.call } in
+    at_form (λ f. IsNumberIndex k f c.args.archive.now → c.open_index.result ≡ 0) c.args.form c.in-true-true.is-0 c.in-true-true.is-1 c.open_index.ensures.accepts
 
 pub returns-in-true-false-clause-accepts : goal.returns-in-true-false-clause-accepts
-returns-in-true-false-clause-accepts c = at_form (λ f. IsNumberIndex f c.args.archive.now → c.open_index-in-true-false.result ≡ 0) c.args.form c.in-true-false.is-0 c.in-true-false.is-1 c.open_index-in-true-false.ensures.accepts
+returns-in-true-false-clause-accepts g c =
+    let k : NumberKey _ = record { eq = g.K.PartialEq.eq; spec = g.K.HasSpec.spec; encoding = g.K.Scalar.encoding; call = g.K.ScalarKey.call } in
+    at_form (λ f. IsNumberIndex k f c.args.archive.now → c.open_index-in-true-false.result ≡ 0) c.args.form c.in-true-false.is-0 c.in-true-false.is-1 c.open_index-in-true-false.ensures.accepts
 
 pub returns-in-false-true-clause-accepts : goal.returns-in-false-true-clause-accepts
-returns-in-false-true-clause-accepts c = at_form (λ f. IsNumberIndex f c.args.archive.now → c.open_index-in-false-true.result ≡ 0) c.args.form c.in-false-true.is-0 c.in-false-true.is-1 c.open_index-in-false-true.ensures.accepts
+returns-in-false-true-clause-accepts g c =
+    let k : NumberKey _ = record { eq = g.K.PartialEq.eq; spec = g.K.HasSpec.spec; encoding = g.K.Scalar.encoding; call = g.K.ScalarKey.call } in
+    at_form (λ f. IsNumberIndex k f c.args.archive.now → c.open_index-in-false-true.result ≡ 0) c.args.form c.in-false-true.is-0 c.in-false-true.is-1 c.open_index-in-false-true.ensures.accepts
 
 pub returns-in-false-false-clause-accepts : goal.returns-in-false-false-clause-accepts
-returns-in-false-false-clause-accepts c = at_form (λ f. IsNumberIndex f c.args.archive.now → c.open_index-in-false-false.result ≡ 0) c.args.form c.in-false-false.is-0 c.in-false-false.is-1 c.open_index-in-false-false.ensures.accepts
+returns-in-false-false-clause-accepts g c =
+    let k : NumberKey _ = record { eq = g.K.PartialEq.eq; spec = g.K.HasSpec.spec; encoding = g.K.Scalar.encoding; call = g.K.ScalarKey.call } in
+    at_form (λ f. IsNumberIndex k f c.args.archive.now → c.open_index-in-false-false.result ≡ 0) c.args.form c.in-false-false.is-0 c.in-false-false.is-1 c.open_index-in-false-false.ensures.accepts

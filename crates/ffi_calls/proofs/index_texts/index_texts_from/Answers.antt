@@ -1,40 +1,55 @@
-use Rattle.ffi_calls.specs.IndexArchives.{IsTextIndex, StoresTexts}
+use Rattle.std.proofs.Common.{refl}
+use Rattle.std.specs.Prelude.{map}
+use Rattle.ffi_calls.specs.Archives.{IsHeaderOf}
+use Rattle.ffi_calls.specs.IndexArchives.{IsTextIndex, StoresTexts, text_index_in}
 use Rattle.ffi_calls.specs.IndexLists.{StoresListedTexts}
 use Rattle.ffi_calls.proofs.Forms.{at_form, of_form}
 use Rattle.ffi_calls.proofs.index_texts.index_texts_from.Goals as goal
 
-pub returns-in-true-true-clause-stores : goal.returns-in-true-true-clause-stores
-returns-in-true-true-clause-stores c = at_form (λ f. StoresTexts f c.args.archive.now c.args.from c.args.pairs.now c.pairs_in.result c.pairs_in.new.pairs) c.args.form c.in-true-true.is-0 c.in-true-true.is-1 c.pairs_in.ensures.stores
-
-pub returns-in-true-false-clause-stores : goal.returns-in-true-false-clause-stores
-returns-in-true-false-clause-stores c = at_form (λ f. StoresTexts f c.args.archive.now c.args.from c.args.pairs.now c.pairs_in-in-true-false.result c.pairs_in-in-true-false.new.pairs) c.args.form c.in-true-false.is-0 c.in-true-false.is-1 c.pairs_in-in-true-false.ensures.stores
-
-pub returns-in-false-true-clause-stores : goal.returns-in-false-true-clause-stores
-returns-in-false-true-clause-stores c = at_form (λ f. StoresTexts f c.args.archive.now c.args.from c.args.pairs.now c.pairs_in-in-false-true.result c.pairs_in-in-false-true.new.pairs) c.args.form c.in-false-true.is-0 c.in-false-true.is-1 c.pairs_in-in-false-true.ensures.stores
-
-pub returns-in-false-false-clause-stores : goal.returns-in-false-false-clause-stores
-returns-in-false-false-clause-stores c = at_form (λ f. StoresTexts f c.args.archive.now c.args.from c.args.pairs.now c.pairs_in-in-false-false.result c.pairs_in-in-false-false.new.pairs) c.args.form c.in-false-false.is-0 c.in-false-false.is-1 c.pairs_in-in-false-false.ensures.stores
-
-pub returns-in-true-true-clause-listed : goal.returns-in-true-true-clause-listed
-returns-in-true-true-clause-listed c = at_form (λ f. StoresListedTexts f c.args.archive.now c.args.from c.args.pairs.now c.pairs_in.result c.pairs_in.new.pairs) c.args.form c.in-true-true.is-0 c.in-true-true.is-1 c.pairs_in.ensures.listed
-
-pub returns-in-true-false-clause-listed : goal.returns-in-true-false-clause-listed
-returns-in-true-false-clause-listed c = at_form (λ f. StoresListedTexts f c.args.archive.now c.args.from c.args.pairs.now c.pairs_in-in-true-false.result c.pairs_in-in-true-false.new.pairs) c.args.form c.in-true-false.is-0 c.in-true-false.is-1 c.pairs_in-in-true-false.ensures.listed
-
-pub returns-in-false-true-clause-listed : goal.returns-in-false-true-clause-listed
-returns-in-false-true-clause-listed c = at_form (λ f. StoresListedTexts f c.args.archive.now c.args.from c.args.pairs.now c.pairs_in-in-false-true.result c.pairs_in-in-false-true.new.pairs) c.args.form c.in-false-true.is-0 c.in-false-true.is-1 c.pairs_in-in-false-true.ensures.listed
-
-pub returns-in-false-false-clause-listed : goal.returns-in-false-false-clause-listed
-returns-in-false-false-clause-listed c = at_form (λ f. StoresListedTexts f c.args.archive.now c.args.from c.args.pairs.now c.pairs_in-in-false-false.result c.pairs_in-in-false-false.new.pairs) c.args.form c.in-false-false.is-0 c.in-false-false.is-1 c.pairs_in-in-false-false.ensures.listed
-
 pub pairs_in-requires : goal.pairs_in-requires
-pairs_in-requires c = of_form (λ f. IsTextIndex f c.args.archive.now) c.args.form c.in-true-true.is-0 c.in-true-true.is-1 c.requires
+pairs_in-requires g c κs =
+    let archive = of_form (λ f. IsTextIndex f c.args.archive.now) c.args.form c.in-true-true.is-0 c.in-true-true.is-1 c.requires.archive in
+    let header = of_form (λ f. IsHeaderOf (text_index_in f c.args.archive.now) c.args.header.now) c.args.form c.in-true-true.is-0 c.in-true-true.is-1 c.requires.header in
+    ((refl, tt), (archive, header))
 
 pub pairs_in-requires-in-true-false : goal.pairs_in-requires-in-true-false
-pairs_in-requires-in-true-false c = of_form (λ f. IsTextIndex f c.args.archive.now) c.args.form c.in-true-false.is-0 c.in-true-false.is-1 c.requires
+pairs_in-requires-in-true-false g c κs =
+    let archive = of_form (λ f. IsTextIndex f c.args.archive.now) c.args.form c.in-true-false.is-0 c.in-true-false.is-1 c.requires.archive in
+    let header = of_form (λ f. IsHeaderOf (text_index_in f c.args.archive.now) c.args.header.now) c.args.form c.in-true-false.is-0 c.in-true-false.is-1 c.requires.header in
+    ((refl, tt), (archive, header))
 
 pub pairs_in-requires-in-false-true : goal.pairs_in-requires-in-false-true
-pairs_in-requires-in-false-true c = of_form (λ f. IsTextIndex f c.args.archive.now) c.args.form c.in-false-true.is-0 c.in-false-true.is-1 c.requires
+pairs_in-requires-in-false-true g c κs =
+    let archive = of_form (λ f. IsTextIndex f c.args.archive.now) c.args.form c.in-false-true.is-0 c.in-false-true.is-1 c.requires.archive in
+    let header = of_form (λ f. IsHeaderOf (text_index_in f c.args.archive.now) c.args.header.now) c.args.form c.in-false-true.is-0 c.in-false-true.is-1 c.requires.header in
+    ((refl, tt), (archive, header))
 
 pub pairs_in-requires-in-false-false : goal.pairs_in-requires-in-false-false
-pairs_in-requires-in-false-false c = of_form (λ f. IsTextIndex f c.args.archive.now) c.args.form c.in-false-false.is-0 c.in-false-false.is-1 c.requires
+pairs_in-requires-in-false-false g c κs =
+    let archive = of_form (λ f. IsTextIndex f c.args.archive.now) c.args.form c.in-false-false.is-0 c.in-false-false.is-1 c.requires.archive in
+    let header = of_form (λ f. IsHeaderOf (text_index_in f c.args.archive.now) c.args.header.now) c.args.form c.in-false-false.is-0 c.in-false-false.is-1 c.requires.header in
+    ((refl, tt), (archive, header))
+
+pub returns-in-true-true-clause-stores : goal.returns-in-true-true-clause-stores
+returns-in-true-true-clause-stores g c = at_form (λ f. StoresTexts f c.args.archive.now c.args.from (map g.P.PairOf.pair_of c.args.pairs.now) c.pairs_in.result (map g.P.PairOf.pair_of c.pairs_in.new.pairs)) c.args.form c.in-true-true.is-0 c.in-true-true.is-1 c.pairs_in.ensures.stores
+
+pub returns-in-true-true-clause-listed : goal.returns-in-true-true-clause-listed
+returns-in-true-true-clause-listed g c = at_form (λ f. StoresListedTexts f c.args.archive.now c.args.from (map g.P.PairOf.pair_of c.args.pairs.now) c.pairs_in.result (map g.P.PairOf.pair_of c.pairs_in.new.pairs)) c.args.form c.in-true-true.is-0 c.in-true-true.is-1 c.pairs_in.ensures.listed
+
+pub returns-in-true-false-clause-stores : goal.returns-in-true-false-clause-stores
+returns-in-true-false-clause-stores g c = at_form (λ f. StoresTexts f c.args.archive.now c.args.from (map g.P.PairOf.pair_of c.args.pairs.now) c.pairs_in-in-true-false.result (map g.P.PairOf.pair_of c.pairs_in-in-true-false.new.pairs)) c.args.form c.in-true-false.is-0 c.in-true-false.is-1 c.pairs_in-in-true-false.ensures.stores
+
+pub returns-in-true-false-clause-listed : goal.returns-in-true-false-clause-listed
+returns-in-true-false-clause-listed g c = at_form (λ f. StoresListedTexts f c.args.archive.now c.args.from (map g.P.PairOf.pair_of c.args.pairs.now) c.pairs_in-in-true-false.result (map g.P.PairOf.pair_of c.pairs_in-in-true-false.new.pairs)) c.args.form c.in-true-false.is-0 c.in-true-false.is-1 c.pairs_in-in-true-false.ensures.listed
+
+pub returns-in-false-true-clause-stores : goal.returns-in-false-true-clause-stores
+returns-in-false-true-clause-stores g c = at_form (λ f. StoresTexts f c.args.archive.now c.args.from (map g.P.PairOf.pair_of c.args.pairs.now) c.pairs_in-in-false-true.result (map g.P.PairOf.pair_of c.pairs_in-in-false-true.new.pairs)) c.args.form c.in-false-true.is-0 c.in-false-true.is-1 c.pairs_in-in-false-true.ensures.stores
+
+pub returns-in-false-true-clause-listed : goal.returns-in-false-true-clause-listed
+returns-in-false-true-clause-listed g c = at_form (λ f. StoresListedTexts f c.args.archive.now c.args.from (map g.P.PairOf.pair_of c.args.pairs.now) c.pairs_in-in-false-true.result (map g.P.PairOf.pair_of c.pairs_in-in-false-true.new.pairs)) c.args.form c.in-false-true.is-0 c.in-false-true.is-1 c.pairs_in-in-false-true.ensures.listed
+
+pub returns-in-false-false-clause-stores : goal.returns-in-false-false-clause-stores
+returns-in-false-false-clause-stores g c = at_form (λ f. StoresTexts f c.args.archive.now c.args.from (map g.P.PairOf.pair_of c.args.pairs.now) c.pairs_in-in-false-false.result (map g.P.PairOf.pair_of c.pairs_in-in-false-false.new.pairs)) c.args.form c.in-false-false.is-0 c.in-false-false.is-1 c.pairs_in-in-false-false.ensures.stores
+
+pub returns-in-false-false-clause-listed : goal.returns-in-false-false-clause-listed
+returns-in-false-false-clause-listed g c = at_form (λ f. StoresListedTexts f c.args.archive.now c.args.from (map g.P.PairOf.pair_of c.args.pairs.now) c.pairs_in-in-false-false.result (map g.P.PairOf.pair_of c.pairs_in-in-false-false.new.pairs)) c.args.form c.in-false-false.is-0 c.in-false-false.is-1 c.pairs_in-in-false-false.ensures.listed

@@ -1,22 +1,25 @@
-use Rattle.std.proofs.Common.{◌≡◌, ◌∙◌, None, Some, ap, refl, subst}
-use Rattle.rkyv_base.specs.Scalar.{ScalarRepresents}
-use Rattle.ffi_calls.specs.Archives.{Gives}
+use Rattle.std.proofs.Common.{None, Some, refl, subst}
+use Rattle.ffi_calls.specs.Archives.{GivesAt}
 use Rattle.ffi_calls.proofs.First.{first_given, none_given}
+use Rattle.ffi_calls.proofs.Next.{there}
 use Rattle.ffi_calls.proofs.lookup.get_in.Goals as goal
 
 pub returns-in-Some-clause-gives : goal.returns-in-Some-clause-gives
 returns-in-Some-clause-gives g c =
-    subst (λ place. Gives g.V.Scalar.encoding.word c.args.archive.now place c.args.value.now 0 c.number_in.result) c.in-Some.ensures.found (refl, c.number_in.ensures)
+    let b = c.args.archive.now in
+    let reads = g.V.StoredAs.reads in
+    let read = there (λ d q. reads d q c.read_as.result) _ _ _ _ b c.new.ensures.0 refl c.new.ensures.1 c.read_as.ensures in
+    subst (λ place. GivesAt (reads b) place c.args.value.now 0 c.read_as.result) c.in-Some.ensures.found (refl, read)
 
 pub returns-in-None-clause-gives : goal.returns-in-None-clause-gives
-returns-in-None-clause-gives g c = subst (λ place. Gives g.V.Scalar.encoding.word c.args.archive.now place c.args.value.now 1 c.args.value.now) c.in-None.ensures.found (refl, refl)
+returns-in-None-clause-gives g c = subst (λ place. GivesAt (g.V.StoredAs.reads c.args.archive.now) place c.args.value.now 1 c.args.value.now) c.in-None.ensures.found (refl, refl)
 
 pub returns-in-Some-clause-listed : goal.returns-in-Some-clause-listed
 returns-in-Some-clause-listed g c = λ factor pairs represents.
-    let e = g.V.Scalar.encoding in
-    first_given (ScalarRepresents e c.args.archive.now) (λ after x. e.value after ≡ x) (Some c.in-Some.pos) 0 c.number_in.result c.args.value.now c.in-Some.pos _ refl refl (λ x at. ap e.value c.number_in.ensures ∙ at) (c.in-Some.ensures.listed factor pairs represents)
+    let b = c.args.archive.now in
+    let read = there (λ d q. g.V.StoredAs.reads d q c.read_as.result) _ _ _ _ b c.new.ensures.0 refl c.new.ensures.1 c.read_as.ensures in
+    first_given (g.V.Represents.represents b) g.V.StoresNative.is_of (Some c.in-Some.pos) 0 c.read_as.result c.args.value.now c.in-Some.pos _ refl refl (λ x at. g.met.V.StoresNative.agrees b c.in-Some.pos c.read_as.result x read at) (c.in-Some.ensures.listed factor pairs represents)
 
 pub returns-in-None-clause-listed : goal.returns-in-None-clause-listed
 returns-in-None-clause-listed g c = λ factor pairs represents.
-    let e = g.V.Scalar.encoding in
-    none_given (ScalarRepresents e c.args.archive.now) (λ after x. e.value after ≡ x) None 1 c.args.value.now c.args.value.now _ refl refl refl (c.in-None.ensures.listed factor pairs represents)
+    none_given (g.V.Represents.represents c.args.archive.now) g.V.StoresNative.is_of None 1 c.args.value.now c.args.value.now _ refl refl refl (c.in-None.ensures.listed factor pairs represents)

@@ -1,22 +1,31 @@
+use Rattle.std.proofs.Common.{refl}
+use Rattle.std.specs.Prelude.{map}
 use Rattle.ffi_calls.specs.Archives.{IsHeaderOf}
-use Rattle.ffi_calls.specs.Sets.{IsNumberSet, NextNumberMembers, number_set_in}
+use Rattle.ffi_calls.specs.Sets.{IsNumberSet, StoresNextMembers, number_set_in}
+use Rattle.ffi_calls.specs.Keys.{NumberKey}
 use Rattle.ffi_calls.proofs.Forms.{at_flag, of_flag}
 use Rattle.ffi_calls.proofs.number_sets.next_number_members.Goals as goal
 
-pub next_members_in-requires-clause-archive : goal.next_members_in-requires-clause-archive
-next_members_in-requires-clause-archive c = of_flag (λ f. IsNumberSet f c.args.archive.now) c.if-wide.true c.requires.archive
+pub next_pairs_in-requires : goal.next_pairs_in-requires
+next_pairs_in-requires g c κs =
+    let k : NumberKey _ = record { eq = g.K.PartialEq.eq; spec = g.K.HasSpec.spec; encoding = g.K.Scalar.encoding; call = g.K.ScalarKey.call } in
+    let archive = of_flag (λ f. IsNumberSet k f c.args.archive.now) c.if-wide.true c.requires.archive in
+    let header = of_flag (λ f. IsHeaderOf (number_set_in k f c.args.archive.now) c.args.header.now) c.if-wide.true c.requires.header in
+    ((refl, tt), (archive, header))
 
-pub next_members_in-requires-clause-header : goal.next_members_in-requires-clause-header
-next_members_in-requires-clause-header c = of_flag (λ f. IsHeaderOf (number_set_in f c.args.archive.now) c.args.header.now) c.if-wide.true c.requires.header
+pub next_pairs_in-requires-else-wide : goal.next_pairs_in-requires-else-wide
+next_pairs_in-requires-else-wide g c κs =
+    let k : NumberKey _ = record { eq = g.K.PartialEq.eq; spec = g.K.HasSpec.spec; encoding = g.K.Scalar.encoding; call = g.K.ScalarKey.call } in
+    let archive = of_flag (λ f. IsNumberSet k f c.args.archive.now) c.if-wide.false c.requires.archive in
+    let header = of_flag (λ f. IsHeaderOf (number_set_in k f c.args.archive.now) c.args.header.now) c.if-wide.false c.requires.header in
+    ((refl, tt), (archive, header))
 
 pub returns-then-wide : goal.returns-then-wide
-returns-then-wide c = at_flag (λ f. NextNumberMembers (number_set_in f c.args.archive.now) c.args.from c.args.members.now c.next_members_in.result c.next_members_in.new.members) c.if-wide.true c.next_members_in.ensures
-
-pub next_members_in-requires-else-wide-clause-archive : goal.next_members_in-requires-else-wide-clause-archive
-next_members_in-requires-else-wide-clause-archive c = of_flag (λ f. IsNumberSet f c.args.archive.now) c.if-wide.false c.requires.archive
-
-pub next_members_in-requires-else-wide-clause-header : goal.next_members_in-requires-else-wide-clause-header
-next_members_in-requires-else-wide-clause-header c = of_flag (λ f. IsHeaderOf (number_set_in f c.args.archive.now) c.args.header.now) c.if-wide.false c.requires.header
+returns-then-wide g c =
+    let k : NumberKey _ = record { eq = g.K.PartialEq.eq; spec = g.K.HasSpec.spec; encoding = g.K.Scalar.encoding; call = g.K.ScalarKey.call } in
+    at_flag (λ f. StoresNextMembers k f c.args.archive.now c.args.from (map g.S.StepOf.step_of c.args.members.now) c.next_pairs_in.result (map g.S.StepOf.step_of c.next_pairs_in.new.pairs)) c.if-wide.true c.next_pairs_in.ensures
 
 pub returns-else-wide : goal.returns-else-wide
-returns-else-wide c = at_flag (λ f. NextNumberMembers (number_set_in f c.args.archive.now) c.args.from c.args.members.now c.next_members_in-else-wide.result c.next_members_in-else-wide.new.members) c.if-wide.false c.next_members_in-else-wide.ensures
+returns-else-wide g c =
+    let k : NumberKey _ = record { eq = g.K.PartialEq.eq; spec = g.K.HasSpec.spec; encoding = g.K.Scalar.encoding; call = g.K.ScalarKey.call } in
+    at_flag (λ f. StoresNextMembers k f c.args.archive.now c.args.from (map g.S.StepOf.step_of c.args.members.now) c.next_pairs_in-else-wide.result (map g.S.StepOf.step_of c.next_pairs_in-else-wide.new.pairs)) c.if-wide.false c.next_pairs_in-else-wide.ensures

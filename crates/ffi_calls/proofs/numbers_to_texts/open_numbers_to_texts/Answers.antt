@@ -1,17 +1,26 @@
 use Rattle.std.specs.Prelude.{◌≡◌}
 use Rattle.ffi_calls.specs.Archives.{Opens, limit_of}
 use Rattle.ffi_calls.specs.TextValues.{IsNumberTextArchive, number_text_map}
+use Rattle.ffi_calls.specs.Keys.{NumberKey}
 use Rattle.ffi_calls.proofs.Forms.{at_flag}
 use Rattle.ffi_calls.proofs.numbers_to_texts.open_numbers_to_texts.Goals as goal
 
 pub returns-then-wide-clause-told : goal.returns-then-wide-clause-told
-returns-then-wide-clause-told c = at_flag (λ f. Opens (limit_of f) (number_text_map f) c.args.archive.now c.open_map.result) c.if-wide.true c.open_map.ensures.told
+returns-then-wide-clause-told g c =
+    let k : NumberKey _ = record { eq = g.K.PartialEq.eq; spec = g.K.HasSpec.spec; encoding = g.K.Scalar.encoding; call = g.K.ScalarKey.call } in
+    at_flag (λ f. Opens (limit_of f) (number_text_map k f) c.args.archive.now c.open_map.result) c.if-wide.true c.open_map.ensures.told
 
 pub returns-then-wide-clause-accepts : goal.returns-then-wide-clause-accepts
-returns-then-wide-clause-accepts c = at_flag (λ f. IsNumberTextArchive f c.args.archive.now → c.open_map.result ≡ 0) c.if-wide.true c.open_map.ensures.accepts
+returns-then-wide-clause-accepts g c =
+    let k : NumberKey _ = record { eq = g.K.PartialEq.eq; spec = g.K.HasSpec.spec; encoding = g.K.Scalar.encoding; call = g.K.ScalarKey.call } in
+    at_flag (λ f. IsNumberTextArchive k f c.args.archive.now → c.open_map.result ≡ 0) c.if-wide.true c.open_map.ensures.accepts
 
 pub returns-else-wide-clause-told : goal.returns-else-wide-clause-told
-returns-else-wide-clause-told c = at_flag (λ f. Opens (limit_of f) (number_text_map f) c.args.archive.now c.open_map-else-wide.result) c.if-wide.false c.open_map-else-wide.ensures.told
+returns-else-wide-clause-told g c =
+    let k : NumberKey _ = record { eq = g.K.PartialEq.eq; spec = g.K.HasSpec.spec; encoding = g.K.Scalar.encoding; call = g.K.ScalarKey.call } in
+    at_flag (λ f. Opens (limit_of f) (number_text_map k f) c.args.archive.now c.open_map-else-wide.result) c.if-wide.false c.open_map-else-wide.ensures.told
 
 pub returns-else-wide-clause-accepts : goal.returns-else-wide-clause-accepts
-returns-else-wide-clause-accepts c = at_flag (λ f. IsNumberTextArchive f c.args.archive.now → c.open_map-else-wide.result ≡ 0) c.if-wide.false c.open_map-else-wide.ensures.accepts
+returns-else-wide-clause-accepts g c =
+    let k : NumberKey _ = record { eq = g.K.PartialEq.eq; spec = g.K.HasSpec.spec; encoding = g.K.Scalar.encoding; call = g.K.ScalarKey.call } in
+    at_flag (λ f. IsNumberTextArchive k f c.args.archive.now → c.open_map-else-wide.result ≡ 0) c.if-wide.false c.open_map-else-wide.ensures.accepts

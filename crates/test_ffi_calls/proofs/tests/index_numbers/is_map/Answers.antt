@@ -1,9 +1,11 @@
 use Rattle.ffi_calls.specs.Archives.{limit_of}
 use Rattle.ffi_calls.specs.IndexArchives.{number_index}
+use Rattle.ffi_calls.specs.Keys.{NumberKey}
 use Rattle.test_ffi_calls.proofs.Opened.{opened}
 use Rattle.test_ffi_calls.proofs.tests.index_numbers.is_map.Goals as goal
 
 pub returns-then-open_index_numbers-eq-DONE : goal.returns-then-open_index_numbers-eq-DONE
-returns-then-open_index_numbers-eq-DONE c = λ yes.
+returns-then-open_index_numbers-eq-DONE g c = λ yes.
+    let k : NumberKey _ = record { eq = g.K.PartialEq.eq; spec = g.K.HasSpec.spec; encoding = g.K.Scalar.encoding; call = g.K.ScalarKey.call } in
     let form = c.args.form in
-    opened (limit_of form.wide) (number_index form) c.args.archive.now c.open_index_numbers.result c.open_index_numbers.ensures.told c.if-open_index_numbers-eq-DONE.true
+    opened (limit_of form.wide) (number_index k form) c.args.archive.now c.open_index_numbers.result c.open_index_numbers.ensures.told c.if-open_index_numbers-eq-DONE.true

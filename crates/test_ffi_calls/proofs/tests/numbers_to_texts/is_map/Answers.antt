@@ -1,9 +1,11 @@
 use Rattle.ffi_calls.specs.Archives.{limit_of}
 use Rattle.ffi_calls.specs.TextValues.{number_text_map}
+use Rattle.ffi_calls.specs.Keys.{NumberKey}
 use Rattle.test_ffi_calls.proofs.Opened.{opened}
 use Rattle.test_ffi_calls.proofs.tests.numbers_to_texts.is_map.Goals as goal
 
 pub returns-then-open_numbers_to_texts-eq-DONE : goal.returns-then-open_numbers_to_texts-eq-DONE
-returns-then-open_numbers_to_texts-eq-DONE c = λ yes.
+returns-then-open_numbers_to_texts-eq-DONE g c = λ yes.
+    let k : NumberKey _ = record { eq = g.K.PartialEq.eq; spec = g.K.HasSpec.spec; encoding = g.K.Scalar.encoding; call = g.K.ScalarKey.call } in
     let wide = c.args.wide in
-    opened (limit_of wide) (number_text_map wide) c.args.archive.now c.open_numbers_to_texts.result c.open_numbers_to_texts.ensures.told c.if-open_numbers_to_texts-eq-DONE.true
+    opened (limit_of wide) (number_text_map k wide) c.args.archive.now c.open_numbers_to_texts.result c.open_numbers_to_texts.ensures.told c.if-open_numbers_to_texts-eq-DONE.true

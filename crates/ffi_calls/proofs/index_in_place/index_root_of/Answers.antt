@@ -1,0 +1,16 @@
+use Rattle.std.proofs.Common.{◌∙◌, subst, sym}
+use Rattle.rkyv_base.specs.Lemmas.Access.{root_viewable}
+use Rattle.rkyv_base.specs.ElementSpec.{Viewable}
+use Rattle.ffi_calls.specs.IndexArchives.{index_map}
+use Rattle.ffi_calls.proofs.index_in_place.index_root_of.Goals as goal
+
+pub access_unchecked-requires : goal.access_unchecked-requires
+access_unchecked-requires g c = root_viewable g.W.Width.LIMIT (index_map g.W.Word.word g.K.HasSpec.spec g.V.HasSpec.spec) c.args.archive.now c.requires
+
+pub returns-clause-at : goal.returns-clause-at
+returns-clause-at g c = c.pos.ensures ∙ c.access_unchecked.ensures.at.1
+
+pub returns-clause-viewable : goal.returns-clause-viewable
+returns-clause-viewable g c =
+    let spec = index_map g.W.Word.word g.K.HasSpec.spec g.V.HasSpec.spec in
+    subst (Viewable spec c.args.archive.now) (sym (c.pos.ensures ∙ c.access_unchecked.ensures.at.1)) (root_viewable g.W.Width.LIMIT spec c.args.archive.now c.requires)

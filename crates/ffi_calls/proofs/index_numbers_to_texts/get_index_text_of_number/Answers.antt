@@ -1,0 +1,40 @@
+use Rattle.std.proofs.Common.{refl}
+use Rattle.ffi_calls.specs.Archives.{IsHeaderOf}
+use Rattle.ffi_calls.specs.IndexTextValues.{GivesFirstIndexedTextOfNumber, GivesIndexedTextOfNumber, IsNumberTextIndex, number_text_index_in}
+use Rattle.ffi_calls.specs.Keys.{NumberKey}
+use Rattle.ffi_calls.proofs.Forms.{at_flag, of_flag}
+use Rattle.ffi_calls.proofs.index_numbers_to_texts.get_index_text_of_number.Goals as goal
+
+pub find_in-requires : goal.find_in-requires
+find_in-requires g c κs =
+    let k : NumberKey _ = record { eq = g.K.PartialEq.eq; spec = g.K.HasSpec.spec; encoding = g.K.Scalar.encoding; call = g.K.ScalarKey.call } in
+    let archive = of_flag (λ f. IsNumberTextIndex k f c.args.archive.now) c.if-wide.true c.requires.archive in
+    let header = of_flag (λ f. IsHeaderOf (number_text_index_in k f c.args.archive.now) c.args.header.now) c.if-wide.true c.requires.header in
+    ((refl, tt), (archive, (header, tt)))
+
+pub find_in-requires-else-wide : goal.find_in-requires-else-wide
+find_in-requires-else-wide g c κs =
+    let k : NumberKey _ = record { eq = g.K.PartialEq.eq; spec = g.K.HasSpec.spec; encoding = g.K.Scalar.encoding; call = g.K.ScalarKey.call } in
+    let archive = of_flag (λ f. IsNumberTextIndex k f c.args.archive.now) c.if-wide.false c.requires.archive in
+    let header = of_flag (λ f. IsHeaderOf (number_text_index_in k f c.args.archive.now) c.args.header.now) c.if-wide.false c.requires.header in
+    ((refl, tt), (archive, (header, tt)))
+
+pub returns-then-wide-clause-gives : goal.returns-then-wide-clause-gives
+returns-then-wide-clause-gives g c =
+    let k : NumberKey _ = record { eq = g.K.PartialEq.eq; spec = g.K.HasSpec.spec; encoding = g.K.Scalar.encoding; call = g.K.ScalarKey.call } in
+    at_flag (λ f. GivesIndexedTextOfNumber k f c.args.archive.now c.args.key (g.I.IndexedOf.indexed_of c.args.found.now) c.find_in.result (g.I.IndexedOf.indexed_of c.find_in.new.found)) c.if-wide.true c.find_in.ensures.gives
+
+pub returns-then-wide-clause-listed : goal.returns-then-wide-clause-listed
+returns-then-wide-clause-listed g c =
+    let k : NumberKey _ = record { eq = g.K.PartialEq.eq; spec = g.K.HasSpec.spec; encoding = g.K.Scalar.encoding; call = g.K.ScalarKey.call } in
+    at_flag (λ f. GivesFirstIndexedTextOfNumber k f c.args.archive.now c.args.key (g.I.IndexedOf.indexed_of c.args.found.now) c.find_in.result (g.I.IndexedOf.indexed_of c.find_in.new.found)) c.if-wide.true c.find_in.ensures.listed
+
+pub returns-else-wide-clause-gives : goal.returns-else-wide-clause-gives
+returns-else-wide-clause-gives g c =
+    let k : NumberKey _ = record { eq = g.K.PartialEq.eq; spec = g.K.HasSpec.spec; encoding = g.K.Scalar.encoding; call = g.K.ScalarKey.call } in
+    at_flag (λ f. GivesIndexedTextOfNumber k f c.args.archive.now c.args.key (g.I.IndexedOf.indexed_of c.args.found.now) c.find_in-else-wide.result (g.I.IndexedOf.indexed_of c.find_in-else-wide.new.found)) c.if-wide.false c.find_in-else-wide.ensures.gives
+
+pub returns-else-wide-clause-listed : goal.returns-else-wide-clause-listed
+returns-else-wide-clause-listed g c =
+    let k : NumberKey _ = record { eq = g.K.PartialEq.eq; spec = g.K.HasSpec.spec; encoding = g.K.Scalar.encoding; call = g.K.ScalarKey.call } in
+    at_flag (λ f. GivesFirstIndexedTextOfNumber k f c.args.archive.now c.args.key (g.I.IndexedOf.indexed_of c.args.found.now) c.find_in-else-wide.result (g.I.IndexedOf.indexed_of c.find_in-else-wide.new.found)) c.if-wide.false c.find_in-else-wide.ensures.listed

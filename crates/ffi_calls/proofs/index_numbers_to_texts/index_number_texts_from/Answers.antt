@@ -1,0 +1,41 @@
+use Rattle.std.proofs.Common.{refl}
+use Rattle.std.specs.Prelude.{map}
+use Rattle.ffi_calls.specs.Archives.{IsHeaderOf}
+use Rattle.ffi_calls.specs.IndexTextValues.{IsNumberTextIndex, StoresListedNumberTexts, StoresNumberTexts, number_text_index_in}
+use Rattle.ffi_calls.specs.Keys.{NumberKey}
+use Rattle.ffi_calls.proofs.Forms.{at_flag, of_flag}
+use Rattle.ffi_calls.proofs.index_numbers_to_texts.index_number_texts_from.Goals as goal
+
+pub pairs_in-requires : goal.pairs_in-requires
+pairs_in-requires g c κs =
+    let k : NumberKey _ = record { eq = g.K.PartialEq.eq; spec = g.K.HasSpec.spec; encoding = g.K.Scalar.encoding; call = g.K.ScalarKey.call } in
+    let archive = of_flag (λ f. IsNumberTextIndex k f c.args.archive.now) c.if-wide.true c.requires.archive in
+    let header = of_flag (λ f. IsHeaderOf (number_text_index_in k f c.args.archive.now) c.args.header.now) c.if-wide.true c.requires.header in
+    ((refl, tt), (archive, header))
+
+pub pairs_in-requires-else-wide : goal.pairs_in-requires-else-wide
+pairs_in-requires-else-wide g c κs =
+    let k : NumberKey _ = record { eq = g.K.PartialEq.eq; spec = g.K.HasSpec.spec; encoding = g.K.Scalar.encoding; call = g.K.ScalarKey.call } in
+    let archive = of_flag (λ f. IsNumberTextIndex k f c.args.archive.now) c.if-wide.false c.requires.archive in
+    let header = of_flag (λ f. IsHeaderOf (number_text_index_in k f c.args.archive.now) c.args.header.now) c.if-wide.false c.requires.header in
+    ((refl, tt), (archive, header))
+
+pub returns-then-wide-clause-stores : goal.returns-then-wide-clause-stores
+returns-then-wide-clause-stores g c =
+    let k : NumberKey _ = record { eq = g.K.PartialEq.eq; spec = g.K.HasSpec.spec; encoding = g.K.Scalar.encoding; call = g.K.ScalarKey.call } in
+    at_flag (λ f. StoresNumberTexts k f c.args.archive.now c.args.from (map g.P.PairOf.pair_of c.args.pairs.now) c.pairs_in.result (map g.P.PairOf.pair_of c.pairs_in.new.pairs)) c.if-wide.true c.pairs_in.ensures.stores
+
+pub returns-then-wide-clause-listed : goal.returns-then-wide-clause-listed
+returns-then-wide-clause-listed g c =
+    let k : NumberKey _ = record { eq = g.K.PartialEq.eq; spec = g.K.HasSpec.spec; encoding = g.K.Scalar.encoding; call = g.K.ScalarKey.call } in
+    at_flag (λ f. StoresListedNumberTexts k f c.args.archive.now c.args.from (map g.P.PairOf.pair_of c.args.pairs.now) c.pairs_in.result (map g.P.PairOf.pair_of c.pairs_in.new.pairs)) c.if-wide.true c.pairs_in.ensures.listed
+
+pub returns-else-wide-clause-stores : goal.returns-else-wide-clause-stores
+returns-else-wide-clause-stores g c =
+    let k : NumberKey _ = record { eq = g.K.PartialEq.eq; spec = g.K.HasSpec.spec; encoding = g.K.Scalar.encoding; call = g.K.ScalarKey.call } in
+    at_flag (λ f. StoresNumberTexts k f c.args.archive.now c.args.from (map g.P.PairOf.pair_of c.args.pairs.now) c.pairs_in-else-wide.result (map g.P.PairOf.pair_of c.pairs_in-else-wide.new.pairs)) c.if-wide.false c.pairs_in-else-wide.ensures.stores
+
+pub returns-else-wide-clause-listed : goal.returns-else-wide-clause-listed
+returns-else-wide-clause-listed g c =
+    let k : NumberKey _ = record { eq = g.K.PartialEq.eq; spec = g.K.HasSpec.spec; encoding = g.K.Scalar.encoding; call = g.K.ScalarKey.call } in
+    at_flag (λ f. StoresListedNumberTexts k f c.args.archive.now c.args.from (map g.P.PairOf.pair_of c.args.pairs.now) c.pairs_in-else-wide.result (map g.P.PairOf.pair_of c.pairs_in-else-wide.new.pairs)) c.if-wide.false c.pairs_in-else-wide.ensures.listed

@@ -1,0 +1,196 @@
+-- Index maps to texts: their archives, lookups, the pairs from an index on, and their write.
+use Rattle.std.specs.Prelude.{◌≡◌, ℕ, ◌⊎◌, Bool, List, MatchResult, Option, Result}
+use Rattle.std.specs.Borrow.{Bor}
+use Rattle.std.specs.Str.{IsUtf8}
+use Rattle.std.specs.declared.vec.Vec.{Vec}
+use Rattle.rkyv_base.specs.Access.{Accepted}
+use Rattle.rkyv_base.specs.ElementSpec.{ElementSpec}
+use Rattle.rkyv_base.specs.Numbers.{unsigned}
+use Rattle.rkyv_base.specs.Scalar.{ScalarRepresents, scalar_spec}
+use Rattle.rkyv_base.specs.Text.{text_at}
+use Rattle.rkyv_base.specs.declared.errors.WriteError.{WriteError}
+use Rattle.rkyv_base.specs.declared.writer.NoMemory.{NoMemory}
+use Rattle.rkyv_keys.specs.Calls.{text_calls}
+use Rattle.rkyv_keys.specs.Natives.{NativePairs}
+use Rattle.rkyv_keys.specs.OfScalars.{one_call, scalar_fits}
+use Rattle.rkyv_keys.specs.OfTexts.{same_bytes}
+use Rattle.rkyv_collections.specs.Map.MapAt.{AskedValue, MapAt}
+use Rattle.rkyv_collections.specs.Natives.{PairFormat}
+use Rattle.rkyv_index.specs.Index.IndexFormat.{indices}
+use Rattle.ffi_calls.specs.Archives.{limit_of, word_of}
+use Rattle.ffi_calls.specs.IndexArchives.{GivesIndexed, StoresPairs, found_index, index_in}
+use Rattle.ffi_calls.specs.IndexArchives.{index_map}
+use Rattle.ffi_calls.specs.IndexItems.{IndexFails, IndexWidth, IsIndexOf}
+use Rattle.ffi_calls.specs.IndexLists.{GivesFirstIndexed, StoresListed}
+use Rattle.ffi_calls.specs.Keys.{NumberKey}
+use Rattle.ffi_calls.specs.Listed.{TextRepresents, asked_number, asked_text}
+use Rattle.ffi_calls.specs.Reading.{HasBytesOf, IsSame, ReadsText}
+use Rattle.ffi_calls.specs.Status.{write_refusal}
+use Rattle.ffi_calls.specs.TextItems.{AreNumberTexts, AreTextTexts, NumberTextsFail, TextTextsFail}
+use Rattle.ffi_calls.specs.TextItems.{number_texts_format, number_texts_natives, text_texts_format}
+use Rattle.ffi_calls.specs.TextItems.{text_texts_natives, width_by}
+use Rattle.ffi_calls.specs.TextValues.{text_by}
+use Rattle.ffi_calls.specs.declared.pairs.Indexed.{Indexed}
+use Rattle.ffi_calls.specs.declared.pairs.Pair.{Pair}
+
+-- the result of a lookup whose index and text replace `before`. `place`: the index that is found
+abbrev pub GivesIndexedTextAt : Bool → MapAt → Option ℕ → Indexed (Bor (List ℕ)) → ℕ
+    → Indexed (Bor (List ℕ)) → Type 0
+GivesIndexedTextAt wide m = GivesIndexed m (ReadsText (word_of wide))
+
+-- the result of a lookup has the index and the text of the first pair whose key is accepted
+abbrev pub GivesFirstIndexedTextAt : {A : Type 0} → Bool → MapAt → AskedValue A
+    → Indexed (Bor (List ℕ)) → ℕ → Indexed (Bor (List ℕ)) → Type 0
+GivesFirstIndexedTextAt wide m a =
+    GivesFirstIndexed m a (TextRepresents (word_of wide)) HasBytesOf
+
+module _ {A : Type 0} (k : NumberKey A) (wide : Bool) where
+  -- the spec of the header of an index map of numbers to texts, narrow or wide
+  abbrev pub number_text_index : ElementSpec
+  number_text_index = index_map (word_of wide) k.spec (text_by wide)
+
+  -- `b` is the valid archive of an index map of numbers to texts, narrow or wide
+  abbrev pub IsNumberTextIndex : List ℕ → Type 0
+  IsNumberTextIndex b = Accepted (limit_of wide) number_text_index b
+
+  -- the index map of numbers to texts, narrow or wide, at the end of an archive
+  abbrev pub number_text_index_in : List ℕ → MapAt
+  number_text_index_in = index_in (word_of wide) k.spec (text_by wide)
+
+  -- the result of a lookup of the number `key`, whose index and text replace `before`
+  abbrev pub GivesIndexedTextOfNumber : List ℕ → A → Indexed (Bor (List ℕ)) → ℕ
+      → Indexed (Bor (List ℕ)) → Type 0
+  GivesIndexedTextOfNumber b key = GivesIndexedTextAt wide (number_text_index_in b)
+      (found_index (number_text_index_in b) (one_call k.call key)
+      (scalar_fits k.encoding k.eq key b))
+
+  -- the result of a lookup of `key` is of the first pair with the number
+  abbrev pub GivesFirstIndexedTextOfNumber : List ℕ → A → Indexed (Bor (List ℕ)) → ℕ
+      → Indexed (Bor (List ℕ)) → Type 0
+  GivesFirstIndexedTextOfNumber b key =
+      GivesFirstIndexedTextAt wide (number_text_index_in b) (asked_number k key)
+
+  -- the result of reading the pairs of numbers and texts from an index on
+  abbrev pub StoresNumberTexts : List ℕ → ℕ → List (Pair A (Bor (List ℕ))) → ℕ
+      → List (Pair A (Bor (List ℕ))) → Type 0
+  StoresNumberTexts b =
+      StoresPairs (number_text_index_in b) (ScalarRepresents k.encoding) (ReadsText (word_of wide))
+
+  -- the pairs of numbers and texts that are read from an index on are those of the list
+  abbrev pub StoresListedNumberTexts : List ℕ → ℕ → List (Pair A (Bor (List ℕ))) → ℕ
+      → List (Pair A (Bor (List ℕ))) → Type 0
+  StoresListedNumberTexts b = StoresListed (number_text_index_in b)
+      (number_texts_natives k (width_by wide)) IsSame HasBytesOf
+
+module _ (wide : Bool) where
+  -- the spec of the header of an index map of texts to texts, narrow or wide
+  abbrev pub text_text_index : ElementSpec
+  text_text_index = index_map (word_of wide) (text_by wide) (text_by wide)
+
+  -- `b` is the valid archive of an index map of texts to texts, narrow or wide
+  abbrev pub IsTextTextIndex : List ℕ → Type 0
+  IsTextTextIndex b = Accepted (limit_of wide) text_text_index b
+
+  -- the index map of texts to texts, narrow or wide, at the end of an archive
+  abbrev pub text_text_index_in : List ℕ → MapAt
+  text_text_index_in = index_in (word_of wide) (text_by wide) (text_by wide)
+
+  -- the result of a lookup of the text `key`, whose index and text replace `before`
+  abbrev pub GivesIndexedTextOfText : List ℕ → List ℕ → Indexed (Bor (List ℕ)) → ℕ
+      → Indexed (Bor (List ℕ)) → Type 0
+  GivesIndexedTextOfText b key = GivesIndexedTextAt wide (text_text_index_in b)
+      (found_index (text_text_index_in b) (text_calls key)
+      (λ q. same_bytes key (text_at (word_of wide) b q)))
+
+  -- the result of a lookup of the bytes `key`, as that of the text.
+  -- The status is 4 and `before` is unchanged if `key` isn't UTF-8.
+  abbrev pub GivesIndexedTextOfBytes : List ℕ → List ℕ → Indexed (Bor (List ℕ)) → ℕ
+      → Indexed (Bor (List ℕ)) → Type 0
+  GivesIndexedTextOfBytes b key before status after =
+      ((IsUtf8 key → ⊥) × (status ≡ 4) × (after ≡ before))
+      ⊎ (IsUtf8 key × GivesIndexedTextOfText b key before status after)
+
+  -- the result of a lookup of `key` is of the first pair with the text
+  abbrev pub GivesFirstIndexedTextOfText : List ℕ → List ℕ → Indexed (Bor (List ℕ)) → ℕ
+      → Indexed (Bor (List ℕ)) → Type 0
+  GivesFirstIndexedTextOfText b key =
+      GivesFirstIndexedTextAt wide (text_text_index_in b) (asked_text (word_of wide) key)
+
+  -- the result of reading the pairs of texts from an index on
+  abbrev pub StoresTextTexts : List ℕ → ℕ → List (Pair (Bor (List ℕ)) (Bor (List ℕ))) → ℕ
+      → List (Pair (Bor (List ℕ)) (Bor (List ℕ))) → Type 0
+  StoresTextTexts b = StoresPairs (text_text_index_in b) (ReadsText (word_of wide))
+      (ReadsText (word_of wide))
+
+  -- the pairs of texts that are read from an index on are those of the list
+  abbrev pub StoresListedTextTexts : List ℕ → ℕ → List (Pair (Bor (List ℕ)) (Bor (List ℕ))) → ℕ
+      → List (Pair (Bor (List ℕ)) (Bor (List ℕ))) → Type 0
+  StoresListedTextTexts b = StoresListed (text_text_index_in b)
+      (text_texts_natives (width_by wide)) HasBytesOf HasBytesOf
+
+-- the results of a write as an index map. `ArePairs`: pairs of the items, `Fails`: status of items
+-- without pairs
+module _ {I A B P R Q : Type 0} (ArePairs : List I → List (A × B) → Type 0) (Fails : List I → ℕ
+    → Type 0) (width : IndexWidth P) (format : PairFormat A B R Q) where
+  -- `b` is the archive of the pairs of the items as an index map
+  abbrev pub IndexMade : NativePairs A B → List I → List ℕ → Type 0
+  IndexMade native items b = (pairs : List (A × B)) × ArePairs items pairs
+      × IsIndexOf width format native pairs b
+
+  -- `status` is that of items without pairs, or of the error of the write of their pairs
+  abbrev pub IndexRefused : List I → ℕ → Type 0
+  IndexRefused items status = Fails items status
+      ⊎ ((pairs : List (A × B)) × (error : WriteError NoMemory) × ArePairs items pairs
+      × IndexFails width format pairs error × (status ≡ write_refusal error))
+
+module _ {A P : Type 0} (k : NumberKey A) (width : IndexWidth P) where
+  -- a list of bytes is the archive of the pairs of numbers and texts as an index map
+  abbrev pub NumberTextIndexMade : List (Pair A (Bor (List ℕ))) → List ℕ → Type 0
+  NumberTextIndexMade = IndexMade AreNumberTexts NumberTextsFail width
+      (number_texts_format k width.archive) (number_texts_natives k width.archive)
+
+  -- a status is the error of the write of the pairs of numbers and texts as an index map
+  abbrev pub NumberTextIndexRefused : List (Pair A (Bor (List ℕ))) → ℕ → Type 0
+  NumberTextIndexRefused =
+      IndexRefused AreNumberTexts NumberTextsFail width (number_texts_format k width.archive)
+
+-- the result of the write of the pairs of the items: the archive, or the status of an error
+abbrev pub WritesNumberTextIndex : {A P Z : Type 0} → NumberKey A → IndexWidth P
+    → List (Pair A (Bor (List ℕ))) → Result (Vec ℕ Z) ℕ → Type 0
+WritesNumberTextIndex k width items result =
+    MatchResult result (λ a. NumberTextIndexMade k width items a.items)
+    (NumberTextIndexRefused k width items)
+
+module _ {P : Type 0} (width : IndexWidth P) where
+  -- a list of bytes is the archive of the pairs of texts as an index map
+  abbrev pub TextTextIndexMade : List (Pair (Bor (List ℕ)) (Bor (List ℕ))) → List ℕ → Type 0
+  TextTextIndexMade = IndexMade AreTextTexts TextTextsFail width (text_texts_format width.archive)
+      (text_texts_natives width.archive)
+
+  -- a status is the error of the write of the pairs of texts as an index map
+  abbrev pub TextTextIndexRefused : List (Pair (Bor (List ℕ)) (Bor (List ℕ))) → ℕ → Type 0
+  TextTextIndexRefused =
+      IndexRefused AreTextTexts TextTextsFail width (text_texts_format width.archive)
+
+-- the width of an archive of an index map, narrow or wide
+abbrev pub index_width_by : Bool → IndexWidth ℕ
+index_width_by wide = let e = unsigned (word_of wide) in
+    record { archive = width_by wide; indices = indices (scalar_spec e) e }
+
+-- a list of bytes is the archive of the pairs of numbers and texts as an index map, narrow or wide
+abbrev pub IsIndexOfNumberTexts : {A : Type 0} → NumberKey A → Bool
+    → List (Pair A (Bor (List ℕ))) → List ℕ → Type 0
+IsIndexOfNumberTexts k wide = NumberTextIndexMade k (index_width_by wide)
+
+-- a status is the error of the write of such an index map
+abbrev pub IndexOfNumberTextsFails : {A : Type 0} → NumberKey A → Bool
+    → List (Pair A (Bor (List ℕ))) → ℕ → Type 0
+IndexOfNumberTextsFails k wide = NumberTextIndexRefused k (index_width_by wide)
+
+-- a list of bytes is the archive of the pairs of texts as an index map, narrow or wide
+abbrev pub IsIndexOfTextTexts : Bool → List (Pair (Bor (List ℕ)) (Bor (List ℕ))) → List ℕ → Type 0
+IsIndexOfTextTexts wide = TextTextIndexMade (index_width_by wide)
+
+-- a status is the error of the write of such an index map
+abbrev pub IndexOfTextTextsFails : Bool → List (Pair (Bor (List ℕ)) (Bor (List ℕ))) → ℕ → Type 0
+IndexOfTextTextsFails wide = TextTextIndexRefused (index_width_by wide)

@@ -1,0 +1,93 @@
+//! Overwrites of values in index maps.
+
+ghost use Rattle.std.specs.Prelude.{IfSome, ◌<◌, ◌≡◌};
+ghost use Rattle.rkyv_base.specs.ElementSpec.{Viewable};
+ghost use Rattle.ffi_calls.specs.Archives.{KeepsHeader, Sets};
+ghost use Rattle.ffi_calls.specs.IndexArchives.{IsIndexArchive, found_index, index_in, index_map};
+ghost use Rattle.ffi_calls.specs.IndexArchives.{index_root, pair_count};
+ghost use Rattle.ffi_calls.specs.IndexInPlace.{FindsFirstIndex, SetsFirstIndexed, value_found_in};
+ghost use Rattle.ffi_calls.specs.Lists.{asked_key};
+
+use crate::status::{DONE, NOT_FOUND, VALUE_TOO_LARGE};
+use crate::value::Value;
+use rkyv_base::access::access_unchecked;
+use rkyv_base::element::{Element, Represents};
+use rkyv_base::view::View;
+use rkyv_base::width::Width;
+use rkyv_index::map::in_place::set_value_at;
+use rkyv_index::map::laws::lookups_find_listed;
+use rkyv_index::{ArchivedIndexMap, IndexMapOf};
+use rkyv_keys::keys::{KeyElement, NativeKey};
+use rkyv_scan::hash::FxHasher64;
+
+/// Returns the position of the header of the index map in a valid archive.
+#[inline]
+fn index_root_of<K: Element, V: Element, W: Width>(archive: &[u8]) -> u64
+    requires { IsIndexArchive W.word W.LIMIT K.spec V.spec archive.now }
+    ensures at { result ≡ index_root W.word K.spec V.spec archive.now }
+    ensures viewable { Viewable (index_map W.word K.spec V.spec) archive.now result }
+{
+    access_unchecked::<IndexMapOf<K, V, FxHasher64, W>>(archive).pos()
+}
+
+/// Returns the index that a lookup of the key finds in a valid archive.
+fn index_found_in<A: NativeKey<K>, B, K: KeyElement + Represents<A>, V: Represents<B>, W: Width>(
+    archive: &[u8],
+    key: &A,
+) -> Option<usize>
+    requires archive { IsIndexArchive W.word W.LIMIT K.spec V.spec archive.now }
+    requires query { A.can_read key.now }
+    ensures found { result ≡ found_index (index_in W.word K.spec V.spec archive.now)
+        (A.calls key.now) (A.fits key.now archive.now) }
+    ensures below { IfSome result (λ i. i < pair_count (index_in W.word K.spec V.spec
+        archive.now)) }
+    ensures first { FindsFirstIndex (index_in W.word K.spec V.spec archive.now)
+        (asked_key K.represents K.key_calls (A.eq key.now)) V.represents result }
+{
+    lookups_find_listed::<A, B, K, V, FxHasher64, W>();
+    let root = index_root_of::<K, V, W>(archive);
+    let map: ArchivedIndexMap<'_, K, V, FxHasher64, W> = ArchivedIndexMap::of(View::new(
+        archive, root,
+    ));
+    match map.get_full(key) {
+        Some((index, _, _)) => Some(index),
+        None => None,
+    }
+}
+
+/// Looks up a key in a valid archive, and overwrites its value in place.
+///
+/// # Errors
+///
+/// - `VALUE_TOO_LARGE`: the value has more bits than the values of the map.
+/// - `NOT_FOUND`: the lookup doesn't find the key.
+///
+/// After an error no byte is changed.
+pub(crate) fn set_indexed_in<A: NativeKey<K>, K: KeyElement + Represents<A>, V: Value, W: Width>(
+    archive: &mut [u8],
+    key: &A,
+    value: u64,
+) -> u32
+    requires archive { IsIndexArchive W.word W.LIMIT K.spec V.spec archive.old }
+    requires query { A.can_read key.now }
+    ensures kept { IsIndexArchive W.word W.LIMIT K.spec V.spec archive.new }
+    ensures header { KeepsHeader (index_in W.word K.spec V.spec archive.old)
+        (index_in W.word K.spec V.spec archive.new) }
+    ensures sets { Sets V.encoding archive.old
+        (value_found_in (index_in W.word K.spec V.spec archive.old) (A.calls key.now)
+        (A.fits key.now archive.old)) value result archive.new }
+    ensures listed { SetsFirstIndexed (index_in W.word K.spec V.spec archive.old)
+        (asked_key K.represents K.key_calls (A.eq key.now)) V.encoding value result archive.new }
+{
+    let number = match V::of_number(value) {
+        Some(number) => number,
+        None => return VALUE_TOO_LARGE,
+    };
+    let index = match index_found_in::<A, V, K, V, W>(&*archive, key) {
+        Some(index) => index,
+        None => return NOT_FOUND,
+    };
+    let root = index_root_of::<K, V, W>(&*archive);
+    set_value_at::<A, K, V, FxHasher64, W>(archive, root, index, number);
+    DONE
+}

@@ -1,0 +1,136 @@
+//! Archives of pairs with texts as values, as index maps.
+
+ghost use Rattle.std.specs.Prelude.{MatchResult, map};
+ghost use Rattle.ffi_calls.specs.IndexItems.{index_width};
+ghost use Rattle.ffi_calls.specs.IndexTextValues.{IndexOfNumberTextsFails, IndexOfTextTextsFails};
+ghost use Rattle.ffi_calls.specs.IndexTextValues.{IsIndexOfNumberTexts, IsIndexOfTextTexts};
+ghost use Rattle.ffi_calls.specs.IndexTextValues.{TextTextIndexMade, TextTextIndexRefused};
+ghost use Rattle.ffi_calls.specs.IndexTextValues.{WritesNumberTextIndex};
+ghost use Rattle.ffi_calls.specs.Items.{HandsOut};
+
+use crate::building::{Built, hand_out};
+use crate::pairs::PairOf;
+use crate::reading::NumberKey;
+use crate::status::write_refusal;
+use crate::{numbers_to_texts_items, texts_to_texts_items};
+use rkyv_base::root::to_bytes_in;
+use rkyv_base::width::{Narrow, Wide};
+use rkyv_index::OrderedPairs;
+use rkyv_index::width::PlaceWidth;
+use std::alloc::Global;
+
+/// Writes the archive of the items as an index map, in their order, under the load factor 7 / 8.
+fn number_texts_in<'a, K: NumberKey, W: PlaceWidth, P: PairOf<K, &'a [u8]>>(
+    alloc: Global,
+    items: &[P],
+) -> Result<Vec<u8>, u32>
+    ensures { let w = index_width W.Width W.Place.spec W.Place.encoding in
+        WritesNumberTextIndex K.NumberKey w (map P.pair_of items.now) result }
+{
+    let pairs = match numbers_to_texts_items::pairs_of::<K, P>(alloc, items) {
+        Ok(pairs) => pairs,
+        Err(status) => return Err(status),
+    };
+    match to_bytes_in::<W, OrderedPairs<K, &str>>(alloc, &OrderedPairs(pairs)) {
+        Ok(archive) => Ok(archive),
+        Err(error) => Err(write_refusal(&error)),
+    }
+}
+
+/// Writes the archive of the items, narrow or wide.
+fn number_texts_by<'a, K: NumberKey, P: PairOf<K, &'a [u8]>>(
+    alloc: Global,
+    items: &[P],
+    wide: bool,
+) -> Result<Vec<u8>, u32>
+    ensures { MatchResult result (λ v. IsIndexOfNumberTexts K.NumberKey wide (map P.pair_of
+        items.now) v.items) (IndexOfNumberTextsFails K.NumberKey wide (map P.pair_of items.now)) }
+{
+    if wide {
+        number_texts_in::<K, Wide, P>(alloc, items)
+    } else {
+        number_texts_in::<K, Narrow, P>(alloc, items)
+    }
+}
+
+/// Writes the archive of the items as an index map, and leaks its bytes into `built`.
+///
+/// The pairs are in the order of the items. The load factor is 7 / 8.
+///
+/// # Errors
+///
+/// - `NO_MEMORY`: an allocation fails.
+/// - `NOT_TEXT`: a value isn't UTF-8.
+/// - A status from 23 on: the write fails.
+///
+/// After an error `built` is unchanged.
+pub fn build_index_numbers_to_texts<'a, K: NumberKey, P: PairOf<K, &'a [u8]>>(
+    alloc: Global,
+    items: &[P],
+    wide: bool,
+    built: &mut Built<'_>,
+) -> u32
+    ensures { HandsOut (IsIndexOfNumberTexts K.NumberKey wide (map P.pair_of items.now))
+        (IndexOfNumberTextsFails K.NumberKey wide (map P.pair_of items.now)) built.old result
+        built.new }
+{
+    hand_out(number_texts_by(alloc, items, wide), built)
+}
+
+/// Writes the archive of the items as an index map, in their order, under the load factor 7 / 8.
+fn text_texts_in<'a, W: PlaceWidth, P: PairOf<&'a [u8], &'a [u8]>>(
+    alloc: Global,
+    items: &[P],
+) -> Result<Vec<u8>, u32>
+    ensures { let w = index_width W.Width W.Place.spec W.Place.encoding in
+        MatchResult result (λ v. TextTextIndexMade w (map P.pair_of items.now) v.items)
+        (TextTextIndexRefused w (map P.pair_of items.now)) }
+{
+    let pairs = match texts_to_texts_items::pairs_of::<P>(alloc, items) {
+        Ok(pairs) => pairs,
+        Err(status) => return Err(status),
+    };
+    match to_bytes_in::<W, OrderedPairs<&str, &str>>(alloc, &OrderedPairs(pairs)) {
+        Ok(archive) => Ok(archive),
+        Err(error) => Err(write_refusal(&error)),
+    }
+}
+
+/// Writes the archive of the items, narrow or wide.
+fn text_texts_by<'a, P: PairOf<&'a [u8], &'a [u8]>>(
+    alloc: Global,
+    items: &[P],
+    wide: bool,
+) -> Result<Vec<u8>, u32>
+    ensures { MatchResult result (λ v. IsIndexOfTextTexts wide (map P.pair_of items.now) v.items)
+        (IndexOfTextTextsFails wide (map P.pair_of items.now)) }
+{
+    if wide {
+        text_texts_in::<Wide, P>(alloc, items)
+    } else {
+        text_texts_in::<Narrow, P>(alloc, items)
+    }
+}
+
+/// Writes the archive of the items as an index map, and leaks its bytes into `built`.
+///
+/// The pairs are in the order of the items. The load factor is 7 / 8.
+///
+/// # Errors
+///
+/// - `NO_MEMORY`: an allocation fails.
+/// - `NOT_TEXT`: a key or a value isn't UTF-8.
+/// - A status from 23 on: the write fails.
+///
+/// After an error `built` is unchanged.
+pub fn build_index_texts_to_texts<'a, P: PairOf<&'a [u8], &'a [u8]>>(
+    alloc: Global,
+    items: &[P],
+    wide: bool,
+    built: &mut Built<'_>,
+) -> u32
+    ensures { HandsOut (IsIndexOfTextTexts wide (map P.pair_of items.now)) (IndexOfTextTextsFails
+        wide (map P.pair_of items.now)) built.old result built.new }
+{
+    hand_out(text_texts_by(alloc, items, wide), built)
+}

@@ -1,0 +1,11 @@
+use Rattle.ffi_calls.specs.Archives.{limit_of}
+use Rattle.ffi_calls.specs.Sets.{number_set}
+use Rattle.ffi_calls.specs.Keys.{NumberKey}
+use Rattle.test_ffi_calls.proofs.Opened.{opened}
+use Rattle.test_ffi_calls.proofs.tests.number_sets.is_set.Goals as goal
+
+pub returns-then-open_number_set-eq-DONE : goal.returns-then-open_number_set-eq-DONE
+returns-then-open_number_set-eq-DONE g c = λ yes.
+    let k : NumberKey _ = record { eq = g.K.PartialEq.eq; spec = g.K.HasSpec.spec; encoding = g.K.Scalar.encoding; call = g.K.ScalarKey.call } in
+    let wide = c.args.wide in
+    opened (limit_of wide) (number_set k wide) c.args.archive.now c.open_number_set.result c.open_number_set.ensures.told c.if-open_number_set-eq-DONE.true

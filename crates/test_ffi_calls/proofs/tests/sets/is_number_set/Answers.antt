@@ -1,9 +1,0 @@
-use Rattle.ffi_calls.specs.Archives.{limit_of}
-use Rattle.ffi_calls.specs.Sets.{number_set}
-use Rattle.test_ffi_calls.proofs.Opened.{opened}
-use Rattle.test_ffi_calls.proofs.tests.sets.is_number_set.Goals as goal
-
-pub returns-then-open_number_set-eq-DONE : goal.returns-then-open_number_set-eq-DONE
-returns-then-open_number_set-eq-DONE c = λ yes.
-    let wide = c.args.wide in
-    opened (limit_of wide) (number_set wide) c.args.archive.now c.open_number_set.result c.open_number_set.ensures.told c.if-open_number_set-eq-DONE.true

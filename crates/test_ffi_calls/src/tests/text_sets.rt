@@ -1,0 +1,210 @@
+//! Tests of validation, lookups, walks and archives of sets of texts.
+
+ghost use Rattle.std.specs.Prelude.{IsTrue};
+ghost use Rattle.ffi_calls.specs.Sets.{IsTextSet};
+
+use crate::tests::archives::{HEADER, HEADER_OF_TWO, WIDE_HEADER};
+use ffi_calls::building::Built;
+use ffi_calls::explanation::Explanation;
+use ffi_calls::pairs::{Pair, Step};
+use ffi_calls::status::DONE;
+use ffi_calls::text_set_items::{SetText, build_text_set};
+use ffi_calls::text_sets::{
+    contains_text, decode_text_set, explain_text_set, next_text_members, open_text_set,
+};
+use std::alloc::Global;
+use test_support::archives::{archive, no_items};
+
+/// Returns the set of the empty text. Buckets from 0 on, controls from 16 on, header at 48.
+fn empty_text() -> [u8; 60] {
+    let front = [
+        0xff, 0xff, 0xff, 0xff, 0xff, 0xff, 0xff, 0xff, 0, 0, 0, 0, 0, 0, 0, 0, 0xff, 0x15, 0xff,
+        0x15,
+    ];
+    archive(&front, &HEADER)
+}
+
+/// Returns the wide set of the empty text. Buckets from 0 on, controls from 32 on, header at 64.
+fn wide_empty_text() -> [u8; 88] {
+    let front = [
+        0xff, 0xff, 0xff, 0xff, 0xff, 0xff, 0xff, 0xff, 0xff, 0xff, 0xff, 0xff, 0xff, 0xff, 0xff,
+        0xff, 0, 0, 0, 0, 0, 0, 0, 0, 0, 0, 0, 0, 0, 0, 0, 0, 0xff, 0x15, 0xff, 0x15,
+    ];
+    archive(&front, &WIDE_HEADER)
+}
+
+/// Returns the set of the empty text, inserted twice.
+///
+/// Buckets from 0 on, controls from 24 on, header at 56.
+fn empty_text_twice() -> [u8; 68] {
+    let front = [
+        0, 0, 0, 0, 0, 0, 0, 0, // bucket 2
+        0xff, 0xff, 0xff, 0xff, 0xff, 0xff, 0xff, 0xff, // bucket 1
+        0xff, 0xff, 0xff, 0xff, 0xff, 0xff, 0xff, 0xff, // bucket 0
+        0x15, 0x15, 0xff, 0x15, 0x15,
+    ];
+    archive(&front, &HEADER_OF_TWO)
+}
+
+// Returns whether the archive is a valid set.
+fn is_set(archive: &[u8], wide: bool) -> bool
+    ensures { IsTrue result → IsTextSet wide archive.now }
+{
+    if open_text_set(archive, wide) == DONE {
+        true
+    } else {
+        false
+    }
+}
+
+// Returns the number of items of a set, and the status of a lookup.
+fn found(archive: &[u8], wide: bool, item: &[u8]) -> Option<(usize, u32)> {
+    if !is_set(archive, wide) {
+        return None;
+    }
+    let header = decode_text_set(archive, wide);
+    Some((header.len(), contains_text(archive, wide, &header, item)))
+}
+
+// A member that no call stores.
+const OTHER: Step<Pair<&[u8], ()>> = Step {
+    next: 9,
+    pair: Pair {
+        value: (),
+        key: b"?",
+    },
+};
+
+// Returns how many texts are stored over one, from a bucket on, the next bucket, and whether the
+// item is `wanted`. They are 9 and `?` at first.
+fn step(archive: &[u8], wide: bool, from: u64, wanted: &[u8]) -> Option<(usize, u64, bool)> {
+    if !is_set(archive, wide) {
+        return None;
+    }
+    let header = decode_text_set(archive, wide);
+    let mut members = [OTHER];
+    let count = next_text_members(archive, wide, &header, from, &mut members);
+    Some((count, members[0].next, members[0].pair.key == wanted))
+}
+
+// Returns how many items are stored over two, and their lengths, which are 1 at first.
+fn several(archive: &[u8], wide: bool, from: u64) -> Option<(usize, usize, usize)> {
+    if !is_set(archive, wide) {
+        return None;
+    }
+    let header = decode_text_set(archive, wide);
+    let mut members = [OTHER; 2];
+    let count = next_text_members(archive, wide, &header, from, &mut members);
+    Some((count, members[0].pair.key.len(), members[1].pair.key.len()))
+}
+
+// Returns the numbers of an explanation.
+fn numbers_of(explanation: Explanation) -> (u32, i64, u64, u64) {
+    let Explanation {
+        status,
+        position,
+        first,
+        second,
+    } = explanation;
+    (status, position, first, second)
+}
+
+// Explains the set of the empty text with another byte at `pos`.
+fn with(pos: usize, byte: u8) -> (u32, i64, u64, u64) {
+    let mut bytes = empty_text();
+    match bytes.get_mut(pos) {
+        Some(old) => *old = byte,
+        None => {}
+    }
+    numbers_of(explain_text_set(&bytes, false))
+}
+
+// Returns the status of a write of a set, and whether `built` has `bytes` if it is 0.
+// After an error the flag is whether `built` is unchanged.
+fn write(alloc: Global, items: &[SetText<'_>], wide: bool, bytes: &[u8]) -> (u32, bool) {
+    let mut before = [1, 2];
+    let mut built = Built { bytes: &mut before };
+    let status = build_text_set(alloc, items, wide, &mut built);
+    let wanted = if status == DONE { bytes } else { &[1, 2] };
+    let Built { bytes: after } = built;
+    (status, &*after == wanted)
+}
+
+// Writes a set of one text.
+fn write_text(alloc: Global, text: &[u8], wide: bool, bytes: &[u8]) -> (u32, bool) {
+    write(alloc, &[SetText { text }], wide, bytes)
+}
+
+// Writes a set of two texts.
+fn write_two(alloc: Global, texts: [&[u8]; 2], bytes: &[u8]) -> (u32, bool) {
+    let items = [SetText { text: texts[0] }, SetText { text: texts[1] }];
+    write(alloc, &items, false, bytes)
+}
+
+// Returns whether the result is that of the archive, or of an allocation that fails.
+fn is_permitted(written: (u32, bool)) -> bool {
+    written == (0, true) || written == (12, true)
+}
+
+#[test]
+fn lookups_find_the_items_alone(rt: HostRuntime) {
+    assert_eq!(rt; found(&empty_text(), false, b""), Some((1, 0)));
+    assert_eq!(rt; found(&empty_text(), false, b"a"), Some((1, 1)));
+    assert_eq!(rt; found(&wide_empty_text(), true, b""), Some((1, 0)));
+    assert_eq!(rt; found(&wide_empty_text(), true, &[0xc3]), Some((1, 4)));
+    assert_eq!(rt; found(&no_items(), false, b""), Some((0, 1)));
+}
+
+#[test]
+fn walks_visit_the_item_and_end(rt: HostRuntime) {
+    assert_eq!(rt; step(&empty_text(), false, 0, b""), Some((1, 2, true)));
+    assert_eq!(rt; step(&empty_text(), false, 2, b"?"), Some((0, 9, true)));
+    assert_eq!(rt; step(&wide_empty_text(), true, 0, b""), Some((1, 2, true)));
+    assert_eq!(rt;
+        step(&wide_empty_text(), true, u64::MAX, b"?"),
+        Some((0, 9, true))
+    );
+}
+
+#[test]
+fn walks_of_two_items_go_on(rt: HostRuntime) {
+    let bytes = empty_text_twice();
+    assert_eq!(rt; step(&bytes, false, 0, b""), Some((1, 1, true)));
+    assert_eq!(rt; step(&bytes, false, 1, b""), Some((1, 2, true)));
+    assert_eq!(rt; step(&bytes, false, 2, b"?"), Some((0, 9, true)));
+    assert_eq!(rt; several(&bytes, false, 0), Some((2, 0, 0)));
+}
+
+#[test]
+fn several_items_are_stored_at_once(rt: HostRuntime) {
+    assert_eq!(rt; several(&empty_text(), false, 0), Some((1, 0, 1)));
+    assert_eq!(rt; several(&wide_empty_text(), true, 0), Some((1, 0, 1)));
+    assert_eq!(rt; several(&wide_empty_text(), true, 2), Some((0, 1, 1)));
+}
+
+#[test]
+fn damaged_archives_are_explained(rt: HostRuntime) {
+    assert_eq!(rt; with(0, 0xff), (0, 0, 0, 0));
+    assert_eq!(rt; with(0, 0xc3), (22, 0, 0, 0));
+    let wide = explain_text_set(&[0; 23], true);
+    assert_eq!(rt; numbers_of(wide), (16, -1, 24, 0));
+    assert!(rt; !is_set(&[], false) && !is_set(&[0; 23], true));
+}
+
+#[test]
+fn sets_have_their_bytes_or_no_memory(rt: HostRuntime) {
+    let alloc = rt.alloc();
+    assert!(rt; is_permitted(write_text(alloc, b"", true, &wide_empty_text())));
+}
+
+#[test]
+fn a_write_of_texts_succeeds(rt: HostRuntime) {
+    let alloc = rt.alloc();
+    let done = (0, true);
+    assert_eq!(rt; write_text(alloc, b"", false, &empty_text()), done);
+    assert_eq!(rt; write_text(alloc, b"", true, &wide_empty_text()), done);
+    assert_eq!(rt; write_two(alloc, [b"", b""], &empty_text_twice()), done);
+    assert_eq!(rt; write(alloc, &[], false, &no_items()), done);
+    assert_eq!(rt; write_text(alloc, &[0x80], false, &[]), (4, true));
+    assert_eq!(rt; write_two(alloc, [b"x", &[0x80]], &[]), (4, true));
+}
