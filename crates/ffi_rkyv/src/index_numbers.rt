@@ -1,26 +1,27 @@
 //! The calls for index maps of numbers of 32 bits.
 
-ghost use Rattle.std.specs.Prelude.{◌≡◌};
-ghost use Rattle.ffi_calls.specs.Archives.{Opens, form_of, limit_of};
+ghost use Rattle.std.specs.Prelude.{map, ◌≡◌};
+ghost use Rattle.ffi_calls.specs.Archives.{IsHeaderOf, KeepsHeader, Opens, form_of, limit_of};
 ghost use Rattle.ffi_calls.specs.Explanation.{Explains};
-ghost use Rattle.ffi_calls.specs.IndexArchives.{GivesIndexedNumber, IsNumberIndex, StoresNumber};
-ghost use Rattle.ffi_calls.specs.IndexArchives.{StoresNumbers, number_index, number_index_in};
-ghost use Rattle.ffi_calls.specs.IndexArchives.{pair_count};
+ghost use Rattle.ffi_calls.specs.IndexArchives.{GivesIndexedNumber, IsNumberIndex, StoresNumbers};
+ghost use Rattle.ffi_calls.specs.IndexArchives.{number_index, number_index_in};
+ghost use Rattle.ffi_calls.specs.IndexInPlace.{SetsFirstIndexedNumber, SetsIndexedNumber};
 ghost use Rattle.ffi_calls.specs.IndexItems.{IndexOfNumbersFails, IsIndexOfNumbers};
-ghost use Rattle.ffi_calls.specs.IndexLists.{GivesFirstIndexedNumber, StoresListedNumber};
-ghost use Rattle.ffi_calls.specs.IndexLists.{StoresListedNumbers};
+ghost use Rattle.ffi_calls.specs.IndexLists.{GivesFirstIndexedNumber, StoresListedNumbers};
 ghost use Rattle.ffi_calls.specs.Items.{HandsOut};
+ghost use Rattle.ffi_calls.specs.Keys.{short_key};
+ghost use Rattle.ffi_rkyv.specs.Pairs.{indexed_number, number_pair};
 
+use crate::pairs::{IndexedNumber, NumberPair};
 use ffi_calls::building::Built;
 use ffi_calls::explanation::Explanation;
 use ffi_calls::form::Form;
-use ffi_calls::index::IndexedValue;
 use ffi_calls::index_items::build_index_numbers;
 use ffi_calls::index_numbers::{
-    IndexNumberPair, count_index_numbers, explain_index_numbers, get_index_number, index_number_at,
-    index_numbers_from, open_index_numbers,
+    decode_index_numbers, explain_index_numbers, get_index_number, index_numbers_from,
+    open_index_numbers, set_index_number,
 };
-use ffi_calls::number_items::NumberItem;
+use rkyv_table::table::decoded::Decoded;
 use std::alloc::Global;
 
 /// Validates the archive of an index map of numbers.
@@ -30,11 +31,11 @@ use std::alloc::Global;
 /// - 16 to 23: the first validation error.
 #[unsafe(no_mangle)]
 pub extern "C" fn rkyv_c_index_open_numbers(archive: &[u8], long_values: bool, wide: bool) -> u32
-    ensures told { Opens (limit_of wide) (number_index (form_of long_values wide)) archive.now
-        result }
-    ensures accepts { IsNumberIndex (form_of long_values wide) archive.now → result ≡ 0 }
+    ensures told { Opens (limit_of wide) (number_index short_key (form_of long_values wide))
+        archive.now result }
+    ensures accepts { IsNumberIndex short_key (form_of long_values wide) archive.now → result ≡ 0 }
 {
-    open_index_numbers(archive, Form { long_values, wide })
+    open_index_numbers::<u32>(archive, Form { long_values, wide })
 }
 
 /// Validates the archive of an index map of numbers, and stores the first error with its numbers.
@@ -45,23 +46,29 @@ pub extern "C" fn rkyv_c_index_explain_numbers(
     wide: bool,
     explanation: &mut Explanation,
 )
-    ensures { Explains (limit_of wide) (number_index (form_of long_values wide)) archive.now
-        explanation.new }
+    ensures { Explains (limit_of wide) (number_index short_key (form_of long_values wide))
+        archive.now explanation.new }
 {
-    *explanation = explain_index_numbers(archive, Form { long_values, wide });
+    *explanation = explain_index_numbers::<u32>(archive, Form { long_values, wide });
 }
 
-/// Returns the number of pairs. Pairs with equal keys count separately.
+/// Stores the decoded header of the index map in `header`, for the other calls.
 ///
 /// # Requires
 ///
 /// - The archive is valid: `rkyv_c_index_open_numbers` returned 0.
 #[unsafe(no_mangle)]
-pub extern "C" fn rkyv_c_index_count_numbers(archive: &[u8], long_values: bool, wide: bool) -> usize
-    requires { IsNumberIndex (form_of long_values wide) archive.now }
-    ensures { result ≡ pair_count (number_index_in (form_of long_values wide) archive.now) }
+pub extern "C" fn rkyv_c_index_decode_numbers(
+    archive: &[u8],
+    long_values: bool,
+    wide: bool,
+    header: &mut Decoded,
+)
+    requires { IsNumberIndex short_key (form_of long_values wide) archive.now }
+    ensures { IsHeaderOf (number_index_in short_key (form_of long_values wide) archive.now)
+        header.new }
 {
-    count_index_numbers(archive, Form { long_values, wide })
+    *header = decode_index_numbers::<u32>(archive, Form { long_values, wide });
 }
 
 /// Looks up a key, and stores the index and the value of its pair in `found`.
@@ -73,47 +80,58 @@ pub extern "C" fn rkyv_c_index_count_numbers(archive: &[u8], long_values: bool, 
 /// # Requires
 ///
 /// - The archive is valid: `rkyv_c_index_open_numbers` returned 0.
+/// - `header` is its decoded header.
 #[unsafe(no_mangle)]
 pub extern "C" fn rkyv_c_index_get_number(
     archive: &[u8],
     long_values: bool,
     wide: bool,
+    header: &Decoded,
     key: u32,
-    found: &mut IndexedValue,
+    found: &mut IndexedNumber,
 ) -> u32
-    requires { IsNumberIndex (form_of long_values wide) archive.now }
-    ensures gives { GivesIndexedNumber (form_of long_values wide) archive.now key found.old result
-        found.new }
-    ensures listed { GivesFirstIndexedNumber (form_of long_values wide) archive.now key found.old
-        result found.new }
+    requires archive { IsNumberIndex short_key (form_of long_values wide) archive.now }
+    requires header { IsHeaderOf (number_index_in short_key (form_of long_values wide) archive.now)
+        header.now }
+    ensures gives { GivesIndexedNumber short_key (form_of long_values wide) archive.now key
+        (indexed_number found.old) result (indexed_number found.new) }
+    ensures listed { GivesFirstIndexedNumber short_key (form_of long_values wide) archive.now key
+        (indexed_number found.old) result (indexed_number found.new) }
 {
-    get_index_number(archive, Form { long_values, wide }, key, found)
+    get_index_number::<u32, _>(archive, Form { long_values, wide }, header, key, found)
 }
 
-/// Stores the pair at an index, in insertion order, in `pair`.
+/// Looks up a key, and overwrites its value in place. The archive stays valid, and its header as it
+/// is.
 ///
 /// # Errors
 ///
-/// - 2: the index isn't below the number of pairs; `pair` is unchanged then.
+/// - 3: the values of the map have 32 bits and the new one has more.
+/// - 1: the lookup doesn't find the key.
+///
+/// After an error no byte is changed.
 ///
 /// # Requires
 ///
 /// - The archive is valid: `rkyv_c_index_open_numbers` returned 0.
 #[unsafe(no_mangle)]
-pub extern "C" fn rkyv_c_index_number_at(
-    archive: &[u8],
+pub extern "C" fn rkyv_c_index_set_number(
+    archive: &mut [u8],
     long_values: bool,
     wide: bool,
-    index: usize,
-    pair: &mut IndexNumberPair,
+    key: u32,
+    value: u64,
 ) -> u32
-    requires { IsNumberIndex (form_of long_values wide) archive.now }
-    ensures stores { StoresNumber (form_of long_values wide) archive.now index pair.old result
-        pair.new }
-    ensures listed { StoresListedNumber (form_of long_values wide) archive.now index pair.old result
-        pair.new }
+    requires { IsNumberIndex short_key (form_of long_values wide) archive.old }
+    ensures kept { IsNumberIndex short_key (form_of long_values wide) archive.new }
+    ensures header { KeepsHeader (number_index_in short_key (form_of long_values wide) archive.old)
+        (number_index_in short_key (form_of long_values wide) archive.new) }
+    ensures sets { SetsIndexedNumber short_key (form_of long_values wide) archive.old key value
+        result archive.new }
+    ensures listed { SetsFirstIndexedNumber short_key (form_of long_values wide) archive.old key
+        value result archive.new }
 {
-    index_number_at(archive, Form { long_values, wide }, index, pair)
+    set_index_number::<u32>(archive, Form { long_values, wide }, key, value)
 }
 
 /// Stores the pairs from the index `from` on, in insertion order, and returns their number.
@@ -123,21 +141,25 @@ pub extern "C" fn rkyv_c_index_number_at(
 /// # Requires
 ///
 /// - The archive is valid: `rkyv_c_index_open_numbers` returned 0.
+/// - `header` is its decoded header.
 #[unsafe(no_mangle)]
 pub extern "C" fn rkyv_c_index_numbers_from(
     archive: &[u8],
     long_values: bool,
     wide: bool,
+    header: &Decoded,
     from: usize,
-    pairs: &mut [IndexNumberPair],
+    pairs: &mut [NumberPair],
 ) -> usize
-    requires { IsNumberIndex (form_of long_values wide) archive.now }
-    ensures stores { StoresNumbers (form_of long_values wide) archive.now from pairs.old result
-        pairs.new }
-    ensures listed { StoresListedNumbers (form_of long_values wide) archive.now from pairs.old
-        result pairs.new }
+    requires archive { IsNumberIndex short_key (form_of long_values wide) archive.now }
+    requires header { IsHeaderOf (number_index_in short_key (form_of long_values wide) archive.now)
+        header.now }
+    ensures stores { StoresNumbers short_key (form_of long_values wide) archive.now from (map
+        number_pair pairs.old) result (map number_pair pairs.new) }
+    ensures listed { StoresListedNumbers short_key (form_of long_values wide) archive.now from (map
+        number_pair pairs.old) result (map number_pair pairs.new) }
 {
-    index_numbers_from(archive, Form { long_values, wide }, from, pairs)
+    index_numbers_from::<u32, _>(archive, Form { long_values, wide }, header, from, pairs)
 }
 
 /// Writes the archive of the items as an index map, and stores its bytes in `built`.
@@ -155,13 +177,14 @@ pub extern "C" fn rkyv_c_index_numbers_from(
 #[unsafe(no_mangle)]
 pub extern "C" fn rkyv_c_index_build_numbers(
     alloc: Global,
-    items: &[NumberItem],
+    items: &[NumberPair],
     long_values: bool,
     wide: bool,
     built: &mut Built<'_>,
 ) -> u32
-    ensures { HandsOut (IsIndexOfNumbers (form_of long_values wide) items.now)
-        (IndexOfNumbersFails (form_of long_values wide) items.now) built.old result built.new }
+    ensures { let pairs = map number_pair items.now in let f = form_of long_values wide in HandsOut
+        (IsIndexOfNumbers short_key f pairs) (IndexOfNumbersFails short_key f pairs) built.old
+        result built.new }
 {
-    build_index_numbers(alloc, items, Form { long_values, wide }, built)
+    build_index_numbers::<u32, _>(alloc, items, Form { long_values, wide }, built)
 }

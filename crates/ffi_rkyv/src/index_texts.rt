@@ -1,27 +1,27 @@
 //! The calls for index maps of texts.
 
-ghost use Rattle.std.specs.Prelude.{◌≡◌};
+ghost use Rattle.std.specs.Prelude.{map, ◌≡◌};
 ghost use Rattle.std.specs.Str.{IsUtf8};
-ghost use Rattle.ffi_calls.specs.Archives.{Opens, form_of, limit_of};
+ghost use Rattle.ffi_calls.specs.Archives.{IsHeaderOf, KeepsHeader, Opens, form_of, limit_of};
 ghost use Rattle.ffi_calls.specs.Explanation.{Explains};
-ghost use Rattle.ffi_calls.specs.IndexArchives.{GivesIndexedBytes, IsTextIndex, StoresText};
-ghost use Rattle.ffi_calls.specs.IndexArchives.{StoresTexts, text_index, text_index_in};
-ghost use Rattle.ffi_calls.specs.IndexArchives.{pair_count};
+ghost use Rattle.ffi_calls.specs.IndexArchives.{GivesIndexedBytes, IsTextIndex, StoresTexts};
+ghost use Rattle.ffi_calls.specs.IndexArchives.{text_index, text_index_in};
+ghost use Rattle.ffi_calls.specs.IndexInPlace.{SetsFirstIndexedText, SetsIndexedBytes};
 ghost use Rattle.ffi_calls.specs.IndexItems.{IndexOfTextsFails, IsIndexOfTexts};
-ghost use Rattle.ffi_calls.specs.IndexLists.{GivesFirstIndexedText, StoresListedText};
-ghost use Rattle.ffi_calls.specs.IndexLists.{StoresListedTexts};
+ghost use Rattle.ffi_calls.specs.IndexLists.{GivesFirstIndexedText, StoresListedTexts};
 ghost use Rattle.ffi_calls.specs.Items.{HandsOut};
+ghost use Rattle.ffi_rkyv.specs.Pairs.{indexed_number, text_pair};
 
+use crate::pairs::{IndexedNumber, TextPair};
 use ffi_calls::building::Built;
 use ffi_calls::explanation::Explanation;
 use ffi_calls::form::Form;
-use ffi_calls::index::IndexedValue;
 use ffi_calls::index_items::build_index_texts;
 use ffi_calls::index_texts::{
-    IndexTextPair, count_index_texts, explain_index_texts, get_index_text, index_text_at,
-    index_texts_from, open_index_texts,
+    decode_index_texts, explain_index_texts, get_index_text, index_texts_from, open_index_texts,
+    set_index_text,
 };
-use ffi_calls::text_items::TextItem;
+use rkyv_table::table::decoded::Decoded;
 use std::alloc::Global;
 
 /// Validates the archive of an index map of texts.
@@ -52,17 +52,22 @@ pub extern "C" fn rkyv_c_index_explain_texts(
     *explanation = explain_index_texts(archive, Form { long_values, wide });
 }
 
-/// Returns the number of pairs. Pairs with equal keys count separately.
+/// Stores the decoded header of the index map in `header`, for the other calls.
 ///
 /// # Requires
 ///
 /// - The archive is valid: `rkyv_c_index_open_texts` returned 0.
 #[unsafe(no_mangle)]
-pub extern "C" fn rkyv_c_index_count_texts(archive: &[u8], long_values: bool, wide: bool) -> usize
+pub extern "C" fn rkyv_c_index_decode_texts(
+    archive: &[u8],
+    long_values: bool,
+    wide: bool,
+    header: &mut Decoded,
+)
     requires { IsTextIndex (form_of long_values wide) archive.now }
-    ensures { result ≡ pair_count (text_index_in (form_of long_values wide) archive.now) }
+    ensures { IsHeaderOf (text_index_in (form_of long_values wide) archive.now) header.new }
 {
-    count_index_texts(archive, Form { long_values, wide })
+    *header = decode_index_texts(archive, Form { long_values, wide });
 }
 
 /// Looks up a key, and stores the index and the value of its pair in `found`.
@@ -77,50 +82,62 @@ pub extern "C" fn rkyv_c_index_count_texts(archive: &[u8], long_values: bool, wi
 /// # Requires
 ///
 /// - The archive is valid: `rkyv_c_index_open_texts` returned 0.
+/// - `header` is its decoded header.
 #[unsafe(no_mangle)]
 pub extern "C" fn rkyv_c_index_get_text(
     archive: &[u8],
     long_values: bool,
     wide: bool,
+    header: &Decoded,
     key: &[u8],
-    found: &mut IndexedValue,
+    found: &mut IndexedNumber,
 ) -> u32
-    requires { IsTextIndex (form_of long_values wide) archive.now }
-    ensures gives { GivesIndexedBytes (form_of long_values wide) archive.now key.now found.old
-        result found.new }
+    requires archive { IsTextIndex (form_of long_values wide) archive.now }
+    requires header { IsHeaderOf (text_index_in (form_of long_values wide) archive.now)
+        header.now }
+    ensures gives { GivesIndexedBytes (form_of long_values wide) archive.now key.now (indexed_number
+        found.old) result (indexed_number found.new) }
     ensures listed { IsUtf8 key.now
-        → GivesFirstIndexedText (form_of long_values wide) archive.now key.now found.old result
-        found.new }
+        → GivesFirstIndexedText (form_of long_values wide) archive.now key.now (indexed_number
+        found.old) result
+        (indexed_number found.new) }
 {
-    get_index_text(archive, Form { long_values, wide }, key, found)
+    get_index_text(archive, Form { long_values, wide }, header, key, found)
 }
 
-/// Stores the pair at an index, in insertion order, in `pair`.
-///
-/// The key is borrowed from the archive.
+/// Looks up a key, and overwrites its value in place. The archive stays valid, and its header as it
+/// is.
 ///
 /// # Errors
 ///
-/// - 2: the index isn't below the number of pairs; `pair` is unchanged then.
+/// - 4: the bytes of the key aren't UTF-8.
+/// - 3: the values of the map have 32 bits and the new one has more.
+/// - 1: the lookup doesn't find the key.
+///
+/// After an error no byte is changed.
 ///
 /// # Requires
 ///
 /// - The archive is valid: `rkyv_c_index_open_texts` returned 0.
 #[unsafe(no_mangle)]
-pub extern "C" fn rkyv_c_index_text_at<'a>(
-    archive: &'a [u8],
+pub extern "C" fn rkyv_c_index_set_text(
+    archive: &mut [u8],
     long_values: bool,
     wide: bool,
-    index: usize,
-    pair: &mut IndexTextPair<'a>,
+    key: &[u8],
+    value: u64,
 ) -> u32
-    requires { IsTextIndex (form_of long_values wide) archive.now }
-    ensures stores { StoresText (form_of long_values wide) archive.now index pair.old result
-        pair.new }
-    ensures listed { StoresListedText (form_of long_values wide) archive.now index pair.old result
-        pair.new }
+    requires { IsTextIndex (form_of long_values wide) archive.old }
+    ensures kept { IsTextIndex (form_of long_values wide) archive.new }
+    ensures header { KeepsHeader (text_index_in (form_of long_values wide) archive.old)
+        (text_index_in (form_of long_values wide) archive.new) }
+    ensures sets { SetsIndexedBytes (form_of long_values wide) archive.old key.now value result
+        archive.new }
+    ensures listed { IsUtf8 key.now
+        → SetsFirstIndexedText (form_of long_values wide) archive.old key.now value result
+        archive.new }
 {
-    index_text_at(archive, Form { long_values, wide }, index, pair)
+    set_index_text(archive, Form { long_values, wide }, key, value)
 }
 
 /// Stores the pairs from the index `from` on, in insertion order, and returns their number.
@@ -130,21 +147,25 @@ pub extern "C" fn rkyv_c_index_text_at<'a>(
 /// # Requires
 ///
 /// - The archive is valid: `rkyv_c_index_open_texts` returned 0.
+/// - `header` is its decoded header.
 #[unsafe(no_mangle)]
 pub extern "C" fn rkyv_c_index_texts_from<'a>(
     archive: &'a [u8],
     long_values: bool,
     wide: bool,
+    header: &Decoded,
     from: usize,
-    pairs: &mut [IndexTextPair<'a>],
+    pairs: &mut [TextPair<'a>],
 ) -> usize
-    requires { IsTextIndex (form_of long_values wide) archive.now }
-    ensures stores { StoresTexts (form_of long_values wide) archive.now from pairs.old result
-        pairs.new }
-    ensures listed { StoresListedTexts (form_of long_values wide) archive.now from pairs.old result
-        pairs.new }
+    requires archive { IsTextIndex (form_of long_values wide) archive.now }
+    requires header { IsHeaderOf (text_index_in (form_of long_values wide) archive.now)
+        header.now }
+    ensures stores { StoresTexts (form_of long_values wide) archive.now from (map text_pair
+        pairs.old) result (map text_pair pairs.new) }
+    ensures listed { StoresListedTexts (form_of long_values wide) archive.now from (map text_pair
+        pairs.old) result (map text_pair pairs.new) }
 {
-    index_texts_from(archive, Form { long_values, wide }, from, pairs)
+    index_texts_from(archive, Form { long_values, wide }, header, from, pairs)
 }
 
 /// Writes the archive of the items as an index map, and stores its bytes in `built`.
@@ -163,13 +184,14 @@ pub extern "C" fn rkyv_c_index_texts_from<'a>(
 #[unsafe(no_mangle)]
 pub extern "C" fn rkyv_c_index_build_texts(
     alloc: Global,
-    items: &[TextItem<'_>],
+    items: &[TextPair<'_>],
     long_values: bool,
     wide: bool,
     built: &mut Built<'_>,
 ) -> u32
-    ensures { HandsOut (IsIndexOfTexts (form_of long_values wide) items.now)
-        (IndexOfTextsFails (form_of long_values wide) items.now) built.old result built.new }
+    ensures { HandsOut (IsIndexOfTexts (form_of long_values wide) (map text_pair items.now))
+        (IndexOfTextsFails (form_of long_values wide) (map text_pair items.now)) built.old result
+        built.new }
 {
     build_index_texts(alloc, items, Form { long_values, wide }, built)
 }

@@ -8,14 +8,21 @@
 #![tactic(auto)]
 
 mod containers;
+mod index_long_numbers;
+mod index_long_numbers_to_texts;
 mod index_numbers;
+mod index_numbers_to_texts;
 mod index_texts;
+mod index_texts_to_texts;
 mod long_lookups;
+mod long_number_sets;
 mod long_numbers;
+mod long_numbers_to_texts;
 mod lookups;
 mod number_sets;
 mod numbers;
 mod numbers_to_texts;
+mod pairs;
 mod set_lookups;
 mod text_lookups;
 mod text_sets;

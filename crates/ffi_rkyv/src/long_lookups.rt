@@ -3,12 +3,13 @@
 //! The names end with the type and the width. A lookup has no branch on either.
 
 ghost use Rattle.std.specs.Prelude.{false, true};
-ghost use Rattle.ffi_calls.specs.Archives.{IsHeaderOf, form_of};
-ghost use Rattle.ffi_calls.specs.LongNumbers.{GivesFirstLongNumber, GivesLongNumber};
-ghost use Rattle.ffi_calls.specs.LongNumbers.{IsLongNumberArchive, long_numbers_in};
+ghost use Rattle.ffi_calls.specs.Archives.{IsHeaderOf, IsNumberArchive, form_of, numbers_in};
+ghost use Rattle.ffi_calls.specs.Calls.{GivesNumber};
+ghost use Rattle.ffi_calls.specs.Keys.{long_key};
+ghost use Rattle.ffi_calls.specs.Listed.{GivesFirstNumber};
 
 use ffi_calls::form::Form;
-use ffi_calls::long_numbers::get_long_number;
+use ffi_calls::numbers::get_number;
 use rkyv_table::table::decoded::Decoded;
 
 /// Looks up a key of a narrow map of numbers of 64 bits to `u32`, and stores its value in `value`.
@@ -28,18 +29,19 @@ pub extern "C" fn rkyv_c_get_long_number_u32_narrow(
     key: u64,
     value: &mut u64,
 ) -> u32
-    requires archive { IsLongNumberArchive (form_of false false) archive.now }
-    requires header { IsHeaderOf (long_numbers_in (form_of false false) archive.now) header.now }
-    ensures gives { GivesLongNumber (form_of false false) archive.now key value.old result
+    requires archive { IsNumberArchive long_key (form_of false false) archive.now }
+    requires header { IsHeaderOf (numbers_in long_key (form_of false false) archive.now)
+        header.now }
+    ensures gives { GivesNumber long_key (form_of false false) archive.now key value.old result
         value.new }
-    ensures listed { GivesFirstLongNumber (form_of false false) archive.now key value.old result
-        value.new }
+    ensures listed { GivesFirstNumber long_key (form_of false false) archive.now key value.old
+        result value.new }
 {
     let form = Form {
         long_values: false,
         wide: false,
     };
-    get_long_number(archive, form, header, key, value)
+    get_number::<u64>(archive, form, header, key, value)
 }
 
 /// Looks up a key of a narrow map of numbers of 64 bits to `u64`, and stores its value in `value`.
@@ -59,18 +61,18 @@ pub extern "C" fn rkyv_c_get_long_number_u64_narrow(
     key: u64,
     value: &mut u64,
 ) -> u32
-    requires archive { IsLongNumberArchive (form_of true false) archive.now }
-    requires header { IsHeaderOf (long_numbers_in (form_of true false) archive.now) header.now }
-    ensures gives { GivesLongNumber (form_of true false) archive.now key value.old result
+    requires archive { IsNumberArchive long_key (form_of true false) archive.now }
+    requires header { IsHeaderOf (numbers_in long_key (form_of true false) archive.now) header.now }
+    ensures gives { GivesNumber long_key (form_of true false) archive.now key value.old result
         value.new }
-    ensures listed { GivesFirstLongNumber (form_of true false) archive.now key value.old result
+    ensures listed { GivesFirstNumber long_key (form_of true false) archive.now key value.old result
         value.new }
 {
     let form = Form {
         long_values: true,
         wide: false,
     };
-    get_long_number(archive, form, header, key, value)
+    get_number::<u64>(archive, form, header, key, value)
 }
 
 /// Looks up a key of a wide map of numbers of 64 bits to `u32`, and stores its value in `value`.
@@ -90,18 +92,18 @@ pub extern "C" fn rkyv_c_get_long_number_u32_wide(
     key: u64,
     value: &mut u64,
 ) -> u32
-    requires archive { IsLongNumberArchive (form_of false true) archive.now }
-    requires header { IsHeaderOf (long_numbers_in (form_of false true) archive.now) header.now }
-    ensures gives { GivesLongNumber (form_of false true) archive.now key value.old result
+    requires archive { IsNumberArchive long_key (form_of false true) archive.now }
+    requires header { IsHeaderOf (numbers_in long_key (form_of false true) archive.now) header.now }
+    ensures gives { GivesNumber long_key (form_of false true) archive.now key value.old result
         value.new }
-    ensures listed { GivesFirstLongNumber (form_of false true) archive.now key value.old result
+    ensures listed { GivesFirstNumber long_key (form_of false true) archive.now key value.old result
         value.new }
 {
     let form = Form {
         long_values: false,
         wide: true,
     };
-    get_long_number(archive, form, header, key, value)
+    get_number::<u64>(archive, form, header, key, value)
 }
 
 /// Looks up a key of a wide map of numbers of 64 bits to `u64`, and stores its value in `value`.
@@ -121,15 +123,16 @@ pub extern "C" fn rkyv_c_get_long_number_u64_wide(
     key: u64,
     value: &mut u64,
 ) -> u32
-    requires archive { IsLongNumberArchive (form_of true true) archive.now }
-    requires header { IsHeaderOf (long_numbers_in (form_of true true) archive.now) header.now }
-    ensures gives { GivesLongNumber (form_of true true) archive.now key value.old result value.new }
-    ensures listed { GivesFirstLongNumber (form_of true true) archive.now key value.old result
+    requires archive { IsNumberArchive long_key (form_of true true) archive.now }
+    requires header { IsHeaderOf (numbers_in long_key (form_of true true) archive.now) header.now }
+    ensures gives { GivesNumber long_key (form_of true true) archive.now key value.old result
+        value.new }
+    ensures listed { GivesFirstNumber long_key (form_of true true) archive.now key value.old result
         value.new }
 {
     let form = Form {
         long_values: true,
         wide: true,
     };
-    get_long_number(archive, form, header, key, value)
+    get_number::<u64>(archive, form, header, key, value)
 }

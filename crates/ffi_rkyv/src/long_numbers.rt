@@ -1,41 +1,39 @@
 //! The calls for maps of numbers of 64 bits.
 
-ghost use Rattle.std.specs.Prelude.{◌≡◌};
-ghost use Rattle.ffi_calls.specs.Archives.{IsHeaderOf, KeepsHeader, Opens};
-ghost use Rattle.ffi_calls.specs.Archives.{form_of, limit_of};
+ghost use Rattle.std.specs.Prelude.{map, ◌≡◌};
+ghost use Rattle.ffi_calls.specs.Archives.{IsHeaderOf, IsNumberArchive, KeepsHeader, Opens};
+ghost use Rattle.ffi_calls.specs.Archives.{form_of, limit_of, number_map, numbers_in};
+ghost use Rattle.ffi_calls.specs.Calls.{SetsNumber, StoresNextNumbers};
 ghost use Rattle.ffi_calls.specs.Explanation.{Explains};
-ghost use Rattle.ffi_calls.specs.Items.{HandsOut};
-ghost use Rattle.ffi_calls.specs.LongNumbers.{ArchiveOfLongNumbersFails, IsArchiveOfLongNumbers};
-ghost use Rattle.ffi_calls.specs.LongNumbers.{IsLongNumberArchive, SetsFirstLongNumber};
-ghost use Rattle.ffi_calls.specs.LongNumbers.{SetsLongNumber, StepsAllLongNumbers};
-ghost use Rattle.ffi_calls.specs.LongNumbers.{StepsLongNumbers, long_number_map, long_numbers_in};
+ghost use Rattle.ffi_calls.specs.Items.{HandsOut, IsArchiveOfNumbers, ArchiveOfNumbersFails};
+ghost use Rattle.ffi_calls.specs.Keys.{long_key};
+ghost use Rattle.ffi_calls.specs.Listed.{SetsFirstNumber};
+ghost use Rattle.ffi_rkyv.specs.Pairs.{long_number_pair, long_number_step};
 
+use crate::pairs::{LongNumberPair, LongNumberStep};
 use ffi_calls::building::Built;
 use ffi_calls::explanation::Explanation;
 use ffi_calls::form::Form;
-use ffi_calls::long_number_items::{LongNumberItem, build_long_numbers};
-use ffi_calls::long_numbers::{
-    LongNumberPair, decode_long_numbers, explain_long_numbers, next_long_number, next_long_numbers,
-    open_long_numbers, set_long_number,
-};
+use ffi_calls::number_items::build_numbers;
+use ffi_calls::numbers::{decode_numbers, explain_numbers, next_numbers, open_numbers, set_number};
 use rkyv_table::table::decoded::Decoded;
 use std::alloc::Global;
 
-/// Validates the archive of a map of these numbers.
+/// Validates the archive of a map of numbers.
 ///
 /// # Errors
 ///
 /// - 16 to 23: the first validation error.
 #[unsafe(no_mangle)]
 pub extern "C" fn rkyv_c_open_long_numbers(archive: &[u8], long_values: bool, wide: bool) -> u32
-    ensures told { Opens (limit_of wide) (long_number_map (form_of long_values wide)) archive.now
-        result }
-    ensures accepts { IsLongNumberArchive (form_of long_values wide) archive.now → result ≡ 0 }
+    ensures told { Opens (limit_of wide) (number_map long_key (form_of long_values wide))
+        archive.now result }
+    ensures accepts { IsNumberArchive long_key (form_of long_values wide) archive.now → result ≡ 0 }
 {
-    open_long_numbers(archive, Form { long_values, wide })
+    open_numbers::<u64>(archive, Form { long_values, wide })
 }
 
-/// Validates the archive of a map of these numbers, and stores the first error with its numbers.
+/// Validates the archive of a map of numbers, and stores the first error with its numbers.
 #[unsafe(no_mangle)]
 pub extern "C" fn rkyv_c_explain_long_numbers(
     archive: &[u8],
@@ -43,10 +41,10 @@ pub extern "C" fn rkyv_c_explain_long_numbers(
     wide: bool,
     explanation: &mut Explanation,
 )
-    ensures { Explains (limit_of wide) (long_number_map (form_of long_values wide)) archive.now
+    ensures { Explains (limit_of wide) (number_map long_key (form_of long_values wide)) archive.now
         explanation.new }
 {
-    *explanation = explain_long_numbers(archive, Form { long_values, wide });
+    *explanation = explain_numbers::<u64>(archive, Form { long_values, wide });
 }
 
 /// Stores the decoded header of the map in `header`, for the other calls.
@@ -61,10 +59,10 @@ pub extern "C" fn rkyv_c_decode_long_numbers(
     wide: bool,
     header: &mut Decoded,
 )
-    requires { IsLongNumberArchive (form_of long_values wide) archive.now }
-    ensures { IsHeaderOf (long_numbers_in (form_of long_values wide) archive.now) header.new }
+    requires { IsNumberArchive long_key (form_of long_values wide) archive.now }
+    ensures { IsHeaderOf (numbers_in long_key (form_of long_values wide) archive.now) header.new }
 {
-    *header = decode_long_numbers(archive, Form { long_values, wide });
+    *header = decode_numbers::<u64>(archive, Form { long_values, wide });
 }
 
 /// Looks up a key, and overwrites its value in place. The archive stays valid, and its header as it
@@ -88,42 +86,16 @@ pub extern "C" fn rkyv_c_set_long_number(
     key: u64,
     value: u64,
 ) -> u32
-    requires { IsLongNumberArchive (form_of long_values wide) archive.old }
-    ensures kept { IsLongNumberArchive (form_of long_values wide) archive.new }
-    ensures header { KeepsHeader (long_numbers_in (form_of long_values wide) archive.old)
-        (long_numbers_in (form_of long_values wide) archive.new) }
-    ensures sets { SetsLongNumber (form_of long_values wide) archive.old key value result
+    requires { IsNumberArchive long_key (form_of long_values wide) archive.old }
+    ensures kept { IsNumberArchive long_key (form_of long_values wide) archive.new }
+    ensures header { KeepsHeader (numbers_in long_key (form_of long_values wide) archive.old)
+        (numbers_in long_key (form_of long_values wide) archive.new) }
+    ensures sets { SetsNumber long_key (form_of long_values wide) archive.old key value result
         archive.new }
-    ensures listed { SetsFirstLongNumber (form_of long_values wide) archive.old key value result
-        archive.new }
+    ensures listed { SetsFirstNumber long_key (form_of long_values wide) archive.old key value
+        result archive.new }
 {
-    set_long_number(archive, Form { long_values, wide }, key, value)
-}
-
-/// Stores the next pair, in bucket order, in `pair`.
-///
-/// # Errors
-///
-/// - 2: no pair remains; `pair` is unchanged then.
-///
-/// # Requires
-///
-/// - The archive is valid: `rkyv_c_open_long_numbers` returned 0.
-/// - `header` is its decoded header.
-#[unsafe(no_mangle)]
-pub extern "C" fn rkyv_c_next_long_number(
-    archive: &[u8],
-    long_values: bool,
-    wide: bool,
-    header: &Decoded,
-    pair: &mut LongNumberPair,
-) -> u32
-    requires archive { IsLongNumberArchive (form_of long_values wide) archive.now }
-    requires header { IsHeaderOf (long_numbers_in (form_of long_values wide) archive.now)
-        header.now }
-    ensures { StepsLongNumbers (form_of long_values wide) archive.now pair.old result pair.new }
-{
-    next_long_number(archive, Form { long_values, wide }, header, pair)
+    set_number::<u64>(archive, Form { long_values, wide }, key, value)
 }
 
 /// Stores the next pairs from the bucket `from` on, in bucket order, and returns their number.
@@ -142,15 +114,15 @@ pub extern "C" fn rkyv_c_next_long_numbers(
     wide: bool,
     header: &Decoded,
     from: u64,
-    pairs: &mut [LongNumberPair],
+    pairs: &mut [LongNumberStep],
 ) -> usize
-    requires archive { IsLongNumberArchive (form_of long_values wide) archive.now }
-    requires header { IsHeaderOf (long_numbers_in (form_of long_values wide) archive.now)
+    requires archive { IsNumberArchive long_key (form_of long_values wide) archive.now }
+    requires header { IsHeaderOf (numbers_in long_key (form_of long_values wide) archive.now)
         header.now }
-    ensures { StepsAllLongNumbers (form_of long_values wide) archive.now from pairs.old result
-        pairs.new }
+    ensures { StoresNextNumbers long_key (form_of long_values wide) archive.now from (map
+        long_number_step pairs.old) result (map long_number_step pairs.new) }
 {
-    next_long_numbers(archive, Form { long_values, wide }, header, from, pairs)
+    next_numbers::<u64, _>(archive, Form { long_values, wide }, header, from, pairs)
 }
 
 /// Writes the archive of the items, in insertion order, and stores its bytes in `built`.
@@ -168,14 +140,14 @@ pub extern "C" fn rkyv_c_next_long_numbers(
 #[unsafe(no_mangle)]
 pub extern "C" fn rkyv_c_build_long_numbers(
     alloc: Global,
-    items: &[LongNumberItem],
+    items: &[LongNumberPair],
     long_values: bool,
     wide: bool,
     built: &mut Built<'_>,
 ) -> u32
-    ensures { HandsOut (IsArchiveOfLongNumbers (form_of long_values wide) items.now)
-        (ArchiveOfLongNumbersFails (form_of long_values wide) items.now) built.old result
-        built.new }
+    ensures { let pairs = map long_number_pair items.now in let f = form_of long_values wide in
+        HandsOut (IsArchiveOfNumbers long_key f pairs) (ArchiveOfNumbersFails long_key f pairs)
+        built.old result built.new }
 {
-    build_long_numbers(alloc, items, Form { long_values, wide }, built)
+    build_numbers::<u64, _>(alloc, items, Form { long_values, wide }, built)
 }

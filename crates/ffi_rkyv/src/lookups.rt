@@ -7,6 +7,7 @@ ghost use Rattle.std.specs.Str.{IsUtf8};
 ghost use Rattle.ffi_calls.specs.Archives.{IsHeaderOf, IsNumberArchive, IsTextArchive, form_of};
 ghost use Rattle.ffi_calls.specs.Archives.{numbers_in, texts_in};
 ghost use Rattle.ffi_calls.specs.Calls.{GivesNumber, GivesText};
+ghost use Rattle.ffi_calls.specs.Keys.{short_key};
 ghost use Rattle.ffi_calls.specs.Listed.{GivesFirstNumber, GivesFirstText};
 
 use ffi_calls::form::Form;
@@ -31,17 +32,19 @@ pub extern "C" fn rkyv_c_get_number_u32_narrow(
     key: u32,
     value: &mut u64,
 ) -> u32
-    requires archive { IsNumberArchive (form_of false false) archive.now }
-    requires header { IsHeaderOf (numbers_in (form_of false false) archive.now) header.now }
-    ensures gives { GivesNumber (form_of false false) archive.now key value.old result value.new }
-    ensures listed { GivesFirstNumber (form_of false false) archive.now key value.old result
+    requires archive { IsNumberArchive short_key (form_of false false) archive.now }
+    requires header { IsHeaderOf (numbers_in short_key (form_of false false) archive.now)
+        header.now }
+    ensures gives { GivesNumber short_key (form_of false false) archive.now key value.old result
         value.new }
+    ensures listed { GivesFirstNumber short_key (form_of false false) archive.now key value.old
+        result value.new }
 {
     let form = Form {
         long_values: false,
         wide: false,
     };
-    get_number(archive, form, header, key, value)
+    get_number::<u32>(archive, form, header, key, value)
 }
 
 /// Looks up a key of a narrow map of numbers to `u64`, and stores its value in `value`.
@@ -61,17 +64,19 @@ pub extern "C" fn rkyv_c_get_number_u64_narrow(
     key: u32,
     value: &mut u64,
 ) -> u32
-    requires archive { IsNumberArchive (form_of true false) archive.now }
-    requires header { IsHeaderOf (numbers_in (form_of true false) archive.now) header.now }
-    ensures gives { GivesNumber (form_of true false) archive.now key value.old result value.new }
-    ensures listed { GivesFirstNumber (form_of true false) archive.now key value.old result
+    requires archive { IsNumberArchive short_key (form_of true false) archive.now }
+    requires header { IsHeaderOf (numbers_in short_key (form_of true false) archive.now)
+        header.now }
+    ensures gives { GivesNumber short_key (form_of true false) archive.now key value.old result
         value.new }
+    ensures listed { GivesFirstNumber short_key (form_of true false) archive.now key value.old
+        result value.new }
 {
     let form = Form {
         long_values: true,
         wide: false,
     };
-    get_number(archive, form, header, key, value)
+    get_number::<u32>(archive, form, header, key, value)
 }
 
 /// Looks up a key of a wide map of numbers to `u32`, and stores its value in `value`.
@@ -91,17 +96,19 @@ pub extern "C" fn rkyv_c_get_number_u32_wide(
     key: u32,
     value: &mut u64,
 ) -> u32
-    requires archive { IsNumberArchive (form_of false true) archive.now }
-    requires header { IsHeaderOf (numbers_in (form_of false true) archive.now) header.now }
-    ensures gives { GivesNumber (form_of false true) archive.now key value.old result value.new }
-    ensures listed { GivesFirstNumber (form_of false true) archive.now key value.old result
+    requires archive { IsNumberArchive short_key (form_of false true) archive.now }
+    requires header { IsHeaderOf (numbers_in short_key (form_of false true) archive.now)
+        header.now }
+    ensures gives { GivesNumber short_key (form_of false true) archive.now key value.old result
         value.new }
+    ensures listed { GivesFirstNumber short_key (form_of false true) archive.now key value.old
+        result value.new }
 {
     let form = Form {
         long_values: false,
         wide: true,
     };
-    get_number(archive, form, header, key, value)
+    get_number::<u32>(archive, form, header, key, value)
 }
 
 /// Looks up a key of a wide map of numbers to `u64`, and stores its value in `value`.
@@ -121,17 +128,18 @@ pub extern "C" fn rkyv_c_get_number_u64_wide(
     key: u32,
     value: &mut u64,
 ) -> u32
-    requires archive { IsNumberArchive (form_of true true) archive.now }
-    requires header { IsHeaderOf (numbers_in (form_of true true) archive.now) header.now }
-    ensures gives { GivesNumber (form_of true true) archive.now key value.old result value.new }
-    ensures listed { GivesFirstNumber (form_of true true) archive.now key value.old result
+    requires archive { IsNumberArchive short_key (form_of true true) archive.now }
+    requires header { IsHeaderOf (numbers_in short_key (form_of true true) archive.now) header.now }
+    ensures gives { GivesNumber short_key (form_of true true) archive.now key value.old result
+        value.new }
+    ensures listed { GivesFirstNumber short_key (form_of true true) archive.now key value.old result
         value.new }
 {
     let form = Form {
         long_values: true,
         wide: true,
     };
-    get_number(archive, form, header, key, value)
+    get_number::<u32>(archive, form, header, key, value)
 }
 
 /// Looks up a key of a narrow map of texts to `u32`, and stores its value in `value`.

@@ -1,18 +1,20 @@
 //! The calls for sets of numbers of 32 bits.
 
-ghost use Rattle.std.specs.Prelude.{◌≡◌};
+ghost use Rattle.std.specs.Prelude.{map, ◌≡◌};
 ghost use Rattle.ffi_calls.specs.Archives.{IsHeaderOf, Opens, limit_of};
 ghost use Rattle.ffi_calls.specs.Explanation.{Explains};
 ghost use Rattle.ffi_calls.specs.Items.{HandsOut};
+ghost use Rattle.ffi_calls.specs.Keys.{short_key};
 ghost use Rattle.ffi_calls.specs.SetItems.{ArchiveOfNumberSetFails, IsArchiveOfNumberSet};
-ghost use Rattle.ffi_calls.specs.Sets.{IsNumberSet, NextNumberMember, NextNumberMembers};
+ghost use Rattle.ffi_calls.specs.Sets.{IsNumberSet, StoresNextMembers};
 ghost use Rattle.ffi_calls.specs.Sets.{number_set, number_set_in};
+ghost use Rattle.ffi_rkyv.specs.Pairs.{number_member};
 
+use crate::pairs::NumberMember;
 use ffi_calls::building::Built;
 use ffi_calls::explanation::Explanation;
 use ffi_calls::number_sets::{
-    NumberMember, build_number_set, decode_number_set, explain_number_set, next_number_member,
-    next_number_members, open_number_set,
+    build_number_set, decode_number_set, explain_number_set, next_number_members, open_number_set,
 };
 use rkyv_table::table::decoded::Decoded;
 use std::alloc::Global;
@@ -24,10 +26,10 @@ use std::alloc::Global;
 /// - 16 to 23: the first validation error.
 #[unsafe(no_mangle)]
 pub extern "C" fn rkyv_c_open_number_set(archive: &[u8], wide: bool) -> u32
-    ensures told { Opens (limit_of wide) (number_set wide) archive.now result }
-    ensures accepts { IsNumberSet wide archive.now → result ≡ 0 }
+    ensures told { Opens (limit_of wide) (number_set short_key wide) archive.now result }
+    ensures accepts { IsNumberSet short_key wide archive.now → result ≡ 0 }
 {
-    open_number_set(archive, wide)
+    open_number_set::<u32>(archive, wide)
 }
 
 /// Validates the archive of a set of numbers, and stores the first error with its numbers.
@@ -37,9 +39,9 @@ pub extern "C" fn rkyv_c_explain_number_set(
     wide: bool,
     explanation: &mut Explanation,
 )
-    ensures { Explains (limit_of wide) (number_set wide) archive.now explanation.new }
+    ensures { Explains (limit_of wide) (number_set short_key wide) archive.now explanation.new }
 {
-    *explanation = explain_number_set(archive, wide);
+    *explanation = explain_number_set::<u32>(archive, wide);
 }
 
 /// Stores the decoded header of the set in `header`, for the other calls.
@@ -49,34 +51,10 @@ pub extern "C" fn rkyv_c_explain_number_set(
 /// - The archive is valid: `rkyv_c_open_number_set` returned 0.
 #[unsafe(no_mangle)]
 pub extern "C" fn rkyv_c_decode_number_set(archive: &[u8], wide: bool, header: &mut Decoded)
-    requires { IsNumberSet wide archive.now }
-    ensures { IsHeaderOf (number_set_in wide archive.now) header.new }
+    requires { IsNumberSet short_key wide archive.now }
+    ensures { IsHeaderOf (number_set_in short_key wide archive.now) header.new }
 {
-    *header = decode_number_set(archive, wide);
-}
-
-/// Stores the next item, in bucket order, in `member`.
-///
-/// # Errors
-///
-/// - 2: no item remains; `member` is unchanged then.
-///
-/// # Requires
-///
-/// - The archive is valid: `rkyv_c_open_number_set` returned 0.
-/// - `header` is its decoded header.
-#[unsafe(no_mangle)]
-pub extern "C" fn rkyv_c_next_number_member(
-    archive: &[u8],
-    wide: bool,
-    header: &Decoded,
-    member: &mut NumberMember,
-) -> u32
-    requires archive { IsNumberSet wide archive.now }
-    requires header { IsHeaderOf (number_set_in wide archive.now) header.now }
-    ensures { NextNumberMember (number_set_in wide archive.now) member.old result member.new }
-{
-    next_number_member(archive, wide, header, member)
+    *header = decode_number_set::<u32>(archive, wide);
 }
 
 /// Stores the next items from the bucket `from` on, in bucket order, and returns their number.
@@ -96,12 +74,12 @@ pub extern "C" fn rkyv_c_next_number_members(
     from: u64,
     members: &mut [NumberMember],
 ) -> usize
-    requires archive { IsNumberSet wide archive.now }
-    requires header { IsHeaderOf (number_set_in wide archive.now) header.now }
-    ensures { NextNumberMembers (number_set_in wide archive.now) from members.old result
-        members.new }
+    requires archive { IsNumberSet short_key wide archive.now }
+    requires header { IsHeaderOf (number_set_in short_key wide archive.now) header.now }
+    ensures { StoresNextMembers short_key wide archive.now from (map number_member members.old)
+        result (map number_member members.new) }
 {
-    next_number_members(archive, wide, header, from, members)
+    next_number_members::<u32, _>(archive, wide, header, from, members)
 }
 
 /// Writes the archive of a set of the items, in insertion order, and stores its bytes in `built`.
@@ -122,8 +100,8 @@ pub extern "C" fn rkyv_c_build_number_set(
     wide: bool,
     built: &mut Built<'_>,
 ) -> u32
-    ensures { HandsOut (IsArchiveOfNumberSet wide items.now)
-        (ArchiveOfNumberSetFails wide items.now) built.old result built.new }
+    ensures { HandsOut (IsArchiveOfNumberSet short_key wide items.now)
+        (ArchiveOfNumberSetFails short_key wide items.now) built.old result built.new }
 {
-    build_number_set(alloc, items, wide, built)
+    build_number_set::<u32>(alloc, items, wide, built)
 }

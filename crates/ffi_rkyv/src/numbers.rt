@@ -1,22 +1,21 @@
 //! The calls for maps of numbers of 32 bits.
 
-ghost use Rattle.std.specs.Prelude.{◌≡◌};
+ghost use Rattle.std.specs.Prelude.{map, ◌≡◌};
 ghost use Rattle.ffi_calls.specs.Archives.{IsHeaderOf, IsNumberArchive, KeepsHeader, Opens};
-ghost use Rattle.ffi_calls.specs.Archives.{form_of, limit_of};
-ghost use Rattle.ffi_calls.specs.Archives.{number_map, numbers_in};
-ghost use Rattle.ffi_calls.specs.Calls.{SetsNumber, StepsNumbers, StepsAllNumbers};
+ghost use Rattle.ffi_calls.specs.Archives.{form_of, limit_of, number_map, numbers_in};
+ghost use Rattle.ffi_calls.specs.Calls.{SetsNumber, StoresNextNumbers};
 ghost use Rattle.ffi_calls.specs.Explanation.{Explains};
-ghost use Rattle.ffi_calls.specs.Listed.{SetsFirstNumber};
 ghost use Rattle.ffi_calls.specs.Items.{HandsOut, IsArchiveOfNumbers, ArchiveOfNumbersFails};
+ghost use Rattle.ffi_calls.specs.Keys.{short_key};
+ghost use Rattle.ffi_calls.specs.Listed.{SetsFirstNumber};
+ghost use Rattle.ffi_rkyv.specs.Pairs.{number_pair, number_step};
 
+use crate::pairs::{NumberPair, NumberStep};
 use ffi_calls::building::Built;
 use ffi_calls::explanation::Explanation;
 use ffi_calls::form::Form;
-use ffi_calls::number_items::{NumberItem, build_numbers};
-use ffi_calls::numbers::{
-    NumberPair, decode_numbers, explain_numbers, next_number, next_numbers, open_numbers,
-    set_number,
-};
+use ffi_calls::number_items::build_numbers;
+use ffi_calls::numbers::{decode_numbers, explain_numbers, next_numbers, open_numbers, set_number};
 use rkyv_table::table::decoded::Decoded;
 use std::alloc::Global;
 
@@ -27,11 +26,12 @@ use std::alloc::Global;
 /// - 16 to 23: the first validation error.
 #[unsafe(no_mangle)]
 pub extern "C" fn rkyv_c_open_numbers(archive: &[u8], long_values: bool, wide: bool) -> u32
-    ensures told { Opens (limit_of wide) (number_map (form_of long_values wide)) archive.now
-        result }
-    ensures accepts { IsNumberArchive (form_of long_values wide) archive.now → result ≡ 0 }
+    ensures told { Opens (limit_of wide) (number_map short_key (form_of long_values wide))
+        archive.now result }
+    ensures accepts { IsNumberArchive short_key (form_of long_values wide) archive.now
+        → result ≡ 0 }
 {
-    open_numbers(archive, Form { long_values, wide })
+    open_numbers::<u32>(archive, Form { long_values, wide })
 }
 
 /// Validates the archive of a map of numbers, and stores the first error with its numbers.
@@ -42,10 +42,10 @@ pub extern "C" fn rkyv_c_explain_numbers(
     wide: bool,
     explanation: &mut Explanation,
 )
-    ensures { Explains (limit_of wide) (number_map (form_of long_values wide)) archive.now
+    ensures { Explains (limit_of wide) (number_map short_key (form_of long_values wide)) archive.now
         explanation.new }
 {
-    *explanation = explain_numbers(archive, Form { long_values, wide });
+    *explanation = explain_numbers::<u32>(archive, Form { long_values, wide });
 }
 
 /// Stores the decoded header of the map in `header`, for the other calls.
@@ -60,10 +60,10 @@ pub extern "C" fn rkyv_c_decode_numbers(
     wide: bool,
     header: &mut Decoded,
 )
-    requires { IsNumberArchive (form_of long_values wide) archive.now }
-    ensures { IsHeaderOf (numbers_in (form_of long_values wide) archive.now) header.new }
+    requires { IsNumberArchive short_key (form_of long_values wide) archive.now }
+    ensures { IsHeaderOf (numbers_in short_key (form_of long_values wide) archive.now) header.new }
 {
-    *header = decode_numbers(archive, Form { long_values, wide });
+    *header = decode_numbers::<u32>(archive, Form { long_values, wide });
 }
 
 /// Looks up a key, and overwrites its value in place. The archive stays valid, and its header as it
@@ -87,40 +87,16 @@ pub extern "C" fn rkyv_c_set_number(
     key: u32,
     value: u64,
 ) -> u32
-    requires { IsNumberArchive (form_of long_values wide) archive.old }
-    ensures kept { IsNumberArchive (form_of long_values wide) archive.new }
-    ensures header { KeepsHeader (numbers_in (form_of long_values wide) archive.old)
-        (numbers_in (form_of long_values wide) archive.new) }
-    ensures sets { SetsNumber (form_of long_values wide) archive.old key value result archive.new }
-    ensures listed { SetsFirstNumber (form_of long_values wide) archive.old key value result
+    requires { IsNumberArchive short_key (form_of long_values wide) archive.old }
+    ensures kept { IsNumberArchive short_key (form_of long_values wide) archive.new }
+    ensures header { KeepsHeader (numbers_in short_key (form_of long_values wide) archive.old)
+        (numbers_in short_key (form_of long_values wide) archive.new) }
+    ensures sets { SetsNumber short_key (form_of long_values wide) archive.old key value result
         archive.new }
+    ensures listed { SetsFirstNumber short_key (form_of long_values wide) archive.old key value
+        result archive.new }
 {
-    set_number(archive, Form { long_values, wide }, key, value)
-}
-
-/// Stores the next pair, in bucket order, in `pair`.
-///
-/// # Errors
-///
-/// - 2: no pair remains; `pair` is unchanged then.
-///
-/// # Requires
-///
-/// - The archive is valid: `rkyv_c_open_numbers` returned 0.
-/// - `header` is its decoded header.
-#[unsafe(no_mangle)]
-pub extern "C" fn rkyv_c_next_number(
-    archive: &[u8],
-    long_values: bool,
-    wide: bool,
-    header: &Decoded,
-    pair: &mut NumberPair,
-) -> u32
-    requires archive { IsNumberArchive (form_of long_values wide) archive.now }
-    requires header { IsHeaderOf (numbers_in (form_of long_values wide) archive.now) header.now }
-    ensures { StepsNumbers (form_of long_values wide) archive.now pair.old result pair.new }
-{
-    next_number(archive, Form { long_values, wide }, header, pair)
+    set_number::<u32>(archive, Form { long_values, wide }, key, value)
 }
 
 /// Stores the next pairs from the bucket `from` on, in bucket order, and returns their number.
@@ -139,14 +115,15 @@ pub extern "C" fn rkyv_c_next_numbers(
     wide: bool,
     header: &Decoded,
     from: u64,
-    pairs: &mut [NumberPair],
+    pairs: &mut [NumberStep],
 ) -> usize
-    requires archive { IsNumberArchive (form_of long_values wide) archive.now }
-    requires header { IsHeaderOf (numbers_in (form_of long_values wide) archive.now) header.now }
-    ensures { StepsAllNumbers (form_of long_values wide) archive.now from pairs.old result
-        pairs.new }
+    requires archive { IsNumberArchive short_key (form_of long_values wide) archive.now }
+    requires header { IsHeaderOf (numbers_in short_key (form_of long_values wide) archive.now)
+        header.now }
+    ensures { StoresNextNumbers short_key (form_of long_values wide) archive.now from (map
+        number_step pairs.old) result (map number_step pairs.new) }
 {
-    next_numbers(archive, Form { long_values, wide }, header, from, pairs)
+    next_numbers::<u32, _>(archive, Form { long_values, wide }, header, from, pairs)
 }
 
 /// Writes the archive of the items, in insertion order, and stores its bytes in `built`.
@@ -164,13 +141,14 @@ pub extern "C" fn rkyv_c_next_numbers(
 #[unsafe(no_mangle)]
 pub extern "C" fn rkyv_c_build_numbers(
     alloc: Global,
-    items: &[NumberItem],
+    items: &[NumberPair],
     long_values: bool,
     wide: bool,
     built: &mut Built<'_>,
 ) -> u32
-    ensures { HandsOut (IsArchiveOfNumbers (form_of long_values wide) items.now)
-        (ArchiveOfNumbersFails (form_of long_values wide) items.now) built.old result built.new }
+    ensures { let pairs = map number_pair items.now in let f = form_of long_values wide in HandsOut
+        (IsArchiveOfNumbers short_key f pairs) (ArchiveOfNumbersFails short_key f pairs) built.old
+        result built.new }
 {
-    build_numbers(alloc, items, Form { long_values, wide }, built)
+    build_numbers::<u32, _>(alloc, items, Form { long_values, wide }, built)
 }

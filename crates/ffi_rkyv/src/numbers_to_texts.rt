@@ -1,20 +1,22 @@
 //! The calls for maps of numbers of 32 bits to texts.
 
-ghost use Rattle.std.specs.Prelude.{◌≡◌};
+ghost use Rattle.std.specs.Prelude.{map, ◌≡◌};
 ghost use Rattle.ffi_calls.specs.Archives.{IsHeaderOf, Opens, limit_of};
 ghost use Rattle.ffi_calls.specs.Explanation.{Explains};
 ghost use Rattle.ffi_calls.specs.Items.{HandsOut};
+ghost use Rattle.ffi_calls.specs.Keys.{short_key};
 ghost use Rattle.ffi_calls.specs.TextItems.{ArchiveOfNumberTextsFails, IsArchiveOfNumberTexts};
-ghost use Rattle.ffi_calls.specs.TextValues.{IsNumberTextArchive, NextNumberText};
-ghost use Rattle.ffi_calls.specs.TextValues.{NextNumberTexts, number_text_map, number_texts_in};
+ghost use Rattle.ffi_calls.specs.TextValues.{IsNumberTextArchive, StoresNextNumberTexts};
+ghost use Rattle.ffi_calls.specs.TextValues.{number_text_map, number_texts_in};
+ghost use Rattle.ffi_rkyv.specs.Pairs.{number_text_pair, number_text_step};
 
+use crate::pairs::{NumberTextPair, NumberTextStep};
 use ffi_calls::building::Built;
 use ffi_calls::explanation::Explanation;
 use ffi_calls::numbers_to_texts::{
-    NumberTextPair, decode_numbers_to_texts, explain_numbers_to_texts, next_number_text,
-    next_number_texts, open_numbers_to_texts,
+    decode_numbers_to_texts, explain_numbers_to_texts, next_number_texts, open_numbers_to_texts,
 };
-use ffi_calls::numbers_to_texts_items::{NumberTextItem, build_numbers_to_texts};
+use ffi_calls::numbers_to_texts_items::build_numbers_to_texts;
 use rkyv_table::table::decoded::Decoded;
 use std::alloc::Global;
 
@@ -25,10 +27,10 @@ use std::alloc::Global;
 /// - 16 to 23: the first validation error.
 #[unsafe(no_mangle)]
 pub extern "C" fn rkyv_c_open_numbers_to_texts(archive: &[u8], wide: bool) -> u32
-    ensures told { Opens (limit_of wide) (number_text_map wide) archive.now result }
-    ensures accepts { IsNumberTextArchive wide archive.now → result ≡ 0 }
+    ensures told { Opens (limit_of wide) (number_text_map short_key wide) archive.now result }
+    ensures accepts { IsNumberTextArchive short_key wide archive.now → result ≡ 0 }
 {
-    open_numbers_to_texts(archive, wide)
+    open_numbers_to_texts::<u32>(archive, wide)
 }
 
 /// Validates the archive of a map of numbers to texts, and stores the first error with its
@@ -39,9 +41,10 @@ pub extern "C" fn rkyv_c_explain_numbers_to_texts(
     wide: bool,
     explanation: &mut Explanation,
 )
-    ensures { Explains (limit_of wide) (number_text_map wide) archive.now explanation.new }
+    ensures { Explains (limit_of wide) (number_text_map short_key wide) archive.now
+        explanation.new }
 {
-    *explanation = explain_numbers_to_texts(archive, wide);
+    *explanation = explain_numbers_to_texts::<u32>(archive, wide);
 }
 
 /// Stores the decoded header of the map in `header`, for the other calls.
@@ -51,34 +54,10 @@ pub extern "C" fn rkyv_c_explain_numbers_to_texts(
 /// - The archive is valid: `rkyv_c_open_numbers_to_texts` returned 0.
 #[unsafe(no_mangle)]
 pub extern "C" fn rkyv_c_decode_numbers_to_texts(archive: &[u8], wide: bool, header: &mut Decoded)
-    requires { IsNumberTextArchive wide archive.now }
-    ensures { IsHeaderOf (number_texts_in wide archive.now) header.new }
+    requires { IsNumberTextArchive short_key wide archive.now }
+    ensures { IsHeaderOf (number_texts_in short_key wide archive.now) header.new }
 {
-    *header = decode_numbers_to_texts(archive, wide);
-}
-
-/// Stores the next pair, in bucket order, in `pair`, with a value borrowed from the archive.
-///
-/// # Errors
-///
-/// - 2: no pair remains; `pair` is unchanged then.
-///
-/// # Requires
-///
-/// - The archive is valid: `rkyv_c_open_numbers_to_texts` returned 0.
-/// - `header` is its decoded header.
-#[unsafe(no_mangle)]
-pub extern "C" fn rkyv_c_next_number_text<'a>(
-    archive: &'a [u8],
-    wide: bool,
-    header: &Decoded,
-    pair: &mut NumberTextPair<'a>,
-) -> u32
-    requires archive { IsNumberTextArchive wide archive.now }
-    requires header { IsHeaderOf (number_texts_in wide archive.now) header.now }
-    ensures { NextNumberText (number_texts_in wide archive.now) pair.old result pair.new }
-{
-    next_number_text(archive, wide, header, pair)
+    *header = decode_numbers_to_texts::<u32>(archive, wide);
 }
 
 /// Stores the next pairs from the bucket `from` on, in bucket order, and returns their number.
@@ -96,13 +75,14 @@ pub extern "C" fn rkyv_c_next_number_texts<'a>(
     wide: bool,
     header: &Decoded,
     from: u64,
-    pairs: &mut [NumberTextPair<'a>],
+    pairs: &mut [NumberTextStep<'a>],
 ) -> usize
-    requires archive { IsNumberTextArchive wide archive.now }
-    requires header { IsHeaderOf (number_texts_in wide archive.now) header.now }
-    ensures { NextNumberTexts (number_texts_in wide archive.now) from pairs.old result pairs.new }
+    requires archive { IsNumberTextArchive short_key wide archive.now }
+    requires header { IsHeaderOf (number_texts_in short_key wide archive.now) header.now }
+    ensures { StoresNextNumberTexts short_key wide archive.now from (map number_text_step pairs.old)
+        result (map number_text_step pairs.new) }
 {
-    next_number_texts(archive, wide, header, from, pairs)
+    next_number_texts::<u32, _>(archive, wide, header, from, pairs)
 }
 
 /// Writes the archive of the items, in insertion order, and stores its bytes in `built`.
@@ -120,12 +100,13 @@ pub extern "C" fn rkyv_c_next_number_texts<'a>(
 #[unsafe(no_mangle)]
 pub extern "C" fn rkyv_c_build_numbers_to_texts(
     alloc: Global,
-    items: &[NumberTextItem<'_>],
+    items: &[NumberTextPair<'_>],
     wide: bool,
     built: &mut Built<'_>,
 ) -> u32
-    ensures { HandsOut (IsArchiveOfNumberTexts wide items.now)
-        (ArchiveOfNumberTextsFails wide items.now) built.old result built.new }
+    ensures { HandsOut (IsArchiveOfNumberTexts short_key wide (map number_text_pair items.now))
+        (ArchiveOfNumberTextsFails short_key wide (map number_text_pair items.now)) built.old result
+        built.new }
 {
-    build_numbers_to_texts(alloc, items, wide, built)
+    build_numbers_to_texts::<u32, _>(alloc, items, wide, built)
 }

@@ -5,6 +5,7 @@
 ghost use Rattle.std.specs.Prelude.{false, true};
 ghost use Rattle.std.specs.Str.{IsUtf8};
 ghost use Rattle.ffi_calls.specs.Archives.{IsHeaderOf};
+ghost use Rattle.ffi_calls.specs.Keys.{long_key, short_key};
 ghost use Rattle.ffi_calls.specs.Sets.{FindsListedNumber, FindsListedText, FindsNumber};
 ghost use Rattle.ffi_calls.specs.Sets.{FindsText, IsNumberSet, IsTextSet, number_set_in};
 ghost use Rattle.ffi_calls.specs.Sets.{text_set_in};
@@ -25,12 +26,12 @@ use rkyv_table::table::decoded::Decoded;
 /// - `header` is its decoded header.
 #[unsafe(no_mangle)]
 pub extern "C" fn rkyv_c_contains_number_narrow(archive: &[u8], header: &Decoded, item: u32) -> u32
-    requires archive { IsNumberSet false archive.now }
-    requires header { IsHeaderOf (number_set_in false archive.now) header.now }
-    ensures found { FindsNumber false archive.now item result }
-    ensures listed { FindsListedNumber false archive.now item result }
+    requires archive { IsNumberSet short_key false archive.now }
+    requires header { IsHeaderOf (number_set_in short_key false archive.now) header.now }
+    ensures found { FindsNumber short_key false archive.now item result }
+    ensures listed { FindsListedNumber short_key false archive.now item result }
 {
-    contains_number(archive, false, header, item)
+    contains_number::<u32>(archive, false, header, item)
 }
 
 /// Looks up an item of a wide set of numbers, and returns 0 if it is found.
@@ -45,12 +46,60 @@ pub extern "C" fn rkyv_c_contains_number_narrow(archive: &[u8], header: &Decoded
 /// - `header` is its decoded header.
 #[unsafe(no_mangle)]
 pub extern "C" fn rkyv_c_contains_number_wide(archive: &[u8], header: &Decoded, item: u32) -> u32
-    requires archive { IsNumberSet true archive.now }
-    requires header { IsHeaderOf (number_set_in true archive.now) header.now }
-    ensures found { FindsNumber true archive.now item result }
-    ensures listed { FindsListedNumber true archive.now item result }
+    requires archive { IsNumberSet short_key true archive.now }
+    requires header { IsHeaderOf (number_set_in short_key true archive.now) header.now }
+    ensures found { FindsNumber short_key true archive.now item result }
+    ensures listed { FindsListedNumber short_key true archive.now item result }
 {
-    contains_number(archive, true, header, item)
+    contains_number::<u32>(archive, true, header, item)
+}
+
+/// Looks up an item of a narrow set of numbers of 64 bits, and returns 0 if it is found.
+///
+/// # Errors
+///
+/// - 1: the lookup doesn't find the item.
+///
+/// # Requires
+///
+/// - The archive is valid: `rkyv_c_open_long_number_set` returned 0.
+/// - `header` is its decoded header.
+#[unsafe(no_mangle)]
+pub extern "C" fn rkyv_c_contains_long_number_narrow(
+    archive: &[u8],
+    header: &Decoded,
+    item: u64,
+) -> u32
+    requires archive { IsNumberSet long_key false archive.now }
+    requires header { IsHeaderOf (number_set_in long_key false archive.now) header.now }
+    ensures found { FindsNumber long_key false archive.now item result }
+    ensures listed { FindsListedNumber long_key false archive.now item result }
+{
+    contains_number::<u64>(archive, false, header, item)
+}
+
+/// Looks up an item of a wide set of numbers of 64 bits, and returns 0 if it is found.
+///
+/// # Errors
+///
+/// - 1: the lookup doesn't find the item.
+///
+/// # Requires
+///
+/// - The archive is valid: `rkyv_c_open_long_number_set` returned 0.
+/// - `header` is its decoded header.
+#[unsafe(no_mangle)]
+pub extern "C" fn rkyv_c_contains_long_number_wide(
+    archive: &[u8],
+    header: &Decoded,
+    item: u64,
+) -> u32
+    requires archive { IsNumberSet long_key true archive.now }
+    requires header { IsHeaderOf (number_set_in long_key true archive.now) header.now }
+    ensures found { FindsNumber long_key true archive.now item result }
+    ensures listed { FindsListedNumber long_key true archive.now item result }
+{
+    contains_number::<u64>(archive, true, header, item)
 }
 
 /// Looks up an item of a narrow set of texts, and returns 0 if it is found.

@@ -5,13 +5,14 @@
 ghost use Rattle.std.specs.Prelude.{false, true};
 ghost use Rattle.std.specs.Str.{IsUtf8};
 ghost use Rattle.ffi_calls.specs.Archives.{IsHeaderOf};
+ghost use Rattle.ffi_calls.specs.Keys.{long_key, short_key};
 ghost use Rattle.ffi_calls.specs.TextValues.{GivesFirstTextOfNumber, GivesFirstTextOfText};
 ghost use Rattle.ffi_calls.specs.TextValues.{GivesTextOfNumber, GivesTextOfText};
 ghost use Rattle.ffi_calls.specs.TextValues.{IsNumberTextArchive, IsTextTextArchive};
 ghost use Rattle.ffi_calls.specs.TextValues.{number_texts_in, text_texts_in};
 
+use crate::pairs::TextValue;
 use ffi_calls::numbers_to_texts::get_text_of_number;
-use ffi_calls::text_values::TextValue;
 use ffi_calls::texts_to_texts::get_text_of_text;
 use rkyv_table::table::decoded::Decoded;
 
@@ -32,12 +33,14 @@ pub extern "C" fn rkyv_c_get_text_of_number_narrow<'a>(
     key: u32,
     value: &mut TextValue<'a>,
 ) -> u32
-    requires archive { IsNumberTextArchive false archive.now }
-    requires header { IsHeaderOf (number_texts_in false archive.now) header.now }
-    ensures gives { GivesTextOfNumber false archive.now key value.old result value.new }
-    ensures listed { GivesFirstTextOfNumber false archive.now key value.old result value.new }
+    requires archive { IsNumberTextArchive short_key false archive.now }
+    requires header { IsHeaderOf (number_texts_in short_key false archive.now) header.now }
+    ensures gives { GivesTextOfNumber short_key false archive.now key value.old.text result
+        value.new.text }
+    ensures listed { GivesFirstTextOfNumber short_key false archive.now key value.old.text result
+        value.new.text }
 {
-    get_text_of_number(archive, false, header, key, value)
+    get_text_of_number::<u32>(archive, false, header, key, &mut value.text)
 }
 
 /// Looks up a key of a wide map of numbers to texts, and stores its text in `value`.
@@ -57,12 +60,68 @@ pub extern "C" fn rkyv_c_get_text_of_number_wide<'a>(
     key: u32,
     value: &mut TextValue<'a>,
 ) -> u32
-    requires archive { IsNumberTextArchive true archive.now }
-    requires header { IsHeaderOf (number_texts_in true archive.now) header.now }
-    ensures gives { GivesTextOfNumber true archive.now key value.old result value.new }
-    ensures listed { GivesFirstTextOfNumber true archive.now key value.old result value.new }
+    requires archive { IsNumberTextArchive short_key true archive.now }
+    requires header { IsHeaderOf (number_texts_in short_key true archive.now) header.now }
+    ensures gives { GivesTextOfNumber short_key true archive.now key value.old.text result
+        value.new.text }
+    ensures listed { GivesFirstTextOfNumber short_key true archive.now key value.old.text result
+        value.new.text }
 {
-    get_text_of_number(archive, true, header, key, value)
+    get_text_of_number::<u32>(archive, true, header, key, &mut value.text)
+}
+
+/// Looks up a key of a narrow map of numbers of 64 bits to texts, and stores its text in `value`.
+///
+/// # Errors
+///
+/// - 1: the lookup doesn't find the key; `value` is unchanged then.
+///
+/// # Requires
+///
+/// - The archive is valid: `rkyv_c_open_long_numbers_to_texts` returned 0.
+/// - `header` is its decoded header.
+#[unsafe(no_mangle)]
+pub extern "C" fn rkyv_c_get_text_of_long_number_narrow<'a>(
+    archive: &'a [u8],
+    header: &Decoded,
+    key: u64,
+    value: &mut TextValue<'a>,
+) -> u32
+    requires archive { IsNumberTextArchive long_key false archive.now }
+    requires header { IsHeaderOf (number_texts_in long_key false archive.now) header.now }
+    ensures gives { GivesTextOfNumber long_key false archive.now key value.old.text result
+        value.new.text }
+    ensures listed { GivesFirstTextOfNumber long_key false archive.now key value.old.text result
+        value.new.text }
+{
+    get_text_of_number::<u64>(archive, false, header, key, &mut value.text)
+}
+
+/// Looks up a key of a wide map of numbers of 64 bits to texts, and stores its text in `value`.
+///
+/// # Errors
+///
+/// - 1: the lookup doesn't find the key; `value` is unchanged then.
+///
+/// # Requires
+///
+/// - The archive is valid: `rkyv_c_open_long_numbers_to_texts` returned 0.
+/// - `header` is its decoded header.
+#[unsafe(no_mangle)]
+pub extern "C" fn rkyv_c_get_text_of_long_number_wide<'a>(
+    archive: &'a [u8],
+    header: &Decoded,
+    key: u64,
+    value: &mut TextValue<'a>,
+) -> u32
+    requires archive { IsNumberTextArchive long_key true archive.now }
+    requires header { IsHeaderOf (number_texts_in long_key true archive.now) header.now }
+    ensures gives { GivesTextOfNumber long_key true archive.now key value.old.text result
+        value.new.text }
+    ensures listed { GivesFirstTextOfNumber long_key true archive.now key value.old.text result
+        value.new.text }
+{
+    get_text_of_number::<u64>(archive, true, header, key, &mut value.text)
 }
 
 /// Looks up a key of a narrow map of texts to texts, and stores its text in `value`.
@@ -87,11 +146,11 @@ pub extern "C" fn rkyv_c_get_text_of_text_narrow<'a>(
 ) -> u32
     requires archive { IsTextTextArchive false archive.now }
     requires header { IsHeaderOf (text_texts_in false archive.now) header.now }
-    ensures gives { GivesTextOfText false archive.now key.now value.old result value.new }
+    ensures gives { GivesTextOfText false archive.now key.now value.old.text result value.new.text }
     ensures listed { IsUtf8 key.now
-        → GivesFirstTextOfText false archive.now key.now value.old result value.new }
+        → GivesFirstTextOfText false archive.now key.now value.old.text result value.new.text }
 {
-    get_text_of_text(archive, false, header, key, value)
+    get_text_of_text(archive, false, header, key, &mut value.text)
 }
 
 /// Looks up a key of a wide map of texts to texts, and stores its text in `value`.
@@ -116,9 +175,9 @@ pub extern "C" fn rkyv_c_get_text_of_text_wide<'a>(
 ) -> u32
     requires archive { IsTextTextArchive true archive.now }
     requires header { IsHeaderOf (text_texts_in true archive.now) header.now }
-    ensures gives { GivesTextOfText true archive.now key.now value.old result value.new }
+    ensures gives { GivesTextOfText true archive.now key.now value.old.text result value.new.text }
     ensures listed { IsUtf8 key.now
-        → GivesFirstTextOfText true archive.now key.now value.old result value.new }
+        → GivesFirstTextOfText true archive.now key.now value.old.text result value.new.text }
 {
-    get_text_of_text(archive, true, header, key, value)
+    get_text_of_text(archive, true, header, key, &mut value.text)
 }

@@ -1,20 +1,19 @@
 //! The calls for sets of texts.
 
-ghost use Rattle.std.specs.Prelude.{◌≡◌};
+ghost use Rattle.std.specs.Prelude.{map, ◌≡◌};
 ghost use Rattle.ffi_calls.specs.Archives.{IsHeaderOf, Opens, limit_of};
 ghost use Rattle.ffi_calls.specs.Explanation.{Explains};
 ghost use Rattle.ffi_calls.specs.Items.{HandsOut};
 ghost use Rattle.ffi_calls.specs.SetItems.{ArchiveOfTextSetFails, IsArchiveOfTextSet};
-ghost use Rattle.ffi_calls.specs.Sets.{IsTextSet, NextTextMember, NextTextMembers};
-ghost use Rattle.ffi_calls.specs.Sets.{text_set, text_set_in};
+ghost use Rattle.ffi_calls.specs.Sets.{IsTextSet, StoresNextTextMembers, text_set};
+ghost use Rattle.ffi_calls.specs.Sets.{text_set_in};
+ghost use Rattle.ffi_rkyv.specs.Pairs.{text_member};
 
+use crate::pairs::TextMember;
 use ffi_calls::building::Built;
 use ffi_calls::explanation::Explanation;
 use ffi_calls::text_set_items::{SetText, build_text_set};
-use ffi_calls::text_sets::{
-    TextMember, decode_text_set, explain_text_set, next_text_member, next_text_members,
-    open_text_set,
-};
+use ffi_calls::text_sets::{decode_text_set, explain_text_set, next_text_members, open_text_set};
 use rkyv_table::table::decoded::Decoded;
 use std::alloc::Global;
 
@@ -52,30 +51,6 @@ pub extern "C" fn rkyv_c_decode_text_set(archive: &[u8], wide: bool, header: &mu
     *header = decode_text_set(archive, wide);
 }
 
-/// Stores the next item, in bucket order, in `member`, borrowed from the archive.
-///
-/// # Errors
-///
-/// - 2: no item remains; `member` is unchanged then.
-///
-/// # Requires
-///
-/// - The archive is valid: `rkyv_c_open_text_set` returned 0.
-/// - `header` is its decoded header.
-#[unsafe(no_mangle)]
-pub extern "C" fn rkyv_c_next_text_member<'a>(
-    archive: &'a [u8],
-    wide: bool,
-    header: &Decoded,
-    member: &mut TextMember<'a>,
-) -> u32
-    requires archive { IsTextSet wide archive.now }
-    requires header { IsHeaderOf (text_set_in wide archive.now) header.now }
-    ensures { NextTextMember (text_set_in wide archive.now) member.old result member.new }
-{
-    next_text_member(archive, wide, header, member)
-}
-
 /// Stores the next items from the bucket `from` on, in bucket order, and returns their number.
 ///
 /// If fewer items are stored than `members` has room for, no item remains. Otherwise a next call
@@ -95,8 +70,8 @@ pub extern "C" fn rkyv_c_next_text_members<'a>(
 ) -> usize
     requires archive { IsTextSet wide archive.now }
     requires header { IsHeaderOf (text_set_in wide archive.now) header.now }
-    ensures { NextTextMembers (text_set_in wide archive.now) from members.old result
-        members.new }
+    ensures { StoresNextTextMembers wide archive.now from (map text_member members.old) result (map
+        text_member members.new) }
 {
     next_text_members(archive, wide, header, from, members)
 }

@@ -1,21 +1,21 @@
 //! The calls for maps of texts.
 
-ghost use Rattle.std.specs.Prelude.{IsTrue, ◌↔◌, ◌≡◌};
+ghost use Rattle.std.specs.Prelude.{IsTrue, map, ◌↔◌, ◌≡◌};
 ghost use Rattle.std.specs.Str.{IsUtf8};
 ghost use Rattle.ffi_calls.specs.Archives.{IsTextArchive, Opens, form_of, limit_of, text_map};
 ghost use Rattle.ffi_calls.specs.Archives.{IsHeaderOf, KeepsHeader, texts_in};
-ghost use Rattle.ffi_calls.specs.Calls.{SetsText, StepsTexts, StepsAllTexts};
+ghost use Rattle.ffi_calls.specs.Calls.{SetsText, StoresNextTexts};
 ghost use Rattle.ffi_calls.specs.Explanation.{Explains};
 ghost use Rattle.ffi_calls.specs.Listed.{SetsFirstText};
 ghost use Rattle.ffi_calls.specs.Items.{HandsOut, IsArchiveOfTexts, ArchiveOfTextsFails};
+ghost use Rattle.ffi_rkyv.specs.Pairs.{text_pair, text_step};
 
+use crate::pairs::{TextPair, TextStep};
 use ffi_calls::building::Built;
 use ffi_calls::explanation::Explanation;
 use ffi_calls::form::Form;
-use ffi_calls::text_items::{TextItem, build_texts};
-use ffi_calls::texts::{
-    TextPair, decode_texts, explain_texts, is_text, next_text, next_texts, open_texts, set_text,
-};
+use ffi_calls::text_items::build_texts;
+use ffi_calls::texts::{decode_texts, explain_texts, is_text, next_texts, open_texts, set_text};
 use rkyv_table::table::decoded::Decoded;
 use std::alloc::Global;
 
@@ -98,31 +98,6 @@ pub extern "C" fn rkyv_c_set_text(
     set_text(archive, Form { long_values, wide }, key, value)
 }
 
-/// Stores the next pair, in bucket order, in `pair`, with a key borrowed from the archive.
-///
-/// # Errors
-///
-/// - 2: no pair remains; `pair` is unchanged then.
-///
-/// # Requires
-///
-/// - The archive is valid: `rkyv_c_open_texts` returned 0.
-/// - `header` is its decoded header.
-#[unsafe(no_mangle)]
-pub extern "C" fn rkyv_c_next_text<'a>(
-    archive: &'a [u8],
-    long_values: bool,
-    wide: bool,
-    header: &Decoded,
-    pair: &mut TextPair<'a>,
-) -> u32
-    requires archive { IsTextArchive (form_of long_values wide) archive.now }
-    requires header { IsHeaderOf (texts_in (form_of long_values wide) archive.now) header.now }
-    ensures { StepsTexts (form_of long_values wide) archive.now pair.old result pair.new }
-{
-    next_text(archive, Form { long_values, wide }, header, pair)
-}
-
 /// Stores the next pairs from the bucket `from` on, in bucket order, and returns their number.
 ///
 /// If fewer pairs are stored than `pairs` has room for, no pair remains. Otherwise a next call goes
@@ -139,12 +114,12 @@ pub extern "C" fn rkyv_c_next_texts<'a>(
     wide: bool,
     header: &Decoded,
     from: u64,
-    pairs: &mut [TextPair<'a>],
+    pairs: &mut [TextStep<'a>],
 ) -> usize
     requires archive { IsTextArchive (form_of long_values wide) archive.now }
     requires header { IsHeaderOf (texts_in (form_of long_values wide) archive.now) header.now }
-    ensures { StepsAllTexts (form_of long_values wide) archive.now from pairs.old result
-        pairs.new }
+    ensures { StoresNextTexts (form_of long_values wide) archive.now from (map text_step pairs.old)
+        result (map text_step pairs.new) }
 {
     next_texts(archive, Form { long_values, wide }, header, from, pairs)
 }
@@ -173,13 +148,14 @@ pub extern "C" fn rkyv_c_is_text(bytes: &[u8]) -> bool
 #[unsafe(no_mangle)]
 pub extern "C" fn rkyv_c_build_texts(
     alloc: Global,
-    items: &[TextItem<'_>],
+    items: &[TextPair<'_>],
     long_values: bool,
     wide: bool,
     built: &mut Built<'_>,
 ) -> u32
-    ensures { HandsOut (IsArchiveOfTexts (form_of long_values wide) items.now)
-        (ArchiveOfTextsFails (form_of long_values wide) items.now) built.old result built.new }
+    ensures { HandsOut (IsArchiveOfTexts (form_of long_values wide) (map text_pair items.now))
+        (ArchiveOfTextsFails (form_of long_values wide) (map text_pair items.now)) built.old result
+        built.new }
 {
     build_texts(alloc, items, Form { long_values, wide }, built)
 }

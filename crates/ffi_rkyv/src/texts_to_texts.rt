@@ -1,20 +1,21 @@
 //! The calls for maps of texts to texts.
 
-ghost use Rattle.std.specs.Prelude.{◌≡◌};
+ghost use Rattle.std.specs.Prelude.{map, ◌≡◌};
 ghost use Rattle.ffi_calls.specs.Archives.{IsHeaderOf, Opens, limit_of};
 ghost use Rattle.ffi_calls.specs.Explanation.{Explains};
 ghost use Rattle.ffi_calls.specs.Items.{HandsOut};
 ghost use Rattle.ffi_calls.specs.TextItems.{ArchiveOfTextTextsFails, IsArchiveOfTextTexts};
-ghost use Rattle.ffi_calls.specs.TextValues.{IsTextTextArchive, NextTextText};
-ghost use Rattle.ffi_calls.specs.TextValues.{NextTextTexts, text_text_map, text_texts_in};
+ghost use Rattle.ffi_calls.specs.TextValues.{IsTextTextArchive, StoresNextTextTexts};
+ghost use Rattle.ffi_calls.specs.TextValues.{text_text_map, text_texts_in};
+ghost use Rattle.ffi_rkyv.specs.Pairs.{text_text_pair, text_text_step};
 
+use crate::pairs::{TextTextPair, TextTextStep};
 use ffi_calls::building::Built;
 use ffi_calls::explanation::Explanation;
 use ffi_calls::texts_to_texts::{
-    TextTextPair, decode_texts_to_texts, explain_texts_to_texts, next_text_text, next_text_texts,
-    open_texts_to_texts,
+    decode_texts_to_texts, explain_texts_to_texts, next_text_texts, open_texts_to_texts,
 };
-use ffi_calls::texts_to_texts_items::{TextTextItem, build_texts_to_texts};
+use ffi_calls::texts_to_texts_items::build_texts_to_texts;
 use rkyv_table::table::decoded::Decoded;
 use std::alloc::Global;
 
@@ -57,30 +58,6 @@ pub extern "C" fn rkyv_c_decode_texts_to_texts(archive: &[u8], wide: bool, heade
     *header = decode_texts_to_texts(archive, wide);
 }
 
-/// Stores the next pair, in bucket order, in `pair`, with texts borrowed from the archive.
-///
-/// # Errors
-///
-/// - 2: no pair remains; `pair` is unchanged then.
-///
-/// # Requires
-///
-/// - The archive is valid: `rkyv_c_open_texts_to_texts` returned 0.
-/// - `header` is its decoded header.
-#[unsafe(no_mangle)]
-pub extern "C" fn rkyv_c_next_text_text<'a>(
-    archive: &'a [u8],
-    wide: bool,
-    header: &Decoded,
-    pair: &mut TextTextPair<'a>,
-) -> u32
-    requires archive { IsTextTextArchive wide archive.now }
-    requires header { IsHeaderOf (text_texts_in wide archive.now) header.now }
-    ensures { NextTextText (text_texts_in wide archive.now) pair.old result pair.new }
-{
-    next_text_text(archive, wide, header, pair)
-}
-
 /// Stores the next pairs from the bucket `from` on, in bucket order, and returns their number.
 ///
 /// If fewer pairs are stored than `pairs` has room for, no pair remains. Otherwise a next call goes
@@ -96,11 +73,12 @@ pub extern "C" fn rkyv_c_next_text_texts<'a>(
     wide: bool,
     header: &Decoded,
     from: u64,
-    pairs: &mut [TextTextPair<'a>],
+    pairs: &mut [TextTextStep<'a>],
 ) -> usize
     requires archive { IsTextTextArchive wide archive.now }
     requires header { IsHeaderOf (text_texts_in wide archive.now) header.now }
-    ensures { NextTextTexts (text_texts_in wide archive.now) from pairs.old result pairs.new }
+    ensures { StoresNextTextTexts wide archive.now from (map text_text_step pairs.old) result (map
+        text_text_step pairs.new) }
 {
     next_text_texts(archive, wide, header, from, pairs)
 }
@@ -120,12 +98,12 @@ pub extern "C" fn rkyv_c_next_text_texts<'a>(
 #[unsafe(no_mangle)]
 pub extern "C" fn rkyv_c_build_texts_to_texts(
     alloc: Global,
-    items: &[TextTextItem<'_>],
+    items: &[TextTextPair<'_>],
     wide: bool,
     built: &mut Built<'_>,
 ) -> u32
-    ensures { HandsOut (IsArchiveOfTextTexts wide items.now)
-        (ArchiveOfTextTextsFails wide items.now) built.old result built.new }
+    ensures { HandsOut (IsArchiveOfTextTexts wide (map text_text_pair items.now))
+        (ArchiveOfTextTextsFails wide (map text_text_pair items.now)) built.old result built.new }
 {
     build_texts_to_texts(alloc, items, wide, built)
 }

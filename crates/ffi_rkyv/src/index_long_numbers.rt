@@ -1,0 +1,194 @@
+//! The calls for index maps of numbers of 64 bits.
+
+ghost use Rattle.std.specs.Prelude.{map, ◌≡◌};
+ghost use Rattle.ffi_calls.specs.Archives.{IsHeaderOf, KeepsHeader, Opens, form_of, limit_of};
+ghost use Rattle.ffi_calls.specs.Explanation.{Explains};
+ghost use Rattle.ffi_calls.specs.IndexArchives.{GivesIndexedNumber, IsNumberIndex, StoresNumbers};
+ghost use Rattle.ffi_calls.specs.IndexArchives.{number_index, number_index_in};
+ghost use Rattle.ffi_calls.specs.IndexInPlace.{SetsFirstIndexedNumber, SetsIndexedNumber};
+ghost use Rattle.ffi_calls.specs.IndexItems.{IndexOfNumbersFails, IsIndexOfNumbers};
+ghost use Rattle.ffi_calls.specs.IndexLists.{GivesFirstIndexedNumber, StoresListedNumbers};
+ghost use Rattle.ffi_calls.specs.Items.{HandsOut};
+ghost use Rattle.ffi_calls.specs.Keys.{long_key};
+ghost use Rattle.ffi_rkyv.specs.Pairs.{indexed_number, long_number_pair};
+
+use crate::pairs::{IndexedNumber, LongNumberPair};
+use ffi_calls::building::Built;
+use ffi_calls::explanation::Explanation;
+use ffi_calls::form::Form;
+use ffi_calls::index_items::build_index_numbers;
+use ffi_calls::index_numbers::{
+    decode_index_numbers, explain_index_numbers, get_index_number, index_numbers_from,
+    open_index_numbers, set_index_number,
+};
+use rkyv_table::table::decoded::Decoded;
+use std::alloc::Global;
+
+/// Validates the archive of an index map of numbers.
+///
+/// # Errors
+///
+/// - 16 to 23: the first validation error.
+#[unsafe(no_mangle)]
+pub extern "C" fn rkyv_c_index_open_long_numbers(
+    archive: &[u8],
+    long_values: bool,
+    wide: bool,
+) -> u32
+    ensures told { Opens (limit_of wide) (number_index long_key (form_of long_values wide))
+        archive.now result }
+    ensures accepts { IsNumberIndex long_key (form_of long_values wide) archive.now → result ≡ 0 }
+{
+    open_index_numbers::<u64>(archive, Form { long_values, wide })
+}
+
+/// Validates the archive of an index map of numbers, and stores the first error with its numbers.
+#[unsafe(no_mangle)]
+pub extern "C" fn rkyv_c_index_explain_long_numbers(
+    archive: &[u8],
+    long_values: bool,
+    wide: bool,
+    explanation: &mut Explanation,
+)
+    ensures { Explains (limit_of wide) (number_index long_key (form_of long_values wide))
+        archive.now explanation.new }
+{
+    *explanation = explain_index_numbers::<u64>(archive, Form { long_values, wide });
+}
+
+/// Stores the decoded header of the index map in `header`, for the other calls.
+///
+/// # Requires
+///
+/// - The archive is valid: `rkyv_c_index_open_long_numbers` returned 0.
+#[unsafe(no_mangle)]
+pub extern "C" fn rkyv_c_index_decode_long_numbers(
+    archive: &[u8],
+    long_values: bool,
+    wide: bool,
+    header: &mut Decoded,
+)
+    requires { IsNumberIndex long_key (form_of long_values wide) archive.now }
+    ensures { IsHeaderOf (number_index_in long_key (form_of long_values wide) archive.now)
+        header.new }
+{
+    *header = decode_index_numbers::<u64>(archive, Form { long_values, wide });
+}
+
+/// Looks up a key, and stores the index and the value of its pair in `found`.
+///
+/// # Errors
+///
+/// - 1: the lookup doesn't find the key; `found` is unchanged then.
+///
+/// # Requires
+///
+/// - The archive is valid: `rkyv_c_index_open_long_numbers` returned 0.
+/// - `header` is its decoded header.
+#[unsafe(no_mangle)]
+pub extern "C" fn rkyv_c_index_get_long_number(
+    archive: &[u8],
+    long_values: bool,
+    wide: bool,
+    header: &Decoded,
+    key: u64,
+    found: &mut IndexedNumber,
+) -> u32
+    requires archive { IsNumberIndex long_key (form_of long_values wide) archive.now }
+    requires header { IsHeaderOf (number_index_in long_key (form_of long_values wide) archive.now)
+        header.now }
+    ensures gives { GivesIndexedNumber long_key (form_of long_values wide) archive.now key
+        (indexed_number found.old) result (indexed_number found.new) }
+    ensures listed { GivesFirstIndexedNumber long_key (form_of long_values wide) archive.now key
+        (indexed_number found.old) result (indexed_number found.new) }
+{
+    get_index_number::<u64, _>(archive, Form { long_values, wide }, header, key, found)
+}
+
+/// Looks up a key, and overwrites its value in place. The archive stays valid, and its header as it
+/// is.
+///
+/// # Errors
+///
+/// - 3: the values of the map have 32 bits and the new one has more.
+/// - 1: the lookup doesn't find the key.
+///
+/// After an error no byte is changed.
+///
+/// # Requires
+///
+/// - The archive is valid: `rkyv_c_index_open_long_numbers` returned 0.
+#[unsafe(no_mangle)]
+pub extern "C" fn rkyv_c_index_set_long_number(
+    archive: &mut [u8],
+    long_values: bool,
+    wide: bool,
+    key: u64,
+    value: u64,
+) -> u32
+    requires { IsNumberIndex long_key (form_of long_values wide) archive.old }
+    ensures kept { IsNumberIndex long_key (form_of long_values wide) archive.new }
+    ensures header { KeepsHeader (number_index_in long_key (form_of long_values wide) archive.old)
+        (number_index_in long_key (form_of long_values wide) archive.new) }
+    ensures sets { SetsIndexedNumber long_key (form_of long_values wide) archive.old key value
+        result archive.new }
+    ensures listed { SetsFirstIndexedNumber long_key (form_of long_values wide) archive.old key
+        value result archive.new }
+{
+    set_index_number::<u64>(archive, Form { long_values, wide }, key, value)
+}
+
+/// Stores the pairs from the index `from` on, in insertion order, and returns their number.
+///
+/// If fewer pairs are stored than `pairs` has room for, no pair remains.
+///
+/// # Requires
+///
+/// - The archive is valid: `rkyv_c_index_open_long_numbers` returned 0.
+/// - `header` is its decoded header.
+#[unsafe(no_mangle)]
+pub extern "C" fn rkyv_c_index_long_numbers_from(
+    archive: &[u8],
+    long_values: bool,
+    wide: bool,
+    header: &Decoded,
+    from: usize,
+    pairs: &mut [LongNumberPair],
+) -> usize
+    requires archive { IsNumberIndex long_key (form_of long_values wide) archive.now }
+    requires header { IsHeaderOf (number_index_in long_key (form_of long_values wide) archive.now)
+        header.now }
+    ensures stores { StoresNumbers long_key (form_of long_values wide) archive.now from (map
+        long_number_pair pairs.old) result (map long_number_pair pairs.new) }
+    ensures listed { StoresListedNumbers long_key (form_of long_values wide) archive.now from (map
+        long_number_pair pairs.old) result (map long_number_pair pairs.new) }
+{
+    index_numbers_from::<u64, _>(archive, Form { long_values, wide }, header, from, pairs)
+}
+
+/// Writes the archive of the items as an index map, and stores its bytes in `built`.
+///
+/// The pairs are in the order of the items. The load factor is 7 / 8. The bytes of the archive are
+/// a block of `rattle_alloc` or `rattle_realloc`, which the caller frees.
+///
+/// # Errors
+///
+/// - 12: an allocation fails.
+/// - 3: a value has more bits than the values of the map.
+/// - 23 to 29: the error of the write.
+///
+/// After an error `built` is unchanged.
+#[unsafe(no_mangle)]
+pub extern "C" fn rkyv_c_index_build_long_numbers(
+    alloc: Global,
+    items: &[LongNumberPair],
+    long_values: bool,
+    wide: bool,
+    built: &mut Built<'_>,
+) -> u32
+    ensures { let pairs = map long_number_pair items.now in let f = form_of long_values wide in
+        HandsOut (IsIndexOfNumbers long_key f pairs) (IndexOfNumbersFails long_key f pairs)
+        built.old result built.new }
+{
+    build_index_numbers::<u64, _>(alloc, items, Form { long_values, wide }, built)
+}

@@ -1,0 +1,151 @@
+//! The calls for index maps of numbers of 64 bits to texts.
+
+ghost use Rattle.std.specs.Prelude.{map, ◌≡◌};
+ghost use Rattle.ffi_calls.specs.Archives.{IsHeaderOf, Opens, limit_of};
+ghost use Rattle.ffi_calls.specs.Explanation.{Explains};
+ghost use Rattle.ffi_calls.specs.IndexTextValues.{GivesFirstIndexedTextOfNumber};
+ghost use Rattle.ffi_calls.specs.IndexTextValues.{
+  GivesIndexedTextOfNumber,
+  IndexOfNumberTextsFails,
+};
+ghost use Rattle.ffi_calls.specs.IndexTextValues.{IsIndexOfNumberTexts, IsNumberTextIndex};
+ghost use Rattle.ffi_calls.specs.IndexTextValues.{StoresListedNumberTexts, StoresNumberTexts};
+ghost use Rattle.ffi_calls.specs.IndexTextValues.{number_text_index, number_text_index_in};
+ghost use Rattle.ffi_calls.specs.Items.{HandsOut};
+ghost use Rattle.ffi_calls.specs.Keys.{long_key};
+ghost use Rattle.ffi_rkyv.specs.Pairs.{indexed_text, long_number_text_pair};
+
+use crate::pairs::{IndexedText, LongNumberTextPair};
+use ffi_calls::building::Built;
+use ffi_calls::explanation::Explanation;
+use ffi_calls::index_numbers_to_texts::{
+    decode_index_numbers_to_texts, explain_index_numbers_to_texts, get_index_text_of_number,
+    index_number_texts_from, open_index_numbers_to_texts,
+};
+use ffi_calls::index_text_items::build_index_numbers_to_texts;
+use rkyv_table::table::decoded::Decoded;
+use std::alloc::Global;
+
+/// Validates the archive of an index map of numbers to texts.
+///
+/// # Errors
+///
+/// - 16 to 23: the first validation error.
+#[unsafe(no_mangle)]
+pub extern "C" fn rkyv_c_index_open_long_numbers_to_texts(archive: &[u8], wide: bool) -> u32
+    ensures told { Opens (limit_of wide) (number_text_index long_key wide) archive.now result }
+    ensures accepts { IsNumberTextIndex long_key wide archive.now → result ≡ 0 }
+{
+    open_index_numbers_to_texts::<u64>(archive, wide)
+}
+
+/// Validates the archive of an index map of numbers to texts, and stores the first error with its
+/// numbers.
+#[unsafe(no_mangle)]
+pub extern "C" fn rkyv_c_index_explain_long_numbers_to_texts(
+    archive: &[u8],
+    wide: bool,
+    explanation: &mut Explanation,
+)
+    ensures { Explains (limit_of wide) (number_text_index long_key wide) archive.now
+        explanation.new }
+{
+    *explanation = explain_index_numbers_to_texts::<u64>(archive, wide);
+}
+
+/// Stores the decoded header of the index map in `header`, for the other calls.
+///
+/// # Requires
+///
+/// - The archive is valid: `rkyv_c_index_open_long_numbers_to_texts` returned 0.
+#[unsafe(no_mangle)]
+pub extern "C" fn rkyv_c_index_decode_long_numbers_to_texts(
+    archive: &[u8],
+    wide: bool,
+    header: &mut Decoded,
+)
+    requires { IsNumberTextIndex long_key wide archive.now }
+    ensures { IsHeaderOf (number_text_index_in long_key wide archive.now) header.new }
+{
+    *header = decode_index_numbers_to_texts::<u64>(archive, wide);
+}
+
+/// Looks up a key, and stores the index and the text of its pair in `found`.
+///
+/// # Errors
+///
+/// - 1: the lookup doesn't find the key; `found` is unchanged then.
+///
+/// # Requires
+///
+/// - The archive is valid: `rkyv_c_index_open_long_numbers_to_texts` returned 0.
+/// - `header` is its decoded header.
+#[unsafe(no_mangle)]
+pub extern "C" fn rkyv_c_index_get_text_of_long_number<'a>(
+    archive: &'a [u8],
+    wide: bool,
+    header: &Decoded,
+    key: u64,
+    found: &mut IndexedText<'a>,
+) -> u32
+    requires archive { IsNumberTextIndex long_key wide archive.now }
+    requires header { IsHeaderOf (number_text_index_in long_key wide archive.now) header.now }
+    ensures gives { GivesIndexedTextOfNumber long_key wide archive.now key (indexed_text found.old)
+        result (indexed_text found.new) }
+    ensures listed { GivesFirstIndexedTextOfNumber long_key wide archive.now key (indexed_text
+        found.old) result (indexed_text found.new) }
+{
+    get_index_text_of_number::<u64, _>(archive, wide, header, key, found)
+}
+
+/// Stores the pairs from the index `from` on, in insertion order, and returns their number.
+///
+/// If fewer pairs are stored than `pairs` has room for, no pair remains.
+///
+/// # Requires
+///
+/// - The archive is valid: `rkyv_c_index_open_long_numbers_to_texts` returned 0.
+/// - `header` is its decoded header.
+#[unsafe(no_mangle)]
+pub extern "C" fn rkyv_c_index_long_number_texts_from<'a>(
+    archive: &'a [u8],
+    wide: bool,
+    header: &Decoded,
+    from: usize,
+    pairs: &mut [LongNumberTextPair<'a>],
+) -> usize
+    requires archive { IsNumberTextIndex long_key wide archive.now }
+    requires header { IsHeaderOf (number_text_index_in long_key wide archive.now) header.now }
+    ensures stores { StoresNumberTexts long_key wide archive.now from (map long_number_text_pair
+        pairs.old) result (map long_number_text_pair pairs.new) }
+    ensures listed { StoresListedNumberTexts long_key wide archive.now from (map
+        long_number_text_pair pairs.old) result (map long_number_text_pair pairs.new) }
+{
+    index_number_texts_from::<u64, _>(archive, wide, header, from, pairs)
+}
+
+/// Writes the archive of the items as an index map, and stores its bytes in `built`.
+///
+/// The pairs are in the order of the items. The load factor is 7 / 8. The bytes of the archive are
+/// a block of `rattle_alloc` or `rattle_realloc`, which the caller frees.
+///
+/// # Errors
+///
+/// - 12: an allocation fails.
+/// - 4: a value isn't UTF-8.
+/// - 23 to 29: the error of the write, which is 27 if a value is too long.
+///
+/// After an error `built` is unchanged.
+#[unsafe(no_mangle)]
+pub extern "C" fn rkyv_c_index_build_long_numbers_to_texts(
+    alloc: Global,
+    items: &[LongNumberTextPair<'_>],
+    wide: bool,
+    built: &mut Built<'_>,
+) -> u32
+    ensures { HandsOut (IsIndexOfNumberTexts long_key wide (map long_number_text_pair items.now))
+        (IndexOfNumberTextsFails long_key wide (map long_number_text_pair items.now)) built.old
+        result built.new }
+{
+    build_index_numbers_to_texts::<u64, _>(alloc, items, wide, built)
+}

@@ -1,0 +1,151 @@
+//! The calls for index maps of texts to texts.
+
+ghost use Rattle.std.specs.Prelude.{map, ◌≡◌};
+ghost use Rattle.std.specs.Str.{IsUtf8};
+ghost use Rattle.ffi_calls.specs.Archives.{IsHeaderOf, Opens, limit_of};
+ghost use Rattle.ffi_calls.specs.Explanation.{Explains};
+ghost use Rattle.ffi_calls.specs.IndexTextValues.{GivesFirstIndexedTextOfText};
+ghost use Rattle.ffi_calls.specs.IndexTextValues.{GivesIndexedTextOfBytes, IndexOfTextTextsFails};
+ghost use Rattle.ffi_calls.specs.IndexTextValues.{IsIndexOfTextTexts, IsTextTextIndex};
+ghost use Rattle.ffi_calls.specs.IndexTextValues.{StoresListedTextTexts, StoresTextTexts};
+ghost use Rattle.ffi_calls.specs.IndexTextValues.{text_text_index, text_text_index_in};
+ghost use Rattle.ffi_calls.specs.Items.{HandsOut};
+ghost use Rattle.ffi_rkyv.specs.Pairs.{indexed_text, text_text_pair};
+
+use crate::pairs::{IndexedText, TextTextPair};
+use ffi_calls::building::Built;
+use ffi_calls::explanation::Explanation;
+use ffi_calls::index_text_items::build_index_texts_to_texts;
+use ffi_calls::index_texts_to_texts::{
+    decode_index_texts_to_texts, explain_index_texts_to_texts, get_index_text_of_text,
+    index_text_texts_from, open_index_texts_to_texts,
+};
+use rkyv_table::table::decoded::Decoded;
+use std::alloc::Global;
+
+/// Validates the archive of an index map of texts to texts.
+///
+/// # Errors
+///
+/// - 16 to 23: the first validation error.
+#[unsafe(no_mangle)]
+pub extern "C" fn rkyv_c_index_open_texts_to_texts(archive: &[u8], wide: bool) -> u32
+    ensures told { Opens (limit_of wide) (text_text_index wide) archive.now result }
+    ensures accepts { IsTextTextIndex wide archive.now → result ≡ 0 }
+{
+    open_index_texts_to_texts(archive, wide)
+}
+
+/// Validates the archive of an index map of texts to texts, and stores the first error with its
+/// numbers.
+#[unsafe(no_mangle)]
+pub extern "C" fn rkyv_c_index_explain_texts_to_texts(
+    archive: &[u8],
+    wide: bool,
+    explanation: &mut Explanation,
+)
+    ensures { Explains (limit_of wide) (text_text_index wide) archive.now
+        explanation.new }
+{
+    *explanation = explain_index_texts_to_texts(archive, wide);
+}
+
+/// Stores the decoded header of the index map in `header`, for the other calls.
+///
+/// # Requires
+///
+/// - The archive is valid: `rkyv_c_index_open_texts_to_texts` returned 0.
+#[unsafe(no_mangle)]
+pub extern "C" fn rkyv_c_index_decode_texts_to_texts(
+    archive: &[u8],
+    wide: bool,
+    header: &mut Decoded,
+)
+    requires { IsTextTextIndex wide archive.now }
+    ensures { IsHeaderOf (text_text_index_in wide archive.now) header.new }
+{
+    *header = decode_index_texts_to_texts(archive, wide);
+}
+
+/// Looks up a key, and stores the index and the text of its pair in `found`.
+///
+/// # Errors
+///
+/// - 4: the bytes of the key aren't UTF-8.
+/// - 1: the lookup doesn't find the key.
+///
+/// After an error `found` is unchanged.
+///
+/// # Requires
+///
+/// - The archive is valid: `rkyv_c_index_open_texts_to_texts` returned 0.
+/// - `header` is its decoded header.
+#[unsafe(no_mangle)]
+pub extern "C" fn rkyv_c_index_get_text_of_text<'a>(
+    archive: &'a [u8],
+    wide: bool,
+    header: &Decoded,
+    key: &[u8],
+    found: &mut IndexedText<'a>,
+) -> u32
+    requires archive { IsTextTextIndex wide archive.now }
+    requires header { IsHeaderOf (text_text_index_in wide archive.now) header.now }
+    ensures gives { GivesIndexedTextOfBytes wide archive.now key.now (indexed_text found.old) result
+        (indexed_text found.new) }
+    ensures listed { IsUtf8 key.now
+        → GivesFirstIndexedTextOfText wide archive.now key.now (indexed_text found.old) result
+        (indexed_text found.new) }
+{
+    get_index_text_of_text(archive, wide, header, key, found)
+}
+
+/// Stores the pairs from the index `from` on, in insertion order, and returns their number.
+///
+/// If fewer pairs are stored than `pairs` has room for, no pair remains.
+///
+/// # Requires
+///
+/// - The archive is valid: `rkyv_c_index_open_texts_to_texts` returned 0.
+/// - `header` is its decoded header.
+#[unsafe(no_mangle)]
+pub extern "C" fn rkyv_c_index_text_texts_from<'a>(
+    archive: &'a [u8],
+    wide: bool,
+    header: &Decoded,
+    from: usize,
+    pairs: &mut [TextTextPair<'a>],
+) -> usize
+    requires archive { IsTextTextIndex wide archive.now }
+    requires header { IsHeaderOf (text_text_index_in wide archive.now) header.now }
+    ensures stores { StoresTextTexts wide archive.now from (map text_text_pair pairs.old) result
+        (map text_text_pair pairs.new) }
+    ensures listed { StoresListedTextTexts wide archive.now from (map text_text_pair pairs.old)
+        result (map text_text_pair pairs.new) }
+{
+    index_text_texts_from(archive, wide, header, from, pairs)
+}
+
+/// Writes the archive of the items as an index map, and stores its bytes in `built`.
+///
+/// The pairs are in the order of the items. The load factor is 7 / 8. The bytes of the archive are
+/// a block of `rattle_alloc` or `rattle_realloc`, which the caller frees.
+///
+/// # Errors
+///
+/// - 12: an allocation fails.
+/// - 4: a key or a value isn't UTF-8.
+/// - 23 to 29: the error of the write, which is 27 if a text is too long.
+///
+/// After an error `built` is unchanged.
+#[unsafe(no_mangle)]
+pub extern "C" fn rkyv_c_index_build_texts_to_texts(
+    alloc: Global,
+    items: &[TextTextPair<'_>],
+    wide: bool,
+    built: &mut Built<'_>,
+) -> u32
+    ensures { HandsOut (IsIndexOfTextTexts wide (map text_text_pair items.now))
+        (IndexOfTextTextsFails wide (map text_text_pair items.now)) built.old result built.new }
+{
+    build_index_texts_to_texts(alloc, items, wide, built)
+}
