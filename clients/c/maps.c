@@ -4,191 +4,314 @@
  *     maps KIND WIDTH FILE [container] < COMMANDS
  *
  * KIND is the number of a `rkyv_kind`. The width of a container may be 0, for either width. A
- * command is a line `get KEY`, `set KEY VALUE`, `count` or `list`, and for an index map `at INDEX` in
- * the place of `set`. Each prints its status and result on a line; `list` prints a line for each pair.
- * `set` writes numbers, and doesn't change the file. If the file can't be read, the program exits with
- * 1. */
+ * command is a line `get KEY`, `set KEY VALUE`, `count` or `list`, and for an index map `at INDEX`.
+ * Each prints its status and, if that is RKYV_OK, its result on a line; `list` prints a line for each
+ * pair. `set` writes numbers, and doesn't change the file. If the file can't be read, the program
+ * exits with 1. */
 #include "rkyv.h"
 
 #include <stdio.h>
 #include <stdlib.h>
 #include <string.h>
 
-static rkyv_map map;
+/* A key or a value: a text if `text` is not null, else a number. */
+typedef struct item {
+    uint64_t number;
+    const char *text;
+    size_t length;
+} item;
 
-static void list(uint32_t kind) {
-    rkyv_number_pair number = {0, 0, 0};
-    rkyv_text_pair text = {0, 0, NULL, 0};
-    rkyv_long_number_pair long_number = {0, 0, 0};
-    rkyv_number_text_pair number_text = {0, NULL, 0, 0};
-    rkyv_text_text_pair texts = {0, NULL, 0, NULL, 0};
-    rkyv_number_member number_item = {0, 0};
-    rkyv_text_member text_item = {0, NULL, 0};
+static item number(uint64_t number) {
+    const item result = {number, NULL, 0};
+    return result;
+}
+
+static item text(const char *text, size_t length) {
+    const item result = {0, text, length};
+    return result;
+}
+
+/* The value of a set's items, which is not printed. */
+static item nothing(void) {
+    return text("", 0);
+}
+
+static void print(const char *before, item item) {
+    if (item.text != NULL) {
+        printf("%s%.*s", before, (int)item.length, item.text);
+    } else {
+        printf("%s%llu", before, (unsigned long long)item.number);
+    }
+}
+
+static rkyv_map map;
+static rkyv_index_map index_map;
+
+/* Stores the next pair from the bucket `*from` on, and the bucket behind it. */
+static rkyv_status next(uint32_t kind, uint64_t *from, item *key, item *value) {
+    rkyv_number_pair numbers = {*from, 0, 0};
+    rkyv_long_number_pair long_numbers = {*from, 0, 0};
+    rkyv_text_pair texts = {*from, 0, NULL, 0};
+    rkyv_number_text_pair number_text = {*from, NULL, 0, 0};
+    rkyv_long_number_text_pair long_number_text = {*from, NULL, 0, 0};
+    rkyv_text_text_pair text_text = {*from, NULL, 0, NULL, 0};
+    rkyv_number_member number_item = {*from, 0};
+    rkyv_long_number_member long_number_item = {*from, 0};
+    rkyv_text_member text_item = {*from, NULL, 0};
+    rkyv_status status;
+    *value = nothing();
     switch (kind) {
-    case RKYV_NUMBER_TO_TEXT:
-        while (rkyv_map_next_number_text(&map, &number_text) == RKYV_OK) {
-            printf("%lu %.*s\n", (unsigned long)number_text.key, (int)number_text.value_length,
-                   number_text.value);
-        }
-        break;
-    case RKYV_TEXT_TO_TEXT:
-        while (rkyv_map_next_text_text(&map, &texts) == RKYV_OK) {
-            printf("%.*s %.*s\n", (int)texts.key_length, texts.key, (int)texts.value_length,
-                   texts.value);
-        }
-        break;
-    case RKYV_SET_OF_NUMBERS:
-        while (rkyv_set_next_number(&map, &number_item) == RKYV_OK) {
-            printf("%lu\n", (unsigned long)number_item.item);
-        }
-        break;
-    case RKYV_SET_OF_TEXTS:
-        while (rkyv_set_next_text(&map, &text_item) == RKYV_OK) {
-            printf("%.*s\n", (int)text_item.item_length, text_item.item);
-        }
-        break;
+    case RKYV_NUMBER_TO_U32:
+    case RKYV_NUMBER_TO_U64:
+        status = rkyv_map_next_number(&map, &numbers);
+        *from = numbers.next;
+        *key = number(numbers.key);
+        *value = number(numbers.value);
+        return status;
     case RKYV_LONG_NUMBER_TO_U32:
     case RKYV_LONG_NUMBER_TO_U64:
-        while (rkyv_map_next_long_number(&map, &long_number) == RKYV_OK) {
-            printf("%llu %llu\n", (unsigned long long)long_number.key,
-                   (unsigned long long)long_number.value);
-        }
-        break;
+        status = rkyv_map_next_long_number(&map, &long_numbers);
+        *from = long_numbers.next;
+        *key = number(long_numbers.key);
+        *value = number(long_numbers.value);
+        return status;
     case RKYV_TEXT_TO_U32:
     case RKYV_TEXT_TO_U64:
-        while (rkyv_map_next_text(&map, &text) == RKYV_OK) {
-            printf("%.*s %llu\n", (int)text.key_length, text.key, (unsigned long long)text.value);
-        }
-        break;
+        status = rkyv_map_next_text(&map, &texts);
+        *from = texts.next;
+        *key = text(texts.key, texts.key_length);
+        *value = number(texts.value);
+        return status;
+    case RKYV_NUMBER_TO_TEXT:
+        status = rkyv_map_next_number_text(&map, &number_text);
+        *from = number_text.next;
+        *key = number(number_text.key);
+        *value = text(number_text.value, number_text.value_length);
+        return status;
+    case RKYV_LONG_NUMBER_TO_TEXT:
+        status = rkyv_map_next_long_number_text(&map, &long_number_text);
+        *from = long_number_text.next;
+        *key = number(long_number_text.key);
+        *value = text(long_number_text.value, long_number_text.value_length);
+        return status;
+    case RKYV_TEXT_TO_TEXT:
+        status = rkyv_map_next_text_text(&map, &text_text);
+        *from = text_text.next;
+        *key = text(text_text.key, text_text.key_length);
+        *value = text(text_text.value, text_text.value_length);
+        return status;
+    case RKYV_SET_OF_NUMBERS:
+        status = rkyv_set_next_number(&map, &number_item);
+        *from = number_item.next;
+        *key = number(number_item.item);
+        return status;
+    case RKYV_SET_OF_LONG_NUMBERS:
+        status = rkyv_set_next_long_number(&map, &long_number_item);
+        *from = long_number_item.next;
+        *key = number(long_number_item.item);
+        return status;
     default:
-        while (rkyv_map_next_number(&map, &number) == RKYV_OK) {
-            printf("%lu %llu\n", (unsigned long)number.key, (unsigned long long)number.value);
-        }
+        status = rkyv_set_next_text(&map, &text_item);
+        *from = text_item.next;
+        *key = text(text_item.item, text_item.item_length);
+        return status;
     }
 }
 
-static int is_of_texts(uint32_t kind) {
-    return kind == RKYV_TEXT_TO_U32 || kind == RKYV_TEXT_TO_U64 || kind == RKYV_TEXT_TO_TEXT
-        || kind == RKYV_SET_OF_TEXTS;
-}
-
-static int is_of_long_numbers(uint32_t kind) {
-    return kind == RKYV_LONG_NUMBER_TO_U32 || kind == RKYV_LONG_NUMBER_TO_U64;
-}
-
-static uint32_t number_of(const char *key) {
-    return (uint32_t)strtoul(key, NULL, 10);
-}
-
-static void get(uint32_t kind, const char *key) {
-    uint64_t value = 0;
-    const char *text = "";
-    size_t length = 0;
-    int of_texts = is_of_texts(kind);
-    if (kind == RKYV_SET_OF_NUMBERS || kind == RKYV_SET_OF_TEXTS) {
-        rkyv_status status = of_texts ? rkyv_set_contains_text(&map, key, strlen(key))
-                                      : rkyv_set_contains_number(&map, number_of(key));
-        printf("%s\n", rkyv_status_name(status));
-    } else if (kind == RKYV_NUMBER_TO_TEXT || kind == RKYV_TEXT_TO_TEXT) {
-        rkyv_status status =
-            of_texts ? rkyv_map_get_text_of_text(&map, key, strlen(key), &text, &length)
-                     : rkyv_map_get_text_of_number(&map, number_of(key), &text, &length);
-        printf("%s%s%.*s\n", rkyv_status_name(status), status == RKYV_OK ? " " : "", (int)length,
-               text);
-    } else if (is_of_long_numbers(kind)) {
-        rkyv_status status = rkyv_map_get_long_number(&map, strtoull(key, NULL, 10), &value);
-        printf("%s %llu\n", rkyv_status_name(status), (unsigned long long)value);
-    } else {
-        rkyv_status status = of_texts ? rkyv_map_get_text(&map, key, strlen(key), &value)
-                                      : rkyv_map_get_number(&map, number_of(key), &value);
-        printf("%s %llu\n", rkyv_status_name(status), (unsigned long long)value);
+/* Stores the pair of an index map at an index. */
+static rkyv_status at(uint32_t kind, size_t index, item *key, item *value) {
+    rkyv_index_number_pair numbers = {0, 0};
+    rkyv_index_long_number_pair long_numbers = {0, 0};
+    rkyv_index_text_pair texts = {0, NULL, 0};
+    rkyv_index_number_text_pair number_text = {NULL, 0, 0};
+    rkyv_index_long_number_text_pair long_number_text = {NULL, 0, 0};
+    rkyv_index_text_text_pair text_text = {NULL, 0, NULL, 0};
+    rkyv_status status;
+    switch (kind) {
+    case RKYV_INDEX_NUMBER_TO_U32:
+    case RKYV_INDEX_NUMBER_TO_U64:
+        status = rkyv_index_number_at(&index_map, index, &numbers);
+        *key = number(numbers.key);
+        *value = number(numbers.value);
+        return status;
+    case RKYV_INDEX_LONG_NUMBER_TO_U32:
+    case RKYV_INDEX_LONG_NUMBER_TO_U64:
+        status = rkyv_index_long_number_at(&index_map, index, &long_numbers);
+        *key = number(long_numbers.key);
+        *value = number(long_numbers.value);
+        return status;
+    case RKYV_INDEX_TEXT_TO_U32:
+    case RKYV_INDEX_TEXT_TO_U64:
+        status = rkyv_index_text_at(&index_map, index, &texts);
+        *key = text(texts.key, texts.key_length);
+        *value = number(texts.value);
+        return status;
+    case RKYV_INDEX_NUMBER_TO_TEXT:
+        status = rkyv_index_number_text_at(&index_map, index, &number_text);
+        *key = number(number_text.key);
+        *value = text(number_text.value, number_text.value_length);
+        return status;
+    case RKYV_INDEX_LONG_NUMBER_TO_TEXT:
+        status = rkyv_index_long_number_text_at(&index_map, index, &long_number_text);
+        *key = number(long_number_text.key);
+        *value = text(long_number_text.value, long_number_text.value_length);
+        return status;
+    default:
+        status = rkyv_index_text_text_at(&index_map, index, &text_text);
+        *key = text(text_text.key, text_text.key_length);
+        *value = text(text_text.value, text_text.value_length);
+        return status;
     }
 }
 
+/* Stores the value of a key, and in an index map its index. */
+static rkyv_status get(uint32_t kind, const char *key, size_t *index, item *value) {
+    const uint64_t long_key = strtoull(key, NULL, 10);
+    const uint32_t short_key = (uint32_t)long_key;
+    const size_t length = strlen(key);
+    *value = nothing();
+    switch (kind) {
+    case RKYV_NUMBER_TO_U32:
+    case RKYV_NUMBER_TO_U64:
+        value->text = NULL;
+        return rkyv_map_get_number(&map, short_key, &value->number);
+    case RKYV_LONG_NUMBER_TO_U32:
+    case RKYV_LONG_NUMBER_TO_U64:
+        value->text = NULL;
+        return rkyv_map_get_long_number(&map, long_key, &value->number);
+    case RKYV_TEXT_TO_U32:
+    case RKYV_TEXT_TO_U64:
+        value->text = NULL;
+        return rkyv_map_get_text(&map, key, length, &value->number);
+    case RKYV_NUMBER_TO_TEXT:
+        return rkyv_map_get_text_of_number(&map, short_key, &value->text, &value->length);
+    case RKYV_LONG_NUMBER_TO_TEXT:
+        return rkyv_map_get_text_of_long_number(&map, long_key, &value->text, &value->length);
+    case RKYV_TEXT_TO_TEXT:
+        return rkyv_map_get_text_of_text(&map, key, length, &value->text, &value->length);
+    case RKYV_SET_OF_NUMBERS:
+        return rkyv_set_contains_number(&map, short_key);
+    case RKYV_SET_OF_LONG_NUMBERS:
+        return rkyv_set_contains_long_number(&map, long_key);
+    case RKYV_SET_OF_TEXTS:
+        return rkyv_set_contains_text(&map, key, length);
+    case RKYV_INDEX_NUMBER_TO_U32:
+    case RKYV_INDEX_NUMBER_TO_U64:
+        value->text = NULL;
+        return rkyv_index_get_number(&index_map, short_key, index, &value->number);
+    case RKYV_INDEX_LONG_NUMBER_TO_U32:
+    case RKYV_INDEX_LONG_NUMBER_TO_U64:
+        value->text = NULL;
+        return rkyv_index_get_long_number(&index_map, long_key, index, &value->number);
+    case RKYV_INDEX_TEXT_TO_U32:
+    case RKYV_INDEX_TEXT_TO_U64:
+        value->text = NULL;
+        return rkyv_index_get_text(&index_map, key, length, index, &value->number);
+    case RKYV_INDEX_NUMBER_TO_TEXT:
+        return rkyv_index_get_text_of_number(&index_map, short_key, index, &value->text,
+                                             &value->length);
+    case RKYV_INDEX_LONG_NUMBER_TO_TEXT:
+        return rkyv_index_get_text_of_long_number(&index_map, long_key, index, &value->text,
+                                                  &value->length);
+    default:
+        return rkyv_index_get_text_of_text(&index_map, key, length, index, &value->text,
+                                           &value->length);
+    }
+}
+
+/* Writes the value of a key, which is a number, in place. */
 static rkyv_status set(uint32_t kind, const char *key, uint64_t value) {
-    if (is_of_long_numbers(kind)) {
-        return rkyv_map_set_long_number(&map, strtoull(key, NULL, 10), value);
+    const uint64_t long_key = strtoull(key, NULL, 10);
+    switch (kind) {
+    case RKYV_TEXT_TO_U32:
+    case RKYV_TEXT_TO_U64:
+        return rkyv_map_set_text(&map, key, strlen(key), value);
+    case RKYV_LONG_NUMBER_TO_U32:
+    case RKYV_LONG_NUMBER_TO_U64:
+        return rkyv_map_set_long_number(&map, long_key, value);
+    case RKYV_INDEX_NUMBER_TO_U32:
+    case RKYV_INDEX_NUMBER_TO_U64:
+        return rkyv_index_set_number(&index_map, (uint32_t)long_key, value);
+    case RKYV_INDEX_LONG_NUMBER_TO_U32:
+    case RKYV_INDEX_LONG_NUMBER_TO_U64:
+        return rkyv_index_set_long_number(&index_map, long_key, value);
+    case RKYV_INDEX_TEXT_TO_U32:
+    case RKYV_INDEX_TEXT_TO_U64:
+        return rkyv_index_set_text(&index_map, key, strlen(key), value);
+    default:
+        return rkyv_map_set_number(&map, (uint32_t)long_key, value);
     }
-    return is_of_texts(kind) ? rkyv_map_set_text(&map, key, strlen(key), value)
-                             : rkyv_map_set_number(&map, number_of(key), value);
+}
+
+static int is_index(uint32_t kind) {
+    return (kind >= RKYV_INDEX_NUMBER_TO_U32 && kind <= RKYV_INDEX_TEXT_TO_U64)
+        || (kind >= RKYV_INDEX_LONG_NUMBER_TO_U32 && kind <= RKYV_INDEX_LONG_NUMBER_TO_TEXT);
+}
+
+static int is_set(uint32_t kind) {
+    return kind == RKYV_SET_OF_NUMBERS || kind == RKYV_SET_OF_TEXTS
+        || kind == RKYV_SET_OF_LONG_NUMBERS;
+}
+
+static void list(uint32_t kind) {
+    uint64_t from = 0;
+    size_t index = 0;
+    item key, value;
+    while ((is_index(kind) ? at(kind, index++, &key, &value) : next(kind, &from, &key, &value))
+           == RKYV_OK) {
+        print("", key);
+        print(is_set(kind) ? "" : " ", value);
+        printf("\n");
+    }
 }
 
 static void run(uint32_t kind, char *line) {
-    char *command = strtok(line, " \n"), *key = strtok(NULL, " \n"), *number = strtok(NULL, " \n");
+    char *command = strtok(line, " \n"), *word = strtok(NULL, " \n"), *other = strtok(NULL, " \n");
+    size_t index = 0, count = 0;
+    item key = nothing(), value = nothing();
     if (command == NULL) {
         return;
     }
     if (strcmp(command, "list") == 0) {
         list(kind);
-    } else if (strcmp(command, "count") == 0) {
-        size_t count = 0;
-        rkyv_status status = rkyv_map_count(&map, &count);
-        printf("%s %zu\n", rkyv_status_name(status), count);
-    } else if (strcmp(command, "get") == 0 && key != NULL) {
-        get(kind, key);
-    } else if (strcmp(command, "set") == 0 && key != NULL && number != NULL) {
-        printf("%s\n", rkyv_status_name(set(kind, key, strtoull(number, NULL, 10))));
-    }
-}
-
-static rkyv_index_map index_map;
-
-/* Prints the pair at an index, and returns the status. `before` is printed before it. */
-static rkyv_status print_at(int of_texts, size_t index, const char *before) {
-    rkyv_index_number_pair number = {0, 0};
-    rkyv_index_text_pair text = {0, NULL, 0};
-    rkyv_status status = of_texts ? rkyv_index_text_at(&index_map, index, &text)
-                                  : rkyv_index_number_at(&index_map, index, &number);
-    if (status == RKYV_OK && of_texts) {
-        printf("%s%.*s %llu\n", before, (int)text.key_length, text.key,
-               (unsigned long long)text.value);
-    } else if (status == RKYV_OK) {
-        printf("%s%lu %llu\n", before, (unsigned long)number.key,
-               (unsigned long long)number.value);
-    }
-    return status;
-}
-
-static void run_index(int of_texts, char *line) {
-    char *command = strtok(line, " \n"), *key = strtok(NULL, " \n");
-    size_t index = 0;
-    uint64_t value = 0;
-    if (command == NULL) {
         return;
     }
-    if (strcmp(command, "list") == 0) {
-        while (print_at(of_texts, index, "") == RKYV_OK) {
-            index++;
-        }
-    } else if (strcmp(command, "count") == 0) {
-        size_t count = 0;
-        rkyv_status status = rkyv_index_count(&index_map, &count);
-        printf("%s %zu\n", rkyv_status_name(status), count);
-    } else if (strcmp(command, "get") == 0 && key != NULL) {
-        rkyv_status status =
-            of_texts ? rkyv_index_get_text(&index_map, key, strlen(key), &index, &value)
-                     : rkyv_index_get_number(&index_map, (uint32_t)strtoul(key, NULL, 10), &index,
-                                             &value);
-        printf("%s %zu %llu\n", rkyv_status_name(status), index, (unsigned long long)value);
-    } else if (strcmp(command, "at") == 0 && key != NULL) {
-        rkyv_status status = print_at(of_texts, (size_t)strtoull(key, NULL, 10), "RKYV_OK ");
-        if (status != RKYV_OK) {
-            printf("%s\n", rkyv_status_name(status));
-        }
+    rkyv_status status = RKYV_NOT_FOUND;
+    if (strcmp(command, "count") == 0) {
+        status = is_index(kind) ? rkyv_index_count(&index_map, &count)
+                                : rkyv_map_count(&map, &count);
+    } else if (strcmp(command, "get") == 0 && word != NULL) {
+        status = get(kind, word, &index, &value);
+    } else if (strcmp(command, "at") == 0 && word != NULL && is_index(kind)) {
+        status = at(kind, (size_t)strtoull(word, NULL, 10), &key, &value);
+    } else if (strcmp(command, "set") == 0 && word != NULL && other != NULL) {
+        status = set(kind, word, strtoull(other, NULL, 10));
     }
+    printf("%s", rkyv_status_name(status));
+    if (status == RKYV_OK && strcmp(command, "count") == 0) {
+        print(" ", number(count));
+    } else if (status == RKYV_OK && strcmp(command, "get") == 0) {
+        if (is_index(kind)) {
+            print(" ", number(index));
+        }
+        print(is_set(kind) ? "" : " ", value);
+    } else if (status == RKYV_OK && strcmp(command, "at") == 0) {
+        print(" ", key);
+        print(" ", value);
+    }
+    printf("\n");
 }
 
-/* Opens an index map, and runs the commands. */
-static void run_all_index(const void *bytes, size_t length, uint32_t kind, uint32_t width,
+/* Opens a map or an index map, to read and to write. */
+static rkyv_status opened(void *bytes, size_t length, uint32_t kind, uint32_t width,
                           int in_container) {
-    static char line[1 << 16];
-    rkyv_status status = in_container
-        ? rkyv_index_open_container(bytes, length, kind, width, &index_map)
-        : rkyv_index_open(bytes, length, kind, width, &index_map);
-    printf("%s\n", rkyv_status_name(status));
-    while (status == RKYV_OK && fgets(line, sizeof line, stdin) != NULL) {
-        run_index(kind == RKYV_INDEX_TEXT_TO_U32 || kind == RKYV_INDEX_TEXT_TO_U64, line);
+    if (is_index(kind)) {
+        return in_container
+            ? rkyv_index_open_container_writable(bytes, length, kind, width, &index_map)
+            : rkyv_index_open_writable(bytes, length, kind, width, &index_map);
     }
+    return in_container ? rkyv_map_open_container_writable(bytes, length, kind, width, &map)
+                        : rkyv_map_open_writable(bytes, length, kind, width, &map);
 }
 
 /* Reads a file. Returns null if that fails. */
@@ -225,14 +348,7 @@ int main(int count, char **words) {
         perror(words[3]);
         return 1;
     }
-    if (kind >= RKYV_INDEX_NUMBER_TO_U32 && kind <= RKYV_INDEX_TEXT_TO_U64) {
-        run_all_index(bytes, length, kind, width, in_container);
-        free(bytes);
-        return 0;
-    }
-    rkyv_status status =
-        in_container ? rkyv_map_open_container_writable(bytes, length, kind, width, &map)
-                     : rkyv_map_open_writable(bytes, length, kind, width, &map);
+    rkyv_status status = opened(bytes, length, kind, width, in_container);
     printf("%s\n", rkyv_status_name(status));
     while (status == RKYV_OK && fgets(line, sizeof line, stdin) != NULL) {
         run(kind, line);

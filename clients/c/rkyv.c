@@ -19,19 +19,11 @@ typedef struct opened {
     size_t length;
 } opened;
 
-/* The codes of a container's contents: its kind of collection, its types and its width. */
-typedef struct codes {
-    uint8_t kind;
-    uint8_t key;
-    uint8_t value;
-    uint8_t width;
-} codes;
-
-/* A value that is a text, which the library has found. */
-typedef struct text_value {
+/* A text of an item, or one that the library has found. */
+typedef struct text {
     const char *text;
     size_t length;
-} text_value;
+} text;
 
 /* The index of a pair that a lookup in an index map has found, and its value. */
 typedef struct indexed {
@@ -39,175 +31,163 @@ typedef struct indexed {
     uint64_t value;
 } indexed;
 
+/* The index of a pair that a lookup in an index map has found, and its value, a text. */
+typedef struct indexed_text {
+    size_t index;
+    text value;
+} indexed_text;
+
+/* The calls of the proved library for maps whose values are numbers, which have 64 bits if `longer` is
+ * true. The width is 64 if `wide` is true. Arrays of pairs, members and items have no type here: each
+ * call takes those of its map. */
+typedef uint32_t open_numbers(const uint8_t *archive, size_t length, bool longer, bool wide);
+typedef void explain_numbers(const uint8_t *archive, size_t length, bool longer, bool wide,
+                             rkyv_error *error);
+typedef void decode_numbers(const uint8_t *archive, size_t length, bool longer, bool wide,
+                            rkyv_table_header *header);
+typedef size_t next_numbers(const uint8_t *archive, size_t length, bool longer, bool wide,
+                            const rkyv_table_header *header, uint64_t from, void *pairs,
+                            size_t room);
+typedef size_t numbers_from(const uint8_t *archive, size_t length, bool longer, bool wide,
+                            const rkyv_table_header *header, size_t from, void *pairs,
+                            size_t room);
+typedef uint32_t build_numbers(const void *items, size_t count, bool longer, bool wide,
+                               built *built);
+
+/* The same for maps to texts and sets. */
+typedef uint32_t open_others(const uint8_t *archive, size_t length, bool wide);
+typedef void explain_others(const uint8_t *archive, size_t length, bool wide, rkyv_error *error);
+typedef void decode_others(const uint8_t *archive, size_t length, bool wide,
+                           rkyv_table_header *header);
+typedef size_t next_others(const uint8_t *archive, size_t length, bool wide,
+                           const rkyv_table_header *header, uint64_t from, void *pairs,
+                           size_t room);
+typedef size_t others_from(const uint8_t *archive, size_t length, bool wide,
+                           const rkyv_table_header *header, size_t from, void *pairs, size_t room);
+typedef uint32_t build_others(const void *items, size_t count, bool wide, built *built);
+
+/* The calls that look up. Those of hash maps are of one type of values and one width. */
+typedef uint32_t get_number(const uint8_t *archive, size_t length, const rkyv_table_header *header,
+                            uint32_t key, uint64_t *value);
+typedef uint32_t get_long_number(const uint8_t *archive, size_t length,
+                                 const rkyv_table_header *header, uint64_t key, uint64_t *value);
+typedef uint32_t get_text(const uint8_t *archive, size_t length, const rkyv_table_header *header,
+                          const uint8_t *key, size_t key_length, uint64_t *value);
+typedef uint32_t get_text_of_number(const uint8_t *archive, size_t length,
+                                    const rkyv_table_header *header, uint32_t key, text *value);
+typedef uint32_t get_text_of_long_number(const uint8_t *archive, size_t length,
+                                         const rkyv_table_header *header, uint64_t key,
+                                         text *value);
+typedef uint32_t get_text_of_text(const uint8_t *archive, size_t length,
+                                  const rkyv_table_header *header, const uint8_t *key,
+                                  size_t key_length, text *value);
+typedef uint32_t contains_number(const uint8_t *archive, size_t length,
+                                 const rkyv_table_header *header, uint32_t item);
+typedef uint32_t contains_long_number(const uint8_t *archive, size_t length,
+                                      const rkyv_table_header *header, uint64_t item);
+typedef uint32_t contains_text(const uint8_t *archive, size_t length,
+                               const rkyv_table_header *header, const uint8_t *item,
+                               size_t item_length);
+
+/* The calls that write a value in place. */
+typedef uint32_t set_number(uint8_t *archive, size_t length, bool longer, bool wide, uint32_t key,
+                            uint64_t value);
+typedef uint32_t set_long_number(uint8_t *archive, size_t length, bool longer, bool wide,
+                                 uint64_t key, uint64_t value);
+typedef uint32_t set_text(uint8_t *archive, size_t length, bool longer, bool wide,
+                          const uint8_t *key, size_t key_length, uint64_t value);
+
 #ifdef __cplusplus
 extern "C" {
 #endif
 
-/* The proved library. The functions that decode, get, set and return the next pair require valid
+/* The proved library. The functions that decode, get, set, contain and return pairs require valid
  * bytes: the function that opens has returned 0 for them. Those that take a decoded header require
  * that it is of these bytes. To set a value leaves it as it is. The function that writes the header
  * of a container requires that it has 32 bytes. The others require nothing. */
-uint32_t rkyv_c_open_numbers(const uint8_t *archive, size_t length, bool long_values, bool wide);
-uint32_t rkyv_c_open_texts(const uint8_t *archive, size_t length, bool long_values, bool wide);
-void rkyv_c_explain_numbers(const uint8_t *archive, size_t length, bool long_values, bool wide,
-                            rkyv_error *error);
-void rkyv_c_explain_texts(const uint8_t *archive, size_t length, bool long_values, bool wide,
-                          rkyv_error *error);
-void rkyv_c_decode_numbers(const uint8_t *archive, size_t length, bool long_values, bool wide,
-                           rkyv_table_header *header);
-void rkyv_c_decode_texts(const uint8_t *archive, size_t length, bool long_values, bool wide,
-                         rkyv_table_header *header);
-typedef uint32_t get_number(const uint8_t *archive, size_t length, const rkyv_table_header *header,
-                            uint32_t key, uint64_t *value);
-typedef uint32_t get_text(const uint8_t *archive, size_t length, const rkyv_table_header *header,
-                          const uint8_t *key, size_t key_length, uint64_t *value);
+open_numbers rkyv_c_open_numbers, rkyv_c_open_long_numbers, rkyv_c_open_texts;
+open_numbers rkyv_c_index_open_numbers, rkyv_c_index_open_long_numbers, rkyv_c_index_open_texts;
+open_others rkyv_c_open_numbers_to_texts, rkyv_c_open_long_numbers_to_texts;
+open_others rkyv_c_open_texts_to_texts, rkyv_c_index_open_numbers_to_texts;
+open_others rkyv_c_index_open_long_numbers_to_texts, rkyv_c_index_open_texts_to_texts;
+open_others rkyv_c_open_number_set, rkyv_c_open_long_number_set, rkyv_c_open_text_set;
+
+explain_numbers rkyv_c_explain_numbers, rkyv_c_explain_long_numbers, rkyv_c_explain_texts;
+explain_numbers rkyv_c_index_explain_numbers, rkyv_c_index_explain_long_numbers;
+explain_numbers rkyv_c_index_explain_texts;
+explain_others rkyv_c_explain_numbers_to_texts, rkyv_c_explain_long_numbers_to_texts;
+explain_others rkyv_c_explain_texts_to_texts, rkyv_c_index_explain_numbers_to_texts;
+explain_others rkyv_c_index_explain_long_numbers_to_texts, rkyv_c_index_explain_texts_to_texts;
+explain_others rkyv_c_explain_number_set, rkyv_c_explain_long_number_set, rkyv_c_explain_text_set;
+
+decode_numbers rkyv_c_decode_numbers, rkyv_c_decode_long_numbers, rkyv_c_decode_texts;
+decode_numbers rkyv_c_index_decode_numbers, rkyv_c_index_decode_long_numbers;
+decode_numbers rkyv_c_index_decode_texts;
+decode_others rkyv_c_decode_numbers_to_texts, rkyv_c_decode_long_numbers_to_texts;
+decode_others rkyv_c_decode_texts_to_texts, rkyv_c_index_decode_numbers_to_texts;
+decode_others rkyv_c_index_decode_long_numbers_to_texts, rkyv_c_index_decode_texts_to_texts;
+decode_others rkyv_c_decode_number_set, rkyv_c_decode_long_number_set, rkyv_c_decode_text_set;
+
+next_numbers rkyv_c_next_numbers, rkyv_c_next_long_numbers, rkyv_c_next_texts;
+next_others rkyv_c_next_number_texts, rkyv_c_next_long_number_texts, rkyv_c_next_text_texts;
+next_others rkyv_c_next_number_members, rkyv_c_next_long_number_members, rkyv_c_next_text_members;
+numbers_from rkyv_c_index_numbers_from, rkyv_c_index_long_numbers_from, rkyv_c_index_texts_from;
+others_from rkyv_c_index_number_texts_from, rkyv_c_index_long_number_texts_from;
+others_from rkyv_c_index_text_texts_from;
+
+build_numbers rkyv_c_build_numbers, rkyv_c_build_long_numbers, rkyv_c_build_texts;
+build_numbers rkyv_c_index_build_numbers, rkyv_c_index_build_long_numbers;
+build_numbers rkyv_c_index_build_texts;
+build_others rkyv_c_build_numbers_to_texts, rkyv_c_build_long_numbers_to_texts;
+build_others rkyv_c_build_texts_to_texts, rkyv_c_index_build_numbers_to_texts;
+build_others rkyv_c_index_build_long_numbers_to_texts, rkyv_c_index_build_texts_to_texts;
+build_others rkyv_c_build_number_set, rkyv_c_build_long_number_set, rkyv_c_build_text_set;
+
 get_number rkyv_c_get_number_u32_narrow, rkyv_c_get_number_u64_narrow;
 get_number rkyv_c_get_number_u32_wide, rkyv_c_get_number_u64_wide;
+get_long_number rkyv_c_get_long_number_u32_narrow, rkyv_c_get_long_number_u64_narrow;
+get_long_number rkyv_c_get_long_number_u32_wide, rkyv_c_get_long_number_u64_wide;
 get_text rkyv_c_get_text_u32_narrow, rkyv_c_get_text_u64_narrow;
 get_text rkyv_c_get_text_u32_wide, rkyv_c_get_text_u64_wide;
-uint32_t rkyv_c_set_number(uint8_t *archive, size_t length, bool long_values, bool wide,
-                           uint32_t key, uint64_t value);
-uint32_t rkyv_c_set_text(uint8_t *archive, size_t length, bool long_values, bool wide,
-                         const uint8_t *key, size_t key_length, uint64_t value);
-uint32_t rkyv_c_next_number(const uint8_t *archive, size_t length, bool long_values, bool wide,
-                            const rkyv_table_header *header, rkyv_number_pair *pair);
-uint32_t rkyv_c_next_text(const uint8_t *archive, size_t length, bool long_values, bool wide,
-                          const rkyv_table_header *header, rkyv_text_pair *pair);
-size_t rkyv_c_next_numbers(const uint8_t *archive, size_t length, bool long_values, bool wide,
-                           const rkyv_table_header *header, uint64_t from,
-                           rkyv_number_pair *pairs, size_t room);
-size_t rkyv_c_next_texts(const uint8_t *archive, size_t length, bool long_values, bool wide,
-                         const rkyv_table_header *header, uint64_t from, rkyv_text_pair *pairs,
-                         size_t room);
+get_text_of_number rkyv_c_get_text_of_number_narrow, rkyv_c_get_text_of_number_wide;
+get_text_of_long_number rkyv_c_get_text_of_long_number_narrow;
+get_text_of_long_number rkyv_c_get_text_of_long_number_wide;
+get_text_of_text rkyv_c_get_text_of_text_narrow, rkyv_c_get_text_of_text_wide;
+contains_number rkyv_c_contains_number_narrow, rkyv_c_contains_number_wide;
+contains_long_number rkyv_c_contains_long_number_narrow, rkyv_c_contains_long_number_wide;
+contains_text rkyv_c_contains_text_narrow, rkyv_c_contains_text_wide;
+uint32_t rkyv_c_index_get_number(const uint8_t *archive, size_t length, bool longer, bool wide,
+                                 const rkyv_table_header *header, uint32_t key, indexed *found);
+uint32_t rkyv_c_index_get_long_number(const uint8_t *archive, size_t length, bool longer, bool wide,
+                                      const rkyv_table_header *header, uint64_t key,
+                                      indexed *found);
+uint32_t rkyv_c_index_get_text(const uint8_t *archive, size_t length, bool longer, bool wide,
+                               const rkyv_table_header *header, const uint8_t *key,
+                               size_t key_length, indexed *found);
+uint32_t rkyv_c_index_get_text_of_number(const uint8_t *archive, size_t length, bool wide,
+                                         const rkyv_table_header *header, uint32_t key,
+                                         indexed_text *found);
+uint32_t rkyv_c_index_get_text_of_long_number(const uint8_t *archive, size_t length, bool wide,
+                                              const rkyv_table_header *header, uint64_t key,
+                                              indexed_text *found);
+uint32_t rkyv_c_index_get_text_of_text(const uint8_t *archive, size_t length, bool wide,
+                                       const rkyv_table_header *header, const uint8_t *key,
+                                       size_t key_length, indexed_text *found);
+set_number rkyv_c_set_number, rkyv_c_index_set_number;
+set_long_number rkyv_c_set_long_number, rkyv_c_index_set_long_number;
+set_text rkyv_c_set_text, rkyv_c_index_set_text;
 bool rkyv_c_is_text(const uint8_t *bytes, size_t length);
-uint32_t rkyv_c_build_numbers(const rkyv_number_item *items, size_t count, bool long_values, bool wide,
-                              built *built);
-uint32_t rkyv_c_build_texts(const rkyv_text_item *items, size_t count, bool long_values, bool wide,
-                            built *built);
-uint32_t rkyv_c_write_header(const uint8_t *archive, size_t length, uint8_t kind, uint8_t key,
+
+/* The library's functions for containers, by the codes of their contents. */
+uint32_t rkyv_c_write_header(const uint8_t *archive, size_t length, uint8_t collection, uint8_t key,
                              uint8_t value, uint8_t width, bool checked, uint8_t *header,
                              size_t header_length);
 uint32_t rkyv_c_container_width(const uint8_t *bytes, size_t length, bool *wide);
-uint32_t rkyv_c_open_container(const uint8_t *bytes, size_t length, uint8_t kind, uint8_t key,
+uint32_t rkyv_c_open_container(const uint8_t *bytes, size_t length, uint8_t collection, uint8_t key,
                                uint8_t value, uint8_t width, opened *opened);
-void rkyv_c_explain_container(const uint8_t *bytes, size_t length, uint8_t kind, uint8_t key,
+void rkyv_c_explain_container(const uint8_t *bytes, size_t length, uint8_t collection, uint8_t key,
                               uint8_t value, uint8_t width, rkyv_error *error);
 uint32_t rkyv_c_update_container(uint8_t *bytes, size_t length);
-
-/* The same for maps to texts. */
-uint32_t rkyv_c_open_numbers_to_texts(const uint8_t *archive, size_t length, bool wide);
-uint32_t rkyv_c_open_texts_to_texts(const uint8_t *archive, size_t length, bool wide);
-void rkyv_c_explain_numbers_to_texts(const uint8_t *archive, size_t length, bool wide,
-                                     rkyv_error *error);
-void rkyv_c_explain_texts_to_texts(const uint8_t *archive, size_t length, bool wide,
-                                   rkyv_error *error);
-void rkyv_c_decode_numbers_to_texts(const uint8_t *archive, size_t length, bool wide,
-                                    rkyv_table_header *header);
-void rkyv_c_decode_texts_to_texts(const uint8_t *archive, size_t length, bool wide,
-                                  rkyv_table_header *header);
-typedef uint32_t get_text_of_number(const uint8_t *archive, size_t length,
-                                    const rkyv_table_header *header, uint32_t key,
-                                    text_value *value);
-typedef uint32_t get_text_of_text(const uint8_t *archive, size_t length,
-                                  const rkyv_table_header *header, const uint8_t *key,
-                                  size_t key_length, text_value *value);
-get_text_of_number rkyv_c_get_text_of_number_narrow, rkyv_c_get_text_of_number_wide;
-get_text_of_text rkyv_c_get_text_of_text_narrow, rkyv_c_get_text_of_text_wide;
-uint32_t rkyv_c_next_number_text(const uint8_t *archive, size_t length, bool wide,
-                                 const rkyv_table_header *header, rkyv_number_text_pair *pair);
-uint32_t rkyv_c_next_text_text(const uint8_t *archive, size_t length, bool wide,
-                               const rkyv_table_header *header, rkyv_text_text_pair *pair);
-size_t rkyv_c_next_number_texts(const uint8_t *archive, size_t length, bool wide,
-                                const rkyv_table_header *header, uint64_t from,
-                                rkyv_number_text_pair *pairs, size_t room);
-size_t rkyv_c_next_text_texts(const uint8_t *archive, size_t length, bool wide,
-                              const rkyv_table_header *header, uint64_t from,
-                              rkyv_text_text_pair *pairs, size_t room);
-uint32_t rkyv_c_build_numbers_to_texts(const rkyv_number_text_item *items, size_t count, bool wide,
-                                       built *built);
-uint32_t rkyv_c_build_texts_to_texts(const rkyv_text_text_item *items, size_t count, bool wide,
-                                     built *built);
-
-/* The same for sets. */
-uint32_t rkyv_c_open_number_set(const uint8_t *archive, size_t length, bool wide);
-uint32_t rkyv_c_open_text_set(const uint8_t *archive, size_t length, bool wide);
-void rkyv_c_explain_number_set(const uint8_t *archive, size_t length, bool wide,
-                               rkyv_error *error);
-void rkyv_c_explain_text_set(const uint8_t *archive, size_t length, bool wide, rkyv_error *error);
-void rkyv_c_decode_number_set(const uint8_t *archive, size_t length, bool wide,
-                              rkyv_table_header *header);
-void rkyv_c_decode_text_set(const uint8_t *archive, size_t length, bool wide,
-                            rkyv_table_header *header);
-typedef uint32_t contains_number(const uint8_t *archive, size_t length,
-                                 const rkyv_table_header *header, uint32_t item);
-typedef uint32_t contains_text(const uint8_t *archive, size_t length,
-                               const rkyv_table_header *header, const uint8_t *item,
-                               size_t item_length);
-contains_number rkyv_c_contains_number_narrow, rkyv_c_contains_number_wide;
-contains_text rkyv_c_contains_text_narrow, rkyv_c_contains_text_wide;
-uint32_t rkyv_c_next_number_member(const uint8_t *archive, size_t length, bool wide,
-                                   const rkyv_table_header *header, rkyv_number_member *member);
-uint32_t rkyv_c_next_text_member(const uint8_t *archive, size_t length, bool wide,
-                                 const rkyv_table_header *header, rkyv_text_member *member);
-size_t rkyv_c_next_number_members(const uint8_t *archive, size_t length, bool wide,
-                                  const rkyv_table_header *header, uint64_t from,
-                                  rkyv_number_member *members, size_t room);
-size_t rkyv_c_next_text_members(const uint8_t *archive, size_t length, bool wide,
-                                const rkyv_table_header *header, uint64_t from,
-                                rkyv_text_member *members, size_t room);
-uint32_t rkyv_c_build_number_set(const uint32_t *items, size_t count, bool wide, built *built);
-uint32_t rkyv_c_build_text_set(const rkyv_set_text *items, size_t count, bool wide, built *built);
-
-/* The same for maps whose keys are numbers of 64 bits. */
-uint32_t rkyv_c_open_long_numbers(const uint8_t *archive, size_t length, bool long_values,
-                                  bool wide);
-void rkyv_c_explain_long_numbers(const uint8_t *archive, size_t length, bool long_values, bool wide,
-                                 rkyv_error *error);
-void rkyv_c_decode_long_numbers(const uint8_t *archive, size_t length, bool long_values, bool wide,
-                                rkyv_table_header *header);
-typedef uint32_t get_long_number(const uint8_t *archive, size_t length,
-                                 const rkyv_table_header *header, uint64_t key, uint64_t *value);
-get_long_number rkyv_c_get_long_number_u32_narrow, rkyv_c_get_long_number_u64_narrow;
-get_long_number rkyv_c_get_long_number_u32_wide, rkyv_c_get_long_number_u64_wide;
-uint32_t rkyv_c_set_long_number(uint8_t *archive, size_t length, bool long_values, bool wide,
-                                uint64_t key, uint64_t value);
-uint32_t rkyv_c_next_long_number(const uint8_t *archive, size_t length, bool long_values, bool wide,
-                                 const rkyv_table_header *header, rkyv_long_number_pair *pair);
-size_t rkyv_c_next_long_numbers(const uint8_t *archive, size_t length, bool long_values, bool wide,
-                                const rkyv_table_header *header, uint64_t from,
-                                rkyv_long_number_pair *pairs, size_t room);
-uint32_t rkyv_c_build_long_numbers(const rkyv_long_number_item *items, size_t count,
-                                   bool long_values, bool wide, built *built);
-
-/* The same for index maps. They have no decoded header. */
-uint32_t rkyv_c_index_open_numbers(const uint8_t *archive, size_t length, bool long_values,
-                                   bool wide);
-uint32_t rkyv_c_index_open_texts(const uint8_t *archive, size_t length, bool long_values,
-                                 bool wide);
-void rkyv_c_index_explain_numbers(const uint8_t *archive, size_t length, bool long_values,
-                                  bool wide, rkyv_error *error);
-void rkyv_c_index_explain_texts(const uint8_t *archive, size_t length, bool long_values, bool wide,
-                                rkyv_error *error);
-size_t rkyv_c_index_count_numbers(const uint8_t *archive, size_t length, bool long_values,
-                                  bool wide);
-size_t rkyv_c_index_count_texts(const uint8_t *archive, size_t length, bool long_values,
-                                bool wide);
-uint32_t rkyv_c_index_get_number(const uint8_t *archive, size_t length, bool long_values, bool wide,
-                                 uint32_t key, indexed *found);
-uint32_t rkyv_c_index_get_text(const uint8_t *archive, size_t length, bool long_values, bool wide,
-                               const uint8_t *key, size_t key_length, indexed *found);
-uint32_t rkyv_c_index_number_at(const uint8_t *archive, size_t length, bool long_values, bool wide,
-                                size_t index, rkyv_index_number_pair *pair);
-uint32_t rkyv_c_index_text_at(const uint8_t *archive, size_t length, bool long_values, bool wide,
-                              size_t index, rkyv_index_text_pair *pair);
-size_t rkyv_c_index_numbers_from(const uint8_t *archive, size_t length, bool long_values, bool wide,
-                                 size_t from, rkyv_index_number_pair *pairs, size_t room);
-size_t rkyv_c_index_texts_from(const uint8_t *archive, size_t length, bool long_values, bool wide,
-                               size_t from, rkyv_index_text_pair *pairs, size_t room);
-uint32_t rkyv_c_index_build_numbers(const rkyv_number_item *items, size_t count, bool long_values,
-                                    bool wide, built *built);
-uint32_t rkyv_c_index_build_texts(const rkyv_text_item *items, size_t count, bool long_values,
-                                  bool wide, built *built);
 
 #ifdef __cplusplus
 }
@@ -216,92 +196,144 @@ uint32_t rkyv_c_index_build_texts(const rkyv_text_item *items, size_t count, boo
 /* Replaces a null pointer of no bytes, since the library takes no null pointers. */
 static const uint8_t nothing[1] = {0};
 
-static bool is_index_of_texts(uint32_t kind) {
-    return kind == RKYV_INDEX_TEXT_TO_U32 || kind == RKYV_INDEX_TEXT_TO_U64;
+/* The text of no bytes. */
+#define NO_TEXT ((const char *)nothing)
+
+/* The calls for maps whose values are numbers, by the type of their keys. A hash map has `next`, and
+ * an index map `from`. */
+typedef struct calls_of_numbers {
+    open_numbers *open;
+    explain_numbers *explain;
+    decode_numbers *decode;
+    next_numbers *next;
+    numbers_from *from;
+    build_numbers *build;
+} calls_of_numbers;
+
+static const calls_of_numbers numbers = {rkyv_c_open_numbers, rkyv_c_explain_numbers,
+                                         rkyv_c_decode_numbers, rkyv_c_next_numbers, NULL,
+                                         rkyv_c_build_numbers};
+static const calls_of_numbers long_numbers = {
+    rkyv_c_open_long_numbers, rkyv_c_explain_long_numbers, rkyv_c_decode_long_numbers,
+    rkyv_c_next_long_numbers, NULL, rkyv_c_build_long_numbers};
+static const calls_of_numbers texts = {rkyv_c_open_texts, rkyv_c_explain_texts,
+                                       rkyv_c_decode_texts, rkyv_c_next_texts, NULL,
+                                       rkyv_c_build_texts};
+static const calls_of_numbers index_numbers = {
+    rkyv_c_index_open_numbers, rkyv_c_index_explain_numbers, rkyv_c_index_decode_numbers, NULL,
+    rkyv_c_index_numbers_from, rkyv_c_index_build_numbers};
+static const calls_of_numbers index_long_numbers = {
+    rkyv_c_index_open_long_numbers, rkyv_c_index_explain_long_numbers,
+    rkyv_c_index_decode_long_numbers, NULL, rkyv_c_index_long_numbers_from,
+    rkyv_c_index_build_long_numbers};
+static const calls_of_numbers index_texts = {
+    rkyv_c_index_open_texts, rkyv_c_index_explain_texts, rkyv_c_index_decode_texts, NULL,
+    rkyv_c_index_texts_from, rkyv_c_index_build_texts};
+
+/* The same for maps to texts and sets. */
+typedef struct calls_of_others {
+    open_others *open;
+    explain_others *explain;
+    decode_others *decode;
+    next_others *next;
+    others_from *from;
+    build_others *build;
+} calls_of_others;
+
+static const calls_of_others numbers_to_texts = {
+    rkyv_c_open_numbers_to_texts, rkyv_c_explain_numbers_to_texts, rkyv_c_decode_numbers_to_texts,
+    rkyv_c_next_number_texts, NULL, rkyv_c_build_numbers_to_texts};
+static const calls_of_others long_numbers_to_texts = {
+    rkyv_c_open_long_numbers_to_texts, rkyv_c_explain_long_numbers_to_texts,
+    rkyv_c_decode_long_numbers_to_texts, rkyv_c_next_long_number_texts, NULL,
+    rkyv_c_build_long_numbers_to_texts};
+static const calls_of_others texts_to_texts = {
+    rkyv_c_open_texts_to_texts, rkyv_c_explain_texts_to_texts, rkyv_c_decode_texts_to_texts,
+    rkyv_c_next_text_texts, NULL, rkyv_c_build_texts_to_texts};
+static const calls_of_others number_sets = {
+    rkyv_c_open_number_set, rkyv_c_explain_number_set, rkyv_c_decode_number_set,
+    rkyv_c_next_number_members, NULL, rkyv_c_build_number_set};
+static const calls_of_others long_number_sets = {
+    rkyv_c_open_long_number_set, rkyv_c_explain_long_number_set, rkyv_c_decode_long_number_set,
+    rkyv_c_next_long_number_members, NULL, rkyv_c_build_long_number_set};
+static const calls_of_others text_sets = {rkyv_c_open_text_set, rkyv_c_explain_text_set,
+                                          rkyv_c_decode_text_set, rkyv_c_next_text_members, NULL,
+                                          rkyv_c_build_text_set};
+static const calls_of_others index_numbers_to_texts = {
+    rkyv_c_index_open_numbers_to_texts, rkyv_c_index_explain_numbers_to_texts,
+    rkyv_c_index_decode_numbers_to_texts, NULL, rkyv_c_index_number_texts_from,
+    rkyv_c_index_build_numbers_to_texts};
+static const calls_of_others index_long_numbers_to_texts = {
+    rkyv_c_index_open_long_numbers_to_texts, rkyv_c_index_explain_long_numbers_to_texts,
+    rkyv_c_index_decode_long_numbers_to_texts, NULL, rkyv_c_index_long_number_texts_from,
+    rkyv_c_index_build_long_numbers_to_texts};
+static const calls_of_others index_texts_to_texts = {
+    rkyv_c_index_open_texts_to_texts, rkyv_c_index_explain_texts_to_texts,
+    rkyv_c_index_decode_texts_to_texts, NULL, rkyv_c_index_text_texts_from,
+    rkyv_c_index_build_texts_to_texts};
+
+/* The codes of collections and of types in the header of a container. NUMBER is none of them: it is
+ * the type of values that are numbers. */
+enum { HASH_MAP = 1, HASH_SET = 2, INDEX_MAP = 3 };
+enum { NUMBER = 0, UNIT = 0x01, TEXT = 0x04, U32 = 0x14, U64 = 0x18 };
+
+/* The collection and the types of a kind, and the calls for its maps. */
+typedef struct contents {
+    uint8_t collection;
+    uint8_t key;
+    uint8_t value;
+    const calls_of_numbers *numbers;
+    const calls_of_others *others;
+} contents;
+
+/* The contents by the number of the kind. No kind has the number 0. */
+static const contents kinds[] = {
+    /* none */                           {0, 0, 0, NULL, NULL},
+    /* RKYV_NUMBER_TO_U32 */             {HASH_MAP, U32, U32, &numbers, NULL},
+    /* RKYV_NUMBER_TO_U64 */             {HASH_MAP, U32, U64, &numbers, NULL},
+    /* RKYV_TEXT_TO_U32 */               {HASH_MAP, TEXT, U32, &texts, NULL},
+    /* RKYV_TEXT_TO_U64 */               {HASH_MAP, TEXT, U64, &texts, NULL},
+    /* RKYV_INDEX_NUMBER_TO_U32 */       {INDEX_MAP, U32, U32, &index_numbers, NULL},
+    /* RKYV_INDEX_NUMBER_TO_U64 */       {INDEX_MAP, U32, U64, &index_numbers, NULL},
+    /* RKYV_INDEX_TEXT_TO_U32 */         {INDEX_MAP, TEXT, U32, &index_texts, NULL},
+    /* RKYV_INDEX_TEXT_TO_U64 */         {INDEX_MAP, TEXT, U64, &index_texts, NULL},
+    /* RKYV_NUMBER_TO_TEXT */            {HASH_MAP, U32, TEXT, NULL, &numbers_to_texts},
+    /* RKYV_TEXT_TO_TEXT */              {HASH_MAP, TEXT, TEXT, NULL, &texts_to_texts},
+    /* RKYV_SET_OF_NUMBERS */            {HASH_SET, U32, UNIT, NULL, &number_sets},
+    /* RKYV_SET_OF_TEXTS */              {HASH_SET, TEXT, UNIT, NULL, &text_sets},
+    /* RKYV_LONG_NUMBER_TO_U32 */        {HASH_MAP, U64, U32, &long_numbers, NULL},
+    /* RKYV_LONG_NUMBER_TO_U64 */        {HASH_MAP, U64, U64, &long_numbers, NULL},
+    /* RKYV_SET_OF_LONG_NUMBERS */       {HASH_SET, U64, UNIT, NULL, &long_number_sets},
+    /* RKYV_LONG_NUMBER_TO_TEXT */       {HASH_MAP, U64, TEXT, NULL, &long_numbers_to_texts},
+    /* RKYV_INDEX_LONG_NUMBER_TO_U32 */  {INDEX_MAP, U64, U32, &index_long_numbers, NULL},
+    /* RKYV_INDEX_LONG_NUMBER_TO_U64 */  {INDEX_MAP, U64, U64, &index_long_numbers, NULL},
+    /* RKYV_INDEX_NUMBER_TO_TEXT */      {INDEX_MAP, U32, TEXT, NULL, &index_numbers_to_texts},
+    /* RKYV_INDEX_TEXT_TO_TEXT */        {INDEX_MAP, TEXT, TEXT, NULL, &index_texts_to_texts},
+    /* RKYV_INDEX_LONG_NUMBER_TO_TEXT */ {INDEX_MAP, U64, TEXT, NULL, &index_long_numbers_to_texts},
+};
+
+/* Whether there is such a kind. The kind of a handle of no open map is 0. */
+static bool is_kind(uint32_t kind) {
+    return kind != 0 && kind < sizeof kinds / sizeof *kinds;
 }
 
-static bool is_index_of_numbers(uint32_t kind) {
-    return kind == RKYV_INDEX_NUMBER_TO_U32 || kind == RKYV_INDEX_NUMBER_TO_U64;
-}
-
-/* Whether the maps of the kind are index maps. */
-static bool is_index(uint32_t kind) {
-    return is_index_of_numbers(kind) || is_index_of_texts(kind);
-}
-
-static bool is_of_texts(uint32_t kind) {
-    return kind == RKYV_TEXT_TO_U32 || kind == RKYV_TEXT_TO_U64 || is_index_of_texts(kind);
-}
-
-static bool is_of_numbers(uint32_t kind) {
-    return kind == RKYV_NUMBER_TO_U32 || kind == RKYV_NUMBER_TO_U64 || is_index_of_numbers(kind);
-}
-
-static bool is_of_long_numbers(uint32_t kind) {
-    return kind == RKYV_LONG_NUMBER_TO_U32 || kind == RKYV_LONG_NUMBER_TO_U64;
-}
-
-static bool is_number_to_text(uint32_t kind) {
-    return kind == RKYV_NUMBER_TO_TEXT;
-}
-
-static bool is_text_to_text(uint32_t kind) {
-    return kind == RKYV_TEXT_TO_TEXT;
-}
-
-/* Whether the values are texts. */
-static bool is_to_texts(uint32_t kind) {
-    return is_number_to_text(kind) || is_text_to_text(kind);
-}
-
-static bool is_number_set(uint32_t kind) {
-    return kind == RKYV_SET_OF_NUMBERS;
-}
-
-static bool is_text_set(uint32_t kind) {
-    return kind == RKYV_SET_OF_TEXTS;
-}
-
-static bool is_set(uint32_t kind) {
-    return is_number_set(kind) || is_text_set(kind);
+/* Whether the maps of a kind have keys of a type, and values of one. */
+static bool has_types(uint32_t kind, uint8_t key, uint8_t value) {
+    return is_kind(kind) && kinds[kind].key == key
+        && (value == NUMBER ? kinds[kind].numbers != NULL : kinds[kind].value == value);
 }
 
 static bool has_long_values(uint32_t kind) {
-    return kind == RKYV_NUMBER_TO_U64 || kind == RKYV_TEXT_TO_U64
-        || kind == RKYV_INDEX_NUMBER_TO_U64 || kind == RKYV_INDEX_TEXT_TO_U64
-        || kind == RKYV_LONG_NUMBER_TO_U64;
-}
-
-/* The codes of the containers of maps of the kind, as docs/FORMAT.md lists them. */
-static codes codes_of(uint32_t kind, bool wide) {
-    enum { HASH_MAP = 1, HASH_SET = 2, INDEX_MAP = 3 };
-    enum { UNIT = 0x01, TEXT = 0x04, U32 = 0x14, U64 = 0x18 };
-    bool text_keys = is_of_texts(kind) || is_text_to_text(kind) || is_text_set(kind);
-    codes contents = {HASH_MAP, U32, U32, 4};
-    if (is_set(kind)) {
-        contents.kind = HASH_SET;
-        contents.value = UNIT;
-    } else if (is_to_texts(kind)) {
-        contents.value = TEXT;
-    } else if (has_long_values(kind)) {
-        contents.value = U64;
-    }
-    if (is_index(kind)) {
-        contents.kind = INDEX_MAP;
-    }
-    if (text_keys) {
-        contents.key = TEXT;
-    } else if (is_of_long_numbers(kind)) {
-        contents.key = U64;
-    }
-    if (wide) {
-        contents.width = 8;
-    }
-    return contents;
+    return kinds[kind].value == U64;
 }
 
 static bool is_wide(const rkyv_map *map) {
     return map->width == 64;
+}
+
+/* The code of a width in the header of a container. */
+static uint8_t width_code(bool wide) {
+    return wide ? 8 : 4;
 }
 
 /* The functions that look up, by the type of the values and the width. */
@@ -315,30 +347,47 @@ static get_text *const get_texts[2][2] = {
     {rkyv_c_get_text_u32_narrow, rkyv_c_get_text_u32_wide},
     {rkyv_c_get_text_u64_narrow, rkyv_c_get_text_u64_wide}};
 
+/* The functions that look up, by the width. */
 static get_text_of_number *const get_texts_of_numbers[2] = {rkyv_c_get_text_of_number_narrow,
                                                             rkyv_c_get_text_of_number_wide};
+static get_text_of_long_number *const get_texts_of_long_numbers[2] = {
+    rkyv_c_get_text_of_long_number_narrow, rkyv_c_get_text_of_long_number_wide};
 static get_text_of_text *const get_texts_of_texts[2] = {rkyv_c_get_text_of_text_narrow,
                                                         rkyv_c_get_text_of_text_wide};
 static contains_number *const contain_numbers[2] = {rkyv_c_contains_number_narrow,
                                                     rkyv_c_contains_number_wide};
+static contains_long_number *const contain_long_numbers[2] = {rkyv_c_contains_long_number_narrow,
+                                                              rkyv_c_contains_long_number_wide};
 static contains_text *const contain_texts[2] = {rkyv_c_contains_text_narrow,
                                                 rkyv_c_contains_text_wide};
 
-/* Whether there is such a kind. The kind of a handle of no open map is 0. */
-static bool is_kind(uint32_t kind) {
-    return is_of_numbers(kind) || is_of_texts(kind) || is_of_long_numbers(kind) || is_to_texts(kind)
-        || is_set(kind);
+/* The first of two statuses that is an error, or RKYV_OK. */
+static rkyv_status first(rkyv_status one, rkyv_status other) {
+    return one != RKYV_OK ? one : other;
 }
 
-/* RKYV_OK if the handle is of an open map with such a kind. */
-static rkyv_status check_map(const rkyv_map *map, bool is_such(uint32_t kind)) {
+/* RKYV_OK if the handle is of an open map with a collection, keys and values of these types. */
+static rkyv_status check_map(const rkyv_map *map, uint8_t collection, uint8_t key, uint8_t value) {
     if (map == NULL) {
         return RKYV_NULL;
     }
-    if (is_such(map->kind)) {
+    if (has_types(map->kind, key, value) && kinds[map->kind].collection == collection) {
         return RKYV_OK;
     }
     return is_kind(map->kind) ? RKYV_WRONG_KIND : RKYV_CLOSED;
+}
+
+/* RKYV_OK if the handle is of an open map. */
+static rkyv_status check_open(const rkyv_map *map) {
+    if (map == NULL) {
+        return RKYV_NULL;
+    }
+    return is_kind(map->kind) ? RKYV_OK : RKYV_CLOSED;
+}
+
+/* RKYV_OK if the address of an output is not null. */
+static rkyv_status check_output(const void *output) {
+    return output != NULL ? RKYV_OK : RKYV_NULL;
 }
 
 /* RKYV_OK if `length` bytes may be at the address. */
@@ -357,15 +406,13 @@ static rkyv_status check_types(uint32_t kind, uint32_t width) {
     return width == 32 || width == 64 ? RKYV_OK : RKYV_UNKNOWN_WIDTH;
 }
 
-/* RKYV_OK if there is such a kind and such a width, and the maps of the kind are index maps if
- * `index` is true, and hash maps if it is false. */
-static rkyv_status check_collection(uint32_t kind, uint32_t width, bool index) {
-    rkyv_status status = check_types(kind, width);
-    return status == RKYV_OK && is_index(kind) != index ? RKYV_WRONG_KIND : status;
-}
-
 static const uint8_t *bytes_of(const void *bytes) {
     return bytes != NULL ? (const uint8_t *)bytes : nothing;
+}
+
+/* The handle that a call for index maps takes. */
+static const rkyv_map *map_of(const rkyv_index_map *map) {
+    return map != NULL ? &map->map : NULL;
 }
 
 const char *rkyv_status_name(uint32_t status) {
@@ -423,55 +470,52 @@ static const rkyv_map closed = {NULL, NULL, 0, 0, 0, {0, 0, 0, 1, UINT64_MAX}};
 
 /* Validates an archive. */
 static rkyv_status open_archive(const uint8_t *archive, size_t length, uint32_t kind, bool wide) {
-    uint32_t status;
-    if (is_number_set(kind)) {
-        status = rkyv_c_open_number_set(archive, length, wide);
-    } else if (is_text_set(kind)) {
-        status = rkyv_c_open_text_set(archive, length, wide);
-    } else if (is_number_to_text(kind)) {
-        status = rkyv_c_open_numbers_to_texts(archive, length, wide);
-    } else if (is_text_to_text(kind)) {
-        status = rkyv_c_open_texts_to_texts(archive, length, wide);
-    } else if (is_of_texts(kind)) {
-        status = rkyv_c_open_texts(archive, length, has_long_values(kind), wide);
-    } else if (is_of_long_numbers(kind)) {
-        status = rkyv_c_open_long_numbers(archive, length, has_long_values(kind), wide);
+    const contents *of = &kinds[kind];
+    return (rkyv_status)(
+        of->numbers != NULL ? of->numbers->open(archive, length, has_long_values(kind), wide)
+                            : of->others->open(archive, length, wide));
+}
+
+/* Stores the error of validation of an archive. */
+static void explain(const uint8_t *archive, size_t length, uint32_t kind, bool wide,
+                    rkyv_error *error) {
+    const contents *of = &kinds[kind];
+    if (of->numbers != NULL) {
+        of->numbers->explain(archive, length, has_long_values(kind), wide, error);
     } else {
-        status = rkyv_c_open_numbers(archive, length, has_long_values(kind), wide);
+        of->others->explain(archive, length, wide, error);
     }
-    return (rkyv_status)status;
 }
 
 /* Decodes the header of a valid archive. */
 static void decode(const uint8_t *archive, size_t length, uint32_t kind, bool wide,
                    rkyv_table_header *header) {
-    if (is_number_set(kind)) {
-        rkyv_c_decode_number_set(archive, length, wide, header);
-    } else if (is_text_set(kind)) {
-        rkyv_c_decode_text_set(archive, length, wide, header);
-    } else if (is_number_to_text(kind)) {
-        rkyv_c_decode_numbers_to_texts(archive, length, wide, header);
-    } else if (is_text_to_text(kind)) {
-        rkyv_c_decode_texts_to_texts(archive, length, wide, header);
-    } else if (is_of_texts(kind)) {
-        rkyv_c_decode_texts(archive, length, has_long_values(kind), wide, header);
-    } else if (is_of_long_numbers(kind)) {
-        rkyv_c_decode_long_numbers(archive, length, has_long_values(kind), wide, header);
+    const contents *of = &kinds[kind];
+    if (of->numbers != NULL) {
+        of->numbers->decode(archive, length, has_long_values(kind), wide, header);
     } else {
-        rkyv_c_decode_numbers(archive, length, has_long_values(kind), wide, header);
+        of->others->decode(archive, length, wide, header);
     }
 }
 
+/* RKYV_OK if there is such a kind and such a width, and the maps of the kind are index maps if
+ * `index` is true, and hash maps or sets if it is false. */
+static rkyv_status check_collection(uint32_t kind, uint32_t width, bool index) {
+    rkyv_status status = check_types(kind, width);
+    if (status == RKYV_OK && (kinds[kind].collection == INDEX_MAP) != index) {
+        status = RKYV_WRONG_KIND;
+    }
+    return status;
+}
+
+/* Opens a map: an index map if `index` is true. `writable` is the address of the archive, or null. */
 static rkyv_status open_map(const void *bytes, void *writable, size_t length, uint32_t kind,
-                            uint32_t width, rkyv_map *map) {
+                            uint32_t width, bool index, rkyv_map *map) {
     if (map == NULL) {
         return RKYV_NULL;
     }
     *map = closed;
-    rkyv_status status = check_collection(kind, width, false);
-    if (status == RKYV_OK) {
-        status = check_bytes(bytes, length);
-    }
+    rkyv_status status = first(check_collection(kind, width, index), check_bytes(bytes, length));
     if (status != RKYV_OK) {
         return status;
     }
@@ -488,42 +532,28 @@ static rkyv_status open_map(const void *bytes, void *writable, size_t length, ui
     return status;
 }
 
-rkyv_status rkyv_map_open(const void *bytes, size_t length, uint32_t kind, uint32_t width,
-                          rkyv_map *map) {
-    return open_map(bytes, NULL, length, kind, width, map);
-}
-
-rkyv_status rkyv_map_open_writable(void *bytes, size_t length, uint32_t kind, uint32_t width,
-                                   rkyv_map *map) {
-    return open_map(bytes, bytes, length, kind, width, map);
-}
-
 /* Finds the archive in a container of such a map. */
 static rkyv_status find_archive(const uint8_t *container, size_t length, uint32_t kind, bool wide,
                                 opened *found) {
-    codes contents = codes_of(kind, wide);
-    return (rkyv_status)rkyv_c_open_container(container, length, contents.kind, contents.key,
-                                              contents.value, contents.width, found);
+    const contents *of = &kinds[kind];
+    return (rkyv_status)rkyv_c_open_container(container, length, of->collection, of->key, of->value,
+                                              width_code(wide), found);
 }
 
-/* Opens the map in a container. `writable` is the address of the container, or null. */
+/* Opens the map in a container, as `open_map` does. `writable` is the address of the container, or
+ * null. */
 static rkyv_status open_container(const void *bytes, void *writable, size_t length, uint32_t kind,
-                                  uint32_t width, rkyv_map *map) {
+                                  uint32_t width, bool index, rkyv_map *map) {
     opened found = {nothing, 0};
     bool wide = width == 64;
     if (map == NULL) {
         return RKYV_NULL;
     }
     *map = closed;
-    rkyv_status status = check_collection(kind, width != RKYV_ANY_WIDTH ? width : 32, false);
-    if (status == RKYV_OK) {
-        status = check_bytes(bytes, length);
-    }
-    if (status != RKYV_OK) {
-        return status;
-    }
+    rkyv_status status = first(check_collection(kind, width != RKYV_ANY_WIDTH ? width : 32, index),
+                               check_bytes(bytes, length));
     const uint8_t *container = bytes_of(bytes);
-    if (width == RKYV_ANY_WIDTH) {
+    if (status == RKYV_OK && width == RKYV_ANY_WIDTH) {
         status = (rkyv_status)rkyv_c_container_width(container, length, &wide);
     }
     if (status == RKYV_OK) {
@@ -533,41 +563,47 @@ static rkyv_status open_container(const void *bytes, void *writable, size_t leng
         return status;
     }
     uint8_t *archive = writable != NULL ? (uint8_t *)writable + (found.bytes - container) : NULL;
-    return open_map(found.bytes, archive, found.length, kind, wide ? 64 : 32, map);
+    return open_map(found.bytes, archive, found.length, kind, wide ? 64 : 32, index, map);
+}
+
+rkyv_status rkyv_map_open(const void *bytes, size_t length, uint32_t kind, uint32_t width,
+                          rkyv_map *map) {
+    return open_map(bytes, NULL, length, kind, width, false, map);
+}
+
+rkyv_status rkyv_map_open_writable(void *bytes, size_t length, uint32_t kind, uint32_t width,
+                                   rkyv_map *map) {
+    return open_map(bytes, bytes, length, kind, width, false, map);
 }
 
 rkyv_status rkyv_map_open_container(const void *bytes, size_t length, uint32_t kind,
                                     uint32_t width, rkyv_map *map) {
-    return open_container(bytes, NULL, length, kind, width, map);
+    return open_container(bytes, NULL, length, kind, width, false, map);
 }
 
 rkyv_status rkyv_map_open_container_writable(void *bytes, size_t length, uint32_t kind,
                                              uint32_t width, rkyv_map *map) {
-    return open_container(bytes, bytes, length, kind, width, map);
+    return open_container(bytes, bytes, length, kind, width, false, map);
 }
 
-/* Stores the error of validation of an archive. */
-static void explain(const uint8_t *archive, size_t length, uint32_t kind, bool wide,
-                    rkyv_error *error) {
-    if (is_index_of_texts(kind)) {
-        rkyv_c_index_explain_texts(archive, length, has_long_values(kind), wide, error);
-    } else if (is_index_of_numbers(kind)) {
-        rkyv_c_index_explain_numbers(archive, length, has_long_values(kind), wide, error);
-    } else if (is_number_set(kind)) {
-        rkyv_c_explain_number_set(archive, length, wide, error);
-    } else if (is_text_set(kind)) {
-        rkyv_c_explain_text_set(archive, length, wide, error);
-    } else if (is_number_to_text(kind)) {
-        rkyv_c_explain_numbers_to_texts(archive, length, wide, error);
-    } else if (is_text_to_text(kind)) {
-        rkyv_c_explain_texts_to_texts(archive, length, wide, error);
-    } else if (is_of_texts(kind)) {
-        rkyv_c_explain_texts(archive, length, has_long_values(kind), wide, error);
-    } else if (is_of_long_numbers(kind)) {
-        rkyv_c_explain_long_numbers(archive, length, has_long_values(kind), wide, error);
-    } else {
-        rkyv_c_explain_numbers(archive, length, has_long_values(kind), wide, error);
-    }
+rkyv_status rkyv_index_open(const void *bytes, size_t length, uint32_t kind, uint32_t width,
+                            rkyv_index_map *map) {
+    return open_map(bytes, NULL, length, kind, width, true, map != NULL ? &map->map : NULL);
+}
+
+rkyv_status rkyv_index_open_writable(void *bytes, size_t length, uint32_t kind, uint32_t width,
+                                     rkyv_index_map *map) {
+    return open_map(bytes, bytes, length, kind, width, true, map != NULL ? &map->map : NULL);
+}
+
+rkyv_status rkyv_index_open_container(const void *bytes, size_t length, uint32_t kind,
+                                      uint32_t width, rkyv_index_map *map) {
+    return open_container(bytes, NULL, length, kind, width, true, map != NULL ? &map->map : NULL);
+}
+
+rkyv_status rkyv_index_open_container_writable(void *bytes, size_t length, uint32_t kind,
+                                               uint32_t width, rkyv_index_map *map) {
+    return open_container(bytes, bytes, length, kind, width, true, map != NULL ? &map->map : NULL);
 }
 
 rkyv_status rkyv_map_explain(const void *bytes, size_t length, uint32_t kind, uint32_t width,
@@ -575,10 +611,7 @@ rkyv_status rkyv_map_explain(const void *bytes, size_t length, uint32_t kind, ui
     if (error == NULL) {
         return RKYV_NULL;
     }
-    rkyv_status status = check_types(kind, width);
-    if (status == RKYV_OK) {
-        status = check_bytes(bytes, length);
-    }
+    rkyv_status status = first(check_types(kind, width), check_bytes(bytes, length));
     if (status == RKYV_OK) {
         explain(bytes_of(bytes), length, kind, width == 64, error);
     }
@@ -592,10 +625,8 @@ rkyv_status rkyv_container_explain(const void *bytes, size_t length, uint32_t ki
     if (error == NULL) {
         return RKYV_NULL;
     }
-    rkyv_status status = check_types(kind, width != RKYV_ANY_WIDTH ? width : 32);
-    if (status == RKYV_OK) {
-        status = check_bytes(bytes, length);
-    }
+    rkyv_status status = first(check_types(kind, width != RKYV_ANY_WIDTH ? width : 32),
+                               check_bytes(bytes, length));
     if (status != RKYV_OK) {
         return status;
     }
@@ -604,9 +635,9 @@ rkyv_status rkyv_container_explain(const void *bytes, size_t length, uint32_t ki
         /* If the header has an error, it is the same one for both widths. */
         rkyv_c_container_width(container, length, &wide);
     }
-    codes contents = codes_of(kind, wide);
-    rkyv_c_explain_container(container, length, contents.kind, contents.key, contents.value,
-                             contents.width, error);
+    const contents *of = &kinds[kind];
+    rkyv_c_explain_container(container, length, of->collection, of->key, of->value,
+                             width_code(wide), error);
     if (error->status == RKYV_OK
         && find_archive(container, length, kind, wide, &found) == RKYV_OK) {
         explain(found.bytes, found.length, kind, wide, error);
@@ -615,414 +646,553 @@ rkyv_status rkyv_container_explain(const void *bytes, size_t length, uint32_t ki
 }
 
 rkyv_status rkyv_map_width(const rkyv_map *map, uint32_t *width) {
-    rkyv_status status = check_map(map, is_kind);
-    if (status != RKYV_OK) {
-        return status;
+    rkyv_status status = first(check_open(map), check_output(width));
+    if (status == RKYV_OK) {
+        *width = map->width;
     }
-    if (width == NULL) {
-        return RKYV_NULL;
-    }
-    *width = map->width;
-    return RKYV_OK;
+    return status;
+}
+
+rkyv_status rkyv_index_width(const rkyv_index_map *map, uint32_t *width) {
+    return rkyv_map_width(map_of(map), width);
 }
 
 rkyv_status rkyv_map_count(const rkyv_map *map, size_t *count) {
-    rkyv_status status = check_map(map, is_kind);
-    if (status != RKYV_OK) {
-        return status;
+    rkyv_status status = first(check_open(map), check_output(count));
+    if (status == RKYV_OK) {
+        *count = map->header.length;
     }
-    if (count == NULL) {
-        return RKYV_NULL;
-    }
-    *count = map->header.length;
-    return RKYV_OK;
+    return status;
+}
+
+rkyv_status rkyv_index_count(const rkyv_index_map *map, size_t *count) {
+    return rkyv_map_count(map_of(map), count);
 }
 
 rkyv_status rkyv_map_get_number(const rkyv_map *map, uint32_t key, uint64_t *value) {
-    rkyv_status status = check_map(map, is_of_numbers);
-    if (status != RKYV_OK) {
-        return status;
+    rkyv_status status = first(check_map(map, HASH_MAP, U32, NUMBER), check_output(value));
+    if (status == RKYV_OK) {
+        get_number *get = get_numbers[has_long_values(map->kind)][is_wide(map)];
+        status = (rkyv_status)get(map->bytes, map->length, &map->header, key, value);
     }
-    if (value == NULL) {
-        return RKYV_NULL;
-    }
-    get_number *get = get_numbers[has_long_values(map->kind)][is_wide(map)];
-    return (rkyv_status)get(map->bytes, map->length, &map->header, key, value);
+    return status;
 }
 
 rkyv_status rkyv_map_get_long_number(const rkyv_map *map, uint64_t key, uint64_t *value) {
-    rkyv_status status = check_map(map, is_of_long_numbers);
-    if (status != RKYV_OK) {
-        return status;
+    rkyv_status status = first(check_map(map, HASH_MAP, U64, NUMBER), check_output(value));
+    if (status == RKYV_OK) {
+        get_long_number *get = get_long_numbers[has_long_values(map->kind)][is_wide(map)];
+        status = (rkyv_status)get(map->bytes, map->length, &map->header, key, value);
     }
-    if (value == NULL) {
-        return RKYV_NULL;
-    }
-    get_long_number *get = get_long_numbers[has_long_values(map->kind)][is_wide(map)];
-    return (rkyv_status)get(map->bytes, map->length, &map->header, key, value);
+    return status;
 }
 
 rkyv_status rkyv_map_get_text(const rkyv_map *map, const char *key, size_t length,
                               uint64_t *value) {
-    rkyv_status status = check_map(map, is_of_texts);
+    rkyv_status status = first(check_map(map, HASH_MAP, TEXT, NUMBER), check_bytes(key, length));
+    status = first(status, check_output(value));
     if (status == RKYV_OK) {
-        status = check_bytes(key, length);
+        get_text *get = get_texts[has_long_values(map->kind)][is_wide(map)];
+        status = (rkyv_status)get(map->bytes, map->length, &map->header, bytes_of(key), length,
+                                  value);
     }
-    if (status != RKYV_OK) {
-        return status;
-    }
-    if (value == NULL) {
-        return RKYV_NULL;
-    }
-    get_text *get = get_texts[has_long_values(map->kind)][is_wide(map)];
-    return (rkyv_status)get(map->bytes, map->length, &map->header, bytes_of(key), length, value);
+    return status;
 }
 
-/* Stores the text that was found. */
-static rkyv_status give_text(uint32_t status, text_value found, const char **value,
-                             size_t *value_length) {
+/* Stores a text that was found. */
+static rkyv_status store_text(rkyv_status status, text found, const char **value,
+                              size_t *value_length) {
     if (status == RKYV_OK) {
         *value = found.text;
         *value_length = found.length;
     }
-    return (rkyv_status)status;
+    return status;
 }
 
 rkyv_status rkyv_map_get_text_of_number(const rkyv_map *map, uint32_t key, const char **value,
                                         size_t *value_length) {
-    text_value found = {(const char *)nothing, 0};
-    rkyv_status status = check_map(map, is_number_to_text);
-    if (status != RKYV_OK) {
-        return status;
+    text found = {NO_TEXT, 0};
+    rkyv_status status = first(check_map(map, HASH_MAP, U32, TEXT), check_output(value));
+    status = first(status, check_output(value_length));
+    if (status == RKYV_OK) {
+        get_text_of_number *get = get_texts_of_numbers[is_wide(map)];
+        status = (rkyv_status)get(map->bytes, map->length, &map->header, key, &found);
     }
-    if (value == NULL || value_length == NULL) {
-        return RKYV_NULL;
+    return store_text(status, found, value, value_length);
+}
+
+rkyv_status rkyv_map_get_text_of_long_number(const rkyv_map *map, uint64_t key, const char **value,
+                                             size_t *value_length) {
+    text found = {NO_TEXT, 0};
+    rkyv_status status = first(check_map(map, HASH_MAP, U64, TEXT), check_output(value));
+    status = first(status, check_output(value_length));
+    if (status == RKYV_OK) {
+        get_text_of_long_number *get = get_texts_of_long_numbers[is_wide(map)];
+        status = (rkyv_status)get(map->bytes, map->length, &map->header, key, &found);
     }
-    get_text_of_number *get = get_texts_of_numbers[is_wide(map)];
-    uint32_t got = get(map->bytes, map->length, &map->header, key, &found);
-    return give_text(got, found, value, value_length);
+    return store_text(status, found, value, value_length);
 }
 
 rkyv_status rkyv_map_get_text_of_text(const rkyv_map *map, const char *key, size_t length,
                                       const char **value, size_t *value_length) {
-    text_value found = {(const char *)nothing, 0};
-    rkyv_status status = check_map(map, is_text_to_text);
+    text found = {NO_TEXT, 0};
+    rkyv_status status = first(check_map(map, HASH_MAP, TEXT, TEXT), check_bytes(key, length));
+    status = first(first(status, check_output(value)), check_output(value_length));
     if (status == RKYV_OK) {
-        status = check_bytes(key, length);
+        get_text_of_text *get = get_texts_of_texts[is_wide(map)];
+        status = (rkyv_status)get(map->bytes, map->length, &map->header, bytes_of(key), length,
+                                  &found);
     }
-    if (status != RKYV_OK) {
-        return status;
-    }
-    if (value == NULL || value_length == NULL) {
-        return RKYV_NULL;
-    }
-    get_text_of_text *get = get_texts_of_texts[is_wide(map)];
-    uint32_t got = get(map->bytes, map->length, &map->header, bytes_of(key), length, &found);
-    return give_text(got, found, value, value_length);
+    return store_text(status, found, value, value_length);
 }
 
 rkyv_status rkyv_set_contains_number(const rkyv_map *set, uint32_t item) {
-    rkyv_status status = check_map(set, is_number_set);
-    if (status != RKYV_OK) {
-        return status;
+    rkyv_status status = check_map(set, HASH_SET, U32, UNIT);
+    if (status == RKYV_OK) {
+        contains_number *contains = contain_numbers[is_wide(set)];
+        status = (rkyv_status)contains(set->bytes, set->length, &set->header, item);
     }
-    contains_number *contains = contain_numbers[is_wide(set)];
-    return (rkyv_status)contains(set->bytes, set->length, &set->header, item);
+    return status;
+}
+
+rkyv_status rkyv_set_contains_long_number(const rkyv_map *set, uint64_t item) {
+    rkyv_status status = check_map(set, HASH_SET, U64, UNIT);
+    if (status == RKYV_OK) {
+        contains_long_number *contains = contain_long_numbers[is_wide(set)];
+        status = (rkyv_status)contains(set->bytes, set->length, &set->header, item);
+    }
+    return status;
 }
 
 rkyv_status rkyv_set_contains_text(const rkyv_map *set, const char *item, size_t length) {
-    rkyv_status status = check_map(set, is_text_set);
+    rkyv_status status = first(check_map(set, HASH_SET, TEXT, UNIT), check_bytes(item, length));
     if (status == RKYV_OK) {
-        status = check_bytes(item, length);
+        contains_text *contains = contain_texts[is_wide(set)];
+        status = (rkyv_status)contains(set->bytes, set->length, &set->header, bytes_of(item),
+                                       length);
     }
-    if (status != RKYV_OK) {
-        return status;
+    return status;
+}
+
+/* Stores what a lookup in an index map found. */
+static rkyv_status store_indexed(rkyv_status status, indexed found, size_t *index,
+                                 uint64_t *value) {
+    if (status == RKYV_OK && index != NULL) {
+        *index = found.index;
     }
-    contains_text *contains = contain_texts[is_wide(set)];
-    return (rkyv_status)contains(set->bytes, set->length, &set->header, bytes_of(item), length);
+    if (status == RKYV_OK && value != NULL) {
+        *value = found.value;
+    }
+    return status;
+}
+
+rkyv_status rkyv_index_get_number(const rkyv_index_map *map, uint32_t key, size_t *index,
+                                  uint64_t *value) {
+    indexed found = {0, 0};
+    const rkyv_map *of = map_of(map);
+    rkyv_status status = check_map(of, INDEX_MAP, U32, NUMBER);
+    if (status == RKYV_OK) {
+        status = (rkyv_status)rkyv_c_index_get_number(of->bytes, of->length,
+                                                      has_long_values(of->kind), is_wide(of),
+                                                      &of->header, key, &found);
+    }
+    return store_indexed(status, found, index, value);
+}
+
+rkyv_status rkyv_index_get_long_number(const rkyv_index_map *map, uint64_t key, size_t *index,
+                                       uint64_t *value) {
+    indexed found = {0, 0};
+    const rkyv_map *of = map_of(map);
+    rkyv_status status = check_map(of, INDEX_MAP, U64, NUMBER);
+    if (status == RKYV_OK) {
+        status = (rkyv_status)rkyv_c_index_get_long_number(of->bytes, of->length,
+                                                           has_long_values(of->kind), is_wide(of),
+                                                           &of->header, key, &found);
+    }
+    return store_indexed(status, found, index, value);
+}
+
+rkyv_status rkyv_index_get_text(const rkyv_index_map *map, const char *key, size_t length,
+                                size_t *index, uint64_t *value) {
+    indexed found = {0, 0};
+    const rkyv_map *of = map_of(map);
+    rkyv_status status = first(check_map(of, INDEX_MAP, TEXT, NUMBER), check_bytes(key, length));
+    if (status == RKYV_OK) {
+        status = (rkyv_status)rkyv_c_index_get_text(of->bytes, of->length,
+                                                    has_long_values(of->kind), is_wide(of),
+                                                    &of->header, bytes_of(key), length, &found);
+    }
+    return store_indexed(status, found, index, value);
+}
+
+/* Stores what a lookup in an index map to texts found. */
+static rkyv_status store_indexed_text(rkyv_status status, indexed_text found, size_t *index,
+                                      const char **value, size_t *value_length) {
+    if (status == RKYV_OK && index != NULL) {
+        *index = found.index;
+    }
+    if (status == RKYV_OK && value != NULL) {
+        *value = found.value.text;
+    }
+    if (status == RKYV_OK && value_length != NULL) {
+        *value_length = found.value.length;
+    }
+    return status;
+}
+
+rkyv_status rkyv_index_get_text_of_number(const rkyv_index_map *map, uint32_t key, size_t *index,
+                                          const char **value, size_t *value_length) {
+    indexed_text found = {0, {NO_TEXT, 0}};
+    const rkyv_map *of = map_of(map);
+    rkyv_status status = check_map(of, INDEX_MAP, U32, TEXT);
+    if (status == RKYV_OK) {
+        status = (rkyv_status)rkyv_c_index_get_text_of_number(of->bytes, of->length, is_wide(of),
+                                                              &of->header, key, &found);
+    }
+    return store_indexed_text(status, found, index, value, value_length);
+}
+
+rkyv_status rkyv_index_get_text_of_long_number(const rkyv_index_map *map, uint64_t key,
+                                               size_t *index, const char **value,
+                                               size_t *value_length) {
+    indexed_text found = {0, {NO_TEXT, 0}};
+    const rkyv_map *of = map_of(map);
+    rkyv_status status = check_map(of, INDEX_MAP, U64, TEXT);
+    if (status == RKYV_OK) {
+        status = (rkyv_status)rkyv_c_index_get_text_of_long_number(
+            of->bytes, of->length, is_wide(of), &of->header, key, &found);
+    }
+    return store_indexed_text(status, found, index, value, value_length);
+}
+
+rkyv_status rkyv_index_get_text_of_text(const rkyv_index_map *map, const char *key, size_t length,
+                                        size_t *index, const char **value, size_t *value_length) {
+    indexed_text found = {0, {NO_TEXT, 0}};
+    const rkyv_map *of = map_of(map);
+    rkyv_status status = first(check_map(of, INDEX_MAP, TEXT, TEXT), check_bytes(key, length));
+    if (status == RKYV_OK) {
+        status = (rkyv_status)rkyv_c_index_get_text_of_text(of->bytes, of->length, is_wide(of),
+                                                            &of->header, bytes_of(key), length,
+                                                            &found);
+    }
+    return store_indexed_text(status, found, index, value, value_length);
+}
+
+/* RKYV_OK if the values of an open map may be written. */
+static rkyv_status check_writable(const rkyv_map *map) {
+    return map != NULL && map->writable == NULL ? RKYV_READ_ONLY : RKYV_OK;
+}
+
+/* Writes the value of a number key in a map of the collection. */
+static rkyv_status write_number(const rkyv_map *map, uint8_t collection, set_number *set,
+                                uint32_t key, uint64_t value) {
+    rkyv_status status = first(check_map(map, collection, U32, NUMBER), check_writable(map));
+    if (status == RKYV_OK) {
+        status = (rkyv_status)set(map->writable, map->length, has_long_values(map->kind),
+                                  is_wide(map), key, value);
+    }
+    return status;
+}
+
+/* Writes the value of a number key of 64 bits in a map of the collection. */
+static rkyv_status write_long_number(const rkyv_map *map, uint8_t collection, set_long_number *set,
+                                     uint64_t key, uint64_t value) {
+    rkyv_status status = first(check_map(map, collection, U64, NUMBER), check_writable(map));
+    if (status == RKYV_OK) {
+        status = (rkyv_status)set(map->writable, map->length, has_long_values(map->kind),
+                                  is_wide(map), key, value);
+    }
+    return status;
+}
+
+/* Writes the value of a text key in a map of the collection. */
+static rkyv_status write_text(const rkyv_map *map, uint8_t collection, set_text *set,
+                              const char *key, size_t length, uint64_t value) {
+    rkyv_status status = first(check_map(map, collection, TEXT, NUMBER), check_bytes(key, length));
+    status = first(status, check_writable(map));
+    if (status == RKYV_OK) {
+        status = (rkyv_status)set(map->writable, map->length, has_long_values(map->kind),
+                                  is_wide(map), bytes_of(key), length, value);
+    }
+    return status;
 }
 
 rkyv_status rkyv_map_set_number(const rkyv_map *map, uint32_t key, uint64_t value) {
-    rkyv_status status = check_map(map, is_of_numbers);
-    if (status != RKYV_OK) {
-        return status;
-    }
-    if (map->writable == NULL) {
-        return RKYV_READ_ONLY;
-    }
-    return (rkyv_status)rkyv_c_set_number(map->writable, map->length, has_long_values(map->kind),
-                                          is_wide(map), key, value);
+    return write_number(map, HASH_MAP, rkyv_c_set_number, key, value);
 }
 
 rkyv_status rkyv_map_set_long_number(const rkyv_map *map, uint64_t key, uint64_t value) {
-    rkyv_status status = check_map(map, is_of_long_numbers);
-    if (status != RKYV_OK) {
-        return status;
-    }
-    if (map->writable == NULL) {
-        return RKYV_READ_ONLY;
-    }
-    return (rkyv_status)rkyv_c_set_long_number(map->writable, map->length,
-                                               has_long_values(map->kind), is_wide(map), key,
-                                               value);
+    return write_long_number(map, HASH_MAP, rkyv_c_set_long_number, key, value);
 }
 
 rkyv_status rkyv_map_set_text(const rkyv_map *map, const char *key, size_t length,
                               uint64_t value) {
-    rkyv_status status = check_map(map, is_of_texts);
+    return write_text(map, HASH_MAP, rkyv_c_set_text, key, length, value);
+}
+
+rkyv_status rkyv_index_set_number(const rkyv_index_map *map, uint32_t key, uint64_t value) {
+    return write_number(map_of(map), INDEX_MAP, rkyv_c_index_set_number, key, value);
+}
+
+rkyv_status rkyv_index_set_long_number(const rkyv_index_map *map, uint64_t key, uint64_t value) {
+    return write_long_number(map_of(map), INDEX_MAP, rkyv_c_index_set_long_number, key, value);
+}
+
+rkyv_status rkyv_index_set_text(const rkyv_index_map *map, const char *key, size_t length,
+                                uint64_t value) {
+    return write_text(map_of(map), INDEX_MAP, rkyv_c_index_set_text, key, length, value);
+}
+
+/* Stores the pairs of an open map from a bucket or an index on, at most `room`, and returns their
+ * number. */
+static size_t pairs_from(const rkyv_map *map, uint64_t from, void *pairs, size_t room) {
+    const contents *of = &kinds[map->kind];
+    const bool longer = has_long_values(map->kind), wide = is_wide(map);
+    const bool index = of->collection == INDEX_MAP;
+    if (of->numbers != NULL && index) {
+        return of->numbers->from(map->bytes, map->length, longer, wide, &map->header, (size_t)from,
+                                 pairs, room);
+    }
+    if (of->numbers != NULL) {
+        return of->numbers->next(map->bytes, map->length, longer, wide, &map->header, from, pairs,
+                                 room);
+    }
+    if (index) {
+        return of->others->from(map->bytes, map->length, wide, &map->header, (size_t)from, pairs,
+                                room);
+    }
+    return of->others->next(map->bytes, map->length, wide, &map->header, from, pairs, room);
+}
+
+/* Stores the pair of a map at a bucket or an index over the `size` bytes at `pair`, unless the status
+ * is an error. The library stores it over those at `found`, whose texts are not null. */
+static rkyv_status store_pair(rkyv_status status, const rkyv_map *map, uint64_t from, void *pair,
+                              void *found, size_t size) {
+    status = first(status, check_output(pair));
+    if (status == RKYV_OK && pairs_from(map, from, found, 1) == 0) {
+        status = RKYV_END;
+    }
     if (status == RKYV_OK) {
-        status = check_bytes(key, length);
-    }
-    if (status != RKYV_OK) {
-        return status;
-    }
-    if (map->writable == NULL) {
-        return RKYV_READ_ONLY;
-    }
-    return (rkyv_status)rkyv_c_set_text(map->writable, map->length, has_long_values(map->kind),
-                                        is_wide(map), bytes_of(key), length, value);
-}
-
-rkyv_status rkyv_map_next_number(const rkyv_map *map, rkyv_number_pair *pair) {
-    rkyv_status status = check_map(map, is_of_numbers);
-    if (status != RKYV_OK) {
-        return status;
-    }
-    if (pair == NULL) {
-        return RKYV_NULL;
-    }
-    return (rkyv_status)rkyv_c_next_number(map->bytes, map->length, has_long_values(map->kind),
-                                           is_wide(map), &map->header, pair);
-}
-
-rkyv_status rkyv_map_next_long_number(const rkyv_map *map, rkyv_long_number_pair *pair) {
-    rkyv_status status = check_map(map, is_of_long_numbers);
-    if (status != RKYV_OK) {
-        return status;
-    }
-    if (pair == NULL) {
-        return RKYV_NULL;
-    }
-    return (rkyv_status)rkyv_c_next_long_number(map->bytes, map->length,
-                                                has_long_values(map->kind), is_wide(map),
-                                                &map->header, pair);
-}
-
-rkyv_status rkyv_map_next_text(const rkyv_map *map, rkyv_text_pair *pair) {
-    rkyv_status status = check_map(map, is_of_texts);
-    if (status != RKYV_OK) {
-        return status;
-    }
-    if (pair == NULL) {
-        return RKYV_NULL;
-    }
-    /* The key of the caller's pair may be null, but not that of the library's. */
-    rkyv_text_pair next = {pair->next, 0, (const char *)nothing, 0};
-    status = (rkyv_status)rkyv_c_next_text(map->bytes, map->length, has_long_values(map->kind),
-                                           is_wide(map), &map->header, &next);
-    if (status == RKYV_OK) {
-        *pair = next;
+        memcpy(pair, found, size);
     }
     return status;
 }
 
-/* RKYV_OK if `room` pairs of `size` bytes each may be stored at `pairs`, and a number at `count`. */
-static rkyv_status check_pairs(const void *pairs, size_t room, size_t size, const size_t *count) {
-    if (count == NULL || (pairs == NULL && room != 0)) {
-        return RKYV_NULL;
+/* Stores the pairs of a map from a bucket or an index on, each of `size` bytes, and their number,
+ * unless the status is an error. `none` is a pair whose texts are not null. */
+static rkyv_status store_pairs(rkyv_status status, const rkyv_map *map, uint64_t from, void *pairs,
+                               const void *none, size_t size, size_t room, size_t *count) {
+    uint64_t nowhere[1] = {0};
+    if (status == RKYV_OK && (count == NULL || (pairs == NULL && room != 0))) {
+        status = RKYV_NULL;
     }
-    return room <= PTRDIFF_MAX / size ? RKYV_OK : RKYV_TOO_LONG;
-}
-
-rkyv_status rkyv_map_next_numbers(const rkyv_map *map, uint64_t from, rkyv_number_pair *pairs,
-                                  size_t room, size_t *count) {
-    rkyv_number_pair none = {0, 0, 0};
-    rkyv_status status = check_map(map, is_of_numbers);
-    if (status == RKYV_OK) {
-        status = check_pairs(pairs, room, sizeof(rkyv_number_pair), count);
-    }
-    if (status == RKYV_OK) {
-        *count = rkyv_c_next_numbers(map->bytes, map->length, has_long_values(map->kind),
-                                     is_wide(map), &map->header, from,
-                                     pairs != NULL ? pairs : &none, room);
-    }
-    return status;
-}
-
-rkyv_status rkyv_map_next_long_numbers(const rkyv_map *map, uint64_t from,
-                                       rkyv_long_number_pair *pairs, size_t room, size_t *count) {
-    rkyv_long_number_pair none = {0, 0, 0};
-    rkyv_status status = check_map(map, is_of_long_numbers);
-    if (status == RKYV_OK) {
-        status = check_pairs(pairs, room, sizeof(rkyv_long_number_pair), count);
-    }
-    if (status == RKYV_OK) {
-        *count = rkyv_c_next_long_numbers(map->bytes, map->length, has_long_values(map->kind),
-                                          is_wide(map), &map->header, from,
-                                          pairs != NULL ? pairs : &none, room);
-    }
-    return status;
-}
-
-rkyv_status rkyv_map_next_texts(const rkyv_map *map, uint64_t from, rkyv_text_pair *pairs,
-                                size_t room, size_t *count) {
-    rkyv_text_pair none = {0, 0, (const char *)nothing, 0};
-    rkyv_status status = check_map(map, is_of_texts);
-    if (status == RKYV_OK) {
-        status = check_pairs(pairs, room, sizeof(rkyv_text_pair), count);
+    if (status == RKYV_OK && room > PTRDIFF_MAX / size) {
+        status = RKYV_TOO_LONG;
     }
     if (status != RKYV_OK) {
         return status;
     }
-    /* The keys of the caller's pairs may be null, but not those of the library's. */
-    for (size_t i = 0; i < room; i++) {
-        pairs[i] = none;
+    if (kinds[map->kind].key == TEXT || kinds[map->kind].value == TEXT) {
+        /* The texts of the caller's pairs may be null, but not those of the library's. */
+        for (size_t i = 0; i < room; i++) {
+            memcpy((uint8_t *)pairs + i * size, none, size);
+        }
     }
-    *count = rkyv_c_next_texts(map->bytes, map->length, has_long_values(map->kind), is_wide(map),
-                               &map->header, from, pairs != NULL ? pairs : &none, room);
+    *count = pairs_from(map, from, pairs != NULL ? pairs : nowhere, room);
     return RKYV_OK;
 }
 
-rkyv_status rkyv_map_next_number_text(const rkyv_map *map, rkyv_number_text_pair *pair) {
-    rkyv_status status = check_map(map, is_number_to_text);
-    if (status != RKYV_OK) {
-        return status;
+/* Defines the calls that iterate over a hash map or a set of a type: for one pair, and for several.
+ * The last argument is a pair whose texts are not null. */
+#define ITERATE(one, several, pair_type, collection, key, value, ...)                              \
+    rkyv_status one(const rkyv_map *map, pair_type *pair) {                                        \
+        pair_type next = __VA_ARGS__;                                                              \
+        return store_pair(check_map(map, collection, key, value), map,                             \
+                          pair != NULL ? pair->next : 0, pair, &next, sizeof next);                \
+    }                                                                                              \
+                                                                                                   \
+    rkyv_status several(const rkyv_map *map, uint64_t from, pair_type *pairs, size_t room,         \
+                        size_t *count) {                                                           \
+        static const pair_type none = __VA_ARGS__;                                                 \
+        return store_pairs(check_map(map, collection, key, value), map, from, pairs, &none,        \
+                           sizeof none, room, count);                                              \
     }
-    if (pair == NULL) {
-        return RKYV_NULL;
+
+ITERATE(rkyv_map_next_number, rkyv_map_next_numbers, rkyv_number_pair, HASH_MAP, U32, NUMBER,
+        {0, 0, 0})
+ITERATE(rkyv_map_next_long_number, rkyv_map_next_long_numbers, rkyv_long_number_pair, HASH_MAP, U64,
+        NUMBER, {0, 0, 0})
+ITERATE(rkyv_map_next_text, rkyv_map_next_texts, rkyv_text_pair, HASH_MAP, TEXT, NUMBER,
+        {0, 0, NO_TEXT, 0})
+ITERATE(rkyv_map_next_number_text, rkyv_map_next_number_texts, rkyv_number_text_pair, HASH_MAP, U32,
+        TEXT, {0, NO_TEXT, 0, 0})
+ITERATE(rkyv_map_next_long_number_text, rkyv_map_next_long_number_texts, rkyv_long_number_text_pair,
+        HASH_MAP, U64, TEXT, {0, NO_TEXT, 0, 0})
+ITERATE(rkyv_map_next_text_text, rkyv_map_next_text_texts, rkyv_text_text_pair, HASH_MAP, TEXT,
+        TEXT, {0, NO_TEXT, 0, NO_TEXT, 0})
+ITERATE(rkyv_set_next_number, rkyv_set_next_numbers, rkyv_number_member, HASH_SET, U32, UNIT,
+        {0, 0})
+ITERATE(rkyv_set_next_long_number, rkyv_set_next_long_numbers, rkyv_long_number_member, HASH_SET,
+        U64, UNIT, {0, 0})
+ITERATE(rkyv_set_next_text, rkyv_set_next_texts, rkyv_text_member, HASH_SET, TEXT, UNIT,
+        {0, NO_TEXT, 0})
+
+/* Defines the calls that read an index map of a type by index: one pair, and several. The last
+ * argument is a pair whose texts are not null. */
+#define READ(one, several, pair_type, key, value, ...)                                             \
+    rkyv_status one(const rkyv_index_map *map, size_t index, pair_type *pair) {                    \
+        pair_type found = __VA_ARGS__;                                                             \
+        return store_pair(check_map(map_of(map), INDEX_MAP, key, value), map_of(map), index, pair, \
+                          &found, sizeof found);                                                   \
+    }                                                                                              \
+                                                                                                   \
+    rkyv_status several(const rkyv_index_map *map, size_t from, pair_type *pairs, size_t room,     \
+                        size_t *count) {                                                           \
+        static const pair_type none = __VA_ARGS__;                                                 \
+        return store_pairs(check_map(map_of(map), INDEX_MAP, key, value), map_of(map), from,       \
+                           pairs, &none, sizeof none, room, count);                                \
     }
-    /* The value of the caller's pair may be null, but not that of the library's. */
-    rkyv_number_text_pair next = {pair->next, (const char *)nothing, 0, 0};
-    status = (rkyv_status)rkyv_c_next_number_text(map->bytes, map->length, is_wide(map),
-                                                  &map->header, &next);
+
+READ(rkyv_index_number_at, rkyv_index_numbers_from, rkyv_index_number_pair, U32, NUMBER, {0, 0})
+READ(rkyv_index_long_number_at, rkyv_index_long_numbers_from, rkyv_index_long_number_pair, U64,
+     NUMBER, {0, 0})
+READ(rkyv_index_text_at, rkyv_index_texts_from, rkyv_index_text_pair, TEXT, NUMBER,
+     {0, NO_TEXT, 0})
+READ(rkyv_index_number_text_at, rkyv_index_number_texts_from, rkyv_index_number_text_pair, U32,
+     TEXT, {NO_TEXT, 0, 0})
+READ(rkyv_index_long_number_text_at, rkyv_index_long_number_texts_from,
+     rkyv_index_long_number_text_pair, U64, TEXT, {NO_TEXT, 0, 0})
+READ(rkyv_index_text_text_at, rkyv_index_text_texts_from, rkyv_index_text_text_pair, TEXT, TEXT,
+     {NO_TEXT, 0, NO_TEXT, 0})
+
+/* Builds the archive of the map of the kind. `items` may be null if there are none. */
+static rkyv_status build_archive(const void *items, size_t count, uint32_t kind, uint32_t width,
+                                 built *made) {
+    static const uint64_t no_items[1] = {0};
+    const contents *of = &kinds[kind];
+    const void *some = items != NULL ? items : no_items;
+    return (rkyv_status)(
+        of->numbers != NULL
+            ? of->numbers->build(some, count, has_long_values(kind), width == 64, made)
+            : of->others->build(some, count, width == 64, made));
+}
+
+/* Stores what was built. */
+static rkyv_status hand_out(rkyv_status status, built made, uint8_t **bytes, size_t *length) {
     if (status == RKYV_OK) {
-        *pair = next;
+        *bytes = made.bytes;
+        *length = made.length;
     }
     return status;
 }
 
-rkyv_status rkyv_map_next_text_text(const rkyv_map *map, rkyv_text_text_pair *pair) {
-    rkyv_status status = check_map(map, is_text_to_text);
-    if (status != RKYV_OK) {
-        return status;
-    }
-    if (pair == NULL) {
-        return RKYV_NULL;
-    }
-    /* The texts of the caller's pair may be null, but not those of the library's. */
-    rkyv_text_text_pair next = {pair->next, (const char *)nothing, 0, (const char *)nothing, 0};
-    status = (rkyv_status)rkyv_c_next_text_text(map->bytes, map->length, is_wide(map),
-                                                &map->header, &next);
-    if (status == RKYV_OK) {
-        *pair = next;
+/* The types of the items that a call takes, their size, and the position and the number of the texts
+ * in each, which are one behind the other. */
+typedef struct layout {
+    uint8_t key;
+    uint8_t value;
+    size_t size;
+    size_t position;
+    size_t texts;
+} layout;
+
+/* RKYV_OK if each of the items has texts that are not null and may be there. */
+static rkyv_status check_texts(const void *items, size_t count, layout of) {
+    rkyv_status status = RKYV_OK;
+    for (size_t i = 0; i < count; i++) {
+        const uint8_t *at = (const uint8_t *)items + i * of.size + of.position;
+        for (size_t k = 0; status == RKYV_OK && k < of.texts; k++) {
+            text one;
+            memcpy(&one, at + k * sizeof one, sizeof one);
+            status = one.text != NULL ? check_bytes(one.text, one.length) : RKYV_NULL;
+        }
     }
     return status;
 }
 
-rkyv_status rkyv_map_next_number_texts(const rkyv_map *map, uint64_t from,
-                                       rkyv_number_text_pair *pairs, size_t room, size_t *count) {
-    rkyv_number_text_pair none = {0, (const char *)nothing, 0, 0};
-    rkyv_status status = check_map(map, is_number_to_text);
-    if (status == RKYV_OK) {
-        status = check_pairs(pairs, room, sizeof(rkyv_number_text_pair), count);
+/* Builds the archive of the `count` items of a layout. */
+static rkyv_status build(const void *items, size_t count, layout of, uint32_t kind, uint32_t width,
+                         uint8_t **bytes, size_t *length) {
+    uint8_t none[1];
+    built made = {none, 0};
+    rkyv_status status = check_types(kind, width);
+    if (status == RKYV_OK && !has_types(kind, of.key, of.value)) {
+        status = RKYV_WRONG_KIND;
     }
-    if (status != RKYV_OK) {
-        return status;
+    if (status == RKYV_OK && (bytes == NULL || length == NULL || (items == NULL && count != 0))) {
+        status = RKYV_NULL;
     }
-    /* The values of the caller's pairs may be null, but not those of the library's. */
-    for (size_t i = 0; i < room; i++) {
-        pairs[i] = none;
-    }
-    *count = rkyv_c_next_number_texts(map->bytes, map->length, is_wide(map), &map->header, from,
-                                      pairs != NULL ? pairs : &none, room);
-    return RKYV_OK;
-}
-
-rkyv_status rkyv_map_next_text_texts(const rkyv_map *map, uint64_t from,
-                                     rkyv_text_text_pair *pairs, size_t room, size_t *count) {
-    rkyv_text_text_pair none = {0, (const char *)nothing, 0, (const char *)nothing, 0};
-    rkyv_status status = check_map(map, is_text_to_text);
-    if (status == RKYV_OK) {
-        status = check_pairs(pairs, room, sizeof(rkyv_text_text_pair), count);
-    }
-    if (status != RKYV_OK) {
-        return status;
-    }
-    /* The texts of the caller's pairs may be null, but not those of the library's. */
-    for (size_t i = 0; i < room; i++) {
-        pairs[i] = none;
-    }
-    *count = rkyv_c_next_text_texts(map->bytes, map->length, is_wide(map), &map->header, from,
-                                    pairs != NULL ? pairs : &none, room);
-    return RKYV_OK;
-}
-
-rkyv_status rkyv_set_next_number(const rkyv_map *set, rkyv_number_member *member) {
-    rkyv_status status = check_map(set, is_number_set);
-    if (status != RKYV_OK) {
-        return status;
-    }
-    if (member == NULL) {
-        return RKYV_NULL;
-    }
-    return (rkyv_status)rkyv_c_next_number_member(set->bytes, set->length, is_wide(set),
-                                                  &set->header, member);
-}
-
-rkyv_status rkyv_set_next_text(const rkyv_map *set, rkyv_text_member *member) {
-    rkyv_status status = check_map(set, is_text_set);
-    if (status != RKYV_OK) {
-        return status;
-    }
-    if (member == NULL) {
-        return RKYV_NULL;
-    }
-    /* The item of the caller's member may be null, but not that of the library's. */
-    rkyv_text_member next = {member->next, (const char *)nothing, 0};
-    status = (rkyv_status)rkyv_c_next_text_member(set->bytes, set->length, is_wide(set),
-                                                  &set->header, &next);
-    if (status == RKYV_OK) {
-        *member = next;
-    }
-    return status;
-}
-
-rkyv_status rkyv_set_next_numbers(const rkyv_map *set, uint64_t from, rkyv_number_member *members,
-                                  size_t room, size_t *count) {
-    rkyv_number_member none = {0, 0};
-    rkyv_status status = check_map(set, is_number_set);
-    if (status == RKYV_OK) {
-        status = check_pairs(members, room, sizeof(rkyv_number_member), count);
+    if (status == RKYV_OK && count > PTRDIFF_MAX / of.size) {
+        status = RKYV_TOO_LONG;
     }
     if (status == RKYV_OK) {
-        *count = rkyv_c_next_number_members(set->bytes, set->length, is_wide(set), &set->header,
-                                            from, members != NULL ? members : &none, room);
+        status = check_texts(items, count, of);
     }
-    return status;
-}
-
-rkyv_status rkyv_set_next_texts(const rkyv_map *set, uint64_t from, rkyv_text_member *members,
-                                size_t room, size_t *count) {
-    rkyv_text_member none = {0, (const char *)nothing, 0};
-    rkyv_status status = check_map(set, is_text_set);
     if (status == RKYV_OK) {
-        status = check_pairs(members, room, sizeof(rkyv_text_member), count);
+        status = build_archive(items, count, kind, width, &made);
     }
-    if (status != RKYV_OK) {
-        return status;
-    }
-    /* The items of the caller's members may be null, but not those of the library's. */
-    for (size_t i = 0; i < room; i++) {
-        members[i] = none;
-    }
-    *count = rkyv_c_next_text_members(set->bytes, set->length, is_wide(set), &set->header, from,
-                                      members != NULL ? members : &none, room);
-    return RKYV_OK;
+    return hand_out(status, made, bytes, length);
 }
 
-/* The pairs, an array of `rkyv_number_item` or `rkyv_text_item`, and the concatenated bytes of the text keys.
- * The arrays move when they grow. So a `rkyv_text_item` gets the address of its key when an archive is
- * built. */
+rkyv_status rkyv_build_numbers(const rkyv_number_item *items, size_t count, uint32_t kind,
+                               uint32_t width, uint8_t **bytes, size_t *length) {
+    const layout of = {U32, NUMBER, sizeof *items, 0, 0};
+    return build(items, count, of, kind, width, bytes, length);
+}
+
+rkyv_status rkyv_build_long_numbers(const rkyv_long_number_item *items, size_t count, uint32_t kind,
+                                    uint32_t width, uint8_t **bytes, size_t *length) {
+    const layout of = {U64, NUMBER, sizeof *items, 0, 0};
+    return build(items, count, of, kind, width, bytes, length);
+}
+
+rkyv_status rkyv_build_texts(const rkyv_text_item *items, size_t count, uint32_t kind,
+                             uint32_t width, uint8_t **bytes, size_t *length) {
+    const layout of = {TEXT, NUMBER, sizeof *items, offsetof(rkyv_text_item, key), 1};
+    return build(items, count, of, kind, width, bytes, length);
+}
+
+rkyv_status rkyv_build_number_texts(const rkyv_number_text_item *items, size_t count,
+                                    uint32_t kind, uint32_t width, uint8_t **bytes,
+                                    size_t *length) {
+    const layout of = {U32, TEXT, sizeof *items, offsetof(rkyv_number_text_item, value), 1};
+    return build(items, count, of, kind, width, bytes, length);
+}
+
+rkyv_status rkyv_build_long_number_texts(const rkyv_long_number_text_item *items, size_t count,
+                                         uint32_t kind, uint32_t width, uint8_t **bytes,
+                                         size_t *length) {
+    const layout of = {U64, TEXT, sizeof *items, offsetof(rkyv_long_number_text_item, value), 1};
+    return build(items, count, of, kind, width, bytes, length);
+}
+
+rkyv_status rkyv_build_text_texts(const rkyv_text_text_item *items, size_t count, uint32_t kind,
+                                  uint32_t width, uint8_t **bytes, size_t *length) {
+    const layout of = {TEXT, TEXT, sizeof *items, offsetof(rkyv_text_text_item, value), 2};
+    return build(items, count, of, kind, width, bytes, length);
+}
+
+rkyv_status rkyv_build_number_set(const uint32_t *items, size_t count, uint32_t width,
+                                  uint8_t **bytes, size_t *length) {
+    const layout of = {U32, UNIT, sizeof *items, 0, 0};
+    return build(items, count, of, RKYV_SET_OF_NUMBERS, width, bytes, length);
+}
+
+rkyv_status rkyv_build_long_number_set(const uint64_t *items, size_t count, uint32_t width,
+                                       uint8_t **bytes, size_t *length) {
+    const layout of = {U64, UNIT, sizeof *items, 0, 0};
+    return build(items, count, of, RKYV_SET_OF_LONG_NUMBERS, width, bytes, length);
+}
+
+rkyv_status rkyv_build_text_set(const rkyv_set_text *items, size_t count, uint32_t width,
+                                uint8_t **bytes, size_t *length) {
+    const layout of = {TEXT, UNIT, sizeof *items, offsetof(rkyv_set_text, text), 1};
+    return build(items, count, of, RKYV_SET_OF_TEXTS, width, bytes, length);
+}
+
+/* The pairs, an array of items with keys of the kind, as `rkyv_text_item`, and the concatenated bytes
+ * of the text keys. The arrays move when they grow. So a `rkyv_text_item` gets the address of its key
+ * when an archive is built. */
 struct rkyv_builder {
     void *items;
     size_t count;
@@ -1069,7 +1239,7 @@ rkyv_status rkyv_builder_new(uint32_t kind, uint32_t width, rkyv_builder **build
     if (status != RKYV_OK) {
         return status;
     }
-    if (!is_of_numbers(kind) && !is_of_texts(kind)) {
+    if (kinds[kind].numbers == NULL) {
         return RKYV_WRONG_KIND;
     }
     struct rattle_block made = rattle_alloc(sizeof(rkyv_builder), 8);
@@ -1081,36 +1251,44 @@ rkyv_status rkyv_builder_new(uint32_t kind, uint32_t width, rkyv_builder **build
     return RKYV_OK;
 }
 
-/* RKYV_OK if the builder has keys of the kind and the value fits its values. */
-static rkyv_status check_pair(const rkyv_builder *builder, bool has_kind(uint32_t kind),
-                              uint64_t value) {
+/* RKYV_OK if the builder has keys of the type and the value fits its values. */
+static rkyv_status check_pair(const rkyv_builder *builder, uint8_t key, uint64_t value) {
     if (builder == NULL) {
         return RKYV_NULL;
     }
-    if (!has_kind(builder->kind)) {
+    if (kinds[builder->kind].key != key) {
         return RKYV_WRONG_KIND;
     }
     return has_long_values(builder->kind) || value <= UINT32_MAX ? RKYV_OK : RKYV_VALUE_TOO_LARGE;
 }
 
-rkyv_status rkyv_builder_put_number(rkyv_builder *builder, uint32_t key, uint64_t value) {
-    rkyv_status status = check_pair(builder, is_of_numbers, value);
+/* Appends an item of `size` bytes, unless the status is an error. */
+static rkyv_status put_item(rkyv_status status, rkyv_builder *builder, const void *item,
+                            size_t size) {
     if (status == RKYV_OK) {
-        status = grow(&builder->items, &builder->room, builder->count, 1, sizeof(rkyv_number_item));
+        status = grow(&builder->items, &builder->room, builder->count, 1, size);
     }
     if (status == RKYV_OK) {
-        const rkyv_number_item item = {value, key};
-        ((rkyv_number_item *)builder->items)[builder->count++] = item;
+        memcpy((uint8_t *)builder->items + builder->count * size, item, size);
+        builder->count++;
     }
     return status;
 }
 
+rkyv_status rkyv_builder_put_number(rkyv_builder *builder, uint32_t key, uint64_t value) {
+    const rkyv_number_item item = {value, key};
+    return put_item(check_pair(builder, U32, value), builder, &item, sizeof item);
+}
+
+rkyv_status rkyv_builder_put_long_number(rkyv_builder *builder, uint64_t key, uint64_t value) {
+    const rkyv_long_number_item item = {value, key};
+    return put_item(check_pair(builder, U64, value), builder, &item, sizeof item);
+}
+
 rkyv_status rkyv_builder_put_text(rkyv_builder *builder, const char *key, size_t length,
                                   uint64_t value) {
-    rkyv_status status = check_pair(builder, is_of_texts, value);
-    if (status == RKYV_OK) {
-        status = check_bytes(key, length);
-    }
+    const rkyv_text_item item = {value, NULL, length};
+    rkyv_status status = first(check_pair(builder, TEXT, value), check_bytes(key, length));
     if (status == RKYV_OK && !rkyv_c_is_text(bytes_of(key), length)) {
         status = RKYV_NOT_TEXT;
     }
@@ -1119,64 +1297,22 @@ rkyv_status rkyv_builder_put_text(rkyv_builder *builder, const char *key, size_t
         status = grow(&keys, &builder->keys_room, builder->keys_length, length, 1);
         builder->keys = (uint8_t *)keys;
     }
-    if (status == RKYV_OK) {
-        status = grow(&builder->items, &builder->room, builder->count, 1, sizeof(rkyv_text_item));
-    }
-    if (status == RKYV_OK) {
-        const rkyv_text_item item = {NULL, length, value};
-        if (length != 0) {
-            memcpy(builder->keys + builder->keys_length, key, length);
-        }
+    status = put_item(status, builder, &item, sizeof item);
+    if (status == RKYV_OK && length != 0) {
+        memcpy(builder->keys + builder->keys_length, key, length);
         builder->keys_length += length;
-        ((rkyv_text_item *)builder->items)[builder->count++] = item;
     }
     return status;
 }
 
-/* Builds the map of the kind. `items` may be null if there are none. */
-static rkyv_status built_of_numbers(const rkyv_number_item *items, size_t count, uint32_t kind,
-                                    uint32_t width, built *made) {
-    static const rkyv_number_item none[1] = {{0, 0}};
-    const rkyv_number_item *some = items != NULL ? items : none;
-    return (rkyv_status)(
-        is_index(kind)
-            ? rkyv_c_index_build_numbers(some, count, has_long_values(kind), width == 64, made)
-            : rkyv_c_build_numbers(some, count, has_long_values(kind), width == 64, made));
-}
-
-/* Builds the map of the kind. `items` may be null if there are none. */
-static rkyv_status built_of_texts(const rkyv_text_item *items, size_t count, uint32_t kind,
-                                  uint32_t width, built *made) {
-    static const rkyv_text_item none[1] = {{(const char *)nothing, 0, 0}};
-    const rkyv_text_item *some = items != NULL ? items : none;
-    return (rkyv_status)(
-        is_index(kind)
-            ? rkyv_c_index_build_texts(some, count, has_long_values(kind), width == 64, made)
-            : rkyv_c_build_texts(some, count, has_long_values(kind), width == 64, made));
-}
-
-static rkyv_status build_numbers(const rkyv_builder *builder, built *made) {
-    const rkyv_number_item *items = (const rkyv_number_item *)builder->items;
-    return built_of_numbers(items, builder->count, builder->kind, builder->width, made);
-}
-
-static rkyv_status build_texts(rkyv_builder *builder, built *made) {
+/* Gives each item the address of its text key. */
+static void point_to_keys(rkyv_builder *builder) {
     rkyv_text_item *items = (rkyv_text_item *)builder->items;
-    const uint8_t *key = builder->keys != NULL ? builder->keys : nothing;
+    const uint8_t *key = bytes_of(builder->keys);
     for (size_t i = 0; i < builder->count; i++) {
         items[i].key = (const char *)key;
         key += items[i].key_length;
     }
-    return built_of_texts(items, builder->count, builder->kind, builder->width, made);
-}
-
-/* Stores what was built. */
-static rkyv_status hand_out(rkyv_status status, built made, uint8_t **bytes, size_t *length) {
-    if (status == RKYV_OK) {
-        *bytes = made.bytes;
-        *length = made.length;
-    }
-    return status;
 }
 
 rkyv_status rkyv_builder_finish(rkyv_builder *builder, uint8_t **bytes, size_t *length) {
@@ -1185,141 +1321,11 @@ rkyv_status rkyv_builder_finish(rkyv_builder *builder, uint8_t **bytes, size_t *
     if (builder == NULL || bytes == NULL || length == NULL) {
         return RKYV_NULL;
     }
-    rkyv_status status = is_of_texts(builder->kind) ? build_texts(builder, &made)
-                                                    : build_numbers(builder, &made);
-    return hand_out(status, made, bytes, length);
-}
-
-/* RKYV_OK if there is such a kind and such a width, and the arguments of a call that builds may be
- * `count` pairs of `size` bytes each at `items`, and places for the result. */
-static rkyv_status check_items(const void *items, size_t count, size_t size, uint32_t kind,
-                               bool is_such(uint32_t kind), uint32_t width, uint8_t **bytes,
-                               const size_t *length) {
-    rkyv_status status = check_types(kind, width);
-    if (status != RKYV_OK) {
-        return status;
+    if (kinds[builder->kind].key == TEXT) {
+        point_to_keys(builder);
     }
-    if (!is_such(kind)) {
-        return RKYV_WRONG_KIND;
-    }
-    if (bytes == NULL || length == NULL || (items == NULL && count != 0)) {
-        return RKYV_NULL;
-    }
-    return count <= PTRDIFF_MAX / size ? RKYV_OK : RKYV_TOO_LONG;
-}
-
-rkyv_status rkyv_build_numbers(const rkyv_number_item *items, size_t count, uint32_t kind,
-                               uint32_t width, uint8_t **bytes, size_t *length) {
-    uint8_t none[1];
-    built made = {none, 0};
-    rkyv_status status = check_items(items, count, sizeof(rkyv_number_item), kind, is_of_numbers,
-                                     width, bytes, length);
-    if (status == RKYV_OK) {
-        status = built_of_numbers(items, count, kind, width, &made);
-    }
-    return hand_out(status, made, bytes, length);
-}
-
-rkyv_status rkyv_build_long_numbers(const rkyv_long_number_item *items, size_t count, uint32_t kind,
-                                    uint32_t width, uint8_t **bytes, size_t *length) {
-    static const rkyv_long_number_item no_items[1] = {{0, 0}};
-    uint8_t none[1];
-    built made = {none, 0};
-    rkyv_status status = check_items(items, count, sizeof(rkyv_long_number_item), kind,
-                                     is_of_long_numbers, width, bytes, length);
-    if (status == RKYV_OK) {
-        status = (rkyv_status)rkyv_c_build_long_numbers(items != NULL ? items : no_items, count,
-                                                        has_long_values(kind), width == 64, &made);
-    }
-    return hand_out(status, made, bytes, length);
-}
-
-rkyv_status rkyv_build_texts(const rkyv_text_item *items, size_t count, uint32_t kind,
-                             uint32_t width, uint8_t **bytes, size_t *length) {
-    uint8_t none[1];
-    built made = {none, 0};
-    rkyv_status status = check_items(items, count, sizeof(rkyv_text_item), kind, is_of_texts,
-                                     width, bytes, length);
-    for (size_t i = 0; status == RKYV_OK && i < count; i++) {
-        status = items[i].key != NULL ? check_bytes(items[i].key, items[i].key_length) : RKYV_NULL;
-    }
-    if (status == RKYV_OK) {
-        status = built_of_texts(items, count, kind, width, &made);
-    }
-    return hand_out(status, made, bytes, length);
-}
-
-/* RKYV_OK if the bytes of a text that is to be archived may be at the address. */
-static rkyv_status check_text(const char *text, size_t length) {
-    return text != NULL ? check_bytes(text, length) : RKYV_NULL;
-}
-
-rkyv_status rkyv_build_number_texts(const rkyv_number_text_item *items, size_t count,
-                                    uint32_t width, uint8_t **bytes, size_t *length) {
-    static const rkyv_number_text_item no_items[1] = {{(const char *)nothing, 0, 0}};
-    uint8_t none[1];
-    built made = {none, 0};
-    rkyv_status status = check_items(items, count, sizeof(rkyv_number_text_item),
-                                     RKYV_NUMBER_TO_TEXT, is_number_to_text, width, bytes, length);
-    for (size_t i = 0; status == RKYV_OK && i < count; i++) {
-        status = check_text(items[i].value, items[i].value_length);
-    }
-    if (status == RKYV_OK) {
-        status = (rkyv_status)rkyv_c_build_numbers_to_texts(items != NULL ? items : no_items, count,
-                                                            width == 64, &made);
-    }
-    return hand_out(status, made, bytes, length);
-}
-
-rkyv_status rkyv_build_text_texts(const rkyv_text_text_item *items, size_t count, uint32_t width,
-                                  uint8_t **bytes, size_t *length) {
-    static const rkyv_text_text_item no_items[1] = {
-        {(const char *)nothing, 0, (const char *)nothing, 0}};
-    uint8_t none[1];
-    built made = {none, 0};
-    rkyv_status status = check_items(items, count, sizeof(rkyv_text_text_item), RKYV_TEXT_TO_TEXT,
-                                     is_text_to_text, width, bytes, length);
-    for (size_t i = 0; status == RKYV_OK && i < count; i++) {
-        status = check_text(items[i].key, items[i].key_length);
-        if (status == RKYV_OK) {
-            status = check_text(items[i].value, items[i].value_length);
-        }
-    }
-    if (status == RKYV_OK) {
-        status = (rkyv_status)rkyv_c_build_texts_to_texts(items != NULL ? items : no_items, count,
-                                                          width == 64, &made);
-    }
-    return hand_out(status, made, bytes, length);
-}
-
-rkyv_status rkyv_build_number_set(const uint32_t *items, size_t count, uint32_t width,
-                                  uint8_t **bytes, size_t *length) {
-    static const uint32_t no_items[1] = {0};
-    uint8_t none[1];
-    built made = {none, 0};
-    rkyv_status status = check_items(items, count, sizeof(uint32_t), RKYV_SET_OF_NUMBERS,
-                                     is_number_set, width, bytes, length);
-    if (status == RKYV_OK) {
-        status = (rkyv_status)rkyv_c_build_number_set(items != NULL ? items : no_items, count,
-                                                      width == 64, &made);
-    }
-    return hand_out(status, made, bytes, length);
-}
-
-rkyv_status rkyv_build_text_set(const rkyv_set_text *items, size_t count, uint32_t width,
-                                uint8_t **bytes, size_t *length) {
-    static const rkyv_set_text no_items[1] = {{(const char *)nothing, 0}};
-    uint8_t none[1];
-    built made = {none, 0};
-    rkyv_status status = check_items(items, count, sizeof(rkyv_set_text), RKYV_SET_OF_TEXTS,
-                                     is_text_set, width, bytes, length);
-    for (size_t i = 0; status == RKYV_OK && i < count; i++) {
-        status = check_text(items[i].text, items[i].length);
-    }
-    if (status == RKYV_OK) {
-        status = (rkyv_status)rkyv_c_build_text_set(items != NULL ? items : no_items, count,
-                                                    width == 64, &made);
-    }
+    rkyv_status status =
+        build_archive(builder->items, builder->count, builder->kind, builder->width, &made);
     return hand_out(status, made, bytes, length);
 }
 
@@ -1352,24 +1358,20 @@ rkyv_status rkyv_container_size(size_t length, size_t *size) {
 /* RKYV_OK if `length` bytes may be the archive of such a map at the address. */
 static rkyv_status check_archive(const void *archive, size_t length, uint32_t kind,
                                  uint32_t width) {
-    rkyv_status status = check_types(kind, width);
-    return status == RKYV_OK ? check_bytes(archive, length) : status;
+    return first(check_types(kind, width), check_bytes(archive, length));
 }
 
 static rkyv_status write_header(const uint8_t *archive, size_t length, uint32_t kind,
                                 uint32_t width, bool checksum, uint8_t *header) {
-    codes contents = codes_of(kind, width == 64);
-    return (rkyv_status)rkyv_c_write_header(archive, length, contents.kind, contents.key,
-                                            contents.value, contents.width, checksum, header,
+    const contents *of = &kinds[kind];
+    return (rkyv_status)rkyv_c_write_header(archive, length, of->collection, of->key, of->value,
+                                            width_code(width == 64), checksum, header,
                                             RKYV_CONTAINER_HEADER);
 }
 
 rkyv_status rkyv_container_header(const void *archive, size_t length, uint32_t kind,
                                   uint32_t width, bool checksum, uint8_t *header) {
-    rkyv_status status = check_archive(archive, length, kind, width);
-    if (status == RKYV_OK && header == NULL) {
-        status = RKYV_NULL;
-    }
+    rkyv_status status = first(check_archive(archive, length, kind, width), check_output(header));
     if (status == RKYV_OK) {
         status = write_header(bytes_of(archive), length, kind, width, checksum, header);
     }
@@ -1380,12 +1382,7 @@ rkyv_status rkyv_container_write(const void *archive, size_t length, uint32_t ki
                                  uint32_t width, bool checksum, void *container, size_t size) {
     size_t wanted = 0;
     rkyv_status status = check_archive(archive, length, kind, width);
-    if (status == RKYV_OK) {
-        status = rkyv_container_size(length, &wanted);
-    }
-    if (status == RKYV_OK && container == NULL) {
-        status = RKYV_NULL;
-    }
+    status = first(first(status, rkyv_container_size(length, &wanted)), check_output(container));
     if (status == RKYV_OK && size != wanted) {
         status = RKYV_WRONG_SIZE;
     }
@@ -1404,198 +1401,4 @@ rkyv_status rkyv_container_update(void *bytes, size_t length) {
         return status;
     }
     return (rkyv_status)rkyv_c_update_container(bytes != NULL ? (uint8_t *)bytes : none, length);
-}
-
-/* A handle of no open index map. */
-static const rkyv_index_map closed_index = {NULL, 0, 0, 0, 0};
-
-static rkyv_status open_index(const uint8_t *archive, size_t length, uint32_t kind, bool wide,
-                              rkyv_index_map *map) {
-    bool of_texts = is_of_texts(kind), long_values = has_long_values(kind);
-    rkyv_status status = (rkyv_status)(
-        of_texts ? rkyv_c_index_open_texts(archive, length, long_values, wide)
-                 : rkyv_c_index_open_numbers(archive, length, long_values, wide));
-    if (status == RKYV_OK) {
-        map->bytes = archive;
-        map->length = length;
-        map->kind = kind;
-        map->width = wide ? 64 : 32;
-        map->count = of_texts ? rkyv_c_index_count_texts(archive, length, long_values, wide)
-                              : rkyv_c_index_count_numbers(archive, length, long_values, wide);
-    }
-    return status;
-}
-
-rkyv_status rkyv_index_open(const void *bytes, size_t length, uint32_t kind, uint32_t width,
-                            rkyv_index_map *map) {
-    if (map == NULL) {
-        return RKYV_NULL;
-    }
-    *map = closed_index;
-    rkyv_status status = check_collection(kind, width, true);
-    if (status == RKYV_OK) {
-        status = check_bytes(bytes, length);
-    }
-    return status == RKYV_OK ? open_index(bytes_of(bytes), length, kind, width == 64, map) : status;
-}
-
-rkyv_status rkyv_index_open_container(const void *bytes, size_t length, uint32_t kind,
-                                      uint32_t width, rkyv_index_map *map) {
-    opened found = {nothing, 0};
-    bool wide = width == 64;
-    if (map == NULL) {
-        return RKYV_NULL;
-    }
-    *map = closed_index;
-    rkyv_status status = check_collection(kind, width != RKYV_ANY_WIDTH ? width : 32, true);
-    if (status == RKYV_OK) {
-        status = check_bytes(bytes, length);
-    }
-    if (status == RKYV_OK && width == RKYV_ANY_WIDTH) {
-        status = (rkyv_status)rkyv_c_container_width(bytes_of(bytes), length, &wide);
-    }
-    if (status == RKYV_OK) {
-        status = find_archive(bytes_of(bytes), length, kind, wide, &found);
-    }
-    return status == RKYV_OK ? open_index(found.bytes, found.length, kind, wide, map) : status;
-}
-
-/* RKYV_OK if the handle is of an open index map with such a kind. */
-static rkyv_status check_index(const rkyv_index_map *map, bool is_such(uint32_t kind)) {
-    if (map == NULL) {
-        return RKYV_NULL;
-    }
-    if (is_such(map->kind)) {
-        return RKYV_OK;
-    }
-    return is_index(map->kind) ? RKYV_WRONG_KIND : RKYV_CLOSED;
-}
-
-rkyv_status rkyv_index_width(const rkyv_index_map *map, uint32_t *width) {
-    rkyv_status status = check_index(map, is_index);
-    if (status != RKYV_OK) {
-        return status;
-    }
-    if (width == NULL) {
-        return RKYV_NULL;
-    }
-    *width = map->width;
-    return RKYV_OK;
-}
-
-rkyv_status rkyv_index_count(const rkyv_index_map *map, size_t *count) {
-    rkyv_status status = check_index(map, is_index);
-    if (status != RKYV_OK) {
-        return status;
-    }
-    if (count == NULL) {
-        return RKYV_NULL;
-    }
-    *count = map->count;
-    return RKYV_OK;
-}
-
-/* Stores what was found. */
-static rkyv_status store_indexed(rkyv_status status, indexed found, size_t *index,
-                                 uint64_t *value) {
-    if (status == RKYV_OK && index != NULL) {
-        *index = found.index;
-    }
-    if (status == RKYV_OK && value != NULL) {
-        *value = found.value;
-    }
-    return status;
-}
-
-rkyv_status rkyv_index_get_number(const rkyv_index_map *map, uint32_t key, size_t *index,
-                                  uint64_t *value) {
-    indexed found = {0, 0};
-    rkyv_status status = check_index(map, is_index_of_numbers);
-    if (status == RKYV_OK) {
-        status = (rkyv_status)rkyv_c_index_get_number(map->bytes, map->length,
-                                                      has_long_values(map->kind), map->width == 64,
-                                                      key, &found);
-    }
-    return store_indexed(status, found, index, value);
-}
-
-rkyv_status rkyv_index_get_text(const rkyv_index_map *map, const char *key, size_t length,
-                                size_t *index, uint64_t *value) {
-    indexed found = {0, 0};
-    rkyv_status status = check_index(map, is_index_of_texts);
-    if (status == RKYV_OK) {
-        status = check_bytes(key, length);
-    }
-    if (status == RKYV_OK) {
-        status = (rkyv_status)rkyv_c_index_get_text(map->bytes, map->length,
-                                                    has_long_values(map->kind), map->width == 64,
-                                                    bytes_of(key), length, &found);
-    }
-    return store_indexed(status, found, index, value);
-}
-
-rkyv_status rkyv_index_number_at(const rkyv_index_map *map, size_t index,
-                                 rkyv_index_number_pair *pair) {
-    rkyv_status status = check_index(map, is_index_of_numbers);
-    if (status != RKYV_OK) {
-        return status;
-    }
-    if (pair == NULL) {
-        return RKYV_NULL;
-    }
-    return (rkyv_status)rkyv_c_index_number_at(map->bytes, map->length, has_long_values(map->kind),
-                                               map->width == 64, index, pair);
-}
-
-rkyv_status rkyv_index_text_at(const rkyv_index_map *map, size_t index,
-                               rkyv_index_text_pair *pair) {
-    rkyv_status status = check_index(map, is_index_of_texts);
-    if (status != RKYV_OK) {
-        return status;
-    }
-    if (pair == NULL) {
-        return RKYV_NULL;
-    }
-    /* The key of the caller's pair may be null, but not that of the library's. */
-    rkyv_index_text_pair found = {0, (const char *)nothing, 0};
-    status = (rkyv_status)rkyv_c_index_text_at(map->bytes, map->length, has_long_values(map->kind),
-                                               map->width == 64, index, &found);
-    if (status == RKYV_OK) {
-        *pair = found;
-    }
-    return status;
-}
-
-rkyv_status rkyv_index_numbers_from(const rkyv_index_map *map, size_t from,
-                                    rkyv_index_number_pair *pairs, size_t room, size_t *count) {
-    rkyv_index_number_pair none = {0, 0};
-    rkyv_status status = check_index(map, is_index_of_numbers);
-    if (status == RKYV_OK) {
-        status = check_pairs(pairs, room, sizeof(rkyv_index_number_pair), count);
-    }
-    if (status == RKYV_OK) {
-        *count = rkyv_c_index_numbers_from(map->bytes, map->length, has_long_values(map->kind),
-                                           map->width == 64, from, pairs != NULL ? pairs : &none,
-                                           room);
-    }
-    return status;
-}
-
-rkyv_status rkyv_index_texts_from(const rkyv_index_map *map, size_t from,
-                                  rkyv_index_text_pair *pairs, size_t room, size_t *count) {
-    rkyv_index_text_pair none = {0, (const char *)nothing, 0};
-    rkyv_status status = check_index(map, is_index_of_texts);
-    if (status == RKYV_OK) {
-        status = check_pairs(pairs, room, sizeof(rkyv_index_text_pair), count);
-    }
-    if (status != RKYV_OK) {
-        return status;
-    }
-    /* The keys of the caller's pairs may be null, but not those of the library's. */
-    for (size_t i = 0; i < room; i++) {
-        pairs[i] = none;
-    }
-    *count = rkyv_c_index_texts_from(map->bytes, map->length, has_long_values(map->kind),
-                                     map->width == 64, from, pairs != NULL ? pairs : &none, room);
-    return RKYV_OK;
 }

@@ -11,8 +11,9 @@
  *
  * `rkyv_map_open` and `rkyv_map_open_container` validate untrusted bytes once and fill a handle.
  * The other calls of a map take the handle. `rkyv_index_open` and `rkyv_index_open_container` do
- * the same for index maps. A builder collects pairs and builds the archive of their map, of any
- * kind.
+ * the same for index maps. A builder collects pairs whose values are numbers, and builds the archive
+ * of their map. The calls named `rkyv_build_` build the archive of an array of pairs or of items, of
+ * any kind.
  *
  * A call returns RKYV_OK or the first of the errors listed at it. After an error its outputs are
  * unchanged, unless its comment says otherwise. The calls keep no state. Two threads may use two
@@ -23,11 +24,11 @@
  *   - A pointer that is not null points to the number of bytes that the length beside it gives, or
  *     to one value of its type, during the call. No other thread uses the memory that the call
  *     writes.
- *   - The bytes of a map stay at their address while a handle of it is in use. Only
- *     `rkyv_map_set_number` and `rkyv_map_set_text` change them.
+ *   - The bytes of a map stay at their address while a handle of it is in use. Only the calls that
+ *     write values in place change them, as `rkyv_map_set_number`.
  *   - A handle was filled by a call that opens a map, or is all zeros.
  *   - A builder is one of `rkyv_builder_new` that is not freed, used by one thread at a time.
- *   - The argument of `rkyv_bytes_free` is one of `rkyv_builder_finish` that is not freed.
+ *   - The argument of `rkyv_bytes_free` is null, or an archive that a call built and that is not freed.
  */
 #ifndef RKYV_H
 #define RKYV_H
@@ -162,7 +163,14 @@ typedef enum rkyv_kind {
     RKYV_SET_OF_NUMBERS = 11,
     RKYV_SET_OF_TEXTS = 12,
     RKYV_LONG_NUMBER_TO_U32 = 13,
-    RKYV_LONG_NUMBER_TO_U64 = 14
+    RKYV_LONG_NUMBER_TO_U64 = 14,
+    RKYV_SET_OF_LONG_NUMBERS = 15,
+    RKYV_LONG_NUMBER_TO_TEXT = 16,
+    RKYV_INDEX_LONG_NUMBER_TO_U32 = 17,
+    RKYV_INDEX_LONG_NUMBER_TO_U64 = 18,
+    RKYV_INDEX_NUMBER_TO_TEXT = 19,
+    RKYV_INDEX_TEXT_TO_TEXT = 20,
+    RKYV_INDEX_LONG_NUMBER_TO_TEXT = 21
 } rkyv_kind;
 
 /* The decoded header of a map's table. Its members are private. */
@@ -217,14 +225,22 @@ typedef struct rkyv_number_text_pair {
     uint32_t key;
 } rkyv_number_text_pair;
 
+/* A pair of a map of numbers of 64 bits to texts, as `rkyv_number_text_pair`. */
+typedef struct rkyv_long_number_text_pair {
+    uint64_t next;
+    const char *value;
+    size_t value_length;
+    uint64_t key;
+} rkyv_long_number_text_pair;
+
 /* A pair of a map of texts to texts, as `rkyv_number_text_pair`: the key is `key_length` bytes of the
  * archive. */
 typedef struct rkyv_text_text_pair {
     uint64_t next;
-    const char *key;
-    size_t key_length;
     const char *value;
     size_t value_length;
+    const char *key;
+    size_t key_length;
 } rkyv_text_text_pair;
 
 /* An item of a set of numbers. `next` is the bucket at which the iteration continues. */
@@ -232,6 +248,12 @@ typedef struct rkyv_number_member {
     uint64_t next;
     uint32_t item;
 } rkyv_number_member;
+
+/* An item of a set of numbers of 64 bits. `next` is the bucket at which the iteration continues. */
+typedef struct rkyv_long_number_member {
+    uint64_t next;
+    uint64_t item;
+} rkyv_long_number_member;
 
 /* An item of a set of texts. `next` is the bucket at which the iteration continues. The item is
  * `item_length` bytes of the archive. It is not terminated by a zero byte, and may contain one. */
@@ -385,6 +407,10 @@ rkyv_status rkyv_map_get_text(const rkyv_map *map, const char *key, size_t lengt
 rkyv_status rkyv_map_get_text_of_number(const rkyv_map *map, uint32_t key, const char **value,
                                         size_t *value_length);
 
+/* Stores the value of a number key of 64 bits, as `rkyv_map_get_text_of_number` does. */
+rkyv_status rkyv_map_get_text_of_long_number(const rkyv_map *map, uint64_t key, const char **value,
+                                             size_t *value_length);
+
 /* Stores the value of a text key of `length` bytes, as `rkyv_map_get_text_of_number` does. `key` may
  * be null if `length` is 0.
  *
@@ -405,6 +431,9 @@ rkyv_status rkyv_map_get_text_of_text(const rkyv_map *map, const char *key, size
  *   - RKYV_NULL: `set` is null;
  *   - RKYV_CLOSED, RKYV_WRONG_KIND, RKYV_NOT_FOUND. */
 rkyv_status rkyv_set_contains_number(const rkyv_map *set, uint32_t item);
+
+/* Looks up a number in a set of numbers of 64 bits, as `rkyv_set_contains_number` does. */
+rkyv_status rkyv_set_contains_long_number(const rkyv_map *set, uint64_t item);
 
 /* Looks up a text of `length` bytes in a set of texts, as `rkyv_set_contains_number` does. `item` may
  * be null if `length` is 0.
@@ -477,12 +506,20 @@ rkyv_status rkyv_map_next_texts(const rkyv_map *map, uint64_t from, rkyv_text_pa
 /* Stores the next pair of a map of numbers to texts, as `rkyv_map_next_number` does. */
 rkyv_status rkyv_map_next_number_text(const rkyv_map *map, rkyv_number_text_pair *pair);
 
+/* Stores the next pair of a map of numbers of 64 bits to texts, as `rkyv_map_next_number` does. */
+rkyv_status rkyv_map_next_long_number_text(const rkyv_map *map, rkyv_long_number_text_pair *pair);
+
 /* Stores the next pair of a map of texts to texts, as `rkyv_map_next_number` does. */
 rkyv_status rkyv_map_next_text_text(const rkyv_map *map, rkyv_text_text_pair *pair);
 
 /* Stores the next pairs of a map of numbers to texts, as `rkyv_map_next_numbers` does. */
 rkyv_status rkyv_map_next_number_texts(const rkyv_map *map, uint64_t from,
                                        rkyv_number_text_pair *pairs, size_t room, size_t *count);
+
+/* Stores the next pairs of a map of numbers of 64 bits to texts, as `rkyv_map_next_numbers` does. */
+rkyv_status rkyv_map_next_long_number_texts(const rkyv_map *map, uint64_t from,
+                                            rkyv_long_number_text_pair *pairs, size_t room,
+                                            size_t *count);
 
 /* Stores the next pairs of a map of texts to texts, as `rkyv_map_next_numbers` does. */
 rkyv_status rkyv_map_next_text_texts(const rkyv_map *map, uint64_t from,
@@ -491,6 +528,9 @@ rkyv_status rkyv_map_next_text_texts(const rkyv_map *map, uint64_t from,
 /* Stores the next item of a set of numbers, as `rkyv_map_next_number` does with pairs. */
 rkyv_status rkyv_set_next_number(const rkyv_map *set, rkyv_number_member *member);
 
+/* Stores the next item of a set of numbers of 64 bits, as `rkyv_map_next_number` does with pairs. */
+rkyv_status rkyv_set_next_long_number(const rkyv_map *set, rkyv_long_number_member *member);
+
 /* Stores the next item of a set of texts, as `rkyv_map_next_number` does with pairs. */
 rkyv_status rkyv_set_next_text(const rkyv_map *set, rkyv_text_member *member);
 
@@ -498,18 +538,18 @@ rkyv_status rkyv_set_next_text(const rkyv_map *set, rkyv_text_member *member);
 rkyv_status rkyv_set_next_numbers(const rkyv_map *set, uint64_t from, rkyv_number_member *members,
                                   size_t room, size_t *count);
 
+/* Stores the next items of a set of numbers of 64 bits, as `rkyv_map_next_numbers` does with pairs. */
+rkyv_status rkyv_set_next_long_numbers(const rkyv_map *set, uint64_t from,
+                                       rkyv_long_number_member *members, size_t room,
+                                       size_t *count);
+
 /* Stores the next items of a set of texts, as `rkyv_map_next_numbers` does with pairs. */
 rkyv_status rkyv_set_next_texts(const rkyv_map *set, uint64_t from, rkyv_text_member *members,
                                 size_t room, size_t *count);
 
-/* A handle of an open index map. Its members are private. It may be copied, and needs no
- * closing. */
+/* A handle of an open index map. Its members are private. It may be copied, and needs no closing. */
 typedef struct rkyv_index_map {
-    const uint8_t *bytes;
-    size_t length;
-    size_t count;
-    uint32_t kind;
-    uint32_t width;
+    rkyv_map map;
 } rkyv_index_map;
 
 /* A pair of an index map with number keys. */
@@ -518,6 +558,12 @@ typedef struct rkyv_index_number_pair {
     uint32_t key;
 } rkyv_index_number_pair;
 
+/* A pair of an index map with number keys of 64 bits. */
+typedef struct rkyv_index_long_number_pair {
+    uint64_t value;
+    uint64_t key;
+} rkyv_index_long_number_pair;
+
 /* A pair of an index map with text keys. The key is `key_length` bytes of the archive. It is not
  * terminated by a zero byte, and may contain one. */
 typedef struct rkyv_index_text_pair {
@@ -525,6 +571,30 @@ typedef struct rkyv_index_text_pair {
     const char *key;
     size_t key_length;
 } rkyv_index_text_pair;
+
+/* A pair of an index map of numbers to texts. The value is `value_length` bytes of the archive. It is
+ * not terminated by a zero byte, and may contain one. */
+typedef struct rkyv_index_number_text_pair {
+    const char *value;
+    size_t value_length;
+    uint32_t key;
+} rkyv_index_number_text_pair;
+
+/* A pair of an index map of numbers of 64 bits to texts, as `rkyv_index_number_text_pair`. */
+typedef struct rkyv_index_long_number_text_pair {
+    const char *value;
+    size_t value_length;
+    uint64_t key;
+} rkyv_index_long_number_text_pair;
+
+/* A pair of an index map of texts to texts, as `rkyv_index_number_text_pair`: the key is `key_length`
+ * bytes of the archive. */
+typedef struct rkyv_index_text_text_pair {
+    const char *value;
+    size_t value_length;
+    const char *key;
+    size_t key_length;
+} rkyv_index_text_text_pair;
 
 /* Validates the bytes and opens the index map whose archive they are, to read. `kind` is a
  * `rkyv_kind` of index maps, `width` is 32 or 64. `bytes` may be null if `length` is 0.
@@ -538,6 +608,10 @@ typedef struct rkyv_index_text_pair {
 rkyv_status rkyv_index_open(const void *bytes, size_t length, uint32_t kind, uint32_t width,
                             rkyv_index_map *map);
 
+/* Opens an index map as `rkyv_index_open` does, to read and to write values in place. */
+rkyv_status rkyv_index_open_writable(void *bytes, size_t length, uint32_t kind, uint32_t width,
+                                     rkyv_index_map *map);
+
 /* Opens the index map in a container, as `rkyv_map_open_container` does for hash maps.
  *
  * Errors, after which the handle is not of an open map:
@@ -549,6 +623,11 @@ rkyv_status rkyv_index_open(const void *bytes, size_t length, uint32_t kind, uin
  *   - the first error of validation: RKYV_OUT_OF_RANGE to RKYV_INVALID_VALUE. */
 rkyv_status rkyv_index_open_container(const void *bytes, size_t length, uint32_t kind,
                                       uint32_t width, rkyv_index_map *map);
+
+/* Opens the index map in a container as `rkyv_index_open_container` does, to read and to write values
+ * in place. A write does not change the checksum in the header: see `rkyv_container_update`. */
+rkyv_status rkyv_index_open_container_writable(void *bytes, size_t length, uint32_t kind,
+                                               uint32_t width, rkyv_index_map *map);
 
 /* Stores the width of the index map's archive: 32 or 64.
  *
@@ -575,6 +654,10 @@ rkyv_status rkyv_index_count(const rkyv_index_map *map, size_t *count);
 rkyv_status rkyv_index_get_number(const rkyv_index_map *map, uint32_t key, size_t *index,
                                   uint64_t *value);
 
+/* Stores the index of a number key of 64 bits and its value, as `rkyv_index_get_number` does. */
+rkyv_status rkyv_index_get_long_number(const rkyv_index_map *map, uint64_t key, size_t *index,
+                                       uint64_t *value);
+
 /* Stores the index of a text key of `length` bytes and its value, as `rkyv_index_get_number` does.
  * `key` may be null if `length` is 0.
  *
@@ -585,6 +668,54 @@ rkyv_status rkyv_index_get_number(const rkyv_index_map *map, uint32_t key, size_
  *   - RKYV_TOO_LONG, RKYV_NOT_TEXT, RKYV_NOT_FOUND. */
 rkyv_status rkyv_index_get_text(const rkyv_index_map *map, const char *key, size_t length,
                                 size_t *index, uint64_t *value);
+
+/* Stores the index of a number key and its value that is a text, as `rkyv_index_get_number` does: the
+ * address of the text's first byte and its number of bytes. They are bytes of the archive, as those of
+ * `rkyv_map_get_text_of_number`. An output that is null is not stored.
+ *
+ * Errors:
+ *   - RKYV_NULL: `map` is null;
+ *   - RKYV_CLOSED, RKYV_WRONG_KIND, RKYV_NOT_FOUND. */
+rkyv_status rkyv_index_get_text_of_number(const rkyv_index_map *map, uint32_t key, size_t *index,
+                                          const char **value, size_t *value_length);
+
+/* Stores the index of a number key of 64 bits and its value, as `rkyv_index_get_text_of_number`
+ * does. */
+rkyv_status rkyv_index_get_text_of_long_number(const rkyv_index_map *map, uint64_t key,
+                                               size_t *index, const char **value,
+                                               size_t *value_length);
+
+/* Stores the index of a text key of `length` bytes and its value, as `rkyv_index_get_text_of_number`
+ * does. `key` may be null if `length` is 0.
+ *
+ * Errors:
+ *   - RKYV_NULL: `map` is null;
+ *   - RKYV_CLOSED, RKYV_WRONG_KIND;
+ *   - RKYV_NULL: `key` is null;
+ *   - RKYV_TOO_LONG, RKYV_NOT_TEXT, RKYV_NOT_FOUND. */
+rkyv_status rkyv_index_get_text_of_text(const rkyv_index_map *map, const char *key, size_t length,
+                                        size_t *index, const char **value, size_t *value_length);
+
+/* Writes the value of a number key in place: the value that `rkyv_index_get_number` finds.
+ *
+ * Errors, after which no byte is changed:
+ *   - RKYV_NULL: `map` is null;
+ *   - RKYV_CLOSED, RKYV_WRONG_KIND, RKYV_READ_ONLY, RKYV_VALUE_TOO_LARGE, RKYV_NOT_FOUND. */
+rkyv_status rkyv_index_set_number(const rkyv_index_map *map, uint32_t key, uint64_t value);
+
+/* Writes the value of a number key of 64 bits in place, as `rkyv_index_set_number` does. */
+rkyv_status rkyv_index_set_long_number(const rkyv_index_map *map, uint64_t key, uint64_t value);
+
+/* Writes the value of a text key of `length` bytes in place: the value that `rkyv_index_get_text`
+ * finds. `key` may be null if `length` is 0.
+ *
+ * Errors, after which no byte is changed:
+ *   - RKYV_NULL: `map` is null;
+ *   - RKYV_CLOSED, RKYV_WRONG_KIND;
+ *   - RKYV_NULL: `key` is null;
+ *   - RKYV_TOO_LONG, RKYV_READ_ONLY, RKYV_NOT_TEXT, RKYV_VALUE_TOO_LARGE, RKYV_NOT_FOUND. */
+rkyv_status rkyv_index_set_text(const rkyv_index_map *map, const char *key, size_t length,
+                                uint64_t value);
 
 /* Stores the pair at an index of a map with number keys. Indices count from 0, in the order in
  * which the pairs were added.
@@ -597,9 +728,27 @@ rkyv_status rkyv_index_get_text(const rkyv_index_map *map, const char *key, size
 rkyv_status rkyv_index_number_at(const rkyv_index_map *map, size_t index,
                                  rkyv_index_number_pair *pair);
 
+/* Stores the pair at an index of a map with number keys of 64 bits, as `rkyv_index_number_at`
+ * does. */
+rkyv_status rkyv_index_long_number_at(const rkyv_index_map *map, size_t index,
+                                      rkyv_index_long_number_pair *pair);
+
 /* Stores the pair at an index of a map with text keys, as `rkyv_index_number_at` does. */
 rkyv_status rkyv_index_text_at(const rkyv_index_map *map, size_t index,
                                rkyv_index_text_pair *pair);
+
+/* Stores the pair at an index of a map of numbers to texts, as `rkyv_index_number_at` does. */
+rkyv_status rkyv_index_number_text_at(const rkyv_index_map *map, size_t index,
+                                      rkyv_index_number_text_pair *pair);
+
+/* Stores the pair at an index of a map of numbers of 64 bits to texts, as `rkyv_index_number_at`
+ * does. */
+rkyv_status rkyv_index_long_number_text_at(const rkyv_index_map *map, size_t index,
+                                           rkyv_index_long_number_text_pair *pair);
+
+/* Stores the pair at an index of a map of texts to texts, as `rkyv_index_number_at` does. */
+rkyv_status rkyv_index_text_text_at(const rkyv_index_map *map, size_t index,
+                                    rkyv_index_text_text_pair *pair);
 
 /* Stores the pairs from the index `from` on of a map with number keys, over the `room` pairs at
  * `pairs`, and their number in `count`: one call in the place of many. If fewer than `room` pairs
@@ -614,9 +763,32 @@ rkyv_status rkyv_index_text_at(const rkyv_index_map *map, size_t index,
 rkyv_status rkyv_index_numbers_from(const rkyv_index_map *map, size_t from,
                                     rkyv_index_number_pair *pairs, size_t room, size_t *count);
 
+/* Stores the pairs from an index on of a map with number keys of 64 bits, as
+ * `rkyv_index_numbers_from` does. */
+rkyv_status rkyv_index_long_numbers_from(const rkyv_index_map *map, size_t from,
+                                         rkyv_index_long_number_pair *pairs, size_t room,
+                                         size_t *count);
+
 /* Stores the pairs from an index on of a map with text keys, as `rkyv_index_numbers_from` does. */
 rkyv_status rkyv_index_texts_from(const rkyv_index_map *map, size_t from,
                                   rkyv_index_text_pair *pairs, size_t room, size_t *count);
+
+/* Stores the pairs from an index on of a map of numbers to texts, as `rkyv_index_numbers_from`
+ * does. */
+rkyv_status rkyv_index_number_texts_from(const rkyv_index_map *map, size_t from,
+                                         rkyv_index_number_text_pair *pairs, size_t room,
+                                         size_t *count);
+
+/* Stores the pairs from an index on of a map of numbers of 64 bits to texts, as
+ * `rkyv_index_numbers_from` does. */
+rkyv_status rkyv_index_long_number_texts_from(const rkyv_index_map *map, size_t from,
+                                              rkyv_index_long_number_text_pair *pairs, size_t room,
+                                              size_t *count);
+
+/* Stores the pairs from an index on of a map of texts to texts, as `rkyv_index_numbers_from` does. */
+rkyv_status rkyv_index_text_texts_from(const rkyv_index_map *map, size_t from,
+                                       rkyv_index_text_text_pair *pairs, size_t room,
+                                       size_t *count);
 
 /* The pairs of a map that is to be archived. */
 typedef struct rkyv_builder rkyv_builder;
@@ -636,6 +808,9 @@ rkyv_status rkyv_builder_new(uint32_t kind, uint32_t width, rkyv_builder **build
  *   - RKYV_NULL: `builder` is null;
  *   - RKYV_WRONG_KIND, RKYV_VALUE_TOO_LARGE, RKYV_NO_MEMORY. */
 rkyv_status rkyv_builder_put_number(rkyv_builder *builder, uint32_t key, uint64_t value);
+
+/* Appends a pair with a number key of 64 bits, as `rkyv_builder_put_number` does. */
+rkyv_status rkyv_builder_put_long_number(rkyv_builder *builder, uint64_t key, uint64_t value);
 
 /* Appends a pair with a text key of `length` bytes, which are copied. `key` may be null if `length`
  * is 0.
@@ -672,14 +847,14 @@ typedef struct rkyv_long_number_item {
 
 /* A pair with a text key of `key_length` bytes that is to be archived. `key` is not null. */
 typedef struct rkyv_text_item {
+    uint64_t value;
     const char *key;
     size_t key_length;
-    uint64_t value;
 } rkyv_text_item;
 
 /* Allocates the archive of the `count` pairs at `items`, as a builder of these pairs does, without a
- * copy of them. The caller frees it with `rkyv_bytes_free`. `kind` is a `rkyv_kind` of number keys,
- * `width` is 32 or 64. `items` may be null if `count` is 0.
+ * copy of them. The caller frees it with `rkyv_bytes_free`. `kind` is a `rkyv_kind` of number keys and
+ * of values that are numbers, `width` is 32 or 64. `items` may be null if `count` is 0.
  *
  * Errors:
  *   - RKYV_UNKNOWN_KIND, RKYV_UNKNOWN_WIDTH, RKYV_WRONG_KIND;
@@ -712,37 +887,53 @@ typedef struct rkyv_number_text_item {
     uint32_t key;
 } rkyv_number_text_item;
 
-/* A pair of two texts that is to be archived. `key` and `value` are not null. */
-typedef struct rkyv_text_text_item {
-    const char *key;
-    size_t key_length;
+/* A pair of a number of 64 bits and a text that is to be archived. `value` is not null. */
+typedef struct rkyv_long_number_text_item {
     const char *value;
     size_t value_length;
+    uint64_t key;
+} rkyv_long_number_text_item;
+
+/* A pair of two texts that is to be archived. `key` and `value` are not null. */
+typedef struct rkyv_text_text_item {
+    const char *value;
+    size_t value_length;
+    const char *key;
+    size_t key_length;
 } rkyv_text_text_item;
 
-/* Allocates the archive of a map of the kind RKYV_NUMBER_TO_TEXT: of the `count` pairs at `items`. If
- * two have the same key, lookups find the first one. The caller frees it with `rkyv_bytes_free`.
- * `width` is 32 or 64. `items` may be null if `count` is 0.
+/* Allocates the archive of a map of numbers to texts: of the `count` pairs at `items`. If two have the
+ * same key, lookups find the first one. The caller frees it with `rkyv_bytes_free`. `kind` is
+ * RKYV_NUMBER_TO_TEXT or RKYV_INDEX_NUMBER_TO_TEXT, `width` is 32 or 64. `items` may be null if `count`
+ * is 0.
  *
  * Errors:
- *   - RKYV_UNKNOWN_WIDTH;
+ *   - RKYV_UNKNOWN_KIND, RKYV_UNKNOWN_WIDTH, RKYV_WRONG_KIND;
  *   - RKYV_NULL: `bytes`, `length`, `items` or a value is null;
  *   - RKYV_TOO_LONG: the pairs have more than PTRDIFF_MAX bytes, or a value has;
  *   - the first error of building: RKYV_NOT_TEXT, RKYV_NO_MEMORY, or RKYV_CAPACITY_TOO_LARGE to
  *     RKYV_TEXT_TOO_LONG. */
 rkyv_status rkyv_build_number_texts(const rkyv_number_text_item *items, size_t count,
-                                    uint32_t width, uint8_t **bytes, size_t *length);
+                                    uint32_t kind, uint32_t width, uint8_t **bytes,
+                                    size_t *length);
 
-/* Allocates the archive of a map of the kind RKYV_TEXT_TO_TEXT, as `rkyv_build_number_texts` does.
+/* Allocates the archive of a map of numbers of 64 bits to texts, as `rkyv_build_number_texts` does.
+ * `kind` is RKYV_LONG_NUMBER_TO_TEXT or RKYV_INDEX_LONG_NUMBER_TO_TEXT. */
+rkyv_status rkyv_build_long_number_texts(const rkyv_long_number_text_item *items, size_t count,
+                                         uint32_t kind, uint32_t width, uint8_t **bytes,
+                                         size_t *length);
+
+/* Allocates the archive of a map of texts to texts, as `rkyv_build_number_texts` does. `kind` is
+ * RKYV_TEXT_TO_TEXT or RKYV_INDEX_TEXT_TO_TEXT.
  *
  * Errors:
- *   - RKYV_UNKNOWN_WIDTH;
+ *   - RKYV_UNKNOWN_KIND, RKYV_UNKNOWN_WIDTH, RKYV_WRONG_KIND;
  *   - RKYV_NULL: `bytes`, `length`, `items`, a key or a value is null;
  *   - RKYV_TOO_LONG: the pairs have more than PTRDIFF_MAX bytes, or a text has;
  *   - the first error of building: RKYV_NOT_TEXT, RKYV_NO_MEMORY, or RKYV_CAPACITY_TOO_LARGE to
  *     RKYV_TEXT_TOO_LONG. */
-rkyv_status rkyv_build_text_texts(const rkyv_text_text_item *items, size_t count, uint32_t width,
-                                  uint8_t **bytes, size_t *length);
+rkyv_status rkyv_build_text_texts(const rkyv_text_text_item *items, size_t count, uint32_t kind,
+                                  uint32_t width, uint8_t **bytes, size_t *length);
 
 /* Allocates the archive of a set of the kind RKYV_SET_OF_NUMBERS: of the `count` numbers at `items`.
  * Equal items are kept, each as an item of its own. The caller frees it with `rkyv_bytes_free`.
@@ -756,6 +947,11 @@ rkyv_status rkyv_build_text_texts(const rkyv_text_text_item *items, size_t count
  *     RKYV_DISTANCE_TOO_LARGE. */
 rkyv_status rkyv_build_number_set(const uint32_t *items, size_t count, uint32_t width,
                                   uint8_t **bytes, size_t *length);
+
+/* Allocates the archive of a set of the kind RKYV_SET_OF_LONG_NUMBERS, as `rkyv_build_number_set`
+ * does. */
+rkyv_status rkyv_build_long_number_set(const uint64_t *items, size_t count, uint32_t width,
+                                       uint8_t **bytes, size_t *length);
 
 /* A text of `length` bytes that is to be archived in a set. `text` is not null. */
 typedef struct rkyv_set_text {

@@ -1,5 +1,5 @@
-/* A test of rkyv.h: each call, and each error that small inputs can cause, with two archives that
- * are written out by hand. Prints the differences, and exits with 1 if there are any. The functions
+/* A test of rkyv.h: each call, and each error that small inputs can cause, with archives that are
+ * written out by hand. Prints the differences, and exits with 1 if there are any. The functions
  * of memory.h are here: they count the blocks, and let one request fail if a test asks for it. This
  * file is C99, and C++11 too. */
 #include "rkyv.h"
@@ -728,8 +728,8 @@ static void built_texts(void) {
 static void built_at_once(void) {
     static const uint8_t empty[] = {1, 0, 0, 0, 0, 0, 0, 0, 0, 0, 0, 0};
     const rkyv_number_item numbers[] = {{2, 1}, {3, 1}, {1ull << 32, 1}};
-    const rkyv_text_item texts[] = {{"", 0, 7}, {"a\xff", 2, 7}, {NULL, 0, 7}};
-    const rkyv_text_item long_text[] = {{"", SIZE_MAX, 7}};
+    const rkyv_text_item texts[] = {{7, "", 0}, {7, "a\xff", 2}, {7, NULL, 0}};
+    const rkyv_text_item long_text[] = {{7, "", SIZE_MAX}};
     uint8_t wanted[104], *bytes = NULL;
     size_t length = one_to_two(wanted), got = 9;
 
@@ -823,6 +823,8 @@ static uint8_t *made_with(size_t one, uint32_t kind, size_t *length) {
         memset(key, (int)('a' + i % 26), sizeof key);
         while (again(kind == RKYV_TEXT_TO_U64 || kind == RKYV_INDEX_TEXT_TO_U64
                          ? rkyv_builder_put_text(builder, key, i, i)
+                         : kind == RKYV_LONG_NUMBER_TO_U64
+                         ? rkyv_builder_put_long_number(builder, i, i)
                          : rkyv_builder_put_number(builder, i, i))) {
         }
     }
@@ -853,9 +855,9 @@ static void failing_memory(uint32_t kind) {
 
 /* The pairs that a builder passes to the proved library, after it has tested keys and values. */
 struct text_item {
+    uint64_t value;
     const void *key;
     size_t key_length;
-    uint64_t value;
 };
 
 struct built {
@@ -866,12 +868,12 @@ struct built {
 #ifdef __cplusplus
 extern "C"
 #endif
-uint32_t rkyv_c_build_texts(const struct text_item *items, size_t count, bool long_values,
-                            bool wide, struct built *built);
+uint32_t rkyv_c_build_texts(const struct text_item *items, size_t count, bool longer, bool wide,
+                            struct built *built);
 
-static rkyv_status build_texts(const struct text_item *items, size_t count, bool long_values,
+static rkyv_status build_texts(const struct text_item *items, size_t count, bool longer,
                                struct built *built) {
-    return (rkyv_status)rkyv_c_build_texts(items, count, long_values, false, built);
+    return (rkyv_status)rkyv_c_build_texts(items, count, longer, false, built);
 }
 
 /* The errors of the library's own tests of keys and values. The bytes of the long text are zeros
@@ -882,7 +884,7 @@ static void invalid_items(void) {
     size_t limit = (size_t)1 << 30;
     void *zeros = calloc(limit, 1);
     struct text_item items[] = {
-        {"a", 1, 2}, {"\xff", 1, 2}, {"b", 1, 1ull << 32}, {zeros, limit, 2},
+        {2, "a", 1}, {2, "\xff", 1}, {1ull << 32, "b", 1}, {2, zeros, limit},
     };
     returns("no text", build_texts(items, 2, true, &built), RKYV_NOT_TEXT);
     returns("a large value", build_texts(items + 2, 1, false, &built), RKYV_VALUE_TOO_LARGE);
@@ -1072,49 +1074,60 @@ static void texts_to_texts(void) {
 }
 
 static void built_to_texts(void) {
+    const uint32_t kind = RKYV_NUMBER_TO_TEXT, of_texts = RKYV_TEXT_TO_TEXT;
     const rkyv_number_text_item numbers[] = {
         {"wonderful", 9, 1}, {"x", 1, 1}, {"a\xff", 2, 1}, {NULL, 0, 1}};
     const rkyv_text_text_item texts[] = {
-        {"", 0, "wonderful", 9}, {"\xc3", 1, "", 0}, {NULL, 0, "", 0}};
-    const rkyv_text_text_item no_value[] = {{"", 0, NULL, 0}}, no_text[] = {{"", 0, "\xc3", 1}};
-    const rkyv_text_text_item long_value[] = {{"", 0, "", SIZE_MAX}};
+        {"wonderful", 9, "", 0}, {"", 0, "\xc3", 1}, {"", 0, NULL, 0}};
+    const rkyv_text_text_item no_value[] = {{NULL, 0, "", 0}}, no_text[] = {{"\xc3", 1, "", 0}};
+    const rkyv_text_text_item long_value[] = {{"", SIZE_MAX, "", 0}};
     uint8_t wanted[120], *bytes = NULL;
     size_t length = one_to_texts(wanted), got = 9;
     rkyv_builder *builder;
 
-    returns("build", rkyv_build_number_texts(numbers, 2, 32, &bytes, &got), RKYV_OK);
+    returns("build", rkyv_build_number_texts(numbers, 2, kind, 32, &bytes, &got), RKYV_OK);
     same("length", got, length);
     same("bytes", memcmp(bytes, wanted, length) == 0, 1);
     rkyv_bytes_free(bytes);
     length = empty_to_wonderful(wanted);
-    returns("build", rkyv_build_text_texts(texts, 1, 64, &bytes, &got), RKYV_OK);
+    returns("build", rkyv_build_text_texts(texts, 1, of_texts, 64, &bytes, &got), RKYV_OK);
     same("length", got, length);
     same("bytes", memcmp(bytes, wanted, length) == 0, 1);
     rkyv_bytes_free(bytes);
-    returns("none", rkyv_build_number_texts(NULL, 0, 64, &bytes, &got), RKYV_OK);
+    returns("none", rkyv_build_number_texts(NULL, 0, kind, 64, &bytes, &got), RKYV_OK);
     same("length", got, 24);
     rkyv_bytes_free(bytes);
-    returns("none", rkyv_build_text_texts(NULL, 0, 32, &bytes, &got), RKYV_OK);
+    returns("none", rkyv_build_text_texts(NULL, 0, of_texts, 32, &bytes, &got), RKYV_OK);
     same("length", got, 12);
     rkyv_bytes_free(bytes);
 
     bytes = NULL;
     got = 9;
-    returns("no text", rkyv_build_number_texts(numbers, 3, 32, &bytes, &got), RKYV_NOT_TEXT);
-    returns("null", rkyv_build_number_texts(numbers, 4, 32, &bytes, &got), RKYV_NULL);
-    returns("width 8", rkyv_build_number_texts(numbers, 1, 8, &bytes, &got), RKYV_UNKNOWN_WIDTH);
-    returns("no items", rkyv_build_number_texts(NULL, 1, 32, &bytes, &got), RKYV_NULL);
-    returns("no bytes", rkyv_build_number_texts(numbers, 1, 32, NULL, &got), RKYV_NULL);
-    returns("no length", rkyv_build_number_texts(numbers, 1, 32, &bytes, NULL), RKYV_NULL);
-    returns("too many", rkyv_build_number_texts(numbers, SIZE_MAX, 32, &bytes, &got),
+    returns("no text", rkyv_build_number_texts(numbers, 3, kind, 32, &bytes, &got), RKYV_NOT_TEXT);
+    returns("null", rkyv_build_number_texts(numbers, 4, kind, 32, &bytes, &got), RKYV_NULL);
+    returns("width 8", rkyv_build_number_texts(numbers, 1, kind, 8, &bytes, &got),
+            RKYV_UNKNOWN_WIDTH);
+    returns("no items", rkyv_build_number_texts(NULL, 1, kind, 32, &bytes, &got), RKYV_NULL);
+    returns("no bytes", rkyv_build_number_texts(numbers, 1, kind, 32, NULL, &got), RKYV_NULL);
+    returns("no length", rkyv_build_number_texts(numbers, 1, kind, 32, &bytes, NULL), RKYV_NULL);
+    returns("too many", rkyv_build_number_texts(numbers, SIZE_MAX, kind, 32, &bytes, &got),
             RKYV_TOO_LONG);
-    returns("no text", rkyv_build_text_texts(texts, 2, 32, &bytes, &got), RKYV_NOT_TEXT);
-    returns("no text", rkyv_build_text_texts(no_text, 1, 64, &bytes, &got), RKYV_NOT_TEXT);
-    returns("no key", rkyv_build_text_texts(texts, 3, 32, &bytes, &got), RKYV_NULL);
-    returns("no value", rkyv_build_text_texts(no_value, 1, 32, &bytes, &got), RKYV_NULL);
-    returns("too long", rkyv_build_text_texts(long_value, 1, 32, &bytes, &got), RKYV_TOO_LONG);
-    returns("width 16", rkyv_build_text_texts(texts, 1, 16, &bytes, &got), RKYV_UNKNOWN_WIDTH);
-    returns("too many", rkyv_build_text_texts(texts, SIZE_MAX, 64, &bytes, &got), RKYV_TOO_LONG);
+    returns("no text", rkyv_build_text_texts(texts, 2, of_texts, 32, &bytes, &got), RKYV_NOT_TEXT);
+    returns("no text", rkyv_build_text_texts(no_text, 1, of_texts, 64, &bytes, &got),
+            RKYV_NOT_TEXT);
+    returns("no key", rkyv_build_text_texts(texts, 3, of_texts, 32, &bytes, &got), RKYV_NULL);
+    returns("no value", rkyv_build_text_texts(no_value, 1, of_texts, 32, &bytes, &got), RKYV_NULL);
+    returns("too long", rkyv_build_text_texts(long_value, 1, of_texts, 32, &bytes, &got),
+            RKYV_TOO_LONG);
+    returns("width 16", rkyv_build_text_texts(texts, 1, of_texts, 16, &bytes, &got),
+            RKYV_UNKNOWN_WIDTH);
+    returns("too many", rkyv_build_text_texts(texts, SIZE_MAX, of_texts, 64, &bytes, &got),
+            RKYV_TOO_LONG);
+    returns("kind 0", rkyv_build_number_texts(numbers, 1, 0, 32, &bytes, &got), RKYV_UNKNOWN_KIND);
+    returns("of texts", rkyv_build_number_texts(numbers, 1, of_texts, 32, &bytes, &got),
+            RKYV_WRONG_KIND);
+    returns("of numbers", rkyv_build_text_texts(texts, 1, RKYV_TEXT_TO_U32, 32, &bytes, &got),
+            RKYV_WRONG_KIND);
     returns("a builder", rkyv_builder_new(RKYV_NUMBER_TO_TEXT, 32, &builder), RKYV_WRONG_KIND);
     same("none", builder == NULL, 1);
     same("kept", got, 9);
@@ -1124,18 +1137,20 @@ static void built_to_texts(void) {
 
 /* Each request of memory fails in turn, and then the build. */
 static void failing_builds_to_texts(void) {
-    const rkyv_text_text_item texts[] = {{"", 0, "wonderful", 9}, {"a", 1, "b", 1}};
+    const rkyv_text_text_item texts[] = {{"wonderful", 9, "", 0}, {"b", 1, "a", 1}};
     uint8_t *bytes = NULL;
     size_t length = 9, all;
     requests = 0;
-    returns("build", rkyv_build_text_texts(texts, 2, 32, &bytes, &length), RKYV_OK);
+    returns("build", rkyv_build_text_texts(texts, 2, RKYV_TEXT_TO_TEXT, 32, &bytes, &length),
+            RKYV_OK);
     all = requests;
     rkyv_bytes_free(bytes);
     bytes = NULL;
     for (size_t one = 0; one < all; one++) {
         requests = 0;
         failing = one;
-        returns("fail", rkyv_build_text_texts(texts, 2, 32, &bytes, &length), RKYV_NO_MEMORY);
+        returns("fail", rkyv_build_text_texts(texts, 2, RKYV_TEXT_TO_TEXT, 32, &bytes, &length),
+                RKYV_NO_MEMORY);
         same("none", bytes == NULL, 1);
         same("blocks", blocks, 0);
     }
@@ -1390,7 +1405,7 @@ static void indexed_numbers(void) {
     size_t length = three_pairs(bytes), count = 9, index = 9;
     uint64_t value = 9;
     uint32_t width = 9;
-    rkyv_index_map map, closed = {NULL, 0, 0, 0, 0};
+    rkyv_index_map map, closed = {{NULL, NULL, 0, 0, 0, {0, 0, 0, 0, 0}}};
     rkyv_index_number_pair pairs[4], pair = {9, 9};
     rkyv_index_text_pair text = {9, NULL, 9};
 
@@ -1597,7 +1612,7 @@ static void indexed_containers(void) {
 
 static void indexed_archives(void) {
     static const rkyv_number_item numbers[] = {{2, 1}, {6, 5}, {9, 1}};
-    static const rkyv_text_item texts[] = {{"", 0, 7}};
+    static const rkyv_text_item texts[] = {{7, "", 0}};
     uint8_t wanted[104], *bytes = NULL;
     size_t length = three_pairs(wanted), got = 0;
     rkyv_builder *builder;
@@ -1721,8 +1736,16 @@ static void built_long_numbers(void) {
             RKYV_UNKNOWN_WIDTH);
     returns("too many", rkyv_build_long_numbers(items, SIZE_MAX, kind, 32, &bytes, &got),
             RKYV_TOO_LONG);
-    returns("a builder", rkyv_builder_new(kind, 32, &builder), RKYV_WRONG_KIND);
     same("kept", bytes == NULL && got == 9, 1);
+    returns("new", rkyv_builder_new(kind, 32, &builder), RKYV_OK);
+    returns("put a short key", rkyv_builder_put_number(builder, 1, 2), RKYV_WRONG_KIND);
+    returns("put a text", rkyv_builder_put_text(builder, "a", 1, 2), RKYV_WRONG_KIND);
+    returns("put too much", rkyv_builder_put_long_number(builder, 1, 1ull << 32),
+            RKYV_VALUE_TOO_LARGE);
+    returns("put", rkyv_builder_put_long_number(builder, 0x100000001, 2), RKYV_OK);
+    makes(builder, wanted, length);
+    rkyv_builder_free(builder);
+    returns("put to null", rkyv_builder_put_long_number(NULL, 1, 2), RKYV_NULL);
     same("blocks", blocks, 0);
 
     returns("write", rkyv_container_write(wanted, length, kind, 32, true, container, 108), RKYV_OK);
@@ -1732,6 +1755,473 @@ static void built_long_numbers(void) {
             RKYV_CONTAINER_WRONG_KEY_TYPE);
     returns("wide values", rkyv_map_open_container(container, 108, RKYV_LONG_NUMBER_TO_U64, 32, &map),
             RKYV_CONTAINER_WRONG_VALUE_TYPE);
+}
+
+/* The number of the long keys and items. Its hash is 789ecc4c27220a95, with the tag 3c. */
+#define GREAT 0x100000001
+
+/* The set of the great number: two buckets of 64 bits, 31 control bytes, and the header. */
+static size_t set_of_great_number(uint8_t *bytes) {
+    static const uint8_t header[] = {0, 0xe0, 0xff, 0xff, 0xff, 1, 0, 0, 0, 2, 0, 0, 0};
+    memset(bytes, 0, 16);
+    bytes[0] = 1;
+    bytes[4] = 1;
+    memset(bytes + 16, 0xff, 31);
+    bytes[17] = 0x3c;
+    bytes[19] = 0x3c;
+    memcpy(bytes + 47, header, sizeof header);
+    return 60;
+}
+
+/* The map of the great number to "wonderful", which is out of line: its nine bytes, two buckets of a
+ * key and a text, 31 control bytes, and the header. */
+static size_t great_number_to_text(uint8_t *bytes) {
+    static const uint8_t front[] = {'w', 'o', 'n', 'd', 'e',  'r', 'f', 'u', 'l',  0,    0,
+                                    0,   0,   0,   0,   0,    1,   0,   0,   0,    1,    0,
+                                    0,   0,   0x89, 0,  0,    0,   0xe8, 0xff, 0xff, 0xff};
+    static const uint8_t header[] = {0, 0xe0, 0xff, 0xff, 0xff, 1, 0, 0, 0, 2, 0, 0, 0};
+    memset(bytes, 0, 48);
+    memcpy(bytes, front, sizeof front);
+    memset(bytes + 48, 0xff, 31);
+    bytes[49] = 0x3c;
+    bytes[51] = 0x3c;
+    memcpy(bytes + 79, header, sizeof header);
+    return 92;
+}
+
+/* Writes the front of an index map of one pair: the index 0 in two buckets, and 31 control bytes with
+ * the tag of the key. */
+static void one_index(uint8_t *bytes, uint8_t tag) {
+    memset(bytes, 0, 8);
+    memset(bytes + 8, 0xff, 31);
+    bytes[9] = tag;
+    bytes[11] = tag;
+}
+
+/* The index map of the great number to 2: the pair, and the header. */
+static size_t indexed_great_number(uint8_t *bytes) {
+    static const uint8_t rest[] = {0, 1, 0, 0, 0, 1, 0,    0,    0,    2,    0,
+                                   0, 0, 0, 0, 0, 0, 0xd0, 0xff, 0xff, 0xff, 1,
+                                   0, 0, 0, 2, 0, 0, 0,    0xe4, 0xff, 0xff, 0xff};
+    one_index(bytes, 0x3c);
+    memcpy(bytes + 39, rest, sizeof rest);
+    return 72;
+}
+
+/* The index map of 1 to "wonderful": the bytes of the text, the pair, and the header. */
+static size_t indexed_number_to_text(uint8_t *bytes) {
+    static const uint8_t rest[] = {'w', 'o', 'n',  'd',  'e',  'r',  'f',  'u',  'l',  1,
+                                   0,   0,   0,    0x89, 0,    0,    0,    0xf3, 0xff, 0xff,
+                                   0xff, 0xcc, 0xff, 0xff, 0xff, 1,  0,    0,    0,    2,
+                                   0,   0,   0,    0xe8, 0xff, 0xff, 0xff};
+    one_index(bytes, 0x28);
+    memcpy(bytes + 39, rest, sizeof rest);
+    return 76;
+}
+
+/* The index map of the great number to "wonderful". */
+static size_t indexed_great_number_to_text(uint8_t *bytes) {
+    static const uint8_t rest[] = {
+        'w', 'o', 'n', 'd', 'e', 'r',  'f',  'u',  'l',  1,    0,    0,    0,    1, 0, 0, 0,
+        0x89, 0,  0,   0,   0xef, 0xff, 0xff, 0xff, 0xc8, 0xff, 0xff, 0xff, 1,   0, 0, 0, 2,
+        0,    0,  0,   0xe4, 0xff, 0xff, 0xff};
+    one_index(bytes, 0x3c);
+    memcpy(bytes + 39, rest, sizeof rest);
+    return 80;
+}
+
+/* The wide index map of the empty text to "wonderful", which is inline in a wide archive. */
+static size_t indexed_empty_to_text(uint8_t *bytes) {
+    memset(bytes, 0, 112);
+    memset(bytes + 16, 0xff, 31);
+    bytes[17] = 0x15;
+    bytes[19] = 0x15;
+    memset(bytes + 48, 0xff, 32);
+    memcpy(bytes + 64, "wonderful", 9);
+    memset(bytes + 80, 0xff, 8);
+    bytes[80] = 0xc0;
+    bytes[88] = 1;
+    bytes[96] = 2;
+    memset(bytes + 104, 0xff, 8);
+    bytes[104] = 0xc8;
+    return 112;
+}
+
+/* Tests that the bytes are those that a call has built, and frees them. */
+static void is_built(const char *what, uint8_t *bytes, size_t length, const uint8_t *wanted,
+                     size_t wanted_length) {
+    same(what, length, wanted_length);
+    same(what, length == wanted_length && memcmp(bytes, wanted, length) == 0, 1);
+    rkyv_bytes_free(bytes);
+    same("blocks", blocks, 0);
+}
+
+static void long_number_sets(void) {
+    static const uint64_t items[] = {GREAT};
+    const uint32_t kind = RKYV_SET_OF_LONG_NUMBERS;
+    uint8_t bytes[60], container[92], *built = NULL;
+    size_t length = set_of_great_number(bytes), count = 9;
+    rkyv_map set, closed = {NULL, NULL, 0, 0, 0, {0, 0, 0, 0, 0}};
+    rkyv_long_number_member member = {0, 9}, members[2] = {{9, 9}, {9, 9}};
+    rkyv_number_member number = {0, 9};
+    rkyv_error error = {9, 9, 9, 9};
+
+    returns("open", rkyv_map_open(bytes, length, kind, 32, &set), RKYV_OK);
+    returns("count", rkyv_map_count(&set, &count), RKYV_OK);
+    same("count", count, 1);
+    returns("contains", rkyv_set_contains_long_number(&set, GREAT), RKYV_OK);
+    returns("contains another", rkyv_set_contains_long_number(&set, 1), RKYV_NOT_FOUND);
+    returns("next", rkyv_set_next_long_number(&set, &member), RKYV_OK);
+    same("item", member.item, GREAT);
+    returns("end", rkyv_set_next_long_number(&set, &member), RKYV_END);
+    same("kept", member.item, GREAT);
+    returns("several", rkyv_set_next_long_numbers(&set, 0, members, 2, &count), RKYV_OK);
+    same("one", count, 1);
+    same("item", members[0].item == GREAT && members[0].next == 2 && members[1].item == 9, 1);
+    returns("no room", rkyv_set_next_long_numbers(&set, 0, NULL, 0, &count), RKYV_OK);
+    same("none", count, 0);
+    returns("null", rkyv_set_contains_long_number(NULL, 1), RKYV_NULL);
+    returns("closed", rkyv_set_contains_long_number(&closed, 1), RKYV_CLOSED);
+    returns("a short item", rkyv_set_contains_number(&set, 1), RKYV_WRONG_KIND);
+    returns("a short item", rkyv_set_next_number(&set, &number), RKYV_WRONG_KIND);
+    returns("next null", rkyv_set_next_long_number(&set, NULL), RKYV_NULL);
+    returns("of null", rkyv_set_next_long_number(NULL, &member), RKYV_NULL);
+    returns("to null", rkyv_set_next_long_numbers(&set, 0, NULL, 1, &count), RKYV_NULL);
+    returns("too many", rkyv_set_next_long_numbers(&set, 0, members, SIZE_MAX, &count),
+            RKYV_TOO_LONG);
+
+    returns("build", rkyv_build_long_number_set(items, 1, 32, &built, &count), RKYV_OK);
+    is_built("a set", built, count, bytes, length);
+    returns("none", rkyv_build_long_number_set(NULL, 0, 64, &built, &count), RKYV_OK);
+    same("length", count, 24);
+    rkyv_bytes_free(built);
+    returns("width 8", rkyv_build_long_number_set(items, 1, 8, &built, &count),
+            RKYV_UNKNOWN_WIDTH);
+    returns("no items", rkyv_build_long_number_set(NULL, 1, 32, &built, &count), RKYV_NULL);
+    returns("too many", rkyv_build_long_number_set(items, SIZE_MAX, 32, &built, &count),
+            RKYV_TOO_LONG);
+    returns("write", rkyv_container_write(bytes, length, kind, 32, true, container, 92), RKYV_OK);
+    same("codes", container[10] == 2 && container[11] == 0x18 && container[12] == 1, 1);
+    returns("open", rkyv_map_open_container(container, 92, kind, RKYV_ANY_WIDTH, &set), RKYV_OK);
+    returns("short items", rkyv_map_open_container(container, 92, RKYV_SET_OF_NUMBERS, 32, &set),
+            RKYV_CONTAINER_WRONG_KEY_TYPE);
+    bytes[52] = 2;
+    returns("a length", rkyv_map_open(bytes, length, kind, 32, &set), RKYV_INVALID_LENGTH);
+    returns("explain", rkyv_map_explain(bytes, length, kind, 32, &error), RKYV_OK);
+    is_error("a length", error, RKYV_INVALID_LENGTH, 0, 2, 2);
+}
+
+static void long_numbers_to_texts(void) {
+    const uint32_t kind = RKYV_LONG_NUMBER_TO_TEXT;
+    const rkyv_long_number_text_item items[] = {{"wonderful", 9, GREAT}, {"\xc3", 1, 1}};
+    const rkyv_long_number_text_item no_value[] = {{NULL, 0, 1}};
+    const rkyv_long_number_text_item long_value[] = {{"", SIZE_MAX, 1}};
+    uint8_t bytes[92], container[124], *built = NULL;
+    size_t length = great_number_to_text(bytes), count = 9, size = 9;
+    const char *value = "?";
+    rkyv_map map, closed = {NULL, NULL, 0, 0, 0, {0, 0, 0, 0, 0}};
+    rkyv_long_number_text_pair pair = {0, NULL, 9, 9}, pairs[2];
+    rkyv_number_text_pair number = {0, NULL, 9, 9};
+    rkyv_error error = {9, 9, 9, 9};
+
+    returns("open", rkyv_map_open(bytes, length, kind, 32, &map), RKYV_OK);
+    returns("get another", rkyv_map_get_text_of_long_number(&map, 1, &value, &size),
+            RKYV_NOT_FOUND);
+    reads("kept", value, 1, "?");
+    returns("get", rkyv_map_get_text_of_long_number(&map, GREAT, &value, &size), RKYV_OK);
+    reads("value", value, size, "wonderful");
+    same("of the archive", value == (const char *)bytes, 1);
+    returns("next", rkyv_map_next_long_number_text(&map, &pair), RKYV_OK);
+    same("key", pair.key, GREAT);
+    reads("value", pair.value, pair.value_length, "wonderful");
+    returns("end", rkyv_map_next_long_number_text(&map, &pair), RKYV_END);
+    reads("kept", pair.value, pair.value_length, "wonderful");
+    returns("several", rkyv_map_next_long_number_texts(&map, 0, pairs, 2, &count), RKYV_OK);
+    same("one", count == 1 && pairs[0].key == GREAT && pairs[0].next == 2, 1);
+    reads("value", pairs[0].value, pairs[0].value_length, "wonderful");
+    returns("no room", rkyv_map_next_long_number_texts(&map, 0, NULL, 0, &count), RKYV_OK);
+    same("none", count, 0);
+    returns("null", rkyv_map_get_text_of_long_number(NULL, 1, &value, &size), RKYV_NULL);
+    returns("closed", rkyv_map_get_text_of_long_number(&closed, 1, &value, &size), RKYV_CLOSED);
+    returns("no value", rkyv_map_get_text_of_long_number(&map, 1, NULL, &size), RKYV_NULL);
+    returns("no length", rkyv_map_get_text_of_long_number(&map, 1, &value, NULL), RKYV_NULL);
+    returns("a short key", rkyv_map_get_text_of_number(&map, 1, &value, &size), RKYV_WRONG_KIND);
+    returns("a short key", rkyv_map_next_number_text(&map, &number), RKYV_WRONG_KIND);
+    returns("set", rkyv_map_set_long_number(&map, GREAT, 1), RKYV_WRONG_KIND);
+    returns("next null", rkyv_map_next_long_number_text(&map, NULL), RKYV_NULL);
+    returns("to null", rkyv_map_next_long_number_texts(&map, 0, NULL, 1, &count), RKYV_NULL);
+
+    returns("build", rkyv_build_long_number_texts(items, 1, kind, 32, &built, &count), RKYV_OK);
+    is_built("a map", built, count, bytes, length);
+    returns("no text", rkyv_build_long_number_texts(items, 2, kind, 32, &built, &count),
+            RKYV_NOT_TEXT);
+    returns("no value", rkyv_build_long_number_texts(no_value, 1, kind, 32, &built, &count),
+            RKYV_NULL);
+    returns("too long", rkyv_build_long_number_texts(long_value, 1, kind, 32, &built, &count),
+            RKYV_TOO_LONG);
+    returns("short keys", rkyv_build_long_number_texts(items, 1, RKYV_NUMBER_TO_TEXT, 32, &built,
+                                                       &count),
+            RKYV_WRONG_KIND);
+    returns("write", rkyv_container_write(bytes, length, kind, 32, true, container, 124), RKYV_OK);
+    same("codes", container[10] == 1 && container[11] == 0x18 && container[12] == 4, 1);
+    returns("open", rkyv_map_open_container(container, 124, kind, 32, &map), RKYV_OK);
+    returns("numbers", rkyv_map_open_container(container, 124, RKYV_LONG_NUMBER_TO_U32, 32, &map),
+            RKYV_CONTAINER_WRONG_VALUE_TYPE);
+    bytes[8] = 0xc3;
+    returns("a value", rkyv_map_open(bytes, length, kind, 32, &map), RKYV_INVALID_VALUE);
+    returns("explain", rkyv_map_explain(bytes, length, kind, 32, &error), RKYV_OK);
+    is_error("a value", error, RKYV_INVALID_VALUE, 24, 0, 0);
+}
+
+static void indexed_long_numbers(void) {
+    static const rkyv_long_number_item items[] = {{2, GREAT}, {1ull << 32, 1}};
+    const uint32_t kind = RKYV_INDEX_LONG_NUMBER_TO_U32, wider = RKYV_INDEX_LONG_NUMBER_TO_U64;
+    uint8_t bytes[72], container[104], *built = NULL;
+    size_t length = indexed_great_number(bytes), count = 9, index = 9;
+    uint64_t value = 9;
+    rkyv_index_map map, closed = {{NULL, NULL, 0, 0, 0, {0, 0, 0, 0, 0}}};
+    rkyv_index_long_number_pair pair = {9, 9}, pairs[2] = {{9, 9}, {9, 9}};
+    rkyv_index_number_pair number = {9, 9};
+    rkyv_error error = {9, 9, 9, 9};
+
+    returns("open", rkyv_index_open(bytes, length, kind, 32, &map), RKYV_OK);
+    returns("count", rkyv_index_count(&map, &count), RKYV_OK);
+    same("count", count, 1);
+    returns("get another", rkyv_index_get_long_number(&map, 1, &index, &value), RKYV_NOT_FOUND);
+    same("kept", index == 9 && value == 9, 1);
+    returns("get", rkyv_index_get_long_number(&map, GREAT, &index, &value), RKYV_OK);
+    same("found", index == 0 && value == 2, 1);
+    returns("get nothing", rkyv_index_get_long_number(&map, GREAT, NULL, NULL), RKYV_OK);
+    returns("at", rkyv_index_long_number_at(&map, 0, &pair), RKYV_OK);
+    same("pair", pair.key == GREAT && pair.value == 2, 1);
+    returns("behind", rkyv_index_long_number_at(&map, 1, &pair), RKYV_END);
+    returns("from", rkyv_index_long_numbers_from(&map, 0, pairs, 2, &count), RKYV_OK);
+    same("one", count == 1 && pairs[0].key == GREAT && pairs[0].value == 2, 1);
+    same("unchanged", pairs[1].key, 9);
+    returns("far", rkyv_index_long_numbers_from(&map, SIZE_MAX, pairs, 2, &count), RKYV_OK);
+    same("none", count, 0);
+    returns("null", rkyv_index_get_long_number(NULL, 1, &index, &value), RKYV_NULL);
+    returns("closed", rkyv_index_get_long_number(&closed, 1, &index, &value), RKYV_CLOSED);
+    returns("a short key", rkyv_index_get_number(&map, 1, &index, &value), RKYV_WRONG_KIND);
+    returns("a short key", rkyv_index_number_at(&map, 0, &number), RKYV_WRONG_KIND);
+    returns("at null", rkyv_index_long_number_at(&map, 0, NULL), RKYV_NULL);
+    returns("to null", rkyv_index_long_numbers_from(&map, 0, NULL, 1, &count), RKYV_NULL);
+    returns("read only", rkyv_index_set_long_number(&map, GREAT, 1), RKYV_READ_ONLY);
+
+    returns("build", rkyv_build_long_numbers(items, 1, kind, 32, &built, &count), RKYV_OK);
+    is_built("an index map", built, count, bytes, length);
+    returns("too large", rkyv_build_long_numbers(items, 2, kind, 32, &built, &count),
+            RKYV_VALUE_TOO_LARGE);
+    returns("write", rkyv_container_write(bytes, length, kind, 32, true, container, 104), RKYV_OK);
+    same("codes", container[10] == 3 && container[11] == 0x18 && container[12] == 0x14, 1);
+    returns("open", rkyv_index_open_container(container, 104, kind, 32, &map), RKYV_OK);
+    returns("short keys", rkyv_index_open_container(container, 104, RKYV_INDEX_NUMBER_TO_U32, 32,
+                                                    &map),
+            RKYV_CONTAINER_WRONG_KEY_TYPE);
+
+    returns("write", rkyv_index_open_writable(bytes, length, wider, 32, &map), RKYV_OK);
+    returns("set another", rkyv_index_set_long_number(&map, 1, 3), RKYV_NOT_FOUND);
+    returns("set", rkyv_index_set_long_number(&map, GREAT, UINT64_MAX), RKYV_OK);
+    returns("get", rkyv_index_get_long_number(&map, GREAT, &index, &value), RKYV_OK);
+    same("written", index == 0 && value == UINT64_MAX, 1);
+    returns("set a short key", rkyv_index_set_number(&map, 1, 1), RKYV_WRONG_KIND);
+    returns("set null", rkyv_index_set_long_number(NULL, 1, 1), RKYV_NULL);
+    returns("set closed", rkyv_index_set_long_number(&closed, 1, 1), RKYV_CLOSED);
+    bytes[0] = 1;
+    bytes[4] = 1;
+    returns("an index", rkyv_index_open(bytes, length, kind, 32, &map), RKYV_PLACE_OUT_OF_RANGE);
+    returns("explain", rkyv_map_explain(bytes, length, kind, 32, &error), RKYV_OK);
+    is_error("an index", error, RKYV_PLACE_OUT_OF_RANGE, 0, 1, 1);
+}
+
+/* Values of index maps are written in place, of the first pair with the key. */
+static void written_indexed(void) {
+    uint8_t bytes[104], container[120];
+    size_t length = three_pairs(bytes), index = 9;
+    const uint32_t kind = RKYV_INDEX_NUMBER_TO_U32;
+    uint64_t value = 9;
+    rkyv_index_map map, closed = {{NULL, NULL, 0, 0, 0, {0, 0, 0, 0, 0}}};
+    rkyv_index_number_pair pair = {9, 9};
+
+    returns("open", rkyv_index_open(bytes, length, kind, 32, &map), RKYV_OK);
+    returns("read only", rkyv_index_set_number(&map, 1, 3), RKYV_READ_ONLY);
+    returns("write", rkyv_index_open_writable(bytes, length, kind, 32, &map), RKYV_OK);
+    returns("set another", rkyv_index_set_number(&map, 2, 3), RKYV_NOT_FOUND);
+    returns("set too much", rkyv_index_set_number(&map, 1, 1ull << 32), RKYV_VALUE_TOO_LARGE);
+    returns("set", rkyv_index_set_number(&map, 1, UINT32_MAX), RKYV_OK);
+    returns("get", rkyv_index_get_number(&map, 1, &index, &value), RKYV_OK);
+    same("written", index == 0 && value == UINT32_MAX, 1);
+    returns("at", rkyv_index_number_at(&map, 1, &pair), RKYV_OK);
+    same("another", pair.key == 5 && pair.value == 6, 1);
+    returns("at", rkyv_index_number_at(&map, 2, &pair), RKYV_OK);
+    same("the second", pair.key == 1 && pair.value == 9, 1);
+    returns("set a text", rkyv_index_set_text(&map, "", 0, 1), RKYV_WRONG_KIND);
+    returns("set null", rkyv_index_set_number(NULL, 1, 1), RKYV_NULL);
+    returns("set closed", rkyv_index_set_number(&closed, 1, 1), RKYV_CLOSED);
+    returns("no map", rkyv_index_open_writable(bytes, length, kind, 32, NULL), RKYV_NULL);
+    returns("a hash map", rkyv_index_open_writable(bytes, length, RKYV_NUMBER_TO_U32, 32, &map),
+            RKYV_WRONG_KIND);
+
+    length = three_pairs(bytes);
+    returns("write", rkyv_container_write(bytes, length, kind, 32, true, container, 120), RKYV_OK);
+    returns("open", rkyv_index_open_container_writable(container, 120, kind, RKYV_ANY_WIDTH, &map),
+            RKYV_OK);
+    returns("set", rkyv_index_set_number(&map, 5, 7), RKYV_OK);
+    returns("an old checksum", rkyv_index_open_container(container, 120, kind, 32, &map),
+            RKYV_CONTAINER_WRONG_CHECKSUM);
+    returns("update", rkyv_container_update(container, 120), RKYV_OK);
+    returns("open", rkyv_index_open_container(container, 120, kind, 32, &map), RKYV_OK);
+    returns("get", rkyv_index_get_number(&map, 5, &index, &value), RKYV_OK);
+    same("written", index == 1 && value == 7, 1);
+
+    length = indexed_empty(bytes);
+    returns("write", rkyv_index_open_writable(bytes, length, RKYV_INDEX_TEXT_TO_U64, 64, &map),
+            RKYV_OK);
+    returns("set", rkyv_index_set_text(&map, NULL, 0, UINT64_MAX), RKYV_OK);
+    returns("get", rkyv_index_get_text(&map, "", 0, &index, &value), RKYV_OK);
+    same("written", index == 0 && value == UINT64_MAX, 1);
+    returns("set another", rkyv_index_set_text(&map, "a", 1, 1), RKYV_NOT_FOUND);
+    returns("set no text", rkyv_index_set_text(&map, "\x80", 1, 1), RKYV_NOT_TEXT);
+    returns("set null", rkyv_index_set_text(&map, NULL, 1, 1), RKYV_NULL);
+    returns("set too long", rkyv_index_set_text(&map, "a", SIZE_MAX, 1), RKYV_TOO_LONG);
+    returns("a number", rkyv_index_set_number(&map, 1, 1), RKYV_WRONG_KIND);
+    returns("open", rkyv_index_open(bytes, length, RKYV_INDEX_TEXT_TO_U64, 64, &map), RKYV_OK);
+    returns("read only", rkyv_index_set_text(&map, "", 0, 1), RKYV_READ_ONLY);
+}
+
+static void indexed_numbers_to_texts(void) {
+    const uint32_t kind = RKYV_INDEX_NUMBER_TO_TEXT;
+    const rkyv_number_text_item items[] = {{"wonderful", 9, 1}, {"\xc3", 1, 1}};
+    uint8_t bytes[76], container[108], *built = NULL;
+    size_t length = indexed_number_to_text(bytes), count = 9, index = 9, size = 9;
+    const char *value = "?";
+    uint64_t number = 9;
+    rkyv_index_map map, closed = {{NULL, NULL, 0, 0, 0, {0, 0, 0, 0, 0}}};
+    rkyv_index_number_text_pair pair = {NULL, 9, 9}, pairs[2];
+    rkyv_index_text_text_pair text = {NULL, 9, NULL, 9};
+    rkyv_error error = {9, 9, 9, 9};
+
+    returns("open", rkyv_index_open_writable(bytes, length, kind, 32, &map), RKYV_OK);
+    returns("get another", rkyv_index_get_text_of_number(&map, 2, &index, &value, &size),
+            RKYV_NOT_FOUND);
+    same("kept", index == 9 && size == 9 && *value == '?', 1);
+    returns("get", rkyv_index_get_text_of_number(&map, 1, &index, &value, &size), RKYV_OK);
+    same("index", index, 0);
+    reads("value", value, size, "wonderful");
+    same("of the archive", value == (const char *)bytes + 39, 1);
+    returns("get nothing", rkyv_index_get_text_of_number(&map, 1, NULL, NULL, NULL), RKYV_OK);
+    returns("at", rkyv_index_number_text_at(&map, 0, &pair), RKYV_OK);
+    same("key", pair.key, 1);
+    reads("value", pair.value, pair.value_length, "wonderful");
+    returns("behind", rkyv_index_number_text_at(&map, 1, &pair), RKYV_END);
+    reads("kept", pair.value, pair.value_length, "wonderful");
+    returns("from", rkyv_index_number_texts_from(&map, 0, pairs, 2, &count), RKYV_OK);
+    same("one", count == 1 && pairs[0].key == 1, 1);
+    reads("value", pairs[0].value, pairs[0].value_length, "wonderful");
+    returns("from the end", rkyv_index_number_texts_from(&map, 1, pairs, 2, &count), RKYV_OK);
+    same("none", count, 0);
+    returns("no room", rkyv_index_number_texts_from(&map, 0, NULL, 0, &count), RKYV_OK);
+    returns("null", rkyv_index_get_text_of_number(NULL, 1, &index, &value, &size), RKYV_NULL);
+    returns("closed", rkyv_index_get_text_of_number(&closed, 1, &index, &value, &size),
+            RKYV_CLOSED);
+    returns("a number", rkyv_index_get_number(&map, 1, &index, &number), RKYV_WRONG_KIND);
+    returns("a text", rkyv_index_get_text_of_text(&map, "", 0, &index, &value, &size),
+            RKYV_WRONG_KIND);
+    returns("a text at", rkyv_index_text_text_at(&map, 0, &text), RKYV_WRONG_KIND);
+    returns("set", rkyv_index_set_number(&map, 1, 1), RKYV_WRONG_KIND);
+    returns("at null", rkyv_index_number_text_at(&map, 0, NULL), RKYV_NULL);
+    returns("to null", rkyv_index_number_texts_from(&map, 0, NULL, 1, &count), RKYV_NULL);
+    returns("too many", rkyv_index_number_texts_from(&map, 0, pairs, SIZE_MAX, &count),
+            RKYV_TOO_LONG);
+
+    returns("build", rkyv_build_number_texts(items, 1, kind, 32, &built, &count), RKYV_OK);
+    is_built("an index map", built, count, bytes, length);
+    returns("no text", rkyv_build_number_texts(items, 2, kind, 32, &built, &count), RKYV_NOT_TEXT);
+    returns("none", rkyv_build_number_texts(NULL, 0, kind, 32, &built, &count), RKYV_OK);
+    same("length", count, 16);
+    rkyv_bytes_free(built);
+    returns("write", rkyv_container_write(bytes, length, kind, 32, true, container, 108), RKYV_OK);
+    same("codes", container[10] == 3 && container[11] == 0x14 && container[12] == 4, 1);
+    returns("open", rkyv_index_open_container(container, 108, kind, RKYV_ANY_WIDTH, &map), RKYV_OK);
+    returns("numbers", rkyv_index_open_container(container, 108, RKYV_INDEX_NUMBER_TO_U32, 32,
+                                                 &map),
+            RKYV_CONTAINER_WRONG_VALUE_TYPE);
+    bytes[39] = 0xc3;
+    returns("a value", rkyv_index_open(bytes, length, kind, 32, &map), RKYV_INVALID_VALUE);
+    returns("explain", rkyv_map_explain(bytes, length, kind, 32, &error), RKYV_OK);
+    is_error("a value", error, RKYV_INVALID_VALUE, 52, 0, 0);
+}
+
+static void indexed_long_numbers_to_texts(void) {
+    const uint32_t kind = RKYV_INDEX_LONG_NUMBER_TO_TEXT;
+    const rkyv_long_number_text_item items[] = {{"wonderful", 9, GREAT}};
+    uint8_t bytes[80], *built = NULL;
+    size_t length = indexed_great_number_to_text(bytes), count = 9, index = 9, size = 9;
+    const char *value = "?";
+    rkyv_index_map map;
+    rkyv_index_long_number_text_pair pair = {NULL, 9, 9}, pairs[2];
+
+    returns("open", rkyv_index_open(bytes, length, kind, 32, &map), RKYV_OK);
+    returns("get another", rkyv_index_get_text_of_long_number(&map, 1, &index, &value, &size),
+            RKYV_NOT_FOUND);
+    returns("get", rkyv_index_get_text_of_long_number(&map, GREAT, &index, &value, &size), RKYV_OK);
+    same("index", index, 0);
+    reads("value", value, size, "wonderful");
+    returns("at", rkyv_index_long_number_text_at(&map, 0, &pair), RKYV_OK);
+    same("key", pair.key, GREAT);
+    reads("value", pair.value, pair.value_length, "wonderful");
+    returns("behind", rkyv_index_long_number_text_at(&map, 1, &pair), RKYV_END);
+    returns("from", rkyv_index_long_number_texts_from(&map, 0, pairs, 2, &count), RKYV_OK);
+    same("one", count == 1 && pairs[0].key == GREAT, 1);
+    reads("value", pairs[0].value, pairs[0].value_length, "wonderful");
+    returns("null", rkyv_index_get_text_of_long_number(NULL, 1, &index, &value, &size), RKYV_NULL);
+    returns("a short key", rkyv_index_get_text_of_number(&map, 1, &index, &value, &size),
+            RKYV_WRONG_KIND);
+    returns("set", rkyv_index_set_long_number(&map, 1, 1), RKYV_WRONG_KIND);
+    returns("build", rkyv_build_long_number_texts(items, 1, kind, 32, &built, &count), RKYV_OK);
+    is_built("an index map", built, count, bytes, length);
+}
+
+static void indexed_texts_to_texts(void) {
+    const uint32_t kind = RKYV_INDEX_TEXT_TO_TEXT;
+    const rkyv_text_text_item items[] = {{"wonderful", 9, "", 0}, {"", 0, NULL, 0}};
+    uint8_t bytes[112], *built = NULL;
+    size_t length = indexed_empty_to_text(bytes), count = 9, index = 9, size = 9;
+    const char *value = "?";
+    rkyv_index_map map;
+    rkyv_index_text_text_pair pair = {NULL, 9, NULL, 9}, pairs[2];
+
+    returns("open", rkyv_index_open(bytes, length, kind, 64, &map), RKYV_OK);
+    returns("get another", rkyv_index_get_text_of_text(&map, "a", 1, &index, &value, &size),
+            RKYV_NOT_FOUND);
+    returns("no text", rkyv_index_get_text_of_text(&map, "\xc3", 1, &index, &value, &size),
+            RKYV_NOT_TEXT);
+    returns("null", rkyv_index_get_text_of_text(&map, NULL, 1, &index, &value, &size), RKYV_NULL);
+    returns("too long", rkyv_index_get_text_of_text(&map, "", SIZE_MAX, &index, &value, &size),
+            RKYV_TOO_LONG);
+    same("kept", index == 9 && size == 9 && *value == '?', 1);
+    returns("get", rkyv_index_get_text_of_text(&map, NULL, 0, &index, &value, &size), RKYV_OK);
+    same("index", index, 0);
+    reads("value", value, size, "wonderful");
+    returns("at", rkyv_index_text_text_at(&map, 0, &pair), RKYV_OK);
+    reads("key", pair.key, pair.key_length, "");
+    reads("value", pair.value, pair.value_length, "wonderful");
+    returns("behind", rkyv_index_text_text_at(&map, 1, &pair), RKYV_END);
+    returns("from", rkyv_index_text_texts_from(&map, 0, pairs, 2, &count), RKYV_OK);
+    same("one", count, 1);
+    reads("key", pairs[0].key, pairs[0].key_length, "");
+    reads("value", pairs[0].value, pairs[0].value_length, "wonderful");
+    returns("a number", rkyv_index_get_text_of_number(&map, 1, &index, &value, &size),
+            RKYV_WRONG_KIND);
+    returns("set", rkyv_index_set_text(&map, "", 0, 1), RKYV_WRONG_KIND);
+    returns("build", rkyv_build_text_texts(items, 1, kind, 64, &built, &count), RKYV_OK);
+    is_built("an index map", built, count, bytes, length);
+    returns("no key", rkyv_build_text_texts(items, 2, kind, 64, &built, &count), RKYV_NULL);
+    bytes[64] = 0xc3;
+    returns("a value", rkyv_index_open(bytes, length, kind, 64, &map), RKYV_INVALID_VALUE);
+    bytes[64] = 'w';
+    bytes[48] = 0xc3;
+    returns("a key", rkyv_index_open(bytes, length, kind, 64, &map), RKYV_INVALID_VALUE);
 }
 
 int main(void) {
@@ -1753,6 +2243,7 @@ int main(void) {
     built_at_once();
     unbuilt();
     failing_memory(RKYV_NUMBER_TO_U64);
+    failing_memory(RKYV_LONG_NUMBER_TO_U64);
     failing_memory(RKYV_TEXT_TO_U64);
     failing_memory(RKYV_INDEX_NUMBER_TO_U64);
     failing_memory(RKYV_INDEX_TEXT_TO_U64);
@@ -1773,6 +2264,13 @@ int main(void) {
     indexed_errors();
     indexed_containers();
     indexed_archives();
+    long_number_sets();
+    long_numbers_to_texts();
+    indexed_long_numbers();
+    written_indexed();
+    indexed_numbers_to_texts();
+    indexed_long_numbers_to_texts();
+    indexed_texts_to_texts();
     if (faults == 0) {
         printf("all as expected\n");
     }

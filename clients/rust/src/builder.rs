@@ -6,17 +6,20 @@ use std::ptr::NonNull;
 
 use crate::container::header_of;
 use crate::error::check;
-use crate::raw;
+use crate::raw::{self, Pair};
+use crate::types::sealed::Store;
 use crate::types::{index_kind, kind};
-use crate::{Checksum, Error, IndexMap, Key, Map, MapMut, Number, Value, Width};
+#[cfg(doc)]
+use crate::ErrorKind;
+use crate::{Checksum, Error, IndexMap, IndexMapMut, Key, Map, MapMut, Number, Value, Width};
 
 /// The pairs of a map that is to be archived.
 ///
-/// [`build`](Builder::build) makes a [`Map`] of them. [`build_index`](Builder::build_index) makes an
-/// [`IndexMap`], if the values are numbers.
+/// [`build`](Builder::build) makes a [`Map`] of them, and [`build_index`](Builder::build_index) an
+/// [`IndexMap`].
 ///
-/// The keys are `u32` or `str`, the values `u32`, `u64` or `str`. Pairs are kept in insertion order. Of
-/// pairs with equal keys, lookups return the value of the first one, unlike those of std's maps.
+/// Keys and values are `u32`, `u64` or `str`. Pairs are kept in insertion order. Of pairs with equal
+/// keys, lookups return the value of the first one, unlike those of std's maps.
 ///
 /// # Examples
 /// ```
@@ -31,16 +34,16 @@ use crate::{Checksum, Error, IndexMap, Key, Map, MapMut, Number, Value, Width};
 /// # }
 /// ```
 pub struct Builder<K: Key + ?Sized, V: Value + ?Sized> {
-    keys: K::Keys,
-    values: V::Values,
+    keys: K::Store,
+    values: V::Store,
 }
 
 impl<K: Key + ?Sized, V: Value + ?Sized> Builder<K, V> {
     /// Returns a builder without pairs.
     pub fn new() -> Self {
         Builder {
-            keys: K::Keys::default(),
-            values: V::Values::default(),
+            keys: K::Store::default(),
+            values: V::Store::default(),
         }
     }
 
@@ -55,20 +58,20 @@ impl<K: Key + ?Sized, V: Value + ?Sized> Builder<K, V> {
 
     /// Reserves room for at least `additional` more pairs.
     pub fn reserve(&mut self, additional: usize) {
-        K::reserve(&mut self.keys, additional);
-        V::reserve(&mut self.values, additional);
+        self.keys.reserve(additional);
+        self.values.reserve(additional);
     }
 
     /// Returns the number of pairs that the builder has room for without allocating.
     ///
     /// The bytes of texts are not counted.
     pub fn capacity(&self) -> usize {
-        K::capacity(&self.keys).min(V::capacity(&self.values))
+        self.keys.capacity().min(self.values.capacity())
     }
 
     /// Returns the number of pairs. Pairs with equal keys count separately.
     pub fn len(&self) -> usize {
-        V::len(&self.values)
+        self.keys.len()
     }
 
     /// Returns `true` if the builder has no pairs.
@@ -78,8 +81,8 @@ impl<K: Key + ?Sized, V: Value + ?Sized> Builder<K, V> {
 
     /// Appends a pair. If an earlier pair has the same key, lookups return the earlier value.
     pub fn push(&mut self, key: &K, value: V::Ref<'_>) {
-        K::push(&mut self.keys, key);
-        V::push(&mut self.values, value.borrow());
+        self.keys.push(key);
+        self.values.push(value.borrow());
     }
 
     /// Builds the archive of the pairs.
@@ -94,45 +97,9 @@ impl<K: Key + ?Sized, V: Value + ?Sized> Builder<K, V> {
     /// - [`ErrorKind::DistanceTooLarge`]
     /// - [`ErrorKind::TextTooLong`]
     pub fn build(&self, width: Width) -> Result<Archive<K, V>, Error> {
-        self.archive(width, V::item::<K>, |items, bytes, length| {
-            // SAFETY: the texts are borrowed from the builder.
-            unsafe { V::build::<K>(items, width as u32, bytes, length) }
-        })
+        self.archive(kind::<K, V>(), width)
     }
 
-    /// Builds an archive of the pairs as items of the library, by a call that returns the status.
-    fn archive<T>(
-        &self,
-        width: Width,
-        item: impl Fn(&K, V::Ref<'_>) -> T,
-        build: impl FnOnce(&[T], &mut *mut u8, &mut usize) -> u32,
-    ) -> Result<Archive<K, V>, Error> {
-        let mut items = Vec::new();
-        if items.try_reserve_exact(self.len()).is_err() {
-            check(raw::NO_MEMORY)?;
-        }
-        items.extend(self.pairs().map(|(key, value)| item(key, value)));
-        let mut bytes = std::ptr::null_mut();
-        let mut length = 0;
-        check(build(&items, &mut bytes, &mut length))?;
-        Ok(Archive {
-            bytes: NonNull::new(bytes).expect("the bytes of an archive are not null"),
-            length,
-            width,
-            types: PhantomData,
-        })
-    }
-
-    pub(crate) fn keys(&self) -> impl Iterator<Item = &K> {
-        K::iter(&self.keys)
-    }
-
-    fn pairs(&self) -> impl Iterator<Item = (&K, V::Ref<'_>)> {
-        K::iter(&self.keys).zip(V::iter(&self.values))
-    }
-}
-
-impl<K: Key + ?Sized, V: Number> Builder<K, V> {
     /// Builds the archive of the pairs as an index map, which keeps them in insertion order.
     ///
     /// It needs memory as [`build`](Builder::build) does.
@@ -152,12 +119,38 @@ impl<K: Key + ?Sized, V: Number> Builder<K, V> {
     /// # }
     /// ```
     pub fn build_index(&self, width: Width) -> Result<IndexArchive<K, V>, Error> {
-        let item = |key: &K, value: V| K::item(key, value.into());
-        let archive = self.archive(width, item, |items, bytes, length| {
-            // SAFETY: the keys are borrowed from the builder.
-            unsafe { K::build(items, index_kind::<K, V>(), width as u32, bytes, length) }
-        });
-        archive.map(IndexArchive)
+        self.archive(index_kind::<K, V>(), width).map(IndexArchive)
+    }
+
+    /// Builds the archive of the pairs as a map of the kind.
+    fn archive(&self, kind: u32, width: Width) -> Result<Archive<K, V>, Error> {
+        let mut items = Vec::new();
+        if items.try_reserve_exact(self.len()).is_err() {
+            check(raw::NO_MEMORY)?;
+        }
+        items.extend(self.pairs().map(|(key, value)| Pair {
+            value: V::raw(value),
+            key: K::raw(key),
+        }));
+        let mut bytes = std::ptr::null_mut();
+        let mut length = 0;
+        let build = V::calls::<K>().build;
+        // SAFETY: the texts are borrowed from the builder.
+        check(unsafe { build(&items, kind, width as u32, &mut bytes, &mut length) })?;
+        Ok(Archive {
+            bytes: NonNull::new(bytes).expect("the bytes of an archive are not null"),
+            length,
+            width,
+            types: PhantomData,
+        })
+    }
+
+    pub(crate) fn keys(&self) -> impl Iterator<Item = &K> {
+        self.keys.iter()
+    }
+
+    fn pairs(&self) -> impl Iterator<Item = (&K, &V)> {
+        self.keys.iter().zip(self.values.iter())
     }
 }
 
@@ -194,8 +187,8 @@ where
         let pairs = pairs.into_iter();
         self.reserve(pairs.size_hint().0);
         for (key, value) in pairs {
-            K::push(&mut self.keys, key.borrow());
-            V::push(&mut self.values, value.borrow());
+            self.keys.push(key.borrow());
+            self.values.push(value.borrow());
         }
     }
 }
@@ -304,9 +297,13 @@ impl<K: Key + ?Sized, V: Number> Archive<K, V> {
     ///
     /// This validates the bytes, as [`MapMut::open`] does. A built archive is valid.
     pub fn open_mut(&mut self) -> MapMut<'_, K, V> {
+        let width = self.width;
+        MapMut::open(self.bytes_mut(), width).expect("a built archive is valid")
+    }
+
+    fn bytes_mut(&mut self) -> &mut [u8] {
         // SAFETY: the archive owns the bytes until it is dropped, and is borrowed mutably.
-        let bytes = unsafe { std::slice::from_raw_parts_mut(self.bytes.as_ptr(), self.length) };
-        MapMut::open(bytes, self.width).expect("a built archive is valid")
+        unsafe { std::slice::from_raw_parts_mut(self.bytes.as_ptr(), self.length) }
     }
 }
 
@@ -378,9 +375,9 @@ impl<K: ?Sized, V: ?Sized> Drop for Archive<K, V> {
 /// # Ok(())
 /// # }
 /// ```
-pub struct IndexArchive<K: ?Sized, V>(Archive<K, V>);
+pub struct IndexArchive<K: ?Sized, V: ?Sized>(Archive<K, V>);
 
-impl<K: ?Sized, V> IndexArchive<K, V> {
+impl<K: ?Sized, V: ?Sized> IndexArchive<K, V> {
     /// Returns the bytes.
     pub fn as_bytes(&self) -> &[u8] {
         self.0.as_bytes()
@@ -392,7 +389,7 @@ impl<K: ?Sized, V> IndexArchive<K, V> {
     }
 }
 
-impl<K: Key + ?Sized, V: Number> IndexArchive<K, V> {
+impl<K: Key + ?Sized, V: Value + ?Sized> IndexArchive<K, V> {
     /// Opens the index map, with the types and the width that the archive was built with.
     ///
     /// This validates the bytes, as [`IndexMap::open`] does. A built archive is valid.
@@ -419,20 +416,30 @@ impl<K: Key + ?Sized, V: Number> IndexArchive<K, V> {
     }
 }
 
-impl<K: ?Sized, V> AsRef<[u8]> for IndexArchive<K, V> {
+impl<K: Key + ?Sized, V: Number> IndexArchive<K, V> {
+    /// Opens the index map to read and to write values in place.
+    ///
+    /// This validates the bytes, as [`IndexMapMut::open`] does. A built archive is valid.
+    pub fn open_mut(&mut self) -> IndexMapMut<'_, K, V> {
+        let width = self.width();
+        IndexMapMut::open(self.0.bytes_mut(), width).expect("a built archive is valid")
+    }
+}
+
+impl<K: ?Sized, V: ?Sized> AsRef<[u8]> for IndexArchive<K, V> {
     fn as_ref(&self) -> &[u8] {
         self.as_bytes()
     }
 }
 
-impl<K: ?Sized, V> From<IndexArchive<K, V>> for Vec<u8> {
+impl<K: ?Sized, V: ?Sized> From<IndexArchive<K, V>> for Vec<u8> {
     /// Copies the bytes and frees those of the C library.
     fn from(archive: IndexArchive<K, V>) -> Vec<u8> {
         archive.0.into()
     }
 }
 
-impl<K: ?Sized, V> fmt::Debug for IndexArchive<K, V> {
+impl<K: ?Sized, V: ?Sized> fmt::Debug for IndexArchive<K, V> {
     fn fmt(&self, f: &mut fmt::Formatter<'_>) -> fmt::Result {
         f.debug_struct("IndexArchive")
             .field("width", &self.width())

@@ -1,5 +1,7 @@
 use crate::error::check;
 use crate::raw::{self, HEADER_LEN};
+#[cfg(doc)]
+use crate::ErrorKind;
 use crate::{Error, Width};
 
 /// Whether a container has a checksum of its archive.

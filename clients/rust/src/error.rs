@@ -96,8 +96,7 @@ impl std::error::Error for Error {}
 
 /// The kind of an [`Error`].
 ///
-/// [`Map::open`](crate::Map::open), [`MapMut::open`](crate::MapMut::open) and
-/// [`IndexMap::open`](crate::IndexMap::open) fail with the first group,
+/// The calls that open an archive, as [`Map::open`](crate::Map::open), fail with the first group,
 /// [`Builder::build`](crate::Builder::build) with the second. The calls that open a container fail
 /// with the third group, or with the first one if its archive is not valid.
 #[derive(Clone, Copy, Debug, PartialEq, Eq, Hash)]
@@ -115,7 +114,7 @@ pub enum ErrorKind {
     UnwrappedControlByte,
     /// An index in the table of an index map is not less than the number of pairs.
     PlaceOutOfRange,
-    /// A text key is not UTF-8, or its length is malformed.
+    /// A text is not UTF-8, or its length is malformed.
     InvalidValue,
 
     /// The C library failed to allocate memory.
@@ -126,7 +125,7 @@ pub enum ErrorKind {
     PositionTooLarge,
     /// A distance between two parts of the archive does not fit the width.
     DistanceTooLarge,
-    /// A text key is too long for the width.
+    /// A text is too long for the width.
     TextTooLong,
 
     /// A container has fewer bytes than its header of 32 bytes.
@@ -183,14 +182,14 @@ impl fmt::Display for ErrorKind {
             ErrorKind::PlaceOutOfRange => {
                 "an index in the table is not less than the number of pairs"
             }
-            ErrorKind::InvalidValue => "a text key is not UTF-8, or its length is malformed",
+            ErrorKind::InvalidValue => "a text is not UTF-8, or its length is malformed",
             ErrorKind::NoMemory => "the C library failed to allocate memory",
             ErrorKind::CapacityTooLarge => "the map needs more buckets than the width can count",
             ErrorKind::PositionTooLarge => "the archive would be longer than the width allows",
             ErrorKind::DistanceTooLarge => {
                 "a distance between two parts of the archive does not fit the width"
             }
-            ErrorKind::TextTooLong => "a text key is too long for the width",
+            ErrorKind::TextTooLong => "a text is too long for the width",
             ErrorKind::ContainerTooShort => "the container is shorter than its header of 32 bytes",
             ErrorKind::WrongMagic => "the first eight bytes are not those of a container",
             ErrorKind::UnsupportedVersion => "the version of the container is not 1",

@@ -4,14 +4,14 @@ use std::fmt;
 use std::iter::FusedIterator;
 use std::marker::PhantomData;
 
-pub(crate) use self::sealed::SealedIndexKey;
-use crate::error::{check, check_open};
-use crate::raw::{self, RawIndexMap, RawIndexNumberPair, RawIndexTextPair};
+use crate::error::check;
+use crate::map::found;
+use crate::open::{INDEX, INDEX_CONTAINER};
+use crate::raw::{self, Pair, RawMap};
 use crate::types::index_kind;
-use crate::{Error, Key, Number, Width};
+use crate::{Error, Key, Number, Value, Width};
 
-/// An index map of `K`, which is `u32` or `str`, to `V`, which is `u32` or `u64`, that borrows an
-/// archive.
+/// An index map of `K` to `V`, each of which is `u32`, `u64` or `str`, that borrows an archive.
 ///
 /// The pairs are in the order in which they were pushed. A lookup by a key also returns the index,
 /// and one by an index returns the pair: a table of interned texts is such a map.
@@ -33,29 +33,29 @@ use crate::{Error, Key, Number, Width};
 /// # Ok(())
 /// # }
 /// ```
-pub struct IndexMap<'a, K: ?Sized, V> {
-    raw: RawIndexMap,
+pub struct IndexMap<'a, K: ?Sized, V: ?Sized> {
+    raw: RawMap,
     bytes: PhantomData<&'a [u8]>,
-    types: PhantomData<fn(&K) -> V>,
+    types: PhantomData<fn(&K, &V)>,
 }
 
 // SAFETY: a map is a shared borrow of bytes, which may be sent to another thread. Its calls only
 // read the bytes, and keep no state.
-unsafe impl<K: ?Sized, V> Send for IndexMap<'_, K, V> {}
+unsafe impl<K: ?Sized, V: ?Sized> Send for IndexMap<'_, K, V> {}
 
 // SAFETY: as above. Several threads may read by one handle at the same time.
-unsafe impl<K: ?Sized, V> Sync for IndexMap<'_, K, V> {}
+unsafe impl<K: ?Sized, V: ?Sized> Sync for IndexMap<'_, K, V> {}
 
 // Not derived: a derived impl would require `K: Copy`, which `str` isn't.
-impl<K: ?Sized, V> Clone for IndexMap<'_, K, V> {
+impl<K: ?Sized, V: ?Sized> Clone for IndexMap<'_, K, V> {
     fn clone(&self) -> Self {
         *self
     }
 }
 
-impl<K: ?Sized, V> Copy for IndexMap<'_, K, V> {}
+impl<K: ?Sized, V: ?Sized> Copy for IndexMap<'_, K, V> {}
 
-impl<'a, K: Key + ?Sized, V: Number> IndexMap<'a, K, V> {
+impl<'a, K: Key + ?Sized, V: Value + ?Sized> IndexMap<'a, K, V> {
     /// Validates the bytes and opens the index map whose archive they are.
     ///
     /// Validation reads all bytes once. The bytes of an archive don't record their types:
@@ -79,14 +79,8 @@ impl<'a, K: Key + ?Sized, V: Number> IndexMap<'a, K, V> {
     /// assert_eq!(error.kind(), ErrorKind::OutOfRange);
     /// ```
     pub fn open(bytes: &'a [u8], width: Width) -> Result<Self, Error> {
-        let (pointer, length) = (bytes.as_ptr().cast(), bytes.len());
-        let (kind, width) = (index_kind::<K, V>(), width as u32);
-        let mut raw = RawIndexMap::CLOSED;
-        // SAFETY: pointer and length are those of one slice, which the map borrows.
-        let status = unsafe { raw::rkyv_index_open(pointer, length, kind, width, &mut raw) };
-        // SAFETY: the same; `error` has room for the error.
-        let explain = |error| unsafe { raw::rkyv_map_explain(pointer, length, kind, width, error) };
-        check_open(status, explain).map(|()| IndexMap::of(raw))
+        let opened = INDEX.open(bytes, index_kind::<K, V>(), width as u32);
+        opened.map(IndexMap::of)
     }
 
     /// Opens the index map in a container, whose header records its types and its width.
@@ -127,20 +121,12 @@ impl<'a, K: Key + ?Sized, V: Number> IndexMap<'a, K, V> {
     }
 
     fn open_in(container: &'a [u8], width: u32) -> Result<Self, Error> {
-        let (pointer, length) = (container.as_ptr().cast(), container.len());
-        let kind = index_kind::<K, V>();
-        let mut raw = RawIndexMap::CLOSED;
-        // SAFETY: pointer and length are those of one slice, which the map borrows.
-        let status =
-            unsafe { raw::rkyv_index_open_container(pointer, length, kind, width, &mut raw) };
-        // SAFETY: the same; `error` has room for the error.
-        let explain =
-            |error| unsafe { raw::rkyv_container_explain(pointer, length, kind, width, error) };
-        check_open(status, explain).map(|()| IndexMap::of(raw))
+        let opened = INDEX_CONTAINER.open(container, index_kind::<K, V>(), width);
+        opened.map(IndexMap::of)
     }
 
     /// The map of an open handle whose bytes are borrowed.
-    fn of(raw: RawIndexMap) -> Self {
+    fn of(raw: RawMap) -> Self {
         IndexMap {
             raw,
             bytes: PhantomData,
@@ -176,22 +162,20 @@ impl<'a, K: Key + ?Sized, V: Number> IndexMap<'a, K, V> {
     }
 
     /// Returns the index and the value of a key, or `None` if the lookup doesn't find the key.
-    fn find(&self, key: &K) -> Option<(usize, V)> {
-        let (mut index, mut value) = (0, 0);
+    fn find(&self, key: &K) -> Option<(usize, V::Ref<'a>)> {
+        let (mut index, mut value) = (0, V::NONE);
+        let get = V::calls::<K>().index_get;
         // SAFETY: the map is open and borrows its bytes.
-        let status = unsafe { K::index_get(&self.raw, key, &mut index, &mut value) };
-        if status == raw::NOT_FOUND {
-            return None;
-        }
-        check(status).expect("the map is open");
-        Some((index, V::of(value)))
+        let status = unsafe { get(&self.raw, key, &mut index, &mut value) };
+        // SAFETY: the value is one of the map, whose bytes are borrowed for 'a.
+        found(status).then(|| (index, unsafe { V::of(value) }))
     }
 
     /// Returns the value of a key, or `None` if the lookup doesn't find the key.
     ///
     /// In a map that a [`Builder`](crate::Builder) has built, this is the value of the first pair
     /// with the key.
-    pub fn get(&self, key: &K) -> Option<V> {
+    pub fn get(&self, key: &K) -> Option<V::Ref<'a>> {
         self.find(key).map(|(_, value)| value)
     }
 
@@ -221,7 +205,7 @@ impl<'a, K: Key + ?Sized, V: Number> IndexMap<'a, K, V> {
     /// key.
     ///
     /// The key is the stored one, which borrows the archive.
-    pub fn get_full(&self, key: &K) -> Option<(usize, K::Ref<'a>, V)> {
+    pub fn get_full(&self, key: &K) -> Option<(usize, K::Ref<'a>, V::Ref<'a>)> {
         let (index, _) = self.find(key)?;
         let (key, value) = self.get_index(index)?;
         Some((index, key, value))
@@ -230,7 +214,7 @@ impl<'a, K: Key + ?Sized, V: Number> IndexMap<'a, K, V> {
     /// Returns the key and the value of a pair, or `None` if the lookup doesn't find the key.
     ///
     /// The key is the stored one, which borrows the archive.
-    pub fn get_key_value(&self, key: &K) -> Option<(K::Ref<'a>, V)> {
+    pub fn get_key_value(&self, key: &K) -> Option<(K::Ref<'a>, V::Ref<'a>)> {
         self.get_full(key).map(|(_, key, value)| (key, value))
     }
 
@@ -249,26 +233,23 @@ impl<'a, K: Key + ?Sized, V: Number> IndexMap<'a, K, V> {
     /// # Ok(())
     /// # }
     /// ```
-    pub fn get_index(&self, index: usize) -> Option<(K::Ref<'a>, V)> {
-        let mut pair = K::NO_INDEX_PAIR;
+    pub fn get_index(&self, index: usize) -> Option<(K::Ref<'a>, V::Ref<'a>)> {
+        let (mut pairs, mut count) = ([no_pair::<K, V>()], 0);
+        let pairs_from = V::calls::<K>().index_pairs;
         // SAFETY: the map is open and borrows its bytes.
-        let status = unsafe { K::index_at(&self.raw, index, &mut pair) };
-        if status == raw::END {
-            return None;
-        }
+        let status = unsafe { pairs_from(&self.raw, index, &mut pairs, &mut count) };
         check(status).expect("the map is open");
-        // SAFETY: the pair is one of the map, which is open, and its bytes are borrowed for 'a.
-        let (key, value) = unsafe { K::index_key_value(&pair) };
-        Some((key, V::of(value)))
+        // SAFETY: a pair that is stored is one of the map, whose bytes are borrowed for 'a.
+        (count == 1).then(|| unsafe { key_value::<K, V>(pairs[0]) })
     }
 
     /// Returns the first pair, or `None` if the map has no pairs.
-    pub fn first(&self) -> Option<(K::Ref<'a>, V)> {
+    pub fn first(&self) -> Option<(K::Ref<'a>, V::Ref<'a>)> {
         self.get_index(0)
     }
 
     /// Returns the last pair, or `None` if the map has no pairs.
-    pub fn last(&self) -> Option<(K::Ref<'a>, V)> {
+    pub fn last(&self) -> Option<(K::Ref<'a>, V::Ref<'a>)> {
         self.get_index(self.len().checked_sub(1)?)
     }
 
@@ -279,7 +260,7 @@ impl<'a, K: Key + ?Sized, V: Number> IndexMap<'a, K, V> {
     /// # Panics
     /// If the lookup doesn't find the key.
     #[track_caller]
-    pub fn at(&self, key: &K) -> V {
+    pub fn at(&self, key: &K) -> V::Ref<'a> {
         self.get(key)
             .unwrap_or_else(|| panic!("no entry found for key {key:?}"))
     }
@@ -293,7 +274,7 @@ impl<'a, K: Key + ?Sized, V: Number> IndexMap<'a, K, V> {
     pub fn iter(&self) -> Iter<'a, K, V> {
         Iter {
             map: *self,
-            pairs: [K::NO_INDEX_PAIR; BATCH],
+            pairs: [no_pair::<K, V>(); BATCH],
             begin: 0,
             stored: 0,
             index: 0,
@@ -312,14 +293,14 @@ impl<'a, K: Key + ?Sized, V: Number> IndexMap<'a, K, V> {
     }
 }
 
-impl<K: Key + ?Sized, V: Number> fmt::Debug for IndexMap<'_, K, V> {
+impl<K: Key + ?Sized, V: Value + ?Sized> fmt::Debug for IndexMap<'_, K, V> {
     fn fmt(&self, f: &mut fmt::Formatter<'_>) -> fmt::Result {
         f.debug_map().entries(self).finish()
     }
 }
 
-impl<'a, K: Key + ?Sized, V: Number> IntoIterator for IndexMap<'a, K, V> {
-    type Item = (K::Ref<'a>, V);
+impl<'a, K: Key + ?Sized, V: Value + ?Sized> IntoIterator for IndexMap<'a, K, V> {
+    type Item = (K::Ref<'a>, V::Ref<'a>);
     type IntoIter = Iter<'a, K, V>;
 
     fn into_iter(self) -> Iter<'a, K, V> {
@@ -327,13 +308,208 @@ impl<'a, K: Key + ?Sized, V: Number> IntoIterator for IndexMap<'a, K, V> {
     }
 }
 
-impl<'a, K: Key + ?Sized, V: Number> IntoIterator for &IndexMap<'a, K, V> {
-    type Item = (K::Ref<'a>, V);
+impl<'a, K: Key + ?Sized, V: Value + ?Sized> IntoIterator for &IndexMap<'a, K, V> {
+    type Item = (K::Ref<'a>, V::Ref<'a>);
     type IntoIter = Iter<'a, K, V>;
 
     fn into_iter(self) -> Iter<'a, K, V> {
         self.iter()
     }
+}
+
+/// An index map whose values, which are numbers, can be written in place.
+///
+/// Keys can't be inserted or removed, and pairs keep their indices.
+///
+/// # Examples
+/// ```
+/// use rkyv_maps::{Builder, Width};
+///
+/// # fn main() -> Result<(), rkyv_maps::Error> {
+/// let builder = Builder::<str, u32>::from([("tea", 3), ("coffee", 4)]);
+/// let mut archive = builder.build_index(Width::Narrow)?;
+/// let mut map = archive.open_mut();
+/// assert!(map.set("coffee", 5));
+/// assert!(!map.set("cake", 6));
+/// assert_eq!(map.get_index(1), Some(("coffee", 5)));
+/// # Ok(())
+/// # }
+/// ```
+pub struct IndexMapMut<'a, K: ?Sized, V> {
+    raw: RawMap,
+    bytes: PhantomData<&'a mut [u8]>,
+    types: PhantomData<fn(&K) -> V>,
+}
+
+// SAFETY: a map is a mutable borrow of bytes, which may be sent to another thread. Its calls keep
+// no state.
+unsafe impl<K: ?Sized, V> Send for IndexMapMut<'_, K, V> {}
+
+// SAFETY: a shared reference to the map only reads the bytes. Writing takes a mutable one.
+unsafe impl<K: ?Sized, V> Sync for IndexMapMut<'_, K, V> {}
+
+impl<'a, K: Key + ?Sized, V: Number> IndexMapMut<'a, K, V> {
+    /// Validates the bytes and opens the index map whose archive they are, to read and to write.
+    ///
+    /// # Errors
+    /// As [`IndexMap::open`].
+    pub fn open(bytes: &'a mut [u8], width: Width) -> Result<Self, Error> {
+        let opened = INDEX.open_writable(bytes, index_kind::<K, V>(), width as u32);
+        opened.map(IndexMapMut::of)
+    }
+
+    /// Opens the index map in a container, to read and to write.
+    ///
+    /// A write doesn't change the checksum in the header. If there is one, call
+    /// [`update_container`](crate::update_container) before the container is opened again.
+    ///
+    /// # Errors
+    /// As [`IndexMap::open_container`].
+    pub fn open_container(container: &'a mut [u8]) -> Result<Self, Error> {
+        IndexMapMut::open_in(container, raw::ANY_WIDTH)
+    }
+
+    /// Opens the index map in a container that has an archive of the given width, to read and to
+    /// write.
+    ///
+    /// # Errors
+    /// As [`IndexMap::open_container_with_width`].
+    pub fn open_container_with_width(container: &'a mut [u8], width: Width) -> Result<Self, Error> {
+        IndexMapMut::open_in(container, width as u32)
+    }
+
+    fn open_in(container: &'a mut [u8], width: u32) -> Result<Self, Error> {
+        let opened = INDEX_CONTAINER.open_writable(container, index_kind::<K, V>(), width);
+        opened.map(IndexMapMut::of)
+    }
+
+    /// The map of an open handle whose bytes are borrowed mutably.
+    fn of(raw: RawMap) -> Self {
+        IndexMapMut {
+            raw,
+            bytes: PhantomData,
+            types: PhantomData,
+        }
+    }
+
+    /// Reborrows the map, to read.
+    pub fn as_map(&self) -> IndexMap<'_, K, V> {
+        IndexMap::of(self.raw)
+    }
+
+    /// Returns the width of the archive.
+    pub fn width(&self) -> Width {
+        self.as_map().width()
+    }
+
+    /// Returns the number of pairs. Pairs with equal keys count separately.
+    pub fn len(&self) -> usize {
+        self.as_map().len()
+    }
+
+    /// Returns `true` if the map has no pairs.
+    pub fn is_empty(&self) -> bool {
+        self.as_map().is_empty()
+    }
+
+    /// Returns the value of a key, as [`IndexMap::get`] does.
+    pub fn get(&self, key: &K) -> Option<V> {
+        self.as_map().get(key)
+    }
+
+    /// Returns the index of a key, as [`IndexMap::get_index_of`] does.
+    pub fn get_index_of(&self, key: &K) -> Option<usize> {
+        self.as_map().get_index_of(key)
+    }
+
+    /// Returns the index, the key and the value of a pair, as [`IndexMap::get_full`] does.
+    pub fn get_full(&self, key: &K) -> Option<(usize, K::Ref<'_>, V)> {
+        self.as_map().get_full(key)
+    }
+
+    /// Returns the pair at an index, as [`IndexMap::get_index`] does.
+    pub fn get_index(&self, index: usize) -> Option<(K::Ref<'_>, V)> {
+        self.as_map().get_index(index)
+    }
+
+    /// Returns the value of a key, as [`IndexMap::at`] does.
+    ///
+    /// # Panics
+    /// If the lookup doesn't find the key.
+    #[track_caller]
+    pub fn at(&self, key: &K) -> V {
+        self.as_map().at(key)
+    }
+
+    /// Returns `true` if a lookup finds the key.
+    pub fn contains_key(&self, key: &K) -> bool {
+        self.as_map().contains_key(key)
+    }
+
+    /// Returns an iterator over the pairs, in insertion order.
+    pub fn iter(&self) -> Iter<'_, K, V> {
+        self.as_map().iter()
+    }
+
+    /// Returns an iterator over the keys, in insertion order.
+    pub fn keys(&self) -> Keys<'_, K, V> {
+        self.as_map().keys()
+    }
+
+    /// Returns an iterator over the values, in insertion order.
+    pub fn values(&self) -> Values<'_, K, V> {
+        self.as_map().values()
+    }
+
+    /// Writes the value that [`get`](IndexMapMut::get) returns, in place.
+    ///
+    /// Returns `false`, and changes nothing, if the lookup doesn't find the key.
+    #[must_use = "the value is not written if the key is not found"]
+    pub fn set(&mut self, key: &K, value: V) -> bool {
+        // SAFETY: the map is open and borrows its bytes mutably.
+        found(unsafe { K::index_set(&self.raw, key, value.into()) })
+    }
+}
+
+impl<'m, K: Key + ?Sized, V: Number> IntoIterator for &'m IndexMapMut<'_, K, V> {
+    type Item = (K::Ref<'m>, V);
+    type IntoIter = Iter<'m, K, V>;
+
+    fn into_iter(self) -> Iter<'m, K, V> {
+        self.iter()
+    }
+}
+
+impl<'a, K: Key + ?Sized, V: Number> From<IndexMapMut<'a, K, V>> for IndexMap<'a, K, V> {
+    /// Ends writing: the map borrows the bytes for the same lifetime.
+    fn from(map: IndexMapMut<'a, K, V>) -> Self {
+        IndexMap::of(map.raw)
+    }
+}
+
+impl<K: Key + ?Sized, V: Number> fmt::Debug for IndexMapMut<'_, K, V> {
+    fn fmt(&self, f: &mut fmt::Formatter<'_>) -> fmt::Result {
+        self.as_map().fmt(f)
+    }
+}
+
+/// A pair that a call overwrites.
+fn no_pair<K: Key + ?Sized, V: Value + ?Sized>() -> Pair<V::Raw, K::Raw> {
+    Pair {
+        value: V::NONE,
+        key: K::NONE,
+    }
+}
+
+/// The key and the value of a pair.
+///
+/// # Safety
+/// The pair is one of an open map, whose bytes are borrowed for `'a`.
+unsafe fn key_value<'a, K: Key + ?Sized, V: Value + ?Sized>(
+    pair: Pair<V::Raw, K::Raw>,
+) -> (K::Ref<'a>, V::Ref<'a>) {
+    // SAFETY: the caller ensures that the pair is one of an open map.
+    unsafe { (K::of(pair.key), V::of(pair.value)) }
 }
 
 /// The number of pairs that one call of the library stores.
@@ -341,11 +517,11 @@ const BATCH: usize = 16;
 
 /// An iterator over the pairs of an [`IndexMap`], in insertion order.
 #[must_use = "iterators are lazy and do nothing unless consumed"]
-pub struct Iter<'a, K: Key + ?Sized, V> {
+pub struct Iter<'a, K: Key + ?Sized, V: Value + ?Sized> {
     map: IndexMap<'a, K, V>,
     /// The pairs that were stored last: `stored` ones, from the index `begin` on. The others have no
     /// meaning.
-    pairs: [K::IndexPair; BATCH],
+    pairs: [Pair<V::Raw, K::Raw>; BATCH],
     begin: usize,
     stored: usize,
     /// The index of the next pair.
@@ -356,21 +532,21 @@ pub struct Iter<'a, K: Key + ?Sized, V> {
 
 // SAFETY: as a map, an iterator is a shared borrow of bytes, which its calls only read. The pairs
 // and the indices are its own.
-unsafe impl<K: Key + ?Sized, V> Send for Iter<'_, K, V> {}
+unsafe impl<K: Key + ?Sized, V: Value + ?Sized> Send for Iter<'_, K, V> {}
 
 // SAFETY: a shared reference to an iterator gives access to its bytes, pairs and indices only to
 // read.
-unsafe impl<K: Key + ?Sized, V> Sync for Iter<'_, K, V> {}
+unsafe impl<K: Key + ?Sized, V: Value + ?Sized> Sync for Iter<'_, K, V> {}
 
-impl<K: Key + ?Sized, V> Iter<'_, K, V> {
+impl<K: Key + ?Sized, V: Value + ?Sized> Iter<'_, K, V> {
     /// Stores the next pairs. At least one remains.
     #[inline(never)]
     fn store(&mut self) {
         self.begin = self.index;
+        let pairs_from = V::calls::<K>().index_pairs;
         // SAFETY: the map is open, and its bytes are borrowed for 'a.
-        let status = unsafe {
-            K::index_pairs_from(&self.map.raw, self.begin, &mut self.pairs, &mut self.stored)
-        };
+        let status =
+            unsafe { pairs_from(&self.map.raw, self.begin, &mut self.pairs, &mut self.stored) };
         assert!(
             status == raw::OK && self.stored > 0,
             "an open map has a pair at {}: {status}",
@@ -379,29 +555,29 @@ impl<K: Key + ?Sized, V> Iter<'_, K, V> {
     }
 }
 
-impl<K: Key + ?Sized, V> Clone for Iter<'_, K, V> {
+impl<K: Key + ?Sized, V: Value + ?Sized> Clone for Iter<'_, K, V> {
     fn clone(&self) -> Self {
         Iter { ..*self }
     }
 }
 
-impl<'a, K: Key + ?Sized, V: Number> Iterator for Iter<'a, K, V> {
-    type Item = (K::Ref<'a>, V);
+impl<'a, K: Key + ?Sized, V: Value + ?Sized> Iterator for Iter<'a, K, V> {
+    type Item = (K::Ref<'a>, V::Ref<'a>);
 
-    fn next(&mut self) -> Option<(K::Ref<'a>, V)> {
+    fn next(&mut self) -> Option<(K::Ref<'a>, V::Ref<'a>)> {
         if self.index == self.end {
             return None;
         }
         if self.index >= self.begin + self.stored {
             self.store();
         }
-        // SAFETY: the pair is one of the map, which is open, and its bytes are borrowed for 'a.
-        let (key, value) = unsafe { K::index_key_value(&self.pairs[self.index - self.begin]) };
+        let pair = self.pairs[self.index - self.begin];
         self.index += 1;
-        Some((key, V::of(value)))
+        // SAFETY: the pair is one of the map, which is open, and its bytes are borrowed for 'a.
+        Some(unsafe { key_value::<K, V>(pair) })
     }
 
-    fn nth(&mut self, n: usize) -> Option<(K::Ref<'a>, V)> {
+    fn nth(&mut self, n: usize) -> Option<(K::Ref<'a>, V::Ref<'a>)> {
         self.index += n.min(self.end - self.index);
         self.next()
     }
@@ -412,7 +588,7 @@ impl<'a, K: Key + ?Sized, V: Number> Iterator for Iter<'a, K, V> {
     }
 }
 
-impl<K: Key + ?Sized, V: Number> DoubleEndedIterator for Iter<'_, K, V> {
+impl<K: Key + ?Sized, V: Value + ?Sized> DoubleEndedIterator for Iter<'_, K, V> {
     fn next_back(&mut self) -> Option<Self::Item> {
         if self.index == self.end {
             return None;
@@ -422,11 +598,11 @@ impl<K: Key + ?Sized, V: Number> DoubleEndedIterator for Iter<'_, K, V> {
     }
 }
 
-impl<K: Key + ?Sized, V: Number> ExactSizeIterator for Iter<'_, K, V> {}
+impl<K: Key + ?Sized, V: Value + ?Sized> ExactSizeIterator for Iter<'_, K, V> {}
 
-impl<K: Key + ?Sized, V: Number> FusedIterator for Iter<'_, K, V> {}
+impl<K: Key + ?Sized, V: Value + ?Sized> FusedIterator for Iter<'_, K, V> {}
 
-impl<K: Key + ?Sized, V: Number> fmt::Debug for Iter<'_, K, V> {
+impl<K: Key + ?Sized, V: Value + ?Sized> fmt::Debug for Iter<'_, K, V> {
     fn fmt(&self, f: &mut fmt::Formatter<'_>) -> fmt::Result {
         f.debug_list().entries(self.clone()).finish()
     }
@@ -436,17 +612,17 @@ macro_rules! part {
     ($(#[$doc:meta])* $name:ident, $item:ty, $index:tt) => {
         $(#[$doc])*
         #[must_use = "iterators are lazy and do nothing unless consumed"]
-        pub struct $name<'a, K: Key + ?Sized, V> {
+        pub struct $name<'a, K: Key + ?Sized, V: Value + ?Sized> {
             pairs: Iter<'a, K, V>,
         }
 
-        impl<K: Key + ?Sized, V> Clone for $name<'_, K, V> {
+        impl<K: Key + ?Sized, V: Value + ?Sized> Clone for $name<'_, K, V> {
             fn clone(&self) -> Self {
                 $name { pairs: self.pairs.clone() }
             }
         }
 
-        impl<'a, K: Key + ?Sized, V: Number> Iterator for $name<'a, K, V> {
+        impl<'a, K: Key + ?Sized, V: Value + ?Sized> Iterator for $name<'a, K, V> {
             type Item = $item;
 
             fn next(&mut self) -> Option<$item> {
@@ -462,17 +638,17 @@ macro_rules! part {
             }
         }
 
-        impl<K: Key + ?Sized, V: Number> DoubleEndedIterator for $name<'_, K, V> {
+        impl<K: Key + ?Sized, V: Value + ?Sized> DoubleEndedIterator for $name<'_, K, V> {
             fn next_back(&mut self) -> Option<Self::Item> {
                 self.pairs.next_back().map(|pair| pair.$index)
             }
         }
 
-        impl<K: Key + ?Sized, V: Number> ExactSizeIterator for $name<'_, K, V> {}
+        impl<K: Key + ?Sized, V: Value + ?Sized> ExactSizeIterator for $name<'_, K, V> {}
 
-        impl<K: Key + ?Sized, V: Number> FusedIterator for $name<'_, K, V> {}
+        impl<K: Key + ?Sized, V: Value + ?Sized> FusedIterator for $name<'_, K, V> {}
 
-        impl<K: Key + ?Sized, V: Number> fmt::Debug for $name<'_, K, V> {
+        impl<K: Key + ?Sized, V: Value + ?Sized> fmt::Debug for $name<'_, K, V> {
             fn fmt(&self, f: &mut fmt::Formatter<'_>) -> fmt::Result {
                 f.debug_list().entries(self.clone()).finish()
             }
@@ -487,130 +663,5 @@ part! {
 
 part! {
     /// An iterator over the values of an [`IndexMap`], in insertion order.
-    Values, V, 1
-}
-
-mod sealed {
-    use std::panic::{RefUnwindSafe, UnwindSafe};
-
-    use super::RawIndexMap;
-    use crate::Key;
-
-    /// The calls of index maps for a type of keys.
-    pub trait SealedIndexKey: 'static {
-        /// Looks up a key and returns the status.
-        ///
-        /// # Safety
-        /// `map` is closed, or it is open and its bytes are borrowed.
-        unsafe fn index_get(
-            map: &RawIndexMap,
-            key: &Self,
-            index: &mut usize,
-            value: &mut u64,
-        ) -> u32;
-
-        /// A pair as the library stores it.
-        type IndexPair: Copy + RefUnwindSafe + UnwindSafe;
-
-        /// A pair that a call overwrites.
-        const NO_INDEX_PAIR: Self::IndexPair;
-
-        /// Stores the pair at an index and returns the status.
-        ///
-        /// # Safety
-        /// `map` is closed, or it is open and its bytes are borrowed.
-        unsafe fn index_at(map: &RawIndexMap, index: usize, pair: &mut Self::IndexPair) -> u32;
-
-        /// Stores the pairs from an index on, their number in `count`, and returns the status.
-        ///
-        /// # Safety
-        /// `map` is closed, or it is open and its bytes are borrowed.
-        unsafe fn index_pairs_from(
-            map: &RawIndexMap,
-            from: usize,
-            pairs: &mut [Self::IndexPair],
-            count: &mut usize,
-        ) -> u32;
-
-        /// The key and the value of a pair.
-        ///
-        /// # Safety
-        /// The pair is one of an open map, whose bytes are borrowed for `'a`.
-        unsafe fn index_key_value<'a>(pair: &Self::IndexPair) -> (<Self as Key>::Ref<'a>, u64)
-        where
-            Self: Key;
-    }
-}
-
-impl SealedIndexKey for u32 {
-    unsafe fn index_get(map: &RawIndexMap, key: &u32, index: &mut usize, value: &mut u64) -> u32 {
-        // SAFETY: the caller ensures that the bytes of an open map are borrowed.
-        unsafe { raw::rkyv_index_get_number(map, *key, index, value) }
-    }
-
-    type IndexPair = RawIndexNumberPair;
-
-    const NO_INDEX_PAIR: RawIndexNumberPair = RawIndexNumberPair { value: 0, key: 0 };
-
-    unsafe fn index_at(map: &RawIndexMap, index: usize, pair: &mut RawIndexNumberPair) -> u32 {
-        // SAFETY: the caller ensures that the bytes of an open map are borrowed.
-        unsafe { raw::rkyv_index_number_at(map, index, pair) }
-    }
-
-    unsafe fn index_pairs_from(
-        map: &RawIndexMap,
-        from: usize,
-        pairs: &mut [RawIndexNumberPair],
-        count: &mut usize,
-    ) -> u32 {
-        let (pointer, room) = (pairs.as_mut_ptr(), pairs.len());
-        // SAFETY: pointer and length are those of one slice. The caller ensures that the bytes of
-        // an open map are borrowed.
-        unsafe { raw::rkyv_index_numbers_from(map, from, pointer, room, count) }
-    }
-
-    unsafe fn index_key_value<'a>(pair: &RawIndexNumberPair) -> (<u32 as Key>::Ref<'a>, u64) {
-        (pair.key, pair.value)
-    }
-}
-
-impl SealedIndexKey for str {
-    unsafe fn index_get(map: &RawIndexMap, key: &str, index: &mut usize, value: &mut u64) -> u32 {
-        // SAFETY: pointer and length are those of one text. The caller ensures that the bytes of an
-        // open map are borrowed.
-        unsafe { raw::rkyv_index_get_text(map, key.as_ptr(), key.len(), index, value) }
-    }
-
-    type IndexPair = RawIndexTextPair;
-
-    const NO_INDEX_PAIR: RawIndexTextPair = RawIndexTextPair {
-        value: 0,
-        key: std::ptr::null(),
-        key_length: 0,
-    };
-
-    unsafe fn index_at(map: &RawIndexMap, index: usize, pair: &mut RawIndexTextPair) -> u32 {
-        // SAFETY: the caller ensures that the bytes of an open map are borrowed.
-        unsafe { raw::rkyv_index_text_at(map, index, pair) }
-    }
-
-    unsafe fn index_pairs_from(
-        map: &RawIndexMap,
-        from: usize,
-        pairs: &mut [RawIndexTextPair],
-        count: &mut usize,
-    ) -> u32 {
-        let (pointer, room) = (pairs.as_mut_ptr(), pairs.len());
-        // SAFETY: pointer and length are those of one slice. The caller ensures that the bytes of
-        // an open map are borrowed.
-        unsafe { raw::rkyv_index_texts_from(map, from, pointer, room, count) }
-    }
-
-    unsafe fn index_key_value<'a>(pair: &RawIndexTextPair) -> (<str as Key>::Ref<'a>, u64) {
-        // SAFETY: the key is a part of the archive, which is borrowed for 'a, and never null.
-        let key = unsafe { std::slice::from_raw_parts(pair.key, pair.key_length) };
-        // SAFETY: opening the map has validated each key as UTF-8, and nothing writes to it.
-        let key = unsafe { std::str::from_utf8_unchecked(key) };
-        (key, pair.value)
-    }
+    Values, V::Ref<'a>, 1
 }

@@ -2,7 +2,7 @@ use std::fmt;
 use std::iter::FusedIterator;
 use std::marker::PhantomData;
 
-use crate::raw::{self, RawMap};
+use crate::raw::{self, Pair, RawMap, Step};
 use crate::{Key, Value};
 
 /// The number of pairs that one call of the library stores.
@@ -14,7 +14,7 @@ pub struct Iter<'a, K: Key + ?Sized, V: Value + ?Sized> {
     raw: RawMap,
     /// The pairs that were stored last. Those before `taken` were returned, and those from `stored`
     /// on have no meaning.
-    pairs: [V::Pair<K>; BATCH],
+    pairs: [Step<Pair<V::Raw, K::Raw>>; BATCH],
     taken: usize,
     stored: usize,
     /// The bucket behind the pairs that were stored.
@@ -35,9 +35,13 @@ unsafe impl<K: Key + ?Sized, V: Value + ?Sized> Sync for Iter<'_, K, V> {}
 impl<K: Key + ?Sized, V: Value + ?Sized> Iter<'_, K, V> {
     /// The pairs of an open map with `len` pairs, whose bytes are borrowed.
     pub(crate) fn new(raw: RawMap, len: usize) -> Self {
+        let pair = Pair {
+            value: V::NONE,
+            key: K::NONE,
+        };
         Iter {
             raw,
-            pairs: [V::no_pair::<K>(); BATCH],
+            pairs: [Step { next: 0, pair }; BATCH],
             taken: 0,
             stored: 0,
             from: 0,
@@ -50,16 +54,16 @@ impl<K: Key + ?Sized, V: Value + ?Sized> Iter<'_, K, V> {
     /// Stores the next pairs. At least one is left.
     #[inline(never)]
     fn store(&mut self) {
+        let next = V::calls::<K>().next;
         // SAFETY: the map is open, and its bytes are borrowed for 'a.
-        let status =
-            unsafe { V::next_pairs::<K>(&self.raw, self.from, &mut self.pairs, &mut self.stored) };
+        let status = unsafe { next(&self.raw, self.from, &mut self.pairs, &mut self.stored) };
         assert!(
             status == raw::OK && self.stored > 0,
             "an open map has {} more pairs: {status}",
             self.left
         );
         self.taken = 0;
-        self.from = V::behind::<K>(&self.pairs[self.stored - 1]);
+        self.from = self.pairs[self.stored - 1].next;
     }
 }
 
@@ -79,11 +83,11 @@ impl<'a, K: Key + ?Sized, V: Value + ?Sized> Iterator for Iter<'a, K, V> {
         if self.taken == self.stored {
             self.store();
         }
-        // SAFETY: the pair is one of the map, which is open, and its bytes are borrowed for 'a.
-        let pair = unsafe { V::key_value::<K>(&self.pairs[self.taken]) };
+        let Pair { value, key } = self.pairs[self.taken].pair;
         self.taken += 1;
         self.left -= 1;
-        Some(pair)
+        // SAFETY: the pair is one of the map, which is open, and its bytes are borrowed for 'a.
+        Some(unsafe { (K::of(key), V::of(value)) })
     }
 
     fn size_hint(&self) -> (usize, Option<usize>) {

@@ -2,12 +2,13 @@
 //! library `ffi_rkyv`.
 //!
 //! A [`Builder`] collects pairs and builds the bytes of an archive. A [`Map`] borrows such bytes:
-//! [`Map::open`] validates them once, and lookups and iteration then read them in place. Keys are
-//! `u32` or `str`, values are `u32`, `u64` or `str`. A [`MapMut`] also writes numbers in place. A
-//! [`SetBuilder`] and a [`Set`] are the same for sets of `u32` or `str`.
+//! [`Map::open`] validates them once, and lookups and iteration then read them in place. Keys and
+//! values are `u32`, `u64` or `str`. A [`MapMut`] also writes values that are numbers in place. A
+//! [`SetBuilder`] and a [`Set`] are the same for sets of such items.
 //!
 //! An [`IndexMap`] keeps its pairs in insertion order. It is looked up by key or by index, as a
-//! table of interned texts is. [`Builder::build_index`] builds the bytes of its archive.
+//! table of interned texts is. [`Builder::build_index`] builds the bytes of its archive, and an
+//! [`IndexMapMut`] writes values in place.
 //!
 //! ```
 //! use rkyv_maps::{Builder, Map, Width};
@@ -60,11 +61,13 @@
 #![warn(unsafe_op_in_unsafe_fn)]
 
 mod builder;
+mod calls;
 mod container;
 mod error;
 pub mod index_map;
 mod iter;
 mod map;
+mod open;
 mod raw;
 mod set;
 mod types;
@@ -72,7 +75,7 @@ mod types;
 pub use builder::{Archive, Builder, IndexArchive};
 pub use container::{update_container, Checksum};
 pub use error::{Error, ErrorKind};
-pub use index_map::IndexMap;
+pub use index_map::{IndexMap, IndexMapMut};
 pub use iter::{Iter, Keys, Values};
 pub use map::{Map, MapMut};
 pub use set::{Members, Set, SetArchive, SetBuilder};

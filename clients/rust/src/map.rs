@@ -1,14 +1,16 @@
 use std::fmt;
 use std::marker::PhantomData;
 
-use crate::error::{check, check_open};
+use crate::error::check;
 use crate::iter::{Iter, Keys, Values};
+use crate::open::{MAP, MAP_CONTAINER};
 use crate::raw::{self, RawMap};
 use crate::types::kind;
+#[cfg(doc)]
+use crate::ErrorKind;
 use crate::{Error, Key, Number, Value, Width};
 
-/// A map of `K`, which is `u32` or `str`, to `V`, which is `u32`, `u64` or `str`, that borrows an
-/// archive.
+/// A map of `K` to `V`, each of which is `u32`, `u64` or `str`, that borrows an archive.
 ///
 /// A `Map` is a few words: copy it freely. Lookups and iteration allocate nothing and read the
 /// bytes in place, at any alignment.
@@ -79,20 +81,7 @@ impl<'a, K: Key + ?Sized, V: Value + ?Sized> Map<'a, K, V> {
     /// - [`ErrorKind::UnwrappedControlByte`]
     /// - [`ErrorKind::InvalidValue`]
     pub fn open(bytes: &'a [u8], width: Width) -> Result<Self, Error> {
-        let (pointer, length) = (bytes.as_ptr().cast(), bytes.len());
-        let mut raw = RawMap::CLOSED;
-        // SAFETY: pointer and length are those of one slice, which the map borrows.
-        let status =
-            unsafe { raw::rkyv_map_open(pointer, length, kind::<K, V>(), width as u32, &mut raw) };
-        // SAFETY: the same; `error` has room for the error.
-        let explain = |error| unsafe {
-            raw::rkyv_map_explain(pointer, length, kind::<K, V>(), width as u32, error)
-        };
-        check_open(status, explain).map(|()| Map {
-            raw,
-            bytes: PhantomData,
-            types: PhantomData,
-        })
+        MAP.open(bytes, kind::<K, V>(), width as u32).map(Map::of)
     }
 
     /// Opens the map in a container, whose header records its types and its width.
@@ -146,21 +135,17 @@ impl<'a, K: Key + ?Sized, V: Value + ?Sized> Map<'a, K, V> {
     }
 
     fn open_in(container: &'a [u8], width: u32) -> Result<Self, Error> {
-        let (pointer, length) = (container.as_ptr().cast(), container.len());
-        let mut raw = RawMap::CLOSED;
-        // SAFETY: pointer and length are those of one slice, which the map borrows.
-        let status = unsafe {
-            raw::rkyv_map_open_container(pointer, length, kind::<K, V>(), width, &mut raw)
-        };
-        // SAFETY: the same; `error` has room for the error.
-        let explain = |error| unsafe {
-            raw::rkyv_container_explain(pointer, length, kind::<K, V>(), width, error)
-        };
-        check_open(status, explain).map(|()| Map {
+        let opened = MAP_CONTAINER.open(container, kind::<K, V>(), width);
+        opened.map(Map::of)
+    }
+
+    /// The map of an open handle whose bytes are borrowed.
+    fn of(raw: RawMap) -> Self {
+        Map {
             raw,
             bytes: PhantomData,
             types: PhantomData,
-        })
+        }
     }
 
     /// Returns the width of the archive.
@@ -195,9 +180,11 @@ impl<'a, K: Key + ?Sized, V: Value + ?Sized> Map<'a, K, V> {
     /// In a map that a [`Builder`](crate::Builder) has built, this is the value of the first pair
     /// with the key.
     pub fn get(&self, key: &K) -> Option<V::Ref<'a>> {
-        // SAFETY: the map is open and borrows its bytes for 'a.
-        let (status, value) = unsafe { V::get(&self.raw, key) };
-        found(status).then_some(value)
+        let mut value = V::NONE;
+        // SAFETY: the map is open and borrows its bytes.
+        let status = unsafe { (V::calls::<K>().get)(&self.raw, key, &mut value) };
+        // SAFETY: the value is one of the map, whose bytes are borrowed for 'a.
+        found(status).then(|| unsafe { V::of(value) })
     }
 
     /// Returns the value of a key.
@@ -294,20 +281,8 @@ impl<'a, K: Key + ?Sized, V: Number> MapMut<'a, K, V> {
     /// # Errors
     /// As [`Map::open`].
     pub fn open(bytes: &'a mut [u8], width: Width) -> Result<Self, Error> {
-        let (pointer, length) = (bytes.as_mut_ptr().cast(), bytes.len());
-        let kind = kind::<K, V>();
-        let mut raw = RawMap::CLOSED;
-        // SAFETY: pointer and length are those of one slice, which the map borrows mutably.
-        let status =
-            unsafe { raw::rkyv_map_open_writable(pointer, length, kind, width as u32, &mut raw) };
-        // SAFETY: the same; `error` has room for the error.
-        let explain =
-            |error| unsafe { raw::rkyv_map_explain(pointer, length, kind, width as u32, error) };
-        check_open(status, explain).map(|()| MapMut {
-            raw,
-            bytes: PhantomData,
-            types: PhantomData,
-        })
+        let opened = MAP.open_writable(bytes, kind::<K, V>(), width as u32);
+        opened.map(MapMut::of)
     }
 
     /// Opens the map in a container, to read and to write.
@@ -330,30 +305,22 @@ impl<'a, K: Key + ?Sized, V: Number> MapMut<'a, K, V> {
     }
 
     fn open_in(container: &'a mut [u8], width: u32) -> Result<Self, Error> {
-        let (pointer, length) = (container.as_mut_ptr().cast(), container.len());
-        let kind = kind::<K, V>();
-        let mut raw = RawMap::CLOSED;
-        // SAFETY: pointer and length are those of one slice, which the map borrows mutably.
-        let status = unsafe {
-            raw::rkyv_map_open_container_writable(pointer, length, kind, width, &mut raw)
-        };
-        // SAFETY: the same; `error` has room for the error.
-        let explain =
-            |error| unsafe { raw::rkyv_container_explain(pointer, length, kind, width, error) };
-        check_open(status, explain).map(|()| MapMut {
+        let opened = MAP_CONTAINER.open_writable(container, kind::<K, V>(), width);
+        opened.map(MapMut::of)
+    }
+
+    /// The map of an open handle whose bytes are borrowed mutably.
+    fn of(raw: RawMap) -> Self {
+        MapMut {
             raw,
             bytes: PhantomData,
             types: PhantomData,
-        })
+        }
     }
 
     /// Reborrows the map, to read.
     pub fn as_map(&self) -> Map<'_, K, V> {
-        Map {
-            raw: self.raw,
-            bytes: PhantomData,
-            types: PhantomData,
-        }
+        Map::of(self.raw)
     }
 
     /// Returns the width of the archive.
@@ -427,11 +394,7 @@ impl<'m, K: Key + ?Sized, V: Number> IntoIterator for &'m MapMut<'_, K, V> {
 impl<'a, K: Key + ?Sized, V: Number> From<MapMut<'a, K, V>> for Map<'a, K, V> {
     /// Ends writing: the map borrows the bytes for the same lifetime.
     fn from(map: MapMut<'a, K, V>) -> Self {
-        Map {
-            raw: map.raw,
-            bytes: PhantomData,
-            types: PhantomData,
-        }
+        Map::of(map.raw)
     }
 }
 
@@ -442,7 +405,7 @@ impl<K: Key + ?Sized, V: Number> fmt::Debug for MapMut<'_, K, V> {
 }
 
 /// Whether a key is found, by the status of a call with an open map.
-fn found(status: u32) -> bool {
+pub(crate) fn found(status: u32) -> bool {
     if status == raw::NOT_FOUND {
         return false;
     }

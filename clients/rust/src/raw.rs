@@ -1,4 +1,4 @@
-//! The declarations of `../c/rkyv.h`.
+//! The declarations of `../c/rkyv.h`. Those of a type of keys are in `calls`.
 
 use std::ffi::c_void;
 
@@ -13,7 +13,7 @@ struct RawTableHeader {
     inverse: u64,
 }
 
-/// A handle: the `rkyv_map` of the header.
+/// A handle: the `rkyv_map` of the header, or its `rkyv_index_map`, which has the same members.
 #[repr(C)]
 #[derive(Clone, Copy)]
 pub struct RawMap {
@@ -43,100 +43,56 @@ impl RawMap {
     };
 }
 
-/// A pair of a map with number keys: the `rkyv_number_pair` of the header.
+/// The address of a text and its number of bytes, as the structs of the header have them.
 #[repr(C)]
 #[derive(Clone, Copy)]
-pub struct RawNumberPair {
-    pub next: u64,
-    pub value: u64,
-    pub key: u32,
+pub struct RawText {
+    pub pointer: *const u8,
+    pub length: usize,
 }
 
-/// A pair of a map with text keys: the `rkyv_text_pair` of the header.
-#[repr(C)]
-#[derive(Clone, Copy)]
-pub struct RawTextPair {
-    pub next: u64,
-    pub value: u64,
-    pub key: *const u8,
-    pub key_length: usize,
-}
-
-/// A pair of a map of numbers to texts: the `rkyv_number_text_pair` of the header.
-#[repr(C)]
-#[derive(Clone, Copy)]
-pub struct RawNumberTextPair {
-    pub next: u64,
-    pub value: *const u8,
-    pub value_length: usize,
-    pub key: u32,
-}
-
-/// A pair of a map of texts to texts: the `rkyv_text_text_pair` of the header.
-#[repr(C)]
-#[derive(Clone, Copy)]
-pub struct RawTextTextPair {
-    pub next: u64,
-    pub key: *const u8,
-    pub key_length: usize,
-    pub value: *const u8,
-    pub value_length: usize,
-}
-
-/// An item of a set of numbers: the `rkyv_number_member` of the header.
-#[repr(C)]
-#[derive(Clone, Copy)]
-pub struct RawNumberMember {
-    pub next: u64,
-    pub item: u32,
-}
-
-/// An item of a set of texts: the `rkyv_text_member` of the header.
-#[repr(C)]
-#[derive(Clone, Copy)]
-pub struct RawTextMember {
-    pub next: u64,
-    pub item: *const u8,
-    pub item_length: usize,
-}
-
-/// A handle of an index map: the `rkyv_index_map` of the header.
-#[repr(C)]
-#[derive(Clone, Copy)]
-pub struct RawIndexMap {
-    bytes: *const u8,
-    length: usize,
-    count: usize,
-    kind: u32,
-    width: u32,
-}
-
-impl RawIndexMap {
-    /// A handle of no open map, which the calls that open fill.
-    pub const CLOSED: RawIndexMap = RawIndexMap {
-        bytes: std::ptr::null(),
+impl RawText {
+    /// A text that a call overwrites.
+    pub const NONE: RawText = RawText {
+        pointer: std::ptr::null(),
         length: 0,
-        count: 0,
-        kind: 0,
-        width: 0,
     };
+
+    pub fn of(text: &str) -> RawText {
+        RawText {
+            pointer: text.as_ptr(),
+            length: text.len(),
+        }
+    }
+
+    /// The text itself.
+    ///
+    /// # Safety
+    /// The text is one of an open map, whose bytes are borrowed for `'a`.
+    pub unsafe fn get<'a>(self) -> &'a str {
+        // SAFETY: the text is a part of the archive, which is borrowed for 'a, and never null.
+        let bytes = unsafe { std::slice::from_raw_parts(self.pointer, self.length) };
+        // SAFETY: opening the map has validated each text as UTF-8. Only numbers are written, and a
+        // valid archive has no byte that is of both a text and a number.
+        unsafe { std::str::from_utf8_unchecked(bytes) }
+    }
 }
 
-/// A pair of an index map with number keys: the `rkyv_index_number_pair` of the header.
+/// A pair that is archived or stored: an item, a member or a pair of the header, as
+/// `rkyv_index_number_text_pair`. In a set the value is `()`.
 #[repr(C)]
 #[derive(Clone, Copy)]
-pub struct RawIndexNumberPair {
-    pub value: u64,
-    pub key: u32,
+pub struct Pair<V, K> {
+    pub value: V,
+    pub key: K,
 }
 
-/// A pair of an index map with text keys: the `rkyv_index_text_pair` of the header.
+/// A pair of an iteration: one of the header's structs with a member `next`, as `rkyv_text_pair`.
 #[repr(C)]
 #[derive(Clone, Copy)]
-pub struct RawIndexTextPair {
-    pub value: u64,
-    pub key: *const u8,
-    pub key_length: usize,
+pub struct Step<P> {
+    pub next: u64,
+    pub pair: P,
 }
 
 /// An error of opening, with its numbers: the `rkyv_error` of the header.
@@ -149,48 +105,9 @@ pub struct RawError {
     pub second: u64,
 }
 
-/// A pair with a number key to be archived: the `rkyv_number_item` of the header.
-#[repr(C)]
-pub struct RawNumberItem {
-    pub value: u64,
-    pub key: u32,
-}
-
-/// A pair with a text key to be archived: the `rkyv_text_item` of the header.
-#[repr(C)]
-pub struct RawTextItem {
-    pub key: *const u8,
-    pub key_length: usize,
-    pub value: u64,
-}
-
-/// A pair of a number and a text to be archived: the `rkyv_number_text_item` of the header.
-#[repr(C)]
-pub struct RawNumberTextItem {
-    pub value: *const u8,
-    pub value_length: usize,
-    pub key: u32,
-}
-
-/// A pair of two texts to be archived: the `rkyv_text_text_item` of the header.
-#[repr(C)]
-pub struct RawTextTextItem {
-    pub key: *const u8,
-    pub key_length: usize,
-    pub value: *const u8,
-    pub value_length: usize,
-}
-
-/// A text to be archived in a set: the `rkyv_set_text` of the header.
-#[repr(C)]
-pub struct RawSetText {
-    pub text: *const u8,
-    pub length: usize,
-}
-
 pub const OK: u32 = 0;
 pub const NOT_FOUND: u32 = 1;
-pub const END: u32 = 2;
+pub const UNKNOWN_KIND: u32 = 7;
 pub const NO_MEMORY: u32 = 12;
 
 /// The number of bytes of a container's header.
@@ -228,6 +145,34 @@ unsafe extern "C" {
         width: u32,
         map: *mut RawMap,
     ) -> u32;
+    pub fn rkyv_index_open(
+        bytes: *const c_void,
+        length: usize,
+        kind: u32,
+        width: u32,
+        map: *mut RawMap,
+    ) -> u32;
+    pub fn rkyv_index_open_writable(
+        bytes: *mut c_void,
+        length: usize,
+        kind: u32,
+        width: u32,
+        map: *mut RawMap,
+    ) -> u32;
+    pub fn rkyv_index_open_container(
+        bytes: *const c_void,
+        length: usize,
+        kind: u32,
+        width: u32,
+        map: *mut RawMap,
+    ) -> u32;
+    pub fn rkyv_index_open_container_writable(
+        bytes: *mut c_void,
+        length: usize,
+        kind: u32,
+        width: u32,
+        map: *mut RawMap,
+    ) -> u32;
     pub fn rkyv_map_explain(
         bytes: *const c_void,
         length: usize,
@@ -244,169 +189,8 @@ unsafe extern "C" {
     ) -> u32;
     pub fn rkyv_map_width(map: *const RawMap, width: *mut u32) -> u32;
     pub fn rkyv_map_count(map: *const RawMap, count: *mut usize) -> u32;
-    pub fn rkyv_map_get_number(map: *const RawMap, key: u32, value: *mut u64) -> u32;
-    pub fn rkyv_map_get_text(
-        map: *const RawMap,
-        key: *const u8,
-        length: usize,
-        value: *mut u64,
-    ) -> u32;
-    pub fn rkyv_map_set_number(map: *const RawMap, key: u32, value: u64) -> u32;
-    pub fn rkyv_map_set_text(map: *const RawMap, key: *const u8, length: usize, value: u64) -> u32;
-    pub fn rkyv_map_next_numbers(
-        map: *const RawMap,
-        from: u64,
-        pairs: *mut RawNumberPair,
-        room: usize,
-        count: *mut usize,
-    ) -> u32;
-    pub fn rkyv_map_next_texts(
-        map: *const RawMap,
-        from: u64,
-        pairs: *mut RawTextPair,
-        room: usize,
-        count: *mut usize,
-    ) -> u32;
-    pub fn rkyv_index_open(
-        bytes: *const c_void,
-        length: usize,
-        kind: u32,
-        width: u32,
-        map: *mut RawIndexMap,
-    ) -> u32;
-    pub fn rkyv_index_open_container(
-        bytes: *const c_void,
-        length: usize,
-        kind: u32,
-        width: u32,
-        map: *mut RawIndexMap,
-    ) -> u32;
-    pub fn rkyv_index_width(map: *const RawIndexMap, width: *mut u32) -> u32;
-    pub fn rkyv_index_count(map: *const RawIndexMap, count: *mut usize) -> u32;
-    pub fn rkyv_index_get_number(
-        map: *const RawIndexMap,
-        key: u32,
-        index: *mut usize,
-        value: *mut u64,
-    ) -> u32;
-    pub fn rkyv_index_get_text(
-        map: *const RawIndexMap,
-        key: *const u8,
-        length: usize,
-        index: *mut usize,
-        value: *mut u64,
-    ) -> u32;
-    pub fn rkyv_index_number_at(
-        map: *const RawIndexMap,
-        index: usize,
-        pair: *mut RawIndexNumberPair,
-    ) -> u32;
-    pub fn rkyv_index_text_at(
-        map: *const RawIndexMap,
-        index: usize,
-        pair: *mut RawIndexTextPair,
-    ) -> u32;
-    pub fn rkyv_index_numbers_from(
-        map: *const RawIndexMap,
-        from: usize,
-        pairs: *mut RawIndexNumberPair,
-        room: usize,
-        count: *mut usize,
-    ) -> u32;
-    pub fn rkyv_index_texts_from(
-        map: *const RawIndexMap,
-        from: usize,
-        pairs: *mut RawIndexTextPair,
-        room: usize,
-        count: *mut usize,
-    ) -> u32;
-    pub fn rkyv_build_numbers(
-        items: *const RawNumberItem,
-        count: usize,
-        kind: u32,
-        width: u32,
-        bytes: *mut *mut u8,
-        length: *mut usize,
-    ) -> u32;
-    pub fn rkyv_build_texts(
-        items: *const RawTextItem,
-        count: usize,
-        kind: u32,
-        width: u32,
-        bytes: *mut *mut u8,
-        length: *mut usize,
-    ) -> u32;
-    pub fn rkyv_map_get_text_of_number(
-        map: *const RawMap,
-        key: u32,
-        value: *mut *const u8,
-        value_length: *mut usize,
-    ) -> u32;
-    pub fn rkyv_map_get_text_of_text(
-        map: *const RawMap,
-        key: *const u8,
-        length: usize,
-        value: *mut *const u8,
-        value_length: *mut usize,
-    ) -> u32;
-    pub fn rkyv_map_next_number_texts(
-        map: *const RawMap,
-        from: u64,
-        pairs: *mut RawNumberTextPair,
-        room: usize,
-        count: *mut usize,
-    ) -> u32;
-    pub fn rkyv_map_next_text_texts(
-        map: *const RawMap,
-        from: u64,
-        pairs: *mut RawTextTextPair,
-        room: usize,
-        count: *mut usize,
-    ) -> u32;
-    pub fn rkyv_build_number_texts(
-        items: *const RawNumberTextItem,
-        count: usize,
-        width: u32,
-        bytes: *mut *mut u8,
-        length: *mut usize,
-    ) -> u32;
-    pub fn rkyv_build_text_texts(
-        items: *const RawTextTextItem,
-        count: usize,
-        width: u32,
-        bytes: *mut *mut u8,
-        length: *mut usize,
-    ) -> u32;
-    pub fn rkyv_set_contains_number(set: *const RawMap, item: u32) -> u32;
-    pub fn rkyv_set_contains_text(set: *const RawMap, item: *const u8, length: usize) -> u32;
-    pub fn rkyv_set_next_numbers(
-        set: *const RawMap,
-        from: u64,
-        members: *mut RawNumberMember,
-        room: usize,
-        count: *mut usize,
-    ) -> u32;
-    pub fn rkyv_set_next_texts(
-        set: *const RawMap,
-        from: u64,
-        members: *mut RawTextMember,
-        room: usize,
-        count: *mut usize,
-    ) -> u32;
-    pub fn rkyv_build_number_set(
-        items: *const u32,
-        count: usize,
-        width: u32,
-        bytes: *mut *mut u8,
-        length: *mut usize,
-    ) -> u32;
-    pub fn rkyv_build_text_set(
-        items: *const RawSetText,
-        count: usize,
-        width: u32,
-        bytes: *mut *mut u8,
-        length: *mut usize,
-    ) -> u32;
+    pub fn rkyv_index_width(map: *const RawMap, width: *mut u32) -> u32;
+    pub fn rkyv_index_count(map: *const RawMap, count: *mut usize) -> u32;
     pub fn rkyv_bytes_free(bytes: *mut u8);
     pub fn rkyv_container_header(
         archive: *const c_void,

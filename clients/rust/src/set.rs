@@ -6,7 +6,7 @@ use std::iter::FusedIterator;
 use crate::types::Unit;
 use crate::{Archive, Builder, Checksum, Error, Key, Keys, Map, Width};
 
-/// A set of `K`, which is `u32` or `str`, that borrows an archive.
+/// A set of `K`, which is `u32`, `u64` or `str`, that borrows an archive.
 ///
 /// A `Set` is a few words: copy it freely. Lookups and iteration allocate nothing and read the
 /// bytes in place, at any alignment.
@@ -174,7 +174,7 @@ impl<K: Key + ?Sized> fmt::Debug for Members<'_, K> {
 
 /// The items of a set that is to be archived.
 ///
-/// The items are `u32` or `str`, and are kept in insertion order. Equal items are kept too, unlike in
+/// The items are `u32`, `u64` or `str`, and are kept in insertion order. Equal items are kept too, unlike in
 /// a set of std: [`Set::len`] counts them, and iterators return them.
 ///
 /// # Examples

@@ -2,12 +2,15 @@
 
 use std::borrow::Borrow;
 
-use rkyv_maps::{Builder, ErrorKind, Key, Map, MapMut, Number, Width};
+use rkyv_maps::{
+    Builder, ErrorKind, IndexMap, IndexMapMut, Key, Map, MapMut, Number, Set, SetBuilder, Value,
+    Width,
+};
 
 const WIDTHS: [Width; 2] = [Width::Narrow, Width::Wide];
 
-/// Opens bytes as a map, and uses each pair. Returns whether the bytes are valid.
-fn opens_safely<K: Key + ?Sized, V: Number>(bytes: &[u8], width: Width) -> bool {
+/// Opens bytes as a map, and reads each pair. Returns whether the bytes are valid.
+fn is_read_safely<K: Key + ?Sized, V: Value + ?Sized>(bytes: &[u8], width: Width) -> bool {
     let Ok(map) = Map::<K, V>::open(bytes, width) else {
         return false;
     };
@@ -15,7 +18,59 @@ fn opens_safely<K: Key + ?Sized, V: Number>(bytes: &[u8], width: Width) -> bool 
     let count = map.keys().filter(found).count();
     assert!(count <= map.len() && map.iter().count() == map.len());
     assert!(!format!("{map:?}").is_empty());
+    true
+}
 
+/// Opens bytes as an index map, and reads each pair. Returns whether the bytes are valid.
+fn is_indexed_safely<K: Key + ?Sized, V: Value + ?Sized>(bytes: &[u8], width: Width) -> bool {
+    let Ok(map) = IndexMap::<K, V>::open(bytes, width) else {
+        return false;
+    };
+    for (key, _) in map.iter() {
+        // Of an archive that no builder has built, the found pair may be any pair.
+        let index = map.get_index_of(key.borrow());
+        assert_eq!(index.is_some(), map.get_full(key.borrow()).is_some());
+        assert!(index.is_none_or(|index| index < map.len()));
+    }
+    assert!(map.iter().rev().count() == map.len() && map.get_index(map.len()).is_none());
+    assert!(!format!("{map:?}").is_empty());
+    true
+}
+
+/// Opens bytes as a set, and reads each item. Returns whether the bytes are valid.
+fn is_listed_safely<K: Key + ?Sized>(bytes: &[u8], width: Width) -> bool {
+    let Ok(set) = Set::<K>::open(bytes, width) else {
+        return false;
+    };
+    let found = |item: &K::Ref<'_>| set.contains((*item).borrow());
+    assert!(set.iter().filter(found).count() <= set.len());
+    true
+}
+
+/// Opens bytes as an index map to numbers, and reads and writes each pair. Returns whether the bytes
+/// are valid.
+fn is_index_written_safely<K: Key + ?Sized, V: Number>(bytes: &[u8], width: Width) -> bool {
+    if !is_indexed_safely::<K, V>(bytes, width) {
+        return false;
+    }
+    let map = IndexMap::<K, V>::open(bytes, width).unwrap();
+    let mut copy = bytes.to_vec();
+    let mut written = IndexMapMut::<K, V>::open(&mut copy, width).unwrap();
+    for key in map.keys() {
+        let set = written.set(key.borrow(), V::default());
+        assert_eq!(set, map.contains_key(key.borrow()));
+    }
+    assert_eq!(written.len(), map.len());
+    true
+}
+
+/// Opens bytes as a map to numbers, and reads and writes each pair. Returns whether the bytes are
+/// valid.
+fn opens_safely<K: Key + ?Sized, V: Number>(bytes: &[u8], width: Width) -> bool {
+    if !is_read_safely::<K, V>(bytes, width) {
+        return false;
+    }
+    let map = Map::<K, V>::open(bytes, width).unwrap();
     let mut copy = bytes.to_vec();
     let mut written = MapMut::<K, V>::open(&mut copy, width).unwrap();
     for key in map.keys() {
@@ -32,8 +87,18 @@ fn number_of_types(bytes: &[u8]) -> usize {
         [
             opens_safely::<u32, u32>(bytes, width),
             opens_safely::<u32, u64>(bytes, width),
+            opens_safely::<u64, u64>(bytes, width),
             opens_safely::<str, u32>(bytes, width),
             opens_safely::<str, u64>(bytes, width),
+            is_read_safely::<u64, str>(bytes, width),
+            is_read_safely::<str, str>(bytes, width),
+            is_listed_safely::<u64>(bytes, width),
+            is_listed_safely::<str>(bytes, width),
+            is_index_written_safely::<u32, u32>(bytes, width),
+            is_index_written_safely::<u64, u64>(bytes, width),
+            is_index_written_safely::<str, u32>(bytes, width),
+            is_indexed_safely::<u32, str>(bytes, width),
+            is_indexed_safely::<str, str>(bytes, width),
         ]
         .map(usize::from)
         .iter()
@@ -66,6 +131,14 @@ fn archives() -> Vec<(Width, Vec<u8>)> {
             width,
             Builder::<str, u64>::new().build(width).unwrap().into(),
         ));
+        let translations: Builder<str, str> = texts.into_iter().zip(texts).collect();
+        archives.push((width, translations.build(width).unwrap().into()));
+        archives.push((width, translations.build_index(width).unwrap().into()));
+        let great: Builder<u64, u64> = (0..3).map(|key| (key << 40, key)).collect();
+        archives.push((width, great.build(width).unwrap().into()));
+        archives.push((width, great.build_index(width).unwrap().into()));
+        let set = SetBuilder::<u64>::from([1, 1 << 40]);
+        archives.push((width, set.build(width).unwrap().into()));
     }
     archives
 }

@@ -5,7 +5,8 @@ use std::panic::{catch_unwind, RefUnwindSafe, UnwindSafe};
 
 use rkyv_maps::index_map::{Iter, Keys, Values};
 use rkyv_maps::{
-    Builder, Checksum, Error, ErrorKind, IndexArchive, IndexMap, Key, Map, Number, Width,
+    update_container, Builder, Checksum, Error, ErrorKind, IndexArchive, IndexMap, IndexMapMut,
+    Key, Map, Number, Width,
 };
 
 /// The narrow archive of the index map of the pairs 1 and 2, 5 and 6, and 1 and 9: the indices 0, 1
@@ -241,6 +242,59 @@ fn containers_open_as_their_own_collection() {
     let container = narrow.to_container(Checksum::None);
     let error = IndexMap::<str, u64>::open_container_with_width(&container, Width::Wide);
     assert_eq!(error.unwrap_err().kind(), ErrorKind::WrongWidth);
+}
+
+#[test]
+fn values_are_written_in_place() {
+    let mut bytes = three_pairs();
+    let mut map = IndexMapMut::<u32, u32>::open(&mut bytes, Width::Narrow).unwrap();
+    assert_eq!((map.set(&1, u32::MAX), map.set(&2, 3)), (true, false));
+    assert_eq!((map.get(&1), map.at(&5)), (Some(u32::MAX), 6));
+    assert_eq!(map.get_full(&1), Some((0, 1, u32::MAX)));
+    assert_eq!(
+        (map.get_index_of(&5), map.get_index(2)),
+        (Some(1), Some((1, 9)))
+    );
+    assert_eq!(
+        (map.len(), map.is_empty(), map.width()),
+        (3, false, Width::Narrow)
+    );
+    assert_eq!((map.contains_key(&1), map.contains_key(&2)), (true, false));
+    assert!(map.iter().eq(&map) && map.iter().eq([(1, u32::MAX), (5, 6), (1, 9)]));
+    assert!(map.keys().eq([1, 5, 1]) && map.values().eq([u32::MAX, 6, 9]));
+    assert_eq!(format!("{map:?}"), "{1: 4294967295, 5: 6, 1: 9}");
+    assert_eq!(map.as_map().last(), Some((1, 9)));
+    let map = IndexMap::from(map);
+    assert_eq!(map.first(), Some((1, u32::MAX)));
+
+    let mut bytes = empty_to_seven();
+    let mut map = IndexMapMut::<str, u64>::open(&mut bytes, Width::Wide).unwrap();
+    assert_eq!((map.set("", u64::MAX), map.set("a", 1)), (true, false));
+    assert_eq!(map.get(""), Some(u64::MAX));
+    bytes[0] = 1;
+    bytes[8] = 1;
+    let error = IndexMapMut::<str, u64>::open(&mut bytes, Width::Wide).unwrap_err();
+    assert_eq!(error.kind(), ErrorKind::PlaceOutOfRange);
+}
+
+#[test]
+fn values_of_containers_are_written_in_place() -> Result<(), Error> {
+    let builder = Builder::<str, u32>::from([("tea", 3), ("cake", 4)]);
+    let mut archive = builder.build_index(Width::Wide)?;
+    assert!(archive.open_mut().set("cake", 5));
+    assert_eq!(archive.open().get_index(1), Some(("cake", 5)));
+    let mut container = archive.to_container(Checksum::Adler32);
+    assert!(IndexMapMut::<str, u32>::open_container(&mut container)?.set("tea", 7));
+    let error = IndexMap::<str, u32>::open_container(&container).unwrap_err();
+    assert_eq!(error.kind(), ErrorKind::WrongChecksum);
+    update_container(&mut container)?;
+    assert_eq!(
+        IndexMap::<str, u32>::open_container(&container)?.at("tea"),
+        7
+    );
+    let narrow = IndexMapMut::<str, u32>::open_container_with_width(&mut container, Width::Narrow);
+    assert_eq!(narrow.unwrap_err().kind(), ErrorKind::WrongWidth);
+    Ok(())
 }
 
 #[test]
