@@ -367,7 +367,8 @@ static rkyv_status first(rkyv_status one, rkyv_status other) {
 }
 
 /* RKYV_OK if the handle is of an open map with a collection, keys and values of these types. */
-static rkyv_status check_map(const rkyv_map *map, uint8_t collection, uint8_t key, uint8_t value) {
+static inline rkyv_status check_map(const rkyv_map *map, uint8_t collection, uint8_t key,
+                                    uint8_t value) {
     if (map == NULL) {
         return RKYV_NULL;
     }
@@ -978,29 +979,35 @@ static rkyv_status store_pair(rkyv_status status, const rkyv_map *map, uint64_t 
     return status;
 }
 
-/* Stores the pairs of a map from a bucket or an index on, each of `size` bytes, and their number,
- * unless the status is an error. `none` is a pair whose texts are not null. */
-static rkyv_status store_pairs(rkyv_status status, const rkyv_map *map, uint64_t from, void *pairs,
-                               const void *none, size_t size, size_t room, size_t *count) {
-    uint64_t nowhere[1] = {0};
-    if (status == RKYV_OK && (count == NULL || (pairs == NULL && room != 0))) {
-        status = RKYV_NULL;
+/* RKYV_OK if `room` pairs of `size` bytes may be at the address, and their number can be stored. */
+static rkyv_status check_room(const void *pairs, size_t size, size_t room, const size_t *count) {
+    if (count == NULL || (pairs == NULL && room != 0)) {
+        return RKYV_NULL;
     }
-    if (status == RKYV_OK && room > PTRDIFF_MAX / size) {
-        status = RKYV_TOO_LONG;
-    }
-    if (status != RKYV_OK) {
-        return status;
-    }
-    if (kinds[map->kind].key == TEXT || kinds[map->kind].value == TEXT) {
-        /* The texts of the caller's pairs may be null, but not those of the library's. */
-        for (size_t i = 0; i < room; i++) {
-            memcpy((uint8_t *)pairs + i * size, none, size);
-        }
-    }
-    *count = pairs_from(map, from, pairs != NULL ? pairs : nowhere, room);
-    return RKYV_OK;
+    return room <= PTRDIFF_MAX / size ? RKYV_OK : RKYV_TOO_LONG;
 }
+
+/* Stores the pairs of an open map from a bucket or an index on, and their number. `pairs` may be null
+ * if `room` is 0. */
+static void store_pairs(const rkyv_map *map, uint64_t from, void *pairs, size_t room,
+                        size_t *count) {
+    uint64_t nowhere[1] = {0};
+    *count = pairs_from(map, from, pairs != NULL ? pairs : nowhere, room);
+}
+
+/* The body of a call that stores several pairs of a type. Texts of the caller's pairs may be null, but
+ * not those of the library's. The last argument is a pair whose texts are not null. */
+#define SEVERAL(map, collection, key, value, from, pair_type, ...)                                 \
+    rkyv_status status = first(check_map(map, collection, key, value),                             \
+                               check_room(pairs, sizeof *pairs, room, count));                     \
+    if (status == RKYV_OK) {                                                                       \
+        const pair_type none = __VA_ARGS__;                                                        \
+        for (size_t i = 0; (key == TEXT || value == TEXT) && i < room; i++) {                      \
+            pairs[i] = none;                                                                       \
+        }                                                                                          \
+        store_pairs(map, from, pairs, room, count);                                                \
+    }                                                                                              \
+    return status
 
 /* Defines the calls that iterate over a hash map or a set of a type: for one pair, and for several.
  * The last argument is a pair whose texts are not null. */
@@ -1013,9 +1020,7 @@ static rkyv_status store_pairs(rkyv_status status, const rkyv_map *map, uint64_t
                                                                                                    \
     rkyv_status several(const rkyv_map *map, uint64_t from, pair_type *pairs, size_t room,         \
                         size_t *count) {                                                           \
-        static const pair_type none = __VA_ARGS__;                                                 \
-        return store_pairs(check_map(map, collection, key, value), map, from, pairs, &none,        \
-                           sizeof none, room, count);                                              \
+        SEVERAL(map, collection, key, value, from, pair_type, __VA_ARGS__);                        \
     }
 
 ITERATE(rkyv_map_next_number, rkyv_map_next_numbers, rkyv_number_pair, HASH_MAP, U32, NUMBER,
@@ -1048,9 +1053,7 @@ ITERATE(rkyv_set_next_text, rkyv_set_next_texts, rkyv_text_member, HASH_SET, TEX
                                                                                                    \
     rkyv_status several(const rkyv_index_map *map, size_t from, pair_type *pairs, size_t room,     \
                         size_t *count) {                                                           \
-        static const pair_type none = __VA_ARGS__;                                                 \
-        return store_pairs(check_map(map_of(map), INDEX_MAP, key, value), map_of(map), from,       \
-                           pairs, &none, sizeof none, room, count);                                \
+        SEVERAL(map_of(map), INDEX_MAP, key, value, from, pair_type, __VA_ARGS__);                 \
     }
 
 READ(rkyv_index_number_at, rkyv_index_numbers_from, rkyv_index_number_pair, U32, NUMBER, {0, 0})
