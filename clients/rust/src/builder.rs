@@ -175,7 +175,8 @@ impl<K: Key + ?Sized, V: Value + ?Sized> fmt::Debug for Builder<K, V> {
     }
 }
 
-/// Appends the pairs. A key or a value may be owned or borrowed: `u32` or `&u32`, `String` or `&str`.
+/// Appends the pairs. A key or a value may be owned or borrowed: `u32` or `&u32`, `String` or `&str`,
+/// but not `&String`. Of a std map, `iter().map(|(k, v)| (k.as_str(), v))` has such pairs.
 impl<K, V, Q, R> Extend<(Q, R)> for Builder<K, V>
 where
     K: Key + ?Sized,
@@ -193,7 +194,8 @@ where
     }
 }
 
-/// Collects pairs. A key or a value may be owned or borrowed: `u32` or `&u32`, `String` or `&str`.
+/// Collects pairs. A key or a value may be owned or borrowed: `u32` or `&u32`, `String` or `&str`, but
+/// not `&String`.
 impl<K, V, Q, R> FromIterator<(Q, R)> for Builder<K, V>
 where
     K: Key + ?Sized,

@@ -33,7 +33,8 @@ pub enum Width {
     message = "the keys of a map are `u32`, `u64` or `str`, not `{Self}`"
 )]
 pub trait Key: SealedKey + Ord + Hash + Debug + Display + Send + Sync + 'static {
-    /// A key as an iterator returns it: a number, or a `&str` that borrows the archive.
+    /// A key as an iterator returns it: a number, or a `&str` that borrows the archive. Generic code
+    /// gets a `&Self` by `borrow`.
     type Ref<'a>: Copy + Ord + Hash + Debug + Display + Borrow<Self> + Send + Sync;
 }
 
@@ -53,7 +54,8 @@ pub trait Key: SealedKey + Ord + Hash + Debug + Display + Send + Sync + 'static 
     message = "the values of a map are `u32`, `u64` or `str`, not `{Self}`"
 )]
 pub trait Value: SealedValue + Ord + Hash + Debug + Display + Send + Sync + 'static {
-    /// A value as a lookup returns it: a number, or a `&str` that borrows the archive.
+    /// A value as a lookup returns it: a number, or a `&str` that borrows the archive. Generic code
+    /// gets a `&Self` by `borrow`, and compares values of two archives by it.
     type Ref<'a>: Copy + Ord + Hash + Debug + Display + Borrow<Self> + Send + Sync;
 }
 
