@@ -7,7 +7,7 @@ use Rattle.rkyv_base.specs.Numbers.{unsigned}
 use Rattle.rkyv_base.specs.declared.view.View.{View}
 use Rattle.rkyv_table.proofs.Moved.{moved}
 use Rattle.rkyv_collections.specs.Map.InPlace.{SetsFound, with_first}
-use Rattle.rkyv_collections.specs.Map.ListedLookups.{IsFoundValue, first_pair}
+use Rattle.rkyv_keys.specs.FirstPairs.{IsFoundValue, first_pair}
 use Rattle.rkyv_collections.specs.declared.lists.pairs.MapPairs.{MapPairs}
 use Rattle.example_message.specs.Message.{FieldList, FieldsRepresent, PartRepresents, Parts, PartsRepresent, RepresentsIfFound, is_named, name_hash, name_spec, number_in, number_of_part, number_spec, WritesIfFound, with_field, with_part}
 

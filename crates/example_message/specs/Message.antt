@@ -26,7 +26,7 @@ use Rattle.rkyv_table.specs.Table.Listed.{listed, written_under}
 use Rattle.rkyv_table.specs.Table.Positions.{pos_found}
 use Rattle.rkyv_table.specs.Table.TableFormat.{TableResolver}
 use Rattle.rkyv_collections.specs.Map.InPlace.{with_first}
-use Rattle.rkyv_collections.specs.Map.ListedLookups.{first_value}
+use Rattle.rkyv_keys.specs.FirstPairs.{first_value}
 use Rattle.rkyv_collections.specs.Map.{FindsFirstKeyAt, hash_at}
 use Rattle.rkyv_collections.specs.Map.MapSpec.{IsKeyPosAt, map_spec}
 use Rattle.rkyv_collections.specs.Map.MapFormat.{MapRepresents, hash_of, map_format}

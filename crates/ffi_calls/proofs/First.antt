@@ -11,7 +11,7 @@ use Rattle.rkyv_base.specs.declared.view.View.{View}
 use Rattle.rkyv_base.specs.View.{pos_of_found}
 use Rattle.rkyv_collections.specs.Map.{IsValueIn, map_bytes}
 use Rattle.rkyv_collections.specs.declared.map.ArchivedHashMap.{ArchivedHashMap}
-use Rattle.rkyv_collections.specs.Map.ListedLookups.{IsFoundValue}
+use Rattle.rkyv_keys.specs.FirstPairs.{IsFoundValue}
 
 -- the value is at the position `place`
 abbrev RepresentsIn : {B : Type 0} → (List ℕ → ℕ → B → Type 0) → List ℕ → Option ℕ → B → Type 0

@@ -4,7 +4,7 @@ use Rattle.std.specs.List.{find}
 use Rattle.std.specs.Option.{option_map}
 use Rattle.std.specs.Prelude.{MatchOption}
 use Rattle.rkyv_table.specs.Table.ItemValues.{with_units}
-use Rattle.rkyv_collections.specs.Map.ListedLookups.{first_value}
+use Rattle.rkyv_keys.specs.FirstPairs.{first_value}
 use Rattle.ffi_calls.specs.Sets.{IsFoundStatus}
 
 -- an item is found if and only if its pair with the unit value is

@@ -14,7 +14,7 @@ use Rattle.rkyv_base.specs.declared.errors.WriteError.{WriteError}
 use Rattle.rkyv_table.specs.Table.Listed.{listed}
 use Rattle.rkyv_table.specs.Table.TableFormat.{TableResolver}
 use Rattle.rkyv_collections.specs.Map.InPlace.{with_first}
-use Rattle.rkyv_collections.specs.Map.ListedLookups.{first_pair, first_value}
+use Rattle.rkyv_keys.specs.FirstPairs.{first_pair, first_value}
 use Rattle.rkyv_collections.specs.Map.ListedWalks.{WalksVisitPairs}
 use Rattle.rkyv_collections.specs.Map.MapAt.{AskedValue, MapAt, asked_value}
 use Rattle.rkyv_collections.specs.Map.MapSpec.{map_spec}

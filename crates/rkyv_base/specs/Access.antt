@@ -4,6 +4,8 @@ use Rattle.std.specs.Prelude.{length, pos, ◌-ℤ◌}
 use Rattle.rkyv_base.specs.declared.errors.VerifyError.{VerifyError}
 use Rattle.rkyv_base.specs.declared.errors.VerifyError.TheVariants.{OutOfRange, Unaligned}
 use Rattle.rkyv_base.specs.ElementSpec.{ElementSpec, ValidAt}
+use Rattle.rkyv_base.specs.Layout.{narrow_limit, wide_limit}
+use Rattle.rkyv_base.specs.Members.{ElementMembers}
 
 -- `b`: archive within `limit`, with a valid and aligned root at its end
 pub record Accepted (limit : ℕ) (s : ElementSpec) (b : List ℕ) : Type 0 where
@@ -11,6 +13,21 @@ pub record Accepted (limit : ℕ) (s : ElementSpec) (b : List ℕ) : Type 0 wher
   pub inside : s.size ≤ length b
   pub aligned : (length b - s.size) % s.align ≡ 0
   pub valid : ValidAt s b (length b - s.size)
+
+-- `b`: archive within `limit` of the native value. Its root is valid and represents the value.
+-- `element`: element of the root, and the native values that its values represent
+pub record IsArchive {V : Type 0} (limit : ℕ) (element : ElementMembers V) (b : List ℕ) (value : V)
+    : Type 0 where
+  pub accepted : Accepted limit element.spec b
+  pub represents : element.represents b (length b - element.spec.size) value
+
+-- `b`: narrow archive of the native value
+abbrev pub IsNarrowArchive : {V : Type 0} → ElementMembers V → List ℕ → V → Type 0
+IsNarrowArchive element b value = IsArchive narrow_limit element b value
+
+-- `b`: wide archive of the native value
+abbrev pub IsWideArchive : {V : Type 0} → ElementMembers V → List ℕ → V → Type 0
+IsWideArchive element b value = IsArchive wide_limit element b value
 
 -- `e`: first fault of the archive `b`: its length, the alignment of its root, or the root itself
 abbrev pub AccessFails : ℕ → ElementSpec → List ℕ → VerifyError → Type 0

@@ -26,3 +26,7 @@ pub record IsPlace {V : Type 0} (w : Width) (e : Encoding V) : Type 0 where
 -- the greatest length of a narrow archive, in bytes
 abbrev pub narrow_limit : ℕ
 narrow_limit = 4294967295
+
+-- the greatest length of a wide archive, in bytes
+abbrev pub wide_limit : ℕ
+wide_limit = 9223372036854775807

@@ -13,7 +13,8 @@ use Rattle.rkyv_base.specs.ElementSpec.{IsElement, ElementSpec, ValidAt, Viewabl
 use Rattle.rkyv_base.specs.declared.view.View.{View}
 use Rattle.rkyv_keys.specs.Lemmas.OfEntries.{valid_key}
 use Rattle.rkyv_table.specs.Table.Positions.{home_positions, item_at}
-use Rattle.rkyv_collections.specs.Map.ListedLookups.{AsksFor, IsFoundPair, IsFoundValue, IsPairOf, first_pair}
+use Rattle.rkyv_keys.specs.FirstPairs.{IsFoundPair, IsFoundValue, first_pair}
+use Rattle.rkyv_collections.specs.Map.ListedLookups.{AsksFor, IsPairOf}
 use Rattle.rkyv_collections.specs.Map.{IsEntryAt, IsFoundAt, IsPairAt, IsValueAt}
 use Rattle.rkyv_collections.specs.Map.MapSpec.{map_spec}
 use Rattle.rkyv_collections.specs.Map.MapFormat.{MapRepresents}

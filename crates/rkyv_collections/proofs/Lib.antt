@@ -13,6 +13,7 @@ pub mod StdWriting
 pub mod StdReading
 pub mod StdComparing
 pub mod StdFinding
+pub mod StdListing
 pub mod Headline
 pub mod FoundPairs
 pub mod FoundValues

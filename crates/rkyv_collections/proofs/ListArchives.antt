@@ -1,37 +1,49 @@
 -- The archive of a list, and the scalar of a value that is found in it.
-use Rattle.std.proofs.Common.{◌≡◌, ◌+◌, ◌∙◌, ℕ, Bool, Err, List, MatchResult, None, Ok, Option, Result, Some, ap, refl, subst, sym}
+use Rattle.std.proofs.Common.{◌≡◌, ◌+◌, ◌∙◌, ℕ, Bool, Err, List, MatchResult, None, Ok, Option, Result, Some, [], ◌∷◌, ap, inl, inr, refl, subst, sym}
 use Rattle.std.specs.Borrow.{Bor}
-use Rattle.std.specs.Option.{option_map}
+use Rattle.std.specs.Int.{Width}
+use Rattle.std.specs.List.{find, list_any}
+use Rattle.std.specs.Option.{is_some, option_map}
 use Rattle.std.specs.Prelude.{IfSome}
 use Rattle.std.specs.declared.vec.Vec.{Vec}
+use Rattle.std.proofs.lemmas.Bool.{cases_Bool}
 use Rattle.std.proofs.lemmas.Option.{IfSome_then, none-some, same_Some}
 use Rattle.rkyv_scan.specs.Groups.{generic_kind}
 use Rattle.rkyv_base.specs.Entry.{entry_spec, value_offset}
+use Rattle.rkyv_base.specs.ElementSpec.{ElementSpec}
+use Rattle.rkyv_base.specs.Layout.{narrow_limit}
 use Rattle.rkyv_base.specs.Root.{ArchiveOf, ArchiveRefused}
-use Rattle.rkyv_base.specs.Scalar.{Encoding, ScalarRepresents}
+use Rattle.rkyv_base.specs.Scalar.{Encoding}
 use Rattle.rkyv_base.specs.Sealing.{value_at}
 use Rattle.rkyv_base.specs.View.{IsAt, bytes_of, pos_of, pos_of_found}
 use Rattle.rkyv_base.specs.declared.element.HasSpec.{Ghosts as Specs}
 use Rattle.rkyv_base.specs.declared.errors.WriteError.{WriteError}
 use Rattle.rkyv_base.specs.declared.view.View.{View}
 use Rattle.rkyv_base.specs.declared.width.Word.{Ghosts as Words}
-use Rattle.rkyv_table.specs.Table.Positions.{pos_found}
+use Rattle.rkyv_table.specs.Table.Positions.{home_positions, pos_found}
+use Rattle.rkyv_table.specs.Table.ItemValues.{with_units}
 use Rattle.rkyv_table.proofs.Moved.{moved}
-use Rattle.rkyv_collections.specs.Map.{FindsKey, IsValueAt, IsValueIn, map_bytes}
-use Rattle.rkyv_collections.specs.Map.ListArchives.{IsTextMapUnder, TextMapFails, TextMapResult, TextMapRepresents, TextPairs, map_root, scalar_found, text_map_format, text_map_spec}
-use Rattle.rkyv_collections.specs.Map.ListedLookups.{IsFoundValue}
+use Rattle.rkyv_collections.proofs.FoundPairs.{first_listed, value_listed}
+use Rattle.rkyv_collections.specs.Map.{FindsKey, IsValueAt, IsValueIn, MapWrittenAt, map_bytes, map_pos}
+use Rattle.rkyv_collections.specs.Map.ListedLookups.{IsPairOf}
+use Rattle.rkyv_collections.specs.Map.MapFormat.{MapRepresents}
+use Rattle.rkyv_keys.specs.Natives.{NativeKeys}
+use Rattle.rkyv_keys.specs.Keys.{FitsItsEqual}
+use Rattle.rkyv_collections.specs.Map.ListArchives.{FoundAreListed, IsTextMapUnder, TextMapFails, TextMapResult, TextMapRepresents, TextPairs, map_root, text_map_format, text_map_spec}
+use Rattle.rkyv_keys.specs.FirstPairs.{FoundValues, first_pair, scalar_found}
+use Rattle.rkyv_keys.specs.Lemmas.FirstPairs.{FindsByView}
 use Rattle.rkyv_collections.specs.declared.map.ArchivedHashMap.{ArchivedHashMap}
 use Rattle.rkyv_collections.specs.declared.map.HashMapOf.{HashMapOf}
 
 -- the result of `to_bytes` for a list of texts with these pairs
 pub text_map_result : {F N Z : Type 0} (e : Encoding N) {factor : ℕ × ℕ} {pairs pairs' : TextPairs N} (result : Result (Vec ℕ Z) (WriteError F)) → factor ≡ (7, 8) → pairs' ≡ pairs
-    → MatchResult result (λ archive. ArchiveOf 4_294_967_295 (text_map_spec e) (TextMapRepresents e factor) (text_map_format e factor) pairs' archive.items)
-    (ArchiveRefused 4_294_967_295 (text_map_spec e) (text_map_format e factor) pairs')
+    → MatchResult result (λ archive. ArchiveOf narrow_limit (text_map_spec e) (TextMapRepresents e factor) (text_map_format e factor) pairs' archive.items)
+    (ArchiveRefused narrow_limit (text_map_spec e) (text_map_format e factor) pairs')
     → TextMapResult e pairs result
 text_map_result e {factor = factor} (Ok archive) is_factor is_pairs made =
     subst (λ x. IsTextMapUnder e (7, 8) archive.items x) is_pairs (record { accepted = made.0; load_factor = factor; represents = made.1 }, is_factor)
 text_map_result e {factor = factor} {pairs' = pairs'} (Err why) is_factor is_pairs refused =
-    subst (λ x. TextMapFails e x why) is_pairs (subst (λ x. ArchiveRefused 4_294_967_295 (text_map_spec e) (text_map_format e x) pairs' why) is_factor refused)
+    subst (λ x. TextMapFails e x why) is_pairs (subst (λ x. ArchiveRefused narrow_limit (text_map_spec e) (text_map_format e x) pairs' why) is_factor refused)
 
 -- a found value, by the position of its key
 scalar_behind : {N : Type 0} (e : Encoding N) (b : List ℕ) (offset : ℕ) (found : Option (View N)) (key : Option ℕ) → IfSome found (λ view. bytes_of view ≡ b)
@@ -55,9 +67,46 @@ scalar_at_root {ks = ks} {vs = vs} {wt = wt} e m root archive hash fits found vi
     (IfSome_then found walked (λ x i. ap (λ a. a.now) i.at.0 ∙ bytes))
     (moved (λ c p. IsValueAt ks.spec vs.spec found (pos_found generic_kind wt.word (entry_spec ks.spec vs.spec).size c p hash (fits c))) _ _ _ _ bytes place answer)
 
--- a found value is that of its scalar
-pub scalar_listed : {N : Type 0} (e : Encoding N) (found : Option (View N)) (o : Option N) → IsFoundValue (ScalarRepresents e) found o → scalar_found e found ≡ o
-scalar_listed e None None h = refl
-scalar_listed e (Some view) (Some v) h = ap Some h
-scalar_listed e None (Some v) h = absurd h
-scalar_listed e (Some view) None h = absurd h
+-- In the map at the root of an archive that represents a list of pairs, the first key that fits is that of the first pair with an equal key
+pub record FirstInRoot {A B : Type 0} (w : Width) (k v : ElementSpec) (key : List ℕ → ℕ → A → Type 0) (value : List ℕ → ℕ → B → Type 0) (hash : List ℕ → ℕ → ℕ) (b : List ℕ) (p : ℕ)
+    (accept : ℕ → Bool) (first : Option (A × B)) : Type 0 where
+  pub homes : List ℕ
+  pub written : MapWrittenAt w (entry_spec k v) hash b p homes
+  pub pair : IsPairOf k v key value b (find accept (home_positions w (entry_spec k v).size b p homes)) first
+
+pub first_in_root : {A B K V H W : Type 0} {ks : Specs K} {vs : Specs V} {wt : Words W} (m : ArchivedHashMap K V H W ks vs wt) (keys : NativeKeys A) (value : List ℕ → ℕ → B → Type 0)
+    → FitsItsEqual ks.spec keys.represents keys.equal keys.fits → (archive : Bor (List ℕ)) (factor : ℕ × ℕ) (pairs : List (A × B)) (asked : A)
+    → IsAt m.view archive (map_root wt.word ks.spec vs.spec archive.now)
+    → MapRepresents wt.word ks.spec vs.spec keys.represents value keys.key_hash factor archive.now (map_root wt.word ks.spec vs.spec archive.now) pairs
+    → FirstInRoot wt.word ks.spec vs.spec keys.represents value keys.key_hash (map_bytes m) (map_pos m) (keys.fits asked (map_bytes m)) (first_pair (keys.equal asked) pairs)
+first_in_root {ks = ks} {vs = vs} {wt = wt} m keys value native archive factor pairs asked at is =
+    let w = wt.word in
+    let k = ks.spec in
+    let v = vs.spec in
+    let represents = moved (λ x p. MapRepresents w k v keys.represents value keys.key_hash factor x p pairs) _ _ _ _ (sym (ap (λ a. a.now) at.0)) (sym at.1) is in
+    record {
+      homes = represents.homes;
+      written = represents.written;
+      pair = first_listed w k v ks.laws vs.laws keys.represents value keys.key_hash factor (map_bytes m) (map_pos m) pairs m.valid (keys.fits asked (map_bytes m)) (keys.equal asked)
+          (λ a q s there. native asked a (map_bytes m) q s there) represents;
+    }
+
+-- the map at a view that is at a position is there
+at_view : {K V H W : Type 0} {ks : Specs K} {vs : Specs V} {wt : Words W} (m : ArchivedHashMap K V H W ks vs wt) (root : View (HashMapOf K V H W)) (archive : Bor (List ℕ)) (p : ℕ)
+    → m.view ≡ root → IsAt root archive p → IsAt m.view archive p
+at_view m root archive p view at = (ap (λ x. x.archive) view ∙ at.0, ap (λ x. x.pos) view ∙ at.1)
+
+-- the value that a lookup finds in it is that of the first pair
+pub found_listed : {A B K V W : Type 0} (H : Type 0) (wt : Words W) (ks : Specs K) (vs : Specs V) (keys : NativeKeys A) → FitsItsEqual ks.spec keys.represents keys.equal keys.fits
+    → (values : FoundValues V B) → FindsByView values → FoundAreListed H wt ks vs keys values
+found_listed H wt ks vs keys native values by = λ m root archive factor pairs asked found view at is walked told.
+    let first = first_in_root m keys values.represents native archive factor pairs asked (at_view m root archive _ view at) is in
+    by found _ (value_listed ks.spec vs.spec keys.represents values.represents (map_bytes m) _ _ found (IfSome_then found walked (λ x i. ap (λ a. a.now) i.at.0)) first.pair (told first.homes first.written))
+
+-- some key with the unit value is accepted if and only if some key is
+pub member_listed : {A : Type 0} (asks : A → Bool) (items : List A) → is_some (first_pair asks (with_units items)) ≡ list_any asks items
+member_listed asks [] = refl
+member_listed asks (x ∷ xs) = elim (cases_Bool (asks x)) [
+  | inl t ↦ rw t refl
+  | inr f ↦ rw f (member_listed asks xs)
+]

@@ -22,7 +22,8 @@ use Rattle.rkyv_table.specs.Table.Positions.{home_positions}
 use Rattle.rkyv_collections.specs.Map.InPlace.{with_first}
 use Rattle.rkyv_collections.specs.Map.InPlaceText.{raised_list, text_raised, with_first_raised}
 use Rattle.rkyv_collections.specs.Lemmas.MapLaws.{HashLocal}
-use Rattle.rkyv_collections.specs.Map.ListedLookups.{AsksFor, IsPairOf, first_pair}
+use Rattle.rkyv_keys.specs.FirstPairs.{first_pair}
+use Rattle.rkyv_collections.specs.Map.ListedLookups.{AsksFor, IsPairOf}
 use Rattle.rkyv_collections.specs.Map.MapSpec.{map_spec}
 use Rattle.rkyv_collections.specs.Map.MapFormat.{MapRepresents}
 use Rattle.rkyv_collections.proofs.FirstWrites.{first_behind, some_place}

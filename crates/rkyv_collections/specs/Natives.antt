@@ -41,22 +41,6 @@ pair_format key_spec value_spec key value hasher calls = record {
   hash = λ a. hash_of_calls hasher (calls a);
 }
 
--- the native keys of a map, which are its queries. `represents`: bytes at a position represent a
--- key,
--- `key_hash`: hash of the key at a position, `fits`: a query fits the key at a position,
--- `equal`: equality of native keys
-pub record NativeKeys (A : Type 0) : Type 1 where
-  pub represents : List ℕ → ℕ → A → Type 0
-  pub key_hash : List ℕ → ℕ → ℕ
-  pub fits : A → List ℕ → ℕ → Bool
-  pub equal : A → A → Bool
-
--- the native keys of a map under the hashes `key_hash`
-abbrev pub native_keys : {A : Type 0} → (List ℕ → ℕ → A → Type 0) → (List ℕ → ℕ → ℕ)
-    → (A → List ℕ → ℕ → Bool) → (A → A → Bool) → NativeKeys A
-native_keys represents key_hash fits equal =
-    record { represents = represents; key_hash = key_hash; fits = fits; equal = equal }
-
 -- queries. `hash`: hash of a query, `fits`: a query fits the key at a position
 pub record Queried (Q : Type 0) : Type 0 where
   pub hash : Q → ℕ

@@ -1,4 +1,5 @@
 -- Hash sets in an archive, and the results of lookups in them, as in the map of the keys.
+pub mod ListArchives
 pub mod SetFormat
 use Rattle.rkyv_base.specs.declared.element.HasSpec.{Ghosts as Specs}
 use Rattle.rkyv_base.specs.declared.width.Word.{Ghosts as Words}

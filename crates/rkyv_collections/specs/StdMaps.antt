@@ -4,3 +4,4 @@ pub mod StdEquality
 pub mod StdSet
 pub mod StdLookups
 pub mod RoundTrips
+pub mod ListArchives

@@ -19,3 +19,4 @@ pub mod ValueWrites
 pub mod SealedIndex
 pub mod Headers
 pub mod Listed
+pub mod ListArchives

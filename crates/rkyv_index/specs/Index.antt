@@ -9,6 +9,7 @@ pub mod Walking
 pub mod Equality
 pub mod Complete
 pub mod Lookups
+pub mod ListArchives
 pub mod ListedLookups
 pub mod Reading
 pub mod Writing

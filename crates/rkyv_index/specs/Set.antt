@@ -1,3 +1,4 @@
 -- Definitions on index sets.
 pub mod IndexSet
 pub mod SetFormat
+pub mod ListArchives

@@ -1,5 +1,6 @@
 -- Lemmas for the laws of traits and of their impls. A law can import from specs/ alone.
 pub mod Asking
+pub mod FirstPairs
 pub mod Fixed
 pub mod OfEntries
 pub mod OfTexts

@@ -2,6 +2,7 @@ pub mod Asked
 pub mod Asking
 pub mod Calls
 pub mod Equality
+pub mod FirstPairs
 pub mod Fixed
 pub mod Keys
 pub mod Natives

@@ -1,5 +1,5 @@
--- The native pairs that a map represents.
-use Rattle.std.specs.Prelude.{ℕ, List}
+-- The native keys and pairs that a map represents.
+use Rattle.std.specs.Prelude.{ℕ, Bool, List}
 use Rattle.rkyv_scan.specs.Hash.{Hasher, HasherCall, hash_of_calls}
 
 -- the native pairs of a map. `key` and `value`: bytes at a position represent a key or a value,
@@ -17,3 +17,19 @@ native_pairs key value hasher key_calls = record {
   value = value;
   key_hash = λ b q. hash_of_calls hasher (key_calls b q);
 }
+
+-- the native keys of a map, which are its queries. `represents`: bytes at a position represent a
+-- key,
+-- `key_hash`: hash of the key at a position, `fits`: a query fits the key at a position,
+-- `equal`: equality of native keys
+pub record NativeKeys (A : Type 0) : Type 1 where
+  pub represents : List ℕ → ℕ → A → Type 0
+  pub key_hash : List ℕ → ℕ → ℕ
+  pub fits : A → List ℕ → ℕ → Bool
+  pub equal : A → A → Bool
+
+-- the native keys of a map under the hashes `key_hash`
+abbrev pub native_keys : {A : Type 0} → (List ℕ → ℕ → A → Type 0) → (List ℕ → ℕ → ℕ)
+    → (A → List ℕ → ℕ → Bool) → (A → A → Bool) → NativeKeys A
+native_keys represents key_hash fits equal =
+    record { represents = represents; key_hash = key_hash; fits = fits; equal = equal }

@@ -24,10 +24,10 @@ returns-in_err-access-clause-listed c = λ symbols is.
 pub returns-in-Some-clause-listed : goal.returns-in-Some-clause-listed
 returns-in-Some-clause-listed c = λ symbols is. let found = c.in-Some.ensures in
     ap Ok (ap Some (sym c.to_native.ensures)
-    ∙ c.scalars_found_are_listed.ensures c.of-symbols.result _ _ _ symbols c.args.name (Some c.in-Some.address)
-    c.of-symbols.ensures.view c.in_ok-access.ensures.root.1 is found.walked found.first)
+    ∙ c.scalars_found_are_listed.ensures c.of-symbols.result _ _ _ _ c.args.name (Some c.in-Some.address)
+    c.of-symbols.ensures.view c.in_ok-access.ensures.root.1 is.represents found.walked found.first)
 
 pub returns-in-None-clause-listed : goal.returns-in-None-clause-listed
 returns-in-None-clause-listed c = λ symbols is. let found = c.in-None.ensures in
-    ap Ok (c.scalars_found_are_listed.ensures c.of-symbols.result _ _ _ symbols c.args.name None
-    c.of-symbols.ensures.view c.in_ok-access.ensures.root.1 is found.walked found.first)
+    ap Ok (c.scalars_found_are_listed.ensures c.of-symbols.result _ _ _ _ c.args.name None
+    c.of-symbols.ensures.view c.in_ok-access.ensures.root.1 is.represents found.walked found.first)

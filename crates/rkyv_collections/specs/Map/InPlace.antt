@@ -9,7 +9,7 @@ use Rattle.rkyv_base.specs.Sealing.{with_value}
 use Rattle.rkyv_base.specs.ElementSpec.{ElementSpec}
 use Rattle.rkyv_keys.specs.Asked.{Asked}
 use Rattle.rkyv_table.specs.Table.SealedItems.{WrittenBy}
-use Rattle.rkyv_collections.specs.Map.ListedLookups.{first_pair}
+use Rattle.rkyv_keys.specs.FirstPairs.{first_pair}
 use Rattle.rkyv_collections.specs.Map.MapAt.{AskedValue, MapAt, TellsValueAt}
 use Rattle.rkyv_collections.specs.Map.MapFormat.{MapRepresents}
 use Rattle.rkyv_collections.specs.Map.ValueWrites.{KeepsMap}

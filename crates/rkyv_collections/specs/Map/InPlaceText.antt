@@ -12,7 +12,7 @@ use Rattle.rkyv_base.specs.Text.{text_spec}
 use Rattle.rkyv_keys.specs.Asked.{Asked}
 use Rattle.rkyv_keys.specs.Lemmas.OfTexts.{IsTextOf}
 use Rattle.rkyv_collections.specs.Map.MapAt.{AskedValue, MapAt, TellsValueAt}
-use Rattle.rkyv_collections.specs.Map.ListedLookups.{first_pair}
+use Rattle.rkyv_keys.specs.FirstPairs.{first_pair}
 use Rattle.rkyv_collections.specs.Map.MapSpec.{map_spec}
 use Rattle.rkyv_collections.specs.Map.MapFormat.{MapRepresents}
 use Rattle.rkyv_collections.specs.Map.ValueWrites.{KeepsMap}

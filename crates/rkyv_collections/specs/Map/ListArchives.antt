@@ -1,4 +1,4 @@
--- Archives with a root map that represents a list of pairs, and the scalars that are found in one.
+-- Archives with a root map that represents a list of pairs, and the values that are found in one.
 use Rattle.rkyv_base.specs.declared.element.HasSpec.{Ghosts as Specs}
 use Rattle.rkyv_base.specs.declared.width.Word.{Ghosts as Words}
 use Rattle.std.specs.Prelude.{◌≡◌, ℕ, ◌+◌, ◌-◌, IfSome, List, MatchResult, Option, Result, length}
@@ -11,6 +11,7 @@ use Rattle.rkyv_scan.specs.Hash.{fx_hasher, low_halves}
 use Rattle.rkyv_base.specs.Access.{Accepted, AccessFails}
 use Rattle.rkyv_base.specs.Entry.{entry_spec, value_offset}
 use Rattle.rkyv_base.specs.Format.{Format}
+use Rattle.rkyv_base.specs.Layout.{narrow_limit}
 use Rattle.rkyv_base.specs.Pairs.{written_as}
 use Rattle.rkyv_base.specs.Root.{ArchiveRefused}
 use Rattle.rkyv_base.specs.Scalar.{Encoding, ScalarRepresents, scalar_format, scalar_spec}
@@ -18,7 +19,7 @@ use Rattle.rkyv_base.specs.Sealing.{value_at}
 use Rattle.rkyv_base.specs.ElementSpec.{ElementSpec}
 use Rattle.rkyv_base.specs.Text.{text_at, text_spec}
 use Rattle.rkyv_base.specs.TextWriting.{text_format}
-use Rattle.rkyv_base.specs.View.{IsAt, bytes_of, pos_of}
+use Rattle.rkyv_base.specs.View.{IsAt}
 use Rattle.rkyv_base.specs.declared.errors.VerifyError.{VerifyError}
 use Rattle.rkyv_base.specs.declared.errors.WriteError.{WriteError}
 use Rattle.rkyv_base.specs.declared.view.View.{View}
@@ -28,27 +29,17 @@ use Rattle.rkyv_keys.specs.Lemmas.OfTexts.{IsTextOf, text_key_calls}
 use Rattle.rkyv_table.specs.Table.Listed.{listed}
 use Rattle.rkyv_table.specs.Table.Positions.{pos_found}
 use Rattle.rkyv_table.specs.Table.TableFormat.{TableResolver}
-use Rattle.rkyv_collections.specs.Map.ListedLookups.{first_value}
+use Rattle.rkyv_keys.specs.FirstPairs.{FoundValues, first_value}
 use Rattle.rkyv_collections.specs.Map.{FindsFirstKey, IsValueAt, IsValueIn, hash_at, map_bytes}
 use Rattle.rkyv_collections.specs.Map.MapSpec.{map_spec}
 use Rattle.rkyv_collections.specs.Map.MapFormat.{MapRepresents, hash_of, map_format}
-use Rattle.rkyv_collections.specs.Natives.{NativeKeys}
+use Rattle.rkyv_keys.specs.Natives.{NativeKeys}
 use Rattle.rkyv_collections.specs.declared.map.ArchivedHashMap.{ArchivedHashMap}
 use Rattle.rkyv_collections.specs.declared.map.HashMapOf.{HashMapOf}
 
 -- the position of the root of an archive, if the root is a map
 abbrev pub map_root : Width → ElementSpec → ElementSpec → List ℕ → ℕ
 map_root w k v b = length b - (map_spec w k v).size
-
--- `b`: archive of at most `limit` bytes. Its root is a map that represents `pairs` under some
--- load factor
-pub record IsListArchive {A B : Type 0} (limit : ℕ) (w : Width) (k v : ElementSpec) (key : List ℕ
-    → ℕ → A
-    → Type 0) (value : List ℕ → ℕ → B → Type 0) (hash : List ℕ → ℕ → ℕ) (b : List ℕ)
-    (pairs : List (A × B)) : Type 0 where
-  pub accepted : Accepted limit (map_spec w k v) b
-  pub load_factor : ℕ × ℕ
-  pub represents : MapRepresents w k v key value hash load_factor b (map_root w k v b) pairs
 
 -- texts, each with a value
 abbrev pub TextPairs : Type 0 → Type 0
@@ -65,11 +56,11 @@ TextMapRepresents e factor b p pairs = MapRepresents w32 (text_spec w32) (scalar
     (hash_at (fx_hasher low_halves) (text_key_calls w32)) factor b p pairs
 
 -- `b`: narrow archive. Its root is a map of texts to scalars under `FxHasher64`
--- that represents `pairs`
-abbrev pub IsTextMap : {N : Type 0} → Encoding N → List ℕ → TextPairs N → Type 0
-IsTextMap e b pairs = IsListArchive 4_294_967_295 w32 (text_spec w32) (scalar_spec e)
-    (IsTextOf w32 (λ text. text.now)) (ScalarRepresents e)
-    (hash_at (fx_hasher low_halves) (text_key_calls w32)) b pairs
+-- that represents `pairs` under some load factor
+pub record IsTextMap {N : Type 0} (e : Encoding N) (b : List ℕ) (pairs : TextPairs N) : Type 0 where
+  pub accepted : Accepted narrow_limit (text_map_spec e) b
+  pub load_factor : ℕ × ℕ
+  pub represents : TextMapRepresents e load_factor b (length b - (text_map_spec e).size) pairs
 
 -- the same, and the load factor is `factor`
 abbrev pub IsTextMapUnder : {N : Type 0} → Encoding N → ℕ × ℕ → List ℕ → TextPairs N → Type 0
@@ -77,7 +68,7 @@ IsTextMapUnder e factor b pairs = (is : IsTextMap e b pairs) × (is.load_factor 
 
 -- the format of the pairs under a load factor
 abbrev pub text_map_format : {N : Type 0} → Encoding N → ℕ × ℕ → Format (TextPairs N) TableResolver
-text_map_format e factor = listed 4_294_967_295 factor
+text_map_format e factor = listed narrow_limit factor
     (map_format w32 (text_spec w32) (scalar_spec e)
     (written_as (λ text. text.now) (text_format w32)) (scalar_format e)
     (hash_of (fx_hasher low_halves) (λ text. text_calls text.now)) factor)
@@ -85,7 +76,7 @@ text_map_format e factor = listed 4_294_967_295 factor
 -- `why`: error of archiving the pairs under the load factor 7 / 8
 abbrev pub TextMapFails : {F N : Type 0} → Encoding N → TextPairs N → WriteError F → Type 0
 TextMapFails e pairs why =
-    ArchiveRefused 4_294_967_295 (text_map_spec e) (text_map_format e (7, 8)) pairs why
+    ArchiveRefused narrow_limit (text_map_spec e) (text_map_format e (7, 8)) pairs why
 
 -- the result of archiving the pairs: the bytes of such an archive under the load factor 7 / 8,
 -- or an error
@@ -99,8 +90,8 @@ TextMapResult e pairs result =
 -- to scalars. The error is the first fault of the bytes
 abbrev pub OpensTextMap : {N R : Type 0} → Encoding N → List ℕ → Result R VerifyError → Type 0
 OpensTextMap e b result = MatchResult result
-    (λ _. Accepted 4_294_967_295 (text_map_spec e) b)
-    (AccessFails 4_294_967_295 (text_map_spec e) b)
+    (λ _. Accepted narrow_limit (text_map_spec e) b)
+    (AccessFails narrow_limit (text_map_spec e) b)
 
 -- the value of the first pair whose key is `text`
 abbrev pub first_of_text : {N : Type 0} → List ℕ → TextPairs N → Option N
@@ -115,23 +106,19 @@ text_found e text b =
     (map_root w32 (text_spec w32) (scalar_spec e) b)
     (hash_of (fx_hasher low_halves) text_calls text) (λ q. same_bytes text (text_at w32 b q)))
 
--- the scalar at the view, if there is a view
-abbrev pub scalar_found : {N : Type 0} → Encoding N → Option (View N) → Option N
-scalar_found e found = option_map (λ view. value_at e (bytes_of view) (pos_of view)) found
-
--- The root of the archive is a map that represents a list of pairs. The scalar that a lookup
--- finds is the value of the first pair with an equal key, and `None` if no pair has one.
--- `wt`: word of the archive, `e`: encoding of the scalars
-abbrev pub ScalarsFoundAreListed : {A K N W : Type 0} → (H : Type 0) → Words W → Specs K → Specs N
-    → Encoding N → NativeKeys A → Type 0
-ScalarsFoundAreListed {A} {K} {N} {W} H wt ks vs e keys =
-    (map : ArchivedHashMap K N H W ks vs wt) (root : View (HashMapOf K N H W)) (archive : Bor
-    (List ℕ))
-    (limit : ℕ) (pairs : List (A × N)) (asked : A) (found : Option (View N))
+-- The root of the archive is a map that represents a list of pairs. A lookup of a native key
+-- finds the value of the first pair with an equal key, and `None` if no pair has one.
+-- `wt`: word of the archive, `keys`: its native keys, `values`: how its values are found
+abbrev pub FoundAreListed : {A B K V W : Type 0} → (H : Type 0) → Words W → Specs K → Specs V
+    → NativeKeys A → FoundValues V B → Type 0
+FoundAreListed {A} {B} {K} {V} {W} H wt ks vs keys values =
+    (map : ArchivedHashMap K V H W ks vs wt) (root : View (HashMapOf K V H W))
+    (archive : Bor (List ℕ)) (factor : ℕ × ℕ) (pairs : List (A × B))
+    (asked : A) (found : Option (View V))
     → map.view ≡ root → IsAt root archive (map_root wt.word ks.spec vs.spec archive.now)
-    → IsListArchive limit wt.word ks.spec vs.spec keys.represents (ScalarRepresents e) keys.key_hash
-    archive.now pairs
+    → MapRepresents wt.word ks.spec vs.spec keys.represents values.represents keys.key_hash factor
+    archive.now (map_root wt.word ks.spec vs.spec archive.now) pairs
     → IfSome found (IsValueIn map)
     → FindsFirstKey map keys.key_hash (keys.fits asked (map_bytes map))
     (IsValueAt ks.spec vs.spec found)
-    → scalar_found e found ≡ first_value (keys.equal asked) pairs
+    → values.IsFound found (first_value (keys.equal asked) pairs)

@@ -2,15 +2,14 @@
 use Rattle.rkyv_base.specs.declared.element.HasSpec.{Ghosts as Specs}
 use Rattle.rkyv_base.specs.declared.width.Word.{Ghosts as Words}
 use Rattle.std.specs.Prelude.{◌≡◌, ℕ, Bool, IfSome, List, None, Option, Some}
-use Rattle.std.specs.List.{find}
 use Rattle.std.specs.Option.{is_some, option_map}
 use Rattle.rkyv_base.specs.Pairs.{PairRepresents}
 use Rattle.rkyv_base.specs.ElementSpec.{ElementSpec, ValidAt}
-use Rattle.rkyv_base.specs.View.{AtView}
 use Rattle.rkyv_base.specs.declared.view.View.{View}
 use Rattle.rkyv_collections.specs.Map.{FindsFirstKey, IsEntryAt, IsFoundAt, IsKeyIn}
 use Rattle.rkyv_collections.specs.Map.{IsPairAt, IsPairIn, IsValueAt, IsValueIn, map_bytes, map_pos}
 use Rattle.rkyv_collections.specs.Map.MapFormat.{MapRepresents}
+use Rattle.rkyv_keys.specs.FirstPairs.{IsFoundPair, IsFoundValue, first_pair, first_value}
 use Rattle.rkyv_keys.specs.Natives.{NativePairs}
 use Rattle.rkyv_collections.specs.declared.map.ArchivedHashMap.{ArchivedHashMap}
 
@@ -18,30 +17,6 @@ use Rattle.rkyv_collections.specs.declared.map.ArchivedHashMap.{ArchivedHashMap}
 abbrev pub AsksFor : {A : Type 0} → ElementSpec → (List ℕ → ℕ → A → Type 0) → List ℕ → (ℕ → Bool)
     → (A → Bool) → Type 0
 AsksFor {A} k key b accept asks = (a : A) (q : ℕ) → ValidAt k b q → key b q a → accept q ≡ asks a
-
--- the first pair with an accepted key
-abbrev pub first_pair : {A B : Type 0} → (A → Bool) → List (A × B) → Option (A × B)
-first_pair asks pairs = find (λ pair. asks pair.0) pairs
-
-abbrev pub first_value : {A B : Type 0} → (A → Bool) → List (A × B) → Option B
-first_value asks pairs = option_map (λ pair. pair.1) (first_pair asks pairs)
-
--- the view is of the value, or there is neither
-abbrev pub IsFoundValue : {V B : Type 0} → (List ℕ → ℕ → B → Type 0) → Option (View V) → Option B
-    → Type 0
-IsFoundValue represents None None = Unit {0}
-IsFoundValue represents (Some view) (Some value) = AtView represents view value
-IsFoundValue represents None (Some value) = ⊥
-IsFoundValue represents (Some view) None = ⊥
-
--- the views are of the key and the value of the pair, or there is neither
-abbrev pub IsFoundPair : {K V A B : Type 0} → (List ℕ → ℕ → A → Type 0) → (List ℕ → ℕ → B → Type 0)
-    → Option (View K × View V) → Option (A × B) → Type 0
-IsFoundPair key value None None = Unit {0}
-IsFoundPair key value (Some views) (Some pair) =
-    AtView key views.0 pair.0 × AtView value views.1 pair.1
-IsFoundPair key value None (Some pair) = ⊥
-IsFoundPair key value (Some views) None = ⊥
 
 module _ {A B : Type 0} (k v : ElementSpec) (key : List ℕ → ℕ → A → Type 0)
     (value : List ℕ → ℕ → B → Type 0) where

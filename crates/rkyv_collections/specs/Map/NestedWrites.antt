@@ -11,7 +11,7 @@ use Rattle.rkyv_collections.specs.Map.InPlace.{with_first}
 use Rattle.rkyv_collections.specs.Map.{FindsFirstKeyAt, MapWrittenAt}
 use Rattle.rkyv_collections.specs.Map.MapSpec.{IsKeyPosAt, map_spec}
 use Rattle.rkyv_collections.specs.Map.MapFormat.{MapRepresents}
-use Rattle.rkyv_collections.specs.Natives.{NativeKeys}
+use Rattle.rkyv_keys.specs.Natives.{NativeKeys}
 use Rattle.rkyv_table.specs.Table.SealedTable.{WritesValue}
 use Rattle.rkyv_collections.specs.Map.ValueWrites.{entry_at}
 

@@ -1,8 +1,12 @@
-//! Laws of sets, over their definitions alone: of walks, and in `written` of their bytes.
+//! Laws of sets, over their definitions alone.
+//!
+//! They are about iterations and lookups. `written` is about the bytes of written sets.
 
 ghost use Rattle.rkyv_collections.specs.Map.ListedWalks.{SetWalksGiveListed};
 ghost use Rattle.rkyv_collections.specs.Map.{hash_at};
 ghost use Rattle.rkyv_base.specs.Same.{SameSpec, SameValues};
+ghost use Rattle.rkyv_keys.specs.Natives.{native_keys};
+ghost use Rattle.rkyv_collections.specs.Set.ListArchives.{MembersFoundAreListed};
 ghost use Rattle.rkyv_collections.specs.Set.{set_spec};
 ghost use Rattle.rkyv_collections.specs.Listed.{set_list};
 
@@ -12,7 +16,7 @@ use crate::lists::SetItems;
 use crate::set::HashSetOf;
 use rkyv_base::element::{HasSpec, Represents};
 use rkyv_base::width::Width;
-use rkyv_keys::keys::KeyElement;
+use rkyv_keys::keys::{KeyElement, NativeKey};
 use rkyv_scan::hash::KeyHasher;
 
 /// States that `iter` returns each key of the list that a set represents once.
@@ -20,6 +24,19 @@ use rkyv_scan::hash::KeyHasher;
 /// The positions of a walk have the keys of the list, each once, in some order.
 pub fn walks_give_listed<A, K: KeyElement + Represents<A>, H: KeyHasher, W: Width>()
     ensures { SetWalksGiveListed W.word K.spec K.represents (hash_at H.hasher K.key_calls) }
+{}
+
+/// States that `contains` in a root set is `true` if and only if the list has an equal key.
+///
+/// The set is the root of an archive, and represents the list.
+pub fn members_found_are_listed<
+    A: NativeKey<K>,
+    K: KeyElement + Represents<A>,
+    H: KeyHasher,
+    W: Width,
+>()
+    ensures { MembersFoundAreListed H W.Word K.HasSpec
+        (native_keys K.represents (hash_at H.hasher K.key_calls) A.fits A.eq) }
 {}
 
 /// States the layout of a set, and that it represents the keys of a list in insertion order.

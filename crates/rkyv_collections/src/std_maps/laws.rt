@@ -3,6 +3,9 @@
 //! They are about lookups in these archives, and about values that are read back.
 
 ghost use Rattle.rkyv_collections.specs.Natives.{queried};
+ghost use Rattle.rkyv_collections.specs.Map.{hash_at};
+ghost use Rattle.rkyv_collections.specs.StdMaps.ListArchives.{WrittenMapsAreLists};
+ghost use Rattle.rkyv_collections.specs.StdMaps.ListArchives.{WrittenSetsAreLists};
 ghost use Rattle.rkyv_collections.specs.StdMaps.RoundTrips.{ArchivesComeBack};
 ghost use Rattle.rkyv_collections.specs.StdMaps.StdLookups.{FindsInWrittenMap, FindsInWrittenSet};
 
@@ -58,6 +61,37 @@ where
     ensures { let format = ⟦<Hashed<HashSet<A, T>, H> as Archive<W>>⟧.format in
         FindsInWrittenSet W.word A.Archived.Represents (queried H.hasher Q.calls Q.fits) Q.can_read
         format }
+{}
+
+/// States that the root of an archive of a map of std represents the list of its entries.
+///
+/// The archive has the written bytes of the map. The laws of lookups in a map that represents
+/// a list are then about its entries, whose keys are distinct.
+pub fn written_maps_are_lists<
+    W: Width,
+    H: KeyHasher,
+    A: Archive<W> + Hash,
+    B: Archive<W>,
+    T: BuildHasher,
+>()
+where
+    A::Archived: KeyElement,
+    A: NativeKey<A::Archived>,
+    ensures { let format = ⟦<Hashed<HashMap<A, B, T>, H> as Archive<W>>⟧.format in
+        WrittenMapsAreLists W.word A.Archived.Represents B.Archived.Represents
+        (hash_at H.hasher A.Archived.key_calls) format }
+{}
+
+/// States that the root of an archive of a set of std represents the list of its keys.
+///
+/// The archive has the written bytes of the set.
+pub fn written_sets_are_lists<W: Width, H: KeyHasher, A: Archive<W> + Hash, T: BuildHasher>()
+where
+    A::Archived: KeyElement,
+    A: NativeKey<A::Archived>,
+    ensures { let format = ⟦<Hashed<HashSet<A, T>, H> as Archive<W>>⟧.format in
+        WrittenSetsAreLists W.word A.Archived.Represents
+        (hash_at H.hasher A.Archived.key_calls) format }
 {}
 
 /// States that the root of an archive of a value equals the value.

@@ -1,7 +1,7 @@
 //! Laws of index maps, over their definitions alone.
 //!
 //! They are about writes of one value in place, and about lists that are deserialized.
-//! `written` is about the bytes of written index maps.
+//! `written` is about the bytes of written index maps, and `list_archives` about root index maps.
 ghost use Rattle.rkyv_index.specs.Index.{hash_at};
 ghost use Rattle.rkyv_index.specs.Index.IndexFormat.{hash_of};
 ghost use Rattle.rkyv_index.specs.Index.Reading.{PairsReadBackAreListed, reads_as};
@@ -15,6 +15,7 @@ ghost use Rattle.rkyv_index.specs.Listed.{ordered_pairs};
 ghost use Rattle.rkyv_keys.specs.Natives.{native_pairs};
 ghost use Rattle.rkyv_index.specs.Index.ListedLookups.{LookupsFindListed};
 
+pub mod list_archives;
 pub mod written;
 
 use crate::lists::OrderedPairs;

@@ -1,8 +1,12 @@
-//! A law of index sets that are deserialized, over their definitions alone.
+//! Laws of index sets, over their definitions alone.
+//!
+//! They are about lists that are deserialized, and about lookups.
 ghost use Rattle.rkyv_index.specs.Index.{hash_at};
 ghost use Rattle.rkyv_index.specs.Index.Reading.{ItemsReadBackAreListed};
 ghost use Rattle.rkyv_base.specs.Same.{SameSpec, SameValues};
 ghost use Rattle.rkyv_index.specs.Set.IndexSet.{index_set_spec};
+ghost use Rattle.rkyv_index.specs.Set.ListArchives.{MembersFoundAreListed};
+ghost use Rattle.rkyv_keys.specs.Natives.{native_keys};
 ghost use Rattle.rkyv_index.specs.Listed.{ordered_items};
 
 use crate::lists::OrderedItems;
@@ -10,7 +14,7 @@ use crate::set::IndexSetOf;
 use rkyv_base::element::{HasSpec, Represents};
 use rkyv_base::width::Width;
 use rkyv_keys::equality::RepresentsUniquely;
-use rkyv_keys::keys::KeyElement;
+use rkyv_keys::keys::{KeyElement, NativeKey};
 use rkyv_scan::hash::{FxHasher64, KeyHasher};
 
 /// States that a list deserialized from an index set is `==` to the list that it represents.
@@ -24,6 +28,22 @@ pub fn items_read_back_are_listed<
 >()
     ensures { ItemsReadBackAreListed W.word K.spec K.represents
         (hash_at H.hasher K.key_calls) A.eq }
+{}
+
+/// States that lookups in a root index set find the first key of the list that equals a native key.
+///
+/// The set is the root of an archive, and represents the list.
+///
+/// - `place`: `get_index_of` finds its index, and `None` if the list has no such key.
+/// - `member`: `contains` is `true` if and only if the list has such a key.
+pub fn members_found_are_listed<
+    A: NativeKey<K>,
+    K: KeyElement + Represents<A>,
+    H: KeyHasher,
+    W: Width,
+>()
+    ensures { MembersFoundAreListed H W.Word K.HasSpec
+        (native_keys K.represents (hash_at H.hasher K.key_calls) A.fits A.eq) }
 {}
 
 /// States the layout of an index set, and that it represents the keys of a list in order.

@@ -6,7 +6,7 @@ use Rattle.rkyv_collections.specs.Map.MapFormat.{MapRepresents}
 use Rattle.rkyv_collections.specs.Map.MapSpec.{map_spec}
 use Rattle.ffi_calls.proofs.Writing.{set_keeps_header, set_kept, set_told}
 use Rattle.rkyv_collections.specs.Map.InPlace.{with_first}
-use Rattle.rkyv_collections.specs.Map.ListedLookups.{first_pair}
+use Rattle.rkyv_keys.specs.FirstPairs.{first_pair}
 use Rattle.ffi_calls.proofs.First.{first_set}
 use Rattle.ffi_calls.proofs.lookup.set_in.Goals as goal
 

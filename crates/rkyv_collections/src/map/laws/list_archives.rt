@@ -1,18 +1,37 @@
-//! A law of maps that are the root of an archive.
-ghost use Rattle.rkyv_collections.specs.Map.ListArchives.{ScalarsFoundAreListed};
+//! Laws of maps that are the root of an archive.
+//!
+//! A lookup of a native key in a root map that represents a list of pairs finds the value
+//! of the first pair whose key equals it, and `None` if the list has no such pair.
+ghost use Rattle.rkyv_collections.specs.Map.ListArchives.{FoundAreListed};
+ghost use Rattle.rkyv_keys.specs.FirstPairs.{found_scalars};
+ghost use Rattle.rkyv_keys.specs.FirstPairs.{found_texts, found_views};
 ghost use Rattle.rkyv_collections.specs.Map.{hash_at};
-ghost use Rattle.rkyv_collections.specs.Natives.{native_keys};
+ghost use Rattle.rkyv_keys.specs.Natives.{native_keys};
 
-use rkyv_base::element::Represents;
+use rkyv_base::element::{HasSpec, Represents};
 use rkyv_base::scalars::Scalar;
+use rkyv_base::text::Text;
 use rkyv_base::width::Width;
 use rkyv_keys::keys::{KeyElement, NativeKey};
 use rkyv_scan::hash::KeyHasher;
 
-/// States that `get` in a root map of scalars finds the value of the first equal key.
+/// States that `get` in a root map returns a view of the value of the first equal key.
 ///
-/// The map represents a list of pairs. The result is the value of the first pair whose key equals
-/// the native key, and `None` if the list has no such pair.
+/// The view represents that value of the list.
+pub fn values_found_are_listed<
+    A: NativeKey<K>,
+    B,
+    K: KeyElement + Represents<A>,
+    V: Represents<B>,
+    H: KeyHasher,
+    W: Width,
+>()
+    ensures { FoundAreListed H W.Word K.HasSpec V.HasSpec
+        (native_keys K.represents (hash_at H.hasher K.key_calls) A.fits A.eq)
+        (found_views V.represents) }
+{}
+
+/// States that `get` in a root map of scalars finds the value of the first equal key.
 pub fn scalars_found_are_listed<
     A: NativeKey<K>,
     N: Scalar,
@@ -20,6 +39,19 @@ pub fn scalars_found_are_listed<
     H: KeyHasher,
     W: Width,
 >()
-    ensures { ScalarsFoundAreListed H W.Word K.HasSpec N.HasSpec N.encoding
-        (native_keys K.represents (hash_at H.hasher K.key_calls) A.fits A.eq) }
+    ensures { FoundAreListed H W.Word K.HasSpec N.HasSpec
+        (native_keys K.represents (hash_at H.hasher K.key_calls) A.fits A.eq)
+        (found_scalars N.encoding) }
+{}
+
+/// States that `get` in a root map of texts finds the bytes of the text of the first equal key.
+pub fn texts_found_are_listed<
+    A: NativeKey<K>,
+    K: KeyElement + Represents<A>,
+    H: KeyHasher,
+    W: Width,
+>()
+    ensures { FoundAreListed H W.Word K.HasSpec ⟦<Text<W> as HasSpec>⟧
+        (native_keys K.represents (hash_at H.hasher K.key_calls) A.fits A.eq)
+        (found_texts W.word) }
 {}

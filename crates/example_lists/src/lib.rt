@@ -1,0 +1,11 @@
+//! Lookups in archives of lists, one for each kind of collection.
+//!
+//! Each contract is about the list that the archive represents: a lookup finds the first pair
+//! of the list whose key equals the given one, and `None` or `false` if the list has no such pair.
+//! The bytes are untrusted. An error is that of their validation.
+#![tactic(auto)]
+
+pub mod index_maps;
+pub mod maps;
+pub mod maps_of_std;
+pub mod sets;

@@ -1,0 +1,109 @@
+//! Lookups in hash maps: of numbers, of texts, and of pairs of numbers.
+
+ghost use Rattle.std.specs.Prelude.{◌==◌, ◌≡◌, IfOk, Ok};
+ghost use Rattle.rkyv_base.specs.Access.{IsNarrowArchive, IsWideArchive};
+ghost use Rattle.rkyv_keys.specs.FirstPairs.{IsTextOk, first_value};
+ghost use Rattle.rkyv_keys.specs.OfTexts.{same_bytes};
+
+use rkyv_base::access::{access, access_in};
+use rkyv_base::element::Represents;
+use rkyv_base::entry::Entry;
+use rkyv_base::errors::{VerifyError, WriteError};
+use rkyv_base::root::to_bytes_in;
+use rkyv_base::text::Text;
+use rkyv_base::width::{Narrow, Wide};
+use rkyv_base::writer::NoMemory;
+use rkyv_collections::map::laws::list_archives::{
+    scalars_found_are_listed, texts_found_are_listed, values_found_are_listed,
+};
+use rkyv_collections::map::{ArchivedHashMap, HashMapOf};
+use rkyv_collections::{FxHasher64, MapPairs};
+use std::alloc::Global;
+
+/// A map of numbers in a wide archive.
+pub type Numbers = HashMapOf<u32, u64, FxHasher64, Wide>;
+
+/// The list that a map of numbers represents.
+pub type NumberPairs<'a> = MapPairs<'a, u32, u64>;
+
+/// A map of numbers to texts in a narrow archive.
+pub type Titles = HashMapOf<u32, Text>;
+
+/// The list that a map of numbers to texts represents.
+pub type TitlePairs<'a> = MapPairs<'a, u32, &'a str>;
+
+/// A map of texts to pairs of numbers in a narrow archive.
+pub type Spots = HashMapOf<Text, Entry<u32, u32>>;
+
+/// The list that a map of texts to pairs of numbers represents.
+pub type SpotPairs<'a> = MapPairs<'a, &'a str, (u32, u32)>;
+
+/// Archives a list of numbers.
+///
+/// # Errors
+///
+/// - The error of `to_bytes_in`.
+pub fn write_numbers(alloc: Global, list: &NumberPairs<'_>) -> Result<Vec<u8>, WriteError<NoMemory>>
+    ensures { IfOk result (λ table. IsWideArchive
+        ⟦<Numbers as Represents<NumberPairs<'static>>>⟧ table.items list.now) }
+{
+    to_bytes_in::<Wide, _>(alloc, list)
+}
+
+/// Returns the number of the first pair with the key.
+///
+/// # Errors
+///
+/// - The error of the validation.
+pub fn number_of(table: &[u8], key: u32) -> Result<Option<u64>, VerifyError>
+    ensures { (list : _) → IsWideArchive
+        ⟦<Numbers as Represents<NumberPairs<'static>>>⟧ table.now list
+        → result ≡ Ok (first_value (λ held. key == held) list.pairs.now) }
+{
+    scalars_found_are_listed::<u32, u64, u32, FxHasher64, Wide>();
+    let numbers = ArchivedHashMap::of(access_in::<Wide, Numbers>(table)?);
+    match numbers.get(&key) {
+        Some(number) => Ok(Some(number.to_native())),
+        None => Ok(None),
+    }
+}
+
+/// Returns the text of the first pair with the key.
+///
+/// # Errors
+///
+/// - The error of the validation.
+pub fn title_of(table: &[u8], key: u32) -> Result<Option<&str>, VerifyError>
+    ensures { (list : _) → IsNarrowArchive
+        ⟦<Titles as Represents<TitlePairs<'static>>>⟧ table.now list
+        → IsTextOk (first_value (λ held. key == held) list.pairs.now) result }
+{
+    texts_found_are_listed::<u32, u32, FxHasher64, Narrow>();
+    let titles = ArchivedHashMap::of(access::<Titles>(table)?);
+    match titles.get(&key) {
+        Some(title) => Ok(Some(title.as_str())),
+        None => Ok(None),
+    }
+}
+
+/// Returns the pair of numbers of the first pair with the name.
+///
+/// # Errors
+///
+/// - The error of the validation.
+pub fn spot_of(table: &[u8], name: &str) -> Result<Option<(u32, u32)>, VerifyError>
+    ensures { (list : _) → IsNarrowArchive
+        ⟦<Spots as Represents<SpotPairs<'static>>>⟧ table.now list
+        → result ≡ Ok (first_value (λ held. same_bytes name.now held.now) list.pairs.now) }
+{
+    values_found_are_listed::<&str, (u32, u32), Text, Entry<u32, u32>, FxHasher64, Narrow>();
+    let spots = ArchivedHashMap::of(access::<Spots>(table)?);
+    match spots.get(&name) {
+        Some(spot) => {
+            let x = spot.key().to_native();
+            let y = spot.value().to_native();
+            Ok(Some((x, y)))
+        }
+        None => Ok(None),
+    }
+}

@@ -1,0 +1,68 @@
+//! Lookups in an archived map of std and in an archived set of std.
+
+ghost use Rattle.std.specs.List.{list_any};
+ghost use Rattle.std.specs.Prelude.{◌==◌, ◌≡◌, Ok};
+ghost use Rattle.rkyv_collections.specs.StdMaps.ListArchives.{IsNarrowWritten};
+ghost use Rattle.rkyv_keys.specs.FirstPairs.{first_value};
+
+use rkyv_base::access::access;
+use rkyv_base::archive::Archive;
+use rkyv_base::element::Represents;
+use rkyv_base::errors::VerifyError;
+use rkyv_base::width::Narrow;
+use rkyv_collections::map::laws::list_archives::scalars_found_are_listed;
+use rkyv_collections::map::{ArchivedHashMap, HashMapOf};
+use rkyv_collections::set::laws::members_found_are_listed;
+use rkyv_collections::set::{ArchivedHashSet, HashSetOf};
+use rkyv_collections::std_maps::hashed::Hashed;
+use rkyv_collections::std_maps::laws::{written_maps_are_lists, written_sets_are_lists};
+use rkyv_scan::hash::FxHasher64;
+use std::collections::{HashMap, HashSet};
+use std::hash::{BuildHasherDefault, FoldHasher};
+
+/// A map of numbers in a narrow archive.
+pub type Fares = HashMapOf<u32, u64>;
+
+/// The map of std that is archived as `Fares`.
+pub type FareMap = Hashed<HashMap<u32, u64>>;
+
+/// A set of numbers in a narrow archive.
+pub type Lines = HashSetOf<u32>;
+
+/// The set of std that is archived as `Lines`.
+pub type LineSet = Hashed<HashSet<u32>>;
+
+/// Returns the value that the archived map of std has under the key.
+///
+/// # Errors
+///
+/// - The error of the validation.
+pub fn fare_of(table: &[u8], line: u32) -> Result<Option<u64>, VerifyError>
+    ensures { (map : _) → IsNarrowWritten ⟦<Fares as Represents<FareMap>>⟧
+        ⟦<FareMap as Archive<Narrow>>⟧.format table.now map
+        → result ≡ Ok (first_value (λ held. line == held) map.map.entries) }
+{
+    written_maps_are_lists::<Narrow, FxHasher64, u32, u64, BuildHasherDefault<FoldHasher>>();
+    scalars_found_are_listed::<u32, u64, u32, FxHasher64, Narrow>();
+    let fares = ArchivedHashMap::of(access::<Fares>(table)?);
+    match fares.get(&line) {
+        Some(fare) => Ok(Some(fare.to_native())),
+        None => Ok(None),
+    }
+}
+
+/// Returns `true` if and only if the archived set of std has the number.
+///
+/// # Errors
+///
+/// - The error of the validation.
+pub fn has_line(set: &[u8], line: u32) -> Result<bool, VerifyError>
+    ensures { (lines : _) → IsNarrowWritten ⟦<Lines as Represents<LineSet>>⟧
+        ⟦<LineSet as Archive<Narrow>>⟧.format set.now lines
+        → result ≡ Ok (list_any (λ held. line == held) lines.map.keys) }
+{
+    written_sets_are_lists::<Narrow, FxHasher64, u32, BuildHasherDefault<FoldHasher>>();
+    members_found_are_listed::<u32, u32, FxHasher64, Narrow>();
+    let lines = ArchivedHashSet::of(access::<Lines>(set)?);
+    Ok(lines.contains(&line))
+}

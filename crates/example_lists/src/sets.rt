@@ -1,0 +1,57 @@
+//! Lookups in hash sets and in index sets.
+
+ghost use Rattle.std.specs.Prelude.{◌==◌, ◌≡◌, Ok};
+ghost use Rattle.std.specs.List.{list_any, position};
+ghost use Rattle.rkyv_base.specs.Access.{IsNarrowArchive};
+ghost use Rattle.rkyv_keys.specs.OfTexts.{same_bytes};
+
+use rkyv_base::access::access;
+use rkyv_base::element::Represents;
+use rkyv_base::errors::VerifyError;
+use rkyv_base::text::Text;
+use rkyv_base::width::Narrow;
+use rkyv_collections::set::laws::members_found_are_listed;
+use rkyv_collections::set::{ArchivedHashSet, HashSetOf};
+use rkyv_collections::{FxHasher64, SetItems};
+use rkyv_index::lists::OrderedItems;
+use rkyv_index::set::laws::members_found_are_listed as indexed_members_found_are_listed;
+use rkyv_index::set::{ArchivedIndexSet, IndexSetOf};
+
+/// A set of texts in a narrow archive.
+pub type Words = HashSetOf<Text>;
+
+/// The list that a set of texts represents.
+pub type WordItems<'a> = SetItems<'a, &'a str>;
+
+/// An index set of numbers in a narrow archive.
+pub type Ids = IndexSetOf<u64>;
+
+/// Returns `true` if and only if the list has the word.
+///
+/// # Errors
+///
+/// - The error of the validation.
+pub fn has_word(set: &[u8], word: &str) -> Result<bool, VerifyError>
+    ensures { (list : _) → IsNarrowArchive
+        ⟦<Words as Represents<WordItems<'static>>>⟧ set.now list
+        → result ≡ Ok (list_any (λ held. same_bytes word.now held.now) list.items.now) }
+{
+    members_found_are_listed::<&str, Text, FxHasher64, Narrow>();
+    let words = ArchivedHashSet::of(access::<Words>(set)?);
+    Ok(words.contains(&word))
+}
+
+/// Returns the index of the number in the list.
+///
+/// # Errors
+///
+/// - The error of the validation.
+pub fn index_of_id(set: &[u8], id: u64) -> Result<Option<usize>, VerifyError>
+    ensures { (list : _) → IsNarrowArchive
+        ⟦<Ids as Represents<OrderedItems<u64>>>⟧ set.now list
+        → result ≡ Ok (position (λ held. id == held) list.0.items) }
+{
+    indexed_members_found_are_listed::<u64, u64, FxHasher64, Narrow>();
+    let ids = ArchivedIndexSet::of(access::<Ids>(set)?);
+    Ok(ids.get_index_of(&id))
+}

@@ -1,0 +1,11 @@
+use Rattle.rkyv_keys.specs.FirstPairs.{found_views}
+use Rattle.rkyv_keys.specs.Lemmas.FirstPairs.{view_by_view}
+use Rattle.rkyv_keys.specs.Natives.{native_keys}
+use Rattle.rkyv_collections.specs.Map.{hash_at}
+use Rattle.rkyv_collections.proofs.ListArchives.{found_listed}
+use Rattle.rkyv_collections.proofs.map.laws.list_archives.values_found_are_listed.Goals as goal
+
+pub returns : goal.returns
+returns g c =
+    let keys = native_keys g.K.Represents.represents (hash_at g.H.KeyHasher.hasher g.K.KeyElement.key_calls) g.A.Query.fits g.A.PartialEq.eq in
+    found_listed _ _ _ _ keys g.met.A.NativeKey.native (found_views g.V.Represents.represents) (view_by_view g.V.Represents.represents)

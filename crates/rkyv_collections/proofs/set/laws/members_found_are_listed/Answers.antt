@@ -1,0 +1,16 @@
+use Rattle.std.proofs.Common.{◌∙◌}
+use Rattle.rkyv_base.specs.Empty.{unit_represents, unit_spec}
+use Rattle.rkyv_table.specs.Table.ItemValues.{with_units}
+use Rattle.rkyv_collections.specs.Map.{hash_at, map_bytes}
+use Rattle.rkyv_keys.specs.Natives.{native_keys}
+use Rattle.rkyv_collections.proofs.FoundPairs.{contains_listed}
+use Rattle.rkyv_collections.proofs.ListArchives.{first_in_root, member_listed}
+use Rattle.rkyv_collections.proofs.set.laws.members_found_are_listed.Goals as goal
+
+pub returns : goal.returns
+returns g c = λ set root archive factor items asked found there at is told.
+    let k = g.K.HasSpec.spec in
+    let keys = native_keys g.K.Represents.represents (hash_at g.H.KeyHasher.hasher g.K.KeyElement.key_calls) g.A.Query.fits g.A.PartialEq.eq in
+    let first = first_in_root set.map keys unit_represents g.met.A.NativeKey.native archive factor (with_units items) asked (there.0 ∙ at.0, there.1 ∙ at.1) is in
+    contains_listed k unit_spec keys.represents unit_represents (map_bytes set.map) _ _ found first.pair (told first.homes first.written)
+    ∙ member_listed (g.A.PartialEq.eq asked) items

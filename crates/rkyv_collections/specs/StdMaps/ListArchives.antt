@@ -1,0 +1,51 @@
+-- Archives that were written of a map or a set of std, as archives of the list of its entries.
+use Rattle.rkyv_base.specs.Members.{ElementMembers}
+use Rattle.std.specs.Prelude.{ℕ, ◌-◌, List, length}
+use Rattle.std.specs.HashMap.{HashMap}
+use Rattle.std.specs.HashSet.{HashSet}
+use Rattle.std.specs.Int.{Width}
+use Rattle.rkyv_base.specs.Access.{Accepted}
+use Rattle.rkyv_base.specs.Format.{Format}
+use Rattle.rkyv_base.specs.Layout.{narrow_limit, wide_limit}
+use Rattle.rkyv_base.specs.Root.{RootBytes}
+use Rattle.rkyv_collections.specs.Map.ListArchives.{map_root}
+use Rattle.rkyv_collections.specs.Map.MapFormat.{MapRepresents}
+use Rattle.rkyv_collections.specs.Map.MapSpec.{map_spec}
+use Rattle.rkyv_collections.specs.Set.{set_spec}
+use Rattle.rkyv_collections.specs.Set.ListArchives.{set_root}
+use Rattle.rkyv_collections.specs.Set.SetFormat.{SetRepresents}
+use Rattle.rkyv_collections.specs.declared.std_maps.hashed.Hashed.{Hashed}
+
+-- `b`: archive within `limit` with the written bytes of the native value, and no others.
+-- `element`: element of its root, `format`: format of the native value
+pub record IsWrittenArchive {V R : Type 0} (limit : ℕ) (element : ElementMembers V)
+    (format : Format V R) (b : List ℕ) (value : V) : Type 0 where
+  pub accepted : Accepted limit element.spec b
+  pub bytes : RootBytes element.spec.align format value 0 b (length b - element.spec.size)
+
+-- `b`: narrow archive with the written bytes of the native value, and no others
+abbrev pub IsNarrowWritten : {V R : Type 0} → ElementMembers V → Format V R → List ℕ → V → Type 0
+IsNarrowWritten element format b value = IsWrittenArchive narrow_limit element format b value
+
+-- `b`: wide archive with the written bytes of the native value, and no others
+abbrev pub IsWideWritten : {V R : Type 0} → ElementMembers V → Format V R → List ℕ → V → Type 0
+IsWideWritten element format b value = IsWrittenArchive wide_limit element format b value
+
+-- The root of an archive with the written bytes of a map of std represents the list of its entries.
+-- `k`, `v`: its keys and values, `hash`: hash of the key at a position
+abbrev pub WrittenMapsAreLists : {A B S H R : Type 0} → Width → ElementMembers A
+    → ElementMembers B → (List ℕ → ℕ → ℕ) → Format (Hashed (HashMap A B S) H) R → Type 0
+WrittenMapsAreLists {A} {B} {S} {H} w k v hash format =
+    (b : List ℕ) (x : Hashed (HashMap A B S) H)
+    → RootBytes (map_spec w k.spec v.spec).align format x 0 b (map_root w k.spec v.spec b)
+    → MapRepresents w k.spec v.spec k.represents v.represents hash (7, 8) b
+    (map_root w k.spec v.spec b) x.map.entries
+
+-- The root of an archive with the written bytes of a set of std represents the list of its keys.
+-- `k`: its keys, `hash`: hash of the key at a position
+abbrev pub WrittenSetsAreLists : {A S H R : Type 0} → Width → ElementMembers A → (List ℕ → ℕ → ℕ)
+    → Format (Hashed (HashSet A S) H) R → Type 0
+WrittenSetsAreLists {A} {S} {H} w k hash format =
+    (b : List ℕ) (x : Hashed (HashSet A S) H)
+    → RootBytes (set_spec w k.spec).align format x 0 b (set_root w k.spec b)
+    → SetRepresents w k.spec k.represents hash (7, 8) b (set_root w k.spec b) x.map.keys

@@ -1,0 +1,59 @@
+//! Laws of index maps that are the root of an archive.
+//!
+//! A lookup of a native key in a root index map that represents a list of pairs finds the first
+//! pair whose key equals it, and `None` if the list has no such pair.
+//!
+//! - `place`: `get_index_of` finds its index in the list.
+//! - `value`: `get` finds its value.
+ghost use Rattle.rkyv_index.specs.Index.ListArchives.{FoundAreListed};
+ghost use Rattle.rkyv_index.specs.Index.{hash_at};
+ghost use Rattle.rkyv_keys.specs.FirstPairs.{found_scalars, found_texts, found_views};
+ghost use Rattle.rkyv_keys.specs.Natives.{native_keys};
+
+use rkyv_base::element::{HasSpec, Represents};
+use rkyv_base::scalars::Scalar;
+use rkyv_base::text::Text;
+use rkyv_base::width::Width;
+use rkyv_keys::keys::{KeyElement, NativeKey};
+use rkyv_scan::hash::KeyHasher;
+
+/// States that a lookup in a root index map finds the index of the first equal key and its value.
+///
+/// The value is a view that represents that of the list.
+pub fn values_found_are_listed<
+    A: NativeKey<K>,
+    B,
+    K: KeyElement + Represents<A>,
+    V: Represents<B>,
+    H: KeyHasher,
+    W: Width,
+>()
+    ensures { FoundAreListed H W.Word K.HasSpec V.HasSpec
+        (native_keys K.represents (hash_at H.hasher K.key_calls) A.fits A.eq)
+        (found_views V.represents) }
+{}
+
+/// States the same of a root index map of scalars, whose values are those of the list.
+pub fn scalars_found_are_listed<
+    A: NativeKey<K>,
+    N: Scalar,
+    K: KeyElement + Represents<A>,
+    H: KeyHasher,
+    W: Width,
+>()
+    ensures { FoundAreListed H W.Word K.HasSpec N.HasSpec
+        (native_keys K.represents (hash_at H.hasher K.key_calls) A.fits A.eq)
+        (found_scalars N.encoding) }
+{}
+
+/// States the same of a root index map of texts, whose values have the bytes of those of the list.
+pub fn texts_found_are_listed<
+    A: NativeKey<K>,
+    K: KeyElement + Represents<A>,
+    H: KeyHasher,
+    W: Width,
+>()
+    ensures { FoundAreListed H W.Word K.HasSpec ⟦<Text<W> as HasSpec>⟧
+        (native_keys K.represents (hash_at H.hasher K.key_calls) A.fits A.eq)
+        (found_texts W.word) }
+{}
