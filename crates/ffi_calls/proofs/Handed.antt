@@ -1,4 +1,4 @@
--- What is handed out of the result of a write.
+-- The output of a call, of the result of a write.
 use Rattle.std.proofs.Common.{◌≡◌, ℕ, Err, List, MatchResult, Ok, Result, inl, inr, subst, sym}
 use Rattle.std.specs.declared.vec.Vec.{Vec}
 use Rattle.ffi_calls.specs.Items.{HandsOut}

@@ -1,4 +1,4 @@
--- What is read at a view is read at its position in the archive.
+-- A value at a view is at the position of the view in the archive.
 use Rattle.std.proofs.Common.{◌≡◌, ℕ, List, subst}
 use Rattle.std.specs.Borrow.{Bor}
 

@@ -1,4 +1,4 @@
--- The native form in which calls store archived values.
+-- The native form of the archived values that calls store.
 use Rattle.std.specs.Prelude.{◌≡◌, ℕ, List}
 use Rattle.std.specs.Borrow.{Bor}
 use Rattle.std.specs.Int.{Width}

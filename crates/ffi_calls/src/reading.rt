@@ -1,4 +1,4 @@
-//! The native form in which a call stores an archived key or value.
+//! The native form of the archived values that calls store.
 //!
 //! A number is stored as itself or in 64 bits, a text as its bytes, and a unit as a unit.
 
