@@ -21,6 +21,7 @@ use Rattle.std.proofs.Common.{
   inr,
   append_assoc,
 }
+use Rattle.std.proofs.lemmas.Option.{none-some, same_Some}
 use Rattle.rkyv_inspect_program.specs.declared.options.Name.{Name}
 use Rattle.rkyv_inspect_program.specs.declared.options.Name.TheVariants.{
   Color,
@@ -44,14 +45,8 @@ use Rattle.rkyv_inspect_program.specs.CommandLines.{
 abbrev pub joined_words : List (List (List ℕ)) → List (List ℕ)
 joined_words pieces = flat_map (λ piece. piece) pieces
 
-pub none_some : {A : Type 0} {x : A} → None ≡ Some x → ⊥
-none_some h = cc
-
 pub nil_cons : {A : Type 0} {x : A} {xs : List A} → [] ≡ x ∷ xs → ⊥
 nil_cons h = cc
-
-pub some_equal : {A : Type 0} {x y : A} → Some x ≡ Some y → x ≡ y
-some_equal h = cc
 
 pub head_equal : {A : Type 0} {x y : A} {xs ys : List A} → x ∷ xs ≡ y ∷ ys → x ≡ y
 head_equal h = cc
@@ -65,29 +60,29 @@ cons_equal h k = cc
 -- no name makes up an argument both alone and before a value
 pub one_length : (n : Option Name) (w v : List ℕ) (a b : Argument)
     → word_argument n w ≡ Some a → pair_argument n v ≡ Some b → ⊥
-one_length None w v a b h k = none_some k
-one_length (Some Kind) w v a b h k = none_some h
-one_length (Some Key) w v a b h k = none_some h
-one_length (Some Value) w v a b h k = none_some h
-one_length (Some Width) w v a b h k = none_some h
-one_length (Some Color) w v a b h k = none_some k
-one_length (Some Svg) w v a b h k = none_some k
-one_length (Some Help) w v a b h k = none_some k
+one_length None w v a b h k = none-some _ k
+one_length (Some Kind) w v a b h k = none-some _ h
+one_length (Some Key) w v a b h k = none-some _ h
+one_length (Some Value) w v a b h k = none-some _ h
+one_length (Some Width) w v a b h k = none-some _ h
+one_length (Some Color) w v a b h k = none-some _ k
+one_length (Some Svg) w v a b h k = none-some _ k
+one_length (Some Help) w v a b h k = none-some _ k
 
 -- the first pieces of equal words are equal
 pub first_piece : (p q : List (List ℕ)) (a b : Argument) (x y : List (List ℕ))
     → argument_of p ≡ Some a → argument_of q ≡ Some b → p ++ x ≡ q ++ y → (p ≡ q) × (x ≡ y)
-first_piece [] q a b x y h k e = absurd (none_some h)
-first_piece (w ∷ u ∷ t ∷ s) q a b x y h k e = absurd (none_some h)
-first_piece (w ∷ []) [] a b x y h k e = absurd (none_some k)
+first_piece [] q a b x y h k e = absurd (none-some _ h)
+first_piece (w ∷ u ∷ t ∷ s) q a b x y h k e = absurd (none-some _ h)
+first_piece (w ∷ []) [] a b x y h k e = absurd (none-some _ k)
 first_piece (w ∷ []) (z ∷ []) a b x y h k e =
     (cons_equal (head_equal e) refl, tail_equal e)
 first_piece (w ∷ []) (z ∷ v ∷ []) a b x y h k e =
     let same : pair_argument (name_of w) v ≡ Some b =
     subst (λ n. pair_argument (name_of n) v ≡ Some b) (sym (head_equal e)) k in
     absurd (one_length (name_of w) w v a b h same)
-first_piece (w ∷ []) (z ∷ v ∷ t ∷ s) a b x y h k e = absurd (none_some k)
-first_piece (w ∷ u ∷ []) [] a b x y h k e = absurd (none_some k)
+first_piece (w ∷ []) (z ∷ v ∷ t ∷ s) a b x y h k e = absurd (none-some _ k)
+first_piece (w ∷ u ∷ []) [] a b x y h k e = absurd (none-some _ k)
 first_piece (w ∷ u ∷ []) (z ∷ []) a b x y h k e =
     let same : word_argument (name_of w) w ≡ Some b =
     subst (λ n. word_argument (name_of n) n ≡ Some b) (sym (head_equal e)) k in
@@ -95,12 +90,12 @@ first_piece (w ∷ u ∷ []) (z ∷ []) a b x y h k e =
 first_piece (w ∷ u ∷ []) (z ∷ v ∷ []) a b x y h k e =
     let t = tail_equal e in
     (cons_equal (head_equal e) (cons_equal (head_equal t) refl), tail_equal t)
-first_piece (w ∷ u ∷ []) (z ∷ v ∷ t ∷ s) a b x y h k e = absurd (none_some k)
+first_piece (w ∷ u ∷ []) (z ∷ v ∷ t ∷ s) a b x y h k e = absurd (none-some _ k)
 
 -- an argument has a word
 pub not_empty : (p x : List (List ℕ)) (a : Argument)
     → argument_of p ≡ Some a → p ++ x ≡ [] → ⊥
-not_empty [] x a h e = none_some h
+not_empty [] x a h e = none-some _ h
 not_empty (w ∷ p) x a h e = nil_cons (sym e)
 
 -- `all` begins with `front`, and `words` make up the other arguments
@@ -132,7 +127,7 @@ continues (p ∷ ps) (q ∷ qs) (a ∷ front) (b ∷ all) x h k e =
     record {
       more = rest.more;
       made = rest.made;
-      whole = cons_equal (sym (some_equal same)) rest.whole;
+      whole = cons_equal (sym (same_Some _ _ same)) rest.whole;
     }
 
 -- the arguments of words begin with those of a beginning of the words
@@ -151,7 +146,7 @@ IsFirst w y a =
 
 first_of_piece : (w : List ℕ) (y p x : List (List ℕ)) (a : Argument)
     → argument_of p ≡ Some a → w ∷ y ≡ p ++ x → IsFirst w y a
-first_of_piece w y [] x a h e = absurd (none_some h)
+first_of_piece w y [] x a h e = absurd (none-some _ h)
 first_of_piece w y (u ∷ []) x a h e =
     inl (subst (λ n. word_argument (name_of n) n ≡ Some a) (sym (head_equal e)) h)
 first_of_piece w y (u ∷ v ∷ []) x a h e =
@@ -161,7 +156,7 @@ first_of_piece w y (u ∷ v ∷ []) x a h e =
       tail_equal e,
       subst (λ n. pair_argument (name_of n) v ≡ Some a) (sym (head_equal e)) h,
     )
-first_of_piece w y (u ∷ v ∷ t ∷ s) x a h e = absurd (none_some h)
+first_of_piece w y (u ∷ v ∷ t ∷ s) x a h e = absurd (none-some _ h)
 
 first_of_pieces : (w : List ℕ) (y : List (List ℕ)) (ps : List (List (List ℕ)))
     (more : List Argument) → w ∷ y ≡ joined_words ps → map argument_of ps ≡ map Some more

@@ -5,6 +5,7 @@ use Rattle.std.specs.Option.{option_or}
 use Rattle.std.proofs.lemmas.Grind.{flat_map-append}
 use Rattle.std.proofs.lemmas.List.{append-nil, map-append, take-append-drop, take_more}
 use Rattle.std.proofs.lemmas.List.Elements.{filter_map-append}
+use Rattle.std.proofs.lemmas.Option.{none-some, same_Some}
 use Rattle.rkyv_inspect_program.specs.declared.options.Name.{Name}
 use Rattle.rkyv_inspect_program.specs.declared.options.Options.{Options}
 use Rattle.rkyv_inspect_program.specs.declared.options.Words.{Words}
@@ -38,7 +39,7 @@ use Rattle.rkyv_inspect_program.specs.CommandLines.{
   word_argument,
 }
 use Rattle.rkyv_inspect_program.proofs.Adding.{Adds, files_of}
-use Rattle.rkyv_inspect_program.proofs.Arguments.{IsFirst, continues_from, first_argument, head_equal, joined_words, nil_cons, none_some, some_equal, tail_equal}
+use Rattle.rkyv_inspect_program.proofs.Arguments.{IsFirst, continues_from, first_argument, head_equal, joined_words, nil_cons, tail_equal}
 
 last_more : {A : Type 0} (f : Argument → Option A) (o : Option A) (xs : List Argument)
     (a : Argument)
@@ -145,8 +146,8 @@ name_fails : (option : Name) (w : List ℕ) (y : List (List ℕ)) (a : Argument)
     → IsFirst w y a → ⊥
 name_fails option w y a h t none f =
     ⊎_elim
-    (λ k. none_some (sym t ∙ ap (λ n. word_argument n w) (sym h) ∙ k))
-    (λ k. none_some (sym (none k.0 k.1 k.2) ∙ ap (λ n. pair_argument n k.0) (sym h) ∙ k.3))
+    (λ k. none-some _ (sym t ∙ ap (λ n. word_argument n w) (sym h) ∙ k))
+    (λ k. none-some _ (sym (none k.0 k.1 k.2) ∙ ap (λ n. pair_argument n k.0) (sym h) ∙ k.3))
     f
 
 -- words name no options if they go on with such a name
@@ -226,7 +227,7 @@ file_fails word options file h is front n rest other m =
     ⊎_elim
     (λ k.
     let a : of_file word ≡ first.0 =
-    some_equal (ap (λ n. word_argument n word) (sym h) ∙ k) in
+    same_Some _ _ (ap (λ n. word_argument n word) (sym h) ∙ k) in
     let all : m.arguments ≡ n.arguments ++ of_file word ∷ first.1 =
     more.whole ∙ ap (λ l. n.arguments ++ l) (first.2 ∙ ap (λ b. b ∷ first.1) (sym a)) in
     let one : files_of options ≡ file.now ∷ [] =
@@ -235,5 +236,5 @@ file_fails word options file h is front n rest other m =
     (ap (λ l. l ++ word ∷ filter_map file_in first.1) (sym (n.given.file ∙ one))
     ∙ sym (filter_map-append file_in n.arguments (of_file word ∷ first.1))
     ∙ ap (filter_map file_in) (sym all) ∙ m.given.file))
-    (λ k. none_some (ap (λ n. pair_argument n k.0) (sym h) ∙ k.3))
+    (λ k. none-some _ (ap (λ n. pair_argument n k.0) (sym h) ∙ k.3))
     first.3

@@ -1,6 +1,7 @@
 -- Words name at most one kind, type of keys, and so on.
 use Rattle.std.proofs.Common.{◌≡◌, ◌∷◌, ◌++◌, ◌∙◌, ℕ, Bor, List, [], None, Option, Some, IsSome, ap, inl, inr, map, option_map, option_to_list, refl, subst, sym, unwrap_or, ⊎_elim}
 use Rattle.std.proofs.lemmas.List.{append-nil}
+use Rattle.std.proofs.lemmas.Option.{none-some}
 use Rattle.rkyv_container.specs.declared.contents.Width.TheVariants.{Narrow}
 use Rattle.rkyv_inspect_program.specs.declared.options.Options.{Options}
 use Rattle.rkyv_inspect_program.specs.Options.{IsBare, IsIncomplete, NamesNoContents, value_of}
@@ -17,7 +18,6 @@ use Rattle.rkyv_inspect_program.proofs.Arguments.{
   head_equal,
   joined_words,
   nil_cons,
-  none_some,
   not_empty,
 }
 
@@ -67,7 +67,7 @@ no_file : (f g : Option (Bor (List ℕ)))
     → f ≡ None → g ≡ None
 no_file f None e h = refl
 no_file None (Some g) e h = absurd (nil_cons e)
-no_file (Some f) (Some g) e h = absurd (none_some (sym h))
+no_file (Some f) (Some g) e h = absurd (none-some _ (sym h))
 
 bare : (o q : Options) → Agree o q → IsBare o → IsBare q
 bare o q a b =

@@ -1,4 +1,4 @@
-use Rattle.std.proofs.Common.{ap, option_map, sym, ◌∙◌}
+use Rattle.std.proofs.Common.{ap, option_map, refl, sym, ◌∙◌}
 use Rattle.rkyv_inspect_program.specs.CommandLines.{
   option_argument,
   with_key,
@@ -6,7 +6,7 @@ use Rattle.rkyv_inspect_program.specs.CommandLines.{
   with_value,
   with_width,
 }
-use Rattle.rkyv_inspect_program.proofs.Adding.{adds_key, adds_kind, adds_value, adds_width}
+use Rattle.rkyv_inspect_program.proofs.Adding.{adds}
 use Rattle.rkyv_inspect_program.proofs.Parsing.{value_more, value_stops}
 use Rattle.rkyv_inspect_program.proofs.options.Options.after_value.Goals as goal
 
@@ -25,7 +25,7 @@ returns-in_ok-kind_named-in-Kind c =
     value_more c.args.name word c.args.self
     (ap (λ n. option_argument n word) c.in-Kind.is
     ∙ ap (option_map with_kind) (sym c.kind_named.ensures ∙ h.was))
-    (adds_kind c.args.self h.field-0)
+    (adds c.args.self (with_kind h.field-0) refl)
 
 pub returns-in_err-type_named-in-Key : goal.returns-in_err-type_named-in-Key
 returns-in_err-type_named-in-Key c =
@@ -42,7 +42,7 @@ returns-in_ok-type_named-in-Key c =
     value_more c.args.name word c.args.self
     (ap (λ n. option_argument n word) c.in-Key.is
     ∙ ap (option_map with_key) (sym c.type_named.ensures ∙ h.was))
-    (adds_key c.args.self h.field-0)
+    (adds c.args.self (with_key h.field-0) refl)
 
 pub returns-in_err-type_named-in-Value : goal.returns-in_err-type_named-in-Value
 returns-in_err-type_named-in-Value c =
@@ -59,7 +59,7 @@ returns-in_ok-type_named-in-Value c =
     value_more c.args.name word c.args.self
     (ap (λ n. option_argument n word) c.in-Value.is
     ∙ ap (option_map with_value) (sym c.type_named-in-Value.ensures ∙ h.was))
-    (adds_value c.args.self h.field-0)
+    (adds c.args.self (with_value h.field-0) refl)
 
 pub returns-in_err-width_named-in-Width : goal.returns-in_err-width_named-in-Width
 returns-in_err-width_named-in-Width c =
@@ -76,4 +76,4 @@ returns-in_ok-width_named-in-Width c =
     value_more c.args.name word c.args.self
     (ap (λ n. option_argument n word) c.in-Width.is
     ∙ ap (option_map with_width) (sym c.width_named.ensures ∙ h.was))
-    (adds_width c.args.self h.field-0)
+    (adds c.args.self (with_width h.field-0) refl)
