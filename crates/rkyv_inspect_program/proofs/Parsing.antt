@@ -2,6 +2,7 @@
 use Rattle.std.proofs.Common.{◌≡◌, ◌||◌, ◌+◌, ◌<◌, ℕ, Bool, Bor, true, false, List, [], ◌∷◌, ◌++◌, drop, filter_map, get_or, length, map, take, MatchOption, Option, Some, None, option_map, option_to_list, refl, sym, ap, ◌∙◌, subst, ⊎_elim, append_assoc}
 use Rattle.std.specs.List.{cons_option, last_or, list_any}
 use Rattle.std.specs.Option.{option_or}
+use Rattle.std.specs.Str.Parse.{starts_with_minus}
 use Rattle.std.proofs.lemmas.Grind.{flat_map-append}
 use Rattle.std.proofs.lemmas.List.{append-nil, map-append, take-append-drop, take_more}
 use Rattle.std.proofs.lemmas.List.Elements.{filter_map-append}
@@ -120,12 +121,13 @@ flag_more option word options {next} {a} so_far h f s e front n =
 
 -- a file is next
 pub file_more : (word : List ℕ) (options : Options) {next : Options} (so_far : Words)
-    → name_of word ≡ None → Adds options (of_file word) next → so_far ≡ whole next
+    → name_of word ≡ None → starts_with_minus word ≡ false → Adds options (of_file word) next → so_far ≡ whole next
     → (front : List (List ℕ)) → NamesOptions front options
     → NamesSoFar (front ++ word ∷ []) so_far
-file_more word options {next} so_far h s e front n =
+file_more word options {next} so_far h plain s e front n =
     subst (NamesSoFar (front ++ word ∷ [])) (sym e)
-    (one_more front (word ∷ []) options next (of_file word) (ap (λ o. word_argument o word) h) s n)
+    (one_more front (word ∷ []) options next (of_file word)
+    (ap (λ o. word_argument o word) h ∙ rw plain refl) s n)
 
 -- the value of the awaited option
 pub value_more : (option : Name) (word : List ℕ) (options : Options) {next : Options}
@@ -215,19 +217,33 @@ two_in_one : (f w : List ℕ) (more : List (List ℕ)) (o : Option (List ℕ))
 two_in_one f w more None h = nil_cons (sym h)
 two_in_one f w more (Some g) h = nil_cons (sym (tail_equal h))
 
+-- the next word begins with a hyphen and is no option
+pub hyphen_fails : (word : List ℕ) (options : Options) → name_of word ≡ None → starts_with_minus word ≡ true
+    → (front : List (List ℕ)) → NamesOptions front options → NamesNone (front ++ word ∷ [])
+hyphen_fails word options h hyphen front n rest other m =
+    let made : MakeUp (front ++ word ∷ rest) m.arguments =
+    subst (λ w. MakeUp w m.arguments) (append_assoc front (word ∷ []) rest) m.made in
+    let more = continues_from front (word ∷ rest) n.arguments m.arguments n.made made in
+    let first = first_argument word rest more.more more.made in
+    let none : word_argument None word ≡ None = rw hyphen refl in
+    ⊎_elim
+    (λ k. none-some _ (sym none ∙ ap (λ n. word_argument n word) (sym h) ∙ k))
+    (λ k. none-some _ (ap (λ n. pair_argument n k.0) (sym h) ∙ k.3))
+    first.3
+
 -- a second file is next
 pub file_fails : (word : List ℕ) (options : Options) (file : Bor (List ℕ))
-    → name_of word ≡ None → options.file ≡ Some file
+    → name_of word ≡ None → starts_with_minus word ≡ false → options.file ≡ Some file
     → (front : List (List ℕ)) → NamesOptions front options → NamesNone (front ++ word ∷ [])
-file_fails word options file h is front n rest other m =
+file_fails word options file h plain is front n rest other m =
     let made : MakeUp (front ++ word ∷ rest) m.arguments =
     subst (λ w. MakeUp w m.arguments) (append_assoc front (word ∷ []) rest) m.made in
     let more = continues_from front (word ∷ rest) n.arguments m.arguments n.made made in
     let first = first_argument word rest more.more more.made in
     ⊎_elim
     (λ k.
-    let a : of_file word ≡ first.0 =
-    same_Some _ _ (ap (λ n. word_argument n word) (sym h) ∙ k) in
+    let is_file : word_argument None word ≡ Some (of_file word) = rw plain refl in
+    let a : of_file word ≡ first.0 = same_Some _ _ (sym is_file ∙ ap (λ n. word_argument n word) (sym h) ∙ k) in
     let all : m.arguments ≡ n.arguments ++ of_file word ∷ first.1 =
     more.whole ∙ ap (λ l. n.arguments ++ l) (first.2 ∙ ap (λ b. b ∷ first.1) (sym a)) in
     let one : files_of options ≡ file.now ∷ [] =

@@ -18,8 +18,10 @@ use Rattle.std.specs.Prelude.{
   MatchOption,
   option_map,
   option_to_list,
+  if◌then◌else◌,
 }
 use Rattle.std.specs.List.{last_or, list_any}
+use Rattle.std.specs.Str.Parse.{starts_with_minus}
 use Rattle.rkyv_container.specs.declared.contents.ItemType.{ItemType}
 use Rattle.rkyv_container.specs.declared.contents.Kind.{Kind as Collection}
 use Rattle.rkyv_container.specs.declared.contents.Width.{Width as ArchiveWidth}
@@ -69,9 +71,13 @@ option_argument Value value = option_map with_value (type_named value)
 option_argument Width value = option_map with_width (width_named value)
 option_argument _ value = None
 
+-- the argument of a word that no option has as its name: a file, unless it begins with a hyphen
+abbrev pub file_argument : List ℕ → Option Argument
+file_argument word = if starts_with_minus word then None else Some (of_file word)
+
 -- the argument of one word: a file, unless an option has this name
 abbrev pub word_argument : Option Name → List ℕ → Option Argument
-word_argument None word = Some (of_file word)
+word_argument None word = file_argument word
 word_argument (Some name) word = flag_argument name
 
 -- the argument of two words: the option with this name, and its value

@@ -1,6 +1,7 @@
 //! The options of the command line.
 ghost use Rattle.std.specs.Prelude.{IsTrue, MatchOption, [], map, option_map, string_bytes};
 ghost use Rattle.std.specs.Prelude.{◌↔◌, ◌≡◌};
+ghost use Rattle.std.specs.Str.Parse.{starts_with_minus};
 ghost use Rattle.std.specs.Str.{bytes_eq};
 ghost use Rattle.rkyv_inspect_program.specs.CommandLines.{IsAfter, NamesNoOptions, NamesOptions};
 ghost use Rattle.rkyv_inspect_program.specs.CommandLines.{awaiting, whole};
@@ -72,6 +73,14 @@ fn is_word(word: &str, name: &str) -> bool
     ensures { result ≡ bytes_eq word.now name.now }
 {
     word == name
+}
+
+/// Returns whether the word begins with a hyphen, as options do.
+fn is_hyphenated(word: &str) -> bool
+    ensures { result ≡ starts_with_minus word.now }
+{
+    let bytes = word.as_bytes();
+    !bytes.is_empty() && bytes[0] == b'-'
 }
 
 /// Returns the option of this name, or `None` if the word is none.
@@ -207,7 +216,8 @@ impl<'a> Options<'a> {
 
     /// Returns the words so far after one that isn't the value of an option.
     ///
-    /// The result is `None` if there is a file already.
+    /// The result is `None` if the word begins with a hyphen and is no option, or if there is
+    /// a file already.
     fn after_word(self, word: &'a str) -> Option<Words<'a>>
         ensures { IsAfter (whole self.entry) word.now result }
     {
@@ -222,13 +232,18 @@ impl<'a> Options<'a> {
                 options: self,
                 awaited: Some(name),
             }),
-            None => match self.file {
-                Some(_) => None,
-                None => Some(whole(Options {
-                    file: Some(word),
-                    ..self
-                })),
-            },
+            None => {
+                if is_hyphenated(word) {
+                    return None;
+                }
+                match self.file {
+                    Some(_) => None,
+                    None => Some(whole(Options {
+                        file: Some(word),
+                        ..self
+                    })),
+                }
+            }
         }
     }
 
