@@ -66,7 +66,7 @@ typedef size_t others_from(const uint8_t *archive, size_t length, bool wide,
                            const rkyv_table_header *header, size_t from, void *pairs, size_t room);
 typedef uint32_t build_others(const void *items, size_t count, bool wide, built *built);
 
-/* The calls that look up. Those of hash maps are of one type of values and one width. */
+/* The calls that look up. Each is of one type of values and one width. */
 typedef uint32_t get_number(const uint8_t *archive, size_t length, const rkyv_table_header *header,
                             uint32_t key, uint64_t *value);
 typedef uint32_t get_long_number(const uint8_t *archive, size_t length,
@@ -88,6 +88,25 @@ typedef uint32_t contains_long_number(const uint8_t *archive, size_t length,
 typedef uint32_t contains_text(const uint8_t *archive, size_t length,
                                const rkyv_table_header *header, const uint8_t *item,
                                size_t item_length);
+
+/* The same for index maps. They store the index of the pair too. */
+typedef uint32_t index_get_number(const uint8_t *archive, size_t length,
+                                  const rkyv_table_header *header, uint32_t key, indexed *found);
+typedef uint32_t index_get_long_number(const uint8_t *archive, size_t length,
+                                       const rkyv_table_header *header, uint64_t key,
+                                       indexed *found);
+typedef uint32_t index_get_text(const uint8_t *archive, size_t length,
+                                const rkyv_table_header *header, const uint8_t *key,
+                                size_t key_length, indexed *found);
+typedef uint32_t index_get_text_of_number(const uint8_t *archive, size_t length,
+                                          const rkyv_table_header *header, uint32_t key,
+                                          indexed_text *found);
+typedef uint32_t index_get_text_of_long_number(const uint8_t *archive, size_t length,
+                                               const rkyv_table_header *header, uint64_t key,
+                                               indexed_text *found);
+typedef uint32_t index_get_text_of_text(const uint8_t *archive, size_t length,
+                                        const rkyv_table_header *header, const uint8_t *key,
+                                        size_t key_length, indexed_text *found);
 
 /* The calls that write a value in place. */
 typedef uint32_t set_number(uint8_t *archive, size_t length, bool longer, bool wide, uint32_t key,
@@ -156,23 +175,19 @@ get_text_of_text rkyv_c_get_text_of_text_narrow, rkyv_c_get_text_of_text_wide;
 contains_number rkyv_c_contains_number_narrow, rkyv_c_contains_number_wide;
 contains_long_number rkyv_c_contains_long_number_narrow, rkyv_c_contains_long_number_wide;
 contains_text rkyv_c_contains_text_narrow, rkyv_c_contains_text_wide;
-uint32_t rkyv_c_index_get_number(const uint8_t *archive, size_t length, bool longer, bool wide,
-                                 const rkyv_table_header *header, uint32_t key, indexed *found);
-uint32_t rkyv_c_index_get_long_number(const uint8_t *archive, size_t length, bool longer, bool wide,
-                                      const rkyv_table_header *header, uint64_t key,
-                                      indexed *found);
-uint32_t rkyv_c_index_get_text(const uint8_t *archive, size_t length, bool longer, bool wide,
-                               const rkyv_table_header *header, const uint8_t *key,
-                               size_t key_length, indexed *found);
-uint32_t rkyv_c_index_get_text_of_number(const uint8_t *archive, size_t length, bool wide,
-                                         const rkyv_table_header *header, uint32_t key,
-                                         indexed_text *found);
-uint32_t rkyv_c_index_get_text_of_long_number(const uint8_t *archive, size_t length, bool wide,
-                                              const rkyv_table_header *header, uint64_t key,
-                                              indexed_text *found);
-uint32_t rkyv_c_index_get_text_of_text(const uint8_t *archive, size_t length, bool wide,
-                                       const rkyv_table_header *header, const uint8_t *key,
-                                       size_t key_length, indexed_text *found);
+index_get_number rkyv_c_index_get_number_u32_narrow, rkyv_c_index_get_number_u64_narrow;
+index_get_number rkyv_c_index_get_number_u32_wide, rkyv_c_index_get_number_u64_wide;
+index_get_long_number rkyv_c_index_get_long_number_u32_narrow;
+index_get_long_number rkyv_c_index_get_long_number_u64_narrow;
+index_get_long_number rkyv_c_index_get_long_number_u32_wide;
+index_get_long_number rkyv_c_index_get_long_number_u64_wide;
+index_get_text rkyv_c_index_get_text_u32_narrow, rkyv_c_index_get_text_u64_narrow;
+index_get_text rkyv_c_index_get_text_u32_wide, rkyv_c_index_get_text_u64_wide;
+index_get_text_of_number rkyv_c_index_get_text_of_number_narrow;
+index_get_text_of_number rkyv_c_index_get_text_of_number_wide;
+index_get_text_of_long_number rkyv_c_index_get_text_of_long_number_narrow;
+index_get_text_of_long_number rkyv_c_index_get_text_of_long_number_wide;
+index_get_text_of_text rkyv_c_index_get_text_of_text_narrow, rkyv_c_index_get_text_of_text_wide;
 set_number rkyv_c_set_number, rkyv_c_index_set_number;
 set_long_number rkyv_c_set_long_number, rkyv_c_index_set_long_number;
 set_text rkyv_c_set_text, rkyv_c_index_set_text;
@@ -346,6 +361,15 @@ static get_long_number *const get_long_numbers[2][2] = {
 static get_text *const get_texts[2][2] = {
     {rkyv_c_get_text_u32_narrow, rkyv_c_get_text_u32_wide},
     {rkyv_c_get_text_u64_narrow, rkyv_c_get_text_u64_wide}};
+static index_get_number *const index_get_numbers[2][2] = {
+    {rkyv_c_index_get_number_u32_narrow, rkyv_c_index_get_number_u32_wide},
+    {rkyv_c_index_get_number_u64_narrow, rkyv_c_index_get_number_u64_wide}};
+static index_get_long_number *const index_get_long_numbers[2][2] = {
+    {rkyv_c_index_get_long_number_u32_narrow, rkyv_c_index_get_long_number_u32_wide},
+    {rkyv_c_index_get_long_number_u64_narrow, rkyv_c_index_get_long_number_u64_wide}};
+static index_get_text *const index_get_texts[2][2] = {
+    {rkyv_c_index_get_text_u32_narrow, rkyv_c_index_get_text_u32_wide},
+    {rkyv_c_index_get_text_u64_narrow, rkyv_c_index_get_text_u64_wide}};
 
 /* The functions that look up, by the width. */
 static get_text_of_number *const get_texts_of_numbers[2] = {rkyv_c_get_text_of_number_narrow,
@@ -354,6 +378,12 @@ static get_text_of_long_number *const get_texts_of_long_numbers[2] = {
     rkyv_c_get_text_of_long_number_narrow, rkyv_c_get_text_of_long_number_wide};
 static get_text_of_text *const get_texts_of_texts[2] = {rkyv_c_get_text_of_text_narrow,
                                                         rkyv_c_get_text_of_text_wide};
+static index_get_text_of_number *const index_get_texts_of_numbers[2] = {
+    rkyv_c_index_get_text_of_number_narrow, rkyv_c_index_get_text_of_number_wide};
+static index_get_text_of_long_number *const index_get_texts_of_long_numbers[2] = {
+    rkyv_c_index_get_text_of_long_number_narrow, rkyv_c_index_get_text_of_long_number_wide};
+static index_get_text_of_text *const index_get_texts_of_texts[2] = {
+    rkyv_c_index_get_text_of_text_narrow, rkyv_c_index_get_text_of_text_wide};
 static contains_number *const contain_numbers[2] = {rkyv_c_contains_number_narrow,
                                                     rkyv_c_contains_number_wide};
 static contains_long_number *const contain_long_numbers[2] = {rkyv_c_contains_long_number_narrow,
@@ -793,9 +823,8 @@ rkyv_status rkyv_index_get_number(const rkyv_index_map *map, uint32_t key, size_
     const rkyv_map *of = map_of(map);
     rkyv_status status = check_map(of, INDEX_MAP, U32, NUMBER);
     if (status == RKYV_OK) {
-        status = (rkyv_status)rkyv_c_index_get_number(of->bytes, of->length,
-                                                      has_long_values(of->kind), is_wide(of),
-                                                      &of->header, key, &found);
+        index_get_number *get = index_get_numbers[has_long_values(of->kind)][is_wide(of)];
+        status = (rkyv_status)get(of->bytes, of->length, &of->header, key, &found);
     }
     return store_indexed(status, found, index, value);
 }
@@ -806,9 +835,8 @@ rkyv_status rkyv_index_get_long_number(const rkyv_index_map *map, uint64_t key, 
     const rkyv_map *of = map_of(map);
     rkyv_status status = check_map(of, INDEX_MAP, U64, NUMBER);
     if (status == RKYV_OK) {
-        status = (rkyv_status)rkyv_c_index_get_long_number(of->bytes, of->length,
-                                                           has_long_values(of->kind), is_wide(of),
-                                                           &of->header, key, &found);
+        index_get_long_number *get = index_get_long_numbers[has_long_values(of->kind)][is_wide(of)];
+        status = (rkyv_status)get(of->bytes, of->length, &of->header, key, &found);
     }
     return store_indexed(status, found, index, value);
 }
@@ -819,9 +847,9 @@ rkyv_status rkyv_index_get_text(const rkyv_index_map *map, const char *key, size
     const rkyv_map *of = map_of(map);
     rkyv_status status = first(check_map(of, INDEX_MAP, TEXT, NUMBER), check_bytes(key, length));
     if (status == RKYV_OK) {
-        status = (rkyv_status)rkyv_c_index_get_text(of->bytes, of->length,
-                                                    has_long_values(of->kind), is_wide(of),
-                                                    &of->header, bytes_of(key), length, &found);
+        index_get_text *get = index_get_texts[has_long_values(of->kind)][is_wide(of)];
+        status = (rkyv_status)get(of->bytes, of->length, &of->header, bytes_of(key), length,
+                                  &found);
     }
     return store_indexed(status, found, index, value);
 }
@@ -847,8 +875,8 @@ rkyv_status rkyv_index_get_text_of_number(const rkyv_index_map *map, uint32_t ke
     const rkyv_map *of = map_of(map);
     rkyv_status status = check_map(of, INDEX_MAP, U32, TEXT);
     if (status == RKYV_OK) {
-        status = (rkyv_status)rkyv_c_index_get_text_of_number(of->bytes, of->length, is_wide(of),
-                                                              &of->header, key, &found);
+        index_get_text_of_number *get = index_get_texts_of_numbers[is_wide(of)];
+        status = (rkyv_status)get(of->bytes, of->length, &of->header, key, &found);
     }
     return store_indexed_text(status, found, index, value, value_length);
 }
@@ -860,8 +888,8 @@ rkyv_status rkyv_index_get_text_of_long_number(const rkyv_index_map *map, uint64
     const rkyv_map *of = map_of(map);
     rkyv_status status = check_map(of, INDEX_MAP, U64, TEXT);
     if (status == RKYV_OK) {
-        status = (rkyv_status)rkyv_c_index_get_text_of_long_number(
-            of->bytes, of->length, is_wide(of), &of->header, key, &found);
+        index_get_text_of_long_number *get = index_get_texts_of_long_numbers[is_wide(of)];
+        status = (rkyv_status)get(of->bytes, of->length, &of->header, key, &found);
     }
     return store_indexed_text(status, found, index, value, value_length);
 }
@@ -872,9 +900,9 @@ rkyv_status rkyv_index_get_text_of_text(const rkyv_index_map *map, const char *k
     const rkyv_map *of = map_of(map);
     rkyv_status status = first(check_map(of, INDEX_MAP, TEXT, TEXT), check_bytes(key, length));
     if (status == RKYV_OK) {
-        status = (rkyv_status)rkyv_c_index_get_text_of_text(of->bytes, of->length, is_wide(of),
-                                                            &of->header, bytes_of(key), length,
-                                                            &found);
+        index_get_text_of_text *get = index_get_texts_of_texts[is_wide(of)];
+        status = (rkyv_status)get(of->bytes, of->length, &of->header, bytes_of(key), length,
+                                  &found);
     }
     return store_indexed_text(status, found, index, value, value_length);
 }

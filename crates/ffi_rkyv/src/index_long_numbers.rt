@@ -3,23 +3,23 @@
 ghost use Rattle.std.specs.Prelude.{map, ◌≡◌};
 ghost use Rattle.ffi_calls.specs.Archives.{IsHeaderOf, KeepsHeader, Opens, form_of, limit_of};
 ghost use Rattle.ffi_calls.specs.Explanation.{Explains};
-ghost use Rattle.ffi_calls.specs.IndexArchives.{GivesIndexedNumber, IsNumberIndex, StoresNumbers};
+ghost use Rattle.ffi_calls.specs.IndexArchives.{IsNumberIndex, StoresNumbers};
 ghost use Rattle.ffi_calls.specs.IndexArchives.{number_index, number_index_in};
 ghost use Rattle.ffi_calls.specs.IndexInPlace.{SetsFirstIndexedNumber, SetsIndexedNumber};
 ghost use Rattle.ffi_calls.specs.IndexItems.{IndexOfNumbersFails, IsIndexOfNumbers};
-ghost use Rattle.ffi_calls.specs.IndexLists.{GivesFirstIndexedNumber, StoresListedNumbers};
+ghost use Rattle.ffi_calls.specs.IndexLists.{StoresListedNumbers};
 ghost use Rattle.ffi_calls.specs.Items.{HandsOut};
 ghost use Rattle.ffi_calls.specs.Keys.{long_key};
-ghost use Rattle.ffi_rkyv.specs.Pairs.{indexed_number, long_number_pair};
+ghost use Rattle.ffi_rkyv.specs.Pairs.{long_number_pair};
 
-use crate::pairs::{IndexedNumber, LongNumberPair};
+use crate::pairs::LongNumberPair;
 use ffi_calls::building::Built;
 use ffi_calls::explanation::Explanation;
 use ffi_calls::form::Form;
 use ffi_calls::index_items::build_index_numbers;
 use ffi_calls::index_numbers::{
-    decode_index_numbers, explain_index_numbers, get_index_number, index_numbers_from,
-    open_index_numbers, set_index_number,
+    decode_index_numbers, explain_index_numbers, index_numbers_from, open_index_numbers,
+    set_index_number,
 };
 use rkyv_table::table::decoded::Decoded;
 use std::alloc::Global;
@@ -73,36 +73,6 @@ pub extern "C" fn rkyv_c_index_decode_long_numbers(
         header.new }
 {
     *header = decode_index_numbers::<u64>(archive, Form { long_values, wide });
-}
-
-/// Looks up a key, and stores the index and the value of its pair in `found`.
-///
-/// # Errors
-///
-/// - 1: the lookup doesn't find the key; `found` is unchanged then.
-///
-/// # Requires
-///
-/// - The archive is valid: `rkyv_c_index_open_long_numbers` returned 0.
-/// - `header` is its decoded header.
-#[unsafe(no_mangle)]
-pub extern "C" fn rkyv_c_index_get_long_number(
-    archive: &[u8],
-    long_values: bool,
-    wide: bool,
-    header: &Decoded,
-    key: u64,
-    found: &mut IndexedNumber,
-) -> u32
-    requires archive { IsNumberIndex long_key (form_of long_values wide) archive.now }
-    requires header { IsHeaderOf (number_index_in long_key (form_of long_values wide) archive.now)
-        header.now }
-    ensures gives { GivesIndexedNumber long_key (form_of long_values wide) archive.now key
-        (indexed_number found.old) result (indexed_number found.new) }
-    ensures listed { GivesFirstIndexedNumber long_key (form_of long_values wide) archive.now key
-        (indexed_number found.old) result (indexed_number found.new) }
-{
-    get_index_number::<u64, _>(archive, Form { long_values, wide }, header, key, found)
 }
 
 /// Looks up a key, and overwrites its value in place. The archive stays valid, and its header as it

@@ -3,24 +3,20 @@
 ghost use Rattle.std.specs.Prelude.{map, ◌≡◌};
 ghost use Rattle.ffi_calls.specs.Archives.{IsHeaderOf, Opens, limit_of};
 ghost use Rattle.ffi_calls.specs.Explanation.{Explains};
-ghost use Rattle.ffi_calls.specs.IndexTextValues.{GivesFirstIndexedTextOfNumber};
-ghost use Rattle.ffi_calls.specs.IndexTextValues.{
-  GivesIndexedTextOfNumber,
-  IndexOfNumberTextsFails,
-};
-ghost use Rattle.ffi_calls.specs.IndexTextValues.{IsIndexOfNumberTexts, IsNumberTextIndex};
+ghost use Rattle.ffi_calls.specs.IndexTextValues.{IndexOfNumberTextsFails, IsIndexOfNumberTexts};
+ghost use Rattle.ffi_calls.specs.IndexTextValues.{IsNumberTextIndex};
 ghost use Rattle.ffi_calls.specs.IndexTextValues.{StoresListedNumberTexts, StoresNumberTexts};
 ghost use Rattle.ffi_calls.specs.IndexTextValues.{number_text_index, number_text_index_in};
 ghost use Rattle.ffi_calls.specs.Items.{HandsOut};
 ghost use Rattle.ffi_calls.specs.Keys.{short_key};
-ghost use Rattle.ffi_rkyv.specs.Pairs.{indexed_text, number_text_pair};
+ghost use Rattle.ffi_rkyv.specs.Pairs.{number_text_pair};
 
-use crate::pairs::{IndexedText, NumberTextPair};
+use crate::pairs::NumberTextPair;
 use ffi_calls::building::Built;
 use ffi_calls::explanation::Explanation;
 use ffi_calls::index_numbers_to_texts::{
-    decode_index_numbers_to_texts, explain_index_numbers_to_texts, get_index_text_of_number,
-    index_number_texts_from, open_index_numbers_to_texts,
+    decode_index_numbers_to_texts, explain_index_numbers_to_texts, index_number_texts_from,
+    open_index_numbers_to_texts,
 };
 use ffi_calls::index_text_items::build_index_numbers_to_texts;
 use rkyv_table::table::decoded::Decoded;
@@ -68,34 +64,6 @@ pub extern "C" fn rkyv_c_index_decode_numbers_to_texts(
     ensures { IsHeaderOf (number_text_index_in short_key wide archive.now) header.new }
 {
     *header = decode_index_numbers_to_texts::<u32>(archive, wide);
-}
-
-/// Looks up a key, and stores the index and the text of its pair in `found`.
-///
-/// # Errors
-///
-/// - 1: the lookup doesn't find the key; `found` is unchanged then.
-///
-/// # Requires
-///
-/// - The archive is valid: `rkyv_c_index_open_numbers_to_texts` returned 0.
-/// - `header` is its decoded header.
-#[unsafe(no_mangle)]
-pub extern "C" fn rkyv_c_index_get_text_of_number<'a>(
-    archive: &'a [u8],
-    wide: bool,
-    header: &Decoded,
-    key: u32,
-    found: &mut IndexedText<'a>,
-) -> u32
-    requires archive { IsNumberTextIndex short_key wide archive.now }
-    requires header { IsHeaderOf (number_text_index_in short_key wide archive.now) header.now }
-    ensures gives { GivesIndexedTextOfNumber short_key wide archive.now key (indexed_text found.old)
-        result (indexed_text found.new) }
-    ensures listed { GivesFirstIndexedTextOfNumber short_key wide archive.now key (indexed_text
-        found.old) result (indexed_text found.new) }
-{
-    get_index_text_of_number::<u32, _>(archive, wide, header, key, found)
 }
 
 /// Stores the pairs from the index `from` on, in insertion order, and returns their number.

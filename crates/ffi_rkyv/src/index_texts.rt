@@ -4,22 +4,21 @@ ghost use Rattle.std.specs.Prelude.{map, ◌≡◌};
 ghost use Rattle.std.specs.Str.{IsUtf8};
 ghost use Rattle.ffi_calls.specs.Archives.{IsHeaderOf, KeepsHeader, Opens, form_of, limit_of};
 ghost use Rattle.ffi_calls.specs.Explanation.{Explains};
-ghost use Rattle.ffi_calls.specs.IndexArchives.{GivesIndexedBytes, IsTextIndex, StoresTexts};
+ghost use Rattle.ffi_calls.specs.IndexArchives.{IsTextIndex, StoresTexts};
 ghost use Rattle.ffi_calls.specs.IndexArchives.{text_index, text_index_in};
 ghost use Rattle.ffi_calls.specs.IndexInPlace.{SetsFirstIndexedText, SetsIndexedBytes};
 ghost use Rattle.ffi_calls.specs.IndexItems.{IndexOfTextsFails, IsIndexOfTexts};
-ghost use Rattle.ffi_calls.specs.IndexLists.{GivesFirstIndexedText, StoresListedTexts};
+ghost use Rattle.ffi_calls.specs.IndexLists.{StoresListedTexts};
 ghost use Rattle.ffi_calls.specs.Items.{HandsOut};
-ghost use Rattle.ffi_rkyv.specs.Pairs.{indexed_number, text_pair};
+ghost use Rattle.ffi_rkyv.specs.Pairs.{text_pair};
 
-use crate::pairs::{IndexedNumber, TextPair};
+use crate::pairs::TextPair;
 use ffi_calls::building::Built;
 use ffi_calls::explanation::Explanation;
 use ffi_calls::form::Form;
 use ffi_calls::index_items::build_index_texts;
 use ffi_calls::index_texts::{
-    decode_index_texts, explain_index_texts, get_index_text, index_texts_from, open_index_texts,
-    set_index_text,
+    decode_index_texts, explain_index_texts, index_texts_from, open_index_texts, set_index_text,
 };
 use rkyv_table::table::decoded::Decoded;
 use std::alloc::Global;
@@ -68,41 +67,6 @@ pub extern "C" fn rkyv_c_index_decode_texts(
     ensures { IsHeaderOf (text_index_in (form_of long_values wide) archive.now) header.new }
 {
     *header = decode_index_texts(archive, Form { long_values, wide });
-}
-
-/// Looks up a key, and stores the index and the value of its pair in `found`.
-///
-/// # Errors
-///
-/// - 4: the bytes of the key aren't UTF-8.
-/// - 1: the lookup doesn't find the key.
-///
-/// After an error `found` is unchanged.
-///
-/// # Requires
-///
-/// - The archive is valid: `rkyv_c_index_open_texts` returned 0.
-/// - `header` is its decoded header.
-#[unsafe(no_mangle)]
-pub extern "C" fn rkyv_c_index_get_text(
-    archive: &[u8],
-    long_values: bool,
-    wide: bool,
-    header: &Decoded,
-    key: &[u8],
-    found: &mut IndexedNumber,
-) -> u32
-    requires archive { IsTextIndex (form_of long_values wide) archive.now }
-    requires header { IsHeaderOf (text_index_in (form_of long_values wide) archive.now)
-        header.now }
-    ensures gives { GivesIndexedBytes (form_of long_values wide) archive.now key.now (indexed_number
-        found.old) result (indexed_number found.new) }
-    ensures listed { IsUtf8 key.now
-        → GivesFirstIndexedText (form_of long_values wide) archive.now key.now (indexed_number
-        found.old) result
-        (indexed_number found.new) }
-{
-    get_index_text(archive, Form { long_values, wide }, header, key, found)
 }
 
 /// Looks up a key, and overwrites its value in place. The archive stays valid, and its header as it

@@ -4,21 +4,20 @@ ghost use Rattle.std.specs.Prelude.{map, ◌≡◌};
 ghost use Rattle.std.specs.Str.{IsUtf8};
 ghost use Rattle.ffi_calls.specs.Archives.{IsHeaderOf, Opens, limit_of};
 ghost use Rattle.ffi_calls.specs.Explanation.{Explains};
-ghost use Rattle.ffi_calls.specs.IndexTextValues.{GivesFirstIndexedTextOfText};
-ghost use Rattle.ffi_calls.specs.IndexTextValues.{GivesIndexedTextOfBytes, IndexOfTextTextsFails};
+ghost use Rattle.ffi_calls.specs.IndexTextValues.{IndexOfTextTextsFails};
 ghost use Rattle.ffi_calls.specs.IndexTextValues.{IsIndexOfTextTexts, IsTextTextIndex};
 ghost use Rattle.ffi_calls.specs.IndexTextValues.{StoresListedTextTexts, StoresTextTexts};
 ghost use Rattle.ffi_calls.specs.IndexTextValues.{text_text_index, text_text_index_in};
 ghost use Rattle.ffi_calls.specs.Items.{HandsOut};
-ghost use Rattle.ffi_rkyv.specs.Pairs.{indexed_text, text_text_pair};
+ghost use Rattle.ffi_rkyv.specs.Pairs.{text_text_pair};
 
-use crate::pairs::{IndexedText, TextTextPair};
+use crate::pairs::TextTextPair;
 use ffi_calls::building::Built;
 use ffi_calls::explanation::Explanation;
 use ffi_calls::index_text_items::build_index_texts_to_texts;
 use ffi_calls::index_texts_to_texts::{
-    decode_index_texts_to_texts, explain_index_texts_to_texts, get_index_text_of_text,
-    index_text_texts_from, open_index_texts_to_texts,
+    decode_index_texts_to_texts, explain_index_texts_to_texts, index_text_texts_from,
+    open_index_texts_to_texts,
 };
 use rkyv_table::table::decoded::Decoded;
 use std::alloc::Global;
@@ -65,38 +64,6 @@ pub extern "C" fn rkyv_c_index_decode_texts_to_texts(
     ensures { IsHeaderOf (text_text_index_in wide archive.now) header.new }
 {
     *header = decode_index_texts_to_texts(archive, wide);
-}
-
-/// Looks up a key, and stores the index and the text of its pair in `found`.
-///
-/// # Errors
-///
-/// - 4: the bytes of the key aren't UTF-8.
-/// - 1: the lookup doesn't find the key.
-///
-/// After an error `found` is unchanged.
-///
-/// # Requires
-///
-/// - The archive is valid: `rkyv_c_index_open_texts_to_texts` returned 0.
-/// - `header` is its decoded header.
-#[unsafe(no_mangle)]
-pub extern "C" fn rkyv_c_index_get_text_of_text<'a>(
-    archive: &'a [u8],
-    wide: bool,
-    header: &Decoded,
-    key: &[u8],
-    found: &mut IndexedText<'a>,
-) -> u32
-    requires archive { IsTextTextIndex wide archive.now }
-    requires header { IsHeaderOf (text_text_index_in wide archive.now) header.now }
-    ensures gives { GivesIndexedTextOfBytes wide archive.now key.now (indexed_text found.old) result
-        (indexed_text found.new) }
-    ensures listed { IsUtf8 key.now
-        → GivesFirstIndexedTextOfText wide archive.now key.now (indexed_text found.old) result
-        (indexed_text found.new) }
-{
-    get_index_text_of_text(archive, wide, header, key, found)
 }
 
 /// Stores the pairs from the index `from` on, in insertion order, and returns their number.

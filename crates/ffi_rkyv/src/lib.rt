@@ -8,10 +8,14 @@
 #![tactic(auto)]
 
 mod containers;
+mod index_long_lookups;
 mod index_long_numbers;
 mod index_long_numbers_to_texts;
+mod index_lookups;
 mod index_numbers;
 mod index_numbers_to_texts;
+mod index_text_lookups;
+mod index_text_value_lookups;
 mod index_texts;
 mod index_texts_to_texts;
 mod long_lookups;

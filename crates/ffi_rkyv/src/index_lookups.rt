@@ -1,0 +1,148 @@
+//! Lookups in index maps of numbers of 32 bits, with a function for each type of values and each
+//! width.
+//!
+//! The names end with the type and the width. A lookup has no branch on either.
+
+ghost use Rattle.std.specs.Prelude.{false, true};
+ghost use Rattle.ffi_calls.specs.Archives.{IsHeaderOf, form_of};
+ghost use Rattle.ffi_calls.specs.IndexArchives.{GivesIndexedNumber, IsNumberIndex, number_index_in};
+ghost use Rattle.ffi_calls.specs.IndexLists.{GivesFirstIndexedNumber};
+ghost use Rattle.ffi_calls.specs.Keys.{short_key};
+ghost use Rattle.ffi_rkyv.specs.Pairs.{indexed_number};
+
+use crate::pairs::IndexedNumber;
+use ffi_calls::form::Form;
+use ffi_calls::index_numbers::get_index_number;
+use rkyv_table::table::decoded::Decoded;
+
+/// Looks up a key of a narrow index map of numbers to `u32`, and stores the index and the value of
+/// its pair in `found`.
+///
+/// # Errors
+///
+/// - 1: the lookup doesn't find the key; `found` is unchanged then.
+///
+/// # Requires
+///
+/// - The archive is valid: `rkyv_c_index_open_numbers` returned 0.
+/// - `header` is its decoded header.
+#[unsafe(no_mangle)]
+pub extern "C" fn rkyv_c_index_get_number_u32_narrow(
+    archive: &[u8],
+    header: &Decoded,
+    key: u32,
+    found: &mut IndexedNumber,
+) -> u32
+    requires archive { IsNumberIndex short_key (form_of false false) archive.now }
+    requires header { IsHeaderOf (number_index_in short_key (form_of false false) archive.now)
+        header.now }
+    ensures gives { GivesIndexedNumber short_key (form_of false false) archive.now key
+        (indexed_number found.old) result (indexed_number found.new) }
+    ensures listed { GivesFirstIndexedNumber short_key (form_of false false) archive.now key
+        (indexed_number found.old) result (indexed_number found.new) }
+{
+    let form = Form {
+        long_values: false,
+        wide: false,
+    };
+    get_index_number::<u32, _>(archive, form, header, key, found)
+}
+
+/// Looks up a key of a narrow index map of numbers to `u64`, and stores the index and the value of
+/// its pair in `found`.
+///
+/// # Errors
+///
+/// - 1: the lookup doesn't find the key; `found` is unchanged then.
+///
+/// # Requires
+///
+/// - The archive is valid: `rkyv_c_index_open_numbers` returned 0.
+/// - `header` is its decoded header.
+#[unsafe(no_mangle)]
+pub extern "C" fn rkyv_c_index_get_number_u64_narrow(
+    archive: &[u8],
+    header: &Decoded,
+    key: u32,
+    found: &mut IndexedNumber,
+) -> u32
+    requires archive { IsNumberIndex short_key (form_of true false) archive.now }
+    requires header { IsHeaderOf (number_index_in short_key (form_of true false) archive.now)
+        header.now }
+    ensures gives { GivesIndexedNumber short_key (form_of true false) archive.now key
+        (indexed_number found.old) result (indexed_number found.new) }
+    ensures listed { GivesFirstIndexedNumber short_key (form_of true false) archive.now key
+        (indexed_number found.old) result (indexed_number found.new) }
+{
+    let form = Form {
+        long_values: true,
+        wide: false,
+    };
+    get_index_number::<u32, _>(archive, form, header, key, found)
+}
+
+/// Looks up a key of a wide index map of numbers to `u32`, and stores the index and the value of
+/// its pair in `found`.
+///
+/// # Errors
+///
+/// - 1: the lookup doesn't find the key; `found` is unchanged then.
+///
+/// # Requires
+///
+/// - The archive is valid: `rkyv_c_index_open_numbers` returned 0.
+/// - `header` is its decoded header.
+#[unsafe(no_mangle)]
+pub extern "C" fn rkyv_c_index_get_number_u32_wide(
+    archive: &[u8],
+    header: &Decoded,
+    key: u32,
+    found: &mut IndexedNumber,
+) -> u32
+    requires archive { IsNumberIndex short_key (form_of false true) archive.now }
+    requires header { IsHeaderOf (number_index_in short_key (form_of false true) archive.now)
+        header.now }
+    ensures gives { GivesIndexedNumber short_key (form_of false true) archive.now key
+        (indexed_number found.old) result (indexed_number found.new) }
+    ensures listed { GivesFirstIndexedNumber short_key (form_of false true) archive.now key
+        (indexed_number found.old) result (indexed_number found.new) }
+{
+    let form = Form {
+        long_values: false,
+        wide: true,
+    };
+    get_index_number::<u32, _>(archive, form, header, key, found)
+}
+
+/// Looks up a key of a wide index map of numbers to `u64`, and stores the index and the value of
+/// its pair in `found`.
+///
+/// # Errors
+///
+/// - 1: the lookup doesn't find the key; `found` is unchanged then.
+///
+/// # Requires
+///
+/// - The archive is valid: `rkyv_c_index_open_numbers` returned 0.
+/// - `header` is its decoded header.
+#[unsafe(no_mangle)]
+pub extern "C" fn rkyv_c_index_get_number_u64_wide(
+    archive: &[u8],
+    header: &Decoded,
+    key: u32,
+    found: &mut IndexedNumber,
+) -> u32
+    requires archive { IsNumberIndex short_key (form_of true true) archive.now }
+    requires header { IsHeaderOf (number_index_in short_key (form_of true true) archive.now)
+        header.now }
+    ensures gives { GivesIndexedNumber short_key (form_of true true) archive.now key (indexed_number
+        found.old) result (indexed_number found.new) }
+    ensures listed { GivesFirstIndexedNumber short_key (form_of true true) archive.now key
+        (indexed_number found.old) result (indexed_number found.new) }
+{
+    let form = Form {
+        long_values: true,
+        wide: true,
+    };
+    get_index_number::<u32, _>(archive, form, header, key, found)
+}
