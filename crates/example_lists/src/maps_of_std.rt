@@ -2,15 +2,19 @@
 
 ghost use Rattle.std.specs.List.{list_any};
 ghost use Rattle.std.specs.Prelude.{◌==◌, ◌≡◌, Ok};
+ghost use Rattle.std.specs.String.{string_bytes};
 ghost use Rattle.rkyv_collections.specs.StdMaps.ListArchives.{IsNarrowWritten};
 ghost use Rattle.rkyv_keys.specs.FirstPairs.{first_value};
+ghost use Rattle.rkyv_keys.specs.OfTexts.{same_bytes};
 
 use rkyv_base::access::access;
 use rkyv_base::archive::Archive;
 use rkyv_base::element::Represents;
 use rkyv_base::errors::VerifyError;
+use rkyv_base::text::Text;
 use rkyv_base::width::Narrow;
 use rkyv_collections::map::laws::list_archives::scalars_found_are_listed;
+use rkyv_collections::map::laws::lookups_find_listed;
 use rkyv_collections::map::{ArchivedHashMap, HashMapOf};
 use rkyv_collections::set::laws::members_found_are_listed;
 use rkyv_collections::set::{ArchivedHashSet, HashSetOf};
@@ -25,6 +29,12 @@ pub type Fares = HashMapOf<u32, u64>;
 
 /// The map of std that is archived as `Fares`.
 pub type FareMap = Hashed<HashMap<u32, u64>>;
+
+/// A map of texts to numbers in a narrow archive.
+pub type Ages = HashMapOf<Text, u8>;
+
+/// The map of std that is archived as `Ages`.
+pub type AgeMap = Hashed<HashMap<String, u8>>;
 
 /// A set of numbers in a narrow archive.
 pub type Lines = HashSetOf<u32>;
@@ -47,6 +57,28 @@ pub fn fare_of(table: &[u8], line: u32) -> Result<Option<u64>, VerifyError>
     let fares = ArchivedHashMap::of(access::<Fares>(table)?);
     match fares.get(&line) {
         Some(fare) => Ok(Some(fare.to_native())),
+        None => Ok(None),
+    }
+}
+
+/// Returns the value that the archived map of std has under the name.
+///
+/// The keys are `String`s, and a `&str` looks them up.
+///
+/// # Errors
+///
+/// - The error of the validation.
+pub fn age_of(table: &[u8], name: &str) -> Result<Option<u8>, VerifyError>
+    ensures { (m : _) → IsNarrowWritten ⟦<Ages as Represents<AgeMap>>⟧
+        ⟦<AgeMap as Archive<Narrow>>⟧.format table.now m
+        → result ≡ Ok (first_value (λ held. same_bytes name.now (string_bytes held))
+        m.map.entries) }
+{
+    written_maps_are_lists::<Narrow, FxHasher64, String, u8, BuildHasherDefault<FoldHasher>>();
+    lookups_find_listed::<String, u8, Text, u8, FxHasher64, Narrow>();
+    let ages = ArchivedHashMap::of(access::<Ages>(table)?);
+    match ages.get(&name) {
+        Some(age) => Ok(Some(age.to_native())),
         None => Ok(None),
     }
 }

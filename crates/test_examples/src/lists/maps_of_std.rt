@@ -1,7 +1,7 @@
 //! A map of std and a set of std.
 
 use super::{out_of_range, without_first};
-use example_lists::maps_of_std::{FareMap, LineSet, fare_of, has_line};
+use example_lists::maps_of_std::{AgeMap, FareMap, LineSet, age_of, fare_of, has_line};
 use rkyv_base::root::to_bytes;
 use rkyv_collections::std_maps::hashed::Hashed;
 use std::alloc::Global;
@@ -17,6 +17,15 @@ fn fares(alloc: Global) -> Result<Vec<u8>, Fail> {
     fares.insert(12, 250)?;
     let fares: FareMap = Hashed::new(fares);
     Ok(to_bytes(alloc, &fares)?)
+}
+
+// Returns the archive of two ages.
+fn ages(alloc: Global) -> Result<Vec<u8>, Fail> {
+    let mut ages = HashMap::new(alloc);
+    ages.insert(String::from_str(alloc, "Ada")?, 36u8)?;
+    ages.insert(String::from_str(alloc, "Grace")?, 85u8)?;
+    let ages: AgeMap = Hashed::new(ages);
+    Ok(to_bytes(alloc, &ages)?)
 }
 
 // Returns the archive of two lines. Line 12 is inserted twice.
@@ -37,6 +46,19 @@ fn the_fare_of_the_map_is_found(rt: HostRuntime) -> Result<(), Fail> {
     let bytes = archive.as_slice();
     let found = [fare_of(bytes, 12)?, fare_of(bytes, 31)?, fare_of(bytes, 0)?];
     assert_eq!(rt; found, [Some(250), Some(u64::MAX), None]);
+    Ok(())
+}
+
+#[test]
+fn the_age_of_a_name_is_found(rt: HostRuntime) -> Result<(), Fail> {
+    let archive = ages(rt.alloc())?;
+    let bytes = archive.as_slice();
+    let found = [
+        age_of(bytes, "Ada")?,
+        age_of(bytes, "Grace")?,
+        age_of(bytes, "Alan")?,
+    ];
+    assert_eq!(rt; found, [Some(36), Some(85), None]);
     Ok(())
 }
 
