@@ -118,7 +118,7 @@ first_in_map {ks = ks} {vs = vs} {wt = wt} kind m keys native value asked archiv
       first = subst (λ place. IsFirstAt pairs 0 place (first_pair (keys.equal asked) pairs)) (sym range) (first_listed_at P (keys.equal asked) 0 pairs agrees);
     }
 
--- lookups in the index map at the root of an archive find what the list has
+-- a lookup in the index map at the root of an archive finds the first pair of the list
 pub found_listed : {A B K V W : Type 0} (H : Type 0) (wt : Words W) → IsArchiveWord wt.word → (ks : Specs K) (vs : Specs V) (keys : NativeKeys A) → FitsItsEqual ks.spec keys.represents keys.equal keys.fits
     → (values : FoundValues V B) → FindsByView values → FoundAreListed H wt ks vs keys values
 found_listed H wt kind ks vs keys native values by = λ map root archive factor pairs asked view at is.
@@ -148,7 +148,7 @@ is_found false None e = refl
 is_found true (Some n) e = refl
 is_found false (Some n) e = absurd (true≢false (sym (e.1 refl)))
 
--- lookups in the index set at the root of an archive find what the list has
+-- a lookup in the index set at the root of an archive finds the first item of the list
 pub members_listed : {A K W : Type 0} (H : Type 0) (wt : Words W) → IsArchiveWord wt.word → (ks : Specs K) (keys : NativeKeys A) → FitsItsEqual ks.spec keys.represents keys.equal keys.fits
     → MembersFoundAreListed H wt ks keys
 members_listed H wt kind ks keys native = λ set root archive factor items asked there at is.

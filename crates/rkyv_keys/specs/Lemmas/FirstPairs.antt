@@ -1,4 +1,4 @@
--- Lemmas: what is found at a view is the value that the bytes there represent.
+-- Lemmas: a value found at a view is the one that the bytes there represent.
 use Rattle.std.specs.Prelude.{◌≡◌, ℕ, List, None, Option, Some}
 use Rattle.std.proofs.Common.{◌∙◌, ap, refl, sym}
 use Rattle.std.specs.Borrow.{Bor}
@@ -10,7 +10,7 @@ use Rattle.rkyv_base.specs.declared.view.View.{View}
 use Rattle.rkyv_keys.specs.FirstPairs.{FoundValues, IsFoundValue, found_scalars}
 use Rattle.rkyv_keys.specs.FirstPairs.{found_texts, found_views}
 
--- what is found as a view of a value is found as the value
+-- each value found as a view is found as a value
 abbrev pub FindsByView : {V B : Type 0} → FoundValues V B → Type 0
 FindsByView {V} {B} values = (found : Option (View V)) (value : Option B)
     → IsFoundValue values.represents found value → values.IsFound found value
