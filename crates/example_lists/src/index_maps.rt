@@ -2,12 +2,12 @@
 
 ghost use Rattle.std.specs.Prelude.{◌≡◌, Ok};
 ghost use Rattle.std.specs.List.{position};
-ghost use Rattle.rkyv_base.specs.Access.{IsNarrowArchive};
+ghost use Rattle.rkyv_base.specs.Access.{IsNarrowArchive, OpensNarrow};
 ghost use Rattle.rkyv_keys.specs.FirstPairs.{first_value};
 ghost use Rattle.rkyv_keys.specs.OfTexts.{same_bytes};
 
 use rkyv_base::access::access;
-use rkyv_base::element::Represents;
+use rkyv_base::element::{HasSpec, Represents};
 use rkyv_base::errors::VerifyError;
 use rkyv_base::text::Text;
 use rkyv_base::width::Narrow;
@@ -28,7 +28,8 @@ pub type PricePairs<'a> = OrderedPairs<&'a str, u32>;
 ///
 /// - The error of the validation.
 pub fn price_of(table: &[u8], name: &str) -> Result<Option<u32>, VerifyError>
-    ensures { (list : _) → IsNarrowArchive
+    ensures opened { OpensNarrow ⟦<Prices as HasSpec>⟧.spec table.now result }
+    ensures listed { (list : _) → IsNarrowArchive
         ⟦<Prices as Represents<PricePairs<'static>>>⟧ table.now list
         → result ≡ Ok (first_value (λ held. same_bytes name.now held.now) list.0.items) }
 {
@@ -46,7 +47,8 @@ pub fn price_of(table: &[u8], name: &str) -> Result<Option<u32>, VerifyError>
 ///
 /// - The error of the validation.
 pub fn index_of_name(table: &[u8], name: &str) -> Result<Option<usize>, VerifyError>
-    ensures { (list : _) → IsNarrowArchive
+    ensures opened { OpensNarrow ⟦<Prices as HasSpec>⟧.spec table.now result }
+    ensures listed { (list : _) → IsNarrowArchive
         ⟦<Prices as Represents<PricePairs<'static>>>⟧ table.now list
         → result ≡ Ok (position (λ pair. same_bytes name.now pair.0.now) list.0.items) }
 {

@@ -2,7 +2,8 @@
 //!
 //! Each contract is about the list that the archive represents: a lookup finds the first pair
 //! of the list whose key equals the given one, and `None` or `false` if the list has no such pair.
-//! The bytes are untrusted. An error is that of their validation.
+//! The bytes are untrusted. Valid archives of the type are opened, and an error is the first
+//! fault of other bytes.
 #![tactic(auto)]
 
 pub mod index_maps;

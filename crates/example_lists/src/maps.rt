@@ -1,12 +1,15 @@
 //! Lookups in hash maps: of numbers, of texts, and of pairs of numbers.
 
-ghost use Rattle.std.specs.Prelude.{◌==◌, ◌≡◌, IfOk, Ok};
+ghost use Rattle.std.specs.Prelude.{◌==◌, ◌≡◌, Ok};
 ghost use Rattle.rkyv_base.specs.Access.{IsNarrowArchive, IsWideArchive};
+ghost use Rattle.rkyv_base.specs.Access.{OpensNarrow, OpensWide};
+ghost use Rattle.rkyv_base.specs.Root.{ArchivesWide};
 ghost use Rattle.rkyv_keys.specs.FirstPairs.{IsTextOk, first_value};
 ghost use Rattle.rkyv_keys.specs.OfTexts.{same_bytes};
 
 use rkyv_base::access::{access, access_in};
-use rkyv_base::element::Represents;
+use rkyv_base::archive::Archive;
+use rkyv_base::element::{HasSpec, Represents};
 use rkyv_base::entry::Entry;
 use rkyv_base::errors::{VerifyError, WriteError};
 use rkyv_base::root::to_bytes_in;
@@ -44,8 +47,8 @@ pub type SpotPairs<'a> = MapPairs<'a, &'a str, (u32, u32)>;
 ///
 /// - The error of `to_bytes_in`.
 pub fn write_numbers(alloc: Global, list: &NumberPairs<'_>) -> Result<Vec<u8>, WriteError<NoMemory>>
-    ensures { IfOk result (λ table. IsWideArchive
-        ⟦<Numbers as Represents<NumberPairs<'static>>>⟧ table.items list.now) }
+    ensures { ArchivesWide ⟦<Numbers as Represents<NumberPairs<'static>>>⟧
+        ⟦<NumberPairs<'static> as Archive<Wide>>⟧.format list.now result }
 {
     to_bytes_in::<Wide, _>(alloc, list)
 }
@@ -56,7 +59,8 @@ pub fn write_numbers(alloc: Global, list: &NumberPairs<'_>) -> Result<Vec<u8>, W
 ///
 /// - The error of the validation.
 pub fn number_of(table: &[u8], key: u32) -> Result<Option<u64>, VerifyError>
-    ensures { (list : _) → IsWideArchive
+    ensures opened { OpensWide ⟦<Numbers as HasSpec>⟧.spec table.now result }
+    ensures listed { (list : _) → IsWideArchive
         ⟦<Numbers as Represents<NumberPairs<'static>>>⟧ table.now list
         → result ≡ Ok (first_value (λ held. key == held) list.pairs.now) }
 {
@@ -74,7 +78,8 @@ pub fn number_of(table: &[u8], key: u32) -> Result<Option<u64>, VerifyError>
 ///
 /// - The error of the validation.
 pub fn title_of(table: &[u8], key: u32) -> Result<Option<&str>, VerifyError>
-    ensures { (list : _) → IsNarrowArchive
+    ensures opened { OpensNarrow ⟦<Titles as HasSpec>⟧.spec table.now result }
+    ensures listed { (list : _) → IsNarrowArchive
         ⟦<Titles as Represents<TitlePairs<'static>>>⟧ table.now list
         → IsTextOk (first_value (λ held. key == held) list.pairs.now) result }
 {
@@ -92,7 +97,8 @@ pub fn title_of(table: &[u8], key: u32) -> Result<Option<&str>, VerifyError>
 ///
 /// - The error of the validation.
 pub fn spot_of(table: &[u8], name: &str) -> Result<Option<(u32, u32)>, VerifyError>
-    ensures { (list : _) → IsNarrowArchive
+    ensures opened { OpensNarrow ⟦<Spots as HasSpec>⟧.spec table.now result }
+    ensures listed { (list : _) → IsNarrowArchive
         ⟦<Spots as Represents<SpotPairs<'static>>>⟧ table.now list
         → result ≡ Ok (first_value (λ held. same_bytes name.now held.now) list.pairs.now) }
 {

@@ -3,13 +3,14 @@
 ghost use Rattle.std.specs.List.{list_any};
 ghost use Rattle.std.specs.Prelude.{◌==◌, ◌≡◌, Ok};
 ghost use Rattle.std.specs.String.{string_bytes};
+ghost use Rattle.rkyv_base.specs.Access.{OpensNarrow};
 ghost use Rattle.rkyv_collections.specs.StdMaps.ListArchives.{IsNarrowWritten};
 ghost use Rattle.rkyv_keys.specs.FirstPairs.{first_value};
 ghost use Rattle.rkyv_keys.specs.OfTexts.{same_bytes};
 
 use rkyv_base::access::access;
 use rkyv_base::archive::Archive;
-use rkyv_base::element::Represents;
+use rkyv_base::element::{HasSpec, Represents};
 use rkyv_base::errors::VerifyError;
 use rkyv_base::text::Text;
 use rkyv_base::width::Narrow;
@@ -48,7 +49,8 @@ pub type LineSet = Hashed<HashSet<u32>>;
 ///
 /// - The error of the validation.
 pub fn fare_of(table: &[u8], line: u32) -> Result<Option<u64>, VerifyError>
-    ensures { (map : _) → IsNarrowWritten ⟦<Fares as Represents<FareMap>>⟧
+    ensures opened { OpensNarrow ⟦<Fares as HasSpec>⟧.spec table.now result }
+    ensures listed { (map : _) → IsNarrowWritten ⟦<Fares as Represents<FareMap>>⟧
         ⟦<FareMap as Archive<Narrow>>⟧.format table.now map
         → result ≡ Ok (first_value (λ held. line == held) map.map.entries) }
 {
@@ -69,7 +71,8 @@ pub fn fare_of(table: &[u8], line: u32) -> Result<Option<u64>, VerifyError>
 ///
 /// - The error of the validation.
 pub fn age_of(table: &[u8], name: &str) -> Result<Option<u8>, VerifyError>
-    ensures { (m : _) → IsNarrowWritten ⟦<Ages as Represents<AgeMap>>⟧
+    ensures opened { OpensNarrow ⟦<Ages as HasSpec>⟧.spec table.now result }
+    ensures listed { (m : _) → IsNarrowWritten ⟦<Ages as Represents<AgeMap>>⟧
         ⟦<AgeMap as Archive<Narrow>>⟧.format table.now m
         → result ≡ Ok (first_value (λ held. same_bytes name.now (string_bytes held))
         m.map.entries) }
@@ -89,7 +92,8 @@ pub fn age_of(table: &[u8], name: &str) -> Result<Option<u8>, VerifyError>
 ///
 /// - The error of the validation.
 pub fn has_line(set: &[u8], line: u32) -> Result<bool, VerifyError>
-    ensures { (lines : _) → IsNarrowWritten ⟦<Lines as Represents<LineSet>>⟧
+    ensures opened { OpensNarrow ⟦<Lines as HasSpec>⟧.spec set.now result }
+    ensures listed { (lines : _) → IsNarrowWritten ⟦<Lines as Represents<LineSet>>⟧
         ⟦<LineSet as Archive<Narrow>>⟧.format set.now lines
         → result ≡ Ok (list_any (λ held. line == held) lines.map.keys) }
 {

@@ -2,11 +2,11 @@
 
 ghost use Rattle.std.specs.Prelude.{◌==◌, ◌≡◌, Ok};
 ghost use Rattle.std.specs.List.{list_any, position};
-ghost use Rattle.rkyv_base.specs.Access.{IsNarrowArchive};
+ghost use Rattle.rkyv_base.specs.Access.{IsNarrowArchive, OpensNarrow};
 ghost use Rattle.rkyv_keys.specs.OfTexts.{same_bytes};
 
 use rkyv_base::access::access;
-use rkyv_base::element::Represents;
+use rkyv_base::element::{HasSpec, Represents};
 use rkyv_base::errors::VerifyError;
 use rkyv_base::text::Text;
 use rkyv_base::width::Narrow;
@@ -32,7 +32,8 @@ pub type Ids = IndexSetOf<u64>;
 ///
 /// - The error of the validation.
 pub fn has_word(set: &[u8], word: &str) -> Result<bool, VerifyError>
-    ensures { (list : _) → IsNarrowArchive
+    ensures opened { OpensNarrow ⟦<Words as HasSpec>⟧.spec set.now result }
+    ensures listed { (list : _) → IsNarrowArchive
         ⟦<Words as Represents<WordItems<'static>>>⟧ set.now list
         → result ≡ Ok (list_any (λ held. same_bytes word.now held.now) list.items.now) }
 {
@@ -47,7 +48,8 @@ pub fn has_word(set: &[u8], word: &str) -> Result<bool, VerifyError>
 ///
 /// - The error of the validation.
 pub fn index_of_id(set: &[u8], id: u64) -> Result<Option<usize>, VerifyError>
-    ensures { (list : _) → IsNarrowArchive
+    ensures opened { OpensNarrow ⟦<Ids as HasSpec>⟧.spec set.now result }
+    ensures listed { (list : _) → IsNarrowArchive
         ⟦<Ids as Represents<OrderedItems<u64>>>⟧ set.now list
         → result ≡ Ok (position (λ held. id == held) list.0.items) }
 {

@@ -46,3 +46,16 @@ abbrev pub AccessWrites : {R : Type 0} → ℕ → ElementSpec → (R → List �
 AccessWrites limit s Writes b c result = MatchResult result
     (λ r. Accepted limit s b × Writes r b (length b - s.size) c)
     (λ e. AccessFails limit s b e × (c ≡ b))
+
+-- `result`: `Ok` if and only if `b` is an archive within `limit` with a valid root. An error is
+-- its first fault
+abbrev pub Opens : {R : Type 0} → ℕ → ElementSpec → List ℕ → Result R VerifyError → Type 0
+Opens limit s b result = MatchResult result (λ _. Accepted limit s b) (AccessFails limit s b)
+
+-- the same of a narrow archive
+abbrev pub OpensNarrow : {R : Type 0} → ElementSpec → List ℕ → Result R VerifyError → Type 0
+OpensNarrow s b result = Opens narrow_limit s b result
+
+-- the same of a wide archive
+abbrev pub OpensWide : {R : Type 0} → ElementSpec → List ℕ → Result R VerifyError → Type 0
+OpensWide s b result = Opens wide_limit s b result

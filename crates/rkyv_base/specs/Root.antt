@@ -13,6 +13,7 @@ use Rattle.std.specs.Prelude.{
   ◌++◌,
   length,
 }
+use Rattle.std.specs.declared.vec.Vec.{Vec}
 use Rattle.rkyv_base.specs.declared.errors.WriteError.{WriteError}
 use Rattle.rkyv_base.specs.Writing.{
   Only,
@@ -30,8 +31,10 @@ use Rattle.rkyv_base.specs.Writing.{
 }
 use Rattle.rkyv_base.specs.ElementSpec.{ElementSpec}
 use Rattle.rkyv_base.specs.Entry.{round_up}
-use Rattle.rkyv_base.specs.Access.{Accepted}
+use Rattle.rkyv_base.specs.Access.{Accepted, IsArchive}
 use Rattle.rkyv_base.specs.Format.{Format}
+use Rattle.rkyv_base.specs.Layout.{narrow_limit, wide_limit}
+use Rattle.rkyv_base.specs.Members.{ElementMembers}
 
 module _ {V R : Type 0} (align : ℕ) (f : Format V R) (v : V) (p : ℕ) where
   -- `bytes`: bytes of a root that is written from position `p` on, `root`: position of the root
@@ -100,3 +103,20 @@ ArchiveOf limit s represents f v b =
 abbrev pub ArchiveRefused : {F V R : Type 0} → ℕ → ElementSpec → Format V R → V → WriteError F
     → Type 0
 ArchiveRefused limit s f v e = (o : Output) × WriteRootFails limit s.align f v fresh o e
+
+-- `result`: an archive within `limit` of the native value, or the error of writing it to memory
+abbrev pub Archives : {F V R Z : Type 0} → ℕ → ElementMembers V → Format V R → V
+    → Result (Vec ℕ Z) (WriteError F) → Type 0
+Archives limit element format value result = MatchResult result
+    (λ b. IsArchive limit element b.items value)
+    (ArchiveRefused limit element.spec format value)
+
+-- the same of a narrow archive
+abbrev pub ArchivesNarrow : {F V R Z : Type 0} → ElementMembers V → Format V R → V
+    → Result (Vec ℕ Z) (WriteError F) → Type 0
+ArchivesNarrow element format value result = Archives narrow_limit element format value result
+
+-- the same of a wide archive
+abbrev pub ArchivesWide : {F V R Z : Type 0} → ElementMembers V → Format V R → V
+    → Result (Vec ℕ Z) (WriteError F) → Type 0
+ArchivesWide element format value result = Archives wide_limit element format value result

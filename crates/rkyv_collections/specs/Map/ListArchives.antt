@@ -8,7 +8,7 @@ use Rattle.std.specs.Option.{option_map}
 use Rattle.std.specs.declared.vec.Vec.{Vec}
 use Rattle.rkyv_scan.specs.Groups.{generic_kind}
 use Rattle.rkyv_scan.specs.Hash.{fx_hasher, low_halves}
-use Rattle.rkyv_base.specs.Access.{Accepted, AccessFails}
+use Rattle.rkyv_base.specs.Access.{Accepted, OpensNarrow}
 use Rattle.rkyv_base.specs.Entry.{entry_spec, value_offset}
 use Rattle.rkyv_base.specs.Format.{Format}
 use Rattle.rkyv_base.specs.Layout.{narrow_limit}
@@ -89,9 +89,7 @@ TextMapResult e pairs result =
 -- The bytes are opened if and only if they are a narrow archive whose root is a map of texts
 -- to scalars. The error is the first fault of the bytes
 abbrev pub OpensTextMap : {N R : Type 0} → Encoding N → List ℕ → Result R VerifyError → Type 0
-OpensTextMap e b result = MatchResult result
-    (λ _. Accepted narrow_limit (text_map_spec e) b)
-    (AccessFails narrow_limit (text_map_spec e) b)
+OpensTextMap e b result = OpensNarrow (text_map_spec e) b result
 
 -- the value of the first pair whose key is `text`
 abbrev pub first_of_text : {N : Type 0} → List ℕ → TextPairs N → Option N

@@ -19,16 +19,16 @@ abbrev AgesRepresent : List (String Global × ℕ) → List ℕ → ℕ → Type
 AgesRepresent entries b p = MapRepresents w32 (text_spec w32) (scalar_spec (unsigned w8)) (IsTextOf w32 string_bytes)
     (ScalarRepresents (unsigned w8)) (hash_at (fx_hasher low_halves) (text_key_calls w32)) (7, 8) b p entries
 
-pub returns-in-Some : goal.returns-in-Some
-returns-in-Some c = λ map is. let found = c.in-Some.ensures in
+pub returns-in-Some-clause-listed : goal.returns-in-Some-clause-listed
+returns-in-Some-clause-listed c = λ map is. let found = c.in-Some.ensures in
     let represents = c.written_maps_are_lists.ensures c.args.table.now map is.bytes in
     let at = read_at c.of-ages.result _ _ _ c.of-ages.ensures.view c.in_ok-access.ensures.root.1 in
     let listed = c.lookups_find_listed.ensures c.of-ages.result _ (λ held. same_bytes c.args.name.now (string_bytes held)) (7, 8) map.map.entries
     (λ held q s there. ap (same_bytes c.args.name.now) there) (moved (AgesRepresent map.map.entries) _ _ _ _ (sym at.0) (sym at.1) represents) in
     ap Ok (number_listed (number_at w8) c.in-Some.age _ _ c.to_native.ensures (listed.gives_value (Some c.in-Some.age) found.walked found.first))
 
-pub returns-in-None : goal.returns-in-None
-returns-in-None c = λ map is. let found = c.in-None.ensures in
+pub returns-in-None-clause-listed : goal.returns-in-None-clause-listed
+returns-in-None-clause-listed c = λ map is. let found = c.in-None.ensures in
     let represents = c.written_maps_are_lists.ensures c.args.table.now map is.bytes in
     let at = read_at c.of-ages.result _ _ _ c.of-ages.ensures.view c.in_ok-access.ensures.root.1 in
     let listed = c.lookups_find_listed.ensures c.of-ages.result _ (λ held. same_bytes c.args.name.now (string_bytes held)) (7, 8) map.map.entries
