@@ -20,27 +20,34 @@ static const size_t COUNTS[] = {1000, 100000, 1000000};
 enum { COUNT_COUNT = sizeof COUNTS / sizeof COUNTS[0] };
 
 enum measure {
-    BUILD, HITS, MISSES, ACCESS, WALK,
-    BUILD_TEXT, HITS_TEXT, MISSES_TEXT, ACCESS_TEXT, WALK_TEXT, MEASURES
+    HASH, BUILD, HITS, MISSES, ACCESS, WALK,
+    HASH_TEXT, BUILD_TEXT, HITS_TEXT, MISSES_TEXT, ACCESS_TEXT, WALK_TEXT,
+    BUILD_INDEX, HITS_INDEX, MISSES_INDEX, ACCESS_INDEX, WALK_INDEX, MEASURES
 };
 
 static const char *const NAMES[MEASURES] = {
-    "u32 | build", "u32 | lookup, found", "u32 | lookup, not found", "u32 | access", "u32 | walk",
-    "text | build", "text | lookup, found", "text | lookup, not found", "text | access",
-    "text | walk",
+    "u32 | hash", "u32 | build", "u32 | lookup, found", "u32 | lookup, not found", "u32 | access",
+    "u32 | walk", "text | hash", "text | build", "text | lookup, found", "text | lookup, not found",
+    "text | access", "text | walk", "index u32 | build", "index u32 | lookup, found",
+    "index u32 | lookup, not found", "index u32 | access", "index u32 | walk",
 };
 
+typedef size_t build_numbers(const uint32_t *, size_t, const uint32_t *, size_t, uint8_t *, size_t);
+typedef size_t access_archive(const uint8_t *, size_t);
+typedef uint64_t lookup_numbers(const uint8_t *, size_t, const uint32_t *, size_t);
+typedef uint64_t walk_archive(const uint8_t *, size_t);
+
 struct library {
-    size_t (*build)(const uint32_t *, size_t, const uint32_t *, size_t, uint8_t *, size_t);
+    uint64_t (*hash)(const uint32_t *, size_t);
+    uint64_t (*hash_text)(const uint8_t *, size_t, const uint32_t *, size_t);
+    build_numbers *build, *build_index;
     size_t (*build_text)(const uint8_t *, size_t, const uint32_t *, size_t, const uint32_t *,
                          size_t, uint8_t *, size_t);
-    size_t (*access)(const uint8_t *, size_t);
-    size_t (*access_text)(const uint8_t *, size_t);
-    uint64_t (*lookup)(const uint8_t *, size_t, const uint32_t *, size_t);
+    access_archive *access, *access_text, *access_index;
+    lookup_numbers *lookup, *lookup_index;
     uint64_t (*lookup_text)(const uint8_t *, size_t, const uint8_t *, size_t, const uint32_t *,
                             size_t);
-    uint64_t (*walk)(const uint8_t *, size_t);
-    uint64_t (*walk_text)(const uint8_t *, size_t);
+    walk_archive *walk, *walk_text, *walk_index;
 };
 
 /* Keys as numbers, and as texts: their bytes one after the other, and the position of each end. */
@@ -54,8 +61,8 @@ struct workload {
     size_t count;
     struct keys stored, found, missing;
     uint32_t *values;
-    uint8_t *archive, *text_archive, *out;
-    size_t len, text_len, room;
+    uint8_t *archive, *text_archive, *index_archive, *out;
+    size_t len, text_len, index_len, room;
 };
 
 static void stop(const char *why) {
@@ -83,6 +90,8 @@ static struct library opened(const char *file) {
     if (handle == NULL)
         stop(dlerror());
     struct library it;
+    *(void **)&it.hash = found_in(handle, "rkyv_bench_hash_u32");
+    *(void **)&it.hash_text = found_in(handle, "rkyv_bench_hash_text");
     *(void **)&it.build = found_in(handle, "rkyv_bench_build_u32");
     *(void **)&it.build_text = found_in(handle, "rkyv_bench_build_text");
     *(void **)&it.access = found_in(handle, "rkyv_bench_access_u32");
@@ -91,6 +100,10 @@ static struct library opened(const char *file) {
     *(void **)&it.lookup_text = found_in(handle, "rkyv_bench_lookup_text");
     *(void **)&it.walk = found_in(handle, "rkyv_bench_walk_u32");
     *(void **)&it.walk_text = found_in(handle, "rkyv_bench_walk_text");
+    *(void **)&it.build_index = found_in(handle, "rkyv_bench_build_index_u32");
+    *(void **)&it.access_index = found_in(handle, "rkyv_bench_access_index_u32");
+    *(void **)&it.lookup_index = found_in(handle, "rkyv_bench_lookup_index_u32");
+    *(void **)&it.walk_index = found_in(handle, "rkyv_bench_walk_index_u32");
     return it;
 }
 
@@ -141,6 +154,10 @@ static uint64_t build(const struct library *it, const struct workload *w, uint8_
     return it->build(w->stored.numbers, w->count, w->values, w->count, out, w->room);
 }
 
+static uint64_t build_index(const struct library *it, const struct workload *w, uint8_t *out) {
+    return it->build_index(w->stored.numbers, w->count, w->values, w->count, out, w->room);
+}
+
 static uint64_t build_text(const struct library *it, const struct workload *w, uint8_t *out) {
     const struct keys *k = &w->stored;
     return it->build_text(k->bytes, k->ends[w->count - 1], k->ends, w->count, w->values, w->count,
@@ -156,22 +173,42 @@ static uint64_t lookup_text(const struct library *it, const struct workload *w,
 /* Runs one turn of a measure, and returns its sum. */
 static uint64_t turn(enum measure measure, const struct library *it, const struct workload *w) {
     switch (measure) {
+    case HASH: return it->hash(w->found.numbers, w->count);
     case BUILD: return build(it, w, w->out);
     case HITS: return it->lookup(w->archive, w->len, w->found.numbers, w->count);
     case MISSES: return it->lookup(w->archive, w->len, w->missing.numbers, w->count);
     case ACCESS: return it->access(w->archive, w->len);
     case WALK: return it->walk(w->archive, w->len);
+    case HASH_TEXT:
+        return it->hash_text(w->found.bytes, w->found.ends[w->count - 1], w->found.ends, w->count);
     case BUILD_TEXT: return build_text(it, w, w->out);
     case HITS_TEXT: return lookup_text(it, w, &w->found);
     case MISSES_TEXT: return lookup_text(it, w, &w->missing);
     case ACCESS_TEXT: return it->access_text(w->text_archive, w->text_len);
     case WALK_TEXT: return it->walk_text(w->text_archive, w->text_len);
+    case BUILD_INDEX: return build_index(it, w, w->out);
+    case HITS_INDEX:
+        return it->lookup_index(w->index_archive, w->index_len, w->found.numbers, w->count);
+    case MISSES_INDEX:
+        return it->lookup_index(w->index_archive, w->index_len, w->missing.numbers, w->count);
+    case ACCESS_INDEX: return it->access_index(w->index_archive, w->index_len);
+    case WALK_INDEX: return it->walk_index(w->index_archive, w->index_len);
     case MEASURES: break;
     }
     return 0;
 }
 
-/* Makes keys and archives. Both builds have to make the same bytes. */
+/* Makes an archive with the first build, and returns its length. The other has to make the same. */
+static size_t built(uint64_t (*make)(const struct library *, const struct workload *, uint8_t *),
+                    const struct library both[2], const struct workload *w, uint8_t *archive,
+                    const char *differ) {
+    size_t len = make(&both[0], w, archive);
+    if (len == 0 || make(&both[1], w, w->out) != len || memcmp(archive, w->out, len) != 0)
+        stop(differ);
+    return len;
+}
+
+/* Makes keys and archives. */
 static struct workload prepared(size_t count, const struct library both[2]) {
     struct workload w = {.count = count, .room = count * 48 + 4096};
     w.stored = random_keys(count);
@@ -180,14 +217,11 @@ static struct workload prepared(size_t count, const struct library both[2]) {
     w.values = random_keys(count).numbers;
     w.archive = room_for(w.room);
     w.text_archive = room_for(w.room);
+    w.index_archive = room_for(w.room);
     w.out = room_for(w.room);
-    w.len = build(&both[0], &w, w.archive);
-    w.text_len = build_text(&both[0], &w, w.text_archive);
-    if (w.len == 0 || build(&both[1], &w, w.out) != w.len || memcmp(w.archive, w.out, w.len) != 0)
-        stop("the archives of numbers differ");
-    if (w.text_len == 0 || build_text(&both[1], &w, w.out) != w.text_len ||
-        memcmp(w.text_archive, w.out, w.text_len) != 0)
-        stop("the archives of texts differ");
+    w.len = built(build, both, &w, w.archive, "the archives of numbers differ");
+    w.text_len = built(build_text, both, &w, w.text_archive, "the archives of texts differ");
+    w.index_len = built(build_index, both, &w, w.index_archive, "the archives of index maps differ");
     return w;
 }
 

@@ -338,6 +338,10 @@ static bool has_types(uint32_t kind, uint8_t key, uint8_t value) {
         && (value == NUMBER ? kinds[kind].numbers != NULL : kinds[kind].value == value);
 }
 
+static bool has_texts(uint32_t kind) {
+    return kinds[kind].key == TEXT || kinds[kind].value == TEXT;
+}
+
 static bool has_long_values(uint32_t kind) {
     return kinds[kind].value == U64;
 }
@@ -396,16 +400,26 @@ static rkyv_status first(rkyv_status one, rkyv_status other) {
     return one != RKYV_OK ? one : other;
 }
 
-/* RKYV_OK if the handle is of an open map with a collection, keys and values of these types. */
-static inline rkyv_status check_map(const rkyv_map *map, uint8_t collection, uint8_t key,
-                                    uint8_t value) {
+/* RKYV_OK if the handle is of an open map of a kind from `lowest` to `highest`. */
+static inline rkyv_status check_kinds(const rkyv_map *map, uint32_t lowest, uint32_t highest) {
     if (map == NULL) {
         return RKYV_NULL;
     }
-    if (has_types(map->kind, key, value) && kinds[map->kind].collection == collection) {
+    if (lowest <= map->kind && map->kind <= highest) {
         return RKYV_OK;
     }
     return is_kind(map->kind) ? RKYV_WRONG_KIND : RKYV_CLOSED;
+}
+
+/* RKYV_OK if the handle is of an open map of the kind. */
+static inline rkyv_status check_kind(const rkyv_map *map, uint32_t kind) {
+    return check_kinds(map, kind, kind);
+}
+
+/* RKYV_OK if the handle is of an open map of the kind, whose values are numbers of 32 bits, or of the
+ * kind behind it, whose values are numbers of 64 bits. */
+static inline rkyv_status check_numbers(const rkyv_map *map, uint32_t kind) {
+    return check_kinds(map, kind, kind + 1);
 }
 
 /* RKYV_OK if the handle is of an open map. */
@@ -701,18 +715,18 @@ rkyv_status rkyv_index_count(const rkyv_index_map *map, size_t *count) {
 }
 
 rkyv_status rkyv_map_get_number(const rkyv_map *map, uint32_t key, uint64_t *value) {
-    rkyv_status status = first(check_map(map, HASH_MAP, U32, NUMBER), check_output(value));
+    rkyv_status status = first(check_numbers(map, RKYV_NUMBER_TO_U32), check_output(value));
     if (status == RKYV_OK) {
-        get_number *get = get_numbers[has_long_values(map->kind)][is_wide(map)];
+        get_number *get = get_numbers[map->kind - RKYV_NUMBER_TO_U32][is_wide(map)];
         status = (rkyv_status)get(map->bytes, map->length, &map->header, key, value);
     }
     return status;
 }
 
 rkyv_status rkyv_map_get_long_number(const rkyv_map *map, uint64_t key, uint64_t *value) {
-    rkyv_status status = first(check_map(map, HASH_MAP, U64, NUMBER), check_output(value));
+    rkyv_status status = first(check_numbers(map, RKYV_LONG_NUMBER_TO_U32), check_output(value));
     if (status == RKYV_OK) {
-        get_long_number *get = get_long_numbers[has_long_values(map->kind)][is_wide(map)];
+        get_long_number *get = get_long_numbers[map->kind - RKYV_LONG_NUMBER_TO_U32][is_wide(map)];
         status = (rkyv_status)get(map->bytes, map->length, &map->header, key, value);
     }
     return status;
@@ -720,10 +734,10 @@ rkyv_status rkyv_map_get_long_number(const rkyv_map *map, uint64_t key, uint64_t
 
 rkyv_status rkyv_map_get_text(const rkyv_map *map, const char *key, size_t length,
                               uint64_t *value) {
-    rkyv_status status = first(check_map(map, HASH_MAP, TEXT, NUMBER), check_bytes(key, length));
+    rkyv_status status = first(check_numbers(map, RKYV_TEXT_TO_U32), check_bytes(key, length));
     status = first(status, check_output(value));
     if (status == RKYV_OK) {
-        get_text *get = get_texts[has_long_values(map->kind)][is_wide(map)];
+        get_text *get = get_texts[map->kind - RKYV_TEXT_TO_U32][is_wide(map)];
         status = (rkyv_status)get(map->bytes, map->length, &map->header, bytes_of(key), length,
                                   value);
     }
@@ -743,7 +757,7 @@ static rkyv_status store_text(rkyv_status status, text found, const char **value
 rkyv_status rkyv_map_get_text_of_number(const rkyv_map *map, uint32_t key, const char **value,
                                         size_t *value_length) {
     text found = {NO_TEXT, 0};
-    rkyv_status status = first(check_map(map, HASH_MAP, U32, TEXT), check_output(value));
+    rkyv_status status = first(check_kind(map, RKYV_NUMBER_TO_TEXT), check_output(value));
     status = first(status, check_output(value_length));
     if (status == RKYV_OK) {
         get_text_of_number *get = get_texts_of_numbers[is_wide(map)];
@@ -755,7 +769,7 @@ rkyv_status rkyv_map_get_text_of_number(const rkyv_map *map, uint32_t key, const
 rkyv_status rkyv_map_get_text_of_long_number(const rkyv_map *map, uint64_t key, const char **value,
                                              size_t *value_length) {
     text found = {NO_TEXT, 0};
-    rkyv_status status = first(check_map(map, HASH_MAP, U64, TEXT), check_output(value));
+    rkyv_status status = first(check_kind(map, RKYV_LONG_NUMBER_TO_TEXT), check_output(value));
     status = first(status, check_output(value_length));
     if (status == RKYV_OK) {
         get_text_of_long_number *get = get_texts_of_long_numbers[is_wide(map)];
@@ -767,7 +781,7 @@ rkyv_status rkyv_map_get_text_of_long_number(const rkyv_map *map, uint64_t key, 
 rkyv_status rkyv_map_get_text_of_text(const rkyv_map *map, const char *key, size_t length,
                                       const char **value, size_t *value_length) {
     text found = {NO_TEXT, 0};
-    rkyv_status status = first(check_map(map, HASH_MAP, TEXT, TEXT), check_bytes(key, length));
+    rkyv_status status = first(check_kind(map, RKYV_TEXT_TO_TEXT), check_bytes(key, length));
     status = first(first(status, check_output(value)), check_output(value_length));
     if (status == RKYV_OK) {
         get_text_of_text *get = get_texts_of_texts[is_wide(map)];
@@ -778,7 +792,7 @@ rkyv_status rkyv_map_get_text_of_text(const rkyv_map *map, const char *key, size
 }
 
 rkyv_status rkyv_set_contains_number(const rkyv_map *set, uint32_t item) {
-    rkyv_status status = check_map(set, HASH_SET, U32, UNIT);
+    rkyv_status status = check_kind(set, RKYV_SET_OF_NUMBERS);
     if (status == RKYV_OK) {
         contains_number *contains = contain_numbers[is_wide(set)];
         status = (rkyv_status)contains(set->bytes, set->length, &set->header, item);
@@ -787,7 +801,7 @@ rkyv_status rkyv_set_contains_number(const rkyv_map *set, uint32_t item) {
 }
 
 rkyv_status rkyv_set_contains_long_number(const rkyv_map *set, uint64_t item) {
-    rkyv_status status = check_map(set, HASH_SET, U64, UNIT);
+    rkyv_status status = check_kind(set, RKYV_SET_OF_LONG_NUMBERS);
     if (status == RKYV_OK) {
         contains_long_number *contains = contain_long_numbers[is_wide(set)];
         status = (rkyv_status)contains(set->bytes, set->length, &set->header, item);
@@ -796,7 +810,7 @@ rkyv_status rkyv_set_contains_long_number(const rkyv_map *set, uint64_t item) {
 }
 
 rkyv_status rkyv_set_contains_text(const rkyv_map *set, const char *item, size_t length) {
-    rkyv_status status = first(check_map(set, HASH_SET, TEXT, UNIT), check_bytes(item, length));
+    rkyv_status status = first(check_kind(set, RKYV_SET_OF_TEXTS), check_bytes(item, length));
     if (status == RKYV_OK) {
         contains_text *contains = contain_texts[is_wide(set)];
         status = (rkyv_status)contains(set->bytes, set->length, &set->header, bytes_of(item),
@@ -821,9 +835,9 @@ rkyv_status rkyv_index_get_number(const rkyv_index_map *map, uint32_t key, size_
                                   uint64_t *value) {
     indexed found = {0, 0};
     const rkyv_map *of = map_of(map);
-    rkyv_status status = check_map(of, INDEX_MAP, U32, NUMBER);
+    rkyv_status status = check_numbers(of, RKYV_INDEX_NUMBER_TO_U32);
     if (status == RKYV_OK) {
-        index_get_number *get = index_get_numbers[has_long_values(of->kind)][is_wide(of)];
+        index_get_number *get = index_get_numbers[of->kind - RKYV_INDEX_NUMBER_TO_U32][is_wide(of)];
         status = (rkyv_status)get(of->bytes, of->length, &of->header, key, &found);
     }
     return store_indexed(status, found, index, value);
@@ -833,9 +847,10 @@ rkyv_status rkyv_index_get_long_number(const rkyv_index_map *map, uint64_t key, 
                                        uint64_t *value) {
     indexed found = {0, 0};
     const rkyv_map *of = map_of(map);
-    rkyv_status status = check_map(of, INDEX_MAP, U64, NUMBER);
+    rkyv_status status = check_numbers(of, RKYV_INDEX_LONG_NUMBER_TO_U32);
     if (status == RKYV_OK) {
-        index_get_long_number *get = index_get_long_numbers[has_long_values(of->kind)][is_wide(of)];
+        const uint32_t longer = of->kind - RKYV_INDEX_LONG_NUMBER_TO_U32;
+        index_get_long_number *get = index_get_long_numbers[longer][is_wide(of)];
         status = (rkyv_status)get(of->bytes, of->length, &of->header, key, &found);
     }
     return store_indexed(status, found, index, value);
@@ -845,9 +860,9 @@ rkyv_status rkyv_index_get_text(const rkyv_index_map *map, const char *key, size
                                 size_t *index, uint64_t *value) {
     indexed found = {0, 0};
     const rkyv_map *of = map_of(map);
-    rkyv_status status = first(check_map(of, INDEX_MAP, TEXT, NUMBER), check_bytes(key, length));
+    rkyv_status status = first(check_numbers(of, RKYV_INDEX_TEXT_TO_U32), check_bytes(key, length));
     if (status == RKYV_OK) {
-        index_get_text *get = index_get_texts[has_long_values(of->kind)][is_wide(of)];
+        index_get_text *get = index_get_texts[of->kind - RKYV_INDEX_TEXT_TO_U32][is_wide(of)];
         status = (rkyv_status)get(of->bytes, of->length, &of->header, bytes_of(key), length,
                                   &found);
     }
@@ -873,7 +888,7 @@ rkyv_status rkyv_index_get_text_of_number(const rkyv_index_map *map, uint32_t ke
                                           const char **value, size_t *value_length) {
     indexed_text found = {0, {NO_TEXT, 0}};
     const rkyv_map *of = map_of(map);
-    rkyv_status status = check_map(of, INDEX_MAP, U32, TEXT);
+    rkyv_status status = check_kind(of, RKYV_INDEX_NUMBER_TO_TEXT);
     if (status == RKYV_OK) {
         index_get_text_of_number *get = index_get_texts_of_numbers[is_wide(of)];
         status = (rkyv_status)get(of->bytes, of->length, &of->header, key, &found);
@@ -886,7 +901,7 @@ rkyv_status rkyv_index_get_text_of_long_number(const rkyv_index_map *map, uint64
                                                size_t *value_length) {
     indexed_text found = {0, {NO_TEXT, 0}};
     const rkyv_map *of = map_of(map);
-    rkyv_status status = check_map(of, INDEX_MAP, U64, TEXT);
+    rkyv_status status = check_kind(of, RKYV_INDEX_LONG_NUMBER_TO_TEXT);
     if (status == RKYV_OK) {
         index_get_text_of_long_number *get = index_get_texts_of_long_numbers[is_wide(of)];
         status = (rkyv_status)get(of->bytes, of->length, &of->header, key, &found);
@@ -898,7 +913,7 @@ rkyv_status rkyv_index_get_text_of_text(const rkyv_index_map *map, const char *k
                                         size_t *index, const char **value, size_t *value_length) {
     indexed_text found = {0, {NO_TEXT, 0}};
     const rkyv_map *of = map_of(map);
-    rkyv_status status = first(check_map(of, INDEX_MAP, TEXT, TEXT), check_bytes(key, length));
+    rkyv_status status = first(check_kind(of, RKYV_INDEX_TEXT_TO_TEXT), check_bytes(key, length));
     if (status == RKYV_OK) {
         index_get_text_of_text *get = index_get_texts_of_texts[is_wide(of)];
         status = (rkyv_status)get(of->bytes, of->length, &of->header, bytes_of(key), length,
@@ -912,10 +927,10 @@ static rkyv_status check_writable(const rkyv_map *map) {
     return map != NULL && map->writable == NULL ? RKYV_READ_ONLY : RKYV_OK;
 }
 
-/* Writes the value of a number key in a map of the collection. */
-static rkyv_status write_number(const rkyv_map *map, uint8_t collection, set_number *set,
-                                uint32_t key, uint64_t value) {
-    rkyv_status status = first(check_map(map, collection, U32, NUMBER), check_writable(map));
+/* Writes the value of a number key in a map of the kind or of the one behind it. */
+static rkyv_status write_number(const rkyv_map *map, uint32_t kind, set_number *set, uint32_t key,
+                                uint64_t value) {
+    rkyv_status status = first(check_numbers(map, kind), check_writable(map));
     if (status == RKYV_OK) {
         status = (rkyv_status)set(map->writable, map->length, has_long_values(map->kind),
                                   is_wide(map), key, value);
@@ -923,10 +938,10 @@ static rkyv_status write_number(const rkyv_map *map, uint8_t collection, set_num
     return status;
 }
 
-/* Writes the value of a number key of 64 bits in a map of the collection. */
-static rkyv_status write_long_number(const rkyv_map *map, uint8_t collection, set_long_number *set,
+/* Writes the value of a number key of 64 bits in a map of the kind or of the one behind it. */
+static rkyv_status write_long_number(const rkyv_map *map, uint32_t kind, set_long_number *set,
                                      uint64_t key, uint64_t value) {
-    rkyv_status status = first(check_map(map, collection, U64, NUMBER), check_writable(map));
+    rkyv_status status = first(check_numbers(map, kind), check_writable(map));
     if (status == RKYV_OK) {
         status = (rkyv_status)set(map->writable, map->length, has_long_values(map->kind),
                                   is_wide(map), key, value);
@@ -934,10 +949,10 @@ static rkyv_status write_long_number(const rkyv_map *map, uint8_t collection, se
     return status;
 }
 
-/* Writes the value of a text key in a map of the collection. */
-static rkyv_status write_text(const rkyv_map *map, uint8_t collection, set_text *set,
-                              const char *key, size_t length, uint64_t value) {
-    rkyv_status status = first(check_map(map, collection, TEXT, NUMBER), check_bytes(key, length));
+/* Writes the value of a text key in a map of the kind or of the one behind it. */
+static rkyv_status write_text(const rkyv_map *map, uint32_t kind, set_text *set, const char *key,
+                              size_t length, uint64_t value) {
+    rkyv_status status = first(check_numbers(map, kind), check_bytes(key, length));
     status = first(status, check_writable(map));
     if (status == RKYV_OK) {
         status = (rkyv_status)set(map->writable, map->length, has_long_values(map->kind),
@@ -947,29 +962,31 @@ static rkyv_status write_text(const rkyv_map *map, uint8_t collection, set_text 
 }
 
 rkyv_status rkyv_map_set_number(const rkyv_map *map, uint32_t key, uint64_t value) {
-    return write_number(map, HASH_MAP, rkyv_c_set_number, key, value);
+    return write_number(map, RKYV_NUMBER_TO_U32, rkyv_c_set_number, key, value);
 }
 
 rkyv_status rkyv_map_set_long_number(const rkyv_map *map, uint64_t key, uint64_t value) {
-    return write_long_number(map, HASH_MAP, rkyv_c_set_long_number, key, value);
+    return write_long_number(map, RKYV_LONG_NUMBER_TO_U32, rkyv_c_set_long_number, key, value);
 }
 
 rkyv_status rkyv_map_set_text(const rkyv_map *map, const char *key, size_t length,
                               uint64_t value) {
-    return write_text(map, HASH_MAP, rkyv_c_set_text, key, length, value);
+    return write_text(map, RKYV_TEXT_TO_U32, rkyv_c_set_text, key, length, value);
 }
 
 rkyv_status rkyv_index_set_number(const rkyv_index_map *map, uint32_t key, uint64_t value) {
-    return write_number(map_of(map), INDEX_MAP, rkyv_c_index_set_number, key, value);
+    return write_number(map_of(map), RKYV_INDEX_NUMBER_TO_U32, rkyv_c_index_set_number, key, value);
 }
 
 rkyv_status rkyv_index_set_long_number(const rkyv_index_map *map, uint64_t key, uint64_t value) {
-    return write_long_number(map_of(map), INDEX_MAP, rkyv_c_index_set_long_number, key, value);
+    return write_long_number(map_of(map), RKYV_INDEX_LONG_NUMBER_TO_U32,
+                             rkyv_c_index_set_long_number, key, value);
 }
 
 rkyv_status rkyv_index_set_text(const rkyv_index_map *map, const char *key, size_t length,
                                 uint64_t value) {
-    return write_text(map_of(map), INDEX_MAP, rkyv_c_index_set_text, key, length, value);
+    return write_text(map_of(map), RKYV_INDEX_TEXT_TO_U32, rkyv_c_index_set_text, key, length,
+                      value);
 }
 
 /* Stores the pairs of an open map from a bucket or an index on, at most `room`, and returns their
@@ -1025,12 +1042,11 @@ static void store_pairs(const rkyv_map *map, uint64_t from, void *pairs, size_t 
 
 /* The body of a call that stores several pairs of a type. Texts of the caller's pairs may be null, but
  * not those of the library's. The last argument is a pair whose texts are not null. */
-#define SEVERAL(map, collection, key, value, from, pair_type, ...)                                 \
-    rkyv_status status = first(check_map(map, collection, key, value),                             \
-                               check_room(pairs, sizeof *pairs, room, count));                     \
+#define SEVERAL(map, check, kind, from, pair_type, ...)                                            \
+    rkyv_status status = first(check(map, kind), check_room(pairs, sizeof *pairs, room, count));   \
     if (status == RKYV_OK) {                                                                       \
         const pair_type none = __VA_ARGS__;                                                        \
-        for (size_t i = 0; (key == TEXT || value == TEXT) && i < room; i++) {                      \
+        for (size_t i = 0; has_texts(kind) && i < room; i++) {                                     \
             pairs[i] = none;                                                                       \
         }                                                                                          \
         store_pairs(map, from, pairs, room, count);                                                \
@@ -1039,62 +1055,63 @@ static void store_pairs(const rkyv_map *map, uint64_t from, void *pairs, size_t 
 
 /* Defines the calls that iterate over a hash map or a set of a type: for one pair, and for several.
  * The last argument is a pair whose texts are not null. */
-#define ITERATE(one, several, pair_type, collection, key, value, ...)                              \
+#define ITERATE(one, several, pair_type, check, kind, ...)                                         \
     rkyv_status one(const rkyv_map *map, pair_type *pair) {                                        \
         pair_type next = __VA_ARGS__;                                                              \
-        return store_pair(check_map(map, collection, key, value), map,                             \
-                          pair != NULL ? pair->next : 0, pair, &next, sizeof next);                \
+        return store_pair(check(map, kind), map, pair != NULL ? pair->next : 0, pair, &next,       \
+                          sizeof next);                                                            \
     }                                                                                              \
                                                                                                    \
     rkyv_status several(const rkyv_map *map, uint64_t from, pair_type *pairs, size_t room,         \
                         size_t *count) {                                                           \
-        SEVERAL(map, collection, key, value, from, pair_type, __VA_ARGS__);                        \
+        SEVERAL(map, check, kind, from, pair_type, __VA_ARGS__);                                   \
     }
 
-ITERATE(rkyv_map_next_number, rkyv_map_next_numbers, rkyv_number_pair, HASH_MAP, U32, NUMBER,
-        {0, 0, 0})
-ITERATE(rkyv_map_next_long_number, rkyv_map_next_long_numbers, rkyv_long_number_pair, HASH_MAP, U64,
-        NUMBER, {0, 0, 0})
-ITERATE(rkyv_map_next_text, rkyv_map_next_texts, rkyv_text_pair, HASH_MAP, TEXT, NUMBER,
+ITERATE(rkyv_map_next_number, rkyv_map_next_numbers, rkyv_number_pair, check_numbers,
+        RKYV_NUMBER_TO_U32, {0, 0, 0})
+ITERATE(rkyv_map_next_long_number, rkyv_map_next_long_numbers, rkyv_long_number_pair, check_numbers,
+        RKYV_LONG_NUMBER_TO_U32, {0, 0, 0})
+ITERATE(rkyv_map_next_text, rkyv_map_next_texts, rkyv_text_pair, check_numbers, RKYV_TEXT_TO_U32,
         {0, 0, NO_TEXT, 0})
-ITERATE(rkyv_map_next_number_text, rkyv_map_next_number_texts, rkyv_number_text_pair, HASH_MAP, U32,
-        TEXT, {0, NO_TEXT, 0, 0})
+ITERATE(rkyv_map_next_number_text, rkyv_map_next_number_texts, rkyv_number_text_pair, check_kind,
+        RKYV_NUMBER_TO_TEXT, {0, NO_TEXT, 0, 0})
 ITERATE(rkyv_map_next_long_number_text, rkyv_map_next_long_number_texts, rkyv_long_number_text_pair,
-        HASH_MAP, U64, TEXT, {0, NO_TEXT, 0, 0})
-ITERATE(rkyv_map_next_text_text, rkyv_map_next_text_texts, rkyv_text_text_pair, HASH_MAP, TEXT,
-        TEXT, {0, NO_TEXT, 0, NO_TEXT, 0})
-ITERATE(rkyv_set_next_number, rkyv_set_next_numbers, rkyv_number_member, HASH_SET, U32, UNIT,
-        {0, 0})
-ITERATE(rkyv_set_next_long_number, rkyv_set_next_long_numbers, rkyv_long_number_member, HASH_SET,
-        U64, UNIT, {0, 0})
-ITERATE(rkyv_set_next_text, rkyv_set_next_texts, rkyv_text_member, HASH_SET, TEXT, UNIT,
+        check_kind, RKYV_LONG_NUMBER_TO_TEXT, {0, NO_TEXT, 0, 0})
+ITERATE(rkyv_map_next_text_text, rkyv_map_next_text_texts, rkyv_text_text_pair, check_kind,
+        RKYV_TEXT_TO_TEXT, {0, NO_TEXT, 0, NO_TEXT, 0})
+ITERATE(rkyv_set_next_number, rkyv_set_next_numbers, rkyv_number_member, check_kind,
+        RKYV_SET_OF_NUMBERS, {0, 0})
+ITERATE(rkyv_set_next_long_number, rkyv_set_next_long_numbers, rkyv_long_number_member, check_kind,
+        RKYV_SET_OF_LONG_NUMBERS, {0, 0})
+ITERATE(rkyv_set_next_text, rkyv_set_next_texts, rkyv_text_member, check_kind, RKYV_SET_OF_TEXTS,
         {0, NO_TEXT, 0})
 
 /* Defines the calls that read an index map of a type by index: one pair, and several. The last
  * argument is a pair whose texts are not null. */
-#define READ(one, several, pair_type, key, value, ...)                                             \
+#define READ(one, several, pair_type, check, kind, ...)                                            \
     rkyv_status one(const rkyv_index_map *map, size_t index, pair_type *pair) {                    \
         pair_type found = __VA_ARGS__;                                                             \
-        return store_pair(check_map(map_of(map), INDEX_MAP, key, value), map_of(map), index, pair, \
-                          &found, sizeof found);                                                   \
+        return store_pair(check(map_of(map), kind), map_of(map), index, pair, &found,              \
+                          sizeof found);                                                           \
     }                                                                                              \
                                                                                                    \
     rkyv_status several(const rkyv_index_map *map, size_t from, pair_type *pairs, size_t room,     \
                         size_t *count) {                                                           \
-        SEVERAL(map_of(map), INDEX_MAP, key, value, from, pair_type, __VA_ARGS__);                 \
+        SEVERAL(map_of(map), check, kind, from, pair_type, __VA_ARGS__);                           \
     }
 
-READ(rkyv_index_number_at, rkyv_index_numbers_from, rkyv_index_number_pair, U32, NUMBER, {0, 0})
-READ(rkyv_index_long_number_at, rkyv_index_long_numbers_from, rkyv_index_long_number_pair, U64,
-     NUMBER, {0, 0})
-READ(rkyv_index_text_at, rkyv_index_texts_from, rkyv_index_text_pair, TEXT, NUMBER,
-     {0, NO_TEXT, 0})
-READ(rkyv_index_number_text_at, rkyv_index_number_texts_from, rkyv_index_number_text_pair, U32,
-     TEXT, {NO_TEXT, 0, 0})
+READ(rkyv_index_number_at, rkyv_index_numbers_from, rkyv_index_number_pair, check_numbers,
+     RKYV_INDEX_NUMBER_TO_U32, {0, 0})
+READ(rkyv_index_long_number_at, rkyv_index_long_numbers_from, rkyv_index_long_number_pair,
+     check_numbers, RKYV_INDEX_LONG_NUMBER_TO_U32, {0, 0})
+READ(rkyv_index_text_at, rkyv_index_texts_from, rkyv_index_text_pair, check_numbers,
+     RKYV_INDEX_TEXT_TO_U32, {0, NO_TEXT, 0})
+READ(rkyv_index_number_text_at, rkyv_index_number_texts_from, rkyv_index_number_text_pair,
+     check_kind, RKYV_INDEX_NUMBER_TO_TEXT, {NO_TEXT, 0, 0})
 READ(rkyv_index_long_number_text_at, rkyv_index_long_number_texts_from,
-     rkyv_index_long_number_text_pair, U64, TEXT, {NO_TEXT, 0, 0})
-READ(rkyv_index_text_text_at, rkyv_index_text_texts_from, rkyv_index_text_text_pair, TEXT, TEXT,
-     {NO_TEXT, 0, NO_TEXT, 0})
+     rkyv_index_long_number_text_pair, check_kind, RKYV_INDEX_LONG_NUMBER_TO_TEXT, {NO_TEXT, 0, 0})
+READ(rkyv_index_text_text_at, rkyv_index_text_texts_from, rkyv_index_text_text_pair, check_kind,
+     RKYV_INDEX_TEXT_TO_TEXT, {NO_TEXT, 0, NO_TEXT, 0})
 
 /* Builds the archive of the map of the kind. `items` may be null if there are none. */
 static rkyv_status build_archive(const void *items, size_t count, uint32_t kind, uint32_t width,

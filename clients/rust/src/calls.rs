@@ -1,31 +1,36 @@
-//! The calls of `../c/rkyv.h` for each type of keys.
+//! The calls for each type of keys: of the proved library to look up and to iterate, and of
+//! `../c/rkyv.h` for the rest.
+//!
+//! A lookup has a function for each type of values and each width. The types of a map decide the
+//! first, so only its width is left to test.
 
 use std::panic::{RefUnwindSafe, UnwindSafe};
 
-use crate::raw::{Pair, RawMap, RawText, Step, UNKNOWN_KIND};
+use crate::raw::{Indexed, Pair, RawMap, RawTableHeader, RawText, Step, UNKNOWN_KIND};
 
-/// Stores pairs `P` from a bucket or an index on, and their number, and returns the status.
-pub type StorePairs<From, P> =
-    unsafe fn(map: &RawMap, from: From, pairs: &mut [P], count: &mut usize) -> u32;
+/// Stores pairs `P` from a bucket or an index on, and returns their number.
+pub type StorePairs<From, P> = unsafe fn(map: &RawMap, from: From, pairs: &mut [P]) -> usize;
 
 /// Allocates the archive of pairs `P` as a map of a kind, and returns the status.
 pub type Build<P> =
     unsafe fn(items: &[P], kind: u32, width: u32, bytes: &mut *mut u8, length: &mut usize) -> u32;
 
-/// The calls for maps with keys of type `K` whose values have the form `V`. Each returns a status.
+/// The calls for maps with keys of type `K` whose values have the form `V`. Those that look up and
+/// build return a status.
 ///
 /// # Safety
-/// A map is closed, or it is open and its bytes are borrowed. The texts of items are borrowed.
+/// A map is open, with keys and values of these types, and its bytes are borrowed. The texts of items
+/// are borrowed.
 pub struct Calls<K: KeyCalls + ?Sized, V> {
     /// Looks up a key, and stores its value.
     pub get: unsafe fn(map: &RawMap, key: &K, value: &mut V) -> u32,
-    /// Stores the next pairs from a bucket on, and their number.
+    /// Stores the next pairs from a bucket on.
     pub next: StorePairs<u64, Step<Pair<V, K::Raw>>>,
     /// Allocates the archive of the pairs as a map of a kind.
     pub build: Build<Pair<V, K::Raw>>,
     /// Looks up a key in an index map, and stores the index and the value of its pair.
-    pub index_get: unsafe fn(map: &RawMap, key: &K, index: &mut usize, value: &mut V) -> u32,
-    /// Stores the pairs of an index map from an index on, and their number.
+    pub index_get: unsafe fn(map: &RawMap, key: &K, found: &mut Indexed<V>) -> u32,
+    /// Stores the pairs of an index map from an index on.
     pub index_pairs: StorePairs<usize, Pair<V, K::Raw>>,
 }
 
@@ -37,8 +42,11 @@ pub trait KeyCalls: 'static {
     /// A key that a call overwrites.
     const NONE: Self::Raw;
 
-    /// The calls for values that are numbers.
+    /// The calls for values of type `u32`.
     const NUMBERS: Calls<Self, u64>;
+
+    /// The calls for values of type `u64`.
+    const LONG_NUMBERS: Calls<Self, u64>;
 
     /// The calls for values that are texts.
     const TEXTS: Calls<Self, RawText>;
@@ -59,26 +67,83 @@ pub trait KeyCalls: 'static {
     unsafe fn index_set(map: &RawMap, key: &Self, value: u64) -> u32;
 }
 
+/// Calls the function for the width of a map with its bytes, its header and the other arguments.
+macro_rules! look_up {
+    ($map:expr, $narrow:ident, $wide:ident, $($argument:expr),+) => {
+        if $map.is_wide() {
+            $wide($map.bytes, $map.length, &$map.header, $($argument),+)
+        } else {
+            $narrow($map.bytes, $map.length, &$map.header, $($argument),+)
+        }
+    };
+}
+
+/// Calls the function that stores pairs with the bytes and the header of a map. `$long_values` is
+/// `true` if the values are numbers of 64 bits.
+macro_rules! store {
+    ($map:expr, $from:expr, $pairs:expr, $function:ident $(, $long_values:literal)?) => {
+        $function(
+            $map.bytes,
+            $map.length,
+            $($long_values,)?
+            $map.is_wide(),
+            &$map.header,
+            $from,
+            $pairs.as_mut_ptr(),
+            $pairs.len(),
+        )
+    };
+}
+
 /// Declares the calls for a type of keys. `$raw` is the type of a key in structs, and C takes the
-/// parameters `$parameter` for a key, to which `$argument` are passed.
+/// parameters `$parameter` for a key, to which `$argument` are passed. The functions that look up are
+/// of narrow maps and of wide ones. A text in `pairs` is never null.
 macro_rules! calls {
     (
         $type:ty, $raw:ty, $none:expr, $key:ident => ($($parameter:ident: $of:ty = $argument:expr),+),
-        numbers: $get:ident $next:ident $build:ident $index_get:ident $index_from:ident
-            $set:ident $index_set:ident,
-        texts: $get_text:ident $next_text:ident $build_text:ident $index_get_text:ident
-            $index_text_from:ident,
-        units: $contains:ident $next_member:ident $build_set:ident $(,)?
+        numbers: $next:ident $build:ident $index_from:ident $set:ident $index_set:ident,
+        values u32: $get:ident $get_wide:ident $index_get:ident $index_get_wide:ident,
+        values u64: $get_long:ident $get_long_wide:ident
+            $index_get_long:ident $index_get_long_wide:ident,
+        texts: $next_text:ident $build_text:ident $index_text_from:ident,
+        values str: $get_text:ident $get_text_wide:ident
+            $index_get_text:ident $index_get_text_wide:ident,
+        units: $next_member:ident $build_set:ident $contains:ident $contains_wide:ident $(,)?
     ) => {
+        calls!(get u64, ($($parameter: $of),+), $get $get_wide $get_long $get_long_wide);
+        calls!(get RawText, ($($parameter: $of),+), $get_text $get_text_wide);
+        calls!(
+            get Indexed<u64>, ($($parameter: $of),+),
+            $index_get $index_get_wide $index_get_long $index_get_long_wide
+        );
+        calls!(
+            get Indexed<RawText>, ($($parameter: $of),+), $index_get_text $index_get_text_wide
+        );
+
         unsafe extern "C" {
-            fn $get(map: *const RawMap, $($parameter: $of),+, value: *mut u64) -> u32;
+            fn $contains(
+                bytes: *const u8,
+                length: usize,
+                header: &RawTableHeader,
+                $($parameter: $of),+
+            ) -> u32;
+            fn $contains_wide(
+                bytes: *const u8,
+                length: usize,
+                header: &RawTableHeader,
+                $($parameter: $of),+
+            ) -> u32;
+
             fn $next(
-                map: *const RawMap,
+                bytes: *const u8,
+                length: usize,
+                long_values: bool,
+                wide: bool,
+                header: &RawTableHeader,
                 from: u64,
                 pairs: *mut Step<Pair<u64, $raw>>,
                 room: usize,
-                count: *mut usize,
-            ) -> u32;
+            ) -> usize;
             fn $build(
                 items: *const Pair<u64, $raw>,
                 count: usize,
@@ -87,35 +152,28 @@ macro_rules! calls {
                 bytes: *mut *mut u8,
                 length: *mut usize,
             ) -> u32;
-            fn $index_get(
-                map: *const RawMap,
-                $($parameter: $of),+,
-                index: *mut usize,
-                value: *mut u64,
-            ) -> u32;
             fn $index_from(
-                map: *const RawMap,
+                bytes: *const u8,
+                length: usize,
+                long_values: bool,
+                wide: bool,
+                header: &RawTableHeader,
                 from: usize,
                 pairs: *mut Pair<u64, $raw>,
                 room: usize,
-                count: *mut usize,
-            ) -> u32;
+            ) -> usize;
             fn $set(map: *const RawMap, $($parameter: $of),+, value: u64) -> u32;
             fn $index_set(map: *const RawMap, $($parameter: $of),+, value: u64) -> u32;
 
-            fn $get_text(
-                map: *const RawMap,
-                $($parameter: $of),+,
-                value: *mut *const u8,
-                value_length: *mut usize,
-            ) -> u32;
             fn $next_text(
-                map: *const RawMap,
+                bytes: *const u8,
+                length: usize,
+                wide: bool,
+                header: &RawTableHeader,
                 from: u64,
                 pairs: *mut Step<Pair<RawText, $raw>>,
                 room: usize,
-                count: *mut usize,
-            ) -> u32;
+            ) -> usize;
             fn $build_text(
                 items: *const Pair<RawText, $raw>,
                 count: usize,
@@ -124,29 +182,25 @@ macro_rules! calls {
                 bytes: *mut *mut u8,
                 length: *mut usize,
             ) -> u32;
-            fn $index_get_text(
-                map: *const RawMap,
-                $($parameter: $of),+,
-                index: *mut usize,
-                value: *mut *const u8,
-                value_length: *mut usize,
-            ) -> u32;
             fn $index_text_from(
-                map: *const RawMap,
+                bytes: *const u8,
+                length: usize,
+                wide: bool,
+                header: &RawTableHeader,
                 from: usize,
                 pairs: *mut Pair<RawText, $raw>,
                 room: usize,
-                count: *mut usize,
-            ) -> u32;
+            ) -> usize;
 
-            fn $contains(set: *const RawMap, $($parameter: $of),+) -> u32;
             fn $next_member(
-                set: *const RawMap,
+                bytes: *const u8,
+                length: usize,
+                wide: bool,
+                header: &RawTableHeader,
                 from: u64,
                 members: *mut Step<Pair<(), $raw>>,
                 room: usize,
-                count: *mut usize,
-            ) -> u32;
+            ) -> usize;
             fn $build_set(
                 items: *const Pair<(), $raw>,
                 count: usize,
@@ -158,57 +212,69 @@ macro_rules! calls {
 
         // SAFETY, of each call: the pointers and lengths are of one slice or one text each, and the
         // other pointers are of references. The caller ensures that the bytes of an open map are
-        // borrowed, and so are the texts of items.
+        // borrowed, and so are the texts of items. A map that is looked up in is open, and of these
+        // types, so its bytes are a valid archive of them, and its header is the decoded one.
         impl KeyCalls for $type {
             type Raw = $raw;
 
             const NONE: $raw = $none;
 
             const NUMBERS: Calls<$type, u64> = Calls {
-                get: |map, $key, value| unsafe { $get(map, $($argument),+, value) },
-                next: |map, from, pairs, count| unsafe {
-                    $next(map, from, pairs.as_mut_ptr(), pairs.len(), count)
+                get: |map, $key, value| unsafe {
+                    look_up!(map, $get, $get_wide, $($argument),+, value)
                 },
+                next: |map, from, pairs| unsafe { store!(map, from, pairs, $next, false) },
                 build: |items, kind, width, bytes, length| unsafe {
                     $build(items.as_ptr(), items.len(), kind, width, bytes, length)
                 },
-                index_get: |map, $key, index, value| unsafe {
-                    $index_get(map, $($argument),+, index, value)
+                index_get: |map, $key, found| unsafe {
+                    look_up!(map, $index_get, $index_get_wide, $($argument),+, found)
                 },
-                index_pairs: |map, from, pairs, count| unsafe {
-                    $index_from(map, from, pairs.as_mut_ptr(), pairs.len(), count)
+                index_pairs: |map, from, pairs| unsafe {
+                    store!(map, from, pairs, $index_from, false)
                 },
+            };
+
+            const LONG_NUMBERS: Calls<$type, u64> = Calls {
+                get: |map, $key, value| unsafe {
+                    look_up!(map, $get_long, $get_long_wide, $($argument),+, value)
+                },
+                next: |map, from, pairs| unsafe { store!(map, from, pairs, $next, true) },
+                index_get: |map, $key, found| unsafe {
+                    look_up!(map, $index_get_long, $index_get_long_wide, $($argument),+, found)
+                },
+                index_pairs: |map, from, pairs| unsafe {
+                    store!(map, from, pairs, $index_from, true)
+                },
+                ..Self::NUMBERS
             };
 
             const TEXTS: Calls<$type, RawText> = Calls {
                 get: |map, $key, value| unsafe {
-                    $get_text(map, $($argument),+, &mut value.pointer, &mut value.length)
+                    look_up!(map, $get_text, $get_text_wide, $($argument),+, value)
                 },
-                next: |map, from, pairs, count| unsafe {
-                    $next_text(map, from, pairs.as_mut_ptr(), pairs.len(), count)
-                },
+                next: |map, from, pairs| unsafe { store!(map, from, pairs, $next_text) },
                 build: |items, kind, width, bytes, length| unsafe {
                     $build_text(items.as_ptr(), items.len(), kind, width, bytes, length)
                 },
-                index_get: |map, $key, index, value| unsafe {
-                    let (pointer, length) = (&mut value.pointer, &mut value.length);
-                    $index_get_text(map, $($argument),+, index, pointer, length)
+                index_get: |map, $key, found| unsafe {
+                    look_up!(map, $index_get_text, $index_get_text_wide, $($argument),+, found)
                 },
-                index_pairs: |map, from, pairs, count| unsafe {
-                    $index_text_from(map, from, pairs.as_mut_ptr(), pairs.len(), count)
+                index_pairs: |map, from, pairs| unsafe {
+                    store!(map, from, pairs, $index_text_from)
                 },
             };
 
             const UNITS: Calls<$type, ()> = Calls {
-                get: |set, $key, _value| unsafe { $contains(set, $($argument),+) },
-                next: |set, from, members, count| unsafe {
-                    $next_member(set, from, members.as_mut_ptr(), members.len(), count)
+                get: |set, $key, _value| unsafe {
+                    look_up!(set, $contains, $contains_wide, $($argument),+)
                 },
+                next: |set, from, members| unsafe { store!(set, from, members, $next_member) },
                 build: |items, _kind, width, bytes, length| unsafe {
                     $build_set(items.as_ptr(), items.len(), width, bytes, length)
                 },
-                index_get: |_map, _key, _index, _value| UNKNOWN_KIND,
-                index_pairs: |_map, _from, _pairs, _count| UNKNOWN_KIND,
+                index_get: |_map, _key, _found| UNKNOWN_KIND,
+                index_pairs: |_map, _from, _pairs| 0,
             };
 
             unsafe fn set(map: &RawMap, $key: &$type, value: u64) -> u32 {
@@ -220,33 +286,64 @@ macro_rules! calls {
             }
         }
     };
+    (get $found:ty, $parameters:tt, $($name:ident)+) => {
+        $(calls!(declare $found, $parameters, $name);)+
+    };
+    (declare $found:ty, ($($parameter:ident: $of:ty),+), $name:ident) => {
+        unsafe extern "C" {
+            fn $name(
+                bytes: *const u8,
+                length: usize,
+                header: &RawTableHeader,
+                $($parameter: $of),+,
+                found: &mut $found,
+            ) -> u32;
+        }
+    };
 }
 
 calls! {
     u32, u32, 0, key => (key: u32 = *key),
-    numbers: rkyv_map_get_number rkyv_map_next_numbers rkyv_build_numbers
-        rkyv_index_get_number rkyv_index_numbers_from rkyv_map_set_number rkyv_index_set_number,
-    texts: rkyv_map_get_text_of_number rkyv_map_next_number_texts rkyv_build_number_texts
-        rkyv_index_get_text_of_number rkyv_index_number_texts_from,
-    units: rkyv_set_contains_number rkyv_set_next_numbers rkyv_build_number_set,
+    numbers: rkyv_c_next_numbers rkyv_build_numbers rkyv_c_index_numbers_from
+        rkyv_map_set_number rkyv_index_set_number,
+    values u32: rkyv_c_get_number_u32_narrow rkyv_c_get_number_u32_wide
+        rkyv_c_index_get_number_u32_narrow rkyv_c_index_get_number_u32_wide,
+    values u64: rkyv_c_get_number_u64_narrow rkyv_c_get_number_u64_wide
+        rkyv_c_index_get_number_u64_narrow rkyv_c_index_get_number_u64_wide,
+    texts: rkyv_c_next_number_texts rkyv_build_number_texts rkyv_c_index_number_texts_from,
+    values str: rkyv_c_get_text_of_number_narrow rkyv_c_get_text_of_number_wide
+        rkyv_c_index_get_text_of_number_narrow rkyv_c_index_get_text_of_number_wide,
+    units: rkyv_c_next_number_members rkyv_build_number_set
+        rkyv_c_contains_number_narrow rkyv_c_contains_number_wide,
 }
 
 calls! {
     u64, u64, 0, key => (key: u64 = *key),
-    numbers: rkyv_map_get_long_number rkyv_map_next_long_numbers rkyv_build_long_numbers
-        rkyv_index_get_long_number rkyv_index_long_numbers_from rkyv_map_set_long_number
-        rkyv_index_set_long_number,
-    texts: rkyv_map_get_text_of_long_number rkyv_map_next_long_number_texts
-        rkyv_build_long_number_texts rkyv_index_get_text_of_long_number
-        rkyv_index_long_number_texts_from,
-    units: rkyv_set_contains_long_number rkyv_set_next_long_numbers rkyv_build_long_number_set,
+    numbers: rkyv_c_next_long_numbers rkyv_build_long_numbers rkyv_c_index_long_numbers_from
+        rkyv_map_set_long_number rkyv_index_set_long_number,
+    values u32: rkyv_c_get_long_number_u32_narrow rkyv_c_get_long_number_u32_wide
+        rkyv_c_index_get_long_number_u32_narrow rkyv_c_index_get_long_number_u32_wide,
+    values u64: rkyv_c_get_long_number_u64_narrow rkyv_c_get_long_number_u64_wide
+        rkyv_c_index_get_long_number_u64_narrow rkyv_c_index_get_long_number_u64_wide,
+    texts: rkyv_c_next_long_number_texts rkyv_build_long_number_texts
+        rkyv_c_index_long_number_texts_from,
+    values str: rkyv_c_get_text_of_long_number_narrow rkyv_c_get_text_of_long_number_wide
+        rkyv_c_index_get_text_of_long_number_narrow rkyv_c_index_get_text_of_long_number_wide,
+    units: rkyv_c_next_long_number_members rkyv_build_long_number_set
+        rkyv_c_contains_long_number_narrow rkyv_c_contains_long_number_wide,
 }
 
 calls! {
-    str, RawText, RawText::NONE, key => (key: *const u8 = key.as_ptr(), length: usize = key.len()),
-    numbers: rkyv_map_get_text rkyv_map_next_texts rkyv_build_texts
-        rkyv_index_get_text rkyv_index_texts_from rkyv_map_set_text rkyv_index_set_text,
-    texts: rkyv_map_get_text_of_text rkyv_map_next_text_texts rkyv_build_text_texts
-        rkyv_index_get_text_of_text rkyv_index_text_texts_from,
-    units: rkyv_set_contains_text rkyv_set_next_texts rkyv_build_text_set,
+    str, RawText, RawText::NONE, key => (key: *const u8 = key.as_ptr(), key_length: usize = key.len()),
+    numbers: rkyv_c_next_texts rkyv_build_texts rkyv_c_index_texts_from
+        rkyv_map_set_text rkyv_index_set_text,
+    values u32: rkyv_c_get_text_u32_narrow rkyv_c_get_text_u32_wide
+        rkyv_c_index_get_text_u32_narrow rkyv_c_index_get_text_u32_wide,
+    values u64: rkyv_c_get_text_u64_narrow rkyv_c_get_text_u64_wide
+        rkyv_c_index_get_text_u64_narrow rkyv_c_index_get_text_u64_wide,
+    texts: rkyv_c_next_text_texts rkyv_build_text_texts rkyv_c_index_text_texts_from,
+    values str: rkyv_c_get_text_of_text_narrow rkyv_c_get_text_of_text_wide
+        rkyv_c_index_get_text_of_text_narrow rkyv_c_index_get_text_of_text_wide,
+    units: rkyv_c_next_text_members rkyv_build_text_set
+        rkyv_c_contains_text_narrow rkyv_c_contains_text_wide,
 }

@@ -7,7 +7,7 @@ use std::marker::PhantomData;
 use crate::error::check;
 use crate::map::found;
 use crate::open::{INDEX, INDEX_CONTAINER};
-use crate::raw::{self, Pair, RawMap};
+use crate::raw::{self, Indexed, Pair, RawMap};
 use crate::types::index_kind;
 use crate::{Error, Key, Number, Value, Width};
 
@@ -163,12 +163,15 @@ impl<'a, K: Key + ?Sized, V: Value + ?Sized> IndexMap<'a, K, V> {
 
     /// Returns the index and the value of a key, or `None` if the lookup doesn't find the key.
     fn find(&self, key: &K) -> Option<(usize, V::Ref<'a>)> {
-        let (mut index, mut value) = (0, V::NONE);
+        let mut pair = Indexed {
+            index: 0,
+            value: V::NONE,
+        };
         let get = V::calls::<K>().index_get;
-        // SAFETY: the map is open and borrows its bytes.
-        let status = unsafe { get(&self.raw, key, &mut index, &mut value) };
+        // SAFETY: the map is open, of these types, and borrows its bytes.
+        let status = unsafe { get(&self.raw, key, &mut pair) };
         // SAFETY: the value is one of the map, whose bytes are borrowed for 'a.
-        found(status).then(|| (index, unsafe { V::of(value) }))
+        found(status).then(|| (pair.index, unsafe { V::of(pair.value) }))
     }
 
     /// Returns the value of a key, or `None` if the lookup doesn't find the key.
@@ -234,11 +237,10 @@ impl<'a, K: Key + ?Sized, V: Value + ?Sized> IndexMap<'a, K, V> {
     /// # }
     /// ```
     pub fn get_index(&self, index: usize) -> Option<(K::Ref<'a>, V::Ref<'a>)> {
-        let (mut pairs, mut count) = ([no_pair::<K, V>()], 0);
+        let mut pairs = [no_pair::<K, V>()];
         let pairs_from = V::calls::<K>().index_pairs;
-        // SAFETY: the map is open and borrows its bytes.
-        let status = unsafe { pairs_from(&self.raw, index, &mut pairs, &mut count) };
-        check(status).expect("the map is open");
+        // SAFETY: the map is open, of these types, and borrows its bytes.
+        let count = unsafe { pairs_from(&self.raw, index, &mut pairs) };
         // SAFETY: a pair that is stored is one of the map, whose bytes are borrowed for 'a.
         (count == 1).then(|| unsafe { key_value::<K, V>(pairs[0]) })
     }
@@ -544,14 +546,9 @@ impl<K: Key + ?Sized, V: Value + ?Sized> Iter<'_, K, V> {
     fn store(&mut self) {
         self.begin = self.index;
         let pairs_from = V::calls::<K>().index_pairs;
-        // SAFETY: the map is open, and its bytes are borrowed for 'a.
-        let status =
-            unsafe { pairs_from(&self.map.raw, self.begin, &mut self.pairs, &mut self.stored) };
-        assert!(
-            status == raw::OK && self.stored > 0,
-            "an open map has a pair at {}: {status}",
-            self.begin
-        );
+        // SAFETY: the map is open, of these types, and its bytes are borrowed for 'a.
+        self.stored = unsafe { pairs_from(&self.map.raw, self.begin, &mut self.pairs) };
+        assert!(self.stored > 0, "an open map has a pair at {}", self.begin);
     }
 }
 
@@ -585,6 +582,23 @@ impl<'a, K: Key + ?Sized, V: Value + ?Sized> Iterator for Iter<'a, K, V> {
     fn size_hint(&self) -> (usize, Option<usize>) {
         let left = self.end - self.index;
         (left, Some(left))
+    }
+
+    fn fold<B, F: FnMut(B, Self::Item) -> B>(mut self, init: B, mut f: F) -> B {
+        let mut result = init;
+        while self.index < self.end {
+            if self.index >= self.begin + self.stored {
+                self.store();
+            }
+            let end = self.end.min(self.begin + self.stored);
+            for pair in &self.pairs[self.index - self.begin..end - self.begin] {
+                // SAFETY: the pair is one of the map, which is open, and its bytes are borrowed for
+                // 'a.
+                result = f(result, unsafe { key_value::<K, V>(*pair) });
+            }
+            self.index = end;
+        }
+        result
     }
 }
 
@@ -635,6 +649,10 @@ macro_rules! part {
 
             fn size_hint(&self) -> (usize, Option<usize>) {
                 self.pairs.size_hint()
+            }
+
+            fn fold<B, F: FnMut(B, $item) -> B>(self, init: B, mut f: F) -> B {
+                self.pairs.fold(init, |result, pair| f(result, pair.$index))
             }
         }
 

@@ -2,7 +2,7 @@ use std::fmt;
 use std::iter::FusedIterator;
 use std::marker::PhantomData;
 
-use crate::raw::{self, Pair, RawMap, Step};
+use crate::raw::{Pair, RawMap, Step};
 use crate::{Key, Value};
 
 /// The number of pairs that one call of the library stores.
@@ -55,13 +55,9 @@ impl<K: Key + ?Sized, V: Value + ?Sized> Iter<'_, K, V> {
     #[inline(never)]
     fn store(&mut self) {
         let next = V::calls::<K>().next;
-        // SAFETY: the map is open, and its bytes are borrowed for 'a.
-        let status = unsafe { next(&self.raw, self.from, &mut self.pairs, &mut self.stored) };
-        assert!(
-            status == raw::OK && self.stored > 0,
-            "an open map has {} more pairs: {status}",
-            self.left
-        );
+        // SAFETY: the map is open, of these types, and its bytes are borrowed for 'a.
+        self.stored = unsafe { next(&self.raw, self.from, &mut self.pairs) };
+        assert!(self.stored > 0, "an open map has {} more pairs", self.left);
         self.taken = 0;
         self.from = self.pairs[self.stored - 1].next;
     }
@@ -92,6 +88,24 @@ impl<'a, K: Key + ?Sized, V: Value + ?Sized> Iterator for Iter<'a, K, V> {
 
     fn size_hint(&self) -> (usize, Option<usize>) {
         (self.left, Some(self.left))
+    }
+
+    fn fold<B, F: FnMut(B, Self::Item) -> B>(mut self, init: B, mut f: F) -> B {
+        let mut result = init;
+        while self.left > 0 {
+            if self.taken == self.stored {
+                self.store();
+            }
+            for step in &self.pairs[self.taken..self.stored] {
+                let Pair { value, key } = step.pair;
+                // SAFETY: the pair is one of the map, which is open, and its bytes are borrowed for
+                // 'a.
+                result = f(result, unsafe { (K::of(key), V::of(value)) });
+            }
+            self.left -= self.stored - self.taken;
+            self.taken = self.stored;
+        }
+        result
     }
 }
 
@@ -134,6 +148,10 @@ macro_rules! part {
 
             fn size_hint(&self) -> (usize, Option<usize>) {
                 self.pairs.size_hint()
+            }
+
+            fn fold<B, F: FnMut(B, $item) -> B>(self, init: B, mut f: F) -> B {
+                self.pairs.fold(init, |result, pair| f(result, pair.$index))
             }
         }
 

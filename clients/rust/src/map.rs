@@ -181,7 +181,7 @@ impl<'a, K: Key + ?Sized, V: Value + ?Sized> Map<'a, K, V> {
     /// with the key.
     pub fn get(&self, key: &K) -> Option<V::Ref<'a>> {
         let mut value = V::NONE;
-        // SAFETY: the map is open and borrows its bytes.
+        // SAFETY: the map is open, of these types, and borrows its bytes.
         let status = unsafe { (V::calls::<K>().get)(&self.raw, key, &mut value) };
         // SAFETY: the value is one of the map, whose bytes are borrowed for 'a.
         found(status).then(|| unsafe { V::of(value) })
@@ -405,10 +405,15 @@ impl<K: Key + ?Sized, V: Number> fmt::Debug for MapMut<'_, K, V> {
 }
 
 /// Whether a key is found, by the status of a call with an open map.
+#[inline]
 pub(crate) fn found(status: u32) -> bool {
-    if status == raw::NOT_FOUND {
-        return false;
+    if status > raw::NOT_FOUND {
+        unexpected(status);
     }
+    status == raw::OK
+}
+
+#[cold]
+fn unexpected(status: u32) {
     check(status).expect("the map is open, and writable if it is written");
-    true
 }

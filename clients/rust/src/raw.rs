@@ -5,7 +5,7 @@ use std::ffi::c_void;
 /// The decoded header of a table: the `rkyv_table_header` of the header.
 #[repr(C)]
 #[derive(Clone, Copy)]
-struct RawTableHeader {
+pub struct RawTableHeader {
     controls_position: usize,
     length: usize,
     capacity: usize,
@@ -17,12 +17,12 @@ struct RawTableHeader {
 #[repr(C)]
 #[derive(Clone, Copy)]
 pub struct RawMap {
-    bytes: *const u8,
+    pub bytes: *const u8,
     writable: *mut u8,
-    length: usize,
+    pub length: usize,
     kind: u32,
     width: u32,
-    header: RawTableHeader,
+    pub header: RawTableHeader,
 }
 
 impl RawMap {
@@ -41,6 +41,11 @@ impl RawMap {
             inverse: u64::MAX,
         },
     };
+
+    /// Whether the archive of an open map is wide.
+    pub fn is_wide(&self) -> bool {
+        self.width == 64
+    }
 }
 
 /// The address of a text and its number of bytes, as the structs of the header have them.
@@ -52,9 +57,9 @@ pub struct RawText {
 }
 
 impl RawText {
-    /// A text that a call overwrites.
+    /// A text that a call overwrites. It isn't null, since the library takes no null pointers.
     pub const NONE: RawText = RawText {
-        pointer: std::ptr::null(),
+        pointer: "".as_ptr(),
         length: 0,
     };
 
@@ -85,6 +90,14 @@ impl RawText {
 pub struct Pair<V, K> {
     pub value: V,
     pub key: K,
+}
+
+/// The index of a pair that a lookup in an index map has found, and its value.
+#[repr(C)]
+#[derive(Clone, Copy)]
+pub struct Indexed<V> {
+    pub index: usize,
+    pub value: V,
 }
 
 /// A pair of an iteration: one of the header's structs with a member `next`, as `rkyv_text_pair`.

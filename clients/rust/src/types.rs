@@ -348,7 +348,7 @@ impl SealedValue for u64 {
     }
 
     fn calls<K: Key + ?Sized>() -> Calls<K, u64> {
-        K::NUMBERS
+        K::LONG_NUMBERS
     }
 }
 

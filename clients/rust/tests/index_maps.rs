@@ -121,6 +121,11 @@ fn iterators_store_many_pairs_at_once() {
                 (iter.len(), iter.clone().count()),
                 (wanted.len(), wanted.len())
             );
+            let folded = iter.clone().fold(Vec::new(), |mut pairs, pair| {
+                pairs.push(pair);
+                pairs
+            });
+            assert!(wanted.clone().eq(folded));
             assert!(iter.eq(wanted));
         }
     }

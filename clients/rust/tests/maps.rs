@@ -52,6 +52,29 @@ fn numbers_are_found() {
 }
 
 #[test]
+fn a_fold_visits_the_pairs_that_remain() {
+    let builder: Builder<u32, u64> = (0..40).map(|n| (n, u64::from(n) << 33)).collect();
+    let archive = builder.build(Width::Wide).unwrap();
+    let map = archive.open();
+    for taken in [0, 1, 15, 16, 17, 39, 40] {
+        let mut iter = map.iter();
+        let before: Vec<_> = iter.by_ref().take(taken).collect();
+        let folded = iter.fold(before, |mut pairs, pair| {
+            pairs.push(pair);
+            pairs
+        });
+        let mut sorted = folded.clone();
+        sorted.sort();
+        assert!(sorted
+            .into_iter()
+            .eq((0..40).map(|n| (n, u64::from(n) << 33))));
+        assert!(map.iter().eq(folded));
+    }
+    assert_eq!(map.keys().sum::<u32>(), 780);
+    assert_eq!(map.values().sum::<u64>(), 780 << 33);
+}
+
+#[test]
 fn texts_are_found_in_both_widths() {
     let pairs = texts();
     let builder: Builder<str, u64> = pairs.iter().map(|(key, value)| (&**key, *value)).collect();
