@@ -17,7 +17,7 @@ pub struct Iter<'a, K: Key + ?Sized, V: Value + ?Sized> {
     pairs: [Step<Pair<V::Raw, K::Raw>>; BATCH],
     taken: usize,
     stored: usize,
-    /// The bucket behind the pairs that were stored.
+    /// The bucket behind the pairs that were stored, and the number of pairs from there on.
     from: u64,
     left: usize,
     bytes: PhantomData<&'a [u8]>,
@@ -60,6 +60,7 @@ impl<K: Key + ?Sized, V: Value + ?Sized> Iter<'_, K, V> {
         assert!(self.stored > 0, "an open map has {} more pairs", self.left);
         self.taken = 0;
         self.from = self.pairs[self.stored - 1].next;
+        self.left -= self.stored;
     }
 }
 
@@ -73,39 +74,37 @@ impl<'a, K: Key + ?Sized, V: Value + ?Sized> Iterator for Iter<'a, K, V> {
     type Item = (K::Ref<'a>, V::Ref<'a>);
 
     fn next(&mut self) -> Option<(K::Ref<'a>, V::Ref<'a>)> {
-        if self.left == 0 {
-            return None;
-        }
         if self.taken == self.stored {
+            if self.left == 0 {
+                return None;
+            }
             self.store();
         }
         let Pair { value, key } = self.pairs[self.taken].pair;
         self.taken += 1;
-        self.left -= 1;
         // SAFETY: the pair is one of the map, which is open, and its bytes are borrowed for 'a.
         Some(unsafe { (K::of(key), V::of(value)) })
     }
 
     fn size_hint(&self) -> (usize, Option<usize>) {
-        (self.left, Some(self.left))
+        let left = self.stored - self.taken + self.left;
+        (left, Some(left))
     }
 
     fn fold<B, F: FnMut(B, Self::Item) -> B>(mut self, init: B, mut f: F) -> B {
         let mut result = init;
-        while self.left > 0 {
-            if self.taken == self.stored {
-                self.store();
-            }
+        loop {
             for step in &self.pairs[self.taken..self.stored] {
                 let Pair { value, key } = step.pair;
                 // SAFETY: the pair is one of the map, which is open, and its bytes are borrowed for
                 // 'a.
                 result = f(result, unsafe { (K::of(key), V::of(value)) });
             }
-            self.left -= self.stored - self.taken;
-            self.taken = self.stored;
+            if self.left == 0 {
+                return result;
+            }
+            self.store();
         }
-        result
     }
 }
 
