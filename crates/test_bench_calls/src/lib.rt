@@ -2,8 +2,4 @@
 #![tactic(auto)]
 
 #[cfg(test)]
-mod index_maps;
-#[cfg(test)]
-mod maps;
-#[cfg(test)]
-mod std_maps;
+mod tests;

@@ -2,14 +2,4 @@
 #![tactic(auto)]
 
 #[cfg(test)]
-mod checksums;
-#[cfg(test)]
-mod codes;
-#[cfg(test)]
-mod faults;
-#[cfg(test)]
-mod round_trips;
-#[cfg(test)]
-mod rows;
-#[cfg(test)]
-mod texts;
+mod tests;

@@ -2,10 +2,4 @@
 #![tactic(auto)]
 
 #[cfg(test)]
-mod first_map;
-#[cfg(test)]
-mod lists;
-#[cfg(test)]
-mod message;
-#[cfg(test)]
-mod symbols;
+mod tests;

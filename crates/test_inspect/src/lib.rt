@@ -4,18 +4,4 @@
 #![tactic(auto)]
 
 #[cfg(test)]
-mod archives;
-#[cfg(test)]
-mod drawings;
-#[cfg(test)]
-mod errors;
-#[cfg(test)]
-mod examples;
-#[cfg(test)]
-mod numbers;
-#[cfg(test)]
-mod regions;
-#[cfg(test)]
-mod support;
-#[cfg(test)]
-mod texts;
+mod tests;

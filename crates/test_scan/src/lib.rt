@@ -2,8 +2,4 @@
 #![tactic(auto)]
 
 #[cfg(test)]
-mod groups;
-#[cfg(test)]
-mod hashing;
-#[cfg(test)]
-mod rules;
+mod tests;

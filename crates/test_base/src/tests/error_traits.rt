@@ -60,7 +60,7 @@ fn write_errors_have_a_debug_text(rt: HostRuntime) {
         is_write_debugged(alloc, WriteError::Memory, "Memory"),
         is_write_debugged(alloc, WriteError::Refused(5), "Refused(5)"),
     ];
-    assert_eq!(rt; shown, [true; 9]);
+    expect_eq!(rt; shown, [true; 9]);
 }
 
 #[test]
@@ -107,7 +107,7 @@ fn verify_errors_have_a_debug_text(rt: HostRuntime) {
         ),
         is_debugged(alloc, VerifyError::Refused(0), "Refused(0)"),
     ];
-    assert_eq!(rt; shown, [true; 8]);
+    expect_eq!(rt; shown, [true; 8]);
 }
 
 #[test]
@@ -129,7 +129,7 @@ fn other_errors_have_a_debug_text(rt: HostRuntime) {
             "IteratorLengthMismatch { expected: 2, actual: 3 }",
         ),
     ];
-    assert_eq!(rt; shown, [true; 7]);
+    expect_eq!(rt; shown, [true; 7]);
 }
 
 #[test]
@@ -156,5 +156,5 @@ fn errors_have_a_message_through_their_trait(rt: HostRuntime) {
         ),
         has_message(alloc, ReadError::Refused(7), "refused 7"),
     ];
-    assert_eq!(rt; shown, [true; 5]);
+    expect_eq!(rt; shown, [true; 5]);
 }

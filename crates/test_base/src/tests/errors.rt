@@ -48,7 +48,7 @@ fn write_errors_are_shown(rt: HostRuntime) {
         write_shows(alloc, WriteError::Memory, "no memory"),
         write_shows(alloc, WriteError::Refused(5), "refused 5"),
     ];
-    assert_eq!(rt; shown, [true; 9]);
+    expect_eq!(rt; shown, [true; 9]);
 }
 
 #[test]
@@ -95,7 +95,7 @@ fn verify_errors_are_shown(rt: HostRuntime) {
         ),
         shows(alloc, VerifyError::Refused(0), "refused 0"),
     ];
-    assert_eq!(rt; shown, [true; 8]);
+    expect_eq!(rt; shown, [true; 8]);
 }
 
 #[test]
@@ -104,7 +104,7 @@ fn read_errors_are_shown(rt: HostRuntime) {
         shows(rt.alloc(), ReadError::Memory, "no memory"),
         shows(rt.alloc(), ReadError::Refused(7), "refused 7"),
     ];
-    assert_eq!(rt; shown, [true; 2]);
+    expect_eq!(rt; shown, [true; 2]);
 }
 
 #[test]

@@ -51,7 +51,7 @@ fn an_accepted_root_is_written(rt: HostRuntime) {
         archive.fill(7);
         pos
     });
-    assert_eq!(rt; (told.ok(), bytes), (Some(0), [7; 4]));
+    expect_eq!(rt; (told.ok(), bytes), (Some(0), [7; 4]));
 }
 
 #[test]
@@ -60,7 +60,7 @@ fn a_refused_archive_is_as_before(rt: HostRuntime) {
     let told = access_mut_with::<u32, (), _>(&mut bytes, |archive: &mut [u8], _pos: u64| {
         archive.fill(7);
     });
-    assert_eq!(rt; (told.is_err(), bytes), (true, [1, 0, 0]));
+    expect_eq!(rt; (told.is_err(), bytes), (true, [1, 0, 0]));
 }
 
 #[test]
@@ -70,7 +70,7 @@ fn callers_write_exact_bytes(rt: HostRuntime) {
     let refused = root_written::<Narrow, u32>(&mut bytes, 7).is_err();
     let refused_bytes = bytes;
     let written = root_written::<Wide, u16>(&mut bytes, 7).is_ok();
-    assert_eq!(rt;
+    expect_eq!(rt;
         (refused, refused_bytes, written, bytes),
         (true, [9, 4, 3, 2, 1, 9], true, [9, 4, 3, 2, 7, 0])
     );
@@ -80,5 +80,5 @@ fn callers_write_exact_bytes(rt: HostRuntime) {
 fn a_seal_is_a_whole_archive(rt: HostRuntime) {
     let mut bytes = [1, 2, 3];
     let whole = Seal::<u8>::over(&mut bytes, 1).into_archive();
-    assert_eq!(rt; whole.pos(), 1);
+    expect_eq!(rt; whole.pos(), 1);
 }

@@ -15,7 +15,7 @@ fn a_new_writer_has_no_memory(rt: HostRuntime) {
     let new = VecWriter::new(rt.alloc()).into_vec().capacity();
     let mut empty = VecWriter::new(rt.alloc());
     let written = empty.write(&[]).is_ok();
-    assert_eq!(rt;
+    expect_eq!(rt;
         (
             new,
             written,

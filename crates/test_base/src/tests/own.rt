@@ -124,7 +124,7 @@ fn grams_of(bytes: &[u8]) -> Result<Grams, VerifyError> {
 fn an_own_scalar_is_archived(rt: HostRuntime) {
     let bytes = [1, 0, 0, 0, 2, 1, 0, 0];
     let archived = is_archived_as(rt.alloc(), &(true, Grams(258)), &bytes);
-    assert_eq!(rt; (archived, grams_of(&bytes).ok()), (true, Some(Grams(258))));
+    expect_eq!(rt; (archived, grams_of(&bytes).ok()), (true, Some(Grams(258))));
 }
 
 // Returns `true` if archiving a value fails with `Refused(0)`.
@@ -148,7 +148,7 @@ fn an_entry_too_large_is_refused(rt: HostRuntime) {
         is_refused(rt.alloc(), &(Huge, 7u16)),
         is_refused(rt.alloc(), &(1u8, (7u16, Huge))),
     ];
-    assert_eq!(rt;
+    expect_eq!(rt;
         (sizes, refusals, refused),
         (
             [1_073_741_824, 1_073_741_826, 0, 2],

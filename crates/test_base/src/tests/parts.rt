@@ -16,7 +16,7 @@ fn parts_lie_in_their_range(rt: HostRuntime) {
         part_in(8, 9, 1, range).ok(),
         part_in(6, 4, 4, range).ok(),
     ];
-    assert_eq!(rt; begins, [Some(4), Some(16), None, None, None, None]);
+    expect_eq!(rt; begins, [Some(4), Some(16), None, None, None, None]);
 }
 
 // Returns the fixed bytes of a pair at position 0.
@@ -42,7 +42,7 @@ fn entries_are_resolved(rt: HostRuntime) {
     let resolved = resolved(&(1, 2));
     let is_small = whole_size::<u8, u32>() <= LARGEST;
     let again = number_again(&[7, 0, 0, 0]);
-    assert_eq!(rt;
+    expect_eq!(rt;
         (resolved, is_small, again),
         ([1, 0, 0, 0, 2, 0, 0, 0], true, Some(7))
     );
@@ -60,5 +60,5 @@ fn clones_are_the_same(rt: HostRuntime) {
     let range = PartRange { lo: 4, hi: 16 };
     let same = range.clone().ok();
     let number = cloned_number(&[0, 0, 0, 0, 7, 0, 0, 0]);
-    assert_eq!(rt; (same, number), (Some(range), Some((4, 7))));
+    expect_eq!(rt; (same, number), (Some(range), Some((4, 7))));
 }

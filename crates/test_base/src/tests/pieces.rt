@@ -40,7 +40,7 @@ fn a_root_is_zeros_and_one_piece(rt: HostRuntime) {
         is_written_in(alloc, &(), &[0, 0]),
         is_written_wide_in(alloc, &(1u8, 2u64), &[0, 16]),
     ];
-    assert_eq!(rt; written, [true; 5]);
+    expect_eq!(rt; written, [true; 5]);
 }
 
 #[test]
@@ -56,7 +56,7 @@ fn each_text_is_one_piece(rt: HostRuntime) {
         ),
         is_written_wide_in(alloc, &"wonderful wonders", &[17, 7, 16]),
     ];
-    assert_eq!(rt; written, [true; 4]);
+    expect_eq!(rt; written, [true; 4]);
 }
 
 #[test]
@@ -68,7 +68,7 @@ fn an_inline_text_has_no_piece_of_its_own(rt: HostRuntime) {
         is_written_in(alloc, &("hello", "wonderful"), &[9, 3, 16]),
         is_written_wide_in(alloc, &"wonderful", &[0, 16]),
     ];
-    assert_eq!(rt; written, [true; 4]);
+    expect_eq!(rt; written, [true; 4]);
 }
 
 // Appends two bytes, and aligns for numbers of 2, 4 and 8 bytes, with a byte after each.
@@ -86,7 +86,7 @@ fn align_thrice(writer: &mut PieceWriter) -> Option<[u64; 3]> {
 fn zeros_are_one_piece(rt: HostRuntime) {
     let mut writer = PieceWriter::new(rt.alloc());
     let aligned = align_thrice(&mut writer);
-    assert_eq!(rt;
+    expect_eq!(rt;
         (aligned, writer.lengths(), writer.bytes()),
         (
             Some([2, 4, 8]),
@@ -104,7 +104,7 @@ fn append_passes_an_empty_piece_on(rt: HostRuntime) {
         append(&mut writer, &[1]).is_ok(),
         append_in::<Wide, PieceWriter>(&mut writer, &[]).is_ok(),
     ];
-    assert_eq!(rt;
+    expect_eq!(rt;
         (written, writer.lengths(), writer.failures()),
         ([true; 3], [0, 1, 0].as_slice(), 0)
     );
@@ -115,7 +115,7 @@ fn a_limit_passes_an_empty_piece_on(rt: HostRuntime) {
     let mut writer = LimitWriter::new(PieceWriter::new(rt.alloc()), 0);
     let written = [writer.write(&[]).is_ok(), append(&mut writer, &[]).is_ok()];
     let failures = writer.failures();
-    assert_eq!(rt;
+    expect_eq!(rt;
         (written, writer.into_inner().lengths(), failures),
         ([true; 2], [0, 0].as_slice(), 0)
     );
@@ -129,7 +129,7 @@ fn a_limit_passes_the_front_of_a_piece_on(rt: HostRuntime) {
     let none = matches!(writer.write(&[5]), Err(LimitFault::Full));
     let empty = writer.write(&[]).is_ok();
     let inner = writer.into_inner();
-    assert_eq!(rt;
+    expect_eq!(rt;
         ([whole, front, none, empty], inner.lengths(), inner.bytes()),
         ([true; 4], [1, 2, 0].as_slice(), [1, 2, 3].as_slice())
     );

@@ -19,7 +19,7 @@ fn pairs_are_padded(rt: HostRuntime) {
         is_archived_as(alloc, &(1u32, 2u8), &[1, 0, 0, 0, 2, 0, 0, 0]),
         is_archived_as(alloc, &((), 2u16), &[2, 0]),
     ];
-    assert_eq!(rt; padded, [true; 3]);
+    expect_eq!(rt; padded, [true; 3]);
 }
 
 // Returns the parts of a pair and of its inner pair, read in place.
@@ -43,7 +43,7 @@ fn parts_written(alloc: Global) -> Option<(u8, i32, bool)> {
 
 #[test]
 fn pairs_are_read_in_place(rt: HostRuntime) {
-    assert_eq!(rt; parts_written(rt.alloc()), Some((1, -2, true)));
+    expect_eq!(rt; parts_written(rt.alloc()), Some((1, -2, true)));
 }
 
 #[test]
@@ -54,7 +54,7 @@ fn what_is_no_value_is_refused(rt: HostRuntime) {
         refused::<Narrow, u32>(&[0, 0, 0]),
         refused::<Narrow, u32>(&[0, 0, 0, 0, 0]),
     ];
-    assert_eq!(rt;
+    expect_eq!(rt;
         refused,
         [
             Some(Refusal::InvalidValue(0)),
@@ -76,5 +76,5 @@ fn archived_key(alloc: Global, pair: &(u32, bool)) -> Result<u32, WriteError<NoM
 
 #[test]
 fn an_archived_key_is_read_back(rt: HostRuntime) {
-    assert_eq!(rt; archived_key(rt.alloc(), &(7, true)).ok(), Some(7));
+    expect_eq!(rt; archived_key(rt.alloc(), &(7, true)).ok(), Some(7));
 }

@@ -42,7 +42,7 @@ fn unsigned_numbers_at_their_limits(rt: HostRuntime) {
         represents_as(alloc, 0x0102_0304_0506_0708u64, &[8, 7, 6, 5, 4, 3, 2, 1]),
         represents_as(alloc, 18_446_744_073_709_551_615u64, &[0xff; 8]),
     ];
-    assert_eq!(rt; right, [true; 11]);
+    expect_eq!(rt; right, [true; 11]);
 }
 
 #[test]
@@ -61,7 +61,7 @@ fn signed_numbers_at_their_limits(rt: HostRuntime) {
         represents_as(alloc, -9_223_372_036_854_775_808i64, &least),
         represents_as(alloc, 9_223_372_036_854_775_807i64, &greatest),
     ];
-    assert_eq!(rt; right, [true; 9]);
+    expect_eq!(rt; right, [true; 9]);
 }
 
 #[test]
@@ -80,7 +80,7 @@ fn bool_and_char_at_their_limits(rt: HostRuntime) {
         refused::<Narrow, char>(&[0, 0, 0x11, 0]),
         refused::<Narrow, char>(&[0xff, 0xff, 0xff, 0xff]),
     ];
-    assert_eq!(rt;
+    expect_eq!(rt;
         (right, refused),
         ([true; 6], [Some(Refusal::InvalidValue(0)); 3])
     );
@@ -104,7 +104,7 @@ fn widths_have_their_constants(rt: HostRuntime) {
         Wide::TEXT_SIZE,
         <<Wide as Width>::Place as Element>::size(),
     ];
-    assert_eq!(rt;
+    expect_eq!(rt;
         (limits, sizes, wide_limits, wide_sizes),
         (
             [4_294_967_295, 4_294_967_295, 1_073_741_824],
@@ -141,7 +141,7 @@ fn narrow_counts_and_distances_at_their_limits(rt: HostRuntime) {
         Narrow::distance(16, 2_147_483_668),
     ];
     let words = [full, lowest, word];
-    assert_eq!(rt;
+    expect_eq!(rt;
         ([none, one, most], [least, greatest], rest_in_range, words),
         (
             [0, 1, 4_294_967_295],
@@ -176,7 +176,7 @@ fn wide_counts_and_distances_at_their_limits(rt: HostRuntime) {
     ];
     let (low, high) = (-9_223_372_036_854_775_808, 9_223_372_036_854_775_807);
     let words = [full, lowest, word];
-    assert_eq!(rt;
+    expect_eq!(rt;
         ([none, one, most], [least, greatest], rest_in_range, words),
         (
             [0, 1, 18_446_744_073_709_551_615],
@@ -248,5 +248,5 @@ fn entries_of_every_mix_of_alignments(rt: HostRuntime) {
         (6, 2, 4),
         (12, 4, 4),
     ];
-    assert_eq!(rt; (laid_out, whole_size::<u64, u8>()), (wanted, 16));
+    expect_eq!(rt; (laid_out, whole_size::<u64, u8>()), (wanted, 16));
 }

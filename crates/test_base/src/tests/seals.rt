@@ -57,7 +57,7 @@ fn numbers_are_written_over_bytes(rt: HostRuntime) {
     sets_over(&mut others, 1, -2);
     let signed = others;
     set_at(&mut others, 4, 16_909_060u32);
-    assert_eq!(rt;
+    expect_eq!(rt;
         (before, after, bytes, signed, others),
         (
             2,
@@ -85,7 +85,7 @@ fn roots_are_written_in_place(rt: HostRuntime) {
     let mut bytes = [1];
     let replaced = root_replaced(&mut bytes, false).ok();
     let written = is_archived_as(rt.alloc(), &true, &[1]);
-    assert_eq!(rt;
+    expect_eq!(rt;
         (replaced, bytes, written),
         (Some((0, true, true, false)), [0], true)
     );
@@ -128,7 +128,7 @@ fn values_of_entries_are_written_in_place(rt: HostRuntime) {
     let before = value_replaced(&mut bytes, 16_909_060).ok();
     let after = value_of(&bytes).ok();
     set_value::<u8, u32>(&mut bytes, 0, 7);
-    assert_eq!(rt;
+    expect_eq!(rt;
         (before, after, bytes),
         (Some((1, 2)), Some(16_909_060), [1, 0, 0, 0, 7, 0, 0, 0])
     );
@@ -138,7 +138,7 @@ fn values_of_entries_are_written_in_place(rt: HostRuntime) {
 fn a_value_is_written_behind_its_key(rt: HostRuntime) -> Result<(), Fail> {
     let mut bytes = to_bytes(rt.alloc(), &(1u32, 2u32))?;
     let key = sets_behind_key(bytes.as_mut_slice(), 0, 9);
-    assert_eq!(rt;
+    expect_eq!(rt;
         (key, bytes.as_slice()),
         (1, [1, 0, 0, 0, 9, 0, 0, 0].as_slice())
     );
@@ -154,7 +154,7 @@ fn an_archive_is_lent_and_given_back(rt: HostRuntime) {
     seal.set(7);
     drop(seal);
     let (archive, pos) = whole.into_parts();
-    assert_eq!(rt; (begun, pos, &*archive), (1, 1, [7, 2].as_slice()));
+    expect_eq!(rt; (begun, pos, &*archive), (1, 1, [7, 2].as_slice()));
 }
 
 #[test]
@@ -165,7 +165,7 @@ fn what_is_refused_to_readers_is_refused_to_writers(rt: HostRuntime) {
         refused_to_write::<Narrow, u32>(&mut zeros),
         refused_to_write::<Wide, u64>(&mut zeros),
     ];
-    assert_eq!(rt;
+    expect_eq!(rt;
         (refused, bytes),
         (
             [
@@ -190,7 +190,7 @@ fn shows_in_place<W: Width>(bytes: &mut [u8], text: &str) -> Result<bool, Verify
 #[test]
 fn inline_text_is_read_in_place(rt: HostRuntime) {
     let mut bytes = *b"hello\xff\xff\xff";
-    assert_eq!(rt;
+    expect_eq!(rt;
         shows_in_place::<Narrow>(&mut bytes, "hello").ok(),
         Some(true)
     );
@@ -206,7 +206,7 @@ fn inline_text_is_raised_in_place(rt: HostRuntime) {
     let mut seal = Seal::<Text>::over(&mut full, 0);
     let full_raised = seal.make_ascii_uppercase();
     drop(seal);
-    assert_eq!(rt;
+    expect_eq!(rt;
         (raised, bytes, full_raised, full),
         (
             true,
@@ -232,7 +232,7 @@ fn text_out_of_line_stays(rt: HostRuntime) {
     let mut bytes = wonderful;
     let raised = raises_elsewhere::<Narrow>(&mut bytes).ok();
     let same = is_archived_as(rt.alloc(), &"wonderful", &bytes);
-    assert_eq!(rt;
+    expect_eq!(rt;
         (raised, bytes, same),
         (Some((true, false)), wonderful, true)
     );
@@ -241,7 +241,7 @@ fn text_out_of_line_stays(rt: HostRuntime) {
 #[test]
 fn wide_text_is_read_in_place(rt: HostRuntime) {
     let mut bytes = *b"wonderful\xff\xff\xff\xff\xff\xff\xff";
-    assert_eq!(rt;
+    expect_eq!(rt;
         shows_in_place::<Wide>(&mut bytes, "wonderful").ok(),
         Some(true)
     );
@@ -258,7 +258,7 @@ fn wide_text_is_raised_in_place(rt: HostRuntime) {
     let raised = [
         0x57, 0x4f, 0x4e, 0x44, 0x45, 0x52, 0x46, 0x55, 0x4c, 255, 97, 97, 97, 97, 97, 97,
     ];
-    assert_eq!(rt; (is_raised, bytes), (true, raised));
+    expect_eq!(rt; (is_raised, bytes), (true, raised));
 }
 
 #[test]
@@ -266,7 +266,7 @@ fn wide_text_out_of_line_stays(rt: HostRuntime) {
     // The text, five zeros, its length, and the distance back to its start.
     let mut bytes =
         *b"most wonderful text\0\0\0\0\0\x93\0\0\0\0\0\0\0\xe8\xff\xff\xff\xff\xff\xff\xff";
-    assert_eq!(rt;
+    expect_eq!(rt;
         raises_elsewhere::<Wide>(&mut bytes).ok(),
         Some((true, false))
     );

@@ -52,7 +52,7 @@ fn short_text_is_inline(rt: HostRuntime) {
         represents_as::<Narrow>(alloc, "hello", b"hello\xff\xff\xff"),
         represents_as::<Wide>(alloc, "wonderful", wide),
     ];
-    assert_eq!(rt; right, [true; 2]);
+    expect_eq!(rt; right, [true; 2]);
 }
 
 #[test]
@@ -64,7 +64,7 @@ fn long_text_is_before_its_fixed_bytes(rt: HostRuntime) {
         represents_as::<Narrow>(alloc, "wonderful", narrow),
         represents_as::<Wide>(alloc, "wonderfulwonderfu", wide),
     ];
-    assert_eq!(rt; right, [true; 2]);
+    expect_eq!(rt; right, [true; 2]);
 }
 
 // Returns `true` if these two texts are the root of an archive.
@@ -82,7 +82,7 @@ fn two_texts_are_one_behind_the_other(rt: HostRuntime) {
     let read = are_root(&bytes, ("wonderful", "excellent"));
     bytes[32] = 0xe4;
     let refused = refused::<Narrow, Entry<Text, Text>>(&bytes);
-    assert_eq!(rt;
+    expect_eq!(rt;
         (archived, read, refused),
         (true, true, Some(Refusal::OutOfRange(0, 9)))
     );
@@ -100,7 +100,7 @@ fn what_is_no_text_is_refused(rt: HostRuntime) {
         refused::<Narrow, Text>(b"\xc3\xff\xff\xff\xff\xff\xff\xff"),
     ];
     let invalid = Some(Refusal::InvalidValue(0));
-    assert_eq!(rt;
+    expect_eq!(rt;
         refused,
         [
             Some(Refusal::OutOfRange(-12, 9)),
@@ -119,7 +119,7 @@ fn text_ends_before_the_first_ff(rt: HostRuntime) {
         is_root::<Narrow>(b"ab\xffcdefg", "ab"),
         is_root::<Narrow>(b"abcdefgh", "abcdefgh"),
     ];
-    assert_eq!(rt; right, [true; 3]);
+    expect_eq!(rt; right, [true; 3]);
 }
 
 // Returns `true` if an owned text is archived as a borrowed one is, and reads back.
@@ -176,7 +176,7 @@ fn the_first_word_tells_the_length(rt: HostRuntime) {
         has_word(alloc, 64, 64, &[0x80, 1, 0, 0]),
         has_word(alloc, 100, 100, &[0xa4, 1, 0, 0]),
     ];
-    assert_eq!(rt; right, [true; 4]);
+    expect_eq!(rt; right, [true; 4]);
 }
 
 // Returns `true` if a text is archived in this width, and reads back.
@@ -216,7 +216,7 @@ fn a_distance_that_does_not_fit_is_refused(rt: HostRuntime) {
     let short = Archive::<Narrow>::resolve(&"hello", overflow, 2_147_483_652, &mut inline).is_ok();
     let text = "wonderfulwonderfu";
     let wide_fits = Archive::<Wide>::resolve(&text, overflow, 2_147_483_652, &mut wide).is_ok();
-    assert_eq!(rt;
+    expect_eq!(rt;
         ([fits, long, short, wide_fits], local, inline, wide),
         (
             [true, false, true, true],

@@ -23,7 +23,7 @@ fn a_writer_into_memory_holds_what_was_written(rt: HostRuntime) {
     let wanted = [1, 2, 3, 4, 5, 0, 0, 0];
     let held = writer.bytes() == wanted.as_slice();
     let bytes = writer.into_vec();
-    assert_eq!(rt;
+    expect_eq!(rt;
         (
             begins,
             first,
@@ -70,7 +70,7 @@ fn pieces_are_appended_up_to_the_limit(rt: HostRuntime) {
     let wide = append_in::<Wide, LateWriter>(&mut writer, &[6]).is_ok();
     let above = writer.pos();
     let past = is_too_large(append(&mut writer, &[]));
-    assert_eq!(rt;
+    expect_eq!(rt;
         (
             first,
             written,
@@ -95,7 +95,7 @@ fn zeros_are_appended_up_to_the_limit(rt: HostRuntime) {
     let four = align_for::<u32, LateWriter>(&mut writer).ok();
     let held = writer.bytes() == [0, 0].as_slice();
     let wide = align_for_in::<Wide, u64, LateWriter>(&mut writer).ok();
-    assert_eq!(rt;
+    expect_eq!(rt;
         (refused, [two, four, wide], none, held),
         (
             true,
@@ -117,7 +117,7 @@ fn a_root_past_the_limit_is_refused(rt: HostRuntime) {
     let held = writer.bytes() == [0, 0].as_slice();
     let narrow = write_root(rt.alloc(), &(1u8, 2u8), &mut writer).ok();
     let wide = write_root_in::<Wide, LateWriter, u8>(rt.alloc(), &3, &mut writer).ok();
-    assert_eq!(rt;
+    expect_eq!(rt;
         (refused, held, [narrow, wide], writer.bytes()),
         (
             true,
@@ -135,7 +135,7 @@ fn nothing_is_written_after_a_fault(rt: HostRuntime) {
         write_root(rt.alloc(), &(1u32, 2u32), &mut writer),
         Err(WriteError::Writer(Broken))
     );
-    assert_eq!(rt; (refused, writer.asked(), writer.failures()), (true, 1, 1));
+    expect_eq!(rt; (refused, writer.asked(), writer.failures()), (true, 1, 1));
 }
 
 #[test]
@@ -144,7 +144,7 @@ fn failures_stay_at_the_greatest_number(rt: HostRuntime) {
     let first = (append(&mut writer, &[1]).is_err(), writer.failures());
     let second = (append(&mut writer, &[1]).is_err(), writer.failures());
     let wanted = (true, 18_446_744_073_709_551_615);
-    assert_eq!(rt; [first, second], [wanted; 2]);
+    expect_eq!(rt; [first, second], [wanted; 2]);
 }
 
 // The byte 9, followed by the aligned archive of 1 and 2.
@@ -187,7 +187,7 @@ fn a_limit_keeps_a_front_of_the_archive(rt: HostRuntime) {
         Err(WriteError::Writer(LimitFault::Full))
     );
     let inner = writer.into_inner();
-    assert_eq!(rt;
+    expect_eq!(rt;
         (right, root, told, nothing, full, inner.bytes()),
         (true, Some(4), (12, 0), true, true, WHOLE.as_slice())
     );
@@ -212,7 +212,7 @@ fn a_fault_of_the_inner_writer_is_told_in_its_place(rt: HostRuntime) {
     let inner = writer.into_inner();
     let failures = inner.failures();
     let inmost = inner.into_inner();
-    assert_eq!(rt;
+    expect_eq!(rt;
         (
             [first, second, third, nothing],
             told,
@@ -231,7 +231,7 @@ fn a_full_writer_does_not_ask_the_inner_one(rt: HostRuntime) {
     let broken = matches!(writer.write(&[]), Err(LimitFault::Inner(Broken)));
     let failures = writer.failures();
     let asked = writer.into_inner().asked();
-    assert_eq!(rt; (full, broken, failures, asked), (true, true, 2, 1));
+    expect_eq!(rt; (full, broken, failures, asked), (true, true, 2, 1));
 }
 
 #[test]
@@ -240,5 +240,5 @@ fn lent_parts_are_archived_as_a_pair(rt: HostRuntime) {
     let adapter = EntryAdapter::<u8, &u32, u8, u32>::new(1, &value);
     let archived = is_archived_as(rt.alloc(), &adapter, &[1, 0, 0, 0, 2, 0, 0, 0]);
     let lent = [*Lend::<u32>::lend(&value), *Lend::<u32>::lend(&&value)];
-    assert_eq!(rt; (archived, lent), (true, [2; 2]));
+    expect_eq!(rt; (archived, lent), (true, [2; 2]));
 }

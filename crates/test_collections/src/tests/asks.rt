@@ -79,7 +79,7 @@ fn right_of_both(alloc: Global) -> (usize, usize) {
 
 #[test]
 fn iterators_are_asked_once_more_than_is_claimed_at_most(rt: HostRuntime) {
-    assert_eq!(rt; right_of_both(rt.alloc()), (4 * 6, 4 * 6));
+    expect_eq!(rt; right_of_both(rt.alloc()), (4 * 6, 4 * 6));
 }
 
 #[test]
@@ -106,5 +106,5 @@ fn an_end_or_a_surplus_is_the_last_answer(rt: HostRuntime) {
         (Answer::Written, 1),
         (Answer::LoadFactor(8, 7), 0),
     ];
-    assert_eq!(rt; (maps, sets), (wanted, wanted));
+    expect_eq!(rt; (maps, sets), (wanted, wanted));
 }

@@ -55,14 +55,14 @@ fn a_found_value_is_written_over_the_bare_bytes(rt: HostRuntime) {
     let mut bytes = four_pairs();
     let place = change_small(&mut bytes, 7, 70);
     let same = bytes == four_with([3, 4, 1, 2, 0, 0, 7, 70, 5, 6]);
-    assert_eq!(rt; (place, same), (Some(Some(7)), true));
+    expect_eq!(rt; (place, same), (Some(Some(7)), true));
 }
 
 #[test]
 fn where_no_key_fits_the_bare_bytes_stay(rt: HostRuntime) {
     let mut bytes = four_pairs();
     let place = change_small(&mut bytes, 9, 70);
-    assert_eq!(rt; (place, bytes == four_pairs()), (Some(None), true));
+    expect_eq!(rt; (place, bytes == four_pairs()), (Some(None), true));
 }
 
 // Writes a byte behind the key of each pair while the cursor steps. Returns the results of five
@@ -84,7 +84,7 @@ fn pairs_are_written_while_the_cursor_steps(rt: HostRuntime) {
     let mut bytes = four_pairs();
     let stepped = change_stepping(&mut bytes, 20).ok();
     let same = bytes == four_with([3, 20, 1, 20, 0, 0, 7, 20, 5, 20]);
-    assert_eq!(rt;
+    expect_eq!(rt;
         (stepped, same),
         (Some(([Some(8), Some(6), Some(2), Some(0), None], 0)), true)
     );
@@ -111,5 +111,5 @@ fn values_are_written_over_the_bare_bytes(rt: HostRuntime) {
     let mut bytes = four_pairs();
     let left = write_over::<i8, i8, FxHasher64, Narrow>(&mut bytes, &[10, 11, 12]).ok();
     let same = bytes == four_with([3, 4, 1, 12, 0, 0, 7, 11, 5, 10]);
-    assert_eq!(rt; (left, same), (Some(1), true));
+    expect_eq!(rt; (left, same), (Some(1), true));
 }

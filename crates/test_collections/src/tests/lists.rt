@@ -47,7 +47,7 @@ fn one_item_twice() -> [u8; 48] {
 fn a_list_is_archived_as_a_set(rt: HostRuntime) {
     let items = [1, 2, 3];
     let read = written_and_read(rt.alloc(), SetItems::new(&items), &three_keys());
-    assert_eq!(rt; read, Some((true, (3, 3, [true, false]))));
+    expect_eq!(rt; read, Some((true, (3, 3, [true, false]))));
 }
 
 #[test]
@@ -55,7 +55,7 @@ fn equal_items_of_a_list_are_kept(rt: HostRuntime) {
     let items = [1, 1];
     let list = SetItems::with_load_factor(&items, (1, 2));
     let read = written_and_read(rt.alloc(), list, &one_item_twice());
-    assert_eq!(rt; read, Some((true, (2, 2, [true, false]))));
+    expect_eq!(rt; read, Some((true, (2, 2, [true, false]))));
 }
 
 // Returns whether writing a list fails with the error for its load factor.

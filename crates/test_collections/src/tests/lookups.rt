@@ -44,7 +44,7 @@ fn pairs_are_found_with_their_positions(rt: HostRuntime) {
         small(&one_key_twice(), 1),
         small(&no_items(), 1),
     ];
-    assert_eq!(rt;
+    expect_eq!(rt;
         found,
         [
             Some((Some(2), Some((2, 3)), true)),
@@ -63,7 +63,7 @@ fn a_pair_of_a_wide_archive_is_found_with_its_position(rt: HostRuntime) {
         found::<u32, u32, FxHasher64, Wide, u32>(&bytes, &1).ok(),
         found::<u32, u32, FxHasher64, Wide, u32>(&bytes, &2).ok(),
     ];
-    assert_eq!(rt;
+    expect_eq!(rt;
         found,
         [
             Some((Some(2), Some((0, 4)), true)),

@@ -49,7 +49,7 @@ fn two_maps_are_written(rt: HostRuntime) {
 
 #[test]
 fn two_maps_are_read(rt: HostRuntime) {
-    assert_eq!(rt; reads(&two_maps()).ok(), Some((2, [true, true, false])));
+    expect_eq!(rt; reads(&two_maps()).ok(), Some((2, [true, true, false])));
 }
 
 // Returns the archive of the two maps, with both values at the bytes of the first map.

@@ -69,7 +69,7 @@ fn an_empty_map_is_read(rt: HostRuntime) {
         has_small(&bytes, 1),
     );
     let printed = small_prints(rt.alloc(), &bytes, "{}");
-    assert_eq!(rt;
+    expect_eq!(rt;
         (counts, found, equal, printed),
         (
             Some((true, 0, 0)),
@@ -87,7 +87,7 @@ fn one_pair_is_found(rt: HostRuntime) {
     let pairs = [small_pair(&bytes, 1), small_pair(&bytes, 2)];
     let there = [has_small(&bytes, 1), has_small(&bytes, 2)];
     let printed = small_prints(rt.alloc(), &bytes, "{1: 2}");
-    assert_eq!(rt;
+    expect_eq!(rt;
         (small_counts(&bytes), found, pairs, there, printed),
         (
             Some((false, 1, 2)),
@@ -146,7 +146,7 @@ fn a_comparison_may_be_handed_in(rt: HostRuntime) {
         small_with(&twice, 1, true),
         small_with(&twice, 1, false),
     ];
-    assert_eq!(rt;
+    expect_eq!(rt;
         found,
         [
             [Some((Some(1), 1)); 2],
@@ -194,7 +194,7 @@ fn is_found_of_two(alloc: Global) -> Option<Option<bool>> {
 
 #[test]
 fn a_key_of_two_texts_is_compared(rt: HostRuntime) {
-    assert_eq!(rt; is_found_of_two(rt.alloc()), Some(Some(true)));
+    expect_eq!(rt; is_found_of_two(rt.alloc()), Some(Some(true)));
 }
 
 #[test]
@@ -208,7 +208,7 @@ fn pairs_are_found_and_printed(rt: HostRuntime) {
         small(&bytes, 2),
     ];
     let printed = small_prints(rt.alloc(), &bytes, "{5: 6, 7: 8, 1: 2, 3: 4}");
-    assert_eq!(rt;
+    expect_eq!(rt;
         (found, printed),
         (
             [
@@ -239,7 +239,7 @@ fn the_order_of_writing_is_no_difference(rt: HostRuntime) {
         small_equal(&four, &changed),
     ];
     let (yes, no) = (Some((true, true)), Some((false, false)));
-    assert_eq!(rt; equal, [yes, yes, no, no, no]);
+    expect_eq!(rt; equal, [yes, yes, no, no, no]);
 }
 
 #[test]
@@ -248,7 +248,7 @@ fn of_a_key_that_was_written_twice_the_first_is_found(rt: HostRuntime) {
     let (counts, found) = (small_counts(&bytes), small(&bytes, 1));
     let equal = small_equal(&bytes, &bytes);
     let printed = small_prints(rt.alloc(), &bytes, "{1: 2, 1: 9}");
-    assert_eq!(rt;
+    expect_eq!(rt;
         (counts, found, equal, printed),
         (
             Some((false, 2, 3)),
@@ -269,7 +269,7 @@ fn keys_that_a_lookup_does_not_answer_are_counted(rt: HostRuntime) {
         small_misplaced(&one_key_twice()),
         small_misplaced(&moved),
     ];
-    assert_eq!(rt;
+    expect_eq!(rt;
         (misplaced, small(&moved, 2)),
         ([Some(0), Some(1), Some(1)], Some(None))
     );
@@ -293,7 +293,7 @@ fn counting_misplaced_keys_ends_at_a_limit(rt: HostRuntime) {
         small_misplaced_up_to(&one_key_twice(), 2),
     ];
     let of_nothing = small_misplaced_up_to(&no_items(), 0);
-    assert_eq!(rt;
+    expect_eq!(rt;
         (of_pairs, of_one_key, of_nothing),
         (
             [Some(None), Some(Some(0)), Some(Some(0))],
@@ -316,7 +316,7 @@ fn address(symbols: &[u8], name: &str) -> Result<Option<u64>, VerifyError> {
 fn a_symbol_is_found(rt: HostRuntime) {
     let bytes = one_symbol();
     let found = [address(&bytes, "main").ok(), address(&bytes, "exit").ok()];
-    assert_eq!(rt; found, [Some(Some(4096)), Some(None)]);
+    expect_eq!(rt; found, [Some(Some(4096)), Some(None)]);
 }
 
 // Returns the number at `inner_key` in the map at `key`.
@@ -340,7 +340,7 @@ fn a_map_is_the_value_of_a_map(rt: HostRuntime) {
     ];
     let equal = equal_maps::<i8, Small, FxHasher64, Narrow>(&bytes, &bytes).ok();
     let printed = map_prints::<i8, Small, FxHasher64, Narrow>(rt.alloc(), &bytes, "{1: {1: 2}}");
-    assert_eq!(rt;
+    expect_eq!(rt;
         (found, equal, printed),
         ([Some(Some(2)), Some(None)], Some((true, true)), true)
     );
@@ -359,7 +359,7 @@ fn a_map_inside_is_checked(rt: HostRuntime) {
         access::<Nested>(&bytes),
         Err(VerifyError::OutOfRange { pos: 2, size: 35 })
     );
-    assert_eq!(rt; (unwrapped, outside), (true, true));
+    expect_eq!(rt; (unwrapped, outside), (true, true));
 }
 
 // Each valid front of the archive ends with eight zeros, and is an empty map.
@@ -393,7 +393,7 @@ fn a_wide_map_is_read(rt: HostRuntime) {
     let counts = counts::<u32, u32, FxHasher64, Wide>(&bytes).ok();
     let found = number_of::<u32, u32, FxHasher64, Wide, u32>(&bytes, &1).ok();
     let indexed = [indexed(&bytes, 1).ok(), indexed(&bytes, 2).ok()];
-    assert_eq!(rt;
+    expect_eq!(rt;
         (counts, found, indexed),
         (
             Some((false, 1, 2)),

@@ -68,7 +68,7 @@ fn primes_come_back(alloc: Global, state: RandomState) -> Result<HashSet<u32, Ra
 fn a_set_of_std(rt: HostRuntime) -> Result<(), Fail> {
     let back = primes_come_back(rt.alloc(), RandomState::new(&rt)?)?;
     let found = (back.len(), back.contains(&3), back.contains(&4));
-    assert_eq!(rt; found, (2, true, false));
+    expect_eq!(rt; found, (2, true, false));
     Ok(())
 }
 
@@ -149,7 +149,7 @@ fn a_map_of_maps(rt: HostRuntime) -> Result<(), Fail> {
         change(archive.as_mut_slice(), "south", "desk", 8)?,
         change(archive.as_mut_slice(), "south", "chair", 9)?,
     ];
-    assert_eq!(rt;
+    expect_eq!(rt;
         (before, written),
         (Some(4), [true, false, false, true, false])
     );
@@ -158,7 +158,7 @@ fn a_map_of_maps(rt: HostRuntime) -> Result<(), Fail> {
         number_of(archive.as_slice(), "north", "desk")?,
         number_of(archive.as_slice(), "south", "desk")?,
     ];
-    assert_eq!(rt; numbers, [Some(5), Some(2), Some(8)]);
+    expect_eq!(rt; numbers, [Some(5), Some(2), Some(8)]);
     Ok(())
 }
 
@@ -234,15 +234,15 @@ fn prices_in_place(rt: HostRuntime) -> Result<(), Fail> {
     let written = set_price(archive.as_mut_slice(), "tea", 2)?;
     let missing = set_price(archive.as_mut_slice(), "milk", 9)?;
     let before = raise_price(archive.as_mut_slice(), "cake")?;
-    assert_eq!(rt; (written, missing, before), (true, false, Some(5)));
+    expect_eq!(rt; (written, missing, before), (true, false, Some(5)));
     let first = prices(archive.as_slice())?;
-    assert_eq!(rt; first, [Some(2), Some(4), Some(6)]);
+    expect_eq!(rt; first, [Some(2), Some(4), Some(6)]);
     double_prices(archive.as_mut_slice())?;
     let doubled = prices(archive.as_slice())?;
-    assert_eq!(rt; doubled, [Some(4), Some(8), Some(12)]);
+    expect_eq!(rt; doubled, [Some(4), Some(8), Some(12)]);
     cap_prices(archive.as_mut_slice(), 6, "cake")?;
     let capped = prices(archive.as_slice())?;
-    assert_eq!(rt; capped, [Some(4), Some(6), Some(12)]);
+    expect_eq!(rt; capped, [Some(4), Some(6), Some(12)]);
     Ok(())
 }
 
@@ -282,12 +282,12 @@ fn points_in_place(rt: HostRuntime) -> Result<(), Fail> {
     let mut archive = to_bytes(rt.alloc(), &list)?;
     let moved = move_point(archive.as_mut_slice(), "b", (-3, 5))?;
     let missing = move_point(archive.as_mut_slice(), "c", (0, 0))?;
-    assert_eq!(rt; (moved, missing), (true, false));
+    expect_eq!(rt; (moved, missing), (true, false));
     let points = [
         point_of(archive.as_slice(), "a")?,
         point_of(archive.as_slice(), "b")?,
     ];
-    assert_eq!(rt; points, [Some((1, 2)), Some((-3, 5))]);
+    expect_eq!(rt; points, [Some((1, 2)), Some((-3, 5))]);
     Ok(())
 }
 
@@ -313,7 +313,7 @@ fn a_wide_archive(rt: HostRuntime) -> Result<(), Fail> {
     let archive = write_sizes(rt.alloc(), &[("disk", 5_000_000_000), ("file", 12)])?;
     let disk = size_of(archive.as_slice(), "disk")?;
     let tape = size_of(archive.as_slice(), "tape")?;
-    assert_eq!(rt; (disk, tape), (Some(5_000_000_000), None));
+    expect_eq!(rt; (disk, tape), (Some(5_000_000_000), None));
     Ok(())
 }
 
@@ -334,6 +334,6 @@ fn a_set(rt: HostRuntime) -> Result<(), Fail> {
     let archive = write_words(rt.alloc(), &["red", "green"])?;
     let green = has_word(archive.as_slice(), "green")?;
     let blue = has_word(archive.as_slice(), "blue")?;
-    assert_eq!(rt; (green, blue), ((2, true), (2, false)));
+    expect_eq!(rt; (green, blue), ((2, true), (2, false)));
     Ok(())
 }

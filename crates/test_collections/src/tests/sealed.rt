@@ -124,7 +124,7 @@ fn a_stored_value_is_looked_up(rt: HostRuntime) {
         number_stored(&mut bytes, 1, 7).ok(),
         number_stored(&mut bytes, 2, 7).ok(),
     ];
-    assert_eq!(rt; (stored, bytes[4]), ([Some(Some(7)), Some(None)], 7));
+    expect_eq!(rt; (stored, bytes[4]), ([Some(Some(7)), Some(None)], 7));
 }
 
 // Writes a number over the value of a key. Returns the values before and after the write.
@@ -166,7 +166,7 @@ fn a_found_value_is_written_in_place(rt: HostRuntime) {
     let found = number_of::<u32, u32, FxHasher64, Narrow, u32>(&bytes, &1).ok();
     let mut wanted = one_number();
     wanted[4..8].copy_from_slice(&[4, 3, 2, 1]);
-    assert_eq!(rt;
+    expect_eq!(rt;
         (replaced, found, bytes == wanted),
         (Some(Some((2, 16_909_060))), Some(Some(16_909_060)), true)
     );
@@ -179,18 +179,18 @@ fn where_no_key_fits_nothing_is_lent(rt: HostRuntime) {
     let beside_key = replace_beside_key(&mut bytes, 2, 7).ok();
     let by_comparison = replace_by(&mut bytes, 1, 7, false).ok();
     let key_by_comparison = key_by(&mut bytes, 2, true).ok();
-    assert_eq!(rt;
+    expect_eq!(rt;
         (replaced, beside_key, by_comparison, key_by_comparison),
         (Some(None), Some(None), Some(None), Some(None))
     );
-    assert_eq!(rt; bytes, one_number());
+    expect_eq!(rt; bytes, one_number());
 }
 
 #[test]
 fn a_pair_is_lent_with_its_key(rt: HostRuntime) {
     let mut bytes = one_number();
     let before = replace_beside_key(&mut bytes, 1, 7).ok();
-    assert_eq!(rt; (before, bytes[4]), (Some(Some((1, 2))), 7));
+    expect_eq!(rt; (before, bytes[4]), (Some(Some((1, 2))), 7));
 }
 
 // Writes a number over the value that is found by a comparison that always returns `accepts`.
@@ -230,7 +230,7 @@ fn a_comparison_may_be_handed_in(rt: HostRuntime) {
     let mut bytes = one_number();
     let key = key_by(&mut bytes, 1, true).ok();
     let before = replace_by(&mut bytes, 1, 7, true).ok();
-    assert_eq!(rt; (key, before, bytes[4]), (Some(Some(1)), Some(Some(2)), 7));
+    expect_eq!(rt; (key, before, bytes[4]), (Some(Some(1)), Some(Some(2)), 7));
 }
 
 // Writes these numbers over the values that a cursor reaches, one after the other.
@@ -303,7 +303,7 @@ fn each_value_is_written(rt: HostRuntime) {
         number_of::<i8, i8, FxHasher64, Narrow, i8>(&bytes, &7).ok(),
     ];
     let same = bytes == four_with([3, 0, 1, 0, 0, 0, 7, 0, 5, 0]);
-    assert_eq!(rt;
+    expect_eq!(rt;
         (written, found, same),
         (Some(true), [Some(Some(0)); 4], true)
     );
@@ -314,7 +314,7 @@ fn values_are_written_by_position(rt: HostRuntime) {
     let mut bytes = four_pairs();
     let written = write_values_by_pos(&mut bytes, &[10, 11, 12, 13]).ok();
     let same = bytes == four_with([3, 13, 1, 12, 0, 0, 7, 11, 5, 10]);
-    assert_eq!(rt; (written, same), (Some(true), true));
+    expect_eq!(rt; (written, same), (Some(true), true));
 }
 
 // Writes `byte` at `pos`, if the archive has this position.
@@ -339,7 +339,7 @@ fn values_are_written_while_the_cursor_steps(rt: HostRuntime) {
     let mut bytes = four_pairs();
     let positions = write_stepping(&mut bytes).ok();
     let same = bytes == four_with([3, 4, 1, 2, 0, 0, 7, 21, 5, 20]);
-    assert_eq!(rt; (positions, same), (Some([Some(9), Some(7)]), true));
+    expect_eq!(rt; (positions, same), (Some([Some(9), Some(7)]), true));
 }
 
 #[test]
@@ -347,7 +347,7 @@ fn pairs_are_lent_by_ascending_bucket(rt: HostRuntime) {
     let mut bytes = four_pairs();
     let written = write_pairs(&mut bytes, &[(5, -5), (7, -7), (1, -1), (3, -3)]).ok();
     let same = bytes == four_with([3, 0xfd, 1, 0xff, 0, 0, 7, 0xf9, 5, 0xfb]);
-    assert_eq!(rt; (written, same), (Some(true), true));
+    expect_eq!(rt; (written, same), (Some(true), true));
 }
 
 // Writes a number behind the first key. Returns the number of pairs before the step, the key and
@@ -374,7 +374,7 @@ fn pairs_are_written_by_position(rt: HostRuntime) {
     let mut bytes = four_pairs();
     let first = write_first(&mut bytes, 9).ok();
     let same = bytes == four_with([3, 4, 1, 2, 0, 0, 7, 8, 5, 9]);
-    assert_eq!(rt; (first, same), (Some(Some((4, 8, 5, 3))), true));
+    expect_eq!(rt; (first, same), (Some(Some((4, 8, 5, 3))), true));
 }
 
 // Returns the archive of three texts, mapped to these values.
@@ -456,7 +456,7 @@ fn raised(alloc: Global) -> Option<([Option<Option<bool>>; 3], bool)> {
 
 #[test]
 fn a_text_is_raised_in_place(rt: HostRuntime) {
-    assert_eq!(rt; raised(rt.alloc()), Some(([Some(Some(true)); 3], true)));
+    expect_eq!(rt; raised(rt.alloc()), Some(([Some(Some(true)); 3], true)));
 }
 
 // Writes each text of an archive in upper case. Returns the number of texts that are written,
@@ -470,7 +470,7 @@ fn each_raised(alloc: Global) -> Option<(Option<Option<usize>>, bool)> {
 
 #[test]
 fn each_text_is_raised_in_place(rt: HostRuntime) {
-    assert_eq!(rt; each_raised(rt.alloc()), Some((Some(Some(3)), true)));
+    expect_eq!(rt; each_raised(rt.alloc()), Some((Some(Some(3)), true)));
 }
 
 // Writes a text out of line in upper case. Returns the result, and whether the archive is the same.
@@ -483,7 +483,7 @@ fn raised_out_of_line(alloc: Global) -> Option<(Option<Option<bool>>, bool)> {
 
 #[test]
 fn a_text_out_of_line_stays(rt: HostRuntime) {
-    assert_eq!(rt;
+    expect_eq!(rt;
         raised_out_of_line(rt.alloc()),
         Some((Some(Some(false)), true))
     );

@@ -28,7 +28,7 @@ fn a_set_is_read(rt: HostRuntime) {
         set_prints::<u8, FxHasher64, Narrow>(rt.alloc(), &three, "{1, 2, 3}"),
         set_prints::<u8, FxHasher64, Narrow>(rt.alloc(), &none, "{}"),
     ];
-    assert_eq!(rt;
+    expect_eq!(rt;
         (counts, members, printed),
         (
             [Some((false, 3, 0)), Some((true, 0, 0))],
@@ -49,7 +49,7 @@ fn counting_misplaced_keys_of_a_set_ends_at_a_limit(rt: HostRuntime) {
         set_misplaced_up_to::<u8, FxHasher64, Narrow>(&three, 2).ok(),
         set_misplaced_up_to::<u8, FxHasher64, Narrow>(&three, 3).ok(),
     ];
-    assert_eq!(rt; counted, [Some(None), Some(Some(0))]);
+    expect_eq!(rt; counted, [Some(None), Some(Some(0))]);
 }
 
 #[test]
@@ -61,7 +61,7 @@ fn sets_are_compared(rt: HostRuntime) {
         equal_sets::<u8, FxHasher64, Narrow>(&bytes, &bytes).ok(),
         equal_sets::<u8, FxHasher64, Narrow>(&bytes, &other).ok(),
     ];
-    assert_eq!(rt; equal, [Some((true, true)), Some((false, false))]);
+    expect_eq!(rt; equal, [Some((true, true)), Some((false, false))]);
 }
 
 #[test]
@@ -81,7 +81,7 @@ fn sets_of_units_are_read(rt: HostRuntime) {
         set_prints::<(), FxHasher64, Narrow>(rt.alloc(), &unit, "{()}"),
         set_prints::<(), FxHasher64, Narrow>(rt.alloc(), &units, "{(), ()}"),
     ];
-    assert_eq!(rt;
+    expect_eq!(rt;
         (counts, members, printed),
         (
             [Some((false, 1, 0)), Some((false, 2, 1))],
@@ -115,7 +115,7 @@ fn a_set_is_the_value_of_a_map(rt: HostRuntime) {
     let bytes = set_in_a_map();
     let equal = equal_maps::<i8, Inner, FxHasher64Wide, Wide>(&bytes, &bytes).ok();
     let printed = map_prints::<i8, Inner, FxHasher64Wide, Wide>(rt.alloc(), &bytes, "{1: {1}}");
-    assert_eq!(rt;
+    expect_eq!(rt;
         (inner_set(&bytes).ok(), equal, printed),
         (Some(Some((1, true, false))), Some((true, true)), true)
     );

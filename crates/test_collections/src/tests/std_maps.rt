@@ -196,7 +196,7 @@ fn of_one_pair(alloc: Global) -> Option<(bool, Option<(bool, bool)>, [Option<boo
 fn a_map_of_one_pair(rt: HostRuntime) {
     let one = of_one_pair(rt.alloc());
     let two = equals_two(rt.alloc(), &one_pair());
-    assert_eq!(rt;
+    expect_eq!(rt;
         (one, two),
         (
             Some((true, Some((true, true)), [Some(true); 2], 1)),
@@ -214,7 +214,7 @@ fn four_come_back(alloc: Global) -> Option<bool> {
 
 #[test]
 fn four_pairs(rt: HostRuntime) {
-    assert_eq!(rt; four_come_back(rt.alloc()), Some(true));
+    expect_eq!(rt; four_come_back(rt.alloc()), Some(true));
 }
 
 // Returns whether the archive of the empty map is as expected, and the result of its round trip.
@@ -226,7 +226,7 @@ fn of_no_pair(alloc: Global) -> (bool, Option<bool>) {
 
 #[test]
 fn the_empty_map(rt: HostRuntime) {
-    assert_eq!(rt; of_no_pair(rt.alloc()), (true, Some(true)));
+    expect_eq!(rt; of_no_pair(rt.alloc()), (true, Some(true)));
 }
 
 // Returns the map of 1 to the map of 1 to 2.
@@ -248,7 +248,7 @@ fn of_nested(alloc: Global) -> Option<(bool, [Option<bool>; 2])> {
 
 #[test]
 fn a_map_in_a_map(rt: HostRuntime) {
-    assert_eq!(rt; of_nested(rt.alloc()), Some((true, [Some(true); 2])));
+    expect_eq!(rt; of_nested(rt.alloc()), Some((true, [Some(true); 2])));
 }
 
 // Returns the map of (1, 2) and (3, 4), each mapped to the map of 1337 to 42.
@@ -268,7 +268,7 @@ fn of_two_maps(alloc: Global) -> Option<(usize, Option<bool>)> {
 
 #[test]
 fn two_maps_in_a_map(rt: HostRuntime) {
-    assert_eq!(rt; of_two_maps(rt.alloc()), Some((172, Some(true))));
+    expect_eq!(rt; of_two_maps(rt.alloc()), Some((172, Some(true))));
 }
 
 // Returns whether the map of these texts to numbers is the same after a round trip.
@@ -286,7 +286,7 @@ fn texts_to_numbers(rt: HostRuntime) {
         ("bar", 78),
         ("baz", 90),
     ];
-    assert_eq!(rt; numbers_come_back(rt.alloc(), &pairs), Some(true));
+    expect_eq!(rt; numbers_come_back(rt.alloc(), &pairs), Some(true));
 }
 
 // Returns whether the map of these texts is the same after a round trip.
@@ -300,7 +300,7 @@ fn texts_come_back(alloc: Global, pairs: &[(&str, &str)]) -> Option<bool> {
 #[test]
 fn texts_to_texts(rt: HostRuntime) {
     let pairs = [("hello", "world"), ("foo", "bar"), ("baz", "bat")];
-    assert_eq!(rt; texts_come_back(rt.alloc(), &pairs), Some(true));
+    expect_eq!(rt; texts_come_back(rt.alloc(), &pairs), Some(true));
 }
 
 // Returns whether the map of the unit value to 10 is the same after a round trip.
@@ -326,7 +326,7 @@ fn set_of_unit(alloc: Global) -> Option<(bool, Option<bool>)> {
 fn units_to_numbers_and_to_units(rt: HostRuntime) {
     let alloc = rt.alloc();
     let maps = [unit_to_number(alloc), unit_to_unit(alloc)];
-    assert_eq!(rt;
+    expect_eq!(rt;
         (maps, set_of_unit(alloc)),
         ([Some(true); 2], Some((true, Some(true))))
     );
@@ -364,7 +364,7 @@ fn found_of_hundred(alloc: Global) -> Option<(usize, usize, bool)> {
 
 #[test]
 fn a_hundred_texts(rt: HostRuntime) {
-    assert_eq!(rt; found_of_hundred(rt.alloc()), Some((100, 100, true)));
+    expect_eq!(rt; found_of_hundred(rt.alloc()), Some((100, 100, true)));
 }
 
 // Returns whether the hundred texts are the same after round trips in both widths, under the hasher
@@ -379,7 +379,7 @@ fn hundred_come_back(alloc: Global) -> Option<[Option<bool>; 2]> {
 
 #[test]
 fn a_hundred_texts_under_the_hasher_that_feeds_all_bits(rt: HostRuntime) {
-    assert_eq!(rt; hundred_come_back(rt.alloc()), Some([Some(true); 2]));
+    expect_eq!(rt; hundred_come_back(rt.alloc()), Some([Some(true); 2]));
 }
 
 // Reads an archive back into a map of std's. Returns its length and its value of 1.
@@ -405,7 +405,7 @@ fn the_later_of_equal_keys(rt: HostRuntime) {
         equals_two(rt.alloc(), &same),
     ];
     let back = read_back(rt.alloc(), &bytes).ok();
-    assert_eq!(rt;
+    expect_eq!(rt;
         (back, equal),
         (Some(Some((1, 9))), [Some((false, false)); 2])
     );
@@ -423,7 +423,7 @@ fn both_hashers_write_a_number_alike(rt: HostRuntime) {
         is_one_number::<FxHasher64>(rt.alloc()),
         is_one_number::<FxHasher64Wide>(rt.alloc()),
     ];
-    assert_eq!(rt; written, [Some(true); 2]);
+    expect_eq!(rt; written, [Some(true); 2]);
 }
 
 // Writes the map of 1 to 2 with a limit. Returns `true` if the writer keeps the first `limit`
@@ -452,7 +452,7 @@ fn limits_that_keep(alloc: Global) -> Option<usize> {
 
 #[test]
 fn a_limit_keeps_a_front_of_the_archive(rt: HostRuntime) {
-    assert_eq!(rt; limits_that_keep(rt.alloc()), Some(61));
+    expect_eq!(rt; limits_that_keep(rt.alloc()), Some(61));
 }
 
 // Returns the number of archived texts that std's set has, and the number of std's texts that the
@@ -493,7 +493,7 @@ fn of_words(
 #[test]
 fn sets_of_texts(rt: HostRuntime) {
     let words = ["hello", "world", "foo", "bar", "wonderful text"];
-    assert_eq!(rt;
+    expect_eq!(rt;
         of_words(rt.alloc(), &words),
         Some((Some((5, 5, (true, true))), [Some(true); 2]))
     );
@@ -502,7 +502,7 @@ fn sets_of_texts(rt: HostRuntime) {
 #[test]
 fn a_set_of_five_short_texts(rt: HostRuntime) {
     let words = ["hello", "world", "foo", "bar", "baz"];
-    assert_eq!(rt;
+    expect_eq!(rt;
         of_words(rt.alloc(), &words),
         Some((Some((5, 5, (true, true))), [Some(true); 2]))
     );
@@ -527,7 +527,7 @@ fn sets_come_back(alloc: Global) -> Option<[Option<bool>; 2]> {
 
 #[test]
 fn a_set_in_a_map(rt: HostRuntime) {
-    assert_eq!(rt; sets_come_back(rt.alloc()), Some([Some(true); 2]));
+    expect_eq!(rt; sets_come_back(rt.alloc()), Some([Some(true); 2]));
 }
 
 // Returns whether an archived map equals `map`, and is read back as `map` with this hash state.
@@ -603,6 +603,6 @@ fn maps_with_a_hash_state_of_their_own(rt: HostRuntime) -> Result<(), Fail> {
         comes_back_with(alloc, &Hashed::new(small), state),
         texts_come_back_with(alloc, &Hashed::new(texts), state),
     ];
-    assert_eq!(rt; back, [true; 3]);
+    expect_eq!(rt; back, [true; 3]);
     Ok(())
 }

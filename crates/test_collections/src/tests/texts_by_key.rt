@@ -52,7 +52,7 @@ fn raised(alloc: Global) -> Result<([Option<bool>; 3], [Option<bool>; 2]), Fail>
 #[test]
 fn inline_text_is_raised_by_key(rt: HostRuntime) -> Result<(), Fail> {
     let seen = raised(rt.alloc())?;
-    assert_eq!(rt;
+    expect_eq!(rt;
         seen,
         ([Some(true), Some(false), None], [Some(true), Some(true)])
     );

@@ -56,7 +56,7 @@ fn a_table_of_ports(rt: HostRuntime) -> Result<(), Fail> {
         answers_of(rt.alloc(), &ports, "ssh"),
         answers_of(rt.alloc(), &ports, "telnet"),
     ];
-    assert_eq!(rt; answers, [Some((true, true)); 2]);
+    expect_eq!(rt; answers, [Some((true, true)); 2]);
     Ok(())
 }
 
@@ -78,7 +78,7 @@ fn lookups_in_both_widths(rt: HostRuntime) -> Result<(), Fail> {
         lookups_agree::<Wide, _, _, _, _>(rt.alloc(), &map, &3).ok(),
         lookups_agree::<Wide, _, _, _, _>(rt.alloc(), &map, &4).ok(),
     ];
-    assert_eq!(rt; agree, [Some(true); 4]);
+    expect_eq!(rt; agree, [Some(true); 4]);
     Ok(())
 }
 
@@ -107,7 +107,7 @@ fn are_printed(alloc: Global) -> Result<[bool; 3], AllocError> {
 #[test]
 fn they_are_printed_as_what_they_hold(rt: HostRuntime) -> Result<(), Fail> {
     let printed = are_printed(rt.alloc())?;
-    assert_eq!(rt; printed, [true; 3]);
+    expect_eq!(rt; printed, [true; 3]);
     Ok(())
 }
 
@@ -122,7 +122,7 @@ fn they_are_compared_as_what_they_hold(rt: HostRuntime) -> Result<(), Fail> {
     let same = map_of::<FxHasher64>(rt.alloc(), &[(1, 2)])?;
     let other = map_of::<FxHasher64>(rt.alloc(), &[(1, 3)])?;
     let compared = [compared(&map, &same), compared(&map, &other)];
-    assert_eq!(rt; compared, [(true, false), (false, true)]);
+    expect_eq!(rt; compared, [(true, false), (false, true)]);
     Ok(())
 }
 
@@ -159,6 +159,6 @@ fn a_set_with_a_hash_state_of_its_own(rt: HostRuntime) -> Result<(), Fail> {
     let set = words_of(rt.alloc(), &["hello", "wonderful text"], state)?;
     let bytes = to_bytes(rt.alloc(), &set)?;
     let read = is_read_with(rt.alloc(), bytes.as_slice(), set.get(), state).ok();
-    assert_eq!(rt; read, Some(true));
+    expect_eq!(rt; read, Some(true));
     Ok(())
 }

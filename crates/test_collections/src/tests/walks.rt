@@ -154,7 +154,7 @@ fn sums(map: &[u8], set: &[u8]) -> Result<[u8; 3], VerifyError> {
 
 #[test]
 fn maps_and_sets_are_walked_by_for(rt: HostRuntime) {
-    assert_eq!(rt; sums(&four_pairs(), &three_keys()).ok(), Some([36, 6, 6]));
+    expect_eq!(rt; sums(&four_pairs(), &three_keys()).ok(), Some([36, 6, 6]));
 }
 
 // In bucket order, the pairs are 5 to 6, 7 to 8, 1 to 2 and 3 to 4. The first has the last two
@@ -165,7 +165,7 @@ fn pairs_are_walked_by_ascending_bucket(rt: HostRuntime) {
     let pairs = pairs_of::<i8, i8>(&bytes).ok();
     let (a, b, c, d) = ((8, 9), (6, 7), (2, 3), (0, 1));
     let left = [(4, (4, Some(4))), (2, (2, Some(2))), (0, (0, Some(0)))];
-    assert_eq!(rt;
+    expect_eq!(rt;
         (pairs, found_by_own_keys(&bytes).ok()),
         (
             Some(([Some(a), Some(b), Some(c), Some(d), None, None], left)),
@@ -180,7 +180,7 @@ fn keys_and_values_are_walked_by_ascending_bucket(rt: HostRuntime) {
     let keys = keys_of::<i8, i8>(&bytes).ok();
     let values = values_of::<i8, i8>(&bytes).ok();
     let left = (3, (3, Some(3)));
-    assert_eq!(rt;
+    expect_eq!(rt;
         (keys, values),
         (
             Some(([Some(8), Some(6), Some(2), Some(0), None, None], left)),
@@ -196,7 +196,7 @@ fn a_walk_over_the_empty_map_gives_nothing(rt: HostRuntime) {
     let keys = keys_of::<i8, i8>(&bytes).ok();
     let values = values_of::<i8, i8>(&bytes).ok();
     let left = (0, (0, Some(0)));
-    assert_eq!(rt;
+    expect_eq!(rt;
         (pairs, keys, values),
         (
             Some(([None; 6], [left; 3])),
@@ -210,7 +210,7 @@ fn a_walk_over_the_empty_map_gives_nothing(rt: HostRuntime) {
 fn keys_of_a_set_are_walked_by_ascending_bucket(rt: HostRuntime) {
     let three = members::<u8>(&three_keys()).ok();
     let one_unit = members::<()>(&one_unit()).ok();
-    assert_eq!(rt;
+    expect_eq!(rt;
         (three, one_unit),
         (
             Some((3, [Some(2), Some(1), Some(0), None, None], (0, Some(0)))),

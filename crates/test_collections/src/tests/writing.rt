@@ -83,7 +83,7 @@ fn maps_are_written(rt: HostRuntime) {
         map_pos(alloc, &[(1, 2), (3, 4), (5, 6), (7, 8)], &four, 21).ok(),
         map_pos(alloc, &[], &[], 0).ok(),
     ];
-    assert_eq!(rt;
+    expect_eq!(rt;
         written,
         [Some(Some(4)), Some(Some(6)), Some(Some(10)), Some(Some(0))]
     );
@@ -99,7 +99,7 @@ fn sets_are_written(rt: HostRuntime) {
         set_pos::<u8>(alloc, &[1, 2, 3], &three, 23).ok(),
         set_pos::<u8>(alloc, &[], &[], 0).ok(),
     ];
-    assert_eq!(rt; written, [Some(Some(0)), Some(Some(4)), Some(Some(0))]);
+    expect_eq!(rt; written, [Some(Some(0)), Some(Some(4)), Some(Some(0))]);
 }
 
 // Returns the header of the set of 1, 2 and 3 at position 36, and whether it fits.
@@ -127,7 +127,7 @@ fn set_header(alloc: Global) -> Result<([u8; 12], bool), WriteError<NoMemory>> {
 fn the_header_of_a_set(rt: HostRuntime) {
     let mut header = [0; 12];
     header.copy_from_slice(&three_keys()[36..]);
-    assert_eq!(rt; set_header(rt.alloc()).ok(), Some((header, true)));
+    expect_eq!(rt; set_header(rt.alloc()).ok(), Some((header, true)));
 }
 
 // A list of pairs of small numbers.
@@ -167,7 +167,7 @@ fn list_values(alloc: Global) -> Option<([Option<Option<i8>>; 3], Option<(bool, 
 
 #[test]
 fn a_list_is_looked_up(rt: HostRuntime) {
-    assert_eq!(rt;
+    expect_eq!(rt;
         list_values(rt.alloc()),
         Some((
             [Some(Some(4)), Some(Some(8)), Some(None)],

@@ -36,7 +36,7 @@ fn refusals_are_told(rt: HostRuntime) {
         "7 InvalidValue",
         "8 Refused",
     ];
-    assert_eq!(rt; told, names);
+    expect_eq!(rt; told, names);
 }
 
 #[test]
@@ -69,5 +69,5 @@ fn causes_are_told(rt: HostRuntime) {
         ("8 Memory", true),
         ("9 Refused", false),
     ];
-    assert_eq!(rt; told, names);
+    expect_eq!(rt; told, names);
 }

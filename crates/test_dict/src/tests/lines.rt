@@ -7,7 +7,7 @@ fn skips_empty_lines(rt: HostRuntime) {
         "\n\nput 0 4294967295\n\n\nbuild\nget 0\n\nget 4294967295",
         "built 60\n4294967295\nnone\n",
     )];
-    assert_eq!(rt; first_wrong(rt.alloc(), &rows), None);
+    expect_eq!(rt; first_wrong(rt.alloc(), &rows), None);
 }
 
 #[test]
@@ -69,7 +69,7 @@ fn refuses_bad_lines(rt: HostRuntime) {
     let taken = lines
         .iter()
         .find(|line| !answers(rt.alloc(), line, "error 10 BadLine\n"));
-    assert_eq!(rt; taken, None);
+    expect_eq!(rt; taken, None);
 }
 
 #[test]
@@ -85,5 +85,5 @@ fn bad_lines_change_nothing(rt: HostRuntime) {
         "put 1 2\nbuild\nkind\nwidth 16\nlf 1\ncheck 0\nput 1\nget 1\nbuild\n",
         "built 60\nerror 10 BadLine\nerror 10 BadLine\nerror 10 BadLine\nerror 10 BadLine\nerror 10 BadLine\n2\nbuilt 60\n",
     )];
-    assert_eq!(rt; first_wrong(rt.alloc(), &rows), None);
+    expect_eq!(rt; first_wrong(rt.alloc(), &rows), None);
 }

@@ -27,7 +27,7 @@ fn answers_scripts(rt: HostRuntime) {
         ),
         ("", ""),
     ];
-    assert_eq!(rt; first_wrong(rt.alloc(), &rows), None);
+    expect_eq!(rt; first_wrong(rt.alloc(), &rows), None);
 }
 
 #[test]
@@ -42,7 +42,7 @@ fn refused_builds_leave_no_archive_and_keep_the_list(rt: HostRuntime) {
             "error 3 CapacityTooLarge\nerror 11 NoArchive\n",
         ),
     ];
-    assert_eq!(rt; first_wrong(rt.alloc(), &rows), None);
+    expect_eq!(rt; first_wrong(rt.alloc(), &rows), None);
 }
 
 #[test]
@@ -57,7 +57,7 @@ fn kind_empties_list_and_archive_and_keeps_the_load_factor(rt: HostRuntime) {
             "built 60\nerror 11 NoArchive\nbuilt 12\nentries 0\nmisplaced 0\n",
         ),
     ];
-    assert_eq!(rt; first_wrong(rt.alloc(), &rows), None);
+    expect_eq!(rt; first_wrong(rt.alloc(), &rows), None);
 }
 
 #[test]
@@ -71,7 +71,7 @@ fn archives_many(rt: HostRuntime) {
         ("lf 1 1\n", 16, "build\n", "built 196\n"),
     ];
     let wrong = rows.iter().position(|row| !answers_puts(rt.alloc(), row.0, row.1, row.2, row.3));
-    assert_eq!(rt; wrong, None);
+    expect_eq!(rt; wrong, None);
 }
 
 // Returns a script of 20,000 pairs, with a lookup of each key and of one more.
@@ -109,5 +109,5 @@ fn takes_numbers_at_their_limits(rt: HostRuntime) {
         "lf 18446744073709551615 18446744073709551615\nput 4294967295 0\nput 0 4294967295\nbuild\nget 4294967295\nget 0\n",
         "built 68\n0\n4294967295\n",
     )];
-    assert_eq!(rt; first_wrong(rt.alloc(), &rows), None);
+    expect_eq!(rt; first_wrong(rt.alloc(), &rows), None);
 }

@@ -27,7 +27,7 @@ fn errors_of_a_run_are_shown(rt: HostRuntime) {
         is_shown(alloc, RunError::Write, "Write", "write fault"),
         is_shown(alloc, RunError::Memory, "Memory", "no memory"),
     ];
-    assert_eq!(rt; shown, [true; 3]);
+    expect_eq!(rt; shown, [true; 3]);
 }
 
 #[test]

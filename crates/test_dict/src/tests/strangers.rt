@@ -9,7 +9,7 @@ fn takes_an_archive(rt: HostRuntime) {
     let want =
         "ok 1\n01000000020000000000000000000000ff28ff28ffffffffffffffffffffffffffffffffffffffffffffffffffffff00e0ffffff0100000002000000\n2\nnone\nentries 1\n1 2\nmisplaced 0\n";
     let rows = [("", ONE, tail, want), ("", upper, tail, want)];
-    assert_eq!(rt; first_wrong_check(rt.alloc(), &rows), None);
+    expect_eq!(rt; first_wrong_check(rt.alloc(), &rows), None);
 }
 
 // A key that isn't in a bucket of its hash: a walk visits it, and no lookup finds it.
@@ -19,7 +19,7 @@ fn audits_an_archive(rt: HostRuntime) {
         "check 05000000020000000000000000000000ff28ff28ffffffffffffffffffffffffffffffffffffffffffffffffffffff00e0ffffff0100000002000000\nlist\nget 5\nget 1\naudit\n",
         "ok 1\nentries 1\n5 2\nnone\nnone\nmisplaced 1\n",
     )];
-    assert_eq!(rt; first_wrong(rt.alloc(), &rows), None);
+    expect_eq!(rt; first_wrong(rt.alloc(), &rows), None);
 }
 
 #[test]
@@ -58,7 +58,7 @@ fn tells_why_an_archive_is_refused(rt: HostRuntime) {
             "refused 7 InvalidValue\n",
         ),
     ];
-    assert_eq!(rt; first_wrong_check(rt.alloc(), &rows), None);
+    expect_eq!(rt; first_wrong_check(rt.alloc(), &rows), None);
 }
 
 #[test]
@@ -73,7 +73,7 @@ fn a_refused_check_keeps_the_archive(rt: HostRuntime) {
             "refused 1 OutOfRange\nerror 11 NoArchive\n",
         ),
     ];
-    assert_eq!(rt; first_wrong(rt.alloc(), &rows), None);
+    expect_eq!(rt; first_wrong(rt.alloc(), &rows), None);
 }
 
 // The texts of an untrusted archive may have LF or a space, or be empty.
@@ -93,5 +93,5 @@ fn prints_texts_as_they_are(rt: HostRuntime) {
             "ok 1\nentries 1\n a b\nmisplaced 0\n",
         ),
     ];
-    assert_eq!(rt; first_wrong(rt.alloc(), &rows), None);
+    expect_eq!(rt; first_wrong(rt.alloc(), &rows), None);
 }

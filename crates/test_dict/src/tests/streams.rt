@@ -113,7 +113,7 @@ fn told(alloc: Global) -> Result<(String, [u8; 4]), AllocError> {
 #[test]
 fn outcomes_are_told(rt: HostRuntime) -> Result<(), AllocError> {
     let (text, statuses) = told(rt.alloc())?;
-    assert_eq!(rt;
+    expect_eq!(rt;
         (text.as_str(), statuses),
         ("read fault, write fault, no memory", [0, 2, 3, 4])
     );
@@ -126,7 +126,7 @@ fn a_read_that_fails_ends_the_run(rt: HostRuntime) {
     let (rest_in_range, none_then) = read_fails(rt.alloc(), 1, 20);
     let (at_once, none_still) = read_fails(rt.alloc(), 100, SCRIPT.len());
     let written = [nothing.len(), none_then.len(), none_still.len()];
-    assert_eq!(rt;
+    expect_eq!(rt;
         ((at_the_end, rest_in_range, at_once), written),
         ((2, 2, 2), [0, 0, 0])
     );
@@ -142,7 +142,7 @@ fn many_reads_are_made(rt: HostRuntime) -> Result<(), AllocError> {
     };
     let mut out = Vec::new(rt.alloc());
     let status = exit_status(&run(rt.alloc(), &mut reader, &mut out));
-    assert_eq!(rt; (status, out.as_slice()), (0, ANSWERS.as_bytes()));
+    expect_eq!(rt; (status, out.as_slice()), (0, ANSWERS.as_bytes()));
     Ok(())
 }
 
@@ -150,7 +150,7 @@ fn many_reads_are_made(rt: HostRuntime) -> Result<(), AllocError> {
 fn a_write_that_fails_leaves_a_beginning(rt: HostRuntime) {
     let wrong = (0..ANSWERS.len()).find(|left| !leaves_a_beginning(rt.alloc(), 7, *left));
     let (whole, all) = write_fails(rt.alloc(), 1, ANSWERS.len());
-    assert_eq!(rt;
+    expect_eq!(rt;
         (wrong, whole, all.as_slice()),
         (None, 0, ANSWERS.as_bytes())
     );
@@ -159,7 +159,7 @@ fn a_write_that_fails_leaves_a_beginning(rt: HostRuntime) {
 #[test]
 fn a_write_that_takes_nothing_fails(rt: HostRuntime) {
     let (status, taken) = write_fails(rt.alloc(), 0, 9);
-    assert_eq!(rt; (status, taken.as_slice()), (3, b"".as_slice()));
+    expect_eq!(rt; (status, taken.as_slice()), (3, b"".as_slice()));
 }
 
 #[test]

@@ -25,7 +25,7 @@ fn archives_texts(rt: HostRuntime) {
             "built 12\n010000000000000000000000\nnone\nentries 0\n",
         ),
     ];
-    assert_eq!(rt; first_wrong(rt.alloc(), &rows), None);
+    expect_eq!(rt; first_wrong(rt.alloc(), &rows), None);
 }
 
 #[test]
@@ -34,7 +34,7 @@ fn kind_empties_the_list(rt: HostRuntime) {
         "put 1 2\nkind text\nput 1 2\nbuild\nlist\nkind num\nlist\nbuild\n",
         "built 76\nentries 1\n1 2\nerror 11 NoArchive\nbuilt 12\n",
     )];
-    assert_eq!(rt; first_wrong(rt.alloc(), &rows), None);
+    expect_eq!(rt; first_wrong(rt.alloc(), &rows), None);
 }
 
 #[test]
@@ -43,7 +43,7 @@ fn words_may_hold_what_is_no_space(rt: HostRuntime) {
         "kind text\nput \t\r x\r\nput \0 \u{a0}\nput 01 -1\nbuild\nget \t\r\nget \0\nget 01\nget 1\n",
         "built 108\nx\r\n\u{a0}\n-1\nnone\n",
     )];
-    assert_eq!(rt; first_wrong(rt.alloc(), &rows), None);
+    expect_eq!(rt; first_wrong(rt.alloc(), &rows), None);
 }
 
 #[test]
@@ -52,5 +52,5 @@ fn texts_have_a_byte_at_least(rt: HostRuntime) {
         "kind text\nput  b\nput a \nput a\nput a b c\nget \nget\nget a b\nput a  b\nbuild\n",
         "error 10 BadLine\nerror 10 BadLine\nerror 10 BadLine\nerror 10 BadLine\nerror 10 BadLine\nerror 10 BadLine\nerror 10 BadLine\nerror 10 BadLine\nbuilt 12\n",
     )];
-    assert_eq!(rt; first_wrong(rt.alloc(), &rows), None);
+    expect_eq!(rt; first_wrong(rt.alloc(), &rows), None);
 }

@@ -25,7 +25,7 @@ fn archives_in_64_bits(rt: HostRuntime) {
             "error 3 CapacityTooLarge\n",
         ),
     ];
-    assert_eq!(rt; first_wrong(rt.alloc(), &rows), None);
+    expect_eq!(rt; first_wrong(rt.alloc(), &rows), None);
 }
 
 #[test]
@@ -40,7 +40,7 @@ fn width_empties_list_and_archive_and_keeps_the_rest(rt: HostRuntime) {
             "error 1 InvalidLoadFactor\nbuilt 12\n",
         ),
     ];
-    assert_eq!(rt; first_wrong(rt.alloc(), &rows), None);
+    expect_eq!(rt; first_wrong(rt.alloc(), &rows), None);
 }
 
 #[test]
@@ -56,5 +56,5 @@ fn checks_in_64_bits(rt: HostRuntime) {
         ),
         ("width 64\n", wide, "get 1\n", "ok 1\n2\n"),
     ];
-    assert_eq!(rt; first_wrong_check(rt.alloc(), &rows), None);
+    expect_eq!(rt; first_wrong_check(rt.alloc(), &rows), None);
 }

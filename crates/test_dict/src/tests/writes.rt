@@ -93,7 +93,7 @@ fn a_failed_write_is_returned(rt: HostRuntime) {
         (1..writes(64).saturating_add(1)).find(|n| !is_returned(alloc, 64, *n)),
         (1..2).find(|n| !is_returned(alloc, 1000, *n)),
     ];
-    assert_eq!(rt; wrong, [None; 4]);
+    expect_eq!(rt; wrong, [None; 4]);
 }
 
 #[test]
@@ -101,7 +101,7 @@ fn an_interrupted_write_is_returned(rt: HostRuntime) {
     let mut writer = FailsOnce::new(rt.alloc(), 7, 3);
     writer.kind = io::ErrorKind::Interrupted;
     let outcome = outcome(rt.alloc(), SCRIPT, &mut writer);
-    assert_eq!(rt;
+    expect_eq!(rt;
         (outcome, writer.writes, writer.taken.as_slice()),
         (Ending::Write, 3, b"built 60\n01000".as_slice())
     );
@@ -111,7 +111,7 @@ fn an_interrupted_write_is_returned(rt: HostRuntime) {
 fn a_write_that_does_not_come_fails_no_run(rt: HostRuntime) {
     let mut writer = FailsOnce::new(rt.alloc(), 64, writes(64).saturating_add(1));
     let outcome = outcome(rt.alloc(), SCRIPT, &mut writer);
-    assert_eq!(rt;
+    expect_eq!(rt;
         (outcome, writer.writes, writer.taken.as_slice()),
         (Ending::Done, writes(64), ANSWERS.as_bytes())
     );
@@ -146,7 +146,7 @@ fn no_line_is_answered_after_a_failed_write(rt: HostRuntime) -> Result<(), Alloc
         long_outcome(rt.alloc(), 3)?,
         long_outcome(rt.alloc(), 4)?,
     ];
-    assert_eq!(rt;
+    expect_eq!(rt;
         outcomes,
         [
             (Ending::Write, 1, 0),

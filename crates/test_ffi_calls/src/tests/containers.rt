@@ -133,98 +133,98 @@ fn width_of(bytes: &[u8], before: bool) -> (u32, bool) {
 
 #[test]
 fn containers_open_as_their_own_form(rt: HostRuntime) {
-    assert_eq!(rt; opened(&TEXTS, map(4, 0x18, 4)), (0, 3));
-    assert_eq!(rt; opened(&TEXTS, map(0x14, 0x18, 4)), (43, 0));
-    assert_eq!(rt; opened(&TEXTS, map(4, 0x14, 4)), (44, 0));
-    assert_eq!(rt; opened(&TEXTS, map(4, 0x18, 8)), (45, 0));
-    assert_eq!(rt; opened(&TEXTS, map(0x14, 0x14, 8)), (43, 0));
-    assert_eq!(rt; opened(&TEXTS, map(0x18, 0x18, 4)), (43, 0));
+    expect_eq!(rt; opened(&TEXTS, map(4, 0x18, 4)), (0, 3));
+    expect_eq!(rt; opened(&TEXTS, map(0x14, 0x18, 4)), (43, 0));
+    expect_eq!(rt; opened(&TEXTS, map(4, 0x14, 4)), (44, 0));
+    expect_eq!(rt; opened(&TEXTS, map(4, 0x18, 8)), (45, 0));
+    expect_eq!(rt; opened(&TEXTS, map(0x14, 0x14, 8)), (43, 0));
+    expect_eq!(rt; opened(&TEXTS, map(0x18, 0x18, 4)), (43, 0));
 }
 
 #[test]
 fn containers_of_long_numbers_open_as_their_own_form(rt: HostRuntime) {
     let numbers = container(map(0x18, 0x14, 8));
-    assert_eq!(rt; opened(&numbers, map(0x18, 0x14, 8)), (0, 3));
-    assert_eq!(rt; opened(&numbers, map(0x14, 0x14, 8)), (43, 0));
-    assert_eq!(rt; opened(&numbers, map(0x18, 0x18, 8)), (44, 0));
-    assert_eq!(rt; opened(&numbers, map(0x18, 0x14, 4)), (45, 0));
+    expect_eq!(rt; opened(&numbers, map(0x18, 0x14, 8)), (0, 3));
+    expect_eq!(rt; opened(&numbers, map(0x14, 0x14, 8)), (43, 0));
+    expect_eq!(rt; opened(&numbers, map(0x18, 0x18, 8)), (44, 0));
+    expect_eq!(rt; opened(&numbers, map(0x18, 0x14, 4)), (45, 0));
 }
 
 #[test]
 fn containers_of_index_maps_open_as_their_own_form(rt: HostRuntime) {
     let texts = container(index_map(4, 0x18, 4));
-    assert_eq!(rt; opened(&texts, index_map(4, 0x18, 4)), (0, 3));
-    assert_eq!(rt; opened(&texts, index_map(0x14, 0x18, 4)), (43, 0));
-    assert_eq!(rt; opened(&texts, index_map(4, 0x14, 4)), (44, 0));
-    assert_eq!(rt; opened(&texts, index_map(4, 0x18, 8)), (45, 0));
-    assert_eq!(rt; opened(cut(&texts), index_map(4, 0x18, 4)), (46, 0));
-    assert_eq!(rt; opened(&TEXTS, index_map(4, 0x18, 4)), (42, 0));
-    assert_eq!(rt; opened(&texts, map(4, 0x18, 4)), (42, 0));
+    expect_eq!(rt; opened(&texts, index_map(4, 0x18, 4)), (0, 3));
+    expect_eq!(rt; opened(&texts, index_map(0x14, 0x18, 4)), (43, 0));
+    expect_eq!(rt; opened(&texts, index_map(4, 0x14, 4)), (44, 0));
+    expect_eq!(rt; opened(&texts, index_map(4, 0x18, 8)), (45, 0));
+    expect_eq!(rt; opened(cut(&texts), index_map(4, 0x18, 4)), (46, 0));
+    expect_eq!(rt; opened(&TEXTS, index_map(4, 0x18, 4)), (42, 0));
+    expect_eq!(rt; opened(&texts, map(4, 0x18, 4)), (42, 0));
 }
 
 #[test]
 fn containers_to_texts_open_as_their_own_form(rt: HostRuntime) {
     let texts = container(map(4, 4, 4));
     let wide = container(map(0x14, 4, 8));
-    assert_eq!(rt; opened(&texts, map(4, 4, 4)), (0, 3));
-    assert_eq!(rt; opened(&wide, map(0x14, 4, 8)), (0, 3));
-    assert_eq!(rt; opened(&texts, map(0x14, 4, 4)), (43, 0));
-    assert_eq!(rt; opened(&texts, map(4, 4, 8)), (45, 0));
-    assert_eq!(rt; opened(&wide, map(4, 4, 8)), (43, 0));
-    assert_eq!(rt; opened(&TEXTS, map(4, 4, 4)), (44, 0));
-    assert_eq!(rt; opened(&texts, map(4, 0x18, 4)), (44, 0));
+    expect_eq!(rt; opened(&texts, map(4, 4, 4)), (0, 3));
+    expect_eq!(rt; opened(&wide, map(0x14, 4, 8)), (0, 3));
+    expect_eq!(rt; opened(&texts, map(0x14, 4, 4)), (43, 0));
+    expect_eq!(rt; opened(&texts, map(4, 4, 8)), (45, 0));
+    expect_eq!(rt; opened(&wide, map(4, 4, 8)), (43, 0));
+    expect_eq!(rt; opened(&TEXTS, map(4, 4, 4)), (44, 0));
+    expect_eq!(rt; opened(&texts, map(4, 0x18, 4)), (44, 0));
 }
 
 #[test]
 fn containers_of_sets_open_as_their_own_form(rt: HostRuntime) {
     let numbers = container(set(0x14, 4));
     let texts = container(set(4, 8));
-    assert_eq!(rt; opened(&numbers, set(0x14, 4)), (0, 3));
-    assert_eq!(rt; opened(&texts, set(4, 8)), (0, 3));
-    assert_eq!(rt; opened(&numbers, set(4, 4)), (43, 0));
-    assert_eq!(rt; opened(&texts, set(4, 4)), (45, 0));
-    assert_eq!(rt; opened(&TEXTS, set(4, 4)), (42, 0));
-    assert_eq!(rt; opened(&texts, map(4, 0x18, 4)), (42, 0));
+    expect_eq!(rt; opened(&numbers, set(0x14, 4)), (0, 3));
+    expect_eq!(rt; opened(&texts, set(4, 8)), (0, 3));
+    expect_eq!(rt; opened(&numbers, set(4, 4)), (43, 0));
+    expect_eq!(rt; opened(&texts, set(4, 4)), (45, 0));
+    expect_eq!(rt; opened(&TEXTS, set(4, 4)), (42, 0));
+    expect_eq!(rt; opened(&texts, map(4, 0x18, 4)), (42, 0));
 }
 
 #[test]
 fn errors_have_their_numbers(rt: HostRuntime) {
     let index = container(index_map(4, 0x18, 4));
-    assert_eq!(rt; explained(&index, index_map(4, 0x18, 4)), (0, 0, 0, 0));
-    assert_eq!(rt; explained(&TEXTS, index_map(4, 0x18, 4)), (42, 0, 3, 1));
-    assert_eq!(rt;
+    expect_eq!(rt; explained(&index, index_map(4, 0x18, 4)), (0, 0, 0, 0));
+    expect_eq!(rt; explained(&TEXTS, index_map(4, 0x18, 4)), (42, 0, 3, 1));
+    expect_eq!(rt;
         explained(&index, index_map(0x14, 0x18, 4)),
         (43, 0, 0x14, 4)
     );
-    assert_eq!(rt;
+    expect_eq!(rt;
         explained(cut_header(&index), index_map(4, 0x18, 4)),
         (32, 0, 31, 0)
     );
-    assert_eq!(rt; explained(&TEXTS, set(4, 4)), (42, 0, 2, 1));
+    expect_eq!(rt; explained(&TEXTS, set(4, 4)), (42, 0, 2, 1));
 }
 
 #[test]
 fn errors_of_containers_to_texts_have_their_numbers(rt: HostRuntime) {
     let texts = container(map(4, 4, 4));
-    assert_eq!(rt; explained(&texts, map(4, 4, 4)), (0, 0, 0, 0));
-    assert_eq!(rt; explained(&texts, map(0x14, 4, 4)), (43, 0, 0x14, 4));
-    assert_eq!(rt; explained(&TEXTS, map(4, 4, 4)), (44, 0, 4, 0x18));
-    assert_eq!(rt; explained(&texts, map(4, 4, 8)), (45, 0, 8, 4));
-    assert_eq!(rt; explained(&TEXTS[..31], map(4, 4, 4)), (32, 0, 31, 0));
+    expect_eq!(rt; explained(&texts, map(4, 4, 4)), (0, 0, 0, 0));
+    expect_eq!(rt; explained(&texts, map(0x14, 4, 4)), (43, 0, 0x14, 4));
+    expect_eq!(rt; explained(&TEXTS, map(4, 4, 4)), (44, 0, 4, 0x18));
+    expect_eq!(rt; explained(&texts, map(4, 4, 8)), (45, 0, 8, 4));
+    expect_eq!(rt; explained(&TEXTS[..31], map(4, 4, 4)), (32, 0, 31, 0));
 }
 
 #[test]
 fn headers_are_those_of_the_format(rt: HostRuntime) {
-    assert_eq!(rt; writes(map(4, 0x18, 4), true, &TEXTS[..32]), (0, true));
+    expect_eq!(rt; writes(map(4, 0x18, 4), true, &TEXTS[..32]), (0, true));
     let index = container(index_map(4, 0x18, 4));
-    assert_eq!(rt;
+    expect_eq!(rt;
         writes(index_map(4, 0x18, 4), true, header_in(&index)),
         (0, true)
     );
     let texts = container(map(4, 4, 4));
-    assert_eq!(rt; writes(map(4, 4, 4), true, header_in(&texts)), (0, true));
+    expect_eq!(rt; writes(map(4, 4, 4), true, header_in(&texts)), (0, true));
     let set_of_texts = container(set(4, 8));
-    assert_eq!(rt;
+    expect_eq!(rt;
         writes(set(4, 8), true, header_in(&set_of_texts)),
         (0, true)
     );
@@ -232,24 +232,24 @@ fn headers_are_those_of_the_format(rt: HostRuntime) {
 
 #[test]
 fn headers_without_a_checksum_are_those_of_the_format(rt: HostRuntime) {
-    assert_eq!(rt;
+    expect_eq!(rt;
         writes_codes(map(0x14, 0x14, 8), &[1, 0x14, 0x14, 8, 0, 0]),
         (0, true)
     );
-    assert_eq!(rt;
+    expect_eq!(rt;
         writes_codes(index_map(0x14, 0x14, 8), &[3, 0x14, 0x14, 8, 0, 0]),
         (0, true)
     );
-    assert_eq!(rt;
+    expect_eq!(rt;
         writes_codes(map(0x14, 4, 8), &[1, 0x14, 4, 8, 0, 0]),
         (0, true)
     );
     let mut header = [9; 32];
-    assert_eq!(rt;
+    expect_eq!(rt;
         write_header(&[1, 2, 3], map(0x14, 0x14, 8), false, &mut header),
         0
     );
-    assert_eq!(rt;
+    expect_eq!(rt;
         &header[16..],
         [3, 0, 0, 0, 0, 0, 0, 0, 0, 0, 0, 0, 0, 0, 0, 0].as_slice()
     );
@@ -257,7 +257,7 @@ fn headers_without_a_checksum_are_those_of_the_format(rt: HostRuntime) {
 
 #[test]
 fn codes_of_no_contents_have_a_status(rt: HostRuntime) {
-    assert_eq!(rt;
+    expect_eq!(rt;
         opened(
             &TEXTS,
             Codes {
@@ -267,7 +267,7 @@ fn codes_of_no_contents_have_a_status(rt: HostRuntime) {
         ),
         (7, 0)
     );
-    assert_eq!(rt;
+    expect_eq!(rt;
         opened(
             &TEXTS,
             Codes {
@@ -277,45 +277,45 @@ fn codes_of_no_contents_have_a_status(rt: HostRuntime) {
         ),
         (7, 0)
     );
-    assert_eq!(rt; opened(&TEXTS, map(6, 0x18, 4)), (7, 0));
-    assert_eq!(rt; opened(&TEXTS, map(4, 0, 4)), (7, 0));
-    assert_eq!(rt; opened(&TEXTS, map(4, 0x18, 32)), (7, 0));
-    assert_eq!(rt; explained(&TEXTS, map(4, 0x18, 0)), (7, 0, 0, 0));
-    assert_eq!(rt; writes(map(4, 0x18, 64), true, &[9; 32]), (7, true));
+    expect_eq!(rt; opened(&TEXTS, map(6, 0x18, 4)), (7, 0));
+    expect_eq!(rt; opened(&TEXTS, map(4, 0, 4)), (7, 0));
+    expect_eq!(rt; opened(&TEXTS, map(4, 0x18, 32)), (7, 0));
+    expect_eq!(rt; explained(&TEXTS, map(4, 0x18, 0)), (7, 0, 0, 0));
+    expect_eq!(rt; writes(map(4, 0x18, 64), true, &[9; 32]), (7, true));
 }
 
 #[test]
 fn wrong_headers_have_statuses(rt: HostRuntime) {
-    assert_eq!(rt; opened(&TEXTS[..31], map(4, 0x18, 4)), (32, 0));
-    assert_eq!(rt; status_with(0, 0), 33);
-    assert_eq!(rt; status_with(8, 2), 34);
-    assert_eq!(rt; status_with(10, 5), 35);
-    assert_eq!(rt; status_with(11, 6), 36);
-    assert_eq!(rt; status_with(12, 0), 37);
-    assert_eq!(rt; status_with(13, 5), 38);
-    assert_eq!(rt; status_with(14, 2), 39);
-    assert_eq!(rt; status_with(14, 0), 40);
-    assert_eq!(rt; status_with(28, 1), 41);
+    expect_eq!(rt; opened(&TEXTS[..31], map(4, 0x18, 4)), (32, 0));
+    expect_eq!(rt; status_with(0, 0), 33);
+    expect_eq!(rt; status_with(8, 2), 34);
+    expect_eq!(rt; status_with(10, 5), 35);
+    expect_eq!(rt; status_with(11, 6), 36);
+    expect_eq!(rt; status_with(12, 0), 37);
+    expect_eq!(rt; status_with(13, 5), 38);
+    expect_eq!(rt; status_with(14, 2), 39);
+    expect_eq!(rt; status_with(14, 0), 40);
+    expect_eq!(rt; status_with(28, 1), 41);
 }
 
 #[test]
 fn wrong_contents_have_statuses(rt: HostRuntime) {
-    assert_eq!(rt; status_with(10, 2), 42);
-    assert_eq!(rt; status_with(11, 0x14), 43);
-    assert_eq!(rt; status_with(12, 0x14), 44);
-    assert_eq!(rt; status_with(13, 8), 45);
-    assert_eq!(rt; status_with(16, 2), 46);
-    assert_eq!(rt; status_with(34, 2), 47);
+    expect_eq!(rt; status_with(10, 2), 42);
+    expect_eq!(rt; status_with(11, 0x14), 43);
+    expect_eq!(rt; status_with(12, 0x14), 44);
+    expect_eq!(rt; status_with(13, 8), 45);
+    expect_eq!(rt; status_with(16, 2), 46);
+    expect_eq!(rt; status_with(34, 2), 47);
 }
 
 #[test]
 fn widths_are_read(rt: HostRuntime) {
-    assert_eq!(rt; width_of(&TEXTS, true), (0, false));
+    expect_eq!(rt; width_of(&TEXTS, true), (0, false));
     let mut wide = TEXTS;
     wide[13] = 8;
-    assert_eq!(rt; width_of(&wide, false), (0, true));
-    assert_eq!(rt; width_of(&TEXTS[..31], true), (32, true));
-    assert_eq!(rt;
+    expect_eq!(rt; width_of(&wide, false), (0, true));
+    expect_eq!(rt; width_of(&TEXTS[..31], true), (32, true));
+    expect_eq!(rt;
         width_of(&container(index_map(4, 0x18, 4)), true),
         (0, false)
     );
@@ -323,12 +323,12 @@ fn widths_are_read(rt: HostRuntime) {
 
 #[test]
 fn updates_correct_the_checksum(rt: HostRuntime) {
-    assert_eq!(rt; updated_with(34, 4), (0, 8));
-    assert_eq!(rt; updated_with(24, 0), (0, 7));
-    assert_eq!(rt; updated_with(16, 2), (46, 7));
-    assert_eq!(rt; updated_with(0, 0), (33, 7));
+    expect_eq!(rt; updated_with(34, 4), (0, 8));
+    expect_eq!(rt; updated_with(24, 0), (0, 7));
+    expect_eq!(rt; updated_with(16, 2), (46, 7));
+    expect_eq!(rt; updated_with(0, 0), (33, 7));
     let mut index = container(index_map(4, 0x18, 4));
     index[34] = 4;
-    assert_eq!(rt; update_container(&mut index), 0);
-    assert_eq!(rt; (index[10], index[24]), (3, 8));
+    expect_eq!(rt; update_container(&mut index), 0);
+    expect_eq!(rt; (index[10], index[24]), (3, 8));
 }

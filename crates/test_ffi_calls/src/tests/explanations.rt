@@ -72,11 +72,11 @@ fn container_with(pos: usize, byte: u8) -> Numbers {
 
 #[test]
 fn valid_archives_have_no_error(rt: HostRuntime) {
-    assert_eq!(rt; of_numbers(&no_items(), SHORT), (0, 0, 0, 0));
-    assert_eq!(rt; of_numbers(&one_number(), SHORT), (0, 0, 0, 0));
-    assert_eq!(rt; of_numbers(&one_long_number(), LONG), (0, 0, 0, 0));
-    assert_eq!(rt; of_numbers(&one_wide_number(), WIDE), (0, 0, 0, 0));
-    assert_eq!(rt;
+    expect_eq!(rt; of_numbers(&no_items(), SHORT), (0, 0, 0, 0));
+    expect_eq!(rt; of_numbers(&one_number(), SHORT), (0, 0, 0, 0));
+    expect_eq!(rt; of_numbers(&one_long_number(), LONG), (0, 0, 0, 0));
+    expect_eq!(rt; of_numbers(&one_wide_number(), WIDE), (0, 0, 0, 0));
+    expect_eq!(rt;
         of_numbers(&one_wide_long_number(), WIDE_LONG),
         (0, 0, 0, 0)
     );
@@ -84,13 +84,13 @@ fn valid_archives_have_no_error(rt: HostRuntime) {
 
 #[test]
 fn valid_archives_of_long_numbers_have_no_error(rt: HostRuntime) {
-    assert_eq!(rt; of_long_numbers(&one_long_number(), SHORT), (0, 0, 0, 0));
-    assert_eq!(rt; of_long_numbers(&one_great_number(), LONG), (0, 0, 0, 0));
-    assert_eq!(rt;
+    expect_eq!(rt; of_long_numbers(&one_long_number(), SHORT), (0, 0, 0, 0));
+    expect_eq!(rt; of_long_numbers(&one_great_number(), LONG), (0, 0, 0, 0));
+    expect_eq!(rt;
         of_long_numbers(&one_wide_long_number(), WIDE),
         (0, 0, 0, 0)
     );
-    assert_eq!(rt;
+    expect_eq!(rt;
         of_long_numbers(&one_wide_great_number(), WIDE_LONG),
         (0, 0, 0, 0)
     );
@@ -98,71 +98,71 @@ fn valid_archives_of_long_numbers_have_no_error(rt: HostRuntime) {
 
 #[test]
 fn valid_archives_of_texts_have_no_error(rt: HostRuntime) {
-    assert_eq!(rt; of_texts(&empty_text(), SHORT), (0, 0, 0, 0));
-    assert_eq!(rt; of_texts(&one_symbol(), LONG), (0, 0, 0, 0));
-    assert_eq!(rt; of_texts(&empty_wide_text(), WIDE), (0, 0, 0, 0));
-    assert_eq!(rt; of_texts(&empty_wide_text(), WIDE_LONG), (0, 0, 0, 0));
+    expect_eq!(rt; of_texts(&empty_text(), SHORT), (0, 0, 0, 0));
+    expect_eq!(rt; of_texts(&one_symbol(), LONG), (0, 0, 0, 0));
+    expect_eq!(rt; of_texts(&empty_wide_text(), WIDE), (0, 0, 0, 0));
+    expect_eq!(rt; of_texts(&empty_wide_text(), WIDE_LONG), (0, 0, 0, 0));
 }
 
 #[test]
 fn roots_out_of_range_have_a_position_and_a_size(rt: HostRuntime) {
-    assert_eq!(rt; of_numbers(&[], SHORT), (16, -12, 12, 0));
-    assert_eq!(rt; of_numbers(&[0; 11], LONG), (16, -1, 12, 0));
-    assert_eq!(rt; of_texts(&[0; 23], WIDE_LONG), (16, -1, 24, 0));
-    assert_eq!(rt; of_long_numbers(&[0; 23], WIDE), (16, -1, 24, 0));
+    expect_eq!(rt; of_numbers(&[], SHORT), (16, -12, 12, 0));
+    expect_eq!(rt; of_numbers(&[0; 11], LONG), (16, -1, 12, 0));
+    expect_eq!(rt; of_texts(&[0; 23], WIDE_LONG), (16, -1, 24, 0));
+    expect_eq!(rt; of_long_numbers(&[0; 23], WIDE), (16, -1, 24, 0));
 }
 
 // The buckets have 16 bytes, and the control bytes 31.
 #[test]
 fn parts_out_of_range_have_a_position_and_a_size(rt: HostRuntime) {
-    assert_eq!(rt; of_numbers(&one_number()[4..], SHORT), (16, -4, 47, 0));
+    expect_eq!(rt; of_numbers(&one_number()[4..], SHORT), (16, -4, 47, 0));
 }
 
 #[test]
 fn unaligned_parts_have_a_position_and_an_alignment(rt: HostRuntime) {
-    assert_eq!(rt; of_numbers(&[0; 13], SHORT), (17, 1, 4, 0));
-    assert_eq!(rt; number_with(48, 0xe1), (17, 1, 4, 0));
+    expect_eq!(rt; of_numbers(&[0; 13], SHORT), (17, 1, 4, 0));
+    expect_eq!(rt; number_with(48, 0xe1), (17, 1, 4, 0));
 }
 
 #[test]
 fn other_errors_have_their_numbers(rt: HostRuntime) {
-    assert_eq!(rt; number_with(52, 2), (18, 0, 2, 2));
-    assert_eq!(rt; number_with(17, 0xff), (19, 0, 1, 0));
-    assert_eq!(rt; number_with(16, 0x28), (19, 0, 1, 2));
-    assert_eq!(rt; number_with(19, 0x29), (20, 0, 3, 0));
-    assert_eq!(rt; number_with(46, 0), (20, 0, 30, 0));
-    assert_eq!(rt; symbol_with(35, 0x38), (20, 0, 3, 0));
-    assert_eq!(rt; symbol_with(16, 0xc3), (22, 16, 0, 0));
+    expect_eq!(rt; number_with(52, 2), (18, 0, 2, 2));
+    expect_eq!(rt; number_with(17, 0xff), (19, 0, 1, 0));
+    expect_eq!(rt; number_with(16, 0x28), (19, 0, 1, 2));
+    expect_eq!(rt; number_with(19, 0x29), (20, 0, 3, 0));
+    expect_eq!(rt; number_with(46, 0), (20, 0, 30, 0));
+    expect_eq!(rt; symbol_with(35, 0x38), (20, 0, 3, 0));
+    expect_eq!(rt; symbol_with(16, 0xc3), (22, 16, 0, 0));
 }
 
 // The sums of Adler-32 of 1, 2 and 4 are 8 and 14.
 #[test]
 fn containers_have_their_numbers(rt: HostRuntime) {
-    assert_eq!(rt; container_with(0, 0x89), (0, 0, 0, 0));
-    assert_eq!(rt;
+    expect_eq!(rt; container_with(0, 0x89), (0, 0, 0, 0));
+    expect_eq!(rt;
         numbers_of(explain_container(&TEXTS[..31], map(4, 0x18, 4))),
         (32, 0, 31, 0)
     );
-    assert_eq!(rt; container_with(1, b'r'), (33, 0, 0, 0));
-    assert_eq!(rt; container_with(8, 2), (34, 0, 2, 0));
-    assert_eq!(rt; container_with(10, 9), (35, 0, 9, 0));
-    assert_eq!(rt; container_with(14, 3), (39, 0, 3, 0));
-    assert_eq!(rt; container_with(10, 2), (42, 0, 1, 2));
-    assert_eq!(rt;
+    expect_eq!(rt; container_with(1, b'r'), (33, 0, 0, 0));
+    expect_eq!(rt; container_with(8, 2), (34, 0, 2, 0));
+    expect_eq!(rt; container_with(10, 9), (35, 0, 9, 0));
+    expect_eq!(rt; container_with(14, 3), (39, 0, 3, 0));
+    expect_eq!(rt; container_with(10, 2), (42, 0, 1, 2));
+    expect_eq!(rt;
         numbers_of(explain_container(&TEXTS, map(0x14, 0x18, 4))),
         (43, 0, 0x14, 4)
     );
-    assert_eq!(rt;
+    expect_eq!(rt;
         numbers_of(explain_container(&TEXTS, map(4, 0x14, 4))),
         (44, 0, 0x14, 0x18)
     );
-    assert_eq!(rt;
+    expect_eq!(rt;
         numbers_of(explain_container(&TEXTS, map(4, 0x18, 8))),
         (45, 0, 8, 4)
     );
-    assert_eq!(rt;
+    expect_eq!(rt;
         numbers_of(explain_container(&TEXTS[..34], map(4, 0x18, 4))),
         (46, 0, 3, 2)
     );
-    assert_eq!(rt; container_with(34, 4), (47, 0, 13 << 16 | 7, 14 << 16 | 8));
+    expect_eq!(rt; container_with(34, 4), (47, 0, 13 << 16 | 7, 14 << 16 | 8));
 }

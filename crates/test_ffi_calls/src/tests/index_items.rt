@@ -83,10 +83,10 @@ fn pairs_have_their_bytes_or_no_memory(rt: HostRuntime) {
 
 #[test]
 fn one_number_succeeds(rt: HostRuntime) {
-    assert_eq!(rt; one(rt.alloc(), SHORT, &one_number()), (0, true));
-    assert_eq!(rt; one(rt.alloc(), LONG, &one_long_number()), (0, true));
-    assert_eq!(rt; one(rt.alloc(), WIDE, &one_wide_number()), (0, true));
-    assert_eq!(rt;
+    expect_eq!(rt; one(rt.alloc(), SHORT, &one_number()), (0, true));
+    expect_eq!(rt; one(rt.alloc(), LONG, &one_long_number()), (0, true));
+    expect_eq!(rt; one(rt.alloc(), WIDE, &one_wide_number()), (0, true));
+    expect_eq!(rt;
         one(rt.alloc(), WIDE_LONG, &one_wide_long_number()),
         (0, true)
     );
@@ -96,11 +96,11 @@ fn one_number_succeeds(rt: HostRuntime) {
 fn one_long_number_succeeds(rt: HostRuntime) {
     let alloc = rt.alloc();
     let done = (0, true);
-    assert_eq!(rt; long(alloc, SHORT, 1, 2, &one_long_number()), done);
-    assert_eq!(rt; long(alloc, LONG, 1, 2, &one_long_number()), done);
-    assert_eq!(rt; long(alloc, WIDE, 1, 2, &one_wide_long_number()), done);
-    assert_eq!(rt; long(alloc, WIDE_LONG, 1, 2, &one_wide_long_number()), done);
-    assert_eq!(rt;
+    expect_eq!(rt; long(alloc, SHORT, 1, 2, &one_long_number()), done);
+    expect_eq!(rt; long(alloc, LONG, 1, 2, &one_long_number()), done);
+    expect_eq!(rt; long(alloc, WIDE, 1, 2, &one_wide_long_number()), done);
+    expect_eq!(rt; long(alloc, WIDE_LONG, 1, 2, &one_wide_long_number()), done);
+    expect_eq!(rt;
         long(alloc, WIDE_LONG, GREAT, 2, &one_wide_great_number()),
         done
     );
@@ -116,7 +116,7 @@ fn a_write_of_equal_keys_succeeds(rt: HostRuntime) {
         Pair { value: 6, key: 5 },
         Pair { value: 9, key: 1 },
     ];
-    assert_eq!(rt;
+    expect_eq!(rt;
         numbers(rt.alloc(), &items, SHORT, &one_number_twice()),
         (0, true)
     );
@@ -131,7 +131,7 @@ fn a_write_of_equal_keys_succeeds(rt: HostRuntime) {
         },
         Pair { value: 9, key: 1 },
     ];
-    assert_eq!(rt;
+    expect_eq!(rt;
         numbers(rt.alloc(), &items, LONG, &long_number_twice()),
         (0, true)
     );
@@ -140,10 +140,10 @@ fn a_write_of_equal_keys_succeeds(rt: HostRuntime) {
 #[test]
 fn one_text_succeeds(rt: HostRuntime) {
     let alloc = rt.alloc();
-    assert_eq!(rt; text(alloc, SHORT, b"", 7, &empty_text()), (0, true));
-    assert_eq!(rt; text(alloc, LONG, b"main", 4096, &one_symbol()), (0, true));
-    assert_eq!(rt; text(alloc, WIDE, b"", 7, &empty_wide_text()), (0, true));
-    assert_eq!(rt;
+    expect_eq!(rt; text(alloc, SHORT, b"", 7, &empty_text()), (0, true));
+    expect_eq!(rt; text(alloc, LONG, b"main", 4096, &one_symbol()), (0, true));
+    expect_eq!(rt; text(alloc, WIDE, b"", 7, &empty_wide_text()), (0, true));
+    expect_eq!(rt;
         text(alloc, WIDE_LONG, b"", 7, &empty_wide_text()),
         (0, true)
     );
@@ -162,26 +162,26 @@ fn a_write_of_texts_out_of_line_succeeds(rt: HostRuntime) {
             key: keys[1],
         },
     ];
-    assert_eq!(rt; texts(rt.alloc(), &items, SHORT, &two_texts()), (0, true));
+    expect_eq!(rt; texts(rt.alloc(), &items, SHORT, &two_texts()), (0, true));
 }
 
 #[test]
 fn no_pair_succeeds(rt: HostRuntime) {
-    assert_eq!(rt;
+    expect_eq!(rt;
         numbers::<u32>(rt.alloc(), &[], SHORT, &NO_PAIRS),
         (0, true)
     );
-    assert_eq!(rt;
+    expect_eq!(rt;
         numbers::<u32>(rt.alloc(), &[], WIDE, &NO_WIDE_PAIRS),
         (0, true)
     );
-    assert_eq!(rt; numbers::<u64>(rt.alloc(), &[], LONG, &NO_PAIRS), (0, true));
-    assert_eq!(rt;
+    expect_eq!(rt; numbers::<u64>(rt.alloc(), &[], LONG, &NO_PAIRS), (0, true));
+    expect_eq!(rt;
         numbers::<u64>(rt.alloc(), &[], WIDE, &NO_WIDE_PAIRS),
         (0, true)
     );
-    assert_eq!(rt; texts(rt.alloc(), &[], LONG, &NO_PAIRS), (0, true));
-    assert_eq!(rt;
+    expect_eq!(rt; texts(rt.alloc(), &[], LONG, &NO_PAIRS), (0, true));
+    expect_eq!(rt;
         texts(rt.alloc(), &[], WIDE_LONG, &NO_WIDE_PAIRS),
         (0, true)
     );
@@ -195,10 +195,10 @@ fn the_rejection_of_a_pair_succeeds(rt: HostRuntime) {
         value: large,
         key: 1u32,
     };
-    assert_eq!(rt; numbers(alloc, &[item], SHORT, &[]), (3, true));
-    assert_eq!(rt; numbers(alloc, &[item], WIDE, &[]), (3, true));
-    assert_eq!(rt; long(alloc, SHORT, GREAT, large, &[]), (3, true));
-    assert_eq!(rt; long(alloc, WIDE, 1, u64::MAX, &[]), (3, true));
-    assert_eq!(rt; text(alloc, SHORT, b"main", large, &[]), (3, true));
-    assert_eq!(rt; text(alloc, LONG, &[0x80], large, &[]), (4, true));
+    expect_eq!(rt; numbers(alloc, &[item], SHORT, &[]), (3, true));
+    expect_eq!(rt; numbers(alloc, &[item], WIDE, &[]), (3, true));
+    expect_eq!(rt; long(alloc, SHORT, GREAT, large, &[]), (3, true));
+    expect_eq!(rt; long(alloc, WIDE, 1, u64::MAX, &[]), (3, true));
+    expect_eq!(rt; text(alloc, SHORT, b"main", large, &[]), (3, true));
+    expect_eq!(rt; text(alloc, LONG, &[0x80], large, &[]), (4, true));
 }

@@ -96,10 +96,10 @@ fn several_long(archive: &[u8], form: Form, from: usize) -> Option<(usize, [(u64
 
 #[test]
 fn lookups_find_the_number(rt: HostRuntime) {
-    assert_eq!(rt; lookup(&one_number(), SHORT, 1u32), Some((1, 0, 0, 2)));
-    assert_eq!(rt; lookup(&one_long_number(), LONG, 1u32), Some((1, 0, 0, 2)));
-    assert_eq!(rt; lookup(&one_wide_number(), WIDE, 1u32), Some((1, 0, 0, 2)));
-    assert_eq!(rt;
+    expect_eq!(rt; lookup(&one_number(), SHORT, 1u32), Some((1, 0, 0, 2)));
+    expect_eq!(rt; lookup(&one_long_number(), LONG, 1u32), Some((1, 0, 0, 2)));
+    expect_eq!(rt; lookup(&one_wide_number(), WIDE, 1u32), Some((1, 0, 0, 2)));
+    expect_eq!(rt;
         lookup(&one_wide_long_number(), WIDE_LONG, 1u32),
         Some((1, 0, 0, 2))
     );
@@ -107,13 +107,13 @@ fn lookups_find_the_number(rt: HostRuntime) {
 
 #[test]
 fn lookups_find_no_other_number(rt: HostRuntime) {
-    assert_eq!(rt; lookup(&one_number(), SHORT, 2u32), Some((1, 1, 8, 9)));
-    assert_eq!(rt; lookup(&one_long_number(), LONG, 0u32), Some((1, 1, 8, 9)));
-    assert_eq!(rt;
+    expect_eq!(rt; lookup(&one_number(), SHORT, 2u32), Some((1, 1, 8, 9)));
+    expect_eq!(rt; lookup(&one_long_number(), LONG, 0u32), Some((1, 1, 8, 9)));
+    expect_eq!(rt;
         lookup(&one_wide_number(), WIDE, u32::MAX),
         Some((1, 1, 8, 9))
     );
-    assert_eq!(rt;
+    expect_eq!(rt;
         lookup(&one_wide_long_number(), WIDE_LONG, 2u32),
         Some((1, 1, 8, 9))
     );
@@ -123,54 +123,54 @@ fn lookups_find_no_other_number(rt: HostRuntime) {
 fn lookups_of_long_numbers_compare_all_64_bits(rt: HostRuntime) {
     let found = Some((1, 0, 0, 2));
     let none = Some((1, 1, 8, 9));
-    assert_eq!(rt; lookup(&one_long_number(), SHORT, 1u64), found);
-    assert_eq!(rt; lookup(&one_long_number(), LONG, 1u64), found);
-    assert_eq!(rt; lookup(&one_wide_long_number(), WIDE, 1u64), found);
-    assert_eq!(rt; lookup(&one_wide_long_number(), WIDE_LONG, 1u64), found);
-    assert_eq!(rt; lookup(&one_wide_great_number(), WIDE, GREAT), found);
-    assert_eq!(rt; lookup(&one_long_number(), SHORT, GREAT), none);
-    assert_eq!(rt; lookup(&one_long_number(), LONG, u64::MAX), none);
-    assert_eq!(rt; lookup(&one_wide_great_number(), WIDE, 1u64), none);
-    assert_eq!(rt; lookup(&one_wide_great_number(), WIDE_LONG, 0u64), none);
+    expect_eq!(rt; lookup(&one_long_number(), SHORT, 1u64), found);
+    expect_eq!(rt; lookup(&one_long_number(), LONG, 1u64), found);
+    expect_eq!(rt; lookup(&one_wide_long_number(), WIDE, 1u64), found);
+    expect_eq!(rt; lookup(&one_wide_long_number(), WIDE_LONG, 1u64), found);
+    expect_eq!(rt; lookup(&one_wide_great_number(), WIDE, GREAT), found);
+    expect_eq!(rt; lookup(&one_long_number(), SHORT, GREAT), none);
+    expect_eq!(rt; lookup(&one_long_number(), LONG, u64::MAX), none);
+    expect_eq!(rt; lookup(&one_wide_great_number(), WIDE, 1u64), none);
+    expect_eq!(rt; lookup(&one_wide_great_number(), WIDE_LONG, 0u64), none);
 }
 
 #[test]
 fn lookups_in_an_empty_map_find_nothing(rt: HostRuntime) {
-    assert_eq!(rt; lookup(&NO_PAIRS, SHORT, 1u32), Some((0, 1, 8, 9)));
-    assert_eq!(rt; lookup(&NO_PAIRS, LONG, 1u32), Some((0, 1, 8, 9)));
-    assert_eq!(rt; lookup(&NO_WIDE_PAIRS, WIDE, 1u32), Some((0, 1, 8, 9)));
-    assert_eq!(rt; lookup(&NO_WIDE_PAIRS, WIDE_LONG, 1u32), Some((0, 1, 8, 9)));
+    expect_eq!(rt; lookup(&NO_PAIRS, SHORT, 1u32), Some((0, 1, 8, 9)));
+    expect_eq!(rt; lookup(&NO_PAIRS, LONG, 1u32), Some((0, 1, 8, 9)));
+    expect_eq!(rt; lookup(&NO_WIDE_PAIRS, WIDE, 1u32), Some((0, 1, 8, 9)));
+    expect_eq!(rt; lookup(&NO_WIDE_PAIRS, WIDE_LONG, 1u32), Some((0, 1, 8, 9)));
 }
 
 #[test]
 fn lookups_find_the_first_of_equal_keys(rt: HostRuntime) {
     let bytes = one_number_twice();
-    assert_eq!(rt; lookup(&bytes, SHORT, 1u32), Some((3, 0, 0, 2)));
-    assert_eq!(rt; lookup(&bytes, SHORT, 5u32), Some((3, 0, 1, 6)));
+    expect_eq!(rt; lookup(&bytes, SHORT, 1u32), Some((3, 0, 0, 2)));
+    expect_eq!(rt; lookup(&bytes, SHORT, 5u32), Some((3, 0, 1, 6)));
     let bytes = long_number_twice();
-    assert_eq!(rt; lookup(&bytes, SHORT, 1u64), Some((3, 0, 0, 2)));
-    assert_eq!(rt; lookup(&bytes, LONG, GREAT), Some((3, 0, 1, 6)));
+    expect_eq!(rt; lookup(&bytes, SHORT, 1u64), Some((3, 0, 0, 2)));
+    expect_eq!(rt; lookup(&bytes, LONG, GREAT), Some((3, 0, 1, 6)));
 }
 
 #[test]
 fn pairs_are_in_insertion_order(rt: HostRuntime) {
     let bytes = one_number_twice();
-    assert_eq!(rt; pair_at(&bytes, SHORT, 0), Some((1, (1, 2))));
-    assert_eq!(rt; pair_at(&bytes, SHORT, 1), Some((1, (5, 6))));
-    assert_eq!(rt; pair_at(&bytes, SHORT, 2), Some((1, (1, 9))));
-    assert_eq!(rt; pair_at(&bytes, SHORT, 3), Some((0, (9, 9))));
+    expect_eq!(rt; pair_at(&bytes, SHORT, 0), Some((1, (1, 2))));
+    expect_eq!(rt; pair_at(&bytes, SHORT, 1), Some((1, (5, 6))));
+    expect_eq!(rt; pair_at(&bytes, SHORT, 2), Some((1, (1, 9))));
+    expect_eq!(rt; pair_at(&bytes, SHORT, 3), Some((0, (9, 9))));
 }
 
 #[test]
 fn pairs_are_read_in_each_form(rt: HostRuntime) {
-    assert_eq!(rt; pair_at(&one_long_number(), LONG, 0), Some((1, (1, 2))));
-    assert_eq!(rt; pair_at(&one_wide_number(), WIDE, 0), Some((1, (1, 2))));
-    assert_eq!(rt;
+    expect_eq!(rt; pair_at(&one_long_number(), LONG, 0), Some((1, (1, 2))));
+    expect_eq!(rt; pair_at(&one_wide_number(), WIDE, 0), Some((1, (1, 2))));
+    expect_eq!(rt;
         pair_at(&one_wide_long_number(), WIDE_LONG, 0),
         Some((1, (1, 2)))
     );
-    assert_eq!(rt; pair_at(&NO_PAIRS, SHORT, 0), Some((0, (9, 9))));
-    assert_eq!(rt;
+    expect_eq!(rt; pair_at(&NO_PAIRS, SHORT, 0), Some((0, (9, 9))));
+    expect_eq!(rt;
         pair_at(&one_wide_number(), WIDE, usize::MAX),
         Some((0, (9, 9)))
     );
@@ -179,11 +179,11 @@ fn pairs_are_read_in_each_form(rt: HostRuntime) {
 #[test]
 fn several_pairs_are_stored_at_once(rt: HostRuntime) {
     let bytes = one_number_twice();
-    assert_eq!(rt; several(&bytes, SHORT, 0), Some((2, [(1, 2), (5, 6)])));
-    assert_eq!(rt; several(&bytes, SHORT, 1), Some((2, [(5, 6), (1, 9)])));
-    assert_eq!(rt; several(&bytes, SHORT, 2), Some((1, [(1, 9), (9, 9)])));
-    assert_eq!(rt; several(&bytes, SHORT, 3), Some((0, [(9, 9), (9, 9)])));
-    assert_eq!(rt;
+    expect_eq!(rt; several(&bytes, SHORT, 0), Some((2, [(1, 2), (5, 6)])));
+    expect_eq!(rt; several(&bytes, SHORT, 1), Some((2, [(5, 6), (1, 9)])));
+    expect_eq!(rt; several(&bytes, SHORT, 2), Some((1, [(1, 9), (9, 9)])));
+    expect_eq!(rt; several(&bytes, SHORT, 3), Some((0, [(9, 9), (9, 9)])));
+    expect_eq!(rt;
         several(&bytes, SHORT, usize::MAX),
         Some((0, [(9, 9), (9, 9)]))
     );
@@ -192,36 +192,36 @@ fn several_pairs_are_stored_at_once(rt: HostRuntime) {
 #[test]
 fn several_pairs_are_stored_in_each_form(rt: HostRuntime) {
     let one = Some((1, [(1, 2), (9, 9)]));
-    assert_eq!(rt; several(&one_long_number(), LONG, 0), one);
-    assert_eq!(rt; several(&one_wide_number(), WIDE, 0), one);
-    assert_eq!(rt; several(&one_wide_long_number(), WIDE_LONG, 0), one);
+    expect_eq!(rt; several(&one_long_number(), LONG, 0), one);
+    expect_eq!(rt; several(&one_wide_number(), WIDE, 0), one);
+    expect_eq!(rt; several(&one_wide_long_number(), WIDE_LONG, 0), one);
 }
 
 #[test]
 fn several_pairs_of_long_numbers_are_stored_at_once(rt: HostRuntime) {
     let bytes = long_number_twice();
-    assert_eq!(rt;
+    expect_eq!(rt;
         several_long(&bytes, SHORT, 0),
         Some((2, [(1, 2), (GREAT, 6)]))
     );
-    assert_eq!(rt;
+    expect_eq!(rt;
         several_long(&bytes, LONG, 1),
         Some((2, [(GREAT, 6), (1, 9)]))
     );
-    assert_eq!(rt; several_long(&bytes, LONG, 2), Some((1, [(1, 9), (9, 9)])));
-    assert_eq!(rt;
+    expect_eq!(rt; several_long(&bytes, LONG, 2), Some((1, [(1, 9), (9, 9)])));
+    expect_eq!(rt;
         several_long(&bytes, SHORT, usize::MAX),
         Some((0, [(9, 9), (9, 9)]))
     );
-    assert_eq!(rt;
+    expect_eq!(rt;
         several_long(&one_wide_great_number(), WIDE, 0),
         Some((1, [(GREAT, 2), (9, 9)]))
     );
-    assert_eq!(rt;
+    expect_eq!(rt;
         several_long(&one_wide_long_number(), WIDE_LONG, 0),
         Some((1, [(1, 2), (9, 9)]))
     );
-    assert_eq!(rt;
+    expect_eq!(rt;
         several_long(&NO_WIDE_PAIRS, WIDE, 0),
         Some((0, [(9, 9), (9, 9)]))
     );

@@ -119,16 +119,16 @@ fn several_long(
 
 #[test]
 fn lookups_find_the_text_of_the_first_pair(rt: HostRuntime) {
-    assert_eq!(rt; lookup(&one_to_tea(), false, 1u32, b"tea"), Some((1, 0, 0)));
-    assert_eq!(rt;
+    expect_eq!(rt; lookup(&one_to_tea(), false, 1u32, b"tea"), Some((1, 0, 0)));
+    expect_eq!(rt;
         lookup(&one_to_two_texts(), false, 1u32, b"wonderful"),
         Some((3, 0, 0))
     );
-    assert_eq!(rt;
+    expect_eq!(rt;
         lookup(&one_to_two_texts(), false, 5u32, b"x"),
         Some((3, 0, 1))
     );
-    assert_eq!(rt;
+    expect_eq!(rt;
         lookup(&one_to_wide_text(), true, 1u32, b"wonderful"),
         Some((1, 0, 0))
     );
@@ -136,38 +136,38 @@ fn lookups_find_the_text_of_the_first_pair(rt: HostRuntime) {
 
 #[test]
 fn lookups_find_no_other_number(rt: HostRuntime) {
-    assert_eq!(rt; lookup(&one_to_tea(), false, 2u32, b"?"), Some((1, 1, 8)));
-    assert_eq!(rt;
+    expect_eq!(rt; lookup(&one_to_tea(), false, 2u32, b"?"), Some((1, 1, 8)));
+    expect_eq!(rt;
         lookup(&one_to_two_texts(), false, u32::MAX, b"?"),
         Some((3, 1, 8))
     );
-    assert_eq!(rt;
+    expect_eq!(rt;
         lookup(&one_to_wide_text(), true, 0u32, b"?"),
         Some((1, 1, 8))
     );
-    assert_eq!(rt; lookup(&NO_PAIRS, false, 1u32, b"?"), Some((0, 1, 8)));
-    assert_eq!(rt; lookup(&NO_WIDE_PAIRS, true, 1u32, b"?"), Some((0, 1, 8)));
+    expect_eq!(rt; lookup(&NO_PAIRS, false, 1u32, b"?"), Some((0, 1, 8)));
+    expect_eq!(rt; lookup(&NO_WIDE_PAIRS, true, 1u32, b"?"), Some((0, 1, 8)));
 }
 
 #[test]
 fn lookups_find_the_text_of_a_long_number(rt: HostRuntime) {
-    assert_eq!(rt;
+    expect_eq!(rt;
         lookup(&long_to_tea(), false, 1u64, b"tea"),
         Some((1, 0, 0))
     );
-    assert_eq!(rt;
+    expect_eq!(rt;
         lookup(&long_to_two_texts(), false, 1u64, b"wonderful"),
         Some((3, 0, 0))
     );
-    assert_eq!(rt;
+    expect_eq!(rt;
         lookup(&long_to_two_texts(), false, GREAT, b"x"),
         Some((3, 0, 1))
     );
-    assert_eq!(rt;
+    expect_eq!(rt;
         lookup(&one_to_wide_text(), true, 1u64, b"wonderful"),
         Some((1, 0, 0))
     );
-    assert_eq!(rt;
+    expect_eq!(rt;
         lookup(&great_to_wide_text(), true, GREAT, b"wonderful"),
         Some((1, 0, 0))
     );
@@ -175,13 +175,13 @@ fn lookups_find_the_text_of_a_long_number(rt: HostRuntime) {
 
 #[test]
 fn lookups_of_long_numbers_compare_all_64_bits(rt: HostRuntime) {
-    assert_eq!(rt; lookup(&long_to_tea(), false, GREAT, b"?"), Some((1, 1, 8)));
-    assert_eq!(rt;
+    expect_eq!(rt; lookup(&long_to_tea(), false, GREAT, b"?"), Some((1, 1, 8)));
+    expect_eq!(rt;
         lookup(&great_to_wide_text(), true, 1u64, b"?"),
         Some((1, 1, 8))
     );
-    assert_eq!(rt; lookup(&NO_PAIRS, false, 1u64, b"?"), Some((0, 1, 8)));
-    assert_eq!(rt; lookup(&NO_WIDE_PAIRS, true, GREAT, b"?"), Some((0, 1, 8)));
+    expect_eq!(rt; lookup(&NO_PAIRS, false, 1u64, b"?"), Some((0, 1, 8)));
+    expect_eq!(rt; lookup(&NO_WIDE_PAIRS, true, GREAT, b"?"), Some((0, 1, 8)));
 }
 
 #[test]
@@ -190,27 +190,27 @@ fn pairs_are_in_insertion_order(rt: HostRuntime) {
     let x: (u32, &[u8]) = (5, b"x");
     let tea: (u32, &[u8]) = (1, b"tea");
     let nine: (u32, &[u8]) = (9, b"?");
-    assert_eq!(rt; several(&bytes, false, 0, (1, b"wonderful"), x), Some(2));
-    assert_eq!(rt; several(&bytes, false, 1, x, tea), Some(2));
-    assert_eq!(rt; several(&bytes, false, 2, tea, nine), Some(1));
-    assert_eq!(rt; several(&bytes, false, 3, nine, nine), Some(0));
-    assert_eq!(rt; several(&bytes, false, usize::MAX, nine, nine), Some(0));
+    expect_eq!(rt; several(&bytes, false, 0, (1, b"wonderful"), x), Some(2));
+    expect_eq!(rt; several(&bytes, false, 1, x, tea), Some(2));
+    expect_eq!(rt; several(&bytes, false, 2, tea, nine), Some(1));
+    expect_eq!(rt; several(&bytes, false, 3, nine, nine), Some(0));
+    expect_eq!(rt; several(&bytes, false, usize::MAX, nine, nine), Some(0));
 }
 
 #[test]
 fn pairs_are_read_in_each_form(rt: HostRuntime) {
     let nine: (u32, &[u8]) = (9, b"?");
-    assert_eq!(rt;
+    expect_eq!(rt;
         several(&one_to_tea(), false, 0, (1, b"tea"), nine),
         Some(1)
     );
-    assert_eq!(rt;
+    expect_eq!(rt;
         several(&one_to_wide_text(), true, 0, (1, b"wonderful"), nine),
         Some(1)
     );
-    assert_eq!(rt; several(&one_to_wide_text(), true, 1, nine, nine), Some(0));
-    assert_eq!(rt; several(&NO_PAIRS, false, 0, nine, nine), Some(0));
-    assert_eq!(rt; several(&NO_WIDE_PAIRS, true, 0, nine, nine), Some(0));
+    expect_eq!(rt; several(&one_to_wide_text(), true, 1, nine, nine), Some(0));
+    expect_eq!(rt; several(&NO_PAIRS, false, 0, nine, nine), Some(0));
+    expect_eq!(rt; several(&NO_WIDE_PAIRS, true, 0, nine, nine), Some(0));
 }
 
 #[test]
@@ -219,19 +219,19 @@ fn pairs_of_long_numbers_are_in_insertion_order(rt: HostRuntime) {
     let x: (u64, &[u8]) = (GREAT, b"x");
     let tea: (u64, &[u8]) = (1, b"tea");
     let nine: (u64, &[u8]) = (9, b"?");
-    assert_eq!(rt;
+    expect_eq!(rt;
         several_long(&bytes, false, 0, (1, b"wonderful"), x),
         Some(2)
     );
-    assert_eq!(rt; several_long(&bytes, false, 1, x, tea), Some(2));
-    assert_eq!(rt; several_long(&bytes, false, 2, tea, nine), Some(1));
-    assert_eq!(rt; several_long(&bytes, false, 3, nine, nine), Some(0));
-    assert_eq!(rt; several_long(&long_to_tea(), false, 0, tea, nine), Some(1));
-    assert_eq!(rt;
+    expect_eq!(rt; several_long(&bytes, false, 1, x, tea), Some(2));
+    expect_eq!(rt; several_long(&bytes, false, 2, tea, nine), Some(1));
+    expect_eq!(rt; several_long(&bytes, false, 3, nine, nine), Some(0));
+    expect_eq!(rt; several_long(&long_to_tea(), false, 0, tea, nine), Some(1));
+    expect_eq!(rt;
         several_long(&great_to_wide_text(), true, 0, (GREAT, b"wonderful"), nine),
         Some(1)
     );
-    assert_eq!(rt;
+    expect_eq!(rt;
         several_long(&great_to_wide_text(), true, usize::MAX, nine, nine),
         Some(0)
     );

@@ -127,9 +127,9 @@ fn a_write_of_numbers_succeeds(rt: HostRuntime) {
     let alloc = rt.alloc();
     let done = (0, true);
     let values: [&[u8]; 3] = [b"wonderful", b"x", b"tea"];
-    assert_eq!(rt; one(alloc, false, b"tea", &one_to_tea()), done);
-    assert_eq!(rt; one(alloc, true, b"wonderful", &one_to_wide_text()), done);
-    assert_eq!(rt; three(alloc, false, values, &one_to_two_texts()), done);
+    expect_eq!(rt; one(alloc, false, b"tea", &one_to_tea()), done);
+    expect_eq!(rt; one(alloc, true, b"wonderful", &one_to_wide_text()), done);
+    expect_eq!(rt; three(alloc, false, values, &one_to_two_texts()), done);
 }
 
 #[test]
@@ -137,16 +137,16 @@ fn a_write_of_long_numbers_succeeds(rt: HostRuntime) {
     let alloc = rt.alloc();
     let done = (0, true);
     let values: [&[u8]; 3] = [b"wonderful", b"x", b"tea"];
-    assert_eq!(rt; long(alloc, false, 1, b"tea", &long_to_tea()), done);
-    assert_eq!(rt;
+    expect_eq!(rt; long(alloc, false, 1, b"tea", &long_to_tea()), done);
+    expect_eq!(rt;
         long(alloc, true, 1, b"wonderful", &one_to_wide_text()),
         done
     );
-    assert_eq!(rt;
+    expect_eq!(rt;
         long(alloc, true, GREAT, b"wonderful", &great_to_wide_text()),
         done
     );
-    assert_eq!(rt;
+    expect_eq!(rt;
         three_long(alloc, false, values, &long_to_two_texts()),
         done
     );
@@ -157,12 +157,12 @@ fn a_write_of_texts_succeeds(rt: HostRuntime) {
     let alloc = rt.alloc();
     let done = (0, true);
     let wide: &[u8] = b"a text of 17 byte";
-    assert_eq!(rt;
+    expect_eq!(rt;
         text(alloc, false, b"", b"wonderful", &empty_to_text()),
         done
     );
-    assert_eq!(rt; text(alloc, true, b"", wide, &empty_to_wide_text()), done);
-    assert_eq!(rt;
+    expect_eq!(rt; text(alloc, true, b"", wide, &empty_to_wide_text()), done);
+    expect_eq!(rt;
         two(
             alloc,
             [b"a text out of line", b"wonderful"],
@@ -177,26 +177,26 @@ fn a_write_of_texts_succeeds(rt: HostRuntime) {
 fn no_pair_succeeds(rt: HostRuntime) {
     let alloc = rt.alloc();
     let done = (0, true);
-    assert_eq!(rt; numbers::<u32>(alloc, &[], false, &NO_PAIRS), done);
-    assert_eq!(rt; numbers::<u32>(alloc, &[], true, &NO_WIDE_PAIRS), done);
-    assert_eq!(rt; numbers::<u64>(alloc, &[], false, &NO_PAIRS), done);
-    assert_eq!(rt; numbers::<u64>(alloc, &[], true, &NO_WIDE_PAIRS), done);
-    assert_eq!(rt; texts(alloc, &[], false, &NO_PAIRS), done);
-    assert_eq!(rt; texts(alloc, &[], true, &NO_WIDE_PAIRS), done);
+    expect_eq!(rt; numbers::<u32>(alloc, &[], false, &NO_PAIRS), done);
+    expect_eq!(rt; numbers::<u32>(alloc, &[], true, &NO_WIDE_PAIRS), done);
+    expect_eq!(rt; numbers::<u64>(alloc, &[], false, &NO_PAIRS), done);
+    expect_eq!(rt; numbers::<u64>(alloc, &[], true, &NO_WIDE_PAIRS), done);
+    expect_eq!(rt; texts(alloc, &[], false, &NO_PAIRS), done);
+    expect_eq!(rt; texts(alloc, &[], true, &NO_WIDE_PAIRS), done);
 }
 
 #[test]
 fn the_rejection_of_other_bytes_succeeds(rt: HostRuntime) {
     let alloc = rt.alloc();
     let rejected = (4, true);
-    assert_eq!(rt; one(alloc, false, &[0x80], &[]), rejected);
-    assert_eq!(rt; three(alloc, true, [b"x", b"", &[0xc3]], &[]), rejected);
-    assert_eq!(rt; long(alloc, true, GREAT, &[0x80], &[]), rejected);
-    assert_eq!(rt;
+    expect_eq!(rt; one(alloc, false, &[0x80], &[]), rejected);
+    expect_eq!(rt; three(alloc, true, [b"x", b"", &[0xc3]], &[]), rejected);
+    expect_eq!(rt; long(alloc, true, GREAT, &[0x80], &[]), rejected);
+    expect_eq!(rt;
         three_long(alloc, false, [b"x", &[0xc3], b"x"], &[]),
         rejected
     );
-    assert_eq!(rt; text(alloc, false, &[0x80], b"x", &[]), rejected);
-    assert_eq!(rt; text(alloc, true, b"x", &[0x61, 0xff], &[]), rejected);
-    assert_eq!(rt; two(alloc, [b"x", b"x"], [&[0x80], b"x"], &[]), rejected);
+    expect_eq!(rt; text(alloc, false, &[0x80], b"x", &[]), rejected);
+    expect_eq!(rt; text(alloc, true, b"x", &[0x61, 0xff], &[]), rejected);
+    expect_eq!(rt; two(alloc, [b"x", b"x"], [&[0x80], b"x"], &[]), rejected);
 }

@@ -96,100 +96,100 @@ fn wide_with(pos: usize, byte: u8) -> (Numbers, Numbers) {
 
 #[test]
 fn empty_maps_are_valid(rt: HostRuntime) {
-    assert_eq!(rt; opened(&NO_PAIRS, false), [0; 3]);
-    assert_eq!(rt; opened(&NO_WIDE_PAIRS, true), [0; 3]);
+    expect_eq!(rt; opened(&NO_PAIRS, false), [0; 3]);
+    expect_eq!(rt; opened(&NO_WIDE_PAIRS, true), [0; 3]);
 }
 
 #[test]
 fn too_few_bytes_are_out_of_range(rt: HostRuntime) {
-    assert_eq!(rt; opened(&[], false), [16; 3]);
-    assert_eq!(rt; opened(&[0; 15], false), [16; 3]);
-    assert_eq!(rt; opened(&NO_PAIRS, true), [16; 3]);
-    assert_eq!(rt; opened(&[0; 31], true), [16; 3]);
+    expect_eq!(rt; opened(&[], false), [16; 3]);
+    expect_eq!(rt; opened(&[0; 15], false), [16; 3]);
+    expect_eq!(rt; opened(&NO_PAIRS, true), [16; 3]);
+    expect_eq!(rt; opened(&[0; 31], true), [16; 3]);
     let number = explain_index_numbers_to_texts::<u64>(&[0; 31], true);
-    assert_eq!(rt; numbers_of(number), (16, -1, 32, 0));
+    expect_eq!(rt; numbers_of(number), (16, -1, 32, 0));
     let text = explain_index_texts_to_texts(&[0; 15], false);
-    assert_eq!(rt; numbers_of(text), (16, -1, 16, 0));
+    expect_eq!(rt; numbers_of(text), (16, -1, 16, 0));
 }
 
 #[test]
 fn valid_archives_have_no_error(rt: HostRuntime) {
-    assert_eq!(rt; number_with(47, b'W'), (0, (0, 0, 0, 0)));
-    assert_eq!(rt; long_with(47, b'W'), (0, (0, 0, 0, 0)));
-    assert_eq!(rt; text_with(43, b'A'), (0, (0, 0, 0, 0)));
-    assert_eq!(rt; wide_with(0, 0), ((0, 0, 0, 0), (0, 0, 0, 0)));
+    expect_eq!(rt; number_with(47, b'W'), (0, (0, 0, 0, 0)));
+    expect_eq!(rt; long_with(47, b'W'), (0, (0, 0, 0, 0)));
+    expect_eq!(rt; text_with(43, b'A'), (0, (0, 0, 0, 0)));
+    expect_eq!(rt; wide_with(0, 0), ((0, 0, 0, 0), (0, 0, 0, 0)));
     let wide = explain_index_numbers_to_texts::<u32>(&one_to_wide_text(), true);
-    assert_eq!(rt; numbers_of(wide), (0, 0, 0, 0));
+    expect_eq!(rt; numbers_of(wide), (0, 0, 0, 0));
 }
 
 #[test]
 fn tables_have_the_errors_of_tables(rt: HostRuntime) {
-    assert_eq!(rt; number_with(92, 0xb5), (17, (17, 1, 4, 0)));
-    assert_eq!(rt; number_with(96, 4), (18, (18, 0, 4, 4)));
-    assert_eq!(rt; number_with(17, 0xff), (19, (19, 0, 3, 2)));
-    assert_eq!(rt; number_with(21, 0x29), (20, (20, 0, 5, 0)));
-    assert_eq!(rt; long_with(104, 0xa9), (17, (17, 1, 4, 0)));
-    assert_eq!(rt; long_with(108, 4), (18, (18, 0, 4, 4)));
-    assert_eq!(rt; text_with(13, 0xff), (19, (19, 0, 2, 1)));
-    assert_eq!(rt; text_with(16, 0x29), (20, (20, 0, 4, 0)));
+    expect_eq!(rt; number_with(92, 0xb5), (17, (17, 1, 4, 0)));
+    expect_eq!(rt; number_with(96, 4), (18, (18, 0, 4, 4)));
+    expect_eq!(rt; number_with(17, 0xff), (19, (19, 0, 3, 2)));
+    expect_eq!(rt; number_with(21, 0x29), (20, (20, 0, 5, 0)));
+    expect_eq!(rt; long_with(104, 0xa9), (17, (17, 1, 4, 0)));
+    expect_eq!(rt; long_with(108, 4), (18, (18, 0, 4, 4)));
+    expect_eq!(rt; text_with(13, 0xff), (19, (19, 0, 2, 1)));
+    expect_eq!(rt; text_with(16, 0x29), (20, (20, 0, 4, 0)));
 }
 
 #[test]
 fn indices_from_the_length_on_are_out_of_range(rt: HostRuntime) {
-    assert_eq!(rt; number_with(0, 3), (21, (21, 0, 3, 3)));
-    assert_eq!(rt; long_with(3, 1), (21, (21, 0, 0x0100_0002, 3)));
-    assert_eq!(rt; text_with(4, 2), (21, (21, 0, 2, 2)));
-    assert_eq!(rt; wide_with(0, 1), ((21, 0, 1, 1), (21, 0, 1, 1)));
+    expect_eq!(rt; number_with(0, 3), (21, (21, 0, 3, 3)));
+    expect_eq!(rt; long_with(3, 1), (21, (21, 0, 0x0100_0002, 3)));
+    expect_eq!(rt; text_with(4, 2), (21, (21, 0, 2, 2)));
+    expect_eq!(rt; wide_with(0, 1), ((21, 0, 1, 1), (21, 0, 1, 1)));
 }
 
 // The entries of three numbers have 36 or 48 bytes, and those of two texts 32.
 #[test]
 fn entries_have_a_position_and_a_size(rt: HostRuntime) {
-    assert_eq!(rt; number_with(104, 0xc0), (16, (16, 40, 36, 0)));
-    assert_eq!(rt; number_with(104, 0xcf), (17, (17, 55, 4, 0)));
-    assert_eq!(rt; long_with(116, 0xb8), (16, (16, 44, 48, 0)));
-    assert_eq!(rt; text_with(116, 0xb0), (16, (16, 36, 32, 0)));
+    expect_eq!(rt; number_with(104, 0xc0), (16, (16, 40, 36, 0)));
+    expect_eq!(rt; number_with(104, 0xcf), (17, (17, 55, 4, 0)));
+    expect_eq!(rt; long_with(116, 0xb8), (16, (16, 44, 48, 0)));
+    expect_eq!(rt; text_with(116, 0xb0), (16, (16, 36, 32, 0)));
 }
 
 #[test]
 fn values_that_are_no_text_are_invalid(rt: HostRuntime) {
-    assert_eq!(rt; number_with(47, 0xc3), (22, (22, 60, 0, 0)));
-    assert_eq!(rt; number_with(72, 0xc3), (22, (22, 72, 0, 0)));
-    assert_eq!(rt; number_with(60, 0x88), (22, (22, 60, 0, 0)));
-    assert_eq!(rt; number_with(64, 0xf2), (16, (16, 46, 9, 0)));
-    assert_eq!(rt; long_with(47, 0xc3), (22, (22, 64, 0, 0)));
-    assert_eq!(rt; long_with(80, 0xc3), (22, (22, 80, 0, 0)));
-    assert_eq!(rt; text_with(61, 0xc3), (22, (22, 80, 0, 0)));
-    assert_eq!(rt; text_with(96, 0xc3), (22, (22, 96, 0, 0)));
+    expect_eq!(rt; number_with(47, 0xc3), (22, (22, 60, 0, 0)));
+    expect_eq!(rt; number_with(72, 0xc3), (22, (22, 72, 0, 0)));
+    expect_eq!(rt; number_with(60, 0x88), (22, (22, 60, 0, 0)));
+    expect_eq!(rt; number_with(64, 0xf2), (16, (16, 46, 9, 0)));
+    expect_eq!(rt; long_with(47, 0xc3), (22, (22, 64, 0, 0)));
+    expect_eq!(rt; long_with(80, 0xc3), (22, (22, 80, 0, 0)));
+    expect_eq!(rt; text_with(61, 0xc3), (22, (22, 80, 0, 0)));
+    expect_eq!(rt; text_with(96, 0xc3), (22, (22, 96, 0, 0)));
 }
 
 #[test]
 fn keys_that_are_no_text_are_invalid(rt: HostRuntime) {
-    assert_eq!(rt; text_with(43, 0xc3), (22, (22, 72, 0, 0)));
-    assert_eq!(rt; text_with(88, 0xc3), (22, (22, 88, 0, 0)));
+    expect_eq!(rt; text_with(43, 0xc3), (22, (22, 72, 0, 0)));
+    expect_eq!(rt; text_with(88, 0xc3), (22, (22, 88, 0, 0)));
 }
 
 #[test]
 fn wide_archives_have_their_errors(rt: HostRuntime) {
-    assert_eq!(rt; wide_with(17, 0xff), ((19, 0, 1, 0), (19, 0, 1, 0)));
-    assert_eq!(rt; wide_with(56, 0xc3).0, (22, 56, 0, 0));
-    assert_eq!(rt; wide_with(96, 0xcf).0, (17, 47, 8, 0));
-    assert_eq!(rt; wide_with(47, 0xc3).1, (22, 80, 0, 0));
-    assert_eq!(rt; wide_with(104, 2).1, (18, 0, 2, 2));
+    expect_eq!(rt; wide_with(17, 0xff), ((19, 0, 1, 0), (19, 0, 1, 0)));
+    expect_eq!(rt; wide_with(56, 0xc3).0, (22, 56, 0, 0));
+    expect_eq!(rt; wide_with(96, 0xcf).0, (17, 47, 8, 0));
+    expect_eq!(rt; wide_with(47, 0xc3).1, (22, 80, 0, 0));
+    expect_eq!(rt; wide_with(104, 2).1, (18, 0, 2, 2));
 }
 
 #[test]
 fn bytes_of_another_form_are_rejected(rt: HostRuntime) {
-    assert_eq!(rt;
+    expect_eq!(rt;
         open_index_numbers_to_texts::<u32>(&one_to_wide_text(), true),
         0
     );
-    assert_eq!(rt;
+    expect_eq!(rt;
         open_index_numbers_to_texts::<u64>(&one_to_wide_text(), true),
         0
     );
-    assert_eq!(rt; open_index_numbers_to_texts::<u32>(&one_to_tea(), false), 0);
-    assert_eq!(rt;
+    expect_eq!(rt; open_index_numbers_to_texts::<u32>(&one_to_tea(), false), 0);
+    expect_eq!(rt;
         open_index_numbers_to_texts::<u64>(&long_to_tea(), false),
         0
     );

@@ -81,10 +81,10 @@ fn several(archive: &[u8], form: Form, from: usize, key: &[u8], value: u64) -> O
 
 #[test]
 fn lookups_find_the_text(rt: HostRuntime) {
-    assert_eq!(rt; lookup(&empty_text(), SHORT, b""), Some((1, 0, 0, 7)));
-    assert_eq!(rt; lookup(&one_symbol(), LONG, b"main"), Some((1, 0, 0, 4096)));
-    assert_eq!(rt; lookup(&empty_wide_text(), WIDE, b""), Some((1, 0, 0, 7)));
-    assert_eq!(rt;
+    expect_eq!(rt; lookup(&empty_text(), SHORT, b""), Some((1, 0, 0, 7)));
+    expect_eq!(rt; lookup(&one_symbol(), LONG, b"main"), Some((1, 0, 0, 4096)));
+    expect_eq!(rt; lookup(&empty_wide_text(), WIDE, b""), Some((1, 0, 0, 7)));
+    expect_eq!(rt;
         lookup(&empty_wide_text(), WIDE_LONG, b""),
         Some((1, 0, 0, 7))
     );
@@ -93,20 +93,20 @@ fn lookups_find_the_text(rt: HostRuntime) {
 #[test]
 fn lookups_find_texts_out_of_line(rt: HostRuntime) {
     let bytes = two_texts();
-    assert_eq!(rt;
+    expect_eq!(rt;
         lookup(&bytes, SHORT, b"a text out of line"),
         Some((2, 0, 0, 1))
     );
-    assert_eq!(rt; lookup(&bytes, SHORT, b"b"), Some((2, 0, 1, 2)));
-    assert_eq!(rt; lookup(&bytes, SHORT, b"a text"), Some((2, 1, 8, 9)));
+    expect_eq!(rt; lookup(&bytes, SHORT, b"b"), Some((2, 0, 1, 2)));
+    expect_eq!(rt; lookup(&bytes, SHORT, b"a text"), Some((2, 1, 8, 9)));
 }
 
 #[test]
 fn lookups_find_no_other_text(rt: HostRuntime) {
-    assert_eq!(rt; lookup(&empty_text(), SHORT, b"a"), Some((1, 1, 8, 9)));
-    assert_eq!(rt; lookup(&NO_PAIRS, LONG, b""), Some((0, 1, 8, 9)));
-    assert_eq!(rt; lookup(&NO_WIDE_PAIRS, WIDE, b"a"), Some((0, 1, 8, 9)));
-    assert_eq!(rt;
+    expect_eq!(rt; lookup(&empty_text(), SHORT, b"a"), Some((1, 1, 8, 9)));
+    expect_eq!(rt; lookup(&NO_PAIRS, LONG, b""), Some((0, 1, 8, 9)));
+    expect_eq!(rt; lookup(&NO_WIDE_PAIRS, WIDE, b"a"), Some((0, 1, 8, 9)));
+    expect_eq!(rt;
         lookup(&empty_wide_text(), WIDE_LONG, &[0xc3]),
         Some((1, 4, 8, 9))
     );
@@ -115,31 +115,31 @@ fn lookups_find_no_other_text(rt: HostRuntime) {
 #[test]
 fn pairs_are_in_insertion_order(rt: HostRuntime) {
     let bytes = two_texts();
-    assert_eq!(rt;
+    expect_eq!(rt;
         pair_at(&bytes, SHORT, 0, b"a text out of line", 1),
         Some(1)
     );
-    assert_eq!(rt; pair_at(&bytes, SHORT, 1, b"b", 2), Some(1));
-    assert_eq!(rt; pair_at(&bytes, SHORT, 2, b"?", 9), Some(0));
+    expect_eq!(rt; pair_at(&bytes, SHORT, 1, b"b", 2), Some(1));
+    expect_eq!(rt; pair_at(&bytes, SHORT, 2, b"?", 9), Some(0));
 }
 
 #[test]
 fn pairs_are_read_in_each_form(rt: HostRuntime) {
-    assert_eq!(rt; pair_at(&one_symbol(), LONG, 0, b"main", 4096), Some(1));
-    assert_eq!(rt; pair_at(&empty_wide_text(), WIDE, 0, b"", 7), Some(1));
-    assert_eq!(rt; pair_at(&empty_wide_text(), WIDE_LONG, 0, b"", 7), Some(1));
-    assert_eq!(rt; pair_at(&NO_PAIRS, LONG, 0, b"?", 9), Some(0));
+    expect_eq!(rt; pair_at(&one_symbol(), LONG, 0, b"main", 4096), Some(1));
+    expect_eq!(rt; pair_at(&empty_wide_text(), WIDE, 0, b"", 7), Some(1));
+    expect_eq!(rt; pair_at(&empty_wide_text(), WIDE_LONG, 0, b"", 7), Some(1));
+    expect_eq!(rt; pair_at(&NO_PAIRS, LONG, 0, b"?", 9), Some(0));
 }
 
 #[test]
 fn several_pairs_are_stored_at_once(rt: HostRuntime) {
     let bytes = two_texts();
-    assert_eq!(rt;
+    expect_eq!(rt;
         several(&bytes, SHORT, 0, b"a text out of line", 1),
         Some(2)
     );
-    assert_eq!(rt; several(&bytes, SHORT, 1, b"b", 2), Some(1));
-    assert_eq!(rt; several(&one_symbol(), LONG, 1, b"?", 9), Some(0));
-    assert_eq!(rt; several(&empty_wide_text(), WIDE, 0, b"", 7), Some(1));
-    assert_eq!(rt; several(&empty_wide_text(), WIDE_LONG, 0, b"", 7), Some(1));
+    expect_eq!(rt; several(&bytes, SHORT, 1, b"b", 2), Some(1));
+    expect_eq!(rt; several(&one_symbol(), LONG, 1, b"?", 9), Some(0));
+    expect_eq!(rt; several(&empty_wide_text(), WIDE, 0, b"", 7), Some(1));
+    expect_eq!(rt; several(&empty_wide_text(), WIDE_LONG, 0, b"", 7), Some(1));
 }

@@ -91,16 +91,16 @@ fn several(
 
 #[test]
 fn lookups_find_the_text(rt: HostRuntime) {
-    assert_eq!(rt;
+    expect_eq!(rt;
         lookup(&empty_to_text(), false, b"", b"wonderful"),
         Some((1, 0, 0))
     );
-    assert_eq!(rt;
+    expect_eq!(rt;
         lookup(&two_texts(), false, b"a text out of line", b"wonderful"),
         Some((2, 0, 0))
     );
-    assert_eq!(rt; lookup(&two_texts(), false, b"b", b"x"), Some((2, 0, 1)));
-    assert_eq!(rt;
+    expect_eq!(rt; lookup(&two_texts(), false, b"b", b"x"), Some((2, 0, 1)));
+    expect_eq!(rt;
         lookup(&empty_to_wide_text(), true, b"", b"a text of 17 byte"),
         Some((1, 0, 0))
     );
@@ -108,33 +108,33 @@ fn lookups_find_the_text(rt: HostRuntime) {
 
 #[test]
 fn lookups_find_no_other_text(rt: HostRuntime) {
-    assert_eq!(rt;
+    expect_eq!(rt;
         lookup(&empty_to_text(), false, b"a", b"?"),
         Some((1, 1, 8))
     );
-    assert_eq!(rt;
+    expect_eq!(rt;
         lookup(&two_texts(), false, b"a text", b"?"),
         Some((2, 1, 8))
     );
-    assert_eq!(rt;
+    expect_eq!(rt;
         lookup(&empty_to_wide_text(), true, b"wonderful", b"?"),
         Some((1, 1, 8))
     );
-    assert_eq!(rt; lookup(&NO_PAIRS, false, b"", b"?"), Some((0, 1, 8)));
-    assert_eq!(rt; lookup(&NO_WIDE_PAIRS, true, b"", b"?"), Some((0, 1, 8)));
+    expect_eq!(rt; lookup(&NO_PAIRS, false, b"", b"?"), Some((0, 1, 8)));
+    expect_eq!(rt; lookup(&NO_WIDE_PAIRS, true, b"", b"?"), Some((0, 1, 8)));
 }
 
 #[test]
 fn lookups_reject_keys_that_are_no_text(rt: HostRuntime) {
-    assert_eq!(rt;
+    expect_eq!(rt;
         lookup(&empty_to_text(), false, &[0xc3], b"?"),
         Some((1, 4, 8))
     );
-    assert_eq!(rt;
+    expect_eq!(rt;
         lookup(&empty_to_wide_text(), true, &[0x80], b"?"),
         Some((1, 4, 8))
     );
-    assert_eq!(rt;
+    expect_eq!(rt;
         lookup(&NO_PAIRS, false, &[0x61, 0xff], b"?"),
         Some((0, 4, 8))
     );
@@ -143,20 +143,20 @@ fn lookups_reject_keys_that_are_no_text(rt: HostRuntime) {
 #[test]
 fn pairs_are_in_insertion_order(rt: HostRuntime) {
     let bytes = two_texts();
-    assert_eq!(rt;
+    expect_eq!(rt;
         pair_at(&bytes, false, 0, [b"a text out of line", b"wonderful"]),
         Some(1)
     );
-    assert_eq!(rt; pair_at(&bytes, false, 1, [b"b", b"x"]), Some(1));
-    assert_eq!(rt; pair_at(&bytes, false, 2, [b"!", b"?"]), Some(0));
-    assert_eq!(rt; pair_at(&bytes, false, usize::MAX, [b"!", b"?"]), Some(0));
+    expect_eq!(rt; pair_at(&bytes, false, 1, [b"b", b"x"]), Some(1));
+    expect_eq!(rt; pair_at(&bytes, false, 2, [b"!", b"?"]), Some(0));
+    expect_eq!(rt; pair_at(&bytes, false, usize::MAX, [b"!", b"?"]), Some(0));
 }
 
 #[test]
 fn several_pairs_are_stored_at_once(rt: HostRuntime) {
     let other: [&[u8]; 2] = [b"!", b"?"];
     let x: [&[u8]; 2] = [b"b", b"x"];
-    assert_eq!(rt;
+    expect_eq!(rt;
         several(
             &two_texts(),
             false,
@@ -166,12 +166,12 @@ fn several_pairs_are_stored_at_once(rt: HostRuntime) {
         ),
         Some(2)
     );
-    assert_eq!(rt; several(&two_texts(), false, 1, x, other), Some(1));
-    assert_eq!(rt;
+    expect_eq!(rt; several(&two_texts(), false, 1, x, other), Some(1));
+    expect_eq!(rt;
         several(&empty_to_text(), false, 0, [b"", b"wonderful"], other),
         Some(1)
     );
-    assert_eq!(rt;
+    expect_eq!(rt;
         several(
             &empty_to_wide_text(),
             true,
@@ -181,10 +181,10 @@ fn several_pairs_are_stored_at_once(rt: HostRuntime) {
         ),
         Some(1)
     );
-    assert_eq!(rt;
+    expect_eq!(rt;
         several(&empty_to_wide_text(), true, 1, other, other),
         Some(0)
     );
-    assert_eq!(rt; several(&NO_PAIRS, false, 0, other, other), Some(0));
-    assert_eq!(rt; several(&NO_WIDE_PAIRS, true, 0, other, other), Some(0));
+    expect_eq!(rt; several(&NO_PAIRS, false, 0, other, other), Some(0));
+    expect_eq!(rt; several(&NO_WIDE_PAIRS, true, 0, other, other), Some(0));
 }

@@ -44,58 +44,58 @@ fn several(archive: &[u8], form: Form, from: u64) -> Option<(usize, [(u64, u64, 
 #[test]
 fn lookups_find_the_long_number(rt: HostRuntime) {
     let found = Some((1, 0, 2));
-    assert_eq!(rt; lookup(&one_long_number(), SHORT, 1u64), found);
-    assert_eq!(rt; lookup(&one_long_number(), LONG, 1u64), found);
-    assert_eq!(rt; lookup(&one_wide_long_number(), WIDE, 1u64), found);
-    assert_eq!(rt; lookup(&one_wide_long_number(), WIDE_LONG, 1u64), found);
-    assert_eq!(rt; lookup(&one_great_number(), SHORT, GREAT), found);
-    assert_eq!(rt; lookup(&one_wide_great_number(), WIDE_LONG, GREAT), found);
-    assert_eq!(rt; lookup(&two_long_numbers(), LONG, 1u64), Some((2, 0, 2)));
-    assert_eq!(rt; lookup(&two_long_numbers(), SHORT, GREAT), Some((2, 0, 9)));
+    expect_eq!(rt; lookup(&one_long_number(), SHORT, 1u64), found);
+    expect_eq!(rt; lookup(&one_long_number(), LONG, 1u64), found);
+    expect_eq!(rt; lookup(&one_wide_long_number(), WIDE, 1u64), found);
+    expect_eq!(rt; lookup(&one_wide_long_number(), WIDE_LONG, 1u64), found);
+    expect_eq!(rt; lookup(&one_great_number(), SHORT, GREAT), found);
+    expect_eq!(rt; lookup(&one_wide_great_number(), WIDE_LONG, GREAT), found);
+    expect_eq!(rt; lookup(&two_long_numbers(), LONG, 1u64), Some((2, 0, 2)));
+    expect_eq!(rt; lookup(&two_long_numbers(), SHORT, GREAT), Some((2, 0, 9)));
 }
 
 #[test]
 fn lookups_compare_all_64_bits(rt: HostRuntime) {
     let none = Some((1, 1, 9));
-    assert_eq!(rt; lookup(&one_long_number(), SHORT, GREAT), none);
-    assert_eq!(rt; lookup(&one_long_number(), LONG, 0u64), none);
-    assert_eq!(rt; lookup(&one_wide_long_number(), WIDE, u64::MAX), none);
-    assert_eq!(rt; lookup(&one_great_number(), LONG, 1u64), none);
-    assert_eq!(rt; lookup(&one_wide_great_number(), WIDE, 1u64), none);
+    expect_eq!(rt; lookup(&one_long_number(), SHORT, GREAT), none);
+    expect_eq!(rt; lookup(&one_long_number(), LONG, 0u64), none);
+    expect_eq!(rt; lookup(&one_wide_long_number(), WIDE, u64::MAX), none);
+    expect_eq!(rt; lookup(&one_great_number(), LONG, 1u64), none);
+    expect_eq!(rt; lookup(&one_wide_great_number(), WIDE, 1u64), none);
 }
 
 #[test]
 fn walks_of_long_numbers_visit_bucket_1(rt: HostRuntime) {
     let wanted = Some((1, (2, 1, 2)));
-    assert_eq!(rt; step(&one_long_number(), SHORT, 0), wanted);
-    assert_eq!(rt; step(&one_long_number(), LONG, 1), wanted);
-    assert_eq!(rt; step(&one_wide_long_number(), WIDE, 0), wanted);
-    assert_eq!(rt; step(&one_wide_long_number(), WIDE_LONG, 1), wanted);
+    expect_eq!(rt; step(&one_long_number(), SHORT, 0), wanted);
+    expect_eq!(rt; step(&one_long_number(), LONG, 1), wanted);
+    expect_eq!(rt; step(&one_wide_long_number(), WIDE, 0), wanted);
+    expect_eq!(rt; step(&one_wide_long_number(), WIDE_LONG, 1), wanted);
     let great = Some((1, (2, GREAT, 2)));
-    assert_eq!(rt; step(&one_great_number(), LONG, 0), great);
-    assert_eq!(rt; step(&one_wide_great_number(), WIDE, 0), great);
+    expect_eq!(rt; step(&one_great_number(), LONG, 0), great);
+    expect_eq!(rt; step(&one_wide_great_number(), WIDE, 0), great);
 }
 
 #[test]
 fn walks_of_long_numbers_end(rt: HostRuntime) {
     let ended = Some((0, (9, 9, 9)));
-    assert_eq!(rt; step(&one_long_number(), SHORT, 2), ended);
-    assert_eq!(rt; step(&one_great_number(), LONG, 2), ended);
-    assert_eq!(rt; step(&one_wide_long_number(), WIDE, 2), ended);
-    assert_eq!(rt; step(&one_wide_great_number(), WIDE_LONG, u64::MAX), ended);
+    expect_eq!(rt; step(&one_long_number(), SHORT, 2), ended);
+    expect_eq!(rt; step(&one_great_number(), LONG, 2), ended);
+    expect_eq!(rt; step(&one_wide_long_number(), WIDE, 2), ended);
+    expect_eq!(rt; step(&one_wide_great_number(), WIDE_LONG, u64::MAX), ended);
 }
 
 #[test]
 fn several_long_numbers_are_stored_at_once(rt: HostRuntime) {
     let nine = (9, 9, 9);
     let one = Some((1, [(2, 1, 2), nine, nine]));
-    assert_eq!(rt; several(&one_long_number(), SHORT, 0), one);
-    assert_eq!(rt; several(&one_wide_long_number(), WIDE_LONG, 1), one);
-    assert_eq!(rt;
+    expect_eq!(rt; several(&one_long_number(), SHORT, 0), one);
+    expect_eq!(rt; several(&one_wide_long_number(), WIDE_LONG, 1), one);
+    expect_eq!(rt;
         several(&one_wide_long_number(), WIDE, 2),
         Some((0, [nine; 3]))
     );
-    assert_eq!(rt;
+    expect_eq!(rt;
         several(&two_long_numbers(), LONG, 0),
         Some((2, [(1, 1, 2), (2, GREAT, 9), nine]))
     );
@@ -104,22 +104,22 @@ fn several_long_numbers_are_stored_at_once(rt: HostRuntime) {
 #[test]
 fn walks_of_two_long_numbers_go_on(rt: HostRuntime) {
     let bytes = two_long_numbers();
-    assert_eq!(rt; step(&bytes, LONG, 0), Some((1, (1, 1, 2))));
-    assert_eq!(rt; step(&bytes, LONG, 1), Some((1, (2, GREAT, 9))));
-    assert_eq!(rt; step(&bytes, LONG, 2), Some((0, (9, 9, 9))));
+    expect_eq!(rt; step(&bytes, LONG, 0), Some((1, (1, 1, 2))));
+    expect_eq!(rt; step(&bytes, LONG, 1), Some((1, (2, GREAT, 9))));
+    expect_eq!(rt; step(&bytes, LONG, 2), Some((0, (9, 9, 9))));
 }
 
 #[test]
 fn headers_of_long_numbers_serve_after_overwrites(rt: HostRuntime) {
-    assert_eq!(rt;
+    expect_eq!(rt;
         overwrite_and_get(&mut one_long_number(), SHORT, 1u64, 3),
         Some((0, 0, 3))
     );
-    assert_eq!(rt;
+    expect_eq!(rt;
         overwrite_and_get(&mut one_wide_great_number(), WIDE_LONG, GREAT, u64::MAX),
         Some((0, 0, u64::MAX))
     );
-    assert_eq!(rt;
+    expect_eq!(rt;
         overwrite_and_get(&mut one_great_number(), LONG, 1u64, 3),
         Some((1, 1, 9))
     );
@@ -128,16 +128,16 @@ fn headers_of_long_numbers_serve_after_overwrites(rt: HostRuntime) {
 #[test]
 fn overwrites_under_long_numbers(rt: HostRuntime) {
     let mut narrow = one_long_number();
-    assert_eq!(rt; overwrite(&mut narrow, SHORT, 1u64, 0x1_0000_0000), Some(3));
-    assert_eq!(rt; overwrite(&mut narrow, SHORT, 2u64, 3), Some(1));
+    expect_eq!(rt; overwrite(&mut narrow, SHORT, 1u64, 0x1_0000_0000), Some(3));
+    expect_eq!(rt; overwrite(&mut narrow, SHORT, 2u64, 3), Some(1));
     assert!(rt; narrow == one_long_number());
-    assert_eq!(rt; overwrite(&mut narrow, SHORT, 1u64, 0x0405), Some(0));
+    expect_eq!(rt; overwrite(&mut narrow, SHORT, 1u64, 0x0405), Some(0));
     let mut bytes = one_long_number();
     bytes[8] = 5;
     bytes[9] = 4;
     assert!(rt; narrow == bytes);
     let mut wide = one_wide_long_number();
-    assert_eq!(rt;
+    expect_eq!(rt;
         overwrite(&mut wide, WIDE_LONG, 1u64, 0x0201_0000_0000_0002),
         Some(0)
     );
@@ -146,14 +146,14 @@ fn overwrites_under_long_numbers(rt: HostRuntime) {
     bytes[15] = 2;
     assert!(rt; wide == bytes);
     let mut long = one_great_number();
-    assert_eq!(rt; overwrite(&mut long, LONG, 1u64, u64::MAX), Some(1));
-    assert_eq!(rt; overwrite(&mut long, LONG, GREAT, u64::MAX), Some(0));
+    expect_eq!(rt; overwrite(&mut long, LONG, 1u64, u64::MAX), Some(1));
+    expect_eq!(rt; overwrite(&mut long, LONG, GREAT, u64::MAX), Some(0));
     let mut bytes = one_great_number();
     bytes[8..16].copy_from_slice(&[0xff; 8]);
     assert!(rt; long == bytes);
     let mut wide = one_wide_great_number();
-    assert_eq!(rt; overwrite(&mut wide, WIDE, GREAT, u64::MAX), Some(3));
-    assert_eq!(rt; overwrite(&mut wide, WIDE, GREAT, 7), Some(0));
+    expect_eq!(rt; overwrite(&mut wide, WIDE, GREAT, u64::MAX), Some(3));
+    expect_eq!(rt; overwrite(&mut wide, WIDE, GREAT, 7), Some(0));
     let mut bytes = one_wide_great_number();
     bytes[8] = 7;
     assert!(rt; wide == bytes);
@@ -163,19 +163,19 @@ fn overwrites_under_long_numbers(rt: HostRuntime) {
 fn a_damaged_archive_of_long_numbers_is_invalid(rt: HostRuntime) {
     let mut bytes = one_long_number();
     bytes[68] = 2;
-    assert_eq!(rt; open_numbers::<u64>(&bytes, SHORT), 18);
+    expect_eq!(rt; open_numbers::<u64>(&bytes, SHORT), 18);
     let error = explain_numbers::<u64>(&bytes, LONG);
-    assert_eq!(rt;
+    expect_eq!(rt;
         (error.status, error.position, error.first, error.second),
         (18, 0, 2, 2)
     );
     let mut bytes = one_wide_great_number();
     bytes[33] = 0xff;
-    assert_eq!(rt; open_numbers::<u64>(&bytes, WIDE), 19);
+    expect_eq!(rt; open_numbers::<u64>(&bytes, WIDE), 19);
     let error = explain_numbers::<u64>(&bytes, WIDE_LONG);
-    assert_eq!(rt;
+    expect_eq!(rt;
         (error.status, error.position, error.first, error.second),
         (19, 0, 1, 0)
     );
-    assert_eq!(rt; explain_numbers::<u64>(&one_long_number(), LONG).status, 0);
+    expect_eq!(rt; explain_numbers::<u64>(&one_long_number(), LONG).status, 0);
 }

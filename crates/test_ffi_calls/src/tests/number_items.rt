@@ -95,10 +95,10 @@ fn one_pair_has_its_bytes_or_no_memory(rt: HostRuntime) {
 
 #[test]
 fn one_pair_succeeds(rt: HostRuntime) {
-    assert_eq!(rt; write_one(rt.alloc(), SHORT, &one_number()), (0, true));
-    assert_eq!(rt; write_one(rt.alloc(), LONG, &one_long_number()), (0, true));
-    assert_eq!(rt; write_one(rt.alloc(), WIDE, &one_wide_number()), (0, true));
-    assert_eq!(rt;
+    expect_eq!(rt; write_one(rt.alloc(), SHORT, &one_number()), (0, true));
+    expect_eq!(rt; write_one(rt.alloc(), LONG, &one_long_number()), (0, true));
+    expect_eq!(rt; write_one(rt.alloc(), WIDE, &one_wide_number()), (0, true));
+    expect_eq!(rt;
         write_one(rt.alloc(), WIDE_LONG, &one_wide_long_number()),
         (0, true)
     );
@@ -115,21 +115,21 @@ fn one_long_pair_has_its_bytes_or_no_memory(rt: HostRuntime) {
 fn one_long_pair_succeeds(rt: HostRuntime) {
     let alloc = rt.alloc();
     let done = (0, true);
-    assert_eq!(rt; write_long(alloc, SHORT, 1, 2, &one_long_number()), done);
-    assert_eq!(rt; write_long(alloc, LONG, 1, 2, &one_long_number()), done);
-    assert_eq!(rt;
+    expect_eq!(rt; write_long(alloc, SHORT, 1, 2, &one_long_number()), done);
+    expect_eq!(rt; write_long(alloc, LONG, 1, 2, &one_long_number()), done);
+    expect_eq!(rt;
         write_long(alloc, WIDE, 1, 2, &one_wide_long_number()),
         done
     );
-    assert_eq!(rt;
+    expect_eq!(rt;
         write_long(alloc, WIDE_LONG, 1, 2, &one_wide_long_number()),
         done
     );
-    assert_eq!(rt;
+    expect_eq!(rt;
         write_long(alloc, SHORT, GREAT, 2, &one_great_number()),
         done
     );
-    assert_eq!(rt;
+    expect_eq!(rt;
         write_long(alloc, WIDE, GREAT, 2, &one_wide_great_number()),
         done
     );
@@ -138,11 +138,11 @@ fn one_long_pair_succeeds(rt: HostRuntime) {
 #[test]
 fn a_write_of_two_pairs_succeeds(rt: HostRuntime) {
     let alloc = rt.alloc();
-    assert_eq!(rt;
+    expect_eq!(rt;
         write_two(alloc, SHORT, 2, 9, &one_number_twice()),
         (0, true)
     );
-    assert_eq!(rt;
+    expect_eq!(rt;
         write_two_long(alloc, LONG, 2, 9, &two_long_numbers()),
         (0, true)
     );
@@ -150,29 +150,29 @@ fn a_write_of_two_pairs_succeeds(rt: HostRuntime) {
 
 #[test]
 fn no_pair_succeeds(rt: HostRuntime) {
-    assert_eq!(rt;
+    expect_eq!(rt;
         write::<u32>(rt.alloc(), &[], SHORT, &no_items()),
         (0, true)
     );
-    assert_eq!(rt; write::<u32>(rt.alloc(), &[], LONG, &no_items()), (0, true));
+    expect_eq!(rt; write::<u32>(rt.alloc(), &[], LONG, &no_items()), (0, true));
     let mut wide = [0; 24];
     wide[0] = 1;
-    assert_eq!(rt; write::<u32>(rt.alloc(), &[], WIDE, &wide), (0, true));
-    assert_eq!(rt; write::<u32>(rt.alloc(), &[], WIDE_LONG, &wide), (0, true));
-    assert_eq!(rt;
+    expect_eq!(rt; write::<u32>(rt.alloc(), &[], WIDE, &wide), (0, true));
+    expect_eq!(rt; write::<u32>(rt.alloc(), &[], WIDE_LONG, &wide), (0, true));
+    expect_eq!(rt;
         write::<u64>(rt.alloc(), &[], SHORT, &no_items()),
         (0, true)
     );
-    assert_eq!(rt; write::<u64>(rt.alloc(), &[], WIDE_LONG, &wide), (0, true));
+    expect_eq!(rt; write::<u64>(rt.alloc(), &[], WIDE_LONG, &wide), (0, true));
 }
 
 #[test]
 fn a_rejection_of_a_large_value_succeeds(rt: HostRuntime) {
     let alloc = rt.alloc();
     let large = 0x1_0000_0000u64;
-    assert_eq!(rt; write_two(alloc, SHORT, large, 2, &[]), (3, true));
-    assert_eq!(rt; write_two(alloc, SHORT, 2, u64::MAX, &[]), (3, true));
-    assert_eq!(rt; write_two(alloc, WIDE, 0xffff_ffff, large, &[]), (3, true));
-    assert_eq!(rt; write_two_long(alloc, SHORT, 2, large, &[]), (3, true));
-    assert_eq!(rt; write_long(alloc, WIDE, 1, large, &[]), (3, true));
+    expect_eq!(rt; write_two(alloc, SHORT, large, 2, &[]), (3, true));
+    expect_eq!(rt; write_two(alloc, SHORT, 2, u64::MAX, &[]), (3, true));
+    expect_eq!(rt; write_two(alloc, WIDE, 0xffff_ffff, large, &[]), (3, true));
+    expect_eq!(rt; write_two_long(alloc, SHORT, 2, large, &[]), (3, true));
+    expect_eq!(rt; write_long(alloc, WIDE, 1, large, &[]), (3, true));
 }

@@ -188,38 +188,38 @@ fn is_permitted(written: (u32, bool)) -> bool {
 
 #[test]
 fn lookups_find_the_items_alone(rt: HostRuntime) {
-    assert_eq!(rt; found(&one(), false, 1u32), Some((1, 0)));
-    assert_eq!(rt; found(&one(), false, 2u32), Some((1, 1)));
-    assert_eq!(rt; found(&wide_one(), true, 1u32), Some((1, 0)));
-    assert_eq!(rt; found(&wide_one(), true, 0u32), Some((1, 1)));
-    assert_eq!(rt; found(&no_items(), false, 1u32), Some((0, 1)));
+    expect_eq!(rt; found(&one(), false, 1u32), Some((1, 0)));
+    expect_eq!(rt; found(&one(), false, 2u32), Some((1, 1)));
+    expect_eq!(rt; found(&wide_one(), true, 1u32), Some((1, 0)));
+    expect_eq!(rt; found(&wide_one(), true, 0u32), Some((1, 1)));
+    expect_eq!(rt; found(&no_items(), false, 1u32), Some((0, 1)));
 }
 
 #[test]
 fn lookups_of_long_numbers_compare_all_64_bits(rt: HostRuntime) {
-    assert_eq!(rt; found(&long_one(), false, 1u64), Some((1, 0)));
-    assert_eq!(rt; found(&long_one(), false, GREAT), Some((1, 1)));
-    assert_eq!(rt; found(&great(), false, GREAT), Some((1, 0)));
-    assert_eq!(rt; found(&great(), false, 1u64), Some((1, 1)));
-    assert_eq!(rt; found(&wide_long_one(), true, 1u64), Some((1, 0)));
-    assert_eq!(rt; found(&wide_long_one(), true, u64::MAX), Some((1, 1)));
-    assert_eq!(rt; found(&no_items(), false, 1u64), Some((0, 1)));
+    expect_eq!(rt; found(&long_one(), false, 1u64), Some((1, 0)));
+    expect_eq!(rt; found(&long_one(), false, GREAT), Some((1, 1)));
+    expect_eq!(rt; found(&great(), false, GREAT), Some((1, 0)));
+    expect_eq!(rt; found(&great(), false, 1u64), Some((1, 1)));
+    expect_eq!(rt; found(&wide_long_one(), true, 1u64), Some((1, 0)));
+    expect_eq!(rt; found(&wide_long_one(), true, u64::MAX), Some((1, 1)));
+    expect_eq!(rt; found(&no_items(), false, 1u64), Some((0, 1)));
 }
 
 #[test]
 fn walks_visit_the_item_and_end(rt: HostRuntime) {
-    assert_eq!(rt; step(&one(), false, 0), Some((1, 2, 1)));
-    assert_eq!(rt; step(&one(), false, 2), Some((0, 9, 9)));
-    assert_eq!(rt; step(&wide_one(), true, 1), Some((1, 2, 1)));
+    expect_eq!(rt; step(&one(), false, 0), Some((1, 2, 1)));
+    expect_eq!(rt; step(&one(), false, 2), Some((0, 9, 9)));
+    expect_eq!(rt; step(&wide_one(), true, 1), Some((1, 2, 1)));
 }
 
 #[test]
 fn walks_visit_the_long_number_and_end(rt: HostRuntime) {
-    assert_eq!(rt; long_step(&long_one(), false, 0), Some((1, 2, 1)));
-    assert_eq!(rt; long_step(&great(), false, 1), Some((1, 2, GREAT)));
-    assert_eq!(rt; long_step(&great(), false, 2), Some((0, 9, 9)));
-    assert_eq!(rt; long_step(&wide_long_one(), true, 0), Some((1, 2, 1)));
-    assert_eq!(rt;
+    expect_eq!(rt; long_step(&long_one(), false, 0), Some((1, 2, 1)));
+    expect_eq!(rt; long_step(&great(), false, 1), Some((1, 2, GREAT)));
+    expect_eq!(rt; long_step(&great(), false, 2), Some((0, 9, 9)));
+    expect_eq!(rt; long_step(&wide_long_one(), true, 0), Some((1, 2, 1)));
+    expect_eq!(rt;
         long_step(&wide_long_one(), true, u64::MAX),
         Some((0, 9, 9))
     );
@@ -227,41 +227,41 @@ fn walks_visit_the_long_number_and_end(rt: HostRuntime) {
 
 #[test]
 fn walks_of_two_items_go_on(rt: HostRuntime) {
-    assert_eq!(rt; step(&one_twice(), false, 0), Some((1, 1, 1)));
-    assert_eq!(rt; step(&one_twice(), false, 1), Some((1, 2, 1)));
-    assert_eq!(rt; step(&one_twice(), false, 2), Some((0, 9, 9)));
-    assert_eq!(rt; several(&one_twice(), false, 0), Some((2, 1, 1)));
+    expect_eq!(rt; step(&one_twice(), false, 0), Some((1, 1, 1)));
+    expect_eq!(rt; step(&one_twice(), false, 1), Some((1, 2, 1)));
+    expect_eq!(rt; step(&one_twice(), false, 2), Some((0, 9, 9)));
+    expect_eq!(rt; several(&one_twice(), false, 0), Some((2, 1, 1)));
 }
 
 #[test]
 fn several_items_are_stored_at_once(rt: HostRuntime) {
-    assert_eq!(rt; several(&one(), false, 0), Some((1, 1, 9)));
-    assert_eq!(rt; several(&wide_one(), true, 2), Some((0, 9, 9)));
-    assert_eq!(rt; several_long(&great(), false, 0), Some((1, GREAT, 9)));
-    assert_eq!(rt; several_long(&wide_long_one(), true, 2), Some((0, 9, 9)));
+    expect_eq!(rt; several(&one(), false, 0), Some((1, 1, 9)));
+    expect_eq!(rt; several(&wide_one(), true, 2), Some((0, 9, 9)));
+    expect_eq!(rt; several_long(&great(), false, 0), Some((1, GREAT, 9)));
+    expect_eq!(rt; several_long(&wide_long_one(), true, 2), Some((0, 9, 9)));
 }
 
 #[test]
 fn damaged_archives_are_explained(rt: HostRuntime) {
-    assert_eq!(rt; one_with(0, 2), (0, 0, 0, 0));
-    assert_eq!(rt; one_with(40, 0xe1), (17, 1, 4, 0));
-    assert_eq!(rt; one_with(44, 2), (18, 0, 2, 2));
-    assert_eq!(rt; one_with(9, 0xff), (19, 0, 1, 0));
-    assert_eq!(rt; one_with(11, 0xff), (20, 0, 3, 0));
+    expect_eq!(rt; one_with(0, 2), (0, 0, 0, 0));
+    expect_eq!(rt; one_with(40, 0xe1), (17, 1, 4, 0));
+    expect_eq!(rt; one_with(44, 2), (18, 0, 2, 2));
+    expect_eq!(rt; one_with(9, 0xff), (19, 0, 1, 0));
+    expect_eq!(rt; one_with(11, 0xff), (20, 0, 3, 0));
     let wide = explain_number_set::<u32>(&[0; 23], true);
-    assert_eq!(rt; numbers_of(wide), (16, -1, 24, 0));
+    expect_eq!(rt; numbers_of(wide), (16, -1, 24, 0));
     assert!(rt; !is_set::<u32>(&[], false) && !is_set::<u32>(&[0; 23], true));
 }
 
 #[test]
 fn damaged_archives_of_long_numbers_are_explained(rt: HostRuntime) {
-    assert_eq!(rt; long_with(0, 2), (0, 0, 0, 0));
-    assert_eq!(rt; long_with(48, 0xe1), (17, 1, 8, 0));
-    assert_eq!(rt; long_with(56, 2), (18, 0, 2, 2));
-    assert_eq!(rt; long_with(17, 0xff), (19, 0, 1, 0));
-    assert_eq!(rt; long_with(19, 0xff), (20, 0, 3, 0));
+    expect_eq!(rt; long_with(0, 2), (0, 0, 0, 0));
+    expect_eq!(rt; long_with(48, 0xe1), (17, 1, 8, 0));
+    expect_eq!(rt; long_with(56, 2), (18, 0, 2, 2));
+    expect_eq!(rt; long_with(17, 0xff), (19, 0, 1, 0));
+    expect_eq!(rt; long_with(19, 0xff), (20, 0, 3, 0));
     let narrow = explain_number_set::<u64>(&[0; 11], false);
-    assert_eq!(rt; numbers_of(narrow), (16, -1, 12, 0));
+    expect_eq!(rt; numbers_of(narrow), (16, -1, 12, 0));
     assert!(rt; !is_set::<u64>(&[], false) && !is_set::<u64>(&[0; 23], true));
     assert!(rt; !is_set::<u64>(&one(), false) && !is_set::<u64>(&wide_one(), true));
 }
@@ -277,18 +277,18 @@ fn sets_have_their_bytes_or_no_memory(rt: HostRuntime) {
 fn a_write_of_numbers_succeeds(rt: HostRuntime) {
     let alloc = rt.alloc();
     let done = (0, true);
-    assert_eq!(rt; write(alloc, &[1u32], false, &one()), done);
-    assert_eq!(rt; write(alloc, &[1u32], true, &wide_one()), done);
-    assert_eq!(rt; write(alloc, &[1u32, 1], false, &one_twice()), done);
-    assert_eq!(rt; write::<u32>(alloc, &[], false, &no_items()), done);
+    expect_eq!(rt; write(alloc, &[1u32], false, &one()), done);
+    expect_eq!(rt; write(alloc, &[1u32], true, &wide_one()), done);
+    expect_eq!(rt; write(alloc, &[1u32, 1], false, &one_twice()), done);
+    expect_eq!(rt; write::<u32>(alloc, &[], false, &no_items()), done);
 }
 
 #[test]
 fn a_write_of_long_numbers_succeeds(rt: HostRuntime) {
     let alloc = rt.alloc();
     let done = (0, true);
-    assert_eq!(rt; write(alloc, &[1u64], false, &long_one()), done);
-    assert_eq!(rt; write(alloc, &[GREAT], false, &great()), done);
-    assert_eq!(rt; write(alloc, &[1u64], true, &wide_long_one()), done);
-    assert_eq!(rt; write::<u64>(alloc, &[], false, &no_items()), done);
+    expect_eq!(rt; write(alloc, &[1u64], false, &long_one()), done);
+    expect_eq!(rt; write(alloc, &[GREAT], false, &great()), done);
+    expect_eq!(rt; write(alloc, &[1u64], true, &wide_long_one()), done);
+    expect_eq!(rt; write::<u64>(alloc, &[], false, &no_items()), done);
 }

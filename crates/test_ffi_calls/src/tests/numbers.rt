@@ -122,10 +122,10 @@ fn several(archive: &[u8], form: Form, from: u64) -> Option<(usize, [(u64, u32, 
 
 #[test]
 fn lookups_find_the_number(rt: HostRuntime) {
-    assert_eq!(rt; lookup(&one_number(), SHORT, 1u32), Some((1, 0, 2)));
-    assert_eq!(rt; lookup(&one_long_number(), LONG, 1u32), Some((1, 0, 2)));
-    assert_eq!(rt; lookup(&one_wide_number(), WIDE, 1u32), Some((1, 0, 2)));
-    assert_eq!(rt;
+    expect_eq!(rt; lookup(&one_number(), SHORT, 1u32), Some((1, 0, 2)));
+    expect_eq!(rt; lookup(&one_long_number(), LONG, 1u32), Some((1, 0, 2)));
+    expect_eq!(rt; lookup(&one_wide_number(), WIDE, 1u32), Some((1, 0, 2)));
+    expect_eq!(rt;
         lookup(&one_wide_long_number(), WIDE_LONG, 1u32),
         Some((1, 0, 2))
     );
@@ -133,10 +133,10 @@ fn lookups_find_the_number(rt: HostRuntime) {
 
 #[test]
 fn lookups_find_no_other_number(rt: HostRuntime) {
-    assert_eq!(rt; lookup(&one_number(), SHORT, 2u32), Some((1, 1, 9)));
-    assert_eq!(rt; lookup(&one_long_number(), LONG, 0u32), Some((1, 1, 9)));
-    assert_eq!(rt; lookup(&one_wide_number(), WIDE, 3u32), Some((1, 1, 9)));
-    assert_eq!(rt;
+    expect_eq!(rt; lookup(&one_number(), SHORT, 2u32), Some((1, 1, 9)));
+    expect_eq!(rt; lookup(&one_long_number(), LONG, 0u32), Some((1, 1, 9)));
+    expect_eq!(rt; lookup(&one_wide_number(), WIDE, 3u32), Some((1, 1, 9)));
+    expect_eq!(rt;
         lookup(&one_wide_long_number(), WIDE_LONG, u32::MAX),
         Some((1, 1, 9))
     );
@@ -145,29 +145,29 @@ fn lookups_find_no_other_number(rt: HostRuntime) {
 #[test]
 fn walks_visit_bucket_1(rt: HostRuntime) {
     let wanted = Some((1, (2, 1, 2)));
-    assert_eq!(rt; step(&one_number(), SHORT, 0), wanted);
-    assert_eq!(rt; step(&one_long_number(), LONG, 1), wanted);
-    assert_eq!(rt; step(&one_wide_number(), WIDE, 0), wanted);
-    assert_eq!(rt; step(&one_wide_long_number(), WIDE_LONG, 1), wanted);
+    expect_eq!(rt; step(&one_number(), SHORT, 0), wanted);
+    expect_eq!(rt; step(&one_long_number(), LONG, 1), wanted);
+    expect_eq!(rt; step(&one_wide_number(), WIDE, 0), wanted);
+    expect_eq!(rt; step(&one_wide_long_number(), WIDE_LONG, 1), wanted);
 }
 
 #[test]
 fn walks_end_behind_bucket_1(rt: HostRuntime) {
     let ended = Some((0, (9, 9, 9)));
-    assert_eq!(rt; step(&one_number(), SHORT, 2), ended);
-    assert_eq!(rt; step(&one_long_number(), LONG, 2), ended);
-    assert_eq!(rt; step(&one_wide_number(), WIDE, 2), ended);
-    assert_eq!(rt; step(&one_wide_long_number(), WIDE_LONG, 2), ended);
-    assert_eq!(rt; step(&one_number(), SHORT, u64::MAX), ended);
+    expect_eq!(rt; step(&one_number(), SHORT, 2), ended);
+    expect_eq!(rt; step(&one_long_number(), LONG, 2), ended);
+    expect_eq!(rt; step(&one_wide_number(), WIDE, 2), ended);
+    expect_eq!(rt; step(&one_wide_long_number(), WIDE_LONG, 2), ended);
+    expect_eq!(rt; step(&one_number(), SHORT, u64::MAX), ended);
 }
 
 #[test]
 fn walks_of_two_pairs_go_on(rt: HostRuntime) {
     let bytes = one_number_twice();
-    assert_eq!(rt; step(&bytes, SHORT, 0), Some((1, (1, 1, 2))));
-    assert_eq!(rt; step(&bytes, SHORT, 1), Some((1, (2, 1, 9))));
-    assert_eq!(rt; step(&bytes, SHORT, 2), Some((0, (9, 9, 9))));
-    assert_eq!(rt;
+    expect_eq!(rt; step(&bytes, SHORT, 0), Some((1, (1, 1, 2))));
+    expect_eq!(rt; step(&bytes, SHORT, 1), Some((1, (2, 1, 9))));
+    expect_eq!(rt; step(&bytes, SHORT, 2), Some((0, (9, 9, 9))));
+    expect_eq!(rt;
         several(&bytes, SHORT, 0),
         Some((2, [(1, 1, 2), (2, 1, 9), (9, 9, 9)]))
     );
@@ -178,24 +178,24 @@ fn several_pairs_are_stored_at_once(rt: HostRuntime) {
     let nine = (9, 9, 9);
     let one = Some((1, [(2, 1, 2), nine, nine]));
     let none = Some((0, [nine; 3]));
-    assert_eq!(rt; several(&one_number(), SHORT, 0), one);
-    assert_eq!(rt; several(&one_long_number(), LONG, 1), one);
-    assert_eq!(rt; several(&one_wide_number(), WIDE, 2), none);
-    assert_eq!(rt; several(&one_wide_long_number(), WIDE_LONG, 0), one);
-    assert_eq!(rt; several(&one_number(), SHORT, u64::MAX), none);
+    expect_eq!(rt; several(&one_number(), SHORT, 0), one);
+    expect_eq!(rt; several(&one_long_number(), LONG, 1), one);
+    expect_eq!(rt; several(&one_wide_number(), WIDE, 2), none);
+    expect_eq!(rt; several(&one_wide_long_number(), WIDE_LONG, 0), one);
+    expect_eq!(rt; several(&one_number(), SHORT, u64::MAX), none);
 }
 
 #[test]
 fn headers_serve_after_overwrites(rt: HostRuntime) {
-    assert_eq!(rt;
+    expect_eq!(rt;
         overwrite_and_get(&mut one_number(), SHORT, 1u32, 3),
         Some((0, 0, 3))
     );
-    assert_eq!(rt;
+    expect_eq!(rt;
         overwrite_and_get(&mut one_wide_long_number(), WIDE_LONG, 1u32, u64::MAX),
         Some((0, 0, u64::MAX))
     );
-    assert_eq!(rt;
+    expect_eq!(rt;
         overwrite_and_get(&mut one_number(), SHORT, 2u32, 3),
         Some((1, 1, 9))
     );
@@ -205,14 +205,14 @@ fn headers_serve_after_overwrites(rt: HostRuntime) {
 fn overwrites_of_32_bits_reject_more(rt: HostRuntime) {
     let mut narrow = one_number();
     let mut wide = one_wide_number();
-    assert_eq!(rt; overwrite(&mut narrow, SHORT, 1u32, 0x1_0000_0000), Some(3));
-    assert_eq!(rt; overwrite(&mut narrow, SHORT, 2u32, u64::MAX), Some(3));
-    assert_eq!(rt; overwrite(&mut narrow, SHORT, 2u32, 0xffff_ffff), Some(1));
-    assert_eq!(rt; overwrite(&mut wide, WIDE, 2u32, 0x1_0000_0000), Some(3));
-    assert_eq!(rt; overwrite(&mut wide, WIDE, 2u32, 3), Some(1));
+    expect_eq!(rt; overwrite(&mut narrow, SHORT, 1u32, 0x1_0000_0000), Some(3));
+    expect_eq!(rt; overwrite(&mut narrow, SHORT, 2u32, u64::MAX), Some(3));
+    expect_eq!(rt; overwrite(&mut narrow, SHORT, 2u32, 0xffff_ffff), Some(1));
+    expect_eq!(rt; overwrite(&mut wide, WIDE, 2u32, 0x1_0000_0000), Some(3));
+    expect_eq!(rt; overwrite(&mut wide, WIDE, 2u32, 3), Some(1));
     assert!(rt; narrow == one_number() && wide == one_wide_number());
-    assert_eq!(rt; overwrite(&mut narrow, SHORT, 1u32, 0xffff_fffe), Some(0));
-    assert_eq!(rt; overwrite(&mut wide, WIDE, 1u32, 0x0405), Some(0));
+    expect_eq!(rt; overwrite(&mut narrow, SHORT, 1u32, 0xffff_fffe), Some(0));
+    expect_eq!(rt; overwrite(&mut wide, WIDE, 1u32, 0x0405), Some(0));
     let mut bytes = one_number();
     bytes[4..8].copy_from_slice(&[0xfe, 0xff, 0xff, 0xff]);
     assert!(rt; narrow == bytes);
@@ -225,11 +225,11 @@ fn overwrites_of_32_bits_reject_more(rt: HostRuntime) {
 fn overwrites_of_64_bits_take_all(rt: HostRuntime) {
     let mut narrow = one_long_number();
     let mut wide = one_wide_long_number();
-    assert_eq!(rt; overwrite(&mut narrow, LONG, 2u32, u64::MAX), Some(1));
-    assert_eq!(rt; overwrite(&mut wide, WIDE_LONG, 0u32, 3), Some(1));
+    expect_eq!(rt; overwrite(&mut narrow, LONG, 2u32, u64::MAX), Some(1));
+    expect_eq!(rt; overwrite(&mut wide, WIDE_LONG, 0u32, 3), Some(1));
     assert!(rt; narrow == one_long_number() && wide == one_wide_long_number());
-    assert_eq!(rt; overwrite(&mut narrow, LONG, 1u32, u64::MAX), Some(0));
-    assert_eq!(rt;
+    expect_eq!(rt; overwrite(&mut narrow, LONG, 1u32, u64::MAX), Some(0));
+    expect_eq!(rt;
         overwrite(&mut wide, WIDE_LONG, 1u32, 0x1_0000_0000),
         Some(0)
     );

@@ -185,12 +185,12 @@ fn long_status_with(pos: usize, byte: u8) -> (u32, (u32, i64, u64, u64)) {
 
 #[test]
 fn lookups_find_the_text_of_the_first_pair(rt: HostRuntime) {
-    assert_eq!(rt; lookup(&one_to_tea(), false, 1u32, b"tea"), Some((1, 0)));
-    assert_eq!(rt;
+    expect_eq!(rt; lookup(&one_to_tea(), false, 1u32, b"tea"), Some((1, 0)));
+    expect_eq!(rt;
         lookup(&one_to_two_texts(), false, 1u32, b"wonderful"),
         Some((2, 0))
     );
-    assert_eq!(rt;
+    expect_eq!(rt;
         lookup(&one_to_wide_text(), true, 1u32, b"wonderful"),
         Some((1, 0))
     );
@@ -198,52 +198,52 @@ fn lookups_find_the_text_of_the_first_pair(rt: HostRuntime) {
 
 #[test]
 fn lookups_find_no_other_number(rt: HostRuntime) {
-    assert_eq!(rt; lookup(&one_to_tea(), false, 2u32, b"?"), Some((1, 1)));
-    assert_eq!(rt; lookup(&one_to_wide_text(), true, 0u32, b"?"), Some((1, 1)));
-    assert_eq!(rt; lookup(&no_items(), false, 1u32, b"?"), Some((0, 1)));
+    expect_eq!(rt; lookup(&one_to_tea(), false, 2u32, b"?"), Some((1, 1)));
+    expect_eq!(rt; lookup(&one_to_wide_text(), true, 0u32, b"?"), Some((1, 1)));
+    expect_eq!(rt; lookup(&no_items(), false, 1u32, b"?"), Some((0, 1)));
 }
 
 #[test]
 fn lookups_of_long_numbers_compare_all_64_bits(rt: HostRuntime) {
-    assert_eq!(rt; lookup(&long_to_tea(), false, 1u64, b"tea"), Some((1, 0)));
-    assert_eq!(rt; lookup(&long_to_tea(), false, GREAT, b"?"), Some((1, 1)));
-    assert_eq!(rt;
+    expect_eq!(rt; lookup(&long_to_tea(), false, 1u64, b"tea"), Some((1, 0)));
+    expect_eq!(rt; lookup(&long_to_tea(), false, GREAT, b"?"), Some((1, 1)));
+    expect_eq!(rt;
         lookup(&long_to_two_texts(), false, 1u64, b"wonderful"),
         Some((2, 0))
     );
-    assert_eq!(rt;
+    expect_eq!(rt;
         lookup(&long_to_two_texts(), false, GREAT, b"x"),
         Some((2, 0))
     );
-    assert_eq!(rt;
+    expect_eq!(rt;
         lookup(&one_to_wide_text(), true, 1u64, b"wonderful"),
         Some((1, 0))
     );
-    assert_eq!(rt;
+    expect_eq!(rt;
         lookup(&great_to_wide_text(), true, GREAT, b"wonderful"),
         Some((1, 0))
     );
-    assert_eq!(rt;
+    expect_eq!(rt;
         lookup(&great_to_wide_text(), true, 1u64, b"?"),
         Some((1, 1))
     );
-    assert_eq!(rt; lookup(&no_items(), false, 1u64, b"?"), Some((0, 1)));
+    expect_eq!(rt; lookup(&no_items(), false, 1u64, b"?"), Some((0, 1)));
 }
 
 #[test]
 fn walks_visit_the_pair_and_end(rt: HostRuntime) {
-    assert_eq!(rt; step(&one_to_tea(), false, 0, 2, 1, b"tea"), Some(1));
-    assert_eq!(rt; step(&one_to_tea(), false, 2, 9, 9, b"?"), Some(0));
-    assert_eq!(rt;
+    expect_eq!(rt; step(&one_to_tea(), false, 0, 2, 1, b"tea"), Some(1));
+    expect_eq!(rt; step(&one_to_tea(), false, 2, 9, 9, b"?"), Some(0));
+    expect_eq!(rt;
         step(&one_to_two_texts(), false, 0, 1, 1, b"wonderful"),
         Some(1)
     );
-    assert_eq!(rt; step(&one_to_two_texts(), false, 1, 2, 1, b"x"), Some(1));
-    assert_eq!(rt;
+    expect_eq!(rt; step(&one_to_two_texts(), false, 1, 2, 1, b"x"), Some(1));
+    expect_eq!(rt;
         step(&one_to_wide_text(), true, 1, 2, 1, b"wonderful"),
         Some(1)
     );
-    assert_eq!(rt;
+    expect_eq!(rt;
         step(&one_to_wide_text(), true, u64::MAX, 9, 9, b"?"),
         Some(0)
     );
@@ -252,7 +252,7 @@ fn walks_visit_the_pair_and_end(rt: HostRuntime) {
 #[test]
 fn several_pairs_are_stored_at_once(rt: HostRuntime) {
     let nine: (u64, u32, &[u8]) = (9, 9, b"?");
-    assert_eq!(rt;
+    expect_eq!(rt;
         several(
             &one_to_two_texts(),
             false,
@@ -262,31 +262,31 @@ fn several_pairs_are_stored_at_once(rt: HostRuntime) {
         ),
         Some(2)
     );
-    assert_eq!(rt;
+    expect_eq!(rt;
         several(&one_to_tea(), false, 1, (2, 1, b"tea"), nine),
         Some(1)
     );
-    assert_eq!(rt;
+    expect_eq!(rt;
         several(&one_to_wide_text(), true, 0, (2, 1, b"wonderful"), nine),
         Some(1)
     );
-    assert_eq!(rt; several(&one_to_wide_text(), true, 2, nine, nine), Some(0));
+    expect_eq!(rt; several(&one_to_wide_text(), true, 2, nine, nine), Some(0));
 }
 
 #[test]
 fn several_pairs_of_long_numbers_are_stored_at_once(rt: HostRuntime) {
     let nine: (u64, u64, &[u8]) = (9, 9, b"?");
     let second: (u64, u64, &[u8]) = (2, GREAT, b"x");
-    assert_eq!(rt;
+    expect_eq!(rt;
         several_long(&long_to_two_texts(), false, 0, (1, 1, b"wonderful"), second),
         Some(2)
     );
-    assert_eq!(rt;
+    expect_eq!(rt;
         several_long(&long_to_two_texts(), false, 1, second, nine),
         Some(1)
     );
-    assert_eq!(rt; several_long(&long_to_tea(), false, 2, nine, nine), Some(0));
-    assert_eq!(rt;
+    expect_eq!(rt; several_long(&long_to_tea(), false, 2, nine, nine), Some(0));
+    expect_eq!(rt;
         several_long(
             &great_to_wide_text(),
             true,
@@ -296,7 +296,7 @@ fn several_pairs_of_long_numbers_are_stored_at_once(rt: HostRuntime) {
         ),
         Some(1)
     );
-    assert_eq!(rt;
+    expect_eq!(rt;
         several_long(&one_to_wide_text(), true, u64::MAX, nine, nine),
         Some(0)
     );
@@ -304,27 +304,27 @@ fn several_pairs_of_long_numbers_are_stored_at_once(rt: HostRuntime) {
 
 #[test]
 fn damaged_archives_have_statuses(rt: HostRuntime) {
-    assert_eq!(rt; status_with(0, b'W'), (0, (0, 0, 0, 0)));
-    assert_eq!(rt; status_with(8, 0xc3), (22, (22, 40, 0, 0)));
-    assert_eq!(rt; status_with(28, 0xc3), (22, (22, 28, 0, 0)));
-    assert_eq!(rt; status_with(40, 0x88), (22, (22, 40, 0, 0)));
-    assert_eq!(rt; status_with(44, 0xd7), (16, (16, -1, 9, 0)));
-    assert_eq!(rt; status_with(84, 3), (18, (18, 0, 3, 3)));
-    assert_eq!(rt; status_with(84, 1), (19, (19, 0, 1, 2)));
-    assert_eq!(rt; status_with(78, 0), (20, (20, 0, 30, 0)));
-    assert_eq!(rt; status_with(80, 0xe1), (17, (17, 13, 4, 0)));
+    expect_eq!(rt; status_with(0, b'W'), (0, (0, 0, 0, 0)));
+    expect_eq!(rt; status_with(8, 0xc3), (22, (22, 40, 0, 0)));
+    expect_eq!(rt; status_with(28, 0xc3), (22, (22, 28, 0, 0)));
+    expect_eq!(rt; status_with(40, 0x88), (22, (22, 40, 0, 0)));
+    expect_eq!(rt; status_with(44, 0xd7), (16, (16, -1, 9, 0)));
+    expect_eq!(rt; status_with(84, 3), (18, (18, 0, 3, 3)));
+    expect_eq!(rt; status_with(84, 1), (19, (19, 0, 1, 2)));
+    expect_eq!(rt; status_with(78, 0), (20, (20, 0, 30, 0)));
+    expect_eq!(rt; status_with(80, 0xe1), (17, (17, 13, 4, 0)));
 }
 
 #[test]
 fn damaged_archives_of_long_numbers_have_statuses(rt: HostRuntime) {
-    assert_eq!(rt; long_status_with(0, b'W'), (0, (0, 0, 0, 0)));
-    assert_eq!(rt; long_status_with(8, 0xc3), (22, (22, 56, 0, 0)));
-    assert_eq!(rt; long_status_with(40, 0xc3), (22, (22, 40, 0, 0)));
-    assert_eq!(rt; long_status_with(60, 0xc7), (16, (16, -1, 9, 0)));
-    assert_eq!(rt; long_status_with(100, 3), (18, (18, 0, 3, 3)));
-    assert_eq!(rt; long_status_with(100, 1), (19, (19, 0, 1, 2)));
-    assert_eq!(rt; long_status_with(94, 0), (20, (20, 0, 30, 0)));
-    assert_eq!(rt; long_status_with(96, 0xe1), (17, (17, 17, 8, 0)));
+    expect_eq!(rt; long_status_with(0, b'W'), (0, (0, 0, 0, 0)));
+    expect_eq!(rt; long_status_with(8, 0xc3), (22, (22, 56, 0, 0)));
+    expect_eq!(rt; long_status_with(40, 0xc3), (22, (22, 40, 0, 0)));
+    expect_eq!(rt; long_status_with(60, 0xc7), (16, (16, -1, 9, 0)));
+    expect_eq!(rt; long_status_with(100, 3), (18, (18, 0, 3, 3)));
+    expect_eq!(rt; long_status_with(100, 1), (19, (19, 0, 1, 2)));
+    expect_eq!(rt; long_status_with(94, 0), (20, (20, 0, 30, 0)));
+    expect_eq!(rt; long_status_with(96, 0xe1), (17, (17, 17, 8, 0)));
 }
 
 #[test]
@@ -332,9 +332,9 @@ fn wide_archives_are_explained(rt: HostRuntime) {
     let mut bytes = one_to_wide_text();
     bytes[8] = 0xc3;
     let short = explain_numbers_to_texts::<u32>(&bytes, true);
-    assert_eq!(rt; (short.status, short.position), (22, 8));
+    expect_eq!(rt; (short.status, short.position), (22, 8));
     let long = explain_numbers_to_texts::<u64>(&bytes, true);
-    assert_eq!(rt; (long.status, long.position), (22, 8));
+    expect_eq!(rt; (long.status, long.position), (22, 8));
 }
 
 #[test]

@@ -57,16 +57,16 @@ fn one_pair_has_its_bytes_or_no_memory(rt: HostRuntime) {
 #[test]
 fn one_pair_succeeds(rt: HostRuntime) {
     let alloc = rt.alloc();
-    assert_eq!(rt; write_one(alloc, SHORT, b"", 7, &empty_text()), (0, true));
-    assert_eq!(rt;
+    expect_eq!(rt; write_one(alloc, SHORT, b"", 7, &empty_text()), (0, true));
+    expect_eq!(rt;
         write_one(alloc, LONG, b"main", 4096, &one_symbol()),
         (0, true)
     );
-    assert_eq!(rt;
+    expect_eq!(rt;
         write_one(alloc, WIDE, b"", 7, &empty_wide_text()),
         (0, true)
     );
-    assert_eq!(rt;
+    expect_eq!(rt;
         write_one(alloc, WIDE_LONG, b"", 7, &empty_wide_text()),
         (0, true)
     );
@@ -74,12 +74,12 @@ fn one_pair_succeeds(rt: HostRuntime) {
 
 #[test]
 fn no_pair_succeeds(rt: HostRuntime) {
-    assert_eq!(rt; write(rt.alloc(), &[], SHORT, &no_items()), (0, true));
-    assert_eq!(rt; write(rt.alloc(), &[], LONG, &no_items()), (0, true));
+    expect_eq!(rt; write(rt.alloc(), &[], SHORT, &no_items()), (0, true));
+    expect_eq!(rt; write(rt.alloc(), &[], LONG, &no_items()), (0, true));
     let mut wide = [0; 24];
     wide[0] = 1;
-    assert_eq!(rt; write(rt.alloc(), &[], WIDE, &wide), (0, true));
-    assert_eq!(rt; write(rt.alloc(), &[], WIDE_LONG, &wide), (0, true));
+    expect_eq!(rt; write(rt.alloc(), &[], WIDE, &wide), (0, true));
+    expect_eq!(rt; write(rt.alloc(), &[], WIDE_LONG, &wide), (0, true));
 }
 
 #[test]
@@ -88,24 +88,24 @@ fn the_rejection_of_the_first_that_does_not_fit_succeeds(rt: HostRuntime) {
     let large = 0x1_0000_0000u64;
     let text: &[u8] = b"main";
     let other: &[u8] = &[0x80];
-    assert_eq!(rt;
+    expect_eq!(rt;
         write_two(alloc, SHORT, [text, other], [large, 1]),
         (3, true)
     );
-    assert_eq!(rt;
+    expect_eq!(rt;
         write_two(alloc, SHORT, [other, text], [1, large]),
         (4, true)
     );
-    assert_eq!(rt;
+    expect_eq!(rt;
         write_two(alloc, WIDE, [other, text], [large, 1]),
         (4, true)
     );
-    assert_eq!(rt; write_two(alloc, WIDE, [text, text], [1, large]), (3, true));
-    assert_eq!(rt;
+    expect_eq!(rt; write_two(alloc, WIDE, [text, text], [1, large]), (3, true));
+    expect_eq!(rt;
         write_two(alloc, LONG, [text, other], [u64::MAX, 1]),
         (4, true)
     );
-    assert_eq!(rt;
+    expect_eq!(rt;
         write_two(alloc, WIDE_LONG, [other, other], [large, large]),
         (4, true)
     );

@@ -148,19 +148,19 @@ fn is_permitted(written: (u32, bool)) -> bool {
 
 #[test]
 fn lookups_find_the_items_alone(rt: HostRuntime) {
-    assert_eq!(rt; found(&empty_text(), false, b""), Some((1, 0)));
-    assert_eq!(rt; found(&empty_text(), false, b"a"), Some((1, 1)));
-    assert_eq!(rt; found(&wide_empty_text(), true, b""), Some((1, 0)));
-    assert_eq!(rt; found(&wide_empty_text(), true, &[0xc3]), Some((1, 4)));
-    assert_eq!(rt; found(&no_items(), false, b""), Some((0, 1)));
+    expect_eq!(rt; found(&empty_text(), false, b""), Some((1, 0)));
+    expect_eq!(rt; found(&empty_text(), false, b"a"), Some((1, 1)));
+    expect_eq!(rt; found(&wide_empty_text(), true, b""), Some((1, 0)));
+    expect_eq!(rt; found(&wide_empty_text(), true, &[0xc3]), Some((1, 4)));
+    expect_eq!(rt; found(&no_items(), false, b""), Some((0, 1)));
 }
 
 #[test]
 fn walks_visit_the_item_and_end(rt: HostRuntime) {
-    assert_eq!(rt; step(&empty_text(), false, 0, b""), Some((1, 2, true)));
-    assert_eq!(rt; step(&empty_text(), false, 2, b"?"), Some((0, 9, true)));
-    assert_eq!(rt; step(&wide_empty_text(), true, 0, b""), Some((1, 2, true)));
-    assert_eq!(rt;
+    expect_eq!(rt; step(&empty_text(), false, 0, b""), Some((1, 2, true)));
+    expect_eq!(rt; step(&empty_text(), false, 2, b"?"), Some((0, 9, true)));
+    expect_eq!(rt; step(&wide_empty_text(), true, 0, b""), Some((1, 2, true)));
+    expect_eq!(rt;
         step(&wide_empty_text(), true, u64::MAX, b"?"),
         Some((0, 9, true))
     );
@@ -169,25 +169,25 @@ fn walks_visit_the_item_and_end(rt: HostRuntime) {
 #[test]
 fn walks_of_two_items_go_on(rt: HostRuntime) {
     let bytes = empty_text_twice();
-    assert_eq!(rt; step(&bytes, false, 0, b""), Some((1, 1, true)));
-    assert_eq!(rt; step(&bytes, false, 1, b""), Some((1, 2, true)));
-    assert_eq!(rt; step(&bytes, false, 2, b"?"), Some((0, 9, true)));
-    assert_eq!(rt; several(&bytes, false, 0), Some((2, 0, 0)));
+    expect_eq!(rt; step(&bytes, false, 0, b""), Some((1, 1, true)));
+    expect_eq!(rt; step(&bytes, false, 1, b""), Some((1, 2, true)));
+    expect_eq!(rt; step(&bytes, false, 2, b"?"), Some((0, 9, true)));
+    expect_eq!(rt; several(&bytes, false, 0), Some((2, 0, 0)));
 }
 
 #[test]
 fn several_items_are_stored_at_once(rt: HostRuntime) {
-    assert_eq!(rt; several(&empty_text(), false, 0), Some((1, 0, 1)));
-    assert_eq!(rt; several(&wide_empty_text(), true, 0), Some((1, 0, 1)));
-    assert_eq!(rt; several(&wide_empty_text(), true, 2), Some((0, 1, 1)));
+    expect_eq!(rt; several(&empty_text(), false, 0), Some((1, 0, 1)));
+    expect_eq!(rt; several(&wide_empty_text(), true, 0), Some((1, 0, 1)));
+    expect_eq!(rt; several(&wide_empty_text(), true, 2), Some((0, 1, 1)));
 }
 
 #[test]
 fn damaged_archives_are_explained(rt: HostRuntime) {
-    assert_eq!(rt; with(0, 0xff), (0, 0, 0, 0));
-    assert_eq!(rt; with(0, 0xc3), (22, 0, 0, 0));
+    expect_eq!(rt; with(0, 0xff), (0, 0, 0, 0));
+    expect_eq!(rt; with(0, 0xc3), (22, 0, 0, 0));
     let wide = explain_text_set(&[0; 23], true);
-    assert_eq!(rt; numbers_of(wide), (16, -1, 24, 0));
+    expect_eq!(rt; numbers_of(wide), (16, -1, 24, 0));
     assert!(rt; !is_set(&[], false) && !is_set(&[0; 23], true));
 }
 
@@ -201,10 +201,10 @@ fn sets_have_their_bytes_or_no_memory(rt: HostRuntime) {
 fn a_write_of_texts_succeeds(rt: HostRuntime) {
     let alloc = rt.alloc();
     let done = (0, true);
-    assert_eq!(rt; write_text(alloc, b"", false, &empty_text()), done);
-    assert_eq!(rt; write_text(alloc, b"", true, &wide_empty_text()), done);
-    assert_eq!(rt; write_two(alloc, [b"", b""], &empty_text_twice()), done);
-    assert_eq!(rt; write(alloc, &[], false, &no_items()), done);
-    assert_eq!(rt; write_text(alloc, &[0x80], false, &[]), (4, true));
-    assert_eq!(rt; write_two(alloc, [b"x", &[0x80]], &[]), (4, true));
+    expect_eq!(rt; write_text(alloc, b"", false, &empty_text()), done);
+    expect_eq!(rt; write_text(alloc, b"", true, &wide_empty_text()), done);
+    expect_eq!(rt; write_two(alloc, [b"", b""], &empty_text_twice()), done);
+    expect_eq!(rt; write(alloc, &[], false, &no_items()), done);
+    expect_eq!(rt; write_text(alloc, &[0x80], false, &[]), (4, true));
+    expect_eq!(rt; write_two(alloc, [b"x", &[0x80]], &[]), (4, true));
 }

@@ -124,12 +124,12 @@ fn pairs_have_their_bytes_or_no_memory(rt: HostRuntime) {
 #[test]
 fn a_write_of_numbers_succeeds(rt: HostRuntime) {
     let alloc = rt.alloc();
-    assert_eq!(rt; write_one(alloc, false, b"tea", &one_to_tea()), (0, true));
-    assert_eq!(rt;
+    expect_eq!(rt; write_one(alloc, false, b"tea", &one_to_tea()), (0, true));
+    expect_eq!(rt;
         write_two(alloc, false, [b"wonderful", b"x"], &one_to_two_texts()),
         (0, true)
     );
-    assert_eq!(rt;
+    expect_eq!(rt;
         write_one(alloc, true, b"wonderful", &one_to_wide_text()),
         (0, true)
     );
@@ -139,16 +139,16 @@ fn a_write_of_numbers_succeeds(rt: HostRuntime) {
 fn a_write_of_long_numbers_succeeds(rt: HostRuntime) {
     let alloc = rt.alloc();
     let done = (0, true);
-    assert_eq!(rt; write_long(alloc, false, 1, b"tea", &long_to_tea()), done);
-    assert_eq!(rt;
+    expect_eq!(rt; write_long(alloc, false, 1, b"tea", &long_to_tea()), done);
+    expect_eq!(rt;
         write_two_long(alloc, false, [b"wonderful", b"x"], &long_to_two_texts()),
         done
     );
-    assert_eq!(rt;
+    expect_eq!(rt;
         write_long(alloc, true, 1, b"wonderful", &one_to_wide_text()),
         done
     );
-    assert_eq!(rt;
+    expect_eq!(rt;
         write_long(alloc, true, GREAT, b"wonderful", &great_to_wide_text()),
         done
     );
@@ -157,11 +157,11 @@ fn a_write_of_long_numbers_succeeds(rt: HostRuntime) {
 #[test]
 fn a_write_of_texts_succeeds(rt: HostRuntime) {
     let alloc = rt.alloc();
-    assert_eq!(rt;
+    expect_eq!(rt;
         write_text(alloc, false, b"", b"wonderful", &empty_to_text()),
         (0, true)
     );
-    assert_eq!(rt;
+    expect_eq!(rt;
         write_text(
             alloc,
             true,
@@ -171,7 +171,7 @@ fn a_write_of_texts_succeeds(rt: HostRuntime) {
         ),
         (0, true)
     );
-    assert_eq!(rt;
+    expect_eq!(rt;
         write_two_texts(alloc, false, [b"wonderful", b"x"], &empty_to_two_texts()),
         (0, true)
     );
@@ -182,32 +182,32 @@ fn no_pair_succeeds(rt: HostRuntime) {
     let alloc = rt.alloc();
     let mut wide = [0; 24];
     wide[0] = 1;
-    assert_eq!(rt;
+    expect_eq!(rt;
         write_numbers::<u32>(alloc, &[], false, &no_items()),
         (0, true)
     );
-    assert_eq!(rt; write_numbers::<u32>(alloc, &[], true, &wide), (0, true));
-    assert_eq!(rt;
+    expect_eq!(rt; write_numbers::<u32>(alloc, &[], true, &wide), (0, true));
+    expect_eq!(rt;
         write_numbers::<u64>(alloc, &[], false, &no_items()),
         (0, true)
     );
-    assert_eq!(rt; write_numbers::<u64>(alloc, &[], true, &wide), (0, true));
-    assert_eq!(rt; write_texts(alloc, &[], false, &no_items()), (0, true));
-    assert_eq!(rt; write_texts(alloc, &[], true, &wide), (0, true));
+    expect_eq!(rt; write_numbers::<u64>(alloc, &[], true, &wide), (0, true));
+    expect_eq!(rt; write_texts(alloc, &[], false, &no_items()), (0, true));
+    expect_eq!(rt; write_texts(alloc, &[], true, &wide), (0, true));
 }
 
 #[test]
 fn the_rejection_of_other_bytes_succeeds(rt: HostRuntime) {
     let alloc = rt.alloc();
-    assert_eq!(rt; write_one(alloc, false, &[0x80], &[]), (4, true));
-    assert_eq!(rt; write_two(alloc, true, [b"x", &[0xc3]], &[]), (4, true));
-    assert_eq!(rt; write_long(alloc, true, GREAT, &[0x80], &[]), (4, true));
-    assert_eq!(rt;
+    expect_eq!(rt; write_one(alloc, false, &[0x80], &[]), (4, true));
+    expect_eq!(rt; write_two(alloc, true, [b"x", &[0xc3]], &[]), (4, true));
+    expect_eq!(rt; write_long(alloc, true, GREAT, &[0x80], &[]), (4, true));
+    expect_eq!(rt;
         write_two_long(alloc, false, [b"x", &[0xc3]], &[]),
         (4, true)
     );
-    assert_eq!(rt; write_text(alloc, false, &[0x80], b"x", &[]), (4, true));
-    assert_eq!(rt;
+    expect_eq!(rt; write_text(alloc, false, &[0x80], b"x", &[]), (4, true));
+    expect_eq!(rt;
         write_text(alloc, true, b"x", &[0x61, 0xff], &[]),
         (4, true)
     );

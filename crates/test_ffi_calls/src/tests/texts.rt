@@ -126,21 +126,21 @@ fn texts_are_utf8(rt: HostRuntime) {
 
 #[test]
 fn lookups_find_the_text(rt: HostRuntime) {
-    assert_eq!(rt; lookup(&empty_text(), SHORT, b""), Some((1, 0, 7)));
-    assert_eq!(rt; lookup(&one_symbol(), LONG, b"main"), Some((1, 0, 4096)));
-    assert_eq!(rt; lookup(&empty_wide_text(), WIDE, b""), Some((1, 0, 7)));
-    assert_eq!(rt; lookup(&empty_wide_text(), WIDE_LONG, b""), Some((1, 0, 7)));
+    expect_eq!(rt; lookup(&empty_text(), SHORT, b""), Some((1, 0, 7)));
+    expect_eq!(rt; lookup(&one_symbol(), LONG, b"main"), Some((1, 0, 4096)));
+    expect_eq!(rt; lookup(&empty_wide_text(), WIDE, b""), Some((1, 0, 7)));
+    expect_eq!(rt; lookup(&empty_wide_text(), WIDE_LONG, b""), Some((1, 0, 7)));
 }
 
 #[test]
 fn lookups_find_no_other_text(rt: HostRuntime) {
-    assert_eq!(rt; lookup(&empty_text(), SHORT, b"a"), Some((1, 1, 9)));
-    assert_eq!(rt; lookup(&one_symbol(), LONG, b"mai"), Some((1, 1, 9)));
-    assert_eq!(rt;
+    expect_eq!(rt; lookup(&empty_text(), SHORT, b"a"), Some((1, 1, 9)));
+    expect_eq!(rt; lookup(&one_symbol(), LONG, b"mai"), Some((1, 1, 9)));
+    expect_eq!(rt;
         lookup(&empty_wide_text(), WIDE, &[0x61, 0xff]),
         Some((1, 4, 9))
     );
-    assert_eq!(rt;
+    expect_eq!(rt;
         lookup(&empty_wide_text(), WIDE_LONG, &[0xc3]),
         Some((1, 4, 9))
     );
@@ -148,46 +148,46 @@ fn lookups_find_no_other_text(rt: HostRuntime) {
 
 #[test]
 fn walks_visit_the_pair(rt: HostRuntime) {
-    assert_eq!(rt; step(&empty_text(), SHORT, 0, 2, b"", 7), Some(1));
-    assert_eq!(rt; step(&one_symbol(), LONG, 0, 1, b"main", 4096), Some(1));
-    assert_eq!(rt; step(&empty_wide_text(), WIDE, 1, 2, b"", 7), Some(1));
-    assert_eq!(rt; step(&empty_wide_text(), WIDE_LONG, 0, 2, b"", 7), Some(1));
+    expect_eq!(rt; step(&empty_text(), SHORT, 0, 2, b"", 7), Some(1));
+    expect_eq!(rt; step(&one_symbol(), LONG, 0, 1, b"main", 4096), Some(1));
+    expect_eq!(rt; step(&empty_wide_text(), WIDE, 1, 2, b"", 7), Some(1));
+    expect_eq!(rt; step(&empty_wide_text(), WIDE_LONG, 0, 2, b"", 7), Some(1));
 }
 
 #[test]
 fn walks_end_behind_the_last_pair(rt: HostRuntime) {
-    assert_eq!(rt; step(&empty_text(), SHORT, 2, 9, b"?", 9), Some(0));
-    assert_eq!(rt; step(&one_symbol(), LONG, 1, 9, b"?", 9), Some(0));
-    assert_eq!(rt;
+    expect_eq!(rt; step(&empty_text(), SHORT, 2, 9, b"?", 9), Some(0));
+    expect_eq!(rt; step(&one_symbol(), LONG, 1, 9, b"?", 9), Some(0));
+    expect_eq!(rt;
         step(&empty_wide_text(), WIDE, u64::MAX, 9, b"?", 9),
         Some(0)
     );
-    assert_eq!(rt; step(&empty_wide_text(), WIDE_LONG, 2, 9, b"?", 9), Some(0));
+    expect_eq!(rt; step(&empty_wide_text(), WIDE_LONG, 2, 9, b"?", 9), Some(0));
 }
 
 #[test]
 fn walks_of_two_pairs_go_on(rt: HostRuntime) {
     let bytes = empty_text_twice();
-    assert_eq!(rt; step(&bytes, SHORT, 0, 1, b"", 7), Some(1));
-    assert_eq!(rt; step(&bytes, SHORT, 1, 2, b"", 8), Some(1));
-    assert_eq!(rt; step(&bytes, SHORT, 2, 9, b"?", 9), Some(0));
+    expect_eq!(rt; step(&bytes, SHORT, 0, 1, b"", 7), Some(1));
+    expect_eq!(rt; step(&bytes, SHORT, 1, 2, b"", 8), Some(1));
+    expect_eq!(rt; step(&bytes, SHORT, 2, 9, b"?", 9), Some(0));
 }
 
 #[test]
 fn several_pairs_are_stored_at_once(rt: HostRuntime) {
     let nine: (u64, &[u8], u64) = (9, b"?", 9);
     let seven: (u64, &[u8], u64) = (2, b"", 7);
-    assert_eq!(rt; several(&empty_text(), SHORT, 0, seven, nine), Some(1));
-    assert_eq!(rt;
+    expect_eq!(rt; several(&empty_text(), SHORT, 0, seven, nine), Some(1));
+    expect_eq!(rt;
         several(&one_symbol(), LONG, 0, (1, b"main", 4096), nine),
         Some(1)
     );
-    assert_eq!(rt; several(&empty_wide_text(), WIDE, 1, seven, nine), Some(1));
-    assert_eq!(rt;
+    expect_eq!(rt; several(&empty_wide_text(), WIDE, 1, seven, nine), Some(1));
+    expect_eq!(rt;
         several(&empty_wide_text(), WIDE_LONG, 2, nine, nine),
         Some(0)
     );
-    assert_eq!(rt;
+    expect_eq!(rt;
         several(&empty_text_twice(), SHORT, 0, (1, b"", 7), (2, b"", 8)),
         Some(2)
     );
@@ -195,15 +195,15 @@ fn several_pairs_are_stored_at_once(rt: HostRuntime) {
 
 #[test]
 fn headers_serve_after_overwrites(rt: HostRuntime) {
-    assert_eq!(rt;
+    expect_eq!(rt;
         overwrite_and_get(&mut empty_text(), SHORT, b"", 3),
         Some((0, 0, 3))
     );
-    assert_eq!(rt;
+    expect_eq!(rt;
         overwrite_and_get(&mut one_symbol(), LONG, b"mai", 3),
         Some((1, 1, 9))
     );
-    assert_eq!(rt;
+    expect_eq!(rt;
         overwrite_and_get(&mut empty_wide_text(), WIDE, &[0xc3], 3),
         Some((4, 4, 9))
     );
@@ -213,16 +213,16 @@ fn headers_serve_after_overwrites(rt: HostRuntime) {
 fn overwrites_reject_keys_and_values(rt: HostRuntime) {
     let mut narrow = empty_text();
     let mut wide = empty_wide_text();
-    assert_eq!(rt;
+    expect_eq!(rt;
         overwrite(&mut narrow, SHORT, &[0x80], 0x1_0000_0000),
         Some(4)
     );
-    assert_eq!(rt; overwrite(&mut narrow, SHORT, b"", 0x1_0000_0000), Some(3));
-    assert_eq!(rt; overwrite(&mut narrow, SHORT, b"a", 0x1_0000_0000), Some(3));
-    assert_eq!(rt; overwrite(&mut narrow, SHORT, b"a", 8), Some(1));
-    assert_eq!(rt; overwrite(&mut wide, WIDE, b"a", u64::MAX), Some(3));
-    assert_eq!(rt; overwrite(&mut wide, WIDE_LONG, b"a", u64::MAX), Some(1));
-    assert_eq!(rt; overwrite(&mut wide, WIDE_LONG, &[0x80], 8), Some(4));
+    expect_eq!(rt; overwrite(&mut narrow, SHORT, b"", 0x1_0000_0000), Some(3));
+    expect_eq!(rt; overwrite(&mut narrow, SHORT, b"a", 0x1_0000_0000), Some(3));
+    expect_eq!(rt; overwrite(&mut narrow, SHORT, b"a", 8), Some(1));
+    expect_eq!(rt; overwrite(&mut wide, WIDE, b"a", u64::MAX), Some(3));
+    expect_eq!(rt; overwrite(&mut wide, WIDE_LONG, b"a", u64::MAX), Some(1));
+    expect_eq!(rt; overwrite(&mut wide, WIDE_LONG, &[0x80], 8), Some(4));
     assert!(rt; narrow == empty_text() && wide == empty_wide_text());
 }
 
@@ -232,10 +232,10 @@ fn overwrites_change_the_value_alone(rt: HostRuntime) {
     let mut long = one_symbol();
     let mut wide = empty_wide_text();
     let mut wide_long = empty_wide_text();
-    assert_eq!(rt; overwrite(&mut narrow, SHORT, b"", 0x0405), Some(0));
-    assert_eq!(rt; overwrite(&mut long, LONG, b"main", 0x1_0000_0002), Some(0));
-    assert_eq!(rt; overwrite(&mut wide, WIDE, b"", 0xffff_ffff), Some(0));
-    assert_eq!(rt;
+    expect_eq!(rt; overwrite(&mut narrow, SHORT, b"", 0x0405), Some(0));
+    expect_eq!(rt; overwrite(&mut long, LONG, b"main", 0x1_0000_0002), Some(0));
+    expect_eq!(rt; overwrite(&mut wide, WIDE, b"", 0xffff_ffff), Some(0));
+    expect_eq!(rt;
         overwrite(&mut wide_long, WIDE_LONG, b"", u64::MAX),
         Some(0)
     );

@@ -107,11 +107,11 @@ fn status_with(pos: usize, byte: u8) -> (u32, (u32, i64, u64, u64)) {
 
 #[test]
 fn lookups_find_the_text(rt: HostRuntime) {
-    assert_eq!(rt;
+    expect_eq!(rt;
         lookup(&empty_to_text(), false, b"", b"wonderful"),
         Some((1, 0))
     );
-    assert_eq!(rt;
+    expect_eq!(rt;
         lookup(&empty_to_wide_text(), true, b"", b"a text of 17 byte"),
         Some((1, 0))
     );
@@ -119,31 +119,31 @@ fn lookups_find_the_text(rt: HostRuntime) {
 
 #[test]
 fn lookups_find_no_other_text(rt: HostRuntime) {
-    assert_eq!(rt; lookup(&empty_to_text(), false, b"a", b"?"), Some((1, 1)));
-    assert_eq!(rt;
+    expect_eq!(rt; lookup(&empty_to_text(), false, b"a", b"?"), Some((1, 1)));
+    expect_eq!(rt;
         lookup(&empty_to_text(), false, &[0xc3], b"?"),
         Some((1, 4))
     );
-    assert_eq!(rt;
+    expect_eq!(rt;
         lookup(&empty_to_wide_text(), true, b"wonderful", b"?"),
         Some((1, 1))
     );
-    assert_eq!(rt;
+    expect_eq!(rt;
         lookup(&empty_to_wide_text(), true, &[0x80], b"?"),
         Some((1, 4))
     );
-    assert_eq!(rt; lookup(&no_items(), false, b"", b"?"), Some((0, 1)));
+    expect_eq!(rt; lookup(&no_items(), false, b"", b"?"), Some((0, 1)));
 }
 
 #[test]
 fn walks_visit_the_pair_and_end(rt: HostRuntime) {
     let other: [&[u8]; 2] = [b"!", b"?"];
-    assert_eq!(rt;
+    expect_eq!(rt;
         step(&empty_to_text(), false, 0, 2, [b"", b"wonderful"]),
         Some(1)
     );
-    assert_eq!(rt; step(&empty_to_text(), false, 2, 9, other), Some(0));
-    assert_eq!(rt;
+    expect_eq!(rt; step(&empty_to_text(), false, 2, 9, other), Some(0));
+    expect_eq!(rt;
         step(
             &empty_to_wide_text(),
             true,
@@ -153,24 +153,24 @@ fn walks_visit_the_pair_and_end(rt: HostRuntime) {
         ),
         Some(1)
     );
-    assert_eq!(rt; step(&empty_to_wide_text(), true, 7, 9, other), Some(0));
+    expect_eq!(rt; step(&empty_to_wide_text(), true, 7, 9, other), Some(0));
 }
 
 #[test]
 fn walks_of_two_pairs_go_on(rt: HostRuntime) {
     let bytes = empty_to_two_texts();
-    assert_eq!(rt; step(&bytes, false, 0, 1, [b"", b"wonderful"]), Some(1));
-    assert_eq!(rt; step(&bytes, false, 1, 2, [b"", b"x"]), Some(1));
-    assert_eq!(rt; step(&bytes, false, 2, 9, [b"!", b"?"]), Some(0));
+    expect_eq!(rt; step(&bytes, false, 0, 1, [b"", b"wonderful"]), Some(1));
+    expect_eq!(rt; step(&bytes, false, 1, 2, [b"", b"x"]), Some(1));
+    expect_eq!(rt; step(&bytes, false, 2, 9, [b"!", b"?"]), Some(0));
 }
 
 #[test]
 fn several_pairs_are_stored_at_once(rt: HostRuntime) {
-    assert_eq!(rt;
+    expect_eq!(rt;
         several(&empty_to_text(), false, 0, 2, [b"", b"wonderful"]),
         Some(1)
     );
-    assert_eq!(rt;
+    expect_eq!(rt;
         several(
             &empty_to_wide_text(),
             true,
@@ -180,7 +180,7 @@ fn several_pairs_are_stored_at_once(rt: HostRuntime) {
         ),
         Some(1)
     );
-    assert_eq!(rt;
+    expect_eq!(rt;
         several(&empty_to_wide_text(), true, 2, 9, [b"!", b"?"]),
         Some(0)
     );
@@ -188,12 +188,12 @@ fn several_pairs_are_stored_at_once(rt: HostRuntime) {
 
 #[test]
 fn damaged_archives_have_statuses(rt: HostRuntime) {
-    assert_eq!(rt; status_with(0, b'W'), (0, (0, 0, 0, 0)));
-    assert_eq!(rt; status_with(8, 0xc3), (22, (22, 20, 0, 0)));
-    assert_eq!(rt; status_with(12, 0xc3), (22, (22, 12, 0, 0)));
-    assert_eq!(rt; status_with(20, 0x88), (22, (22, 20, 0, 0)));
-    assert_eq!(rt; status_with(24, 0xf0), (16, (16, 4, 9, 0)));
-    assert_eq!(rt; status_with(45, 0xff), (19, (19, 0, 1, 0)));
+    expect_eq!(rt; status_with(0, b'W'), (0, (0, 0, 0, 0)));
+    expect_eq!(rt; status_with(8, 0xc3), (22, (22, 20, 0, 0)));
+    expect_eq!(rt; status_with(12, 0xc3), (22, (22, 12, 0, 0)));
+    expect_eq!(rt; status_with(20, 0x88), (22, (22, 20, 0, 0)));
+    expect_eq!(rt; status_with(24, 0xf0), (16, (16, 4, 9, 0)));
+    expect_eq!(rt; status_with(45, 0xff), (19, (19, 0, 1, 0)));
 }
 
 #[test]
@@ -201,7 +201,7 @@ fn wide_archives_are_explained(rt: HostRuntime) {
     let mut bytes = empty_to_wide_text();
     bytes[16] = 0xc3;
     let error = explain_texts_to_texts(&bytes, true);
-    assert_eq!(rt; (error.status, error.position), (22, 40));
+    expect_eq!(rt; (error.status, error.position), (22, 40));
 }
 
 #[test]

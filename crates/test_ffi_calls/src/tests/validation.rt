@@ -33,61 +33,61 @@ fn opened(bytes: &[u8], form: Form) -> (u32, u32) {
 
 #[test]
 fn empty_maps_are_valid(rt: HostRuntime) {
-    assert_eq!(rt; opened(&no_items(), SHORT), (0, 0));
-    assert_eq!(rt; opened(&no_items(), LONG), (0, 0));
+    expect_eq!(rt; opened(&no_items(), SHORT), (0, 0));
+    expect_eq!(rt; opened(&no_items(), LONG), (0, 0));
     let mut wide = [0; 24];
     wide[0] = 1;
-    assert_eq!(rt; opened(&wide, WIDE), (0, 0));
-    assert_eq!(rt; opened(&wide, WIDE_LONG), (0, 0));
+    expect_eq!(rt; opened(&wide, WIDE), (0, 0));
+    expect_eq!(rt; opened(&wide, WIDE_LONG), (0, 0));
 }
 
 #[test]
 fn too_few_bytes_are_out_of_range(rt: HostRuntime) {
-    assert_eq!(rt; opened(&[], SHORT), (16, 16));
-    assert_eq!(rt; opened(&[0; 11], LONG), (16, 16));
-    assert_eq!(rt; opened(&no_items(), WIDE), (16, 16));
-    assert_eq!(rt; opened(&[0; 23], WIDE_LONG), (16, 16));
-    assert_eq!(rt; open_numbers::<u32>(&one_number()[4..], SHORT), 16);
-    assert_eq!(rt; open_texts(&empty_text()[4..], SHORT), 16);
+    expect_eq!(rt; opened(&[], SHORT), (16, 16));
+    expect_eq!(rt; opened(&[0; 11], LONG), (16, 16));
+    expect_eq!(rt; opened(&no_items(), WIDE), (16, 16));
+    expect_eq!(rt; opened(&[0; 23], WIDE_LONG), (16, 16));
+    expect_eq!(rt; open_numbers::<u32>(&one_number()[4..], SHORT), 16);
+    expect_eq!(rt; open_texts(&empty_text()[4..], SHORT), 16);
 }
 
 #[test]
 fn odd_positions_are_unaligned(rt: HostRuntime) {
-    assert_eq!(rt; opened(&[0; 13], SHORT), (17, 17));
-    assert_eq!(rt; opened(&[0; 28], WIDE_LONG), (17, 17));
-    assert_eq!(rt; number_with(48, 0xe1), 17);
-    assert_eq!(rt; symbol_with(64, 0xe1), 17);
+    expect_eq!(rt; opened(&[0; 13], SHORT), (17, 17));
+    expect_eq!(rt; opened(&[0; 28], WIDE_LONG), (17, 17));
+    expect_eq!(rt; number_with(48, 0xe1), 17);
+    expect_eq!(rt; symbol_with(64, 0xe1), 17);
 }
 
 #[test]
 fn as_many_pairs_as_buckets_are_an_invalid_length(rt: HostRuntime) {
-    assert_eq!(rt; number_with(52, 2), 18);
-    assert_eq!(rt; symbol_with(68, 2), 18);
+    expect_eq!(rt; number_with(52, 2), 18);
+    expect_eq!(rt; symbol_with(68, 2), 18);
 }
 
 #[test]
 fn another_number_of_full_buckets_is_wrong(rt: HostRuntime) {
-    assert_eq!(rt; number_with(17, 0xff), 19);
-    assert_eq!(rt; number_with(16, 0x28), 19);
-    assert_eq!(rt; symbol_with(32, 0xff), 19);
+    expect_eq!(rt; number_with(17, 0xff), 19);
+    expect_eq!(rt; number_with(16, 0x28), 19);
+    expect_eq!(rt; symbol_with(32, 0xff), 19);
 }
 
 #[test]
 fn other_mirrored_controls_are_unwrapped(rt: HostRuntime) {
-    assert_eq!(rt; number_with(19, 0x29), 20);
-    assert_eq!(rt; number_with(46, 0), 20);
-    assert_eq!(rt; symbol_with(35, 0x38), 20);
+    expect_eq!(rt; number_with(19, 0x29), 20);
+    expect_eq!(rt; number_with(46, 0), 20);
+    expect_eq!(rt; symbol_with(35, 0x38), 20);
 }
 
 #[test]
 fn keys_that_are_no_text_are_invalid_values(rt: HostRuntime) {
-    assert_eq!(rt; symbol_with(16, 0xc3), 22);
+    expect_eq!(rt; symbol_with(16, 0xc3), 22);
 }
 
 #[test]
 fn bytes_of_another_form_are_rejected(rt: HostRuntime) {
-    assert_eq!(rt; open_numbers::<u32>(&one_wide_number(), WIDE), 0);
-    assert_eq!(rt; open_texts(&empty_wide_text(), WIDE_LONG), 0);
+    expect_eq!(rt; open_numbers::<u32>(&one_wide_number(), WIDE), 0);
+    expect_eq!(rt; open_texts(&empty_wide_text(), WIDE_LONG), 0);
     assert!(rt; open_numbers::<u32>(&one_number(), WIDE) != 0);
     assert!(rt; open_numbers::<u32>(&one_number(), LONG) != 0);
     assert!(rt; open_texts(&empty_text(), LONG) != 0);

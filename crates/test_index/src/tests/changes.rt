@@ -20,7 +20,7 @@ fn is_whole(bytes: &[u8]) -> Result<bool, VerifyError> {
 fn each_change_of_one_byte_is_answered(rt: HostRuntime) {
     let mut bytes = four_entries();
     let answers = answers_to_changes(&mut bytes, is_whole);
-    assert_eq!(rt;
+    expect_eq!(rt;
         answers,
         Answers {
             right: 4962,

@@ -23,10 +23,10 @@ fn refused_place(bytes: &[u8]) -> (usize, usize) {
 fn a_place_that_is_none_is_refused(rt: HostRuntime) -> Result<(), Fail> {
     let mut one = one_pair();
     one[0] = 1;
-    assert_eq!(rt; refused_place(&one), (1, 1));
+    expect_eq!(rt; refused_place(&one), (1, 1));
     let mut four = four_entries();
     four[12] = 4;
-    assert_eq!(rt; refused_place(&four), (4, 4));
+    expect_eq!(rt; refused_place(&four), (4, 4));
     Ok(())
 }
 
@@ -35,12 +35,12 @@ fn an_empty_bucket_may_hold_any_index(rt: HostRuntime) -> Result<(), Fail> {
     let mut four = four_entries();
     four[8] = 4;
     let map = ArchivedIndexMap::of(access::<Small>(&four)?);
-    assert_eq!(rt; map.len(), 4);
-    assert_eq!(rt; map.get_index_of(&5), Some(2));
+    expect_eq!(rt; map.len(), 4);
+    expect_eq!(rt; map.get_index_of(&5), Some(2));
     let mut four = four_entries();
     four[8] = 5;
     four[12] = 4;
-    assert_eq!(rt; refused_place(&four), (4, 4));
+    expect_eq!(rt; refused_place(&four), (4, 4));
     Ok(())
 }
 
@@ -55,7 +55,7 @@ fn entries_may_be_anywhere(rt: HostRuntime) -> Result<(), Fail> {
         let pair = pair.wrapping_add(i32::from(value.to_native()));
         digits = digits.wrapping_mul(100).wrapping_add(pair);
     }
-    assert_eq!(rt; digits, 23456780);
+    expect_eq!(rt; digits, 23456780);
     Ok(())
 }
 
@@ -81,6 +81,6 @@ fn a_wide_map_is_accepted(rt: HostRuntime) -> Result<(), Fail> {
         Some((place, _, value)) => (place, value.to_native()),
         None => (9, 0),
     };
-    assert_eq!(rt; found, (0, 2));
+    expect_eq!(rt; found, (0, 2));
     Ok(())
 }

@@ -39,7 +39,7 @@ fn equal_maps_have_the_same_pairs_in_order(rt: HostRuntime) -> Result<(), Fail> 
         equal::<Narrow>(&four, three.as_slice())?,
         equal::<Narrow>(three.as_slice(), &four)?,
     ];
-    assert_eq!(rt; found, [true, false, false, false, false]);
+    expect_eq!(rt; found, [true, false, false, false, false]);
     Ok(())
 }
 
@@ -57,7 +57,7 @@ fn equal_wide_maps_have_the_same_pairs_in_order(rt: HostRuntime) -> Result<(), F
         equal::<Wide>(two.as_slice(), other.as_slice())?,
         equal::<Wide>(two.as_slice(), one.as_slice())?,
     ];
-    assert_eq!(rt; found, [true, false, false, false]);
+    expect_eq!(rt; found, [true, false, false, false]);
     Ok(())
 }
 
@@ -75,6 +75,6 @@ fn equal_sets_have_the_same_keys_in_order(rt: HostRuntime) -> Result<(), Fail> {
         same_keys(two.as_slice(), other.as_slice())?,
         same_keys(two.as_slice(), one.as_slice())?,
     ];
-    assert_eq!(rt; found, [true, false, false, false]);
+    expect_eq!(rt; found, [true, false, false, false]);
     Ok(())
 }

@@ -47,7 +47,7 @@ fn misplaced_keys_are_counted_up_to_a_limit(rt: HostRuntime) {
         misplaced_within(&twice, 2).ok(),
         misplaced_within(&no_pairs(), 0).ok(),
     ];
-    assert_eq!(rt;
+    expect_eq!(rt;
         counted,
         [
             Some(None),
@@ -75,5 +75,5 @@ fn the_strides_of_all_lookups_are_counted(rt: HostRuntime) {
         misplaced_counted(&four, 4).ok(),
         misplaced_counted(&four, 1).ok(),
     ];
-    assert_eq!(rt; counted, [Some((Some(0), 4)), Some((None, 2))]);
+    expect_eq!(rt; counted, [Some((Some(0), 4)), Some((None, 2))]);
 }

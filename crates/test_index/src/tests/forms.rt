@@ -82,7 +82,7 @@ fn all_forms_find_pairs_with_their_places(rt: HostRuntime) {
         found::<Wide>(&wide_pair(), 1).ok(),
         found::<Wide>(&wide_pair(), 2).ok(),
     ];
-    assert_eq!(rt;
+    expect_eq!(rt;
         found,
         [
             pair(0, 1, 2),
@@ -102,7 +102,7 @@ fn all_forms_miss_a_key_that_was_changed(rt: HostRuntime) {
     let mut bytes = one_pair();
     bytes[39] = 5;
     let found = found::<Narrow>(&bytes, 5).ok();
-    assert_eq!(rt; found, Some((None, None, None, None, false)));
+    expect_eq!(rt; found, Some((None, None, None, None, false)));
 }
 
 #[test]
@@ -111,7 +111,7 @@ fn all_forms_find_keys_of_a_set(rt: HostRuntime) {
         member(&one_index_key(), 1).ok(),
         member(&one_index_key(), 2).ok(),
     ];
-    assert_eq!(rt;
+    expect_eq!(rt;
         found,
         [
             Some((Some((0, 1)), Some(1), Some(0), true)),

@@ -24,7 +24,7 @@ fn a_key_is_found_with_its_place(rt: HostRuntime) -> Result<(), Fail> {
         Some((key, value)) => (key.to_native(), value.to_native()),
         None => (0, 0),
     };
-    assert_eq!(rt; (found, second), ((3, 7, 8), (3, 4)));
+    expect_eq!(rt; (found, second), ((3, 7, 8), (3, 4)));
     let past = map.get_index(4).is_none();
     let none = map.get_index_of(&9).is_none();
     assert!(rt; past && none);
@@ -44,7 +44,7 @@ fn every_form_finds_the_same(rt: HostRuntime) -> Result<(), Fail> {
         None => 0,
     };
     let place = map.get_index_of(&5);
-    assert_eq!(rt; (key, value), (5, 6));
+    expect_eq!(rt; (key, value), (5, 6));
     assert!(rt; place == Some(2));
     assert!(rt; map.contains_key(&5));
     Ok(())
@@ -67,7 +67,7 @@ fn a_comparison_is_handed_in(rt: HostRuntime) -> Result<(), Fail> {
         None => 0,
     };
     let place = map.get_index_of_with(&5i8, |_: &i8, _: View<'_, i8>| true);
-    assert_eq!(rt; (found, value, key), ((2, 6), 6, 5));
+    expect_eq!(rt; (found, value, key), ((2, 6), 6, 5));
     assert!(rt; place == Some(2));
     Ok(())
 }
@@ -88,7 +88,7 @@ fn a_walk_keeps_the_order(rt: HostRuntime) -> Result<(), Fail> {
             .wrapping_mul(10)
             .wrapping_add(i32::from(value.to_native()));
     }
-    assert_eq!(rt; (keys, values), (1357, 2468));
+    expect_eq!(rt; (keys, values), (1357, 2468));
     Ok(())
 }
 
@@ -100,7 +100,7 @@ fn lengths_of_walks_are_exact(rt: HostRuntime) -> Result<(), Fail> {
     let before = pairs.len();
     let _first = pairs.next();
     let _second = pairs.next();
-    assert_eq!(rt; (before, pairs.len(), pairs.size_hint().0), (4, 2, 2));
+    expect_eq!(rt; (before, pairs.len(), pairs.size_hint().0), (4, 2, 2));
     Ok(())
 }
 
@@ -116,7 +116,7 @@ fn of_equal_keys_the_first_is_found(rt: HostRuntime) -> Result<(), Fail> {
         Some((key, value)) => (key.to_native(), value.to_native()),
         None => (0, 0),
     };
-    assert_eq!(rt;
+    expect_eq!(rt;
         (map.len(), found, second, map.misplaced()),
         (2, (0, 2), (1, 9), 1)
     );
@@ -133,7 +133,7 @@ fn a_comparison_that_accepts_none(rt: HostRuntime) -> Result<(), Fail> {
         false
     });
     assert!(rt; found.is_none());
-    assert_eq!(rt; asks.get(), 4);
+    expect_eq!(rt; asks.get(), 4);
     Ok(())
 }
 
@@ -149,7 +149,7 @@ fn strides_are_counted(rt: HostRuntime) -> Result<(), Fail> {
     let refused = map.get_index_of_counted(&5i8, |_: &i8, _: View<'_, i8>| false, &mut strides);
     let two = strides.count();
     let nothing = empty.get_index_of_counted(&5i8, |_: &i8, _: View<'_, i8>| true, &mut strides);
-    assert_eq!(rt;
+    expect_eq!(rt;
         (found, refused, nothing, one, two, strides.count()),
         (Some(2), None, None, 1, 2, 2)
     );
@@ -173,8 +173,8 @@ fn strides_of_seventeen_keys_under_one_hash(rt: HostRuntime) -> Result<(), Fail>
     let behind = map.get_index_of_counted(&1i8, at, &mut strides);
     let three = strides.count();
     let refused = map.get_index_of_counted(&1i8, |_: &i8, _: View<'_, i8>| false, &mut strides);
-    assert_eq!(rt; (first, behind, refused), (Some(0), Some(16), None));
-    assert_eq!(rt; (one, three, strides.count()), (1, 3, 5));
+    expect_eq!(rt; (first, behind, refused), (Some(0), Some(16), None));
+    expect_eq!(rt; (one, three, strides.count()), (1, 3, 5));
     Ok(())
 }
 
@@ -187,7 +187,7 @@ fn a_place_that_two_buckets_hold(rt: HostRuntime) -> Result<(), Fail> {
         Some((place, key, value)) => (place, key.to_native(), value.to_native()),
         None => (9, 0, 0),
     };
-    assert_eq!(rt; (found, map.misplaced()), ((0, 1, 2), 1));
+    expect_eq!(rt; (found, map.misplaced()), ((0, 1, 2), 1));
     Ok(())
 }
 
@@ -200,7 +200,7 @@ fn a_key_that_was_changed_is_misplaced(rt: HostRuntime) -> Result<(), Fail> {
         Some((key, value)) => (key.to_native(), value.to_native()),
         None => (0, 0),
     };
-    assert_eq!(rt; (pair, map.misplaced()), ((5, 2), 1));
+    expect_eq!(rt; (pair, map.misplaced()), ((5, 2), 1));
     assert!(rt; map.get_full(&5).is_none());
     Ok(())
 }
@@ -222,6 +222,6 @@ fn maps_are_printed(rt: HostRuntime) -> Result<(), Fail> {
     let bytes = four_entries();
     let map = ArchivedIndexMap::of(access::<Small>(&bytes)?);
     let text = format!(in rt.alloc(); "{map:?}")?;
-    assert_eq!(rt; text.as_str(), "{1: 2, 3: 4, 5: 6, 7: 8}");
+    expect_eq!(rt; text.as_str(), "{1: 2, 3: 4, 5: 6, 7: 8}");
     Ok(())
 }

@@ -39,7 +39,7 @@ fn pairs_are_read_back_in_their_order(rt: HostRuntime) {
         is_read::<Wide>(alloc, &wide_pair(), &[(1, 2)]),
         is_read::<Narrow>(alloc, &four_entries(), &[(1, 2), (3, 4), (7, 8), (5, 6)]),
     ];
-    assert_eq!(rt; read, [true, true, true, true, false]);
+    expect_eq!(rt; read, [true, true, true, true, false]);
 }
 
 // Returns the items in the archive of an index set, if it is valid and no allocation fails.
@@ -68,7 +68,7 @@ fn items_are_read_back_in_their_order(rt: HostRuntime) -> Result<(), Fail> {
         are_items(alloc, &no_pairs(), &[]),
         are_items(alloc, written.as_slice(), &[1, 3, 4]),
     ];
-    assert_eq!(rt; read, [true, true, true, false]);
+    expect_eq!(rt; read, [true, true, true, false]);
     Ok(())
 }
 
@@ -93,5 +93,5 @@ fn lists_come_back(rt: HostRuntime) {
         names_come_back(alloc, "main", "a name of more than eight bytes"),
         numbers_come_back(alloc),
     ];
-    assert_eq!(rt; back, [Some(true); 2]);
+    expect_eq!(rt; back, [Some(true); 2]);
 }

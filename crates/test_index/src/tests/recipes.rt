@@ -62,12 +62,12 @@ fn an_index_map(rt: HostRuntime) -> Result<(), Fail> {
     let coffee = price_of(archive.as_slice(), "coffee")?;
     let milk = price_of(archive.as_slice(), "milk")?;
     let cake = find(archive.as_slice(), "cake")?;
-    assert_eq!(rt; (coffee, milk, cake), (Some(4), None, Some((2, 5))));
+    expect_eq!(rt; (coffee, milk, cake), (Some(4), None, Some((2, 5))));
     let first = name_at(archive.as_slice(), 0)?;
     let fourth = name_at(archive.as_slice(), 3)?;
     assert!(rt; first == Some("tea") && fourth.is_none());
     let all = all_prices(alloc, archive.as_slice())?;
-    assert_eq!(rt; all.as_slice(), [3, 4, 5].as_slice());
+    expect_eq!(rt; all.as_slice(), [3, 4, 5].as_slice());
     Ok(())
 }
 
@@ -95,7 +95,7 @@ fn an_index_set(rt: HostRuntime) -> Result<(), Fail> {
     let archive = write_words(alloc)?;
     let blue = index_of(archive.as_slice(), "blue")?;
     let pink = index_of(archive.as_slice(), "pink")?;
-    assert_eq!(rt; (blue, pink), (Some(2), None));
+    expect_eq!(rt; (blue, pink), (Some(2), None));
     let words = read_words(alloc, archive.as_slice())?;
     assert!(rt; words.len() == 3 && words[1].as_str() == "green");
     Ok(())

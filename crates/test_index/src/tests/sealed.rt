@@ -124,7 +124,7 @@ fn a_found_value_is_written_in_place(rt: HostRuntime) {
     let found = value_of(&bytes, 1).ok();
     let mut wanted = one_pair();
     wanted[40] = 0xff;
-    assert_eq!(rt;
+    expect_eq!(rt;
         (replaced, found, bytes == wanted),
         (Some(Some((0, 1, 2))), Some(Some(-1)), true)
     );
@@ -145,7 +145,7 @@ fn every_form_writes_the_same(rt: HostRuntime) {
     );
     let mut wanted = four_entries();
     wanted[51..59].copy_from_slice(&[1, 20, 3, 40, 5, 60, 7, 80]);
-    assert_eq!(rt;
+    expect_eq!(rt;
         (replaced, beside_key, value, by_comparison, bytes == wanted),
         (
             [Some(Some((3, 7, 8))), Some(Some((1, 3, 4)))],
@@ -170,7 +170,7 @@ fn where_no_key_fits_nothing_is_lent(rt: HostRuntime) {
         key_by(&mut bytes, 5, false).ok(),
         value_by(&mut bytes, 5, false).ok(),
     );
-    assert_eq!(rt;
+    expect_eq!(rt;
         (
             full,
             beside_key,
@@ -234,7 +234,7 @@ fn a_value_is_written_by_its_place(rt: HostRuntime) {
     let found = value_of(&bytes, 5).ok();
     let mut wanted = four_entries();
     wanted[56] = 0xff;
-    assert_eq!(rt;
+    expect_eq!(rt;
         (written, found, bytes == wanted),
         ([Some(Some(2)), Some(None)], Some(Some(-1)), true)
     );

@@ -18,13 +18,13 @@ type Keys = IndexSetOf<i8>;
 fn one_item_is_written(rt: HostRuntime) -> Result<(), Fail> {
     let alloc = rt.alloc();
     let bytes = to_bytes(alloc, &OrderedItems(vec![in alloc; 1i8]?))?;
-    assert_eq!(rt; bytes.as_slice(), one_index_key().as_slice());
+    expect_eq!(rt; bytes.as_slice(), one_index_key().as_slice());
     let set = ArchivedIndexSet::of(access::<Keys>(bytes.as_slice())?);
     let found = match set.get_full(&1) {
         Some((place, key)) => (place, key.to_native()),
         None => (9, 0),
     };
-    assert_eq!(rt; found, (0, 1));
+    expect_eq!(rt; found, (0, 1));
     Ok(())
 }
 
@@ -61,8 +61,8 @@ fn a_set_is_a_map_to_units(rt: HostRuntime) -> Result<(), Fail> {
     let alloc = rt.alloc();
     let set = set_of(alloc, vec![in alloc; 1i8]?)?;
     let map = map_of(alloc, vec![in alloc; (1i8, ())]?)?;
-    assert_eq!(rt; set.as_slice(), one_key_parts().as_slice());
-    assert_eq!(rt; map.as_slice(), one_key_parts().as_slice());
+    expect_eq!(rt; set.as_slice(), one_key_parts().as_slice());
+    expect_eq!(rt; map.as_slice(), one_key_parts().as_slice());
     Ok(())
 }
 
@@ -79,13 +79,13 @@ fn keys_are_found(rt: HostRuntime) -> Result<(), Fail> {
         Some(key) => key.to_native(),
         None => 0,
     };
-    assert_eq!(rt; (stored, first, set.len(), set.misplaced()), (3, 4, 3, 0));
+    expect_eq!(rt; (stored, first, set.len(), set.misplaced()), (3, 4, 3, 0));
     let up_to = (set.misplaced_up_to(2), set.misplaced_up_to(3));
-    assert_eq!(rt; up_to, (None, Some(0)));
+    expect_eq!(rt; up_to, (None, Some(0)));
     let has = set.contains(&3);
     let none = set.contains(&2);
     let same = set.eq_index(set);
-    assert_eq!(rt;
+    expect_eq!(rt;
         (has, none, same, set.is_empty()),
         (true, false, true, false)
     );
@@ -99,7 +99,7 @@ fn keys_are_found(rt: HostRuntime) -> Result<(), Fail> {
     for key in &set {
         last[1] = key.to_native();
     }
-    assert_eq!(rt; last, [3; 2]);
+    expect_eq!(rt; last, [3; 2]);
     Ok(())
 }
 
@@ -108,6 +108,6 @@ fn sets_are_printed(rt: HostRuntime) -> Result<(), Fail> {
     let bytes = one_index_key();
     let set = ArchivedIndexSet::of(access::<Keys>(&bytes)?);
     let text = format!(in rt.alloc(); "{set:?}")?;
-    assert_eq!(rt; text.as_str(), "{1}");
+    expect_eq!(rt; text.as_str(), "{1}");
     Ok(())
 }

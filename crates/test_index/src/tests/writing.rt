@@ -43,11 +43,11 @@ fn pairs_are_written(rt: HostRuntime) -> Result<(), Fail> {
     let none = narrow(alloc, &[])?;
     let one = narrow(alloc, &[(1, 2)])?;
     let four = narrow(alloc, &[(1, 2), (3, 4), (5, 6), (7, 8)])?;
-    assert_eq!(rt; none.as_slice(), no_pairs().as_slice());
-    assert_eq!(rt; one.as_slice(), one_pair().as_slice());
-    assert_eq!(rt; four.as_slice(), four_entries().as_slice());
+    expect_eq!(rt; none.as_slice(), no_pairs().as_slice());
+    expect_eq!(rt; one.as_slice(), one_pair().as_slice());
+    expect_eq!(rt; four.as_slice(), four_entries().as_slice());
     let twice = narrow(alloc, &[(1, 2), (1, 9)])?;
-    assert_eq!(rt; twice.as_slice(), one_key_twice().as_slice());
+    expect_eq!(rt; twice.as_slice(), one_key_twice().as_slice());
     Ok(())
 }
 
@@ -56,8 +56,8 @@ fn wide_pairs_are_written(rt: HostRuntime) -> Result<(), Fail> {
     let alloc = rt.alloc();
     let none = wide(alloc, &[])?;
     let one = wide(alloc, &[(1, 2)])?;
-    assert_eq!(rt; none.as_slice(), no_wide_pairs().as_slice());
-    assert_eq!(rt; one.as_slice(), wide_pair().as_slice());
+    expect_eq!(rt; none.as_slice(), no_wide_pairs().as_slice());
+    expect_eq!(rt; one.as_slice(), wide_pair().as_slice());
     Ok(())
 }
 
@@ -75,7 +75,7 @@ fn an_index_map_of_index_maps(rt: HostRuntime) -> Result<(), Fail> {
         },
         None => 0,
     };
-    assert_eq!(rt; (bytes.len(), found), (120, 2));
+    expect_eq!(rt; (bytes.len(), found), (120, 2));
     Ok(())
 }
 
@@ -156,6 +156,6 @@ fn a_full_writer(rt: HostRuntime) -> Result<(), Fail> {
             Err(WriteError::Writer(LimitFault::Full))
         )
     );
-    assert_eq!(rt; writer.into_inner().into_vec().len(), 40);
+    expect_eq!(rt; writer.into_inner().into_vec().len(), 40);
     Ok(())
 }

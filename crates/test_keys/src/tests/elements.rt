@@ -98,5 +98,5 @@ fn scalars_represent_themselves(rt: HostRuntime) {
         represents(alloc, true, false, "true"),
         represents(alloc, 'x', 'y', "'x'"),
     ];
-    assert_eq!(rt; right, [Some(true); 10]);
+    expect_eq!(rt; right, [Some(true); 10]);
 }

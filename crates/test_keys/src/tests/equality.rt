@@ -34,5 +34,5 @@ fn keys_equal_themselves(rt: HostRuntime) {
         equals_itself::<Narrow, (u32, bool)>(alloc, &(7, true)).ok(),
         equals_itself::<Wide, char>(alloc, &'x').ok(),
     ];
-    assert_eq!(rt; equal, [Some(true); 2]);
+    expect_eq!(rt; equal, [Some(true); 2]);
 }

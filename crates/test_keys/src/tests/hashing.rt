@@ -28,7 +28,7 @@ fn a_number_is_one_word(rt: HostRuntime) {
         hash_value::<i64, FxHasher64>(&-1),
         hash_value::<bool, FxHasher64>(&false),
     ];
-    assert_eq!(rt; (ones, others), ([OF_ONE; 10], [0x28, OF_MINUS_ONE, 0]));
+    expect_eq!(rt; (ones, others), ([OF_ONE; 10], [0x28, OF_MINUS_ONE, 0]));
 }
 
 #[test]
@@ -42,7 +42,7 @@ fn text_ends_with_ff(rt: HostRuntime) {
         hash_value::<&str, FxHasher64>(&""),
         hash_value::<String, FxHasher64>(&text),
     ];
-    assert_eq!(rt; (hashes, OF_NO_TEXT >> 57), ([OF_NO_TEXT; 3], 0x15));
+    expect_eq!(rt; (hashes, OF_NO_TEXT >> 57), ([OF_NO_TEXT; 3], 0x15));
 }
 
 #[test]
@@ -63,7 +63,7 @@ fn a_pair_feeds_its_parts_in_order(rt: HostRuntime) {
     let mut parts = FxHasher64::default();
     (1u8, 2u32).hash(&mut parts);
     let hashes = [hash_value::<(u8, u32), FxHasher64>(&(1, 2)), parts.finish()];
-    assert_eq!(rt; hashes, [state.finish(); 2]);
+    expect_eq!(rt; hashes, [state.finish(); 2]);
 }
 
 #[test]
@@ -80,7 +80,7 @@ fn sizes_feed_as_many_bits_as_the_hasher_says(rt: HostRuntime) {
         hash_value::<isize, FxHasher64Wide>(&-1),
         hash_value::<isize, FxHasher64Wide>(&4_294_967_295),
     ];
-    assert_eq!(rt;
+    expect_eq!(rt;
         (low, all),
         (
             [OF_ONE, OF_ONE, OF_MINUS_ONE, OF_MINUS_ONE],

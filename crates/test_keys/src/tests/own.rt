@@ -160,7 +160,7 @@ fn a_low_byte_is_a_key(rt: HostRuntime) {
         read(rt.alloc(), &second).ok(),
         read(rt.alloc(), &third).ok(),
     ];
-    assert_eq!(rt;
+    expect_eq!(rt;
         (same, hash, read),
         (
             Some([true, false, true, true, false]),

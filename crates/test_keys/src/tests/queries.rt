@@ -119,7 +119,7 @@ fn text_is_asked_for_by_text(rt: HostRuntime) {
         is_asked_for::<Text, &str>(&"wonderful", &WONDERFUL).ok(),
         is_asked_for::<Text<Wide>, &str>(&"wonderful", &WIDE_WONDERFUL).ok(),
     ];
-    assert_eq!(rt;
+    expect_eq!(rt;
         (asked, owned_hello(rt.alloc())),
         ([yes, yes, no, yes, yes], Some([yes, no, yes, no]))
     );
@@ -139,7 +139,7 @@ fn keys_hash_as_their_queries(rt: HostRuntime) {
         Some(hash_value::<(&str, u32), FxHasher64>(&("hello", 7))),
         Some(0),
     ];
-    assert_eq!(rt; hashes, wanted);
+    expect_eq!(rt; hashes, wanted);
 }
 
 #[test]
@@ -150,7 +150,7 @@ fn pairs_ask_for_entries(rt: HostRuntime) {
         is_asked_for::<Entry<Text, u32>, (&str, u32)>(&("hell", 7), &HELLO_SEVEN).ok(),
         is_asked_for::<(), ()>(&(), &[]).ok(),
     ];
-    assert_eq!(rt; asked, [Some(true), Some(false), Some(false), Some(true)]);
+    expect_eq!(rt; asked, [Some(true), Some(false), Some(false), Some(true)]);
 }
 
 #[test]
@@ -163,7 +163,7 @@ fn keys_ask_for_keys_of_other_archives(rt: HostRuntime) {
         asks_for::<Entry<Text, u32>>(&HELLO_SEVEN, &HELLO_EIGHT).ok(),
         asks_for::<u16>(&[1, 2], &[1, 2]).ok(),
     ];
-    assert_eq!(rt; asked, [yes, no, yes, no, yes]);
+    expect_eq!(rt; asked, [yes, no, yes, no, yes]);
 }
 
 #[test]
@@ -181,7 +181,7 @@ fn values_are_compared_in_place(rt: HostRuntime) {
         equals::<(&str, u32), Entry<Text, u32>>(&HELLO_SEVEN, &("hello", 8)).ok(),
         equals::<(), ()>(&[], &()).ok(),
     ];
-    assert_eq!(rt;
+    expect_eq!(rt;
         (same, equal, owned_hello(rt.alloc())),
         (
             [yes, no, no, yes],
@@ -197,7 +197,7 @@ fn values_are_read_back(rt: HostRuntime) {
     let text = reads_text(alloc, &WONDERFUL, "wonderful");
     let pair = reads_pair(alloc, &HELLO_SEVEN, ("hello", 7)).ok();
     let unit = reads_unit(alloc, &[]).ok();
-    assert_eq!(rt; (text, pair, unit), (true, Some(true), Some(true)));
+    expect_eq!(rt; (text, pair, unit), (true, Some(true), Some(true)));
 }
 
 #[test]
@@ -210,5 +210,5 @@ fn values_are_printed_in_place(rt: HostRuntime) {
         shows::<Entry<Text, u32>>(alloc, &HELLO_SEVEN, "(\"hello\", 7)"),
         shows::<Text>(alloc, &quote, "\"\\\"\\n\""),
     ];
-    assert_eq!(rt; shown, [true; 4]);
+    expect_eq!(rt; shown, [true; 4]);
 }

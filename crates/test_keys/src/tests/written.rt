@@ -44,5 +44,5 @@ fn keys_find_themselves(rt: HostRuntime) {
         text_finds_itself(alloc),
         finds_itself::<Wide, ((), u64)>(alloc, &((), 7)).ok(),
     ];
-    assert_eq!(rt; found, [Some(true); 6]);
+    expect_eq!(rt; found, [Some(true); 6]);
 }

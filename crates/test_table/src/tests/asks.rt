@@ -62,7 +62,7 @@ fn right_of_pairs(alloc: Global) -> usize {
 #[test]
 fn iterators_are_asked_once_more_than_is_claimed_at_most(rt: HostRuntime) {
     let right = (right_of_both(rt.alloc()), right_of_pairs(rt.alloc()));
-    assert_eq!(rt; right, (4 * 6 * 6, 4 * 6));
+    expect_eq!(rt; right, (4 * 6 * 6, 4 * 6));
 }
 
 // Returns the outcome, and the number of calls of the iterator of items.
@@ -92,7 +92,7 @@ fn an_end_or_a_surplus_is_the_last_answer(rt: HostRuntime) {
         (Answer::Mismatch(0, 1), 1),
         (Answer::Written, 1),
     ];
-    assert_eq!(rt; (both, pairs), (wanted, wanted));
+    expect_eq!(rt; (both, pairs), (wanted, wanted));
 }
 
 // The slots have more bytes than an address space.
@@ -115,5 +115,5 @@ fn room_that_no_memory_has_is_refused(rt: HostRuntime) {
         ),
         Err(WriteError::Memory)
     );
-    assert_eq!(rt; (refused, calls.get(), writer.bytes().len()), (true, 0, 0));
+    expect_eq!(rt; (refused, calls.get(), writer.bytes().len()), (true, 0, 0));
 }

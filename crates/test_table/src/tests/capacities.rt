@@ -22,5 +22,5 @@ fn errors_of_capacities_have_a_debug_text(rt: HostRuntime) {
         fails_with(alloc, 4_294_967_295, (1, 1), "CapacityTooLarge"),
     ];
     let same = capacity(1, (8, 7), 2) == Err(CapacityError::InvalidLoadFactor);
-    assert_eq!(rt; (shown, same), ([true; 2], true));
+    expect_eq!(rt; (shown, same), ([true; 2], true));
 }

@@ -32,7 +32,7 @@ fn is_small(bytes: &[u8]) -> Result<bool, VerifyError> {
 fn each_change_of_one_byte_is_answered(rt: HostRuntime) {
     let mut bytes = one_number();
     let answers = answers_to_changes(&mut bytes, is_small);
-    assert_eq!(rt;
+    expect_eq!(rt;
         answers,
         Answers {
             right: 7764,
@@ -70,5 +70,5 @@ fn a_changed_key_is_walked_and_not_found(rt: HostRuntime) {
         value_of::<Narrow>(&bytes, hash_of_u32(1), 1).ok(),
         value_of::<Narrow>(&bytes, hash_of_u32(5), 5).ok(),
     ];
-    assert_eq!(rt; (walked, found), (Some(true), [Some((None, 1)); 2]));
+    expect_eq!(rt; (walked, found), (Some(true), [Some((None, 1)); 2]));
 }

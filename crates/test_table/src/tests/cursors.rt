@@ -25,7 +25,7 @@ fn positions_over(bytes: &mut [u8]) -> Result<([Option<u64>; 3], [usize; 3]), Ve
 fn a_cursor_over_bare_bytes_yields_each_position(rt: HostRuntime) {
     let mut bytes = two_archived();
     let walked = positions_over(&mut bytes).ok();
-    assert_eq!(rt;
+    expect_eq!(rt;
         (walked, bytes),
         (Some(([Some(2), Some(0), None], [2, 1, 0])), two_archived())
     );
@@ -55,7 +55,7 @@ fn a_scalar_is_written_at_an_offset_of_an_item(rt: HostRuntime) {
     let mut wanted = one_number();
     wanted[0] = 3;
     wanted[4] = 4;
-    assert_eq!(rt; (written, bytes), (Some(Some((0, true))), wanted));
+    expect_eq!(rt; (written, bytes), (Some(Some((0, true))), wanted));
 }
 
 // Writes a byte over the first item of the table of 10 and 20, in the bytes of the cursor.
@@ -82,5 +82,5 @@ fn the_bytes_of_a_cursor_are_the_archive(rt: HostRuntime) {
     let written = write_in_bytes(&mut bytes, 30).ok();
     let mut wanted = two_archived();
     wanted[2] = 30;
-    assert_eq!(rt; (written, bytes), (Some((48, Some(0))), wanted));
+    expect_eq!(rt; (written, bytes), (Some((48, Some(0))), wanted));
 }

@@ -57,7 +57,7 @@ fn a_narrow_header_that_is_too_far_is_unchanged(rt: HostRuntime) {
     ];
     let overflow = (true, [0, 0, 0, 0x80, 1, 0, 0, 0, 2, 0, 0, 0]);
     let too_far = (false, [1, 2, 3, 4, 5, 6, 7, 8, 9, 10, 11, 12]);
-    assert_eq!(rt;
+    expect_eq!(rt;
         headers,
         [Some([overflow; 2]), Some([too_far; 2]), Some([too_far; 2])]
     );
@@ -96,7 +96,7 @@ fn a_wide_header_that_is_too_far_is_unchanged(rt: HostRuntime) {
     overflow[7] = 0x80;
     overflow[8] = 1;
     overflow[16] = 2;
-    assert_eq!(rt;
+    expect_eq!(rt;
         headers,
         [
             Some([(true, overflow); 2]),

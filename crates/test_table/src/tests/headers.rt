@@ -50,7 +50,7 @@ fn distances_have_32_bits(rt: HostRuntime) {
     ];
     let local = [0xe0, 0xff, 0xff, 0xff, 1, 0, 0, 0, 2, 0, 0, 0];
     let overflow = [0, 0, 0, 0x80, 1, 0, 0, 0, 2, 0, 0, 0];
-    assert_eq!(rt;
+    expect_eq!(rt;
         headers,
         [
             Some((local, true, 16)),
@@ -95,5 +95,5 @@ fn distances_of_wide_archives_have_64_bits(rt: HostRuntime) {
     let overflow = [
         2, 0, 0, 0, 0xff, 0xff, 0xff, 0xff, 1, 0, 0, 0, 0, 0, 0, 0, 2, 0, 0, 0, 0, 0, 0, 0,
     ];
-    assert_eq!(rt; headers, [Some((overflow, true)), Some(([7; 24], false))]);
+    expect_eq!(rt; headers, [Some((overflow, true)), Some(([7; 24], false))]);
 }

@@ -68,7 +68,7 @@ fn each_item_is_set(rt: HostRuntime) {
     let mut nines = two_archived();
     nines[0] = 9;
     nines[2] = 9;
-    assert_eq!(rt; written, Some((sevens, nines)));
+    expect_eq!(rt; written, Some((sevens, nines)));
 }
 
 // Writes a number over the item that is found under a hash, and returns the number that is read
@@ -114,14 +114,14 @@ fn a_found_item_is_lent_over_the_bare_bytes(rt: HostRuntime) {
     let found = set_number(&mut bytes, 2, 20, 30).ok();
     let mut wanted = two_archived();
     wanted[2] = 30;
-    assert_eq!(rt; (found, bytes), (Some(Some(30)), wanted));
+    expect_eq!(rt; (found, bytes), (Some(Some(30)), wanted));
 }
 
 #[test]
 fn where_no_item_fits_the_bare_bytes_stay(rt: HostRuntime) {
     let mut bytes = two_archived();
     let found = set_number(&mut bytes, 2, 30, 40).ok();
-    assert_eq!(rt; (found, bytes), (Some(None), two_archived()));
+    expect_eq!(rt; (found, bytes), (Some(None), two_archived()));
 }
 
 // Writes a byte over a byte of an archive.
@@ -152,7 +152,7 @@ fn items_are_written_while_the_cursor_steps(rt: HostRuntime) {
     let mut wanted = two_archived();
     wanted[2] = 7;
     wanted[0] = 9;
-    assert_eq!(rt;
+    expect_eq!(rt;
         (stepped, bytes),
         (Some(([Some(2), Some(0), None], 0)), wanted)
     );

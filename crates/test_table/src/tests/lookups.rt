@@ -89,7 +89,7 @@ fn a_pair_is_found_in_one_stride(rt: HostRuntime) {
         value_of::<Narrow>(bytes, hash_of_u32(1), 1).ok(),
         value_of::<Narrow>(bytes, hash_of_u32(2), 2).ok(),
     ];
-    assert_eq!(rt;
+    expect_eq!(rt;
         (empty, counts, found),
         (
             Some(false),
@@ -127,7 +127,7 @@ fn a_pair_is_found_in_another_bucket_than_its_start(rt: HostRuntime) {
         (7, Some(8)),
         (8, None),
     ];
-    assert_eq!(rt;
+    expect_eq!(rt;
         (counts, hash_of_i8(5) % 5, pos, leads(bytes, &pairs)),
         (Some((4, 5)), 4, Some(Some(8)), true)
     );
@@ -143,7 +143,7 @@ fn the_first_of_two_under_one_hash_is_found(rt: HostRuntime) {
         counted(bytes, 2, Some(20)),
         counted(bytes, 2, Some(30)),
     ];
-    assert_eq!(rt;
+    expect_eq!(rt;
         (found(bytes, 2, None), counted),
         (
             [Some(Some(10)); 3],
@@ -177,7 +177,7 @@ fn the_first_of_a_repeated_key_is_found(rt: HostRuntime) {
     let (bytes, hash): (&[u8], u64) = (&archive, hash_of_i8(1));
     // in a small table each control byte is there twice, and so each item is compared twice
     let asks = asks_under::<Entry<i8, i8>>(bytes, hash).ok();
-    assert_eq!(rt;
+    expect_eq!(rt;
         (value_of_small(bytes, hash, 1).ok(), asks),
         (Some((Some(2), 1)), Some(4))
     );
@@ -191,7 +191,7 @@ fn an_item_of_no_bytes_is_found(rt: HostRuntime) {
         first_pos::<(), Narrow>(bytes, 0).ok(),
         first_pos::<(), Narrow>(bytes, 1 << 57).ok(),
     ];
-    assert_eq!(rt; found, [Some(Some(0)), Some(None)]);
+    expect_eq!(rt; found, [Some(Some(0)), Some(None)]);
 }
 
 // Returns the number of starts, of sixteen, with which a lookup returns `None` after one stride.
@@ -207,7 +207,7 @@ fn starts_of_one_stride(bytes: &[u8]) -> usize {
 
 #[test]
 fn sixteen_buckets_are_one_stride(rt: HostRuntime) {
-    assert_eq!(rt; starts_of_one_stride(&fifteen_archived()), 16);
+    expect_eq!(rt; starts_of_one_stride(&fifteen_archived()), 16);
 }
 
 #[test]
@@ -219,7 +219,7 @@ fn the_second_stride_is_read_where_the_first_is_full(rt: HostRuntime) {
         counted(bytes, 16, Some(16)),
         counted(bytes, 16, Some(17)),
     ];
-    assert_eq!(rt;
+    expect_eq!(rt;
         (counted, found(bytes, 16, Some(9))),
         (
             [Some((Some(1), 1)), Some((Some(16), 1)), Some((None, 2))],
@@ -303,7 +303,7 @@ fn a_lookup_that_finds_nothing_asks_for_each_item(rt: HostRuntime) {
         asks_by::<generic::Group>(bytes).ok(),
         asks_by::<lanes::Group>(bytes).ok(),
     ];
-    assert_eq!(rt;
+    expect_eq!(rt;
         (asks_plainly(bytes).ok(), by_kind),
         (Some(([true; 6], 2)), [Some([true; 2]); 3])
     );
@@ -322,7 +322,7 @@ fn an_empty_table_is_not_read(rt: HostRuntime) {
         counted(bytes, 2, None),
         found(bytes, 2, None),
     );
-    assert_eq!(rt;
+    expect_eq!(rt;
         (answers, found),
         (
             (Some(true), Some((true, 0, 0, true))),
@@ -340,7 +340,7 @@ fn an_item_under_another_hash_may_be_asked_for(rt: HostRuntime) {
         found(bytes, EVEN_TAG, None),
         found(bytes, EVEN_TAG, Some(20)),
     );
-    assert_eq!(rt;
+    expect_eq!(rt;
         (first, second, counted(bytes, EVEN_TAG, Some(20))),
         (
             [Some(Some(10)); 3],
@@ -365,7 +365,7 @@ fn second_counted(bytes: &[u8], hash: u64) -> Result<(Option<u8>, u64), VerifyEr
 #[test]
 fn a_comparison_may_change_its_mind(rt: HostRuntime) {
     let found = second_counted(&two_archived(), 2).ok();
-    assert_eq!(rt; found, Some((Some(20), 1)));
+    expect_eq!(rt; found, Some((Some(20), 1)));
 }
 
 // Returns whether a number is found under a hash, and the number of strides that are read.
@@ -406,7 +406,7 @@ fn a_table_is_asked_by_another_hasher(rt: HostRuntime) {
     );
     let (numbers, large) = ([1, large as u64], large as u64);
     let wanted = [(one, 1), (other, large), (hashes[1], large)];
-    assert_eq!(rt;
+    expect_eq!(rt;
         are_found(rt.alloc(), numbers, hashes, wanted),
         Some([Some((true, 1)), Some((false, 1)), Some((true, 1))])
     );
@@ -436,5 +436,5 @@ fn has_numbers(alloc: Global) -> Option<[Option<bool>; 3]> {
 #[test]
 fn a_number_of_a_stranger_is_looked_up(rt: HostRuntime) {
     let found = has_numbers(rt.alloc());
-    assert_eq!(rt; found, Some([Some(true), Some(false), None]));
+    expect_eq!(rt; found, Some([Some(true), Some(false), None]));
 }

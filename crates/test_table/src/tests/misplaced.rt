@@ -32,7 +32,7 @@ fn pairs_that_were_written_are_in_their_places(rt: HostRuntime) {
         misplaced(&one_number()).ok(),
         misplaced_small(&no_items()).ok(),
     ];
-    assert_eq!(rt; misplaced, [Some(0); 3]);
+    expect_eq!(rt; misplaced, [Some(0); 3]);
 }
 
 #[test]
@@ -48,14 +48,14 @@ fn misplaced_units(bytes: &[u8]) -> Result<usize, VerifyError> {
 
 #[test]
 fn items_of_no_bytes_are_told_by_their_buckets(rt: HostRuntime) {
-    assert_eq!(rt; misplaced_units(&two_units()).ok(), Some(1));
+    expect_eq!(rt; misplaced_units(&two_units()).ok(), Some(1));
 }
 
 #[test]
 fn a_changed_key_is_misplaced(rt: HostRuntime) {
     let mut bytes = one_number();
     bytes[0] = 5;
-    assert_eq!(rt; misplaced(&bytes).ok(), Some(1));
+    expect_eq!(rt; misplaced(&bytes).ok(), Some(1));
 }
 
 // Returns the number of misplaced numbers under the hash 2. An item is first the same as those
@@ -69,7 +69,7 @@ fn misplaced_by_order(bytes: &[u8]) -> Result<(usize, usize), VerifyError> {
 
 #[test]
 fn the_own_item_is_asked_of_first(rt: HostRuntime) {
-    assert_eq!(rt; misplaced_by_order(&two_archived()).ok(), Some((0, 1)));
+    expect_eq!(rt; misplaced_by_order(&two_archived()).ok(), Some((0, 1)));
 }
 
 // Returns the number of misplaced pairs of a table, and the number of strides that were read.
@@ -95,7 +95,7 @@ fn counting_ends_with_the_first_stride_past_the_limit(rt: HostRuntime) {
         counted_up_to(&one_key_twice(), 2).ok(),
         counted_up_to(&no_items(), 0).ok(),
     ];
-    assert_eq!(rt;
+    expect_eq!(rt;
         counted,
         [
             Some((None, 1)),

@@ -33,7 +33,7 @@ fn texts_are_written_by_ascending_bucket(rt: HostRuntime) {
     // the texts begin 15 and 44 bytes before their distances
     let front = b"wonderful twowonderful one\0\0\
 \x8d\0\0\0\xf1\xff\xff\xff\0\0\0\0\0\0\0\0\x8d\0\0\0\xd4\xff\xff\xff\0\xff\0\0\xff\0";
-    assert_eq!(rt; texts_written(rt.alloc(), front), Some((52, true)));
+    expect_eq!(rt; texts_written(rt.alloc(), front), Some((52, true)));
 }
 
 // Returns `true` if a text is found under a hash.
@@ -60,7 +60,7 @@ fn found_texts(alloc: Global) -> Option<[Option<bool>; 3]> {
 #[test]
 fn texts_are_found(rt: HostRuntime) {
     let found = found_texts(rt.alloc());
-    assert_eq!(rt; found, Some([Some(true), Some(true), Some(false)]));
+    expect_eq!(rt; found, Some([Some(true), Some(true), Some(false)]));
 }
 
 // Returns `true` if a table of texts is invalid, since one of them begins before the end
@@ -86,7 +86,7 @@ fn refused_texts(alloc: Global) -> Option<(usize, bool)> {
 
 #[test]
 fn two_texts_may_not_have_one_part(rt: HostRuntime) {
-    assert_eq!(rt; refused_texts(rt.alloc()), Some((96, true)));
+    expect_eq!(rt; refused_texts(rt.alloc()), Some((96, true)));
 }
 
 // Returns the number of items of the table that is the value of an entry.
@@ -111,7 +111,7 @@ fn a_table_in_a_table_is_read(rt: HostRuntime) {
         inner_len(&nested(), hash_of_i8(1), 1).ok(),
         inner_len(&nested(), hash_of_i8(2), 2).ok(),
     ];
-    assert_eq!(rt;
+    expect_eq!(rt;
         (<Outer as Element>::size(), found),
         (12, [Some(Some(1)), Some(None)])
     );
@@ -130,7 +130,7 @@ fn what_is_wrong_inside_is_told(rt: HostRuntime) {
         access::<Outer>(&bytes),
         Err(VerifyError::OutOfRange { pos: 2, size: 35 })
     );
-    assert_eq!(rt; (unwrapped, outside), (true, true));
+    expect_eq!(rt; (unwrapped, outside), (true, true));
 }
 
 // Returns `true` if the first `len` bytes of the archive are valid.

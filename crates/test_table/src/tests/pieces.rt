@@ -72,7 +72,7 @@ fn each_bucket_is_one_piece(rt: HostRuntime) {
         // a bucket of more than 64 bytes
         is_narrow_in(alloc, &[large], &[0], &[0, 72, 72, 31]),
     ];
-    assert_eq!(rt; written, [true; 5]);
+    expect_eq!(rt; written, [true; 5]);
 }
 
 #[test]
@@ -97,7 +97,7 @@ fn the_zeros_before_the_buckets_are_one_piece(rt: HostRuntime) {
             &[8, 0, 16, 16, 31],
         ),
     ];
-    assert_eq!(rt; behind, [true; 2]);
+    expect_eq!(rt; behind, [true; 2]);
 }
 
 // The first item goes into bucket 1, and the second into bucket 0, of three.
@@ -118,7 +118,7 @@ fn the_parts_of_items_are_pieces_by_ascending_bucket(rt: HostRuntime) {
             &[10, 2, 8, 8, 8, 31],
         ),
     ];
-    assert_eq!(rt; written, [true; 4]);
+    expect_eq!(rt; written, [true; 4]);
 }
 
 #[test]
@@ -135,7 +135,7 @@ fn a_table_of_no_items_has_no_piece(rt: HostRuntime) {
         is_narrow_in::<&str>(alloc, &[], &[], &[]),
         is_written_in::<Wide, u64>(alloc, &[], &[], (7, 8), &[9], &[1]),
     ];
-    assert_eq!(rt; written, [true; 3]);
+    expect_eq!(rt; written, [true; 3]);
 }
 
 // Writes the table of one number, and its header.
@@ -157,7 +157,7 @@ fn write_seven(alloc: Global, writer: &mut PieceWriter) -> bool {
 fn a_header_is_one_piece(rt: HostRuntime) {
     let mut writer = PieceWriter::new(rt.alloc());
     let written = write_seven(rt.alloc(), &mut writer);
-    assert_eq!(rt;
+    expect_eq!(rt;
         (written, writer.lengths()),
         (true, [0, 1, 1, 31, 3, 12].as_slice())
     );
@@ -184,7 +184,7 @@ fn a_limit_cuts_one_piece(rt: HostRuntime) {
     let (cut, in_a_bucket) = write_up_to(rt.alloc(), 6);
     let (still_cut, in_the_controls) = write_up_to(rt.alloc(), 38);
     let (none, whole) = write_up_to(rt.alloc(), 39);
-    assert_eq!(rt;
+    expect_eq!(rt;
         (
             [cut, still_cut, none],
             in_a_bucket.lengths(),

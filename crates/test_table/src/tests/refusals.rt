@@ -86,7 +86,7 @@ fn load_factors_are_refused(rt: HostRuntime) {
         refuses_pairs(alloc, &[(0, 7)], (1, (8, 7)), above),
         refuses_pairs(alloc, &[], (0, (1, 0)), undivided),
     ];
-    assert_eq!(rt; refused, [true; 7]);
+    expect_eq!(rt; refused, [true; 7]);
 }
 
 #[test]
@@ -101,7 +101,7 @@ fn capacities_are_refused(rt: HostRuntime) {
         refuses(alloc, &[], &[], (usize::MAX, (1, usize::MAX)), all),
         refuses_pairs(alloc, &[], (4_294_967_295, (1, 1)), full),
     ];
-    assert_eq!(rt; refused, [true; 4]);
+    expect_eq!(rt; refused, [true; 4]);
 }
 
 #[test]
@@ -129,5 +129,5 @@ fn other_numbers_of_items_are_refused(rt: HostRuntime) {
         refuses_pairs(alloc, &[(0, 7)], (0, (7, 8)), none),
         refuses_pairs(alloc, &four, (2, (7, 8)), more),
     ];
-    assert_eq!(rt; refused, [true; 12]);
+    expect_eq!(rt; refused, [true; 12]);
 }

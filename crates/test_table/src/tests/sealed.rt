@@ -93,7 +93,7 @@ fn write_each(bytes: &mut [u8], numbers: &[u8], by: By) -> Result<bool, VerifyEr
 fn a_sealed_lookup_that_finds_nothing_asks_for_each_item(rt: HostRuntime) {
     let mut bytes = sixteen_archived();
     let asks = asks_sealed(&mut bytes).ok();
-    assert_eq!(rt; (asks, bytes), (Some(true), sixteen_archived()));
+    expect_eq!(rt; (asks, bytes), (Some(true), sixteen_archived()));
 }
 
 #[test]
@@ -106,7 +106,7 @@ fn a_found_item_is_written_in_place(rt: HostRuntime) {
     ];
     let mut wanted = two_archived();
     wanted[2] = 30;
-    assert_eq!(rt;
+    expect_eq!(rt;
         (replaced, found, bytes),
         (Some(Some((20, 30))), [Some(Some(2)), Some(None)], wanted)
     );
@@ -115,14 +115,14 @@ fn a_found_item_is_written_in_place(rt: HostRuntime) {
 #[test]
 fn the_item_that_was_handed_in_first_is_lent(rt: HostRuntime) {
     let mut bytes = two_archived();
-    assert_eq!(rt; first_lent(&mut bytes, 2).ok(), Some(Some(10)));
+    expect_eq!(rt; first_lent(&mut bytes, 2).ok(), Some(Some(10)));
 }
 
 #[test]
 fn where_no_item_is_found_nothing_is_written(rt: HostRuntime) {
     let mut bytes = two_archived();
     let replaced = replace(&mut bytes, 2, 30, 40).ok();
-    assert_eq!(rt; (replaced, bytes), (Some(None), two_archived()));
+    expect_eq!(rt; (replaced, bytes), (Some(None), two_archived()));
 }
 
 #[test]
@@ -132,7 +132,7 @@ fn items_are_lent_by_ascending_bucket(rt: HostRuntime) {
     let mut wanted = two_archived();
     wanted[0] = 30;
     wanted[2] = 40;
-    assert_eq!(rt; (written, bytes), (Some(true), wanted));
+    expect_eq!(rt; (written, bytes), (Some(true), wanted));
 }
 
 #[test]
@@ -142,7 +142,7 @@ fn items_are_written_by_position(rt: HostRuntime) {
     let mut wanted = sixteen_archived();
     wanted[0] = 7;
     wanted[2..17].copy_from_slice(&[7; 15]);
-    assert_eq!(rt; (written, bytes), (Some(true), wanted));
+    expect_eq!(rt; (written, bytes), (Some(true), wanted));
 }
 
 #[test]
@@ -151,7 +151,7 @@ fn an_empty_table_lends_nothing(rt: HostRuntime) {
     let lent = first_lent(&mut bytes, 2).ok();
     let walked = write_each(&mut bytes, &[], By::Seal).ok();
     let placed = write_each(&mut bytes, &[], By::Position).ok();
-    assert_eq!(rt;
+    expect_eq!(rt;
         (lent, walked, placed, bytes),
         (Some(None), Some(true), Some(true), no_items())
     );
@@ -164,7 +164,7 @@ fn what_is_no_table_is_unchanged(rt: HostRuntime) {
         access_mut::<TableOf<u8>>(&mut bytes),
         Err(VerifyError::InvalidLength { len: 2, cap: 2 })
     );
-    assert_eq!(rt;
+    expect_eq!(rt;
         (refused, bytes),
         (true, [1, 0, 0, 0, 2, 0, 0, 0, 2, 0, 0, 0])
     );

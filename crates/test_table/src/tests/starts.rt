@@ -64,7 +64,7 @@ fn the_rest_of_a_division(rt: HostRuntime) {
         Reciprocal::new(u64::MAX).rest(u64::MAX - 1),
         Reciprocal::new(u64::MAX).rest(u64::MAX),
     ];
-    assert_eq!(rt;
+    expect_eq!(rt;
         rests,
         [
             0,
@@ -96,7 +96,7 @@ fn items_under_one_hash_are_found(rt: HostRuntime) -> Result<(), Fail> {
         viewed_and_placed(bytes, 16, 2).ok(),
         viewed_and_placed(bytes, 16, 17).ok(),
     ];
-    assert_eq!(rt;
+    expect_eq!(rt;
         (counted, placed),
         (
             [
@@ -124,7 +124,7 @@ fn a_lookup_without_items_reads_nothing(rt: HostRuntime) -> Result<(), Fail> {
         counted::<Narrow>(bytes, 3, 0).ok(),
         counted::<Narrow>(&ONE_BUCKET, 3, 0).ok(),
     ];
-    assert_eq!(rt;
+    expect_eq!(rt;
         (counted, viewed_and_placed(bytes, 3, 0).ok()),
         ([Some((None, 0)); 2], Some((None, None)))
     );
@@ -138,7 +138,7 @@ fn a_wide_table_is_looked_up(rt: HostRuntime) {
         counted::<Wide>(&WIDE_SEVEN, 0, 7).ok(),
         counted::<Wide>(&WIDE_SEVEN, 1, 8).ok(),
     ];
-    assert_eq!(rt;
+    expect_eq!(rt;
         counted,
         [Some((Some(7), 1)), Some((Some(7), 1)), Some((None, 1))]
     );

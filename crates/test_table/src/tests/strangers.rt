@@ -13,7 +13,7 @@ use test_support::archives::one_number;
 #[test]
 fn the_distance_of_an_empty_table_is_not_read(rt: HostRuntime) {
     let answers = answers_of::<Entry<u32, u32>>(&[77, 0, 0, 0, 0, 0, 0, 0, 0, 0, 0, 0], 0).ok();
-    assert_eq!(rt; answers, Some((true, 0, 0, true)));
+    expect_eq!(rt; answers, Some((true, 0, 0, true)));
 }
 
 #[test]
@@ -48,7 +48,7 @@ fn a_table_that_has_buckets_and_no_items_is_accepted(rt: HostRuntime) {
     bytes[19] = 0xff;
     bytes[52] = 0;
     let answers = answers_of::<Entry<u32, u32>>(&bytes, 0x5000_0000_0000_0001).ok();
-    assert_eq!(rt; answers, Some((true, 0, 2, true)));
+    expect_eq!(rt; answers, Some((true, 0, 2, true)));
 }
 
 #[test]
@@ -65,7 +65,7 @@ fn controls_that_do_not_repeat_are_refused(rt: HostRuntime) {
         access::<TableOf<Entry<u32, u32>>>(&bytes),
         Err(VerifyError::UnwrappedControlByte { index: 4 })
     );
-    assert_eq!(rt; (sixteen, two), (true, true));
+    expect_eq!(rt; (sixteen, two), (true, true));
 }
 
 #[test]
@@ -74,7 +74,7 @@ fn an_empty_control_may_be_another_byte_than_is_written(rt: HostRuntime) {
     bytes[16] = 0x80;
     bytes[18] = 0x80;
     let counts = counts::<Entry<u32, u32>, Narrow>(&bytes).ok();
-    assert_eq!(rt; counts, Some((1, 2)));
+    expect_eq!(rt; counts, Some((1, 2)));
 }
 
 #[test]
@@ -94,7 +94,7 @@ fn the_part_of_a_table_is_the_range_up_to_its_end(rt: HostRuntime) {
         ArchivedHashTable::<Entry<u32, u32>, Narrow>::verify(&one_number(), 48, shorter),
         Err(VerifyError::OutOfRange { pos: 0, size: 47 })
     );
-    assert_eq!(rt; [accepted, begins_before, ends_behind], [true; 3]);
+    expect_eq!(rt; [accepted, begins_before, ends_behind], [true; 3]);
 }
 
 // Returns `true` if the first `len` bytes of the archive of one pair have the expected result.
@@ -174,7 +174,7 @@ fn an_item_that_is_no_value_is_refused(rt: HostRuntime) {
         access::<TableOf<bool>>(&bytes),
         Err(VerifyError::InvalidValue { pos: 0 })
     );
-    assert_eq!(rt;
+    expect_eq!(rt;
         (written, changed, refused),
         (Some((2, 3)), Some((2, 3)), true)
     );

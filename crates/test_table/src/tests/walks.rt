@@ -38,20 +38,20 @@ fn items_are_walked_by_ascending_bucket(rt: HostRuntime) {
         walks(&sixteen_archived(), &sixteen).ok(),
         walks(&no_items(), &[]).ok(),
     ];
-    assert_eq!(rt; walked, [Some(true); 3]);
+    expect_eq!(rt; walked, [Some(true); 3]);
 }
 
 #[test]
 fn pairs_are_walked_by_ascending_bucket(rt: HostRuntime) {
     let pairs = [5, 6, 7, 8, 1, 2, 3, 4];
     let walked = walks_over::<Entry<i8, i8>, Narrow>(&four_pairs(), &pairs).ok();
-    assert_eq!(rt; walked, Some(true));
+    expect_eq!(rt; walked, Some(true));
 }
 
 #[test]
 fn a_repeated_key_is_walked_twice(rt: HostRuntime) {
     let walked = walks_over::<Entry<i8, i8>, Narrow>(&one_key_twice(), &[1, 2, 1, 9]).ok();
-    assert_eq!(rt; walked, Some(true));
+    expect_eq!(rt; walked, Some(true));
 }
 
 // Returns the first four results of a walk.
@@ -70,7 +70,7 @@ fn a_walk_gives_positions(rt: HostRuntime) {
 #[test]
 fn items_of_no_bytes_are_walked(rt: HostRuntime) {
     let given = four_asks::<()>(&two_units()).ok();
-    assert_eq!(rt; given, Some([Some(0), Some(0), None, None]));
+    expect_eq!(rt; given, Some([Some(0), Some(0), None, None]));
 }
 
 #[test]
@@ -81,7 +81,7 @@ fn an_empty_walk_gives_nothing(rt: HostRuntime) {
         rest.next().is_none(),
         rest.next_view().is_none(),
     ];
-    assert_eq!(rt; (rest.len(), none), (0, [true; 3]));
+    expect_eq!(rt; (rest.len(), none), (0, [true; 3]));
 }
 
 // Returns the numbers of a table of two, by the views of a walk, and whether the walk then ends.
@@ -99,5 +99,5 @@ fn two_views(bytes: &[u8]) -> Result<Option<(u8, u8, bool)>, VerifyError> {
 #[test]
 fn a_walk_gives_views(rt: HostRuntime) {
     let views = two_views(&two_archived()).ok();
-    assert_eq!(rt; views, Some(Some((20, 10, true))));
+    expect_eq!(rt; views, Some(Some((20, 10, true))));
 }

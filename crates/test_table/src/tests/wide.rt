@@ -63,7 +63,7 @@ fn no_wide_items_write_a_header_alone(rt: HostRuntime) {
     ];
     let written = is_archive(rt.alloc(), &[], &header);
     let counts = counts::<Entry<u32, u32>, Wide>(&header).ok();
-    assert_eq!(rt; (written, counts), (true, Some((0, 0))));
+    expect_eq!(rt; (written, counts), (true, Some((0, 0))));
 }
 
 #[test]
@@ -81,7 +81,7 @@ fn a_wide_pair_is_read(rt: HostRuntime) {
     ];
     let pos = first_pos::<Entry<u32, u32>, Wide>(bytes, hash_of_u32(1)).ok();
     let walked = walks_over::<Entry<u32, u32>, Wide>(bytes, &[1, 0, 0, 0, 2, 0, 0, 0]).ok();
-    assert_eq!(rt;
+    expect_eq!(rt;
         (layout, counts, found, pos, walked),
         (
             (24, 8),

@@ -37,7 +37,7 @@ fn a_table_past_the_greatest_position_is_refused(rt: HostRuntime) {
         write_one_pair(rt.alloc(), &mut writer),
         Err(WriteError::PositionTooLarge)
     );
-    assert_eq!(rt;
+    expect_eq!(rt;
         (refused, writer.failures(), writer.bytes()),
         (true, 0, [0, 0].as_slice())
     );
@@ -50,7 +50,7 @@ fn nothing_is_written_after_a_fault(rt: HostRuntime) {
         write_one_pair(rt.alloc(), &mut writer),
         Err(WriteError::Writer(Broken))
     );
-    assert_eq!(rt; (refused, writer.asked(), writer.failures()), (true, 1, 1));
+    expect_eq!(rt; (refused, writer.asked(), writer.failures()), (true, 1, 1));
 }
 
 // Returns `true` if a writer with this limit keeps as many bytes of the archive, and reports

@@ -72,7 +72,7 @@ fn one_pair_is_written(rt: HostRuntime) {
     let (small, large) = ([(1i8, 2i8)], [(1u32, 2u32)]);
     let written = is_written(alloc, &small, &[hash_of_i8(1)], (7, 8), 4, &front, 27);
     let archived = is_archive(alloc, &one_number(), &large, &[hash_of_u32(1)], (7, 8));
-    assert_eq!(rt; (written, archived), (true, true));
+    expect_eq!(rt; (written, archived), (true, true));
 }
 
 #[test]
@@ -148,7 +148,7 @@ fn capacities_about_one_stride(rt: HostRuntime) {
         0, 0, 0, 0, 0, 0, 0, 0, 0, 0, 0, 0, 0, 0, 0, 0, 0xff, // the same again
     ];
     let sixteen = is_written(alloc, &SIXTEEN, &starts, (1, 1), 17, &front, 13);
-    assert_eq!(rt; (fifteen, sixteen), (true, true));
+    expect_eq!(rt; (fifteen, sixteen), (true, true));
 }
 
 // Returns `true` if the table of 1 and 4,294,967,297 is written with these tags. The hashes
@@ -171,7 +171,7 @@ fn has_tags_of_wide<H: KeyHasher + Default>(
 fn hashes_of_wide_numbers_are_written(rt: HostRuntime) {
     let whole = has_tags_of_wide::<FxHasher64Wide>(rt.alloc(), 0x28, 0x3c).ok();
     let halves = has_tags_of_wide::<FxHasher64>(rt.alloc(), 0x28, 0x28).ok();
-    assert_eq!(rt; (whole, halves), (Some(true), Some(true)));
+    expect_eq!(rt; (whole, halves), (Some(true), Some(true)));
 }
 
 // Returns the position of the first control byte of a table of no numbers, and the number
@@ -184,7 +184,7 @@ fn room_of_none(alloc: Global) -> Option<(u64, usize)> {
 #[test]
 fn no_items_write_nothing(rt: HostRuntime) {
     let archived = is_archive::<u8>(rt.alloc(), &no_items(), &[], &[], (7, 8));
-    assert_eq!(rt; (archived, room_of_none(rt.alloc())), (true, Some((0, 0))));
+    expect_eq!(rt; (archived, room_of_none(rt.alloc())), (true, Some((0, 0))));
 }
 
 #[test]
@@ -205,7 +205,7 @@ fn archives_are_written(rt: HostRuntime) {
         is_archive(alloc, &one_unit(), &[()], &[0], (7, 8)),
         is_archive(alloc, &two_units(), &[(); 2], &[0; 2], (7, 8)),
     ];
-    assert_eq!(rt; written, [true; 9]);
+    expect_eq!(rt; written, [true; 9]);
 }
 
 // Writes a nine and the table of one number of 16 bits. Returns the position of
@@ -238,7 +238,7 @@ fn a_table_begins_at_a_multiple_of_the_alignment(rt: HostRuntime) {
     let mut writer = VecWriter::new(rt.alloc());
     let resolved = write_behind_a_nine(rt.alloc(), &mut writer);
     let written = is_then_empty(writer.bytes(), &[9, 0, 0, 0, 7, 0, 0, 0xff, 0], 28);
-    assert_eq!(rt; (resolved, written), (Some((6, 1, (7, 8))), true));
+    expect_eq!(rt; (resolved, written), (Some((6, 1, (7, 8))), true));
 }
 
 // Returns the number of buckets of a table of the numbers, and the number of its bytes.
@@ -265,7 +265,7 @@ fn an_eighth_of_the_buckets_is_empty(rt: HostRuntime) {
         room_of_sevens(alloc, 7),
         room_of_sevens(alloc, 100),
     ];
-    assert_eq!(rt;
+    expect_eq!(rt;
         rooms,
         [
             Some((0, 0)),

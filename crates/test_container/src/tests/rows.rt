@@ -1,0 +1,113 @@
+//! Worked rows: the bytes of containers, written down from the layout.
+use rkyv_container::{Contents, Header, ItemType, Kind, Width, open, open_as, seal};
+
+/// The header of the narrow hash map of `u32` with 1 to 2, which has 60 bytes, without a checksum.
+pub(crate) const NUMBERS: [u8; 32] = [
+    0x89, 0x52, 0x4b, 0x59, 0x56, 0x0d, 0x0a, 0x1a, // magic bytes
+    0x01, 0x00, 0x01, 0x14, 0x14, 0x04, 0x00, 0x00, // version, contents, flags
+    0x3c, 0x00, 0x00, 0x00, 0x00, 0x00, 0x00, 0x00, // length
+    0x00, 0x00, 0x00, 0x00, 0x00, 0x00, 0x00, 0x00, // checksum, reserved
+];
+
+/// A container of a wide index set of text, with the nine bytes `Wikipedia` in place of an archive.
+pub(crate) const NAMES: [u8; 41] = [
+    0x89, 0x52, 0x4b, 0x59, 0x56, 0x0d, 0x0a, 0x1a, // magic bytes
+    0x01, 0x00, 0x04, 0x04, 0x01, 0x08, 0x01, 0x00, // version, contents, flags
+    0x09, 0x00, 0x00, 0x00, 0x00, 0x00, 0x00, 0x00, // length
+    0x98, 0x03, 0xe6, 0x11, 0x00, 0x00, 0x00, 0x00, // checksum, reserved
+    0x57, 0x69, 0x6b, 0x69, 0x70, 0x65, 0x64, 0x69, 0x61, // archive
+];
+
+pub(crate) fn numbers() -> Contents {
+    Contents {
+        kind: Kind::HashMap,
+        key: ItemType::U32,
+        value: ItemType::U32,
+        width: Width::Narrow,
+    }
+}
+
+pub(crate) fn names() -> Contents {
+    Contents {
+        kind: Kind::IndexSet,
+        key: ItemType::Text,
+        value: ItemType::Unit,
+        width: Width::Wide,
+    }
+}
+
+fn names_header() -> Header {
+    Header {
+        contents: names(),
+        len: 9,
+        checksum: Some(0x11e6_0398),
+    }
+}
+
+#[test]
+fn headers_are_written(rt: HostRuntime) {
+    let header = Header::new(numbers(), &[0; 60], false);
+    let long = Header {
+        contents: numbers(),
+        len: 0x0807_0605_0403_0201,
+        checksum: Some(0x0c0b_0a09),
+    };
+    let mut out = [0xff; 32];
+    long.write(&mut out);
+    assert_eq!(rt; header.to_bytes(), NUMBERS);
+    expect_eq!(rt;
+        &out[16..],
+        [1, 2, 3, 4, 5, 6, 7, 8, 9, 10, 11, 12, 0, 0, 0, 0].as_slice()
+    );
+}
+
+#[test]
+fn headers_are_read(rt: HostRuntime) {
+    let header = Header {
+        contents: numbers(),
+        len: 60,
+        checksum: None,
+    };
+    assert_eq!(rt; Header::read(&NUMBERS), Ok(header));
+    expect_eq!(rt; Header::read(&NAMES), Ok(names_header()));
+}
+
+#[test]
+fn containers_are_sealed(rt: HostRuntime) {
+    let mut bytes = [0; 41];
+    bytes[32..].copy_from_slice(b"Wikipedia");
+    let header = seal(&mut bytes, names(), true);
+    assert_eq!(rt; header, names_header());
+    assert_eq!(rt; bytes, NAMES);
+}
+
+// Returns whether `open` returns this header and archive.
+fn opens(bytes: &[u8], header: Header, archive: &[u8]) -> bool {
+    match open(bytes) {
+        Ok((found, rest)) => found == header && rest == archive,
+        Err(_) => false,
+    }
+}
+
+// Returns whether `open_as` returns this archive.
+fn opens_as(bytes: &[u8], contents: Contents, archive: &[u8]) -> bool {
+    match open_as(bytes, contents) {
+        Ok(found) => found == archive,
+        Err(_) => false,
+    }
+}
+
+#[test]
+fn containers_are_opened(rt: HostRuntime) {
+    let mut empty = [0xff; 32];
+    let header = seal(&mut empty, numbers(), true);
+    let opened = [
+        opens(&NAMES, names_header(), b"Wikipedia"),
+        opens_as(&NAMES, names(), b"Wikipedia"),
+        opens(&empty, header, b""),
+        opens_as(&empty, numbers(), b""),
+        opens_as(&empty, names(), b""),
+    ];
+    expect_eq!(rt; opened, [true, true, true, true, false]);
+    expect_eq!(rt; header.checksum, Some(1));
+}

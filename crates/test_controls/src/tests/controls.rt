@@ -1,0 +1,433 @@
+//! The control bytes of tables, with each kind of group.
+ghost use Rattle.std.specs.Prelude.{IfSome, length, ◌<◌, ◌≤◌, ◌^◌};
+ghost use Rattle.rkyv_table.specs.Controls.Numbers.{control_count};
+ghost use Rattle.rkyv_table.specs.Controls.Shown.{IsFullBucket};
+ghost use Rattle.rkyv_table.specs.Controls.Placing.{Accepted};
+
+use rkyv_scan::hash::{FxHasher64, KeyHasher};
+use rkyv_scan::simd::{GroupKind, bytewise, generic, lanes};
+use rkyv_table::controls::find::{Strides, find};
+use rkyv_table::controls::laws;
+use rkyv_table::controls::numbers::{
+    CapacityError, bucket_of, capacity, control_count, modulus, probe_capacity, tag,
+};
+use rkyv_table::controls::place::{place, place_one};
+use rkyv_table::controls::probe::Probe;
+use rkyv_table::controls::repeats::check_wrapped;
+use rkyv_table::controls::walk::{Walk, count_full};
+use std::alloc::{AllocError, Global};
+use std::cell::Cell;
+
+const NARROW: u64 = 4_294_967_295;
+
+const WIDE: u64 = 4_611_686_018_427_387_904;
+
+// The control bytes of a written table, and the buckets of its items.
+#[derive(Drop)]
+struct Table {
+    cap: usize,
+    len: usize,
+    controls: Vec<u8>,
+    homes: Vec<usize>,
+    ghost accepted: { Accepted cap len controls.items },
+}
+
+impl Table {
+    fn written<G: GroupKind>(alloc: Global, cap: usize, hashes: &[u64]) -> Result<Table, AllocError>
+        requires room { length hashes.now < cap }
+        requires small { cap < 2 ^ 16 }
+    {
+        let mut controls = vec![in alloc; 0xffu8; control_count(cap)]?;
+        let homes = place::<G>(alloc, controls.as_mut_slice(), cap, hashes)?;
+        Ok(Table {
+            cap,
+            len: hashes.len(),
+            controls,
+            homes,
+        })
+    }
+
+    // Returns the bucket that a lookup finds, and the number of strides that it reads.
+    fn asked<G: GroupKind, F: Fn(usize) -> bool>(&self, hash: u64, cmp: F) -> (Option<usize>, u64)
+        requires { F.IsAlwaysCallable cmp }
+    {
+        let mut strides = Strides::new();
+        let found = find::<G, F>(
+            self.controls.as_slice(),
+            self.cap,
+            self.len,
+            hash,
+            cmp,
+            &mut strides,
+        );
+        (found, strides.count())
+    }
+}
+
+// Returns a bucket whose item may have the hash.
+fn candidate(controls: &[u8], cap: usize, len: usize, hash: u64) -> Option<usize>
+    requires { Accepted cap len controls.now }
+    ensures { IfSome result (IsFullBucket cap controls.now) }
+{
+    let mut strides = Strides::new();
+    find::<lanes::Group, _>(controls, cap, len, hash, |_| true, &mut strides)
+}
+
+fn hash_of(key: i8) -> u64 {
+    let mut hasher = FxHasher64::default();
+    hasher.write_i8(key);
+    hasher.finish()
+}
+
+// Returns the capacity of a narrow archive for the length, under the load factor 7 / 8.
+fn usual(len: usize) -> Result<usize, CapacityError> {
+    capacity(len, (7, 8), NARROW)
+}
+
+#[test]
+fn capacities(rt: HostRuntime) {
+    let usual = [usual(0), usual(1), usual(3), usual(5), usual(7), usual(100)];
+    let full = [
+        capacity(15, (1, 1), NARROW),
+        capacity(16, (1, 1), NARROW),
+        capacity(1, (1, 4_294_967_295), NARROW),
+        capacity(4_294_967_294, (1, 1), NARROW),
+        capacity(4_611_686_018_427_387_903, (1, 1), WIDE),
+    ];
+    expect_eq!(rt;
+        (usual, full),
+        (
+            [Ok(0), Ok(2), Ok(4), Ok(6), Ok(8), Ok(114)],
+            [
+                Ok(16),
+                Ok(17),
+                Ok(4_294_967_295),
+                Ok(4_294_967_295),
+                Ok(4_611_686_018_427_387_904)
+            ]
+        )
+    );
+}
+
+#[test]
+fn refused_capacities(rt: HostRuntime) {
+    let factors = [
+        capacity(0, (8, 7), NARROW),
+        capacity(0, (0, 1), NARROW),
+        capacity(0, (1, 0), NARROW),
+        capacity(1, (8, 7), NARROW),
+        capacity(1, (0, 1), NARROW),
+        capacity(1, (1, 0), NARROW),
+    ];
+    let large = [
+        capacity(1, (1, 4_294_967_296), NARROW),
+        capacity(4_294_967_295, (1, 1), NARROW),
+        capacity(usize::MAX, (1, usize::MAX), NARROW),
+        capacity(usize::MAX, (1, 1), u64::MAX),
+        capacity(4_611_686_018_427_387_904, (1, 1), WIDE),
+    ];
+    expect_eq!(rt;
+        (factors, large),
+        (
+            [Err(CapacityError::InvalidLoadFactor); 6],
+            [Err(CapacityError::CapacityTooLarge); 5]
+        )
+    );
+}
+
+#[test]
+fn numbers(rt: HostRuntime) {
+    let numbers = [
+        probe_capacity(114),
+        control_count(114),
+        modulus(114),
+        control_count(16),
+        control_count(17),
+        probe_capacity(1 << 62),
+        control_count(1 << 62),
+        modulus(1 << 62),
+    ];
+    let buckets = [bucket_of(2, 3), bucket_of(3, 3), bucket_of(5, 3)];
+    expect_eq!(rt;
+        (numbers, [tag(hash_of(1)), tag(u64::MAX)], buckets),
+        (
+            [128, 143, 256, 31, 47, 1 << 62, (1 << 62) + 15, 1 << 63],
+            [0x28, 0x7f],
+            [2, 0, 2]
+        )
+    );
+}
+
+// Returns the first four indices of a probe sequence.
+fn four_places(start: u64, cap: usize) -> [Option<usize>; 4]
+    requires some { 0 < cap }
+    requires fits { control_count cap ≤ 2 ^ 63 }
+{
+    let mut probe = Probe::new(start, cap);
+    [probe.next(), probe.next(), probe.next(), probe.next()]
+}
+
+#[test]
+fn probe_places(rt: HostRuntime) {
+    laws::strides_cover();
+    laws::buckets_are_shown();
+    let places = [
+        four_places(1, 33),
+        four_places(32, 33),
+        four_places(5, 1 << 62),
+    ];
+    expect_eq!(rt;
+        places,
+        [
+            [Some(1), Some(17), Some(33), None],
+            [Some(32), Some(16), Some(0), None],
+            [Some(5), Some(21), Some(53), Some(101)]
+        ]
+    );
+}
+
+#[test]
+fn sixteen_buckets_are_one_place(rt: HostRuntime) {
+    let mut right = true;
+    for start in 0..16 {
+        right = right && four_places(start, 16) == [Some(start as usize), None, None, None];
+    }
+    assert!(rt; right);
+}
+
+// Returns whether all controls are empty.
+fn are_empty(controls: &[u8]) -> bool {
+    for control in controls {
+        if *control != 0xff {
+            return false;
+        }
+    }
+    true
+}
+
+// Returns whether the controls are `front`, then bytes 0xff.
+fn is_then_empty(controls: &[u8], front: &[u8]) -> bool {
+    match controls.split_at_checked(front.len()) {
+        Some((first, others)) => first == front && are_empty(others),
+        None => false,
+    }
+}
+
+// Returns whether the items are in these buckets, and the controls are `front`, then bytes 0xff.
+fn is_written<G: GroupKind>(
+    alloc: Global,
+    cap: usize,
+    hashes: &[u64],
+    homes: &[usize],
+    front: &[u8],
+) -> bool
+    requires room { length hashes.now < cap }
+    requires small { cap < 2 ^ 16 }
+{
+    let table = match Table::written::<G>(alloc, cap, hashes) {
+        Ok(table) => table,
+        Err(_) => return false,
+    };
+    table.homes.as_slice() == homes && is_then_empty(table.controls.as_slice(), front)
+}
+
+// Returns `is_written` for all kinds of group.
+fn all_write(alloc: Global, cap: usize, hashes: &[u64], homes: &[usize], front: &[u8]) -> bool
+    requires room { length hashes.now < cap }
+    requires small { cap < 2 ^ 16 }
+{
+    let by_bytes = is_written::<bytewise::Group>(alloc, cap, hashes, homes, front);
+    let by_words = is_written::<generic::Group>(alloc, cap, hashes, homes, front);
+    let by_lanes = is_written::<lanes::Group>(alloc, cap, hashes, homes, front);
+    by_bytes && by_words && by_lanes
+}
+
+#[test]
+fn places(rt: HostRuntime) {
+    laws::homes_exist();
+    laws::homes_are_one_list();
+    laws::written_are_one_list();
+    laws::written_are_accepted();
+    let alloc = rt.alloc();
+    let keys = [hash_of(1), hash_of(3), hash_of(5), hash_of(7)];
+    let three = [hash_of(1), hash_of(2), hash_of(3)];
+    let of_three = [0xff, 0x28, 0x51, 0x7a, 0xff, 0x28, 0x51, 0x7a];
+    let of_four = [0x4b, 0x1d, 0xff, 0x28, 0x7a, 0x4b, 0x1d, 0xff, 0x28, 0x7a];
+    let twice = [hash_of(1), hash_of(1)];
+    let of_twice = [0x28, 0x28, 0xff, 0x28, 0x28, 0xff];
+    let apart = [0x5000_0000_0000_0001, 0x5200_0000_0000_0000];
+    let of_apart = [0x28, 0x29, 0xff, 0x28, 0x29, 0xff];
+    let wrapped = [16, 0, 1, 2, 3, 4, 5, 6, 7, 8, 9, 10, 11, 12, 13, 14];
+    let mut of_wrapped = [0u8; 34];
+    of_wrapped[15] = 0xff;
+    of_wrapped[32] = 0xff;
+    let right = [
+        all_write(alloc, 2, &keys[..1], &[1], &[0xff, 0x28, 0xff, 0x28]),
+        all_write(alloc, 2, &[0], &[0], &[0, 0xff, 0]),
+        all_write(alloc, 4, &three, &[1, 2, 3], &of_three),
+        all_write(alloc, 3, &[2, 2], &[2, 0], &[0, 0xff, 0, 0, 0xff, 0]),
+        all_write(alloc, 5, &keys, &[3, 4, 0, 1], &of_four),
+        all_write(alloc, 3, &twice, &[0, 1], &of_twice),
+        all_write(alloc, 3, &apart, &[0, 1], &of_apart),
+        all_write(alloc, 17, &[16; 16], &wrapped, &of_wrapped),
+    ];
+    expect_eq!(rt; right, [true; 8]);
+}
+
+#[test]
+fn places_one(rt: HostRuntime) {
+    let mut controls = [0xffu8; 31];
+    let bucket = place_one::<generic::Group>(&mut controls, 2, hash_of(1));
+    let written = controls[..5] == [0xff, 0x28, 0xff, 0x28, 0xff];
+    expect_eq!(rt; (bucket, written), (1, true));
+}
+
+// Returns whether lookups in four tables find the expected buckets in the expected strides.
+fn finds<G: GroupKind>(alloc: Global) -> Result<bool, AllocError> {
+    let two = Table::written::<G>(alloc, 3, &[2, 2])?;
+    let wrapped = Table::written::<G>(alloc, 17, &[16; 16])?;
+    let apart = Table::written::<G>(alloc, 3, &[0x5000_0000_0000_0001, 0x5200_0000_0000_0000])?;
+    let empty = Table::written::<G>(alloc, 3, &[])?;
+    Ok(
+        two.asked::<G, _>(2, |_| true) == (Some(2), 1)
+            && two.asked::<G, _>(2, |b| b == 0) == (Some(0), 1)
+            && wrapped.asked::<G, _>(16, |b| b == 16) == (Some(16), 1)
+            && wrapped.asked::<G, _>(16, |b| b == 14) == (Some(14), 1)
+            && wrapped.asked::<G, _>(16, |b| b == 7) == (Some(7), 1)
+            && wrapped.asked::<G, _>(16, |_| false) == (None, 2)
+            && apart.asked::<G, _>(0x5000_0000_0000_0001, |_| true) == (Some(0), 1)
+            && empty.asked::<G, _>(2, |_| true) == (None, 0),
+    )
+}
+
+#[test]
+fn finds_a_candidate(rt: HostRuntime) -> Result<(), AllocError> {
+    let table = Table::written::<lanes::Group>(rt.alloc(), 3, &[2, 2])?;
+    let controls = table.controls.as_slice();
+    laws::search_is_bounded();
+    laws::marked_are_walked();
+    let found = [
+        candidate(controls, table.cap, table.len, 2),
+        candidate(controls, table.cap, table.len, 1 << 63),
+    ];
+    expect_eq!(rt; found, [Some(2), None]);
+    Ok(())
+}
+
+#[test]
+fn finds_by_each_kind(rt: HostRuntime) {
+    laws::found_on_written();
+    let right = [
+        finds::<bytewise::Group>(rt.alloc()).ok(),
+        finds::<generic::Group>(rt.alloc()).ok(),
+        finds::<lanes::Group>(rt.alloc()).ok(),
+    ];
+    expect_eq!(rt; right, [Some(true); 3]);
+}
+
+// The word of eight controls also marks a tag that differs in the lowest bit, behind an equal one.
+#[test]
+fn finds_by_false_marks(rt: HostRuntime) -> Result<(), AllocError> {
+    let hash = 0x5000_0000_0000_0001;
+    let table = Table::written::<generic::Group>(rt.alloc(), 3, &[hash, 0x5200_0000_0000_0000])?;
+    let asked = [
+        table.asked::<generic::Group, _>(hash, |b| b == 1),
+        table.asked::<bytewise::Group, _>(hash, |b| b == 1),
+        table.asked::<lanes::Group, _>(hash, |b| b == 1),
+    ];
+    expect_eq!(rt; asked, [(Some(1), 1), (None, 1), (None, 1)]);
+    Ok(())
+}
+
+// Returns whether a lookup that accepts no bucket tries those of the first stride, then the second.
+fn asks_in_order<G: GroupKind>(alloc: Global) -> Result<bool, AllocError> {
+    let table = Table::written::<G>(alloc, 17, &[16; 16])?;
+    let asks = Cell::new(0usize);
+    let in_order = Cell::new(true);
+    let answer = table.asked::<G, _>(16, |b| {
+        let ask = asks.get();
+        asks.set(ask.wrapping_add(1));
+        let wanted = match ask {
+            0 => 16,
+            1..16 => ask - 1,
+            _ => ask - 16,
+        };
+        in_order.set(in_order.get() && b == wanted);
+        false
+    });
+    Ok(answer == (None, 2) && asks.get() == 31 && in_order.get())
+}
+
+#[test]
+fn asks_each_stride(rt: HostRuntime) {
+    let right = [
+        asks_in_order::<bytewise::Group>(rt.alloc()).ok(),
+        asks_in_order::<generic::Group>(rt.alloc()).ok(),
+        asks_in_order::<lanes::Group>(rt.alloc()).ok(),
+    ];
+    expect_eq!(rt; right, [Some(true); 3]);
+}
+
+// A comparison that returns `false` at its first call, and `true` from then on.
+#[test]
+fn asks_again(rt: HostRuntime) -> Result<(), AllocError> {
+    let table = Table::written::<generic::Group>(rt.alloc(), 3, &[2, 2])?;
+    let asked = Cell::new(false);
+    let answer = table.asked::<generic::Group, _>(2, |_| asked.replace(true));
+    assert!(rt; answer == (Some(0), 1));
+    Ok(())
+}
+
+fn walks<G: GroupKind>(alloc: Global) -> Result<bool, AllocError> {
+    let table = Table::written::<G>(alloc, 17, &[16; 16])?;
+    let controls = table.controls.as_slice();
+    if controls.len() != 47 {
+        return Ok(false);
+    }
+    let mut walk = Walk::<G>::new(controls, 17);
+    let mut right = count_full::<G>(controls, 17) == 16;
+    for wanted in 0..15 {
+        right = right && walk.next() == Some(wanted);
+    }
+    right = right && walk.next() == Some(16) && walk.next() == None && walk.next() == None;
+    Ok(right && Walk::<G>::empty().next() == None)
+}
+
+#[test]
+fn walks_by_each_kind(rt: HostRuntime) {
+    laws::walked_are_full();
+    let right = [
+        walks::<bytewise::Group>(rt.alloc()).ok(),
+        walks::<generic::Group>(rt.alloc()).ok(),
+        walks::<lanes::Group>(rt.alloc()).ok(),
+    ];
+    expect_eq!(rt; right, [Some(true); 3]);
+}
+
+#[test]
+fn repeats(rt: HostRuntime) {
+    let mut small = [0xffu8; 31];
+    small[1] = 0x28;
+    small[3] = 0x28;
+    let written = check_wrapped(&small, 2);
+    small[4] = 0;
+    let third = check_wrapped(&small, 2);
+    small[4] = 0xff;
+    small[0] = 0x80;
+    let other_empty = check_wrapped(&small, 2);
+    small[2] = 0x80;
+    let both_empty = check_wrapped(&small, 2);
+    small[30] = 0x7f;
+    let last = check_wrapped(&small, 2);
+    let mut even = [0xffu8; 31];
+    even[0] = 1;
+    let answers = [
+        written,
+        third,
+        other_empty,
+        both_empty,
+        last,
+        check_wrapped(&even, 16),
+    ];
+    expect_eq!(rt; answers, [Ok(()), Err(4), Err(2), Ok(()), Err(30), Err(16)]);
+}

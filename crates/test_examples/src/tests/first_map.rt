@@ -1,0 +1,22 @@
+//! The first map, which the pages print.
+
+use example_first_map::{look_up, write};
+use std::alloc::Global;
+use std::test::Fail;
+
+// Returns the addresses of a name that is in the list twice and of a name that isn't in it.
+// It also returns whether the table without its last byte is invalid.
+fn looked_up(alloc: Global) -> Result<(Option<u64>, Option<u64>, bool), Fail> {
+    let symbols = [("main", 0x1139), ("top", u64::MAX), ("main", 1)];
+    let table = write(alloc, &symbols)?;
+    let bytes = table.as_slice();
+    let refused = look_up(&bytes[..bytes.len().saturating_sub(1)], "main").is_err();
+    Ok((look_up(bytes, "main")?, look_up(bytes, "puts")?, refused))
+}
+
+#[test]
+fn the_first_address_is_looked_up(rt: HostRuntime) -> Result<(), Fail> {
+    let found = looked_up(rt.alloc())?;
+    expect_eq!(rt; found, (Some(0x1139), None, true));
+    Ok(())
+}

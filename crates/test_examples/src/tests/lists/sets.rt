@@ -1,0 +1,64 @@
+//! A hash set of words and an index set of numbers.
+
+use super::{out_of_range, without_first};
+use example_lists::sets::{WordItems, has_word, index_of_id};
+use rkyv_base::root::to_bytes;
+use rkyv_collections::SetItems;
+use rkyv_index::OrderedItems;
+use std::alloc::Global;
+use std::test::Fail;
+
+// Returns the archive of four words, two of them the same.
+// The set begins with 5 buckets of 8 bytes and 31 control bytes, 71 bytes.
+fn words(alloc: Global) -> Result<Vec<u8>, Fail> {
+    let words = ["tea", "coffee", "tea", "cake"];
+    let items: WordItems<'_> = SetItems::new(&words);
+    Ok(to_bytes(alloc, &items)?)
+}
+
+// Returns the archive of four numbers, two of them the same.
+// The index set begins with 5 buckets of 4 bytes and 31 control bytes, 51 bytes.
+fn ids(alloc: Global) -> Result<Vec<u8>, Fail> {
+    let ids: OrderedItems<u64> = OrderedItems(vec![in alloc; u64::MAX, 3, 3, 40]?);
+    Ok(to_bytes(alloc, &ids)?)
+}
+
+#[test]
+fn words_of_the_list_are_found(rt: HostRuntime) -> Result<(), Fail> {
+    let archive = words(rt.alloc())?;
+    let bytes = archive.as_slice();
+    let found = [
+        has_word(bytes, "tea")?,
+        has_word(bytes, "cake")?,
+        has_word(bytes, "te")?,
+        has_word(bytes, "")?,
+    ];
+    expect_eq!(rt; found, [true, true, false, false]);
+    Ok(())
+}
+
+#[test]
+fn the_first_index_of_an_id_is_found(rt: HostRuntime) -> Result<(), Fail> {
+    let archive = ids(rt.alloc())?;
+    let bytes = archive.as_slice();
+    let found = [
+        index_of_id(bytes, 3)?,
+        index_of_id(bytes, 40)?,
+        index_of_id(bytes, u64::MAX)?,
+        index_of_id(bytes, 0)?,
+    ];
+    expect_eq!(rt; found, [Some(1), Some(3), Some(0), None]);
+    Ok(())
+}
+
+#[test]
+fn sets_without_their_first_bytes_are_out_of_range(rt: HostRuntime) -> Result<(), Fail> {
+    let words = words(rt.alloc())?;
+    let ids = ids(rt.alloc())?;
+    let refused = [
+        out_of_range(has_word(without_first(words.as_slice(), 4), "tea")),
+        out_of_range(index_of_id(without_first(ids.as_slice(), 4), 3)),
+    ];
+    expect_eq!(rt; refused, [Some((-4, 71)), Some((-4, 51))]);
+    Ok(())
+}

@@ -1,0 +1,71 @@
+//! Tables without their last bytes, and tables with a changed byte.
+
+use example_symbols::table::{address_of, archive};
+use rkyv_base::errors::VerifyError;
+use std::alloc::Global;
+use std::test::Fail;
+use test_support::changes::answered_flips;
+
+// Returns a table of two symbols, one with an out of line name.
+fn table(alloc: Global) -> Result<Vec<u8>, Fail> {
+    let symbols = [("main", 0x1139), ("a_name_of_some_length", 0x4010)];
+    Ok(archive(alloc, &symbols)?)
+}
+
+// Returns whether the addresses differ in the bits of at most one byte.
+fn is_near(one: u64, other: u64) -> bool {
+    let bits = one ^ other;
+    bits == 0 || bits.wrapping_shr(bits.trailing_zeros() / 8 * 8) <= 255
+}
+
+// Returns whether lookups in the bytes have a permitted result.
+// For `main`: its address except for a changed byte, `None` or an error. For no symbol: no address.
+fn is_answered(bytes: &[u8]) -> bool {
+    let main = match address_of(bytes, "main") {
+        Ok(Some(address)) => is_near(address, 0x1139),
+        _ => true,
+    };
+    main && !matches!(address_of(bytes, "none_such"), Ok(Some(_)))
+}
+
+// Returns the number of prefixes with permitted results.
+// It also returns the number of those shorter than a header that fail with `OutOfRange`.
+fn fronts(bytes: &[u8]) -> (usize, usize) {
+    let mut answered = 0usize;
+    let mut short = 0usize;
+    for len in 0..bytes.len() {
+        let front = &bytes[..len];
+        if is_answered(front) {
+            answered = answered.wrapping_add(1);
+        }
+        if len < 12
+            && matches!(
+                address_of(front, "main"),
+                Err(VerifyError::OutOfRange { .. })
+            )
+        {
+            short = short.wrapping_add(1);
+        }
+    }
+    (answered, short)
+}
+
+#[test]
+fn each_front_is_answered(rt: HostRuntime) -> Result<(), Fail> {
+    let bytes = table(rt.alloc())?;
+    let seen = fronts(bytes.as_slice());
+    expect_eq!(rt; seen, (bytes.len(), 12));
+    Ok(())
+}
+
+#[test]
+fn each_changed_byte_is_answered(rt: HostRuntime) -> Result<(), Fail> {
+    let mut bytes = table(rt.alloc())?;
+    let len = bytes.len();
+    let answered = answered_flips(
+        bytes.as_mut_slice(),
+        |table: &mut [u8]| is_answered(&*table),
+    );
+    expect_eq!(rt; answered, len);
+    Ok(())
+}

@@ -1,0 +1,42 @@
+//! The errors of inspections.
+
+use crate::tests::archives::ONE_NUMBER;
+use crate::tests::support::{narrow, numbers};
+use rkyv_base::errors::VerifyError;
+use rkyv_container::contents::{ItemType, Kind};
+use rkyv_inspect::{InspectError, inspect};
+use std::test::Fail;
+
+#[test]
+fn length_of_the_capacity(rt: HostRuntime) -> Result<(), Fail> {
+    let mut bytes = ONE_NUMBER;
+    bytes[52] = 2;
+    let refused = inspect(rt.alloc(), &bytes, numbers(), 1000);
+    let length = matches!(
+        &refused,
+        Err(InspectError::Invalid(VerifyError::InvalidLength { len: 2, cap: 2 }))
+    );
+    assert!(rt; length);
+    Ok(())
+}
+
+#[test]
+fn fewer_bytes_than_a_header(rt: HostRuntime) -> Result<(), Fail> {
+    let text = match inspect(rt.alloc(), &ONE_NUMBER[..8], numbers(), 1000) {
+        Ok(_) => String::from_str(rt.alloc(), "valid")?,
+        Err(error) => format!(in rt.alloc(); "{error}")?,
+    };
+    expect_eq!(rt; text.as_str(), "12 bytes at -4 are out of range");
+    Ok(())
+}
+
+#[test]
+fn unsupported_types(rt: HostRuntime) -> Result<(), Fail> {
+    let contents = narrow(Kind::HashMap, ItemType::U8, ItemType::U32);
+    let keys = inspect(rt.alloc(), &ONE_NUMBER, contents, 1000);
+    assert!(rt; matches!(&keys, Err(InspectError::Unsupported(ItemType::U8))));
+    let contents = narrow(Kind::HashMap, ItemType::U32, ItemType::Bytes);
+    let values = inspect(rt.alloc(), &ONE_NUMBER, contents, 1000);
+    assert!(rt; matches!(&values, Err(InspectError::Unsupported(ItemType::Bytes))));
+    Ok(())
+}

@@ -1,0 +1,138 @@
+//! The numbers of archives of each kind and width.
+
+use crate::tests::archives::{
+    EMPTY, INDEX_NUMBER, MISPLACED, NAMES, NUMBERED_TEXTS, ONE_HASH, ONE_NUMBER, WIDE_NUMBERS,
+    WIDE_SET,
+};
+use crate::tests::support::{narrow, numbers, wide};
+use rkyv_container::contents::{Contents, ItemType, Kind};
+use rkyv_inspect::{Lookups, Summary, inspect};
+use std::alloc::Global;
+use std::test::Fail;
+
+/// The numbers of an archive: the length, the capacity, the position of the header, the position of
+/// the control bytes, and the number of misplaced keys.
+type Numbers = (usize, usize, u64, Option<usize>, Option<usize>);
+
+/// Returns the numbers of an archive.
+fn numbers_of(alloc: Global, archive: &[u8], contents: Contents) -> Result<Numbers, Fail> {
+    let inspection = inspect(alloc, archive, contents, 1000)?;
+    let summary = &inspection.summary;
+    Ok((
+        summary.len,
+        summary.capacity,
+        summary.header_pos,
+        summary.controls_pos,
+        misplaced_of(summary),
+    ))
+}
+
+/// Returns the number of misplaced keys, if the keys are looked up.
+fn misplaced_of(summary: &Summary) -> Option<usize> {
+    match &summary.lookups {
+        Some(lookups) => Some(lookups.misplaced),
+        None => None,
+    }
+}
+
+/// Returns an entry of a histogram, or 0 behind its end.
+fn entry_of(counts: &[usize], n: usize) -> usize {
+    match counts.get(n) {
+        Some(count) => *count,
+        None => 0,
+    }
+}
+
+/// Returns the first four entries of a histogram.
+fn first_of(lookups: &Lookups) -> [usize; 4] {
+    let counts = lookups.strides.as_slice();
+    [
+        entry_of(counts, 0),
+        entry_of(counts, 1),
+        entry_of(counts, 2),
+        entry_of(counts, 3),
+    ]
+}
+
+/// Returns the first four entries of the histogram of an archive, if its keys are looked up.
+fn strides_of(
+    alloc: Global,
+    archive: &[u8],
+    contents: Contents,
+    limit: u64,
+) -> Result<Option<[usize; 4]>, Fail> {
+    let inspection = inspect(alloc, archive, contents, limit)?;
+    match &inspection.summary.lookups {
+        Some(lookups) => Ok(Some(first_of(lookups))),
+        None => Ok(None),
+    }
+}
+
+#[test]
+fn hash_maps(rt: HostRuntime) -> Result<(), Fail> {
+    let alloc = rt.alloc();
+    let names = narrow(Kind::HashMap, ItemType::Text, ItemType::U64);
+    let wide_numbers = wide(Kind::HashMap, ItemType::U64, ItemType::U32);
+    let found = numbers_of(alloc, &ONE_NUMBER, numbers())?;
+    expect_eq!(rt; found, (1, 2, 48, Some(16), Some(0)));
+    let found = numbers_of(alloc, &NAMES, names)?;
+    expect_eq!(rt; found, (2, 3, 96, Some(64), Some(0)));
+    let found = numbers_of(alloc, &WIDE_NUMBERS, wide_numbers)?;
+    expect_eq!(rt; found, (2, 3, 80, Some(48), Some(0)));
+    let found = numbers_of(alloc, &EMPTY, numbers())?;
+    expect_eq!(rt; found, (0, 0, 0, None, Some(0)));
+    Ok(())
+}
+
+#[test]
+fn sets_and_index_maps(rt: HostRuntime) -> Result<(), Fail> {
+    let alloc = rt.alloc();
+    let one_hash = wide(Kind::HashSet, ItemType::Text, ItemType::Unit);
+    let index_number = narrow(Kind::IndexMap, ItemType::U32, ItemType::U32);
+    let numbered = narrow(Kind::IndexMap, ItemType::U32, ItemType::Text);
+    let wide_set = wide(Kind::IndexSet, ItemType::U64, ItemType::Unit);
+    let found = numbers_of(alloc, &ONE_HASH, one_hash)?;
+    expect_eq!(rt; found, (20, 22, 400, Some(352), Some(0)));
+    let found = numbers_of(alloc, &INDEX_NUMBER, index_number)?;
+    expect_eq!(rt; found, (1, 2, 48, Some(8), Some(0)));
+    let found = numbers_of(alloc, &NUMBERED_TEXTS, numbered)?;
+    expect_eq!(rt; found, (2, 3, 84, Some(12), Some(0)));
+    let found = numbers_of(alloc, &WIDE_SET, wide_set)?;
+    expect_eq!(rt; found, (3, 4, 88, Some(32), Some(0)));
+    Ok(())
+}
+
+#[test]
+fn one_stride(rt: HostRuntime) -> Result<(), Fail> {
+    let numbered = narrow(Kind::IndexMap, ItemType::U32, ItemType::Text);
+    let strides = strides_of(rt.alloc(), &ONE_NUMBER, numbers(), 1000)?;
+    expect_eq!(rt; strides, Some([0, 1, 0, 0]));
+    let strides = strides_of(rt.alloc(), &NUMBERED_TEXTS, numbered, 1000)?;
+    expect_eq!(rt; strides, Some([0, 2, 0, 0]));
+    Ok(())
+}
+
+#[test]
+fn one_hash_takes_two_strides(rt: HostRuntime) -> Result<(), Fail> {
+    let one_hash = wide(Kind::HashSet, ItemType::Text, ItemType::Unit);
+    let strides = strides_of(rt.alloc(), &ONE_HASH, one_hash, 1000)?;
+    expect_eq!(rt; strides, Some([0, 16, 4, 0]));
+    Ok(())
+}
+
+#[test]
+fn limit_of_strides(rt: HostRuntime) -> Result<(), Fail> {
+    let one_hash = wide(Kind::HashSet, ItemType::Text, ItemType::Unit);
+    let at_the_limit = strides_of(rt.alloc(), &ONE_HASH, one_hash, 24)?;
+    expect_eq!(rt; at_the_limit, Some([0, 16, 4, 0]));
+    let past_the_limit = strides_of(rt.alloc(), &ONE_HASH, one_hash, 23)?;
+    expect_eq!(rt; past_the_limit, None);
+    Ok(())
+}
+
+#[test]
+fn misplaced_key(rt: HostRuntime) -> Result<(), Fail> {
+    let found = numbers_of(rt.alloc(), &MISPLACED, numbers())?;
+    expect_eq!(rt; found, (1, 2, 48, Some(16), Some(1)));
+    Ok(())
+}

@@ -1,0 +1,118 @@
+//! The printed text of inspections.
+
+use crate::tests::archives::{NAMES, NUMBERED_TEXTS, ONE_HASH, ONE_NUMBER};
+use crate::tests::support::{narrow, numbers, wide};
+use rkyv_container::Header;
+use rkyv_container::contents::{Contents, ItemType, Kind};
+use rkyv_inspect::{ContainerLine, Printed, inspect};
+use std::alloc::Global;
+use std::test::Fail;
+
+/// Returns the printed text of an archive, without colour.
+fn text_of(alloc: Global, archive: &[u8], contents: Contents, limit: u64) -> Result<String, Fail> {
+    let inspection = inspect(alloc, archive, contents, limit)?;
+    Ok(format!(in alloc; "{}", Printed::new(archive, &inspection, false))?)
+}
+
+const ONE_NUMBER_TEXT: &str = "\
+items: 1
+buckets: 2
+load: 50%
+control bytes at: 16
+header at: 48
+1 strides: 1 keys
+misplaced keys: 0
+bytes: 60
+       0  01 00 00 00 02 00 00 00     bucket 1: key 1, value 2
+       8  00 00 00 00 00 00 00 00     bucket 0: empty
+      16  ff 28                       control bytes
+      18  ff 28 ff ff ff ff ff ff ..  mirrored control bytes
+      47  00                          padding
+      48  e0 ff ff ff                 header: distance -32 to the control bytes
+      52  01 00 00 00                 header: length 1
+      56  02 00 00 00                 header: capacity 2
+";
+
+#[test]
+fn one_number(rt: HostRuntime) -> Result<(), Fail> {
+    let text = text_of(rt.alloc(), &ONE_NUMBER, numbers(), 1000)?;
+    expect_eq!(rt; text.as_str(), ONE_NUMBER_TEXT);
+    Ok(())
+}
+
+#[test]
+fn texts_of_fields(rt: HostRuntime) -> Result<(), Fail> {
+    let contents = narrow(Kind::HashMap, ItemType::Text, ItemType::U64);
+    let text = text_of(rt.alloc(), &NAMES, contents, 1000)?;
+    assert!(rt;
+        text.as_str()
+            .contains("       0  77 6f 6e 64 65 72 66 75 ..  out-of-line text\n")
+    );
+    assert!(rt;
+        text.as_str()
+            .contains("  bucket 1: key \"wonderful day\", value 2\n")
+    );
+    assert!(rt;
+        text.as_str()
+            .contains("  bucket 0: key \"main\", value 1\n")
+    );
+    let contents = narrow(Kind::IndexMap, ItemType::U32, ItemType::Text);
+    let text = text_of(rt.alloc(), &NUMBERED_TEXTS, contents, 1000)?;
+    assert!(rt; text.as_str().contains("  bucket 2: index 1\n"));
+    assert!(rt;
+        text.as_str()
+            .contains("  entry 1: key 8, value \"the number eight\"\n")
+    );
+    assert!(rt;
+        text.as_str()
+            .contains("  header: distance -36 to the entries\n")
+    );
+    Ok(())
+}
+
+#[test]
+fn more_than_could_be_counted(rt: HostRuntime) -> Result<(), Fail> {
+    let contents = wide(Kind::HashSet, ItemType::Text, ItemType::Unit);
+    let text = text_of(rt.alloc(), &ONE_HASH, contents, 1000)?;
+    assert!(rt;
+        text.as_str().contains("1 strides: 16 keys\n2 strides: 4 keys\nmisplaced keys: 0\n")
+    );
+    let text = text_of(rt.alloc(), &ONE_HASH, contents, 23)?;
+    assert!(rt;
+        text.as_str()
+            .contains("misplaced keys: more than could be counted\n")
+    );
+    assert!(rt; !text.as_str().contains(" strides: "));
+    Ok(())
+}
+
+#[test]
+fn colour(rt: HostRuntime) -> Result<(), Fail> {
+    let inspection = inspect(rt.alloc(), &ONE_NUMBER, numbers(), 1000)?;
+    let text = format!(in rt.alloc(); "{}", Printed::new(&ONE_NUMBER, &inspection, true))?;
+    let line = "      52  \x1b[35m01 00 00 00               \x1b[0m  header: length 1\n";
+    assert!(rt; text.as_str().contains(line));
+    Ok(())
+}
+
+#[test]
+fn container(rt: HostRuntime) -> Result<(), Fail> {
+    let header = Header {
+        contents: numbers(),
+        len: 60,
+        checksum: Some(0x6278_2117),
+    };
+    let text = format!(in rt.alloc(); "{}", ContainerLine(header))?;
+    let line =
+        "container: hash map of u32 to u32, narrow, archive of 60 bytes, checksum 62782117\n";
+    expect_eq!(rt; text.as_str(), line);
+    let header = Header {
+        contents: wide(Kind::IndexSet, ItemType::Text, ItemType::Unit),
+        len: 32,
+        checksum: None,
+    };
+    let text = format!(in rt.alloc(); "{}", ContainerLine(header))?;
+    let line = "container: index set of text, wide, archive of 32 bytes, no checksum\n";
+    expect_eq!(rt; text.as_str(), line);
+    Ok(())
+}
