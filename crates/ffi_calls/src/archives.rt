@@ -48,6 +48,22 @@ pub(crate) fn header_of<K: Element, V: Element, W: Width>(archive: &[u8]) -> Dec
     ArchivedHashMap::<K, V, FxHasher64, W>::of(View::new(archive, root)).header()
 }
 
+/// Returns the header of a map of these types, as it is.
+///
+/// What it ensures are the conditions of the calls that read values, as facts of the caller.
+#[inline]
+pub(crate) fn typed_header<K: Element, V: Element, W: Width>(
+    archive: &[u8],
+    header: &Decoded,
+) -> Decoded
+    requires archive { IsMapArchive W.word W.LIMIT K.spec V.spec archive.now }
+    requires header { IsHeaderOf (map_in W.word K.spec V.spec archive.now) header.now }
+    ensures archive { IsMapArchive W.word W.LIMIT K.spec V.spec archive.now }
+    ensures header { IsHeaderOf (map_in W.word K.spec V.spec archive.now) result }
+{
+    *header
+}
+
 /// Returns the map in a valid archive, by its decoded header.
 #[inline]
 pub(crate) fn map_of<'a, K: Element, V: Element, W: Width>(

@@ -55,6 +55,22 @@ pub(crate) fn index_header_of<K: Element, V: Element, W: Width>(archive: &[u8]) 
     ArchivedIndexMap::of(root).header()
 }
 
+/// Returns the header of an index map of these types, as it is.
+///
+/// What it ensures are the conditions of the calls that read values, as facts of the caller.
+#[inline]
+pub(crate) fn typed_index_header<K: Element, V: Element, W: Width>(
+    archive: &[u8],
+    header: &Decoded,
+) -> Decoded
+    requires archive { IsIndexArchive W.word W.LIMIT K.spec V.spec archive.now }
+    requires header { IsHeaderOf (index_in W.word K.spec V.spec archive.now) header.now }
+    ensures archive { IsIndexArchive W.word W.LIMIT K.spec V.spec archive.now }
+    ensures header { IsHeaderOf (index_in W.word K.spec V.spec archive.now) result }
+{
+    *header
+}
+
 /// Returns the index map in a valid archive, by its decoded header.
 #[inline]
 pub(crate) fn index_of<'a, K: Element, V: Element, W: Width>(

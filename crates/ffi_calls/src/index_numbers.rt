@@ -12,7 +12,9 @@ ghost use Rattle.ffi_calls.specs.IndexLists.{GivesFirstIndexedNumber, StoresList
 
 use crate::explanation::Explanation;
 use crate::form::Form;
-use crate::index::{explain_index, find_in, index_header_of, open_index, pairs_in};
+use crate::index::{
+    explain_index, find_in, index_header_of, open_index, pairs_in, typed_index_header,
+};
 use crate::index_in_place::set_indexed_in;
 use crate::pairs::{IndexedOf, PairOf};
 use crate::reading::NumberKey;
@@ -90,10 +92,30 @@ pub fn get_index_number<K: NumberKey, I: IndexedOf<u64>>(
         found.old) result (I.indexed_of found.new) }
 {
     match (form.long_values, form.wide) {
-        (false, false) => find_in::<K, u64, u32, I, K, u32, Narrow>(archive, header, &key, found),
-        (true, false) => find_in::<K, u64, u64, I, K, u64, Narrow>(archive, header, &key, found),
-        (false, true) => find_in::<K, u64, u32, I, K, u32, Wide>(archive, header, &key, found),
-        (true, true) => find_in::<K, u64, u64, I, K, u64, Wide>(archive, header, &key, found),
+        (false, false) => find_in::<K, u64, u32, I, K, u32, Narrow>(
+            archive,
+            &typed_index_header::<K, u32, Narrow>(archive, header),
+            &key,
+            found,
+        ),
+        (true, false) => find_in::<K, u64, u64, I, K, u64, Narrow>(
+            archive,
+            &typed_index_header::<K, u64, Narrow>(archive, header),
+            &key,
+            found,
+        ),
+        (false, true) => find_in::<K, u64, u32, I, K, u32, Wide>(
+            archive,
+            &typed_index_header::<K, u32, Wide>(archive, header),
+            &key,
+            found,
+        ),
+        (true, true) => find_in::<K, u64, u64, I, K, u64, Wide>(
+            archive,
+            &typed_index_header::<K, u64, Wide>(archive, header),
+            &key,
+            found,
+        ),
     }
 }
 
@@ -151,12 +173,30 @@ pub fn index_numbers_from<K: NumberKey, P: PairOf<K, u64>>(
 {
     match (form.long_values, form.wide) {
         (false, false) => {
-            pairs_in::<K, K, u64, u32, P, K, u32, Narrow>(archive, header, from, pairs)
+            pairs_in::<K, K, u64, u32, P, K, u32, Narrow>(
+                archive,
+                &typed_index_header::<K, u32, Narrow>(archive, header),
+                from,
+                pairs,
+            )
         }
         (true, false) => pairs_in::<K, K, u64, u64, P, K, u64, Narrow>(
-            archive, header, from, pairs,
+            archive,
+            &typed_index_header::<K, u64, Narrow>(archive, header),
+            from,
+            pairs,
         ),
-        (false, true) => pairs_in::<K, K, u64, u32, P, K, u32, Wide>(archive, header, from, pairs),
-        (true, true) => pairs_in::<K, K, u64, u64, P, K, u64, Wide>(archive, header, from, pairs),
+        (false, true) => pairs_in::<K, K, u64, u32, P, K, u32, Wide>(
+            archive,
+            &typed_index_header::<K, u32, Wide>(archive, header),
+            from,
+            pairs,
+        ),
+        (true, true) => pairs_in::<K, K, u64, u64, P, K, u64, Wide>(
+            archive,
+            &typed_index_header::<K, u64, Wide>(archive, header),
+            from,
+            pairs,
+        ),
     }
 }

@@ -11,7 +11,9 @@ ghost use Rattle.ffi_calls.specs.IndexTextValues.{StoresListedNumberTexts, Store
 ghost use Rattle.ffi_calls.specs.IndexTextValues.{number_text_index, number_text_index_in};
 
 use crate::explanation::Explanation;
-use crate::index::{explain_index, find_in, index_header_of, open_index, pairs_in};
+use crate::index::{
+    explain_index, find_in, index_header_of, open_index, pairs_in, typed_index_header,
+};
 use crate::pairs::{IndexedOf, PairOf};
 use crate::reading::NumberKey;
 use rkyv_base::text::Text;
@@ -87,9 +89,19 @@ pub fn get_index_text_of_number<'a, K: NumberKey, I: IndexedOf<&'a [u8]>>(
         found.old) result (I.indexed_of found.new) }
 {
     if wide {
-        find_in::<K, &[u8], &str, I, K, Text<Wide>, Wide>(archive, header, &key, found)
+        find_in::<K, &[u8], &str, I, K, Text<Wide>, Wide>(
+            archive,
+            &typed_index_header::<K, Text<Wide>, Wide>(archive, header),
+            &key,
+            found,
+        )
     } else {
-        find_in::<K, &[u8], &str, I, K, Text<Narrow>, Narrow>(archive, header, &key, found)
+        find_in::<K, &[u8], &str, I, K, Text<Narrow>, Narrow>(
+            archive,
+            &typed_index_header::<K, Text<Narrow>, Narrow>(archive, header),
+            &key,
+            found,
+        )
     }
 }
 
@@ -116,8 +128,18 @@ pub fn index_number_texts_from<'a, K: NumberKey, P: PairOf<K, &'a [u8]>>(
         pairs.old) result (map P.pair_of pairs.new) }
 {
     if wide {
-        pairs_in::<K, K, &[u8], &str, P, K, Text<Wide>, Wide>(archive, header, from, pairs)
+        pairs_in::<K, K, &[u8], &str, P, K, Text<Wide>, Wide>(
+            archive,
+            &typed_index_header::<K, Text<Wide>, Wide>(archive, header),
+            from,
+            pairs,
+        )
     } else {
-        pairs_in::<K, K, &[u8], &str, P, K, Text<Narrow>, Narrow>(archive, header, from, pairs)
+        pairs_in::<K, K, &[u8], &str, P, K, Text<Narrow>, Narrow>(
+            archive,
+            &typed_index_header::<K, Text<Narrow>, Narrow>(archive, header),
+            from,
+            pairs,
+        )
     }
 }

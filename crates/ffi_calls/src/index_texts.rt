@@ -14,7 +14,9 @@ ghost use Rattle.ffi_calls.specs.IndexLists.{GivesFirstIndexedText, StoresListed
 
 use crate::explanation::Explanation;
 use crate::form::Form;
-use crate::index::{explain_index, find_in, index_header_of, open_index, pairs_in};
+use crate::index::{
+    explain_index, find_in, index_header_of, open_index, pairs_in, typed_index_header,
+};
 use crate::index_in_place::set_indexed_in;
 use crate::pairs::{IndexedOf, PairOf};
 use crate::status::NOT_TEXT;
@@ -86,16 +88,28 @@ fn get_of<I: IndexedOf<u64>>(
 {
     match (form.long_values, form.wide) {
         (false, false) => find_in::<&str, u64, u32, I, Text<Narrow>, u32, Narrow>(
-            archive, header, &key, found,
+            archive,
+            &typed_index_header::<Text<Narrow>, u32, Narrow>(archive, header),
+            &key,
+            found,
         ),
         (true, false) => find_in::<&str, u64, u64, I, Text<Narrow>, u64, Narrow>(
-            archive, header, &key, found,
+            archive,
+            &typed_index_header::<Text<Narrow>, u64, Narrow>(archive, header),
+            &key,
+            found,
         ),
         (false, true) => find_in::<&str, u64, u32, I, Text<Wide>, u32, Wide>(
-            archive, header, &key, found,
+            archive,
+            &typed_index_header::<Text<Wide>, u32, Wide>(archive, header),
+            &key,
+            found,
         ),
         (true, true) => find_in::<&str, u64, u64, I, Text<Wide>, u64, Wide>(
-            archive, header, &key, found,
+            archive,
+            &typed_index_header::<Text<Wide>, u64, Wide>(archive, header),
+            &key,
+            found,
         ),
     }
 }
@@ -203,22 +217,34 @@ pub fn index_texts_from<'a, P: PairOf<&'a [u8], u64>>(
     match (form.long_values, form.wide) {
         (false, false) => {
             pairs_in::<&[u8], &str, u64, u32, P, Text<Narrow>, u32, Narrow>(
-                archive, header, from, pairs,
+                archive,
+                &typed_index_header::<Text<Narrow>, u32, Narrow>(archive, header),
+                from,
+                pairs,
             )
         }
         (true, false) => {
             pairs_in::<&[u8], &str, u64, u64, P, Text<Narrow>, u64, Narrow>(
-                archive, header, from, pairs,
+                archive,
+                &typed_index_header::<Text<Narrow>, u64, Narrow>(archive, header),
+                from,
+                pairs,
             )
         }
         (false, true) => {
             pairs_in::<&[u8], &str, u64, u32, P, Text<Wide>, u32, Wide>(
-                archive, header, from, pairs,
+                archive,
+                &typed_index_header::<Text<Wide>, u32, Wide>(archive, header),
+                from,
+                pairs,
             )
         }
         (true, true) => {
             pairs_in::<&[u8], &str, u64, u64, P, Text<Wide>, u64, Wide>(
-                archive, header, from, pairs,
+                archive,
+                &typed_index_header::<Text<Wide>, u64, Wide>(archive, header),
+                from,
+                pairs,
             )
         }
     }

@@ -13,7 +13,9 @@ ghost use Rattle.ffi_calls.specs.IndexTextValues.{StoresTextTexts, text_text_ind
 ghost use Rattle.ffi_calls.specs.IndexTextValues.{text_text_index_in};
 
 use crate::explanation::Explanation;
-use crate::index::{explain_index, find_in, index_header_of, open_index, pairs_in};
+use crate::index::{
+    explain_index, find_in, index_header_of, open_index, pairs_in, typed_index_header,
+};
 use crate::pairs::{IndexedOf, PairOf};
 use crate::status::NOT_TEXT;
 use crate::texts::text_of;
@@ -81,10 +83,18 @@ fn get_of<'a, I: IndexedOf<&'a [u8]>>(
         result (I.indexed_of found.new) }
 {
     if wide {
-        find_in::<&str, &[u8], &str, I, Text<Wide>, Text<Wide>, Wide>(archive, header, &key, found)
+        find_in::<&str, &[u8], &str, I, Text<Wide>, Text<Wide>, Wide>(
+            archive,
+            &typed_index_header::<Text<Wide>, Text<Wide>, Wide>(archive, header),
+            &key,
+            found,
+        )
     } else {
         find_in::<&str, &[u8], &str, I, Text<Narrow>, Text<Narrow>, Narrow>(
-            archive, header, &key, found,
+            archive,
+            &typed_index_header::<Text<Narrow>, Text<Narrow>, Narrow>(archive, header),
+            &key,
+            found,
         )
     }
 }
@@ -147,11 +157,17 @@ pub fn index_text_texts_from<'a, P: PairOf<&'a [u8], &'a [u8]>>(
 {
     if wide {
         pairs_in::<&[u8], &str, &[u8], &str, P, Text<Wide>, Text<Wide>, Wide>(
-            archive, header, from, pairs,
+            archive,
+            &typed_index_header::<Text<Wide>, Text<Wide>, Wide>(archive, header),
+            from,
+            pairs,
         )
     } else {
         pairs_in::<&[u8], &str, &[u8], &str, P, Text<Narrow>, Text<Narrow>, Narrow>(
-            archive, header, from, pairs,
+            archive,
+            &typed_index_header::<Text<Narrow>, Text<Narrow>, Narrow>(archive, header),
+            from,
+            pairs,
         )
     }
 }

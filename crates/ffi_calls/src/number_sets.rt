@@ -13,7 +13,7 @@ ghost use Rattle.ffi_calls.specs.SetItems.{NumberSetMade, NumberSetRefused};
 ghost use Rattle.ffi_calls.specs.Sets.{FindsListedNumber, FindsNumber, IsNumberSet};
 ghost use Rattle.ffi_calls.specs.Sets.{StoresNextMembers, number_set, number_set_in};
 
-use crate::archives::{header_of, open_map};
+use crate::archives::{header_of, open_map, typed_header};
 use crate::building::{Built, hand_out};
 use crate::explanation::{Explanation, explain_map};
 use crate::pairs::StepOf;
@@ -113,9 +113,19 @@ pub fn next_number_members<K: NumberKey, S: StepOf<K, ()>>(
         (map S.step_of members.new) }
 {
     if wide {
-        next_pairs_in::<K, (), S, K, (), Wide>(archive, header, from, members)
+        next_pairs_in::<K, (), S, K, (), Wide>(
+            archive,
+            &typed_header::<K, (), Wide>(archive, header),
+            from,
+            members,
+        )
     } else {
-        next_pairs_in::<K, (), S, K, (), Narrow>(archive, header, from, members)
+        next_pairs_in::<K, (), S, K, (), Narrow>(
+            archive,
+            &typed_header::<K, (), Narrow>(archive, header),
+            from,
+            members,
+        )
     }
 }
 

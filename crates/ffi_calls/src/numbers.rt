@@ -9,7 +9,7 @@ ghost use Rattle.ffi_calls.specs.Calls.{GivesNumber, SetsNumber, StoresNextNumbe
 ghost use Rattle.ffi_calls.specs.Explanation.{Explains};
 ghost use Rattle.ffi_calls.specs.Listed.{GivesFirstNumber, SetsFirstNumber};
 
-use crate::archives::{header_of, open_map};
+use crate::archives::{header_of, open_map, typed_header};
 use crate::explanation::{Explanation, explain_map};
 use crate::form::Form;
 use crate::lookup::{get_in, set_in};
@@ -88,10 +88,30 @@ pub fn get_number<K: NumberKey>(
     ensures listed { GivesFirstNumber K.NumberKey form archive.now key value.old result value.new }
 {
     match (form.long_values, form.wide) {
-        (false, false) => get_in::<K, u64, u32, K, u32, Narrow>(archive, header, &key, value),
-        (true, false) => get_in::<K, u64, u64, K, u64, Narrow>(archive, header, &key, value),
-        (false, true) => get_in::<K, u64, u32, K, u32, Wide>(archive, header, &key, value),
-        (true, true) => get_in::<K, u64, u64, K, u64, Wide>(archive, header, &key, value),
+        (false, false) => get_in::<K, u64, u32, K, u32, Narrow>(
+            archive,
+            &typed_header::<K, u32, Narrow>(archive, header),
+            &key,
+            value,
+        ),
+        (true, false) => get_in::<K, u64, u64, K, u64, Narrow>(
+            archive,
+            &typed_header::<K, u64, Narrow>(archive, header),
+            &key,
+            value,
+        ),
+        (false, true) => get_in::<K, u64, u32, K, u32, Wide>(
+            archive,
+            &typed_header::<K, u32, Wide>(archive, header),
+            &key,
+            value,
+        ),
+        (true, true) => get_in::<K, u64, u64, K, u64, Wide>(
+            archive,
+            &typed_header::<K, u64, Wide>(archive, header),
+            &key,
+            value,
+        ),
     }
 }
 
@@ -146,9 +166,29 @@ pub fn next_numbers<K: NumberKey, S: StepOf<K, u64>>(
         (map S.step_of pairs.new) }
 {
     match (form.long_values, form.wide) {
-        (false, false) => next_pairs_in::<K, u64, S, K, u32, Narrow>(archive, header, from, pairs),
-        (true, false) => next_pairs_in::<K, u64, S, K, u64, Narrow>(archive, header, from, pairs),
-        (false, true) => next_pairs_in::<K, u64, S, K, u32, Wide>(archive, header, from, pairs),
-        (true, true) => next_pairs_in::<K, u64, S, K, u64, Wide>(archive, header, from, pairs),
+        (false, false) => next_pairs_in::<K, u64, S, K, u32, Narrow>(
+            archive,
+            &typed_header::<K, u32, Narrow>(archive, header),
+            from,
+            pairs,
+        ),
+        (true, false) => next_pairs_in::<K, u64, S, K, u64, Narrow>(
+            archive,
+            &typed_header::<K, u64, Narrow>(archive, header),
+            from,
+            pairs,
+        ),
+        (false, true) => next_pairs_in::<K, u64, S, K, u32, Wide>(
+            archive,
+            &typed_header::<K, u32, Wide>(archive, header),
+            from,
+            pairs,
+        ),
+        (true, true) => next_pairs_in::<K, u64, S, K, u64, Wide>(
+            archive,
+            &typed_header::<K, u64, Wide>(archive, header),
+            from,
+            pairs,
+        ),
     }
 }

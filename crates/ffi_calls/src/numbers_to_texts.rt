@@ -9,7 +9,7 @@ ghost use Rattle.ffi_calls.specs.TextValues.{GivesFirstTextOfNumber, GivesTextOf
 ghost use Rattle.ffi_calls.specs.TextValues.{IsNumberTextArchive, StoresNextNumberTexts};
 ghost use Rattle.ffi_calls.specs.TextValues.{number_text_map, number_texts_in};
 
-use crate::archives::{header_of, open_map};
+use crate::archives::{header_of, open_map, typed_header};
 use crate::explanation::{Explanation, explain_map};
 use crate::lookup::get_in;
 use crate::pairs::StepOf;
@@ -87,9 +87,19 @@ pub fn get_text_of_number<'a, K: NumberKey>(
         value.new }
 {
     if wide {
-        get_in::<K, &[u8], &str, K, Text<Wide>, Wide>(archive, header, &key, value)
+        get_in::<K, &[u8], &str, K, Text<Wide>, Wide>(
+            archive,
+            &typed_header::<K, Text<Wide>, Wide>(archive, header),
+            &key,
+            value,
+        )
     } else {
-        get_in::<K, &[u8], &str, K, Text<Narrow>, Narrow>(archive, header, &key, value)
+        get_in::<K, &[u8], &str, K, Text<Narrow>, Narrow>(
+            archive,
+            &typed_header::<K, Text<Narrow>, Narrow>(archive, header),
+            &key,
+            value,
+        )
     }
 }
 
@@ -115,8 +125,18 @@ pub fn next_number_texts<'a, K: NumberKey, S: StepOf<K, &'a [u8]>>(
         result (map S.step_of pairs.new) }
 {
     if wide {
-        next_pairs_in::<K, &[u8], S, K, Text<Wide>, Wide>(archive, header, from, pairs)
+        next_pairs_in::<K, &[u8], S, K, Text<Wide>, Wide>(
+            archive,
+            &typed_header::<K, Text<Wide>, Wide>(archive, header),
+            from,
+            pairs,
+        )
     } else {
-        next_pairs_in::<K, &[u8], S, K, Text<Narrow>, Narrow>(archive, header, from, pairs)
+        next_pairs_in::<K, &[u8], S, K, Text<Narrow>, Narrow>(
+            archive,
+            &typed_header::<K, Text<Narrow>, Narrow>(archive, header),
+            from,
+            pairs,
+        )
     }
 }

@@ -10,7 +10,7 @@ ghost use Rattle.ffi_calls.specs.Sets.{FindsListedText, FindsText, IsFoundStatus
 ghost use Rattle.ffi_calls.specs.Sets.{StoresNextTextMembers, member_found, text_set};
 ghost use Rattle.ffi_calls.specs.Sets.{text_set_in};
 
-use crate::archives::{header_of, open_map};
+use crate::archives::{header_of, open_map, typed_header};
 use crate::explanation::{Explanation, explain_map};
 use crate::pairs::StepOf;
 use crate::sets::contains_in;
@@ -123,8 +123,18 @@ pub fn next_text_members<'a, S: StepOf<&'a [u8], ()>>(
         S.step_of members.new) }
 {
     if wide {
-        next_pairs_in::<&[u8], (), S, Text<Wide>, (), Wide>(archive, header, from, members)
+        next_pairs_in::<&[u8], (), S, Text<Wide>, (), Wide>(
+            archive,
+            &typed_header::<Text<Wide>, (), Wide>(archive, header),
+            from,
+            members,
+        )
     } else {
-        next_pairs_in::<&[u8], (), S, Text<Narrow>, (), Narrow>(archive, header, from, members)
+        next_pairs_in::<&[u8], (), S, Text<Narrow>, (), Narrow>(
+            archive,
+            &typed_header::<Text<Narrow>, (), Narrow>(archive, header),
+            from,
+            members,
+        )
     }
 }

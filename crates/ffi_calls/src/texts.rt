@@ -12,7 +12,7 @@ ghost use Rattle.ffi_calls.specs.Explanation.{Explains};
 ghost use Rattle.ffi_calls.specs.Listed.{GivesFirstText, SetsFirstText};
 ghost use Rattle.ffi_calls.specs.Reading.{ReadsWord};
 
-use crate::archives::{header_of, open_map};
+use crate::archives::{header_of, open_map, typed_header};
 use crate::explanation::{Explanation, explain_map};
 use crate::form::Form;
 use crate::lookup::{get_in, set_in};
@@ -100,16 +100,28 @@ fn get_of(archive: &[u8], form: Form, header: &Decoded, key: &str, value: &mut u
 {
     match (form.long_values, form.wide) {
         (false, false) => get_in::<&str, u64, u32, Text<Narrow>, u32, Narrow>(
-            archive, header, &key, value,
+            archive,
+            &typed_header::<Text<Narrow>, u32, Narrow>(archive, header),
+            &key,
+            value,
         ),
         (true, false) => get_in::<&str, u64, u64, Text<Narrow>, u64, Narrow>(
-            archive, header, &key, value,
+            archive,
+            &typed_header::<Text<Narrow>, u64, Narrow>(archive, header),
+            &key,
+            value,
         ),
         (false, true) => get_in::<&str, u64, u32, Text<Wide>, u32, Wide>(
-            archive, header, &key, value,
+            archive,
+            &typed_header::<Text<Wide>, u32, Wide>(archive, header),
+            &key,
+            value,
         ),
         (true, true) => get_in::<&str, u64, u64, Text<Wide>, u64, Wide>(
-            archive, header, &key, value,
+            archive,
+            &typed_header::<Text<Wide>, u64, Wide>(archive, header),
+            &key,
+            value,
         ),
     }
 }
@@ -208,16 +220,28 @@ pub fn next_texts<'a, S: StepOf<&'a [u8], u64>>(
 {
     match (form.long_values, form.wide) {
         (false, false) => next_pairs_in::<&[u8], u64, S, Text<Narrow>, u32, Narrow>(
-            archive, header, from, pairs,
+            archive,
+            &typed_header::<Text<Narrow>, u32, Narrow>(archive, header),
+            from,
+            pairs,
         ),
         (true, false) => next_pairs_in::<&[u8], u64, S, Text<Narrow>, u64, Narrow>(
-            archive, header, from, pairs,
+            archive,
+            &typed_header::<Text<Narrow>, u64, Narrow>(archive, header),
+            from,
+            pairs,
         ),
         (false, true) => next_pairs_in::<&[u8], u64, S, Text<Wide>, u32, Wide>(
-            archive, header, from, pairs,
+            archive,
+            &typed_header::<Text<Wide>, u32, Wide>(archive, header),
+            from,
+            pairs,
         ),
         (true, true) => next_pairs_in::<&[u8], u64, S, Text<Wide>, u64, Wide>(
-            archive, header, from, pairs,
+            archive,
+            &typed_header::<Text<Wide>, u64, Wide>(archive, header),
+            from,
+            pairs,
         ),
     }
 }

@@ -10,7 +10,7 @@ ghost use Rattle.ffi_calls.specs.TextValues.{GivesFirstTextOfText, GivesTextAt, 
 ghost use Rattle.ffi_calls.specs.TextValues.{IsTextTextArchive, StoresNextTextTexts};
 ghost use Rattle.ffi_calls.specs.TextValues.{text_of_text_found, text_text_map, text_texts_in};
 
-use crate::archives::{header_of, open_map};
+use crate::archives::{header_of, open_map, typed_header};
 use crate::explanation::{Explanation, explain_map};
 use crate::lookup::get_in;
 use crate::pairs::StepOf;
@@ -80,10 +80,18 @@ fn get_of<'a>(
     ensures listed { GivesFirstTextOfText wide archive.now key.now value.old result value.new }
 {
     if wide {
-        get_in::<&str, &[u8], &str, Text<Wide>, Text<Wide>, Wide>(archive, header, &key, value)
+        get_in::<&str, &[u8], &str, Text<Wide>, Text<Wide>, Wide>(
+            archive,
+            &typed_header::<Text<Wide>, Text<Wide>, Wide>(archive, header),
+            &key,
+            value,
+        )
     } else {
         get_in::<&str, &[u8], &str, Text<Narrow>, Text<Narrow>, Narrow>(
-            archive, header, &key, value,
+            archive,
+            &typed_header::<Text<Narrow>, Text<Narrow>, Narrow>(archive, header),
+            &key,
+            value,
         )
     }
 }
@@ -142,10 +150,18 @@ pub fn next_text_texts<'a, S: StepOf<&'a [u8], &'a [u8]>>(
         S.step_of pairs.new) }
 {
     if wide {
-        next_pairs_in::<&[u8], &[u8], S, Text<Wide>, Text<Wide>, Wide>(archive, header, from, pairs)
+        next_pairs_in::<&[u8], &[u8], S, Text<Wide>, Text<Wide>, Wide>(
+            archive,
+            &typed_header::<Text<Wide>, Text<Wide>, Wide>(archive, header),
+            from,
+            pairs,
+        )
     } else {
         next_pairs_in::<&[u8], &[u8], S, Text<Narrow>, Text<Narrow>, Narrow>(
-            archive, header, from, pairs,
+            archive,
+            &typed_header::<Text<Narrow>, Text<Narrow>, Narrow>(archive, header),
+            from,
+            pairs,
         )
     }
 }

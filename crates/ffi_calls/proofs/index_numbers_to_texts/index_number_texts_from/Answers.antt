@@ -1,4 +1,3 @@
-use Rattle.std.proofs.Common.{refl}
 use Rattle.std.specs.Prelude.{map}
 use Rattle.ffi_calls.specs.Archives.{IsHeaderOf}
 use Rattle.ffi_calls.specs.IndexTextValues.{IsNumberTextIndex, StoresListedNumberTexts, StoresNumberTexts, number_text_index_in}
@@ -6,19 +5,25 @@ use Rattle.ffi_calls.specs.Keys.{NumberKey}
 use Rattle.ffi_calls.proofs.Forms.{at_flag, of_flag}
 use Rattle.ffi_calls.proofs.index_numbers_to_texts.index_number_texts_from.Goals as goal
 
-pub pairs_in-requires : goal.pairs_in-requires
-pairs_in-requires g c κs =
+pub typed_index_header-requires-clause-archive : goal.typed_index_header-requires-clause-archive
+typed_index_header-requires-clause-archive g c =
     let k : NumberKey _ = record { eq = g.K.PartialEq.eq; spec = g.K.HasSpec.spec; encoding = g.K.Scalar.encoding; call = g.K.ScalarKey.call } in
-    let archive = of_flag (λ f. IsNumberTextIndex k f c.args.archive.now) c.if-wide.true c.requires.archive in
-    let header = of_flag (λ f. IsHeaderOf (number_text_index_in k f c.args.archive.now) c.args.header.now) c.if-wide.true c.requires.header in
-    ((refl, tt), (archive, header))
+    of_flag (λ f. IsNumberTextIndex k f c.args.archive.now) c.if-wide.true c.requires.archive
 
-pub pairs_in-requires-else-wide : goal.pairs_in-requires-else-wide
-pairs_in-requires-else-wide g c κs =
+pub typed_index_header-requires-clause-header : goal.typed_index_header-requires-clause-header
+typed_index_header-requires-clause-header g c =
     let k : NumberKey _ = record { eq = g.K.PartialEq.eq; spec = g.K.HasSpec.spec; encoding = g.K.Scalar.encoding; call = g.K.ScalarKey.call } in
-    let archive = of_flag (λ f. IsNumberTextIndex k f c.args.archive.now) c.if-wide.false c.requires.archive in
-    let header = of_flag (λ f. IsHeaderOf (number_text_index_in k f c.args.archive.now) c.args.header.now) c.if-wide.false c.requires.header in
-    ((refl, tt), (archive, header))
+    of_flag (λ f. IsHeaderOf (number_text_index_in k f c.args.archive.now) c.args.header.now) c.if-wide.true c.requires.header
+
+pub typed_index_header-requires-else-wide-clause-archive : goal.typed_index_header-requires-else-wide-clause-archive
+typed_index_header-requires-else-wide-clause-archive g c =
+    let k : NumberKey _ = record { eq = g.K.PartialEq.eq; spec = g.K.HasSpec.spec; encoding = g.K.Scalar.encoding; call = g.K.ScalarKey.call } in
+    of_flag (λ f. IsNumberTextIndex k f c.args.archive.now) c.if-wide.false c.requires.archive
+
+pub typed_index_header-requires-else-wide-clause-header : goal.typed_index_header-requires-else-wide-clause-header
+typed_index_header-requires-else-wide-clause-header g c =
+    let k : NumberKey _ = record { eq = g.K.PartialEq.eq; spec = g.K.HasSpec.spec; encoding = g.K.Scalar.encoding; call = g.K.ScalarKey.call } in
+    of_flag (λ f. IsHeaderOf (number_text_index_in k f c.args.archive.now) c.args.header.now) c.if-wide.false c.requires.header
 
 pub returns-then-wide-clause-stores : goal.returns-then-wide-clause-stores
 returns-then-wide-clause-stores g c =

@@ -1,33 +1,32 @@
-use Rattle.std.proofs.Common.{refl}
 use Rattle.ffi_calls.specs.Archives.{IsHeaderOf}
 use Rattle.ffi_calls.specs.IndexArchives.{GivesIndexedText, IsTextIndex, text_index_in}
 use Rattle.ffi_calls.specs.IndexLists.{GivesFirstIndexedText}
 use Rattle.ffi_calls.proofs.Forms.{at_form, of_form}
 use Rattle.ffi_calls.proofs.index_texts.get_of.Goals as goal
 
-pub find_in-requires : goal.find_in-requires
-find_in-requires g c κs =
-    let archive = of_form (λ f. IsTextIndex f c.args.archive.now) c.args.form c.in-true-true.is-0 c.in-true-true.is-1 c.requires.archive in
-    let header = of_form (λ f. IsHeaderOf (text_index_in f c.args.archive.now) c.args.header.now) c.args.form c.in-true-true.is-0 c.in-true-true.is-1 c.requires.header in
-    ((refl, tt), (archive, (header, tt)))
+pub typed_index_header-requires-clause-archive : goal.typed_index_header-requires-clause-archive
+typed_index_header-requires-clause-archive g c = of_form (λ f. IsTextIndex f c.args.archive.now) c.args.form c.in-true-true.is-0 c.in-true-true.is-1 c.requires.archive
 
-pub find_in-requires-in-true-false : goal.find_in-requires-in-true-false
-find_in-requires-in-true-false g c κs =
-    let archive = of_form (λ f. IsTextIndex f c.args.archive.now) c.args.form c.in-true-false.is-0 c.in-true-false.is-1 c.requires.archive in
-    let header = of_form (λ f. IsHeaderOf (text_index_in f c.args.archive.now) c.args.header.now) c.args.form c.in-true-false.is-0 c.in-true-false.is-1 c.requires.header in
-    ((refl, tt), (archive, (header, tt)))
+pub typed_index_header-requires-clause-header : goal.typed_index_header-requires-clause-header
+typed_index_header-requires-clause-header g c = of_form (λ f. IsHeaderOf (text_index_in f c.args.archive.now) c.args.header.now) c.args.form c.in-true-true.is-0 c.in-true-true.is-1 c.requires.header
 
-pub find_in-requires-in-false-true : goal.find_in-requires-in-false-true
-find_in-requires-in-false-true g c κs =
-    let archive = of_form (λ f. IsTextIndex f c.args.archive.now) c.args.form c.in-false-true.is-0 c.in-false-true.is-1 c.requires.archive in
-    let header = of_form (λ f. IsHeaderOf (text_index_in f c.args.archive.now) c.args.header.now) c.args.form c.in-false-true.is-0 c.in-false-true.is-1 c.requires.header in
-    ((refl, tt), (archive, (header, tt)))
+pub typed_index_header-requires-in-true-false-clause-archive : goal.typed_index_header-requires-in-true-false-clause-archive
+typed_index_header-requires-in-true-false-clause-archive g c = of_form (λ f. IsTextIndex f c.args.archive.now) c.args.form c.in-true-false.is-0 c.in-true-false.is-1 c.requires.archive
 
-pub find_in-requires-in-false-false : goal.find_in-requires-in-false-false
-find_in-requires-in-false-false g c κs =
-    let archive = of_form (λ f. IsTextIndex f c.args.archive.now) c.args.form c.in-false-false.is-0 c.in-false-false.is-1 c.requires.archive in
-    let header = of_form (λ f. IsHeaderOf (text_index_in f c.args.archive.now) c.args.header.now) c.args.form c.in-false-false.is-0 c.in-false-false.is-1 c.requires.header in
-    ((refl, tt), (archive, (header, tt)))
+pub typed_index_header-requires-in-true-false-clause-header : goal.typed_index_header-requires-in-true-false-clause-header
+typed_index_header-requires-in-true-false-clause-header g c = of_form (λ f. IsHeaderOf (text_index_in f c.args.archive.now) c.args.header.now) c.args.form c.in-true-false.is-0 c.in-true-false.is-1 c.requires.header
+
+pub typed_index_header-requires-in-false-true-clause-archive : goal.typed_index_header-requires-in-false-true-clause-archive
+typed_index_header-requires-in-false-true-clause-archive g c = of_form (λ f. IsTextIndex f c.args.archive.now) c.args.form c.in-false-true.is-0 c.in-false-true.is-1 c.requires.archive
+
+pub typed_index_header-requires-in-false-true-clause-header : goal.typed_index_header-requires-in-false-true-clause-header
+typed_index_header-requires-in-false-true-clause-header g c = of_form (λ f. IsHeaderOf (text_index_in f c.args.archive.now) c.args.header.now) c.args.form c.in-false-true.is-0 c.in-false-true.is-1 c.requires.header
+
+pub typed_index_header-requires-in-false-false-clause-archive : goal.typed_index_header-requires-in-false-false-clause-archive
+typed_index_header-requires-in-false-false-clause-archive g c = of_form (λ f. IsTextIndex f c.args.archive.now) c.args.form c.in-false-false.is-0 c.in-false-false.is-1 c.requires.archive
+
+pub typed_index_header-requires-in-false-false-clause-header : goal.typed_index_header-requires-in-false-false-clause-header
+typed_index_header-requires-in-false-false-clause-header g c = of_form (λ f. IsHeaderOf (text_index_in f c.args.archive.now) c.args.header.now) c.args.form c.in-false-false.is-0 c.in-false-false.is-1 c.requires.header
 
 pub returns-in-true-true-clause-gives : goal.returns-in-true-true-clause-gives
 returns-in-true-true-clause-gives g c = at_form (λ f. GivesIndexedText f c.args.archive.now c.args.key.now (g.I.IndexedOf.indexed_of c.args.found.now) c.find_in.result (g.I.IndexedOf.indexed_of c.find_in.new.found)) c.args.form c.in-true-true.is-0 c.in-true-true.is-1 c.find_in.ensures.gives

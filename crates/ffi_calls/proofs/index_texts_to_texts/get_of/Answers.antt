@@ -1,20 +1,19 @@
-use Rattle.std.proofs.Common.{refl}
 use Rattle.ffi_calls.specs.Archives.{IsHeaderOf}
 use Rattle.ffi_calls.specs.IndexTextValues.{GivesFirstIndexedTextOfText, GivesIndexedTextOfText, IsTextTextIndex, text_text_index_in}
 use Rattle.ffi_calls.proofs.Forms.{at_flag, of_flag}
 use Rattle.ffi_calls.proofs.index_texts_to_texts.get_of.Goals as goal
 
-pub find_in-requires : goal.find_in-requires
-find_in-requires g c κs =
-    let archive = of_flag (λ f. IsTextTextIndex f c.args.archive.now) c.if-wide.true c.requires.archive in
-    let header = of_flag (λ f. IsHeaderOf (text_text_index_in f c.args.archive.now) c.args.header.now) c.if-wide.true c.requires.header in
-    ((refl, tt), (archive, (header, tt)))
+pub typed_index_header-requires-clause-archive : goal.typed_index_header-requires-clause-archive
+typed_index_header-requires-clause-archive g c = of_flag (λ f. IsTextTextIndex f c.args.archive.now) c.if-wide.true c.requires.archive
 
-pub find_in-requires-else-wide : goal.find_in-requires-else-wide
-find_in-requires-else-wide g c κs =
-    let archive = of_flag (λ f. IsTextTextIndex f c.args.archive.now) c.if-wide.false c.requires.archive in
-    let header = of_flag (λ f. IsHeaderOf (text_text_index_in f c.args.archive.now) c.args.header.now) c.if-wide.false c.requires.header in
-    ((refl, tt), (archive, (header, tt)))
+pub typed_index_header-requires-clause-header : goal.typed_index_header-requires-clause-header
+typed_index_header-requires-clause-header g c = of_flag (λ f. IsHeaderOf (text_text_index_in f c.args.archive.now) c.args.header.now) c.if-wide.true c.requires.header
+
+pub typed_index_header-requires-else-wide-clause-archive : goal.typed_index_header-requires-else-wide-clause-archive
+typed_index_header-requires-else-wide-clause-archive g c = of_flag (λ f. IsTextTextIndex f c.args.archive.now) c.if-wide.false c.requires.archive
+
+pub typed_index_header-requires-else-wide-clause-header : goal.typed_index_header-requires-else-wide-clause-header
+typed_index_header-requires-else-wide-clause-header g c = of_flag (λ f. IsHeaderOf (text_text_index_in f c.args.archive.now) c.args.header.now) c.if-wide.false c.requires.header
 
 pub returns-then-wide-clause-gives : goal.returns-then-wide-clause-gives
 returns-then-wide-clause-gives g c = at_flag (λ f. GivesIndexedTextOfText f c.args.archive.now c.args.key.now (g.I.IndexedOf.indexed_of c.args.found.now) c.find_in.result (g.I.IndexedOf.indexed_of c.find_in.new.found)) c.if-wide.true c.find_in.ensures.gives

@@ -1,4 +1,3 @@
-use Rattle.std.proofs.Common.{refl}
 use Rattle.std.specs.Prelude.{map}
 use Rattle.ffi_calls.specs.Archives.{IsHeaderOf}
 use Rattle.ffi_calls.specs.Sets.{IsNumberSet, StoresNextMembers, number_set_in}
@@ -6,19 +5,25 @@ use Rattle.ffi_calls.specs.Keys.{NumberKey}
 use Rattle.ffi_calls.proofs.Forms.{at_flag, of_flag}
 use Rattle.ffi_calls.proofs.number_sets.next_number_members.Goals as goal
 
-pub next_pairs_in-requires : goal.next_pairs_in-requires
-next_pairs_in-requires g c κs =
+pub typed_header-requires-clause-archive : goal.typed_header-requires-clause-archive
+typed_header-requires-clause-archive g c =
     let k : NumberKey _ = record { eq = g.K.PartialEq.eq; spec = g.K.HasSpec.spec; encoding = g.K.Scalar.encoding; call = g.K.ScalarKey.call } in
-    let archive = of_flag (λ f. IsNumberSet k f c.args.archive.now) c.if-wide.true c.requires.archive in
-    let header = of_flag (λ f. IsHeaderOf (number_set_in k f c.args.archive.now) c.args.header.now) c.if-wide.true c.requires.header in
-    ((refl, tt), (archive, header))
+    of_flag (λ f. IsNumberSet k f c.args.archive.now) c.if-wide.true c.requires.archive
 
-pub next_pairs_in-requires-else-wide : goal.next_pairs_in-requires-else-wide
-next_pairs_in-requires-else-wide g c κs =
+pub typed_header-requires-clause-header : goal.typed_header-requires-clause-header
+typed_header-requires-clause-header g c =
     let k : NumberKey _ = record { eq = g.K.PartialEq.eq; spec = g.K.HasSpec.spec; encoding = g.K.Scalar.encoding; call = g.K.ScalarKey.call } in
-    let archive = of_flag (λ f. IsNumberSet k f c.args.archive.now) c.if-wide.false c.requires.archive in
-    let header = of_flag (λ f. IsHeaderOf (number_set_in k f c.args.archive.now) c.args.header.now) c.if-wide.false c.requires.header in
-    ((refl, tt), (archive, header))
+    of_flag (λ f. IsHeaderOf (number_set_in k f c.args.archive.now) c.args.header.now) c.if-wide.true c.requires.header
+
+pub typed_header-requires-else-wide-clause-archive : goal.typed_header-requires-else-wide-clause-archive
+typed_header-requires-else-wide-clause-archive g c =
+    let k : NumberKey _ = record { eq = g.K.PartialEq.eq; spec = g.K.HasSpec.spec; encoding = g.K.Scalar.encoding; call = g.K.ScalarKey.call } in
+    of_flag (λ f. IsNumberSet k f c.args.archive.now) c.if-wide.false c.requires.archive
+
+pub typed_header-requires-else-wide-clause-header : goal.typed_header-requires-else-wide-clause-header
+typed_header-requires-else-wide-clause-header g c =
+    let k : NumberKey _ = record { eq = g.K.PartialEq.eq; spec = g.K.HasSpec.spec; encoding = g.K.Scalar.encoding; call = g.K.ScalarKey.call } in
+    of_flag (λ f. IsHeaderOf (number_set_in k f c.args.archive.now) c.args.header.now) c.if-wide.false c.requires.header
 
 pub returns-then-wide : goal.returns-then-wide
 returns-then-wide g c =

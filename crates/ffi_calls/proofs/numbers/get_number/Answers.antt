@@ -1,4 +1,3 @@
-use Rattle.std.proofs.Common.{refl}
 use Rattle.ffi_calls.specs.Archives.{IsHeaderOf, IsNumberArchive, numbers_in}
 use Rattle.ffi_calls.specs.Calls.{GivesNumber}
 use Rattle.ffi_calls.specs.Listed.{GivesFirstNumber}
@@ -6,33 +5,45 @@ use Rattle.ffi_calls.specs.Keys.{NumberKey}
 use Rattle.ffi_calls.proofs.Forms.{at_form, of_form}
 use Rattle.ffi_calls.proofs.numbers.get_number.Goals as goal
 
-pub get_in-requires : goal.get_in-requires
-get_in-requires g c κs =
+pub typed_header-requires-clause-archive : goal.typed_header-requires-clause-archive
+typed_header-requires-clause-archive g c =
     let k : NumberKey _ = record { eq = g.K.PartialEq.eq; spec = g.K.HasSpec.spec; encoding = g.K.Scalar.encoding; call = g.K.ScalarKey.call } in
-    let archive = of_form (λ f. IsNumberArchive k f c.args.archive.now) c.args.form c.in-true-true.is-0 c.in-true-true.is-1 c.requires.archive in
-    let header = of_form (λ f. IsHeaderOf (numbers_in k f c.args.archive.now) c.args.header.now) c.args.form c.in-true-true.is-0 c.in-true-true.is-1 c.requires.header in
-    ((refl, tt), (archive, (header, tt)))
+    of_form (λ f. IsNumberArchive k f c.args.archive.now) c.args.form c.in-true-true.is-0 c.in-true-true.is-1 c.requires.archive
 
-pub get_in-requires-in-true-false : goal.get_in-requires-in-true-false
-get_in-requires-in-true-false g c κs =
+pub typed_header-requires-clause-header : goal.typed_header-requires-clause-header
+typed_header-requires-clause-header g c =
     let k : NumberKey _ = record { eq = g.K.PartialEq.eq; spec = g.K.HasSpec.spec; encoding = g.K.Scalar.encoding; call = g.K.ScalarKey.call } in
-    let archive = of_form (λ f. IsNumberArchive k f c.args.archive.now) c.args.form c.in-true-false.is-0 c.in-true-false.is-1 c.requires.archive in
-    let header = of_form (λ f. IsHeaderOf (numbers_in k f c.args.archive.now) c.args.header.now) c.args.form c.in-true-false.is-0 c.in-true-false.is-1 c.requires.header in
-    ((refl, tt), (archive, (header, tt)))
+    of_form (λ f. IsHeaderOf (numbers_in k f c.args.archive.now) c.args.header.now) c.args.form c.in-true-true.is-0 c.in-true-true.is-1 c.requires.header
 
-pub get_in-requires-in-false-true : goal.get_in-requires-in-false-true
-get_in-requires-in-false-true g c κs =
+pub typed_header-requires-in-true-false-clause-archive : goal.typed_header-requires-in-true-false-clause-archive
+typed_header-requires-in-true-false-clause-archive g c =
     let k : NumberKey _ = record { eq = g.K.PartialEq.eq; spec = g.K.HasSpec.spec; encoding = g.K.Scalar.encoding; call = g.K.ScalarKey.call } in
-    let archive = of_form (λ f. IsNumberArchive k f c.args.archive.now) c.args.form c.in-false-true.is-0 c.in-false-true.is-1 c.requires.archive in
-    let header = of_form (λ f. IsHeaderOf (numbers_in k f c.args.archive.now) c.args.header.now) c.args.form c.in-false-true.is-0 c.in-false-true.is-1 c.requires.header in
-    ((refl, tt), (archive, (header, tt)))
+    of_form (λ f. IsNumberArchive k f c.args.archive.now) c.args.form c.in-true-false.is-0 c.in-true-false.is-1 c.requires.archive
 
-pub get_in-requires-in-false-false : goal.get_in-requires-in-false-false
-get_in-requires-in-false-false g c κs =
+pub typed_header-requires-in-true-false-clause-header : goal.typed_header-requires-in-true-false-clause-header
+typed_header-requires-in-true-false-clause-header g c =
     let k : NumberKey _ = record { eq = g.K.PartialEq.eq; spec = g.K.HasSpec.spec; encoding = g.K.Scalar.encoding; call = g.K.ScalarKey.call } in
-    let archive = of_form (λ f. IsNumberArchive k f c.args.archive.now) c.args.form c.in-false-false.is-0 c.in-false-false.is-1 c.requires.archive in
-    let header = of_form (λ f. IsHeaderOf (numbers_in k f c.args.archive.now) c.args.header.now) c.args.form c.in-false-false.is-0 c.in-false-false.is-1 c.requires.header in
-    ((refl, tt), (archive, (header, tt)))
+    of_form (λ f. IsHeaderOf (numbers_in k f c.args.archive.now) c.args.header.now) c.args.form c.in-true-false.is-0 c.in-true-false.is-1 c.requires.header
+
+pub typed_header-requires-in-false-true-clause-archive : goal.typed_header-requires-in-false-true-clause-archive
+typed_header-requires-in-false-true-clause-archive g c =
+    let k : NumberKey _ = record { eq = g.K.PartialEq.eq; spec = g.K.HasSpec.spec; encoding = g.K.Scalar.encoding; call = g.K.ScalarKey.call } in
+    of_form (λ f. IsNumberArchive k f c.args.archive.now) c.args.form c.in-false-true.is-0 c.in-false-true.is-1 c.requires.archive
+
+pub typed_header-requires-in-false-true-clause-header : goal.typed_header-requires-in-false-true-clause-header
+typed_header-requires-in-false-true-clause-header g c =
+    let k : NumberKey _ = record { eq = g.K.PartialEq.eq; spec = g.K.HasSpec.spec; encoding = g.K.Scalar.encoding; call = g.K.ScalarKey.call } in
+    of_form (λ f. IsHeaderOf (numbers_in k f c.args.archive.now) c.args.header.now) c.args.form c.in-false-true.is-0 c.in-false-true.is-1 c.requires.header
+
+pub typed_header-requires-in-false-false-clause-archive : goal.typed_header-requires-in-false-false-clause-archive
+typed_header-requires-in-false-false-clause-archive g c =
+    let k : NumberKey _ = record { eq = g.K.PartialEq.eq; spec = g.K.HasSpec.spec; encoding = g.K.Scalar.encoding; call = g.K.ScalarKey.call } in
+    of_form (λ f. IsNumberArchive k f c.args.archive.now) c.args.form c.in-false-false.is-0 c.in-false-false.is-1 c.requires.archive
+
+pub typed_header-requires-in-false-false-clause-header : goal.typed_header-requires-in-false-false-clause-header
+typed_header-requires-in-false-false-clause-header g c =
+    let k : NumberKey _ = record { eq = g.K.PartialEq.eq; spec = g.K.HasSpec.spec; encoding = g.K.Scalar.encoding; call = g.K.ScalarKey.call } in
+    of_form (λ f. IsHeaderOf (numbers_in k f c.args.archive.now) c.args.header.now) c.args.form c.in-false-false.is-0 c.in-false-false.is-1 c.requires.header
 
 pub returns-in-true-true-clause-gives : goal.returns-in-true-true-clause-gives
 returns-in-true-true-clause-gives g c =

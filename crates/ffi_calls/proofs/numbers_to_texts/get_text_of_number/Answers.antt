@@ -1,23 +1,28 @@
-use Rattle.std.proofs.Common.{refl}
 use Rattle.ffi_calls.specs.Archives.{IsHeaderOf}
 use Rattle.ffi_calls.specs.TextValues.{GivesFirstTextOfNumber, GivesTextOfNumber, IsNumberTextArchive, number_texts_in}
 use Rattle.ffi_calls.specs.Keys.{NumberKey}
 use Rattle.ffi_calls.proofs.Forms.{at_flag, of_flag}
 use Rattle.ffi_calls.proofs.numbers_to_texts.get_text_of_number.Goals as goal
 
-pub get_in-requires : goal.get_in-requires
-get_in-requires g c κs =
+pub typed_header-requires-clause-archive : goal.typed_header-requires-clause-archive
+typed_header-requires-clause-archive g c =
     let k : NumberKey _ = record { eq = g.K.PartialEq.eq; spec = g.K.HasSpec.spec; encoding = g.K.Scalar.encoding; call = g.K.ScalarKey.call } in
-    let archive = of_flag (λ f. IsNumberTextArchive k f c.args.archive.now) c.if-wide.true c.requires.archive in
-    let header = of_flag (λ f. IsHeaderOf (number_texts_in k f c.args.archive.now) c.args.header.now) c.if-wide.true c.requires.header in
-    ((refl, tt), (archive, (header, tt)))
+    of_flag (λ f. IsNumberTextArchive k f c.args.archive.now) c.if-wide.true c.requires.archive
 
-pub get_in-requires-else-wide : goal.get_in-requires-else-wide
-get_in-requires-else-wide g c κs =
+pub typed_header-requires-clause-header : goal.typed_header-requires-clause-header
+typed_header-requires-clause-header g c =
     let k : NumberKey _ = record { eq = g.K.PartialEq.eq; spec = g.K.HasSpec.spec; encoding = g.K.Scalar.encoding; call = g.K.ScalarKey.call } in
-    let archive = of_flag (λ f. IsNumberTextArchive k f c.args.archive.now) c.if-wide.false c.requires.archive in
-    let header = of_flag (λ f. IsHeaderOf (number_texts_in k f c.args.archive.now) c.args.header.now) c.if-wide.false c.requires.header in
-    ((refl, tt), (archive, (header, tt)))
+    of_flag (λ f. IsHeaderOf (number_texts_in k f c.args.archive.now) c.args.header.now) c.if-wide.true c.requires.header
+
+pub typed_header-requires-else-wide-clause-archive : goal.typed_header-requires-else-wide-clause-archive
+typed_header-requires-else-wide-clause-archive g c =
+    let k : NumberKey _ = record { eq = g.K.PartialEq.eq; spec = g.K.HasSpec.spec; encoding = g.K.Scalar.encoding; call = g.K.ScalarKey.call } in
+    of_flag (λ f. IsNumberTextArchive k f c.args.archive.now) c.if-wide.false c.requires.archive
+
+pub typed_header-requires-else-wide-clause-header : goal.typed_header-requires-else-wide-clause-header
+typed_header-requires-else-wide-clause-header g c =
+    let k : NumberKey _ = record { eq = g.K.PartialEq.eq; spec = g.K.HasSpec.spec; encoding = g.K.Scalar.encoding; call = g.K.ScalarKey.call } in
+    of_flag (λ f. IsHeaderOf (number_texts_in k f c.args.archive.now) c.args.header.now) c.if-wide.false c.requires.header
 
 pub returns-then-wide-clause-gives : goal.returns-then-wide-clause-gives
 returns-then-wide-clause-gives g c =

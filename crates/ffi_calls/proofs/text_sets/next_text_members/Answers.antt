@@ -1,21 +1,20 @@
-use Rattle.std.proofs.Common.{refl}
 use Rattle.std.specs.Prelude.{map}
 use Rattle.ffi_calls.specs.Archives.{IsHeaderOf}
 use Rattle.ffi_calls.specs.Sets.{IsTextSet, StoresNextTextMembers, text_set_in}
 use Rattle.ffi_calls.proofs.Forms.{at_flag, of_flag}
 use Rattle.ffi_calls.proofs.text_sets.next_text_members.Goals as goal
 
-pub next_pairs_in-requires : goal.next_pairs_in-requires
-next_pairs_in-requires g c κs =
-    let archive = of_flag (λ f. IsTextSet f c.args.archive.now) c.if-wide.true c.requires.archive in
-    let header = of_flag (λ f. IsHeaderOf (text_set_in f c.args.archive.now) c.args.header.now) c.if-wide.true c.requires.header in
-    ((refl, tt), (archive, header))
+pub typed_header-requires-clause-archive : goal.typed_header-requires-clause-archive
+typed_header-requires-clause-archive g c = of_flag (λ f. IsTextSet f c.args.archive.now) c.if-wide.true c.requires.archive
 
-pub next_pairs_in-requires-else-wide : goal.next_pairs_in-requires-else-wide
-next_pairs_in-requires-else-wide g c κs =
-    let archive = of_flag (λ f. IsTextSet f c.args.archive.now) c.if-wide.false c.requires.archive in
-    let header = of_flag (λ f. IsHeaderOf (text_set_in f c.args.archive.now) c.args.header.now) c.if-wide.false c.requires.header in
-    ((refl, tt), (archive, header))
+pub typed_header-requires-clause-header : goal.typed_header-requires-clause-header
+typed_header-requires-clause-header g c = of_flag (λ f. IsHeaderOf (text_set_in f c.args.archive.now) c.args.header.now) c.if-wide.true c.requires.header
+
+pub typed_header-requires-else-wide-clause-archive : goal.typed_header-requires-else-wide-clause-archive
+typed_header-requires-else-wide-clause-archive g c = of_flag (λ f. IsTextSet f c.args.archive.now) c.if-wide.false c.requires.archive
+
+pub typed_header-requires-else-wide-clause-header : goal.typed_header-requires-else-wide-clause-header
+typed_header-requires-else-wide-clause-header g c = of_flag (λ f. IsHeaderOf (text_set_in f c.args.archive.now) c.args.header.now) c.if-wide.false c.requires.header
 
 pub returns-then-wide : goal.returns-then-wide
 returns-then-wide g c = at_flag (λ f. StoresNextTextMembers f c.args.archive.now c.args.from (map g.S.StepOf.step_of c.args.members.now) c.next_pairs_in.result (map g.S.StepOf.step_of c.next_pairs_in.new.pairs)) c.if-wide.true c.next_pairs_in.ensures

@@ -1,4 +1,3 @@
-use Rattle.std.proofs.Common.{refl}
 use Rattle.ffi_calls.specs.Archives.{GivesAt, IsHeaderOf, IsTextArchive, texts_in, word_of}
 use Rattle.ffi_calls.specs.Calls.{text_found}
 use Rattle.ffi_calls.specs.Listed.{GivesFirstText}
@@ -6,29 +5,29 @@ use Rattle.ffi_calls.specs.Reading.{ReadsWord}
 use Rattle.ffi_calls.proofs.Forms.{at_form, of_form}
 use Rattle.ffi_calls.proofs.texts.get_of.Goals as goal
 
-pub get_in-requires : goal.get_in-requires
-get_in-requires c κs =
-    let archive = of_form (λ f. IsTextArchive f c.args.archive.now) c.args.form c.in-true-true.is-0 c.in-true-true.is-1 c.requires.archive in
-    let header = of_form (λ f. IsHeaderOf (texts_in f c.args.archive.now) c.args.header.now) c.args.form c.in-true-true.is-0 c.in-true-true.is-1 c.requires.header in
-    ((refl, tt), (archive, (header, tt)))
+pub typed_header-requires-clause-archive : goal.typed_header-requires-clause-archive
+typed_header-requires-clause-archive c = of_form (λ f. IsTextArchive f c.args.archive.now) c.args.form c.in-true-true.is-0 c.in-true-true.is-1 c.requires.archive
 
-pub get_in-requires-in-true-false : goal.get_in-requires-in-true-false
-get_in-requires-in-true-false c κs =
-    let archive = of_form (λ f. IsTextArchive f c.args.archive.now) c.args.form c.in-true-false.is-0 c.in-true-false.is-1 c.requires.archive in
-    let header = of_form (λ f. IsHeaderOf (texts_in f c.args.archive.now) c.args.header.now) c.args.form c.in-true-false.is-0 c.in-true-false.is-1 c.requires.header in
-    ((refl, tt), (archive, (header, tt)))
+pub typed_header-requires-clause-header : goal.typed_header-requires-clause-header
+typed_header-requires-clause-header c = of_form (λ f. IsHeaderOf (texts_in f c.args.archive.now) c.args.header.now) c.args.form c.in-true-true.is-0 c.in-true-true.is-1 c.requires.header
 
-pub get_in-requires-in-false-true : goal.get_in-requires-in-false-true
-get_in-requires-in-false-true c κs =
-    let archive = of_form (λ f. IsTextArchive f c.args.archive.now) c.args.form c.in-false-true.is-0 c.in-false-true.is-1 c.requires.archive in
-    let header = of_form (λ f. IsHeaderOf (texts_in f c.args.archive.now) c.args.header.now) c.args.form c.in-false-true.is-0 c.in-false-true.is-1 c.requires.header in
-    ((refl, tt), (archive, (header, tt)))
+pub typed_header-requires-in-true-false-clause-archive : goal.typed_header-requires-in-true-false-clause-archive
+typed_header-requires-in-true-false-clause-archive c = of_form (λ f. IsTextArchive f c.args.archive.now) c.args.form c.in-true-false.is-0 c.in-true-false.is-1 c.requires.archive
 
-pub get_in-requires-in-false-false : goal.get_in-requires-in-false-false
-get_in-requires-in-false-false c κs =
-    let archive = of_form (λ f. IsTextArchive f c.args.archive.now) c.args.form c.in-false-false.is-0 c.in-false-false.is-1 c.requires.archive in
-    let header = of_form (λ f. IsHeaderOf (texts_in f c.args.archive.now) c.args.header.now) c.args.form c.in-false-false.is-0 c.in-false-false.is-1 c.requires.header in
-    ((refl, tt), (archive, (header, tt)))
+pub typed_header-requires-in-true-false-clause-header : goal.typed_header-requires-in-true-false-clause-header
+typed_header-requires-in-true-false-clause-header c = of_form (λ f. IsHeaderOf (texts_in f c.args.archive.now) c.args.header.now) c.args.form c.in-true-false.is-0 c.in-true-false.is-1 c.requires.header
+
+pub typed_header-requires-in-false-true-clause-archive : goal.typed_header-requires-in-false-true-clause-archive
+typed_header-requires-in-false-true-clause-archive c = of_form (λ f. IsTextArchive f c.args.archive.now) c.args.form c.in-false-true.is-0 c.in-false-true.is-1 c.requires.archive
+
+pub typed_header-requires-in-false-true-clause-header : goal.typed_header-requires-in-false-true-clause-header
+typed_header-requires-in-false-true-clause-header c = of_form (λ f. IsHeaderOf (texts_in f c.args.archive.now) c.args.header.now) c.args.form c.in-false-true.is-0 c.in-false-true.is-1 c.requires.header
+
+pub typed_header-requires-in-false-false-clause-archive : goal.typed_header-requires-in-false-false-clause-archive
+typed_header-requires-in-false-false-clause-archive c = of_form (λ f. IsTextArchive f c.args.archive.now) c.args.form c.in-false-false.is-0 c.in-false-false.is-1 c.requires.archive
+
+pub typed_header-requires-in-false-false-clause-header : goal.typed_header-requires-in-false-false-clause-header
+typed_header-requires-in-false-false-clause-header c = of_form (λ f. IsHeaderOf (texts_in f c.args.archive.now) c.args.header.now) c.args.form c.in-false-false.is-0 c.in-false-false.is-1 c.requires.header
 
 pub returns-in-true-true-clause-gives : goal.returns-in-true-true-clause-gives
 returns-in-true-true-clause-gives c = at_form (λ f. GivesAt (ReadsWord (word_of f.long_values) c.args.archive.now) (text_found f c.args.archive.now c.args.key.now) c.args.value.now c.get_in.result c.get_in.new.value) c.args.form c.in-true-true.is-0 c.in-true-true.is-1 c.get_in.ensures.gives

@@ -1,20 +1,19 @@
-use Rattle.std.proofs.Common.{refl}
 use Rattle.ffi_calls.specs.Archives.{IsHeaderOf}
 use Rattle.ffi_calls.specs.TextValues.{GivesFirstTextOfText, GivesTextAt, IsTextTextArchive, text_of_text_found, text_texts_in}
 use Rattle.ffi_calls.proofs.Forms.{at_flag, of_flag}
 use Rattle.ffi_calls.proofs.texts_to_texts.get_of.Goals as goal
 
-pub get_in-requires : goal.get_in-requires
-get_in-requires c κs =
-    let archive = of_flag (λ f. IsTextTextArchive f c.args.archive.now) c.if-wide.true c.requires.archive in
-    let header = of_flag (λ f. IsHeaderOf (text_texts_in f c.args.archive.now) c.args.header.now) c.if-wide.true c.requires.header in
-    ((refl, tt), (archive, (header, tt)))
+pub typed_header-requires-clause-archive : goal.typed_header-requires-clause-archive
+typed_header-requires-clause-archive c = of_flag (λ f. IsTextTextArchive f c.args.archive.now) c.if-wide.true c.requires.archive
 
-pub get_in-requires-else-wide : goal.get_in-requires-else-wide
-get_in-requires-else-wide c κs =
-    let archive = of_flag (λ f. IsTextTextArchive f c.args.archive.now) c.if-wide.false c.requires.archive in
-    let header = of_flag (λ f. IsHeaderOf (text_texts_in f c.args.archive.now) c.args.header.now) c.if-wide.false c.requires.header in
-    ((refl, tt), (archive, (header, tt)))
+pub typed_header-requires-clause-header : goal.typed_header-requires-clause-header
+typed_header-requires-clause-header c = of_flag (λ f. IsHeaderOf (text_texts_in f c.args.archive.now) c.args.header.now) c.if-wide.true c.requires.header
+
+pub typed_header-requires-else-wide-clause-archive : goal.typed_header-requires-else-wide-clause-archive
+typed_header-requires-else-wide-clause-archive c = of_flag (λ f. IsTextTextArchive f c.args.archive.now) c.if-wide.false c.requires.archive
+
+pub typed_header-requires-else-wide-clause-header : goal.typed_header-requires-else-wide-clause-header
+typed_header-requires-else-wide-clause-header c = of_flag (λ f. IsHeaderOf (text_texts_in f c.args.archive.now) c.args.header.now) c.if-wide.false c.requires.header
 
 pub returns-then-wide-clause-gives : goal.returns-then-wide-clause-gives
 returns-then-wide-clause-gives c = at_flag (λ f. GivesTextAt (text_texts_in f c.args.archive.now) (text_of_text_found f c.args.archive.now c.args.key.now) c.args.value.now c.get_in.result c.get_in.new.value) c.if-wide.true c.get_in.ensures.gives
