@@ -77,7 +77,7 @@ fn the_first_title_is_found(rt: HostRuntime) -> Result<(), Fail> {
         title_of(bytes, 8)?,
         title_of(bytes, 0)?,
     ];
-    expect_eq!(rt; found, [Some("iron"), Some("a long title"), None]);
+    assert_eq!(rt; found, [Some("iron"), Some("a long title"), None]);
     Ok(())
 }
 
