@@ -50,7 +50,7 @@ pub(crate) fn header_of<K: Element, V: Element, W: Width>(archive: &[u8]) -> Dec
 
 /// Returns the header of a map of these types, as it is.
 ///
-/// What it ensures are the conditions of the calls that read values, as facts of the caller.
+/// Its clauses are the conditions of calls that read values. A caller then has them as facts.
 #[inline]
 pub(crate) fn typed_header<K: Element, V: Element, W: Width>(
     archive: &[u8],

@@ -57,7 +57,7 @@ pub(crate) fn index_header_of<K: Element, V: Element, W: Width>(archive: &[u8]) 
 
 /// Returns the header of an index map of these types, as it is.
 ///
-/// What it ensures are the conditions of the calls that read values, as facts of the caller.
+/// Its clauses are the conditions of calls that read values. A caller then has them as facts.
 #[inline]
 pub(crate) fn typed_index_header<K: Element, V: Element, W: Width>(
     archive: &[u8],

@@ -1,4 +1,4 @@
-//! The tests, by what they test.
+//! The tests: checksums, codes, errors, round trips, rows and texts.
 
 use std::fmt::Debug;
 use std::process::Abort;

@@ -1,4 +1,4 @@
-//! The tests, by what they test.
+//! The tests: numbers, regions, texts, drawings and errors.
 
 use std::fmt::Debug;
 use std::process::Abort;
