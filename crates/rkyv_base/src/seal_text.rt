@@ -12,7 +12,7 @@ ghost use Rattle.rkyv_base.specs.Sealing.{Keeps, Sealed};
 ghost use Rattle.rkyv_base.specs.Text.{text_at, text_spec, text_size};
 
 use crate::seal::Seal;
-use crate::text::{Text, fixed_at, inline_part, is_in_another_bucket};
+use crate::text::{Text, fixed_at, inline_part, is_out_of_line};
 use crate::width::Width;
 
 /// Returns the inline text at a position, or `None` if the text is out of line.
@@ -25,7 +25,7 @@ fn inline_bytes<W: Width>(bytes: &[u8], pos: usize) -> Option<&[u8]>
         × (text.now ≡ inline_at W.word bytes.now pos)) }
 {
     let fixed = fixed_at::<W>(bytes, pos as u64);
-    if is_in_another_bucket(fixed) {
+    if is_out_of_line(fixed) {
         return None;
     }
     Some(inline_part(fixed))

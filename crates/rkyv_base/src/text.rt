@@ -66,7 +66,7 @@ pub(crate) fn fixed_at<W: Width>(bytes: &[u8], pos: u64) -> &[u8]
 
 /// Returns `true` if the text is out of line: its first fixed byte has the form 10xxxxxx.
 #[inline]
-pub(crate) fn is_in_another_bucket(fixed: &[u8]) -> bool
+pub(crate) fn is_out_of_line(fixed: &[u8]) -> bool
     requires { 0 < length fixed.now }
     ensures { result ≡ is_out_of_line fixed.now }
 {
@@ -216,7 +216,7 @@ impl<W: Width> Element for Text<W> {
     #[inline]
     fn check(bytes: &[u8], pos: u64, range: PartRange) -> Result<PartRange, VerifyError> {
         let fixed = fixed_at::<W>(bytes, pos);
-        if is_in_another_bucket(fixed) {
+        if is_out_of_line(fixed) {
             return check_out_of_line::<W>(bytes, pos, range);
         }
         check_inline_utf8(fixed, pos)?;
@@ -252,7 +252,7 @@ fn text_part<W: Width>(bytes: &[u8], pos: u64) -> &[u8]
     ensures { result.now ≡ text_at W.word bytes.now pos }
 {
     let fixed = fixed_at::<W>(bytes, pos);
-    if is_in_another_bucket(fixed) {
+    if is_out_of_line(fixed) {
         return out_of_line_part::<W>(bytes, pos);
     }
     inline_part(fixed)

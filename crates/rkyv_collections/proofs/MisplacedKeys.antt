@@ -20,7 +20,7 @@ use Rattle.rkyv_table.specs.Table.Header.{cap_at, len_at}
 use Rattle.rkyv_table.specs.Table.Misplaced.{AloneAccepted, AsksForOne, IsSameness, NoneAccepted, misplaced, repeated, repeats_earlier}
 use Rattle.rkyv_table.specs.Controls.Placing.{walk}
 use Rattle.rkyv_table.specs.Table.Positions.{home_positions, item_at, pos_found, table_controls}
-use Rattle.rkyv_table.proofs.ParsedTable.{controls_accepted, item_viewable, no_items}
+use Rattle.rkyv_table.proofs.ValidTable.{controls_accepted, item_viewable, no_items}
 use Rattle.rkyv_table.proofs.Misplaced.{complete, repeated_misplaced}
 use Rattle.rkyv_table.proofs.RawWalks.{walk_count}
 use Rattle.rkyv_table.proofs.Walks.{filter_agree_range, full_walked, walked_full}

@@ -20,7 +20,7 @@ use Rattle.rkyv_table.specs.Table.Header.{decode_begin, cap_at, controls_pos, le
 use Rattle.rkyv_table.specs.Table.Layout.{IsPart, ItemsHold, TableAt, bucket_at, controls_at, table_spec}
 use Rattle.rkyv_table.specs.Table.Places.{AllHold}
 use Rattle.rkyv_table.specs.Table.Positions.{IsWalked, item_at, table_controls}
-use Rattle.rkyv_table.proofs.ParsedTable.{part_of}
+use Rattle.rkyv_table.proofs.ValidTable.{part_of}
 use Rattle.rkyv_collections.specs.Map.NestedWrites.{HoldsBefore, StaysAt, WritesParts}
 
 -- the bytes before the lower end and those from the upper end on are the same

@@ -18,7 +18,7 @@ use Rattle.rkyv_base.proofs.Sealing.{sealed_wider, viewable_kept}
 use Rattle.rkyv_table.specs.Table.Positions.{IsWalked, home_positions, item_at}
 use Rattle.rkyv_table.specs.Lemmas.ItemPositions.{holds_at, item_holds}
 use Rattle.rkyv_table.specs.Lemmas.SameHeader.{item_same}
-use Rattle.rkyv_table.proofs.ParsedTable.{item_viewable}
+use Rattle.rkyv_table.proofs.ValidTable.{item_viewable}
 use Rattle.rkyv_table.proofs.SameTable.{written_there}
 use Rattle.rkyv_table.proofs.SealedTable.{value_kept}
 use Rattle.rkyv_collections.specs.Map.InPlace.{with_first}

@@ -11,7 +11,7 @@ use Rattle.rkyv_base.specs.Sealing.{value_pos}
 use Rattle.rkyv_base.specs.ElementSpec.{IsElement, ElementSpec, Viewable}
 use Rattle.rkyv_base.specs.View.{pos_of}
 use Rattle.rkyv_base.specs.declared.view.View.{View}
-use Rattle.rkyv_table.proofs.ParsedTable.{item_viewable}
+use Rattle.rkyv_table.proofs.ValidTable.{item_viewable}
 use Rattle.rkyv_table.proofs.Moved.{moved}
 use Rattle.rkyv_table.proofs.SealedTable.{value_kept}
 use Rattle.rkyv_base.specs.declared.entry.Entry.{Entry}

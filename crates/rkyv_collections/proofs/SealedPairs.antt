@@ -18,7 +18,7 @@ use Rattle.rkyv_table.specs.Table.Positions.{table_controls}
 use Rattle.rkyv_table.specs.Table.SealedTable.{SameValue}
 use Rattle.rkyv_table.specs.Controls.Walking.{full_from}
 use Rattle.rkyv_table.specs.declared.table.raw_iter_seal.RawIterSeal.{RawIterSeal}
-use Rattle.rkyv_table.proofs.ParsedTable.{item_viewable}
+use Rattle.rkyv_table.proofs.ValidTable.{item_viewable}
 use Rattle.rkyv_table.proofs.SealedItems.{cursor_kept, full_end, full_skipped}
 use Rattle.rkyv_table.proofs.SealedTable.{table_kept}
 use Rattle.rkyv_collections.specs.Map.SealedMap.{IsPairPos}

@@ -21,7 +21,7 @@ use Rattle.rkyv_table.specs.Table.Header.{cap_at, len_at}
 use Rattle.rkyv_table.specs.Table.Positions.{IsWalked, bucket_found, home_positions, item_at}
 use Rattle.rkyv_table.specs.Table.Positions.{pos_found, table_controls}
 use Rattle.rkyv_table.specs.Table.SealedTable.{KeepsTable, RestsOnKey, SameValue, WritesValue}
-use Rattle.rkyv_table.proofs.ParsedTable.{controls_accepted, item_viewable, some_cap}
+use Rattle.rkyv_table.proofs.ValidTable.{controls_accepted, item_viewable, some_cap}
 use Rattle.rkyv_table.proofs.Misplaced.{found_agree}
 use Rattle.rkyv_table.proofs.SealedTable.{item_stays, lookup_kept, value_kept, written_kept}
 use Rattle.rkyv_table.proofs.Walks.{walked_full}

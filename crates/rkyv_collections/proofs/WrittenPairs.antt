@@ -16,7 +16,7 @@ use Rattle.rkyv_table.specs.Controls.Placing.{walk}
 use Rattle.rkyv_table.specs.Table.Positions.{IsWalked, home_positions, item_at, item_positions}
 use Rattle.rkyv_table.specs.Table.Positions.{pos_found, table_controls}
 use Rattle.rkyv_table.proofs.FirstFound.{first_found}
-use Rattle.rkyv_table.proofs.ParsedTable.{item_viewable}
+use Rattle.rkyv_table.proofs.ValidTable.{item_viewable}
 use Rattle.rkyv_table.proofs.RawWalks.{walk_count}
 use Rattle.rkyv_table.proofs.WalkedHomes.{walked_homes}
 use Rattle.rkyv_table.proofs.Walks.{full_walked}

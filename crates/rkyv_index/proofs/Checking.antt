@@ -23,7 +23,7 @@ use Rattle.rkyv_table.specs.Table.Positions.{IsWalked, item_at, item_positions, 
 use Rattle.rkyv_table.specs.Table.Decoded.{IsDecoded}
 use Rattle.rkyv_table.specs.declared.table.decoded.Decoded.{Decoded}
 use Rattle.rkyv_table.proofs.Moved.{moved}
-use Rattle.rkyv_table.proofs.ParsedTable.{controls_inside, item_before}
+use Rattle.rkyv_table.proofs.ValidTable.{controls_inside, item_before}
 use Rattle.rkyv_table.proofs.RawWalks.{walked_all}
 use Rattle.rkyv_table.specs.Lemmas.TableLaws.{table_element}
 use Rattle.rkyv_index.specs.Index.IndexLayout.{AreBelow, PlacesBelow, entry_at, place_spec}

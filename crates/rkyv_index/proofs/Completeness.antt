@@ -20,7 +20,7 @@ use Rattle.rkyv_table.specs.Controls.Finding.{found}
 use Rattle.rkyv_table.specs.Table.Header.{cap_at, len_at}
 use Rattle.rkyv_table.specs.Table.Misplaced.{is_answer}
 use Rattle.rkyv_table.specs.Table.Positions.{item_at, table_controls}
-use Rattle.rkyv_table.proofs.ParsedTable.{controls_accepted, no_items}
+use Rattle.rkyv_table.proofs.ValidTable.{controls_accepted, no_items}
 use Rattle.rkyv_table.proofs.Misplaced.{found_agree, found_walked}
 use Rattle.rkyv_table.proofs.Walks.{walked_full}
 use Rattle.rkyv_index.specs.Index.Complete.{FindsTheOne}

@@ -32,7 +32,7 @@ use Rattle.rkyv_table.specs.Table.Places.{AllHold}
 use Rattle.rkyv_table.specs.Table.Positions.{IsWalked, item_at, table_controls}
 use Rattle.rkyv_table.specs.Table.SealedTable.{RestsOnKey, SameValue, WritesValue}
 use Rattle.rkyv_table.proofs.Lists.{set_each}
-use Rattle.rkyv_table.proofs.ParsedTable.{controls_accepted, some_cap}
+use Rattle.rkyv_table.proofs.ValidTable.{controls_accepted, some_cap}
 use Rattle.rkyv_table.proofs.Misplaced.{found_agree, found_walked}
 use Rattle.rkyv_table.proofs.Walks.{walked_full}
 use Rattle.rkyv_index.specs.Index.{fits_in, hash_at, index_found}

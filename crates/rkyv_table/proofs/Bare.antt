@@ -14,7 +14,7 @@ use Rattle.rkyv_table.specs.Table.Positions.{lookup_end, pos_found}
 use Rattle.rkyv_table.specs.Table.Reading.{Answers, CountsEnd, FindsFirst, FindsFound, IsAcceptedAt}
 use Rattle.rkyv_table.specs.Table.Reading.{IsItem, IsItemPos, MayAsk}
 use Rattle.rkyv_table.specs.Table.SealedItems.{IsItemAt}
-use Rattle.rkyv_table.proofs.ParsedTable.{item_viewable}
+use Rattle.rkyv_table.proofs.ValidTable.{item_viewable}
 use Rattle.rkyv_table.proofs.SealedTable.{table_kept}
 use Rattle.rkyv_table.specs.declared.table.ArchivedHashTable.{ArchivedHashTable}
 

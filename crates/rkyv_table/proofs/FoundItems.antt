@@ -1,7 +1,7 @@
 -- The item that a lookup finds, by its bucket.
 use Rattle.rkyv_base.specs.declared.element.HasSpec.{Ghosts as Specs}
 use Rattle.rkyv_base.specs.declared.width.Word.{Ghosts as Words}
-use Rattle.std.proofs.Common.{◌≡◌, ℕ, ◌+◌, ◌%◌, ◌<◌, ◌^◌, ◌∙◌, Bool, None, Option, Some, ap, refl, subst, sym, true}
+use Rattle.std.proofs.Common.{◌≡◌, ℕ, ◌+◌, ◌<◌, ◌^◌, ◌∙◌, Bool, List, None, Option, Some, ap, refl, subst, sym, true}
 use Rattle.std.specs.Option.{option_map}
 use Rattle.rkyv_scan.specs.Groups.{IsKind, Kind, generic_kind}
 use Rattle.rkyv_scan.specs.Paired.{paired_kind}
@@ -10,22 +10,14 @@ use Rattle.rkyv_base.specs.declared.view.View.{View}
 use Rattle.rkyv_table.specs.Controls.Finding.{FindsBucket, lookup}
 use Rattle.rkyv_table.specs.Table.Header.{cap_at, len_at}
 use Rattle.rkyv_table.specs.Table.Positions.{bucket_found, item_at, table_controls}
-use Rattle.rkyv_table.specs.Table.Reading.{Answers, IsParsed, CountsStrides, FindsFirst, FindsFound}
+use Rattle.rkyv_table.specs.Table.Reading.{Answers, CountsStrides, FindsFirst, FindsFound}
 use Rattle.rkyv_table.specs.Table.Reading.{FindsItem, FindsItemPos, IsItemIn}
 use Rattle.rkyv_base.specs.View.{pos_of_found}
 use Rattle.rkyv_table.specs.Table.Reading.{table_bytes, table_pos}
 use Rattle.rkyv_table.specs.declared.table.ArchivedHashTable.{ArchivedHashTable}
-use Rattle.rkyv_table.specs.declared.table.items.ParsedTable.{ParsedTable}
 use Rattle.rkyv_table.proofs.FirstFound.{first_found}
 use Rattle.rkyv_table.proofs.PairedFound.{end_paired, found_paired}
-use Rattle.rkyv_table.proofs.ParsedTable.{read_end, read_found, view_is}
-
--- the start of the probe sequence in the table is that in its items
-pub start_read : {T W : Type 0} {ts : Specs T} {wt : Words W} (t : ArchivedHashTable T W ts wt) (items : ParsedTable T W ts wt) → IsParsed items → items.table ≡ t
-    → (hash start : ℕ) → (0 < t.header.cap → start ≡ hash % t.header.cap) → 0 < items.cap → start ≡ hash % items.cap
-start_read {wt = wt} t items are same hash start begins =
-    let e : items.cap ≡ t.header.cap = are.cap ∙ ap (λ x. cap_at wt.word (table_bytes x) (table_pos x)) same ∙ sym t.decoded.cap in
-    subst (λ n. 0 < n → start ≡ hash % n) (sym e) begins
+use Rattle.rkyv_table.proofs.ValidTable.{read_end, read_found, view_is}
 
 module _ {T W : Type 0} {ts : Specs T} {wt : Words W} (post : View T → Bool → Type 0) (t : ArchivedHashTable T W ts wt) (hash : ℕ) where
   -- the control bytes lead to the first accepted item of a written table
@@ -61,37 +53,38 @@ module _ {T W : Type 0} {ts : Specs T} {wt : Words W} (post : View T → Bool �
   pos_of_item kind None h = record { walked = tt; accepted = tt; answer = h.answer; first = h.first }
 
 -- a lookup in the control bytes that were read, with the comparison called for items of buckets
-module _ {T W : Type 0} {ts : Specs T} {wt : Words W} (post : View T → Bool → Type 0) (kind : Kind) (law : IsKind kind) (element : IsElement ts.spec) (items : ParsedTable T W ts wt) (are : IsParsed items)
+module _ {T W : Type 0} {ts : Specs T} {wt : Words W} (post : View T → Bool → Type 0) (kind : Kind) (law : IsKind kind) (element : IsElement ts.spec) (t : ArchivedHashTable T W ts wt) (controls : List ℕ)
+    (are : 0 < t.header.cap → controls ≡ table_controls wt.word (table_bytes t) (table_pos t))
     (hash : ℕ) (fits : hash < 2 ^ 64) (before after : ℕ)
-    (asked : ℕ → Bool → Type 0) (meets : (i : ℕ) (r : Bool) → asked i r → (v : View T) × IsItemIn items.table i v × post v r) (found : Option ℕ)
-    (finds : FindsBucket (lookup kind items.controls.now items.cap items.len hash) asked before after found) where
+    (asked : ℕ → Bool → Type 0) (meets : (i : ℕ) (r : Bool) → asked i r → (v : View T) × IsItemIn t i v × post v r) (found : Option ℕ)
+    (finds : FindsBucket (lookup kind controls t.header.cap t.header.len hash) asked before after found) where
   abbrev place : ℕ → ℕ
-  place = item_at wt.word ts.spec.size (table_bytes items.table) (table_pos items.table)
+  place = item_at wt.word ts.spec.size (table_bytes t) (table_pos t)
 
-  asks : (accept : ℕ → Bool) → Answers post items.table accept → (i : ℕ) (r : Bool) → asked i r → r ≡ accept (place i)
+  asks : (accept : ℕ → Bool) → Answers post t accept → (i : ℕ) (r : Bool) → asked i r → r ≡ accept (place i)
   asks accept alone i r told = let e = meets i r told in alone e.0 r (i, e.1) e.2 ∙ ap accept e.1.place
 
-  bucket_told : (accept : ℕ → Bool) → Answers post items.table accept → found ≡ bucket_found kind wt.word ts.spec.size (table_bytes items.table) (table_pos items.table) hash accept
-  bucket_told accept alone = finds.answer (λ i. accept (place i)) (λ i r full. asks accept alone i r) ∙ read_found element items are kind hash (λ i. accept (place i))
+  bucket_told : (accept : ℕ → Bool) → Answers post t accept → found ≡ bucket_found kind wt.word ts.spec.size (table_bytes t) (table_pos t) hash accept
+  bucket_told accept alone = finds.answer (λ i. accept (place i)) (λ i r full. asks accept alone i r) ∙ read_found element t controls are kind hash (λ i. accept (place i))
 
-  pub strides_counted : CountsStrides post kind items.table hash before after
+  pub strides_counted : CountsStrides post kind t hash before after
   strides_counted = record {
-    bounded = rw (are.len, are.cap) at finds.bounded;
-    counted = λ accept alone. finds.counted (λ i. accept (place i)) (λ i r full. asks accept alone i r) ∙ ap (λ n. before + n) (read_end element items are kind hash (λ i. accept (place i)));
+    bounded = rw (t.decoded.len, t.decoded.cap) at finds.bounded;
+    counted = λ accept alone. finds.counted (λ i. accept (place i)) (λ i r full. asks accept alone i r) ∙ ap (λ n. before + n) (read_end element t controls are kind hash (λ i. accept (place i)));
   }
 
-  pub item_found : (i : ℕ) → found ≡ Some i → (v : View T) → IsItemIn items.table i v → FindsItem post kind items.table hash (Some v)
+  pub item_found : (i : ℕ) → found ≡ Some i → (v : View T) → IsItemIn t i v → FindsItem post kind t hash (Some v)
   item_found i is v here =
-      let answer : FindsFound post kind items.table hash (Some v.pos) = λ accept alone. ap Some here.place ∙ ap (option_map place) (sym is ∙ bucket_told accept alone) in
+      let answer : FindsFound post kind t hash (Some v.pos) = λ accept alone. ap Some here.place ∙ ap (option_map place) (sym is ∙ bucket_told accept alone) in
       let e = meets i true (rw is at finds.accepted) in
       record {
         walked = (i, here);
         accepted = subst (λ u. post u true) (view_is e.0 v (e.1.archive ∙ sym here.archive) (e.1.place ∙ sym here.place)) e.2;
         answer = answer;
-        first = finds_first post items.table hash kind law fits (Some v.pos) answer;
+        first = finds_first post t hash kind law fits (Some v.pos) answer;
       }
 
-  pub none_found : found ≡ None → FindsItem post kind items.table hash None
+  pub none_found : found ≡ None → FindsItem post kind t hash None
   none_found is =
-      let answer : FindsFound post kind items.table hash None = λ accept alone. ap (option_map place) (sym is ∙ bucket_told accept alone) in
-      record { walked = tt; accepted = tt; answer = answer; first = finds_first post items.table hash kind law fits None answer }
+      let answer : FindsFound post kind t hash None = λ accept alone. ap (option_map place) (sym is ∙ bucket_told accept alone) in
+      record { walked = tt; accepted = tt; answer = answer; first = finds_first post t hash kind law fits None answer }

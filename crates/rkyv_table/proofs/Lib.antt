@@ -4,6 +4,7 @@ pub mod Lists
 pub mod Modulus
 pub mod Coverage
 pub mod Search
+pub mod ValidTable
 pub mod Written
 pub mod ProbeSteps
 pub mod Reciprocals
@@ -19,7 +20,6 @@ pub mod HomeList
 pub mod Headers
 pub mod SealedTable
 pub mod Misplaced
-pub mod ParsedTable
 pub mod FirstFound
 pub mod PlacingSteps
 pub mod PartSteps

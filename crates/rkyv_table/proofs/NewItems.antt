@@ -1,5 +1,5 @@
 -- After a write of one item, a table is one that was written from the list with the new item.
-use Rattle.std.proofs.Common.{◌≡◌, ◌≢◌, ℕ, zero, suc, ◌<◌, ◌∙◌, inl, inr, refl, sym, ap, subst, arith, List, [], ◌∷◌, length, map, Some, slice_index}
+use Rattle.std.proofs.Common.{◌≡◌, ◌≢◌, ℕ, zero, suc, ◌<◌, ◌∙◌, inl, inr, refl, sym, ap, subst, arith, List, [], ◌∷◌, length, Some, slice_index}
 use Rattle.std.specs.Prelude.{slice_get, slice_set}
 use Rattle.std.specs.Int.{Width}
 use Rattle.std.proofs.lemmas.Bool.{cases_lt}
@@ -15,7 +15,7 @@ use Rattle.rkyv_table.specs.Table.Positions.{IsWalked, home_positions, item_at}
 use Rattle.rkyv_table.specs.Table.SealedTable.{KeepsTable}
 use Rattle.rkyv_table.specs.Table.WrittenTables.{IsWrittenOf}
 use Rattle.rkyv_table.proofs.Lists.{set_each}
-use Rattle.rkyv_table.proofs.ParsedTable.{item_viewable}
+use Rattle.rkyv_table.proofs.ValidTable.{item_viewable}
 use Rattle.rkyv_table.proofs.SealedTable.{item_stays, table_kept, written_kept}
 use Rattle.rkyv_table.proofs.WrittenAccepted.{homes_apart}
 use Rattle.rkyv_table.proofs.WrittenTables.{home_count, home_pos, home_walked}

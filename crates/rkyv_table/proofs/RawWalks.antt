@@ -11,7 +11,7 @@ use Rattle.rkyv_table.specs.Controls.Placing.{walk}
 use Rattle.rkyv_table.specs.Table.RawItems.{IsAhead, pos_before}
 use Rattle.rkyv_table.specs.Table.Positions.{IsWalked, item_at, item_positions, table_controls}
 use Rattle.rkyv_table.specs.Table.Layout.{table_spec}
-use Rattle.rkyv_table.proofs.ParsedTable.{controls_accepted, item_before, item_viewable, no_items}
+use Rattle.rkyv_table.proofs.ValidTable.{controls_accepted, item_before, item_viewable, no_items}
 use Rattle.rkyv_table.proofs.Walks.{walk_none, walked_full}
 
 module _ (w : Width) (s : ElementSpec) (law : IsElement s) (b : List ℕ) (p : ℕ) where

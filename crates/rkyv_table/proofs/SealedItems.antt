@@ -10,10 +10,10 @@ use Rattle.rkyv_table.specs.Table.Header.{cap_at, controls_pos, len_at}
 use Rattle.rkyv_table.specs.Controls.Numbers.{control_count}
 use Rattle.rkyv_table.specs.Table.RawItems.{pos_before}
 use Rattle.rkyv_table.specs.Table.Positions.{IsWalked, item_at, table_controls}
-use Rattle.rkyv_table.specs.Table.Reading.{IsParsed, table_bytes, table_pos}
+use Rattle.rkyv_table.specs.Table.Reading.{table_bytes, table_pos}
 use Rattle.rkyv_table.specs.Table.SealedLookup.{IsReadAt, IsTableSeal}
 use Rattle.rkyv_table.specs.declared.table.TableOf.{TableOf}
-use Rattle.rkyv_table.specs.declared.table.items.ParsedTable.{ParsedTable}
+use Rattle.rkyv_table.specs.declared.table.ArchivedHashTable.{ArchivedHashTable}
 use Rattle.rkyv_base.specs.Seal.{archive_in, pos_in}
 use Rattle.rkyv_base.specs.declared.seal.ArchiveSeal.{ArchiveSeal}
 use Rattle.rkyv_table.specs.Controls.Placing.{walk}
@@ -25,7 +25,7 @@ use Rattle.rkyv_base.specs.Sealing.{Keeps, Sealed}
 use Rattle.rkyv_base.proofs.Sealing.{viewable_kept}
 use Rattle.rkyv_table.specs.Controls.Walking.{full_from}
 use Rattle.rkyv_table.specs.declared.table.raw_iter_seal.RawIterSeal.{RawIterSeal}
-use Rattle.rkyv_table.proofs.ParsedTable.{controls_inside, item_before, item_viewable}
+use Rattle.rkyv_table.proofs.ValidTable.{controls_inside, item_before, item_viewable}
 use Rattle.rkyv_table.proofs.RawWalks.{walk_count}
 use Rattle.rkyv_table.proofs.SealedTable.{table_kept}
 use Rattle.rkyv_table.proofs.Walks.{filter_agree_range, whole_walk}
@@ -142,21 +142,21 @@ module _ {T : Type 0} (w : Width) (s : ElementSpec) (law : IsElement s) (p : ℕ
   pub begun : r.left ≡ len_at w r.archive.now p → (0 < r.cap → r.buckets_end ≡ controls_pos w r.archive.now p) → IsSealIter w s p r
   begun left place = record { table = view; cap = cap; place = place; left = left ∙ sym (walk_count w s law r.archive.now p view) ∙ ap length (sym all_left) }
 
--- a cursor with the numbers that were read of a header
-module _ {T W : Type 0} {ts : Specs T} {wt : Words W} (law : IsElement ts.spec) (a : ArchiveSeal (TableOf T W)) (represents : IsTableSeal wt.word ts.spec a) (items : ParsedTable T W ts wt) (are : IsParsed items)
-    (read : IsReadAt a items.table) (r : RawIterSeal T) (bytes : r.archive.now ≡ archive_in a) (place : r.buckets_end ≡ items.buckets_end) (cap : r.cap ≡ items.cap) (left : r.left ≡ items.len) (next : r.next ≡ 0) where
-  as_read : (F : List ℕ → ℕ → ℕ) → F (table_bytes items.table) (table_pos items.table) ≡ F r.archive.now (pos_in a)
-  as_read F = ap (λ b. F b (table_pos items.table)) (read.0 ∙ sym bytes) ∙ ap (F r.archive.now) read.1
+-- a cursor with the numbers of a decoded header
+module _ {T W : Type 0} {ts : Specs T} {wt : Words W} (law : IsElement ts.spec) (a : ArchiveSeal (TableOf T W)) (represents : IsTableSeal wt.word ts.spec a) (t : ArchivedHashTable T W ts wt)
+    (read : IsReadAt a t) (r : RawIterSeal T) (bytes : r.archive.now ≡ archive_in a) (place : r.buckets_end ≡ t.header.controls_pos) (cap : r.cap ≡ t.header.cap) (left : r.left ≡ t.header.len) (next : r.next ≡ 0) where
+  as_read : (F : List ℕ → ℕ → ℕ) → F (table_bytes t) (table_pos t) ≡ F r.archive.now (pos_in a)
+  as_read F = ap (λ b. F b (table_pos t)) (read.0 ∙ sym bytes) ∙ ap (F r.archive.now) read.1
 
   represents_there : Viewable (table_spec wt.word ts.spec) r.archive.now (pos_in a)
   represents_there = subst (λ b. Viewable (table_spec wt.word ts.spec) b (pos_in a)) (sym bytes) represents
 
   cap_there : r.cap ≡ cap_at wt.word r.archive.now (pos_in a)
-  cap_there = cap ∙ are.cap ∙ as_read (cap_at wt.word)
+  cap_there = cap ∙ t.decoded.cap ∙ as_read (cap_at wt.word)
 
   pub begun_at : IsSealIter wt.word ts.spec (pos_in a) r
-  begun_at = begun wt.word ts.spec law (pos_in a) r represents_there cap_there next (left ∙ are.len ∙ as_read (len_at wt.word))
-      (λ h. place ∙ are.place (subst (λ n. 0 < n) cap h) ∙ as_read (controls_pos wt.word))
+  begun_at = begun wt.word ts.spec law (pos_in a) r represents_there cap_there next (left ∙ t.decoded.len ∙ as_read (len_at wt.word))
+      (λ h. place ∙ t.decoded.controls_pos (subst (λ n. 0 < n) cap h) ∙ as_read (controls_pos wt.word))
 
   pub all_left_at : buckets_left wt.word (pos_in a) r ≡ walk (table_controls wt.word (archive_in a) (pos_in a)) (cap_at wt.word (archive_in a) (pos_in a))
   all_left_at = all_left wt.word ts.spec law (pos_in a) r represents_there cap_there next ∙ ap (λ b. walk (table_controls wt.word b (pos_in a)) (cap_at wt.word b (pos_in a))) bytes

@@ -17,7 +17,7 @@ use Rattle.rkyv_table.specs.Table.SealedLookup.{IsItemSeal, IsReadAt, IsTableSea
 use Rattle.rkyv_table.specs.declared.table.ArchivedHashTable.{ArchivedHashTable}
 use Rattle.rkyv_table.specs.declared.table.TableOf.{TableOf}
 use Rattle.rkyv_table.proofs.Bare.{answers_of}
-use Rattle.rkyv_table.proofs.ParsedTable.{item_viewable}
+use Rattle.rkyv_table.proofs.ValidTable.{item_viewable}
 use Rattle.rkyv_table.proofs.SealedTable.{table_kept}
 
 module _ {T W : Type 0} {ts : Specs T} {wt : Words W} (law : IsElement ts.spec) (a : ArchiveSeal (TableOf T W)) (t : ArchivedHashTable T W ts wt) (read : IsReadAt a t) (represents : IsTableSeal wt.word ts.spec a) where

@@ -12,7 +12,7 @@ use Rattle.rkyv_base.specs.Sealing.{Keeps, Outside, Sealed, value_pos}
 use Rattle.rkyv_base.specs.ElementSpec.{IsElement, ElementSpec, Viewable}
 use Rattle.rkyv_base.proofs.Sealing.{entry_kept, holds_out_of_line, same_outside, sealed_wider}
 use Rattle.rkyv_table.proofs.SameTable.{written_there}
-use Rattle.rkyv_table.proofs.ParsedTable.{item_viewable, part_of}
+use Rattle.rkyv_table.proofs.ValidTable.{item_viewable, part_of}
 use Rattle.rkyv_table.specs.Table.Positions.{IsWalked, WrittenAt, bucket_found, item_at}
 use Rattle.rkyv_table.specs.Table.Positions.{table_controls}
 use Rattle.rkyv_table.specs.Table.Header.{decode_begin, cap_at, controls_pos, len_at}

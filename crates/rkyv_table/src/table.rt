@@ -20,7 +20,7 @@ mod bytes;
 pub mod decoded;
 mod element;
 mod header;
-pub(crate) mod items;
+mod items;
 pub mod laws;
 pub mod list_inputs;
 mod lookup;

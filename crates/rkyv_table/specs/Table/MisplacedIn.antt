@@ -7,7 +7,6 @@ use Rattle.rkyv_scan.specs.Groups.{Kind, generic_kind}
 use Rattle.rkyv_table.specs.Controls.Numbers.{probe_capacity}
 use Rattle.rkyv_table.specs.Table.Header.{cap_at, len_at}
 use Rattle.rkyv_table.specs.Table.Misplaced.{all_strides, is_misplaced, misplaced, own_strides}
-use Rattle.rkyv_table.specs.Table.Positions.{bucket_found, lookup_end}
 use Rattle.rkyv_table.specs.Table.Reading.{CountsWithin, IsItem, IsItemIn, item_pos, table_bytes}
 use Rattle.rkyv_table.specs.Table.Positions.{table_controls}
 use Rattle.rkyv_table.specs.Table.Reading.{table_pos}
@@ -64,21 +63,21 @@ module _ {T W : Type 0} {ts : Specs T} {wt : Words W} where
   AnswersOf post t i j result =
       (x : View T) × (y : View T) × IsItemIn t i x × IsItemIn t j y × post x y result
 
-  -- `result`: bucket that a lookup of the item in `bucket` finds
-  abbrev pub FindsOwn : (View T → View T → Bool → Type 0) → Kind → ArchivedHashTable T W ts wt → ℕ
-      → ℕ → Option ℕ → Type 0
-  FindsOwn compares kind t hash bucket result =
-      (same : ℕ → ℕ → Bool) → ComparesAs compares t same
-      → result ≡ bucket_found kind wt.word ts.spec.size (table_bytes t) (table_pos t) hash
-      (same (item_pos t bucket))
+  -- `result`: `true` if the item in the bucket is misplaced, if both functions depend only on
+  -- positions of items
+  abbrev pub TellsMisplaced : (View T → ℕ → Type 0) → (View T → View T → Bool → Type 0)
+      → ArchivedHashTable T W ts wt → ℕ → Bool → Type 0
+  TellsMisplaced hashes compares t bucket result =
+      (hash_of : ℕ → ℕ) (same : ℕ → ℕ → Bool) → HashesAs hashes t hash_of
+      → ComparesAs compares t same → result ≡ bucket_misplaced generic_kind t hash_of same bucket
 
-  -- the strides that a lookup of the item in `bucket` reads are counted
-  pub record CountsOwn (compares : View T → View T → Bool → Type 0)
-      (t : ArchivedHashTable T W ts wt) (hash bucket before after : ℕ) : Type 0 where
+  -- the strides that a lookup of the item in the bucket reads are counted
+  pub record CountsOwn (hashes : View T → ℕ → Type 0) (compares : View T → View T → Bool → Type 0)
+      (t : ArchivedHashTable T W ts wt) (bucket before after : ℕ) : Type 0 where
     pub bounded : CountsWithin t before after
-    pub counted : (same : ℕ → ℕ → Bool) → ComparesAs compares t same
-        → after ≡ before + lookup_end generic_kind wt.word ts.spec.size (table_bytes t)
-        (table_pos t) hash (same (item_pos t bucket))
+    pub counted : (hash_of : ℕ → ℕ) (same : ℕ → ℕ → Bool) → HashesAs hashes t hash_of
+        → ComparesAs compares t same
+        → after ≡ before + bucket_strides generic_kind t hash_of same bucket
 
   -- `result`: number of misplaced items, if both functions depend only on positions of items
   abbrev pub CountsMisplaced : (View T → ℕ → Type 0) → (View T → View T → Bool → Type 0) → Kind

@@ -1,5 +1,5 @@
 -- Valid tables: their items, and the results of lookups.
-use Rattle.std.specs.Prelude.{◌≡◌, ℕ, ◌+◌, ◌/◌, ◌<◌, ◌^◌, List, Bool, true}
+use Rattle.std.specs.Prelude.{◌≡◌, ℕ, ◌+◌, ◌/◌, List, Bool, true}
 use Rattle.std.specs.Prelude.{Option, IfSome}
 use Rattle.std.specs.List.{find}
 use Rattle.rkyv_base.specs.View.{IsValidView, bytes_of, pos_of, pos_of_found}
@@ -8,14 +8,13 @@ use Rattle.rkyv_base.specs.declared.element.HasSpec.{Ghosts as Specs}
 use Rattle.rkyv_base.specs.declared.width.Word.{Ghosts as Words}
 use Rattle.rkyv_scan.specs.Groups.{Kind}
 use Rattle.rkyv_table.specs.Controls.Finding.{ReadsWithin}
-use Rattle.rkyv_table.specs.Table.Header.{cap_at, controls_pos, len_at}
+use Rattle.rkyv_table.specs.Table.Header.{cap_at, len_at}
 use Rattle.rkyv_table.specs.Controls.Laws.{IsUnderHash}
 use Rattle.rkyv_table.specs.Controls.Numbers.{probe_capacity}
 use Rattle.rkyv_table.specs.Table.Layout.{table_spec}
 use Rattle.rkyv_table.specs.declared.table.ArchivedHashTable.{ArchivedHashTable}
-use Rattle.rkyv_table.specs.declared.table.items.ParsedTable.{ParsedTable}
 use Rattle.rkyv_table.specs.Table.Positions.{IsWalked, WrittenAt, home_positions, item_at}
-use Rattle.rkyv_table.specs.Table.Positions.{lookup_end, pos_found, table_controls}
+use Rattle.rkyv_table.specs.Table.Positions.{lookup_end, pos_found}
 
 module _ {T W : Type 0} {ts : Specs T} {wt : Words W} where
   -- the archive has a valid table at the position of the table
@@ -35,14 +34,14 @@ module _ {T W : Type 0} {ts : Specs T} {wt : Words W} where
   item_pos t i = item_at wt.word ts.spec.size (table_bytes t) (table_pos t) i
 
   -- bucket `i` of the table is full
-  abbrev pub IsFullResult : ArchivedHashTable T W ts wt → ℕ → Type 0
-  IsFullResult t i = IsWalked wt.word (table_bytes t) (table_pos t) i
+  abbrev pub IsFullIn : ArchivedHashTable T W ts wt → ℕ → Type 0
+  IsFullIn t i = IsWalked wt.word (table_bytes t) (table_pos t) i
 
   -- `v`: view of the item in bucket `i` of the table
   pub record IsItemIn (t : ArchivedHashTable T W ts wt) (i : ℕ) (v : View T) : Type 0 where
     pub archive : v.archive ≡ t.view.archive
     pub viewable : IsValidView ts.spec v
-    pub walked : IsFullResult t i
+    pub walked : IsFullIn t i
     pub place : v.pos ≡ item_pos t i
 
   -- `v`: view of an item of the table
@@ -51,22 +50,11 @@ module _ {T W : Type 0} {ts : Specs T} {wt : Words W} where
 
   -- `q`: position of an item of the table
   abbrev pub IsItemPos : ArchivedHashTable T W ts wt → ℕ → Type 0
-  IsItemPos t q = (i : ℕ) × IsFullResult t i × (q ≡ item_pos t i)
+  IsItemPos t q = (i : ℕ) × IsFullIn t i × (q ≡ item_pos t i)
 
   -- the comparison can be called with each item
   abbrev pub MayAsk : (View T → Type 0) → ArchivedHashTable T W ts wt → Type 0
   MayAsk pre t = (v : View T) → IsItem t v → pre v
-
-  -- `items`: numbers and control bytes of a table, as read from its header
-  pub record IsParsed (items : ParsedTable T W ts wt) : Type 0 where
-    pub table : IsTable items.table
-    pub len : items.len ≡ len_at wt.word (table_bytes items.table) (table_pos items.table)
-    pub cap : items.cap ≡ cap_at wt.word (table_bytes items.table) (table_pos items.table)
-    pub small : items.cap < 2 ^ 64
-    pub place : 0 < items.cap → items.buckets_end
-        ≡ controls_pos wt.word (table_bytes items.table) (table_pos items.table)
-    pub controls : 0 < items.cap → items.controls.now
-        ≡ table_controls wt.word (table_bytes items.table) (table_pos items.table)
 
   module _ (post : View T → Bool → Type 0) where
     -- `q`: position of an item of the table for which the comparison returned `true`

@@ -7,20 +7,54 @@
 //! A lookup in an untrusted table may read every group of its control bytes once. In any table
 //! it reads at most ceil(capacity / 16) strides.
 ghost use Rattle.std.specs.Prelude.{◌^◌, ◌≡◌, ◌≤◌};
+ghost use Rattle.rkyv_base.specs.declared.view.View.{View};
 ghost use Rattle.rkyv_scan.specs.Groups.{generic_kind};
 ghost use Rattle.rkyv_table.specs.Table.Reading.{CountsStrides, FindsItem, FindsItemPos};
-ghost use Rattle.rkyv_table.specs.Table.Reading.{MayAsk};
+ghost use Rattle.rkyv_table.specs.Table.Reading.{IsFullIn, IsItemIn, MayAsk};
 
-use crate::controls::find::Strides;
+use crate::controls::find::{Strides, find_from};
 use crate::table::ArchivedHashTable;
-use crate::table::items::ParsedTable;
 use rkyv_base::element::Element;
 use rkyv_base::view::{View, found_pos};
 use rkyv_base::width::Width;
 use rkyv_scan::simd::{GroupKind, paired};
 
-// Every lookup is one call of the items' `find`.
+// Every lookup is one call of `find_by`.
 impl<'a, T: Element, W: Width> ArchivedHashTable<'a, T, W> {
+    // Returns an item that the comparison accepts, by groups of the kind `G`, or `None`, and counts
+    // the strides it reads.
+    #[inline]
+    fn find_by<G: GroupKind, F: Fn(View<'a, T>) -> bool>(
+        self,
+        hash: u64,
+        cmp: F,
+        strides: &mut Strides,
+    ) -> Option<View<'a, T>>
+        requires room { strides.old ≤ 2 ^ 63 }
+        requires callable { MayAsk (F.pre cmp) self }
+        ensures found { FindsItem (F.post cmp) G.kind self.entry hash result }
+        ensures counts { CountsStrides (F.post cmp) G.kind self.entry hash
+            strides.old strides.new }
+    {
+        let bucket = find_from::<G, _>(
+            self.controls(),
+            self.header.cap,
+            self.header.len,
+            hash,
+            self.start(hash),
+            |bucket|
+                requires full { IsFullIn self bucket }
+                requires callable { MayAsk (F.pre cmp) self }
+                ensures { (v : View T) × IsItemIn self.entry bucket v × F.post cmp v result }
+            { cmp(self.item(bucket)) },
+            strides,
+        );
+        match bucket {
+            Some(bucket) => Some(self.item(bucket)),
+            None => None,
+        }
+    }
+
     /// Returns an item that the comparison accepts, in a lookup under `hash`, or `None`.
     ///
     /// The result is an item of the table, whatever the comparison returns. The comparison
@@ -84,8 +118,7 @@ impl<'a, T: Element, W: Width> ArchivedHashTable<'a, T, W> {
         requires callable { MayAsk (F.pre cmp) self }
         ensures { FindsItem (F.post cmp) G.kind self.entry hash result }
     {
-        let items = ParsedTable::of(self);
-        items.find::<G, F>(self.start(hash), hash, cmp, &mut Strides::new())
+        self.find_by::<G, F>(hash, cmp, &mut Strides::new())
     }
 
     /// Returns the position of an item that the comparison accepts, or `None`.
@@ -140,7 +173,6 @@ impl<'a, T: Element, W: Width> ArchivedHashTable<'a, T, W> {
         ensures counts { CountsStrides (F.post cmp) generic_kind self.entry hash
             strides.old strides.new }
     {
-        let items = ParsedTable::of(self);
-        items.find::<paired::Group, F>(self.start(hash), hash, cmp, strides)
+        self.find_by::<paired::Group, F>(hash, cmp, strides)
     }
 }

@@ -6,14 +6,12 @@ ghost use Rattle.std.specs.Prelude.{IfSome, false, not, true, ◌+◌, ◌<◌, 
 ghost use Rattle.rkyv_scan.specs.Groups.{generic_kind};
 ghost use Rattle.rkyv_table.specs.Table.Misplaced.{is_answer};
 ghost use Rattle.rkyv_table.specs.Table.MisplacedIn.{AnswersOf, CountsMisplaced, CountsOwn};
-ghost use Rattle.rkyv_table.specs.Table.MisplacedIn.{CountsUpTo, FindsOwn, MayCompare, ReadsUpTo};
-ghost use Rattle.rkyv_table.specs.Table.MisplacedIn.{table_len};
-ghost use Rattle.rkyv_table.specs.Table.Positions.{IsWalked};
-ghost use Rattle.rkyv_table.specs.Table.Reading.{IsParsed, MayAsk, table_bytes, table_pos};
+ghost use Rattle.rkyv_table.specs.Table.MisplacedIn.{CountsUpTo, MayCompare, ReadsUpTo};
+ghost use Rattle.rkyv_table.specs.Table.MisplacedIn.{TellsMisplaced, table_len};
+ghost use Rattle.rkyv_table.specs.Table.Reading.{IsFullIn, IsItemIn, MayAsk};
 
-use crate::controls::find::{Strides, find};
+use crate::controls::find::{Strides, find_from};
 use crate::table::ArchivedHashTable;
-use crate::table::items::ParsedTable;
 use rkyv_base::element::Element;
 use rkyv_base::view::View;
 use rkyv_base::width::Width;
@@ -44,41 +42,42 @@ pub fn is_past(before: u64, count: u64, limit: u64) -> bool
 }
 
 impl<'a, T: Element, W: Width> ArchivedHashTable<'a, T, W> {
-    // Returns the bucket that a lookup of the item in `bucket` finds, and counts its strides.
+    // Returns `true` if a lookup of the item in `bucket` finds another bucket or none, and counts
+    // its strides.
     #[inline]
-    fn own_lookup<S: Fn(View<'a, T>, View<'a, T>) -> bool>(
-        items: ParsedTable<'a, T, W>,
+    fn is_misplaced<H: Fn(View<'a, T>) -> u64, S: Fn(View<'a, T>, View<'a, T>) -> bool>(
+        self,
         bucket: usize,
-        hash: u64,
+        item: View<'a, T>,
+        hash_of: &H,
         same: &S,
         strides: &mut Strides,
-    ) -> Option<usize>
-        requires items { IsParsed items }
-        requires walked { IsWalked W.word (table_bytes items.table) (table_pos items.table) bucket }
+    ) -> bool
+        requires item { IsItemIn self bucket item }
         requires room { strides.old ≤ 2 ^ 63 }
-        requires comparable { MayCompare (S.pre same.now) items.table }
-        ensures found { FindsOwn (S.post same.now) generic_kind items.entry.table hash
-            bucket result }
-        ensures counts { CountsOwn (S.post same.now) items.entry.table hash bucket strides.old
-            strides.new }
+        requires hashable { MayAsk (H.pre hash_of.now) self }
+        requires comparable { MayCompare (S.pre same.now) self }
+        ensures tells { TellsMisplaced (H.post hash_of.now) (S.post same.now) self.entry bucket
+            result }
+        ensures counts { CountsOwn (H.post hash_of.now) (S.post same.now) self.entry bucket
+            strides.old strides.new }
     {
-        find::<rkyv_scan::Group, _>(
-            items.controls,
-            items.cap,
-            items.len,
+        let hash = hash_of(item);
+        let found = find_from::<rkyv_scan::Group, _>(
+            self.controls(),
+            self.header.cap,
+            self.header.len,
             hash,
+            self.start(hash),
             |other|
-                requires items { IsParsed items }
-                requires walked { IsWalked W.word (table_bytes items.table) (table_pos items.table)
-                    bucket }
-                requires other { IsWalked W.word (table_bytes items.table) (table_pos items.table)
-                    other }
-                requires comparable { MayCompare (S.pre same.now) items.table }
-                ensures { AnswersOf (S.post same.entry.now) items.entry.table bucket
-                    other result }
-            { same(items.item(bucket), items.item(other)) },
+                requires full { IsFullIn self bucket }
+                requires other { IsFullIn self other }
+                requires comparable { MayCompare (S.pre same.now) self }
+                ensures { AnswersOf (S.post same.entry.now) self.entry bucket other result }
+            { same(self.item(bucket), self.item(other)) },
             strides,
-        )
+        );
+        is_in_another_bucket(bucket, found)
     }
 
     /// Returns the number of items that a lookup of their own doesn't find.
@@ -123,12 +122,10 @@ impl<'a, T: Element, W: Width> ArchivedHashTable<'a, T, W> {
             self.entry result }
         ensures within { result ≤ table_len self.entry }
     {
-        let items = ParsedTable::of(self);
         let mut count = 0;
-        for bucket in items.walk::<rkyv_scan::Group>() {
-            let hash = hash_of(items.item(bucket));
-            let found = Self::own_lookup(items, bucket, hash, &same, &mut Strides::new());
-            if is_in_another_bucket(bucket, found) {
+        for bucket in self.walk::<rkyv_scan::Group>() {
+            let item = self.item(bucket);
+            if self.is_misplaced(bucket, item, &hash_of, &same, &mut Strides::new()) {
                 count += 1;
             }
         }
@@ -184,16 +181,15 @@ impl<'a, T: Element, W: Width> ArchivedHashTable<'a, T, W> {
         ensures within { IfSome result (λ count. count ≤ table_len self.entry) }
         ensures bounded { ReadsUpTo self.entry limit strides.old strides.new }
     {
-        let items = ParsedTable::of(self);
         let before = strides.count();
         let mut misplaced = 0;
-        for bucket in items.walk::<rkyv_scan::Group>() {
-            let hash = hash_of(items.item(bucket));
-            let answer = Self::own_lookup(items, bucket, hash, &same, strides);
+        for bucket in self.walk::<rkyv_scan::Group>() {
+            let item = self.item(bucket);
+            let is_misplaced = self.is_misplaced(bucket, item, &hash_of, &same, strides);
             if is_past(before, strides.count(), limit) {
                 return None;
             }
-            if is_in_another_bucket(bucket, answer) {
+            if is_misplaced {
                 misplaced += 1;
             }
         }

@@ -13,7 +13,6 @@ ghost use Rattle.rkyv_table.specs.Table.Positions.{item_positions};
 ghost use Rattle.rkyv_table.specs.Table.Reading.{table_bytes, table_pos};
 
 use crate::table::ArchivedHashTable;
-use crate::table::items::ParsedTable;
 use rkyv_base::element::Element;
 use rkyv_base::view::View;
 use rkyv_base::width::Width;
@@ -174,15 +173,16 @@ impl<'a, T: Element, W: Width> ArchivedHashTable<'a, T, W> {
             ≡ len_at W.word (table_bytes self.entry) (table_pos self.entry) }
         ensures all_valid { AllValid T.spec result }
     {
-        let items = ParsedTable::of(self);
+        let header = self.header;
+        let controls = self.controls();
         RawIter {
             archive: self.view.bytes(),
-            buckets_end: items.buckets_end,
+            buckets_end: header.controls_pos,
             size: T::size(),
-            count: items.len,
-            controls: items.controls,
+            count: header.len,
+            controls,
             base: 0,
-            marks: first_marks(items.controls, items.len),
+            marks: first_marks(controls, header.len),
             kind: PhantomData,
         }
     }

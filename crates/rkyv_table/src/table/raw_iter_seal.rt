@@ -41,7 +41,6 @@ ghost use Rattle.rkyv_base.specs.ElementSpec.{Viewable};
 ghost use Rattle.rkyv_table.specs.Table.Layout.{table_spec};
 
 use crate::controls::walk::next_full;
-use crate::table::items::ParsedTable;
 use crate::table::{ArchivedHashTable, TableOf};
 use rkyv_base::element::Element;
 use rkyv_base::scalars::Scalar;
@@ -370,8 +369,8 @@ impl<'a, T: Element, W: Width> ArchivedHashTable<'a, T, W> {
             ≡ walk (table_controls W.word archive.old pos) (cap_at W.word archive.old pos) }
         ensures count { items_left result ≡ len_at W.word archive.old pos }
     {
-        let items = ParsedTable::of(ArchivedHashTable::<T, W>::of(View::new(&*archive, pos)));
-        let (buckets_end, cap, left) = (items.buckets_end, items.cap, items.len);
+        let header = ArchivedHashTable::<T, W>::of(View::new(&*archive, pos)).header;
+        let (buckets_end, cap, left) = (header.controls_pos, header.cap, header.len);
         RawIterSeal {
             archive,
             buckets_end,

@@ -1,6 +1,5 @@
 use Rattle.std.proofs.Common.{◌+◌, ◌≤◌, length}
 use Rattle.std.specs.List.{All}
-use Rattle.rkyv_scan.specs.Groups.{generic_kind}
 use Rattle.rkyv_table.specs.Table.Header.{cap_at}
 use Rattle.rkyv_table.specs.Table.MisplacedIn.{table_len}
 use Rattle.rkyv_table.specs.Table.Positions.{IsWalked}
@@ -13,5 +12,5 @@ invariant-loop-bucket g l = record {
   walked : All (IsWalked g.W.Word.word (table_bytes l.fn.self) (table_pos l.fn.self)) l.bucket-iterator;
   counted : l.count + length l.bucket-iterator ≤ cap_at g.W.Word.word (table_bytes l.fn.self) (table_pos l.fn.self);
   few : l.count + length l.bucket-iterator ≤ table_len l.fn.self;
-  told : Counting generic_kind l.fn.self (goal.H-post g l.fn.hash_of) (goal.S-post g l.fn.same) l.count l.bucket-iterator;
+  told : Counting l.fn.self (goal.H-post g l.fn.hash_of) (goal.S-post g l.fn.same) l.count l.bucket-iterator;
 }

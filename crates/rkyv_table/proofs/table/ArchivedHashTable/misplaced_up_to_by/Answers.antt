@@ -1,4 +1,4 @@
-use Rattle.std.proofs.Common.{◌≡◌, ◌∙◌, ◌∷◌, ◌+◌, ◌<◌, ◌^◌, ◌⊎◌, arith, refl, sym, ap, subst, zero-add, length, filter}
+use Rattle.std.proofs.Common.{◌≡◌, ◌∙◌, ◌∷◌, ◌+◌, ◌<◌, ◌^◌, ◌⊎◌, arith, sym, ap, subst, zero-add, length, filter}
 use Rattle.std.specs.List.{All, sum_by}
 use Rattle.std.proofs.lemmas.List.Elements.{All-head, All-rest}
 use Rattle.rkyv_scan.specs.Groups.{generic_kind}
@@ -6,12 +6,12 @@ use Rattle.rkyv_table.specs.Controls.Placing.{walk}
 use Rattle.rkyv_table.specs.Table.Header.{cap_at}
 use Rattle.rkyv_table.specs.Table.MisplacedIn.{bucket_misplaced, bucket_strides, table_strides}
 use Rattle.rkyv_table.specs.Table.Positions.{IsWalked, table_controls}
-use Rattle.rkyv_table.specs.Table.Reading.{IsItem, table_bytes, table_pos}
-use Rattle.rkyv_table.proofs.MisplacedIn.{Spending, TellsMisplaced, bucket_told, counted_none, counted_one, past_all, reads_on, spent_one}
+use Rattle.rkyv_table.specs.Table.Reading.{table_bytes, table_pos}
+use Rattle.rkyv_table.proofs.MisplacedIn.{Spending, counted_none, counted_one, past_all, reads_on, spent_one}
 use Rattle.rkyv_table.proofs.RawWalks.{walk_count, walked_all}
 use Rattle.rkyv_table.proofs.Walks.{walk_small}
 use Rattle.rkyv_table.proofs.table.ArchivedHashTable.misplaced_up_to_by.Goals as goal
-use Rattle.rkyv_table.proofs.table.ArchivedHashTable.misplaced_up_to_by.Goals.{After-is_in_another_bucket, After-own_lookup-answer, In-Some}
+use Rattle.rkyv_table.proofs.table.ArchivedHashTable.misplaced_up_to_by.Goals.{After-is_misplaced-is_misplaced, In-Some}
 
 pub loop-bucket-init : goal.loop-bucket-init
 loop-bucket-init g c =
@@ -20,8 +20,7 @@ loop-bucket-init g c =
     let b = table_bytes c.args.self in
     let p = table_pos c.args.self in
     let e : c.into_iter-bucket-iterator.result ≡ walk (table_controls w b p) (cap_at w b p) =
-    c.into_iter-bucket-iterator.ensures.into_iter_gives ∙ c.walk-bucket-items.ensures
-    ∙ ap (λ t. walk (table_controls w (table_bytes t) (table_pos t)) (cap_at w (table_bytes t) (table_pos t))) c.of-items.ensures.table in
+    c.into_iter-bucket-iterator.ensures.into_iter_gives ∙ c.walk-bucket-items.ensures in
     let l = ap length e in
     let small = walk_small (table_controls w b p) (cap_at w b p) in
     let all = walk_count w s g.T.HasSpec.laws b p c.args.self.valid in
@@ -42,68 +41,44 @@ module _ (g : _) (c : In-Some g) where
   walked : All (IsWalked g.W.Word.word (table_bytes c.args.self) (table_pos c.args.self)) (c.in-Some.bucket ∷ c.next.new.self)
   walked = subst (All (IsWalked g.W.Word.word (table_bytes c.args.self) (table_pos c.args.self))) c.in-Some.ensures.steps c.loop-bucket.invariant.walked
 
-  here : IsWalked g.W.Word.word (table_bytes c.of-items.result.table) (table_pos c.of-items.result.table) c.in-Some.bucket
-  here = subst (λ t. IsWalked g.W.Word.word (table_bytes t) (table_pos t) c.in-Some.bucket) (sym c.of-items.ensures.table)
-      (All-head (IsWalked g.W.Word.word (table_bytes c.args.self) (table_pos c.args.self)) c.in-Some.bucket c.next.new.self walked)
+  here : IsWalked g.W.Word.word (table_bytes c.args.self) (table_pos c.args.self) c.in-Some.bucket
+  here = All-head (IsWalked g.W.Word.word (table_bytes c.args.self) (table_pos c.args.self)) c.in-Some.bucket c.next.new.self walked
 
   rest : All (IsWalked g.W.Word.word (table_bytes c.args.self) (table_pos c.args.self)) c.next.new.self
   rest = All-rest (IsWalked g.W.Word.word (table_bytes c.args.self) (table_pos c.args.self)) c.in-Some.bucket c.next.new.self c.loop-bucket.bucket-iterator c.in-Some.ensures.steps c.loop-bucket.invariant.walked
 
 -- the strides of the lookup are counted
-module _ (g : _) (c : After-own_lookup-answer g) where
-  spent : Spending c.args.self (goal.H-post g c.args.hash_of) (goal.S-post g c.args.same) c.count-before.result c.own_lookup-answer.new.strides c.next.new.self
-  spent = spent_one c.args.self _ _ c.of-items.result.table c.of-items.ensures.table c.count-before.result c.loop-bucket.strides c.own_lookup-answer.new.strides c.in-Some.bucket c.hash_of-hash.result
-      c.loop-bucket.bucket-iterator c.next.new.self c.in-Some.ensures.steps c.item.result c.item.ensures c.hash_of-hash.ensures c.own_lookup-answer.ensures.counts c.loop-bucket.invariant.spent
+module _ (g : _) (c : After-is_misplaced-is_misplaced g) where
+  spent : Spending c.args.self (goal.H-post g c.args.hash_of) (goal.S-post g c.args.same) c.count-before.result c.is_misplaced-is_misplaced.new.strides c.next.new.self
+  spent = spent_one c.args.self _ _ c.count-before.result c.loop-bucket.strides c.is_misplaced-is_misplaced.new.strides c.in-Some.bucket c.loop-bucket.bucket-iterator c.next.new.self c.in-Some.ensures.steps
+      c.is_misplaced-is_misplaced.ensures.counts c.loop-bucket.invariant.spent
 
--- the lookup decides if the item is misplaced
-module _ (g : _) (c : After-is_in_another_bucket g) where
-  tells : TellsMisplaced generic_kind c.args.self (goal.H-post g c.args.hash_of) (goal.S-post g c.args.same) c.in-Some.bucket c.is_in_another_bucket.result
-  tells = λ hash_of same hash_as same_as.
-      c.is_in_another_bucket.ensures ∙ bucket_told generic_kind c.of-items.result.table c.args.self c.of-items.ensures.table _ _ c.in-Some.bucket c.hash_of-hash.result c.item.result c.item.ensures c.hash_of-hash.ensures
-      c.own_lookup-answer.result c.own_lookup-answer.ensures.found hash_of same hash_as same_as
-
-pub item-requires-clause-walked : goal.item-requires-clause-walked
-item-requires-clause-walked g c = here g (goal.at.item-requires-clause-walked g c).In-Some
-
-pub own_lookup-answer-requires : goal.own_lookup-answer-requires
-own_lookup-answer-requires g c κs =
-    let same = c.of-items.ensures.table in (
-      (refl, tt),
-      (
-        c.of-items.ensures.items,
-        (
-          here g (goal.at.own_lookup-answer-requires g c).In-Some,
-          (
-            c.loop-bucket.invariant.within.2,
-            λ x y hx hy. c.requires.comparable x y (subst (λ t. IsItem t x) same hx) (subst (λ t. IsItem t y) same hy),
-          ),
-        ),
-      ),
-    )
+pub item-item-requires : goal.item-item-requires
+item-item-requires g c = here g (goal.at.item-item-requires g c).In-Some
 
 pub is_past-requires : goal.is_past-requires
-is_past-requires g c = omega (arith, reads_on _ _ _ _ c.own_lookup-answer.ensures.counts.bounded, c.loop-bucket.invariant.within.0, c.count.ensures)
+is_past-requires g c = omega (arith, reads_on _ _ _ _ c.is_misplaced-is_misplaced.ensures.counts.bounded, c.loop-bucket.invariant.within.0, c.count.ensures)
 
 pub returns-then-is_past-clause-counts : goal.returns-then-is_past-clause-counts
 returns-then-is_past-clause-counts g c = λ hash_of same hash_as same_as.
-    let all = spent g (goal.at.returns-then-is_past-clause-counts g c).After-own_lookup-answer hash_of same hash_as same_as in
+    let all = spent g (goal.at.returns-then-is_past-clause-counts g c).After-is_misplaced-is_misplaced hash_of same hash_as same_as in
     let strides = table_strides generic_kind c.args.self hash_of same in
     subst (λ n. (c.args.limit < strides) ⊎ (2 ^ 63 < n + strides)) c.count-before.ensures
     (past_all c.count-before.result _ _ strides (sum_by (bucket_strides generic_kind c.args.self hash_of same) c.next.new.self) all (rw c.count.ensures at c.is_past.ensures.past c.if-is_past.true))
 
-pub loop-bucket-preserved-then-is_in_another_bucket : goal.loop-bucket-preserved-then-is_in_another_bucket
-loop-bucket-preserved-then-is_in_another_bucket g c =
+pub loop-bucket-preserved-then-is_misplaced : goal.loop-bucket-preserved-then-is_misplaced
+loop-bucket-preserved-then-is_misplaced g c =
     let l = ap length c.in-Some.ensures.steps in
     let counted = c.loop-bucket.invariant.counted in
-    let at = goal.at.loop-bucket-preserved-then-is_in_another_bucket g c in
+    let at = goal.at.loop-bucket-preserved-then-is_misplaced g c in
     record {
       walked = rest g at.In-Some;
       counted = omega arith;
       few = omega (arith, l, c.loop-bucket.invariant.few);
-      told = counted_one generic_kind c.args.self _ _ c.loop-bucket.misplaced c.in-Some.bucket c.loop-bucket.bucket-iterator c.next.new.self c.in-Some.ensures.steps c.is_in_another_bucket.result
-          (tells g at.After-is_in_another_bucket) c.loop-bucket.invariant.told c.if-is_in_another_bucket.true;
-      spent = spent g at.After-own_lookup-answer;
-      within = omega (arith, reads_on _ _ _ _ c.own_lookup-answer.ensures.counts.bounded, c.loop-bucket.invariant.within, c.count.ensures, c.is_past.ensures.within c.if-is_past.false);
+      told = counted_one c.args.self _ _ c.loop-bucket.misplaced c.in-Some.bucket c.loop-bucket.bucket-iterator c.next.new.self c.in-Some.ensures.steps c.is_misplaced-is_misplaced.result
+          c.is_misplaced-is_misplaced.ensures.tells c.loop-bucket.invariant.told c.if-is_misplaced.true;
+      spent = spent g at.After-is_misplaced-is_misplaced;
+      within = omega (arith, reads_on _ _ _ _ c.is_misplaced-is_misplaced.ensures.counts.bounded, c.loop-bucket.invariant.within, c.count.ensures, c.is_past.ensures.within c.if-is_past.false);
     }
 
 pub loop-bucket-preserved : goal.loop-bucket-preserved
@@ -115,10 +90,10 @@ loop-bucket-preserved g c =
       walked = rest g at.In-Some;
       counted = omega arith;
       few = omega (arith, l, c.loop-bucket.invariant.few);
-      told = counted_none generic_kind c.args.self _ _ c.loop-bucket.misplaced c.in-Some.bucket c.loop-bucket.bucket-iterator c.next.new.self c.in-Some.ensures.steps c.is_in_another_bucket.result
-          (tells g at.After-is_in_another_bucket) c.loop-bucket.invariant.told c.if-is_in_another_bucket.false;
-      spent = spent g at.After-own_lookup-answer;
-      within = omega (arith, reads_on _ _ _ _ c.own_lookup-answer.ensures.counts.bounded, c.loop-bucket.invariant.within, c.count.ensures, c.is_past.ensures.within c.if-is_past.false);
+      told = counted_none c.args.self _ _ c.loop-bucket.misplaced c.in-Some.bucket c.loop-bucket.bucket-iterator c.next.new.self c.in-Some.ensures.steps c.is_misplaced-is_misplaced.result
+          c.is_misplaced-is_misplaced.ensures.tells c.loop-bucket.invariant.told c.if-is_misplaced.false;
+      spent = spent g at.After-is_misplaced-is_misplaced;
+      within = omega (arith, reads_on _ _ _ _ c.is_misplaced-is_misplaced.ensures.counts.bounded, c.loop-bucket.invariant.within, c.count.ensures, c.is_past.ensures.within c.if-is_past.false);
     }
 
 pub returns-clause-counts : goal.returns-clause-counts

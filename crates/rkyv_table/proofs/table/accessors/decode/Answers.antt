@@ -1,6 +1,6 @@
 use Rattle.std.proofs.Common.{arith}
 use Rattle.rkyv_table.specs.Table.Header.{controls_pos}
-use Rattle.rkyv_table.proofs.ParsedTable.{controls_inside}
+use Rattle.rkyv_table.proofs.ValidTable.{controls_inside}
 use Rattle.rkyv_table.proofs.table.accessors.decode.Goals as goal
 
 pub controls_pos-requires : goal.controls_pos-requires

@@ -19,8 +19,8 @@ use Rattle.rkyv_table.specs.Lemmas.ItemPositions.{HeldPart, holds_at, item_holds
 use Rattle.rkyv_table.specs.Controls.Numbers.{control_count}
 use Rattle.rkyv_table.specs.Controls.Placing.{Accepted}
 use Rattle.rkyv_table.specs.Table.Positions.{IsWalked, item_at, table_controls}
-use Rattle.rkyv_table.specs.Table.Reading.{IsParsed, table_bytes, table_pos}
-use Rattle.rkyv_table.specs.declared.table.items.ParsedTable.{ParsedTable}
+use Rattle.rkyv_table.specs.Table.Reading.{IsFullIn, table_bytes, table_pos}
+use Rattle.rkyv_table.specs.declared.table.ArchivedHashTable.{ArchivedHashTable}
 use Rattle.rkyv_table.specs.Table.Layout.{table_spec}
 use Rattle.rkyv_table.specs.Lemmas.TableLaws.{bucket_aligned}
 
@@ -92,35 +92,35 @@ module _ (w : Width) (s : ElementSpec) (law : IsElement s) (b : List ℕ) (p : �
     | inr t ↦ let r = t.2.controls.room in absurd (omega arith)
   ]
 
--- the numbers that were read of a header are those of the header
-module _ {T W : Type 0} {ts : Specs T} {wt : Words W} (law : IsElement ts.spec) (items : ParsedTable T W ts wt) (are : IsParsed items) where
-  pub read_accepted : 0 < items.len → Accepted items.cap items.len items.controls.now
+-- lookups in control bytes that were read of a table, if it has buckets, are those in its own
+module _ {T W : Type 0} {ts : Specs T} {wt : Words W} (law : IsElement ts.spec) (t : ArchivedHashTable T W ts wt) (controls : List ℕ)
+    (are : 0 < t.header.cap → controls ≡ table_controls wt.word (table_bytes t) (table_pos t)) where
+  pub read_accepted : 0 < t.header.len → Accepted t.header.cap t.header.len controls
   read_accepted some =
-      let v = are.table in
-      let n = some_cap wt.word ts.spec law (table_bytes items.table) (table_pos items.table) v (rw are.len at some) in
-      let a = controls_accepted wt.word ts.spec law (table_bytes items.table) (table_pos items.table) v n in
-      rw (are.controls (rw are.cap n), are.cap, are.len) a
+      let n = some_cap wt.word ts.spec law (table_bytes t) (table_pos t) t.valid (rw t.decoded.len at some) in
+      let a = controls_accepted wt.word ts.spec law (table_bytes t) (table_pos t) t.valid n in
+      rw (are (rw t.decoded.cap n), t.decoded.cap, t.decoded.len) a
 
-  pub read_walked : (i : ℕ) → IsFullBucket items.cap items.controls.now i → IsWalked wt.word (table_bytes items.table) (table_pos items.table) i
-  read_walked i full = rw (are.controls (omega (arith, full.0)), are.cap) at full
+  pub read_walked : (i : ℕ) → IsFullBucket t.header.cap controls i → IsFullIn t i
+  read_walked i full = rw (are (omega (arith, full.0)), t.decoded.cap) at full
 
   -- a function of the control bytes, the capacity and the length is the same of those that were
   -- read. Without items it doesn't depend on the first two
-  read_same : {A : Type 0} (f : List ℕ → ℕ → ℕ → A) → ((c d : List ℕ) (m n : ℕ) → f c m 0 ≡ f d n 0) → f items.controls.now items.cap items.len
-      ≡ f (table_controls wt.word (table_bytes items.table) (table_pos items.table)) (cap_at wt.word (table_bytes items.table) (table_pos items.table)) (len_at wt.word (table_bytes items.table) (table_pos items.table))
-  read_same f none_alike = elim (cases_eq items.cap 0) [
+  read_same : {A : Type 0} (f : List ℕ → ℕ → ℕ → A) → ((c d : List ℕ) (m n : ℕ) → f c m 0 ≡ f d n 0) → f controls t.header.cap t.header.len
+      ≡ f (table_controls wt.word (table_bytes t) (table_pos t)) (cap_at wt.word (table_bytes t) (table_pos t)) (len_at wt.word (table_bytes t) (table_pos t))
+  read_same f none_alike = elim (cases_eq t.header.cap 0) [
     | inl none ↦
-        let z = no_items wt.word ts.spec law (table_bytes items.table) (table_pos items.table) are.table (sym are.cap ∙ none) in
-        rw (are.len, z) (none_alike items.controls.now _ items.cap _)
-    | inr some ↦ rw (are.controls (omega arith), are.cap, are.len) refl
+        let z = no_items wt.word ts.spec law (table_bytes t) (table_pos t) t.valid (sym t.decoded.cap ∙ none) in
+        rw (t.decoded.len, z) (none_alike controls _ t.header.cap _)
+    | inr some ↦ rw (are (omega arith), t.decoded.cap, t.decoded.len) refl
   ]
 
-  pub read_found : (kind : Kind) (hash : ℕ) (accept : ℕ → Bool) → found kind items.controls.now items.cap items.len hash accept
-      ≡ found kind (table_controls wt.word (table_bytes items.table) (table_pos items.table)) (cap_at wt.word (table_bytes items.table) (table_pos items.table)) (len_at wt.word (table_bytes items.table) (table_pos items.table)) hash accept
+  pub read_found : (kind : Kind) (hash : ℕ) (accept : ℕ → Bool) → found kind controls t.header.cap t.header.len hash accept
+      ≡ found kind (table_controls wt.word (table_bytes t) (table_pos t)) (cap_at wt.word (table_bytes t) (table_pos t)) (len_at wt.word (table_bytes t) (table_pos t)) hash accept
   read_found kind hash accept = read_same (λ controls cap len. found kind controls cap len hash accept) (λ c d m n. refl)
 
-  pub read_end : (kind : Kind) (hash : ℕ) (accept : ℕ → Bool) → end kind items.controls.now items.cap items.len hash accept
-      ≡ end kind (table_controls wt.word (table_bytes items.table) (table_pos items.table)) (cap_at wt.word (table_bytes items.table) (table_pos items.table)) (len_at wt.word (table_bytes items.table) (table_pos items.table)) hash accept
+  pub read_end : (kind : Kind) (hash : ℕ) (accept : ℕ → Bool) → end kind controls t.header.cap t.header.len hash accept
+      ≡ end kind (table_controls wt.word (table_bytes t) (table_pos t)) (cap_at wt.word (table_bytes t) (table_pos t)) (len_at wt.word (table_bytes t) (table_pos t)) hash accept
   read_end kind hash accept = read_same (λ controls cap len. end kind controls cap len hash accept) (λ c d m n. refl)
 
 -- views of one position of one archive are one view

@@ -1,0 +1,34 @@
+use Rattle.std.proofs.Common.{None, Some, refl}
+use Rattle.rkyv_table.proofs.FoundItems.{item_found, none_found, strides_counted}
+use Rattle.rkyv_table.proofs.ValidTable.{read_accepted, read_walked}
+use Rattle.rkyv_table.proofs.table.ArchivedHashTable.find_by.Goals as goal
+
+pub find_from-bucket-requires : goal.find_from-bucket-requires
+find_from-bucket-requires g c κs =
+    let read = c.controls.result.now in
+    record {
+      accepted = read_accepted g.T.HasSpec.laws c.args.self read c.controls.ensures;
+      start = c.start.ensures;
+      room = c.requires.room;
+      callable = λ b full. ((refl, tt), (read_walked g.T.HasSpec.laws c.args.self read c.controls.ensures b full, c.requires.callable));
+    }
+
+pub returns-in-Some : goal.returns-in-Some
+returns-in-Some g c =
+    let post = goal.F-post g c.args.cmp in
+    record {
+      found = item_found post g.G.GroupKind.kind g.met.G.GroupKind.lawful g.T.HasSpec.laws c.args.self _ c.controls.ensures c.args.hash c.ranges.hash.fits _ _ _ (λ i r e. e)
+          (Some c.in-Some.bucket) c.in-Some.ensures c.in-Some.bucket refl c.item.result c.item.ensures;
+      counts = strides_counted post g.G.GroupKind.kind g.met.G.GroupKind.lawful g.T.HasSpec.laws c.args.self _ c.controls.ensures c.args.hash c.ranges.hash.fits _ _ _ (λ i r e. e)
+          (Some c.in-Some.bucket) c.in-Some.ensures;
+    }
+
+pub returns : goal.returns
+returns g c =
+    let post = goal.F-post g c.args.cmp in
+    record {
+      found = none_found post g.G.GroupKind.kind g.met.G.GroupKind.lawful g.T.HasSpec.laws c.args.self _ c.controls.ensures c.args.hash c.ranges.hash.fits _ _ _ (λ i r e. e)
+          None c.in-None.ensures refl;
+      counts = strides_counted post g.G.GroupKind.kind g.met.G.GroupKind.lawful g.T.HasSpec.laws c.args.self _ c.controls.ensures c.args.hash c.ranges.hash.fits _ _ _ (λ i r e. e)
+          None c.in-None.ensures;
+    }

@@ -1,0 +1,30 @@
+use Rattle.std.proofs.Common.{◌≡◌, ◌∙◌, ◌<◌, ap, arith, length, sym}
+use Rattle.rkyv_table.specs.Controls.Numbers.{control_count}
+use Rattle.rkyv_table.specs.Controls.Placing.{walk}
+use Rattle.rkyv_table.specs.Table.Positions.{table_controls}
+use Rattle.rkyv_table.specs.Table.Reading.{table_bytes, table_pos}
+use Rattle.rkyv_table.proofs.ValidTable.{controls_count, controls_length}
+use Rattle.rkyv_table.proofs.Walks.{walk_none}
+use Rattle.rkyv_table.proofs.table.ArchivedHashTable.walk.Goals as goal
+
+pub returns-then-self-eq0 : goal.returns-then-self-eq0
+returns-then-self-eq0 g c =
+    let t = c.args.self in
+    let controls = table_controls g.W.Word.word (table_bytes t) (table_pos t) in
+    c.empty.ensures ∙ sym (ap (walk controls) (sym c.args.self.decoded.cap ∙ c.if-self-eq0.true) ∙ walk_none controls)
+
+pub new-requires-clause-some : goal.new-requires-clause-some
+new-requires-clause-some g c =
+    let t = c.args.self in
+    let some : 0 < c.args.self.header.cap = omega arith in
+    let n = controls_count g.W.Word.word g.T.HasSpec.spec g.T.HasSpec.laws (table_bytes t) (table_pos t) c.args.self.valid (omega (arith, some, c.args.self.decoded.cap)) in
+    omega (arith, ap length (c.controls.ensures some), n)
+
+pub new-requires-clause-count : goal.new-requires-clause-count
+new-requires-clause-count g c =
+    let t = c.args.self in
+    let some : 0 < c.args.self.header.cap = omega arith in
+    let n = controls_length g.W.Word.word g.T.HasSpec.spec g.T.HasSpec.laws (table_bytes t) (table_pos t) c.args.self.valid (omega (arith, some, c.args.self.decoded.cap)) in
+    let e : control_count c.args.self.header.cap ≡ length c.controls.result.now =
+    ap control_count c.args.self.decoded.cap ∙ sym n ∙ sym (ap length (c.controls.ensures some)) in
+    omega (arith, e)
