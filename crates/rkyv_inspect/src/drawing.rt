@@ -33,30 +33,25 @@ impl<'a> Drawing<'a> {
 
 impl Display for Drawing<'_> {
     fn fmt<W: Write>(&self, f: &mut Formatter<W>) -> fmt::Result {
-        write!(
-            f,
-            "<svg xmlns=\"http://www.w3.org/2000/svg\" width=\"960\" height=\"120\">\n"
-        )?;
+        f.write_str("<svg xmlns=\"http://www.w3.org/2000/svg\" width=\"960\" height=\"120\">\n")?;
         write!(
             f,
             "<svg width=\"960\" height=\"80\" viewBox=\"0 0 {} 1\"",
             self.len
         )?;
-        write!(f, " preserveAspectRatio=\"none\">\n")?;
+        f.write_str(" preserveAspectRatio=\"none\">\n")?;
         for region in &self.inspection.regions {
-            write!(f, "{}", Rect(region))?;
+            Rect(region).fmt(f)?;
         }
-        write!(f, "</svg>\n")?;
-        write!(
-            f,
-            "<text x=\"0\" y=\"110\" font-family=\"sans-serif\" font-size=\"16\">"
+        f.write_str(
+            "</svg>\n<text x=\"0\" y=\"110\" font-family=\"sans-serif\" font-size=\"16\">",
         )?;
         write!(
             f,
             "{} bytes: {}</text>\n",
             self.len, self.inspection.contents.kind
         )?;
-        write!(f, "</svg>\n")
+        f.write_str("</svg>\n")
     }
 }
 
@@ -91,11 +86,11 @@ impl Display for Escaped<'_> {
     fn fmt<W: Write>(&self, f: &mut Formatter<W>) -> fmt::Result {
         for c in self.0.chars() {
             match c {
-                '<' => write!(f, "&lt;")?,
-                '>' => write!(f, "&gt;")?,
-                '&' => write!(f, "&amp;")?,
-                '"' => write!(f, "&quot;")?,
-                _ => write!(f, "{c}")?,
+                '<' => f.write_str("&lt;")?,
+                '>' => f.write_str("&gt;")?,
+                '&' => f.write_str("&amp;")?,
+                '"' => f.write_str("&quot;")?,
+                _ => f.write_char(c)?,
             }
         }
         Ok(())

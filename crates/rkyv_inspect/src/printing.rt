@@ -24,7 +24,7 @@ impl Display for ContainerLine {
         write!(f, ", {}, archive of {} bytes", contents.width, self.0.len)?;
         match self.0.checksum {
             Some(checksum) => write!(f, ", checksum {checksum:08x}\n"),
-            None => write!(f, ", no checksum\n"),
+            None => f.write_str(", no checksum\n"),
         }
     }
 }
@@ -41,12 +41,12 @@ impl Display for Numbers<'_> {
         write!(f, "load: {}%\n", percent(summary.len, summary.capacity))?;
         match summary.controls_pos {
             Some(pos) => write!(f, "control bytes at: {pos}\n")?,
-            None => write!(f, "control bytes at: none\n")?,
+            None => f.write_str("control bytes at: none\n")?,
         }
         write!(f, "header at: {}\n", summary.header_pos)?;
         match &summary.lookups {
-            Some(lookups) => write!(f, "{}", LookupLines(lookups)),
-            None => write!(f, "misplaced keys: more than could be counted\n"),
+            Some(lookups) => LookupLines(lookups).fmt(f),
+            None => f.write_str("misplaced keys: more than could be counted\n"),
         }
     }
 }
@@ -84,12 +84,12 @@ impl Display for Hex<'_> {
             write!(f, "{byte:02x} ")?;
         }
         for _ in self.0.len()..SHOWN {
-            write!(f, "   ")?;
+            f.write_str("   ")?;
         }
         if self.0.len() > SHOWN {
-            write!(f, "..")
+            f.write_str("..")
         } else {
-            write!(f, "  ")
+            f.write_str("  ")
         }
     }
 }
@@ -163,7 +163,7 @@ impl<'a> Printed<'a> {
 
 impl Display for Printed<'_> {
     fn fmt<W: Write>(&self, f: &mut Formatter<W>) -> fmt::Result {
-        write!(f, "{}", Numbers(&self.inspection.summary))?;
+        Numbers(&self.inspection.summary).fmt(f)?;
         write!(f, "bytes: {}\n", self.archive.len())?;
         for region in &self.inspection.regions {
             let line = Line {
@@ -171,7 +171,7 @@ impl Display for Printed<'_> {
                 region,
                 color: self.color,
             };
-            write!(f, "{line}")?;
+            line.fmt(f)?;
         }
         Ok(())
     }

@@ -16,6 +16,7 @@ macro_rules! expect_eq {
 }
 
 mod answers;
+mod archives;
 mod asks;
 mod examples;
 mod first;

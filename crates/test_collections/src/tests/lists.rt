@@ -3,14 +3,15 @@
 use rkyv_base::access::access;
 use rkyv_base::errors::{VerifyError, WriteError};
 use rkyv_base::root::to_bytes;
+use rkyv_base::writer::NoMemory;
 use rkyv_collections::SetItems;
 use rkyv_collections::set::{ArchivedHashSet, HashSetOf};
 use std::alloc::Global;
 use test_support::archives::{archive, three_keys};
 
 // Returns the archive of a list of items, as a set.
-fn archive_of(alloc: Global, items: SetItems<'_, u8>) -> Option<Vec<u8>> {
-    to_bytes(alloc, &items).ok()
+fn archive_of(alloc: Global, items: SetItems<'_, u8>) -> Result<Vec<u8>, WriteError<NoMemory>> {
+    to_bytes(alloc, &items)
 }
 
 // Returns the length of an archived set, the number of items in a walk, and whether it has 1 and 4.
@@ -30,7 +31,7 @@ fn written_and_read(
     items: SetItems<'_, u8>,
     archive: &[u8],
 ) -> Option<(bool, (usize, usize, [bool; 2]))> {
-    let bytes = archive_of(alloc, items)?;
+    let bytes = archive_of(alloc, items).ok()?;
     let answers = read(bytes.as_slice()).ok()?;
     Some((bytes.as_slice() == archive, answers))
 }
@@ -61,7 +62,7 @@ fn equal_items_of_a_list_are_kept(rt: HostRuntime) {
 // Returns whether writing a list fails with the error for its load factor.
 fn is_refused(alloc: Global, items: SetItems<'_, u8>) -> bool {
     matches!(
-        to_bytes(alloc, &items),
+        archive_of(alloc, items),
         Err(WriteError::InvalidLoadFactor {
             numerator: 8,
             denominator: 7,

@@ -1,5 +1,6 @@
 //! Tests of a map whose values are maps: writing, reading, and values that share bytes.
 
+use crate::tests::archives::is_map_archive;
 use rkyv_base::access::access;
 use rkyv_base::entry::Entry;
 use rkyv_base::errors::VerifyError;
@@ -7,20 +8,15 @@ use rkyv_collections::MapPairs;
 use rkyv_collections::map::{ArchivedHashMap, HashMapOf};
 use std::alloc::Global;
 use test_support::archives::two_maps;
-use test_support::written::is_archived_as;
 
 type Inner = HashMapOf<u16, u16>;
 
 type Outer = HashMapOf<Entry<u8, u8>, Inner>;
 
-type Numbers<'a> = MapPairs<'a, u16, u16>;
-
 // Returns whether (1, 2) and (3, 4), each mapped to the map of 1337 to 42, are archived as `bytes`.
 fn two_maps_are(alloc: Global, bytes: &[u8]) -> bool {
-    let inner: Numbers<'_> = MapPairs::new(&[(1337, 42)]);
-    let pairs = [((1u8, 2u8), inner), ((3, 4), inner)];
-    let list: MapPairs<'_, (u8, u8), Numbers<'_>> = MapPairs::new(&pairs);
-    is_archived_as(alloc, &list, bytes)
+    let inner: MapPairs<'_, u16, u16> = MapPairs::new(&[(1337, 42)]);
+    is_map_archive(alloc, &[((1u8, 2u8), inner), ((3, 4), inner)], bytes)
 }
 
 // Returns the number of values that map 1337 to 42. Then comes whether the outer map has the keys

@@ -7,14 +7,13 @@ ghost use Rattle.rkyv_base.specs.View.{IsValidView};
 use crate::tests::answers::{
     counts, equal_maps, has_key, map_prints, misplaced, misplaced_up_to, number_of, pair_of,
 };
+use crate::tests::archives::map_archive;
 use rkyv_base::access::{access, access_in};
 use rkyv_base::entry::Entry;
 use rkyv_base::errors::VerifyError;
-use rkyv_base::root::to_bytes;
 use rkyv_base::text::Text;
 use rkyv_base::view::View;
 use rkyv_base::width::{Narrow, Wide};
-use rkyv_collections::MapPairs;
 use rkyv_collections::map::laws::{equal_maps_have_the_same_pairs, repeated_keys_are_misplaced};
 use rkyv_collections::map::{ArchivedHashMap, HashMapOf};
 use rkyv_scan::hash::FxHasher64;
@@ -187,8 +186,7 @@ fn is_text_of_two(
 // Returns the result of `is_text_of_two` for a key in an archive of two pairs.
 fn is_found_of_two(alloc: Global) -> Option<Option<bool>> {
     let pairs = [(("my", "key"), "value"), (("wrong", "key"), "wrong value")];
-    let list: MapPairs<'_, (&str, &str), &str> = MapPairs::new(&pairs);
-    let bytes = to_bytes(alloc, &list).ok()?;
+    let bytes = map_archive(alloc, &pairs).ok()?;
     is_text_of_two(bytes.as_slice(), ("my", "key"), "value").ok()
 }
 

@@ -8,6 +8,7 @@ ghost use Rattle.rkyv_base.specs.ElementSpec.{Viewable};
 ghost use Rattle.rkyv_base.specs.Text.{text_spec};
 ghost use Rattle.rkyv_collections.specs.Map.MapSpec.{map_spec};
 
+use crate::tests::archives::map_archive;
 use rkyv_base::access::{access, access_in, access_mut};
 use rkyv_base::entry::Entry;
 use rkyv_base::errors::{VerifyError, WriteError};
@@ -138,27 +139,35 @@ fn set_number(
     }
 }
 
+// Writes five numbers. Returns whether each thing was found.
+fn change_numbers(rooms: &mut [u8]) -> Result<[bool; 5], VerifyError> {
+    Ok([
+        set_number(rooms, "north", "chair", 5)?,
+        set_number(rooms, "south", "chair", 6)?,
+        set_number(rooms, "west", "chair", 7)?,
+        change(rooms, "south", "desk", 8)?,
+        change(rooms, "south", "chair", 9)?,
+    ])
+}
+
+// Returns the numbers of three things.
+fn three_numbers(rooms: &[u8]) -> Result<[Option<u32>; 3], VerifyError> {
+    Ok([
+        number_of(rooms, "north", "chair")?,
+        number_of(rooms, "north", "desk")?,
+        number_of(rooms, "south", "desk")?,
+    ])
+}
+
 #[test]
 fn a_map_of_maps(rt: HostRuntime) -> Result<(), Fail> {
     let mut archive = write_rooms(rt.alloc())?;
-    let before = number_of(archive.as_slice(), "north", "chair")?;
-    let written = [
-        set_number(archive.as_mut_slice(), "north", "chair", 5)?,
-        set_number(archive.as_mut_slice(), "south", "chair", 6)?,
-        set_number(archive.as_mut_slice(), "west", "chair", 7)?,
-        change(archive.as_mut_slice(), "south", "desk", 8)?,
-        change(archive.as_mut_slice(), "south", "chair", 9)?,
-    ];
-    expect_eq!(rt;
-        (before, written),
-        (Some(4), [true, false, false, true, false])
-    );
-    let numbers = [
-        number_of(archive.as_slice(), "north", "chair")?,
-        number_of(archive.as_slice(), "north", "desk")?,
-        number_of(archive.as_slice(), "south", "desk")?,
-    ];
-    expect_eq!(rt; numbers, [Some(5), Some(2), Some(8)]);
+    let before = three_numbers(archive.as_slice()).ok();
+    expect_eq!(rt; before, Some([Some(4), Some(2), Some(1)]));
+    let found = change_numbers(archive.as_mut_slice()).ok();
+    expect_eq!(rt; found, Some([true, false, false, true, false]));
+    let after = three_numbers(archive.as_slice()).ok();
+    expect_eq!(rt; after, Some([Some(5), Some(2), Some(8)]));
     Ok(())
 }
 
@@ -228,21 +237,41 @@ fn write_prices(alloc: Global) -> Result<Vec<u8>, WriteError<NoMemory>> {
     to_bytes(alloc, &list)
 }
 
+// Writes prices by name. Returns whether each of two names was found, the price of a third before,
+// and all prices.
+fn change_by_name(
+    archive: &mut [u8],
+) -> Result<([bool; 2], Option<u32>, [Option<u32>; 3]), VerifyError> {
+    let found = [
+        set_price(archive, "tea", 2)?,
+        set_price(archive, "milk", 9)?,
+    ];
+    let before = raise_price(archive, "cake")?;
+    Ok((found, before, prices(archive)?))
+}
+
+// Writes all prices twice. Returns the prices after each time.
+fn change_all(archive: &mut [u8]) -> Result<[[Option<u32>; 3]; 2], VerifyError> {
+    double_prices(archive)?;
+    let doubled = prices(archive)?;
+    cap_prices(archive, 6, "cake")?;
+    Ok([doubled, prices(archive)?])
+}
+
 #[test]
 fn prices_in_place(rt: HostRuntime) -> Result<(), Fail> {
     let mut archive = write_prices(rt.alloc())?;
-    let written = set_price(archive.as_mut_slice(), "tea", 2)?;
-    let missing = set_price(archive.as_mut_slice(), "milk", 9)?;
-    let before = raise_price(archive.as_mut_slice(), "cake")?;
-    expect_eq!(rt; (written, missing, before), (true, false, Some(5)));
-    let first = prices(archive.as_slice())?;
-    expect_eq!(rt; first, [Some(2), Some(4), Some(6)]);
-    double_prices(archive.as_mut_slice())?;
-    let doubled = prices(archive.as_slice())?;
-    expect_eq!(rt; doubled, [Some(4), Some(8), Some(12)]);
-    cap_prices(archive.as_mut_slice(), 6, "cake")?;
-    let capped = prices(archive.as_slice())?;
-    expect_eq!(rt; capped, [Some(4), Some(6), Some(12)]);
+    expect_eq!(rt;
+        change_by_name(archive.as_mut_slice()).ok(),
+        Some(([true, false], Some(5), [Some(2), Some(4), Some(6)]))
+    );
+    expect_eq!(rt;
+        change_all(archive.as_mut_slice()).ok(),
+        Some([
+            [Some(4), Some(8), Some(12)],
+            [Some(4), Some(6), Some(12)]
+        ])
+    );
     Ok(())
 }
 
@@ -276,18 +305,26 @@ fn point_of(archive: &[u8], name: &str) -> Result<Option<(i32, i32)>, VerifyErro
     }
 }
 
+// Writes the points of two names. Returns whether each was found.
+fn move_two(archive: &mut [u8]) -> Result<[bool; 2], VerifyError> {
+    Ok([
+        move_point(archive, "b", (-3, 5))?,
+        move_point(archive, "c", (0, 0))?,
+    ])
+}
+
+// Returns the points of two names.
+fn two_points(archive: &[u8]) -> Result<[Option<(i32, i32)>; 2], VerifyError> {
+    Ok([point_of(archive, "a")?, point_of(archive, "b")?])
+}
+
 #[test]
 fn points_in_place(rt: HostRuntime) -> Result<(), Fail> {
-    let list: MapPairs<'_, &str, (i32, i32)> = MapPairs::new(&[("a", (1, 2)), ("b", (3, 4))]);
-    let mut archive = to_bytes(rt.alloc(), &list)?;
-    let moved = move_point(archive.as_mut_slice(), "b", (-3, 5))?;
-    let missing = move_point(archive.as_mut_slice(), "c", (0, 0))?;
-    expect_eq!(rt; (moved, missing), (true, false));
-    let points = [
-        point_of(archive.as_slice(), "a")?,
-        point_of(archive.as_slice(), "b")?,
-    ];
-    expect_eq!(rt; points, [Some((1, 2)), Some((-3, 5))]);
+    let mut archive = map_archive(rt.alloc(), &[("a", (1i32, 2i32)), ("b", (3, 4))])?;
+    let found = move_two(archive.as_mut_slice()).ok();
+    expect_eq!(rt; found, Some([true, false]));
+    let points = two_points(archive.as_slice()).ok();
+    expect_eq!(rt; points, Some([Some((1, 2)), Some((-3, 5))]));
     Ok(())
 }
 

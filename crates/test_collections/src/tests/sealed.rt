@@ -10,16 +10,15 @@ ghost use Rattle.rkyv_collections.specs.Map.MapSpec.{IsKeyPosAt, map_spec};
 ghost use Rattle.test_collections.specs.InMaps.{FindsIn, KeepsIn};
 
 use crate::tests::answers::number_of;
+use crate::tests::archives::map_archive;
 use rkyv_base::access::{access, access_in, access_mut};
 use rkyv_base::element::Element;
 use rkyv_base::errors::VerifyError;
-use rkyv_base::root::to_bytes;
 use rkyv_base::scalars::Scalar;
 use rkyv_base::seal::set_at;
 use rkyv_base::text::Text;
 use rkyv_base::view::View;
 use rkyv_base::width::{Narrow, Width};
-use rkyv_collections::MapPairs;
 use rkyv_collections::map::laws::in_place::{value_writes_keep_maps, values_written_represent};
 use rkyv_collections::map::{ArchivedHashMap, HashMapOf};
 use rkyv_keys::keys::{KeyElement, Query};
@@ -380,8 +379,7 @@ fn pairs_are_written_by_position(rt: HostRuntime) {
 // Returns the archive of three texts, mapped to these values.
 fn archive_of(alloc: Global, values: [&str; 3]) -> Option<Vec<u8>> {
     let pairs = [("hello", values[0]), ("foo", values[1]), ("baz", values[2])];
-    let list: MapPairs<'_, &str, &str> = MapPairs::new(&pairs);
-    to_bytes(alloc, &list).ok()
+    map_archive(alloc, &pairs).ok()
 }
 
 // Returns whether `bytes` are that archive.

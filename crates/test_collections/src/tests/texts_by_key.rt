@@ -1,13 +1,13 @@
 //! Tests of texts of a map that are written in upper case by key, over the plain bytes.
 
+use crate::tests::archives::map_archive;
 use rkyv_base::access::access;
 use rkyv_base::errors::VerifyError;
-use rkyv_base::root::to_bytes;
 use rkyv_base::text::Text;
 use rkyv_base::width::Narrow;
+use rkyv_collections::FxHasher64;
 use rkyv_collections::map::in_place::text::make_ascii_uppercase_of;
 use rkyv_collections::map::{ArchivedHashMap, HashMapOf};
-use rkyv_collections::{FxHasher64, MapPairs};
 use std::alloc::Global;
 use std::test::Fail;
 
@@ -15,8 +15,7 @@ use std::test::Fail;
 // out of line.
 fn texts(alloc: Global) -> Result<Vec<u8>, Fail> {
     let pairs = [("a", "hello"), ("b", "wonderful"), ("a", "again")];
-    let list: MapPairs<'_, &str, &str> = MapPairs::new(&pairs);
-    Ok(to_bytes(alloc, &list)?)
+    Ok(map_archive(alloc, &pairs)?)
 }
 
 // Writes the text of a key in upper case. Returns the result of the call.
@@ -35,26 +34,21 @@ fn is_text(bytes: &[u8], key: &str, text: &str) -> Result<Option<bool>, VerifyEr
 }
 
 // Returns the results of three calls, and whether the texts are as expected after them.
-fn raised(alloc: Global) -> Result<([Option<bool>; 3], [Option<bool>; 2]), Fail> {
-    let mut bytes = texts(alloc)?;
-    let told = [
-        raise(bytes.as_mut_slice(), "a")?,
-        raise(bytes.as_mut_slice(), "b")?,
-        raise(bytes.as_mut_slice(), "c")?,
-    ];
+fn raise_three(bytes: &mut [u8]) -> Result<([Option<bool>; 3], [Option<bool>; 2]), VerifyError> {
+    let raised = [raise(bytes, "a")?, raise(bytes, "b")?, raise(bytes, "c")?];
     let after = [
-        is_text(bytes.as_slice(), "a", "HELLO")?,
-        is_text(bytes.as_slice(), "b", "wonderful")?,
+        is_text(bytes, "a", "HELLO")?,
+        is_text(bytes, "b", "wonderful")?,
     ];
-    Ok((told, after))
+    Ok((raised, after))
 }
 
 #[test]
 fn inline_text_is_raised_by_key(rt: HostRuntime) -> Result<(), Fail> {
-    let seen = raised(rt.alloc())?;
+    let mut bytes = texts(rt.alloc())?;
     expect_eq!(rt;
-        seen,
-        ([Some(true), Some(false), None], [Some(true), Some(true)])
+        raise_three(bytes.as_mut_slice()).ok(),
+        Some(([Some(true), Some(false), None], [Some(true), Some(true)]))
     );
     Ok(())
 }

@@ -1,10 +1,10 @@
 //! Tests of the written bytes of maps and sets.
 
 use crate::tests::answers::{counts, number_of};
+use crate::tests::archives::{is_map_archive, map_archive};
 use rkyv_base::archive::Serialize;
 use rkyv_base::element::Represents;
 use rkyv_base::errors::WriteError;
-use rkyv_base::root::to_bytes;
 use rkyv_base::width::Narrow;
 use rkyv_base::writer::{NoMemory, VecWriter};
 use rkyv_collections::MapPairs;
@@ -16,7 +16,7 @@ use rkyv_keys::keys::{KeyElement, NativeKey};
 use rkyv_scan::hash::FxHasher64;
 use std::alloc::Global;
 use test_support::archives::{nested, no_items, three_keys};
-use test_support::written::{is_archived_as, is_then_empty};
+use test_support::written::is_then_empty;
 
 type Numbers = ArchivedHashMap<'static, i8, i8, FxHasher64, Narrow>;
 
@@ -130,20 +130,15 @@ fn the_header_of_a_set(rt: HostRuntime) {
     expect_eq!(rt; set_header(rt.alloc()).ok(), Some((header, true)));
 }
 
-// A list of pairs of small numbers.
-type Small<'a> = MapPairs<'a, i8, i8>;
-
 #[test]
 fn the_empty_map(rt: HostRuntime) {
-    let list: Small<'_> = MapPairs::new(&[]);
-    let same = is_archived_as(rt.alloc(), &list, &no_items());
+    let same = is_map_archive::<i8, i8>(rt.alloc(), &[], &no_items());
     assert!(rt; same);
 }
 
 // Returns the archive of a list of five pairs, two of them with one key.
 fn archived_list(alloc: Global) -> Option<Vec<u8>> {
-    let list: Small<'_> = MapPairs::new(&[(1, 2), (3, 4), (5, 6), (7, 8), (3, 9)]);
-    to_bytes(alloc, &list).ok()
+    map_archive::<i8, i8>(alloc, &[(1, 2), (3, 4), (5, 6), (7, 8), (3, 9)]).ok()
 }
 
 // Returns the values of the keys 3, 7 and 2 in a map.
@@ -178,10 +173,8 @@ fn a_list_is_looked_up(rt: HostRuntime) {
 
 // Returns whether the map of 1 to the map of 1 to 2 is archived as `bytes`.
 fn one_in_one_is(alloc: Global, bytes: &[u8]) -> bool {
-    let inner: Small<'_> = MapPairs::new(&[(1, 2)]);
-    let pairs = [(1i8, inner)];
-    let list: MapPairs<'_, i8, Small<'_>> = MapPairs::new(&pairs);
-    is_archived_as(alloc, &list, bytes)
+    let inner: MapPairs<'_, i8, i8> = MapPairs::new(&[(1, 2)]);
+    is_map_archive(alloc, &[(1i8, inner)], bytes)
 }
 
 #[test]

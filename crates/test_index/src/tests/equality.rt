@@ -1,12 +1,12 @@
 //! `==` of index maps and index sets.
 
-use crate::tests::writing::{narrow, wide};
+use crate::tests::writing::{narrow, set_archive, wide};
 use rkyv_base::access::{access, access_in};
 use rkyv_base::errors::VerifyError;
-use rkyv_base::root::to_bytes;
 use rkyv_base::width::{Narrow, Wide, Width};
-use rkyv_index::{ArchivedIndexMap, ArchivedIndexSet, IndexMapOf, IndexSetOf, OrderedItems};
+use rkyv_index::{ArchivedIndexMap, ArchivedIndexSet, IndexMapOf, IndexSetOf};
 use rkyv_scan::hash::FxHasher64;
+use std::alloc::Global;
 use std::test::Fail;
 use test_support::archives::four_entries;
 
@@ -24,57 +24,73 @@ fn same_keys<'a>(first: &'a [u8], second: &'a [u8]) -> Result<bool, VerifyError>
     Ok(ArchivedIndexSet::of(own) == ArchivedIndexSet::of(other))
 }
 
+// Whether two lists of pairs are archived as equal index maps.
+fn equal_maps(alloc: Global, first: &[(i8, i8)], second: &[(i8, i8)]) -> Result<bool, Fail> {
+    let first = narrow(alloc, first)?;
+    let second = narrow(alloc, second)?;
+    Ok(equal::<Narrow>(first.as_slice(), second.as_slice())?)
+}
+
 #[test]
 fn equal_maps_have_the_same_pairs_in_order(rt: HostRuntime) -> Result<(), Fail> {
     let alloc = rt.alloc();
-    let four = four_entries();
-    let again = narrow(alloc, &[(1, 2), (3, 4), (5, 6), (7, 8)])?;
-    let turned = narrow(alloc, &[(7, 8), (5, 6), (3, 4), (1, 2)])?;
-    let other = narrow(alloc, &[(1, 2), (3, 4), (5, 6), (7, 9)])?;
-    let three = narrow(alloc, &[(1, 2), (3, 4), (5, 6)])?;
+    let four = [(1, 2), (3, 4), (5, 6), (7, 8)];
     let found = [
-        equal::<Narrow>(&four, again.as_slice())?,
-        equal::<Narrow>(&four, turned.as_slice())?,
-        equal::<Narrow>(&four, other.as_slice())?,
-        equal::<Narrow>(&four, three.as_slice())?,
-        equal::<Narrow>(three.as_slice(), &four)?,
+        equal_maps(alloc, &four, &four)?,
+        equal_maps(alloc, &four, &[(7, 8), (5, 6), (3, 4), (1, 2)])?,
+        equal_maps(alloc, &four, &[(1, 2), (3, 4), (5, 6), (7, 9)])?,
+        equal_maps(alloc, &four, &[(1, 2), (3, 4), (5, 6)])?,
+        equal_maps(alloc, &[(1, 2), (3, 4), (5, 6)], &four)?,
     ];
     expect_eq!(rt; found, [true, false, false, false, false]);
     Ok(())
 }
 
+// Whether two lists of pairs are archived as equal wide index maps.
+fn equal_wide_maps(alloc: Global, first: &[(i8, i8)], second: &[(i8, i8)]) -> Result<bool, Fail> {
+    let first = wide(alloc, first)?;
+    let second = wide(alloc, second)?;
+    Ok(equal::<Wide>(first.as_slice(), second.as_slice())?)
+}
+
 #[test]
 fn equal_wide_maps_have_the_same_pairs_in_order(rt: HostRuntime) -> Result<(), Fail> {
     let alloc = rt.alloc();
-    let two = wide(alloc, &[(1, 2), (3, 4)])?;
-    let again = wide(alloc, &[(1, 2), (3, 4)])?;
-    let turned = wide(alloc, &[(3, 4), (1, 2)])?;
-    let other = wide(alloc, &[(1, 2), (3, 5)])?;
-    let one = wide(alloc, &[(1, 2)])?;
+    let two = [(1, 2), (3, 4)];
     let found = [
-        equal::<Wide>(two.as_slice(), again.as_slice())?,
-        equal::<Wide>(two.as_slice(), turned.as_slice())?,
-        equal::<Wide>(two.as_slice(), other.as_slice())?,
-        equal::<Wide>(two.as_slice(), one.as_slice())?,
+        equal_wide_maps(alloc, &two, &two)?,
+        equal_wide_maps(alloc, &two, &[(3, 4), (1, 2)])?,
+        equal_wide_maps(alloc, &two, &[(1, 2), (3, 5)])?,
+        equal_wide_maps(alloc, &two, &[(1, 2)])?,
+    ];
+    expect_eq!(rt; found, [true, false, false, false]);
+    Ok(())
+}
+
+// Whether two lists of items are archived as equal index sets.
+fn equal_sets(alloc: Global, first: &[i8], second: &[i8]) -> Result<bool, Fail> {
+    let first = set_archive(alloc, first)?;
+    let second = set_archive(alloc, second)?;
+    Ok(same_keys(first.as_slice(), second.as_slice())?)
+}
+
+#[test]
+fn equal_sets_have_the_same_keys_in_order(rt: HostRuntime) -> Result<(), Fail> {
+    let alloc = rt.alloc();
+    let found = [
+        equal_sets(alloc, &[4, 1], &[4, 1])?,
+        equal_sets(alloc, &[4, 1], &[1, 4])?,
+        equal_sets(alloc, &[4, 1], &[4, 2])?,
+        equal_sets(alloc, &[4, 1], &[4])?,
     ];
     expect_eq!(rt; found, [true, false, false, false]);
     Ok(())
 }
 
 #[test]
-fn equal_sets_have_the_same_keys_in_order(rt: HostRuntime) -> Result<(), Fail> {
-    let alloc = rt.alloc();
-    let two = to_bytes(alloc, &OrderedItems(vec![in alloc; 4i8, 1]?))?;
-    let again = to_bytes(alloc, &OrderedItems(vec![in alloc; 4i8, 1]?))?;
-    let turned = to_bytes(alloc, &OrderedItems(vec![in alloc; 1i8, 4]?))?;
-    let other = to_bytes(alloc, &OrderedItems(vec![in alloc; 4i8, 2]?))?;
-    let one = to_bytes(alloc, &OrderedItems(vec![in alloc; 4i8]?))?;
-    let found = [
-        same_keys(two.as_slice(), again.as_slice())?,
-        same_keys(two.as_slice(), turned.as_slice())?,
-        same_keys(two.as_slice(), other.as_slice())?,
-        same_keys(two.as_slice(), one.as_slice())?,
-    ];
-    expect_eq!(rt; found, [true, false, false, false]);
+fn a_map_of_known_bytes_equals_the_one_that_is_written(rt: HostRuntime) -> Result<(), Fail> {
+    let written = narrow(rt.alloc(), &[(1, 2), (3, 4), (5, 6), (7, 8)])?;
+    let same = equal::<Narrow>(&four_entries(), written.as_slice())?;
+    assert!(rt; same);
     Ok(())
 }

@@ -22,17 +22,21 @@ fn has_number(table: &[u8], number: usize, text: &str) -> Result<bool, VerifyErr
     }
 }
 
+// Returns the numbers of two texts, and whether "wonderful" has the number 0, and 1.
+fn answers(table: &[u8]) -> Result<(Option<usize>, Option<usize>, bool, bool), VerifyError> {
+    Ok((
+        number(table, "excellent")?,
+        number(table, "bar")?,
+        has_number(table, 0, "wonderful")?,
+        has_number(table, 1, "wonderful")?,
+    ))
+}
+
 #[test]
 fn texts_have_numbers(rt: HostRuntime) -> Result<(), Fail> {
     let alloc = rt.alloc();
     let texts = OrderedItems(vec![in alloc; "wonderful", "foo", "excellent"]?);
     let bytes = to_bytes(alloc, &texts)?;
-    let table = bytes.as_slice();
-    let found = number(table, "excellent")?;
-    let none = number(table, "bar")?;
-    assert!(rt; found == Some(2) && none.is_none());
-    let first = has_number(table, 0, "wonderful")?;
-    let other = has_number(table, 1, "wonderful")?;
-    assert!(rt; first && !other);
+    expect_eq!(rt; answers(bytes.as_slice()).ok(), Some((Some(2), None, true, false)));
     Ok(())
 }

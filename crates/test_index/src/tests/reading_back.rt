@@ -1,8 +1,8 @@
 //! Tests of index maps and index sets that are read back into lists.
 
 use crate::tests::archives::{no_pairs, one_key_twice, wide_pair};
+use crate::tests::writing::set_archive;
 use rkyv_base::access::{access, access_in};
-use rkyv_base::root::to_bytes;
 use rkyv_base::width::{Narrow, Wide, Width};
 use rkyv_index::round_trip::{items_come_back, pairs_come_back};
 use rkyv_index::{
@@ -61,7 +61,7 @@ fn are_items(alloc: Global, bytes: &[u8], expected: &[i8]) -> bool {
 #[test]
 fn items_are_read_back_in_their_order(rt: HostRuntime) -> Result<(), Fail> {
     let alloc = rt.alloc();
-    let written = to_bytes(alloc, &OrderedItems(vec![in alloc; 4i8, 1, 3]?))?;
+    let written = set_archive(alloc, &[4, 1, 3])?;
     let read = [
         are_items(alloc, written.as_slice(), &[4, 1, 3]),
         are_items(alloc, &one_index_key(), &[1]),

@@ -55,17 +55,25 @@ fn all_prices(alloc: Global, archive: &[u8]) -> Result<Vec<u32>, Fail> {
     Ok(all)
 }
 
+type Found = ([Option<u32>; 2], Option<(usize, u32)>, bool);
+
+// Returns the prices of two names, the index and the price of a third, and whether "tea" is the
+// first name of less than four.
+fn found_prices(archive: &[u8]) -> Result<Found, VerifyError> {
+    let prices = [price_of(archive, "coffee")?, price_of(archive, "milk")?];
+    let cake = find(archive, "cake")?;
+    let is_first = name_at(archive, 0)? == Some("tea") && name_at(archive, 3)?.is_none();
+    Ok((prices, cake, is_first))
+}
+
 #[test]
 fn an_index_map(rt: HostRuntime) -> Result<(), Fail> {
     let alloc = rt.alloc();
     let archive = write_prices(alloc)?;
-    let coffee = price_of(archive.as_slice(), "coffee")?;
-    let milk = price_of(archive.as_slice(), "milk")?;
-    let cake = find(archive.as_slice(), "cake")?;
-    expect_eq!(rt; (coffee, milk, cake), (Some(4), None, Some((2, 5))));
-    let first = name_at(archive.as_slice(), 0)?;
-    let fourth = name_at(archive.as_slice(), 3)?;
-    assert!(rt; first == Some("tea") && fourth.is_none());
+    expect_eq!(rt;
+        found_prices(archive.as_slice()).ok(),
+        Some(([Some(4), None], Some((2, 5)), true))
+    );
     let all = all_prices(alloc, archive.as_slice())?;
     expect_eq!(rt; all.as_slice(), [3, 4, 5].as_slice());
     Ok(())

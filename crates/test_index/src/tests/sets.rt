@@ -1,12 +1,12 @@
 //! Tests of index sets.
 
 use crate::tests::archives::one_key_parts;
+use crate::tests::writing::set_archive;
 use rkyv_base::access::access;
 use rkyv_base::errors::WriteError;
-use rkyv_base::root::to_bytes;
 use rkyv_base::width::Narrow;
 use rkyv_base::writer::{NoMemory, VecWriter};
-use rkyv_index::{ArchivedIndexMap, ArchivedIndexSet, IndexSetOf, OrderedItems};
+use rkyv_index::{ArchivedIndexMap, ArchivedIndexSet, IndexSetOf};
 use rkyv_scan::hash::FxHasher64;
 use std::alloc::Global;
 use std::test::Fail;
@@ -17,7 +17,7 @@ type Keys = IndexSetOf<i8>;
 #[test]
 fn one_item_is_written(rt: HostRuntime) -> Result<(), Fail> {
     let alloc = rt.alloc();
-    let bytes = to_bytes(alloc, &OrderedItems(vec![in alloc; 1i8]?))?;
+    let bytes = set_archive(alloc, &[1])?;
     expect_eq!(rt; bytes.as_slice(), one_index_key().as_slice());
     let set = ArchivedIndexSet::of(access::<Keys>(bytes.as_slice())?);
     let found = match set.get_full(&1) {
@@ -69,7 +69,7 @@ fn a_set_is_a_map_to_units(rt: HostRuntime) -> Result<(), Fail> {
 #[test]
 fn keys_are_found(rt: HostRuntime) -> Result<(), Fail> {
     let alloc = rt.alloc();
-    let bytes = to_bytes(alloc, &OrderedItems(vec![in alloc; 4i8, 1, 3]?))?;
+    let bytes = set_archive(alloc, &[4, 1, 3])?;
     let set = ArchivedIndexSet::of(access::<Keys>(bytes.as_slice())?);
     let stored = match set.get(&3) {
         Some(key) => key.to_native(),

@@ -2,12 +2,15 @@
 
 use crate::tests::archives::{no_pairs, no_wide_pairs, one_key_twice, one_pair, wide_pair};
 use rkyv_base::access::access;
-use rkyv_base::errors::{IteratorLengthMismatch, WriteError};
+use rkyv_base::archive::Serialize;
+use rkyv_base::errors::{IteratorLengthMismatch, VerifyError, WriteError};
 use rkyv_base::limit::{LimitFault, LimitWriter};
 use rkyv_base::root::{to_bytes, to_bytes_in, write_root};
 use rkyv_base::width::{Narrow, Wide};
 use rkyv_base::writer::{NoMemory, VecWriter};
-use rkyv_index::{ArchivedIndexMap, IndexMapOf, OrderedPairs};
+use rkyv_index::width::PlaceWidth;
+use rkyv_index::{ArchivedIndexMap, IndexMapOf, OrderedItems, OrderedPairs};
+use rkyv_keys::keys::{KeyElement, NativeKey};
 use rkyv_scan::hash::FxHasher64;
 use std::alloc::{AllocError, Global};
 use std::test::Fail;
@@ -21,10 +24,22 @@ fn list_of(alloc: Global, pairs: &[(i8, i8)]) -> Result<OrderedPairs<i8, i8>, Al
     Ok(OrderedPairs(list))
 }
 
+// Returns the archive of a list of pairs as an index map.
+fn map_archive<W: PlaceWidth, A: Serialize<VecWriter, W>, B: Serialize<VecWriter, W>>(
+    alloc: Global,
+    list: &OrderedPairs<A, B>,
+) -> Result<Vec<u8>, WriteError<NoMemory>>
+where
+    A::Archived: KeyElement,
+    A: NativeKey<A::Archived>,
+{
+    to_bytes_in::<W, _>(alloc, list)
+}
+
 // Returns the archive of the pairs as an index map.
 pub(crate) fn narrow(alloc: Global, pairs: &[(i8, i8)]) -> Result<Vec<u8>, WriteError<NoMemory>> {
     match list_of(alloc, pairs) {
-        Ok(list) => to_bytes(alloc, &list),
+        Ok(list) => map_archive::<Narrow, _, _>(alloc, &list),
         Err(_) => Err(WriteError::Memory),
     }
 }
@@ -32,9 +47,18 @@ pub(crate) fn narrow(alloc: Global, pairs: &[(i8, i8)]) -> Result<Vec<u8>, Write
 // Returns the archive of the pairs as a wide index map.
 pub(crate) fn wide(alloc: Global, pairs: &[(i8, i8)]) -> Result<Vec<u8>, WriteError<NoMemory>> {
     match list_of(alloc, pairs) {
-        Ok(list) => to_bytes_in::<Wide, _>(alloc, &list),
+        Ok(list) => map_archive::<Wide, _, _>(alloc, &list),
         Err(_) => Err(WriteError::Memory),
     }
+}
+
+// Returns the archive of the items as an index set.
+pub(crate) fn set_archive(alloc: Global, items: &[i8]) -> Result<Vec<u8>, Fail> {
+    let mut list = Vec::new(alloc);
+    for item in items {
+        list.push(*item)?;
+    }
+    Ok(to_bytes(alloc, &OrderedItems(list))?)
 }
 
 #[test]
@@ -61,21 +85,25 @@ fn wide_pairs_are_written(rt: HostRuntime) -> Result<(), Fail> {
     Ok(())
 }
 
+// Returns the value of the key 1 in the value of the key 1, or 0.
+fn inner_value(bytes: &[u8]) -> Result<i8, VerifyError> {
+    let root = access::<IndexMapOf<i8, IndexMapOf<i8, i8>>>(bytes)?;
+    match ArchivedIndexMap::of(root).get_full(&1) {
+        Some((_, _, inner)) => match ArchivedIndexMap::of(inner).get_full(&1) {
+            Some((_, _, value)) => Ok(value.to_native()),
+            None => Ok(0),
+        },
+        None => Ok(0),
+    }
+}
+
 #[test]
 fn an_index_map_of_index_maps(rt: HostRuntime) -> Result<(), Fail> {
     let alloc = rt.alloc();
     let inner = list_of(alloc, &[(1, 2)])?;
     let outer = OrderedPairs(vec![in alloc; (1i8, inner)]?);
-    let bytes = to_bytes(alloc, &outer)?;
-    let root = access::<IndexMapOf<i8, IndexMapOf<i8, i8>>>(bytes.as_slice())?;
-    let found = match ArchivedIndexMap::of(root).get_full(&1) {
-        Some((_, _, inner)) => match ArchivedIndexMap::of(inner).get_full(&1) {
-            Some((_, _, value)) => value.to_native(),
-            None => 0,
-        },
-        None => 0,
-    };
-    expect_eq!(rt; (bytes.len(), found), (120, 2));
+    let bytes = map_archive::<Narrow, _, _>(alloc, &outer)?;
+    expect_eq!(rt; (bytes.len(), inner_value(bytes.as_slice()).ok()), (120, Some(2)));
     Ok(())
 }
 

@@ -1,0 +1,36 @@
+//! Archives of lists of pairs.
+
+use rkyv_base::archive::Serialize;
+use rkyv_base::errors::WriteError;
+use rkyv_base::root::to_bytes;
+use rkyv_base::width::Narrow;
+use rkyv_base::writer::{NoMemory, VecWriter};
+use rkyv_collections::MapPairs;
+use rkyv_keys::keys::{KeyElement, NativeKey};
+use std::alloc::Global;
+
+/// Returns the narrow archive of a list of pairs, as a map.
+pub fn map_archive<A: Serialize<VecWriter, Narrow>, B: Serialize<VecWriter, Narrow>>(
+    alloc: Global,
+    pairs: &[(A, B)],
+) -> Result<Vec<u8>, WriteError<NoMemory>>
+where
+    A::Archived: KeyElement,
+    A: NativeKey<A::Archived>,
+{
+    let list: MapPairs<'_, A, B> = MapPairs::new(pairs);
+    to_bytes(alloc, &list)
+}
+
+/// Returns whether the narrow archive of a list of pairs, as a map, has these bytes.
+pub fn is_map_archive<A: Serialize<VecWriter, Narrow>, B: Serialize<VecWriter, Narrow>>(
+    alloc: Global,
+    pairs: &[(A, B)],
+    bytes: &[u8],
+) -> bool
+where
+    A::Archived: KeyElement,
+    A: NativeKey<A::Archived>,
+{
+    matches!(map_archive(alloc, pairs), Ok(archive) if archive.as_slice() == bytes)
+}
