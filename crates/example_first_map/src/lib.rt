@@ -51,7 +51,7 @@ pub fn look_up(table: &[u8], name: &str) -> Result<Option<u64>, VerifyError>
     ensures listed { (symbols : TextPairs ℕ) → IsTextMap (unsigned w64) table.now symbols
         → result ≡ Ok (first_of_text name.now symbols) }
 {
-    scalars_found_are_listed::<&str, u64, Text, FxHasher64, Narrow>();
+    scalars_found_are_listed::<&str, &str, u64, Text, FxHasher64, Narrow>();
     let symbols = ArchivedHashMap::of(access::<HashMapOf<Text, u64>>(table)?);
     match symbols.get(&name) {
         Some(address) => Ok(Some(address.to_native())),

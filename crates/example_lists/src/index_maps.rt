@@ -33,7 +33,7 @@ pub fn price_of(table: &[u8], name: &str) -> Result<Option<u32>, VerifyError>
         ⟦<Prices as Represents<PricePairs<'static>>>⟧ table.now list
         → result ≡ Ok (first_value (λ held. same_bytes name.now held.now) list.0.items) }
 {
-    scalars_found_are_listed::<&str, u32, Text, FxHasher64, Narrow>();
+    scalars_found_are_listed::<&str, &str, u32, Text, FxHasher64, Narrow>();
     let prices = ArchivedIndexMap::of(access::<Prices>(table)?);
     match prices.get(&name) {
         Some(price) => Ok(Some(price.to_native())),
@@ -52,7 +52,7 @@ pub fn index_of_name(table: &[u8], name: &str) -> Result<Option<usize>, VerifyEr
         ⟦<Prices as Represents<PricePairs<'static>>>⟧ table.now list
         → result ≡ Ok (position (λ pair. same_bytes name.now pair.0.now) list.0.items) }
 {
-    scalars_found_are_listed::<&str, u32, Text, FxHasher64, Narrow>();
+    scalars_found_are_listed::<&str, &str, u32, Text, FxHasher64, Narrow>();
     let prices = ArchivedIndexMap::of(access::<Prices>(table)?);
     Ok(prices.get_index_of(&name))
 }

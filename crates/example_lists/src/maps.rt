@@ -64,7 +64,7 @@ pub fn number_of(table: &[u8], key: u32) -> Result<Option<u64>, VerifyError>
         ⟦<Numbers as Represents<NumberPairs<'static>>>⟧ table.now list
         → result ≡ Ok (first_value (λ held. key == held) list.pairs.now) }
 {
-    scalars_found_are_listed::<u32, u64, u32, FxHasher64, Wide>();
+    scalars_found_are_listed::<u32, u32, u64, u32, FxHasher64, Wide>();
     let numbers = ArchivedHashMap::of(access_in::<Wide, Numbers>(table)?);
     match numbers.get(&key) {
         Some(number) => Ok(Some(number.to_native())),
@@ -83,7 +83,7 @@ pub fn title_of(table: &[u8], key: u32) -> Result<Option<&str>, VerifyError>
         ⟦<Titles as Represents<TitlePairs<'static>>>⟧ table.now list
         → IsTextOk (first_value (λ held. key == held) list.pairs.now) result }
 {
-    texts_found_are_listed::<u32, u32, FxHasher64, Narrow>();
+    texts_found_are_listed::<u32, u32, u32, FxHasher64, Narrow>();
     let titles = ArchivedHashMap::of(access::<Titles>(table)?);
     match titles.get(&key) {
         Some(title) => Ok(Some(title.as_str())),
@@ -102,7 +102,7 @@ pub fn spot_of(table: &[u8], name: &str) -> Result<Option<(u32, u32)>, VerifyErr
         ⟦<Spots as Represents<SpotPairs<'static>>>⟧ table.now list
         → result ≡ Ok (first_value (λ held. same_bytes name.now held.now) list.pairs.now) }
 {
-    values_found_are_listed::<&str, (u32, u32), Text, Entry<u32, u32>, FxHasher64, Narrow>();
+    values_found_are_listed::<&str, &str, (u32, u32), Text, Entry<u32, u32>, FxHasher64, Narrow>();
     let spots = ArchivedHashMap::of(access::<Spots>(table)?);
     match spots.get(&name) {
         Some(spot) => {

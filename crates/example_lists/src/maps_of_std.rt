@@ -15,7 +15,6 @@ use rkyv_base::errors::VerifyError;
 use rkyv_base::text::Text;
 use rkyv_base::width::Narrow;
 use rkyv_collections::map::laws::list_archives::scalars_found_are_listed;
-use rkyv_collections::map::laws::lookups_find_listed;
 use rkyv_collections::map::{ArchivedHashMap, HashMapOf};
 use rkyv_collections::set::laws::members_found_are_listed;
 use rkyv_collections::set::{ArchivedHashSet, HashSetOf};
@@ -55,7 +54,7 @@ pub fn fare_of(table: &[u8], line: u32) -> Result<Option<u64>, VerifyError>
         → result ≡ Ok (first_value (λ held. line == held) map.map.entries) }
 {
     written_maps_are_lists::<Narrow, FxHasher64, u32, u64, BuildHasherDefault<FoldHasher>>();
-    scalars_found_are_listed::<u32, u64, u32, FxHasher64, Narrow>();
+    scalars_found_are_listed::<u32, u32, u64, u32, FxHasher64, Narrow>();
     let fares = ArchivedHashMap::of(access::<Fares>(table)?);
     match fares.get(&line) {
         Some(fare) => Ok(Some(fare.to_native())),
@@ -78,7 +77,7 @@ pub fn age_of(table: &[u8], name: &str) -> Result<Option<u8>, VerifyError>
         m.map.entries) }
 {
     written_maps_are_lists::<Narrow, FxHasher64, String, u8, BuildHasherDefault<FoldHasher>>();
-    lookups_find_listed::<String, u8, Text, u8, FxHasher64, Narrow>();
+    scalars_found_are_listed::<String, &str, u8, Text, FxHasher64, Narrow>();
     let ages = ArchivedHashMap::of(access::<Ages>(table)?);
     match ages.get(&name) {
         Some(age) => Ok(Some(age.to_native())),
@@ -98,7 +97,7 @@ pub fn has_line(set: &[u8], line: u32) -> Result<bool, VerifyError>
         → result ≡ Ok (list_any (λ held. line == held) lines.map.keys) }
 {
     written_sets_are_lists::<Narrow, FxHasher64, u32, BuildHasherDefault<FoldHasher>>();
-    members_found_are_listed::<u32, u32, FxHasher64, Narrow>();
+    members_found_are_listed::<u32, u32, u32, FxHasher64, Narrow>();
     let lines = ArchivedHashSet::of(access::<Lines>(set)?);
     Ok(lines.contains(&line))
 }

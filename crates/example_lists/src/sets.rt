@@ -37,7 +37,7 @@ pub fn has_word(set: &[u8], word: &str) -> Result<bool, VerifyError>
         ⟦<Words as Represents<WordItems<'static>>>⟧ set.now list
         → result ≡ Ok (list_any (λ held. same_bytes word.now held.now) list.items.now) }
 {
-    members_found_are_listed::<&str, Text, FxHasher64, Narrow>();
+    members_found_are_listed::<&str, &str, Text, FxHasher64, Narrow>();
     let words = ArchivedHashSet::of(access::<Words>(set)?);
     Ok(words.contains(&word))
 }
@@ -53,7 +53,7 @@ pub fn index_of_id(set: &[u8], id: u64) -> Result<Option<usize>, VerifyError>
         ⟦<Ids as Represents<OrderedItems<u64>>>⟧ set.now list
         → result ≡ Ok (position (λ held. id == held) list.0.items) }
 {
-    indexed_members_found_are_listed::<u64, u64, FxHasher64, Narrow>();
+    indexed_members_found_are_listed::<u64, u64, u64, FxHasher64, Narrow>();
     let ids = ArchivedIndexSet::of(access::<Ids>(set)?);
     Ok(ids.get_index_of(&id))
 }

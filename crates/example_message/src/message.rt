@@ -144,7 +144,7 @@ pub fn set_number(
         → IfOk result (SetsNumber part.now field.now number parts message.new) }
 {
     nested_writes_keep_maps::<Text, HashMapOf<Text, u32>, FxHasher64, Narrow>();
-    nested_writes_represent::<&str, Fields<'_>, Text, HashMapOf<Text, u32>, FxHasher64, Narrow>();
+    nested_writes_represent::<&str, &str, Fields<'_>, Text, HashMapOf<Text, u32>, FxHasher64, Narrow>();
     match pos_of_part(&*message, part)? {
         Some(pos) => Ok(set_value_of::<&str, Text, u32, FxHasher64, Narrow>(
             message, pos, &field, number,

@@ -22,7 +22,7 @@ use rkyv_base::root::to_bytes;
 use rkyv_base::text::Text;
 use rkyv_base::width::Narrow;
 use rkyv_base::writer::NoMemory;
-use rkyv_collections::map::laws::lookups_find_listed;
+use rkyv_collections::map::laws::list_archives::scalars_found_are_listed;
 use rkyv_collections::map::{ArchivedHashMap, HashMapOf};
 use rkyv_collections::{FxHasher64, MapPairs};
 use std::alloc::Global;
@@ -70,7 +70,7 @@ pub fn address_in(table: &[u8], name: &str) -> Option<u64>
     ensures listed { (symbols : Symbols) → Represents table.now symbols
         → result ≡ first_address name.now symbols }
 {
-    lookups_find_listed::<&str, u64, Text, u64, FxHasher64, Narrow>();
+    scalars_found_are_listed::<&str, &str, u64, Text, FxHasher64, Narrow>();
     let map = ArchivedHashMap::of(access_unchecked::<HashMapOf<Text, u64>>(table));
     match map.get(&name) {
         Some(address) => Some(address.to_native()),

@@ -74,8 +74,8 @@ pub record FirstInRoot {A B : Type 0} (w : Width) (k v : ElementSpec) (key : Lis
   pub written : MapWrittenAt w (entry_spec k v) hash b p homes
   pub pair : IsPairOf k v key value b (find accept (home_positions w (entry_spec k v).size b p homes)) first
 
-pub first_in_root : {A B K V H W : Type 0} {ks : Specs K} {vs : Specs V} {wt : Words W} (m : ArchivedHashMap K V H W ks vs wt) (keys : NativeKeys A) (value : List ℕ → ℕ → B → Type 0)
-    → FitsItsEqual ks.spec keys.represents keys.equal keys.fits → (archive : Bor (List ℕ)) (factor : ℕ × ℕ) (pairs : List (A × B)) (asked : A)
+pub first_in_root : {A Q B K V H W : Type 0} {ks : Specs K} {vs : Specs V} {wt : Words W} (m : ArchivedHashMap K V H W ks vs wt) (keys : NativeKeys A Q) (value : List ℕ → ℕ → B → Type 0)
+    → FitsItsEqual ks.spec keys.represents keys.equal keys.fits → (archive : Bor (List ℕ)) (factor : ℕ × ℕ) (pairs : List (A × B)) (asked : Q)
     → IsAt m.view archive (map_root wt.word ks.spec vs.spec archive.now)
     → MapRepresents wt.word ks.spec vs.spec keys.represents value keys.key_hash factor archive.now (map_root wt.word ks.spec vs.spec archive.now) pairs
     → FirstInRoot wt.word ks.spec vs.spec keys.represents value keys.key_hash (map_bytes m) (map_pos m) (keys.fits asked (map_bytes m)) (first_pair (keys.equal asked) pairs)
@@ -97,7 +97,7 @@ at_view : {K V H W : Type 0} {ks : Specs K} {vs : Specs V} {wt : Words W} (m : A
 at_view m root archive p view at = (ap (λ x. x.archive) view ∙ at.0, ap (λ x. x.pos) view ∙ at.1)
 
 -- the value that a lookup finds in it is that of the first pair
-pub found_listed : {A B K V W : Type 0} (H : Type 0) (wt : Words W) (ks : Specs K) (vs : Specs V) (keys : NativeKeys A) → FitsItsEqual ks.spec keys.represents keys.equal keys.fits
+pub found_listed : {A Q B K V W : Type 0} (H : Type 0) (wt : Words W) (ks : Specs K) (vs : Specs V) (keys : NativeKeys A Q) → FitsItsEqual ks.spec keys.represents keys.equal keys.fits
     → (values : FoundValues V B) → FindsByView values → FoundAreListed H wt ks vs keys values
 found_listed H wt ks vs keys native values by = λ m root archive factor pairs asked found view at is walked told.
     let first = first_in_root m keys values.represents native archive factor pairs asked (at_view m root archive _ view at) is in

@@ -88,7 +88,7 @@ found_at {ks = ks} {vs = vs} m key value pairs represents (Some n) (Some view) (
     moved (λ b p. value b p pair.1) _ _ _ _ (sym bytes) (sym place) (subst (λ x. value (index_bytes m) (key_pos m is.0 + value_offset ks.spec vs.spec) x.1) (sym (same_Some pair is.1 is.4)) there)
 
 -- In an index map that represents a list of pairs, native keys find the first pair with an equal key
-pub record FirstInMap {A B K V H W : Type 0} {ks : Specs K} {vs : Specs V} {wt : Words W} (m : ArchivedIndexMap K V H W ks vs wt) (keys : NativeKeys A) (value : List ℕ → ℕ → B → Type 0) (asked : A) (pairs : List (A × B))
+pub record FirstInMap {A Q B K V H W : Type 0} {ks : Specs K} {vs : Specs V} {wt : Words W} (m : ArchivedIndexMap K V H W ks vs wt) (keys : NativeKeys A Q) (value : List ℕ → ℕ → B → Type 0) (asked : Q) (pairs : List (A × B))
     : Type 0 where
   pub homes : List ℕ
   pub written : IsWritten (index_of m) keys.key_hash homes
@@ -96,8 +96,8 @@ pub record FirstInMap {A B K V H W : Type 0} {ks : Specs K} {vs : Specs V} {wt :
   pub place : find (fits_at (index_of m) (keys.fits asked)) (index_places (index_of m)) ≡ position_from (λ pair. keys.equal asked pair.0) 0 pairs
   pub first : IsFirstAt pairs 0 (find (fits_at (index_of m) (keys.fits asked)) (index_places (index_of m))) (first_pair (keys.equal asked) pairs)
 
-first_in_map : {A B K V H W : Type 0} {ks : Specs K} {vs : Specs V} {wt : Words W} → IsArchiveWord wt.word → (m : ArchivedIndexMap K V H W ks vs wt) (keys : NativeKeys A)
-    → FitsItsEqual ks.spec keys.represents keys.equal keys.fits → (value : List ℕ → ℕ → B → Type 0) (asked : A) (archive : Bor (List ℕ)) (p : ℕ) (factor : ℕ × ℕ) (pairs : List (A × B))
+first_in_map : {A Q B K V H W : Type 0} {ks : Specs K} {vs : Specs V} {wt : Words W} → IsArchiveWord wt.word → (m : ArchivedIndexMap K V H W ks vs wt) (keys : NativeKeys A Q)
+    → FitsItsEqual ks.spec keys.represents keys.equal keys.fits → (value : List ℕ → ℕ → B → Type 0) (asked : Q) (archive : Bor (List ℕ)) (p : ℕ) (factor : ℕ × ℕ) (pairs : List (A × B))
     → IsAt m.view archive p → IndexRepresents wt.word ks.spec vs.spec keys.represents value keys.key_hash factor archive.now p pairs → FirstInMap m keys value asked pairs
 first_in_map {ks = ks} {vs = vs} {wt = wt} kind m keys native value asked archive p factor pairs at is =
     let represents = moved (λ b q. IndexRepresents wt.word ks.spec vs.spec keys.represents value keys.key_hash factor b q pairs) _ _ _ _ (sym (ap (λ a. a.now) at.0)) (sym at.1) is in
@@ -119,7 +119,7 @@ first_in_map {ks = ks} {vs = vs} {wt = wt} kind m keys native value asked archiv
     }
 
 -- a lookup in the index map at the root of an archive finds the first pair of the list
-pub found_listed : {A B K V W : Type 0} (H : Type 0) (wt : Words W) → IsArchiveWord wt.word → (ks : Specs K) (vs : Specs V) (keys : NativeKeys A) → FitsItsEqual ks.spec keys.represents keys.equal keys.fits
+pub found_listed : {A Q B K V W : Type 0} (H : Type 0) (wt : Words W) → IsArchiveWord wt.word → (ks : Specs K) (vs : Specs V) (keys : NativeKeys A Q) → FitsItsEqual ks.spec keys.represents keys.equal keys.fits
     → (values : FoundValues V B) → FindsByView values → FoundAreListed H wt ks vs keys values
 found_listed H wt kind ks vs keys native values by = λ map root archive factor pairs asked view at is.
     let there : IsAt map.view archive (index_root wt.word ks.spec vs.spec archive.now) = (ap (λ x. x.archive) view ∙ at.0, ap (λ x. x.pos) view ∙ at.1) in
@@ -149,7 +149,7 @@ is_found true (Some n) e = refl
 is_found false (Some n) e = absurd (true≢false (sym (e.1 refl)))
 
 -- a lookup in the index set at the root of an archive finds the first item of the list
-pub members_listed : {A K W : Type 0} (H : Type 0) (wt : Words W) → IsArchiveWord wt.word → (ks : Specs K) (keys : NativeKeys A) → FitsItsEqual ks.spec keys.represents keys.equal keys.fits
+pub members_listed : {A Q K W : Type 0} (H : Type 0) (wt : Words W) → IsArchiveWord wt.word → (ks : Specs K) (keys : NativeKeys A Q) → FitsItsEqual ks.spec keys.represents keys.equal keys.fits
     → MembersFoundAreListed H wt ks keys
 members_listed H wt kind ks keys native = λ set root archive factor items asked there at is.
     let r = first_in_map kind (keys_of set) keys native unit_represents asked archive _ factor (with_units items) (there.0 ∙ at.0, there.1 ∙ at.1) is in

@@ -31,8 +31,9 @@ pub record IsQuery {Q : Type 0} (s : ElementSpec) (same : Comparison) (key_calls
   pub respects_same : (q : Q) (b c : List ℕ) (p r : ℕ) → can_read q → ValidAt s b p → ValidAt s c r
       → fits q b p ≡ true → fits q c r ≡ same b p c r
 
--- a value fits a key that represents another value if and only if the two are equal
-abbrev pub FitsItsEqual : {V : Type 0} → ElementSpec → (List ℕ → ℕ → V → Type 0) → (V → V → Bool)
-    → (V → List ℕ → ℕ → Bool) → Type 0
-FitsItsEqual {V = V} s represents equal fits = (q v : V) (b : List ℕ) (p : ℕ) → ValidAt s b p
-    → represents b p v → fits q b p ≡ equal q v
+-- a query fits a key that represents a native key if and only if the two are equal
+abbrev pub FitsItsEqual : {Q A : Type 0} → ElementSpec → (List ℕ → ℕ → A → Type 0)
+    → (Q → A → Bool) → (Q → List ℕ → ℕ → Bool) → Type 0
+FitsItsEqual {Q = Q} {A = A} s represents equal fits =
+    (q : Q) (a : A) (b : List ℕ) (p : ℕ) → ValidAt s b p
+    → represents b p a → fits q b p ≡ equal q a

@@ -18,18 +18,17 @@ native_pairs key value hasher key_calls = record {
   key_hash = λ b q. hash_of_calls hasher (key_calls b q);
 }
 
--- the native keys of a map, which are its queries. `represents`: bytes at a position represent a
--- key,
+-- the native keys of a map, and its queries. `represents`: bytes at a position represent a key,
 -- `key_hash`: hash of the key at a position, `fits`: a query fits the key at a position,
--- `equal`: equality of native keys
-pub record NativeKeys (A : Type 0) : Type 1 where
+-- `equal`: a query equals a native key
+pub record NativeKeys (A Q : Type 0) : Type 1 where
   pub represents : List ℕ → ℕ → A → Type 0
   pub key_hash : List ℕ → ℕ → ℕ
-  pub fits : A → List ℕ → ℕ → Bool
-  pub equal : A → A → Bool
+  pub fits : Q → List ℕ → ℕ → Bool
+  pub equal : Q → A → Bool
 
 -- the native keys of a map under the hashes `key_hash`
-abbrev pub native_keys : {A : Type 0} → (List ℕ → ℕ → A → Type 0) → (List ℕ → ℕ → ℕ)
-    → (A → List ℕ → ℕ → Bool) → (A → A → Bool) → NativeKeys A
+abbrev pub native_keys : {A Q : Type 0} → (List ℕ → ℕ → A → Type 0) → (List ℕ → ℕ → ℕ)
+    → (Q → List ℕ → ℕ → Bool) → (Q → A → Bool) → NativeKeys A Q
 native_keys represents key_hash fits equal =
     record { represents = represents; key_hash = key_hash; fits = fits; equal = equal }

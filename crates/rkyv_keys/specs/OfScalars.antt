@@ -43,7 +43,7 @@ module _ {V : Type 0} (s : ElementSpec) (e : Encoding V) where
   module _ (equal : V → V → Bool) where
     pub scalar_fits_its_equal : FitsItsEqual s (ScalarRepresents e) equal
         (scalar_fits e equal)
-    scalar_fits_its_equal = value_fits_its_equal s (scalar_at e) equal (λ v. v)
+    scalar_fits_its_equal = value_fits_its_equal s (scalar_at e) equal (λ v. v) (λ v. v)
 
     module _ (tells : TellsApart equal) where
       pub scalar_equivalence : IsEquivalence s (scalar_same e equal)

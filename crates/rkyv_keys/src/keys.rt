@@ -1,7 +1,8 @@
 //! Keys, and the queries by which they are looked up.
 //!
 //! `KeyElement` is the trait of archived keys, and `Query` that of values by which they
-//! are looked up. A `NativeKey` is a query for its own archived form.
+//! are looked up. A `NativeKey` is a query for its own archived form. A `NativeQuery` finds
+//! the archived forms of the native keys that it equals.
 
 ghost use Rattle.std.specs.Prelude.{◌≡◌, ℕ, Bool, List};
 ghost use Rattle.rkyv_scan.specs.Hash.{HasherCall};
@@ -103,6 +104,23 @@ pub trait NativeKey<K: KeyElement + Represents<Self>>: Query<K> + Eq {
 
     // A native key can always be read.
     ghost reads: { (key : Self) → Self.can_read key };
+}
+
+/// A query that fits the archived form of a native key of type `A` if and only if it equals the key.
+///
+/// Each native key is such a query of its own type. A `&str` is one of `String` keys,
+/// and a `String` one of `&str` keys. The laws of lookups in lists are about these queries.
+pub trait NativeQuery<A, K: KeyElement + Represents<A>>: Query<K> {
+    // The query equals a native key.
+    ghost equals: { Self → A → Bool };
+
+    ghost finds: { FitsItsEqual K.spec K.represents equals Self.fits };
+}
+
+impl<A: NativeKey<K>, K: KeyElement + Represents<A>> NativeQuery<A, K> for A {
+    ghost equals = { A.eq };
+
+    ghost finds = { A.native };
 }
 
 /// A key whose hash makes no call for a `usize` or an `isize`.

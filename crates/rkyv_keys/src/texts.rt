@@ -18,7 +18,7 @@ use crate::equality::{
     ElementEq, ElementEquiv, EqualsUniquely, EqualsWritten, MatchesNative, RepresentsUniquely,
 };
 use crate::hash::KeyHash;
-use crate::keys::{FixedKey, KeyElement, NativeKey, Query};
+use crate::keys::{FixedKey, KeyElement, NativeKey, NativeQuery, Query};
 use rkyv_base::errors::ReadError;
 use rkyv_base::text::Text;
 use rkyv_base::view::View;
@@ -111,15 +111,27 @@ impl<W: Width> Query<Text<W>> for String {
 }
 
 impl<W: Width> NativeKey<Text<W>> for &str {
-    ghost native = { text_fits_its_equal W.word (λ q. q.now) };
+    ghost native = { text_fits_its_equal W.word (λ q. q.now) (λ q. q.now) };
 
     ghost reads = { λ key. tt };
 }
 
 impl<W: Width> NativeKey<Text<W>> for String {
-    ghost native = { text_fits_its_equal W.word (λ q. string_bytes q) };
+    ghost native = { text_fits_its_equal W.word (λ q. string_bytes q) (λ q. string_bytes q) };
 
     ghost reads = { λ key. tt };
+}
+
+impl<W: Width> NativeQuery<String, Text<W>> for &str {
+    ghost equals = { λ q a. same_bytes q.now (string_bytes a) };
+
+    ghost finds = { text_fits_its_equal W.word (λ q. q.now) (λ a. string_bytes a) };
+}
+
+impl<W: Width> NativeQuery<&str, Text<W>> for String {
+    ghost equals = { λ q a. same_bytes (string_bytes q) a.now };
+
+    ghost finds = { text_fits_its_equal W.word (λ q. string_bytes q) (λ a. a.now) };
 }
 
 impl<W: Width> MatchesNative<&str> for Text<W> {

@@ -107,12 +107,12 @@ text_found e text b =
 -- The root of the archive is a map that represents a list of pairs. A lookup of a native key
 -- finds the value of the first pair with an equal key, and `None` if no pair has one.
 -- `wt`: word of the archive, `keys`: its native keys, `values`: how its values are found
-abbrev pub FoundAreListed : {A B K V W : Type 0} → (H : Type 0) → Words W → Specs K → Specs V
-    → NativeKeys A → FoundValues V B → Type 0
-FoundAreListed {A} {B} {K} {V} {W} H wt ks vs keys values =
+abbrev pub FoundAreListed : {A Q B K V W : Type 0} → (H : Type 0) → Words W → Specs K → Specs V
+    → NativeKeys A Q → FoundValues V B → Type 0
+FoundAreListed {A} {Q} {B} {K} {V} {W} H wt ks vs keys values =
     (map : ArchivedHashMap K V H W ks vs wt) (root : View (HashMapOf K V H W))
     (archive : Bor (List ℕ)) (factor : ℕ × ℕ) (pairs : List (A × B))
-    (asked : A) (found : Option (View V))
+    (asked : Q) (found : Option (View V))
     → map.view ≡ root → IsAt root archive (map_root wt.word ks.spec vs.spec archive.now)
     → MapRepresents wt.word ks.spec vs.spec keys.represents values.represents keys.key_hash factor
     archive.now (map_root wt.word ks.spec vs.spec archive.now) pairs

@@ -71,10 +71,10 @@ module _ (w : Width) (k v : ElementSpec) where
   -- equal to `asked` is written among its parts. The map then represents
   -- the list with the new value there. `keys`: native keys of the map, `value`: what represents
   -- a value
-  abbrev pub NestedWritesRepresent : {A B : Type 0} → NativeKeys A → (List ℕ → ℕ → B → Type 0)
+  abbrev pub NestedWritesRepresent : {A Q B : Type 0} → NativeKeys A Q → (List ℕ → ℕ → B → Type 0)
       → Type 0
-  NestedWritesRepresent {A} {B} keys value =
-      (b c : List ℕ) (p pos : ℕ) (factor : ℕ × ℕ) (pairs : List (A × B)) (asked : A) (new : B)
+  NestedWritesRepresent {A} {Q} {B} keys value =
+      (b c : List ℕ) (p pos : ℕ) (factor : ℕ × ℕ) (pairs : List (A × B)) (asked : Q) (new : B)
       → Viewable (map_spec w k v) b p
       → MapRepresents w k v keys.represents value keys.key_hash factor b p pairs
       → FindsFirstKeyAt w k v b p keys.key_hash (keys.fits asked b)

@@ -22,11 +22,11 @@ set_root w k b = length b - (set_spec w k).size
 -- The root of the archive is a set that represents a list of keys. A lookup of a native key
 -- is `true` if and only if it equals a key of the list.
 -- `wt`: word of the archive, `keys`: its native keys
-abbrev pub MembersFoundAreListed : {A K W : Type 0} → (H : Type 0) → Words W → Specs K
-    → NativeKeys A → Type 0
-MembersFoundAreListed {A} {K} {W} H wt ks keys =
+abbrev pub MembersFoundAreListed : {A Q K W : Type 0} → (H : Type 0) → Words W → Specs K
+    → NativeKeys A Q → Type 0
+MembersFoundAreListed {A} {Q} {K} {W} H wt ks keys =
     (set : ArchivedHashSet K H W ks wt) (root : View (HashSetOf K H W)) (archive : Bor (List ℕ))
-    (factor : ℕ × ℕ) (items : List A) (asked : A) (found : Bool)
+    (factor : ℕ × ℕ) (items : List A) (asked : Q) (found : Bool)
     → IsSetAt set (archive_of root) (pos_of root)
     → IsAt root archive (set_root wt.word ks.spec archive.now)
     → SetRepresents wt.word ks.spec keys.represents keys.key_hash factor archive.now

@@ -16,7 +16,7 @@ use crate::lists::SetItems;
 use crate::set::HashSetOf;
 use rkyv_base::element::{HasSpec, Represents};
 use rkyv_base::width::Width;
-use rkyv_keys::keys::{KeyElement, NativeKey};
+use rkyv_keys::keys::{KeyElement, NativeQuery};
 use rkyv_scan::hash::KeyHasher;
 
 /// States that `iter` returns each key of the list that a set represents once.
@@ -30,13 +30,14 @@ pub fn walks_give_listed<A, K: KeyElement + Represents<A>, H: KeyHasher, W: Widt
 ///
 /// The set is the root of an archive, and represents the list.
 pub fn members_found_are_listed<
-    A: NativeKey<K>,
+    A,
+    Q: NativeQuery<A, K>,
     K: KeyElement + Represents<A>,
     H: KeyHasher,
     W: Width,
 >()
     ensures { MembersFoundAreListed H W.Word K.HasSpec
-        (native_keys K.represents (hash_at H.hasher K.key_calls) A.fits A.eq) }
+        (native_keys K.represents (hash_at H.hasher K.key_calls) Q.fits Q.equals) }
 {}
 
 /// States the layout of a set, and that it represents the keys of a list in insertion order.

@@ -24,9 +24,9 @@ index_root w k v b = length b - (index_spec w (entry_spec k v)).size
 -- The root of the archive is an index map that represents a list of pairs. A lookup of a native key
 -- finds the first pair with an equal key, and `None` if no pair has one. `place`: its index,
 -- `value`: its value
-pub record FindsInRoot {A B K V H W : Type 0} {ks : Specs K} {vs : Specs V} {wt : Words W}
-    (keys : NativeKeys A) (values : FoundValues V B) (map : ArchivedIndexMap K V H W ks vs wt)
-    (asked : A) (pairs : List (A × B)) : Type 0 where
+pub record FindsInRoot {A Q B K V H W : Type 0} {ks : Specs K} {vs : Specs V} {wt : Words W}
+    (keys : NativeKeys A Q) (values : FoundValues V B) (map : ArchivedIndexMap K V H W ks vs wt)
+    (asked : Q) (pairs : List (A × B)) : Type 0 where
   pub place : (found : Option ℕ)
       → FindsFirstKey (index_of map) keys.key_hash (keys.fits asked) (IsPlace found)
       → found ≡ position (λ pair. keys.equal asked pair.0) pairs
@@ -35,11 +35,11 @@ pub record FindsInRoot {A B K V H W : Type 0} {ks : Specs K} {vs : Specs V} {wt 
       → values.IsFound found (first_value (keys.equal asked) pairs)
 
 -- `wt`: word of the archive, `keys`: its native keys, `values`: how its values are found
-abbrev pub FoundAreListed : {A B K V W : Type 0} → (H : Type 0) → Words W → Specs K → Specs V
-    → NativeKeys A → FoundValues V B → Type 0
-FoundAreListed {A} {B} {K} {V} {W} H wt ks vs keys values =
+abbrev pub FoundAreListed : {A Q B K V W : Type 0} → (H : Type 0) → Words W → Specs K → Specs V
+    → NativeKeys A Q → FoundValues V B → Type 0
+FoundAreListed {A} {Q} {B} {K} {V} {W} H wt ks vs keys values =
     (map : ArchivedIndexMap K V H W ks vs wt) (root : View (IndexMapOf K V H W))
-    (archive : Bor (List ℕ)) (factor : ℕ × ℕ) (pairs : List (A × B)) (asked : A)
+    (archive : Bor (List ℕ)) (factor : ℕ × ℕ) (pairs : List (A × B)) (asked : Q)
     → map.view ≡ root → IsAt root archive (index_root wt.word ks.spec vs.spec archive.now)
     → IndexRepresents wt.word ks.spec vs.spec keys.represents values.represents keys.key_hash factor
     archive.now (index_root wt.word ks.spec vs.spec archive.now) pairs

@@ -14,7 +14,7 @@ use crate::set::IndexSetOf;
 use rkyv_base::element::{HasSpec, Represents};
 use rkyv_base::width::Width;
 use rkyv_keys::equality::RepresentsUniquely;
-use rkyv_keys::keys::{KeyElement, NativeKey};
+use rkyv_keys::keys::{KeyElement, NativeQuery};
 use rkyv_scan::hash::{FxHasher64, KeyHasher};
 
 /// States that a list deserialized from an index set is `==` to the list that it represents.
@@ -37,13 +37,14 @@ pub fn items_read_back_are_listed<
 /// - `place`: `get_index_of` finds its index, and `None` if the list has no such key.
 /// - `member`: `contains` is `true` if and only if the list has such a key.
 pub fn members_found_are_listed<
-    A: NativeKey<K>,
+    A,
+    Q: NativeQuery<A, K>,
     K: KeyElement + Represents<A>,
     H: KeyHasher,
     W: Width,
 >()
     ensures { MembersFoundAreListed H W.Word K.HasSpec
-        (native_keys K.represents (hash_at H.hasher K.key_calls) A.fits A.eq) }
+        (native_keys K.represents (hash_at H.hasher K.key_calls) Q.fits Q.equals) }
 {}
 
 /// States the layout of an index set, and that it represents the keys of a list in order.

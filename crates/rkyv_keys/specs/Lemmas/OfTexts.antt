@@ -47,17 +47,18 @@ module _ (w : Width) where
   pub text_key_fixed : MakesFixedCalls (text_spec w) text_key_calls
   text_key_fixed b p h = text_fixed (text_at w b p)
 
+  pub text_fits_its_equal : {Q A : Type 0} (asked : Q → List ℕ) (seen : A → List ℕ)
+      → FitsItsEqual (text_spec w) (IsTextOf seen) (λ q a. same_bytes (asked q) (seen a))
+      (text_fits asked)
+  text_fits_its_equal = value_fits_its_equal (text_spec w) (text_at w) same_bytes
+
   module _ {Q : Type 0} (seen : Q → List ℕ) where
     pub text_query : IsQuery (text_spec w) text_same text_key_calls ReadsAnywhere
         (λ q. text_calls (seen q)) (text_fits seen)
     text_query = value_query (text_spec w) (text_at w) same_bytes bytes_decides text_calls seen
 
-    pub text_fits_its_equal : FitsItsEqual (text_spec w) (IsTextOf seen)
-        (λ q v. same_bytes (seen q) (seen v)) (text_fits seen)
-    text_fits_its_equal = value_fits_its_equal (text_spec w) (text_at w) same_bytes seen
-
     -- a text represents only values with its bytes
     pub text_alone : RepresentsOnce (text_spec w) (IsTextOf seen) (λ q v. same_bytes (seen q)
         (seen v))
     text_alone = native_alone (text_spec w) (IsTextOf seen) (λ q v. same_bytes (seen q) (seen v))
-        (text_fits seen) text_fits_its_equal (λ v. bytes_equal_themselves (seen v))
+        (text_fits seen) (text_fits_its_equal seen seen) (λ v. bytes_equal_themselves (seen v))

@@ -47,9 +47,8 @@ module _ {V : Type 0} (s : ElementSpec) (value_at : List ℕ → ℕ → V) (equ
     }
 
 -- the value that was written is the one that is compared
-pub value_fits_its_equal : {V Q : Type 0} (s : ElementSpec) (value_at : List ℕ → ℕ → V) (equal : V
-    → V
-    → Bool) (seen : Q → V)
-    → FitsItsEqual s (IsValueAt value_at seen) (λ q v. equal (seen q) (seen v))
-    (value_fits value_at equal seen)
-value_fits_its_equal s value_at equal seen q v b p h st = ap (equal (seen q)) st
+pub value_fits_its_equal : {V Q A : Type 0} (s : ElementSpec) (value_at : List ℕ → ℕ → V)
+    (equal : V → V → Bool) (asked : Q → V) (seen : A → V)
+    → FitsItsEqual s (IsValueAt value_at seen) (λ q a. equal (asked q) (seen a))
+    (value_fits value_at equal asked)
+value_fits_its_equal s value_at equal asked seen q a b p h there = ap (equal (asked q)) there

@@ -6,16 +6,14 @@ use Rattle.rkyv_scan.specs.Hash.{fx_hasher, low_halves}
 use Rattle.rkyv_base.specs.Lemmas.Access.{root_viewable}
 use Rattle.rkyv_base.specs.Bytes.{number_at}
 use Rattle.rkyv_base.specs.Entry.{entry_spec, value_offset}
-use Rattle.rkyv_base.specs.Numbers.{unsigned}
-use Rattle.rkyv_base.specs.Scalar.{ScalarRepresents}
 use Rattle.rkyv_base.specs.Text.{text_at}
 use Rattle.rkyv_keys.specs.Calls.{text_calls}
 use Rattle.rkyv_keys.specs.OfTexts.{same_bytes}
 use Rattle.rkyv_table.specs.Table.Positions.{pos_found}
 use Rattle.rkyv_table.proofs.Moved.{moved}
 use Rattle.rkyv_collections.specs.Map.MapFormat.{hash_of}
-use Rattle.rkyv_collections.proofs.FoundValues.{none_listed, number_listed, read_at}
-use Rattle.example_symbols.specs.Table.{IsTable, Represents, SymbolsRepresent, address_found, address_spec, header_spec, name_spec}
+use Rattle.rkyv_collections.proofs.FoundValues.{read_at}
+use Rattle.example_symbols.specs.Table.{IsTable, Represents, address_found, address_spec, header_spec, name_spec}
 use Rattle.example_symbols.proofs.Found.{none_read, number_read}
 use Rattle.example_symbols.proofs.table.address_in.Goals as goal
 
@@ -44,14 +42,13 @@ returns-in-None-clause-found c =
 
 pub returns-in-Some-clause-listed : goal.returns-in-Some-clause-listed
 unfolding Represents
-returns-in-Some-clause-listed c = λ symbols represents.
-    let at = read_at c.of-map.result _ _ _ c.of-map.ensures.view c.access_unchecked.ensures.at in
-    let listed = c.lookups_find_listed.ensures c.of-map.result _ (λ held. same_bytes c.args.name.now held.now) (7, 8) symbols (λ held q s there. ap (same_bytes c.args.name.now) there) (moved (λ b p. SymbolsRepresent (7, 8) b p symbols) _ _ _ _ (sym at.0) (sym at.1) represents) in
-    number_listed (number_at w64) c.in-Some.address _ _ c.to_native.ensures (listed.gives_value (Some c.in-Some.address) c.in-Some.ensures.walked c.in-Some.ensures.first)
+returns-in-Some-clause-listed c = λ symbols represents. let found = c.in-Some.ensures in
+    ap Some (sym c.to_native.ensures)
+    ∙ c.scalars_found_are_listed.ensures c.of-map.result _ _ (7, 8) symbols c.args.name (Some c.in-Some.address)
+    c.of-map.ensures.view c.access_unchecked.ensures.at represents found.walked found.first
 
 pub returns-in-None-clause-listed : goal.returns-in-None-clause-listed
 unfolding Represents
-returns-in-None-clause-listed c = λ symbols represents.
-    let at = read_at c.of-map.result _ _ _ c.of-map.ensures.view c.access_unchecked.ensures.at in
-    let listed = c.lookups_find_listed.ensures c.of-map.result _ (λ held. same_bytes c.args.name.now held.now) (7, 8) symbols (λ held q s there. ap (same_bytes c.args.name.now) there) (moved (λ b p. SymbolsRepresent (7, 8) b p symbols) _ _ _ _ (sym at.0) (sym at.1) represents) in
-    none_listed (ScalarRepresents (unsigned w64)) _ (listed.gives_value None c.in-None.ensures.walked c.in-None.ensures.first)
+returns-in-None-clause-listed c = λ symbols represents. let found = c.in-None.ensures in
+    c.scalars_found_are_listed.ensures c.of-map.result _ _ (7, 8) symbols c.args.name None
+    c.of-map.ensures.view c.access_unchecked.ensures.at represents found.walked found.first

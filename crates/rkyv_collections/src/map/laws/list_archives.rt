@@ -12,14 +12,15 @@ use rkyv_base::element::{HasSpec, Represents};
 use rkyv_base::scalars::Scalar;
 use rkyv_base::text::Text;
 use rkyv_base::width::Width;
-use rkyv_keys::keys::{KeyElement, NativeKey};
+use rkyv_keys::keys::{KeyElement, NativeQuery};
 use rkyv_scan::hash::KeyHasher;
 
 /// States that `get` in a root map returns a view of the value of the first equal key.
 ///
 /// The view represents that value of the list.
 pub fn values_found_are_listed<
-    A: NativeKey<K>,
+    A,
+    Q: NativeQuery<A, K>,
     B,
     K: KeyElement + Represents<A>,
     V: Represents<B>,
@@ -27,31 +28,33 @@ pub fn values_found_are_listed<
     W: Width,
 >()
     ensures { FoundAreListed H W.Word K.HasSpec V.HasSpec
-        (native_keys K.represents (hash_at H.hasher K.key_calls) A.fits A.eq)
+        (native_keys K.represents (hash_at H.hasher K.key_calls) Q.fits Q.equals)
         (found_views V.represents) }
 {}
 
 /// States that `get` in a root map of scalars finds the value of the first equal key.
 pub fn scalars_found_are_listed<
-    A: NativeKey<K>,
+    A,
+    Q: NativeQuery<A, K>,
     N: Scalar,
     K: KeyElement + Represents<A>,
     H: KeyHasher,
     W: Width,
 >()
     ensures { FoundAreListed H W.Word K.HasSpec N.HasSpec
-        (native_keys K.represents (hash_at H.hasher K.key_calls) A.fits A.eq)
+        (native_keys K.represents (hash_at H.hasher K.key_calls) Q.fits Q.equals)
         (found_scalars N.encoding) }
 {}
 
 /// States that `get` in a root map of texts finds the bytes of the text of the first equal key.
 pub fn texts_found_are_listed<
-    A: NativeKey<K>,
+    A,
+    Q: NativeQuery<A, K>,
     K: KeyElement + Represents<A>,
     H: KeyHasher,
     W: Width,
 >()
     ensures { FoundAreListed H W.Word K.HasSpec ⟦<Text<W> as HasSpec>⟧
-        (native_keys K.represents (hash_at H.hasher K.key_calls) A.fits A.eq)
+        (native_keys K.represents (hash_at H.hasher K.key_calls) Q.fits Q.equals)
         (found_texts W.word) }
 {}

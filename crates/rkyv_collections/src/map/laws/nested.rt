@@ -9,7 +9,7 @@ ghost use Rattle.rkyv_collections.specs.Map.NestedWrites.{
 
 use rkyv_base::element::{Element, Represents};
 use rkyv_base::width::Width;
-use rkyv_keys::keys::{KeyElement, NativeKey};
+use rkyv_keys::keys::{KeyElement, NativeQuery};
 use rkyv_scan::hash::KeyHasher;
 
 /// States that a write of one value that keeps it valid is a write among its map's parts.
@@ -32,7 +32,8 @@ pub fn nested_writes_keep_maps<K: KeyElement, V: Element, H: KeyHasher, W: Width
 ///
 /// The map represents the list with the new value in the first pair with an equal key.
 pub fn nested_writes_represent<
-    A: NativeKey<K>,
+    A,
+    Q: NativeQuery<A, K>,
     B,
     K: KeyElement + Represents<A>,
     V: Represents<B>,
@@ -40,5 +41,5 @@ pub fn nested_writes_represent<
     W: Width,
 >()
     ensures { NestedWritesRepresent W.word K.spec V.spec
-        (native_keys K.represents (hash_at H.hasher K.key_calls) A.fits A.eq) V.represents }
+        (native_keys K.represents (hash_at H.hasher K.key_calls) Q.fits Q.equals) V.represents }
 {}

@@ -14,14 +14,15 @@ use rkyv_base::element::{HasSpec, Represents};
 use rkyv_base::scalars::Scalar;
 use rkyv_base::text::Text;
 use rkyv_base::width::Width;
-use rkyv_keys::keys::{KeyElement, NativeKey};
+use rkyv_keys::keys::{KeyElement, NativeQuery};
 use rkyv_scan::hash::KeyHasher;
 
 /// States that a lookup in a root index map finds the index of the first equal key and its value.
 ///
 /// The value is a view that represents that of the list.
 pub fn values_found_are_listed<
-    A: NativeKey<K>,
+    A,
+    Q: NativeQuery<A, K>,
     B,
     K: KeyElement + Represents<A>,
     V: Represents<B>,
@@ -29,31 +30,33 @@ pub fn values_found_are_listed<
     W: Width,
 >()
     ensures { FoundAreListed H W.Word K.HasSpec V.HasSpec
-        (native_keys K.represents (hash_at H.hasher K.key_calls) A.fits A.eq)
+        (native_keys K.represents (hash_at H.hasher K.key_calls) Q.fits Q.equals)
         (found_views V.represents) }
 {}
 
 /// States the same of a root index map of scalars, whose values are those of the list.
 pub fn scalars_found_are_listed<
-    A: NativeKey<K>,
+    A,
+    Q: NativeQuery<A, K>,
     N: Scalar,
     K: KeyElement + Represents<A>,
     H: KeyHasher,
     W: Width,
 >()
     ensures { FoundAreListed H W.Word K.HasSpec N.HasSpec
-        (native_keys K.represents (hash_at H.hasher K.key_calls) A.fits A.eq)
+        (native_keys K.represents (hash_at H.hasher K.key_calls) Q.fits Q.equals)
         (found_scalars N.encoding) }
 {}
 
 /// States the same of a root index map of texts, whose values have the bytes of those of the list.
 pub fn texts_found_are_listed<
-    A: NativeKey<K>,
+    A,
+    Q: NativeQuery<A, K>,
     K: KeyElement + Represents<A>,
     H: KeyHasher,
     W: Width,
 >()
     ensures { FoundAreListed H W.Word K.HasSpec ⟦<Text<W> as HasSpec>⟧
-        (native_keys K.represents (hash_at H.hasher K.key_calls) A.fits A.eq)
+        (native_keys K.represents (hash_at H.hasher K.key_calls) Q.fits Q.equals)
         (found_texts W.word) }
 {}

@@ -7,5 +7,5 @@ use Rattle.rkyv_collections.proofs.map.laws.list_archives.scalars_found_are_list
 
 pub returns : goal.returns
 returns g c =
-    let keys = native_keys g.K.Represents.represents (hash_at g.H.KeyHasher.hasher g.K.KeyElement.key_calls) g.A.Query.fits g.A.PartialEq.eq in
-    found_listed _ _ _ _ keys g.met.A.NativeKey.native (found_scalars g.N.Scalar.encoding) (scalar_by_view g.N.Scalar.encoding)
+    let keys = native_keys g.K.Represents.represents (hash_at g.H.KeyHasher.hasher g.K.KeyElement.key_calls) g.Q.Query.fits g.Q.NativeQuery.equals in
+    found_listed _ _ _ _ keys g.met.Q.NativeQuery.finds (found_scalars g.N.Scalar.encoding) (scalar_by_view g.N.Scalar.encoding)

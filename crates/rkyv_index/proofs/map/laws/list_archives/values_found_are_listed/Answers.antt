@@ -7,5 +7,5 @@ use Rattle.rkyv_index.proofs.map.laws.list_archives.values_found_are_listed.Goal
 
 pub returns : goal.returns
 returns g c =
-    let keys = native_keys g.K.Represents.represents (hash_at g.H.KeyHasher.hasher g.K.KeyElement.key_calls) g.A.Query.fits g.A.PartialEq.eq in
-    found_listed _ _ g.met.W.Width.layout.kind _ _ keys g.met.A.NativeKey.native (found_views g.V.Represents.represents) (view_by_view g.V.Represents.represents)
+    let keys = native_keys g.K.Represents.represents (hash_at g.H.KeyHasher.hasher g.K.KeyElement.key_calls) g.Q.Query.fits g.Q.NativeQuery.equals in
+    found_listed _ _ g.met.W.Width.layout.kind _ _ keys g.met.Q.NativeQuery.finds (found_views g.V.Represents.represents) (view_by_view g.V.Represents.represents)
