@@ -15,10 +15,10 @@ macro_rules! expect_eq {
     };
 }
 
+mod closure_writes;
 mod error_traits;
 mod errors;
 mod examples;
-mod lending;
 mod memory;
 mod own;
 mod parts;

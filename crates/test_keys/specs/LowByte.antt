@@ -18,7 +18,7 @@ use Rattle.rkyv_keys.specs.Keys.{IsKey, IsQuery, ReadsAnywhere}
 use Rattle.rkyv_keys.specs.OfValues.{values_same, value_calls, value_fits}
 use Rattle.rkyv_keys.specs.Lemmas.OfValues.{value_equivalence}
 use Rattle.rkyv_keys.specs.Lemmas.OfValues.{value_key, value_query}
-use Rattle.rkyv_keys.specs.Reading.{Refusals}
+use Rattle.rkyv_keys.specs.Deserialize.{DeserializeErrors}
 
 abbrev pub low_spec : ElementSpec
 low_spec = scalar_spec (unsigned w32)
@@ -44,7 +44,7 @@ abbrev pub low_represents : List ℕ → ℕ → ℕ → Type 0
 low_represents = ScalarRepresents (unsigned w32)
 
 -- deserializing a number whose low byte is 0 may fail with `Refused 7`
-abbrev pub low_refuses : Refusals
+abbrev pub low_refuses : DeserializeErrors
 low_refuses b p e = (e ≡ Refused 7) × (low_byte b p ≡ 0)
 
 pub low_element : IsElement low_spec

@@ -69,7 +69,7 @@ impl Answers {
 /// # Requires
 ///
 /// - `answer` is always callable.
-pub fn answers_to_changes<A: Fn(&[u8]) -> Result<bool, VerifyError>>(
+pub fn outcomes_of_changes<A: Fn(&[u8]) -> Result<bool, VerifyError>>(
     archive: &mut [u8],
     answer: A,
 ) -> Answers
@@ -89,18 +89,18 @@ pub fn answers_to_changes<A: Fn(&[u8]) -> Result<bool, VerifyError>>(
     answers
 }
 
-/// Returns the number of archives that pass `is_answered`, of those with one byte inverted.
+/// Returns the number of archives that pass `is_permitted`, of those with one byte inverted.
 ///
 /// # Requires
 ///
-/// - `is_answered` is always callable.
-pub fn answered_flips<A: Fn(&mut [u8]) -> bool>(archive: &mut [u8], is_answered: A) -> usize
-    requires { A.IsAlwaysCallable is_answered }
+/// - `is_permitted` is always callable.
+pub fn permitted_flips<A: Fn(&mut [u8]) -> bool>(archive: &mut [u8], is_permitted: A) -> usize
+    requires { A.IsAlwaysCallable is_permitted }
 {
     let mut answered = 0usize;
     for place in 0..archive.len() {
         archive[place] ^= 0xff;
-        if is_answered(&mut *archive) {
+        if is_permitted(&mut *archive) {
             answered = answered.wrapping_add(1);
         }
         archive[place] ^= 0xff;

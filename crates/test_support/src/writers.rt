@@ -66,7 +66,7 @@ impl Writer for LateWriter {
 #[derive(Drop)]
 pub struct BrokenWriter {
     failures: u64,
-    asked: u8,
+    calls: u8,
 }
 
 /// A write failed; no byte is written.
@@ -76,12 +76,12 @@ pub struct Broken;
 impl BrokenWriter {
     /// Returns a writer with a number of earlier failures.
     pub fn new(failures: u64) -> BrokenWriter {
-        BrokenWriter { failures, asked: 0 }
+        BrokenWriter { failures, calls: 0 }
     }
 
     /// Returns the number of writes, at most 255.
-    pub fn asked(&self) -> u8 {
-        self.asked
+    pub fn calls(&self) -> u8 {
+        self.calls
     }
 }
 
@@ -99,7 +99,7 @@ impl Writer for BrokenWriter {
     }
 
     fn write(&mut self, _bytes: &[u8]) -> Result<(), Broken> {
-        self.asked = self.asked.saturating_add(1);
+        self.calls = self.calls.saturating_add(1);
         if self.failures < u64::MAX {
             self.failures += 1;
         }

@@ -34,7 +34,7 @@ mod reading;
 mod refusals;
 mod sealed;
 mod starts;
-mod strangers;
+mod untrusted;
 mod walks;
 mod wide;
 mod writers;

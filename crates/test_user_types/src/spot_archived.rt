@@ -1,9 +1,7 @@
 //! The archived form of spots.
-ghost use Rattle.std.specs.Prelude.{◌≡◌};
 ghost use Rattle.rkyv_base.specs.View.{IsValidView, AtView};
 ghost use Rattle.test_user_types.specs.Spot.{
   SpotRepresents,
-  int_spec,
   spot_element,
   spot_format,
   spot_is_format,
@@ -75,17 +73,6 @@ impl<S: Writer, W: Width> Serialize<S, W> for Spot {
         let pair = (self.x, self.y);
         <(i32, i32) as Serialize<S, W>>::serialize(&pair, alloc, serializer)
     }
-}
-
-/// Returns the first coordinate of a spot.
-///
-/// # Requires
-///
-/// - A valid spot is at the position of the view.
-pub fn x(spot: View<'_, ArchivedSpot>) -> i32
-    requires { IsValidView spot_spec spot }
-{
-    spot.at::<Entry<i32, i32>>(spot.pos()).key().to_native()
 }
 
 /// Returns the spot.

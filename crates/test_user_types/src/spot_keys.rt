@@ -2,8 +2,8 @@
 ghost use Rattle.std.specs.Prelude.{◌≡◌, IsTrue, MatchResult, ◌↔◌};
 ghost use Rattle.rkyv_base.specs.View.{IsValidView, AtView};
 ghost use Rattle.rkyv_keys.specs.Calls.{after_calls};
-ghost use Rattle.rkyv_keys.specs.Places.{at_view, at_views};
-ghost use Rattle.rkyv_keys.specs.Reading.{nothing_fails};
+ghost use Rattle.rkyv_keys.specs.AtViews.{at_view, at_views};
+ghost use Rattle.rkyv_keys.specs.Deserialize.{nothing_fails};
 ghost use Rattle.test_user_types.specs.Spot.{SpotRepresents, spot_spec};
 ghost use Rattle.test_user_types.specs.SpotKeys.{spot_calls, spot_equivalence, spot_fits};
 ghost use Rattle.test_user_types.specs.SpotKeys.{spot_fits_its_equal, spot_key, spot_key_calls};
@@ -93,7 +93,7 @@ impl MatchesNative<Spot> for ArchivedSpot {
 }
 
 impl Deserialize<Spot> for ArchivedSpot {
-    ghost refuses = { nothing_fails };
+    ghost deserialize_fails = { nothing_fails };
 
     fn deserialize(_alloc: Global, view: View<'_, ArchivedSpot>) -> Result<Spot, ReadError>
         requires { IsValidView spot_spec view }

@@ -72,7 +72,7 @@ fn set(alloc: Global) -> (Answer, bool) {
 }
 
 #[test]
-fn no_item_and_no_hash_of_a_table_is_taken(rt: HostRuntime) {
+fn table_allocates_before_reading_items(rt: HostRuntime) {
     let (_, right) = table(rt.alloc());
     assert!(rt; right);
 }
@@ -83,7 +83,7 @@ fn a_table_succeeds(rt: HostRuntime) {
 }
 
 #[test]
-fn no_pair_of_a_table_is_taken(rt: HostRuntime) {
+fn table_allocates_before_reading_pairs(rt: HostRuntime) {
     let (_, right) = table_of_pairs(rt.alloc());
     assert!(rt; right);
 }
@@ -94,7 +94,7 @@ fn a_table_of_pairs_succeeds(rt: HostRuntime) {
 }
 
 #[test]
-fn no_pair_of_a_map_is_taken(rt: HostRuntime) {
+fn map_allocates_before_reading_pairs(rt: HostRuntime) {
     let (_, right) = map(rt.alloc());
     assert!(rt; right);
 }
@@ -105,7 +105,7 @@ fn a_map_succeeds(rt: HostRuntime) {
 }
 
 #[test]
-fn no_key_of_a_set_is_taken(rt: HostRuntime) {
+fn set_allocates_before_reading_keys(rt: HostRuntime) {
     let (_, right) = set(rt.alloc());
     assert!(rt; right);
 }

@@ -90,7 +90,7 @@ fn table_of_wonderful() -> [u8; 59] {
 }
 
 #[test]
-fn a_failed_allocation_of_the_writer_is_its_fault(rt: HostRuntime) {
+fn writer_state_matches_the_outcome(rt: HostRuntime) {
     let (_, right) = root(rt.alloc(), &7u32, &[7, 0, 0, 0]);
     assert!(rt; right);
 }
@@ -104,7 +104,7 @@ fn a_root_succeeds(rt: HostRuntime) {
 }
 
 #[test]
-fn no_text_is_written_before_the_memory_of_its_root(rt: HostRuntime) {
+fn root_allocates_before_writing_its_text(rt: HostRuntime) {
     let (_, right) = root(rt.alloc(), &"wonderful", &wonderful());
     assert!(rt; right);
 }
@@ -116,7 +116,7 @@ fn the_root_of_a_text_succeeds(rt: HostRuntime) {
 }
 
 #[test]
-fn no_part_of_a_table_is_written_before_its_memory(rt: HostRuntime) {
+fn table_allocates_before_writing_its_parts(rt: HostRuntime) {
     let (_, right) = table(rt.alloc(), "wonderful", &table_of_wonderful());
     assert!(rt; right);
 }
@@ -128,7 +128,7 @@ fn a_table_of_a_text_succeeds(rt: HostRuntime) {
 }
 
 #[test]
-fn an_archive_is_whole_or_has_an_error_of_memory(rt: HostRuntime) {
+fn archive_is_complete_or_fails_to_allocate(rt: HostRuntime) {
     let right = match to_bytes(rt.alloc(), &"wonderful") {
         Ok(bytes) => bytes.as_slice() == wonderful().as_slice(),
         Err(WriteError::Memory | WriteError::Writer(NoMemory)) => true,

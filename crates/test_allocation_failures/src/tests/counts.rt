@@ -95,7 +95,7 @@ fn an_inline_text_makes_two_allocations_and_succeeds(rt: HostRuntime) {
 
 // The writer makes one for each of its three pieces: 9, 3 and 8 bytes, and doubles what it has.
 #[test]
-fn a_far_text_makes_four_allocations_and_succeeds(rt: HostRuntime) {
+fn an_out_of_line_text_makes_four_allocations_and_succeeds(rt: HostRuntime) {
     let ready = allocates(rt.alloc(), 4);
     assert!(rt; ready && to_bytes(rt.alloc(), &"wonderful").is_ok());
 }

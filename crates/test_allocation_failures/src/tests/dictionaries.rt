@@ -3,7 +3,7 @@
 use rkyv_base::errors::WriteError;
 use rkyv_base::writer::NoMemory;
 use rkyv_dict::archives::build;
-use rkyv_dict::errors::wants_memory;
+use rkyv_dict::errors::is_allocation_failure;
 use rkyv_dict::form::{ArchiveWidth, PairList};
 use std::alloc::Global;
 use test_support::archives::archive;
@@ -26,10 +26,10 @@ fn built(alloc: Global) -> Option<Result<Vec<u8>, WriteError<NoMemory>>> {
 }
 
 #[test]
-fn a_build_is_whole_or_wants_memory(rt: HostRuntime) {
+fn build_is_complete_or_fails_to_allocate(rt: HostRuntime) {
     let right = match built(rt.alloc()) {
         Some(Ok(bytes)) => bytes.as_slice() == one_text().as_slice(),
-        Some(Err(cause)) => wants_memory(&cause),
+        Some(Err(cause)) => is_allocation_failure(&cause),
         None => true,
     };
     assert!(rt; right);

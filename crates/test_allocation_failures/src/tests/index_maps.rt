@@ -30,7 +30,7 @@ fn one_built(alloc: Global) -> Option<Result<Vec<u8>, WriteError<NoMemory>>> {
 }
 
 // Returns whether these bytes are built, or an allocation fails.
-fn is_whole_or_wants_memory(
+fn is_complete_or_fails_to_allocate(
     built: Option<Result<Vec<u8>, WriteError<NoMemory>>>,
     bytes: &[u8],
 ) -> bool {
@@ -52,14 +52,14 @@ fn is_whole(built: Option<Result<Vec<u8>, WriteError<NoMemory>>>, bytes: &[u8]) 
 }
 
 #[test]
-fn a_map_is_whole_or_wants_memory(rt: HostRuntime) {
-    let right = is_whole_or_wants_memory(four_built(rt.alloc()), &four_entries());
+fn map_is_complete_or_fails_to_allocate(rt: HostRuntime) {
+    let right = is_complete_or_fails_to_allocate(four_built(rt.alloc()), &four_entries());
     assert!(rt; right);
 }
 
 #[test]
-fn a_set_is_whole_or_wants_memory(rt: HostRuntime) {
-    let right = is_whole_or_wants_memory(one_built(rt.alloc()), &one_index_key());
+fn set_is_complete_or_fails_to_allocate(rt: HostRuntime) {
+    let right = is_complete_or_fails_to_allocate(one_built(rt.alloc()), &one_index_key());
     assert!(rt; right);
 }
 
@@ -99,7 +99,7 @@ fn behind_a_nine(alloc: Global) -> Option<(bool, bool)> {
 }
 
 #[test]
-fn no_byte_is_written_before_the_growths(rt: HostRuntime) {
+fn map_allocates_before_writing(rt: HostRuntime) {
     let right = match behind_a_nine(rt.alloc()) {
         Some((_, right)) => right,
         None => true,
@@ -135,7 +135,7 @@ fn items_back(alloc: Global) -> Result<Result<bool, ReadError>, VerifyError> {
 }
 
 // Returns whether the list is whole, or its allocation fails.
-fn is_back_or_wants_memory(back: Result<Result<bool, ReadError>, VerifyError>) -> bool {
+fn is_read_back_or_fails_to_allocate(back: Result<Result<bool, ReadError>, VerifyError>) -> bool {
     match back {
         Ok(Ok(whole)) => whole,
         Ok(Err(cause)) => matches!(cause, ReadError::Memory),
@@ -144,9 +144,9 @@ fn is_back_or_wants_memory(back: Result<Result<bool, ReadError>, VerifyError>) -
 }
 
 #[test]
-fn lists_are_read_back_or_want_memory(rt: HostRuntime) {
-    let pairs = is_back_or_wants_memory(pairs_back(rt.alloc()));
-    let items = is_back_or_wants_memory(items_back(rt.alloc()));
+fn lists_are_read_back_or_fail_to_allocate(rt: HostRuntime) {
+    let pairs = is_read_back_or_fails_to_allocate(pairs_back(rt.alloc()));
+    let items = is_read_back_or_fails_to_allocate(items_back(rt.alloc()));
     assert!(rt; pairs && items);
 }
 

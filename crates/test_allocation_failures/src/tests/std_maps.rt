@@ -51,7 +51,7 @@ fn written(alloc: Global) -> Option<Result<bool, WriteError<NoMemory>>> {
 }
 
 #[test]
-fn an_archive_is_whole_or_wants_memory(rt: HostRuntime) {
+fn archive_is_complete_or_fails_to_allocate(rt: HostRuntime) {
     let right = match written(rt.alloc()) {
         Some(Ok(whole)) => whole,
         Some(Err(cause)) => matches!(cause, WriteError::Memory | WriteError::Writer(_)),
@@ -81,7 +81,7 @@ fn read_back(alloc: Global) -> Result<Result<bool, ReadError>, VerifyError> {
 }
 
 #[test]
-fn a_map_is_read_back_or_wants_memory(rt: HostRuntime) {
+fn map_is_read_back_or_fails_to_allocate(rt: HostRuntime) {
     let right = match read_back(rt.alloc()) {
         Ok(Ok(whole)) => whole,
         Ok(Err(cause)) => matches!(cause, ReadError::Memory),

@@ -133,7 +133,7 @@ fn is_refused<V: Serialize<VecWriter, Narrow>>(alloc: Global, value: &V) -> bool
 }
 
 #[test]
-fn an_entry_too_large_is_refused(rt: HostRuntime) {
+fn rejects_entries_that_are_too_large(rt: HostRuntime) {
     let sizes = [
         <Entry<Huge, ()> as Element>::size(),
         whole_size::<Huge, u16>(),

@@ -122,7 +122,7 @@ fn a_limit_passes_an_empty_piece_on(rt: HostRuntime) {
 }
 
 #[test]
-fn a_limit_passes_the_front_of_a_piece_on(rt: HostRuntime) {
+fn limit_passes_on_the_prefix_that_fits(rt: HostRuntime) {
     let mut writer = LimitWriter::new(PieceWriter::new(rt.alloc()), 3);
     let whole = writer.write(&[1]).is_ok();
     let front = matches!(writer.write(&[2, 3, 4]), Err(LimitFault::Full));

@@ -47,7 +47,7 @@ fn pairs_are_read_in_place(rt: HostRuntime) {
 }
 
 #[test]
-fn what_is_no_value_is_refused(rt: HostRuntime) {
+fn rejects_invalid_roots(rt: HostRuntime) {
     let refused = [
         refused::<Narrow, bool>(&[2]),
         refused::<Narrow, char>(&[0x00, 0xd8, 0x00, 0x00]),

@@ -134,7 +134,7 @@ fn narrow_counts_and_distances_at_their_limits(rt: HostRuntime) {
     let lowest = word;
     Narrow::write_distance(&mut word, 2_147_483_647);
     let greatest = Narrow::read_distance(&word, 0);
-    let rest_in_range = [
+    let distances = [
         Narrow::distance(2_147_483_647, 0),
         Narrow::distance(2_147_483_648, 0),
         Narrow::distance(16, 2_147_483_664),
@@ -142,7 +142,7 @@ fn narrow_counts_and_distances_at_their_limits(rt: HostRuntime) {
     ];
     let words = [full, lowest, word];
     expect_eq!(rt;
-        ([none, one, most], [least, greatest], rest_in_range, words),
+        ([none, one, most], [least, greatest], distances, words),
         (
             [0, 1, 4_294_967_295],
             [-2_147_483_648, 2_147_483_647],
@@ -167,17 +167,17 @@ fn wide_counts_and_distances_at_their_limits(rt: HostRuntime) {
     let lowest = word;
     Wide::write_distance(&mut word, 9_223_372_036_854_775_807);
     let greatest = Wide::read_distance(&word, 0);
-    let overflow = 9_223_372_036_854_775_807;
-    let rest_in_range = [
-        Wide::distance(overflow, 0),
-        Wide::distance(overflow + 1, 0),
-        Wide::distance(0, overflow + 1),
-        Wide::distance(0, overflow + 2),
+    let limit = 9_223_372_036_854_775_807;
+    let distances = [
+        Wide::distance(limit, 0),
+        Wide::distance(limit + 1, 0),
+        Wide::distance(0, limit + 1),
+        Wide::distance(0, limit + 2),
     ];
     let (low, high) = (-9_223_372_036_854_775_808, 9_223_372_036_854_775_807);
     let words = [full, lowest, word];
     expect_eq!(rt;
-        ([none, one, most], [least, greatest], rest_in_range, words),
+        ([none, one, most], [least, greatest], distances, words),
         (
             [0, 1, 18_446_744_073_709_551_615],
             [low, high],

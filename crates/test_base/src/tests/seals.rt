@@ -146,7 +146,7 @@ fn a_value_is_written_behind_its_key(rt: HostRuntime) -> Result<(), Fail> {
 }
 
 #[test]
-fn an_archive_is_lent_and_given_back(rt: HostRuntime) {
+fn archive_seal_returns_the_archive(rt: HostRuntime) {
     let mut bytes = [1, 2];
     let mut whole = ArchiveSeal::<u8>::new(&mut bytes, 1);
     let begun = whole.pos();
@@ -158,7 +158,7 @@ fn an_archive_is_lent_and_given_back(rt: HostRuntime) {
 }
 
 #[test]
-fn what_is_refused_to_readers_is_refused_to_writers(rt: HostRuntime) {
+fn access_mut_rejects_invalid_roots(rt: HostRuntime) {
     let (mut bytes, mut zeros) = ([2], [0, 0, 0, 0, 0]);
     let refused = [
         refused_to_write::<Narrow, bool>(&mut bytes),
@@ -197,7 +197,7 @@ fn inline_text_is_read_in_place(rt: HostRuntime) {
 }
 
 #[test]
-fn inline_text_is_raised_in_place(rt: HostRuntime) {
+fn inline_text_is_uppercased_in_place(rt: HostRuntime) {
     let mut bytes = [0x68, 0x65, 0x6c, 0x6c, 0x6f, 255, 255, 255, 97];
     let mut full = [0x7a; 8];
     let mut seal = Seal::<Text>::over(&mut bytes, 0);
@@ -248,7 +248,7 @@ fn wide_text_is_read_in_place(rt: HostRuntime) {
 }
 
 #[test]
-fn wide_text_is_raised_in_place(rt: HostRuntime) {
+fn wide_text_is_uppercased_in_place(rt: HostRuntime) {
     let mut bytes = [
         0x77, 0x6f, 0x6e, 0x64, 0x65, 0x72, 0x66, 0x75, 0x6c, 255, 97, 97, 97, 97, 97, 97,
     ];

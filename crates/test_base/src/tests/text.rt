@@ -89,7 +89,7 @@ fn two_texts_are_one_behind_the_other(rt: HostRuntime) {
 }
 
 #[test]
-fn what_is_no_text_is_refused(rt: HostRuntime) {
+fn rejects_invalid_texts(rt: HostRuntime) {
     let mut bytes = *b"wonderful\0\0\0\x89\0\0\0\xf4\xff\xff\xff";
     bytes[0] = 0xff;
     let refused = [
@@ -168,7 +168,7 @@ fn has_word(alloc: Global, len: usize, root: usize, word: &[u8]) -> bool {
 }
 
 #[test]
-fn the_first_word_tells_the_length(rt: HostRuntime) {
+fn first_word_encodes_the_length(rt: HostRuntime) {
     let alloc = rt.alloc();
     let right = [
         has_word(alloc, 9, 12, &[0x89, 0, 0, 0]),

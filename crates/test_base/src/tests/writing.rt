@@ -9,7 +9,7 @@ use test_support::writers::{Broken, BrokenWriter, LateWriter, NoRoom};
 use test_support::written::is_archived_as;
 
 #[test]
-fn a_writer_into_memory_holds_what_was_written(rt: HostRuntime) {
+fn vec_writer_stores_the_written_bytes(rt: HostRuntime) {
     let mut writer = VecWriter::new(rt.alloc());
     let begins = writer.pos();
     let first = [
@@ -135,11 +135,11 @@ fn nothing_is_written_after_a_fault(rt: HostRuntime) {
         write_root(rt.alloc(), &(1u32, 2u32), &mut writer),
         Err(WriteError::Writer(Broken))
     );
-    expect_eq!(rt; (refused, writer.asked(), writer.failures()), (true, 1, 1));
+    expect_eq!(rt; (refused, writer.calls(), writer.failures()), (true, 1, 1));
 }
 
 #[test]
-fn failures_stay_at_the_greatest_number(rt: HostRuntime) {
+fn failure_count_saturates(rt: HostRuntime) {
     let mut writer = BrokenWriter::new(18_446_744_073_709_551_614);
     let first = (append(&mut writer, &[1]).is_err(), writer.failures());
     let second = (append(&mut writer, &[1]).is_err(), writer.failures());
@@ -159,8 +159,8 @@ fn write_whole(
     write_root(alloc, &(1u8, 2u32), writer)
 }
 
-// Returns `true` if a writer with this limit is full, and has a front of these bytes.
-fn keeps_a_front(alloc: Global, limit: u64) -> bool {
+// Returns `true` if a writer with this limit is full, and has a prefix of these bytes.
+fn keeps_a_prefix(alloc: Global, limit: u64) -> bool {
     let mut writer = LimitWriter::new(VecWriter::new(alloc), limit);
     let full = matches!(
         write_whole(alloc, &mut writer),
@@ -173,10 +173,10 @@ fn keeps_a_front(alloc: Global, limit: u64) -> bool {
 }
 
 #[test]
-fn a_limit_keeps_a_front_of_the_archive(rt: HostRuntime) {
+fn limit_keeps_a_prefix_of_the_archive(rt: HostRuntime) {
     let mut right = true;
     for limit in 0..12 {
-        right = right && keeps_a_front(rt.alloc(), limit);
+        right = right && keeps_a_prefix(rt.alloc(), limit);
     }
     let mut writer = LimitWriter::new(VecWriter::new(rt.alloc()), 12);
     let root = write_whole(rt.alloc(), &mut writer).ok();
@@ -199,7 +199,7 @@ fn is_full_within(answer: Result<(), LimitFault<LimitFault<NoMemory>>>) -> bool 
 }
 
 #[test]
-fn a_fault_of_the_inner_writer_is_told_in_its_place(rt: HostRuntime) {
+fn errors_of_the_inner_writer_are_returned(rt: HostRuntime) {
     let mut writer = LimitWriter::new(LimitWriter::new(VecWriter::new(rt.alloc()), 3), 5);
     // The piece fits in the outer limit, and the inner writer takes three of its bytes.
     let first = is_full_within(writer.write(&[1, 2, 3, 4]));
@@ -225,17 +225,17 @@ fn a_fault_of_the_inner_writer_is_told_in_its_place(rt: HostRuntime) {
 }
 
 #[test]
-fn a_full_writer_does_not_ask_the_inner_one(rt: HostRuntime) {
+fn full_writer_does_not_call_the_inner_writer(rt: HostRuntime) {
     let mut writer = LimitWriter::new(BrokenWriter::new(0), 0);
     let full = matches!(writer.write(&[1]), Err(LimitFault::Full));
     let broken = matches!(writer.write(&[]), Err(LimitFault::Inner(Broken)));
     let failures = writer.failures();
-    let asked = writer.into_inner().asked();
-    expect_eq!(rt; (full, broken, failures, asked), (true, true, 2, 1));
+    let calls = writer.into_inner().calls();
+    expect_eq!(rt; (full, broken, failures, calls), (true, true, 2, 1));
 }
 
 #[test]
-fn lent_parts_are_archived_as_a_pair(rt: HostRuntime) {
+fn borrowed_parts_are_archived_as_a_pair(rt: HostRuntime) {
     let value = 2u32;
     let adapter = EntryAdapter::<u8, &u32, u8, u32>::new(1, &value);
     let archived = is_archived_as(rt.alloc(), &adapter, &[1, 0, 0, 0, 2, 0, 0, 0]);

@@ -71,10 +71,10 @@ pub(crate) fn equal_maps<K: KeyElement, V: ElementEq, H: KeyHasher, W: Width>(
 ) -> Result<(bool, bool), VerifyError> {
     let root = access_in::<W, HashMapOf<K, V, H, W>>(bytes)?;
     let map = ArchivedHashMap::<K, V, H, W>::of(root);
-    let stranger = access_in::<W, HashMapOf<K, V, H, W>>(other)?;
-    let others = ArchivedHashMap::<K, V, H, W>::of(stranger);
-    let same = HashMapOf::<K, V, H, W>::same(root, stranger);
-    Ok((map.eq_map(others), same))
+    let other_root = access_in::<W, HashMapOf<K, V, H, W>>(other)?;
+    let other_map = ArchivedHashMap::<K, V, H, W>::of(other_root);
+    let same = HashMapOf::<K, V, H, W>::same(root, other_root);
+    Ok((map.eq_map(other_map), same))
 }
 
 /// Returns whether two sets are equal, by `eq_set` and by `ElementEq::same`.
@@ -84,10 +84,10 @@ pub(crate) fn equal_sets<K: KeyElement, H: KeyHasher, W: Width>(
 ) -> Result<(bool, bool), VerifyError> {
     let root = access_in::<W, HashSetOf<K, H, W>>(bytes)?;
     let set = ArchivedHashSet::<K, H, W>::of(root);
-    let stranger = access_in::<W, HashSetOf<K, H, W>>(other)?;
-    let others = ArchivedHashSet::<K, H, W>::of(stranger);
-    let same = HashSetOf::<K, H, W>::same(root, stranger);
-    Ok((set.eq_set(others), same))
+    let other_root = access_in::<W, HashSetOf<K, H, W>>(other)?;
+    let other_set = ArchivedHashSet::<K, H, W>::of(other_root);
+    let same = HashSetOf::<K, H, W>::same(root, other_root);
+    Ok((set.eq_set(other_set), same))
 }
 
 /// Returns the number of misplaced keys of a map.

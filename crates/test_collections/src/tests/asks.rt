@@ -78,12 +78,12 @@ fn right_of_both(alloc: Global) -> (usize, usize) {
 }
 
 #[test]
-fn iterators_are_asked_once_more_than_is_claimed_at_most(rt: HostRuntime) {
+fn iterators_are_called_at_most_len_plus_one_times(rt: HostRuntime) {
     expect_eq!(rt; right_of_both(rt.alloc()), (4 * 6, 4 * 6));
 }
 
 #[test]
-fn an_end_or_a_surplus_is_the_last_answer(rt: HostRuntime) {
+fn no_call_follows_the_end_or_an_extra_item(rt: HostRuntime) {
     let (all, alloc, usual) = (usize::MAX, rt.alloc(), (7, 8));
     let maps = [
         asks_of_map(alloc, 2, 3, usual),

@@ -59,7 +59,7 @@ fn a_found_value_is_written_over_the_bare_bytes(rt: HostRuntime) {
 }
 
 #[test]
-fn where_no_key_fits_the_bare_bytes_stay(rt: HostRuntime) {
+fn lookup_of_a_missing_key_changes_nothing(rt: HostRuntime) {
     let mut bytes = four_pairs();
     let place = change_small(&mut bytes, 9, 70);
     expect_eq!(rt; (place, bytes == four_pairs()), (Some(None), true));

@@ -99,7 +99,7 @@ fn one_pair_is_found(rt: HostRuntime) {
 }
 
 // Counts a call of a comparison, and returns `accepts`.
-fn answer(asks: &Cell<usize>, accepts: bool) -> bool {
+fn count_call(asks: &Cell<usize>, accepts: bool) -> bool {
     asks.set(asks.get().wrapping_add(1));
     accepts
 }
@@ -109,7 +109,7 @@ fn answer(asks: &Cell<usize>, accepts: bool) -> bool {
 fn value_with(bytes: &[u8], key: i8, accepts: bool) -> Result<(Option<u64>, usize), VerifyError> {
     let map = ArchivedHashMap::of(access::<Small>(bytes)?);
     let asks = Cell::new(0usize);
-    match map.get_with(&key, |_: &i8, _: View<'_, i8>| answer(&asks, accepts)) {
+    match map.get_with(&key, |_: &i8, _: View<'_, i8>| count_call(&asks, accepts)) {
         Some(value) => Ok((Some(value.pos()), asks.get())),
         None => Ok((None, asks.get())),
     }
@@ -119,7 +119,7 @@ fn value_with(bytes: &[u8], key: i8, accepts: bool) -> Result<(Option<u64>, usiz
 fn pair_with(bytes: &[u8], key: i8, accepts: bool) -> Result<(Option<u64>, usize), VerifyError> {
     let map = ArchivedHashMap::of(access::<Small>(bytes)?);
     let asks = Cell::new(0usize);
-    match map.get_key_value_with(&key, |_: &i8, _: View<'_, i8>| answer(&asks, accepts)) {
+    match map.get_key_value_with(&key, |_: &i8, _: View<'_, i8>| count_call(&asks, accepts)) {
         Some((_, value)) => Ok((Some(value.pos()), asks.get())),
         None => Ok((None, asks.get())),
     }
@@ -135,7 +135,7 @@ fn small_with(bytes: &[u8], key: i8, accepts: bool) -> [Option<(Option<u64>, usi
 
 // In a small table each control byte is mirrored, so a comparison that fails sees each pair twice.
 #[test]
-fn a_comparison_may_be_handed_in(rt: HostRuntime) {
+fn lookup_takes_a_comparison(rt: HostRuntime) {
     let one = one_pair();
     let twice = one_key_twice();
     let found = [
@@ -222,7 +222,7 @@ fn pairs_are_found_and_printed(rt: HostRuntime) {
 }
 
 #[test]
-fn the_order_of_writing_is_no_difference(rt: HostRuntime) {
+fn equality_ignores_insertion_order(rt: HostRuntime) {
     let four = four_pairs();
     let backwards = four_pairs_backwards();
     let one = one_pair();
@@ -241,7 +241,7 @@ fn the_order_of_writing_is_no_difference(rt: HostRuntime) {
 }
 
 #[test]
-fn of_a_key_that_was_written_twice_the_first_is_found(rt: HostRuntime) {
+fn first_of_equal_keys_is_found(rt: HostRuntime) {
     let bytes = one_key_twice();
     let (counts, found) = (small_counts(&bytes), small(&bytes, 1));
     let equal = small_equal(&bytes, &bytes);
@@ -258,7 +258,7 @@ fn of_a_key_that_was_written_twice_the_first_is_found(rt: HostRuntime) {
 }
 
 #[test]
-fn keys_that_a_lookup_does_not_answer_are_counted(rt: HostRuntime) {
+fn misplaced_keys_are_counted(rt: HostRuntime) {
     repeated_keys_are_misplaced::<i8, i8, FxHasher64, Narrow>();
     let mut moved = one_pair();
     moved[0] = 2;
@@ -360,9 +360,9 @@ fn a_map_inside_is_checked(rt: HostRuntime) {
     expect_eq!(rt; (unwrapped, outside), (true, true));
 }
 
-// Each valid front of the archive ends with eight zeros, and is an empty map.
+// Each valid prefix of the archive ends with eight zeros, and is an empty map.
 #[test]
-fn each_front_of_an_archive_is_answered(rt: HostRuntime) {
+fn prefixes_that_are_empty_maps(rt: HostRuntime) {
     let bytes = nested();
     let mut right = true;
     for len in 0..112 {

@@ -172,7 +172,7 @@ fn a_found_value_is_written_in_place(rt: HostRuntime) {
 }
 
 #[test]
-fn where_no_key_fits_nothing_is_lent(rt: HostRuntime) {
+fn unsuccessful_lookup_returns_no_seal(rt: HostRuntime) {
     let mut bytes = one_number();
     let replaced = replace(&mut bytes, 2, 7).ok();
     let beside_key = replace_beside_key(&mut bytes, 2, 7).ok();
@@ -186,7 +186,7 @@ fn where_no_key_fits_nothing_is_lent(rt: HostRuntime) {
 }
 
 #[test]
-fn a_pair_is_lent_with_its_key(rt: HostRuntime) {
+fn sealed_pair_has_its_key(rt: HostRuntime) {
     let mut bytes = one_number();
     let before = replace_beside_key(&mut bytes, 1, 7).ok();
     expect_eq!(rt; (before, bytes[4]), (Some(Some((1, 2))), 7));
@@ -225,7 +225,7 @@ fn key_by(bytes: &mut [u8], key: u32, accepts: bool) -> Result<Option<u32>, Veri
 }
 
 #[test]
-fn a_comparison_may_be_handed_in(rt: HostRuntime) {
+fn sealed_lookup_takes_a_comparison(rt: HostRuntime) {
     let mut bytes = one_number();
     let key = key_by(&mut bytes, 1, true).ok();
     let before = replace_by(&mut bytes, 1, 7, true).ok();
@@ -453,7 +453,7 @@ fn raised(alloc: Global) -> Option<([Option<Option<bool>>; 3], bool)> {
 }
 
 #[test]
-fn a_text_is_raised_in_place(rt: HostRuntime) {
+fn text_is_uppercased_in_place(rt: HostRuntime) {
     expect_eq!(rt; raised(rt.alloc()), Some(([Some(Some(true)); 3], true)));
 }
 
@@ -467,7 +467,7 @@ fn each_raised(alloc: Global) -> Option<(Option<Option<usize>>, bool)> {
 }
 
 #[test]
-fn each_text_is_raised_in_place(rt: HostRuntime) {
+fn each_text_is_uppercased_in_place(rt: HostRuntime) {
     expect_eq!(rt; each_raised(rt.alloc()), Some((Some(Some(3)), true)));
 }
 

@@ -428,7 +428,7 @@ fn both_hashers_write_a_number_alike(rt: HostRuntime) {
 
 // Writes the map of 1 to 2 with a limit. Returns `true` if the writer keeps the first `limit`
 // bytes, and fails with `Full` if and only if these are not all.
-fn keeps_a_front(alloc: Global, map: &Hashed<HashMap<u32, u32>>, limit: u64) -> bool {
+fn keeps_a_prefix(alloc: Global, map: &Hashed<HashMap<u32, u32>>, limit: u64) -> bool {
     let mut writer = LimitWriter::new(VecWriter::new(alloc), limit);
     let told = match write_root(alloc, map, &mut writer) {
         Ok(pos) => limit == 60 && pos == 48,
@@ -438,12 +438,12 @@ fn keeps_a_front(alloc: Global, map: &Hashed<HashMap<u32, u32>>, limit: u64) -> 
     told && one_number().get(..limit as usize) == Some(writer.into_inner().bytes())
 }
 
-// Returns the number of limits, up to the archive's length, that keep a front of it.
+// Returns the number of limits, up to the archive's length, that keep a prefix of it.
 fn limits_that_keep(alloc: Global) -> Option<usize> {
     let map: Hashed<HashMap<u32, u32>> = Hashed::new(map_of(alloc, &[(1, 2)]).ok()?);
     let mut right = 0usize;
     for limit in 0..61 {
-        if keeps_a_front(alloc, &map, limit) {
+        if keeps_a_prefix(alloc, &map, limit) {
             right = right.wrapping_add(1);
         }
     }
@@ -451,7 +451,7 @@ fn limits_that_keep(alloc: Global) -> Option<usize> {
 }
 
 #[test]
-fn a_limit_keeps_a_front_of_the_archive(rt: HostRuntime) {
+fn limit_keeps_a_prefix_of_the_archive(rt: HostRuntime) {
     expect_eq!(rt; limits_that_keep(rt.alloc()), Some(61));
 }
 

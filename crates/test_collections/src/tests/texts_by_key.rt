@@ -44,7 +44,7 @@ fn raise_three(bytes: &mut [u8]) -> Result<([Option<bool>; 3], [Option<bool>; 2]
 }
 
 #[test]
-fn inline_text_is_raised_by_key(rt: HostRuntime) -> Result<(), Fail> {
+fn inline_text_is_uppercased_by_key(rt: HostRuntime) -> Result<(), Fail> {
     let mut bytes = texts(rt.alloc())?;
     expect_eq!(rt;
         raise_three(bytes.as_mut_slice()).ok(),

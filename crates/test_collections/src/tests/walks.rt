@@ -46,8 +46,8 @@ fn pairs_of<K: Element, V: Element>(
     let mut rest = map.iter();
     let before = (rest.len(), rest.size_hint());
     let (first, second) = (next_pair(&mut rest), next_pair(&mut rest));
-    let rest_in_range = (rest.len(), rest.size_hint());
-    let others = [
+    let after_two = (rest.len(), rest.size_hint());
+    let steps = [
         first,
         second,
         next_pair(&mut rest),
@@ -55,10 +55,7 @@ fn pairs_of<K: Element, V: Element>(
         next_pair(&mut rest),
         next_pair(&mut rest),
     ];
-    Ok((
-        others,
-        [before, rest_in_range, (rest.len(), rest.size_hint())],
-    ))
+    Ok((steps, [before, after_two, (rest.len(), rest.size_hint())]))
 }
 
 // Does the same with keys. Returns the number left after one step.

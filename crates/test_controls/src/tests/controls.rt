@@ -1,7 +1,7 @@
 //! The control bytes of tables, with each kind of group.
 ghost use Rattle.std.specs.Prelude.{IfSome, length, ◌<◌, ◌≤◌, ◌^◌};
 ghost use Rattle.rkyv_table.specs.Controls.Numbers.{control_count};
-ghost use Rattle.rkyv_table.specs.Controls.Shown.{IsFullBucket};
+ghost use Rattle.rkyv_table.specs.Controls.ControlBytes.{IsFullBucket};
 ghost use Rattle.rkyv_table.specs.Controls.Placing.{Accepted};
 
 use rkyv_scan::hash::{FxHasher64, KeyHasher};
@@ -48,7 +48,7 @@ impl Table {
     }
 
     // Returns the bucket that a lookup finds, and the number of strides that it reads.
-    fn asked<G: GroupKind, F: Fn(usize) -> bool>(&self, hash: u64, cmp: F) -> (Option<usize>, u64)
+    fn lookup<G: GroupKind, F: Fn(usize) -> bool>(&self, hash: u64, cmp: F) -> (Option<usize>, u64)
         requires { F.IsAlwaysCallable cmp }
     {
         let mut strides = Strides::new();
@@ -289,14 +289,14 @@ fn finds<G: GroupKind>(alloc: Global) -> Result<bool, AllocError> {
     let apart = Table::written::<G>(alloc, 3, &[0x5000_0000_0000_0001, 0x5200_0000_0000_0000])?;
     let empty = Table::written::<G>(alloc, 3, &[])?;
     Ok(
-        two.asked::<G, _>(2, |_| true) == (Some(2), 1)
-            && two.asked::<G, _>(2, |b| b == 0) == (Some(0), 1)
-            && wrapped.asked::<G, _>(16, |b| b == 16) == (Some(16), 1)
-            && wrapped.asked::<G, _>(16, |b| b == 14) == (Some(14), 1)
-            && wrapped.asked::<G, _>(16, |b| b == 7) == (Some(7), 1)
-            && wrapped.asked::<G, _>(16, |_| false) == (None, 2)
-            && apart.asked::<G, _>(0x5000_0000_0000_0001, |_| true) == (Some(0), 1)
-            && empty.asked::<G, _>(2, |_| true) == (None, 0),
+        two.lookup::<G, _>(2, |_| true) == (Some(2), 1)
+            && two.lookup::<G, _>(2, |b| b == 0) == (Some(0), 1)
+            && wrapped.lookup::<G, _>(16, |b| b == 16) == (Some(16), 1)
+            && wrapped.lookup::<G, _>(16, |b| b == 14) == (Some(14), 1)
+            && wrapped.lookup::<G, _>(16, |b| b == 7) == (Some(7), 1)
+            && wrapped.lookup::<G, _>(16, |_| false) == (None, 2)
+            && apart.lookup::<G, _>(0x5000_0000_0000_0001, |_| true) == (Some(0), 1)
+            && empty.lookup::<G, _>(2, |_| true) == (None, 0),
     )
 }
 
@@ -331,20 +331,20 @@ fn finds_by_false_marks(rt: HostRuntime) -> Result<(), AllocError> {
     let hash = 0x5000_0000_0000_0001;
     let table = Table::written::<generic::Group>(rt.alloc(), 3, &[hash, 0x5200_0000_0000_0000])?;
     let asked = [
-        table.asked::<generic::Group, _>(hash, |b| b == 1),
-        table.asked::<bytewise::Group, _>(hash, |b| b == 1),
-        table.asked::<lanes::Group, _>(hash, |b| b == 1),
+        table.lookup::<generic::Group, _>(hash, |b| b == 1),
+        table.lookup::<bytewise::Group, _>(hash, |b| b == 1),
+        table.lookup::<lanes::Group, _>(hash, |b| b == 1),
     ];
     expect_eq!(rt; asked, [(Some(1), 1), (None, 1), (None, 1)]);
     Ok(())
 }
 
 // Returns whether a lookup that accepts no bucket tries those of the first stride, then the second.
-fn asks_in_order<G: GroupKind>(alloc: Global) -> Result<bool, AllocError> {
+fn compares_in_order<G: GroupKind>(alloc: Global) -> Result<bool, AllocError> {
     let table = Table::written::<G>(alloc, 17, &[16; 16])?;
     let asks = Cell::new(0usize);
     let in_order = Cell::new(true);
-    let answer = table.asked::<G, _>(16, |b| {
+    let answer = table.lookup::<G, _>(16, |b| {
         let ask = asks.get();
         asks.set(ask.wrapping_add(1));
         let wanted = match ask {
@@ -359,21 +359,21 @@ fn asks_in_order<G: GroupKind>(alloc: Global) -> Result<bool, AllocError> {
 }
 
 #[test]
-fn asks_each_stride(rt: HostRuntime) {
+fn compares_buckets_of_each_stride(rt: HostRuntime) {
     let right = [
-        asks_in_order::<bytewise::Group>(rt.alloc()).ok(),
-        asks_in_order::<generic::Group>(rt.alloc()).ok(),
-        asks_in_order::<lanes::Group>(rt.alloc()).ok(),
+        compares_in_order::<bytewise::Group>(rt.alloc()).ok(),
+        compares_in_order::<generic::Group>(rt.alloc()).ok(),
+        compares_in_order::<lanes::Group>(rt.alloc()).ok(),
     ];
     expect_eq!(rt; right, [Some(true); 3]);
 }
 
 // A comparison that returns `false` at its first call, and `true` from then on.
 #[test]
-fn asks_again(rt: HostRuntime) -> Result<(), AllocError> {
+fn comparison_may_change_its_result(rt: HostRuntime) -> Result<(), AllocError> {
     let table = Table::written::<generic::Group>(rt.alloc(), 3, &[2, 2])?;
     let asked = Cell::new(false);
-    let answer = table.asked::<generic::Group, _>(2, |_| asked.replace(true));
+    let answer = table.lookup::<generic::Group, _>(2, |_| asked.replace(true));
     assert!(rt; answer == (Some(0), 1));
     Ok(())
 }

@@ -100,7 +100,7 @@ fn of_equal_keys_the_first_is_found(rt: HostRuntime) -> Result<(), Fail> {
 }
 
 #[test]
-fn refusals(rt: HostRuntime) -> Result<(), Fail> {
+fn errors_of_build_and_check(rt: HostRuntime) -> Result<(), Fail> {
     let list = PairList::Numbers(vec![in rt.alloc(); (1, 2)]?);
     let built = build(rt.alloc(), ArchiveWidth::Bits64, &list, (8, 7));
     let none = check(form(Kind::Num, ArchiveWidth::Bits64), &[]);

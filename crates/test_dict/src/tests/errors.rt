@@ -1,18 +1,18 @@
 //! The numbers and names of errors, and the errors that end a run.
 
 use rkyv_base::{IteratorLengthMismatch, NoMemory, VerifyError, WriteError};
-use rkyv_dict::errors::{cause_text, refusal_text, wants_memory};
+use rkyv_dict::errors::{cause_text, is_allocation_failure, refusal_text};
 
 fn refusal(error: VerifyError) -> &'static str {
     refusal_text(&error)
 }
 
 fn cause(error: WriteError<NoMemory>) -> (&'static str, bool) {
-    (cause_text(&error), wants_memory(&error))
+    (cause_text(&error), is_allocation_failure(&error))
 }
 
 #[test]
-fn refusals_are_told(rt: HostRuntime) {
+fn verify_errors_have_a_text(rt: HostRuntime) {
     let told = [
         refusal(VerifyError::OutOfRange { pos: -12, size: 9 }),
         refusal(VerifyError::Unaligned { pos: 1, align: 4 }),
@@ -40,7 +40,7 @@ fn refusals_are_told(rt: HostRuntime) {
 }
 
 #[test]
-fn causes_are_told(rt: HostRuntime) {
+fn write_errors_have_a_text(rt: HostRuntime) {
     let told = [
         cause(WriteError::InvalidLoadFactor {
             numerator: 8,

@@ -1,5 +1,5 @@
 //! Bad lines, and lines that are skipped.
-use crate::tests::scripts::{answers, first_wrong};
+use crate::tests::scripts::{first_wrong, outputs};
 
 #[test]
 fn skips_empty_lines(rt: HostRuntime) {
@@ -11,7 +11,7 @@ fn skips_empty_lines(rt: HostRuntime) {
 }
 
 #[test]
-fn refuses_bad_lines(rt: HostRuntime) {
+fn rejects_bad_lines(rt: HostRuntime) {
     let lines = [
         b"put 1  2".as_slice(),
         b" build",
@@ -68,7 +68,7 @@ fn refuses_bad_lines(rt: HostRuntime) {
     ];
     let taken = lines
         .iter()
-        .find(|line| !answers(rt.alloc(), line, "error 10 BadLine\n"));
+        .find(|line| !outputs(rt.alloc(), line, "error 10 BadLine\n"));
     expect_eq!(rt; taken, None);
 }
 
@@ -76,7 +76,7 @@ fn refuses_bad_lines(rt: HostRuntime) {
 fn text_that_is_not_utf8_is_a_bad_line(rt: HostRuntime) {
     let script = b"kind text\nput a \xff\nput \xc3 b\nbuild\nget \xff\n";
     let want = "error 10 BadLine\nerror 10 BadLine\nbuilt 12\nerror 10 BadLine\n";
-    assert!(rt; answers(rt.alloc(), script, want));
+    assert!(rt; outputs(rt.alloc(), script, want));
 }
 
 #[test]

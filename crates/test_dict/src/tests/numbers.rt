@@ -1,9 +1,9 @@
 //! Maps of numbers.
-use crate::tests::scripts::{answers, answers_puts, first_wrong, puts};
+use crate::tests::scripts::{first_wrong, outputs, puts, puts_output};
 use std::alloc::{AllocError, Global};
 
 #[test]
-fn answers_scripts(rt: HostRuntime) {
+fn scripts_have_the_expected_output(rt: HostRuntime) {
     let rows = [
         (
             "put 1 2\nbuild\nhex\nget 1\nget 2\nlist\n",
@@ -31,7 +31,7 @@ fn answers_scripts(rt: HostRuntime) {
 }
 
 #[test]
-fn refused_builds_leave_no_archive_and_keep_the_list(rt: HostRuntime) {
+fn failed_build_drops_the_archive_and_keeps_the_list(rt: HostRuntime) {
     let rows = [
         (
             "put 1 2\nbuild\nlf 0 1\nbuild\nget 1\nlf 1 0\nbuild\nlf 7 8\nbuild\nget 1\n",
@@ -70,7 +70,9 @@ fn archives_many(rt: HostRuntime) {
         ("lf 1 1\n", 15, "build\n", "built 172\n"),
         ("lf 1 1\n", 16, "build\n", "built 196\n"),
     ];
-    let wrong = rows.iter().position(|row| !answers_puts(rt.alloc(), row.0, row.1, row.2, row.3));
+    let wrong = rows
+        .iter()
+        .position(|row| !puts_output(rt.alloc(), row.0, row.1, row.2, row.3));
     expect_eq!(rt; wrong, None);
 }
 
@@ -96,10 +98,10 @@ fn many_values(alloc: Global) -> Result<String, AllocError> {
 }
 
 #[test]
-fn answers_past_a_piece(rt: HostRuntime) -> Result<(), AllocError> {
+fn output_longer_than_a_piece(rt: HostRuntime) -> Result<(), AllocError> {
     let script = many_lookups(rt.alloc())?;
     let want = many_values(rt.alloc())?;
-    assert!(rt; answers(rt.alloc(), script.as_bytes(), want.as_str()));
+    assert!(rt; outputs(rt.alloc(), script.as_bytes(), want.as_str()));
     Ok(())
 }
 

@@ -15,7 +15,7 @@ pub(crate) const ANSWERS: &str =
     "built 60\n01000000020000000000000000000000ff28ff28ffffffffffffffffffffffffffffffffffffffffffffffffffffff00e0ffffff0100000002000000\n2\nnone\nentries 1\n1 2\n";
 
 /// Returns whether the output of a script is `want`.
-pub(crate) fn answers(alloc: Global, script: &[u8], want: &str) -> bool {
+pub(crate) fn outputs(alloc: Global, script: &[u8], want: &str) -> bool {
     let mut reader = script;
     let mut out = Vec::new(alloc);
     let outcome = run(alloc, &mut reader, &mut out);
@@ -25,7 +25,7 @@ pub(crate) fn answers(alloc: Global, script: &[u8], want: &str) -> bool {
 /// Returns the first script whose output isn't the text beside it.
 pub(crate) fn first_wrong<'a>(alloc: Global, rows: &[(&'a str, &str)]) -> Option<&'a str> {
     for (script, want) in rows {
-        if !answers(alloc, script.as_bytes(), want) {
+        if !outputs(alloc, script.as_bytes(), want) {
             return Some(script);
         }
     }
@@ -49,9 +49,9 @@ pub(crate) fn puts(
 }
 
 /// Returns whether the output of a script from `puts` is `want`.
-pub(crate) fn answers_puts(alloc: Global, head: &str, count: u32, tail: &str, want: &str) -> bool {
+pub(crate) fn puts_output(alloc: Global, head: &str, count: u32, tail: &str, want: &str) -> bool {
     match puts(alloc, head, count, tail) {
-        Ok(script) => answers(alloc, script.as_bytes(), want),
+        Ok(script) => outputs(alloc, script.as_bytes(), want),
         Err(_) => false,
     }
 }
@@ -66,7 +66,7 @@ pub(crate) fn first_wrong_check<'a>(
     for (head, digits, tail, want) in rows {
         let script = format!(in alloc; "{head}check {digits}\n{tail}");
         let right = match script {
-            Ok(script) => answers(alloc, script.as_bytes(), want),
+            Ok(script) => outputs(alloc, script.as_bytes(), want),
             Err(_) => false,
         };
         if !right {

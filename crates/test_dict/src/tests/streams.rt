@@ -1,6 +1,6 @@
 //! Readers and writers that fail, and the exit status of the run.
 
-use crate::tests::scripts::{ANSWERS, SCRIPT, answers};
+use crate::tests::scripts::{ANSWERS, SCRIPT, outputs};
 use rkyv_dict::run::{RunError, exit_status, run};
 use std::alloc::{AllocError, Global};
 use std::io;
@@ -79,7 +79,7 @@ fn write_fails(alloc: Global, most: usize, left: usize) -> (u8, Vec<u8>) {
 }
 
 // Returns whether a run into a writer that fails after `left` bytes writes just these bytes.
-fn leaves_a_beginning(alloc: Global, most: usize, left: usize) -> bool {
+fn leaves_a_prefix(alloc: Global, most: usize, left: usize) -> bool {
     let (status, taken) = write_fails(alloc, most, left);
     match ANSWERS.as_bytes().get(..left) {
         Some(beginning) => status == 3 && taken.as_slice() == beginning,
@@ -98,7 +98,7 @@ fn behind_empty_lines(alloc: Global, count: u32) -> Result<Vec<u8>, AllocError> 
 }
 
 // Returns the messages of all errors, and the exit statuses of all outcomes.
-fn told(alloc: Global) -> Result<(String, [u8; 4]), AllocError> {
+fn messages_and_statuses(alloc: Global) -> Result<(String, [u8; 4]), AllocError> {
     let (read, write, memory) = (RunError::Read, RunError::Write, RunError::Memory);
     let text = format!(in alloc; "{read}, {write}, {memory}")?;
     let statuses = [
@@ -111,8 +111,8 @@ fn told(alloc: Global) -> Result<(String, [u8; 4]), AllocError> {
 }
 
 #[test]
-fn outcomes_are_told(rt: HostRuntime) -> Result<(), AllocError> {
-    let (text, statuses) = told(rt.alloc())?;
+fn outcomes_have_messages_and_exit_statuses(rt: HostRuntime) -> Result<(), AllocError> {
+    let (text, statuses) = messages_and_statuses(rt.alloc())?;
     expect_eq!(rt;
         (text.as_str(), statuses),
         ("read fault, write fault, no memory", [0, 2, 3, 4])
@@ -123,11 +123,11 @@ fn outcomes_are_told(rt: HostRuntime) -> Result<(), AllocError> {
 #[test]
 fn a_read_that_fails_ends_the_run(rt: HostRuntime) {
     let (at_the_end, nothing) = read_fails(rt.alloc(), 1, 0);
-    let (rest_in_range, none_then) = read_fails(rt.alloc(), 1, 20);
+    let (in_the_middle, none_then) = read_fails(rt.alloc(), 1, 20);
     let (at_once, none_still) = read_fails(rt.alloc(), 100, SCRIPT.len());
     let written = [nothing.len(), none_then.len(), none_still.len()];
     expect_eq!(rt;
-        ((at_the_end, rest_in_range, at_once), written),
+        ((at_the_end, in_the_middle, at_once), written),
         ((2, 2, 2), [0, 0, 0])
     );
 }
@@ -147,8 +147,8 @@ fn many_reads_are_made(rt: HostRuntime) -> Result<(), AllocError> {
 }
 
 #[test]
-fn a_write_that_fails_leaves_a_beginning(rt: HostRuntime) {
-    let wrong = (0..ANSWERS.len()).find(|left| !leaves_a_beginning(rt.alloc(), 7, *left));
+fn failed_write_leaves_a_prefix(rt: HostRuntime) {
+    let wrong = (0..ANSWERS.len()).find(|left| !leaves_a_prefix(rt.alloc(), 7, *left));
     let (whole, all) = write_fails(rt.alloc(), 1, ANSWERS.len());
     expect_eq!(rt;
         (wrong, whole, all.as_slice()),
@@ -163,6 +163,6 @@ fn a_write_that_takes_nothing_fails(rt: HostRuntime) {
 }
 
 #[test]
-fn the_script_is_answered(rt: HostRuntime) {
-    assert!(rt; answers(rt.alloc(), SCRIPT, ANSWERS));
+fn script_has_the_expected_output(rt: HostRuntime) {
+    assert!(rt; outputs(rt.alloc(), SCRIPT, ANSWERS));
 }

@@ -38,7 +38,7 @@ fn kind_empties_the_list(rt: HostRuntime) {
 }
 
 #[test]
-fn words_may_hold_what_is_no_space(rt: HostRuntime) {
+fn words_end_only_at_spaces(rt: HostRuntime) {
     let rows = [(
         "kind text\nput \t\r x\r\nput \0 \u{a0}\nput 01 -1\nbuild\nget \t\r\nget \0\nget 01\nget 1\n",
         "built 108\nx\r\n\u{a0}\n-1\nnone\n",

@@ -108,7 +108,7 @@ fn an_interrupted_write_is_returned(rt: HostRuntime) {
 }
 
 #[test]
-fn a_write_that_does_not_come_fails_no_run(rt: HostRuntime) {
+fn failure_past_the_last_write_has_no_effect(rt: HostRuntime) {
     let mut writer = FailsOnce::new(rt.alloc(), 64, writes(64).saturating_add(1));
     let outcome = outcome(rt.alloc(), SCRIPT, &mut writer);
     expect_eq!(rt;
@@ -139,7 +139,7 @@ fn long_outcome(alloc: Global, fails_at: usize) -> Result<(Ending, usize, usize)
 // `built 60` is a line of 9 bytes, and each `hex` one of 121. So 542 lines of digits are the first
 // that fill a piece, and so do the 542 after them.
 #[test]
-fn no_line_is_answered_after_a_failed_write(rt: HostRuntime) -> Result<(), AllocError> {
+fn nothing_is_written_after_a_failed_write(rt: HostRuntime) -> Result<(), AllocError> {
     let outcomes = [
         long_outcome(rt.alloc(), 1)?,
         long_outcome(rt.alloc(), 2)?,

@@ -96,7 +96,8 @@ fn writes(codes: Codes, checked: bool, wanted: &[u8]) -> (u32, bool) {
     (status, header.as_slice() == wanted)
 }
 
-// Returns whether a header without a checksum has these codes and flags.
+// Returns the status of writing a header without a checksum, and whether it then has the codes and
+// flags `wanted`.
 fn writes_codes(codes: Codes, wanted: &[u8]) -> (u32, bool) {
     let mut header = [9; 32];
     let status = write_header(&[1, 2, 3], codes, false, &mut header);

@@ -12,7 +12,7 @@ use test_support::archives::four_entries;
 type Small = IndexMapOf<i8, i8>;
 
 // Returns the index and the length in the error of an index out of range, or zeros.
-fn refused_place(bytes: &[u8]) -> (usize, usize) {
+fn index_error(bytes: &[u8]) -> (usize, usize) {
     match access::<Small>(bytes) {
         Err(VerifyError::PlaceOutOfRange { place, len }) => (place, len),
         _ => (0, 0),
@@ -20,13 +20,13 @@ fn refused_place(bytes: &[u8]) -> (usize, usize) {
 }
 
 #[test]
-fn a_place_that_is_none_is_refused(rt: HostRuntime) -> Result<(), Fail> {
+fn rejects_indices_out_of_range(rt: HostRuntime) -> Result<(), Fail> {
     let mut one = one_pair();
     one[0] = 1;
-    expect_eq!(rt; refused_place(&one), (1, 1));
+    expect_eq!(rt; index_error(&one), (1, 1));
     let mut four = four_entries();
     four[12] = 4;
-    expect_eq!(rt; refused_place(&four), (4, 4));
+    expect_eq!(rt; index_error(&four), (4, 4));
     Ok(())
 }
 
@@ -40,7 +40,7 @@ fn an_empty_bucket_may_hold_any_index(rt: HostRuntime) -> Result<(), Fail> {
     let mut four = four_entries();
     four[8] = 5;
     four[12] = 4;
-    expect_eq!(rt; refused_place(&four), (4, 4));
+    expect_eq!(rt; index_error(&four), (4, 4));
     Ok(())
 }
 

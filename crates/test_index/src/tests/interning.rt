@@ -23,7 +23,7 @@ fn has_number(table: &[u8], number: usize, text: &str) -> Result<bool, VerifyErr
 }
 
 // Returns the numbers of two texts, and whether "wonderful" has the number 0, and 1.
-fn answers(table: &[u8]) -> Result<(Option<usize>, Option<usize>, bool, bool), VerifyError> {
+fn results(table: &[u8]) -> Result<(Option<usize>, Option<usize>, bool, bool), VerifyError> {
     Ok((
         number(table, "excellent")?,
         number(table, "bar")?,
@@ -37,6 +37,6 @@ fn texts_have_numbers(rt: HostRuntime) -> Result<(), Fail> {
     let alloc = rt.alloc();
     let texts = OrderedItems(vec![in alloc; "wonderful", "foo", "excellent"]?);
     let bytes = to_bytes(alloc, &texts)?;
-    expect_eq!(rt; answers(bytes.as_slice()).ok(), Some((Some(2), None, true, false)));
+    expect_eq!(rt; results(bytes.as_slice()).ok(), Some((Some(2), None, true, false)));
     Ok(())
 }

@@ -51,7 +51,7 @@ fn every_form_finds_the_same(rt: HostRuntime) -> Result<(), Fail> {
 }
 
 #[test]
-fn a_comparison_is_handed_in(rt: HostRuntime) -> Result<(), Fail> {
+fn lookup_takes_a_comparison(rt: HostRuntime) -> Result<(), Fail> {
     let bytes = four_entries();
     let map = ArchivedIndexMap::of(access::<Small>(&bytes)?);
     let found = match map.get_full_with(&5i8, |_: &i8, _: View<'_, i8>| true) {
@@ -179,7 +179,7 @@ fn strides_of_seventeen_keys_under_one_hash(rt: HostRuntime) -> Result<(), Fail>
 }
 
 #[test]
-fn a_place_that_two_buckets_hold(rt: HostRuntime) -> Result<(), Fail> {
+fn an_index_in_two_buckets(rt: HostRuntime) -> Result<(), Fail> {
     let mut bytes = one_key_twice();
     bytes[4] = 0;
     let map = ArchivedIndexMap::of(access::<Small>(&bytes)?);

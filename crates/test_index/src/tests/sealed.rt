@@ -158,7 +158,7 @@ fn every_form_writes_the_same(rt: HostRuntime) {
 }
 
 #[test]
-fn where_no_key_fits_nothing_is_lent(rt: HostRuntime) {
+fn unsuccessful_lookup_returns_no_seal(rt: HostRuntime) {
     let mut bytes = four_entries();
     let full = [
         replace(&mut bytes, 9, 80).ok(),

@@ -4,7 +4,7 @@ ghost use Rattle.std.specs.Int.{w32};
 ghost use Rattle.rkyv_base.specs.Bytes.{number_at};
 ghost use Rattle.rkyv_base.specs.View.{IsValidView, AtView};
 ghost use Rattle.rkyv_keys.specs.Calls.{after_calls};
-ghost use Rattle.rkyv_keys.specs.Places.{at_view, at_views};
+ghost use Rattle.rkyv_keys.specs.AtViews.{at_view, at_views};
 ghost use Rattle.test_keys.specs.LowByte.{byte_call, low_calls, low_element, low_equivalence};
 ghost use Rattle.test_keys.specs.LowByte.{low_fits, low_key, low_local, low_query};
 ghost use Rattle.test_keys.specs.LowByte.{low_refuses, low_same, low_spec, low_represents};
@@ -105,7 +105,7 @@ impl Represents<u32> for LowByte {
 
 // Deserializing a number whose low byte is 0 fails with `Refused(7)`.
 impl Deserialize<u32> for LowByte {
-    ghost refuses = { low_refuses };
+    ghost deserialize_fails = { low_refuses };
 
     fn deserialize(_alloc: Global, view: View<'_, LowByte>) -> Result<u32, ReadError>
         requires { IsValidView low_spec view }

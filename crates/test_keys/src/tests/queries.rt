@@ -30,15 +30,15 @@ const HELLO_SEVEN: [u8; 12] = [0x68, 0x65, 0x6c, 0x6c, 0x6f, 0xff, 0xff, 0xff, 7
 // The entry of "hello" and 8.
 const HELLO_EIGHT: [u8; 12] = [0x68, 0x65, 0x6c, 0x6c, 0x6f, 0xff, 0xff, 0xff, 8, 0, 0, 0];
 
-fn is_asked_for<K: KeyElement, Q: Query<K>>(query: &Q, bytes: &[u8]) -> Result<bool, VerifyError>
+fn query_matches<K: KeyElement, Q: Query<K>>(query: &Q, bytes: &[u8]) -> Result<bool, VerifyError>
     requires { Q.can_read query.now }
 {
     Ok(query.same(access::<K>(bytes)?))
 }
 
-fn asks_for<K: KeyElement>(archive: &[u8], other: &[u8]) -> Result<bool, VerifyError> {
+fn key_matches<K: KeyElement>(archive: &[u8], other: &[u8]) -> Result<bool, VerifyError> {
     let query = access::<K>(archive)?;
-    is_asked_for::<K, View<'_, K>>(&query, other)
+    query_matches::<K, View<'_, K>>(&query, other)
 }
 
 fn are_same<T: ElementEq>(archive: &[u8], other: &[u8]) -> Result<bool, VerifyError> {
@@ -102,22 +102,22 @@ fn shows<T: ElementDebug>(alloc: Global, bytes: &[u8], text: &str) -> bool {
 fn owned_hello(alloc: Global) -> Option<[Option<bool>; 4]> {
     let text = String::from_str(alloc, "hello").ok()?;
     Some([
-        is_asked_for::<Text, String>(&text, &HELLO).ok(),
-        is_asked_for::<Text, String>(&text, &WONDERFUL).ok(),
+        query_matches::<Text, String>(&text, &HELLO).ok(),
+        query_matches::<Text, String>(&text, &WONDERFUL).ok(),
         equals::<String, Text>(&HELLO, &text).ok(),
         equals::<String, Text>(&WONDERFUL, &text).ok(),
     ])
 }
 
 #[test]
-fn text_is_asked_for_by_text(rt: HostRuntime) {
+fn str_queries_match_texts(rt: HostRuntime) {
     let (yes, no) = (Some(true), Some(false));
     let asked = [
-        is_asked_for::<Text, &str>(&"hello", &HELLO).ok(),
-        is_asked_for::<Text, &str>(&"hello", &HELLO_AGAIN).ok(),
-        is_asked_for::<Text, &str>(&"hellx", &HELLO).ok(),
-        is_asked_for::<Text, &str>(&"wonderful", &WONDERFUL).ok(),
-        is_asked_for::<Text<Wide>, &str>(&"wonderful", &WIDE_WONDERFUL).ok(),
+        query_matches::<Text, &str>(&"hello", &HELLO).ok(),
+        query_matches::<Text, &str>(&"hello", &HELLO_AGAIN).ok(),
+        query_matches::<Text, &str>(&"hellx", &HELLO).ok(),
+        query_matches::<Text, &str>(&"wonderful", &WONDERFUL).ok(),
+        query_matches::<Text<Wide>, &str>(&"wonderful", &WIDE_WONDERFUL).ok(),
     ];
     expect_eq!(rt;
         (asked, owned_hello(rt.alloc())),
@@ -143,25 +143,25 @@ fn keys_hash_as_their_queries(rt: HostRuntime) {
 }
 
 #[test]
-fn pairs_ask_for_entries(rt: HostRuntime) {
+fn pair_queries_match_entries(rt: HostRuntime) {
     let asked = [
-        is_asked_for::<Entry<Text, u32>, (&str, u32)>(&("hello", 7), &HELLO_SEVEN).ok(),
-        is_asked_for::<Entry<Text, u32>, (&str, u32)>(&("hello", 8), &HELLO_SEVEN).ok(),
-        is_asked_for::<Entry<Text, u32>, (&str, u32)>(&("hell", 7), &HELLO_SEVEN).ok(),
-        is_asked_for::<(), ()>(&(), &[]).ok(),
+        query_matches::<Entry<Text, u32>, (&str, u32)>(&("hello", 7), &HELLO_SEVEN).ok(),
+        query_matches::<Entry<Text, u32>, (&str, u32)>(&("hello", 8), &HELLO_SEVEN).ok(),
+        query_matches::<Entry<Text, u32>, (&str, u32)>(&("hell", 7), &HELLO_SEVEN).ok(),
+        query_matches::<(), ()>(&(), &[]).ok(),
     ];
     expect_eq!(rt; asked, [Some(true), Some(false), Some(false), Some(true)]);
 }
 
 #[test]
-fn keys_ask_for_keys_of_other_archives(rt: HostRuntime) {
+fn archived_keys_match_keys_of_other_archives(rt: HostRuntime) {
     let (yes, no) = (Some(true), Some(false));
     let asked = [
-        asks_for::<Text>(&HELLO, &HELLO_AGAIN).ok(),
-        asks_for::<Text>(&HELLO, &WONDERFUL).ok(),
-        asks_for::<Entry<Text, u32>>(&HELLO_SEVEN, &HELLO_SEVEN).ok(),
-        asks_for::<Entry<Text, u32>>(&HELLO_SEVEN, &HELLO_EIGHT).ok(),
-        asks_for::<u16>(&[1, 2], &[1, 2]).ok(),
+        key_matches::<Text>(&HELLO, &HELLO_AGAIN).ok(),
+        key_matches::<Text>(&HELLO, &WONDERFUL).ok(),
+        key_matches::<Entry<Text, u32>>(&HELLO_SEVEN, &HELLO_SEVEN).ok(),
+        key_matches::<Entry<Text, u32>>(&HELLO_SEVEN, &HELLO_EIGHT).ok(),
+        key_matches::<u16>(&[1, 2], &[1, 2]).ok(),
     ];
     expect_eq!(rt; asked, [yes, no, yes, no, yes]);
 }

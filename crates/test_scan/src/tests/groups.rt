@@ -204,7 +204,7 @@ fn halves_are_marked_apart(rt: HostRuntime) {
 }
 
 #[test]
-fn empty_masks_have_no_place(rt: HostRuntime) {
+fn empty_masks_have_no_index(rt: HostRuntime) {
     let (bytes, word, lane_bits) = laws::empty_masks();
     let right = [marks(bytes, &[]), marks(word, &[]), marks(lane_bits, &[])];
     expect_eq!(rt; right, [true; 3]);

@@ -60,7 +60,7 @@ fn right_of_pairs(alloc: Global) -> usize {
 }
 
 #[test]
-fn iterators_are_asked_once_more_than_is_claimed_at_most(rt: HostRuntime) {
+fn iterators_are_called_at_most_len_plus_one_times(rt: HostRuntime) {
     let right = (right_of_both(rt.alloc()), right_of_pairs(rt.alloc()));
     expect_eq!(rt; right, (4 * 6 * 6, 4 * 6));
 }
@@ -72,7 +72,7 @@ fn asks_of_items(alloc: Global, items: usize, hashes: usize, len: usize) -> (Ans
 }
 
 #[test]
-fn an_end_or_a_surplus_is_the_last_answer(rt: HostRuntime) {
+fn no_call_follows_the_end_or_an_extra_item(rt: HostRuntime) {
     let (all, alloc) = (usize::MAX, rt.alloc());
     let both = [
         asks_of_items(alloc, all, all, 2),
@@ -97,7 +97,7 @@ fn an_end_or_a_surplus_is_the_last_answer(rt: HostRuntime) {
 
 // The slots have more bytes than an address space.
 #[test]
-fn room_that_no_memory_has_is_refused(rt: HostRuntime) {
+fn rejects_a_table_larger_than_memory(rt: HostRuntime) {
     let mut writer = VecWriter::new(rt.alloc());
     let calls = Cell::new(0usize);
     let items = iter::repeat_with(|| {

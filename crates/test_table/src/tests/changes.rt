@@ -8,7 +8,7 @@ use rkyv_base::errors::VerifyError;
 use rkyv_base::width::Narrow;
 use rkyv_table::table::TableOf;
 use test_support::archives::one_number;
-use test_support::changes::{Answers, answers_to_changes};
+use test_support::changes::{Answers, outcomes_of_changes};
 
 // Returns `true` if a lookup of a number reads one stride.
 fn is_one_stride(bytes: &[u8], key: u32) -> bool {
@@ -29,9 +29,9 @@ fn is_small(bytes: &[u8]) -> Result<bool, VerifyError> {
 }
 
 #[test]
-fn each_change_of_one_byte_is_answered(rt: HostRuntime) {
+fn changes_of_one_byte_have_known_outcomes(rt: HostRuntime) {
     let mut bytes = one_number();
-    let answers = answers_to_changes(&mut bytes, is_small);
+    let answers = outcomes_of_changes(&mut bytes, is_small);
     expect_eq!(rt;
         answers,
         Answers {
@@ -49,7 +49,7 @@ fn each_change_of_one_byte_is_answered(rt: HostRuntime) {
 }
 
 #[test]
-fn one_change_leads_to_a_place_between_items(rt: HostRuntime) {
+fn rejects_a_distance_to_an_unaligned_position(rt: HostRuntime) {
     let mut bytes = one_number();
     bytes[48] = 0xe1;
     assert!(rt;

@@ -15,10 +15,10 @@ fn positions_over(bytes: &mut [u8]) -> Result<([Option<u64>; 3], [usize; 3]), Ve
     let mut rest = ArchivedHashTable::<u8, Narrow>::raw_iter_over(bytes, pos);
     let before = rest.len();
     let first = rest.next_pos();
-    let rest_in_range = rest.len();
+    let between = rest.len();
     let second = rest.next_pos();
     let third = rest.next_pos();
-    Ok(([first, second, third], [before, rest_in_range, rest.len()]))
+    Ok(([first, second, third], [before, between, rest.len()]))
 }
 
 #[test]

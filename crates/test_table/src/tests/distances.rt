@@ -48,7 +48,7 @@ fn narrow_headers(alloc: Global, pos: u32) -> Option<[(bool, [u8; 12]); 2]> {
 }
 
 #[test]
-fn a_narrow_header_that_is_too_far_is_unchanged(rt: HostRuntime) {
+fn narrow_header_is_unchanged_if_too_distant(rt: HostRuntime) {
     let alloc = rt.alloc();
     let headers = [
         narrow_headers(alloc, 2_147_483_650),
@@ -85,7 +85,7 @@ fn wide_headers(alloc: Global, pos: u64) -> Option<[(bool, [u8; 24]); 2]>
 }
 
 #[test]
-fn a_wide_header_that_is_too_far_is_unchanged(rt: HostRuntime) {
+fn wide_header_is_unchanged_if_too_distant(rt: HostRuntime) {
     let alloc = rt.alloc();
     let headers = [
         wide_headers(alloc, 9_223_372_036_854_775_810),

@@ -48,13 +48,13 @@ fn distances_have_32_bits(rt: HostRuntime) {
         header_at(alloc, 2_147_483_664).ok(),
         header_at(alloc, 2_147_483_668).ok(),
     ];
-    let local = [0xe0, 0xff, 0xff, 0xff, 1, 0, 0, 0, 2, 0, 0, 0];
-    let overflow = [0, 0, 0, 0x80, 1, 0, 0, 0, 2, 0, 0, 0];
+    let near_header = [0xe0, 0xff, 0xff, 0xff, 1, 0, 0, 0, 2, 0, 0, 0];
+    let farthest_header = [0, 0, 0, 0x80, 1, 0, 0, 0, 2, 0, 0, 0];
     expect_eq!(rt;
         headers,
         [
-            Some((local, true, 16)),
-            Some((overflow, true, 16)),
+            Some((near_header, true, 16)),
+            Some((farthest_header, true, 16)),
             Some(([7; 12], false, 16))
         ]
     );
@@ -92,8 +92,8 @@ fn distances_of_wide_archives_have_64_bits(rt: HostRuntime) {
         wide_header_at(rt.alloc(), 4_294_967_296).ok(),
         wide_header_at(rt.alloc(), 18_446_744_073_709_551_000).ok(),
     ];
-    let overflow = [
+    let far_header = [
         2, 0, 0, 0, 0xff, 0xff, 0xff, 0xff, 1, 0, 0, 0, 0, 0, 0, 0, 2, 0, 0, 0, 0, 0, 0, 0,
     ];
-    expect_eq!(rt; headers, [Some((overflow, true)), Some(([7; 24], false))]);
+    expect_eq!(rt; headers, [Some((far_header, true)), Some(([7; 24], false))]);
 }

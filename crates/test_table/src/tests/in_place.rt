@@ -109,7 +109,7 @@ fn set_number(
 }
 
 #[test]
-fn a_found_item_is_lent_over_the_bare_bytes(rt: HostRuntime) {
+fn found_item_is_written_in_place(rt: HostRuntime) {
     let mut bytes = two_archived();
     let found = set_number(&mut bytes, 2, 20, 30).ok();
     let mut wanted = two_archived();
@@ -118,7 +118,7 @@ fn a_found_item_is_lent_over_the_bare_bytes(rt: HostRuntime) {
 }
 
 #[test]
-fn where_no_item_fits_the_bare_bytes_stay(rt: HostRuntime) {
+fn lookup_of_a_missing_item_changes_nothing(rt: HostRuntime) {
     let mut bytes = two_archived();
     let found = set_number(&mut bytes, 2, 30, 40).ok();
     expect_eq!(rt; (found, bytes), (Some(None), two_archived()));

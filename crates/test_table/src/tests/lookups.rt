@@ -295,7 +295,7 @@ fn asks_by<G: GroupKind>(bytes: &[u8]) -> Result<[bool; 2], VerifyError> {
 }
 
 #[test]
-fn a_lookup_that_finds_nothing_asks_for_each_item(rt: HostRuntime) {
+fn unsuccessful_lookup_compares_each_item(rt: HostRuntime) {
     let archive = sixteen_archived();
     let bytes: &[u8] = &archive;
     let by_kind = [
@@ -333,7 +333,7 @@ fn an_empty_table_is_not_read(rt: HostRuntime) {
 
 // A group of one word marks a tag that differs in the lowest bit right above an equal one.
 #[test]
-fn an_item_under_another_hash_may_be_asked_for(rt: HostRuntime) {
+fn items_of_another_hash_may_be_compared(rt: HostRuntime) {
     let archive = tags_archived();
     let bytes: &[u8] = &archive;
     let (first, second) = (
@@ -363,7 +363,7 @@ fn second_counted(bytes: &[u8], hash: u64) -> Result<(Option<u8>, u64), VerifyEr
 }
 
 #[test]
-fn a_comparison_may_change_its_mind(rt: HostRuntime) {
+fn comparison_may_change_its_result(rt: HostRuntime) {
     let found = second_counted(&two_archived(), 2).ok();
     expect_eq!(rt; found, Some((Some(20), 1)));
 }
@@ -394,7 +394,7 @@ fn are_found(
 }
 
 #[test]
-fn a_table_is_asked_by_another_hasher(rt: HostRuntime) {
+fn lookup_with_another_hasher(rt: HostRuntime) {
     let large = 4_294_967_297;
     let hashes = [
         hash_of_usize::<FxHasher64>(1),
@@ -434,7 +434,7 @@ fn has_numbers(alloc: Global) -> Option<[Option<bool>; 3]> {
 }
 
 #[test]
-fn a_number_of_a_stranger_is_looked_up(rt: HostRuntime) {
+fn untrusted_number_is_looked_up(rt: HostRuntime) {
     let found = has_numbers(rt.alloc());
     expect_eq!(rt; found, Some([Some(true), Some(false), None]));
 }

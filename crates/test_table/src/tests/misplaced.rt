@@ -47,7 +47,7 @@ fn misplaced_units(bytes: &[u8]) -> Result<usize, VerifyError> {
 }
 
 #[test]
-fn items_of_no_bytes_are_told_by_their_buckets(rt: HostRuntime) {
+fn one_of_two_units_is_misplaced(rt: HostRuntime) {
     expect_eq!(rt; misplaced_units(&two_units()).ok(), Some(1));
 }
 
@@ -68,7 +68,7 @@ fn misplaced_by_order(bytes: &[u8]) -> Result<(usize, usize), VerifyError> {
 }
 
 #[test]
-fn the_own_item_is_asked_of_first(rt: HostRuntime) {
+fn misplaced_by_passes_the_own_item_first(rt: HostRuntime) {
     expect_eq!(rt; misplaced_by_order(&two_archived()).ok(), Some((0, 1)));
 }
 

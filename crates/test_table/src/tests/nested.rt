@@ -118,7 +118,7 @@ fn a_table_in_a_table_is_read(rt: HostRuntime) {
 }
 
 #[test]
-fn what_is_wrong_inside_is_told(rt: HostRuntime) {
+fn rejects_invalid_inner_tables(rt: HostRuntime) {
     let mut bytes = nested();
     bytes[40] = 0xdd;
     let unwrapped = matches!(
@@ -144,7 +144,7 @@ fn is_accepted(len: usize) -> bool {
 // If the last bytes are zeros of the empty bucket, they are the length and the capacity
 // of an empty table.
 #[test]
-fn each_front_of_a_nested_table_is_answered(rt: HostRuntime) {
+fn valid_prefixes_of_a_nested_table(rt: HostRuntime) {
     let mut right = true;
     for len in 0..113 {
         right = right && is_accepted(len) == matches!(len, 60 | 64 | 68 | 112);

@@ -21,7 +21,7 @@ fn asks_sealed(bytes: &mut [u8]) -> Result<bool, VerifyError> {
 }
 
 // Returns the number of the seal that is found under a hash if all are accepted.
-fn first_lent(bytes: &mut [u8], hash: u64) -> Result<Option<u8>, VerifyError> {
+fn first_sealed(bytes: &mut [u8], hash: u64) -> Result<Option<u8>, VerifyError> {
     let whole = access_mut::<TableOf<u8>>(bytes)?;
     match ArchivedHashTable::get_seal_with(whole, hash, |_| true) {
         Some(seal) => Ok(Some(seal.to_native())),
@@ -90,7 +90,7 @@ fn write_each(bytes: &mut [u8], numbers: &[u8], by: By) -> Result<bool, VerifyEr
 }
 
 #[test]
-fn a_sealed_lookup_that_finds_nothing_asks_for_each_item(rt: HostRuntime) {
+fn unsuccessful_sealed_lookup_compares_each_item(rt: HostRuntime) {
     let mut bytes = sixteen_archived();
     let asks = asks_sealed(&mut bytes).ok();
     expect_eq!(rt; (asks, bytes), (Some(true), sixteen_archived()));
@@ -113,13 +113,13 @@ fn a_found_item_is_written_in_place(rt: HostRuntime) {
 }
 
 #[test]
-fn the_item_that_was_handed_in_first_is_lent(rt: HostRuntime) {
+fn sealed_lookup_finds_the_first_inserted_item(rt: HostRuntime) {
     let mut bytes = two_archived();
-    expect_eq!(rt; first_lent(&mut bytes, 2).ok(), Some(Some(10)));
+    expect_eq!(rt; first_sealed(&mut bytes, 2).ok(), Some(Some(10)));
 }
 
 #[test]
-fn where_no_item_is_found_nothing_is_written(rt: HostRuntime) {
+fn lookup_of_a_missing_item_changes_nothing(rt: HostRuntime) {
     let mut bytes = two_archived();
     let replaced = replace(&mut bytes, 2, 30, 40).ok();
     expect_eq!(rt; (replaced, bytes), (Some(None), two_archived()));
@@ -146,9 +146,9 @@ fn items_are_written_by_position(rt: HostRuntime) {
 }
 
 #[test]
-fn an_empty_table_lends_nothing(rt: HostRuntime) {
+fn an_empty_table_has_no_sealed_item(rt: HostRuntime) {
     let mut bytes = no_items();
-    let lent = first_lent(&mut bytes, 2).ok();
+    let lent = first_sealed(&mut bytes, 2).ok();
     let walked = write_each(&mut bytes, &[], By::Seal).ok();
     let placed = write_each(&mut bytes, &[], By::Position).ok();
     expect_eq!(rt;
@@ -158,7 +158,7 @@ fn an_empty_table_lends_nothing(rt: HostRuntime) {
 }
 
 #[test]
-fn what_is_no_table_is_unchanged(rt: HostRuntime) {
+fn invalid_table_is_unchanged(rt: HostRuntime) {
     let mut bytes = [1, 0, 0, 0, 2, 0, 0, 0, 2, 0, 0, 0];
     let refused = matches!(
         access_mut::<TableOf<u8>>(&mut bytes),

@@ -105,7 +105,7 @@ fn the_part_of_a_wide_table_is_the_range_up_to_its_end(rt: HostRuntime) {
 }
 
 #[test]
-fn a_wide_capacity_that_no_archive_has_room_for_is_out_of_range(rt: HostRuntime) {
+fn rejects_a_wide_capacity_beyond_the_archive(rt: HostRuntime) {
     let bytes = [
         0, 0, 0, 0, 0, 0, 0, 0, 1, 0, 0, 0, 0, 0, 0, 0, 0xff, 0xff, 0xff, 0xff, 0xff, 0xff, 0xff,
         0xff,

@@ -50,12 +50,12 @@ fn nothing_is_written_after_a_fault(rt: HostRuntime) {
         write_one_pair(rt.alloc(), &mut writer),
         Err(WriteError::Writer(Broken))
     );
-    expect_eq!(rt; (refused, writer.asked(), writer.failures()), (true, 1, 1));
+    expect_eq!(rt; (refused, writer.calls(), writer.failures()), (true, 1, 1));
 }
 
 // Returns `true` if a writer with this limit keeps as many bytes of the archive, and reports
 // that it is full unless these are all.
-fn keeps_a_front(alloc: Global, limit: u64) -> bool {
+fn keeps_a_prefix(alloc: Global, limit: u64) -> bool {
     let mut writer = LimitWriter::new(VecWriter::new(alloc), limit);
     let (written, full) = match write_one_pair(alloc, &mut writer) {
         Ok(()) => (true, false),
@@ -68,10 +68,10 @@ fn keeps_a_front(alloc: Global, limit: u64) -> bool {
 }
 
 #[test]
-fn a_limit_keeps_a_front_of_the_table(rt: HostRuntime) {
+fn limit_keeps_a_prefix_of_the_table(rt: HostRuntime) {
     let mut right = true;
     for limit in 0..61 {
-        right = right && keeps_a_front(rt.alloc(), limit);
+        right = right && keeps_a_prefix(rt.alloc(), limit);
     }
     assert!(rt; right);
 }

@@ -176,7 +176,7 @@ fn hashes_of_wide_numbers_are_written(rt: HostRuntime) {
 
 // Returns the position of the first control byte of a table of no numbers, and the number
 // of its bytes.
-fn room_of_none(alloc: Global) -> Option<(u64, usize)> {
+fn size_of_empty(alloc: Global) -> Option<(u64, usize)> {
     let (bytes, pos) = written::<u8>(alloc, &[], &[], (7, 8)).ok()?;
     Some((pos, bytes.len()))
 }
@@ -184,7 +184,7 @@ fn room_of_none(alloc: Global) -> Option<(u64, usize)> {
 #[test]
 fn no_items_write_nothing(rt: HostRuntime) {
     let archived = is_archive::<u8>(rt.alloc(), &no_items(), &[], &[], (7, 8));
-    expect_eq!(rt; (archived, room_of_none(rt.alloc())), (true, Some((0, 0))));
+    expect_eq!(rt; (archived, size_of_empty(rt.alloc())), (true, Some((0, 0))));
 }
 
 #[test]

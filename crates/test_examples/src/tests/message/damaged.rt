@@ -5,7 +5,7 @@ use rkyv_base::errors::VerifyError;
 use rkyv_collections::MapPairs;
 use std::alloc::Global;
 use std::test::Fail;
-use test_support::changes::answered_flips;
+use test_support::changes::permitted_flips;
 
 // Returns the message of a part with two fields.
 fn message(alloc: Global) -> Result<Vec<u8>, Fail> {
@@ -15,21 +15,21 @@ fn message(alloc: Global) -> Result<Vec<u8>, Fail> {
 }
 
 // Returns whether no number of a missing field or part is returned or overwritten.
-fn is_answered(bytes: &mut [u8]) -> bool {
+fn is_permitted(bytes: &mut [u8]) -> bool {
     let field = number_of(bytes, "head", "none_such");
     let part = number_of(bytes, "none_such", "b");
     let write = set_number(bytes, "head", "none_such", 1);
     !matches!(field, Ok(Some(_))) && !matches!(part, Ok(Some(_))) && !matches!(write, Ok(true))
 }
 
-// Returns the number of prefixes that pass `is_answered`.
+// Returns the number of prefixes that pass `is_permitted`.
 // It also returns the number of those shorter than a header that fail with `OutOfRange`.
-fn fronts(bytes: &mut [u8]) -> (usize, usize) {
+fn permitted_prefixes(bytes: &mut [u8]) -> (usize, usize) {
     let mut answered = 0usize;
     let mut short = 0usize;
     for len in 0..bytes.len() {
         let front = &mut bytes[..len];
-        if is_answered(front) {
+        if is_permitted(front) {
             answered = answered.wrapping_add(1);
         }
         let told = number_of(front, "head", "b");
@@ -41,19 +41,19 @@ fn fronts(bytes: &mut [u8]) -> (usize, usize) {
 }
 
 #[test]
-fn each_front_is_answered(rt: HostRuntime) -> Result<(), Fail> {
+fn prefixes_have_permitted_results(rt: HostRuntime) -> Result<(), Fail> {
     let mut bytes = message(rt.alloc())?;
     let len = bytes.len();
-    let seen = fronts(bytes.as_mut_slice());
+    let seen = permitted_prefixes(bytes.as_mut_slice());
     expect_eq!(rt; seen, (len, 12));
     Ok(())
 }
 
 #[test]
-fn each_changed_byte_is_answered(rt: HostRuntime) -> Result<(), Fail> {
+fn changed_bytes_have_permitted_results(rt: HostRuntime) -> Result<(), Fail> {
     let mut bytes = message(rt.alloc())?;
     let len = bytes.len();
-    let answered = answered_flips(bytes.as_mut_slice(), is_answered);
+    let answered = permitted_flips(bytes.as_mut_slice(), is_permitted);
     expect_eq!(rt; answered, len);
     Ok(())
 }

@@ -4,7 +4,7 @@ use example_symbols::table::{address_of, archive};
 use rkyv_base::errors::VerifyError;
 use std::alloc::Global;
 use std::test::Fail;
-use test_support::changes::answered_flips;
+use test_support::changes::permitted_flips;
 
 // Returns a table of two symbols, one with an out of line name.
 fn table(alloc: Global) -> Result<Vec<u8>, Fail> {
@@ -20,7 +20,7 @@ fn is_near(one: u64, other: u64) -> bool {
 
 // Returns whether lookups in the bytes have a permitted result.
 // For `main`: its address except for a changed byte, `None` or an error. For no symbol: no address.
-fn is_answered(bytes: &[u8]) -> bool {
+fn is_permitted(bytes: &[u8]) -> bool {
     let main = match address_of(bytes, "main") {
         Ok(Some(address)) => is_near(address, 0x1139),
         _ => true,
@@ -30,12 +30,12 @@ fn is_answered(bytes: &[u8]) -> bool {
 
 // Returns the number of prefixes with permitted results.
 // It also returns the number of those shorter than a header that fail with `OutOfRange`.
-fn fronts(bytes: &[u8]) -> (usize, usize) {
+fn permitted_prefixes(bytes: &[u8]) -> (usize, usize) {
     let mut answered = 0usize;
     let mut short = 0usize;
     for len in 0..bytes.len() {
         let front = &bytes[..len];
-        if is_answered(front) {
+        if is_permitted(front) {
             answered = answered.wrapping_add(1);
         }
         if len < 12
@@ -51,20 +51,20 @@ fn fronts(bytes: &[u8]) -> (usize, usize) {
 }
 
 #[test]
-fn each_front_is_answered(rt: HostRuntime) -> Result<(), Fail> {
+fn prefixes_have_permitted_results(rt: HostRuntime) -> Result<(), Fail> {
     let bytes = table(rt.alloc())?;
-    let seen = fronts(bytes.as_slice());
+    let seen = permitted_prefixes(bytes.as_slice());
     expect_eq!(rt; seen, (bytes.len(), 12));
     Ok(())
 }
 
 #[test]
-fn each_changed_byte_is_answered(rt: HostRuntime) -> Result<(), Fail> {
+fn changed_bytes_have_permitted_results(rt: HostRuntime) -> Result<(), Fail> {
     let mut bytes = table(rt.alloc())?;
     let len = bytes.len();
-    let answered = answered_flips(
+    let answered = permitted_flips(
         bytes.as_mut_slice(),
-        |table: &mut [u8]| is_answered(&*table),
+        |table: &mut [u8]| is_permitted(&*table),
     );
     expect_eq!(rt; answered, len);
     Ok(())

@@ -21,16 +21,16 @@ ffffffffFFFFFFFF a top
 ";
 
 // Returns the number of the symbols, and whether the second one is as expected.
-fn told(alloc: Global) -> Result<(usize, bool), Fail> {
+fn parsed(alloc: Global) -> Result<(usize, bool), Fail> {
     let symbols = parse(alloc, LINES)?;
     let second = symbols.get(1) == Some(&("a_name_of_some_length", 0x4010));
     Ok((symbols.len(), second))
 }
 
 #[test]
-fn lines_tell_symbols(rt: HostRuntime) -> Result<(), Fail> {
-    let told = told(rt.alloc())?;
-    expect_eq!(rt; told, (4, true));
+fn symbols_are_parsed(rt: HostRuntime) -> Result<(), Fail> {
+    let found = parsed(rt.alloc())?;
+    expect_eq!(rt; found, (4, true));
     Ok(())
 }
 

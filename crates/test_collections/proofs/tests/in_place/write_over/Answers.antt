@@ -1,4 +1,4 @@
-use Rattle.std.proofs.Common.{◌≡◌, ap, subst, sym}
+use Rattle.std.proofs.Common.{ap, subst, sym}
 use Rattle.rkyv_base.specs.ElementSpec.{Viewable}
 use Rattle.rkyv_collections.specs.Map.MapSpec.{map_spec}
 use Rattle.test_collections.proofs.tests.in_place.write_over.Goals as goal

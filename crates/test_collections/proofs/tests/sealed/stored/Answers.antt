@@ -5,7 +5,7 @@ use Rattle.rkyv_scan.specs.Hash.{hash_of_calls}
 use Rattle.rkyv_base.specs.Scalar.{ScalarRepresents}
 use Rattle.rkyv_base.specs.Sealing.{value_pos}
 use Rattle.rkyv_base.specs.ElementSpec.{Viewable}
-use Rattle.rkyv_keys.specs.Lemmas.Asking.{rests_on_keys}
+use Rattle.rkyv_keys.specs.Lemmas.QueryLaws.{rests_on_keys}
 use Rattle.rkyv_collections.proofs.SealedMap.{pair_place}
 use Rattle.rkyv_collections.proofs.ValueWrites.{rests_on_each}
 use Rattle.test_collections.proofs.tests.sealed.stored.Goals as goal

@@ -8,4 +8,4 @@ pub returns-then-open_index_numbers-eq-DONE : goal.returns-then-open_index_numbe
 returns-then-open_index_numbers-eq-DONE g c = λ yes.
     let k : NumberKey _ = record { eq = g.K.PartialEq.eq; spec = g.K.HasSpec.spec; encoding = g.K.Scalar.encoding; call = g.K.ScalarKey.call } in
     let form = c.args.form in
-    opened (limit_of form.wide) (number_index k form) c.args.archive.now c.open_index_numbers.result c.open_index_numbers.ensures.told c.if-open_index_numbers-eq-DONE.true
+    opened (limit_of form.wide) (number_index k form) c.args.archive.now c.open_index_numbers.result c.open_index_numbers.ensures.status c.if-open_index_numbers-eq-DONE.true

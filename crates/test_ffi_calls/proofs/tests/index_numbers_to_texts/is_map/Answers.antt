@@ -8,4 +8,4 @@ pub returns-then-open_index_numbers_to_texts-eq-DONE : goal.returns-then-open_in
 returns-then-open_index_numbers_to_texts-eq-DONE g c = λ yes.
     let k : NumberKey _ = record { eq = g.K.PartialEq.eq; spec = g.K.HasSpec.spec; encoding = g.K.Scalar.encoding; call = g.K.ScalarKey.call } in
     let wide = c.args.wide in
-    opened (limit_of wide) (number_text_index k wide) c.args.archive.now c.open_index_numbers_to_texts.result c.open_index_numbers_to_texts.ensures.told c.if-open_index_numbers_to_texts-eq-DONE.true
+    opened (limit_of wide) (number_text_index k wide) c.args.archive.now c.open_index_numbers_to_texts.result c.open_index_numbers_to_texts.ensures.status c.if-open_index_numbers_to_texts-eq-DONE.true

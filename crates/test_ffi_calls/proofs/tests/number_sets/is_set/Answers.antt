@@ -8,4 +8,4 @@ pub returns-then-open_number_set-eq-DONE : goal.returns-then-open_number_set-eq-
 returns-then-open_number_set-eq-DONE g c = λ yes.
     let k : NumberKey _ = record { eq = g.K.PartialEq.eq; spec = g.K.HasSpec.spec; encoding = g.K.Scalar.encoding; call = g.K.ScalarKey.call } in
     let wide = c.args.wide in
-    opened (limit_of wide) (number_set k wide) c.args.archive.now c.open_number_set.result c.open_number_set.ensures.told c.if-open_number_set-eq-DONE.true
+    opened (limit_of wide) (number_set k wide) c.args.archive.now c.open_number_set.result c.open_number_set.ensures.status c.if-open_number_set-eq-DONE.true

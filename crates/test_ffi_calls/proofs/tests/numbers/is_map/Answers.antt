@@ -7,4 +7,4 @@ pub returns-then-open_numbers-eq-DONE : goal.returns-then-open_numbers-eq-DONE
 returns-then-open_numbers-eq-DONE g c = λ yes.
     let k : NumberKey _ = record { eq = g.K.PartialEq.eq; spec = g.K.HasSpec.spec; encoding = g.K.Scalar.encoding; call = g.K.ScalarKey.call } in
     let form = c.args.form in
-    opened (limit_of form.wide) (number_map k form) c.args.archive.now c.open_numbers.result c.open_numbers.ensures.told c.if-open_numbers-eq-DONE.true
+    opened (limit_of form.wide) (number_map k form) c.args.archive.now c.open_numbers.result c.open_numbers.ensures.status c.if-open_numbers-eq-DONE.true

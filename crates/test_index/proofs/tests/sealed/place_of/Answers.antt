@@ -13,7 +13,7 @@ second P Q (Some i) both = both.1
 pub returns : goal.returns
 returns g c =
     let bytes = ap (λ v. v.archive.now) c.of.ensures.view ∙ ap (λ a. a.now) c.new.ensures.0 in
-    let place = ap (λ v. v.pos) c.of.ensures.view ∙ c.new.ensures.1 in
+    let pos = ap (λ v. v.pos) c.of.ensures.view ∙ c.new.ensures.1 in
     let w = g.W.Word.word in
-    as_read c.of.result c.args.bytes.now c.args.root bytes place (λ d r. IfSome c.get_index_of.result (λ i. i < len_at w d r))
+    as_read c.of.result c.args.bytes.now c.args.root bytes pos (λ d r. IfSome c.get_index_of.result (λ i. i < len_at w d r))
     (second (IsStored c.of.result) (λ i. i < index_len c.of.result) c.get_index_of.result c.get_index_of.ensures.walked)

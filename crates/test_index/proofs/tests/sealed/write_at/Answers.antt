@@ -1,6 +1,5 @@
 use Rattle.std.proofs.Common.{ap, subst, sym}
 use Rattle.rkyv_base.specs.Entry.{entry_spec}
-use Rattle.rkyv_base.specs.Scalar.{scalar_spec}
 use Rattle.rkyv_base.specs.ElementSpec.{Viewable}
 use Rattle.rkyv_index.specs.Index.IndexLayout.{index_spec}
 use Rattle.test_index.proofs.tests.sealed.write_at.Goals as goal

@@ -23,7 +23,7 @@ fn audits_an_archive(rt: HostRuntime) {
 }
 
 #[test]
-fn tells_why_an_archive_is_refused(rt: HostRuntime) {
+fn check_prints_the_error_of_an_archive(rt: HostRuntime) {
     let rows = [
         ("", "01", "", "refused 1 OutOfRange\n"),
         ("kind text\n", ONE, "", "refused 1 OutOfRange\n"),

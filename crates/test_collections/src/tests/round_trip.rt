@@ -105,7 +105,7 @@ fn are_printed(alloc: Global) -> Result<[bool; 3], AllocError> {
 }
 
 #[test]
-fn they_are_printed_as_what_they_hold(rt: HostRuntime) -> Result<(), Fail> {
+fn hashed_is_printed_as_its_contents(rt: HostRuntime) -> Result<(), Fail> {
     let printed = are_printed(rt.alloc())?;
     expect_eq!(rt; printed, [true; 3]);
     Ok(())
@@ -117,7 +117,7 @@ fn compared<M: Eq>(value: &M, other: &M) -> (bool, bool) {
 }
 
 #[test]
-fn they_are_compared_as_what_they_hold(rt: HostRuntime) -> Result<(), Fail> {
+fn hashed_is_compared_as_its_contents(rt: HostRuntime) -> Result<(), Fail> {
     let map = map_of::<FxHasher64>(rt.alloc(), &[(1, 2)])?;
     let same = map_of::<FxHasher64>(rt.alloc(), &[(1, 2)])?;
     let other = map_of::<FxHasher64>(rt.alloc(), &[(1, 3)])?;

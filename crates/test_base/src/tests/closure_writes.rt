@@ -55,7 +55,7 @@ fn an_accepted_root_is_written(rt: HostRuntime) {
 }
 
 #[test]
-fn a_refused_archive_is_as_before(rt: HostRuntime) {
+fn invalid_archive_is_unchanged(rt: HostRuntime) {
     let mut bytes = [1, 0, 0];
     let told = access_mut_with::<u32, (), _>(&mut bytes, |archive: &mut [u8], _pos: u64| {
         archive.fill(7);

@@ -52,7 +52,7 @@ fn a_table_that_has_buckets_and_no_items_is_accepted(rt: HostRuntime) {
 }
 
 #[test]
-fn controls_that_do_not_repeat_are_refused(rt: HostRuntime) {
+fn rejects_wrong_mirrored_controls(rt: HostRuntime) {
     let mut large = fifteen_archived();
     large[32] = 1;
     let sixteen = matches!(
@@ -69,7 +69,7 @@ fn controls_that_do_not_repeat_are_refused(rt: HostRuntime) {
 }
 
 #[test]
-fn an_empty_control_may_be_another_byte_than_is_written(rt: HostRuntime) {
+fn accepts_another_empty_control_byte(rt: HostRuntime) {
     let mut bytes = one_number();
     bytes[16] = 0x80;
     bytes[18] = 0x80;
@@ -98,7 +98,7 @@ fn the_part_of_a_table_is_the_range_up_to_its_end(rt: HostRuntime) {
 }
 
 // Returns `true` if the first `len` bytes of the archive of one pair have the expected result.
-fn is_answered(len: usize, front: &[u8]) -> bool {
+fn has_known_result(len: usize, front: &[u8]) -> bool {
     let answer = access::<TableOf<Entry<u32, u32>>>(front);
     match len {
         0..12 => matches!(
@@ -144,10 +144,10 @@ fn is_answered(len: usize, front: &[u8]) -> bool {
 }
 
 #[test]
-fn fronts_of_an_archive_are_answered(rt: HostRuntime) {
+fn prefixes_of_an_archive_have_known_results(rt: HostRuntime) {
     let mut right = access::<TableOf<Entry<u32, u32>>>(&one_number()).is_ok();
     for len in 0..60 {
-        right = right && is_answered(len, &one_number()[..len]);
+        right = right && has_known_result(len, &one_number()[..len]);
     }
     assert!(rt; right);
 }
@@ -163,7 +163,7 @@ fn a_narrow_archive_is_no_wide_one(rt: HostRuntime) {
 }
 
 #[test]
-fn an_item_that_is_no_value_is_refused(rt: HostRuntime) {
+fn rejects_invalid_items(rt: HostRuntime) {
     let mut bytes = bools_archived();
     let written = counts::<bool, Narrow>(&bytes).ok();
     // an empty bucket can have any bytes
