@@ -17,7 +17,8 @@
 
 static char line[1 << 16];
 
-/* Whether a builder builds the archive: not of texts as values, nor of a set. */
+/* Whether a builder builds the archive: not that of a set, of a map to texts, or of a hash map with
+ * number keys of 64 bits. */
 static int has_builder(uint32_t kind) {
     return kind <= RKYV_INDEX_TEXT_TO_U64 || kind == RKYV_INDEX_LONG_NUMBER_TO_U32
         || kind == RKYV_INDEX_LONG_NUMBER_TO_U64;

@@ -1,6 +1,7 @@
 /*
- * Hash maps, hash sets and index maps in rkyv's archived byte format. An index map keeps its pairs in
- * the order in which they were added, and is looked up by key or by index.
+ * Hash maps, hash sets and index maps in a byte format modelled on rkyv's. That a build of rkyv
+ * reads it is not tested. An index map keeps its pairs in the order in which they were added, and
+ * is looked up by key or by index.
  *
  * A map has the keys and values of a `rkyv_kind`, and a set its items. Sets are opened as maps are,
  * and what is said of a map applies to a set too. Its archive has a width: 32 or 64, the number of
@@ -852,9 +853,9 @@ typedef struct rkyv_text_item {
     size_t key_length;
 } rkyv_text_item;
 
-/* Allocates the archive of the `count` pairs at `items`, as a builder of these pairs does, without a
- * copy of them. The caller frees it with `rkyv_bytes_free`. `kind` is a `rkyv_kind` of number keys and
- * of values that are numbers, `width` is 32 or 64. `items` may be null if `count` is 0.
+/* Allocates the archive of the `count` pairs at `items`, without a builder. The caller frees it with
+ * `rkyv_bytes_free`. `kind` is a `rkyv_kind` of number keys and of values that are numbers, `width` is
+ * 32 or 64. `items` may be null if `count` is 0.
  *
  * Errors:
  *   - RKYV_UNKNOWN_KIND, RKYV_UNKNOWN_WIDTH, RKYV_WRONG_KIND;

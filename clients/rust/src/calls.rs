@@ -6,7 +6,7 @@
 
 use std::panic::{RefUnwindSafe, UnwindSafe};
 
-use crate::raw::{Indexed, Pair, RawMap, RawTableHeader, RawText, Step, UNKNOWN_KIND};
+use crate::raw::{Indexed, Pair, RawMap, RawTableHeader, RawText, Step, UNKNOWN_CODES};
 
 /// Stores pairs `P` from a bucket or an index on, and returns their number.
 pub type StorePairs<From, P> = unsafe fn(map: &RawMap, from: From, pairs: &mut [P]) -> usize;
@@ -43,10 +43,10 @@ pub trait KeyCalls: 'static {
     const NONE: Self::Raw;
 
     /// The calls for values of type `u32`.
-    const NUMBERS: Calls<Self, u64>;
+    const U32_VALUES: Calls<Self, u64>;
 
     /// The calls for values of type `u64`.
-    const LONG_NUMBERS: Calls<Self, u64>;
+    const U64_VALUES: Calls<Self, u64>;
 
     /// The calls for values that are texts.
     const TEXTS: Calls<Self, RawText>;
@@ -219,7 +219,7 @@ macro_rules! calls {
 
             const NONE: $raw = $none;
 
-            const NUMBERS: Calls<$type, u64> = Calls {
+            const U32_VALUES: Calls<$type, u64> = Calls {
                 get: |map, $key, value| unsafe {
                     look_up!(map, $get, $get_wide, $($argument),+, value)
                 },
@@ -235,7 +235,7 @@ macro_rules! calls {
                 },
             };
 
-            const LONG_NUMBERS: Calls<$type, u64> = Calls {
+            const U64_VALUES: Calls<$type, u64> = Calls {
                 get: |map, $key, value| unsafe {
                     look_up!(map, $get_long, $get_long_wide, $($argument),+, value)
                 },
@@ -246,7 +246,7 @@ macro_rules! calls {
                 index_pairs: |map, from, pairs| unsafe {
                     store!(map, from, pairs, $index_from, true)
                 },
-                ..Self::NUMBERS
+                ..Self::U32_VALUES
             };
 
             const TEXTS: Calls<$type, RawText> = Calls {
@@ -273,7 +273,7 @@ macro_rules! calls {
                 build: |items, _kind, width, bytes, length| unsafe {
                     $build_set(items.as_ptr(), items.len(), width, bytes, length)
                 },
-                index_get: |_map, _key, _found| UNKNOWN_KIND,
+                index_get: |_map, _key, _found| UNKNOWN_CODES,
                 index_pairs: |_map, _from, _pairs| 0,
             };
 

@@ -1,5 +1,5 @@
-//! Hash maps, hash sets and index maps in rkyv's archived byte format, over the proved static
-//! library `ffi_rkyv`.
+//! Hash maps, hash sets and index maps in a byte format modelled on rkyv's, over the proved static
+//! library `ffi_rkyv`. That a build of rkyv reads it is not tested.
 //!
 //! A [`Builder`] collects pairs and builds the bytes of an archive. A [`Map`] borrows such bytes:
 //! [`Map::open`] validates them once, and lookups and iteration then read them in place. Keys and

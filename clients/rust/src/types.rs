@@ -327,7 +327,7 @@ impl SealedValue for u32 {
     }
 
     fn calls<K: Key + ?Sized>() -> Calls<K, u64> {
-        K::NUMBERS
+        K::U32_VALUES
     }
 }
 
@@ -348,7 +348,7 @@ impl SealedValue for u64 {
     }
 
     fn calls<K: Key + ?Sized>() -> Calls<K, u64> {
-        K::LONG_NUMBERS
+        K::U64_VALUES
     }
 }
 

@@ -12,7 +12,7 @@ use Rattle.rkyv_index.specs.Index.{IsValueAt, index_bytes, index_pos, key_pos}
 use Rattle.rkyv_index.specs.Index.IndexLayout.{pair_pos}
 use Rattle.rkyv_index.specs.declared.map.ArchivedIndexMap.{ArchivedIndexMap}
 use Rattle.bench_calls.specs.Archives.{number_spec}
-use Rattle.bench_calls.specs.Index.{index_key_pos, place_or_miss}
+use Rattle.bench_calls.specs.Index.{index_key_pos, indexed_value_or_miss}
 use Rattle.bench_calls.specs.Totals.{number_seen}
 
 module _ {K V H W : Type 0} {ks : Specs K} {vs : Specs V} {wt : Words W} (m : ArchivedIndexMap K V H W ks vs wt) (word : wt.word ≡ w32) (spec : vs.spec ≡ number_spec) where
@@ -22,7 +22,7 @@ module _ {K V H W : Type 0} {ks : Specs K} {vs : Specs V} {wt : Words W} (m : Ar
       ap (λ w. pair_pos w (entry_spec ks.spec vs.spec).size (index_bytes m) (index_pos m) i + value_offset ks.spec vs.spec) word
       ∙ ap (λ v. pair_pos w32 (entry_spec ks.spec v).size (index_bytes m) (index_pos m) i + value_offset ks.spec v) spec
 
-  pub index_found_seen : (found : Option (View V)) (place : Option ℕ) → IsValueAt m found place → number_seen found ≡ place_or_miss ks.spec (index_bytes m) (index_pos m) place
+  pub index_found_seen : (found : Option (View V)) (place : Option ℕ) → IsValueAt m found place → number_seen found ≡ indexed_value_or_miss ks.spec (index_bytes m) (index_pos m) place
   index_found_seen found None at = ap number_seen at
   index_found_seen found (Some i) at =
       ap number_seen at.1 ∙ ap (λ (a : Bor (List ℕ)). number_at w32 a.now (pos_of at.0)) at.2.at.0

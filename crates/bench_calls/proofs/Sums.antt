@@ -1,8 +1,7 @@
 -- Sums modulo 2 ^ 64.
-use Rattle.std.proofs.Common.{◌≡◌, ℕ, ◌+◌, ◌%◌, ◌^◌, arith, sym, ap, ◌∙◌, List, [], ◌∷◌, ◌++◌, map, Option, Some, None}
-use Rattle.std.proofs.Math.Nat.{mod-add-mod}
+use Rattle.std.proofs.Common.{◌≡◌, ℕ, ◌+◌, ◌%◌, ◌^◌, sym, ap, ◌∙◌, List, [], ◌∷◌, ◌++◌, map, Option, Some, None}
 use Rattle.std.proofs.lemmas.List.{append-nil, nil_from_length}
-use Rattle.std.proofs.lemmas.List.Sums.{sum-map, sum_by_push}
+use Rattle.std.proofs.lemmas.List.Sums.{sum-map}
 use Rattle.std.proofs.lemmas.Simd.{map-map}
 use Rattle.std.specs.Borrow.{Bor}
 use Rattle.std.specs.Iterator.{Drains, Yields}
@@ -34,8 +33,8 @@ module _ {S A B : Type 0} (steps : S → Option A → S → Type 0) (view : A �
   -- the sum over a map or an index map of a view, at its position in an archive
   pub counted_at : {T : Type 0} (count : List ℕ → ℕ → B → ℕ) (v : View T) (archive : Bor (List ℕ)) (p : ℕ) (s : S) (all : List B) (result : ℕ)
       → IsAt v archive p → rest s ≡ all → CountsAll (λ item. count v.archive.now v.pos (view item)) steps s result → result ≡ total (count archive.now p) all
-  counted_at count v archive p s all result at e exactly =
-      exactly.2 ∙ counted_all (count v.archive.now v.pos) exactly.0 s exactly.1 ∙ ap (total (count v.archive.now v.pos)) e
+  counted_at count v archive p s all result at e counts =
+      counts.2 ∙ counted_all (count v.archive.now v.pos) counts.0 s counts.1 ∙ ap (total (count v.archive.now v.pos)) e
       ∙ ap (λ (a : Bor (List ℕ)). total (count a.now v.pos) all) at.0 ∙ ap (λ q. total (count archive.now q) all) at.1
 
 -- the sum over the items of a slice
@@ -45,14 +44,3 @@ counted_slice count items s d = counted_all (iter_steps {A = ℕ}) (λ (x : Bor 
 pub slice_counted_at : {T : Type 0} (count : List ℕ → ℕ → ℕ → ℕ) (v : View T) (archive : Bor (List ℕ)) (p : ℕ) (s : Iter ℕ) (all : List ℕ) (result : ℕ)
     → IsAt v archive p → iter_rest s ≡ all → CountsAll (λ (item : Bor ℕ). count v.archive.now v.pos item.now) iter_steps s result → result ≡ total (count archive.now p) all
 slice_counted_at = counted_at (iter_steps {A = ℕ}) (λ (x : Bor ℕ). x.now) (iter_rest {T = ℕ}) (λ s x t h. h) (λ s t h. nil_from_length (iter_rest s) h.0)
-
--- one more item is added
-pub one_more : {X : Type 0} (count : X → ℕ) (xs : List X) (x : X) (t n : ℕ) → t ≡ total count xs → n ≡ count x → (t + n) % 2 ^ 64 ≡ total count (xs ++ (x ∷ []))
-one_more count xs x t n before more =
-    ap (λ a. (a + n) % 2 ^ 64) before ∙ mod-add-mod (sum_by count xs) (2 ^ 64) n ∙ ap (λ a. (sum_by count xs + a) % 2 ^ 64) more
-    ∙ ap (λ a. a % 2 ^ 64) (sym (sum_by_push count xs x))
-
--- one more item is added, as two terms in turn
-pub two_more : {X : Type 0} (count : X → ℕ) (xs : List X) (x : X) (t m n : ℕ) → t ≡ total count xs → m + n ≡ count x → ((t + m) % 2 ^ 64 + n) % 2 ^ 64 ≡ total count (xs ++ (x ∷ []))
-two_more count xs x t m n before more =
-    mod-add-mod (t + m) (2 ^ 64) n ∙ ap (λ a. a % 2 ^ 64) (let e : t + m + n ≡ t + (m + n) = omega arith in e) ∙ one_more count xs x t (m + n) before more

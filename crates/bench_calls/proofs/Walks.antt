@@ -34,8 +34,8 @@ module _ {K V : Type 0} (key : ElementSpec) (weight : List ℕ → ℕ → ℕ) 
   -- the sum over the yielded pairs is that over the positions of the viewed map in its archive
   pub walk_counted : {T : Type 0} (positions : List ℕ → ℕ → List ℕ) (v : View T) (archive : Bor (List ℕ)) (p : ℕ) (left : ItemsLeft) (result : ℕ) → IsAt v archive p → left.archive ≡ v.archive
       → left.positions ≡ positions v.archive.now v.pos → CountsAll (pair_seen {K = K} {V = V} weight) (TakesPair key number_spec) left result → result ≡ total (pair_weight key weight archive.now) (positions archive.now p)
-  walk_counted positions v archive p left result at same all_valid exactly =
+  walk_counted positions v archive p left result at same positions_are counts =
       let weigh = pair_weight key weight left.archive.now in
-      exactly.2 ∙ counted_all (TakesPair key number_spec) (pair_seen weight) (weights key weight) takes (none_left key weight) (λ n. n) exactly.0 left exactly.1 ∙ ap (λ n. n % 2 ^ 64) (sym (sum_seen weigh (λ n. n) left.positions))
-      ∙ ap (total weigh) all_valid ∙ ap (λ (a : Bor (List ℕ)). total (pair_weight key weight a.now) (positions v.archive.now v.pos)) (same ∙ at.0)
+      counts.2 ∙ counted_all (TakesPair key number_spec) (pair_seen weight) (weights key weight) takes (none_left key weight) (λ n. n) counts.0 left counts.1 ∙ ap (λ n. n % 2 ^ 64) (sym (sum_seen weigh (λ n. n) left.positions))
+      ∙ ap (total weigh) positions_are ∙ ap (λ (a : Bor (List ℕ)). total (pair_weight key weight a.now) (positions v.archive.now v.pos)) (same ∙ at.0)
       ∙ ap (λ (a : Bor (List ℕ)). total (pair_weight key weight archive.now) (positions a.now v.pos)) at.0 ∙ ap (λ q. total (pair_weight key weight archive.now) (positions archive.now q)) at.1

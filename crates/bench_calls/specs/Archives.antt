@@ -19,8 +19,8 @@ abbrev pub number_spec : ElementSpec
 number_spec = scalar_spec (unsigned w32)
 
 -- the spec of a text in a narrow archive
-abbrev pub short_text : ElementSpec
-short_text = text_spec w32
+abbrev pub narrow_text_spec : ElementSpec
+narrow_text_spec = text_spec w32
 
 -- the spec of a map of keys of the spec to numbers of 32 bits
 abbrev pub map_of : ElementSpec → ElementSpec

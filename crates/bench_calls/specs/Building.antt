@@ -12,7 +12,7 @@ use Rattle.rkyv_base.specs.Text.{TextReads, text_at}
 use Rattle.rkyv_base.specs.TextWriting.{text_format}
 use Rattle.rkyv_table.specs.Table.Listed.{listed}
 use Rattle.rkyv_collections.specs.Map.MapFormat.{MapRepresents, map_format}
-use Rattle.bench_calls.specs.Archives.{map_of, number_spec, short_text}
+use Rattle.bench_calls.specs.Archives.{map_of, narrow_text_spec, number_spec}
 use Rattle.bench_calls.specs.Totals.{number_hash, text_hash}
 
 -- `new` is `old` with the `n` bytes at its front overwritten by `bytes`
@@ -46,10 +46,10 @@ IsNumberMap pairs bytes = ArchiveOf 4294967295 (map_of number_spec)
 -- `bytes` are the archive of a map of borrowed texts to numbers, under the load factor 7 / 8.
 -- The pairs are inserted in this order.
 abbrev pub IsTextMap : List (Bor (List ℕ) × ℕ) → List ℕ → Type 0
-IsTextMap pairs bytes = ArchiveOf 4294967295 (map_of short_text)
-    (MapRepresents w32 short_text number_spec (λ b q text. TextReads w32 b q text.now)
+IsTextMap pairs bytes = ArchiveOf 4294967295 (map_of narrow_text_spec)
+    (MapRepresents w32 narrow_text_spec number_spec (λ b q text. TextReads w32 b q text.now)
     (ScalarRepresents (unsigned w32)) (λ b q. text_hash (text_at w32 b q)) (7, 8))
-    (listed 4294967295 (7, 8) (map_format w32 short_text number_spec
+    (listed 4294967295 (7, 8) (map_format w32 narrow_text_spec number_spec
     (written_as (λ text. text.now) (text_format w32)) (scalar_format (unsigned w32)) (λ text.
     text_hash text.now) (7, 8)))
     pairs bytes

@@ -52,15 +52,15 @@ abbrev pub index_key_pos : ElementSpec → List ℕ → ℕ → ℕ → ℕ
 index_key_pos key b p i = pair_pos w32 (entry_spec key number_spec).size b p i
 
 -- the value of the entry that a lookup finds, or 2 ^ 32
-abbrev pub place_or_miss : ElementSpec → List ℕ → ℕ → Option ℕ → ℕ
-place_or_miss key b p None = 2 ^ 32
-place_or_miss key b p (Some i) =
+abbrev pub indexed_value_or_miss : ElementSpec → List ℕ → ℕ → Option ℕ → ℕ
+indexed_value_or_miss key b p None = 2 ^ 32
+indexed_value_or_miss key b p (Some i) =
     number_at w32 b (index_key_pos key b p i + value_offset key number_spec)
 
 -- the value of the entry that a lookup finds, or 2 ^ 32.
 -- `calls`: hasher calls of the key, `fits`: test of the key at a position
 abbrev pub index_looked_up : ElementSpec → List ℕ → ℕ → List HasherCall → (List ℕ → ℕ → Bool) → ℕ
-index_looked_up key b p calls fits = place_or_miss key b p
+index_looked_up key b p calls fits = indexed_value_or_miss key b p
     (index_found w32 b p (hash_by calls) (λ i. fits b (index_key_pos key b p i)))
 
 -- the value of the entry that a lookup finds in the index map `m`, or 2 ^ 32

@@ -14,13 +14,13 @@ use Rattle.rkyv_base.specs.View.{IsValidView}
 use Rattle.rkyv_base.specs.declared.view.View.{View}
 use Rattle.rkyv_keys.specs.Calls.{text_calls}
 use Rattle.rkyv_keys.specs.OfTexts.{same_bytes}
-use Rattle.rkyv_keys.specs.Places.{at_view}
+use Rattle.rkyv_keys.specs.AtViews.{at_view}
 use Rattle.rkyv_scan.specs.Groups.{generic_kind}
 use Rattle.rkyv_scan.specs.Hash.{HasherCall, U32, fx_hash, low_halves}
 use Rattle.rkyv_table.specs.Table.Positions.{item_positions, pos_found}
 use Rattle.rkyv_collections.specs.Map.{map_bytes, map_pos}
 use Rattle.rkyv_collections.specs.declared.map.ArchivedHashMap.{ArchivedHashMap}
-use Rattle.bench_calls.specs.Archives.{number_spec, root, short_text}
+use Rattle.bench_calls.specs.Archives.{narrow_text_spec, number_spec, root}
 
 -- the sum of `count` over the items, modulo 2 ^ 64
 abbrev pub total : {X : Type 0} → (X → ℕ) → List X → ℕ
@@ -75,7 +75,7 @@ number_looked_up_at b p number = looked_up number_spec b p (number_calls number)
 -- the value that a lookup of `text` finds in the map at `p`, or 2 ^ 32
 abbrev pub text_looked_up_at : List ℕ → ℕ → List ℕ → ℕ
 text_looked_up_at b p text =
-    looked_up short_text b p (text_calls text) (λ c q. same_bytes text (text_at w32 c q))
+    looked_up narrow_text_spec b p (text_calls text) (λ c q. same_bytes text (text_at w32 c q))
 
 -- the value that a lookup of `number` finds in the map at the root, or 2 ^ 32
 abbrev pub number_looked_up : List ℕ → ℕ → ℕ

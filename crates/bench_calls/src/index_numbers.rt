@@ -1,8 +1,6 @@
 //! The calls for index maps of numbers to numbers.
 
-ghost use Rattle.std.specs.Int.{w32};
 ghost use Rattle.std.specs.Prelude.{◌≡◌};
-ghost use Rattle.bench_calls.specs.Archives.{number_spec};
 ghost use Rattle.bench_calls.specs.Building.{IsBuilt};
 ghost use Rattle.bench_calls.specs.Index.{IndexesNumbers, IsIndexArchive, IsIndexAtRoot};
 ghost use Rattle.bench_calls.specs.Index.{IsIndexLengthAnd1, index_number_looked_up};

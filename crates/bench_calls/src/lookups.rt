@@ -3,7 +3,7 @@
 ghost use Rattle.std.specs.Prelude.{IfSome, List, ℕ, Bool, ◌≡◌};
 ghost use Rattle.rkyv_scan.specs.Hash.{HasherCall};
 ghost use Rattle.rkyv_base.specs.View.{IsValidView};
-ghost use Rattle.rkyv_keys.specs.Places.{at_view};
+ghost use Rattle.rkyv_keys.specs.AtViews.{at_view};
 ghost use Rattle.bench_calls.specs.Archives.{number_spec};
 ghost use Rattle.bench_calls.specs.Index.{index_answer};
 ghost use Rattle.bench_calls.specs.Totals.{map_answer, number_seen, number_weight};

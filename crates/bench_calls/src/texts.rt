@@ -1,7 +1,7 @@
 //! The calls for maps of texts to numbers.
 
 ghost use Rattle.std.specs.Prelude.{◌≡◌};
-ghost use Rattle.bench_calls.specs.Archives.{IsArchive, IsLengthAnd1, short_text};
+ghost use Rattle.bench_calls.specs.Archives.{IsArchive, IsLengthAnd1, narrow_text_spec};
 ghost use Rattle.bench_calls.specs.Building.{IsBuilt, MapsTexts};
 ghost use Rattle.bench_calls.specs.Cuts.{AreTexts, texts};
 ghost use Rattle.bench_calls.specs.Totals.{text_hash, text_looked_up, text_weight, total};
@@ -57,7 +57,7 @@ pub fn build_text(
 
 /// Validates an archive, and returns the length of its map plus 1, or 0 if it isn't valid.
 pub fn access_text(archive: &[u8]) -> usize
-    ensures { IsLengthAnd1 short_text archive.now result }
+    ensures { IsLengthAnd1 narrow_text_spec archive.now result }
 {
     length_and_1::<Text>(archive)
 }
@@ -69,7 +69,7 @@ pub fn access_text(archive: &[u8]) -> usize
 /// - The archive is valid: `access_text` returned more than 0.
 /// - Each text is inside `bytes` and is UTF-8, and `ends` doesn't decrease.
 pub fn lookup_text(archive: &[u8], bytes: &[u8], ends: &[u32]) -> u64
-    requires archive { IsArchive short_text archive.now }
+    requires archive { IsArchive narrow_text_spec archive.now }
     requires texts { AreTexts bytes.now ends.now }
     ensures { result ≡ total (text_looked_up archive.now) (texts bytes.now ends.now) }
 {
@@ -82,8 +82,8 @@ pub fn lookup_text(archive: &[u8], bytes: &[u8], ends: &[u32]) -> u64
 ///
 /// - The archive is valid: `access_text` returned more than 0.
 pub fn walk_text(archive: &[u8]) -> u64
-    requires { IsArchive short_text archive.now }
-    ensures { result ≡ walk_total short_text text_weight archive.now }
+    requires { IsArchive narrow_text_spec archive.now }
+    ensures { result ≡ walk_total narrow_text_spec text_weight archive.now }
 {
     pair_total::<Text, _>(map_in(archive).iter())
 }

@@ -2,7 +2,7 @@
 
 ghost use Rattle.std.specs.Prelude.{List, ℕ, ◌≡◌};
 ghost use Rattle.rkyv_base.specs.View.{IsValidView};
-ghost use Rattle.rkyv_keys.specs.Places.{at_view};
+ghost use Rattle.rkyv_keys.specs.AtViews.{at_view};
 ghost use Rattle.bench_calls.specs.Totals.{number_weight, text_weight};
 
 use crate::lookups::number_in;

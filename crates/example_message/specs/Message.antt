@@ -11,7 +11,7 @@ use Rattle.rkyv_base.specs.Entry.{entry_spec}
 use Rattle.rkyv_base.specs.Format.{Format}
 use Rattle.rkyv_base.specs.Numbers.{unsigned}
 use Rattle.rkyv_base.specs.Pairs.{written_as}
-use Rattle.rkyv_base.specs.Root.{ArchiveOf, ArchiveRefused}
+use Rattle.rkyv_base.specs.Root.{ArchiveOf, ToBytesFails}
 use Rattle.rkyv_base.specs.Scalar.{ScalarRepresents, scalar_format, scalar_spec}
 use Rattle.rkyv_base.specs.Sealing.{value_pos, with_value}
 use Rattle.rkyv_base.specs.ElementSpec.{ElementSpec, Viewable}
@@ -22,7 +22,7 @@ use Rattle.rkyv_base.specs.declared.errors.WriteError.{WriteError}
 use Rattle.rkyv_keys.specs.Calls.{text_calls}
 use Rattle.rkyv_keys.specs.OfTexts.{same_bytes}
 use Rattle.rkyv_keys.specs.Lemmas.OfTexts.{IsTextOf, text_key_calls}
-use Rattle.rkyv_table.specs.Table.Listed.{listed, written_under}
+use Rattle.rkyv_table.specs.Table.Listed.{listed, written_as_each}
 use Rattle.rkyv_table.specs.Table.Positions.{pos_found}
 use Rattle.rkyv_table.specs.Table.TableFormat.{TableResolver}
 use Rattle.rkyv_collections.specs.Map.InPlace.{with_first}
@@ -108,7 +108,7 @@ map_of_names spec format factor = listed 4_294_967_295 factor (map_format w32 na
 
 -- the format of the fields of a part
 abbrev pub part_format : Format (MapPairs (Bor (List ℕ)) ℕ ℕ) TableResolver
-part_format = written_under (λ part. part.pairs.now)
+part_format = written_as_each (λ part. part.pairs.now)
     (λ part. map_of_names number_spec (scalar_format (unsigned w32)) part.load_factor)
 
 -- the format of the parts, under the load factor
@@ -122,7 +122,7 @@ IsMessageOf parts message =
 
 -- the write of the parts fails with `e`
 unfoldable pub MessageFails : {F : Type 0} → Parts → WriteError F → Type 0
-MessageFails parts e = ArchiveRefused 4_294_967_295 header_spec (parts_format (7, 8)) parts e
+MessageFails parts e = ToBytesFails 4_294_967_295 header_spec (parts_format (7, 8)) parts e
 
 -- `held` equals the name
 abbrev pub is_named : List ℕ → Bor (List ℕ) → Bool

@@ -20,7 +20,6 @@ ghost use Rattle.example_message.specs.Message.{
   WritesNumber,
   fields_found,
   first_number,
-  name_spec,
   number_found,
   number_in,
   number_spec,
@@ -144,7 +143,15 @@ pub fn set_number(
         → IfOk result (SetsNumber part.now field.now number parts message.new) }
 {
     nested_writes_keep_maps::<Text, HashMapOf<Text, u32>, FxHasher64, Narrow>();
-    nested_writes_represent::<&str, &str, Fields<'_>, Text, HashMapOf<Text, u32>, FxHasher64, Narrow>();
+    nested_writes_represent::<
+        &str,
+        &str,
+        Fields<'_>,
+        Text,
+        HashMapOf<Text, u32>,
+        FxHasher64,
+        Narrow,
+    >();
     match pos_of_part(&*message, part)? {
         Some(pos) => Ok(set_value_of::<&str, Text, u32, FxHasher64, Narrow>(
             message, pos, &field, number,

@@ -8,18 +8,18 @@ use Rattle.std.specs.Str.Lines.{lines}
 use Rattle.std.specs.Str.Parse.{digits_value}
 
 -- a symbol, with its name as bytes
-abbrev pub seen : Bor (List ℕ) × ℕ → List ℕ × ℕ
-seen symbol = (symbol.0.now, symbol.1)
+abbrev pub with_name_bytes : Bor (List ℕ) × ℕ → List ℕ × ℕ
+with_name_bytes symbol = (symbol.0.now, symbol.1)
 
 -- `line` is 16 hexadecimal digits, a space, one byte, a space, and a name of at least one byte
-abbrev pub tells_symbol : List ℕ → Bool
-tells_symbol line = nat_lt 19 (length line)
+abbrev pub has_symbol : List ℕ → Bool
+has_symbol line = nat_lt 19 (length line)
     && ((slice_index line 16 == 32)
     && ((slice_index line 18 == 32) && list_all is_ascii_hexdigit (take 16 line)))
 
 -- the name, and the address of the digits, or `None` if the line has no symbol
 abbrev pub symbol_of : List ℕ → Option (List ℕ × ℕ)
-symbol_of line = if tells_symbol line then Some (drop 19 line, digits_value 16 (take 16 line))
+symbol_of line = if has_symbol line then Some (drop 19 line, digits_value 16 (take 16 line))
     else None
 
 -- the symbols of the lines of `text`, in order; lines without a symbol are skipped

@@ -11,7 +11,7 @@ use Rattle.rkyv_base.specs.Entry.{entry_spec, value_offset}
 use Rattle.rkyv_base.specs.Format.{Format}
 use Rattle.rkyv_base.specs.Numbers.{unsigned}
 use Rattle.rkyv_base.specs.Pairs.{written_as}
-use Rattle.rkyv_base.specs.Root.{ArchiveOf, ArchiveRefused}
+use Rattle.rkyv_base.specs.Root.{ArchiveOf, ToBytesFails}
 use Rattle.rkyv_base.specs.Scalar.{ScalarRepresents, scalar_format, scalar_spec}
 use Rattle.rkyv_base.specs.ElementSpec.{ElementSpec}
 use Rattle.rkyv_base.specs.Text.{text_at, text_spec}
@@ -80,7 +80,7 @@ IsRefused table e = AccessFails 4_294_967_295 header_spec table e
 
 -- the write of the symbols fails with `e`
 unfoldable pub TableFails : {F : Type 0} → Symbols → WriteError F → Type 0
-TableFails symbols e = ArchiveRefused 4_294_967_295 header_spec (symbols_format (7, 8)) symbols e
+TableFails symbols e = ToBytesFails 4_294_967_295 header_spec (symbols_format (7, 8)) symbols e
 
 -- the address of the first symbol with the name
 abbrev pub first_address : List ℕ → Symbols → Option ℕ

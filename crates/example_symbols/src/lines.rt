@@ -3,7 +3,7 @@ ghost use Rattle.std.specs.List.{list_all};
 ghost use Rattle.std.specs.Option.{option_map, option_to_list};
 ghost use Rattle.std.specs.Char.{is_ascii_hexdigit};
 ghost use Rattle.std.specs.Prelude.{IfOk, OnOk, map, ◌++◌, ◌≡◌};
-ghost use Rattle.example_symbols.specs.Lines.{seen, symbol_of, symbols_of, tells_symbol};
+ghost use Rattle.example_symbols.specs.Lines.{has_symbol, symbol_of, symbols_of, with_name_bytes};
 
 use std::alloc::{AllocError, Global};
 
@@ -15,17 +15,17 @@ fn are_digits(bytes: &[u8]) -> bool
 }
 
 /// Returns whether the line has a symbol with its address.
-fn tells_symbol(line: &[u8]) -> bool
-    ensures { result ≡ tells_symbol line.now }
+fn has_symbol(line: &[u8]) -> bool
+    ensures { result ≡ has_symbol line.now }
 {
     line.len() > 19 && line[16] == b' ' && line[18] == b' ' && are_digits(&line[..16])
 }
 
 /// Returns the symbol of a line, with its address, or `None` if it has none.
 fn symbol(line: &str) -> Option<(&str, u64)>
-    ensures { option_map seen result ≡ symbol_of line.now }
+    ensures { option_map with_name_bytes result ≡ symbol_of line.now }
 {
-    if !tells_symbol(line.as_bytes()) {
+    if !has_symbol(line.as_bytes()) {
         return None;
     }
     match u64::from_str_radix(&line[..16], 16) {
@@ -36,8 +36,8 @@ fn symbol(line: &str) -> Option<(&str, u64)>
 
 /// Appends the symbol of a line, if it has one.
 fn push_symbol<'a>(line: &'a str, symbols: &mut Vec<(&'a str, u64)>) -> Result<(), AllocError>
-    ensures { OnOk result (map seen symbols.new.items
-        ≡ map seen symbols.old.items ++ option_to_list (symbol_of line.now)) }
+    ensures { OnOk result (map with_name_bytes symbols.new.items
+        ≡ map with_name_bytes symbols.old.items ++ option_to_list (symbol_of line.now)) }
 {
     if let Some(symbol) = symbol(line) {
         symbols.push(symbol)?;
@@ -59,7 +59,7 @@ fn push_symbol<'a>(line: &'a str, symbols: &mut Vec<(&'a str, u64)>) -> Result<(
 ///
 /// - `AllocError`: the vector fails to allocate.
 pub fn parse(alloc: Global, text: &str) -> Result<Vec<(&str, u64)>, AllocError>
-    ensures { IfOk result (λ symbols. map seen symbols.items ≡ symbols_of text.now) }
+    ensures { IfOk result (λ symbols. map with_name_bytes symbols.items ≡ symbols_of text.now) }
 {
     let mut symbols = Vec::new(alloc);
     for line in text.lines() {

@@ -13,7 +13,7 @@ use Rattle.rkyv_base.specs.Entry.{entry_spec}
 use Rattle.rkyv_base.specs.Format.{Format}
 use Rattle.rkyv_base.specs.Numbers.{unsigned}
 use Rattle.rkyv_base.specs.Pairs.{written_as}
-use Rattle.rkyv_base.specs.Root.{ArchiveOf, ArchiveRefused}
+use Rattle.rkyv_base.specs.Root.{ArchiveOf, ToBytesFails}
 use Rattle.rkyv_base.specs.Scalar.{ScalarRepresents, scalar_format, scalar_spec}
 use Rattle.rkyv_base.specs.ElementSpec.{ElementSpec}
 use Rattle.rkyv_base.specs.Text.{text_at}
@@ -79,7 +79,7 @@ IsIndexOf symbols index = (pairs : Listed) × IsAscending (turned symbols) pairs
 abbrev pub IndexFails : {F : Type 0} → Symbols → WriteError F → Type 0
 IndexFails symbols e = (e ≡ Memory)
     ⊎ ((pairs : Listed) × IsAscending (turned symbols) pairs.0.items
-    × ArchiveRefused 4_294_967_295 index_header pairs_format pairs e)
+    × ToBytesFails 4_294_967_295 index_header pairs_format pairs e)
 
 -- `result` is the archive of the symbols by ascending address, or the error of its write
 abbrev pub IndexResult : {F Z : Type 0} → Symbols → Result (Vec ℕ Z) (WriteError F) → Type 0

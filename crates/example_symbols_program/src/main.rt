@@ -64,7 +64,7 @@ fn read_input(rt: &HostRuntime) -> Result<String, SymbolsError> {
 }
 
 /// Prints the address of a name in a table, or a line with `none`.
-fn answer(rt: &HostRuntime, table: &[u8], name: &str) -> Result<Outcome, SymbolsError>
+fn print_address(rt: &HostRuntime, table: &[u8], name: &str) -> Result<Outcome, SymbolsError>
     requires { IsTable table.now }
     ensures { IfOk result (λ outcome. outcome ≡ outcome_of (address_found name.now table.now)) }
 {
@@ -81,7 +81,7 @@ fn answer(rt: &HostRuntime, table: &[u8], name: &str) -> Result<Outcome, Symbols
 }
 
 /// Validates the table of a file.
-fn opened(rt: &HostRuntime, file: &str, table: &[u8]) -> Result<(), SymbolsError>
+fn validate(rt: &HostRuntime, file: &str, table: &[u8]) -> Result<(), SymbolsError>
     ensures { OnOk result (IsTable table.now) }
 {
     match check(table) {
@@ -95,15 +95,15 @@ fn opened(rt: &HostRuntime, file: &str, table: &[u8]) -> Result<(), SymbolsError
 /// The names are the arguments, or the lines of standard input if there are no arguments.
 fn get(rt: &HostRuntime, table: &str, names: &[String]) -> Result<Outcome, SymbolsError> {
     let bytes = read_file(rt, table)?;
-    opened(rt, table, bytes.as_slice())?;
+    validate(rt, table, bytes.as_slice())?;
     let mut outcome = Outcome::Complete;
     for name in names {
-        outcome = outcome.and(answer(rt, bytes.as_slice(), name.as_str())?);
+        outcome = outcome.and(print_address(rt, bytes.as_slice(), name.as_str())?);
     }
     if names.is_empty() {
         let text = read_input(rt)?;
         for name in text.lines() {
-            outcome = outcome.and(answer(rt, bytes.as_slice(), name)?);
+            outcome = outcome.and(print_address(rt, bytes.as_slice(), name)?);
         }
     }
     Ok(outcome)
@@ -149,9 +149,9 @@ fn build(rt: &HostRuntime, table: &str, index: &str, all: bool) -> Result<Outcom
     let mut outcome = Outcome::Complete;
     if all {
         let bytes = read_file(rt, table)?;
-        opened(rt, table, bytes.as_slice())?;
+        validate(rt, table, bytes.as_slice())?;
         for (name, _) in symbols.iter() {
-            outcome = outcome.and(answer(rt, bytes.as_slice(), name)?);
+            outcome = outcome.and(print_address(rt, bytes.as_slice(), name)?);
         }
         outcome = outcome.and(list(rt, index)?);
         cut_short(rt, bytes.as_slice())?;
@@ -160,7 +160,7 @@ fn build(rt: &HostRuntime, table: &str, index: &str, all: bool) -> Result<Outcom
 }
 
 /// Prints the usage to standard error.
-fn misused(rt: &HostRuntime) -> Outcome
+fn print_usage(rt: &HostRuntime) -> Outcome
     ensures { result ≡ Outcome.Misused }
 {
     let _ = rt.eprintln(USAGE);
@@ -182,7 +182,7 @@ fn execute(rt: &HostRuntime, name: &str, arguments: &[String]) -> Result<Outcome
         Some(Command::All) => build(rt, arguments[0].as_str(), arguments[1].as_str(), true),
         Some(Command::Get) => get(rt, arguments[0].as_str(), &arguments[1..]),
         Some(Command::List) => list(rt, arguments[0].as_str()),
-        None => Ok(misused(rt)),
+        None => Ok(print_usage(rt)),
     }
 }
 
@@ -201,7 +201,7 @@ fn run(rt: &HostRuntime) -> Result<Outcome, SymbolsError> {
     }
     match words.as_slice().split_first() {
         Some((name, arguments)) => execute(rt, name.as_str(), arguments),
-        None => Ok(misused(rt)),
+        None => Ok(print_usage(rt)),
     }
 }
 

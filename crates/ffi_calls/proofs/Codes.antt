@@ -11,7 +11,7 @@ codes_unique codes c d h k =
     contents_equal c d (kind_unique _ _ (h.0 ∙ sym k.0)) (item_unique _ _ (h.1 ∙ sym k.1))
     (item_unique _ _ (h.2 ∙ sym k.2)) (width_unique _ _ (h.3 ∙ sym k.3))
 
--- what opens the contents with the codes opens those that have the codes
+-- a call that opens exactly `c` opens exactly the contents with its codes
 pub opens_codes : (codes : Codes) (b : List ℕ) (status : ℕ) (c : Contents) → HasCodes codes c
     → OpensOwn c b status → OpensOwnCodes codes b status
 opens_codes codes b status c h o d a k = (

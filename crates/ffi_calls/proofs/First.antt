@@ -18,8 +18,8 @@ abbrev RepresentsIn : {B : Type 0} → (List ℕ → ℕ → B → Type 0) → L
 RepresentsIn represents b place x = (q : ℕ) × (place ≡ Some q) × represents b q x
 
 -- a valid element at a position is one at the position of a view of it
-pub view_represents : {T : Type 0} (s : ElementSpec) (view : View T) (a : Bor (List ℕ)) (p : ℕ) → view.archive ≡ a → view.pos ≡ p → Viewable s a.now p → Viewable s view.archive.now view.pos
-view_represents s view a p e f h = subst (Viewable s view.archive.now) (sym f) (subst (λ (d : Bor (List ℕ)). Viewable s d.now p) (sym e) h)
+pub viewable_at_view : {T : Type 0} (s : ElementSpec) (view : View T) (a : Bor (List ℕ)) (p : ℕ) → view.archive ≡ a → view.pos ≡ p → Viewable s a.now p → Viewable s view.archive.now view.pos
+viewable_at_view s view a p e f h = subst (Viewable s view.archive.now) (sym f) (subst (λ (d : Bor (List ℕ)). Viewable s d.now p) (sym e) h)
 
 -- the position of a value that is found in a map over the bytes `b`, and its validity
 module _ {K V H W : Type 0} {ks : Specs K} {vs : Specs V} {wt : Words W} (m : ArchivedHashMap K V H W ks vs wt) (b : List ℕ) (same : map_bytes m ≡ b) where

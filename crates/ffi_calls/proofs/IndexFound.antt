@@ -10,7 +10,7 @@ use Rattle.rkyv_collections.specs.Map.MapAt.{MapAt}
 use Rattle.rkyv_index.specs.Index.{IsKeyOf, IsValueOf, index_bytes}
 use Rattle.rkyv_index.specs.declared.map.ArchivedIndexMap.{ArchivedIndexMap}
 use Rattle.ffi_calls.specs.IndexArchives.{index_at, pair_pos_at, value_pos_at}
-use Rattle.ffi_calls.proofs.Next.{there}
+use Rattle.ffi_calls.proofs.AtViews.{there}
 
 -- the map at a position
 abbrev map_of : Width → ElementSpec → ElementSpec → List ℕ → ℕ → MapAt

@@ -3,7 +3,7 @@ pub mod Forms
 pub mod Collected
 pub mod First
 pub mod Members
-pub mod Next
+pub mod AtViews
 pub mod Statuses
 pub mod Codes
 pub mod Together

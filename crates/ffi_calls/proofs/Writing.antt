@@ -37,9 +37,9 @@ module _ {N : Type 0} (w : Width) (k v : ElementSpec) (e : Encoding N) (key_hash
   status_of_set status (Some q) found missed h = (found h.0, h.1)
 
   -- the map is valid after the overwrite
-  represents_after_set : (place : Option ℕ) → SetsFound w k v e key_hash b p value result c place → Viewable (map_spec w k v) b p → Viewable (map_spec w k v) c p
-  represents_after_set None h there = subst (λ x. Viewable (map_spec w k v) x p) (sym h.1) there
-  represents_after_set (Some q) h there = h.2.1.valid
+  viewable_after_set : (place : Option ℕ) → SetsFound w k v e key_hash b p value result c place → Viewable (map_spec w k v) b p → Viewable (map_spec w k v) c p
+  viewable_after_set None h there = subst (λ x. Viewable (map_spec w k v) x p) (sym h.1) there
+  viewable_after_set (Some q) h there = h.2.1.valid
 
   -- the decoded header of the map is that of the map after the overwrite
   header_after_set : (place : Option ℕ) → SetsFound w k v e key_hash b p value result c place → (header : Decoded) → IsDecoded w b p header → IsDecoded w c p header
@@ -66,7 +66,7 @@ module _ {N : Type 0} (w : Width) (k v : ElementSpec) (e : Encoding N) (key_hash
 
   -- the archive is valid after the overwrite
   pub set_kept : (limit : ℕ) → Accepted limit (map_spec w k v) b → Viewable (map_spec w k v) b p → length c ≡ length b → Accepted limit (map_spec w k v) c
-  set_kept limit accepted viewable same = accepted_again limit (map_spec w k v) b c p accepted at same (represents_after_set w k v e key_hash b p value result c (place_at p) set viewable)
+  set_kept limit accepted viewable same = accepted_again limit (map_spec w k v) b c p accepted at same (viewable_after_set w k v e key_hash b p value result c (place_at p) set viewable)
 
   -- the decoded header stays that of the map
   pub set_keeps_header : length c ≡ length b → KeepsHeader (map_in w k v b) (map_in w k v c)

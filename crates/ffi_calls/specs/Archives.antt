@@ -11,7 +11,7 @@ use Rattle.rkyv_base.specs.Entry.{entry_spec}
 use Rattle.rkyv_base.specs.Numbers.{unsigned}
 use Rattle.rkyv_base.specs.Scalar.{Encoding, scalar_spec}
 use Rattle.rkyv_base.specs.Sealing.{value_pos, with_value}
-use Rattle.rkyv_base.specs.ElementSpec.{ElementSpec, Viewable}
+use Rattle.rkyv_base.specs.ElementSpec.{ElementSpec}
 use Rattle.rkyv_base.specs.Text.{text_spec}
 use Rattle.rkyv_base.specs.declared.errors.VerifyError.{VerifyError}
 use Rattle.rkyv_collections.specs.Map.MapAt.{MapAt}
@@ -20,25 +20,25 @@ use Rattle.rkyv_table.specs.Table.Decoded.{IsDecoded}
 use Rattle.rkyv_table.specs.Table.Positions.{pos_found}
 use Rattle.rkyv_table.specs.declared.table.decoded.Decoded.{Decoded}
 use Rattle.ffi_calls.specs.Keys.{NumberKey}
-use Rattle.ffi_calls.specs.Status.{refusal}
+use Rattle.ffi_calls.specs.Status.{verify_status}
 use Rattle.ffi_calls.specs.declared.form.Form.{Form}
 
 -- `shorter` if the flag is `false`, `longer` if it is `true`
-abbrev pub by_form : {A : Type 0} → A → A → Bool → A
-by_form shorter longer false = shorter
-by_form shorter longer true = longer
+abbrev pub by_flag : {A : Type 0} → A → A → Bool → A
+by_flag shorter longer false = shorter
+by_flag shorter longer true = longer
 
 -- the word of 32 bits, or of 64 bits if the flag is `true`
 abbrev pub word_of : Bool → Width
-word_of = by_form w32 w64
+word_of = by_flag w32 w64
 
 -- the greatest length of an archive, narrow or wide, in bytes
 abbrev pub limit_of : Bool → ℕ
-limit_of = by_form 4_294_967_295 9_223_372_036_854_775_807
+limit_of = by_flag 4_294_967_295 9_223_372_036_854_775_807
 
 -- the greatest number of buckets, narrow or wide
 abbrev pub most_of : Bool → ℕ
-most_of = by_form 4_294_967_295 4_611_686_018_427_387_904
+most_of = by_flag 4_294_967_295 4_611_686_018_427_387_904
 
 -- the form of the two flags
 abbrev pub form_of : Bool → Bool → Form
@@ -68,10 +68,6 @@ text_map form = map_spec (word_of form.wide) (text_key form) (value_spec form)
 abbrev pub IsMapArchive : Width → ℕ → ElementSpec → ElementSpec → List ℕ → Type 0
 IsMapArchive w limit k v b = Accepted limit (map_spec w k v) b
 
--- a valid pair of such a map is at position `p`
-abbrev pub IsPairAt : ElementSpec → ElementSpec → List ℕ → ℕ → Type 0
-IsPairAt k v b p = Viewable (entry_spec k v) b p
-
 -- `b` is the valid archive of a map of numbers in the form
 abbrev pub IsNumberArchive : {A : Type 0} → NumberKey A → Form → List ℕ → Type 0
 IsNumberArchive k form b = Accepted (limit_of form.wide) (number_map k form) b
@@ -83,7 +79,7 @@ IsTextArchive form b = Accepted (limit_of form.wide) (text_map form) b
 -- `b` is valid and the status is 0, or the status is that of the first validation error
 abbrev pub Opens : ℕ → ElementSpec → List ℕ → ℕ → Type 0
 Opens limit s b status = (Accepted limit s b × (status ≡ 0))
-    ⊎ ((e : VerifyError) × AccessFails limit s b e × (status ≡ refusal e))
+    ⊎ ((e : VerifyError) × AccessFails limit s b e × (status ≡ verify_status e))
 
 -- the hash of hasher calls
 abbrev pub hash_by : List HasherCall → ℕ
@@ -128,8 +124,8 @@ GivesAt IsAt place before status after = MatchOption place ((status ≡ 1) × (a
 
 -- `c` is `b` with the value of `number` at `place`, and the status is 0.
 -- If `number` has too many bits, or at `None`, no byte is changed.
-abbrev pub Sets : {N : Type 0} → Encoding N → List ℕ → Option ℕ → ℕ → ℕ → List ℕ → Type 0
-Sets {N} e b place number status c =
+abbrev pub Overwrites : {N : Type 0} → Encoding N → List ℕ → Option ℕ → ℕ → ℕ → List ℕ → Type 0
+Overwrites {N} e b place number status c =
     ((2 ^ bits e.word ≤ number) × (status ≡ 3) × (c ≡ b))
     ⊎ ((number < 2 ^ bits e.word) × ((value : N) × (e.code value ≡ number)
     × MatchOption place ((status ≡ 1) × (c ≡ b))

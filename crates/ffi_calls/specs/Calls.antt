@@ -7,7 +7,7 @@ use Rattle.rkyv_base.specs.Scalar.{ScalarRepresents}
 use Rattle.rkyv_keys.specs.Calls.{text_calls}
 use Rattle.rkyv_keys.specs.OfScalars.{one_call, scalar_fits}
 use Rattle.rkyv_keys.specs.OfTexts.{same_bytes}
-use Rattle.ffi_calls.specs.Archives.{GivesAt, Sets, numbers_in, texts_in, value_encoding}
+use Rattle.ffi_calls.specs.Archives.{GivesAt, Overwrites, numbers_in, texts_in, value_encoding}
 use Rattle.ffi_calls.specs.Archives.{value_found, word_of}
 use Rattle.ffi_calls.specs.Keys.{NumberKey}
 use Rattle.ffi_calls.specs.Reading.{ReadsText, ReadsWord}
@@ -28,7 +28,7 @@ module _ {A : Type 0} (k : NumberKey A) (form : Form) (b : List ℕ) where
 
   -- the result of an overwrite of the value of the number `key` in `b`
   abbrev pub SetsNumber : A → ℕ → ℕ → List ℕ → Type 0
-  SetsNumber key = Sets (value_encoding form) b (number_found key)
+  SetsNumber key = Overwrites (value_encoding form) b (number_found key)
 
   -- the result of steps to the next pairs of a map of numbers
   abbrev pub StoresNextNumbers : ℕ → List (Step (Pair A ℕ)) → ℕ → List (Step (Pair A ℕ)) → Type 0
@@ -54,7 +54,7 @@ GivesText form b key before status after =
 abbrev pub SetsText : Form → List ℕ → List ℕ → ℕ → ℕ → List ℕ → Type 0
 SetsText form b key value status c =
     ((IsUtf8 key → ⊥) × (status ≡ 4) × (c ≡ b))
-    ⊎ (IsUtf8 key × Sets (value_encoding form) b (text_found form b key) value status c)
+    ⊎ (IsUtf8 key × Overwrites (value_encoding form) b (text_found form b key) value status c)
 
 -- the result of steps to the next pairs of a map of texts
 abbrev pub StoresNextTexts : Form → List ℕ → ℕ → List (Step (Pair (Bor (List ℕ)) ℕ)) → ℕ

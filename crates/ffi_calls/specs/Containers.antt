@@ -10,14 +10,14 @@ use Rattle.rkyv_container.specs.Checks.{FirstFails}
 use Rattle.rkyv_container.specs.Codes.{item_code, kind_code, width_code}
 use Rattle.rkyv_container.specs.Container.{IsContainer, IsContainerOf, OpenAsFails, header_of}
 use Rattle.rkyv_container.specs.Header.{IsHeader, header_checks}
-use Rattle.ffi_calls.specs.Archives.{by_form}
-use Rattle.ffi_calls.specs.Status.{container_refusal}
+use Rattle.ffi_calls.specs.Archives.{by_flag}
+use Rattle.ffi_calls.specs.Status.{container_status}
 use Rattle.ffi_calls.specs.declared.containers.Codes.{Codes}
 use Rattle.ffi_calls.specs.declared.containers.Opened.{Opened}
 
 -- the width of an archive: narrow, or wide if the flag is `true`
-abbrev pub width_by : Bool → Width
-width_by = by_form Narrow Wide
+abbrev pub container_width_by : Bool → Width
+container_width_by = by_flag Narrow Wide
 
 -- the codes of a kind, of a type of keys, of a type of values and of a width
 abbrev pub codes_of : ℕ → ℕ → ℕ → ℕ → Codes
@@ -54,8 +54,8 @@ WritesContainerHeader codes checked a before status after =
 -- Or it is that of the first error of the header, and `after` is `before`.
 abbrev pub ReadsWidth : List ℕ → Bool → ℕ → Bool → Type 0
 ReadsWidth b before status after =
-    ((h : Header) × IsHeader h b × (status ≡ 0) × (h.contents.width ≡ width_by after))
-    ⊎ ((e : ContainerError) × FirstFails (header_checks b) e × (status ≡ container_refusal e)
+    ((h : Header) × IsHeader h b × (status ≡ 0) × (h.contents.width ≡ container_width_by after))
+    ⊎ ((e : ContainerError) × FirstFails (header_checks b) e × (status ≡ container_status e)
     × (after ≡ before))
 
 -- The status is 0, and `after` has the archive of the container `b` with these contents.
@@ -63,7 +63,7 @@ ReadsWidth b before status after =
 abbrev pub OpensAs : Contents → List ℕ → Opened → ℕ → Opened → Type 0
 OpensAs contents b before status after =
     (IsContainerOf contents after.archive.now b × (status ≡ 0))
-    ⊎ ((e : ContainerError) × OpenAsFails contents b e × (status ≡ container_refusal e)
+    ⊎ ((e : ContainerError) × OpenAsFails contents b e × (status ≡ container_status e)
     × (after ≡ before))
 
 -- a container of any contents is opened if and only if they are the expected ones
@@ -92,6 +92,6 @@ UpdatesContainer before status after =
     × IsContainer (header_of h.contents (drop 32 before) (is_some h.checksum)) (drop 32 before)
     after)
     ⊎ ((e : ContainerError) × FirstFails (header_checks before) e
-    × (status ≡ container_refusal e) × (after ≡ before))
+    × (status ≡ container_status e) × (after ≡ before))
     ⊎ ((h : Header) × IsHeader h before × (h.len ≡ length (drop 32 before) → ⊥)
     × (status ≡ 46) × (after ≡ before))

@@ -41,27 +41,28 @@ explain (InvalidValue pos) = explained 22 (nearest (int pos)) 0 0
 explain (Refused reason) = explained 23 (int 0) reason 0
 
 -- the explanation of a container's error; kinds, types and widths are their codes
-unfoldable pub explain_container : ContainerError → Explanation
-explain_container (container.TooShort len) = explained 32 (int 0) len 0
-explain_container container.WrongMagic = explained 33 (int 0) 0 0
-explain_container (container.UnsupportedVersion version) = explained 34 (int 0) version 0
-explain_container (container.UnknownKind code) = explained 35 (int 0) code 0
-explain_container (container.UnknownKeyType code) = explained 36 (int 0) code 0
-explain_container (container.UnknownValueType code) = explained 37 (int 0) code 0
-explain_container (container.UnknownWidth code) = explained 38 (int 0) code 0
-explain_container (container.UnknownFlags flags) = explained 39 (int 0) flags 0
-explain_container (container.UnexpectedChecksum checksum) = explained 40 (int 0) checksum 0
-explain_container (container.NonzeroReserved number) = explained 41 (int 0) number 0
-explain_container (container.WrongKind expected found) =
+unfoldable pub explain_container_error : ContainerError → Explanation
+explain_container_error (container.TooShort len) = explained 32 (int 0) len 0
+explain_container_error container.WrongMagic = explained 33 (int 0) 0 0
+explain_container_error (container.UnsupportedVersion version) = explained 34 (int 0) version 0
+explain_container_error (container.UnknownKind code) = explained 35 (int 0) code 0
+explain_container_error (container.UnknownKeyType code) = explained 36 (int 0) code 0
+explain_container_error (container.UnknownValueType code) = explained 37 (int 0) code 0
+explain_container_error (container.UnknownWidth code) = explained 38 (int 0) code 0
+explain_container_error (container.UnknownFlags flags) = explained 39 (int 0) flags 0
+explain_container_error (container.UnexpectedChecksum checksum) = explained 40 (int 0) checksum 0
+explain_container_error (container.NonzeroReserved number) = explained 41 (int 0) number 0
+explain_container_error (container.WrongKind expected found) =
     explained 42 (int 0) (kind_code expected) (kind_code found)
-explain_container (container.WrongKeyType expected found) =
+explain_container_error (container.WrongKeyType expected found) =
     explained 43 (int 0) (item_code expected) (item_code found)
-explain_container (container.WrongValueType expected found) =
+explain_container_error (container.WrongValueType expected found) =
     explained 44 (int 0) (item_code expected) (item_code found)
-explain_container (container.WrongWidth expected found) =
+explain_container_error (container.WrongWidth expected found) =
     explained 45 (int 0) (width_code expected) (width_code found)
-explain_container (container.WrongLength expected found) = explained 46 (int 0) expected found
-explain_container (container.WrongChecksum expected found) = explained 47 (int 0) expected found
+explain_container_error (container.WrongLength expected found) = explained 46 (int 0) expected found
+explain_container_error (container.WrongChecksum expected found) =
+    explained 47 (int 0) expected found
 
 -- `b` is valid and there is no error, or it is the first validation error
 abbrev pub Explains : ℕ → ElementSpec → List ℕ → Explanation → Type 0
@@ -72,7 +73,7 @@ Explains limit s b result = (Accepted limit s b × (result ≡ explained 0 (int 
 abbrev pub ExplainsAs : Contents → List ℕ → Explanation → Type 0
 ExplainsAs contents b result =
     ((a : List ℕ) × IsContainerOf contents a b × (result ≡ explained 0 (int 0) 0 0))
-    ⊎ ((e : ContainerError) × OpenAsFails contents b e × (result ≡ explain_container e))
+    ⊎ ((e : ContainerError) × OpenAsFails contents b e × (result ≡ explain_container_error e))
 
 -- `b` is a container whose contents have the codes and there is no error, or it is the container's
 -- first one. If no contents have the codes, its status is 7, and its numbers are 0.

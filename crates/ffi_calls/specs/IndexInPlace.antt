@@ -8,7 +8,7 @@ use Rattle.rkyv_scan.specs.Hash.{HasherCall}
 use Rattle.rkyv_base.specs.Scalar.{Encoding, ScalarRepresents}
 use Rattle.rkyv_collections.specs.Map.MapAt.{AskedValue, MapAt}
 use Rattle.rkyv_index.specs.Index.ListedLookups.{IsFirst}
-use Rattle.ffi_calls.specs.Archives.{Sets, value_encoding, word_of}
+use Rattle.ffi_calls.specs.Archives.{Overwrites, value_encoding, word_of}
 use Rattle.ffi_calls.specs.IndexArchives.{found_index, index_in, number_index_found}
 use Rattle.ffi_calls.specs.IndexArchives.{number_index_in, text_index_found, text_index_in}
 use Rattle.ffi_calls.specs.IndexArchives.{value_pos_at}
@@ -47,7 +47,8 @@ module _ {A : Type 0} (k : NumberKey A) (form : Form) (b : List ℕ) where
   -- the result of an overwrite of the value of the number `key` in `b`
   abbrev pub SetsIndexedNumber : A → ℕ → ℕ → List ℕ → Type 0
   SetsIndexedNumber key = let m = number_index_in k form b in
-      Sets (value_encoding form) b (option_map (value_pos_at m) (number_index_found k form b key))
+      Overwrites (value_encoding form) b
+      (option_map (value_pos_at m) (number_index_found k form b key))
 
   -- an overwrite of the value of `key` changes that of the first pair with the number
   abbrev pub SetsFirstIndexedNumber : A → ℕ → ℕ → List ℕ → Type 0
@@ -58,7 +59,7 @@ module _ (form : Form) (b key : List ℕ) where
   -- the result of an overwrite of the value of the text `key` in `b`
   abbrev pub SetsIndexedText : ℕ → ℕ → List ℕ → Type 0
   SetsIndexedText = let m = text_index_in form b in
-      Sets (value_encoding form) b (option_map (value_pos_at m) (text_index_found form b key))
+      Overwrites (value_encoding form) b (option_map (value_pos_at m) (text_index_found form b key))
 
   -- the result of an overwrite of the value of the bytes `key`, as that of the text.
   -- The status is 4 and no byte is changed if `key` isn't UTF-8.

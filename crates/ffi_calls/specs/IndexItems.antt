@@ -6,7 +6,7 @@ use Rattle.rkyv_base.specs.Access.{Accepted}
 use Rattle.rkyv_base.specs.Format.{Format}
 use Rattle.rkyv_base.specs.Members.{WidthMembers}
 use Rattle.rkyv_base.specs.Numbers.{unsigned}
-use Rattle.rkyv_base.specs.Root.{ArchiveOf, ArchiveRefused}
+use Rattle.rkyv_base.specs.Root.{ArchiveOf, ToBytesFails}
 use Rattle.rkyv_base.specs.Scalar.{Encoding, scalar_spec}
 use Rattle.rkyv_base.specs.ElementSpec.{ElementSpec}
 use Rattle.rkyv_base.specs.Pairs.{written_as}
@@ -28,7 +28,7 @@ use Rattle.ffi_calls.specs.Items.{PairsOfTextsFail, numbers_format, width_of}
 use Rattle.ffi_calls.specs.Keys.{NumberKey}
 use Rattle.ffi_calls.specs.Listed.{number_natives, text_natives}
 use Rattle.ffi_calls.specs.Lists.{ArchiveWidth, archive_width, format_of}
-use Rattle.ffi_calls.specs.Status.{write_refusal}
+use Rattle.ffi_calls.specs.Status.{write_status}
 use Rattle.ffi_calls.specs.declared.form.Form.{Form}
 use Rattle.ffi_calls.specs.declared.pairs.Pair.{Pair}
 
@@ -63,7 +63,7 @@ module _ {P A N R Q : Type 0} (width : IndexWidth P) (format : PairFormat A N R 
   -- the write of the pairs fails with `error`
   unfoldable pub IndexFails : {F : Type 0} → List (A × N) → WriteError F → Type 0
   IndexFails pairs error =
-      ArchiveRefused width.archive.limit index_header_spec index_pairs_format pairs error
+      ToBytesFails width.archive.limit index_header_spec index_pairs_format pairs error
 
   -- an archive of a list as an index map is valid, and represents the list
   abbrev pub IndexesRepresent : NativePairs A N → Type 0
@@ -83,7 +83,7 @@ module _ {A P N : Type 0} (k : NumberKey A) (width : IndexWidth P) (v : ElementS
   abbrev pub NumberIndexRefused : List (Pair A ℕ) → ℕ → Type 0
   NumberIndexRefused items status = PairsOfNumbersFail e items status
       ⊎ ((pairs : List (A × N)) × (error : WriteError NoMemory) × ArePairsOfNumbers e items pairs
-      × IndexFails width (numbers_format k v e) pairs error × (status ≡ write_refusal error))
+      × IndexFails width (numbers_format k v e) pairs error × (status ≡ write_status error))
 
 -- the result of the write of the pairs of the items: the archive, or the status of an error
 abbrev pub WritesNumberIndex : {A P N Z : Type 0} → NumberKey A → IndexWidth P → ElementSpec
@@ -107,7 +107,7 @@ module _ {P N : Type 0} (width : IndexWidth P) (v : ElementSpec) (e : Encoding N
       ⊎ ((pairs : List (Bor (List ℕ) × N)) × (error : WriteError NoMemory)
       × ArePairsOfTexts e items pairs
       × IndexFails width (format_of (text_spec w) v (written_as (λ text. text.now) (text_format w))
-      (λ text. text_calls text.now) e) pairs error × (status ≡ write_refusal error))
+      (λ text. text_calls text.now) e) pairs error × (status ≡ write_status error))
 
 -- the result of the write of the pairs of the items: the archive, or the status of an error
 abbrev pub WritesTextIndex : {P N Z : Type 0} → IndexWidth P → ElementSpec → Encoding N
@@ -127,7 +127,7 @@ abbrev pub IsIndexOfNumbers : {A : Type 0} → NumberKey A → Form → List (Pa
 IsIndexOfNumbers k form =
     NumberIndexMade k (index_width_of form) (value_spec form) (value_encoding form)
 
--- a list of bytes is the archive of the pairs of texts as an index map in the form
+-- a list of bytes is the archive of the pairs of texts and numbers as an index map in the form
 abbrev pub IsIndexOfTexts : Form → List (Pair (Bor (List ℕ)) ℕ) → List ℕ → Type 0
 IsIndexOfTexts form = TextIndexMade (index_width_of form) (value_spec form) (value_encoding form)
 
@@ -137,7 +137,7 @@ abbrev pub IndexOfNumbersFails : {A : Type 0} → NumberKey A → Form → List 
 IndexOfNumbersFails k form =
     NumberIndexRefused k (index_width_of form) (value_spec form) (value_encoding form)
 
--- a status is the error of the write of the pairs of texts as an index map in the form
+-- a status is the error of the write of the pairs of texts and numbers as an index map in the form
 abbrev pub IndexOfTextsFails : Form → List (Pair (Bor (List ℕ)) ℕ) → ℕ → Type 0
 IndexOfTextsFails form =
     TextIndexRefused (index_width_of form) (value_spec form) (value_encoding form)

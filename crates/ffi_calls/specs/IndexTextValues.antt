@@ -25,7 +25,7 @@ use Rattle.ffi_calls.specs.IndexLists.{GivesFirstIndexed, StoresListed}
 use Rattle.ffi_calls.specs.Keys.{NumberKey}
 use Rattle.ffi_calls.specs.Listed.{TextRepresents, asked_number, asked_text}
 use Rattle.ffi_calls.specs.Reading.{HasBytesOf, IsSame, ReadsText}
-use Rattle.ffi_calls.specs.Status.{write_refusal}
+use Rattle.ffi_calls.specs.Status.{write_status}
 use Rattle.ffi_calls.specs.TextItems.{AreNumberTexts, AreTextTexts, NumberTextsFail, TextTextsFail}
 use Rattle.ffi_calls.specs.TextItems.{number_texts_format, number_texts_natives, text_texts_format}
 use Rattle.ffi_calls.specs.TextItems.{text_texts_natives, width_by}
@@ -141,7 +141,7 @@ module _ {I A B P R Q : Type 0} (ArePairs : List I → List (A × B) → Type 0)
   abbrev pub IndexRefused : List I → ℕ → Type 0
   IndexRefused items status = Fails items status
       ⊎ ((pairs : List (A × B)) × (error : WriteError NoMemory) × ArePairs items pairs
-      × IndexFails width format pairs error × (status ≡ write_refusal error))
+      × IndexFails width format pairs error × (status ≡ write_status error))
 
 module _ {A P : Type 0} (k : NumberKey A) (width : IndexWidth P) where
   -- a list of bytes is the archive of the pairs of numbers and texts as an index map

@@ -21,7 +21,7 @@ use Rattle.ffi_calls.specs.Keys.{NumberKey}
 use Rattle.ffi_calls.specs.Listed.{TextRepresents, number_natives}
 use Rattle.ffi_calls.specs.Lists.{ArchiveWidth, IsArchiveOf, ArchiveFails, format_of}
 use Rattle.ffi_calls.specs.Lists.{natives}
-use Rattle.ffi_calls.specs.Status.{write_refusal}
+use Rattle.ffi_calls.specs.Status.{write_status}
 use Rattle.ffi_calls.specs.declared.building.Built.{Built}
 use Rattle.ffi_calls.specs.declared.form.Form.{Form}
 use Rattle.ffi_calls.specs.declared.pairs.Pair.{Pair}
@@ -32,16 +32,16 @@ module _ {A N : Type 0} (k : NumberKey A) (v : ElementSpec) (e : Encoding N) whe
   numbers_format = format_of k.spec v (scalar_format k.encoding) (one_call k.call) e
 
 module _ {N : Type 0} (width : ArchiveWidth) (v : ElementSpec) (e : Encoding N) where
-  -- a list of bytes is the archive of pairs of texts
-  abbrev pub AreTexts : List (Bor (List ℕ) × N) → List ℕ → Type 0
-  AreTexts = IsArchiveOf width
+  -- a list of bytes is the archive of pairs of texts and numbers
+  abbrev pub IsArchiveOfTextPairs : List (Bor (List ℕ) × N) → List ℕ → Type 0
+  IsArchiveOfTextPairs = IsArchiveOf width
       (format_of (text_spec width.word) v (written_as (λ text. text.now) (text_format width.word))
       (λ text. text_calls text.now) e)
       (natives (TextRepresents width.word) (text_key_calls width.word) e)
 
-  -- the write of pairs of texts fails with an error
-  abbrev pub AreNoTexts : List (Bor (List ℕ) × N) → WriteError NoMemory → Type 0
-  AreNoTexts = ArchiveFails width
+  -- the write of pairs of texts and numbers fails with an error
+  abbrev pub TextPairsFail : List (Bor (List ℕ) × N) → WriteError NoMemory → Type 0
+  TextPairsFail = ArchiveFails width
       (format_of (text_spec width.word) v (written_as (λ text. text.now) (text_format width.word))
       (λ text. text_calls text.now) e)
 
@@ -87,13 +87,13 @@ module _ {N : Type 0} (e : Encoding N) where
       All TextFits items × (map text_seen pairs ≡ map text_pair items)
 
   -- `status` is that of `item`: its key isn't UTF-8, or its key is and its value has too many bits
-  abbrev pub TextFails : ℕ → Pair (Bor (List ℕ)) ℕ → Type 0
-  TextFails status item = ((IsUtf8 item.key.now → ⊥) × (status ≡ 4))
+  abbrev pub TextItemFails : ℕ → Pair (Bor (List ℕ)) ℕ → Type 0
+  TextItemFails status item = ((IsUtf8 item.key.now → ⊥) × (status ≡ 4))
       ⊎ (IsUtf8 item.key.now × (2 ^ bits e.word ≤ item.value) × (status ≡ 3))
 
   -- `status` is that of an allocation failure, or of the first item that doesn't fit
   abbrev pub PairsOfTextsFail : List (Pair (Bor (List ℕ)) ℕ) → ℕ → Type 0
-  PairsOfTextsFail items status = (status ≡ 12) ⊎ FirstUnfit TextFits (TextFails status) items
+  PairsOfTextsFail items status = (status ≡ 12) ⊎ FirstUnfit TextFits (TextItemFails status) items
 
 module _ {A N : Type 0} (k : NumberKey A) (width : ArchiveWidth) (v : ElementSpec)
     (e : Encoding N) where
@@ -106,7 +106,7 @@ module _ {A N : Type 0} (k : NumberKey A) (width : ArchiveWidth) (v : ElementSpe
   abbrev pub NumbersRefused : List (Pair A ℕ) → ℕ → Type 0
   NumbersRefused items status = PairsOfNumbersFail e items status
       ⊎ ((pairs : List (A × N)) × (error : WriteError NoMemory) × ArePairsOfNumbers e items pairs
-      × ArchiveFails width (numbers_format k v e) pairs error × (status ≡ write_refusal error))
+      × ArchiveFails width (numbers_format k v e) pairs error × (status ≡ write_status error))
 
 -- the result of the write of the pairs of the items: the archive, or the status of an error
 abbrev pub WritesNumbers : {A N Z : Type 0} → NumberKey A → ArchiveWidth → ElementSpec → Encoding N
@@ -119,14 +119,14 @@ module _ {N : Type 0} (width : ArchiveWidth) (v : ElementSpec) (e : Encoding N) 
   -- `b` is the archive of the pairs of the items
   abbrev pub TextsMade : List (Pair (Bor (List ℕ)) ℕ) → List ℕ → Type 0
   TextsMade items b = (pairs : List (Bor (List ℕ) × N)) × ArePairsOfTexts e items pairs
-      × AreTexts width v e pairs b
+      × IsArchiveOfTextPairs width v e pairs b
 
   -- `status` is that of items without pairs, or of the error of the write of their pairs
   abbrev pub TextsRefused : List (Pair (Bor (List ℕ)) ℕ) → ℕ → Type 0
   TextsRefused items status = PairsOfTextsFail e items status
       ⊎ ((pairs : List (Bor (List ℕ) × N)) × (error : WriteError NoMemory)
-      × ArePairsOfTexts e items pairs × AreNoTexts width v e pairs error
-      × (status ≡ write_refusal error))
+      × ArePairsOfTexts e items pairs × TextPairsFail width v e pairs error
+      × (status ≡ write_status error))
 
 -- the width of an archive in the form
 abbrev pub width_of : Form → ArchiveWidth
@@ -138,7 +138,7 @@ abbrev pub IsArchiveOfNumbers : {A : Type 0} → NumberKey A → Form → List (
     → Type 0
 IsArchiveOfNumbers k form = NumbersMade k (width_of form) (value_spec form) (value_encoding form)
 
--- a list of bytes is the archive of the pairs of texts in the form
+-- a list of bytes is the archive of the pairs of texts and numbers in the form
 abbrev pub IsArchiveOfTexts : Form → List (Pair (Bor (List ℕ)) ℕ) → List ℕ → Type 0
 IsArchiveOfTexts form = TextsMade (width_of form) (value_spec form) (value_encoding form)
 
@@ -148,7 +148,7 @@ abbrev pub ArchiveOfNumbersFails : {A : Type 0} → NumberKey A → Form → Lis
 ArchiveOfNumbersFails k form =
     NumbersRefused k (width_of form) (value_spec form) (value_encoding form)
 
--- a status is the error of the write of the pairs of texts in the form
+-- a status is the error of the write of the pairs of texts and numbers in the form
 abbrev pub ArchiveOfTextsFails : Form → List (Pair (Bor (List ℕ)) ℕ) → ℕ → Type 0
 ArchiveOfTextsFails form = TextsRefused (width_of form) (value_spec form) (value_encoding form)
 

@@ -27,7 +27,8 @@ number_natives k e = natives (ScalarRepresents k.encoding) (scalar_calls k.encod
 abbrev pub TextRepresents : Width → List ℕ → ℕ → Bor (List ℕ) → Type 0
 TextRepresents w = IsTextOf w (λ text. text.now)
 
--- the pairs of texts that a map in an archive of the word represents, by the encoding of its values
+-- the pairs of texts and numbers that a map in an archive of the word represents, by the encoding
+-- of its values
 abbrev pub text_natives : {N : Type 0} → Width → Encoding N → NativePairs (Bor (List ℕ)) N
 text_natives w e = natives (TextRepresents w) (text_key_calls w) e
 

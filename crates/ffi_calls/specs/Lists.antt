@@ -7,7 +7,7 @@ use Rattle.rkyv_base.specs.Members.{WidthMembers}
 use Rattle.rkyv_scan.specs.Hash.{HasherCall, fx_hasher, low_halves}
 use Rattle.rkyv_base.specs.Access.{Accepted}
 use Rattle.rkyv_base.specs.Format.{Format}
-use Rattle.rkyv_base.specs.Root.{ArchiveOf, ArchiveRefused}
+use Rattle.rkyv_base.specs.Root.{ArchiveOf, ToBytesFails}
 use Rattle.rkyv_base.specs.Scalar.{Encoding, ScalarRepresents, scalar_format}
 use Rattle.rkyv_base.specs.ElementSpec.{ElementSpec}
 use Rattle.rkyv_base.specs.declared.errors.WriteError.{WriteError}
@@ -21,7 +21,7 @@ use Rattle.rkyv_collections.specs.Map.MapSpec.{map_spec}
 use Rattle.rkyv_collections.specs.Map.MapFormat.{MapRepresents, map_format}
 use Rattle.rkyv_keys.specs.Natives.{NativePairs, native_pairs}
 use Rattle.rkyv_collections.specs.Natives.{PairFormat}
-use Rattle.rkyv_collections.specs.Natives.{pair_format}
+use Rattle.rkyv_collections.specs.Natives.{native_format}
 use Rattle.ffi_calls.specs.Archives.{map_in}
 
 -- the pairs that bytes represent. `key` and `value`: what represents the keys and the values,
@@ -34,7 +34,7 @@ fx_pairs key value key_calls = native_pairs key value (fx_hasher low_halves) key
 -- `calls`: hasher calls of a key
 abbrev pub fx_format : {A B R Q : Type 0} → ElementSpec → ElementSpec → Format A R → Format B Q
     → (A → List HasherCall) → PairFormat A B R Q
-fx_format k v key value calls = pair_format k v key value (fx_hasher low_halves) calls
+fx_format k v key value calls = native_format k v key value (fx_hasher low_halves) calls
 
 -- the pairs of numbers under keys that `represents` relates to bytes, with the hasher calls
 -- `key_calls`
@@ -127,7 +127,7 @@ module _ {A N R Q : Type 0} (width : ArchiveWidth) (format : PairFormat A N R Q)
 
   -- the write of the pairs fails with `error`
   unfoldable pub ArchiveFails : {F : Type 0} → List (A × N) → WriteError F → Type 0
-  ArchiveFails pairs error = ArchiveRefused width.limit header_spec pairs_format pairs error
+  ArchiveFails pairs error = ToBytesFails width.limit header_spec pairs_format pairs error
 
   -- an archive of a list is valid, and represents the list
   abbrev pub ArchivesRepresent : NativePairs A N → Type 0

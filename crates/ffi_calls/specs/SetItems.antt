@@ -7,7 +7,7 @@ use Rattle.rkyv_base.specs.Access.{Accepted}
 use Rattle.rkyv_base.specs.ElementSpec.{ElementSpec}
 use Rattle.rkyv_base.specs.Empty.{unit_spec}
 use Rattle.rkyv_base.specs.Format.{Format}
-use Rattle.rkyv_base.specs.Root.{ArchiveOf, ArchiveRefused}
+use Rattle.rkyv_base.specs.Root.{ArchiveOf, ToBytesFails}
 use Rattle.rkyv_base.specs.Scalar.{ScalarRepresents, scalar_format}
 use Rattle.rkyv_base.specs.Text.{text_spec}
 use Rattle.rkyv_base.specs.declared.errors.WriteError.{WriteError}
@@ -18,21 +18,21 @@ use Rattle.rkyv_keys.specs.Lemmas.OfTexts.{text_key_calls}
 use Rattle.rkyv_keys.specs.OfScalars.{one_call, scalar_calls}
 use Rattle.rkyv_table.specs.Table.Listed.{listed}
 use Rattle.rkyv_table.specs.Table.TableFormat.{TableResolver}
-use Rattle.rkyv_collections.specs.Natives.{KeyFormat, key_format}
+use Rattle.rkyv_collections.specs.Natives.{KeyFormat, native_key_format}
 use Rattle.rkyv_collections.specs.Set.{set_spec}
 use Rattle.rkyv_collections.specs.Set.SetFormat.{SetRepresents, set_format}
 use Rattle.ffi_calls.specs.Archives.{root}
 use Rattle.ffi_calls.specs.Keys.{NumberKey}
 use Rattle.ffi_calls.specs.Listed.{TextRepresents}
 use Rattle.ffi_calls.specs.Lists.{ArchiveWidth}
-use Rattle.ffi_calls.specs.Status.{write_refusal}
+use Rattle.ffi_calls.specs.Status.{write_status}
 use Rattle.ffi_calls.specs.TextItems.{ArePairsOf, PairsFail, bytes_format, width_by}
 use Rattle.ffi_calls.specs.declared.text_set_items.SetText.{SetText}
 
 -- how items are written: by their spec, their format and their hasher calls
 abbrev pub fx_items : {A R : Type 0} → ElementSpec → Format A R → (A → List HasherCall)
     → KeyFormat A R
-fx_items k format calls = key_format k format (fx_hasher low_halves) calls
+fx_items k format calls = native_key_format k format (fx_hasher low_halves) calls
 
 -- the hash of the item at a position, by its hasher calls
 abbrev pub fx_hash_at : (List ℕ → ℕ → List HasherCall) → List ℕ → ℕ → ℕ
@@ -55,7 +55,7 @@ module _ {A R : Type 0} (width : ArchiveWidth) (format : KeyFormat A R) where
   -- the write of the items fails with `error`
   unfoldable pub SetArchiveFails : {F : Type 0} → List A → WriteError F → Type 0
   SetArchiveFails items error =
-      ArchiveRefused width.limit (set_spec width.word format.spec) items_format items error
+      ToBytesFails width.limit (set_spec width.word format.spec) items_format items error
 
   -- an archive of items is valid, and represents them
   abbrev pub SetArchivesRepresent : (List ℕ → ℕ → A → Type 0) → (List ℕ → ℕ → List HasherCall)
@@ -99,7 +99,7 @@ module _ {A : Type 0} (k : NumberKey A) (width : ArchiveWidth) where
   -- a status is the error of the write of the set of numbers
   abbrev pub NumberSetRefused : List A → ℕ → Type 0
   NumberSetRefused items status = (error : WriteError NoMemory)
-      × SetArchiveFails width number_items items error × (status ≡ write_refusal error)
+      × SetArchiveFails width number_items items error × (status ≡ write_status error)
 
 module _ (width : ArchiveWidth) where
   -- how the texts of a set are written
@@ -116,7 +116,7 @@ module _ (width : ArchiveWidth) where
   abbrev pub TextSetRefused : List SetText → ℕ → Type 0
   TextSetRefused items status = SetTextsFail items status
       ⊎ ((texts : List (Bor (List ℕ))) × (error : WriteError NoMemory) × AreSetTexts items texts
-      × SetArchiveFails width text_items texts error × (status ≡ write_refusal error))
+      × SetArchiveFails width text_items texts error × (status ≡ write_status error))
 
 -- a list of bytes is the archive of the set of numbers, narrow or wide
 abbrev pub IsArchiveOfNumberSet : {A : Type 0} → NumberKey A → Bool → List A → List ℕ → Type 0

@@ -87,9 +87,9 @@ abbrev pub FindsListedText : Bool → List ℕ → List ℕ → ℕ → Type 0
 FindsListedText wide b item = FindsItem (text_set_in wide b) (asked_text (word_of wide) item)
 
 -- the result of steps to the next items of a set of numbers
-abbrev pub StoresNextMembers : {A : Type 0} → NumberKey A → Bool → List ℕ → ℕ
+abbrev pub StoresNextNumberMembers : {A : Type 0} → NumberKey A → Bool → List ℕ → ℕ
     → List (Step (Pair A (Unit {0}))) → ℕ → List (Step (Pair A (Unit {0}))) → Type 0
-StoresNextMembers k wide b =
+StoresNextNumberMembers k wide b =
     StoresNextPairs (number_set_in k wide b) (ScalarRepresents k.encoding) unit_represents
 
 -- the result of steps to the next items of a set of texts

@@ -21,7 +21,7 @@ use Rattle.ffi_calls.specs.Keys.{NumberKey}
 use Rattle.ffi_calls.specs.Listed.{TextRepresents}
 use Rattle.ffi_calls.specs.Lists.{ArchiveFails, ArchiveWidth, IsArchiveOf, fx_format}
 use Rattle.ffi_calls.specs.Lists.{fx_pairs}
-use Rattle.ffi_calls.specs.Status.{write_refusal}
+use Rattle.ffi_calls.specs.Status.{write_status}
 use Rattle.ffi_calls.specs.declared.pairs.Pair.{Pair}
 
 -- the items of a map, and its pairs. `Fits`: the texts of an item are UTF-8, `image`: key and
@@ -48,7 +48,7 @@ module _ {I A B R Q : Type 0} (ArePairs : List I → List (A × B) → Type 0) (
   abbrev pub ItemsRefused : List I → ℕ → Type 0
   ItemsRefused items status = Fails items status
       ⊎ ((pairs : List (A × B)) × (error : WriteError NoMemory) × ArePairs items pairs
-      × ArchiveFails width format pairs error × (status ≡ write_refusal error))
+      × ArchiveFails width format pairs error × (status ≡ write_status error))
 
 -- the text that is the value of `item` is UTF-8
 abbrev pub NumberTextFits : {A : Type 0} → Pair A (Bor (List ℕ)) → Type 0

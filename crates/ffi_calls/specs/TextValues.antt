@@ -60,9 +60,9 @@ GivesTextAt m = GivesAt (ReadsText m.word m.bytes)
 
 -- The result of a lookup is the text of the first pair whose key is accepted.
 -- Without one the status is 1 and `after` is `before`.
-abbrev pub GivesFirstText : {A : Type 0} → MapAt → AskedValue A → Bor (List ℕ) → ℕ → Bor (List ℕ)
-    → Type 0
-GivesFirstText m a = GivesFirst m a (TextRepresents m.word) HasBytesOf
+abbrev pub GivesFirstTextValue : {A : Type 0} → MapAt → AskedValue A → Bor (List ℕ) → ℕ
+    → Bor (List ℕ) → Type 0
+GivesFirstTextValue m a = GivesFirst m a (TextRepresents m.word) HasBytesOf
 
 module _ {A : Type 0} (k : NumberKey A) (wide : Bool) (b : List ℕ) where
   -- the result of a lookup of the number `key`, whose text replaces `before`
@@ -74,7 +74,7 @@ module _ {A : Type 0} (k : NumberKey A) (wide : Bool) (b : List ℕ) where
   -- the result of a lookup of `key` is the text of the first pair with the number
   abbrev pub GivesFirstTextOfNumber : A → Bor (List ℕ) → ℕ → Bor (List ℕ) → Type 0
   GivesFirstTextOfNumber key =
-      GivesFirstText (number_texts_in k wide b) (asked_number k key)
+      GivesFirstTextValue (number_texts_in k wide b) (asked_number k key)
 
 -- the position of the value that a lookup of the text `key` finds
 abbrev pub text_of_text_found : Bool → List ℕ → List ℕ → Option ℕ
@@ -92,7 +92,7 @@ GivesTextOfText wide b key before status after =
 -- the result of a lookup of `key` is the text of the first pair with the text
 abbrev pub GivesFirstTextOfText : Bool → List ℕ → List ℕ → Bor (List ℕ) → ℕ → Bor (List ℕ) → Type 0
 GivesFirstTextOfText wide b key =
-    GivesFirstText (text_texts_in wide b) (asked_text (word_of wide) key)
+    GivesFirstTextValue (text_texts_in wide b) (asked_text (word_of wide) key)
 
 -- the result of steps to the next pairs of a map of numbers to texts
 abbrev pub StoresNextNumberTexts : {A : Type 0} → NumberKey A → Bool → List ℕ → ℕ

@@ -17,14 +17,14 @@ buckets_from m from =
     full_from (table_controls m.word m.bytes m.pos) (cap_at m.word m.bytes m.pos) from
 
 -- the position of the pair in a bucket
-abbrev pub pair_pos : MapAt → ℕ → ℕ
-pair_pos m bucket = item_at m.word (entry_spec m.key m.value).size m.bytes m.pos bucket
+abbrev pub bucket_pair_pos : MapAt → ℕ → ℕ
+bucket_pair_pos m bucket = item_at m.word (entry_spec m.key m.value).size m.bytes m.pos bucket
 
 -- the first full bucket from `from` on, and the position of its pair, or `None` without one
 abbrev pub IsNextBucket : MapAt → ℕ → Option BucketPos → Type 0
 IsNextBucket m from result = MatchOption result (buckets_from m from ≡ [])
     (λ (item : BucketPos). (buckets_from m from ≡ item.bucket ∷ buckets_from m (item.bucket + 1))
-    × (item.pos ≡ pair_pos m item.bucket))
+    × (item.pos ≡ bucket_pair_pos m item.bucket))
 
 -- `result` is the step to the first full bucket: its pair is that of the bucket, by `IsPair`, and
 -- its `next` is behind the bucket. It is `None` if there is no full bucket from `from` on.
@@ -55,8 +55,8 @@ module _ {X Y : Type 0} (m : MapAt) (key : List ℕ → ℕ → X → Type 0) (v
   -- the key and the value of the pair are those in the bucket. `key` and `value`: the stored key
   -- and the stored value at a position
   abbrev pub IsPairIn : ℕ → Pair X Y → Type 0
-  IsPairIn bucket pair = key m.bytes (pair_pos m bucket) pair.key
-      × value m.bytes (value_pos m.key m.value (pair_pos m bucket)) pair.value
+  IsPairIn bucket pair = key m.bytes (bucket_pair_pos m bucket) pair.key
+      × value m.bytes (value_pos m.key m.value (bucket_pair_pos m bucket)) pair.value
 
   -- the result of a step to the next pair of a map
   abbrev pub FindsNextPair : ℕ → Option (Step (Pair X Y)) → Type 0

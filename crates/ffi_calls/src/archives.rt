@@ -7,7 +7,7 @@ ghost use Rattle.rkyv_collections.specs.Map.MapSpec.{map_spec};
 ghost use Rattle.rkyv_collections.specs.Map.{map_bytes, map_pos};
 ghost use Rattle.ffi_calls.specs.Archives.{IsHeaderOf, IsMapArchive, Opens, map_in, root};
 
-use crate::status::{DONE, refusal};
+use crate::status::{DONE, verify_status};
 use rkyv_base::access::{access_in, access_unchecked};
 use rkyv_base::element::Element;
 use rkyv_base::view::View;
@@ -18,13 +18,13 @@ use rkyv_table::table::decoded::Decoded;
 
 /// Validates the archive of a map; returns `DONE` or the status of the first error.
 pub(crate) fn open_map<K: Element, V: Element, W: Width>(archive: &[u8]) -> u32
-    ensures told { Opens W.LIMIT (map_spec W.word K.spec V.spec) archive.now result }
+    ensures status { Opens W.LIMIT (map_spec W.word K.spec V.spec) archive.now result }
     ensures accepts { Accepted W.LIMIT (map_spec W.word K.spec V.spec) archive.now
         → result ≡ 0 }
 {
     match access_in::<W, HashMapOf<K, V, FxHasher64, W>>(archive) {
         Ok(_) => DONE,
-        Err(e) => refusal(&e),
+        Err(e) => verify_status(&e),
     }
 }
 

@@ -9,11 +9,12 @@
 ghost use Rattle.std.specs.Prelude.{length, MatchOption, ◌≡◌};
 ghost use Rattle.ffi_calls.specs.Containers.{AreUnknown, HasCodes, OpensAs, OpensContainer};
 ghost use Rattle.ffi_calls.specs.Containers.{OpensOwn, OpensOwnCodes, ReadsWidth};
-ghost use Rattle.ffi_calls.specs.Containers.{UpdatesContainer, WritesContainerHeader, width_by};
+ghost use Rattle.ffi_calls.specs.Containers.{UpdatesContainer, WritesContainerHeader};
+ghost use Rattle.ffi_calls.specs.Containers.{container_width_by};
 ghost use Rattle.ffi_calls.specs.Explanation.{ExplainsAs, ExplainsContainer};
 
-use crate::explanation::{Explanation, explain_error, explained};
-use crate::status::{DONE, UNKNOWN_KIND, WRONG_LENGTH, container_refusal};
+use crate::explanation::{Explanation, explain_container_error, explained};
+use crate::status::{DONE, UNKNOWN_CODES, WRONG_LENGTH, container_status};
 use rkyv_container::container::{open_as, seal};
 use rkyv_container::contents::{Contents, ItemType, Kind, Width};
 use rkyv_container::header::{HEADER_LEN, Header};
@@ -57,7 +58,7 @@ fn contents_of(codes: Codes) -> Option<Contents>
 
 /// Returns whether a width is wide.
 fn is_wide(width: Width) -> bool
-    ensures { width ≡ width_by result }
+    ensures { width ≡ container_width_by result }
 {
     match width {
         Width::Narrow => false,
@@ -71,7 +72,7 @@ fn is_wide(width: Width) -> bool
 ///
 /// - The status of the first error of the container: 32 to 47. `opened` is unchanged then.
 fn open_container_as<'a>(bytes: &'a [u8], contents: Contents, opened: &mut Opened<'a>) -> u32
-    ensures told { OpensAs contents bytes.now opened.old result opened.new }
+    ensures status { OpensAs contents bytes.now opened.old result opened.new }
     ensures opens { OpensOwn contents bytes.now result }
 {
     match open_as(bytes, contents) {
@@ -79,7 +80,7 @@ fn open_container_as<'a>(bytes: &'a [u8], contents: Contents, opened: &mut Opene
             opened.archive = archive;
             DONE
         }
-        Err(error) => container_refusal(&error),
+        Err(error) => container_status(&error),
     }
 }
 
@@ -89,7 +90,7 @@ fn explain_container_as(bytes: &[u8], contents: Contents) -> Explanation
 {
     match open_as(bytes, contents) {
         Ok(_) => explained(DONE, 0, 0, 0),
-        Err(error) => explain_error(&error),
+        Err(error) => explain_container_error(&error),
     }
 }
 
@@ -103,7 +104,7 @@ fn explain_container_as(bytes: &[u8], contents: Contents) -> Explanation
 ///
 /// # Errors
 ///
-/// - `UNKNOWN_KIND`: no contents have the codes. `header` is unchanged then.
+/// - `UNKNOWN_CODES`: no contents have the codes. `header` is unchanged then.
 pub fn write_header(archive: &[u8], codes: Codes, checked: bool, header: &mut [u8]) -> u32
     requires { length header.old ≡ 32 }
     ensures { WritesContainerHeader codes checked archive.now header.old result header.new }
@@ -113,7 +114,7 @@ pub fn write_header(archive: &[u8], codes: Codes, checked: bool, header: &mut [u
             Header::new(contents, archive, checked).write(header);
             DONE
         }
-        None => UNKNOWN_KIND,
+        None => UNKNOWN_CODES,
     }
 }
 
@@ -130,7 +131,7 @@ pub fn container_width(bytes: &[u8], wide: &mut bool) -> u32
             *wide = is_wide(header.contents.width);
             DONE
         }
-        Err(error) => container_refusal(&error),
+        Err(error) => container_status(&error),
     }
 }
 
@@ -140,28 +141,28 @@ pub fn container_width(bytes: &[u8], wide: &mut bool) -> u32
 ///
 /// # Errors
 ///
-/// - `UNKNOWN_KIND`: no contents have the codes. `opened` is unchanged then.
+/// - `UNKNOWN_CODES`: no contents have the codes. `opened` is unchanged then.
 /// - The status of the first error of the container: 32 to 47. `opened` is unchanged then.
 pub fn open_container<'a>(bytes: &'a [u8], codes: Codes, opened: &mut Opened<'a>) -> u32
-    ensures told { OpensContainer codes bytes.now opened.old result opened.new }
+    ensures status { OpensContainer codes bytes.now opened.old result opened.new }
     ensures opens { OpensOwnCodes codes bytes.now result }
 {
     match contents_of(codes) {
         Some(contents) => open_container_as(bytes, contents, opened),
-        None => UNKNOWN_KIND,
+        None => UNKNOWN_CODES,
     }
 }
 
 /// Opens such a container as `open_container` does, and returns its first error with its numbers.
 ///
-/// The archive is not validated. If no contents have the codes, the status is `UNKNOWN_KIND`, and
+/// The archive is not validated. If no contents have the codes, the status is `UNKNOWN_CODES`, and
 /// the numbers are 0.
 pub fn explain_container(bytes: &[u8], codes: Codes) -> Explanation
     ensures { ExplainsContainer codes bytes.now result }
 {
     match contents_of(codes) {
         Some(contents) => explain_container_as(bytes, contents),
-        None => explained(UNKNOWN_KIND, 0, 0, 0),
+        None => explained(UNKNOWN_CODES, 0, 0, 0),
     }
 }
 
@@ -180,7 +181,7 @@ pub fn update_container(bytes: &mut [u8]) -> u32
 {
     let header = match Header::read(&*bytes) {
         Ok(header) => header,
-        Err(error) => return container_refusal(&error),
+        Err(error) => return container_status(&error),
     };
     if header.len != (bytes.len() - HEADER_LEN) as u64 {
         return WRONG_LENGTH;

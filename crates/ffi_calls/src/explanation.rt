@@ -2,7 +2,7 @@
 
 ghost use Rattle.std.specs.Prelude.{◌≡◌};
 ghost use Rattle.rkyv_collections.specs.Map.MapSpec.{map_spec};
-ghost use Rattle.ffi_calls.specs.Explanation.{Explains, explain, explain_container};
+ghost use Rattle.ffi_calls.specs.Explanation.{Explains, explain, explain_container_error};
 ghost use Rattle.ffi_calls.specs.Explanation.{explained, nearest};
 
 use crate::status::DONE;
@@ -84,9 +84,9 @@ pub(crate) fn explain(error: &VerifyError) -> Explanation
 }
 
 // Returns the explanation of a container's error. Kinds, types and widths are their codes.
-#[tactic(auto, unfolding(crate::specs::Explanation::explain_container))]
-pub(crate) fn explain_error(error: &ContainerError) -> Explanation
-    ensures { result ≡ explain_container error.now }
+#[tactic(auto, unfolding(crate::specs::Explanation::explain_container_error))]
+pub(crate) fn explain_container_error(error: &ContainerError) -> Explanation
+    ensures { result ≡ explain_container_error error.now }
 {
     match error {
         ContainerError::TooShort { len } => explained(32, 0, *len as u64, 0),

@@ -14,7 +14,7 @@ ghost use Rattle.ffi_calls.specs.Lists.{asked_key, fx_pairs};
 use crate::explanation::{Explanation, explain, explained};
 use crate::pairs::{Indexed, IndexedOf, Pair, PairOf};
 use crate::reading::{ReadAs, StoresNative};
-use crate::status::{DONE, NOT_FOUND, refusal};
+use crate::status::{DONE, NOT_FOUND, verify_status};
 use rkyv_base::access::{access_in, access_unchecked};
 use rkyv_base::element::{Element, Represents};
 use rkyv_base::width::Width;
@@ -26,13 +26,13 @@ use rkyv_table::table::decoded::Decoded;
 
 /// Validates the archive of an index map; returns `DONE` or the status of the first error.
 pub(crate) fn open_index<K: Element, V: Element, W: Width>(archive: &[u8]) -> u32
-    ensures told { Opens W.LIMIT (index_map W.word K.spec V.spec) archive.now result }
+    ensures status { Opens W.LIMIT (index_map W.word K.spec V.spec) archive.now result }
     ensures accepts { Accepted W.LIMIT (index_map W.word K.spec V.spec) archive.now
         → result ≡ 0 }
 {
     match access_in::<W, IndexMapOf<K, V, FxHasher64, W>>(archive) {
         Ok(_) => DONE,
-        Err(e) => refusal(&e),
+        Err(e) => verify_status(&e),
     }
 }
 

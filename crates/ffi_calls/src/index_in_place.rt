@@ -2,7 +2,7 @@
 
 ghost use Rattle.std.specs.Prelude.{IfSome, ◌<◌, ◌≡◌};
 ghost use Rattle.rkyv_base.specs.ElementSpec.{Viewable};
-ghost use Rattle.ffi_calls.specs.Archives.{KeepsHeader, Sets};
+ghost use Rattle.ffi_calls.specs.Archives.{KeepsHeader, Overwrites};
 ghost use Rattle.ffi_calls.specs.IndexArchives.{IsIndexArchive, found_index, index_in, index_map};
 ghost use Rattle.ffi_calls.specs.IndexArchives.{index_root, pair_count};
 ghost use Rattle.ffi_calls.specs.IndexInPlace.{FindsFirstIndex, SetsFirstIndexed, value_found_in};
@@ -73,7 +73,7 @@ pub(crate) fn set_indexed_in<A: NativeKey<K>, K: KeyElement + Represents<A>, V: 
     ensures kept { IsIndexArchive W.word W.LIMIT K.spec V.spec archive.new }
     ensures header { KeepsHeader (index_in W.word K.spec V.spec archive.old)
         (index_in W.word K.spec V.spec archive.new) }
-    ensures sets { Sets V.encoding archive.old
+    ensures sets { Overwrites V.encoding archive.old
         (value_found_in (index_in W.word K.spec V.spec archive.old) (A.calls key.now)
         (A.fits key.now archive.old)) value result archive.new }
     ensures listed { SetsFirstIndexed (index_in W.word K.spec V.spec archive.old)

@@ -10,7 +10,7 @@ use crate::building::{Built, hand_out};
 use crate::form::Form;
 use crate::pairs::PairOf;
 use crate::reading::NumberKey;
-use crate::status::write_refusal;
+use crate::status::write_status;
 use crate::value::Value;
 use crate::{number_items, text_items};
 use rkyv_base::root::to_bytes_in;
@@ -33,7 +33,7 @@ fn numbers_in<K: NumberKey, V: Value, W: PlaceWidth, P: PairOf<K, u64>>(
     };
     match to_bytes_in::<W, OrderedPairs<K, V>>(alloc, &OrderedPairs(pairs)) {
         Ok(archive) => Ok(archive),
-        Err(error) => Err(write_refusal(&error)),
+        Err(error) => Err(write_status(&error)),
     }
 }
 
@@ -92,7 +92,7 @@ fn texts_in<'a, V: Value, W: PlaceWidth, P: PairOf<&'a [u8], u64>>(
     };
     match to_bytes_in::<W, OrderedPairs<&str, V>>(alloc, &OrderedPairs(pairs)) {
         Ok(archive) => Ok(archive),
-        Err(error) => Err(write_refusal(&error)),
+        Err(error) => Err(write_status(&error)),
     }
 }
 

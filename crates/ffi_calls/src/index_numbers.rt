@@ -1,6 +1,7 @@
 //! Index maps whose keys are numbers.
 //!
-//! `open_index_numbers` validates an archive; the other calls require a valid one.
+//! `open_index_numbers` and `explain_index_numbers` validate an archive; the other calls require a
+//! valid one.
 
 ghost use Rattle.std.specs.Prelude.{map, ◌≡◌};
 ghost use Rattle.ffi_calls.specs.Archives.{IsHeaderOf, KeepsHeader, Opens, limit_of};
@@ -27,7 +28,7 @@ use rkyv_table::table::decoded::Decoded;
 ///
 /// - The status of the first validation error: 16 to 23.
 pub fn open_index_numbers<K: NumberKey>(archive: &[u8], form: Form) -> u32
-    ensures told { Opens (limit_of form.wide) (number_index K.NumberKey form) archive.now result }
+    ensures status { Opens (limit_of form.wide) (number_index K.NumberKey form) archive.now result }
     ensures accepts { IsNumberIndex K.NumberKey form archive.now → result ≡ 0 }
 {
     match (form.long_values, form.wide) {
@@ -50,7 +51,7 @@ pub fn explain_index_numbers<K: NumberKey>(archive: &[u8], form: Form) -> Explan
     }
 }
 
-/// Returns the decoded header of the index map, which the other calls take.
+/// Returns the decoded header of the index map, for lookups and iteration.
 ///
 /// # Requires
 ///

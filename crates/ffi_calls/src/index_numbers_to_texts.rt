@@ -1,6 +1,7 @@
 //! Index maps of numbers to texts.
 //!
-//! `open_index_numbers_to_texts` validates an archive; the other calls require a valid one.
+//! `open_index_numbers_to_texts` and `explain_index_numbers_to_texts` validate an archive; the
+//! other calls require a valid one.
 
 ghost use Rattle.std.specs.Prelude.{map, ◌≡◌};
 ghost use Rattle.ffi_calls.specs.Archives.{IsHeaderOf, Opens, limit_of};
@@ -26,7 +27,7 @@ use rkyv_table::table::decoded::Decoded;
 ///
 /// - The status of the first validation error: 16 to 23.
 pub fn open_index_numbers_to_texts<K: NumberKey>(archive: &[u8], wide: bool) -> u32
-    ensures told { Opens (limit_of wide) (number_text_index K.NumberKey wide) archive.now result }
+    ensures status { Opens (limit_of wide) (number_text_index K.NumberKey wide) archive.now result }
     ensures accepts { IsNumberTextIndex K.NumberKey wide archive.now → result ≡ 0 }
 {
     if wide {
@@ -48,7 +49,7 @@ pub fn explain_index_numbers_to_texts<K: NumberKey>(archive: &[u8], wide: bool) 
     }
 }
 
-/// Returns the decoded header of the index map, which the other calls take.
+/// Returns the decoded header of the index map, for lookups and iteration.
 ///
 /// # Requires
 ///

@@ -11,7 +11,7 @@ ghost use Rattle.ffi_calls.specs.Items.{HandsOut};
 use crate::building::{Built, hand_out};
 use crate::pairs::PairOf;
 use crate::reading::NumberKey;
-use crate::status::write_refusal;
+use crate::status::write_status;
 use crate::{numbers_to_texts_items, texts_to_texts_items};
 use rkyv_base::root::to_bytes_in;
 use rkyv_base::width::{Narrow, Wide};
@@ -33,7 +33,7 @@ fn number_texts_in<'a, K: NumberKey, W: PlaceWidth, P: PairOf<K, &'a [u8]>>(
     };
     match to_bytes_in::<W, OrderedPairs<K, &str>>(alloc, &OrderedPairs(pairs)) {
         Ok(archive) => Ok(archive),
-        Err(error) => Err(write_refusal(&error)),
+        Err(error) => Err(write_status(&error)),
     }
 }
 
@@ -92,7 +92,7 @@ fn text_texts_in<'a, W: PlaceWidth, P: PairOf<&'a [u8], &'a [u8]>>(
     };
     match to_bytes_in::<W, OrderedPairs<&str, &str>>(alloc, &OrderedPairs(pairs)) {
         Ok(archive) => Ok(archive),
-        Err(error) => Err(write_refusal(&error)),
+        Err(error) => Err(write_status(&error)),
     }
 }
 

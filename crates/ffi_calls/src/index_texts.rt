@@ -1,6 +1,7 @@
 //! Index maps whose keys are texts.
 //!
-//! `open_index_texts` validates an archive; the other calls require a valid one.
+//! `open_index_texts` and `explain_index_texts` validate an archive; the other calls require a
+//! valid one.
 
 ghost use Rattle.std.specs.Prelude.{map, ◌≡◌};
 ghost use Rattle.std.specs.Str.{IsUtf8};
@@ -31,7 +32,7 @@ use rkyv_table::table::decoded::Decoded;
 ///
 /// - The status of the first validation error: 16 to 23.
 pub fn open_index_texts(archive: &[u8], form: Form) -> u32
-    ensures told { Opens (limit_of form.wide) (text_index form) archive.now result }
+    ensures status { Opens (limit_of form.wide) (text_index form) archive.now result }
     ensures accepts { IsTextIndex form archive.now → result ≡ 0 }
 {
     match (form.long_values, form.wide) {
@@ -54,7 +55,7 @@ pub fn explain_index_texts(archive: &[u8], form: Form) -> Explanation
     }
 }
 
-/// Returns the decoded header of the index map, which the other calls take.
+/// Returns the decoded header of the index map, for lookups and iteration.
 ///
 /// # Requires
 ///

@@ -1,6 +1,7 @@
 //! Index maps of texts to texts.
 //!
-//! `open_index_texts_to_texts` validates an archive; the other calls require a valid one.
+//! `open_index_texts_to_texts` and `explain_index_texts_to_texts` validate an archive; the other
+//! calls require a valid one.
 
 ghost use Rattle.std.specs.Prelude.{map, ◌≡◌};
 ghost use Rattle.std.specs.Str.{IsUtf8};
@@ -29,7 +30,7 @@ use rkyv_table::table::decoded::Decoded;
 ///
 /// - The status of the first validation error: 16 to 23.
 pub fn open_index_texts_to_texts(archive: &[u8], wide: bool) -> u32
-    ensures told { Opens (limit_of wide) (text_text_index wide) archive.now result }
+    ensures status { Opens (limit_of wide) (text_text_index wide) archive.now result }
     ensures accepts { IsTextTextIndex wide archive.now → result ≡ 0 }
 {
     if wide {
@@ -51,7 +52,7 @@ pub fn explain_index_texts_to_texts(archive: &[u8], wide: bool) -> Explanation
     }
 }
 
-/// Returns the decoded header of the index map, which the other calls take.
+/// Returns the decoded header of the index map, for lookups and iteration.
 ///
 /// # Requires
 ///

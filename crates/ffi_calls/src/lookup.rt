@@ -2,8 +2,8 @@
 
 ghost use Rattle.std.specs.Prelude.{IfSome, false, true, ◌≡◌};
 ghost use Rattle.rkyv_base.specs.ElementSpec.{Viewable};
-ghost use Rattle.ffi_calls.specs.Archives.{GivesAt, IsHeaderOf, IsMapArchive, KeepsHeader, Sets};
-ghost use Rattle.ffi_calls.specs.Archives.{map_in, value_found};
+ghost use Rattle.ffi_calls.specs.Archives.{GivesAt, IsHeaderOf, IsMapArchive, KeepsHeader};
+ghost use Rattle.ffi_calls.specs.Archives.{Overwrites, map_in, value_found};
 ghost use Rattle.ffi_calls.specs.Lists.{GivesFirst, PosOfFirst, SetsFirstOf, asked_key};
 
 use crate::archives::{map_of, root_of};
@@ -100,7 +100,7 @@ pub(crate) fn set_in<A: NativeKey<K>, K: KeyElement + Represents<A>, V: Value, W
     ensures kept { IsMapArchive W.word W.LIMIT K.spec V.spec archive.new }
     ensures header { KeepsHeader (map_in W.word K.spec V.spec archive.old)
         (map_in W.word K.spec V.spec archive.new) }
-    ensures sets { Sets V.encoding archive.old
+    ensures sets { Overwrites V.encoding archive.old
         (value_found (map_in W.word K.spec V.spec archive.old) (A.calls key.now)
         (A.fits key.now archive.old)) value result archive.new }
     ensures listed { SetsFirstOf (map_in W.word K.spec V.spec archive.old)

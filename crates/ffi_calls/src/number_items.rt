@@ -10,7 +10,7 @@ use crate::building::{Built, archive_of, hand_out};
 use crate::form::Form;
 use crate::pairs::PairOf;
 use crate::reading::NumberKey;
-use crate::status::{NO_MEMORY, VALUE_TOO_LARGE, write_refusal};
+use crate::status::{NO_MEMORY, VALUE_TOO_LARGE, write_status};
 use crate::value::Value;
 use rkyv_base::width::{Narrow, Wide, Width};
 use std::alloc::Global;
@@ -55,7 +55,7 @@ fn archive_in<K: NumberKey, V: Value, W: Width, P: PairOf<K, u64>>(
     };
     match archive_of::<K, V, W>(alloc, pairs.as_slice()) {
         Ok(archive) => Ok(archive),
-        Err(error) => Err(write_refusal(&error)),
+        Err(error) => Err(write_status(&error)),
     }
 }
 

@@ -1,7 +1,7 @@
 //! Sets of numbers.
 //!
-//! `open_number_set` validates an archive, and `build_number_set` writes one. The other calls
-//! require a valid one.
+//! `open_number_set` and `explain_number_set` validate an archive, and `build_number_set` writes
+//! one. The other calls require a valid one.
 
 ghost use Rattle.std.specs.Prelude.{MatchResult, map, ◌≡◌};
 ghost use Rattle.ffi_calls.specs.Archives.{IsHeaderOf, Opens, limit_of};
@@ -11,7 +11,7 @@ ghost use Rattle.ffi_calls.specs.Lists.{archive_width};
 ghost use Rattle.ffi_calls.specs.SetItems.{ArchiveOfNumberSetFails, IsArchiveOfNumberSet};
 ghost use Rattle.ffi_calls.specs.SetItems.{NumberSetMade, NumberSetRefused};
 ghost use Rattle.ffi_calls.specs.Sets.{FindsListedNumber, FindsNumber, IsNumberSet};
-ghost use Rattle.ffi_calls.specs.Sets.{StoresNextMembers, number_set, number_set_in};
+ghost use Rattle.ffi_calls.specs.Sets.{StoresNextNumberMembers, number_set, number_set_in};
 
 use crate::archives::{header_of, open_map, typed_header};
 use crate::building::{Built, hand_out};
@@ -19,7 +19,7 @@ use crate::explanation::{Explanation, explain_map};
 use crate::pairs::StepOf;
 use crate::reading::NumberKey;
 use crate::sets::{contains_in, set_archive_of};
-use crate::status::write_refusal;
+use crate::status::write_status;
 use crate::walk::next_pairs_in;
 use rkyv_base::width::{Narrow, Wide, Width};
 use rkyv_table::table::decoded::Decoded;
@@ -31,7 +31,7 @@ use std::alloc::Global;
 ///
 /// - The status of the first validation error: 16 to 23.
 pub fn open_number_set<K: NumberKey>(archive: &[u8], wide: bool) -> u32
-    ensures told { Opens (limit_of wide) (number_set K.NumberKey wide) archive.now result }
+    ensures status { Opens (limit_of wide) (number_set K.NumberKey wide) archive.now result }
     ensures accepts { IsNumberSet K.NumberKey wide archive.now → result ≡ 0 }
 {
     if wide {
@@ -52,7 +52,7 @@ pub fn explain_number_set<K: NumberKey>(archive: &[u8], wide: bool) -> Explanati
     }
 }
 
-/// Returns the decoded header of the set, which the other calls take.
+/// Returns the decoded header of the set, for lookups and iteration.
 ///
 /// # Requires
 ///
@@ -109,8 +109,8 @@ pub fn next_number_members<K: NumberKey, S: StepOf<K, ()>>(
 ) -> usize
     requires archive { IsNumberSet K.NumberKey wide archive.now }
     requires header { IsHeaderOf (number_set_in K.NumberKey wide archive.now) header.now }
-    ensures { StoresNextMembers K.NumberKey wide archive.now from (map S.step_of members.old) result
-        (map S.step_of members.new) }
+    ensures { StoresNextNumberMembers K.NumberKey wide archive.now from (map S.step_of members.old)
+        result (map S.step_of members.new) }
 {
     if wide {
         next_pairs_in::<K, (), S, K, (), Wide>(
@@ -136,7 +136,7 @@ fn archive_in<K: NumberKey, W: Width>(alloc: Global, items: &[K]) -> Result<Vec<
 {
     match set_archive_of::<K, W>(alloc, items) {
         Ok(archive) => Ok(archive),
-        Err(error) => Err(write_refusal(&error)),
+        Err(error) => Err(write_status(&error)),
     }
 }
 

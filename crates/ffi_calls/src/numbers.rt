@@ -1,6 +1,6 @@
 //! Maps whose keys are numbers.
 //!
-//! `open_numbers` validates an archive; the other calls require a valid one.
+//! `open_numbers` and `explain_numbers` validate an archive; the other calls require a valid one.
 
 ghost use Rattle.std.specs.Prelude.{map, ◌≡◌};
 ghost use Rattle.ffi_calls.specs.Archives.{IsHeaderOf, IsNumberArchive, KeepsHeader, Opens};
@@ -25,7 +25,7 @@ use rkyv_table::table::decoded::Decoded;
 ///
 /// - The status of the first validation error: 16 to 23.
 pub fn open_numbers<K: NumberKey>(archive: &[u8], form: Form) -> u32
-    ensures told { Opens (limit_of form.wide) (number_map K.NumberKey form) archive.now result }
+    ensures status { Opens (limit_of form.wide) (number_map K.NumberKey form) archive.now result }
     ensures accepts { IsNumberArchive K.NumberKey form archive.now → result ≡ 0 }
 {
     match (form.long_values, form.wide) {
@@ -48,7 +48,7 @@ pub fn explain_numbers<K: NumberKey>(archive: &[u8], form: Form) -> Explanation
     }
 }
 
-/// Returns the decoded header of the map, which the other calls take.
+/// Returns the decoded header of the map, for lookups and iteration.
 ///
 /// # Requires
 ///

@@ -1,6 +1,7 @@
 //! Maps of numbers to texts.
 //!
-//! `open_numbers_to_texts` validates an archive; the other calls require a valid one.
+//! `open_numbers_to_texts` and `explain_numbers_to_texts` validate an archive; the other calls
+//! require a valid one.
 
 ghost use Rattle.std.specs.Prelude.{map, ◌≡◌};
 ghost use Rattle.ffi_calls.specs.Archives.{IsHeaderOf, Opens, limit_of};
@@ -25,7 +26,7 @@ use rkyv_table::table::decoded::Decoded;
 ///
 /// - The status of the first validation error: 16 to 23.
 pub fn open_numbers_to_texts<K: NumberKey>(archive: &[u8], wide: bool) -> u32
-    ensures told { Opens (limit_of wide) (number_text_map K.NumberKey wide) archive.now result }
+    ensures status { Opens (limit_of wide) (number_text_map K.NumberKey wide) archive.now result }
     ensures accepts { IsNumberTextArchive K.NumberKey wide archive.now → result ≡ 0 }
 {
     if wide {
@@ -47,7 +48,7 @@ pub fn explain_numbers_to_texts<K: NumberKey>(archive: &[u8], wide: bool) -> Exp
     }
 }
 
-/// Returns the decoded header of the map, which the other calls take.
+/// Returns the decoded header of the map, for lookups and iteration.
 ///
 /// # Requires
 ///

@@ -10,7 +10,7 @@ ghost use Rattle.ffi_calls.specs.TextItems.{NumberTextsMade, NumberTextsRefused}
 use crate::building::{Built, archive_of, hand_out};
 use crate::pairs::PairOf;
 use crate::reading::NumberKey;
-use crate::status::{NO_MEMORY, NOT_TEXT, write_refusal};
+use crate::status::{NO_MEMORY, NOT_TEXT, write_status};
 use crate::texts::text_of;
 use rkyv_base::width::{Narrow, Wide, Width};
 use std::alloc::Global;
@@ -56,7 +56,7 @@ fn archive_in<'a, K: NumberKey, W: Width, P: PairOf<K, &'a [u8]>>(
     };
     match archive_of::<K, &str, W>(alloc, pairs.as_slice()) {
         Ok(archive) => Ok(archive),
-        Err(error) => Err(write_refusal(&error)),
+        Err(error) => Err(write_status(&error)),
     }
 }
 

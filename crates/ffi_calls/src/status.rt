@@ -1,7 +1,7 @@
 //! The statuses that calls return.
 
 ghost use Rattle.std.specs.Prelude.{◌≡◌};
-ghost use Rattle.ffi_calls.specs.Status.{container_refusal, refusal, write_refusal};
+ghost use Rattle.ffi_calls.specs.Status.{container_status, verify_status, write_status};
 
 use rkyv_base::errors::{VerifyError, WriteError};
 use rkyv_base::writer::NoMemory;
@@ -13,9 +13,6 @@ pub const DONE: u32 = 0;
 /// The lookup doesn't find the key.
 pub const NOT_FOUND: u32 = 1;
 
-/// No pair remains.
-pub const END: u32 = 2;
-
 /// The value has more bits than the values of the map.
 pub const VALUE_TOO_LARGE: u32 = 3;
 
@@ -23,7 +20,7 @@ pub const VALUE_TOO_LARGE: u32 = 3;
 pub const NOT_TEXT: u32 = 4;
 
 /// No contents of a container have the codes.
-pub const UNKNOWN_KIND: u32 = 7;
+pub const UNKNOWN_CODES: u32 = 7;
 
 /// An allocation failed.
 pub const NO_MEMORY: u32 = 12;
@@ -32,9 +29,9 @@ pub const NO_MEMORY: u32 = 12;
 pub const WRONG_LENGTH: u32 = 46;
 
 /// Returns the status of a validation error: 16 to 23.
-#[tactic(auto, unfolding(crate::specs::Status::refusal))]
-pub(crate) fn refusal(error: &VerifyError) -> u32
-    ensures { result ≡ refusal error.now }
+#[tactic(auto, unfolding(crate::specs::Status::verify_status))]
+pub(crate) fn verify_status(error: &VerifyError) -> u32
+    ensures { result ≡ verify_status error.now }
 {
     match error {
         VerifyError::OutOfRange { .. } => 16,
@@ -49,9 +46,9 @@ pub(crate) fn refusal(error: &VerifyError) -> u32
 }
 
 /// Returns the status of a write error: `NO_MEMORY`, or 23 to 29.
-#[tactic(auto, unfolding(crate::specs::Status::write_refusal))]
-pub(crate) fn write_refusal(error: &WriteError<NoMemory>) -> u32
-    ensures { result ≡ write_refusal error.now }
+#[tactic(auto, unfolding(crate::specs::Status::write_status))]
+pub(crate) fn write_status(error: &WriteError<NoMemory>) -> u32
+    ensures { result ≡ write_status error.now }
 {
     match error {
         WriteError::Memory => NO_MEMORY,
@@ -67,9 +64,9 @@ pub(crate) fn write_refusal(error: &WriteError<NoMemory>) -> u32
 }
 
 /// Returns the status of a container's error: 32 to 47.
-#[tactic(auto, unfolding(crate::specs::Status::container_refusal))]
-pub(crate) fn container_refusal(error: &ContainerError) -> u32
-    ensures { result ≡ container_refusal error.now }
+#[tactic(auto, unfolding(crate::specs::Status::container_status))]
+pub(crate) fn container_status(error: &ContainerError) -> u32
+    ensures { result ≡ container_status error.now }
 {
     match error {
         ContainerError::TooShort { .. } => 32,

@@ -9,7 +9,7 @@ ghost use Rattle.ffi_calls.specs.Lists.{archive_width};
 use crate::building::{Built, archive_of, hand_out};
 use crate::form::Form;
 use crate::pairs::PairOf;
-use crate::status::{NO_MEMORY, NOT_TEXT, VALUE_TOO_LARGE, write_refusal};
+use crate::status::{NO_MEMORY, NOT_TEXT, VALUE_TOO_LARGE, write_status};
 use crate::texts::text_of;
 use crate::value::Value;
 use rkyv_base::width::{Narrow, Wide, Width};
@@ -60,7 +60,7 @@ fn archive_in<'a, V: Value, W: Width, P: PairOf<&'a [u8], u64>>(
     };
     match archive_of::<&str, V, W>(alloc, pairs.as_slice()) {
         Ok(archive) => Ok(archive),
-        Err(error) => Err(write_refusal(&error)),
+        Err(error) => Err(write_status(&error)),
     }
 }
 

@@ -9,7 +9,7 @@ ghost use Rattle.ffi_calls.specs.SetItems.{TextSetRefused};
 
 use crate::building::{Built, hand_out};
 use crate::sets::set_archive_of;
-use crate::status::{NO_MEMORY, NOT_TEXT, write_refusal};
+use crate::status::{NO_MEMORY, NOT_TEXT, write_status};
 use crate::texts::text_of;
 use rkyv_base::width::{Narrow, Wide, Width};
 use std::alloc::Global;
@@ -55,7 +55,7 @@ fn archive_in<W: Width>(alloc: Global, items: &[SetText<'_>]) -> Result<Vec<u8>,
     };
     match set_archive_of::<&str, W>(alloc, texts.as_slice()) {
         Ok(archive) => Ok(archive),
-        Err(error) => Err(write_refusal(&error)),
+        Err(error) => Err(write_status(&error)),
     }
 }
 

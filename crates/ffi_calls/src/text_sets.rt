@@ -1,6 +1,6 @@
 //! Sets of texts.
 //!
-//! `open_text_set` validates an archive; the other calls require a valid one.
+//! `open_text_set` and `explain_text_set` validate an archive; the other calls require a valid one.
 
 ghost use Rattle.std.specs.Prelude.{map, ◌≡◌};
 ghost use Rattle.std.specs.Str.{IsUtf8};
@@ -27,7 +27,7 @@ use rkyv_table::table::decoded::Decoded;
 ///
 /// - The status of the first validation error: 16 to 23.
 pub fn open_text_set(archive: &[u8], wide: bool) -> u32
-    ensures told { Opens (limit_of wide) (text_set wide) archive.now result }
+    ensures status { Opens (limit_of wide) (text_set wide) archive.now result }
     ensures accepts { IsTextSet wide archive.now → result ≡ 0 }
 {
     if wide {
@@ -48,7 +48,7 @@ pub fn explain_text_set(archive: &[u8], wide: bool) -> Explanation
     }
 }
 
-/// Returns the decoded header of the set, which the other calls take.
+/// Returns the decoded header of the set, for lookups and iteration.
 ///
 /// # Requires
 ///

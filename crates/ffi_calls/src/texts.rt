@@ -1,11 +1,12 @@
 //! Maps whose keys are texts.
 //!
-//! `open_texts` validates an archive; all other calls but `is_text` require a valid one.
+//! `open_texts` and `explain_texts` validate an archive; all other calls but `is_text` require a
+//! valid one.
 
 ghost use Rattle.std.specs.Prelude.{IsTrue, MatchOption, map, ◌↔◌, ◌≡◌};
 ghost use Rattle.std.specs.Str.{IsUtf8};
 ghost use Rattle.ffi_calls.specs.Archives.{GivesAt, IsHeaderOf, IsTextArchive, KeepsHeader};
-ghost use Rattle.ffi_calls.specs.Archives.{Opens, Sets, limit_of, text_map, texts_in};
+ghost use Rattle.ffi_calls.specs.Archives.{Opens, Overwrites, limit_of, text_map, texts_in};
 ghost use Rattle.ffi_calls.specs.Archives.{value_encoding, word_of};
 ghost use Rattle.ffi_calls.specs.Calls.{GivesText, SetsText, StoresNextTexts, text_found};
 ghost use Rattle.ffi_calls.specs.Explanation.{Explains};
@@ -50,7 +51,7 @@ pub fn is_text(bytes: &[u8]) -> bool
 ///
 /// - The status of the first validation error: 16 to 23.
 pub fn open_texts(archive: &[u8], form: Form) -> u32
-    ensures told { Opens (limit_of form.wide) (text_map form) archive.now result }
+    ensures status { Opens (limit_of form.wide) (text_map form) archive.now result }
     ensures accepts { IsTextArchive form archive.now → result ≡ 0 }
 {
     match (form.long_values, form.wide) {
@@ -73,7 +74,7 @@ pub fn explain_texts(archive: &[u8], form: Form) -> Explanation
     }
 }
 
-/// Returns the decoded header of the map, which the other calls take.
+/// Returns the decoded header of the map, for lookups and iteration.
 ///
 /// # Requires
 ///
@@ -157,7 +158,7 @@ fn set_of(archive: &mut [u8], form: Form, key: &str, value: u64) -> u32
     requires { IsTextArchive form archive.old }
     ensures kept { IsTextArchive form archive.new }
     ensures header { KeepsHeader (texts_in form archive.old) (texts_in form archive.new) }
-    ensures sets { Sets (value_encoding form) archive.old
+    ensures sets { Overwrites (value_encoding form) archive.old
         (text_found form archive.old key.now) value result archive.new }
     ensures listed { SetsFirstText form archive.old key.now value result archive.new }
 {

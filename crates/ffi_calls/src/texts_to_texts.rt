@@ -1,6 +1,7 @@
 //! Maps of texts to texts.
 //!
-//! `open_texts_to_texts` validates an archive; the other calls require a valid one.
+//! `open_texts_to_texts` and `explain_texts_to_texts` validate an archive; the other calls require
+//! a valid one.
 
 ghost use Rattle.std.specs.Prelude.{map, ◌≡◌};
 ghost use Rattle.std.specs.Str.{IsUtf8};
@@ -27,7 +28,7 @@ use rkyv_table::table::decoded::Decoded;
 ///
 /// - The status of the first validation error: 16 to 23.
 pub fn open_texts_to_texts(archive: &[u8], wide: bool) -> u32
-    ensures told { Opens (limit_of wide) (text_text_map wide) archive.now result }
+    ensures status { Opens (limit_of wide) (text_text_map wide) archive.now result }
     ensures accepts { IsTextTextArchive wide archive.now → result ≡ 0 }
 {
     if wide {
@@ -49,7 +50,7 @@ pub fn explain_texts_to_texts(archive: &[u8], wide: bool) -> Explanation
     }
 }
 
-/// Returns the decoded header of the map, which the other calls take.
+/// Returns the decoded header of the map, for lookups and iteration.
 ///
 /// # Requires
 ///

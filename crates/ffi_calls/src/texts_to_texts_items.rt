@@ -9,7 +9,7 @@ ghost use Rattle.ffi_calls.specs.TextItems.{TextTextsMade, TextTextsRefused};
 
 use crate::building::{Built, archive_of, hand_out};
 use crate::pairs::PairOf;
-use crate::status::{NO_MEMORY, NOT_TEXT, write_refusal};
+use crate::status::{NO_MEMORY, NOT_TEXT, write_status};
 use crate::texts::text_of;
 use rkyv_base::width::{Narrow, Wide, Width};
 use std::alloc::Global;
@@ -58,7 +58,7 @@ fn archive_in<'a, W: Width, P: PairOf<&'a [u8], &'a [u8]>>(
     };
     match archive_of::<&str, &str, W>(alloc, pairs.as_slice()) {
         Ok(archive) => Ok(archive),
-        Err(error) => Err(write_refusal(&error)),
+        Err(error) => Err(write_status(&error)),
     }
 }
 

@@ -13,7 +13,7 @@ pub(crate) trait Value: Scalar {
 
     /// Returns the value of a number, or `None` if the number has more bits than values.
     fn of_number(number: u64) -> Option<Self>
-        ensures told { MatchOption result (2 ^ bits Self.encoding.word ≤ number)
+        ensures exact { MatchOption result (2 ^ bits Self.encoding.word ≤ number)
             (λ value. Self.encoding.code value ≡ number) }
         ensures read { IfSome result (λ value. (number < 2 ^ bits Self.encoding.word)
             × (value ≡ Self.encoding.value number)) };

@@ -25,24 +25,25 @@ pub(crate) struct BucketPos {
     pub(crate) pos: u64,
 }
 
-/// Returns all control bytes of `cap` buckets, from position `item` on.
+/// Returns all control bytes of `cap` buckets, from position `controls_pos` on.
 #[inline]
-fn controls_from(bytes: &[u8], item: usize, cap: usize) -> &[u8]
-    requires { item + control_count cap ≤ length bytes.now }
-    ensures bytes { result.now ≡ slice_range bytes.now item (item + control_count cap) }
+fn controls_from(bytes: &[u8], controls_pos: usize, cap: usize) -> &[u8]
+    requires { controls_pos + control_count cap ≤ length bytes.now }
+    ensures bytes { result.now
+        ≡ slice_range bytes.now controls_pos (controls_pos + control_count cap) }
     ensures count { cap ≤ length result.now }
 {
-    &bytes[item..item + control_count(cap)]
+    &bytes[controls_pos..controls_pos + control_count(cap)]
 }
 
-/// Returns the position of a bucket of `size` bytes, before the first control byte at `item`.
+/// Returns the position of a bucket of `size` bytes, before the control bytes at `controls_pos`.
 #[inline]
-fn pos_before(item: usize, bucket: usize, size: usize) -> u64
+fn pos_before(controls_pos: usize, bucket: usize, size: usize) -> u64
     requires small { bucket + 1 < 2 ^ 64 }
-    requires room { (bucket + 1) * size ≤ item }
-    ensures { result ≡ item - (bucket + 1) * size }
+    requires room { (bucket + 1) * size ≤ controls_pos }
+    ensures { result ≡ controls_pos - (bucket + 1) * size }
 {
-    (item - (bucket + 1) * size) as u64
+    (controls_pos - (bucket + 1) * size) as u64
 }
 
 /// Returns the first full bucket from `from` on, in the map in a valid archive, with the position

@@ -77,7 +77,7 @@ pub extern "C" fn rkyv_c_open_container<'a>(
     width: u8,
     opened: &mut Opened<'a>,
 ) -> u32
-    ensures told { OpensContainer (codes_of kind key value width) bytes.now opened.old result
+    ensures status { OpensContainer (codes_of kind key value width) bytes.now opened.old result
         opened.new }
     ensures opens { OpensOwnCodes (codes_of kind key value width) bytes.now result }
 {

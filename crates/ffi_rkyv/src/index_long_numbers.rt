@@ -35,7 +35,7 @@ pub extern "C" fn rkyv_c_index_open_long_numbers(
     long_values: bool,
     wide: bool,
 ) -> u32
-    ensures told { Opens (limit_of wide) (number_index long_key (form_of long_values wide))
+    ensures status { Opens (limit_of wide) (number_index long_key (form_of long_values wide))
         archive.now result }
     ensures accepts { IsNumberIndex long_key (form_of long_values wide) archive.now → result ≡ 0 }
 {
@@ -56,7 +56,7 @@ pub extern "C" fn rkyv_c_index_explain_long_numbers(
     *explanation = explain_index_numbers::<u64>(archive, Form { long_values, wide });
 }
 
-/// Stores the decoded header of the index map in `header`, for the other calls.
+/// Stores the decoded header of the index map in `header`, for lookups and iteration.
 ///
 /// # Requires
 ///

@@ -29,7 +29,7 @@ use std::alloc::Global;
 /// - 16 to 23: the first validation error.
 #[unsafe(no_mangle)]
 pub extern "C" fn rkyv_c_index_open_long_numbers_to_texts(archive: &[u8], wide: bool) -> u32
-    ensures told { Opens (limit_of wide) (number_text_index long_key wide) archive.now result }
+    ensures status { Opens (limit_of wide) (number_text_index long_key wide) archive.now result }
     ensures accepts { IsNumberTextIndex long_key wide archive.now → result ≡ 0 }
 {
     open_index_numbers_to_texts::<u64>(archive, wide)
@@ -49,7 +49,7 @@ pub extern "C" fn rkyv_c_index_explain_long_numbers_to_texts(
     *explanation = explain_index_numbers_to_texts::<u64>(archive, wide);
 }
 
-/// Stores the decoded header of the index map in `header`, for the other calls.
+/// Stores the decoded header of the index map in `header`, for lookups and iteration.
 ///
 /// # Requires
 ///

@@ -31,7 +31,7 @@ use std::alloc::Global;
 /// - 16 to 23: the first validation error.
 #[unsafe(no_mangle)]
 pub extern "C" fn rkyv_c_index_open_numbers(archive: &[u8], long_values: bool, wide: bool) -> u32
-    ensures told { Opens (limit_of wide) (number_index short_key (form_of long_values wide))
+    ensures status { Opens (limit_of wide) (number_index short_key (form_of long_values wide))
         archive.now result }
     ensures accepts { IsNumberIndex short_key (form_of long_values wide) archive.now → result ≡ 0 }
 {
@@ -52,7 +52,7 @@ pub extern "C" fn rkyv_c_index_explain_numbers(
     *explanation = explain_index_numbers::<u32>(archive, Form { long_values, wide });
 }
 
-/// Stores the decoded header of the index map in `header`, for the other calls.
+/// Stores the decoded header of the index map in `header`, for lookups and iteration.
 ///
 /// # Requires
 ///

@@ -30,7 +30,7 @@ use std::alloc::Global;
 /// - 16 to 23: the first validation error.
 #[unsafe(no_mangle)]
 pub extern "C" fn rkyv_c_index_open_texts(archive: &[u8], long_values: bool, wide: bool) -> u32
-    ensures told { Opens (limit_of wide) (text_index (form_of long_values wide)) archive.now
+    ensures status { Opens (limit_of wide) (text_index (form_of long_values wide)) archive.now
         result }
     ensures accepts { IsTextIndex (form_of long_values wide) archive.now → result ≡ 0 }
 {
@@ -51,7 +51,7 @@ pub extern "C" fn rkyv_c_index_explain_texts(
     *explanation = explain_index_texts(archive, Form { long_values, wide });
 }
 
-/// Stores the decoded header of the index map in `header`, for the other calls.
+/// Stores the decoded header of the index map in `header`, for lookups and iteration.
 ///
 /// # Requires
 ///

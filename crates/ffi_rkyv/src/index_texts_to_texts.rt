@@ -1,7 +1,6 @@
 //! The calls for index maps of texts to texts.
 
 ghost use Rattle.std.specs.Prelude.{map, ◌≡◌};
-ghost use Rattle.std.specs.Str.{IsUtf8};
 ghost use Rattle.ffi_calls.specs.Archives.{IsHeaderOf, Opens, limit_of};
 ghost use Rattle.ffi_calls.specs.Explanation.{Explains};
 ghost use Rattle.ffi_calls.specs.IndexTextValues.{IndexOfTextTextsFails};
@@ -29,7 +28,7 @@ use std::alloc::Global;
 /// - 16 to 23: the first validation error.
 #[unsafe(no_mangle)]
 pub extern "C" fn rkyv_c_index_open_texts_to_texts(archive: &[u8], wide: bool) -> u32
-    ensures told { Opens (limit_of wide) (text_text_index wide) archive.now result }
+    ensures status { Opens (limit_of wide) (text_text_index wide) archive.now result }
     ensures accepts { IsTextTextIndex wide archive.now → result ≡ 0 }
 {
     open_index_texts_to_texts(archive, wide)
@@ -49,7 +48,7 @@ pub extern "C" fn rkyv_c_index_explain_texts_to_texts(
     *explanation = explain_index_texts_to_texts(archive, wide);
 }
 
-/// Stores the decoded header of the index map in `header`, for the other calls.
+/// Stores the decoded header of the index map in `header`, for lookups and iteration.
 ///
 /// # Requires
 ///

@@ -1,4 +1,4 @@
-//! Hash maps and index maps of numbers and of texts behind a C interface.
+//! Hash maps, sets, index maps and containers of numbers and of texts behind a C interface.
 //!
 //! A slice is passed as a pointer, then a length in elements. A parameter `alloc` has no bytes: C
 //! passes nothing for it. `clients/c` has the header for C programs. Its functions check their
@@ -28,7 +28,7 @@ mod numbers;
 mod numbers_to_texts;
 mod pairs;
 mod set_lookups;
-mod text_lookups;
 mod text_sets;
+mod text_value_lookups;
 mod texts;
 mod texts_to_texts;

@@ -6,7 +6,7 @@ ghost use Rattle.ffi_calls.specs.Explanation.{Explains};
 ghost use Rattle.ffi_calls.specs.Items.{HandsOut};
 ghost use Rattle.ffi_calls.specs.Keys.{long_key};
 ghost use Rattle.ffi_calls.specs.SetItems.{ArchiveOfNumberSetFails, IsArchiveOfNumberSet};
-ghost use Rattle.ffi_calls.specs.Sets.{IsNumberSet, StoresNextMembers};
+ghost use Rattle.ffi_calls.specs.Sets.{IsNumberSet, StoresNextNumberMembers};
 ghost use Rattle.ffi_calls.specs.Sets.{number_set, number_set_in};
 ghost use Rattle.ffi_rkyv.specs.Pairs.{long_number_member};
 
@@ -26,7 +26,7 @@ use std::alloc::Global;
 /// - 16 to 23: the first validation error.
 #[unsafe(no_mangle)]
 pub extern "C" fn rkyv_c_open_long_number_set(archive: &[u8], wide: bool) -> u32
-    ensures told { Opens (limit_of wide) (number_set long_key wide) archive.now result }
+    ensures status { Opens (limit_of wide) (number_set long_key wide) archive.now result }
     ensures accepts { IsNumberSet long_key wide archive.now → result ≡ 0 }
 {
     open_number_set::<u64>(archive, wide)
@@ -44,7 +44,7 @@ pub extern "C" fn rkyv_c_explain_long_number_set(
     *explanation = explain_number_set::<u64>(archive, wide);
 }
 
-/// Stores the decoded header of the set in `header`, for the other calls.
+/// Stores the decoded header of the set in `header`, for lookups and iteration.
 ///
 /// # Requires
 ///
@@ -76,8 +76,8 @@ pub extern "C" fn rkyv_c_next_long_number_members(
 ) -> usize
     requires archive { IsNumberSet long_key wide archive.now }
     requires header { IsHeaderOf (number_set_in long_key wide archive.now) header.now }
-    ensures { StoresNextMembers long_key wide archive.now from (map long_number_member members.old)
-        result (map long_number_member members.new) }
+    ensures { StoresNextNumberMembers long_key wide archive.now from
+        (map long_number_member members.old) result (map long_number_member members.new) }
 {
     next_number_members::<u64, _>(archive, wide, header, from, members)
 }

@@ -27,7 +27,7 @@ use std::alloc::Global;
 /// - 16 to 23: the first validation error.
 #[unsafe(no_mangle)]
 pub extern "C" fn rkyv_c_open_long_numbers_to_texts(archive: &[u8], wide: bool) -> u32
-    ensures told { Opens (limit_of wide) (number_text_map long_key wide) archive.now result }
+    ensures status { Opens (limit_of wide) (number_text_map long_key wide) archive.now result }
     ensures accepts { IsNumberTextArchive long_key wide archive.now → result ≡ 0 }
 {
     open_numbers_to_texts::<u64>(archive, wide)
@@ -46,7 +46,7 @@ pub extern "C" fn rkyv_c_explain_long_numbers_to_texts(
     *explanation = explain_numbers_to_texts::<u64>(archive, wide);
 }
 
-/// Stores the decoded header of the map in `header`, for the other calls.
+/// Stores the decoded header of the map in `header`, for lookups and iteration.
 ///
 /// # Requires
 ///

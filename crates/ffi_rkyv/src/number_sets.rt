@@ -6,7 +6,7 @@ ghost use Rattle.ffi_calls.specs.Explanation.{Explains};
 ghost use Rattle.ffi_calls.specs.Items.{HandsOut};
 ghost use Rattle.ffi_calls.specs.Keys.{short_key};
 ghost use Rattle.ffi_calls.specs.SetItems.{ArchiveOfNumberSetFails, IsArchiveOfNumberSet};
-ghost use Rattle.ffi_calls.specs.Sets.{IsNumberSet, StoresNextMembers};
+ghost use Rattle.ffi_calls.specs.Sets.{IsNumberSet, StoresNextNumberMembers};
 ghost use Rattle.ffi_calls.specs.Sets.{number_set, number_set_in};
 ghost use Rattle.ffi_rkyv.specs.Pairs.{number_member};
 
@@ -26,7 +26,7 @@ use std::alloc::Global;
 /// - 16 to 23: the first validation error.
 #[unsafe(no_mangle)]
 pub extern "C" fn rkyv_c_open_number_set(archive: &[u8], wide: bool) -> u32
-    ensures told { Opens (limit_of wide) (number_set short_key wide) archive.now result }
+    ensures status { Opens (limit_of wide) (number_set short_key wide) archive.now result }
     ensures accepts { IsNumberSet short_key wide archive.now → result ≡ 0 }
 {
     open_number_set::<u32>(archive, wide)
@@ -44,7 +44,7 @@ pub extern "C" fn rkyv_c_explain_number_set(
     *explanation = explain_number_set::<u32>(archive, wide);
 }
 
-/// Stores the decoded header of the set in `header`, for the other calls.
+/// Stores the decoded header of the set in `header`, for lookups and iteration.
 ///
 /// # Requires
 ///
@@ -76,8 +76,8 @@ pub extern "C" fn rkyv_c_next_number_members(
 ) -> usize
     requires archive { IsNumberSet short_key wide archive.now }
     requires header { IsHeaderOf (number_set_in short_key wide archive.now) header.now }
-    ensures { StoresNextMembers short_key wide archive.now from (map number_member members.old)
-        result (map number_member members.new) }
+    ensures { StoresNextNumberMembers short_key wide archive.now from
+        (map number_member members.old) result (map number_member members.new) }
 {
     next_number_members::<u32, _>(archive, wide, header, from, members)
 }

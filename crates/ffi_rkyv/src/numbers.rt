@@ -26,7 +26,7 @@ use std::alloc::Global;
 /// - 16 to 23: the first validation error.
 #[unsafe(no_mangle)]
 pub extern "C" fn rkyv_c_open_numbers(archive: &[u8], long_values: bool, wide: bool) -> u32
-    ensures told { Opens (limit_of wide) (number_map short_key (form_of long_values wide))
+    ensures status { Opens (limit_of wide) (number_map short_key (form_of long_values wide))
         archive.now result }
     ensures accepts { IsNumberArchive short_key (form_of long_values wide) archive.now
         → result ≡ 0 }
@@ -48,7 +48,7 @@ pub extern "C" fn rkyv_c_explain_numbers(
     *explanation = explain_numbers::<u32>(archive, Form { long_values, wide });
 }
 
-/// Stores the decoded header of the map in `header`, for the other calls.
+/// Stores the decoded header of the map in `header`, for lookups and iteration.
 ///
 /// # Requires
 ///

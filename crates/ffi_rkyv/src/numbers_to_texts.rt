@@ -27,7 +27,7 @@ use std::alloc::Global;
 /// - 16 to 23: the first validation error.
 #[unsafe(no_mangle)]
 pub extern "C" fn rkyv_c_open_numbers_to_texts(archive: &[u8], wide: bool) -> u32
-    ensures told { Opens (limit_of wide) (number_text_map short_key wide) archive.now result }
+    ensures status { Opens (limit_of wide) (number_text_map short_key wide) archive.now result }
     ensures accepts { IsNumberTextArchive short_key wide archive.now → result ≡ 0 }
 {
     open_numbers_to_texts::<u32>(archive, wide)
@@ -47,7 +47,7 @@ pub extern "C" fn rkyv_c_explain_numbers_to_texts(
     *explanation = explain_numbers_to_texts::<u32>(archive, wide);
 }
 
-/// Stores the decoded header of the map in `header`, for the other calls.
+/// Stores the decoded header of the map in `header`, for lookups and iteration.
 ///
 /// # Requires
 ///

@@ -24,7 +24,7 @@ use std::alloc::Global;
 /// - 16 to 23: the first validation error.
 #[unsafe(no_mangle)]
 pub extern "C" fn rkyv_c_open_text_set(archive: &[u8], wide: bool) -> u32
-    ensures told { Opens (limit_of wide) (text_set wide) archive.now result }
+    ensures status { Opens (limit_of wide) (text_set wide) archive.now result }
     ensures accepts { IsTextSet wide archive.now → result ≡ 0 }
 {
     open_text_set(archive, wide)
@@ -38,7 +38,7 @@ pub extern "C" fn rkyv_c_explain_text_set(archive: &[u8], wide: bool, explanatio
     *explanation = explain_text_set(archive, wide);
 }
 
-/// Stores the decoded header of the set in `header`, for the other calls.
+/// Stores the decoded header of the set in `header`, for lookups and iteration.
 ///
 /// # Requires
 ///

@@ -26,7 +26,8 @@ use std::alloc::Global;
 /// - 16 to 23: the first validation error.
 #[unsafe(no_mangle)]
 pub extern "C" fn rkyv_c_open_texts(archive: &[u8], long_values: bool, wide: bool) -> u32
-    ensures told { Opens (limit_of wide) (text_map (form_of long_values wide)) archive.now result }
+    ensures status { Opens (limit_of wide) (text_map (form_of long_values wide)) archive.now
+        result }
     ensures accepts { IsTextArchive (form_of long_values wide) archive.now → result ≡ 0 }
 {
     open_texts(archive, Form { long_values, wide })
@@ -46,7 +47,7 @@ pub extern "C" fn rkyv_c_explain_texts(
     *explanation = explain_texts(archive, Form { long_values, wide });
 }
 
-/// Stores the decoded header of the map in `header`, for the other calls.
+/// Stores the decoded header of the map in `header`, for lookups and iteration.
 ///
 /// # Requires
 ///

@@ -26,7 +26,7 @@ use std::alloc::Global;
 /// - 16 to 23: the first validation error.
 #[unsafe(no_mangle)]
 pub extern "C" fn rkyv_c_open_texts_to_texts(archive: &[u8], wide: bool) -> u32
-    ensures told { Opens (limit_of wide) (text_text_map wide) archive.now result }
+    ensures status { Opens (limit_of wide) (text_text_map wide) archive.now result }
     ensures accepts { IsTextTextArchive wide archive.now → result ≡ 0 }
 {
     open_texts_to_texts(archive, wide)
@@ -45,7 +45,7 @@ pub extern "C" fn rkyv_c_explain_texts_to_texts(
     *explanation = explain_texts_to_texts(archive, wide);
 }
 
-/// Stores the decoded header of the map in `header`, for the other calls.
+/// Stores the decoded header of the map in `header`, for lookups and iteration.
 ///
 /// # Requires
 ///

@@ -18,11 +18,11 @@ use lib.Count.{count_trailing_zeros}
 abbrev pub NoneBelow : (ℕ → Bool) → List ℕ → ℕ → Type 0
 NoneBelow p xs n = (k : ℕ) → k < n → p (get_or xs k 0) ≡ false
 
-told : (p : ℕ → Bool) (xs : List ℕ) (n : ℕ) → prefix_len (λ x. not (p x)) xs ≡ n → n < length xs → Some n ≡ position p xs
-told p xs n e l = sym (ap (λ m. cond (ltb m (length xs)) (Some m) None) e ∙ ap (λ b. cond b (Some n) None) (lt-ltb n (length xs) l))
+position_is : (p : ℕ → Bool) (xs : List ℕ) (n : ℕ) → prefix_len (λ x. not (p x)) xs ≡ n → n < length xs → Some n ≡ position p xs
+position_is p xs n e l = sym (ap (λ m. cond (ltb m (length xs)) (Some m) None) e ∙ ap (λ b. cond b (Some n) None) (lt-ltb n (length xs) l))
 
-told_none : (p : ℕ → Bool) (xs : List ℕ) → prefix_len (λ x. not (p x)) xs ≡ length xs → None ≡ position p xs
-told_none p xs e = sym (ap (λ m. cond (ltb m (length xs)) (Some m) None) e ∙ ap (λ b. cond b (Some (length xs)) None) (le-ltb (length xs) (length xs) (omega arith)))
+position_none : (p : ℕ → Bool) (xs : List ℕ) → prefix_len (λ x. not (p x)) xs ≡ length xs → None ≡ position p xs
+position_none p xs e = sym (ap (λ m. cond (ltb m (length xs)) (Some m) None) e ∙ ap (λ b. cond b (Some (length xs)) None) (le-ltb (length xs) (length xs) (omega arith)))
 
 splat_compared : (t : ℕ → ℕ → Bool) (y : ℕ) (xs : List ℕ) → zip2 t (replicate (length xs) y) xs ≡ map (t y) xs
 splat_compared t y [] = refl
@@ -45,10 +45,10 @@ some_marked p xs long some =
     let below = bit_at-trailing_zeros w8 m pos small in
     let e = trailing_mask_l p 8 xs (omega arith) pos in
     let f = trailing_mask_l p 64 xs (omega arith) pos in
-    told p xs (count_trailing_zeros 64 m) (sym f) (omega (arith, below.0, e, f))
+    position_is p xs (count_trailing_zeros 64 m) (sym f) (omega (arith, below.0, e, f))
 
 pub none_marked : (p : ℕ → Bool) (xs : List ℕ) → mask_l (map p xs) ≡ 0 → None ≡ position p xs
-none_marked p xs e = told_none p xs (leading_from_mask_l p xs e)
+none_marked p xs e = position_none p xs (leading_from_mask_l p xs e)
 
 -- `ys`: part of `xs` from `at` on
 pub record IsStretch (xs ys : List ℕ) (at : ℕ) : Type 0 where
@@ -61,7 +61,7 @@ fails_from false h = refl
 
 pub none_there : (p : ℕ → Bool) (ys : List ℕ) → None ≡ position p ys → NoneBelow p ys (length ys)
 none_there p ys e k l =
-    ⊎_elim (λ (s : prefix_len (λ x. not (p x)) ys < length ys). absurd (none-some (prefix_len (λ x. not (p x)) ys) (e ∙ sym (told p ys (prefix_len (λ x. not (p x)) ys) refl s))))
+    ⊎_elim (λ (s : prefix_len (λ x. not (p x)) ys < length ys). absurd (none-some (prefix_len (λ x. not (p x)) ys) (e ∙ sym (position_is p ys (prefix_len (λ x. not (p x)) ys) refl s))))
     (λ (g : length ys ≤ prefix_len (λ x. not (p x)) ys). fails_from (p (get_or ys k 0)) (prefix_len_passes (λ x. not (p x)) ys k 0 (omega arith)))
     (cases_lt (prefix_len (λ x. not (p x)) ys) (length ys))
 
@@ -81,14 +81,14 @@ stretch_hit p xs ys at n s before e =
     let i = s.inside in
     let l = f.0 in
     let hit : p (get_or xs (at + n) 0) ≡ true = ap p (sym (s.same n f.0)) ∙ f.1 in
-    told p xs (at + n) (prefix_len_is (λ x. not (p x)) xs (at + n) 0 (omega arith) (λ k m. ap not (both_below p xs ys at n s (omega arith) before f.2 k m)) (λ m. ap not hit)) (omega arith)
+    position_is p xs (at + n) (prefix_len_is (λ x. not (p x)) xs (at + n) 0 (omega arith) (λ k m. ap not (both_below p xs ys at n s (omega arith) before f.2 k m)) (λ m. ap not hit)) (omega arith)
 
 pub stretch_miss : (p : ℕ → Bool) (xs ys : List ℕ) (at : ℕ) → IsStretch xs ys at → NoneBelow p xs at → None ≡ position p ys → NoneBelow p xs (at + length ys)
 stretch_miss p xs ys at s before e = both_below p xs ys at (length ys) s (omega arith) before (none_there p ys e)
 
 pub none_first : (p : ℕ → Bool) (xs : List ℕ) (n : ℕ) → length xs ≤ n → NoneBelow p xs n → None ≡ position p xs
 none_first p xs n le below =
-    told_none p xs (prefix_len_is (λ x. not (p x)) xs (length xs) 0 (omega arith) (λ k m. ap not (below k (omega arith))) (λ m. absurd (omega arith)))
+    position_none p xs (prefix_len_is (λ x. not (p x)) xs (length xs) 0 (omega arith) (λ k m. ap not (below k (omega arith))) (λ m. absurd (omega arith)))
 
 -- the next eight elements from `at` on, and all of them
 pub eight : (xs : List ℕ) (at : ℕ) → at + 8 ≤ length xs → length (take 8 (drop at xs)) ≡ 8

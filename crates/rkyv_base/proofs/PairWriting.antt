@@ -8,20 +8,20 @@ use Rattle.rkyv_base.specs.Entry.{IsSmall}
 use Rattle.rkyv_base.specs.Format.{Format, SerializeFails, Serialized}
 use Rattle.rkyv_base.specs.Pairs.{pair_format, PairNext}
 use Rattle.rkyv_base.specs.Writing.{Output, end_of, Appends, Within}
-use Rattle.rkyv_base.proofs.WritingSteps.{appends_after, end-appends, grows, told_after, told_as, within_after}
+use Rattle.rkyv_base.proofs.WritingSteps.{appends_after, end-appends, fails_after, fails_under, grows, within_after}
 
 -- an error of the key
-pub key_gave_up : {F V W R Q : Type 0} (limit : ℕ) (k v : ElementSpec) (kf : Format V R) (vf : Format W Q) (pair : V × W) (o o' : Output) (e : WriteError F)
+pub key_fails : {F V W R Q : Type 0} (limit : ℕ) (k v : ElementSpec) (kf : Format V R) (vf : Format W Q) (pair : V × W) (o o' : Output) (e : WriteError F)
     → IsSmall k v → SerializeFails limit kf pair.0 o o' e → SerializeFails limit (pair_format k v kf vf) pair o o' e
-key_gave_up limit k v kf vf pair o o' e small t =
-    told_as limit (PairNext k v kf vf pair (end_of o)) (kf.next pair.0 (end_of o)) o o' e (λ f step n. inr (small, inl n)) t
+key_fails limit k v kf vf pair o o' e small t =
+    fails_under limit (PairNext k v kf vf pair (end_of o)) (kf.next pair.0 (end_of o)) o o' e (λ f step n. inr (small, inl n)) t
 
 -- an error of the value
 pub value_fails : {F V W R Q : Type 0} (limit : ℕ) (k v : ElementSpec) (kf : Format V R) (vf : Format W Q) (pair : V × W) (o o1 o2 : Output) (a : List ℕ) (r : R) (e : WriteError F)
     → IsSmall k v → Appends o o1 a → kf.parts pair.0 (end_of o) a r → Within limit o1 a → SerializeFails limit vf pair.1 o1 o2 e → SerializeFails limit (pair_format k v kf vf) pair o o2 e
 value_fails limit k v kf vf pair o o1 o2 a r e small h good inside t =
     let at : end_of o1 ≡ end_of o + length a = end-appends o o1 a h in
-    told_after limit (PairNext k v kf vf pair (end_of o)) (vf.next pair.1 (end_of o1)) o o1 o2 a e h inside
+    fails_after limit (PairNext k v kf vf pair (end_of o)) (vf.next pair.1 (end_of o1)) o o1 o2 a e h inside
     (λ f step n. inr (small, inr (a, r, f, good, subst (λ p. vf.next pair.1 p f step) at n, refl)))
     t
 

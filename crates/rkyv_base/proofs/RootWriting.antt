@@ -14,7 +14,7 @@ use Rattle.rkyv_base.specs.Lemmas.Entry.{round_up-multiple}
 use Rattle.rkyv_base.specs.Access.{Accepted}
 use Rattle.rkyv_base.specs.Format.{Format, IsFormat}
 use Rattle.rkyv_base.specs.Root.{RootBytes, RootNext, WroteRoot, WriteRootFails, ArchiveOf, fresh}
-use Rattle.rkyv_base.proofs.WritingSteps.{appends_after, end-appends, grows, told_after}
+use Rattle.rkyv_base.proofs.WritingSteps.{appends_after, end-appends, fails_after, grows}
 
 module _ (F : Type 0) {V R : Type 0} (limit align : ℕ) (f : Format V R) (v : V) (o o1 o2 o3 : Output)
     (part : List ℕ) (r : R) (a : Appends o o1 part) (made : f.parts v (end_of o) part r) (inside : Within limit o1 part) where
@@ -33,26 +33,26 @@ module _ (F : Type 0) {V R : Type 0} (limit align : ℕ) (f : Format V R) (v : V
   abbrev before : List ℕ
   before = part ++ zeros (padding align (end_of o1))
 
-  abbrev Aligns : Type 0
-  Aligns = Appends o1 o2 (zeros (padding align (end_of o1))) × (end_of o2 ≤ limit)
+  abbrev ZerosAppended : Type 0
+  ZerosAppended = Appends o1 o2 (zeros (padding align (end_of o1))) × (end_of o2 ≤ limit)
 
   front_is : (x : List ℕ) → x ≡ [] → before ++ x ≡ part ++ zeros (padding align (end_of o + length part))
   front_is x e = ap (λ (y : List ℕ). before ++ y) e ∙ append-nil before ∙ ap (λ (y : List ℕ). part ++ y) same_zeros
 
-  pub root_told_align : (e : WriteError F) → WriteFails limit (Only (piece (zeros (padding align (end_of o1))))) o1 o2 e → WriteRootFails limit align f v o o2 e
-  root_told_align e t =
-      told_after limit (RootNext align f v (end_of o)) (Only (piece (zeros (padding align (end_of o1))))) o o1 o2 part e a inside
+  pub root_align_fails : (e : WriteError F) → WriteFails limit (Only (piece (zeros (padding align (end_of o1))))) o1 o2 e → WriteRootFails limit align f v o o2 e
+  root_align_fails e t =
+      fails_after limit (RootNext align f v (end_of o)) (Only (piece (zeros (padding align (end_of o1))))) o o1 o2 part e a inside
       (λ front step h.
       let k : part ++ front ≡ part = ap (λ (x : List ℕ). part ++ x) h.0 ∙ append-nil part in
       rw k (inr (inr (inl (r, made, h.1 ∙ ap piece same_zeros))))) t
 
-  pub root_told_append : (out : List ℕ) (e : WriteError F) → Aligns → f.image v r (end_of o2) out
+  pub root_append_fails : (out : List ℕ) (e : WriteError F) → ZerosAppended → f.image v r (end_of o2) out
       → WriteFails limit (Only (piece out)) o2 o3 e → WriteRootFails limit align f v o o3 e
-  root_told_append out e b i t =
-      told_after limit (RootNext align f v (end_of o)) (Only (piece out)) o o2 o3 before e (appends_after o o1 o2 part _ a b.0) (inr b.1)
+  root_append_fails out e b i t =
+      fails_after limit (RootNext align f v (end_of o)) (Only (piece out)) o o2 o3 before e (appends_after o o1 o2 part _ a b.0) (inr b.1)
       (λ front step h. inr (inr (inr (part, r, made, front_is front h.0, inl (out, subst (λ n. f.image v r n out) (root_at b.0) i, h.1))))) t
 
-  pub root_overflow_fails : Aligns → f.overflow v r (end_of o2) → WriteRootFails {F = F} limit align f v o o2 DistanceTooLarge
+  pub root_overflow_fails : ZerosAppended → f.overflow v r (end_of o2) → WriteRootFails {F = F} limit align f v o o2 DistanceTooLarge
   root_overflow_fails b overflow =
       let all : Appends o o2 before = appends_after o o1 o2 part _ a b.0 in
       record {

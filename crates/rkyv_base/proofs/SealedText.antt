@@ -7,16 +7,16 @@ use Rattle.std.specs.Str.{IsUtf8}
 use Rattle.std.proofs.Common.{refl, arith, subst, sym, ◌∙◌, ap, inl, inr}
 use Rattle.std.proofs.lemmas.Bool.{cases_Bool}
 use Rattle.std.proofs.lemmas.Bool.Decides.{nat_tests}
-use Rattle.std.proofs.lemmas.List.{drop-take, drop-drop, length-take, length-drop, length-map, take-append-drop}
+use Rattle.std.proofs.lemmas.List.{drop-take, drop-drop, length-take, length-drop, length-map}
 use Rattle.std.proofs.Math.Seq.{take-append-add}
-use Rattle.rkyv_base.specs.Sealing.{Sealed, Keeps, with_bytes}
+use Rattle.rkyv_base.specs.Sealing.{Sealed, Keeps}
 use Rattle.rkyv_base.specs.SealedText.{IsInline, IsSealedText, inline_at, with_uppercase, Raised}
 use Rattle.rkyv_base.specs.ElementSpec.{Viewable}
 use Rattle.rkyv_base.specs.Text.{fixed_bytes, inline_text, is_out_of_line, text_at, text_spec}
 use Rattle.rkyv_base.specs.Text.{text_size}
 use Rattle.rkyv_base.specs.Lemmas.Text.{inline_reads}
 use Rattle.rkyv_base.proofs.Uppercase.{utf8_raised}
-use Rattle.rkyv_base.proofs.Sealing.{joined, sealed_wider, with_bytes-rest, with_bytes-sealed}
+use Rattle.rkyv_base.proofs.Sealing.{sealed_wider, with_bytes-rest, with_bytes-sealed}
 
 -- the fixed bytes `s`, with the text before the first ff in upper case
 abbrev raised_front : List ℕ → List ℕ
@@ -37,7 +37,7 @@ inline_goes_on x xs h =
     let e : 1 + n ≡ suc n = omega arith in
     rw (h, e) refl
 
--- the text before the first ff, after that
+-- the inline text of `raised_front s` is that of `s` in upper case
 front_raised : (s : List ℕ) → inline_text (raised_front s) ≡ map to_ascii_uppercase (inline_text s)
 front_raised [] = refl
 front_raised (x ∷ xs) =
@@ -96,13 +96,13 @@ module _ (w : Width) (b : List ℕ) (p : ℕ) (inside : p + text_size w ≤ leng
       (with_bytes-sealed b p k (map to_ascii_uppercase (inline_at w b p)) (omega arith) (length-map (inline_at w b p) to_ascii_uppercase))
 
   uppercase_holds : IsInline w b p → Keeps (text_spec w) b (with_uppercase w b p) p
-  uppercase_holds local lo hi l o q (inl h) = inl (inline_stays local, text_raised h.1, h.2)
-  uppercase_holds local lo hi l o q (inr h) = cc (local, h.0)
+  uppercase_holds inline lo hi l o q (inl h) = inl (inline_stays inline, text_raised h.1, h.2)
+  uppercase_holds inline lo hi l o q (inr h) = cc (inline, h.0)
 
   uppercase_reads : IsInline w b p → text_at w (with_uppercase w b p) p ≡ map to_ascii_uppercase (text_at w b p)
-  uppercase_reads local =
-      inline_reads w (fixed_bytes w (with_uppercase w b p) p) (with_uppercase w b p) p (inline_stays local) ∙ inline_raised
-      ∙ ap (map to_ascii_uppercase) (sym (inline_reads w (fixed_bytes w b p) b p local))
+  uppercase_reads inline =
+      inline_reads w (fixed_bytes w (with_uppercase w b p) p) (with_uppercase w b p) p (inline_stays inline) ∙ inline_raised
+      ∙ ap (map to_ascii_uppercase) (sym (inline_reads w (fixed_bytes w b p) b p inline))
 
   -- the bytes after a call that writes the text in upper case
   module _ (c : List ℕ) where
@@ -115,36 +115,17 @@ module _ (w : Width) (b : List ℕ) (p : ℕ) (inside : p + text_size w ≤ leng
     raised_holds false h = subst (λ x. Keeps (text_spec w) b x p) (sym h.1) (λ lo hi l o q k. k)
 
     pub raised_reads : (inline : Bool) → Raised w b p c inline → IsInline w b p → text_at w c p ≡ map to_ascii_uppercase (text_at w b p)
-    raised_reads true h local = ap (λ (x : List ℕ). text_at w x p) h.1 ∙ uppercase_reads local
-    raised_reads false h local = cc (local, h.0)
+    raised_reads true h inline = ap (λ (x : List ℕ). text_at w x p) h.1 ∙ uppercase_reads inline
+    raised_reads false h inline = cc (inline, h.0)
 
     pub raised_text : (inline : Bool) → Raised w b p c inline → IsSealedText w b p → IsSealedText w c p
-    raised_text true h text = subst (λ x. IsSealedText w x p) (sym h.1) (λ local. text_raised (text h.0))
+    raised_text true h text = subst (λ x. IsSealedText w x p) (sym h.1) (λ inline. text_raised (text h.0))
     raised_text false h text = subst (λ x. IsSealedText w x p) (sym h.1) text
 
 -- the fixed bytes of a valid text
 pub holds_sealed : (w : Width) (b : List ℕ) (p lo hi l : ℕ) → (text_spec w).holds b p lo hi l → IsSealedText w b p
-holds_sealed w b p lo hi l (inl h) local = h.1
-holds_sealed w b p lo hi l (inr h) local = cc (local, h.0)
+holds_sealed w b p lo hi l (inl h) inline = h.1
+holds_sealed w b p lo hi l (inr h) inline = cc (inline, h.0)
 
 pub viewable_sealed : (w : Width) (b : List ℕ) (p : ℕ) → Viewable (text_spec w) b p → IsSealedText w b p
 viewable_sealed w b p h = holds_sealed w b p 0 p h.valid.0 h.valid.1
-
--- the fixed bytes at `q` are those at the start of the back
-pub fixed_of_back : (w : Width) (b : List ℕ) (q : ℕ) → fixed_bytes w (drop q b) 0 ≡ fixed_bytes w b q
-fixed_of_back w b q =
-    let e : (0 + text_size w) - 0 ≡ (q + text_size w) - q = omega arith in
-    ap (λ (n : ℕ). take n (drop q b)) e
-
--- text that is raised at the start of the back is raised in the whole
-pub raised_joined : (w : Width) (b back : List ℕ) (q : ℕ) (inline : Bool) → Raised w (drop q b) 0 back inline → Raised w b q (take q b ++ back) inline
-raised_joined w b back q true h =
-    let t : List ℕ = inline_at w (drop q b) 0 in (
-      ap is_out_of_line (sym (fixed_of_back w b q)) ∙ h.0,
-      ap (λ (x : List ℕ). take q b ++ x) h.1 ∙ joined b (map to_ascii_uppercase t) q (length t)
-          ∙ ap (λ (x : List ℕ). with_bytes b q (length (inline_text x)) (map to_ascii_uppercase (inline_text x))) (fixed_of_back w b q),
-    )
-raised_joined w b back q false h = (
-  ap is_out_of_line (sym (fixed_of_back w b q)) ∙ h.0,
-  ap (λ (x : List ℕ). take q b ++ x) h.1 ∙ take-append-drop q b,
-)

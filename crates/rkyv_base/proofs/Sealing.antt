@@ -1,6 +1,6 @@
 -- Writing one value of an archive in place: the new bytes, and the unchanged ones.
 use Rattle.std.specs.Prelude.{◌≡◌, ℕ, ◌+◌, ◌-◌, ◌≤◌, List, ◌++◌, length, take, drop, slice_range}
-use Rattle.std.specs.Int.{Width, byte_len, from_le_bytes, to_le_bytes}
+use Rattle.std.specs.Int.{byte_len, from_le_bytes, to_le_bytes}
 use Rattle.std.proofs.Common.{refl, arith, subst, subst₂, sym, ◌∙◌, ap, inl, inr, zero-add, length-append, length-drop}
 use Rattle.std.proofs.lemmas.List.{drop-take, take-take, drop-drop, length-take-le}
 use Rattle.std.proofs.Math.Seq.{take-append_seam, drop-append_seam, drop-append-add}
@@ -10,8 +10,7 @@ use Rattle.rkyv_base.specs.Lemmas.Scalar.{word_bytes, word_reads_back}
 use Rattle.rkyv_base.specs.Sealing.{with_bytes, with_value, value_at, IsValueAt, Sealed, Keeps, Outside}
 use Rattle.rkyv_base.specs.ElementSpec.{ElementSpec, IsElement, Viewable}
 use Rattle.rkyv_base.specs.Entry.{entry_spec, value_offset}
-use Rattle.rkyv_base.specs.Lemmas.Entry.{parts_inside, viewable_key, viewable_value}
-use Rattle.rkyv_base.specs.Format.{RepresentsLocally}
+use Rattle.rkyv_base.specs.Lemmas.Entry.{key_and_value_inside, viewable_key, viewable_value}
 
 module _ (b : List ℕ) (p n : ℕ) (w : List ℕ) (inside : p + n ≤ length b) (size : length w ≡ n) where
   front_length : length (take p b) ≡ p
@@ -64,10 +63,6 @@ module _ (b : List ℕ) (p n : ℕ) (c : List ℕ) (s : Sealed b p n c) where
   same_outside i j o (inl q) = same_before i j o q
   same_outside i j o (inr q) = same_after i j q
 
-  -- a number outside the sealed bytes is the same
-  pub number_outside : (w : Width) (i : ℕ) → Outside p n i (i + byte_len w) → number_at w c i ≡ number_at w b i
-  number_outside w i o = ap (from_le_bytes w) (sym (same_outside i (i + byte_len w) (omega arith) o))
-
 -- bytes that change only in a range change only in a wider range
 pub sealed_wider : (b c : List ℕ) (p n q m : ℕ) → q ≤ p → p + n ≤ q + m → Sealed b p n c → Sealed b q m c
 sealed_wider b c p n q m o h s =
@@ -111,27 +106,22 @@ module _ {V : Type 0} (s : ElementSpec) (e : Encoding V) (laws : IsScalar s e) (
   pub value_set : ValueSet s e b c p v
   value_set = record { sealed = value_sealed; reads = value_there; value = value_good; holds = value_holds }
 
--- a value outside the sealed bytes stays valid, with the same parts, and is the same
+-- a value outside the sealed bytes stays valid, with the same parts
 module _ (s : ElementSpec) (laws : IsElement s) (b c : List ℕ) (q n : ℕ) (sealed : Sealed b q n c) (p lo hi l : ℕ) (o : lo ≤ hi)
     (fixed : Outside q n p (p + s.size)) (parts : Outside q n lo l) (h : s.holds b p lo hi l) where
-  pub holds_out_of_line : s.holds c p lo hi l
-  holds_out_of_line =
+  pub holds_outside : s.holds c p lo hi l
+  holds_outside =
       let k : (lo ≤ l) × (l ≤ hi) = laws.rest_in_range b p lo hi l o h in
       laws.local b c p lo hi l o (same_outside b q n c sealed p (p + s.size) (omega arith) fixed) (same_outside b q n c sealed lo l k.0 parts) h
-
-  pub represents_out_of_line : {V : Type 0} (represents : List ℕ → ℕ → V → Type 0) → RepresentsLocally s represents → (v : V) → represents b p v → represents c p v
-  represents_out_of_line represents local v st =
-      let k : (lo ≤ l) × (l ≤ hi) = laws.rest_in_range b p lo hi l o h in
-      local v b c p lo hi l o h (same_outside b q n c sealed p (p + s.size) (omega arith) fixed) (same_outside b q n c sealed lo l k.0 parts) st
 
 -- an entry whose value is written in place
 module _ (k v : ElementSpec) (kl : IsElement k) (vl : IsElement v) where
   -- the entry stays valid, with the same parts, if the new value is valid
   pub entry_kept : (b c : List ℕ) (p : ℕ) → Sealed b (p + value_offset k v) v.size c → Keeps v b c (p + value_offset k v) → Keeps (entry_spec k v) b c p
   entry_kept b c p s keeps lo hi l o q h =
-      let i = parts_inside k v in
+      let i = key_and_value_inside k v in
       let x : (lo ≤ h.1) × (h.1 ≤ hi) = kl.rest_in_range b p lo hi h.1 o h.2 in
-      let hk : k.holds c p lo hi h.1 = holds_out_of_line k kl b c (p + value_offset k v) v.size s p lo hi h.1 o (inl (omega (arith, i.0))) (inl (omega arith)) h.2 in
+      let hk : k.holds c p lo hi h.1 = holds_outside k kl b c (p + value_offset k v) v.size s p lo hi h.1 o (inl (omega (arith, i.0))) (inl (omega arith)) h.2 in
       (h.0, h.1, hk, keeps h.1 hi l x.1 (omega arith) h.3)
 
 -- a valid value stays valid
@@ -163,35 +153,10 @@ module _ (s : ElementSpec) (laws : IsElement s) (b : List ℕ) (q : ℕ) where
 -- the key of a valid entry is in the bytes before the value
 pub key_in_front : (k v : ElementSpec) → IsElement k → IsElement v → (b : List ℕ) (p : ℕ) → Viewable (entry_spec k v) b p → Viewable k (take (p + value_offset k v) b) p
 key_in_front k v kl vl b p h =
-    let i = parts_inside k v in
+    let i = key_and_value_inside k v in
     let value : Viewable v b (p + value_offset k v) = viewable_value k v kl vl b p h in
     front_viewable k kl b (p + value_offset k v) p (omega (arith, i.0)) (omega (arith, value.inside)) (viewable_key k v kl vl b p h)
 
 -- a write at the start of the back is one in the whole
 pub joined : (b w : List ℕ) (q n : ℕ) → take q b ++ with_bytes (drop q b) 0 n w ≡ with_bytes b q n w
 joined b w q n = rw (zero-add n, drop-drop n q b) refl
-
--- a front, followed by the changed back
-module _ (b : List ℕ) (q : ℕ) (inside : q ≤ length b) (back : List ℕ) where
-  front_is : length (take q b) ≡ q
-  front_is = length-take-le q b inside
-
-  pub back_of_joined : drop q (take q b ++ back) ≡ back
-  back_of_joined = rw front_is at (drop-append_seam (take q b) back)
-
-  -- bytes that change only at the start of the back change only there in the whole
-  pub sealed_joined : (n : ℕ) → Sealed (drop q b) 0 n back → Sealed b q n (take q b ++ back)
-  sealed_joined n s = record {
-    same_length = simp (length-append) (omega (arith, front_is, s.same_length, length-drop q b, inside));
-    before = rw front_is at (take-append_seam (take q b) back);
-    after =
-        let d : drop (q + n) (take q b ++ back) ≡ drop n back = rw front_is at (drop-append-add (take q b) back n) in
-        let e : drop n back ≡ drop n (drop q b) = rw zero-add at s.after in
-        d ∙ e ∙ drop-drop n q b;
-  }
-
--- a number at `q` is one of the back
-pub number_of_back : (w : Width) (b : List ℕ) (q : ℕ) → number_at w (drop q b) 0 ≡ number_at w b q
-number_of_back w b q =
-    let e : (0 + byte_len w) - 0 ≡ (q + byte_len w) - q = omega arith in
-    ap (λ (n : ℕ). from_le_bytes w (take n (drop q b))) e

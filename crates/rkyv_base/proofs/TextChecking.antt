@@ -7,7 +7,7 @@ use Rattle.std.proofs.lemmas.Grind.{common_steps}
 use Rattle.rkyv_base.specs.declared.errors.VerifyError.{VerifyError}
 use Rattle.rkyv_base.specs.declared.errors.VerifyError.TheVariants.{InvalidValue}
 use Rattle.rkyv_base.specs.Parts.{PartIn, PartFails}
-use Rattle.rkyv_base.specs.Text.{FixedHolds, FixedFails, out_of_line_begin, out_of_line_length, is_out_of_line, text_size}
+use Rattle.rkyv_base.specs.Text.{TextHolds, TextFails, out_of_line_begin, out_of_line_length, is_out_of_line, text_size}
 
 eight_fit : (w : Width) → (w ≡ w32) ⊎ (w ≡ w64) → 8 ≤ text_size w
 eight_fit w (inl e) = subst (λ v. 8 ≤ text_size v) (sym e) (omega arith)
@@ -22,23 +22,23 @@ is_long w b at len kind large within =
 
 -- the fixed bytes `s` are of out-of-line text that is too long to be inline.
 -- Its start and length are as read
-module _ (w : Width) (s b : List ℕ) (p lo hi : ℕ) (begin : ℤ) (len : ℕ) (overflow : is_out_of_line s ≡ true) (large : text_size w < len)
+module _ (w : Width) (s b : List ℕ) (p lo hi : ℕ) (begin : ℤ) (len : ℕ) (out_of_line : is_out_of_line s ≡ true) (large : text_size w < len)
     (begins : begin ≡ out_of_line_begin w s p) (lens : len ≡ out_of_line_length w s) where
-  told : text_size w < out_of_line_length w s
-  told = subst (λ n. text_size w < n) lens large
+  long : text_size w < out_of_line_length w s
+  long = subst (λ n. text_size w < n) lens large
 
-  pub part_fails : (e : VerifyError) → PartFails begin len 1 lo hi e → FixedFails w s b p lo hi e
+  pub part_fails : (e : VerifyError) → PartFails begin len 1 lo hi e → TextFails w s b p lo hi e
   part_fails e f =
-      inr (overflow, inr (inl (told, subst (λ n. PartFails (out_of_line_begin w s p) n 1 lo hi e) lens (subst (λ z. PartFails z len 1 lo hi e) begins f))))
+      inr (out_of_line, inr (inl (long, subst (λ n. PartFails (out_of_line_begin w s p) n 1 lo hi e) lens (subst (λ z. PartFails z len 1 lo hi e) begins f))))
 
-  part_told : (at : ℕ) → PartIn begin len 1 lo hi at → PartIn (out_of_line_begin w s p) (out_of_line_length w s) 1 lo hi at
-  part_told at part = subst (λ n. PartIn (out_of_line_begin w s p) n 1 lo hi at) lens (subst (λ z. PartIn z len 1 lo hi at) begins part)
+  part_decoded : (at : ℕ) → PartIn begin len 1 lo hi at → PartIn (out_of_line_begin w s p) (out_of_line_length w s) 1 lo hi at
+  part_decoded at part = subst (λ n. PartIn (out_of_line_begin w s p) n 1 lo hi at) lens (subst (λ z. PartIn z len 1 lo hi at) begins part)
 
-  pub no_text_fails : (at : ℕ) (e : VerifyError) → PartIn begin len 1 lo hi at → (IsUtf8 (slice_range b at (at + len)) → ⊥) → e ≡ InvalidValue p → FixedFails w s b p lo hi e
+  pub no_text_fails : (at : ℕ) (e : VerifyError) → PartIn begin len 1 lo hi at → (IsUtf8 (slice_range b at (at + len)) → ⊥) → e ≡ InvalidValue p → TextFails w s b p lo hi e
   no_text_fails at e part none q =
-      inr (overflow, inr (inr (told, at, part_told at part, (λ u. none (subst (λ n. IsUtf8 (slice_range b at (at + n))) (sym lens) u)), q)))
+      inr (out_of_line, inr (inr (long, at, part_decoded at part, (λ u. none (subst (λ n. IsUtf8 (slice_range b at (at + n))) (sym lens) u)), q)))
 
-  pub text_passes : (at : ℕ) → PartIn begin len 1 lo hi at → IsUtf8 (slice_range b at (at + len)) → FixedHolds w s b p lo hi (at + len)
+  pub text_passes : (at : ℕ) → PartIn begin len 1 lo hi at → IsUtf8 (slice_range b at (at + len)) → TextHolds w s b p lo hi (at + len)
   text_passes at part u =
-      subst (λ n. FixedHolds w s b p lo hi (at + n)) (sym lens)
-      (inr (overflow, told, at, part_told at part, subst (λ n. IsUtf8 (slice_range b at (at + n))) lens u, refl))
+      subst (λ n. TextHolds w s b p lo hi (at + n)) (sym lens)
+      (inr (out_of_line, long, at, part_decoded at part, subst (λ n. IsUtf8 (slice_range b at (at + n))) lens u, refl))

@@ -62,10 +62,10 @@ module _ (limit : ℕ) (next next' : List ℕ → Step → Type 0) (o o1 o2 : Ou
   cause_after (Refused n) f g c = reached_after f _ g c
 
 -- the error of a later part is an error of the whole
-pub told_after : {F : Type 0} (limit : ℕ) (next next' : List ℕ → Step → Type 0) (o o1 o2 : Output) (p : List ℕ) (e : WriteError F)
+pub fails_after : {F : Type 0} (limit : ℕ) (next next' : List ℕ → Step → Type 0) (o o1 o2 : Output) (p : List ℕ) (e : WriteError F)
     → Appends o o1 p → Within limit o1 p → ((f : List ℕ) (step : Step) → next' f step → next (p ++ f) step)
     → WriteFails limit next' o1 o2 e → WriteFails limit next o o2 e
-told_after limit next next' o o1 o2 p e a inside hn t = record {
+fails_after limit next next' o o1 o2 p e a inside hn t = record {
   front = p ++ t.front;
   kept = grows_after o o1 o2 p t.front (grows o o1 p a) t.kept;
   cause = cause_after limit next next' o o1 o2 p a inside hn e t.front t.kept t.cause;
@@ -76,6 +76,6 @@ pub none_appended : (o : Output) → Appends o o []
 none_appended o = record { start = refl; bytes = sym (append-nil o.bytes); failures = refl }
 
 -- an error under one rule for the next step is an error under a wider one
-pub told_as : {F : Type 0} (limit : ℕ) (next next' : List ℕ → Step → Type 0) (o o' : Output) (e : WriteError F)
+pub fails_under : {F : Type 0} (limit : ℕ) (next next' : List ℕ → Step → Type 0) (o o' : Output) (e : WriteError F)
     → ((f : List ℕ) (step : Step) → next' f step → next f step) → WriteFails limit next' o o' e → WriteFails limit next o o' e
-told_as limit next next' o o' e hn t = told_after limit next next' o o o' [] e (none_appended o) (inl refl) hn t
+fails_under limit next next' o o' e hn t = fails_after limit next next' o o o' [] e (none_appended o) (inl refl) hn t

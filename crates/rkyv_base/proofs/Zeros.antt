@@ -18,10 +18,10 @@ zeros-cut a p n al e =
     ap (λ k. take k (replicate 8 0)) e ∙ take-replicate (padding a p) 8 0 few
 
 -- an error of writing the cut is an error of writing the zeros
-pub told_of_zeros : {F : Type 0} (limit a p n : ℕ) (o o' : Output) (e : WriteError F) → IsAlign a → n ≡ padding a p
+pub fails_of_zeros : {F : Type 0} (limit a p n : ℕ) (o o' : Output) (e : WriteError F) → IsAlign a → n ≡ padding a p
     → WriteFails limit (Only (piece (take n (replicate 8 0)))) o o' e → WriteFails limit (Only (piece (zeros (padding a p)))) o o' e
-told_of_zeros limit a p n o o' e al same told =
-    subst (λ (x : List ℕ). WriteFails limit (Only (piece x)) o o' e) (zeros-cut a p n al same) told
+fails_of_zeros limit a p n o o' e al same fails =
+    subst (λ (x : List ℕ). WriteFails limit (Only (piece x)) o o' e) (zeros-cut a p n al same) fails
 
 -- `p`: end of a write of the cut, a multiple of the alignment
 pub aligned_by_zeros : (limit a n p : ℕ) (o o' : Output) → IsAlign a → n ≡ padding a (end_of o) → p ≡ end_of o' → Appends o o' (take n (replicate 8 0))

@@ -40,7 +40,7 @@ EntryFails k v b p lo hi e =
     ⊎ ((m : ℕ) × k.holds b p lo hi m × v.fails b (p + value_offset k v) m hi e)))
 
 -- `b` and `c` agree on all bytes of an entry's key and value. The value's parts begin at `m`
-pub record PartsSame (k v : ElementSpec) (b c : List ℕ) (p lo hi m l : ℕ) : Type 0 where
+pub record EntriesAgree (k v : ElementSpec) (b c : List ℕ) (p lo hi m l : ℕ) : Type 0 where
   pub room : m ≤ hi
   pub key : AgreeOn b c p (p + k.size)
   pub key_parts : AgreeOn b c lo m

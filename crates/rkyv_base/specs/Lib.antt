@@ -6,7 +6,7 @@ pub mod Format
 pub mod Scalar
 pub mod Numbers
 pub mod Layout
-pub mod Lending
+pub mod ClosureWrites
 pub mod Entry
 pub mod Elements
 pub mod View

@@ -100,16 +100,16 @@ ArchiveOf limit s represents f v b =
     × RootBytes s.align f v 0 b (length b - s.size)
 
 -- `e`: error of writing the value `v` to memory
-abbrev pub ArchiveRefused : {F V R : Type 0} → ℕ → ElementSpec → Format V R → V → WriteError F
+abbrev pub ToBytesFails : {F V R : Type 0} → ℕ → ElementSpec → Format V R → V → WriteError F
     → Type 0
-ArchiveRefused limit s f v e = (o : Output) × WriteRootFails limit s.align f v fresh o e
+ToBytesFails limit s f v e = (o : Output) × WriteRootFails limit s.align f v fresh o e
 
 -- `result`: an archive within `limit` of the native value, or the error of writing it to memory
 abbrev pub Archives : {F V R Z : Type 0} → ℕ → ElementMembers V → Format V R → V
     → Result (Vec ℕ Z) (WriteError F) → Type 0
 Archives limit element format value result = MatchResult result
     (λ b. IsArchive limit element b.items value)
-    (ArchiveRefused limit element.spec format value)
+    (ToBytesFails limit element.spec format value)
 
 -- the same of a narrow archive
 abbrev pub ArchivesNarrow : {F V R Z : Type 0} → ElementMembers V → Format V R → V

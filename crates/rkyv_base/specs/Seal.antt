@@ -54,5 +54,5 @@ abbrev pub LiesIn : {T : Type 0} → ElementSpec → Seal T → Type 0
 LiesIn s x = x.pos + s.size ≤ length x.bytes.now
 
 -- the archive ends as the final front, followed by the final back
-abbrev pub SplitsAtValue : MutBor (List ℕ) → MutBor (List ℕ) × MutBor (List ℕ) → Fml
-SplitsAtValue s r = LendsBoth (Array u8 0) (Array u8 0) (Array u8 0) s r ◌++◌
+abbrev pub LendsFrontAndBack : MutBor (List ℕ) → MutBor (List ℕ) × MutBor (List ℕ) → Fml
+LendsFrontAndBack s r = LendsBoth (Array u8 0) (Array u8 0) (Array u8 0) s r ◌++◌

@@ -7,8 +7,8 @@ use Rattle.rkyv_base.specs.Sealing.{with_bytes}
 use Rattle.rkyv_base.specs.Text.{fixed_bytes, inline_text, is_out_of_line, text_at}
 
 -- the text at `p` is out of line
-abbrev pub IsElsewhere : Width → List ℕ → ℕ → Type 0
-IsElsewhere w b p = is_out_of_line (fixed_bytes w b p) ≡ true
+abbrev pub IsOutOfLine : Width → List ℕ → ℕ → Type 0
+IsOutOfLine w b p = is_out_of_line (fixed_bytes w b p) ≡ true
 
 -- the text at `p` is inline
 abbrev pub IsInline : Width → List ℕ → ℕ → Type 0
@@ -34,4 +34,4 @@ with_uppercase w b p = with_bytes b p (length (inline_at w b p))
 -- `c`: bytes `b` with the text at `p` in upper case, if it is inline, and else `b` itself
 abbrev pub Raised : Width → List ℕ → ℕ → List ℕ → Bool → Type 0
 Raised w b p c inline = MatchBool inline (IsInline w b p × (c ≡ with_uppercase w b p))
-    (IsElsewhere w b p × (c ≡ b))
+    (IsOutOfLine w b p × (c ≡ b))

@@ -69,8 +69,8 @@ OutOfLineHolds w s b p lo hi l =
     × IsUtf8 (slice_range b at (at + out_of_line_length w s)) × (l ≡ at + out_of_line_length w s)
 
 -- the fixed bytes `s` at `p` are a valid text
-abbrev pub FixedHolds : Width → List ℕ → List ℕ → ℕ → ℕ → ℕ → ℕ → Type 0
-FixedHolds w s b p lo hi l = InlineHolds s lo l ⊎ OutOfLineHolds w s b p lo hi l
+abbrev pub TextHolds : Width → List ℕ → List ℕ → ℕ → ℕ → ℕ → ℕ → Type 0
+TextHolds w s b p lo hi l = InlineHolds s lo l ⊎ OutOfLineHolds w s b p lo hi l
 
 -- `e`: fault of out-of-line text. It could be inline, or its part has a fault, or it isn't UTF-8
 abbrev pub OutOfLineFails : Width → List ℕ → List ℕ → ℕ → ℕ → ℕ → VerifyError → Type 0
@@ -83,8 +83,8 @@ OutOfLineFails w s b p lo hi e =
     × (IsUtf8 (slice_range b at (at + out_of_line_length w s)) → ⊥) × (e ≡ InvalidValue p))
 
 -- `e`: fault of the fixed bytes `s` at `p`
-abbrev pub FixedFails : Width → List ℕ → List ℕ → ℕ → ℕ → ℕ → VerifyError → Type 0
-FixedFails w s b p lo hi e =
+abbrev pub TextFails : Width → List ℕ → List ℕ → ℕ → ℕ → ℕ → VerifyError → Type 0
+TextFails w s b p lo hi e =
     ((is_out_of_line s ≡ false) × (IsUtf8 (inline_text s) → ⊥) × (e ≡ InvalidValue p))
     ⊎ ((is_out_of_line s ≡ true) × OutOfLineFails w s b p lo hi e)
 
@@ -93,8 +93,8 @@ abbrev pub text_spec : Width → ElementSpec
 text_spec w = record {
   size = text_size w;
   align = byte_len w;
-  holds = λ b p lo hi l. FixedHolds w (fixed_bytes w b p) b p lo hi l;
-  fails = λ b p lo hi e. FixedFails w (fixed_bytes w b p) b p lo hi e;
+  holds = λ b p lo hi l. TextHolds w (fixed_bytes w b p) b p lo hi l;
+  fails = λ b p lo hi e. TextFails w (fixed_bytes w b p) b p lo hi e;
 }
 
 -- a word of an archive

@@ -11,7 +11,7 @@
 ghost use Rattle.std.specs.Prelude.{◌-◌, length, IfOk, IsOk, MatchResult};
 ghost use Rattle.rkyv_base.specs.Access.{AccessFails, AccessWrites, Accepted};
 ghost use Rattle.rkyv_base.specs.Layout.{narrow_limit};
-ghost use Rattle.rkyv_base.specs.Lending.{MayWrite, Wrote};
+ghost use Rattle.rkyv_base.specs.ClosureWrites.{MayWrite, Wrote};
 ghost use Rattle.rkyv_base.specs.Seal.{ArchiveAt, archive_in, pos_in};
 ghost use Rattle.rkyv_base.specs.ElementSpec.{Viewable};
 ghost use Rattle.rkyv_base.specs.View.{IsAt, IsValidView};

@@ -106,7 +106,7 @@ pub(crate) fn first<S: ByteClass>(bytes: &[u8]) -> Option<usize>
     }
 }
 
-/// Returns `true` only if eight or more bytes are ASCII.
+/// Returns `true` only if all bytes, at least eight, are ASCII.
 ///
 /// It tests eight bytes at a time, and the last eight may overlap the ones before.
 #[inline]

@@ -38,7 +38,7 @@ pub fn integers_are_encoded_by_their_types()
 /// States by which numbers `bool` and `char` are encoded.
 ///
 /// A `bool` is the byte 0 or 1, and a `char` its code in four bytes.
-pub fn marks_are_encoded_as_numbers()
+pub fn bools_and_chars_are_numbers()
     ensures bool { SameEncoding ⟦<bool as Scalar>⟧.encoding bool_encoding }
     ensures char { SameEncoding ⟦<char as Scalar>⟧.encoding char_encoding }
 {}
@@ -71,7 +71,7 @@ pub fn units_are_empty<W: Width>()
 {}
 
 /// States that an entry is its key, padded, and then its value, and that a pair is archived so.
-pub fn entries_are_their_parts<W: Width, A: Archive<W>, B: Archive<W>>()
+pub fn entries_are_keys_and_values<W: Width, A: Archive<W>, B: Archive<W>>()
     ensures spec { SameSpec ⟦<Entry<A::Archived, B::Archived> as HasSpec>⟧.spec
         (entry_spec A.Archived.spec B.Archived.spec) }
     ensures values { SameValues ⟦<Entry<A::Archived, B::Archived> as Represents<(A, B)>>⟧.represents

@@ -7,11 +7,10 @@
 //!   and returns an `ArchiveSeal` of the root.
 //!
 //! An `Element` is a type of archived values. `Archive` and `Serialize` are the traits of types
-//! that are archived as an element. The names that end in `_in` take the width of the archive,
-//! and the others are for `Narrow`.
+//! that are archived as an element. The calls that write or open an archive and end in `_in`
+//! take the width of the archive, and the others are for `Narrow`.
 //!
-//! The root re-exports all names except the function `access`, since the root
-//! has a module of that name.
+//! The root re-exports the names that callers need. The function `access` stays in its module.
 #![tactic(auto)]
 
 pub mod access;

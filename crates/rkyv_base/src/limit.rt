@@ -93,7 +93,7 @@ impl<W: Writer> LimitWriter<W> {
         requires end { end_of (limited W.output self.old) + length bytes.now < 2 ^ 64 }
         requires fits { length bytes.now ≤ self.old.left }
         ensures counts { Counts W.output self.old self.new }
-        ensures told { MatchResult result
+        ensures result { MatchResult result
             (λ _. InnerTook W.output self.old self.new bytes.now)
             (InnerFaults W.output self.old self.new bytes.now) }
     {
@@ -148,7 +148,7 @@ impl<W: Writer> Writer for LimitWriter<W> {
             OnErr result (Faults o o' bytes.now) }
         ensures limit { Counts W.output self.old self.new }
         ensures inner { OnOk result (InnerTook W.output self.old self.new bytes.now) }
-        ensures told { IfErr result (LimitWriteFails W.output self.old self.new bytes.now) }
+        ensures fault { IfErr result (LimitWriteFails W.output self.old self.new bytes.now) }
         ensures unasked { self.old.left ≡ 0 → 0 < length bytes.now
             → self.new.inner ≡ self.old.inner }
     {

@@ -9,7 +9,7 @@
 
 ghost use Rattle.std.specs.Prelude.{MatchResult};
 ghost use Rattle.rkyv_base.specs.Layout.{narrow_limit};
-ghost use Rattle.rkyv_base.specs.Root.{ArchiveOf, ArchiveRefused, WritesRoot, root_format};
+ghost use Rattle.rkyv_base.specs.Root.{ArchiveOf, ToBytesFails, WritesRoot, root_format};
 
 use crate::archive::{Serialize, WriteResult};
 use crate::element::Element;
@@ -74,7 +74,7 @@ pub fn to_bytes_in<W: Width, V: Serialize<VecWriter, W>>(
 ) -> Result<Vec<u8>, WriteError<NoMemory>>
     ensures { MatchResult result
         (λ b. ArchiveOf W.LIMIT V.Archived.spec V.Archived.represents V.format value.now b.items)
-        (ArchiveRefused W.LIMIT V.Archived.spec V.format value.now) }
+        (ToBytesFails W.LIMIT V.Archived.spec V.format value.now) }
 {
     let mut writer = VecWriter::new(alloc);
     write_root_in::<W, _, _>(alloc, value, &mut writer)?;
@@ -126,7 +126,7 @@ pub fn to_bytes<V: Serialize<VecWriter, Narrow>>(
     ensures { MatchResult result
         (λ b. ArchiveOf narrow_limit V.Archived.spec V.Archived.represents
         V.format value.now b.items)
-        (ArchiveRefused narrow_limit V.Archived.spec V.format value.now) }
+        (ToBytesFails narrow_limit V.Archived.spec V.format value.now) }
 {
     to_bytes_in::<Narrow, V>(alloc, value)
 }

@@ -10,8 +10,7 @@
 //! | a scalar by its seal | `Seal::set` | a seal |
 //! | inline text in upper case | `Seal::make_ascii_uppercase` | a seal |
 //! | any bytes, by a closure | `ArchiveSeal::write_with` | a seal of the archive |
-//! | a value while its key is read | `ArchiveSeal::split_value`, `split_at_value` | a seal, or
-//! bytes |
+//! | a value as its key is read | `ArchiveSeal::split_value`, `split_at_value` | a seal, or bytes |
 //!
 //! `access_mut` validates untrusted bytes and returns the seal of the root. The modules
 //! `map::in_place` of `rkyv_collections` and of `rkyv_index` have the calls that write by a key.
@@ -20,11 +19,11 @@ ghost use Rattle.std.specs.Prelude.{◌≡◌, ◌+◌, ◌≤◌, length, take,
 ghost use Rattle.std.specs.Borrow.{sem};
 ghost use Rattle.rkyv_base.specs.View.{IsValidView, bytes_of, pos_of};
 ghost use Rattle.rkyv_base.specs.Entry.{entry_spec};
-ghost use Rattle.rkyv_base.specs.Lending.{MayWrite, Wrote};
+ghost use Rattle.rkyv_base.specs.ClosureWrites.{MayWrite, Wrote};
 ghost use Rattle.rkyv_base.specs.Seal.{
   ArchiveAt,
   ArchiveStays,
-  SplitsAtValue,
+  LendsFrontAndBack,
   LiesIn,
   SealAt,
   SealStays,
@@ -378,7 +377,7 @@ pub fn split_at_value<K: Element, V: Element>(
     entry_pos: u64,
 ) -> (&mut [u8], &mut [u8])
     requires { value_pos K.spec V.spec entry_pos ≤ length archive.old }
-    ensures* writes_back { sem 𝓛 (SplitsAtValue archive.entry result) }
+    ensures* writes_back { sem 𝓛 (LendsFrontAndBack archive.entry result) }
     ensures front { result.0.now ≡ take (value_pos K.spec V.spec entry_pos) archive.old }
     ensures back { result.1.now ≡ drop (value_pos K.spec V.spec entry_pos) archive.old }
 {

@@ -6,7 +6,7 @@
 ghost use Rattle.std.specs.Prelude.{◌≡◌, ◌+◌, ◌≤◌, length, map, MatchOption};
 ghost use Rattle.std.specs.Char.{to_ascii_uppercase};
 ghost use Rattle.rkyv_base.specs.Seal.{LiesIn, SealStays, bytes_in, seal_pos};
-ghost use Rattle.rkyv_base.specs.SealedText.{IsElsewhere, IsInline, IsSealedText, Raised};
+ghost use Rattle.rkyv_base.specs.SealedText.{IsInline, IsOutOfLine, IsSealedText, Raised};
 ghost use Rattle.rkyv_base.specs.SealedText.{ReadsInline, inline_at};
 ghost use Rattle.rkyv_base.specs.Sealing.{Keeps, Sealed};
 ghost use Rattle.rkyv_base.specs.Text.{text_at, text_spec, text_size};
@@ -17,10 +17,10 @@ use crate::width::Width;
 
 /// Returns the inline text at a position, or `None` if the text is out of line.
 #[inline]
-fn inline_bytes<W: Width>(bytes: &[u8], pos: usize) -> Option<&[u8]>
+fn inline_text_at<W: Width>(bytes: &[u8], pos: usize) -> Option<&[u8]>
     requires { pos + text_size W.word ≤ length bytes.now }
     ensures { MatchOption result
-        (IsElsewhere W.word bytes.now pos)
+        (IsOutOfLine W.word bytes.now pos)
         (λ text. IsInline W.word bytes.now pos
         × (text.now ≡ inline_at W.word bytes.now pos)) }
 {
@@ -36,11 +36,11 @@ fn inline_bytes<W: Width>(bytes: &[u8], pos: usize) -> Option<&[u8]>
 fn inline_len<W: Width>(bytes: &[u8], pos: usize) -> Option<usize>
     requires { pos + text_size W.word ≤ length bytes.now }
     ensures { MatchOption result
-        (IsElsewhere W.word bytes.now pos)
+        (IsOutOfLine W.word bytes.now pos)
         (λ len. IsInline W.word bytes.now pos
         × (len ≡ length (inline_at W.word bytes.now pos)) × (len ≤ text_size W.word)) }
 {
-    match inline_bytes::<W>(bytes, pos) {
+    match inline_text_at::<W>(bytes, pos) {
         Some(text) => Some(text.len()),
         None => None,
     }
@@ -73,10 +73,10 @@ impl<'a, W: Width> Seal<'a, Text<W>> {
         requires inside { LiesIn (text_spec W.word) self.now }
         requires text { IsSealedText W.word (bytes_in self.now) (seal_pos self.now) }
         ensures { MatchOption result
-            (IsElsewhere W.word (bytes_in self.now) (seal_pos self.now))
+            (IsOutOfLine W.word (bytes_in self.now) (seal_pos self.now))
             (λ text. ReadsInline W.word (bytes_in self.now) (seal_pos self.now) text.now) }
     {
-        match inline_bytes::<W>(&*self.bytes, self.pos) {
+        match inline_text_at::<W>(&*self.bytes, self.pos) {
             Some(text) => Some(unsafe { str::from_utf8_unchecked(text) }),
             None => None,
         }

@@ -12,7 +12,6 @@ ghost use Rattle.std.specs.Prelude.{
   ◌≤◌,
   ◌++◌,
   length,
-  replicate,
   string_bytes,
   FitsSigned,
   MatchResult,

@@ -20,7 +20,6 @@ ghost use Rattle.std.specs.Prelude.{
   true,
   IsTrue,
   MatchResult,
-  ℤ,
   pos as int,
   ◌+ℤ◌,
 };
@@ -176,7 +175,7 @@ fn check_out_of_line<W: Width>(
 ) -> Result<PartRange, VerifyError>
     requires inside { pos + text_size W.word ≤ length bytes.now }
     requires ordered { range.hi ≤ pos }
-    requires overflow { is_out_of_line (fixed_bytes W.word bytes.now pos) ≡ true }
+    requires out_of_line { is_out_of_line (fixed_bytes W.word bytes.now pos) ≡ true }
     ensures { MatchResult result
         (Passes (text_spec W.word) bytes.now pos range)
         (Fails (text_spec W.word) bytes.now pos range) }
@@ -237,7 +236,7 @@ fn pos_of_begin(begin: i128) -> usize
 #[inline]
 fn out_of_line_part<W: Width>(bytes: &[u8], pos: u64) -> &[u8]
     requires viewable { Viewable (text_spec W.word) bytes.now pos }
-    requires overflow { is_out_of_line (fixed_bytes W.word bytes.now pos) ≡ true }
+    requires out_of_line { is_out_of_line (fixed_bytes W.word bytes.now pos) ≡ true }
     ensures { result.now ≡ text_at W.word bytes.now pos }
 {
     let fixed = fixed_at::<W>(bytes, pos);

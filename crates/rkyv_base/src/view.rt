@@ -1,7 +1,7 @@
 //! Views: values that are read in place.
 //!
 //! - `to_native` returns a scalar, and `as_str` of the module `text` a text.
-//! - `key` and `value` return views of the halves of an entry.
+//! - `key` and `value` return views of the key and the value of an entry.
 //! - `at` returns a view of another value of the same archive.
 
 ghost use Rattle.std.specs.Prelude.{◌≡◌, ◌+◌};

@@ -16,24 +16,10 @@ ghost use Rattle.std.specs.Prelude.{
   ◌^◌,
   ◌<◌,
   ◌≤◌,
-  ℤ,
-  List,
   length,
-  take,
-  drop,
   ◌++◌,
-  slice_range,
 };
-ghost use Rattle.std.specs.Int.{
-  Width as IntWidth,
-  w32,
-  w64,
-  byte_len,
-  to_le_bytes,
-  from_le_bytes,
-  cast_unsigned,
-  cast_signed,
-};
+ghost use Rattle.std.specs.Int.{Width as IntWidth, w32, w64, byte_len, to_le_bytes, cast_unsigned};
 ghost use mir.Val.{bits};
 ghost use Rattle.rkyv_base.specs.Bytes.{number_at, signed_at};
 ghost use Rattle.rkyv_base.specs.Layout.{IsLayout, IsPlace, narrow_limit};

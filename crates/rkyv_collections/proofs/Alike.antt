@@ -19,16 +19,16 @@ use Rattle.rkyv_collections.specs.Map.BothHashers.{QueriedAlike, fx_hash_at}
 use Rattle.rkyv_collections.specs.Map.Equality.{pair_at}
 use Rattle.rkyv_collections.specs.Map.{MapWrittenAt}
 use Rattle.rkyv_collections.specs.Map.MapSpec.{map_spec}
-use Rattle.rkyv_collections.proofs.WrittenPairs.{first_accepted, pair_represents, place_of_pair}
+use Rattle.rkyv_collections.proofs.WrittenPairs.{first_accepted, pair_valid, place_of_pair}
 
 module _ (w : Width) (k v : ElementSpec) (kl : IsElement k) (vl : IsElement v) (key_calls : List ℕ → ℕ → List HasherCall) (fixed : MakesFixedCalls k key_calls)
     (one other : SizeWords) (b : List ℕ) (p : ℕ) (homes : List ℕ) (view : Viewable (map_spec w k v) b p)
     (written : MapWrittenAt w (entry_spec k v) (fx_hash_at one key_calls) b p homes) where
-  key_represents : (i : ℕ) → i < length homes → ValidAt k b (pair_at w k v b p homes i)
-  key_represents i h = valid_key kl vl b (pair_at w k v b p homes i) (pair_represents w k v kl vl (fx_hash_at one key_calls) b p homes view written i h)
+  key_valid : (i : ℕ) → i < length homes → ValidAt k b (pair_at w k v b p homes i)
+  key_valid i h = valid_key kl vl b (pair_at w k v b p homes i) (pair_valid w k v kl vl (fx_hash_at one key_calls) b p homes view written i h)
 
   keys_alike : (i : ℕ) → i < length homes → fx_hash_at one key_calls b (pair_at w k v b p homes i) ≡ fx_hash_at other key_calls b (pair_at w k v b p homes i)
-  keys_alike i h = fixed_alike one other (key_calls b (pair_at w k v b p homes i)) (fixed b (pair_at w k v b p homes i) (key_represents i h))
+  keys_alike i h = fixed_alike one other (key_calls b (pair_at w k v b p homes i)) (fixed b (pair_at w k v b p homes i) (key_valid i h))
 
   hashes_alike : map (fx_hash_at one key_calls b) (home_positions w (entry_spec k v).size b p homes)
       ≡ map (fx_hash_at other key_calls b) (home_positions w (entry_spec k v).size b p homes)
@@ -63,5 +63,5 @@ queried_alike w k v kl vl same key_calls queries fits is fixed one other b p hom
         first_accepted w k v kl vl h b p homes view there (fx_hash sizes (queries.calls query)) (fits query b) (fx_fits sizes (queries.calls query))
         (λ i below accepted.
         let q = pair_at w k v b p homes i in
-        let represents = valid_key kl vl b q (pair_represents w k v kl vl h b p homes view there i below) in
-        ap (fx_hash sizes) (sym (is.same_calls query b q ready represents accepted)))
+        let valid = valid_key kl vl b q (pair_valid w k v kl vl h b p homes view there i below) in
+        ap (fx_hash sizes) (sym (is.same_calls query b q ready valid accepted)))

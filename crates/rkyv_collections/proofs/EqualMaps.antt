@@ -19,7 +19,7 @@ use Rattle.rkyv_table.proofs.Search.{cases_option}
 use Rattle.rkyv_table.proofs.Written.{first_within}
 use Rattle.rkyv_collections.specs.Map.Equality.{EachIsIn, EqualHaveSamePairs, IsWrittenApart, pair_at, pair_matches}
 use Rattle.rkyv_collections.proofs.Matching.{IsMatching, column_matched, rows_within}
-use Rattle.rkyv_collections.proofs.WrittenPairs.{all_handed, all_walked, first_accepted, hash_small, pair_count, pair_represents, place_of_pair}
+use Rattle.rkyv_collections.proofs.WrittenPairs.{all_inserted, all_walked, first_accepted, hash_small, len_is_count, pair_valid, place_of_pair}
 
 -- the first number of a list that passes the test has an index
 found_index : (test : ℕ → Bool) (xs : List ℕ) (x : ℕ) → find test xs ≡ Some x → (j : ℕ) × (j < length xs) × (get_or xs j 0 ≡ x)
@@ -34,14 +34,14 @@ get_or_itself xs i h = sym (get_or_default xs i 0 (get_or xs i 0) h)
 
 module _ (w : Width) (k v : ElementSpec) (kl : IsElement k) (vl : IsElement v) (key_hash : List ℕ → ℕ → ℕ) (same_key same_value : Comparison)
     (ke : IsEquivalence k same_key) (ve : IsEquivalence v same_value)
-    (same_calls : (b c : List ℕ) (q r : ℕ) → ValidAt k b q → ValidAt k c r → same_key b q c r ≡ true → key_hash b q ≡ key_hash c r) where
+    (same_hash : (b c : List ℕ) (q r : ℕ) → ValidAt k b q → ValidAt k c r → same_key b q c r ≡ true → key_hash b q ≡ key_hash c r) where
   module _ (b c : List ℕ) (p r : ℕ) (homes others : List ℕ) (first : IsWrittenApart w k v key_hash same_key same_value b p homes)
       (second : IsWrittenApart w k v key_hash same_key same_value c r others) where
-    key_represents : (i : ℕ) → i < length homes → ValidAt k b (pair_at w k v b p homes i)
-    key_represents i h = valid_key kl vl b (pair_at w k v b p homes i) (pair_represents w k v kl vl key_hash b p homes first.valid first.written i h)
+    key_valid : (i : ℕ) → i < length homes → ValidAt k b (pair_at w k v b p homes i)
+    key_valid i h = valid_key kl vl b (pair_at w k v b p homes i) (pair_valid w k v kl vl key_hash b p homes first.valid first.written i h)
 
-    other_represents : (j : ℕ) → j < length others → ValidAt k c (pair_at w k v c r others j)
-    other_represents j h = valid_key kl vl c (pair_at w k v c r others j) (pair_represents w k v kl vl key_hash c r others second.valid second.written j h)
+    other_valid : (j : ℕ) → j < length others → ValidAt k c (pair_at w k v c r others j)
+    other_valid j h = valid_key kl vl c (pair_at w k v c r others j) (pair_valid w k v kl vl key_hash c r others second.valid second.written j h)
 
     -- the value of the pair `i` of the first map is the same as that of the pair at `place`
     same_at : ℕ → ℕ → Bool
@@ -56,7 +56,7 @@ module _ (w : Width) (k v : ElementSpec) (kl : IsElement k) (vl : IsElement v) (
         let q = pair_at w k v b p homes i in
         ap (λ (found : Option ℕ). unwrap_or (option_map (same_at i) found) false)
         (first_accepted w k v kl vl key_hash c r others second.valid second.written (key_hash b q) (same_key b q c) (hash_small w k v kl vl key_hash b p homes first.valid first.written i h)
-        (λ j l fits. sym (same_calls b c q (pair_at w k v c r others j) (key_represents i h) (other_represents j l) fits)))
+        (λ j l fits. sym (same_hash b c q (pair_at w k v c r others j) (key_valid i h) (other_valid j l) fits)))
 
     -- a matched pair is the same as one of the other map
     match_same : (i : ℕ) → i < length homes → pair_matches w k v key_hash same_key same_value b (pair_at w k v b p homes i) c r ≡ true
@@ -105,8 +105,8 @@ module _ (w : Width) (k v : ElementSpec) (kl : IsElement k) (vl : IsElement v) (
               let y = pair_at w k v c r others place.0 in
               let is : y ≡ some.0 = sym (place_of_pair w k v kl vl key_hash c r others second.valid second.written place.0 inside) ∙ place.2 in
               let found_key : same_key b q c y ≡ true = subst (λ z. same_key b q c z ≡ true) (sym is) key in
-              let turned = ke.symmetric b c q x (key_represents i h) (other_represents j l) both.0 in
-              let one : j ≡ place.0 = second.apart j place.0 l inside (ke.transitive c b c x q y (other_represents j l) (key_represents i h) (other_represents place.0 inside) turned found_key) in
+              let turned = ke.symmetric b c q x (key_valid i h) (other_valid j l) both.0 in
+              let one : j ≡ place.0 = second.apart j place.0 l inside (ke.transitive c b c x q y (other_valid j l) (key_valid i h) (other_valid place.0 inside) turned found_key) in
               let here : x ≡ some.0 = ap (pair_at w k v c r others) one ∙ is in
               matches_is i h ∙ rw some.1 (subst (λ z. same_at i z ≡ true) here both.1)
         ]
@@ -122,8 +122,8 @@ module _ (w : Width) (k v : ElementSpec) (kl : IsElement k) (vl : IsElement v) (
           let x = pair_at w k v c r others j in
           let key = (and_parts (same_key b q c x) (same_value b (q + value_offset k v) c (x + value_offset k v)) one).0 in
           let key' = (and_parts (same_key b q' c x) (same_value b (q' + value_offset k v) c (x + value_offset k v)) two).0 in
-          let turned = ke.symmetric b c q' x (key_represents i' h') (other_represents j l) key' in
-          first.apart i i' h h' (ke.transitive b c b q x q' (key_represents i h) (other_represents j l) (key_represents i' h') key turned);
+          let turned = ke.symmetric b c q' x (key_valid i' h') (other_valid j l) key' in
+          first.apart i i' h h' (ke.transitive b c b q x q' (key_valid i h) (other_valid j l) (key_valid i' h') key turned);
     }
 
   pub equal_have_same_pairs : EqualHaveSamePairs w k v key_hash same_key same_value
@@ -131,21 +131,21 @@ module _ (w : Width) (k v : ElementSpec) (kl : IsElement k) (vl : IsElement v) (
       let same : ℕ → ℕ → Bool = λ i j. entry_same k v same_key same_value b (pair_at w k v b p homes i) c (pair_at w k v c r others j) in
       let matches : ℕ → Bool = λ q. pair_matches w k v key_hash same_key same_value b q c r in
       let every : Bool = list_all matches (item_positions w (entry_spec k v).size b p) in
-      let count = pair_count w k v kl vl key_hash b p homes first.valid first.written in
-      let count' = pair_count w k v kl vl key_hash c r others second.valid second.written in
+      let count = len_is_count w k v kl vl key_hash b p homes first.valid first.written in
+      let count' = len_is_count w k v kl vl key_hash c r others second.valid second.written in
       let equivalence = entry_equivalence kl vl ke ve in (
         λ equal.
             let t = and_parts (eqb (len_at w b p) (len_at w c r)) every equal in
             let n : length homes ≡ length others = sym count ∙ eqb-true (len_at w b p) (len_at w c r) t.0 ∙ count' in
             let each : EachIsIn w k v key_hash same_key same_value b p homes c r others = λ i h.
-            match_same b c p r homes others first second i h (all_handed w k v kl vl key_hash b p homes first.valid first.written matches t.1 i h) in (
+            match_same b c p r homes others first second i h (all_inserted w k v kl vl key_hash b p homes first.valid first.written matches t.1 i h) in (
               each,
               λ j l.
                   let row = column_matched (length homes) (length others) same (matching b c p r homes others first second each) n j l in (
                     row.0,
                     row.1,
                     equivalence.symmetric b c (pair_at w k v b p homes row.0) (pair_at w k v c r others j)
-                        (pair_represents w k v kl vl key_hash b p homes first.valid first.written row.0 row.1) (pair_represents w k v kl vl key_hash c r others second.valid second.written j l) row.2,
+                        (pair_valid w k v kl vl key_hash b p homes first.valid first.written row.0 row.1) (pair_valid w k v kl vl key_hash c r others second.valid second.written j l) row.2,
                   ),
             ),
         λ both.

@@ -22,7 +22,7 @@ use Rattle.rkyv_collections.specs.Map.MapSpec.{map_spec}
 use Rattle.rkyv_collections.specs.Map.MapFormat.{MapRepresents}
 use Rattle.rkyv_table.specs.Table.SealedTable.{WritesValue}
 use Rattle.rkyv_collections.proofs.ValueWrites.{written_value_represents}
-use Rattle.rkyv_collections.proofs.WrittenPairs.{pair_represents, place_of_pair}
+use Rattle.rkyv_collections.proofs.WrittenPairs.{pair_valid, place_of_pair}
 
 module _ {A B : Type 0} (asks : A → Bool) (value : B) where
   -- the found position is that of the pair `n`, which is the first accepted one of both lists
@@ -82,12 +82,12 @@ no_place f (Some q) e = absurd cc
 
 module _ (w : Width) (k v : ElementSpec) (kl : IsElement k) (vl : IsElement v) {A B : Type 0} (key : List ℕ → ℕ → A → Type 0) (value : List ℕ → ℕ → B → Type 0)
     (key_hash : List ℕ → ℕ → ℕ) (factor : ℕ × ℕ) (b : List ℕ) (p : ℕ) (pairs : List (A × B)) (new : B) (accept : ℕ → Bool) (asks : A → Bool)
-    (view : Viewable (map_spec w k v) b p) (same_calls : AsksFor k key b accept asks) (st : MapRepresents w k v key value key_hash factor b p pairs) where
+    (view : Viewable (map_spec w k v) b p) (asks_for : AsksFor k key b accept asks) (st : MapRepresents w k v key value key_hash factor b p pairs) where
   abbrev positions : List ℕ
   positions = home_positions w (entry_spec k v).size b p st.homes
 
-  homes_total : length positions ≡ length st.homes
-  homes_total = length-map st.homes (item_at w (entry_spec k v).size b p)
+  positions_count : length positions ≡ length st.homes
+  positions_count = length-map st.homes (item_at w (entry_spec k v).size b p)
 
   pub count : length positions ≡ length pairs
   count = sym (length-map positions (key_hash b)) ∙ sym st.written.count ∙ st.len
@@ -95,10 +95,10 @@ module _ (w : Width) (k v : ElementSpec) (kl : IsElement k) (vl : IsElement v) {
   pub each_alike : (i : ℕ) (y : A × B) → slice_get pairs i ≡ Some y → accept (slice_index positions i) ≡ asks y.0
   each_alike i y get =
       let inside = slice_get_within pairs i y get in
-      let below : i < length st.homes = omega (arith, inside, count, homes_total) in
+      let below : i < length st.homes = omega (arith, inside, count, positions_count) in
       let at = sym (place_of_pair w k v kl vl key_hash b p st.homes view st.written i below) in
-      let entry = subst (λ z. ValidAt (entry_spec k v) b z) at (pair_represents w k v kl vl key_hash b p st.homes view st.written i below) in
-      same_calls y.0 (slice_index positions i) (valid_key kl vl b (slice_index positions i) entry) (st.at i y get).0
+      let entry = subst (λ z. ValidAt (entry_spec k v) b z) at (pair_valid w k v kl vl key_hash b p st.homes view st.written i below) in
+      asks_for y.0 (slice_index positions i) (valid_key kl vl b (slice_index positions i) entry) (st.at i y get).0
 
   -- if no key is accepted, the list has no accepted pair and is unchanged
   pub none_written : None ≡ find accept positions → (false ≡ is_some (first_pair asks pairs)) × MapRepresents w k v key value key_hash factor b p (with_first asks new pairs)

@@ -21,7 +21,7 @@ use Rattle.rkyv_table.specs.Table.Reading.{Answers, FindsFirst, FindsFound, Find
 use Rattle.rkyv_table.specs.Table.Reading.{table_bytes, table_pos}
 use Rattle.rkyv_table.specs.declared.table.ArchivedHashTable.{ArchivedHashTable}
 use Rattle.rkyv_collections.specs.Map.{AnswersKeys, AreUnderHash, FindsBy, FindsFirstBy, FindsKey}
-use Rattle.rkyv_collections.specs.Map.{IsEntryAt, IsEntryIn, IsMap, MapWrittenAt, hash_at}
+use Rattle.rkyv_collections.specs.Map.{IsEntryIn, IsMap, IsViewAt, MapWrittenAt, hash_at}
 use Rattle.rkyv_collections.specs.Map.{map_archive, map_bytes, map_pos}
 use Rattle.rkyv_collections.specs.Map.Lookups.{IsAcceptedKey}
 use Rattle.rkyv_collections.specs.Map.Misplaced.{FindsOneKey}
@@ -41,8 +41,8 @@ module _ {K V H W : Type 0} {ks : Specs K} {vs : Specs V} {wt : Words W} (m : Ar
       → (entry : View (Entry K V)) (r : Bool) → IsItem t entry
       → (key : View K) × IsAt key (archive_of entry) (pos_of entry) × IsValidView ks.spec key × post key r
       → r ≡ accept entry.pos
-  told_by_key post accept alone entry r item e =
-      alone e.0 r (key_of_entry m entry e.0 (entry_of_item m t at entry item) e.1 e.2) e.3 ∙ ap accept e.1.1
+  told_by_key post accept answers entry r item e =
+      answers e.0 r (key_of_entry m entry e.0 (entry_of_item m t at entry item) e.1 e.2) e.3 ∙ ap accept e.1.1
 
   -- a found item is an entry of the map
   pub entry_found : (result : Option (View (Entry K V))) → IfSome result (IsItem t) → IfSome result (IsEntryIn m)
@@ -84,7 +84,7 @@ module _ {K V H W : Type 0} {ks : Specs K} {vs : Specs V} {wt : Words W} (m : Ar
     answered : AskedByKey → (accept : ℕ → Bool) → AnswersKeys m post accept → Answers compared t accept
     answered by_key accept answers entry r item h = told_by_key post accept answers entry r item (by_key entry r h)
 
-    pub found_by_key : FindsFound compared generic_kind t hash (pos_of_found result) → AskedByKey → FindsBy m post asked (IsEntryAt result)
+    pub found_by_key : FindsFound compared generic_kind t hash (pos_of_found result) → AskedByKey → FindsBy m post asked (IsViewAt result)
     found_by_key found by_key = λ accept answers. found accept (answered by_key accept answers) ∙ found_there hash asked accept same_hash
 
     -- the comparison accepted the key of the found entry
@@ -97,7 +97,7 @@ module _ {K V H W : Type 0} {ks : Specs K} {vs : Specs V} {wt : Words W} (m : Ar
     pub accepted_by_key : FindsItem compared generic_kind t hash result → AskedByKey → IfSome (pos_of_found result) (IsAcceptedKey m post)
     accepted_by_key got by_key = accepted_of by_key result got.walked got.accepted
 
-    pub first_by_key : FindsFirst compared t hash (pos_of_found result) → AskedByKey → (key_hash : List ℕ → ℕ → ℕ) → FindsFirstBy m post asked key_hash (IsEntryAt result)
+    pub first_by_key : FindsFirst compared t hash (pos_of_found result) → AskedByKey → (key_hash : List ℕ → ℕ → ℕ) → FindsFirstBy m post asked key_hash (IsViewAt result)
     first_by_key found by_key key_hash = λ accept answers under homes written.
         let hashes = map (key_hash (map_bytes m)) (home_positions wt.word (entry_spec ks.spec vs.spec).size (map_bytes m) (map_pos m) homes) in
         found hashes homes accept (written_there hashes homes written) (answered by_key accept answers) (under_there hash asked key_hash accept homes same_hash under written)

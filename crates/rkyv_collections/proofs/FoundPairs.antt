@@ -15,10 +15,10 @@ use Rattle.rkyv_keys.specs.Lemmas.OfEntries.{valid_key}
 use Rattle.rkyv_table.specs.Table.Positions.{home_positions, item_at}
 use Rattle.rkyv_keys.specs.FirstPairs.{IsFoundPair, IsFoundValue, first_pair}
 use Rattle.rkyv_collections.specs.Map.ListedLookups.{AsksFor, IsPairOf}
-use Rattle.rkyv_collections.specs.Map.{IsEntryAt, IsFoundAt, IsPairAt, IsValueAt}
+use Rattle.rkyv_collections.specs.Map.{IsFoundAt, IsPairAt, IsValueAt, IsViewAt}
 use Rattle.rkyv_collections.specs.Map.MapSpec.{map_spec}
 use Rattle.rkyv_collections.specs.Map.MapFormat.{MapRepresents}
-use Rattle.rkyv_collections.proofs.WrittenPairs.{pair_represents, place_of_pair}
+use Rattle.rkyv_collections.proofs.WrittenPairs.{pair_valid, place_of_pair}
 
 module _ {A B : Type 0} (k v : ElementSpec) (key : List ℕ → ℕ → A → Type 0) (value : List ℕ → ℕ → B → Type 0) (b : List ℕ) where
   -- if two lists correspond, their first accepted items correspond
@@ -48,7 +48,7 @@ module _ {A B : Type 0} (k v : ElementSpec) (key : List ℕ → ℕ → A → Ty
   value_listed (Some q) None result same t e = absurd t
 
   pub key_listed : {K : Type 0} (place : Option ℕ) (o : Option (A × B)) (result : Option (View K)) → IfSome result (λ x. x.archive.now ≡ b)
-      → IsPairOf k v key value b place o → IsEntryAt result place → IsFoundValue key result (option_map (λ pair. pair.0) o)
+      → IsPairOf k v key value b place o → IsViewAt result place → IsFoundValue key result (option_map (λ pair. pair.0) o)
   key_listed None None None same t e = tt
   key_listed None None (Some x) same t e = absurd cc
   key_listed (Some q) (Some pair) None same t e = absurd cc
@@ -84,7 +84,7 @@ pub first_listed : (w : Width) (k v : ElementSpec) (kl : IsElement k) (vl : IsEl
     (factor : ℕ × ℕ) (b : List ℕ) (p : ℕ) (pairs : List (A × B)) → Viewable (map_spec w k v) b p → (accept : ℕ → Bool) (asks : A → Bool) → AsksFor k key b accept asks
     → (h : MapRepresents w k v key value hash factor b p pairs)
     → IsPairOf k v key value b (find accept (home_positions w (entry_spec k v).size b p h.homes)) (first_pair asks pairs)
-first_listed w k v kl vl key value hash factor b p pairs view accept asks same_calls h =
+first_listed w k v kl vl key value hash factor b p pairs view accept asks asks_for h =
     let positions = home_positions w (entry_spec k v).size b p h.homes in
     let n = length-map positions (hash b) in
     let m = length-map h.homes (item_at w (entry_spec k v).size b p) in
@@ -94,5 +94,5 @@ first_listed w k v kl vl key value hash factor b p pairs view accept asks same_c
     let inside = slice_get_within pairs i pair get in
     let below : i < length h.homes = omega (arith, inside, count, m) in
     let there = h.at i pair get in
-    let at = subst (λ q. ValidAt (entry_spec k v) b q) (sym (place_of_pair w k v kl vl hash b p h.homes view h.written i below)) (pair_represents w k v kl vl hash b p h.homes view h.written i below) in
-    (same_calls pair.0 (slice_index positions i) (valid_key kl vl b (slice_index positions i) at) there.0, there))
+    let at = subst (λ q. ValidAt (entry_spec k v) b q) (sym (place_of_pair w k v kl vl hash b p h.homes view h.written i below)) (pair_valid w k v kl vl hash b p h.homes view h.written i below) in
+    (asks_for pair.0 (slice_index positions i) (valid_key kl vl b (slice_index positions i) at) there.0, there))

@@ -17,7 +17,7 @@ use Rattle.rkyv_keys.specs.Keys.{IsQuery}
 use Rattle.rkyv_keys.specs.Asked.{Asked, asked}
 use Rattle.rkyv_collections.specs.Map.Lookups.{GetsBy, GetsKey, IsPairOfEntry, IsValueOfEntry, Part}
 use Rattle.rkyv_collections.specs.Map.Lookups.{entry_part, key_part, pair_part, value_part}
-use Rattle.rkyv_collections.specs.Map.{AnswersKeys, IsEntryAt, IsEntryIn, IsMap, IsPairAt}
+use Rattle.rkyv_collections.specs.Map.{AnswersKeys, IsEntryIn, IsMap, IsPairAt, IsViewAt}
 use Rattle.rkyv_collections.specs.Map.{IsPairIn, IsValueAt, IsValueIn, hash_at, key_pos_found}
 use Rattle.rkyv_collections.specs.Map.{map_bytes}
 use Rattle.rkyv_collections.specs.declared.map.ArchivedHashMap.{ArchivedHashMap}
@@ -88,12 +88,12 @@ module _ {K V H W : Type 0} {ks : Specs K} {vs : Specs V} {wt : Words W} (m : Ar
 
 module _ {K V : Type 0} (k v : ElementSpec) where
   -- the pair is at the position of the found entry
-  pair_at : (found : Option (View (Entry K V))) (result : Option (View K × View V)) → IsPairOfEntry k v result found → (place : Option ℕ) → IsEntryAt found place → IsPairAt result place
+  pair_at : (found : Option (View (Entry K V))) (result : Option (View K × View V)) → IsPairOfEntry k v result found → (place : Option ℕ) → IsViewAt found place → IsPairAt result place
   pair_at None result is place at = ap key_pos_found is ∙ at
   pair_at (Some entry) result is place at = ap key_pos_found is.1 ∙ ap Some is.2.1 ∙ at
 
   -- the value is behind the position of the found entry
-  value_at : (found : Option (View (Entry K V))) (result : Option (View V)) → IsValueOfEntry k v result found → (place : Option ℕ) → IsEntryAt found place → IsValueAt k v result place
+  value_at : (found : Option (View (Entry K V))) (result : Option (View V)) → IsValueOfEntry k v result found → (place : Option ℕ) → IsViewAt found place → IsValueAt k v result place
   value_at None result is place at = ap pos_of_found is ∙ ap (option_map (λ (q : ℕ). q + value_offset k v)) at
   value_at (Some entry) result is place at = ap pos_of_found is.1 ∙ ap Some is.2.1 ∙ ap (option_map (λ (q : ℕ). q + value_offset k v)) at
 
@@ -129,6 +129,6 @@ module _ {K V H W : Type 0} {ks : Specs K} {vs : Specs V} {wt : Words W} {m : Ar
   no_member got = record { walked = tt; answer = got.answer; first = got.first; complete = got.complete }
 
 -- an entry that has a position is found
-pub some_found : {E : Type 0} (found : Option (View E)) (place : Option ℕ) → IsEntryAt found place → IsSome place → IsSome found
+pub some_found : {E : Type 0} (found : Option (View E)) (place : Option ℕ) → IsViewAt found place → IsSome place → IsSome found
 some_found None place at some = subst IsSome (sym at) some
 some_found (Some entry) place at some = refl

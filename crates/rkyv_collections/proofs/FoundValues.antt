@@ -1,4 +1,4 @@
--- A lookup by a name finds the value of the list, which is read at its position.
+-- Helpers for callers: the bytes of a map at a view, numbers of a list, the `Ok` of a result.
 use Rattle.rkyv_base.specs.declared.element.HasSpec.{Ghosts as Specs}
 use Rattle.rkyv_base.specs.declared.width.Word.{Ghosts as Words}
 use Rattle.std.proofs.Common.{◌≡◌, ℕ, List, Option, None, Some, Result, Ok, Err, MatchResult, IfOk, ap, refl, sym, ◌∙◌}

@@ -15,7 +15,6 @@ use Rattle.rkyv_table.specs.Table.Counting.{YieldsOtherCount}
 use Rattle.rkyv_table.specs.Table.Serializing.{WriteItemsFails, WroteItems}
 use Rattle.rkyv_table.specs.Table.TableFormat.{TableResolver, table_format}
 use Rattle.rkyv_collections.specs.Map.HashedPairs.{HashedStep}
-use Rattle.rkyv_table.specs.Table.Serializing.{WriteItemsFails, WroteItems}
 use Rattle.rkyv_table.specs.Table.ItemValues.{lent_pairs}
 use Rattle.rkyv_collections.specs.Map.MapFormat.{keyed, map_format}
 use Rattle.rkyv_table.proofs.Through.{drains_through, other_through, own_counted}
@@ -80,11 +79,11 @@ module _ {T S BK BV A B : Type 0} (inner : T → S) (steps : S → Option (BK ×
         )
 
     module _ {F : Type 0} where
-      no_map : (e : WriteError F) → WriteItemsFails (Drains Given s) len factor max TableOf o o' limit (YieldsOtherCount Given len s) e
+      map_fails : (e : WriteError F) → WriteItemsFails (Drains Given s) len factor max TableOf o o' limit (YieldsOtherCount Given len s) e
           → WriteItemsFails (Drains steps (inner s)) len factor max MapOf o o' limit (YieldsOtherCount steps len (inner s)) e
-      no_map e (inl h) =
+      map_fails e (inl h) =
           inl (own_counted len factor max (YieldsOtherCount Given len s) (YieldsOtherCount steps len (inner s)) (yields_other_count inner steps (λ q. hash (key q)) len s) e h.0, h.1)
-      no_map e (inr h) =
+      map_fails e (inr h) =
           let xs = h.1 in
           let d = drained inner steps (λ q. hash (key q)) xs s h.2.0 in
           inr (
@@ -100,4 +99,4 @@ module _ {T S BK BV A B : Type 0} (inner : T → S) (steps : S → Option (BK ×
           → MatchResult result (WroteItems (Drains Given s) len factor max TableOf o o' limit) (WriteItemsFails (Drains Given s) len factor max TableOf o o' limit (YieldsOtherCount Given len s))
           → MatchResult result (WroteItems (Drains steps (inner s)) len factor max MapOf o o' limit) (WriteItemsFails (Drains steps (inner s)) len factor max MapOf o o' limit (YieldsOtherCount steps len (inner s)))
       answers_map (Ok r) h = wrote_map r h
-      answers_map (Err e) h = no_map e h
+      answers_map (Err e) h = map_fails e h

@@ -14,7 +14,7 @@ pub mod StdReading
 pub mod StdComparing
 pub mod StdFinding
 pub mod StdListing
-pub mod Headline
+pub mod WrittenRoots
 pub mod FoundPairs
 pub mod FoundValues
 pub mod WalkedPairs

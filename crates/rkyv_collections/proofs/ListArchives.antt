@@ -12,7 +12,7 @@ use Rattle.rkyv_scan.specs.Groups.{generic_kind}
 use Rattle.rkyv_base.specs.Entry.{entry_spec, value_offset}
 use Rattle.rkyv_base.specs.ElementSpec.{ElementSpec}
 use Rattle.rkyv_base.specs.Layout.{narrow_limit}
-use Rattle.rkyv_base.specs.Root.{ArchiveOf, ArchiveRefused}
+use Rattle.rkyv_base.specs.Root.{ArchiveOf, ToBytesFails}
 use Rattle.rkyv_base.specs.Scalar.{Encoding}
 use Rattle.rkyv_base.specs.Sealing.{value_at}
 use Rattle.rkyv_base.specs.View.{IsAt, bytes_of, pos_of, pos_of_found}
@@ -38,12 +38,12 @@ use Rattle.rkyv_collections.specs.declared.map.HashMapOf.{HashMapOf}
 -- the result of `to_bytes` for a list of texts with these pairs
 pub text_map_result : {F N Z : Type 0} (e : Encoding N) {factor : ℕ × ℕ} {pairs pairs' : TextPairs N} (result : Result (Vec ℕ Z) (WriteError F)) → factor ≡ (7, 8) → pairs' ≡ pairs
     → MatchResult result (λ archive. ArchiveOf narrow_limit (text_map_spec e) (TextMapRepresents e factor) (text_map_format e factor) pairs' archive.items)
-    (ArchiveRefused narrow_limit (text_map_spec e) (text_map_format e factor) pairs')
+    (ToBytesFails narrow_limit (text_map_spec e) (text_map_format e factor) pairs')
     → TextMapResult e pairs result
 text_map_result e {factor = factor} (Ok archive) is_factor is_pairs made =
     subst (λ x. IsTextMapUnder e (7, 8) archive.items x) is_pairs (record { accepted = made.0; load_factor = factor; represents = made.1 }, is_factor)
 text_map_result e {factor = factor} {pairs' = pairs'} (Err why) is_factor is_pairs refused =
-    subst (λ x. TextMapFails e x why) is_pairs (subst (λ x. ArchiveRefused narrow_limit (text_map_spec e) (text_map_format e x) pairs' why) is_factor refused)
+    subst (λ x. TextMapFails e x why) is_pairs (subst (λ x. ToBytesFails narrow_limit (text_map_spec e) (text_map_format e x) pairs' why) is_factor refused)
 
 -- a found value, by the position of its key
 scalar_behind : {N : Type 0} (e : Encoding N) (b : List ℕ) (offset : ℕ) (found : Option (View N)) (key : Option ℕ) → IfSome found (λ view. bytes_of view ≡ b)

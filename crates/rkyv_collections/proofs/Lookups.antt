@@ -1,4 +1,4 @@
--- From a lookup in a table to a lookup in a map.
+-- The entries and keys of a map, and their hashes.
 use Rattle.rkyv_base.specs.declared.element.HasSpec.{Ghosts as Specs}
 use Rattle.rkyv_base.specs.declared.width.Word.{Ghosts as Words}
 use Rattle.std.proofs.Common.{◌≡◌, ℕ, ◌<◌, ◌∙◌, None, Some, ap, sym, arith, Bool, length, map, subst, List, Option, slice_index}
@@ -20,7 +20,7 @@ use Rattle.rkyv_table.specs.Table.Positions.{IsWalked, home_positions, item_at}
 use Rattle.rkyv_table.specs.Table.Reading.{IsItem}
 use Rattle.rkyv_table.specs.declared.table.ArchivedHashTable.{ArchivedHashTable}
 use Rattle.rkyv_table.proofs.ValidTable.{item_viewable}
-use Rattle.rkyv_collections.specs.Map.{AreUnderHash, IsEntryAt, IsEntryIn, map_archive, IsFoundAt}
+use Rattle.rkyv_collections.specs.Map.{AreUnderHash, IsEntryIn, IsFoundAt, IsViewAt, map_archive}
 use Rattle.rkyv_collections.specs.Map.{IsKeyIn, IsMap, MapWrittenAt, hash_at, map_bytes, map_pos}
 use Rattle.rkyv_collections.specs.declared.map.ArchivedHashMap.{ArchivedHashMap}
 use Rattle.rkyv_table.proofs.WrittenTables.{home_count, home_pos, home_walked}
@@ -68,10 +68,10 @@ module _ {K V H W : Type 0} {ks : Specs K} {vs : Specs V} {wt : Words W} (m : Ar
   query_under_hash kl vl hasher same key_calls can_read calls fits query is q ready place key accepted =
       let b = map_bytes m in
       let item = item_viewable wt.word (entry_spec ks.spec vs.spec) (entry_element ks.spec vs.spec kl vl) b (map_pos m) is key.0 key.1 in
-      let represents : ValidAt ks.spec b place = valid_key kl vl b place (subst (ValidAt (entry_spec ks.spec vs.spec) b) (sym key.2) item.valid) in
-      ap (hash_of_calls hasher) (sym (query.same_calls q b place ready represents accepted))
+      let valid : ValidAt ks.spec b place = valid_key kl vl b place (subst (ValidAt (entry_spec ks.spec vs.spec) b) (sym key.2) item.valid) in
+      ap (hash_of_calls hasher) (sym (query.same_calls q b place ready valid accepted))
 
 -- an entry is found if and only if it has a position
-pub some_at : {E : Type 0} (found : Option (View E)) (place : Option ℕ) (answer : Bool) → answer ≡ is_some found → IsEntryAt found place → IsFoundAt answer place
+pub some_at : {E : Type 0} (found : Option (View E)) (place : Option ℕ) (answer : Bool) → answer ≡ is_some found → IsViewAt found place → IsFoundAt answer place
 some_at None place answer e at = rw (e, ← at) (λ t. t, λ t. t)
 some_at (Some entry) place answer e at = rw (e, ← at) (λ t. t, λ t. t)

@@ -28,7 +28,7 @@ use Rattle.rkyv_collections.specs.Map.Equality.{pair_at}
 use Rattle.rkyv_collections.specs.Map.{MapWrittenAt, hash_at}
 use Rattle.rkyv_collections.specs.Map.MapSpec.{map_spec}
 use Rattle.rkyv_collections.specs.Map.Misplaced.{FindsTheOne, RepeatedKeysAreMisplaced, map_misplaced}
-use Rattle.rkyv_collections.proofs.WrittenPairs.{hash_of_pair, pair_count, pair_represents}
+use Rattle.rkyv_collections.proofs.WrittenPairs.{hash_of_pair, len_is_count, pair_valid}
 
 -- the number of repeated items is that of repeated positions
 module _ (at : ℕ → ℕ) (same : ℕ → ℕ → Bool) (homes : List ℕ) where
@@ -48,7 +48,7 @@ module _ (at : ℕ → ℕ) (same : ℕ → ℕ → Bool) (homes : List ℕ) whe
 
 module _ (w : Width) (k v : ElementSpec) (kl : IsElement k) (vl : IsElement v) (key_hash : List ℕ → ℕ → ℕ) (same_key : Comparison)
     (equivalence : IsEquivalence k same_key)
-    (same_calls : (b c : List ℕ) (q r : ℕ) → ValidAt k b q → ValidAt k c r → same_key b q c r ≡ true → key_hash b q ≡ key_hash c r) where
+    (same_hash : (b c : List ℕ) (q r : ℕ) → ValidAt k b q → ValidAt k c r → same_key b q c r ≡ true → key_hash b q ≡ key_hash c r) where
   module _ (b : List ℕ) (p : ℕ) (homes : List ℕ) (view : Viewable (map_spec w k v) b p) (written : MapWrittenAt w (entry_spec k v) key_hash b p homes) where
     abbrev at : ℕ → ℕ
     at = item_at w (entry_spec k v).size b p
@@ -59,12 +59,12 @@ module _ (w : Width) (k v : ElementSpec) (kl : IsElement k) (vl : IsElement v) (
     key_there : (i : ℕ) → Contains homes i → ValidAt k b (at i)
     key_there i c =
         let is : slice_index homes c.0 ≡ i = get_or_default homes c.0 0 i c.1 ∙ c.2 in
-        subst (λ x. ValidAt k b (at x)) is (valid_key kl vl b (pair_at w k v b p homes c.0) (pair_represents w k v kl vl key_hash b p homes view written c.0 c.1))
+        subst (λ x. ValidAt k b (at x)) is (valid_key kl vl b (pair_at w k v b p homes c.0) (pair_valid w k v kl vl key_hash b p homes view written c.0 c.1))
 
     sameness : IsSameness (λ i. key_hash b (at i)) (λ i j. same_key b (at i) b (at j)) hashes homes
     sameness = record {
       hashed = λ i h. sym (hash_of_pair w k v kl vl key_hash b p homes view written i h);
-      equal = λ i j c d s. same_calls b b (at i) (at j) (key_there i c) (key_there j d) s;
+      equal = λ i j c d s. same_hash b b (at i) (at j) (key_there i c) (key_there j d) s;
       reflexive = λ i c. equivalence.reflexive b (at i) (key_there i c);
       symmetric = λ i j c d s. equivalence.symmetric b b (at i) (at j) (key_there i c) (key_there j d) s;
       transitive = λ i j l c d e s t. equivalence.transitive b b b (at i) (at j) (at l) (key_there i c) (key_there j d) (key_there l e) s t;
@@ -74,7 +74,7 @@ module _ (w : Width) (k v : ElementSpec) (kl : IsElement k) (vl : IsElement v) (
     repeated_keys = elim written.placed [
       | inl none ↦
           let count = walk_count w (entry_spec k v) (entry_element k v kl vl) b p view in
-          let pairs = pair_count w k v kl vl key_hash b p homes view written in
+          let pairs = len_is_count w k v kl vl key_hash b p homes view written in
           let z : length homes ≡ 0 = ap length none.1 in
           let empty : walk (table_controls w b p) (cap_at w b p) ≡ [] = nil_from_length (walk (table_controls w b p) (cap_at w b p)) (count ∙ pairs ∙ z) in
           rw (empty, none.1) refl
@@ -96,8 +96,8 @@ module _ {Q State : Type 0} (w : Width) (k v : ElementSpec) (kl : IsElement k) (
   abbrev size : ℕ
   size = (entry_spec k v).size
 
-  abbrev seal_pos : ℕ → ℕ
-  seal_pos = item_at w size b p
+  abbrev item_pos : ℕ → ℕ
+  item_pos = item_at w size b p
 
   abbrev cap : ℕ
   cap = cap_at w b p
@@ -109,19 +109,19 @@ module _ {Q State : Type 0} (w : Width) (k v : ElementSpec) (kl : IsElement k) (
   hash = hash_of_calls hasher (calls q)
 
   abbrev accept : ℕ → Bool
-  accept i = fits q b (seal_pos i)
+  accept i = fits q b (item_pos i)
 
-  key_walked : (i : ℕ) → Contains (walk controls cap) i → ValidAt k b (seal_pos i)
+  key_walked : (i : ℕ) → Contains (walk controls cap) i → ValidAt k b (item_pos i)
   key_walked i c =
-      valid_key kl vl b (seal_pos i) (item_viewable w (entry_spec k v) (entry_element k v kl vl) b p view i (walked_full cap controls i c)).valid
+      valid_key kl vl b (item_pos i) (item_viewable w (entry_spec k v) (entry_element k v kl vl) b p view i (walked_full cap controls i c)).valid
 
-  asks : AsksForOne controls cap hash accept (λ i. hash_at hasher key_calls b (seal_pos i)) (λ i j. same b (seal_pos i) b (seal_pos j))
+  asks : AsksForOne controls cap hash accept (λ i. hash_at hasher key_calls b (item_pos i)) (λ i j. same b (item_pos i) b (item_pos j))
   asks = record {
-    hashed = λ i c f. ap (hash_of_calls hasher) (sym (query.same_calls q b (seal_pos i) ready (key_walked i c) f));
-    same = λ i j c d f. query.respects_same q b b (seal_pos i) (seal_pos j) ready (key_walked i c) (key_walked j d) f;
+    hashed = λ i c f. ap (hash_of_calls hasher) (sym (query.same_calls q b (item_pos i) ready (key_walked i c) f));
+    same = λ i j c d f. query.respects_same q b b (item_pos i) (item_pos j) ready (key_walked i c) (key_walked j d) f;
   }
 
-  by_place : (o : Option ℕ) → MatchOption o (NoneAccepted controls cap accept) (AloneAccepted controls cap accept) → FindsTheOne w size b p (fits q b) (option_map seal_pos o)
+  by_place : (o : Option ℕ) → MatchOption o (NoneAccepted controls cap accept) (AloneAccepted controls cap accept) → FindsTheOne w size b p (fits q b) (option_map item_pos o)
   by_place None n = λ i walked. n i (full_walked cap controls i walked)
   by_place (Some i) a = record {
     bucket = i;
@@ -135,10 +135,10 @@ module _ {Q State : Type 0} (w : Width) (k v : ElementSpec) (kl : IsElement k) (
   finds_the_one = elim (cases_eq cap 0) [
     | inl z ↦
         let e = no_items w (entry_spec k v) (entry_element k v kl vl) b p view z in
-        subst (λ n. FindsTheOne w size b p (fits q b) (option_map seal_pos (found generic_kind controls cap n hash accept))) (sym e)
+        subst (λ n. FindsTheOne w size b p (fits q b) (option_map item_pos (found generic_kind controls cap n hash accept))) (sym e)
         (by_place None (λ i c. absurd (omega (arith, (walked_full cap controls i c).0, z))))
     | inr some ↦
         by_place (found generic_kind controls cap (len_at w b p) hash accept)
-        (complete generic_kind cap (len_at w b p) hash controls accept (λ i. hash_at hasher key_calls b (seal_pos i)) (λ i j. same b (seal_pos i) b (seal_pos j)) word_lawful
+        (complete generic_kind cap (len_at w b p) hash controls accept (λ i. hash_at hasher key_calls b (item_pos i)) (λ i j. same b (item_pos i) b (item_pos j)) word_lawful
         (controls_accepted w (entry_spec k v) (entry_element k v kl vl) b p view (omega arith)) small none asks)
   ]

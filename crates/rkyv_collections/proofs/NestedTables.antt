@@ -12,7 +12,7 @@ use Rattle.rkyv_base.proofs.Sealing.{same_outside, sealed_wider}
 use Rattle.rkyv_scan.specs.Groups.{is_full}
 use Rattle.rkyv_table.specs.Controls.Numbers.{control_count}
 use Rattle.rkyv_table.specs.Controls.Placing.{Accepted, walk}
-use Rattle.rkyv_table.specs.Lemmas.ItemPositions.{HeldPart, HoldsWithin, bucket_holds_within, each_holds, told_controls, told_item, told_pos, within_lower}
+use Rattle.rkyv_table.specs.Lemmas.ItemPositions.{HeldPart, HoldsWithin, bucket_holds_within, decoded_controls, decoded_item, decoded_pos, each_holds, within_lower}
 use Rattle.rkyv_table.specs.Lemmas.PlaceLaws.{all_between}
 use Rattle.rkyv_table.specs.Lemmas.SameHeader.{begin_same, cap_same, len_same, pos_same}
 use Rattle.rkyv_table.specs.Lemmas.TableLaws.{of_numbers}
@@ -134,7 +134,7 @@ module _ (w : Width) (s : ElementSpec) (law : IsElement s) (b : List ℕ) (p i :
   place = bucket_at s.size begin cap
 
   at_is : (j : ℕ) → j < cap → item_at w s.size b p j ≡ place j
-  at_is j h = told_item w s.size b p begin whole.part.begins j h
+  at_is j h = decoded_item w s.size b p begin whole.part.begins j h
 
   writes_at : WritesParts s b c (place i)
   writes_at = subst (WritesParts s b c) (at_is i walked.0) writes
@@ -143,7 +143,7 @@ module _ (w : Width) (s : ElementSpec) (law : IsElement s) (b : List ℕ) (p i :
   up j = omega arith
 
   full : (j : ℕ) → IsWalked w b p j → slice_index (controls_at s.size b begin cap) j < 128
-  full j there = subst (λ (xs : List ℕ). slice_index xs j < 128) (told_controls w s.size b p begin whole.part.begins) there.1
+  full j there = subst (λ (xs : List ℕ). slice_index xs j < 128) (decoded_controls w s.size b p begin whole.part.begins) there.1
 
   one : HoldsWithin s b (place i) 0 begin whole.is.last
   one = bucket_holds_within s law b begin cap 0 whole.is.last i (omega arith) whole.is.items walked.0 (full i walked)
@@ -247,9 +247,9 @@ module _ (w : Width) (s : ElementSpec) (law : IsElement s) (b : List ℕ) (p i :
         controls =
             ap (λ z. slice_range c z (z + control_count (cap_at w c p))) (sym (pos_same w b c p same))
             ∙ ap (λ n. slice_range c (controls_pos w b p) (controls_pos w b p + control_count n)) caps
-            ∙ ap (λ z. slice_range c z (z + control_count cap)) (told_pos w s.size b p begin whole.part.begins)
+            ∙ ap (λ z. slice_range c z (z + control_count cap)) (decoded_pos w s.size b p begin whole.part.begins)
             ∙ sym controls_same
-            ∙ sym (told_controls w s.size b p begin whole.part.begins);
+            ∙ sym (decoded_controls w s.size b p begin whole.part.begins);
         own = subst (HoldsBefore s b) (sym (at_is i walked.0)) (held_before i one);
         others = λ j there ne. subst (StaysAt s b c) (sym (at_is j there.0)) (other_stays j there ne);
       }

@@ -9,7 +9,7 @@ use Rattle.std.proofs.lemmas.Bool.{cases_eq}
 use Rattle.std.proofs.lemmas.Option.{same_Some}
 use Rattle.rkyv_base.specs.Lemmas.Bytes.{agree_on_part}
 use Rattle.rkyv_base.specs.Entry.{entry_spec, whole_size}
-use Rattle.rkyv_base.specs.Lemmas.Entry.{entry_element, parts_inside, same_key, same_value}
+use Rattle.rkyv_base.specs.Lemmas.Entry.{entry_element, key_and_value_inside, same_key, same_value}
 use Rattle.rkyv_base.specs.Lemmas.Entry.{size_of_small}
 use Rattle.rkyv_base.specs.Format.{RepresentsLocally}
 use Rattle.rkyv_base.specs.Sealing.{Keeps, Sealed, value_pos}
@@ -156,7 +156,7 @@ module _ (w : Width) (k v : ElementSpec) (kl : IsElement k) (vl : IsElement v) (
 
 module _ (w : Width) (k v : ElementSpec) (kl : IsElement k) (vl : IsElement v) {A B : Type 0} (key : List ℕ → ℕ → A → Type 0) (value : List ℕ → ℕ → B → Type 0)
     (key_hash : List ℕ → ℕ → ℕ) (factor : ℕ × ℕ) (b : List ℕ) (p : ℕ) (pairs : List (A × B)) (new : B) (accept : ℕ → Bool) (asks : A → Bool)
-    (view : Viewable (map_spec w k v) b p) (same_calls : AsksFor k key b accept asks) (st : MapRepresents w k v key value key_hash factor b p pairs) where
+    (view : Viewable (map_spec w k v) b p) (asks_for : AsksFor k key b accept asks) (st : MapRepresents w k v key value key_hash factor b p pairs) where
   -- after a write among the parts of the first accepted value, the map represents
   -- the list with the new value
   pub nested_first : RepresentsLocally k key → RepresentsLocally v value → HashLocal k key_hash → (c : List ℕ) (pos : ℕ)
@@ -165,8 +165,8 @@ module _ (w : Width) (k v : ElementSpec) (kl : IsElement k) (vl : IsElement v) {
   nested_first kn vn local c pos found writes represents =
       let xs = home_positions w (entry_spec k v).size b p st.homes in
       let t = some_place (value_pos k v) (find accept xs) pos found in
-      elim (nth_found asks new accept xs pairs (count w k v kl vl key value key_hash factor b p pairs new accept asks view same_calls st)
-      (each_alike w k v kl vl key value key_hash factor b p pairs new accept asks view same_calls st)) [
+      elim (nth_found asks new accept xs pairs (count w k v kl vl key value key_hash factor b p pairs new accept asks view asks_for st)
+      (each_alike w k v kl vl key value key_hash factor b p pairs new accept asks view asks_for st)) [
         | inl none ↦ absurd (let e = t.1 ∙ none.0 in cc)
         | inr r ↦
             let at : t.0 ≡ slice_index xs r.n = same_Some t.0 (slice_index xs r.n) (t.1 ∙ r.place) in
@@ -185,7 +185,7 @@ value_nested w k v kl vl b c p i view walked writes =
     let q = item_at w s.size b p i in
     let there = item_viewable w s law b p view i walked in
     let small = size_of_small (whole_size k v) there.valid.1.0 in
-    let within = parts_inside k v in record {
+    let within = key_and_value_inside k v in record {
       holds = (value_kept w k v kl vl b p i view walked c writes.sealed writes.keeps).0.holds;
       sealed = λ lo hi l o o' h.
           let t = holds_at w s law b p lo hi l h (omega (arith, walked.0)) in

@@ -49,11 +49,11 @@ module _ (w : Width) (k v : ElementSpec) {A B : Type 0} (key : List ℕ → ℕ 
   abbrev hashes : List ℕ
   hashes = map (key_hash b) (positions b)
 
-  counted : length st.homes ≡ length pairs
-  counted = home_count w b p hashes st.homes st.written ∙ sym st.written.count ∙ st.len
+  homes_count : length st.homes ≡ length pairs
+  homes_count = home_count w b p hashes st.homes st.written ∙ sym st.written.count ∙ st.len
 
   has_home : (j : ℕ) → j < length pairs → j < length st.homes
-  has_home j h = omega (arith, counted)
+  has_home j h = omega (arith, homes_count)
 
   -- the home bucket of the pair `j`
   pub home : ℕ → ℕ
@@ -81,10 +81,10 @@ module _ (w : Width) (k v : ElementSpec) {A B : Type 0} (key : List ℕ → ℕ 
   homes_differ : (j : ℕ) → j < length pairs → j ≢ n → home j ≢ home n
   unfolding home
   homes_differ j h ne e = elim st.written.placed [
-    | inl none ↦ let z : length st.homes ≡ 0 = ap length none.1 in omega (arith, z, counted, inside)
+    | inl none ↦ let z : length st.homes ≡ 0 = ap length none.1 in omega (arith, z, homes_count, inside)
     | inr some ↦ elim (cases_lt j n) [
-      | inl less ↦ homes_apart (cap_at w b p) hashes st.homes some.1.placed j n less (omega (arith, counted, inside)) e
-      | inr more ↦ homes_apart (cap_at w b p) hashes st.homes some.1.placed n j (omega (arith, ne)) (omega (arith, counted)) (sym e)
+      | inl less ↦ homes_apart (cap_at w b p) hashes st.homes some.1.placed j n less (omega (arith, homes_count, inside)) e
+      | inr more ↦ homes_apart (cap_at w b p) hashes st.homes some.1.placed n j (omega (arith, ne)) (omega (arith, homes_count)) (sym e)
     ]
   ]
 
@@ -94,7 +94,7 @@ module _ (w : Width) (k v : ElementSpec) {A B : Type 0} (key : List ℕ → ℕ 
       (others : (j : ℕ) → IsWalked w b p j → j ≢ home n → (x : A × B) → PairRepresents k v key value b (at j) x → PairRepresents k v key value c (at j) x) where
     place_stays : (j : ℕ) → j < length pairs → slice_index (positions c) j ≡ at (home j)
     unfolding home
-    place_stays j h = get_or-map (item_at w (entry_spec k v).size c p) st.homes j 0 0 (omega (arith, counted)) ∙ stay (home j)
+    place_stays j h = get_or-map (item_at w (entry_spec k v).size c p) st.homes j 0 0 (omega (arith, homes_count)) ∙ stay (home j)
 
     own_represents : PairRepresents k v key value c (slice_index (positions c) n) (pair.0, new)
     own_represents = subst (λ z. PairRepresents k v key value c z (pair.0, new)) (sym (place_stays n inside)) (own (subst (λ z. key b z pair.0) own_place (st.at n pair at_n).0))

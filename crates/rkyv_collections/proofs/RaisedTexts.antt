@@ -54,7 +54,7 @@ module _ {A : Type 0} (k v : ElementSpec) (key : List ℕ → ℕ → A → Type
   no_pair f (Some q) o e h = absurd cc
 
 module _ (w : Width) (k : ElementSpec) (kl : IsElement k) (tl : IsElement (text_spec w)) {A : Type 0} (key : List ℕ → ℕ → A → Type 0) (key_hash : List ℕ → ℕ → ℕ) (factor : ℕ × ℕ) (b : List ℕ) (p : ℕ)
-    (pairs : List (A × Bor (List ℕ))) (accept : ℕ → Bool) (asks : A → Bool) (view : Viewable (map_spec w k (text_spec w)) b p) (same_calls : AsksFor k key b accept asks)
+    (pairs : List (A × Bor (List ℕ))) (accept : ℕ → Bool) (asks : A → Bool) (view : Viewable (map_spec w k (text_spec w)) b p) (asks_for : AsksFor k key b accept asks)
     (st : MapRepresents w k (text_spec w) key (IsTextOf w (λ text. text.now)) key_hash factor b p pairs) where
   abbrev v : ElementSpec
   v = text_spec w
@@ -62,29 +62,29 @@ module _ (w : Width) (k : ElementSpec) (kl : IsElement k) (tl : IsElement (text_
   abbrev value : List ℕ → ℕ → Bor (List ℕ) → Type 0
   value = IsTextOf w (λ text. text.now)
 
-  abbrev Related : List ℕ → List (A × Bor (List ℕ)) → Type 0
-  Related c l = MapRepresents w k v key value key_hash factor c p l
+  abbrev Represents : List ℕ → List (A × Bor (List ℕ)) → Type 0
+  Represents c l = MapRepresents w k v key value key_hash factor c p l
 
   abbrev place : Option ℕ
   place = find accept (home_positions w (entry_spec k v).size b p st.homes)
 
   first : IsPairOf k v key value b place (first_pair asks pairs)
-  first = first_listed w k v kl tl key value key_hash factor b p pairs view accept asks same_calls st
+  first = first_listed w k v kl tl key value key_hash factor b p pairs view accept asks asks_for st
 
-  pub none_raised : None ≡ option_map (value_pos k v) place → (false ≡ is_some (first_pair asks pairs)) × Related b pairs
+  pub none_raised : None ≡ option_map (value_pos k v) place → (false ≡ is_some (first_pair asks pairs)) × Represents b pairs
   none_raised found = (no_pair k v key value b (value_pos k v) place (first_pair asks pairs) found first, st)
 
   pub first_raised : RepresentsLocally k key → HashLocal k key_hash → (c : List ℕ) (pos : ℕ) (inline : Bool) → pos + text_size w ≤ length b → Some pos ≡ option_map (value_pos k v) place
-      → Raised w b pos c inline → (true ≡ is_some (first_pair asks pairs)) × Related c (raised_list w k asks (Some inline) pairs)
+      → Raised w b pos c inline → (true ≡ is_some (first_pair asks pairs)) × Represents c (raised_list w k asks (Some inline) pairs)
   first_raised kn local c pos false inside found raised =
       let t = some_place (value_pos k v) place pos found in
       let pair = pair_of k v key value b place t.0 (first_pair asks pairs) t.1 first in
-      (ap is_some (sym pair.1), subst (λ x. Related x pairs) (sym raised.1) st)
+      (ap is_some (sym pair.1), subst (λ x. Represents x pairs) (sym raised.1) st)
   first_raised kn local c pos true inside found raised =
       let t = some_place (value_pos k v) place pos found in
       let pair = pair_of k v key value b place t.0 (first_pair asks pairs) t.1 first in
       let there : text_at w b pos ≡ pair.0.1.now = ap (text_at w b) t.2 ∙ pair.2.1 in
       let reads : text_at w c pos ≡ map to_ascii_uppercase pair.0.1.now = raised_reads w b pos inside c true raised raised.0 ∙ ap (map to_ascii_uppercase) there in
-      let wrote = first_behind w k v kl tl key value key_hash factor b p pairs (text_raised pair.0.1) accept asks view same_calls st kn (λ x. text_local w x.now) local c pos found
+      let wrote = first_behind w k v kl tl key value key_hash factor b p pairs (text_raised pair.0.1) accept asks view asks_for st kn (λ x. text_local w x.now) local c pos found
       (raised_sealed w b pos inside c true raised) (raised_holds w b pos inside c true raised) reads in
-      (wrote.0, subst (Related c) (raised_first asks pairs pair.0 pair.1) wrote.1)
+      (wrote.0, subst (Represents c) (raised_first asks pairs pair.0 pair.1) wrote.1)

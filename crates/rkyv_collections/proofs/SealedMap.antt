@@ -17,7 +17,7 @@ use Rattle.rkyv_table.proofs.SealedTable.{value_kept}
 use Rattle.rkyv_base.specs.declared.entry.Entry.{Entry}
 use Rattle.rkyv_collections.specs.Map.{AnswersKeys, AreUnderHashAt, FindsBy, FindsFirstBy}
 use Rattle.rkyv_collections.specs.Map.{FindsFirstKey, FindsFirstKeyAt, FindsKey, FindsKeyAt}
-use Rattle.rkyv_collections.specs.Map.{IsEntryAt, IsEntryIn, IsKeyIn, IsValueIn, map_bytes, map_pos}
+use Rattle.rkyv_collections.specs.Map.{IsEntryIn, IsKeyIn, IsValueIn, IsViewAt, map_bytes, map_pos}
 use Rattle.rkyv_collections.specs.Map.Lookups.{IsAcceptedKey}
 use Rattle.rkyv_collections.specs.Map.MapAt.{MapAt, TellsKeyAt, map_at}
 use Rattle.rkyv_collections.specs.Map.MapSpec.{IsKeyPosAt, map_spec}
@@ -58,7 +58,7 @@ module _ (w : Width) (k v : ElementSpec) (kl : IsElement k) (vl : IsElement v) (
   value_inside (Some q) h = subst (λ n. n + v.size ≤ length b) (sym h.2) (pair_place h.0 h.1).value.inside
 
 -- a property of a found value, by its position
-found_told : {E : Type 0} (P : View E → Type 0) (Q : ℕ → Type 0) → ((x : View E) → P x → Q (pos_of x)) → (result : Option (View E)) (pos : Option ℕ) → IsEntryAt result pos → IfSome result P → IfSome pos Q
+found_told : {E : Type 0} (P : View E → Type 0) (Q : ℕ → Type 0) → ((x : View E) → P x → Q (pos_of x)) → (result : Option (View E)) (pos : Option ℕ) → IsViewAt result pos → IfSome result P → IfSome pos Q
 found_told P Q says None pos at h = subst (λ (o : Option ℕ). IfSome o Q) at tt
 found_told P Q says (Some x) pos at h = subst (λ (o : Option ℕ). IfSome o Q) at (says x h)
 
@@ -84,11 +84,11 @@ module _ {K V H W : Type 0} {ks : Specs K} {vs : Specs V} {wt : Words W} (m : Ar
     accepted_read post (Some q) accepted = (accepted.0, key_at accepted.0 accepted.1, accepted.2, accepted.3)
 
     -- a found entry has its key in the map, and a found value is behind a key
-    pub entry_read : (result : Option (View (Entry K V))) (pos : Option ℕ) → IsEntryAt result pos → IfSome result (IsEntryIn m) → IfSome pos (IsKeyPosAt wt.word ks.spec vs.spec b p)
+    pub entry_read : (result : Option (View (Entry K V))) (pos : Option ℕ) → IsViewAt result pos → IfSome result (IsEntryIn m) → IfSome pos (IsKeyPosAt wt.word ks.spec vs.spec b p)
     entry_read result pos at found =
         found_told (IsEntryIn m) (IsKeyPosAt wt.word ks.spec vs.spec b p) (λ x is. as_read (λ c q. IsKeyPosAt wt.word ks.spec vs.spec c q (pos_of x)) is.2) result pos at found
 
-    pub value_read : (result : Option (View V)) (pos : Option ℕ) → IsEntryAt result pos → IfSome result (IsValueIn m)
+    pub value_read : (result : Option (View V)) (pos : Option ℕ) → IsViewAt result pos → IfSome result (IsValueIn m)
         → IfSome pos (λ q. (key : ℕ) × IsKeyPosAt wt.word ks.spec vs.spec b p key × (q ≡ value_pos ks.spec vs.spec key))
     value_read result pos at found =
         found_told (IsValueIn m) (λ q. (key : ℕ) × IsKeyPosAt wt.word ks.spec vs.spec b p key × (q ≡ value_pos ks.spec vs.spec key))

@@ -4,7 +4,7 @@ use Rattle.std.specs.Prelude.{IfSome, IsSome, MatchOption}
 use Rattle.std.specs.Int.{Width}
 use Rattle.std.proofs.lemmas.Bool.{cases_lt, true≢false}
 use Rattle.rkyv_base.specs.Entry.{entry_spec, whole_size}
-use Rattle.rkyv_base.specs.Lemmas.Entry.{entry_element, parts_inside, size_of_small}
+use Rattle.rkyv_base.specs.Lemmas.Entry.{entry_element, key_and_value_inside, size_of_small}
 use Rattle.rkyv_base.specs.Sealing.{Keeps, Sealed, value_pos}
 use Rattle.rkyv_base.specs.ElementSpec.{IsElement, ElementSpec, Viewable}
 use Rattle.rkyv_base.specs.Seal.{bytes_in, seal_pos}
@@ -13,7 +13,7 @@ use Rattle.rkyv_base.specs.declared.entry.Entry.{Entry}
 use Rattle.rkyv_base.specs.declared.seal.Seal.{Seal}
 use Rattle.rkyv_base.specs.declared.view.View.{View}
 use Rattle.rkyv_base.proofs.Sealing.{entry_kept, sealed_wider}
-use Rattle.rkyv_table.specs.Table.SealedItems.{StaysThere, TakesPosition, buckets_left, cursor_bytes}
+use Rattle.rkyv_table.specs.Table.SealedItems.{StaysThere, TakesPosition, cursor_buckets_left, cursor_bytes}
 use Rattle.rkyv_table.specs.Table.Positions.{table_controls}
 use Rattle.rkyv_table.specs.Table.SealedTable.{SameValue}
 use Rattle.rkyv_table.specs.Controls.Walking.{full_from}
@@ -40,7 +40,7 @@ none_full controls cap none_at (suc n) from h = elim (cases_lt from cap) [
 
 module _ {K V : Type 0} (k v : ElementSpec) (kl : IsElement k) (vl : IsElement v) where
   -- a map of entries that are too large has no entries
-  pub none_large : (w : Width) (p : ℕ) (r : RawIterSeal (Entry K V)) → 1073741824 < whole_size k v → IsPairIter k v w p r → buckets_left w p r ≡ []
+  pub none_large : (w : Width) (p : ℕ) (r : RawIterSeal (Entry K V)) → 1073741824 < whole_size k v → IsPairIter k v w p r → cursor_buckets_left w p r ≡ []
   none_large w p r large is =
       let b = r.archive.now in
       none_full (table_controls w b p) r.cap
@@ -68,12 +68,12 @@ module _ {K V : Type 0} (k v : ElementSpec) (kl : IsElement k) (vl : IsElement v
       → IfSome result (λ (pair : View K × Seal V). (pos_of pair.0 ≡ q) × (bytes_of pair.0 ≡ take (value_pos k v q) archive))
       → IfSome result (λ (pair : View K × Seal V). (seal_pos pair.1 ≡ 0) × (bytes_in pair.1 ≡ drop (value_pos k v q) archive))
       → (Viewable k archive q → IsSome result)
-      → MatchOption result (buckets_left w p before ≡ [])
-      (λ (pair : View K × Seal V). (i : ℕ) × (rest : List ℕ) × (buckets_left w p before ≡ i ∷ rest) × LendsPair k v (cursor_bytes before) (IsPairPos w k v (cursor_bytes before) p i) pair)
+      → MatchOption result (cursor_buckets_left w p before ≡ [])
+      (λ (pair : View K × Seal V). (i : ℕ) × (rest : List ℕ) × (cursor_buckets_left w p before ≡ i ∷ rest) × LendsPair k v (cursor_bytes before) (IsPairPos w k v (cursor_bytes before) p i) pair)
   lends_first w p q before after archive same t None view key value found = absurd (true≢false (sym (found (subst (λ b. Viewable k b q) (sym same) t.pair.key))))
   lends_first w p q before after archive same t (Some pair) view key value found = (
     t.bucket,
-    buckets_left w p after,
+    cursor_buckets_left w p after,
     t.first,
     pair_lent k v before.archive.now (IsPairPos w k v before.archive.now p t.bucket) q pair t.pair key.0 view (key.1 ∙ ap (take (value_pos k v q)) same) (value.1 ∙ ap (drop (value_pos k v q)) same) value.0,
   )
@@ -88,7 +88,7 @@ module _ {K V : Type 0} (k v : ElementSpec) (kl : IsElement k) (vl : IsElement v
       let law = entry_element k v kl vl in
       let item = item_viewable w s law b p is.table i at.walked in
       let small = size_of_small (whole_size k v) item.valid.1.0 in
-      let inside = parts_inside k v in
+      let inside = key_and_value_inside k v in
       let kept = at.kept c (subst (λ n. Sealed b (value_pos k v n) v.size c) at.place sealed) (subst (λ n. Keeps v b c (value_pos k v n)) at.place keeps) in
       let cursor = cursor_kept w s p i q before after is
       (record { walked = at.walked; place = at.place; viewable = subst (λ n. Viewable s b n) (sym at.place) item; kept = λ d x y. table_kept w s law b p i is.table at.walked d x y })

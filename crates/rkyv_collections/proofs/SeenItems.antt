@@ -11,7 +11,7 @@ use Rattle.rkyv_base.specs.Format.{Format, SerializeFails, Serialized}
 use Rattle.rkyv_base.specs.Pairs.{written_as}
 use Rattle.rkyv_base.specs.ElementSpec.{ElementSpec}
 use Rattle.rkyv_base.specs.Writing.{Output, Step, end_of}
-use Rattle.rkyv_base.proofs.WritingSteps.{told_as}
+use Rattle.rkyv_base.proofs.WritingSteps.{fails_under}
 use Rattle.rkyv_table.specs.Controls.Laws.{AreHashes}
 use Rattle.rkyv_table.specs.Controls.Numbers.{capacity}
 use Rattle.rkyv_table.specs.Controls.Placing.{Written}
@@ -133,7 +133,7 @@ module _ {X Y R : Type 0} (seen : X → Y) (f : Format Y R) where
       resolvers = h.resolvers;
       buckets = h.buckets;
       made = seen_parts slots p h.part h.resolvers h.made;
-      shown = seen_images s.size slots h.resolvers z h.buckets h.shown;
+      images = seen_images s.size slots h.resolvers z h.buckets h.images;
       at = h.at ∙ ap (λ n. round_up (p + length h.part) s.align + n * s.size) (sym (length-map slots (option_map seen)));
       is = h.is;
     }
@@ -174,5 +174,5 @@ module _ {X Y R : Type 0} (seen : X → Y) (f : Format Y R) where
     pub seen_fails : {F : Type 0} (e : WriteError F) → SerializeFails limit (table_format w s (written_as seen f) factor) pairs o o' e
         → SerializeFails limit (table_format w s f factor) (seen_pairs seen pairs) o o' e
     seen_fails e h =
-        told_as limit (PairsNext w s f factor (seen_pairs seen pairs) (end_of o)) (PairsNext w s (written_as seen f) factor pairs (end_of o)) o o' e
+        fails_under limit (PairsNext w s f factor (seen_pairs seen pairs) (end_of o)) (PairsNext w s (written_as seen f) factor pairs (end_of o)) o o' e
         (λ front step n. seen_pairs_next w s factor pairs (end_of o) front step n) h

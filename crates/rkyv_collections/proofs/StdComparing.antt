@@ -1,5 +1,5 @@
 -- Lookups whose result is compared with a value.
-use Rattle.std.proofs.Common.{◌≡◌, ℕ, ◌↔◌, ◌∙◌, arith, refl, sym, subst, Bool, false, true, List, [], ◌∷◌, Option, Some, None}
+use Rattle.std.proofs.Common.{◌≡◌, ℕ, ◌↔◌, ◌∙◌, sym, subst, Bool, false, List, ◌∷◌, Option, Some, None}
 use Rattle.std.specs.Prelude.{IsSomeAnd, IsTrue}
 use Rattle.std.specs.List.{All}
 use Rattle.std.specs.Option.{option_map}
@@ -7,15 +7,10 @@ use Rattle.std.proofs.lemmas.Bool.{true≢false}
 use Rattle.std.proofs.lemmas.List.Elements.{All-cons, All-head, All-tail}
 use Rattle.std.proofs.lemmas.Option.{none-some, same_Some}
 
--- a property of the found position after a step is one of the step from that position
+-- `x`: `f` of the found position. `P x` if and only if a position `q` is found with `P (f q)`
 pub of_found : (f : ℕ → ℕ) (P : ℕ → Type 0) (o : Option ℕ) (x : ℕ) → Some x ≡ option_map f o → P x ↔ IsSomeAnd o (λ q. P (f q))
 of_found f P None x e = absurd (none-some x (sym e))
 of_found f P (Some q) x e = (λ h. subst P (same_Some x (f q) e) h, λ h. subst P (sym (same_Some x (f q) e)) h)
-
--- no position is found
-pub none_found : (f : ℕ → ℕ) (P : ℕ → Type 0) (o : Option ℕ) → None ≡ option_map f o → IsSomeAnd o P → ⊥
-none_found f P None e h = h
-none_found f P (Some q) e h = none-some (f q) e
 
 module _ {X : Type 0} (P : X → Type 0) (whole : List X) where
   -- the remaining items decide for all
@@ -28,16 +23,9 @@ module _ {X : Type 0} (P : X → Type 0) (whole : List X) where
   decides_not : (x : X) (left : List X) → Decides (x ∷ left) → (P x → ⊥) → All P whole → ⊥
   decides_not x left d h all = h (All-head P x left (d.1 all))
 
-  -- The result of a comparison of all items. It is `false` if the numbers differ
-  -- or a remaining item fails, and `true` if no item remains.
+  -- the result of a comparison of all items is `false` if a remaining item fails
   module _ (n m : ℕ) where
-    pub other_count : (n ≡ m → ⊥) → IsTrue false ↔ ((n ≡ m) × All P whole)
-    other_count ne = (λ t. absurd (true≢false (sym t)), λ h. absurd (ne h.0))
-
     pub one_fails : (x : X) (left : List X) → Decides (x ∷ left) → (r : Bool) → IsTrue r ↔ P x → r ≡ false → IsTrue false ↔ ((n ≡ m) × All P whole)
     one_fails x left d r told no' =
         let apart : P x → ⊥ = λ f. true≢false (sym (told.1 f) ∙ no') in
         (λ t. absurd (true≢false (sym t)), λ h. absurd (decides_not x left d apart h.1))
-
-    pub all_found : (left : List X) → left ≡ [] → Decides left → n ≡ m → IsTrue true ↔ ((n ≡ m) × All P whole)
-    all_found left none d same = (λ t. (same, d.0 (subst (All P) (sym none) (λ k e h. absurd (omega (arith, h))))), λ h. refl)

@@ -29,14 +29,14 @@ use Rattle.rkyv_table.specs.Table.Listed.{listed}
 use Rattle.rkyv_table.specs.Table.TableFormat.{TableResolver}
 use Rattle.rkyv_base.specs.Pairs.{written_as}
 use Rattle.rkyv_base.specs.Lemmas.Pairs.{written_as-format}
-use Rattle.rkyv_collections.specs.Lemmas.EntriesFound.{decode_entries}
+use Rattle.rkyv_collections.specs.Lemmas.DistinctEntries.{of_entries-format}
 use Rattle.rkyv_table.specs.Table.ItemValues.{with_units}
 use Rattle.rkyv_collections.specs.StdMaps.StdEquality.{FindsPair}
 use Rattle.rkyv_collections.specs.StdMaps.StdLookups.{FindsAsked, FindsEntries, FindsMembers, IsValueBehind}
 use Rattle.rkyv_collections.specs.StdMaps.StdMap.{of_entries}
 use Rattle.rkyv_collections.proofs.FoundPairs.{first_listed}
-use Rattle.rkyv_collections.proofs.StdReading.{unit_lookup}
-use Rattle.rkyv_collections.proofs.WrittenPairs.{first_accepted, pair_represents}
+use Rattle.rkyv_collections.specs.Lemmas.StdSet.{unit_lookup}
+use Rattle.rkyv_collections.proofs.WrittenPairs.{first_accepted, pair_valid}
 
 -- the value of the first accepted pair
 first_looked_up : {A B : Type 0} (asks : A → Bool) (entries : List (A × B)) → option_map (λ pair. pair.1) (first_pair asks entries) ≡ lookup asks entries
@@ -69,8 +69,8 @@ module _ {A B : Type 0} (w : Width) (k v : ElementSpec) (hash : A → ℕ) (fits
   abbrev place : Option ℕ
   place = pos_found generic_kind w (entry_spec k v).size b p (hash key) (fits key b)
 
-  pub asked_value : (x : B) (r : Bool) → Some x ≡ lookup asks entries → IsTrue r ↔ FindsPair w k v hash fits equals b p (key, x) → IsTrue r ↔ FindsAsked w k hash fits v equals b p key asks entries
-  asked_value x r e h = as_value equals b (value_offset k v) place (lookup asks entries) x r e h
+  pub asked_some : (x : B) (r : Bool) → Some x ≡ lookup asks entries → IsTrue r ↔ FindsPair w k v hash fits equals b p (key, x) → IsTrue r ↔ FindsAsked w k hash fits v equals b p key asks entries
+  asked_some x r e h = as_value equals b (value_offset k v) place (lookup asks entries) x r e h
 
   pub asked_none : (found r : Bool) → None ≡ lookup asks entries → IsTrue found ↔ IsSome place → r ≡ not found → IsTrue r ↔ FindsAsked w k hash fits v equals b p key asks entries
   asked_none found r e h n = as_none equals b (value_offset k v) place (lookup asks entries) found r e h n
@@ -103,15 +103,15 @@ module _ {State : Type 0} (hasher : Hasher State) (small : NumbersFit hasher) (w
   entries_found : (b : List ℕ) (p : ℕ) → Viewable (map_spec w k v) b p → (entries : List (A × B))
       → MapRepresents w k v key value (hash_at hasher key_calls) factor b p entries
       → FindsEntries w k (hash_of hasher calls) fits key can_read v value b p entries
-  entries_found b p view entries st q asks ready same_calls =
+  entries_found b p view entries st q asks ready asks_for =
       let hash = hash_at hasher key_calls in
       let accept = fits q b in
       let positions = home_positions w (entry_spec k v).size b p st.homes in
       let found = first_accepted w k v kl vl hash b p st.homes view st.written (hash_of hasher calls q) accept (small (calls q))
       (λ i h accepted.
       ap (hash_of_calls hasher)
-      (sym (query.same_calls q b (pair_at w k v b p st.homes i) ready (valid_key kl vl b (pair_at w k v b p st.homes i) (pair_represents w k v kl vl hash b p st.homes view st.written i h)) accepted))) in
-      let listed = first_listed w k v kl vl key value hash factor b p entries view accept asks same_calls st in
+      (sym (query.same_calls q b (pair_at w k v b p st.homes i) ready (valid_key kl vl b (pair_at w k v b p st.homes i) (pair_valid w k v kl vl hash b p st.homes view st.written i h)) accepted))) in
+      let listed = first_listed w k v kl vl key value hash factor b p entries view accept asks asks_for st in
       let behind = value_behind k v key value b (find accept positions) (first_pair asks entries) listed in
       subst (λ (place : Option ℕ). IsValueBehind value b (value_offset k v) place (lookup asks entries)) (sym found)
       (subst (λ (o : Option B). IsValueBehind value b (value_offset k v) (find accept positions) o) (first_looked_up asks entries) behind)
@@ -121,7 +121,7 @@ module _ {State : Type 0} (hasher : Hasher State) (small : NumbersFit hasher) (w
       → IsFormat (map_spec w k v) (MapRepresents w k v key value (hash_at hasher key_calls) factor) f
       → IsFormat (map_spec w k v) (FindsEntries w k (hash_of hasher calls) fits key can_read v value) (of_entries equal f)
   looked_up kind equal f base =
-      decode_entries w kind kl vl factor equal (FindsEntries w k (hash_of hasher calls) fits key can_read v value) (λ b p view es st apart. entries_found b p view es st) f base
+      of_entries-format w kind kl vl factor equal (FindsEntries w k (hash_of hasher calls) fits key can_read v value) (λ b p view es st apart. entries_found b p view es st) f base
 
 -- in any archive with the written bytes of a value that is written as a list of entries
 -- with distinct keys
@@ -151,9 +151,9 @@ members_looked_up w k s key can_read hash fits seen f law = record {
       let d = law.sound x r c p0 p part out h i t o q al in (
         d.0,
         d.1,
-        λ query asks ready same_calls.
+        λ query asks ready asks_for.
             let place = pos_found generic_kind w (entry_spec k unit_spec).size c p (hash query) (fits query c) in
-            both_or_none unit_represents c (value_offset k unit_spec) place (lookup asks (with_units (seen x))) (d.2 query asks ready same_calls)
+            both_or_none unit_represents c (value_offset k unit_spec) place (lookup asks (with_units (seen x))) (d.2 query asks ready asks_for)
             ∙ ap is_some (unit_lookup asks (seen x)) ∙ some_either {X = Unit {0}} tt (list_any asks (seen x)),
       );
 }

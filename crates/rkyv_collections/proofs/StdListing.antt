@@ -17,7 +17,7 @@ use Rattle.rkyv_collections.specs.Map.ListArchives.{map_root}
 use Rattle.rkyv_collections.specs.Map.MapFormat.{MapRepresents, hash_of, map_format}
 use Rattle.rkyv_collections.specs.Map.MapSpec.{map_element, map_spec}
 use Rattle.rkyv_collections.specs.StdMaps.StdMap.{of_entries}
-use Rattle.rkyv_collections.proofs.Headline.{root_keeps}
+use Rattle.rkyv_collections.proofs.WrittenRoots.{root_keeps}
 
 -- a relation that the format of a list keeps is kept for entries with distinct keys
 distinct_keep : {A B R : Type 0} (s : ElementSpec) (keeps : List ℕ → ℕ → List (A × B) → Type 0) (equal : A → A → Bool) (f : Format (List (A × B)) R) → IsFormat s keeps f → IsFormat s keeps (of_entries equal f)

@@ -1,11 +1,10 @@
 -- Deserializing a map of std, pair by pair.
-use Rattle.std.proofs.Common.{◌≡◌, ℕ, refl, ap, ◌∙◌, Bool, true, false, cond, inl, inr, subst, sym, List, [], ◌∷◌, ◌++◌, append_assoc, append-nil, Option, Some, None}
+use Rattle.std.proofs.Common.{◌≡◌, ℕ, refl, ap, ◌∙◌, Bool, true, false, cond, subst, sym, List, [], ◌∷◌, ◌++◌, append_assoc, append-nil, Option, Some, None}
 use Rattle.std.specs.Borrow.{Bor}
 use Rattle.std.specs.Int.{Width}
 use Rattle.std.specs.HashSet.{HashSet, Updates}
 use Rattle.std.specs.List.{All, find, list_any}
 use Rattle.std.specs.Option.{option_or}
-use Rattle.std.proofs.lemmas.Bool.{cases_Bool}
 use Rattle.std.specs.Map.{keys_of, lookup, update_all}
 use Rattle.std.proofs.lemmas.List.Folds.{find-append}
 use Rattle.std.proofs.lemmas.List.Elements.{All-head, All-map, All-tail, All-weaker}
@@ -21,6 +20,7 @@ use Rattle.rkyv_table.specs.Table.RawItems.{ItemsLeft}
 use Rattle.rkyv_table.proofs.RawWalks.{walked_all}
 use Rattle.rkyv_collections.specs.Map.MapSpec.{IsKeyPosAt}
 use Rattle.rkyv_table.specs.Table.ItemValues.{with_units}
+use Rattle.rkyv_collections.specs.Lemmas.StdSet.{unit_lookup}
 use Rattle.rkyv_collections.specs.StdMaps.StdMap.{AddsKey, ArePairsAt}
 
 -- each position of the walk is that of a key of the map
@@ -100,14 +100,6 @@ module _ {A B : Type 0} (w : Width) (k v : ElementSpec) (key : List ℕ → ℕ 
       → ReadsAll k v key value equal archive.now all_positions found stored
   walks_last left found stored on none =
       leads_last k v key value equal archive.now all_positions found stored (subst (λ (xs : List ℕ). LeadsOn k v key value equal archive.now all_positions xs found stored) none on.2)
-
--- a lookup among keys, each with the unit value
-pub unit_lookup : {A : Type 0} (test : A → Bool) (keys : List A) → lookup test (with_units keys) ≡ cond (list_any test keys) (Some tt) None
-unit_lookup test [] = refl
-unit_lookup test (x ∷ xs) = elim (cases_Bool (test x)) [
-  | inl here ↦ rw here refl
-  | inr other ↦ rw other (unit_lookup test xs)
-]
 
 either_way : {X : Type 0} (x : X) (s t : Bool) → cond (cond s true t) (Some x) None ≡ cond s (Some x) (cond t (Some x) None)
 either_way x true t = refl

@@ -15,8 +15,7 @@ use Rattle.rkyv_base.specs.Lemmas.Pairs.{pair_local}
 use Rattle.rkyv_base.specs.Sealing.{Keeps, Sealed, value_pos}
 use Rattle.rkyv_base.specs.ElementSpec.{IsElement, ElementSpec, Viewable}
 use Rattle.rkyv_base.proofs.Sealing.{viewable_kept}
-use Rattle.rkyv_keys.specs.Asking.{RestsOnKeys}
-use Rattle.rkyv_keys.specs.OfValues.{IsValueAt, value_fits}
+use Rattle.rkyv_keys.specs.QueryLaws.{RestsOnKeys}
 use Rattle.rkyv_table.specs.Table.Header.{cap_at, len_at}
 use Rattle.rkyv_table.specs.Table.Positions.{IsWalked, bucket_found, home_positions, item_at}
 use Rattle.rkyv_table.specs.Table.Positions.{pos_found, table_controls}
@@ -117,7 +116,7 @@ module _ (k v : ElementSpec) (kl : IsElement k) (vl : IsElement v) where
 
 -- a comparison that depends only on the keys depends only on each key
 pub rests_on_each : {Q : Type 0} (k : ElementSpec) (can_read : Q → Type 0) (fits : Q → List ℕ → ℕ → Bool) → RestsOnKeys k can_read fits → (q : Q) → can_read q → RestsOnKey k (fits q)
-rests_on_each k can_read fits rests q ready b c p represents same = rests q b c p represents.0 ready represents.1 same.fixed (same.parts represents.0 represents.1)
+rests_on_each k can_read fits rests q ready b c p valid same = rests q b c p valid.0 ready valid.1 same.fixed (same.parts valid.0 valid.1)
 
 -- the same for a key at `q` and its value at `pos`
 pub map_kept_at : (k v : ElementSpec) (kl : IsElement k) (vl : IsElement v) (w : Width) (key_hash : List ℕ → ℕ → ℕ) → HashLocal k key_hash → (b c : List ℕ) (p q pos : ℕ) → Viewable (map_spec w k v) b p
@@ -156,9 +155,3 @@ module _ (k v : ElementSpec) (kl : IsElement k) (vl : IsElement v) (w : Width) (
       let entry = entry_there j full in
       let kept_entry = kept.table.others j full ne in
       pair_local k v kl vl key value kn vn x b c (at j) 0 (at j) entry.valid.0 (omega arith) entry.valid.1 kept_entry.fixed (kept_entry.parts entry.valid.0 entry.valid.1) before)
-
--- the comparison of a valid value with another depends only on the bytes on which its validity
--- depends
-pub value_rests : {V Q : Type 0} (k : ElementSpec) (at : List ℕ → ℕ → V) → RepresentsLocally k (IsValueAt at (λ v. v)) → (equal : V → V → Bool) (seen : Q → V) (asked : Q) → RestsOnKey k (value_fits at equal seen asked)
-value_rests k at local equal seen asked b c q represents same =
-    ap (equal (seen asked)) (local (at b q) b c q 0 q represents.0 (omega arith) represents.1 same.fixed (same.parts represents.0 represents.1) refl)

@@ -85,14 +85,14 @@ module _ {X : Type 0} (R : ℕ → X → Type 0) where
   -- the items at some positions are at the same positions in another order
   pub given_along : (positions others : List ℕ) (xs : List X) → IsPermutation positions others → AllZip R positions xs → GivesEach R others xs
   given_along positions others xs moved h =
-      IsPermutation-keeps positions (λ qs. GivesEach R qs xs) (record { given = xs; each = IsPermutation-refl xs; all_valid = h })
+      IsPermutation-keeps positions (λ qs. GivesEach R qs xs) (record { given = xs; each = IsPermutation-refl xs; related = h })
       (λ qs i j hi hj so_far.
       let ys = so_far.given in
-      let long = zip_length qs ys so_far.all_valid in
+      let long = zip_length qs ys so_far.related in
       record {
         given = swap ys i j;
         each = IsPermutation-trans xs ys (swap ys i j) so_far.each (IsPermutation-swap ys (swap ys i j) i j (omega (arith, hi, long)) (omega (arith, hj, long)) refl);
-        all_valid = zip_swap qs ys i j hi hj so_far.all_valid;
+        related = zip_swap qs ys i j hi hj so_far.related;
       })
       others moved
 
@@ -100,7 +100,7 @@ module _ {X : Type 0} (R : ℕ → X → Type 0) where
 -- in some order.
 pub given_seen : {X Y : Type 0} (R : ℕ → X → Type 0) (read : ℕ → Y) (told : X → Y) → ((q : ℕ) (x : X) → R q x → read q ≡ told x)
     → (positions : List ℕ) (items : List X) → GivesEach R positions items → IsPermutation (map told items) (map read positions)
-given_seen {X} R read told same positions items gives = subst (IsPermutation (map told items)) (sym (zip_seen positions gives.given gives.all_valid)) (IsPermutation-map told items gives.given gives.each)
+given_seen {X} R read told same positions items gives = subst (IsPermutation (map told items)) (sym (zip_seen positions gives.given gives.related)) (IsPermutation-map told items gives.given gives.each)
   where
     zip_seen : (qs : List ℕ) (xs : List X) → AllZip R qs xs → map read qs ≡ map told xs
     zip_seen [] [] h = refl
@@ -122,15 +122,15 @@ module _ {A B : Type 0} (w : Width) (k v : ElementSpec) (key : List ℕ → ℕ 
     unfolding hashes positions
     written = represents.written
 
-    pair_count : length represents.homes ≡ length pairs
-    pair_count = home_count w b p hashes represents.homes written ∙ sym written.count ∙ represents.len
+    homes_count : length represents.homes ≡ length pairs
+    homes_count = home_count w b p hashes represents.homes written ∙ sym written.count ∙ represents.len
 
     walk_visits : VisitsHomes (cap_at w b p) represents.homes (table_controls w b p)
     walk_visits =
         let controls = table_controls w b p in
         elim written.placed [
           | inl none ↦
-              let n : length pairs ≡ 0 = sym pair_count ∙ ap length none.1 in
+              let n : length pairs ≡ 0 = sym homes_count ∙ ap length none.1 in
               let cap : cap_at w b p ≡ 0 = represents.cap ∙ rw n refl in
               subst (λ n. VisitsHomes n represents.homes controls) (sym cap) (subst (λ (xs : List ℕ). VisitsHomes 0 xs controls) (sym none.1) (none_visits controls))
           | inr some ↦ walked_homes (cap_at w b p) hashes represents.homes controls some.0 written.fit some.1
@@ -151,12 +151,12 @@ module _ {A B : Type 0} (w : Width) (k v : ElementSpec) (key : List ℕ → ℕ 
         → GivesEach R (key_positions_at w k v b p) xs
     unfolding positions
     given_walked R xs long each =
-        let count : length positions ≡ length xs = length-map represents.homes (item_at w (entry_spec k v).size b p) ∙ pair_count ∙ sym long in
+        let count : length positions ≡ length xs = length-map represents.homes (item_at w (entry_spec k v).size b p) ∙ homes_count ∙ sym long in
         given_along R positions (key_positions_at w k v b p) xs walk_moved (zip_from R positions xs count each)
 
     pair_at_home : (n : ℕ) (pair : A × B) → slice_get pairs n ≡ Some pair → PairRepresents k v key value b (item_at w (entry_spec k v).size b p (slice_index represents.homes n)) pair
     pair_at_home n pair at =
-        let below : n < length represents.homes = omega (arith, slice_get_within pairs n pair at, pair_count) in
+        let below : n < length represents.homes = omega (arith, slice_get_within pairs n pair at, homes_count) in
         subst (λ q. PairRepresents k v key value b q pair) (home_pos w (entry_spec k v).size b p represents.homes n below) (represents.at n pair at)
 
   pub walks_visit_pairs : WalksVisitPairs w k v key value key_hash

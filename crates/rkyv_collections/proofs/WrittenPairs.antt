@@ -56,13 +56,13 @@ module _ (w : Width) (k v : ElementSpec) (kl : IsElement k) (vl : IsElement v) (
   unfolding hashes positions
   pair_walked i h = home_walked w b p hashes homes written i h
 
-  pub pair_represents : (i : ℕ) → i < length homes → ValidAt (entry_spec k v) b (pair_at w k v b p homes i)
-  pair_represents i h = (item_viewable w (entry_spec k v) (entry_element k v kl vl) b p view (slice_index homes i) (pair_walked i h)).valid
+  pub pair_valid : (i : ℕ) → i < length homes → ValidAt (entry_spec k v) b (pair_at w k v b p homes i)
+  pair_valid i h = (item_viewable w (entry_spec k v) (entry_element k v kl vl) b p view (slice_index homes i) (pair_walked i h)).valid
 
   -- the length in the header is the number of pairs
-  pub pair_count : len_at w b p ≡ length homes
+  pub len_is_count : len_at w b p ≡ length homes
   unfolding hashes positions
-  pair_count = written.count ∙ hash_count
+  len_is_count = written.count ∙ hash_count
 
   -- a full bucket is the home bucket of a pair
   walked_pair : (bucket : ℕ) → Contains (walk (table_controls w b p) (cap_at w b p)) bucket → Contains homes bucket
@@ -71,14 +71,14 @@ module _ (w : Width) (k v : ElementSpec) (kl : IsElement k) (vl : IsElement v) (
     | inl none ↦
         let count = walk_count w (entry_spec k v) (entry_element k v kl vl) b p view in
         let z : length homes ≡ 0 = ap length none.1 in
-        absurd (omega (arith, at.1, count, pair_count, z))
+        absurd (omega (arith, at.1, count, len_is_count, z))
     | inr placed ↦ ((walked_homes (cap_at w b p) hashes homes (table_controls w b p) placed.0 written.fit placed.1).members bucket).0 at
   ]
 
   -- a property of each walked pair is one of each inserted pair, and the other way round
-  pub all_handed : (matches : ℕ → Bool) → list_all matches (item_positions w (entry_spec k v).size b p) ≡ true
+  pub all_inserted : (matches : ℕ → Bool) → list_all matches (item_positions w (entry_spec k v).size b p) ≡ true
       → (i : ℕ) → i < length homes → matches (pair_at w k v b p homes i) ≡ true
-  all_handed matches every i h =
+  all_inserted matches every i h =
       let at : ℕ → ℕ = item_at w (entry_spec k v).size b p in
       let ws = walk (table_controls w b p) (cap_at w b p) in
       let each = AllPass-from_list_all (λ bucket. matches (at bucket)) ws (sym (list_all-map matches at ws) ∙ every) in

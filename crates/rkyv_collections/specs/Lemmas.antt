@@ -2,9 +2,9 @@
 pub mod MapLaws
 pub mod MapSound
 pub mod SetSound
-pub mod EntriesFound
+pub mod DistinctEntries
 pub mod StdMapLaws
 pub mod StdEqualLaws
-pub mod StdAlone
+pub mod StdOnce
 pub mod StdSet
 pub mod StoredKeys

@@ -170,9 +170,9 @@ module _ {K V H W : Type 0} {ks : Specs K} {vs : Specs V} {wt : Words W}
       (accept : ℕ → Bool) → AnswersKeys post accept → AreUnderHash hash key_hash accept
       → FindsFirstKey key_hash accept P
 
--- the position is that of the found entry or key, or there is neither
-abbrev pub IsEntryAt : {E : Type 0} → Option (View E) → Option ℕ → Type 0
-IsEntryAt result place = pos_of_found result ≡ place
+-- the position is that of the found view, or there is neither
+abbrev pub IsViewAt : {E : Type 0} → Option (View E) → Option ℕ → Type 0
+IsViewAt result place = pos_of_found result ≡ place
 
 -- the position of the key of a found pair
 abbrev pub key_pos_found : {K V : Type 0} → Option (View K × View V) → Option ℕ

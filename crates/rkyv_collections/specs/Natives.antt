@@ -1,4 +1,4 @@
--- Native keys and values: how they are written, what represents them, how they are looked up.
+-- The formats of native keys and pairs, and the hashes of queries.
 use Rattle.std.specs.Prelude.{ℕ, Bool, List}
 use Rattle.rkyv_scan.specs.Hash.{Hasher, HasherCall, hash_of_calls}
 use Rattle.rkyv_base.specs.Format.{Format}
@@ -12,9 +12,9 @@ pub record KeyFormat (A R : Type 0) : Type 1 where
   pub hash : A → ℕ
 
 -- the format of keys with the hasher calls `calls`
-abbrev pub key_format : {State A R : Type 0} → ElementSpec → Format A R → Hasher State
+abbrev pub native_key_format : {State A R : Type 0} → ElementSpec → Format A R → Hasher State
     → (A → List HasherCall) → KeyFormat A R
-key_format spec format hasher calls = record {
+native_key_format spec format hasher calls = record {
   spec = spec;
   format = format;
   hash = λ key. hash_of_calls hasher (calls key);
@@ -30,10 +30,10 @@ pub record PairFormat (A B R Q : Type 0) : Type 1 where
   pub hash : A → ℕ
 
 -- the format of pairs of keys with the hasher calls `calls`
-abbrev pub pair_format : {State A B R Q : Type 0} → ElementSpec → ElementSpec → Format A R
+abbrev pub native_format : {State A B R Q : Type 0} → ElementSpec → ElementSpec → Format A R
     → Format B Q
     → Hasher State → (A → List HasherCall) → PairFormat A B R Q
-pair_format key_spec value_spec key value hasher calls = record {
+native_format key_spec value_spec key value hasher calls = record {
   key_spec = key_spec;
   value_spec = value_spec;
   key = key;

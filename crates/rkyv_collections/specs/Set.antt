@@ -15,7 +15,7 @@ use Rattle.rkyv_keys.specs.Equality.{Comparison}
 use Rattle.rkyv_keys.specs.OfUnits.{unit_same}
 use Rattle.rkyv_collections.specs.Map.Equality.{map_equal}
 use Rattle.rkyv_collections.specs.Map.Lookups.{GetsKey, TellsKey, key_part}
-use Rattle.rkyv_collections.specs.Map.{IsKeyIn, IsMap, key_positions, map_archive, map_bytes}
+use Rattle.rkyv_collections.specs.Map.{key_positions, map_archive, map_bytes}
 use Rattle.rkyv_collections.specs.Map.{map_len, map_pos}
 use Rattle.rkyv_collections.specs.Map.MapSpec.{map_spec}
 use Rattle.rkyv_collections.specs.Map.{map_view}
@@ -28,10 +28,6 @@ abbrev pub set_spec : Width → ElementSpec → ElementSpec
 set_spec w k = map_spec w k unit_spec
 
 module _ {K H W : Type 0} {ks : Specs K} {wt : Words W} where
-  -- the view of `s` is of a valid set
-  abbrev pub IsSet : ArchivedHashSet K H W ks wt → Type 0
-  IsSet s = IsMap s.map
-
   -- the view of the set's header, as that of the map of the keys
   abbrev pub set_view : ArchivedHashSet K H W ks wt → View (HashMapOf K (Unit {0}) H W)
   set_view s = map_view s.map
@@ -59,10 +55,6 @@ module _ {K H W : Type 0} {ks : Specs K} {wt : Words W} where
   -- the positions of the keys, in bucket order
   abbrev pub member_positions : ArchivedHashSet K H W ks wt → List ℕ
   member_positions s = key_positions s.map
-
-  -- the view is that of a key of the set
-  abbrev pub IsMemberIn : ArchivedHashSet K H W ks wt → View K → Type 0
-  IsMemberIn s key = IsKeyIn s.map key
 
   -- the property applies to the position that a lookup finds, as in the map of the keys
   abbrev pub TellsMember : ArchivedHashSet K H W ks wt → Asked → (Option ℕ → Type 0) → Type 0

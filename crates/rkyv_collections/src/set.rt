@@ -1,7 +1,7 @@
 //! Hash sets.
 //!
 //! A set is the map of its keys to the unit value. `write` writes sets from iterators,
-//! and `laws` has laws of their bytes and of a walk.
+//! and `laws` has laws of their bytes, their layout, lookups and walks.
 
 mod accessors;
 mod debug;

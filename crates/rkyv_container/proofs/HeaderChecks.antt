@@ -158,10 +158,10 @@ joined : (a b c d e f g a' b' c' d' e' f' g' : List ℕ) → a ≡ a' → b ≡ 
     ≡ a' ++ (b' ++ (c' ++ (d' ++ (e' ++ (f' ++ g')))))
 joined a b c d e f g a' b' c' d' e' f' g' p q r s t u v = cc
 
--- each byte of a part is a byte
-part_bytes : (b : List ℕ) → ((i : ℕ) → get_or b i 0 < 256) → (i : ℕ)
+-- each byte of the version is a byte
+version_bytes : (b : List ℕ) → ((i : ℕ) → get_or b i 0 < 256) → (i : ℕ)
     → get_or (slice_range b 8 10) i 0 < 256
-part_bytes b small i =
+version_bytes b small i =
     elim (cases_lt i 2) [
       | inl k ↦ rw (get_or-take 2 (drop 8 b) i 0 k, get_or-drop 8 b i 0) (small (8 + i))
       | inr k ↦ rw (get_or_past (slice_range b 8 10) i 0
@@ -179,7 +179,7 @@ header_from h b small start c s n nf r =
     let v : to_le_bytes w16 1 ≡ slice_range b 8 10 =
     le_bytes_2 (slice_range b 8 10) 1
     (length-take-le 2 (drop 8 b) (omega (arith, length-drop 8 b)))
-    (part_bytes b small)
+    (version_bytes b small)
     (sym start.1.1.0) in
     record {
       fits = record { len = nf; checksum = s.fits };

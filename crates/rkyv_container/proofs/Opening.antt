@@ -43,8 +43,6 @@ use Rattle.rkyv_container.specs.Container.{
 }
 use Rattle.rkyv_container.proofs.Checking.{
   pass_both,
-  fails_first,
-  fails_later,
   pass_excludes,
   first_unique,
 }
@@ -84,30 +82,6 @@ container_split h a b s =
 pub container_passes : (h : Header) (a b : List ℕ) → IsContainer h a b
     → AllPass (archive_checks h a)
 container_passes h a b s = (sym s.len, (s.checksum, tt))
-
--- the faults of an archive behind a header, from the bytes behind the header
-pub archive_fails : (h : Header) (a b : List ℕ) (e : ContainerError) → IsSplit h a b
-    → FirstFails (archive_checks h a) e → OpenFails b e
-archive_fails h a b e s f =
-    inr (h, (s.0, subst (λ (x : List ℕ). FirstFails (archive_checks h x) e) s.1 f))
-
-pub archive_fails_as : (x : Contents) (h : Header) (a b : List ℕ) (e : ContainerError)
-    → IsSplit h a b → AllPass (contents_checks x h.contents)
-    → FirstFails (archive_checks h a) e → OpenAsFails x b e
-archive_fails_as x h a b e s p f =
-    inr (
-      h,
-      (
-        s.0,
-        fails_later (contents_checks x h.contents) (archive_checks h (drop 32 b)) e p
-            (subst (λ (y : List ℕ). FirstFails (archive_checks h y) e) s.1 f),
-      ),
-    )
-
-pub contents_fail : (x : Contents) (h : Header) (a b : List ℕ) (e : ContainerError)
-    → IsSplit h a b → FirstFails (contents_checks x h.contents) e → OpenAsFails x b e
-contents_fail x h a b e s f =
-    inr (h, (s.0, fails_first (contents_checks x h.contents) (archive_checks h (drop 32 b)) e f))
 
 -- a container has one header and one archive
 pub container_unique : (b : List ℕ) (h k : Header) (a c : List ℕ) → IsContainer h a b

@@ -39,7 +39,7 @@ use Rattle.rkyv_container.specs.Checksum.{
 use Rattle.rkyv_container.proofs.HeaderBytes.{slice_join}
 
 -- `low` and `high`: the sums after the first `i` bytes of `b`, from `l` and `h` on
-pub record IsSumOf (l h : ℕ) (b : List ℕ) (i low high : ℕ) : Type 0 where
+pub record AreBlockSums (l h : ℕ) (b : List ℕ) (i low high : ℕ) : Type 0 where
   pub low_is : low ≡ l + sum (take i b)
   pub high_is : high ≡ h + i * l + weighted_sum (take i b)
   pub low_bound : low ≤ 65520 + 255 * i
@@ -84,17 +84,9 @@ weighted_sum_more b i k =
     let t = ap weighted_sum (take_more b i 0 k) in
     omega arith
 
-pub sums_begin : (l h : ℕ) (b : List ℕ) → l < 65521 → h < 65521 → IsSumOf l h b 0 l h
-sums_begin l h b p q = record {
-  low_is = omega arith;
-  high_is = omega arith;
-  low_bound = omega arith;
-  high_bound = omega arith;
-}
-
 pub sums_more : (l h : ℕ) (b : List ℕ) (i low high x : ℕ) → length b ≤ 4096 → i < length b
-    → x ≡ get_or b i 0 → x < 256 → IsSumOf l h b i low high
-    → IsSumOf l h b (i + 1) (low + x) (high + (low + x))
+    → x ≡ get_or b i 0 → x < 256 → AreBlockSums l h b i low high
+    → AreBlockSums l h b (i + 1) (low + x) (high + (low + x))
 sums_more l h b i low high x n k e small s =
     let f = sum_more b i k in
     let g = weighted_sum_more b i k in
@@ -110,20 +102,6 @@ sums_more l h b i low high x n k e small s =
       high_bound = omega arith;
     }
 
-pub sums_end_low : (l h : ℕ) (b : List ℕ) (i low high : ℕ) → length b ≤ i
-    → IsSumOf l h b i low high → low % 65521 ≡ (l + sum b) % 65521
-sums_end_low l h b i low high n s =
-    ap (λ (k : ℕ). k % 65521) s.low_is
-    ∙ ap (λ (c : List ℕ). (l + sum c) % 65521) (take_all i b n)
-
-pub sums_end_high : (l h : ℕ) (b : List ℕ) (i low high : ℕ) → length b ≡ i
-    → IsSumOf l h b i low high
-    → high % 65521 ≡ (h + length b * l + weighted_sum b) % 65521
-sums_end_high l h b i low high n s =
-    ap (λ (k : ℕ). k % 65521) s.high_is
-    ∙ ap (λ (c : List ℕ). (h + i * l + weighted_sum c) % 65521) (take_all i b (omega arith))
-    ∙ ap (λ (k : ℕ). (h + k * l + weighted_sum b) % 65521) (sym n)
-
 -- equal remainders stay equal after an addition
 add_mod : (x y z : ℕ) → x % 65521 ≡ y % 65521 → (x + z) % 65521 ≡ (y + z) % 65521
 add_mod x y z e = omega arith
@@ -137,10 +115,6 @@ take_part b i j k =
 
 reduced : (a x : ℕ) → a ≡ x % 65521 → a % 65521 ≡ x % 65521
 reduced a x e = omega arith
-
--- the sums before any byte
-pub no_sums : (b : List ℕ) → AreSumsOf b 0 1 0
-no_sums b = record { inside = omega arith; low_is = refl; high_is = refl }
 
 -- the sums after a block
 pub block_sums : (b : List ℕ) (i j low high low' high' : ℕ) → i ≤ j → j ≤ length b

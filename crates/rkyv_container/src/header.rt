@@ -12,7 +12,7 @@
 //!
 //! Numbers are little-endian. `Header::read` checks all fields but the length, in this order.
 
-ghost use Rattle.std.specs.Prelude.{◌≡◌, ◌↔◌, ◌≤◌, MatchResult, length};
+ghost use Rattle.std.specs.Prelude.{◌≡◌, ◌↔◌, MatchResult, length};
 ghost use Rattle.std.specs.Int.{from_le_bytes, w16, w32};
 ghost use Rattle.rkyv_container.specs.Checks.{AllPass, FirstFails};
 ghost use Rattle.rkyv_container.specs.Container.{header_of};
@@ -23,7 +23,6 @@ ghost use Rattle.rkyv_container.specs.Header.{
   contents_bytes,
   flag_checks,
   flags_of,
-  checksum_field,
   header_bytes,
   header_checks,
   start_checks,

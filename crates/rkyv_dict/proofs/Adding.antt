@@ -4,8 +4,8 @@ use Rattle.std.specs.Prelude.{OnOk}
 use Rattle.std.proofs.lemmas.List.{append-nil}
 use Rattle.rkyv_dict.specs.declared.script.Command.{Command}
 use Rattle.rkyv_dict.specs.Answers.{StepsTo}
+use Rattle.rkyv_dict.specs.Commands.{request_seen}
 use Rattle.rkyv_dict.specs.Run.{AppendsSome}
-use Rattle.rkyv_dict.specs.Seen.{request_seen}
 use Rattle.rkyv_dict.specs.State.{State}
 
 pub on_ok_map : {T E : Type 0} (r : Result T E) (P Q : Type 0) → (P → Q) → OnOk r P → OnOk r Q

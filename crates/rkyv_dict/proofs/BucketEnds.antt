@@ -1,17 +1,11 @@
 -- The write of a table's buckets ends in one way.
-use Rattle.std.proofs.Common.{◌≡◌, ℕ, zero, suc, ◌+◌, ◌-◌, ◌*◌, ◌<◌, ◌≤◌, ◌∙◌, refl, sym, ap, subst, arith, inl, inr, List, [], ◌∷◌, ◌++◌, length, drop, take, Option, None, Some, append-nil, append_assoc, length-append}
+use Rattle.std.proofs.Common.{◌≡◌, ℕ, zero, suc, ◌+◌, ◌-◌, ◌*◌, ◌<◌, ◌≤◌, ◌∙◌, refl, sym, ap, subst, arith, inl, inr, List, [], ◌∷◌, ◌++◌, length, drop, Option, None, Some, append-nil, append_assoc, length-append}
 use Rattle.std.specs.Prelude.{◌⊎◌, slice_get}
 use Rattle.std.proofs.lemmas.List.{length-replicate}
 use Rattle.rkyv_base.specs.Format.{Format}
-use Rattle.rkyv_base.specs.Writing.{Refusal, Step, distance, no_memory, piece, refusal, zeros}
+use Rattle.rkyv_base.specs.Writing.{Refusal, Step, distance, piece, refusal, zeros}
 use Rattle.rkyv_table.specs.Table.Slots.{BucketNext, BucketStep, SlotImages, filled}
-use Rattle.rkyv_dict.proofs.Ends.{Ends, IsKnown, ThenMade, ThenNext, ends_as, ends_at_once, ends_by_piece, no_piece, same_piece, same_refusal, then_ends}
-
-nothing_there : {A : Type 0} (a : A) → None ≡ Some a → ⊥
-nothing_there a e = cc
-
-same_slot : {A : Type 0} (a b : A) → Some a ≡ Some b → a ≡ b
-same_slot a b e = cc
+use Rattle.rkyv_dict.proofs.Ends.{Ends, IsKnown, ends_as, ends_at_once, ends_by_piece, no_piece, nothing_there, same_piece, same_refusal, same_slot, then_ends}
 
 empty : {A : Type 0} (xs : List A) → length xs ≡ 0 → xs ≡ []
 empty [] e = refl

@@ -5,7 +5,7 @@ use Rattle.std.proofs.lemmas.List.Splits.{slice_split_first, slice_split_none, l
 use denote.Ref.{Bor}
 use Rattle.std.specs.Option.{MatchOption}
 use Rattle.std.proofs.lemmas.Str.Pattern.{IsSplitOnceResult, split_once_first}
-use Rattle.rkyv_dict.specs.Script.{Request, parts_of, one_of, two_of, bare_of}
+use Rattle.rkyv_dict.specs.Script.{Request, split_at, one_of, two_of, bare_of}
 use Rattle.std.proofs.lemmas.List.Quantifiers.{position-Some}
 use Rattle.std.proofs.lemmas.List.Sums.{position_or_len_is, fails_before_first}
 use Rattle.std.proofs.lemmas.Bool.{cases_lt, lt-ltb}
@@ -36,18 +36,18 @@ cons_of (first ∷ others) h = (first, others, refl)
 pub split_cons : (p : ℕ → Bool) (xs : List ℕ) → (first : List ℕ) × (others : List (List ℕ)) × (slice_split p xs ≡ first ∷ others)
 split_cons p xs = cons_of (slice_split p xs) (omega (arith, length-slice_split p xs))
 
-pub one_of_more : (word rest : List ℕ) → one_of (word ∷ parts_of 32 rest) ≡ None
+pub one_of_more : (word rest : List ℕ) → one_of (word ∷ split_at 32 rest) ≡ None
 one_of_more word rest = let s = split_cons (λ b. b == 32) rest in rw s.2 refl
 
-pub two_of_more : (first second rest : List ℕ) → two_of (first ∷ second ∷ parts_of 32 rest) ≡ None
+pub two_of_more : (first second rest : List ℕ) → two_of (first ∷ second ∷ split_at 32 rest) ≡ None
 two_of_more first second rest = let s = split_cons (λ b. b == 32) rest in rw s.2 refl
 
-pub bare_of_more : (request : Request) (rest : List ℕ) → bare_of request (parts_of 32 rest) ≡ None
+pub bare_of_more : (request : Request) (rest : List ℕ) → bare_of request (split_at 32 rest) ≡ None
 bare_of_more request rest = let s = split_cons (λ b. b == 32) rest in rw s.2 refl
 
 -- a text is split at its first space
 pub cut_first : (bs : List ℕ) (r : Option (Bor (List ℕ) × Bor (List ℕ))) → IsSplitOnceResult 32 bs r
-    → MatchOption r (parts_of 32 bs ≡ bs ∷ []) (λ x. parts_of 32 bs ≡ x.0.now ∷ parts_of 32 x.1.now)
+    → MatchOption r (split_at 32 bs ≡ bs ∷ []) (λ x. split_at 32 bs ≡ x.0.now ∷ split_at 32 x.1.now)
 cut_first bs None h =
     let none = split_once_first 32 bs None h (omega arith) in
     slice_split_none (λ b. b == 32) bs (λ k d below. fails_before_first (λ b. b == 32) bs k d (omega (arith, none)))

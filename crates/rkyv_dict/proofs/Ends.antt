@@ -1,6 +1,6 @@
 -- A write fails with one error, except for allocation failures, and doesn't succeed as well.
-use Rattle.std.proofs.Common.{◌≡◌, ℕ, zero, suc, ◌+◌, ◌-◌, ◌*◌, ◌<◌, ◌≤◌, ◌∙◌, refl, sym, ap, subst, arith, inl, inr, List, [], ◌∷◌, ◌++◌, length, drop, take, Option, None, Some, append-nil, append_assoc, length-append}
-use Rattle.std.specs.Prelude.{◌⊎◌, slice_get}
+use Rattle.std.proofs.Common.{◌≡◌, ℕ, ◌+◌, ◌-◌, ◌≤◌, sym, ap, subst, arith, inl, inr, List, [], ◌++◌, length, None, Some, length-append}
+use Rattle.std.specs.Prelude.{◌⊎◌}
 use Rattle.rkyv_base.specs.Writing.{Refusal, Step, no_memory, piece, refusal}
 
 -- an error that isn't an allocation failure
@@ -23,6 +23,12 @@ same_piece a b e = cc
 
 pub no_piece : (c : Refusal) (a : List ℕ) → refusal c ≡ piece a → ⊥
 no_piece c a e = cc
+
+pub nothing_there : {A : Type 0} (a : A) → None ≡ Some a → ⊥
+nothing_there a e = cc
+
+pub same_slot : {A : Type 0} (a b : A) → Some a ≡ Some b → a ≡ b
+same_slot a b e = cc
 
 -- a write of no step
 pub ends_at_once : (made : List ℕ → Type 0) → Ends (λ front step. ⊥) made

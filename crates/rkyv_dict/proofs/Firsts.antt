@@ -14,10 +14,10 @@ use Rattle.rkyv_base.specs.Text.{TextReads, text_at}
 use Rattle.rkyv_keys.specs.OfTexts.{same_bytes}
 use Rattle.rkyv_table.specs.Table.Positions.{home_positions}
 use Rattle.rkyv_dict.specs.Archives.{hash, pair_spec, root, value_text}
-use Rattle.rkyv_dict.specs.Built.{Holds, PairsRepresent, PairsRepresentAt}
+use Rattle.rkyv_dict.specs.Built.{PairsRepresent, PairsRepresentAt, RootRepresents}
 use Rattle.rkyv_dict.specs.First.{HasHomes, first_under, first_value}
 use Rattle.rkyv_dict.specs.Forms.{Pairs, asked_number, asked_text, numbers, texts, word_of}
-use Rattle.rkyv_dict.specs.Parts.{Parts, number_parts, text_parts}
+use Rattle.rkyv_dict.specs.MapTypes.{MapTypes, number_parts, text_parts}
 use Rattle.rkyv_dict.specs.declared.form.ArchiveWidth.{ArchiveWidth}
 use Rattle.rkyv_dict.specs.declared.form.Form.{Form}
 use Rattle.rkyv_dict.specs.declared.form.Kind.{Kind}
@@ -38,7 +38,7 @@ firsts_alike fits asks shown show (x ∷ xs) (y ∷ ys) n h =
       | inr f ↦ rw (here.0, f) rest
     ]
 
-module _ (k : Parts) {A : Type 0} (represents : List ℕ → ℕ → A → Type 0) (factor : ℕ × ℕ) (b : List ℕ) (pairs : List (A × A))
+module _ (k : MapTypes) {A : Type 0} (represents : List ℕ → ℕ → A → Type 0) (factor : ℕ × ℕ) (b : List ℕ) (pairs : List (A × A))
     (fits : ℕ → Bool) (asks : A → Bool) (show : A → List ℕ) (same_calls : (q : ℕ) (a : A) → represents b q a → fits q ≡ asks a) (reads : (q : ℕ) (a : A) → represents b q a → k.text b q ≡ show a) where
   first_at : (h : PairsRepresentAt k factor represents b (root k b) pairs)
       → option_map (value_text k b) (find fits (home_positions k.word (pair_spec k).size b (root k b) h.homes)) ≡ option_map (λ pair. show pair.1) (find (λ pair. asks pair.0) pairs)
@@ -64,7 +64,7 @@ form_is form kind bits e d = ap {B = Form} (λ k. record { kind = k; bits = form
 
 module _ (bits : ArchiveWidth) (factor : ℕ × ℕ) (b : List ℕ) where
   -- the first pair of a map of numbers, and of a map of texts
-  pub first_number : (pairs : Pairs) (n : ℕ) → Holds (record { kind = Num; bits = bits }) factor b pairs
+  pub first_number : (pairs : Pairs) (n : ℕ) → RootRepresents (record { kind = Num; bits = bits }) factor b pairs
       → (homes : List ℕ) × HasHomes (number_parts bits) b homes
       × (first_under (number_parts bits) b homes (λ q. n == number_at w32 b q) ≡ first_value pairs (asked_number n))
   first_number (numbers pairs) n h =
@@ -73,7 +73,7 @@ module _ (bits : ArchiveWidth) (factor : ℕ × ℕ) (b : List ℕ) where
       (there.0, there.1, there.2 ∙ shown_first decimal (find (λ pair. n == pair.0) pairs))
   first_number (texts pairs) n h = absurd h
 
-  pub first_text : (pairs : Pairs) (t : List ℕ) → Holds (record { kind = Text; bits = bits }) factor b pairs
+  pub first_text : (pairs : Pairs) (t : List ℕ) → RootRepresents (record { kind = Text; bits = bits }) factor b pairs
       → (homes : List ℕ) × HasHomes (text_parts bits) b homes
       × (first_under (text_parts bits) b homes (λ q. same_bytes t (text_at (word_of bits) b q)) ≡ first_value pairs (asked_text t))
   first_text (texts pairs) t h =

@@ -1,8 +1,6 @@
--- The formats of numbers, texts, pairs and tables end in one way.
-use Rattle.std.proofs.Common.{◌≡◌, ℕ, zero, suc, ◌+◌, ◌-◌, ◌*◌, ◌<◌, ◌≤◌, ◌∙◌, refl, sym, ap, subst, arith, inl, inr, List, [], ◌∷◌, ◌++◌, length, drop, take, Option, None, Some, append-nil, append_assoc, length-append}
-use Rattle.std.specs.Prelude.{◌⊎◌, slice_get}
+-- The formats of numbers, texts and pairs end in one way.
+use Rattle.std.proofs.Common.{◌≡◌, ℕ, ◌+◌, ◌<◌, ◌≤◌, ◌∙◌, sym, ap, arith, inl, inr, List, [], length}
 use Rattle.std.specs.Int.{Width}
-use Rattle.std.proofs.lemmas.List.{length-replicate}
 use Rattle.rkyv_base.specs.declared.pairs.EntryResolver.{EntryResolver}
 use Rattle.rkyv_base.specs.declared.strings.TextResolver.{TextResolver}
 use Rattle.rkyv_base.specs.Format.{Format}
@@ -12,9 +10,9 @@ use Rattle.rkyv_base.specs.ElementSpec.{ElementSpec}
 use Rattle.rkyv_base.specs.Text.{IsArchiveWord, text_size}
 use Rattle.rkyv_base.specs.Lemmas.Text.{by_archive_word}
 use Rattle.rkyv_base.specs.TextWriting.{TextNext, TextParts, text_format, text_limit}
-use Rattle.rkyv_base.specs.Writing.{Refusal, Step, distance, long_text, no_memory, piece, refusal, zeros}
+use Rattle.rkyv_base.specs.Writing.{Refusal, Step, long_text, piece, refusal}
 use Rattle.rkyv_table.specs.Table.OneWay.{WritesOneWay}
-use Rattle.rkyv_dict.proofs.Ends.{Ends, IsKnown, ThenMade, ThenNext, ends_as, ends_at_once, no_piece, same_piece, same_refusal, then_ends}
+use Rattle.rkyv_dict.proofs.Ends.{Ends, IsKnown, ThenMade, ThenNext, ends_at_once, no_piece, same_piece, same_refusal, then_ends}
 
 -- serialization ends in one way
 pub record EndsOneWay {V R : Type 0} (f : Format V R) : Type 0 where

@@ -1,19 +1,15 @@
 -- The lines of the pairs of a map, in turn.
-use Rattle.std.proofs.Common.{◌≡◌, ℕ, ◌+◌, ap, sym, ◌∙◌, append_assoc, List, ◌∷◌, ◌++◌, Result, Ok, Err, OnOk}
+use Rattle.std.proofs.Common.{◌≡◌, ℕ, ◌+◌, ap, sym, ◌∙◌, append_assoc, List, ◌++◌}
 use Rattle.std.specs.Borrow.{Bor}
 use Rattle.std.specs.List.{flat_map}
 use Rattle.std.specs.Prelude.{codes}
 use Rattle.rkyv_base.specs.Entry.{value_offset}
 use Rattle.rkyv_base.specs.ElementSpec.{ElementSpec}
 use Rattle.rkyv_base.specs.declared.view.View.{View}
-use Rattle.rkyv_keys.specs.Places.{at_view}
+use Rattle.rkyv_keys.specs.AtViews.{at_view}
 use Rattle.rkyv_table.specs.Table.RawItems.{ItemsLeft}
 use Rattle.rkyv_table.specs.Table.PairWalks.{TakesFirst, ViewsAt}
 use Rattle.rkyv_dict.specs.Archives.{line, line_at}
-
-pub ok_map : {T E P Q : Type 0} (r : Result T E) → (P → Q) → OnOk r P → OnOk r Q
-ok_map (Ok x) f h = f h
-ok_map (Err e) f h = h
 
 module _ {K V : Type 0} (s : ElementSpec) (text : List ℕ → ℕ → List ℕ) (archive : Bor (List ℕ)) (before after : ItemsLeft) (key : View K) (value : View V) (same : before.archive ≡ archive)
     (takes : TakesFirst before key.pos after) (k : ViewsAt s before key.pos key) (v : ViewsAt s before (key.pos + value_offset s s) value) where

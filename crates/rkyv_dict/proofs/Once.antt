@@ -17,12 +17,12 @@ use Rattle.rkyv_base.specs.TextWriting.{text_format}
 use Rattle.rkyv_base.specs.Writing.{padding, zeros}
 use Rattle.rkyv_base.specs.declared.errors.VerifyError.{VerifyError}
 use Rattle.rkyv_table.specs.Table.Listed.{listed}
-use Rattle.rkyv_collections.specs.Map.MapFormat.{keyed, map_format}
-use Rattle.rkyv_dict.specs.Archives.{IsArchive, IsMapArchive, IsRefused, MapArchiveFails, hash, header_spec, pair_spec}
+use Rattle.rkyv_collections.specs.Map.MapFormat.{keyed}
+use Rattle.rkyv_dict.specs.Archives.{IsMapArchive, MapValidationFails, hash, header_spec, pair_spec}
 use Rattle.rkyv_dict.specs.Built.{IsArchiveOf, PairsRepresentAt, built_in, pairs_format}
 use Rattle.rkyv_dict.specs.Forms.{Pairs, buckets_of, numbers, texts, word_of}
+use Rattle.rkyv_dict.specs.MapTypes.{MapTypes, number_calls, number_parts, parts_in, text_parts}
 use Rattle.rkyv_dict.specs.Once.{BuildsAreOne, ChecksAreOne}
-use Rattle.rkyv_dict.specs.Parts.{Parts, number_calls, number_parts, parts_in, text_parts}
 use Rattle.rkyv_dict.specs.declared.form.ArchiveWidth.{ArchiveWidth}
 use Rattle.rkyv_dict.specs.declared.form.ArchiveWidth.TheVariants.{Bits32, Bits64}
 use Rattle.rkyv_dict.specs.declared.form.Kind.{Kind}
@@ -33,7 +33,6 @@ use Rattle.rkyv_table.proofs.OneWay.{tables_one_way}
 use Rattle.rkyv_table.proofs.ReadyOneWay.{pairs_one_way, scalars_one_way, seen_one_way, texts_one_way}
 use Rattle.rkyv_table.specs.Lemmas.TableLaws.{table_element}
 use Rattle.rkyv_table.specs.Table.OneWay.{WritesOneWay}
-use Rattle.rkyv_table.specs.Table.TableFormat.{table_format}
 
 -- the word of each width is an archive word
 pub is_word : (bits : ArchiveWidth) → IsArchiveWord (word_of bits)
@@ -62,7 +61,7 @@ archives_one_way limit s represents f one v a b x y =
     g.6 ∙ ap (λ (l : List ℕ). l ++ (zeros (padding s.align (0 + length l)) ++ g.2)) made.0
     ∙ ap (λ (l : List ℕ). h.0 ++ (zeros (padding s.align (0 + length h.0)) ++ l)) out ∙ sym h.6
 
-pub pairs_written_one_way : (k : Parts) {A R : Type 0} (factor : ℕ × ℕ) (most : ℕ) (format : Format A R) (calls : A → List HasherCall) → WritesOneWay format
+pub pairs_written_one_way : (k : MapTypes) {A R : Type 0} (factor : ℕ × ℕ) (most : ℕ) (format : Format A R) (calls : A → List HasherCall) → WritesOneWay format
     → WritesOneWay (pairs_format k factor most format calls)
 pairs_written_one_way k factor most format calls one =
     let entries = pair_spec k in
@@ -71,7 +70,7 @@ pairs_written_one_way k factor most format calls one =
     let map = seen_one_way (keyed (λ value. hash (calls value))) _ table in
     listed_one_way most factor _ map
 
-map_archive_one : (k : Parts) {A R : Type 0} (factor : ℕ × ℕ) (most : ℕ) (format : Format A R) (calls : A → List HasherCall) (represents : List ℕ → ℕ → A → Type 0)
+map_archive_one : (k : MapTypes) {A R : Type 0} (factor : ℕ × ℕ) (most : ℕ) (format : Format A R) (calls : A → List HasherCall) (represents : List ℕ → ℕ → A → Type 0)
     → WritesOneWay format → (pairs : List (A × A)) (a b : List ℕ)
     → IsArchiveOf k factor most format calls represents pairs a → IsArchiveOf k factor most format calls represents pairs b → a ≡ b
 unfolding IsArchiveOf
@@ -121,16 +120,16 @@ part_word : (kind : Kind) (bits : ArchiveWidth) → IsArchiveWord (parts_in kind
 part_word Num bits = is_word bits
 part_word Text bits = is_word bits
 
-header_element : (k : Parts) → IsArchiveWord k.word → IsElement k.spec → IsElement (header_spec k)
+header_element : (k : MapTypes) → IsArchiveWord k.word → IsElement k.spec → IsElement (header_spec k)
 header_element k word part = table_element k.word word (pair_spec k) (entry_element k.spec k.spec part part)
 
-map_check_one : (k : Parts) → IsElement (header_spec k) → (b : List ℕ) (e : VerifyError) → MapArchiveFails k b e
-    → (IsMapArchive k b → ⊥) × ((d : VerifyError) → MapArchiveFails k b d → e ≡ d)
-unfolding IsMapArchive MapArchiveFails
+map_check_one : (k : MapTypes) → IsElement (header_spec k) → (b : List ℕ) (e : VerifyError) → MapValidationFails k b e
+    → (IsMapArchive k b → ⊥) × ((d : VerifyError) → MapValidationFails k b d → e ≡ d)
+unfolding IsMapArchive MapValidationFails
 map_check_one k laws b e f = (access_exclusive k.limit (header_spec k) laws b e f, λ d g. access_one k.limit (header_spec k) laws b e d f g)
 
-check_one : (kind : Kind) (bits : ArchiveWidth) (b : List ℕ) (e : VerifyError) → MapArchiveFails (parts_in kind bits) b e
-    → (IsMapArchive (parts_in kind bits) b → ⊥) × ((d : VerifyError) → MapArchiveFails (parts_in kind bits) b d → e ≡ d)
+check_one : (kind : Kind) (bits : ArchiveWidth) (b : List ℕ) (e : VerifyError) → MapValidationFails (parts_in kind bits) b e
+    → (IsMapArchive (parts_in kind bits) b → ⊥) × ((d : VerifyError) → MapValidationFails (parts_in kind bits) b d → e ≡ d)
 check_one kind bits b e f =
     map_check_one (parts_in kind bits) (header_element (parts_in kind bits) (part_word kind bits) (part_element kind bits)) b e f
 

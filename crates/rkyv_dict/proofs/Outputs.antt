@@ -4,11 +4,10 @@ use Rattle.std.specs.Prelude.{codes}
 use Rattle.rkyv_dict.specs.Answers.{StepsTo, DoesIf, StepsLine, RunsTo}
 use Rattle.rkyv_dict.specs.Archives.{line}
 use Rattle.rkyv_dict.specs.Built.{kind_of_pairs}
-use Rattle.rkyv_dict.specs.Forms.{Pairs}
 use Rattle.rkyv_dict.specs.Once.{RefusedBuildsAreOne, ScriptsAreOne}
 use Rattle.rkyv_dict.specs.Output.{built_line, refused_line}
 use Rattle.rkyv_dict.specs.Script.{Request, set_kind, set_width, set_load_factor, put_numbers, put_texts, build_archive, check_archive, show_hex, get_value, list_pairs, count_misplaced, request_of}
-use Rattle.rkyv_dict.specs.State.{Archived, State, form_of}
+use Rattle.rkyv_dict.specs.State.{State, form_of}
 use Rattle.rkyv_dict.proofs.Once.{builds_are_one, checks_are_one}
 use Rattle.rkyv_dict.proofs.Refused.{refused_builds_are_one}
 
@@ -26,10 +25,10 @@ does_one h s (put_texts key value) a b t u x y = (x.0 ∙ sym y.0, x.1 ∙ sym y
 does_one h s build_archive a b t u (inl x) (inl y) =
     let e = builds_are_one (form_of s) s.load_factor s.pairs x.bytes y.bytes x.made y.made in
     (x.answers ∙ ap built_line e ∙ sym y.answers, x.after ∙ ap (built_state s) e ∙ sym y.after)
-does_one h s build_archive a b t u (inl x) (inr y) = absurd (h.built (form_of s) s.load_factor s.pairs x.bytes y.cause x.made y.applies y.told)
-does_one h s build_archive a b t u (inr x) (inl y) = absurd (h.built (form_of s) s.load_factor s.pairs y.bytes x.cause y.made x.applies x.told)
+does_one h s build_archive a b t u (inl x) (inr y) = absurd (h.built (form_of s) s.load_factor s.pairs x.bytes y.cause x.made y.applies y.reported)
+does_one h s build_archive a b t u (inr x) (inl y) = absurd (h.built (form_of s) s.load_factor s.pairs y.bytes x.cause y.made x.applies x.reported)
 does_one h s build_archive a b t u (inr x) (inr y) =
-    let e = h.causes (form_of s) s.load_factor s.pairs x.cause y.cause x.applies y.applies x.told y.told in
+    let e = h.causes (form_of s) s.load_factor s.pairs x.cause y.cause x.applies y.applies x.reported y.reported in
     (x.answers ∙ ap (λ l. line (codes "error " ++ l)) e ∙ sym y.answers, x.after ∙ sym y.after)
 does_one h s (check_archive bytes) a b t u (inl x) (inl y) = (x.answers ∙ sym y.answers, x.after ∙ sym y.after)
 does_one h s (check_archive bytes) a b t u (inl x) (inr y) = absurd ((checks_are_one (form_of s) bytes y.error y.applies).0 x.accepted)

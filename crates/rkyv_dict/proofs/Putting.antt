@@ -4,8 +4,8 @@ use Rattle.std.specs.Option.{ForSome, option_map}
 use Rattle.rkyv_dict.specs.declared.dict.Stored.{Stored}
 use Rattle.rkyv_dict.specs.declared.form.ArchiveWidth.{ArchiveWidth}
 use Rattle.rkyv_dict.specs.Counts.{take_pairs}
+use Rattle.rkyv_dict.specs.Dicts.{archived_seen}
 use Rattle.rkyv_dict.specs.Forms.{Pairs}
-use Rattle.rkyv_dict.specs.Shown.{archived_seen}
 use Rattle.rkyv_dict.specs.State.{State}
 
 built_kept : (old new : Pairs) (most : ℕ) (built_len : Option ℕ) → ForSome built_len (λ n. n ≤ most)

@@ -1,6 +1,5 @@
 -- A failed build has one error, except for allocation failures, and its pairs have no archive.
-use Rattle.std.proofs.Common.{◌≡◌, ℕ, ◌+◌, ◌-◌, ◌<◌, ◌≤◌, ◌∙◌, refl, sym, ap, subst, arith, inl, inr, List, [], ◌∷◌, ◌++◌, length, false}
-use Rattle.std.specs.Prelude.{◌⊎◌}
+use Rattle.std.proofs.Common.{◌≡◌, ℕ, ◌+◌, ◌-◌, ◌≤◌, ◌∙◌, refl, sym, arith, inl, inr, List, length, false}
 use Rattle.std.specs.Int.{w32}
 use Rattle.rkyv_base.specs.Lemmas.Entry.{entry_element}
 use Rattle.rkyv_base.specs.Format.{Format, IsFormat}
@@ -8,15 +7,15 @@ use Rattle.rkyv_base.specs.Numbers.{unsigned}
 use Rattle.rkyv_base.specs.Lemmas.Numbers.{unsigned_codes}
 use Rattle.rkyv_base.specs.Pairs.{PairRepresents, pair_format, written_as}
 use Rattle.rkyv_base.specs.Lemmas.Pairs.{pair_is_format}
-use Rattle.rkyv_base.specs.Root.{ArchiveOf, ArchiveRefused, RootBytes, RootNext}
+use Rattle.rkyv_base.specs.Root.{RootBytes, RootNext, ToBytesFails}
 use Rattle.rkyv_base.specs.Scalar.{ScalarRepresents, scalar_format, scalar_spec}
 use Rattle.rkyv_base.specs.Lemmas.Scalar.{scalar_element, scalar_is_format, scalar_laws}
-use Rattle.rkyv_base.specs.ElementSpec.{IsElement, ElementSpec}
+use Rattle.rkyv_base.specs.ElementSpec.{IsElement}
 use Rattle.rkyv_base.specs.Text.{IsArchiveWord, TextReads}
 use Rattle.rkyv_base.specs.Lemmas.Text.{text_element}
 use Rattle.rkyv_base.specs.TextWriting.{text_format}
 use Rattle.rkyv_base.specs.Lemmas.TextWriting.{text_is_format}
-use Rattle.rkyv_base.specs.Writing.{Refusal, Step, no_memory, piece, refusal}
+use Rattle.rkyv_base.specs.Writing.{Refusal, piece, refusal}
 use Rattle.rkyv_base.specs.declared.errors.WriteError.{WriteError}
 use Rattle.rkyv_base.specs.declared.writer.NoMemory.{NoMemory}
 use Rattle.rkyv_table.specs.Table.Listed.{ListRefuses, listed}
@@ -27,21 +26,21 @@ use Rattle.rkyv_table.proofs.ReadyOneWay.{pairs_one_way, scalars_one_way, texts_
 use Rattle.rkyv_table.specs.Lemmas.TableSound.{table_is_format}
 use Rattle.rkyv_table.specs.Table.OneWay.{WritesOneWay}
 use Rattle.rkyv_table.specs.Table.Serializing.{HasCapacity}
-use Rattle.rkyv_table.specs.Table.TableFormat.{TableResolver, TableRepresents, table_format}
+use Rattle.rkyv_table.specs.Table.TableFormat.{TableRepresents, table_format}
 use Rattle.rkyv_dict.specs.Archives.{hash, header_spec, pair_spec}
-use Rattle.rkyv_dict.specs.Built.{IsArchiveOf, ArchiveFails, PairsRepresentAt, built_in, pairs_format, refused_in}
-use Rattle.rkyv_dict.specs.Errors.{cause_text, wants_memory}
+use Rattle.rkyv_dict.specs.Built.{IsArchiveOf, ArchiveFails, built_in, pairs_format, build_fails_in}
+use Rattle.rkyv_dict.specs.Errors.{cause_text, is_allocation_failure}
 use Rattle.rkyv_dict.specs.Forms.{Pairs, buckets_of, numbers, texts, word_of}
+use Rattle.rkyv_dict.specs.MapTypes.{MapTypes, number_calls, number_parts, text_parts}
 use Rattle.rkyv_dict.specs.Once.{RefusedBuildsAreOne}
-use Rattle.rkyv_dict.specs.Parts.{Parts, number_calls, number_parts, text_parts}
 use Rattle.rkyv_dict.specs.declared.form.ArchiveWidth.{ArchiveWidth}
 use Rattle.rkyv_dict.specs.declared.form.Kind.{Kind}
 use Rattle.rkyv_dict.specs.declared.form.Kind.TheVariants.{Num, Text}
 use Rattle.rkyv_dict.proofs.CauseEnds.{Why, why_cause, why_exclusive, why_one}
-use Rattle.rkyv_dict.proofs.DictEnds.{tables_end}
 use Rattle.rkyv_dict.proofs.Ends.{Ends, IsKnown, no_piece, same_refusal}
 use Rattle.rkyv_dict.proofs.FormatEnds.{EndsOneWay, pairs_end, scalars_end, texts_end}
 use Rattle.rkyv_dict.proofs.Once.{is_word, pairs_written_one_way}
+use Rattle.rkyv_dict.proofs.PairTableEnds.{tables_end}
 use Rattle.rkyv_dict.proofs.RootEnds.{root_ends}
 
 module _ {X R : Type 0} (most : ℕ) (factor : ℕ × ℕ) (f : Format (List X) R) (rule : EndsOneWay f) (xs : List X) (p : ℕ) where
@@ -91,7 +90,7 @@ listed_end most factor f rule = record { ends = listed_ends most factor f rule }
 seen_end : {X V R : Type 0} (seen : X → V) (f : Format V R) → EndsOneWay f → EndsOneWay (written_as seen f)
 seen_end seen f rule = record { ends = λ x. rule.ends (seen x) }
 
-module _ (k : Parts) (word : IsArchiveWord k.word) (part : IsElement k.spec) {A R : Type 0} (factor : ℕ × ℕ) (most : ℕ) (format : Format A R) (calls : A → List HasherCall)
+module _ (k : MapTypes) (word : IsArchiveWord k.word) (part : IsElement k.spec) {A R : Type 0} (factor : ℕ × ℕ) (most : ℕ) (format : Format A R) (calls : A → List HasherCall)
     (one : WritesOneWay format) (ends : EndsOneWay format) (represents : List ℕ → ℕ → A → Type 0) (law : IsFormat k.spec represents format) where
   pairs_law : IsFormat (pair_spec k) (PairRepresents k.spec k.spec represents represents) (pair_format k.spec k.spec format format)
   pairs_law = pair_is_format k.spec k.spec part part represents represents format format law law
@@ -112,24 +111,24 @@ module _ (k : Parts) (word : IsArchiveWord k.word) (part : IsElement k.spec) {A 
       root_ends (header_spec k).size (header_spec k).align (pairs_format k factor most format calls) (pairs_written_one_way k factor most format calls one) map_end
       (λ xs. table_law.size_exact (keyed (λ a. hash (calls a)) xs)) (λ xs. table_law.exclusive (keyed (λ a. hash (calls a)) xs)) pairs 0
 
-  why : (pairs : List (A × A)) (c : WriteError NoMemory) → wants_memory c ≡ false → ArchiveRefused k.limit (header_spec k) (pairs_format k factor most format calls) pairs c
+  why : (pairs : List (A × A)) (c : WriteError NoMemory) → is_allocation_failure c ≡ false → ToBytesFails k.limit (header_spec k) (pairs_format k factor most format calls) pairs c
       → Why k.limit (RootNext (header_spec k).align (pairs_format k factor most format calls) pairs 0) (cause_text c)
   why pairs c m x = why_cause k.limit (RootNext (header_spec k).align (pairs_format k factor most format calls) pairs 0) x.0 x.1.front x.1.kept c m x.1.cause
 
   pub map_causes : (pairs : List (A × A)) (c d : WriteError NoMemory) → ArchiveFails k factor most format calls pairs c → ArchiveFails k factor most format calls pairs d
-      → wants_memory c ≡ false → wants_memory d ≡ false → cause_text c ≡ cause_text d
+      → is_allocation_failure c ≡ false → is_allocation_failure d ≡ false → cause_text c ≡ cause_text d
   unfolding ArchiveFails
   map_causes pairs c d x y m n = why_one k.limit (RootNext (header_spec k).align (pairs_format k factor most format calls) pairs 0) (build_ends pairs) (cause_text c) (cause_text d) (why pairs c m x) (why pairs d n y)
 
   pub map_built : (pairs : List (A × A)) (b : List ℕ) (c : WriteError NoMemory) → IsArchiveOf k factor most format calls represents pairs b → ArchiveFails k factor most format calls pairs c
-      → wants_memory c ≡ false → ⊥
+      → is_allocation_failure c ≡ false → ⊥
   unfolding ArchiveFails IsArchiveOf
   map_built pairs b c x y m =
       why_exclusive k.limit (RootNext (header_spec k).align (pairs_format k factor most format calls) pairs 0) (build_ends pairs) (cause_text c) b (why pairs c m y)
       (length b - (header_spec k).size, x.2) x.0.within
 
-causes_in : (kind : Kind) (bits : ArchiveWidth) (factor : ℕ × ℕ) (pairs : Pairs) (c d : WriteError NoMemory) → refused_in kind bits factor pairs c → refused_in kind bits factor pairs d
-    → wants_memory c ≡ false → wants_memory d ≡ false → cause_text c ≡ cause_text d
+causes_in : (kind : Kind) (bits : ArchiveWidth) (factor : ℕ × ℕ) (pairs : Pairs) (c d : WriteError NoMemory) → build_fails_in kind bits factor pairs c → build_fails_in kind bits factor pairs d
+    → is_allocation_failure c ≡ false → is_allocation_failure d ≡ false → cause_text c ≡ cause_text d
 causes_in Num bits factor (numbers pairs) c d x y m n =
     map_causes (number_parts bits) (is_word bits) (scalar_element (unsigned w32) (inr (inr (inl refl))) (unsigned_codes w32)) factor (buckets_of bits) (scalar_format (unsigned w32)) number_calls
     (scalars_one_way (unsigned w32)) (scalars_end (unsigned w32)) (ScalarRepresents (unsigned w32)) (scalar_is_format (scalar_spec (unsigned w32)) (unsigned w32) (scalar_laws (unsigned w32) (inr (inr (inl refl))))) pairs c d x y m n
@@ -139,8 +138,8 @@ causes_in Text bits factor (texts pairs) c d x y m n =
 causes_in Num bits factor (texts pairs) c d x y m n = absurd x
 causes_in Text bits factor (numbers pairs) c d x y m n = absurd x
 
-built_in_exclusive : (kind : Kind) (bits : ArchiveWidth) (factor : ℕ × ℕ) (pairs : Pairs) (b : List ℕ) (c : WriteError NoMemory) → built_in kind bits factor pairs b → refused_in kind bits factor pairs c
-    → wants_memory c ≡ false → ⊥
+built_in_exclusive : (kind : Kind) (bits : ArchiveWidth) (factor : ℕ × ℕ) (pairs : Pairs) (b : List ℕ) (c : WriteError NoMemory) → built_in kind bits factor pairs b → build_fails_in kind bits factor pairs c
+    → is_allocation_failure c ≡ false → ⊥
 built_in_exclusive Num bits factor (numbers pairs) b c x y m =
     map_built (number_parts bits) (is_word bits) (scalar_element (unsigned w32) (inr (inr (inl refl))) (unsigned_codes w32)) factor (buckets_of bits) (scalar_format (unsigned w32)) number_calls
     (scalars_one_way (unsigned w32)) (scalars_end (unsigned w32)) (ScalarRepresents (unsigned w32)) (scalar_is_format (scalar_spec (unsigned w32)) (unsigned w32) (scalar_laws (unsigned w32) (inr (inr (inl refl))))) pairs b c x y m

@@ -8,17 +8,17 @@ use Rattle.rkyv_base.specs.Lemmas.Access.{root_viewable}
 use Rattle.rkyv_base.specs.ElementSpec.{Viewable}
 use Rattle.rkyv_base.specs.View.{IsAt, bytes_of, pos_of, pos_of_found}
 use Rattle.rkyv_base.specs.declared.view.View.{View}
-use Rattle.rkyv_keys.specs.Places.{at_view}
+use Rattle.rkyv_keys.specs.AtViews.{at_view}
 use Rattle.rkyv_dict.specs.Archives.{IsMapArchive, header_spec, root}
-use Rattle.rkyv_dict.specs.Parts.{Parts}
+use Rattle.rkyv_dict.specs.MapTypes.{MapTypes}
 
-module _ (k : Parts) (b : List ℕ) where
+module _ (k : MapTypes) (b : List ℕ) where
   pub accepted : IsMapArchive k b → Accepted k.limit (header_spec k) b
   unfolding IsMapArchive
   accepted h = h
 
-  pub root_represents : IsMapArchive k b → Viewable (header_spec k) b (root k b)
-  root_represents h = root_viewable k.limit (header_spec k) b (accepted h)
+  pub map_root_viewable : IsMapArchive k b → Viewable (header_spec k) b (root k b)
+  map_root_viewable h = root_viewable k.limit (header_spec k) b (accepted h)
 
 -- a function of the bytes and position of a view is that of the archive and `p`
 pub read_at : {X T : Type 0} (f : List ℕ → ℕ → X) (v : View T) (archive : Bor (List ℕ)) (p : ℕ) → IsAt v archive p → f (bytes_of v) (pos_of v) ≡ f archive.now p

@@ -1,10 +1,9 @@
 -- Lines are executed in turn, and their output is written or held.
 use Rattle.std.proofs.Common.{◌≡◌, ℕ, List, [], ◌∷◌, ◌++◌, Option, refl, sym, ap, ◌∙◌, subst, append_assoc}
-use Rattle.std.specs.Io.KnownBytes.{Appends}
 use Rattle.std.proofs.KnownBytes.{Appends-nil, Appends-trans}
 use Rattle.std.proofs.lemmas.List.{append-nil}
 use Rattle.rkyv_dict.specs.Answers.{StepsLine, RunsTo}
-use Rattle.rkyv_dict.specs.Run.{AppendsSome, AppendsAnswers, AppendsBeginning, AppendsFront, MovesFront, Progress}
+use Rattle.rkyv_dict.specs.Run.{AppendsSome, AppendsBeginning, AppendsFront, MovesFront, Progress}
 use Rattle.rkyv_dict.specs.Script.{lines_of}
 use Rattle.rkyv_dict.specs.State.{State, start}
 
@@ -88,16 +87,6 @@ progress_front old now next script held rest s p f = progress_ends old now next 
   parts = append_assoc p.moved.moved f.front f.rest ∙ ap (λ l. p.moved.moved ++ l) f.parts ∙ sym p.moved.parts;
   appended = Appends-trans old now next p.moved.moved f.front p.moved.appended f.appended;
 })
-
--- the held output is written, and no line is left
-pub progress_whole : (old now next : Option (List ℕ)) (script held : List ℕ) (s : State)
-    → Progress old now script held [] s → Appends now next held → AppendsAnswers old next script
-progress_whole old now next script held s p a = record {
-  output = p.output;
-  last = s;
-  runs = subst (λ (ls : List (List ℕ)). RunsTo start ls p.output s) (sym (append-nil p.done) ∙ p.lines) p.runs;
-  appended = subst (Appends old next) (sym p.moved.parts) (Appends-trans old now next p.moved.moved held p.moved.appended a);
-}
 
 -- no byte is written
 pub nothing_written : (now : Option (List ℕ)) (script : List ℕ) → AppendsBeginning now now script

@@ -1,20 +1,12 @@
--- Serialization of a table's items and the write of its buckets end in one way.
-use Rattle.std.proofs.Common.{◌≡◌, ℕ, zero, suc, ◌+◌, ◌-◌, ◌*◌, ◌<◌, ◌≤◌, ◌∙◌, refl, sym, ap, subst, arith, inl, inr, List, [], ◌∷◌, ◌++◌, length, drop, take, Option, None, Some, append-nil, append_assoc, length-append}
+-- Serialization of a table's items ends in one way.
+use Rattle.std.proofs.Common.{◌≡◌, ℕ, zero, suc, ◌+◌, ◌-◌, ◌∙◌, refl, sym, ap, subst, arith, inl, inr, List, [], ◌∷◌, ◌++◌, length, take, Option, None, Some, append_assoc, length-append}
 use Rattle.std.specs.Prelude.{◌⊎◌, slice_get}
-use Rattle.std.proofs.lemmas.List.{length-replicate}
 use Rattle.rkyv_base.specs.Format.{Format}
-use Rattle.rkyv_base.specs.Writing.{Refusal, Step, distance, no_memory, piece, refusal, zeros}
-use Rattle.rkyv_table.proofs.PartSteps.{parts_filled}
+use Rattle.rkyv_base.specs.Writing.{Step}
 use Rattle.rkyv_table.specs.Table.OneWay.{WritesOneWay}
-use Rattle.rkyv_table.specs.Table.Slots.{BucketNext, BucketStep, PartsNext, SlotImages, SlotParts, filled}
-use Rattle.rkyv_dict.proofs.Ends.{Ends, IsKnown, ThenMade, ThenNext, ends_as, ends_at_once, ends_by_piece, no_piece, same_piece, same_refusal, then_ends}
+use Rattle.rkyv_table.specs.Table.Slots.{PartsNext, SlotParts}
+use Rattle.rkyv_dict.proofs.Ends.{Ends, ThenMade, ThenNext, ends_as, ends_at_once, nothing_there, same_slot, then_ends}
 use Rattle.rkyv_dict.proofs.FormatEnds.{EndsOneWay}
-
-nothing_there : {A : Type 0} (a : A) → None ≡ Some a → ⊥
-nothing_there a e = cc
-
-same_slot : {A : Type 0} (a b : A) → Some a ≡ Some b → a ≡ b
-same_slot a b e = cc
 
 module _ {X R : Type 0} (f : Format X R) (one : WritesOneWay f) (ends : EndsOneWay f) where
   -- ---- parts of the items

@@ -5,9 +5,9 @@ use Rattle.std.specs.Option.{ForSome}
 use Rattle.rkyv_base.specs.declared.errors.VerifyError.{VerifyError}
 use Rattle.rkyv_dict.specs.declared.form.ArchiveWidth.{ArchiveWidth}
 use Rattle.rkyv_dict.specs.declared.form.Form.{Form}
-use Rattle.rkyv_dict.specs.Archives.{IsArchive, IsMapArchive, IsRefused, value_found, value_line}
+use Rattle.rkyv_dict.specs.Archives.{IsArchive, IsMapArchive, ValidationFails, value_found, value_line}
 use Rattle.rkyv_dict.specs.Answers.{StepsTo, DoesIf, StepsLine}
-use Rattle.rkyv_dict.specs.Built.{Holds, IsArchiveOf, IsBuilt, PairsRepresent, form_of_pairs, kind_of_pairs}
+use Rattle.rkyv_dict.specs.Built.{IsArchiveOf, IsBuilt, PairsRepresent, RootRepresents, form_of_pairs, kind_of_pairs}
 use Rattle.rkyv_dict.specs.First.{first_value}
 use Rattle.rkyv_dict.specs.Forms.{Asked, Pairs, numbers, texts}
 use Rattle.rkyv_dict.specs.Output.{answered, get_line, value_in}
@@ -28,7 +28,7 @@ unfolding IsArchiveOf IsMapArchive
 built_archive bits factor (numbers pairs) bytes built = built.0
 built_archive bits factor (texts pairs) bytes built = built.0
 
-built_holds : (bits : ArchiveWidth) (factor : ℕ × ℕ) (pairs : Pairs) (bytes : List ℕ) → IsBuilt (form_of_pairs bits pairs) factor pairs bytes → Holds (form_of_pairs bits pairs) factor bytes pairs
+built_holds : (bits : ArchiveWidth) (factor : ℕ × ℕ) (pairs : Pairs) (bytes : List ℕ) → IsBuilt (form_of_pairs bits pairs) factor pairs bytes → RootRepresents (form_of_pairs bits pairs) factor bytes pairs
 unfolding IsArchiveOf PairsRepresent
 built_holds bits factor (numbers pairs) bytes built = built.1
 built_holds bits factor (texts pairs) bytes built = built.1
@@ -40,14 +40,14 @@ sound_here s a sound is = sound a is
 pub archive_here : (s : State) (a : Archived) (form : Form) (bytes : List ℕ) → IsSound s → s.archive ≡ Some a → form ≡ form_of s → bytes ≡ a.bytes → IsArchive form bytes
 archive_here s a form bytes sound is f b = rw (f, b) (sound_here s a sound is).archive
 
-pub refused_here : (s : State) (form : Form) (b bytes : List ℕ) (e : VerifyError) → form ≡ form_of s → b ≡ bytes → IsRefused form b e → IsRefused (form_of s) bytes e
-refused_here s form b bytes e f is h = subst (λ (g : Form). IsRefused g bytes e) f (subst (λ (l : List ℕ). IsRefused form l e) is h)
+pub refused_here : (s : State) (form : Form) (b bytes : List ℕ) (e : VerifyError) → form ≡ form_of s → b ≡ bytes → ValidationFails form b e → ValidationFails (form_of s) bytes e
+refused_here s form b bytes e f is h = subst (λ (g : Form). ValidationFails g bytes e) f (subst (λ (l : List ℕ). ValidationFails form l e) is h)
 
 -- `get` returns the value of the first pair of a built archive, else that of a lookup
 value_by : {U E : Type 0} (form : Form) (bytes : List ℕ) (built : Option Pairs) (r : Result U E) (now old : List ℕ) (key : Asked)
-    → ForSome built (λ pairs. (factor : ℕ × ℕ) × Holds form factor bytes pairs)
+    → ForSome built (λ pairs. (factor : ℕ × ℕ) × RootRepresents form factor bytes pairs)
     → OnOk r (now ≡ old ++ value_line (value_found form bytes key))
-    → ((pairs : Pairs) (factor : ℕ × ℕ) → Holds form factor bytes pairs → OnOk r (now ≡ old ++ value_line (first_value pairs key)))
+    → ((pairs : Pairs) (factor : ℕ × ℕ) → RootRepresents form factor bytes pairs → OnOk r (now ≡ old ++ value_line (first_value pairs key)))
     → OnOk r (now ≡ old ++ value_line (value_in form bytes built key))
 value_by form bytes None r now old key holds found first = found
 value_by form bytes (Some pairs) r now old key holds found first = let h = holds pairs refl in first pairs h.0 h.1
@@ -55,7 +55,7 @@ value_by form bytes (Some pairs) r now old key holds found first = let h = holds
 pub value_here : {U E : Type 0} (s : State) (a : Archived) (form : Form) (bytes : List ℕ) (r : Result U E) (now old : List ℕ) (key : Asked)
     → IsSound s → s.archive ≡ Some a → form ≡ form_of s → bytes ≡ a.bytes
     → OnOk r (now ≡ old ++ value_line (value_found form bytes key))
-    → ((pairs : Pairs) (factor : ℕ × ℕ) → Holds form factor bytes pairs → OnOk r (now ≡ old ++ value_line (first_value pairs key)))
+    → ((pairs : Pairs) (factor : ℕ × ℕ) → RootRepresents form factor bytes pairs → OnOk r (now ≡ old ++ value_line (first_value pairs key)))
     → OnOk r (now ≡ old ++ answered (get_line (form_of s) key) s.archive)
 value_here s a form bytes r now old key sound is f b found first =
     let here = sound_here s a sound is in
@@ -69,7 +69,7 @@ start_sound s is = subst IsSound (sym is) (λ a none. absurd (let bad : None ≡
 pub built_sound : (s : State) (bytes : List ℕ) → IsBuilt (form_of s) s.load_factor s.pairs bytes → IsSoundIn (form_of s) (record { bytes = bytes; built_of = Some s.pairs })
 built_sound s bytes built = record {
   archive = built_archive _ _ _ _ built;
-  built = λ pairs is. (s.load_factor, subst (Holds (form_of s) s.load_factor bytes) (let same : s.pairs ≡ pairs = cc in same) (built_holds _ _ _ _ built));
+  built = λ pairs is. (s.load_factor, subst (RootRepresents (form_of s) s.load_factor bytes) (let same : s.pairs ≡ pairs = cc in same) (built_holds _ _ _ _ built));
 }
 
 pub checked_sound : (form : Form) (bytes : List ℕ) → IsArchive form bytes → IsSoundIn form (record { bytes = bytes; built_of = None })

@@ -1,21 +1,15 @@
--- The write of a table, and of a root, ends in one way.
-use Rattle.std.proofs.Common.{◌≡◌, ℕ, ◌+◌, ◌-◌, ◌*◌, ◌<◌, ◌≤◌, ◌∙◌, refl, sym, ap, subst, arith, inl, inr, List, [], ◌∷◌, ◌++◌, length, Option, None, Some, append-nil, append_assoc, length-append}
-use Rattle.std.specs.Prelude.{◌⊎◌}
-use Rattle.std.specs.Int.{Width}
+-- The write of a table ends in one way.
+use Rattle.std.proofs.Common.{◌≡◌, ℕ, ◌+◌, ◌-◌, ◌*◌, ◌∙◌, refl, sym, ap, subst, arith, inl, inr, List, [], ◌++◌, length, Option, append-nil, append_assoc, length-append}
 use Rattle.std.proofs.lemmas.List.{length-replicate}
-use Rattle.rkyv_base.specs.Entry.{round_up}
 use Rattle.rkyv_base.specs.Format.{Format}
-use Rattle.rkyv_base.specs.Root.{RootBytes, RootNext}
 use Rattle.rkyv_base.specs.ElementSpec.{ElementSpec}
-use Rattle.rkyv_base.specs.Writing.{Refusal, Step, no_memory, padding, piece, refusal, zeros}
+use Rattle.rkyv_base.specs.Writing.{Step, padding, piece, zeros}
 use Rattle.rkyv_table.proofs.PartSteps.{parts_filled}
-use Rattle.rkyv_table.specs.Controls.Numbers.{capacity}
 use Rattle.rkyv_table.specs.Table.OneWay.{WritesOneWay}
 use Rattle.rkyv_table.specs.Table.Slots.{BucketNext, PartsNext, SlotImages, SlotParts, TableBytes, TableNext, filled}
 use Rattle.rkyv_table.specs.Lemmas.Buckets.{images_length}
-use Rattle.rkyv_table.specs.Table.TableFormat.{PairsNext, TableParts, TableResolver, table_format}
-use Rattle.rkyv_dict.proofs.Ends.{Ends, IsKnown, ThenMade, ThenNext, ends_as, ends_at_once, ends_by_piece, then_ends}
-use Rattle.rkyv_dict.proofs.BucketEnds.{OwnNext, buckets_end, own_ends}
+use Rattle.rkyv_dict.proofs.Ends.{Ends, ThenMade, ThenNext, ends_as, ends_by_piece, then_ends}
+use Rattle.rkyv_dict.proofs.BucketEnds.{buckets_end}
 use Rattle.rkyv_dict.proofs.FormatEnds.{EndsOneWay}
 use Rattle.rkyv_dict.proofs.SlotEnds.{parts_same, slot_parts_end}
 
@@ -113,8 +107,8 @@ module _ {X R : Type 0} (s : ElementSpec) (f : Format X R) (one : WritesOneWay f
   whole_made part (z, t) =
       let zs = gap s.align p (length t.part) in
       let at : z ≡ p + length t.part + length zs + length t.buckets =
-      omega (arith, t.at, length-replicate {A = ℕ} (padding s.align (p + length t.part)) 0, images_length s.size f whole slots t.resolvers z t.buckets t.shown) in
-      (t.part, t.resolvers, zs ++ (t.buckets ++ controls), t.made, (zs, tt, t.buckets ++ controls, refl, (t.buckets, tt, controls, (z, at, t.shown), refl, refl), refl), t.is)
+      omega (arith, t.at, length-replicate {A = ℕ} (padding s.align (p + length t.part)) 0, images_length s.size f whole slots t.resolvers z t.buckets t.images) in
+      (t.part, t.resolvers, zs ++ (t.buckets ++ controls), t.made, (zs, tt, t.buckets ++ controls, refl, (t.buckets, tt, controls, (z, at, t.images), refl, refl), refl), t.is)
 
   pub table_ends : Ends (TableNext s f slots controls p) (λ part. (z : ℕ) × TableBytes s f slots controls p z part)
   table_ends = ends_as WholeNext (TableNext s f slots controls p) WholeMade (λ part. (z : ℕ) × TableBytes s f slots controls p z part) whole_ends (λ front step known h. whole_next front step h) whole_made

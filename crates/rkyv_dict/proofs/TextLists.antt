@@ -12,7 +12,7 @@ use Rattle.rkyv_base.specs.TextWriting.{text_format}
 use Rattle.rkyv_base.specs.Writing.{Step}
 use Rattle.rkyv_base.specs.declared.pairs.EntryResolver.{EntryResolver}
 use Rattle.rkyv_base.specs.declared.errors.WriteError.{WriteError}
-use Rattle.rkyv_base.proofs.WritingSteps.{told_as}
+use Rattle.rkyv_base.proofs.WritingSteps.{fails_under}
 use Rattle.rkyv_keys.specs.Calls.{text_calls}
 use Rattle.rkyv_table.specs.Controls.Numbers.{capacity}
 use Rattle.rkyv_table.specs.Table.Serializing.{HasCapacity}
@@ -22,9 +22,9 @@ use Rattle.rkyv_table.specs.Table.Listed.{ListRefuses}
 use Rattle.rkyv_collections.specs.Map.MapFormat.{keyed}
 use Rattle.rkyv_collections.proofs.SeenItems.{seen_pairs, seen_pairs_next, seen_table, was_seen}
 use Rattle.rkyv_dict.specs.Archives.{hash, header_spec, pair_spec, root}
-use Rattle.rkyv_dict.specs.Built.{BuildRefused, IsArchiveOf, IsBuilt, ArchiveFails, PairsRepresentAt, form_of_pairs, pairs_format}
+use Rattle.rkyv_dict.specs.Built.{BuildFails, IsArchiveOf, IsBuilt, ArchiveFails, PairsRepresentAt, form_of_pairs, pairs_format}
 use Rattle.rkyv_dict.specs.Forms.{buckets_of, text_pair, texts, word_of}
-use Rattle.rkyv_dict.specs.Parts.{Parts, text_parts}
+use Rattle.rkyv_dict.specs.MapTypes.{MapTypes, text_parts}
 use Rattle.rkyv_dict.specs.declared.form.ArchiveWidth.{ArchiveWidth}
 
 module _ {A B : Type 0} (see : A → B) where
@@ -35,7 +35,7 @@ module _ {A B : Type 0} (see : A → B) where
   keyed_seen own [] = refl
   keyed_seen own (x ∷ xs) = ap (λ (t : List (ℕ × (B × B))). (own (see x.0), both x) ∷ t) (keyed_seen own xs)
 
-  module _ (k : Parts) (represents : List ℕ → ℕ → B → Type 0) (factor : ℕ × ℕ) where
+  module _ (k : MapTypes) (represents : List ℕ → ℕ → B → Type 0) (factor : ℕ × ℕ) where
     abbrev RepresentsSeen : List ℕ → ℕ → A → Type 0
     RepresentsSeen b p a = represents b p (see a)
 
@@ -104,7 +104,7 @@ module _ {A B : Type 0} (see : A → B) where
       unfolding ArchiveFails
       refused_seen e h = (
         h.0,
-        told_as k.limit (RootNext align After (map both pairs) 0) (RootNext align Before pairs 0) fresh h.0 e (λ front step n. root_next 0 front step n) h.1,
+        fails_under k.limit (RootNext align After (map both pairs) 0) (RootNext align Before pairs 0) fresh h.0 e (λ front step n. root_next 0 front step n) h.1,
       )
 
       pub result_seen : {F V : Type 0} (items_of : V → List ℕ) (result : Result V (WriteError F))
@@ -118,6 +118,6 @@ pub texts_built : {F V : Type 0} (items_of : V → List ℕ) (bits : ArchiveWidt
     → MatchResult result
     (λ v. IsArchiveOf (text_parts bits) factor (buckets_of bits) (written_as (λ t. t.now) (text_format (word_of bits))) (λ t. text_calls t.now) (λ b p t. TextReads (word_of bits) b p t.now) pairs (items_of v))
     (ArchiveFails (text_parts bits) factor (buckets_of bits) (written_as (λ t. t.now) (text_format (word_of bits))) (λ t. text_calls t.now) pairs)
-    → MatchResult result (λ v. IsBuilt (form_of_pairs bits (texts (map text_pair pairs))) factor (texts (map text_pair pairs)) (items_of v)) (BuildRefused (form_of_pairs bits (texts (map text_pair pairs))) factor (texts (map text_pair pairs)))
+    → MatchResult result (λ v. IsBuilt (form_of_pairs bits (texts (map text_pair pairs))) factor (texts (map text_pair pairs)) (items_of v)) (BuildFails (form_of_pairs bits (texts (map text_pair pairs))) factor (texts (map text_pair pairs)))
 texts_built items_of bits factor pairs result h =
     result_seen (λ t. t.now) (text_parts bits) (TextReads (word_of bits)) factor (buckets_of bits) (text_format (word_of bits)) text_calls pairs items_of result h

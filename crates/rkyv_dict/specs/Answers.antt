@@ -3,9 +3,9 @@ use Rattle.std.specs.Prelude.{◌≡◌, ◌⊎◌, ℕ, false, List, [], ◌∷
 use Rattle.rkyv_base.specs.declared.errors.VerifyError.{VerifyError}
 use Rattle.rkyv_base.specs.declared.errors.WriteError.{WriteError}
 use Rattle.rkyv_base.specs.declared.writer.NoMemory.{NoMemory}
-use Rattle.rkyv_dict.specs.Archives.{IsArchive, IsRefused, entry_count}
-use Rattle.rkyv_dict.specs.Built.{BuildRefused, IsBuilt, kind_of_pairs}
-use Rattle.rkyv_dict.specs.Errors.{wants_memory}
+use Rattle.rkyv_dict.specs.Archives.{IsArchive, ValidationFails, entry_count}
+use Rattle.rkyv_dict.specs.Built.{BuildFails, IsBuilt, kind_of_pairs}
+use Rattle.rkyv_dict.specs.Errors.{is_allocation_failure}
 use Rattle.rkyv_dict.specs.Output.{answered, audit_line, bad_line, built_line, error_line, get_line}
 use Rattle.rkyv_dict.specs.Output.{hex_line, list_lines, ok_line, refused_line}
 use Rattle.rkyv_dict.specs.Script.{Request, set_kind, set_width, set_load_factor, put_numbers}
@@ -16,7 +16,7 @@ use Rattle.rkyv_dict.specs.State.{State, emptied, form_of, with_numbers, with_te
 -- ---- requests whose outcome depends on the bytes
 
 -- `s'` is `s` with the archive of its pairs, and the output is the line of its length.
-pub record Builds (s : State) (answer : List ℕ) (s' : State) : Type 0 where
+pub record StepBuilds (s : State) (answer : List ℕ) (s' : State) : Type 0 where
   pub bytes : List ℕ
   pub made : IsBuilt (form_of s) s.load_factor s.pairs bytes
   pub answers : answer ≡ built_line bytes
@@ -26,8 +26,8 @@ pub record Builds (s : State) (answer : List ℕ) (s' : State) : Type 0 where
 -- The output is the line of the cause, and `s'` has no archive.
 pub record RefusesBuild (s : State) (answer : List ℕ) (s' : State) : Type 0 where
   pub cause : WriteError NoMemory
-  pub applies : BuildRefused (form_of s) s.load_factor s.pairs cause
-  pub told : wants_memory cause ≡ false
+  pub applies : BuildFails (form_of s) s.load_factor s.pairs cause
+  pub reported : is_allocation_failure cause ≡ false
   pub answers : answer ≡ error_line cause
   pub after : s' ≡ record s { archive = None }
 
@@ -41,7 +41,7 @@ pub record Takes (s : State) (bytes answer : List ℕ) (s' : State) : Type 0 whe
 -- `bytes` fail validation with `error`: the output is its line, and the state is unchanged.
 pub record RefusesCheck (s : State) (bytes answer : List ℕ) (s' : State) : Type 0 where
   pub error : VerifyError
-  pub applies : IsRefused (form_of s) bytes error
+  pub applies : ValidationFails (form_of s) bytes error
   pub answers : answer ≡ refused_line error
   pub after : s' ≡ s
 
@@ -65,7 +65,7 @@ StepsTo s (put_numbers key value) answer s' =
     Sets (record s { pairs = with_numbers s.pairs key value }) answer s'
 StepsTo s (put_texts key value) answer s' =
     Sets (record s { pairs = with_texts s.pairs key value }) answer s'
-StepsTo s build_archive answer s' = Builds s answer s' ⊎ RefusesBuild s answer s'
+StepsTo s build_archive answer s' = StepBuilds s answer s' ⊎ RefusesBuild s answer s'
 StepsTo s (check_archive bytes) answer s' = Takes s bytes answer s' ⊎ RefusesCheck s bytes answer s'
 StepsTo s show_hex answer s' = Shows s (answered hex_line s.archive) answer s'
 StepsTo s (get_value key) answer s' =

@@ -23,7 +23,7 @@ use Rattle.rkyv_dict.specs.declared.form.Form.{Form}
 use Rattle.rkyv_dict.specs.declared.form.Kind.{Kind}
 use Rattle.rkyv_dict.specs.declared.form.Kind.TheVariants.{Num, Text}
 use Rattle.rkyv_dict.specs.Forms.{Asked, asked_number, asked_text, word_of}
-use Rattle.rkyv_dict.specs.Parts.{Parts, number_calls, number_parts, parts_of, text_parts}
+use Rattle.rkyv_dict.specs.MapTypes.{MapTypes, number_calls, number_parts, text_parts, types_of}
 
 -- the text, then LF
 abbrev pub line : List ℕ → List ℕ
@@ -42,7 +42,7 @@ line_at s text b q = line (text b q ++ codes " " ++ text b (q + value_offset s s
 abbrev pub hash : List HasherCall → ℕ
 hash calls = fx_hash low_halves calls
 
-module _ (k : Parts) where
+module _ (k : MapTypes) where
   -- the spec of a pair
   abbrev pub pair_spec : ElementSpec
   pair_spec = entry_spec k.spec k.spec
@@ -57,8 +57,8 @@ module _ (k : Parts) where
     IsMapArchive = Accepted k.limit header_spec b
 
     -- `e` is the first error of the validation of `b`
-    unfoldable pub MapArchiveFails : VerifyError → Type 0
-    MapArchiveFails e = AccessFails k.limit header_spec b e
+    unfoldable pub MapValidationFails : VerifyError → Type 0
+    MapValidationFails e = AccessFails k.limit header_spec b e
 
     -- the position of the root, at the end of `b`
     abbrev pub root : ℕ
@@ -93,23 +93,23 @@ module _ (k : Parts) where
 
 -- `b` is a valid archive of the form
 abbrev pub IsArchive : Form → List ℕ → Type 0
-IsArchive form b = IsMapArchive (parts_of form) b
+IsArchive form b = IsMapArchive (types_of form) b
 
 -- `e` is the first error of the validation of `b` as an archive of the form
-abbrev pub IsRefused : Form → List ℕ → VerifyError → Type 0
-IsRefused form b e = MapArchiveFails (parts_of form) b e
+abbrev pub ValidationFails : Form → List ℕ → VerifyError → Type 0
+ValidationFails form b e = MapValidationFails (types_of form) b e
 
 -- the number of pairs of the archive
 abbrev pub entry_count : Form → List ℕ → ℕ
-entry_count form b = pair_count (parts_of form) b
+entry_count form b = pair_count (types_of form) b
 
 -- the line of the number of pairs, then the line of each pair in bucket order
 abbrev pub listing : Form → List ℕ → List ℕ
-listing form b = pair_lines (parts_of form) b
+listing form b = pair_lines (types_of form) b
 
 -- the number of keys of the archive that a lookup doesn't find in their own bucket
 abbrev pub misplaced_count : Form → List ℕ → ℕ
-misplaced_count form b = keys_misplaced (parts_of form) b
+misplaced_count form b = keys_misplaced (types_of form) b
 
 -- the text of the value that a lookup finds; a key of the other kind is never found
 abbrev pub found_in : Kind → ArchiveWidth → List ℕ → Asked → Option (List ℕ)

@@ -5,7 +5,7 @@ use Rattle.std.specs.declared.vec.Vec.{Vec}
 use Rattle.rkyv_scan.specs.Hash.{HasherCall}
 use Rattle.rkyv_base.specs.Format.{Format}
 use Rattle.rkyv_base.specs.Numbers.{unsigned}
-use Rattle.rkyv_base.specs.Root.{ArchiveOf, ArchiveRefused}
+use Rattle.rkyv_base.specs.Root.{ArchiveOf, ToBytesFails}
 use Rattle.rkyv_base.specs.Scalar.{ScalarRepresents, scalar_format}
 use Rattle.rkyv_base.specs.Text.{TextReads}
 use Rattle.rkyv_base.specs.TextWriting.{text_format}
@@ -20,7 +20,7 @@ use Rattle.rkyv_dict.specs.declared.form.Kind.{Kind}
 use Rattle.rkyv_dict.specs.declared.form.Kind.TheVariants.{Num, Text}
 use Rattle.rkyv_dict.specs.Archives.{hash, header_spec, root}
 use Rattle.rkyv_dict.specs.Forms.{Pairs, buckets_of, numbers, texts, word_of}
-use Rattle.rkyv_dict.specs.Parts.{Parts, number_calls, number_parts, text_parts}
+use Rattle.rkyv_dict.specs.MapTypes.{MapTypes, number_calls, number_parts, text_parts}
 
 -- the kind of the pairs
 abbrev pub kind_of_pairs : Pairs → Kind
@@ -31,7 +31,7 @@ kind_of_pairs (texts pairs) = Text
 abbrev pub form_of_pairs : ArchiveWidth → Pairs → Form
 form_of_pairs bits pairs = record { kind = kind_of_pairs pairs; bits = bits }
 
-module _ (k : Parts) {A : Type 0} (factor : ℕ × ℕ) where
+module _ (k : MapTypes) {A : Type 0} (factor : ℕ × ℕ) where
   module _ (represents : List ℕ → ℕ → A → Type 0) where
     -- the header at `p` represents a map of the pairs
     abbrev pub PairsRepresentAt : List ℕ → ℕ → List (A × A) → Type 0
@@ -55,7 +55,7 @@ module _ (k : Parts) {A : Type 0} (factor : ℕ × ℕ) where
 
     -- the write of the pairs fails with `e`
     unfoldable pub ArchiveFails : {F : Type 0} → List (A × A) → WriteError F → Type 0
-    ArchiveFails pairs e = ArchiveRefused k.limit (header_spec k) pairs_format pairs e
+    ArchiveFails pairs e = ToBytesFails k.limit (header_spec k) pairs_format pairs e
 
 -- Native keys and values. `format`: their format, `calls`: their hasher calls,
 -- `represents`: bytes at a position represent one
@@ -71,7 +71,7 @@ natives format calls represents = record { format = format; calls = calls; repre
 
 -- `result` is the archive of the pairs, as a map of at most `most` buckets, or the error of
 -- their write
-abbrev pub MakesArchive : {A R F Z : Type 0} → Parts → ℕ × ℕ → ℕ → Natives A R → List (A × A)
+abbrev pub MakesArchive : {A R F Z : Type 0} → MapTypes → ℕ × ℕ → ℕ → Natives A R → List (A × A)
     → Result (Vec ℕ Z) (WriteError F) → Type 0
 MakesArchive k factor most n pairs result =
     MatchResult result
@@ -95,34 +95,35 @@ abbrev pub IsBuilt : Form → ℕ × ℕ → Pairs → List ℕ → Type 0
 IsBuilt form factor pairs b = built_in form.kind form.bits factor pairs b
 
 -- the write of the pairs fails with `e`; the pairs are of the kind
-abbrev pub refused_in : {F : Type 0} → Kind → ArchiveWidth → ℕ × ℕ → Pairs → WriteError F → Type 0
-refused_in Num bits factor (numbers pairs) e =
+abbrev pub build_fails_in : {F : Type 0} → Kind → ArchiveWidth → ℕ × ℕ → Pairs → WriteError F
+    → Type 0
+build_fails_in Num bits factor (numbers pairs) e =
     ArchiveFails (number_parts bits) factor (buckets_of bits) (scalar_format (unsigned w32))
     number_calls pairs e
-refused_in Text bits factor (texts pairs) e =
+build_fails_in Text bits factor (texts pairs) e =
     ArchiveFails (text_parts bits) factor (buckets_of bits) (text_format (word_of bits)) text_calls
     pairs e
-refused_in Num bits factor (texts pairs) e = ⊥
-refused_in Text bits factor (numbers pairs) e = ⊥
+build_fails_in Num bits factor (texts pairs) e = ⊥
+build_fails_in Text bits factor (numbers pairs) e = ⊥
 
 -- the write of the pairs in the form fails with `e`
-abbrev pub BuildRefused : {F : Type 0} → Form → ℕ × ℕ → Pairs → WriteError F → Type 0
-BuildRefused form factor pairs e = refused_in form.kind form.bits factor pairs e
+abbrev pub BuildFails : {F : Type 0} → Form → ℕ × ℕ → Pairs → WriteError F → Type 0
+BuildFails form factor pairs e = build_fails_in form.kind form.bits factor pairs e
 
 -- `result` is the archive of the pairs in the form, or the error of their write
 abbrev pub Builds : {F Z : Type 0} → Form → ℕ × ℕ → Pairs → Result (Vec ℕ Z) (WriteError F) → Type 0
 Builds form factor pairs result =
-    MatchResult result (λ v. IsBuilt form factor pairs v.items) (BuildRefused form factor pairs)
+    MatchResult result (λ v. IsBuilt form factor pairs v.items) (BuildFails form factor pairs)
 
 -- the root of any archive `b` represents a map of the pairs, which are of the kind
-abbrev pub holds_in : Kind → ArchiveWidth → ℕ × ℕ → List ℕ → Pairs → Type 0
-holds_in Num bits factor b (numbers pairs) =
+abbrev pub represents_in : Kind → ArchiveWidth → ℕ × ℕ → List ℕ → Pairs → Type 0
+represents_in Num bits factor b (numbers pairs) =
     PairsRepresent (number_parts bits) factor (ScalarRepresents (unsigned w32)) pairs b
-holds_in Text bits factor b (texts pairs) =
+represents_in Text bits factor b (texts pairs) =
     PairsRepresent (text_parts bits) factor (TextReads (word_of bits)) pairs b
-holds_in Num bits factor b (texts pairs) = ⊥
-holds_in Text bits factor b (numbers pairs) = ⊥
+represents_in Num bits factor b (texts pairs) = ⊥
+represents_in Text bits factor b (numbers pairs) = ⊥
 
 -- the root of `b`, which is of the form, represents a map of the pairs
-abbrev pub Holds : Form → ℕ × ℕ → List ℕ → Pairs → Type 0
-Holds form factor b pairs = holds_in form.kind form.bits factor b pairs
+abbrev pub RootRepresents : Form → ℕ × ℕ → List ℕ → Pairs → Type 0
+RootRepresents form factor b pairs = represents_in form.kind form.bits factor b pairs

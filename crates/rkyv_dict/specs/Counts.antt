@@ -5,9 +5,9 @@ use Rattle.rkyv_dict.specs.declared.form.PairList.{PairList}
 use Rattle.rkyv_dict.specs.declared.form.PairList.TheVariants.{Numbers, Texts}
 
 -- the number of pairs of the list
-abbrev pub pair_count : PairList → ℕ
-pair_count (Numbers pairs) = vec_len pairs
-pair_count (Texts pairs) = vec_len pairs
+abbrev pub list_len : PairList → ℕ
+list_len (Numbers pairs) = vec_len pairs
+list_len (Texts pairs) = vec_len pairs
 
 -- the first `n` pairs of the list
 abbrev pub take_pairs : ℕ → Pairs → Pairs

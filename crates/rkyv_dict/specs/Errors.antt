@@ -48,13 +48,13 @@ cause_text Memory = codes "8 Memory"
 cause_text (RefusedWrite reason) = codes "9 Refused"
 
 -- the write error is an allocation failure, which has no line
-unfoldable pub wants_memory : {F : Type 0} → WriteError F → Bool
-wants_memory (InvalidLoadFactor numerator denominator) = false
-wants_memory (IteratorLengthMismatch mismatch) = false
-wants_memory (CapacityTooLarge len) = false
-wants_memory PositionTooLarge = false
-wants_memory DistanceTooLarge = false
-wants_memory TextTooLong = false
-wants_memory (Writer fault) = true
-wants_memory Memory = true
-wants_memory (RefusedWrite reason) = false
+unfoldable pub is_allocation_failure : {F : Type 0} → WriteError F → Bool
+is_allocation_failure (InvalidLoadFactor numerator denominator) = false
+is_allocation_failure (IteratorLengthMismatch mismatch) = false
+is_allocation_failure (CapacityTooLarge len) = false
+is_allocation_failure PositionTooLarge = false
+is_allocation_failure DistanceTooLarge = false
+is_allocation_failure TextTooLong = false
+is_allocation_failure (Writer fault) = true
+is_allocation_failure Memory = true
+is_allocation_failure (RefusedWrite reason) = false

@@ -7,7 +7,7 @@ use Rattle.rkyv_table.specs.Table.Positions.{home_positions}
 use Rattle.rkyv_collections.specs.Map.{MapWrittenAt}
 use Rattle.rkyv_dict.specs.Archives.{hash, pair_spec, root, value_text}
 use Rattle.rkyv_dict.specs.Forms.{Asked, Pairs, asked_number, asked_text, numbers, texts}
-use Rattle.rkyv_dict.specs.Parts.{Parts}
+use Rattle.rkyv_dict.specs.MapTypes.{MapTypes}
 
 -- the value of the first pair whose key passes `accept`
 abbrev pub first_of : {A B : Type 0} → (A → Bool) → List (A × B) → Option B
@@ -20,7 +20,7 @@ first_value (texts pairs) (asked_text t) = first_of (λ key. same_bytes t key) p
 first_value (numbers pairs) (asked_text t) = None
 first_value (texts pairs) (asked_number n) = None
 
-module _ (k : Parts) (b : List ℕ) where
+module _ (k : MapTypes) (b : List ℕ) where
   -- the map of `b` was written from pairs with these homes, in this order
   unfoldable pub HasHomes : List ℕ → Type 0
   HasHomes homes = MapWrittenAt k.word (pair_spec k) (λ c q. hash (k.calls c q)) b (root k b) homes

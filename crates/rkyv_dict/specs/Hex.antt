@@ -23,12 +23,12 @@ byte_said high low = if is_ascii_hexdigit high
     && is_ascii_hexdigit low then Some (digit_value high * 16 + digit_value low) else None
 
 -- `byte` before the bytes `more`, or `None` if either is `None`
-abbrev pub behind : Option ℕ → Option (List ℕ) → Option (List ℕ)
-behind None more = None
-behind (Some byte) more = option_map (λ bytes. byte ∷ bytes) more
+abbrev pub prepended : Option ℕ → Option (List ℕ) → Option (List ℕ)
+prepended None more = None
+prepended (Some byte) more = option_map (λ bytes. byte ∷ bytes) more
 
 -- the bytes of pairs of digits, or `None` if the input isn't such pairs
 abbrev pub bytes_said : List ℕ → Option (List ℕ)
 bytes_said [] = Some []
 bytes_said (digit ∷ []) = None
-bytes_said (high ∷ low ∷ more) = behind (byte_said high low) (bytes_said more)
+bytes_said (high ∷ low ∷ more) = prepended (byte_said high low) (bytes_said more)

@@ -1,5 +1,5 @@
 pub mod Forms
-pub mod Parts
+pub mod MapTypes
 pub mod Pushing
 pub mod Archives
 pub mod Built
@@ -10,8 +10,8 @@ pub mod Errors
 pub mod State
 pub mod Output
 pub mod Answers
-pub mod Seen
+pub mod Commands
 pub mod Counts
-pub mod Shown
+pub mod Dicts
 pub mod Run
 pub mod Once

@@ -5,9 +5,9 @@ use Rattle.rkyv_base.specs.declared.errors.WriteError.{WriteError}
 use Rattle.rkyv_base.specs.declared.writer.NoMemory.{NoMemory}
 use Rattle.rkyv_dict.specs.declared.form.Form.{Form}
 use Rattle.rkyv_dict.specs.Answers.{RunsTo}
-use Rattle.rkyv_dict.specs.Archives.{IsArchive, IsRefused}
-use Rattle.rkyv_dict.specs.Built.{BuildRefused, IsBuilt}
-use Rattle.rkyv_dict.specs.Errors.{cause_text, wants_memory}
+use Rattle.rkyv_dict.specs.Archives.{IsArchive, ValidationFails}
+use Rattle.rkyv_dict.specs.Built.{BuildFails, IsBuilt}
+use Rattle.rkyv_dict.specs.Errors.{cause_text, is_allocation_failure}
 use Rattle.rkyv_dict.specs.Forms.{Pairs}
 use Rattle.rkyv_dict.specs.State.{State}
 
@@ -18,18 +18,19 @@ BuildsAreOne = (form : Form) (factor : ℕ × ℕ) (pairs : Pairs) (a b : List �
 
 -- bytes that fail validation are no valid archive, and fail with one error only
 abbrev pub ChecksAreOne : Type 0
-ChecksAreOne = (form : Form) (b : List ℕ) (e : VerifyError) → IsRefused form b e
-    → (IsArchive form b → ⊥) × ((d : VerifyError) → IsRefused form b d → e ≡ d)
+ChecksAreOne = (form : Form) (b : List ℕ) (e : VerifyError) → ValidationFails form b e
+    → (IsArchive form b → ⊥) × ((d : VerifyError) → ValidationFails form b d → e ≡ d)
 
 -- Uniqueness of the error of a failed build, except for allocation failures.
 -- Pairs that have an archive have no such error.
 pub record RefusedBuildsAreOne : Type 0 where
   pub causes : (form : Form) (factor : ℕ × ℕ) (pairs : Pairs) (c d : WriteError NoMemory)
-      → BuildRefused form factor pairs c → BuildRefused form factor pairs d
-      → wants_memory c ≡ false → wants_memory d ≡ false → cause_text c ≡ cause_text d
+      → BuildFails form factor pairs c → BuildFails form factor pairs d
+      → is_allocation_failure c ≡ false → is_allocation_failure d ≡ false
+      → cause_text c ≡ cause_text d
   pub built : (form : Form) (factor : ℕ × ℕ) (pairs : Pairs) (b : List ℕ) (c : WriteError NoMemory)
-      → IsBuilt form factor pairs b → BuildRefused form factor pairs c
-      → wants_memory c ≡ false → ⊥
+      → IsBuilt form factor pairs b → BuildFails form factor pairs c
+      → is_allocation_failure c ≡ false → ⊥
 
 -- the lines of a script have one output from a state, and end in one state
 abbrev pub ScriptsAreOne : Type 0

@@ -30,22 +30,22 @@ pub data Request : Type 0 where
 
 -- ---- lines and words
 
--- the parts of `bytes`, separated by each byte `at`; n such bytes separate n + 1 parts
-abbrev pub parts_of : ℕ → List ℕ → List (List ℕ)
-parts_of at bytes = slice_split (λ b. b == at) bytes
+-- the parts of `bytes`, separated by each byte `separator`; n such bytes separate n + 1 parts
+abbrev pub split_at : ℕ → List ℕ → List (List ℕ)
+split_at separator bytes = slice_split (λ b. b == separator) bytes
 
 -- the lines, each ended by LF, which the last may lack; an empty part is skipped when executed
 abbrev pub lines_of : List ℕ → List (List ℕ)
-lines_of script = parts_of 10 script
+lines_of script = split_at 10 script
 
 -- the words of a line, separated by one space each
 abbrev pub words_of : List ℕ → List (List ℕ)
-words_of line = parts_of 32 line
+words_of line = split_at 32 line
 
 -- the parts of `rest`, after a first part
 abbrev pub parts_after : ℕ → Option (List ℕ) → List (List ℕ)
-parts_after at None = []
-parts_after at (Some rest) = parts_of at rest
+parts_after separator None = []
+parts_after separator (Some rest) = split_at separator rest
 
 -- the words of the rest of a line
 abbrev pub words_left : Option (Bor (List ℕ)) → List (List ℕ)

@@ -7,7 +7,7 @@ use Rattle.rkyv_dict.specs.declared.form.Form.{Form}
 use Rattle.rkyv_dict.specs.declared.form.Kind.{Kind}
 use Rattle.rkyv_dict.specs.declared.form.Kind.TheVariants.{Num, Text}
 use Rattle.rkyv_dict.specs.Archives.{IsArchive}
-use Rattle.rkyv_dict.specs.Built.{Holds, form_of_pairs}
+use Rattle.rkyv_dict.specs.Built.{RootRepresents, form_of_pairs}
 use Rattle.rkyv_dict.specs.Forms.{Pairs, numbers, texts}
 
 -- an archive: its bytes, and the pairs that it was built from, or `None` after `check`
@@ -61,7 +61,7 @@ with_texts (texts pairs) key value = texts (pairs ++ (key, value) ∷ [])
 pub record IsSoundIn (form : Form) (archived : Archived) : Type 0 where
   pub archive : IsArchive form archived.bytes
   pub built : ForSome archived.built_of (λ pairs. (factor : ℕ × ℕ)
-      × Holds form factor archived.bytes pairs)
+      × RootRepresents form factor archived.bytes pairs)
 
 -- the archive of `s`, if any, is valid in its form; a built one represents its pairs
 unfoldable pub IsSound : State → Type 0

@@ -7,16 +7,18 @@ ghost use Rattle.std.specs.Prelude.{ℕ, ◌≡◌, ◌++◌, IfSome, MatchResul
 ghost use Rattle.std.specs.List.{flat_map};
 ghost use Rattle.std.specs.Option.{option_map};
 ghost use Rattle.rkyv_base.specs.View.{IsAt, IsValidView};
-ghost use Rattle.rkyv_keys.specs.Places.{at_view};
+ghost use Rattle.rkyv_keys.specs.AtViews.{at_view};
 ghost use Rattle.rkyv_collections.specs.Map.{key_positions, map_bytes};
-ghost use Rattle.rkyv_dict.specs.Archives.{IsArchive, IsMapArchive, IsRefused, MapArchiveFails};
-ghost use Rattle.rkyv_dict.specs.Archives.{entry_count, keys_misplaced, line, line_at, listing};
-ghost use Rattle.rkyv_dict.specs.Archives.{misplaced_count, pair_count, pair_lines, root};
-ghost use Rattle.rkyv_dict.specs.Archives.{value_found, value_line, value_under};
-ghost use Rattle.rkyv_dict.specs.Built.{Builds, MakesArchive, Holds, form_of_pairs, natives};
+ghost use Rattle.rkyv_dict.specs.Archives.{IsArchive, IsMapArchive, MapValidationFails};
+ghost use Rattle.rkyv_dict.specs.Archives.{ValidationFails, entry_count, keys_misplaced, line};
+ghost use Rattle.rkyv_dict.specs.Archives.{line_at, listing, misplaced_count, pair_count};
+ghost use Rattle.rkyv_dict.specs.Archives.{pair_lines, root, value_found, value_line};
+ghost use Rattle.rkyv_dict.specs.Archives.{value_under};
+ghost use Rattle.rkyv_dict.specs.Built.{Builds, MakesArchive, RootRepresents, form_of_pairs};
+ghost use Rattle.rkyv_dict.specs.Built.{natives};
 ghost use Rattle.rkyv_dict.specs.First.{FindsFirstValue, first_value};
 ghost use Rattle.rkyv_dict.specs.Forms.{Pairs, key_seen, pairs_seen};
-ghost use Rattle.rkyv_dict.specs.Parts.{parts_by};
+ghost use Rattle.rkyv_dict.specs.MapTypes.{parts_by};
 ghost use Rattle.rkyv_dict.specs.Pushing.{AppendsText};
 
 use crate::form::{ArchiveWidth, Form, Key, Kind, PairList};
@@ -45,7 +47,7 @@ fn check_map<P: Printable, W: Width>(bytes: &[u8]) -> Result<usize, VerifyError>
     ensures { let m = parts_by W.word W.LIMIT P.spec P.text P.same P.key_calls in
         MatchResult result
         (λ n. IsMapArchive m bytes.now × (n ≡ pair_count m bytes.now))
-        (MapArchiveFails m bytes.now) }
+        (MapValidationFails m bytes.now) }
 {
     let root = access_in::<W, HashMapOf<P, P, FxHasher64, W>>(bytes)?;
     Ok(ArchivedHashMap::of(root).len())
@@ -181,7 +183,7 @@ where
 pub fn check(form: Form, bytes: &[u8]) -> Result<usize, VerifyError>
     ensures { MatchResult result
         (λ n. IsArchive form bytes.now × (n ≡ entry_count form bytes.now))
-        (IsRefused form bytes.now) }
+        (ValidationFails form bytes.now) }
 {
     match (form.kind, form.bits) {
         (Kind::Num, ArchiveWidth::Bits32) => check_map::<u32, Narrow>(bytes),
@@ -211,7 +213,7 @@ pub fn push_value(
     requires { IsArchive form bytes.now }
     ensures found { AppendsText result out.old out.new
         (value_line (value_found form bytes.now (key_seen key.entry))) }
-    ensures first { (pairs : Pairs) (factor : ℕ × ℕ) → Holds form factor bytes.now pairs
+    ensures first { (pairs : Pairs) (factor : ℕ × ℕ) → RootRepresents form factor bytes.now pairs
         → AppendsText result out.old out.new (value_line (first_value pairs (key_seen key.entry))) }
 {
     match (form.kind, key) {

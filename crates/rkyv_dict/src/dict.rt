@@ -2,7 +2,7 @@
 //!
 //! `Dict::answer` executes one line of a script, and appends its output.
 ghost use Rattle.rkyv_dict.specs.Answers.{StepsTo, StepsLine};
-ghost use Rattle.rkyv_dict.specs.Counts.{pair_count};
+ghost use Rattle.rkyv_dict.specs.Counts.{list_len};
 ghost use Rattle.rkyv_dict.specs.Forms.{key_seen};
 ghost use Rattle.rkyv_dict.specs.Output.{answered, audit_line, error_line, get_line, hex_line};
 ghost use Rattle.rkyv_dict.specs.Output.{list_lines, refused_line};
@@ -14,7 +14,7 @@ ghost use Rattle.std.specs.Option.{ForSome};
 ghost use Rattle.std.specs.Prelude.{◌≡◌, ◌≤◌, OnOk, string_bytes};
 
 use crate::archives::{self, push_line};
-use crate::errors::{cause_text, refusal_text, wants_memory};
+use crate::errors::{cause_text, is_allocation_failure, refusal_text};
 use crate::form::{ArchiveWidth, Form, Key, Kind, PairList};
 use crate::hex::push_hex;
 use crate::pairs::{count_of, kind_of, no_pairs, put_numbers, put_texts};
@@ -40,28 +40,28 @@ pub struct Dict<'a> {
     list: PairList<'a>,
     archive: Option<Stored>,
     // A built archive was built from at most as many pairs as the list has.
-    ghost built_in_list: { ForSome archive (λ a. ForSome a.built_len (λ n. n ≤ pair_count list)) },
+    ghost built_in_list: { ForSome archive (λ a. ForSome a.built_len (λ n. n ≤ list_len list)) },
 }
 
 /// Appends the line of a validation error.
 fn push_refusal(out: &mut String, error: &VerifyError) -> Result<(), AllocError>
     ensures { AppendsText result out.old out.new (refused_line error.now) }
 {
-    let told = refusal_text(error);
-    write!(out, "refused {told}\n")
+    let text = refusal_text(error);
+    write!(out, "refused {text}\n")
 }
 
 /// Appends the line of a write error.
 fn push_cause(out: &mut String, cause: &WriteError<NoMemory>) -> Result<(), AllocError>
     ensures { AppendsText result out.old out.new (error_line cause.now) }
 {
-    let told = cause_text(cause);
-    write!(out, "error {told}\n")
+    let text = cause_text(cause);
+    write!(out, "error {text}\n")
 }
 
 impl<'a> Dict<'a> {
-    ghost use Rattle.rkyv_dict.specs.Shown.{state_seen};
-    ghost use Rattle.rkyv_dict.specs.Seen.{request_seen};
+    ghost use Rattle.rkyv_dict.specs.Commands.{request_seen};
+    ghost use Rattle.rkyv_dict.specs.Dicts.{state_seen};
 
     /// Returns the state before the first line.
     pub fn new(alloc: Global) -> Dict<'a>
@@ -147,7 +147,7 @@ impl<'a> Dict<'a> {
                 write!(out, "built {len}\n")
             }
             Err(cause) => {
-                if wants_memory(&cause) {
+                if is_allocation_failure(&cause) {
                     return Err(AllocError);
                 }
                 self.archive = None;

@@ -1,5 +1,5 @@
 //! The number and the name of each error, as the output has them.
-ghost use Rattle.rkyv_dict.specs.Errors.{cause_text, refusal_text, wants_memory};
+ghost use Rattle.rkyv_dict.specs.Errors.{cause_text, is_allocation_failure, refusal_text};
 ghost use Rattle.std.specs.Prelude.{◌≡◌};
 
 use rkyv_base::errors::{VerifyError, WriteError};
@@ -41,9 +41,9 @@ pub fn cause_text(error: &WriteError<NoMemory>) -> &'static str
 }
 
 /// Returns whether a write error is an allocation failure.
-#[tactic(auto, unfolding(crate::specs::Errors::wants_memory))]
-pub fn wants_memory(error: &WriteError<NoMemory>) -> bool
-    ensures { result ≡ wants_memory error.now }
+#[tactic(auto, unfolding(crate::specs::Errors::is_allocation_failure))]
+pub fn is_allocation_failure(error: &WriteError<NoMemory>) -> bool
+    ensures { result ≡ is_allocation_failure error.now }
 {
     matches!(error, WriteError::Writer(_) | WriteError::Memory)
 }

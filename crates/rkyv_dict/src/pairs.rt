@@ -1,6 +1,6 @@
 //! The list of the pairs that a script puts.
 ghost use Rattle.rkyv_dict.specs.Built.{kind_of_pairs};
-ghost use Rattle.rkyv_dict.specs.Counts.{pair_count, take_pairs};
+ghost use Rattle.rkyv_dict.specs.Counts.{list_len, take_pairs};
 ghost use Rattle.rkyv_dict.specs.Forms.{pairs_seen};
 ghost use Rattle.rkyv_dict.specs.State.{no_pairs, with_numbers, with_texts};
 ghost use Rattle.std.specs.Prelude.{◌≡◌, ◌≤◌, ℕ, OnOk};
@@ -30,7 +30,7 @@ pub fn kind_of(list: &PairList<'_>) -> Kind
 
 /// Returns the number of pairs.
 pub fn count_of(list: &PairList<'_>) -> usize
-    ensures { result ≡ pair_count list.now }
+    ensures { result ≡ list_len list.now }
 {
     match list {
         PairList::Numbers(pairs) => pairs.len(),
@@ -46,8 +46,8 @@ pub fn count_of(list: &PairList<'_>) -> usize
 pub fn put_numbers(list: &mut PairList<'_>, key: u32, value: u32) -> Result<(), AllocError>
     ensures added { OnOk result
         (pairs_seen list.new ≡ with_numbers (pairs_seen list.old) key value) }
-    ensures kept { pair_count list.old ≤ pair_count list.new }
-    ensures first { (n : ℕ) → n ≤ pair_count list.old
+    ensures kept { list_len list.old ≤ list_len list.new }
+    ensures first { (n : ℕ) → n ≤ list_len list.old
         → take_pairs n (pairs_seen list.new) ≡ take_pairs n (pairs_seen list.old) }
 {
     match list {
@@ -71,8 +71,8 @@ pub fn put_texts<'a>(
 ) -> Result<(), AllocError>
     ensures added { OnOk result
         (pairs_seen list.new ≡ with_texts (pairs_seen list.old) key.now value.now) }
-    ensures kept { pair_count list.old ≤ pair_count list.new }
-    ensures first { (n : ℕ) → n ≤ pair_count list.old
+    ensures kept { list_len list.old ≤ list_len list.new }
+    ensures first { (n : ℕ) → n ≤ list_len list.old
         → take_pairs n (pairs_seen list.new) ≡ take_pairs n (pairs_seen list.old) }
 {
     match list {

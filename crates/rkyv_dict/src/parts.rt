@@ -3,8 +3,8 @@
 ghost use Rattle.std.specs.Prelude.{ℕ, List};
 ghost use Rattle.rkyv_base.specs.Text.{text_at, text_spec};
 ghost use Rattle.rkyv_base.specs.View.{IsValidView};
-ghost use Rattle.rkyv_keys.specs.Places.{at_view};
-ghost use Rattle.rkyv_dict.specs.Parts.{number_spec, number_text};
+ghost use Rattle.rkyv_keys.specs.AtViews.{at_view};
+ghost use Rattle.rkyv_dict.specs.MapTypes.{number_spec, number_text};
 ghost use Rattle.rkyv_dict.specs.Pushing.{AppendsText};
 
 use rkyv_base::text::Text;
@@ -15,10 +15,10 @@ use std::alloc::AllocError;
 
 /// A key or a value in an archive.
 pub trait Printable: KeyElement {
-    // The text of the part at a position of the bytes.
+    // The text of the key or value at a position of the bytes.
     ghost text: { List ℕ → ℕ → List ℕ };
 
-    /// Appends the text of the part.
+    /// Appends the text of the key or value.
     ///
     /// # Errors
     ///
@@ -26,7 +26,7 @@ pub trait Printable: KeyElement {
     ///
     /// # Requires
     ///
-    /// - A valid part is at the position of the view.
+    /// - A valid key or value is at the position of the view.
     fn push(view: View<'_, Self>, out: &mut String) -> Result<(), AllocError>
         requires { IsValidView Self.spec view }
         ensures { AppendsText result out.old out.new (at_view text view.entry) };

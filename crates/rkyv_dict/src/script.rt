@@ -1,8 +1,8 @@
 //! The commands of a script, and the parser of a line.
+ghost use Rattle.rkyv_dict.specs.Commands.{request_seen};
 ghost use Rattle.rkyv_dict.specs.Script.{bare_of, check_asked, get_asked, kind_asked};
 ghost use Rattle.rkyv_dict.specs.Script.{load_factor_asked, put_asked, request_by, request_of};
 ghost use Rattle.rkyv_dict.specs.Script.{width_asked, words_left};
-ghost use Rattle.rkyv_dict.specs.Seen.{request_seen};
 ghost use Rattle.std.specs.Option.{option_map};
 ghost use Rattle.std.specs.Prelude.{◌≡◌, IfOk};
 

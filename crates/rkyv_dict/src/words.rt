@@ -1,6 +1,6 @@
 //! The words of a line, and the values that they represent.
 ghost use Rattle.rkyv_dict.specs.Script.{bits_of_word, is_numeral, kind_of_word, number_of, one_of};
-ghost use Rattle.rkyv_dict.specs.Script.{parts_after, parts_of, said_by, said_by_both, text_of};
+ghost use Rattle.rkyv_dict.specs.Script.{parts_after, said_by, said_by_both, split_at, text_of};
 ghost use Rattle.rkyv_dict.specs.Script.{two_of, words_left, words_of};
 ghost use Rattle.std.specs.Char.{digit_value, is_ascii_digit};
 ghost use Rattle.std.specs.List.{list_all, position};
@@ -10,20 +10,20 @@ ghost use Rattle.std.specs.Str.{bytes_eq};
 
 use crate::form::{ArchiveWidth, Kind};
 
-/// Returns the index of the first byte `at`.
-fn pos_of(bytes: &[u8], at: u8) -> Option<usize>
-    ensures { result ≡ position (λ b. b == at) bytes.now }
+/// Returns the index of the first byte `separator`.
+fn pos_of(bytes: &[u8], separator: u8) -> Option<usize>
+    ensures { result ≡ position (λ b. b == separator) bytes.now }
 {
-    bytes.iter().position(|b| *b == at)
+    bytes.iter().position(|b| *b == separator)
 }
 
-/// Returns the bytes before the first byte `at`, and those after it.
-pub fn cut(bytes: &[u8], at: u8) -> (&[u8], Option<&[u8]>)
-    ensures parts { parts_of at bytes.now
-        ≡ result.0.now ∷ parts_after at (option_copied result.1) }
+/// Returns the bytes before the first byte `separator`, and those after it.
+pub fn cut(bytes: &[u8], separator: u8) -> (&[u8], Option<&[u8]>)
+    ensures parts { split_at separator bytes.now
+        ≡ result.0.now ∷ parts_after separator (option_copied result.1) }
     ensures shorter { IfSome result.1 (λ rest. length rest.now < length bytes.now) }
 {
-    match pos_of(bytes, at) {
+    match pos_of(bytes, separator) {
         Some(i) => (&bytes[..i], Some(&bytes[i + 1..])),
         None => (bytes, None),
     }

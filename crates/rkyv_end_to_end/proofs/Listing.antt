@@ -26,7 +26,7 @@ use Rattle.rkyv_base.specs.declared.element.Represents.{Ghosts as Related}
 use Rattle.rkyv_base.specs.declared.view.View.{View}
 use Rattle.rkyv_base.specs.declared.width.Width.{Ghosts as Widths}
 use Rattle.rkyv_base.specs.declared.width.Word.{Ghosts as Words}
-use Rattle.rkyv_base.proofs.WritingSteps.{appends_after, end-appends, told_as}
+use Rattle.rkyv_base.proofs.WritingSteps.{appends_after, end-appends, fails_under}
 use Rattle.rkyv_table.specs.Lemmas.TableLaws.{table_element}
 use Rattle.rkyv_table.specs.Table.Bare.{TableIn}
 use Rattle.rkyv_table.specs.Table.Layout.{table_spec}
@@ -69,12 +69,12 @@ abbrev pub element_members : {T V : Type 0} → Specs T → Related T V → Elem
 element_members e v = record { spec = e.spec; laws = e.laws; represents = v.represents }
 
 -- an error of writing the table is an error of writing the list
-pub no_list : {X R F : Type 0} (list : ListInput X R) (o o' : Output) (e : WriteError F)
+pub list_fails : {X R F : Type 0} (list : ListInput X R) (o o' : Output) (e : WriteError F)
     → WriteItemsFails list.input.yields list.len list.load_factor list.width.MAX_CAPACITY (list_format list) o o' list.width.LIMIT (list.input.yields_other_count list.len) e → WriteListFails list o o' e
-no_list list o o' e (inl h) = inl h
-no_list list o o' e (inr h) =
+list_fails list o o' e (inl h) = inl h
+list_fails list o o' e (inr h) =
     let f = list_format list in
-    inr (h.0, h.1, h.2, told_as list.width.LIMIT (RootNext (byte_len list.width.word) f h.1 (end_of o)) (f.next h.1 (end_of o)) o o' e (λ front step n. inr (inl n)) h.3)
+    inr (h.0, h.1, h.2, fails_under list.width.LIMIT (RootNext (byte_len list.width.word) f h.1 (end_of o)) (f.next h.1 (end_of o)) o o' e (λ front step n. inr (inl n)) h.3)
 
 -- the buffer has room for a header
 pub header_small : (w : Width) → IsArchiveWord w → (size align : ℕ) → align ≡ byte_len w → size ≡ 3 * align → size ≤ 24
@@ -127,8 +127,8 @@ appended_sits o o' x from a =
 module _ {X : Type 0} (w : Width) (s : ElementSpec) (represents : List ℕ → ℕ → X → Type 0) (load_factor : ℕ × ℕ) (were : ValidWereWritten w s represents load_factor) (visits : WalkVisitsHomes) where
   -- the walk over a valid table
   items_visited : (c : List ℕ) (p : ℕ) (pairs : List (ℕ × X)) → TableRepresents w s represents load_factor c p pairs → VisitsItems (record { word = w; spec = s; bytes = c; pos = p }) represents pairs
-  items_visited c p pairs all_valid =
-      let is = were c p pairs all_valid in
+  items_visited c p pairs table_represents =
+      let is = were c p pairs table_represents in
       let written = is.written in
       let count = length-map pairs (λ (x : ℕ × X). x.0) in
       record {
@@ -138,7 +138,7 @@ module _ {X : Type 0} (w : Width) (s : ElementSpec) (represents : List ℕ → �
         visits = elim written.placed [
           | inl none ↦
               let n : length pairs ≡ 0 = omega (arith, ap length none.0, count) in
-              let cap : cap_at w c p ≡ 0 = all_valid.cap ∙ rw n refl in
+              let cap : cap_at w c p ≡ 0 = table_represents.cap ∙ rw n refl in
               let controls : List ℕ = table_controls w c p in
               subst (λ n. VisitsHomes n is.homes controls) (sym cap) (subst (λ (xs : List ℕ). VisitsHomes 0 xs controls) (sym none.1) (none_visits controls))
           | inr some ↦ visits (cap_at w c p) (hashes_of pairs) is.homes (table_controls w c p) some.0 written.fit some.1
@@ -165,15 +165,15 @@ module _ {X R : Type 0} (w : Width) (items : Encoding X R) (load_factor : ℕ ×
       let aligned : p % byte_len w ≡ 0 = subst (λ q. q % byte_len w ≡ 0) (sym l.at) (round_up-multiple end (byte_len w) (table_element w kind s law).align_is) in
       let up : begin + length part ≤ p = omega (arith, l.at, l.ends) in
       let sound = format.sound pairs l.resolver c begin p part out l.parts l.image sp so up aligned in
-      let all_valid : TableRepresents w s items.represents load_factor c p pairs = sound.2 in
+      let table_represents : TableRepresents w s items.represents load_factor c p pairs = sound.2 in
       let around = passing pairs l.resolver c begin p part out l.parts l.image sp so up aligned in
       let len : length bytes ≡ length part + (length z + length out) = ap length l.is ∙ length-append part (z ++ out) ∙ ap (λ k. length part + k) (length-append z out) in (
         record {
           behind = (omega (arith, l.ends), omega (arith, l.at));
           aligned = aligned;
           passes = subst (HoldsAround (table_spec w s) c p begin) (sym l.ends) around;
-          all_valid = all_valid;
-          items = items_visited w s items.represents load_factor were visits c p pairs all_valid;
+          table_represents = table_represents;
+          items = items_visited w s items.represents load_factor were visits c p pairs table_represents;
         },
         omega (arith, len, whole, at),
       )

@@ -59,10 +59,10 @@ module _ {T : Type 0} (post : View T → Bool → Type 0) (w : Width) (s : Eleme
   pub table_reported : IsElement s → Viewable (table_spec w s) b p → (hash : ℕ) (report : TableReport) → report.walked.items ≡ item_positions w s.size b p
       → LooksUp post generic_kind w s b p hash report.found → ReadsWithinBound w b p report.strides → ReadsExactly post generic_kind w s b p hash report.strides
       → ReportsTable (record { word = w; spec = s; bytes = b; pos = p }) post hash report
-  table_reported law represents hash report walks looks reads exact = record {
+  table_reported law viewable hash report walks looks reads exact = record {
     walks = walks;
-    count = ap length walks ∙ places_count w s law b p represents;
-    checked = subst (All (Viewable s b)) (sym walks) (places_viewable w s law b p represents);
+    count = ap length walks ∙ places_count w s law b p viewable;
+    checked = subst (All (Viewable s b)) (sym walks) (places_viewable w s law b p viewable);
     among = subst (λ (xs : List ℕ). IfSome report.found (Contains xs)) (sym walks) (found_walked report.found looks.accepted);
     looks = looks;
     reads = reads;
@@ -77,9 +77,9 @@ looks_found post b p t bytes place hash None walked accepted answer first = look
 looks_found post b p t bytes place hash (Some v) walked accepted answer first = looks_up_some b p t bytes place post generic_kind hash v.pos answer first (v, walked, refl, accepted)
 
 -- the strides that a lookup in the table reads are those of the bytes
-pub few_read : {T W : Type 0} {ts : Specs T} {wt : Words W} (b : List ℕ) (p : ℕ) (t : ArchivedHashTable T W ts wt) → t.view.archive.now ≡ b → t.view.pos ≡ p
+pub read_within_bound : {T W : Type 0} {ts : Specs T} {wt : Words W} (b : List ℕ) (p : ℕ) (t : ArchivedHashTable T W ts wt) → t.view.archive.now ≡ b → t.view.pos ≡ p
     → (before after : ℕ) → before ≡ 0 → CountsWithin t before after → ReadsWithinBound wt.word b p after
-few_read {wt = wt} b p t bytes place before after none within =
+read_within_bound {wt = wt} b p t bytes place before after none within =
     let P = λ (c : List ℕ) (q : ℕ). ReadsWithin (len_at wt.word c q) (probe_capacity (cap_at wt.word c q) / 16) before after in
     let there : P b p = subst (P b) place (subst (λ (c : List ℕ). P c t.view.pos) bytes within) in
     let most = there.most in

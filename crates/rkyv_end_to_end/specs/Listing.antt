@@ -151,7 +151,7 @@ pub record IsWrittenList {X : Type 0} (t : TableIn) (represents : List ℕ → �
   pub behind : (begin ≤ end) × (end ≤ t.pos)
   pub aligned : t.pos % byte_len t.word ≡ 0
   pub passes : HoldsAround (table_spec t.word t.spec) t.bytes t.pos begin end
-  pub all_valid : TableRepresents t.word t.spec represents load_factor t.bytes t.pos pairs
+  pub table_represents : TableRepresents t.word t.spec represents load_factor t.bytes t.pos pairs
   pub items : VisitsItems t represents pairs
 
 -- each written list is valid, in each archive that has its bytes

@@ -28,7 +28,7 @@ use Rattle.rkyv_table.proofs.RawWalks.{walked_all}
 use Rattle.rkyv_table.specs.Lemmas.TableLaws.{table_element}
 use Rattle.rkyv_index.specs.Index.IndexLayout.{AreBelow, PlacesBelow, entry_at, place_spec}
 use Rattle.rkyv_index.specs.Lemmas.IndexLaws.{place_element}
-use Rattle.rkyv_index.specs.Lemmas.PlaceSpecs.{words_hold}
+use Rattle.rkyv_index.specs.Lemmas.PlaceSpecs.{place_table_holds}
 
 -- each entry is aligned if the first one is
 pub entry_aligned : (s : ElementSpec) → IsElement s → (begin i : ℕ) → begin % s.align ≡ 0 → entry_at s.size begin i % s.align ≡ 0
@@ -64,7 +64,7 @@ pub table_viewable : {V : Type 0} (w : Width) → IsArchiveWord w → (s : Eleme
 table_viewable w kind s e laws is b p lo hi m inside aligned o o' h = record {
   inside = omega arith;
   aligned = aligned;
-  valid = valid_at (table_spec w (place_spec w)) (table_element w kind (place_spec w) (place_element w kind)) b p lo hi m o o' (words_hold w s e laws is b p lo hi m h);
+  valid = valid_at (table_spec w (place_spec w)) (table_element w kind (place_spec w) (place_element w kind)) b p lo hi m o o' (place_table_holds w s e laws is b p lo hi m h);
 }
 
 -- one more index of a range, which passes the test `P` or fails it

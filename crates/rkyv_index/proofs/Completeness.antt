@@ -29,7 +29,7 @@ use Rattle.rkyv_index.specs.Index.{Index, hash_at, index_found}
 use Rattle.rkyv_index.specs.Index.IndexLayout.{pair_pos}
 use Rattle.rkyv_index.specs.Index.IndexLayout.{index_spec, place_spec}
 use Rattle.rkyv_index.specs.Lemmas.IndexLaws.{place_element}
-use Rattle.rkyv_index.proofs.Held.{entry_viewable, place_below, table_there}
+use Rattle.rkyv_index.proofs.ValidIndexMap.{entry_viewable, place_below, table_there}
 
 -- if no number of a range passes `P`, each number fails it
 none_kept : (P : ℕ → Bool) (a n : ℕ) → length (filter P (range_with_len a n)) ≡ 0 → (i : ℕ) → a ≤ i → i < a + n → P i ≡ false
@@ -123,7 +123,7 @@ module _ {K Q : Type 0} (m : Index K) (kind : IsArchiveWord m.word) (kl : IsElem
       let own = own_found m (hash_at hasher key_calls) same in
       let P : ℕ → Bool = λ j. not (is_answer j (own j)) in
       let answered = answer_is i (own i) (not-false (is_answer i (own i)) (none_kept P 0 len none i (omega arith) (omega (arith, below)))) in
-      let same_calls : hash_of_calls hasher (calls q) ≡ hash_at hasher key_calls b (at i) = ap (hash_of_calls hasher) (query.same_calls q b (at i) ready (key_valid i below) ok) in
+      let same_hash : hash_of_calls hasher (calls q) ≡ hash_at hasher key_calls b (at i) = ap (hash_of_calls hasher) (query.same_calls q b (at i) ready (key_valid i below) ok) in
       let agree : (j : ℕ) → j < len → accept j ≡ same b (at i) b (at j) = λ j less. query.respects_same q b b (at i) (at j) ready (key_valid i below) (key_valid j less) ok in
       let of : Option ℕ → Option ℕ = λ o. option_map (number_at w b) (option_map (item_at w (byte_len w) b p) o) in
       let lookup : found generic_kind controls cap (len_at w b p) (hash_of_calls hasher (calls q)) (λ j. accept (read j))
@@ -137,7 +137,7 @@ module _ {K Q : Type 0} (m : Index K) (kind : IsArchiveWord m.word) (kl : IsElem
             found_agree generic_kind cap (len_at w b p) (hash_of_calls hasher (calls q)) controls word_lawful full small (λ j. accept (read j)) (λ j. same b (at i) b (at (read j)))
             (λ j there. agree (read j) (place_below w kind s law b p view j (walked_full cap controls j there)))
       ] in
-      ap of lookup ∙ ap (λ h. index_found w b p h (λ j. same b (at i) b (at j))) same_calls ∙ answered
+      ap of lookup ∙ ap (λ h. index_found w b p h (λ j. same b (at i) b (at j))) same_hash ∙ answered
 
   by_found : (o : Option ℕ) → index_found w b p (hash_of_calls hasher (calls q)) accept ≡ o → FindsTheOne len accept o
   by_found None e = λ i below. elim (cases_Bool (accept i)) [

@@ -6,7 +6,7 @@ use Rattle.std.specs.Option.{is_some}
 use Rattle.std.specs.Prelude.{IfSome}
 use Rattle.rkyv_base.specs.declared.view.View.{View}
 use Rattle.rkyv_keys.specs.Asked.{Asked}
-use Rattle.rkyv_index.specs.Index.{IsFoundAt, IsFullKeyIn, IsStored, IsStoredIndex, MatchesAt, full_key_place, result_index}
+use Rattle.rkyv_index.specs.Index.{IsFoundAt, IsFullKeyIn, IsStored, IsStoredIndex, MatchesAt, full_index, full_key_index}
 use Rattle.rkyv_index.specs.Index.Lookups.{GetsBy, GetsKey, Part, TellsKey, full_key_part, full_part, part_at, place_part}
 use Rattle.rkyv_index.specs.declared.map.ArchivedIndexMap.{ArchivedIndexMap}
 
@@ -36,7 +36,7 @@ module _ {K V H W : Type 0} {ks : Specs K} {vs : Specs V} {wt : Words W} where
 
   -- the clauses on a pair with its index are clauses on the key with its index
   module _ {m : ArchivedIndexMap K V H W ks vs wt} {found : Option (ℕ × View K × View V)} {result : Option (ℕ × View K)} where
-    pub key_of_full : {a : Asked} → GetsKey full_part m a found → IfSome result (IsFullKeyIn m) → ((place : Option ℕ) → result_index found ≡ place → full_key_place result ≡ place) → GetsKey full_key_part m a result
+    pub key_of_full : {a : Asked} → GetsKey full_part m a found → IfSome result (IsFullKeyIn m) → ((place : Option ℕ) → full_index found ≡ place → full_key_index result ≡ place) → GetsKey full_key_part m a result
     key_of_full got walked at = record {
       walked = walked;
       answer = at _ got.answer;
@@ -46,16 +46,16 @@ module _ {K V H W : Type 0} {ks : Specs K} {vs : Specs V} {wt : Words W} where
 
   -- a result at a found index is at an index in a full bucket
   module _ {X : Type 0} (Related : ArchivedIndexMap K V H W ks vs wt → ℕ → X → Type 0) where
-    represents_held : (m : ArchivedIndexMap K V H W ks vs wt) (found : Option ℕ) (result : Option X) → IfSome found (IsStoredIndex m) → MatchesAt (Related m) result found → IfSome result (λ x. (i : ℕ) × IsStored m i × Related m i x)
-    represents_held m None result walked at = subst (λ r. IfSome r (λ x. (i : ℕ) × IsStored m i × Related m i x)) (sym at) tt
-    represents_held m (Some i) result walked at = subst (λ r. IfSome r (λ x. (j : ℕ) × IsStored m j × Related m j x)) (sym at.1) (i, walked.0, at.2)
+    part_is_stored : (m : ArchivedIndexMap K V H W ks vs wt) (found : Option ℕ) (result : Option X) → IfSome found (IsStoredIndex m) → MatchesAt (Related m) result found → IfSome result (λ x. (i : ℕ) × IsStored m i × Related m i x)
+    part_is_stored m None result walked at = subst (λ r. IfSome r (λ x. (i : ℕ) × IsStored m i × Related m i x)) (sym at) tt
+    part_is_stored m (Some i) result walked at = subst (λ r. IfSome r (λ x. (j : ℕ) × IsStored m j × Related m j x)) (sym at.1) (i, walked.0, at.2)
 
     module _ {m : ArchivedIndexMap K V H W ks vs wt} {found : Option ℕ} {result : Option X} where
-      pub key_represents : {a : Asked} → GetsKey place_part m a found → MatchesAt (Related m) result found → GetsKey (part_at Related) m a result
-      key_represents got at = key_as (part_at Related) got (represents_held m found result got.walked at) at
+      pub key_as_part : {a : Asked} → GetsKey place_part m a found → MatchesAt (Related m) result found → GetsKey (part_at Related) m a result
+      key_as_part got at = key_as (part_at Related) got (part_is_stored m found result got.walked at) at
 
-      pub represents_by : {hash : ℕ} {key_hash : List ℕ → ℕ → ℕ} {post : View K → Bool → Type 0} → GetsBy place_part m hash key_hash post found → MatchesAt (Related m) result found → GetsBy (part_at Related) m hash key_hash post result
-      represents_by got at = by_as (part_at Related) got (represents_held m found result got.walked at) at
+      pub by_as_part : {hash : ℕ} {key_hash : List ℕ → ℕ → ℕ} {post : View K → Bool → Type 0} → GetsBy place_part m hash key_hash post found → MatchesAt (Related m) result found → GetsBy (part_at Related) m hash key_hash post result
+      by_as_part got at = by_as (part_at Related) got (part_is_stored m found result got.walked at) at
 
   -- the clauses on a found index are clauses on `answer`
   pub key_told : {m : ArchivedIndexMap K V H W ks vs wt} {a : Asked} {found : Option ℕ} {answer : Bool} → GetsKey place_part m a found → answer ≡ is_some found → TellsKey m a (IsFoundAt answer)

@@ -1,5 +1,5 @@
 -- Steps of writing an index map, part by part.
-use Rattle.std.proofs.Common.{◌≡◌, ℕ, suc, ◌+◌, refl, sym, ap, ◌∙◌, subst, arith, ◌≤◌, List, [], ◌∷◌, ◌++◌, length, append-nil, length-append, inl, inr, Result, Ok, Err, MatchResult}
+use Rattle.std.proofs.Common.{◌≡◌, ℕ, ◌+◌, refl, sym, ap, ◌∙◌, subst, arith, ◌≤◌, List, [], ◌∷◌, ◌++◌, length, append-nil, length-append, inl, inr, Result, Ok, Err, MatchResult}
 use Rattle.std.specs.Int.{Width}
 use Rattle.std.specs.Iterator.{Drains, Yields, YieldsFirst}
 use Rattle.rkyv_base.specs.declared.errors.WriteError.{WriteError}
@@ -7,14 +7,15 @@ use Rattle.rkyv_base.specs.Format.{Format, SerializeFails, Serialized}
 use Rattle.rkyv_base.specs.Scalar.{Encoding, scalar_format}
 use Rattle.rkyv_base.specs.ElementSpec.{ElementSpec}
 use Rattle.rkyv_base.specs.Writing.{Appends, Only, Output, Step, WriteFails, Within, end_of, padding, piece, zeros}
-use Rattle.rkyv_base.proofs.WritingSteps.{appends_after, end-appends, grows, told_after, told_as, within_after}
+use Rattle.rkyv_base.proofs.WritingSteps.{appends_after, end-appends, fails_after, fails_under, grows, within_after}
 use Rattle.rkyv_table.specs.Table.Counting.{YieldsOtherCount}
 use Rattle.rkyv_table.specs.Table.Serializing.{WriteItemsFails, WroteItems}
 use Rattle.rkyv_table.specs.Table.TableFormat.{PairsNext, TableResolver, table_format}
-use Rattle.rkyv_table.proofs.TableSteps.{told_piece, zeros_behind}
+use Rattle.rkyv_table.proofs.TableSteps.{piece_fails, zeros_behind}
 use Rattle.rkyv_index.specs.Index.Writing.{NoOther, OwnOrSerializeFails}
 use Rattle.rkyv_index.specs.Index.IndexFormat.{BeforeRow, BeforeZeros, IndexNext, places_from, row_format}
 use Rattle.rkyv_index.specs.Index.Row.{RowNext, RowParts, RowPartsNext, WroteRow}
+use Rattle.rkyv_index.specs.Lemmas.IndexSound.{places_count}
 use Rattle.rkyv_table.proofs.Through.{own_counted}
 
 -- an iterator whose state has the list of the items that remain
@@ -37,10 +38,6 @@ module _ {S A : Type 0} (rest : S → List A) where
             omega (arith, h.0.1, d.0, l, a, e)
       ]
 
-pub places_count : {X P : Type 0} (hash : X → ℕ) (place : ℕ → P) (i : ℕ) (xs : List X) → length (places_from hash place i xs) ≡ length xs
-places_count hash place i [] = refl
-places_count hash place i (x ∷ xs) = ap suc (places_count hash place (i + 1) xs)
-
 module _ (F : Type 0) {P X : Type 0} (w : Width) (ps : ElementSpec) (e : Encoding P) (hash : X → ℕ) (factor : ℕ × ℕ) (limit : ℕ) (xs : List X) (o : Output) where
   abbrev Places : List (ℕ × P)
   Places = places_from hash e.value 0 xs
@@ -55,19 +52,19 @@ module _ (F : Type 0) {P X : Type 0} (w : Width) (ps : ElementSpec) (e : Encodin
     wrote_places : (r : TableResolver) → WroteItems Gave (length xs) factor max TableOf o o1 limit r → Serialized limit TableOf Places o o1 r
     wrote_places r h = subst (λ l. Serialized limit TableOf l o o1 r) (drained rest h.1 state h.2.0 ∙ there) h.3
 
-    no_places : (err : WriteError F) → WriteItemsFails Gave (length xs) factor max TableOf o o1 limit (YieldsOtherCount (YieldsFirst rest) (length xs) state) err
+    places_fail : (err : WriteError F) → WriteItemsFails Gave (length xs) factor max TableOf o o1 limit (YieldsOtherCount (YieldsFirst rest) (length xs) state) err
         → OwnOrSerializeFails (length xs) factor max NoOther limit TableOf Places o o1 err
-    no_places err (inl h) =
+    places_fail err (inl h) =
         let n : length (rest state) ≡ length xs = ap length there ∙ places_count hash e.value 0 xs in
         inl (own_counted (length xs) factor max (YieldsOtherCount (YieldsFirst rest) (length xs) state) NoOther (λ k g. no_other_drained rest (length xs) state n k g) err h.0, h.1)
-    no_places err (inr h) = inr (subst (λ l. SerializeFails limit TableOf l o o1 err) (drained rest h.1 state h.2.0 ∙ there) h.3)
+    places_fail err (inr h) = inr (subst (λ l. SerializeFails limit TableOf l o o1 err) (drained rest h.1 state h.2.0 ∙ there) h.3)
 
     -- the result of writing the table is that of writing the indices
     pub answers_places : (result : Result TableResolver (WriteError F))
         → MatchResult result (WroteItems Gave (length xs) factor max TableOf o o1 limit) (WriteItemsFails Gave (length xs) factor max TableOf o o1 limit (YieldsOtherCount (YieldsFirst rest) (length xs) state))
         → MatchResult result (Serialized limit TableOf Places o o1) (OwnOrSerializeFails (length xs) factor max NoOther limit TableOf Places o o1)
     answers_places (Ok r) h = wrote_places r h
-    answers_places (Err err) h = no_places err h
+    answers_places (Err err) h = places_fail err h
 
   module _ {R : Type 0} (s : ElementSpec) (f : Format X R) where
     abbrev Next : List ℕ → Step → Type 0
@@ -76,15 +73,15 @@ module _ (F : Type 0) {P X : Type 0} (w : Width) (ps : ElementSpec) (e : Encodin
     abbrev Stopped : Output → WriteError F → Type 0
     Stopped o' err = WriteFails limit Next o o' err
 
-    stopped_table : (o1 : Output) (err : WriteError F) → SerializeFails limit TableOf Places o o1 err → Stopped o1 err
-    stopped_table o1 err t =
-        told_as limit Next (PairsNext w ps (scalar_format e) factor Places (end_of o)) o o1 err (λ g step h. inl h) t
+    table_fails : (o1 : Output) (err : WriteError F) → SerializeFails limit TableOf Places o o1 err → Stopped o1 err
+    table_fails o1 err t =
+        fails_under limit Next (PairsNext w ps (scalar_format e) factor Places (end_of o)) o o1 err (λ g step h. inl h) t
 
     -- if writing the indices fails, writing the values fails with the same error
-    pub stopped_places : (max : ℕ) (o1 : Output) (err : WriteError F) → OwnOrSerializeFails (length xs) factor max NoOther limit TableOf Places o o1 err
+    pub indices_fail : (max : ℕ) (o1 : Output) (err : WriteError F) → OwnOrSerializeFails (length xs) factor max NoOther limit TableOf Places o o1 err
         → OwnOrSerializeFails (length xs) factor max NoOther limit (row_format w ps e s f hash factor) xs o o1 err
-    stopped_places max o1 err (inl h) = inl h
-    stopped_places max o1 err (inr h) = inr (stopped_table o1 err h)
+    indices_fail max o1 err (inl h) = inl h
+    indices_fail max o1 err (inr h) = inr (table_fails o1 err h)
 
     module _ (o1 : Output) (t : TableResolver) (wrote : Serialized limit TableOf Places o o1 t) where
       abbrev table : List ℕ
@@ -93,9 +90,9 @@ module _ (F : Type 0) {P X : Type 0} (w : Width) (ps : ElementSpec) (e : Encodin
       at1 : end_of o1 ≡ end_of o + length table
       at1 = end-appends o o1 table wrote.1
 
-      pub stopped_parts : (o2 : Output) (err : WriteError F) → WriteFails limit (RowPartsNext f xs (end_of o1)) o1 o2 err → Stopped o2 err
-      stopped_parts o2 err h =
-          told_after limit Next (RowPartsNext f xs (end_of o1)) o o1 o2 table err wrote.1 wrote.3
+      pub parts_fail : (o2 : Output) (err : WriteError F) → WriteFails limit (RowPartsNext f xs (end_of o1)) o1 o2 err → Stopped o2 err
+      parts_fail o2 err h =
+          fails_after limit Next (RowPartsNext f xs (end_of o1)) o o1 o2 table err wrote.1 wrote.3
           (λ g step n. inr (inl (table, t, g, wrote.2, subst (λ k. RowPartsNext f xs k g step) at1 n, refl)))
           h
 
@@ -110,7 +107,7 @@ module _ (F : Type 0) {P X : Type 0} (w : Width) (ps : ElementSpec) (e : Encodin
         within2 = within_after limit o1 o2 table row (grows o1 o2 row b) wrote.3 inside
 
         before : BeforeZeros w ps e s f hash factor xs (end_of o) head t rs
-        before = record { table = table; row = row; made = wrote.2; parts = subst (λ k. RowParts f xs k row rs) at1 parts; is = refl }
+        before = record { table = table; part_bytes = row; made = wrote.2; parts = subst (λ k. RowParts f xs k row rs) at1 parts; is = refl }
 
         abbrev pad : List ℕ
         pad = zeros (padding s.align (end_of o2))
@@ -118,9 +115,9 @@ module _ (F : Type 0) {P X : Type 0} (w : Width) (ps : ElementSpec) (e : Encodin
         same_zeros : pad ≡ zeros (padding s.align (end_of o + length head))
         same_zeros = zeros_behind s.align o o2 head whole2
 
-        pub stopped_zeros : (o3 : Output) (err : WriteError F) → WriteFails limit (Only (piece pad)) o2 o3 err → Stopped o3 err
-        stopped_zeros o3 err h =
-            told_piece limit Next o o2 o3 head pad err whole2 within2 (λ step is. inr (inr (inl (t, rs, before, is ∙ ap piece same_zeros)))) h
+        pub zeros_fail : (o3 : Output) (err : WriteError F) → WriteFails limit (Only (piece pad)) o2 o3 err → Stopped o3 err
+        zeros_fail o3 err h =
+            piece_fails limit Next o o2 o3 head pad err whole2 within2 (λ step is. inr (inr (inl (t, rs, before, is ∙ ap piece same_zeros)))) h
 
         module _ (o3 : Output) (z : Appends o2 o3 pad) (low : end_of o3 ≤ limit) where
           abbrev front : List ℕ
@@ -135,9 +132,9 @@ module _ (F : Type 0) {P X : Type 0} (w : Width) (ps : ElementSpec) (e : Encodin
           before_row : BeforeRow w ps e s f hash factor xs (end_of o) front t rs
           before_row = record { head = head; made = before; is = ap (λ (y : List ℕ). head ++ y) same_zeros }
 
-          pub stopped_row : (o4 : Output) (err : WriteError F) → WriteFails limit (RowNext f xs rs (end_of o3)) o3 o4 err → Stopped o4 err
-          stopped_row o4 err h =
-              told_after limit Next (RowNext f xs rs (end_of o3)) o o3 o4 front err whole3 (inr low)
+          pub row_fails : (o4 : Output) (err : WriteError F) → WriteFails limit (RowNext f xs rs (end_of o3)) o3 o4 err → Stopped o4 err
+          row_fails o4 err h =
+              fails_after limit Next (RowNext f xs rs (end_of o3)) o o3 o4 front err whole3 (inr low)
               (λ g step n. inr (inr (inr (front, t, rs, g, before_row, subst (λ k. RowNext f xs rs k g step) at3 n, refl))))
               h
 

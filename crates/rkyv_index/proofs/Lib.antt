@@ -1,5 +1,5 @@
 pub mod Checking
-pub mod Held
+pub mod ValidIndexMap
 pub mod Lookups
 pub mod PlacesFound
 pub mod Queries
@@ -10,13 +10,13 @@ pub mod Completeness
 pub mod QueryPlaces
 pub mod RowSteps
 pub mod IndexSteps
-pub mod SeenRow
+pub mod LentRow
 pub mod EntrySteps
 pub mod Counted
 pub mod FirstAccepted
-pub mod ReadPairs
+pub mod ListSteps
 pub mod ValueWrites
 pub mod SealedIndex
 pub mod Headers
-pub mod Listed
+pub mod FirstListed
 pub mod ListArchives

@@ -29,7 +29,7 @@ use Rattle.rkyv_index.specs.Index.ListArchives.{FoundAreListed, index_root}
 use Rattle.rkyv_index.specs.Set.IndexSet.{keys_of}
 use Rattle.rkyv_index.specs.Set.ListArchives.{MembersFoundAreListed}
 use Rattle.rkyv_index.specs.declared.map.ArchivedIndexMap.{ArchivedIndexMap}
-use Rattle.rkyv_index.proofs.Held.{entry_viewable}
+use Rattle.rkyv_index.proofs.ValidIndexMap.{entry_viewable}
 
 -- `place`: the index of the first pair with an accepted key, `first`: that pair, or there is neither
 abbrev IsFirstAt : {A B : Type 0} → List (A × B) → ℕ → Option ℕ → Option (A × B) → Type 0

@@ -27,7 +27,7 @@ use Rattle.rkyv_index.specs.Index.{AnswersKeys, AreUnderHash, IsStored, IsKeyOf,
 use Rattle.rkyv_index.specs.Index.IndexFormat.{IndexWrittenAt}
 use Rattle.rkyv_index.specs.Index.IndexLayout.{places_of}
 use Rattle.rkyv_index.specs.declared.map.ArchivedIndexMap.{ArchivedIndexMap}
-use Rattle.rkyv_index.proofs.Held.{place_below, place_inside}
+use Rattle.rkyv_index.proofs.ValidIndexMap.{place_below, place_inside}
 
 -- the image of the first accepted element is the first accepted image
 find-step : (f : ℕ → ℕ) (accept : ℕ → Bool) (x : ℕ) (r : Option ℕ) (r' : Option ℕ) (t : Bool) → option_map f r ≡ r'
@@ -108,8 +108,8 @@ module _ {K V H W P N : Type 0} {ks : Specs K} {vs : Specs V} {ts : Specs P} {wt
       place_at_bucket h there.0 there.1 there.2 (read_there h item)
 
   -- a full bucket of the map has that index
-  pub item_held : (h : View P) → IsItem t h → IsStored m (number_at w (bytes_of h) h.pos)
-  item_held h item =
+  pub item_stored : (h : View P) → IsItem t h → IsStored m (number_at w (bytes_of h) h.pos)
+  item_stored h item =
       let there = item_there h item in
       (there.0, there.1, ap (number_at w (index_bytes m)) (sym there.2) ∙ ap (λ (x : List ℕ). number_at w x h.pos) (sym (read_there h item)))
 

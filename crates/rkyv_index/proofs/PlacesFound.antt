@@ -18,10 +18,10 @@ use Rattle.rkyv_table.specs.Controls.Numbers.{probe_capacity}
 use Rattle.rkyv_table.specs.Table.Header.{cap_at, len_at}
 use Rattle.rkyv_table.specs.Table.Reading.{CountsStrides, CountsWithin, FindsItem, IsItem, table_pos}
 use Rattle.rkyv_table.specs.declared.table.ArchivedHashTable.{ArchivedHashTable}
-use Rattle.rkyv_index.specs.Index.{IsAccepted, IsStoredIndex, IsKeyOf, ReadsWithinBound, index_archive, index_bytes, index_found, index_pos}
+use Rattle.rkyv_index.specs.Index.{IsAccepted, IsKeyOf, IsStoredIndex, ReadsWithinBound, index_archive, index_bytes, index_found, index_pos, place_at}
 use Rattle.rkyv_index.specs.Index.Lookups.{GetsBy, place_part}
 use Rattle.rkyv_index.specs.declared.map.ArchivedIndexMap.{ArchivedIndexMap}
-use Rattle.rkyv_index.proofs.Lookups.{finds_first_place, finds_place, item_held, item_place, read_there}
+use Rattle.rkyv_index.proofs.Lookups.{finds_first_place, finds_place, item_place, item_stored, read_there}
 
 -- a lookup by a comparison is one by each weaker condition on its results
 pub finds_as : {P W : Type 0} {ts : Specs P} {wt : Words W} (A B : View P → Bool → Type 0) → ((h : View P) (r : Bool) → A h r → B h r) → (t : ArchivedHashTable P W ts wt) (hash : ℕ) (held : Option (View P))
@@ -46,12 +46,9 @@ module _ {K V H W P N : Type 0} {ks : Specs K} {vs : Specs V} {ts : Specs P} {wt
   abbrev w : Width
   w = wt.word
 
-  abbrev pub place_of : View P → ℕ
-  place_of item = number_at w (bytes_of item) (pos_of item)
-
   -- the index in a found item is the number at its position
   pub place_found : (held : Option (View P)) → IfSome held (IsItem t)
-      → option_map place_of held ≡ option_map (number_at w (index_bytes m)) (pos_of_found held)
+      → option_map (place_at w) held ≡ option_map (number_at w (index_bytes m)) (pos_of_found held)
   place_found None item = refl
   place_found (Some h) item = ap Some (ap (λ (x : List ℕ). number_at w x h.pos) (read_there m e pk place t at h item))
 
@@ -61,9 +58,9 @@ module _ {K V H W P N : Type 0} {ks : Specs K} {vs : Specs V} {ts : Specs P} {wt
   place_inside (Some h) item = (item_place m e pk place t at h item).0
 
   -- a full bucket has the index, and it is below the length
-  pub place_kept : (held : Option (View P)) → IfSome held (IsItem t) → IfSome (option_map place_of held) (IsStoredIndex m)
-  place_kept None item = item
-  place_kept (Some h) item = (item_held m e pk place t at h item, (item_place m e pk place t at h item).1)
+  pub place_stored : (held : Option (View P)) → IfSome held (IsItem t) → IfSome (option_map (place_at w) held) (IsStoredIndex m)
+  place_stored None item = item
+  place_stored (Some h) item = (item_stored m e pk place t at h item, (item_place m e pk place t at h item).1)
 
   -- the strides of a lookup in the table are those of a lookup in the map
   pub reads_few : (before after : ℕ) → CountsWithin t before after → ReadsWithinBound m before after
@@ -73,7 +70,7 @@ module _ {K V H W P N : Type 0} {ks : Specs K} {vs : Specs V} {ts : Specs P} {wt
 
   -- the comparison accepted the key at the index in a found item
   pub place_accepted : (Post : View P → Bool → Type 0) (post' : View K → Bool → Type 0) (asks : (h : View P) (r : Bool) → Post h r → (key : View K) × IsKeyOf m (number_at w (bytes_of h) h.pos) key × post' key r)
-      (held : Option (View P)) → IfSome held (λ h. Post h true) → IfSome (option_map place_of held) (IsAccepted m post')
+      (held : Option (View P)) → IfSome held (λ h. Post h true) → IfSome (option_map (place_at w) held) (IsAccepted m post')
   place_accepted Post post' asks None told = told
   place_accepted Post post' asks (Some h) told = asks h true told
 
@@ -81,12 +78,12 @@ module _ {K V H W P N : Type 0} {ks : Specs K} {vs : Specs V} {ts : Specs P} {wt
   module _ (key_hash : List ℕ → ℕ → ℕ) (Post : View P → Bool → Type 0) (post : View K → Bool → Type 0)
       (asks : (h : View P) (r : Bool) → Post h r → (key : View K) × IsKeyOf m (number_at w (bytes_of h) h.pos) key × post key r) (hash asked : ℕ) (under : hash ≡ asked)
       (held : Option (View P)) (got : FindsItem Post generic_kind t hash held) (result : Option ℕ) (read : result ≡ option_map (number_at w (index_bytes m)) (pos_of_found held)) where
-    found_there : result ≡ option_map place_of held
+    found_there : result ≡ option_map (place_at w) held
     found_there = read ∙ sym (place_found held got.walked)
 
     pub gets_place : GetsBy place_part m asked key_hash post result
     gets_place = record {
-      walked = subst (λ r. IfSome r (IsStoredIndex m)) (sym found_there) (place_kept held got.walked);
+      walked = subst (λ r. IfSome r (IsStoredIndex m)) (sym found_there) (place_stored held got.walked);
       accepted = (result, refl, subst (λ r. IfSome r (IsAccepted m post)) (sym found_there) (place_accepted Post post asks held got.accepted));
       answer = λ accept answers. read ∙ finds_place m e pk place t at Post post asks held accept answers hash got.answer ∙ ap (λ n. index_found w (index_bytes m) (index_pos m) n accept) under;
       first = λ accept answers alone homes written.

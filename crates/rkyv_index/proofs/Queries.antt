@@ -14,7 +14,7 @@ use Rattle.rkyv_base.specs.declared.view.View.{View}
 use Rattle.rkyv_index.specs.Index.{AnswersKeys, AreUnderHash, fits_at, hash_at, index_archive, index_bytes, index_of, index_pos, key_pos}
 use Rattle.rkyv_index.specs.declared.map.ArchivedIndexMap.{ArchivedIndexMap}
 use Rattle.rkyv_index.proofs.Checking.{view_at}
-use Rattle.rkyv_index.proofs.Held.{entry_viewable}
+use Rattle.rkyv_index.proofs.ValidIndexMap.{entry_viewable}
 
 module _ {K V H W : Type 0} {ks : Specs K} {vs : Specs V} {wt : Words W} (m : ArchivedIndexMap K V H W ks vs wt) where
   -- a query accepts only keys under its own hash
@@ -25,8 +25,8 @@ module _ {K V H W : Type 0} {ks : Specs K} {vs : Specs V} {wt : Words W} (m : Ar
       let b = index_bytes m in
       let p = key_pos m i in
       let there = entry_viewable wt.word wt.kind (entry_spec ks.spec vs.spec) (entry_element ks.spec vs.spec ks.laws vs.laws) b (index_pos m) m.valid i below in
-      let represents : ValidAt ks.spec b p = valid_key ks.laws vs.laws b p there.valid in
-      ap (hash_of_calls hasher) (sym (query.same_calls q b p ready represents accepted))
+      let valid : ValidAt ks.spec b p = valid_key ks.laws vs.laws b p there.valid in
+      ap (hash_of_calls hasher) (sym (query.same_calls q b p ready valid accepted))
 
   -- a comparison by a query depends only on the index of a key
   pub answers_fits : (fits : List ℕ → ℕ → Bool) (post : View K → Bool → Type 0) → ((key : View K) (r : Bool) → post key r → r ≡ fits (bytes_of key) (pos_of key))

@@ -1,15 +1,15 @@
 -- One more value of a row.
 use Rattle.std.proofs.Common.{◌≡◌, ℕ, suc, ◌+◌, ◌-◌, ◌≤◌, refl, sym, ap, ◌∙◌, subst, arith, inl, inr, List, [], ◌∷◌, ◌++◌, length, get_or, take, drop, Some, append-nil, append_assoc, length-append}
 use Rattle.std.specs.Prelude.{slice_get}
-use Rattle.std.proofs.lemmas.List.{drop-drop, get_or-drop, length-drop, take_more, take_all}
+use Rattle.std.proofs.lemmas.List.{drop-drop, get_or-drop, length-drop, take_more}
 use Rattle.std.proofs.lemmas.Option.{get_or_from_slice_get, slice_get_read, slice_get_within}
 use Rattle.rkyv_base.specs.declared.errors.WriteError.{WriteError}
 use Rattle.rkyv_base.specs.declared.errors.WriteError.TheVariants.{DistanceTooLarge}
 use Rattle.rkyv_base.specs.Format.{Format}
 use Rattle.rkyv_base.specs.Writing.{Appends, Only, Output, WriteFails, Within, end_of, piece}
-use Rattle.rkyv_base.proofs.WritingSteps.{appends_after, end-appends, grows, none_appended, told_after}
+use Rattle.rkyv_base.proofs.WritingSteps.{appends_after, end-appends, fails_after, grows}
 use Rattle.rkyv_table.proofs.PartSteps.{part_last, part_longer}
-use Rattle.rkyv_index.specs.Index.Row.{Before, RowImages, RowNext, RowParts, RowPartsNext, WroteRow}
+use Rattle.rkyv_index.specs.Index.Row.{Before, RowImages, RowNext, RowParts, RowPartsNext}
 
 plus_zero : (p : ℕ) → p + 0 ≡ p
 plus_zero p = omega arith
@@ -19,14 +19,14 @@ pub take_one : {A : Type 0} (xs : List A) (i : ℕ) (x : A) → slice_get xs i �
 take_one xs i x e = take_more xs i x (slice_get_within xs i x e) ∙ ap (λ y. take i xs ++ y ∷ []) (get_or_from_slice_get xs i x x e)
 
 -- the first value that remains is the one at index `i`
-front_resolver : {A : Type 0} (xs : List A) (i : ℕ) (x : A) (rest : List A) → drop i xs ≡ x ∷ rest → slice_get xs i ≡ Some x
-front_resolver {A = A} xs i x rest e =
+head_dropped : {A : Type 0} (xs : List A) (i : ℕ) (x : A) (rest : List A) → drop i xs ≡ x ∷ rest → slice_get xs i ≡ Some x
+head_dropped {A = A} xs i x rest e =
     let n : length xs - i ≡ suc (length rest) = sym (length-drop i xs) ∙ ap length e in
     let z : i + 0 ≡ i = omega arith in
     slice_get_read xs (length xs) i x refl (omega (arith, n)) (sym (ap (λ (l : List A). get_or l 0 x) e) ∙ get_or-drop i xs 0 x ∙ ap (λ k. get_or xs k x) z)
 
-others_resolver : {A : Type 0} (xs : List A) (i : ℕ) (x : A) (rest : List A) → drop i xs ≡ x ∷ rest → rest ≡ drop (i + 1) xs
-others_resolver xs i x rest e = sym (ap (λ l. drop 1 l) e) ∙ drop-drop 1 i xs ∙ ap (λ n. drop n xs) (omega arith)
+tail_dropped : {A : Type 0} (xs : List A) (i : ℕ) (x : A) (rest : List A) → drop i xs ≡ x ∷ rest → rest ≡ drop (i + 1) xs
+tail_dropped xs i x rest e = sym (ap (λ l. drop 1 l) e) ∙ drop-drop 1 i xs ∙ ap (λ n. drop n xs) (omega arith)
 
 module _ {X R : Type 0} (f : Format X R) where
   pub parts_more : (xs : List X) (p : ℕ) (part : List ℕ) (rs : List R) (x : X) (a : List ℕ) (r : R)
@@ -45,12 +45,12 @@ module _ {X R : Type 0} (f : Format X R) where
     pub step_part : (a : List ℕ) (r : R) → f.parts x (end_of o1) a r → RowParts f (take (i + 1) xs) (end_of o) (part ++ a) (rs ++ r ∷ [])
     step_part a r g = rw (take_one xs i x there) (parts_more (take i xs) (end_of o) part rs x a r h (subst (λ n. f.parts x n a r) (end-appends o o1 part a1) g))
 
-    pub step_told : {F : Type 0} (limit : ℕ) (o2 : Output) (err : WriteError F) → Within limit o1 part
+    pub step_fails : {F : Type 0} (limit : ℕ) (o2 : Output) (err : WriteError F) → Within limit o1 part
         → WriteFails limit (f.next x (end_of o1)) o1 o2 err
         → WriteFails limit (RowPartsNext f xs (end_of o)) o o2 err
-    step_told limit o2 err within t =
+    step_fails limit o2 err within t =
         let at : end_of o1 ≡ end_of o + length part = end-appends o o1 part a1 in
-        told_after limit (RowPartsNext f xs (end_of o)) (f.next x (end_of o1)) o o1 o2 part err a1 within
+        fails_after limit (RowPartsNext f xs (end_of o)) (f.next x (end_of o1)) o o1 o2 part err a1 within
         (λ g step n. (i, x, part, rs, g, there, h, subst (λ k. f.next x k g step) at n, refl))
         t
 
@@ -80,21 +80,12 @@ module _ {X R : Type 0} (f : Format X R) (limit : ℕ) (xs : List X) (rs : List 
     pub left : others ≡ drop i rs
     pub within : end_of o1 ≤ limit
 
-  pub written_none : end_of o ≤ limit → Written 0 rs o
-  written_none h = record { out = []; appended = none_appended o; shown = (refl, refl); left = refl; within = h }
-
-  pub written_all : (i : ℕ) (left : List R) (o1 : Output) → length xs ≤ i → length rs ≡ length xs → Written i left o1 → WroteRow f limit xs rs o o1
-  written_all i left o1 all count w =
-      let e : take i xs ≡ xs = take_all i xs all in
-      let d : take i rs ≡ rs = take_all i rs (omega (arith, all, count)) in
-      (w.out, (w.appended, w.within), subst (λ (ys : List X). RowImages f ys rs (end_of o) w.out) e (subst (λ (qs : List R). RowImages f (take i xs) qs (end_of o) w.out) d w.shown))
-
   module _ (i : ℕ) (x : X) (r : R) (left more : List R) (o1 : Output) (w : Written i left o1) (value : slice_get xs i ≡ Some x) (first : left ≡ r ∷ more) where
     dropped : drop i rs ≡ r ∷ more
     dropped = sym w.left ∙ first
 
     next_resolver : slice_get rs i ≡ Some r
-    next_resolver = front_resolver rs i r more dropped
+    next_resolver = head_dropped rs i r more dropped
 
     here : end_of o1 ≡ end_of o + length w.out
     here = end-appends o o1 w.out w.appended
@@ -107,7 +98,7 @@ module _ {X R : Type 0} (f : Format X R) (limit : ℕ) (xs : List X) (rs : List 
       out = w.out ++ one;
       appended = appends_after o o1 o2 w.out one w.appended a;
       shown = rw (take_one xs i x value, take_one rs i r next_resolver) (images_more f (take i xs) (take i rs) (end_of o) w.out x r one w.shown (subst (λ n. f.image x r n one) here im));
-      left = others_resolver rs i r more dropped;
+      left = tail_dropped rs i r more dropped;
       within = lim;
     }
 
@@ -115,9 +106,9 @@ module _ {X R : Type 0} (f : Format X R) (limit : ℕ) (xs : List X) (rs : List 
       abbrev RowFails : Output → WriteError F → Type 0
       RowFails o' err = WriteFails limit (RowNext f xs rs (end_of o)) o o' err
 
-      pub told_piece : (one : List ℕ) (o2 : Output) (err : WriteError F) → f.image x r (end_of o1) one → WriteFails limit (Only (piece one)) o1 o2 err → RowFails o2 err
-      told_piece one o2 err im t =
-          told_after limit (RowNext f xs rs (end_of o)) (Only (piece one)) o o1 o2 w.out err w.appended (inr w.within)
+      pub piece_fails : (one : List ℕ) (o2 : Output) (err : WriteError F) → f.image x r (end_of o1) one → WriteFails limit (Only (piece one)) o1 o2 err → RowFails o2 err
+      piece_fails one o2 err im t =
+          fails_after limit (RowNext f xs rs (end_of o)) (Only (piece one)) o o1 o2 w.out err w.appended (inr w.within)
           (λ g step h.
           let k : w.out ++ g ≡ w.out = ap (λ (y : List ℕ). w.out ++ y) h.0 ∙ append-nil w.out in
           rw k (i, x, r, before, inl (one, subst (λ n. f.image x r n one) here im, h.1)))

@@ -15,9 +15,9 @@ use Rattle.rkyv_index.specs.Index.ValueWrites.{pair_at}
 use Rattle.rkyv_index.specs.declared.map.ArchivedIndexMap.{ArchivedIndexMap}
 
 -- the index map that is read has the bytes `b` and the position `p`
-module _ {K V H W : Type 0} {ks : Specs K} {vs : Specs V} {wt : Words W} (m : ArchivedIndexMap K V H W ks vs wt) (b : List ℕ) (p : ℕ) (bytes : index_bytes m ≡ b) (place : index_pos m ≡ p) where
+module _ {K V H W : Type 0} {ks : Specs K} {vs : Specs V} {wt : Words W} (m : ArchivedIndexMap K V H W ks vs wt) (b : List ℕ) (p : ℕ) (bytes : index_bytes m ≡ b) (pos : index_pos m ≡ p) where
   pub as_read : (F : List ℕ → ℕ → Type 0) → F (index_bytes m) (index_pos m) → F b p
-  as_read F x = moved F (index_bytes m) b (index_pos m) p bytes place x
+  as_read F x = moved F (index_bytes m) b (index_pos m) p bytes pos x
 
   abbrev w : Width
   w = wt.word
@@ -33,7 +33,7 @@ module _ {K V H W : Type 0} {ks : Specs K} {vs : Specs V} {wt : Words W} (m : Ar
   key_read i key is = record {
     below = as_read (λ d r. i < len_at w d r) is.below;
     bytes = ap (λ (archive : Bor (List ℕ)). archive.now) is.at.0 ∙ bytes;
-    place = as_read (λ d r. pos_of key ≡ pair_at w k v d r i) is.at.1;
+    pos = as_read (λ d r. pos_of key ≡ pair_at w k v d r i) is.at.1;
     viewable = is.viewable;
   }
 
@@ -41,7 +41,7 @@ module _ {K V H W : Type 0} {ks : Specs K} {vs : Specs V} {wt : Words W} (m : Ar
   answers_read post accept answers i key r is told = answers i key r (key_read i key is) told
 
   pub under_read : (hash : ℕ) (key_hash : List ℕ → ℕ → ℕ) (accept : ℕ → Bool) → AreUnderHash (index_at {K = K} w k v b p) hash key_hash accept → AreUnderHash (index_of m) hash key_hash accept
-  under_read hash key_hash accept under = moved (λ c q. AreUnderHash (index_at {K = K} w k v c q) hash key_hash accept) b (index_bytes m) p (index_pos m) (sym bytes) (sym place) under
+  under_read hash key_hash accept under = moved (λ c q. AreUnderHash (index_at {K = K} w k v c q) hash key_hash accept) b (index_bytes m) p (index_pos m) (sym bytes) (sym pos) under
 
   -- a property of the index that is found in one is one for the other
   pub finds_read : (hash : ℕ) (accept : ℕ → Bool) (P : Option ℕ → Type 0) → FindsPlace (index_of m) hash accept P → FindsPlace (index_at {K = K} w k v b p) hash accept P

@@ -11,7 +11,7 @@ use Rattle.rkyv_scan.specs.Groups.{generic_kind}
 use Rattle.rkyv_scan.specs.Lemmas.KindLaws.{word_lawful}
 use Rattle.rkyv_base.specs.Bytes.{AgreeOn, number_at}
 use Rattle.rkyv_base.specs.Entry.{entry_spec, whole_size}
-use Rattle.rkyv_base.specs.Lemmas.Entry.{entry_element, parts_inside, same_key, size_of_small}
+use Rattle.rkyv_base.specs.Lemmas.Entry.{entry_element, key_and_value_inside, same_key, size_of_small}
 use Rattle.rkyv_base.specs.Lemmas.Entry.{viewable_key, viewable_value}
 use Rattle.rkyv_base.specs.Format.{RepresentsLocally}
 use Rattle.rkyv_base.specs.Pairs.{PairRepresents}
@@ -19,8 +19,8 @@ use Rattle.rkyv_base.specs.Lemmas.Pairs.{pair_local}
 use Rattle.rkyv_base.specs.Sealing.{Keeps, Outside, Sealed, value_pos}
 use Rattle.rkyv_base.specs.ElementSpec.{IsElement, ElementSpec, Viewable}
 use Rattle.rkyv_base.specs.Text.{IsArchiveWord}
-use Rattle.rkyv_base.proofs.Sealing.{entry_kept, holds_out_of_line, same_outside, sealed_wider, viewable_kept}
-use Rattle.rkyv_keys.specs.Asking.{RestsOnKeys}
+use Rattle.rkyv_base.proofs.Sealing.{entry_kept, holds_outside, same_outside, sealed_wider, viewable_kept}
+use Rattle.rkyv_keys.specs.QueryLaws.{RestsOnKeys}
 use Rattle.rkyv_table.specs.Table.Header.{cap_at, len_at}
 use Rattle.rkyv_table.specs.Controls.Finding.{found}
 use Rattle.rkyv_table.specs.Controls.Numbers.{capacity}
@@ -46,7 +46,7 @@ use Rattle.rkyv_keys.specs.Keys.{IsKey}
 use Rattle.rkyv_index.specs.Lemmas.IndexLocal.{HashLocal, written_again}
 use Rattle.rkyv_index.specs.Index.SealedIndex.{IsPairPos}
 use Rattle.rkyv_index.specs.Index.ValueWrites.{KeepsEntries, KeepsIndexMap, index_kind, pair_at}
-use Rattle.rkyv_index.proofs.Held.{begin_is, entries_inside, entry_viewable, place_below, table_there}
+use Rattle.rkyv_index.proofs.ValidIndexMap.{begin_is, entries_inside, entry_viewable, place_below, table_there}
 
 -- the hash of a valid key depends only on the bytes of the key and its parts
 pub hash_local : {State : Type 0} (hasher : Hasher State) {k : ElementSpec} {same : Comparison} {calls : List ℕ → ℕ → List HasherCall} → IsKey k same calls → HashLocal k (hash_at hasher calls)
@@ -75,7 +75,7 @@ all_kept s law at b c n hi i sealed keeps above apart (j ∷ is) lo l o below h 
     let k : (lo ≤ h.0) × (h.0 ≤ hi) = law.rest_in_range b (at j) lo hi h.0 o h.1 in
     let here : s.holds c (at j) lo hi h.0 = elim (cases_eq j i) [
       | inl e ↦ subst (λ z. s.holds c (at z) lo hi h.0) (sym e) (keeps lo hi h.0 o above (subst (λ z. s.holds b (at z) lo hi h.0) e h.1))
-      | inr ne ↦ holds_out_of_line s law b c (at i) s.size sealed (at j) lo hi h.0 o (apart j below.0 ne) (inl (omega (arith, k.1, above))) h.1
+      | inr ne ↦ holds_outside s law b c (at i) s.size sealed (at j) lo hi h.0 o (apart j below.0 ne) (inl (omega (arith, k.1, above))) h.1
     ] in
     (h.0, here, all_kept s law at b c n hi i sealed keeps above apart is h.0 l k.1 below.1 h.2)
 
@@ -130,7 +130,7 @@ module _ (w : Width) (kind : IsArchiveWord w) (k v : ElementSpec) (kl : IsElemen
     wider : Sealed b (at i) S.size c
     wider =
         let small = size_of_small (whole_size k v) (entry_there i below).valid.1.0 in
-        let inside = parts_inside k v in
+        let inside = key_and_value_inside k v in
         sealed_wider b c (value_pos k v (at i)) v.size (at i) S.size (omega arith) (omega (arith, small, inside.1)) writes.sealed
 
     entry_keeps : Keeps S b c (at i)
@@ -181,7 +181,7 @@ module _ (w : Width) (kind : IsArchiveWord w) (k v : ElementSpec) (kl : IsElemen
     key_fixed : (j : ℕ) → j < len_at w b p → AgreeOn b c (at j) (at j + k.size)
     key_fixed j there = elim (cases_eq j i) [
       | inl e ↦
-          let inside = parts_inside k v in
+          let inside = key_and_value_inside k v in
           let own : AgreeOn b c (at i) (at i + k.size) = same_outside b (value_pos k v (at i)) v.size c writes.sealed (at i) (at i + k.size) (omega arith) (inl (omega (arith, inside.0))) in
           subst (λ n. AgreeOn b c (at n) (at n + k.size)) (sym e) own
       | inr ne ↦ same_key k v kl vl b c (at j) (entry_there j there).valid.1.0 (entry_same j ne)
@@ -206,8 +206,8 @@ module _ (w : Width) (kind : IsArchiveWord w) (k v : ElementSpec) (kl : IsElemen
 
     -- ---- the table of indices, and lookups
 
-    places_same : (j : ℕ) → pair_pos w S.size c p j ≡ at j
-    places_same j = ap (λ z. entry_at S.size (unsigned_abs z) j) (sym (told_same w b c p header_same))
+    positions_same : (j : ℕ) → pair_pos w S.size c p j ≡ at j
+    positions_same j = ap (λ z. entry_at S.size (unsigned_abs z) j) (sym (told_same w b c p header_same))
 
     table_below : held.middle ≤ entries_pos w b p
     table_below = let above = held.entries.part.above in omega (arith, above, begins)
@@ -233,7 +233,7 @@ module _ (w : Width) (kind : IsArchiveWord w) (k v : ElementSpec) (kl : IsElemen
           let n = number_at w b (item_at w (byte_len w) b p j) in
           let inside = place_below w kind S law b p view j there in
           let key = viewable_key k v kl vl b (at n) (entry_there n inside) in
-          ap (λ m. fits c (pair_pos w S.size c p m)) (sym (read_same j there)) ∙ ap (fits c) (places_same n)
+          ap (λ m. fits c (pair_pos w S.size c p m)) (sym (read_same j there)) ∙ ap (fits c) (positions_same n)
           ∙ rests b c (at n) key.valid (key_same n inside)
 
       bucket_same : found generic_kind (table_controls w c p) (cap_at w c p) (len_at w c p) hash (tells c) ≡ bucket
@@ -265,14 +265,14 @@ module _ (w : Width) (kind : IsArchiveWord w) (k v : ElementSpec) (kl : IsElemen
 
       written_same : (homes : List ℕ) → IndexWrittenAt w S.size key_hash b p homes → IndexWrittenAt w S.size key_hash c p homes
       written_same = written_again w S.size key_hash b c p head controls_same read_same
-          (λ j there. sym (hash_same j there) ∙ ap (key_hash c) (sym (places_same j)))
+          (λ j there. sym (hash_same j there) ∙ ap (key_hash c) (sym (positions_same j)))
 
       pub index_kept : KeepsIndexMap (index_kind w k v key_hash) b c p i
       index_kept = record {
         entries = entries_kept;
         valid = viewable_kept (index_spec w S) b c p writes.sealed.same_length index_holds view;
         len = sym (len_same w b c p head);
-        places = places_same;
+        positions = positions_same;
         hashes = hash_same;
         lookups = λ hash fits small rests. lookup_same hash small fits rests;
         written = written_same;
@@ -305,24 +305,24 @@ module _ (w : Width) (kind : IsArchiveWord w) (k v : ElementSpec) (kl : IsElemen
               len = sym (len_same w b c p head) ∙ st.len ∙ sym same_count;
               cap = sym (cap_same w b c p head) ∙ st.cap ∙ ap (λ m. capacity m factor) (sym same_count);
               at = set_each (λ j x. PairRepresents k v key value c (pair_at w k v c p j) x) pairs i y inside
-                  (subst (λ z. PairRepresents k v key value c z y) (sym (places_same i)) written_represents)
+                  (subst (λ z. PairRepresents k v key value c z y) (sym (positions_same i)) written_represents)
                   (λ j x at_j ne.
                   let there : j < len_at w b p = omega (arith, slice_get_within pairs j x at_j, count) in
-                  subst (λ z. PairRepresents k v key value c z x) (sym (places_same j)) (other_represents j x there at_j ne));
+                  subst (λ z. PairRepresents k v key value c z x) (sym (positions_same j)) (other_represents j x there at_j ne));
             }
 
   -- the pair at index `i`, whose value can be written
-  pub pair_place : (i : ℕ) → i < len_at w b p → IsPairPos w k v b p i (at i)
-  pair_place i below =
+  pub pair_position : (i : ℕ) → i < len_at w b p → IsPairPos w k v b p i (at i)
+  pair_position i below =
       let entry = entry_there i below in
       record {
         below = below;
-        place = refl;
+        pos = refl;
         key = viewable_key k v kl vl b (at i) entry;
         value = viewable_value k v kl vl b (at i) entry;
         kept = λ c writes. entries_kept c i below writes;
       }
 
--- a test that depends only on keys depends only on each key
+-- if the tests of all queries depend only on the key, the test of `q` does
 pub rests_on_each : {Q : Type 0} (k : ElementSpec) (can_read : Q → Type 0) (fits : Q → List ℕ → ℕ → Bool) → RestsOnKeys k can_read fits → (q : Q) → can_read q → RestsOnKey k (fits q)
-rests_on_each k can_read fits rests q ready b c p represents same = rests q b c p represents.0 ready represents.1 same.fixed (same.parts represents.0 represents.1)
+rests_on_each k can_read fits rests q ready b c p valid same = rests q b c p valid.0 ready valid.1 same.fixed (same.parts valid.0 valid.1)

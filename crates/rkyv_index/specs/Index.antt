@@ -174,11 +174,11 @@ abbrev pub AnswersPlace : {P : Type 0} → Width → (ℕ → Bool → Type 0) �
 AnswersPlace w post item r = (i : ℕ) × (i ≡ place_at w item) × post i r
 
 -- `result`: the index at the item that a lookup by `post` finds in a table of indices
-pub record FindsHeld {P W : Type 0} {ts : Specs P} {wt : Words W} (post : ℕ → Bool → Type 0)
+pub record FindsIndexIn {P W : Type 0} {ts : Specs P} {wt : Words W} (post : ℕ → Bool → Type 0)
     (t : ArchivedHashTable P W ts wt) (hash : ℕ) (result : Option ℕ) : Type 0 where
-  pub held : Option (View P)
-  pub found : FindsItem (AnswersPlace wt.word post) generic_kind t hash held
-  pub is : result ≡ option_map (place_at wt.word) held
+  pub item : Option (View P)
+  pub found : FindsItem (AnswersPlace wt.word post) generic_kind t hash item
+  pub is : result ≡ option_map (place_at wt.word) item
 
 -- `key`: view of the key at index `i` of the map at `m`
 pub record IsKeyIn {M K : Type 0} (w : Width) (k v : ElementSpec) (m : View M) (i : ℕ)
@@ -320,16 +320,16 @@ module _ {K V H W : Type 0} {ks : Specs K} {vs : Specs V} {wt : Words W}
   IsValueAt result place = MatchesAt (IsValueOf m) result place
 
 -- `result` is the index `place`, or both are `None`
-abbrev pub IsPlace : Option ℕ → Option ℕ → Type 0
-IsPlace result place = result ≡ place
+abbrev pub IsIndex : Option ℕ → Option ℕ → Type 0
+IsIndex result place = result ≡ place
 
 -- the index in `result`
-abbrev pub result_index : {K V : Type 0} → Option (ℕ × View K × View V) → Option ℕ
-result_index {K} {V} result = option_map (λ (full : ℕ × View K × View V). full.0) result
+abbrev pub full_index : {K V : Type 0} → Option (ℕ × View K × View V) → Option ℕ
+full_index {K} {V} result = option_map (λ (full : ℕ × View K × View V). full.0) result
 
 -- the index in `result`
-abbrev pub full_key_place : {K : Type 0} → Option (ℕ × View K) → Option ℕ
-full_key_place {K} result = option_map (λ (full : ℕ × View K). full.0) result
+abbrev pub full_key_index : {K : Type 0} → Option (ℕ × View K) → Option ℕ
+full_key_index {K} result = option_map (λ (full : ℕ × View K). full.0) result
 
 -- `result` is `true` if and only if `place` is `Some`
 abbrev pub IsFoundAt : Bool → Option ℕ → Type 0

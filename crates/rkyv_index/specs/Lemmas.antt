@@ -6,4 +6,4 @@ pub mod RowSound
 pub mod IndexLocal
 pub mod IndexSound
 pub mod SetSound
-pub mod ViewableEqual
+pub mod HandlesEqual

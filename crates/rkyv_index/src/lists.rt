@@ -100,7 +100,7 @@ where
     A: NativeKey<A::Archived>,
 {
     fn serialize(&self, alloc: Global, serializer: &mut S) -> WriteResult<IndexMapResolver<W>, S> {
-        let halves = PairRefs::of(self.0.as_slice());
+        let pairs = PairRefs::of(self.0.as_slice());
         ArchivedIndexMap::<A::Archived, B::Archived, FxHasher64, W>::serialize_from_iter::<
             S,
             A,
@@ -108,7 +108,7 @@ where
             &A,
             &B,
             PairRefs<'_, A, B>,
-        >(alloc, halves, self.0.len(), (7, 8), serializer)
+        >(alloc, pairs, self.0.len(), (7, 8), serializer)
     }
 }
 

@@ -1,7 +1,8 @@
 //! Index sets.
 //!
 //! A set is the index map of its keys to the unit value. `write` writes sets from iterators,
-//! `deserialize` returns a list of the keys, and `laws` has the law of that list.
+//! and `deserialize` returns a list of the keys. `laws` has laws of that list, of lookups
+//! and of the layout.
 
 mod accessors;
 mod debug;

@@ -100,7 +100,7 @@ impl Display for Escaped<'_> {
 /// Returns the colour of a region.
 fn fill_of(kind: RegionKind) -> &'static str {
     match kind {
-        RegionKind::OutOfLine => "#999999",
+        RegionKind::Unknown => "#999999",
         RegionKind::Text => "#e6c229",
         RegionKind::FullBucket | RegionKind::Entry => "#2e8b57",
         RegionKind::EmptyBucket => "#d9ead3",

@@ -89,7 +89,7 @@ impl<W: Width> Field for Text<W> {
     }
 }
 
-/// Returns the part of `len` bytes before the position `end`, or `None` if `end` is 0.
+/// Returns the part of `len` bytes before `end`, or `None` if `end` is 0 or less than `len`.
 fn part_before(end: usize, len: usize) -> Option<Part> {
     if end == 0 || end < len {
         return None;

@@ -46,7 +46,9 @@ impl Display for Numbers<'_> {
         write!(f, "header at: {}\n", summary.header_pos)?;
         match &summary.lookups {
             Some(lookups) => LookupLines(lookups).fmt(f),
-            None => f.write_str("misplaced keys: more than could be counted\n"),
+            None => f.write_str(
+                "misplaced keys: not counted, since their lookups read too many strides\n",
+            ),
         }
     }
 }
@@ -122,7 +124,7 @@ impl Display for Line<'_> {
 /// Returns the number of a terminal's colour for the bytes of a region.
 fn color_of(kind: RegionKind) -> u8 {
     match kind {
-        RegionKind::OutOfLine | RegionKind::Padding => 90,
+        RegionKind::Unknown | RegionKind::Padding => 90,
         RegionKind::Text => 33,
         RegionKind::FullBucket | RegionKind::Entry => 32,
         RegionKind::EmptyBucket => 37,

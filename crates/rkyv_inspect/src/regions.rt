@@ -7,8 +7,8 @@ use std::alloc::{AllocError, Global};
 /// The kind of a region.
 #[derive(Clone, Copy, Debug, PartialEq, Eq)]
 pub enum RegionKind {
-    /// Bytes that no field is known of.
-    OutOfLine,
+    /// Bytes of no known field.
+    Unknown,
     /// The bytes of an out-of-line text.
     Text,
     /// A bucket with an item.
@@ -117,7 +117,7 @@ impl RegionList {
         self.add(end, kind, text)
     }
 
-    /// Appends the bytes up to the position `end`: padding, or out-of-line bytes.
+    /// Appends the bytes up to the position `end`: padding, or unknown bytes.
     ///
     /// # Errors
     ///
@@ -136,7 +136,7 @@ impl RegionList {
         if is_padding(bytes_in(bytes, self.end, end)) {
             self.add_named(alloc, end, RegionKind::Padding, "padding")
         } else {
-            self.add_named(alloc, end, RegionKind::OutOfLine, "out-of-line bytes")
+            self.add_named(alloc, end, RegionKind::Unknown, "unknown bytes")
         }
     }
 
@@ -151,7 +151,7 @@ impl RegionList {
     {
         let mut list = self;
         let end = list.len;
-        list.add_named(alloc, end, RegionKind::OutOfLine, "other bytes")?;
+        list.add_named(alloc, end, RegionKind::Unknown, "unknown bytes")?;
         Ok(list.regions)
     }
 }

@@ -89,7 +89,7 @@ fn read_file(rt: &HostRuntime, file: &str) -> Result<Vec<u8>, ProgramError> {
 }
 
 /// Prints the usage to standard error.
-fn misused(rt: &HostRuntime) -> Outcome
+fn print_usage(rt: &HostRuntime) -> Outcome
     ensures { result ≡ Outcome.Misused }
 {
     let _ = rt.eprintln(USAGE);
@@ -104,7 +104,7 @@ fn execute(rt: &HostRuntime, words: &[String]) -> Result<Outcome, ProgramError>
 {
     let options = match Options::parse(words) {
         Some(options) => options,
-        None => return Ok(misused(rt)),
+        None => return Ok(print_usage(rt)),
     };
     if options.help {
         println!(rt; "{USAGE}")?;
@@ -112,14 +112,14 @@ fn execute(rt: &HostRuntime, words: &[String]) -> Result<Outcome, ProgramError>
     }
     let file = match options.file {
         Some(file) => file,
-        None => return Ok(misused(rt)),
+        None => return Ok(print_usage(rt)),
     };
     if !options.is_bare() {
         return inspect_container(rt, file, options);
     }
     match options.contents() {
         Some(contents) => inspect_archive(rt, file, contents, options),
-        None => Ok(misused(rt)),
+        None => Ok(print_usage(rt)),
     }
 }
 

@@ -15,7 +15,8 @@ use rkyv_container::contents::{Contents, ItemType, Kind, Width};
 pub const USAGE: &str = "usage: inspect [OPTION ..] FILE
 
 Validates an archive of a map or a set, and prints its numbers, the strides that lookups of its
-keys read, and its bytes field by field. Without --kind, FILE is a container.
+keys read, and its bytes field by field. Without --kind, --key, --value and --width, FILE is a
+container.
 
   --kind KIND    FILE is a bare archive of this kind: hash-map, hash-set, index-map or index-set
   --key TYPE     the type of its keys: u32, u64 or text

@@ -1,5 +1,4 @@
 -- Lemmas for the laws of traits and of their impls. A law can import from specs/ alone.
-pub mod Asking
 pub mod FirstPairs
 pub mod Fixed
 pub mod OfEntries
@@ -7,3 +6,4 @@ pub mod OfTexts
 pub mod OfUnits
 pub mod OfValues
 pub mod OfViews
+pub mod QueryLaws

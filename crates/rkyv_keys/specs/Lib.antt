@@ -1,9 +1,11 @@
 pub mod Asked
-pub mod Asking
+pub mod AtViews
 pub mod Calls
+pub mod Deserialize
 pub mod Equality
 pub mod FirstPairs
 pub mod Fixed
+pub mod HashesBy
 pub mod Keys
 pub mod Natives
 pub mod OfEntries
@@ -12,8 +14,6 @@ pub mod OfTexts
 pub mod OfUnits
 pub mod OfValues
 pub mod OfViews
-pub mod Places
-pub mod Reading
+pub mod QueryLaws
 pub mod RoundTrips
-pub mod Ready
 pub mod Lemmas

@@ -4,7 +4,7 @@ use Rattle.rkyv_scan.specs.Hash.{HasherCall}
 use Rattle.rkyv_base.specs.ElementSpec.{ElementSpec}
 use Rattle.rkyv_base.specs.Entry.{value_offset}
 use Rattle.rkyv_keys.specs.Equality.{Comparison}
-use Rattle.rkyv_keys.specs.Reading.{Refusals}
+use Rattle.rkyv_keys.specs.Deserialize.{DeserializeErrors}
 
 module _ (k v : ElementSpec) where
   -- both the keys and the values are the same
@@ -28,7 +28,7 @@ module _ (k v : ElementSpec) where
   entry_equals key value b p pair = key b p pair.0 × value b (p + value_offset k v) pair.1
 
   -- an error of either part
-  abbrev pub entry_refuses : Refusals → Refusals → Refusals
+  abbrev pub entry_refuses : DeserializeErrors → DeserializeErrors → DeserializeErrors
   entry_refuses key value b p e = key b p e ⊎ value b (p + value_offset k v) e
 
 -- the calls of both parts of a pair

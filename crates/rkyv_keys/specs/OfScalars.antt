@@ -2,10 +2,10 @@
 use Rattle.std.specs.Prelude.{ℕ, Bool, List, [], ◌∷◌}
 use Rattle.rkyv_scan.specs.Hash.{HasherCall}
 use Rattle.rkyv_scan.specs.Laws.{IsFixed}
-use Rattle.rkyv_base.specs.Bytes.{number_at}
 use Rattle.rkyv_base.specs.Scalar.{Encoding, IsScalar, ScalarRepresents}
 use Rattle.rkyv_base.specs.Lemmas.Scalar.{scalar_local}
 use Rattle.rkyv_base.specs.ElementSpec.{ElementSpec}
+use Rattle.rkyv_base.specs.Sealing.{value_at}
 use Rattle.rkyv_keys.specs.Equality.{Comparison, IsEquivalence, TellsApart}
 use Rattle.rkyv_keys.specs.Keys.{FitsItsEqual, IsKey, IsQuery, ReadsAnywhere}
 use Rattle.rkyv_keys.specs.Fixed.{MakesFixedCalls}
@@ -19,43 +19,39 @@ abbrev pub one_call : {V : Type 0} → (V → HasherCall) → V → List HasherC
 one_call call v = call v ∷ []
 
 module _ {V : Type 0} (e : Encoding V) where
-  -- the scalar at position `p`
-  abbrev pub scalar_at : List ℕ → ℕ → V
-  scalar_at b p = e.value (number_at e.word b p)
-
   -- the scalars at both positions are equal
   abbrev pub scalar_same : (V → V → Bool) → Comparison
-  scalar_same equal = values_same scalar_at equal
+  scalar_same equal = values_same (value_at e) equal
 
   -- the one call of the scalar at a position
   abbrev pub scalar_calls : (V → HasherCall) → List ℕ → ℕ → List HasherCall
-  scalar_calls call = value_calls scalar_at (one_call call)
+  scalar_calls call = value_calls (value_at e) (one_call call)
 
   -- the scalar at a position is equal to the query
   abbrev pub scalar_fits : (V → V → Bool) → V → List ℕ → ℕ → Bool
-  scalar_fits equal = value_fits scalar_at equal (λ v. v)
+  scalar_fits equal = value_fits (value_at e) equal (λ v. v)
 
 module _ {V : Type 0} (s : ElementSpec) (e : Encoding V) where
   pub scalar_fixed : (call : V → HasherCall) → ((v : V) → IsFixed (call v))
       → MakesFixedCalls s (scalar_calls e call)
-  scalar_fixed call fixed b p h = one_fixed (call (scalar_at e b p)) (fixed (scalar_at e b p))
+  scalar_fixed call fixed b p h = one_fixed (call (value_at e b p)) (fixed (value_at e b p))
 
   module _ (equal : V → V → Bool) where
     pub scalar_fits_its_equal : FitsItsEqual s (ScalarRepresents e) equal
         (scalar_fits e equal)
-    scalar_fits_its_equal = value_fits_its_equal s (scalar_at e) equal (λ v. v) (λ v. v)
+    scalar_fits_its_equal = value_fits_its_equal s (value_at e) equal (λ v. v) (λ v. v)
 
     module _ (tells : TellsApart equal) where
       pub scalar_equivalence : IsEquivalence s (scalar_same e equal)
-      scalar_equivalence = value_equivalence s (scalar_at e) equal tells
+      scalar_equivalence = value_equivalence s (value_at e) equal tells
 
       pub scalar_key : (call : V → HasherCall) → IsScalar s e
           → IsKey s (scalar_same e equal) (scalar_calls e call)
-      scalar_key call laws = value_key s (scalar_at e) equal tells (one_call call)
+      scalar_key call laws = value_key s (value_at e) equal tells (one_call call)
           (scalar_local s e laws)
 
       pub scalar_query : (call : V → HasherCall)
           → IsQuery s (scalar_same e equal) (scalar_calls e call) ReadsAnywhere
           (one_call call) (scalar_fits e equal)
-      scalar_query call = value_query s (scalar_at e) equal tells (one_call call)
+      scalar_query call = value_query s (value_at e) equal tells (one_call call)
           (λ v. v)

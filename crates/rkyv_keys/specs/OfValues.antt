@@ -17,6 +17,6 @@ module _ {V : Type 0} (value_at : List ℕ → ℕ → V) where
   abbrev pub value_fits : {Q : Type 0} → (V → V → Bool) → (Q → V) → Q → List ℕ → ℕ → Bool
   value_fits equal seen q b p = equal (seen q) (value_at b p)
 
-  -- the value at position `p` is that of `q`
-  abbrev pub IsValueAt : {Q : Type 0} → (Q → V) → List ℕ → ℕ → Q → Type 0
-  IsValueAt seen b p q = value_at b p ≡ seen q
+  -- the value at position `p` is that of the value `q`
+  abbrev pub ValueRepresents : {Q : Type 0} → (Q → V) → List ℕ → ℕ → Q → Type 0
+  ValueRepresents seen b p q = value_at b p ≡ seen q

@@ -2,10 +2,10 @@
 use Rattle.std.specs.Prelude.{ℕ, ◌-◌, List, length}
 use Rattle.rkyv_base.specs.ElementSpec.{ElementSpec}
 use Rattle.rkyv_base.specs.Format.{Format}
-use Rattle.rkyv_base.specs.Root.{ArchiveRefused, RootBytes}
+use Rattle.rkyv_base.specs.Root.{RootBytes, ToBytesFails}
 use Rattle.rkyv_base.specs.declared.errors.RoundTripError.{RoundTripError}
 use Rattle.rkyv_base.specs.declared.errors.RoundTripError.TheVariants.{Read, Write}
-use Rattle.rkyv_keys.specs.Reading.{Refusals}
+use Rattle.rkyv_keys.specs.Deserialize.{DeserializeErrors}
 
 -- how a value is written and deserialized. `limit`: greatest position of the archive,
 -- `spec`: spec of the element
@@ -13,16 +13,17 @@ pub record RoundTrip (V R : Type 0) : Type 1 where
   pub limit : ℕ
   pub spec : ElementSpec
   pub format : Format V R
-  pub refuses : Refusals
+  pub deserialize_fails : DeserializeErrors
 
 -- the round trip of values with this element and this format
-abbrev pub round_trip : {V R : Type 0} → ℕ → ElementSpec → Format V R → Refusals → RoundTrip V R
-round_trip limit spec format refuses =
-    record { limit = limit; spec = spec; format = format; refuses = refuses }
+abbrev pub round_trip : {V R : Type 0} → ℕ → ElementSpec → Format V R → DeserializeErrors
+    → RoundTrip V R
+round_trip limit spec format deserialize_fails =
+    record { limit = limit; spec = spec; format = format; deserialize_fails = deserialize_fails }
 
 -- `e`: error of the round trip of the value `v`. It can't be written, or its root
 -- can't be deserialized from the bytes of its archive
 abbrev pub RoundTripFails : {V R : Type 0} → RoundTrip V R → V → RoundTripError → Type 0
-RoundTripFails t v (Write e) = ArchiveRefused t.limit t.spec t.format v e
+RoundTripFails t v (Write e) = ToBytesFails t.limit t.spec t.format v e
 RoundTripFails t v (Read e) = (b : List ℕ) × RootBytes t.spec.align t.format v 0 b (length b
-    - t.spec.size) × t.refuses b (length b - t.spec.size) e
+    - t.spec.size) × t.deserialize_fails b (length b - t.spec.size) e

@@ -4,7 +4,7 @@
 
 ghost use Rattle.std.specs.Prelude.{MatchResult};
 ghost use Rattle.rkyv_base.specs.View.{IsValidView, AtView};
-ghost use Rattle.rkyv_keys.specs.Reading.{Refusals};
+ghost use Rattle.rkyv_keys.specs.Deserialize.{DeserializeErrors};
 
 use rkyv_base::element::Represents;
 use rkyv_base::errors::ReadError;
@@ -17,7 +17,7 @@ use std::alloc::Global;
 ///
 /// ```rust
 /// impl Deserialize<Spot> for ArchivedSpot {
-///     ghost refuses = { nothing_fails };
+///     ghost deserialize_fails = { nothing_fails };
 ///
 ///     fn deserialize(_alloc: Global, view: View<'_, ArchivedSpot>) -> Result<Spot, ReadError>
 ///         requires { IsValidView spot_spec view }
@@ -30,7 +30,7 @@ use std::alloc::Global;
 /// ```
 pub trait Deserialize<V>: Represents<V> {
     // The errors that deserializing the value at a position can return.
-    ghost refuses: { Refusals };
+    ghost deserialize_fails: { DeserializeErrors };
 
     /// Deserializes the value.
     ///
@@ -48,5 +48,5 @@ pub trait Deserialize<V>: Represents<V> {
         requires { IsValidView Self.spec view }
         ensures { MatchResult result
             (AtView Self.represents view.entry)
-            (AtView refuses view.entry) };
+            (AtView deserialize_fails view.entry) };
 }

@@ -8,12 +8,12 @@ ghost use Rattle.rkyv_base.specs.Entry.{entry_spec};
 ghost use Rattle.rkyv_base.specs.Pairs.{PairRepresents};
 ghost use Rattle.rkyv_base.specs.Lemmas.Pairs.{pair_is_format};
 ghost use Rattle.rkyv_base.specs.View.{IsValidView, AtView};
-ghost use Rattle.rkyv_keys.specs.Places.{at_view, at_views};
+ghost use Rattle.rkyv_keys.specs.AtViews.{at_view, at_views};
 ghost use Rattle.rkyv_keys.specs.Calls.{after_calls};
 ghost use Rattle.rkyv_keys.specs.Lemmas.Fixed.{entry_fixed};
 ghost use Rattle.rkyv_keys.specs.OfEntries.{BothRead, entry_calls, entry_equals, entry_fits};
 ghost use Rattle.rkyv_keys.specs.OfEntries.{entry_refuses, entry_same, pair_calls};
-ghost use Rattle.rkyv_keys.specs.Lemmas.OfEntries.{entry_alone, entry_equals_once};
+ghost use Rattle.rkyv_keys.specs.Lemmas.OfEntries.{entry_equals_once, entry_once};
 ghost use Rattle.rkyv_keys.specs.Lemmas.OfEntries.{entry_equivalence, entry_fits_its_equal};
 ghost use Rattle.rkyv_keys.specs.Lemmas.OfEntries.{entry_key, entry_query};
 
@@ -122,14 +122,16 @@ impl<A, B, K: MatchesNative<A>, V: MatchesNative<B>> MatchesNative<(A, B)> for E
 }
 
 impl<A: Drop, B, K: Deserialize<A>, V: Deserialize<B>> Deserialize<(A, B)> for Entry<K, V> {
-    ghost refuses = { entry_refuses K.spec V.spec K.refuses V.refuses };
+    ghost deserialize_fails = { entry_refuses K.spec V.spec K.deserialize_fails
+        V.deserialize_fails };
 
     #[inline]
     fn deserialize(alloc: Global, view: View<'_, Entry<K, V>>) -> Result<(A, B), ReadError>
         requires { IsValidView (entry_spec K.spec V.spec) view }
         ensures { MatchResult result
             (AtView (PairRepresents K.spec V.spec K.represents V.represents) view.entry)
-            (AtView (entry_refuses K.spec V.spec K.refuses V.refuses) view.entry) }
+            (AtView (entry_refuses K.spec V.spec K.deserialize_fails V.deserialize_fails)
+            view.entry) }
     {
         let key = K::deserialize(alloc, view.key())?;
         let value = V::deserialize(alloc, view.value())?;
@@ -148,8 +150,8 @@ where
 
 impl<A: PartialEq, B: PartialEq, K: EqualsUniquely<A>, V: EqualsUniquely<B>> EqualsUniquely<(A, B)>
     for Entry<K, V> {
-    ghost exact = { entry_equals_once K.laws V.laws K.represents V.represents K.equals V.equals
-        A.eq B.eq K.exact V.exact };
+    ghost once = { entry_equals_once K.laws V.laws K.represents V.represents K.equals V.equals
+        A.eq B.eq K.once V.once };
 }
 
 impl<
@@ -158,5 +160,5 @@ impl<
     K: RepresentsUniquely<A>,
     V: RepresentsUniquely<B>,
 > RepresentsUniquely<(A, B)> for Entry<K, V> {
-    ghost alone = { entry_alone K.laws V.laws K.represents V.represents A.eq B.eq K.alone V.alone };
+    ghost once = { entry_once K.laws V.laws K.represents V.represents A.eq B.eq K.once V.once };
 }

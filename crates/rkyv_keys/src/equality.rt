@@ -8,7 +8,7 @@
 ghost use Rattle.std.specs.Prelude.{◌≡◌, ℕ, List, IsTrue, ◌↔◌};
 ghost use Rattle.rkyv_base.specs.Format.{IsFormat};
 ghost use Rattle.rkyv_base.specs.View.{IsValidView, AtView};
-ghost use Rattle.rkyv_keys.specs.Places.{at_views};
+ghost use Rattle.rkyv_keys.specs.AtViews.{at_views};
 ghost use Rattle.rkyv_keys.specs.Equality.{Comparison, EqualsOnce, IsEquivalence, RepresentsOnce};
 
 use rkyv_base::archive::Archive;
@@ -95,12 +95,12 @@ where
 /// std's maps and sets don't implement it. A caller knows that the keys of an archived map
 /// are distinct, and a law can't.
 pub trait EqualsUniquely<V: PartialEq>: MatchesNative<V> {
-    ghost exact: { EqualsOnce Self.spec Self.represents Self.equals V.eq };
+    ghost once: { EqualsOnce Self.spec Self.represents Self.equals V.eq };
 }
 
 /// An element whose values each represent only native values that are equal to one another.
 ///
 /// A deserialized value is therefore equal to the written one.
 pub trait RepresentsUniquely<V: PartialEq>: Represents<V> {
-    ghost alone: { RepresentsOnce Self.spec Self.represents V.eq };
+    ghost once: { RepresentsOnce Self.spec Self.represents V.eq };
 }

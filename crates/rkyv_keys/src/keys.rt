@@ -7,7 +7,7 @@
 ghost use Rattle.std.specs.Prelude.{◌≡◌, ℕ, Bool, List};
 ghost use Rattle.rkyv_scan.specs.Hash.{HasherCall};
 ghost use Rattle.rkyv_base.specs.View.{IsValidView};
-ghost use Rattle.rkyv_keys.specs.Places.{at_view};
+ghost use Rattle.rkyv_keys.specs.AtViews.{at_view};
 ghost use Rattle.rkyv_keys.specs.Calls.{after_calls};
 ghost use Rattle.rkyv_keys.specs.Fixed.{MakesFixedCalls};
 ghost use Rattle.rkyv_keys.specs.Keys.{FitsItsEqual, IsKey, IsQuery};
@@ -106,7 +106,7 @@ pub trait NativeKey<K: KeyElement + Represents<Self>>: Query<K> + Eq {
     ghost reads: { (key : Self) → Self.can_read key };
 }
 
-/// A query that fits the archived form of a native key of type `A` if and only if it equals the key.
+/// A query that fits the archived form of a native key of type `A` if and only if both are equal.
 ///
 /// Each native key is such a query of its own type. A `&str` is one of `String` keys,
 /// and a `String` one of `&str` keys. The laws of lookups in lists are about these queries.

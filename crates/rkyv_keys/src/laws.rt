@@ -5,9 +5,9 @@
 
 ghost use Rattle.std.specs.Prelude.{[], string_bytes, ◌++◌, ◌∷◌, ◌≡◌};
 ghost use Rattle.rkyv_scan.specs.Hash.{I8, I16, I32, I64, Isize, U8, U16, U32, U64, Usize};
-ghost use Rattle.rkyv_keys.specs.Asking.{AsksForValues, HashesAsWritten, RestsOnKeys};
+ghost use Rattle.rkyv_keys.specs.QueryLaws.{AsksForValues, HashesAsWritten, RestsOnKeys};
 ghost use Rattle.rkyv_keys.specs.Calls.{bool_call, text_calls};
-ghost use Rattle.rkyv_keys.specs.Ready.{HashesBy};
+ghost use Rattle.rkyv_keys.specs.HashesBy.{HashesBy};
 
 use crate::hash::KeyHash;
 use crate::keys::{KeyElement, NativeKey, Query};
@@ -45,7 +45,7 @@ pub fn numbers_hash_by_their_types()
 /// States how a `bool`, a `char` and the unit value are hashed.
 ///
 /// A `bool` is hashed as the byte 0 or 1, a `char` as its code in a `u32`, and `()` by no call.
-pub fn marks_hash_as_numbers()
+pub fn bools_chars_and_units_hash_by_their_calls()
     ensures bool { HashesBy ⟦<bool as KeyHash>⟧ (λ b. bool_call b ∷ []) }
     ensures char { HashesBy ⟦<char as KeyHash>⟧ (λ c. U32 c ∷ []) }
     ensures unit { HashesBy ⟦<() as KeyHash>⟧ (λ _. []) }

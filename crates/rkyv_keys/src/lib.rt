@@ -28,5 +28,5 @@ pub use equality::{
     ElementEq, ElementEquiv, EqualsUniquely, EqualsWritten, MatchesNative, RepresentsUniquely,
 };
 pub use hash::{KeyHash, hash_value};
-pub use keys::{FixedKey, KeyElement, NativeKey, Query};
+pub use keys::{FixedKey, KeyElement, NativeKey, NativeQuery, Query};
 pub use scalars::ScalarKey;

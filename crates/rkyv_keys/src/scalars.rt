@@ -10,11 +10,11 @@ ghost use Rattle.rkyv_scan.specs.Laws.{IsFixed};
 ghost use Rattle.rkyv_base.specs.Scalar.{ScalarRepresents};
 ghost use Rattle.rkyv_base.specs.Lemmas.Scalar.{scalar_is_format};
 ghost use Rattle.rkyv_base.specs.View.{IsValidView, AtView};
-ghost use Rattle.rkyv_keys.specs.Places.{at_view, at_views};
+ghost use Rattle.rkyv_keys.specs.AtViews.{at_view, at_views};
 ghost use Rattle.rkyv_keys.specs.Calls.{after_calls, bool_call};
-ghost use Rattle.rkyv_keys.specs.Lemmas.Asking.{native_alone};
+ghost use Rattle.rkyv_keys.specs.Lemmas.QueryLaws.{native_once};
 ghost use Rattle.rkyv_keys.specs.Equality.{TellsApart};
-ghost use Rattle.rkyv_keys.specs.Reading.{nothing_fails};
+ghost use Rattle.rkyv_keys.specs.Deserialize.{nothing_fails};
 ghost use Rattle.rkyv_keys.specs.OfScalars.{
   one_call,
   scalar_calls,
@@ -265,7 +265,7 @@ impl<N: ScalarKey> MatchesNative<N> for N {
 }
 
 impl<N: ScalarKey> Deserialize<N> for N {
-    ghost refuses = { nothing_fails };
+    ghost deserialize_fails = { nothing_fails };
 
     #[inline]
     fn deserialize(_alloc: Global, view: View<'_, N>) -> Result<N, ReadError>
@@ -283,13 +283,13 @@ impl<N: ScalarKey, W: Width> EqualsWritten<W> for N {
 }
 
 impl<N: ScalarKey> EqualsUniquely<N> for N {
-    ghost exact = { native_alone N.spec (ScalarRepresents N.encoding) N.eq
+    ghost once = { native_once N.spec (ScalarRepresents N.encoding) N.eq
         (scalar_fits N.encoding N.eq) (scalar_fits_its_equal N.spec N.encoding N.eq)
         N.Eq.laws.refl };
 }
 
 impl<N: ScalarKey> RepresentsUniquely<N> for N {
-    ghost alone = { native_alone N.spec (ScalarRepresents N.encoding) N.eq
+    ghost once = { native_once N.spec (ScalarRepresents N.encoding) N.eq
         (scalar_fits N.encoding N.eq) (scalar_fits_its_equal N.spec N.encoding N.eq)
         N.Eq.laws.refl };
 }

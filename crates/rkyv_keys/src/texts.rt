@@ -4,11 +4,11 @@ ghost use Rattle.std.specs.Prelude.{◌≡◌, string_bytes, IsTrue, ◌↔◌, 
 ghost use Rattle.rkyv_base.specs.Text.{text_spec};
 ghost use Rattle.rkyv_base.specs.Lemmas.TextWriting.{seen_text_is_format};
 ghost use Rattle.rkyv_base.specs.View.{IsValidView, AtView};
-ghost use Rattle.rkyv_keys.specs.Places.{at_view, at_views};
+ghost use Rattle.rkyv_keys.specs.AtViews.{at_view, at_views};
 ghost use Rattle.rkyv_keys.specs.Calls.{after_calls, text_calls};
-ghost use Rattle.rkyv_keys.specs.Reading.{memory_fails};
+ghost use Rattle.rkyv_keys.specs.Deserialize.{memory_fails};
 ghost use Rattle.rkyv_keys.specs.OfTexts.{same_bytes};
-ghost use Rattle.rkyv_keys.specs.Lemmas.OfTexts.{IsTextOf, text_alone, text_equivalence, text_fits};
+ghost use Rattle.rkyv_keys.specs.Lemmas.OfTexts.{IsTextOf, text_equivalence, text_fits, text_once};
 ghost use Rattle.rkyv_keys.specs.Lemmas.OfTexts.{text_fits_its_equal, text_key, text_key_calls};
 ghost use Rattle.rkyv_keys.specs.Lemmas.OfTexts.{text_key_fixed, text_query, text_same};
 
@@ -160,7 +160,7 @@ impl<W: Width> MatchesNative<String> for Text<W> {
 }
 
 impl<W: Width> Deserialize<String> for Text<W> {
-    ghost refuses = { memory_fails };
+    ghost deserialize_fails = { memory_fails };
 
     #[inline]
     fn deserialize(alloc: Global, view: View<'_, Text<W>>) -> Result<String, ReadError>
@@ -193,17 +193,17 @@ impl<W: Width> EqualsWritten<W> for String {
 }
 
 impl<'t, W: Width> EqualsUniquely<&'t str> for Text<W> {
-    ghost exact = { text_alone W.word (λ t. t.now) };
+    ghost once = { text_once W.word (λ t. t.now) };
 }
 
 impl<W: Width> EqualsUniquely<String> for Text<W> {
-    ghost exact = { text_alone W.word string_bytes };
+    ghost once = { text_once W.word string_bytes };
 }
 
 impl<'t, W: Width> RepresentsUniquely<&'t str> for Text<W> {
-    ghost alone = { text_alone W.word (λ t. t.now) };
+    ghost once = { text_once W.word (λ t. t.now) };
 }
 
 impl<W: Width> RepresentsUniquely<String> for Text<W> {
-    ghost alone = { text_alone W.word string_bytes };
+    ghost once = { text_once W.word string_bytes };
 }

@@ -7,7 +7,7 @@ ghost use Rattle.std.proofs.Common.{refl};
 ghost use Rattle.rkyv_base.specs.Empty.{unit_spec, unit_represents};
 ghost use Rattle.rkyv_base.specs.Lemmas.Empty.{unit_is_format};
 ghost use Rattle.rkyv_base.specs.View.{IsValidView, AtView};
-ghost use Rattle.rkyv_keys.specs.Reading.{nothing_fails};
+ghost use Rattle.rkyv_keys.specs.Deserialize.{nothing_fails};
 ghost use Rattle.rkyv_keys.specs.OfUnits.{no_calls, unit_calls, unit_fits, unit_same};
 ghost use Rattle.rkyv_keys.specs.Lemmas.OfUnits.{unit_equivalence, unit_fits_its_equal, unit_fixed};
 ghost use Rattle.rkyv_keys.specs.Lemmas.OfUnits.{unit_key, unit_query};
@@ -97,7 +97,7 @@ impl MatchesNative<()> for () {
 }
 
 impl Deserialize<()> for () {
-    ghost refuses = { nothing_fails };
+    ghost deserialize_fails = { nothing_fails };
 
     #[inline]
     fn deserialize(_alloc: Global, _view: View<'_, ()>) -> Result<(), ReadError>
@@ -115,9 +115,9 @@ impl<W: Width> EqualsWritten<W> for () {
 }
 
 impl EqualsUniquely<()> for () {
-    ghost exact = { λ v x b p h st eq. refl };
+    ghost once = { λ v x b p h st eq. refl };
 }
 
 impl RepresentsUniquely<()> for () {
-    ghost alone = { λ v x b p h st st'. refl };
+    ghost once = { λ v x b p h st st'. refl };
 }

@@ -4,7 +4,7 @@
 
 ghost use Rattle.std.specs.Prelude.{◌≡◌};
 ghost use Rattle.rkyv_base.specs.View.{IsValidView};
-ghost use Rattle.rkyv_keys.specs.Places.{at_view};
+ghost use Rattle.rkyv_keys.specs.AtViews.{at_view};
 ghost use Rattle.rkyv_keys.specs.OfViews.{view_calls, view_fits};
 ghost use Rattle.rkyv_keys.specs.Lemmas.OfViews.{view_query};
 

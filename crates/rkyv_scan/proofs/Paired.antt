@@ -6,8 +6,7 @@ use Rattle.std.proofs.lemmas.Bool.{cases_eq, ne_eqb}
 use Rattle.std.proofs.lemmas.Nat.{shr_split}
 use Rattle.std.proofs.lemmas.Nat.Bits.{bit_at_and, bit_at_or, bit_at-lt, bit_at-suc, bit_at-zero, bit_at_cat_low}
 use Rattle.rkyv_scan.specs.Groups.{is_word_match_at, mask_places, places_where}
-use Rattle.rkyv_scan.specs.Lemmas.HalfBits.{TellsEqual, bits_after, chain}
-use Rattle.rkyv_scan.specs.Paired.{half_of, is_half_match_at}
+use Rattle.rkyv_scan.specs.Paired.{TellsEqual, bits_after, chain, half_of, is_half_match_at}
 use Rattle.rkyv_scan.specs.Lemmas.Paired.{half_at, half_lower}
 use Rattle.rkyv_scan.proofs.Bits.{all_to_at}
 use Rattle.rkyv_scan.proofs.Places.{range_agree}

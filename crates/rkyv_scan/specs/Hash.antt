@@ -129,14 +129,6 @@ call_words sizes (I64 z) = signed_word w64 z
 call_words sizes (I128 z) = wide_words (cast_unsigned w128 z)
 call_words sizes (Isize z) = sizes.isize_word z ∷ []
 
--- the words that one call feeds to `FxHasher64`
-abbrev pub fx_words : HasherCall → List ℕ
-fx_words = call_words low_halves
-
--- the words that one call feeds to `FxHasher64Wide`
-abbrev pub wide_fx_words : HasherCall → List ℕ
-wide_fx_words = call_words all_bits
-
 -- the state `held` after one word
 unfoldable pub hash_word : ℕ → ℕ → ℕ
 hash_word held word = (bit_xor (rotate_left w64 held 5) word * 0x517c_c1b7_2722_0a95) % 2 ^ 64

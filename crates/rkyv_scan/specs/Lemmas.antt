@@ -1,6 +1,5 @@
 -- Lemmas for the laws of traits and of their impls. A law can import from specs/ alone.
 pub mod KindLaws
-pub mod HalfBits
 pub mod Ascending
 pub mod Numbers
 pub mod Paired

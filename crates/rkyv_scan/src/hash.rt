@@ -6,8 +6,8 @@
 //!
 //! `FxHasher64` is the hasher of archived maps, and `FxHasher64Wide` its variant
 //! for 64-bit `usize` words.
-ghost use Rattle.std.specs.Prelude.{◌≡◌, ℕ, ◌+◌, ◌≤◌, ◌%◌, ◌^◌, length, List};
-ghost use Rattle.std.specs.Int.{w8, w16, w32, w64};
+ghost use Rattle.std.specs.Prelude.{◌≡◌, ℕ, ◌+◌, ◌≤◌, ◌%◌, ◌^◌, length};
+ghost use Rattle.std.specs.Int.{w16, w32, w64};
 ghost use Rattle.rkyv_scan.specs.Hash.{
   Hasher,
   Bytes,

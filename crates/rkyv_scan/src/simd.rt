@@ -16,7 +16,6 @@ ghost use Rattle.std.specs.Prelude.{
   ◌<◌,
   ◌≤◌,
   ◌↔◌,
-  Bool,
   List,
   Option,
   length,
@@ -26,7 +25,7 @@ ghost use Rattle.std.specs.Prelude.{
   slice_index,
   IsTrue,
 };
-ghost use Rattle.std.specs.Iterator.{YieldsFirst, Count, item_count};
+ghost use Rattle.std.specs.Iterator.{YieldsFirst, item_count};
 ghost use Rattle.std.specs.List.Sorted.{IsStrictlyIncreasing};
 ghost use Rattle.rkyv_scan.specs.Groups.{places_where, is_empty, is_full, Kind, IsKind};
 

@@ -74,7 +74,7 @@ module _ {T W : Type 0} {ts : Specs T} {wt : Words W} (b : List ℕ) (p : ℕ) (
 
   -- each write of an item of the table alone that keeps it valid keeps the table
   pub item_at_found : IsElement ts.spec → Viewable (table_spec wt.word ts.spec) b p → (q : ℕ) → IsItemPos t q → (i : ℕ) × IsItemAt wt.word ts.spec b p i q
-  item_at_found law represents q is =
+  item_at_found law table q is =
       let i = is.0 in
       let P = λ (c : List ℕ) (r : ℕ). IsWalked wt.word c r i × (q ≡ item_at wt.word ts.spec.size c r i) in
       let there : P b p = subst (P b) place (subst (λ (c : List ℕ). P c t.view.pos) bytes (is.1, is.2)) in (
@@ -82,7 +82,7 @@ module _ {T W : Type 0} {ts : Specs T} {wt : Words W} (b : List ℕ) (p : ℕ) (
         record {
           walked = there.0;
           place = there.1;
-          viewable = subst (Viewable ts.spec b) (sym there.1) (item_viewable wt.word ts.spec law b p represents i there.0);
-          kept = λ c sealed keeps. table_kept wt.word ts.spec law b p i represents there.0 c sealed keeps;
+          viewable = subst (Viewable ts.spec b) (sym there.1) (item_viewable wt.word ts.spec law b p table i there.0);
+          kept = λ c sealed keeps. table_kept wt.word ts.spec law b p i table there.0 c sealed keeps;
         },
       )

@@ -8,7 +8,7 @@ use Rattle.rkyv_base.specs.declared.errors.WriteError.{WriteError}
 use Rattle.rkyv_base.specs.declared.errors.WriteError.TheVariants.{DistanceTooLarge}
 use Rattle.rkyv_base.specs.Writing.{Only, Output, end_of, Appends, WriteFails, piece, zeros}
 use Rattle.rkyv_base.specs.Format.{Format}
-use Rattle.rkyv_base.proofs.WritingSteps.{appends_after, end-appends, grows, none_appended, told_after}
+use Rattle.rkyv_base.proofs.WritingSteps.{appends_after, end-appends, fails_after, grows, none_appended}
 use Rattle.rkyv_table.specs.Table.Slots.{SlotImages, BucketNext, filled, WroteBuckets, Filled, BucketOverflows}
 use Rattle.rkyv_table.proofs.PartSteps.{filled-append}
 
@@ -26,7 +26,7 @@ module _ {X R : Type 0} (size limit : ℕ) (f : Format X R) (slots : List (Optio
     pub done : List R
     pub inside : i ≤ length slots
     pub appended : Appends o o1 out
-    pub shown : SlotImages size f (drop i slots) done (end_of o1) out
+    pub images : SlotImages size f (drop i slots) done (end_of o1) out
     pub all : rs ≡ left ++ done
     pub count : length left ≡ filled (take i slots)
     pub within : end_of o1 ≤ limit
@@ -39,7 +39,7 @@ module _ {X R : Type 0} (size limit : ℕ) (f : Format X R) (slots : List (Optio
     read_at s e = slice_get-get_or slots i None (omega (arith, d.inside)) ∙ ap Some e
 
     shown_here : SlotImages size f (drop (i + 1) slots) d.done (end_of o + length d.out) d.out
-    shown_here = subst (λ n. SlotImages size f (drop (i + 1) slots) d.done n d.out) here d.shown
+    shown_here = subst (λ n. SlotImages size f (drop (i + 1) slots) d.done n d.out) here d.images
 
     pub down_none : get_or slots i None ≡ None → Appends o1 o2 (zeros size) → end_of o2 ≤ limit → Down i left o2
     down_none e a lim =
@@ -50,7 +50,7 @@ module _ {X R : Type 0} (size limit : ℕ) (f : Format X R) (slots : List (Optio
           done = d.done;
           inside = omega arith;
           appended = appends_after o o1 o2 d.out (zeros size) d.appended a;
-          shown = rw (drop_at slots i None q, e) (d.out, subst (λ k. SlotImages size f (drop (i + 1) slots) d.done k d.out) (sym n) d.shown, refl);
+          images = rw (drop_at slots i None q, e) (d.out, subst (λ k. SlotImages size f (drop (i + 1) slots) d.done k d.out) (sym n) d.images, refl);
           all = d.all;
           count = (let t : filled (take (i + 1) slots) ≡ filled (take i slots) + 0 = rw (take_more slots i None q, e) (filled-append (take i slots) (None ∷ [])) in let c = d.count in omega arith);
           within = lim;
@@ -81,14 +81,14 @@ module _ {X R : Type 0} (size limit : ℕ) (f : Format X R) (slots : List (Optio
           done = r ∷ d.done;
           inside = omega arith;
           appended = appends_after o o1 o2 d.out one d.appended a;
-          shown = rw (drop_at slots i None q, e) (
+          images = rw (drop_at slots i None q, e) (
             r,
             d.done,
             d.out,
             one,
             refl,
             subst (λ k. f.image x r k one) (sym n) im,
-            subst (λ k. SlotImages size f (drop (i + 1) slots) d.done k d.out) (sym n) d.shown,
+            subst (λ k. SlotImages size f (drop (i + 1) slots) d.done k d.out) (sym n) d.images,
             refl,
           );
           all = d.all ∙ ap (λ (y : List R). y ++ d.done) l ∙ append_assoc more (r ∷ []) d.done;
@@ -110,10 +110,10 @@ module _ {X R : Type 0} (size limit : ℕ) (f : Format X R) (slots : List (Optio
       abbrev BucketsFail : Output → WriteError F → Type 0
       BucketsFail o' err = WriteFails limit (BucketNext size f slots rs (end_of o)) o o' err
 
-      pub told_bucket : (more : List R) (one : List ℕ) (err : WriteError F) → Filled size f s left more (end_of o1) one
+      pub bucket_fails : (more : List R) (one : List ℕ) (err : WriteError F) → Filled size f s left more (end_of o1) one
           → WriteFails limit (Only (piece one)) o1 o2 err → BucketsFail o2 err
-      told_bucket more one err im t =
-          told_after limit (BucketNext size f slots rs (end_of o)) (Only (piece one)) o o1 o2 d.out err d.appended (inr d.within)
+      bucket_fails more one err im t =
+          fails_after limit (BucketNext size f slots rs (end_of o)) (Only (piece one)) o o1 o2 d.out err d.appended (inr d.within)
           (λ g step h.
           let k : d.out ++ g ≡ d.out = ap (λ (y : List ℕ). d.out ++ y) h.0 ∙ append-nil d.out in
           rw k (i, left, (d.done, d.all, shown_here), s, read_at s e, inl (more, one, subst (λ n. Filled size f s left more n one) here im, h.1)))
@@ -132,7 +132,7 @@ module _ {X R : Type 0} (size limit : ℕ) (f : Format X R) (slots : List (Optio
     done = [];
     inside = omega arith;
     appended = none_appended o;
-    shown = rw (drop_all (length slots) slots (omega arith)) (refl, refl);
+    images = rw (drop_all (length slots) slots (omega arith)) (refl, refl);
     all = sym (append-nil rs);
     count = rw (take_all (length slots) slots (omega arith)) c;
     within = lim;
@@ -141,4 +141,4 @@ module _ {X R : Type 0} (size limit : ℕ) (f : Format X R) (slots : List (Optio
   pub down_end : (left : List R) (o1 : Output) → Down 0 left o1 → WroteBuckets size f limit slots rs o o1
   down_end left o1 d =
       let e : left ≡ [] = none_left left d.count in
-      (d.out, (d.appended, d.within), subst (λ z. SlotImages size f slots z (end_of o1) d.out) (sym (d.all ∙ ap (λ (z : List R). z ++ d.done) e)) d.shown)
+      (d.out, (d.appended, d.within), subst (λ z. SlotImages size f slots z (end_of o1) d.out) (sym (d.all ∙ ap (λ (z : List R). z ++ d.done) e)) d.images)

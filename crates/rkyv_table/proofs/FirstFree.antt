@@ -9,7 +9,7 @@ use Rattle.rkyv_scan.specs.Groups.{places_where}
 use Rattle.rkyv_table.specs.Controls.Numbers.{start, control_count, probe_capacity}
 use Rattle.rkyv_table.specs.Controls.Probe.{strides, buckets_at, shown}
 use Rattle.rkyv_table.specs.Controls.Placing.{IsWrapped}
-use Rattle.rkyv_table.specs.Controls.Shown.{is_empty_at, empty_place, with_control}
+use Rattle.rkyv_table.specs.Controls.ControlBytes.{is_empty_at, empty_place, with_control}
 use Rattle.rkyv_table.proofs.Coverage.{covered}
 use Rattle.rkyv_table.proofs.Search.{control_of, tail_shows_all, strides_head}
 use Rattle.rkyv_table.proofs.Groups.{range_append, same_control}
@@ -177,6 +177,6 @@ empty_place_is controls p = refl
 pub no_range : (P : ℕ → Bool) (p n : ℕ) → n ≡ 0 → find P (range_with_len p n) ≡ None
 no_range P p n e = rw e refl
 
--- the two writes of a bucket's control byte
+-- without a mirrored index, one write of a control byte is enough
 pub one_write : (controls : List ℕ) (cap b t : ℕ) → length controls ≤ cap + b → set controls b t ≡ with_control controls cap b t
 one_write controls cap b t h = let l = length-set controls b t in sym (set_past (set controls b t) (cap + b) t (omega arith))

@@ -60,8 +60,8 @@ front_exist cap hashes room (suc i) h =
     let e = one_more_home cap hashes i (omega arith) ∙ with_home_is cap (get_or hashes i 0) n.0 (homes cap (take i hashes)) n.1 in
     rw (s, e, take_more hashes i 0 (omega arith)) (homes_more cap (get_or hashes i 0) n.0 (take i hashes) (homes cap (take i hashes)) ih n.1)
 
-pub homes_represent : (cap : ℕ) (hashes : List ℕ) → length hashes < cap → Homes cap hashes (homes cap hashes)
-homes_represent cap hashes room =
+pub homes_exist : (cap : ℕ) (hashes : List ℕ) → length hashes < cap → Homes cap hashes (homes cap hashes)
+homes_exist cap hashes room =
     let f = front_exist cap hashes room (length hashes) (omega arith) in
     rw (take_all (length hashes) hashes (omega arith)) at f
 

@@ -76,7 +76,3 @@ below_rest width (x ∷ xs) h = h.1
 pub fewer : (marks : List ℕ) (j : ℕ) → Some j ≡ slice_get marks 0 → length (drop 1 marks) < length marks
 fewer [] j e = absurd (none-some j (sym e))
 fewer (x ∷ xs) j e = omega arith
-
-pub some_mark : (marks : List ℕ) (j : ℕ) → Some j ≡ slice_get marks 0 → 0 < length marks
-some_mark [] j e = absurd (none-some j (sym e))
-some_mark (x ∷ xs) j e = omega arith

@@ -25,7 +25,7 @@ pub mod PlacingSteps
 pub mod PartSteps
 pub mod BucketSteps
 pub mod TableSteps
-pub mod Given
+pub mod TableResults
 pub mod RawWalks
 pub mod SameTable
 pub mod FirstItem

@@ -5,7 +5,7 @@ use Rattle.std.proofs.lemmas.List.{append-nil, length-map}
 use Rattle.rkyv_base.specs.Format.{Format, SerializeFails, Serialized}
 use Rattle.rkyv_base.specs.Pairs.{written_as}
 use Rattle.rkyv_base.specs.Writing.{CauseApplies, Output, end_of, capacity as too_large, load_factor, no_memory}
-use Rattle.rkyv_base.proofs.WritingSteps.{grows, none_appended, told_as}
+use Rattle.rkyv_base.proofs.WritingSteps.{fails_under, grows, none_appended}
 use Rattle.rkyv_base.specs.declared.errors.WriteError.{WriteError}
 use Rattle.rkyv_base.specs.declared.errors.WriteError.TheVariants.{InvalidLoadFactor, IteratorLengthMismatch, CapacityTooLarge, PositionTooLarge, DistanceTooLarge, TextTooLong, Writer, Memory, Refused}
 use Rattle.rkyv_table.specs.Table.Counting.{YieldsOtherCount}
@@ -44,16 +44,16 @@ module _ {X V R : Type 0} (yields : List X → Type 0) (other : ℕ → Type 0) 
   has : HasCapacity len factor max → HasCapacity (length values) factor max
   has h = subst (λ n. HasCapacity n factor max) count h
 
-  own_represents : {F : Type 0} (e : WriteError F) → OwnCause len factor max other e → CauseApplies limit (Whole.next values (end_of o)) o o [] e
-  own_represents (InvalidLoadFactor n d) h = (inl refl, refl, inl (load_factor n d, inl (cc, h.1), (refl, refl)))
-  own_represents (CapacityTooLarge l) h = (inl refl, refl, inl (too_large l, inr (inl (cc, h.1, subst (λ n. max < capacity n factor) count h.2)), (refl, refl)))
-  own_represents Memory h = (inl refl, refl, inl (no_memory, inr (inr (refl, has h.0, omega (arith, h.1, count))), (refl, refl)))
-  own_represents (IteratorLengthMismatch m) h = absurd (none m.actual h.2)
-  own_represents PositionTooLarge h = absurd h
-  own_represents DistanceTooLarge h = absurd h
-  own_represents TextTooLong h = absurd h
-  own_represents (Writer fault) h = absurd h
-  own_represents (Refused c) h = absurd h
+  own_applies : {F : Type 0} (e : WriteError F) → OwnCause len factor max other e → CauseApplies limit (Whole.next values (end_of o)) o o [] e
+  own_applies (InvalidLoadFactor n d) h = (inl refl, refl, inl (load_factor n d, inl (cc, h.1), (refl, refl)))
+  own_applies (CapacityTooLarge l) h = (inl refl, refl, inl (too_large l, inr (inl (cc, h.1, subst (λ n. max < capacity n factor) count h.2)), (refl, refl)))
+  own_applies Memory h = (inl refl, refl, inl (no_memory, inr (inr (refl, has h.0, omega (arith, h.1, count))), (refl, refl)))
+  own_applies (IteratorLengthMismatch m) h = absurd (none m.actual h.2)
+  own_applies PositionTooLarge h = absurd h
+  own_applies DistanceTooLarge h = absurd h
+  own_applies TextTooLong h = absurd h
+  own_applies (Writer fault) h = absurd h
+  own_applies (Refused c) h = absurd h
 
   pub answers_listed : {F : Type 0} (result : Result R (WriteError F))
       → MatchResult result (WroteItems yields len factor max (written_as seen f) o o' limit) (WriteItemsFails yields len factor max (written_as seen f) o o' limit other)
@@ -62,7 +62,7 @@ module _ {X V R : Type 0} (yields : List X → Type 0) (other : ℕ → Type 0) 
       let x = subst (λ (vs : List V). Serialized limit f vs o o' r) (all h.1 h.2.0) h.3 in
       (x.0, x.1, (has h.0, x.2), x.3)
   answers_listed (Err e) (inl h) =
-      subst (λ x. SerializeFails limit Whole values o x e) (sym h.1) (record { front = []; kept = grows o o [] (none_appended o); cause = own_represents e h.0 })
+      subst (λ x. SerializeFails limit Whole values o x e) (sym h.1) (record { front = []; kept = grows o o [] (none_appended o); cause = own_applies e h.0 })
   answers_listed (Err e) (inr h) =
-      told_as limit (Whole.next values (end_of o)) (f.next values (end_of o)) o o' e (λ front step n. inr (has h.0, n))
+      fails_under limit (Whole.next values (end_of o)) (f.next values (end_of o)) o o' e (λ front step n. inr (has h.0, n))
       (subst (λ (vs : List V). SerializeFails limit f vs o o' e) (all h.1 h.2.0) h.3)

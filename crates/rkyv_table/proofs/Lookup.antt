@@ -7,8 +7,8 @@ use Rattle.std.proofs.lemmas.Nat.{mod_below}
 use Rattle.std.proofs.lemmas.Bool.{cases_Bool, cases_eq, cases_lt, eq-eqb, ne_eqb, or_left, or_right, or_from, or_parts, ltb-true, ltb-false, le-leb, not-false, not-true, and_parts}
 use Rattle.rkyv_table.specs.Controls.Numbers.{start, tag, control_count, probe_capacity}
 use Rattle.rkyv_table.specs.Controls.Probe.{strides}
-use Rattle.rkyv_table.specs.Controls.Shown.{IsFullBucket}
-use Rattle.rkyv_table.specs.Controls.StrideOutcome.{IsShown}
+use Rattle.rkyv_table.specs.Controls.ControlBytes.{IsFullBucket}
+use Rattle.rkyv_table.specs.Controls.StrideOutcome.{IsFullInStride}
 use Rattle.rkyv_table.specs.Controls.Placing.{Accepted, walk}
 use Rattle.rkyv_scan.specs.Groups.{Kind, IsKind}
 use Rattle.rkyv_table.specs.Controls.Finding.{marked, candidates, shows_empty, ends_at, found, end}
@@ -19,24 +19,24 @@ use Rattle.rkyv_table.proofs.Walks.{full_walked}
 use Rattle.rkyv_table.proofs.Written.{first_within}
 
 module _ (kind : Kind) (controls : List ℕ) (cap t : ℕ) (accept : ℕ → Bool) where
-  abbrev pub place : List ℕ → ℕ
-  place ps = position_or_len (ends_at kind controls cap t accept) ps
+  abbrev pub end_index : List ℕ → ℕ
+  end_index ps = position_or_len (ends_at kind controls cap t accept) ps
 
   pub ends_by_item : (p b : ℕ) (ps qs : List ℕ) → qs ≡ p ∷ ps → find accept (candidates kind controls cap t p) ≡ Some b
-      → (answer kind controls cap t accept qs ≡ Some b) × (place qs ≡ 0)
+      → (answer kind controls cap t accept qs ≡ Some b) × (end_index qs ≡ 0)
   ends_by_item p b ps qs q h =
       let k = some_find accept (candidates kind controls cap t p) b h in
       let e : ends_at kind controls cap t accept p ≡ true = or_left (list_any accept (candidates kind controls cap t p)) (shows_empty controls p) k.0 in
       rw q (answer_cons kind controls cap t accept p ps ∙ rw e h, rw e refl)
 
   pub ends_by_empty : (p : ℕ) (ps qs : List ℕ) → qs ≡ p ∷ ps → find accept (candidates kind controls cap t p) ≡ None → shows_empty controls p ≡ true
-      → (answer kind controls cap t accept qs ≡ None) × (place qs ≡ 0)
+      → (answer kind controls cap t accept qs ≡ None) × (end_index qs ≡ 0)
   ends_by_empty p ps qs q h s =
       let e : ends_at kind controls cap t accept p ≡ true = or_right (list_any accept (candidates kind controls cap t p)) (shows_empty controls p) s in
       rw q (answer_cons kind controls cap t accept p ps ∙ rw e h, rw e refl)
 
   pub goes_on : (p : ℕ) (ps qs : List ℕ) → qs ≡ p ∷ ps → find accept (candidates kind controls cap t p) ≡ None → shows_empty controls p ≡ false
-      → (answer kind controls cap t accept qs ≡ answer kind controls cap t accept ps) × (place qs ≡ 1 + place ps)
+      → (answer kind controls cap t accept qs ≡ answer kind controls cap t accept ps) × (end_index qs ≡ 1 + end_index ps)
   goes_on p ps qs q h s =
       let k = none_find accept (candidates kind controls cap t p) h in
       let e : ends_at kind controls cap t accept p ≡ false = or_from (list_any accept (candidates kind controls cap t p)) (shows_empty controls p) k s in
@@ -100,13 +100,13 @@ stride_full cap len controls stride p q a lp lq e f =
     ]
 
 -- the bucket of a full control byte of a stride
-pub shown_full : (cap len : ℕ) (controls stride : List ℕ) (p : ℕ) → Accepted cap len controls → p < probe_capacity cap → stride ≡ take 16 (drop p controls) → (b : ℕ) → IsShown stride p cap b → IsFullBucket cap controls b
+pub shown_full : (cap len : ℕ) (controls stride : List ℕ) (p : ℕ) → Accepted cap len controls → p < probe_capacity cap → stride ≡ take 16 (drop p controls) → (b : ℕ) → IsFullInStride stride p cap b → IsFullBucket cap controls b
 shown_full cap len controls stride p a lp e b s = let k = stride_full cap len controls stride p s.0 a lp s.1 e s.2 in rw s.3 (k.1)
 
 pub found_is : (kind : Kind) (controls : List ℕ) (cap len h : ℕ) (accept : ℕ → Bool) → (len ≡ 0 → ⊥) → found kind controls cap len h accept ≡ answer kind controls cap (tag h) accept (strides h cap)
 found_is kind controls cap len h accept n = rw (ne_eqb len 0 n) refl
 
-pub end_is : (kind : Kind) (controls : List ℕ) (cap len h : ℕ) (accept : ℕ → Bool) → (len ≡ 0 → ⊥) → end kind controls cap len h accept ≡ suc (place kind controls cap (tag h) accept (strides h cap))
+pub end_is : (kind : Kind) (controls : List ℕ) (cap len h : ℕ) (accept : ℕ → Bool) → (len ≡ 0 → ⊥) → end kind controls cap len h accept ≡ suc (end_index kind controls cap (tag h) accept (strides h cap))
 end_is kind controls cap len h accept n = rw (ne_eqb len 0 n) refl
 
 -- the number of strides is below 2^60

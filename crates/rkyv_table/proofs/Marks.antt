@@ -3,7 +3,7 @@ use Rattle.std.proofs.Common.{◌≡◌, ◌∙◌, ℕ, zero, suc, ◌+◌, ◌
 use Rattle.rkyv_scan.specs.Groups.{Kind, IsKind, places_where}
 use Rattle.std.proofs.lemmas.Bool.{cases_Bool}
 use Rattle.std.specs.List.{find, slice_get, range_with_len}
-use Rattle.rkyv_table.specs.Controls.StrideOutcome.{IsMarked, IsShown}
+use Rattle.rkyv_table.specs.Controls.StrideOutcome.{IsFullInStride, IsMarked}
 use Rattle.std.proofs.lemmas.Option.{none-some, same_Some}
 
 pub head_found : (f : ℕ → ℕ) (accept : ℕ → Bool) (xs : List ℕ) (j : ℕ) → Some j ≡ slice_get xs 0 → accept (f j) ≡ true → Some (f j) ≡ find accept (map f xs)
@@ -61,7 +61,7 @@ place_full kind law t stride shows ps at k ht e p h =
 
 -- the bucket of a marked index is that of a full control byte of the stride
 pub marked_shown : (kind : Kind) → IsKind kind → (t p cap at : ℕ) (stride shows ps : List ℕ) → t < 128 → at + kind.width ≤ 16 → shows ≡ take kind.width (drop at stride)
-    → ps ≡ places_where (kind.marks shows t) kind.width → (b : ℕ) → IsMarked (p + at) cap ps b → IsShown stride p cap b
+    → ps ≡ places_where (kind.marks shows t) kind.width → (b : ℕ) → IsMarked (p + at) cap ps b → IsFullInStride stride p cap b
 marked_shown kind law t p cap at stride shows ps ht fits e m b k =
     let f = place_full kind law t stride shows ps at k.0 ht e m k.1 in
     let j = get_or ps k.0 0 in

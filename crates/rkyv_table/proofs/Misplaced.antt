@@ -20,16 +20,10 @@ use Rattle.rkyv_table.proofs.Lists.{any_filter, any_map_filter, any_member, cont
 use Rattle.rkyv_table.proofs.Lookup.{found_is, marked_walked}
 use Rattle.rkyv_table.proofs.Search.{answer, answer_cons, cases_option}
 use Rattle.rkyv_table.proofs.Walks.{filter_agree_range}
-use Rattle.rkyv_table.proofs.Written.{first_within, found_written}
+use Rattle.rkyv_table.proofs.Written.{first_within, found_written, tag_small}
 use Rattle.rkyv_table.proofs.WrittenAccepted.{distinct_homes, distinct_range, full_home, homes_apart}
 
 -- ---- a found bucket is full and accepted
-
-tag_below : (h : ℕ) → h < 2 ^ 64 → tag h < 128
-tag_below h l = omega arith
-
-found_none : (kind : Kind) (controls : List ℕ) (cap h : ℕ) (accept : ℕ → Bool) → found kind controls cap 0 h accept ≡ None
-found_none kind controls cap h accept = refl
 
 found_member : (P : ℕ → Bool) (x : ℕ) (xs : List ℕ) → find P xs ≡ Some x → list_any (eqb x) xs ≡ true
 found_member P x [] e = absurd (none-some x e)
@@ -59,7 +53,7 @@ module _ (kind : Kind) (cap len h : ℕ) (controls : List ℕ) (law : IsKind kin
       let l = length-range_with_len p 16 in
       let g = get_or-range_with_len p 16 a.0 q (omega arith) in
       let at : q ≡ p + a.0 = sym a.3 ∙ g in
-      let k = marked_walked kind cap len h (tag h) p q controls law accepted (tag_below h fits) (member_contains p (strides h cap) here) (omega arith) (omega arith) t.0 in
+      let k = marked_walked kind cap len h (tag h) p q controls law accepted (tag_small h fits) (member_contains p (strides h cap) here) (omega arith) (omega arith) t.0 in
       subst (Contains (walk controls cap)) (sym (eqb-true b (q % cap) t.1)) k.1
 
   answer_walked : (accept : ℕ → Bool) (b : ℕ) (ps : List ℕ) → ((p : ℕ) → list_any (eqb p) ps ≡ true → list_any (eqb p) (strides h cap) ≡ true)

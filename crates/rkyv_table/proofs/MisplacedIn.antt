@@ -7,7 +7,7 @@ use Rattle.std.proofs.lemmas.List.Sums.{sum_by-cons}
 use Rattle.rkyv_base.specs.declared.view.View.{View}
 use Rattle.rkyv_scan.specs.Groups.{generic_kind}
 use Rattle.rkyv_table.specs.Controls.Finding.{ReadsWithin}
-use Rattle.rkyv_table.specs.Table.MisplacedIn.{AnswersOf, ComparesAs, CountsOwn, HashesAs, TellsMisplaced, bucket_misplaced}
+use Rattle.rkyv_table.specs.Table.MisplacedIn.{ComparesAs, ComparesItems, CountsOwn, HashesAs, TellsMisplaced, bucket_misplaced}
 use Rattle.rkyv_table.specs.Table.MisplacedIn.{bucket_strides, table_misplaced, table_strides}
 use Rattle.rkyv_table.specs.Table.Reading.{IsItemIn, item_pos}
 use Rattle.rkyv_table.specs.declared.table.ArchivedHashTable.{ArchivedHashTable}
@@ -20,7 +20,7 @@ count_passed P x xs rest e f = ap (λ ys. length (filter P ys)) e ∙ rw f refl
 
 -- the comparison with a bucket's own item, by positions
 module _ {T W : Type 0} {ts : Specs T} {wt : Words W} (compares : View T → View T → Bool → Type 0) (t : ArchivedHashTable T W ts wt) (bucket : ℕ) (same : ℕ → ℕ → Bool) (alone : ComparesAs compares t same) where
-  pub own_answer : (other : ℕ) (r : Bool) → AnswersOf compares t bucket other r → r ≡ same (item_pos t bucket) (item_pos t other)
+  pub own_answer : (other : ℕ) (r : Bool) → ComparesItems compares t bucket other r → r ≡ same (item_pos t bucket) (item_pos t other)
   own_answer other r e = alone e.0 e.1 r (bucket, e.2) (other, e.3) e.4 ∙ ap (λ p. same p e.1.pos) e.2.place ∙ ap (same (item_pos t bucket)) e.3.place
 
 -- the hash of a bucket's item, by its position

@@ -57,8 +57,8 @@ module _ {X R : Type 0} (f : Format X R) (one : WritesOneWay f) where
         let made = parts_one_way slots p t.part t'.part t.resolvers t'.resolvers t.made t'.made in
         let at : z ≡ z' = t.at ∙ ap (λ (a : List ℕ). round_up (p + length a) s.align + length slots * s.size) made.0 ∙ sym t'.at in
         let there : SlotImages s.size f slots t.resolvers z t'.buckets =
-        subst (λ n. SlotImages s.size f slots t.resolvers n t'.buckets) (sym at) (subst (λ (rs : List R). SlotImages s.size f slots rs z' t'.buckets) (sym made.1) t'.shown) in
-        let buckets = images_one_way s.size slots p z t.part t.buckets t'.buckets t.resolvers t.made t.shown there in (
+        subst (λ n. SlotImages s.size f slots t.resolvers n t'.buckets) (sym at) (subst (λ (rs : List R). SlotImages s.size f slots rs z' t'.buckets) (sym made.1) t'.images) in
+        let buckets = images_one_way s.size slots p z t.part t.buckets t'.buckets t.resolvers t.made t.images there in (
           at,
           t.is ∙ ap (λ (a : List ℕ). a ++ (zeros (padding s.align (p + length a)) ++ (t.buckets ++ controls))) made.0
               ∙ ap (λ (b : List ℕ). t'.part ++ (zeros (padding s.align (p + length t'.part)) ++ (b ++ controls))) buckets ∙ sym t'.is,

@@ -6,7 +6,7 @@ use Rattle.std.proofs.lemmas.Option.{slice_get-get_or}
 use Rattle.rkyv_base.specs.declared.errors.WriteError.{WriteError}
 use Rattle.rkyv_base.specs.Writing.{Output, end_of, Appends, WriteFails, Within}
 use Rattle.rkyv_base.specs.Format.{Format}
-use Rattle.rkyv_base.proofs.WritingSteps.{end-appends, told_after}
+use Rattle.rkyv_base.proofs.WritingSteps.{end-appends, fails_after}
 use Rattle.rkyv_table.specs.Table.Slots.{SlotParts, PartsNext, filled}
 
 zero_plus : (n : ℕ) → 0 + n ≡ n
@@ -89,11 +89,11 @@ module _ {X R : Type 0} (f : Format X R) where
           let up = filled_front slots (i + 1) in
           omega arith
 
-      pub step_told : {F : Type 0} (limit : ℕ) (o2 : Output) (err : WriteError F) → Within limit o1 part
+      pub step_fails : {F : Type 0} (limit : ℕ) (o2 : Output) (err : WriteError F) → Within limit o1 part
           → WriteFails limit (f.next x (end_of o1)) o1 o2 err → WriteFails limit (PartsNext f slots (end_of o)) o o2 err
-      step_told limit o2 err within t =
+      step_fails limit o2 err within t =
           let at : end_of o1 ≡ end_of o + length part = end-appends o o1 part a1 in
           let s : slice_get slots i ≡ Some (Some x) = slice_get-get_or slots i None inside ∙ ap Some e in
-          told_after limit (PartsNext f slots (end_of o)) (f.next x (end_of o1)) o o1 o2 part err a1 within
+          fails_after limit (PartsNext f slots (end_of o)) (f.next x (end_of o1)) o o1 o2 part err a1 within
           (λ g step n. (i, x, part, rs, g, s, h, subst (λ k. f.next x k g step) at n, refl))
           t

@@ -10,7 +10,7 @@ use Rattle.std.proofs.lemmas.Option.{slice_get_within, same_Some, none-some}
 use Rattle.std.proofs.lemmas.Bool.{or_parts, not-true, not_from_false, both_ways, eq-eqb, leb-true}
 use Rattle.rkyv_table.specs.Controls.Numbers.{tag}
 use Rattle.rkyv_table.specs.Controls.Probe.{shown, strides}
-use Rattle.rkyv_table.specs.Controls.Shown.{HasRoom, fresh_controls, is_empty_at, with_control}
+use Rattle.rkyv_table.specs.Controls.ControlBytes.{HasRoom, fresh_controls, is_empty_at, with_control}
 use Rattle.rkyv_table.specs.Controls.Placing.{is_free, Written}
 use Rattle.rkyv_table.proofs.Written.{shown_below}
 use Rattle.rkyv_table.proofs.WrittenStep.{one_more, fresh, room_left, free_empty}
@@ -94,9 +94,6 @@ module _ {X : Type 0} (cap : ℕ) (homes : List ℕ) (items : List X) (slots : L
   }
 
 module _ {X : Type 0} (cap : ℕ) (pairs : List (ℕ × X)) (slots : List (Option X)) (controls : List ℕ) where
-  pub placed_count : Placed cap pairs slots controls → filled slots ≡ length pairs
-  placed_count p = p.slotted.full ∙ p.written.placed.count ∙ length-map pairs (λ (y : ℕ × X). y.0)
-
   -- the first empty bucket that a hash shows has a slot
   pub bucket_inside : 0 < cap → Placed cap pairs slots controls → (h b : ℕ) → find (is_empty_at controls) (shown h cap) ≡ Some b → b < length slots
   bucket_inside pos p h b e = omega (arith, shown_below (is_empty_at controls) cap b (strides h cap) pos e, p.slotted.count)

@@ -32,8 +32,8 @@ offset_next : (m k offset : ℕ) → 0 < k → offset ≡ 16 * (k * (k - 1) / 2)
 offset_next m k offset h e =
     ap (λ z. (z + 16 * k) % m) e ∙ mod-add-mod (16 * (k * (k - 1) / 2)) m (16 * k) ∙ ap (λ z. z % m) (triangle_step k h)
 
-pos_of : (s m x : ℕ) → (s + x % m) % m ≡ (s + x) % m
-pos_of s m x = ap (λ z. z % m) (add_comm s (x % m)) ∙ mod-add-mod x m s ∙ ap (λ z. z % m) (add_comm x s)
+add_mod_inner : (s m x : ℕ) → (s + x % m) % m ≡ (s + x) % m
+add_mod_inner s m x = ap (λ z. z % m) (add_comm s (x % m)) ∙ mod-add-mod x m s ∙ ap (λ z. z % m) (add_comm x s)
 
 -- ---- bounds
 
@@ -74,7 +74,7 @@ place_is cap s offset k h is =
     let o = and_mask (offset + 16 * k) _ ∙ offset_next (modulus cap) k offset h is.at in
     and_mask (s + bit_and (offset + 16 * k) (modulus cap - 1)) _
     ∙ ap (λ z. (s + z) % modulus cap) o
-    ∙ pos_of s (modulus cap) (16 * triangle k)
+    ∙ add_mod_inner s (modulus cap) (16 * triangle k)
 
 range_cons : (k n : ℕ) → k < n → range_with_len k (n - k) ≡ k ∷ range_with_len (k + 1) (n - (k + 1))
 range_cons k n h = let e : n - k ≡ suc (n - (k + 1)) = omega arith in rw e refl

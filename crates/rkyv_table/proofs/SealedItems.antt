@@ -17,7 +17,7 @@ use Rattle.rkyv_table.specs.declared.table.ArchivedHashTable.{ArchivedHashTable}
 use Rattle.rkyv_base.specs.Seal.{archive_in, pos_in}
 use Rattle.rkyv_base.specs.declared.seal.ArchiveSeal.{ArchiveSeal}
 use Rattle.rkyv_table.specs.Controls.Placing.{walk}
-use Rattle.rkyv_table.specs.Table.SealedItems.{IsItemAt, IsSealIter, StaysThere, buckets_left}
+use Rattle.rkyv_table.specs.Table.SealedItems.{IsItemAt, IsSealIter, StaysThere, cursor_buckets_left}
 use Rattle.rkyv_table.specs.Lemmas.SameHeader.{cap_same, pos_same}
 use Rattle.rkyv_table.specs.Table.SealedTable.{KeepsTable}
 use Rattle.rkyv_table.specs.Table.Layout.{table_spec}
@@ -71,7 +71,7 @@ module _ {T : Type 0} (w : Width) (s : ElementSpec) (law : IsElement s) (p : ℕ
   pub part_there : 0 < r.left → r.buckets_end + r.cap ≤ length bytes
   part_there h =
       let some = some_buckets h in
-      let e = is.place some in
+      let e = is.buckets_end some in
       let f = is.cap in
       let k = (controls_inside w s law bytes p is.table (cap_some some)).0 in
       omega arith
@@ -79,7 +79,7 @@ module _ {T : Type 0} (w : Width) (s : ElementSpec) (law : IsElement s) (p : ℕ
   control_same : 0 < r.left → (i : ℕ) → i < r.cap → slice_index controls i ≡ slice_index (table_controls w bytes p) i
   control_same h i l =
       let f = is.cap in
-      let e = is.place (some_buckets h) in
+      let e = is.buckets_end (some_buckets h) in
       let m : i < (controls_pos w bytes p + control_count (cap_at w bytes p)) - controls_pos w bytes p = omega arith in
       ap (λ n. slice_index (slice_range bytes n (n + r.cap)) i) e
       ∙ front_same (drop (controls_pos w bytes p) bytes) ((controls_pos w bytes p + r.cap) - controls_pos w bytes p) ((controls_pos w bytes p + control_count (cap_at w bytes p)) - controls_pos w bytes p) i (omega arith) m
@@ -92,13 +92,13 @@ module _ {T : Type 0} (w : Width) (s : ElementSpec) (law : IsElement s) (p : ℕ
 
   pub bucket_before : 0 < r.left → (i : ℕ) → i < r.cap → (i + 1) * s.size ≤ r.buckets_end
   bucket_before h i l =
-      let e = is.place (some_buckets h) in
+      let e = is.buckets_end (some_buckets h) in
       let k = item_before w s law bytes p is.table i (subst (λ n. i < n) is.cap l) in
       omega arith
 
   pub first_item : 0 < r.left → (i q : ℕ) → i < r.cap → slice_index controls i < 128 → q ≡ pos_before r.buckets_end s.size i → IsItemAt w s bytes p i q
   first_item h i q l full at =
-      let e = is.place (some_buckets h) in
+      let e = is.buckets_end (some_buckets h) in
       let walked : IsWalked w bytes p i = (subst (λ n. i < n) is.cap l, subst (λ n. n < 128) (control_same h i l) full) in
       let place : q ≡ item_at w s.size bytes p i = at ∙ ap (λ n. n - (i + 1) * s.size) e in
       record {
@@ -115,18 +115,18 @@ module _ {T : Type 0} (w : Width) (s : ElementSpec) (p i q : ℕ) (before after 
   cursor_table =
       item.kept after.archive.now (subst (λ x. Sealed before.archive.now x s.size after.archive.now) item.place sealed) (subst (Keeps s before.archive.now after.archive.now) item.place keeps)
 
-  cursor_buckets : buckets_left w p after ≡ buckets_left w p before
+  cursor_buckets : cursor_buckets_left w p after ≡ cursor_buckets_left w p before
   cursor_buckets = ap (λ xs. full_from xs after.cap after.next) cursor_table.controls
       ∙ ap (λ n. full_from (table_controls w before.archive.now p) n after.next) there.cap ∙ ap (λ n. full_from (table_controls w before.archive.now p) before.cap n) there.next
 
-  pub cursor_kept : KeepsTable w s before.archive.now after.archive.now p i × IsSealIter w s p after × (buckets_left w p after ≡ buckets_left w p before)
+  pub cursor_kept : KeepsTable w s before.archive.now after.archive.now p i × IsSealIter w s p after × (cursor_buckets_left w p after ≡ cursor_buckets_left w p before)
   cursor_kept =
       let header = cursor_table.header in (
         cursor_table,
         record {
           table = viewable_kept (table_spec w s) before.archive.now after.archive.now p sealed.same_length cursor_table.holds is.table;
           cap = there.cap ∙ is.cap ∙ cap_same w before.archive.now after.archive.now p header;
-          place = λ h. there.place ∙ is.place (subst (λ n. 0 < n) there.cap h) ∙ pos_same w before.archive.now after.archive.now p header;
+          buckets_end = λ h. there.buckets_end ∙ is.buckets_end (subst (λ n. 0 < n) there.cap h) ∙ pos_same w before.archive.now after.archive.now p header;
           left = there.left ∙ is.left ∙ ap length (sym cursor_buckets);
         },
         cursor_buckets,
@@ -135,28 +135,28 @@ module _ {T : Type 0} (w : Width) (s : ElementSpec) (p i q : ℕ) (before after 
 -- a new cursor has all full buckets left
 module _ {T : Type 0} (w : Width) (s : ElementSpec) (law : IsElement s) (p : ℕ) (r : RawIterSeal T) (view : Viewable (table_spec w s) r.archive.now p)
     (cap : r.cap ≡ cap_at w r.archive.now p) (next : r.next ≡ 0) where
-  pub all_left : buckets_left w p r ≡ walk (table_controls w r.archive.now p) (cap_at w r.archive.now p)
+  pub all_left : cursor_buckets_left w p r ≡ walk (table_controls w r.archive.now p) (cap_at w r.archive.now p)
   all_left = ap (λ n. full_from (table_controls w r.archive.now p) n r.next) cap
       ∙ ap (λ n. full_from (table_controls w r.archive.now p) (cap_at w r.archive.now p) n) next ∙ whole_walk (table_controls w r.archive.now p) (cap_at w r.archive.now p)
 
   pub begun : r.left ≡ len_at w r.archive.now p → (0 < r.cap → r.buckets_end ≡ controls_pos w r.archive.now p) → IsSealIter w s p r
-  begun left place = record { table = view; cap = cap; place = place; left = left ∙ sym (walk_count w s law r.archive.now p view) ∙ ap length (sym all_left) }
+  begun left buckets_end = record { table = view; cap = cap; buckets_end = buckets_end; left = left ∙ sym (walk_count w s law r.archive.now p view) ∙ ap length (sym all_left) }
 
 -- a cursor with the numbers of a decoded header
-module _ {T W : Type 0} {ts : Specs T} {wt : Words W} (law : IsElement ts.spec) (a : ArchiveSeal (TableOf T W)) (represents : IsTableSeal wt.word ts.spec a) (t : ArchivedHashTable T W ts wt)
-    (read : IsReadAt a t) (r : RawIterSeal T) (bytes : r.archive.now ≡ archive_in a) (place : r.buckets_end ≡ t.header.controls_pos) (cap : r.cap ≡ t.header.cap) (left : r.left ≡ t.header.len) (next : r.next ≡ 0) where
+module _ {T W : Type 0} {ts : Specs T} {wt : Words W} (law : IsElement ts.spec) (a : ArchiveSeal (TableOf T W)) (viewable : IsTableSeal wt.word ts.spec a) (t : ArchivedHashTable T W ts wt)
+    (read : IsReadAt a t) (r : RawIterSeal T) (bytes : r.archive.now ≡ archive_in a) (buckets_end : r.buckets_end ≡ t.header.controls_pos) (cap : r.cap ≡ t.header.cap) (left : r.left ≡ t.header.len) (next : r.next ≡ 0) where
   as_read : (F : List ℕ → ℕ → ℕ) → F (table_bytes t) (table_pos t) ≡ F r.archive.now (pos_in a)
   as_read F = ap (λ b. F b (table_pos t)) (read.0 ∙ sym bytes) ∙ ap (F r.archive.now) read.1
 
-  represents_there : Viewable (table_spec wt.word ts.spec) r.archive.now (pos_in a)
-  represents_there = subst (λ b. Viewable (table_spec wt.word ts.spec) b (pos_in a)) (sym bytes) represents
+  viewable_there : Viewable (table_spec wt.word ts.spec) r.archive.now (pos_in a)
+  viewable_there = subst (λ b. Viewable (table_spec wt.word ts.spec) b (pos_in a)) (sym bytes) viewable
 
   cap_there : r.cap ≡ cap_at wt.word r.archive.now (pos_in a)
   cap_there = cap ∙ t.decoded.cap ∙ as_read (cap_at wt.word)
 
   pub begun_at : IsSealIter wt.word ts.spec (pos_in a) r
-  begun_at = begun wt.word ts.spec law (pos_in a) r represents_there cap_there next (left ∙ t.decoded.len ∙ as_read (len_at wt.word))
-      (λ h. place ∙ t.decoded.controls_pos (subst (λ n. 0 < n) cap h) ∙ as_read (controls_pos wt.word))
+  begun_at = begun wt.word ts.spec law (pos_in a) r viewable_there cap_there next (left ∙ t.decoded.len ∙ as_read (len_at wt.word))
+      (λ h. buckets_end ∙ t.decoded.controls_pos (subst (λ n. 0 < n) cap h) ∙ as_read (controls_pos wt.word))
 
-  pub all_left_at : buckets_left wt.word (pos_in a) r ≡ walk (table_controls wt.word (archive_in a) (pos_in a)) (cap_at wt.word (archive_in a) (pos_in a))
-  all_left_at = all_left wt.word ts.spec law (pos_in a) r represents_there cap_there next ∙ ap (λ b. walk (table_controls wt.word b (pos_in a)) (cap_at wt.word b (pos_in a))) bytes
+  pub all_left_at : cursor_buckets_left wt.word (pos_in a) r ≡ walk (table_controls wt.word (archive_in a) (pos_in a)) (cap_at wt.word (archive_in a) (pos_in a))
+  all_left_at = all_left wt.word ts.spec law (pos_in a) r viewable_there cap_there next ∙ ap (λ b. walk (table_controls wt.word b (pos_in a)) (cap_at wt.word b (pos_in a))) bytes

@@ -20,7 +20,7 @@ use Rattle.rkyv_table.proofs.Bare.{answers_of}
 use Rattle.rkyv_table.proofs.ValidTable.{item_viewable}
 use Rattle.rkyv_table.proofs.SealedTable.{table_kept}
 
-module _ {T W : Type 0} {ts : Specs T} {wt : Words W} (law : IsElement ts.spec) (a : ArchiveSeal (TableOf T W)) (t : ArchivedHashTable T W ts wt) (read : IsReadAt a t) (represents : IsTableSeal wt.word ts.spec a) where
+module _ {T W : Type 0} {ts : Specs T} {wt : Words W} (law : IsElement ts.spec) (a : ArchiveSeal (TableOf T W)) (t : ArchivedHashTable T W ts wt) (read : IsReadAt a t) (table : IsTableSeal wt.word ts.spec a) where
   -- the position of a bucket of the table, in the bytes of the seal
   at_seal : (q : ℕ) → IsItemPos t q → (i : ℕ) × IsWalked wt.word (archive_in a) (pos_in a) i × (q ≡ item_at wt.word ts.spec.size (archive_in a) (pos_in a) i)
   at_seal q is =
@@ -28,7 +28,7 @@ module _ {T W : Type 0} {ts : Specs T} {wt : Words W} (law : IsElement ts.spec) 
       subst (P (archive_in a)) read.1 (subst (λ b. P b t.view.pos) read.0 is)
 
   pub place_viewable : (q : ℕ) → IsItemPos t q → Viewable ts.spec (archive_in a) q
-  place_viewable q is = let k = at_seal q is in subst (Viewable ts.spec (archive_in a)) (sym k.2) (item_viewable wt.word ts.spec law (archive_in a) (pos_in a) represents k.0 k.1)
+  place_viewable q is = let k = at_seal q is in subst (Viewable ts.spec (archive_in a)) (sym k.2) (item_viewable wt.word ts.spec law (archive_in a) (pos_in a) table k.0 k.1)
 
   pub item_seal : (q : ℕ) (x : Seal T) → IsItemPos t q → SealAt x a.archive q → IsItemSeal wt.word ts.spec a x
   item_seal q x is at =
@@ -38,7 +38,7 @@ module _ {T W : Type 0} {ts : Specs T} {wt : Words W} (law : IsElement ts.spec) 
         walked = k.1;
         at = subst (SealAt x a.archive) k.2 at;
         viewable = subst (Viewable ts.spec (archive_in a)) (sym at.place) (place_viewable q is);
-        kept = λ c sealed keeps. table_kept wt.word ts.spec law (archive_in a) (pos_in a) k.0 represents k.1 c sealed keeps;
+        kept = λ c sealed keeps. table_kept wt.word ts.spec law (archive_in a) (pos_in a) k.0 table k.1 c sealed keeps;
       }
 
   module _ (post : View T → Bool → Type 0) (hash : ℕ) (result : Option ℕ) where

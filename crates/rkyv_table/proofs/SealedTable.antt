@@ -7,10 +7,10 @@ use Rattle.std.proofs.lemmas.Int.{ints}
 use Rattle.std.proofs.Math.Nat.{mul-le-mul_right}
 use Rattle.rkyv_base.specs.Bytes.{AgreeOn}
 use Rattle.rkyv_base.specs.Entry.{entry_spec, whole_size}
-use Rattle.rkyv_base.specs.Lemmas.Entry.{entry_element, parts_inside, size_of_small}
+use Rattle.rkyv_base.specs.Lemmas.Entry.{entry_element, key_and_value_inside, size_of_small}
 use Rattle.rkyv_base.specs.Sealing.{Keeps, Outside, Sealed, value_pos}
 use Rattle.rkyv_base.specs.ElementSpec.{IsElement, ElementSpec, Viewable}
-use Rattle.rkyv_base.proofs.Sealing.{entry_kept, holds_out_of_line, same_outside, sealed_wider}
+use Rattle.rkyv_base.proofs.Sealing.{entry_kept, holds_outside, same_outside, sealed_wider}
 use Rattle.rkyv_table.proofs.SameTable.{written_there}
 use Rattle.rkyv_table.proofs.ValidTable.{item_viewable, part_of}
 use Rattle.rkyv_table.specs.Table.Positions.{IsWalked, WrittenAt, bucket_found, item_at}
@@ -19,7 +19,7 @@ use Rattle.rkyv_table.specs.Table.Header.{decode_begin, cap_at, controls_pos, le
 use Rattle.rkyv_table.specs.Table.SealedTable.{KeepsTable, SameValue}
 use Rattle.rkyv_scan.specs.Groups.{Kind, is_full}
 use Rattle.rkyv_table.specs.Controls.Finding.{found}
-use Rattle.rkyv_table.specs.Lemmas.ItemPositions.{HeldPart, bucket_holds_within, told_controls, told_item, told_pos}
+use Rattle.rkyv_table.specs.Lemmas.ItemPositions.{HeldPart, bucket_holds_within, decoded_controls, decoded_item, decoded_pos}
 use Rattle.rkyv_table.specs.Controls.Numbers.{control_count}
 use Rattle.rkyv_table.specs.Table.Places.{AllHold}
 use Rattle.rkyv_table.specs.Lemmas.PlaceLaws.{AllBelow, range_below}
@@ -43,17 +43,13 @@ module _ (s : ElementSpec) (law : IsElement s) (b c : List ℕ) (begin cap i : �
   abbrev at : ℕ → ℕ
   at = bucket_at s.size begin cap
 
-  -- the bytes before the buckets are unchanged
-  before_same : (x y : ℕ) → x ≤ y → y ≤ begin → AgreeOn b c x y
-  before_same x y o h = same_outside b (at i) s.size c sealed x y o (inl (omega arith))
-
   items_kept : (is : List ℕ) (lo l : ℕ) → lo ≤ begin → AllBelow cap is → AllHold s at b begin is lo l → AllHold s at c begin is lo l
   items_kept [] lo l o below h = h
   items_kept (j ∷ is) lo l o below h =
       let k : (lo ≤ h.0) × (h.0 ≤ begin) = law.rest_in_range b (at j) lo begin h.0 o h.1 in
       let here : s.holds c (at j) lo begin h.0 = elim (cases_eq j i) [
         | inl e ↦ subst (λ z. s.holds c (at z) lo begin h.0) (sym e) (keeps lo begin h.0 o (omega arith) (subst (λ z. s.holds b (at z) lo begin h.0) e h.1))
-        | inr ne ↦ holds_out_of_line s law b c (at i) s.size sealed (at j) lo begin h.0 o (buckets_apart s.size begin cap i j walked below.0 ne) (inl (omega (arith, k.1))) h.1
+        | inr ne ↦ holds_outside s law b c (at i) s.size sealed (at j) lo begin h.0 o (buckets_apart s.size begin cap i j walked below.0 ne) (inl (omega (arith, k.1))) h.1
       ] in
       (h.0, here, items_kept is h.0 l k.1 below.1 h.2)
 
@@ -78,7 +74,7 @@ parts_before : (w : Width) (s : ElementSpec) (law : IsElement s) (b : List ℕ) 
 parts_before w s law b p e t j l walked h =
     let cap = cap_at w b p in
     let q = bucket_at s.size t.begin cap j in
-    let full : slice_index (controls_at s.size b t.begin cap) j < 128 = subst (λ (xs : List ℕ). slice_index xs j < 128) (told_controls w s.size b p t.begin t.part.begins) walked.1 in
+    let full : slice_index (controls_at s.size b t.begin cap) j < 128 = subst (λ (xs : List ℕ). slice_index xs j < 128) (decoded_controls w s.size b p t.begin t.part.begins) walked.1 in
     let one = bucket_holds_within s law b t.begin cap 0 t.is.last j (omega arith) t.is.items walked.0 full in
     let d : (l' : ℕ) × s.holds b q 0 t.begin l' × (l' ≤ one.rest) = law.lower_lo b q one.lower 0 t.begin one.rest (omega arith) one.below one.holds in
     let k = law.rest_in_range b q one.lower t.begin one.rest one.below one.holds in
@@ -91,7 +87,7 @@ module _ (w : Width) (s : ElementSpec) (law : IsElement s) (b : List ℕ) (p i :
   whole = part_of w s law b p view (omega (arith, walked.0))
 
   at_is : (j : ℕ) → j < cap_at w b p → item_at w s.size b p j ≡ bucket_at s.size whole.begin (cap_at w b p) j
-  at_is j h = told_item w s.size b p whole.begin whole.part.begins j h
+  at_is j h = decoded_item w s.size b p whole.begin whole.part.begins j h
 
   sealed_at : Sealed b (bucket_at s.size whole.begin (cap_at w b p) i) s.size c
   sealed_at = subst (λ q. Sealed b q s.size c) (at_is i walked.0) sealed
@@ -139,9 +135,9 @@ module _ (w : Width) (s : ElementSpec) (law : IsElement s) (b : List ℕ) (p i :
         controls =
             ap (λ z. slice_range c z (z + control_count (cap_at w c p))) (sym (pos_same w b c p same))
             ∙ ap (λ k. slice_range c (controls_pos w b p) (controls_pos w b p + control_count k)) caps
-            ∙ ap (λ z. slice_range c z (z + control_count (cap_at w b p))) (told_pos w s.size b p whole.begin whole.part.begins)
+            ∙ ap (λ z. slice_range c z (z + control_count (cap_at w b p))) (decoded_pos w s.size b p whole.begin whole.part.begins)
             ∙ sym (controls_kept s law b c whole.begin (cap_at w b p) i walked.0 sealed_at keeps_at)
-            ∙ sym (told_controls w s.size b p whole.begin whole.part.begins);
+            ∙ sym (decoded_controls w s.size b p whole.begin whole.part.begins);
         others = other_same;
       }
 
@@ -170,7 +166,7 @@ module _ (w : Width) (k v : ElementSpec) (kl : IsElement k) (vl : IsElement v) (
       let q = item_at w s.size b p i in
       let there = item_viewable w s law b p view i walked in
       let small = size_of_small (whole_size k v) there.valid.1.0 in
-      let inside = parts_inside k v in (
+      let inside = key_and_value_inside k v in (
         table_kept w s law b p i view walked c
             (sealed_wider b c (value_pos k v q) v.size q s.size (omega arith) (omega (arith, small, inside.1)) sealed)
             (entry_kept k v kl vl b c q sealed keeps),

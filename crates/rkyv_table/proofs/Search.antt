@@ -1,4 +1,4 @@
--- A lookup in written control bytes finds the first accepted home bucket.
+-- The general steps of a search over strides.
 use Rattle.std.proofs.Common.{◌≡◌, ℕ, zero, suc, ◌+◌, ◌*◌, ◌-◌, ◌/◌, ◌%◌, ◌<◌, ◌≤◌, ◌⊎◌, inl, inr, refl, sym, ap, ◌∙◌, arith, List, [], ◌∷◌, Bool, true, false, cond, eqb, ltb, get_or, take, drop, map, filter, Option, Some, None, get_or-take, get_or-drop, add-zero}
 use Rattle.std.specs.List.{list_any, find, range_with_len, flat_map}
 use Rattle.std.specs.Option.{option_and_then}

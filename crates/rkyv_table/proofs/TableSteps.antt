@@ -5,7 +5,7 @@ use Rattle.rkyv_base.specs.declared.errors.WriteError.{WriteError}
 use Rattle.rkyv_base.specs.Writing.{Appended, Only, Output, end_of, Appends, Step, WriteFails, Within, padding, piece, zeros}
 use Rattle.rkyv_base.specs.Format.{Format}
 use Rattle.rkyv_base.specs.ElementSpec.{ElementSpec}
-use Rattle.rkyv_base.proofs.WritingSteps.{appends_after, end-appends, told_after, told_as}
+use Rattle.rkyv_base.proofs.WritingSteps.{appends_after, end-appends, fails_after, fails_under}
 use Rattle.rkyv_table.specs.Lemmas.Buckets.{images_length}
 use Rattle.rkyv_table.specs.Table.Slots.{SlotParts, SlotImages, PartsNext, BucketNext, TableNext, TableBytes, WroteBuckets}
 
@@ -14,10 +14,10 @@ pub zeros_behind : (align : ℕ) (o o1 : Output) (a : List ℕ) → Appends o o1
 zeros_behind align o o1 a appended = ap (λ (n : ℕ). zeros (padding align n)) (end-appends o o1 a appended)
 
 -- one piece after the appended bytes. If it is the next step, a failure of it is one of the whole
-pub told_piece : {F : Type 0} (limit : ℕ) (Next : List ℕ → Step → Type 0) (o o1 o2 : Output) (a bytes : List ℕ) (e : WriteError F) → Appends o o1 a → Within limit o1 a
+pub piece_fails : {F : Type 0} (limit : ℕ) (Next : List ℕ → Step → Type 0) (o o1 o2 : Output) (a bytes : List ℕ) (e : WriteError F) → Appends o o1 a → Within limit o1 a
     → ((step : Step) → step ≡ piece bytes → Next a step) → WriteFails limit (Only (piece bytes)) o1 o2 e → WriteFails limit Next o o2 e
-told_piece limit Next o o1 o2 a bytes e appended inside next t =
-    told_after limit Next (Only (piece bytes)) o o1 o2 a e appended inside
+piece_fails limit Next o o1 o2 a bytes e appended inside next t =
+    fails_after limit Next (Only (piece bytes)) o o1 o2 a e appended inside
     (λ g step h. let k : a ++ g ≡ a = ap (λ (y : List ℕ). a ++ y) h.0 ∙ append-nil a in rw k (next step h.1))
     t
 
@@ -30,7 +30,7 @@ module _ (F : Type 0) {X R : Type 0} (s : ElementSpec) (limit : ℕ) (f : Format
   Stopped o' e = WriteFails limit Next o o' e
 
   pub stopped_parts : (o1 : Output) (e : WriteError F) → WriteFails limit (PartsNext f slots (end_of o)) o o1 e → Stopped o1 e
-  stopped_parts o1 e t = told_as limit Next (PartsNext f slots (end_of o)) o o1 e (λ g step h. inl h) t
+  stopped_parts o1 e t = fails_under limit Next (PartsNext f slots (end_of o)) o o1 e (λ g step h. inl h) t
 
   module _ (o1 : Output) (a : List ℕ) (rs : List R) (aa : Appends o o1 a) (made : SlotParts f slots (end_of o) a rs) (inside : Within limit o1 a) where
     abbrev pad : List ℕ
@@ -38,7 +38,7 @@ module _ (F : Type 0) {X R : Type 0} (s : ElementSpec) (limit : ℕ) (f : Format
 
     pub stopped_zeros : (o2 : Output) (e : WriteError F) → WriteFails limit (Only (piece pad)) o1 o2 e → Stopped o2 e
     stopped_zeros o2 e t =
-        told_piece limit Next o o1 o2 a pad e aa inside (λ step is. inr (inl (rs, made, is ∙ ap piece (zeros_behind s.align o o1 a aa)))) t
+        piece_fails limit Next o o1 o2 a pad e aa inside (λ step is. inr (inl (rs, made, is ∙ ap piece (zeros_behind s.align o o1 a aa)))) t
 
     module _ (o2 : Output) (bb : Appended limit pad o1 o2) where
       abbrev front : List ℕ
@@ -53,7 +53,7 @@ module _ (F : Type 0) {X R : Type 0} (s : ElementSpec) (limit : ℕ) (f : Format
       pub stopped_buckets : (o3 : Output) (e : WriteError F) → WriteFails limit (BucketNext s.size f slots rs (end_of o2)) o2 o3 e → Stopped o3 e
       stopped_buckets o3 e t =
           let at : end_of o2 ≡ end_of o + length front = end-appends o o2 front table_front in
-          told_after limit Next (BucketNext s.size f slots rs (end_of o2)) o o2 o3 front e table_front (inr bb.1)
+          fails_after limit Next (BucketNext s.size f slots rs (end_of o2)) o o2 o3 front e table_front (inr bb.1)
           (λ g step h. inr (inr (inl (a, rs, front, g, (made, front_is), subst (λ n. BucketNext s.size f slots rs n g step) at h, refl))))
           t
 
@@ -62,7 +62,7 @@ module _ (F : Type 0) {X R : Type 0} (s : ElementSpec) (limit : ℕ) (f : Format
         stopped_controls o4 e t =
             let whole : Appends o o3 (front ++ w.0) = appends_after o o2 o3 front w.0 table_front w.1.0 in
             let at : end_of o3 ≡ end_of o + length (front ++ w.0) = end-appends o o3 (front ++ w.0) whole in
-            told_piece limit Next o o3 o4 (front ++ w.0) controls e whole (inr w.1.1)
+            piece_fails limit Next o o3 o4 (front ++ w.0) controls e whole (inr w.1.1)
             (λ step is. inr (inr (inr (a, rs, front, w.0, (made, front_is), subst (λ n. SlotImages s.size f slots rs n w.0) at w.2, refl, is))))
             t
 
@@ -81,7 +81,7 @@ module _ (F : Type 0) {X R : Type 0} (s : ElementSpec) (limit : ℕ) (f : Format
                 resolvers = rs;
                 buckets = w.0;
                 made = made;
-                shown = w.2;
+                images = w.2;
                 at = e3 ∙ ap (λ k. end_of o2 + k) m ∙ ap (λ k. k + length slots * s.size) (e2 ∙ omega (arith, e1, n, q));
                 is = ap (λ (y : List ℕ). (y ++ w.0) ++ controls) front_is ∙ append_assoc (a ++ zeros (padding s.align (end_of o + length a))) w.0 controls
                     ∙ append_assoc a (zeros (padding s.align (end_of o + length a))) (w.0 ++ controls);

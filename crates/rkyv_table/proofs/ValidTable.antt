@@ -12,10 +12,10 @@ use Rattle.rkyv_base.specs.Bytes.{signed_at}
 use Rattle.rkyv_base.specs.declared.view.View.{View}
 use Rattle.rkyv_base.specs.ElementSpec.{ElementSpec, IsElement, Viewable}
 use Rattle.rkyv_base.specs.Lemmas.ElementSpec.{valid_at}
-use Rattle.rkyv_table.specs.Controls.Shown.{IsFullBucket}
+use Rattle.rkyv_table.specs.Controls.ControlBytes.{IsFullBucket}
 use Rattle.rkyv_table.specs.Controls.Finding.{end, found}
 use Rattle.rkyv_table.specs.Table.Header.{cap_at, controls_pos, len_at}
-use Rattle.rkyv_table.specs.Lemmas.ItemPositions.{HeldPart, holds_at, item_holds, told_controls, told_item, told_pos}
+use Rattle.rkyv_table.specs.Lemmas.ItemPositions.{HeldPart, decoded_controls, decoded_item, decoded_pos, holds_at, item_holds}
 use Rattle.rkyv_table.specs.Controls.Numbers.{control_count}
 use Rattle.rkyv_table.specs.Controls.Placing.{Accepted}
 use Rattle.rkyv_table.specs.Table.Positions.{IsWalked, item_at, table_controls}
@@ -36,14 +36,14 @@ module _ (w : Width) (s : ElementSpec) (law : IsElement s) (b : List ℕ) (p : �
   pub controls_accepted : 0 < cap_at w b p → Accepted (cap_at w b p) (len_at w b p) (table_controls w b p)
   controls_accepted h =
       let t = part_of h in
-      subst (Accepted (cap_at w b p) (len_at w b p)) (sym (told_controls w s.size b p t.begin t.part.begins)) t.is.controls
+      subst (Accepted (cap_at w b p) (len_at w b p)) (sym (decoded_controls w s.size b p t.begin t.part.begins)) t.is.controls
 
   -- the end and the begin of its control bytes
   pub controls_inside : 0 < cap_at w b p → (controls_pos w b p + control_count (cap_at w b p) ≤ length b) × (pos (controls_pos w b p) ≡ pos p +ℤ signed_at w b p)
   controls_inside h =
       let t = part_of h in
       let begins = t.part.begins in
-      let e = told_pos w s.size b p t.begin begins in
+      let e = decoded_pos w s.size b p t.begin begins in
       let below = t.part.below in
       let inside = v.inside in
       (omega arith, omega (arith, ints, begins, e))
@@ -59,7 +59,7 @@ module _ (w : Width) (s : ElementSpec) (law : IsElement s) (b : List ℕ) (p : �
   pub item_before : (i : ℕ) → i < cap_at w b p → (i + 1) * s.size ≤ controls_pos w b p
   item_before i h =
       let t = part_of (omega arith) in
-      let e = told_pos w s.size b p t.begin t.part.begins in
+      let e = decoded_pos w s.size b p t.begin t.part.begins in
       let m : (i + 1) * s.size ≤ cap_at w b p * s.size = mul-le-mul_right s.size (omega arith) in
       omega arith
 
@@ -68,7 +68,7 @@ module _ (w : Width) (s : ElementSpec) (law : IsElement s) (b : List ℕ) (p : �
   item_viewable i walked =
       let t = part_of (omega (arith, walked.0)) in
       let one = item_holds w s law b p 0 p v.valid.0 v.valid.1 i walked t in
-      let at = told_item w s.size b p t.begin t.part.begins i walked.0 in
+      let at = decoded_item w s.size b p t.begin t.part.begins i walked.0 in
       let ends = t.ends in
       let below = t.part.below in
       let inside = v.inside in

@@ -7,7 +7,7 @@ use Rattle.std.proofs.lemmas.List.FromFn.{get_or-range_with_len, length-range_wi
 use Rattle.std.proofs.lemmas.List.Kept.{AllPairs-filter}
 use Rattle.std.proofs.lemmas.Map.Keys.{IsDistinct-from_apart}
 use Rattle.rkyv_scan.specs.Groups.{is_full}
-use Rattle.rkyv_table.specs.Controls.Shown.{IsFullBucket}
+use Rattle.rkyv_table.specs.Controls.ControlBytes.{IsFullBucket}
 use Rattle.rkyv_table.specs.Controls.Laws.{AreHashes}
 use Rattle.rkyv_table.specs.Controls.Placing.{Written, is_free, walk}
 use Rattle.rkyv_table.specs.Controls.Probe.{shown}

@@ -12,7 +12,7 @@ use Rattle.rkyv_table.specs.Controls.Walking.{IsWalk, full_from, left, first_pla
 use Rattle.rkyv_table.proofs.Groups.{filter_shift}
 use Rattle.rkyv_table.proofs.FirstFree.{head_filter}
 use Rattle.rkyv_table.proofs.Lists.{FirstIn, first_range, any_filter, any_range, in_range, member_contains, contains_member}
-use Rattle.rkyv_table.specs.Controls.Shown.{IsFullBucket}
+use Rattle.rkyv_table.specs.Controls.ControlBytes.{IsFullBucket}
 
 pub filter_agree_range : (P Q : ℕ → Bool) (a n : ℕ) → ((j : ℕ) → a ≤ j → j < a + n → P j ≡ Q j) → filter P (range_with_len a n) ≡ filter Q (range_with_len a n)
 filter_agree_range P Q a zero h = refl

@@ -3,7 +3,7 @@ use Rattle.std.proofs.Common.{◌≡◌, ◌↔◌, ℕ, ◌+◌, ◌*◌, ◌%�
 use Rattle.std.specs.List.{find, list_any, range_with_len}
 use Rattle.rkyv_scan.specs.Groups.{Kind, IsKind, places_where}
 use Rattle.rkyv_table.specs.Controls.Finding.{candidates, shows_empty}
-use Rattle.rkyv_table.specs.Controls.StrideOutcome.{IsMarked, IsShown}
+use Rattle.rkyv_table.specs.Controls.StrideOutcome.{IsFullInStride, IsMarked}
 use Rattle.rkyv_table.proofs.Groups.{all_candidates, all_empty, candidates_in, empty_in, found_more, group_of, mark_told, more_empty, no_candidates, no_empty, places_are}
 use Rattle.rkyv_table.proofs.Marks.{marked_shown}
 use Rattle.rkyv_table.proofs.Search.{width_some}
@@ -39,7 +39,7 @@ whole_empty controls shows stride p w told places one s e m t =
     sym (ap (empty_in controls p) n' ∙ all_empty controls p) ∙ g ∙ (λ i. b i || list_any P (range_with_len 0 w)) ∙ sym a
 
 pub whole_shown : (kind : Kind) → IsKind kind → (t p cap : ℕ) (stride shows ps : List ℕ) → t < 128 → kind.width ≡ 16 → shows ≡ take kind.width stride
-    → ps ≡ places_where (kind.marks shows t) kind.width → (b : ℕ) → IsMarked p cap ps b → IsShown stride p cap b
+    → ps ≡ places_where (kind.marks shows t) kind.width → (b : ℕ) → IsMarked p cap ps b → IsFullInStride stride p cap b
 whole_shown kind law t p cap stride shows ps small one s m b k =
     let z : p ≡ p + 0 = omega arith in
     marked_shown kind law t p cap 0 stride shows ps small (omega arith) s m b (k.0, k.1, k.2 ∙ ap (λ q. (q + get_or ps k.0 0) % cap) z)

@@ -37,11 +37,11 @@ taken_at free cap p q none lo hi two =
     let m = any_map_filter free (λ q. ltb q (2 * cap)) (λ q. q % cap) (range_with_len p 16) in
     both_ways (list_any free (buckets_at cap p)) none (m ∙ a))
 
--- the first free bucket of a stride, as its index
 option_map_some : (f : ℕ → ℕ) (o : Option ℕ) (b : ℕ) → option_map f o ≡ Some b → (q : ℕ) × (o ≡ Some q) × (f q ≡ b)
 option_map_some f None b h = absurd (none-some b h)
 option_map_some f (Some q) b h = (q, refl, same_Some (f q) b h)
 
+-- the first free bucket of a stride, as its index
 pub first_free : (free : ℕ → Bool) (cap p b : ℕ) → find free (buckets_at cap p) ≡ Some b → (q : ℕ) × FirstIn (λ q. ltb q (2 * cap) && free (q % cap)) p 16 q × (q % cap ≡ b)
 first_free free cap p b h =
     let w = option_map_some (λ q. q % cap) (find (λ q. ltb q (2 * cap) && free (q % cap)) (range_with_len p 16)) b (sym (find_buckets free cap p) ∙ h) in
@@ -82,7 +82,7 @@ pub record Asked (cap h i : ℕ) (hashes homes controls : List ℕ) (kind : Kind
   pub yes : accept (get_or homes i 0) ≡ true
   pub no : (j : ℕ) → j < i → accept (get_or homes j 0) ≡ false
 
-tag_small : (h : ℕ) → h < 2 ^ 64 → tag h < 128
+pub tag_small : (h : ℕ) → h < 2 ^ 64 → tag h < 128
 tag_small h l = omega arith
 
 module _ (cap h i : ℕ) (hashes homes controls : List ℕ) (kind : Kind) (accept : ℕ → Bool) (a : Asked cap h i hashes homes controls kind accept) where

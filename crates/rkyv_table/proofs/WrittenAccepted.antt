@@ -1,10 +1,10 @@
 -- Written control bytes are valid: they have as many full buckets as items.
-use Rattle.std.proofs.Common.{◌≡◌, ℕ, ◌+◌, ◌^◌, ◌<◌, refl, sym, ◌∙◌, arith, List, false, ◌&&◌, eqb, ltb, length, get_or, take, replicate, get_or-take, length-take}
+use Rattle.std.proofs.Common.{◌≡◌, ℕ, ◌+◌, ◌^◌, ◌<◌, refl, sym, ◌∙◌, arith, List, false, ◌&&◌, eqb, ltb, length, get_or, take, get_or-take, length-take}
 use Rattle.std.specs.List.{list_any, range_with_len, IsDistinct}
 use Rattle.std.specs.Cmp.{nat_eq_equiv}
 use Rattle.std.proofs.lemmas.Map.Keys.{IsDistinct-from_apart}
 use Rattle.std.proofs.lemmas.Map.Made.{length-from_same_keys}
-use Rattle.std.proofs.lemmas.List.{get_or_default, length-replicate, get_or-replicate}
+use Rattle.std.proofs.lemmas.List.{get_or_default}
 use Rattle.std.proofs.lemmas.List.Folds.{list_any_at, Any-from_list_any}
 use Rattle.std.proofs.lemmas.List.FromFn.{length-range_with_len, get_or-range_with_len}
 use Rattle.std.proofs.lemmas.Bool.{and_parts, and_from, eqb-true, eq-eqb, ne_eqb, leb-false, ltb-true, lt-ltb, not-true, not-false, false_from_ne_true, both_ways}
@@ -40,7 +40,7 @@ distinct_range n = let l = length-range_with_len 0 n in
     let gj = get_or-range_with_len 0 n j d jc in
     rw (gi, gj) (ne_eqb (0 + i) (0 + j) (λ e. omega arith)))
 
--- a full bucket is a home bucket
+-- a bucket is full if and only if it is a home bucket
 pub full_home : (cap : ℕ) (hashes homes controls : List ℕ) (q : ℕ) → 0 < cap → Written cap hashes homes controls → ((j : ℕ) → j < length hashes → get_or hashes j 0 < 2 ^ 64)
     → list_any (eqb q) (walk controls cap) ≡ list_any (eqb q) homes
 unfolding walk
@@ -76,10 +76,3 @@ accepted_written cap hashes homes controls room w fits =
       full = length-from_same_keys nat_eq_equiv (walk controls cap) homes d (distinct_homes cap hashes homes w.placed) (λ q. full_home cap hashes homes controls q (omega arith) w fits) ∙ w.placed.count;
       repeats = w.repeats;
     }
-
--- sixteen items under one hash, as a test has them
-pub accepted_alike : (cap n h : ℕ) (homes controls : List ℕ) → n < cap → h < 2 ^ 64 → Written cap (replicate n h) homes controls → Accepted cap n controls
-accepted_alike cap n h homes controls room fits w =
-    let l = length-replicate n h in
-    let a = accepted_written cap (replicate n h) homes controls (omega arith) w (λ j lj. let lt : j < n = omega arith in rw (get_or-replicate n j h 0 lt) fits) in
-    rw l at a

@@ -13,12 +13,9 @@ use Rattle.std.proofs.lemmas.Bool.{cases_Bool, cases_eq, cases_lt, or_parts, eq-
 use Rattle.rkyv_table.specs.Controls.Numbers.{tag, control_count}
 use Rattle.rkyv_table.specs.Controls.Probe.{strides, buckets_at, shown}
 use Rattle.rkyv_table.specs.Controls.Placing.{is_free, Homes, Written}
-use Rattle.rkyv_table.specs.Controls.Shown.{HasRoom, is_empty_at, with_control}
-use Rattle.rkyv_table.proofs.Written.{find_buckets, shown_below, taken_home}
+use Rattle.rkyv_table.specs.Controls.ControlBytes.{HasRoom, is_empty_at, with_control}
+use Rattle.rkyv_table.proofs.Written.{find_buckets, shown_below, tag_small, taken_home}
 use Rattle.rkyv_table.proofs.Lists.{some_find, any_member}
-
-tag_small : (h : ℕ) → h < 2 ^ 64 → tag h < 128
-tag_small h l = omega arith
 
 -- ---- reading a control byte after the two writes
 
@@ -30,8 +27,8 @@ at_bucket controls cap b t pos h =
 at_repeat : (controls : List ℕ) (cap b t : ℕ) → cap + b < length controls → get_or (with_control controls cap b t) (cap + b) 0 ≡ t
 at_repeat controls cap b t h = let l = length-set controls b t in get_or-set_same (set controls b t) (cap + b) t 0 (omega arith)
 
-in_another : (controls : List ℕ) (cap b t q : ℕ) → q ≢ b → q ≢ cap + b → get_or (with_control controls cap b t) q 0 ≡ get_or controls q 0
-in_another controls cap b t q n m = get_or-set_other (set controls b t) (cap + b) q t 0 m ∙ get_or-set_other controls b q t 0 n
+at_other : (controls : List ℕ) (cap b t q : ℕ) → q ≢ b → q ≢ cap + b → get_or (with_control controls cap b t) q 0 ≡ get_or controls q 0
+at_other controls cap b t q n m = get_or-set_other (set controls b t) (cap + b) q t 0 m ∙ get_or-set_other controls b q t 0 n
 
 -- ---- tests that agree below `cap` find the same
 
@@ -122,10 +119,10 @@ one_more cap h b hashes homes controls pos w fits hh e =
               let W = with_control controls cap b t in
               ap (λ z. get_or W z 0) s ∙ at_repeat controls cap b t (omega arith) ∙ sym (ap (λ z. get_or W z 0) d ∙ at_bucket controls cap b t pos bc)
           | inr m ↦
-              in_another controls cap b t q (λ z. omega arith) m ∙ r.repeated q lo two c
-              ∙ sym (in_another controls cap b t (q - cap) (λ z. m (omega arith)) (λ z. omega arith))
+              at_other controls cap b t q (λ z. omega arith) m ∙ r.repeated q lo two c
+              ∙ sym (at_other controls cap b t (q - cap) (λ z. m (omega arith)) (λ z. omega arith))
         ];
-        past = λ q g c. let x = in_another controls cap b t q (λ z. omega arith) (λ z. omega arith) in let y = r.past q g c in omega arith;
+        past = λ q g c. let x = at_other controls cap b t q (λ z. omega arith) (λ z. omega arith) in let y = r.past q g c in omega arith;
       };
       tags = λ i hi. elim (cases_lt i n) [
         | inl l ↦
@@ -135,7 +132,7 @@ one_more cap h b hashes homes controls pos w fits hh e =
             let s = tag_small (get_or hashes i 0) (fits i l) in
             let below = home_below cap hashes homes controls i pos w l in
             let apart : get_or homes i 0 ≢ b = λ z. (let q = ap (λ y. get_or controls y 0) z in omega arith) in
-            rw (x, y) (in_another controls cap b t (get_or homes i 0) apart (λ z. omega arith) ∙ k)
+            rw (x, y) (at_other controls cap b t (get_or homes i 0) apart (λ z. omega arith) ∙ k)
         | inr g ↦
             let s : i ≡ n = omega arith in
             let x = get_or_push hashes h 0 n refl in
@@ -147,8 +144,8 @@ one_more cap h b hashes homes controls pos w fits hh e =
           let u = or_parts (list_any (eqb c) homes) (list_any (eqb c) (b ∷ [])) (sym (list_any-append (eqb c) homes (b ∷ [])) ∙ none) in
           let v = or_parts (eqb c b) false u.1 in
           let apart : c ≢ b = λ z. both_ways (eqb c b) v.0 (eq-eqb c b z) in
-          in_another controls cap b t c apart (λ z. omega arith) ∙ w.others c hc (not_from_false (list_any (eqb c) homes) u.0);
-      past = λ q g c. let x = in_another controls cap b t q (λ z. omega arith) (λ z. omega arith) in x ∙ w.past q g c;
+          at_other controls cap b t c apart (λ z. omega arith) ∙ w.others c hc (not_from_false (list_any (eqb c) homes) u.0);
+      past = λ q g c. let x = at_other controls cap b t q (λ z. omega arith) (λ z. omega arith) in x ∙ w.past q g c;
     }
 
 fresh_at : (n q : ℕ) → q < n → get_or {A = ℕ} (replicate n 255) q 0 ≡ 255

@@ -5,7 +5,7 @@ use Rattle.std.proofs.lemmas.List.{get_or-map, length-map}
 use Rattle.std.proofs.lemmas.Option.{slice_get_within}
 use Rattle.rkyv_base.specs.ElementSpec.{ElementSpec}
 use Rattle.rkyv_table.specs.Table.Header.{decode_begin, cap_at}
-use Rattle.rkyv_table.specs.Lemmas.ItemPositions.{told_controls, told_item}
+use Rattle.rkyv_table.specs.Lemmas.ItemPositions.{decoded_controls, decoded_item}
 use Rattle.rkyv_table.specs.Controls.Numbers.{capacity}
 use Rattle.rkyv_table.specs.Controls.Placing.{Written}
 use Rattle.rkyv_table.specs.Table.Positions.{IsWalked, WrittenAt, home_positions, item_at}
@@ -67,7 +67,7 @@ module _ {X : Type 0} (w : Width) (s : ElementSpec) (represents : List ℕ → �
           fit = buckets.2.hashes;
           placed = inr (
             omega (arith, room, cap, count),
-            subst (λ (xs : List ℕ). Written (cap_at w c p) (hashes_of pairs) homes xs) (sym (told_controls w s.size c p buckets.0 buckets.1)) there,
+            subst (λ (xs : List ℕ). Written (cap_at w c p) (hashes_of pairs) homes xs) (sym (decoded_controls w s.size c p buckets.0 buckets.1)) there,
           );
         }
 
@@ -78,7 +78,7 @@ module _ {X : Type 0} (w : Width) (s : ElementSpec) (represents : List ℕ → �
         let items = length-map pairs (λ (y : ℕ × X). y.1) in
         let below : i < length homes = omega (arith, inside, hashes, items, home_count w c p (hashes_of pairs) homes written) in
         let walked = home_walked w c p (hashes_of pairs) homes written i below in
-        let at = told_item w s.size c p buckets.0 buckets.1 (slice_index homes i) walked.0 in
+        let at = decoded_item w s.size c p buckets.0 buckets.1 (slice_index homes i) walked.0 in
         subst (λ q. represents c q x)
         (ap (λ n. bucket_at s.size buckets.0 n (slice_index homes i)) (sym t.cap) ∙ sym at ∙ sym (home_pos w s.size c p homes i below)) (buckets.2.items i x e)
 

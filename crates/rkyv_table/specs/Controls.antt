@@ -2,7 +2,7 @@
 pub mod Numbers
 pub mod Capacity
 pub mod Probe
-pub mod Shown
+pub mod ControlBytes
 pub mod Placing
 pub mod Finding
 pub mod StrideOutcome

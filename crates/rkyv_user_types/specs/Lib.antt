@@ -1,2 +1,2 @@
-pub mod Seeing
+pub mod Wrapped
 pub mod Variants

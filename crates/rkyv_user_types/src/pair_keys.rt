@@ -1,15 +1,16 @@
 //! `PairEntry` as a key: equality, hashing, lookup and deserialization.
 
-ghost use Rattle.std.specs.Prelude.{◌&&◌, ◌↔◌, ◌≡◌, IsTrue, MatchResult};
+ghost use Rattle.std.specs.Prelude.{◌&&◌, ◌↔◌, ◌≡◌, IsTrue};
 ghost use Rattle.std.specs.Cmp.{and_equiv, and_per, on_equiv, on_per};
 ghost use Rattle.rkyv_base.specs.Entry.{entry_spec};
 ghost use Rattle.rkyv_base.specs.View.{IsValidView, AtView};
-ghost use Rattle.rkyv_keys.specs.Places.{at_view};
+ghost use Rattle.rkyv_keys.specs.AtViews.{at_view};
+ghost use Rattle.rkyv_keys.specs.Deserialize.{Deserializes};
 ghost use Rattle.rkyv_keys.specs.OfEntries.{BothRead, entry_fits};
 ghost use Rattle.rkyv_keys.specs.Lemmas.OfEntries.{entry_query};
 ghost use Rattle.rkyv_keys.specs.OfEntries.{entry_refuses, pair_calls};
 ghost use Rattle.rkyv_keys.specs.Lemmas.OfEntries.{entry_fits_its_equal};
-ghost use Rattle.rkyv_user_types.specs.Seeing.{PairEntryRepresents, query_seen, seen_equals};
+ghost use Rattle.rkyv_user_types.specs.Wrapped.{RepresentsAsPair, equals_as, query_as};
 
 use crate::pair::{AsPair, FromPair, PairEntry};
 use rkyv_base::element::Represents;
@@ -72,7 +73,7 @@ impl<
         self.0.first().same(key.key()) && self.0.second().same(key.value())
     }
 
-    ghost query = { query_seen (λ x. T.pair x.0) (entry_query K.laws V.laws A.query B.query) };
+    ghost query = { query_as (λ x. T.pair x.0) (entry_query K.laws V.laws A.query B.query) };
 }
 
 impl<
@@ -95,13 +96,13 @@ impl<
     K: MatchesNative<A>,
     V: MatchesNative<B>,
 > MatchesNative<PairEntry<T>> for Entry<K, V> {
-    ghost equals = { seen_equals K.spec V.spec K.equals V.equals (λ x. T.pair x.0) };
+    ghost equals = { equals_as K.spec V.spec K.equals V.equals (λ x. T.pair x.0) };
 
     #[inline]
     fn eq_native(view: View<'_, Entry<K, V>>, value: &PairEntry<T>) -> bool
         requires { IsValidView (entry_spec K.spec V.spec) view }
         ensures { IsTrue result ↔ AtView
-            (seen_equals K.spec V.spec K.equals V.equals (λ x. T.pair x.0))
+            (equals_as K.spec V.spec K.equals V.equals (λ x. T.pair x.0))
             view.entry value.now }
     {
         K::eq_native(view.key(), value.0.first()) && V::eq_native(view.value(), value.0.second())
@@ -115,15 +116,16 @@ impl<
     K: Deserialize<A>,
     V: Deserialize<B>,
 > Deserialize<PairEntry<T>> for Entry<K, V> {
-    ghost refuses = { entry_refuses K.spec V.spec K.refuses V.refuses };
+    ghost deserialize_fails = { entry_refuses K.spec V.spec K.deserialize_fails
+        V.deserialize_fails };
 
     #[inline]
     fn deserialize(alloc: Global, view: View<'_, Entry<K, V>>) -> Result<PairEntry<T>, ReadError>
         requires { IsValidView (entry_spec K.spec V.spec) view }
-        ensures { MatchResult result
-            (AtView (PairEntryRepresents K.spec V.spec K.represents V.represents
-            (λ x. T.pair x.0)) view.entry)
-            (AtView (entry_refuses K.spec V.spec K.refuses V.refuses) view.entry) }
+        ensures { Deserializes
+            (RepresentsAsPair K.spec V.spec K.represents V.represents (λ x. T.pair x.0))
+            (entry_refuses K.spec V.spec K.deserialize_fails V.deserialize_fails)
+            view.entry result }
     {
         let first = K::deserialize(alloc, view.key())?;
         let second = V::deserialize(alloc, view.value())?;

@@ -6,7 +6,7 @@
 ghost use Rattle.std.specs.Prelude.{◌≡◌};
 ghost use Rattle.rkyv_base.specs.Pairs.{PairRepresents, pair_format, written_as};
 ghost use Rattle.rkyv_base.specs.Lemmas.Pairs.{pair_local};
-ghost use Rattle.rkyv_user_types.specs.Seeing.{pair_seen};
+ghost use Rattle.rkyv_user_types.specs.Wrapped.{pair_as_format};
 
 use rkyv_base::archive::{Archive, ResolveResult, Serialize, WriteResult};
 use rkyv_base::element::Represents;
@@ -110,7 +110,8 @@ impl<
         <(A, B) as Archive<W>>::resolve(&tuple, resolver, pos, out)
     }
 
-    ghost laws = { pair_seen (λ x. T.tuple x.0) A.Archived.laws B.Archived.laws A.laws B.laws };
+    ghost laws = { pair_as_format (λ x. T.tuple x.0) A.Archived.laws B.Archived.laws A.laws
+        B.laws };
 }
 
 impl<

@@ -13,7 +13,7 @@ use Rattle.rkyv_base.specs.ElementSpec.{ElementSpec, IsAlign, IsElement, Viewabl
 use Rattle.rkyv_base.specs.Lemmas.ElementSpec.{valid_at}
 use Rattle.rkyv_base.specs.Lemmas.ElementSpec.{by_align, max_align, multiple_of_max, sum_multiple}
 use Rattle.rkyv_base.specs.Entry.{round_up, value_offset, whole_size, IsSmall, size_of_whole}
-use Rattle.rkyv_base.specs.Entry.{EntryHolds, EntryFails, PartsSame, entry_spec}
+use Rattle.rkyv_base.specs.Entry.{EntryHolds, EntryFails, EntriesAgree, entry_spec}
 
 pub size_of_small : (whole : ℕ) → whole ≤ 1073741824 → size_of_whole whole ≡ whole
 size_of_small whole h = grind (arith, nat_tests)
@@ -37,9 +37,9 @@ round_up-multiple n a ha = by_align (λ v. round_up n v % v ≡ 0) (omega arith)
     (omega arith) (omega arith) a ha
 
 -- the key and the value are inside the entry
-pub parts_inside : (k v : ElementSpec) → (k.size ≤ value_offset k v)
+pub key_and_value_inside : (k v : ElementSpec) → (k.size ≤ value_offset k v)
     × (value_offset k v + v.size ≤ whole_size k v)
-parts_inside k v = (omega arith, omega arith)
+key_and_value_inside k v = (omega arith, omega arith)
 
 module _ (k v : ElementSpec) (kl : IsElement k) (vl : IsElement v) where
   entry_prop : (b : List ℕ) (p lo hi l : ℕ) → IsProp (EntryHolds k v b p lo hi l)
@@ -96,7 +96,7 @@ module _ (k v : ElementSpec) (kl : IsElement k) (vl : IsElement v) where
   same_key b c p small fixed =
       let size : size_of_whole (whole_size k v) ≡ whole_size k v =
       size_of_small (whole_size k v) small in
-      let i = parts_inside k v in
+      let i = key_and_value_inside k v in
       agree_on_part b c p (p + size_of_whole (whole_size k v)) p (p + k.size) (omega arith)
       (omega (arith, size, i.0, i.1)) (omega arith) fixed
 
@@ -106,7 +106,7 @@ module _ (k v : ElementSpec) (kl : IsElement k) (vl : IsElement v) where
   same_value b c p small fixed =
       let size : size_of_whole (whole_size k v) ≡ whole_size k v =
       size_of_small (whole_size k v) small in
-      let i = parts_inside k v in
+      let i = key_and_value_inside k v in
       agree_on_part b c p (p + size_of_whole (whole_size k v)) (p + value_offset k v)
       (p + value_offset k v + v.size) (omega arith) (omega (arith, size, i.1)) (omega arith)
       fixed
@@ -114,7 +114,7 @@ module _ (k v : ElementSpec) (kl : IsElement k) (vl : IsElement v) where
   -- two lists that agree on an entry and its parts agree on those of its key and its value
   pub same_parts : (b c : List ℕ) (p lo hi l : ℕ) → lo ≤ hi → (h : EntryHolds k v b p lo hi l)
       → AgreeOn b c p (p + size_of_whole (whole_size k v)) → AgreeOn b c lo l
-      → PartsSame k v b c p lo hi h.1 l
+      → EntriesAgree k v b c p lo hi h.1 l
   same_parts b c p lo hi l o h fixed part =
       let x : (lo ≤ h.1) × (h.1 ≤ hi) = kl.rest_in_range b p lo hi h.1 o h.2 in
       let y : (h.1 ≤ l) × (l ≤ hi) = vl.rest_in_range b (p + value_offset k v) h.1 hi l x.1 h.3 in
@@ -172,21 +172,21 @@ module _ (k v : ElementSpec) (kl : IsElement k) (vl : IsElement v) where
       }
 
   -- the key and the value of a valid entry are inside the bytes, and aligned
-  parts_lie : (b : List ℕ) (p : ℕ) → Viewable (entry_spec k v) b p
+  key_and_value_lie : (b : List ℕ) (p : ℕ) → Viewable (entry_spec k v) b p
       → (p + value_offset k v + v.size ≤ length b) × (p % k.align ≡ 0) × (p % v.align ≡ 0)
-  parts_lie b p h =
+  key_and_value_lie b p h =
       let size : size_of_whole (whole_size k v) ≡ whole_size k v =
       size_of_small (whole_size k v) h.valid.1.0 in
       let als : (p % k.align ≡ 0) × (p % v.align ≡ 0) =
       multiple_of_max p k.align v.align kl.align_is vl.align_is h.aligned in
-      (omega (arith, h.inside, size, (parts_inside k v).1), als.0, als.1)
+      (omega (arith, h.inside, size, (key_and_value_inside k v).1), als.0, als.1)
 
   -- the key and the value of a valid entry are valid
   pub viewable_key : (b : List ℕ) (p : ℕ) → Viewable (entry_spec k v) b p → Viewable k b p
   viewable_key b p h =
-      let lie = parts_lie b p h in
+      let lie = key_and_value_lie b p h in
       record {
-        inside = omega (arith, lie.0, (parts_inside k v).0);
+        inside = omega (arith, lie.0, (key_and_value_inside k v).0);
         aligned = lie.1;
         valid = (h.valid.1.1, h.valid.1.2);
       }
@@ -194,7 +194,7 @@ module _ (k v : ElementSpec) (kl : IsElement k) (vl : IsElement v) where
   pub viewable_value : (b : List ℕ) (p : ℕ) → Viewable (entry_spec k v) b p
       → Viewable v b (p + value_offset k v)
   viewable_value b p h =
-      let lie = parts_lie b p h in
+      let lie = key_and_value_lie b p h in
       let x : (0 ≤ h.valid.1.1) × (h.valid.1.1 ≤ p) =
       kl.rest_in_range b p 0 p h.valid.1.1 (omega arith) h.valid.1.2 in
       record {

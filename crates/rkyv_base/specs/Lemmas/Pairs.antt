@@ -13,7 +13,7 @@ use Rattle.rkyv_base.specs.Entry.{value_offset, whole_size, size_of_whole}
 use Rattle.rkyv_base.specs.Lemmas.Entry.{size_of_small}
 use Rattle.rkyv_base.specs.Entry.{EntryHolds, entry_spec}
 use Rattle.rkyv_base.specs.Lemmas.Entry.{size_of_large, round_up-multiple}
-use Rattle.rkyv_base.specs.Lemmas.Entry.{parts_inside, same_parts}
+use Rattle.rkyv_base.specs.Lemmas.Entry.{key_and_value_inside, same_parts}
 use Rattle.rkyv_base.specs.Format.{Format, IsFormat, RepresentsLocally}
 use Rattle.rkyv_base.specs.Pairs.{pair_bytes, PairRepresents, PairParts, PairImage, PairOverflows}
 use Rattle.rkyv_base.specs.Pairs.{pair_format, written_as}
@@ -51,7 +51,7 @@ module _ {V W R Q : Type 0} (k v : ElementSpec) (kl : IsElement k) (vl : IsEleme
       → PairImage k v kf vf pair r p out → length out ≡ size_of_whole (whole_size k v)
   pair_whole pair r p out (inl h) = ap length h.1 ∙ sym (size_of_large (whole_size k v) h.0)
   pair_whole pair r p out (inr h) =
-      let i = parts_inside k v in
+      let i = key_and_value_inside k v in
       let na : length h.1 ≡ k.size = kw.size_exact pair.0 r.key p h.1 h.3 in
       let nb : length h.2 ≡ v.size = vw.size_exact pair.1 r.value (p + value_offset k v) h.2 h.4 in
       ap length h.5 ∙ length_pair (value_offset k v) (whole_size k v) h.1 h.2
@@ -73,7 +73,7 @@ module _ {V W R Q : Type 0} (k v : ElementSpec) (kl : IsElement k) (vl : IsEleme
   pair_sound pair r c p0 p part out h (inr g) s t o al =
       let off : ℕ = value_offset k v in
       let whole : ℕ = whole_size k v in
-      let i = parts_inside k v in
+      let i = key_and_value_inside k v in
       let na : length g.1 ≡ k.size = kw.size_exact pair.0 r.key p g.1 g.3 in
       let nb : length g.2 ≡ v.size = vw.size_exact pair.1 r.value (p + off) g.2 g.4 in
       let sp : OccursAt c p0 (h.1 ++ h.2) = subst (OccursAt c p0) h.5 s in

@@ -18,8 +18,8 @@ use Rattle.rkyv_base.specs.Lemmas.Parts.{part_one, part_prop, part_exclusive, pa
 use Rattle.rkyv_base.specs.Lemmas.Parts.{part_wider}
 use Rattle.rkyv_base.specs.Text.{text_size, fixed_bytes, is_out_of_line, inline_text}
 use Rattle.rkyv_base.specs.Text.{out_of_line_length, out_of_line_begin, text_of, text_at, TextReads}
-use Rattle.rkyv_base.specs.Text.{InlineHolds, OutOfLineHolds, FixedHolds, OutOfLineFails}
-use Rattle.rkyv_base.specs.Text.{FixedFails, text_spec, IsArchiveWord}
+use Rattle.rkyv_base.specs.Text.{InlineHolds, OutOfLineHolds, TextHolds, OutOfLineFails}
+use Rattle.rkyv_base.specs.Text.{TextFails, text_spec, IsArchiveWord}
 
 -- a property of both words is one of either
 pub by_archive_word : (P : Width → Type 0) → P w32 → P w64 → (w : Width) → IsArchiveWord w → P w
@@ -50,18 +50,18 @@ module _ (w : Width) where
       (λ h. (h.0, (h.1, h.2))) (λ h. (h.0, h.1.0, h.1.1)) (λ _. refl)
       (×_prop (hlevel props) (×_prop (hlevel props) (hlevel props)))
 
-  fixed_prop : (s b : List ℕ) (p lo hi l : ℕ) → IsProp (FixedHolds w s b p lo hi l)
-  fixed_prop s b p lo hi l =
+  text_prop : (s b : List ℕ) (p lo hi l : ℕ) → IsProp (TextHolds w s b p lo hi l)
+  text_prop s b p lo hi l =
       either_prop (inline_prop s lo l) (out_of_line_prop s b p lo hi l) (λ h k. cc (h.0, k.0))
 
-  holds_between : (s b : List ℕ) (p lo hi l : ℕ) → lo ≤ hi → FixedHolds w s b p lo hi l → (lo ≤ l)
+  holds_between : (s b : List ℕ) (p lo hi l : ℕ) → lo ≤ hi → TextHolds w s b p lo hi l → (lo ≤ l)
       × (l ≤ hi)
   holds_between s b p lo hi l o (inl h) = (omega (arith, h.2), omega (arith, h.2))
   holds_between s b p lo hi l o (inr (f, n, at, part, u, q)) =
       (omega (arith, part.above, q), omega (arith, part.below, q))
 
-  holds_one : (s b : List ℕ) (p lo hi l l' : ℕ) → FixedHolds w s b p lo hi l
-      → FixedHolds w s b p lo hi l' → l ≡ l'
+  holds_one : (s b : List ℕ) (p lo hi l l' : ℕ) → TextHolds w s b p lo hi l
+      → TextHolds w s b p lo hi l' → l ≡ l'
   holds_one s b p lo hi l l' (inl h) (inl k) = h.2 ∙ sym k.2
   holds_one s b p lo hi l l' (inl h) (inr k) = cc (h.0, k.0)
   holds_one s b p lo hi l l' (inr h) (inl k) = cc (h.0, k.0)
@@ -70,8 +70,8 @@ module _ (w : Width) where
       part_one (out_of_line_begin w s p) (out_of_line_length w s) 1 lo hi at at' part part' in
       omega (arith, same, q, q')
 
-  holds_exclusive : (s b : List ℕ) (p lo hi l : ℕ) (e : VerifyError) → FixedHolds w s b p lo hi l
-      → FixedFails w s b p lo hi e → ⊥
+  holds_exclusive : (s b : List ℕ) (p lo hi l : ℕ) (e : VerifyError) → TextHolds w s b p lo hi l
+      → TextFails w s b p lo hi e → ⊥
   holds_exclusive s b p lo hi l e (inl h) (inl k) = k.1 h.1
   holds_exclusive s b p lo hi l e (inl h) (inr k) = cc (h.0, k.0)
   holds_exclusive s b p lo hi l e (inr h) (inl k) = cc (h.0, k.0)
@@ -102,12 +102,12 @@ module _ (w : Width) where
       (out_of_line_length w s) 1 lo hi f.1 e' f.2 g.1)
   out_of_line_one_failure s b p lo hi e e' (inr (inr f)) (inr (inr g)) = f.4 ∙ sym g.4
 
-  fixed_one_failure : (s b : List ℕ) (p lo hi : ℕ) (e e' : VerifyError) → FixedFails w s b p lo hi e
-      → FixedFails w s b p lo hi e' → e ≡ e'
-  fixed_one_failure s b p lo hi e e' (inl f) (inl g) = f.2 ∙ sym g.2
-  fixed_one_failure s b p lo hi e e' (inl f) (inr g) = cc (f.0, g.0)
-  fixed_one_failure s b p lo hi e e' (inr f) (inl g) = cc (f.0, g.0)
-  fixed_one_failure s b p lo hi e e' (inr f) (inr g) =
+  text_one_failure : (s b : List ℕ) (p lo hi : ℕ) (e e' : VerifyError) → TextFails w s b p lo hi e
+      → TextFails w s b p lo hi e' → e ≡ e'
+  text_one_failure s b p lo hi e e' (inl f) (inl g) = f.2 ∙ sym g.2
+  text_one_failure s b p lo hi e e' (inl f) (inr g) = cc (f.0, g.0)
+  text_one_failure s b p lo hi e e' (inr f) (inl g) = cc (f.0, g.0)
+  text_one_failure s b p lo hi e e' (inr f) (inr g) =
       out_of_line_one_failure s b p lo hi e e' f.1 g.1
 
   holds_wider : (s b : List ℕ) (p lo lo' hi hi' l : ℕ) → lo' ≤ lo → hi ≤ hi'
@@ -121,14 +121,14 @@ module _ (w : Width) where
     q,
   )
 
-  holds_higher : (s b : List ℕ) (p lo hi hi' l : ℕ) → hi ≤ hi' → FixedHolds w s b p lo hi l
-      → FixedHolds w s b p lo hi' l
+  holds_higher : (s b : List ℕ) (p lo hi hi' l : ℕ) → hi ≤ hi' → TextHolds w s b p lo hi l
+      → TextHolds w s b p lo hi' l
   holds_higher s b p lo hi hi' l o (inl h) = inl h
   holds_higher s b p lo hi hi' l o (inr h) =
       inr (holds_wider s b p lo lo hi hi' l (omega arith) o h)
 
-  holds_lower : (s b : List ℕ) (p lo lo' hi l : ℕ) → lo' ≤ lo → FixedHolds w s b p lo hi l
-      → (l' : ℕ) × FixedHolds w s b p lo' hi l' × (l' ≤ l)
+  holds_lower : (s b : List ℕ) (p lo lo' hi l : ℕ) → lo' ≤ lo → TextHolds w s b p lo hi l
+      → (l' : ℕ) × TextHolds w s b p lo' hi l' × (l' ≤ l)
   holds_lower s b p lo lo' hi l o (inl h) = (lo', inl (h.0, h.1, refl), omega (arith, h.2))
   holds_lower s b p lo lo' hi l o (inr h) =
       (l, inr (holds_wider s b p lo lo' hi hi l o (omega arith) h), omega arith)
@@ -143,8 +143,8 @@ module _ (w : Width) where
       (omega arith)
       part
 
-  holds_local : (s b c : List ℕ) (p lo hi l : ℕ) → AgreeOn b c lo l → FixedHolds w s b p lo hi l
-      → FixedHolds w s c p lo hi l
+  holds_local : (s b c : List ℕ) (p lo hi l : ℕ) → AgreeOn b c lo l → TextHolds w s b p lo hi l
+      → TextHolds w s c p lo hi l
   holds_local s b c p lo hi l part (inl h) = inl h
   holds_local s b c p lo hi l part (inr h) =
       inr (h.0, h.1, h.2, h.3, subst IsUtf8 (same_text s b c p lo hi l part h) h.4, h.5)
@@ -153,17 +153,17 @@ module _ (w : Width) where
   pub inline_reads : (s b : List ℕ) (p : ℕ) → is_out_of_line s ≡ false
       → text_of w s b p ≡ inline_text s
   unfolding text_of
-  inline_reads s b p local = rw local refl
+  inline_reads s b p inline = rw inline refl
 
   pub out_of_line_reads : (s b : List ℕ) (p at : ℕ) → is_out_of_line s ≡ true
       → pos at ≡ out_of_line_begin w s p
       → text_of w s b p ≡ slice_range b at (at + out_of_line_length w s)
   unfolding text_of
-  out_of_line_reads s b p at overflow begins =
+  out_of_line_reads s b p at out_of_line begins =
       let there : unsigned_abs (out_of_line_begin w s p) ≡ at = ap unsigned_abs (sym begins) in
-      rw (overflow, there) refl
+      rw (out_of_line, there) refl
 
-  reads_local : (s b c : List ℕ) (p lo hi l : ℕ) (t : List ℕ) → FixedHolds w s b p lo hi l
+  reads_local : (s b c : List ℕ) (p lo hi l : ℕ) (t : List ℕ) → TextHolds w s b p lo hi l
       → AgreeOn b c lo l → text_of w s b p ≡ t → text_of w s c p ≡ t
   reads_local s b c p lo hi l t (inl h) part e = inline_reads s c p h.0
       ∙ sym (inline_reads s b p h.0) ∙ e
@@ -172,7 +172,7 @@ module _ (w : Width) where
       ∙ sym (out_of_line_reads s b p h.2 h.0 h.3.begins) ∙ e
 
   -- a valid text is UTF-8
-  holds_text : (s b : List ℕ) (p lo hi l : ℕ) → FixedHolds w s b p lo hi l
+  holds_text : (s b : List ℕ) (p lo hi l : ℕ) → TextHolds w s b p lo hi l
       → IsUtf8 (text_of w s b p)
   holds_text s b p lo hi l (inl h) = subst IsUtf8 (sym (inline_reads s b p h.0)) h.1
   holds_text s b p lo hi l (inr h) =
@@ -187,9 +187,9 @@ module _ (w : Width) where
       → is_out_of_line (fixed_bytes w b p) ≡ true
       → (at : ℕ) × (pos at ≡ out_of_line_begin w (fixed_bytes w b p) p)
       × (at + out_of_line_length w (fixed_bytes w b p) ≤ p)
-  viewable_out_of_line b p v overflow =
+  viewable_out_of_line b p v out_of_line =
       elim (v.valid.1) [
-        | inl h ↦ cc (h.0, overflow)
+        | inl h ↦ cc (h.0, out_of_line)
         | inr h ↦ (h.2, h.3.begins, h.3.below)
       ]
 
@@ -197,7 +197,7 @@ module _ (w : Width) where
   pub text_local : RepresentsLocally (text_spec w) (TextReads w)
   text_local t b c p lo hi l o h fixed part reads =
       reads_local (fixed_bytes w c p) b c p lo hi l t
-      (subst (λ s. FixedHolds w s b p lo hi l) fixed h) part
+      (subst (λ s. TextHolds w s b p lo hi l) fixed h) part
       (subst (λ s. text_of w s b p ≡ t) fixed reads)
 
 module _ (w : Width) (kind : IsArchiveWord w) where
@@ -207,13 +207,13 @@ module _ (w : Width) (kind : IsArchiveWord w) where
         (inr (inr (inr refl))) w kind;
     size_whole = by_archive_word (λ v. text_size v % byte_len v ≡ 0) refl refl w kind;
     size_small = by_archive_word (λ v. text_size v ≤ 1073741824) (omega arith) (omega arith) w kind;
-    proper = λ b p lo hi l. fixed_prop w (fixed_bytes w b p) b p lo hi l;
+    proper = λ b p lo hi l. text_prop w (fixed_bytes w b p) b p lo hi l;
     rest_in_range = λ b p lo hi l o h. holds_between w (fixed_bytes w b p) b p lo hi l o h;
     rest_unique = λ b p lo hi l l' h h'. holds_one w (fixed_bytes w b p) b p lo hi l l' h h';
     exclusive = λ b p lo hi l e h f. holds_exclusive w (fixed_bytes w b p) b p lo hi l e h f;
-    one_failure = λ b p lo hi e e' f g. fixed_one_failure w (fixed_bytes w b p) b p lo hi e e' f g;
+    one_failure = λ b p lo hi e e' f g. text_one_failure w (fixed_bytes w b p) b p lo hi e e' f g;
     widen_hi = λ b p lo hi hi' l o h. holds_higher w (fixed_bytes w b p) b p lo hi hi' l o h;
     lower_lo = λ b p lo lo' hi l o o' h. holds_lower w (fixed_bytes w b p) b p lo lo' hi l o h;
     local = λ b c p lo hi l o fixed part h. holds_local w (fixed_bytes w c p) b c p lo hi l part
-        (subst (λ s. FixedHolds w s b p lo hi l) fixed h);
+        (subst (λ s. TextHolds w s b p lo hi l) fixed h);
   }

@@ -11,7 +11,7 @@ use Rattle.rkyv_base.specs.declared.strings.TextResolver.{TextResolver}
 use Rattle.rkyv_base.specs.Format.{IsFormat}
 use Rattle.rkyv_base.specs.Pairs.{written_as}
 use Rattle.rkyv_base.specs.Lemmas.Pairs.{written_as-format}
-use Rattle.rkyv_base.specs.Text.{FixedHolds, IsArchiveWord, TextReads}
+use Rattle.rkyv_base.specs.Text.{IsArchiveWord, TextHolds, TextReads}
 use Rattle.rkyv_base.specs.Lemmas.Text.{by_archive_word}
 use Rattle.rkyv_base.specs.Text.{out_of_line_begin, out_of_line_length}
 use Rattle.rkyv_base.specs.Lemmas.Text.{out_of_line_reads}
@@ -44,10 +44,10 @@ length_inline : (size : ℕ) (t : List ℕ) → length t ≤ size → length (in
 length_inline size t h = simp (length-append, length-replicate) (omega arith)
 
 -- inline text doesn't have the form of out-of-line text
-inline_local : (size : ℕ) (t : List ℕ) → 0 < size → IsUtf8 t
+inline_form : (size : ℕ) (t : List ℕ) → 0 < size → IsUtf8 t
     → is_out_of_line (inline_bytes size t) ≡ false
-inline_local size [] h u = rw (get_or-replicate {A = ℕ} (size - 0) 0 255 0 (omega arith)) refl
-inline_local size (x ∷ t) h u = text_begins x t u
+inline_form size [] h u = rw (get_or-replicate {A = ℕ} (size - 0) 0 255 0 (omega arith)) refl
+inline_form size (x ∷ t) h u = text_begins x t u
 
 -- inline text ends before the first ff
 inline_ends : (size : ℕ) (t : List ℕ) → IsUtf8 t → inline_text (inline_bytes size t) ≡ t
@@ -151,15 +151,15 @@ module _ (w : Width) (kind : IsArchiveWord w) where
 
   inline_sound : (t c : List ℕ) (p lo hi : ℕ) → IsUtf8 t
       → fixed_bytes w c p ≡ inline_bytes (text_size w) t
-      → (l : ℕ) × FixedHolds w (fixed_bytes w c p) c p lo hi l × TextReads w c p t
+      → (l : ℕ) × TextHolds w (fixed_bytes w c p) c p lo hi l × TextReads w c p t
   inline_sound t c p lo hi u fixed =
-      let local : is_out_of_line (fixed_bytes w c p) ≡ false = ap is_out_of_line fixed
-      ∙ inline_local (text_size w) t sizes.0 u in
+      let inline : is_out_of_line (fixed_bytes w c p) ≡ false = ap is_out_of_line fixed
+      ∙ inline_form (text_size w) t sizes.0 u in
       let text : inline_text (fixed_bytes w c p) ≡ t = ap inline_text fixed
       ∙ inline_ends (text_size w) t u in (
         lo,
-        inl (local, subst IsUtf8 (sym text) u, refl),
-        inline_reads w (fixed_bytes w c p) c p local
+        inl (inline, subst IsUtf8 (sym text) u, refl),
+        inline_reads w (fixed_bytes w c p) c p inline
             ∙ text,
       )
 
@@ -167,11 +167,11 @@ module _ (w : Width) (kind : IsArchiveWord w) where
       → FitsSigned w (pos p0 -ℤ pos p)
       → OccursAt c p0 t
       → fixed_bytes w c p ≡ out_of_line_bytes w (length t) (pos p0 -ℤ pos p)
-      → (l : ℕ) × FixedHolds w (fixed_bytes w c p) c p p0 (p0 + length t) l × TextReads w c p t
+      → (l : ℕ) × TextHolds w (fixed_bytes w c p) c p p0 (p0 + length t) l × TextReads w c p t
   out_of_line_sound t c p p0 u long fits sits fixed =
       let d : ℤ = pos p0 -ℤ pos p in
       let s : List ℕ = fixed_bytes w c p in
-      let overflow : is_out_of_line s ≡ true =
+      let out_of_line : is_out_of_line s ≡ true =
       ap is_out_of_line fixed ∙ out_of_line_first w kind (length t) d in
       let len : out_of_line_length w s ≡ length t = ap (out_of_line_length w) fixed
       ∙ length_reads w kind (length t) d long.1 in
@@ -190,8 +190,8 @@ module _ (w : Width) (kind : IsArchiveWord w) where
         aligned = omega arith;
       } in (
         p0 + out_of_line_length w s,
-        inr (overflow, omega (arith, len, long.0), p0, part, subst IsUtf8 (sym text) u, refl),
-        out_of_line_reads w s c p p0 overflow begins ∙ text,
+        inr (out_of_line, omega (arith, len, long.0), p0, part, subst IsUtf8 (sym text) u, refl),
+        out_of_line_reads w s c p p0 out_of_line begins ∙ text,
       )
 
   text_exclusive : (t : List ℕ) (r : TextResolver) (p : ℕ) (out : List ℕ) → TextImage w t r p out
@@ -203,7 +203,7 @@ module _ (w : Width) (kind : IsArchiveWord w) where
   text_sound : (t : List ℕ) (r : TextResolver) (c : List ℕ) (p0 p : ℕ) (part out : List ℕ)
       → TextParts w t p0 part r → TextImage w t r p out
       → OccursAt c p0 part → fixed_bytes w c p ≡ out
-      → (l : ℕ) × FixedHolds w (fixed_bytes w c p) c p p0 (p0 + length part) l × TextReads w c p t
+      → (l : ℕ) × TextHolds w (fixed_bytes w c p) c p p0 (p0 + length part) l × TextReads w c p t
   text_sound t r c p0 p part out h (inl i) s fixed =
       inline_sound t c p p0 (p0 + length part) h.0 (fixed ∙ i.1)
   text_sound t r c p0 p part out (u, inl h) (inr (inl i)) s fixed =
@@ -218,7 +218,7 @@ module _ (w : Width) (kind : IsArchiveWord w) where
       let same : fixed_bytes w c p ≡ out_of_line_bytes w (length t) (pos p0 -ℤ pos p) =
       subst (λ q. fixed_bytes w c p ≡ out_of_line_bytes w (length t) (pos q -ℤ pos p)) h.2 (fixed
       ∙ i.2) in
-      subst (λ x. (l : ℕ) × FixedHolds w (fixed_bytes w c p) c p p0 (p0 + length x) l
+      subst (λ x. (l : ℕ) × TextHolds w (fixed_bytes w c p) c p p0 (p0 + length x) l
       × TextReads w c p t) (sym h.1)
       (out_of_line_sound t c p p0 u h.0 fits (subst (OccursAt c p0) h.1 s) same)
 

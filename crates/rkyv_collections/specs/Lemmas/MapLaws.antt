@@ -189,7 +189,7 @@ module _ (k v : ElementSpec) (kl : IsElement k) (vl : IsElement v) (w : Width) w
             same_positions there';
       }
 
-    module _ (own : A → ℕ) (same_calls : HashesAlike k key hash own) where
+    module _ (own : A → ℕ) (hashes_alike : HashesAlike k key hash own) where
       module _ (pairs : List (A × B)) (c : List ℕ) (p lo hi l : ℕ) (h : TableHolds w S c p lo hi l)
           (t : TableRepresents w S (PairRepresents k v key value) factor c p
           (keyed own pairs)) where
@@ -222,11 +222,11 @@ module _ (k v : ElementSpec) (kl : IsElement k) (vl : IsElement v) (w : Width) w
               let below : i < length homes = omega (arith, inside, homes_count) in
               let r = entry_there c p lo hi l h under homes whole.written i below in
               let q = place c p homes i in
-              let represents = key_valid c q lo r.0.begin r.0.begin r.1 r.2 in
+              let valid = key_valid c q lo r.0.begin r.0.begin r.1 r.2 in
               ap (λ (xs : List ℕ). slice_index xs i) (keyed_hashes own pairs)
               ∙ get_or-map (λ (pair : A × B). own pair.0) pairs i x.0 0 inside
               ∙ ap (λ (pair : A × B). own pair.0) x.3
-              ∙ same_calls x.0.0 c q represents (pair_at i x.0 x.2).0
+              ∙ hashes_alike x.0.0 c q valid (pair_at i x.0 x.2).0
           | inr x ↦ absurd (omega (arith, x.0, inside))
         ]
 

@@ -6,7 +6,7 @@ use Rattle.rkyv_base.specs.Format.{Format, IsFormat, RepresentsLocally}
 use Rattle.rkyv_base.specs.ElementSpec.{IsElement, ElementSpec}
 use Rattle.rkyv_base.specs.Text.{IsArchiveWord}
 use Rattle.rkyv_scan.specs.Hash.{Hasher, HasherCall, hash_of_calls}
-use Rattle.rkyv_keys.specs.Lemmas.Asking.{hashes_as_written}
+use Rattle.rkyv_keys.specs.Lemmas.QueryLaws.{hashes_as_written}
 use Rattle.rkyv_keys.specs.Equality.{Comparison}
 use Rattle.rkyv_keys.specs.Keys.{FitsItsEqual, IsKey, IsQuery}
 use Rattle.rkyv_collections.specs.Map.{hash_at}
@@ -43,9 +43,9 @@ module _ {State : Type 0} (hasher : Hasher State) (w : Width) {k v : ElementSpec
   map_sound kind {can_read} {calls} {fits} {equal} {R} {Q} {kf} {vf} query native itself reads kw
       vw =
       map_is_format k v kl vl w key value (hash_at hasher key_calls) factor (hash_of hasher calls)
-      (λ a b q represents there. ap (hash_of_calls hasher)
+      (λ a b q valid there. ap (hash_of_calls hasher)
       (hashes_as_written k same key_calls can_read calls fits key equal itself query native a b
-      q (reads a) represents there))
+      q (reads a) valid there))
       kind kf vf kw vw
 
   -- the same for a list, written by a call that takes exactly its pairs

@@ -29,7 +29,7 @@ use Rattle.rkyv_table.proofs.WrittenTables.{home_count, home_pos, home_walked}
 use Rattle.rkyv_collections.specs.Map.{hash_at}
 use Rattle.rkyv_collections.specs.Map.MapSpec.{map_spec}
 use Rattle.rkyv_collections.specs.Map.MapFormat.{MapRepresents, hash_of}
-use Rattle.rkyv_collections.specs.Lemmas.EntriesFound.{decode_entries}
+use Rattle.rkyv_collections.specs.Lemmas.DistinctEntries.{of_entries-format}
 use Rattle.rkyv_collections.specs.StdMaps.StdEquality.{EntriesEqual, FindsPair}
 use Rattle.rkyv_collections.specs.StdMaps.StdMap.{of_entries}
 
@@ -46,7 +46,7 @@ find_only test (x ∷ xs) (suc n) h here others =
 module _ (w : Width) (k v : ElementSpec) (kl : IsElement k) (vl : IsElement v) {A B : Type 0}
     (key : List ℕ → ℕ → A → Type 0) (equals : List ℕ → ℕ → B → Type 0)
     (own : A → ℕ) (there : List ℕ → ℕ → ℕ) (fits : A → List ℕ → ℕ → Bool) (equal : A → A → Bool)
-    (same_calls : (q : A) (b : List ℕ) (p : ℕ) → ValidAt k b p → fits q b p ≡ true
+    (same_hash : (q : A) (b : List ℕ) (p : ℕ) → ValidAt k b p → fits q b p ≡ true
     → there b p ≡ own q) (native : FitsItsEqual k key equal fits) (laws : IsEquivalence equal)
     (factor : ℕ × ℕ) where
   module _ (b : List ℕ) (p : ℕ) (view : Viewable (map_spec w k v) b p) (pairs : List (A × B))
@@ -61,15 +61,15 @@ module _ (w : Width) (k v : ElementSpec) (kl : IsElement k) (vl : IsElement v) {
     abbrev place : ℕ → ℕ
     place i = item_at w size b p (slice_index st.homes i)
 
-    homes_total : length st.homes ≡ length pairs
-    homes_total = home_count w b p hashes st.homes st.written ∙ sym st.written.count ∙ st.len
+    homes_count : length st.homes ≡ length pairs
+    homes_count = home_count w b p hashes st.homes st.written ∙ sym st.written.count ∙ st.len
 
     hashes_total : length hashes ≡ length st.homes
     hashes_total = length-map (home_positions w size b p st.homes) (there b)
         ∙ length-map st.homes (item_at w size b p)
 
-    key_represents : (i : ℕ) → i < length st.homes → ValidAt k b (place i)
-    key_represents i h =
+    key_valid : (i : ℕ) → i < length st.homes → ValidAt k b (place i)
+    key_valid i h =
         valid_key kl vl b (place i)
         (item_viewable w (entry_spec k v) (entry_element k v kl vl) b p view
         (slice_index st.homes i) (home_walked w b p hashes st.homes st.written i h)).valid
@@ -81,7 +81,7 @@ module _ (w : Width) (k v : ElementSpec) (kl : IsElement k) (vl : IsElement v) {
 
     fits_is : (q : A) (i : ℕ) (y : A × B) → i < length st.homes → slice_get pairs i ≡ Some y
         → fits q b (place i) ≡ equal q y.0
-    fits_is q i y h e = native q y.0 b (place i) (key_represents i h) (pair_represents i y h e).0
+    fits_is q i y h e = native q y.0 b (place i) (key_valid i h) (pair_represents i y h e).0
 
     hash_is : (i : ℕ) → i < length st.homes → slice_index hashes i ≡ there b (place i)
     hash_is i h =
@@ -91,7 +91,7 @@ module _ (w : Width) (k v : ElementSpec) (kl : IsElement k) (vl : IsElement v) {
 
     under : (q : A) (i : ℕ) → i < length st.homes → fits q b (place i) ≡ true
         → there b (place i) ≡ own q
-    under q i h = same_calls q b (place i) (key_represents i h)
+    under q i h = same_hash q b (place i) (key_valid i h)
 
     key_of : (i : ℕ) (y : A × B) (d : A) → slice_get pairs i ≡ Some y
         → get_or (keys_of pairs) i d ≡ y.0
@@ -103,7 +103,7 @@ module _ (w : Width) (k v : ElementSpec) (kl : IsElement k) (vl : IsElement v) {
         → fits y.0 b (place j) ≡ false
     no_other n y e j less =
         let inside = slice_get_within pairs n y e in
-        let below : j < length st.homes = omega (arith, less, inside, homes_total) in
+        let below : j < length st.homes = omega (arith, less, inside, homes_count) in
         let x = get_or pairs j y in
         let at = slice_get-get_or pairs j y (omega (arith, less, inside)) in
         let count = length-map pairs (λ (z : A × B). z.0) in
@@ -117,7 +117,7 @@ module _ (w : Width) (k v : ElementSpec) (kl : IsElement k) (vl : IsElement v) {
         → pos_found generic_kind w size b p (own y.0) (fits y.0 b) ≡ Some (place n)
     pair_found n y e =
         let inside = slice_get_within pairs n y e in
-        let below : n < length st.homes = omega (arith, inside, homes_total) in
+        let below : n < length st.homes = omega (arith, inside, homes_count) in
         let positions = home_positions w size b p st.homes in
         let total = length-map st.homes (item_at w size b p) in
         let here : fits y.0 b (place n) ≡ true = fits_is y.0 n y below e ∙ laws.refl y.0 in
@@ -142,14 +142,14 @@ module _ (w : Width) (k v : ElementSpec) (kl : IsElement k) (vl : IsElement v) {
         let y = get_or pairs n d in
         let e = slice_get-get_or pairs n d h in
         subst (λ o. IsSomeAnd o (λ q. equals b (q + value_offset k v) y.1)) (sym (pair_found n y e))
-        (pair_represents n y (omega (arith, h, homes_total)) e).1
+        (pair_represents n y (omega (arith, h, homes_count)) e).1
 
   -- in any archive with the written bytes of a map of std, the map there equals it
   pub written_equal : {R : Type 0} (kind : IsArchiveWord w) (f : Format (List (A × B)) R)
       → IsFormat (map_spec w k v) (MapRepresents w k v key equals there factor) f
       → IsFormat (map_spec w k v) (EntriesEqual w k v own fits equals) (of_entries equal f)
   written_equal kind f base =
-      decode_entries w kind kl vl factor equal (EntriesEqual w k v own fits equals)
+      of_entries-format w kind kl vl factor equal (EntriesEqual w k v own fits equals)
       (λ b p view es st apart. (st.len, each_found b p view es st apart)) f base
 
 -- the same for keys that are looked up by themselves

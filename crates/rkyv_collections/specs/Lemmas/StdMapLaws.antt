@@ -34,7 +34,7 @@ use Rattle.rkyv_table.proofs.Walks.{walk_none}
 use Rattle.rkyv_table.proofs.WrittenTables.{home_count, home_pos}
 use Rattle.rkyv_collections.specs.Map.MapSpec.{map_spec}
 use Rattle.rkyv_collections.specs.Map.MapFormat.{MapRepresents}
-use Rattle.rkyv_collections.specs.Lemmas.EntriesFound.{decode_entries}
+use Rattle.rkyv_collections.specs.Lemmas.DistinctEntries.{of_entries-format}
 use Rattle.rkyv_collections.specs.Lemmas.StoredKeys.{find_in_distinct, key_contained, no_key}
 use Rattle.rkyv_table.specs.Lemmas.SameControls.{same_controls}
 use Rattle.rkyv_collections.specs.StdMaps.StdMap.{ArePairsAt, EntriesRepresent, of_entries}
@@ -267,8 +267,8 @@ module _ (k v : ElementSpec) (kl : IsElement k) (vl : IsElement v) (w : Width) {
       walked : List ℕ
       walked = walk (table_controls w b p) (cap_at w b p)
 
-      home_total : length st.homes ≡ length pairs
-      home_total =
+      homes_count : length st.homes ≡ length pairs
+      homes_count =
           let hashes = map (hash b) (home_positions w (entry_spec k v).size b p st.homes) in
           home_count w b p hashes st.homes st.written ∙ sym st.written.count ∙ st.len
 
@@ -284,7 +284,7 @@ module _ (k v : ElementSpec) (kl : IsElement k) (vl : IsElement v) (w : Width) {
             | inl none ↦
                 let count = walk_count w (entry_spec k v) (entry_element k v kl vl) b p view in
                 let homes : length st.homes ≡ 0 = ap length none.1 in
-                let len : len_at w b p ≡ 0 = st.len ∙ sym home_total ∙ homes in (
+                let len : len_at w b p ≡ 0 = st.len ∙ sym homes_count ∙ homes in (
                   λ i. (
                     λ at. absurd (omega (arith, at.1, count, len)),
                     λ at. absurd (omega (arith, at.1, homes)),
@@ -323,23 +323,23 @@ module _ (k v : ElementSpec) (kl : IsElement k) (vl : IsElement v) (w : Width) {
           × ((q : A) → find (equal q) (keys_of pairs) ≡ find (equal q) (keys_of ys))
       unfolding walked Visits Hits
       reads_written =
-          let picked = pick_all equal laws pairs apart st.homes visits.1 home_total (λ i y.
+          let picked = pick_all equal laws pairs apart st.homes visits.1 homes_count (λ i y.
           PairRepresents k v key value b (item_at w (entry_spec k v).size b p i) y) pair_there
           walked (All-weaker (Contains walked) (Contains st.homes) (λ i at. (visits.0 i).0 at)
           walked
           (All-contains_itself walked)) in (
             picked.0,
             zip_positions walked picked.0 picked.1,
-            λ q. sym (inserted equal laws pairs apart st.homes visits.1 home_total q walked picked.0
-                picked.2 (λ _. None)
-                (elim (found_picked equal laws pairs apart st.homes visits.1 home_total q
+            λ q. sym (inserted equal laws pairs apart st.homes visits.1 homes_count q walked
+                picked.0 picked.2 (λ _. None)
+                (elim (found_picked equal laws pairs apart st.homes visits.1 homes_count q
                 (lookup (equal q) pairs) refl) [
                   | inl none ↦ inl (sym none)
                   | inr hit ↦ inr (hit.0, (visits.0 hit.0).1 hit.1, hit.2)
                 ])),
-            λ q. stored equal laws pairs apart st.homes visits.1 home_total q walked picked.0
+            λ q. stored equal laws pairs apart st.homes visits.1 homes_count q walked picked.0
                 picked.2
-                (elim (found_picked equal laws pairs apart st.homes visits.1 home_total q
+                (elim (found_picked equal laws pairs apart st.homes visits.1 homes_count q
                 (lookup (equal q) pairs) refl) [
                   | inl none ↦ inl none
                   | inr hit ↦ inr (hit.0, (visits.0 hit.0).1 hit.1, hit.2)
@@ -351,7 +351,7 @@ module _ (k v : ElementSpec) (kl : IsElement k) (vl : IsElement v) (w : Width) {
         → IsFormat (map_spec w k v) (MapRepresents w k v key value hash factor) f
         → IsFormat (map_spec w k v) (EntriesRepresent k v key value w equal) (of_entries equal f)
     entries_sound kind f base =
-        decode_entries w kind kl vl factor equal (EntriesRepresent k v key value w equal)
+        of_entries-format w kind kl vl factor equal (EntriesRepresent k v key value w equal)
         (λ b p view es st apart.
         let read = reads_written b p view es st apart in
         record {

@@ -1,11 +1,12 @@
 -- Lemmas: sets of std, as their keys, each with the unit value.
 use Rattle.std.specs.Prelude.{◌≡◌, ℕ, Bool, List, [], ◌∷◌, length}
-use Rattle.std.proofs.Common.{refl, ap, ◌∙◌, arith}
-use Rattle.std.specs.List.{All}
+use Rattle.std.proofs.Common.{refl, ap, ◌∙◌, inl, inr, arith, cond, Some, None}
+use Rattle.std.specs.List.{All, list_any}
+use Rattle.std.proofs.lemmas.Bool.{cases_Bool}
 use Rattle.std.proofs.lemmas.List.{length-map}
 use Rattle.std.proofs.lemmas.List.Elements.{All-cons, All-head, All-tail}
 use Rattle.std.specs.Int.{Width}
-use Rattle.std.specs.Map.{keys_of}
+use Rattle.std.specs.Map.{keys_of, lookup}
 use Rattle.rkyv_base.specs.Empty.{unit_spec, unit_represents}
 use Rattle.rkyv_base.specs.Format.{Format, IsFormat}
 use Rattle.rkyv_base.specs.ElementSpec.{ElementSpec}
@@ -16,6 +17,15 @@ use Rattle.rkyv_collections.specs.StdMaps.StdEquality.{EntriesEqual, FindsPair}
 pub keys_with_units : {A : Type 0} (keys : List A) → keys_of (with_units keys) ≡ keys
 keys_with_units [] = refl
 keys_with_units {A} (x ∷ xs) = ap (λ (t : List A). x ∷ t) (keys_with_units xs)
+
+-- a lookup among keys, each with the unit value
+pub unit_lookup : {A : Type 0} (test : A → Bool) (keys : List A)
+    → lookup test (with_units keys) ≡ cond (list_any test keys) (Some tt) None
+unit_lookup test [] = refl
+unit_lookup test (x ∷ xs) = elim (cases_Bool (test x)) [
+  | inl here ↦ rw here refl
+  | inr other ↦ rw other (unit_lookup test xs)
+]
 
 all_units : {A : Type 0} (P : A × Unit {0} → Type 0) (keys : List A) → All P (with_units keys)
     → All (λ key. P (key, tt)) keys

@@ -57,7 +57,7 @@ module _ (w : Width) (k v : ElementSpec) (key_hash : List ℕ → ℕ
       → IsWrittenApart c r others
       → (map_equal b p c r ≡ true) ↔ (EachIsIn b p homes c r others × EachIsIn c r others b p homes)
 
--- a lookup of the key in the map finds the value behind the key
+-- a lookup of the key in the map finds a value that is the same as the one behind the key
 abbrev pub finds_same : {K V H W : Type 0} {ks : Specs K} {vs : Specs V} {wt : Words W}
     → ArchivedHashMap K V H W ks vs wt → (List ℕ → ℕ → ℕ) → Comparison → Comparison → View K → Bool
 finds_same {ks = ks} {vs = vs} {wt = wt} m key_hash same_key same_value key =

@@ -18,8 +18,8 @@ use Rattle.rkyv_collections.specs.Map.MapFormat.{MapRepresents}
 use Rattle.rkyv_collections.specs.Map.ValueWrites.{KeepsMap}
 
 -- the element of a map to texts
-abbrev pub text_map_spec : Width → ElementSpec → ElementSpec
-text_map_spec w k = map_spec w k (text_spec w)
+abbrev pub map_to_texts_spec : Width → ElementSpec → ElementSpec
+map_to_texts_spec w k = map_spec w k (text_spec w)
 
 -- the text with each letter from a to z in upper case
 abbrev pub text_raised : Bor (List ℕ) → Bor (List ℕ)
@@ -48,8 +48,8 @@ module _ (w : Width) (k : ElementSpec) where
   raised_list asks (Some inline) pairs = cond inline (with_first_raised asks pairs) pairs
 
 -- the map of keys `ks` to texts in an archive of the word `wt`, with its header at `pos`
-abbrev pub text_map_at : {K W : Type 0} → Words W → Specs K → List ℕ → ℕ → MapAt
-text_map_at wt ks bytes pos = record {
+abbrev pub map_to_texts_at : {K W : Type 0} → Words W → Specs K → List ℕ → ℕ → MapAt
+map_to_texts_at wt ks bytes pos = record {
   word = wt.word;
   key = ks.spec;
   value = text_spec wt.word;

@@ -13,7 +13,7 @@ use Rattle.rkyv_base.specs.Entry.{entry_spec, value_offset}
 use Rattle.rkyv_base.specs.Format.{Format}
 use Rattle.rkyv_base.specs.Layout.{narrow_limit}
 use Rattle.rkyv_base.specs.Pairs.{written_as}
-use Rattle.rkyv_base.specs.Root.{ArchiveRefused}
+use Rattle.rkyv_base.specs.Root.{ToBytesFails}
 use Rattle.rkyv_base.specs.Scalar.{Encoding, ScalarRepresents, scalar_format, scalar_spec}
 use Rattle.rkyv_base.specs.Sealing.{value_at}
 use Rattle.rkyv_base.specs.ElementSpec.{ElementSpec}
@@ -76,7 +76,7 @@ text_map_format e factor = listed narrow_limit factor
 -- `why`: error of archiving the pairs under the load factor 7 / 8
 abbrev pub TextMapFails : {F N : Type 0} → Encoding N → TextPairs N → WriteError F → Type 0
 TextMapFails e pairs why =
-    ArchiveRefused narrow_limit (text_map_spec e) (text_map_format e (7, 8)) pairs why
+    ToBytesFails narrow_limit (text_map_spec e) (text_map_format e (7, 8)) pairs why
 
 -- the result of archiving the pairs: the bytes of such an archive under the load factor 7 / 8,
 -- or an error

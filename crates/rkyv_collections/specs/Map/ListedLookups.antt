@@ -6,7 +6,7 @@ use Rattle.std.specs.Option.{is_some, option_map}
 use Rattle.rkyv_base.specs.Pairs.{PairRepresents}
 use Rattle.rkyv_base.specs.ElementSpec.{ElementSpec, ValidAt}
 use Rattle.rkyv_base.specs.declared.view.View.{View}
-use Rattle.rkyv_collections.specs.Map.{FindsFirstKey, IsEntryAt, IsFoundAt, IsKeyIn}
+use Rattle.rkyv_collections.specs.Map.{FindsFirstKey, IsFoundAt, IsKeyIn, IsViewAt}
 use Rattle.rkyv_collections.specs.Map.{IsPairAt, IsPairIn, IsValueAt, IsValueIn, map_bytes, map_pos}
 use Rattle.rkyv_collections.specs.Map.MapFormat.{MapRepresents}
 use Rattle.rkyv_keys.specs.FirstPairs.{IsFoundPair, IsFoundValue, first_pair, first_value}
@@ -38,7 +38,7 @@ module _ {A B K V H W : Type 0} {ks : Specs K} {vs : Specs V} {wt : Words W}
         → FindsFirstKey m key_hash accept (IsPairAt result)
         → IsFoundPair key value result (first_pair asks pairs)
     pub gives_key : (result : Option (View K)) → IfSome result (IsKeyIn m)
-        → FindsFirstKey m key_hash accept (IsEntryAt result)
+        → FindsFirstKey m key_hash accept (IsViewAt result)
         → IsFoundValue key result (option_map (λ pair. pair.0) (first_pair asks pairs))
     pub gives_value : (result : Option (View V)) → IfSome result (IsValueIn m)
         → FindsFirstKey m key_hash accept (IsValueAt ks.spec vs.spec result)

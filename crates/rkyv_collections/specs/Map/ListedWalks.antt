@@ -23,7 +23,7 @@ pub record GivesEach {X : Type 0} (Related : ℕ → X → Type 0) (positions : 
     (items : List X) : Type 0 where
   pub given : List X
   pub each : IsPermutation items given
-  pub all_valid : AllZip Related positions given
+  pub related : AllZip Related positions given
 
 module _ {A B : Type 0} (w : Width) (k v : ElementSpec) (key : List ℕ → ℕ → A → Type 0)
     (value : List ℕ → ℕ → B → Type 0) (key_hash : List ℕ → ℕ → ℕ) where

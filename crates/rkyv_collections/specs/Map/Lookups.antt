@@ -9,7 +9,7 @@ use Rattle.rkyv_base.specs.View.{IsAt, IsValidView, archive_of, pos_of}
 use Rattle.rkyv_base.specs.declared.entry.Entry.{Entry}
 use Rattle.rkyv_base.specs.declared.view.View.{View}
 use Rattle.rkyv_keys.specs.Asked.{Asked}
-use Rattle.rkyv_collections.specs.Map.{FindsBy, FindsFirstBy, FindsFirstKey, FindsKey, IsEntryAt}
+use Rattle.rkyv_collections.specs.Map.{FindsBy, FindsFirstBy, FindsFirstKey, FindsKey, IsViewAt}
 use Rattle.rkyv_collections.specs.Map.{IsEntryIn, IsKeyIn, IsPairAt, IsPairIn, IsValueAt}
 use Rattle.rkyv_collections.specs.Map.{IsValueIn, map_bytes}
 use Rattle.rkyv_collections.specs.Map.Misplaced.{FindsOneKey}
@@ -38,7 +38,7 @@ module _ {K V H W : Type 0} {ks : Specs K} {vs : Specs V} {wt : Words W} where
 
   -- the entry of the pair
   abbrev pub entry_part : Part (ArchivedHashMap K V H W ks vs wt) (View (Entry K V))
-  entry_part = record { In = IsEntryIn; At = IsEntryAt }
+  entry_part = record { In = IsEntryIn; At = IsViewAt }
 
   -- the key and the value
   abbrev pub pair_part : Part (ArchivedHashMap K V H W ks vs wt) (View K × View V)
@@ -46,7 +46,7 @@ module _ {K V H W : Type 0} {ks : Specs K} {vs : Specs V} {wt : Words W} where
 
   -- the key
   abbrev pub key_part : Part (ArchivedHashMap K V H W ks vs wt) (View K)
-  key_part = record { In = IsKeyIn; At = IsEntryAt }
+  key_part = record { In = IsKeyIn; At = IsViewAt }
 
   -- the value
   abbrev pub value_part : Part (ArchivedHashMap K V H W ks vs wt) (View V)

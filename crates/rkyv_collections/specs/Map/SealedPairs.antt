@@ -13,7 +13,7 @@ use Rattle.rkyv_table.specs.Table.PairSeals.{LendsPair, LendsValue}
 use Rattle.rkyv_table.specs.Table.Header.{cap_at, len_at}
 use Rattle.rkyv_table.specs.Table.Positions.{table_controls}
 use Rattle.rkyv_table.specs.Table.SealedItems.{CountsDown, IsSealIter, SameArchive, StaysThere}
-use Rattle.rkyv_table.specs.Table.SealedItems.{buckets_left, cursor_bytes, items_left}
+use Rattle.rkyv_table.specs.Table.SealedItems.{cursor_buckets_left, cursor_bytes, cursor_len}
 use Rattle.rkyv_table.specs.Table.SealedTable.{KeepsTable, SameValue}
 use Rattle.rkyv_table.specs.declared.table.raw_iter_seal.RawIterSeal.{RawIterSeal}
 use Rattle.rkyv_collections.specs.Map.SealedMap.{IsPairPos}
@@ -38,21 +38,21 @@ module _ {K V : Type 0} (k v : ElementSpec) where
   pub record HasAllPairs (w : Width) (b : List ℕ) (p : ℕ) (r : RawIterSeal (Entry K V)) : Type 0
     where
       pub iter : IsPairIter w p r
-      pub buckets : buckets_left w p r ≡ walk (table_controls w b p) (cap_at w b p)
-      pub count : items_left r ≡ len_at w b p
+      pub buckets : cursor_buckets_left w p r ≡ walk (table_controls w b p) (cap_at w b p)
+      pub count : cursor_len r ≡ len_at w b p
 
   -- the first remaining pair is taken, and its key is at `q`
   pub record TakesPairAt (w : Width) (p : ℕ) (before after : RawIterSeal (Entry K V)) (q : ℕ) : Type
       0 where
     pub bucket : ℕ
-    pub first : buckets_left w p before ≡ bucket ∷ buckets_left w p after
+    pub first : cursor_buckets_left w p before ≡ bucket ∷ cursor_buckets_left w p after
     pub pair : IsPairPos w k v (cursor_bytes before) p bucket q
     pub iter : IsPairIter w p after
 
   -- no pair remains, before and after the step
   pub record IsDone (w : Width) (p : ℕ) (before after : RawIterSeal (Entry K V)) : Type 0 where
-    pub none : buckets_left w p before ≡ []
-    pub still : buckets_left w p after ≡ []
+    pub none : cursor_buckets_left w p before ≡ []
+    pub still : cursor_buckets_left w p after ≡ []
     pub iter : IsPairIter w p after
 
   -- a step over the positions of the keys of a map: none remains, or the first is taken
@@ -72,16 +72,16 @@ module _ {K V : Type 0} (k v : ElementSpec) where
   abbrev pub LendsFirstPair : RawIterSeal (Entry K V) → Option (View K × Seal V) → Type 0
   LendsFirstPair before result =
       (w : Width) (p : ℕ) → IsPairIter w p before
-      → MatchOption result (buckets_left w p before ≡ [])
-      (λ pair. (i : ℕ) × (rest : List ℕ) × (buckets_left w p before ≡ i ∷ rest)
+      → MatchOption result (cursor_buckets_left w p before ≡ [])
+      (λ pair. (i : ℕ) × (rest : List ℕ) × (cursor_buckets_left w p before ≡ i ∷ rest)
       × LendsPair k v (cursor_bytes before) (IsPairPos w k v (cursor_bytes before) p i) pair)
 
   -- the seal of the value of the first remaining pair, or `None` if none remains
   abbrev pub LendsFirstValue : RawIterSeal (Entry K V) → Option (Seal V) → Type 0
   LendsFirstValue before result =
       (w : Width) (p : ℕ) → IsPairIter w p before
-      → MatchOption result (buckets_left w p before ≡ [])
-      (λ value. (i : ℕ) × (rest : List ℕ) × (buckets_left w p before ≡ i ∷ rest)
+      → MatchOption result (cursor_buckets_left w p before ≡ [])
+      (λ value. (i : ℕ) × (rest : List ℕ) × (cursor_buckets_left w p before ≡ i ∷ rest)
       × LendsValue k v (cursor_bytes before) (IsPairPos w k v (cursor_bytes before) p i) value)
 
   -- a cursor over a map whose value behind the key at `q` was written is still one.
@@ -91,7 +91,7 @@ module _ {K V : Type 0} (k v : ElementSpec) where
       (w : Width) (p i : ℕ) → IsPairIter w p before → IsPairPos w k v (cursor_bytes before) p i q
       → KeepsTable w (entry_spec k v) (cursor_bytes before) (cursor_bytes after) p i
       × SameValue k (cursor_bytes before) (cursor_bytes after) q
-      × IsPairIter w p after × (buckets_left w p after ≡ buckets_left w p before)
+      × IsPairIter w p after × (cursor_buckets_left w p after ≡ cursor_buckets_left w p before)
 
   -- the same for a map whose value at `q` was written
   abbrev pub KeepsValues : RawIterSeal (Entry K V) → ℕ → RawIterSeal (Entry K V) → Type 0

@@ -14,7 +14,7 @@ use Rattle.rkyv_base.specs.declared.errors.ReadError.{ReadError}
 use Rattle.rkyv_base.specs.declared.errors.ReadError.TheVariants.{Memory}
 use Rattle.rkyv_base.specs.declared.view.View.{View}
 use Rattle.rkyv_keys.specs.OfEntries.{entry_refuses}
-use Rattle.rkyv_keys.specs.Reading.{Refusals}
+use Rattle.rkyv_keys.specs.Deserialize.{DeserializeErrors}
 use Rattle.rkyv_table.specs.Table.Positions.{item_positions}
 use Rattle.rkyv_collections.specs.Map.MapSpec.{IsKeyPosAt}
 
@@ -52,15 +52,16 @@ of_entries equal f = record {
 
 -- `e`: error of deserializing the map at `p`. Memory could not be allocated,
 -- or a key or a value of the map has the error
-abbrev pub std_map_refuses : Width → ElementSpec → ElementSpec → Refusals → Refusals → Refusals
+abbrev pub std_map_refuses : Width → ElementSpec → ElementSpec → DeserializeErrors
+    → DeserializeErrors → DeserializeErrors
 std_map_refuses w k v key value b p e =
     (e ≡ Memory) ⊎ ((q : ℕ) × IsKeyPosAt w k v b p q × entry_refuses k v key value b q e)
 
 -- `result`: map of std that the view represents, with the hash state `state`, or an error
-abbrev pub ReadsStdMap : {A B S T : Type 0} → (List ℕ → ℕ → HashMap A B S → Type 0) → Refusals
-    → View T → S → Result (HashMap A B S) ReadError → Type 0
-ReadsStdMap represents refuses view state result = MatchResult result
-    (λ m. AtView represents view m × (hasher_of m ≡ state)) (AtView refuses view)
+abbrev pub ReadsStdMap : {A B S T : Type 0} → (List ℕ → ℕ → HashMap A B S → Type 0)
+    → DeserializeErrors → View T → S → Result (HashMap A B S) ReadError → Type 0
+ReadsStdMap represents deserialize_fails view state result = MatchResult result
+    (λ m. AtView represents view m × (hasher_of m ≡ state)) (AtView deserialize_fails view)
 
 -- the keys `after` are those `before` and `a`: a lookup finds the same key in both.
 -- If a key before equals `a`, that key is kept
@@ -69,13 +70,21 @@ AddsKey equal before after a =
     (q : _) → find (equal q) after ≡ find (equal q) (before ++ a ∷ [])
 
 -- a pair with the property was inserted
-abbrev pub Inserts : {A B S : Type 0} → (A → A → Bool) → (A × B → Type 0) → HashMap A B S
+abbrev pub InsertsPair : {A B S : Type 0} → (A → A → Bool) → (A × B → Type 0) → HashMap A B S
     → HashMap A B S → Type 0
-Inserts {A} {B} equal P m n =
+InsertsPair {A} {B} equal P m n =
     (pair : A × B) × P pair × Updates equal m n pair.0 (Some pair.1)
     × AddsKey equal (keys m) (keys n) pair.0 × IsUnique equal n × (hasher_of n ≡ hasher_of m)
 
 -- `e`: error of inserting a pair. Memory could not be allocated, or the key or the value
 -- has the error
-abbrev pub insert_refuses : ElementSpec → ElementSpec → Refusals → Refusals → Refusals
-insert_refuses k v key value b q e = (e ≡ Memory) ⊎ entry_refuses k v key value b q e
+abbrev pub insert_pair_fails : ElementSpec → ElementSpec → DeserializeErrors → DeserializeErrors
+    → DeserializeErrors
+insert_pair_fails k v key value b q e = (e ≡ Memory) ⊎ entry_refuses k v key value b q e
+
+-- `result`: the pair at the view was inserted into the first of the maps, which gives the second,
+-- or an error of inserting it
+abbrev pub InsertsRead : {A B S T X : Type 0} → (A → A → Bool) → (List ℕ → ℕ → A × B → Type 0)
+    → DeserializeErrors → View T → HashMap A B S × HashMap A B S → Result X ReadError → Type 0
+InsertsRead equal represents errors view maps result = MatchResult result
+    (λ _. InsertsPair equal (AtView represents view) maps.0 maps.1) (AtView errors view)

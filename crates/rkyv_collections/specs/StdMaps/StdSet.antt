@@ -11,7 +11,7 @@ use Rattle.rkyv_base.specs.View.{AtView}
 use Rattle.rkyv_base.specs.declared.errors.ReadError.{ReadError}
 use Rattle.rkyv_base.specs.declared.errors.ReadError.TheVariants.{Memory}
 use Rattle.rkyv_base.specs.declared.view.View.{View}
-use Rattle.rkyv_keys.specs.Reading.{Refusals}
+use Rattle.rkyv_keys.specs.Deserialize.{DeserializeErrors}
 use Rattle.rkyv_table.specs.Table.Header.{len_at}
 use Rattle.rkyv_collections.specs.Map.MapSpec.{IsKeyPosAt}
 use Rattle.rkyv_table.specs.Table.ItemValues.{with_units}
@@ -35,20 +35,20 @@ InsertsKey {A} equal Fact s n =
     × IsUnique equal n × (hasher_of n ≡ hasher_of s)
 
 -- `e`: error of inserting a key. Memory could not be allocated, or the key has the error
-abbrev pub key_refuses : Refusals → Refusals
-key_refuses key b q e = (e ≡ Memory) ⊎ key b q e
+abbrev pub insert_key_fails : DeserializeErrors → DeserializeErrors
+insert_key_fails key b q e = (e ≡ Memory) ⊎ key b q e
 
 -- `e`: error of deserializing the set at `p`. Memory could not be allocated,
 -- or a key of the set has the error
-abbrev pub std_set_refuses : Width → ElementSpec → Refusals → Refusals
+abbrev pub std_set_refuses : Width → ElementSpec → DeserializeErrors → DeserializeErrors
 std_set_refuses w k key b p e =
     (e ≡ Memory) ⊎ ((q : ℕ) × IsKeyPosAt w k unit_spec b p q × key b q e)
 
 -- `result`: set of std that the view represents, with the hash state `state`, or an error
-abbrev pub ReadsStdSet : {A S T : Type 0} → (List ℕ → ℕ → HashSet A S → Type 0) → Refusals → View T
-    → S → Result (HashSet A S) ReadError → Type 0
-ReadsStdSet represents refuses view state result = MatchResult result
-    (λ s. AtView represents view s × (hasher_of s ≡ state)) (AtView refuses view)
+abbrev pub ReadsStdSet : {A S T : Type 0} → (List ℕ → ℕ → HashSet A S → Type 0)
+    → DeserializeErrors → View T → S → Result (HashSet A S) ReadError → Type 0
+ReadsStdSet represents deserialize_fails view state result = MatchResult result
+    (λ s. AtView represents view s × (hasher_of s ≡ state)) (AtView deserialize_fails view)
 
 -- the set at `p` has as many keys as the set of std, and each of these is found in it
 abbrev pub StdSetEquals : {A S : Type 0} → Width → ElementSpec → (A → ℕ) → (A → List ℕ → ℕ → Bool)

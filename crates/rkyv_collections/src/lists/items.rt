@@ -1,7 +1,7 @@
 //! Lists of items that are archived as sets.
 
 ghost use Rattle.std.specs.Prelude.{◌≡◌};
-ghost use Rattle.rkyv_table.specs.Table.Listed.{listed, written_under, written_under-format};
+ghost use Rattle.rkyv_table.specs.Table.Listed.{listed, written_as_each, written_as_each-format};
 ghost use Rattle.rkyv_collections.specs.Map.{hash_at};
 ghost use Rattle.rkyv_collections.specs.Map.MapFormat.{hash_of};
 ghost use Rattle.rkyv_collections.specs.Set.{set_spec};
@@ -84,7 +84,7 @@ where
 
     type Resolver = HashSetResolver<W>;
 
-    ghost format = { written_under (λ x. x.items.now) (λ x. listed W.MAX_CAPACITY x.load_factor
+    ghost format = { written_as_each (λ x. x.items.now) (λ x. listed W.MAX_CAPACITY x.load_factor
         (set_format W.word A.Archived.spec A.format (hash_of H.hasher A.calls) x.load_factor)) };
 
     fn resolve(&self, resolver: HashSetResolver<W>, pos: u64, out: &mut [u8]) -> ResolveResult {
@@ -93,7 +93,7 @@ where
 
     ghost laws = { let hash = hash_at H.hasher A.Archived.key_calls in
         let own = hash_of H.hasher A.calls in
-        written_under-format (λ x. x.items.now) (set_spec W.word A.Archived.spec)
+        written_as_each-format (λ x. x.items.now) (set_spec W.word A.Archived.spec)
         (λ x. SetRepresents W.word A.Archived.spec A.Archived.represents hash x.load_factor)
         (λ x. listed W.MAX_CAPACITY x.load_factor
         (set_format W.word A.Archived.spec A.format own x.load_factor))

@@ -1,7 +1,7 @@
 //! Lists of pairs that are archived as maps.
 
 ghost use Rattle.std.specs.Prelude.{◌≡◌};
-ghost use Rattle.rkyv_table.specs.Table.Listed.{listed, written_under, written_under-format};
+ghost use Rattle.rkyv_table.specs.Table.Listed.{listed, written_as_each, written_as_each-format};
 ghost use Rattle.rkyv_collections.specs.Map.{hash_at};
 ghost use Rattle.rkyv_collections.specs.Map.MapSpec.{map_spec};
 ghost use Rattle.rkyv_collections.specs.Map.MapFormat.{MapRepresents, hash_of, map_format};
@@ -85,7 +85,7 @@ where
 
     type Resolver = HashMapResolver<W>;
 
-    ghost format = { written_under (λ x. x.pairs.now) (λ x. listed W.MAX_CAPACITY x.load_factor
+    ghost format = { written_as_each (λ x. x.pairs.now) (λ x. listed W.MAX_CAPACITY x.load_factor
         (map_format W.word A.Archived.spec B.Archived.spec A.format B.format
         (hash_of H.hasher A.calls) x.load_factor)) };
 
@@ -95,7 +95,7 @@ where
 
     ghost laws = { let hash = hash_at H.hasher A.Archived.key_calls in
         let own = hash_of H.hasher A.calls in
-        written_under-format (λ x. x.pairs.now) (map_spec W.word A.Archived.spec B.Archived.spec)
+        written_as_each-format (λ x. x.pairs.now) (map_spec W.word A.Archived.spec B.Archived.spec)
         (λ x. MapRepresents W.word A.Archived.spec B.Archived.spec A.Archived.represents
         B.Archived.represents
         hash x.load_factor)
@@ -114,7 +114,7 @@ where
     A: NativeKey<A::Archived>,
 {
     fn serialize(&self, alloc: Global, serializer: &mut S) -> WriteResult<HashMapResolver<W>, S> {
-        let halves = PairRefs::of(self.pairs);
+        let pairs = PairRefs::of(self.pairs);
         ArchivedHashMap::<A::Archived, B::Archived, H, W>::serialize_from_iter::<
             S,
             A,
@@ -122,12 +122,6 @@ where
             &A,
             &B,
             PairRefs<'_, A, B>,
-        >(
-            alloc,
-            halves,
-            self.pairs.len(),
-            self.load_factor,
-            serializer,
-        )
+        >(alloc, pairs, self.pairs.len(), self.load_factor, serializer)
     }
 }

@@ -5,7 +5,7 @@
 
 ghost use Rattle.std.specs.Prelude.{◌≡◌, ◌+◌, ◌<◌, ◌^◌, length};
 ghost use Rattle.rkyv_table.specs.Table.TableFormat.{resolver_of};
-ghost use Rattle.rkyv_collections.specs.Natives.{pair_format};
+ghost use Rattle.rkyv_collections.specs.Natives.{native_format};
 ghost use Rattle.rkyv_collections.specs.Map.Writing.{ResolvesMap, WritesMap, pairs_in};
 
 mod hashing;
@@ -91,7 +91,7 @@ impl<'a, K: KeyElement, V: HasSpec, H: KeyHasher, W: Width> ArchivedHashMap<'a, 
         V: Represents<B>,
         requires ready { I.can_next iter }
         ensures { WritesMap W.Width
-            (pair_format K.spec V.spec A.format B.format H.hasher A.calls)
+            (native_format K.spec V.spec A.format B.format H.hasher A.calls)
             (pairs_in BK.Lend BV.Lend I.Iterator iter len load_factor)
             (S.output serializer.old) (S.output serializer.new) result }
     {

@@ -1,7 +1,7 @@
 //! Equality of sets, and the keys that a lookup of their own doesn't find.
 ghost use Rattle.std.specs.Prelude.{◌≡◌};
 ghost use Rattle.rkyv_base.specs.View.{IsValidView};
-ghost use Rattle.rkyv_keys.specs.Places.{at_views};
+ghost use Rattle.rkyv_keys.specs.AtViews.{at_views};
 ghost use Rattle.rkyv_collections.specs.Map.{hash_at};
 ghost use Rattle.rkyv_collections.specs.Map.Misplaced.{CountsKeysUpTo};
 ghost use Rattle.rkyv_collections.specs.Set.{set_bytes, set_equal, set_misplaced, set_pos};

@@ -5,7 +5,7 @@
 
 ghost use Rattle.std.specs.Prelude.{◌≡◌, ◌+◌, ◌<◌, ◌^◌, length};
 ghost use Rattle.rkyv_table.specs.Table.TableFormat.{resolver_of};
-ghost use Rattle.rkyv_collections.specs.Natives.{key_format};
+ghost use Rattle.rkyv_collections.specs.Natives.{native_key_format};
 ghost use Rattle.rkyv_collections.specs.Map.Writing.{ResolvesMap, WritesSet, keys_in};
 
 use crate::map::ArchivedHashMap;
@@ -75,7 +75,7 @@ impl<'a, K: KeyElement, H: KeyHasher, W: Width> ArchivedHashSet<'a, K, H, W> {
     where
         K: Represents<A>,
         requires ready { I.can_next iter }
-        ensures { WritesSet W.Width (key_format K.spec A.format H.hasher A.calls)
+        ensures { WritesSet W.Width (native_key_format K.spec A.format H.hasher A.calls)
             (keys_in BK.Lend I.Iterator iter len load_factor)
             (S.output serializer.old) (S.output serializer.new) result }
     {

@@ -2,14 +2,15 @@
 //!
 //! `deserialize_std` takes the hash state of the new map. `Deserialize` takes the default one.
 
-ghost use Rattle.std.specs.Prelude.{MatchResult, ◌+◌};
+ghost use Rattle.std.specs.Prelude.{◌+◌};
 ghost use Rattle.rkyv_base.specs.Entry.{value_offset};
 ghost use Rattle.rkyv_base.specs.Pairs.{PairRepresents};
-ghost use Rattle.rkyv_base.specs.View.{IsAt, IsValidView, AtView, archive_of, pos_of};
+ghost use Rattle.rkyv_base.specs.View.{IsAt, IsValidView, archive_of, pos_of};
+ghost use Rattle.rkyv_keys.specs.Deserialize.{Deserializes};
 ghost use Rattle.rkyv_collections.specs.Map.{map_view};
 ghost use Rattle.rkyv_collections.specs.Map.MapSpec.{map_spec};
-ghost use Rattle.rkyv_collections.specs.StdMaps.StdMap.{Inserts, ReadsStdMap, StdMapRepresents};
-ghost use Rattle.rkyv_collections.specs.StdMaps.StdMap.{insert_refuses, std_map_refuses};
+ghost use Rattle.rkyv_collections.specs.StdMaps.StdMap.{InsertsRead, ReadsStdMap, StdMapRepresents};
+ghost use Rattle.rkyv_collections.specs.StdMaps.StdMap.{insert_pair_fails, std_map_refuses};
 
 use crate::map::{ArchivedHashMap, HashMapOf};
 use crate::std_maps::hashed::Hashed;
@@ -33,11 +34,9 @@ fn insert_read<K: Deserialize<A>, V: Deserialize<B>, A: Eq + Hash + Drop, B: Dro
     requires key { IsValidView K.spec key }
     requires value { IsValidView V.spec value }
     requires pair { IsAt value (archive_of key) (pos_of key + value_offset K.spec V.spec) }
-    ensures { MatchResult result
-        (λ _. Inserts A.eq (AtView (PairRepresents K.spec V.spec K.represents
-        V.represents) key.entry)
-        map.old map.new)
-        (AtView (insert_refuses K.spec V.spec K.refuses V.refuses) key.entry) }
+    ensures { InsertsRead A.eq (PairRepresents K.spec V.spec K.represents V.represents)
+        (insert_pair_fails K.spec V.spec K.deserialize_fails V.deserialize_fails)
+        key.entry (map.old, map.new) result }
 {
     let read = K::deserialize(alloc, key)?;
     let mapped = V::deserialize(alloc, value)?;
@@ -80,8 +79,8 @@ impl<'a, K: Element, V: Element, H, W: Width> ArchivedHashMap<'a, K, V, H, W> {
         K: Deserialize<A>,
         V: Deserialize<B>,
         ensures { ReadsStdMap (StdMapRepresents K.spec V.spec K.represents V.represents W.word A.eq)
-            (std_map_refuses W.word K.spec V.spec K.refuses V.refuses) (map_view self.entry) state
-            result }
+            (std_map_refuses W.word K.spec V.spec K.deserialize_fails V.deserialize_fails)
+            (map_view self.entry) state result }
     {
         let mut map = HashMap::with_hasher(alloc, state);
         for (key, value) in self.iter() {
@@ -94,15 +93,16 @@ impl<'a, K: Element, V: Element, H, W: Width> ArchivedHashMap<'a, K, V, H, W> {
 impl<K: Deserialize<A>, V: Deserialize<B>, H, W: Width, A: Eq + Hash + Drop, B: Drop> Deserialize<
     HashMap<A, B>,
 > for HashMapOf<K, V, H, W> {
-    ghost refuses = { std_map_refuses W.word K.spec V.spec K.refuses V.refuses };
+    ghost deserialize_fails = { std_map_refuses W.word K.spec V.spec K.deserialize_fails
+        V.deserialize_fails };
 
     #[inline]
     fn deserialize(alloc: Global, view: View<'_, Self>) -> Result<HashMap<A, B>, ReadError>
         requires { IsValidView (map_spec W.word K.spec V.spec) view }
-        ensures { MatchResult result
-            (AtView (StdMapRepresents K.spec V.spec K.represents V.represents
-            W.word A.eq) view.entry)
-            (AtView (std_map_refuses W.word K.spec V.spec K.refuses V.refuses) view.entry) }
+        ensures { Deserializes
+            (StdMapRepresents K.spec V.spec K.represents V.represents W.word A.eq)
+            (std_map_refuses W.word K.spec V.spec K.deserialize_fails V.deserialize_fails)
+            view.entry result }
     {
         ArchivedHashMap::of(view).deserialize_std(alloc, BuildHasherDefault::new())
     }
@@ -111,7 +111,8 @@ impl<K: Deserialize<A>, V: Deserialize<B>, H, W: Width, A: Eq + Hash + Drop, B: 
 impl<K: Deserialize<A>, V: Deserialize<B>, H, W: Width, A: Eq + Hash + Drop, B: Drop> Deserialize<
     Hashed<HashMap<A, B>, H>,
 > for HashMapOf<K, V, H, W> {
-    ghost refuses = { std_map_refuses W.word K.spec V.spec K.refuses V.refuses };
+    ghost deserialize_fails = { std_map_refuses W.word K.spec V.spec K.deserialize_fails
+        V.deserialize_fails };
 
     #[inline]
     fn deserialize(
@@ -119,11 +120,10 @@ impl<K: Deserialize<A>, V: Deserialize<B>, H, W: Width, A: Eq + Hash + Drop, B: 
         view: View<'_, Self>,
     ) -> Result<Hashed<HashMap<A, B>, H>, ReadError>
         requires { IsValidView (map_spec W.word K.spec V.spec) view }
-        ensures { MatchResult result
-            (λ x. AtView (StdMapRepresents K.spec V.spec K.represents V.represents
-            W.word A.eq) view.entry
-            x.map)
-            (AtView (std_map_refuses W.word K.spec V.spec K.refuses V.refuses) view.entry) }
+        ensures { Deserializes (λ b p x. StdMapRepresents K.spec V.spec K.represents V.represents
+            W.word A.eq b p x.map)
+            (std_map_refuses W.word K.spec V.spec K.deserialize_fails V.deserialize_fails)
+            view.entry result }
     {
         let map = ArchivedHashMap::of(view).deserialize_std(alloc, BuildHasherDefault::new())?;
         Ok(Hashed::new(map))

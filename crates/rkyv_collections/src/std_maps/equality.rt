@@ -11,7 +11,7 @@ ghost use Rattle.rkyv_table.specs.Table.Listed.{listed};
 ghost use Rattle.rkyv_collections.specs.Map.MapSpec.{map_spec};
 ghost use Rattle.rkyv_collections.specs.Map.MapFormat.{hash_of, map_format};
 ghost use Rattle.rkyv_collections.specs.Lemmas.MapSound.{listed_map_sound};
-ghost use Rattle.rkyv_collections.specs.Lemmas.StdAlone.{std_map_alone};
+ghost use Rattle.rkyv_collections.specs.Lemmas.StdOnce.{std_map_once};
 ghost use Rattle.rkyv_collections.specs.Lemmas.StdEqualLaws.{entries_equal};
 ghost use Rattle.rkyv_collections.specs.Natives.{queried};
 ghost use Rattle.rkyv_collections.specs.StdMaps.StdEquality.{EntriesEqual, FindsPairIn};
@@ -39,8 +39,8 @@ impl<'a, K: KeyElement, V: HasSpec, H: KeyHasher, W: Width> ArchivedHashMap<'a, 
     where
         V: MatchesNative<B>,
         requires query { A.can_read key.now }
-        ensures { let asked = queried H.hasher A.calls A.fits in
-            IsTrue result ↔ FindsPairIn self.entry asked V.equals (key.now, value.now) }
+        ensures { let queries = queried H.hasher A.calls A.fits in
+            IsTrue result ↔ FindsPairIn self.entry queries V.equals (key.now, value.now) }
     {
         match self.get(key) {
             Some(found) => V::eq_native(found, value),
@@ -60,8 +60,8 @@ impl<'a, K: KeyElement, V: HasSpec, H: KeyHasher, W: Width> ArchivedHashMap<'a, 
     where
         K: Represents<A>,
         V: MatchesNative<B>,
-        ensures { let asked = queried H.hasher A.calls A.fits in
-            IsTrue result ↔ FindsAskedIn self.entry asked V.equals key.now (A.eq key.now)
+        ensures { let queries = queried H.hasher A.calls A.fits in
+            IsTrue result ↔ FindsAskedIn self.entry queries V.equals key.now (A.eq key.now)
             other.now.entries }
     {
         match other.get(key) {
@@ -92,8 +92,8 @@ impl<'a, K: KeyElement, V: HasSpec, H: KeyHasher, W: Width> ArchivedHashMap<'a, 
     where
         K: Represents<A>,
         V: MatchesNative<B>,
-        ensures { let asked = queried H.hasher A.calls A.fits in
-            IsTrue result ↔ StdMapEqualsIn self.entry asked V.equals other.now }
+        ensures { let queries = queried H.hasher A.calls A.fits in
+            IsTrue result ↔ StdMapEqualsIn self.entry queries V.equals other.now }
     {
         if self.len() != other.len() {
             return false;
@@ -210,9 +210,9 @@ impl<
     B: PartialEq,
     T: BuildHasher,
 > RepresentsUniquely<HashMap<A, B, T>> for HashMapOf<K, V, H, W> {
-    ghost alone = { std_map_alone A.eq A.Eq.laws B.eq K.spec V.spec K.laws V.laws
+    ghost once = { std_map_once A.eq A.Eq.laws B.eq K.spec V.spec K.laws V.laws
         W.word K.represents
-        V.represents K.alone V.alone };
+        V.represents K.once V.once };
 }
 
 impl<
@@ -224,6 +224,6 @@ impl<
     B: PartialEq,
     T: BuildHasher,
 > RepresentsUniquely<Hashed<HashMap<A, B, T>, H>> for HashMapOf<K, V, H, W> {
-    ghost alone = { λ m n. std_map_alone A.eq A.Eq.laws B.eq K.spec V.spec K.laws V.laws W.word
-        K.represents V.represents K.alone V.alone m.map n.map };
+    ghost once = { λ m n. std_map_once A.eq A.Eq.laws B.eq K.spec V.spec K.laws V.laws W.word
+        K.represents V.represents K.once V.once m.map n.map };
 }

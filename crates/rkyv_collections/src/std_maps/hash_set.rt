@@ -14,14 +14,14 @@ ghost use Rattle.rkyv_collections.specs.Lemmas.MapSound.{listed_map_sound};
 ghost use Rattle.rkyv_collections.specs.Natives.{queried};
 ghost use Rattle.rkyv_collections.specs.Set.{set_spec, set_view};
 ghost use Rattle.rkyv_table.specs.Table.ItemValues.{with_units};
-ghost use Rattle.rkyv_collections.specs.Lemmas.StdAlone.{std_set_alone};
+ghost use Rattle.rkyv_collections.specs.Lemmas.StdOnce.{std_set_once};
 ghost use Rattle.rkyv_collections.specs.Lemmas.StdEqualLaws.{entries_equal};
 ghost use Rattle.rkyv_collections.specs.StdMaps.StdEquality.{EntriesEqual};
 ghost use Rattle.rkyv_collections.specs.StdMaps.StdMap.{EntriesRepresent, of_entries};
 ghost use Rattle.rkyv_collections.specs.Lemmas.StdMapLaws.{entries_local, entries_sound};
 ghost use Rattle.rkyv_collections.specs.StdMaps.StdSet.{InsertsKey, ReadsStdSet, StdSetEquals};
 ghost use Rattle.rkyv_collections.specs.StdMaps.StdSet.{StdSetEqualsIn, StdSetRepresents};
-ghost use Rattle.rkyv_collections.specs.StdMaps.StdSet.{key_refuses};
+ghost use Rattle.rkyv_collections.specs.StdMaps.StdSet.{insert_key_fails};
 ghost use Rattle.rkyv_collections.specs.StdMaps.StdSet.{std_set_refuses};
 ghost use Rattle.rkyv_collections.specs.Lemmas.StdSet.{set_equal_written};
 
@@ -123,7 +123,7 @@ fn insert_read<K: Deserialize<A>, A: Eq + Hash + Drop, T: BuildHasher>(
     requires { IsValidView K.spec key }
     ensures { MatchResult result
         (λ _. InsertsKey A.eq (AtView K.represents key.entry) set.old set.new)
-        (AtView (key_refuses K.refuses) key.entry) }
+        (AtView (insert_key_fails K.deserialize_fails) key.entry) }
 {
     let read = K::deserialize(alloc, key)?;
     match set.insert(read) {
@@ -161,7 +161,7 @@ impl<'a, K: Element, H, W: Width> ArchivedHashSet<'a, K, H, W> {
     where
         K: Deserialize<A>,
         ensures { ReadsStdSet (StdSetRepresents K.spec K.represents W.word A.eq)
-            (std_set_refuses W.word K.spec K.refuses) (set_view self.entry) state result }
+            (std_set_refuses W.word K.spec K.deserialize_fails) (set_view self.entry) state result }
     {
         let mut set = HashSet::with_hasher(alloc, state);
         for key in self.iter() {
@@ -183,8 +183,8 @@ impl<'a, K: KeyElement, H: KeyHasher, W: Width> ArchivedHashSet<'a, K, H, W> {
     pub fn eq_std<A: NativeKey<K> + Hash, T: BuildHasher>(self, other: &HashSet<A, T>) -> bool
     where
         K: Represents<A>,
-        ensures { let asked = queried H.hasher A.calls A.fits in
-            IsTrue result ↔ StdSetEqualsIn self.entry asked other.now }
+        ensures { let queries = queried H.hasher A.calls A.fits in
+            IsTrue result ↔ StdSetEqualsIn self.entry queries other.now }
     {
         if self.len() != other.len() {
             return false;
@@ -275,14 +275,14 @@ where
 
 impl<K: Deserialize<A>, H, W: Width, A: Eq + Hash + Drop> Deserialize<HashSet<A>>
     for HashSetOf<K, H, W> {
-    ghost refuses = { std_set_refuses W.word K.spec K.refuses };
+    ghost deserialize_fails = { std_set_refuses W.word K.spec K.deserialize_fails };
 
     #[inline]
     fn deserialize(alloc: Global, view: View<'_, Self>) -> Result<HashSet<A>, ReadError>
         requires { IsValidView (set_spec W.word K.spec) view }
         ensures { MatchResult result
             (AtView (StdSetRepresents K.spec K.represents W.word A.eq) view.entry)
-            (AtView (std_set_refuses W.word K.spec K.refuses) view.entry) }
+            (AtView (std_set_refuses W.word K.spec K.deserialize_fails) view.entry) }
     {
         ArchivedHashSet::of(view).deserialize_std(alloc, BuildHasherDefault::new())
     }
@@ -290,14 +290,14 @@ impl<K: Deserialize<A>, H, W: Width, A: Eq + Hash + Drop> Deserialize<HashSet<A>
 
 impl<K: Deserialize<A>, H, W: Width, A: Eq + Hash + Drop> Deserialize<Hashed<HashSet<A>, H>>
     for HashSetOf<K, H, W> {
-    ghost refuses = { std_set_refuses W.word K.spec K.refuses };
+    ghost deserialize_fails = { std_set_refuses W.word K.spec K.deserialize_fails };
 
     #[inline]
     fn deserialize(alloc: Global, view: View<'_, Self>) -> Result<Hashed<HashSet<A>, H>, ReadError>
         requires { IsValidView (set_spec W.word K.spec) view }
         ensures { MatchResult result
             (λ x. AtView (StdSetRepresents K.spec K.represents W.word A.eq) view.entry x.map)
-            (AtView (std_set_refuses W.word K.spec K.refuses) view.entry) }
+            (AtView (std_set_refuses W.word K.spec K.deserialize_fails) view.entry) }
     {
         let set = ArchivedHashSet::of(view).deserialize_std(alloc, BuildHasherDefault::new())?;
         Ok(Hashed::new(set))
@@ -307,13 +307,13 @@ impl<K: Deserialize<A>, H, W: Width, A: Eq + Hash + Drop> Deserialize<Hashed<Has
 impl<K: RepresentsUniquely<A>, H, W: Width, A: Eq + Hash, T: BuildHasher> RepresentsUniquely<
     HashSet<A, T>,
 > for HashSetOf<K, H, W> {
-    ghost alone = { std_set_alone A.eq A.Eq.laws K.spec K.laws W.word K.represents K.alone };
+    ghost once = { std_set_once A.eq A.Eq.laws K.spec K.laws W.word K.represents K.once };
 }
 
 impl<K: RepresentsUniquely<A>, H, W: Width, A: Eq + Hash, T: BuildHasher> RepresentsUniquely<
     Hashed<HashSet<A, T>, H>,
 > for HashSetOf<K, H, W> {
-    ghost alone = { λ s t. std_set_alone A.eq A.Eq.laws K.spec K.laws W.word
-        K.represents K.alone s.map
+    ghost once = { λ s t. std_set_once A.eq A.Eq.laws K.spec K.laws W.word
+        K.represents K.once s.map
         t.map };
 }

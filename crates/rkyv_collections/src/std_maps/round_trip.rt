@@ -5,7 +5,7 @@
 //! - `laws::archives_come_back` is the law behind `comes_back`.
 
 ghost use Rattle.std.specs.Prelude.{◌≡◌, IfErr, IfOk, true};
-ghost use Rattle.rkyv_keys.specs.Reading.{nothing_fails};
+ghost use Rattle.rkyv_keys.specs.Deserialize.{nothing_fails};
 ghost use Rattle.rkyv_keys.specs.RoundTrips.{RoundTripFails, round_trip};
 ghost use Rattle.rkyv_collections.specs.Map.MapSpec.{map_spec};
 
@@ -42,7 +42,7 @@ where
     M::Archived: Deserialize<M> + MatchesNative<M> + RepresentsUniquely<M>,
     ensures same { IfOk result (λ same. same ≡ true) }
     ensures error { IfErr result (RoundTripFails (round_trip W.LIMIT M.Archived.spec M.format
-        M.Archived.refuses) value.now) }
+        M.Archived.deserialize_fails) value.now) }
 {
     let bytes = match to_bytes_in::<W, M>(alloc, value) {
         Ok(bytes) => bytes,

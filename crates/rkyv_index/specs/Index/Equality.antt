@@ -29,14 +29,15 @@ module _ (w : Width) (s : ElementSpec) (same : Comparison) where
   index_equal b p c r = (len_at w b p == len_at w c r) && list_all (same_at b p c r)
       (places_of (len_at w b p))
 
--- both maps have the same length, and the same pairs in order
+-- Two index maps in bytes have the same length, and the same pairs in order.
+-- `same_key`, `same_value`: comparisons of keys and of values
 abbrev pub index_map_equal : Width → ElementSpec → ElementSpec → Comparison → Comparison
     → Comparison
 index_map_equal w k v same_key same_value =
     index_equal w (entry_spec k v) (entry_same k v same_key same_value)
 
 module _ {K V H W : Type 0} {ks : Specs K} {vs : Specs V} {wt : Words W} where
-  -- both maps have the same length, and the same pairs in order
+  -- the index maps `m` and `n` that are read have the same length, and the same pairs in order
   abbrev pub index_maps_equal : Comparison → Comparison → ArchivedIndexMap K V H W ks vs wt
       → ArchivedIndexMap K V H W ks vs wt → Bool
   index_maps_equal same_key same_value m n =

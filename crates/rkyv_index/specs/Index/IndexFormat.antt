@@ -42,10 +42,10 @@ module _ {P X R : Type 0} (w : Width) (ps : ElementSpec) (e : Encoding P) (s : E
   -- `front`: bytes of the table of indices, and then the parts of the values
   pub record BeforeZeros (front : List ℕ) (t : TableResolver) (rs : List R) : Type 0 where
     pub table : List ℕ
-    pub row : List ℕ
+    pub part_bytes : List ℕ
     pub made : PlaceTable table t
-    pub parts : RowParts f xs (p + length table) row rs
-    pub is : front ≡ table ++ row
+    pub parts : RowParts f xs (p + length table) part_bytes rs
+    pub is : front ≡ table ++ part_bytes
 
   -- `front`: those bytes, and then zeros up to the alignment of the values
   pub record BeforeRow (front : List ℕ) (t : TableResolver) (rs : List R) : Type 0 where

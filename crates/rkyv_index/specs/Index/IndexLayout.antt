@@ -67,8 +67,8 @@ FirstNotBelow w b n (q ∷ qs) e =
 abbrev pub EntriesHold : ElementSpec → List ℕ → ℕ → ℕ → ℕ → ℕ → Type 0
 EntriesHold s b begin len lo l = AllHold s (entry_at s.size begin) b begin (places_of len) lo l
 
--- `len` valid entries in a part from `lo` to `hi`, which begins at `told`. `l`: end of the part,
--- and lower end of the next one
+-- `len` valid entries in a part that begins at `told`, inside the range from `lo` to `hi`.
+-- `l`: end of the part, and lower end of the next one
 pub record EntriesIn (s : ElementSpec) (b : List ℕ) (told : ℤ) (len lo hi l : ℕ) : Type 0 where
   pub begin : ℕ
   pub part : PartIn told (len * s.size) s.align lo hi begin

@@ -11,7 +11,7 @@ use Rattle.rkyv_base.specs.View.{IsAt}
 use Rattle.rkyv_base.specs.declared.view.View.{View}
 use Rattle.rkyv_keys.specs.FirstPairs.{FoundValues, first_value}
 use Rattle.rkyv_keys.specs.Natives.{NativeKeys}
-use Rattle.rkyv_index.specs.Index.{FindsFirstKey, IsPlace, IsValueAt, index_of}
+use Rattle.rkyv_index.specs.Index.{FindsFirstKey, IsIndex, IsValueAt, index_of}
 use Rattle.rkyv_index.specs.Index.IndexFormat.{IndexRepresents}
 use Rattle.rkyv_index.specs.Index.IndexLayout.{index_spec}
 use Rattle.rkyv_index.specs.declared.map.ArchivedIndexMap.{ArchivedIndexMap}
@@ -28,13 +28,14 @@ pub record FindsInRoot {A Q B K V H W : Type 0} {ks : Specs K} {vs : Specs V} {w
     (keys : NativeKeys A Q) (values : FoundValues V B) (map : ArchivedIndexMap K V H W ks vs wt)
     (asked : Q) (pairs : List (A × B)) : Type 0 where
   pub place : (found : Option ℕ)
-      → FindsFirstKey (index_of map) keys.key_hash (keys.fits asked) (IsPlace found)
+      → FindsFirstKey (index_of map) keys.key_hash (keys.fits asked) (IsIndex found)
       → found ≡ position (λ pair. keys.equal asked pair.0) pairs
   pub value : (found : Option (View V))
       → FindsFirstKey (index_of map) keys.key_hash (keys.fits asked) (IsValueAt map found)
       → values.IsFound found (first_value (keys.equal asked) pairs)
 
--- `wt`: word of the archive, `keys`: its native keys, `values`: how its values are found
+-- Lookups by a query in a root map that represents a list find the first key that equals
+-- the query. `wt`: word of the archive, `keys`: its native keys, `values`: how its values are found
 abbrev pub FoundAreListed : {A Q B K V W : Type 0} → (H : Type 0) → Words W → Specs K → Specs V
     → NativeKeys A Q → FoundValues V B → Type 0
 FoundAreListed {A} {Q} {B} {K} {V} {W} H wt ks vs keys values =

@@ -8,7 +8,7 @@ use Rattle.rkyv_index.specs.Index.Complete.{FindsOneKey}
 use Rattle.rkyv_index.specs.Index.{FindsBy, FindsFirstBy, FindsFirstKey, FindsKey, IsAccepted}
 use Rattle.rkyv_index.specs.Index.{IsFullResult, IsFullKeyIn, IsStored, IsStoredIndex, IsKeyOf}
 use Rattle.rkyv_index.specs.Index.{IsPairOf}
-use Rattle.rkyv_index.specs.Index.{IsPlace, MatchesAt, IsValueOf, full_key_place, result_index}
+use Rattle.rkyv_index.specs.Index.{IsIndex, IsValueOf, MatchesAt, full_index, full_key_index}
 use Rattle.rkyv_index.specs.Index.{index_of}
 use Rattle.rkyv_index.specs.declared.map.ArchivedIndexMap.{ArchivedIndexMap}
 
@@ -22,17 +22,17 @@ pub record Part (M X : Type 0) : Type 1 where
 module _ {K V H W : Type 0} {ks : Specs K} {vs : Specs V} {wt : Words W} where
   -- the index
   abbrev pub place_part : Part (ArchivedIndexMap K V H W ks vs wt) ℕ
-  place_part = record { In = IsStoredIndex; At = λ m. IsPlace }
+  place_part = record { In = IsStoredIndex; At = λ m. IsIndex }
 
   -- the index, the key and the value
   abbrev pub full_part : Part (ArchivedIndexMap K V H W ks vs wt) (ℕ × View K × View V)
-  full_part = record { In = IsFullResult; At = λ m result place. result_index result ≡ place }
+  full_part = record { In = IsFullResult; At = λ m result place. full_index result ≡ place }
 
   -- the index and the key
   abbrev pub full_key_part : Part (ArchivedIndexMap K V H W ks vs wt) (ℕ × View K)
   full_key_part = record {
     In = IsFullKeyIn;
-    At = λ m result place. full_key_place result ≡ place;
+    At = λ m result place. full_key_index result ≡ place;
   }
 
   -- what `Related` describes, without the index

@@ -13,7 +13,7 @@ use Rattle.rkyv_base.specs.ElementSpec.{ElementSpec, Viewable}
 use Rattle.rkyv_base.specs.declared.errors.ReadError.{ReadError}
 use Rattle.rkyv_base.specs.declared.errors.ReadError.TheVariants.{Memory}
 use Rattle.rkyv_keys.specs.OfEntries.{entry_refuses}
-use Rattle.rkyv_keys.specs.Reading.{DeserializeMembers, Refusals}
+use Rattle.rkyv_keys.specs.Deserialize.{DeserializeErrors, DeserializeMembers}
 use Rattle.rkyv_keys.specs.RoundTrips.{RoundTrip}
 use Rattle.rkyv_table.specs.Table.Header.{len_at}
 use Rattle.rkyv_index.specs.Index.{index_bytes, index_pos, key_pos}
@@ -27,12 +27,13 @@ use Rattle.rkyv_index.specs.declared.set.ArchivedIndexSet.{ArchivedIndexSet}
 
 module _ {A B : Type 0} (w : Width) (k v : ElementSpec) (key : List ℕ → ℕ → A → Type 0)
     (value : List ℕ → ℕ → B → Type 0) (b : List ℕ) (p : ℕ) where
-  -- each of the first pairs, in order, is that of its place, in the index map at `p` of `b`
+  -- each of the first pairs, in order, is represented at its index, in the index map at `p`
+  -- of `b`
   abbrev pub ArePairsAt : List (A × B) → Type 0
   ArePairsAt pairs = (i : ℕ) (pair : A × B) → slice_get pairs i ≡ Some pair
       → PairRepresents k v key value b (pair_at w k v b p i) pair
 
-  -- the list has the pair of each place, in order
+  -- the list has the pair at each index, in order
   abbrev pub HasPairsAt : List (A × B) → Type 0
   HasPairsAt pairs = (length pairs ≡ len_at w b p) × ArePairsAt pairs
 
@@ -56,27 +57,29 @@ module _ {K V H W A B : Type 0} {ks : Specs K} {vs : Specs V} {wt : Words W}
 
 -- `e`: error of the key or the value at the index `place`
 abbrev pub pair_refuses : {K V H W : Type 0} {ks : Specs K} {vs : Specs V} {wt : Words W}
-    → Refusals → Refusals → ArchivedIndexMap K V H W ks vs wt → ℕ → ReadError → Type 0
+    → DeserializeErrors → DeserializeErrors → ArchivedIndexMap K V H W ks vs wt → ℕ → ReadError
+    → Type 0
 pair_refuses {ks = ks} {vs} key value m place e =
     entry_refuses ks.spec vs.spec key value (index_bytes m) (key_pos m place) e
 
 module _ {A B : Type 0} (w : Width) (k : DeserializeMembers A) (v : DeserializeMembers B) where
   -- `e`: error of deserializing the pairs of the index map at `p` of `b`. It is `Memory`,
   -- or the error of a key or a value, after all pairs before it were deserialized
-  abbrev pub pairs_refuse : Refusals
+  abbrev pub pairs_refuse : DeserializeErrors
   pairs_refuse b p e = (e ≡ Memory) ⊎ ((before : List (A × B)) × (length before < len_at w b p)
       × ArePairsAt w k.spec v.spec k.represents v.represents b p before
-      × entry_refuses k.spec v.spec k.refuses v.refuses b (pair_at w k.spec v.spec b p
-      (length before)) e)
+      × entry_refuses k.spec v.spec k.deserialize_fails v.deserialize_fails b
+      (pair_at w k.spec v.spec b p (length before)) e)
 
 module _ {A : Type 0} (w : Width) (k : ElementSpec) (key : List ℕ → ℕ → A → Type 0) (b : List ℕ)
     (p : ℕ) where
-  -- each of the first items, in order, is the key of its place, in the index set at `p` of `b`
+  -- each of the first items, in order, is represented at its index, in the index set at `p`
+  -- of `b`
   abbrev pub AreItemsAt : List A → Type 0
   AreItemsAt items = (i : ℕ) (item : A) → slice_get items i ≡ Some item
       → key b (pair_at w k unit_spec b p i) item
 
-  -- the list has the key of each place, in order
+  -- the list has the key at each index, in order
   abbrev pub HasItemsAt : List A → Type 0
   HasItemsAt items = (length items ≡ len_at w b p) × AreItemsAt items
 
@@ -92,10 +95,10 @@ module _ {K H W A : Type 0} {ks : Specs K} {wt : Words W} (key : List ℕ → �
 
 -- `e`: error of deserializing the keys of the index set at `p` of `b`. It is `Memory`,
 -- or the error of a key, after all keys before it were deserialized
-abbrev pub items_refuse : {A : Type 0} → Width → DeserializeMembers A → Refusals
+abbrev pub items_refuse : {A : Type 0} → Width → DeserializeMembers A → DeserializeErrors
 items_refuse {A} w k b p e = (e ≡ Memory) ⊎ ((before : List A) × (length before < len_at w b p)
     × AreItemsAt w k.spec k.represents b p before
-    × k.refuses b (pair_at w k.spec unit_spec b p (length before)) e)
+    × k.deserialize_fails b (pair_at w k.spec unit_spec b p (length before)) e)
 
 -- the round trip of a list of pairs. `limit`: greatest position of the archive
 abbrev pub pairs_trip : {A B X R : Type 0} → ℕ → Width → DeserializeMembers A
@@ -104,7 +107,7 @@ pairs_trip limit w k v format = record {
   limit = limit;
   spec = index_spec w (entry_spec k.spec v.spec);
   format = format;
-  refuses = pairs_refuse w k v;
+  deserialize_fails = pairs_refuse w k v;
 }
 
 -- the round trip of a list of keys. `limit`: greatest position of the archive
@@ -114,7 +117,7 @@ items_trip limit w k format = record {
   limit = limit;
   spec = index_set_spec w k.spec;
   format = format;
-  refuses = items_refuse w k;
+  deserialize_fails = items_refuse w k;
 }
 
 -- both parts are equal

@@ -28,7 +28,7 @@ pub record IsKeyAt {K : Type 0} (w : Width) (k v : ElementSpec) (b : List ℕ) (
     Type 0 where
   pub below : i < len_at w b p
   pub bytes : bytes_of key ≡ b
-  pub place : pos_of key ≡ pair_at w k v b p i
+  pub pos : pos_of key ≡ pair_at w k v b p i
   pub viewable : IsValidView k key
 
 -- the index map at `p` of the bytes `b`. Its keys are viewed in any archive with the same bytes
@@ -51,7 +51,7 @@ index_in w k v a = index_at w k v (archive_in a) (pos_in a)
 -- A write of the value alone that keeps it valid keeps the index map
 pub record IsPairPos (w : Width) (k v : ElementSpec) (b : List ℕ) (p i q : ℕ) : Type 0 where
   pub below : i < len_at w b p
-  pub place : q ≡ pair_at w k v b p i
+  pub pos : q ≡ pair_at w k v b p i
   pub key : Viewable k b q
   pub value : Viewable v b (value_pos k v q)
   pub kept : KeptByWrites w k v b p i
@@ -59,38 +59,38 @@ pub record IsPairPos (w : Width) (k v : ElementSpec) (b : List ℕ) (p i q : ℕ
 module _ {K V H W : Type 0} (w : Width) (k v : ElementSpec) (a : ArchiveSeal
     (IndexMapOf K V H W)) where
   -- `q`: position of the pair at index `i` of the index map at the seal
-  abbrev pub IsPairPlace : ℕ → ℕ → Type 0
-  IsPairPlace i q = IsPairPos w k v (archive_in a) (pos_in a) i q
+  abbrev pub IsPairPosIn : ℕ → ℕ → Type 0
+  IsPairPosIn i q = IsPairPos w k v (archive_in a) (pos_in a) i q
 
   -- `full`: an index in a full bucket, the view of its key and the seal of its value
   abbrev pub IsFullSeal : ℕ × View K × Seal V → Type 0
   IsFullSeal full = IsStoredAt w (archive_in a) (pos_in a) full.0
-      × LendsPair k v (archive_in a) (IsPairPlace full.0) (full.1, full.2)
+      × LendsPair k v (archive_in a) (IsPairPosIn full.0) (full.1, full.2)
 
   -- `pair`: view of the key and seal of the value at an index in a full bucket
   abbrev pub IsPairSeal : View K × Seal V → Type 0
   IsPairSeal pair = (i : ℕ) × IsStoredAt w (archive_in a) (pos_in a) i
-      × LendsPair k v (archive_in a) (IsPairPlace i) pair
+      × LendsPair k v (archive_in a) (IsPairPosIn i) pair
 
   -- `value`: seal of the value at an index in a full bucket
   abbrev pub IsValueSeal : Seal V → Type 0
   IsValueSeal value = (i : ℕ) × IsStoredAt w (archive_in a) (pos_in a) i
-      × LendsValue k v (archive_in a) (IsPairPlace i) value
+      × LendsValue k v (archive_in a) (IsPairPosIn i) value
 
   -- `result`: the pair at the index `place`, or `None` if `place` is `None`
   abbrev pub SealsPair : Option (View K × Seal V) → Option ℕ → Type 0
   SealsPair result place =
-      MatchesAt (λ i. LendsPair k v (archive_in a) (IsPairPlace i)) result place
+      MatchesAt (λ i. LendsPair k v (archive_in a) (IsPairPosIn i)) result place
 
   -- `result`: the value at the index `place`, or `None` if `place` is `None`
   abbrev pub SealsValue : Option (Seal V) → Option ℕ → Type 0
   SealsValue result place =
-      MatchesAt (λ i. LendsValue k v (archive_in a) (IsPairPlace i)) result place
+      MatchesAt (λ i. LendsValue k v (archive_in a) (IsPairPosIn i)) result place
 
 -- the index in `result`
-abbrev pub full_seal_place : {K V : Type 0} → Option (ℕ × View K × Seal V) → Option ℕ
-full_seal_place {K} {V} result = option_map (λ (full : ℕ × View K × Seal V). full.0) result
+abbrev pub full_seal_index : {K V : Type 0} → Option (ℕ × View K × Seal V) → Option ℕ
+full_seal_index {K} {V} result = option_map (λ (full : ℕ × View K × Seal V). full.0) result
 
 -- `result` has the index `place`, or both are `None`
 abbrev pub IsFullSealAt : {K V : Type 0} → Option (ℕ × View K × Seal V) → Option ℕ → Type 0
-IsFullSealAt result place = full_seal_place result ≡ place
+IsFullSealAt result place = full_seal_index result ≡ place

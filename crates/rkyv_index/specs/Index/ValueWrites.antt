@@ -50,7 +50,7 @@ pub record KeepsIndexMap (m : IndexKind) (b c : List ℕ) (p i : ℕ) : Type 0 w
   pub entries : KeepsEntries m.word m.key m.value b c p i
   pub valid : Viewable (index_spec m.word (entry_spec m.key m.value)) c p
   pub len : len_at m.word c p ≡ len_at m.word b p
-  pub places : (j : ℕ) → pair_at m.word m.key m.value c p j ≡ pair_at m.word m.key m.value b p j
+  pub positions : (j : ℕ) → pair_at m.word m.key m.value c p j ≡ pair_at m.word m.key m.value b p j
   pub hashes : (j : ℕ) → j < len_at m.word b p
       → m.key_hash c (pair_at m.word m.key m.value b p j)
       ≡ m.key_hash b (pair_at m.word m.key m.value b p j)
@@ -91,8 +91,8 @@ module _ (w : Width) (k v : ElementSpec) where
 
 -- After a write of the value at index `i` of the index map at `p` of `b`, it represents the list
 -- with the new value in `c`. `represents`: lists that index maps represent, by the load factor
-abbrev pub SetsPlace : {A N : Type 0} → (ℕ × ℕ → List ℕ → ℕ → List (A × N) → Type 0) → List ℕ
+abbrev pub SetsValue : {A N : Type 0} → (ℕ × ℕ → List ℕ → ℕ → List (A × N) → Type 0) → List ℕ
     → List ℕ → ℕ → ℕ → N → Type 0
-SetsPlace {A} {N} represents b c p i value =
+SetsValue {A} {N} represents b c p i value =
     (factor : ℕ × ℕ) (pairs : List (A × N)) (pair : A × N) → represents factor b p pairs
     → slice_get pairs i ≡ Some pair → represents factor c p (slice_set pairs i (pair.0, value))

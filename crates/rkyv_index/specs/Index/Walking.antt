@@ -5,10 +5,10 @@ use Rattle.rkyv_base.specs.ElementSpec.{ElementSpec, Viewable}
 use Rattle.rkyv_index.specs.Index.{row}
 
 -- the `left` entries of `size` bytes from `at` on end below 2^64
-abbrev pub IsRow : ℕ → ℕ → ℕ → Type 0
-IsRow at size left = at + left * size < 2 ^ 64
+abbrev pub EndsBelow : ℕ → ℕ → ℕ → Type 0
+EndsBelow at size left = at + left * size < 2 ^ 64
 
 -- `left` valid entries of `size` bytes are in a row in the bytes `b`, from `at` on
 pub record IsWalk (s : ElementSpec) (b : List ℕ) (at size left : ℕ) : Type 0 where
-  pub below : IsRow at size left
+  pub below : EndsBelow at size left
   pub all_valid : All (Viewable s b) (row size at left)

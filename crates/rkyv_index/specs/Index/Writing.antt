@@ -14,8 +14,8 @@ use Rattle.rkyv_index.specs.Index.IndexFormat.{PlacesAs, places_from, row_format
 use Rattle.rkyv_index.specs.Index.IndexHeader.{IndexResolver}
 
 -- the pairs of key and value of the entries
-abbrev pub made_of : {BK BV A B : Type 0} → List (EntryAdapter BK BV A B) → List (BK × BV)
-made_of entries = map (λ entry. (entry.key, entry.value)) entries
+abbrev pub pairs_of : {BK BV A B : Type 0} → List (EntryAdapter BK BV A B) → List (BK × BV)
+pairs_of entries = map (λ entry. (entry.key, entry.value)) entries
 
 -- `e` is an error before the first byte, and nothing was written; or else writing failed
 abbrev pub OwnOrSerializeFails : {F V R : Type 0} → ℕ → ℕ × ℕ → ℕ → (ℕ → Type 0) → ℕ → Format V R
@@ -84,9 +84,9 @@ pub record Listing (X : Type 0) : Type 1 where
   pub len : ℕ
   pub load_factor : ℕ × ℕ
 
--- the items of an iterator
-abbrev pub input : {S A : Type 0} → (S → Option A → S → Type 0) → S → ℕ → ℕ × ℕ → Listing A
-input steps iter len load_factor =
+-- the items of an iterator, their claimed number, and the load factor
+abbrev pub listing : {S A : Type 0} → (S → Option A → S → Type 0) → S → ℕ → ℕ × ℕ → Listing A
+listing steps iter len load_factor =
     record { items = from_iter steps iter; len = len; load_factor = load_factor }
 
 -- `result`: the resolver of the written list, or the error. The items have the format

@@ -48,9 +48,6 @@ module _ (w : Width) (s : ElementSpec) (law : IsElement s) where
       (valid_at s law b (entry_at s.size begin i) r.lower begin r.rest r.below u.0 r.holds)
 
   module _ {same : Comparison} (e : IsEquivalence s same) where
-    abbrev S : List ℕ → ℕ → Type 0
-    S b p = ValidAt (index_spec w s) b p
-
     -- equal maps have the same length and the same entries
     parts : (b c : List ℕ) (p q : ℕ) → index_equal w s same b p c q ≡ true
         → (len_at w b p ≡ len_at w c q) × ((i : ℕ) → i < len_at w b p → same_at w s same b p c q i

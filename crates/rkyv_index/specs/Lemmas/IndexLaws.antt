@@ -58,7 +58,7 @@ place_element w kind = record {
   local = λ b c p lo hi l o fixed part h. h;
 }
 
--- the indices of the `n` numbers from `a` on are below `m`
+-- the `n` numbers from `a` on are below `m`, if `a + n` is at most `m`
 all_below : (a n m : ℕ) → a + n ≤ m → AllBelow m (range_with_len a n)
 all_below a zero m h = tt
 all_below a (suc n) m h = (omega arith, all_below (a + 1) n m (omega arith))

@@ -49,7 +49,7 @@ module _ (w : Width) (size : ℕ) (key_hash : List ℕ → ℕ → ℕ) (b c : L
     (controls : 0 < cap_at w b p → table_controls w b p ≡ table_controls w c p)
     (read : (i : ℕ) → IsWalked w b p i → number_at w b (item_at w (byte_len w) b p i)
     ≡ number_at w c (item_at w (byte_len w) c p i))
-    (same_calls : (i : ℕ) → i < len_at w b p → key_hash b (pair_pos w size b p i)
+    (same_hash : (i : ℕ) → i < len_at w b p → key_hash b (pair_pos w size b p i)
     ≡ key_hash c (pair_pos w size c p i)) where
   abbrev hashes_in : List ℕ → List ℕ
   hashes_in d = map (λ i. key_hash d (pair_pos w size d p i)) (places_of (len_at w d p))
@@ -69,7 +69,7 @@ module _ (w : Width) (size : ℕ) (key_hash : List ℕ → ℕ → ℕ) (b c : L
       let inside : i < n = omega (arith, below, length-map is f, count) in
       let here : i < length is = omega (arith, inside, count) in
       let at : get_or is i 0 ≡ i = get_or-range_with_len 0 n i 0 inside ∙ omega arith in
-      get_or-map f is i 0 0 here ∙ ap f at ∙ same_calls i inside ∙ ap g (sym at)
+      get_or-map f is i 0 0 here ∙ ap f at ∙ same_hash i inside ∙ ap g (sym at)
       ∙ sym (get_or-map g is i 0 0 here))
       ∙ ap (λ m. map g (places_of m)) len_is
 

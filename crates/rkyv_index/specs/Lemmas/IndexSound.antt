@@ -25,7 +25,7 @@ use Rattle.rkyv_base.specs.ElementSpec.{IsElement, ElementSpec, ValidAt}
 use Rattle.rkyv_base.specs.Text.{IsArchiveWord}
 use Rattle.rkyv_base.specs.Lemmas.Text.{by_archive_word}
 use Rattle.rkyv_base.specs.Writing.{padding, zeros}
-use Rattle.rkyv_keys.specs.Lemmas.Asking.{hashes_as_written}
+use Rattle.rkyv_keys.specs.Lemmas.QueryLaws.{hashes_as_written}
 use Rattle.rkyv_keys.specs.Equality.{Comparison}
 use Rattle.rkyv_keys.specs.Keys.{FitsItsEqual, IsQuery}
 use Rattle.rkyv_scan.specs.Hash.{Hasher, HasherCall, hash_of_calls}
@@ -56,7 +56,7 @@ use Rattle.rkyv_index.specs.Index.IndexLayout.{entries_pos, pair_pos}
 use Rattle.rkyv_index.specs.Index.IndexLayout.{IndexHolds, PlacesBelow, distance_pos}
 use Rattle.rkyv_index.specs.Index.IndexLayout.{decode_entries}
 use Rattle.rkyv_index.specs.Index.IndexLayout.{index_spec, places_of}
-use Rattle.rkyv_index.specs.Lemmas.PlaceSpecs.{words_hold}
+use Rattle.rkyv_index.specs.Lemmas.PlaceSpecs.{place_table_holds}
 use Rattle.rkyv_index.specs.Index.Row.{RowImages}
 use Rattle.rkyv_index.specs.Lemmas.RowSound.{images_length, row_sound}
 
@@ -101,7 +101,7 @@ module _ {P X R : Type 0} (w : Width) (kind : IsArchiveWord w) (ps : ElementSpec
     (s : ElementSpec) (laws : IsElement s)
     (represents : List ℕ → ℕ → X → Type 0) (f : Format X R) (fl : IsFormat s represents f) (own : X
     → ℕ)
-    (hash : List ℕ → ℕ → ℕ) (same_calls : (x : X) (b : List ℕ) (q : ℕ) → ValidAt s b q
+    (hash : List ℕ → ℕ → ℕ) (same_hash : (x : X) (b : List ℕ) (q : ℕ) → ValidAt s b q
     → represents b q
     x → own x ≡ hash b q)
     (factor : ℕ × ℕ) where
@@ -112,11 +112,11 @@ module _ {P X R : Type 0} (w : Width) (kind : IsArchiveWord w) (ps : ElementSpec
     count : length Places ≡ length xs
     count = places_count own e.value 0 xs
 
-    module _ (c : List ℕ) (p : ℕ) (all_valid : TableRepresents w ps (ScalarRepresents e) factor
-        c p Places) where
+    module _ (c : List ℕ) (p : ℕ)
+        (table_represents : TableRepresents w ps (ScalarRepresents e) factor c p Places) where
       tw : IsWrittenOf w (byte_len e.word) (ScalarRepresents e) c p Places
       tw = subst (λ n. IsWrittenOf w n (ScalarRepresents e) c p Places) pk.size
-          (table_written w ps (ScalarRepresents e) factor c p Places all_valid)
+          (table_written w ps (ScalarRepresents e) factor c p Places table_represents)
 
       hashes_count : length (hashes_of Places) ≡ length xs
       hashes_count = length-map Places (λ (y : ℕ × P). y.0) ∙ count
@@ -143,7 +143,8 @@ module _ {P X R : Type 0} (w : Width) (kind : IsArchiveWord w) (ps : ElementSpec
       walked_below i walked = elim tw.written.placed [
         | inl none ↦
             let n : length xs ≡ 0 = sym hashes_count ∙ ap length none.0 in
-            let z : cap_at w c p ≡ 0 = all_valid.cap ∙ ap (λ k. capacity k factor) (count ∙ n) in
+            let z : cap_at w c p ≡ 0 = table_represents.cap
+            ∙ ap (λ k. capacity k factor) (count ∙ n) in
             absurd (omega (arith, walked.0, z))
         | inr some ↦
             let visits = walked_homes (cap_at w c p) (hashes_of Places) tw.homes _ some.0
@@ -210,7 +211,7 @@ module _ {P X R : Type 0} (w : Width) (kind : IsArchiveWord w) (ps : ElementSpec
       row_sits = subst (λ k. OccursAt c k row) (sym t.at) (occurs_back c p0 t.front row
           (subst (OccursAt c p0) t.is sp))
 
-      head_sits : OccursAt c p0 (zb.table ++ zb.row)
+      head_sits : OccursAt c p0 (zb.table ++ zb.part_bytes)
       head_sits = subst (OccursAt c p0) zb.is (occurs_front c p0 t.before.head pad
           (subst (OccursAt c p0) t.before.is front_sits))
 
@@ -220,8 +221,8 @@ module _ {P X R : Type 0} (w : Width) (kind : IsArchiveWord w) (ps : ElementSpec
           ∙ ap (λ n. length t.before.head + n) (length-replicate {A = ℕ}
           (padding s.align (p0 + length t.before.head)) 0)
 
-      head_length : length t.before.head ≡ length zb.table + length zb.row
-      head_length = ap length zb.is ∙ length-append zb.table zb.row
+      head_length : length t.before.head ≡ length zb.table + length zb.part_bytes
+      head_length = ap length zb.is ∙ length-append zb.table zb.part_bytes
 
       part_length : length part ≡ length t.front + length row
       part_length = ap length t.is ∙ length-append t.front row
@@ -253,8 +254,8 @@ module _ {P X R : Type 0} (w : Width) (kind : IsArchiveWord w) (ps : ElementSpec
           omega (arith, ints) in
           ap (λ z. pos (distance_pos w p) +ℤ z) (d ∙ i.told) ∙ k
 
-      place_told : entries_pos w c p ≡ begin
-      place_told = ap unsigned_abs told
+      begin_is : entries_pos w c p ≡ begin
+      begin_is = ap unsigned_abs told
 
       table : (l : ℕ) × TableHolds w ps c p p0 (p0 + length zb.table) l
           × TableRepresents w
@@ -262,39 +263,39 @@ module _ {P X R : Type 0} (w : Width) (kind : IsArchiveWord w) (ps : ElementSpec
       table = (table_is_format w kind ps pe (ScalarRepresents e)
           (scalar_format e) (scalar_is_format ps e pk) factor).sound Places r.table c p0 p zb.table
           i.table
-          zb.made i.header (occurs_front c p0 zb.table zb.row head_sits) (occurs_front c p i.table
-          (to_le_bytes w (cast_unsigned w i.distance)) header_sits)
+          zb.made i.header (occurs_front c p0 zb.table zb.part_bytes head_sits)
+          (occurs_front c p i.table (to_le_bytes w (cast_unsigned w i.distance)) header_sits)
           (omega (arith, o, part_length, front_length, head_length)) al
 
-      first_place : begin ≡ begin + 0 * s.size
-      first_place = omega arith
+      first_at_begin : begin ≡ begin + 0 * s.size
+      first_at_begin = omega arith
 
       rows : (l : ℕ) × AllHold s (λ k. begin + k * s.size) c begin (range_with_len 0 (length xs))
-          (p0 + length zb.table) l × (l ≤ (p0 + length zb.table) + length zb.row)
+          (p0 + length zb.table) l × (l ≤ (p0 + length zb.table) + length zb.part_bytes)
           × ((j : ℕ) (x : X) → slice_get xs j ≡ Some x → ValidAt s c (begin + (0 + j) * s.size)
           × represents c (begin + (0 + j) * s.size) x)
       rows =
           row_sound s laws represents f fl c begin xs 0
-          (p0 + length zb.table) zb.row row t.resolvers
-          zb.parts (subst (λ k. RowImages f xs t.resolvers k row) first_place t.shown)
-          (occurs_back c p0 zb.table zb.row head_sits) (subst (λ k. OccursAt c k row) first_place
-          row_sits)
+          (p0 + length zb.table) zb.part_bytes row t.resolvers
+          zb.parts (subst (λ k. RowImages f xs t.resolvers k row) first_at_begin t.shown)
+          (occurs_back c p0 zb.table zb.part_bytes head_sits)
+          (subst (λ k. OccursAt c k row) first_at_begin row_sits)
           (omega (arith, t.at, front_length, head_length)) (subst (λ k. k % s.align ≡ 0)
-          first_place begin_aligned)
+          first_at_begin begin_aligned)
 
-      all_valid : TableRepresents w ps (ScalarRepresents e) factor c p Places
-      all_valid = table.2
+      table_represents : TableRepresents w ps (ScalarRepresents e) factor c p Places
+      table_represents = table.2
 
       len_told : len_at w c p ≡ length xs
-      len_told = all_valid.len ∙ count
+      len_told = table_represents.len ∙ count
 
       abbrev homes : List ℕ
-      homes = (tw c p all_valid).homes
+      homes = (tw c p table_represents).homes
 
       at_told : (j : ℕ) → begin + (0 + j) * s.size ≡ pair_pos w s.size c p j
       at_told j =
           let z : 0 + j ≡ j = omega arith in
-          ap (λ k. begin + k * s.size) z ∙ ap (λ b. b + j * s.size) (sym place_told)
+          ap (λ k. begin + k * s.size) z ∙ ap (λ b. b + j * s.size) (sym begin_is)
 
       hashes_told : hashes_of Places ≡ map (λ k. hash c (pair_pos w s.size c p k))
           (places_of (len_at w c p))
@@ -302,7 +303,7 @@ module _ {P X R : Type 0} (w : Width) (kind : IsArchiveWord w) (ps : ElementSpec
           hashes_there own e.value (pair_pos w s.size c p) (hash c) 0 xs (λ j x there.
           let z : j ≡ 0 + j = omega arith in
           let st = rows.3 j x there in
-          same_calls x c (begin + (0 + j) * s.size) st.0 st.1 ∙ ap (hash c) (at_told j)
+          same_hash x c (begin + (0 + j) * s.size) st.0 st.1 ∙ ap (hash c) (at_told j)
           ∙ ap (λ k. hash c (pair_pos w s.size c p k)) z)
           ∙ ap (λ n. map (λ k. hash c (pair_pos w s.size c p k)) (places_of n)) (sym len_told)
 
@@ -311,11 +312,11 @@ module _ {P X R : Type 0} (w : Width) (kind : IsArchiveWord w) (ps : ElementSpec
         homes = homes;
         written = record {
           table = subst (λ (hs : List ℕ). WrittenAt w c p hs homes) hashes_told
-              (tw c p all_valid).written;
-          places = places_are c p all_valid ∙ ap places_of (sym len_told);
+              (tw c p table_represents).written;
+          places = places_are c p table_represents ∙ ap places_of (sym len_told);
         };
         len = len_told;
-        cap = all_valid.cap ∙ ap (λ n. capacity n factor) count;
+        cap = table_represents.cap ∙ ap (λ n. capacity n factor) count;
         at = λ j x there. subst (λ q. represents c q x) (at_told j) (rows.3 j x there).1;
       }
 
@@ -337,9 +338,9 @@ module _ {P X R : Type 0} (w : Width) (kind : IsArchiveWord w) (ps : ElementSpec
             begin + len_at w c p * s.size,
             record {
               middle = table.0;
-              table = words_hold w ps e pk place c p p0 (p0 + length part) table.0 up;
+              table = place_table_holds w ps e pk place c p p0 (p0 + length part) table.0 up;
               below = subst (λ n. PlacesBelow w c n (item_positions w (byte_len w) c p))
-                  (sym len_told) (places_below c p all_valid);
+                  (sym len_told) (places_below c p table_represents);
               entries = record {
                 begin = begin;
                 part = record {
@@ -402,7 +403,8 @@ abbrev pub HashesAlike : {A : Type 0} → ElementSpec → (List ℕ → ℕ → 
 HashesAlike {A = A} k key hash own = (a : A) (b : List ℕ) (q : ℕ) → ValidAt k b q → key b q a
     → own a ≡ hash b q
 
--- the same for the pairs of an index map
+-- Written bytes of pairs and an aligned header behind them are a valid index map in any archive
+-- that has them. It represents the pairs.
 pub index_is_format : {P A B R Q : Type 0} (w : Width) (kind : IsArchiveWord w) (ps : ElementSpec)
     (e : Encoding P) (pe : IsElement ps) (pk : IsScalar ps e) (place : IsPlace w e)
     (back : CodesReadBack e) (k v : ElementSpec)
@@ -412,12 +414,12 @@ pub index_is_format : {P A B R Q : Type 0} (w : Width) (kind : IsArchiveWord w) 
     → (own : A → ℕ) (hash : List ℕ → ℕ → ℕ) → HashesAlike k key hash own → (factor : ℕ × ℕ)
     → IsFormat (index_spec w (entry_spec k v)) (IndexRepresents w k v key value hash factor)
     (index_format w ps e k v kf vf own factor)
-index_is_format w kind ps e pe pk place back k v kl vl key value kf vf kw vw own hash same_calls
+index_is_format w kind ps e pe pk place back k v kl vl key value kf vf kw vw own hash same_hash
     factor =
     row_is_format w kind ps e pe pk place back (entry_spec k v) (entry_element k v kl vl)
     (PairRepresents k v key value) (pair_format k v kf vf) (pair_is_format k v kl vl key value kf vf
     kw vw)
-    (λ pair. own pair.0) hash (λ pair b q h st. same_calls pair.0 b q (h.1.1, h.1.2) st.0) factor
+    (λ pair. own pair.0) hash (λ pair b q h st. same_hash pair.0 b q (h.1.1, h.1.2) st.0) factor
 
 module _ {State : Type 0} (hasher : Hasher State)
     (w : Width) (kind : IsArchiveWord w) {P : Type 0} (ps : ElementSpec) (e : Encoding P)
@@ -437,6 +439,6 @@ module _ {State : Type 0} (hasher : Hasher State)
   index_sound {can_read} {calls} {fits} {equal} {R} {Q} {kf} {vf} query native itself reads kw vw =
       index_is_format w kind ps e pe pk place back k v kl vl key value kf vf kw vw
       (hash_of hasher calls) (hash_at hasher key_calls)
-      (λ a b q represents there. ap (hash_of_calls hasher) (hashes_as_written k same
-      key_calls can_read calls fits key equal itself query native a b q (reads a) represents there))
+      (λ a b q valid there. ap (hash_of_calls hasher) (hashes_as_written k same
+      key_calls can_read calls fits key equal itself query native a b q (reads a) valid there))
       factor

@@ -111,10 +111,10 @@ module _ {V : Type 0} (w : Width) (s : ElementSpec) (e : Encoding V) (laws : IsS
   never : (b : List ℕ) (p lo hi : ℕ) (x : VerifyError) → s.fails b p lo hi x → ⊥
   never b p lo hi x f = ((laws.fails b p lo hi x).0 f).1 (is.any _)
 
-  -- a table of the width's numbers is valid if and only if it is as a table of words
-  pub words_hold : (b : List ℕ) (p lo hi l : ℕ) → TableHolds w s b p lo hi l → TableHolds w
+  -- a table of the width's numbers is valid as a table of words
+  pub place_table_holds : (b : List ℕ) (p lo hi l : ℕ) → TableHolds w s b p lo hi l → TableHolds w
       (place_spec w) b p lo hi l
-  words_hold b p lo hi l h =
+  place_table_holds b p lo hi l h =
       let there : TableHolds w (sized n n) b p lo hi l =
       subst (λ a. TableHolds w (sized n a) b p lo hi l) laws.align
       (subst (λ k. TableHolds w (sized k s.align) b p lo hi l) laws.size h) in
@@ -123,9 +123,9 @@ module _ {V : Type 0} (w : Width) (s : ElementSpec) (e : Encoding V) (laws : IsS
       ≡ lo) s.fails (λ b p lo hi e. ⊥) to_word never w b p lo
       hi l there)
 
-  pub words_fail : (b : List ℕ) (p lo hi : ℕ) (x : VerifyError) → TableFails w s b p lo hi x
+  pub place_table_fails : (b : List ℕ) (p lo hi : ℕ) (x : VerifyError) → TableFails w s b p lo hi x
       → TableFails w (place_spec w) b p lo hi x
-  words_fail b p lo hi x f =
+  place_table_fails b p lo hi x f =
       let there : TableFails w (sized n n) b p lo hi x =
       subst (λ a. TableFails w (sized n a) b p lo hi x) laws.align
       (subst (λ k. TableFails w (sized k s.align) b p lo hi x) laws.size f) in
@@ -134,9 +134,10 @@ module _ {V : Type 0} (w : Width) (s : ElementSpec) (e : Encoding V) (laws : IsS
       ≡ lo) s.fails (λ b p lo hi e. ⊥) to_word never w b p lo
       hi x there)
 
-  pub places_hold : (b : List ℕ) (p lo hi l : ℕ) → TableHolds w (place_spec w) b p lo hi l
+  -- a table of words is valid as a table of the width's numbers
+  pub number_table_holds : (b : List ℕ) (p lo hi l : ℕ) → TableHolds w (place_spec w) b p lo hi l
       → TableHolds w s b p lo hi l
-  places_hold b p lo hi l h =
+  number_table_holds b p lo hi l h =
       let there : TableHolds w (sized n n) b p lo hi l =
       holds_as n n (λ b p lo hi l. l ≡ lo) s.holds (λ b p lo hi e. ⊥) s.fails
       (λ b p lo hi l h. (laws.holds b p lo hi l).1 (h, is.any _))
@@ -146,11 +147,11 @@ module _ {V : Type 0} (w : Width) (s : ElementSpec) (e : Encoding V) (laws : IsS
       (subst (λ a. TableHolds w (sized n a) b p lo hi l) (sym laws.align) there)
 
   -- a table of words at `p` is also a table of the width's numbers
-  pub places_viewable : (b : List ℕ) (p : ℕ) → Viewable (table_spec w (place_spec w)) b p
+  pub number_table_viewable : (b : List ℕ) (p : ℕ) → Viewable (table_spec w (place_spec w)) b p
       → Viewable (table_spec w s) b p
-  places_viewable b p v = record {
+  number_table_viewable b p v = record {
     inside = v.inside;
     aligned = v.aligned;
     valid =
-        (v.valid.0, places_hold b p 0 p v.valid.0 v.valid.1);
+        (v.valid.0, number_table_holds b p 0 p v.valid.0 v.valid.1);
   }

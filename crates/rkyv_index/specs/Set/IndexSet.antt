@@ -21,7 +21,8 @@ use Rattle.rkyv_index.specs.declared.set.ArchivedIndexSet.{ArchivedIndexSet}
 abbrev pub index_set_spec : Width → ElementSpec → ElementSpec
 index_set_spec w k = index_spec w (entry_spec k unit_spec)
 
--- both sets have the same length, and the same keys in order
+-- Two index sets in bytes have the same length, and the same keys in order.
+-- `same`: comparison of keys
 abbrev pub index_set_equal : Width → ElementSpec → Comparison → Comparison
 index_set_equal w k same = index_map_equal w k unit_spec same unit_same
 
@@ -47,7 +48,7 @@ module _ {K H W : Type 0} {ks : Specs K} {wt : Words W} where
   abbrev pub index_of_set : ArchivedIndexSet K H W ks wt → Index K
   index_of_set s = index_of (keys_of s)
 
-  -- both sets have the same length, and the same keys in order
+  -- the index sets `s` and `t` that are read have the same length, and the same keys in order
   abbrev pub index_sets_equal : Comparison → ArchivedIndexSet K H W ks wt
       → ArchivedIndexSet K H W ks wt → Bool
   index_sets_equal same s t = index_maps_equal same unit_same (keys_of s) (keys_of t)

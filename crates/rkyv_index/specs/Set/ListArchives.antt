@@ -9,7 +9,7 @@ use Rattle.rkyv_base.specs.ElementSpec.{ElementSpec}
 use Rattle.rkyv_base.specs.View.{IsAt, archive_of, pos_of}
 use Rattle.rkyv_base.specs.declared.view.View.{View}
 use Rattle.rkyv_keys.specs.Natives.{NativeKeys}
-use Rattle.rkyv_index.specs.Index.{FindsFirstKey, IsFoundAt, IsPlace}
+use Rattle.rkyv_index.specs.Index.{FindsFirstKey, IsFoundAt, IsIndex}
 use Rattle.rkyv_index.specs.Set.IndexSet.{index_of_set, index_set_spec, keys_of}
 use Rattle.rkyv_index.specs.Set.SetFormat.{IndexSetRepresents}
 use Rattle.rkyv_index.specs.declared.set.ArchivedIndexSet.{ArchivedIndexSet}
@@ -22,15 +22,17 @@ index_set_root w k b = length b - (index_set_spec w k).size
 -- The root of the archive is an index set that represents a list of keys. A lookup of a native
 -- key finds the first equal key, if the list has one. `place`: its index, `member`: if there is one
 pub record FindsInRootSet {A Q K H W : Type 0} {ks : Specs K} {wt : Words W}
-    (keys : NativeKeys A Q) (set : ArchivedIndexSet K H W ks wt) (asked : Q) (items : List A) : Type 0 where
+    (keys : NativeKeys A Q) (set : ArchivedIndexSet K H W ks wt) (asked : Q) (items : List A)
+    : Type 0 where
   pub place : (found : Option ℕ)
-      → FindsFirstKey (index_of_set set) keys.key_hash (keys.fits asked) (IsPlace found)
+      → FindsFirstKey (index_of_set set) keys.key_hash (keys.fits asked) (IsIndex found)
       → found ≡ position (keys.equal asked) items
   pub member : (found : Bool)
       → FindsFirstKey (index_of_set set) keys.key_hash (keys.fits asked) (IsFoundAt found)
       → found ≡ list_any (keys.equal asked) items
 
--- `wt`: word of the archive, `keys`: its native keys
+-- Lookups by a query in a root set that represents a list find the first key that equals
+-- the query. `wt`: word of the archive, `keys`: its native keys
 abbrev pub MembersFoundAreListed : {A Q K W : Type 0} → (H : Type 0) → Words W → Specs K
     → NativeKeys A Q → Type 0
 MembersFoundAreListed {A} {Q} {K} {W} H wt ks keys =

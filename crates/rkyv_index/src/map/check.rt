@@ -4,7 +4,7 @@
 //! 2. Each index in the table is below the length.
 //! 3. The entries are in the range, and aligned.
 //! 4. Each entry is valid, in order.
-ghost use Rattle.std.specs.Prelude.{IfErr, IfOk, MatchResult, length, pos as int, ◌%◌, ◌*◌, ◌+ℤ◌};
+ghost use Rattle.std.specs.Prelude.{IfErr, IfOk, MatchResult, length, ◌%◌, ◌*◌};
 ghost use Rattle.std.specs.Prelude.{true, ◌+◌, ◌-◌, ◌<◌, ◌≡◌, ◌≤◌};
 ghost use Rattle.std.specs.Int.{byte_len};
 ghost use Rattle.rkyv_base.specs.ElementSpec.{Viewable};
@@ -29,8 +29,8 @@ use rkyv_base::errors::VerifyError;
 use rkyv_base::part::{distance_target, part_in};
 use rkyv_base::view::View;
 use rkyv_base::width::Width;
+use rkyv_table::table::ArchivedHashTable;
 use rkyv_table::table::decoded::Decoded;
-use rkyv_table::table::{ArchivedHashTable, TableOf};
 
 /// Returns the position of the last bucket, at which the buckets begin, or 0 without buckets.
 #[inline]
@@ -139,7 +139,7 @@ fn check_entries<T: Element>(
 
 /// Returns the position at which the entries begin, by the distance in the header at `pos`.
 #[inline]
-pub(crate) fn decode_begin<W: Width>(bytes: &[u8], pos: u64) -> i128
+pub(crate) fn decode_entries<W: Width>(bytes: &[u8], pos: u64) -> i128
     requires inside { pos + 4 * byte_len W.word ≤ length bytes.now }
     ensures told { result ≡ decode_entries W.word bytes.now pos }
 {
@@ -184,7 +184,7 @@ pub(crate) fn check_part<W: Width, T: Element>(
         (EntriesFail T.spec bytes.now (decode_entries W.word bytes.now pos) len range.lo range.hi) }
 {
     let size = T::size();
-    let told = decode_begin::<W>(bytes, pos);
+    let told = decode_entries::<W>(bytes, pos);
     let begin = part_in(told, entries_size(len, size), T::align() as u64, range)?;
     check_entries::<T>(bytes, begin, len, range.lo)?;
     Ok(begin + (len * size) as u64)

@@ -20,7 +20,7 @@ ghost use Rattle.rkyv_table.specs.Table.Header.{len_at};
 ghost use Rattle.rkyv_index.specs.Index.{hash_at};
 ghost use Rattle.rkyv_index.specs.Index.IndexFormat.{IndexRepresents};
 ghost use Rattle.rkyv_index.specs.Index.IndexLayout.{index_spec};
-ghost use Rattle.rkyv_index.specs.Index.ValueWrites.{KeepsIndexMap, SetsPlace, index_kind, pair_at};
+ghost use Rattle.rkyv_index.specs.Index.ValueWrites.{KeepsIndexMap, SetsValue, index_kind, pair_at};
 
 mod sealed;
 
@@ -84,7 +84,7 @@ pub fn set_value_at<A, K: KeyElement + Represents<A>, N: Scalar, H: KeyHasher, W
     ensures kept { KeepsIndexMap
         (index_kind W.word K.spec N.spec (hash_at H.hasher K.key_calls))
         archive.old archive.new root place }
-    ensures listed { SetsPlace
+    ensures listed { SetsValue
         (IndexRepresents W.word K.spec N.spec K.represents (ScalarRepresents N.encoding)
         (hash_at H.hasher K.key_calls)) archive.old archive.new root place value }
 {

@@ -1,6 +1,6 @@
 //! Laws of index maps, over their definitions alone.
 //!
-//! They are about writes of one value in place, and about lists that are deserialized.
+//! They are about writes of one value in place, deserialized lists, lookups and the layout.
 //! `written` is about the bytes of written index maps, and `list_archives` about root index maps.
 ghost use Rattle.rkyv_index.specs.Index.{hash_at};
 ghost use Rattle.rkyv_index.specs.Index.IndexFormat.{hash_of};

@@ -65,7 +65,7 @@ pub(crate) fn write_index<W: PlaceWidth, H, S: Writer, U: HashedEntry<H> + Seria
     requires capacity { HasCapacity (length entries.now) load_factor W.MAX_CAPACITY }
     requires hashes { (entry : U) → U.can_hash entry }
     requires empty { resolvers.items ≡ [] }
-    requires places { length entries.now ≤ vec_capacity resolvers }
+    requires resolvers { length entries.now ≤ vec_capacity resolvers }
     requires room { 0 < length entries.now → length scratch.old ≡ U.Archived.spec.size }
     ensures { WritesEntries W.Width (indices W.Place.spec W.Place.encoding)
         (hashed_row U.Archived.spec U.format U.hash load_factor entries.now)

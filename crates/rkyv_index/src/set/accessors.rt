@@ -188,7 +188,7 @@ impl<'a, K: KeyElement, H: KeyHasher, W: Width> ArchivedIndexSet<'a, K, H, W> {
     /// Returns the key at a found index.
     #[inline]
     fn key_of(self, place: Option<usize>) -> Option<View<'a, K>>
-        requires held { IfSome place (IsStoredIndex (keys_of self)) }
+        requires stored { IfSome place (IsStoredIndex (keys_of self)) }
         ensures { IsMemberAt self.entry result place }
     {
         match place {

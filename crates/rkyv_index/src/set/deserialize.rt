@@ -20,7 +20,7 @@ impl<'a, K: Element, H, W: Width> ArchivedIndexSet<'a, K, H, W> {
         requires below { place < index_len (keys_of self) }
         ensures { let at = key_pos (keys_of self.entry) place in
             MatchResult result (K.represents (set_bytes self.entry) at)
-            (K.refuses (set_bytes self.entry) at) }
+            (K.deserialize_fails (set_bytes self.entry) at) }
     {
         K::deserialize(alloc, self.map.entries().entry(place).key())
     }

@@ -8,11 +8,11 @@ ghost use Rattle.rkyv_base.specs.Lemmas.Entry.{entry_element};
 ghost use Rattle.rkyv_base.specs.View.{IsValidView};
 ghost use Rattle.rkyv_keys.specs.Lemmas.OfEntries.{entry_equivalence};
 ghost use Rattle.rkyv_keys.specs.Lemmas.OfUnits.{unit_equivalence};
-ghost use Rattle.rkyv_keys.specs.Places.{at_views};
+ghost use Rattle.rkyv_keys.specs.AtViews.{at_views};
 ghost use Rattle.rkyv_index.specs.Lemmas.EqualLaws.{index_equivalence};
 ghost use Rattle.rkyv_index.specs.Index.Equality.{CountsRepeated, CountsUpTo, index_misplaced};
 ghost use Rattle.rkyv_index.specs.Index.{hash_at};
-ghost use Rattle.rkyv_index.specs.Lemmas.ViewableEqual.{sets_equality};
+ghost use Rattle.rkyv_index.specs.Lemmas.HandlesEqual.{sets_equality};
 ghost use Rattle.rkyv_index.specs.Set.IndexSet.{index_of_set, index_set_equal, index_set_spec};
 ghost use Rattle.rkyv_index.specs.Set.IndexSet.{index_sets_equal};
 

@@ -1,6 +1,6 @@
 //! Laws of index sets, over their definitions alone.
 //!
-//! They are about lists that are deserialized, and about lookups.
+//! They are about deserialized lists, lookups and the layout.
 ghost use Rattle.rkyv_index.specs.Index.{hash_at};
 ghost use Rattle.rkyv_index.specs.Index.Reading.{ItemsReadBackAreListed};
 ghost use Rattle.rkyv_base.specs.Same.{SameSpec, SameValues};

@@ -5,7 +5,7 @@
 
 ghost use Rattle.std.specs.Prelude.{◌≡◌, ◌+◌, ◌<◌, ◌^◌, length};
 ghost use Rattle.rkyv_base.specs.Pairs.{written_as};
-ghost use Rattle.rkyv_index.specs.Index.Writing.{WritesUnder, input};
+ghost use Rattle.rkyv_index.specs.Index.Writing.{WritesUnder, listing};
 ghost use Rattle.rkyv_index.specs.Index.IndexFormat.{hash_of};
 ghost use Rattle.rkyv_index.specs.Index.IndexHeader.{WritesIndexHeader};
 ghost use Rattle.rkyv_index.specs.Set.SetFormat.{index_set_format};
@@ -80,7 +80,7 @@ impl<'a, K: KeyElement, H: KeyHasher, W: PlaceWidth> ArchivedIndexSet<'a, K, H, 
         K: Represents<A>,
         requires ready { I.can_next iter }
         ensures { let f = ⟦<IndexSetOf<K, H, W> as ListFormat<BK, A>>⟧.format in
-            WritesUnder W.Width (input I.next_gives iter len load_factor) f
+            WritesUnder W.Width (listing I.next_gives iter len load_factor) f
             (S.output serializer.old) (S.output serializer.new) result }
     {
         ArchivedIndexMap::<K, (), H, W>::serialize_from_iter::<_, A, (), _, _, _>(

@@ -105,11 +105,11 @@ module _ {k v : ElementSpec} (kl : IsElement k) (vl : IsElement v) where
         and_from (ke x.0 y.0) (ve x.1 y.1) (ka x.0 y.0 b p (valid_key b p h) st.0 eq.0)
         (va x.1 y.1 b (p + value_offset k v) (valid_value b p h) st.1 eq.1)
 
-    pub entry_alone : (ke : A → A → Bool) (ve : B → B → Bool) → RepresentsOnce k key ke
+    pub entry_once : (ke : A → A → Bool) (ve : B → B → Bool) → RepresentsOnce k key ke
         → RepresentsOnce v value ve
         → RepresentsOnce (entry_spec k v) (PairRepresents k v key value)
         (λ x y. ke x.0 y.0 && ve x.1 y.1)
-    entry_alone ke ve ka va = entry_equals_once key value ke ve ka va
+    entry_once ke ve ka va = entry_equals_once key value ke ve ka va
 
     pub entry_fits_its_equal : (ka : A → A → Bool) (va : B → B → Bool) (kf : A → List ℕ → ℕ → Bool)
         (vf : B → List ℕ → ℕ → Bool)

@@ -7,7 +7,7 @@ use Rattle.rkyv_scan.specs.Hash.{HasherCall}
 use Rattle.rkyv_base.specs.Text.{TextReads, text_at, text_spec}
 use Rattle.rkyv_base.specs.Lemmas.Text.{text_local}
 use Rattle.rkyv_keys.specs.Calls.{text_calls}
-use Rattle.rkyv_keys.specs.Lemmas.Asking.{native_alone}
+use Rattle.rkyv_keys.specs.Lemmas.QueryLaws.{native_once}
 use Rattle.rkyv_keys.specs.Equality.{Comparison, IsEquivalence, RepresentsOnce}
 use Rattle.rkyv_keys.specs.Keys.{FitsItsEqual, IsKey, IsQuery, ReadsAnywhere}
 use Rattle.rkyv_keys.specs.Fixed.{MakesFixedCalls}
@@ -58,7 +58,7 @@ module _ (w : Width) where
     text_query = value_query (text_spec w) (text_at w) same_bytes bytes_decides text_calls seen
 
     -- a text represents only values with its bytes
-    pub text_alone : RepresentsOnce (text_spec w) (IsTextOf seen) (λ q v. same_bytes (seen q)
+    pub text_once : RepresentsOnce (text_spec w) (IsTextOf seen) (λ q v. same_bytes (seen q)
         (seen v))
-    text_alone = native_alone (text_spec w) (IsTextOf seen) (λ q v. same_bytes (seen q) (seen v))
+    text_once = native_once (text_spec w) (IsTextOf seen) (λ q v. same_bytes (seen q) (seen v))
         (text_fits seen) (text_fits_its_equal seen seen) (λ v. bytes_equal_themselves (seen v))

@@ -7,7 +7,7 @@ use Rattle.rkyv_base.specs.ElementSpec.{ElementSpec}
 use Rattle.rkyv_base.specs.Format.{RepresentsLocally}
 use Rattle.rkyv_keys.specs.Equality.{IsEquivalence, TellsApart}
 use Rattle.rkyv_keys.specs.Keys.{IsKey, IsQuery, FitsItsEqual, ReadsAnywhere}
-use Rattle.rkyv_keys.specs.OfValues.{values_same, value_calls, value_fits, IsValueAt}
+use Rattle.rkyv_keys.specs.OfValues.{values_same, value_calls, value_fits, ValueRepresents}
 
 module _ {V : Type 0} (s : ElementSpec) (value_at : List ℕ → ℕ → V) (equal : V → V → Bool)
     (tells : TellsApart equal) where
@@ -27,7 +27,7 @@ module _ {V : Type 0} (s : ElementSpec) (value_at : List ℕ → ℕ → V) (equ
   }
 
   module _ (calls : V → List HasherCall) where
-    pub value_key : RepresentsLocally s (IsValueAt value_at (λ v. v))
+    pub value_key : RepresentsLocally s (ValueRepresents value_at (λ v. v))
         → IsKey s (values_same value_at equal) (value_calls value_at calls)
     value_key rests = record {
       same_calls = λ b c p q h g s. ap calls (same_value (value_at b p) (value_at c q) s);
@@ -46,9 +46,9 @@ module _ {V : Type 0} (s : ElementSpec) (value_at : List ℕ → ℕ → V) (equ
           (same_value (seen q) (value_at b p) f);
     }
 
--- the value that was written is the one that is compared
+-- a query fits a key if and only if its value equals the one that the key represents
 pub value_fits_its_equal : {V Q A : Type 0} (s : ElementSpec) (value_at : List ℕ → ℕ → V)
     (equal : V → V → Bool) (asked : Q → V) (seen : A → V)
-    → FitsItsEqual s (IsValueAt value_at seen) (λ q a. equal (asked q) (seen a))
+    → FitsItsEqual s (ValueRepresents value_at seen) (λ q a. equal (asked q) (seen a))
     (value_fits value_at equal asked)
 value_fits_its_equal s value_at equal asked seen q a b p h there = ap (equal (asked q)) there

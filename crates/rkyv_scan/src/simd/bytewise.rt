@@ -1,7 +1,7 @@
 //! The group of eight control bytes that compares each byte by itself.
 //!
 //! A match marks the equal bytes and no others. The mask has one flag for each index.
-ghost use Rattle.std.specs.Prelude.{◌≡◌, ℕ, Bool, false, slice_index_or};
+ghost use Rattle.std.specs.Prelude.{◌≡◌, ℕ, false};
 ghost use Rattle.std.specs.Iterator.{YieldsFirst, item_count};
 ghost use Rattle.rkyv_scan.specs.Groups.{flag_places, bytewise_kind, IsFirstFlag};
 ghost use Rattle.rkyv_scan.specs.Lemmas.Ascending.{flags_ascend};

@@ -8,7 +8,7 @@ ghost use Rattle.std.specs.Int.{w64, to_le_bytes};
 ghost use Rattle.rkyv_scan.specs.Groups.{mask_places, generic_kind};
 ghost use Rattle.rkyv_scan.specs.Lemmas.Ascending.{mask_ascends};
 ghost use Rattle.rkyv_scan.specs.Lemmas.KindLaws.{word_lawful};
-ghost use Rattle.std.proofs.Common.{refl, arith};
+ghost use Rattle.std.proofs.Common.{refl};
 
 use crate::simd::{GroupKind, Marks};
 use std::num::NonZeroU64;

@@ -6,7 +6,7 @@ ghost use Rattle.std.specs.Iterator.{YieldsFirst, item_count};
 ghost use Rattle.rkyv_scan.specs.Groups.{mask_places, lanes_kind};
 ghost use Rattle.rkyv_scan.specs.Lemmas.Ascending.{mask_ascends};
 ghost use Rattle.rkyv_scan.specs.Lemmas.KindLaws.{equal_lawful};
-ghost use Rattle.rkyv_scan.specs.Lemmas.HalfBits.{TellsEqual};
+ghost use Rattle.rkyv_scan.specs.Paired.{TellsEqual};
 ghost use Rattle.std.proofs.Common.{refl, arith};
 
 use crate::simd::{GroupKind, Marks};

@@ -1,25 +1,9 @@
 //! The group of sixteen control bytes that marks each half as the group of eight marks it.
 //!
 //! It compares sixteen bytes at once. The lookups of `rkyv_table` use it.
-ghost use Rattle.std.specs.Prelude.{
-  ◌≡◌,
-  ℕ,
-  ◌+◌,
-  ◌*◌,
-  ◌%◌,
-  ◌<◌,
-  ◌==◌,
-  List,
-  length,
-  slice_index,
-  bit_and,
-  bit_xor,
-};
-ghost use Rattle.std.specs.Int.{bit_at};
-ghost use Rattle.rkyv_scan.specs.Groups.{places_where, mask_places};
-ghost use Rattle.rkyv_scan.specs.Paired.{paired_kind, is_half_match_at};
+ghost use Rattle.std.specs.Prelude.{◌≡◌, ℕ, ◌+◌, ◌*◌, ◌%◌, ◌<◌, ◌==◌};
+ghost use Rattle.rkyv_scan.specs.Paired.{bits_after, chain, paired_kind};
 ghost use Rattle.rkyv_scan.specs.Lemmas.Paired.{paired_lawful};
-ghost use Rattle.rkyv_scan.specs.Lemmas.HalfBits.{bits_after, chain};
 ghost use Rattle.std.proofs.Common.{refl};
 
 use crate::simd::GroupKind;

@@ -3,7 +3,7 @@ use Rattle.std.specs.Prelude.{◌≡◌, ℕ, ◌+◌, ◌*◌, ◌%◌, ◌/◌
 use Rattle.std.specs.Prelude.{length, slice_index}
 use Rattle.std.specs.List.{All, Contains, IsDistinct, find}
 use Rattle.rkyv_scan.specs.Groups.{Kind, IsKind}
-use Rattle.rkyv_table.specs.Controls.Shown.{IsFullBucket}
+use Rattle.rkyv_table.specs.Controls.ControlBytes.{IsFullBucket}
 use Rattle.rkyv_table.specs.Controls.Numbers.{start, probe_capacity}
 use Rattle.rkyv_table.specs.Controls.Probe.{strides, shown}
 use Rattle.rkyv_table.specs.Controls.Placing.{Homes, Written, Accepted, walk, homes}

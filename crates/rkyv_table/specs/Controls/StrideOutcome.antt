@@ -12,12 +12,13 @@ abbrev pub IsMarked : ℕ → ℕ → List ℕ → ℕ → Type 0
 IsMarked p cap places b = (k : ℕ) × (k < length places) × (b ≡ (p + slice_index places k) % cap)
 
 -- `b`: bucket of a full control byte of the stride that begins at `p`
-abbrev pub IsShown : List ℕ → ℕ → ℕ → ℕ → Type 0
-IsShown stride p cap b = (q : ℕ) × (q < 16) × (slice_index stride q < 128) × (b ≡ (p + q) % cap)
+abbrev pub IsFullInStride : List ℕ → ℕ → ℕ → ℕ → Type 0
+IsFullInStride stride p cap b =
+    (q : ℕ) × (q < 16) × (slice_index stride q < 128) × (b ≡ (p + q) % cap)
 
 -- an accepted bucket is one of a full control byte of the stride
 abbrev pub IsShownIfAccepted : List ℕ → ℕ → ℕ → StrideOutcome → Type 0
-IsShownIfAccepted stride p cap (Accepted b) = IsShown stride p cap b
+IsShownIfAccepted stride p cap (Accepted b) = IsFullInStride stride p cap b
 IsShownIfAccepted stride p cap HasEmpty = ⊤
 IsShownIfAccepted stride p cap Continue = ⊤
 

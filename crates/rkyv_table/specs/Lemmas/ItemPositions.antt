@@ -94,24 +94,24 @@ bucket_holds_within s law b begin cap lo l i o h below full =
 module _ (w : Width) (size : ℕ) (b : List ℕ) (p begin : ℕ) (told : pos begin
     ≡ decode_begin w size b p) where
   -- the position of the control bytes
-  pub told_pos : controls_pos w b p ≡ begin + cap_at w b p * size
-  told_pos =
+  pub decoded_pos : controls_pos w b p ≡ begin + cap_at w b p * size
+  decoded_pos =
       let e : pos (begin + cap_at w b p * size) ≡ pos p +ℤ signed_at w b p =
       omega (arith, ints, told) in
       sym (ap unsigned_abs e)
 
-  pub told_controls : table_controls w b p ≡ controls_at size b begin (cap_at w b p)
-  told_controls = ap (λ z. slice_range b z (z + control_count (cap_at w b p))) told_pos
+  pub decoded_controls : table_controls w b p ≡ controls_at size b begin (cap_at w b p)
+  decoded_controls = ap (λ z. slice_range b z (z + control_count (cap_at w b p))) decoded_pos
 
   -- the position of an item
-  pub told_item : (i : ℕ) → i < cap_at w b p
+  pub decoded_item : (i : ℕ) → i < cap_at w b p
       → item_at w size b p i ≡ bucket_at size begin (cap_at w b p) i
-  told_item i h =
+  decoded_item i h =
       let cap = cap_at w b p in
       let e : cap ≡ (cap - (i + 1)) + (i + 1) = omega arith in
       let m : cap * size ≡ (cap - (i + 1)) * size + (i + 1) * size =
       ap (λ x. x * size) e ∙ add-mul (cap - (i + 1)) (i + 1) size in
-      ap (λ z. z - (i + 1) * size) told_pos ∙ omega (arith, m)
+      ap (λ z. z - (i + 1) * size) decoded_pos ∙ omega (arith, m)
 
 -- the buckets and the control bytes of a valid table whose header has buckets
 pub record HeldPart (w : Width) (s : ElementSpec) (b : List ℕ) (p lo hi l : ℕ) : Type 0 where
@@ -138,7 +138,7 @@ module _ (w : Width) (s : ElementSpec) (law : IsElement s) (b : List ℕ) (p lo 
       let told = t.part.begins in
       let full : slice_index (controls_at s.size b t.begin cap) i < 128 =
       subst (λ (xs : List ℕ). slice_index xs i
-      < 128) (told_controls w s.size b p t.begin told) walked.1 in
+      < 128) (decoded_controls w s.size b p t.begin told) walked.1 in
       let above = t.part.above in
       let ends = all_between s law (bucket_at s.size t.begin cap) b t.begin
       (walk (controls_at s.size b t.begin cap) cap) lo t.is.last above t.is.items in
@@ -147,7 +147,7 @@ module _ (w : Width) (s : ElementSpec) (law : IsElement s) (b : List ℕ) (p lo 
       let u = bucket_inside s.size t.begin cap i walked.0 in
       let e = t.ends in
       subst (λ q. HoldsWithin s b q lo t.begin t.begin × (t.begin ≤ q)
-      × (q + s.size ≤ l)) (sym (told_item w s.size b p t.begin told i walked.0)) (
+      × (q + s.size ≤ l)) (sym (decoded_item w s.size b p t.begin told i walked.0)) (
         record {
           lower = one.lower;
           rest = one.rest;

@@ -6,7 +6,7 @@ use Rattle.rkyv_base.specs.Bytes.{AgreeOn}
 use Rattle.rkyv_base.specs.Lemmas.Bytes.{agree_on_part}
 use Rattle.rkyv_base.specs.ElementSpec.{IsElement, ElementSpec}
 use Rattle.rkyv_table.specs.Controls.Numbers.{control_count}
-use Rattle.rkyv_table.specs.Lemmas.ItemPositions.{holds_at, told_pos}
+use Rattle.rkyv_table.specs.Lemmas.ItemPositions.{decoded_pos, holds_at}
 use Rattle.rkyv_table.specs.Lemmas.SameHeader.{cap_same, pos_same}
 use Rattle.rkyv_table.specs.Table.Header.{cap_at, controls_pos}
 use Rattle.rkyv_table.specs.Table.Layout.{TableHolds}
@@ -18,7 +18,7 @@ pub same_controls : (w : Width) (s : ElementSpec) → IsElement s → (b c : Lis
     → 0 < cap_at w b p → table_controls w b p ≡ table_controls w c p
 same_controls w s law b c p lo hi l o h fixed part some =
     let t = holds_at w s law b p lo hi l h some in
-    let at = told_pos w s.size b p t.begin t.part.begins in
+    let at = decoded_pos w s.size b p t.begin t.part.begins in
     let above = t.part.above in
     let ends = t.ends in
     let z = controls_pos w b p in

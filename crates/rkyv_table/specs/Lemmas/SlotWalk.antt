@@ -33,8 +33,8 @@ Tells {X = X} full b ss = ((i : ℕ) → slice_get ss i ≡ Some None → full (
 next_place : (b i : ℕ) → b + suc i ≡ (b + 1) + i
 next_place b i = omega arith
 
-first_place : (b : ℕ) → b + 0 ≡ b
-first_place b = omega arith
+first_slot : (b : ℕ) → b + 0 ≡ b
+first_slot b = omega arith
 
 tells_rest : {X : Type 0} (full : ℕ → Bool) (b : ℕ) (s : Option X) (ss : List (Option X))
     → Tells full b (s ∷ ss) → Tells full (b + 1) ss
@@ -48,10 +48,10 @@ filter_filled : {X : Type 0} (full : ℕ → Bool) (b : ℕ) (ss : List (Option 
     → filter full (range_with_len b (length ss)) ≡ filled_from b ss
 filter_filled full b [] t = refl
 filter_filled full b (None ∷ ss) t =
-    let e : full b ≡ false = ap full (sym (first_place b)) ∙ t.0 0 refl in
+    let e : full b ≡ false = ap full (sym (first_slot b)) ∙ t.0 0 refl in
     rw e (filter_filled full (b + 1) ss (tells_rest full b None ss t))
 filter_filled full b (Some x ∷ ss) t =
-    let e : full b ≡ true = ap full (sym (first_place b)) ∙ t.1 0 x refl in
+    let e : full b ≡ true = ap full (sym (first_slot b)) ∙ t.1 0 x refl in
     rw e (ap (λ (l : List ℕ). b ∷ l)
     (filter_filled full (b + 1) ss (tells_rest full b (Some x) ss t)))
 

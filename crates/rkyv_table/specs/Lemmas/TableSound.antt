@@ -90,7 +90,7 @@ module _ {X R : Type 0} (s : ElementSpec) (laws : IsElement s) (represents : Lis
 
     pub buckets_size : length t.buckets ≡ cap * s.size
     buckets_size = images_length s.size f (λ v r q o g. fl.size_exact v r q o g) slots t.resolvers z
-        t.buckets t.shown ∙ slots_size
+        t.buckets t.images ∙ slots_size
 
     pub controls_begin : z ≡ begin + cap * s.size
     controls_begin = t.at ∙ ap (λ k. begin + k) slots_size
@@ -119,12 +119,12 @@ module _ {X R : Type 0} (s : ElementSpec) (laws : IsElement s) (represents : Lis
         let at : begin + length slots * s.size ≡ z = sym t.at in
         let n : 0 + length slots ≡ cap = omega (arith, placed.slotted.count) in
         slots_sound s laws represents f fl c cap begin begin_aligned slots 0 p z t.part t.buckets
-        t.resolvers n t.made t.shown
+        t.resolvers n t.made t.images
         (occurs_front c p t.part (pad ++ (t.buckets ++ controls)) in_order)
         (occurs_front c begin t.buckets controls area) at (omega arith)
 
-    pub part_represents : IsPart s c cap (length pairs) p begin
-    part_represents = record {
+    pub part_valid : IsPart s c cap (length pairs) p begin
+    part_valid = record {
       controls = subst (Accepted cap (length pairs)) (sym controls_there) written_accepted;
       last = items.0;
       items = subst (λ is. AllHold s (bucket_at s.size begin cap) c begin is p items.0)
@@ -231,7 +231,7 @@ module _ {X R : Type 0} (w : Width) (kind : IsArchiveWord w) (s : ElementSpec) (
                     part
                     b sp;
               },
-              part_represents s laws represents f fl c p0 C pairs slots controls placed room r.pos
+              part_valid s laws represents f fl c p0 C pairs slots controls placed room r.pos
                   part b
                   sp,
               refl,

@@ -1,7 +1,7 @@
 -- The values of the items of an iterator.
 use Rattle.std.specs.Prelude.{List, map, MatchOption, Option, Some, None}
 
--- the pairs of the values of two halves
+-- each pair by its values. `key`, `value`: value of a first and of a second component
 abbrev pub lent_pairs : {BK BV A B : Type 0} → (BK → A) → (BV → B) → List (BK × BV) → List (A × B)
 lent_pairs key value items = map (λ item. (key item.0, value item.1)) items
 

@@ -58,9 +58,9 @@ module _ {T W : Type 0} {ts : Specs T} {wt : Words W} where
   table_strides kind t hash_of same = told_of_table (all_strides kind) t hash_of same
 
   -- `result`: result of the comparison for the items in buckets `i` and `j`
-  abbrev pub AnswersOf : (View T → View T → Bool → Type 0) → ArchivedHashTable T W ts wt → ℕ → ℕ
+  abbrev pub ComparesItems : (View T → View T → Bool → Type 0) → ArchivedHashTable T W ts wt → ℕ → ℕ
       → Bool → Type 0
-  AnswersOf post t i j result =
+  ComparesItems post t i j result =
       (x : View T) × (y : View T) × IsItemIn t i x × IsItemIn t j y × post x y result
 
   -- `result`: `true` if the item in the bucket is misplaced, if both functions depend only on

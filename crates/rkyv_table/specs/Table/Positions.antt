@@ -4,7 +4,7 @@ use Rattle.std.specs.Prelude.{slice_range, length, map}
 use Rattle.std.specs.Int.{Width}
 use Rattle.std.specs.Option.{option_map}
 use Rattle.rkyv_scan.specs.Groups.{Kind}
-use Rattle.rkyv_table.specs.Controls.Shown.{IsFullBucket}
+use Rattle.rkyv_table.specs.Controls.ControlBytes.{IsFullBucket}
 use Rattle.rkyv_table.specs.Controls.Finding.{end, found}
 use Rattle.rkyv_table.specs.Table.Header.{cap_at, controls_pos, len_at}
 use Rattle.rkyv_table.specs.Controls.Laws.{AreHashes}

@@ -11,16 +11,11 @@ use Rattle.rkyv_table.specs.Controls.Finding.{ReadsWithin}
 use Rattle.rkyv_table.specs.Table.Header.{cap_at, len_at}
 use Rattle.rkyv_table.specs.Controls.Laws.{IsUnderHash}
 use Rattle.rkyv_table.specs.Controls.Numbers.{probe_capacity}
-use Rattle.rkyv_table.specs.Table.Layout.{table_spec}
 use Rattle.rkyv_table.specs.declared.table.ArchivedHashTable.{ArchivedHashTable}
 use Rattle.rkyv_table.specs.Table.Positions.{IsWalked, WrittenAt, home_positions, item_at}
 use Rattle.rkyv_table.specs.Table.Positions.{lookup_end, pos_found}
 
 module _ {T W : Type 0} {ts : Specs T} {wt : Words W} where
-  -- the archive has a valid table at the position of the table
-  abbrev pub IsTable : ArchivedHashTable T W ts wt → Type 0
-  IsTable t = IsValidView (table_spec wt.word ts.spec) t.view
-
   -- the archive of the table
   abbrev pub table_bytes : ArchivedHashTable T W ts wt → List ℕ
   table_bytes t = bytes_of t.view

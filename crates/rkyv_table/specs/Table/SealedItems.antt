@@ -19,12 +19,12 @@ abbrev pub cursor_bytes : {T : Type 0} → RawIterSeal T → List ℕ
 cursor_bytes r = r.archive.now
 
 -- the number of items that remain
-abbrev pub items_left : {T : Type 0} → RawIterSeal T → ℕ
-items_left r = r.left
+abbrev pub cursor_len : {T : Type 0} → RawIterSeal T → ℕ
+cursor_len r = r.left
 
 -- the buckets that remain in a cursor over the table at `p`, in ascending order
-abbrev pub buckets_left : {T : Type 0} → Width → ℕ → RawIterSeal T → List ℕ
-buckets_left w p r = full_from (table_controls w r.archive.now p) r.cap r.next
+abbrev pub cursor_buckets_left : {T : Type 0} → Width → ℕ → RawIterSeal T → List ℕ
+cursor_buckets_left w p r = full_from (table_controls w r.archive.now p) r.cap r.next
 
 -- a cursor over the valid table at `p` of its archive, with the numbers of the table
 pub record IsSealIter {T : Type 0} (w : Width) (s : ElementSpec) (p : ℕ)
@@ -32,8 +32,8 @@ pub record IsSealIter {T : Type 0} (w : Width) (s : ElementSpec) (p : ℕ)
   where
     pub table : Viewable (table_spec w s) r.archive.now p
     pub cap : r.cap ≡ cap_at w r.archive.now p
-    pub place : 0 < r.cap → r.buckets_end ≡ controls_pos w r.archive.now p
-    pub left : r.left ≡ length (buckets_left w p r)
+    pub buckets_end : 0 < r.cap → r.buckets_end ≡ controls_pos w r.archive.now p
+    pub left : r.left ≡ length (cursor_buckets_left w p r)
 
 -- both cursors have the same reference and the same bytes
 pub record SameArchive {T : Type 0} (before after : RawIterSeal T) : Type 0 where
@@ -53,7 +53,7 @@ pub record TakesBucket {T : Type 0} (w : Width) (s : ElementSpec) (p : ℕ)
     (before after : RawIterSeal T)
     (q : ℕ) : Type 0 where
   pub bucket : ℕ
-  pub first : buckets_left w p before ≡ bucket ∷ buckets_left w p after
+  pub first : cursor_buckets_left w p before ≡ bucket ∷ cursor_buckets_left w p after
   pub item : IsItemAt w s before.archive.now p bucket q
   pub iter : IsSealIter w s p after
 
@@ -62,7 +62,8 @@ abbrev pub TakesPosition : {T : Type 0} → ElementSpec → RawIterSeal T → Op
     → Type 0
 TakesPosition s before result after =
     (w : Width) (p : ℕ) → IsSealIter w s p before
-    → MatchOption result ((buckets_left w p before ≡ []) × (buckets_left w p after ≡ [])
+    → MatchOption result ((cursor_buckets_left w p before ≡ [])
+    × (cursor_buckets_left w p after ≡ [])
     × IsSealIter w s p after) (TakesBucket w s p before after)
 
 -- the number of remaining items decreases by one with each item, and is unchanged at the end
@@ -74,16 +75,16 @@ CountsDown before result after =
 abbrev pub LendsFirst : {T : Type 0} → ElementSpec → RawIterSeal T → Option (Seal T) → Type 0
 LendsFirst s before result =
     (w : Width) (p : ℕ) → IsSealIter w s p before
-    → MatchOption result (buckets_left w p before ≡ [])
-    (λ x. (i : ℕ) × (rest : List ℕ) × (buckets_left w p before ≡ i ∷ rest)
+    → MatchOption result (cursor_buckets_left w p before ≡ [])
+    (λ x. (i : ℕ) × (rest : List ℕ) × (cursor_buckets_left w p before ≡ i ∷ rest)
     × IsItemAt w s before.archive.now p i (seal_pos x))
 
 -- the bucket and the position of the first remaining item of a cursor over a table
 abbrev pub FindsFirstLeft : {T : Type 0} → ElementSpec → RawIterSeal T → Option Place → Type 0
 FindsFirstLeft s r result =
     (w : Width) (p : ℕ) → IsSealIter w s p r
-    → MatchOption result (buckets_left w p r ≡ [])
-    (λ f. (buckets_left w p r ≡ f.bucket ∷ full_from (table_controls w r.archive.now p) r.cap
+    → MatchOption result (cursor_buckets_left w p r ≡ [])
+    (λ f. (cursor_buckets_left w p r ≡ f.bucket ∷ full_from (table_controls w r.archive.now p) r.cap
     (f.bucket + 1)) × IsItemAt w s r.archive.now p f.bucket f.at)
 
 -- the cursor has the reference and the bytes of the seal `a`
@@ -94,7 +95,7 @@ pub record LendsArchive {T U : Type 0} (a : ArchiveSeal U) (r : RawIterSeal T) :
 -- the cursor is at the same bucket, over the same reference, with any bytes
 pub record StaysThere {T : Type 0} (before after : RawIterSeal T) : Type 0 where
   pub reference : after.archive.ghost_name ≡ before.archive.ghost_name
-  pub place : after.buckets_end ≡ before.buckets_end
+  pub buckets_end : after.buckets_end ≡ before.buckets_end
   pub cap : after.cap ≡ before.cap
   pub next : after.next ≡ before.next
   pub left : after.left ≡ before.left
@@ -105,7 +106,7 @@ abbrev pub KeepsCursor : {T : Type 0} → ElementSpec → RawIterSeal T → ℕ 
 KeepsCursor s before q after =
     (w : Width) (p i : ℕ) → IsSealIter w s p before → IsItemAt w s before.archive.now p i q
     → KeepsTable w s before.archive.now after.archive.now p i × IsSealIter w s p after
-    × (buckets_left w p after ≡ buckets_left w p before)
+    × (cursor_buckets_left w p after ≡ cursor_buckets_left w p before)
 
 -- `write` can be called with the archive and each position at which an item fits
 abbrev pub MayWriteNext : {F T : Type 0} → (F → MutBor (List ℕ) → ℕ → Type 0) → ElementSpec

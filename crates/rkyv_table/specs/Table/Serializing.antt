@@ -104,15 +104,15 @@ pub record InputPlaced {X : Type 0} (yields : List (ℕ × X)
 module _ {X R : Type 0} (yields : List (ℕ × X) → Type 0) where
   module _ (len cap : ℕ) (s : ElementSpec) (f : Format X R) (o o' : Output) (limit : ℕ) where
     -- the bytes of the table of the input pairs were appended, with the first control byte at `z`
-    abbrev pub WroteFilled : ℕ → Type 0
-    WroteFilled z = (pairs : List (ℕ × X)) × (slots : List (Option X)) × (controls : List ℕ)
+    abbrev pub WroteNonempty : ℕ → Type 0
+    WroteNonempty z = (pairs : List (ℕ × X)) × (slots : List (Option X)) × (controls : List ℕ)
         × InputPlaced yields len cap slots controls pairs
         × (bytes : List ℕ) × Appended limit bytes o o'
         × TableBytes s f slots controls (end_of o) z bytes
 
     -- the items were not placed, and nothing was written; or else writing the input pairs failed
-    abbrev pub WriteFilledFails : {F : Type 0} → (ℕ → Type 0) → WriteError F → Type 0
-    WriteFilledFails other e = (PlacingFails len other e × (o' ≡ o))
+    abbrev pub WriteNonemptyFails : {F : Type 0} → (ℕ → Type 0) → WriteError F → Type 0
+    WriteNonemptyFails other e = (PlacingFails len other e × (o' ≡ o))
         ⊎ ((pairs : List (ℕ × X)) × (slots : List (Option X)) × (controls : List ℕ)
         × InputPlaced yields len cap slots controls pairs
         × WriteFails limit (TableNext s f slots controls (end_of o)) o o' e)
@@ -130,9 +130,9 @@ bucket_input input len cap = record { input = input; len = len; cap = cap }
 
 -- the input pairs of `given` are placed in its buckets and written, with items in the format
 -- `items`. The result is the position of the first control byte, or an error
-abbrev pub WritesFilled : {X R F : Type 0} → ℕ → ItemFormat X R → BucketInput X → Output → Output
+abbrev pub WritesNonempty : {X R F : Type 0} → ℕ → ItemFormat X R → BucketInput X → Output → Output
     → Result ℕ (WriteError F) → Type 0
-WritesFilled limit items given o o' result = MatchResult result
-    (WroteFilled given.input.yields given.len given.cap items.spec items.format o o' limit)
-    (WriteFilledFails given.input.yields given.len given.cap items.spec items.format o o' limit
+WritesNonempty limit items given o o' result = MatchResult result
+    (WroteNonempty given.input.yields given.len given.cap items.spec items.format o o' limit)
+    (WriteNonemptyFails given.input.yields given.len given.cap items.spec items.format o o' limit
     (given.input.yields_other_count given.len))

@@ -145,7 +145,7 @@ module _ {X R : Type 0} (s : ElementSpec) (f : Format X R) (slots : List (Option
     pub resolvers : List R
     pub buckets : List ℕ
     pub made : SlotParts f slots p part resolvers
-    pub shown : SlotImages s.size f slots resolvers z buckets
+    pub images : SlotImages s.size f slots resolvers z buckets
     pub at : z ≡ round_up (p + length part) s.align + length slots * s.size
     pub is : bytes ≡ part ++ (zeros (padding s.align (p + length part)) ++ (buckets ++ controls))
 

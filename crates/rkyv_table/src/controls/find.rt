@@ -5,11 +5,11 @@
 ghost use Rattle.std.specs.Prelude.{Bool, IfSome, List, drop, length, map, slice_index, take, true};
 ghost use Rattle.std.specs.Prelude.{ℕ, ◌%◌, ◌*◌, ◌+◌, ◌<◌, ◌^◌, ◌≡◌, ◌≤◌};
 ghost use Rattle.std.specs.List.{find};
-ghost use Rattle.rkyv_table.specs.Controls.Shown.{IsFullBucket};
+ghost use Rattle.rkyv_table.specs.Controls.ControlBytes.{IsFullBucket};
 ghost use Rattle.rkyv_table.specs.Controls.Finding.{AnswersAs, FindsBucket, candidates, lookup};
 ghost use Rattle.rkyv_table.specs.Controls.Finding.{shows_empty};
 ghost use Rattle.rkyv_table.specs.Controls.Placing.{Accepted};
-ghost use Rattle.rkyv_table.specs.Controls.StrideOutcome.{IsAcceptedBy, IsMarked, IsShown};
+ghost use Rattle.rkyv_table.specs.Controls.StrideOutcome.{IsAcceptedBy, IsFullInStride, IsMarked};
 ghost use Rattle.rkyv_table.specs.Controls.StrideOutcome.{IsShownIfAccepted, SeesFirst};
 
 use crate::controls::numbers::{bucket_of, start, tag};
@@ -110,12 +110,12 @@ fn scan<G: GroupKind, F: Fn(usize) -> bool>(
     requires fits { pos + 16 < 2 ^ 64 }
     requires tag { tag < 128 }
     requires below { (q : ℕ) → q < 16 → slice_index stride.now q < 128 → pos + q < 2 * cap }
-    requires callable { (b : ℕ) → IsShown stride.now pos cap b → F.pre cmp.now b }
+    requires callable { (b : ℕ) → IsFullInStride stride.now pos cap b → F.pre cmp.now b }
     ensures full { IsShownIfAccepted stride.now pos cap result }
     ensures accepted { IsAcceptedBy (F.post cmp.now) result }
-    ensures seen { (controls : List ℕ) → stride.now ≡ take 16 (drop pos controls)
-        → SeesFirst (F.post cmp.now) (IsShown stride.now pos cap)
-        (candidates G.kind controls cap tag pos) (shows_empty controls pos) result }
+    ensures seen { (bytes : List ℕ) → stride.now ≡ take 16 (drop pos bytes)
+        → SeesFirst (F.post cmp.now) (IsFullInStride stride.now pos cap)
+        (candidates G.kind bytes cap tag pos) (shows_empty bytes pos) result }
 {
     if G::WIDTH == 16 {
         let whole = G::read(stride, 0);

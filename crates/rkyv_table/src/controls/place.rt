@@ -3,8 +3,8 @@
 //! The home bucket of an item is the first empty bucket that its hash shows.
 ghost use Rattle.std.specs.Prelude.{IfErr, IfOk, IsOk, Some, [], length, ◌%◌, ◌+◌, ◌<◌, ◌≡◌, ◌≤◌};
 ghost use Rattle.std.specs.List.{find};
-ghost use Rattle.rkyv_table.specs.Controls.Shown.{HasRoom, empty_place, fresh_controls};
-ghost use Rattle.rkyv_table.specs.Controls.Shown.{is_empty_at, with_control};
+ghost use Rattle.rkyv_table.specs.Controls.ControlBytes.{HasRoom, empty_place, fresh_controls};
+ghost use Rattle.rkyv_table.specs.Controls.ControlBytes.{is_empty_at, with_control};
 ghost use Rattle.rkyv_table.specs.Controls.Numbers.{tag};
 ghost use Rattle.rkyv_table.specs.Controls.Placing.{IsWrapped, Written};
 ghost use Rattle.rkyv_table.specs.Controls.Probe.{shown};

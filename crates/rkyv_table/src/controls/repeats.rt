@@ -6,7 +6,7 @@ ghost use Rattle.rkyv_table.specs.Controls.Repeating.{FirstUnwrapped, IsWrappedA
 
 // Returns `true` if the control byte at an index from `cap` on is as it must be.
 #[inline]
-fn is_wrapped(controls: &[u8], cap: usize, place: usize) -> bool
+fn is_wrapped_at(controls: &[u8], cap: usize, place: usize) -> bool
     requires from { cap ≤ place }
     requires inside { place < length controls.now }
     ensures { IsTrue result ↔ IsWrappedAt cap controls.now place }
@@ -36,7 +36,7 @@ pub fn check_wrapped(controls: &[u8], cap: usize) -> Result<(), usize>
     ensures fails { IfErr result (FirstUnwrapped cap controls.now) }
 {
     for place in cap..controls.len() {
-        if !is_wrapped(controls, cap, place) {
+        if !is_wrapped_at(controls, cap, place) {
             return Err(place);
         }
     }

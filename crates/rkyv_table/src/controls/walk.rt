@@ -30,7 +30,7 @@ impl<'a, G: GroupKind> Model for Walk<'a, G> {
 }
 
 // A group of empty control bytes.
-static NO_CONTROLS: [u8; MAX_GROUP_WIDTH] = [0xff; MAX_GROUP_WIDTH];
+static EMPTY_GROUP: [u8; MAX_GROUP_WIDTH] = [0xff; MAX_GROUP_WIDTH];
 
 impl<G: GroupKind> Walk<'static, G> {
     /// Returns a walk over no buckets.
@@ -38,7 +38,7 @@ impl<G: GroupKind> Walk<'static, G> {
     pub fn empty() -> Walk<'static, G>
         ensures { result ≡ [] }
     {
-        Walk::new(&NO_CONTROLS, 0)
+        Walk::new(&EMPTY_GROUP, 0)
     }
 }
 

@@ -27,7 +27,7 @@ pub(crate) fn write_table<W: Width, S: Writer, U: Serialize<S, W>, X: Lend<U>>(
     serializer: &mut S,
 ) -> WriteResult<u64, S>
     requires empty { resolvers.items ≡ [] }
-    requires places { filled slots.now ≤ vec_capacity resolvers }
+    requires resolvers { filled slots.now ≤ vec_capacity resolvers }
     requires room { length bucket.old ≡ U.Archived.spec.size }
     ensures { WritesSlots W.LIMIT (item_format U.Archived.spec X.lent U.format)
         (placed_slots slots.now controls.now)

@@ -6,7 +6,7 @@
 //!
 //! A lookup in an untrusted table may read every group of its control bytes once. In any table
 //! it reads at most ceil(capacity / 16) strides.
-ghost use Rattle.std.specs.Prelude.{◌^◌, ◌≡◌, ◌≤◌};
+ghost use Rattle.std.specs.Prelude.{◌^◌, ◌≤◌};
 ghost use Rattle.rkyv_base.specs.declared.view.View.{View};
 ghost use Rattle.rkyv_scan.specs.Groups.{generic_kind};
 ghost use Rattle.rkyv_table.specs.Table.Reading.{CountsStrides, FindsItem, FindsItemPos};
@@ -19,7 +19,7 @@ use rkyv_base::view::{View, found_pos};
 use rkyv_base::width::Width;
 use rkyv_scan::simd::{GroupKind, paired};
 
-// Every lookup is one call of `find_by`.
+// Every lookup of this module is one call of `find_by`.
 impl<'a, T: Element, W: Width> ArchivedHashTable<'a, T, W> {
     // Returns an item that the comparison accepts, by groups of the kind `G`, or `None`, and counts
     // the strides it reads.

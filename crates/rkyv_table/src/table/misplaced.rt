@@ -5,7 +5,7 @@
 ghost use Rattle.std.specs.Prelude.{IfSome, false, not, true, ◌+◌, ◌<◌, ◌^◌, ◌≡◌, ◌≤◌, ◌⊎◌};
 ghost use Rattle.rkyv_scan.specs.Groups.{generic_kind};
 ghost use Rattle.rkyv_table.specs.Table.Misplaced.{is_answer};
-ghost use Rattle.rkyv_table.specs.Table.MisplacedIn.{AnswersOf, CountsMisplaced, CountsOwn};
+ghost use Rattle.rkyv_table.specs.Table.MisplacedIn.{ComparesItems, CountsMisplaced, CountsOwn};
 ghost use Rattle.rkyv_table.specs.Table.MisplacedIn.{CountsUpTo, MayCompare, ReadsUpTo};
 ghost use Rattle.rkyv_table.specs.Table.MisplacedIn.{TellsMisplaced, table_len};
 ghost use Rattle.rkyv_table.specs.Table.Reading.{IsFullIn, IsItemIn, MayAsk};
@@ -18,7 +18,7 @@ use rkyv_base::width::Width;
 
 /// Returns `true` if a lookup found another bucket, or none.
 #[inline]
-pub fn is_in_another_bucket(bucket: usize, found: Option<usize>) -> bool
+pub fn finds_another_or_none(bucket: usize, found: Option<usize>) -> bool
     ensures { result ≡ not (is_answer bucket found) }
 {
     match found {
@@ -73,11 +73,11 @@ impl<'a, T: Element, W: Width> ArchivedHashTable<'a, T, W> {
                 requires full { IsFullIn self bucket }
                 requires other { IsFullIn self other }
                 requires comparable { MayCompare (S.pre same.now) self }
-                ensures { AnswersOf (S.post same.entry.now) self.entry bucket other result }
+                ensures { ComparesItems (S.post same.entry.now) self.entry bucket other result }
             { same(self.item(bucket), self.item(other)) },
             strides,
         );
-        is_in_another_bucket(bucket, found)
+        finds_another_or_none(bucket, found)
     }
 
     /// Returns the number of items that a lookup of their own doesn't find.

@@ -30,9 +30,9 @@ ghost use Rattle.rkyv_table.specs.Table.SealedItems.{
   StepsAndWrites,
   TakesPosition,
   WrittenBy,
-  buckets_left,
+  cursor_buckets_left,
   cursor_bytes,
-  items_left,
+  cursor_len,
 };
 ghost use Rattle.rkyv_table.specs.Table.Bare.{LendsFound, MayAskOf, table_in};
 ghost use Rattle.rkyv_table.specs.Table.RawItems.{pos_before};
@@ -105,7 +105,7 @@ impl<'a, T: Element> RawIterSeal<'a, T> {
     /// Returns the number of items that remain.
     #[inline]
     pub fn len(&self) -> usize
-        ensures { result ≡ items_left self.now }
+        ensures { result ≡ cursor_len self.now }
     {
         self.left
     }
@@ -113,7 +113,7 @@ impl<'a, T: Element> RawIterSeal<'a, T> {
     // Returns the first item that remains, or `None`.
     #[inline]
     fn first(&self) -> Option<Place>
-        ensures some { IfSome result (λ _. 0 < items_left self.now) }
+        ensures some { IfSome result (λ _. 0 < cursor_len self.now) }
         ensures below { IfSome result (λ f. f.bucket < self.now.cap) }
         ensures inside { IfSome result (λ f. f.at + T.spec.size ≤ length (cursor_bytes self.now)) }
         ensures first { FindsFirstLeft T.spec self.now result }
@@ -329,10 +329,10 @@ impl<'a, T: Element, W: Width> ArchivedHashTable<'a, T, W> {
         requires table { IsTableSeal W.word T.spec this }
         ensures archive { LendsArchive this.entry result }
         ensures iter { IsSealIter W.word T.spec (pos_in this.entry) result }
-        ensures buckets { buckets_left W.word (pos_in this.entry) result
+        ensures buckets { cursor_buckets_left W.word (pos_in this.entry) result
             ≡ walk (table_controls W.word (archive_in this.entry) (pos_in this.entry))
             (cap_at W.word (archive_in this.entry) (pos_in this.entry)) }
-        ensures count { items_left result
+        ensures count { cursor_len result
             ≡ len_at W.word (archive_in this.entry) (pos_in this.entry) }
     {
         let (archive, pos) = this.into_parts();
@@ -365,9 +365,9 @@ impl<'a, T: Element, W: Width> ArchivedHashTable<'a, T, W> {
         ensures reference { result.archive.ghost_name ≡ archive.entry.ghost_name }
         ensures bytes { cursor_bytes result ≡ archive.old }
         ensures iter { IsSealIter W.word T.spec pos result }
-        ensures buckets { buckets_left W.word pos result
+        ensures buckets { cursor_buckets_left W.word pos result
             ≡ walk (table_controls W.word archive.old pos) (cap_at W.word archive.old pos) }
-        ensures count { items_left result ≡ len_at W.word archive.old pos }
+        ensures count { cursor_len result ≡ len_at W.word archive.old pos }
     {
         let header = ArchivedHashTable::<T, W>::of(View::new(&*archive, pos)).header;
         let (buckets_end, cap, left) = (header.controls_pos, header.cap, header.len);

@@ -10,7 +10,7 @@ ghost use Rattle.std.specs.Prelude.{◌≡◌, ◌+◌, ◌^◌, ◌<◌, ◌≤
 ghost use Rattle.std.specs.Prelude.{replicate, vec_capacity};
 ghost use Rattle.rkyv_table.specs.Controls.Numbers.{control_count};
 ghost use Rattle.rkyv_table.specs.Table.Input.{from_both, from_iter};
-ghost use Rattle.rkyv_table.specs.Table.Serializing.{WritesFilled, WritesTable, bucket_input};
+ghost use Rattle.rkyv_table.specs.Table.Serializing.{WritesNonempty, WritesTable, bucket_input};
 ghost use Rattle.rkyv_table.specs.Table.Serializing.{table_input};
 ghost use Rattle.rkyv_table.specs.Table.Slots.{item_format};
 
@@ -82,7 +82,7 @@ fn serialize_nonempty<
     requires ready { H.ready given }
     requires below { len < cap }
     requires fits { cap ≤ W.MAX_CAPACITY }
-    ensures { WritesFilled W.LIMIT (item_format U.Archived.spec X.lent U.format)
+    ensures { WritesNonempty W.LIMIT (item_format U.Archived.spec X.lent U.format)
         (bucket_input (H.input given) len cap)
         (S.output serializer.old) (S.output serializer.new) result }
 {

@@ -1,7 +1,7 @@
 //! The input of a table: an iterator of pairs, or one of items and one of hashes.
 
 ghost use Rattle.std.specs.Prelude.{◌≡◌, ℕ, ◌<◌, [], MatchResult, None, replicate};
-ghost use Rattle.rkyv_table.specs.Controls.Shown.{fresh_controls};
+ghost use Rattle.rkyv_table.specs.Controls.ControlBytes.{fresh_controls};
 ghost use Rattle.rkyv_table.specs.Table.Input.{Input, TakesItems, from_both, from_iter};
 
 use crate::table::take::{expect_none, take_pairs};

@@ -5,7 +5,7 @@
 ghost use Rattle.std.specs.Prelude.{◌≡◌, ℕ, ◌%◌, ◌+◌, ◌<◌, ◌∷◌, ◌++◌, List, []};
 ghost use Rattle.std.specs.Prelude.{MatchResult, None, Some, replicate, IfSome, length, slice_set};
 ghost use Rattle.std.specs.Iterator.{Drains};
-ghost use Rattle.rkyv_table.specs.Controls.Shown.{fresh_controls};
+ghost use Rattle.rkyv_table.specs.Controls.ControlBytes.{fresh_controls};
 ghost use Rattle.rkyv_table.specs.Table.Counting.{YieldsOtherCount};
 ghost use Rattle.rkyv_table.specs.Table.Input.{TakesItems, from_iter};
 ghost use Rattle.rkyv_table.specs.Table.PlacedItems.{HasPlace, Placed};
@@ -72,11 +72,11 @@ pub(crate) fn take_pairs<G: GroupKind, X: Drop, I: Iterator<Item = (u64, X)>>(
     ensures { TakesItems (from_iter I.next_gives pairs) len cap slots.new controls.new result }
 {
     let mut rest = pairs;
-    let modulus = Reciprocal::new(cap as u64);
+    let reciprocal = Reciprocal::new(cap as u64);
     for count in 0..len {
         match next_item(&mut rest) {
             Some((hash, item)) => {
-                let start = modulus.rest(hash) as usize;
+                let start = reciprocal.rest(hash) as usize;
                 place_item::<G, X>(controls, slots, cap, start, hash, item);
             }
             None => return Err(count),

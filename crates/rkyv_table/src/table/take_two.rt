@@ -3,7 +3,7 @@
 //! The number of items is counted up to one more than claimed, and then that of hashes.
 
 ghost use Rattle.std.specs.Prelude.{◌≡◌, ◌+◌, ◌<◌, ◌≤◌, ◌^◌, None, replicate};
-ghost use Rattle.rkyv_table.specs.Controls.Shown.{fresh_controls};
+ghost use Rattle.rkyv_table.specs.Controls.ControlBytes.{fresh_controls};
 ghost use Rattle.rkyv_table.specs.Table.Counting.{CountedOn};
 ghost use Rattle.rkyv_table.specs.Table.Input.{TakesItems, from_both};
 
@@ -49,21 +49,21 @@ pub(crate) fn take_two<G: GroupKind, X: Drop, I: Iterator<Item = X>, J: Iterator
         controls.new result }
 {
     let mut rest = items;
-    let mut marks = hashes;
-    let modulus = Reciprocal::new(cap as u64);
+    let mut rest_hashes = hashes;
+    let reciprocal = Reciprocal::new(cap as u64);
     for count in 0..len {
         match next_item(&mut rest) {
-            Some(item) => match next_item(&mut marks) {
+            Some(item) => match next_item(&mut rest_hashes) {
                 Some(hash) => {
-                    let start = modulus.rest(hash) as usize;
+                    let start = reciprocal.rest(hash) as usize;
                     place_item::<G, X>(controls, slots, cap, start, hash, item);
                 }
                 None => {
-                    let exactly = count_rest(rest, count + 1, len);
-                    if exactly == len {
+                    let count_of_items = count_rest(rest, count + 1, len);
+                    if count_of_items == len {
                         return Err(count);
                     }
-                    return Err(exactly);
+                    return Err(count_of_items);
                 }
             },
             None => return Err(count),
@@ -73,7 +73,7 @@ pub(crate) fn take_two<G: GroupKind, X: Drop, I: Iterator<Item = X>, J: Iterator
         Some(_) => return Err(len + 1),
         None => {}
     }
-    match next_item(&mut marks) {
+    match next_item(&mut rest_hashes) {
         Some(_) => Err(len + 1),
         None => Ok(()),
     }

@@ -138,9 +138,9 @@ pub(crate) fn verify_by<G: GroupKind, W: Width, T: Element>(
         return Err(VerifyError::InvalidLength { len, cap });
     }
     let size = T::size();
-    let told = decode_begin(pos, header, size);
+    let decoded_begin = decode_begin(pos, header, size);
     let align = T::align() as u64;
-    let begin = part_in(told, part_size(header.cap, size), align, range)?;
+    let begin = part_in(decoded_begin, part_size(header.cap, size), align, range)?;
     let end = check_part::<G, T>(bytes, begin, cap, len, range.lo)?;
     Ok(PartRange {
         lo: end,

@@ -5,5 +5,5 @@ use Rattle.bench_calls.proofs.numbers.hash_u32.Goals as goal
 
 pub returns : goal.returns
 returns c =
-    let exactly = c.hash_total.ensures in
-    exactly.2 ∙ counted_slice number_hash exactly.0 c.iter.result exactly.1 ∙ ap (total number_hash) c.iter.ensures.rest
+    let counts = c.hash_total.ensures in
+    counts.2 ∙ counted_slice number_hash counts.0 c.iter.result counts.1 ∙ ap (total number_hash) c.iter.ensures.rest

@@ -8,6 +8,6 @@ use Rattle.bench_calls.proofs.texts.hash_text.Goals as goal
 
 pub returns : goal.returns
 returns c =
-    let exactly = c.hash_total.ensures in
+    let counts = c.hash_total.ensures in
     let all : texts_left c.cut.result ≡ texts c.args.bytes.now c.args.ends.now = cc (c.cut.ensures.bytes, c.cut.ensures.from, c.cut.ensures.ends) in
-    exactly.2 ∙ counted_all (YieldsFirstBy bytes_of texts_left) bytes_of texts_left (λ s x t h. h) (λ s t h. h.0) text_hash exactly.0 c.cut.result exactly.1 ∙ ap (total text_hash) all
+    counts.2 ∙ counted_all (YieldsFirstBy bytes_of texts_left) bytes_of texts_left (λ s x t h. h) (λ s t h. h.0) text_hash counts.0 c.cut.result counts.1 ∙ ap (total text_hash) all

@@ -1,12 +1,12 @@
 use Rattle.std.specs.Int.{w32}
 use Rattle.rkyv_base.specs.Entry.{entry_spec}
 use Rattle.rkyv_table.specs.Table.Positions.{item_positions}
-use Rattle.bench_calls.specs.Archives.{number_spec, root, short_text}
+use Rattle.bench_calls.specs.Archives.{narrow_text_spec, number_spec, root}
 use Rattle.bench_calls.specs.Totals.{text_weight}
 use Rattle.bench_calls.proofs.Walks.{walk_counted}
 use Rattle.bench_calls.proofs.texts.walk_text.Goals as goal
 
 pub returns : goal.returns
 returns c =
-    let positions = item_positions w32 (entry_spec short_text number_spec).size in
-    walk_counted short_text text_weight positions c.map_in.result.view c.args.archive (root c.args.archive.now) c.iter.result c.pair_total.result c.map_in.ensures.at c.iter.ensures.archive c.iter.ensures.positions c.pair_total.ensures
+    let positions = item_positions w32 (entry_spec narrow_text_spec number_spec).size in
+    walk_counted narrow_text_spec text_weight positions c.map_in.result.view c.args.archive (root c.args.archive.now) c.iter.result c.pair_total.result c.map_in.ensures.at c.iter.ensures.archive c.iter.ensures.positions c.pair_total.ensures

@@ -1,5 +1,5 @@
 use Rattle.std.proofs.Common.{ℕ, MatchResult, subst}
-use Rattle.rkyv_base.specs.Root.{ArchiveOf, ArchiveRefused}
+use Rattle.rkyv_base.specs.Root.{ArchiveOf, ToBytesFails}
 use Rattle.example_message.specs.Message.{IsMessage, IsMessageOf, MessageFails, Parts, PartsRepresent, Represents, header_spec, parts_format}
 use Rattle.rkyv_collections.proofs.FoundValues.{on_ok}
 use Rattle.example_message.proofs.message.archive.Goals as goal
@@ -8,7 +8,7 @@ pub returns-clause-whole : goal.returns-clause-whole
 unfolding IsMessageOf MessageFails
 returns-clause-whole c =
     let told : ℕ × ℕ → Parts → Type 0 = λ factor parts. MatchResult c.to_bytes.result (λ message. ArchiveOf 4_294_967_295 header_spec (PartsRepresent factor) (parts_format factor) parts message.items)
-    (ArchiveRefused 4_294_967_295 header_spec (parts_format factor) parts) in
+    (ToBytesFails 4_294_967_295 header_spec (parts_format factor) parts) in
     let list = c.new-list in
     subst (λ factor. told factor c.args.parts.now) list.ensures.load_factor (subst (λ parts. told list.result.load_factor parts) list.ensures.pairs c.to_bytes.ensures)
 

@@ -3,7 +3,7 @@ use Rattle.std.specs.List.{filter_map}
 use Rattle.std.specs.Str.Iter.{lines_rest, lines_steps}
 use Rattle.std.specs.Str.Lines.{lines}
 use Rattle.std.proofs.lemmas.Iterator.Splits.{YieldsList-from_lines}
-use Rattle.example_symbols.specs.Lines.{seen, symbol_of, symbols_of}
+use Rattle.example_symbols.specs.Lines.{symbol_of, symbols_of, with_name_bytes}
 use Rattle.example_symbols.proofs.Turns.{item_came, kept_on, none_came}
 use Rattle.example_symbols.proofs.lines.parse.Goals as goal
 
@@ -11,7 +11,7 @@ pub loop-line-init : goal.loop-line-init
 loop-line-init c = (
   lines c.args.text.now,
   YieldsList-from_lines c.args.text.now (ap (λ s. lines_rest s) c.into_iter-line-iterator.ensures.into_iter_gives ∙ c.lines-line-items.ensures.rest),
-  ap (λ kept. map seen kept ++ symbols_of c.args.text.now) c.new-symbols.ensures.items,
+  ap (λ kept. map with_name_bytes kept ++ symbols_of c.args.text.now) c.new-symbols.ensures.items,
 )
 
 pub loop-line-preserved : goal.loop-line-preserved
@@ -24,4 +24,4 @@ pub returns : goal.returns
 returns c =
     let left = c.loop-line.invariant in
     let none = none_came lines_steps (λ line. line.now) _ _ left.0 left.1 c.in-None.ensures.steps in
-    sym (append-nil _) ∙ ap (λ rest. map seen c.loop-line.symbols.items ++ filter_map symbol_of rest) (sym none) ∙ left.2
+    sym (append-nil _) ∙ ap (λ rest. map with_name_bytes c.loop-line.symbols.items ++ filter_map symbol_of rest) (sym none) ∙ left.2

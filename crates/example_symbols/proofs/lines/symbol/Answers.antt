@@ -5,19 +5,19 @@ use Rattle.std.specs.Str.Parse.{IsNumeral, digits_value}
 use Rattle.std.proofs.lemmas.Bool.Decides.{nat_tests}
 use Rattle.std.proofs.lemmas.Grind.{common_steps}
 use Rattle.std.proofs.lemmas.Str.{IsCharBoundary-after_ascii}
-use Rattle.example_symbols.specs.Lines.{tells_symbol}
+use Rattle.example_symbols.specs.Lines.{has_symbol}
 use Rattle.example_symbols.proofs.Digits.{address_told, told}
 use Rattle.example_symbols.proofs.lines.symbol.Goals as goal
 
 pub range_from-requires : goal.range_from-requires
 range_from-requires c = λ _.
-    let h : tells_symbol c.args.line.now ≡ true = grind (arith, nat_tests) in
+    let h : has_symbol c.args.line.now ≡ true = grind (arith, nat_tests) in
     let is = told c.args.line.now h in
     IsCharBoundary-after_ascii c.args.line.now 18 c.utf8.line (omega arith) (omega arith)
 
 pub returns-in-Err : goal.returns-in-Err
 returns-in-Err c =
-    let h : tells_symbol c.args.line.now ≡ true = grind (arith, nat_tests) in
+    let h : has_symbol c.args.line.now ≡ true = grind (arith, nat_tests) in
     let is = told c.args.line.now h in
     let digits : list_all is_ascii_hexdigit c.range.result.now ≡ true = grind (arith, common_steps) in
     let sixteen : length c.range.result.now ≡ 16 = grind (arith, common_steps) in

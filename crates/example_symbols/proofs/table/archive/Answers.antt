@@ -1,5 +1,5 @@
 use Rattle.std.proofs.Common.{ℕ, MatchResult, subst}
-use Rattle.rkyv_base.specs.Root.{ArchiveOf, ArchiveRefused}
+use Rattle.rkyv_base.specs.Root.{ArchiveOf, ToBytesFails}
 use Rattle.example_symbols.specs.Table.{IsTable, IsTableOf, TableFails, Represents, Symbols, SymbolsRepresent, header_spec, symbols_format}
 use Rattle.rkyv_collections.proofs.FoundValues.{on_ok}
 use Rattle.example_symbols.proofs.table.archive.Goals as goal
@@ -8,7 +8,7 @@ pub returns-clause-whole : goal.returns-clause-whole
 unfolding IsTableOf TableFails
 returns-clause-whole c =
     let told : ℕ × ℕ → Symbols → Type 0 = λ factor symbols. MatchResult c.to_bytes.result (λ table. ArchiveOf 4_294_967_295 header_spec (SymbolsRepresent factor) (symbols_format factor) symbols table.items)
-    (ArchiveRefused 4_294_967_295 header_spec (symbols_format factor) symbols) in
+    (ToBytesFails 4_294_967_295 header_spec (symbols_format factor) symbols) in
     let list = c.new-list in
     subst (λ factor. told factor c.args.symbols.now) list.ensures.load_factor (subst (λ symbols. told list.result.load_factor symbols) list.ensures.pairs c.to_bytes.ensures)
 

@@ -3,11 +3,11 @@ use Rattle.rkyv_table.specs.Table.Decoded.{IsDecoded}
 use Rattle.rkyv_collections.specs.Map.MapSpec.{map_spec}
 use Rattle.rkyv_table.proofs.Moved.{moved}
 use Rattle.ffi_calls.specs.Archives.{root}
-use Rattle.ffi_calls.proofs.First.{view_represents}
+use Rattle.ffi_calls.proofs.First.{viewable_at_view}
 use Rattle.ffi_calls.proofs.archives.header_of.Goals as goal
 
 pub of-requires : goal.of-requires
-of-requires g c = view_represents (map_spec g.W.Word.word g.K.HasSpec.spec g.V.HasSpec.spec) c.new.result c.args.archive c.root_of-root.result c.new.ensures.0 c.new.ensures.1 c.root_of-root.ensures.viewable
+of-requires g c = viewable_at_view (map_spec g.W.Word.word g.K.HasSpec.spec g.V.HasSpec.spec) c.new.result c.args.archive c.root_of-root.result c.new.ensures.0 c.new.ensures.1 c.root_of-root.ensures.viewable
 
 pub returns : goal.returns
 returns g c =

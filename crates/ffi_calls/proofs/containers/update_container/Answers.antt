@@ -5,7 +5,7 @@ use Rattle.rkyv_container.proofs.HeaderBytes.{header_length}
 use Rattle.ffi_calls.proofs.containers.update_container.Goals as goal
 
 pub returns-in-Err : goal.returns-in-Err
-returns-in-Err c = inr (inl (c.in-Err.error, (c.in-Err.ensures.err c.in-Err.error).0 refl, c.container_refusal.ensures, refl))
+returns-in-Err c = inr (inl (c.in-Err.error, (c.in-Err.ensures.err c.in-Err.error).0 refl, c.container_status.ensures, refl))
 
 pub overflow_sub-bytes : goal.overflow_sub-bytes
 overflow_sub-bytes c = header_length c.in-Ok.header c.args.bytes.now ((c.in-Ok.ensures.ok c.in-Ok.header).0 refl)

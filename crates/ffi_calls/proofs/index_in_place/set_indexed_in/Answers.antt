@@ -46,7 +46,7 @@ returns-clause-sets g c =
     let done : ℕ = 0 in
     let Told : Option ℕ → Type 0 = λ place. MatchOption (option_map (value_pos_at m) place) ((done ≡ 1) × (set.new.archive ≡ b)) (λ q. (done ≡ 0) × (set.new.archive ≡ with_value e b q c.in-Some.number)) in
     let told = subst Told c.in-Some-index_found_in.ensures.found (refl, written) in
-    inr (c.in-Some.ensures.read.0, (c.in-Some.number, c.in-Some.ensures.told, told))
+    inr (c.in-Some.ensures.read.0, (c.in-Some.number, c.in-Some.ensures.exact, told))
 
 pub returns-clause-listed : goal.returns-clause-listed
 returns-clause-listed g c = λ factor pairs represents.
@@ -56,13 +56,13 @@ returns-clause-listed g c = λ factor pairs represents.
     let b = c.args.archive.now in
     let set = c.set_value_at in
     let i = c.in-Some-index_found_in.index in
-    let Related : List ℕ → ℕ → List (g.row.A.Denot × g.row.V.Denot) → Type 0 = λ d r ps. IndexRepresents w k v g.K.Represents.represents (ScalarRepresents g.V.Scalar.encoding) (hash_at (fx_hasher low_halves) g.K.KeyElement.key_calls) factor d r ps in
+    let Represents : List ℕ → ℕ → List (g.row.A.Denot × g.row.V.Denot) → Type 0 = λ d r ps. IndexRepresents w k v g.K.Represents.represents (ScalarRepresents g.V.Scalar.encoding) (hash_at (fx_hasher low_halves) g.K.KeyElement.key_calls) factor d r ps in
     let at = c.index_root_of-root.ensures.at in
     let same : length set.new.archive ≡ length b = omega (arith, set.auto.archive) in
     let first = c.in-Some-index_found_in.ensures.first factor pairs represents in
-    let after = set.ensures.listed factor pairs first.0.0 (subst (λ p. Related b p pairs) (sym at) represents) first.0.1 in
+    let after = set.ensures.listed factor pairs first.0.0 (subst (λ p. Represents b p pairs) (sym at) represents) first.0.1 in
     let root_after = at ∙ ap (λ n. n - (index_map w k v).size) (sym same) in
-    inr (inr (i, first, refl, (first.0.0, c.in-Some.number, first.0.1, c.in-Some.ensures.told, subst (λ p. Related set.new.archive p (slice_set pairs i (first.0.0.0, c.in-Some.number))) root_after after)))
+    inr (inr (i, first, refl, (first.0.0, c.in-Some.number, first.0.1, c.in-Some.ensures.exact, subst (λ p. Represents set.new.archive p (slice_set pairs i (first.0.0.0, c.in-Some.number))) root_after after)))
 
 pub returns-in-None-index_found_in-clause-listed : goal.returns-in-None-index_found_in-clause-listed
 returns-in-None-index_found_in-clause-listed g c = λ factor pairs represents. inr (inl (c.in-None-index_found_in.ensures.first factor pairs represents, refl))

@@ -8,4 +8,4 @@ returns-in-Ok-to_bytes_in g c = (c.in-Ok.pairs.items, c.in-Ok.ensures, c.in-Ok-t
 
 pub returns : goal.returns
 unfolding IndexFails
-returns g c = inr (c.in-Ok.pairs.items, c.in-Err-to_bytes_in.error, c.in-Ok.ensures, c.in-Err-to_bytes_in.ensures, c.write_refusal.ensures)
+returns g c = inr (c.in-Ok.pairs.items, c.in-Err-to_bytes_in.error, c.in-Ok.ensures, c.in-Err-to_bytes_in.ensures, c.write_status.ensures)

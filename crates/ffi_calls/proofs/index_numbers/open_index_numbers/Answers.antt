@@ -5,25 +5,25 @@ use Rattle.ffi_calls.specs.Keys.{NumberKey}
 use Rattle.ffi_calls.proofs.Forms.{at_form}
 use Rattle.ffi_calls.proofs.index_numbers.open_index_numbers.Goals as goal
 
-pub returns-in-true-true-clause-told : goal.returns-in-true-true-clause-told
-returns-in-true-true-clause-told g c =
+pub returns-in-true-true-clause-status : goal.returns-in-true-true-clause-status
+returns-in-true-true-clause-status g c =
     let k : NumberKey _ = record { eq = g.K.PartialEq.eq; spec = g.K.HasSpec.spec; encoding = g.K.Scalar.encoding; call = g.K.ScalarKey.call } in
-    at_form (λ f. Opens (limit_of f.wide) (number_index k f) c.args.archive.now c.open_index.result) c.args.form c.in-true-true.is-0 c.in-true-true.is-1 c.open_index.ensures.told
+    at_form (λ f. Opens (limit_of f.wide) (number_index k f) c.args.archive.now c.open_index.result) c.args.form c.in-true-true.is-0 c.in-true-true.is-1 c.open_index.ensures.status
 
-pub returns-in-true-false-clause-told : goal.returns-in-true-false-clause-told
-returns-in-true-false-clause-told g c =
+pub returns-in-true-false-clause-status : goal.returns-in-true-false-clause-status
+returns-in-true-false-clause-status g c =
     let k : NumberKey _ = record { eq = g.K.PartialEq.eq; spec = g.K.HasSpec.spec; encoding = g.K.Scalar.encoding; call = g.K.ScalarKey.call } in
-    at_form (λ f. Opens (limit_of f.wide) (number_index k f) c.args.archive.now c.open_index-in-true-false.result) c.args.form c.in-true-false.is-0 c.in-true-false.is-1 c.open_index-in-true-false.ensures.told
+    at_form (λ f. Opens (limit_of f.wide) (number_index k f) c.args.archive.now c.open_index-in-true-false.result) c.args.form c.in-true-false.is-0 c.in-true-false.is-1 c.open_index-in-true-false.ensures.status
 
-pub returns-in-false-true-clause-told : goal.returns-in-false-true-clause-told
-returns-in-false-true-clause-told g c =
+pub returns-in-false-true-clause-status : goal.returns-in-false-true-clause-status
+returns-in-false-true-clause-status g c =
     let k : NumberKey _ = record { eq = g.K.PartialEq.eq; spec = g.K.HasSpec.spec; encoding = g.K.Scalar.encoding; call = g.K.ScalarKey.call } in
-    at_form (λ f. Opens (limit_of f.wide) (number_index k f) c.args.archive.now c.open_index-in-false-true.result) c.args.form c.in-false-true.is-0 c.in-false-true.is-1 c.open_index-in-false-true.ensures.told
+    at_form (λ f. Opens (limit_of f.wide) (number_index k f) c.args.archive.now c.open_index-in-false-true.result) c.args.form c.in-false-true.is-0 c.in-false-true.is-1 c.open_index-in-false-true.ensures.status
 
-pub returns-in-false-false-clause-told : goal.returns-in-false-false-clause-told
-returns-in-false-false-clause-told g c =
+pub returns-in-false-false-clause-status : goal.returns-in-false-false-clause-status
+returns-in-false-false-clause-status g c =
     let k : NumberKey _ = record { eq = g.K.PartialEq.eq; spec = g.K.HasSpec.spec; encoding = g.K.Scalar.encoding; call = g.K.ScalarKey.call } in
-    at_form (λ f. Opens (limit_of f.wide) (number_index k f) c.args.archive.now c.open_index-in-false-false.result) c.args.form c.in-false-false.is-0 c.in-false-false.is-1 c.open_index-in-false-false.ensures.told
+    at_form (λ f. Opens (limit_of f.wide) (number_index k f) c.args.archive.now c.open_index-in-false-false.result) c.args.form c.in-false-false.is-0 c.in-false-false.is-1 c.open_index-in-false-false.ensures.status
 
 pub returns-in-true-true-clause-accepts : goal.returns-in-true-true-clause-accepts
 returns-in-true-true-clause-accepts g c =

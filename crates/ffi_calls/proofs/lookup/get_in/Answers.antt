@@ -1,7 +1,7 @@
 use Rattle.std.proofs.Common.{None, Some, refl, subst}
 use Rattle.ffi_calls.specs.Archives.{GivesAt}
+use Rattle.ffi_calls.proofs.AtViews.{there}
 use Rattle.ffi_calls.proofs.First.{first_given, none_given}
-use Rattle.ffi_calls.proofs.Next.{there}
 use Rattle.ffi_calls.proofs.lookup.get_in.Goals as goal
 
 pub returns-in-Some-clause-gives : goal.returns-in-Some-clause-gives

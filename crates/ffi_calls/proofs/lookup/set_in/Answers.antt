@@ -11,7 +11,7 @@ use Rattle.ffi_calls.proofs.First.{first_set}
 use Rattle.ffi_calls.proofs.lookup.set_in.Goals as goal
 
 pub returns-in-None-clause-sets : goal.returns-in-None-clause-sets
-returns-in-None-clause-sets g c = inl (c.in-None.ensures.told, refl, refl)
+returns-in-None-clause-sets g c = inl (c.in-None.ensures.exact, refl, refl)
 
 pub returns-clause-kept : goal.returns-clause-kept
 returns-clause-kept g c =
@@ -35,10 +35,10 @@ returns-clause-sets g c =
     let set = c.set_value_of-found in
     let told = set_told g.W.Word.word g.K.HasSpec.spec g.V.HasSpec.spec g.V.Scalar.encoding (hash_at (fx_hasher low_halves) g.K.KeyElement.key_calls) c.args.archive.now c.root_of-root.result (g.A.KeyHash.calls c.args.key.now)
     (g.A.Query.fits c.args.key.now c.args.archive.now) c.in-Some.number set.result set.new.archive c.root_of-root.ensures.at set.ensures.answer.answer c.status_of.result c.status_of.ensures.yes c.status_of.ensures.no in
-    inr (c.in-Some.ensures.read.0, (c.in-Some.number, c.in-Some.ensures.told, told))
+    inr (c.in-Some.ensures.read.0, (c.in-Some.number, c.in-Some.ensures.exact, told))
 
 pub returns-in-None-clause-listed : goal.returns-in-None-clause-listed
-returns-in-None-clause-listed g c = λ factor pairs represents. inl (c.in-None.ensures.told, refl)
+returns-in-None-clause-listed g c = λ factor pairs represents. inl (c.in-None.ensures.exact, refl)
 
 pub returns-clause-listed : goal.returns-clause-listed
 returns-clause-listed g c = λ factor pairs represents.
@@ -46,17 +46,17 @@ returns-clause-listed g c = λ factor pairs represents.
     let b = c.args.archive.now in
     let set = c.set_value_of-found in
     let asks = g.A.PartialEq.eq c.args.key.now in
-    let Related : List ℕ → ℕ → List (g.row.A.Denot × g.row.V.Denot) → Type 0 = λ d r ps. MapRepresents g.W.Word.word g.K.HasSpec.spec g.V.HasSpec.spec g.K.Represents.represents (ScalarRepresents e) (hash_at (fx_hasher low_halves) g.K.KeyElement.key_calls) factor d r ps in
+    let Represents : List ℕ → ℕ → List (g.row.A.Denot × g.row.V.Denot) → Type 0 = λ d r ps. MapRepresents g.W.Word.word g.K.HasSpec.spec g.V.HasSpec.spec g.K.Represents.represents (ScalarRepresents e) (hash_at (fx_hasher low_halves) g.K.KeyElement.key_calls) factor d r ps in
     let at = c.root_of-root.ensures.at in
     let same : length set.new.archive ≡ length b = omega (arith, set.auto.archive) in
-    let after = set.ensures.listed factor pairs (subst (λ p. Related b p pairs) (sym at) represents) in
+    let after = set.ensures.listed factor pairs (subst (λ p. Represents b p pairs) (sym at) represents) in
     let root_after = at ∙ ap (λ n. n - (map_spec g.W.Word.word g.K.HasSpec.spec g.V.HasSpec.spec).size) (sym same) in
     inr (
       c.in-Some.ensures.read.0,
       (
         c.in-Some.number,
-        c.in-Some.ensures.told,
+        c.in-Some.ensures.exact,
         first_set (first_pair asks pairs) set.result c.status_of.result after.0 c.status_of.ensures.yes c.status_of.ensures.no,
-        subst (λ p. Related set.new.archive p (with_first asks c.in-Some.number pairs)) root_after after.1,
+        subst (λ p. Represents set.new.archive p (with_first asks c.in-Some.number pairs)) root_after after.1,
       ),
     )

@@ -10,7 +10,7 @@ pub returns-in-None : goal.returns-in-None
 returns-in-None g c =
     let e = g.V.Scalar.encoding in
     let there = item_there g.P.PairOf.pair_of (NumberFits e) (number_pair e) c.args.items.now c.loop-item.item-index c.item-item.result c.pair-item.result c.loop-item-test.true (c.pair-item.ensures ∙ ap g.P.PairOf.pair_of c.item-item.is) in
-    inr (c.loop-item.item-index, (c.pair-item.result, there, c.loop-item.invariant.0, (c.in-None.ensures.told, refl)))
+    inr (c.loop-item.item-index, (c.pair-item.result, there, c.loop-item.invariant.0, (c.in-None.ensures.exact, refl)))
 
 pub loop-item-preserved : goal.loop-item-preserved
 loop-item-preserved g c =

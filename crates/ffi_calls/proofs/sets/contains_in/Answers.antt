@@ -1,4 +1,4 @@
-use Rattle.std.proofs.Common.{None, Some, refl, subst}
+use Rattle.std.proofs.Common.{None, refl, subst}
 use Rattle.rkyv_base.specs.Empty.{unit_represents}
 use Rattle.rkyv_table.specs.Table.ItemValues.{with_units}
 use Rattle.ffi_calls.specs.Sets.{IsFoundStatus}

@@ -1,4 +1,4 @@
-use Rattle.ffi_calls.specs.Archives.{IsTextArchive, KeepsHeader, Sets, texts_in, value_encoding}
+use Rattle.ffi_calls.specs.Archives.{IsTextArchive, KeepsHeader, Overwrites, texts_in, value_encoding}
 use Rattle.ffi_calls.specs.Calls.{text_found}
 use Rattle.ffi_calls.specs.Listed.{SetsFirstText}
 use Rattle.ffi_calls.proofs.Forms.{at_form, of_form}
@@ -8,7 +8,7 @@ pub returns-in-true-true-clause-kept : goal.returns-in-true-true-clause-kept
 returns-in-true-true-clause-kept c = at_form (λ f. IsTextArchive f c.set_in.new.archive) c.args.form c.in-true-true.is-0 c.in-true-true.is-1 c.set_in.ensures.kept
 
 pub returns-in-true-true-clause-sets : goal.returns-in-true-true-clause-sets
-returns-in-true-true-clause-sets c = at_form (λ f. Sets (value_encoding f) c.args.archive.now (text_found f c.args.archive.now c.args.key.now) c.args.value c.set_in.result c.set_in.new.archive) c.args.form c.in-true-true.is-0 c.in-true-true.is-1 c.set_in.ensures.sets
+returns-in-true-true-clause-sets c = at_form (λ f. Overwrites (value_encoding f) c.args.archive.now (text_found f c.args.archive.now c.args.key.now) c.args.value c.set_in.result c.set_in.new.archive) c.args.form c.in-true-true.is-0 c.in-true-true.is-1 c.set_in.ensures.sets
 
 pub set_in-requires-clause-archive : goal.set_in-requires-clause-archive
 set_in-requires-clause-archive c = of_form (λ f. IsTextArchive f c.args.archive.now) c.args.form c.in-true-true.is-0 c.in-true-true.is-1 c.requires
@@ -17,7 +17,7 @@ pub returns-in-true-false-clause-kept : goal.returns-in-true-false-clause-kept
 returns-in-true-false-clause-kept c = at_form (λ f. IsTextArchive f c.set_in-in-true-false.new.archive) c.args.form c.in-true-false.is-0 c.in-true-false.is-1 c.set_in-in-true-false.ensures.kept
 
 pub returns-in-true-false-clause-sets : goal.returns-in-true-false-clause-sets
-returns-in-true-false-clause-sets c = at_form (λ f. Sets (value_encoding f) c.args.archive.now (text_found f c.args.archive.now c.args.key.now) c.args.value c.set_in-in-true-false.result c.set_in-in-true-false.new.archive) c.args.form c.in-true-false.is-0 c.in-true-false.is-1 c.set_in-in-true-false.ensures.sets
+returns-in-true-false-clause-sets c = at_form (λ f. Overwrites (value_encoding f) c.args.archive.now (text_found f c.args.archive.now c.args.key.now) c.args.value c.set_in-in-true-false.result c.set_in-in-true-false.new.archive) c.args.form c.in-true-false.is-0 c.in-true-false.is-1 c.set_in-in-true-false.ensures.sets
 
 pub set_in-requires-in-true-false-clause-archive : goal.set_in-requires-in-true-false-clause-archive
 set_in-requires-in-true-false-clause-archive c = of_form (λ f. IsTextArchive f c.args.archive.now) c.args.form c.in-true-false.is-0 c.in-true-false.is-1 c.requires
@@ -26,7 +26,7 @@ pub returns-in-false-true-clause-kept : goal.returns-in-false-true-clause-kept
 returns-in-false-true-clause-kept c = at_form (λ f. IsTextArchive f c.set_in-in-false-true.new.archive) c.args.form c.in-false-true.is-0 c.in-false-true.is-1 c.set_in-in-false-true.ensures.kept
 
 pub returns-in-false-true-clause-sets : goal.returns-in-false-true-clause-sets
-returns-in-false-true-clause-sets c = at_form (λ f. Sets (value_encoding f) c.args.archive.now (text_found f c.args.archive.now c.args.key.now) c.args.value c.set_in-in-false-true.result c.set_in-in-false-true.new.archive) c.args.form c.in-false-true.is-0 c.in-false-true.is-1 c.set_in-in-false-true.ensures.sets
+returns-in-false-true-clause-sets c = at_form (λ f. Overwrites (value_encoding f) c.args.archive.now (text_found f c.args.archive.now c.args.key.now) c.args.value c.set_in-in-false-true.result c.set_in-in-false-true.new.archive) c.args.form c.in-false-true.is-0 c.in-false-true.is-1 c.set_in-in-false-true.ensures.sets
 
 pub set_in-requires-in-false-true-clause-archive : goal.set_in-requires-in-false-true-clause-archive
 set_in-requires-in-false-true-clause-archive c = of_form (λ f. IsTextArchive f c.args.archive.now) c.args.form c.in-false-true.is-0 c.in-false-true.is-1 c.requires
@@ -35,7 +35,7 @@ pub returns-in-false-false-clause-kept : goal.returns-in-false-false-clause-kept
 returns-in-false-false-clause-kept c = at_form (λ f. IsTextArchive f c.set_in-in-false-false.new.archive) c.args.form c.in-false-false.is-0 c.in-false-false.is-1 c.set_in-in-false-false.ensures.kept
 
 pub returns-in-false-false-clause-sets : goal.returns-in-false-false-clause-sets
-returns-in-false-false-clause-sets c = at_form (λ f. Sets (value_encoding f) c.args.archive.now (text_found f c.args.archive.now c.args.key.now) c.args.value c.set_in-in-false-false.result c.set_in-in-false-false.new.archive) c.args.form c.in-false-false.is-0 c.in-false-false.is-1 c.set_in-in-false-false.ensures.sets
+returns-in-false-false-clause-sets c = at_form (λ f. Overwrites (value_encoding f) c.args.archive.now (text_found f c.args.archive.now c.args.key.now) c.args.value c.set_in-in-false-false.result c.set_in-in-false-false.new.archive) c.args.form c.in-false-false.is-0 c.in-false-false.is-1 c.set_in-in-false-false.ensures.sets
 
 pub set_in-requires-in-false-false-clause-archive : goal.set_in-requires-in-false-false-clause-archive
 set_in-requires-in-false-false-clause-archive c = of_form (λ f. IsTextArchive f c.args.archive.now) c.args.form c.in-false-false.is-0 c.in-false-false.is-1 c.requires

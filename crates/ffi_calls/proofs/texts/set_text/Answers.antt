@@ -1,5 +1,5 @@
 use Rattle.std.proofs.Common.{inl, inr, refl, subst}
-use Rattle.ffi_calls.specs.Archives.{Sets, value_encoding}
+use Rattle.ffi_calls.specs.Archives.{Overwrites, value_encoding}
 use Rattle.ffi_calls.specs.Calls.{text_found}
 use Rattle.ffi_calls.specs.Listed.{SetsFirstText}
 use Rattle.ffi_calls.proofs.texts.set_text.Goals as goal
@@ -7,7 +7,7 @@ use Rattle.ffi_calls.proofs.texts.set_text.Goals as goal
 pub returns-in-Some-clause-sets : goal.returns-in-Some-clause-sets
 returns-in-Some-clause-sets c =
     let a = c.args in
-    inr (c.in-Some.ensures.0, subst (λ key. Sets (value_encoding a.form) a.archive.now (text_found a.form a.archive.now key) a.value c.set_of.result c.set_of.new.archive) c.in-Some.ensures.1 c.set_of.ensures.sets)
+    inr (c.in-Some.ensures.0, subst (λ key. Overwrites (value_encoding a.form) a.archive.now (text_found a.form a.archive.now key) a.value c.set_of.result c.set_of.new.archive) c.in-Some.ensures.1 c.set_of.ensures.sets)
 
 pub returns-in-None-clause-sets : goal.returns-in-None-clause-sets
 returns-in-None-clause-sets c = inl (c.in-None.ensures, refl, refl)

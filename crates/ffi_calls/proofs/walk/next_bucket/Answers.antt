@@ -86,9 +86,9 @@ returns-in-Some-clause-viewable g c =
     let law = entry_element k v g.K.HasSpec.laws g.V.HasSpec.laws in
     let controls : c.controls_from-controls.result.now ≡ table_controls w b p = rw (at, cap) at c.controls_from-controls.ensures.bytes in
     let walked : IsWalked w b p i = (subst (λ n. i < n) cap c.in-Some.ensures.0, subst (λ (xs : List ℕ). slice_index xs i < 128) controls c.in-Some.ensures.1) in
-    let item : c.pos_before.result ≡ item_at w s.size b p i =
+    let at_item : c.pos_before.result ≡ item_at w s.size b p i =
     c.pos_before.ensures ∙ ap (λ n. c.controls_pos-begin.result - (i + 1) * n) c.size-size.ensures ∙ ap (λ n. n - (i + 1) * s.size) at in
-    subst (Viewable s b) (sym item) (item_viewable w s law b p (root_viewable g.W.Width.LIMIT (map_spec w k v) b c.requires.archive) i walked)
+    subst (Viewable s b) (sym at_item) (item_viewable w s law b p (root_viewable g.W.Width.LIMIT (map_spec w k v) b c.requires.archive) i walked)
 
 pub returns-in-None-clause-next : goal.returns-in-None-clause-next
 returns-in-None-clause-next g c =

@@ -1,6 +1,6 @@
 use Rattle.std.proofs.Common.{rules}
 use Rattle.std.proofs.lemmas.Result.{err_from_is_err_and}
-use Rattle.rkyv_base.proofs.RootWriting.{root_told_align, root_told_append, root_overflow_fails, root_wrote}
+use Rattle.rkyv_base.proofs.RootWriting.{root_align_fails, root_append_fails, root_overflow_fails, root_wrote}
 use Rattle.rkyv_base.proofs.root.write_root_in.Goals as goal
 
 pub returns-in_err-resolver : goal.returns-in_err-resolver
@@ -12,7 +12,7 @@ pub returns-in_err-root : goal.returns-in_err-root
 returns-in_err-root g c =
     let s = c.in_ok-resolver.ensures in
     let p = err_from_is_err_and c.from_residual-in_err-root.result c.from_residual-in_err-root.ensures.1 in
-    rw (p.1, p.2) (root_told_align g.row.S-Fault.Denot g.W.Width.LIMIT g.V.Archived.HasSpec.spec.align g.V.Archive.format c.args.value.now
+    rw (p.1, p.2) (root_align_fails g.row.S-Fault.Denot g.W.Width.LIMIT g.V.Archived.HasSpec.spec.align g.V.Archive.format c.args.value.now
     (g.S.Writer.output c.args.serializer.now) (g.S.Writer.output c.serialize.new.serializer) (g.S.Writer.output c.align_for_in.new.serializer) (g.S.Writer.output c.align_for_in.new.serializer)
     s.0 c.in_ok-resolver.resolver s.1 s.2 s.3 c.in_err-root.field-0.0 c.in_err-root.ensures)
 
@@ -29,7 +29,7 @@ returns-in_err-append_in g c =
     let s = c.in_ok-resolver.ensures in
     let a = c.in_ok-root.ensures in
     let p = err_from_is_err_and c.from_residual-in_err-append_in.result c.from_residual-in_err-append_in.ensures.1 in
-    rw (p.1, p.2) (root_told_append g.row.S-Fault.Denot g.W.Width.LIMIT g.V.Archived.HasSpec.spec.align g.V.Archive.format c.args.value.now
+    rw (p.1, p.2) (root_append_fails g.row.S-Fault.Denot g.W.Width.LIMIT g.V.Archived.HasSpec.spec.align g.V.Archive.format c.args.value.now
     (g.S.Writer.output c.args.serializer.now) (g.S.Writer.output c.serialize.new.serializer) (g.S.Writer.output c.align_for_in.new.serializer) (g.S.Writer.output c.append_in.new.serializer)
     s.0 c.in_ok-resolver.resolver s.1 s.2 s.3 c.resolve.new.out c.in_err-append_in.field-0.0 (a.0, rw a.1 at a.2) (rw a.1 at c.in-Ok-resolve.ensures) c.in_err-append_in.ensures)
 

@@ -1,5 +1,3 @@
-use Rattle.rkyv_base.specs.Scalar.{scalar_spec}
-use Rattle.rkyv_base.specs.Lemmas.Scalar.{scalar_element}
 use Rattle.rkyv_base.proofs.Sealing.{entry_kept, viewable_kept}
 use Rattle.rkyv_base.proofs.seal.set_value.Goals as goal
 

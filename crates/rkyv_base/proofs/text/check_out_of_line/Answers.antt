@@ -14,7 +14,7 @@ returns-in_err-at g c =
     let p = err_from_is_err_and c.from_residual.result c.from_residual.ensures.1 in
     rw (p.1, p.2, ← c.fixed_at-fixed.ensures)
     (part_fails g.W.Word.word c.fixed_at-fixed.result.now c.args.bytes.now c.args.pos c.args.range.lo c.args.range.hi _ _
-    (ap is_out_of_line c.fixed_at-fixed.ensures ∙ c.requires.overflow) large
+    (ap is_out_of_line c.fixed_at-fixed.ensures ∙ c.requires.out_of_line) large
     (to_z-of_z w128 c.out_of_line_start-begin.result fits ∙ c.out_of_line_start-begin.ensures) (c.from.ensures ∙ c.out_of_line_len-len.ensures)
     c.in_err-at.field-0.0 c.in_err-at.ensures)
 
@@ -26,7 +26,7 @@ returns g c =
       refl,
       rw (← c.fixed_at-fixed.ensures)
           (text_passes g.W.Word.word c.fixed_at-fixed.result.now c.args.bytes.now c.args.pos c.args.range.lo c.args.range.hi _ c.out_of_line_len-len.result
-          (ap is_out_of_line c.fixed_at-fixed.ensures ∙ c.requires.overflow) large
+          (ap is_out_of_line c.fixed_at-fixed.ensures ∙ c.requires.out_of_line) large
           (to_z-of_z w128 c.out_of_line_start-begin.result fits ∙ c.out_of_line_start-begin.ensures) c.out_of_line_len-len.ensures
           c.in_ok-at.at (rw c.from.ensures at c.in_ok-at.ensures) c.in_ok-check_out_of_line_utf8.ensures),
     )
@@ -39,7 +39,7 @@ returns-in_err-check_out_of_line_utf8 g c =
     let p = err_from_is_err_and c.from_residual-in_err-check_out_of_line_utf8.result c.from_residual-in_err-check_out_of_line_utf8.ensures.1 in
     rw (p.1, p.2, ← c.fixed_at-fixed.ensures)
     (no_text_fails g.W.Word.word c.fixed_at-fixed.result.now c.args.bytes.now c.args.pos c.args.range.lo c.args.range.hi _ c.out_of_line_len-len.result
-    (ap is_out_of_line c.fixed_at-fixed.ensures ∙ c.requires.overflow) large
+    (ap is_out_of_line c.fixed_at-fixed.ensures ∙ c.requires.out_of_line) large
     (to_z-of_z w128 c.out_of_line_start-begin.result fits ∙ c.out_of_line_start-begin.ensures) c.out_of_line_len-len.ensures
     c.in_ok-at.at c.in_err-check_out_of_line_utf8.field-0.0 (rw c.from.ensures at c.in_ok-at.ensures) c.in_err-check_out_of_line_utf8.ensures.0 c.in_err-check_out_of_line_utf8.ensures.1)
 

@@ -9,7 +9,7 @@ pub pos_of_begin-at-requires : goal.pos_of_begin-at-requires
 pos_of_begin-at-requires g c =
     let w = g.W.Word.word in
     let fits : FitsSigned w128 c.out_of_line_start.result = search rules in
-    let v = viewable_out_of_line w c.args.bytes.now c.args.pos c.requires.viewable c.requires.overflow in
+    let v = viewable_out_of_line w c.args.bytes.now c.args.pos c.requires.viewable c.requires.out_of_line in
     let begins = to_z-of_z w128 c.out_of_line_start.result fits ∙ c.out_of_line_start.ensures ∙ ap (λ (s : List ℕ). out_of_line_begin w s c.args.pos) c.fixed_at-fixed.ensures in
     (v.0, v.1 ∙ sym begins, omega (arith, v.2))
 
@@ -23,4 +23,4 @@ returns g c =
     c.pos_of_begin-at.ensures ∙ to_z-of_z w128 c.out_of_line_start.result fits ∙ c.out_of_line_start.ensures
     ∙ ap (λ (s : List ℕ). out_of_line_begin w s c.args.pos) c.fixed_at-fixed.ensures in
     let len : c.out_of_line_len.result ≡ out_of_line_length w (fixed_bytes w b c.args.pos) = c.out_of_line_len.ensures ∙ ap (out_of_line_length w) c.fixed_at-fixed.ensures in
-    ap (λ (n : ℕ). slice_range b at (at + n)) len ∙ sym (out_of_line_reads w (fixed_bytes w b c.args.pos) b c.args.pos at c.requires.overflow begins)
+    ap (λ (n : ℕ). slice_range b at (at + n)) len ∙ sym (out_of_line_reads w (fixed_bytes w b c.args.pos) b c.args.pos at c.requires.out_of_line begins)

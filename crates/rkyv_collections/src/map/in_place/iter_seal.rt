@@ -14,7 +14,7 @@ ghost use Rattle.rkyv_base.specs.ElementSpec.{Viewable};
 ghost use Rattle.rkyv_base.specs.View.{IsValidView, bytes_of, pos_of};
 ghost use Rattle.rkyv_table.specs.Table.SealedItems.{CountsDown, LendsArchive, SameArchive};
 ghost use Rattle.rkyv_table.specs.Table.SealedItems.{StaysThere, WrittenBy, cursor_bytes};
-ghost use Rattle.rkyv_table.specs.Table.SealedItems.{items_left};
+ghost use Rattle.rkyv_table.specs.Table.SealedItems.{cursor_len};
 ghost use Rattle.rkyv_collections.specs.Map.MapSpec.{map_spec};
 ghost use Rattle.rkyv_collections.specs.Map.SealedMap.{IsMapSeal};
 ghost use Rattle.rkyv_collections.specs.Map.SealedPairs.{HasAllPairs, KeepsPairs, KeepsValues};
@@ -38,7 +38,7 @@ use std::marker::PhantomData;
 
 /// Returns `true` if and only if the bytes have a valid value at `pos`.
 #[inline]
-fn represents<T: Element>(bytes: &[u8], pos: u64) -> bool
+fn is_valid_at<T: Element>(bytes: &[u8], pos: u64) -> bool
     requires { pos + T.spec.size ≤ length bytes.now }
     ensures { IsTrue result ↔ Viewable T.spec bytes.now pos }
 {
@@ -70,7 +70,7 @@ fn pair_at<K: Element, V: Element>(
 {
     let begin = pos as usize + value_offset::<K, V>();
     let (front, back) = archive.split_at_mut(begin);
-    if !represents::<K>(&*front, pos) {
+    if !is_valid_at::<K>(&*front, pos) {
         return None;
     }
     Some((View::new(front, pos), Seal::over(back, 0)))
@@ -100,7 +100,7 @@ impl<'a, K: Element, V: Element, H, W> IterMut<'a, K, V, H, W> {
     /// Returns the number of pairs that remain.
     #[inline]
     pub fn len(&self) -> usize
-        ensures { result ≡ items_left (entries_in self.now) }
+        ensures { result ≡ cursor_len (entries_in self.now) }
     {
         self.entries.len()
     }
@@ -210,7 +210,7 @@ impl<'a, K: Element, V: Element, H, W> ValuesMut<'a, K, V, H, W> {
     /// Returns the number of values that remain.
     #[inline]
     pub fn len(&self) -> usize
-        ensures { result ≡ items_left (entries_of self.now) }
+        ensures { result ≡ cursor_len (entries_of self.now) }
     {
         self.pairs.len()
     }

@@ -1,4 +1,4 @@
-//! Lookups that return a seal of the value, and laws of writes in place.
+//! Lookups that return a seal of the value.
 //!
 //! - `get_seal` returns a seal of the value, and `get_key_value_seal` also a view of the key.
 //! - `get_seal_with` and `get_key_value_seal_with` take a comparison.

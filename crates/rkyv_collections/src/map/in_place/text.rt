@@ -5,8 +5,8 @@ ghost use Rattle.std.specs.Prelude.{length, ◌+◌, ◌≤◌};
 ghost use Rattle.rkyv_base.specs.SealedText.{Raised};
 ghost use Rattle.rkyv_base.specs.ElementSpec.{Viewable};
 ghost use Rattle.rkyv_base.specs.Text.{text_size};
-ghost use Rattle.rkyv_collections.specs.Map.InPlaceText.{RaisesFirst, RaisesText, text_map_at};
-ghost use Rattle.rkyv_collections.specs.Map.InPlaceText.{text_map_spec};
+ghost use Rattle.rkyv_collections.specs.Map.InPlaceText.{RaisesFirst, RaisesText, map_to_texts_at};
+ghost use Rattle.rkyv_collections.specs.Map.InPlaceText.{map_to_texts_spec};
 ghost use Rattle.rkyv_collections.specs.Map.MapAt.{asked_value};
 ghost use Rattle.rkyv_collections.specs.Map.NestedWrites.{WritesParts};
 ghost use Rattle.rkyv_keys.specs.Asked.{asked};
@@ -62,14 +62,14 @@ pub fn make_ascii_uppercase_of<
     H: KeyHasher,
     W: Width,
 >(archive: &mut [u8], root: u64, key: &A) -> Option<bool>
-    requires map { Viewable (text_map_spec W.word K.spec) archive.old root }
+    requires map { Viewable (map_to_texts_spec W.word K.spec) archive.old root }
     requires query { A.can_read key.now }
-    ensures answer { RaisesText (text_map_at W.Word K.HasSpec archive.old root)
+    ensures answer { RaisesText (map_to_texts_at W.Word K.HasSpec archive.old root)
         (asked H.hasher K.key_calls K.same (A.calls key.now) (A.fits key.now))
         result archive.new }
-    ensures listed { RaisesFirst (text_map_at W.Word K.HasSpec archive.old root)
+    ensures listed { RaisesFirst (map_to_texts_at W.Word K.HasSpec archive.old root)
         (asked_value H.hasher K.key_calls K.represents (A.eq key.now)) result archive.new }
-    ensures parts { WritesParts (text_map_spec W.word K.spec) archive.old archive.new root }
+    ensures parts { WritesParts (map_to_texts_spec W.word K.spec) archive.old archive.new root }
 {
     match ArchivedHashMap::<K, Text<W>, H, W>::value_pos_in(&*archive, root, key) {
         Some(pos) => Some(uppercase_at::<W>(archive, pos as usize)),

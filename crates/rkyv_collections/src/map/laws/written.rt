@@ -2,7 +2,7 @@
 
 ghost use Rattle.rkyv_collections.specs.Map.MapFormat.{WrittenMapsRepresent};
 ghost use Rattle.rkyv_keys.specs.Natives.{native_pairs};
-ghost use Rattle.rkyv_collections.specs.Natives.{pair_format};
+ghost use Rattle.rkyv_collections.specs.Natives.{native_format};
 
 use rkyv_base::archive::Archive;
 use rkyv_base::element::Represents;
@@ -24,6 +24,6 @@ pub fn written_maps_represent<
     B: Archive<W, Archived = V>,
 >()
     ensures { WrittenMapsRepresent W.word
-        (pair_format K.spec V.spec A.format B.format H.hasher A.calls)
+        (native_format K.spec V.spec A.format B.format H.hasher A.calls)
         (native_pairs K.represents V.represents H.hasher K.key_calls) }
 {}

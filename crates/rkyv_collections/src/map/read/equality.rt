@@ -5,7 +5,7 @@
 ghost use Rattle.std.specs.Prelude.{◌+◌, ◌≡◌};
 ghost use Rattle.rkyv_base.specs.Entry.{value_offset};
 ghost use Rattle.rkyv_base.specs.View.{IsAt, IsValidView, archive_of, pos_of};
-ghost use Rattle.rkyv_keys.specs.Places.{at_views};
+ghost use Rattle.rkyv_keys.specs.AtViews.{at_views};
 ghost use Rattle.rkyv_collections.specs.Map.Equality.{finds_same, map_equal};
 ghost use Rattle.rkyv_collections.specs.Map.{hash_at, map_view};
 ghost use Rattle.rkyv_collections.specs.Map.MapSpec.{map_spec};

@@ -114,7 +114,7 @@ impl<'a, K: Element, V: Element, H, W> ExactSizeIterator for Keys<'a, K, V, H, W
 /// The values of a map that remain, in bucket order.
 #[derive(Drop)]
 pub struct Values<'a, K: HasSpec, V: HasSpec, H = FxHasher64, W = Narrow> {
-    rest: Iter<'a, K, V, H, W>,
+    pairs: Iter<'a, K, V, H, W>,
 }
 
 impl<'a, K: HasSpec, V: HasSpec, H, W> Model for Values<'a, K, V, H, W> {
@@ -122,7 +122,7 @@ impl<'a, K: HasSpec, V: HasSpec, H, W> Model for Values<'a, K, V, H, W> {
 
     ghost Value = { ItemsLeft };
 
-    ghost view = { λ values. values.rest };
+    ghost view = { λ values. values.pairs };
 }
 
 impl<'a, K: Element, V: Element, H, W> Iterator for Values<'a, K, V, H, W> {
@@ -134,7 +134,7 @@ impl<'a, K: Element, V: Element, H, W> Iterator for Values<'a, K, V, H, W> {
 
     #[inline]
     fn next(&mut self) -> Option<View<'a, V>> {
-        match self.rest.next() {
+        match self.pairs.next() {
             Some((_, value)) => Some(value),
             None => None,
         }
@@ -144,14 +144,14 @@ impl<'a, K: Element, V: Element, H, W> Iterator for Values<'a, K, V, H, W> {
     fn size_hint(&self) -> (usize, Option<usize>)
         ensures { HintsExactly result (length self.now.positions) }
     {
-        self.rest.size_hint()
+        self.pairs.size_hint()
     }
 }
 
 impl<'a, K: Element, V: Element, H, W> ExactSizeIterator for Values<'a, K, V, H, W> {
     #[inline]
     fn len(&self) -> usize {
-        self.rest.len()
+        self.pairs.len()
     }
 }
 
@@ -203,7 +203,7 @@ impl<'a, K: Element, V: Element, H, W: Width> ArchivedHashMap<'a, K, V, H, W> {
         ensures positions { result.positions ≡ key_positions self.entry }
         ensures count { length result.positions ≡ map_len self.entry }
     {
-        Values { rest: self.iter() }
+        Values { pairs: self.iter() }
     }
 }
 

@@ -15,7 +15,7 @@ ghost use Rattle.rkyv_collections.specs.Map.Lookups.{GetsBy, GetsKey, IsPairOfEn
 ghost use Rattle.rkyv_collections.specs.Map.Lookups.{IsValueOfEntry};
 ghost use Rattle.rkyv_collections.specs.Map.Lookups.{TellsKey, entry_part, pair_part, value_part};
 ghost use Rattle.rkyv_keys.specs.Asked.{asked};
-ghost use Rattle.rkyv_collections.specs.Map.{FindsKey, IsEntryAt, IsFoundAt, MayAskKeys, hash_at};
+ghost use Rattle.rkyv_collections.specs.Map.{FindsKey, IsFoundAt, IsViewAt, MayAskKeys, hash_at};
 ghost use Rattle.rkyv_collections.specs.Map.{map_bytes};
 ghost use Rattle.rkyv_collections.specs.Map.MapFormat.{hash_of};
 
@@ -31,7 +31,7 @@ use rkyv_scan::hash::KeyHasher;
 /// Returns `true` if and only if an entry is found.
 #[inline]
 pub(crate) fn is_found<T: Element>(found: Option<View<'_, T>>) -> bool
-    ensures { (place : Option ℕ) → IsEntryAt found.entry place → IsFoundAt result place }
+    ensures { (place : Option ℕ) → IsViewAt found.entry place → IsFoundAt result place }
 {
     found.is_some()
 }

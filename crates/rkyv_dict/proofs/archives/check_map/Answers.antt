@@ -1,7 +1,7 @@
 use Rattle.std.proofs.Common.{◌∙◌, ap}
 use Rattle.std.proofs.lemmas.Result.{err_from_is_err_and}
 use Rattle.rkyv_table.specs.Table.Header.{len_at}
-use Rattle.rkyv_dict.specs.Archives.{IsMapArchive, MapArchiveFails, pair_count}
+use Rattle.rkyv_dict.specs.Archives.{IsMapArchive, MapValidationFails, pair_count}
 use Rattle.rkyv_dict.proofs.Roots.{read_at}
 use Rattle.rkyv_dict.proofs.archives.check_map.Goals as goal
 
@@ -12,7 +12,7 @@ returns g c =
     (c.in_ok-root.ensures.root.0, c.len.ensures ∙ ap (λ v. len v.archive.now v.pos) c.of.ensures.view ∙ read_at len c.in_ok-root.root _ _ c.in_ok-root.ensures.root.1)
 
 pub returns-in_err-root : goal.returns-in_err-root
-unfolding MapArchiveFails
+unfolding MapValidationFails
 returns-in_err-root g c =
     let p = err_from_is_err_and c.from_residual.result c.from_residual.ensures.1 in
     rw (p.1, p.2) c.in_err-root.ensures.root

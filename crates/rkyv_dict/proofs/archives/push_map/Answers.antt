@@ -5,7 +5,7 @@ use Rattle.rkyv_table.specs.Table.Header.{len_at}
 use Rattle.rkyv_table.specs.Table.Positions.{item_positions}
 use Rattle.rkyv_collections.specs.Map.{map_bytes, map_len, map_pos}
 use Rattle.rkyv_dict.specs.Archives.{line, line_at, pair_count, pair_lines, pair_positions}
-use Rattle.rkyv_dict.proofs.Lines.{ok_map}
+use Rattle.rkyv_dict.proofs.Adding.{on_ok_map}
 use Rattle.rkyv_dict.proofs.Roots.{read_at}
 use Rattle.rkyv_dict.proofs.archives.push_map.Goals as goal
 
@@ -21,4 +21,4 @@ returns g c =
     let here : List ℕ = rest (map_bytes m) (map_pos m) in
     let counted : string_bytes c.push_count.new.out ≡ old ++ head (map_len m) = c.in_ok-push_count.ensures ∙ ap (λ n. old ++ head n) c.len.ensures in
     let placed = read_at (λ b p. head (len_at w b p) ++ rest b p) m.view _ _ c.map_of-map.ensures.at in
-    ok_map c.push_lines.result (λ e. e ∙ ap (λ t. t ++ here) counted ∙ append_assoc old (head (map_len m)) here ∙ ap (λ t. old ++ t) placed) c.push_lines.ensures
+    on_ok_map c.push_lines.result _ _ (λ e. e ∙ ap (λ t. t ++ here) counted ∙ append_assoc old (head (map_len m)) here ∙ ap (λ t. old ++ t) placed) c.push_lines.ensures

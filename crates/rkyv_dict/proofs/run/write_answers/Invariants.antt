@@ -1,8 +1,8 @@
 use Rattle.std.proofs.Common.{ℕ, ◌+◌, List, Option, None, Some, length, string_bytes}
 use Rattle.std.specs.Option.{option_copied}
+use Rattle.rkyv_dict.specs.Dicts.{state_seen}
 use Rattle.rkyv_dict.specs.Run.{Progress}
 use Rattle.rkyv_dict.specs.Script.{parts_after}
-use Rattle.rkyv_dict.specs.Shown.{state_seen}
 use Rattle.rkyv_dict.specs.State.{IsSound}
 use Rattle.rkyv_dict.proofs.run.write_answers.Given as goal
 

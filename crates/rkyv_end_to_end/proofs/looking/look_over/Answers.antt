@@ -17,11 +17,11 @@ returns g c =
     let w = g.W.Word.word in
     let s = g.T.HasSpec.spec in
     let law = g.T.HasSpec.laws in
-    let represents = accepted_viewable w g.met.W.Width.layout.kind s law c.args.bytes.now c.args.pos c.args.range c.in-Ok.field-0
+    let viewable = accepted_viewable w g.met.W.Width.layout.kind s law c.args.bytes.now c.args.pos c.args.range c.in-Ok.field-0
     c.requires.inside c.requires.aligned c.requires.ordered.0 c.requires.ordered.1 c.in-Ok.ensures in
     let answer = c.look_up-answer in
     let report : TableReport = record { walked = c.in-Ok-walk.walked; found = answer.result.found; strides = answer.result.strides } in (
       c.in-Ok.field-0,
       c.in-Ok.ensures,
-      table_reported (goal.F-post g c.args.cmp) w s c.args.bytes.now c.args.pos law represents c.args.hash report c.in-Ok-walk.ensures answer.ensures.looks answer.ensures.reads answer.ensures.exact,
+      table_reported (goal.F-post g c.args.cmp) w s c.args.bytes.now c.args.pos law viewable c.args.hash report c.in-Ok-walk.ensures answer.ensures.looks answer.ensures.reads answer.ensures.exact,
     )

@@ -3,7 +3,7 @@ use Rattle.rkyv_scan.specs.Groups.{generic_kind}
 use Rattle.rkyv_table.specs.Table.Bare.{LooksUp, ReadsExactly}
 use Rattle.rkyv_table.proofs.Bare.{reads_exactly}
 use Rattle.rkyv_end_to_end.specs.Report.{ReadsWithinBound}
-use Rattle.rkyv_end_to_end.proofs.Reports.{few_read, looks_found}
+use Rattle.rkyv_end_to_end.proofs.Reports.{looks_found, read_within_bound}
 use Rattle.rkyv_end_to_end.proofs.looking.look_up.Goals as goal
 
 pub returns-clause-looks : goal.returns-clause-looks
@@ -22,7 +22,7 @@ returns-clause-reads g c =
     let bytes = ap (λ v. v.archive.now) c.of-table.ensures.view ∙ ap (λ v. v.now) c.new.ensures.0 in
     let place = ap (λ v. v.pos) c.of-table.ensures.view ∙ c.new.ensures.1 in
     subst (ReadsWithinBound g.W.Word.word c.args.bytes.now c.args.pos) (sym c.count.ensures)
-    (few_read c.args.bytes.now c.args.pos c.of-table.result bytes place c.new-strides.result c.get_counted.new.strides c.new-strides.ensures c.get_counted.ensures.counts.bounded)
+    (read_within_bound c.args.bytes.now c.args.pos c.of-table.result bytes place c.new-strides.result c.get_counted.new.strides c.new-strides.ensures c.get_counted.ensures.counts.bounded)
 
 pub returns-clause-exact : goal.returns-clause-exact
 returns-clause-exact g c =

@@ -18,16 +18,16 @@ ghost use Rattle.rkyv_table.specs.Table.Header.{len_at};
 ghost use Rattle.rkyv_table.specs.Table.PairSeals.{LendsPair, LendsValue};
 ghost use Rattle.rkyv_index.specs.Index.{FindsBy, FindsFirstBy, FindsFirstKey, FindsKey};
 ghost use Rattle.rkyv_index.specs.Index.{IsStoredAt};
-ghost use Rattle.rkyv_index.specs.Index.{IsPlace, MayAskKeysOf, hash_at, index_bytes, index_pos};
+ghost use Rattle.rkyv_index.specs.Index.{IsIndex, MayAskKeysOf, hash_at, index_bytes, index_pos};
 ghost use Rattle.rkyv_index.specs.Index.IndexFormat.{hash_of};
 ghost use Rattle.rkyv_index.specs.Index.SealedIndex.{
   IsFullSeal,
   IsFullSealAt,
   IsIndexSeal,
-  IsPairPlace,
+  IsPairPosIn,
   IsPairSeal,
-  SealsPair,
   IsValueSeal,
+  SealsPair,
   SealsValue,
   index_in,
 };
@@ -82,14 +82,14 @@ impl<'a, K: KeyElement, V: Element, H: KeyHasher, W: Width> ArchivedIndexMap<'a,
         requires query { Q.can_read key.now }
         requires callable { MayAskKeysOf (index_in W.word K.spec V.spec this.now)
             (F.pre cmp key) }
-        ensures held { IfSome result (IsStoredAt W.word (archive_in this.now) (pos_in this.now)) }
+        ensures stored { IfSome result (IsStoredAt W.word (archive_in this.now) (pos_in this.now)) }
         ensures below { IfSome result
             (λ i. i < len_at W.word (archive_in this.now) (pos_in this.now)) }
         ensures answer { FindsBy (index_in W.word K.spec V.spec this.now)
-            (F.post cmp key.entry) (hash_of H.hasher Q.calls key.now) (IsPlace result) }
+            (F.post cmp key.entry) (hash_of H.hasher Q.calls key.now) (IsIndex result) }
         ensures first { FindsFirstBy (index_in W.word K.spec V.spec this.now)
             (F.post cmp key.entry) (hash_of H.hasher Q.calls key.now)
-            (hash_at H.hasher K.key_calls) (IsPlace result) }
+            (hash_at H.hasher K.key_calls) (IsIndex result) }
     {
         Self::read(this).find(key, cmp, &mut Strides::new())
     }
@@ -102,13 +102,13 @@ impl<'a, K: KeyElement, V: Element, H: KeyHasher, W: Width> ArchivedIndexMap<'a,
     ) -> Option<usize>
         requires map { IsIndexSeal W.word K.spec V.spec this.now }
         requires query { Q.can_read key.now }
-        ensures held { IfSome result (IsStoredAt W.word (archive_in this.now) (pos_in this.now)) }
+        ensures stored { IfSome result (IsStoredAt W.word (archive_in this.now) (pos_in this.now)) }
         ensures below { IfSome result
             (λ i. i < len_at W.word (archive_in this.now) (pos_in this.now)) }
         ensures answer { FindsKey (index_in W.word K.spec V.spec this.now)
-            (hash_of H.hasher Q.calls key.now) (Q.fits key.now) (IsPlace result) }
+            (hash_of H.hasher Q.calls key.now) (Q.fits key.now) (IsIndex result) }
         ensures first { FindsFirstKey (index_in W.word K.spec V.spec this.now)
-            (hash_at H.hasher K.key_calls) (Q.fits key.now) (IsPlace result) }
+            (hash_at H.hasher K.key_calls) (Q.fits key.now) (IsIndex result) }
     {
         Self::read(this).find_key(key)
     }
@@ -118,7 +118,7 @@ impl<'a, K: KeyElement, V: Element, H: KeyHasher, W: Width> ArchivedIndexMap<'a,
     fn pair_pos_in(this: &ArchiveSeal<'_, IndexMapOf<K, V, H, W>>, place: usize) -> u64
         requires map { IsIndexSeal W.word K.spec V.spec this.now }
         requires below { place < len_at W.word (archive_in this.now) (pos_in this.now) }
-        ensures at { IsPairPlace W.word K.spec V.spec this.now place result }
+        ensures at { IsPairPosIn W.word K.spec V.spec this.now place result }
         ensures entry { Viewable (entry_spec K.spec V.spec) (archive_in this.now) result }
     {
         Self::read(this).entries().entry(place).pos()
@@ -134,7 +134,7 @@ impl<'a, K: KeyElement, V: Element, H: KeyHasher, W: Width> ArchivedIndexMap<'a,
         requires below { place < len_at W.word (archive_in this) (pos_in this) }
         ensures inside { LiesIn V.spec result.1 }
         ensures lent { LendsPair K.spec V.spec (archive_in this.entry)
-            (IsPairPlace W.word K.spec V.spec this.entry place) result }
+            (IsPairPosIn W.word K.spec V.spec this.entry place) result }
     {
         let pos = Self::pair_pos_in(&this, place);
         this.split_value(pos)
@@ -148,7 +148,7 @@ impl<'a, K: KeyElement, V: Element, H: KeyHasher, W: Width> ArchivedIndexMap<'a,
         ensures inside { LiesIn V.spec result }
         ensures viewable { Viewable V.spec (bytes_in result) (seal_pos result) }
         ensures lent { LendsValue K.spec V.spec (archive_in this.entry)
-            (IsPairPlace W.word K.spec V.spec this.entry place) result }
+            (IsPairPosIn W.word K.spec V.spec this.entry place) result }
     {
         let pos = Self::pair_pos_in(&this, place);
         value_seal(this, pos)
@@ -161,7 +161,7 @@ impl<'a, K: KeyElement, V: Element, H: KeyHasher, W: Width> ArchivedIndexMap<'a,
         place: Option<usize>,
     ) -> Option<(usize, View<'a, K>, Seal<'a, V>)>
         requires map { IsIndexSeal W.word K.spec V.spec this }
-        requires held { IfSome place (IsStoredAt W.word (archive_in this) (pos_in this)) }
+        requires stored { IfSome place (IsStoredAt W.word (archive_in this) (pos_in this)) }
         requires below { IfSome place
             (λ i. i < len_at W.word (archive_in this) (pos_in this)) }
         ensures inside { IfSome result (λ full. LiesIn V.spec full.2) }
@@ -185,7 +185,7 @@ impl<'a, K: KeyElement, V: Element, H: KeyHasher, W: Width> ArchivedIndexMap<'a,
         place: Option<usize>,
     ) -> Option<(View<'a, K>, Seal<'a, V>)>
         requires map { IsIndexSeal W.word K.spec V.spec this }
-        requires held { IfSome place (IsStoredAt W.word (archive_in this) (pos_in this)) }
+        requires stored { IfSome place (IsStoredAt W.word (archive_in this) (pos_in this)) }
         requires below { IfSome place
             (λ i. i < len_at W.word (archive_in this) (pos_in this)) }
         ensures inside { IfSome result (λ pair. LiesIn V.spec pair.1) }
@@ -206,7 +206,7 @@ impl<'a, K: KeyElement, V: Element, H: KeyHasher, W: Width> ArchivedIndexMap<'a,
         place: Option<usize>,
     ) -> Option<Seal<'a, V>>
         requires map { IsIndexSeal W.word K.spec V.spec this }
-        requires held { IfSome place (IsStoredAt W.word (archive_in this) (pos_in this)) }
+        requires stored { IfSome place (IsStoredAt W.word (archive_in this) (pos_in this)) }
         requires below { IfSome place
             (λ i. i < len_at W.word (archive_in this) (pos_in this)) }
         ensures inside { IfSome result (LiesIn V.spec) }

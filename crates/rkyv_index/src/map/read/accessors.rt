@@ -9,7 +9,7 @@ ghost use Rattle.rkyv_table.specs.Table.Decoded.{IsDecoded};
 ghost use Rattle.rkyv_index.specs.Index.{IsPairOf, index_bytes, index_len, index_pos};
 ghost use Rattle.rkyv_index.specs.Index.IndexLayout.{entries_pos, index_spec};
 
-use crate::map::check::decode_begin;
+use crate::map::check::decode_entries;
 use crate::map::{ArchivedIndexMap, IndexMapOf};
 use rkyv_base::element::Element;
 use rkyv_base::view::{PairView, View};
@@ -41,7 +41,7 @@ fn begin<K: Element, V: Element, H, W: Width>(view: View<'_, IndexMapOf<K, V, H,
     requires { IsValidView (index_spec W.word (entry_spec K.spec V.spec)) view }
     ensures { result ≡ entries_pos W.word (bytes_of view.entry) (pos_of view.entry) }
 {
-    decode_pos(decode_begin::<W>(view.bytes(), view.pos()))
+    decode_pos(decode_entries::<W>(view.bytes(), view.pos()))
 }
 
 impl<'a, K: Element, V: Element, H, W: Width> ArchivedIndexMap<'a, K, V, H, W> {

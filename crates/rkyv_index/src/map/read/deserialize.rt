@@ -22,7 +22,7 @@ impl<'a, K: Element, V: Element, H, W: Width> ArchivedIndexMap<'a, K, V, H, W> {
         requires below { place < index_len self }
         ensures { MatchResult result
             (IsPairRead K.represents V.represents self.entry place)
-            (pair_refuses K.refuses V.refuses self.entry place) }
+            (pair_refuses K.deserialize_fails V.deserialize_fails self.entry place) }
     {
         Entry::<K, V>::deserialize(alloc, self.entries().entry(place))
     }

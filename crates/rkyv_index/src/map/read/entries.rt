@@ -6,7 +6,7 @@ ghost use Rattle.rkyv_base.specs.View.{IsAt, IsValidView, bytes_of, pos_of};
 ghost use Rattle.rkyv_table.specs.Table.Header.{len_at};
 ghost use Rattle.rkyv_scan.specs.Groups.{generic_kind};
 ghost use Rattle.rkyv_table.specs.Table.Reading.{CountsStrides};
-ghost use Rattle.rkyv_index.specs.Index.{AnswersPlace, AreEntries, FindsHeld, IsEntryOf};
+ghost use Rattle.rkyv_index.specs.Index.{AnswersPlace, AreEntries, FindsIndexIn, IsEntryOf};
 ghost use Rattle.rkyv_index.specs.Index.{IsKeyIn, IsPairOf, MayAskPlace, MayAskPlaces};
 ghost use Rattle.rkyv_index.specs.Index.{index_archive, index_len, index_pos, place_at};
 ghost use Rattle.rkyv_index.specs.Index.IndexLayout.{entries_pos, entry_at, index_spec};
@@ -128,7 +128,7 @@ pub(crate) fn find_place<W: Width, F: Fn(usize) -> bool>(
 ) -> Option<usize>
     requires room { strides.old ≤ 2 ^ 63 }
     requires callable { MayAskPlaces (F.pre accepts) table }
-    ensures found { FindsHeld (F.post accepts) table.entry hash result }
+    ensures found { FindsIndexIn (F.post accepts) table.entry hash result }
     ensures counts { CountsStrides (AnswersPlace W.word (F.post accepts)) generic_kind table.entry
         hash strides.old strides.new }
 {

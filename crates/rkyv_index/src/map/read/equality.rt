@@ -3,14 +3,14 @@
 //! `==` and `eq_index` compare the pairs in order. `ElementEq` does the same for index maps
 //! that are values.
 ghost use Rattle.std.specs.Cmp.{partial_equiv_from_equiv};
-ghost use Rattle.std.specs.Prelude.{◌<◌, ◌≡◌};
+ghost use Rattle.std.specs.Prelude.{◌≡◌};
 ghost use Rattle.rkyv_base.specs.Entry.{entry_spec};
 ghost use Rattle.rkyv_base.specs.Lemmas.Entry.{entry_element};
 ghost use Rattle.rkyv_base.specs.View.{IsValidView};
 ghost use Rattle.rkyv_keys.specs.Lemmas.OfEntries.{entry_equivalence};
-ghost use Rattle.rkyv_keys.specs.Places.{at_views};
+ghost use Rattle.rkyv_keys.specs.AtViews.{at_views};
 ghost use Rattle.rkyv_index.specs.Lemmas.EqualLaws.{index_equivalence};
-ghost use Rattle.rkyv_index.specs.Lemmas.ViewableEqual.{maps_equality};
+ghost use Rattle.rkyv_index.specs.Lemmas.HandlesEqual.{maps_equality};
 ghost use Rattle.rkyv_index.specs.Index.Equality.{index_map_equal, index_maps_equal};
 ghost use Rattle.rkyv_index.specs.Index.IndexLayout.{index_spec};
 

@@ -123,7 +123,7 @@ impl<'a, K: Element, V: Element> ExactSizeIterator for Keys<'a, K, V> {
 /// The values of an index map that remain, in order.
 #[derive(Drop)]
 pub struct Values<'a, K: HasSpec, V: HasSpec> {
-    rest: Iter<'a, K, V>,
+    pairs: Iter<'a, K, V>,
 }
 
 impl<'a, K: HasSpec, V: HasSpec> Model for Values<'a, K, V> {
@@ -131,7 +131,7 @@ impl<'a, K: HasSpec, V: HasSpec> Model for Values<'a, K, V> {
 
     ghost Value = { ItemsLeft };
 
-    ghost view = { λ values. values.rest };
+    ghost view = { λ values. values.pairs };
 }
 
 impl<'a, K: Element, V: Element> Iterator for Values<'a, K, V> {
@@ -143,7 +143,7 @@ impl<'a, K: Element, V: Element> Iterator for Values<'a, K, V> {
 
     #[inline]
     fn next(&mut self) -> Option<View<'a, V>> {
-        match self.rest.next() {
+        match self.pairs.next() {
             Some((_, value)) => Some(value),
             None => None,
         }
@@ -153,14 +153,14 @@ impl<'a, K: Element, V: Element> Iterator for Values<'a, K, V> {
     fn size_hint(&self) -> (usize, Option<usize>)
         ensures { HintsExactly result (length self.now.positions) }
     {
-        self.rest.size_hint()
+        self.pairs.size_hint()
     }
 }
 
 impl<'a, K: Element, V: Element> ExactSizeIterator for Values<'a, K, V> {
     #[inline]
     fn len(&self) -> usize {
-        self.rest.len()
+        self.pairs.len()
     }
 }
 
@@ -218,7 +218,7 @@ impl<'a, K: Element, V: Element, H, W: Width> ArchivedIndexMap<'a, K, V, H, W> {
         ensures count { length result.positions ≡ index_len self.entry }
         ensures all_valid { AllValid (entry_spec K.spec V.spec) result }
     {
-        Values { rest: self.iter() }
+        Values { pairs: self.iter() }
     }
 }
 

@@ -187,7 +187,7 @@ impl<'a, K: KeyElement, V: Element, H: KeyHasher, W: Width> ArchivedIndexMap<'a,
     /// Returns the pair at a found index.
     #[inline]
     fn pair_of(self, place: Option<usize>) -> Option<PairView<'a, K, V>>
-        requires held { IfSome place (IsStoredIndex self) }
+        requires stored { IfSome place (IsStoredIndex self) }
         ensures { IsPairAt self.entry result place }
     {
         match place {
@@ -199,7 +199,7 @@ impl<'a, K: KeyElement, V: Element, H: KeyHasher, W: Width> ArchivedIndexMap<'a,
     /// Returns the value at a found index.
     #[inline]
     fn value_of(self, place: Option<usize>) -> Option<View<'a, V>>
-        requires held { IfSome place (IsStoredIndex self) }
+        requires stored { IfSome place (IsStoredIndex self) }
         ensures { IsValueAt self.entry result place }
     {
         match place {

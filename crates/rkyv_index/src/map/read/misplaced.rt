@@ -15,7 +15,7 @@ use rkyv_base::width::Width;
 use rkyv_keys::keys::KeyElement;
 use rkyv_scan::hash::KeyHasher;
 use rkyv_table::Strides;
-use rkyv_table::table::misplaced::{is_in_another_bucket, is_past};
+use rkyv_table::table::misplaced::{finds_another_or_none, is_past};
 
 impl<'a, K: KeyElement, V: Element, H: KeyHasher, W: Width> Entries<'a, K, V, H, W> {
     // Returns `true` if and only if a lookup of the key at `place` doesn't find `place`.
@@ -34,7 +34,7 @@ impl<'a, K: KeyElement, V: Element, H: KeyHasher, W: Width> Entries<'a, K, V, H,
             (hash_at H.hasher K.key_calls) K.same place }
     {
         let key = self.entry(place).key();
-        is_in_another_bucket(place, self.map.find_counted(&key, strides))
+        finds_another_or_none(place, self.map.find_counted(&key, strides))
     }
 }
 
@@ -123,11 +123,11 @@ impl<'a, K: KeyElement, V: Element, H: KeyHasher, W: Width> ArchivedIndexMap<'a,
         let before = strides.count();
         let mut count = 0;
         for place in 0..self.len() {
-            let another = entries.is_misplaced(place, strides);
+            let is_misplaced = entries.is_misplaced(place, strides);
             if is_past(before, strides.count(), limit) {
                 return None;
             }
-            if another {
+            if is_misplaced {
                 count += 1;
             }
         }

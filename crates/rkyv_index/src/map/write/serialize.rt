@@ -7,7 +7,7 @@ ghost use Rattle.std.specs.Prelude.{List, ℕ};
 ghost use Rattle.rkyv_base.specs.Format.{Format};
 ghost use Rattle.rkyv_base.specs.Pairs.{written_as};
 ghost use Rattle.rkyv_table.specs.Table.ItemValues.{lent_pairs};
-ghost use Rattle.rkyv_index.specs.Index.Writing.{WritesUnder, input};
+ghost use Rattle.rkyv_index.specs.Index.Writing.{WritesUnder, listing};
 ghost use Rattle.rkyv_index.specs.Index.IndexFormat.{hash_of, index_format};
 ghost use Rattle.rkyv_index.specs.Index.IndexHeader.{IndexResolver};
 
@@ -117,8 +117,8 @@ impl<'a, K: KeyElement, V: Element, H: KeyHasher, W: PlaceWidth> ArchivedIndexMa
         K: Represents<A>,
         V: Represents<B>,
         requires ready { I.can_next iter }
-        ensures { let f = ⟦<IndexMapOf<K, V, H, W> as ListFormat<(BK, BV), (A, B)>>⟧.format in
-            WritesUnder W.Width (input I.next_gives iter len load_factor) f
+        ensures { WritesUnder W.Width (listing I.next_gives iter len load_factor)
+            ⟦<IndexMapOf<K, V, H, W> as ListFormat<(BK, BV), (A, B)>>⟧.format
             (S.output serializer.old) (S.output serializer.new) result }
     {
         match capacity(len, load_factor, W::MAX_CAPACITY) {

@@ -4,7 +4,7 @@ ghost use Rattle.std.specs.Prelude.{◌≡◌, ◌<◌, ◌≤◌, [], IfOk, IfS
 ghost use Rattle.std.specs.Prelude.{vec_capacity};
 ghost use Rattle.std.specs.Iterator.{Drains};
 ghost use Rattle.rkyv_table.specs.Table.Counting.{YieldsOtherCount};
-ghost use Rattle.rkyv_index.specs.Index.Writing.{made_of};
+ghost use Rattle.rkyv_index.specs.Index.Writing.{pairs_of};
 
 use rkyv_base::adapter::EntryAdapter;
 use rkyv_base::lend::Lend;
@@ -68,7 +68,7 @@ pub(crate) fn take_entries<
     requires empty { entries.old.items ≡ [] }
     requires room { len ≤ vec_capacity entries.old }
     ensures { MatchResult result
-        (λ _. Drains I.next_gives iter (made_of entries.new.items) × (length entries.new.items
+        (λ _. Drains I.next_gives iter (pairs_of entries.new.items) × (length entries.new.items
         ≡ len))
         (YieldsOtherCount I.next_gives len iter) }
 {

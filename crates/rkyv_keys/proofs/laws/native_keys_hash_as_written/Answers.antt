@@ -1,4 +1,4 @@
-use Rattle.rkyv_keys.specs.Lemmas.Asking.{hashes_as_written}
+use Rattle.rkyv_keys.specs.Lemmas.QueryLaws.{hashes_as_written}
 use Rattle.rkyv_keys.proofs.laws.native_keys_hash_as_written.Goals as goal
 
 pub returns : goal.returns

@@ -1,4 +1,4 @@
-use Rattle.rkyv_keys.specs.Lemmas.Asking.{asks_for_values}
+use Rattle.rkyv_keys.specs.Lemmas.QueryLaws.{asks_for_values}
 use Rattle.rkyv_keys.proofs.laws.queries_ask_for_values.Goals as goal
 
 pub returns : goal.returns

@@ -1,4 +1,4 @@
-use Rattle.rkyv_keys.specs.Lemmas.Asking.{rests_on_keys}
+use Rattle.rkyv_keys.specs.Lemmas.QueryLaws.{rests_on_keys}
 use Rattle.rkyv_keys.proofs.laws.queries_rest_on_keys.Goals as goal
 
 pub returns : goal.returns

@@ -45,7 +45,7 @@ returns-in_err-insert_read g c =
       | inr part ↦ inr (
         c.in-Some.key.pos,
         key,
-        subst (λ (a : Bor (List ℕ)). entry_refuses g.K.HasSpec.spec g.V.HasSpec.spec g.K.Deserialize.refuses g.V.Deserialize.refuses a.now c.in-Some.key.pos c.in_err-insert_read.field-0.0) (step.1.at.0 ∙ on.0.0) part,
+        subst (λ (a : Bor (List ℕ)). entry_refuses g.K.HasSpec.spec g.V.HasSpec.spec g.K.Deserialize.deserialize_fails g.V.Deserialize.deserialize_fails a.now c.in-Some.key.pos c.in_err-insert_read.field-0.0) (step.1.at.0 ∙ on.0.0) part,
       )
     ])
 

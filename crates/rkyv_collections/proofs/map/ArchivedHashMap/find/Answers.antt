@@ -7,9 +7,6 @@ use Rattle.rkyv_collections.proofs.map.ArchivedHashMap.find.Goals as goal
 pub returns-clause-found : goal.returns-clause-found
 returns-clause-found g c =
     let post = goal.F-post g c.args.cmp c.args.key in
-    let w = g.W.Word.word in
-    let k = g.K.HasSpec.spec in
-    let v = g.V.HasSpec.spec in
     let t = c.table.result in
     let at = c.table.ensures.at in
     let result = c.get_with.result in

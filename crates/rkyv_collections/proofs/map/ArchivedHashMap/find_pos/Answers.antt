@@ -1,6 +1,6 @@
 use Rattle.std.proofs.Common.{◌≡◌, ℕ, Option, sym, ◌∙◌}
 use Rattle.rkyv_base.specs.Seal.{archive_in, pos_in}
-use Rattle.rkyv_collections.specs.Map.{IsEntryAt, hash_at}
+use Rattle.rkyv_collections.specs.Map.{IsViewAt, hash_at}
 use Rattle.rkyv_collections.specs.Map.MapFormat.{hash_of}
 use Rattle.rkyv_collections.proofs.SealedMap.{accepted_read, by_read, entry_read, first_by_read}
 use Rattle.rkyv_collections.proofs.map.ArchivedHashMap.find_pos.Goals as goal
@@ -11,7 +11,7 @@ returns-clause-walked g c =
 
 pub returns-clause-finds : goal.returns-clause-finds
 returns-clause-finds g c =
-    let P = IsEntryAt c.find.result in
+    let P = IsViewAt c.find.result in
     let says : (place : Option ℕ) → P place → c.found_pos.result ≡ place = λ place at. c.found_pos.ensures ∙ at in
     let hash = hash_of g.H.KeyHasher.hasher g.Q.KeyHash.calls c.args.key.now in
     let key_hash = hash_at g.H.KeyHasher.hasher g.K.KeyElement.key_calls in

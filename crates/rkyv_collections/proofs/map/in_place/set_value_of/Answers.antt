@@ -56,7 +56,6 @@ returns-in-None-clause-listed g c = λ factor pairs st.
 
 pub returns-in-Some-clause-parts : goal.returns-in-Some-clause-parts
 returns-in-Some-clause-parts g c =
-    let e = g.N.Scalar.encoding in
     let t = c.in-Some.ensures.walked in
     value_nested_at g.W.Word.word g.K.HasSpec.spec g.N.HasSpec.spec g.K.HasSpec.laws g.N.HasSpec.laws
     c.args.archive.now c.set_at.new.bytes c.args.root t.0 c.in-Some.pos c.requires.map t.1 t.2 c.set_at.ensures.sealed c.set_at.ensures.holds

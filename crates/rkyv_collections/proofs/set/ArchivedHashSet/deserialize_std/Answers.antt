@@ -45,7 +45,7 @@ returns-in_err-insert_read g c =
       | inr part ↦ inr (
         c.in-Some.key.pos,
         member,
-        subst (λ (a : Bor (List ℕ)). g.K.Deserialize.refuses a.now c.in-Some.key.pos c.in_err-insert_read.field-0.0) (taken.1.at.0 ∙ on.0.0) part,
+        subst (λ (a : Bor (List ℕ)). g.K.Deserialize.deserialize_fails a.now c.in-Some.key.pos c.in_err-insert_read.field-0.0) (taken.1.at.0 ∙ on.0.0) part,
       )
     ])
 

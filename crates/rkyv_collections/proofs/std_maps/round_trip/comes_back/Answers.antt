@@ -1,6 +1,6 @@
 use Rattle.std.proofs.Common.{ℕ, ◌-◌, subst, sym, length, List}
 use Rattle.std.specs.Borrow.{Bor}
-use Rattle.rkyv_collections.proofs.Headline.{root_keeps}
+use Rattle.rkyv_collections.proofs.WrittenRoots.{root_keeps}
 use Rattle.rkyv_collections.proofs.std_maps.round_trip.comes_back.Goals as goal
 
 pub returns-then-not-eq_native : goal.returns-then-not-eq_native

@@ -7,7 +7,7 @@ use Rattle.rkyv_table.specs.Lemmas.TableLaws.{table_element}
 use Rattle.rkyv_collections.specs.Map.MapSpec.{map_spec}
 use Rattle.rkyv_collections.specs.Map.MapFormat.{hash_of}
 use Rattle.rkyv_collections.specs.StdMaps.StdLookups.{FindsAsked}
-use Rattle.rkyv_collections.proofs.Headline.{root_keeps}
+use Rattle.rkyv_collections.proofs.WrittenRoots.{root_keeps}
 use Rattle.rkyv_collections.proofs.StdFinding.{seen_looked_up}
 use Rattle.rkyv_collections.proofs.std_maps.round_trip.lookups_agree.Goals as goal
 
@@ -25,13 +25,13 @@ returns-clause-same g c =
     (seen_looked_up g.H.KeyHasher.hasher g.met.H.KeyHasher.fits w g.met.W.Width.layout.kind g.W.Width.MAX_CAPACITY kl vl met.Query.query met.Query.query met.NativeKey.native met.Eq.laws.refl met.NativeKey.reads
     met.Archive.laws g.met.B.EqualsWritten.equal (λ x. x.map.entries))
     c.args.map.now b (length b - s.size) c.in-Ok.ensures.2 in
-    let asked : told b (length b - s.size) = at key (g.A.PartialEq.eq key) (met.NativeKey.reads key) (λ a q represents there. met.NativeKey.native key a b q represents there) in
+    let asked : told b (length b - s.size) = at key (g.A.PartialEq.eq key) (met.NativeKey.reads key) (λ a q valid there. met.NativeKey.native key a b q valid there) in
     let root = c.in-Ok-access_in.ensures.root.1 in
     let read = c.as_slice.result in
     let here = subst (λ (xs : List ℕ). told xs (length xs - s.size)) (sym c.as_slice.ensures.value) asked in
     let there = subst (λ (a : Bor (List ℕ)). told a.now (length read.now - s.size)) (sym root.0) here in
-    let viewable = subst (λ (q : ℕ). told c.in-Ok-access_in.root.archive.now q) (sym root.1) there in
-    c.answers_as.ensures.1 (subst (λ view. told (bytes_of view) (pos_of view)) (sym c.of.ensures.view) viewable)
+    let at_root = subst (λ (q : ℕ). told c.in-Ok-access_in.root.archive.now q) (sym root.1) there in
+    c.answers_as.ensures.1 (subst (λ view. told (bytes_of view) (pos_of view)) (sym c.of.ensures.view) at_root)
 
 -- the written archive is accepted
 pub returns-in-Err-access_in-clause-same : goal.returns-in-Err-access_in-clause-same

@@ -1,6 +1,6 @@
 use Rattle.std.proofs.Common.{string_bytes, refl, inr}
+use Rattle.rkyv_dict.specs.Dicts.{state_seen}
 use Rattle.rkyv_dict.specs.Output.{refused_line}
-use Rattle.rkyv_dict.specs.Shown.{state_seen}
 use Rattle.rkyv_dict.proofs.Adding.{adds_this}
 use Rattle.rkyv_dict.proofs.Sound.{refused_here}
 use Rattle.rkyv_dict.proofs.dict.Dict.check.Goals as goal

@@ -1,7 +1,7 @@
 use Rattle.std.proofs.Common.{ap}
 use Rattle.std.specs.Option.{option_map}
+use Rattle.rkyv_dict.specs.Dicts.{archived_seen, state_seen}
 use Rattle.rkyv_dict.specs.Forms.{pairs_seen}
-use Rattle.rkyv_dict.specs.Shown.{archived_seen, state_seen}
 use Rattle.rkyv_dict.proofs.Sound.{archive_here}
 use Rattle.rkyv_dict.proofs.dict.Dict.push_list.Goals as goal
 

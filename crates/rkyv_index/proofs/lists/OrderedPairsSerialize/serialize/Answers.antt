@@ -14,15 +14,15 @@ use Rattle.rkyv_index.proofs.lists.OrderedPairsSerialize.serialize.Goals as goal
 pub returns : goal.returns
 returns g c =
     let values = c.args.self.now.0.items in
-    let halves : PairRefs g.row.A.Denot g.row.B.Denot = c.of-halves.result in
-    let view : Bor g.row.A.Denot × Bor g.row.B.Denot → g.row.A.Denot × g.row.B.Denot = λ halves. (halves.0.now, halves.1.now) in
+    let pairs : PairRefs g.row.A.Denot g.row.B.Denot = c.of-pairs.result in
+    let view : Bor g.row.A.Denot × Bor g.row.B.Denot → g.row.A.Denot × g.row.B.Denot = λ pair. (pair.0.now, pair.1.now) in
     let rest : PairRefs g.row.A.Denot g.row.B.Denot → List (g.row.A.Denot × g.row.B.Denot) = λ s. iter_rest s.pairs in
     let steps = YieldsFirstBy view rest in
     let hash = hash_of (fx_hasher low_halves) g.A.KeyHash.calls in
     let f = index_format g.W.Word.word g.W.Place.HasSpec.spec g.W.Place.Scalar.encoding g.A.Archived.HasSpec.spec g.B.Archived.HasSpec.spec g.A.Archive.format g.B.Archive.format hash (7, 8) in
-    let all : iter_rest halves.pairs ≡ values = search rules in
+    let all : iter_rest pairs.pairs ≡ values = search rules in
     let count : c.len.result ≡ length values = search rules in
-    answers_listed (Drains steps halves) (YieldsOtherCount steps c.len.result halves) (lent_pairs (λ k. k.now) (λ k. k.now)) values
-    (λ items d. all_came view rest items halves d ∙ all) (λ n h. no_other_came view rest c.len.result halves (ap length all ∙ sym count) n h)
+    answers_listed (Drains steps pairs) (YieldsOtherCount steps c.len.result pairs) (lent_pairs (λ k. k.now) (λ k. k.now)) values
+    (λ items d. all_came view rest items pairs d ∙ all) (λ n h. no_other_came view rest c.len.result pairs (ap length all ∙ sym count) n h)
     c.len.result count (7, 8) g.W.Width.MAX_CAPACITY g.W.Width.LIMIT f (g.S.Writer.output c.args.serializer.now) (g.S.Writer.output c.serialize_from_iter.new.serializer)
     c.serialize_from_iter.result c.serialize_from_iter.ensures

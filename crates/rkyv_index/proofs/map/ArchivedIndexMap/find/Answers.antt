@@ -40,8 +40,8 @@ returns-clause-found g c =
     (λ h r x.
     let there = subst (λ n. IsKeyIn w k v m.view n x.2.0) x.1 x.2.1 in
     (x.2.0, record { below = there.below; at = there.at; viewable = there.viewable }, x.2.2))
-    c.hash_value-hash.result _ c.hash_value-hash.ensures f.held f.found c.find_place.result
-    (f.is ∙ place_found m g.W.Place.Scalar.encoding g.met.W.Place.Scalar.laws g.met.W.Width.place c.table-table.result c.table-table.ensures.at f.held f.found.walked)
+    c.hash_value-hash.result _ c.hash_value-hash.ensures f.item f.found c.find_place.result
+    (f.is ∙ place_found m g.W.Place.Scalar.encoding g.met.W.Place.Scalar.laws g.met.W.Width.place c.table-table.result c.table-table.ensures.at f.item f.found.walked)
 
 pub returns-clause-bounded : goal.returns-clause-bounded
 returns-clause-bounded g c =

@@ -2,13 +2,13 @@ use Rattle.std.proofs.Common.{◌<◌}
 use Rattle.std.specs.Prelude.{IfSome}
 use Rattle.std.proofs.lemmas.Option.{IfSome_then}
 use Rattle.rkyv_table.specs.Table.Header.{len_at}
-use Rattle.rkyv_index.specs.Index.{IsStoredAt, IsPlace, hash_at}
+use Rattle.rkyv_index.specs.Index.{IsIndex, IsStoredAt, hash_at}
 use Rattle.rkyv_index.specs.Index.IndexFormat.{hash_of}
 use Rattle.rkyv_index.proofs.SealedIndex.{as_read, finds_first_key_read, finds_key_read}
 use Rattle.rkyv_index.proofs.map.ArchivedIndexMap.find_key_in.Goals as goal
 
-pub returns-clause-held : goal.returns-clause-held
-returns-clause-held g c = as_read c.read.result _ _ c.read.ensures.bytes c.read.ensures.pos (λ d r. IfSome c.find_key.result (IsStoredAt g.W.Word.word d r)) (IfSome_then c.find_key.result c.find_key.ensures.walked (λ i there. there.0))
+pub returns-clause-stored : goal.returns-clause-stored
+returns-clause-stored g c = as_read c.read.result _ _ c.read.ensures.bytes c.read.ensures.pos (λ d r. IfSome c.find_key.result (IsStoredAt g.W.Word.word d r)) (IfSome_then c.find_key.result c.find_key.ensures.walked (λ i there. there.0))
 
 pub returns-clause-below : goal.returns-clause-below
 returns-clause-below g c = as_read c.read.result _ _ c.read.ensures.bytes c.read.ensures.pos (λ d r. IfSome c.find_key.result (λ i. i < len_at g.W.Word.word d r)) (IfSome_then c.find_key.result c.find_key.ensures.walked (λ i there. there.1))
@@ -16,9 +16,9 @@ returns-clause-below g c = as_read c.read.result _ _ c.read.ensures.bytes c.read
 pub returns-clause-answer : goal.returns-clause-answer
 returns-clause-answer g c =
     finds_key_read c.read.result _ _ c.read.ensures.bytes c.read.ensures.pos
-    (g.Q.Query.fits c.args.key.now) (IsPlace c.find_key.result) (hash_of g.H.KeyHasher.hasher g.Q.KeyHash.calls c.args.key.now) c.find_key.ensures.answer
+    (g.Q.Query.fits c.args.key.now) (IsIndex c.find_key.result) (hash_of g.H.KeyHasher.hasher g.Q.KeyHash.calls c.args.key.now) c.find_key.ensures.answer
 
 pub returns-clause-first : goal.returns-clause-first
 returns-clause-first g c =
     finds_first_key_read c.read.result _ _ c.read.ensures.bytes c.read.ensures.pos
-    (g.Q.Query.fits c.args.key.now) (IsPlace c.find_key.result) (hash_at g.H.KeyHasher.hasher g.K.KeyElement.key_calls) c.find_key.ensures.first
+    (g.Q.Query.fits c.args.key.now) (IsIndex c.find_key.result) (hash_at g.H.KeyHasher.hasher g.K.KeyElement.key_calls) c.find_key.ensures.first

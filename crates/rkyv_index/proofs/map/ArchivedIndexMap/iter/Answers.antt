@@ -6,7 +6,7 @@ use Rattle.rkyv_base.specs.Lemmas.Entry.{entry_element}
 use Rattle.rkyv_base.specs.ElementSpec.{Viewable}
 use Rattle.rkyv_index.specs.Index.{index_bytes, index_len, index_pos, key_positions, row}
 use Rattle.rkyv_index.specs.Index.IndexLayout.{entries_pos}
-use Rattle.rkyv_index.proofs.Held.{entries_inside, entries_viewable}
+use Rattle.rkyv_index.proofs.ValidIndexMap.{entries_inside, entries_viewable}
 use Rattle.rkyv_index.proofs.Rows.{row_length}
 use Rattle.rkyv_index.proofs.map.ArchivedIndexMap.iter.Goals as goal
 

@@ -5,7 +5,7 @@ use Rattle.rkyv_index.specs.Index.Equality.{is_misplaced, keys_strides, own_stri
 use Rattle.rkyv_index.specs.Index.{hash_at, index_len, index_of}
 use Rattle.rkyv_index.specs.declared.map.ArchivedIndexMap.{ArchivedIndexMap}
 use Rattle.rkyv_index.proofs.Counted.{all_told, left_first, none_more, one_more, sum_end, sum_first, sum_step}
-use Rattle.rkyv_index.proofs.map.ArchivedIndexMap.misplaced_up_to_counted.Goals.{After-is_misplaced-another, then-another, else-another}
+use Rattle.rkyv_index.proofs.map.ArchivedIndexMap.misplaced_up_to_counted.Goals.{After-is_misplaced-is_misplaced, then-is_misplaced, else-is_misplaced}
 use Rattle.rkyv_index.proofs.map.ArchivedIndexMap.misplaced_up_to_counted.Goals as goal
 
 pub loop-place-init : goal.loop-place-init
@@ -19,35 +19,35 @@ loop-place-init g c =
     record { few = omega arith; told = omega (arith, e); spent = omega (arith, c.count-before.ensures, s); within = omega (arith, c.count-before.ensures, c.requires.room) }
 
 -- the lookup of one key: the key is below the length, and the strides are counted
-module _ (g : _) (c : After-is_misplaced-another g) where
+module _ (g : _) (c : After-is_misplaced-is_misplaced g) where
   below : c.loop-place.place < index_len c.args.self
   below = let end : c.len-place-end.result ≡ index_len c.args.self = c.len-place-end.ensures in omega (arith, c.loop-place-test.true, end)
 
   spent : c.count-before.result + keys_strides (index_of c.args.self) (hash_at g.H.KeyHasher.hasher g.K.KeyElement.key_calls) g.K.ElementEq.same
-      ≡ c.is_misplaced-another.new.strides + sum_by (own_strides (index_of c.args.self) (hash_at g.H.KeyHasher.hasher g.K.KeyElement.key_calls) g.K.ElementEq.same)
+      ≡ c.is_misplaced-is_misplaced.new.strides + sum_by (own_strides (index_of c.args.self) (hash_at g.H.KeyHasher.hasher g.K.KeyElement.key_calls) g.K.ElementEq.same)
       (range_with_len (c.loop-place.place + 1) (index_len c.args.self - (c.loop-place.place + 1)))
   spent =
       let index : ArchivedIndexMap _ _ _ _ _ _ _ → _ = index_of in
       let key_hash = hash_at g.H.KeyHasher.hasher g.K.KeyElement.key_calls in
       let same = g.K.ElementEq.same in
       let f : ℕ → ℕ = own_strides (index c.args.self) key_hash same in
-      let now : c.is_misplaced-another.new.strides ≡ c.loop-place.strides + f c.loop-place.place =
-      c.is_misplaced-another.ensures.counted ∙ ap (λ x. c.loop-place.strides + own_strides (index x) key_hash same c.loop-place.place) c.entries-entries.ensures.map in
+      let now : c.is_misplaced-is_misplaced.new.strides ≡ c.loop-place.strides + f c.loop-place.place =
+      c.is_misplaced-is_misplaced.ensures.counted ∙ ap (λ x. c.loop-place.strides + own_strides (index x) key_hash same c.loop-place.place) c.entries-entries.ensures.map in
       let step = sum_step f c.loop-place.place (index_len c.args.self) below in
       omega (arith, now, step, c.loop-place.invariant.spent)
 
-  on : c.loop-place.strides ≤ c.is_misplaced-another.new.strides
-  on = reads_on _ _ _ _ c.is_misplaced-another.ensures.bounded
+  on : c.loop-place.strides ≤ c.is_misplaced-is_misplaced.new.strides
+  on = reads_on _ _ _ _ c.is_misplaced-is_misplaced.ensures.bounded
 
 pub is_past-requires : goal.is_past-requires
-is_past-requires g c = omega (arith, on g (goal.at.is_past-requires g c).After-is_misplaced-another, c.loop-place.invariant.within.0, c.count.ensures)
+is_past-requires g c = omega (arith, on g (goal.at.is_past-requires g c).After-is_misplaced-is_misplaced, c.loop-place.invariant.within.0, c.count.ensures)
 
 pub returns-then-is_past-clause-counts : goal.returns-then-is_past-clause-counts
 returns-then-is_past-clause-counts g c =
     let m = index_of c.args.self in
     let key_hash = hash_at g.H.KeyHasher.hasher g.K.KeyElement.key_calls in
     let strides = keys_strides m key_hash g.K.ElementEq.same in
-    let all = spent g (goal.at.returns-then-is_past-clause-counts g c).After-is_misplaced-another in
+    let all = spent g (goal.at.returns-then-is_past-clause-counts g c).After-is_misplaced-is_misplaced in
     subst (λ n. (c.args.limit < strides) ⊎ (2 ^ 63 < n + strides)) c.count-before.ensures
     (past_all c.count-before.result _ _ strides _ all (rw c.count.ensures at c.is_past.ensures.past c.if-is_past.true))
 
@@ -59,22 +59,22 @@ loop-place-preserved g c =
     let same = g.K.ElementEq.same in
     let P : ℕ → Bool = is_misplaced (index c.args.self) key_hash same in
     let i : ℕ = c.loop-place.place in
-    let at = (goal.at.loop-place-preserved g c).After-is_misplaced-another in
+    let at = (goal.at.loop-place-preserved g c).After-is_misplaced-is_misplaced in
     let lt = below g at in
-    let is : c.is_misplaced-another.result ≡ P i = c.is_misplaced-another.ensures.told ∙ ap (λ x. is_misplaced (index x) key_hash same i) c.entries-entries.ensures.map in
+    let is : c.is_misplaced-is_misplaced.result ≡ P i = c.is_misplaced-is_misplaced.ensures.told ∙ ap (λ x. is_misplaced (index x) key_hash same i) c.entries-entries.ensures.map in
     let inv = c.loop-place.invariant in
     let few = inv.few in
     let all = spent g at in
     let more = on g at in
-    let within : (c.count-before.result ≤ c.is_misplaced-another.new.strides) × (c.is_misplaced-another.new.strides ≤ c.count-before.result + c.args.limit) × (c.is_misplaced-another.new.strides ≤ 2 ^ 63) =
+    let within : (c.count-before.result ≤ c.is_misplaced-is_misplaced.new.strides) × (c.is_misplaced-is_misplaced.new.strides ≤ c.count-before.result + c.args.limit) × (c.is_misplaced-is_misplaced.new.strides ≤ 2 ^ 63) =
     omega (arith, more, inv.within, c.count.ensures, c.is_past.ensures.within c.if-is_past.false) in
-    elim c.if-another.branch [
-      | then-another x ↦
+    elim c.if-is_misplaced.branch [
+      | then-is_misplaced x ↦
           let e = x.count-is in
-          record { few = omega arith; told = one_more P _ i n _ inv.told _ lt (sym is ∙ x.if-another.true) e; spent = all; within = within }
-      | else-another x ↦
+          record { few = omega arith; told = one_more P _ i n _ inv.told _ lt (sym is ∙ x.if-is_misplaced.true) e; spent = all; within = within }
+      | else-is_misplaced x ↦
           let e = x.count-is in
-          record { few = omega arith; told = none_more P _ i n _ inv.told _ lt (sym is ∙ x.if-another.false) e; spent = all; within = within }
+          record { few = omega arith; told = none_more P _ i n _ inv.told _ lt (sym is ∙ x.if-is_misplaced.false) e; spent = all; within = within }
     ]
 
 pub returns-clause-counts : goal.returns-clause-counts

@@ -6,10 +6,10 @@ use Rattle.rkyv_table.specs.Table.Header.{len_at}
 use Rattle.rkyv_index.specs.Index.{index_len, key_pos}
 use Rattle.rkyv_index.specs.Index.SealedIndex.{IsPairPos}
 use Rattle.rkyv_index.specs.Index.ValueWrites.{pair_at}
-use Rattle.rkyv_index.proofs.Held.{entry_viewable}
+use Rattle.rkyv_index.proofs.ValidIndexMap.{entry_viewable}
 use Rattle.rkyv_table.proofs.Moved.{moved}
 use Rattle.rkyv_index.proofs.SealedIndex.{as_read}
-use Rattle.rkyv_index.proofs.ValueWrites.{pair_place}
+use Rattle.rkyv_index.proofs.ValueWrites.{pair_position}
 use Rattle.rkyv_index.proofs.map.ArchivedIndexMap.pair_pos_in.Goals as goal
 
 pub entry-requires-clause-below : goal.entry-requires-clause-below
@@ -26,12 +26,12 @@ returns-clause-at g c =
     let is = c.pos.ensures ∙ c.entry.ensures.at.1 ∙ ap (λ m. key_pos m c.args.place) c.entries.ensures.map
     ∙ as_read c.read.result _ _ c.read.ensures.bytes c.read.ensures.pos (λ d r. key_pos c.read.result c.args.place ≡ there d r) refl in
     subst (IsPairPos w k v _ _ c.args.place) (sym is)
-    (pair_place w g.met.W.Width.layout.kind k v g.K.HasSpec.laws g.V.HasSpec.laws _ _ c.requires.map c.args.place c.requires.below)
+    (pair_position w g.met.W.Width.layout.kind k v g.K.HasSpec.laws g.V.HasSpec.laws _ _ c.requires.map c.args.place c.requires.below)
 
 pub returns-clause-entry : goal.returns-clause-entry
 returns-clause-entry g c =
     let k = g.K.HasSpec.spec in
     let v = g.V.HasSpec.spec in
     let at = returns-clause-at g c in
-    subst (Viewable (entry_spec k v) _) (sym at.place)
+    subst (Viewable (entry_spec k v) _) (sym at.pos)
     (entry_viewable g.W.Word.word g.met.W.Width.layout.kind (entry_spec k v) (entry_element k v g.K.HasSpec.laws g.V.HasSpec.laws) _ _ c.requires.map c.args.place c.requires.below)

@@ -3,9 +3,9 @@ use Rattle.std.specs.Iterator.{Drains}
 use Rattle.rkyv_base.specs.declared.adapter.EntryAdapter.{EntryAdapter}
 use Rattle.rkyv_table.specs.Table.Counting.{YieldsOtherCount}
 use Rattle.rkyv_table.specs.Table.Serializing.{HasCapacity}
-use Rattle.rkyv_index.specs.Index.Writing.{made_of}
+use Rattle.rkyv_index.specs.Index.Writing.{pairs_of}
 use Rattle.rkyv_index.specs.Index.IndexFormat.{hash_of}
-use Rattle.rkyv_index.proofs.SeenRow.{answers_items}
+use Rattle.rkyv_index.proofs.LentRow.{answers_items}
 use Rattle.rkyv_index.proofs.map.ArchivedIndexMap.serialize_from_iter.Goals as goal
 
 pub returns : goal.returns
@@ -16,7 +16,7 @@ returns g c =
     let hash = hash_of g.H.KeyHasher.hasher g.A.KeyHash.calls in
     let entries : List (EntryAdapter g.row.BK.Denot g.row.BV.Denot g.row.A.Denot g.row.B.Denot) = c.as_slice.result.now in
     let there = sym c.as_slice.ensures.value in
-    let exactly : Drains steps c.args.iter (made_of entries) = subst (λ (xs : List (EntryAdapter g.row.BK.Denot g.row.BV.Denot g.row.A.Denot g.row.B.Denot)). Drains steps c.args.iter (made_of xs)) there c.in-Ok-take_entries.ensures.0 in
+    let exactly : Drains steps c.args.iter (pairs_of entries) = subst (λ (xs : List (EntryAdapter g.row.BK.Denot g.row.BV.Denot g.row.A.Denot g.row.B.Denot)). Drains steps c.args.iter (pairs_of xs)) there c.in-Ok-take_entries.ensures.0 in
     let count : length entries ≡ c.args.len = ap length c.as_slice.ensures.value ∙ c.in-Ok-take_entries.ensures.1 in
     answers_items g.row.S-Fault.Denot g.BK.Lend.lent g.BV.Lend.lent g.W.Word.word g.W.Place.HasSpec.spec g.W.Place.Scalar.encoding g.K.HasSpec.spec g.V.HasSpec.spec g.A.Archive.format g.B.Archive.format hash c.args.load_factor
     (Drains steps c.args.iter) (YieldsOtherCount steps c.args.len c.args.iter) c.args.len g.W.Width.MAX_CAPACITY g.W.Width.LIMIT has entries exactly count

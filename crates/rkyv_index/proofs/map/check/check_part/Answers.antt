@@ -7,15 +7,15 @@ use Rattle.rkyv_index.proofs.map.check.check_part.Goals as goal
 
 pub returns-in_err-begin : goal.returns-in_err-begin
 returns-in_err-begin g c =
-    let fits : FitsSigned w128 c.decode_begin-told.result = search rules in
-    let told = told_is c.decode_begin-told.result (decode_entries g.W.Word.word c.args.bytes.now c.args.pos) fits c.decode_begin-told.ensures.told in
+    let fits : FitsSigned w128 c.decode_entries-told.result = search rules in
+    let told = told_is c.decode_entries-told.result (decode_entries g.W.Word.word c.args.bytes.now c.args.pos) fits c.decode_entries-told.ensures.told in
     let p = err_from_is_err_and c.from_residual.result c.from_residual.ensures.1 in
     rw (p.1, p.2) (inl (rw (told, c.entries_size.ensures, c.size-size.ensures, c.align.ensures) at c.in_err-begin.ensures))
 
 pub returns : goal.returns
 returns g c =
-    let fits : FitsSigned w128 c.decode_begin-told.result = search rules in
-    let told = told_is c.decode_begin-told.result (decode_entries g.W.Word.word c.args.bytes.now c.args.pos) fits c.decode_begin-told.ensures.told in
+    let fits : FitsSigned w128 c.decode_entries-told.result = search rules in
+    let told = told_is c.decode_entries-told.result (decode_entries g.W.Word.word c.args.bytes.now c.args.pos) fits c.decode_entries-told.ensures.told in
     record {
       begin = c.in_ok-begin.begin;
       part = rw (told, c.entries_size.ensures, c.size-size.ensures, c.align.ensures) at c.in_ok-begin.ensures;
@@ -26,7 +26,7 @@ returns g c =
 
 pub returns-in_err-check_entries : goal.returns-in_err-check_entries
 returns-in_err-check_entries g c =
-    let fits : FitsSigned w128 c.decode_begin-told.result = search rules in
-    let told = told_is c.decode_begin-told.result (decode_entries g.W.Word.word c.args.bytes.now c.args.pos) fits c.decode_begin-told.ensures.told in
+    let fits : FitsSigned w128 c.decode_entries-told.result = search rules in
+    let told = told_is c.decode_entries-told.result (decode_entries g.W.Word.word c.args.bytes.now c.args.pos) fits c.decode_entries-told.ensures.told in
     let p = err_from_is_err_and c.from_residual-in_err-check_entries.result c.from_residual-in_err-check_entries.ensures.1 in
     rw (p.1, p.2) (inr (c.in_ok-begin.begin, rw (told, c.entries_size.ensures, c.size-size.ensures, c.align.ensures) at c.in_ok-begin.ensures, c.in_err-check_entries.ensures.fails))

@@ -12,18 +12,18 @@ use Rattle.rkyv_table.specs.Table.Positions.{item_positions}
 use Rattle.rkyv_table.specs.Table.RawItems.{AllValid, ItemsLeft}
 use Rattle.rkyv_table.proofs.Moved.{moved}
 use Rattle.rkyv_index.specs.Index.IndexLayout.{AreBelow, FirstNotBelow, PlacesBelow}
-use Rattle.rkyv_index.specs.Lemmas.PlaceSpecs.{places_viewable}
+use Rattle.rkyv_index.specs.Lemmas.PlaceSpecs.{number_table_viewable}
 use Rattle.rkyv_index.proofs.Checking.{buckets_below, decoded_before, decoded_begin, decoded_inside, holds_there, view_there}
 use Rattle.rkyv_index.proofs.map.check.check_places.Goals as goal
 
 pub new-requires : goal.new-requires
-new-requires g c = places_viewable g.W.Word.word g.W.Place.HasSpec.spec g.W.Place.Scalar.encoding g.met.W.Place.Scalar.laws g.met.W.Width.place c.args.bytes.now c.args.pos c.requires
+new-requires g c = number_table_viewable g.W.Word.word g.W.Place.HasSpec.spec g.W.Place.Scalar.encoding g.met.W.Place.Scalar.laws g.met.W.Width.place c.args.bytes.now c.args.pos c.requires
 
 pub of-table-requires : goal.of-table-requires
 of-table-requires g c =
     let s = table_spec g.W.Word.word g.W.Place.HasSpec.spec in
     view_there s c.new.result c.args.bytes c.args.pos c.new.ensures
-    (places_viewable g.W.Word.word g.W.Place.HasSpec.spec g.W.Place.Scalar.encoding g.met.W.Place.Scalar.laws g.met.W.Width.place c.args.bytes.now c.args.pos c.requires)
+    (number_table_viewable g.W.Word.word g.W.Place.HasSpec.spec g.W.Place.Scalar.encoding g.met.W.Place.Scalar.laws g.met.W.Width.place c.args.bytes.now c.args.pos c.requires)
 
 pub buckets_begin-requires : goal.buckets_begin-requires
 buckets_begin-requires g c =

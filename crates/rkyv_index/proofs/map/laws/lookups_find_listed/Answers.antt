@@ -5,8 +5,8 @@ use Rattle.rkyv_base.specs.Entry.{entry_spec}
 use Rattle.rkyv_base.specs.Lemmas.Entry.{entry_element}
 use Rattle.rkyv_keys.specs.Lemmas.OfEntries.{valid_key}
 use Rattle.rkyv_index.specs.Index.{fits_at, index_bytes, index_len, index_of, index_pos, key_pos}
-use Rattle.rkyv_index.proofs.Held.{entry_viewable}
-use Rattle.rkyv_index.proofs.Listed.{first_listed}
+use Rattle.rkyv_index.proofs.ValidIndexMap.{entry_viewable}
+use Rattle.rkyv_index.proofs.FirstListed.{first_listed}
 use Rattle.rkyv_index.proofs.map.laws.lookups_find_listed.Goals as goal
 
 pub returns : goal.returns

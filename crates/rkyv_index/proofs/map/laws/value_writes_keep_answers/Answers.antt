@@ -1,4 +1,4 @@
-use Rattle.rkyv_keys.specs.Lemmas.Asking.{rests_on_keys}
+use Rattle.rkyv_keys.specs.Lemmas.QueryLaws.{rests_on_keys}
 use Rattle.rkyv_index.specs.Index.{hash_at}
 use Rattle.rkyv_index.specs.Index.IndexFormat.{hash_of}
 use Rattle.rkyv_index.proofs.ValueWrites.{hash_local, index_kept, rests_on_each}

@@ -4,7 +4,7 @@ use Rattle.std.specs.List.{slice_get}
 use Rattle.std.proofs.lemmas.Result.{err_from_is_err_and}
 use Rattle.rkyv_index.specs.Index.{key_pos}
 use Rattle.rkyv_index.specs.Set.IndexSet.{keys_of, set_bytes}
-use Rattle.rkyv_index.proofs.ReadPairs.{pushed_too}
+use Rattle.rkyv_index.proofs.ListSteps.{pushed_too}
 use Rattle.rkyv_index.proofs.set.ArchivedIndexSet.deserialize_items.Goals as goal
 
 pub loop-place-preserved : goal.loop-place-preserved
@@ -25,5 +25,5 @@ returns-in_err-item g c =
     let p = err_from_is_err_and c.from_residual.result c.from_residual.ensures.1 in
     let s = c.args.self in
     let inv = c.loop-place.invariant in
-    let at = subst (λ n. g.K.Deserialize.refuses (set_bytes s) (key_pos (keys_of s) n) c.in_err-item.field-0.0) (sym inv.0) c.in_err-item.ensures in
+    let at = subst (λ n. g.K.Deserialize.deserialize_fails (set_bytes s) (key_pos (keys_of s) n) c.in_err-item.field-0.0) (sym inv.0) c.in_err-item.ensures in
     rw (p.1, p.2) (inr (c.loop-place.list.items, omega (arith, inv.0), inv.1, at))

@@ -11,6 +11,6 @@ returns g c =
     let i = c.args.place in
     let there = c.entries.result.map in
     let at = c.entry.ensures.at in
-    let Read : List ℕ → ℕ → Type 0 = λ b p. MatchResult c.deserialize.result (g.K.Represents.represents b p) (g.K.Deserialize.refuses b p) in
+    let Read : List ℕ → ℕ → Type 0 = λ b p. MatchResult c.deserialize.result (g.K.Represents.represents b p) (g.K.Deserialize.deserialize_fails b p) in
     subst (λ m. Read (index_bytes m) (key_pos m i)) c.entries.ensures.map
     (subst (Read (index_bytes there)) (c.key.ensures.at.1 ∙ at.1) (subst (λ (a : Bor (List ℕ)). Read a.now c.key.result.pos) (c.key.ensures.at.0 ∙ at.0) c.deserialize.ensures))

@@ -11,8 +11,8 @@ use Rattle.rkyv_keys.specs.Lemmas.OfEntries.{valid_key}
 use Rattle.rkyv_table.specs.Table.Header.{len_at}
 use Rattle.rkyv_table.specs.Table.ItemValues.{with_units}
 use Rattle.rkyv_index.specs.Index.ValueWrites.{pair_at}
-use Rattle.rkyv_index.proofs.Held.{entry_viewable}
-use Rattle.rkyv_index.proofs.ReadPairs.{equal_lists}
+use Rattle.rkyv_index.proofs.ValidIndexMap.{entry_viewable}
+use Rattle.rkyv_index.proofs.ListSteps.{equal_lists}
 use Rattle.rkyv_index.proofs.set.laws.items_read_back_are_listed.Goals as goal
 
 pub returns : goal.returns
@@ -28,4 +28,4 @@ returns g c = λ b p factor listed read view st reads.
     let there = entry_viewable w g.met.W.Width.layout.kind (entry_spec k unit_spec) (entry_element k unit_spec kl unit_element) b p view i below in
     let at : slice_get (with_units listed) i ≡ Some (x, tt) = slice_get-map paired listed i ∙ ap (option_map paired) e in
     let q = pair_at w k unit_spec b p i in
-    g.met.K.RepresentsUniquely.alone x y b q (valid_key kl unit_element b q there.valid) (st.at i (x, tt) at).0 (reads.1 i y e'))
+    g.met.K.RepresentsUniquely.once x y b q (valid_key kl unit_element b q there.valid) (st.at i (x, tt) at).0 (reads.1 i y e'))

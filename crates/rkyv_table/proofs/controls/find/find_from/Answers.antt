@@ -1,14 +1,14 @@
 use Rattle.std.proofs.Common.{arith, ◌≡◌, ℕ, ◌+◌, ◌/◌, ◌<◌, sym, ap, ◌∙◌, Bool, List, Option, length, drop, length-take, length-drop, []}
-use Rattle.rkyv_table.specs.Controls.Shown.{IsFullBucket}
+use Rattle.rkyv_table.specs.Controls.ControlBytes.{IsFullBucket}
 use Rattle.rkyv_table.specs.Controls.Finding.{AnswersAs, ReadsWithin, end, found}
-use Rattle.rkyv_table.specs.Controls.StrideOutcome.{IsShown}
+use Rattle.rkyv_table.specs.Controls.StrideOutcome.{IsFullInStride}
 use Rattle.rkyv_table.proofs.Coverage.{count_strides, stride_below}
 use Rattle.rkyv_table.proofs.FirstFree.{member_front, member_rest}
 use Rattle.rkyv_table.specs.Controls.Numbers.{probe_capacity, tag}
 use Rattle.rkyv_table.specs.Controls.Probe.{strides}
 use Rattle.rkyv_table.proofs.Search.{answer}
 use Rattle.rkyv_table.specs.Controls.Placing.{Accepted}
-use Rattle.rkyv_table.proofs.Lookup.{place, ends_by_item, ends_by_empty, goes_on, ends_somewhere, found_is, end_is, few_strides, stride_full, shown_full}
+use Rattle.rkyv_table.proofs.Lookup.{end_index, ends_by_item, ends_by_empty, goes_on, ends_somewhere, found_is, end_is, few_strides, stride_full, shown_full}
 use Rattle.rkyv_table.proofs.controls.find.find_from.Goals as goal
 use Rattle.rkyv_table.proofs.controls.find.find_from.Goals.{After-cmp-1}
 
@@ -23,7 +23,7 @@ loop-pos-init g c =
       members = λ p m. rw (← same) m;
       up = omega arith;
       same = λ accept answers. ap (answer g.G.GroupKind.kind c.args.controls.now c.args.cap (tag c.args.hash) accept) (sym same);
-      counted = λ accept answers. ap (λ ps. c.args.strides.now + place g.G.GroupKind.kind c.args.controls.now c.args.cap (tag c.args.hash) accept ps) same;
+      counted = λ accept answers. ap (λ ps. c.args.strides.now + end_index g.G.GroupKind.kind c.args.controls.now c.args.cap (tag c.args.hash) accept ps) same;
     }
 
 -- a stride that was read
@@ -34,17 +34,17 @@ module _ (g : _) (c : After-cmp-1 g) where
   below : c.in-Some.pos < probe_capacity c.args.cap
   below = let room = accepted.room in stride_below c.args.hash c.args.cap c.in-Some.pos (omega arith) (c.loop-pos.invariant.members c.in-Some.pos (member_front c.in-Some.pos c.next.new.self c.loop-pos.pos-iterator c.in-Some.ensures.steps))
 
-  full : (b : ℕ) → IsShown c.stride.result.now c.in-Some.pos c.args.cap b → IsFullBucket c.args.cap c.args.controls.now b
+  full : (b : ℕ) → IsFullInStride c.stride.result.now c.in-Some.pos c.args.cap b → IsFullBucket c.args.cap c.args.controls.now b
   full = shown_full c.args.cap c.args.len c.args.controls.now c.stride.result.now c.in-Some.pos accepted below c.stride.ensures.value
 
   module _ (accept : ℕ → Bool) (answers : AnswersAs (goal.F-post g c.args.cmp) (IsFullBucket c.args.cap c.args.controls.now) accept) where
-    asked : AnswersAs (goal.F-post g c.args.cmp) (IsShown c.stride.result.now c.in-Some.pos c.args.cap) accept
+    asked : AnswersAs (goal.F-post g c.args.cmp) (IsFullInStride c.stride.result.now c.in-Some.pos c.args.cap) accept
     asked b r shown told = answers b r (full b shown) told
 
     answered : (r : Option ℕ) → answer g.G.GroupKind.kind c.args.controls.now c.args.cap (tag c.args.hash) accept c.loop-pos.pos-iterator ≡ r → r ≡ found g.G.GroupKind.kind c.args.controls.now c.args.cap c.args.len c.args.hash accept
     answered r e = sym (found_is g.G.GroupKind.kind c.args.controls.now c.args.cap c.args.len c.args.hash accept c.if-len-eq0.false ∙ c.loop-pos.invariant.same accept answers ∙ e)
 
-    counted : place g.G.GroupKind.kind c.args.controls.now c.args.cap (tag c.args.hash) accept c.loop-pos.pos-iterator ≡ 0 → c.stride.new.self ≡ c.args.strides.now + end g.G.GroupKind.kind c.args.controls.now c.args.cap c.args.len c.args.hash accept
+    counted : end_index g.G.GroupKind.kind c.args.controls.now c.args.cap (tag c.args.hash) accept c.loop-pos.pos-iterator ≡ 0 → c.stride.new.self ≡ c.args.strides.now + end g.G.GroupKind.kind c.args.controls.now c.args.cap c.args.len c.args.hash accept
     counted z =
         let f = end_is g.G.GroupKind.kind c.args.controls.now c.args.cap c.args.len c.args.hash accept c.if-len-eq0.false in
         let k = c.loop-pos.invariant.counted accept answers in
@@ -167,6 +167,6 @@ returns g c =
       counted = λ accept answers.
           let s = ends_somewhere g.G.GroupKind.kind c.args.controls.now c.args.cap c.args.len c.args.hash (tag c.args.hash) accept a in
           let k = c.loop-pos.invariant.counted accept answers in
-          let p = ap (place g.G.GroupKind.kind c.args.controls.now c.args.cap (tag c.args.hash) accept) done in
+          let p = ap (end_index g.G.GroupKind.kind c.args.controls.now c.args.cap (tag c.args.hash) accept) done in
           absurd (omega arith);
     }

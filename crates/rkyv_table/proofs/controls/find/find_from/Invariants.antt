@@ -1,11 +1,11 @@
 use Rattle.std.proofs.Common.{◌≡◌, ℕ, ◌+◌, ◌≤◌, Bool, eqb, true, length}
 use Rattle.std.specs.List.{list_any}
-use Rattle.rkyv_table.specs.Controls.Shown.{IsFullBucket}
+use Rattle.rkyv_table.specs.Controls.ControlBytes.{IsFullBucket}
 use Rattle.rkyv_table.specs.Controls.Finding.{AnswersAs}
 use Rattle.rkyv_table.specs.Controls.Numbers.{tag}
 use Rattle.rkyv_table.specs.Controls.Probe.{strides}
 use Rattle.rkyv_table.proofs.Search.{answer}
-use Rattle.rkyv_table.proofs.Lookup.{place}
+use Rattle.rkyv_table.proofs.Lookup.{end_index}
 use Rattle.rkyv_table.proofs.controls.find.find_from.Given as goal
 
 abbrev pub invariant-loop-pos : goal.invariant-loop-pos
@@ -17,8 +17,8 @@ invariant-loop-pos g l = record {
       → answer (g.G.GroupKind.kind) l.controls l.cap (tag l.hash) accept (strides l.hash l.cap)
       ≡ answer (g.G.GroupKind.kind) l.controls l.cap (tag l.hash) accept (l.pos-iterator);
   counted : (accept : ℕ → Bool) → AnswersAs (goal.F-post g l.cmp) (IsFullBucket l.cap l.controls) accept
-      → l.strides + place (g.G.GroupKind.kind) l.controls l.cap (tag l.hash) accept (l.pos-iterator)
-      ≡ l.initial.strides + place (g.G.GroupKind.kind) l.controls l.cap (tag l.hash) accept (strides l.hash l.cap);
+      → l.strides + end_index (g.G.GroupKind.kind) l.controls l.cap (tag l.hash) accept (l.pos-iterator)
+      ≡ l.initial.strides + end_index (g.G.GroupKind.kind) l.controls l.cap (tag l.hash) accept (strides l.hash l.cap);
 }
 
 abbrev pub decreases-loop-pos : goal.decreases-loop-pos

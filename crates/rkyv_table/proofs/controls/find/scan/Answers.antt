@@ -5,7 +5,7 @@ use Rattle.rkyv_table.proofs.Groups.{candidates_in, empty_in, all_candidates, al
 use Rattle.rkyv_table.proofs.Search.{width_some}
 use Rattle.rkyv_table.proofs.WholeStride.{whole_found, whole_none, whole_shown}
 use Rattle.std.proofs.lemmas.Bool.{or_right}
-use Rattle.rkyv_table.specs.Controls.StrideOutcome.{IsMarked, IsShown}
+use Rattle.rkyv_table.specs.Controls.StrideOutcome.{IsFullInStride, IsMarked}
 use Rattle.rkyv_table.proofs.Marks.{place_full, marked_shown}
 use Rattle.rkyv_table.proofs.controls.find.scan.Goals as goal
 use Rattle.rkyv_table.proofs.controls.find.scan.Goals.{After-match_byte, After-match_byte-in-loop-i, then-any_bit_set-2, else-any_bit_set-2}
@@ -18,7 +18,7 @@ module _ (g : _) (c : After-match_byte-in-loop-i g) where
   fits : c.loop-i.i * g.G.GroupKind.kind.width + g.G.GroupKind.kind.width ≤ 16
   fits = group_fits c.loop-i.i g.G.GroupKind.kind.width (rw (c.WIDTH-i-end.ensures, g.met.G.GroupKind.width) at c.loop-i-test.true)
 
-  shown : (b : ℕ) → IsMarked (c.args.pos + c.loop-i.i * c.WIDTH-in-loop-i.result) c.args.cap (g.G.Mask.Marks.places c.match_byte-in-loop-i.result) b → IsShown c.args.stride.now c.args.pos c.args.cap b
+  shown : (b : ℕ) → IsMarked (c.args.pos + c.loop-i.i * c.WIDTH-in-loop-i.result) c.args.cap (g.G.Mask.Marks.places c.match_byte-in-loop-i.result) b → IsFullInStride c.args.stride.now c.args.pos c.args.cap b
   shown = marked_shown g.G.GroupKind.kind g.met.G.GroupKind.lawful c.args.tag c.args.pos c.args.cap (c.loop-i.i * c.WIDTH-in-loop-i.result) c.args.stride.now (g.G.GroupKind.controls c.read-group.result) (g.G.Mask.Marks.places c.match_byte-in-loop-i.result) c.requires.tag (rw width_is fits) c.read-group.ensures c.match_byte-in-loop-i.ensures
 
 pub overflow_add-pos : goal.overflow_add-pos
@@ -111,7 +111,7 @@ module _ (g : _) (c : After-match_byte g) where
   one : g.G.GroupKind.kind.width ≡ 16
   one = sym g.met.G.GroupKind.width ∙ sym c.WIDTH.ensures ∙ c.if-WIDTH-eq16.true
 
-  whole_is_shown : (b : ℕ) → IsMarked c.args.pos c.args.cap (g.G.Mask.Marks.places c.match_byte.result) b → IsShown c.args.stride.now c.args.pos c.args.cap b
+  whole_is_shown : (b : ℕ) → IsMarked c.args.pos c.args.cap (g.G.Mask.Marks.places c.match_byte.result) b → IsFullInStride c.args.stride.now c.args.pos c.args.cap b
   whole_is_shown = whole_shown g.G.GroupKind.kind g.met.G.GroupKind.lawful c.args.tag c.args.pos c.args.cap c.args.stride.now (g.G.GroupKind.controls c.read-whole.result) (g.G.Mask.Marks.places c.match_byte.result) c.requires.tag one c.read-whole.ensures c.match_byte.ensures
 
 pub first_accepted-requires-clause-below : goal.first_accepted-requires-clause-below

@@ -1,6 +1,6 @@
 use Rattle.std.proofs.Common.{arith, ◌≡◌, ◌+◌, ◌*◌, ◌<◌, ◌≤◌, ◌/◌, sym, ap, ◌∙◌, None}
 use Rattle.std.specs.List.{find, range_with_len}
-use Rattle.rkyv_table.specs.Controls.Shown.{is_empty_at}
+use Rattle.rkyv_table.specs.Controls.ControlBytes.{is_empty_at}
 use Rattle.rkyv_table.proofs.Groups.{group_fits, groups_end, places_are, width_divides}
 use Rattle.rkyv_table.proofs.FirstFree.{place_inside, more_places, whole_stride, empty_place_is, no_range}
 use Rattle.rkyv_table.proofs.controls.place.first_empty.Goals as goal

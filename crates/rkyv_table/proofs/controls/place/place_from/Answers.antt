@@ -1,7 +1,7 @@
 use Rattle.std.proofs.Common.{arith, ◌≡◌, ◌*◌, ◌%◌, ◌<◌, get_or, set, length, inr, ℕ, sym, ap, ◌∙◌, Some, length-set}
 use Rattle.std.specs.List.{find}
 use Rattle.std.proofs.lemmas.Bool.{le-leb}
-use Rattle.rkyv_table.specs.Controls.Shown.{is_empty_at, with_control}
+use Rattle.rkyv_table.specs.Controls.ControlBytes.{is_empty_at, with_control}
 use Rattle.rkyv_table.specs.Controls.Numbers.{tag}
 use Rattle.rkyv_table.specs.Controls.Probe.{shown}
 use Rattle.rkyv_table.proofs.Coverage.{stride_below}

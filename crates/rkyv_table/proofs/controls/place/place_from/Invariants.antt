@@ -1,6 +1,6 @@
 use Rattle.std.proofs.Common.{◌≡◌, ◌⊎◌, ℕ, length, eqb, true, false}
 use Rattle.std.specs.List.{find, flat_map, list_any}
-use Rattle.rkyv_table.specs.Controls.Shown.{is_empty_at}
+use Rattle.rkyv_table.specs.Controls.ControlBytes.{is_empty_at}
 use Rattle.rkyv_table.specs.Controls.Numbers.{start}
 use Rattle.rkyv_table.specs.Controls.Probe.{strides, shown, buckets_at}
 use Rattle.rkyv_table.proofs.controls.place.place_from.Given as goal

@@ -3,19 +3,19 @@ use Rattle.std.proofs.lemmas.Bool.{cases_eq, true≢false}
 use Rattle.rkyv_table.specs.Controls.Repeating.{IsWrappedAt}
 use Rattle.rkyv_table.proofs.controls.repeats.check_wrapped.Goals as goal
 
-pub returns-then-not-is_wrapped-clause-fails : goal.returns-then-not-is_wrapped-clause-fails
-returns-then-not-is_wrapped-clause-fails c =
+pub returns-then-not-is_wrapped_at-clause-fails : goal.returns-then-not-is_wrapped_at-clause-fails
+returns-then-not-is_wrapped_at-clause-fails c =
     let count = c.requires.count in
     record {
       from = c.loop-place.auto.place;
       below = omega arith;
-      unlike = λ r. true≢false (sym (c.is_wrapped.ensures.1 r) ∙ c.if-not-is_wrapped.true);
+      unlike = λ r. true≢false (sym (c.is_wrapped_at.ensures.1 r) ∙ c.if-not-is_wrapped_at.true);
       least = c.loop-place.invariant;
     }
 
 pub loop-place-preserved : goal.loop-place-preserved
 loop-place-preserved c = λ q lo hi. elim (cases_eq q c.loop-place.place) [
-  | inl e ↦ subst (IsWrappedAt c.args.cap c.args.controls.now) (sym e) (c.is_wrapped.ensures.0 c.if-not-is_wrapped.false)
+  | inl e ↦ subst (IsWrappedAt c.args.cap c.args.controls.now) (sym e) (c.is_wrapped_at.ensures.0 c.if-not-is_wrapped_at.false)
   | inr n ↦ c.loop-place.invariant q lo (omega arith)
 ]
 

@@ -21,7 +21,7 @@ pub returns-clause-tells : goal.returns-clause-tells
 returns-clause-tells g c = λ hash_of same hash_as same_as.
     let t = c.args.self in
     let at : ℕ → ℕ = item_pos t in
-    c.is_in_another_bucket.ensures
+    c.finds_another_or_none.ensures
     ∙ ap (λ o. not (is_answer c.args.bucket o))
     (c.find_from-found.ensures.answer (λ i. same (at c.args.bucket) (at i)) (λ b r full. own_answer _ t c.args.bucket same same_as b r)
     ∙ read_found g.T.HasSpec.laws t _ c.controls.ensures generic_kind c.hash_of-hash.result (λ i. same (at c.args.bucket) (at i)))

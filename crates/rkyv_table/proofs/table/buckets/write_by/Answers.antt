@@ -1,7 +1,7 @@
 use Rattle.std.proofs.Common.{arith, ◌≡◌, ◌+◌, ◌-◌}
 use Rattle.std.proofs.lemmas.Result.{err_from_is_err_and}
 use Rattle.rkyv_base.specs.Pairs.{written_as}
-use Rattle.rkyv_table.proofs.BucketSteps.{Down, down_rooms, down_read, down_step, down_init, down_end, told_bucket, overflow_fails}
+use Rattle.rkyv_table.proofs.BucketSteps.{Down, down_rooms, down_read, down_step, down_init, down_end, bucket_fails, overflow_fails}
 use Rattle.rkyv_table.proofs.table.buckets.write_by.Goals as goal
 use Rattle.rkyv_table.proofs.table.buckets.write_by.Goals.{In-loop-above}
 
@@ -35,7 +35,7 @@ returns-in_err-append_in-clause-answer g c =
     let d = down_here g (goal.at.returns-in_err-append_in-clause-answer g c).In-loop-above in
     let e = down_read g.U.Archived.HasSpec.spec.size g.W.Width.LIMIT (written_as g.X.Lend.lent g.U.Archive.format) c.args.slots.now c.args.resolvers.items (g.S.Writer.output c.args.serializer.now) (c.loop-above.above - 1) c.loop-above.rest.items (g.S.Writer.output c.loop-above.serializer) (g.S.Writer.output c.append_in.new.serializer) d c.index-slots-above.result c.index-slots-above.is in
     let p = err_from_is_err_and c.from_residual.result c.from_residual.ensures.1 in
-    rw (p.1, p.2) (told_bucket g.U.Archived.HasSpec.spec.size g.W.Width.LIMIT (written_as g.X.Lend.lent g.U.Archive.format) c.args.slots.now c.args.resolvers.items (g.S.Writer.output c.args.serializer.now) (c.loop-above.above - 1) c.loop-above.rest.items (g.S.Writer.output c.loop-above.serializer) (g.S.Writer.output c.append_in.new.serializer) d c.index-slots-above.result e c.fill_bucket.new.rest.items c.fill_bucket.new.bucket c.in_err-append_in.field-0.0 (rw c.pos.ensures at c.in-Ok.ensures.answer) c.in_err-append_in.ensures)
+    rw (p.1, p.2) (bucket_fails g.U.Archived.HasSpec.spec.size g.W.Width.LIMIT (written_as g.X.Lend.lent g.U.Archive.format) c.args.slots.now c.args.resolvers.items (g.S.Writer.output c.args.serializer.now) (c.loop-above.above - 1) c.loop-above.rest.items (g.S.Writer.output c.loop-above.serializer) (g.S.Writer.output c.append_in.new.serializer) d c.index-slots-above.result e c.fill_bucket.new.rest.items c.fill_bucket.new.bucket c.in_err-append_in.field-0.0 (rw c.pos.ensures at c.in-Ok.ensures.answer) c.in_err-append_in.ensures)
 
 pub loop-above-preserved : goal.loop-above-preserved
 loop-above-preserved g c =

@@ -4,7 +4,7 @@ use Rattle.std.proofs.lemmas.List.{take_all}
 use Rattle.std.proofs.lemmas.List.{get_or_default}
 use Rattle.rkyv_base.specs.Pairs.{written_as}
 use Rattle.rkyv_base.proofs.WritingSteps.{appends_after, grows, within_after}
-use Rattle.rkyv_table.proofs.PartSteps.{step_none, step_some, step_room, step_told}
+use Rattle.rkyv_table.proofs.PartSteps.{step_none, step_some, step_room, step_fails}
 use Rattle.rkyv_table.proofs.table.parts.serialize_slots.Goals as goal
 use Rattle.rkyv_table.proofs.table.parts.serialize_slots.Goals.{in-Some+in_ok-resolver, in_default}
 
@@ -21,7 +21,7 @@ returns-in_err-resolver g c =
     let m = c.loop-slot.invariant.made in
     let e : get_or c.args.slots.now c.loop-slot.slot-index None ≡ Some c.in-Some.item = get_or_default c.args.slots.now c.loop-slot.slot-index None c.slot-item.result c.loop-slot-test.true ∙ sym c.slot-item.is ∙ c.in-Some.is in
     let p = err_from_is_err_and c.from_residual.result c.from_residual.ensures.1 in
-    rw (p.1, p.2) (step_told (written_as g.X.Lend.lent g.U.Archive.format) c.args.slots.now c.loop-slot.slot-index c.loop-slot-test.true (g.S.Writer.output c.args.serializer.now) (g.S.Writer.output c.loop-slot.serializer) m.0 c.loop-slot.resolvers.items m.1 m.2 c.in-Some.item e
+    rw (p.1, p.2) (step_fails (written_as g.X.Lend.lent g.U.Archive.format) c.args.slots.now c.loop-slot.slot-index c.loop-slot-test.true (g.S.Writer.output c.args.serializer.now) (g.S.Writer.output c.loop-slot.serializer) m.0 c.loop-slot.resolvers.items m.1 m.2 c.in-Some.item e
     g.W.Width.LIMIT (g.S.Writer.output c.serialize.new.serializer) c.in_err-resolver.field-0.0 m.3 (rw c.lend.ensures at c.in_err-resolver.ensures))
 
 pub loop-slot-preserved : goal.loop-slot-preserved

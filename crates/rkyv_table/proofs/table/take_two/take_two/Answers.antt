@@ -61,20 +61,20 @@ returns-in-None g c =
     let n = items_count i.0 in
     inl ((items_of i.0, omega (arith, n, i.3), inl (omega (arith, c.loop-count-test.true), (_, (_, i.1, c.in-None.ensures.steps)))), λ z. omega (arith, z, c.loop-count-test.true))
 
-pub returns-then-exactly-len : goal.returns-then-exactly-len
-returns-then-exactly-len g c =
+pub returns-then-count_of_items-len : goal.returns-then-count_of_items-len
+returns-then-count_of_items-len g c =
     let i = c.loop-count.invariant.taken in
     let n1 : c.loop-count.count + 1 ≡ length (items_of i.0) + 1 = (let n = items_count i.0 in omega (arith, i.3)) in
     let n0 = hashes_count i.0 in
-    let k = counted_after g.I.Iterator.next_gives c.args.len c.count_rest-exactly.result _ _ _ (items_of i.0) c.in-Some.item i.1 c.in-Some.ensures.steps (rw n1 at c.count_rest-exactly.ensures) in
-    inr (rw c.if-exactly-len.true at k, ((hashes_of i.0, omega (arith, n0, i.3), inl (omega (arith, c.loop-count-test.true), (_, (_, i.2, c.in-None-next_item.ensures.steps)))), λ z. omega (arith, z, c.loop-count-test.true)))
+    let k = counted_after g.I.Iterator.next_gives c.args.len c.count_rest-count_of_items.result _ _ _ (items_of i.0) c.in-Some.item i.1 c.in-Some.ensures.steps (rw n1 at c.count_rest-count_of_items.ensures) in
+    inr (rw c.if-count_of_items-len.true at k, ((hashes_of i.0, omega (arith, n0, i.3), inl (omega (arith, c.loop-count-test.true), (_, (_, i.2, c.in-None-next_item.ensures.steps)))), λ z. omega (arith, z, c.loop-count-test.true)))
 
 pub returns-in-None-next_item : goal.returns-in-None-next_item
 returns-in-None-next_item g c =
     let i = c.loop-count.invariant.taken in
     let n1 : c.loop-count.count + 1 ≡ length (items_of i.0) + 1 = (let n = items_count i.0 in omega (arith, i.3)) in
-    let k = counted_after g.I.Iterator.next_gives c.args.len c.count_rest-exactly.result _ _ _ (items_of i.0) c.in-Some.item i.1 c.in-Some.ensures.steps (rw n1 at c.count_rest-exactly.ensures) in
-    inl (k, c.if-exactly-len.false)
+    let k = counted_after g.I.Iterator.next_gives c.args.len c.count_rest-count_of_items.result _ _ _ (items_of i.0) c.in-Some.item i.1 c.in-Some.ensures.steps (rw n1 at c.count_rest-count_of_items.ensures) in
+    inl (k, c.if-count_of_items-len.false)
 
 pub returns-in-Some-next_item-2 : goal.returns-in-Some-next_item-2
 returns-in-Some-next_item-2 g c =

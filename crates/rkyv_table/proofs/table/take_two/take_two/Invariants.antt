@@ -5,7 +5,7 @@ use Rattle.rkyv_table.proofs.table.take_two.take_two.Given as goal
 
 abbrev pub invariant-loop-count : goal.invariant-loop-count
 invariant-loop-count g l = record {
-  ready : g.I.Iterator.can_next l.rest × g.J.Iterator.can_next l.marks;
-  taken : (xs : List (ℕ × g.row.X.Denot)) × Yields g.I.Iterator.next_gives l.initial.rest (items_of xs) l.rest × Yields g.J.Iterator.next_gives l.initial.marks (hashes_of xs) l.marks
+  ready : g.I.Iterator.can_next l.rest × g.J.Iterator.can_next l.rest_hashes;
+  taken : (xs : List (ℕ × g.row.X.Denot)) × Yields g.I.Iterator.next_gives l.initial.rest (items_of xs) l.rest × Yields g.J.Iterator.next_gives l.initial.rest_hashes (hashes_of xs) l.rest_hashes
       × (length xs ≡ l.count) × Placed l.cap xs l.slots l.controls;
 }

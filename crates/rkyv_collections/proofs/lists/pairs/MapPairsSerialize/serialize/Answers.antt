@@ -12,16 +12,16 @@ use Rattle.rkyv_collections.proofs.lists.pairs.MapPairsSerialize.serialize.Goals
 pub returns : goal.returns
 returns g c =
     let values = c.args.self.now.pairs.now in
-    let halves : PairRefs g.row.A.Denot g.row.B.Denot = c.of-halves.result in
-    let view : Bor g.row.A.Denot × Bor g.row.B.Denot → g.row.A.Denot × g.row.B.Denot = λ halves. (halves.0.now, halves.1.now) in
+    let pairs : PairRefs g.row.A.Denot g.row.B.Denot = c.of-pairs.result in
+    let view : Bor g.row.A.Denot × Bor g.row.B.Denot → g.row.A.Denot × g.row.B.Denot = λ pair. (pair.0.now, pair.1.now) in
     let rest : PairRefs g.row.A.Denot g.row.B.Denot → List (g.row.A.Denot × g.row.B.Denot) = λ s. iter_rest s.pairs in
     let steps = YieldsFirstBy view rest in
     let factor = c.args.self.now.load_factor in
     let hash = hash_of g.H.KeyHasher.hasher g.A.KeyHash.calls in
     let f = map_format g.W.Word.word g.A.Archived.HasSpec.spec g.B.Archived.HasSpec.spec g.A.Archive.format g.B.Archive.format hash factor in
-    let all : iter_rest halves.pairs ≡ values = search rules in
+    let all : iter_rest pairs.pairs ≡ values = search rules in
     let count : length values ≡ length values = refl in
-    answers_listed (Drains steps halves) (YieldsOtherCount steps (length values) halves) (lent_pairs (λ k. k.now) (λ k. k.now)) values
-    (λ items d. all_came view rest items halves d ∙ all) (λ n h. no_other_came view rest (length values) halves (ap length all ∙ sym count) n h)
+    answers_listed (Drains steps pairs) (YieldsOtherCount steps (length values) pairs) (lent_pairs (λ k. k.now) (λ k. k.now)) values
+    (λ items d. all_came view rest items pairs d ∙ all) (λ n h. no_other_came view rest (length values) pairs (ap length all ∙ sym count) n h)
     (length values) count factor g.W.Width.MAX_CAPACITY g.W.Width.LIMIT f (g.S.Writer.output c.args.serializer.now) (g.S.Writer.output c.serialize_from_iter.new.serializer)
     c.serialize_from_iter.result c.serialize_from_iter.ensures

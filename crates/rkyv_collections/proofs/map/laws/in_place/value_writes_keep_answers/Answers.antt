@@ -1,6 +1,6 @@
 use Rattle.std.proofs.Common.{ap}
 use Rattle.rkyv_scan.specs.Hash.{hash_of_calls}
-use Rattle.rkyv_keys.specs.Lemmas.Asking.{rests_on_keys}
+use Rattle.rkyv_keys.specs.Lemmas.QueryLaws.{rests_on_keys}
 use Rattle.rkyv_collections.specs.Map.{hash_at}
 use Rattle.rkyv_collections.specs.Map.MapFormat.{hash_of}
 use Rattle.rkyv_collections.proofs.ValueWrites.{map_kept, rests_on_each}

@@ -7,4 +7,4 @@ use Rattle.rkyv_collections.proofs.std_maps.deserialize.HashMapOfDeserializeHash
 pub returns-in_err-map : goal.returns-in_err-map
 returns-in_err-map g c =
     let p = err_from_is_err_and c.from_residual.result c.from_residual.ensures.1 in
-    rw (p.1, p.2) (subst (λ view. AtView (std_map_refuses g.W.Word.word g.K.HasSpec.spec g.V.HasSpec.spec g.K.Deserialize.refuses g.V.Deserialize.refuses) view c.in_err-map.field-0.0) c.of.ensures.view c.in_err-map.ensures)
+    rw (p.1, p.2) (subst (λ view. AtView (std_map_refuses g.W.Word.word g.K.HasSpec.spec g.V.HasSpec.spec g.K.Deserialize.deserialize_fails g.V.Deserialize.deserialize_fails) view c.in_err-map.field-0.0) c.of.ensures.view c.in_err-map.ensures)

@@ -8,6 +8,6 @@ use Rattle.rkyv_collections.proofs.std_maps.hash_set.HashSetOfDeserializeHashedH
 pub returns-in_err-set : goal.returns-in_err-set
 returns-in_err-set g c =
     let at = c.of.ensures.at in
-    let told : List ℕ → ℕ → Type 0 = λ b p. std_set_refuses g.W.Word.word g.K.HasSpec.spec g.K.Deserialize.refuses b p c.in_err-set.field-0.0 in
+    let told : List ℕ → ℕ → Type 0 = λ b p. std_set_refuses g.W.Word.word g.K.HasSpec.spec g.K.Deserialize.deserialize_fails b p c.in_err-set.field-0.0 in
     let p = err_from_is_err_and c.from_residual.result c.from_residual.ensures.1 in
     rw (p.1, p.2) (subst (λ (q : ℕ). told c.args.view.archive.now q) at.1 (subst (λ (a : Bor (List ℕ)). told a.now (set_pos c.of.result)) at.0 c.in_err-set.ensures))

@@ -2,7 +2,7 @@ use Rattle.rkyv_base.specs.Entry.{entry_spec}
 use Rattle.rkyv_base.specs.Lemmas.Entry.{entry_element}
 use Rattle.rkyv_table.specs.Table.Layout.{table_spec}
 use Rattle.rkyv_index.proofs.Checking.{view_there}
-use Rattle.rkyv_index.proofs.Held.{table_of_places}
+use Rattle.rkyv_index.proofs.ValidIndexMap.{table_of_places}
 use Rattle.rkyv_index.proofs.map.read.accessors.decode.Goals as goal
 
 pub at-requires : goal.at-requires

@@ -9,7 +9,7 @@ returns-in-Some-clause-found g c =
     let w = g.W.Word.word in
     let held = c.get_counted-held.result in
     record {
-      held = held;
+      item = held;
       found = finds_as _ _ (λ h r x. x.1) c.args.table c.args.hash held c.get_counted-held.ensures.found;
       is = ap Some c.read_place.ensures ∙ ap (option_map (place_at w)) (sym c.in-Some.is);
     }
@@ -19,7 +19,7 @@ returns-clause-found g c =
     let w = g.W.Word.word in
     let held = c.get_counted-held.result in
     record {
-      held = held;
+      item = held;
       found = finds_as _ _ (λ h r x. x.1) c.args.table c.args.hash held c.get_counted-held.ensures.found;
       is = ap (option_map (place_at w)) (sym c.in-None.is);
     }

@@ -3,7 +3,7 @@ use Rattle.std.proofs.lemmas.List.{length-take}
 use Rattle.std.proofs.lemmas.Option.{slice_get_read}
 use Rattle.std.proofs.lemmas.Result.{err_from_is_err_and}
 use Rattle.rkyv_base.proofs.WritingSteps.{appends_after, grows, within_after}
-use Rattle.rkyv_index.proofs.RowSteps.{parts_count, step_part, step_told}
+use Rattle.rkyv_index.proofs.RowSteps.{parts_count, step_fails, step_part}
 use Rattle.rkyv_index.proofs.map.write.row.serialize_row.Goals as goal
 
 pub push_reserved-requires : goal.push_reserved-requires
@@ -21,7 +21,7 @@ returns-in_err-resolver g c =
     let m = c.loop-value.invariant.made in
     let there = slice_get_read c.args.values.now _ c.loop-value.value-index c.value-item.result refl c.loop-value-test.true c.value-item.is in
     let p = err_from_is_err_and c.from_residual.result c.from_residual.ensures.1 in
-    rw (p.1, p.2) (step_told g.U.Archive.format c.args.values.now c.loop-value.value-index c.value-item.result there (g.S.Writer.output c.args.serializer.now) (g.S.Writer.output c.loop-value.serializer) m.0 c.loop-value.resolvers.items m.1 m.2
+    rw (p.1, p.2) (step_fails g.U.Archive.format c.args.values.now c.loop-value.value-index c.value-item.result there (g.S.Writer.output c.args.serializer.now) (g.S.Writer.output c.loop-value.serializer) m.0 c.loop-value.resolvers.items m.1 m.2
     g.W.Width.LIMIT (g.S.Writer.output c.serialize.new.serializer) c.in_err-resolver.field-0.0 m.3 c.in_err-resolver.ensures)
 
 pub loop-value-preserved : goal.loop-value-preserved

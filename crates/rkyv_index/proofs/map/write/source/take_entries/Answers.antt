@@ -1,6 +1,6 @@
 use Rattle.std.proofs.Common.{arith, ◌≡◌, ◌+◌, ◌++◌, ◌∷◌, [], refl, ap, ◌∙◌, inl, inr, length}
 use Rattle.std.proofs.lemmas.List.{length-map, length_push}
-use Rattle.rkyv_index.specs.Index.Writing.{made_of}
+use Rattle.rkyv_index.specs.Index.Writing.{pairs_of}
 use Rattle.rkyv_index.proofs.EntrySteps.{made_more}
 use Rattle.rkyv_table.proofs.PlacingSteps.{yields_more}
 use Rattle.rkyv_index.proofs.map.write.source.take_entries.Goals as goal
@@ -10,7 +10,7 @@ returns-in-None g c =
     let i = c.loop-count.invariant in
     let n = length-map {B = g.row.BK.Denot × g.row.BV.Denot} c.loop-count.entries.items (λ e. (e.key, e.value)) in
     let t = c.loop-count-test.true in
-    ((made_of c.loop-count.entries.items, omega (arith, n, i.count), inl (omega arith, (_, (_, i.taken, c.in-None.ensures.steps)))), λ z. omega (arith, z, t))
+    ((pairs_of c.loop-count.entries.items, omega (arith, n, i.count), inl (omega arith, (_, (_, i.taken, c.in-None.ensures.steps)))), λ z. omega (arith, z, t))
 
 pub loop-count-preserved : goal.loop-count-preserved
 loop-count-preserved g c =
@@ -27,5 +27,5 @@ returns-in-Some-next_pair g c =
     let i = c.loop-count.invariant in
     let e : c.loop-count.count ≡ c.args.len = omega (arith, c.loop-count.auto.count-end, c.loop-count-test.false) in
     let k = length-map {B = g.row.BK.Denot × g.row.BV.Denot} c.loop-count.entries.items (λ e. (e.key, e.value)) in
-    let n = length_push (made_of c.loop-count.entries.items) c.in-Some-next_pair.field-0 in
-    ((made_of c.loop-count.entries.items ++ c.in-Some-next_pair.field-0 ∷ [], omega (arith, n, k, i.count, e), inr (refl, (_, yields_more g.I.Iterator.next_gives _ _ _ (made_of c.loop-count.entries.items) _ i.taken c.in-Some-next_pair.ensures.steps))), λ z. omega (arith, z))
+    let n = length_push (pairs_of c.loop-count.entries.items) c.in-Some-next_pair.field-0 in
+    ((pairs_of c.loop-count.entries.items ++ c.in-Some-next_pair.field-0 ∷ [], omega (arith, n, k, i.count, e), inr (refl, (_, yields_more g.I.Iterator.next_gives _ _ _ (pairs_of c.loop-count.entries.items) _ i.taken c.in-Some-next_pair.ensures.steps))), λ z. omega (arith, z))

@@ -28,5 +28,5 @@ returns-else-rest-self c =
     let self = c.args.self in
     let q = c.high_half-quotient in
     let below = quotient_below self.divisor self.inverse c.args.number q.result self.some self.is q.ensures.low q.ensures.high c.ranges.number.fits in
-    let local = rest_below self.divisor self.inverse c.args.number q.result self.some self.is q.ensures.low q.ensures.high c.ranges.number.fits in
-    rest_less c.args.number self.divisor q.result below c.if-rest-self.false local
+    let bound = rest_below self.divisor self.inverse c.args.number q.result self.some self.is q.ensures.low q.ensures.high c.ranges.number.fits in
+    rest_less c.args.number self.divisor q.result below c.if-rest-self.false bound

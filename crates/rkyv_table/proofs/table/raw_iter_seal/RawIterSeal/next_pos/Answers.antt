@@ -9,5 +9,5 @@ returns-in-Some-clause-takes g c = λ w p is.
       bucket = c.in-Some.first.bucket;
       first = f.0;
       item = f.1;
-      iter = record { table = is.table; cap = is.cap; place = is.place; left = omega (arith, n) };
+      iter = record { table = is.table; cap = is.cap; buckets_end = is.buckets_end; left = omega (arith, n) };
     }

@@ -1,12 +1,12 @@
 use Rattle.std.proofs.Common.{◌∙◌}
-use Rattle.rkyv_table.specs.Table.SealedItems.{buckets_left}
+use Rattle.rkyv_table.specs.Table.SealedItems.{cursor_buckets_left}
 use Rattle.rkyv_collections.proofs.map.in_place.iter_seal.ValuesMut.next_seal.Goals as goal
 
 pub returns-in-Some-clause-first : goal.returns-in-Some-clause-first
 returns-in-Some-clause-first g c = λ w p is.
     let t = c.in-Some.ensures.takes w p is in (
       t.2.bucket,
-      buckets_left w p c.next_pos.new.self.pairs.entries,
+      cursor_buckets_left w p c.next_pos.new.self.pairs.entries,
       t.2.first,
       record {
         key = t.0;

@@ -5,7 +5,7 @@ use Rattle.rkyv_base.specs.View.{IsAt}
 use Rattle.rkyv_index.specs.Index.{key_pos}
 use Rattle.rkyv_index.specs.Index.IndexLayout.{entry_at}
 use Rattle.rkyv_index.proofs.Checking.{view_there}
-use Rattle.rkyv_index.proofs.Held.{entry_viewable}
+use Rattle.rkyv_index.proofs.ValidIndexMap.{entry_viewable}
 use Rattle.rkyv_index.proofs.map.read.entries.Entries.entry.Goals as goal
 
 pub at-requires : goal.at-requires

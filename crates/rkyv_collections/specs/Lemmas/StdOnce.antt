@@ -26,6 +26,7 @@ use Rattle.rkyv_table.specs.Controls.Placing.{walk}
 use Rattle.rkyv_table.specs.Table.Positions.{IsWalked, item_at, item_positions, table_controls}
 use Rattle.rkyv_table.proofs.RawWalks.{walked_all}
 use Rattle.rkyv_collections.specs.Map.MapSpec.{map_spec}
+use Rattle.rkyv_collections.specs.Lemmas.StdSet.{unit_lookup}
 use Rattle.rkyv_collections.specs.Set.{set_spec}
 use Rattle.rkyv_table.specs.Table.ItemValues.{with_units}
 use Rattle.rkyv_collections.specs.StdMaps.StdMap.{ArePairsAt, EntriesRepresent, StdMapRepresents}
@@ -139,25 +140,14 @@ module _ {A B : Type 0} (equal : A → A → Bool) (laws : IsEquivalence equal) 
           ∙ ap (option_eq same (update_all equal (λ _. None) x.pairs q)) (y.inserted.0 q)
           ∙ inserted_alike x.pairs y.pairs z (λ _. None) (λ _. None) q refl
 
-      pub std_map_alone : {S : Type 0}
+      pub std_map_once : {S : Type 0}
           → RepresentsOnce {V =
           HashMap A B S} (map_spec w k v) (StdMapRepresents k v key value w equal)
           (hash_map_eq equal same)
-      std_map_alone m n b p st x y = maps_alike m n (entries_alike b p st m.entries n.entries x y)
+      std_map_once m n b p st x y = maps_alike m n (entries_alike b p st m.entries n.entries x y)
 
 -- keys, each with the unit value
 module _ {A : Type 0} (equal : A → A → Bool) (laws : IsEquivalence equal) where
-  abbrev always : Unit {0} → Unit {0} → Bool
-  always x y = true
-
-  unit_lookup : (test : A → Bool) (keys : List A)
-      → lookup test (with_units keys) ≡ cond (list_any test keys) (Some tt) None
-  unit_lookup test [] = refl
-  unit_lookup test (x ∷ xs) = elim (cases_Bool (test x)) [
-    | inl here ↦ rw here refl
-    | inr other ↦ rw other (unit_lookup test xs)
-  ]
-
   same_test : (unit : Unit {0}) (s t : Bool)
       → option_eq (λ x y. true) (cond s (Some unit) None) (cond t (Some unit) None) ≡ true → s ≡ t
   same_test unit true true h = refl
@@ -165,11 +155,11 @@ module _ {A : Type 0} (equal : A → A → Bool) (laws : IsEquivalence equal) wh
   same_test unit false true h = absurd (true≢false (sym h))
   same_test unit false false h = refl
 
-  pub std_set_alone : {S : Type 0} (k : ElementSpec) → IsElement k
+  pub std_set_once : {S : Type 0} (k : ElementSpec) → IsElement k
       → (w : Width) (key : List ℕ → ℕ → A → Type 0) → RepresentsOnce k key equal
       → RepresentsOnce {V = HashSet A S} (set_spec w k) (StdSetRepresents k key w equal)
       (hash_set_eq equal)
-  std_set_alone k kl w key ka s t b p st x y =
+  std_set_once k kl w key ka s t b p st x y =
       let unit : Unit {0} = tt in
       let same : (q : A) → list_any (equal q) s.keys ≡ list_any (equal q) t.keys = λ q.
       same_test unit (list_any (equal q) s.keys) (list_any (equal q) t.keys)

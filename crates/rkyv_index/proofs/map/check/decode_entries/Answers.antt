@@ -4,7 +4,7 @@ use Rattle.std.proofs.lemmas.Int.{to_z-of_z}
 use Rattle.rkyv_base.specs.Bytes.{signed_at}
 use Rattle.rkyv_index.specs.Index.IndexLayout.{decode_entries}
 use Rattle.rkyv_index.proofs.Checking.{told_is}
-use Rattle.rkyv_index.proofs.map.check.decode_begin.Goals as goal
+use Rattle.rkyv_index.proofs.map.check.decode_entries.Goals as goal
 
 pub returns : goal.returns
 returns g c =

@@ -5,13 +5,13 @@ use Rattle.std.specs.Int.{Width}
 use mir.Val.{bits}
 use Rattle.rkyv_base.specs.declared.errors.WriteError.{WriteError}
 use Rattle.rkyv_base.specs.declared.errors.WriteError.TheVariants.{InvalidLoadFactor, IteratorLengthMismatch, CapacityTooLarge, PositionTooLarge, DistanceTooLarge, TextTooLong, Writer, Memory, Refused}
-use Rattle.rkyv_base.proofs.WritingSteps.{none_appended, told_as}
+use Rattle.rkyv_base.proofs.WritingSteps.{fails_under, none_appended}
 use Rattle.rkyv_base.specs.Format.{Format}
 use Rattle.rkyv_base.specs.Layout.{IsLayout}
 use Rattle.rkyv_base.specs.ElementSpec.{ElementSpec}
 use Rattle.rkyv_base.specs.Writing.{Output, end_of}
 use Rattle.rkyv_table.specs.Controls.Numbers.{capacity}
-use Rattle.rkyv_table.specs.Table.Serializing.{HasCapacity, WriteFilledFails, WriteItemsFails, PlacingFails, OwnCause, WroteFilled, WroteItems}
+use Rattle.rkyv_table.specs.Table.Serializing.{HasCapacity, WriteNonemptyFails, WriteItemsFails, PlacingFails, OwnCause, WroteNonempty, WroteItems}
 use Rattle.rkyv_table.specs.Table.Slots.{TableNext}
 use Rattle.rkyv_table.specs.Table.TableFormat.{InBuckets, PairsNext, table_format}
 use Rattle.rkyv_table.specs.Table.PlacedItems.{Placed}
@@ -37,7 +37,7 @@ module _ {X R : Type 0} (yields : List (ℕ × X) → Type 0) (len : ℕ) (load_
   )
 
   module _ (some : 0 < len) where
-    pub wrote_some : (z : ℕ) → capacity len load_factor < 2 ^ bits w → WroteFilled yields len (capacity len load_factor) s f o o' limit z
+    pub wrote_some : (z : ℕ) → capacity len load_factor < 2 ^ bits w → WroteNonempty yields len (capacity len load_factor) s f o o' limit z
         → WroteItems yields len load_factor max (table_format w s f load_factor) o o' limit (record { pos = z; len = len; load_factor = load_factor })
     wrote_some z fits (pairs, slots, controls, taken, bytes, appended, is) =
         let n : length pairs ≡ len = taken.exactly.1 in
@@ -60,7 +60,7 @@ module _ {X R : Type 0} (yields : List (ℕ × X) → Type 0) (len : ℕ) (load_
       own_of (Writer fault) h = absurd h
       own_of (Refused c) h = absurd h
 
-      pub fails_some : (e : WriteError F) → WriteFilledFails yields len (capacity len load_factor) s f o o' limit other e
+      pub fails_some : (e : WriteError F) → WriteNonemptyFails yields len (capacity len load_factor) s f o o' limit other e
           → WriteItemsFails yields len load_factor max (table_format w s f load_factor) o o' limit other e
       fails_some e (inl h) = inl (own_of e h.0, h.1)
       fails_some e (inr (pairs, slots, controls, taken, told)) =
@@ -71,5 +71,5 @@ module _ {X R : Type 0} (yields : List (ℕ × X) → Type 0) (len : ℕ) (load_
             has,
             pairs,
             taken.exactly,
-            told_as limit (PairsNext w s f load_factor pairs (end_of o)) (TableNext s f slots controls (end_of o)) o o' e (λ g step h. (slots, controls, inside, h)) told,
+            fails_under limit (PairsNext w s f load_factor pairs (end_of o)) (TableNext s f slots controls (end_of o)) o o' e (λ g step h. (slots, controls, inside, h)) told,
           )

@@ -15,10 +15,10 @@ use Rattle.rkyv_base.specs.Pairs.{pair_format, written_as}
 use Rattle.rkyv_base.specs.Scalar.{Encoding, scalar_format}
 use Rattle.rkyv_base.specs.ElementSpec.{ElementSpec}
 use Rattle.rkyv_base.specs.Writing.{Output, Step, end_of}
-use Rattle.rkyv_base.proofs.WritingSteps.{told_as}
+use Rattle.rkyv_base.proofs.WritingSteps.{fails_under}
 use Rattle.rkyv_table.specs.Table.Serializing.{HasCapacity, OwnCause}
 use Rattle.rkyv_table.specs.Table.TableFormat.{PairsNext, TableParts, TableResolver}
-use Rattle.rkyv_index.specs.Index.Writing.{NoOther, OwnOrSerializeFails, made_of}
+use Rattle.rkyv_index.specs.Index.Writing.{NoOther, OwnOrSerializeFails, pairs_of}
 use Rattle.rkyv_table.specs.Table.Serializing.{WriteItemsFails, WroteItems}
 use Rattle.rkyv_table.specs.Table.ItemValues.{lent_pairs}
 use Rattle.rkyv_index.specs.Index.IndexFormat.{BeforeRow, BeforeZeros, IndexNext, IndexParts, index_format, places_from, row_format}
@@ -75,9 +75,9 @@ module _ {X Y R : Type 0} (seen : X → Y) (f : Format Y R) where
       seen_zeros : (front : List ℕ) (t : TableResolver) (rs : List R) → BeforeZeros w ps e s F own factor xs p front t rs → BeforeZeros w ps e s f hash factor (map seen xs) p front t rs
       seen_zeros front t rs h = record {
         table = h.table;
-        row = h.row;
+        part_bytes = h.part_bytes;
         made = seen_table h.table t h.made;
-        parts = seen_parts xs (p + length h.table) h.row rs h.parts;
+        parts = seen_parts xs (p + length h.table) h.part_bytes rs h.parts;
         is = h.is;
       }
 
@@ -107,38 +107,38 @@ module _ {X Y R : Type 0} (seen : X → Y) (f : Format Y R) where
 
       pub seen_fails : {G : Type 0} (err : WriteError G) → SerializeFails limit (row_format w ps e s F own factor) xs o o' err → SerializeFails limit (row_format w ps e s f hash factor) (map seen xs) o o' err
       seen_fails err h =
-          told_as limit (IndexNext w ps e s f hash factor (map seen xs) (end_of o)) (IndexNext w ps e s F own factor xs (end_of o)) o o' err
+          fails_under limit (IndexNext w ps e s f hash factor (map seen xs) (end_of o)) (IndexNext w ps e s F own factor xs (end_of o)) o o' err
           (λ front step n. seen_next xs (end_of o) front step n) h
 
 -- the entries of borrowed pairs have the values of these pairs
-made_lent : {BK BV A B : Type 0} (key : BK → A) (value : BV → B) (xs : List (EntryAdapter BK BV A B)) → map (pair_of key value) xs ≡ lent_pairs key value (made_of xs)
-made_lent key value [] = refl
-made_lent {A = A} {B = B} key value (x ∷ xs) = ap (λ (l : List (A × B)). (key x.key, value x.value) ∷ l) (made_lent key value xs)
+pairs_lent : {BK BV A B : Type 0} (key : BK → A) (value : BV → B) (xs : List (EntryAdapter BK BV A B)) → map (pair_of key value) xs ≡ lent_pairs key value (pairs_of xs)
+pairs_lent key value [] = refl
+pairs_lent {A = A} {B = B} key value (x ∷ xs) = ap (λ (l : List (A × B)). (key x.key, value x.value) ∷ l) (pairs_lent key value xs)
 
 module _ (G : Type 0) {BK BV A B P R Q : Type 0} (key : BK → A) (value : BV → B) (w : Width) (ps : ElementSpec) (e : Encoding P) (k v : ElementSpec) (kf : Format A R) (vf : Format B Q) (hash : A → ℕ) (factor : ℕ × ℕ)
-    (yields : List (BK × BV) → Type 0) (other : ℕ → Type 0) (len max limit : ℕ) (has : HasCapacity len factor max) (entries : List (EntryAdapter BK BV A B)) (exactly : yields (made_of entries)) (count : length entries ≡ len) (o o' : Output) where
+    (yields : List (BK × BV) → Type 0) (other : ℕ → Type 0) (len max limit : ℕ) (has : HasCapacity len factor max) (entries : List (EntryAdapter BK BV A B)) (exactly : yields (pairs_of entries)) (count : length entries ≡ len) (o o' : Output) where
   abbrev Of : Format (List (A × B)) IndexResolver
   Of = index_format w ps e k v kf vf hash factor
 
   abbrev OfEntries : Format (List (EntryAdapter BK BV A B)) IndexResolver
   OfEntries = row_format w ps e (entry_spec k v) (written_as (pair_of key value) (pair_format k v kf vf)) (λ entry. hash (key entry.key)) factor
 
-  made_count : length (made_of entries) ≡ len
-  made_count = length-map {B = BK × BV} entries (λ entry. (entry.key, entry.value)) ∙ count
+  pairs_count : length (pairs_of entries) ≡ len
+  pairs_count = length-map {B = BK × BV} entries (λ entry. (entry.key, entry.value)) ∙ count
 
   pub answers_items : (result : Result IndexResolver (WriteError G))
       → MatchResult result (Serialized limit OfEntries entries o o') (OwnOrSerializeFails (length entries) factor max NoOther limit OfEntries entries o o')
       → MatchResult result (WroteItems yields len factor max (written_as (lent_pairs key value) Of) o o' limit) (WriteItemsFails yields len factor max (written_as (lent_pairs key value) Of) o o' limit other)
   answers_items (Ok r) h = (
     has,
-    made_of entries,
-    (exactly, made_count),
-    subst (λ l. Serialized limit Of l o o' r) (made_lent key value entries) (seen_serialized (pair_of key value) (pair_format k v kf vf) w ps e (entry_spec k v) (λ pair. hash pair.0) factor entries o o' limit r h),
+    pairs_of entries,
+    (exactly, pairs_count),
+    subst (λ l. Serialized limit Of l o o' r) (pairs_lent key value entries) (seen_serialized (pair_of key value) (pair_format k v kf vf) w ps e (entry_spec k v) (λ pair. hash pair.0) factor entries o o' limit r h),
   )
   answers_items (Err err) (inl h) = inl (own_counted len factor max NoOther other (λ n z. absurd z) err (subst (λ n. OwnCause n factor max NoOther err) count h.0), h.1)
   answers_items (Err err) (inr h) = inr (
     has,
-    made_of entries,
-    (exactly, made_count),
-    subst (λ l. SerializeFails limit Of l o o' err) (made_lent key value entries) (seen_fails (pair_of key value) (pair_format k v kf vf) w ps e (entry_spec k v) (λ pair. hash pair.0) factor entries o o' limit err h),
+    pairs_of entries,
+    (exactly, pairs_count),
+    subst (λ l. SerializeFails limit Of l o o' err) (pairs_lent key value entries) (seen_fails (pair_of key value) (pair_format k v kf vf) w ps e (entry_spec k v) (λ pair. hash pair.0) factor entries o o' limit err h),
   )

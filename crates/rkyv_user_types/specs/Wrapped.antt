@@ -11,34 +11,34 @@ use Rattle.rkyv_keys.specs.Keys.{IsQuery}
 use Rattle.rkyv_keys.specs.OfEntries.{entry_equals}
 
 -- the format laws of values that are written as the pair `seen x`
-pub pair_seen : {X A B R Q : Type 0} (seen : X → A × B) {k v : ElementSpec} (kl : IsElement k)
+pub pair_as_format : {X A B R Q : Type 0} (seen : X → A × B) {k v : ElementSpec} (kl : IsElement k)
     (vl : IsElement v) {key : List ℕ → ℕ → A → Type 0} {value : List ℕ → ℕ → B → Type 0}
     {kf : Format A R} {vf : Format B Q} → IsFormat k key kf → IsFormat v value vf
     → IsFormat (entry_spec k v) (λ b p x. PairRepresents k v key value b p (seen x))
     (written_as seen (pair_format k v kf vf))
-pair_seen seen {k} {v} kl vl {key} {value} {kf} {vf} kw vw =
+pair_as_format seen {k} {v} kl vl {key} {value} {kf} {vf} kw vw =
     written_as-format seen (entry_spec k v) (PairRepresents k v key value) (pair_format k v kf vf)
     (pair_is_format k v kl vl key value kf vf kw vw)
 
 -- the pair `seen x` is represented at `p`: the key at `p`, and the value at the value's offset
-abbrev pub PairEntryRepresents : {X A B : Type 0} → ElementSpec → ElementSpec → (List ℕ → ℕ → A
+abbrev pub RepresentsAsPair : {X A B : Type 0} → ElementSpec → ElementSpec → (List ℕ → ℕ → A
     → Type 0)
     → (List ℕ → ℕ → B → Type 0) → (X → A × B) → List ℕ → ℕ → X → Type 0
-PairEntryRepresents k v key value seen b p x = PairRepresents k v key value b p (seen x)
+RepresentsAsPair k v key value seen b p x = PairRepresents k v key value b p (seen x)
 
 -- each part of the entry equals its part of the pair `seen x`
-abbrev pub seen_equals : {X A B : Type 0} → ElementSpec → ElementSpec → (List ℕ → ℕ → A → Type 0)
+abbrev pub equals_as : {X A B : Type 0} → ElementSpec → ElementSpec → (List ℕ → ℕ → A → Type 0)
     → (List ℕ → ℕ → B → Type 0) → (X → A × B) → List ℕ → ℕ → X → Type 0
-seen_equals k v key value seen b p x = entry_equals k v key value b p (seen x)
+equals_as k v key value seen b p x = entry_equals k v key value b p (seen x)
 
 -- the query laws of values that are looked up as `seen x`
-pub query_seen : {X Q : Type 0} (seen : X
+pub query_as : {X Q : Type 0} (seen : X
     → Q) {s : ElementSpec} {same : Comparison} {key_calls : List ℕ
     → ℕ → List HasherCall}
     {can_read : Q → Type 0} {calls : Q → List HasherCall} {fits : Q → List ℕ → ℕ → Bool}
     → IsQuery s same key_calls can_read calls fits
     → IsQuery s same key_calls (λ x. can_read (seen x)) (λ x. calls (seen x)) (λ x. fits (seen x))
-query_seen seen laws = record {
+query_as seen laws = record {
   same_calls = λ x. laws.same_calls (seen x);
   respects_same = λ x. laws.respects_same (seen x);
 }

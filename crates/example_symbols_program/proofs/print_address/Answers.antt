@@ -1,6 +1,6 @@
 use Rattle.std.proofs.Common.{ap}
 use Rattle.example_symbols_program.specs.Outcomes.{outcome_of}
-use Rattle.example_symbols_program.proofs.answer.Goals as goal
+use Rattle.example_symbols_program.proofs.print_address.Goals as goal
 
 pub returns-in_ok-println-in-Some : goal.returns-in_ok-println-in-Some
 returns-in_ok-println-in-Some c = ap outcome_of c.in-Some.ensures.found

@@ -21,7 +21,7 @@ use Rattle.rkyv_index.specs.Index.{pair_positions, row}
 use Rattle.rkyv_index.specs.Index.IndexLayout.{entries_pos, pair_pos}
 use Rattle.rkyv_index.specs.Index.IndexLayout.{IndexHolds, decode_entries, entry_at, index_spec, place_spec}
 use Rattle.rkyv_index.specs.Lemmas.IndexLaws.{All-unmap, each_holds, entry_inside, place_element}
-use Rattle.rkyv_index.specs.Lemmas.PlaceSpecs.{places_viewable}
+use Rattle.rkyv_index.specs.Lemmas.PlaceSpecs.{number_table_viewable}
 use Rattle.rkyv_index.proofs.Checking.{entry_aligned}
 
 -- a property of each value of a row is one of all values of the row
@@ -49,8 +49,8 @@ module _ (w : Width) (kind : IsArchiveWord w) (s : ElementSpec) (law : IsElement
   pub begin_is : entries_pos w b p ≡ held.entries.begin
   begin_is = sym (ap unsigned_abs held.entries.part.begins)
 
-  pub decode_begin : pos (entries_pos w b p) ≡ decode_entries w b p
-  decode_begin = ap pos begin_is ∙ held.entries.part.begins
+  pub entries_decoded : pos (entries_pos w b p) ≡ decode_entries w b p
+  entries_decoded = ap pos begin_is ∙ held.entries.part.begins
 
   pub entries_inside : entries_pos w b p + len_at w b p * s.size ≤ p
   entries_inside = let below = held.entries.part.below in omega (arith, below, begin_is)
@@ -84,4 +84,4 @@ module _ (w : Width) (kind : IsArchiveWord w) (s : ElementSpec) (law : IsElement
 
   module _ {V : Type 0} (ps : ElementSpec) (e : Encoding V) (pk : IsScalar ps e) (is : IsPlace w e) where
     pub table_of_places : Viewable (table_spec w ps) b p
-    table_of_places = places_viewable w ps e pk is b p table_there
+    table_of_places = number_table_viewable w ps e pk is b p table_there

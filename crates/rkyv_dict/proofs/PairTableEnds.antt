@@ -1,16 +1,16 @@
 -- The write of a table of pairs ends in one way.
-use Rattle.std.proofs.Common.{◌≡◌, ℕ, zero, suc, ◌+◌, ◌-◌, ◌*◌, ◌<◌, ◌≤◌, ◌∙◌, refl, sym, ap, subst, arith, inl, inr, List, [], ◌∷◌, ◌++◌, length, Option, None, Some, Bool, true, false, eqb, get_or}
-use Rattle.std.specs.Prelude.{◌⊎◌, slice_get, slice_index}
-use Rattle.std.specs.Int.{Width, w32}
+use Rattle.std.proofs.Common.{◌≡◌, ℕ, zero, suc, ◌-◌, ◌<◌, ◌∙◌, refl, sym, ap, subst, arith, inl, inr, List, [], ◌∷◌, length, Option, None, Some, true, eqb, get_or}
+use Rattle.std.specs.Prelude.{slice_get, slice_index}
+use Rattle.std.specs.Int.{Width}
 use Rattle.std.specs.List.{list_any, position_or_len}
 use Rattle.std.proofs.lemmas.Bool.{cases_Bool, eqb-true}
 use Rattle.std.proofs.lemmas.List.{ext_get_or, length-map}
 use Rattle.std.proofs.lemmas.List.Sums.{passes_at_first}
 use Rattle.std.proofs.lemmas.Option.{slice_get_within, unwrap_or-slice_get}
 use Rattle.std.specs.Option.{unwrap_or}
-use Rattle.rkyv_base.specs.Format.{Format, IsFormat}
-use Rattle.rkyv_base.specs.ElementSpec.{IsElement, ElementSpec}
-use Rattle.rkyv_base.specs.Writing.{Refusal, Step, no_memory, piece, refusal}
+use Rattle.rkyv_base.specs.Format.{Format}
+use Rattle.rkyv_base.specs.ElementSpec.{ElementSpec}
+use Rattle.rkyv_base.specs.Writing.{Step, refusal}
 use Rattle.rkyv_table.proofs.HomeList.{homes_one_list, written_one_list}
 use Rattle.rkyv_table.proofs.Written.{first_within}
 use Rattle.rkyv_table.specs.Controls.Numbers.{capacity}
@@ -19,7 +19,7 @@ use Rattle.rkyv_table.specs.Table.OneWay.{WritesOneWay}
 use Rattle.rkyv_table.specs.Table.Slots.{TableBytes, TableNext}
 use Rattle.rkyv_table.specs.Table.TableFormat.{InBuckets, PairsNext, TableParts, TableResolver, table_format}
 use Rattle.rkyv_table.specs.Table.PlacedItems.{Placed, Slotted, hashes_of, items_of}
-use Rattle.rkyv_dict.proofs.Ends.{Ends, IsKnown}
+use Rattle.rkyv_dict.proofs.Ends.{Ends}
 use Rattle.rkyv_dict.proofs.FormatEnds.{EndsOneWay}
 use Rattle.rkyv_dict.proofs.TableEnds.{table_ends}
 

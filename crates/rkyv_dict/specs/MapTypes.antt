@@ -17,9 +17,10 @@ use Rattle.rkyv_dict.specs.declared.form.Kind.TheVariants.{Num, Text}
 use Rattle.rkyv_dict.specs.Forms.{limit_of, word_of}
 
 -- The keys and values, of one kind, of the maps of an archive.
--- `word`: word of the width, `limit`: greatest length of the archive, `spec`: spec of a part,
--- `text`: text of the part at a position, `same`: equality, `calls`: hasher calls.
-pub record Parts : Type 1 where
+-- `word`: word of the width, `limit`: greatest length of the archive,
+-- `spec`: spec of a key or value, `text`: text of the key or value at a position,
+-- `same`: equality, `calls`: hasher calls.
+pub record MapTypes : Type 1 where
   pub word : Width
   pub limit : ℕ
   pub spec : ElementSpec
@@ -27,9 +28,9 @@ pub record Parts : Type 1 where
   pub same : Comparison
   pub calls : List ℕ → ℕ → List HasherCall
 
--- the parts with these members
+-- the types with these members
 abbrev pub parts_by : Width → ℕ → ElementSpec → (List ℕ → ℕ → List ℕ) → Comparison
-    → (List ℕ → ℕ → List HasherCall) → Parts
+    → (List ℕ → ℕ → List HasherCall) → MapTypes
 parts_by word limit spec text same calls =
     record { word = word; limit = limit; spec = spec; text = text; same = same; calls = calls }
 
@@ -45,24 +46,24 @@ number_text b p = decimal (number_at w32 b p)
 abbrev pub number_calls : ℕ → List HasherCall
 number_calls n = U32 n ∷ []
 
--- the parts of a map of numbers of 32 bits
-abbrev pub number_parts : ArchiveWidth → Parts
+-- the types of a map of numbers of 32 bits
+abbrev pub number_parts : ArchiveWidth → MapTypes
 number_parts bits =
     parts_by (word_of bits) (limit_of bits) number_spec number_text
     (λ b p c q. number_at w32 b p == number_at w32 c q) (λ b p. number_calls (number_at w32 b p))
 
--- the parts of a map of texts
-abbrev pub text_parts : ArchiveWidth → Parts
+-- the types of a map of texts
+abbrev pub text_parts : ArchiveWidth → MapTypes
 text_parts bits =
     let text_there = text_at (word_of bits) in
     parts_by (word_of bits) (limit_of bits) (text_spec (word_of bits)) text_there
     (λ b p c q. same_bytes (text_there b p) (text_there c q)) (λ b p. text_calls (text_there b p))
 
--- the parts of a map of the kind in the width
-abbrev pub parts_in : Kind → ArchiveWidth → Parts
+-- the types of a map of the kind in the width
+abbrev pub parts_in : Kind → ArchiveWidth → MapTypes
 parts_in Num bits = number_parts bits
 parts_in Text bits = text_parts bits
 
--- the parts of a map of the form
-abbrev pub parts_of : Form → Parts
-parts_of form = parts_in form.kind form.bits
+-- the types of a map of the form
+abbrev pub types_of : Form → MapTypes
+types_of form = parts_in form.kind form.bits

@@ -15,7 +15,8 @@ use Rattle.rkyv_collections.specs.Map.MapSpec.{map_spec}
 use Rattle.rkyv_collections.specs.Map.MapFormat.{MapRepresents}
 use Rattle.rkyv_collections.specs.StdMaps.StdMap.{of_entries}
 
-pub decode_entries : (w : Width) → IsArchiveWord w → {k v : ElementSpec} → IsElement k → IsElement v
+pub of_entries-format : (w : Width) → IsArchiveWord w → {k v : ElementSpec} → IsElement k
+    → IsElement v
     → {A B R : Type 0} {key : List ℕ → ℕ → A → Type 0} {value : List ℕ → ℕ → B → Type 0}
     {hash : List ℕ → ℕ → ℕ} (factor : ℕ × ℕ) (equal : A → A → Bool)
     (P : List ℕ → ℕ → List (A × B) → Type 0)
@@ -24,7 +25,7 @@ pub decode_entries : (w : Width) → IsArchiveWord w → {k v : ElementSpec} →
     → (f : Format (List (A × B)) R)
     → IsFormat (map_spec w k v) (MapRepresents w k v key value hash factor) f
     → IsFormat (map_spec w k v) P (of_entries equal f)
-decode_entries w kind {k} {v} kl vl factor equal P tells f base = record {
+of_entries-format w kind {k} {v} kl vl factor equal P tells f base = record {
   size_exact = λ es. base.size_exact es;
   exclusive = λ es. base.exclusive es;
   sound = λ es r c p0 p part out h i s t o al.

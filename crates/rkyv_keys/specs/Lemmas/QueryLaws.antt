@@ -6,7 +6,7 @@ use Rattle.rkyv_scan.specs.Hash.{HasherCall}
 use Rattle.rkyv_base.specs.ElementSpec.{IsElement, ElementSpec, ValidAt}
 use Rattle.rkyv_keys.specs.Equality.{Comparison, IsEquivalence, RepresentsOnce}
 use Rattle.rkyv_keys.specs.Keys.{FitsItsEqual, IsKey, IsQuery}
-use Rattle.rkyv_keys.specs.Asking.{HashesAsWritten, AsksForValues, RestsOnKeys}
+use Rattle.rkyv_keys.specs.QueryLaws.{HashesAsWritten, AsksForValues, RestsOnKeys}
 
 module _ {V : Type 0} (s : ElementSpec) (same : Comparison) (key_calls : List ℕ → ℕ
     → List HasherCall)
@@ -43,13 +43,13 @@ module _ {V : Type 0} (s : ElementSpec) (same : Comparison) (key_calls : List �
         )
         (λ x. x, λ x. x)
 
--- a key represents only the values that are equal to it, if values are looked up by themselves
-pub native_alone : {V : Type 0} (s : ElementSpec) (represents : List ℕ → ℕ → V → Type 0) (equal : V
+-- the native values that one key represents are equal
+pub native_once : {V : Type 0} (s : ElementSpec) (represents : List ℕ → ℕ → V → Type 0) (equal : V
     → V
     → Bool) (fits : V → List ℕ → ℕ → Bool)
     → FitsItsEqual s represents equal fits → ((v : V) → equal v v ≡ true)
     → RepresentsOnce s represents equal
-native_alone s represents equal fits native itself v x b p h st st' = sym (native v x b p h st')
+native_once s represents equal fits native itself v x b p h st st' = sym (native v x b p h st')
     ∙ native v v b p h st ∙ itself v
 
 -- a query depends on the keys alone, since a copy of a key is the same as the key
