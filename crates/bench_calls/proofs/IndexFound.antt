@@ -13,7 +13,7 @@ use Rattle.rkyv_index.specs.Index.IndexLayout.{pair_pos}
 use Rattle.rkyv_index.specs.declared.map.ArchivedIndexMap.{ArchivedIndexMap}
 use Rattle.bench_calls.specs.Archives.{number_spec}
 use Rattle.bench_calls.specs.Index.{index_key_pos, indexed_value_or_miss}
-use Rattle.bench_calls.specs.Totals.{number_seen}
+use Rattle.bench_calls.specs.Totals.{found_number}
 
 module _ {K V H W : Type 0} {ks : Specs K} {vs : Specs V} {wt : Words W} (m : ArchivedIndexMap K V H W ks vs wt) (word : wt.word ≡ w32) (spec : vs.spec ≡ number_spec) where
   -- the position of the value at an index, in a narrow archive of numbers
@@ -22,8 +22,8 @@ module _ {K V H W : Type 0} {ks : Specs K} {vs : Specs V} {wt : Words W} (m : Ar
       ap (λ w. pair_pos w (entry_spec ks.spec vs.spec).size (index_bytes m) (index_pos m) i + value_offset ks.spec vs.spec) word
       ∙ ap (λ v. pair_pos w32 (entry_spec ks.spec v).size (index_bytes m) (index_pos m) i + value_offset ks.spec v) spec
 
-  pub index_found_seen : (found : Option (View V)) (place : Option ℕ) → IsValueAt m found place → number_seen found ≡ indexed_value_or_miss ks.spec (index_bytes m) (index_pos m) place
-  index_found_seen found None at = ap number_seen at
-  index_found_seen found (Some i) at =
-      ap number_seen at.1 ∙ ap (λ (a : Bor (List ℕ)). number_at w32 a.now (pos_of at.0)) at.2.at.0
+  pub index_found_number : (found : Option (View V)) (place : Option ℕ) → IsValueAt m found place → found_number found ≡ indexed_value_or_miss ks.spec (index_bytes m) (index_pos m) place
+  index_found_number found None at = ap found_number at
+  index_found_number found (Some i) at =
+      ap found_number at.1 ∙ ap (λ (a : Bor (List ℕ)). number_at w32 a.now (pos_of at.0)) at.2.at.0
       ∙ ap (number_at w32 (index_bytes m)) (at.2.at.1 ∙ value_there i)

@@ -13,22 +13,22 @@ use Rattle.rkyv_base.specs.declared.view.View.{View}
 use Rattle.bench_calls.specs.Totals.{CountsAll, total}
 
 -- the sum of a function of an image of each item
-pub sum_seen : {A B : Type 0} (view : A → B) (count : B → ℕ) (xs : List A) → sum_by (λ x. count (view x)) xs ≡ sum_by count (map view xs)
-sum_seen view count xs = sym (sum-map (λ x. count (view x)) xs) ∙ ap sum (sym (map-map count view xs)) ∙ sum-map count (map view xs)
+pub sum_of_images : {A B : Type 0} (view : A → B) (count : B → ℕ) (xs : List A) → sum_by (λ x. count (view x)) xs ≡ sum_by count (map view xs)
+sum_of_images view count xs = sym (sum-map (λ x. count (view x)) xs) ∙ ap sum (sym (map-map count view xs)) ∙ sum-map count (map view xs)
 
 -- an iterator whose steps yield the first remaining item, and end if none remains
 module _ {S A B : Type 0} (steps : S → Option A → S → Type 0) (view : A → B) (rest : S → List B)
-    (takes : (s : S) (x : A) (t : S) → steps s (Some x) t → rest s ≡ view x ∷ rest t) (ends : (s t : S) → steps s None t → rest s ≡ []) where
+    (yields : (s : S) (x : A) (t : S) → steps s (Some x) t → rest s ≡ view x ∷ rest t) (ends : (s t : S) → steps s None t → rest s ≡ []) where
   left_after : (xs : List A) (s t : S) → Yields steps s xs t → rest s ≡ map view xs ++ rest t
   left_after [] s t e = ap rest e
-  left_after (x ∷ xs) s t h = takes s x h.0 h.1 ∙ ap (λ (l : List B). view x ∷ l) (left_after xs h.0 t h.2)
+  left_after (x ∷ xs) s t h = yields s x h.0 h.1 ∙ ap (λ (l : List B). view x ∷ l) (left_after xs h.0 t h.2)
 
   -- the sum over the yielded items is the sum over the list
   pub counted_all : (count : B → ℕ) (items : List A) (s : S) → Drains steps s items → total (λ item. count (view item)) items ≡ total count (rest s)
   counted_all count items s d =
       let all : map view items ≡ rest s =
       sym (left_after items s d.1.0 d.1.1 ∙ ap (λ (l : List B). map view items ++ l) (ends d.1.0 d.0 d.1.2) ∙ append-nil (map view items)) in
-      ap (λ n. n % 2 ^ 64) (sum_seen view count items ∙ ap (sum_by count) all)
+      ap (λ n. n % 2 ^ 64) (sum_of_images view count items ∙ ap (sum_by count) all)
 
   -- the sum over a map or an index map of a view, at its position in an archive
   pub counted_at : {T : Type 0} (count : List ℕ → ℕ → B → ℕ) (v : View T) (archive : Bor (List ℕ)) (p : ℕ) (s : S) (all : List B) (result : ℕ)

@@ -4,7 +4,7 @@ use Rattle.rkyv_base.specs.declared.width.Word.{Ghosts as Words}
 use Rattle.std.specs.Prelude.{◌≡◌, ℕ, ◌+◌, ◌-◌, ◌⊎◌, List, length}
 use Rattle.std.specs.Borrow.{Bor}
 use Rattle.std.specs.Int.{w32}
-use Rattle.rkyv_base.specs.Access.{Accepted}
+use Rattle.rkyv_base.specs.Access.{IsValidArchive}
 use Rattle.rkyv_base.specs.Numbers.{unsigned}
 use Rattle.rkyv_base.specs.Scalar.{scalar_spec}
 use Rattle.rkyv_base.specs.ElementSpec.{ElementSpec}
@@ -28,7 +28,7 @@ map_of key = map_spec w32 key number_spec
 
 -- `b` is the valid archive of a map of keys of the spec
 abbrev pub IsArchive : ElementSpec → List ℕ → Type 0
-IsArchive key b = Accepted 4294967295 (map_of key) b
+IsArchive key b = IsValidArchive 4294967295 (map_of key) b
 
 -- the position of the map's header
 abbrev pub root : List ℕ → ℕ

@@ -20,18 +20,18 @@ abbrev pub AreInFront : List ℕ → List ℕ → List ℕ → ℕ → Type 0
 AreInFront bytes old new n = (n ≡ length bytes) × (new ≡ bytes ++ drop n old)
 
 -- `n` is 0 and the output is unchanged
-abbrev pub IsKept : List ℕ → List ℕ → ℕ → Type 0
-IsKept old new n = (n ≡ 0) × (new ≡ old)
+abbrev pub IsUnchanged : List ℕ → List ℕ → ℕ → Type 0
+IsUnchanged old new n = (n ≡ 0) × (new ≡ old)
 
 -- `bytes` are copied to the front, or the output is shorter and unchanged
 abbrev pub IsPut : List ℕ → List ℕ → List ℕ → ℕ → Type 0
 IsPut bytes old new n = AreInFront bytes old new n
-    ⊎ (IsKept old new n × (length old < length bytes))
+    ⊎ (IsUnchanged old new n × (length old < length bytes))
 
 -- an archive that satisfies `IsOne` is copied to the front, or the output is unchanged
 abbrev pub IsBuilt : (List ℕ → Type 0) → List ℕ → List ℕ → ℕ → Type 0
 IsBuilt IsOne old new n = ((bytes : List ℕ) × IsOne bytes × AreInFront bytes old new n)
-    ⊎ IsKept old new n
+    ⊎ IsUnchanged old new n
 
 -- `bytes` are the archive of a map of numbers to numbers, under the load factor 7 / 8.
 -- The pairs are inserted in this order.

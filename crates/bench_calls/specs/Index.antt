@@ -6,7 +6,7 @@ use Rattle.std.specs.Prelude.{Some}
 use Rattle.std.specs.Borrow.{Bor}
 use Rattle.std.specs.Int.{w32}
 use Rattle.std.specs.List.{zip}
-use Rattle.rkyv_base.specs.Access.{Accepted}
+use Rattle.rkyv_base.specs.Access.{IsValidArchive}
 use Rattle.rkyv_base.specs.Bytes.{number_at}
 use Rattle.rkyv_base.specs.Entry.{entry_spec, value_offset}
 use Rattle.rkyv_base.specs.Numbers.{unsigned}
@@ -31,7 +31,7 @@ index_map = index_spec w32 (entry_spec number_spec number_spec)
 
 -- `b` is the valid archive of an index map of numbers
 abbrev pub IsIndexArchive : List ℕ → Type 0
-IsIndexArchive b = Accepted 4294967295 index_map b
+IsIndexArchive b = IsValidArchive 4294967295 index_map b
 
 -- the position of the index map's header
 abbrev pub index_root : List ℕ → ℕ
@@ -64,10 +64,10 @@ index_looked_up key b p calls fits = indexed_value_or_miss key b p
     (index_found w32 b p (hash_by calls) (λ i. fits b (index_key_pos key b p i)))
 
 -- the value of the entry that a lookup finds in the index map `m`, or 2 ^ 32
-abbrev pub index_answer : {K V H W : Type 0} {ks : Specs K} {vs : Specs V} {wt : Words W}
+abbrev pub index_map_looked_up : {K V H W : Type 0} {ks : Specs K} {vs : Specs V} {wt : Words W}
     → ElementSpec
     → ArchivedIndexMap K V H W ks vs wt → List HasherCall → (List ℕ → ℕ → Bool) → ℕ
-index_answer key m = index_looked_up key (index_bytes m) (index_pos m)
+index_map_looked_up key m = index_looked_up key (index_bytes m) (index_pos m)
 
 -- the value that a lookup of `number` finds in the index map at `p`, or 2 ^ 32
 abbrev pub index_number_looked_up_at : List ℕ → ℕ → ℕ → ℕ

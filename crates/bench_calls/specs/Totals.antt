@@ -28,8 +28,8 @@ total count xs = sum_by count xs % 2 ^ 64
 
 -- `n` is the sum of `count` over the items that the iterator yields
 abbrev pub CountsAll : {S X : Type 0} → (X → ℕ) → (S → Option X → S → Type 0) → S → ℕ → Type 0
-CountsAll {X = X} count gives s n =
-    (items : List X) × Drains gives s items × (n ≡ total count items)
+CountsAll {X = X} count steps s n =
+    (items : List X) × Drains steps s items × (n ≡ total count items)
 
 -- the hash of hasher calls, under the hasher of archived maps
 abbrev pub hash_by : List HasherCall → ℕ
@@ -63,10 +63,10 @@ looked_up key b p calls fits = value_or_miss key b
     (pos_found generic_kind w32 (entry_spec key number_spec).size b p (hash_by calls) (fits b))
 
 -- the value that a lookup finds in the map `m`, or 2 ^ 32
-abbrev pub map_answer : {K V H W : Type 0} {ks : Specs K} {vs : Specs V} {wt : Words W}
+abbrev pub map_looked_up : {K V H W : Type 0} {ks : Specs K} {vs : Specs V} {wt : Words W}
     → ElementSpec → ArchivedHashMap K V H W ks vs wt
     → List HasherCall → (List ℕ → ℕ → Bool) → ℕ
-map_answer key m = looked_up key (map_bytes m) (map_pos m)
+map_looked_up key m = looked_up key (map_bytes m) (map_pos m)
 
 -- the value that a lookup of `number` finds in the map at `p`, or 2 ^ 32
 abbrev pub number_looked_up_at : List ℕ → ℕ → ℕ → ℕ
@@ -106,16 +106,16 @@ abbrev pub text_weight : List ℕ → ℕ → ℕ
 text_weight b q = length (text_at w32 b q)
 
 -- the number that is found, or 2 ^ 32
-abbrev pub number_seen : {T : Type 0} → Option (View T) → ℕ
-number_seen None = 2 ^ 32
-number_seen (Some found) = at_view number_weight found
+abbrev pub found_number : {T : Type 0} → Option (View T) → ℕ
+found_number None = 2 ^ 32
+found_number (Some found) = at_view number_weight found
 
 -- the weight of a pair: `weight` of the key, plus the value
-abbrev pub pair_seen : {K V : Type 0} → (List ℕ → ℕ → ℕ) → View K × View V → ℕ
-pair_seen weight pair = at_view weight pair.0 + at_view number_weight pair.1
+abbrev pub view_pair_weight : {K V : Type 0} → (List ℕ → ℕ → ℕ) → View K × View V → ℕ
+view_pair_weight weight pair = at_view weight pair.0 + at_view number_weight pair.1
 
 -- all pairs that the iterator yields are views of valid elements of the specs
-abbrev pub GivesViews : {S K V : Type 0} → ElementSpec → ElementSpec
+abbrev pub YieldsValidViews : {S K V : Type 0} → ElementSpec → ElementSpec
     → (S → Option (View K × View V) → S → Type 0) → Type 0
-GivesViews {S} {K} {V} key value gives = (before after : S) (pair : View K × View V)
-    → gives before (Some pair) after → IsValidView key pair.0 × IsValidView value pair.1
+YieldsValidViews {S} {K} {V} key value steps = (before after : S) (pair : View K × View V)
+    → steps before (Some pair) after → IsValidView key pair.0 × IsValidView value pair.1

@@ -5,8 +5,8 @@ ghost use Rattle.rkyv_scan.specs.Hash.{HasherCall};
 ghost use Rattle.rkyv_base.specs.View.{IsValidView};
 ghost use Rattle.rkyv_keys.specs.AtViews.{at_view};
 ghost use Rattle.bench_calls.specs.Archives.{number_spec};
-ghost use Rattle.bench_calls.specs.Index.{index_answer};
-ghost use Rattle.bench_calls.specs.Totals.{map_answer, number_seen, number_weight};
+ghost use Rattle.bench_calls.specs.Index.{index_map_looked_up};
+ghost use Rattle.bench_calls.specs.Totals.{map_looked_up, found_number, number_weight};
 
 use rkyv_base::view::View;
 use rkyv_collections::map::ArchivedHashMap;
@@ -16,12 +16,12 @@ use rkyv_keys::keys::{KeyElement, Query};
 /// A map or an index map to numbers.
 pub(crate) trait Lookup<K: KeyElement>: Copy + Drop {
     // The value of the key with these hasher calls, by a test of the key at a position.
-    ghost answer: { Self → List HasherCall → (List ℕ → ℕ → Bool) → ℕ };
+    ghost found_value: { Self → List HasherCall → (List ℕ → ℕ → Bool) → ℕ };
 
     /// Returns the value of a key, or 2^32 if the lookup doesn't find it.
     fn value_or_miss<Q: Query<K>>(&self, key: &Q) -> u64
         requires read { Q.can_read key.now }
-        ensures { result ≡ answer self.now (Q.calls key.now) (Q.fits key.now) };
+        ensures { result ≡ found_value self.now (Q.calls key.now) (Q.fits key.now) };
 }
 
 /// Returns the number of a view.
@@ -37,7 +37,7 @@ pub(crate) fn number_in(number: View<'_, u32>) -> u64
 #[inline]
 fn number_or_miss(found: Option<View<'_, u32>>) -> u64
     requires { IfSome found (IsValidView number_spec) }
-    ensures { result ≡ number_seen found.entry }
+    ensures { result ≡ found_number found.entry }
 {
     match found {
         Some(number) => number_in(number),
@@ -46,7 +46,7 @@ fn number_or_miss(found: Option<View<'_, u32>>) -> u64
 }
 
 impl<'a, K: KeyElement> Lookup<K> for ArchivedHashMap<'a, K, u32> {
-    ghost answer = { map_answer K.spec };
+    ghost found_value = { map_looked_up K.spec };
 
     #[inline]
     fn value_or_miss<Q: Query<K>>(&self, key: &Q) -> u64 {
@@ -55,7 +55,7 @@ impl<'a, K: KeyElement> Lookup<K> for ArchivedHashMap<'a, K, u32> {
 }
 
 impl<'a, K: KeyElement> Lookup<K> for ArchivedIndexMap<'a, K, u32> {
-    ghost answer = { index_answer K.spec };
+    ghost found_value = { index_map_looked_up K.spec };
 
     #[inline]
     fn value_or_miss<Q: Query<K>>(&self, key: &Q) -> u64 {

@@ -2,7 +2,7 @@
 
 ghost use Rattle.std.specs.Iterator.{IsFinite};
 ghost use Rattle.bench_calls.specs.Archives.{number_spec};
-ghost use Rattle.bench_calls.specs.Totals.{CountsAll, GivesViews, hash_by, pair_seen};
+ghost use Rattle.bench_calls.specs.Totals.{CountsAll, YieldsValidViews, hash_by, view_pair_weight};
 
 use crate::lookups::{Lookup, number_in};
 use crate::weighing::Weigh;
@@ -41,7 +41,7 @@ pub(crate) fn lookup_total<
     requires ready { I.can_next keys }
     requires ends { IsFinite (I.remaining keys) }
     requires read { (key : Q) → Q.can_read key }
-    ensures { CountsAll (λ item. M.answer map (Q.calls (B.lent item)) (Q.fits (B.lent item)))
+    ensures { CountsAll (λ item. M.found_value map (Q.calls (B.lent item)) (Q.fits (B.lent item)))
         I.next_gives keys result }
 {
     let mut total = 0u64;
@@ -58,8 +58,8 @@ pub(crate) fn pair_total<'a, K: Weigh, I: Iterator<Item = (View<'a, K>, View<'a,
 ) -> u64
     requires ready { I.can_next pairs }
     requires ends { IsFinite (I.remaining pairs) }
-    requires views { GivesViews K.spec number_spec I.next_gives }
-    ensures { CountsAll (pair_seen K.weight) I.next_gives pairs result }
+    requires views { YieldsValidViews K.spec number_spec I.next_gives }
+    ensures { CountsAll (view_pair_weight K.weight) I.next_gives pairs result }
 {
     let mut total = 0u64;
     for (key, value) in pairs {

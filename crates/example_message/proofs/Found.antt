@@ -20,14 +20,14 @@ no_part_found b None h = tt
 no_part_found b (Some part) h = absurd h
 
 module _ (b : List ℕ) (field : List ℕ) where
-  pub number_told : (p : ℕ) (o : Option (MapPairs (Bor (List ℕ)) ℕ ℕ)) (r : Option ℕ) → RepresentsIfFound b o (Some p)
+  pub number_in_part : (p : ℕ) (o : Option (MapPairs (Bor (List ℕ)) ℕ ℕ)) (r : Option ℕ) → RepresentsIfFound b o (Some p)
       → ((factor : ℕ × ℕ) (list : FieldList) → FieldsRepresent factor b p list → r ≡ number_in field list) → r ≡ number_of_part field o
-  number_told p None r s told = absurd s
-  number_told p (Some part) r s told = told part.load_factor part.pairs.now s
+  number_in_part p None r s of_list = absurd s
+  number_in_part p (Some part) r s of_list = of_list part.load_factor part.pairs.now s
 
-  pub none_told : (o : Option (MapPairs (Bor (List ℕ)) ℕ ℕ)) → RepresentsIfFound b o None → None ≡ number_of_part field o
-  none_told None s = refl
-  none_told (Some part) s = absurd s
+  pub no_number_in_part : (o : Option (MapPairs (Bor (List ℕ)) ℕ ℕ)) → RepresentsIfFound b o None → None ≡ number_of_part field o
+  no_number_in_part None s = refl
+  no_number_in_part (Some part) s = absurd s
 
 some_either : {A B : Type 0} (f : A → B) (o : Option A) → is_some o ≡ is_some (option_map f o)
 some_either f None = refl
@@ -41,8 +41,8 @@ module _ (b c : List ℕ) (part field : List ℕ) (number : ℕ) (parts : Parts)
       → (found ≡ is_some (number_of_part field o)) × PartsRepresent (7, 8) c p (with_part part field number parts o)
   number_set found pos None s set outer = absurd s
   number_set found pos (Some fields) s set outer =
-      let told = set fields.load_factor fields.pairs.now s in
-      (told.0 ∙ some_either (λ pair. pair.1) (first_pair (is_named field) fields.pairs.now), outer (with_field field number fields) told.1)
+      let of_list = set fields.load_factor fields.pairs.now s in
+      (of_list.0 ∙ some_either (λ pair. pair.1) (first_pair (is_named field) fields.pairs.now), outer (with_field field number fields) of_list.1)
 
 pub none_set : (b part field : List ℕ) (number : ℕ) (parts : Parts) (p : ℕ) (o : Option (MapPairs (Bor (List ℕ)) ℕ ℕ)) → RepresentsIfFound b o None → PartsRepresent (7, 8) b p parts
     → (false ≡ is_some (number_of_part field o)) × PartsRepresent (7, 8) b p (with_part part field number parts o)

@@ -6,7 +6,7 @@ use Rattle.std.specs.Int.{w32}
 use Rattle.std.specs.Option.{is_some, option_map}
 use Rattle.rkyv_scan.specs.Groups.{generic_kind}
 use Rattle.rkyv_scan.specs.Hash.{fx_hasher, low_halves}
-use Rattle.rkyv_base.specs.Access.{Accepted, AccessFails}
+use Rattle.rkyv_base.specs.Access.{IsValidArchive, AccessFails}
 use Rattle.rkyv_base.specs.Entry.{entry_spec}
 use Rattle.rkyv_base.specs.Format.{Format}
 use Rattle.rkyv_base.specs.Numbers.{unsigned}
@@ -62,11 +62,11 @@ root message = length message - header_spec.size
 
 -- `message` is a valid message
 unfoldable pub IsMessage : List ℕ → Type 0
-IsMessage message = Accepted 4_294_967_295 header_spec message
+IsMessage message = IsValidArchive 4_294_967_295 header_spec message
 
 -- `e` is the first error of the validation of `message`
-unfoldable pub IsRefused : List ℕ → VerifyError → Type 0
-IsRefused message e = AccessFails 4_294_967_295 header_spec message e
+unfoldable pub ValidationFails : List ℕ → VerifyError → Type 0
+ValidationFails message e = AccessFails 4_294_967_295 header_spec message e
 
 -- the bytes at a position represent the name
 abbrev pub NameRepresents : List ℕ → ℕ → Bor (List ℕ) → Type 0

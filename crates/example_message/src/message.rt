@@ -12,7 +12,7 @@ ghost use Rattle.example_message.specs.Message.{
   IsMessage,
   IsMessageOf,
   IsPartsPos,
-  IsRefused,
+  ValidationFails,
   MessageFails,
   Parts,
   SetsNumber,
@@ -78,7 +78,8 @@ fn field_number(fields: ArchivedHashMap<'_, Text, u32>, field: &str) -> Option<u
 
 /// Validates a message, and returns the position of the fields that a lookup of the part finds.
 fn pos_of_part(message: &[u8], part: &str) -> Result<Option<u64>, VerifyError>
-    ensures checked { MatchResult result (λ _. IsMessage message.now) (IsRefused message.now) }
+    ensures checked { MatchResult result (λ _. IsMessage message.now)
+        (ValidationFails message.now) }
     ensures accepts { IsMessage message.now → IsOk result }
     ensures viewable { IfOk result (λ found. IfSome found (IsFields message.now)) }
     ensures at { IfOk result (λ found. IfSome found (IsPartsPos message.now)) }
@@ -105,7 +106,8 @@ fn pos_of_part(message: &[u8], part: &str) -> Result<Option<u64>, VerifyError>
 ///
 /// The same as for `access`.
 pub fn number_of(message: &[u8], part: &str, field: &str) -> Result<Option<u32>, VerifyError>
-    ensures checked { MatchResult result (λ _. IsMessage message.now) (IsRefused message.now) }
+    ensures checked { MatchResult result (λ _. IsMessage message.now)
+        (ValidationFails message.now) }
     ensures accepts { IsMessage message.now → IsOk result }
     ensures found { IfOk result (λ number. number
         ≡ option_map (number_at w32 message.now) (number_found part.now field.now message.now)) }
@@ -134,7 +136,7 @@ pub fn set_number(
     number: u32,
 ) -> Result<bool, VerifyError>
     ensures checked { MatchResult result (λ _. IsMessage message.old)
-        (λ e. IsRefused message.old e × (message.new ≡ message.old)) }
+        (λ e. ValidationFails message.old e × (message.new ≡ message.old)) }
     ensures accepts { IsMessage message.old → IsOk result }
     ensures written { IfOk result
         (WritesNumber part.now field.now number message.old message.new) }

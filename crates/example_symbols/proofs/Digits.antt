@@ -7,19 +7,19 @@ use Rattle.std.proofs.lemmas.Bool.Decides.{nat_tests}
 use Rattle.std.proofs.lemmas.Int.Digits.{digits_value-lt}
 use Rattle.example_symbols.specs.Lines.{has_symbol}
 
-pub told : (line : List ℕ) → has_symbol line ≡ true → (19 < length line) × (get_or line 18 0 ≡ 32) × (list_all is_ascii_hexdigit (take 16 line) ≡ true)
-told line h = (grind (arith, nat_tests), grind (arith, nat_tests), grind (arith, nat_tests))
+pub symbol_layout : (line : List ℕ) → has_symbol line ≡ true → (19 < length line) × (get_or line 18 0 ≡ 32) × (list_all is_ascii_hexdigit (take 16 line) ≡ true)
+symbol_layout line h = (grind (arith, nat_tests), grind (arith, nat_tests), grind (arith, nat_tests))
 
-digit_told : (c : ℕ) → is_ascii_hexdigit c ≡ true → digit_value c < 16
-digit_told c h = grind (arith, nat_tests)
+hexdigit_bound : (c : ℕ) → is_ascii_hexdigit c ≡ true → digit_value c < 16
+hexdigit_bound c h = grind (arith, nat_tests)
 
-all_told : (cs : List ℕ) → list_all is_ascii_hexdigit cs ≡ true → AllDigits 16 cs
-all_told [] h = tt
-all_told (c ∷ cs) h = (digit_told c (grind (arith, nat_tests)), all_told cs (grind (arith, nat_tests)))
+all_hexdigits : (cs : List ℕ) → list_all is_ascii_hexdigit cs ≡ true → AllDigits 16 cs
+all_hexdigits [] h = tt
+all_hexdigits (c ∷ cs) h = (hexdigit_bound c (grind (arith, nat_tests)), all_hexdigits cs (grind (arith, nat_tests)))
 
 no_plus : (cs : List ℕ) → list_all is_ascii_hexdigit cs ≡ true → without_leading_plus cs ≡ cs
 no_plus [] h = refl
 no_plus (c ∷ cs) h = grind (arith, nat_tests)
 
-pub address_told : (cs : List ℕ) → list_all is_ascii_hexdigit cs ≡ true → length cs ≡ 16 → (without_leading_plus cs ≡ cs) × IsNumeral 16 cs × (digits_value 16 cs < 2 ^ 64)
-address_told cs h n = let all = all_told cs h in (no_plus cs h, (omega arith, all), subst (λ k. digits_value 16 cs < 16 ^ k) n (digits_value-lt 16 cs all))
+pub hexdigits_numeral : (cs : List ℕ) → list_all is_ascii_hexdigit cs ≡ true → length cs ≡ 16 → (without_leading_plus cs ≡ cs) × IsNumeral 16 cs × (digits_value 16 cs < 2 ^ 64)
+hexdigits_numeral cs h n = let all = all_hexdigits cs h in (no_plus cs h, (omega arith, all), subst (λ k. digits_value 16 cs < 16 ^ k) n (digits_value-lt 16 cs all))

@@ -6,13 +6,13 @@ use Rattle.std.proofs.lemmas.Iterator.{YieldsList}
 
 module _ {S A B : Type 0} (steps : S → Option A → S → Type 0) (v : A → B) (s t : S) where
   -- the item that the iterator yields is the first of the remaining ones
-  pub item_came : (x : A) (left : List B) → YieldsList steps v s left → steps s (Some x) t → (rest : List B) × (left ≡ v x ∷ rest) × YieldsList steps v t rest
-  item_came x [] h step = absurd (h.runs x t step)
-  item_came x (y ∷ ys) h step = let k = h.runs.1 x t step in (ys, ap (λ z. z ∷ ys) (sym k.0), record { runs = k.1 })
+  pub item_yielded : (x : A) (left : List B) → YieldsList steps v s left → steps s (Some x) t → (rest : List B) × (left ≡ v x ∷ rest) × YieldsList steps v t rest
+  item_yielded x [] h step = absurd (h.runs x t step)
+  item_yielded x (y ∷ ys) h step = let k = h.runs.1 x t step in (ys, ap (λ z. z ∷ ys) (sym k.0), record { runs = k.1 })
 
-  pub none_came : (left : List B) → YieldsList steps v s left → steps s None t → left ≡ []
-  none_came [] h step = refl
-  none_came (y ∷ ys) h step = absurd (h.runs.0 t step)
+  pub none_yielded : (left : List B) → YieldsList steps v s left → steps s None t → left ≡ []
+  none_yielded [] h step = refl
+  none_yielded (y ∷ ys) h step = absurd (h.runs.0 t step)
 
 option_first : {C : Type 0} (o : Option C) (ys : List C) → option_to_list o ++ ys ≡ cons_option o ys
 option_first None ys = refl

@@ -5,7 +5,7 @@ use Rattle.std.specs.Int.{w32, w64}
 use Rattle.std.specs.Option.{option_map}
 use Rattle.rkyv_scan.specs.Groups.{generic_kind}
 use Rattle.rkyv_scan.specs.Hash.{fx_hasher, low_halves}
-use Rattle.rkyv_base.specs.Access.{Accepted, AccessFails}
+use Rattle.rkyv_base.specs.Access.{IsValidArchive, AccessFails}
 use Rattle.rkyv_base.specs.Bytes.{number_at}
 use Rattle.rkyv_base.specs.Entry.{entry_spec, value_offset}
 use Rattle.rkyv_base.specs.Format.{Format}
@@ -47,7 +47,7 @@ header_spec = map_spec w32 name_spec address_spec
 
 -- `table` is a valid table
 unfoldable pub IsTable : List ℕ → Type 0
-IsTable table = Accepted 4_294_967_295 header_spec table
+IsTable table = IsValidArchive 4_294_967_295 header_spec table
 
 -- the map at a position represents the symbols, under the load factor
 abbrev pub SymbolsRepresent : ℕ × ℕ → List ℕ → ℕ → Symbols → Type 0
@@ -75,8 +75,8 @@ IsTableOf symbols table =
     (7, 8)) symbols table
 
 -- `e` is the first error of the validation of `table`
-unfoldable pub IsRefused : List ℕ → VerifyError → Type 0
-IsRefused table e = AccessFails 4_294_967_295 header_spec table e
+unfoldable pub ValidationFails : List ℕ → VerifyError → Type 0
+ValidationFails table e = AccessFails 4_294_967_295 header_spec table e
 
 -- the write of the symbols fails with `e`
 unfoldable pub TableFails : {F : Type 0} → Symbols → WriteError F → Type 0

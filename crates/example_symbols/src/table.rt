@@ -6,7 +6,7 @@
 //! - `address_of` validates a table, then looks up a name.
 ghost use Rattle.std.specs.Prelude.{IfOk, IsOk, MatchResult, ◌≡◌};
 ghost use Rattle.example_symbols.specs.Table.{
-  IsRefused,
+  ValidationFails,
   IsTable,
   IsTableOf,
   TableFails,
@@ -49,7 +49,7 @@ pub fn archive(alloc: Global, symbols: &[(&str, u64)]) -> Result<Vec<u8>, WriteE
 ///
 /// The same as for `access`.
 pub fn check(table: &[u8]) -> Result<(), VerifyError>
-    ensures checked { MatchResult result (λ _. IsTable table.now) (IsRefused table.now) }
+    ensures checked { MatchResult result (λ _. IsTable table.now) (ValidationFails table.now) }
     ensures accepts { IsTable table.now → IsOk result }
 {
     access::<HashMapOf<Text, u64>>(table)?;
@@ -86,7 +86,7 @@ pub fn address_in(table: &[u8], name: &str) -> Option<u64>
 pub fn address_of(table: &[u8], name: &str) -> Result<Option<u64>, VerifyError>
     ensures checked { MatchResult result
         (λ found. IsTable table.now × (found ≡ address_found name.now table.now))
-        (IsRefused table.now) }
+        (ValidationFails table.now) }
     ensures accepts { IsTable table.now → IsOk result }
     ensures listed { (symbols : Symbols) → Represents table.now symbols
         → IfOk result (λ found. found ≡ first_address name.now symbols) }

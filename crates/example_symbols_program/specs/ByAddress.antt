@@ -8,7 +8,7 @@ use Rattle.std.specs.declared.vec.Vec.{Vec}
 use Rattle.std.proofs.Common.{nat_cmp}
 use Rattle.std.specs.List.Sorted.{IsNonDecreasingBy, IsPermutation, IsStableByKey}
 use Rattle.rkyv_scan.specs.Hash.{U64, fx_hasher, low_halves}
-use Rattle.rkyv_base.specs.Access.{Accepted, AccessFails}
+use Rattle.rkyv_base.specs.Access.{IsValidArchive, AccessFails}
 use Rattle.rkyv_base.specs.Entry.{entry_spec}
 use Rattle.rkyv_base.specs.Format.{Format}
 use Rattle.rkyv_base.specs.Numbers.{unsigned}
@@ -91,7 +91,7 @@ abbrev pub OpensIndex : {K V H W : Type 0} {ks : Specs K} {vs : Specs V} {wt : W
     → ElementSpec → Bor (List ℕ)
     → Result (ArchivedIndexMap K V H W ks vs wt) VerifyError → Type 0
 OpensIndex s index result = MatchResult result
-    (λ map. Accepted 4_294_967_295 s index.now
+    (λ map. IsValidArchive 4_294_967_295 s index.now
     × IsAt map.view index (length index.now - s.size))
     (AccessFails 4_294_967_295 s index.now)
 

@@ -1,6 +1,6 @@
 //! Indexes of symbols: archived index maps of addresses to names, in ascending order of address.
 ghost use Rattle.std.specs.Prelude.{IfOk, IsOk, MatchOption, ◌≡◌, ◌≤◌};
-ghost use Rattle.rkyv_base.specs.Access.{Accepted};
+ghost use Rattle.rkyv_base.specs.Access.{IsValidArchive};
 ghost use Rattle.rkyv_index.specs.Index.{index_len};
 ghost use Rattle.example_symbols_program.specs.ByAddress.{IndexResult, IsAscending, IsEntryOf};
 ghost use Rattle.example_symbols_program.specs.ByAddress.{OpensIndex, turned};
@@ -69,7 +69,7 @@ pub fn archive(alloc: Global, symbols: &[(&str, u64)]) -> Result<Vec<u8>, WriteE
 /// The same as for `access`.
 pub fn open(index: &[u8]) -> Result<ArchivedIndexMap<'_, u64, Text>, VerifyError>
     ensures root { OpensIndex ⟦<Index as Element>⟧.spec index.entry result }
-    ensures accepts { Accepted 4294967295 ⟦<Index as Element>⟧.spec index.now → IsOk result }
+    ensures accepts { IsValidArchive 4294967295 ⟦<Index as Element>⟧.spec index.now → IsOk result }
 {
     Ok(ArchivedIndexMap::of(access::<IndexMapOf<u64, Text>>(index)?))
 }

@@ -45,7 +45,7 @@ pub enum SymbolsError {
 pub fn file_error(alloc: Global, file: &str, error: io::Error) -> SymbolsError {
     match String::from_str(alloc, file) {
         Ok(file) => SymbolsError::File { file, error },
-        Err(refused) => SymbolsError::Memory(refused),
+        Err(failure) => SymbolsError::Memory(failure),
     }
 }
 
@@ -53,7 +53,7 @@ pub fn file_error(alloc: Global, file: &str, error: io::Error) -> SymbolsError {
 pub fn write_error(alloc: Global, file: &str, error: WriteError<NoMemory>) -> SymbolsError {
     match String::from_str(alloc, file) {
         Ok(file) => SymbolsError::Write { file, error },
-        Err(refused) => SymbolsError::Memory(refused),
+        Err(failure) => SymbolsError::Memory(failure),
     }
 }
 
@@ -61,6 +61,6 @@ pub fn write_error(alloc: Global, file: &str, error: WriteError<NoMemory>) -> Sy
 pub fn invalid_error(alloc: Global, file: &str, error: VerifyError) -> SymbolsError {
     match String::from_str(alloc, file) {
         Ok(file) => SymbolsError::Invalid { file, error },
-        Err(refused) => SymbolsError::Memory(refused),
+        Err(failure) => SymbolsError::Memory(failure),
     }
 }

@@ -129,7 +129,7 @@ fn cut_short(rt: &HostRuntime, table: &[u8]) -> Result<(), SymbolsError> {
     if let Some((_, front)) = table.split_last() {
         match check(front) {
             Ok(()) => println!(rt; "cut short: accepted")?,
-            Err(refused) => println!(rt; "cut short: {refused:?}")?,
+            Err(failure) => println!(rt; "cut short: {failure:?}")?,
         }
     }
     Ok(())
@@ -196,7 +196,7 @@ fn run(rt: &HostRuntime) -> Result<Outcome, SymbolsError> {
     for word in given.skip(1) {
         match words.push(word) {
             Ok(()) => {}
-            Err(refused) => return Err(SymbolsError::Memory(AllocError::from(refused))),
+            Err(failure) => return Err(SymbolsError::Memory(AllocError::from(failure))),
         }
     }
     match words.as_slice().split_first() {

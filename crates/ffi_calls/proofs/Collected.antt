@@ -7,18 +7,18 @@ use Rattle.std.proofs.lemmas.List.Elements.{All-append}
 use Rattle.std.proofs.lemmas.Option.{slice_get-get_or}
 
 module _ {I Q : Type 0} (Fits : I → Type 0) (pair : I → Q) (items : List I) where
-  -- the first `n` items fit, and `seen` are their images
+  -- the first `n` items fit, and `collected` are their images
   abbrev pub Collected : ℕ → List Q → Type 0
-  Collected n seen = All Fits (take n items) × (seen ≡ map pair (take n items))
+  Collected n collected = All Fits (take n items) × (collected ≡ map pair (take n items))
 
-  pub nothing_yet : (seen : List Q) → seen ≡ [] → Collected 0 seen
-  nothing_yet seen e = (λ k d h. absurd (omega arith), e)
+  pub nothing_yet : (collected : List Q) → collected ≡ [] → Collected 0 collected
+  nothing_yet collected e = (λ k d h. absurd (omega arith), e)
 
   one_fits : (x : I) → Fits x → All Fits (x ∷ [])
   one_fits x fits k d small = let first : 0 ≡ k = omega arith in subst (λ j. Fits (get_or (x ∷ []) j d)) first fits
 
-  pub one_more : (n : ℕ) (d : I) (seen after : List Q) → n < length items → Fits (get_or items n d) → after ≡ seen ++ (pair (get_or items n d) ∷ []) → Collected n seen → Collected (n + 1) after
-  one_more n d seen after small fits e h =
+  pub one_more : (n : ℕ) (d : I) (collected after : List Q) → n < length items → Fits (get_or items n d) → after ≡ collected ++ (pair (get_or items n d) ∷ []) → Collected n collected → Collected (n + 1) after
+  one_more n d collected after small fits e h =
       let x = get_or items n d in
       let next : suc n ≡ n + 1 = omega arith in
       let longer : take n items ++ (x ∷ []) ≡ take (n + 1) items = sym (take-suc items n d small) ∙ ap (λ m. take m items) next in (
@@ -26,8 +26,8 @@ module _ {I Q : Type 0} (Fits : I → Type 0) (pair : I → Q) (items : List I) 
         e ∙ ap (λ s. s ++ (pair x ∷ [])) h.1 ∙ sym (map-append pair (take n items) (x ∷ [])) ∙ ap (map pair) longer,
       )
 
-  pub all_of_them : (n : ℕ) (seen : List Q) → n ≡ length items → Collected n seen → All Fits items × (seen ≡ map pair items)
-  all_of_them n seen e h = let all = take_all n items (omega arith) in (subst (All Fits) all h.0, h.1 ∙ ap (map pair) all)
+  pub all_of_them : (n : ℕ) (collected : List Q) → n ≡ length items → Collected n collected → All Fits items × (collected ≡ map pair items)
+  all_of_them n collected e h = let all = take_all n items (omega arith) in (subst (All Fits) all h.0, h.1 ∙ ap (map pair) all)
 
 -- a pair appended to equal lists, given the equality of both halves
 pub same_pair : {A B : Type 0} (before : List (A × B)) (a x : A) (b y : B) → a ≡ x → b ≡ y → before ++ ((a, b) ∷ []) ≡ before ++ ((x, y) ∷ [])
@@ -41,12 +41,12 @@ module _ {P I Q : Type 0} (f : P → I) (Fits : I → Type 0) (pair : I → Q) (
       let all = length-map items f in
       slice_get-get_or (map f items) n item (omega (arith, all, small)) ∙ ap Some (get_or-map f items n d item small ∙ sym is)
 
-  pub one_read : (n : ℕ) (d : P) (item : I) (seen after : List Q) → n < length items → item ≡ f (get_or items n d) → Fits item → after ≡ seen ++ (pair item ∷ []) → Collected Fits pair (map f items) n seen
+  pub one_read : (n : ℕ) (d : P) (item : I) (collected after : List Q) → n < length items → item ≡ f (get_or items n d) → Fits item → after ≡ collected ++ (pair item ∷ []) → Collected Fits pair (map f items) n collected
       → Collected Fits pair (map f items) (n + 1) after
-  one_read n d item seen after small is fits e h =
+  one_read n d item collected after small is fits e h =
       let all = length-map items f in
       let there : get_or (map f items) n item ≡ item = get_or-map f items n d item small ∙ sym is in
-      one_more Fits pair (map f items) n item seen after (omega (arith, all, small)) (subst Fits (sym there) fits) (e ∙ ap (λ x. seen ++ (pair x ∷ [])) (sym there)) h
+      one_more Fits pair (map f items) n item collected after (omega (arith, all, small)) (subst Fits (sym there) fits) (e ∙ ap (λ x. collected ++ (pair x ∷ [])) (sym there)) h
 
-  pub all_read : (n : ℕ) (seen : List Q) → n ≡ length items → Collected Fits pair (map f items) n seen → All Fits (map f items) × (seen ≡ map pair (map f items))
-  all_read n seen e h = let all = length-map items f in all_of_them Fits pair (map f items) n seen (omega (arith, all, e)) h
+  pub all_read : (n : ℕ) (collected : List Q) → n ≡ length items → Collected Fits pair (map f items) n collected → All Fits (map f items) × (collected ≡ map pair (map f items))
+  all_read n collected e h = let all = length-map items f in all_of_them Fits pair (map f items) n collected (omega (arith, all, e)) h

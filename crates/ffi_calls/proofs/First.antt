@@ -36,21 +36,21 @@ module _ {K V H W : Type 0} {ks : Specs K} {vs : Specs V} {wt : Words W} (m : Ar
 
 -- the value at `place`, and at `None` the one before. `At`: the value at a position
 module _ {X B : Type 0} (At : ℕ → B → Type 0) (IsValue : X → B → Type 0) (place : Option ℕ) (status : ℕ) (after before : X) where
-  abbrev Given : Option B → Type 0
-  Given o = MatchOption o ((status ≡ 1) × (after ≡ before)) (λ x. (status ≡ 0) × IsValue after x)
+  abbrev ReturnsValue : Option B → Type 0
+  ReturnsValue o = MatchOption o ((status ≡ 1) × (after ≡ before)) (λ x. (status ≡ 0) × IsValue after x)
 
   abbrev Placed : Option B → Type 0
   Placed o = MatchOption o (place ≡ None) (λ x. (q : ℕ) × (place ≡ Some q) × At q x)
 
-  pub first_given : (pos : ℕ) (o : Option B) → place ≡ Some pos → status ≡ 0 → ((x : B) → At pos x → IsValue after x) → Placed o → Given o
-  first_given pos None p z shows h = absurd cc
-  first_given pos (Some x) p z shows h = (z, shows x (subst (λ q. At q x) (sym (same_Some pos h.0 (sym p ∙ h.1))) h.2))
+  pub first_returned : (pos : ℕ) (o : Option B) → place ≡ Some pos → status ≡ 0 → ((x : B) → At pos x → IsValue after x) → Placed o → ReturnsValue o
+  first_returned pos None p z shows h = absurd cc
+  first_returned pos (Some x) p z shows h = (z, shows x (subst (λ q. At q x) (sym (same_Some pos h.0 (sym p ∙ h.1))) h.2))
 
-  pub none_given : (o : Option B) → place ≡ None → status ≡ 1 → after ≡ before → Placed o → Given o
-  none_given None p z e h = (z, e)
-  none_given (Some x) p z e h = absurd (let wrong = h.1 in cc)
+  pub none_returned : (o : Option B) → place ≡ None → status ≡ 1 → after ≡ before → Placed o → ReturnsValue o
+  none_returned None p z e h = (z, e)
+  none_returned (Some x) p z e h = absurd (let wrong = h.1 in cc)
 
 -- the status of an overwrite, by the pair that it changes
 pub first_set : {P : Type 0} (o : Option P) (found : Bool) (status : ℕ) → found ≡ is_some o → (found ≡ true → status ≡ 0) → (found ≡ false → status ≡ 1) → MatchOption o (status ≡ 1) (λ pair. status ≡ 0)
-first_set None found status e met missed = missed e
-first_set (Some p) found status e met missed = met e
+first_set None found status e if_found missed = missed e
+first_set (Some p) found status e if_found missed = if_found e

@@ -9,4 +9,4 @@ pub mod Codes
 pub mod Together
 pub mod IndexPairs
 pub mod IndexFound
-pub mod Handed
+pub mod StoredArchive

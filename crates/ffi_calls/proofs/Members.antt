@@ -8,16 +8,16 @@ use Rattle.rkyv_keys.specs.FirstPairs.{first_value}
 use Rattle.ffi_calls.specs.Sets.{IsFoundStatus}
 
 -- an item is found if and only if its pair with the unit value is
-module _ {A : Type 0} (asks : A → Bool) (status : ℕ) where
+module _ {A : Type 0} (accepts : A → Bool) (status : ℕ) where
   by_test : (b : Bool) (x : A) (o : Option (A × Unit {0})) (p : Option A)
       → (IsFoundStatus (option_map (λ (pair : A × Unit {0}). pair.1) o) status → IsFoundStatus p status)
       → IsFoundStatus (option_map (λ (pair : A × Unit {0}). pair.1) (cond b (Some (x, tt)) o)) status → IsFoundStatus (cond b (Some x) p) status
   by_test true x o p h f = f
   by_test false x o p h f = h f
 
-  pub item_found : (items : List A) → IsFoundStatus (first_value asks (with_units items)) status → IsFoundStatus (find asks items) status
+  pub item_found : (items : List A) → IsFoundStatus (first_value accepts (with_units items)) status → IsFoundStatus (find accepts items) status
   item_found [] f = f
-  item_found (x ∷ xs) f = by_test (asks x) x (find (λ (pair : A × Unit {0}). asks pair.0) (with_units xs)) (find asks xs) (item_found xs) f
+  item_found (x ∷ xs) f = by_test (accepts x) x (find (λ (pair : A × Unit {0}). accepts pair.0) (with_units xs)) (find accepts xs) (item_found xs) f
 
 -- the status by the position that is found
 module _ {B : Type 0} (At : ℕ → B → Type 0) where

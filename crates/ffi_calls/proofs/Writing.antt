@@ -5,7 +5,7 @@ use Rattle.std.specs.Option.{option_map}
 use Rattle.std.specs.Prelude.{MatchOption}
 use Rattle.rkyv_scan.specs.Groups.{generic_kind}
 use Rattle.rkyv_scan.specs.Hash.{HasherCall}
-use Rattle.rkyv_base.specs.Access.{Accepted}
+use Rattle.rkyv_base.specs.Access.{IsValidArchive}
 use Rattle.rkyv_base.specs.Bytes.{AgreeOn}
 use Rattle.rkyv_base.specs.Entry.{entry_spec}
 use Rattle.rkyv_base.specs.Scalar.{Encoding}
@@ -47,7 +47,7 @@ module _ {N : Type 0} (w : Width) (k v : ElementSpec) (e : Encoding N) (key_hash
   header_after_set (Some q) h header is = decoded_again w b c p h.2.1.table.header header is
 
 -- bytes of the same length with a valid root are a valid archive
-pub accepted_again : (limit : ℕ) (s : ElementSpec) (b c : List ℕ) (p : ℕ) → Accepted limit s b → p ≡ length b - s.size → length c ≡ length b → Viewable s c p → Accepted limit s c
+pub accepted_again : (limit : ℕ) (s : ElementSpec) (b c : List ℕ) (p : ℕ) → IsValidArchive limit s b → p ≡ length b - s.size → length c ≡ length b → Viewable s c p → IsValidArchive limit s c
 accepted_again limit s b c p a at same v =
     let within = a.within in
     let inside = a.inside in
@@ -65,7 +65,7 @@ module _ {N : Type 0} (w : Width) (k v : ElementSpec) (e : Encoding N) (key_hash
   place_at q = option_map (value_pos k v) (pos_found generic_kind w (entry_spec k v).size b q (hash_by calls) fits)
 
   -- the archive is valid after the overwrite
-  pub set_kept : (limit : ℕ) → Accepted limit (map_spec w k v) b → Viewable (map_spec w k v) b p → length c ≡ length b → Accepted limit (map_spec w k v) c
+  pub set_kept : (limit : ℕ) → IsValidArchive limit (map_spec w k v) b → Viewable (map_spec w k v) b p → length c ≡ length b → IsValidArchive limit (map_spec w k v) c
   set_kept limit accepted viewable same = accepted_again limit (map_spec w k v) b c p accepted at same (viewable_after_set w k v e key_hash b p value result c (place_at p) set viewable)
 
   -- the decoded header stays that of the map
@@ -75,8 +75,8 @@ module _ {N : Type 0} (w : Width) (k v : ElementSpec) (e : Encoding N) (key_hash
       subst (λ q. IsDecoded w c q header) (at ∙ ap (λ n. n - (map_spec w k v).size) (sym same)) (header_after_set w k v e key_hash b p value result c (place_at p) set header here)
 
   -- the status of the overwrite, by the position that the lookup finds
-  pub set_told : (status : ℕ) → (result ≡ true → status ≡ 0) → (result ≡ false → status ≡ 1)
+  pub overwrite_status : (status : ℕ) → (result ≡ true → status ≡ 0) → (result ≡ false → status ≡ 1)
       → MatchOption (value_found (map_in w k v b) calls fits) ((status ≡ 1) × (c ≡ b)) (λ q. (status ≡ 0) × (c ≡ with_value e b q value))
-  set_told status met missed =
+  overwrite_status status if_found missed =
       let P : Option ℕ → Type 0 = λ o. MatchOption o ((status ≡ 1) × (c ≡ b)) (λ q. (status ≡ 0) × (c ≡ with_value e b q value)) in
-      subst P (ap place_at at) (status_of_set w k v e key_hash b p value result c status (place_at p) met missed set)
+      subst P (ap place_at at) (status_of_set w k v e key_hash b p value result c status (place_at p) if_found missed set)

@@ -6,7 +6,7 @@ use Rattle.std.specs.Option.{option_map}
 use mir.Val.{bits}
 use Rattle.rkyv_scan.specs.Groups.{generic_kind}
 use Rattle.rkyv_scan.specs.Hash.{HasherCall, fx_hash, low_halves}
-use Rattle.rkyv_base.specs.Access.{Accepted, AccessFails}
+use Rattle.rkyv_base.specs.Access.{IsValidArchive, AccessFails}
 use Rattle.rkyv_base.specs.Entry.{entry_spec}
 use Rattle.rkyv_base.specs.Numbers.{unsigned}
 use Rattle.rkyv_base.specs.Scalar.{Encoding, scalar_spec}
@@ -66,19 +66,19 @@ text_map form = map_spec (word_of form.wide) (text_key form) (value_spec form)
 
 -- `b` is the valid archive of a map with keys of spec `k` and values of spec `v`
 abbrev pub IsMapArchive : Width → ℕ → ElementSpec → ElementSpec → List ℕ → Type 0
-IsMapArchive w limit k v b = Accepted limit (map_spec w k v) b
+IsMapArchive w limit k v b = IsValidArchive limit (map_spec w k v) b
 
 -- `b` is the valid archive of a map of numbers in the form
 abbrev pub IsNumberArchive : {A : Type 0} → NumberKey A → Form → List ℕ → Type 0
-IsNumberArchive k form b = Accepted (limit_of form.wide) (number_map k form) b
+IsNumberArchive k form b = IsValidArchive (limit_of form.wide) (number_map k form) b
 
 -- `b` is the valid archive of a map of texts in the form
 abbrev pub IsTextArchive : Form → List ℕ → Type 0
-IsTextArchive form b = Accepted (limit_of form.wide) (text_map form) b
+IsTextArchive form b = IsValidArchive (limit_of form.wide) (text_map form) b
 
 -- `b` is valid and the status is 0, or the status is that of the first validation error
 abbrev pub Opens : ℕ → ElementSpec → List ℕ → ℕ → Type 0
-Opens limit s b status = (Accepted limit s b × (status ≡ 0))
+Opens limit s b status = (IsValidArchive limit s b × (status ≡ 0))
     ⊎ ((e : VerifyError) × AccessFails limit s b e × (status ≡ verify_status e))
 
 -- the hash of hasher calls
@@ -118,8 +118,8 @@ value_found m calls fits = option_map (value_pos m.key m.value)
 
 -- the status is 0 and `after` has the value at `place`, by `IsAt`.
 -- At `None` the status is 1 and `after` is `before`.
-abbrev pub GivesAt : {X : Type 0} → (ℕ → X → Type 0) → Option ℕ → X → ℕ → X → Type 0
-GivesAt IsAt place before status after = MatchOption place ((status ≡ 1) × (after ≡ before))
+abbrev pub ReturnsAt : {X : Type 0} → (ℕ → X → Type 0) → Option ℕ → X → ℕ → X → Type 0
+ReturnsAt IsAt place before status after = MatchOption place ((status ≡ 1) × (after ≡ before))
     (λ q. (status ≡ 0) × IsAt q after)
 
 -- `c` is `b` with the value of `number` at `place`, and the status is 0.

@@ -7,7 +7,7 @@ use Rattle.rkyv_base.specs.Scalar.{ScalarRepresents}
 use Rattle.rkyv_keys.specs.Calls.{text_calls}
 use Rattle.rkyv_keys.specs.OfScalars.{one_call, scalar_fits}
 use Rattle.rkyv_keys.specs.OfTexts.{same_bytes}
-use Rattle.ffi_calls.specs.Archives.{GivesAt, Overwrites, numbers_in, texts_in, value_encoding}
+use Rattle.ffi_calls.specs.Archives.{ReturnsAt, Overwrites, numbers_in, texts_in, value_encoding}
 use Rattle.ffi_calls.specs.Archives.{value_found, word_of}
 use Rattle.ffi_calls.specs.Keys.{NumberKey}
 use Rattle.ffi_calls.specs.Reading.{ReadsText, ReadsWord}
@@ -23,8 +23,8 @@ module _ {A : Type 0} (k : NumberKey A) (form : Form) (b : List ℕ) where
       (scalar_fits k.encoding k.eq key b)
 
   -- the result of a lookup of the number `key`, whose value replaces `before`
-  abbrev pub GivesNumber : A → ℕ → ℕ → ℕ → Type 0
-  GivesNumber key = GivesAt (ReadsWord (word_of form.long_values) b) (number_found key)
+  abbrev pub ReturnsNumber : A → ℕ → ℕ → ℕ → Type 0
+  ReturnsNumber key = ReturnsAt (ReadsWord (word_of form.long_values) b) (number_found key)
 
   -- the result of an overwrite of the value of the number `key` in `b`
   abbrev pub SetsNumber : A → ℕ → ℕ → List ℕ → Type 0
@@ -43,11 +43,12 @@ text_found form b key = value_found (texts_in form b) (text_calls key)
 
 -- the result of a lookup of `key`, whose value replaces `before`.
 -- The status is 4 and `before` is unchanged if `key` isn't UTF-8.
-abbrev pub GivesText : Form → List ℕ → List ℕ → ℕ → ℕ → ℕ → Type 0
-GivesText form b key before status after =
+abbrev pub ReturnsText : Form → List ℕ → List ℕ → ℕ → ℕ → ℕ → Type 0
+ReturnsText form b key before status after =
     ((IsUtf8 key → ⊥) × (status ≡ 4) × (after ≡ before))
     ⊎ (IsUtf8 key
-    × GivesAt (ReadsWord (word_of form.long_values) b) (text_found form b key) before status after)
+    × ReturnsAt (ReadsWord (word_of form.long_values) b) (text_found form b key) before status
+    after)
 
 -- the result of an overwrite of the value of `key` in `b`.
 -- The status is 4 and no byte is changed if `key` isn't UTF-8.

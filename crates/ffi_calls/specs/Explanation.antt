@@ -1,7 +1,7 @@
 -- Why an archive is invalid, or a container: the first error, with its numbers.
 use Rattle.std.specs.Prelude.{◌≡◌, ℕ, ℤ, ◌⊎◌, ◌-◌, ◌^◌, cond, int_lt, min, negsuc, List}
 use Rattle.std.specs.Prelude.{pos as int}
-use Rattle.rkyv_base.specs.Access.{Accepted, AccessFails}
+use Rattle.rkyv_base.specs.Access.{IsValidArchive, AccessFails}
 use Rattle.rkyv_base.specs.ElementSpec.{ElementSpec}
 use Rattle.rkyv_base.specs.declared.errors.VerifyError.{VerifyError}
 use Rattle.rkyv_base.specs.declared.errors.VerifyError.TheVariants.{OutOfRange, Unaligned}
@@ -66,7 +66,7 @@ explain_container_error (container.WrongChecksum expected found) =
 
 -- `b` is valid and there is no error, or it is the first validation error
 abbrev pub Explains : ℕ → ElementSpec → List ℕ → Explanation → Type 0
-Explains limit s b result = (Accepted limit s b × (result ≡ explained 0 (int 0) 0 0))
+Explains limit s b result = (IsValidArchive limit s b × (result ≡ explained 0 (int 0) 0 0))
     ⊎ ((e : VerifyError) × AccessFails limit s b e × (result ≡ explain e))
 
 -- `b` is a container with these contents and there is no error, or it is the container's first one

@@ -7,7 +7,7 @@ use Rattle.std.specs.Borrow.{Bor}
 use Rattle.std.specs.Int.{Width}
 use Rattle.std.specs.Str.{IsUtf8}
 use Rattle.rkyv_scan.specs.Hash.{HasherCall}
-use Rattle.rkyv_base.specs.Access.{Accepted}
+use Rattle.rkyv_base.specs.Access.{IsValidArchive}
 use Rattle.rkyv_base.specs.Entry.{entry_spec}
 use Rattle.rkyv_base.specs.Sealing.{value_pos}
 use Rattle.rkyv_base.specs.ElementSpec.{ElementSpec}
@@ -43,15 +43,15 @@ text_index form = index_map (word_of form.wide) (text_key form) (value_spec form
 
 -- `b` is the valid archive of an index map with keys of spec `k` and values of spec `v`
 abbrev pub IsIndexArchive : Width → ℕ → ElementSpec → ElementSpec → List ℕ → Type 0
-IsIndexArchive w limit k v b = Accepted limit (index_map w k v) b
+IsIndexArchive w limit k v b = IsValidArchive limit (index_map w k v) b
 
 -- `b` is the valid archive of an index map of numbers in the form
 abbrev pub IsNumberIndex : {A : Type 0} → NumberKey A → Form → List ℕ → Type 0
-IsNumberIndex k form b = Accepted (limit_of form.wide) (number_index k form) b
+IsNumberIndex k form b = IsValidArchive (limit_of form.wide) (number_index k form) b
 
 -- `b` is the valid archive of an index map of texts in the form
 abbrev pub IsTextIndex : Form → List ℕ → Type 0
-IsTextIndex form b = Accepted (limit_of form.wide) (text_index form) b
+IsTextIndex form b = IsValidArchive (limit_of form.wide) (text_index form) b
 
 -- the position of the header of an index map at the end of `b`
 abbrev pub index_root : Width → ElementSpec → ElementSpec → List ℕ → ℕ
@@ -101,9 +101,9 @@ found_index m calls fits =
 
 -- the status is 0 and `after` has the index `place` and the value at it.
 -- At `None` the status is 1 and `after` is `before`. `value`: the stored value at a position
-abbrev pub GivesIndexed : {Y : Type 0} → MapAt → (List ℕ → ℕ → Y → Type 0) → Option ℕ → Indexed Y
+abbrev pub ReturnsIndexed : {Y : Type 0} → MapAt → (List ℕ → ℕ → Y → Type 0) → Option ℕ → Indexed Y
     → ℕ → Indexed Y → Type 0
-GivesIndexed m value place before status after =
+ReturnsIndexed m value place before status after =
     MatchOption place ((status ≡ 1) × (after ≡ before))
     (λ i. (status ≡ 0) × (after.index ≡ i) × value m.bytes (value_pos_at m i) after.value)
 
@@ -138,8 +138,8 @@ module _ {A : Type 0} (k : NumberKey A) (form : Form) (b : List ℕ) where
       (scalar_fits k.encoding k.eq key b)
 
   -- the result of a lookup of the number `key`, whose index and value replace `before`
-  abbrev pub GivesIndexedNumber : A → Indexed ℕ → ℕ → Indexed ℕ → Type 0
-  GivesIndexedNumber key = GivesIndexed (number_index_in k form b)
+  abbrev pub ReturnsIndexedNumber : A → Indexed ℕ → ℕ → Indexed ℕ → Type 0
+  ReturnsIndexedNumber key = ReturnsIndexed (number_index_in k form b)
       (ReadsWord (word_of form.long_values)) (number_index_found key)
 
   -- the result of reading the pairs of numbers from an index on
@@ -154,16 +154,16 @@ text_index_found form b key = found_index (text_index_in form b) (text_calls key
     (λ q. same_bytes key (text_at (word_of form.wide) b q))
 
 -- the result of a lookup of the text `key`, whose index and value replace `before`
-abbrev pub GivesIndexedText : Form → List ℕ → List ℕ → Indexed ℕ → ℕ → Indexed ℕ → Type 0
-GivesIndexedText form b key = GivesIndexed (text_index_in form b)
+abbrev pub ReturnsIndexedText : Form → List ℕ → List ℕ → Indexed ℕ → ℕ → Indexed ℕ → Type 0
+ReturnsIndexedText form b key = ReturnsIndexed (text_index_in form b)
     (ReadsWord (word_of form.long_values)) (text_index_found form b key)
 
 -- the result of a lookup of the bytes `key`, as that of the text.
 -- The status is 4 and `before` is unchanged if `key` isn't UTF-8.
-abbrev pub GivesIndexedBytes : Form → List ℕ → List ℕ → Indexed ℕ → ℕ → Indexed ℕ → Type 0
-GivesIndexedBytes form b key before status after =
+abbrev pub ReturnsIndexedBytes : Form → List ℕ → List ℕ → Indexed ℕ → ℕ → Indexed ℕ → Type 0
+ReturnsIndexedBytes form b key before status after =
     ((IsUtf8 key → ⊥) × (status ≡ 4) × (after ≡ before))
-    ⊎ (IsUtf8 key × GivesIndexedText form b key before status after)
+    ⊎ (IsUtf8 key × ReturnsIndexedText form b key before status after)
 
 -- the result of reading the pairs of texts and numbers from an index on
 abbrev pub StoresTexts : Form → List ℕ → ℕ → List (Pair (Bor (List ℕ)) ℕ) → ℕ

@@ -6,7 +6,7 @@ use Rattle.std.specs.Str.{IsUtf8}
 use mir.Val.{bits}
 use Rattle.rkyv_scan.specs.Hash.{HasherCall}
 use Rattle.rkyv_base.specs.Scalar.{Encoding, ScalarRepresents}
-use Rattle.rkyv_collections.specs.Map.MapAt.{AskedValue, MapAt}
+use Rattle.rkyv_collections.specs.Map.MapAt.{ValueQuery, MapAt}
 use Rattle.rkyv_index.specs.Index.ListedLookups.{IsFirst}
 use Rattle.ffi_calls.specs.Archives.{Overwrites, value_encoding, word_of}
 use Rattle.ffi_calls.specs.IndexArchives.{found_index, index_in, number_index_found}
@@ -14,8 +14,8 @@ use Rattle.ffi_calls.specs.IndexArchives.{number_index_in, text_index_found, tex
 use Rattle.ffi_calls.specs.IndexArchives.{value_pos_at}
 use Rattle.ffi_calls.specs.IndexLists.{IndexRepresentsPairs}
 use Rattle.ffi_calls.specs.Keys.{NumberKey}
-use Rattle.ffi_calls.specs.Listed.{asked_number, asked_text}
-use Rattle.ffi_calls.specs.Lists.{asked_pairs}
+use Rattle.ffi_calls.specs.Listed.{query_of_number, query_of_text}
+use Rattle.ffi_calls.specs.Lists.{query_pairs}
 use Rattle.ffi_calls.specs.declared.form.Form.{Form}
 
 -- the position of the value that a lookup finds. `calls`: hasher calls of the key, `fits`: test of
@@ -24,21 +24,22 @@ abbrev pub value_found_in : MapAt → List HasherCall → (ℕ → Bool) → Opt
 value_found_in m calls fits = option_map (value_pos_at m) (found_index m calls fits)
 
 -- the index that is found is that of the first pair whose key is accepted
-abbrev pub FindsFirstIndex : {A B : Type 0} → MapAt → AskedValue A → (List ℕ → ℕ → B → Type 0)
+abbrev pub FindsFirstIndex : {A B : Type 0} → MapAt → ValueQuery A → (List ℕ → ℕ → B → Type 0)
     → Option ℕ → Type 0
 FindsFirstIndex {A} {B} m a value result = (factor : ℕ × ℕ) (pairs : List (A × B))
-    → IndexRepresentsPairs m (asked_pairs m a value) factor pairs → IsFirst a.asks pairs result
+    → IndexRepresentsPairs m (query_pairs m a value) factor pairs
+    → IsFirst a.accept_value pairs result
 
 -- After an overwrite `c` represents the list with the value of `number` in the first pair whose key
 -- is accepted. If no key is accepted the status is 1; if `number` has too many bits it is 3.
-abbrev pub SetsFirstIndexed : {A N : Type 0} → MapAt → AskedValue A → Encoding N → ℕ → ℕ → List ℕ
+abbrev pub SetsFirstIndexed : {A N : Type 0} → MapAt → ValueQuery A → Encoding N → ℕ → ℕ → List ℕ
     → Type 0
 SetsFirstIndexed {A} {N} m a e number status c =
-    let native = asked_pairs m a (ScalarRepresents e) in (factor : ℕ × ℕ) (pairs : List (A × N))
+    let native = query_pairs m a (ScalarRepresents e) in (factor : ℕ × ℕ) (pairs : List (A × N))
     → IndexRepresentsPairs m native factor pairs
     → ((2 ^ bits e.word ≤ number) × (status ≡ 3))
-    ⊎ (IsFirst a.asks pairs None × (status ≡ 1))
-    ⊎ ((i : ℕ) × IsFirst a.asks pairs (Some i) × (status ≡ 0)
+    ⊎ (IsFirst a.accept_value pairs None × (status ≡ 1))
+    ⊎ ((i : ℕ) × IsFirst a.accept_value pairs (Some i) × (status ≡ 0)
     × ((pair : A × N) × (value : N) × (slice_get pairs i ≡ Some pair) × (e.code value ≡ number)
     × IndexRepresentsPairs (index_in m.word m.key m.value c) native factor
     (slice_set pairs i (pair.0, value))))
@@ -53,7 +54,7 @@ module _ {A : Type 0} (k : NumberKey A) (form : Form) (b : List ℕ) where
   -- an overwrite of the value of `key` changes that of the first pair with the number
   abbrev pub SetsFirstIndexedNumber : A → ℕ → ℕ → List ℕ → Type 0
   SetsFirstIndexedNumber key =
-      SetsFirstIndexed (number_index_in k form b) (asked_number k key) (value_encoding form)
+      SetsFirstIndexed (number_index_in k form b) (query_of_number k key) (value_encoding form)
 
 module _ (form : Form) (b key : List ℕ) where
   -- the result of an overwrite of the value of the text `key` in `b`
@@ -71,4 +72,4 @@ module _ (form : Form) (b key : List ℕ) where
   -- an overwrite of the value of `key` changes that of the first pair with the text
   abbrev pub SetsFirstIndexedText : ℕ → ℕ → List ℕ → Type 0
   SetsFirstIndexedText = SetsFirstIndexed (text_index_in form b)
-      (asked_text (word_of form.wide) key) (value_encoding form)
+      (query_of_text (word_of form.wide) key) (value_encoding form)

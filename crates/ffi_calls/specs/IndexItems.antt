@@ -2,7 +2,7 @@
 use Rattle.std.specs.Prelude.{◌≡◌, ℕ, ◌⊎◌, List, MatchResult, Result}
 use Rattle.std.specs.Borrow.{Bor}
 use Rattle.std.specs.declared.vec.Vec.{Vec}
-use Rattle.rkyv_base.specs.Access.{Accepted}
+use Rattle.rkyv_base.specs.Access.{IsValidArchive}
 use Rattle.rkyv_base.specs.Format.{Format}
 use Rattle.rkyv_base.specs.Members.{WidthMembers}
 use Rattle.rkyv_base.specs.Numbers.{unsigned}
@@ -68,20 +68,20 @@ module _ {P A N R Q : Type 0} (width : IndexWidth P) (format : PairFormat A N R 
   -- an archive of a list as an index map is valid, and represents the list
   abbrev pub IndexesRepresent : NativePairs A N → Type 0
   IndexesRepresent native = (pairs : List (A × N)) (b : List ℕ) → IsIndexOf native pairs b
-      → Accepted width.archive.limit index_header_spec b
+      → IsValidArchive width.archive.limit index_header_spec b
       × IndexRepresentsPairs (index_in width.archive.word format.key_spec format.value_spec b)
       native (7, 8) pairs
 
 module _ {A P N : Type 0} (k : NumberKey A) (width : IndexWidth P) (v : ElementSpec)
     (e : Encoding N) where
   -- `b` is the archive of the pairs of the items as an index map
-  abbrev pub NumberIndexMade : List (Pair A ℕ) → List ℕ → Type 0
-  NumberIndexMade items b = (pairs : List (A × N)) × ArePairsOfNumbers e items pairs
+  abbrev pub NumberIndexWriteOk : List (Pair A ℕ) → List ℕ → Type 0
+  NumberIndexWriteOk items b = (pairs : List (A × N)) × ArePairsOfNumbers e items pairs
       × IsIndexOf width (numbers_format k v e) (number_natives k e) pairs b
 
   -- `status` is that of items without pairs, or of the error of the write of their pairs
-  abbrev pub NumberIndexRefused : List (Pair A ℕ) → ℕ → Type 0
-  NumberIndexRefused items status = PairsOfNumbersFail e items status
+  abbrev pub NumberIndexWriteFails : List (Pair A ℕ) → ℕ → Type 0
+  NumberIndexWriteFails items status = PairsOfNumbersFail e items status
       ⊎ ((pairs : List (A × N)) × (error : WriteError NoMemory) × ArePairsOfNumbers e items pairs
       × IndexFails width (numbers_format k v e) pairs error × (status ≡ write_status error))
 
@@ -89,21 +89,21 @@ module _ {A P N : Type 0} (k : NumberKey A) (width : IndexWidth P) (v : ElementS
 abbrev pub WritesNumberIndex : {A P N Z : Type 0} → NumberKey A → IndexWidth P → ElementSpec
     → Encoding N → List (Pair A ℕ) → Result (Vec ℕ Z) ℕ → Type 0
 WritesNumberIndex k width v e items result =
-    MatchResult result (λ a. NumberIndexMade k width v e items a.items)
-    (NumberIndexRefused k width v e items)
+    MatchResult result (λ a. NumberIndexWriteOk k width v e items a.items)
+    (NumberIndexWriteFails k width v e items)
 
 module _ {P N : Type 0} (width : IndexWidth P) (v : ElementSpec) (e : Encoding N) where
   -- `b` is the archive of the pairs of the items as an index map
-  abbrev pub TextIndexMade : List (Pair (Bor (List ℕ)) ℕ) → List ℕ → Type 0
-  TextIndexMade items b = let w = width.archive.word in
+  abbrev pub TextIndexWriteOk : List (Pair (Bor (List ℕ)) ℕ) → List ℕ → Type 0
+  TextIndexWriteOk items b = let w = width.archive.word in
       (pairs : List (Bor (List ℕ) × N)) × ArePairsOfTexts e items pairs
       × IsIndexOf width (format_of (text_spec w) v (written_as (λ text. text.now) (text_format w))
       (λ text. text_calls text.now) e)
       (text_natives w e) pairs b
 
   -- `status` is that of items without pairs, or of the error of the write of their pairs
-  abbrev pub TextIndexRefused : List (Pair (Bor (List ℕ)) ℕ) → ℕ → Type 0
-  TextIndexRefused items status = let w = width.archive.word in PairsOfTextsFail e items status
+  abbrev pub TextIndexWriteFails : List (Pair (Bor (List ℕ)) ℕ) → ℕ → Type 0
+  TextIndexWriteFails items status = let w = width.archive.word in PairsOfTextsFail e items status
       ⊎ ((pairs : List (Bor (List ℕ) × N)) × (error : WriteError NoMemory)
       × ArePairsOfTexts e items pairs
       × IndexFails width (format_of (text_spec w) v (written_as (λ text. text.now) (text_format w))
@@ -113,8 +113,8 @@ module _ {P N : Type 0} (width : IndexWidth P) (v : ElementSpec) (e : Encoding N
 abbrev pub WritesTextIndex : {P N Z : Type 0} → IndexWidth P → ElementSpec → Encoding N
     → List (Pair (Bor (List ℕ)) ℕ) → Result (Vec ℕ Z) ℕ → Type 0
 WritesTextIndex width v e items result =
-    MatchResult result (λ a. TextIndexMade width v e items a.items)
-    (TextIndexRefused width v e items)
+    MatchResult result (λ a. TextIndexWriteOk width v e items a.items)
+    (TextIndexWriteFails width v e items)
 
 -- the width of an archive of an index map in the form
 abbrev pub index_width_of : Form → IndexWidth ℕ
@@ -125,19 +125,19 @@ index_width_of form = let e = unsigned (word_of form.wide) in
 abbrev pub IsIndexOfNumbers : {A : Type 0} → NumberKey A → Form → List (Pair A ℕ) → List ℕ
     → Type 0
 IsIndexOfNumbers k form =
-    NumberIndexMade k (index_width_of form) (value_spec form) (value_encoding form)
+    NumberIndexWriteOk k (index_width_of form) (value_spec form) (value_encoding form)
 
 -- a list of bytes is the archive of the pairs of texts and numbers as an index map in the form
 abbrev pub IsIndexOfTexts : Form → List (Pair (Bor (List ℕ)) ℕ) → List ℕ → Type 0
-IsIndexOfTexts form = TextIndexMade (index_width_of form) (value_spec form) (value_encoding form)
+IsIndexOfTexts form = TextIndexWriteOk (index_width_of form) (value_spec form) (value_encoding form)
 
 -- a status is the error of the write of the pairs of numbers as an index map in the form
 abbrev pub IndexOfNumbersFails : {A : Type 0} → NumberKey A → Form → List (Pair A ℕ) → ℕ
     → Type 0
 IndexOfNumbersFails k form =
-    NumberIndexRefused k (index_width_of form) (value_spec form) (value_encoding form)
+    NumberIndexWriteFails k (index_width_of form) (value_spec form) (value_encoding form)
 
 -- a status is the error of the write of the pairs of texts and numbers as an index map in the form
 abbrev pub IndexOfTextsFails : Form → List (Pair (Bor (List ℕ)) ℕ) → ℕ → Type 0
 IndexOfTextsFails form =
-    TextIndexRefused (index_width_of form) (value_spec form) (value_encoding form)
+    TextIndexWriteFails (index_width_of form) (value_spec form) (value_encoding form)

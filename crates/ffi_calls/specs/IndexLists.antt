@@ -4,14 +4,14 @@ use Rattle.std.specs.Prelude.{min, slice_get}
 use Rattle.std.specs.Borrow.{Bor}
 use Rattle.rkyv_base.specs.Scalar.{ScalarRepresents}
 use Rattle.rkyv_keys.specs.Natives.{NativePairs}
-use Rattle.rkyv_collections.specs.Map.MapAt.{AskedValue, MapAt}
+use Rattle.rkyv_collections.specs.Map.MapAt.{ValueQuery, MapAt}
 use Rattle.rkyv_index.specs.Index.IndexFormat.{IndexRepresents}
 use Rattle.rkyv_index.specs.Index.ListedLookups.{IsFirst}
 use Rattle.ffi_calls.specs.Archives.{value_encoding, word_of}
 use Rattle.ffi_calls.specs.IndexArchives.{number_index_in, text_index_in}
 use Rattle.ffi_calls.specs.Keys.{NumberKey}
-use Rattle.ffi_calls.specs.Listed.{asked_number, asked_text, number_natives, text_natives}
-use Rattle.ffi_calls.specs.Lists.{asked_pairs}
+use Rattle.ffi_calls.specs.Listed.{query_of_number, query_of_text, number_natives, text_natives}
+use Rattle.ffi_calls.specs.Lists.{query_pairs}
 use Rattle.ffi_calls.specs.declared.form.Form.{Form}
 use Rattle.ffi_calls.specs.Reading.{HasBytesOf, IsNumberOf, IsSame}
 use Rattle.ffi_calls.specs.declared.pairs.Indexed.{Indexed}
@@ -30,13 +30,13 @@ HasValueAt {A} {B} is_of pairs i stored =
 
 -- The result of a lookup in an index map of a list has the index and the value of the first pair
 -- whose key is accepted. Without one the status is 1 and `after` is `before`.
-abbrev pub GivesFirstIndexed : {A B Y : Type 0} → MapAt → AskedValue A → (List ℕ → ℕ → B → Type 0)
+abbrev pub ReturnsFirstIndexed : {A B Y : Type 0} → MapAt → ValueQuery A → (List ℕ → ℕ → B → Type 0)
     → (Y → B → Type 0) → Indexed Y → ℕ → Indexed Y → Type 0
-GivesFirstIndexed {A} {B} m a value is_of before status after =
+ReturnsFirstIndexed {A} {B} m a value is_of before status after =
     (factor : ℕ × ℕ) (pairs : List (A × B))
-    → IndexRepresentsPairs m (asked_pairs m a value) factor pairs
-    → (IsFirst a.asks pairs None × (status ≡ 1) × (after ≡ before))
-    ⊎ (IsFirst a.asks pairs (Some after.index) × (status ≡ 0)
+    → IndexRepresentsPairs m (query_pairs m a value) factor pairs
+    → (IsFirst a.accept_value pairs None × (status ≡ 1) × (after ≡ before))
+    ⊎ (IsFirst a.accept_value pairs (Some after.index) × (status ≡ 0)
     × HasValueAt is_of pairs after.index after.value)
 
 -- `after` begins with the pairs from index `from` of the list on, at most as many as `before` has,
@@ -51,9 +51,9 @@ StoresListed {A} {B} {X} {Y} m native key value from before count after =
 
 module _ {A : Type 0} (k : NumberKey A) (form : Form) (b : List ℕ) where
   -- the result of a lookup of `key` is of the first pair with the number
-  abbrev pub GivesFirstIndexedNumber : A → Indexed ℕ → ℕ → Indexed ℕ → Type 0
-  GivesFirstIndexedNumber key = let e = value_encoding form in
-      GivesFirstIndexed (number_index_in k form b) (asked_number k key) (ScalarRepresents e)
+  abbrev pub ReturnsFirstIndexedNumber : A → Indexed ℕ → ℕ → Indexed ℕ → Type 0
+  ReturnsFirstIndexedNumber key = let e = value_encoding form in
+      ReturnsFirstIndexed (number_index_in k form b) (query_of_number k key) (ScalarRepresents e)
       (IsNumberOf e)
 
   -- the pairs of numbers that are read from an index on are those of the list
@@ -62,9 +62,9 @@ module _ {A : Type 0} (k : NumberKey A) (form : Form) (b : List ℕ) where
       StoresListed (number_index_in k form b) (number_natives k e) IsSame (IsNumberOf e)
 
 -- the result of a lookup of `key` is of the first pair with the text
-abbrev pub GivesFirstIndexedText : Form → List ℕ → List ℕ → Indexed ℕ → ℕ → Indexed ℕ → Type 0
-GivesFirstIndexedText form b key = let e = value_encoding form in
-    GivesFirstIndexed (text_index_in form b) (asked_text (word_of form.wide) key)
+abbrev pub ReturnsFirstIndexedText : Form → List ℕ → List ℕ → Indexed ℕ → ℕ → Indexed ℕ → Type 0
+ReturnsFirstIndexedText form b key = let e = value_encoding form in
+    ReturnsFirstIndexed (text_index_in form b) (query_of_text (word_of form.wide) key)
     (ScalarRepresents e) (IsNumberOf e)
 
 -- the pairs of texts and numbers that are read from an index on are those of the list

@@ -3,7 +3,7 @@ use Rattle.std.specs.Prelude.{◌≡◌, ℕ, ◌⊎◌, Bool, List, MatchResult
 use Rattle.std.specs.Borrow.{Bor}
 use Rattle.std.specs.Str.{IsUtf8}
 use Rattle.std.specs.declared.vec.Vec.{Vec}
-use Rattle.rkyv_base.specs.Access.{Accepted}
+use Rattle.rkyv_base.specs.Access.{IsValidArchive}
 use Rattle.rkyv_base.specs.ElementSpec.{ElementSpec}
 use Rattle.rkyv_base.specs.Numbers.{unsigned}
 use Rattle.rkyv_base.specs.Scalar.{ScalarRepresents, scalar_spec}
@@ -14,16 +14,16 @@ use Rattle.rkyv_keys.specs.Calls.{text_calls}
 use Rattle.rkyv_keys.specs.Natives.{NativePairs}
 use Rattle.rkyv_keys.specs.OfScalars.{one_call, scalar_fits}
 use Rattle.rkyv_keys.specs.OfTexts.{same_bytes}
-use Rattle.rkyv_collections.specs.Map.MapAt.{AskedValue, MapAt}
+use Rattle.rkyv_collections.specs.Map.MapAt.{ValueQuery, MapAt}
 use Rattle.rkyv_collections.specs.Natives.{PairFormat}
 use Rattle.rkyv_index.specs.Index.IndexFormat.{indices}
 use Rattle.ffi_calls.specs.Archives.{limit_of, word_of}
-use Rattle.ffi_calls.specs.IndexArchives.{GivesIndexed, StoresPairs, found_index, index_in}
+use Rattle.ffi_calls.specs.IndexArchives.{ReturnsIndexed, StoresPairs, found_index, index_in}
 use Rattle.ffi_calls.specs.IndexArchives.{index_map}
 use Rattle.ffi_calls.specs.IndexItems.{IndexFails, IndexWidth, IsIndexOf}
-use Rattle.ffi_calls.specs.IndexLists.{GivesFirstIndexed, StoresListed}
+use Rattle.ffi_calls.specs.IndexLists.{ReturnsFirstIndexed, StoresListed}
 use Rattle.ffi_calls.specs.Keys.{NumberKey}
-use Rattle.ffi_calls.specs.Listed.{TextRepresents, asked_number, asked_text}
+use Rattle.ffi_calls.specs.Listed.{TextRepresents, query_of_number, query_of_text}
 use Rattle.ffi_calls.specs.Reading.{HasBytesOf, IsSame, ReadsText}
 use Rattle.ffi_calls.specs.Status.{write_status}
 use Rattle.ffi_calls.specs.TextItems.{AreNumberTexts, AreTextTexts, NumberTextsFail, TextTextsFail}
@@ -34,15 +34,15 @@ use Rattle.ffi_calls.specs.declared.pairs.Indexed.{Indexed}
 use Rattle.ffi_calls.specs.declared.pairs.Pair.{Pair}
 
 -- the result of a lookup whose index and text replace `before`. `place`: the index that is found
-abbrev pub GivesIndexedTextAt : Bool → MapAt → Option ℕ → Indexed (Bor (List ℕ)) → ℕ
+abbrev pub ReturnsIndexedTextAt : Bool → MapAt → Option ℕ → Indexed (Bor (List ℕ)) → ℕ
     → Indexed (Bor (List ℕ)) → Type 0
-GivesIndexedTextAt wide m = GivesIndexed m (ReadsText (word_of wide))
+ReturnsIndexedTextAt wide m = ReturnsIndexed m (ReadsText (word_of wide))
 
 -- the result of a lookup has the index and the text of the first pair whose key is accepted
-abbrev pub GivesFirstIndexedTextAt : {A : Type 0} → Bool → MapAt → AskedValue A
+abbrev pub ReturnsFirstIndexedTextAt : {A : Type 0} → Bool → MapAt → ValueQuery A
     → Indexed (Bor (List ℕ)) → ℕ → Indexed (Bor (List ℕ)) → Type 0
-GivesFirstIndexedTextAt wide m a =
-    GivesFirstIndexed m a (TextRepresents (word_of wide)) HasBytesOf
+ReturnsFirstIndexedTextAt wide m a =
+    ReturnsFirstIndexed m a (TextRepresents (word_of wide)) HasBytesOf
 
 module _ {A : Type 0} (k : NumberKey A) (wide : Bool) where
   -- the spec of the header of an index map of numbers to texts, narrow or wide
@@ -51,24 +51,24 @@ module _ {A : Type 0} (k : NumberKey A) (wide : Bool) where
 
   -- `b` is the valid archive of an index map of numbers to texts, narrow or wide
   abbrev pub IsNumberTextIndex : List ℕ → Type 0
-  IsNumberTextIndex b = Accepted (limit_of wide) number_text_index b
+  IsNumberTextIndex b = IsValidArchive (limit_of wide) number_text_index b
 
   -- the index map of numbers to texts, narrow or wide, at the end of an archive
   abbrev pub number_text_index_in : List ℕ → MapAt
   number_text_index_in = index_in (word_of wide) k.spec (text_by wide)
 
   -- the result of a lookup of the number `key`, whose index and text replace `before`
-  abbrev pub GivesIndexedTextOfNumber : List ℕ → A → Indexed (Bor (List ℕ)) → ℕ
+  abbrev pub ReturnsIndexedTextOfNumber : List ℕ → A → Indexed (Bor (List ℕ)) → ℕ
       → Indexed (Bor (List ℕ)) → Type 0
-  GivesIndexedTextOfNumber b key = GivesIndexedTextAt wide (number_text_index_in b)
+  ReturnsIndexedTextOfNumber b key = ReturnsIndexedTextAt wide (number_text_index_in b)
       (found_index (number_text_index_in b) (one_call k.call key)
       (scalar_fits k.encoding k.eq key b))
 
   -- the result of a lookup of `key` is of the first pair with the number
-  abbrev pub GivesFirstIndexedTextOfNumber : List ℕ → A → Indexed (Bor (List ℕ)) → ℕ
+  abbrev pub ReturnsFirstIndexedTextOfNumber : List ℕ → A → Indexed (Bor (List ℕ)) → ℕ
       → Indexed (Bor (List ℕ)) → Type 0
-  GivesFirstIndexedTextOfNumber b key =
-      GivesFirstIndexedTextAt wide (number_text_index_in b) (asked_number k key)
+  ReturnsFirstIndexedTextOfNumber b key =
+      ReturnsFirstIndexedTextAt wide (number_text_index_in b) (query_of_number k key)
 
   -- the result of reading the pairs of numbers and texts from an index on
   abbrev pub StoresNumberTexts : List ℕ → ℕ → List (Pair A (Bor (List ℕ))) → ℕ
@@ -89,32 +89,32 @@ module _ (wide : Bool) where
 
   -- `b` is the valid archive of an index map of texts to texts, narrow or wide
   abbrev pub IsTextTextIndex : List ℕ → Type 0
-  IsTextTextIndex b = Accepted (limit_of wide) text_text_index b
+  IsTextTextIndex b = IsValidArchive (limit_of wide) text_text_index b
 
   -- the index map of texts to texts, narrow or wide, at the end of an archive
   abbrev pub text_text_index_in : List ℕ → MapAt
   text_text_index_in = index_in (word_of wide) (text_by wide) (text_by wide)
 
   -- the result of a lookup of the text `key`, whose index and text replace `before`
-  abbrev pub GivesIndexedTextOfText : List ℕ → List ℕ → Indexed (Bor (List ℕ)) → ℕ
+  abbrev pub ReturnsIndexedTextOfText : List ℕ → List ℕ → Indexed (Bor (List ℕ)) → ℕ
       → Indexed (Bor (List ℕ)) → Type 0
-  GivesIndexedTextOfText b key = GivesIndexedTextAt wide (text_text_index_in b)
+  ReturnsIndexedTextOfText b key = ReturnsIndexedTextAt wide (text_text_index_in b)
       (found_index (text_text_index_in b) (text_calls key)
       (λ q. same_bytes key (text_at (word_of wide) b q)))
 
   -- the result of a lookup of the bytes `key`, as that of the text.
   -- The status is 4 and `before` is unchanged if `key` isn't UTF-8.
-  abbrev pub GivesIndexedTextOfBytes : List ℕ → List ℕ → Indexed (Bor (List ℕ)) → ℕ
+  abbrev pub ReturnsIndexedTextOfBytes : List ℕ → List ℕ → Indexed (Bor (List ℕ)) → ℕ
       → Indexed (Bor (List ℕ)) → Type 0
-  GivesIndexedTextOfBytes b key before status after =
+  ReturnsIndexedTextOfBytes b key before status after =
       ((IsUtf8 key → ⊥) × (status ≡ 4) × (after ≡ before))
-      ⊎ (IsUtf8 key × GivesIndexedTextOfText b key before status after)
+      ⊎ (IsUtf8 key × ReturnsIndexedTextOfText b key before status after)
 
   -- the result of a lookup of `key` is of the first pair with the text
-  abbrev pub GivesFirstIndexedTextOfText : List ℕ → List ℕ → Indexed (Bor (List ℕ)) → ℕ
+  abbrev pub ReturnsFirstIndexedTextOfText : List ℕ → List ℕ → Indexed (Bor (List ℕ)) → ℕ
       → Indexed (Bor (List ℕ)) → Type 0
-  GivesFirstIndexedTextOfText b key =
-      GivesFirstIndexedTextAt wide (text_text_index_in b) (asked_text (word_of wide) key)
+  ReturnsFirstIndexedTextOfText b key =
+      ReturnsFirstIndexedTextAt wide (text_text_index_in b) (query_of_text (word_of wide) key)
 
   -- the result of reading the pairs of texts from an index on
   abbrev pub StoresTextTexts : List ℕ → ℕ → List (Pair (Bor (List ℕ)) (Bor (List ℕ))) → ℕ
@@ -133,44 +133,45 @@ module _ (wide : Bool) where
 module _ {I A B P R Q : Type 0} (ArePairs : List I → List (A × B) → Type 0) (Fails : List I → ℕ
     → Type 0) (width : IndexWidth P) (format : PairFormat A B R Q) where
   -- `b` is the archive of the pairs of the items as an index map
-  abbrev pub IndexMade : NativePairs A B → List I → List ℕ → Type 0
-  IndexMade native items b = (pairs : List (A × B)) × ArePairs items pairs
+  abbrev pub IndexWriteOk : NativePairs A B → List I → List ℕ → Type 0
+  IndexWriteOk native items b = (pairs : List (A × B)) × ArePairs items pairs
       × IsIndexOf width format native pairs b
 
   -- `status` is that of items without pairs, or of the error of the write of their pairs
-  abbrev pub IndexRefused : List I → ℕ → Type 0
-  IndexRefused items status = Fails items status
+  abbrev pub IndexWriteFails : List I → ℕ → Type 0
+  IndexWriteFails items status = Fails items status
       ⊎ ((pairs : List (A × B)) × (error : WriteError NoMemory) × ArePairs items pairs
       × IndexFails width format pairs error × (status ≡ write_status error))
 
 module _ {A P : Type 0} (k : NumberKey A) (width : IndexWidth P) where
   -- a list of bytes is the archive of the pairs of numbers and texts as an index map
-  abbrev pub NumberTextIndexMade : List (Pair A (Bor (List ℕ))) → List ℕ → Type 0
-  NumberTextIndexMade = IndexMade AreNumberTexts NumberTextsFail width
+  abbrev pub NumberTextIndexWriteOk : List (Pair A (Bor (List ℕ))) → List ℕ → Type 0
+  NumberTextIndexWriteOk = IndexWriteOk AreNumberTexts NumberTextsFail width
       (number_texts_format k width.archive) (number_texts_natives k width.archive)
 
   -- a status is the error of the write of the pairs of numbers and texts as an index map
-  abbrev pub NumberTextIndexRefused : List (Pair A (Bor (List ℕ))) → ℕ → Type 0
-  NumberTextIndexRefused =
-      IndexRefused AreNumberTexts NumberTextsFail width (number_texts_format k width.archive)
+  abbrev pub NumberTextIndexWriteFails : List (Pair A (Bor (List ℕ))) → ℕ → Type 0
+  NumberTextIndexWriteFails =
+      IndexWriteFails AreNumberTexts NumberTextsFail width (number_texts_format k width.archive)
 
 -- the result of the write of the pairs of the items: the archive, or the status of an error
 abbrev pub WritesNumberTextIndex : {A P Z : Type 0} → NumberKey A → IndexWidth P
     → List (Pair A (Bor (List ℕ))) → Result (Vec ℕ Z) ℕ → Type 0
 WritesNumberTextIndex k width items result =
-    MatchResult result (λ a. NumberTextIndexMade k width items a.items)
-    (NumberTextIndexRefused k width items)
+    MatchResult result (λ a. NumberTextIndexWriteOk k width items a.items)
+    (NumberTextIndexWriteFails k width items)
 
 module _ {P : Type 0} (width : IndexWidth P) where
   -- a list of bytes is the archive of the pairs of texts as an index map
-  abbrev pub TextTextIndexMade : List (Pair (Bor (List ℕ)) (Bor (List ℕ))) → List ℕ → Type 0
-  TextTextIndexMade = IndexMade AreTextTexts TextTextsFail width (text_texts_format width.archive)
+  abbrev pub TextTextIndexWriteOk : List (Pair (Bor (List ℕ)) (Bor (List ℕ))) → List ℕ → Type 0
+  TextTextIndexWriteOk =
+      IndexWriteOk AreTextTexts TextTextsFail width (text_texts_format width.archive)
       (text_texts_natives width.archive)
 
   -- a status is the error of the write of the pairs of texts as an index map
-  abbrev pub TextTextIndexRefused : List (Pair (Bor (List ℕ)) (Bor (List ℕ))) → ℕ → Type 0
-  TextTextIndexRefused =
-      IndexRefused AreTextTexts TextTextsFail width (text_texts_format width.archive)
+  abbrev pub TextTextIndexWriteFails : List (Pair (Bor (List ℕ)) (Bor (List ℕ))) → ℕ → Type 0
+  TextTextIndexWriteFails =
+      IndexWriteFails AreTextTexts TextTextsFail width (text_texts_format width.archive)
 
 -- the width of an archive of an index map, narrow or wide
 abbrev pub index_width_by : Bool → IndexWidth ℕ
@@ -180,17 +181,17 @@ index_width_by wide = let e = unsigned (word_of wide) in
 -- a list of bytes is the archive of the pairs of numbers and texts as an index map, narrow or wide
 abbrev pub IsIndexOfNumberTexts : {A : Type 0} → NumberKey A → Bool
     → List (Pair A (Bor (List ℕ))) → List ℕ → Type 0
-IsIndexOfNumberTexts k wide = NumberTextIndexMade k (index_width_by wide)
+IsIndexOfNumberTexts k wide = NumberTextIndexWriteOk k (index_width_by wide)
 
 -- a status is the error of the write of such an index map
 abbrev pub IndexOfNumberTextsFails : {A : Type 0} → NumberKey A → Bool
     → List (Pair A (Bor (List ℕ))) → ℕ → Type 0
-IndexOfNumberTextsFails k wide = NumberTextIndexRefused k (index_width_by wide)
+IndexOfNumberTextsFails k wide = NumberTextIndexWriteFails k (index_width_by wide)
 
 -- a list of bytes is the archive of the pairs of texts as an index map, narrow or wide
 abbrev pub IsIndexOfTextTexts : Bool → List (Pair (Bor (List ℕ)) (Bor (List ℕ))) → List ℕ → Type 0
-IsIndexOfTextTexts wide = TextTextIndexMade (index_width_by wide)
+IsIndexOfTextTexts wide = TextTextIndexWriteOk (index_width_by wide)
 
 -- a status is the error of the write of such an index map
 abbrev pub IndexOfTextTextsFails : Bool → List (Pair (Bor (List ℕ)) (Bor (List ℕ))) → ℕ → Type 0
-IndexOfTextTextsFails wide = TextTextIndexRefused (index_width_by wide)
+IndexOfTextTextsFails wide = TextTextIndexWriteFails (index_width_by wide)

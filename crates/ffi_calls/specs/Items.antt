@@ -78,13 +78,13 @@ module _ {N : Type 0} (e : Encoding N) where
   text_pair item = (item.key.now, e.value item.value)
 
   -- the bytes of the text, and the value
-  abbrev pub text_seen : Bor (List ℕ) × N → List ℕ × N
-  text_seen pair = (pair.0.now, pair.1)
+  abbrev pub text_number_model : Bor (List ℕ) × N → List ℕ × N
+  text_number_model pair = (pair.0.now, pair.1)
 
   -- `pairs` are the pairs of the items, in order; all keys are UTF-8, and all values fit the word
   abbrev pub ArePairsOfTexts : List (Pair (Bor (List ℕ)) ℕ) → List (Bor (List ℕ) × N) → Type 0
   ArePairsOfTexts items pairs =
-      All TextFits items × (map text_seen pairs ≡ map text_pair items)
+      All TextFits items × (map text_number_model pairs ≡ map text_pair items)
 
   -- `status` is that of `item`: its key isn't UTF-8, or its key is and its value has too many bits
   abbrev pub TextItemFails : ℕ → Pair (Bor (List ℕ)) ℕ → Type 0
@@ -98,13 +98,13 @@ module _ {N : Type 0} (e : Encoding N) where
 module _ {A N : Type 0} (k : NumberKey A) (width : ArchiveWidth) (v : ElementSpec)
     (e : Encoding N) where
   -- `b` is the archive of the pairs of the items
-  abbrev pub NumbersMade : List (Pair A ℕ) → List ℕ → Type 0
-  NumbersMade items b = (pairs : List (A × N)) × ArePairsOfNumbers e items pairs
+  abbrev pub NumbersWriteOk : List (Pair A ℕ) → List ℕ → Type 0
+  NumbersWriteOk items b = (pairs : List (A × N)) × ArePairsOfNumbers e items pairs
       × IsArchiveOf width (numbers_format k v e) (number_natives k e) pairs b
 
   -- `status` is that of items without pairs, or of the error of the write of their pairs
-  abbrev pub NumbersRefused : List (Pair A ℕ) → ℕ → Type 0
-  NumbersRefused items status = PairsOfNumbersFail e items status
+  abbrev pub NumbersWriteFails : List (Pair A ℕ) → ℕ → Type 0
+  NumbersWriteFails items status = PairsOfNumbersFail e items status
       ⊎ ((pairs : List (A × N)) × (error : WriteError NoMemory) × ArePairsOfNumbers e items pairs
       × ArchiveFails width (numbers_format k v e) pairs error × (status ≡ write_status error))
 
@@ -112,18 +112,18 @@ module _ {A N : Type 0} (k : NumberKey A) (width : ArchiveWidth) (v : ElementSpe
 abbrev pub WritesNumbers : {A N Z : Type 0} → NumberKey A → ArchiveWidth → ElementSpec → Encoding N
     → List (Pair A ℕ) → Result (Vec ℕ Z) ℕ → Type 0
 WritesNumbers k width v e items result =
-    MatchResult result (λ a. NumbersMade k width v e items a.items)
-    (NumbersRefused k width v e items)
+    MatchResult result (λ a. NumbersWriteOk k width v e items a.items)
+    (NumbersWriteFails k width v e items)
 
 module _ {N : Type 0} (width : ArchiveWidth) (v : ElementSpec) (e : Encoding N) where
   -- `b` is the archive of the pairs of the items
-  abbrev pub TextsMade : List (Pair (Bor (List ℕ)) ℕ) → List ℕ → Type 0
-  TextsMade items b = (pairs : List (Bor (List ℕ) × N)) × ArePairsOfTexts e items pairs
+  abbrev pub TextsWriteOk : List (Pair (Bor (List ℕ)) ℕ) → List ℕ → Type 0
+  TextsWriteOk items b = (pairs : List (Bor (List ℕ) × N)) × ArePairsOfTexts e items pairs
       × IsArchiveOfTextPairs width v e pairs b
 
   -- `status` is that of items without pairs, or of the error of the write of their pairs
-  abbrev pub TextsRefused : List (Pair (Bor (List ℕ)) ℕ) → ℕ → Type 0
-  TextsRefused items status = PairsOfTextsFail e items status
+  abbrev pub TextsWriteFails : List (Pair (Bor (List ℕ)) ℕ) → ℕ → Type 0
+  TextsWriteFails items status = PairsOfTextsFail e items status
       ⊎ ((pairs : List (Bor (List ℕ) × N)) × (error : WriteError NoMemory)
       × ArePairsOfTexts e items pairs × TextPairsFail width v e pairs error
       × (status ≡ write_status error))
@@ -136,23 +136,23 @@ width_of form =
 -- a list of bytes is the archive of the pairs of numbers in the form
 abbrev pub IsArchiveOfNumbers : {A : Type 0} → NumberKey A → Form → List (Pair A ℕ) → List ℕ
     → Type 0
-IsArchiveOfNumbers k form = NumbersMade k (width_of form) (value_spec form) (value_encoding form)
+IsArchiveOfNumbers k form = NumbersWriteOk k (width_of form) (value_spec form) (value_encoding form)
 
 -- a list of bytes is the archive of the pairs of texts and numbers in the form
 abbrev pub IsArchiveOfTexts : Form → List (Pair (Bor (List ℕ)) ℕ) → List ℕ → Type 0
-IsArchiveOfTexts form = TextsMade (width_of form) (value_spec form) (value_encoding form)
+IsArchiveOfTexts form = TextsWriteOk (width_of form) (value_spec form) (value_encoding form)
 
 -- a status is the error of the write of the pairs of numbers in the form
 abbrev pub ArchiveOfNumbersFails : {A : Type 0} → NumberKey A → Form → List (Pair A ℕ) → ℕ
     → Type 0
 ArchiveOfNumbersFails k form =
-    NumbersRefused k (width_of form) (value_spec form) (value_encoding form)
+    NumbersWriteFails k (width_of form) (value_spec form) (value_encoding form)
 
 -- a status is the error of the write of the pairs of texts and numbers in the form
 abbrev pub ArchiveOfTextsFails : Form → List (Pair (Bor (List ℕ)) ℕ) → ℕ → Type 0
-ArchiveOfTextsFails form = TextsRefused (width_of form) (value_spec form) (value_encoding form)
+ArchiveOfTextsFails form = TextsWriteFails (width_of form) (value_spec form) (value_encoding form)
 
 -- the status is 0 and `after` has the archive, or it is an error and `after` is `before`
-abbrev pub HandsOut : (List ℕ → Type 0) → (ℕ → Type 0) → Built → ℕ → Built → Type 0
-HandsOut IsMade IsRefused before status after =
-    ((status ≡ 0) × IsMade after.bytes.now) ⊎ (IsRefused status × (after ≡ before))
+abbrev pub Outputs : (List ℕ → Type 0) → (ℕ → Type 0) → Built → ℕ → Built → Type 0
+Outputs IsArchive Fails before status after =
+    ((status ≡ 0) × IsArchive after.bytes.now) ⊎ (Fails status × (after ≡ before))

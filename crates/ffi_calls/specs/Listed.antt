@@ -7,17 +7,17 @@ use Rattle.rkyv_keys.specs.Natives.{NativePairs}
 use Rattle.rkyv_keys.specs.OfScalars.{scalar_calls}
 use Rattle.rkyv_keys.specs.OfTexts.{same_bytes}
 use Rattle.rkyv_keys.specs.Lemmas.OfTexts.{IsTextOf, text_key_calls}
-use Rattle.rkyv_collections.specs.Map.MapAt.{AskedValue, MapAt}
+use Rattle.rkyv_collections.specs.Map.MapAt.{ValueQuery, MapAt}
 use Rattle.ffi_calls.specs.Archives.{numbers_in, texts_in, value_encoding, word_of}
 use Rattle.ffi_calls.specs.Keys.{NumberKey}
-use Rattle.ffi_calls.specs.Lists.{GivesFirst, SetsFirstOf, asked_key, natives}
+use Rattle.ffi_calls.specs.Lists.{ReturnsFirst, SetsFirstOf, query_of_key, natives}
 use Rattle.ffi_calls.specs.Reading.{IsNumberOf}
 use Rattle.ffi_calls.specs.declared.form.Form.{Form}
 
 -- the lookup of the number `key`
-abbrev pub asked_number : {A : Type 0} → NumberKey A → A → AskedValue A
-asked_number k key =
-    asked_key (ScalarRepresents k.encoding) (scalar_calls k.encoding k.call) (k.eq key)
+abbrev pub query_of_number : {A : Type 0} → NumberKey A → A → ValueQuery A
+query_of_number k key =
+    query_of_key (ScalarRepresents k.encoding) (scalar_calls k.encoding k.call) (k.eq key)
 
 -- the pairs of numbers that a map represents, by the encoding of its values
 abbrev pub number_natives : {A N : Type 0} → NumberKey A → Encoding N → NativePairs A N
@@ -33,31 +33,31 @@ abbrev pub text_natives : {N : Type 0} → Width → Encoding N → NativePairs 
 text_natives w e = natives (TextRepresents w) (text_key_calls w) e
 
 -- the lookup of the text `key`
-abbrev pub asked_text : Width → List ℕ → AskedValue (Bor (List ℕ))
-asked_text w key =
-    asked_key (TextRepresents w) (text_key_calls w) (λ held. same_bytes key held.now)
+abbrev pub query_of_text : Width → List ℕ → ValueQuery (Bor (List ℕ))
+query_of_text w key =
+    query_of_key (TextRepresents w) (text_key_calls w) (λ held. same_bytes key held.now)
 
 -- the result of a lookup is the number of the first pair whose key is accepted
-abbrev pub FindsFirst : {A N : Type 0} → MapAt → AskedValue A → Encoding N → ℕ → ℕ → ℕ → Type 0
-FindsFirst m a e = GivesFirst m a (ScalarRepresents e) (IsNumberOf e)
+abbrev pub FindsFirst : {A N : Type 0} → MapAt → ValueQuery A → Encoding N → ℕ → ℕ → ℕ → Type 0
+FindsFirst m a e = ReturnsFirst m a (ScalarRepresents e) (IsNumberOf e)
 
 module _ {A : Type 0} (k : NumberKey A) (form : Form) (b : List ℕ) where
   -- the result of a lookup of `key` is the value of the first pair with the number
-  abbrev pub GivesFirstNumber : A → ℕ → ℕ → ℕ → Type 0
-  GivesFirstNumber key =
-      FindsFirst (numbers_in k form b) (asked_number k key) (value_encoding form)
+  abbrev pub ReturnsFirstNumber : A → ℕ → ℕ → ℕ → Type 0
+  ReturnsFirstNumber key =
+      FindsFirst (numbers_in k form b) (query_of_number k key) (value_encoding form)
 
   -- an overwrite of the value of `key` changes that of the first pair with the number
   abbrev pub SetsFirstNumber : A → ℕ → ℕ → List ℕ → Type 0
   SetsFirstNumber key =
-      SetsFirstOf (numbers_in k form b) (asked_number k key) (value_encoding form)
+      SetsFirstOf (numbers_in k form b) (query_of_number k key) (value_encoding form)
 
 -- the result of a lookup of `key` is the value of the first pair with the text
-abbrev pub GivesFirstText : Form → List ℕ → List ℕ → ℕ → ℕ → ℕ → Type 0
-GivesFirstText form b key =
-    FindsFirst (texts_in form b) (asked_text (word_of form.wide) key) (value_encoding form)
+abbrev pub ReturnsFirstText : Form → List ℕ → List ℕ → ℕ → ℕ → ℕ → Type 0
+ReturnsFirstText form b key =
+    FindsFirst (texts_in form b) (query_of_text (word_of form.wide) key) (value_encoding form)
 
 -- an overwrite of the value of `key` changes that of the first pair with the text
 abbrev pub SetsFirstText : Form → List ℕ → List ℕ → ℕ → ℕ → List ℕ → Type 0
 SetsFirstText form b key =
-    SetsFirstOf (texts_in form b) (asked_text (word_of form.wide) key) (value_encoding form)
+    SetsFirstOf (texts_in form b) (query_of_text (word_of form.wide) key) (value_encoding form)

@@ -5,7 +5,7 @@ use Rattle.std.specs.Int.{Width}
 use mir.Val.{bits}
 use Rattle.rkyv_base.specs.Members.{WidthMembers}
 use Rattle.rkyv_scan.specs.Hash.{HasherCall, fx_hasher, low_halves}
-use Rattle.rkyv_base.specs.Access.{Accepted}
+use Rattle.rkyv_base.specs.Access.{IsValidArchive}
 use Rattle.rkyv_base.specs.Format.{Format}
 use Rattle.rkyv_base.specs.Root.{ArchiveOf, ToBytesFails}
 use Rattle.rkyv_base.specs.Scalar.{Encoding, ScalarRepresents, scalar_format}
@@ -16,7 +16,7 @@ use Rattle.rkyv_table.specs.Table.TableFormat.{TableResolver}
 use Rattle.rkyv_collections.specs.Map.InPlace.{with_first}
 use Rattle.rkyv_keys.specs.FirstPairs.{first_pair, first_value}
 use Rattle.rkyv_collections.specs.Map.ListedWalks.{WalksVisitPairs}
-use Rattle.rkyv_collections.specs.Map.MapAt.{AskedValue, MapAt, asked_value}
+use Rattle.rkyv_collections.specs.Map.MapAt.{ValueQuery, MapAt, query_of_value}
 use Rattle.rkyv_collections.specs.Map.MapSpec.{map_spec}
 use Rattle.rkyv_collections.specs.Map.MapFormat.{MapRepresents, map_format}
 use Rattle.rkyv_keys.specs.Natives.{NativePairs, native_pairs}
@@ -50,46 +50,47 @@ abbrev pub format_of : {A N R : Type 0} → ElementSpec → ElementSpec → Form
 format_of k v format calls e = fx_format k v format (scalar_format e) calls
 
 -- the lookup of keys by the values that they represent
-abbrev pub asked_key : {A : Type 0} → (List ℕ → ℕ → A → Type 0) → (List ℕ → ℕ → List HasherCall)
-    → (A → Bool) → AskedValue A
-asked_key represents key_calls asks = asked_value (fx_hasher low_halves) key_calls represents asks
+abbrev pub query_of_key : {A : Type 0} → (List ℕ → ℕ → A → Type 0) → (List ℕ → ℕ → List HasherCall)
+    → (A → Bool) → ValueQuery A
+query_of_key represents key_calls accept_value =
+    query_of_value (fx_hasher low_halves) key_calls represents accept_value
 
 -- the map represents the pairs, under the load factor
 abbrev pub PairsRepresent : {A N : Type 0} → MapAt → NativePairs A N → ℕ × ℕ → List (A × N) → Type 0
 PairsRepresent m native factor pairs = MapRepresents m.word m.key m.value native.key native.value
     native.key_hash factor m.bytes m.pos pairs
 
-module _ {A B : Type 0} (m : MapAt) (a : AskedValue A) (value : List ℕ → ℕ → B → Type 0) where
-  -- the pairs of keys that a lookup asks for, and of values
-  abbrev pub asked_pairs : NativePairs A B
-  asked_pairs = record { key = a.represents; value = value; key_hash = a.key_hash }
+module _ {A B : Type 0} (m : MapAt) (a : ValueQuery A) (value : List ℕ → ℕ → B → Type 0) where
+  -- the pairs that entries of a map represent, by `a` and by `value`
+  abbrev pub query_pairs : NativePairs A B
+  query_pairs = record { key = a.represents; value = value; key_hash = a.key_hash }
 
   -- `place` is the position of the first value whose key is accepted, or both are `None`
   abbrev pub PosOfFirst : Option ℕ → Type 0
   PosOfFirst place = (factor : ℕ × ℕ) (pairs : List (A × B))
-      → PairsRepresent m asked_pairs factor pairs
-      → MatchOption (first_value a.asks pairs) (place ≡ None)
+      → PairsRepresent m query_pairs factor pairs
+      → MatchOption (first_value a.accept_value pairs) (place ≡ None)
       (λ x. (q : ℕ) × (place ≡ Some q) × value m.bytes q x)
 
   -- The result of a lookup is the value of the first pair whose key is accepted, by `IsValue`.
   -- Without one the status is 1 and `after` is `before`.
-  abbrev pub GivesFirst : {X : Type 0} → (X → B → Type 0) → X → ℕ → X → Type 0
-  GivesFirst IsValue before status after = (factor : ℕ × ℕ) (pairs : List (A × B))
-      → PairsRepresent m asked_pairs factor pairs
-      → MatchOption (first_value a.asks pairs) ((status ≡ 1) × (after ≡ before))
+  abbrev pub ReturnsFirst : {X : Type 0} → (X → B → Type 0) → X → ℕ → X → Type 0
+  ReturnsFirst IsValue before status after = (factor : ℕ × ℕ) (pairs : List (A × B))
+      → PairsRepresent m query_pairs factor pairs
+      → MatchOption (first_value a.accept_value pairs) ((status ≡ 1) × (after ≡ before))
       (λ x. (status ≡ 0) × IsValue after x)
 
-module _ {A N : Type 0} (m : MapAt) (a : AskedValue A) (e : Encoding N) where
+module _ {A N : Type 0} (m : MapAt) (a : ValueQuery A) (e : Encoding N) where
   -- After an overwrite `c` represents the list with the value of `number` in the first such pair.
   -- If no key is accepted the status is 1; if `number` has too many bits it is 3.
   abbrev pub SetsFirstOf : ℕ → ℕ → List ℕ → Type 0
   SetsFirstOf number status c = (factor : ℕ × ℕ) (pairs : List (A × N))
-      → PairsRepresent m (asked_pairs m a (ScalarRepresents e)) factor pairs
+      → PairsRepresent m (query_pairs m a (ScalarRepresents e)) factor pairs
       → ((2 ^ bits e.word ≤ number) × (status ≡ 3))
       ⊎ ((number < 2 ^ bits e.word) × ((value : N) × (e.code value ≡ number)
-      × MatchOption (first_pair a.asks pairs) (status ≡ 1) (λ pair. status ≡ 0)
-      × PairsRepresent (map_in m.word m.key m.value c) (asked_pairs m a (ScalarRepresents e)) factor
-      (with_first a.asks value pairs)))
+      × MatchOption (first_pair a.accept_value pairs) (status ≡ 1) (λ pair. status ≡ 0)
+      × PairsRepresent (map_in m.word m.key m.value c) (query_pairs m a (ScalarRepresents e)) factor
+      (with_first a.accept_value value pairs)))
 
 -- A walk over an archive of a list visits the home buckets of its pairs, each once and ascending.
 -- It visits no other bucket, and the n-th home bucket has the n-th pair.
@@ -132,7 +133,7 @@ module _ {A N R Q : Type 0} (width : ArchiveWidth) (format : PairFormat A N R Q)
   -- an archive of a list is valid, and represents the list
   abbrev pub ArchivesRepresent : NativePairs A N → Type 0
   ArchivesRepresent native = (pairs : List (A × N)) (b : List ℕ) → IsArchiveOf native pairs b
-      → Accepted width.limit header_spec b
+      → IsValidArchive width.limit header_spec b
       × PairsRepresent (map_in width.word format.key_spec format.value_spec b) native (7, 8) pairs
 
 -- `b` is the archive of the pairs, in this order, in the width with the members of a `Width`

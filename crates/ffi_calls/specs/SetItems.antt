@@ -3,7 +3,7 @@ use Rattle.std.specs.Prelude.{◌≡◌, ℕ, ◌⊎◌, Bool, List}
 use Rattle.std.specs.Borrow.{Bor}
 use Rattle.std.specs.Str.{IsUtf8}
 use Rattle.rkyv_scan.specs.Hash.{HasherCall, fx_hasher, hash_of_calls, low_halves}
-use Rattle.rkyv_base.specs.Access.{Accepted}
+use Rattle.rkyv_base.specs.Access.{IsValidArchive}
 use Rattle.rkyv_base.specs.ElementSpec.{ElementSpec}
 use Rattle.rkyv_base.specs.Empty.{unit_spec}
 use Rattle.rkyv_base.specs.Format.{Format}
@@ -62,7 +62,7 @@ module _ {A R : Type 0} (width : ArchiveWidth) (format : KeyFormat A R) where
       → Type 0
   SetArchivesRepresent represents calls = (items : List A) (b : List ℕ)
       → IsSetArchive represents calls items b
-      → Accepted width.limit (set_spec width.word format.spec) b
+      → IsValidArchive width.limit (set_spec width.word format.spec) b
       × SetRepresents width.word format.spec represents (fx_hash_at calls) (7, 8) b
       (root width.word format.spec unit_spec b) items
 
@@ -75,16 +75,16 @@ abbrev pub set_text_image : SetText → List ℕ
 set_text_image item = item.text.now
 
 -- the bytes of the text
-abbrev pub set_text_seen : Bor (List ℕ) → List ℕ
-set_text_seen text = text.now
+abbrev pub set_text_model : Bor (List ℕ) → List ℕ
+set_text_model text = text.now
 
 -- `texts` are the texts of the items, in order, and all are UTF-8
 abbrev pub AreSetTexts : List SetText → List (Bor (List ℕ)) → Type 0
-AreSetTexts = ArePairsOf SetTextFits set_text_image set_text_seen
+AreSetTexts = ArePairsOf SetTextFits set_text_image set_text_model
 
 -- a status is that of an allocation failure, or of the first item that isn't UTF-8
 abbrev pub SetTextsFail : List SetText → ℕ → Type 0
-SetTextsFail = PairsFail SetTextFits set_text_image set_text_seen
+SetTextsFail = PairsFail SetTextFits set_text_image set_text_model
 
 module _ {A : Type 0} (k : NumberKey A) (width : ArchiveWidth) where
   -- how the numbers of a set are written
@@ -92,13 +92,13 @@ module _ {A : Type 0} (k : NumberKey A) (width : ArchiveWidth) where
   number_items = fx_items k.spec (scalar_format k.encoding) (one_call k.call)
 
   -- a list of bytes is the archive of the set of numbers
-  abbrev pub NumberSetMade : List A → List ℕ → Type 0
-  NumberSetMade = IsSetArchive width number_items (ScalarRepresents k.encoding)
+  abbrev pub NumberSetWriteOk : List A → List ℕ → Type 0
+  NumberSetWriteOk = IsSetArchive width number_items (ScalarRepresents k.encoding)
       (scalar_calls k.encoding k.call)
 
   -- a status is the error of the write of the set of numbers
-  abbrev pub NumberSetRefused : List A → ℕ → Type 0
-  NumberSetRefused items status = (error : WriteError NoMemory)
+  abbrev pub NumberSetWriteFails : List A → ℕ → Type 0
+  NumberSetWriteFails items status = (error : WriteError NoMemory)
       × SetArchiveFails width number_items items error × (status ≡ write_status error)
 
 module _ (width : ArchiveWidth) where
@@ -107,29 +107,29 @@ module _ (width : ArchiveWidth) where
   text_items = fx_items (text_spec width.word) (bytes_format width) (λ text. text_calls text.now)
 
   -- `b` is the archive of the set of the texts of the items
-  abbrev pub TextSetMade : List SetText → List ℕ → Type 0
-  TextSetMade items b = (texts : List (Bor (List ℕ))) × AreSetTexts items texts
+  abbrev pub TextSetWriteOk : List SetText → List ℕ → Type 0
+  TextSetWriteOk items b = (texts : List (Bor (List ℕ))) × AreSetTexts items texts
       × IsSetArchive width text_items (TextRepresents width.word) (text_key_calls width.word) texts
       b
 
   -- `status` is that of items without texts, or of the error of the write of the set
-  abbrev pub TextSetRefused : List SetText → ℕ → Type 0
-  TextSetRefused items status = SetTextsFail items status
+  abbrev pub TextSetWriteFails : List SetText → ℕ → Type 0
+  TextSetWriteFails items status = SetTextsFail items status
       ⊎ ((texts : List (Bor (List ℕ))) × (error : WriteError NoMemory) × AreSetTexts items texts
       × SetArchiveFails width text_items texts error × (status ≡ write_status error))
 
 -- a list of bytes is the archive of the set of numbers, narrow or wide
 abbrev pub IsArchiveOfNumberSet : {A : Type 0} → NumberKey A → Bool → List A → List ℕ → Type 0
-IsArchiveOfNumberSet k wide = NumberSetMade k (width_by wide)
+IsArchiveOfNumberSet k wide = NumberSetWriteOk k (width_by wide)
 
 -- a status is the error of the write of the set of numbers, narrow or wide
 abbrev pub ArchiveOfNumberSetFails : {A : Type 0} → NumberKey A → Bool → List A → ℕ → Type 0
-ArchiveOfNumberSetFails k wide = NumberSetRefused k (width_by wide)
+ArchiveOfNumberSetFails k wide = NumberSetWriteFails k (width_by wide)
 
 -- a list of bytes is the archive of the set of texts, narrow or wide
 abbrev pub IsArchiveOfTextSet : Bool → List SetText → List ℕ → Type 0
-IsArchiveOfTextSet wide = TextSetMade (width_by wide)
+IsArchiveOfTextSet wide = TextSetWriteOk (width_by wide)
 
 -- a status is the error of the write of the set of texts, narrow or wide
 abbrev pub ArchiveOfTextSetFails : Bool → List SetText → ℕ → Type 0
-ArchiveOfTextSetFails wide = TextSetRefused (width_by wide)
+ArchiveOfTextSetFails wide = TextSetWriteFails (width_by wide)

@@ -4,7 +4,7 @@ use Rattle.std.specs.Borrow.{Bor}
 use Rattle.std.specs.Int.{Width}
 use Rattle.std.specs.List.{find}
 use Rattle.std.specs.Str.{IsUtf8}
-use Rattle.rkyv_base.specs.Access.{Accepted}
+use Rattle.rkyv_base.specs.Access.{IsValidArchive}
 use Rattle.rkyv_base.specs.ElementSpec.{ElementSpec}
 use Rattle.rkyv_base.specs.Empty.{unit_represents, unit_spec}
 use Rattle.rkyv_base.specs.Text.{text_at}
@@ -12,12 +12,12 @@ use Rattle.rkyv_base.specs.Scalar.{ScalarRepresents}
 use Rattle.rkyv_keys.specs.Calls.{text_calls}
 use Rattle.rkyv_keys.specs.OfScalars.{one_call, scalar_fits}
 use Rattle.rkyv_keys.specs.OfTexts.{same_bytes}
-use Rattle.rkyv_collections.specs.Map.MapAt.{AskedValue, MapAt}
+use Rattle.rkyv_collections.specs.Map.MapAt.{ValueQuery, MapAt}
 use Rattle.rkyv_collections.specs.Set.{set_spec}
 use Rattle.rkyv_collections.specs.Set.SetFormat.{SetRepresents}
 use Rattle.ffi_calls.specs.Archives.{limit_of, map_in, value_found, word_of}
 use Rattle.ffi_calls.specs.Keys.{NumberKey}
-use Rattle.ffi_calls.specs.Listed.{asked_number, asked_text}
+use Rattle.ffi_calls.specs.Listed.{query_of_number, query_of_text}
 use Rattle.ffi_calls.specs.TextValues.{text_by}
 use Rattle.ffi_calls.specs.Reading.{ReadsText}
 use Rattle.ffi_calls.specs.Walking.{StoresNextPairs}
@@ -38,11 +38,11 @@ text_set wide = set_spec (word_of wide) (text_by wide)
 
 -- `b` is the valid archive of a set of numbers, narrow or wide
 abbrev pub IsNumberSet : {A : Type 0} → NumberKey A → Bool → List ℕ → Type 0
-IsNumberSet k wide b = Accepted (limit_of wide) (number_set k wide) b
+IsNumberSet k wide b = IsValidArchive (limit_of wide) (number_set k wide) b
 
 -- `b` is the valid archive of a set of texts, narrow or wide
 abbrev pub IsTextSet : Bool → List ℕ → Type 0
-IsTextSet wide b = Accepted (limit_of wide) (text_set wide) b
+IsTextSet wide b = IsValidArchive (limit_of wide) (text_set wide) b
 
 -- the set of numbers, narrow or wide, at the root of an archive
 abbrev pub number_set_in : {A : Type 0} → NumberKey A → Bool → List ℕ → MapAt
@@ -57,10 +57,10 @@ abbrev pub IsFoundStatus : {X : Type 0} → Option X → ℕ → Type 0
 IsFoundStatus found status = MatchOption found (status ≡ 1) (λ x. status ≡ 0)
 
 -- the status is 0 if and only if an item of the list that the set represents is accepted, else 1
-abbrev pub FindsItem : {A : Type 0} → MapAt → AskedValue A → ℕ → Type 0
+abbrev pub FindsItem : {A : Type 0} → MapAt → ValueQuery A → ℕ → Type 0
 FindsItem {A} m a status = (factor : ℕ × ℕ) (items : List A)
     → SetRepresents m.word m.key a.represents a.key_hash factor m.bytes m.pos items
-    → IsFoundStatus (find a.asks items) status
+    → IsFoundStatus (find a.accept_value items) status
 
 module _ {A : Type 0} (k : NumberKey A) (wide : Bool) (b : List ℕ) where
   -- the result of a lookup of the number `item`
@@ -70,7 +70,7 @@ module _ {A : Type 0} (k : NumberKey A) (wide : Bool) (b : List ℕ) where
 
   -- the result of a lookup is whether a listed item is the number
   abbrev pub FindsListedNumber : A → ℕ → Type 0
-  FindsListedNumber item = FindsItem (number_set_in k wide b) (asked_number k item)
+  FindsListedNumber item = FindsItem (number_set_in k wide b) (query_of_number k item)
 
 -- the position of the value that a lookup of the text `item` finds
 abbrev pub member_found : Bool → List ℕ → List ℕ → Option ℕ
@@ -84,7 +84,7 @@ FindsText wide b item status = ((IsUtf8 item → ⊥) × (status ≡ 4))
 
 -- the result of a lookup is whether a listed item is the text
 abbrev pub FindsListedText : Bool → List ℕ → List ℕ → ℕ → Type 0
-FindsListedText wide b item = FindsItem (text_set_in wide b) (asked_text (word_of wide) item)
+FindsListedText wide b item = FindsItem (text_set_in wide b) (query_of_text (word_of wide) item)
 
 -- the result of steps to the next items of a set of numbers
 abbrev pub StoresNextNumberMembers : {A : Type 0} → NumberKey A → Bool → List ℕ → ℕ

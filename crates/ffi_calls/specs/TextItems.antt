@@ -25,11 +25,11 @@ use Rattle.ffi_calls.specs.Status.{write_status}
 use Rattle.ffi_calls.specs.declared.pairs.Pair.{Pair}
 
 -- the items of a map, and its pairs. `Fits`: the texts of an item are UTF-8, `image`: key and
--- value of an item, `seen`: those of a pair, with the bytes of a text in place of the text
-module _ {I P S : Type 0} (Fits : I → Type 0) (image : I → S) (seen : P → S) where
+-- value of an item, `model`: those of a pair, with the bytes of a text in place of the text
+module _ {I P S : Type 0} (Fits : I → Type 0) (image : I → S) (model : P → S) where
   -- `pairs` are the pairs of the items, in order, and all texts are UTF-8
   abbrev pub ArePairsOf : List I → List P → Type 0
-  ArePairsOf items pairs = All Fits items × (map seen pairs ≡ map image items)
+  ArePairsOf items pairs = All Fits items × (map model pairs ≡ map image items)
 
   -- `status` is that of an allocation failure, or of the first item with a text that isn't UTF-8
   abbrev pub PairsFail : List I → ℕ → Type 0
@@ -40,13 +40,13 @@ module _ {I P S : Type 0} (Fits : I → Type 0) (image : I → S) (seen : P → 
 module _ {I A B R Q : Type 0} (ArePairs : List I → List (A × B) → Type 0) (Fails : List I → ℕ
     → Type 0) (width : ArchiveWidth) (format : PairFormat A B R Q) where
   -- `b` is the archive of the pairs of the items. `native`: what represents the pairs
-  abbrev pub ItemsMade : NativePairs A B → List I → List ℕ → Type 0
-  ItemsMade native items b = (pairs : List (A × B)) × ArePairs items pairs
+  abbrev pub ItemsWriteOk : NativePairs A B → List I → List ℕ → Type 0
+  ItemsWriteOk native items b = (pairs : List (A × B)) × ArePairs items pairs
       × IsArchiveOf width format native pairs b
 
   -- `status` is that of items without pairs, or of the error of the write of their pairs
-  abbrev pub ItemsRefused : List I → ℕ → Type 0
-  ItemsRefused items status = Fails items status
+  abbrev pub ItemsWriteFails : List I → ℕ → Type 0
+  ItemsWriteFails items status = Fails items status
       ⊎ ((pairs : List (A × B)) × (error : WriteError NoMemory) × ArePairs items pairs
       × ArchiveFails width format pairs error × (status ≡ write_status error))
 
@@ -59,17 +59,17 @@ abbrev pub number_text_image : {A : Type 0} → Pair A (Bor (List ℕ)) → A ×
 number_text_image item = (item.key, item.value.now)
 
 -- the number, and the bytes of the text
-abbrev pub number_text_seen : {A : Type 0} → A × Bor (List ℕ) → A × List ℕ
-number_text_seen pair = (pair.0, pair.1.now)
+abbrev pub number_text_model : {A : Type 0} → A × Bor (List ℕ) → A × List ℕ
+number_text_model pair = (pair.0, pair.1.now)
 
 -- `pairs` are the pairs of the items, in order, and all values are UTF-8
 abbrev pub AreNumberTexts : {A : Type 0} → List (Pair A (Bor (List ℕ))) → List (A × Bor (List ℕ))
     → Type 0
-AreNumberTexts = ArePairsOf NumberTextFits number_text_image number_text_seen
+AreNumberTexts = ArePairsOf NumberTextFits number_text_image number_text_model
 
 -- a status is that of an allocation failure, or of the first value that isn't UTF-8
 abbrev pub NumberTextsFail : {A : Type 0} → List (Pair A (Bor (List ℕ))) → ℕ → Type 0
-NumberTextsFail = PairsFail NumberTextFits number_text_image number_text_seen
+NumberTextsFail = PairsFail NumberTextFits number_text_image number_text_model
 
 -- the texts of `item` are UTF-8
 abbrev pub TextTextFits : Pair (Bor (List ℕ)) (Bor (List ℕ)) → Type 0
@@ -80,17 +80,17 @@ abbrev pub text_text_image : Pair (Bor (List ℕ)) (Bor (List ℕ)) → List ℕ
 text_text_image item = (item.key.now, item.value.now)
 
 -- the bytes of both texts
-abbrev pub text_text_seen : Bor (List ℕ) × Bor (List ℕ) → List ℕ × List ℕ
-text_text_seen pair = (pair.0.now, pair.1.now)
+abbrev pub text_text_model : Bor (List ℕ) × Bor (List ℕ) → List ℕ × List ℕ
+text_text_model pair = (pair.0.now, pair.1.now)
 
 -- `pairs` are the pairs of the items, in order, and all texts are UTF-8
 abbrev pub AreTextTexts : List (Pair (Bor (List ℕ)) (Bor (List ℕ)))
     → List (Bor (List ℕ) × Bor (List ℕ)) → Type 0
-AreTextTexts = ArePairsOf TextTextFits text_text_image text_text_seen
+AreTextTexts = ArePairsOf TextTextFits text_text_image text_text_model
 
 -- a status is that of an allocation failure, or of the first item with a text that isn't UTF-8
 abbrev pub TextTextsFail : List (Pair (Bor (List ℕ)) (Bor (List ℕ))) → ℕ → Type 0
-TextTextsFail = PairsFail TextTextFits text_text_image text_text_seen
+TextTextsFail = PairsFail TextTextFits text_text_image text_text_model
 
 module _ (width : ArchiveWidth) where
   -- how a text is written
@@ -108,12 +108,13 @@ module _ (width : ArchiveWidth) where
       (text_key_calls width.word)
 
   -- a list of bytes is the archive of the pairs of texts
-  abbrev pub TextTextsMade : List (Pair (Bor (List ℕ)) (Bor (List ℕ))) → List ℕ → Type 0
-  TextTextsMade = ItemsMade AreTextTexts TextTextsFail width text_texts_format text_texts_natives
+  abbrev pub TextTextsWriteOk : List (Pair (Bor (List ℕ)) (Bor (List ℕ))) → List ℕ → Type 0
+  TextTextsWriteOk =
+      ItemsWriteOk AreTextTexts TextTextsFail width text_texts_format text_texts_natives
 
   -- a status is the error of the write of the pairs of texts
-  abbrev pub TextTextsRefused : List (Pair (Bor (List ℕ)) (Bor (List ℕ))) → ℕ → Type 0
-  TextTextsRefused = ItemsRefused AreTextTexts TextTextsFail width text_texts_format
+  abbrev pub TextTextsWriteFails : List (Pair (Bor (List ℕ)) (Bor (List ℕ))) → ℕ → Type 0
+  TextTextsWriteFails = ItemsWriteFails AreTextTexts TextTextsFail width text_texts_format
 
 module _ {A : Type 0} (k : NumberKey A) (width : ArchiveWidth) where
   -- how pairs of numbers and texts are written
@@ -127,13 +128,13 @@ module _ {A : Type 0} (k : NumberKey A) (width : ArchiveWidth) where
       (scalar_calls k.encoding k.call)
 
   -- a list of bytes is the archive of the pairs of numbers and texts
-  abbrev pub NumberTextsMade : List (Pair A (Bor (List ℕ))) → List ℕ → Type 0
-  NumberTextsMade =
-      ItemsMade AreNumberTexts NumberTextsFail width number_texts_format number_texts_natives
+  abbrev pub NumberTextsWriteOk : List (Pair A (Bor (List ℕ))) → List ℕ → Type 0
+  NumberTextsWriteOk =
+      ItemsWriteOk AreNumberTexts NumberTextsFail width number_texts_format number_texts_natives
 
   -- a status is the error of the write of the pairs of numbers and texts
-  abbrev pub NumberTextsRefused : List (Pair A (Bor (List ℕ))) → ℕ → Type 0
-  NumberTextsRefused = ItemsRefused AreNumberTexts NumberTextsFail width number_texts_format
+  abbrev pub NumberTextsWriteFails : List (Pair A (Bor (List ℕ))) → ℕ → Type 0
+  NumberTextsWriteFails = ItemsWriteFails AreNumberTexts NumberTextsFail width number_texts_format
 
 -- the width of an archive, narrow or wide
 abbrev pub width_by : Bool → ArchiveWidth
@@ -142,17 +143,17 @@ width_by wide = record { word = word_of wide; limit = limit_of wide; most = most
 -- a list of bytes is the archive of the pairs of numbers and texts, narrow or wide
 abbrev pub IsArchiveOfNumberTexts : {A : Type 0} → NumberKey A → Bool → List (Pair A (Bor (List ℕ)))
     → List ℕ → Type 0
-IsArchiveOfNumberTexts k wide = NumberTextsMade k (width_by wide)
+IsArchiveOfNumberTexts k wide = NumberTextsWriteOk k (width_by wide)
 
 -- a status is the error of the write of the pairs of numbers and texts, narrow or wide
 abbrev pub ArchiveOfNumberTextsFails : {A : Type 0} → NumberKey A → Bool
     → List (Pair A (Bor (List ℕ))) → ℕ → Type 0
-ArchiveOfNumberTextsFails k wide = NumberTextsRefused k (width_by wide)
+ArchiveOfNumberTextsFails k wide = NumberTextsWriteFails k (width_by wide)
 
 -- a list of bytes is the archive of the pairs of texts, narrow or wide
 abbrev pub IsArchiveOfTextTexts : Bool → List (Pair (Bor (List ℕ)) (Bor (List ℕ))) → List ℕ → Type 0
-IsArchiveOfTextTexts wide = TextTextsMade (width_by wide)
+IsArchiveOfTextTexts wide = TextTextsWriteOk (width_by wide)
 
 -- a status is the error of the write of the pairs of texts, narrow or wide
 abbrev pub ArchiveOfTextTextsFails : Bool → List (Pair (Bor (List ℕ)) (Bor (List ℕ))) → ℕ → Type 0
-ArchiveOfTextTextsFails wide = TextTextsRefused (width_by wide)
+ArchiveOfTextTextsFails wide = TextTextsWriteFails (width_by wide)

@@ -3,19 +3,19 @@ use Rattle.std.specs.Prelude.{◌≡◌, ℕ, ◌⊎◌, Bool, List, Option}
 use Rattle.std.specs.Borrow.{Bor}
 use Rattle.std.specs.Int.{Width}
 use Rattle.std.specs.Str.{IsUtf8}
-use Rattle.rkyv_base.specs.Access.{Accepted}
+use Rattle.rkyv_base.specs.Access.{IsValidArchive}
 use Rattle.rkyv_base.specs.ElementSpec.{ElementSpec}
 use Rattle.rkyv_base.specs.Text.{text_at, text_spec}
 use Rattle.rkyv_base.specs.Scalar.{ScalarRepresents}
 use Rattle.rkyv_keys.specs.Calls.{text_calls}
 use Rattle.rkyv_keys.specs.OfScalars.{one_call, scalar_fits}
 use Rattle.rkyv_keys.specs.OfTexts.{same_bytes}
-use Rattle.rkyv_collections.specs.Map.MapAt.{AskedValue, MapAt}
+use Rattle.rkyv_collections.specs.Map.MapAt.{ValueQuery, MapAt}
 use Rattle.rkyv_collections.specs.Map.MapSpec.{map_spec}
-use Rattle.ffi_calls.specs.Archives.{GivesAt, limit_of, map_in, value_found, word_of}
+use Rattle.ffi_calls.specs.Archives.{ReturnsAt, limit_of, map_in, value_found, word_of}
 use Rattle.ffi_calls.specs.Keys.{NumberKey}
-use Rattle.ffi_calls.specs.Listed.{TextRepresents, asked_number, asked_text}
-use Rattle.ffi_calls.specs.Lists.{GivesFirst}
+use Rattle.ffi_calls.specs.Listed.{TextRepresents, query_of_number, query_of_text}
+use Rattle.ffi_calls.specs.Lists.{ReturnsFirst}
 use Rattle.ffi_calls.specs.Reading.{HasBytesOf, ReadsText}
 use Rattle.ffi_calls.specs.Walking.{StoresNextPairs}
 use Rattle.ffi_calls.specs.declared.pairs.Pair.{Pair}
@@ -39,11 +39,11 @@ text_text_map wide = map_spec (word_of wide) (text_by wide) (text_by wide)
 
 -- `b` is the valid archive of a map of numbers to texts, narrow or wide
 abbrev pub IsNumberTextArchive : {A : Type 0} → NumberKey A → Bool → List ℕ → Type 0
-IsNumberTextArchive k wide b = Accepted (limit_of wide) (number_text_map k wide) b
+IsNumberTextArchive k wide b = IsValidArchive (limit_of wide) (number_text_map k wide) b
 
 -- `b` is the valid archive of a map of texts to texts, narrow or wide
 abbrev pub IsTextTextArchive : Bool → List ℕ → Type 0
-IsTextTextArchive wide b = Accepted (limit_of wide) (text_text_map wide) b
+IsTextTextArchive wide b = IsValidArchive (limit_of wide) (text_text_map wide) b
 
 -- the map of numbers to texts, narrow or wide, at the root of an archive
 abbrev pub number_texts_in : {A : Type 0} → NumberKey A → Bool → List ℕ → MapAt
@@ -55,26 +55,26 @@ text_texts_in wide = to_texts_in (word_of wide) (text_by wide)
 
 -- the status is 0 and `after` has the text at `place`.
 -- At `None` the status is 1 and `after` is `before`.
-abbrev pub GivesTextAt : MapAt → Option ℕ → Bor (List ℕ) → ℕ → Bor (List ℕ) → Type 0
-GivesTextAt m = GivesAt (ReadsText m.word m.bytes)
+abbrev pub ReturnsTextAt : MapAt → Option ℕ → Bor (List ℕ) → ℕ → Bor (List ℕ) → Type 0
+ReturnsTextAt m = ReturnsAt (ReadsText m.word m.bytes)
 
 -- The result of a lookup is the text of the first pair whose key is accepted.
 -- Without one the status is 1 and `after` is `before`.
-abbrev pub GivesFirstTextValue : {A : Type 0} → MapAt → AskedValue A → Bor (List ℕ) → ℕ
+abbrev pub ReturnsFirstTextValue : {A : Type 0} → MapAt → ValueQuery A → Bor (List ℕ) → ℕ
     → Bor (List ℕ) → Type 0
-GivesFirstTextValue m a = GivesFirst m a (TextRepresents m.word) HasBytesOf
+ReturnsFirstTextValue m a = ReturnsFirst m a (TextRepresents m.word) HasBytesOf
 
 module _ {A : Type 0} (k : NumberKey A) (wide : Bool) (b : List ℕ) where
   -- the result of a lookup of the number `key`, whose text replaces `before`
-  abbrev pub GivesTextOfNumber : A → Bor (List ℕ) → ℕ → Bor (List ℕ) → Type 0
-  GivesTextOfNumber key = GivesTextAt (number_texts_in k wide b)
+  abbrev pub ReturnsTextOfNumber : A → Bor (List ℕ) → ℕ → Bor (List ℕ) → Type 0
+  ReturnsTextOfNumber key = ReturnsTextAt (number_texts_in k wide b)
       (value_found (number_texts_in k wide b) (one_call k.call key)
       (scalar_fits k.encoding k.eq key b))
 
   -- the result of a lookup of `key` is the text of the first pair with the number
-  abbrev pub GivesFirstTextOfNumber : A → Bor (List ℕ) → ℕ → Bor (List ℕ) → Type 0
-  GivesFirstTextOfNumber key =
-      GivesFirstTextValue (number_texts_in k wide b) (asked_number k key)
+  abbrev pub ReturnsFirstTextOfNumber : A → Bor (List ℕ) → ℕ → Bor (List ℕ) → Type 0
+  ReturnsFirstTextOfNumber key =
+      ReturnsFirstTextValue (number_texts_in k wide b) (query_of_number k key)
 
 -- the position of the value that a lookup of the text `key` finds
 abbrev pub text_of_text_found : Bool → List ℕ → List ℕ → Option ℕ
@@ -83,16 +83,17 @@ text_of_text_found wide b key = value_found (text_texts_in wide b) (text_calls k
 
 -- the result of a lookup of `key`, whose text replaces `before`.
 -- The status is 4 and `before` is unchanged if `key` isn't UTF-8.
-abbrev pub GivesTextOfText : Bool → List ℕ → List ℕ → Bor (List ℕ) → ℕ → Bor (List ℕ) → Type 0
-GivesTextOfText wide b key before status after =
+abbrev pub ReturnsTextOfText : Bool → List ℕ → List ℕ → Bor (List ℕ) → ℕ → Bor (List ℕ) → Type 0
+ReturnsTextOfText wide b key before status after =
     ((IsUtf8 key → ⊥) × (status ≡ 4) × (after ≡ before))
     ⊎ (IsUtf8 key
-    × GivesTextAt (text_texts_in wide b) (text_of_text_found wide b key) before status after)
+    × ReturnsTextAt (text_texts_in wide b) (text_of_text_found wide b key) before status after)
 
 -- the result of a lookup of `key` is the text of the first pair with the text
-abbrev pub GivesFirstTextOfText : Bool → List ℕ → List ℕ → Bor (List ℕ) → ℕ → Bor (List ℕ) → Type 0
-GivesFirstTextOfText wide b key =
-    GivesFirstTextValue (text_texts_in wide b) (asked_text (word_of wide) key)
+abbrev pub ReturnsFirstTextOfText : Bool → List ℕ → List ℕ → Bor (List ℕ) → ℕ → Bor (List ℕ)
+    → Type 0
+ReturnsFirstTextOfText wide b key =
+    ReturnsFirstTextValue (text_texts_in wide b) (query_of_text (word_of wide) key)
 
 -- the result of steps to the next pairs of a map of numbers to texts
 abbrev pub StoresNextNumberTexts : {A : Type 0} → NumberKey A → Bool → List ℕ → ℕ

@@ -42,10 +42,10 @@ AreStepsIn IsPair (bucket ∷ buckets) (step ∷ steps) =
 
 -- the result of steps from the bucket `from` on: `after` begins with those to the first full
 -- buckets, at most as many as `before` has. Their number is `count`, and the rest is unchanged.
-abbrev pub TakesSteps : {P : Type 0} → (ℕ → List ℕ) → (ℕ → P → Type 0) → ℕ → List (Step P) → ℕ
+abbrev pub StoresSteps : {P : Type 0} → (ℕ → List ℕ) → (ℕ → P → Type 0) → ℕ → List (Step P) → ℕ
     → List (Step P)
     → Type 0
-TakesSteps buckets IsPair from before count after =
+StoresSteps buckets IsPair from before count after =
     let reached = take (length before) (buckets from) in
     (count ≡ length reached) × AreStepsIn IsPair reached (take count after)
     × (drop count after ≡ drop count before)
@@ -64,4 +64,4 @@ module _ {X Y : Type 0} (m : MapAt) (key : List ℕ → ℕ → X → Type 0) (v
 
   -- the result of steps to the next pairs of a map
   abbrev pub StoresNextPairs : ℕ → List (Step (Pair X Y)) → ℕ → List (Step (Pair X Y)) → Type 0
-  StoresNextPairs = TakesSteps (buckets_from m) IsPairIn
+  StoresNextPairs = StoresSteps (buckets_from m) IsPairIn

@@ -1,7 +1,7 @@
 //! The archive of a map: its validation, and its header, which is decoded once.
 
 ghost use Rattle.std.specs.Prelude.{◌≡◌};
-ghost use Rattle.rkyv_base.specs.Access.{Accepted};
+ghost use Rattle.rkyv_base.specs.Access.{IsValidArchive};
 ghost use Rattle.rkyv_base.specs.ElementSpec.{Viewable};
 ghost use Rattle.rkyv_collections.specs.Map.MapSpec.{map_spec};
 ghost use Rattle.rkyv_collections.specs.Map.{map_bytes, map_pos};
@@ -19,7 +19,7 @@ use rkyv_table::table::decoded::Decoded;
 /// Validates the archive of a map; returns `DONE` or the status of the first error.
 pub(crate) fn open_map<K: Element, V: Element, W: Width>(archive: &[u8]) -> u32
     ensures status { Opens W.LIMIT (map_spec W.word K.spec V.spec) archive.now result }
-    ensures accepts { Accepted W.LIMIT (map_spec W.word K.spec V.spec) archive.now
+    ensures accepts { IsValidArchive W.LIMIT (map_spec W.word K.spec V.spec) archive.now
         → result ≡ 0 }
 {
     match access_in::<W, HashMapOf<K, V, FxHasher64, W>>(archive) {
@@ -31,7 +31,7 @@ pub(crate) fn open_map<K: Element, V: Element, W: Width>(archive: &[u8]) -> u32
 /// Returns the position of the map's header in a valid archive.
 #[inline]
 pub(crate) fn root_of<K: Element, V: Element, W: Width>(archive: &[u8]) -> u64
-    requires { Accepted W.LIMIT (map_spec W.word K.spec V.spec) archive.now }
+    requires { IsValidArchive W.LIMIT (map_spec W.word K.spec V.spec) archive.now }
     ensures at { result ≡ root W.word K.spec V.spec archive.now }
     ensures viewable { Viewable (map_spec W.word K.spec V.spec) archive.now result }
 {

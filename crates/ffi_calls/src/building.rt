@@ -43,7 +43,7 @@ pub struct Built<'a> {
 }
 
 /// Leaks the bytes of an archive into `built`, or returns the status of the error.
-pub(crate) fn hand_out<'a>(archive: Result<Vec<u8>, u32>, built: &mut Built<'a>) -> u32
+pub(crate) fn leak_into<'a>(archive: Result<Vec<u8>, u32>, built: &mut Built<'a>) -> u32
     ensures { MatchResult archive
         (λ v. (result ≡ 0) × (built.new.bytes.now ≡ v.items))
         (λ status. (result ≡ status) × (built.new ≡ built.old)) }

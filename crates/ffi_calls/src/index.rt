@@ -1,15 +1,15 @@
 //! Index maps: their validation, the map in a valid archive, and lookups of keys.
 
 ghost use Rattle.std.specs.Prelude.{map, ◌≡◌};
-ghost use Rattle.rkyv_base.specs.Access.{Accepted};
+ghost use Rattle.rkyv_base.specs.Access.{IsValidArchive};
 ghost use Rattle.rkyv_index.specs.Index.{index_bytes, index_pos};
 ghost use Rattle.ffi_calls.specs.Archives.{IsHeaderOf, Opens};
 ghost use Rattle.ffi_calls.specs.Explanation.{Explains};
-ghost use Rattle.ffi_calls.specs.IndexArchives.{GivesIndexed, IsIndexArchive, IsIndexPair};
+ghost use Rattle.ffi_calls.specs.IndexArchives.{ReturnsIndexed, IsIndexArchive, IsIndexPair};
 ghost use Rattle.ffi_calls.specs.IndexArchives.{IsPairAtIndex, StoresPairs, found_index, index_at};
 ghost use Rattle.ffi_calls.specs.IndexArchives.{index_in, index_map, index_root};
-ghost use Rattle.ffi_calls.specs.IndexLists.{GivesFirstIndexed, StoresListed};
-ghost use Rattle.ffi_calls.specs.Lists.{asked_key, fx_pairs};
+ghost use Rattle.ffi_calls.specs.IndexLists.{ReturnsFirstIndexed, StoresListed};
+ghost use Rattle.ffi_calls.specs.Lists.{query_of_key, fx_pairs};
 
 use crate::explanation::{Explanation, explain, explained};
 use crate::pairs::{Indexed, IndexedOf, Pair, PairOf};
@@ -27,7 +27,7 @@ use rkyv_table::table::decoded::Decoded;
 /// Validates the archive of an index map; returns `DONE` or the status of the first error.
 pub(crate) fn open_index<K: Element, V: Element, W: Width>(archive: &[u8]) -> u32
     ensures status { Opens W.LIMIT (index_map W.word K.spec V.spec) archive.now result }
-    ensures accepts { Accepted W.LIMIT (index_map W.word K.spec V.spec) archive.now
+    ensures accepts { IsValidArchive W.LIMIT (index_map W.word K.spec V.spec) archive.now
         → result ≡ 0 }
 {
     match access_in::<W, IndexMapOf<K, V, FxHasher64, W>>(archive) {
@@ -104,11 +104,11 @@ pub(crate) fn find_in<
     requires archive { IsIndexArchive W.word W.LIMIT K.spec V.spec archive.now }
     requires header { IsHeaderOf (index_in W.word K.spec V.spec archive.now) header.now }
     requires query { A.can_read key.now }
-    ensures gives { let m = index_in W.word K.spec V.spec archive.now in GivesIndexed m V.reads
+    ensures outcome { let m = index_in W.word K.spec V.spec archive.now in ReturnsIndexed m V.reads
         (found_index m (A.calls key.now) (A.fits key.now archive.now)) (I.indexed_of found.old)
         result (I.indexed_of found.new) }
-    ensures listed { GivesFirstIndexed (index_in W.word K.spec V.spec archive.now)
-        (asked_key K.represents K.key_calls (A.eq key.now)) V.represents V.is_of
+    ensures listed { ReturnsFirstIndexed (index_in W.word K.spec V.spec archive.now)
+        (query_of_key K.represents K.key_calls (A.eq key.now)) V.represents V.is_of
         (I.indexed_of found.old) result (I.indexed_of found.new) }
 {
     lookups_find_listed::<A, B, K, V, FxHasher64, W>();

@@ -6,7 +6,7 @@ ghost use Rattle.ffi_calls.specs.Archives.{KeepsHeader, Overwrites};
 ghost use Rattle.ffi_calls.specs.IndexArchives.{IsIndexArchive, found_index, index_in, index_map};
 ghost use Rattle.ffi_calls.specs.IndexArchives.{index_root, pair_count};
 ghost use Rattle.ffi_calls.specs.IndexInPlace.{FindsFirstIndex, SetsFirstIndexed, value_found_in};
-ghost use Rattle.ffi_calls.specs.Lists.{asked_key};
+ghost use Rattle.ffi_calls.specs.Lists.{query_of_key};
 
 use crate::status::{DONE, NOT_FOUND, VALUE_TOO_LARGE};
 use crate::value::Value;
@@ -42,7 +42,7 @@ fn index_found_in<A: NativeKey<K>, B, K: KeyElement + Represents<A>, V: Represen
     ensures below { IfSome result (λ i. i < pair_count (index_in W.word K.spec V.spec
         archive.now)) }
     ensures first { FindsFirstIndex (index_in W.word K.spec V.spec archive.now)
-        (asked_key K.represents K.key_calls (A.eq key.now)) V.represents result }
+        (query_of_key K.represents K.key_calls (A.eq key.now)) V.represents result }
 {
     lookups_find_listed::<A, B, K, V, FxHasher64, W>();
     let root = index_root_of::<K, V, W>(archive);
@@ -77,7 +77,7 @@ pub(crate) fn set_indexed_in<A: NativeKey<K>, K: KeyElement + Represents<A>, V: 
         (value_found_in (index_in W.word K.spec V.spec archive.old) (A.calls key.now)
         (A.fits key.now archive.old)) value result archive.new }
     ensures listed { SetsFirstIndexed (index_in W.word K.spec V.spec archive.old)
-        (asked_key K.represents K.key_calls (A.eq key.now)) V.encoding value result archive.new }
+        (query_of_key K.represents K.key_calls (A.eq key.now)) V.encoding value result archive.new }
 {
     let number = match V::of_number(value) {
         Some(number) => number,

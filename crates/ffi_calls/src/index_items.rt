@@ -4,9 +4,9 @@ ghost use Rattle.std.specs.Prelude.{MatchResult, map};
 ghost use Rattle.ffi_calls.specs.IndexItems.{IndexOfNumbersFails, IndexOfTextsFails};
 ghost use Rattle.ffi_calls.specs.IndexItems.{IsIndexOfNumbers, IsIndexOfTexts, WritesNumberIndex};
 ghost use Rattle.ffi_calls.specs.IndexItems.{WritesTextIndex, index_width};
-ghost use Rattle.ffi_calls.specs.Items.{HandsOut};
+ghost use Rattle.ffi_calls.specs.Items.{Outputs};
 
-use crate::building::{Built, hand_out};
+use crate::building::{Built, leak_into};
 use crate::form::Form;
 use crate::pairs::PairOf;
 use crate::reading::NumberKey;
@@ -71,11 +71,11 @@ pub fn build_index_numbers<K: NumberKey, P: PairOf<K, u64>>(
     form: Form,
     built: &mut Built<'_>,
 ) -> u32
-    ensures { HandsOut (IsIndexOfNumbers K.NumberKey form (map P.pair_of items.now))
+    ensures { Outputs (IsIndexOfNumbers K.NumberKey form (map P.pair_of items.now))
         (IndexOfNumbersFails K.NumberKey form (map P.pair_of items.now)) built.old result
         built.new }
 {
-    hand_out(numbers_by(alloc, items, form), built)
+    leak_into(numbers_by(alloc, items, form), built)
 }
 
 /// Writes the archive of the items as an index map, in their order, under the load factor 7 / 8.
@@ -131,8 +131,8 @@ pub fn build_index_texts<'a, P: PairOf<&'a [u8], u64>>(
     form: Form,
     built: &mut Built<'_>,
 ) -> u32
-    ensures { HandsOut (IsIndexOfTexts form (map P.pair_of items.now)) (IndexOfTextsFails form (map
+    ensures { Outputs (IsIndexOfTexts form (map P.pair_of items.now)) (IndexOfTextsFails form (map
         P.pair_of items.now)) built.old result built.new }
 {
-    hand_out(texts_by(alloc, items, form), built)
+    leak_into(texts_by(alloc, items, form), built)
 }

@@ -6,10 +6,10 @@
 ghost use Rattle.std.specs.Prelude.{map, ◌≡◌};
 ghost use Rattle.ffi_calls.specs.Archives.{IsHeaderOf, KeepsHeader, Opens, limit_of};
 ghost use Rattle.ffi_calls.specs.Explanation.{Explains};
-ghost use Rattle.ffi_calls.specs.IndexArchives.{GivesIndexedNumber, IsNumberIndex, StoresNumbers};
+ghost use Rattle.ffi_calls.specs.IndexArchives.{ReturnsIndexedNumber, IsNumberIndex, StoresNumbers};
 ghost use Rattle.ffi_calls.specs.IndexArchives.{number_index, number_index_in};
 ghost use Rattle.ffi_calls.specs.IndexInPlace.{SetsFirstIndexedNumber, SetsIndexedNumber};
-ghost use Rattle.ffi_calls.specs.IndexLists.{GivesFirstIndexedNumber, StoresListedNumbers};
+ghost use Rattle.ffi_calls.specs.IndexLists.{ReturnsFirstIndexedNumber, StoresListedNumbers};
 
 use crate::explanation::Explanation;
 use crate::form::Form;
@@ -87,9 +87,9 @@ pub fn get_index_number<K: NumberKey, I: IndexedOf<u64>>(
 ) -> u32
     requires archive { IsNumberIndex K.NumberKey form archive.now }
     requires header { IsHeaderOf (number_index_in K.NumberKey form archive.now) header.now }
-    ensures gives { GivesIndexedNumber K.NumberKey form archive.now key (I.indexed_of found.old)
+    ensures outcome { ReturnsIndexedNumber K.NumberKey form archive.now key (I.indexed_of found.old)
         result (I.indexed_of found.new) }
-    ensures listed { GivesFirstIndexedNumber K.NumberKey form archive.now key (I.indexed_of
+    ensures listed { ReturnsFirstIndexedNumber K.NumberKey form archive.now key (I.indexed_of
         found.old) result (I.indexed_of found.new) }
 {
     match (form.long_values, form.wide) {

@@ -6,8 +6,8 @@
 ghost use Rattle.std.specs.Prelude.{map, ◌≡◌};
 ghost use Rattle.ffi_calls.specs.Archives.{IsHeaderOf, Opens, limit_of};
 ghost use Rattle.ffi_calls.specs.Explanation.{Explains};
-ghost use Rattle.ffi_calls.specs.IndexTextValues.{GivesFirstIndexedTextOfNumber};
-ghost use Rattle.ffi_calls.specs.IndexTextValues.{GivesIndexedTextOfNumber, IsNumberTextIndex};
+ghost use Rattle.ffi_calls.specs.IndexTextValues.{ReturnsFirstIndexedTextOfNumber};
+ghost use Rattle.ffi_calls.specs.IndexTextValues.{ReturnsIndexedTextOfNumber, IsNumberTextIndex};
 ghost use Rattle.ffi_calls.specs.IndexTextValues.{StoresListedNumberTexts, StoresNumberTexts};
 ghost use Rattle.ffi_calls.specs.IndexTextValues.{number_text_index, number_text_index_in};
 
@@ -84,9 +84,9 @@ pub fn get_index_text_of_number<'a, K: NumberKey, I: IndexedOf<&'a [u8]>>(
 ) -> u32
     requires archive { IsNumberTextIndex K.NumberKey wide archive.now }
     requires header { IsHeaderOf (number_text_index_in K.NumberKey wide archive.now) header.now }
-    ensures gives { GivesIndexedTextOfNumber K.NumberKey wide archive.now key (I.indexed_of
+    ensures outcome { ReturnsIndexedTextOfNumber K.NumberKey wide archive.now key (I.indexed_of
         found.old) result (I.indexed_of found.new) }
-    ensures listed { GivesFirstIndexedTextOfNumber K.NumberKey wide archive.now key (I.indexed_of
+    ensures listed { ReturnsFirstIndexedTextOfNumber K.NumberKey wide archive.now key (I.indexed_of
         found.old) result (I.indexed_of found.new) }
 {
     if wide {

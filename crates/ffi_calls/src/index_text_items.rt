@@ -4,11 +4,11 @@ ghost use Rattle.std.specs.Prelude.{MatchResult, map};
 ghost use Rattle.ffi_calls.specs.IndexItems.{index_width};
 ghost use Rattle.ffi_calls.specs.IndexTextValues.{IndexOfNumberTextsFails, IndexOfTextTextsFails};
 ghost use Rattle.ffi_calls.specs.IndexTextValues.{IsIndexOfNumberTexts, IsIndexOfTextTexts};
-ghost use Rattle.ffi_calls.specs.IndexTextValues.{TextTextIndexMade, TextTextIndexRefused};
+ghost use Rattle.ffi_calls.specs.IndexTextValues.{TextTextIndexWriteOk, TextTextIndexWriteFails};
 ghost use Rattle.ffi_calls.specs.IndexTextValues.{WritesNumberTextIndex};
-ghost use Rattle.ffi_calls.specs.Items.{HandsOut};
+ghost use Rattle.ffi_calls.specs.Items.{Outputs};
 
-use crate::building::{Built, hand_out};
+use crate::building::{Built, leak_into};
 use crate::pairs::PairOf;
 use crate::reading::NumberKey;
 use crate::status::write_status;
@@ -70,11 +70,11 @@ pub fn build_index_numbers_to_texts<'a, K: NumberKey, P: PairOf<K, &'a [u8]>>(
     wide: bool,
     built: &mut Built<'_>,
 ) -> u32
-    ensures { HandsOut (IsIndexOfNumberTexts K.NumberKey wide (map P.pair_of items.now))
+    ensures { Outputs (IsIndexOfNumberTexts K.NumberKey wide (map P.pair_of items.now))
         (IndexOfNumberTextsFails K.NumberKey wide (map P.pair_of items.now)) built.old result
         built.new }
 {
-    hand_out(number_texts_by(alloc, items, wide), built)
+    leak_into(number_texts_by(alloc, items, wide), built)
 }
 
 /// Writes the archive of the items as an index map, in their order, under the load factor 7 / 8.
@@ -83,8 +83,8 @@ fn text_texts_in<'a, W: PlaceWidth, P: PairOf<&'a [u8], &'a [u8]>>(
     items: &[P],
 ) -> Result<Vec<u8>, u32>
     ensures { let w = index_width W.Width W.Place.spec W.Place.encoding in
-        MatchResult result (λ v. TextTextIndexMade w (map P.pair_of items.now) v.items)
-        (TextTextIndexRefused w (map P.pair_of items.now)) }
+        MatchResult result (λ v. TextTextIndexWriteOk w (map P.pair_of items.now) v.items)
+        (TextTextIndexWriteFails w (map P.pair_of items.now)) }
 {
     let pairs = match texts_to_texts_items::pairs_of::<P>(alloc, items) {
         Ok(pairs) => pairs,
@@ -129,8 +129,8 @@ pub fn build_index_texts_to_texts<'a, P: PairOf<&'a [u8], &'a [u8]>>(
     wide: bool,
     built: &mut Built<'_>,
 ) -> u32
-    ensures { HandsOut (IsIndexOfTextTexts wide (map P.pair_of items.now)) (IndexOfTextTextsFails
+    ensures { Outputs (IsIndexOfTextTexts wide (map P.pair_of items.now)) (IndexOfTextTextsFails
         wide (map P.pair_of items.now)) built.old result built.new }
 {
-    hand_out(text_texts_by(alloc, items, wide), built)
+    leak_into(text_texts_by(alloc, items, wide), built)
 }

@@ -7,11 +7,12 @@ ghost use Rattle.std.specs.Prelude.{map, ◌≡◌};
 ghost use Rattle.std.specs.Str.{IsUtf8};
 ghost use Rattle.ffi_calls.specs.Archives.{IsHeaderOf, KeepsHeader, Opens, limit_of};
 ghost use Rattle.ffi_calls.specs.Explanation.{Explains};
-ghost use Rattle.ffi_calls.specs.IndexArchives.{GivesIndexedBytes, GivesIndexedText, IsTextIndex};
+ghost use Rattle.ffi_calls.specs.IndexArchives.{ReturnsIndexedBytes, ReturnsIndexedText};
+ghost use Rattle.ffi_calls.specs.IndexArchives.{IsTextIndex};
 ghost use Rattle.ffi_calls.specs.IndexArchives.{StoresTexts, text_index, text_index_in};
 ghost use Rattle.ffi_calls.specs.IndexInPlace.{SetsFirstIndexedText, SetsIndexedBytes};
 ghost use Rattle.ffi_calls.specs.IndexInPlace.{SetsIndexedText};
-ghost use Rattle.ffi_calls.specs.IndexLists.{GivesFirstIndexedText, StoresListedTexts};
+ghost use Rattle.ffi_calls.specs.IndexLists.{ReturnsFirstIndexedText, StoresListedTexts};
 
 use crate::explanation::Explanation;
 use crate::form::Form;
@@ -82,9 +83,10 @@ fn get_of<I: IndexedOf<u64>>(
 ) -> u32
     requires archive { IsTextIndex form archive.now }
     requires header { IsHeaderOf (text_index_in form archive.now) header.now }
-    ensures gives { GivesIndexedText form archive.now key.now (I.indexed_of found.old) result
+    ensures outcome { ReturnsIndexedText form archive.now key.now (I.indexed_of found.old) result
         (I.indexed_of found.new) }
-    ensures listed { GivesFirstIndexedText form archive.now key.now (I.indexed_of found.old) result
+    ensures listed { ReturnsFirstIndexedText form archive.now key.now (I.indexed_of found.old)
+        result
         (I.indexed_of found.new) }
 {
     match (form.long_values, form.wide) {
@@ -137,10 +139,10 @@ pub fn get_index_text<I: IndexedOf<u64>>(
 ) -> u32
     requires archive { IsTextIndex form archive.now }
     requires header { IsHeaderOf (text_index_in form archive.now) header.now }
-    ensures gives { GivesIndexedBytes form archive.now key.now (I.indexed_of found.old) result
+    ensures outcome { ReturnsIndexedBytes form archive.now key.now (I.indexed_of found.old) result
         (I.indexed_of found.new) }
     ensures listed { IsUtf8 key.now
-        → GivesFirstIndexedText form archive.now key.now (I.indexed_of found.old) result
+        → ReturnsFirstIndexedText form archive.now key.now (I.indexed_of found.old) result
         (I.indexed_of found.new) }
 {
     match text_of(key) {

@@ -7,8 +7,9 @@ ghost use Rattle.std.specs.Prelude.{map, ◌≡◌};
 ghost use Rattle.std.specs.Str.{IsUtf8};
 ghost use Rattle.ffi_calls.specs.Archives.{IsHeaderOf, Opens, limit_of};
 ghost use Rattle.ffi_calls.specs.Explanation.{Explains};
-ghost use Rattle.ffi_calls.specs.IndexTextValues.{GivesFirstIndexedTextOfText};
-ghost use Rattle.ffi_calls.specs.IndexTextValues.{GivesIndexedTextOfBytes, GivesIndexedTextOfText};
+ghost use Rattle.ffi_calls.specs.IndexTextValues.{ReturnsFirstIndexedTextOfText};
+ghost use Rattle.ffi_calls.specs.IndexTextValues.{ReturnsIndexedTextOfBytes};
+ghost use Rattle.ffi_calls.specs.IndexTextValues.{ReturnsIndexedTextOfText};
 ghost use Rattle.ffi_calls.specs.IndexTextValues.{IsTextTextIndex, StoresListedTextTexts};
 ghost use Rattle.ffi_calls.specs.IndexTextValues.{StoresTextTexts, text_text_index};
 ghost use Rattle.ffi_calls.specs.IndexTextValues.{text_text_index_in};
@@ -78,9 +79,10 @@ fn get_of<'a, I: IndexedOf<&'a [u8]>>(
 ) -> u32
     requires archive { IsTextTextIndex wide archive.now }
     requires header { IsHeaderOf (text_text_index_in wide archive.now) header.now }
-    ensures gives { GivesIndexedTextOfText wide archive.now key.now (I.indexed_of found.old) result
+    ensures outcome { ReturnsIndexedTextOfText wide archive.now key.now (I.indexed_of found.old)
+        result
         (I.indexed_of found.new) }
-    ensures listed { GivesFirstIndexedTextOfText wide archive.now key.now (I.indexed_of found.old)
+    ensures listed { ReturnsFirstIndexedTextOfText wide archive.now key.now (I.indexed_of found.old)
         result (I.indexed_of found.new) }
 {
     if wide {
@@ -122,10 +124,11 @@ pub fn get_index_text_of_text<'a, I: IndexedOf<&'a [u8]>>(
 ) -> u32
     requires archive { IsTextTextIndex wide archive.now }
     requires header { IsHeaderOf (text_text_index_in wide archive.now) header.now }
-    ensures gives { GivesIndexedTextOfBytes wide archive.now key.now (I.indexed_of found.old) result
+    ensures outcome { ReturnsIndexedTextOfBytes wide archive.now key.now (I.indexed_of found.old)
+        result
         (I.indexed_of found.new) }
     ensures listed { IsUtf8 key.now
-        → GivesFirstIndexedTextOfText wide archive.now key.now (I.indexed_of found.old) result
+        → ReturnsFirstIndexedTextOfText wide archive.now key.now (I.indexed_of found.old) result
         (I.indexed_of found.new) }
 {
     match text_of(key) {

@@ -8,7 +8,7 @@ ghost use Rattle.ffi_calls.specs.SetItems.{SetArchivesRepresent, fx_items};
 use rkyv_base::archive::Archive;
 use rkyv_base::element::Represents;
 use rkyv_base::width::Width;
-use rkyv_collections::map::laws::walks_give_listed;
+use rkyv_collections::map::laws::walks_visit_each;
 use rkyv_collections::{FxHasher64, KeyElement, NativeKey};
 use rkyv_index::width::PlaceWidth;
 
@@ -20,7 +20,7 @@ pub fn walks_visit_listed<A, B, K: KeyElement + Represents<A>, V: Represents<B>,
     ensures { WalksVisitListed W.word K.spec V.spec
         (fx_pairs K.represents V.represents K.key_calls) }
 {
-    walks_give_listed::<A, B, K, V, FxHasher64, W>();
+    walks_visit_each::<A, B, K, V, FxHasher64, W>();
 }
 
 /// States that an archive that is written from a list of pairs is valid, and represents the list.

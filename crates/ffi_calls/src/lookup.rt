@@ -2,9 +2,9 @@
 
 ghost use Rattle.std.specs.Prelude.{IfSome, false, true, ◌≡◌};
 ghost use Rattle.rkyv_base.specs.ElementSpec.{Viewable};
-ghost use Rattle.ffi_calls.specs.Archives.{GivesAt, IsHeaderOf, IsMapArchive, KeepsHeader};
+ghost use Rattle.ffi_calls.specs.Archives.{ReturnsAt, IsHeaderOf, IsMapArchive, KeepsHeader};
 ghost use Rattle.ffi_calls.specs.Archives.{Overwrites, map_in, value_found};
-ghost use Rattle.ffi_calls.specs.Lists.{GivesFirst, PosOfFirst, SetsFirstOf, asked_key};
+ghost use Rattle.ffi_calls.specs.Lists.{ReturnsFirst, PosOfFirst, SetsFirstOf, query_of_key};
 
 use crate::archives::{map_of, root_of};
 use crate::reading::{ReadAs, StoresNative};
@@ -34,7 +34,7 @@ pub(crate) fn value_pos_in<
     ensures found { result ≡ value_found (map_in W.word K.spec V.spec archive.now)
         (A.calls key.now) (A.fits key.now archive.now) }
     ensures listed { PosOfFirst (map_in W.word K.spec V.spec archive.now)
-        (asked_key K.represents K.key_calls (A.eq key.now)) V.represents result }
+        (query_of_key K.represents K.key_calls (A.eq key.now)) V.represents result }
 {
     lookups_find_listed::<A, B, K, V, FxHasher64, W>();
     found_pos(map_of::<K, V, W>(archive, header).get(key))
@@ -57,11 +57,11 @@ pub(crate) fn get_in<
     requires archive { IsMapArchive W.word W.LIMIT K.spec V.spec archive.now }
     requires header { IsHeaderOf (map_in W.word K.spec V.spec archive.now) header.now }
     requires query { A.can_read key.now }
-    ensures gives { GivesAt (V.reads archive.now)
+    ensures outcome { ReturnsAt (V.reads archive.now)
         (value_found (map_in W.word K.spec V.spec archive.now) (A.calls key.now)
         (A.fits key.now archive.now)) value.old result value.new }
-    ensures listed { GivesFirst (map_in W.word K.spec V.spec archive.now)
-        (asked_key K.represents K.key_calls (A.eq key.now)) V.represents V.is_of value.old result
+    ensures listed { ReturnsFirst (map_in W.word K.spec V.spec archive.now)
+        (query_of_key K.represents K.key_calls (A.eq key.now)) V.represents V.is_of value.old result
         value.new }
 {
     match value_pos_in::<A, B, K, V, W>(archive, header, key) {
@@ -104,7 +104,7 @@ pub(crate) fn set_in<A: NativeKey<K>, K: KeyElement + Represents<A>, V: Value, W
         (value_found (map_in W.word K.spec V.spec archive.old) (A.calls key.now)
         (A.fits key.now archive.old)) value result archive.new }
     ensures listed { SetsFirstOf (map_in W.word K.spec V.spec archive.old)
-        (asked_key K.represents K.key_calls (A.eq key.now)) V.encoding value result archive.new }
+        (query_of_key K.represents K.key_calls (A.eq key.now)) V.encoding value result archive.new }
 {
     let number = match V::of_number(value) {
         Some(number) => number,

@@ -2,11 +2,11 @@
 
 ghost use Rattle.std.specs.Prelude.{MatchResult, map};
 ghost use Rattle.ffi_calls.specs.Items.{IsArchiveOfNumbers, ArchiveOfNumbersFails};
-ghost use Rattle.ffi_calls.specs.Items.{ArePairsOfNumbers, HandsOut, PairsOfNumbersFail};
+ghost use Rattle.ffi_calls.specs.Items.{ArePairsOfNumbers, Outputs, PairsOfNumbersFail};
 ghost use Rattle.ffi_calls.specs.Items.{WritesNumbers};
 ghost use Rattle.ffi_calls.specs.Lists.{archive_width};
 
-use crate::building::{Built, archive_of, hand_out};
+use crate::building::{Built, archive_of, leak_into};
 use crate::form::Form;
 use crate::pairs::PairOf;
 use crate::reading::NumberKey;
@@ -93,9 +93,9 @@ pub fn build_numbers<K: NumberKey, P: PairOf<K, u64>>(
     form: Form,
     built: &mut Built<'_>,
 ) -> u32
-    ensures { HandsOut (IsArchiveOfNumbers K.NumberKey form (map P.pair_of items.now))
+    ensures { Outputs (IsArchiveOfNumbers K.NumberKey form (map P.pair_of items.now))
         (ArchiveOfNumbersFails K.NumberKey form (map P.pair_of items.now)) built.old result
         built.new }
 {
-    hand_out(archive_by(alloc, items, form), built)
+    leak_into(archive_by(alloc, items, form), built)
 }

@@ -6,15 +6,15 @@
 ghost use Rattle.std.specs.Prelude.{MatchResult, map, ◌≡◌};
 ghost use Rattle.ffi_calls.specs.Archives.{IsHeaderOf, Opens, limit_of};
 ghost use Rattle.ffi_calls.specs.Explanation.{Explains};
-ghost use Rattle.ffi_calls.specs.Items.{HandsOut};
+ghost use Rattle.ffi_calls.specs.Items.{Outputs};
 ghost use Rattle.ffi_calls.specs.Lists.{archive_width};
 ghost use Rattle.ffi_calls.specs.SetItems.{ArchiveOfNumberSetFails, IsArchiveOfNumberSet};
-ghost use Rattle.ffi_calls.specs.SetItems.{NumberSetMade, NumberSetRefused};
+ghost use Rattle.ffi_calls.specs.SetItems.{NumberSetWriteOk, NumberSetWriteFails};
 ghost use Rattle.ffi_calls.specs.Sets.{FindsListedNumber, FindsNumber, IsNumberSet};
 ghost use Rattle.ffi_calls.specs.Sets.{StoresNextNumberMembers, number_set, number_set_in};
 
 use crate::archives::{header_of, open_map, typed_header};
-use crate::building::{Built, hand_out};
+use crate::building::{Built, leak_into};
 use crate::explanation::{Explanation, explain_map};
 use crate::pairs::StepOf;
 use crate::reading::NumberKey;
@@ -131,8 +131,9 @@ pub fn next_number_members<K: NumberKey, S: StepOf<K, ()>>(
 
 /// Writes the archive of the items.
 fn archive_in<K: NumberKey, W: Width>(alloc: Global, items: &[K]) -> Result<Vec<u8>, u32>
-    ensures { MatchResult result (λ v. NumberSetMade K.NumberKey (archive_width W.Width) items.now
-        v.items) (NumberSetRefused K.NumberKey (archive_width W.Width) items.now) }
+    ensures { MatchResult result
+        (λ v. NumberSetWriteOk K.NumberKey (archive_width W.Width) items.now
+        v.items) (NumberSetWriteFails K.NumberKey (archive_width W.Width) items.now) }
 {
     match set_archive_of::<K, W>(alloc, items) {
         Ok(archive) => Ok(archive),
@@ -168,8 +169,8 @@ pub fn build_number_set<K: NumberKey>(
     wide: bool,
     built: &mut Built<'_>,
 ) -> u32
-    ensures { HandsOut (IsArchiveOfNumberSet K.NumberKey wide items.now)
+    ensures { Outputs (IsArchiveOfNumberSet K.NumberKey wide items.now)
         (ArchiveOfNumberSetFails K.NumberKey wide items.now) built.old result built.new }
 {
-    hand_out(archive_by(alloc, items, wide), built)
+    leak_into(archive_by(alloc, items, wide), built)
 }

@@ -5,9 +5,9 @@
 ghost use Rattle.std.specs.Prelude.{map, ◌≡◌};
 ghost use Rattle.ffi_calls.specs.Archives.{IsHeaderOf, IsNumberArchive, KeepsHeader, Opens};
 ghost use Rattle.ffi_calls.specs.Archives.{limit_of, number_map, numbers_in};
-ghost use Rattle.ffi_calls.specs.Calls.{GivesNumber, SetsNumber, StoresNextNumbers};
+ghost use Rattle.ffi_calls.specs.Calls.{ReturnsNumber, SetsNumber, StoresNextNumbers};
 ghost use Rattle.ffi_calls.specs.Explanation.{Explains};
-ghost use Rattle.ffi_calls.specs.Listed.{GivesFirstNumber, SetsFirstNumber};
+ghost use Rattle.ffi_calls.specs.Listed.{ReturnsFirstNumber, SetsFirstNumber};
 
 use crate::archives::{header_of, open_map, typed_header};
 use crate::explanation::{Explanation, explain_map};
@@ -84,8 +84,9 @@ pub fn get_number<K: NumberKey>(
 ) -> u32
     requires archive { IsNumberArchive K.NumberKey form archive.now }
     requires header { IsHeaderOf (numbers_in K.NumberKey form archive.now) header.now }
-    ensures gives { GivesNumber K.NumberKey form archive.now key value.old result value.new }
-    ensures listed { GivesFirstNumber K.NumberKey form archive.now key value.old result value.new }
+    ensures outcome { ReturnsNumber K.NumberKey form archive.now key value.old result value.new }
+    ensures listed { ReturnsFirstNumber K.NumberKey form archive.now key value.old result
+        value.new }
 {
     match (form.long_values, form.wide) {
         (false, false) => get_in::<K, u64, u32, K, u32, Narrow>(

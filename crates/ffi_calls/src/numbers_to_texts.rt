@@ -6,7 +6,7 @@
 ghost use Rattle.std.specs.Prelude.{map, ◌≡◌};
 ghost use Rattle.ffi_calls.specs.Archives.{IsHeaderOf, Opens, limit_of};
 ghost use Rattle.ffi_calls.specs.Explanation.{Explains};
-ghost use Rattle.ffi_calls.specs.TextValues.{GivesFirstTextOfNumber, GivesTextOfNumber};
+ghost use Rattle.ffi_calls.specs.TextValues.{ReturnsFirstTextOfNumber, ReturnsTextOfNumber};
 ghost use Rattle.ffi_calls.specs.TextValues.{IsNumberTextArchive, StoresNextNumberTexts};
 ghost use Rattle.ffi_calls.specs.TextValues.{number_text_map, number_texts_in};
 
@@ -83,8 +83,9 @@ pub fn get_text_of_number<'a, K: NumberKey>(
 ) -> u32
     requires archive { IsNumberTextArchive K.NumberKey wide archive.now }
     requires header { IsHeaderOf (number_texts_in K.NumberKey wide archive.now) header.now }
-    ensures gives { GivesTextOfNumber K.NumberKey wide archive.now key value.old result value.new }
-    ensures listed { GivesFirstTextOfNumber K.NumberKey wide archive.now key value.old result
+    ensures outcome { ReturnsTextOfNumber K.NumberKey wide archive.now key value.old result
+        value.new }
+    ensures listed { ReturnsFirstTextOfNumber K.NumberKey wide archive.now key value.old result
         value.new }
 {
     if wide {

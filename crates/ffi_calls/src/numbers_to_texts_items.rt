@@ -1,13 +1,13 @@
 //! Archives of pairs of numbers and texts.
 
 ghost use Rattle.std.specs.Prelude.{MatchResult, map};
-ghost use Rattle.ffi_calls.specs.Items.{HandsOut};
+ghost use Rattle.ffi_calls.specs.Items.{Outputs};
 ghost use Rattle.ffi_calls.specs.Lists.{archive_width};
 ghost use Rattle.ffi_calls.specs.TextItems.{ArchiveOfNumberTextsFails, AreNumberTexts};
 ghost use Rattle.ffi_calls.specs.TextItems.{IsArchiveOfNumberTexts, NumberTextsFail};
-ghost use Rattle.ffi_calls.specs.TextItems.{NumberTextsMade, NumberTextsRefused};
+ghost use Rattle.ffi_calls.specs.TextItems.{NumberTextsWriteOk, NumberTextsWriteFails};
 
-use crate::building::{Built, archive_of, hand_out};
+use crate::building::{Built, archive_of, leak_into};
 use crate::pairs::PairOf;
 use crate::reading::NumberKey;
 use crate::status::{NO_MEMORY, NOT_TEXT, write_status};
@@ -46,9 +46,10 @@ fn archive_in<'a, K: NumberKey, W: Width, P: PairOf<K, &'a [u8]>>(
     alloc: Global,
     items: &[P],
 ) -> Result<Vec<u8>, u32>
-    ensures { MatchResult result (λ v. NumberTextsMade K.NumberKey (archive_width W.Width) (map
-        P.pair_of items.now) v.items) (NumberTextsRefused K.NumberKey (archive_width W.Width) (map
-        P.pair_of items.now)) }
+    ensures { let w = archive_width W.Width in
+        MatchResult result
+        (λ v. NumberTextsWriteOk K.NumberKey w (map P.pair_of items.now) v.items)
+        (NumberTextsWriteFails K.NumberKey w (map P.pair_of items.now)) }
 {
     let pairs = match pairs_of::<K, P>(alloc, items) {
         Ok(pairs) => pairs,
@@ -93,9 +94,9 @@ pub fn build_numbers_to_texts<'a, K: NumberKey, P: PairOf<K, &'a [u8]>>(
     wide: bool,
     built: &mut Built<'_>,
 ) -> u32
-    ensures { HandsOut (IsArchiveOfNumberTexts K.NumberKey wide (map P.pair_of items.now))
+    ensures { Outputs (IsArchiveOfNumberTexts K.NumberKey wide (map P.pair_of items.now))
         (ArchiveOfNumberTextsFails K.NumberKey wide (map P.pair_of items.now)) built.old result
         built.new }
 {
-    hand_out(archive_by(alloc, items, wide), built)
+    leak_into(archive_by(alloc, items, wide), built)
 }

@@ -3,7 +3,7 @@
 ghost use Rattle.std.specs.Prelude.{IfErr, IfOk};
 ghost use Rattle.rkyv_base.specs.Empty.{unit_spec};
 ghost use Rattle.ffi_calls.specs.Archives.{IsHeaderOf, IsMapArchive, value_found};
-ghost use Rattle.ffi_calls.specs.Lists.{archive_width, asked_key};
+ghost use Rattle.ffi_calls.specs.Lists.{archive_width, query_of_key};
 ghost use Rattle.ffi_calls.specs.SetItems.{IsSetArchive, SetArchiveFails, fx_items};
 ghost use Rattle.ffi_calls.specs.Sets.{FindsItem, IsFoundStatus, set_in};
 
@@ -36,7 +36,7 @@ pub(crate) fn contains_in<A: NativeKey<K>, K: KeyElement + Represents<A>, W: Wid
     ensures found { IsFoundStatus (value_found (set_in W.word K.spec archive.now)
         (A.calls item.now) (A.fits item.now archive.now)) result }
     ensures listed { FindsItem (set_in W.word K.spec archive.now)
-        (asked_key K.represents K.key_calls (A.eq item.now)) result }
+        (query_of_key K.represents K.key_calls (A.eq item.now)) result }
 {
     match value_pos_in::<A, (), K, (), W>(archive, header, item) {
         Some(_) => DONE,

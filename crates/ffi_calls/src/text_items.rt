@@ -2,11 +2,11 @@
 
 ghost use Rattle.std.specs.Prelude.{MatchResult, map};
 ghost use Rattle.ffi_calls.specs.Items.{IsArchiveOfTexts, ArchiveOfTextsFails};
-ghost use Rattle.ffi_calls.specs.Items.{ArePairsOfTexts, HandsOut, PairsOfTextsFail};
-ghost use Rattle.ffi_calls.specs.Items.{TextsMade, TextsRefused};
+ghost use Rattle.ffi_calls.specs.Items.{ArePairsOfTexts, Outputs, PairsOfTextsFail};
+ghost use Rattle.ffi_calls.specs.Items.{TextsWriteOk, TextsWriteFails};
 ghost use Rattle.ffi_calls.specs.Lists.{archive_width};
 
-use crate::building::{Built, archive_of, hand_out};
+use crate::building::{Built, archive_of, leak_into};
 use crate::form::Form;
 use crate::pairs::PairOf;
 use crate::status::{NO_MEMORY, NOT_TEXT, VALUE_TOO_LARGE, write_status};
@@ -50,9 +50,9 @@ fn archive_in<'a, V: Value, W: Width, P: PairOf<&'a [u8], u64>>(
     alloc: Global,
     items: &[P],
 ) -> Result<Vec<u8>, u32>
-    ensures { let width = archive_width W.Width in MatchResult result
-        (λ v. TextsMade width V.spec V.encoding (map P.pair_of items.now) v.items)
-        (TextsRefused width V.spec V.encoding (map P.pair_of items.now)) }
+    ensures { let w = archive_width W.Width in MatchResult result
+        (λ v. TextsWriteOk w V.spec V.encoding (map P.pair_of items.now) v.items)
+        (TextsWriteFails w V.spec V.encoding (map P.pair_of items.now)) }
 {
     let pairs = match pairs_of::<V, P>(alloc, items) {
         Ok(pairs) => pairs,
@@ -99,8 +99,8 @@ pub fn build_texts<'a, P: PairOf<&'a [u8], u64>>(
     form: Form,
     built: &mut Built<'_>,
 ) -> u32
-    ensures { HandsOut (IsArchiveOfTexts form (map P.pair_of items.now))
+    ensures { Outputs (IsArchiveOfTexts form (map P.pair_of items.now))
         (ArchiveOfTextsFails form (map P.pair_of items.now)) built.old result built.new }
 {
-    hand_out(archive_by(alloc, items, form), built)
+    leak_into(archive_by(alloc, items, form), built)
 }

@@ -1,13 +1,13 @@
 //! Archives of sets of texts.
 
 ghost use Rattle.std.specs.Prelude.{MatchResult};
-ghost use Rattle.ffi_calls.specs.Items.{HandsOut};
+ghost use Rattle.ffi_calls.specs.Items.{Outputs};
 ghost use Rattle.ffi_calls.specs.Lists.{archive_width};
 ghost use Rattle.ffi_calls.specs.SetItems.{AreSetTexts, ArchiveOfTextSetFails};
-ghost use Rattle.ffi_calls.specs.SetItems.{IsArchiveOfTextSet, SetTextsFail, TextSetMade};
-ghost use Rattle.ffi_calls.specs.SetItems.{TextSetRefused};
+ghost use Rattle.ffi_calls.specs.SetItems.{IsArchiveOfTextSet, SetTextsFail, TextSetWriteOk};
+ghost use Rattle.ffi_calls.specs.SetItems.{TextSetWriteFails};
 
-use crate::building::{Built, hand_out};
+use crate::building::{Built, leak_into};
 use crate::sets::set_archive_of;
 use crate::status::{NO_MEMORY, NOT_TEXT, write_status};
 use crate::texts::text_of;
@@ -46,8 +46,8 @@ fn texts_of<'a>(alloc: Global, items: &[SetText<'a>]) -> Result<Vec<&'a str>, u3
 
 /// Writes the archive of the items.
 fn archive_in<W: Width>(alloc: Global, items: &[SetText<'_>]) -> Result<Vec<u8>, u32>
-    ensures { MatchResult result (λ v. TextSetMade (archive_width W.Width) items.now v.items)
-        (TextSetRefused (archive_width W.Width) items.now) }
+    ensures { MatchResult result (λ v. TextSetWriteOk (archive_width W.Width) items.now v.items)
+        (TextSetWriteFails (archive_width W.Width) items.now) }
 {
     let texts = match texts_of(alloc, items) {
         Ok(texts) => texts,
@@ -88,8 +88,8 @@ pub fn build_text_set(
     wide: bool,
     built: &mut Built<'_>,
 ) -> u32
-    ensures { HandsOut (IsArchiveOfTextSet wide items.now) (ArchiveOfTextSetFails wide items.now)
+    ensures { Outputs (IsArchiveOfTextSet wide items.now) (ArchiveOfTextSetFails wide items.now)
         built.old result built.new }
 {
-    hand_out(archive_by(alloc, items, wide), built)
+    leak_into(archive_by(alloc, items, wide), built)
 }

@@ -5,12 +5,12 @@
 
 ghost use Rattle.std.specs.Prelude.{IsTrue, MatchOption, map, ◌↔◌, ◌≡◌};
 ghost use Rattle.std.specs.Str.{IsUtf8};
-ghost use Rattle.ffi_calls.specs.Archives.{GivesAt, IsHeaderOf, IsTextArchive, KeepsHeader};
+ghost use Rattle.ffi_calls.specs.Archives.{ReturnsAt, IsHeaderOf, IsTextArchive, KeepsHeader};
 ghost use Rattle.ffi_calls.specs.Archives.{Opens, Overwrites, limit_of, text_map, texts_in};
 ghost use Rattle.ffi_calls.specs.Archives.{value_encoding, word_of};
-ghost use Rattle.ffi_calls.specs.Calls.{GivesText, SetsText, StoresNextTexts, text_found};
+ghost use Rattle.ffi_calls.specs.Calls.{ReturnsText, SetsText, StoresNextTexts, text_found};
 ghost use Rattle.ffi_calls.specs.Explanation.{Explains};
-ghost use Rattle.ffi_calls.specs.Listed.{GivesFirstText, SetsFirstText};
+ghost use Rattle.ffi_calls.specs.Listed.{ReturnsFirstText, SetsFirstText};
 ghost use Rattle.ffi_calls.specs.Reading.{ReadsWord};
 
 use crate::archives::{header_of, open_map, typed_header};
@@ -95,9 +95,9 @@ pub fn decode_texts(archive: &[u8], form: Form) -> Decoded
 fn get_of(archive: &[u8], form: Form, header: &Decoded, key: &str, value: &mut u64) -> u32
     requires archive { IsTextArchive form archive.now }
     requires header { IsHeaderOf (texts_in form archive.now) header.now }
-    ensures gives { GivesAt (ReadsWord (word_of form.long_values) archive.now)
+    ensures outcome { ReturnsAt (ReadsWord (word_of form.long_values) archive.now)
         (text_found form archive.now key.now) value.old result value.new }
-    ensures listed { GivesFirstText form archive.now key.now value.old result value.new }
+    ensures listed { ReturnsFirstText form archive.now key.now value.old result value.new }
 {
     match (form.long_values, form.wide) {
         (false, false) => get_in::<&str, u64, u32, Text<Narrow>, u32, Narrow>(
@@ -143,9 +143,9 @@ fn get_of(archive: &[u8], form: Form, header: &Decoded, key: &str, value: &mut u
 pub fn get_text(archive: &[u8], form: Form, header: &Decoded, key: &[u8], value: &mut u64) -> u32
     requires archive { IsTextArchive form archive.now }
     requires header { IsHeaderOf (texts_in form archive.now) header.now }
-    ensures gives { GivesText form archive.now key.now value.old result value.new }
+    ensures outcome { ReturnsText form archive.now key.now value.old result value.new }
     ensures listed { IsUtf8 key.now
-        → GivesFirstText form archive.now key.now value.old result value.new }
+        → ReturnsFirstText form archive.now key.now value.old result value.new }
 {
     match text_of(key) {
         Some(text) => get_of(archive, form, header, text, value),

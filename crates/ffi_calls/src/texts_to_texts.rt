@@ -7,7 +7,8 @@ ghost use Rattle.std.specs.Prelude.{map, ◌≡◌};
 ghost use Rattle.std.specs.Str.{IsUtf8};
 ghost use Rattle.ffi_calls.specs.Archives.{IsHeaderOf, Opens, limit_of};
 ghost use Rattle.ffi_calls.specs.Explanation.{Explains};
-ghost use Rattle.ffi_calls.specs.TextValues.{GivesFirstTextOfText, GivesTextAt, GivesTextOfText};
+ghost use Rattle.ffi_calls.specs.TextValues.{ReturnsFirstTextOfText, ReturnsTextAt};
+ghost use Rattle.ffi_calls.specs.TextValues.{ReturnsTextOfText};
 ghost use Rattle.ffi_calls.specs.TextValues.{IsTextTextArchive, StoresNextTextTexts};
 ghost use Rattle.ffi_calls.specs.TextValues.{text_of_text_found, text_text_map, text_texts_in};
 
@@ -76,9 +77,9 @@ fn get_of<'a>(
 ) -> u32
     requires archive { IsTextTextArchive wide archive.now }
     requires header { IsHeaderOf (text_texts_in wide archive.now) header.now }
-    ensures gives { GivesTextAt (text_texts_in wide archive.now)
+    ensures outcome { ReturnsTextAt (text_texts_in wide archive.now)
         (text_of_text_found wide archive.now key.now) value.old result value.new }
-    ensures listed { GivesFirstTextOfText wide archive.now key.now value.old result value.new }
+    ensures listed { ReturnsFirstTextOfText wide archive.now key.now value.old result value.new }
 {
     if wide {
         get_in::<&str, &[u8], &str, Text<Wide>, Text<Wide>, Wide>(
@@ -119,9 +120,9 @@ pub fn get_text_of_text<'a>(
 ) -> u32
     requires archive { IsTextTextArchive wide archive.now }
     requires header { IsHeaderOf (text_texts_in wide archive.now) header.now }
-    ensures gives { GivesTextOfText wide archive.now key.now value.old result value.new }
+    ensures outcome { ReturnsTextOfText wide archive.now key.now value.old result value.new }
     ensures listed { IsUtf8 key.now
-        → GivesFirstTextOfText wide archive.now key.now value.old result value.new }
+        → ReturnsFirstTextOfText wide archive.now key.now value.old result value.new }
 {
     match text_of(key) {
         Some(text) => get_of(archive, wide, header, text, value),

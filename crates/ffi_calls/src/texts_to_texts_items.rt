@@ -1,13 +1,13 @@
 //! Archives of pairs of texts and texts.
 
 ghost use Rattle.std.specs.Prelude.{MatchResult, map};
-ghost use Rattle.ffi_calls.specs.Items.{HandsOut};
+ghost use Rattle.ffi_calls.specs.Items.{Outputs};
 ghost use Rattle.ffi_calls.specs.Lists.{archive_width};
 ghost use Rattle.ffi_calls.specs.TextItems.{ArchiveOfTextTextsFails, AreTextTexts};
 ghost use Rattle.ffi_calls.specs.TextItems.{IsArchiveOfTextTexts, TextTextsFail};
-ghost use Rattle.ffi_calls.specs.TextItems.{TextTextsMade, TextTextsRefused};
+ghost use Rattle.ffi_calls.specs.TextItems.{TextTextsWriteOk, TextTextsWriteFails};
 
-use crate::building::{Built, archive_of, hand_out};
+use crate::building::{Built, archive_of, leak_into};
 use crate::pairs::PairOf;
 use crate::status::{NO_MEMORY, NOT_TEXT, write_status};
 use crate::texts::text_of;
@@ -49,8 +49,9 @@ fn archive_in<'a, W: Width, P: PairOf<&'a [u8], &'a [u8]>>(
     alloc: Global,
     items: &[P],
 ) -> Result<Vec<u8>, u32>
-    ensures { MatchResult result (λ v. TextTextsMade (archive_width W.Width) (map P.pair_of
-        items.now) v.items) (TextTextsRefused (archive_width W.Width) (map P.pair_of items.now)) }
+    ensures { let w = archive_width W.Width in
+        MatchResult result (λ v. TextTextsWriteOk w (map P.pair_of items.now) v.items)
+        (TextTextsWriteFails w (map P.pair_of items.now)) }
 {
     let pairs = match pairs_of::<P>(alloc, items) {
         Ok(pairs) => pairs,
@@ -95,8 +96,8 @@ pub fn build_texts_to_texts<'a, P: PairOf<&'a [u8], &'a [u8]>>(
     wide: bool,
     built: &mut Built<'_>,
 ) -> u32
-    ensures { HandsOut (IsArchiveOfTextTexts wide (map P.pair_of items.now))
+    ensures { Outputs (IsArchiveOfTextTexts wide (map P.pair_of items.now))
         (ArchiveOfTextTextsFails wide (map P.pair_of items.now)) built.old result built.new }
 {
-    hand_out(archive_by(alloc, items, wide), built)
+    leak_into(archive_by(alloc, items, wide), built)
 }

@@ -8,7 +8,7 @@ ghost use Rattle.ffi_calls.specs.IndexArchives.{number_index, number_index_in};
 ghost use Rattle.ffi_calls.specs.IndexInPlace.{SetsFirstIndexedNumber, SetsIndexedNumber};
 ghost use Rattle.ffi_calls.specs.IndexItems.{IndexOfNumbersFails, IsIndexOfNumbers};
 ghost use Rattle.ffi_calls.specs.IndexLists.{StoresListedNumbers};
-ghost use Rattle.ffi_calls.specs.Items.{HandsOut};
+ghost use Rattle.ffi_calls.specs.Items.{Outputs};
 ghost use Rattle.ffi_calls.specs.Keys.{long_key};
 ghost use Rattle.ffi_rkyv.specs.Pairs.{long_number_pair};
 
@@ -157,7 +157,7 @@ pub extern "C" fn rkyv_c_index_build_long_numbers(
     built: &mut Built<'_>,
 ) -> u32
     ensures { let pairs = map long_number_pair items.now in let f = form_of long_values wide in
-        HandsOut (IsIndexOfNumbers long_key f pairs) (IndexOfNumbersFails long_key f pairs)
+        Outputs (IsIndexOfNumbers long_key f pairs) (IndexOfNumbersFails long_key f pairs)
         built.old result built.new }
 {
     build_index_numbers::<u64, _>(alloc, items, Form { long_values, wide }, built)

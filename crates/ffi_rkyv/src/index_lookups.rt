@@ -5,8 +5,9 @@
 
 ghost use Rattle.std.specs.Prelude.{false, true};
 ghost use Rattle.ffi_calls.specs.Archives.{IsHeaderOf, form_of};
-ghost use Rattle.ffi_calls.specs.IndexArchives.{GivesIndexedNumber, IsNumberIndex, number_index_in};
-ghost use Rattle.ffi_calls.specs.IndexLists.{GivesFirstIndexedNumber};
+ghost use Rattle.ffi_calls.specs.IndexArchives.{ReturnsIndexedNumber, IsNumberIndex};
+ghost use Rattle.ffi_calls.specs.IndexArchives.{number_index_in};
+ghost use Rattle.ffi_calls.specs.IndexLists.{ReturnsFirstIndexedNumber};
 ghost use Rattle.ffi_calls.specs.Keys.{short_key};
 ghost use Rattle.ffi_rkyv.specs.Pairs.{indexed_number};
 
@@ -36,9 +37,9 @@ pub extern "C" fn rkyv_c_index_get_number_u32_narrow(
     requires archive { IsNumberIndex short_key (form_of false false) archive.now }
     requires header { IsHeaderOf (number_index_in short_key (form_of false false) archive.now)
         header.now }
-    ensures gives { GivesIndexedNumber short_key (form_of false false) archive.now key
+    ensures outcome { ReturnsIndexedNumber short_key (form_of false false) archive.now key
         (indexed_number found.old) result (indexed_number found.new) }
-    ensures listed { GivesFirstIndexedNumber short_key (form_of false false) archive.now key
+    ensures listed { ReturnsFirstIndexedNumber short_key (form_of false false) archive.now key
         (indexed_number found.old) result (indexed_number found.new) }
 {
     let form = Form {
@@ -69,9 +70,9 @@ pub extern "C" fn rkyv_c_index_get_number_u64_narrow(
     requires archive { IsNumberIndex short_key (form_of true false) archive.now }
     requires header { IsHeaderOf (number_index_in short_key (form_of true false) archive.now)
         header.now }
-    ensures gives { GivesIndexedNumber short_key (form_of true false) archive.now key
+    ensures outcome { ReturnsIndexedNumber short_key (form_of true false) archive.now key
         (indexed_number found.old) result (indexed_number found.new) }
-    ensures listed { GivesFirstIndexedNumber short_key (form_of true false) archive.now key
+    ensures listed { ReturnsFirstIndexedNumber short_key (form_of true false) archive.now key
         (indexed_number found.old) result (indexed_number found.new) }
 {
     let form = Form {
@@ -102,9 +103,9 @@ pub extern "C" fn rkyv_c_index_get_number_u32_wide(
     requires archive { IsNumberIndex short_key (form_of false true) archive.now }
     requires header { IsHeaderOf (number_index_in short_key (form_of false true) archive.now)
         header.now }
-    ensures gives { GivesIndexedNumber short_key (form_of false true) archive.now key
+    ensures outcome { ReturnsIndexedNumber short_key (form_of false true) archive.now key
         (indexed_number found.old) result (indexed_number found.new) }
-    ensures listed { GivesFirstIndexedNumber short_key (form_of false true) archive.now key
+    ensures listed { ReturnsFirstIndexedNumber short_key (form_of false true) archive.now key
         (indexed_number found.old) result (indexed_number found.new) }
 {
     let form = Form {
@@ -135,9 +136,10 @@ pub extern "C" fn rkyv_c_index_get_number_u64_wide(
     requires archive { IsNumberIndex short_key (form_of true true) archive.now }
     requires header { IsHeaderOf (number_index_in short_key (form_of true true) archive.now)
         header.now }
-    ensures gives { GivesIndexedNumber short_key (form_of true true) archive.now key (indexed_number
+    ensures outcome { ReturnsIndexedNumber short_key (form_of true true) archive.now key
+        (indexed_number
         found.old) result (indexed_number found.new) }
-    ensures listed { GivesFirstIndexedNumber short_key (form_of true true) archive.now key
+    ensures listed { ReturnsFirstIndexedNumber short_key (form_of true true) archive.now key
         (indexed_number found.old) result (indexed_number found.new) }
 {
     let form = Form {

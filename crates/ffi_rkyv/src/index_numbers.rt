@@ -8,7 +8,7 @@ ghost use Rattle.ffi_calls.specs.IndexArchives.{number_index, number_index_in};
 ghost use Rattle.ffi_calls.specs.IndexInPlace.{SetsFirstIndexedNumber, SetsIndexedNumber};
 ghost use Rattle.ffi_calls.specs.IndexItems.{IndexOfNumbersFails, IsIndexOfNumbers};
 ghost use Rattle.ffi_calls.specs.IndexLists.{StoresListedNumbers};
-ghost use Rattle.ffi_calls.specs.Items.{HandsOut};
+ghost use Rattle.ffi_calls.specs.Items.{Outputs};
 ghost use Rattle.ffi_calls.specs.Keys.{short_key};
 ghost use Rattle.ffi_rkyv.specs.Pairs.{number_pair};
 
@@ -152,7 +152,7 @@ pub extern "C" fn rkyv_c_index_build_numbers(
     wide: bool,
     built: &mut Built<'_>,
 ) -> u32
-    ensures { let pairs = map number_pair items.now in let f = form_of long_values wide in HandsOut
+    ensures { let pairs = map number_pair items.now in let f = form_of long_values wide in Outputs
         (IsIndexOfNumbers short_key f pairs) (IndexOfNumbersFails short_key f pairs) built.old
         result built.new }
 {

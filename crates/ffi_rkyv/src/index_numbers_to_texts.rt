@@ -7,7 +7,7 @@ ghost use Rattle.ffi_calls.specs.IndexTextValues.{IndexOfNumberTextsFails, IsInd
 ghost use Rattle.ffi_calls.specs.IndexTextValues.{IsNumberTextIndex};
 ghost use Rattle.ffi_calls.specs.IndexTextValues.{StoresListedNumberTexts, StoresNumberTexts};
 ghost use Rattle.ffi_calls.specs.IndexTextValues.{number_text_index, number_text_index_in};
-ghost use Rattle.ffi_calls.specs.Items.{HandsOut};
+ghost use Rattle.ffi_calls.specs.Items.{Outputs};
 ghost use Rattle.ffi_calls.specs.Keys.{short_key};
 ghost use Rattle.ffi_rkyv.specs.Pairs.{number_text_pair};
 
@@ -111,7 +111,7 @@ pub extern "C" fn rkyv_c_index_build_numbers_to_texts(
     wide: bool,
     built: &mut Built<'_>,
 ) -> u32
-    ensures { HandsOut (IsIndexOfNumberTexts short_key wide (map number_text_pair items.now))
+    ensures { Outputs (IsIndexOfNumberTexts short_key wide (map number_text_pair items.now))
         (IndexOfNumberTextsFails short_key wide (map number_text_pair items.now)) built.old result
         built.new }
 {

@@ -5,8 +5,8 @@
 ghost use Rattle.std.specs.Prelude.{false, true};
 ghost use Rattle.std.specs.Str.{IsUtf8};
 ghost use Rattle.ffi_calls.specs.Archives.{IsHeaderOf, form_of};
-ghost use Rattle.ffi_calls.specs.IndexArchives.{GivesIndexedBytes, IsTextIndex, text_index_in};
-ghost use Rattle.ffi_calls.specs.IndexLists.{GivesFirstIndexedText};
+ghost use Rattle.ffi_calls.specs.IndexArchives.{ReturnsIndexedBytes, IsTextIndex, text_index_in};
+ghost use Rattle.ffi_calls.specs.IndexLists.{ReturnsFirstIndexedText};
 ghost use Rattle.ffi_rkyv.specs.Pairs.{indexed_number};
 
 use crate::pairs::IndexedNumber;
@@ -37,10 +37,11 @@ pub extern "C" fn rkyv_c_index_get_text_u32_narrow(
 ) -> u32
     requires archive { IsTextIndex (form_of false false) archive.now }
     requires header { IsHeaderOf (text_index_in (form_of false false) archive.now) header.now }
-    ensures gives { GivesIndexedBytes (form_of false false) archive.now key.now (indexed_number
+    ensures outcome { ReturnsIndexedBytes (form_of false false) archive.now key.now (indexed_number
         found.old) result (indexed_number found.new) }
     ensures listed { IsUtf8 key.now
-        → GivesFirstIndexedText (form_of false false) archive.now key.now (indexed_number found.old)
+        → ReturnsFirstIndexedText (form_of false false) archive.now key.now
+        (indexed_number found.old)
         result (indexed_number found.new) }
 {
     let form = Form {
@@ -73,10 +74,11 @@ pub extern "C" fn rkyv_c_index_get_text_u64_narrow(
 ) -> u32
     requires archive { IsTextIndex (form_of true false) archive.now }
     requires header { IsHeaderOf (text_index_in (form_of true false) archive.now) header.now }
-    ensures gives { GivesIndexedBytes (form_of true false) archive.now key.now (indexed_number
+    ensures outcome { ReturnsIndexedBytes (form_of true false) archive.now key.now (indexed_number
         found.old) result (indexed_number found.new) }
     ensures listed { IsUtf8 key.now
-        → GivesFirstIndexedText (form_of true false) archive.now key.now (indexed_number found.old)
+        → ReturnsFirstIndexedText (form_of true false) archive.now key.now
+        (indexed_number found.old)
         result (indexed_number found.new) }
 {
     let form = Form {
@@ -109,10 +111,11 @@ pub extern "C" fn rkyv_c_index_get_text_u32_wide(
 ) -> u32
     requires archive { IsTextIndex (form_of false true) archive.now }
     requires header { IsHeaderOf (text_index_in (form_of false true) archive.now) header.now }
-    ensures gives { GivesIndexedBytes (form_of false true) archive.now key.now (indexed_number
+    ensures outcome { ReturnsIndexedBytes (form_of false true) archive.now key.now (indexed_number
         found.old) result (indexed_number found.new) }
     ensures listed { IsUtf8 key.now
-        → GivesFirstIndexedText (form_of false true) archive.now key.now (indexed_number found.old)
+        → ReturnsFirstIndexedText (form_of false true) archive.now key.now
+        (indexed_number found.old)
         result (indexed_number found.new) }
 {
     let form = Form {
@@ -145,10 +148,10 @@ pub extern "C" fn rkyv_c_index_get_text_u64_wide(
 ) -> u32
     requires archive { IsTextIndex (form_of true true) archive.now }
     requires header { IsHeaderOf (text_index_in (form_of true true) archive.now) header.now }
-    ensures gives { GivesIndexedBytes (form_of true true) archive.now key.now (indexed_number
+    ensures outcome { ReturnsIndexedBytes (form_of true true) archive.now key.now (indexed_number
         found.old) result (indexed_number found.new) }
     ensures listed { IsUtf8 key.now
-        → GivesFirstIndexedText (form_of true true) archive.now key.now (indexed_number found.old)
+        → ReturnsFirstIndexedText (form_of true true) archive.now key.now (indexed_number found.old)
         result (indexed_number found.new) }
 {
     let form = Form {

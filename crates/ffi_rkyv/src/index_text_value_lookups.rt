@@ -5,10 +5,10 @@
 ghost use Rattle.std.specs.Prelude.{false, true};
 ghost use Rattle.std.specs.Str.{IsUtf8};
 ghost use Rattle.ffi_calls.specs.Archives.{IsHeaderOf};
-ghost use Rattle.ffi_calls.specs.IndexTextValues.{GivesFirstIndexedTextOfNumber};
-ghost use Rattle.ffi_calls.specs.IndexTextValues.{GivesFirstIndexedTextOfText};
-ghost use Rattle.ffi_calls.specs.IndexTextValues.{GivesIndexedTextOfBytes};
-ghost use Rattle.ffi_calls.specs.IndexTextValues.{GivesIndexedTextOfNumber};
+ghost use Rattle.ffi_calls.specs.IndexTextValues.{ReturnsFirstIndexedTextOfNumber};
+ghost use Rattle.ffi_calls.specs.IndexTextValues.{ReturnsFirstIndexedTextOfText};
+ghost use Rattle.ffi_calls.specs.IndexTextValues.{ReturnsIndexedTextOfBytes};
+ghost use Rattle.ffi_calls.specs.IndexTextValues.{ReturnsIndexedTextOfNumber};
 ghost use Rattle.ffi_calls.specs.IndexTextValues.{IsNumberTextIndex, IsTextTextIndex};
 ghost use Rattle.ffi_calls.specs.IndexTextValues.{number_text_index_in, text_text_index_in};
 ghost use Rattle.ffi_calls.specs.Keys.{long_key, short_key};
@@ -39,9 +39,9 @@ pub extern "C" fn rkyv_c_index_get_text_of_number_narrow<'a>(
 ) -> u32
     requires archive { IsNumberTextIndex short_key false archive.now }
     requires header { IsHeaderOf (number_text_index_in short_key false archive.now) header.now }
-    ensures gives { GivesIndexedTextOfNumber short_key false archive.now key (indexed_text
+    ensures outcome { ReturnsIndexedTextOfNumber short_key false archive.now key (indexed_text
         found.old) result (indexed_text found.new) }
-    ensures listed { GivesFirstIndexedTextOfNumber short_key false archive.now key (indexed_text
+    ensures listed { ReturnsFirstIndexedTextOfNumber short_key false archive.now key (indexed_text
         found.old) result (indexed_text found.new) }
 {
     get_index_text_of_number::<u32, _>(archive, false, header, key, found)
@@ -67,9 +67,10 @@ pub extern "C" fn rkyv_c_index_get_text_of_number_wide<'a>(
 ) -> u32
     requires archive { IsNumberTextIndex short_key true archive.now }
     requires header { IsHeaderOf (number_text_index_in short_key true archive.now) header.now }
-    ensures gives { GivesIndexedTextOfNumber short_key true archive.now key (indexed_text found.old)
+    ensures outcome { ReturnsIndexedTextOfNumber short_key true archive.now key
+        (indexed_text found.old)
         result (indexed_text found.new) }
-    ensures listed { GivesFirstIndexedTextOfNumber short_key true archive.now key (indexed_text
+    ensures listed { ReturnsFirstIndexedTextOfNumber short_key true archive.now key (indexed_text
         found.old) result (indexed_text found.new) }
 {
     get_index_text_of_number::<u32, _>(archive, true, header, key, found)
@@ -95,9 +96,10 @@ pub extern "C" fn rkyv_c_index_get_text_of_long_number_narrow<'a>(
 ) -> u32
     requires archive { IsNumberTextIndex long_key false archive.now }
     requires header { IsHeaderOf (number_text_index_in long_key false archive.now) header.now }
-    ensures gives { GivesIndexedTextOfNumber long_key false archive.now key (indexed_text found.old)
+    ensures outcome { ReturnsIndexedTextOfNumber long_key false archive.now key
+        (indexed_text found.old)
         result (indexed_text found.new) }
-    ensures listed { GivesFirstIndexedTextOfNumber long_key false archive.now key (indexed_text
+    ensures listed { ReturnsFirstIndexedTextOfNumber long_key false archive.now key (indexed_text
         found.old) result (indexed_text found.new) }
 {
     get_index_text_of_number::<u64, _>(archive, false, header, key, found)
@@ -123,9 +125,10 @@ pub extern "C" fn rkyv_c_index_get_text_of_long_number_wide<'a>(
 ) -> u32
     requires archive { IsNumberTextIndex long_key true archive.now }
     requires header { IsHeaderOf (number_text_index_in long_key true archive.now) header.now }
-    ensures gives { GivesIndexedTextOfNumber long_key true archive.now key (indexed_text found.old)
+    ensures outcome { ReturnsIndexedTextOfNumber long_key true archive.now key
+        (indexed_text found.old)
         result (indexed_text found.new) }
-    ensures listed { GivesFirstIndexedTextOfNumber long_key true archive.now key (indexed_text
+    ensures listed { ReturnsFirstIndexedTextOfNumber long_key true archive.now key (indexed_text
         found.old) result (indexed_text found.new) }
 {
     get_index_text_of_number::<u64, _>(archive, true, header, key, found)
@@ -154,10 +157,10 @@ pub extern "C" fn rkyv_c_index_get_text_of_text_narrow<'a>(
 ) -> u32
     requires archive { IsTextTextIndex false archive.now }
     requires header { IsHeaderOf (text_text_index_in false archive.now) header.now }
-    ensures gives { GivesIndexedTextOfBytes false archive.now key.now (indexed_text found.old)
+    ensures outcome { ReturnsIndexedTextOfBytes false archive.now key.now (indexed_text found.old)
         result (indexed_text found.new) }
     ensures listed { IsUtf8 key.now
-        → GivesFirstIndexedTextOfText false archive.now key.now (indexed_text found.old) result
+        → ReturnsFirstIndexedTextOfText false archive.now key.now (indexed_text found.old) result
         (indexed_text found.new) }
 {
     get_index_text_of_text(archive, false, header, key, found)
@@ -186,10 +189,11 @@ pub extern "C" fn rkyv_c_index_get_text_of_text_wide<'a>(
 ) -> u32
     requires archive { IsTextTextIndex true archive.now }
     requires header { IsHeaderOf (text_text_index_in true archive.now) header.now }
-    ensures gives { GivesIndexedTextOfBytes true archive.now key.now (indexed_text found.old) result
+    ensures outcome { ReturnsIndexedTextOfBytes true archive.now key.now (indexed_text found.old)
+        result
         (indexed_text found.new) }
     ensures listed { IsUtf8 key.now
-        → GivesFirstIndexedTextOfText true archive.now key.now (indexed_text found.old) result
+        → ReturnsFirstIndexedTextOfText true archive.now key.now (indexed_text found.old) result
         (indexed_text found.new) }
 {
     get_index_text_of_text(archive, true, header, key, found)

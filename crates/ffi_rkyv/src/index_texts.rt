@@ -9,7 +9,7 @@ ghost use Rattle.ffi_calls.specs.IndexArchives.{text_index, text_index_in};
 ghost use Rattle.ffi_calls.specs.IndexInPlace.{SetsFirstIndexedText, SetsIndexedBytes};
 ghost use Rattle.ffi_calls.specs.IndexItems.{IndexOfTextsFails, IsIndexOfTexts};
 ghost use Rattle.ffi_calls.specs.IndexLists.{StoresListedTexts};
-ghost use Rattle.ffi_calls.specs.Items.{HandsOut};
+ghost use Rattle.ffi_calls.specs.Items.{Outputs};
 ghost use Rattle.ffi_rkyv.specs.Pairs.{text_pair};
 
 use crate::pairs::TextPair;
@@ -153,7 +153,7 @@ pub extern "C" fn rkyv_c_index_build_texts(
     wide: bool,
     built: &mut Built<'_>,
 ) -> u32
-    ensures { HandsOut (IsIndexOfTexts (form_of long_values wide) (map text_pair items.now))
+    ensures { Outputs (IsIndexOfTexts (form_of long_values wide) (map text_pair items.now))
         (IndexOfTextsFails (form_of long_values wide) (map text_pair items.now)) built.old result
         built.new }
 {

@@ -7,7 +7,7 @@ ghost use Rattle.ffi_calls.specs.IndexTextValues.{IndexOfTextTextsFails};
 ghost use Rattle.ffi_calls.specs.IndexTextValues.{IsIndexOfTextTexts, IsTextTextIndex};
 ghost use Rattle.ffi_calls.specs.IndexTextValues.{StoresListedTextTexts, StoresTextTexts};
 ghost use Rattle.ffi_calls.specs.IndexTextValues.{text_text_index, text_text_index_in};
-ghost use Rattle.ffi_calls.specs.Items.{HandsOut};
+ghost use Rattle.ffi_calls.specs.Items.{Outputs};
 ghost use Rattle.ffi_rkyv.specs.Pairs.{text_text_pair};
 
 use crate::pairs::TextTextPair;
@@ -110,7 +110,7 @@ pub extern "C" fn rkyv_c_index_build_texts_to_texts(
     wide: bool,
     built: &mut Built<'_>,
 ) -> u32
-    ensures { HandsOut (IsIndexOfTextTexts wide (map text_text_pair items.now))
+    ensures { Outputs (IsIndexOfTextTexts wide (map text_text_pair items.now))
         (IndexOfTextTextsFails wide (map text_text_pair items.now)) built.old result built.new }
 {
     build_index_texts_to_texts(alloc, items, wide, built)

@@ -4,9 +4,9 @@
 
 ghost use Rattle.std.specs.Prelude.{false, true};
 ghost use Rattle.ffi_calls.specs.Archives.{IsHeaderOf, IsNumberArchive, form_of, numbers_in};
-ghost use Rattle.ffi_calls.specs.Calls.{GivesNumber};
+ghost use Rattle.ffi_calls.specs.Calls.{ReturnsNumber};
 ghost use Rattle.ffi_calls.specs.Keys.{long_key};
-ghost use Rattle.ffi_calls.specs.Listed.{GivesFirstNumber};
+ghost use Rattle.ffi_calls.specs.Listed.{ReturnsFirstNumber};
 
 use ffi_calls::form::Form;
 use ffi_calls::numbers::get_number;
@@ -32,9 +32,9 @@ pub extern "C" fn rkyv_c_get_long_number_u32_narrow(
     requires archive { IsNumberArchive long_key (form_of false false) archive.now }
     requires header { IsHeaderOf (numbers_in long_key (form_of false false) archive.now)
         header.now }
-    ensures gives { GivesNumber long_key (form_of false false) archive.now key value.old result
+    ensures outcome { ReturnsNumber long_key (form_of false false) archive.now key value.old result
         value.new }
-    ensures listed { GivesFirstNumber long_key (form_of false false) archive.now key value.old
+    ensures listed { ReturnsFirstNumber long_key (form_of false false) archive.now key value.old
         result value.new }
 {
     let form = Form {
@@ -63,9 +63,10 @@ pub extern "C" fn rkyv_c_get_long_number_u64_narrow(
 ) -> u32
     requires archive { IsNumberArchive long_key (form_of true false) archive.now }
     requires header { IsHeaderOf (numbers_in long_key (form_of true false) archive.now) header.now }
-    ensures gives { GivesNumber long_key (form_of true false) archive.now key value.old result
+    ensures outcome { ReturnsNumber long_key (form_of true false) archive.now key value.old result
         value.new }
-    ensures listed { GivesFirstNumber long_key (form_of true false) archive.now key value.old result
+    ensures listed { ReturnsFirstNumber long_key (form_of true false) archive.now key value.old
+        result
         value.new }
 {
     let form = Form {
@@ -94,9 +95,10 @@ pub extern "C" fn rkyv_c_get_long_number_u32_wide(
 ) -> u32
     requires archive { IsNumberArchive long_key (form_of false true) archive.now }
     requires header { IsHeaderOf (numbers_in long_key (form_of false true) archive.now) header.now }
-    ensures gives { GivesNumber long_key (form_of false true) archive.now key value.old result
+    ensures outcome { ReturnsNumber long_key (form_of false true) archive.now key value.old result
         value.new }
-    ensures listed { GivesFirstNumber long_key (form_of false true) archive.now key value.old result
+    ensures listed { ReturnsFirstNumber long_key (form_of false true) archive.now key value.old
+        result
         value.new }
 {
     let form = Form {
@@ -125,9 +127,10 @@ pub extern "C" fn rkyv_c_get_long_number_u64_wide(
 ) -> u32
     requires archive { IsNumberArchive long_key (form_of true true) archive.now }
     requires header { IsHeaderOf (numbers_in long_key (form_of true true) archive.now) header.now }
-    ensures gives { GivesNumber long_key (form_of true true) archive.now key value.old result
+    ensures outcome { ReturnsNumber long_key (form_of true true) archive.now key value.old result
         value.new }
-    ensures listed { GivesFirstNumber long_key (form_of true true) archive.now key value.old result
+    ensures listed { ReturnsFirstNumber long_key (form_of true true) archive.now key value.old
+        result
         value.new }
 {
     let form = Form {

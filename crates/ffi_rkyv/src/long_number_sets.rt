@@ -3,7 +3,7 @@
 ghost use Rattle.std.specs.Prelude.{map, ◌≡◌};
 ghost use Rattle.ffi_calls.specs.Archives.{IsHeaderOf, Opens, limit_of};
 ghost use Rattle.ffi_calls.specs.Explanation.{Explains};
-ghost use Rattle.ffi_calls.specs.Items.{HandsOut};
+ghost use Rattle.ffi_calls.specs.Items.{Outputs};
 ghost use Rattle.ffi_calls.specs.Keys.{long_key};
 ghost use Rattle.ffi_calls.specs.SetItems.{ArchiveOfNumberSetFails, IsArchiveOfNumberSet};
 ghost use Rattle.ffi_calls.specs.Sets.{IsNumberSet, StoresNextNumberMembers};
@@ -100,7 +100,7 @@ pub extern "C" fn rkyv_c_build_long_number_set(
     wide: bool,
     built: &mut Built<'_>,
 ) -> u32
-    ensures { HandsOut (IsArchiveOfNumberSet long_key wide items.now)
+    ensures { Outputs (IsArchiveOfNumberSet long_key wide items.now)
         (ArchiveOfNumberSetFails long_key wide items.now) built.old result built.new }
 {
     build_number_set::<u64>(alloc, items, wide, built)

@@ -3,7 +3,7 @@
 ghost use Rattle.std.specs.Prelude.{map, ◌≡◌};
 ghost use Rattle.ffi_calls.specs.Archives.{IsHeaderOf, Opens, limit_of};
 ghost use Rattle.ffi_calls.specs.Explanation.{Explains};
-ghost use Rattle.ffi_calls.specs.Items.{HandsOut};
+ghost use Rattle.ffi_calls.specs.Items.{Outputs};
 ghost use Rattle.ffi_calls.specs.Keys.{long_key};
 ghost use Rattle.ffi_calls.specs.TextItems.{ArchiveOfNumberTextsFails, IsArchiveOfNumberTexts};
 ghost use Rattle.ffi_calls.specs.TextValues.{IsNumberTextArchive, StoresNextNumberTexts};
@@ -107,7 +107,7 @@ pub extern "C" fn rkyv_c_build_long_numbers_to_texts(
     wide: bool,
     built: &mut Built<'_>,
 ) -> u32
-    ensures { HandsOut (IsArchiveOfNumberTexts long_key wide (map long_number_text_pair items.now))
+    ensures { Outputs (IsArchiveOfNumberTexts long_key wide (map long_number_text_pair items.now))
         (ArchiveOfNumberTextsFails long_key wide (map long_number_text_pair items.now)) built.old
         result built.new }
 {

@@ -6,9 +6,9 @@ ghost use Rattle.std.specs.Prelude.{false, true};
 ghost use Rattle.std.specs.Str.{IsUtf8};
 ghost use Rattle.ffi_calls.specs.Archives.{IsHeaderOf, IsNumberArchive, IsTextArchive, form_of};
 ghost use Rattle.ffi_calls.specs.Archives.{numbers_in, texts_in};
-ghost use Rattle.ffi_calls.specs.Calls.{GivesNumber, GivesText};
+ghost use Rattle.ffi_calls.specs.Calls.{ReturnsNumber, ReturnsText};
 ghost use Rattle.ffi_calls.specs.Keys.{short_key};
-ghost use Rattle.ffi_calls.specs.Listed.{GivesFirstNumber, GivesFirstText};
+ghost use Rattle.ffi_calls.specs.Listed.{ReturnsFirstNumber, ReturnsFirstText};
 
 use ffi_calls::form::Form;
 use ffi_calls::numbers::get_number;
@@ -35,9 +35,9 @@ pub extern "C" fn rkyv_c_get_number_u32_narrow(
     requires archive { IsNumberArchive short_key (form_of false false) archive.now }
     requires header { IsHeaderOf (numbers_in short_key (form_of false false) archive.now)
         header.now }
-    ensures gives { GivesNumber short_key (form_of false false) archive.now key value.old result
+    ensures outcome { ReturnsNumber short_key (form_of false false) archive.now key value.old result
         value.new }
-    ensures listed { GivesFirstNumber short_key (form_of false false) archive.now key value.old
+    ensures listed { ReturnsFirstNumber short_key (form_of false false) archive.now key value.old
         result value.new }
 {
     let form = Form {
@@ -67,9 +67,9 @@ pub extern "C" fn rkyv_c_get_number_u64_narrow(
     requires archive { IsNumberArchive short_key (form_of true false) archive.now }
     requires header { IsHeaderOf (numbers_in short_key (form_of true false) archive.now)
         header.now }
-    ensures gives { GivesNumber short_key (form_of true false) archive.now key value.old result
+    ensures outcome { ReturnsNumber short_key (form_of true false) archive.now key value.old result
         value.new }
-    ensures listed { GivesFirstNumber short_key (form_of true false) archive.now key value.old
+    ensures listed { ReturnsFirstNumber short_key (form_of true false) archive.now key value.old
         result value.new }
 {
     let form = Form {
@@ -99,9 +99,9 @@ pub extern "C" fn rkyv_c_get_number_u32_wide(
     requires archive { IsNumberArchive short_key (form_of false true) archive.now }
     requires header { IsHeaderOf (numbers_in short_key (form_of false true) archive.now)
         header.now }
-    ensures gives { GivesNumber short_key (form_of false true) archive.now key value.old result
+    ensures outcome { ReturnsNumber short_key (form_of false true) archive.now key value.old result
         value.new }
-    ensures listed { GivesFirstNumber short_key (form_of false true) archive.now key value.old
+    ensures listed { ReturnsFirstNumber short_key (form_of false true) archive.now key value.old
         result value.new }
 {
     let form = Form {
@@ -130,9 +130,10 @@ pub extern "C" fn rkyv_c_get_number_u64_wide(
 ) -> u32
     requires archive { IsNumberArchive short_key (form_of true true) archive.now }
     requires header { IsHeaderOf (numbers_in short_key (form_of true true) archive.now) header.now }
-    ensures gives { GivesNumber short_key (form_of true true) archive.now key value.old result
+    ensures outcome { ReturnsNumber short_key (form_of true true) archive.now key value.old result
         value.new }
-    ensures listed { GivesFirstNumber short_key (form_of true true) archive.now key value.old result
+    ensures listed { ReturnsFirstNumber short_key (form_of true true) archive.now key value.old
+        result
         value.new }
 {
     let form = Form {
@@ -164,9 +165,10 @@ pub extern "C" fn rkyv_c_get_text_u32_narrow(
 ) -> u32
     requires archive { IsTextArchive (form_of false false) archive.now }
     requires header { IsHeaderOf (texts_in (form_of false false) archive.now) header.now }
-    ensures gives { GivesText (form_of false false) archive.now key.now value.old result value.new }
+    ensures outcome { ReturnsText (form_of false false) archive.now key.now value.old result
+        value.new }
     ensures listed { IsUtf8 key.now
-        → GivesFirstText (form_of false false) archive.now key.now value.old result value.new }
+        → ReturnsFirstText (form_of false false) archive.now key.now value.old result value.new }
 {
     let form = Form {
         long_values: false,
@@ -197,9 +199,10 @@ pub extern "C" fn rkyv_c_get_text_u64_narrow(
 ) -> u32
     requires archive { IsTextArchive (form_of true false) archive.now }
     requires header { IsHeaderOf (texts_in (form_of true false) archive.now) header.now }
-    ensures gives { GivesText (form_of true false) archive.now key.now value.old result value.new }
+    ensures outcome { ReturnsText (form_of true false) archive.now key.now value.old result
+        value.new }
     ensures listed { IsUtf8 key.now
-        → GivesFirstText (form_of true false) archive.now key.now value.old result value.new }
+        → ReturnsFirstText (form_of true false) archive.now key.now value.old result value.new }
 {
     let form = Form {
         long_values: true,
@@ -230,9 +233,10 @@ pub extern "C" fn rkyv_c_get_text_u32_wide(
 ) -> u32
     requires archive { IsTextArchive (form_of false true) archive.now }
     requires header { IsHeaderOf (texts_in (form_of false true) archive.now) header.now }
-    ensures gives { GivesText (form_of false true) archive.now key.now value.old result value.new }
+    ensures outcome { ReturnsText (form_of false true) archive.now key.now value.old result
+        value.new }
     ensures listed { IsUtf8 key.now
-        → GivesFirstText (form_of false true) archive.now key.now value.old result value.new }
+        → ReturnsFirstText (form_of false true) archive.now key.now value.old result value.new }
 {
     let form = Form {
         long_values: false,
@@ -263,9 +267,10 @@ pub extern "C" fn rkyv_c_get_text_u64_wide(
 ) -> u32
     requires archive { IsTextArchive (form_of true true) archive.now }
     requires header { IsHeaderOf (texts_in (form_of true true) archive.now) header.now }
-    ensures gives { GivesText (form_of true true) archive.now key.now value.old result value.new }
+    ensures outcome { ReturnsText (form_of true true) archive.now key.now value.old result
+        value.new }
     ensures listed { IsUtf8 key.now
-        → GivesFirstText (form_of true true) archive.now key.now value.old result value.new }
+        → ReturnsFirstText (form_of true true) archive.now key.now value.old result value.new }
 {
     let form = Form {
         long_values: true,

@@ -5,7 +5,7 @@ ghost use Rattle.ffi_calls.specs.Archives.{IsHeaderOf, IsNumberArchive, KeepsHea
 ghost use Rattle.ffi_calls.specs.Archives.{form_of, limit_of, number_map, numbers_in};
 ghost use Rattle.ffi_calls.specs.Calls.{SetsNumber, StoresNextNumbers};
 ghost use Rattle.ffi_calls.specs.Explanation.{Explains};
-ghost use Rattle.ffi_calls.specs.Items.{HandsOut, IsArchiveOfNumbers, ArchiveOfNumbersFails};
+ghost use Rattle.ffi_calls.specs.Items.{Outputs, IsArchiveOfNumbers, ArchiveOfNumbersFails};
 ghost use Rattle.ffi_calls.specs.Keys.{short_key};
 ghost use Rattle.ffi_calls.specs.Listed.{SetsFirstNumber};
 ghost use Rattle.ffi_rkyv.specs.Pairs.{number_pair, number_step};
@@ -146,7 +146,7 @@ pub extern "C" fn rkyv_c_build_numbers(
     wide: bool,
     built: &mut Built<'_>,
 ) -> u32
-    ensures { let pairs = map number_pair items.now in let f = form_of long_values wide in HandsOut
+    ensures { let pairs = map number_pair items.now in let f = form_of long_values wide in Outputs
         (IsArchiveOfNumbers short_key f pairs) (ArchiveOfNumbersFails short_key f pairs) built.old
         result built.new }
 {

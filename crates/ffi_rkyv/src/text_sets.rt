@@ -3,7 +3,7 @@
 ghost use Rattle.std.specs.Prelude.{map, ◌≡◌};
 ghost use Rattle.ffi_calls.specs.Archives.{IsHeaderOf, Opens, limit_of};
 ghost use Rattle.ffi_calls.specs.Explanation.{Explains};
-ghost use Rattle.ffi_calls.specs.Items.{HandsOut};
+ghost use Rattle.ffi_calls.specs.Items.{Outputs};
 ghost use Rattle.ffi_calls.specs.SetItems.{ArchiveOfTextSetFails, IsArchiveOfTextSet};
 ghost use Rattle.ffi_calls.specs.Sets.{IsTextSet, StoresNextTextMembers, text_set};
 ghost use Rattle.ffi_calls.specs.Sets.{text_set_in};
@@ -95,7 +95,7 @@ pub extern "C" fn rkyv_c_build_text_set(
     wide: bool,
     built: &mut Built<'_>,
 ) -> u32
-    ensures { HandsOut (IsArchiveOfTextSet wide items.now)
+    ensures { Outputs (IsArchiveOfTextSet wide items.now)
         (ArchiveOfTextSetFails wide items.now) built.old result built.new }
 {
     build_text_set(alloc, items, wide, built)

@@ -6,8 +6,8 @@ ghost use Rattle.std.specs.Prelude.{false, true};
 ghost use Rattle.std.specs.Str.{IsUtf8};
 ghost use Rattle.ffi_calls.specs.Archives.{IsHeaderOf};
 ghost use Rattle.ffi_calls.specs.Keys.{long_key, short_key};
-ghost use Rattle.ffi_calls.specs.TextValues.{GivesFirstTextOfNumber, GivesFirstTextOfText};
-ghost use Rattle.ffi_calls.specs.TextValues.{GivesTextOfNumber, GivesTextOfText};
+ghost use Rattle.ffi_calls.specs.TextValues.{ReturnsFirstTextOfNumber, ReturnsFirstTextOfText};
+ghost use Rattle.ffi_calls.specs.TextValues.{ReturnsTextOfNumber, ReturnsTextOfText};
 ghost use Rattle.ffi_calls.specs.TextValues.{IsNumberTextArchive, IsTextTextArchive};
 ghost use Rattle.ffi_calls.specs.TextValues.{number_texts_in, text_texts_in};
 
@@ -35,9 +35,9 @@ pub extern "C" fn rkyv_c_get_text_of_number_narrow<'a>(
 ) -> u32
     requires archive { IsNumberTextArchive short_key false archive.now }
     requires header { IsHeaderOf (number_texts_in short_key false archive.now) header.now }
-    ensures gives { GivesTextOfNumber short_key false archive.now key value.old.text result
+    ensures outcome { ReturnsTextOfNumber short_key false archive.now key value.old.text result
         value.new.text }
-    ensures listed { GivesFirstTextOfNumber short_key false archive.now key value.old.text result
+    ensures listed { ReturnsFirstTextOfNumber short_key false archive.now key value.old.text result
         value.new.text }
 {
     get_text_of_number::<u32>(archive, false, header, key, &mut value.text)
@@ -62,9 +62,9 @@ pub extern "C" fn rkyv_c_get_text_of_number_wide<'a>(
 ) -> u32
     requires archive { IsNumberTextArchive short_key true archive.now }
     requires header { IsHeaderOf (number_texts_in short_key true archive.now) header.now }
-    ensures gives { GivesTextOfNumber short_key true archive.now key value.old.text result
+    ensures outcome { ReturnsTextOfNumber short_key true archive.now key value.old.text result
         value.new.text }
-    ensures listed { GivesFirstTextOfNumber short_key true archive.now key value.old.text result
+    ensures listed { ReturnsFirstTextOfNumber short_key true archive.now key value.old.text result
         value.new.text }
 {
     get_text_of_number::<u32>(archive, true, header, key, &mut value.text)
@@ -89,9 +89,9 @@ pub extern "C" fn rkyv_c_get_text_of_long_number_narrow<'a>(
 ) -> u32
     requires archive { IsNumberTextArchive long_key false archive.now }
     requires header { IsHeaderOf (number_texts_in long_key false archive.now) header.now }
-    ensures gives { GivesTextOfNumber long_key false archive.now key value.old.text result
+    ensures outcome { ReturnsTextOfNumber long_key false archive.now key value.old.text result
         value.new.text }
-    ensures listed { GivesFirstTextOfNumber long_key false archive.now key value.old.text result
+    ensures listed { ReturnsFirstTextOfNumber long_key false archive.now key value.old.text result
         value.new.text }
 {
     get_text_of_number::<u64>(archive, false, header, key, &mut value.text)
@@ -116,9 +116,9 @@ pub extern "C" fn rkyv_c_get_text_of_long_number_wide<'a>(
 ) -> u32
     requires archive { IsNumberTextArchive long_key true archive.now }
     requires header { IsHeaderOf (number_texts_in long_key true archive.now) header.now }
-    ensures gives { GivesTextOfNumber long_key true archive.now key value.old.text result
+    ensures outcome { ReturnsTextOfNumber long_key true archive.now key value.old.text result
         value.new.text }
-    ensures listed { GivesFirstTextOfNumber long_key true archive.now key value.old.text result
+    ensures listed { ReturnsFirstTextOfNumber long_key true archive.now key value.old.text result
         value.new.text }
 {
     get_text_of_number::<u64>(archive, true, header, key, &mut value.text)
@@ -146,9 +146,10 @@ pub extern "C" fn rkyv_c_get_text_of_text_narrow<'a>(
 ) -> u32
     requires archive { IsTextTextArchive false archive.now }
     requires header { IsHeaderOf (text_texts_in false archive.now) header.now }
-    ensures gives { GivesTextOfText false archive.now key.now value.old.text result value.new.text }
+    ensures outcome { ReturnsTextOfText false archive.now key.now value.old.text result
+        value.new.text }
     ensures listed { IsUtf8 key.now
-        → GivesFirstTextOfText false archive.now key.now value.old.text result value.new.text }
+        → ReturnsFirstTextOfText false archive.now key.now value.old.text result value.new.text }
 {
     get_text_of_text(archive, false, header, key, &mut value.text)
 }
@@ -175,9 +176,10 @@ pub extern "C" fn rkyv_c_get_text_of_text_wide<'a>(
 ) -> u32
     requires archive { IsTextTextArchive true archive.now }
     requires header { IsHeaderOf (text_texts_in true archive.now) header.now }
-    ensures gives { GivesTextOfText true archive.now key.now value.old.text result value.new.text }
+    ensures outcome { ReturnsTextOfText true archive.now key.now value.old.text result
+        value.new.text }
     ensures listed { IsUtf8 key.now
-        → GivesFirstTextOfText true archive.now key.now value.old.text result value.new.text }
+        → ReturnsFirstTextOfText true archive.now key.now value.old.text result value.new.text }
 {
     get_text_of_text(archive, true, header, key, &mut value.text)
 }

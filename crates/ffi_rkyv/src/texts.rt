@@ -7,7 +7,7 @@ ghost use Rattle.ffi_calls.specs.Archives.{IsHeaderOf, KeepsHeader, texts_in};
 ghost use Rattle.ffi_calls.specs.Calls.{SetsText, StoresNextTexts};
 ghost use Rattle.ffi_calls.specs.Explanation.{Explains};
 ghost use Rattle.ffi_calls.specs.Listed.{SetsFirstText};
-ghost use Rattle.ffi_calls.specs.Items.{HandsOut, IsArchiveOfTexts, ArchiveOfTextsFails};
+ghost use Rattle.ffi_calls.specs.Items.{Outputs, IsArchiveOfTexts, ArchiveOfTextsFails};
 ghost use Rattle.ffi_rkyv.specs.Pairs.{text_pair, text_step};
 
 use crate::pairs::{TextPair, TextStep};
@@ -154,7 +154,7 @@ pub extern "C" fn rkyv_c_build_texts(
     wide: bool,
     built: &mut Built<'_>,
 ) -> u32
-    ensures { HandsOut (IsArchiveOfTexts (form_of long_values wide) (map text_pair items.now))
+    ensures { Outputs (IsArchiveOfTexts (form_of long_values wide) (map text_pair items.now))
         (ArchiveOfTextsFails (form_of long_values wide) (map text_pair items.now)) built.old result
         built.new }
 {

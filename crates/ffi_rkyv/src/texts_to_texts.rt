@@ -3,7 +3,7 @@
 ghost use Rattle.std.specs.Prelude.{map, ◌≡◌};
 ghost use Rattle.ffi_calls.specs.Archives.{IsHeaderOf, Opens, limit_of};
 ghost use Rattle.ffi_calls.specs.Explanation.{Explains};
-ghost use Rattle.ffi_calls.specs.Items.{HandsOut};
+ghost use Rattle.ffi_calls.specs.Items.{Outputs};
 ghost use Rattle.ffi_calls.specs.TextItems.{ArchiveOfTextTextsFails, IsArchiveOfTextTexts};
 ghost use Rattle.ffi_calls.specs.TextValues.{IsTextTextArchive, StoresNextTextTexts};
 ghost use Rattle.ffi_calls.specs.TextValues.{text_text_map, text_texts_in};
@@ -102,7 +102,7 @@ pub extern "C" fn rkyv_c_build_texts_to_texts(
     wide: bool,
     built: &mut Built<'_>,
 ) -> u32
-    ensures { HandsOut (IsArchiveOfTextTexts wide (map text_text_pair items.now))
+    ensures { Outputs (IsArchiveOfTextTexts wide (map text_text_pair items.now))
         (ArchiveOfTextTextsFails wide (map text_text_pair items.now)) built.old result built.new }
 {
     build_texts_to_texts(alloc, items, wide, built)

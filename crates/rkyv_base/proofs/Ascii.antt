@@ -9,7 +9,7 @@ use Rattle.std.proofs.lemmas.List.{get_or_past, get_or-take}
 use Rattle.std.proofs.lemmas.List.Sums.{prefix_len_passes}
 use Rattle.std.proofs.lemmas.List.Quantifiers.{position-Some}
 use Rattle.rkyv_base.specs.Text.{inline_text}
-use Rattle.rkyv_base.proofs.FirstMark.{NoneBelow, none_there}
+use Rattle.rkyv_base.proofs.FirstMark.{NoneBelow, none_below}
 
 low : (x : ℕ) → leb 128 x ≡ false → x < 128
 low x e = grind (arith, nat_tests)
@@ -30,10 +30,10 @@ none_high_before xs m none =
     let within = inside_take xs m k l in
     ap (leb 128) (get_or-take m xs k 0 within.0) ∙ none k within.0 within.1)
 
-stops_there : (xs : List ℕ) (at : ℕ) → eqb (get_or xs at 0) 255 ≡ true → position_or_len (λ x. eqb x 255) xs ≤ at
-stops_there xs at ff =
+first_ff_at_most : (xs : List ℕ) (at : ℕ) → eqb (get_or xs at 0) 255 ≡ true → position_or_len (λ x. eqb x 255) xs ≤ at
+first_ff_at_most xs at ff =
     elim (cases_lt at (position_or_len (λ x. eqb x 255) xs)) [
-      | inl l ↦ (let goes = sym (ap not ff) ∙ prefix_len_passes (λ x. not (eqb x 255)) xs at 0 l in grind arith)
+      | inl l ↦ (let differs = sym (ap not ff) ∙ prefix_len_passes (λ x. not (eqb x 255)) xs at 0 l in grind arith)
       | inr g ↦ g
     ]
 
@@ -41,8 +41,8 @@ stops_there xs at ff =
 pub ends_in_ff : (xs : List ℕ) (at : ℕ) → Some at ≡ position (λ x. leb 128 x) xs → eqb (get_or xs at 0) 255 ≡ true → IsAscii (inline_text xs)
 ends_in_ff xs at e ff =
     let first = position-Some (λ x. leb 128 x) xs at 0 (sym e) in
-    none_high_before xs (position_or_len (λ x. eqb x 255) xs) (λ k l within. first.2 k (omega (arith, stops_there xs at ff)))
+    none_high_before xs (position_or_len (λ x. eqb x 255) xs) (λ k l within. first.2 k (omega (arith, first_ff_at_most xs at ff)))
 
 -- no byte is 128 or more
 pub ends_nowhere : (xs : List ℕ) → None ≡ position (λ x. leb 128 x) xs → IsAscii (inline_text xs)
-ends_nowhere xs e = none_high_before xs (position_or_len (λ x. eqb x 255) xs) (λ k l within. none_there (λ x. leb 128 x) xs e k within)
+ends_nowhere xs e = none_high_before xs (position_or_len (λ x. eqb x 255) xs) (λ k l within. none_below (λ x. leb 128 x) xs e k within)

@@ -59,8 +59,8 @@ fails_from : (b : Bool) → not b ≡ true → b ≡ false
 fails_from true h = cc
 fails_from false h = refl
 
-pub none_there : (p : ℕ → Bool) (ys : List ℕ) → None ≡ position p ys → NoneBelow p ys (length ys)
-none_there p ys e k l =
+pub none_below : (p : ℕ → Bool) (ys : List ℕ) → None ≡ position p ys → NoneBelow p ys (length ys)
+none_below p ys e k l =
     ⊎_elim (λ (s : prefix_len (λ x. not (p x)) ys < length ys). absurd (none-some (prefix_len (λ x. not (p x)) ys) (e ∙ sym (position_is p ys (prefix_len (λ x. not (p x)) ys) refl s))))
     (λ (g : length ys ≤ prefix_len (λ x. not (p x)) ys). fails_from (p (get_or ys k 0)) (prefix_len_passes (λ x. not (p x)) ys k 0 (omega arith)))
     (cases_lt (prefix_len (λ x. not (p x)) ys) (length ys))
@@ -84,7 +84,7 @@ stretch_hit p xs ys at n s before e =
     position_is p xs (at + n) (prefix_len_is (λ x. not (p x)) xs (at + n) 0 (omega arith) (λ k m. ap not (both_below p xs ys at n s (omega arith) before f.2 k m)) (λ m. ap not hit)) (omega arith)
 
 pub stretch_miss : (p : ℕ → Bool) (xs ys : List ℕ) (at : ℕ) → IsStretch xs ys at → NoneBelow p xs at → None ≡ position p ys → NoneBelow p xs (at + length ys)
-stretch_miss p xs ys at s before e = both_below p xs ys at (length ys) s (omega arith) before (none_there p ys e)
+stretch_miss p xs ys at s before e = both_below p xs ys at (length ys) s (omega arith) before (none_below p ys e)
 
 pub none_first : (p : ℕ → Bool) (xs : List ℕ) (n : ℕ) → length xs ≤ n → NoneBelow p xs n → None ≡ position p xs
 none_first p xs n le below =

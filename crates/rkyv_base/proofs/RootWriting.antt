@@ -11,7 +11,7 @@ use Rattle.rkyv_base.specs.ElementSpec.{ElementSpec, IsElement, ValidAt}
 use Rattle.rkyv_base.specs.Lemmas.ElementSpec.{valid_at}
 use Rattle.rkyv_base.specs.Entry.{round_up}
 use Rattle.rkyv_base.specs.Lemmas.Entry.{round_up-multiple}
-use Rattle.rkyv_base.specs.Access.{Accepted}
+use Rattle.rkyv_base.specs.Access.{IsValidArchive}
 use Rattle.rkyv_base.specs.Format.{Format, IsFormat}
 use Rattle.rkyv_base.specs.Root.{RootBytes, RootNext, WroteRoot, WriteRootFails, ArchiveOf, fresh}
 use Rattle.rkyv_base.proofs.WritingSteps.{appends_after, end-appends, fails_after, grows}
@@ -74,7 +74,7 @@ module _ (F : Type 0) {V R : Type 0} (limit align : ℕ) (f : Format V R) (v : V
 module _ {V R : Type 0} (limit : ℕ) (s : ElementSpec) (laws : IsElement s) (represents : List ℕ → ℕ → V → Type 0) (f : Format V R) (format : IsFormat s represents f) where
   -- a written root is valid and represents the value, in any archive that has its bytes
   pub root_sound : (v : V) (c : List ℕ) (p root : ℕ) (bytes : List ℕ) → RootBytes s.align f v p bytes root → OccursAt c p bytes
-      → (hi l : ℕ) × s.holds c root p hi l × (p ≤ hi) × (hi ≤ root) × (root + s.size ≡ p + length bytes) × (root % s.align ≡ 0) × represents c root v
+      → (hi l : ℕ) × s.is_valid c root p hi l × (p ≤ hi) × (hi ≤ root) × (root + s.size ≡ p + length bytes) × (root % s.align ≡ 0) × represents c root v
   root_sound v c p root bytes b sits =
       let part : List ℕ = b.0 in
       let out : List ℕ = b.2 in
@@ -92,7 +92,7 @@ module _ {V R : Type 0} (limit : ℕ) (s : ElementSpec) (laws : IsElement s) (re
       (p + length part, d.0, d.1, omega arith, up, omega (arith, len, at, whole), al, d.2)
 
   root_accepted : (v : V) (bytes : List ℕ) (root : ℕ) → RootBytes s.align f v 0 bytes root → length bytes ≤ limit
-      → Accepted limit s bytes × represents bytes (length bytes - s.size) v × (root ≡ length bytes - s.size)
+      → IsValidArchive limit s bytes × represents bytes (length bytes - s.size) v × (root ≡ length bytes - s.size)
   root_accepted v bytes root b small =
       let k : 0 + length bytes - 0 ≡ length bytes = omega arith in
       let all : OccursAt bytes 0 bytes = record { inside = omega arith; there = rw k (take_all (length bytes) bytes (omega arith)) } in

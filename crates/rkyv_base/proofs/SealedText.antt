@@ -10,17 +10,17 @@ use Rattle.std.proofs.lemmas.Bool.Decides.{nat_tests}
 use Rattle.std.proofs.lemmas.List.{drop-take, drop-drop, length-take, length-drop, length-map}
 use Rattle.std.proofs.Math.Seq.{take-append-add}
 use Rattle.rkyv_base.specs.Sealing.{Sealed, Keeps}
-use Rattle.rkyv_base.specs.SealedText.{IsInline, IsSealedText, inline_at, with_uppercase, Raised}
+use Rattle.rkyv_base.specs.SealedText.{IsInline, IsSealedText, inline_at, with_uppercase, Uppercases}
 use Rattle.rkyv_base.specs.ElementSpec.{Viewable}
 use Rattle.rkyv_base.specs.Text.{fixed_bytes, inline_text, is_out_of_line, text_at, text_spec}
 use Rattle.rkyv_base.specs.Text.{text_size}
 use Rattle.rkyv_base.specs.Lemmas.Text.{inline_reads}
-use Rattle.rkyv_base.proofs.Uppercase.{utf8_raised}
+use Rattle.rkyv_base.proofs.Uppercase.{utf8_uppercase}
 use Rattle.rkyv_base.proofs.Sealing.{sealed_wider, with_bytes-rest, with_bytes-sealed}
 
 -- the fixed bytes `s`, with the text before the first ff in upper case
-abbrev raised_front : List ℕ → List ℕ
-raised_front s = map to_ascii_uppercase (inline_text s) ++ drop (length (inline_text s)) s
+abbrev uppercase_front : List ℕ → List ℕ
+uppercase_front s = map to_ascii_uppercase (inline_text s) ++ drop (length (inline_text s)) s
 
 not_ff : (x : ℕ) → (x == 255) ≡ false → (to_ascii_uppercase x == 255) ≡ false
 not_ff x h = grind (arith, nat_tests)
@@ -31,30 +31,30 @@ same_form x = grind (arith, nat_tests)
 inline_stops : (x : ℕ) (xs : List ℕ) → (x == 255) ≡ true → inline_text (x ∷ xs) ≡ []
 inline_stops x xs h = rw h refl
 
-inline_goes_on : (x : ℕ) (xs : List ℕ) → (x == 255) ≡ false → inline_text (x ∷ xs) ≡ x ∷ inline_text xs
-inline_goes_on x xs h =
+inline_continues : (x : ℕ) (xs : List ℕ) → (x == 255) ≡ false → inline_text (x ∷ xs) ≡ x ∷ inline_text xs
+inline_continues x xs h =
     let n : ℕ = position_or_len (λ k. k == 255) xs in
     let e : 1 + n ≡ suc n = omega arith in
     rw (h, e) refl
 
--- the inline text of `raised_front s` is that of `s` in upper case
-front_raised : (s : List ℕ) → inline_text (raised_front s) ≡ map to_ascii_uppercase (inline_text s)
-front_raised [] = refl
-front_raised (x ∷ xs) =
+-- the inline text of `uppercase_front s` is that of `s` in upper case
+inline_text_uppercase : (s : List ℕ) → inline_text (uppercase_front s) ≡ map to_ascii_uppercase (inline_text s)
+inline_text_uppercase [] = refl
+inline_text_uppercase (x ∷ xs) =
     let P : List ℕ → Type 0 = λ t. inline_text (map to_ascii_uppercase t ++ drop (length t) (x ∷ xs)) ≡ map to_ascii_uppercase t in
     elim (cases_Bool (x == 255)) [
       | inl h ↦ subst P (sym (inline_stops x xs h)) (inline_stops x xs h)
-      | inr h ↦ subst P (sym (inline_goes_on x xs h)) (inline_goes_on (to_ascii_uppercase x) (raised_front xs) (not_ff x h) ∙ ap (λ (l : List ℕ). to_ascii_uppercase x ∷ l) (front_raised xs))
+      | inr h ↦ subst P (sym (inline_continues x xs h)) (inline_continues (to_ascii_uppercase x) (uppercase_front xs) (not_ff x h) ∙ ap (λ (l : List ℕ). to_ascii_uppercase x ∷ l) (inline_text_uppercase xs))
     ]
 
 -- the text is inline if it was before
-form_raised : (s : List ℕ) → is_out_of_line (raised_front s) ≡ is_out_of_line s
-form_raised [] = refl
-form_raised (x ∷ xs) =
+form_uppercase : (s : List ℕ) → is_out_of_line (uppercase_front s) ≡ is_out_of_line s
+form_uppercase [] = refl
+form_uppercase (x ∷ xs) =
     let P : List ℕ → Type 0 = λ t. is_out_of_line (map to_ascii_uppercase t ++ drop (length t) (x ∷ xs)) ≡ is_out_of_line (x ∷ xs) in
     elim (cases_Bool (x == 255)) [
       | inl h ↦ subst P (sym (inline_stops x xs h)) refl
-      | inr h ↦ subst P (sym (inline_goes_on x xs h)) (same_form x)
+      | inr h ↦ subst P (sym (inline_continues x xs h)) (same_form x)
     ]
 
 module _ (w : Width) (b : List ℕ) (p : ℕ) (inside : p + text_size w ≤ length b) where
@@ -64,8 +64,8 @@ module _ (w : Width) (b : List ℕ) (p : ℕ) (inside : p + text_size w ≤ leng
   inline_length : length (inline_at w b p) ≤ text_size w
   inline_length = simp length-take (omega (arith, fixed_length))
 
-  fixed_raised : fixed_bytes w (with_uppercase w b p) p ≡ raised_front (fixed_bytes w b p)
-  fixed_raised =
+  fixed_uppercase : fixed_bytes w (with_uppercase w b p) p ≡ uppercase_front (fixed_bytes w b p)
+  fixed_uppercase =
       let n : ℕ = text_size w in
       let t : List ℕ = inline_at w b p in
       let k : ℕ = length t in
@@ -80,13 +80,13 @@ module _ (w : Width) (b : List ℕ) (p : ℕ) (inside : p + text_size w ≤ leng
       ∙ take-append-add (map to_ascii_uppercase t) (drop (p + k) b) (n - k) ∙ ap (λ (l : List ℕ). map to_ascii_uppercase t ++ l) (sym back)
 
   inline_stays : IsInline w b p → IsInline w (with_uppercase w b p) p
-  inline_stays h = ap is_out_of_line fixed_raised ∙ form_raised (fixed_bytes w b p) ∙ h
+  inline_stays h = ap is_out_of_line fixed_uppercase ∙ form_uppercase (fixed_bytes w b p) ∙ h
 
-  inline_raised : inline_at w (with_uppercase w b p) p ≡ map to_ascii_uppercase (inline_at w b p)
-  inline_raised = ap inline_text fixed_raised ∙ front_raised (fixed_bytes w b p)
+  inline_uppercase : inline_at w (with_uppercase w b p) p ≡ map to_ascii_uppercase (inline_at w b p)
+  inline_uppercase = ap inline_text fixed_uppercase ∙ inline_text_uppercase (fixed_bytes w b p)
 
-  text_raised : IsUtf8 (inline_at w b p) → IsUtf8 (inline_at w (with_uppercase w b p) p)
-  text_raised u = subst IsUtf8 (sym inline_raised) (utf8_raised (inline_at w b p) u)
+  inline_utf8_uppercase : IsUtf8 (inline_at w b p) → IsUtf8 (inline_at w (with_uppercase w b p) p)
+  inline_utf8_uppercase u = subst IsUtf8 (sym inline_uppercase) (utf8_uppercase (inline_at w b p) u)
 
   uppercase_sealed : Sealed b p (text_size w) (with_uppercase w b p)
   uppercase_sealed =
@@ -95,37 +95,37 @@ module _ (w : Width) (b : List ℕ) (p : ℕ) (inside : p + text_size w ≤ leng
       sealed_wider b (with_uppercase w b p) p k p (text_size w) (omega arith) (omega arith)
       (with_bytes-sealed b p k (map to_ascii_uppercase (inline_at w b p)) (omega arith) (length-map (inline_at w b p) to_ascii_uppercase))
 
-  uppercase_holds : IsInline w b p → Keeps (text_spec w) b (with_uppercase w b p) p
-  uppercase_holds inline lo hi l o q (inl h) = inl (inline_stays inline, text_raised h.1, h.2)
-  uppercase_holds inline lo hi l o q (inr h) = cc (inline, h.0)
+  uppercase_valid : IsInline w b p → Keeps (text_spec w) b (with_uppercase w b p) p
+  uppercase_valid inline lo hi l o q (inl h) = inl (inline_stays inline, inline_utf8_uppercase h.1, h.2)
+  uppercase_valid inline lo hi l o q (inr h) = cc (inline, h.0)
 
   uppercase_reads : IsInline w b p → text_at w (with_uppercase w b p) p ≡ map to_ascii_uppercase (text_at w b p)
   uppercase_reads inline =
-      inline_reads w (fixed_bytes w (with_uppercase w b p) p) (with_uppercase w b p) p (inline_stays inline) ∙ inline_raised
+      inline_reads w (fixed_bytes w (with_uppercase w b p) p) (with_uppercase w b p) p (inline_stays inline) ∙ inline_uppercase
       ∙ ap (map to_ascii_uppercase) (sym (inline_reads w (fixed_bytes w b p) b p inline))
 
   -- the bytes after a call that writes the text in upper case
   module _ (c : List ℕ) where
-    pub raised_sealed : (inline : Bool) → Raised w b p c inline → Sealed b p (text_size w) c
-    raised_sealed true h = subst (λ x. Sealed b p (text_size w) x) (sym h.1) uppercase_sealed
-    raised_sealed false h = subst (λ x. Sealed b p (text_size w) x) (sym h.1) (record { same_length = refl; before = refl; after = refl })
+    pub uppercased_sealed : (inline : Bool) → Uppercases w b p c inline → Sealed b p (text_size w) c
+    uppercased_sealed true h = subst (λ x. Sealed b p (text_size w) x) (sym h.1) uppercase_sealed
+    uppercased_sealed false h = subst (λ x. Sealed b p (text_size w) x) (sym h.1) (record { same_length = refl; before = refl; after = refl })
 
-    pub raised_holds : (inline : Bool) → Raised w b p c inline → Keeps (text_spec w) b c p
-    raised_holds true h = subst (λ x. Keeps (text_spec w) b x p) (sym h.1) (uppercase_holds h.0)
-    raised_holds false h = subst (λ x. Keeps (text_spec w) b x p) (sym h.1) (λ lo hi l o q k. k)
+    pub uppercased_valid : (inline : Bool) → Uppercases w b p c inline → Keeps (text_spec w) b c p
+    uppercased_valid true h = subst (λ x. Keeps (text_spec w) b x p) (sym h.1) (uppercase_valid h.0)
+    uppercased_valid false h = subst (λ x. Keeps (text_spec w) b x p) (sym h.1) (λ lo hi l o q k. k)
 
-    pub raised_reads : (inline : Bool) → Raised w b p c inline → IsInline w b p → text_at w c p ≡ map to_ascii_uppercase (text_at w b p)
-    raised_reads true h inline = ap (λ (x : List ℕ). text_at w x p) h.1 ∙ uppercase_reads inline
-    raised_reads false h inline = cc (inline, h.0)
+    pub uppercased_reads : (inline : Bool) → Uppercases w b p c inline → IsInline w b p → text_at w c p ≡ map to_ascii_uppercase (text_at w b p)
+    uppercased_reads true h inline = ap (λ (x : List ℕ). text_at w x p) h.1 ∙ uppercase_reads inline
+    uppercased_reads false h inline = cc (inline, h.0)
 
-    pub raised_text : (inline : Bool) → Raised w b p c inline → IsSealedText w b p → IsSealedText w c p
-    raised_text true h text = subst (λ x. IsSealedText w x p) (sym h.1) (λ inline. text_raised (text h.0))
-    raised_text false h text = subst (λ x. IsSealedText w x p) (sym h.1) text
+    pub uppercased_text : (inline : Bool) → Uppercases w b p c inline → IsSealedText w b p → IsSealedText w c p
+    uppercased_text true h text = subst (λ x. IsSealedText w x p) (sym h.1) (λ inline. inline_utf8_uppercase (text h.0))
+    uppercased_text false h text = subst (λ x. IsSealedText w x p) (sym h.1) text
 
 -- the fixed bytes of a valid text
-pub holds_sealed : (w : Width) (b : List ℕ) (p lo hi l : ℕ) → (text_spec w).holds b p lo hi l → IsSealedText w b p
-holds_sealed w b p lo hi l (inl h) inline = h.1
-holds_sealed w b p lo hi l (inr h) inline = cc (inline, h.0)
+pub valid_sealed : (w : Width) (b : List ℕ) (p lo hi l : ℕ) → (text_spec w).is_valid b p lo hi l → IsSealedText w b p
+valid_sealed w b p lo hi l (inl h) inline = h.1
+valid_sealed w b p lo hi l (inr h) inline = cc (inline, h.0)
 
 pub viewable_sealed : (w : Width) (b : List ℕ) (p : ℕ) → Viewable (text_spec w) b p → IsSealedText w b p
-viewable_sealed w b p h = holds_sealed w b p 0 p h.valid.0 h.valid.1
+viewable_sealed w b p h = valid_sealed w b p 0 p h.valid.0 h.valid.1

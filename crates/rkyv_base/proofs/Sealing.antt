@@ -21,8 +21,8 @@ module _ (b : List ℕ) (p n : ℕ) (w : List ℕ) (inside : p + n ≤ length b)
   with_bytes-rest = rw front_length at (drop-append_seam (take p b) (w ++ drop (p + n) b))
 
   -- the new bytes are at `p`
-  pub with_bytes-there : slice_range (with_bytes b p n w) p (p + n) ≡ w
-  with_bytes-there =
+  pub with_bytes-slice : slice_range (with_bytes b p n w) p (p + n) ≡ w
+  with_bytes-slice =
       let e : (p + n) - p ≡ n = omega arith in
       let k : take n (w ++ drop (p + n) b) ≡ w = rw size at (take-append_seam w (drop (p + n) b)) in
       rw (e, with_bytes-rest) k
@@ -80,37 +80,37 @@ pub record ValueSet {V : Type 0} (s : ElementSpec) (e : Encoding V) (b c : List 
   pub sealed : Sealed b p s.size c
   pub reads : value_at e c p ≡ v
   pub value : IsValueAt e c p
-  pub holds : Keeps s b c p
+  pub is_valid : Keeps s b c p
 
 module _ {V : Type 0} (s : ElementSpec) (e : Encoding V) (laws : IsScalar s e) (b c : List ℕ) (p : ℕ) (v : V) (out : List ℕ)
     (inside : p + byte_len e.word ≤ length b) (encodes : Encodes e v out) (is : c ≡ with_value e b p v) where
-  number_there : number_at e.word c p ≡ e.code v
-  number_there =
+  number_is_code : number_at e.word c p ≡ e.code v
+  number_is_code =
       ap (λ (x : List ℕ). number_at e.word x p) is
-      ∙ ap (from_le_bytes e.word) (with_bytes-there b p (byte_len e.word) (to_le_bytes e.word (e.code v)) inside (word_bytes e.word laws.word (e.code v)))
+      ∙ ap (from_le_bytes e.word) (with_bytes-slice b p (byte_len e.word) (to_le_bytes e.word (e.code v)) inside (word_bytes e.word laws.word (e.code v)))
       ∙ word_reads_back e.word laws.word (e.code v) encodes.fits
 
   value_sealed : Sealed b p s.size c
   value_sealed = subst₂ (λ n x. Sealed b p n x) (sym laws.size) (sym is)
       (with_bytes-sealed b p (byte_len e.word) (to_le_bytes e.word (e.code v)) inside (word_bytes e.word laws.word (e.code v)))
 
-  value_there : value_at e c p ≡ v
-  value_there = ap e.value number_there ∙ encodes.reads_back
+  value_reads : value_at e c p ≡ v
+  value_reads = ap e.value number_is_code ∙ encodes.reads_back
 
   value_good : IsValueAt e c p
-  value_good = subst e.IsCode (sym number_there) encodes.is_code
+  value_good = subst e.IsCode (sym number_is_code) encodes.is_code
 
-  value_holds : Keeps s b c p
-  value_holds lo hi l o h k = (laws.holds c p lo hi l).1 (((laws.holds b p lo hi l).0 k).0, value_good)
+  value_valid : Keeps s b c p
+  value_valid lo hi l o h k = (laws.is_valid c p lo hi l).1 (((laws.is_valid b p lo hi l).0 k).0, value_good)
 
   pub value_set : ValueSet s e b c p v
-  value_set = record { sealed = value_sealed; reads = value_there; value = value_good; holds = value_holds }
+  value_set = record { sealed = value_sealed; reads = value_reads; value = value_good; is_valid = value_valid }
 
 -- a value outside the sealed bytes stays valid, with the same parts
 module _ (s : ElementSpec) (laws : IsElement s) (b c : List ℕ) (q n : ℕ) (sealed : Sealed b q n c) (p lo hi l : ℕ) (o : lo ≤ hi)
-    (fixed : Outside q n p (p + s.size)) (parts : Outside q n lo l) (h : s.holds b p lo hi l) where
-  pub holds_outside : s.holds c p lo hi l
-  holds_outside =
+    (fixed : Outside q n p (p + s.size)) (parts : Outside q n lo l) (h : s.is_valid b p lo hi l) where
+  pub valid_outside : s.is_valid c p lo hi l
+  valid_outside =
       let k : (lo ≤ l) × (l ≤ hi) = laws.rest_in_range b p lo hi l o h in
       laws.local b c p lo hi l o (same_outside b q n c sealed p (p + s.size) (omega arith) fixed) (same_outside b q n c sealed lo l k.0 parts) h
 
@@ -121,7 +121,7 @@ module _ (k v : ElementSpec) (kl : IsElement k) (vl : IsElement v) where
   entry_kept b c p s keeps lo hi l o q h =
       let i = key_and_value_inside k v in
       let x : (lo ≤ h.1) × (h.1 ≤ hi) = kl.rest_in_range b p lo hi h.1 o h.2 in
-      let hk : k.holds c p lo hi h.1 = holds_outside k kl b c (p + value_offset k v) v.size s p lo hi h.1 o (inl (omega (arith, i.0))) (inl (omega arith)) h.2 in
+      let hk : k.is_valid c p lo hi h.1 = valid_outside k kl b c (p + value_offset k v) v.size s p lo hi h.1 o (inl (omega (arith, i.0))) (inl (omega arith)) h.2 in
       (h.0, h.1, hk, keeps h.1 hi l x.1 (omega arith) h.3)
 
 -- a valid value stays valid

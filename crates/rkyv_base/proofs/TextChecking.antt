@@ -7,7 +7,7 @@ use Rattle.std.proofs.lemmas.Grind.{common_steps}
 use Rattle.rkyv_base.specs.declared.errors.VerifyError.{VerifyError}
 use Rattle.rkyv_base.specs.declared.errors.VerifyError.TheVariants.{InvalidValue}
 use Rattle.rkyv_base.specs.Parts.{PartIn, PartFails}
-use Rattle.rkyv_base.specs.Text.{TextHolds, TextFails, out_of_line_begin, out_of_line_length, is_out_of_line, text_size}
+use Rattle.rkyv_base.specs.Text.{IsValidText, TextFails, out_of_line_begin, out_of_line_length, is_out_of_line, text_size}
 
 eight_fit : (w : Width) → (w ≡ w32) ⊎ (w ≡ w64) → 8 ≤ text_size w
 eight_fit w (inl e) = subst (λ v. 8 ≤ text_size v) (sym e) (omega arith)
@@ -38,7 +38,7 @@ module _ (w : Width) (s b : List ℕ) (p lo hi : ℕ) (begin : ℤ) (len : ℕ) 
   no_text_fails at e part none q =
       inr (out_of_line, inr (inr (long, at, part_decoded at part, (λ u. none (subst (λ n. IsUtf8 (slice_range b at (at + n))) (sym lens) u)), q)))
 
-  pub text_passes : (at : ℕ) → PartIn begin len 1 lo hi at → IsUtf8 (slice_range b at (at + len)) → TextHolds w s b p lo hi (at + len)
+  pub text_passes : (at : ℕ) → PartIn begin len 1 lo hi at → IsUtf8 (slice_range b at (at + len)) → IsValidText w s b p lo hi (at + len)
   text_passes at part u =
-      subst (λ n. TextHolds w s b p lo hi (at + n)) (sym lens)
+      subst (λ n. IsValidText w s b p lo hi (at + n)) (sym lens)
       (inr (out_of_line, long, at, part_decoded at part, subst (λ n. IsUtf8 (slice_range b at (at + n))) lens u, refl))

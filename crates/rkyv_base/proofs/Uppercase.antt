@@ -33,31 +33,31 @@ char_stays c h =
     (λ e3. stay_cons (240 + c / 262144) ((128 + c / 4096 % 64) ∷ two) (omega arith) (stay_cons (128 + c / 4096 % 64) two (omega arith) two_stay))))
 
 -- a character in upper case is a character, and its bytes are those in upper case
-char_raised : (c : ℕ) → map to_ascii_uppercase (encode c) ≡ encode (to_ascii_uppercase c)
-char_raised c =
+char_uppercase : (c : ℕ) → map to_ascii_uppercase (encode c) ≡ encode (to_ascii_uppercase c)
+char_uppercase c =
     elim (cases_lt c 128) [
       | inl low ↦ ap (map to_ascii_uppercase) (encode_ascii c low) ∙ sym (encode_ascii (to_ascii_uppercase c) (uppercase_ascii c low))
       | inr high ↦ char_stays c high ∙ ap encode (sym (high_stays c high))
     ]
 
-scalar_raised : (c : ℕ) → scalar c ≡ true → scalar (to_ascii_uppercase c) ≡ true
-scalar_raised c h =
+scalar_uppercase : (c : ℕ) → scalar c ≡ true → scalar (to_ascii_uppercase c) ≡ true
+scalar_uppercase c h =
     elim (cases_lt c 128) [
       | inl low ↦ low_scalar (to_ascii_uppercase c) (omega (arith, uppercase_ascii c low))
       | inr high ↦ ap scalar (high_stays c high) ∙ h
     ]
 
-chars_raised : (cs : List ℕ) → scalars cs ≡ true
+chars_uppercase : (cs : List ℕ) → scalars cs ≡ true
     → (scalars (map to_ascii_uppercase cs) ≡ true) × (encodes (map to_ascii_uppercase cs) ≡ map to_ascii_uppercase (encodes cs))
-chars_raised [] h = (refl, refl)
-chars_raised (c ∷ cs) h =
+chars_uppercase [] h = (refl, refl)
+chars_uppercase (c ∷ cs) h =
     let both : (scalar c ≡ true) × (scalars cs ≡ true) = and_parts (scalar c) (scalars cs) h in
-    let rest = chars_raised cs both.1 in (
-      rw (scalar_raised c both.0) rest.0,
-      rw (← char_raised c, rest.1) (sym (map-append to_ascii_uppercase (encode c) (encodes cs))),
+    let rest = chars_uppercase cs both.1 in (
+      rw (scalar_uppercase c both.0) rest.0,
+      rw (← char_uppercase c, rest.1) (sym (map-append to_ascii_uppercase (encode c) (encodes cs))),
     )
 
-pub utf8_raised : (t : List ℕ) → IsUtf8 t → IsUtf8 (map to_ascii_uppercase t)
-utf8_raised t u =
-    let d = chars_raised u.0 u.1.0 in
+pub utf8_uppercase : (t : List ℕ) → IsUtf8 t → IsUtf8 (map to_ascii_uppercase t)
+utf8_uppercase t u =
+    let d = chars_uppercase u.0 u.1.0 in
     (map to_ascii_uppercase u.0, (d.0, d.1 ∙ ap (map to_ascii_uppercase) u.1.1))

@@ -43,10 +43,10 @@ module _ (limit : ℕ) (next next' : List ℕ → Step → Type 0) (o o1 o2 : Ou
   faults_after f h = record {
     before = p ++ h.before;
     bytes = h.bytes;
-    comes = hn h.before (piece h.bytes) h.comes;
+    is_next = hn h.before (piece h.bytes) h.is_next;
     fits = omega (arith, end-appends o o1 p a, h.fits, length-append p h.before);
-    taken = h.taken;
-    is = ap (λ (x : List ℕ). p ++ x) h.is ∙ sym (append_assoc p h.before (take h.taken h.bytes));
+    written_len = h.written_len;
+    is = ap (λ (x : List ℕ). p ++ x) h.is ∙ sym (append_assoc p h.before (take h.written_len h.bytes));
     counted = subst (λ n. o2.failures ≡ min (n + 1) (2 ^ 64 - 1)) a.failures h.counted;
   }
 

@@ -8,7 +8,7 @@ use Rattle.rkyv_base.specs.Layout.{narrow_limit, wide_limit}
 use Rattle.rkyv_base.specs.Members.{ElementMembers}
 
 -- `b`: archive within `limit`, with a valid and aligned root at its end
-pub record Accepted (limit : ℕ) (s : ElementSpec) (b : List ℕ) : Type 0 where
+pub record IsValidArchive (limit : ℕ) (s : ElementSpec) (b : List ℕ) : Type 0 where
   pub within : length b ≤ limit
   pub inside : s.size ≤ length b
   pub aligned : (length b - s.size) % s.align ≡ 0
@@ -18,7 +18,7 @@ pub record Accepted (limit : ℕ) (s : ElementSpec) (b : List ℕ) : Type 0 wher
 -- `element`: element of the root, and the native values that its values represent
 pub record IsArchive {V : Type 0} (limit : ℕ) (element : ElementMembers V) (b : List ℕ) (value : V)
     : Type 0 where
-  pub accepted : Accepted limit element.spec b
+  pub accepted : IsValidArchive limit element.spec b
   pub represents : element.represents b (length b - element.spec.size) value
 
 -- `b`: narrow archive of the native value
@@ -44,13 +44,13 @@ AccessFails limit s b e =
 abbrev pub AccessWrites : {R : Type 0} → ℕ → ElementSpec → (R → List ℕ → ℕ → List ℕ → Type 0)
     → List ℕ → List ℕ → Result R VerifyError → Type 0
 AccessWrites limit s Writes b c result = MatchResult result
-    (λ r. Accepted limit s b × Writes r b (length b - s.size) c)
+    (λ r. IsValidArchive limit s b × Writes r b (length b - s.size) c)
     (λ e. AccessFails limit s b e × (c ≡ b))
 
 -- `result`: `Ok` if and only if `b` is an archive within `limit` with a valid root. An error is
 -- its first fault
 abbrev pub Opens : {R : Type 0} → ℕ → ElementSpec → List ℕ → Result R VerifyError → Type 0
-Opens limit s b result = MatchResult result (λ _. Accepted limit s b) (AccessFails limit s b)
+Opens limit s b result = MatchResult result (λ _. IsValidArchive limit s b) (AccessFails limit s b)
 
 -- the same of a narrow archive
 abbrev pub OpensNarrow : {R : Type 0} → ElementSpec → List ℕ → Result R VerifyError → Type 0

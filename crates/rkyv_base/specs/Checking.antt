@@ -6,7 +6,7 @@ use Rattle.rkyv_base.specs.ElementSpec.{ElementSpec}
 
 -- `rest`: rest of the range after the parts of the valid value at `p`
 abbrev pub Passes : ElementSpec → List ℕ → ℕ → PartRange → PartRange → Type 0
-Passes s b p range rest = (rest.hi ≡ range.hi) × s.holds b p range.lo range.hi rest.lo
+Passes s b p range rest = (rest.hi ≡ range.hi) × s.is_valid b p range.lo range.hi rest.lo
 
 -- `e`: first fault of the bytes at `p`, which are not a valid value
 abbrev pub Fails : ElementSpec → List ℕ → ℕ → PartRange → VerifyError → Type 0

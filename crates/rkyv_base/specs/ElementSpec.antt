@@ -3,13 +3,13 @@ use Rattle.std.specs.Prelude.{◌≡◌, ℕ, ◌+◌, ◌%◌, ◌≤◌, ◌�
 use Rattle.rkyv_base.specs.declared.errors.VerifyError.{VerifyError}
 use Rattle.rkyv_base.specs.Bytes.{AgreeOn}
 
--- `holds b p lo hi l`: the bytes `b` have a valid value at `p`.
+-- `is_valid b p lo hi l`: the bytes `b` have a valid value at `p`.
 -- Its parts are from `lo` on and below `hi`, and the next part may begin at `l`.
 -- `fails b p lo hi e`: `e` is the first fault of the bytes at `p`.
 pub record ElementSpec : Type 1 where
   pub size : ℕ
   pub align : ℕ
-  pub holds : List ℕ → ℕ → ℕ → ℕ → ℕ → Type 0
+  pub is_valid : List ℕ → ℕ → ℕ → ℕ → ℕ → Type 0
   pub fails : List ℕ → ℕ → ℕ → ℕ → VerifyError → Type 0
 
 -- an alignment
@@ -26,27 +26,28 @@ pub record IsElement (s : ElementSpec) : Type 0 where
   pub align_is : IsAlign s.align
   pub size_whole : s.size % s.align ≡ 0
   pub size_small : s.size ≤ 1073741824
-  pub proper : (b : List ℕ) (p lo hi l : ℕ) → IsProp (s.holds b p lo hi l)
-  pub rest_in_range : (b : List ℕ) (p lo hi l : ℕ) → lo ≤ hi → s.holds b p lo hi l
+  pub proper : (b : List ℕ) (p lo hi l : ℕ) → IsProp (s.is_valid b p lo hi l)
+  pub rest_in_range : (b : List ℕ) (p lo hi l : ℕ) → lo ≤ hi → s.is_valid b p lo hi l
       → (lo ≤ l) × (l ≤ hi)
-  pub rest_unique : (b : List ℕ) (p lo hi l l' : ℕ) → s.holds b p lo hi l → s.holds b p lo hi l'
+  pub rest_unique : (b : List ℕ) (p lo hi l l' : ℕ) → s.is_valid b p lo hi l
+      → s.is_valid b p lo hi l'
       → l ≡ l'
-  pub exclusive : (b : List ℕ) (p lo hi l : ℕ) (e : VerifyError) → s.holds b p lo hi l
+  pub exclusive : (b : List ℕ) (p lo hi l : ℕ) (e : VerifyError) → s.is_valid b p lo hi l
       → s.fails b p lo hi e → ⊥
   pub one_failure : (b : List ℕ) (p lo hi : ℕ) (e e' : VerifyError) → s.fails b p lo hi e
       → s.fails b p lo hi e' → e ≡ e'
-  pub widen_hi : (b : List ℕ) (p lo hi hi' l : ℕ) → hi ≤ hi' → s.holds b p lo hi l
-      → s.holds b p lo hi' l
-  pub lower_lo : (b : List ℕ) (p lo lo' hi l : ℕ) → lo' ≤ lo → lo ≤ hi → s.holds b p lo hi l
+  pub widen_hi : (b : List ℕ) (p lo hi hi' l : ℕ) → hi ≤ hi' → s.is_valid b p lo hi l
+      → s.is_valid b p lo hi' l
+  pub lower_lo : (b : List ℕ) (p lo lo' hi l : ℕ) → lo' ≤ lo → lo ≤ hi → s.is_valid b p lo hi l
       → (l' : ℕ)
-      × s.holds b p lo' hi l' × (l' ≤ l)
+      × s.is_valid b p lo' hi l' × (l' ≤ l)
   pub local : (b c : List ℕ) (p lo hi l : ℕ) → lo ≤ hi → AgreeOn b c p (p + s.size)
       → AgreeOn b c lo l
-      → s.holds b p lo hi l → s.holds c p lo hi l
+      → s.is_valid b p lo hi l → s.is_valid c p lo hi l
 
 -- the bytes have a valid value at `p`, whose parts are anywhere before it
 abbrev pub ValidAt : ElementSpec → List ℕ → ℕ → Type 0
-ValidAt s b p = (l : ℕ) × s.holds b p 0 p l
+ValidAt s b p = (l : ℕ) × s.is_valid b p 0 p l
 
 -- the bytes `b` have a valid value at `p`, which is inside the bytes and aligned
 pub record Viewable (s : ElementSpec) (b : List ℕ) (p : ℕ) : Type 0 where

@@ -28,16 +28,16 @@ abbrev pub size_of_whole : ℕ → ℕ
 size_of_whole whole = if nat_le whole 1073741824 then whole else 0
 
 -- the bytes at `p` are a valid entry: a valid key, followed by a valid value
-abbrev pub EntryHolds : ElementSpec → ElementSpec → List ℕ → ℕ → ℕ → ℕ → ℕ → Type 0
-EntryHolds k v b p lo hi l = IsSmall k v × (m : ℕ) × k.holds b p lo hi m
-    × v.holds b (p + value_offset k v) m hi l
+abbrev pub IsValidEntry : ElementSpec → ElementSpec → List ℕ → ℕ → ℕ → ℕ → ℕ → Type 0
+IsValidEntry k v b p lo hi l = IsSmall k v × (m : ℕ) × k.is_valid b p lo hi m
+    × v.is_valid b (p + value_offset k v) m hi l
 
 -- `e`: first fault of the entry at `p`. It is too large, or its key or its value is invalid
 abbrev pub EntryFails : ElementSpec → ElementSpec → List ℕ → ℕ → ℕ → ℕ → VerifyError → Type 0
 EntryFails k v b p lo hi e =
     ((1073741824 < whole_size k v) × (e ≡ Refused 0))
     ⊎ (IsSmall k v × (k.fails b p lo hi e
-    ⊎ ((m : ℕ) × k.holds b p lo hi m × v.fails b (p + value_offset k v) m hi e)))
+    ⊎ ((m : ℕ) × k.is_valid b p lo hi m × v.fails b (p + value_offset k v) m hi e)))
 
 -- `b` and `c` agree on all bytes of an entry's key and value. The value's parts begin at `m`
 pub record EntriesAgree (k v : ElementSpec) (b c : List ℕ) (p lo hi m l : ℕ) : Type 0 where
@@ -52,6 +52,6 @@ abbrev pub entry_spec : ElementSpec → ElementSpec → ElementSpec
 entry_spec k v = record {
   size = size_of_whole (whole_size k v);
   align = max k.align v.align;
-  holds = EntryHolds k v;
+  is_valid = IsValidEntry k v;
   fails = EntryFails k v;
 }

@@ -26,12 +26,12 @@ pub record IsFormat {V R : Type 0} (s : ElementSpec) (represents : List ℕ → 
   pub sound : (v : V) (r : R) (c : List ℕ) (p0 p : ℕ) (part out : List ℕ) → f.parts v p0 part r
       → f.image v r p out
       → OccursAt c p0 part → OccursAt c p out → p0 + length part ≤ p → p % s.align ≡ 0
-      → (l : ℕ) × s.holds c p p0 (p0 + length part) l × represents c p v
+      → (l : ℕ) × s.is_valid c p p0 (p0 + length part) l × represents c p v
 
 -- the represented value depends only on the bytes on which validity depends
 abbrev pub RepresentsLocally : {V : Type 0} → ElementSpec → (List ℕ → ℕ → V → Type 0) → Type 0
 RepresentsLocally {V = V} s represents = (v : V) (b c : List ℕ) (p lo hi l : ℕ) → lo ≤ hi
-    → s.holds b p lo hi l
+    → s.is_valid b p lo hi l
     → AgreeOn b c p (p + s.size) → AgreeOn b c lo l → represents b p v → represents c p v
 
 -- the value was serialized: its parts were appended, within the limit

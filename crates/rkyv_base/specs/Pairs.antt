@@ -2,7 +2,7 @@
 -- zeros, the value and zeros.
 use Rattle.std.specs.Prelude.{◌≡◌, ℕ, ◌+◌, ◌-◌, ◌<◌, ◌⊎◌, List, [], ◌++◌, length}
 use Rattle.rkyv_base.specs.declared.pairs.EntryResolver.{EntryResolver}
-use Rattle.rkyv_base.specs.Writing.{Step, refusal, refused, zeros}
+use Rattle.rkyv_base.specs.Writing.{Step, failure, refused, zeros}
 use Rattle.rkyv_base.specs.ElementSpec.{ElementSpec}
 use Rattle.rkyv_base.specs.Entry.{value_offset, whole_size, IsSmall}
 use Rattle.rkyv_base.specs.Format.{Format}
@@ -28,10 +28,10 @@ module _ {V W R Q : Type 0} (k v : ElementSpec) (kf : Format V R) (vf : Format W
       IsSmall k v × (a : List ℕ) × (b : List ℕ) × kf.parts pair.0 p a r.key
       × vf.parts pair.1 (p + length a) b r.value × (part ≡ a ++ b)
 
-  -- `step`: refusal of an entry that is too large, or next step of the key or the value
+  -- `step`: failure of an entry that is too large, or next step of the key or the value
   abbrev pub PairNext : V × W → ℕ → List ℕ → Step → Type 0
   PairNext pair p front step =
-      ((1073741824 < whole_size k v) × (front ≡ []) × (step ≡ refusal (refused 0)))
+      ((1073741824 < whole_size k v) × (front ≡ []) × (step ≡ failure (refused 0)))
       ⊎ (IsSmall k v × (kf.next pair.0 p front step
       ⊎ ((a : List ℕ) × (r : R) × (rest : List ℕ) × kf.parts pair.0 p a r
       × vf.next pair.1 (p + length a) rest step × (front ≡ a ++ rest))))
@@ -59,11 +59,11 @@ module _ {V W R Q : Type 0} (k v : ElementSpec) (kf : Format V R) (vf : Format W
         PairOverflows;
   }
 
--- the format `f` for values of another type, which `seen` maps to the values `V`
+-- the format `f` for values of another type, which `as_value` maps to the values `V`
 abbrev pub written_as : {X V R : Type 0} → (X → V) → Format V R → Format X R
-written_as seen f = record {
-  parts = λ x. f.parts (seen x);
-  next = λ x. f.next (seen x);
-  image = λ x. f.image (seen x);
-  overflow = λ x. f.overflow (seen x);
+written_as as_value f = record {
+  parts = λ x. f.parts (as_value x);
+  next = λ x. f.next (as_value x);
+  image = λ x. f.image (as_value x);
+  overflow = λ x. f.overflow (as_value x);
 }

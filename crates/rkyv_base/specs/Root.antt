@@ -26,12 +26,12 @@ use Rattle.rkyv_base.specs.Writing.{
   no_memory,
   padding,
   piece,
-  refusal,
+  failure,
   zeros,
 }
 use Rattle.rkyv_base.specs.ElementSpec.{ElementSpec}
 use Rattle.rkyv_base.specs.Entry.{round_up}
-use Rattle.rkyv_base.specs.Access.{Accepted, IsArchive}
+use Rattle.rkyv_base.specs.Access.{IsValidArchive, IsArchive}
 use Rattle.rkyv_base.specs.Format.{Format}
 use Rattle.rkyv_base.specs.Layout.{narrow_limit, wide_limit}
 use Rattle.rkyv_base.specs.Members.{ElementMembers}
@@ -48,13 +48,13 @@ module _ {V R : Type 0} (align : ℕ) (f : Format V R) (v : V) (p : ℕ) where
   abbrev pub ValueStep : List ℕ → R → Step → Type 0
   ValueStep part r step =
       ((out : List ℕ) × f.image v r (round_up (p + length part) align) out × (step ≡ piece out))
-      ⊎ (f.overflow v r (round_up (p + length part) align) × (step ≡ refusal distance))
+      ⊎ (f.overflow v r (round_up (p + length part) align) × (step ≡ failure distance))
 
   -- `step`: next step of writing a root after `front`. It is an allocation failure,
   -- a step of the value, the zeros, or the fixed bytes
   abbrev pub RootNext : List ℕ → Step → Type 0
   RootNext front step =
-      Only (refusal no_memory) front step
+      Only (failure no_memory) front step
       ⊎ f.next v p front step
       ⊎ ((r : R) × f.parts v p front r × (step ≡ piece (zeros (padding align (p + length front)))))
       ⊎ ((part : List ℕ) × (r : R) × f.parts v p part r
@@ -96,7 +96,7 @@ fresh = record { start = 0; bytes = []; failures = 0 }
 abbrev pub ArchiveOf : {V R : Type 0} → ℕ → ElementSpec → (List ℕ → ℕ → V → Type 0) → Format V R → V
     → List ℕ → Type 0
 ArchiveOf limit s represents f v b =
-    Accepted limit s b × represents b (length b - s.size) v
+    IsValidArchive limit s b × represents b (length b - s.size) v
     × RootBytes s.align f v 0 b (length b - s.size)
 
 -- `e`: error of writing the value `v` to memory

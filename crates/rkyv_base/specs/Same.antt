@@ -10,7 +10,7 @@ use Rattle.rkyv_base.specs.Writing.{Step}
 pub record SameSpec (s t : ElementSpec) : Type 0 where
   pub size : s.size ≡ t.size
   pub align : s.align ≡ t.align
-  pub holds : (b : List ℕ) (p lo hi l : ℕ) → s.holds b p lo hi l ↔ t.holds b p lo hi l
+  pub is_valid : (b : List ℕ) (p lo hi l : ℕ) → s.is_valid b p lo hi l ↔ t.is_valid b p lo hi l
   pub fails : (b : List ℕ) (p lo hi : ℕ) (e : VerifyError) → s.fails b p lo hi e
       ↔ t.fails b p lo hi e
 

@@ -28,8 +28,8 @@ pub record Encodes {V : Type 0} (encoding : Encoding V) (v : V) (out : List ℕ)
   pub reads_back : encoding.value (encoding.code v) ≡ v
 
 -- the number at `p` is that of a value. A scalar has no parts
-abbrev pub ScalarHolds : {V : Type 0} → Encoding V → List ℕ → ℕ → ℕ → ℕ → ℕ → Type 0
-ScalarHolds e b p lo hi l = (l ≡ lo) × e.IsCode (number_at e.word b p)
+abbrev pub IsValidScalar : {V : Type 0} → Encoding V → List ℕ → ℕ → ℕ → ℕ → ℕ → Type 0
+IsValidScalar e b p lo hi l = (l ≡ lo) × e.IsCode (number_at e.word b p)
 
 -- `error`: `InvalidValue` of `p`, whose number is that of no value
 abbrev pub ScalarFails : {V : Type 0} → Encoding V → List ℕ → ℕ → ℕ → ℕ → VerifyError → Type 0
@@ -40,7 +40,7 @@ abbrev pub scalar_spec : {V : Type 0} → Encoding V → ElementSpec
 scalar_spec e = record {
   size = byte_len e.word;
   align = byte_len e.word;
-  holds = ScalarHolds e;
+  is_valid = IsValidScalar e;
   fails = ScalarFails e;
 }
 
@@ -57,7 +57,7 @@ pub record IsScalar {V : Type 0} (s : ElementSpec) (e : Encoding V) : Type 0 whe
   pub word : IsWord e.word
   pub size : s.size ≡ byte_len e.word
   pub align : s.align ≡ byte_len e.word
-  pub holds : (b : List ℕ) (p lo hi l : ℕ) → s.holds b p lo hi l ↔ ScalarHolds e b p lo hi l
+  pub is_valid : (b : List ℕ) (p lo hi l : ℕ) → s.is_valid b p lo hi l ↔ IsValidScalar e b p lo hi l
   pub fails : (b : List ℕ) (p lo hi : ℕ) (error : VerifyError) → s.fails b p lo hi error
       ↔ ScalarFails e b p lo hi error
 

@@ -6,14 +6,14 @@ use Rattle.rkyv_base.specs.declared.seal.Seal.{Seal}
 use Rattle.rkyv_base.specs.ElementSpec.{ElementSpec}
 
 -- the reference `lender` with the same bytes, and the position `p`
-pub record LentAt (lent : MutBor (List ℕ)) (at : ℕ) (lender : MutBor (List ℕ)) (p : ℕ) : Type
+pub record BorrowsAt (lent : MutBor (List ℕ)) (at : ℕ) (lender : MutBor (List ℕ)) (p : ℕ) : Type
     0 where
   pub same_reference : lent.ghost_name ≡ lender.ghost_name
   pub bytes : lent.now ≡ lender.now
   pub place : at ≡ p
 
 -- the same reference, whose bytes may have changed, and the same position
-pub record StaysLent (lent lent' : MutBor (List ℕ)) (at at' : ℕ) : Type 0 where
+pub record IsSameBorrow (lent lent' : MutBor (List ℕ)) (at at' : ℕ) : Type 0 where
   pub same_reference : lent'.ghost_name ≡ lent.ghost_name
   pub place : at' ≡ at
 
@@ -35,19 +35,19 @@ pos_in s = s.pos
 
 -- the seal `s` is at position `p` of the bytes of `lender`
 abbrev pub SealAt : {T : Type 0} → Seal T → MutBor (List ℕ) → ℕ → Type 0
-SealAt s lender p = LentAt s.bytes s.pos lender p
+SealAt s lender p = BorrowsAt s.bytes s.pos lender p
 
 -- the archive seal `s` is at position `p` of the bytes of `lender`
 abbrev pub ArchiveAt : {T : Type 0} → ArchiveSeal T → MutBor (List ℕ) → ℕ → Type 0
-ArchiveAt s lender p = LentAt s.archive s.pos lender p
+ArchiveAt s lender p = BorrowsAt s.archive s.pos lender p
 
 -- the seal `s'` has the reference and the position of `s`, and its bytes may have changed
 abbrev pub SealStays : {T : Type 0} → Seal T → Seal T → Type 0
-SealStays s s' = StaysLent s.bytes s'.bytes s.pos s'.pos
+SealStays s s' = IsSameBorrow s.bytes s'.bytes s.pos s'.pos
 
 -- the archive seal `s'` has the reference and the position of `s`, and its bytes may have changed
 abbrev pub ArchiveStays : {T : Type 0} → ArchiveSeal T → ArchiveSeal T → Type 0
-ArchiveStays s s' = StaysLent s.archive s'.archive s.pos s'.pos
+ArchiveStays s s' = IsSameBorrow s.archive s'.archive s.pos s'.pos
 
 -- the fixed bytes of the value end inside the borrowed bytes
 abbrev pub LiesIn : {T : Type 0} → ElementSpec → Seal T → Type 0

@@ -32,6 +32,6 @@ with_uppercase w b p = with_bytes b p (length (inline_at w b p))
     (map to_ascii_uppercase (inline_at w b p))
 
 -- `c`: bytes `b` with the text at `p` in upper case, if it is inline, and else `b` itself
-abbrev pub Raised : Width → List ℕ → ℕ → List ℕ → Bool → Type 0
-Raised w b p c inline = MatchBool inline (IsInline w b p × (c ≡ with_uppercase w b p))
+abbrev pub Uppercases : Width → List ℕ → ℕ → List ℕ → Bool → Type 0
+Uppercases w b p c inline = MatchBool inline (IsInline w b p × (c ≡ with_uppercase w b p))
     (IsOutOfLine w b p × (c ≡ b))

@@ -34,7 +34,7 @@ pub record Sealed (b : List ℕ) (p n : ℕ) (c : List ℕ) : Type 0 where
 
 -- a valid value at `p` in `b` is valid in `c`, with the same parts
 abbrev pub Keeps : ElementSpec → List ℕ → List ℕ → ℕ → Type 0
-Keeps s b c p = (lo hi l : ℕ) → lo ≤ hi → hi ≤ p → s.holds b p lo hi l → s.holds c p lo hi l
+Keeps s b c p = (lo hi l : ℕ) → lo ≤ hi → hi ≤ p → s.is_valid b p lo hi l → s.is_valid c p lo hi l
 
 -- the entry at `p` stays valid after each write to its value's bytes alone
 -- that keeps the value valid

@@ -57,20 +57,20 @@ abbrev pub TextReads : Width → List ℕ → ℕ → List ℕ → Type 0
 TextReads w b p t = text_at w b p ≡ t
 
 -- the fixed bytes `s` are a valid inline text, without parts
-abbrev pub InlineHolds : List ℕ → ℕ → ℕ → Type 0
-InlineHolds s lo l = (is_out_of_line s ≡ false) × IsUtf8 (inline_text s) × (l ≡ lo)
+abbrev pub IsValidInline : List ℕ → ℕ → ℕ → Type 0
+IsValidInline s lo l = (is_out_of_line s ≡ false) × IsUtf8 (inline_text s) × (l ≡ lo)
 
 -- the fixed bytes `s` are of a valid out-of-line text: it is too long
 -- to be inline, in the range, and UTF-8
-abbrev pub OutOfLineHolds : Width → List ℕ → List ℕ → ℕ → ℕ → ℕ → ℕ → Type 0
-OutOfLineHolds w s b p lo hi l =
+abbrev pub IsValidOutOfLine : Width → List ℕ → List ℕ → ℕ → ℕ → ℕ → ℕ → Type 0
+IsValidOutOfLine w s b p lo hi l =
     (is_out_of_line s ≡ true) × (text_size w < out_of_line_length w s)
     × (at : ℕ) × PartIn (out_of_line_begin w s p) (out_of_line_length w s) 1 lo hi at
     × IsUtf8 (slice_range b at (at + out_of_line_length w s)) × (l ≡ at + out_of_line_length w s)
 
 -- the fixed bytes `s` at `p` are a valid text
-abbrev pub TextHolds : Width → List ℕ → List ℕ → ℕ → ℕ → ℕ → ℕ → Type 0
-TextHolds w s b p lo hi l = InlineHolds s lo l ⊎ OutOfLineHolds w s b p lo hi l
+abbrev pub IsValidText : Width → List ℕ → List ℕ → ℕ → ℕ → ℕ → ℕ → Type 0
+IsValidText w s b p lo hi l = IsValidInline s lo l ⊎ IsValidOutOfLine w s b p lo hi l
 
 -- `e`: fault of out-of-line text. It could be inline, or its part has a fault, or it isn't UTF-8
 abbrev pub OutOfLineFails : Width → List ℕ → List ℕ → ℕ → ℕ → ℕ → VerifyError → Type 0
@@ -93,7 +93,7 @@ abbrev pub text_spec : Width → ElementSpec
 text_spec w = record {
   size = text_size w;
   align = byte_len w;
-  holds = λ b p lo hi l. TextHolds w (fixed_bytes w b p) b p lo hi l;
+  is_valid = λ b p lo hi l. IsValidText w (fixed_bytes w b p) b p lo hi l;
   fails = λ b p lo hi e. TextFails w (fixed_bytes w b p) b p lo hi e;
 }
 

@@ -6,11 +6,11 @@ use Rattle.std.specs.Int.{Width, to_le_bytes, cast_unsigned}
 use Rattle.std.specs.Str.{IsUtf8}
 use mir.Val.{bits}
 use Rattle.rkyv_base.specs.declared.strings.TextResolver.{TextResolver}
-use Rattle.rkyv_base.specs.Writing.{Only, Step, long_text, piece, refusal}
+use Rattle.rkyv_base.specs.Writing.{Only, Step, long_text, piece, failure}
 use Rattle.rkyv_base.specs.Format.{Format}
 use Rattle.rkyv_base.specs.Text.{text_size}
 
--- the least length of a text that is refused
+-- the least length of a text that can't be written
 abbrev pub text_limit : Width → ℕ
 text_limit w = 2 ^ bits w / 4
 
@@ -22,7 +22,7 @@ IsShort w t = length t ≤ text_size w
 abbrev pub IsLong : Width → List ℕ → Type 0
 IsLong w t = (text_size w < length t) × (length t < text_limit w)
 
--- the text `t` is refused
+-- the text `t` can't be written
 abbrev pub IsTooLong : Width → List ℕ → Type 0
 IsTooLong w t = text_limit w ≤ length t
 
@@ -47,7 +47,7 @@ TextParts w t p part r =
 -- `step`: the text in one piece if it is out of line, or the error for a text that is too long
 abbrev pub TextNext : Width → List ℕ → ℕ → List ℕ → Step → Type 0
 TextNext w t p front step = (IsLong w t × Only (piece t) front step)
-    ⊎ (IsTooLong w t × Only (refusal long_text) front step)
+    ⊎ (IsTooLong w t × Only (failure long_text) front step)
 
 -- `out`: fixed bytes of the text `t`. They may be any if it is too long,
 -- since such a text is never serialized

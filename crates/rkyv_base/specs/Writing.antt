@@ -69,19 +69,19 @@ pub record Faults (o o' : Output) (bytes : List ℕ) : Type 0 where
   pub counted : FailedOnce o o'
 
 -- the reason for which a value can't be written, or an allocation failure
-pub data Refusal : Type 0 where
-  load_factor : ℕ → ℕ → Refusal
-  mismatch : ℕ → ℕ → Refusal
-  capacity : ℕ → Refusal
-  distance : Refusal
-  long_text : Refusal
-  no_memory : Refusal
-  refused : ℕ → Refusal
+pub data WriteFailure : Type 0 where
+  load_factor : ℕ → ℕ → WriteFailure
+  mismatch : ℕ → ℕ → WriteFailure
+  capacity : ℕ → WriteFailure
+  distance : WriteFailure
+  long_text : WriteFailure
+  no_memory : WriteFailure
+  refused : ℕ → WriteFailure
 
--- the next step of a write: a piece to be appended, or a refusal
+-- the next step of a write: a piece to be appended, or a failure
 pub data Step : Type 0 where
   piece : List ℕ → Step
-  refusal : Refusal → Step
+  failure : WriteFailure → Step
 
 -- `part` is empty, or it ends within the limit
 abbrev pub Within : ℕ → Output → List ℕ → Type 0
@@ -98,29 +98,29 @@ pub record FaultsDuring (limit : ℕ) (next : List ℕ → Step → Type 0) (o o
     (front : List ℕ) : Type 0 where
   pub before : List ℕ
   pub bytes : List ℕ
-  pub comes : next before (piece bytes)
+  pub is_next : next before (piece bytes)
   pub fits : end_of o + length before + length bytes ≤ limit
-  pub taken : ℕ
-  pub is : front ≡ before ++ take taken bytes
+  pub written_len : ℕ
+  pub is : front ≡ before ++ take written_len bytes
   pub counted : FailedOnce o o'
 
 -- the condition of an error after `front` was appended. `next front step`: `step` follows `front`
 abbrev pub CauseApplies : {F : Type 0} → ℕ → (List ℕ → Step → Type 0) → Output → Output → List ℕ
     → WriteError F → Type 0
 CauseApplies limit next o o' front (InvalidLoadFactor n d) =
-    Reached limit next o o' front (refusal (load_factor n d))
+    Reached limit next o o' front (failure (load_factor n d))
 CauseApplies limit next o o' front (IteratorLengthMismatch m) =
-    Reached limit next o o' front (refusal (mismatch m.expected m.actual))
+    Reached limit next o o' front (failure (mismatch m.expected m.actual))
 CauseApplies limit next o o' front (CapacityTooLarge n) =
-    Reached limit next o o' front (refusal (capacity n))
+    Reached limit next o o' front (failure (capacity n))
 CauseApplies limit next o o' front PositionTooLarge = (bytes : List ℕ)
     × Reached limit next o o' front (piece bytes) × (limit < end_of o' + length bytes)
 CauseApplies limit next o o' front DistanceTooLarge =
-    Reached limit next o o' front (refusal distance)
-CauseApplies limit next o o' front TextTooLong = Reached limit next o o' front (refusal long_text)
+    Reached limit next o o' front (failure distance)
+CauseApplies limit next o o' front TextTooLong = Reached limit next o o' front (failure long_text)
 CauseApplies limit next o o' front (Writer f) = FaultsDuring limit next o o' front
-CauseApplies limit next o o' front Memory = Reached limit next o o' front (refusal no_memory)
-CauseApplies limit next o o' front (Refused n) = Reached limit next o o' front (refusal (refused n))
+CauseApplies limit next o o' front Memory = Reached limit next o o' front (failure no_memory)
+CauseApplies limit next o o' front (Refused n) = Reached limit next o o' front (failure (refused n))
 
 -- a write failed with `e`: `front` was appended to the unchanged earlier bytes,
 -- and the condition of `e` is met

@@ -9,7 +9,7 @@
 //! The others are for narrow archives.
 
 ghost use Rattle.std.specs.Prelude.{◌-◌, length, IfOk, IsOk, MatchResult};
-ghost use Rattle.rkyv_base.specs.Access.{AccessFails, AccessWrites, Accepted};
+ghost use Rattle.rkyv_base.specs.Access.{AccessFails, AccessWrites, IsValidArchive};
 ghost use Rattle.rkyv_base.specs.Layout.{narrow_limit};
 ghost use Rattle.rkyv_base.specs.ClosureWrites.{MayWrite, Wrote};
 ghost use Rattle.rkyv_base.specs.Seal.{ArchiveAt, archive_in, pos_in};
@@ -43,10 +43,10 @@ use crate::width::{Narrow, Width};
 #[inline]
 pub fn access_in<'a, W: Width, T: Element>(bytes: &'a [u8]) -> Result<View<'a, T>, VerifyError>
     ensures root { MatchResult result
-        (λ v. Accepted W.LIMIT T.spec bytes.now
+        (λ v. IsValidArchive W.LIMIT T.spec bytes.now
         × IsAt v bytes.entry (length bytes.now - T.spec.size))
         (AccessFails W.LIMIT T.spec bytes.now) }
-    ensures accepts { Accepted W.LIMIT T.spec bytes.now → IsOk result }
+    ensures accepts { IsValidArchive W.LIMIT T.spec bytes.now → IsOk result }
     ensures viewable { IfOk result (IsValidView T.spec) }
 {
     let len = bytes.len() as u64;
@@ -90,10 +90,10 @@ pub fn access_in<'a, W: Width, T: Element>(bytes: &'a [u8]) -> Result<View<'a, T
 #[inline]
 pub fn access<'a, T: Element>(bytes: &'a [u8]) -> Result<View<'a, T>, VerifyError>
     ensures root { MatchResult result
-        (λ v. Accepted narrow_limit T.spec bytes.now
+        (λ v. IsValidArchive narrow_limit T.spec bytes.now
         × IsAt v bytes.entry (length bytes.now - T.spec.size))
         (AccessFails narrow_limit T.spec bytes.now) }
-    ensures accepts { Accepted narrow_limit T.spec bytes.now → IsOk result }
+    ensures accepts { IsValidArchive narrow_limit T.spec bytes.now → IsOk result }
     ensures viewable { IfOk result (IsValidView T.spec) }
 {
     access_in::<Narrow, T>(bytes)
@@ -153,10 +153,10 @@ pub fn access_mut_in<'a, W: Width, T: Element>(
     bytes: &'a mut [u8],
 ) -> Result<ArchiveSeal<'a, T>, VerifyError>
     ensures root { MatchResult result
-        (λ s. Accepted W.LIMIT T.spec bytes.old
+        (λ s. IsValidArchive W.LIMIT T.spec bytes.old
         × ArchiveAt s bytes.entry (length bytes.old - T.spec.size))
         (AccessFails W.LIMIT T.spec bytes.old) }
-    ensures accepts { Accepted W.LIMIT T.spec bytes.old → IsOk result }
+    ensures accepts { IsValidArchive W.LIMIT T.spec bytes.old → IsOk result }
     ensures viewable { IfOk result (λ s. Viewable T.spec (archive_in s) (pos_in s)) }
 {
     let pos = access_in::<W, T>(&*bytes)?.pos();
@@ -191,10 +191,10 @@ pub fn access_mut_in<'a, W: Width, T: Element>(
 #[inline]
 pub fn access_mut<'a, T: Element>(bytes: &'a mut [u8]) -> Result<ArchiveSeal<'a, T>, VerifyError>
     ensures root { MatchResult result
-        (λ s. Accepted narrow_limit T.spec bytes.old
+        (λ s. IsValidArchive narrow_limit T.spec bytes.old
         × ArchiveAt s bytes.entry (length bytes.old - T.spec.size))
         (AccessFails narrow_limit T.spec bytes.old) }
-    ensures accepts { Accepted narrow_limit T.spec bytes.old → IsOk result }
+    ensures accepts { IsValidArchive narrow_limit T.spec bytes.old → IsOk result }
     ensures viewable { IfOk result (λ s. Viewable T.spec (archive_in s) (pos_in s)) }
 {
     access_mut_in::<Narrow, T>(bytes)
@@ -227,10 +227,10 @@ pub fn access_mut_with_in<W: Width, T: Element, R, F: FnOnce(&mut [u8], u64) -> 
     bytes: &mut [u8],
     write: F,
 ) -> Result<R, VerifyError>
-    requires { Accepted W.LIMIT T.spec bytes.old
+    requires { IsValidArchive W.LIMIT T.spec bytes.old
         → MayWrite F.pre write bytes.old (length bytes.old - T.spec.size) }
     ensures root { AccessWrites W.LIMIT T.spec (Wrote F.post write) bytes.old bytes.new result }
-    ensures accepts { Accepted W.LIMIT T.spec bytes.old → IsOk result }
+    ensures accepts { IsValidArchive W.LIMIT T.spec bytes.old → IsOk result }
 {
     let root = access_in::<W, T>(&*bytes)?.pos();
     Ok(write(bytes, root))
@@ -263,11 +263,11 @@ pub fn access_mut_with<T: Element, R, F: FnOnce(&mut [u8], u64) -> R>(
     bytes: &mut [u8],
     write: F,
 ) -> Result<R, VerifyError>
-    requires { Accepted narrow_limit T.spec bytes.old
+    requires { IsValidArchive narrow_limit T.spec bytes.old
         → MayWrite F.pre write bytes.old (length bytes.old - T.spec.size) }
     ensures root { AccessWrites narrow_limit T.spec
         (Wrote F.post write) bytes.old bytes.new result }
-    ensures accepts { Accepted narrow_limit T.spec bytes.old → IsOk result }
+    ensures accepts { IsValidArchive narrow_limit T.spec bytes.old → IsOk result }
 {
     access_mut_with_in::<Narrow, T, _, _>(bytes, write)
 }

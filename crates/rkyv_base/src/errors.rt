@@ -90,7 +90,7 @@ pub enum VerifyError {
     /// The fixed bytes at this position, or its text, are not a valid value of their type.
     #[error("invalid value at {pos}")]
     InvalidValue { pos: u64 },
-    /// The element refuses every value, for a reason of its type.
+    /// The element rejects every value, for a reason of its type.
     ///
     /// The number of an entry that is too large is 0.
     #[error("refused {0}")]
@@ -103,7 +103,7 @@ pub enum ReadError {
     /// Memory could not be allocated for the value.
     #[error("no memory")]
     Memory,
-    /// The type refuses the value, for a reason of its own.
+    /// The type rejects the value, for a reason of its own.
     #[error("refused {0}")]
     Refused(u32),
 }

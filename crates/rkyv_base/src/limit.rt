@@ -149,7 +149,7 @@ impl<W: Writer> Writer for LimitWriter<W> {
         ensures limit { Counts W.output self.old self.new }
         ensures inner { OnOk result (InnerTook W.output self.old self.new bytes.now) }
         ensures fault { IfErr result (LimitWriteFails W.output self.old self.new bytes.now) }
-        ensures unasked { self.old.left ≡ 0 → 0 < length bytes.now
+        ensures inner_unchanged { self.old.left ≡ 0 → 0 < length bytes.now
             → self.new.inner ≡ self.old.inner }
     {
         let left = self.left as usize;

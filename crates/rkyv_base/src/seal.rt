@@ -128,7 +128,7 @@ pub fn set_at<N: Scalar>(bytes: &mut [u8], pos: usize, value: N)
     ensures sealed { Sealed bytes.old pos (N.spec.size) bytes.new }
     ensures reads { value_at N.encoding bytes.new pos ≡ value }
     ensures value { IsValueAt N.encoding bytes.new pos }
-    ensures holds { Keeps N.spec bytes.old bytes.new pos }
+    ensures is_valid { Keeps N.spec bytes.old bytes.new pos }
 {
     value.write(&mut bytes[pos..pos + N::byte_count()]);
 }
@@ -164,7 +164,7 @@ impl<'a, N: Scalar> Seal<'a, N> {
             (N.spec.size) (bytes_in self.new) }
         ensures reads { value_at N.encoding (bytes_in self.new) (seal_pos self.new) ≡ value }
         ensures value { IsValueAt N.encoding (bytes_in self.new) (seal_pos self.new) }
-        ensures holds { Keeps N.spec
+        ensures is_valid { Keeps N.spec
             (bytes_in self.old) (bytes_in self.new) (seal_pos self.old) }
     {
         let pos = self.pos;
@@ -407,7 +407,7 @@ pub fn set_value<K: Element, N: Scalar>(archive: &mut [u8], entry_pos: u64, valu
         (N.spec.size) archive.new }
     ensures reads { value_at N.encoding archive.new
         (value_pos K.spec N.spec entry_pos) ≡ value }
-    ensures holds { Keeps (entry_spec K.spec N.spec)
+    ensures is_valid { Keeps (entry_spec K.spec N.spec)
         archive.old archive.new entry_pos }
     ensures viewable { Viewable (entry_spec K.spec N.spec) archive.new entry_pos }
 {

@@ -6,7 +6,7 @@
 ghost use Rattle.std.specs.Prelude.{◌≡◌, ◌+◌, ◌≤◌, length, map, MatchOption};
 ghost use Rattle.std.specs.Char.{to_ascii_uppercase};
 ghost use Rattle.rkyv_base.specs.Seal.{LiesIn, SealStays, bytes_in, seal_pos};
-ghost use Rattle.rkyv_base.specs.SealedText.{IsInline, IsOutOfLine, IsSealedText, Raised};
+ghost use Rattle.rkyv_base.specs.SealedText.{IsInline, IsOutOfLine, IsSealedText, Uppercases};
 ghost use Rattle.rkyv_base.specs.SealedText.{ReadsInline, inline_at};
 ghost use Rattle.rkyv_base.specs.Sealing.{Keeps, Sealed};
 ghost use Rattle.rkyv_base.specs.Text.{text_at, text_spec, text_size};
@@ -50,7 +50,7 @@ fn inline_len<W: Width>(bytes: &[u8], pos: usize) -> Option<usize>
 #[inline]
 fn uppercase_at<W: Width>(bytes: &mut [u8], pos: usize) -> bool
     requires { pos + text_size W.word ≤ length bytes.old }
-    ensures { Raised W.word bytes.old pos bytes.new result }
+    ensures { Uppercases W.word bytes.old pos bytes.new result }
 {
     match inline_len::<W>(&*bytes, pos) {
         Some(len) => {
@@ -96,14 +96,14 @@ impl<'a, W: Width> Seal<'a, Text<W>> {
     /// let mut bytes = [0x68, 0x65, 0x6c, 0x6c, 0x6f, 255, 255, 255, 97];
     ///
     /// let mut seal = Seal::<Text>::over(&mut bytes, 0);
-    /// let raised = seal.make_ascii_uppercase();
+    /// let uppercased = seal.make_ascii_uppercase();
     /// drop(seal);
     /// ```
     #[inline]
     pub fn make_ascii_uppercase(&mut self) -> bool
         requires { LiesIn (text_spec W.word) self.old }
         ensures stays { SealStays self.old self.new }
-        ensures raised { Raised W.word (bytes_in self.old) (seal_pos self.old)
+        ensures uppercased { Uppercases W.word (bytes_in self.old) (seal_pos self.old)
             (bytes_in self.new) result }
         ensures sealed { Sealed (bytes_in self.old) (seal_pos self.old)
             (text_size W.word) (bytes_in self.new) }
@@ -112,7 +112,7 @@ impl<'a, W: Width> Seal<'a, Text<W>> {
             ≡ map to_ascii_uppercase (text_at W.word (bytes_in self.old) (seal_pos self.old)) }
         ensures text { IsSealedText W.word (bytes_in self.old) (seal_pos self.old)
             → IsSealedText W.word (bytes_in self.new) (seal_pos self.old) }
-        ensures holds { Keeps (text_spec W.word)
+        ensures is_valid { Keeps (text_spec W.word)
             (bytes_in self.old) (bytes_in self.new) (seal_pos self.old) }
     {
         let pos = self.pos;

@@ -21,7 +21,7 @@ ghost use Rattle.rkyv_base.specs.Pairs.{written_as};
 ghost use Rattle.rkyv_base.specs.Text.{text_size};
 ghost use Rattle.rkyv_base.specs.TextWriting.{out_of_line_bytes, inline_bytes, length_word};
 ghost use Rattle.rkyv_base.specs.TextWriting.{text_format, text_limit};
-ghost use Rattle.rkyv_base.specs.Lemmas.TextWriting.{seen_text_is_format};
+ghost use Rattle.rkyv_base.specs.Lemmas.TextWriting.{text_as_format};
 
 use crate::archive::{Archive, ResolveResult, Serialize, WriteResult};
 use crate::errors::{DistanceTooLarge, WriteError};
@@ -132,7 +132,7 @@ impl<'t, W: Width> Archive<W> for &'t str {
         resolve_text::<W>(self, resolver, pos, out)
     }
 
-    ghost laws = { seen_text_is_format W.word W.layout.kind (λ t. t.now) };
+    ghost laws = { text_as_format W.word W.layout.kind (λ t. t.now) };
 }
 
 impl<W: Width> Archive<W> for String {
@@ -147,7 +147,7 @@ impl<W: Width> Archive<W> for String {
         resolve_text::<W>(self.as_str(), resolver, pos, out)
     }
 
-    ghost laws = { seen_text_is_format W.word W.layout.kind string_bytes };
+    ghost laws = { text_as_format W.word W.layout.kind string_bytes };
 }
 
 impl<'t, S: Writer, W: Width> Serialize<S, W> for &'t str {

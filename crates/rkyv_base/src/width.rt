@@ -73,7 +73,7 @@ pub trait Width: Word {
 
     ghost TEXT_SIZE: { ℕ };
 
-    /// The least length in bytes of a text that is refused.
+    /// The least length in bytes of a text that cannot be written.
     const TEXT_LIMIT: u64;
 
     ghost TEXT_LIMIT: { ℕ };

@@ -17,14 +17,14 @@ use Rattle.rkyv_table.specs.Table.Positions.{home_positions, item_at}
 use Rattle.rkyv_collections.specs.Map.InPlace.{WritesFound, with_first}
 use Rattle.rkyv_collections.specs.Lemmas.MapLaws.{HashLocal}
 use Rattle.rkyv_keys.specs.FirstPairs.{first_pair}
-use Rattle.rkyv_collections.specs.Map.ListedLookups.{AsksFor}
+use Rattle.rkyv_collections.specs.Map.ListedLookups.{AgreesOnKeys}
 use Rattle.rkyv_collections.specs.Map.MapSpec.{map_spec}
 use Rattle.rkyv_collections.specs.Map.MapFormat.{MapRepresents}
 use Rattle.rkyv_table.specs.Table.SealedTable.{WritesValue}
 use Rattle.rkyv_collections.proofs.ValueWrites.{written_value_represents}
 use Rattle.rkyv_collections.proofs.WrittenPairs.{pair_valid, place_of_pair}
 
-module _ {A B : Type 0} (asks : A → Bool) (value : B) where
+module _ {A B : Type 0} (accept_value : A → Bool) (value : B) where
   -- the found position is that of the pair `n`, which is the first accepted one of both lists
   pub record IsNth (xs : List ℕ) (ys : List (A × B)) (found : Option ℕ) : Type 0 where
     pub n : ℕ
@@ -32,21 +32,21 @@ module _ {A B : Type 0} (asks : A → Bool) (value : B) where
     pub below : n < length xs
     pub place : found ≡ Some (slice_index xs n)
     pub at : slice_get ys n ≡ Some pair
-    pub first : first_pair asks ys ≡ Some pair
-    pub written : with_first asks value ys ≡ slice_set ys n (pair.0, value)
+    pub first : first_pair accept_value ys ≡ Some pair
+    pub written : with_first accept_value value ys ≡ slice_set ys n (pair.0, value)
 
   abbrev pub IsNone : List (A × B) → Option ℕ → Type 0
-  IsNone ys found = (found ≡ None) × (first_pair asks ys ≡ None) × (with_first asks value ys ≡ ys)
+  IsNone ys found = (found ≡ None) × (first_pair accept_value ys ≡ None) × (with_first accept_value value ys ≡ ys)
 
   pub nth_found : (accept : ℕ → Bool) (xs : List ℕ) (ys : List (A × B)) → length xs ≡ length ys
-      → ((i : ℕ) (y : A × B) → slice_get ys i ≡ Some y → accept (slice_index xs i) ≡ asks y.0)
+      → ((i : ℕ) (y : A × B) → slice_get ys i ≡ Some y → accept (slice_index xs i) ≡ accept_value y.0)
       → IsNone ys (find accept xs) ⊎ IsNth xs ys (find accept xs)
   nth_found accept [] [] n h = inl (refl, refl, refl)
   nth_found accept [] (y ∷ ys) n h = absurd (omega (arith, n))
   nth_found accept (x ∷ xs) [] n h = absurd (omega (arith, n))
   nth_found accept (x ∷ xs) (y ∷ ys) n h =
-      let here : accept x ≡ asks y.0 = h 0 y refl in
-      elim (cases_Bool (asks y.0)) [
+      let here : accept x ≡ accept_value y.0 = h 0 y refl in
+      elim (cases_Bool (accept_value y.0)) [
         | inl t ↦ inr (record {
           n = 0;
           pair = y;
@@ -81,8 +81,8 @@ no_place f None e = refl
 no_place f (Some q) e = absurd cc
 
 module _ (w : Width) (k v : ElementSpec) (kl : IsElement k) (vl : IsElement v) {A B : Type 0} (key : List ℕ → ℕ → A → Type 0) (value : List ℕ → ℕ → B → Type 0)
-    (key_hash : List ℕ → ℕ → ℕ) (factor : ℕ × ℕ) (b : List ℕ) (p : ℕ) (pairs : List (A × B)) (new : B) (accept : ℕ → Bool) (asks : A → Bool)
-    (view : Viewable (map_spec w k v) b p) (asks_for : AsksFor k key b accept asks) (st : MapRepresents w k v key value key_hash factor b p pairs) where
+    (key_hash : List ℕ → ℕ → ℕ) (factor : ℕ × ℕ) (b : List ℕ) (p : ℕ) (pairs : List (A × B)) (new : B) (accept : ℕ → Bool) (accept_value : A → Bool)
+    (view : Viewable (map_spec w k v) b p) (agrees : AgreesOnKeys k key b accept accept_value) (st : MapRepresents w k v key value key_hash factor b p pairs) where
   abbrev positions : List ℕ
   positions = home_positions w (entry_spec k v).size b p st.homes
 
@@ -92,17 +92,17 @@ module _ (w : Width) (k v : ElementSpec) (kl : IsElement k) (vl : IsElement v) {
   pub count : length positions ≡ length pairs
   count = sym (length-map positions (key_hash b)) ∙ sym st.written.count ∙ st.len
 
-  pub each_alike : (i : ℕ) (y : A × B) → slice_get pairs i ≡ Some y → accept (slice_index positions i) ≡ asks y.0
+  pub each_alike : (i : ℕ) (y : A × B) → slice_get pairs i ≡ Some y → accept (slice_index positions i) ≡ accept_value y.0
   each_alike i y get =
       let inside = slice_get_within pairs i y get in
       let below : i < length st.homes = omega (arith, inside, count, positions_count) in
       let at = sym (place_of_pair w k v kl vl key_hash b p st.homes view st.written i below) in
       let entry = subst (λ z. ValidAt (entry_spec k v) b z) at (pair_valid w k v kl vl key_hash b p st.homes view st.written i below) in
-      asks_for y.0 (slice_index positions i) (valid_key kl vl b (slice_index positions i) entry) (st.at i y get).0
+      agrees y.0 (slice_index positions i) (valid_key kl vl b (slice_index positions i) entry) (st.at i y get).0
 
   -- if no key is accepted, the list has no accepted pair and is unchanged
-  pub none_written : None ≡ find accept positions → (false ≡ is_some (first_pair asks pairs)) × MapRepresents w k v key value key_hash factor b p (with_first asks new pairs)
-  none_written found = elim (nth_found asks new accept positions pairs count each_alike) [
+  pub none_written : None ≡ find accept positions → (false ≡ is_some (first_pair accept_value pairs)) × MapRepresents w k v key value key_hash factor b p (with_first accept_value new pairs)
+  none_written found = elim (nth_found accept_value new accept positions pairs count each_alike) [
     | inl none ↦ (ap is_some (sym none.1), subst (λ (l : List (A × B)). MapRepresents w k v key value key_hash factor b p l) (sym none.2) st)
     | inr r ↦ absurd (let e = found ∙ r.place in cc)
   ]
@@ -110,8 +110,8 @@ module _ (w : Width) (k v : ElementSpec) (kl : IsElement k) (vl : IsElement v) {
   -- after a write of the first accepted value, the map represents the list with that value
   pub first_written : (kn : RepresentsLocally k key) (vn : RepresentsLocally v value) → HashLocal k key_hash → (c : List ℕ) (q : ℕ) → Some q ≡ find accept positions
       → WritesValue k v b c q → value c (value_pos k v q) new
-      → (true ≡ is_some (first_pair asks pairs)) × MapRepresents w k v key value key_hash factor c p (with_first asks new pairs)
-  first_written kn vn local c q found writes represents = elim (nth_found asks new accept positions pairs count each_alike) [
+      → (true ≡ is_some (first_pair accept_value pairs)) × MapRepresents w k v key value key_hash factor c p (with_first accept_value new pairs)
+  first_written kn vn local c q found writes represents = elim (nth_found accept_value new accept positions pairs count each_alike) [
     | inl none ↦ absurd (let e = found ∙ none.0 in cc)
     | inr r ↦
         let at : q ≡ slice_index positions r.n = same_Some q (slice_index positions r.n) (found ∙ r.place) in
@@ -122,12 +122,12 @@ module _ (w : Width) (k v : ElementSpec) (kl : IsElement k) (vl : IsElement v) {
 
   -- the same for the position of the value
   pub none_behind : None ≡ option_map (value_pos k v) (find accept positions)
-      → (false ≡ is_some (first_pair asks pairs)) × MapRepresents w k v key value key_hash factor b p (with_first asks new pairs)
+      → (false ≡ is_some (first_pair accept_value pairs)) × MapRepresents w k v key value key_hash factor b p (with_first accept_value new pairs)
   none_behind found = none_written (no_place (value_pos k v) (find accept positions) found)
 
   pub first_behind : (kn : RepresentsLocally k key) (vn : RepresentsLocally v value) → HashLocal k key_hash → (c : List ℕ) (pos : ℕ)
       → Some pos ≡ option_map (value_pos k v) (find accept positions) → Sealed b pos v.size c → Keeps v b c pos → value c pos new
-      → (true ≡ is_some (first_pair asks pairs)) × MapRepresents w k v key value key_hash factor c p (with_first asks new pairs)
+      → (true ≡ is_some (first_pair accept_value pairs)) × MapRepresents w k v key value key_hash factor c p (with_first accept_value new pairs)
   first_behind kn vn local c pos found sealed keeps represents =
       let t = some_place (value_pos k v) (find accept positions) pos found in
       first_written kn vn local c t.0 t.1 (record { sealed = subst (λ n. Sealed b n v.size c) t.2 sealed; keeps = subst (λ n. Keeps v b c n) t.2 keeps })

@@ -17,10 +17,10 @@ use Rattle.rkyv_keys.specs.Equality.{Comparison}
 use Rattle.rkyv_keys.specs.Keys.{IsQuery}
 use Rattle.rkyv_table.specs.Controls.Laws.{IsUnderHash}
 use Rattle.rkyv_table.specs.Table.Positions.{WrittenAt, home_positions, pos_found}
-use Rattle.rkyv_table.specs.Table.Reading.{Answers, FindsFirst, FindsFound, FindsItem, IsItem}
+use Rattle.rkyv_table.specs.Table.Reading.{ComparesBy, FindsFirst, FindsFound, FindsItem, IsItem}
 use Rattle.rkyv_table.specs.Table.Reading.{table_bytes, table_pos}
 use Rattle.rkyv_table.specs.declared.table.ArchivedHashTable.{ArchivedHashTable}
-use Rattle.rkyv_collections.specs.Map.{AnswersKeys, AreUnderHash, FindsBy, FindsFirstBy, FindsKey}
+use Rattle.rkyv_collections.specs.Map.{ComparesKeysBy, AreUnderHash, FindsBy, FindsFirstBy, FindsKey}
 use Rattle.rkyv_collections.specs.Map.{IsEntryIn, IsMap, IsViewAt, MapWrittenAt, hash_at}
 use Rattle.rkyv_collections.specs.Map.{map_archive, map_bytes, map_pos}
 use Rattle.rkyv_collections.specs.Map.Lookups.{IsAcceptedKey}
@@ -37,12 +37,12 @@ module _ {K V H W : Type 0} {ks : Specs K} {vs : Specs V} {wt : Words W} (m : Ar
   same_place = at.1
 
   -- a comparison of an entry by its key depends only on the position of the key
-  told_by_key : (post : View K → Bool → Type 0) (accept : ℕ → Bool) → AnswersKeys m post accept
+  key_compared : (post : View K → Bool → Type 0) (accept : ℕ → Bool) → ComparesKeysBy m post accept
       → (entry : View (Entry K V)) (r : Bool) → IsItem t entry
       → (key : View K) × IsAt key (archive_of entry) (pos_of entry) × IsValidView ks.spec key × post key r
       → r ≡ accept entry.pos
-  told_by_key post accept answers entry r item e =
-      answers e.0 r (key_of_entry m entry e.0 (entry_of_item m t at entry item) e.1 e.2) e.3 ∙ ap accept e.1.1
+  key_compared post accept compares entry r item e =
+      compares e.0 r (key_of_entry m entry e.0 (entry_of_item m t at entry item) e.1 e.2) e.3 ∙ ap accept e.1.1
 
   -- a found item is an entry of the map
   pub entry_found : (result : Option (View (Entry K V))) → IfSome result (IsItem t) → IfSome result (IsEntryIn m)
@@ -50,10 +50,10 @@ module _ {K V H W : Type 0} {ks : Specs K} {vs : Specs V} {wt : Words W} (m : Ar
   entry_found (Some entry) item = entry_of_item m t at entry item
 
   -- the table finds the same position as the map
-  found_there : (hash asked : ℕ) (accept : ℕ → Bool) → hash ≡ asked
+  found_there : (hash query_hash : ℕ) (accept : ℕ → Bool) → hash ≡ query_hash
       → pos_found generic_kind wt.word (entry_spec ks.spec vs.spec).size (table_bytes t) (table_pos t) hash accept
-      ≡ pos_found generic_kind wt.word (entry_spec ks.spec vs.spec).size (map_bytes m) (map_pos m) asked accept
-  found_there hash asked accept e =
+      ≡ pos_found generic_kind wt.word (entry_spec ks.spec vs.spec).size (map_bytes m) (map_pos m) query_hash accept
+  found_there hash query_hash accept e =
       let found : List ℕ → ℕ → ℕ → Option ℕ = λ b p h. pos_found generic_kind wt.word (entry_spec ks.spec vs.spec).size b p h accept in
       ap (λ b. found b (table_pos t) hash) same ∙ ap (λ p. found (map_bytes m) p hash) same_place ∙ ap (found (map_bytes m) (map_pos m)) e
 
@@ -67,40 +67,40 @@ module _ {K V H W : Type 0} {ks : Specs K} {vs : Specs V} {wt : Words W} (m : Ar
       let positions : List ℕ → ℕ → List ℕ = λ b p. home_positions wt.word (entry_spec ks.spec vs.spec).size b p homes in
       ap (λ b. positions b (table_pos t)) same ∙ ap (positions (map_bytes m)) same_place
 
-  under_there : (hash asked : ℕ) (key_hash : List ℕ → ℕ → ℕ) (accept : ℕ → Bool) (homes : List ℕ) → hash ≡ asked
-      → AreUnderHash m asked key_hash accept → MapWrittenAt wt.word (entry_spec ks.spec vs.spec) key_hash (map_bytes m) (map_pos m) homes
+  under_there : (hash query_hash : ℕ) (key_hash : List ℕ → ℕ → ℕ) (accept : ℕ → Bool) (homes : List ℕ) → hash ≡ query_hash
+      → AreUnderHash m query_hash key_hash accept → MapWrittenAt wt.word (entry_spec ks.spec vs.spec) key_hash (map_bytes m) (map_pos m) homes
       → IsUnderHash hash (map (key_hash (map_bytes m)) (home_positions wt.word (entry_spec ks.spec vs.spec).size (map_bytes m) (map_pos m) homes))
       (home_positions wt.word (entry_spec ks.spec vs.spec).size (table_bytes t) (table_pos t) homes) accept
-  under_there hash asked key_hash accept homes e under written =
+  under_there hash query_hash key_hash accept homes e under written =
       let here = under_hash m hash key_hash accept homes (λ q place fits. under q place fits ∙ sym e) written in
       rw (places_there homes) here
 
   -- a lookup in the table that compares each entry by its key finds the same as one in the map
   -- that compares keys
-  module _ (compared : View (Entry K V) → Bool → Type 0) (post : View K → Bool → Type 0) (hash asked : ℕ) (same_hash : hash ≡ asked) (result : Option (View (Entry K V))) where
-    abbrev AskedByKey : Type 0
-    AskedByKey = (entry : View (Entry K V)) (r : Bool) → compared entry r → (key : View K) × IsAt key (archive_of entry) (pos_of entry) × IsValidView ks.spec key × post key r
+  module _ (compared : View (Entry K V) → Bool → Type 0) (post : View K → Bool → Type 0) (hash query_hash : ℕ) (same_hash : hash ≡ query_hash) (result : Option (View (Entry K V))) where
+    abbrev ComparedByKey : Type 0
+    ComparedByKey = (entry : View (Entry K V)) (r : Bool) → compared entry r → (key : View K) × IsAt key (archive_of entry) (pos_of entry) × IsValidView ks.spec key × post key r
 
-    answered : AskedByKey → (accept : ℕ → Bool) → AnswersKeys m post accept → Answers compared t accept
-    answered by_key accept answers entry r item h = told_by_key post accept answers entry r item (by_key entry r h)
+    entry_compared : ComparedByKey → (accept : ℕ → Bool) → ComparesKeysBy m post accept → ComparesBy compared t accept
+    entry_compared by_key accept compares entry r item h = key_compared post accept compares entry r item (by_key entry r h)
 
-    pub found_by_key : FindsFound compared generic_kind t hash (pos_of_found result) → AskedByKey → FindsBy m post asked (IsViewAt result)
-    found_by_key found by_key = λ accept answers. found accept (answered by_key accept answers) ∙ found_there hash asked accept same_hash
+    pub found_by_key : FindsFound compared generic_kind t hash (pos_of_found result) → ComparedByKey → FindsBy m post query_hash (IsViewAt result)
+    found_by_key found by_key = λ accept compares. found accept (entry_compared by_key accept compares) ∙ found_there hash query_hash accept same_hash
 
     -- the comparison accepted the key of the found entry
-    accepted_of : AskedByKey → (found : Option (View (Entry K V))) → IfSome found (IsItem t) → IfSome found (λ entry. compared entry true) → IfSome (pos_of_found found) (IsAcceptedKey m post)
-    accepted_of by_key None item told = told
-    accepted_of by_key (Some entry) item told =
-        let e = by_key entry true told in
+    accepted_of : ComparedByKey → (found : Option (View (Entry K V))) → IfSome found (IsItem t) → IfSome found (λ entry. compared entry true) → IfSome (pos_of_found found) (IsAcceptedKey m post)
+    accepted_of by_key None item is_accepted = is_accepted
+    accepted_of by_key (Some entry) item is_accepted =
+        let e = by_key entry true is_accepted in
         (e.0, key_of_entry m entry e.0 (entry_of_item m t at entry item) e.1 e.2, e.1.1, e.3)
 
-    pub accepted_by_key : FindsItem compared generic_kind t hash result → AskedByKey → IfSome (pos_of_found result) (IsAcceptedKey m post)
+    pub accepted_by_key : FindsItem compared generic_kind t hash result → ComparedByKey → IfSome (pos_of_found result) (IsAcceptedKey m post)
     accepted_by_key got by_key = accepted_of by_key result got.walked got.accepted
 
-    pub first_by_key : FindsFirst compared t hash (pos_of_found result) → AskedByKey → (key_hash : List ℕ → ℕ → ℕ) → FindsFirstBy m post asked key_hash (IsViewAt result)
-    first_by_key found by_key key_hash = λ accept answers under homes written.
+    pub first_by_key : FindsFirst compared t hash (pos_of_found result) → ComparedByKey → (key_hash : List ℕ → ℕ → ℕ) → FindsFirstBy m post query_hash key_hash (IsViewAt result)
+    first_by_key found by_key key_hash = λ accept compares under homes written.
         let hashes = map (key_hash (map_bytes m)) (home_positions wt.word (entry_spec ks.spec vs.spec).size (map_bytes m) (map_pos m) homes) in
-        found hashes homes accept (written_there hashes homes written) (answered by_key accept answers) (under_there hash asked key_hash accept homes same_hash under written)
+        found hashes homes accept (written_there hashes homes written) (entry_compared by_key accept compares) (under_there hash query_hash key_hash accept homes same_hash under written)
         ∙ ap (find accept) (places_there homes)
 
 -- if no key is misplaced, a lookup under the hash of a query finds the one key that fits

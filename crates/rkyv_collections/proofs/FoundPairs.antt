@@ -14,7 +14,7 @@ use Rattle.rkyv_base.specs.declared.view.View.{View}
 use Rattle.rkyv_keys.specs.Lemmas.OfEntries.{valid_key}
 use Rattle.rkyv_table.specs.Table.Positions.{home_positions, item_at}
 use Rattle.rkyv_keys.specs.FirstPairs.{IsFoundPair, IsFoundValue, first_pair}
-use Rattle.rkyv_collections.specs.Map.ListedLookups.{AsksFor, IsPairOf}
+use Rattle.rkyv_collections.specs.Map.ListedLookups.{AgreesOnKeys, IsPairOf}
 use Rattle.rkyv_collections.specs.Map.{IsFoundAt, IsPairAt, IsValueAt, IsViewAt}
 use Rattle.rkyv_collections.specs.Map.MapSpec.{map_spec}
 use Rattle.rkyv_collections.specs.Map.MapFormat.{MapRepresents}
@@ -22,16 +22,16 @@ use Rattle.rkyv_collections.proofs.WrittenPairs.{pair_valid, place_of_pair}
 
 module _ {A B : Type 0} (k v : ElementSpec) (key : List ℕ → ℕ → A → Type 0) (value : List ℕ → ℕ → B → Type 0) (b : List ℕ) where
   -- if two lists correspond, their first accepted items correspond
-  found_together : (fits : ℕ → Bool) (asks : A → Bool) (xs : List ℕ) (ys : List (A × B)) → length xs ≡ length ys
-      → ((i : ℕ) (y : A × B) → slice_get ys i ≡ Some y → (fits (slice_index xs i) ≡ asks y.0) × PairRepresents k v key value b (slice_index xs i) y)
-      → IsPairOf k v key value b (find fits xs) (first_pair asks ys)
-  found_together fits asks [] [] n h = tt
-  found_together fits asks [] (y ∷ ys) n h = absurd (omega (arith, n))
-  found_together fits asks (x ∷ xs) [] n h = absurd (omega (arith, n))
-  found_together fits asks (x ∷ xs) (y ∷ ys) n h =
+  found_together : (fits : ℕ → Bool) (accept_value : A → Bool) (xs : List ℕ) (ys : List (A × B)) → length xs ≡ length ys
+      → ((i : ℕ) (y : A × B) → slice_get ys i ≡ Some y → (fits (slice_index xs i) ≡ accept_value y.0) × PairRepresents k v key value b (slice_index xs i) y)
+      → IsPairOf k v key value b (find fits xs) (first_pair accept_value ys)
+  found_together fits accept_value [] [] n h = tt
+  found_together fits accept_value [] (y ∷ ys) n h = absurd (omega (arith, n))
+  found_together fits accept_value (x ∷ xs) [] n h = absurd (omega (arith, n))
+  found_together fits accept_value (x ∷ xs) (y ∷ ys) n h =
       let here = h 0 y refl in
-      let rest = found_together fits asks xs ys (omega (arith, n)) (λ i z e. h (suc i) z e) in
-      elim (cases_Bool (asks y.0)) [
+      let rest = found_together fits accept_value xs ys (omega (arith, n)) (λ i z e. h (suc i) z e) in
+      elim (cases_Bool (accept_value y.0)) [
         | inl t ↦ rw (here.0, t) here.1
         | inr f ↦ rw (here.0, f) rest
       ]
@@ -81,18 +81,18 @@ module _ {A B : Type 0} (k v : ElementSpec) (key : List ℕ → ℕ → A → Ty
 
 -- the first accepted key is that of the first accepted pair
 pub first_listed : (w : Width) (k v : ElementSpec) (kl : IsElement k) (vl : IsElement v) {A B : Type 0} (key : List ℕ → ℕ → A → Type 0) (value : List ℕ → ℕ → B → Type 0) (hash : List ℕ → ℕ → ℕ)
-    (factor : ℕ × ℕ) (b : List ℕ) (p : ℕ) (pairs : List (A × B)) → Viewable (map_spec w k v) b p → (accept : ℕ → Bool) (asks : A → Bool) → AsksFor k key b accept asks
+    (factor : ℕ × ℕ) (b : List ℕ) (p : ℕ) (pairs : List (A × B)) → Viewable (map_spec w k v) b p → (accept : ℕ → Bool) (accept_value : A → Bool) → AgreesOnKeys k key b accept accept_value
     → (h : MapRepresents w k v key value hash factor b p pairs)
-    → IsPairOf k v key value b (find accept (home_positions w (entry_spec k v).size b p h.homes)) (first_pair asks pairs)
-first_listed w k v kl vl key value hash factor b p pairs view accept asks asks_for h =
+    → IsPairOf k v key value b (find accept (home_positions w (entry_spec k v).size b p h.homes)) (first_pair accept_value pairs)
+first_listed w k v kl vl key value hash factor b p pairs view accept accept_value agrees h =
     let positions = home_positions w (entry_spec k v).size b p h.homes in
     let n = length-map positions (hash b) in
     let m = length-map h.homes (item_at w (entry_spec k v).size b p) in
     let count : length positions ≡ length pairs = sym n ∙ sym h.written.count ∙ h.len in
-    found_together k v key value b accept asks positions pairs count
+    found_together k v key value b accept accept_value positions pairs count
     (λ i pair get.
     let inside = slice_get_within pairs i pair get in
     let below : i < length h.homes = omega (arith, inside, count, m) in
     let there = h.at i pair get in
     let at = subst (λ q. ValidAt (entry_spec k v) b q) (sym (place_of_pair w k v kl vl hash b p h.homes view h.written i below)) (pair_valid w k v kl vl hash b p h.homes view h.written i below) in
-    (asks_for pair.0 (slice_index positions i) (valid_key kl vl b (slice_index positions i) at) there.0, there))
+    (agrees pair.0 (slice_index positions i) (valid_key kl vl b (slice_index positions i) at) there.0, there))

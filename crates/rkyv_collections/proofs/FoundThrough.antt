@@ -14,10 +14,10 @@ use Rattle.rkyv_base.specs.declared.entry.Entry.{Entry}
 use Rattle.rkyv_base.specs.declared.view.View.{View}
 use Rattle.rkyv_keys.specs.Equality.{Comparison}
 use Rattle.rkyv_keys.specs.Keys.{IsQuery}
-use Rattle.rkyv_keys.specs.Asked.{Asked, asked}
+use Rattle.rkyv_keys.specs.KeyLookup.{KeyLookup, query_of}
 use Rattle.rkyv_collections.specs.Map.Lookups.{GetsBy, GetsKey, IsPairOfEntry, IsValueOfEntry, Part}
 use Rattle.rkyv_collections.specs.Map.Lookups.{entry_part, key_part, pair_part, value_part}
-use Rattle.rkyv_collections.specs.Map.{AnswersKeys, IsEntryIn, IsMap, IsPairAt, IsViewAt}
+use Rattle.rkyv_collections.specs.Map.{ComparesKeysBy, IsEntryIn, IsMap, IsPairAt, IsViewAt}
 use Rattle.rkyv_collections.specs.Map.{IsPairIn, IsValueAt, IsValueIn, hash_at, key_pos_found}
 use Rattle.rkyv_collections.specs.Map.{map_bytes}
 use Rattle.rkyv_collections.specs.declared.map.ArchivedHashMap.{ArchivedHashMap}
@@ -28,7 +28,7 @@ module _ {K V H W : Type 0} {ks : Specs K} {vs : Specs V} {wt : Words W} (m : Ar
   -- the clauses on a found value are clauses on each value that is made of it
   module _ {X Y : Type 0} (part : Part (ArchivedHashMap K V H W ks vs wt) X) (out : Part (ArchivedHashMap K V H W ks vs wt) Y) (found : Option X) (result : Option Y)
       (walks : IfSome found (part.In m) → IfSome result (out.In m)) (at : (place : Option ℕ) → part.At found place → out.At result place) where
-    pub key_through : (a : Asked) → GetsKey part m a found → GetsKey out m a result
+    pub key_through : (a : KeyLookup) → GetsKey part m a found → GetsKey out m a result
     key_through a h = record {
       walked = walks h.walked;
       answer = at _ h.answer;
@@ -40,8 +40,8 @@ module _ {K V H W : Type 0} {ks : Specs K} {vs : Specs V} {wt : Words W} (m : Ar
     by_through hash key_hash post h = record {
       walked = walks h.walked;
       accepted = (h.accepted.0, at h.accepted.0 h.accepted.1, h.accepted.2);
-      answer = λ accept answers. at _ (h.answer accept answers);
-      first = λ accept answers under homes written. at _ (h.first accept answers under homes written);
+      answer = λ accept compares. at _ (h.answer accept compares);
+      first = λ accept compares under homes written. at _ (h.first accept compares under homes written);
     }
 
   -- a lookup by a comparison with the keys that a query fits is a lookup of the query
@@ -50,15 +50,15 @@ module _ {K V H W : Type 0} {ks : Specs K} {vs : Specs V} {wt : Words W} (m : Ar
       → (q : Q) → can_read q → hash_of_calls hasher (calls q) < 2 ^ 64
       → (post : View K → Bool → Type 0) → ((key : View K) (r : Bool) → post key r → r ≡ fits q key.archive.now key.pos)
       → (part : Part (ArchivedHashMap K V H W ks vs wt) X) (result : Option X)
-      → GetsBy part m (hash_of_calls hasher (calls q)) (hash_at hasher key_calls) post result → GetsKey part m (asked hasher key_calls same_key (calls q) (fits q)) result
+      → GetsBy part m (hash_of_calls hasher (calls q)) (hash_at hasher key_calls) post result → GetsKey part m (query_of hasher key_calls same_key (calls q) (fits q)) result
   gets_query hasher kl vl same_key key_calls can_read calls fits query is q ready small post tells part result h =
       let accept : ℕ → Bool = fits q (map_bytes m) in
-      let answers : AnswersKeys m post accept = λ key r in_map e. tells key r e ∙ ap (λ (a : Bor (List ℕ)). fits q a.now key.pos) in_map.archive in
-      let found = h.answer accept answers in
+      let compares : ComparesKeysBy m post accept = λ key r in_map e. tells key r e ∙ ap (λ (a : Bor (List ℕ)). fits q a.now key.pos) in_map.archive in
+      let found = h.answer accept compares in
       record {
         walked = h.walked;
         answer = found;
-        first = h.first accept answers (query_under_hash m kl vl hasher same_key key_calls can_read calls fits query is q ready);
+        first = h.first accept compares (query_under_hash m kl vl hasher same_key key_calls can_read calls fits query is q ready);
         complete = one_found m kl vl hasher same_key key_calls can_read calls fits query is q ready small (part.At result) found;
       }
 
@@ -99,12 +99,12 @@ module _ {K V : Type 0} (k v : ElementSpec) where
 
 -- the clauses of a lookup on a found entry are clauses on its pair and on its value
 module _ {K V H W : Type 0} {ks : Specs K} {vs : Specs V} {wt : Words W} {m : ArchivedHashMap K V H W ks vs wt} {found : Option (View (Entry K V))} where
-  pub pair_of_key : {a : Asked} {result : Option (View K × View V)} → GetsKey entry_part m a found → IsPairOfEntry ks.spec vs.spec result found
+  pub pair_of_key : {a : KeyLookup} {result : Option (View K × View V)} → GetsKey entry_part m a found → IsPairOfEntry ks.spec vs.spec result found
       → GetsKey pair_part m a result
   pair_of_key {a} {result} got is =
       key_through m entry_part pair_part found result (pair_walked m found result is) (pair_at ks.spec vs.spec found result is) a got
 
-  pub value_of_key : {a : Asked} {result : Option (View V)} → GetsKey entry_part m a found → IsValueOfEntry ks.spec vs.spec result found
+  pub value_of_key : {a : KeyLookup} {result : Option (View V)} → GetsKey entry_part m a found → IsValueOfEntry ks.spec vs.spec result found
       → GetsKey value_part m a result
   value_of_key {a} {result} got is =
       key_through m entry_part value_part found result (value_walked m found result is) (value_at ks.spec vs.spec found result is) a got
@@ -121,7 +121,7 @@ module _ {K V H W : Type 0} {ks : Specs K} {vs : Specs V} {wt : Words W} {m : Ar
         by_through m entry_part value_part found result (value_walked m found result is) (value_at ks.spec vs.spec found result is) hash key_hash post got
 
 -- a set returns the key of the pair
-module _ {K V H W : Type 0} {ks : Specs K} {vs : Specs V} {wt : Words W} {m : ArchivedHashMap K V H W ks vs wt} {a : Asked} where
+module _ {K V H W : Type 0} {ks : Specs K} {vs : Specs V} {wt : Words W} {m : ArchivedHashMap K V H W ks vs wt} {a : KeyLookup} where
   pub member_of_pair : {pair : View K × View V} → GetsKey pair_part m a (Some pair) → GetsKey key_part m a (Some pair.0)
   member_of_pair got = record { walked = got.walked.key; answer = got.answer; first = got.first; complete = got.complete }
 

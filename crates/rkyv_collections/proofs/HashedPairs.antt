@@ -15,10 +15,10 @@ use Rattle.rkyv_table.specs.Table.Counting.{YieldsOtherCount}
 use Rattle.rkyv_table.specs.Table.Serializing.{WriteItemsFails, WroteItems}
 use Rattle.rkyv_table.specs.Table.TableFormat.{TableResolver, table_format}
 use Rattle.rkyv_collections.specs.Map.HashedPairs.{HashedStep}
-use Rattle.rkyv_table.specs.Table.ItemValues.{lent_pairs}
+use Rattle.rkyv_table.specs.Table.ItemValues.{pair_values}
 use Rattle.rkyv_collections.specs.Map.MapFormat.{keyed, map_format}
 use Rattle.rkyv_table.proofs.Through.{drains_through, other_through, own_counted}
-use Rattle.rkyv_collections.proofs.SeenItems.{seen_fails, seen_pairs, seen_serialized}
+use Rattle.rkyv_collections.proofs.MappedItems.{mapped_fails, mapped_pairs, mapped_serialized}
 
 module _ {T S BK BV A B : Type 0} (inner : T → S) (steps : S → Option (BK × BV) → S → Type 0) (hash : BK → ℕ) where
   -- a state has the state of the iterator of pairs, and steps as that does
@@ -47,42 +47,42 @@ module _ {T S BK BV A B : Type 0} (inner : T → S) (steps : S → Option (BK ×
   abbrev Under : List (ℕ × EntryAdapter BK BV A B) → Type 0
   Under xs = AreHashed inner steps (λ k. hash (key k)) xs
 
-  seen_keyed : (xs : List (ℕ × EntryAdapter BK BV A B)) → Under xs
-      → seen_pairs (pair_of key value) xs ≡ keyed hash (lent_pairs key value (items_in inner steps (λ k. hash (key k)) xs))
-  seen_keyed [] h = refl
-  seen_keyed (x ∷ xs) h =
-      ap (λ n. (n, (key x.1.key, value x.1.value)) ∷ seen_pairs (pair_of key value) xs) h.0
-      ∙ ap (λ (t : List (ℕ × (A × B))). (hash (key x.1.key), (key x.1.key, value x.1.value)) ∷ t) (seen_keyed xs h.1)
+  mapped_keyed : (xs : List (ℕ × EntryAdapter BK BV A B)) → Under xs
+      → mapped_pairs (pair_of key value) xs ≡ keyed hash (pair_values key value (items_in inner steps (λ k. hash (key k)) xs))
+  mapped_keyed [] h = refl
+  mapped_keyed (x ∷ xs) h =
+      ap (λ n. (n, (key x.1.key, value x.1.value)) ∷ mapped_pairs (pair_of key value) xs) h.0
+      ∙ ap (λ (t : List (ℕ × (A × B))). (hash (key x.1.key), (key x.1.key, value x.1.value)) ∷ t) (mapped_keyed xs h.1)
 
   module _ {R Q : Type 0} (len : ℕ) (factor : ℕ × ℕ) (max : ℕ) (w : Width) (k v : ElementSpec) (kf : Format A R) (vf : Format B Q) (o o' : Output) (s : T) (limit : ℕ) where
     abbrev TableOf : Format (List (ℕ × EntryAdapter BK BV A B)) TableResolver
     TableOf = table_format w (entry_spec k v) (written_as (pair_of key value) (pair_format k v kf vf)) factor
 
     abbrev MapOf : Format (List (BK × BV)) TableResolver
-    MapOf = written_as (lent_pairs key value) (map_format w k v kf vf hash factor)
+    MapOf = written_as (pair_values key value) (map_format w k v kf vf hash factor)
 
     count : (xs : List (ℕ × EntryAdapter BK BV A B)) → length xs ≡ len → length (items_in inner steps (λ q. hash (key q)) xs) ≡ len
     count xs n = length-map xs (λ (x : ℕ × EntryAdapter BK BV A B). (x.1.key, x.1.value)) ∙ n
 
-    abbrev Given : T → Option (ℕ × EntryAdapter BK BV A B) → T → Type 0
-    Given = Steps inner steps (λ q. hash (key q))
+    abbrev KeyedStep : T → Option (ℕ × EntryAdapter BK BV A B) → T → Type 0
+    KeyedStep = Steps inner steps (λ q. hash (key q))
 
-    wrote_map : (r : TableResolver) → WroteItems (Drains Given s) len factor max TableOf o o' limit r → WroteItems (Drains steps (inner s)) len factor max MapOf o o' limit r
+    wrote_map : (r : TableResolver) → WroteItems (Drains KeyedStep s) len factor max TableOf o o' limit r → WroteItems (Drains steps (inner s)) len factor max MapOf o o' limit r
     wrote_map r h =
         let xs = h.1 in
         let d = drained inner steps (λ q. hash (key q)) xs s h.2.0 in (
           h.0,
           items_in inner steps (λ q. hash (key q)) xs,
           (d.0, count xs h.2.1),
-          subst (λ ps. Serialized limit (table_format w (entry_spec k v) (pair_format k v kf vf) factor) ps o o' r) (seen_keyed xs d.1)
-              (seen_serialized (pair_of key value) (pair_format k v kf vf) w (entry_spec k v) factor xs o o' limit r h.3),
+          subst (λ ps. Serialized limit (table_format w (entry_spec k v) (pair_format k v kf vf) factor) ps o o' r) (mapped_keyed xs d.1)
+              (mapped_serialized (pair_of key value) (pair_format k v kf vf) w (entry_spec k v) factor xs o o' limit r h.3),
         )
 
     module _ {F : Type 0} where
-      map_fails : (e : WriteError F) → WriteItemsFails (Drains Given s) len factor max TableOf o o' limit (YieldsOtherCount Given len s) e
+      map_fails : (e : WriteError F) → WriteItemsFails (Drains KeyedStep s) len factor max TableOf o o' limit (YieldsOtherCount KeyedStep len s) e
           → WriteItemsFails (Drains steps (inner s)) len factor max MapOf o o' limit (YieldsOtherCount steps len (inner s)) e
       map_fails e (inl h) =
-          inl (own_counted len factor max (YieldsOtherCount Given len s) (YieldsOtherCount steps len (inner s)) (yields_other_count inner steps (λ q. hash (key q)) len s) e h.0, h.1)
+          inl (own_counted len factor max (YieldsOtherCount KeyedStep len s) (YieldsOtherCount steps len (inner s)) (yields_other_count inner steps (λ q. hash (key q)) len s) e h.0, h.1)
       map_fails e (inr h) =
           let xs = h.1 in
           let d = drained inner steps (λ q. hash (key q)) xs s h.2.0 in
@@ -90,13 +90,13 @@ module _ {T S BK BV A B : Type 0} (inner : T → S) (steps : S → Option (BK ×
             h.0,
             items_in inner steps (λ q. hash (key q)) xs,
             (d.0, count xs h.2.1),
-            subst (λ ps. SerializeFails limit (table_format w (entry_spec k v) (pair_format k v kf vf) factor) ps o o' e) (seen_keyed xs d.1)
-                (seen_fails (pair_of key value) (pair_format k v kf vf) w (entry_spec k v) factor xs o o' limit e h.3),
+            subst (λ ps. SerializeFails limit (table_format w (entry_spec k v) (pair_format k v kf vf) factor) ps o o' e) (mapped_keyed xs d.1)
+                (mapped_fails (pair_of key value) (pair_format k v kf vf) w (entry_spec k v) factor xs o o' limit e h.3),
           )
 
       -- the result of writing the table of the hashed pairs is that of writing the map
-      pub answers_map : (result : Result TableResolver (WriteError F))
-          → MatchResult result (WroteItems (Drains Given s) len factor max TableOf o o' limit) (WriteItemsFails (Drains Given s) len factor max TableOf o o' limit (YieldsOtherCount Given len s))
+      pub writes_as_map : (result : Result TableResolver (WriteError F))
+          → MatchResult result (WroteItems (Drains KeyedStep s) len factor max TableOf o o' limit) (WriteItemsFails (Drains KeyedStep s) len factor max TableOf o o' limit (YieldsOtherCount KeyedStep len s))
           → MatchResult result (WroteItems (Drains steps (inner s)) len factor max MapOf o o' limit) (WriteItemsFails (Drains steps (inner s)) len factor max MapOf o o' limit (YieldsOtherCount steps len (inner s)))
-      answers_map (Ok r) h = wrote_map r h
-      answers_map (Err e) h = map_fails e h
+      writes_as_map (Ok r) h = wrote_map r h
+      writes_as_map (Err e) h = map_fails e h

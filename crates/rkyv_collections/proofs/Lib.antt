@@ -1,4 +1,4 @@
-pub mod SeenItems
+pub mod MappedItems
 pub mod HashedPairs
 pub mod Lookups
 pub mod Matching
@@ -25,4 +25,4 @@ pub mod FirstWrites
 pub mod ListArchives
 pub mod NestedTables
 pub mod NestedWrites
-pub mod RaisedTexts
+pub mod UppercaseTexts

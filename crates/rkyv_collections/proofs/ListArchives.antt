@@ -75,11 +75,11 @@ pub record FirstInRoot {A B : Type 0} (w : Width) (k v : ElementSpec) (key : Lis
   pub pair : IsPairOf k v key value b (find accept (home_positions w (entry_spec k v).size b p homes)) first
 
 pub first_in_root : {A Q B K V H W : Type 0} {ks : Specs K} {vs : Specs V} {wt : Words W} (m : ArchivedHashMap K V H W ks vs wt) (keys : NativeKeys A Q) (value : List ℕ → ℕ → B → Type 0)
-    → FitsItsEqual ks.spec keys.represents keys.equal keys.fits → (archive : Bor (List ℕ)) (factor : ℕ × ℕ) (pairs : List (A × B)) (asked : Q)
+    → FitsItsEqual ks.spec keys.represents keys.equal keys.fits → (archive : Bor (List ℕ)) (factor : ℕ × ℕ) (pairs : List (A × B)) (query : Q)
     → IsAt m.view archive (map_root wt.word ks.spec vs.spec archive.now)
     → MapRepresents wt.word ks.spec vs.spec keys.represents value keys.key_hash factor archive.now (map_root wt.word ks.spec vs.spec archive.now) pairs
-    → FirstInRoot wt.word ks.spec vs.spec keys.represents value keys.key_hash (map_bytes m) (map_pos m) (keys.fits asked (map_bytes m)) (first_pair (keys.equal asked) pairs)
-first_in_root {ks = ks} {vs = vs} {wt = wt} m keys value native archive factor pairs asked at is =
+    → FirstInRoot wt.word ks.spec vs.spec keys.represents value keys.key_hash (map_bytes m) (map_pos m) (keys.fits query (map_bytes m)) (first_pair (keys.equal query) pairs)
+first_in_root {ks = ks} {vs = vs} {wt = wt} m keys value native archive factor pairs query at is =
     let w = wt.word in
     let k = ks.spec in
     let v = vs.spec in
@@ -87,8 +87,8 @@ first_in_root {ks = ks} {vs = vs} {wt = wt} m keys value native archive factor p
     record {
       homes = represents.homes;
       written = represents.written;
-      pair = first_listed w k v ks.laws vs.laws keys.represents value keys.key_hash factor (map_bytes m) (map_pos m) pairs m.valid (keys.fits asked (map_bytes m)) (keys.equal asked)
-          (λ a q s there. native asked a (map_bytes m) q s there) represents;
+      pair = first_listed w k v ks.laws vs.laws keys.represents value keys.key_hash factor (map_bytes m) (map_pos m) pairs m.valid (keys.fits query (map_bytes m)) (keys.equal query)
+          (λ a q s there. native query a (map_bytes m) q s there) represents;
     }
 
 -- the map at a view that is at a position is there
@@ -99,14 +99,14 @@ at_view m root archive p view at = (ap (λ x. x.archive) view ∙ at.0, ap (λ x
 -- the value that a lookup finds in it is that of the first pair
 pub found_listed : {A Q B K V W : Type 0} (H : Type 0) (wt : Words W) (ks : Specs K) (vs : Specs V) (keys : NativeKeys A Q) → FitsItsEqual ks.spec keys.represents keys.equal keys.fits
     → (values : FoundValues V B) → FindsByView values → FoundAreListed H wt ks vs keys values
-found_listed H wt ks vs keys native values by = λ m root archive factor pairs asked found view at is walked told.
-    let first = first_in_root m keys values.represents native archive factor pairs asked (at_view m root archive _ view at) is in
-    by found _ (value_listed ks.spec vs.spec keys.represents values.represents (map_bytes m) _ _ found (IfSome_then found walked (λ x i. ap (λ a. a.now) i.at.0)) first.pair (told first.homes first.written))
+found_listed H wt ks vs keys native values by = λ m root archive factor pairs query found view at is walked finds_first.
+    let first = first_in_root m keys values.represents native archive factor pairs query (at_view m root archive _ view at) is in
+    by found _ (value_listed ks.spec vs.spec keys.represents values.represents (map_bytes m) _ _ found (IfSome_then found walked (λ x i. ap (λ a. a.now) i.at.0)) first.pair (finds_first first.homes first.written))
 
 -- some key with the unit value is accepted if and only if some key is
-pub member_listed : {A : Type 0} (asks : A → Bool) (items : List A) → is_some (first_pair asks (with_units items)) ≡ list_any asks items
-member_listed asks [] = refl
-member_listed asks (x ∷ xs) = elim (cases_Bool (asks x)) [
+pub member_listed : {A : Type 0} (accept_value : A → Bool) (items : List A) → is_some (first_pair accept_value (with_units items)) ≡ list_any accept_value items
+member_listed accept_value [] = refl
+member_listed accept_value (x ∷ xs) = elim (cases_Bool (accept_value x)) [
   | inl t ↦ rw t refl
-  | inr f ↦ rw f (member_listed asks xs)
+  | inr f ↦ rw f (member_listed accept_value xs)
 ]

@@ -17,7 +17,7 @@ use Rattle.rkyv_keys.specs.Keys.{IsQuery}
 use Rattle.rkyv_keys.specs.Lemmas.OfEntries.{valid_key}
 use Rattle.rkyv_table.specs.Controls.Finding.{found}
 use Rattle.rkyv_table.specs.Table.Header.{cap_at, len_at}
-use Rattle.rkyv_table.specs.Table.Misplaced.{AloneAccepted, AsksForOne, IsSameness, NoneAccepted, misplaced, repeated, repeats_earlier}
+use Rattle.rkyv_table.specs.Table.Misplaced.{AloneAccepted, AcceptsSame, IsSameness, NoneAccepted, misplaced, repeated, repeats_earlier}
 use Rattle.rkyv_table.specs.Controls.Placing.{walk}
 use Rattle.rkyv_table.specs.Table.Positions.{home_positions, item_at, pos_found, table_controls}
 use Rattle.rkyv_table.proofs.ValidTable.{controls_accepted, item_viewable, no_items}
@@ -115,8 +115,8 @@ module _ {Q State : Type 0} (w : Width) (k v : ElementSpec) (kl : IsElement k) (
   key_walked i c =
       valid_key kl vl b (item_pos i) (item_viewable w (entry_spec k v) (entry_element k v kl vl) b p view i (walked_full cap controls i c)).valid
 
-  asks : AsksForOne controls cap hash accept (λ i. hash_at hasher key_calls b (item_pos i)) (λ i j. same b (item_pos i) b (item_pos j))
-  asks = record {
+  accepts_same : AcceptsSame controls cap hash accept (λ i. hash_at hasher key_calls b (item_pos i)) (λ i j. same b (item_pos i) b (item_pos j))
+  accepts_same = record {
     hashed = λ i c f. ap (hash_of_calls hasher) (sym (query.same_calls q b (item_pos i) ready (key_walked i c) f));
     same = λ i j c d f. query.respects_same q b b (item_pos i) (item_pos j) ready (key_walked i c) (key_walked j d) f;
   }
@@ -140,5 +140,5 @@ module _ {Q State : Type 0} (w : Width) (k v : ElementSpec) (kl : IsElement k) (
     | inr some ↦
         by_place (found generic_kind controls cap (len_at w b p) hash accept)
         (complete generic_kind cap (len_at w b p) hash controls accept (λ i. hash_at hasher key_calls b (item_pos i)) (λ i j. same b (item_pos i) b (item_pos j)) word_lawful
-        (controls_accepted w (entry_spec k v) (entry_element k v kl vl) b p view (omega arith)) small none asks)
+        (controls_accepted w (entry_spec k v) (entry_element k v kl vl) b p view (omega arith)) small none accepts_same)
   ]

@@ -11,7 +11,7 @@ use Rattle.rkyv_base.specs.ElementSpec.{IsElement, ElementSpec, Viewable}
 use Rattle.rkyv_base.proofs.Sealing.{same_outside, sealed_wider}
 use Rattle.rkyv_scan.specs.Groups.{is_full}
 use Rattle.rkyv_table.specs.Controls.Numbers.{control_count}
-use Rattle.rkyv_table.specs.Controls.Placing.{Accepted, walk}
+use Rattle.rkyv_table.specs.Controls.Placing.{AreValidControls, walk}
 use Rattle.rkyv_table.specs.Lemmas.ItemPositions.{HeldPart, HoldsWithin, bucket_holds_within, decoded_controls, decoded_item, decoded_pos, each_holds, within_lower}
 use Rattle.rkyv_table.specs.Lemmas.PlaceLaws.{all_between}
 use Rattle.rkyv_table.specs.Lemmas.SameHeader.{begin_same, cap_same, len_same, pos_same}
@@ -50,7 +50,7 @@ module _ (s : ElementSpec) (law : IsElement s) (at : ℕ → ℕ) where
           | inl e ↦
               let r = each_holds s law at P b hi (a + 1) n h'.0 l j k.1 h'.2 (omega arith) (omega arith) t' in
               subst (λ z. InTurn s b (at z) (at j) lo hi l) e (record {
-                first = record { lower = lo; rest = h'.0; above = omega arith; below = o; ends = after.0; holds = h'.1 };
+                first = record { lower = lo; rest = h'.0; above = omega arith; below = o; ends = after.0; is_valid = h'.1 };
                 second = within_lower s b (at j) h'.0 lo hi l k.0 r;
                 turn = r.above;
               })
@@ -93,9 +93,9 @@ module _ (s : ElementSpec) (law : IsElement s) (at : ℕ → ℕ) where
           let k : (lo ≤ m) × (m ≤ hi) = law.rest_in_range b (at a) lo hi m o h'.1 in
           elim (cases_eq a i) [
             | inl e ↦
-                let here : s.holds b (at i) lo hi m = subst (λ z. s.holds b (at z) lo hi m) e h'.1 in
+                let here : s.is_valid b (at i) lo hi m = subst (λ z. s.is_valid b (at z) lo hi m) e h'.1 in
                 let sealed = writes.sealed lo hi m o up here in
-                let there : s.holds c (at a) lo hi m = subst (λ z. s.holds c (at z) lo hi m) (sym e) (writes.holds lo hi m o up here) in
+                let there : s.is_valid c (at a) lo hi m = subst (λ z. s.is_valid c (at z) lo hi m) (sym e) (writes.is_valid lo hi m o up here) in
                 let rest = chain_stays (filter P (range_with_len (a + 1) n)) m l k.1 (same_above b c lo m k.0 sealed m hi k.1 (omega arith)) h'.2 in
                 rw y ((m, there, rest), same_below b c lo m k.0 sealed 0 lo (omega arith) (omega arith))
             | inr ne ↦
@@ -149,10 +149,10 @@ module _ (w : Width) (s : ElementSpec) (law : IsElement s) (b : List ℕ) (p i :
   one = bucket_holds_within s law b begin cap 0 whole.is.last i (omega arith) whole.is.items walked.0 (full i walked)
 
   one_between : (one.lower ≤ one.rest) × (one.rest ≤ begin)
-  one_between = law.rest_in_range b (place i) one.lower begin one.rest one.below one.holds
+  one_between = law.rest_in_range b (place i) one.lower begin one.rest one.below one.is_valid
 
   sealed_one : Sealed b one.lower (one.rest - one.lower) c
-  sealed_one = writes_at.sealed one.lower begin one.rest one.below (up i) one.holds
+  sealed_one = writes_at.sealed one.lower begin one.rest one.below (up i) one.is_valid
 
   -- from the begin of the buckets on, all bytes are the same
   above_same : (x y : ℕ) → x ≤ y → begin ≤ x → AgreeOn b c x y
@@ -183,7 +183,7 @@ module _ (w : Width) (s : ElementSpec) (law : IsElement s) (b : List ℕ) (p i :
         n,
         part,
         subst (IsPart s c cap (len_at w b p) lo) same (record {
-          controls = subst (Accepted cap (len_at w b p)) controls_same is'.controls;
+          controls = subst (AreValidControls cap (len_at w b p)) controls_same is'.controls;
           last = is'.last;
           items = items_kept lo is'.last (let a = part.above in omega (arith, a, same)) is'.items;
         }),
@@ -199,9 +199,9 @@ module _ (w : Width) (s : ElementSpec) (law : IsElement s) (b : List ℕ) (p i :
       let above = part.above in
       let low : lo ≤ begin = omega (arith, above, same) in
       let here = bucket_holds_within s law b begin cap lo is'.last i low is'.items walked.0 (full i walked) in
-      let k = law.rest_in_range b (place i) here.lower begin here.rest here.below here.holds in
+      let k = law.rest_in_range b (place i) here.lower begin here.rest here.below here.is_valid in
       let less = here.above in
-      sealed_wider b c here.lower (here.rest - here.lower) lo (l - lo) less (omega (arith, less, k.0, k.1, e, same)) (writes_at.sealed here.lower begin here.rest here.below (up i) here.holds)
+      sealed_wider b c here.lower (here.rest - here.lower) lo (l - lo) less (omega (arith, less, k.0, k.1, e, same)) (writes_at.sealed here.lower begin here.rest here.below (up i) here.is_valid)
 
   in_turn : (x y : ℕ) → IsWalked w b p x → IsWalked w b p y → x < y → InTurn s b (place x) (place y) 0 begin whole.is.last
   unfolding walk
@@ -210,10 +210,10 @@ module _ (w : Width) (s : ElementSpec) (law : IsElement s) (b : List ℕ) (p i :
       (lt-ltb (slice_index (controls_at s.size b begin cap) x) 128 (full x there)) (lt-ltb (slice_index (controls_at s.size b begin cap) y) 128 (full y there'))
 
   sealed_where : (h : HoldsWithin s b (place i) 0 begin whole.is.last) → Sealed b h.lower (h.rest - h.lower) c
-  sealed_where h = writes_at.sealed h.lower begin h.rest h.below (up i) h.holds
+  sealed_where h = writes_at.sealed h.lower begin h.rest h.below (up i) h.is_valid
 
   abbrev held_before : (j : ℕ) (h : HoldsWithin s b (place j) 0 begin whole.is.last) → HoldsBefore s b (place j)
-  held_before j h = record { lower = h.lower; upper = begin; rest = h.rest; order = h.below; before = up j; holds = h.holds }
+  held_before j h = record { lower = h.lower; upper = begin; rest = h.rest; order = h.below; before = up j; is_valid = h.is_valid }
 
   stays : (j : ℕ) (h : HoldsWithin s b (place j) 0 begin whole.is.last) → AgreeOn b c h.lower h.rest → StaysAt s b c (place j)
   stays j h parts = record { held = held_before j h; fixed = fixed j; parts = parts }
@@ -223,14 +223,14 @@ module _ (w : Width) (s : ElementSpec) (law : IsElement s) (b : List ℕ) (p i :
     | inl less ↦
         let t = in_turn j i there walked less in
         let turn = t.turn in
-        let k = law.rest_in_range b (place j) t.first.lower begin t.first.rest t.first.below t.first.holds in
-        let m = law.rest_in_range b (place i) t.second.lower begin t.second.rest t.second.below t.second.holds in
+        let k = law.rest_in_range b (place j) t.first.lower begin t.first.rest t.first.below t.first.is_valid in
+        let m = law.rest_in_range b (place i) t.second.lower begin t.second.rest t.second.below t.second.is_valid in
         stays j t.first (same_below b c t.second.lower t.second.rest m.0 (sealed_where t.second) t.first.lower t.first.rest k.0 turn)
     | inr more ↦
         let t = in_turn i j walked there (omega (arith, ne)) in
         let turn = t.turn in
-        let k = law.rest_in_range b (place i) t.first.lower begin t.first.rest t.first.below t.first.holds in
-        let m = law.rest_in_range b (place j) t.second.lower begin t.second.rest t.second.below t.second.holds in
+        let k = law.rest_in_range b (place i) t.first.lower begin t.first.rest t.first.below t.first.is_valid in
+        let m = law.rest_in_range b (place j) t.second.lower begin t.second.rest t.second.below t.second.is_valid in
         stays j t.second (same_above b c t.first.lower t.first.rest k.0 (sealed_where t.first) t.second.lower t.second.rest m.0 turn)
   ]
 
@@ -240,7 +240,7 @@ module _ (w : Width) (s : ElementSpec) (law : IsElement s) (b : List ℕ) (p i :
       let caps = sym (cap_same w b c p same) in
       record {
         nested = record {
-          holds = λ lo hi l o o' h. of_numbers s c (begin_same w b c p same s.size) (cap_same w b c p same) (len_same w b c p same) (at_kept lo hi l h);
+          is_valid = λ lo hi l o o' h. of_numbers s c (begin_same w b c p same s.size) (cap_same w b c p same) (len_same w b c p same) (at_kept lo hi l h);
           sealed = λ lo hi l o o' h. at_sealed lo hi l h;
         };
         header = same;

@@ -23,7 +23,7 @@ use Rattle.rkyv_table.proofs.SameTable.{written_there}
 use Rattle.rkyv_table.proofs.SealedTable.{value_kept}
 use Rattle.rkyv_collections.specs.Map.InPlace.{with_first}
 use Rattle.rkyv_collections.specs.Lemmas.MapLaws.{HashLocal}
-use Rattle.rkyv_collections.specs.Map.ListedLookups.{AsksFor}
+use Rattle.rkyv_collections.specs.Map.ListedLookups.{AgreesOnKeys}
 use Rattle.rkyv_collections.specs.Map.MapSpec.{IsKeyPosAt, map_spec}
 use Rattle.rkyv_collections.specs.Map.MapFormat.{MapRepresents}
 use Rattle.rkyv_collections.specs.Map.NestedWrites.{HoldsBefore, KeepsOuterMap, StaysAt, WritesParts}
@@ -39,27 +39,27 @@ module _ (k v : ElementSpec) (kl : IsElement k) (vl : IsElement v) (b c : List �
   -- a write among the parts of the value is one among the parts of the entry
   entry_written : WritesParts v b c (value_pos k v q) → WritesParts S b c q
   entry_written writes =
-      let wrote : (lo hi l : ℕ) → lo ≤ hi → hi ≤ q → S.holds b q lo hi l → S.holds c q lo hi l × Sealed b lo (l - lo) c = λ lo hi l o o' h.
+      let wrote : (lo hi l : ℕ) → lo ≤ hi → hi ≤ q → S.is_valid b q lo hi l → S.is_valid c q lo hi l × Sealed b lo (l - lo) c = λ lo hi l o o' h.
       let m = h.1 in
       let x = kl.rest_in_range b q lo hi m o h.2 in
       let y = vl.rest_in_range b (value_pos k v q) m hi l x.1 h.3 in
       let sealed = writes.sealed m hi l x.1 (omega arith) h.3 in
       let key = kl.local b c q lo hi m o (same_above b c m l y.0 sealed q (q + k.size) (omega arith) (omega (arith, y.1))) (same_below b c m l y.0 sealed lo m x.0 (omega arith)) h.2 in
-      ((h.0, m, key, writes.holds m hi l x.1 (omega arith) h.3), sealed_wider b c m (l - m) lo (l - lo) x.0 (omega (arith, x.0, y.0)) sealed) in
-      record { holds = λ lo hi l o o' h. (wrote lo hi l o o' h).0; sealed = λ lo hi l o o' h. (wrote lo hi l o o' h).1 }
+      ((h.0, m, key, writes.is_valid m hi l x.1 (omega arith) h.3), sealed_wider b c m (l - m) lo (l - lo) x.0 (omega (arith, x.0, y.0)) sealed) in
+      record { is_valid = λ lo hi l o o' h. (wrote lo hi l o o' h).0; sealed = λ lo hi l o o' h. (wrote lo hi l o o' h).1 }
 
   -- the key of a valid entry is valid, with its parts in some range before it
   abbrev key_before : HoldsBefore S b q → HoldsBefore k b q
-  key_before h = record { lower = h.lower; upper = h.upper; rest = h.holds.1; order = h.order; before = h.before; holds = h.holds.2 }
+  key_before h = record { lower = h.lower; upper = h.upper; rest = h.is_valid.1; order = h.order; before = h.before; is_valid = h.is_valid.2 }
 
   -- the key of the entry is unchanged
   key_of_own : WritesParts v b c (value_pos k v q) → HoldsBefore S b q → StaysAt k b c q
   key_of_own writes h =
-      let m = h.holds.1 in
-      let x = kl.rest_in_range b q h.lower h.upper m h.order h.holds.2 in
+      let m = h.is_valid.1 in
+      let x = kl.rest_in_range b q h.lower h.upper m h.order h.is_valid.2 in
       let up = h.before in
-      let y = vl.rest_in_range b (value_pos k v q) m h.upper h.rest x.1 h.holds.3 in
-      let sealed = writes.sealed m h.upper h.rest x.1 (omega arith) h.holds.3 in
+      let y = vl.rest_in_range b (value_pos k v q) m h.upper h.rest x.1 h.is_valid.3 in
+      let sealed = writes.sealed m h.upper h.rest x.1 (omega arith) h.is_valid.3 in
       record {
         held = key_before h;
         fixed = same_above b c m h.rest y.0 sealed q (q + k.size) (omega arith) (omega (arith, y.1));
@@ -70,31 +70,31 @@ module _ (k v : ElementSpec) (kl : IsElement k) (vl : IsElement v) (b c : List �
   key_of_other : StaysAt S b c q → StaysAt k b c q
   key_of_other s =
       let h = s.held in
-      let m = h.holds.1 in
-      let x = kl.rest_in_range b q h.lower h.upper m h.order h.holds.2 in
-      let y = vl.rest_in_range b (value_pos k v q) m h.upper h.rest x.1 h.holds.3 in
+      let m = h.is_valid.1 in
+      let x = kl.rest_in_range b q h.lower h.upper m h.order h.is_valid.2 in
+      let y = vl.rest_in_range b (value_pos k v q) m h.upper h.rest x.1 h.is_valid.3 in
       record {
         held = key_before h;
-        fixed = same_key k v kl vl b c q h.holds.0 s.fixed;
+        fixed = same_key k v kl vl b c q h.is_valid.0 s.fixed;
         parts = agree_on_part b c h.lower h.rest h.lower m (omega arith) y.0 x.0 s.parts;
       }
 
   value_of_other : StaysAt S b c q → StaysAt v b c (value_pos k v q)
   value_of_other s =
       let h = s.held in
-      let m = h.holds.1 in
+      let m = h.is_valid.1 in
       let up = h.before in
-      let x = kl.rest_in_range b q h.lower h.upper m h.order h.holds.2 in
-      let y = vl.rest_in_range b (value_pos k v q) m h.upper h.rest x.1 h.holds.3 in
+      let x = kl.rest_in_range b q h.lower h.upper m h.order h.is_valid.2 in
+      let y = vl.rest_in_range b (value_pos k v q) m h.upper h.rest x.1 h.is_valid.3 in
       record {
-        held = record { lower = m; upper = h.upper; rest = h.rest; order = x.1; before = omega (arith, up); holds = h.holds.3 };
-        fixed = same_value k v kl vl b c q h.holds.0 s.fixed;
+        held = record { lower = m; upper = h.upper; rest = h.rest; order = x.1; before = omega (arith, up); is_valid = h.is_valid.3 };
+        fixed = same_value k v kl vl b c q h.is_valid.0 s.fixed;
         parts = agree_on_part b c h.lower h.rest m h.rest x.0 (omega arith) y.0 s.parts;
       }
 
 -- unchanged bytes represent the same value
 represents_on : {V : Type 0} (s : ElementSpec) (represents : List ℕ → ℕ → V → Type 0) → RepresentsLocally s represents → (x : V) (b c : List ℕ) (q : ℕ) → StaysAt s b c q → represents b q x → represents c q x
-represents_on s represents local x b c q h st = local x b c q h.held.lower h.held.upper h.held.rest h.held.order h.held.holds h.fixed h.parts st
+represents_on s represents local x b c q h st = local x b c q h.held.lower h.held.upper h.held.rest h.held.order h.held.is_valid h.fixed h.parts st
 
 module _ (w : Width) (k v : ElementSpec) (kl : IsElement k) (vl : IsElement v) (key_hash : List ℕ → ℕ → ℕ) (local : HashLocal k key_hash) (b c : List ℕ) (p i : ℕ)
     (view : Viewable (map_spec w k v) b p) (walked : IsWalked w b p i) (writes : WritesParts v b c (value_pos k v (item_at w (entry_spec k v).size b p i))) where
@@ -114,7 +114,7 @@ module _ (w : Width) (k v : ElementSpec) (kl : IsElement k) (vl : IsElement v) (
   ]
 
   hash_stays : (j : ℕ) → IsWalked w b p j → key_hash c (at j) ≡ key_hash b (at j)
-  hash_stays j there = let h = key_stays j there in sym (local b c (at j) h.held.lower h.held.upper h.held.rest h.held.order h.held.holds h.fixed h.parts)
+  hash_stays j there = let h = key_stays j there in sym (local b c (at j) h.held.lower h.held.upper h.held.rest h.held.order h.held.is_valid h.fixed h.parts)
 
   place_stays : (j : ℕ) → item_at w E.size c p j ≡ at j
   place_stays j = sym (item_same w b c p kept.header E.size j)
@@ -124,7 +124,7 @@ module _ (w : Width) (k v : ElementSpec) (kl : IsElement k) (vl : IsElement v) (
 
   pub nested_kept : KeepsOuterMap w k v key_hash b c p i
   nested_kept = record {
-    valid = viewable_kept (map_spec w k v) b c p length_same kept.nested.holds view;
+    valid = viewable_kept (map_spec w k v) b c p length_same kept.nested.is_valid view;
     nested = kept.nested;
     header = kept.header;
     controls = kept.controls;
@@ -155,18 +155,18 @@ module _ (w : Width) (k v : ElementSpec) (kl : IsElement k) (vl : IsElement v) (
       (λ j full ne x before. (represents_on k key kn x.0 b c (item j) (kept.keys j full) before.0, represents_on v value vn x.1 b c (value_pos k v (item j)) (kept.values j full ne) before.1))
 
 module _ (w : Width) (k v : ElementSpec) (kl : IsElement k) (vl : IsElement v) {A B : Type 0} (key : List ℕ → ℕ → A → Type 0) (value : List ℕ → ℕ → B → Type 0)
-    (key_hash : List ℕ → ℕ → ℕ) (factor : ℕ × ℕ) (b : List ℕ) (p : ℕ) (pairs : List (A × B)) (new : B) (accept : ℕ → Bool) (asks : A → Bool)
-    (view : Viewable (map_spec w k v) b p) (asks_for : AsksFor k key b accept asks) (st : MapRepresents w k v key value key_hash factor b p pairs) where
+    (key_hash : List ℕ → ℕ → ℕ) (factor : ℕ × ℕ) (b : List ℕ) (p : ℕ) (pairs : List (A × B)) (new : B) (accept : ℕ → Bool) (accept_value : A → Bool)
+    (view : Viewable (map_spec w k v) b p) (agrees : AgreesOnKeys k key b accept accept_value) (st : MapRepresents w k v key value key_hash factor b p pairs) where
   -- after a write among the parts of the first accepted value, the map represents
   -- the list with the new value
   pub nested_first : RepresentsLocally k key → RepresentsLocally v value → HashLocal k key_hash → (c : List ℕ) (pos : ℕ)
       → Some pos ≡ option_map (value_pos k v) (find accept (home_positions w (entry_spec k v).size b p st.homes)) → WritesParts v b c pos → value c pos new
-      → MapRepresents w k v key value key_hash factor c p (with_first asks new pairs)
+      → MapRepresents w k v key value key_hash factor c p (with_first accept_value new pairs)
   nested_first kn vn local c pos found writes represents =
       let xs = home_positions w (entry_spec k v).size b p st.homes in
       let t = some_place (value_pos k v) (find accept xs) pos found in
-      elim (nth_found asks new accept xs pairs (count w k v kl vl key value key_hash factor b p pairs new accept asks view asks_for st)
-      (each_alike w k v kl vl key value key_hash factor b p pairs new accept asks view asks_for st)) [
+      elim (nth_found accept_value new accept xs pairs (count w k v kl vl key value key_hash factor b p pairs new accept accept_value view agrees st)
+      (each_alike w k v kl vl key value key_hash factor b p pairs new accept accept_value view agrees st)) [
         | inl none ↦ absurd (let e = t.1 ∙ none.0 in cc)
         | inr r ↦
             let at : t.0 ≡ slice_index xs r.n = same_Some t.0 (slice_index xs r.n) (t.1 ∙ r.place) in
@@ -186,7 +186,7 @@ value_nested w k v kl vl b c p i view walked writes =
     let there = item_viewable w s law b p view i walked in
     let small = size_of_small (whole_size k v) there.valid.1.0 in
     let within = key_and_value_inside k v in record {
-      holds = (value_kept w k v kl vl b p i view walked c writes.sealed writes.keeps).0.holds;
+      is_valid = (value_kept w k v kl vl b p i view walked c writes.sealed writes.keeps).0.is_valid;
       sealed = λ lo hi l o o' h.
           let t = holds_at w s law b p lo hi l h (omega (arith, walked.0)) in
           let x = item_holds w s law b p lo hi l h i walked t in
@@ -203,4 +203,4 @@ value_nested_at w k v kl vl b c p q pos view at is sealed keeps =
 
 -- without a write, nothing changes
 pub unwritten : (s : ElementSpec) (b : List ℕ) (p : ℕ) → WritesParts s b b p
-unwritten s b p = record { holds = λ lo hi l o o' h. h; sealed = λ lo hi l o o' h. record { same_length = refl; before = refl; after = refl } }
+unwritten s b p = record { is_valid = λ lo hi l o o' h. h; sealed = λ lo hi l o o' h. record { same_length = refl; before = refl; after = refl } }

@@ -15,15 +15,15 @@ use Rattle.rkyv_table.proofs.ValidTable.{item_viewable}
 use Rattle.rkyv_table.proofs.Moved.{moved}
 use Rattle.rkyv_table.proofs.SealedTable.{value_kept}
 use Rattle.rkyv_base.specs.declared.entry.Entry.{Entry}
-use Rattle.rkyv_collections.specs.Map.{AnswersKeys, AreUnderHashAt, FindsBy, FindsFirstBy}
+use Rattle.rkyv_collections.specs.Map.{ComparesKeysBy, AreUnderHashAt, FindsBy, FindsFirstBy}
 use Rattle.rkyv_collections.specs.Map.{FindsFirstKey, FindsFirstKeyAt, FindsKey, FindsKeyAt}
 use Rattle.rkyv_collections.specs.Map.{IsEntryIn, IsKeyIn, IsValueIn, IsViewAt, map_bytes, map_pos}
 use Rattle.rkyv_collections.specs.Map.Lookups.{IsAcceptedKey}
-use Rattle.rkyv_collections.specs.Map.MapAt.{MapAt, TellsKeyAt, map_at}
+use Rattle.rkyv_collections.specs.Map.MapAt.{MapAt, FoundKeyHasAt, map_at}
 use Rattle.rkyv_collections.specs.Map.MapSpec.{IsKeyPosAt, map_spec}
 use Rattle.rkyv_collections.specs.Map.Misplaced.{FindsOneKey, FindsOneKeyAt}
-use Rattle.rkyv_keys.specs.Asked.{Asked}
-use Rattle.rkyv_collections.specs.Map.SealedMap.{AnswersKeysAt, FindsByAt, FindsFirstByAt, IsAcceptedKeyAt, IsKeyAt, IsPairPos, TellsByAt}
+use Rattle.rkyv_keys.specs.KeyLookup.{KeyLookup}
+use Rattle.rkyv_collections.specs.Map.SealedMap.{ComparesKeysByAt, FindsByAt, FindsFirstByAt, IsAcceptedKeyAt, IsKeyAt, IsPairPos, FoundByHasAt}
 use Rattle.rkyv_collections.specs.declared.map.ArchivedHashMap.{ArchivedHashMap}
 
 module _ (w : Width) (k v : ElementSpec) (kl : IsElement k) (vl : IsElement v) (b : List ℕ) (p : ℕ) (view : Viewable (map_spec w k v) b p) where
@@ -58,9 +58,9 @@ module _ (w : Width) (k v : ElementSpec) (kl : IsElement k) (vl : IsElement v) (
   value_inside (Some q) h = subst (λ n. n + v.size ≤ length b) (sym h.2) (pair_place h.0 h.1).value.inside
 
 -- a property of a found value, by its position
-found_told : {E : Type 0} (P : View E → Type 0) (Q : ℕ → Type 0) → ((x : View E) → P x → Q (pos_of x)) → (result : Option (View E)) (pos : Option ℕ) → IsViewAt result pos → IfSome result P → IfSome pos Q
-found_told P Q says None pos at h = subst (λ (o : Option ℕ). IfSome o Q) at tt
-found_told P Q says (Some x) pos at h = subst (λ (o : Option ℕ). IfSome o Q) at (says x h)
+found_pos_satisfies : {E : Type 0} (P : View E → Type 0) (Q : ℕ → Type 0) → ((x : View E) → P x → Q (pos_of x)) → (result : Option (View E)) (pos : Option ℕ) → IsViewAt result pos → IfSome result P → IfSome pos Q
+found_pos_satisfies P Q implies None pos at h = subst (λ (o : Option ℕ). IfSome o Q) at tt
+found_pos_satisfies P Q implies (Some x) pos at h = subst (λ (o : Option ℕ). IfSome o Q) at (implies x h)
 
 -- the map that is read has these bytes and this position
 module _ {K V H W : Type 0} {ks : Specs K} {vs : Specs V} {wt : Words W} (m : ArchivedHashMap K V H W ks vs wt) (b : List ℕ) (p : ℕ) (bytes : map_bytes m ≡ b) (place : map_pos m ≡ p) where
@@ -75,8 +75,8 @@ module _ {K V H W : Type 0} {ks : Specs K} {vs : Specs V} {wt : Words W} (m : Ar
       place = as_read (λ c q. IsKeyPosAt wt.word ks.spec vs.spec c q (pos_of key)) is.place;
     }
 
-    answers_read : (post : View K → Bool → Type 0) (accept : ℕ → Bool) → AnswersKeysAt wt.word ks.spec vs.spec b p post accept → AnswersKeys m post accept
-    answers_read post accept answers key r is told = answers key r (key_at key is) told
+    compares_read : (post : View K → Bool → Type 0) (accept : ℕ → Bool) → ComparesKeysByAt wt.word ks.spec vs.spec b p post accept → ComparesKeysBy m post accept
+    compares_read post accept compares key r is compared = compares key r (key_at key is) compared
 
     -- an accepted key, by its position
     pub accepted_read : (post : View K → Bool → Type 0) (place : Option ℕ) → IfSome place (IsAcceptedKey m post) → IfSome place (IsAcceptedKeyAt wt.word ks.spec vs.spec b p post)
@@ -86,50 +86,50 @@ module _ {K V H W : Type 0} {ks : Specs K} {vs : Specs V} {wt : Words W} (m : Ar
     -- a found entry has its key in the map, and a found value is behind a key
     pub entry_read : (result : Option (View (Entry K V))) (pos : Option ℕ) → IsViewAt result pos → IfSome result (IsEntryIn m) → IfSome pos (IsKeyPosAt wt.word ks.spec vs.spec b p)
     entry_read result pos at found =
-        found_told (IsEntryIn m) (IsKeyPosAt wt.word ks.spec vs.spec b p) (λ x is. as_read (λ c q. IsKeyPosAt wt.word ks.spec vs.spec c q (pos_of x)) is.2) result pos at found
+        found_pos_satisfies (IsEntryIn m) (IsKeyPosAt wt.word ks.spec vs.spec b p) (λ x is. as_read (λ c q. IsKeyPosAt wt.word ks.spec vs.spec c q (pos_of x)) is.2) result pos at found
 
     pub value_read : (result : Option (View V)) (pos : Option ℕ) → IsViewAt result pos → IfSome result (IsValueIn m)
         → IfSome pos (λ q. (key : ℕ) × IsKeyPosAt wt.word ks.spec vs.spec b p key × (q ≡ value_pos ks.spec vs.spec key))
     value_read result pos at found =
-        found_told (IsValueIn m) (λ q. (key : ℕ) × IsKeyPosAt wt.word ks.spec vs.spec b p key × (q ≡ value_pos ks.spec vs.spec key))
+        found_pos_satisfies (IsValueIn m) (λ q. (key : ℕ) × IsKeyPosAt wt.word ks.spec vs.spec b p key × (q ≡ value_pos ks.spec vs.spec key))
         (λ x is. (is.key, as_read (λ c q. IsKeyPosAt wt.word ks.spec vs.spec c q is.key) is.walked, is.at.1)) result pos at found
 
     -- the property of a lookup in the map that is read, for its bytes and its position
-    module _ (Fact Said : Option ℕ → Type 0) (says : (found : Option ℕ) → Fact found → Said found) where
-      pub key_read : (hash : ℕ) (fits : List ℕ → ℕ → Bool) → FindsKey m hash (fits (map_bytes m)) Fact → FindsKeyAt wt.word ks.spec vs.spec b p hash (fits b) Said
-      key_read hash fits found = says _ (as_read (λ c q. FindsKeyAt wt.word ks.spec vs.spec c q hash (fits c) Fact) found)
+    module _ (Fact Implied : Option ℕ → Type 0) (implies : (found : Option ℕ) → Fact found → Implied found) where
+      pub key_read : (hash : ℕ) (fits : List ℕ → ℕ → Bool) → FindsKey m hash (fits (map_bytes m)) Fact → FindsKeyAt wt.word ks.spec vs.spec b p hash (fits b) Implied
+      key_read hash fits found = implies _ (as_read (λ c q. FindsKeyAt wt.word ks.spec vs.spec c q hash (fits c) Fact) found)
 
-      pub first_key_read : (key_hash : List ℕ → ℕ → ℕ) (fits : List ℕ → ℕ → Bool) → FindsFirstKey m key_hash (fits (map_bytes m)) Fact → FindsFirstKeyAt wt.word ks.spec vs.spec b p key_hash (fits b) Said
-      first_key_read key_hash fits found = λ homes written. says _ (as_read (λ c q. FindsFirstKeyAt wt.word ks.spec vs.spec c q key_hash (fits c) Fact) found homes written)
+      pub first_key_read : (key_hash : List ℕ → ℕ → ℕ) (fits : List ℕ → ℕ → Bool) → FindsFirstKey m key_hash (fits (map_bytes m)) Fact → FindsFirstKeyAt wt.word ks.spec vs.spec b p key_hash (fits b) Implied
+      first_key_read key_hash fits found = λ homes written. implies _ (as_read (λ c q. FindsFirstKeyAt wt.word ks.spec vs.spec c q key_hash (fits c) Fact) found homes written)
 
-      pub by_read : (post : View K → Bool → Type 0) (hash : ℕ) → FindsBy m post hash Fact → FindsByAt wt.word ks.spec vs.spec b p post hash Said
-      by_read post hash found = λ accept answers. key_read hash (λ c. accept) (found accept (answers_read post accept answers))
+      pub by_read : (post : View K → Bool → Type 0) (hash : ℕ) → FindsBy m post hash Fact → FindsByAt wt.word ks.spec vs.spec b p post hash Implied
+      by_read post hash found = λ accept compares. key_read hash (λ c. accept) (found accept (compares_read post accept compares))
 
-      pub first_by_read : (post : View K → Bool → Type 0) (hash : ℕ) (key_hash : List ℕ → ℕ → ℕ) → FindsFirstBy m post hash key_hash Fact → FindsFirstByAt wt.word ks.spec vs.spec b p post hash key_hash Said
-      first_by_read post hash key_hash found = λ accept answers under.
-          first_key_read key_hash (λ c. accept) (found accept (answers_read post accept answers) (moved (λ c q. AreUnderHashAt wt.word ks.spec vs.spec c q hash key_hash accept) b (map_bytes m) p (map_pos m) (sym bytes) (sym place) under))
+      pub first_by_read : (post : View K → Bool → Type 0) (hash : ℕ) (key_hash : List ℕ → ℕ → ℕ) → FindsFirstBy m post hash key_hash Fact → FindsFirstByAt wt.word ks.spec vs.spec b p post hash key_hash Implied
+      first_by_read post hash key_hash found = λ accept compares under.
+          first_key_read key_hash (λ c. accept) (found accept (compares_read post accept compares) (moved (λ c q. AreUnderHashAt wt.word ks.spec vs.spec c q hash key_hash accept) b (map_bytes m) p (map_pos m) (sym bytes) (sym place) under))
 
-      pub tells_read : (a : Asked) → FindsKey m a.hash (a.fits (map_bytes m)) Fact → FindsFirstKey m a.key_hash (a.fits (map_bytes m)) Fact → FindsOneKey m a.key_hash a.same (a.fits (map_bytes m)) Fact → TellsKeyAt (map_at wt ks vs b p) a Said
-      tells_read a answer first complete = record {
+      pub satisfies_read : (a : KeyLookup) → FindsKey m a.hash (a.fits (map_bytes m)) Fact → FindsFirstKey m a.key_hash (a.fits (map_bytes m)) Fact → FindsOneKey m a.key_hash a.same (a.fits (map_bytes m)) Fact → FoundKeyHasAt (map_at wt ks vs b p) a Implied
+      satisfies_read a answer first complete = record {
         answer = key_read a.hash a.fits answer;
         first = first_key_read a.key_hash a.fits first;
         complete = λ none.
             let one = as_read (λ c q. FindsOneKeyAt wt.word ks.spec vs.spec c q a.key_hash a.same (a.fits c) Fact) complete none in
-            (one.0, one.1, says one.0 one.2);
+            (one.0, one.1, implies one.0 one.2);
       }
 
 -- a property that follows from another of each position
-pub tells_more : (m : MapAt) (a : Asked) (Fact Said : Option ℕ → Type 0) → ((place : Option ℕ) → Fact place → Said place) → TellsKeyAt m a Fact → TellsKeyAt m a Said
-tells_more m a Fact Said says t = record {
-  answer = says _ t.answer;
-  first = λ homes written. says _ (t.first homes written);
-  complete = λ none. let one = t.complete none in (one.0, one.1, says one.0 one.2);
+pub satisfies_implied : (m : MapAt) (a : KeyLookup) (Fact Implied : Option ℕ → Type 0) → ((place : Option ℕ) → Fact place → Implied place) → FoundKeyHasAt m a Fact → FoundKeyHasAt m a Implied
+satisfies_implied m a Fact Implied implies t = record {
+  answer = implies _ t.answer;
+  first = λ homes written. implies _ (t.first homes written);
+  complete = λ none. let one = t.complete none in (one.0, one.1, implies one.0 one.2);
 }
 
-pub tells_more_by : {K : Type 0} (m : MapAt) (hash : ℕ) (key_hash : List ℕ → ℕ → ℕ) (post : View K → Bool → Type 0) (Fact Said : Option ℕ → Type 0) → ((place : Option ℕ) → Fact place → Said place)
-    → TellsByAt m hash key_hash post Fact → TellsByAt m hash key_hash post Said
-tells_more_by m hash key_hash post Fact Said says t = record {
-  accepted = (t.accepted.0, says t.accepted.0 t.accepted.1, t.accepted.2);
-  answer = λ accept answers. says _ (t.answer accept answers);
-  first = λ accept answers under homes written. says _ (t.first accept answers under homes written);
+pub satisfies_implied_by : {K : Type 0} (m : MapAt) (hash : ℕ) (key_hash : List ℕ → ℕ → ℕ) (post : View K → Bool → Type 0) (Fact Implied : Option ℕ → Type 0) → ((place : Option ℕ) → Fact place → Implied place)
+    → FoundByHasAt m hash key_hash post Fact → FoundByHasAt m hash key_hash post Implied
+satisfies_implied_by m hash key_hash post Fact Implied implies t = record {
+  accepted = (t.accepted.0, implies t.accepted.0 t.accepted.1, t.accepted.2);
+  answer = λ accept compares. implies _ (t.answer accept compares);
+  first = λ accept compares under homes written. implies _ (t.first accept compares under homes written);
 }

@@ -13,7 +13,7 @@ use Rattle.rkyv_base.specs.declared.entry.Entry.{Entry}
 use Rattle.rkyv_base.specs.declared.seal.Seal.{Seal}
 use Rattle.rkyv_base.specs.declared.view.View.{View}
 use Rattle.rkyv_base.proofs.Sealing.{entry_kept, sealed_wider}
-use Rattle.rkyv_table.specs.Table.SealedItems.{StaysThere, TakesPosition, cursor_buckets_left, cursor_bytes}
+use Rattle.rkyv_table.specs.Table.SealedItems.{StaysThere, YieldsPosition, cursor_buckets_left, cursor_bytes}
 use Rattle.rkyv_table.specs.Table.Positions.{table_controls}
 use Rattle.rkyv_table.specs.Table.SealedTable.{SameValue}
 use Rattle.rkyv_table.specs.Controls.Walking.{full_from}
@@ -22,7 +22,7 @@ use Rattle.rkyv_table.proofs.ValidTable.{item_viewable}
 use Rattle.rkyv_table.proofs.SealedItems.{cursor_kept, full_end, full_skipped}
 use Rattle.rkyv_table.proofs.SealedTable.{table_kept}
 use Rattle.rkyv_collections.specs.Map.SealedMap.{IsPairPos}
-use Rattle.rkyv_collections.specs.Map.SealedPairs.{IsPairIter, KeepsPairs, TakesKeyPos, TakesPairAt}
+use Rattle.rkyv_collections.specs.Map.SealedPairs.{IsPairIter, KeepsPairs, YieldsKeyPos, YieldsPairAt}
 use Rattle.rkyv_table.specs.Table.PairSeals.{LendsPair}
 use Rattle.rkyv_table.proofs.PairSeals.{pair_lent}
 use Rattle.rkyv_collections.proofs.SealedMap.{pair_place}
@@ -51,9 +51,9 @@ module _ {K V : Type 0} (k v : ElementSpec) (kl : IsElement k) (vl : IsElement v
       r.cap r.next (omega arith)
 
   -- a step over the entries is one over the keys
-  pub takes_key : (before after : RawIterSeal (Entry K V)) (result : Option ℕ) → TakesPosition (entry_spec k v) before result after → TakesKeyPos k v before result after
-  takes_key before after None h w p is = let d = h w p is in record { none = d.0; still = d.1; iter = d.2 }
-  takes_key before after (Some q) h w p is =
+  pub yields_key_pos : (before after : RawIterSeal (Entry K V)) (result : Option ℕ) → YieldsPosition (entry_spec k v) before result after → YieldsKeyPos k v before result after
+  yields_key_pos before after None h w p is = let d = h w p is in record { none = d.0; still = d.1; iter = d.2 }
+  yields_key_pos before after (Some q) h w p is =
       let t = h w p is in
       record {
         bucket = t.bucket;
@@ -63,7 +63,7 @@ module _ {K V : Type 0} (k v : ElementSpec) (kl : IsElement k) (vl : IsElement v
       }
 
   -- the key and the seal at the first found key
-  pub lends_first : (w : Width) (p q : ℕ) (before after : RawIterSeal (Entry K V)) (archive : List ℕ) → archive ≡ cursor_bytes before → TakesPairAt k v w p before after q
+  pub lends_first : (w : Width) (p q : ℕ) (before after : RawIterSeal (Entry K V)) (archive : List ℕ) → archive ≡ cursor_bytes before → YieldsPairAt k v w p before after q
       → (result : Option (View K × Seal V)) → IfSome result (λ (pair : View K × Seal V). IsValidView k pair.0)
       → IfSome result (λ (pair : View K × Seal V). (pos_of pair.0 ≡ q) × (bytes_of pair.0 ≡ take (value_pos k v q) archive))
       → IfSome result (λ (pair : View K × Seal V). (seal_pos pair.1 ≡ 0) × (bytes_in pair.1 ≡ drop (value_pos k v q) archive))

@@ -26,6 +26,6 @@ module _ {X : Type 0} (P : X → Type 0) (whole : List X) where
   -- the result of a comparison of all items is `false` if a remaining item fails
   module _ (n m : ℕ) where
     pub one_fails : (x : X) (left : List X) → Decides (x ∷ left) → (r : Bool) → IsTrue r ↔ P x → r ≡ false → IsTrue false ↔ ((n ≡ m) × All P whole)
-    one_fails x left d r told no' =
-        let apart : P x → ⊥ = λ f. true≢false (sym (told.1 f) ∙ no') in
+    one_fails x left d r decides no' =
+        let apart : P x → ⊥ = λ f. true≢false (sym (decides.1 f) ∙ no') in
         (λ t. absurd (true≢false (sym t)), λ h. absurd (decides_not x left d apart h.1))

@@ -32,18 +32,18 @@ use Rattle.rkyv_base.specs.Lemmas.Pairs.{written_as-format}
 use Rattle.rkyv_collections.specs.Lemmas.DistinctEntries.{of_entries-format}
 use Rattle.rkyv_table.specs.Table.ItemValues.{with_units}
 use Rattle.rkyv_collections.specs.StdMaps.StdEquality.{FindsPair}
-use Rattle.rkyv_collections.specs.StdMaps.StdLookups.{FindsAsked, FindsEntries, FindsMembers, IsValueBehind}
+use Rattle.rkyv_collections.specs.StdMaps.StdLookups.{FindsFirstAccepted, FindsEntries, FindsMembers, IsValueBehind}
 use Rattle.rkyv_collections.specs.StdMaps.StdMap.{of_entries}
 use Rattle.rkyv_collections.proofs.FoundPairs.{first_listed}
 use Rattle.rkyv_collections.specs.Lemmas.StdSet.{unit_lookup}
 use Rattle.rkyv_collections.proofs.WrittenPairs.{first_accepted, pair_valid}
 
 -- the value of the first accepted pair
-first_looked_up : {A B : Type 0} (asks : A → Bool) (entries : List (A × B)) → option_map (λ pair. pair.1) (first_pair asks entries) ≡ lookup asks entries
-first_looked_up asks [] = refl
-first_looked_up asks (e ∷ es) = elim (cases_Bool (asks e.0)) [
+first_looked_up : {A B : Type 0} (accept_value : A → Bool) (entries : List (A × B)) → option_map (λ pair. pair.1) (first_pair accept_value entries) ≡ lookup accept_value entries
+first_looked_up accept_value [] = refl
+first_looked_up accept_value (e ∷ es) = elim (cases_Bool (accept_value e.0)) [
   | inl here ↦ rw here refl
-  | inr other ↦ rw other (first_looked_up asks es)
+  | inr other ↦ rw other (first_looked_up accept_value es)
 ]
 
 -- the result of a lookup with a value, if an equal value is found
@@ -65,15 +65,15 @@ as_none value b offset (Some q) None false r e h n = absurd (true≢false (sym (
 
 -- The result for a key that is looked up in entries. If they have a value,
 -- an equal one must be found. If they have none, none may be found.
-module _ {A B : Type 0} (w : Width) (k v : ElementSpec) (hash : A → ℕ) (fits : A → List ℕ → ℕ → Bool) (equals : List ℕ → ℕ → B → Type 0) (b : List ℕ) (p : ℕ) (key : A) (asks : A → Bool) (entries : List (A × B)) where
+module _ {A B : Type 0} (w : Width) (k v : ElementSpec) (hash : A → ℕ) (fits : A → List ℕ → ℕ → Bool) (equals : List ℕ → ℕ → B → Type 0) (b : List ℕ) (p : ℕ) (key : A) (accept_value : A → Bool) (entries : List (A × B)) where
   abbrev place : Option ℕ
   place = pos_found generic_kind w (entry_spec k v).size b p (hash key) (fits key b)
 
-  pub asked_some : (x : B) (r : Bool) → Some x ≡ lookup asks entries → IsTrue r ↔ FindsPair w k v hash fits equals b p (key, x) → IsTrue r ↔ FindsAsked w k hash fits v equals b p key asks entries
-  asked_some x r e h = as_value equals b (value_offset k v) place (lookup asks entries) x r e h
+  pub accepted_some : (x : B) (r : Bool) → Some x ≡ lookup accept_value entries → IsTrue r ↔ FindsPair w k v hash fits equals b p (key, x) → IsTrue r ↔ FindsFirstAccepted w k hash fits v equals b p key accept_value entries
+  accepted_some x r e h = as_value equals b (value_offset k v) place (lookup accept_value entries) x r e h
 
-  pub asked_none : (found r : Bool) → None ≡ lookup asks entries → IsTrue found ↔ IsSome place → r ≡ not found → IsTrue r ↔ FindsAsked w k hash fits v equals b p key asks entries
-  asked_none found r e h n = as_none equals b (value_offset k v) place (lookup asks entries) found r e h n
+  pub accepted_none : (found r : Bool) → None ≡ lookup accept_value entries → IsTrue found ↔ IsSome place → r ≡ not found → IsTrue r ↔ FindsFirstAccepted w k hash fits v equals b p key accept_value entries
+  accepted_none found r e h n = as_none equals b (value_offset k v) place (lookup accept_value entries) found r e h n
 
 -- at the position of a pair, its value is behind the key
 value_behind : {A B : Type 0} (k v : ElementSpec) (key : List ℕ → ℕ → A → Type 0) (value : List ℕ → ℕ → B → Type 0) (b : List ℕ) (place : Option ℕ) (o : Option (A × B))
@@ -103,7 +103,7 @@ module _ {State : Type 0} (hasher : Hasher State) (small : NumbersFit hasher) (w
   entries_found : (b : List ℕ) (p : ℕ) → Viewable (map_spec w k v) b p → (entries : List (A × B))
       → MapRepresents w k v key value (hash_at hasher key_calls) factor b p entries
       → FindsEntries w k (hash_of hasher calls) fits key can_read v value b p entries
-  entries_found b p view entries st q asks ready asks_for =
+  entries_found b p view entries st q accept_value ready agrees =
       let hash = hash_at hasher key_calls in
       let accept = fits q b in
       let positions = home_positions w (entry_spec k v).size b p st.homes in
@@ -111,10 +111,10 @@ module _ {State : Type 0} (hasher : Hasher State) (small : NumbersFit hasher) (w
       (λ i h accepted.
       ap (hash_of_calls hasher)
       (sym (query.same_calls q b (pair_at w k v b p st.homes i) ready (valid_key kl vl b (pair_at w k v b p st.homes i) (pair_valid w k v kl vl hash b p st.homes view st.written i h)) accepted))) in
-      let listed = first_listed w k v kl vl key value hash factor b p entries view accept asks asks_for st in
-      let behind = value_behind k v key value b (find accept positions) (first_pair asks entries) listed in
-      subst (λ (place : Option ℕ). IsValueBehind value b (value_offset k v) place (lookup asks entries)) (sym found)
-      (subst (λ (o : Option B). IsValueBehind value b (value_offset k v) (find accept positions) o) (first_looked_up asks entries) behind)
+      let listed = first_listed w k v kl vl key value hash factor b p entries view accept accept_value agrees st in
+      let behind = value_behind k v key value b (find accept positions) (first_pair accept_value entries) listed in
+      subst (λ (place : Option ℕ). IsValueBehind value b (value_offset k v) place (lookup accept_value entries)) (sym found)
+      (subst (λ (o : Option B). IsValueBehind value b (value_offset k v) (find accept positions) o) (first_looked_up accept_value entries) behind)
 
   -- in any archive with the written bytes of a map of std
   looked_up : IsArchiveWord w → (equal : A → A → Bool) {R : Type 0} (f : Format (List (A × B)) R)
@@ -130,30 +130,30 @@ module _ {State : Type 0} (hasher : Hasher State) (small : NumbersFit hasher) (w
     {can_read : Q → Type 0} {calls : Q → List HasherCall} {fits : Q → List ℕ → ℕ → Bool} (query : IsQuery k same key_calls can_read calls fits)
     {own_read : A → Type 0} {own_calls : A → List HasherCall} {own_fits : A → List ℕ → ℕ → Bool} (own : IsQuery k same key_calls own_read own_calls own_fits)
     {equal : A → A → Bool} (native : FitsItsEqual k key equal own_fits) (itself : (a : A) → equal a a ≡ true) (reads : (a : A) → own_read a)
-    {key_format : Format A R} {value_format : Format B S} (key_law : IsFormat k key key_format) (value_law : IsFormat v value value_format) (seen : X → List (A × B)) where
+    {key_format : Format A R} {value_format : Format B S} (key_law : IsFormat k key key_format) (value_law : IsFormat v value value_format) (model : X → List (A × B)) where
   abbrev pub whole_format : Format (List (A × B)) TableResolver
   whole_format = of_entries equal (listed max (7, 8) (map_format w k v key_format value_format (hash_of hasher own_calls) (7, 8)))
 
-  pub seen_looked_up : IsFormat (map_spec w k v) (λ b p x. FindsEntries w k (hash_of hasher calls) fits key can_read v value b p (seen x)) (written_as seen whole_format)
-  seen_looked_up =
+  pub entries_looked_up : IsFormat (map_spec w k v) (λ b p x. FindsEntries w k (hash_of hasher calls) fits key can_read v value b p (model x)) (written_as model whole_format)
+  entries_looked_up =
       let f = listed max (7, 8) (map_format w k v key_format value_format (hash_of hasher own_calls) (7, 8)) in
-      written_as-format seen (map_spec w k v) (FindsEntries w k (hash_of hasher calls) fits key can_read v value) (of_entries equal f)
+      written_as-format model (map_spec w k v) (FindsEntries w k (hash_of hasher calls) fits key can_read v value) (of_entries equal f)
       (looked_up hasher small w kl vl query (7, 8) kind equal f (listed_map_sound hasher w kl vl (7, 8) max kind own native itself reads key_law value_law))
 
 -- the same for a set
-pub members_looked_up : {X A Q R : Type 0} (w : Width) (k s : ElementSpec) (key : List ℕ → ℕ → A → Type 0) (can_read : Q → Type 0) (hash : Q → ℕ) (fits : Q → List ℕ → ℕ → Bool) (seen : X → List A) (f : Format X R)
-    → IsFormat s (λ b p x. FindsEntries w k hash fits key can_read unit_spec unit_represents b p (with_units (seen x))) f
-    → IsFormat s (λ b p x. FindsMembers w k hash fits key can_read b p (seen x)) f
-members_looked_up w k s key can_read hash fits seen f law = record {
+pub members_looked_up : {X A Q R : Type 0} (w : Width) (k s : ElementSpec) (key : List ℕ → ℕ → A → Type 0) (can_read : Q → Type 0) (hash : Q → ℕ) (fits : Q → List ℕ → ℕ → Bool) (model : X → List A) (f : Format X R)
+    → IsFormat s (λ b p x. FindsEntries w k hash fits key can_read unit_spec unit_represents b p (with_units (model x))) f
+    → IsFormat s (λ b p x. FindsMembers w k hash fits key can_read b p (model x)) f
+members_looked_up w k s key can_read hash fits model f law = record {
   size_exact = law.size_exact;
   exclusive = law.exclusive;
   sound = λ x r c p0 p part out h i t o q al.
       let d = law.sound x r c p0 p part out h i t o q al in (
         d.0,
         d.1,
-        λ query asks ready asks_for.
+        λ query accept_value ready agrees.
             let place = pos_found generic_kind w (entry_spec k unit_spec).size c p (hash query) (fits query c) in
-            both_or_none unit_represents c (value_offset k unit_spec) place (lookup asks (with_units (seen x))) (d.2 query asks ready asks_for)
-            ∙ ap is_some (unit_lookup asks (seen x)) ∙ some_either {X = Unit {0}} tt (list_any asks (seen x)),
+            both_or_none unit_represents c (value_offset k unit_spec) place (lookup accept_value (with_units (model x))) (d.2 query accept_value ready agrees)
+            ∙ ap is_some (unit_lookup accept_value (model x)) ∙ some_either {X = Unit {0}} tt (list_any accept_value (model x)),
       );
 }

@@ -15,7 +15,7 @@ use Rattle.rkyv_base.specs.ElementSpec.{IsElement, ElementSpec}
 use Rattle.rkyv_table.specs.Table.Header.{cap_at}
 use Rattle.rkyv_table.specs.Controls.Placing.{walk}
 use Rattle.rkyv_table.specs.Table.Positions.{IsWalked, item_at, item_positions, table_controls}
-use Rattle.rkyv_table.specs.Table.PairWalks.{TakesFirst}
+use Rattle.rkyv_table.specs.Table.PairWalks.{YieldsFirstPos}
 use Rattle.rkyv_table.specs.Table.RawItems.{ItemsLeft}
 use Rattle.rkyv_table.proofs.RawWalks.{walked_all}
 use Rattle.rkyv_collections.specs.Map.MapSpec.{IsKeyPosAt}
@@ -82,7 +82,7 @@ module _ {A B : Type 0} (w : Width) (k v : ElementSpec) (key : List ℕ → ℕ 
         subst (λ (xs : List ℕ). LeadsOn k v key value equal archive.now all_positions xs found stored) (sym at) (leads_first k v key value equal archive.now all_positions found stored empty none),
       )
 
-  module _ (before after : ItemsLeft) (place : ℕ) (found : A → Option B) (stored : List A) (step : TakesFirst before place after) (on : WalksOn before found stored) where
+  module _ (before after : ItemsLeft) (place : ℕ) (found : A → Option B) (stored : List A) (step : YieldsFirstPos before place after) (on : WalksOn before found stored) where
     -- the next key is one of the map, in the same bytes
     pub walks_key : IsKeyPosAt w k v archive.now p place
     walks_key = All-head (IsKeyPosAt w k v archive.now p) place after.positions (subst (All (IsKeyPosAt w k v archive.now p)) step.first on.1)

@@ -106,7 +106,7 @@ module _ (k v : ElementSpec) (kl : IsElement k) (vl : IsElement v) where
     pub map_kept : KeepsMap w k v key_hash b c p i
     map_kept = record {
       table = kept.0;
-      valid = viewable_kept (map_spec w k v) b c p writes.sealed.same_length kept.0.holds view;
+      valid = viewable_kept (map_spec w k v) b c p writes.sealed.same_length kept.0.is_valid view;
       positions = pos_same;
       keys = key_same;
       hashes = hash_there;

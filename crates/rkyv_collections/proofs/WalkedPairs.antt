@@ -19,7 +19,7 @@ use Rattle.rkyv_table.specs.Table.Positions.{WrittenAt, home_positions, item_at,
 use Rattle.rkyv_table.specs.Table.WalkLaws.{VisitsHomes}
 use Rattle.rkyv_table.proofs.WalkedHomes.{none_visits, walked_homes}
 use Rattle.rkyv_table.proofs.WrittenTables.{home_count, home_pos}
-use Rattle.rkyv_collections.specs.Map.ListedWalks.{GivesEach, SetWalksGiveListed, WalksGiveListed, WalksVisitPairs, key_positions_at}
+use Rattle.rkyv_collections.specs.Map.ListedWalks.{HasEachOnce, SetWalksVisitEach, WalksVisitEach, WalksVisitPairs, key_positions_at}
 use Rattle.rkyv_collections.specs.Map.MapFormat.{MapRepresents}
 
 -- ---- distinct numbers, and a list of the same length that has each of them
@@ -83,14 +83,14 @@ module _ {X : Type 0} (R : ℕ → X → Type 0) where
       (zip_set qs ys i (get_or qs j q) (get_or ys j x) h (zip_at qs ys j q x h hj)) (zip_at qs ys i q x h hi)
 
   -- the items at some positions are at the same positions in another order
-  pub given_along : (positions others : List ℕ) (xs : List X) → IsPermutation positions others → AllZip R positions xs → GivesEach R others xs
-  given_along positions others xs moved h =
-      IsPermutation-keeps positions (λ qs. GivesEach R qs xs) (record { given = xs; each = IsPermutation-refl xs; related = h })
+  pub permuted_has_each : (positions others : List ℕ) (xs : List X) → IsPermutation positions others → AllZip R positions xs → HasEachOnce R others xs
+  permuted_has_each positions others xs moved h =
+      IsPermutation-keeps positions (λ qs. HasEachOnce R qs xs) (record { reordered = xs; each = IsPermutation-refl xs; related = h })
       (λ qs i j hi hj so_far.
-      let ys = so_far.given in
+      let ys = so_far.reordered in
       let long = zip_length qs ys so_far.related in
       record {
-        given = swap ys i j;
+        reordered = swap ys i j;
         each = IsPermutation-trans xs ys (swap ys i j) so_far.each (IsPermutation-swap ys (swap ys i j) i j (omega (arith, hi, long)) (omega (arith, hj, long)) refl);
         related = zip_swap qs ys i j hi hj so_far.related;
       })
@@ -98,15 +98,15 @@ module _ {X : Type 0} (R : ℕ → X → Type 0) where
 
 -- If `read` is a function of the item at each position, a walk reads that function of the items,
 -- in some order.
-pub given_seen : {X Y : Type 0} (R : ℕ → X → Type 0) (read : ℕ → Y) (told : X → Y) → ((q : ℕ) (x : X) → R q x → read q ≡ told x)
-    → (positions : List ℕ) (items : List X) → GivesEach R positions items → IsPermutation (map told items) (map read positions)
-given_seen {X} R read told same positions items gives = subst (IsPermutation (map told items)) (sym (zip_seen positions gives.given gives.related)) (IsPermutation-map told items gives.given gives.each)
+pub models_permuted : {X Y : Type 0} (R : ℕ → X → Type 0) (read : ℕ → Y) (model : X → Y) → ((q : ℕ) (x : X) → R q x → read q ≡ model x)
+    → (positions : List ℕ) (items : List X) → HasEachOnce R positions items → IsPermutation (map model items) (map read positions)
+models_permuted {X} R read model same positions items has_each = subst (IsPermutation (map model items)) (sym (zip_mapped positions has_each.reordered has_each.related)) (IsPermutation-map model items has_each.reordered has_each.each)
   where
-    zip_seen : (qs : List ℕ) (xs : List X) → AllZip R qs xs → map read qs ≡ map told xs
-    zip_seen [] [] h = refl
-    zip_seen [] (x ∷ xs) h = absurd h
-    zip_seen (q ∷ qs) [] h = absurd h
-    zip_seen (q ∷ qs) (x ∷ xs) h = rw (same q x h.0, zip_seen qs xs h.1) refl
+    zip_mapped : (qs : List ℕ) (xs : List X) → AllZip R qs xs → map read qs ≡ map model xs
+    zip_mapped [] [] h = refl
+    zip_mapped [] (x ∷ xs) h = absurd h
+    zip_mapped (q ∷ qs) [] h = absurd h
+    zip_mapped (q ∷ qs) (x ∷ xs) h = rw (same q x h.0, zip_mapped qs xs h.1) refl
 
 -- ---- the walk
 
@@ -147,12 +147,12 @@ module _ {A B : Type 0} (w : Width) (k v : ElementSpec) (key : List ℕ → ℕ 
 
     -- if the items of `xs` are at the positions of the pairs, the positions of the walk
     -- have each of them once
-    pub given_walked : {X : Type 0} (R : ℕ → X → Type 0) (xs : List X) → length xs ≡ length pairs → ((n : ℕ) (x : X) → slice_get xs n ≡ Some x → R (slice_index (home_positions w (entry_spec k v).size b p represents.homes) n) x)
-        → GivesEach R (key_positions_at w k v b p) xs
+    pub walk_has_each : {X : Type 0} (R : ℕ → X → Type 0) (xs : List X) → length xs ≡ length pairs → ((n : ℕ) (x : X) → slice_get xs n ≡ Some x → R (slice_index (home_positions w (entry_spec k v).size b p represents.homes) n) x)
+        → HasEachOnce R (key_positions_at w k v b p) xs
     unfolding positions
-    given_walked R xs long each =
+    walk_has_each R xs long each =
         let count : length positions ≡ length xs = length-map represents.homes (item_at w (entry_spec k v).size b p) ∙ homes_count ∙ sym long in
-        given_along R positions (key_positions_at w k v b p) xs walk_moved (zip_from R positions xs count each)
+        permuted_has_each R positions (key_positions_at w k v b p) xs walk_moved (zip_from R positions xs count each)
 
     pair_at_home : (n : ℕ) (pair : A × B) → slice_get pairs n ≡ Some pair → PairRepresents k v key value b (item_at w (entry_spec k v).size b p (slice_index represents.homes n)) pair
     pair_at_home n pair at =
@@ -162,11 +162,11 @@ module _ {A B : Type 0} (w : Width) (k v : ElementSpec) (key : List ℕ → ℕ 
   pub walks_visit_pairs : WalksVisitPairs w k v key value key_hash
   walks_visit_pairs factor b p pairs represents = (walk_visits factor b p pairs represents, pair_at_home factor b p pairs represents)
 
-  pub walks_give_listed : WalksGiveListed w k v key value key_hash
-  walks_give_listed factor b p pairs represents = given_walked factor b p pairs represents (PairRepresents k v key value b) pairs refl represents.at
+  pub walks_visit_each : WalksVisitEach w k v key value key_hash
+  walks_visit_each factor b p pairs represents = walk_has_each factor b p pairs represents (PairRepresents k v key value b) pairs refl represents.at
 
-pub set_walks_give_listed : {A : Type 0} (w : Width) (k : ElementSpec) (key : List ℕ → ℕ → A → Type 0) (key_hash : List ℕ → ℕ → ℕ) → SetWalksGiveListed w k key key_hash
-set_walks_give_listed {A} w k key key_hash factor b p keys represents =
+pub set_walks_visit_each : {A : Type 0} (w : Width) (k : ElementSpec) (key : List ℕ → ℕ → A → Type 0) (key_hash : List ℕ → ℕ → ℕ) → SetWalksVisitEach w k key key_hash
+set_walks_visit_each {A} w k key key_hash factor b p keys represents =
     let unit_behind : A → A × Unit {0} = λ x. (x, tt) in
-    given_walked w k unit_spec key unit_represents key_hash factor b p (with_units keys) represents (key b) keys (sym (length-map keys unit_behind))
+    walk_has_each w k unit_spec key unit_represents key_hash factor b p (with_units keys) represents (key b) keys (sym (length-map keys unit_behind))
     (λ n x at. (represents.at n (x, tt) (slice_get-map unit_behind keys n ∙ ap (option_map unit_behind) at)).0)

@@ -133,12 +133,12 @@ module _ (w : Width) (k v : ElementSpec) (b : List ℕ) (p : ℕ) where
 module _ {K V H W : Type 0} {ks : Specs K} {vs : Specs V} {wt : Words W}
     (m : ArchivedHashMap K V H W ks vs wt) where
   -- the comparison can be called with each key
-  abbrev pub MayAskKeys : (View K → Type 0) → Type 0
-  MayAskKeys pre = (key : View K) → IsKeyIn m key → pre key
+  abbrev pub CanCompareKeys : (View K → Type 0) → Type 0
+  CanCompareKeys pre = (key : View K) → IsKeyIn m key → pre key
 
   -- the comparison returns `accept` of the position of a key
-  abbrev pub AnswersKeys : (View K → Bool → Type 0) → (ℕ → Bool) → Type 0
-  AnswersKeys post accept = (key : View K) (r : Bool) → IsKeyIn m key → post key r
+  abbrev pub ComparesKeysBy : (View K → Bool → Type 0) → (ℕ → Bool) → Type 0
+  ComparesKeysBy post accept = (key : View K) (r : Bool) → IsKeyIn m key → post key r
       → r ≡ accept key.pos
 
   -- each accepted key of the map is under the hash
@@ -161,13 +161,13 @@ module _ {K V H W : Type 0} {ks : Specs K} {vs : Specs V} {wt : Words W}
   -- the property applies to the position that a lookup by a comparison finds,
   -- if the comparison depends only on the position of a key
   abbrev pub FindsBy : (View K → Bool → Type 0) → ℕ → (Option ℕ → Type 0) → Type 0
-  FindsBy post hash P = (accept : ℕ → Bool) → AnswersKeys post accept → FindsKey hash accept P
+  FindsBy post hash P = (accept : ℕ → Bool) → ComparesKeysBy post accept → FindsKey hash accept P
 
   -- the same for a written map, if each accepted key is under the hash
   abbrev pub FindsFirstBy : (View K → Bool → Type 0) → ℕ → (List ℕ → ℕ → ℕ) → (Option ℕ → Type 0)
       → Type 0
   FindsFirstBy post hash key_hash P =
-      (accept : ℕ → Bool) → AnswersKeys post accept → AreUnderHash hash key_hash accept
+      (accept : ℕ → Bool) → ComparesKeysBy post accept → AreUnderHash hash key_hash accept
       → FindsFirstKey key_hash accept P
 
 -- the position is that of the found view, or there is neither

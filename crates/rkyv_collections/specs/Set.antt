@@ -10,11 +10,11 @@ use Rattle.rkyv_base.specs.Empty.{unit_spec}
 use Rattle.rkyv_base.specs.ElementSpec.{ElementSpec}
 use Rattle.rkyv_base.specs.View.{IsAt}
 use Rattle.rkyv_base.specs.declared.view.View.{View}
-use Rattle.rkyv_keys.specs.Asked.{Asked}
+use Rattle.rkyv_keys.specs.KeyLookup.{KeyLookup}
 use Rattle.rkyv_keys.specs.Equality.{Comparison}
 use Rattle.rkyv_keys.specs.OfUnits.{unit_same}
 use Rattle.rkyv_collections.specs.Map.Equality.{map_equal}
-use Rattle.rkyv_collections.specs.Map.Lookups.{GetsKey, TellsKey, key_part}
+use Rattle.rkyv_collections.specs.Map.Lookups.{GetsKey, FoundKeyHas, key_part}
 use Rattle.rkyv_collections.specs.Map.{key_positions, map_archive, map_bytes}
 use Rattle.rkyv_collections.specs.Map.{map_len, map_pos}
 use Rattle.rkyv_collections.specs.Map.MapSpec.{map_spec}
@@ -57,11 +57,11 @@ module _ {K H W : Type 0} {ks : Specs K} {wt : Words W} where
   member_positions s = key_positions s.map
 
   -- the property applies to the position that a lookup finds, as in the map of the keys
-  abbrev pub TellsMember : ArchivedHashSet K H W ks wt → Asked → (Option ℕ → Type 0) → Type 0
-  TellsMember s a P = TellsKey s.map a P
+  abbrev pub FoundMemberHas : ArchivedHashSet K H W ks wt → KeyLookup → (Option ℕ → Type 0) → Type 0
+  FoundMemberHas s a P = FoundKeyHas s.map a P
 
   -- `result`: key that a lookup finds
-  abbrev pub GetsMember : ArchivedHashSet K H W ks wt → Asked → Option (View K) → Type 0
+  abbrev pub GetsMember : ArchivedHashSet K H W ks wt → KeyLookup → Option (View K) → Type 0
   GetsMember s a result = GetsKey key_part s.map a result
 
 -- the sets have the same length, and each key of the first is found in the second

@@ -3,8 +3,8 @@ use Rattle.std.proofs.Common.{◌≡◌, ℕ, List, [], ◌++◌, Ok, Err, Resul
 use Rattle.std.specs.Prelude.{OnOk}
 use Rattle.std.proofs.lemmas.List.{append-nil}
 use Rattle.rkyv_dict.specs.declared.script.Command.{Command}
-use Rattle.rkyv_dict.specs.Answers.{StepsTo}
-use Rattle.rkyv_dict.specs.Commands.{request_seen}
+use Rattle.rkyv_dict.specs.Steps.{StepsTo}
+use Rattle.rkyv_dict.specs.Commands.{command_request}
 use Rattle.rkyv_dict.specs.Run.{AppendsSome}
 use Rattle.rkyv_dict.specs.State.{State}
 
@@ -12,13 +12,13 @@ pub on_ok_map : {T E : Type 0} (r : Result T E) (P Q : Type 0) → (P → Q) →
 on_ok_map (Ok x) P Q f p = f p
 on_ok_map (Err e) P Q f p = tt
 
-pub adds_none : (text : List ℕ) (answers : List ℕ → Type 0) → answers [] → AppendsSome text text answers
-adds_none text answers h = record { answer = []; added = sym (append-nil text); answered = h }
+pub adds_none : (text : List ℕ) (accepts : List ℕ → Type 0) → accepts [] → AppendsSome text text accepts
+adds_none text accepts h = record { printed = []; added = sym (append-nil text); accepted = h }
 
-pub adds_this : {T E : Type 0} (r : Result T E) (old now answer : List ℕ) (answers : List ℕ → Type 0) → OnOk r (now ≡ old ++ answer) → answers answer → OnOk r (AppendsSome old now answers)
-adds_this r old now answer answers added h = on_ok_map r (now ≡ old ++ answer) (AppendsSome old now answers) (λ e. record { answer = answer; added = e; answered = h }) added
+pub adds_this : {T E : Type 0} (r : Result T E) (old now printed : List ℕ) (accepts : List ℕ → Type 0) → OnOk r (now ≡ old ++ printed) → accepts printed → OnOk r (AppendsSome old now accepts)
+adds_this r old now printed accepts added h = on_ok_map r (now ≡ old ++ printed) (AppendsSome old now accepts) (λ e. record { printed = printed; added = e; accepted = h }) added
 
 -- the output of a command that equals a known one
 pub adds_as : (old now : List ℕ) (s s' : State) (command known : Command) → command ≡ known
-    → AppendsSome old now (λ answer. StepsTo s (request_seen known) answer s') → AppendsSome old now (λ answer. StepsTo s (request_seen command) answer s')
-adds_as old now s s' command known is h = subst (λ (k : Command). AppendsSome old now (λ answer. StepsTo s (request_seen k) answer s')) (sym is) h
+    → AppendsSome old now (λ printed. StepsTo s (command_request known) printed s') → AppendsSome old now (λ printed. StepsTo s (command_request command) printed s')
+adds_as old now s s' command known is h = subst (λ (k : Command). AppendsSome old now (λ printed. StepsTo s (command_request k) printed s')) (sym is) h

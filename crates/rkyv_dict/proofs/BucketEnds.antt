@@ -3,9 +3,9 @@ use Rattle.std.proofs.Common.{◌≡◌, ℕ, zero, suc, ◌+◌, ◌-◌, ◌*�
 use Rattle.std.specs.Prelude.{◌⊎◌, slice_get}
 use Rattle.std.proofs.lemmas.List.{length-replicate}
 use Rattle.rkyv_base.specs.Format.{Format}
-use Rattle.rkyv_base.specs.Writing.{Refusal, Step, distance, piece, refusal, zeros}
+use Rattle.rkyv_base.specs.Writing.{WriteFailure, Step, distance, piece, failure, zeros}
 use Rattle.rkyv_table.specs.Table.Slots.{BucketNext, BucketStep, SlotImages, filled}
-use Rattle.rkyv_dict.proofs.Ends.{Ends, IsKnown, ends_as, ends_at_once, ends_by_piece, no_piece, nothing_there, same_piece, same_refusal, same_slot, then_ends}
+use Rattle.rkyv_dict.proofs.Ends.{Ends, IsKnown, ends_as, ends_at_once, ends_by_piece, no_piece, nothing_there, same_piece, same_error, same_slot, then_ends}
 
 empty : {A : Type 0} (xs : List A) → length xs ≡ 0 → xs ≡ []
 empty [] e = refl
@@ -21,14 +21,14 @@ same_tail x y xs ys e = cc
 module _ {V R : Type 0} (size : ℕ) (f : Format V R) (whole : (v : V) (r : R) (p : ℕ) (out : List ℕ) → f.image v r p out → length out ≡ size)
     (exclusive : (v : V) (r : R) (p : ℕ) (out : List ℕ) → f.image v r p out → f.overflow v r p → ⊥) (v : V) (r : R) (p : ℕ) where
   abbrev pub OwnNext : List ℕ → Step → Type 0
-  OwnNext front step = (front ≡ []) × (((out : List ℕ) × f.image v r p out × (step ≡ piece out)) ⊎ (f.overflow v r p × (step ≡ refusal distance)))
+  OwnNext front step = (front ≡ []) × (((out : List ℕ) × f.image v r p out × (step ≡ piece out)) ⊎ (f.overflow v r p × (step ≡ failure distance)))
 
-  own_refusals : (front front' : List ℕ) (c c' : Refusal) → IsKnown c → IsKnown c' → OwnNext front (refusal c) → OwnNext front' (refusal c') → c ≡ c'
-  own_refusals front front' c c' k k' (e, inl x) y = absurd (no_piece c x.0 x.2)
-  own_refusals front front' c c' k k' (e, inr x) (e', inl y) = absurd (no_piece c' y.0 y.2)
-  own_refusals front front' c c' k k' (e, inr x) (e', inr y) = same_refusal c distance x.1 ∙ sym (same_refusal c' distance y.1)
+  own_unique : (front front' : List ℕ) (c c' : WriteFailure) → IsKnown c → IsKnown c' → OwnNext front (failure c) → OwnNext front' (failure c') → c ≡ c'
+  own_unique front front' c c' k k' (e, inl x) y = absurd (no_piece c x.0 x.2)
+  own_unique front front' c c' k k' (e, inr x) (e', inl y) = absurd (no_piece c' y.0 y.2)
+  own_unique front front' c c' k k' (e, inr x) (e', inr y) = same_error c distance x.1 ∙ sym (same_error c' distance y.1)
 
-  own_before : (front front' bytes : List ℕ) (c : Refusal) → IsKnown c → OwnNext front (piece bytes) → OwnNext front' (refusal c) → length front + length bytes ≤ length front'
+  own_before : (front front' bytes : List ℕ) (c : WriteFailure) → IsKnown c → OwnNext front (piece bytes) → OwnNext front' (failure c) → length front + length bytes ≤ length front'
   own_before front front' bytes c k x (e', inl y) = absurd (no_piece c y.0 y.2)
   own_before front front' bytes c k (e, inl x) (e', inr y) = absurd (exclusive v r p x.0 x.1 y.0)
   own_before front front' bytes c k (e, inr x) (e', inr y) = absurd (no_piece distance bytes (sym x.1))
@@ -37,12 +37,12 @@ module _ {V R : Type 0} (size : ℕ) (f : Format V R) (whole : (v : V) (r : R) (
   own_inside front bytes part (e, inl x) y = omega (arith, ap length e, ap length (same_piece bytes x.0 x.2), whole v r p x.0 x.1, whole v r p part y)
   own_inside front bytes part (e, inr x) y = absurd (no_piece distance bytes (sym x.1))
 
-  own_exclusive : (front part : List ℕ) (c : Refusal) → IsKnown c → OwnNext front (refusal c) → f.image v r p part → ⊥
+  own_exclusive : (front part : List ℕ) (c : WriteFailure) → IsKnown c → OwnNext front (failure c) → f.image v r p part → ⊥
   own_exclusive front part c k (e, inl x) y = no_piece c x.0 x.2
   own_exclusive front part c k (e, inr x) y = exclusive v r p part y x.0
 
   pub own_ends : Ends OwnNext (f.image v r p)
-  own_ends = record { refusals = own_refusals; before = own_before; inside = own_inside; exclusive = own_exclusive }
+  own_ends = record { unique = own_unique; before = own_before; inside = own_inside; exclusive = own_exclusive }
 
 module _ {X R : Type 0} (size : ℕ) (f : Format X R) (whole : (x : X) (r : R) (p : ℕ) (out : List ℕ) → f.image x r p out → length out ≡ size)
     (exclusive : (x : X) (r : R) (p : ℕ) (out : List ℕ) → f.image x r p out → f.overflow x r p → ⊥) (p : ℕ) where
@@ -139,7 +139,7 @@ module _ {X R : Type 0} (size : ℕ) (f : Format X R) (whole : (x : X) (r : R) (
 
   of_some : (ss : List (Option X)) (rs : List R) (i : ℕ) (more : List R) (r : R) (done : List R) (front : List ℕ) (x : X) (step : Step) → length rs ≡ filled ss → rs ≡ more ++ (r ∷ done)
       → Images (drop (suc i) ss) done front → slice_get ss i ≡ Some (Some x)
-      → ((out : List ℕ) × f.image x r (p + length front) out × (step ≡ piece out)) ⊎ (f.overflow x r (p + length front) × (step ≡ refusal distance)) → ImagesNext ss rs front step
+      → ((out : List ℕ) × f.image x r (p + length front) out × (step ≡ piece out)) ⊎ (f.overflow x r (p + length front) × (step ≡ failure distance)) → ImagesNext ss rs front step
   of_some [] rs i more r done front x step count is above at own = absurd (nothing_there (Some x) at)
   of_some (None ∷ ss) rs zero more r done front x step count is above at own = absurd (nothing_there x (same_slot None (Some x) at))
   of_some (Some y ∷ ss) [] zero more r done front x step count is above at own = absurd (omega (arith, count))
@@ -150,8 +150,8 @@ module _ {X R : Type 0} (size : ℕ) (f : Format X R) (whole : (x : X) (r : R) (
       let e : x ≡ y = sym (same_slot y x (same_slot (Some y) (Some x) at)) in
       let k : r ≡ q = sym (same_head q r rs done is) in
       let l : done ≡ rs = sym (same_tail q r rs done is) in
-      let there = subst (λ v. ((out : List ℕ) × f.image v q (p + length front) out × (step ≡ piece out)) ⊎ (f.overflow v q (p + length front) × (step ≡ refusal distance))) e
-      (subst (λ v. ((out : List ℕ) × f.image x v (p + length front) out × (step ≡ piece out)) ⊎ (f.overflow x v (p + length front) × (step ≡ refusal distance))) k own) in
+      let there = subst (λ v. ((out : List ℕ) × f.image v q (p + length front) out × (step ≡ piece out)) ⊎ (f.overflow v q (p + length front) × (step ≡ failure distance))) e
+      (subst (λ v. ((out : List ℕ) × f.image x v (p + length front) out × (step ≡ piece out)) ⊎ (f.overflow x v (p + length front) × (step ≡ failure distance))) k own) in
       inr (front, tt, [], subst (λ (j : List R). Images ss j front) l above, (refl, there), sym (append-nil front))
   of_some (None ∷ ss) rs (suc i) more r done front x step count is above at own = inl (of_some ss rs i more r done front x step count is above at own)
   of_some (Some y ∷ ss) [] (suc i) more r done front x step count is above at own = absurd (omega (arith, count))
@@ -179,8 +179,8 @@ module _ {X R : Type 0} (size : ℕ) (f : Format X R) (whole : (x : X) (r : R) (
       let left = h.1 in
       let above = h.2 in
       let one : i + 1 ≡ suc i = omega arith in
-      let shown = subst (λ n. SlotImages size f (drop n ss) above.0 (p + length front) front) one above.2 in
-      of_step ss rs i left above.0 front h.3 step count above.1 (images_of (drop (suc i) ss) above.0 (p + length front) front refl shown) h.4 h.5
+      let slot_images = subst (λ n. SlotImages size f (drop n ss) above.0 (p + length front) front) one above.2 in
+      of_step ss rs i left above.0 front h.3 step count above.1 (images_of (drop (suc i) ss) above.0 (p + length front) front refl slot_images) h.4 h.5
 
   pub buckets_end : (ss : List (Option X)) (rs : List R) → length rs ≡ filled ss
       → Ends (BucketNext size f ss rs p) (λ out. (z : ℕ) × (z ≡ p + length out) × SlotImages size f ss rs z out)

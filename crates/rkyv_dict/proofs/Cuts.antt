@@ -5,7 +5,7 @@ use Rattle.std.proofs.lemmas.List.Splits.{slice_split_first, slice_split_none, l
 use denote.Ref.{Bor}
 use Rattle.std.specs.Option.{MatchOption}
 use Rattle.std.proofs.lemmas.Str.Pattern.{IsSplitOnceResult, split_once_first}
-use Rattle.rkyv_dict.specs.Script.{Request, split_at, one_of, two_of, bare_of}
+use Rattle.rkyv_dict.specs.Script.{Request, split_at, one_of, two_of, without_arguments}
 use Rattle.std.proofs.lemmas.List.Quantifiers.{position-Some}
 use Rattle.std.proofs.lemmas.List.Sums.{position_or_len_is, fails_before_first}
 use Rattle.std.proofs.lemmas.Bool.{cases_lt, lt-ltb}
@@ -42,8 +42,8 @@ one_of_more word rest = let s = split_cons (λ b. b == 32) rest in rw s.2 refl
 pub two_of_more : (first second rest : List ℕ) → two_of (first ∷ second ∷ split_at 32 rest) ≡ None
 two_of_more first second rest = let s = split_cons (λ b. b == 32) rest in rw s.2 refl
 
-pub bare_of_more : (request : Request) (rest : List ℕ) → bare_of request (split_at 32 rest) ≡ None
-bare_of_more request rest = let s = split_cons (λ b. b == 32) rest in rw s.2 refl
+pub without_arguments_of_more : (request : Request) (rest : List ℕ) → without_arguments request (split_at 32 rest) ≡ None
+without_arguments_of_more request rest = let s = split_cons (λ b. b == 32) rest in rw s.2 refl
 
 -- a text is split at its first space
 pub cut_first : (bs : List ℕ) (r : Option (Bor (List ℕ) × Bor (List ℕ))) → IsSplitOnceResult 32 bs r

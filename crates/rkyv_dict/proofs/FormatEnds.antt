@@ -10,9 +10,9 @@ use Rattle.rkyv_base.specs.ElementSpec.{ElementSpec}
 use Rattle.rkyv_base.specs.Text.{IsArchiveWord, text_size}
 use Rattle.rkyv_base.specs.Lemmas.Text.{by_archive_word}
 use Rattle.rkyv_base.specs.TextWriting.{TextNext, TextParts, text_format, text_limit}
-use Rattle.rkyv_base.specs.Writing.{Refusal, Step, long_text, piece, refusal}
+use Rattle.rkyv_base.specs.Writing.{WriteFailure, Step, long_text, piece, failure}
 use Rattle.rkyv_table.specs.Table.OneWay.{WritesOneWay}
-use Rattle.rkyv_dict.proofs.Ends.{Ends, IsKnown, ThenMade, ThenNext, ends_at_once, no_piece, same_piece, same_refusal, then_ends}
+use Rattle.rkyv_dict.proofs.Ends.{Ends, IsKnown, ThenWrites, ThenNext, ends_at_once, no_piece, same_piece, same_error, then_ends}
 
 -- serialization ends in one way
 pub record EndsOneWay {V R : Type 0} (f : Format V R) : Type 0 where
@@ -25,12 +25,12 @@ module _ (w : Width) (kind : IsArchiveWord w) (t : List ℕ) (p : ℕ) where
   limit_above : text_size w < text_limit w
   limit_above = by_archive_word (λ v. text_size v < text_limit v) (omega arith) (omega arith) w kind
 
-  text_refusals : (front front' : List ℕ) (c c' : Refusal) → IsKnown c → IsKnown c' → TextNext w t p front (refusal c) → TextNext w t p front' (refusal c') → c ≡ c'
-  text_refusals front front' c c' k k' (inl x) y = absurd (no_piece c t x.1.1)
-  text_refusals front front' c c' k k' (inr x) (inl y) = absurd (no_piece c' t y.1.1)
-  text_refusals front front' c c' k k' (inr x) (inr y) = same_refusal c long_text x.1.1 ∙ sym (same_refusal c' long_text y.1.1)
+  text_unique : (front front' : List ℕ) (c c' : WriteFailure) → IsKnown c → IsKnown c' → TextNext w t p front (failure c) → TextNext w t p front' (failure c') → c ≡ c'
+  text_unique front front' c c' k k' (inl x) y = absurd (no_piece c t x.1.1)
+  text_unique front front' c c' k k' (inr x) (inl y) = absurd (no_piece c' t y.1.1)
+  text_unique front front' c c' k k' (inr x) (inr y) = same_error c long_text x.1.1 ∙ sym (same_error c' long_text y.1.1)
 
-  text_before : (front front' bytes : List ℕ) (c : Refusal) → IsKnown c → TextNext w t p front (piece bytes) → TextNext w t p front' (refusal c) → length front + length bytes ≤ length front'
+  text_before : (front front' bytes : List ℕ) (c : WriteFailure) → IsKnown c → TextNext w t p front (piece bytes) → TextNext w t p front' (failure c) → length front + length bytes ≤ length front'
   text_before front front' bytes c k x (inl y) = absurd (no_piece c t y.1.1)
   text_before front front' bytes c k (inl x) (inr y) = absurd (omega (arith, x.0.1, y.0))
   text_before front front' bytes c k (inr x) (inr y) = absurd (no_piece long_text bytes (sym x.1.1))
@@ -40,13 +40,13 @@ module _ (w : Width) (kind : IsArchiveWord w) (t : List ℕ) (p : ℕ) where
   text_inside front bytes part (inl x) (r, (u, inr y)) = omega (arith, ap length x.1.0, ap length (same_piece bytes t x.1.1), ap length y.1)
   text_inside front bytes part (inr x) y = absurd (no_piece long_text bytes (sym x.1.1))
 
-  text_exclusive : (front part : List ℕ) (c : Refusal) → IsKnown c → TextNext w t p front (refusal c) → ((r : TextResolver) × TextParts w t p part r) → ⊥
+  text_exclusive : (front part : List ℕ) (c : WriteFailure) → IsKnown c → TextNext w t p front (failure c) → ((r : TextResolver) × TextParts w t p part r) → ⊥
   text_exclusive front part c k (inl x) y = no_piece c t x.1.1
   text_exclusive front part c k (inr x) (r, (u, inl y)) = omega (arith, limit_above, x.0, y.0)
   text_exclusive front part c k (inr x) (r, (u, inr y)) = omega (arith, x.0, y.0.1)
 
   text_ends : Ends (TextNext w t p) (λ part. (r : TextResolver) × TextParts w t p part r)
-  text_ends = record { refusals = text_refusals; before = text_before; inside = text_inside; exclusive = text_exclusive }
+  text_ends = record { unique = text_unique; before = text_before; inside = text_inside; exclusive = text_exclusive }
 
 pub texts_end : (w : Width) → IsArchiveWord w → EndsOneWay (text_format w)
 texts_end w kind = record { ends = text_ends w kind }
@@ -57,24 +57,24 @@ module _ {V W R Q : Type 0} (k v : ElementSpec) (kf : Format V R) (vf : Format W
   abbrev KeyThenValueNext : List ℕ → Step → Type 0
   KeyThenValueNext front step = ThenNext {R = R} (kf.next pair.0 p) (kf.parts pair.0 p) (λ n r. vf.next pair.1 (p + n)) (λ n r b. (q : Q) × vf.parts pair.1 (p + n) b q) front step
 
-  abbrev KeyThenValueMade : List ℕ → Type 0
-  KeyThenValueMade part = ThenMade {R = R} (kf.next pair.0 p) (kf.parts pair.0 p) (λ n r. vf.next pair.1 (p + n)) (λ n r b. (q : Q) × vf.parts pair.1 (p + n) b q) part
+  abbrev KeyThenValueWrites : List ℕ → Type 0
+  KeyThenValueWrites part = ThenWrites {R = R} (kf.next pair.0 p) (kf.parts pair.0 p) (λ n r. vf.next pair.1 (p + n)) (λ n r b. (q : Q) × vf.parts pair.1 (p + n) b q) part
 
-  both_end : Ends KeyThenValueNext KeyThenValueMade
+  both_end : Ends KeyThenValueNext KeyThenValueWrites
   both_end =
       then_ends (kf.next pair.0 p) (kf.parts pair.0 p) (λ n r. vf.next pair.1 (p + n)) (λ n r b. (q : Q) × vf.parts pair.1 (p + n) b q)
       (λ a b r q m m'. let e = ko.parts pair.0 p a b r q m m' in (ap length e.0, e.1)) (ke.ends pair.0 p) (λ a r m. ve.ends pair.1 (p + length a))
 
-  pair_made : (part : List ℕ) → ((r : EntryResolver R Q) × PairParts k v kf vf pair p part r) → KeyThenValueMade part
-  pair_made part (r, h) = (h.1, r.key, h.2, h.3, (r.value, h.4), h.5)
+  pair_writes : (part : List ℕ) → ((r : EntryResolver R Q) × PairParts k v kf vf pair p part r) → KeyThenValueWrites part
+  pair_writes part (r, h) = (h.1, r.key, h.2, h.3, (r.value, h.4), h.5)
 
-  pair_refusals : (front front' : List ℕ) (c c' : Refusal) → IsKnown c → IsKnown c' → PairNext k v kf vf pair p front (refusal c) → PairNext k v kf vf pair p front' (refusal c') → c ≡ c'
-  pair_refusals front front' c c' n n' (inl x) (inl y) = (let e : refusal c ≡ refusal c' = x.2 ∙ sym y.2 in same_refusal c c' e)
-  pair_refusals front front' c c' n n' (inl x) (inr y) = absurd (omega (arith, x.0, y.0))
-  pair_refusals front front' c c' n n' (inr x) (inl y) = absurd (omega (arith, x.0, y.0))
-  pair_refusals front front' c c' n n' (inr x) (inr y) = both_end.refusals front front' c c' n n' x.1 y.1
+  pair_unique : (front front' : List ℕ) (c c' : WriteFailure) → IsKnown c → IsKnown c' → PairNext k v kf vf pair p front (failure c) → PairNext k v kf vf pair p front' (failure c') → c ≡ c'
+  pair_unique front front' c c' n n' (inl x) (inl y) = (let e : failure c ≡ failure c' = x.2 ∙ sym y.2 in same_error c c' e)
+  pair_unique front front' c c' n n' (inl x) (inr y) = absurd (omega (arith, x.0, y.0))
+  pair_unique front front' c c' n n' (inr x) (inl y) = absurd (omega (arith, x.0, y.0))
+  pair_unique front front' c c' n n' (inr x) (inr y) = both_end.unique front front' c c' n n' x.1 y.1
 
-  pair_before : (front front' bytes : List ℕ) (c : Refusal) → IsKnown c → PairNext k v kf vf pair p front (piece bytes) → PairNext k v kf vf pair p front' (refusal c)
+  pair_before : (front front' bytes : List ℕ) (c : WriteFailure) → IsKnown c → PairNext k v kf vf pair p front (piece bytes) → PairNext k v kf vf pair p front' (failure c)
       → length front + length bytes ≤ length front'
   pair_before front front' bytes c n (inl x) y = absurd (no_piece _ bytes (sym x.2))
   pair_before front front' bytes c n (inr x) (inl y) = absurd (omega (arith, x.0, y.0))
@@ -83,14 +83,14 @@ module _ {V W R Q : Type 0} (k v : ElementSpec) (kf : Format V R) (vf : Format W
   pair_inside : (front bytes part : List ℕ) → PairNext k v kf vf pair p front (piece bytes) → ((r : EntryResolver R Q) × PairParts k v kf vf pair p part r)
       → length front + length bytes ≤ length part
   pair_inside front bytes part (inl x) y = absurd (no_piece _ bytes (sym x.2))
-  pair_inside front bytes part (inr x) y = both_end.inside front bytes part x.1 (pair_made part y)
+  pair_inside front bytes part (inr x) y = both_end.inside front bytes part x.1 (pair_writes part y)
 
-  pair_exclusive : (front part : List ℕ) (c : Refusal) → IsKnown c → PairNext k v kf vf pair p front (refusal c) → ((r : EntryResolver R Q) × PairParts k v kf vf pair p part r) → ⊥
+  pair_exclusive : (front part : List ℕ) (c : WriteFailure) → IsKnown c → PairNext k v kf vf pair p front (failure c) → ((r : EntryResolver R Q) × PairParts k v kf vf pair p part r) → ⊥
   pair_exclusive front part c n (inl x) (r, h) = omega (arith, x.0, h.0)
-  pair_exclusive front part c n (inr x) y = both_end.exclusive front part c n x.1 (pair_made part y)
+  pair_exclusive front part c n (inr x) y = both_end.exclusive front part c n x.1 (pair_writes part y)
 
   pair_ends : Ends (PairNext k v kf vf pair p) (λ part. (r : EntryResolver R Q) × PairParts k v kf vf pair p part r)
-  pair_ends = record { refusals = pair_refusals; before = pair_before; inside = pair_inside; exclusive = pair_exclusive }
+  pair_ends = record { unique = pair_unique; before = pair_before; inside = pair_inside; exclusive = pair_exclusive }
 
 pub pairs_end : {V W R Q : Type 0} (k v : ElementSpec) (kf : Format V R) (vf : Format W Q) → WritesOneWay kf → EndsOneWay kf → EndsOneWay vf → EndsOneWay (pair_format k v kf vf)
 pairs_end k v kf vf ko ke ve = record { ends = pair_ends k v kf vf ko ke ve }

@@ -8,15 +8,15 @@ use Rattle.rkyv_base.specs.ElementSpec.{ElementSpec}
 use Rattle.rkyv_base.specs.declared.view.View.{View}
 use Rattle.rkyv_keys.specs.AtViews.{at_view}
 use Rattle.rkyv_table.specs.Table.RawItems.{ItemsLeft}
-use Rattle.rkyv_table.specs.Table.PairWalks.{TakesFirst, ViewsAt}
+use Rattle.rkyv_table.specs.Table.PairWalks.{YieldsFirstPos, ViewsAt}
 use Rattle.rkyv_dict.specs.Archives.{line, line_at}
 
 module _ {K V : Type 0} (s : ElementSpec) (text : List ℕ → ℕ → List ℕ) (archive : Bor (List ℕ)) (before after : ItemsLeft) (key : View K) (value : View V) (same : before.archive ≡ archive)
-    (takes : TakesFirst before key.pos after) (k : ViewsAt s before key.pos key) (v : ViewsAt s before (key.pos + value_offset s s) value) where
+    (yields : YieldsFirstPos before key.pos after) (k : ViewsAt s before key.pos key) (v : ViewsAt s before (key.pos + value_offset s s) value) where
   -- the line of the current pair
-  taken_line : line (at_view text key ++ codes " " ++ at_view text value) ≡ line_at s text archive.now key.pos
+  pair_line : line (at_view text key ++ codes " " ++ at_view text value) ≡ line_at s text archive.now key.pos
   unfolding line_at
-  taken_line =
+  pair_line =
       ap (λ (a : Bor (List ℕ)). line (text a.now key.pos ++ codes " " ++ at_view text value)) (k.at.0 ∙ same)
       ∙ ap (λ (a : Bor (List ℕ)). line (text archive.now key.pos ++ codes " " ++ text a.now value.pos)) (v.at.0 ∙ same)
       ∙ ap (λ q. line (text archive.now key.pos ++ codes " " ++ text archive.now q)) v.at.1
@@ -26,4 +26,4 @@ module _ {K V : Type 0} (s : ElementSpec) (text : List ℕ → ℕ → List ℕ)
   lines_after all old new e n =
       let lines : ℕ → List ℕ = line_at s text archive.now in
       let rest : List ℕ = flat_map lines after.positions in
-      e ∙ ap (λ positions. old ++ flat_map lines positions) takes.first ∙ sym (append_assoc old (lines key.pos) rest) ∙ ap (λ t. (old ++ t) ++ rest) (sym taken_line) ∙ ap (λ t. t ++ rest) (sym n)
+      e ∙ ap (λ positions. old ++ flat_map lines positions) yields.first ∙ sym (append_assoc old (lines key.pos) rest) ∙ ap (λ t. (old ++ t) ++ rest) (sym pair_line) ∙ ap (λ t. t ++ rest) (sym n)

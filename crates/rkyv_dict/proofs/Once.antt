@@ -1,7 +1,7 @@
 -- Pairs have one archive, and a validation has one outcome.
 use Rattle.std.proofs.Common.{◌≡◌, ℕ, ◌+◌, ◌-◌, ◌∙◌, refl, sym, ap, subst, arith, inl, inr, List, ◌++◌, length}
 use Rattle.std.specs.Int.{w32}
-use Rattle.rkyv_base.specs.Access.{Accepted, AccessFails}
+use Rattle.rkyv_base.specs.Access.{IsValidArchive, AccessFails}
 use Rattle.rkyv_base.specs.Entry.{round_up}
 use Rattle.rkyv_base.specs.Lemmas.Entry.{entry_element}
 use Rattle.rkyv_base.specs.Format.{Format}
@@ -30,7 +30,7 @@ use Rattle.rkyv_dict.specs.declared.form.Kind.TheVariants.{Num, Text}
 use Rattle.rkyv_keys.specs.Calls.{text_calls}
 use Rattle.rkyv_scan.specs.Hash.{HasherCall}
 use Rattle.rkyv_table.proofs.OneWay.{tables_one_way}
-use Rattle.rkyv_table.proofs.ReadyOneWay.{pairs_one_way, scalars_one_way, seen_one_way, texts_one_way}
+use Rattle.rkyv_table.proofs.ReadyOneWay.{pairs_one_way, scalars_one_way, written_as_one_way, texts_one_way}
 use Rattle.rkyv_table.specs.Lemmas.TableLaws.{table_element}
 use Rattle.rkyv_table.specs.Table.OneWay.{WritesOneWay}
 
@@ -67,7 +67,7 @@ pairs_written_one_way k factor most format calls one =
     let entries = pair_spec k in
     let pair = pairs_one_way k.spec k.spec format format one one in
     let table = tables_one_way k.word entries _ pair factor in
-    let map = seen_one_way (keyed (λ value. hash (calls value))) _ table in
+    let map = written_as_one_way (keyed (λ value. hash (calls value))) _ table in
     listed_one_way most factor _ map
 
 map_archive_one : (k : MapTypes) {A R : Type 0} (factor : ℕ × ℕ) (most : ℕ) (format : Format A R) (calls : A → List HasherCall) (represents : List ℕ → ℕ → A → Type 0)
@@ -91,7 +91,7 @@ builds_are_one form factor pairs a b x y = built_one form.kind form.bits factor 
 
 -- ---- validations
 
-access_exclusive : (limit : ℕ) (s : ElementSpec) → IsElement s → (b : List ℕ) (e : VerifyError) → AccessFails limit s b e → Accepted limit s b → ⊥
+access_exclusive : (limit : ℕ) (s : ElementSpec) → IsElement s → (b : List ℕ) (e : VerifyError) → AccessFails limit s b e → IsValidArchive limit s b → ⊥
 access_exclusive limit s laws b e (inl (inl low, q)) a = omega (arith, low, a.inside)
 access_exclusive limit s laws b e (inl (inr high, q)) a = omega (arith, high, a.within)
 access_exclusive limit s laws b e (inr (inl f)) a = f.2 a.aligned

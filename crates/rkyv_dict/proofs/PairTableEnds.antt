@@ -10,7 +10,7 @@ use Rattle.std.proofs.lemmas.Option.{slice_get_within, unwrap_or-slice_get}
 use Rattle.std.specs.Option.{unwrap_or}
 use Rattle.rkyv_base.specs.Format.{Format}
 use Rattle.rkyv_base.specs.ElementSpec.{ElementSpec}
-use Rattle.rkyv_base.specs.Writing.{Step, refusal}
+use Rattle.rkyv_base.specs.Writing.{Step, failure}
 use Rattle.rkyv_table.proofs.HomeList.{homes_one_list, written_one_list}
 use Rattle.rkyv_table.proofs.Written.{first_within}
 use Rattle.rkyv_table.specs.Controls.Numbers.{capacity}
@@ -83,24 +83,24 @@ module _ {X R : Type 0} (w : Width) (s : ElementSpec) (f : Format X R) (one : Wr
     next_here front step h =
         subst (λ (l : List (Option X)). TableNext s f l c p front step) (sym same.0) (subst (λ (l : List ℕ). TableNext s f ts l p front step) (sym same.1) h)
 
-    made_here : (z : ℕ) (part : List ℕ) → TableBytes s f ts d p z part → TableBytes s f ss c p z part
-    made_here z part h =
+    writes_here : (z : ℕ) (part : List ℕ) → TableBytes s f ts d p z part → TableBytes s f ss c p z part
+    writes_here z part h =
         subst (λ (l : List (Option X)). TableBytes s f l c p z part) (sym same.0) (subst (λ (l : List ℕ). TableBytes s f ts l p z part) (sym same.1) h)
 
-  made_so : (slots : List (Option X)) (controls part : List ℕ) (r : TableResolver) → InBuckets factor pairs slots controls → TableParts w s f factor pairs p part r
+  table_writes : (slots : List (Option X)) (controls part : List ℕ) (r : TableResolver) → InBuckets factor pairs slots controls → TableParts w s f factor pairs p part r
       → (z : ℕ) × TableBytes s f slots controls p z part
-  made_so slots controls part r x t = elim t.written [
+  table_writes slots controls part r x t = elim t.written [
     | inl none ↦ absurd (omega (arith, ap length none.0, x.0))
-    | inr some ↦ (r.pos, made_here slots some.0 controls some.1 x some.2 r.pos part some.3)
+    | inr some ↦ (r.pos, writes_here slots some.0 controls some.1 x some.2 r.pos part some.3)
   ]
 
   pub pairs_ends : Ends (PairsNext w s f factor pairs p) (λ part. (r : TableResolver) × TableParts w s f factor pairs p part r)
   pairs_ends = record {
-    refusals = λ front front' c c' k k' x y.
-        (placed_ends x.0 x.1).refusals front front' c c' k k' x.3 (next_here x.0 y.0 x.1 y.1 x.2 y.2 front' (refusal c') y.3);
-    before = λ front front' bytes c k x y. (placed_ends x.0 x.1).before front front' bytes c k x.3 (next_here x.0 y.0 x.1 y.1 x.2 y.2 front' (refusal c) y.3);
-    inside = λ front bytes part x y. (placed_ends x.0 x.1).inside front bytes part x.3 (made_so x.0 x.1 part y.0 x.2 y.1);
-    exclusive = λ front part c k x y. (placed_ends x.0 x.1).exclusive front part c k x.3 (made_so x.0 x.1 part y.0 x.2 y.1);
+    unique = λ front front' c c' k k' x y.
+        (placed_ends x.0 x.1).unique front front' c c' k k' x.3 (next_here x.0 y.0 x.1 y.1 x.2 y.2 front' (failure c') y.3);
+    before = λ front front' bytes c k x y. (placed_ends x.0 x.1).before front front' bytes c k x.3 (next_here x.0 y.0 x.1 y.1 x.2 y.2 front' (failure c) y.3);
+    inside = λ front bytes part x y. (placed_ends x.0 x.1).inside front bytes part x.3 (table_writes x.0 x.1 part y.0 x.2 y.1);
+    exclusive = λ front part c k x y. (placed_ends x.0 x.1).exclusive front part c k x.3 (table_writes x.0 x.1 part y.0 x.2 y.1);
   }
 
 pub tables_end : {X R : Type 0} (w : Width) (s : ElementSpec) (f : Format X R) → WritesOneWay f → EndsOneWay f

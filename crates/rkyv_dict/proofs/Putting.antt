@@ -4,7 +4,7 @@ use Rattle.std.specs.Option.{ForSome, option_map}
 use Rattle.rkyv_dict.specs.declared.dict.Stored.{Stored}
 use Rattle.rkyv_dict.specs.declared.form.ArchiveWidth.{ArchiveWidth}
 use Rattle.rkyv_dict.specs.Counts.{take_pairs}
-use Rattle.rkyv_dict.specs.Dicts.{archived_seen}
+use Rattle.rkyv_dict.specs.Dicts.{archived_of}
 use Rattle.rkyv_dict.specs.Forms.{Pairs}
 use Rattle.rkyv_dict.specs.State.{State}
 
@@ -16,15 +16,15 @@ built_kept old new most (Some n) h same = ap Some (same n (h n refl))
 
 archive_kept : (old new : Pairs) (most : ℕ) (archive : Option Stored) → ForSome archive (λ a. ForSome a.built_len (λ n. n ≤ most))
     → ((n : ℕ) → n ≤ most → take_pairs n new ≡ take_pairs n old)
-    → option_map (archived_seen new) archive ≡ option_map (archived_seen old) archive
+    → option_map (archived_of new) archive ≡ option_map (archived_of old) archive
 archive_kept old new most None h same = refl
 archive_kept old new most (Some stored) h same =
     ap (λ (b : Option Pairs). Some (record { bytes = stored.bytes.items; built_of = b })) (built_kept old new most stored.built_len (h stored refl) same)
 
 pub pair_put : (bits : ArchiveWidth) (factor : ℕ × ℕ) (old new after : Pairs) (most : ℕ) (archive : Option Stored) → ForSome archive (λ a. ForSome a.built_len (λ n. n ≤ most))
     → ((n : ℕ) → n ≤ most → take_pairs n new ≡ take_pairs n old) → new ≡ after
-    → ◌≡◌ {A = State} (record { bits = bits; load_factor = factor; pairs = new; archive = option_map (archived_seen new) archive })
-    (record { bits = bits; load_factor = factor; pairs = after; archive = option_map (archived_seen old) archive })
+    → ◌≡◌ {A = State} (record { bits = bits; load_factor = factor; pairs = new; archive = option_map (archived_of new) archive })
+    (record { bits = bits; load_factor = factor; pairs = after; archive = option_map (archived_of old) archive })
 pair_put bits factor old new after most archive h same e =
     let kept = archive_kept old new most archive h same in
     λ i. record { bits = bits; load_factor = factor; pairs = e i; archive = kept i }

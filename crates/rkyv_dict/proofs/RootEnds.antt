@@ -4,32 +4,32 @@ use Rattle.std.proofs.lemmas.List.{length-replicate}
 use Rattle.rkyv_base.specs.Entry.{round_up}
 use Rattle.rkyv_base.specs.Format.{Format}
 use Rattle.rkyv_base.specs.Root.{RootBytes, RootNext}
-use Rattle.rkyv_base.specs.Writing.{Step, no_memory, padding, refusal}
+use Rattle.rkyv_base.specs.Writing.{Step, no_memory, padding, failure}
 use Rattle.rkyv_table.specs.Table.OneWay.{WritesOneWay}
-use Rattle.rkyv_dict.proofs.Ends.{Ends, ThenMade, ThenNext, ends_as, then_ends}
+use Rattle.rkyv_dict.proofs.Ends.{Ends, ThenWrites, ThenNext, ends_as, then_ends}
 use Rattle.rkyv_dict.proofs.BucketEnds.{OwnNext, own_ends}
 use Rattle.rkyv_dict.proofs.FormatEnds.{EndsOneWay}
-use Rattle.rkyv_dict.proofs.TableEnds.{AlignedMade, AlignedNext, aligned_ends, gap}
+use Rattle.rkyv_dict.proofs.TableEnds.{AlignedWrites, AlignedNext, aligned_ends, gap}
 
 module _ {V R : Type 0} (size align : ℕ) (f : Format V R) (one : WritesOneWay f) (ends : EndsOneWay f)
     (whole : (v : V) (r : R) (p : ℕ) (out : List ℕ) → f.image v r p out → length out ≡ size)
     (exclusive : (v : V) (r : R) (p : ℕ) (out : List ℕ) → f.image v r p out → f.overflow v r p → ⊥) (v : V) (p : ℕ) where
   abbrev PartsThenNext : List ℕ → Step → Type 0
-  PartsThenNext = ThenNext {R = R} (f.next v p) (f.parts v p) (λ n r. AlignedNext align p (λ q. OwnNext size f whole exclusive v r q) (λ q. f.image v r q) n) (λ n r. AlignedMade align p (λ q. OwnNext size f whole exclusive v r q) (λ q. f.image v r q) n)
+  PartsThenNext = ThenNext {R = R} (f.next v p) (f.parts v p) (λ n r. AlignedNext align p (λ q. OwnNext size f whole exclusive v r q) (λ q. f.image v r q) n) (λ n r. AlignedWrites align p (λ q. OwnNext size f whole exclusive v r q) (λ q. f.image v r q) n)
 
-  abbrev PartsThenMade : List ℕ → Type 0
-  PartsThenMade = ThenMade {R = R} (f.next v p) (f.parts v p) (λ n r. AlignedNext align p (λ q. OwnNext size f whole exclusive v r q) (λ q. f.image v r q) n) (λ n r. AlignedMade align p (λ q. OwnNext size f whole exclusive v r q) (λ q. f.image v r q) n)
+  abbrev PartsThenWrites : List ℕ → Type 0
+  PartsThenWrites = ThenWrites {R = R} (f.next v p) (f.parts v p) (λ n r. AlignedNext align p (λ q. OwnNext size f whole exclusive v r q) (λ q. f.image v r q) n) (λ n r. AlignedWrites align p (λ q. OwnNext size f whole exclusive v r q) (λ q. f.image v r q) n)
 
-  parts_then_ends : Ends PartsThenNext PartsThenMade
+  parts_then_ends : Ends PartsThenNext PartsThenWrites
   parts_then_ends =
-      then_ends {R = R} (f.next v p) (f.parts v p) (λ n r. AlignedNext align p (λ q. OwnNext size f whole exclusive v r q) (λ q. f.image v r q) n) (λ n r. AlignedMade align p (λ q. OwnNext size f whole exclusive v r q) (λ q. f.image v r q) n)
+      then_ends {R = R} (f.next v p) (f.parts v p) (λ n r. AlignedNext align p (λ q. OwnNext size f whole exclusive v r q) (λ q. f.image v r q) n) (λ n r. AlignedWrites align p (λ q. OwnNext size f whole exclusive v r q) (λ q. f.image v r q) n)
       (λ a b r q m m'. let e = one.parts v p a b r q m m' in (ap length e.0, e.1)) (ends.ends v p)
       (λ a r m. aligned_ends align p (λ q. OwnNext size f whole exclusive v r q) (λ q. f.image v r q) (length a) (λ q. own_ends size f whole exclusive v r q))
 
   rounded : (a : List ℕ) → round_up (p + length a) align ≡ p + length a + length (gap align p (length a))
   rounded a = omega (arith, length-replicate {A = ℕ} (padding align (p + length a)) 0)
 
-  root_next : (front : List ℕ) (step : Step) → (step ≡ refusal no_memory → ⊥) → RootNext align f v p front step → PartsThenNext front step
+  root_next : (front : List ℕ) (step : Step) → (step ≡ failure no_memory → ⊥) → RootNext align f v p front step → PartsThenNext front step
   root_next front step known (inl h) = absurd (known h.1)
   root_next front step known (inr (inl h)) = inl h
   root_next front step known (inr (inr (inl h))) = inr (front, h.0, [], h.1, inl (refl, h.2), sym (append-nil front))
@@ -40,10 +40,10 @@ module _ {V R : Type 0} (size align : ℕ) (f : Format V R) (one : WritesOneWay 
       let zs = gap align p (length part) in
       inr (part, r, zs, made, inr (zs, tt, [], refl, (refl, inr (subst (λ n. f.overflow v r n) (rounded part) own.0, own.1)), sym (append-nil zs)), is)
 
-  root_made : (b : List ℕ) → ((root : ℕ) × RootBytes align f v p b root) → PartsThenMade b
-  root_made b (root, h) =
+  root_writes : (b : List ℕ) → ((root : ℕ) × RootBytes align f v p b root) → PartsThenWrites b
+  root_writes b (root, h) =
       let zs = gap align p (length h.0) in
       (h.0, h.1, zs ++ h.2, h.3, (zs, tt, h.2, refl, subst (λ n. f.image v h.1 n h.2) (h.5 ∙ rounded h.0) h.4, refl), h.6)
 
   pub root_ends : Ends (RootNext align f v p) (λ b. (root : ℕ) × RootBytes align f v p b root)
-  root_ends = ends_as PartsThenNext (RootNext align f v p) PartsThenMade (λ b. (root : ℕ) × RootBytes align f v p b root) parts_then_ends root_next root_made
+  root_ends = ends_as PartsThenNext (RootNext align f v p) PartsThenWrites (λ b. (root : ℕ) × RootBytes align f v p b root) parts_then_ends root_next root_writes

@@ -3,7 +3,7 @@ use Rattle.std.proofs.Common.{◌≡◌, ℕ, ◌+◌, refl, ap, ◌∙◌, List
 use Rattle.std.specs.Borrow.{Bor}
 use Rattle.std.specs.Option.{option_map}
 use Rattle.std.proofs.lemmas.Option.{same_Some}
-use Rattle.rkyv_base.specs.Access.{Accepted}
+use Rattle.rkyv_base.specs.Access.{IsValidArchive}
 use Rattle.rkyv_base.specs.Lemmas.Access.{root_viewable}
 use Rattle.rkyv_base.specs.ElementSpec.{Viewable}
 use Rattle.rkyv_base.specs.View.{IsAt, bytes_of, pos_of, pos_of_found}
@@ -13,7 +13,7 @@ use Rattle.rkyv_dict.specs.Archives.{IsMapArchive, header_spec, root}
 use Rattle.rkyv_dict.specs.MapTypes.{MapTypes}
 
 module _ (k : MapTypes) (b : List ℕ) where
-  pub accepted : IsMapArchive k b → Accepted k.limit (header_spec k) b
+  pub accepted : IsMapArchive k b → IsValidArchive k.limit (header_spec k) b
   unfolding IsMapArchive
   accepted h = h
 

@@ -2,7 +2,7 @@
 use Rattle.std.proofs.Common.{◌≡◌, ℕ, List, [], ◌∷◌, ◌++◌, Option, refl, sym, ap, ◌∙◌, subst, append_assoc}
 use Rattle.std.proofs.KnownBytes.{Appends-nil, Appends-trans}
 use Rattle.std.proofs.lemmas.List.{append-nil}
-use Rattle.rkyv_dict.specs.Answers.{StepsLine, RunsTo}
+use Rattle.rkyv_dict.specs.Steps.{StepsLine, RunsTo}
 use Rattle.rkyv_dict.specs.Run.{AppendsSome, AppendsBeginning, AppendsFront, MovesFront, Progress}
 use Rattle.rkyv_dict.specs.Script.{lines_of}
 use Rattle.rkyv_dict.specs.State.{State, start}
@@ -12,13 +12,13 @@ unfolding RunsTo
 runs_none s = (refl, refl)
 
 -- one more line
-pub runs_more : (ls : List (List ℕ)) (s : State) (output : List ℕ) (s' : State) (l answer : List ℕ) (s'' : State)
-    → RunsTo s ls output s' → StepsLine s' l answer s'' → RunsTo s (ls ++ l ∷ []) (output ++ answer) s''
+pub runs_more : (ls : List (List ℕ)) (s : State) (output : List ℕ) (s' : State) (l printed : List ℕ) (s'' : State)
+    → RunsTo s ls output s' → StepsLine s' l printed s'' → RunsTo s (ls ++ l ∷ []) (output ++ printed) s''
 unfolding RunsTo
-runs_more [] s output s' l answer s'' runs does =
-    (answer, s'', [], subst (λ (t : State). StepsLine t l answer s'') runs.1 does, (refl, refl), ap (λ o. o ++ answer) runs.0 ∙ sym (append-nil answer))
-runs_more (x ∷ ls) s output s' l answer s'' runs does =
-    (runs.0, runs.1, runs.2 ++ answer, runs.3, runs_more ls runs.1 runs.2 s' l answer s'' runs.4 does, ap (λ o. o ++ answer) runs.5 ∙ append_assoc runs.0 runs.2 answer)
+runs_more [] s output s' l printed s'' runs does =
+    (printed, s'', [], subst (λ (t : State). StepsLine t l printed s'') runs.1 does, (refl, refl), ap (λ o. o ++ printed) runs.0 ∙ sym (append-nil printed))
+runs_more (x ∷ ls) s output s' l printed s'' runs does =
+    (runs.0, runs.1, runs.2 ++ printed, runs.3, runs_more ls runs.1 runs.2 s' l printed s'' runs.4 does, ap (λ o. o ++ printed) runs.5 ∙ append_assoc runs.0 runs.2 printed)
 
 pub progress_none : (now : Option (List ℕ)) (script held : List ℕ) (s : State) → s ≡ start → held ≡ [] → Progress now now script held (lines_of script) s
 progress_none now script held s is none = record {
@@ -31,15 +31,15 @@ progress_none now script held s is none = record {
 
 -- a line is executed, and its output is held
 pub progress_line : (old now : Option (List ℕ)) (script held held' : List ℕ) (rest more : List (List ℕ)) (line : List ℕ) (s s' : State)
-    → Progress old now script held rest s → rest ≡ line ∷ more → AppendsSome held held' (λ answer. StepsLine s line answer s') → Progress old now script held' more s'
+    → Progress old now script held rest s → rest ≡ line ∷ more → AppendsSome held held' (λ printed. StepsLine s line printed s') → Progress old now script held' more s'
 progress_line old now script held held' rest more line s s' p cut added = record {
   done = p.done ++ line ∷ [];
   lines = append_assoc p.done (line ∷ []) more ∙ ap (λ l. p.done ++ l) (sym cut) ∙ p.lines;
-  output = p.output ++ added.answer;
-  runs = runs_more p.done start p.output s line added.answer s' p.runs added.answered;
+  output = p.output ++ added.printed;
+  runs = runs_more p.done start p.output s line added.printed s' p.runs added.accepted;
   moved = record {
     moved = p.moved.moved;
-    parts = ap (λ l. l ++ added.answer) p.moved.parts ∙ append_assoc p.moved.moved held added.answer ∙ ap (λ l. p.moved.moved ++ l) (sym added.added);
+    parts = ap (λ l. l ++ added.printed) p.moved.parts ∙ append_assoc p.moved.moved held added.printed ∙ ap (λ l. p.moved.moved ++ l) (sym added.added);
     appended = p.moved.appended;
   };
 }

@@ -5,7 +5,7 @@ use Rattle.rkyv_base.specs.Format.{Format}
 use Rattle.rkyv_base.specs.Writing.{Step}
 use Rattle.rkyv_table.specs.Table.OneWay.{WritesOneWay}
 use Rattle.rkyv_table.specs.Table.Slots.{PartsNext, SlotParts}
-use Rattle.rkyv_dict.proofs.Ends.{Ends, ThenMade, ThenNext, ends_as, ends_at_once, nothing_there, same_slot, then_ends}
+use Rattle.rkyv_dict.proofs.Ends.{Ends, ThenWrites, ThenNext, ends_as, ends_at_once, nothing_there, same_slot, then_ends}
 use Rattle.rkyv_dict.proofs.FormatEnds.{EndsOneWay}
 
 module _ {X R : Type 0} (f : Format X R) (one : WritesOneWay f) (ends : EndsOneWay f) where
@@ -35,7 +35,7 @@ module _ {X R : Type 0} (f : Format X R) (one : WritesOneWay f) (ends : EndsOneW
       let both = then_ends (f.next x p) (f.parts x p) (λ n r. PartsIn ss (p + n)) (λ n r b. (qs : List R) × SlotParts f ss (p + n) b qs)
       (λ a b r q m m'. let e = one.parts x p a b r q m m' in (ap length e.0, e.1)) (ends.ends x p) (λ a r m. parts_ends ss (p + length a)) in
       ends_as (ThenNext (f.next x p) (f.parts x p) (λ n r. PartsIn ss (p + n)) (λ n r b. (qs : List R) × SlotParts f ss (p + n) b qs)) (PartsIn (Some x ∷ ss) p)
-      (ThenMade (f.next x p) (f.parts x p) (λ n r. PartsIn ss (p + n)) (λ n r b. (qs : List R) × SlotParts f ss (p + n) b qs)) (λ part. (rs : List R) × SlotParts f (Some x ∷ ss) p part rs)
+      (ThenWrites (f.next x p) (f.parts x p) (λ n r. PartsIn ss (p + n)) (λ n r b. (qs : List R) × SlotParts f ss (p + n) b qs)) (λ part. (rs : List R) × SlotParts f (Some x ∷ ss) p part rs)
       both (λ front step known h. h) (λ part h. (h.1.0, h.1.1, h.1.2, h.1.4, (h.1.3, h.1.5), h.1.6))
 
   parts_in : (ss : List (Option X)) (i : ℕ) (p : ℕ) (x : X) (a : List ℕ) (rs : List R) (rest front : List ℕ) (step : Step) → slice_get ss i ≡ Some (Some x) → SlotParts f (take i ss) p a rs

@@ -6,11 +6,11 @@ use Rattle.rkyv_base.specs.declared.errors.VerifyError.{VerifyError}
 use Rattle.rkyv_dict.specs.declared.form.ArchiveWidth.{ArchiveWidth}
 use Rattle.rkyv_dict.specs.declared.form.Form.{Form}
 use Rattle.rkyv_dict.specs.Archives.{IsArchive, IsMapArchive, ValidationFails, value_found, value_line}
-use Rattle.rkyv_dict.specs.Answers.{StepsTo, DoesIf, StepsLine}
+use Rattle.rkyv_dict.specs.Steps.{StepsTo, StepsIf, StepsLine}
 use Rattle.rkyv_dict.specs.Built.{IsArchiveOf, IsBuilt, PairsRepresent, RootRepresents, form_of_pairs, kind_of_pairs}
 use Rattle.rkyv_dict.specs.First.{first_value}
-use Rattle.rkyv_dict.specs.Forms.{Asked, Pairs, numbers, texts}
-use Rattle.rkyv_dict.specs.Output.{answered, get_line, value_in}
+use Rattle.rkyv_dict.specs.Forms.{LookupKey, Pairs, numbers, texts}
+use Rattle.rkyv_dict.specs.Output.{archive_output, get_line, value_in}
 use Rattle.rkyv_dict.specs.Script.{Request, set_kind, set_width, set_load_factor, put_numbers, put_texts, build_archive, check_archive, show_hex, get_value, list_pairs, count_misplaced, request_of}
 use Rattle.rkyv_dict.specs.State.{Archived, IsSound, IsSoundIn, State, form_of, start, with_numbers, with_texts}
 
@@ -28,10 +28,10 @@ unfolding IsArchiveOf IsMapArchive
 built_archive bits factor (numbers pairs) bytes built = built.0
 built_archive bits factor (texts pairs) bytes built = built.0
 
-built_holds : (bits : ArchiveWidth) (factor : ℕ × ℕ) (pairs : Pairs) (bytes : List ℕ) → IsBuilt (form_of_pairs bits pairs) factor pairs bytes → RootRepresents (form_of_pairs bits pairs) factor bytes pairs
+built_represents : (bits : ArchiveWidth) (factor : ℕ × ℕ) (pairs : Pairs) (bytes : List ℕ) → IsBuilt (form_of_pairs bits pairs) factor pairs bytes → RootRepresents (form_of_pairs bits pairs) factor bytes pairs
 unfolding IsArchiveOf PairsRepresent
-built_holds bits factor (numbers pairs) bytes built = built.1
-built_holds bits factor (texts pairs) bytes built = built.1
+built_represents bits factor (numbers pairs) bytes built = built.1
+built_represents bits factor (texts pairs) bytes built = built.1
 
 pub sound_here : (s : State) (a : Archived) → IsSound s → s.archive ≡ Some a → IsSoundIn (form_of s) a
 unfolding IsSound
@@ -40,23 +40,23 @@ sound_here s a sound is = sound a is
 pub archive_here : (s : State) (a : Archived) (form : Form) (bytes : List ℕ) → IsSound s → s.archive ≡ Some a → form ≡ form_of s → bytes ≡ a.bytes → IsArchive form bytes
 archive_here s a form bytes sound is f b = rw (f, b) (sound_here s a sound is).archive
 
-pub refused_here : (s : State) (form : Form) (b bytes : List ℕ) (e : VerifyError) → form ≡ form_of s → b ≡ bytes → ValidationFails form b e → ValidationFails (form_of s) bytes e
-refused_here s form b bytes e f is h = subst (λ (g : Form). ValidationFails g bytes e) f (subst (λ (l : List ℕ). ValidationFails form l e) is h)
+pub failure_here : (s : State) (form : Form) (b bytes : List ℕ) (e : VerifyError) → form ≡ form_of s → b ≡ bytes → ValidationFails form b e → ValidationFails (form_of s) bytes e
+failure_here s form b bytes e f is h = subst (λ (g : Form). ValidationFails g bytes e) f (subst (λ (l : List ℕ). ValidationFails form l e) is h)
 
 -- `get` returns the value of the first pair of a built archive, else that of a lookup
-value_by : {U E : Type 0} (form : Form) (bytes : List ℕ) (built : Option Pairs) (r : Result U E) (now old : List ℕ) (key : Asked)
+value_by : {U E : Type 0} (form : Form) (bytes : List ℕ) (built : Option Pairs) (r : Result U E) (now old : List ℕ) (key : LookupKey)
     → ForSome built (λ pairs. (factor : ℕ × ℕ) × RootRepresents form factor bytes pairs)
     → OnOk r (now ≡ old ++ value_line (value_found form bytes key))
     → ((pairs : Pairs) (factor : ℕ × ℕ) → RootRepresents form factor bytes pairs → OnOk r (now ≡ old ++ value_line (first_value pairs key)))
     → OnOk r (now ≡ old ++ value_line (value_in form bytes built key))
-value_by form bytes None r now old key holds found first = found
-value_by form bytes (Some pairs) r now old key holds found first = let h = holds pairs refl in first pairs h.0 h.1
+value_by form bytes None r now old key represents found first = found
+value_by form bytes (Some pairs) r now old key represents found first = let h = represents pairs refl in first pairs h.0 h.1
 
-pub value_here : {U E : Type 0} (s : State) (a : Archived) (form : Form) (bytes : List ℕ) (r : Result U E) (now old : List ℕ) (key : Asked)
+pub value_here : {U E : Type 0} (s : State) (a : Archived) (form : Form) (bytes : List ℕ) (r : Result U E) (now old : List ℕ) (key : LookupKey)
     → IsSound s → s.archive ≡ Some a → form ≡ form_of s → bytes ≡ a.bytes
     → OnOk r (now ≡ old ++ value_line (value_found form bytes key))
     → ((pairs : Pairs) (factor : ℕ × ℕ) → RootRepresents form factor bytes pairs → OnOk r (now ≡ old ++ value_line (first_value pairs key)))
-    → OnOk r (now ≡ old ++ answered (get_line (form_of s) key) s.archive)
+    → OnOk r (now ≡ old ++ archive_output (get_line (form_of s) key) s.archive)
 value_here s a form bytes r now old key sound is f b found first =
     let here = sound_here s a sound is in
     rw is (value_by (form_of s) a.bytes a.built_of r now old key here.built (rw (f, b) at found) (rw (f, b) at first))
@@ -69,7 +69,7 @@ start_sound s is = subst IsSound (sym is) (λ a none. absurd (let bad : None ≡
 pub built_sound : (s : State) (bytes : List ℕ) → IsBuilt (form_of s) s.load_factor s.pairs bytes → IsSoundIn (form_of s) (record { bytes = bytes; built_of = Some s.pairs })
 built_sound s bytes built = record {
   archive = built_archive _ _ _ _ built;
-  built = λ pairs is. (s.load_factor, subst (RootRepresents (form_of s) s.load_factor bytes) (let same : s.pairs ≡ pairs = cc in same) (built_holds _ _ _ _ built));
+  built = λ pairs is. (s.load_factor, subst (RootRepresents (form_of s) s.load_factor bytes) (let same : s.pairs ≡ pairs = cc in same) (built_represents _ _ _ _ built));
 }
 
 pub checked_sound : (form : Form) (bytes : List ℕ) → IsArchive form bytes → IsSoundIn form (record { bytes = bytes; built_of = None })
@@ -88,28 +88,28 @@ same_sound : (s s' : State) → s'.archive ≡ s.archive → form_of s' ≡ form
 unfolding IsSound
 same_sound s s' a f h = λ b some. rw f (h b (sym a ∙ some))
 
-does_sound : (s : State) (request : Request) (answer : List ℕ) (s' : State) → IsSound s → StepsTo s request answer s' → IsSound s'
-does_sound s (set_kind kind) answer s' h does = none_sound s' (ap (λ (t : State). t.archive) does.1)
-does_sound s (set_width bits) answer s' h does = none_sound s' (ap (λ (t : State). t.archive) does.1)
-does_sound s (set_load_factor numerator denominator) answer s' h does = same_sound s s' (ap (λ (t : State). t.archive) does.1) (ap form_of does.1) h
-does_sound s (put_numbers key value) answer s' h does =
+does_sound : (s : State) (request : Request) (printed : List ℕ) (s' : State) → IsSound s → StepsTo s request printed s' → IsSound s'
+does_sound s (set_kind kind) printed s' h does = none_sound s' (ap (λ (t : State). t.archive) does.1)
+does_sound s (set_width bits) printed s' h does = none_sound s' (ap (λ (t : State). t.archive) does.1)
+does_sound s (set_load_factor numerator denominator) printed s' h does = same_sound s s' (ap (λ (t : State). t.archive) does.1) (ap form_of does.1) h
+does_sound s (put_numbers key value) printed s' h does =
     same_sound s s' (ap (λ (t : State). t.archive) does.1) (ap form_of does.1 ∙ ap (λ k. record { kind = k; bits = s.bits }) (kind_with_numbers s.pairs key value)) h
-does_sound s (put_texts key value) answer s' h does =
+does_sound s (put_texts key value) printed s' h does =
     same_sound s s' (ap (λ (t : State). t.archive) does.1) (ap form_of does.1 ∙ ap (λ k. record { kind = k; bits = s.bits }) (kind_with_texts s.pairs key value)) h
-does_sound s build_archive answer s' h (inl b) = subst IsSound (sym b.after) (this_sound _ _ refl (built_sound s b.bytes b.made))
-does_sound s build_archive answer s' h (inr b) = none_sound s' (ap (λ (t : State). t.archive) b.after)
-does_sound s (check_archive bytes) answer s' h (inl b) = subst IsSound (sym b.after) (this_sound _ _ refl (checked_sound (form_of s) bytes b.accepted))
-does_sound s (check_archive bytes) answer s' h (inr b) = subst IsSound (sym b.after) h
-does_sound s show_hex answer s' h does = subst IsSound (sym does.1) h
-does_sound s (get_value key) answer s' h does = subst IsSound (sym does.1) h
-does_sound s list_pairs answer s' h does = subst IsSound (sym does.1) h
-does_sound s count_misplaced answer s' h does = subst IsSound (sym does.1) h
+does_sound s build_archive printed s' h (inl b) = subst IsSound (sym b.after) (this_sound _ _ refl (built_sound s b.bytes b.is_built))
+does_sound s build_archive printed s' h (inr b) = none_sound s' (ap (λ (t : State). t.archive) b.after)
+does_sound s (check_archive bytes) printed s' h (inl b) = subst IsSound (sym b.after) (this_sound _ _ refl (checked_sound (form_of s) bytes b.accepted))
+does_sound s (check_archive bytes) printed s' h (inr b) = subst IsSound (sym b.after) h
+does_sound s show_hex printed s' h does = subst IsSound (sym does.1) h
+does_sound s (get_value key) printed s' h does = subst IsSound (sym does.1) h
+does_sound s list_pairs printed s' h does = subst IsSound (sym does.1) h
+does_sound s count_misplaced printed s' h does = subst IsSound (sym does.1) h
 
-if_sound : (s : State) (request : Option Request) (answer : List ℕ) (s' : State) → IsSound s → DoesIf s request answer s' → IsSound s'
-if_sound s None answer s' h does = subst IsSound (sym does.1) h
-if_sound s (Some request) answer s' h does = does_sound s request answer s' h does
+if_sound : (s : State) (request : Option Request) (printed : List ℕ) (s' : State) → IsSound s → StepsIf s request printed s' → IsSound s'
+if_sound s None printed s' h does = subst IsSound (sym does.1) h
+if_sound s (Some request) printed s' h does = does_sound s request printed s' h does
 
 -- a line keeps the archive sound
-pub line_sound : (s : State) (l answer : List ℕ) (s' : State) → IsSound s → StepsLine s l answer s' → IsSound s'
-line_sound s [] answer s' h does = subst IsSound (sym does.1) h
-line_sound s (b ∷ bs) answer s' h does = if_sound s (request_of (kind_of_pairs s.pairs) (b ∷ bs)) answer s' h does
+pub line_sound : (s : State) (l printed : List ℕ) (s' : State) → IsSound s → StepsLine s l printed s' → IsSound s'
+line_sound s [] printed s' h does = subst IsSound (sym does.1) h
+line_sound s (b ∷ bs) printed s' h does = if_sound s (request_of (kind_of_pairs s.pairs) (b ∷ bs)) printed s' h does

@@ -8,7 +8,7 @@ use Rattle.rkyv_table.proofs.PartSteps.{parts_filled}
 use Rattle.rkyv_table.specs.Table.OneWay.{WritesOneWay}
 use Rattle.rkyv_table.specs.Table.Slots.{BucketNext, PartsNext, SlotImages, SlotParts, TableBytes, TableNext, filled}
 use Rattle.rkyv_table.specs.Lemmas.Buckets.{images_length}
-use Rattle.rkyv_dict.proofs.Ends.{Ends, ThenMade, ThenNext, ends_as, ends_by_piece, then_ends}
+use Rattle.rkyv_dict.proofs.Ends.{Ends, ThenWrites, ThenNext, ends_as, ends_by_piece, then_ends}
 use Rattle.rkyv_dict.proofs.BucketEnds.{buckets_end}
 use Rattle.rkyv_dict.proofs.FormatEnds.{EndsOneWay}
 use Rattle.rkyv_dict.proofs.SlotEnds.{parts_same, slot_parts_end}
@@ -21,10 +21,10 @@ module _ (align p : ℕ) (next : ℕ → List ℕ → Step → Type 0) (made : �
   abbrev pub AlignedNext : List ℕ → Step → Type 0
   AlignedNext = ThenNext {R = Unit {0}} (λ front step. (front ≡ []) × (step ≡ piece (gap align p n))) (λ a u. a ≡ gap align p n) (λ m u. next (p + n + m)) (λ m u. made (p + n + m))
 
-  abbrev pub AlignedMade : List ℕ → Type 0
-  AlignedMade = ThenMade {R = Unit {0}} (λ front step. (front ≡ []) × (step ≡ piece (gap align p n))) (λ a u. a ≡ gap align p n) (λ m u. next (p + n + m)) (λ m u. made (p + n + m))
+  abbrev pub AlignedWrites : List ℕ → Type 0
+  AlignedWrites = ThenWrites {R = Unit {0}} (λ front step. (front ≡ []) × (step ≡ piece (gap align p n))) (λ a u. a ≡ gap align p n) (λ m u. next (p + n + m)) (λ m u. made (p + n + m))
 
-  pub aligned_ends : ((q : ℕ) → Ends (next q) (made q)) → Ends AlignedNext AlignedMade
+  pub aligned_ends : ((q : ℕ) → Ends (next q) (made q)) → Ends AlignedNext AlignedWrites
   aligned_ends rule =
       then_ends {R = Unit {0}} (λ front step. (front ≡ []) × (step ≡ piece (gap align p n))) (λ a u. a ≡ gap align p n) (λ m u. next (p + n + m)) (λ m u. made (p + n + m))
       (λ a b u u' m m'. (ap length (m ∙ sym m'), refl))
@@ -37,38 +37,38 @@ module _ {X R : Type 0} (s : ElementSpec) (f : Format X R) (one : WritesOneWay f
     (exclusive : (x : X) (r : R) (p : ℕ) (out : List ℕ) → f.image x r p out → f.overflow x r p → ⊥)
     (slots : List (Option X)) (controls : List ℕ) (p : ℕ) where
   -- the buckets from position `q` on
-  abbrev Shown : List R → ℕ → List ℕ → Type 0
-  Shown rs q out = (z : ℕ) × (z ≡ q + length out) × SlotImages s.size f slots rs z out
+  abbrev BucketBytes : List R → ℕ → List ℕ → Type 0
+  BucketBytes rs q out = (z : ℕ) × (z ≡ q + length out) × SlotImages s.size f slots rs z out
 
-  shown_long : (rs : List R) (q : ℕ) (out : List ℕ) → Shown rs q out → length out ≡ length slots * s.size
-  shown_long rs q out h = images_length s.size f whole slots rs h.0 out h.2
+  bucket_bytes_length : (rs : List R) (q : ℕ) (out : List ℕ) → BucketBytes rs q out → length out ≡ length slots * s.size
+  bucket_bytes_length rs q out h = images_length s.size f whole slots rs h.0 out h.2
 
   -- the buckets, then the controls
   abbrev BackNext : List R → ℕ → List ℕ → Step → Type 0
-  BackNext rs q = ThenNext {R = Unit {0}} (BucketNext s.size f slots rs q) (λ a u. Shown rs q a) (λ m u front step. (front ≡ []) × (step ≡ piece controls)) (λ m u b. b ≡ controls)
+  BackNext rs q = ThenNext {R = Unit {0}} (BucketNext s.size f slots rs q) (λ a u. BucketBytes rs q a) (λ m u front step. (front ≡ []) × (step ≡ piece controls)) (λ m u b. b ≡ controls)
 
-  abbrev BackMade : List R → ℕ → List ℕ → Type 0
-  BackMade rs q = ThenMade {R = Unit {0}} (BucketNext s.size f slots rs q) (λ a u. Shown rs q a) (λ m u front step. (front ≡ []) × (step ≡ piece controls)) (λ m u b. b ≡ controls)
+  abbrev BackWrites : List R → ℕ → List ℕ → Type 0
+  BackWrites rs q = ThenWrites {R = Unit {0}} (BucketNext s.size f slots rs q) (λ a u. BucketBytes rs q a) (λ m u front step. (front ≡ []) × (step ≡ piece controls)) (λ m u b. b ≡ controls)
 
-  back_ends : (rs : List R) → length rs ≡ filled slots → (q : ℕ) → Ends (BackNext rs q) (BackMade rs q)
+  back_ends : (rs : List R) → length rs ≡ filled slots → (q : ℕ) → Ends (BackNext rs q) (BackWrites rs q)
   back_ends rs count q =
-      then_ends {R = Unit {0}} (BucketNext s.size f slots rs q) (λ a u. Shown rs q a) (λ m u front step. (front ≡ []) × (step ≡ piece controls)) (λ m u b. b ≡ controls)
-      (λ a b u u' m m'. (shown_long rs q a m ∙ sym (shown_long rs q b m'), refl))
-      (ends_as (BucketNext s.size f slots rs q) (BucketNext s.size f slots rs q) (Shown rs q) (λ a. (u : Unit {0}) × Shown rs q a) (buckets_end s.size f whole exclusive q slots rs count)
+      then_ends {R = Unit {0}} (BucketNext s.size f slots rs q) (λ a u. BucketBytes rs q a) (λ m u front step. (front ≡ []) × (step ≡ piece controls)) (λ m u b. b ≡ controls)
+      (λ a b u u' m m'. (bucket_bytes_length rs q a m ∙ sym (bucket_bytes_length rs q b m'), refl))
+      (ends_as (BucketNext s.size f slots rs q) (BucketNext s.size f slots rs q) (BucketBytes rs q) (λ a. (u : Unit {0}) × BucketBytes rs q a) (buckets_end s.size f whole exclusive q slots rs count)
       (λ front step known h. h) (λ part h. h.1))
       (λ a u m. ends_by_piece controls)
 
   abbrev WholeNext : List ℕ → Step → Type 0
-  WholeNext = ThenNext {R = List R} (PartsNext f slots p) (SlotParts f slots p) (λ n rs. AlignedNext s.align p (BackNext rs) (BackMade rs) n) (λ n rs. AlignedMade s.align p (BackNext rs) (BackMade rs) n)
+  WholeNext = ThenNext {R = List R} (PartsNext f slots p) (SlotParts f slots p) (λ n rs. AlignedNext s.align p (BackNext rs) (BackWrites rs) n) (λ n rs. AlignedWrites s.align p (BackNext rs) (BackWrites rs) n)
 
-  abbrev WholeMade : List ℕ → Type 0
-  WholeMade = ThenMade {R = List R} (PartsNext f slots p) (SlotParts f slots p) (λ n rs. AlignedNext s.align p (BackNext rs) (BackMade rs) n) (λ n rs. AlignedMade s.align p (BackNext rs) (BackMade rs) n)
+  abbrev WholeWrites : List ℕ → Type 0
+  WholeWrites = ThenWrites {R = List R} (PartsNext f slots p) (SlotParts f slots p) (λ n rs. AlignedNext s.align p (BackNext rs) (BackWrites rs) n) (λ n rs. AlignedWrites s.align p (BackNext rs) (BackWrites rs) n)
 
-  whole_ends : Ends WholeNext WholeMade
+  whole_ends : Ends WholeNext WholeWrites
   whole_ends =
-      then_ends {R = List R} (PartsNext f slots p) (SlotParts f slots p) (λ n rs. AlignedNext s.align p (BackNext rs) (BackMade rs) n) (λ n rs. AlignedMade s.align p (BackNext rs) (BackMade rs) n)
+      then_ends {R = List R} (PartsNext f slots p) (SlotParts f slots p) (λ n rs. AlignedNext s.align p (BackNext rs) (BackWrites rs) n) (λ n rs. AlignedWrites s.align p (BackNext rs) (BackWrites rs) n)
       (λ a b rs qs m m'. parts_same f one ends slots p a b rs qs m m') (slot_parts_end f one ends slots p)
-      (λ a rs m. aligned_ends s.align p (BackNext rs) (BackMade rs) (length a) (back_ends rs (parts_filled f slots p a rs m)))
+      (λ a rs m. aligned_ends s.align p (BackNext rs) (BackWrites rs) (length a) (back_ends rs (parts_filled f slots p a rs m)))
 
   behind_gap : (a : List ℕ) → p + length (a ++ gap s.align p (length a)) ≡ p + length a + length (gap s.align p (length a))
   behind_gap a = omega (arith, length-append a (gap s.align p (length a)))
@@ -103,12 +103,12 @@ module _ {X R : Type 0} (s : ElementSpec) (f : Format X R) (one : WritesOneWay f
         h.6 ∙ ap (λ l. l ++ g) h.4.1 ∙ append_assoc a zs g,
       )
 
-  whole_made : (part : List ℕ) → ((z : ℕ) × TableBytes s f slots controls p z part) → WholeMade part
-  whole_made part (z, t) =
+  whole_writes : (part : List ℕ) → ((z : ℕ) × TableBytes s f slots controls p z part) → WholeWrites part
+  whole_writes part (z, t) =
       let zs = gap s.align p (length t.part) in
       let at : z ≡ p + length t.part + length zs + length t.buckets =
       omega (arith, t.at, length-replicate {A = ℕ} (padding s.align (p + length t.part)) 0, images_length s.size f whole slots t.resolvers z t.buckets t.images) in
       (t.part, t.resolvers, zs ++ (t.buckets ++ controls), t.made, (zs, tt, t.buckets ++ controls, refl, (t.buckets, tt, controls, (z, at, t.images), refl, refl), refl), t.is)
 
   pub table_ends : Ends (TableNext s f slots controls p) (λ part. (z : ℕ) × TableBytes s f slots controls p z part)
-  table_ends = ends_as WholeNext (TableNext s f slots controls p) WholeMade (λ part. (z : ℕ) × TableBytes s f slots controls p z part) whole_ends (λ front step known h. whole_next front step h) whole_made
+  table_ends = ends_as WholeNext (TableNext s f slots controls p) WholeWrites (λ part. (z : ℕ) × TableBytes s f slots controls p z part) whole_ends (λ front step known h. whole_next front step h) whole_writes

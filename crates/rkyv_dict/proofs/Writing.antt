@@ -6,8 +6,8 @@ use Rattle.std.proofs.KnownBytes.{Appends-trans, Consumes-trans}
 use Rattle.rkyv_dict.specs.Run.{MovesFront, Gathers}
 
 -- a prefix of the held output is written
-pub moves_taken : (a b c : Option (List ℕ)) (whole held : List ℕ) (n : ℕ) → MovesFront a b whole held → Appends b c (take n held) → MovesFront a c whole (drop n held)
-moves_taken a b c whole held n m taken = record {
+pub moves_more : (a b c : Option (List ℕ)) (whole held : List ℕ) (n : ℕ) → MovesFront a b whole held → Appends b c (take n held) → MovesFront a c whole (drop n held)
+moves_more a b c whole held n m taken = record {
   moved = m.moved ++ take n held;
   parts = m.parts ∙ ap (λ l. m.moved ++ l) (sym (take-append-drop n held)) ∙ sym (append_assoc m.moved (take n held) (drop n held));
   appended = Appends-trans a b c m.moved (take n held) m.appended taken;

@@ -6,7 +6,7 @@ use Rattle.std.specs.List.{flat_map}
 use Rattle.std.specs.Option.{option_map}
 use Rattle.rkyv_scan.specs.Groups.{generic_kind}
 use Rattle.rkyv_scan.specs.Hash.{HasherCall, fx_hash, low_halves}
-use Rattle.rkyv_base.specs.Access.{Accepted, AccessFails}
+use Rattle.rkyv_base.specs.Access.{IsValidArchive, AccessFails}
 use Rattle.rkyv_base.specs.Bytes.{number_at}
 use Rattle.rkyv_base.specs.Entry.{entry_spec, value_offset}
 use Rattle.rkyv_base.specs.ElementSpec.{ElementSpec}
@@ -22,7 +22,7 @@ use Rattle.rkyv_dict.specs.declared.form.ArchiveWidth.{ArchiveWidth}
 use Rattle.rkyv_dict.specs.declared.form.Form.{Form}
 use Rattle.rkyv_dict.specs.declared.form.Kind.{Kind}
 use Rattle.rkyv_dict.specs.declared.form.Kind.TheVariants.{Num, Text}
-use Rattle.rkyv_dict.specs.Forms.{Asked, asked_number, asked_text, word_of}
+use Rattle.rkyv_dict.specs.Forms.{LookupKey, number_key, text_key, word_of}
 use Rattle.rkyv_dict.specs.MapTypes.{MapTypes, number_calls, number_parts, text_parts, types_of}
 
 -- the text, then LF
@@ -54,7 +54,7 @@ module _ (k : MapTypes) where
   module _ (b : List ℕ) where
     -- `b` is the valid archive of a map, whose header is the root
     unfoldable pub IsMapArchive : Type 0
-    IsMapArchive = Accepted k.limit header_spec b
+    IsMapArchive = IsValidArchive k.limit header_spec b
 
     -- `e` is the first error of the validation of `b`
     unfoldable pub MapValidationFails : VerifyError → Type 0
@@ -112,14 +112,14 @@ abbrev pub misplaced_count : Form → List ℕ → ℕ
 misplaced_count form b = keys_misplaced (types_of form) b
 
 -- the text of the value that a lookup finds; a key of the other kind is never found
-abbrev pub found_in : Kind → ArchiveWidth → List ℕ → Asked → Option (List ℕ)
-found_in Num bits b (asked_number n) =
+abbrev pub found_in : Kind → ArchiveWidth → List ℕ → LookupKey → Option (List ℕ)
+found_in Num bits b (number_key n) =
     value_under (number_parts bits) b (number_calls n) (λ q. n == number_at w32 b q)
-found_in Text bits b (asked_text t) =
+found_in Text bits b (text_key t) =
     value_under (text_parts bits) b (text_calls t) (λ q. same_bytes t (text_at (word_of bits) b q))
-found_in Num bits b (asked_text t) = None
-found_in Text bits b (asked_number n) = None
+found_in Num bits b (text_key t) = None
+found_in Text bits b (number_key n) = None
 
 -- the text of the value that a lookup of `key` finds in an archive of the form
-abbrev pub value_found : Form → List ℕ → Asked → Option (List ℕ)
+abbrev pub value_found : Form → List ℕ → LookupKey → Option (List ℕ)
 value_found form b key = found_in form.kind form.bits b key

@@ -25,15 +25,15 @@ message_of Write = codes "write fault"
 message_of NoMemoryLeft = codes "no memory"
 
 -- the number and the name of a validation error
-unfoldable pub refusal_text : VerifyError → List ℕ
-refusal_text (OutOfRange pos size) = codes "1 OutOfRange"
-refusal_text (Unaligned pos align) = codes "2 Unaligned"
-refusal_text (InvalidLength len cap) = codes "3 InvalidLength"
-refusal_text (WrongNumberOfElements expected actual) = codes "4 WrongNumberOfElements"
-refusal_text (UnwrappedControlByte index) = codes "5 UnwrappedControlByte"
-refusal_text (PlaceOutOfRange place len) = codes "6 PlaceOutOfRange"
-refusal_text (InvalidValue pos) = codes "7 InvalidValue"
-refusal_text (Refused reason) = codes "8 Refused"
+unfoldable pub verify_error_text : VerifyError → List ℕ
+verify_error_text (OutOfRange pos size) = codes "1 OutOfRange"
+verify_error_text (Unaligned pos align) = codes "2 Unaligned"
+verify_error_text (InvalidLength len cap) = codes "3 InvalidLength"
+verify_error_text (WrongNumberOfElements expected actual) = codes "4 WrongNumberOfElements"
+verify_error_text (UnwrappedControlByte index) = codes "5 UnwrappedControlByte"
+verify_error_text (PlaceOutOfRange place len) = codes "6 PlaceOutOfRange"
+verify_error_text (InvalidValue pos) = codes "7 InvalidValue"
+verify_error_text (Refused reason) = codes "8 Refused"
 
 -- the number and the name of a write error
 unfoldable pub cause_text : {F : Type 0} → WriteError F → List ℕ

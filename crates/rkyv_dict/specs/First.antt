@@ -6,7 +6,7 @@ use Rattle.rkyv_keys.specs.OfTexts.{same_bytes}
 use Rattle.rkyv_table.specs.Table.Positions.{home_positions}
 use Rattle.rkyv_collections.specs.Map.{MapWrittenAt}
 use Rattle.rkyv_dict.specs.Archives.{hash, pair_spec, root, value_text}
-use Rattle.rkyv_dict.specs.Forms.{Asked, Pairs, asked_number, asked_text, numbers, texts}
+use Rattle.rkyv_dict.specs.Forms.{LookupKey, Pairs, number_key, text_key, numbers, texts}
 use Rattle.rkyv_dict.specs.MapTypes.{MapTypes}
 
 -- the value of the first pair whose key passes `accept`
@@ -14,11 +14,11 @@ abbrev pub first_of : {A B : Type 0} → (A → Bool) → List (A × B) → Opti
 first_of accept pairs = option_map (λ pair. pair.1) (find (λ pair. accept pair.0) pairs)
 
 -- the text of the value of the first pair with the key; a key of the other kind is in no list
-abbrev pub first_value : Pairs → Asked → Option (List ℕ)
-first_value (numbers pairs) (asked_number n) = option_map decimal (first_of (λ key. n == key) pairs)
-first_value (texts pairs) (asked_text t) = first_of (λ key. same_bytes t key) pairs
-first_value (numbers pairs) (asked_text t) = None
-first_value (texts pairs) (asked_number n) = None
+abbrev pub first_value : Pairs → LookupKey → Option (List ℕ)
+first_value (numbers pairs) (number_key n) = option_map decimal (first_of (λ key. n == key) pairs)
+first_value (texts pairs) (text_key t) = first_of (λ key. same_bytes t key) pairs
+first_value (numbers pairs) (text_key t) = None
+first_value (texts pairs) (number_key n) = None
 
 module _ (k : MapTypes) (b : List ℕ) where
   -- the map of `b` was written from pairs with these homes, in this order

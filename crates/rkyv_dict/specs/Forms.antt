@@ -15,23 +15,23 @@ pub data Pairs : Type 0 where
   texts : List (List ℕ × List ℕ) → Pairs
 
 -- the key of a lookup
-pub data Asked : Type 0 where
-  asked_number : ℕ → Asked
-  asked_text : List ℕ → Asked
+pub data LookupKey : Type 0 where
+  number_key : ℕ → LookupKey
+  text_key : List ℕ → LookupKey
 
 -- a pair of texts as their bytes
 abbrev pub text_pair : Bor (List ℕ) × Bor (List ℕ) → List ℕ × List ℕ
 text_pair pair = (pair.0.now, pair.1.now)
 
 -- the pairs of a list, in order
-abbrev pub pairs_seen : PairList → Pairs
-pairs_seen (Numbers pairs) = numbers pairs.items
-pairs_seen (Texts pairs) = texts (map text_pair pairs.items)
+abbrev pub pairs_of : PairList → Pairs
+pairs_of (Numbers pairs) = numbers pairs.items
+pairs_of (Texts pairs) = texts (map text_pair pairs.items)
 
 -- the number or the text of a key
-abbrev pub key_seen : Key → Asked
-key_seen (Number n) = asked_number n
-key_seen (Text t) = asked_text t.now
+abbrev pub lookup_key : Key → LookupKey
+lookup_key (Number n) = number_key n
+lookup_key (Text t) = text_key t.now
 
 -- the word of a count or a distance
 abbrev pub word_of : ArchiveWidth → Width

@@ -18,8 +18,8 @@ abbrev pub hex_of : List ℕ → List ℕ
 hex_of bytes = flat_map hex_of_byte bytes
 
 -- the byte of two digits of either case, or `None` if one isn't a digit
-unfoldable pub byte_said : ℕ → ℕ → Option ℕ
-byte_said high low = if is_ascii_hexdigit high
+unfoldable pub byte_of_digits : ℕ → ℕ → Option ℕ
+byte_of_digits high low = if is_ascii_hexdigit high
     && is_ascii_hexdigit low then Some (digit_value high * 16 + digit_value low) else None
 
 -- `byte` before the bytes `more`, or `None` if either is `None`
@@ -28,7 +28,7 @@ prepended None more = None
 prepended (Some byte) more = option_map (λ bytes. byte ∷ bytes) more
 
 -- the bytes of pairs of digits, or `None` if the input isn't such pairs
-abbrev pub bytes_said : List ℕ → Option (List ℕ)
-bytes_said [] = Some []
-bytes_said (digit ∷ []) = None
-bytes_said (high ∷ low ∷ more) = prepended (byte_said high low) (bytes_said more)
+abbrev pub bytes_of_digits : List ℕ → Option (List ℕ)
+bytes_of_digits [] = Some []
+bytes_of_digits (digit ∷ []) = None
+bytes_of_digits (high ∷ low ∷ more) = prepended (byte_of_digits high low) (bytes_of_digits more)

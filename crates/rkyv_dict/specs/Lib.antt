@@ -9,7 +9,7 @@ pub mod Script
 pub mod Errors
 pub mod State
 pub mod Output
-pub mod Answers
+pub mod Steps
 pub mod Commands
 pub mod Counts
 pub mod Dicts

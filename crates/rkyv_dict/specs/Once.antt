@@ -4,7 +4,7 @@ use Rattle.rkyv_base.specs.declared.errors.VerifyError.{VerifyError}
 use Rattle.rkyv_base.specs.declared.errors.WriteError.{WriteError}
 use Rattle.rkyv_base.specs.declared.writer.NoMemory.{NoMemory}
 use Rattle.rkyv_dict.specs.declared.form.Form.{Form}
-use Rattle.rkyv_dict.specs.Answers.{RunsTo}
+use Rattle.rkyv_dict.specs.Steps.{RunsTo}
 use Rattle.rkyv_dict.specs.Archives.{IsArchive, ValidationFails}
 use Rattle.rkyv_dict.specs.Built.{BuildFails, IsBuilt}
 use Rattle.rkyv_dict.specs.Errors.{cause_text, is_allocation_failure}
@@ -23,7 +23,7 @@ ChecksAreOne = (form : Form) (b : List ℕ) (e : VerifyError) → ValidationFail
 
 -- Uniqueness of the error of a failed build, except for allocation failures.
 -- Pairs that have an archive have no such error.
-pub record RefusedBuildsAreOne : Type 0 where
+pub record BuildErrorsAreOne : Type 0 where
   pub causes : (form : Form) (factor : ℕ × ℕ) (pairs : Pairs) (c d : WriteError NoMemory)
       → BuildFails form factor pairs c → BuildFails form factor pairs d
       → is_allocation_failure c ≡ false → is_allocation_failure d ≡ false

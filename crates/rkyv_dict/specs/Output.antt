@@ -5,8 +5,8 @@ use Rattle.rkyv_base.specs.declared.errors.WriteError.{WriteError}
 use Rattle.rkyv_dict.specs.declared.form.Form.{Form}
 use Rattle.rkyv_dict.specs.Archives.{line, listing, misplaced_count, value_found, value_line}
 use Rattle.rkyv_dict.specs.First.{first_value}
-use Rattle.rkyv_dict.specs.Errors.{cause_text, refusal_text}
-use Rattle.rkyv_dict.specs.Forms.{Asked, Pairs}
+use Rattle.rkyv_dict.specs.Errors.{cause_text, verify_error_text}
+use Rattle.rkyv_dict.specs.Forms.{LookupKey, Pairs}
 use Rattle.rkyv_dict.specs.Hex.{hex_of}
 use Rattle.rkyv_dict.specs.State.{Archived}
 
@@ -15,9 +15,9 @@ abbrev pub bad_line : List ℕ
 bad_line = line (codes "error 10 BadLine")
 
 -- the output for the archive, or the line of error 11 without one
-abbrev pub answered : (Archived → List ℕ) → Option Archived → List ℕ
-answered answer None = line (codes "error 11 NoArchive")
-answered answer (Some archived) = answer archived
+abbrev pub archive_output : (Archived → List ℕ) → Option Archived → List ℕ
+archive_output print None = line (codes "error 11 NoArchive")
+archive_output print (Some archived) = print archived
 
 -- the line of the archive's bytes in hexadecimal digits
 abbrev pub hex_line : Archived → List ℕ
@@ -25,12 +25,12 @@ hex_line archived = line (hex_of archived.bytes)
 
 -- the text of the value of `key`: in a built archive that of its first pair.
 -- In an archive from `check`, it is the value that a lookup finds.
-abbrev pub value_in : Form → List ℕ → Option Pairs → Asked → Option (List ℕ)
+abbrev pub value_in : Form → List ℕ → Option Pairs → LookupKey → Option (List ℕ)
 value_in form bytes None key = value_found form bytes key
 value_in form bytes (Some pairs) key = first_value pairs key
 
 -- the line of the value of `key`
-abbrev pub get_line : Form → Asked → Archived → List ℕ
+abbrev pub get_line : Form → LookupKey → Archived → List ℕ
 get_line form key archived = value_line (value_in form archived.bytes archived.built_of key)
 
 -- the lines of the archive's pairs
@@ -55,5 +55,5 @@ abbrev pub ok_line : ℕ → List ℕ
 ok_line count = line (codes "ok " ++ decimal count)
 
 -- the line of a validation error
-abbrev pub refused_line : VerifyError → List ℕ
-refused_line error = line (codes "refused " ++ refusal_text error)
+abbrev pub verify_error_line : VerifyError → List ℕ
+verify_error_line error = line (codes "refused " ++ verify_error_text error)

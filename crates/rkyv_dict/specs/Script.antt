@@ -7,8 +7,8 @@ use Rattle.std.specs.Char.{is_ascii_digit}
 use Rattle.std.specs.Option.{option_map, option_copied}
 use Rattle.std.specs.Str.{is_utf8, bytes_eq}
 use Rattle.std.specs.Str.Parse.{digits_value}
-use Rattle.rkyv_dict.specs.Hex.{bytes_said}
-use Rattle.rkyv_dict.specs.Forms.{Asked, asked_number, asked_text}
+use Rattle.rkyv_dict.specs.Hex.{bytes_of_digits}
+use Rattle.rkyv_dict.specs.Forms.{LookupKey, number_key, text_key}
 use Rattle.rkyv_dict.specs.declared.form.Kind.{Kind}
 use Rattle.rkyv_dict.specs.declared.form.Kind.TheVariants.{Num, Text}
 use Rattle.rkyv_dict.specs.declared.form.ArchiveWidth.{ArchiveWidth}
@@ -24,7 +24,7 @@ pub data Request : Type 0 where
   build_archive : Request
   check_archive : List ℕ → Request
   show_hex : Request
-  get_value : Asked → Request
+  get_value : LookupKey → Request
   list_pairs : Request
   count_misplaced : Request
 
@@ -81,7 +81,7 @@ bits_of_word word = if bytes_eq word (codes "32") then Some Bits32 else if bytes
 -- the bytes of pairs of digits of either case, at least one pair
 abbrev pub hex_of_word : List ℕ → Option (List ℕ)
 hex_of_word [] = None
-hex_of_word (b ∷ bs) = bytes_said (b ∷ bs)
+hex_of_word (b ∷ bs) = bytes_of_digits (b ∷ bs)
 
 -- ---- arguments of a line
 
@@ -98,10 +98,10 @@ two_of (first ∷ []) = None
 two_of (first ∷ second ∷ []) = Some (first, second)
 two_of (first ∷ second ∷ next ∷ more) = None
 
--- the value by `says` of a word, if there is one
-abbrev pub said_by : {A : Type 0} → (List ℕ → Option A) → Option (List ℕ) → Option A
-said_by says None = None
-said_by says (Some word) = says word
+-- the value by `parse` of a word, if there is one
+abbrev pub parsed_by : {A : Type 0} → (List ℕ → Option A) → Option (List ℕ) → Option A
+parsed_by parse None = None
+parsed_by parse (Some word) = parse word
 
 -- both values, if both are `Some`
 abbrev pub both_of : {A : Type 0} → Option A → Option A → Option (A × A)
@@ -109,16 +109,16 @@ both_of (Some a) (Some b) = Some (a, b)
 both_of (Some a) None = None
 both_of None b = None
 
--- the values by `says` of two words
-abbrev pub said_by_both : {A : Type 0} → (List ℕ → Option A) → Option (List ℕ × List ℕ)
+-- the values by `parse` of two words
+abbrev pub parsed_by_both : {A : Type 0} → (List ℕ → Option A) → Option (List ℕ × List ℕ)
     → Option (A × A)
-said_by_both says None = None
-said_by_both says (Some words) = both_of (says words.0) (says words.1)
+parsed_by_both parse None = None
+parsed_by_both parse (Some words) = both_of (parse words.0) (parse words.1)
 
 -- the request, if there are no arguments
-abbrev pub bare_of : Request → List (List ℕ) → Option Request
-bare_of request [] = Some request
-bare_of request (next ∷ more) = None
+abbrev pub without_arguments : Request → List (List ℕ) → Option Request
+without_arguments request [] = Some request
+without_arguments request (next ∷ more) = None
 
 -- ---- requests
 
@@ -127,50 +127,50 @@ abbrev pub most_number : ℕ
 most_number = 4_294_967_295
 
 -- the request of `kind`
-abbrev pub kind_asked : List (List ℕ) → Option Request
-kind_asked arguments = option_map (λ k. set_kind k) (said_by kind_of_word (one_of arguments))
+abbrev pub kind_request : List (List ℕ) → Option Request
+kind_request arguments = option_map (λ k. set_kind k) (parsed_by kind_of_word (one_of arguments))
 
 -- the request of `width`
-abbrev pub width_asked : List (List ℕ) → Option Request
-width_asked arguments = option_map (λ b. set_width b) (said_by bits_of_word (one_of arguments))
+abbrev pub width_request : List (List ℕ) → Option Request
+width_request arguments = option_map (λ b. set_width b) (parsed_by bits_of_word (one_of arguments))
 
 -- the request of `lf`, with two numbers of 64 bits
-abbrev pub load_factor_asked : List (List ℕ) → Option Request
-load_factor_asked arguments = option_map (λ p. set_load_factor p.0 p.1)
-    (said_by_both (number_of 18_446_744_073_709_551_615) (two_of arguments))
+abbrev pub load_factor_request : List (List ℕ) → Option Request
+load_factor_request arguments = option_map (λ p. set_load_factor p.0 p.1)
+    (parsed_by_both (number_of 18_446_744_073_709_551_615) (two_of arguments))
 
 -- the request of `put`, with a key and a value of the kind
-abbrev pub put_asked : Kind → List (List ℕ) → Option Request
-put_asked Num arguments = option_map (λ p. put_numbers p.0 p.1)
-    (said_by_both (number_of most_number) (two_of arguments))
-put_asked Text arguments = option_map (λ p. put_texts p.0 p.1)
-    (said_by_both text_of (two_of arguments))
+abbrev pub put_request : Kind → List (List ℕ) → Option Request
+put_request Num arguments = option_map (λ p. put_numbers p.0 p.1)
+    (parsed_by_both (number_of most_number) (two_of arguments))
+put_request Text arguments = option_map (λ p. put_texts p.0 p.1)
+    (parsed_by_both text_of (two_of arguments))
 
 -- the request of `get`, with a key of the kind
-abbrev pub get_asked : Kind → List (List ℕ) → Option Request
-get_asked Num arguments = option_map (λ k. get_value (asked_number k))
-    (said_by (number_of most_number) (one_of arguments))
-get_asked Text arguments = option_map (λ t. get_value (asked_text t))
-    (said_by text_of (one_of arguments))
+abbrev pub get_request : Kind → List (List ℕ) → Option Request
+get_request Num arguments = option_map (λ k. get_value (number_key k))
+    (parsed_by (number_of most_number) (one_of arguments))
+get_request Text arguments = option_map (λ t. get_value (text_key t))
+    (parsed_by text_of (one_of arguments))
 
 -- the request of `check`, with pairs of hexadecimal digits
-abbrev pub check_asked : List (List ℕ) → Option Request
-check_asked arguments = option_map (λ bytes. check_archive bytes)
-    (said_by hex_of_word (one_of arguments))
+abbrev pub check_request : List (List ℕ) → Option Request
+check_request arguments = option_map (λ bytes. check_archive bytes)
+    (parsed_by hex_of_word (one_of arguments))
 
 -- the request of the verb and its arguments
 unfoldable pub request_by : Kind → List ℕ → List (List ℕ) → Option Request
 request_by kind verb arguments =
-    if bytes_eq verb (codes "kind") then kind_asked arguments
-    else if bytes_eq verb (codes "width") then width_asked arguments
-    else if bytes_eq verb (codes "lf") then load_factor_asked arguments
-    else if bytes_eq verb (codes "put") then put_asked kind arguments
-    else if bytes_eq verb (codes "build") then bare_of build_archive arguments
-    else if bytes_eq verb (codes "check") then check_asked arguments
-    else if bytes_eq verb (codes "hex") then bare_of show_hex arguments
-    else if bytes_eq verb (codes "get") then get_asked kind arguments
-    else if bytes_eq verb (codes "list") then bare_of list_pairs arguments
-    else if bytes_eq verb (codes "audit") then bare_of count_misplaced arguments
+    if bytes_eq verb (codes "kind") then kind_request arguments
+    else if bytes_eq verb (codes "width") then width_request arguments
+    else if bytes_eq verb (codes "lf") then load_factor_request arguments
+    else if bytes_eq verb (codes "put") then put_request kind arguments
+    else if bytes_eq verb (codes "build") then without_arguments build_archive arguments
+    else if bytes_eq verb (codes "check") then check_request arguments
+    else if bytes_eq verb (codes "hex") then without_arguments show_hex arguments
+    else if bytes_eq verb (codes "get") then get_request kind arguments
+    else if bytes_eq verb (codes "list") then without_arguments list_pairs arguments
+    else if bytes_eq verb (codes "audit") then without_arguments count_misplaced arguments
     else None
 
 -- the request of the words of a line, the first of them its verb

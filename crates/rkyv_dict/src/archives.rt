@@ -17,7 +17,7 @@ ghost use Rattle.rkyv_dict.specs.Archives.{value_under};
 ghost use Rattle.rkyv_dict.specs.Built.{Builds, MakesArchive, RootRepresents, form_of_pairs};
 ghost use Rattle.rkyv_dict.specs.Built.{natives};
 ghost use Rattle.rkyv_dict.specs.First.{FindsFirstValue, first_value};
-ghost use Rattle.rkyv_dict.specs.Forms.{Pairs, key_seen, pairs_seen};
+ghost use Rattle.rkyv_dict.specs.Forms.{Pairs, lookup_key, pairs_of};
 ghost use Rattle.rkyv_dict.specs.MapTypes.{parts_by};
 ghost use Rattle.rkyv_dict.specs.Pushing.{AppendsText};
 
@@ -212,9 +212,10 @@ pub fn push_value(
 ) -> Result<(), AllocError>
     requires { IsArchive form bytes.now }
     ensures found { AppendsText result out.old out.new
-        (value_line (value_found form bytes.now (key_seen key.entry))) }
+        (value_line (value_found form bytes.now (lookup_key key.entry))) }
     ensures first { (pairs : Pairs) (factor : ℕ × ℕ) → RootRepresents form factor bytes.now pairs
-        → AppendsText result out.old out.new (value_line (first_value pairs (key_seen key.entry))) }
+        → AppendsText result out.old out.new
+        (value_line (first_value pairs (lookup_key key.entry))) }
 {
     match (form.kind, key) {
         (Kind::Num, Key::Number(number)) => match form.bits {
@@ -287,7 +288,7 @@ pub fn build(
     list: &PairList<'_>,
     load_factor: (usize, usize),
 ) -> Result<Vec<u8>, WriteError<NoMemory>>
-    ensures { let pairs = pairs_seen list.now in
+    ensures { let pairs = pairs_of list.now in
         Builds (form_of_pairs bits pairs) load_factor pairs result }
 {
     match (list, bits) {

@@ -1,11 +1,12 @@
 //! The dictionary: its state, and the output of each command.
 //!
-//! `Dict::answer` executes one line of a script, and appends its output.
-ghost use Rattle.rkyv_dict.specs.Answers.{StepsTo, StepsLine};
+//! `Dict::execute` executes one line of a script, and appends its output.
+ghost use Rattle.rkyv_dict.specs.Steps.{StepsTo, StepsLine};
 ghost use Rattle.rkyv_dict.specs.Counts.{list_len};
-ghost use Rattle.rkyv_dict.specs.Forms.{key_seen};
-ghost use Rattle.rkyv_dict.specs.Output.{answered, audit_line, error_line, get_line, hex_line};
-ghost use Rattle.rkyv_dict.specs.Output.{list_lines, refused_line};
+ghost use Rattle.rkyv_dict.specs.Forms.{lookup_key};
+ghost use Rattle.rkyv_dict.specs.Output.{archive_output, audit_line, error_line, get_line};
+ghost use Rattle.rkyv_dict.specs.Output.{hex_line};
+ghost use Rattle.rkyv_dict.specs.Output.{list_lines, verify_error_line};
 ghost use Rattle.rkyv_dict.specs.Pushing.{AppendsText};
 ghost use Rattle.rkyv_dict.specs.Run.{AppendsSome};
 ghost use Rattle.rkyv_dict.specs.Script.{build_archive, check_archive};
@@ -14,7 +15,7 @@ ghost use Rattle.std.specs.Option.{ForSome};
 ghost use Rattle.std.specs.Prelude.{◌≡◌, ◌≤◌, OnOk, string_bytes};
 
 use crate::archives::{self, push_line};
-use crate::errors::{cause_text, is_allocation_failure, refusal_text};
+use crate::errors::{cause_text, is_allocation_failure, verify_error_text};
 use crate::form::{ArchiveWidth, Form, Key, Kind, PairList};
 use crate::hex::push_hex;
 use crate::pairs::{count_of, kind_of, no_pairs, put_numbers, put_texts};
@@ -44,10 +45,10 @@ pub struct Dict<'a> {
 }
 
 /// Appends the line of a validation error.
-fn push_refusal(out: &mut String, error: &VerifyError) -> Result<(), AllocError>
-    ensures { AppendsText result out.old out.new (refused_line error.now) }
+fn push_verify_error(out: &mut String, error: &VerifyError) -> Result<(), AllocError>
+    ensures { AppendsText result out.old out.new (verify_error_line error.now) }
 {
-    let text = refusal_text(error);
+    let text = verify_error_text(error);
     write!(out, "refused {text}\n")
 }
 
@@ -60,12 +61,12 @@ fn push_cause(out: &mut String, cause: &WriteError<NoMemory>) -> Result<(), Allo
 }
 
 impl<'a> Dict<'a> {
-    ghost use Rattle.rkyv_dict.specs.Commands.{request_seen};
-    ghost use Rattle.rkyv_dict.specs.Dicts.{state_seen};
+    ghost use Rattle.rkyv_dict.specs.Commands.{command_request};
+    ghost use Rattle.rkyv_dict.specs.Dicts.{state_of};
 
     /// Returns the state before the first line.
     pub fn new(alloc: Global) -> Dict<'a>
-        ensures { state_seen result ≡ start }
+        ensures { state_of result ≡ start }
     {
         Dict {
             bits: ArchiveWidth::Bits32,
@@ -77,7 +78,7 @@ impl<'a> Dict<'a> {
 
     /// Returns the form of the archive.
     fn form(&self) -> Form
-        ensures { result ≡ form_of (state_seen self.now) }
+        ensures { result ≡ form_of (state_of self.now) }
     {
         Form {
             kind: kind_of(&self.list),
@@ -87,8 +88,8 @@ impl<'a> Dict<'a> {
 
     /// Appends the output of `hex`.
     fn push_hex(&self, out: &mut String) -> Result<(), AllocError>
-        ensures { AppendsText result out.old out.new (answered hex_line
-            (state_seen self.now).archive) }
+        ensures { AppendsText result out.old out.new (archive_output hex_line
+            (state_of self.now).archive) }
     {
         let Some(archive) = &self.archive else {
             return push_line(out, "error 11 NoArchive");
@@ -99,9 +100,10 @@ impl<'a> Dict<'a> {
 
     /// Appends the output of `get`.
     fn push_get(&self, key: Key<'_>, out: &mut String) -> Result<(), AllocError>
-        requires { IsSound (state_seen self.now) }
-        ensures { let s = state_seen self.now in let key = key_seen key.entry in
-            AppendsText result out.old out.new (answered (get_line (form_of s) key) s.archive) }
+        requires { IsSound (state_of self.now) }
+        ensures { let s = state_of self.now in let key = lookup_key key.entry in
+            AppendsText result out.old out.new
+            (archive_output (get_line (form_of s) key) s.archive) }
     {
         let Some(archive) = &self.archive else {
             return push_line(out, "error 11 NoArchive");
@@ -111,9 +113,9 @@ impl<'a> Dict<'a> {
 
     /// Appends the output of `list`.
     fn push_list(&self, out: &mut String) -> Result<(), AllocError>
-        requires { IsSound (state_seen self.now) }
-        ensures { let s = state_seen self.now in
-            AppendsText result out.old out.new (answered (list_lines (form_of s)) s.archive) }
+        requires { IsSound (state_of self.now) }
+        ensures { let s = state_of self.now in
+            AppendsText result out.old out.new (archive_output (list_lines (form_of s)) s.archive) }
     {
         let Some(archive) = &self.archive else {
             return push_line(out, "error 11 NoArchive");
@@ -123,9 +125,9 @@ impl<'a> Dict<'a> {
 
     /// Appends the output of `audit`. Keys that share a hash take quadratic time.
     fn push_audit(&self, out: &mut String) -> Result<(), AllocError>
-        requires { IsSound (state_seen self.now) }
-        ensures { let s = state_seen self.now in
-            AppendsText result out.old out.new (answered (audit_line (form_of s)) s.archive) }
+        requires { IsSound (state_of self.now) }
+        ensures { let s = state_of self.now in
+            AppendsText result out.old out.new (archive_output (audit_line (form_of s)) s.archive) }
     {
         let Some(archive) = &self.archive else {
             return push_line(out, "error 11 NoArchive");
@@ -136,8 +138,8 @@ impl<'a> Dict<'a> {
 
     /// Archives the list, and appends the output of `build`.
     fn build(&mut self, alloc: Global, out: &mut String) -> Result<(), AllocError>
-        ensures { OnOk result (AppendsSome (string_bytes out.old) (string_bytes out.new) (λ answer.
-            StepsTo (state_seen self.old) build_archive answer (state_seen self.new))) }
+        ensures { OnOk result (AppendsSome (string_bytes out.old) (string_bytes out.new) (λ printed.
+            StepsTo (state_of self.old) build_archive printed (state_of self.new))) }
     {
         match archives::build(alloc, self.bits, &self.list, self.load_factor) {
             Ok(bytes) => {
@@ -158,9 +160,9 @@ impl<'a> Dict<'a> {
 
     /// Keeps the bytes as the archive if they are valid, and appends the output of `check`.
     fn check(&mut self, bytes: Vec<u8>, out: &mut String) -> Result<(), AllocError>
-        ensures { OnOk result (AppendsSome (string_bytes out.old) (string_bytes out.new) (λ answer.
-            StepsTo (state_seen self.old) (check_archive bytes.items) answer
-            (state_seen self.new))) }
+        ensures { OnOk result (AppendsSome (string_bytes out.old) (string_bytes out.new) (λ printed.
+            StepsTo (state_of self.old) (check_archive bytes.items) printed
+            (state_of self.new))) }
     {
         match archives::check(self.form(), bytes.as_slice()) {
             Ok(count) => {
@@ -170,13 +172,13 @@ impl<'a> Dict<'a> {
                 });
                 write!(out, "ok {count}\n")
             }
-            Err(error) => push_refusal(out, &error),
+            Err(error) => push_verify_error(out, &error),
         }
     }
 
     /// Sets the form, and empties the list and the archive.
     fn empty(&mut self, alloc: Global, kind: Kind, bits: ArchiveWidth)
-        ensures { state_seen self.new ≡ emptied kind bits (state_seen self.old) }
+        ensures { state_of self.new ≡ emptied kind bits (state_of self.old) }
     {
         self.bits = bits;
         self.archive = None;
@@ -190,10 +192,10 @@ impl<'a> Dict<'a> {
         command: Command<'a>,
         out: &mut String,
     ) -> Result<(), AllocError>
-        requires { IsSound (state_seen self.old) }
-        ensures { OnOk result (AppendsSome (string_bytes out.old) (string_bytes out.new) (λ answer.
-            StepsTo (state_seen self.old) (request_seen command.entry) answer
-            (state_seen self.new))) }
+        requires { IsSound (state_of self.old) }
+        ensures { OnOk result (AppendsSome (string_bytes out.old) (string_bytes out.new) (λ printed.
+            StepsTo (state_of self.old) (command_request command.entry) printed
+            (state_of self.new))) }
     {
         match command {
             Command::SetKind(kind) => {
@@ -230,15 +232,15 @@ impl<'a> Dict<'a> {
     /// # Requires
     ///
     /// - The archive of the state, if any, is valid (`IsSound`).
-    pub fn answer(
+    pub fn execute(
         &mut self,
         alloc: Global,
         line: &'a [u8],
         out: &mut String,
     ) -> Result<(), AllocError>
-        requires { IsSound (state_seen self.old) }
-        ensures { OnOk result (AppendsSome (string_bytes out.old) (string_bytes out.new) (λ answer.
-            StepsLine (state_seen self.old) line.now answer (state_seen self.new))) }
+        requires { IsSound (state_of self.old) }
+        ensures { OnOk result (AppendsSome (string_bytes out.old) (string_bytes out.new) (λ printed.
+            StepsLine (state_of self.old) line.now printed (state_of self.new))) }
     {
         if line.is_empty() {
             return Ok(());

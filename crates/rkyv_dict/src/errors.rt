@@ -1,14 +1,14 @@
 //! The number and the name of each error, as the output has them.
-ghost use Rattle.rkyv_dict.specs.Errors.{cause_text, is_allocation_failure, refusal_text};
+ghost use Rattle.rkyv_dict.specs.Errors.{cause_text, is_allocation_failure, verify_error_text};
 ghost use Rattle.std.specs.Prelude.{◌≡◌};
 
 use rkyv_base::errors::{VerifyError, WriteError};
 use rkyv_base::writer::NoMemory;
 
 /// Returns the number and the name of a validation error.
-#[tactic(auto, unfolding(crate::specs::Errors::refusal_text))]
-pub fn refusal_text(error: &VerifyError) -> &'static str
-    ensures { result.now ≡ refusal_text error.now }
+#[tactic(auto, unfolding(crate::specs::Errors::verify_error_text))]
+pub fn verify_error_text(error: &VerifyError) -> &'static str
+    ensures { result.now ≡ verify_error_text error.now }
 {
     match error {
         VerifyError::OutOfRange { .. } => "1 OutOfRange",

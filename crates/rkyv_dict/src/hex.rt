@@ -1,5 +1,5 @@
 //! Bytes as hexadecimal digits, and back.
-ghost use Rattle.rkyv_dict.specs.Hex.{byte_said, bytes_said, hex_of, hex_of_byte};
+ghost use Rattle.rkyv_dict.specs.Hex.{byte_of_digits, bytes_of_digits, hex_of, hex_of_byte};
 ghost use Rattle.std.specs.Char.{digit_value, is_ascii_hexdigit};
 ghost use Rattle.std.specs.Option.{option_map};
 ghost use Rattle.std.specs.Prelude.{◌≡◌, ◌<◌, ◌++◌, IfOk, IfSome, None, OnOk, Some, if◌then◌else◌};
@@ -44,9 +44,9 @@ fn digit(glyph: u8) -> Option<u8>
 }
 
 /// Returns the byte of two hexadecimal digits.
-#[tactic(auto, unfolding(crate::specs::Hex::byte_said))]
+#[tactic(auto, unfolding(crate::specs::Hex::byte_of_digits))]
 fn byte_of(high: u8, low: u8) -> Option<u8>
-    ensures { result ≡ byte_said high low }
+    ensures { result ≡ byte_of_digits high low }
 {
     let high = digit(high)?;
     let low = digit(low)?;
@@ -59,7 +59,7 @@ fn byte_of(high: u8, low: u8) -> Option<u8>
 ///
 /// - `AllocError`: the vector of the bytes fails to allocate.
 pub fn read_hex(alloc: Global, digits: &[u8]) -> Result<Option<Vec<u8>>, AllocError>
-    ensures { IfOk result (λ bytes. option_map (λ v. v.items) bytes ≡ bytes_said digits.now) }
+    ensures { IfOk result (λ bytes. option_map (λ v. v.items) bytes ≡ bytes_of_digits digits.now) }
 {
     let mut bytes = Vec::with_capacity(alloc, digits.len() / 2)?;
     let mut rest = digits;

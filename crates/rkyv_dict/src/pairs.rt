@@ -1,7 +1,7 @@
 //! The list of the pairs that a script puts.
 ghost use Rattle.rkyv_dict.specs.Built.{kind_of_pairs};
 ghost use Rattle.rkyv_dict.specs.Counts.{list_len, take_pairs};
-ghost use Rattle.rkyv_dict.specs.Forms.{pairs_seen};
+ghost use Rattle.rkyv_dict.specs.Forms.{pairs_of};
 ghost use Rattle.rkyv_dict.specs.State.{no_pairs, with_numbers, with_texts};
 ghost use Rattle.std.specs.Prelude.{◌≡◌, ◌≤◌, ℕ, OnOk};
 
@@ -10,7 +10,7 @@ use std::alloc::{AllocError, Global};
 
 /// Returns an empty list of the kind.
 pub fn no_pairs<'a>(alloc: Global, kind: Kind) -> PairList<'a>
-    ensures { pairs_seen result ≡ no_pairs kind }
+    ensures { pairs_of result ≡ no_pairs kind }
 {
     match kind {
         Kind::Num => PairList::Numbers(Vec::new(alloc)),
@@ -20,7 +20,7 @@ pub fn no_pairs<'a>(alloc: Global, kind: Kind) -> PairList<'a>
 
 /// Returns the kind of the pairs.
 pub fn kind_of(list: &PairList<'_>) -> Kind
-    ensures { result ≡ kind_of_pairs (pairs_seen list.now) }
+    ensures { result ≡ kind_of_pairs (pairs_of list.now) }
 {
     match list {
         PairList::Numbers(_) => Kind::Num,
@@ -45,10 +45,10 @@ pub fn count_of(list: &PairList<'_>) -> usize
 /// - `AllocError`: the list fails to allocate; its pairs are unchanged then.
 pub fn put_numbers(list: &mut PairList<'_>, key: u32, value: u32) -> Result<(), AllocError>
     ensures added { OnOk result
-        (pairs_seen list.new ≡ with_numbers (pairs_seen list.old) key value) }
+        (pairs_of list.new ≡ with_numbers (pairs_of list.old) key value) }
     ensures kept { list_len list.old ≤ list_len list.new }
     ensures first { (n : ℕ) → n ≤ list_len list.old
-        → take_pairs n (pairs_seen list.new) ≡ take_pairs n (pairs_seen list.old) }
+        → take_pairs n (pairs_of list.new) ≡ take_pairs n (pairs_of list.old) }
 {
     match list {
         PairList::Numbers(pairs) => {
@@ -70,10 +70,10 @@ pub fn put_texts<'a>(
     value: &'a str,
 ) -> Result<(), AllocError>
     ensures added { OnOk result
-        (pairs_seen list.new ≡ with_texts (pairs_seen list.old) key.now value.now) }
+        (pairs_of list.new ≡ with_texts (pairs_of list.old) key.now value.now) }
     ensures kept { list_len list.old ≤ list_len list.new }
     ensures first { (n : ℕ) → n ≤ list_len list.old
-        → take_pairs n (pairs_seen list.new) ≡ take_pairs n (pairs_seen list.old) }
+        → take_pairs n (pairs_of list.new) ≡ take_pairs n (pairs_of list.old) }
 {
     match list {
         PairList::Numbers(_) => Ok(()),

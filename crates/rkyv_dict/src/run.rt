@@ -3,7 +3,7 @@
 //! 1. The script is read to the end, in pieces.
 //! 2. Each line is executed by `dict`.
 //! 3. The held output is written when it has at least one piece, and at the end.
-ghost use Rattle.rkyv_dict.specs.Run.{AppendsAnswers, AppendsBeginning, AppendsFront, Gathers};
+ghost use Rattle.rkyv_dict.specs.Run.{AppendsOutput, AppendsBeginning, AppendsFront, Gathers};
 ghost use Rattle.rkyv_dict.specs.Run.{MovesFront};
 ghost use Rattle.rkyv_dict.specs.Errors.{message_of};
 ghost use Rattle.rkyv_dict.specs.declared.run.RunError.TheVariants.{Memory};
@@ -155,9 +155,9 @@ fn write_much<W: Write>(writer: &mut W, held: &mut String) -> Result<(), RunErro
 }
 
 /// Executes the script, and writes its output.
-fn write_answers<W: Write>(alloc: Global, script: &[u8], writer: &mut W) -> Result<(), RunError>
+fn write_output<W: Write>(alloc: Global, script: &[u8], writer: &mut W) -> Result<(), RunError>
     ensures ok { OnOk result
-        (AppendsAnswers (W.contents writer.old) (W.contents writer.new) script.now) }
+        (AppendsOutput (W.contents writer.old) (W.contents writer.new) script.now) }
     ensures front { OnErr result
         (AppendsBeginning (W.contents writer.old) (W.contents writer.new) script.now) }
     ensures causes { IfErr result (λ e. e ≢ RunError.Read) }
@@ -167,7 +167,7 @@ fn write_answers<W: Write>(alloc: Global, script: &[u8], writer: &mut W) -> Resu
     let mut rest = Some(script);
     while let Some(text) = rest {
         let (line, more) = cut(text, b'\n');
-        dict.answer(alloc, line, &mut held)?;
+        dict.execute(alloc, line, &mut held)?;
         write_much(writer, &mut held)?;
         rest = more;
     }
@@ -188,7 +188,7 @@ fn write_answers<W: Write>(alloc: Global, script: &[u8], writer: &mut W) -> Resu
 pub fn run<R: Read, W: Write>(alloc: Global, reader: &mut R, writer: &mut W) -> Result<(), RunError>
     // On success the bytes written are the output of the whole input, which is read to its end.
     ensures ok { OnOk result (IfSome (R.remaining reader.old) (λ script.
-        AppendsAnswers (W.contents writer.old) (W.contents writer.new) script)) }
+        AppendsOutput (W.contents writer.old) (W.contents writer.new) script)) }
     ensures end { OnOk result (IsAtEnd (R.remaining reader.new)) }
     // After `Read` the writer is unchanged.
     ensures read { IsErrOf result RunError.Read → writer.new ≡ writer.old }
@@ -197,5 +197,5 @@ pub fn run<R: Read, W: Write>(alloc: Global, reader: &mut R, writer: &mut W) -> 
         AppendsBeginning (W.contents writer.old) (W.contents writer.new) script)) }
 {
     let script = read_input(alloc, reader)?;
-    write_answers(alloc, script.as_slice(), writer)
+    write_output(alloc, script.as_slice(), writer)
 }

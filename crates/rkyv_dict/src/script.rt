@@ -1,8 +1,9 @@
 //! The commands of a script, and the parser of a line.
-ghost use Rattle.rkyv_dict.specs.Commands.{request_seen};
-ghost use Rattle.rkyv_dict.specs.Script.{bare_of, check_asked, get_asked, kind_asked};
-ghost use Rattle.rkyv_dict.specs.Script.{load_factor_asked, put_asked, request_by, request_of};
-ghost use Rattle.rkyv_dict.specs.Script.{width_asked, words_left};
+ghost use Rattle.rkyv_dict.specs.Commands.{command_request};
+ghost use Rattle.rkyv_dict.specs.Script.{without_arguments, check_request, get_request};
+ghost use Rattle.rkyv_dict.specs.Script.{kind_request};
+ghost use Rattle.rkyv_dict.specs.Script.{load_factor_request, put_request, request_by, request_of};
+ghost use Rattle.rkyv_dict.specs.Script.{width_request, words_left};
 ghost use Rattle.std.specs.Option.{option_map};
 ghost use Rattle.std.specs.Prelude.{◌≡◌, IfOk};
 
@@ -43,10 +44,10 @@ pub enum Command<'a> {
 }
 
 /// Returns the command if there are no arguments.
-#[tactic(auto, using(crate::proofs::Cuts::bare_of_more))]
-fn bare<'a>(command: Command<'a>, arguments: Option<&str>) -> Option<Command<'a>>
-    ensures { option_map request_seen result
-        ≡ bare_of (request_seen command.entry) (words_left arguments.entry) }
+#[tactic(auto, using(crate::proofs::Cuts::without_arguments_of_more))]
+fn without_arguments<'a>(command: Command<'a>, arguments: Option<&str>) -> Option<Command<'a>>
+    ensures { option_map command_request result
+        ≡ without_arguments (command_request command.entry) (words_left arguments.entry) }
 {
     match arguments {
         Some(_) => None,
@@ -56,21 +57,21 @@ fn bare<'a>(command: Command<'a>, arguments: Option<&str>) -> Option<Command<'a>
 
 /// Parses the arguments of `kind`.
 fn set_kind(arguments: Option<&str>) -> Option<Command<'_>>
-    ensures { option_map request_seen result ≡ kind_asked (words_left arguments.entry) }
+    ensures { option_map command_request result ≡ kind_request (words_left arguments.entry) }
 {
     Some(Command::SetKind(kind_by_name(one_word(arguments)?)?))
 }
 
 /// Parses the arguments of `width`.
 fn set_width(arguments: Option<&str>) -> Option<Command<'_>>
-    ensures { option_map request_seen result ≡ width_asked (words_left arguments.entry) }
+    ensures { option_map command_request result ≡ width_request (words_left arguments.entry) }
 {
     Some(Command::SetWidth(bits_by_name(one_word(arguments)?)?))
 }
 
 /// Parses the arguments of `lf`: two numbers of 64 bits.
 fn set_load_factor(arguments: Option<&str>) -> Option<Command<'_>>
-    ensures { option_map request_seen result ≡ load_factor_asked (words_left arguments.entry) }
+    ensures { option_map command_request result ≡ load_factor_request (words_left arguments.entry) }
 {
     let (numerator, denominator) = two_numbers(arguments, u64::MAX)?;
     Some(Command::SetLoadFactor(numerator, denominator))
@@ -78,7 +79,7 @@ fn set_load_factor(arguments: Option<&str>) -> Option<Command<'_>>
 
 /// Parses the arguments of `put`: a key and a value of the kind.
 fn put(kind: Kind, arguments: Option<&str>) -> Option<Command<'_>>
-    ensures { option_map request_seen result ≡ put_asked kind (words_left arguments.entry) }
+    ensures { option_map command_request result ≡ put_request kind (words_left arguments.entry) }
 {
     match kind {
         Kind::Num => {
@@ -94,7 +95,7 @@ fn put(kind: Kind, arguments: Option<&str>) -> Option<Command<'_>>
 
 /// Parses the argument of `get`: a key of the kind.
 fn get(kind: Kind, arguments: Option<&str>) -> Option<Command<'_>>
-    ensures { option_map request_seen result ≡ get_asked kind (words_left arguments.entry) }
+    ensures { option_map command_request result ≡ get_request kind (words_left arguments.entry) }
 {
     match kind {
         Kind::Num => {
@@ -108,7 +109,7 @@ fn get(kind: Kind, arguments: Option<&str>) -> Option<Command<'_>>
 /// Parses the argument of `check`: pairs of hexadecimal digits.
 fn check(alloc: Global, arguments: Option<&str>) -> Result<Option<Command<'_>>, AllocError>
     ensures { IfOk result (λ command.
-        option_map request_seen command ≡ check_asked (words_left arguments.entry)) }
+        option_map command_request command ≡ check_request (words_left arguments.entry)) }
 {
     let Some(word) = one_word(arguments) else {
         return Ok(None);
@@ -130,7 +131,7 @@ fn by_verb<'a>(
     verb: &str,
     arguments: Option<&'a str>,
 ) -> Result<Option<Command<'a>>, AllocError>
-    ensures { IfOk result (λ command. option_map request_seen command
+    ensures { IfOk result (λ command. option_map command_request command
         ≡ request_by kind verb.now (words_left arguments.entry)) }
 {
     if is_word(verb, "kind") {
@@ -142,17 +143,17 @@ fn by_verb<'a>(
     } else if is_word(verb, "put") {
         Ok(put(kind, arguments))
     } else if is_word(verb, "build") {
-        Ok(bare(Command::Build, arguments))
+        Ok(without_arguments(Command::Build, arguments))
     } else if is_word(verb, "check") {
         check(alloc, arguments)
     } else if is_word(verb, "hex") {
-        Ok(bare(Command::Hex, arguments))
+        Ok(without_arguments(Command::Hex, arguments))
     } else if is_word(verb, "get") {
         Ok(get(kind, arguments))
     } else if is_word(verb, "list") {
-        Ok(bare(Command::ListPairs, arguments))
+        Ok(without_arguments(Command::ListPairs, arguments))
     } else if is_word(verb, "audit") {
-        Ok(bare(Command::Audit, arguments))
+        Ok(without_arguments(Command::Audit, arguments))
     } else {
         Ok(None)
     }
@@ -175,7 +176,7 @@ pub fn read_command(
     line: &[u8],
 ) -> Result<Option<Command<'_>>, AllocError>
     ensures { IfOk result (λ command.
-        option_map request_seen command ≡ request_of kind line.now) }
+        option_map command_request command ≡ request_of kind line.now) }
 {
     match str::from_utf8(line) {
         Ok(text) => {

@@ -1,6 +1,6 @@
 //! The words of a line, and the values that they represent.
 ghost use Rattle.rkyv_dict.specs.Script.{bits_of_word, is_numeral, kind_of_word, number_of, one_of};
-ghost use Rattle.rkyv_dict.specs.Script.{parts_after, said_by, said_by_both, split_at, text_of};
+ghost use Rattle.rkyv_dict.specs.Script.{parts_after, parsed_by, parsed_by_both, split_at, text_of};
 ghost use Rattle.rkyv_dict.specs.Script.{two_of, words_left, words_of};
 ghost use Rattle.std.specs.Char.{digit_value, is_ascii_digit};
 ghost use Rattle.std.specs.List.{list_all, position};
@@ -118,7 +118,7 @@ pub fn number(word: &[u8], most: u64) -> Option<u64>
 
 /// Returns the only argument as a number, if it is one of at most `most`.
 pub fn one_number(arguments: Option<&str>, most: u64) -> Option<u64>
-    ensures value { result ≡ said_by (number_of most) (one_of (words_left arguments.entry)) }
+    ensures value { result ≡ parsed_by (number_of most) (one_of (words_left arguments.entry)) }
     ensures small { IfSome result (λ n. n ≤ most) }
 {
     number(one_word(arguments)?.as_bytes(), most)
@@ -126,7 +126,7 @@ pub fn one_number(arguments: Option<&str>, most: u64) -> Option<u64>
 
 /// Returns the two arguments as numbers, if they are two of at most `most`.
 pub fn two_numbers(arguments: Option<&str>, most: u64) -> Option<(u64, u64)>
-    ensures value { result ≡ said_by_both (number_of most) (two_of (words_left arguments.entry)) }
+    ensures value { result ≡ parsed_by_both (number_of most) (two_of (words_left arguments.entry)) }
     ensures small { IfSome result (λ p. (p.0 ≤ most) × (p.1 ≤ most)) }
 {
     let (first, second) = two_words(arguments)?;
@@ -144,7 +144,7 @@ fn text(word: &str) -> Option<&str>
 
 /// Returns the only argument as a text of at least one byte.
 pub fn one_text(arguments: Option<&str>) -> Option<&str>
-    ensures { option_copied result ≡ said_by text_of (one_of (words_left arguments.entry)) }
+    ensures { option_copied result ≡ parsed_by text_of (one_of (words_left arguments.entry)) }
 {
     text(one_word(arguments)?)
 }
@@ -152,7 +152,7 @@ pub fn one_text(arguments: Option<&str>) -> Option<&str>
 /// Returns the two arguments as texts of at least one byte each.
 pub fn two_texts(arguments: Option<&str>) -> Option<(&str, &str)>
     ensures { option_map (λ p. (p.0.now, p.1.now)) result
-        ≡ said_by_both text_of (two_of (words_left arguments.entry)) }
+        ≡ parsed_by_both text_of (two_of (words_left arguments.entry)) }
 {
     let (first, second) = two_words(arguments)?;
     let a = text(first)?;

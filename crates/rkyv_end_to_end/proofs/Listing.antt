@@ -97,7 +97,7 @@ image_of w r len load_factor p q out l e at h =
 pub list_wrote : {X : Type 0} (align : ℕ) (f : Format (List (ℕ × X)) TableResolver) (pairs : List (ℕ × X)) (o o1 o2 o3 : Output) (part : List ℕ) (r : TableResolver) (out : List ℕ) (end p : ℕ)
     → Appends o o1 part → f.parts pairs (end_of o) part r → Appends o1 o2 (zeros (padding align (end_of o1))) → f.image pairs r (end_of o2) out → Appends o2 o3 out
     → end ≡ end_of o1 → p ≡ end_of o2 → (bytes : List ℕ) × Appends o o3 bytes × ListBytes align f pairs (end_of o) end p bytes
-list_wrote align f pairs o o1 o2 o3 part r out end p a made b image c ends at =
+list_wrote align f pairs o o1 o2 o3 part r out end p a table_parts b image c ends at =
     let z : List ℕ = zeros (padding align (end_of o1)) in
     let n : length z ≡ padding align (end_of o1) = length-replicate (padding align (end_of o1)) 0 in
     let next : end_of o2 ≡ round_up (end_of o1) align = end-appends o1 o2 z b ∙ ap (λ k. end_of o1 + k) n in
@@ -107,7 +107,7 @@ list_wrote align f pairs o o1 o2 o3 part r out end p a made b image c ends at =
       part = part;
       resolver = r;
       header = out;
-      parts = made;
+      parts = table_parts;
       image = image;
       ends = end-appends o o1 part a;
       at = next;
@@ -178,21 +178,21 @@ module _ {X R : Type 0} (w : Width) (items : Encoding X R) (load_factor : ℕ ×
         omega (arith, len, whole, at),
       )
 
--- the first position that is told is that of the first item that is accepted
-first_along : {X : Type 0} (represents : List ℕ → ℕ → X → Type 0) (c : List ℕ) (accept : X → Bool) (told : ℕ → Bool) (items : List X) (qs : List ℕ)
-    → length items ≡ length qs → ((i : ℕ) (x : X) → slice_get items i ≡ Some x → represents c (slice_index qs i) x) → AgreesAt qs items accept told → IsFirstOf represents c accept items (find told qs)
-first_along represents c accept told [] [] n there agrees = refl
-first_along represents c accept told [] (q ∷ qs) n there agrees = absurd (omega arith)
-first_along represents c accept told (x ∷ xs) [] n there agrees = absurd (omega arith)
-first_along represents c accept told (x ∷ xs) (q ∷ qs) k there agrees =
-    let same : told q ≡ accept x = agrees 0 x refl in
-    elim (cases_Bool (told q)) [
+-- the first accepted position is that of the first accepted item
+first_along : {X : Type 0} (represents : List ℕ → ℕ → X → Type 0) (c : List ℕ) (accept : X → Bool) (accept_at : ℕ → Bool) (items : List X) (qs : List ℕ)
+    → length items ≡ length qs → ((i : ℕ) (x : X) → slice_get items i ≡ Some x → represents c (slice_index qs i) x) → AgreesAt qs items accept accept_at → IsFirstOf represents c accept items (find accept_at qs)
+first_along represents c accept accept_at [] [] n there agrees = refl
+first_along represents c accept accept_at [] (q ∷ qs) n there agrees = absurd (omega arith)
+first_along represents c accept accept_at (x ∷ xs) [] n there agrees = absurd (omega arith)
+first_along represents c accept accept_at (x ∷ xs) (q ∷ qs) k there agrees =
+    let same : accept_at q ≡ accept x = agrees 0 x refl in
+    elim (cases_Bool (accept_at q)) [
       | inl y ↦ rw (y, sym same ∙ y) (x, refl, there 0 x refl)
-      | inr n ↦ rw (n, sym same ∙ n) (first_along represents c accept told xs qs (omega (arith, k)) (λ i y e. there (suc i) y e) (λ i y e. agrees (suc i) y e))
+      | inr n ↦ rw (n, sym same ∙ n) (first_along represents c accept accept_at xs qs (omega (arith, k)) (λ i y e. there (suc i) y e) (λ i y e. agrees (suc i) y e))
     ]
 
 -- the items and the lookup of a written list
-module _ {X : Type 0} (t : TableIn) (represents : List ℕ → ℕ → X → Type 0) (pairs : List (ℕ × X)) (items : VisitsItems t represents pairs) (hash : ℕ) (accept : X → Bool) (told : ℕ → Bool) where
+module _ {X : Type 0} (t : TableIn) (represents : List ℕ → ℕ → X → Type 0) (pairs : List (ℕ × X)) (items : VisitsItems t represents pairs) (hash : ℕ) (accept : X → Bool) (accept_at : ℕ → Bool) where
   abbrev positions : List ℕ
   positions = home_positions t.word t.spec.size t.bytes t.pos items.homes
 
@@ -203,8 +203,8 @@ module _ {X : Type 0} (t : TableIn) (represents : List ℕ → ℕ → X → Typ
   positions_count = length-map pairs (λ (y : ℕ × X). y.1) ∙ sym hashes_count ∙ sym (home_count t.word t.bytes t.pos (hashes_of pairs) items.homes items.written) ∙ sym (length-map items.homes _)
 
   -- only positions of items with the hash are accepted
-  pub told_under : AreUnder hash accept pairs → AgreesAt positions (items_of pairs) accept told → IsUnderHash hash (hashes_of pairs) positions told
-  told_under under agrees i below t = elim (slice_get_cases pairs i).1 [
+  pub accepted_under : AreUnder hash accept pairs → AgreesAt positions (items_of pairs) accept accept_at → IsUnderHash hash (hashes_of pairs) positions accept_at
+  accepted_under under agrees i below t = elim (slice_get_cases pairs i).1 [
     | inl e ↦
         let pair = e.0 in
         let item : slice_get (items_of pairs) i ≡ Some pair.1 = slice_get-map (λ (y : ℕ × X). y.1) pairs i ∙ ap (option_map (λ (y : ℕ × X). y.1)) e.2 in
@@ -215,8 +215,8 @@ module _ {X : Type 0} (t : TableIn) (represents : List ℕ → ℕ → X → Typ
   ]
 
   -- the first accepted position is that of the first accepted item
-  pub first_at_home : AgreesAt positions (items_of pairs) accept told → IsFirstOf represents t.bytes accept (items_of pairs) (find told positions)
-  first_at_home agrees = first_along represents t.bytes accept told (items_of pairs) positions positions_count items.at agrees
+  pub first_at_home : AgreesAt positions (items_of pairs) accept accept_at → IsFirstOf represents t.bytes accept (items_of pairs) (find accept_at positions)
+  first_at_home agrees = first_along represents t.bytes accept accept_at (items_of pairs) positions positions_count items.at agrees
 
 -- a written list that was looked up
 module _ {T X R : Type 0} (list : ListInput X R) (post : View T → Bool → Type 0) (hash : ℕ) (o o' : Output) where
@@ -237,18 +237,18 @@ module _ {T X R : Type 0} (list : ListInput X R) (post : View T → Bool → Typ
         appends = wrote.3;
         ends = whole ∙ sym (end-appends o o' wrote.2 wrote.3.1.0);
         written = valid;
-        first = λ accept told answers agrees under.
+        first = λ accept accept_at compares agrees under.
             subst (IsFirstOf list.items.represents o'.bytes accept (items_of pairs))
-            (sym (there.looks.first (hashes_of pairs) valid.items.homes told valid.items.written answers
-            (told_under t list.items.represents pairs valid.items hash accept told under agrees)))
-            (first_at_home t list.items.represents pairs valid.items hash accept told agrees);
+            (sym (there.looks.first (hashes_of pairs) valid.items.homes accept_at valid.items.written compares
+            (accepted_under t list.items.represents pairs valid.items hash accept accept_at under agrees)))
+            (first_at_home t list.items.represents pairs valid.items hash accept accept_at agrees);
         reports = there;
       }
 
--- the bytes of a written list are not refused
-pub not_refused : (w : Width) → IsArchiveWord w → (s : ElementSpec) → IsElement s → (c b : List ℕ) (p begin end : ℕ) → HoldsAround (table_spec w s) c p begin end → b ≡ c → (range : PartRange)
+-- the bytes of a written list do not fail
+pub written_never_fails : (w : Width) → IsArchiveWord w → (s : ElementSpec) → IsElement s → (c b : List ℕ) (p begin end : ℕ) → HoldsAround (table_spec w s) c p begin end → b ≡ c → (range : PartRange)
     → range.lo ≡ begin → range.hi ≡ end → (e : VerifyError) → Fails (table_spec w s) b p range e → ⊥
-not_refused w kind s law c b p begin end around same range low high e fails =
+written_never_fails w kind s law c b p begin end around same range low high e fails =
     let there = subst (λ (x : List ℕ). (table_spec w s).fails x p range.lo range.hi e) same fails in
     let holds = around range.lo range.hi (omega (arith, low)) (omega (arith, high)) in
     (table_element w kind s law).exclusive c p range.lo range.hi holds.0 e holds.1 there

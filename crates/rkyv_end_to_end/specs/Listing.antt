@@ -16,12 +16,12 @@ use Rattle.rkyv_base.specs.declared.archive.Archive.{Ghosts as Archives}
 use Rattle.rkyv_base.specs.declared.errors.WriteError.{WriteError}
 use Rattle.rkyv_base.specs.declared.lend.Lend.{Ghosts as Lends}
 use Rattle.rkyv_base.specs.declared.view.View.{View}
-use Rattle.rkyv_table.specs.Table.Bare.{AnswersOf, TableIn}
+use Rattle.rkyv_table.specs.Table.Bare.{ComparesByOf, TableIn}
 use Rattle.rkyv_table.specs.Table.FirstItem.{AreUnder, IsFirstOf}
 use Rattle.rkyv_table.specs.Table.Header.{cap_at}
 use Rattle.rkyv_table.specs.Table.Input.{Input, from_both}
 use Rattle.rkyv_table.specs.Table.Layout.{table_spec}
-use Rattle.rkyv_table.specs.Table.Lending.{lent_represents}
+use Rattle.rkyv_table.specs.Table.Lending.{value_represents}
 use Rattle.rkyv_table.specs.Table.Passing.{HoldsAround}
 use Rattle.rkyv_table.specs.Table.Positions.{WrittenAt, home_positions, table_controls}
 use Rattle.rkyv_table.specs.Table.Serializing.{YieldsExactly, HasCapacity, OwnCause}
@@ -51,7 +51,7 @@ abbrev pub encoding : {X V W A R P : Type 0} → ElementMembers V → Archives V
     → Encoding X R
 encoding e a l = record {
   spec = e.spec;
-  represents = lent_represents l.lent e.represents;
+  represents = value_represents l.lent e.represents;
   format = written_as l.lent a.format;
 }
 
@@ -165,10 +165,10 @@ ListsAreValid {X} w items load_factor =
     items.represents load_factor begin end pairs
     × (p + 3 * byte_len w ≡ begin + length bytes)
 
--- `told` returns at the position of each item what `accept` returns for the item
+-- `accept_at` returns at the position of each item what `accept` returns for the item
 abbrev pub AgreesAt : {X : Type 0} → List ℕ → List X → (X → Bool) → (ℕ → Bool) → Type 0
-AgreesAt {X} positions items accept told =
-    (i : ℕ) (x : X) → slice_get items i ≡ Some x → told (slice_index positions i) ≡ accept x
+AgreesAt {X} positions items accept accept_at =
+    (i : ℕ) (x : X) → slice_get items i ≡ Some x → accept_at (slice_index positions i) ≡ accept x
 
 -- the lookup finds the first accepted item, or none if no item is accepted.
 -- The comparison must be a function of the position, agree with `accept` at the position of each
@@ -177,8 +177,9 @@ abbrev pub FindsFirstItem : {T X : Type 0} {t : TableIn} {represents : List ℕ 
     {pairs : List (ℕ × X)} → VisitsItems t represents pairs → (View T → Bool → Type 0) → ℕ
     → Option ℕ → Type 0
 FindsFirstItem {X = X} {t = t} {represents = represents} {pairs = pairs} visits post hash found =
-    (accept : X → Bool) (told : ℕ → Bool) → AnswersOf post t.word t.spec t.bytes t.pos told
-    → AgreesAt (positions_of visits) (items_of pairs) accept told → AreUnder hash accept pairs
+    (accept : X → Bool) (accept_at : ℕ → Bool)
+    → ComparesByOf post t.word t.spec t.bytes t.pos accept_at
+    → AgreesAt (positions_of visits) (items_of pairs) accept accept_at → AreUnder hash accept pairs
     → IsFirstOf represents t.bytes accept (items_of pairs) found
 
 -- the table of the list in the output `o`, with its header at `p`

@@ -9,7 +9,7 @@ use Rattle.rkyv_base.specs.declared.element.PartRange.{PartRange}
 use Rattle.rkyv_base.specs.declared.view.View.{View}
 use Rattle.rkyv_scan.specs.Groups.{generic_kind}
 use Rattle.rkyv_table.specs.Controls.Finding.{ReadsWithin}
-use Rattle.rkyv_table.specs.Table.Bare.{LooksUp, MayAskOf, ReadsExactly, TableIn}
+use Rattle.rkyv_table.specs.Table.Bare.{LooksUp, CanCompareOf, ReadsExactly, TableIn}
 use Rattle.rkyv_table.specs.Table.Header.{cap_at, len_at}
 use Rattle.rkyv_table.specs.Table.Layout.{table_spec}
 use Rattle.rkyv_table.specs.Table.Positions.{item_positions}
@@ -19,7 +19,7 @@ use Rattle.rkyv_end_to_end.specs.declared.looking.TableReport.{TableReport}
 
 -- the comparison can be called on each item of the table
 abbrev pub CanCompareItems : {T : Type 0} → TableIn → (View T → Type 0) → Type 0
-CanCompareItems t pre = MayAskOf pre t.word t.spec t.bytes t.pos
+CanCompareItems t pre = CanCompareOf pre t.word t.spec t.bytes t.pos
 
 -- `cap / 16`, rounded up
 abbrev pub per_sixteen : ℕ → ℕ

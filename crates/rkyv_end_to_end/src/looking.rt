@@ -3,7 +3,7 @@
 ghost use Rattle.std.specs.Prelude.{IfOk, length, ◌%◌, ◌*◌, ◌+◌, ◌≡◌, ◌≤◌};
 ghost use Rattle.std.specs.Int.{byte_len};
 ghost use Rattle.rkyv_base.specs.ElementSpec.{Viewable};
-ghost use Rattle.rkyv_table.specs.Table.Bare.{MayAskOf, table_in};
+ghost use Rattle.rkyv_table.specs.Table.Bare.{CanCompareOf, table_in};
 ghost use Rattle.rkyv_table.specs.Table.Layout.{table_spec};
 ghost use Rattle.rkyv_table.specs.Table.Positions.{item_positions};
 ghost use Rattle.rkyv_end_to_end.specs.Report.{CanCompareItems, LooksOver, LooksUpIn};
@@ -42,7 +42,7 @@ pub enum LookError {
 
 // The result of one lookup.
 #[derive(Drop)]
-struct Answer {
+struct LookupResult {
     found: Option<u64>,
     strides: u64,
 }
@@ -66,9 +66,9 @@ fn look_up<W: Width, T: Element, F: Fn(View<'_, T>) -> bool>(
     pos: u64,
     hash: u64,
     cmp: F,
-) -> Answer
+) -> LookupResult
     requires table { Viewable (table_spec W.word T.spec) bytes.now pos }
-    requires callable { MayAskOf (F.pre cmp) W.word T.spec bytes.now pos }
+    requires callable { CanCompareOf (F.pre cmp) W.word T.spec bytes.now pos }
     ensures looks { LooksUpIn (table_in W.Word T.HasSpec bytes.now pos) (F.post cmp) hash
         result.found }
     ensures reads { ReadsWithinBound W.word bytes.now pos result.strides }
@@ -78,7 +78,7 @@ fn look_up<W: Width, T: Element, F: Fn(View<'_, T>) -> bool>(
     let table = ArchivedHashTable::<T, W>::of(View::new(bytes, pos));
     let mut strides = Strides::new();
     let found = found_pos(table.get_counted(hash, cmp, &mut strides));
-    Answer {
+    LookupResult {
         found,
         strides: strides.count(),
     }

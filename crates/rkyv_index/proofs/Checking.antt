@@ -18,7 +18,7 @@ use Rattle.rkyv_base.specs.View.{IsAt, IsValidView}
 use Rattle.rkyv_base.specs.declared.view.View.{View}
 use Rattle.rkyv_table.specs.Controls.Placing.{walk}
 use Rattle.rkyv_table.specs.Table.Header.{cap_at, controls_pos}
-use Rattle.rkyv_table.specs.Table.Layout.{TableHolds, table_spec}
+use Rattle.rkyv_table.specs.Table.Layout.{IsValidTable, table_spec}
 use Rattle.rkyv_table.specs.Table.Positions.{IsWalked, item_at, item_positions, table_controls}
 use Rattle.rkyv_table.specs.Table.Decoded.{IsDecoded}
 use Rattle.rkyv_table.specs.declared.table.decoded.Decoded.{Decoded}
@@ -46,8 +46,8 @@ pub places_step : (i n : ℕ) → i < n → range_with_len i (n - i) ≡ i ∷ r
 places_step i n h = let e : n - i ≡ suc (n - (i + 1)) = omega arith in ap (range_with_len i) e
 
 -- a number that fits is unchanged by its encoding
-pub told_is : (r x : ℤ) → FitsSigned w128 r → r ≡ x → to_z w128 (of_z w128 r) ≡ x
-told_is r x fits e = to_z-of_z w128 r fits ∙ e
+pub decoded_is : (r x : ℤ) → FitsSigned w128 r → r ≡ x → to_z w128 (of_z w128 r) ≡ x
+decoded_is r x fits e = to_z-of_z w128 r fits ∙ e
 
 -- a valid value at `p` is valid at a view of `p`
 pub view_there : {T : Type 0} (s : ElementSpec) (v : View T) (archive : Bor (List ℕ)) (p : ℕ) → IsAt v archive p → Viewable s archive.now p → IsValidView s v
@@ -60,7 +60,7 @@ view_at v archive p at read = ap (λ (x : Bor (List ℕ)). read x.now v.pos) at.
 
 -- the table of a valid index map is valid for a view
 pub table_viewable : {V : Type 0} (w : Width) → IsArchiveWord w → (s : ElementSpec) (e : Encoding V) → IsScalar s e → IsPlace w e → (b : List ℕ) (p lo hi m : ℕ)
-    → p + 4 * byte_len w ≤ length b → p % byte_len w ≡ 0 → lo ≤ hi → hi ≤ p → TableHolds w s b p lo hi m → Viewable (table_spec w (place_spec w)) b p
+    → p + 4 * byte_len w ≤ length b → p % byte_len w ≡ 0 → lo ≤ hi → hi ≤ p → IsValidTable w s b p lo hi m → Viewable (table_spec w (place_spec w)) b p
 table_viewable w kind s e laws is b p lo hi m inside aligned o o' h = record {
   inside = omega arith;
   aligned = aligned;
@@ -114,8 +114,8 @@ module _ (w : Width) (kind : IsArchiveWord w) (b : List ℕ) (p n begin : ℕ) (
       let split : cap * size ≡ (i + 1) * size + k * size = ap (λ m. m * size) (sym whole) ∙ add-mul (i + 1) k size in
       let last : (cap - 1 + 1) * size ≤ controls_pos w b p = item_before w (place_spec w) (place_element w kind) b p v (cap - 1) (omega arith) in
       let before : cap * size ≤ controls_pos w b p = subst (λ m. m * size ≤ controls_pos w b p) (omega arith) last in
-      let told = at (omega arith) in
-      let there : begin + k * size ≡ item_at w size b p i = omega (arith, split, before, told) in
+      let item_pos_is = at (omega arith) in
+      let there : begin + k * size ≡ item_at w size b p i = omega (arith, split, before, item_pos_is) in
       subst (λ q. number_at w b q < n) there (all k (omega arith))
 
   pub buckets_below : AreBelow w b begin (cap_at w b p) n → PlacesBelow w b n (item_positions w (byte_len w) b p)

@@ -18,7 +18,7 @@ use Rattle.rkyv_keys.specs.Keys.{IsQuery}
 use Rattle.rkyv_keys.specs.Lemmas.OfEntries.{valid_key}
 use Rattle.rkyv_table.specs.Controls.Finding.{found}
 use Rattle.rkyv_table.specs.Table.Header.{cap_at, len_at}
-use Rattle.rkyv_table.specs.Table.Misplaced.{is_answer}
+use Rattle.rkyv_table.specs.Table.Misplaced.{is_found_at}
 use Rattle.rkyv_table.specs.Table.Positions.{item_at, table_controls}
 use Rattle.rkyv_table.proofs.ValidTable.{controls_accepted, no_items}
 use Rattle.rkyv_table.proofs.Misplaced.{found_agree, found_walked}
@@ -44,9 +44,9 @@ none_kept P a (suc n) e i from to = elim (cases_Bool (P a)) [
       ]
 ]
 
-answer_is : (b : ℕ) (o : Option ℕ) → is_answer b o ≡ true → o ≡ Some b
-answer_is b None e = absurd (true≢false (sym e))
-answer_is b (Some x) e = ap Some (sym (eqb-true b x e))
+found_at_is : (b : ℕ) (o : Option ℕ) → is_found_at b o ≡ true → o ≡ Some b
+found_at_is b None e = absurd (true≢false (sym e))
+found_at_is b (Some x) e = ap Some (sym (eqb-true b x e))
 
 -- a found image is that of a found item
 found_somewhere : {A B : Type 0} (f : A → B) (o : Option A) (y : B) → option_map f o ≡ Some y → (x : A) × (o ≡ Some x) × (f x ≡ y)
@@ -121,8 +121,8 @@ module _ {K Q : Type 0} (m : Index K) (kind : IsArchiveWord m.word) (kl : IsElem
   found_itself : (i : ℕ) → i < len → accept i ≡ true → index_found w b p (hash_of_calls hasher (calls q)) accept ≡ Some i
   found_itself i below ok =
       let own = own_found m (hash_at hasher key_calls) same in
-      let P : ℕ → Bool = λ j. not (is_answer j (own j)) in
-      let answered = answer_is i (own i) (not-false (is_answer i (own i)) (none_kept P 0 len none i (omega arith) (omega (arith, below)))) in
+      let P : ℕ → Bool = λ j. not (is_found_at j (own j)) in
+      let own_result = found_at_is i (own i) (not-false (is_found_at i (own i)) (none_kept P 0 len none i (omega arith) (omega (arith, below)))) in
       let same_hash : hash_of_calls hasher (calls q) ≡ hash_at hasher key_calls b (at i) = ap (hash_of_calls hasher) (query.same_calls q b (at i) ready (key_valid i below) ok) in
       let agree : (j : ℕ) → j < len → accept j ≡ same b (at i) b (at j) = λ j less. query.respects_same q b b (at i) (at j) ready (key_valid i below) (key_valid j less) ok in
       let of : Option ℕ → Option ℕ = λ o. option_map (number_at w b) (option_map (item_at w (byte_len w) b p) o) in
@@ -137,7 +137,7 @@ module _ {K Q : Type 0} (m : Index K) (kind : IsArchiveWord m.word) (kl : IsElem
             found_agree generic_kind cap (len_at w b p) (hash_of_calls hasher (calls q)) controls word_lawful full small (λ j. accept (read j)) (λ j. same b (at i) b (at (read j)))
             (λ j there. agree (read j) (place_below w kind s law b p view j (walked_full cap controls j there)))
       ] in
-      ap of lookup ∙ ap (λ h. index_found w b p h (λ j. same b (at i) b (at j))) same_hash ∙ answered
+      ap of lookup ∙ ap (λ h. index_found w b p h (λ j. same b (at i) b (at j))) same_hash ∙ own_result
 
   by_found : (o : Option ℕ) → index_found w b p (hash_of_calls hasher (calls q)) accept ≡ o → FindsTheOne len accept o
   by_found None e = λ i below. elim (cases_Bool (accept i)) [

@@ -9,15 +9,15 @@ pub left_first : (P : ℕ → Bool) (n : ℕ) → length (filter P (range_with_l
 left_first P n = ap (λ (xs : List ℕ). length (filter P xs)) (all_left n)
 
 -- the next index is counted or skipped, and at the end none remains
-module _ (P : ℕ → Bool) (count i n all : ℕ) (told : count + length (filter P (range_with_len i (n - i))) ≡ all) where
+module _ (P : ℕ → Bool) (count i n all : ℕ) (exact : count + length (filter P (range_with_len i (n - i))) ≡ all) where
   pub one_more : (next : ℕ) → i < n → P i ≡ true → next ≡ count + 1 → next + length (filter P (range_with_len (i + 1) (n - (i + 1)))) ≡ all
-  one_more next below passes e = let s = filter_step P i n below passes in omega (arith, s, e, told)
+  one_more next below passes e = let s = filter_step P i n below passes in omega (arith, s, e, exact)
 
   pub none_more : (next : ℕ) → i < n → P i ≡ false → next ≡ count → next + length (filter P (range_with_len (i + 1) (n - (i + 1)))) ≡ all
-  none_more next below fails e = let s = filter_skip P i n below fails in omega (arith, s, e, told)
+  none_more next below fails e = let s = filter_skip P i n below fails in omega (arith, s, e, exact)
 
-  pub all_told : n ≤ i → count ≡ all
-  all_told end = let none = ap (λ (xs : List ℕ). length (filter P xs)) (none_left i n end) in omega (arith, told, none)
+  pub count_is_all : n ≤ i → count ≡ all
+  count_is_all end = let none = ap (λ (xs : List ℕ). length (filter P xs)) (none_left i n end) in omega (arith, exact, none)
 
 -- the strides of the remaining indices are those of the next one, and of those behind it
 module _ (f : ℕ → ℕ) (i n : ℕ) where

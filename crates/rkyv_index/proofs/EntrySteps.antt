@@ -6,7 +6,7 @@ use Rattle.rkyv_base.specs.declared.adapter.EntryAdapter.{EntryAdapter}
 use Rattle.rkyv_index.specs.Index.Writing.{pairs_of}
 use Rattle.rkyv_table.proofs.PlacingSteps.{yields_more}
 
-pub made_more : {S BK BV A B : Type 0} (steps : S → Option (BK × BV) → S → Type 0) (s t u : S) (entries : List (EntryAdapter BK BV A B)) (entry : EntryAdapter BK BV A B)
+pub entries_yield_more : {S BK BV A B : Type 0} (steps : S → Option (BK × BV) → S → Type 0) (s t u : S) (entries : List (EntryAdapter BK BV A B)) (entry : EntryAdapter BK BV A B)
     → Yields steps s (pairs_of entries) t → steps t (Some (entry.key, entry.value)) u → Yields steps s (pairs_of (entries ++ entry ∷ [])) u
-made_more steps s t u entries entry y h =
+entries_yield_more steps s t u entries entry y h =
     subst (λ (xs : List (_ × _)). Yields steps s xs u) (sym (map-append (λ e. (e.key, e.value)) entries (entry ∷ []))) (yields_more steps s t u (pairs_of entries) (entry.key, entry.value) y h)

@@ -11,14 +11,14 @@ none_each : (P : ℕ → Bool) (n : ℕ) → find P (range_with_len 0 n) ≡ Non
 none_each P n h i below = false_from_ne_true (P i) (λ t.
     both_ways (list_any P (range_with_len 0 n)) (none_find P (range_with_len 0 n) h) (any_range P 0 n i (omega arith) (omega arith) t))
 
-module _ {A B : Type 0} (P : ℕ → Bool) (asks : A → Bool) (pairs : List (A × B)) (agrees : (i : ℕ) (pair : A × B) → slice_get pairs i ≡ Some pair → P i ≡ asks pair.0) where
-  there : (n : ℕ) → n < length pairs → P n ≡ true → (pair : A × B) × (slice_get pairs n ≡ Some pair) × (asks pair.0 ≡ true)
+module _ {A B : Type 0} (P : ℕ → Bool) (accept : A → Bool) (pairs : List (A × B)) (agrees : (i : ℕ) (pair : A × B) → slice_get pairs i ≡ Some pair → P i ≡ accept pair.0) where
+  there : (n : ℕ) → n < length pairs → P n ≡ true → (pair : A × B) × (slice_get pairs n ≡ Some pair) × (accept pair.0 ≡ true)
   there n below fits = elim ((slice_get_cases pairs n).1) [
     | inl x ↦ (x.0, x.2, sym (agrees n x.0 x.2) ∙ fits)
     | inr past ↦ absurd (omega (arith, below, past.0))
   ]
 
-  pub first_listed : (found : Option ℕ) → find P (range_with_len 0 (length pairs)) ≡ found → IsFirst asks pairs found
+  pub first_listed : (found : Option ℕ) → find P (range_with_len 0 (length pairs)) ≡ found → IsFirst accept pairs found
   first_listed None h = λ i pair e. sym (agrees i pair e) ∙ none_each P (length pairs) h i (slice_get_within pairs i pair e)
   first_listed (Some n) h =
       let f = first_range P 0 (length pairs) n h in

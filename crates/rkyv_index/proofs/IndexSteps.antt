@@ -46,13 +46,13 @@ module _ (F : Type 0) {P X : Type 0} (w : Width) (ps : ElementSpec) (e : Encodin
   TableOf = table_format w ps (scalar_format e) factor
 
   module _ {S : Type 0} (rest : S → List (ℕ × P)) (state : S) (there : rest state ≡ Places) (max : ℕ) (o1 : Output) where
-    abbrev Gave : List (ℕ × P) → Type 0
-    Gave = Drains (YieldsFirst rest) state
+    abbrev DrainsRest : List (ℕ × P) → Type 0
+    DrainsRest = Drains (YieldsFirst rest) state
 
-    wrote_places : (r : TableResolver) → WroteItems Gave (length xs) factor max TableOf o o1 limit r → Serialized limit TableOf Places o o1 r
+    wrote_places : (r : TableResolver) → WroteItems DrainsRest (length xs) factor max TableOf o o1 limit r → Serialized limit TableOf Places o o1 r
     wrote_places r h = subst (λ l. Serialized limit TableOf l o o1 r) (drained rest h.1 state h.2.0 ∙ there) h.3
 
-    places_fail : (err : WriteError F) → WriteItemsFails Gave (length xs) factor max TableOf o o1 limit (YieldsOtherCount (YieldsFirst rest) (length xs) state) err
+    places_fail : (err : WriteError F) → WriteItemsFails DrainsRest (length xs) factor max TableOf o o1 limit (YieldsOtherCount (YieldsFirst rest) (length xs) state) err
         → OwnOrSerializeFails (length xs) factor max NoOther limit TableOf Places o o1 err
     places_fail err (inl h) =
         let n : length (rest state) ≡ length xs = ap length there ∙ places_count hash e.value 0 xs in
@@ -60,11 +60,11 @@ module _ (F : Type 0) {P X : Type 0} (w : Width) (ps : ElementSpec) (e : Encodin
     places_fail err (inr h) = inr (subst (λ l. SerializeFails limit TableOf l o o1 err) (drained rest h.1 state h.2.0 ∙ there) h.3)
 
     -- the result of writing the table is that of writing the indices
-    pub answers_places : (result : Result TableResolver (WriteError F))
-        → MatchResult result (WroteItems Gave (length xs) factor max TableOf o o1 limit) (WriteItemsFails Gave (length xs) factor max TableOf o o1 limit (YieldsOtherCount (YieldsFirst rest) (length xs) state))
+    pub places_result : (result : Result TableResolver (WriteError F))
+        → MatchResult result (WroteItems DrainsRest (length xs) factor max TableOf o o1 limit) (WriteItemsFails DrainsRest (length xs) factor max TableOf o o1 limit (YieldsOtherCount (YieldsFirst rest) (length xs) state))
         → MatchResult result (Serialized limit TableOf Places o o1) (OwnOrSerializeFails (length xs) factor max NoOther limit TableOf Places o o1)
-    answers_places (Ok r) h = wrote_places r h
-    answers_places (Err err) h = places_fail err h
+    places_result (Ok r) h = wrote_places r h
+    places_result (Err err) h = places_fail err h
 
   module _ {R : Type 0} (s : ElementSpec) (f : Format X R) where
     abbrev Next : List ℕ → Step → Type 0
@@ -107,7 +107,7 @@ module _ (F : Type 0) {P X : Type 0} (w : Width) (ps : ElementSpec) (e : Encodin
         within2 = within_after limit o1 o2 table row (grows o1 o2 row b) wrote.3 inside
 
         before : BeforeZeros w ps e s f hash factor xs (end_of o) head t rs
-        before = record { table = table; part_bytes = row; made = wrote.2; parts = subst (λ k. RowParts f xs k row rs) at1 parts; is = refl }
+        before = record { table = table; part_bytes = row; serialized = wrote.2; parts = subst (λ k. RowParts f xs k row rs) at1 parts; is = refl }
 
         abbrev pad : List ℕ
         pad = zeros (padding s.align (end_of o2))
@@ -130,7 +130,7 @@ module _ (F : Type 0) {P X : Type 0} (w : Width) (ps : ElementSpec) (e : Encodin
           at3 = end-appends o o3 front whole3
 
           before_row : BeforeRow w ps e s f hash factor xs (end_of o) front t rs
-          before_row = record { head = head; made = before; is = ap (λ (y : List ℕ). head ++ y) same_zeros }
+          before_row = record { head = head; serialized = before; is = ap (λ (y : List ℕ). head ++ y) same_zeros }
 
           pub row_fails : (o4 : Output) (err : WriteError F) → WriteFails limit (RowNext f xs rs (end_of o3)) o3 o4 err → Stopped o4 err
           row_fails o4 err h =
@@ -142,6 +142,6 @@ module _ (F : Type 0) {P X : Type 0} (w : Width) (ps : ElementSpec) (e : Encodin
           index_wrote o4 wr = (
             front ++ wr.0,
             appends_after o o3 o4 front wr.0 whole3 wr.1.0,
-            record { front = front; resolvers = rs; row = wr.0; before = before_row; at = at3; shown = wr.2; is = refl },
+            record { front = front; resolvers = rs; row = wr.0; before = before_row; at = at3; images = wr.2; is = refl },
             inr wr.1.1,
           )

@@ -36,23 +36,23 @@ abbrev IsFirstAt : {A B : Type 0} → List (A × B) → ℕ → Option ℕ → O
 IsFirstAt {A} {B} pairs from place first =
     MatchOption place (first ≡ None) (λ n. (i : ℕ) × (pair : A × B) × (n ≡ from + i) × (slice_get pairs i ≡ Some pair) × (first ≡ Some pair))
 
-module _ {A B : Type 0} (P : ℕ → Bool) (asks : A → Bool) where
+module _ {A B : Type 0} (P : ℕ → Bool) (accept : A → Bool) where
   -- `P` accepts the indices of the pairs with an accepted key
   abbrev Agrees : ℕ → List (A × B) → Type 0
-  Agrees from pairs = (i : ℕ) (pair : A × B) → slice_get pairs i ≡ Some pair → P (from + i) ≡ asks pair.0
+  Agrees from pairs = (i : ℕ) (pair : A × B) → slice_get pairs i ≡ Some pair → P (from + i) ≡ accept pair.0
 
-  here : (from : ℕ) (x : A × B) (xs : List (A × B)) → Agrees from (x ∷ xs) → P from ≡ asks x.0
+  here : (from : ℕ) (x : A × B) (xs : List (A × B)) → Agrees from (x ∷ xs) → P from ≡ accept x.0
   here from x xs agrees = ap P (omega arith) ∙ agrees 0 x refl
 
   behind : (from : ℕ) (x : A × B) (xs : List (A × B)) → Agrees from (x ∷ xs) → Agrees (from + 1) xs
   behind from x xs agrees i pair e = ap P (omega arith) ∙ agrees (suc i) pair e
 
-  pub place_listed : (from : ℕ) (pairs : List (A × B)) → Agrees from pairs → find P (range_with_len from (length pairs)) ≡ position_from (λ pair. asks pair.0) from pairs
+  pub place_listed : (from : ℕ) (pairs : List (A × B)) → Agrees from pairs → find P (range_with_len from (length pairs)) ≡ position_from (λ pair. accept pair.0) from pairs
   place_listed from [] agrees = refl
   place_listed from (x ∷ xs) agrees =
       let e = here from x xs agrees in
       let rest = place_listed (from + 1) xs (behind from x xs agrees) in
-      elim (cases_Bool (asks x.0)) [
+      elim (cases_Bool (accept x.0)) [
         | inl t ↦ rw (e, t) refl
         | inr f ↦ rw (e, f) rest
       ]
@@ -61,14 +61,14 @@ module _ {A B : Type 0} (P : ℕ → Bool) (asks : A → Bool) where
   later from x xs None first h = h
   later from x xs (Some n) first h = (suc h.0, h.1, omega (arith, h.2), h.3, h.4)
 
-  pub first_listed_at : (from : ℕ) (pairs : List (A × B)) → Agrees from pairs → IsFirstAt pairs from (find P (range_with_len from (length pairs))) (first_pair asks pairs)
+  pub first_listed_at : (from : ℕ) (pairs : List (A × B)) → Agrees from pairs → IsFirstAt pairs from (find P (range_with_len from (length pairs))) (first_pair accept pairs)
   first_listed_at from [] agrees = refl
   first_listed_at from (x ∷ xs) agrees =
       let e = here from x xs agrees in
       let rest = first_listed_at (from + 1) xs (behind from x xs agrees) in
-      elim (cases_Bool (asks x.0)) [
+      elim (cases_Bool (accept x.0)) [
         | inl t ↦ rw (e, t) (0, x, omega arith, refl, refl)
-        | inr f ↦ rw (e, f) (later from x xs (find P (range_with_len (from + 1) (length xs))) (first_pair asks xs) rest)
+        | inr f ↦ rw (e, f) (later from x xs (find P (range_with_len (from + 1) (length xs))) (first_pair accept xs) rest)
       ]
 
 -- the value that is found at an index is that of the first pair
@@ -88,56 +88,56 @@ found_at {ks = ks} {vs = vs} m key value pairs represents (Some n) (Some view) (
     moved (λ b p. value b p pair.1) _ _ _ _ (sym bytes) (sym place) (subst (λ x. value (index_bytes m) (key_pos m is.0 + value_offset ks.spec vs.spec) x.1) (sym (same_Some pair is.1 is.4)) there)
 
 -- In an index map that represents a list of pairs, native keys find the first pair with an equal key
-pub record FirstInMap {A Q B K V H W : Type 0} {ks : Specs K} {vs : Specs V} {wt : Words W} (m : ArchivedIndexMap K V H W ks vs wt) (keys : NativeKeys A Q) (value : List ℕ → ℕ → B → Type 0) (asked : Q) (pairs : List (A × B))
+pub record FirstInMap {A Q B K V H W : Type 0} {ks : Specs K} {vs : Specs V} {wt : Words W} (m : ArchivedIndexMap K V H W ks vs wt) (keys : NativeKeys A Q) (value : List ℕ → ℕ → B → Type 0) (query : Q) (pairs : List (A × B))
     : Type 0 where
   pub homes : List ℕ
   pub written : IsWritten (index_of m) keys.key_hash homes
   pub at : (i : ℕ) (pair : A × B) → slice_get pairs i ≡ Some pair → PairRepresents ks.spec vs.spec keys.represents value (index_bytes m) (key_pos m i) pair
-  pub place : find (fits_at (index_of m) (keys.fits asked)) (index_places (index_of m)) ≡ position_from (λ pair. keys.equal asked pair.0) 0 pairs
-  pub first : IsFirstAt pairs 0 (find (fits_at (index_of m) (keys.fits asked)) (index_places (index_of m))) (first_pair (keys.equal asked) pairs)
+  pub place : find (fits_at (index_of m) (keys.fits query)) (index_places (index_of m)) ≡ position_from (λ pair. keys.equal query pair.0) 0 pairs
+  pub first : IsFirstAt pairs 0 (find (fits_at (index_of m) (keys.fits query)) (index_places (index_of m))) (first_pair (keys.equal query) pairs)
 
 first_in_map : {A Q B K V H W : Type 0} {ks : Specs K} {vs : Specs V} {wt : Words W} → IsArchiveWord wt.word → (m : ArchivedIndexMap K V H W ks vs wt) (keys : NativeKeys A Q)
-    → FitsItsEqual ks.spec keys.represents keys.equal keys.fits → (value : List ℕ → ℕ → B → Type 0) (asked : Q) (archive : Bor (List ℕ)) (p : ℕ) (factor : ℕ × ℕ) (pairs : List (A × B))
-    → IsAt m.view archive p → IndexRepresents wt.word ks.spec vs.spec keys.represents value keys.key_hash factor archive.now p pairs → FirstInMap m keys value asked pairs
-first_in_map {ks = ks} {vs = vs} {wt = wt} kind m keys native value asked archive p factor pairs at is =
+    → FitsItsEqual ks.spec keys.represents keys.equal keys.fits → (value : List ℕ → ℕ → B → Type 0) (query : Q) (archive : Bor (List ℕ)) (p : ℕ) (factor : ℕ × ℕ) (pairs : List (A × B))
+    → IsAt m.view archive p → IndexRepresents wt.word ks.spec vs.spec keys.represents value keys.key_hash factor archive.now p pairs → FirstInMap m keys value query pairs
+first_in_map {ks = ks} {vs = vs} {wt = wt} kind m keys native value query archive p factor pairs at is =
     let represents = moved (λ b q. IndexRepresents wt.word ks.spec vs.spec keys.represents value keys.key_hash factor b q pairs) _ _ _ _ (sym (ap (λ a. a.now) at.0)) (sym at.1) is in
-    let P = fits_at (index_of m) (keys.fits asked) in
+    let P = fits_at (index_of m) (keys.fits query) in
     let n : index_len m ≡ length pairs = represents.len in
-    let agrees : (i : ℕ) (pair : _ × _) → slice_get pairs i ≡ Some pair → P (0 + i) ≡ keys.equal asked pair.0 = λ i pair e.
+    let agrees : (i : ℕ) (pair : _ × _) → slice_get pairs i ≡ Some pair → P (0 + i) ≡ keys.equal query pair.0 = λ i pair e.
     let within = slice_get_within pairs i pair e in
     let below : i < index_len m = omega (arith, n, within) in
     let there = entry_viewable wt.word kind (entry_spec ks.spec vs.spec) (entry_element ks.spec vs.spec ks.laws vs.laws) (index_bytes m) (index_pos m) m.valid i below in
     let zero : 0 + i ≡ i = omega arith in
-    ap P zero ∙ native asked pair.0 (index_bytes m) (key_pos m i) (valid_key ks.laws vs.laws (index_bytes m) (key_pos m i) there.valid) (represents.at i pair e).0 in
+    ap P zero ∙ native query pair.0 (index_bytes m) (key_pos m i) (valid_key ks.laws vs.laws (index_bytes m) (key_pos m i) there.valid) (represents.at i pair e).0 in
     let range = ap (λ (x : ℕ). find P (range_with_len 0 x)) n in
     record {
       homes = represents.homes;
       written = represents.written;
       at = represents.at;
-      place = range ∙ place_listed P (keys.equal asked) 0 pairs agrees;
-      first = subst (λ place. IsFirstAt pairs 0 place (first_pair (keys.equal asked) pairs)) (sym range) (first_listed_at P (keys.equal asked) 0 pairs agrees);
+      place = range ∙ place_listed P (keys.equal query) 0 pairs agrees;
+      first = subst (λ place. IsFirstAt pairs 0 place (first_pair (keys.equal query) pairs)) (sym range) (first_listed_at P (keys.equal query) 0 pairs agrees);
     }
 
 -- a lookup in the index map at the root of an archive finds the first pair of the list
 pub found_listed : {A Q B K V W : Type 0} (H : Type 0) (wt : Words W) → IsArchiveWord wt.word → (ks : Specs K) (vs : Specs V) (keys : NativeKeys A Q) → FitsItsEqual ks.spec keys.represents keys.equal keys.fits
     → (values : FoundValues V B) → FindsByView values → FoundAreListed H wt ks vs keys values
-found_listed H wt kind ks vs keys native values by = λ map root archive factor pairs asked view at is.
+found_listed H wt kind ks vs keys native values by = λ map root archive factor pairs query view at is.
     let there : IsAt map.view archive (index_root wt.word ks.spec vs.spec archive.now) = (ap (λ x. x.archive) view ∙ at.0, ap (λ x. x.pos) view ∙ at.1) in
-    let r = first_in_map kind map keys native values.represents asked archive _ factor pairs there is in
+    let r = first_in_map kind map keys native values.represents query archive _ factor pairs there is in
     record {
-      place = λ found told. told r.homes r.written ∙ r.place ∙ sym (position_from-zero (λ pair. keys.equal asked pair.0) pairs);
-      value = λ found told. by found _ (found_at map keys.represents values.represents pairs r.at _ found _ (told r.homes r.written) r.first);
+      place = λ found finds. finds r.homes r.written ∙ r.place ∙ sym (position_from-zero (λ pair. keys.equal query pair.0) pairs);
+      value = λ found finds. by found _ (found_at map keys.represents values.represents pairs r.at _ found _ (finds r.homes r.written) r.first);
     }
 
 -- the keys of pairs with the unit value
-module _ {A : Type 0} (asks : A → Bool) where
-  position_units : (from : ℕ) (items : List A) → position_from (λ pair. asks pair.0) from (with_units items) ≡ position_from asks from items
+module _ {A : Type 0} (accept : A → Bool) where
+  position_units : (from : ℕ) (items : List A) → position_from (λ pair. accept pair.0) from (with_units items) ≡ position_from accept from items
   position_units from [] = refl
-  position_units from (x ∷ xs) = ap (cond (asks x) (Some from)) (position_units (from + 1) xs)
+  position_units from (x ∷ xs) = ap (cond (accept x) (Some from)) (position_units (from + 1) xs)
 
-  any_position : (from : ℕ) (items : List A) → is_some (position_from asks from items) ≡ list_any asks items
+  any_position : (from : ℕ) (items : List A) → is_some (position_from accept from items) ≡ list_any accept items
   any_position from [] = refl
-  any_position from (x ∷ xs) = elim (cases_Bool (asks x)) [
+  any_position from (x ∷ xs) = elim (cases_Bool (accept x)) [
     | inl t ↦ rw t refl
     | inr f ↦ rw f (any_position (from + 1) xs)
   ]
@@ -151,10 +151,10 @@ is_found false (Some n) e = absurd (true≢false (sym (e.1 refl)))
 -- a lookup in the index set at the root of an archive finds the first item of the list
 pub members_listed : {A Q K W : Type 0} (H : Type 0) (wt : Words W) → IsArchiveWord wt.word → (ks : Specs K) (keys : NativeKeys A Q) → FitsItsEqual ks.spec keys.represents keys.equal keys.fits
     → MembersFoundAreListed H wt ks keys
-members_listed H wt kind ks keys native = λ set root archive factor items asked there at is.
-    let r = first_in_map kind (keys_of set) keys native unit_represents asked archive _ factor (with_units items) (there.0 ∙ at.0, there.1 ∙ at.1) is in
-    let place = r.place ∙ position_units (keys.equal asked) 0 items in
+members_listed H wt kind ks keys native = λ set root archive factor items query there at is.
+    let r = first_in_map kind (keys_of set) keys native unit_represents query archive _ factor (with_units items) (there.0 ∙ at.0, there.1 ∙ at.1) is in
+    let place = r.place ∙ position_units (keys.equal query) 0 items in
     record {
-      place = λ found told. told r.homes r.written ∙ place ∙ sym (position_from-zero (keys.equal asked) items);
-      member = λ found told. is_found found _ (told r.homes r.written) ∙ ap is_some place ∙ any_position (keys.equal asked) 0 items;
+      place = λ found finds. finds r.homes r.written ∙ place ∙ sym (position_from-zero (keys.equal query) items);
+      member = λ found finds. is_found found _ (finds r.homes r.written) ∙ ap is_some place ∙ any_position (keys.equal query) 0 items;
     }

@@ -20,10 +20,10 @@ use Rattle.rkyv_base.specs.declared.view.View.{View}
 use Rattle.rkyv_table.specs.Controls.Laws.{IsUnderHash}
 use Rattle.rkyv_table.specs.Table.Positions.{IsWalked, WrittenAt, home_positions, item_at}
 use Rattle.rkyv_table.specs.Table.Positions.{lookup_end, pos_found}
-use Rattle.rkyv_table.specs.Table.Reading.{Answers, CountsEnd, FindsFirst, FindsFound, IsItem}
+use Rattle.rkyv_table.specs.Table.Reading.{ComparesBy, CountsEnd, FindsFirst, FindsFound, IsItem}
 use Rattle.rkyv_table.specs.Table.Reading.{table_bytes, table_pos}
 use Rattle.rkyv_table.specs.declared.table.ArchivedHashTable.{ArchivedHashTable}
-use Rattle.rkyv_index.specs.Index.{AnswersKeys, AreUnderHash, IsStored, IsKeyOf, IsPlaceOf, IsWritten, index_archive, index_bytes, index_found, index_len, index_of, index_pos, index_strides, key_pos}
+use Rattle.rkyv_index.specs.Index.{ComparesKeysBy, AreUnderHash, IsStored, IsKeyOf, IsPlaceOf, IsWritten, index_archive, index_bytes, index_found, index_len, index_of, index_pos, index_strides, key_pos}
 use Rattle.rkyv_index.specs.Index.IndexFormat.{IndexWrittenAt}
 use Rattle.rkyv_index.specs.Index.IndexLayout.{places_of}
 use Rattle.rkyv_index.specs.declared.map.ArchivedIndexMap.{ArchivedIndexMap}
@@ -152,28 +152,28 @@ module _ {K V H W P N : Type 0} {ks : Specs K} {vs : Specs V} {ts : Specs P} {wt
 
   -- If the table compares each item by the key at its index, its lookup finds the same as one
   -- in the map that compares keys.
-  module _ (Post : View P → Bool → Type 0) (post : View K → Bool → Type 0) (asks : (h : View P) (r : Bool) → Post h r → (key : View K) × IsKeyOf m (number_at w (bytes_of h) h.pos) key × post key r)
-      (result : Option (View P)) (accept : ℕ → Bool) (answers : AnswersKeys (index_of m) post accept) (hash : ℕ) where
+  module _ (Post : View P → Bool → Type 0) (post : View K → Bool → Type 0) (post_at_key : (h : View P) (r : Bool) → Post h r → (key : View K) × IsKeyOf m (number_at w (bytes_of h) h.pos) key × post key r)
+      (result : Option (View P)) (accept : ℕ → Bool) (compares : ComparesKeysBy (index_of m) post accept) (hash : ℕ) where
     abbrev accept_at : ℕ → Bool
     accept_at q = accept (number_at w (index_bytes m) q)
 
-    items_answer : Answers Post t accept_at
-    items_answer h r item is =
-        let x = asks h r is in
-        answers (number_at w (bytes_of h) h.pos) x.0 r x.1 x.2 ∙ ap (λ (y : List ℕ). accept (number_at w y h.pos)) (read_there h item)
+    items_compare : ComparesBy Post t accept_at
+    items_compare h r item is =
+        let x = post_at_key h r is in
+        compares (number_at w (bytes_of h) h.pos) x.0 r x.1 x.2 ∙ ap (λ (y : List ℕ). accept (number_at w y h.pos)) (read_there h item)
 
     pub finds_place : FindsFound Post generic_kind t hash (pos_of_found result)
         → option_map (number_at w (index_bytes m)) (pos_of_found result) ≡ index_found w (index_bytes m) (index_pos m) hash accept
-    finds_place found = place_is result hash accept (found accept_at items_answer)
+    finds_place found = place_is result hash accept (found accept_at items_compare)
 
     -- it reads as many strides
-    pub counts_place : (asked before after : ℕ) → hash ≡ asked → CountsEnd Post generic_kind t hash before after
-        → after ≡ before + index_strides w (index_bytes m) (index_pos m) asked accept
-    counts_place asked before after under counts =
-        counts accept_at items_answer ∙ ap (λ n. before + n) (end_is hash accept_at ∙ ap (λ h. index_strides w (index_bytes m) (index_pos m) h accept) under)
+    pub counts_place : (query_hash before after : ℕ) → hash ≡ query_hash → CountsEnd Post generic_kind t hash before after
+        → after ≡ before + index_strides w (index_bytes m) (index_pos m) query_hash accept
+    counts_place query_hash before after under counts =
+        counts accept_at items_compare ∙ ap (λ n. before + n) (end_is hash accept_at ∙ ap (λ h. index_strides w (index_bytes m) (index_pos m) h accept) under)
 
     pub finds_first_place : (key_hash : List ℕ → ℕ → ℕ) → AreUnderHash (index_of m) hash key_hash accept → FindsFirst Post t hash (pos_of_found result)
         → (homes : List ℕ) → IsWritten (index_of m) key_hash homes → option_map (number_at w (index_bytes m)) (pos_of_found result) ≡ find accept (places_of (index_len m))
     finds_first_place key_hash under found homes written =
         first_is key_hash homes written result accept
-        (found (hashes key_hash homes written) homes accept_at (written_there key_hash homes written) items_answer (under_there key_hash homes written hash accept under))
+        (found (hashes key_hash homes written) homes accept_at (written_there key_hash homes written) items_compare (under_there key_hash homes written hash accept under))

@@ -29,8 +29,8 @@ pub finds_as : {P W : Type 0} {ts : Specs P} {wt : Words W} (A B : View P → Bo
 finds_as A B weaker t hash held got = record {
   walked = got.walked;
   accepted = IfSome_then held got.accepted (λ h a. weaker h true a);
-  answer = λ accept answers. got.answer accept (λ h r item a. answers h r item (weaker h r a));
-  first = λ hashes homes accept written answers under. got.first hashes homes accept written (λ h r item a. answers h r item (weaker h r a)) under;
+  answer = λ accept compares. got.answer accept (λ h r item a. compares h r item (weaker h r a));
+  first = λ hashes homes accept written compares under. got.first hashes homes accept written (λ h r item a. compares h r item (weaker h r a)) under;
 }
 
 -- it reads as many strides
@@ -38,7 +38,7 @@ pub counts_as : {P W : Type 0} {ts : Specs P} {wt : Words W} (A B : View P → B
     → CountsStrides A generic_kind t hash before after → CountsStrides B generic_kind t hash before after
 counts_as A B weaker t hash before after counts = record {
   bounded = counts.bounded;
-  counted = λ accept answers. counts.counted accept (λ h r item a. answers h r item (weaker h r a));
+  counted = λ accept compares. counts.counted accept (λ h r item a. compares h r item (weaker h r a));
 }
 
 module _ {K V H W P N : Type 0} {ks : Specs K} {vs : Specs V} {ts : Specs P} {wt : Words W} (m : ArchivedIndexMap K V H W ks vs wt) (e : Encoding N) (pk : IsScalar ts.spec e) (place : IsPlace wt.word e)
@@ -69,23 +69,23 @@ module _ {K V H W P N : Type 0} {ks : Specs K} {vs : Specs V} {ts : Specs P} {wt
       (subst (λ (x : List ℕ). ReadsWithin (len_at w x (table_pos t)) (probe_capacity (cap_at w x (table_pos t)) / 16) before after) (ap (λ (x : Bor (List ℕ)). x.now) at.0) counts)
 
   -- the comparison accepted the key at the index in a found item
-  pub place_accepted : (Post : View P → Bool → Type 0) (post' : View K → Bool → Type 0) (asks : (h : View P) (r : Bool) → Post h r → (key : View K) × IsKeyOf m (number_at w (bytes_of h) h.pos) key × post' key r)
+  pub place_accepted : (Post : View P → Bool → Type 0) (post' : View K → Bool → Type 0) (post_at_key : (h : View P) (r : Bool) → Post h r → (key : View K) × IsKeyOf m (number_at w (bytes_of h) h.pos) key × post' key r)
       (held : Option (View P)) → IfSome held (λ h. Post h true) → IfSome (option_map (place_at w) held) (IsAccepted m post')
-  place_accepted Post post' asks None told = told
-  place_accepted Post post' asks (Some h) told = asks h true told
+  place_accepted Post post' post_at_key None is_accepted = is_accepted
+  place_accepted Post post' post_at_key (Some h) is_accepted = post_at_key h true is_accepted
 
   -- the clauses of a lookup in the table are clauses on the index in its result
   module _ (key_hash : List ℕ → ℕ → ℕ) (Post : View P → Bool → Type 0) (post : View K → Bool → Type 0)
-      (asks : (h : View P) (r : Bool) → Post h r → (key : View K) × IsKeyOf m (number_at w (bytes_of h) h.pos) key × post key r) (hash asked : ℕ) (under : hash ≡ asked)
+      (post_at_key : (h : View P) (r : Bool) → Post h r → (key : View K) × IsKeyOf m (number_at w (bytes_of h) h.pos) key × post key r) (hash query_hash : ℕ) (under : hash ≡ query_hash)
       (held : Option (View P)) (got : FindsItem Post generic_kind t hash held) (result : Option ℕ) (read : result ≡ option_map (number_at w (index_bytes m)) (pos_of_found held)) where
     found_there : result ≡ option_map (place_at w) held
     found_there = read ∙ sym (place_found held got.walked)
 
-    pub gets_place : GetsBy place_part m asked key_hash post result
+    pub gets_place : GetsBy place_part m query_hash key_hash post result
     gets_place = record {
       walked = subst (λ r. IfSome r (IsStoredIndex m)) (sym found_there) (place_stored held got.walked);
-      accepted = (result, refl, subst (λ r. IfSome r (IsAccepted m post)) (sym found_there) (place_accepted Post post asks held got.accepted));
-      answer = λ accept answers. read ∙ finds_place m e pk place t at Post post asks held accept answers hash got.answer ∙ ap (λ n. index_found w (index_bytes m) (index_pos m) n accept) under;
-      first = λ accept answers alone homes written.
-          read ∙ finds_first_place m e pk place t at Post post asks held accept answers hash key_hash (λ i below accepted. alone i below accepted ∙ sym under) got.first homes written;
+      accepted = (result, refl, subst (λ r. IfSome r (IsAccepted m post)) (sym found_there) (place_accepted Post post post_at_key held got.accepted));
+      answer = λ accept compares. read ∙ finds_place m e pk place t at Post post post_at_key held accept compares hash got.answer ∙ ap (λ n. index_found w (index_bytes m) (index_pos m) n accept) under;
+      first = λ accept compares alone homes written.
+          read ∙ finds_first_place m e pk place t at Post post post_at_key held accept compares hash key_hash (λ i below accepted. alone i below accepted ∙ sym under) got.first homes written;
     }

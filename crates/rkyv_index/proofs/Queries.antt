@@ -11,7 +11,7 @@ use Rattle.rkyv_keys.specs.Keys.{IsQuery}
 use Rattle.rkyv_keys.specs.Lemmas.OfEntries.{valid_key}
 use Rattle.rkyv_base.specs.View.{bytes_of, pos_of}
 use Rattle.rkyv_base.specs.declared.view.View.{View}
-use Rattle.rkyv_index.specs.Index.{AnswersKeys, AreUnderHash, fits_at, hash_at, index_archive, index_bytes, index_of, index_pos, key_pos}
+use Rattle.rkyv_index.specs.Index.{ComparesKeysBy, AreUnderHash, fits_at, hash_at, index_archive, index_bytes, index_of, index_pos, key_pos}
 use Rattle.rkyv_index.specs.declared.map.ArchivedIndexMap.{ArchivedIndexMap}
 use Rattle.rkyv_index.proofs.Checking.{view_at}
 use Rattle.rkyv_index.proofs.ValidIndexMap.{entry_viewable}
@@ -29,6 +29,6 @@ module _ {K V H W : Type 0} {ks : Specs K} {vs : Specs V} {wt : Words W} (m : Ar
       ap (hash_of_calls hasher) (sym (query.same_calls q b p ready valid accepted))
 
   -- a comparison by a query depends only on the index of a key
-  pub answers_fits : (fits : List ℕ → ℕ → Bool) (post : View K → Bool → Type 0) → ((key : View K) (r : Bool) → post key r → r ≡ fits (bytes_of key) (pos_of key))
-      → AnswersKeys (index_of m) post (fits_at (index_of m) fits)
-  answers_fits fits post asks i key r is told = asks key r told ∙ view_at key (index_archive m) (key_pos m i) is.at fits
+  pub compares_fits : (fits : List ℕ → ℕ → Bool) (post : View K → Bool → Type 0) → ((key : View K) (r : Bool) → post key r → r ≡ fits (bytes_of key) (pos_of key))
+      → ComparesKeysBy (index_of m) post (fits_at (index_of m) fits)
+  compares_fits fits post returns_fits i key r is returned = returns_fits key r returned ∙ view_at key (index_archive m) (key_pos m i) is.at fits

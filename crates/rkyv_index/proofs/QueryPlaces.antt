@@ -5,7 +5,7 @@ use Rattle.std.proofs.Common.{◌≡◌, ℕ, ◌<◌, ◌^◌, Bool, List, Opti
 use Rattle.rkyv_scan.specs.Hash.{Hasher, HasherCall, hash_of_calls}
 use Rattle.rkyv_base.specs.View.{bytes_of, pos_of}
 use Rattle.rkyv_base.specs.declared.view.View.{View}
-use Rattle.rkyv_keys.specs.Asked.{asked}
+use Rattle.rkyv_keys.specs.KeyLookup.{query_of}
 use Rattle.rkyv_keys.specs.Equality.{Comparison}
 use Rattle.rkyv_keys.specs.Keys.{IsQuery}
 use Rattle.rkyv_index.specs.Index.Complete.{FindsTheOne}
@@ -14,21 +14,21 @@ use Rattle.rkyv_index.specs.Index.IndexFormat.{hash_of}
 use Rattle.rkyv_index.specs.Index.Lookups.{GetsBy, GetsKey, place_part}
 use Rattle.rkyv_index.specs.declared.map.ArchivedIndexMap.{ArchivedIndexMap}
 use Rattle.rkyv_index.proofs.Completeness.{finds_the_one}
-use Rattle.rkyv_index.proofs.Queries.{answers_fits, query_under_hash}
+use Rattle.rkyv_index.proofs.Queries.{compares_fits, query_under_hash}
 
 module _ {K V H W Q State : Type 0} {ks : Specs K} {vs : Specs V} {wt : Words W} (m : ArchivedIndexMap K V H W ks vs wt)
     (hasher : Hasher State) (same : Comparison) (key_calls : List ℕ → ℕ → List HasherCall) (can_read : Q → Type 0) (calls : Q → List HasherCall) (fits : Q → List ℕ → ℕ → Bool)
     (query : IsQuery ks.spec same key_calls can_read calls fits) (q : Q) (ready : can_read q) (small : hash_of_calls hasher (calls q) < 2 ^ 64)
-    (post : View K → Bool → Type 0) (tells : (key : View K) (r : Bool) → post key r → r ≡ fits q (bytes_of key) (pos_of key)) (result : Option ℕ) where
-  pub query_place : GetsBy place_part m (hash_of hasher calls q) (hash_at hasher key_calls) post result → GetsKey place_part m (asked hasher key_calls same (calls q) (fits q)) result
+    (post : View K → Bool → Type 0) (returns_fits : (key : View K) (r : Bool) → post key r → r ≡ fits q (bytes_of key) (pos_of key)) (result : Option ℕ) where
+  pub query_place : GetsBy place_part m (hash_of hasher calls q) (hash_at hasher key_calls) post result → GetsKey place_part m (query_of hasher key_calls same (calls q) (fits q)) result
   query_place got =
       let accept = fits_at (index_of m) (fits q) in
-      let answers = answers_fits m (fits q) post tells in
-      let found = got.answer accept answers in
+      let compares = compares_fits m (fits q) post returns_fits in
+      let found = got.answer accept compares in
       record {
         walked = got.walked;
         answer = found;
-        first = got.first accept answers (query_under_hash m hasher same key_calls can_read calls fits query q ready);
+        first = got.first accept compares (query_under_hash m hasher same key_calls can_read calls fits query q ready);
         complete = λ none. (
           result,
           subst (FindsTheOne (index_len m) accept) (sym found)

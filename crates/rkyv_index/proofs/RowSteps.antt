@@ -76,7 +76,7 @@ module _ {X R : Type 0} (f : Format X R) (limit : ℕ) (xs : List X) (rs : List 
   pub record Written (i : ℕ) (others : List R) (o1 : Output) : Type 0 where
     pub out : List ℕ
     pub appended : Appends o o1 out
-    pub shown : RowImages f (take i xs) (take i rs) (end_of o) out
+    pub images : RowImages f (take i xs) (take i rs) (end_of o) out
     pub left : others ≡ drop i rs
     pub within : end_of o1 ≤ limit
 
@@ -91,13 +91,13 @@ module _ {X R : Type 0} (f : Format X R) (limit : ℕ) (xs : List X) (rs : List 
     here = end-appends o o1 w.out w.appended
 
     before : Before f xs rs (end_of o) i x r w.out
-    before = record { value = value; resolver = next_resolver; shown = w.shown }
+    before = record { value = value; resolver = next_resolver; images = w.images }
 
     pub written_more : (one : List ℕ) (o2 : Output) → f.image x r (end_of o1) one → Appends o1 o2 one → end_of o2 ≤ limit → Written (i + 1) more o2
     written_more one o2 im a lim = record {
       out = w.out ++ one;
       appended = appends_after o o1 o2 w.out one w.appended a;
-      shown = rw (take_one xs i x value, take_one rs i r next_resolver) (images_more f (take i xs) (take i rs) (end_of o) w.out x r one w.shown (subst (λ n. f.image x r n one) here im));
+      images = rw (take_one xs i x value, take_one rs i r next_resolver) (images_more f (take i xs) (take i rs) (end_of o) w.out x r one w.images (subst (λ n. f.image x r n one) here im));
       left = tail_dropped rs i r more dropped;
       within = lim;
     }

@@ -9,7 +9,7 @@ use Rattle.rkyv_base.specs.View.{pos_of}
 use Rattle.rkyv_base.specs.declared.view.View.{View}
 use Rattle.rkyv_table.specs.Table.Header.{len_at}
 use Rattle.rkyv_table.proofs.Moved.{moved}
-use Rattle.rkyv_index.specs.Index.{AnswersKeys, AreUnderHash, FindsFirstKey, FindsFirstPlace, FindsKey, FindsPlace, IsKeyOf, index_bytes, index_of, index_pos}
+use Rattle.rkyv_index.specs.Index.{ComparesKeysBy, AreUnderHash, FindsFirstKey, FindsFirstPlace, FindsKey, FindsPlace, IsKeyOf, index_bytes, index_of, index_pos}
 use Rattle.rkyv_index.specs.Index.SealedIndex.{IsKeyAt, index_at}
 use Rattle.rkyv_index.specs.Index.ValueWrites.{pair_at}
 use Rattle.rkyv_index.specs.declared.map.ArchivedIndexMap.{ArchivedIndexMap}
@@ -37,8 +37,8 @@ module _ {K V H W : Type 0} {ks : Specs K} {vs : Specs V} {wt : Words W} (m : Ar
     viewable = is.viewable;
   }
 
-  pub answers_read : (post : View K → Bool → Type 0) (accept : ℕ → Bool) → AnswersKeys (index_at w k v b p) post accept → AnswersKeys (index_of m) post accept
-  answers_read post accept answers i key r is told = answers i key r (key_read i key is) told
+  pub compares_read : (post : View K → Bool → Type 0) (accept : ℕ → Bool) → ComparesKeysBy (index_at w k v b p) post accept → ComparesKeysBy (index_of m) post accept
+  compares_read post accept compares i key r is returned = compares i key r (key_read i key is) returned
 
   pub under_read : (hash : ℕ) (key_hash : List ℕ → ℕ → ℕ) (accept : ℕ → Bool) → AreUnderHash (index_at {K = K} w k v b p) hash key_hash accept → AreUnderHash (index_of m) hash key_hash accept
   under_read hash key_hash accept under = moved (λ c q. AreUnderHash (index_at {K = K} w k v c q) hash key_hash accept) b (index_bytes m) p (index_pos m) (sym bytes) (sym pos) under

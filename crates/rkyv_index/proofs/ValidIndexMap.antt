@@ -19,7 +19,7 @@ use Rattle.rkyv_table.proofs.ValidTable.{item_viewable}
 use Rattle.rkyv_table.proofs.Walks.{full_walked}
 use Rattle.rkyv_index.specs.Index.{pair_positions, row}
 use Rattle.rkyv_index.specs.Index.IndexLayout.{entries_pos, pair_pos}
-use Rattle.rkyv_index.specs.Index.IndexLayout.{IndexHolds, decode_entries, entry_at, index_spec, place_spec}
+use Rattle.rkyv_index.specs.Index.IndexLayout.{IsValidIndex, decode_entries, entry_at, index_spec, place_spec}
 use Rattle.rkyv_index.specs.Lemmas.IndexLaws.{All-unmap, each_holds, entry_inside, place_element}
 use Rattle.rkyv_index.specs.Lemmas.PlaceSpecs.{number_table_viewable}
 use Rattle.rkyv_index.proofs.Checking.{entry_aligned}
@@ -32,7 +32,7 @@ All-row P size q (suc n) h =
     All-cons P q (row size (q + size) n) first (All-row P size (q + size) n (λ i below. subst P (omega arith) (h (suc i) (omega arith))))
 
 module _ (w : Width) (kind : IsArchiveWord w) (s : ElementSpec) (law : IsElement s) (b : List ℕ) (p : ℕ) (v : Viewable (index_spec w s) b p) where
-  abbrev held : IndexHolds w s b p 0 p v.valid.0
+  abbrev held : IsValidIndex w s b p 0 p v.valid.0
   held = v.valid.1
 
   -- the table of the map is valid
@@ -66,7 +66,7 @@ module _ (w : Width) (kind : IsArchiveWord w) (s : ElementSpec) (law : IsElement
       subst (λ n. Viewable s b (entry_at s.size n i)) (sym begin_is) (record {
         inside = omega (arith, u.1);
         aligned = entry_aligned s law begin i held.entries.part.aligned;
-        valid = valid_at s law b (entry_at s.size begin i) r.lower begin r.rest r.below u.0 r.holds;
+        valid = valid_at s law b (entry_at s.size begin i) r.lower begin r.rest r.below u.0 r.is_valid;
       })
 
   pub entries_viewable : All (Viewable s b) (pair_positions w s.size b p)

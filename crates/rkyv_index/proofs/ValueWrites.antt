@@ -19,7 +19,7 @@ use Rattle.rkyv_base.specs.Lemmas.Pairs.{pair_local}
 use Rattle.rkyv_base.specs.Sealing.{Keeps, Outside, Sealed, value_pos}
 use Rattle.rkyv_base.specs.ElementSpec.{IsElement, ElementSpec, Viewable}
 use Rattle.rkyv_base.specs.Text.{IsArchiveWord}
-use Rattle.rkyv_base.proofs.Sealing.{entry_kept, holds_outside, same_outside, sealed_wider, viewable_kept}
+use Rattle.rkyv_base.proofs.Sealing.{entry_kept, valid_outside, same_outside, sealed_wider, viewable_kept}
 use Rattle.rkyv_keys.specs.QueryLaws.{RestsOnKeys}
 use Rattle.rkyv_table.specs.Table.Header.{cap_at, len_at}
 use Rattle.rkyv_table.specs.Controls.Finding.{found}
@@ -37,8 +37,8 @@ use Rattle.rkyv_table.proofs.Misplaced.{found_agree, found_walked}
 use Rattle.rkyv_table.proofs.Walks.{walked_full}
 use Rattle.rkyv_index.specs.Index.{fits_in, hash_at, index_found}
 use Rattle.rkyv_index.specs.Index.IndexFormat.{IndexRepresents, IndexWrittenAt}
-use Rattle.rkyv_index.specs.Index.IndexLayout.{EntriesIn, IndexHolds, entries_pos, decode_entries, entry_at, index_spec, pair_pos, place_spec, places_of}
-use Rattle.rkyv_index.specs.Lemmas.IndexLaws.{each_holds, entry_inside, head_same, index_again, place_element, place_same_at, places_below, told_same}
+use Rattle.rkyv_index.specs.Index.IndexLayout.{EntriesIn, IsValidIndex, entries_pos, decode_entries, entry_at, index_spec, pair_pos, place_spec, places_of}
+use Rattle.rkyv_index.specs.Lemmas.IndexLaws.{each_holds, entry_inside, head_same, index_again, place_element, place_same_at, places_below, decoded_same}
 use Rattle.rkyv_table.specs.Lemmas.SameControls.{same_controls}
 use Rattle.rkyv_scan.specs.Hash.{Hasher, HasherCall, hash_of_calls}
 use Rattle.rkyv_keys.specs.Equality.{Comparison}
@@ -50,7 +50,7 @@ use Rattle.rkyv_index.proofs.ValidIndexMap.{begin_is, entries_inside, entry_view
 
 -- the hash of a valid key depends only on the bytes of the key and its parts
 pub hash_local : {State : Type 0} (hasher : Hasher State) {k : ElementSpec} {same : Comparison} {calls : List ℕ → ℕ → List HasherCall} → IsKey k same calls → HashLocal k (hash_at hasher calls)
-hash_local hasher key b c q lo hi l o holds fixed part = ap (hash_of_calls hasher) (key.local b c q lo hi l o holds fixed part)
+hash_local hasher key b c q lo hi l o is_valid fixed part = ap (hash_of_calls hasher) (key.local b c q lo hi l o is_valid fixed part)
 
 -- a write at the position of the value of a pair writes the value of that pair
 pub value_written : (w : Width) (k v : ElementSpec) (b c : List ℕ) (at q : ℕ) → at ≡ value_pos k v q → Sealed b at v.size c → Keeps v b c at → WritesValue k v b c q
@@ -73,16 +73,16 @@ all_kept : (s : ElementSpec) → IsElement s → (at : ℕ → ℕ) (b c : List 
 all_kept s law at b c n hi i sealed keeps above apart [] lo l o below h = h
 all_kept s law at b c n hi i sealed keeps above apart (j ∷ is) lo l o below h =
     let k : (lo ≤ h.0) × (h.0 ≤ hi) = law.rest_in_range b (at j) lo hi h.0 o h.1 in
-    let here : s.holds c (at j) lo hi h.0 = elim (cases_eq j i) [
-      | inl e ↦ subst (λ z. s.holds c (at z) lo hi h.0) (sym e) (keeps lo hi h.0 o above (subst (λ z. s.holds b (at z) lo hi h.0) e h.1))
-      | inr ne ↦ holds_outside s law b c (at i) s.size sealed (at j) lo hi h.0 o (apart j below.0 ne) (inl (omega (arith, k.1, above))) h.1
+    let here : s.is_valid c (at j) lo hi h.0 = elim (cases_eq j i) [
+      | inl e ↦ subst (λ z. s.is_valid c (at z) lo hi h.0) (sym e) (keeps lo hi h.0 o above (subst (λ z. s.is_valid b (at z) lo hi h.0) e h.1))
+      | inr ne ↦ valid_outside s law b c (at i) s.size sealed (at j) lo hi h.0 o (apart j below.0 ne) (inl (omega (arith, k.1, above))) h.1
     ] in
     (h.0, here, all_kept s law at b c n hi i sealed keeps above apart is h.0 l k.1 below.1 h.2)
 
 -- a valid value whose parts are below `hi` leaves a lower end of at most `hi` in any range
-parts_below : (s : ElementSpec) → IsElement s → (b : List ℕ) (q lo hi rest l : ℕ) → lo ≤ hi → hi ≤ q → s.holds b q lo hi rest → s.holds b q 0 q l → l ≤ hi
+parts_below : (s : ElementSpec) → IsElement s → (b : List ℕ) (q lo hi rest l : ℕ) → lo ≤ hi → hi ≤ q → s.is_valid b q lo hi rest → s.is_valid b q 0 q l → l ≤ hi
 parts_below s law b q lo hi rest l o above held h =
-    let d : (l' : ℕ) × s.holds b q 0 hi l' × (l' ≤ rest) = law.lower_lo b q lo 0 hi rest (omega arith) o held in
+    let d : (l' : ℕ) × s.is_valid b q 0 hi l' × (l' ≤ rest) = law.lower_lo b q lo 0 hi rest (omega arith) o held in
     let k = law.rest_in_range b q lo hi rest o held in
     let same : l ≡ d.0 = law.rest_unique b q 0 q l d.0 h (law.widen_hi b q 0 hi q d.0 above d.1) in
     omega (arith, same, d.2, k.1)
@@ -102,7 +102,7 @@ module _ (w : Width) (kind : IsArchiveWord w) (k v : ElementSpec) (kl : IsElemen
   abbrev at : ℕ → ℕ
   at = pair_pos w S.size b p
 
-  abbrev held : IndexHolds w S b p 0 p view.valid.0
+  abbrev held : IsValidIndex w S b p 0 p view.valid.0
   held = view.valid.1
 
   begins : entries_pos w b p ≡ held.entries.begin
@@ -175,7 +175,7 @@ module _ (w : Width) (kind : IsArchiveWord w) (k v : ElementSpec) (kl : IsElemen
         let r = entry_parts j there in
         record {
           fixed = entry_same j ne;
-          parts = λ l h. front_same 0 l (omega arith) (parts_below S law b (at j) r.lower (entries_pos w b p) r.rest l r.below (omega arith) r.holds h);
+          parts = λ l h. front_same 0 l (omega arith) (parts_below S law b (at j) r.lower (entries_pos w b p) r.rest l r.below (omega arith) r.is_valid h);
         }
 
     key_fixed : (j : ℕ) → j < len_at w b p → AgreeOn b c (at j) (at j + k.size)
@@ -192,12 +192,12 @@ module _ (w : Width) (kind : IsArchiveWord w) (k v : ElementSpec) (kl : IsElemen
         let r = entry_parts j there in
         record {
           fixed = key_fixed j there;
-          parts = λ l h. front_same 0 l (omega arith) (parts_below k kl b (at j) r.lower (entries_pos w b p) r.holds.1 l r.below (omega arith) r.holds.2 h);
+          parts = λ l h. front_same 0 l (omega arith) (parts_below k kl b (at j) r.lower (entries_pos w b p) r.is_valid.1 l r.below (omega arith) r.is_valid.2 h);
         }
 
     pub entries_kept : KeepsEntries w k v b c p i
     entries_kept = record {
-      holds = index_holds;
+      is_valid = index_holds;
       header = header_same;
       front = front_same 0 (entries_pos w b p) (omega arith) (omega arith);
       keys = key_same;
@@ -207,7 +207,7 @@ module _ (w : Width) (kind : IsArchiveWord w) (k v : ElementSpec) (kl : IsElemen
     -- ---- the table of indices, and lookups
 
     positions_same : (j : ℕ) → pair_pos w S.size c p j ≡ at j
-    positions_same j = ap (λ z. entry_at S.size (unsigned_abs z) j) (sym (told_same w b c p header_same))
+    positions_same j = ap (λ z. entry_at S.size (unsigned_abs z) j) (sym (decoded_same w b c p header_same))
 
     table_below : held.middle ≤ entries_pos w b p
     table_below = let above = held.entries.part.above in omega (arith, above, begins)
@@ -222,36 +222,36 @@ module _ (w : Width) (kind : IsArchiveWord w) (k v : ElementSpec) (kl : IsElemen
     some_buckets = some_cap w (place_spec w) (place_element w kind) b p (table_there w kind S law b p view) (omega (arith, below))
 
     module _ (hash : ℕ) (small : hash < 2 ^ 64) (fits : List ℕ → ℕ → Bool) (rests : RestsOnKey k fits) where
-      abbrev tells : List ℕ → ℕ → Bool
-      tells d j = fits d (pair_pos w S.size d p (number_at w d (item_at w (byte_len w) d p j)))
+      abbrev fits_bucket : List ℕ → ℕ → Bool
+      fits_bucket d j = fits d (pair_pos w S.size d p (number_at w d (item_at w (byte_len w) d p j)))
 
       abbrev bucket : Option ℕ
-      bucket = found generic_kind (table_controls w b p) (cap_at w b p) (len_at w b p) hash (tells b)
+      bucket = found generic_kind (table_controls w b p) (cap_at w b p) (len_at w b p) hash (fits_bucket b)
 
-      tells_same : (j : ℕ) → IsWalked w b p j → tells c j ≡ tells b j
-      tells_same j there =
+      fits_same : (j : ℕ) → IsWalked w b p j → fits_bucket c j ≡ fits_bucket b j
+      fits_same j there =
           let n = number_at w b (item_at w (byte_len w) b p j) in
           let inside = place_below w kind S law b p view j there in
           let key = viewable_key k v kl vl b (at n) (entry_there n inside) in
           ap (λ m. fits c (pair_pos w S.size c p m)) (sym (read_same j there)) ∙ ap (fits c) (positions_same n)
           ∙ rests b c (at n) key.valid (key_same n inside)
 
-      bucket_same : found generic_kind (table_controls w c p) (cap_at w c p) (len_at w c p) hash (tells c) ≡ bucket
+      bucket_same : found generic_kind (table_controls w c p) (cap_at w c p) (len_at w c p) hash (fits_bucket c) ≡ bucket
       bucket_same =
           let f = found generic_kind in
-          ap (λ (x : List ℕ). f x (cap_at w c p) (len_at w c p) hash (tells c)) (sym (controls_same some_buckets))
-          ∙ ap (λ n. f (table_controls w b p) n (len_at w c p) hash (tells c)) (sym (cap_same w b c p head))
-          ∙ ap (λ n. f (table_controls w b p) (cap_at w b p) n hash (tells c)) (sym (len_same w b c p head))
+          ap (λ (x : List ℕ). f x (cap_at w c p) (len_at w c p) hash (fits_bucket c)) (sym (controls_same some_buckets))
+          ∙ ap (λ n. f (table_controls w b p) n (len_at w c p) hash (fits_bucket c)) (sym (cap_same w b c p head))
+          ∙ ap (λ n. f (table_controls w b p) (cap_at w b p) n hash (fits_bucket c)) (sym (len_same w b c p head))
           ∙ found_agree generic_kind (cap_at w b p) (len_at w b p) hash (table_controls w b p) word_lawful
-          (controls_accepted w (place_spec w) (place_element w kind) b p (table_there w kind S law b p view) some_buckets) small (tells c) (tells b)
-          (λ j there. tells_same j (walked_full (cap_at w b p) (table_controls w b p) j there))
+          (controls_accepted w (place_spec w) (place_element w kind) b p (table_there w kind S law b p view) some_buckets) small (fits_bucket c) (fits_bucket b)
+          (λ j there. fits_same j (walked_full (cap_at w b p) (table_controls w b p) j there))
 
       lookup_same : index_found w c p hash (fits_in w k v c p fits) ≡ index_found w b p hash (fits_in w k v b p fits)
       lookup_same =
           let of : List ℕ → Option ℕ → Option ℕ = λ d o. option_map (number_at w d) (option_map (item_at w (byte_len w) d p) o) in
           ap (of c) bucket_same ∙ read_alike (number_at w c) (item_at w (byte_len w) c p) (number_at w b) (item_at w (byte_len w) b p) bucket (λ j is.
           let walked = found_walked generic_kind (cap_at w b p) (len_at w b p) hash (table_controls w b p) word_lawful
-          (controls_accepted w (place_spec w) (place_element w kind) b p (table_there w kind S law b p view) some_buckets) small (tells b) j is in
+          (controls_accepted w (place_spec w) (place_element w kind) b p (table_there w kind S law b p view) some_buckets) small (fits_bucket b) j is in
           sym (read_same j (walked_full (cap_at w b p) (table_controls w b p) j walked.1)))
 
     -- ---- written index maps, and index maps that represent a list

@@ -160,24 +160,25 @@ abbrev pub place_at : {P : Type 0} → Width → View P → ℕ
 place_at w item = number_at w (bytes_of item) (pos_of item)
 
 -- `item` is inside its archive, and the condition `pre` is met for the index there
-abbrev pub MayAskPlace : {P : Type 0} → Width → (ℕ → Type 0) → View P → Type 0
-MayAskPlace w pre item = (pos_of item + byte_len w ≤ length (bytes_of item))
+abbrev pub CanComparePlace : {P : Type 0} → Width → (ℕ → Type 0) → View P → Type 0
+CanComparePlace w pre item = (pos_of item + byte_len w ≤ length (bytes_of item))
     × ((i : ℕ) → i ≡ place_at w item → pre i)
 
 -- the condition `pre` is met for the index at each item of a table of indices
-abbrev pub MayAskPlaces : {P W : Type 0} {ts : Specs P} {wt : Words W} → (ℕ → Type 0)
+abbrev pub CanComparePlaces : {P W : Type 0} {ts : Specs P} {wt : Words W} → (ℕ → Type 0)
     → ArchivedHashTable P W ts wt → Type 0
-MayAskPlaces {P} {wt = wt} pre t = (item : View P) → IsItem t item → MayAskPlace wt.word pre item
+CanComparePlaces {P} {wt = wt} pre t = (item : View P) → IsItem t item
+    → CanComparePlace wt.word pre item
 
 -- `post` is true of the index at `item` and of `r`
-abbrev pub AnswersPlace : {P : Type 0} → Width → (ℕ → Bool → Type 0) → View P → Bool → Type 0
-AnswersPlace w post item r = (i : ℕ) × (i ≡ place_at w item) × post i r
+abbrev pub ComparesPlaceBy : {P : Type 0} → Width → (ℕ → Bool → Type 0) → View P → Bool → Type 0
+ComparesPlaceBy w post item r = (i : ℕ) × (i ≡ place_at w item) × post i r
 
 -- `result`: the index at the item that a lookup by `post` finds in a table of indices
 pub record FindsIndexIn {P W : Type 0} {ts : Specs P} {wt : Words W} (post : ℕ → Bool → Type 0)
     (t : ArchivedHashTable P W ts wt) (hash : ℕ) (result : Option ℕ) : Type 0 where
   pub item : Option (View P)
-  pub found : FindsItem (AnswersPlace wt.word post) generic_kind t hash item
+  pub found : FindsItem (ComparesPlaceBy wt.word post) generic_kind t hash item
   pub is : result ≡ option_map (place_at wt.word) item
 
 -- `key`: view of the key at index `i` of the map at `m`
@@ -189,10 +190,10 @@ pub record IsKeyIn {M K : Type 0} (w : Width) (k v : ElementSpec) (m : View M) (
   pub viewable : IsValidView k key
 
 -- the condition `pre` is met for each key of the map at `m`
-abbrev pub MayAskKeysIn : {M K : Type 0} → Width → ElementSpec → ElementSpec → View M → (View K
+abbrev pub CanCompareKeysIn : {M K : Type 0} → Width → ElementSpec → ElementSpec → View M → (View K
     → Type 0)
     → Type 0
-MayAskKeysIn {M} {K} w k v m pre = (i : ℕ) (key : View K) → IsKeyIn w k v m i key → pre key
+CanCompareKeysIn {M} {K} w k v m pre = (i : ℕ) (key : View K) → IsKeyIn w k v m i key → pre key
 
 -- `result` is at the index `place`, or both are `None`
 abbrev pub MatchesAt : {X : Type 0} → (ℕ → X → Type 0) → Option X → Option ℕ → Type 0
@@ -246,12 +247,12 @@ module _ {K : Type 0} (m : Index K) where
       IndexWrittenAt m.word (entry_spec m.key m.value).size key_hash m.bytes m.pos homes
 
   -- the condition `pre` is met for each key of the map
-  abbrev pub MayAskKeysOf : (View K → Type 0) → Type 0
-  MayAskKeysOf pre = (i : ℕ) (key : View K) → m.is_key i key → pre key
+  abbrev pub CanCompareKeysOf : (View K → Type 0) → Type 0
+  CanCompareKeysOf pre = (i : ℕ) (key : View K) → m.is_key i key → pre key
 
   -- a comparison with `post` returns `accept i` for each key at index `i`
-  abbrev pub AnswersKeys : (View K → Bool → Type 0) → (ℕ → Bool) → Type 0
-  AnswersKeys post accept = (i : ℕ) (key : View K) (r : Bool) → m.is_key i key → post key r
+  abbrev pub ComparesKeysBy : (View K → Bool → Type 0) → (ℕ → Bool) → Type 0
+  ComparesKeysBy post accept = (i : ℕ) (key : View K) (r : Bool) → m.is_key i key → post key r
       → r ≡ accept i
 
   -- each accepted key is under the hash
@@ -271,7 +272,7 @@ module _ {K : Type 0} (m : Index K) where
   -- a lookup by a comparison reads these strides, under a hash. `before`, `after`: counts
   -- of strides
   abbrev pub CountsBy : (View K → Bool → Type 0) → ℕ → ℕ → ℕ → Type 0
-  CountsBy post hash before after = (accept : ℕ → Bool) → AnswersKeys post accept
+  CountsBy post hash before after = (accept : ℕ → Bool) → ComparesKeysBy post accept
       → after ≡ before + index_strides m.word m.bytes m.pos hash accept
 
   -- a lookup of a query reads these strides, under a hash. `fits`: test of the keys
@@ -282,14 +283,14 @@ module _ {K : Type 0} (m : Index K) where
   -- `Fact` is a property of the index that a lookup by a comparison finds, under a hash.
   -- `accept i`: result of the comparison for the key at index `i`
   abbrev pub FindsBy : (View K → Bool → Type 0) → ℕ → (Option ℕ → Type 0) → Type 0
-  FindsBy post hash Fact = (accept : ℕ → Bool) → AnswersKeys post accept
+  FindsBy post hash Fact = (accept : ℕ → Bool) → ComparesKeysBy post accept
       → FindsPlace hash accept Fact
 
   -- `Fact` is a property of the first accepted index, in a written map whose accepted keys are
   -- under the hash. `key_hash b q`: hash of the key at `q`
   abbrev pub FindsFirstBy : (View K → Bool → Type 0) → ℕ → (List ℕ → ℕ → ℕ) → (Option ℕ → Type 0)
       → Type 0
-  FindsFirstBy post hash key_hash Fact = (accept : ℕ → Bool) → AnswersKeys post accept
+  FindsFirstBy post hash key_hash Fact = (accept : ℕ → Bool) → ComparesKeysBy post accept
       → AreUnderHash hash key_hash accept → FindsFirstPlace key_hash accept Fact
 
   -- `Fact` is a property of the index that a lookup of a query finds, under a hash.
@@ -304,8 +305,8 @@ module _ {K : Type 0} (m : Index K) where
 module _ {K V H W : Type 0} {ks : Specs K} {vs : Specs V} {wt : Words W}
     (m : ArchivedIndexMap K V H W ks vs wt) where
   -- the condition `pre` is met for each key of the map
-  abbrev pub MayAskKeys : (View K → Type 0) → Type 0
-  MayAskKeys pre = MayAskKeysOf (index_of m) pre
+  abbrev pub CanCompareKeys : (View K → Type 0) → Type 0
+  CanCompareKeys pre = CanCompareKeysOf (index_of m) pre
 
   -- the comparison with `post` accepts the key at index `i`
   abbrev pub IsAccepted : (View K → Bool → Type 0) → ℕ → Type 0

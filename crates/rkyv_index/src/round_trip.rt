@@ -30,7 +30,7 @@ use std::alloc::Global;
 ///
 /// - `RoundTripError::Write`: the error of `to_bytes_in`.
 /// - `RoundTripError::Read`: the error of `deserialize_pairs`.
-pub fn pairs_come_back<
+pub fn pairs_round_trip<
     W: PlaceWidth,
     A: Serialize<VecWriter, W> + Drop,
     B: Serialize<VecWriter, W> + PartialEq + Drop,
@@ -69,7 +69,7 @@ where
 ///
 /// - `RoundTripError::Write`: the error of `to_bytes_in`.
 /// - `RoundTripError::Read`: the error of `deserialize_items`.
-pub fn items_come_back<W: PlaceWidth, A: Serialize<VecWriter, W> + Drop>(
+pub fn items_round_trip<W: PlaceWidth, A: Serialize<VecWriter, W> + Drop>(
     alloc: Global,
     items: &OrderedItems<A>,
 ) -> Result<bool, RoundTripError>

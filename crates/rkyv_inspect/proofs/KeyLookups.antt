@@ -7,14 +7,14 @@ use Rattle.rkyv_base.specs.declared.element.HasSpec.{Ghosts as Specs}
 use Rattle.rkyv_base.specs.declared.view.View.{View}
 use Rattle.rkyv_base.specs.declared.width.Word.{Ghosts as Words}
 use Rattle.rkyv_keys.specs.Equality.{Comparison}
-use Rattle.rkyv_table.specs.Table.Reading.{Answers, table_bytes}
+use Rattle.rkyv_table.specs.Table.Reading.{ComparesBy, table_bytes}
 use Rattle.rkyv_table.specs.declared.table.ArchivedHashTable.{ArchivedHashTable}
 use Rattle.rkyv_inspect.specs.Summaries.{some_controls}
 
 -- a comparison with the key at `q` depends only on the position of an item
-pub own_answers : {T W : Type 0} {ts : Specs T} {wt : Words W} (t : ArchivedHashTable T W ts wt) (same : Comparison) (q : ℕ) (post : View T → Bool → Type 0)
-    → ((v : View T) (r : Bool) → post v r → r ≡ same (table_bytes t) q (bytes_of v) (pos_of v)) → Answers post t (same (table_bytes t) q (table_bytes t))
-own_answers t same q post asks v r item told = asks v r told ∙ ap (λ (a : Bor (List ℕ)). same (table_bytes t) q a.now (pos_of v)) item.1.archive
+pub compares_by_position : {T W : Type 0} {ts : Specs T} {wt : Words W} (t : ArchivedHashTable T W ts wt) (same : Comparison) (q : ℕ) (post : View T → Bool → Type 0)
+    → ((v : View T) (r : Bool) → post v r → r ≡ same (table_bytes t) q (bytes_of v) (pos_of v)) → ComparesBy post t (same (table_bytes t) q (table_bytes t))
+compares_by_position t same q post compares v r item returned = compares v r returned ∙ ap (λ (a : Bor (List ℕ)). same (table_bytes t) q a.now (pos_of v)) item.1.archive
 
 -- a function of the bytes and the position of a view is that of the archive and the position
 pub read_at : {X T : Type 0} (f : List ℕ → ℕ → X) (v : View T) (archive : Bor (List ℕ)) (p : ℕ) → IsAt v archive p → f (bytes_of v) (pos_of v) ≡ f archive.now p

@@ -2,7 +2,7 @@
 use Rattle.std.specs.Prelude.{◌≡◌, ℕ, ◌-◌, ◌⊎◌, ⊤, Err, List, MatchResult, Result, false, length}
 use Rattle.std.specs.Prelude.{true}
 use Rattle.std.specs.Int.{Width}
-use Rattle.rkyv_base.specs.Access.{Accepted, AccessFails}
+use Rattle.rkyv_base.specs.Access.{IsValidArchive, AccessFails}
 use Rattle.rkyv_base.specs.ElementSpec.{ElementSpec}
 use Rattle.rkyv_container.specs.declared.contents.Contents.{Contents}
 use Rattle.rkyv_container.specs.declared.contents.Kind.{Kind}
@@ -64,7 +64,7 @@ module _ (t : Target) where
   -- the summary of the root at `p`
   pub record IsInspection (root : ElementSpec) (P : ℕ → Summary → Type 0) (inspection : Inspection)
       : Type 0 where
-    pub accepted : Accepted t.most root t.bytes
+    pub accepted : IsValidArchive t.most root t.bytes
     pub contents_are : inspection.contents ≡ t.contents
     pub summary_is : P (length t.bytes - root.size) inspection.summary
     pub regions_cover : Covers 0 inspection.regions.items (length t.bytes)

@@ -8,7 +8,7 @@ use Rattle.rkyv_base.specs.Entry.{entry_spec}
 use Rattle.rkyv_base.specs.ElementSpec.{ElementSpec}
 use Rattle.rkyv_keys.specs.Equality.{Comparison}
 use Rattle.rkyv_table.specs.Table.Header.{cap_at, controls_pos, len_at}
-use Rattle.rkyv_table.specs.Table.Misplaced.{is_answer}
+use Rattle.rkyv_table.specs.Table.Misplaced.{is_found_at}
 use Rattle.rkyv_table.specs.Table.Positions.{item_positions, lookup_end}
 use Rattle.rkyv_collections.specs.Map.Misplaced.{map_misplaced, map_strides}
 use Rattle.rkyv_index.specs.Index.{index_found, index_strides}
@@ -76,19 +76,19 @@ module _ (m : KeyedMap) where
       (m.key.hash m.bytes q) (m.key.same m.bytes q m.bytes)
 
   -- the positions of its keys, in bucket order
-  abbrev pub key_places : List ℕ
-  key_places = item_positions m.word (entry_spec m.key.spec m.value).size m.bytes m.pos
+  abbrev pub key_positions : List ℕ
+  key_positions = item_positions m.word (entry_spec m.key.spec m.value).size m.bytes m.pos
 
   -- `counts`: histogram of the strides that lookups of its keys read
   abbrev pub CountsKeyStrides : List ℕ → Type 0
-  CountsKeyStrides counts = IsHistogram key_strides key_places counts
+  CountsKeyStrides counts = IsHistogram key_strides key_positions counts
 
   -- `result`: lookups of its keys, up to `limit` strides
   abbrev pub LooksUpKeys : ℕ → Option Lookups → Type 0
   LooksUpKeys limit =
       UpTo limit (map_strides m.word m.key.spec m.value m.key.hash m.key.same m.bytes m.pos)
       (AreLookups (map_misplaced m.word m.key.spec m.value m.key.hash m.key.same m.bytes m.pos)
-      key_strides key_places)
+      key_strides key_positions)
 
   -- `summary`: numbers of the hash map `m`, with lookups that read up to `limit` strides
   abbrev pub IsMapSummary : ℕ → Summary → Type 0
@@ -113,7 +113,7 @@ module _ (m : KeyedMap) where
   -- a lookup of its key at index `i` finds another index, or none
   abbrev pub is_misplaced_at : ℕ → Bool
   is_misplaced_at i =
-      not (is_answer i (index_found m.word m.bytes m.pos (index_hash i) (same_at i)))
+      not (is_found_at i (index_found m.word m.bytes m.pos (index_hash i) (same_at i)))
 
   -- the indices of its keys, in order
   abbrev pub key_indices : List ℕ

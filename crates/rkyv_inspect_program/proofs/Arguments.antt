@@ -101,7 +101,7 @@ not_empty (w ∷ p) x a h e = nil_cons (sym e)
 -- `all` begins with `front`, and `words` make up the other arguments
 pub record Continues (front all : List Argument) (words : List (List ℕ)) : Type 0 where
   pub more : List Argument
-  pub made : MakeUp words more
+  pub makes_up : MakeUp words more
   pub whole : all ≡ front ++ more
 
 continues : (ps qs : List (List (List ℕ))) (front all : List Argument) (x : List (List ℕ))
@@ -109,7 +109,7 @@ continues : (ps qs : List (List (List ℕ))) (front all : List Argument) (x : Li
     → joined_words ps ++ x ≡ joined_words qs → Continues front all x
 continues [] qs [] all x h k e = record {
   more = all;
-  made = record { pieces = qs; joined = e; each = k };
+  makes_up = record { pieces = qs; joined = e; each = k };
   whole = refl;
 }
 continues [] qs (a ∷ front) all x h k e = absurd (nil_cons h)
@@ -126,7 +126,7 @@ continues (p ∷ ps) (q ∷ qs) (a ∷ front) (b ∷ all) x h k e =
     let same : Some a ≡ Some b = sym (head_equal h) ∙ ap argument_of cut.0 ∙ head_equal k in
     record {
       more = rest.more;
-      made = rest.made;
+      makes_up = rest.makes_up;
       whole = cons_equal (sym (same_Some _ _ same)) rest.whole;
     }
 

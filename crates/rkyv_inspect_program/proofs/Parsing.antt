@@ -14,7 +14,7 @@ use Rattle.rkyv_inspect_program.specs.Options.{name_of}
 use Rattle.rkyv_inspect_program.specs.CommandLines.{
   Argument,
   EndsWithName,
-  Give,
+  SetOptions,
   IsAfter,
   MakeUp,
   NamesAwaiting,
@@ -66,9 +66,9 @@ any_more p (x ∷ xs) a =
     ap (λ b. p x || b) (any_more p xs a) ∙ swapped (p x) (p a) (list_any p xs)
 
 -- one more argument gives the options with it
-gives_more : (arguments : List Argument) (options next : Options) (a : Argument)
-    → Give arguments options → Adds options a next → Give (arguments ++ a ∷ []) next
-gives_more xs options next a g s = record {
+sets_more : (arguments : List Argument) (options next : Options) (a : Argument)
+    → SetOptions arguments options → Adds options a next → SetOptions (arguments ++ a ∷ []) next
+sets_more xs options next a g s = record {
   file =
       filter_map-append file_in xs (a ∷ [])
       ∙ ap (λ l. l ++ cons_option (file_in a) []) g.file ∙ s.file;
@@ -105,8 +105,8 @@ pub one_more : (front piece : List (List ℕ)) (options next : Options) (a : Arg
     → NamesOptions (front ++ piece) next
 one_more front piece options next a h s n = record {
   arguments = n.arguments ++ a ∷ [];
-  made = makes_more front piece n.arguments a n.made h;
-  given = gives_more n.arguments options next a n.given s;
+  makes_up = makes_more front piece n.arguments a n.makes_up h;
+  sets_options = sets_more n.arguments options next a n.sets_options s;
 }
 
 -- a flag is next
@@ -135,11 +135,11 @@ pub value_more : (option : Name) (word : List ℕ) (options : Options) {next : O
     → (front : List (List ℕ)) → EndsWithName front options option
     → NamesOptions (front ++ word ∷ []) next
 value_more option word options {next} {a} h s front e =
-    let made : argument_of (e.last ∷ word ∷ []) ≡ Some a =
+    let makes_up : argument_of (e.last ∷ word ∷ []) ≡ Some a =
     ap (λ n. pair_argument n word) e.name ∙ h in
     subst (λ w. NamesOptions w next)
     (sym (append_assoc e.front (e.last ∷ []) (word ∷ [])) ∙ ap (λ w. w ++ word ∷ []) (sym e.words))
-    (one_more e.front (e.last ∷ word ∷ []) options next a made s e.named)
+    (one_more e.front (e.last ∷ word ∷ []) options next a makes_up s e.named)
 
 -- no argument begins with a name whose value is missing or is no value of the option
 name_fails : (option : Name) (w : List ℕ) (y : List (List ℕ)) (a : Argument)
@@ -158,8 +158,8 @@ name_alone : (option : Name) (w : List ℕ) (y front : List (List ℕ)) (options
     → ((v : List ℕ) (z : List (List ℕ)) → y ≡ v ∷ z → option_argument option v ≡ None)
     → NamesOptions front options → NamesNoOptions (front ++ w ∷ y)
 name_alone option w y front options h t none n other m =
-    let rest = continues_from front (w ∷ y) n.arguments m.arguments n.made m.made in
-    let first = first_argument w y rest.more rest.made in
+    let rest = continues_from front (w ∷ y) n.arguments m.arguments n.makes_up m.makes_up in
+    let first = first_argument w y rest.more rest.makes_up in
     name_fails option w y first.0 h t none first.3
 
 -- no value of the awaited option is next
@@ -172,7 +172,7 @@ value_fails option word options h front e rest =
     (sym (append_assoc e.front (e.last ∷ []) (word ∷ rest))
     ∙ ap (λ w. w ++ word ∷ rest) (sym e.words)
     ∙ sym (append_assoc front (word ∷ []) rest))
-    (name_alone option e.last (word ∷ rest) e.front options e.name e.takes
+    (name_alone option e.last (word ∷ rest) e.front options e.name e.has_value
     (λ v z k. ap (option_argument option) (sym (head_equal k)) ∙ h) e.named)
 
 -- the same, of what follows the words
@@ -188,7 +188,7 @@ value_missing : (option : Name) (options : Options) (words : List (List ℕ))
     → EndsWithName words options option → NamesNoOptions words
 value_missing option options words e =
     subst NamesNoOptions (sym e.words)
-    (name_alone option e.last [] e.front options e.name e.takes
+    (name_alone option e.last [] e.front options e.name e.has_value
     (λ v z k. absurd (nil_cons k)) e.named)
 
 -- a value is awaited at the end
@@ -221,10 +221,10 @@ two_in_one f w more (Some g) h = nil_cons (sym (tail_equal h))
 pub hyphen_fails : (word : List ℕ) (options : Options) → name_of word ≡ None → starts_with_minus word ≡ true
     → (front : List (List ℕ)) → NamesOptions front options → NamesNone (front ++ word ∷ [])
 hyphen_fails word options h hyphen front n rest other m =
-    let made : MakeUp (front ++ word ∷ rest) m.arguments =
-    subst (λ w. MakeUp w m.arguments) (append_assoc front (word ∷ []) rest) m.made in
-    let more = continues_from front (word ∷ rest) n.arguments m.arguments n.made made in
-    let first = first_argument word rest more.more more.made in
+    let makes_up : MakeUp (front ++ word ∷ rest) m.arguments =
+    subst (λ w. MakeUp w m.arguments) (append_assoc front (word ∷ []) rest) m.makes_up in
+    let more = continues_from front (word ∷ rest) n.arguments m.arguments n.makes_up makes_up in
+    let first = first_argument word rest more.more more.makes_up in
     let none : word_argument None word ≡ None = rw hyphen refl in
     ⊎_elim
     (λ k. none-some _ (sym none ∙ ap (λ n. word_argument n word) (sym h) ∙ k))
@@ -236,10 +236,10 @@ pub file_fails : (word : List ℕ) (options : Options) (file : Bor (List ℕ))
     → name_of word ≡ None → starts_with_minus word ≡ false → options.file ≡ Some file
     → (front : List (List ℕ)) → NamesOptions front options → NamesNone (front ++ word ∷ [])
 file_fails word options file h plain is front n rest other m =
-    let made : MakeUp (front ++ word ∷ rest) m.arguments =
-    subst (λ w. MakeUp w m.arguments) (append_assoc front (word ∷ []) rest) m.made in
-    let more = continues_from front (word ∷ rest) n.arguments m.arguments n.made made in
-    let first = first_argument word rest more.more more.made in
+    let makes_up : MakeUp (front ++ word ∷ rest) m.arguments =
+    subst (λ w. MakeUp w m.arguments) (append_assoc front (word ∷ []) rest) m.makes_up in
+    let more = continues_from front (word ∷ rest) n.arguments m.arguments n.makes_up makes_up in
+    let first = first_argument word rest more.more more.makes_up in
     ⊎_elim
     (λ k.
     let is_file : word_argument None word ≡ Some (of_file word) = rw plain refl in
@@ -249,8 +249,8 @@ file_fails word options file h plain is front n rest other m =
     let one : files_of options ≡ file.now ∷ [] =
     ap (λ f. option_to_list (option_map (λ g. g.now) f)) is in
     two_in_one file.now word (filter_map file_in first.1) (option_map (λ f. f.now) other.file)
-    (ap (λ l. l ++ word ∷ filter_map file_in first.1) (sym (n.given.file ∙ one))
+    (ap (λ l. l ++ word ∷ filter_map file_in first.1) (sym (n.sets_options.file ∙ one))
     ∙ sym (filter_map-append file_in n.arguments (of_file word ∷ first.1))
-    ∙ ap (filter_map file_in) (sym all) ∙ m.given.file))
+    ∙ ap (filter_map file_in) (sym all) ∙ m.sets_options.file))
     (λ k. none-some _ (ap (λ n. pair_argument n k.0) (sym h) ∙ k.3))
     first.3

@@ -7,7 +7,7 @@ use Rattle.rkyv_inspect_program.specs.declared.options.Options.{Options}
 use Rattle.rkyv_inspect_program.specs.Options.{IsBare, IsIncomplete, NamesNoContents, value_of}
 use Rattle.rkyv_inspect_program.specs.CommandLines.{
   Argument,
-  Give,
+  SetOptions,
   MakeUp,
   NamesOptions,
   argument_of,
@@ -21,12 +21,12 @@ use Rattle.rkyv_inspect_program.proofs.Arguments.{
   not_empty,
 }
 
-none_made : (pieces : List (List (List ℕ))) (arguments : List Argument)
+no_arguments : (pieces : List (List (List ℕ))) (arguments : List Argument)
     → [] ≡ joined_words pieces → map argument_of pieces ≡ map Some arguments → arguments ≡ []
-none_made [] [] e h = refl
-none_made [] (a ∷ rest) e h = absurd (nil_cons h)
-none_made (p ∷ pieces) [] e h = refl
-none_made (p ∷ pieces) (a ∷ rest) e h =
+no_arguments [] [] e h = refl
+no_arguments [] (a ∷ rest) e h = absurd (nil_cons h)
+no_arguments (p ∷ pieces) [] e h = refl
+no_arguments (p ∷ pieces) (a ∷ rest) e h =
     absurd (not_empty p (joined_words pieces) a (head_equal h) (sym e))
 
 -- words make up one list of arguments
@@ -34,7 +34,7 @@ same_arguments : (words : List (List ℕ)) (xs ys : List Argument)
     → MakeUp words xs → MakeUp words ys → ys ≡ xs
 same_arguments words xs ys m n =
     let k = continues_from words [] xs ys m (subst (λ w. MakeUp w ys) (sym (append-nil words)) n) in
-    k.whole ∙ ap (λ l. xs ++ l) (none_made k.made.pieces k.more k.made.joined k.made.each)
+    k.whole ∙ ap (λ l. xs ++ l) (no_arguments k.makes_up.pieces k.more k.makes_up.joined k.makes_up.each)
     ∙ append-nil xs
 
 -- the options have equal fields but for the place of the file
@@ -46,8 +46,8 @@ record Agree (o q : Options) : Type 0 where
   width : o.width ≡ q.width
   help : o.help ≡ q.help
 
-agree_given : (xs : List Argument) (o q : Options) → Give xs o → Give xs q → Agree o q
-agree_given xs o q g h = record {
+agree_of_arguments : (xs : List Argument) (o q : Options) → SetOptions xs o → SetOptions xs q → Agree o q
+agree_of_arguments xs o q g h = record {
   file = sym g.file ∙ h.file;
   kind = g.kind ∙ sym h.kind;
   key = g.key ∙ sym h.key;
@@ -59,8 +59,8 @@ agree_given xs o q g h = record {
 agree : (words : List (List ℕ)) (o q : Options)
     → NamesOptions words o → NamesOptions words q → Agree o q
 agree words o q n m =
-    agree_given n.arguments o q n.given
-    (subst (λ l. Give l q) (same_arguments words n.arguments m.arguments n.made m.made) m.given)
+    agree_of_arguments n.arguments o q n.sets_options
+    (subst (λ l. SetOptions l q) (same_arguments words n.arguments m.arguments n.makes_up m.makes_up) m.sets_options)
 
 no_file : (f g : Option (Bor (List ℕ)))
     → option_to_list (option_map (λ x. x.now) f) ≡ option_to_list (option_map (λ x. x.now) g)

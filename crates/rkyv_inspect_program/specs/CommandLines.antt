@@ -133,7 +133,7 @@ is_help with_help = true
 is_help _ = false
 
 -- the arguments give the options: at most one file, the last value of each option, and the flags
-pub record Give (arguments : List Argument) (options : Options) : Type 0 where
+pub record SetOptions (arguments : List Argument) (options : Options) : Type 0 where
   pub file :
       filter_map file_in arguments ≡ option_to_list (option_map (λ file. file.now) options.file)
   pub kind : options.kind ≡ last_or None (filter_map kind_in arguments)
@@ -153,8 +153,8 @@ pub record MakeUp (words : List (List ℕ)) (arguments : List Argument) : Type 0
 -- the words name the options: they make up arguments that give them
 pub record NamesOptions (words : List (List ℕ)) (options : Options) : Type 0 where
   pub arguments : List Argument
-  pub made : MakeUp words arguments
-  pub given : Give arguments options
+  pub makes_up : MakeUp words arguments
+  pub sets_options : SetOptions arguments options
 
 -- the words name no options
 abbrev pub NamesNoOptions : List (List ℕ) → Type 0
@@ -174,7 +174,7 @@ pub record EndsWithName (all : List (List ℕ)) (options : Options) (option : Na
   pub last : List ℕ
   pub words : all ≡ front ++ last ∷ []
   pub name : name_of last ≡ Some option
-  pub takes : flag_argument option ≡ None
+  pub has_value : flag_argument option ≡ None
   pub named : NamesOptions front options
 
 -- the words name the options, and then the name of the awaited option, if there is one

@@ -16,8 +16,8 @@ pub record IsEquivalence (s : ElementSpec) (same : Comparison) : Type 0 where
       → same b p c q ≡ true → same c q d r ≡ true → same b p d r ≡ true
 
 -- an equality of a value with itself alone
-abbrev pub TellsApart : {V : Type 0} → (V → V → Bool) → Type 0
-TellsApart {V = V} equal = (v w : V) → Decides (equal v w) (v ≡ w)
+abbrev pub DecidesEquality : {V : Type 0} → (V → V → Bool) → Type 0
+DecidesEquality {V = V} equal = (v w : V) → Decides (equal v w) (v ≡ w)
 
 -- each value that the archived one represents is equal to each value that it equals
 abbrev pub EqualsOnce : {V : Type 0} → ElementSpec → (List ℕ → ℕ → V → Type 0)

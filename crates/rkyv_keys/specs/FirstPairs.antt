@@ -13,11 +13,11 @@ use Rattle.rkyv_base.specs.declared.view.View.{View}
 
 -- the first pair with an accepted key
 abbrev pub first_pair : {A B : Type 0} → (A → Bool) → List (A × B) → Option (A × B)
-first_pair asks pairs = find (λ pair. asks pair.0) pairs
+first_pair accept pairs = find (λ pair. accept pair.0) pairs
 
 -- the value of the first pair with an accepted key
 abbrev pub first_value : {A B : Type 0} → (A → Bool) → List (A × B) → Option B
-first_value asks pairs = option_map (λ pair. pair.1) (first_pair asks pairs)
+first_value accept pairs = option_map (λ pair. pair.1) (first_pair accept pairs)
 
 -- the view is of the value, or there is neither
 abbrev pub IsFoundValue : {V B : Type 0} → (List ℕ → ℕ → B → Type 0) → Option (View V) → Option B

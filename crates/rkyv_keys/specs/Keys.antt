@@ -11,9 +11,9 @@ pub record IsKey (s : ElementSpec) (same : Comparison) (calls : List ℕ → ℕ
     0 where
   pub same_calls : (b c : List ℕ) (p q : ℕ) → ValidAt s b p → ValidAt s c q → same b p c q ≡ true
       → calls b p ≡ calls c q
-  pub local : (b c : List ℕ) (p lo hi l : ℕ) → lo ≤ hi → s.holds b p lo hi l
+  pub local : (b c : List ℕ) (p lo hi l : ℕ) → lo ≤ hi → s.is_valid b p lo hi l
       → AgreeOn b c p (p + s.size) → AgreeOn b c lo l → calls b p ≡ calls c p
-  pub copied : (b c : List ℕ) (p lo hi l : ℕ) → lo ≤ hi → s.holds b p lo hi l
+  pub copied : (b c : List ℕ) (p lo hi l : ℕ) → lo ≤ hi → s.is_valid b p lo hi l
       → AgreeOn b c p (p + s.size) → AgreeOn b c lo l → same b p c p ≡ true
 
 -- a value that can always be read

@@ -1,4 +1,4 @@
-pub mod Asked
+pub mod KeyLookup
 pub mod AtViews
 pub mod Calls
 pub mod Deserialize

@@ -28,8 +28,8 @@ module _ (k v : ElementSpec) where
   entry_equals key value b p pair = key b p pair.0 × value b (p + value_offset k v) pair.1
 
   -- an error of either part
-  abbrev pub entry_refuses : DeserializeErrors → DeserializeErrors → DeserializeErrors
-  entry_refuses key value b p e = key b p e ⊎ value b (p + value_offset k v) e
+  abbrev pub entry_deserialize_fails : DeserializeErrors → DeserializeErrors → DeserializeErrors
+  entry_deserialize_fails key value b p e = key b p e ⊎ value b (p + value_offset k v) e
 
 -- the calls of both parts of a pair
 abbrev pub pair_calls : {A B : Type 0} → (A → List HasherCall) → (B → List HasherCall) → A × B

@@ -6,7 +6,7 @@ use Rattle.rkyv_base.specs.Scalar.{Encoding, IsScalar, ScalarRepresents}
 use Rattle.rkyv_base.specs.Lemmas.Scalar.{scalar_local}
 use Rattle.rkyv_base.specs.ElementSpec.{ElementSpec}
 use Rattle.rkyv_base.specs.Sealing.{value_at}
-use Rattle.rkyv_keys.specs.Equality.{Comparison, IsEquivalence, TellsApart}
+use Rattle.rkyv_keys.specs.Equality.{Comparison, IsEquivalence, DecidesEquality}
 use Rattle.rkyv_keys.specs.Keys.{FitsItsEqual, IsKey, IsQuery, ReadsAnywhere}
 use Rattle.rkyv_keys.specs.Fixed.{MakesFixedCalls}
 use Rattle.rkyv_keys.specs.Lemmas.Fixed.{one_fixed}
@@ -41,17 +41,17 @@ module _ {V : Type 0} (s : ElementSpec) (e : Encoding V) where
         (scalar_fits e equal)
     scalar_fits_its_equal = value_fits_its_equal s (value_at e) equal (λ v. v) (λ v. v)
 
-    module _ (tells : TellsApart equal) where
+    module _ (decides : DecidesEquality equal) where
       pub scalar_equivalence : IsEquivalence s (scalar_same e equal)
-      scalar_equivalence = value_equivalence s (value_at e) equal tells
+      scalar_equivalence = value_equivalence s (value_at e) equal decides
 
       pub scalar_key : (call : V → HasherCall) → IsScalar s e
           → IsKey s (scalar_same e equal) (scalar_calls e call)
-      scalar_key call laws = value_key s (value_at e) equal tells (one_call call)
+      scalar_key call laws = value_key s (value_at e) equal decides (one_call call)
           (scalar_local s e laws)
 
       pub scalar_query : (call : V → HasherCall)
           → IsQuery s (scalar_same e equal) (scalar_calls e call) ReadsAnywhere
           (one_call call) (scalar_fits e equal)
-      scalar_query call = value_query s (value_at e) equal tells (one_call call)
+      scalar_query call = value_query s (value_at e) equal decides (one_call call)
           (λ v. v)

@@ -15,8 +15,8 @@ module _ {V : Type 0} (value_at : List ℕ → ℕ → V) where
 
   -- the value at position `p` is equal to that of the query `q`
   abbrev pub value_fits : {Q : Type 0} → (V → V → Bool) → (Q → V) → Q → List ℕ → ℕ → Bool
-  value_fits equal seen q b p = equal (seen q) (value_at b p)
+  value_fits equal as_value q b p = equal (as_value q) (value_at b p)
 
   -- the value at position `p` is that of the value `q`
   abbrev pub ValueRepresents : {Q : Type 0} → (Q → V) → List ℕ → ℕ → Q → Type 0
-  ValueRepresents seen b p q = value_at b p ≡ seen q
+  ValueRepresents as_value b p q = value_at b p ≡ as_value q

@@ -13,9 +13,9 @@ HashesAsWritten {V = V} s represents key_calls can_read calls =
     → calls v ≡ key_calls b p
 
 -- a query fits both of two keys that represent one value, or neither
-abbrev pub AsksForValues : {V Q : Type 0} → ElementSpec → (List ℕ → ℕ → V → Type 0) → (V → Type 0)
+abbrev pub FitsByValue : {V Q : Type 0} → ElementSpec → (List ℕ → ℕ → V → Type 0) → (V → Type 0)
     → (Q → Type 0) → (Q → List ℕ → ℕ → Bool) → Type 0
-AsksForValues {V = V} {Q = Q} s represents reads can_read fits =
+FitsByValue {V = V} {Q = Q} s represents reads can_read fits =
     (q : Q) (v : V) (b c : List ℕ) (p r : ℕ) → can_read q → reads v → ValidAt s b p
     → ValidAt s c r → represents b p v → represents c r v → fits q b p ≡ fits q c r
 
@@ -23,5 +23,6 @@ AsksForValues {V = V} {Q = Q} s represents reads can_read fits =
 abbrev pub RestsOnKeys : {Q : Type 0} → ElementSpec → (Q → Type 0) → (Q → List ℕ → ℕ → Bool)
     → Type 0
 RestsOnKeys {Q = Q} s can_read fits =
-    (q : Q) (b c : List ℕ) (p l : ℕ) → can_read q → s.holds b p 0 p l → AgreeOn b c p (p + s.size)
+    (q : Q) (b c : List ℕ) (p l : ℕ) → can_read q → s.is_valid b p 0 p l
+    → AgreeOn b c p (p + s.size)
     → AgreeOn b c 0 l → fits q c p ≡ fits q b p

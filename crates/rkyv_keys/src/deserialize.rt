@@ -41,7 +41,7 @@ pub trait Deserialize<V>: Represents<V> {
     /// # Errors
     ///
     /// - `Memory`: memory could not be allocated, as for a text.
-    /// - `Refused`: the element refuses the value.
+    /// - `Refused`: the element rejects the value.
     ///
     /// Numbers, `bool`, `char` and `()` are deserialized without an error.
     fn deserialize(alloc: Global, view: View<'_, Self>) -> Result<V, ReadError>

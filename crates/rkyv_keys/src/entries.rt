@@ -12,7 +12,7 @@ ghost use Rattle.rkyv_keys.specs.AtViews.{at_view, at_views};
 ghost use Rattle.rkyv_keys.specs.Calls.{after_calls};
 ghost use Rattle.rkyv_keys.specs.Lemmas.Fixed.{entry_fixed};
 ghost use Rattle.rkyv_keys.specs.OfEntries.{BothRead, entry_calls, entry_equals, entry_fits};
-ghost use Rattle.rkyv_keys.specs.OfEntries.{entry_refuses, entry_same, pair_calls};
+ghost use Rattle.rkyv_keys.specs.OfEntries.{entry_deserialize_fails, entry_same, pair_calls};
 ghost use Rattle.rkyv_keys.specs.Lemmas.OfEntries.{entry_equals_once, entry_once};
 ghost use Rattle.rkyv_keys.specs.Lemmas.OfEntries.{entry_equivalence, entry_fits_its_equal};
 ghost use Rattle.rkyv_keys.specs.Lemmas.OfEntries.{entry_key, entry_query};
@@ -122,7 +122,7 @@ impl<A, B, K: MatchesNative<A>, V: MatchesNative<B>> MatchesNative<(A, B)> for E
 }
 
 impl<A: Drop, B, K: Deserialize<A>, V: Deserialize<B>> Deserialize<(A, B)> for Entry<K, V> {
-    ghost deserialize_fails = { entry_refuses K.spec V.spec K.deserialize_fails
+    ghost deserialize_fails = { entry_deserialize_fails K.spec V.spec K.deserialize_fails
         V.deserialize_fails };
 
     #[inline]
@@ -130,7 +130,7 @@ impl<A: Drop, B, K: Deserialize<A>, V: Deserialize<B>> Deserialize<(A, B)> for E
         requires { IsValidView (entry_spec K.spec V.spec) view }
         ensures { MatchResult result
             (AtView (PairRepresents K.spec V.spec K.represents V.represents) view.entry)
-            (AtView (entry_refuses K.spec V.spec K.deserialize_fails V.deserialize_fails)
+            (AtView (entry_deserialize_fails K.spec V.spec K.deserialize_fails V.deserialize_fails)
             view.entry) }
     {
         let key = K::deserialize(alloc, view.key())?;

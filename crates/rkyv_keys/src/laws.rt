@@ -5,7 +5,7 @@
 
 ghost use Rattle.std.specs.Prelude.{[], string_bytes, ◌++◌, ◌∷◌, ◌≡◌};
 ghost use Rattle.rkyv_scan.specs.Hash.{I8, I16, I32, I64, Isize, U8, U16, U32, U64, Usize};
-ghost use Rattle.rkyv_keys.specs.QueryLaws.{AsksForValues, HashesAsWritten, RestsOnKeys};
+ghost use Rattle.rkyv_keys.specs.QueryLaws.{FitsByValue, HashesAsWritten, RestsOnKeys};
 ghost use Rattle.rkyv_keys.specs.Calls.{bool_call, text_calls};
 ghost use Rattle.rkyv_keys.specs.HashesBy.{HashesBy};
 
@@ -19,8 +19,8 @@ pub fn native_keys_hash_as_written<K: KeyElement + Represents<V>, V: NativeKey<K
 {}
 
 /// States that a query fits all archived keys of one native value, or none.
-pub fn queries_ask_for_values<K: KeyElement + Represents<V>, V: NativeKey<K>, Q: Query<K>>()
-    ensures { AsksForValues K.spec K.represents V.can_read Q.can_read Q.fits }
+pub fn queries_fit_by_value<K: KeyElement + Represents<V>, V: NativeKey<K>, Q: Query<K>>()
+    ensures { FitsByValue K.spec K.represents V.can_read Q.can_read Q.fits }
 {}
 
 /// States that the keys that a query fits depend only on the bytes of the keys and their parts.

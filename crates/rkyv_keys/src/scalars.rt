@@ -13,7 +13,7 @@ ghost use Rattle.rkyv_base.specs.View.{IsValidView, AtView};
 ghost use Rattle.rkyv_keys.specs.AtViews.{at_view, at_views};
 ghost use Rattle.rkyv_keys.specs.Calls.{after_calls, bool_call};
 ghost use Rattle.rkyv_keys.specs.Lemmas.QueryLaws.{native_once};
-ghost use Rattle.rkyv_keys.specs.Equality.{TellsApart};
+ghost use Rattle.rkyv_keys.specs.Equality.{DecidesEquality};
 ghost use Rattle.rkyv_keys.specs.Deserialize.{nothing_fails};
 ghost use Rattle.rkyv_keys.specs.OfScalars.{
   one_call,
@@ -52,7 +52,7 @@ pub trait ScalarKey: Scalar + Eq {
     fn feed<H: KeyHasher>(self, state: &mut H)
         ensures { state.new ≡ H.hasher.feed state.old (call self) };
 
-    ghost tells: { TellsApart Self.eq };
+    ghost decides: { DecidesEquality Self.eq };
 
     ghost fixed: { (v : Self) → IsFixed (call v) };
 }
@@ -65,7 +65,7 @@ impl ScalarKey for u8 {
         state.write_u8(self);
     }
 
-    ghost tells = { unsigned_Decides };
+    ghost decides = { unsigned_Decides };
 
     ghost fixed = { λ v. tt };
 }
@@ -78,7 +78,7 @@ impl ScalarKey for u16 {
         state.write_u16(self);
     }
 
-    ghost tells = { unsigned_Decides };
+    ghost decides = { unsigned_Decides };
 
     ghost fixed = { λ v. tt };
 }
@@ -91,7 +91,7 @@ impl ScalarKey for u32 {
         state.write_u32(self);
     }
 
-    ghost tells = { unsigned_Decides };
+    ghost decides = { unsigned_Decides };
 
     ghost fixed = { λ v. tt };
 }
@@ -104,7 +104,7 @@ impl ScalarKey for u64 {
         state.write_u64(self);
     }
 
-    ghost tells = { unsigned_Decides };
+    ghost decides = { unsigned_Decides };
 
     ghost fixed = { λ v. tt };
 }
@@ -117,7 +117,7 @@ impl ScalarKey for i8 {
         state.write_i8(self);
     }
 
-    ghost tells = { signed_Decides };
+    ghost decides = { signed_Decides };
 
     ghost fixed = { λ v. tt };
 }
@@ -130,7 +130,7 @@ impl ScalarKey for i16 {
         state.write_i16(self);
     }
 
-    ghost tells = { signed_Decides };
+    ghost decides = { signed_Decides };
 
     ghost fixed = { λ v. tt };
 }
@@ -143,7 +143,7 @@ impl ScalarKey for i32 {
         state.write_i32(self);
     }
 
-    ghost tells = { signed_Decides };
+    ghost decides = { signed_Decides };
 
     ghost fixed = { λ v. tt };
 }
@@ -156,7 +156,7 @@ impl ScalarKey for i64 {
         state.write_i64(self);
     }
 
-    ghost tells = { signed_Decides };
+    ghost decides = { signed_Decides };
 
     ghost fixed = { λ v. tt };
 }
@@ -169,7 +169,7 @@ impl ScalarKey for bool {
         state.write_u8(u8::from(self));
     }
 
-    ghost tells = { booleans_Decides };
+    ghost decides = { booleans_Decides };
 
     ghost fixed = { λ v. tt };
 }
@@ -182,7 +182,7 @@ impl ScalarKey for char {
         state.write_u32(u32::from(self));
     }
 
-    ghost tells = { unsigned_Decides };
+    ghost decides = { unsigned_Decides };
 
     ghost fixed = { λ v. tt };
 }
@@ -210,7 +210,7 @@ impl<N: ScalarKey> ElementEq for N {
 }
 
 impl<N: ScalarKey> ElementEquiv for N {
-    ghost equivalence = { scalar_equivalence N.spec N.encoding N.eq N.tells };
+    ghost equivalence = { scalar_equivalence N.spec N.encoding N.eq N.decides };
 }
 
 impl<N: ScalarKey> KeyElement for N {
@@ -225,7 +225,7 @@ impl<N: ScalarKey> KeyElement for N {
         view.to_native().feed(state);
     }
 
-    ghost key = { scalar_key N.spec N.encoding N.eq N.tells N.call N.Scalar.laws };
+    ghost key = { scalar_key N.spec N.encoding N.eq N.decides N.call N.Scalar.laws };
 }
 
 impl<N: ScalarKey> FixedKey for N {
@@ -243,7 +243,7 @@ impl<N: ScalarKey> Query<N> for N {
         *self == key.to_native()
     }
 
-    ghost query = { scalar_query N.spec N.encoding N.eq N.tells N.call };
+    ghost query = { scalar_query N.spec N.encoding N.eq N.decides N.call };
 }
 
 impl<N: ScalarKey> NativeKey<N> for N {

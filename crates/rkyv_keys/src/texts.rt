@@ -2,7 +2,7 @@
 
 ghost use Rattle.std.specs.Prelude.{◌≡◌, string_bytes, IsTrue, ◌↔◌, MatchResult};
 ghost use Rattle.rkyv_base.specs.Text.{text_spec};
-ghost use Rattle.rkyv_base.specs.Lemmas.TextWriting.{seen_text_is_format};
+ghost use Rattle.rkyv_base.specs.Lemmas.TextWriting.{text_as_format};
 ghost use Rattle.rkyv_base.specs.View.{IsValidView, AtView};
 ghost use Rattle.rkyv_keys.specs.AtViews.{at_view, at_views};
 ghost use Rattle.rkyv_keys.specs.Calls.{after_calls, text_calls};
@@ -185,11 +185,11 @@ impl<W: Width> ElementDebug for Text<W> {
 }
 
 impl<'t, W: Width> EqualsWritten<W> for &'t str {
-    ghost equal = { seen_text_is_format W.word W.layout.kind (λ t. t.now) };
+    ghost equal = { text_as_format W.word W.layout.kind (λ t. t.now) };
 }
 
 impl<W: Width> EqualsWritten<W> for String {
-    ghost equal = { seen_text_is_format W.word W.layout.kind string_bytes };
+    ghost equal = { text_as_format W.word W.layout.kind string_bytes };
 }
 
 impl<'t, W: Width> EqualsUniquely<&'t str> for Text<W> {

@@ -6,7 +6,7 @@ use Rattle.std.proofs.lemmas.Bool.{cases_eq, ne_eqb}
 use Rattle.std.proofs.lemmas.Nat.{shr_split}
 use Rattle.std.proofs.lemmas.Nat.Bits.{bit_at_and, bit_at_or, bit_at-lt, bit_at-suc, bit_at-zero, bit_at_cat_low}
 use Rattle.rkyv_scan.specs.Groups.{is_word_match_at, mask_places, places_where}
-use Rattle.rkyv_scan.specs.Paired.{TellsEqual, bits_after, chain, half_of, is_half_match_at}
+use Rattle.rkyv_scan.specs.Paired.{MarksEqual, bits_after, chain, half_of, is_half_match_at}
 use Rattle.rkyv_scan.specs.Lemmas.Paired.{half_at, half_lower}
 use Rattle.rkyv_scan.proofs.Bits.{all_to_at}
 use Rattle.rkyv_scan.proofs.Places.{range_agree}
@@ -69,13 +69,13 @@ chain_more equal next n = let e : suc n ≡ n + 1 = omega arith in ap (chain equ
 abbrev pub Chains : List ℕ → ℕ → ℕ → ℕ → Type 0
 Chains xs t n m = (k : ℕ) → k < 16 → k % 8 ≤ n → eqb (bit_at m k) 1 ≡ is_half_match_at xs t k
 
-module _ (xs : List ℕ) (t equal next : ℕ) (tells : TellsEqual xs t equal) (tells_next : TellsEqual xs (bit_xor t 1) next) where
+module _ (xs : List ℕ) (t equal next : ℕ) (marks_byte : MarksEqual xs t equal) (marks_next : MarksEqual xs (bit_xor t 1) next) where
   chain_base : (m : ℕ) → Chains xs t 0 (bit_or equal (bit_and (bits_after m) next))
   chain_base m k l h =
       let z : k % 8 ≡ 0 = omega arith in
       let none = after_none m k l z in
       let e : bit_at (bit_or equal (bit_and (bits_after m) next)) k ≡ bit_at equal k = omega (arith, bit_at_or equal (bit_and (bits_after m) next) k, bit_at_and (bits_after m) next k, none) in
-      ap (λ x. eqb x 1) e ∙ tells k l ∙ sym (half_first xs t k z)
+      ap (λ x. eqb x 1) e ∙ marks_byte k l ∙ sym (half_first xs t k z)
 
   chain_step : (n m : ℕ) → Chains xs t n m → Chains xs t (suc n) (bit_or equal (bit_and (bits_after m) next))
   chain_step n m before k l h = elim (cases_eq (k % 8) 0) [
@@ -84,8 +84,8 @@ module _ (xs : List ℕ) (t equal next : ℕ) (tells : TellsEqual xs t equal) (t
         let some = after_some m k l nz in
         let e : bit_at (bit_or equal (bit_and (bits_after m) next)) k ≡ max (bit_at equal k) (min (bit_at m (k - 1)) (bit_at next k)) =
         bit_at_or equal (bit_and (bits_after m) next) k ∙ ap (max (bit_at equal k)) (bit_at_and (bits_after m) next k ∙ ap (λ x. min x (bit_at next k)) some) in
-        let a = tells k l in
-        let b = tells_next k l in
+        let a = marks_byte k l in
+        let b = marks_next k l in
         let c = before (k - 1) (omega arith) (omega arith) in
         ap (λ x. eqb x 1) e ∙ or_mark (bit_at equal k) (bit_at next k) (bit_at m (k - 1)) (bit_at-lt equal k) (bit_at-lt next k) (bit_at-lt m (k - 1))
         ∙ (λ i. a i || (b i && c i)) ∙ sym (half_next xs t k nz)
@@ -93,7 +93,7 @@ module _ (xs : List ℕ) (t equal next : ℕ) (tells : TellsEqual xs t equal) (t
 
   pub chain_is : (n : ℕ) → Chains xs t n (chain equal next n)
   unfolding chain
-  chain_is zero k l h = tells k l ∙ sym (half_first xs t k (omega arith))
+  chain_is zero k l h = marks_byte k l ∙ sym (half_first xs t k (omega arith))
   chain_is (suc n) k l h = chain_step n (chain equal next n) (chain_is n) k l h
 
   -- a mask that a step leaves unchanged has all marks
@@ -119,9 +119,9 @@ none_marked xs t none (suc n) k l h = elim (cases_eq (k % 8) 0) [
 ]
 
 -- if no byte is equal, no index is marked
-pub none_equal : (xs : List ℕ) (t equal : ℕ) → TellsEqual xs t equal → equal ≡ 0 → Chains xs t 7 0
-none_equal xs t equal tells z k l h =
-    let none = λ (j : ℕ) (m : j < 16). sym (tells j m) ∙ ap (λ x. eqb (bit_at x j) 1) z ∙ ap (λ x. eqb x 1) (bit_at-zero j) in
+pub none_equal : (xs : List ℕ) (t equal : ℕ) → MarksEqual xs t equal → equal ≡ 0 → Chains xs t 7 0
+none_equal xs t equal marks_byte z k l h =
+    let none = λ (j : ℕ) (m : j < 16). sym (marks_byte j m) ∙ ap (λ x. eqb (bit_at x j) 1) z ∙ ap (λ x. eqb x 1) (bit_at-zero j) in
     ap (λ x. eqb x 1) (bit_at-zero k) ∙ sym (none_marked xs t none 7 k l h)
 
 pub chained_places : (xs : List ℕ) (t m : ℕ) → Chains xs t 7 m → mask_places 1 0 16 m ≡ places_where (is_half_match_at xs t) 16

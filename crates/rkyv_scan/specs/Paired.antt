@@ -44,6 +44,6 @@ chain equal next zero = equal
 chain equal next (suc n) = bit_or equal (bit_and (bits_after (chain equal next n)) next)
 
 -- bit k is set if and only if control byte k is `byte`, for each k below sixteen
-abbrev pub TellsEqual : List ℕ → ℕ → ℕ → Type 0
-TellsEqual controls byte bits = (k : ℕ) → k < 16
+abbrev pub MarksEqual : List ℕ → ℕ → ℕ → Type 0
+MarksEqual controls byte bits = (k : ℕ) → k < 16
     → (bit_at bits k == 1) ≡ (slice_index controls k == byte)

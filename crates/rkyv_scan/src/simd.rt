@@ -66,7 +66,8 @@ pub trait Marks: Iterator<Item = usize> + Copy {
     // The iterator yields the marked indices.
     ghost ready: { (s : Self) → Self.can_next s };
 
-    ghost gives: { (s t : Self) (r : Option ℕ) → Self.next_gives s r t → YieldsFirst places s r t };
+    ghost yields: { (s t : Self) (r : Option ℕ) → Self.next_gives s r t
+        → YieldsFirst places s r t };
 
     ghost ends: { (s : Self) → Self.remaining s ≡ item_count places s };
 }

@@ -7,12 +7,12 @@ use Rattle.rkyv_base.specs.ElementSpec.{IsElement, Viewable}
 use Rattle.rkyv_base.specs.declared.view.View.{View}
 use Rattle.rkyv_scan.specs.Groups.{Kind}
 use Rattle.rkyv_table.specs.Controls.Laws.{IsUnderHash}
-use Rattle.rkyv_table.specs.Table.Bare.{AcceptedOf, AnswersOf, IsItemOf, LooksUp, MayAskOf, ReadsExactly}
+use Rattle.rkyv_table.specs.Table.Bare.{AcceptedOf, ComparesByOf, IsItemOf, LooksUp, CanCompareOf, ReadsExactly}
 use Rattle.rkyv_table.specs.Table.Layout.{table_spec}
 use Rattle.rkyv_table.specs.Table.Positions.{IsWalked, WrittenAt, home_positions, item_at}
 use Rattle.rkyv_table.specs.Table.Positions.{lookup_end, pos_found}
-use Rattle.rkyv_table.specs.Table.Reading.{Answers, CountsEnd, FindsFirst, FindsFound, IsAcceptedAt}
-use Rattle.rkyv_table.specs.Table.Reading.{IsItem, IsItemPos, MayAsk}
+use Rattle.rkyv_table.specs.Table.Reading.{ComparesBy, CountsEnd, FindsFirst, FindsFound, IsAcceptedAt}
+use Rattle.rkyv_table.specs.Table.Reading.{IsItem, IsItemPos, CanCompare}
 use Rattle.rkyv_table.specs.Table.SealedItems.{IsItemAt}
 use Rattle.rkyv_table.proofs.ValidTable.{item_viewable}
 use Rattle.rkyv_table.proofs.SealedTable.{table_kept}
@@ -34,28 +34,28 @@ module _ {T W : Type 0} {ts : Specs T} {wt : Words W} (b : List ℕ) (p : ℕ) (
         viewable = subst (λ (c : List ℕ). Viewable ts.spec c v.pos) archive is.1.viewable;
       }
 
-  pub may_ask : (pre : View T → Type 0) → MayAskOf pre wt.word ts.spec b p → MayAsk pre t
-  may_ask pre ask v is = ask v (item_of v is)
+  pub can_compare : (pre : View T → Type 0) → CanCompareOf pre wt.word ts.spec b p → CanCompare pre t
+  can_compare pre callable v is = callable v (item_of v is)
 
   module _ (post : View T → Bool → Type 0) where
-    pub answers_of : (accept : ℕ → Bool) → AnswersOf post wt.word ts.spec b p accept → Answers post t accept
-    answers_of accept answers v r is told = answers v r (item_of v is) told
+    pub compares_by_of : (accept : ℕ → Bool) → ComparesByOf post wt.word ts.spec b p accept → ComparesBy post t accept
+    compares_by_of accept compares v r is returned = compares v r (item_of v is) returned
 
     pub accepted_of : (q : ℕ) → IsAcceptedAt post t q → AcceptedOf post wt.word ts.spec b p q
     accepted_of q is = (is.0, item_of is.0 is.1, is.2, is.3)
 
     module _ (kind : Kind) (hash : ℕ) (found : Option ℕ) (finds : FindsFound post kind t hash found) where
-      pub found_of : (accept : ℕ → Bool) → AnswersOf post wt.word ts.spec b p accept → found ≡ pos_found kind wt.word ts.spec.size b p hash accept
-      found_of accept answers =
+      pub found_of : (accept : ℕ → Bool) → ComparesByOf post wt.word ts.spec b p accept → found ≡ pos_found kind wt.word ts.spec.size b p hash accept
+      found_of accept compares =
           subst (λ q. found ≡ pos_found kind wt.word ts.spec.size b q hash accept) place
-          (subst (λ (c : List ℕ). found ≡ pos_found kind wt.word ts.spec.size c t.view.pos hash accept) bytes (finds accept (answers_of accept answers)))
+          (subst (λ (c : List ℕ). found ≡ pos_found kind wt.word ts.spec.size c t.view.pos hash accept) bytes (finds accept (compares_by_of accept compares)))
 
       module _ (first : FindsFirst post t hash found) where
-        pub first_of : (hashes homes : List ℕ) (accept : ℕ → Bool) → WrittenAt wt.word b p hashes homes → AnswersOf post wt.word ts.spec b p accept
+        pub first_of : (hashes homes : List ℕ) (accept : ℕ → Bool) → WrittenAt wt.word b p hashes homes → ComparesByOf post wt.word ts.spec b p accept
             → IsUnderHash hash hashes (home_positions wt.word ts.spec.size b p homes) accept → found ≡ find accept (home_positions wt.word ts.spec.size b p homes)
-        first_of hashes homes accept written answers under =
+        first_of hashes homes accept written compares under =
             let P = λ (c : List ℕ) (q : ℕ). WrittenAt wt.word c q hashes homes → IsUnderHash hash hashes (home_positions wt.word ts.spec.size c q homes) accept → found ≡ find accept (home_positions wt.word ts.spec.size c q homes) in
-            subst (P b) place (subst (λ (c : List ℕ). P c t.view.pos) bytes (λ x y. first hashes homes accept x (answers_of accept answers) y)) written under
+            subst (P b) place (subst (λ (c : List ℕ). P c t.view.pos) bytes (λ x y. first hashes homes accept x (compares_by_of accept compares) y)) written under
 
     -- a lookup in the table has the same result in the bytes
     pub looks_up_none : (kind : Kind) (hash : ℕ) → FindsFound post kind t hash None → FindsFirst post t hash None → LooksUp post kind wt.word ts.spec b p hash None
@@ -67,10 +67,10 @@ module _ {T W : Type 0} {ts : Specs T} {wt : Words W} (b : List ℕ) (p : ℕ) (
         record { accepted = accepted_of q accepted; answer = found_of kind hash (Some q) finds; first = first_of kind hash (Some q) finds first }
 
     pub reads_exactly : (kind : Kind) (hash before after : ℕ) → before ≡ 0 → CountsEnd post kind t hash before after → ReadsExactly post kind wt.word ts.spec b p hash after
-    reads_exactly kind hash before after none counts accept answers =
+    reads_exactly kind hash before after none counts accept compares =
         let P = λ (c : List ℕ) (q : ℕ). after ≡ lookup_end kind wt.word ts.spec.size c q hash accept in
         subst (P b) place (subst (λ (c : List ℕ). P c t.view.pos) bytes
-        (counts accept (answers_of accept answers) ∙ ap (λ n. n + lookup_end kind wt.word ts.spec.size t.view.archive.now t.view.pos hash accept) none ∙ zero-add _))
+        (counts accept (compares_by_of accept compares) ∙ ap (λ n. n + lookup_end kind wt.word ts.spec.size t.view.archive.now t.view.pos hash accept) none ∙ zero-add _))
 
   -- each write of an item of the table alone that keeps it valid keeps the table
   pub item_at_found : IsElement ts.spec → Viewable (table_spec wt.word ts.spec) b p → (q : ℕ) → IsItemPos t q → (i : ℕ) × IsItemAt wt.word ts.spec b p i q

@@ -7,7 +7,7 @@ use Rattle.std.proofs.lemmas.List.{length-set, set_past}
 use Rattle.std.proofs.lemmas.Bool.{cases_Bool, cases_lt, and_from, and_left, and_right, lt-ltb, le-ltb, both_ways, false_from_ne_true, eq-eqb, or_left, or_right}
 use Rattle.rkyv_scan.specs.Groups.{places_where}
 use Rattle.rkyv_table.specs.Controls.Numbers.{start, control_count, probe_capacity}
-use Rattle.rkyv_table.specs.Controls.Probe.{strides, buckets_at, shown}
+use Rattle.rkyv_table.specs.Controls.Probe.{strides, buckets_at, probed}
 use Rattle.rkyv_table.specs.Controls.Placing.{IsWrapped}
 use Rattle.rkyv_table.specs.Controls.ControlBytes.{is_empty_at, empty_place, with_control}
 use Rattle.rkyv_table.proofs.Coverage.{covered}
@@ -118,9 +118,9 @@ some_shown h cap controls p q b r hb fb hp lp started e =
     )
 
 -- some bucket that a hash shows is free
-pub free_shown : (h cap : ℕ) (free : ℕ → Bool) (b : ℕ) → b < cap → free b ≡ true → list_any free (shown h cap) ≡ true
+pub free_probed : (h cap : ℕ) (free : ℕ → Bool) (b : ℕ) → b < cap → free b ≡ true → list_any free (probed h cap) ≡ true
 unfolding buckets_at
-free_shown h cap free b hb fb =
+free_probed h cap free b hb fb =
     let v = covered h cap b hb in
     let p = v.0 in
     let q = v.1 in
@@ -143,15 +143,15 @@ begun h cap p free ps qs pos c e = elim c [
 
 -- a stride that shows no free bucket
 pub passes_on : (h cap p : ℕ) (free : ℕ → Bool) (ps qs : List ℕ) → qs ≡ p ∷ ps → list_any free (buckets_at cap p) ≡ false
-    → find free (shown h cap) ≡ find free (flat_map (buckets_at cap) qs)
-    → find free (shown h cap) ≡ find free (flat_map (buckets_at cap) ps)
+    → find free (probed h cap) ≡ find free (flat_map (buckets_at cap) qs)
+    → find free (probed h cap) ≡ find free (flat_map (buckets_at cap) ps)
 passes_on h cap p free ps qs e none same =
     let n = find_none free (buckets_at cap p) none in
     same ∙ ap (λ xs. find free (flat_map (buckets_at cap) xs)) e ∙ find-append free (buckets_at cap p) (flat_map (buckets_at cap) ps) ∙ rw n refl
 
 pub first_at : (h cap p b : ℕ) (free : ℕ → Bool) (ps qs : List ℕ) → qs ≡ p ∷ ps → find free (buckets_at cap p) ≡ Some b
-    → find free (shown h cap) ≡ find free (flat_map (buckets_at cap) qs)
-    → find free (shown h cap) ≡ Some b
+    → find free (probed h cap) ≡ find free (flat_map (buckets_at cap) qs)
+    → find free (probed h cap) ≡ Some b
 first_at h cap p b free ps qs e some same =
     same ∙ ap (λ xs. find free (flat_map (buckets_at cap) xs)) e ∙ find-append free (buckets_at cap p) (flat_map (buckets_at cap) ps) ∙ rw some refl
 
@@ -165,10 +165,10 @@ pub member_rest : (p x : ℕ) (ps qs : List ℕ) → qs ≡ p ∷ ps → list_an
 member_rest p x ps qs e m = ap (list_any (eqb x)) e ∙ or_right (eqb x p) (list_any (eqb x) ps) m
 
 -- the strides don't end before a free bucket
-pub runs_out : (h cap b : ℕ) (free : ℕ → Bool) (qs : List ℕ) → b < cap → free b ≡ true → qs ≡ [] → find free (shown h cap) ≡ find free (flat_map (buckets_at cap) qs) → ⊥
+pub runs_out : (h cap b : ℕ) (free : ℕ → Bool) (qs : List ℕ) → b < cap → free b ≡ true → qs ≡ [] → find free (probed h cap) ≡ find free (flat_map (buckets_at cap) qs) → ⊥
 runs_out h cap b free qs hb fb e same =
-    let n : find free (shown h cap) ≡ None = same ∙ ap (λ xs. find free (flat_map (buckets_at cap) xs)) e in
-    both_ways (list_any free (shown h cap)) (none_find free (shown h cap) n) (free_shown h cap free b hb fb)
+    let n : find free (probed h cap) ≡ None = same ∙ ap (λ xs. find free (flat_map (buckets_at cap) xs)) e in
+    both_ways (list_any free (probed h cap)) (none_find free (probed h cap) n) (free_probed h cap free b hb fb)
 
 pub empty_place_is : (controls : List ℕ) (p : ℕ) → empty_place controls p ≡ find (is_empty_at controls) (range_with_len p 16)
 unfolding empty_place

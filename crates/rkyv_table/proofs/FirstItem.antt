@@ -8,7 +8,7 @@ use Rattle.std.proofs.lemmas.List.{get_or-map, length-map}
 use Rattle.std.proofs.lemmas.Option.{slice_get-map, slice_get_cases}
 use Rattle.rkyv_base.specs.ElementSpec.{ElementSpec}
 use Rattle.rkyv_table.specs.Controls.Laws.{IsUnderHash}
-use Rattle.rkyv_table.specs.Table.FirstItem.{AnswersFirst, AreUnder, IsFirstOf, TellsOf}
+use Rattle.rkyv_table.specs.Table.FirstItem.{LookupFindsFirst, AreUnder, IsFirstOf, TestsAgree}
 use Rattle.rkyv_table.specs.Table.Positions.{home_positions}
 use Rattle.rkyv_table.specs.Table.PlacedItems.{hashes_of, items_of}
 use Rattle.rkyv_table.specs.Table.WrittenTables.{IsWrittenOf}
@@ -16,22 +16,22 @@ use Rattle.rkyv_table.proofs.FirstFound.{first_found}
 use Rattle.rkyv_table.proofs.WrittenTables.{home_count, table_written}
 
 -- the first accepted position is that of the first accepted item
-first_along : {X : Type 0} (represents : List ℕ → ℕ → X → Type 0) (c : List ℕ) (accept : X → Bool) (told : ℕ → Bool) (items : List X) (qs : List ℕ)
+first_along : {X : Type 0} (represents : List ℕ → ℕ → X → Type 0) (c : List ℕ) (accept : X → Bool) (accept_at : ℕ → Bool) (items : List X) (qs : List ℕ)
     → length items ≡ length qs → ((i : ℕ) (x : X) → slice_get items i ≡ Some x → represents c (slice_index qs i) x)
-    → TellsOf represents c accept items told → IsFirstOf represents c accept items (find told qs)
-first_along represents c accept told [] [] n there tells = refl
-first_along represents c accept told [] (q ∷ qs) n there tells = absurd (omega arith)
-first_along represents c accept told (x ∷ xs) [] n there tells = absurd (omega arith)
-first_along represents c accept told (x ∷ xs) (q ∷ qs) k there tells =
+    → TestsAgree represents c accept items accept_at → IsFirstOf represents c accept items (find accept_at qs)
+first_along represents c accept accept_at [] [] n there agrees = refl
+first_along represents c accept accept_at [] (q ∷ qs) n there agrees = absurd (omega arith)
+first_along represents c accept accept_at (x ∷ xs) [] n there agrees = absurd (omega arith)
+first_along represents c accept accept_at (x ∷ xs) (q ∷ qs) k there agrees =
     let here = there 0 x refl in
-    let same : told q ≡ accept x = tells 0 q x refl here in
-    elim (cases_Bool (told q)) [
+    let same : accept_at q ≡ accept x = agrees 0 q x refl here in
+    elim (cases_Bool (accept_at q)) [
       | inl y ↦ rw (y, sym same ∙ y) (x, refl, here)
-      | inr n ↦ rw (n, sym same ∙ n) (first_along represents c accept told xs qs (omega (arith, k)) (λ i y e. there (suc i) y e) (λ i p y e st. tells (suc i) p y e st))
+      | inr n ↦ rw (n, sym same ∙ n) (first_along represents c accept accept_at xs qs (omega (arith, k)) (λ i y e. there (suc i) y e) (λ i p y e st. agrees (suc i) p y e st))
     ]
 
 module _ {X : Type 0} (w : Width) (size : ℕ) (represents : List ℕ → ℕ → X → Type 0) (c : List ℕ) (p hash : ℕ) (pairs : List (ℕ × X)) (written : IsWrittenOf w size represents c p pairs)
-    (accept : X → Bool) (told : ℕ → Bool) (under : AreUnder hash accept pairs) (tells : TellsOf represents c accept (items_of pairs) told) where
+    (accept : X → Bool) (accept_at : ℕ → Bool) (under : AreUnder hash accept pairs) (agrees : TestsAgree represents c accept (items_of pairs) accept_at) where
   abbrev places : List ℕ
   places = home_positions w size c p written.homes
 
@@ -42,25 +42,25 @@ module _ {X : Type 0} (w : Width) (size : ℕ) (represents : List ℕ → ℕ �
   places_count = length-map pairs (λ (y : ℕ × X). y.1) ∙ sym hashes_count ∙ sym (home_count w c p (hashes_of pairs) written.homes written.written) ∙ sym (length-map written.homes _)
 
   -- only positions of items under the hash are accepted
-  pub told_under : IsUnderHash hash (hashes_of pairs) places told
-  told_under i below t = elim (slice_get_cases pairs i).1 [
+  pub accepted_under : IsUnderHash hash (hashes_of pairs) places accept_at
+  accepted_under i below t = elim (slice_get_cases pairs i).1 [
     | inl e ↦
         let pair = e.0 in
         let item : slice_get (items_of pairs) i ≡ Some pair.1 = slice_get-map (λ (y : ℕ × X). y.1) pairs i ∙ ap (option_map (λ (y : ℕ × X). y.1)) e.2 in
-        let same = tells i (slice_index places i) pair.1 item (written.at i pair.1 item) in
+        let same = agrees i (slice_index places i) pair.1 item (written.at i pair.1 item) in
         let own : pair.0 ≡ hash = subst (λ (y : ℕ × X). accept y.1 ≡ true → y.0 ≡ hash) e.3 (under i pair e.1) (sym same ∙ t) in
         get_or-map (λ (y : ℕ × X). y.0) pairs i pair 0 e.1 ∙ ap (λ (y : ℕ × X). y.0) e.3 ∙ own
     | inr past ↦ absurd (omega (arith, past.0, below, hashes_count))
   ]
 
   -- the first accepted one of the positions
-  pub first_at_home : IsFirstOf represents c accept (items_of pairs) (find told places)
-  first_at_home = first_along represents c accept told (items_of pairs) places places_count written.at tells
+  pub first_at_home : IsFirstOf represents c accept (items_of pairs) (find accept_at places)
+  first_at_home = first_along represents c accept accept_at (items_of pairs) places places_count written.at agrees
 
 -- a lookup in a written table finds the first accepted item of the list
-pub answers_first : {X : Type 0} (w : Width) (s : ElementSpec) (represents : List ℕ → ℕ → X → Type 0) (factor : ℕ × ℕ) → AnswersFirst w s represents factor
-answers_first w s represents factor kind c p hash pairs accept told law fits t under tells =
+pub lookup_finds_first : {X : Type 0} (w : Width) (s : ElementSpec) (represents : List ℕ → ℕ → X → Type 0) (factor : ℕ × ℕ) → LookupFindsFirst w s represents factor
+lookup_finds_first w s represents factor kind c p hash pairs accept accept_at law fits t under agrees =
     let written = table_written w s represents factor c p pairs t in
     subst (IsFirstOf represents c accept (items_of pairs))
-    (sym (first_found kind law w s.size c p hash fits (hashes_of pairs) written.homes told written.written (told_under w s.size represents c p hash pairs written accept told under tells)))
-    (first_at_home w s.size represents c p hash pairs written accept told under tells)
+    (sym (first_found kind law w s.size c p hash fits (hashes_of pairs) written.homes accept_at written.written (accepted_under w s.size represents c p hash pairs written accept accept_at under agrees)))
+    (first_at_home w s.size represents c p hash pairs written accept accept_at under agrees)

@@ -10,7 +10,7 @@ use Rattle.rkyv_base.specs.declared.view.View.{View}
 use Rattle.rkyv_table.specs.Controls.Finding.{FindsBucket, lookup}
 use Rattle.rkyv_table.specs.Table.Header.{cap_at, len_at}
 use Rattle.rkyv_table.specs.Table.Positions.{bucket_found, item_at, table_controls}
-use Rattle.rkyv_table.specs.Table.Reading.{Answers, CountsStrides, FindsFirst, FindsFound}
+use Rattle.rkyv_table.specs.Table.Reading.{ComparesBy, CountsStrides, FindsFirst, FindsFound}
 use Rattle.rkyv_table.specs.Table.Reading.{FindsItem, FindsItemPos, IsItemIn}
 use Rattle.rkyv_base.specs.View.{pos_of_found}
 use Rattle.rkyv_table.specs.Table.Reading.{table_bytes, table_pos}
@@ -56,26 +56,26 @@ module _ {T W : Type 0} {ts : Specs T} {wt : Words W} (post : View T → Bool �
 module _ {T W : Type 0} {ts : Specs T} {wt : Words W} (post : View T → Bool → Type 0) (kind : Kind) (law : IsKind kind) (element : IsElement ts.spec) (t : ArchivedHashTable T W ts wt) (controls : List ℕ)
     (are : 0 < t.header.cap → controls ≡ table_controls wt.word (table_bytes t) (table_pos t))
     (hash : ℕ) (fits : hash < 2 ^ 64) (before after : ℕ)
-    (asked : ℕ → Bool → Type 0) (meets : (i : ℕ) (r : Bool) → asked i r → (v : View T) × IsItemIn t i v × post v r) (found : Option ℕ)
-    (finds : FindsBucket (lookup kind controls t.header.cap t.header.len hash) asked before after found) where
+    (bucket_post : ℕ → Bool → Type 0) (meets : (i : ℕ) (r : Bool) → bucket_post i r → (v : View T) × IsItemIn t i v × post v r) (found : Option ℕ)
+    (finds : FindsBucket (lookup kind controls t.header.cap t.header.len hash) bucket_post before after found) where
   abbrev place : ℕ → ℕ
   place = item_at wt.word ts.spec.size (table_bytes t) (table_pos t)
 
-  asks : (accept : ℕ → Bool) → Answers post t accept → (i : ℕ) (r : Bool) → asked i r → r ≡ accept (place i)
-  asks accept alone i r told = let e = meets i r told in alone e.0 r (i, e.1) e.2 ∙ ap accept e.1.place
+  compares_bucket : (accept : ℕ → Bool) → ComparesBy post t accept → (i : ℕ) (r : Bool) → bucket_post i r → r ≡ accept (place i)
+  compares_bucket accept alone i r returned = let e = meets i r returned in alone e.0 r (i, e.1) e.2 ∙ ap accept e.1.place
 
-  bucket_told : (accept : ℕ → Bool) → Answers post t accept → found ≡ bucket_found kind wt.word ts.spec.size (table_bytes t) (table_pos t) hash accept
-  bucket_told accept alone = finds.answer (λ i. accept (place i)) (λ i r full. asks accept alone i r) ∙ read_found element t controls are kind hash (λ i. accept (place i))
+  bucket_is : (accept : ℕ → Bool) → ComparesBy post t accept → found ≡ bucket_found kind wt.word ts.spec.size (table_bytes t) (table_pos t) hash accept
+  bucket_is accept alone = finds.answer (λ i. accept (place i)) (λ i r full. compares_bucket accept alone i r) ∙ read_found element t controls are kind hash (λ i. accept (place i))
 
   pub strides_counted : CountsStrides post kind t hash before after
   strides_counted = record {
     bounded = rw (t.decoded.len, t.decoded.cap) at finds.bounded;
-    counted = λ accept alone. finds.counted (λ i. accept (place i)) (λ i r full. asks accept alone i r) ∙ ap (λ n. before + n) (read_end element t controls are kind hash (λ i. accept (place i)));
+    counted = λ accept alone. finds.counted (λ i. accept (place i)) (λ i r full. compares_bucket accept alone i r) ∙ ap (λ n. before + n) (read_end element t controls are kind hash (λ i. accept (place i)));
   }
 
   pub item_found : (i : ℕ) → found ≡ Some i → (v : View T) → IsItemIn t i v → FindsItem post kind t hash (Some v)
   item_found i is v here =
-      let answer : FindsFound post kind t hash (Some v.pos) = λ accept alone. ap Some here.place ∙ ap (option_map place) (sym is ∙ bucket_told accept alone) in
+      let answer : FindsFound post kind t hash (Some v.pos) = λ accept alone. ap Some here.place ∙ ap (option_map place) (sym is ∙ bucket_is accept alone) in
       let e = meets i true (rw is at finds.accepted) in
       record {
         walked = (i, here);
@@ -86,5 +86,5 @@ module _ {T W : Type 0} {ts : Specs T} {wt : Words W} (post : View T → Bool �
 
   pub none_found : found ≡ None → FindsItem post kind t hash None
   none_found is =
-      let answer : FindsFound post kind t hash None = λ accept alone. ap (option_map place) (sym is ∙ bucket_told accept alone) in
+      let answer : FindsFound post kind t hash None = λ accept alone. ap (option_map place) (sym is ∙ bucket_is accept alone) in
       record { walked = tt; accepted = tt; answer = answer; first = finds_first post t hash kind law fits None answer }

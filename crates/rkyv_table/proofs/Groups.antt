@@ -10,7 +10,7 @@ use Rattle.std.proofs.Math.Nat.{mul-le-mul_right, mul-mod_left}
 use Rattle.std.proofs.lemmas.Bool.{cases_Bool, or_left, or_right, false≢true}
 use Rattle.rkyv_table.proofs.Coverage.{same_tests}
 use Rattle.rkyv_scan.specs.Groups.{Kind, IsKind, places_where}
-use Rattle.rkyv_table.specs.Controls.Finding.{marked, candidates, shows_empty}
+use Rattle.rkyv_table.specs.Controls.Finding.{marked, candidates, stride_has_empty}
 
 pub range_append : (a m n : ℕ) → range_with_len a (m + n) ≡ range_with_len a m ++ range_with_len (a + m) n
 range_append a zero n = let e : a + 0 ≡ a = omega arith in let f : 0 + n ≡ n = omega arith in rw (e, f) refl
@@ -48,8 +48,8 @@ pub all_candidates : (kind : Kind) (controls : List ℕ) (cap t p : ℕ) → can
 unfolding candidates_in candidates
 all_candidates kind controls cap t p = refl
 
-pub all_empty : (controls : List ℕ) (p : ℕ) → empty_in controls p 16 ≡ shows_empty controls p
-unfolding empty_in shows_empty
+pub all_empty : (controls : List ℕ) (p : ℕ) → empty_in controls p 16 ≡ stride_has_empty controls p
+unfolding empty_in stride_has_empty
 all_empty controls p = refl
 
 pub no_candidates : (kind : Kind) (controls : List ℕ) (cap t p : ℕ) → candidates_in kind controls cap t p 0 ≡ []
@@ -105,9 +105,9 @@ kept_any : (P : ℕ → Bool) (xs : List ℕ) → list_any P xs ≡ true → 0 <
 kept_any P [] h = absurd (false≢true h)
 kept_any P (x ∷ xs) h = elim (cases_Bool (P x)) [ inl t ↦ rw t (omega arith) | inr f ↦ let h' = rw f at h in rw f (kept_any P xs h') ]
 
-pub mark_told : (told : Bool) (P : ℕ → Bool) (xs : List ℕ) → (told ≡ true) ↔ (0 < length (filter P xs)) → told ≡ list_any P xs
-mark_told told P xs h =
-    same_tests told (list_any P xs)
+pub mark_is_any : (is_marked : Bool) (P : ℕ → Bool) (xs : List ℕ) → (is_marked ≡ true) ↔ (0 < length (filter P xs)) → is_marked ≡ list_any P xs
+mark_is_any is_marked P xs h =
+    same_tests is_marked (list_any P xs)
     (λ t. any_kept P xs (h.0 t))
     (λ t. h.1 (kept_any P xs t))
 

@@ -6,11 +6,11 @@ use Rattle.rkyv_base.specs.Bytes.{signed_at}
 use Rattle.rkyv_table.specs.Table.Header.{decode_begin, cap_at}
 
 -- the computed begin of the buckets
-pub begin_is : (w : Width) (size : ℕ) (b : List ℕ) (p : ℕ) (distance told : ℤ) (cap n : ℕ) → FitsSigned w128 told
+pub begin_is : (w : Width) (size : ℕ) (b : List ℕ) (p : ℕ) (distance decoded : ℤ) (cap n : ℕ) → FitsSigned w128 decoded
     → distance ≡ signed_at w b p → cap ≡ cap_at w b p → n ≡ size
-    → told ≡ (pos p +ℤ distance) -ℤ pos (cap * n) → to_z w128 (of_z w128 told) ≡ decode_begin w size b p
-begin_is w size b p distance told cap n fits e f k h =
-    to_z-of_z w128 told fits ∙ h
+    → decoded ≡ (pos p +ℤ distance) -ℤ pos (cap * n) → to_z w128 (of_z w128 decoded) ≡ decode_begin w size b p
+begin_is w size b p distance decoded cap n fits e f k h =
+    to_z-of_z w128 decoded fits ∙ h
     ∙ ap (λ z. (pos p +ℤ z) -ℤ pos (cap * n)) e
     ∙ ap (λ m. (pos p +ℤ signed_at w b p) -ℤ pos (m * n)) f
     ∙ ap (λ m. (pos p +ℤ signed_at w b p) -ℤ pos (cap_at w b p * m)) k

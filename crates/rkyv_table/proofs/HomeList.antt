@@ -8,9 +8,9 @@ use Rattle.std.proofs.lemmas.List.FromFn.{length-map-range_with_len, get_or-map-
 use Rattle.std.proofs.lemmas.List.Sums.{fold-append, passes_at_first}
 use Rattle.std.proofs.lemmas.Bool.{cases_Bool, cases_lt, or_parts, eqb-true, lt-ltb, le-ltb, both_ways}
 use Rattle.rkyv_table.specs.Controls.Numbers.{tag, control_count}
-use Rattle.rkyv_table.specs.Controls.Probe.{shown}
+use Rattle.rkyv_table.specs.Controls.Probe.{probed}
 use Rattle.rkyv_table.specs.Controls.Placing.{is_free, Homes, with_home, homes, Written, bucket_control, written_controls}
-use Rattle.rkyv_table.proofs.FirstFree.{free_shown}
+use Rattle.rkyv_table.proofs.FirstFree.{free_probed}
 use Rattle.rkyv_table.proofs.Lists.{none_find}
 use Rattle.rkyv_table.proofs.Search.{cases_option, control_of}
 use Rattle.rkyv_table.proofs.Written.{first_within}
@@ -18,7 +18,7 @@ use Rattle.rkyv_table.proofs.WrittenStep.{free_bucket, homes_more}
 
 -- ---- home buckets
 
-with_home_is : (cap h b : ℕ) (taken : List ℕ) → find (is_free taken) (shown h cap) ≡ Some b → with_home cap taken h ≡ taken ++ b ∷ []
+with_home_is : (cap h b : ℕ) (taken : List ℕ) → find (is_free taken) (probed h cap) ≡ Some b → with_home cap taken h ≡ taken ++ b ∷ []
 unfolding with_home
 with_home_is cap h b taken e = ap (λ o. taken ++ unwrap_or o 0 ∷ []) e
 
@@ -41,11 +41,11 @@ homes_one_list cap hashes xs p =
     sym (take_all (length hashes) xs (omega arith)) ∙ sym f ∙ ap (homes cap) (take_all (length hashes) hashes (omega arith))
 
 -- fewer items than buckets leave a home bucket for the next item
-next_home : (cap h : ℕ) (taken : List ℕ) → length taken < cap → (b : ℕ) × (find (is_free taken) (shown h cap) ≡ Some b)
+next_home : (cap h : ℕ) (taken : List ℕ) → length taken < cap → (b : ℕ) × (find (is_free taken) (probed h cap) ≡ Some b)
 next_home cap h taken room =
     let f = free_bucket cap taken room in
-    elim (cases_option (find (is_free taken) (shown h cap))) [
-      | inl none ↦ absurd (both_ways (list_any (is_free taken) (shown h cap)) (none_find (is_free taken) (shown h cap) none) (free_shown h cap (is_free taken) f.0 f.1 f.2))
+    elim (cases_option (find (is_free taken) (probed h cap))) [
+      | inl none ↦ absurd (both_ways (list_any (is_free taken) (probed h cap)) (none_find (is_free taken) (probed h cap) none) (free_probed h cap (is_free taken) f.0 f.1 f.2))
       | inr some ↦ some
     ]
 

@@ -36,7 +36,7 @@ module _ {S A B : Type 0} (view : A → B) (rest : S → List B) where
       ]
 
 -- the input has the items of the list, as many as claimed
-module _ {X V R : Type 0} (yields : List X → Type 0) (other : ℕ → Type 0) (seen : List X → List V) (values : List V) (all : (items : List X) → yields items → seen items ≡ values)
+module _ {X V R : Type 0} (yields : List X → Type 0) (other : ℕ → Type 0) (value_of : List X → List V) (values : List V) (all : (items : List X) → yields items → value_of items ≡ values)
     (none : (n : ℕ) → other n → ⊥) (len : ℕ) (count : len ≡ length values) (factor : ℕ × ℕ) (max limit : ℕ) (f : Format (List V) R) (o o' : Output) where
   abbrev Whole : Format (List V) R
   Whole = listed max factor f
@@ -56,7 +56,7 @@ module _ {X V R : Type 0} (yields : List X → Type 0) (other : ℕ → Type 0) 
   own_applies (Refused c) h = absurd h
 
   pub answers_listed : {F : Type 0} (result : Result R (WriteError F))
-      → MatchResult result (WroteItems yields len factor max (written_as seen f) o o' limit) (WriteItemsFails yields len factor max (written_as seen f) o o' limit other)
+      → MatchResult result (WroteItems yields len factor max (written_as value_of f) o o' limit) (WriteItemsFails yields len factor max (written_as value_of f) o o' limit other)
       → MatchResult result (Serialized limit Whole values o o') (SerializeFails limit Whole values o o')
   answers_listed (Ok r) h =
       let x = subst (λ (vs : List V). Serialized limit f vs o o' r) (all h.1 h.2.0) h.3 in

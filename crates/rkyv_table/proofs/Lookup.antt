@@ -9,9 +9,9 @@ use Rattle.rkyv_table.specs.Controls.Numbers.{start, tag, control_count, probe_c
 use Rattle.rkyv_table.specs.Controls.Probe.{strides}
 use Rattle.rkyv_table.specs.Controls.ControlBytes.{IsFullBucket}
 use Rattle.rkyv_table.specs.Controls.StrideOutcome.{IsFullInStride}
-use Rattle.rkyv_table.specs.Controls.Placing.{Accepted, walk}
+use Rattle.rkyv_table.specs.Controls.Placing.{AreValidControls, walk}
 use Rattle.rkyv_scan.specs.Groups.{Kind, IsKind}
-use Rattle.rkyv_table.specs.Controls.Finding.{marked, candidates, shows_empty, ends_at, found, end}
+use Rattle.rkyv_table.specs.Controls.Finding.{marked, candidates, stride_has_empty, ends_at, found, end}
 use Rattle.rkyv_table.proofs.Coverage.{covered, has_stride, count_strides, stride_below}
 use Rattle.rkyv_table.proofs.Lists.{any_member, any_range, contains_member, none_find, some_find}
 use Rattle.rkyv_table.proofs.Search.{answer, answer_cons, control_of, mark_full}
@@ -26,20 +26,20 @@ module _ (kind : Kind) (controls : List ℕ) (cap t : ℕ) (accept : ℕ → Boo
       → (answer kind controls cap t accept qs ≡ Some b) × (end_index qs ≡ 0)
   ends_by_item p b ps qs q h =
       let k = some_find accept (candidates kind controls cap t p) b h in
-      let e : ends_at kind controls cap t accept p ≡ true = or_left (list_any accept (candidates kind controls cap t p)) (shows_empty controls p) k.0 in
+      let e : ends_at kind controls cap t accept p ≡ true = or_left (list_any accept (candidates kind controls cap t p)) (stride_has_empty controls p) k.0 in
       rw q (answer_cons kind controls cap t accept p ps ∙ rw e h, rw e refl)
 
-  pub ends_by_empty : (p : ℕ) (ps qs : List ℕ) → qs ≡ p ∷ ps → find accept (candidates kind controls cap t p) ≡ None → shows_empty controls p ≡ true
+  pub ends_by_empty : (p : ℕ) (ps qs : List ℕ) → qs ≡ p ∷ ps → find accept (candidates kind controls cap t p) ≡ None → stride_has_empty controls p ≡ true
       → (answer kind controls cap t accept qs ≡ None) × (end_index qs ≡ 0)
   ends_by_empty p ps qs q h s =
-      let e : ends_at kind controls cap t accept p ≡ true = or_right (list_any accept (candidates kind controls cap t p)) (shows_empty controls p) s in
+      let e : ends_at kind controls cap t accept p ≡ true = or_right (list_any accept (candidates kind controls cap t p)) (stride_has_empty controls p) s in
       rw q (answer_cons kind controls cap t accept p ps ∙ rw e h, rw e refl)
 
-  pub goes_on : (p : ℕ) (ps qs : List ℕ) → qs ≡ p ∷ ps → find accept (candidates kind controls cap t p) ≡ None → shows_empty controls p ≡ false
+  pub goes_on : (p : ℕ) (ps qs : List ℕ) → qs ≡ p ∷ ps → find accept (candidates kind controls cap t p) ≡ None → stride_has_empty controls p ≡ false
       → (answer kind controls cap t accept qs ≡ answer kind controls cap t accept ps) × (end_index qs ≡ 1 + end_index ps)
   goes_on p ps qs q h s =
       let k = none_find accept (candidates kind controls cap t p) h in
-      let e : ends_at kind controls cap t accept p ≡ false = or_from (list_any accept (candidates kind controls cap t p)) (shows_empty controls p) k s in
+      let e : ends_at kind controls cap t accept p ≡ false = or_from (list_any accept (candidates kind controls cap t p)) (stride_has_empty controls p) k s in
       rw q (answer_cons kind controls cap t accept p ps ∙ rw e refl, rw e refl)
 
 -- ---- valid control bytes have an empty bucket, so some stride ends the search
@@ -50,7 +50,7 @@ full_filter P (x ∷ xs) h =
     let u = or_parts (not (P x)) (list_any (λ x. not (P x)) xs) h in
     rw (not-false (P x) u.0) (ap suc (full_filter P xs u.1))
 
-pub empty_bucket : (cap len : ℕ) (controls : List ℕ) → Accepted cap len controls → (b : ℕ) × (b < cap) × (128 ≤ get_or controls b 0)
+pub empty_bucket : (cap len : ℕ) (controls : List ℕ) → AreValidControls cap len controls → (b : ℕ) × (b < cap) × (128 ≤ get_or controls b 0)
 unfolding walk
 empty_bucket cap len controls a =
     let P = λ (b : ℕ). ltb (get_or controls b 0) 128 in
@@ -68,9 +68,9 @@ empty_bucket cap len controls a =
       | inr f ↦ let e = full_filter P (range_with_len 0 cap) f in absurd (omega arith)
     ]
 
-pub ends_somewhere : (kind : Kind) (controls : List ℕ) (cap len h t : ℕ) (accept : ℕ → Bool) → Accepted cap len controls
+pub ends_somewhere : (kind : Kind) (controls : List ℕ) (cap len h t : ℕ) (accept : ℕ → Bool) → AreValidControls cap len controls
     → position_or_len (ends_at kind controls cap t accept) (strides h cap) < length (strides h cap)
-unfolding shows_empty
+unfolding stride_has_empty
 ends_somewhere kind controls cap len h t accept a =
     let w = empty_bucket cap len controls a in
     let pos : 0 < cap = omega (arith, w.1) in
@@ -82,11 +82,11 @@ ends_somewhere kind controls cap len h t accept a =
     let k = control_of cap controls q pos a.repeats v.5 (omega arith) in
     let e : 128 ≤ get_or controls q 0 = rw (k, v.6) w.2 in
     let s = any_range (λ q. leb 128 (get_or controls q 0)) p 16 q v.3 v.4 (le-leb 128 (get_or controls q 0) e) in
-    let d = or_right (list_any accept (candidates kind controls cap t p)) (shows_empty controls p) s in
+    let d = or_right (list_any accept (candidates kind controls cap t p)) (stride_has_empty controls p) s in
     first_within (ends_at kind controls cap t accept) (strides h cap) (any_member (ends_at kind controls cap t accept) p (strides h cap) v.2 d)
 
 -- a full control byte of a stride is that of a full bucket
-pub stride_full : (cap len : ℕ) (controls stride : List ℕ) (p q : ℕ) → Accepted cap len controls → p < probe_capacity cap → q < 16 → stride ≡ take 16 (drop p controls) → get_or stride q 0 < 128
+pub stride_full : (cap len : ℕ) (controls stride : List ℕ) (p q : ℕ) → AreValidControls cap len controls → p < probe_capacity cap → q < 16 → stride ≡ take 16 (drop p controls) → get_or stride q 0 < 128
     → (p + q < 2 * cap) × IsFullBucket cap controls ((p + q) % cap)
 stride_full cap len controls stride p q a lp lq e f =
     let room = a.room in
@@ -100,7 +100,7 @@ stride_full cap len controls stride p q a lp lq e f =
     ]
 
 -- the bucket of a full control byte of a stride
-pub shown_full : (cap len : ℕ) (controls stride : List ℕ) (p : ℕ) → Accepted cap len controls → p < probe_capacity cap → stride ≡ take 16 (drop p controls) → (b : ℕ) → IsFullInStride stride p cap b → IsFullBucket cap controls b
+pub shown_full : (cap len : ℕ) (controls stride : List ℕ) (p : ℕ) → AreValidControls cap len controls → p < probe_capacity cap → stride ≡ take 16 (drop p controls) → (b : ℕ) → IsFullInStride stride p cap b → IsFullBucket cap controls b
 shown_full cap len controls stride p a lp e b s = let k = stride_full cap len controls stride p s.0 a lp s.1 e s.2 in rw s.3 (k.1)
 
 pub found_is : (kind : Kind) (controls : List ℕ) (cap len h : ℕ) (accept : ℕ → Bool) → (len ≡ 0 → ⊥) → found kind controls cap len h accept ≡ answer kind controls cap (tag h) accept (strides h cap)
@@ -114,7 +114,7 @@ pub few_strides : (h cap : ℕ) → 0 < cap → control_count cap < 2 ^ 64 → l
 few_strides h cap pos c = let n = count_strides h cap pos in omega arith
 
 -- the bound: at most one stride for sixteen indices
-pub end_within : (kind : Kind) (controls : List ℕ) (cap len h : ℕ) (accept : ℕ → Bool) → (0 < len → Accepted cap len controls) → end kind controls cap len h accept ≤ probe_capacity cap / 16
+pub end_within : (kind : Kind) (controls : List ℕ) (cap len h : ℕ) (accept : ℕ → Bool) → (0 < len → AreValidControls cap len controls) → end kind controls cap len h accept ≤ probe_capacity cap / 16
 end_within kind controls cap len h accept a = elim (cases_eq len 0) [
   | inl z ↦ rw (eq-eqb len 0 z) (omega arith)
   | inr n ↦
@@ -127,7 +127,7 @@ end_within kind controls cap len h accept a = elim (cases_eq len 0) [
 ]
 
 -- the bucket of a marked index is in the walk
-pub marked_walked : (kind : Kind) (cap len h t p q : ℕ) (controls : List ℕ) → IsKind kind → Accepted cap len controls → t < 128 → Contains (strides h cap) p → p ≤ q → q < p + 16
+pub marked_walked : (kind : Kind) (cap len h t p q : ℕ) (controls : List ℕ) → IsKind kind → AreValidControls cap len controls → t < 128 → Contains (strides h cap) p → p ≤ q → q < p + 16
     → marked kind controls t p q ≡ true → (q < 2 * cap) × Contains (walk controls cap) (q % cap)
 marked_walked kind cap len h t p q controls law a small here lo hi mark =
     let room = a.room in

@@ -12,9 +12,9 @@ use Rattle.std.proofs.lemmas.Option.{none-some, same_Some, slice_get-get_or}
 use Rattle.std.proofs.lemmas.Bool.{cases_Bool, cases_eq, cases_lt, and_parts, and_from, eq-eqb, eqb-true, ne_eqb, not-false, or_left, or_right, true≢false}
 use Rattle.rkyv_scan.specs.Groups.{Kind, IsKind, is_full}
 use Rattle.rkyv_table.specs.Controls.Finding.{marked, candidates, ends_at, found}
-use Rattle.rkyv_table.specs.Table.Misplaced.{AloneAccepted, AsksForOne, IsSameness, NoneAccepted, is_answer, is_misplaced, misplaced, repeated, repeats_earlier}
+use Rattle.rkyv_table.specs.Table.Misplaced.{AloneAccepted, AcceptsSame, IsSameness, NoneAccepted, is_found_at, is_misplaced, misplaced, repeated, repeats_earlier}
 use Rattle.rkyv_table.specs.Controls.Numbers.{tag}
-use Rattle.rkyv_table.specs.Controls.Placing.{Accepted, Written, walk}
+use Rattle.rkyv_table.specs.Controls.Placing.{AreValidControls, Written, walk}
 use Rattle.rkyv_table.specs.Controls.Probe.{strides}
 use Rattle.rkyv_table.proofs.Lists.{any_filter, any_map_filter, any_member, contains_member, distinct_filter, member_contains, some_find}
 use Rattle.rkyv_table.proofs.Lookup.{found_is, marked_walked}
@@ -42,7 +42,7 @@ find_agree P Q [] on = refl
 find_agree P Q (x ∷ xs) on =
     rw (on x (or_left (eqb x x) (list_any (eqb x) xs) (eq-eqb x x refl)), find_agree P Q xs (λ y m. on y (or_right (eqb y x) (list_any (eqb y) xs) m))) refl
 
-module _ (kind : Kind) (cap len h : ℕ) (controls : List ℕ) (law : IsKind kind) (accepted : Accepted cap len controls) (fits : h < 2 ^ 64) where
+module _ (kind : Kind) (cap len h : ℕ) (controls : List ℕ) (law : IsKind kind) (accepted : AreValidControls cap len controls) (fits : h < 2 ^ 64) where
   candidate_walked : (p b : ℕ) → list_any (eqb p) (strides h cap) ≡ true → list_any (eqb b) (candidates kind controls cap (tag h) p) ≡ true → Contains (walk controls cap) b
   unfolding candidates
   candidate_walked p b here c =
@@ -110,20 +110,20 @@ none_filtered P xs x e m = elim (cases_Bool (P x)) [
       absurd (true≢false (sym k ∙ ap (list_any (eqb x)) n))
 ]
 
-answer_is : (b : ℕ) (o : Option ℕ) → is_answer b o ≡ true → o ≡ Some b
+answer_is : (b : ℕ) (o : Option ℕ) → is_found_at b o ≡ true → o ≡ Some b
 answer_is b None e = absurd (true≢false (sym e))
 answer_is b (Some x) e = ap Some (sym (eqb-true b x e))
 
-module _ (kind : Kind) (cap len hash : ℕ) (controls : List ℕ) (accept : ℕ → Bool) (hash_at : ℕ → ℕ) (same_at : ℕ → ℕ → Bool) (law : IsKind kind) (accepted : Accepted cap len controls)
-    (fits : hash < 2 ^ 64) (none : misplaced kind controls cap len hash_at same_at ≡ 0) (asks : AsksForOne controls cap hash accept hash_at same_at) where
+module _ (kind : Kind) (cap len hash : ℕ) (controls : List ℕ) (accept : ℕ → Bool) (hash_at : ℕ → ℕ) (same_at : ℕ → ℕ → Bool) (law : IsKind kind) (accepted : AreValidControls cap len controls)
+    (fits : hash < 2 ^ 64) (none : misplaced kind controls cap len hash_at same_at ≡ 0) (accepts_same : AcceptsSame controls cap hash accept hash_at same_at) where
   found_itself : (b : ℕ) → Contains (walk controls cap) b → accept b ≡ true → found kind controls cap len hash accept ≡ Some b
   found_itself b here ok =
       let P = is_misplaced kind controls cap len hash_at same_at in
       let f : P b ≡ false = none_filtered P (walk controls cap) b none (contains_member b (walk controls cap) here) in
       let own : found kind controls cap len (hash_at b) (same_at b) ≡ Some b =
-      answer_is b (found kind controls cap len (hash_at b) (same_at b)) (not-false (is_answer b (found kind controls cap len (hash_at b) (same_at b))) f) in
-      found_agree kind cap len hash controls law accepted fits accept (same_at b) (λ d there. asks.same b d here there ok)
-      ∙ ap (λ z. found kind controls cap len z (same_at b)) (sym (asks.hashed b here ok)) ∙ own
+      answer_is b (found kind controls cap len (hash_at b) (same_at b)) (not-false (is_found_at b (found kind controls cap len (hash_at b) (same_at b))) f) in
+      found_agree kind cap len hash controls law accepted fits accept (same_at b) (λ d there. accepts_same.same b d here there ok)
+      ∙ ap (λ z. found kind controls cap len z (same_at b)) (sym (accepts_same.hashed b here ok)) ∙ own
 
   pub complete : MatchOption (found kind controls cap len hash accept) (NoneAccepted controls cap accept) (AloneAccepted controls cap accept)
   complete = elim (cases_option (found kind controls cap len hash accept)) [
@@ -205,7 +205,7 @@ module _ (kind : Kind) (cap : ℕ) (hashes homes controls : List ℕ) (hash_at :
       let b = get_or homes i 0 in
       let k = own_first i h in
       let t : length (take i homes) ≡ i = length-take i homes ∙ omega arith in
-      ap (λ o. not (is_answer b o)) k.3 ∙ elim (cases_eq k.0 i) [
+      ap (λ o. not (is_found_at b o)) k.3 ∙ elim (cases_eq k.0 i) [
         | inl e ↦
             rw (eq-eqb b (get_or homes k.0 0) (ap (λ z. get_or homes z 0) (sym e)))
             (sym (none_before i h (λ j lj. k.4 j (omega (arith, e)))))

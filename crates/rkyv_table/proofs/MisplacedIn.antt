@@ -7,7 +7,7 @@ use Rattle.std.proofs.lemmas.List.Sums.{sum_by-cons}
 use Rattle.rkyv_base.specs.declared.view.View.{View}
 use Rattle.rkyv_scan.specs.Groups.{generic_kind}
 use Rattle.rkyv_table.specs.Controls.Finding.{ReadsWithin}
-use Rattle.rkyv_table.specs.Table.MisplacedIn.{ComparesAs, ComparesItems, CountsOwn, HashesAs, TellsMisplaced, bucket_misplaced}
+use Rattle.rkyv_table.specs.Table.MisplacedIn.{ComparesAs, ComparesItems, CountsOwn, HashesAs, ReturnsMisplaced, bucket_misplaced}
 use Rattle.rkyv_table.specs.Table.MisplacedIn.{bucket_strides, table_misplaced, table_strides}
 use Rattle.rkyv_table.specs.Table.Reading.{IsItemIn, item_pos}
 use Rattle.rkyv_table.specs.declared.table.ArchivedHashTable.{ArchivedHashTable}
@@ -34,16 +34,16 @@ module _ {T W : Type 0} {ts : Specs T} {wt : Words W} (t : ArchivedHashTable T W
   Counting count left = (hash_of : ℕ → ℕ) (same : ℕ → ℕ → Bool) → HashesAs hashes t hash_of → ComparesAs compares t same
       → count + length (filter (bucket_misplaced generic_kind t hash_of same) left) ≡ table_misplaced generic_kind t hash_of same
 
-  module _ (count bucket : ℕ) (buckets left : List ℕ) (steps : buckets ≡ bucket ∷ left) (told : Bool) (tells : TellsMisplaced hashes compares t bucket told) (before : Counting count buckets) where
-    pub counted_one : told ≡ true → Counting (count + 1) left
+  module _ (count bucket : ℕ) (buckets left : List ℕ) (steps : buckets ≡ bucket ∷ left) (returned : Bool) (exact : ReturnsMisplaced hashes compares t bucket returned) (before : Counting count buckets) where
+    pub counted_one : returned ≡ true → Counting (count + 1) left
     counted_one hit = λ hash_of same hash_as same_as.
-        let n = count_taken (bucket_misplaced generic_kind t hash_of same) bucket buckets left steps (sym (tells hash_of same hash_as same_as) ∙ hit) in
+        let n = count_taken (bucket_misplaced generic_kind t hash_of same) bucket buckets left steps (sym (exact hash_of same hash_as same_as) ∙ hit) in
         let e = before hash_of same hash_as same_as in
         omega (arith, n, e)
 
-    pub counted_none : told ≡ false → Counting count left
+    pub counted_none : returned ≡ false → Counting count left
     counted_none miss = λ hash_of same hash_as same_as.
-        let n = count_passed (bucket_misplaced generic_kind t hash_of same) bucket buckets left steps (sym (tells hash_of same hash_as same_as) ∙ miss) in
+        let n = count_passed (bucket_misplaced generic_kind t hash_of same) bucket buckets left steps (sym (exact hash_of same hash_as same_as) ∙ miss) in
         let e = before hash_of same hash_as same_as in
         omega (arith, n, e)
 

@@ -96,9 +96,9 @@ placed_one_way cap pairs slots slots' controls controls' some t t' =
 
 module _ (w : Width) (len cap z p : ℕ) (out out' : List ℕ) (h : IsHeader w len cap z p out) (h' : IsHeader w len cap z p out') where
   distance_one_way : h.distance ≡ h'.distance
-  distance_one_way = elim h.told [
-    | inl none ↦ elim h'.told [ inl none' ↦ none.1 ∙ sym none'.1 | inr some' ↦ absurd (omega (arith, none.0, some'.0)) ]
-    | inr some ↦ elim h'.told [ inl none' ↦ absurd (omega (arith, some.0, none'.0)) | inr some' ↦ some.1 ∙ sym some'.1 ]
+  distance_one_way = elim h.distance_value [
+    | inl none ↦ elim h'.distance_value [ inl none' ↦ none.1 ∙ sym none'.1 | inr some' ↦ absurd (omega (arith, none.0, some'.0)) ]
+    | inr some ↦ elim h'.distance_value [ inl none' ↦ absurd (omega (arith, some.0, none'.0)) | inr some' ↦ some.1 ∙ sym some'.1 ]
   ]
 
   header_one_way : out ≡ out'

@@ -4,7 +4,7 @@ use Rattle.std.specs.List.{find, list_any, position_or_len}
 use Rattle.std.specs.Option.{option_and_then}
 use Rattle.rkyv_scan.specs.Groups.{generic_kind, is_word_match_at}
 use Rattle.rkyv_scan.specs.Paired.{paired_kind}
-use Rattle.rkyv_table.specs.Controls.Finding.{candidates, end, found, marked, shows_empty}
+use Rattle.rkyv_table.specs.Controls.Finding.{candidates, end, found, marked, stride_has_empty}
 use Rattle.rkyv_table.specs.Controls.Numbers.{tag}
 use Rattle.rkyv_table.specs.Controls.Probe.{strides}
 use Rattle.rkyv_table.proofs.Groups.{group_of}
@@ -28,10 +28,10 @@ candidates_alike controls cap t p =
 
 pub found_paired : (controls : List ℕ) (cap len hash : ℕ) (accept : ℕ → Bool) → found paired_kind controls cap len hash accept ≡ found generic_kind controls cap len hash accept
 found_paired controls cap len hash accept =
-    ap (λ (cands : ℕ → List ℕ). cond (eqb len 0) None (option_and_then (λ p. find accept (cands p)) (find (λ p. list_any accept (cands p) || shows_empty controls p) (strides hash cap))))
+    ap (λ (cands : ℕ → List ℕ). cond (eqb len 0) None (option_and_then (λ p. find accept (cands p)) (find (λ p. list_any accept (cands p) || stride_has_empty controls p) (strides hash cap))))
     (λ i. λ p. candidates_alike controls cap (tag hash) p i)
 
 pub end_paired : (controls : List ℕ) (cap len hash : ℕ) (accept : ℕ → Bool) → end paired_kind controls cap len hash accept ≡ end generic_kind controls cap len hash accept
 end_paired controls cap len hash accept =
-    ap (λ (cands : ℕ → List ℕ). cond (eqb len 0) 0 (suc (position_or_len (λ p. list_any accept (cands p) || shows_empty controls p) (strides hash cap))))
+    ap (λ (cands : ℕ → List ℕ). cond (eqb len 0) 0 (suc (position_or_len (λ p. list_any accept (cands p) || stride_has_empty controls p) (strides hash cap))))
     (λ i. λ p. candidates_alike controls cap (tag hash) p i)

@@ -10,7 +10,7 @@ use Rattle.rkyv_table.specs.Table.Passing.{HoldsAround, WrittenTablesPass}
 use Rattle.std.proofs.Common.{List}
 
 -- a value that is valid in a range is valid in each range around it
-pub holds_around : (s : ElementSpec) → IsElement s → (c : List ℕ) (p begin end l : ℕ) → begin ≤ end → s.holds c p begin end l → HoldsAround s c p begin end
+pub holds_around : (s : ElementSpec) → IsElement s → (c : List ℕ) (p begin end l : ℕ) → begin ≤ end → s.is_valid c p begin end l → HoldsAround s c p begin end
 holds_around s law c p begin end l o h lo hi below above =
     let d = law.lower_lo c p begin lo end l below o h in
     let b = law.rest_in_range c p begin end l o h in

@@ -9,10 +9,10 @@ use Rattle.std.proofs.lemmas.List.Folds.{list_any-append}
 use Rattle.std.proofs.lemmas.Option.{slice_get_within, same_Some, none-some}
 use Rattle.std.proofs.lemmas.Bool.{or_parts, not-true, not_from_false, both_ways, eq-eqb, leb-true}
 use Rattle.rkyv_table.specs.Controls.Numbers.{tag}
-use Rattle.rkyv_table.specs.Controls.Probe.{shown, strides}
+use Rattle.rkyv_table.specs.Controls.Probe.{probed, strides}
 use Rattle.rkyv_table.specs.Controls.ControlBytes.{HasRoom, fresh_controls, is_empty_at, with_control}
 use Rattle.rkyv_table.specs.Controls.Placing.{is_free, Written}
-use Rattle.rkyv_table.proofs.Written.{shown_below}
+use Rattle.rkyv_table.proofs.Written.{probed_below}
 use Rattle.rkyv_table.proofs.WrittenStep.{one_more, fresh, room_left, free_empty}
 use Rattle.rkyv_table.proofs.Lists.{some_find}
 use Rattle.rkyv_table.specs.Table.Slots.{filled}
@@ -95,8 +95,8 @@ module _ {X : Type 0} (cap : ℕ) (homes : List ℕ) (items : List X) (slots : L
 
 module _ {X : Type 0} (cap : ℕ) (pairs : List (ℕ × X)) (slots : List (Option X)) (controls : List ℕ) where
   -- the first empty bucket that a hash shows has a slot
-  pub bucket_inside : 0 < cap → Placed cap pairs slots controls → (h b : ℕ) → find (is_empty_at controls) (shown h cap) ≡ Some b → b < length slots
-  bucket_inside pos p h b e = omega (arith, shown_below (is_empty_at controls) cap b (strides h cap) pos e, p.slotted.count)
+  pub bucket_inside : 0 < cap → Placed cap pairs slots controls → (h b : ℕ) → find (is_empty_at controls) (probed h cap) ≡ Some b → b < length slots
+  bucket_inside pos p h b e = omega (arith, probed_below (is_empty_at controls) cap b (strides h cap) pos e, p.slotted.count)
 
   -- some bucket is empty
   pub placed_room : Placed cap pairs slots controls → length pairs < cap → HasRoom cap controls
@@ -105,14 +105,14 @@ module _ {X : Type 0} (cap : ℕ) (pairs : List (ℕ × X)) (slots : List (Optio
       room_left cap (hashes_of pairs) p.homes controls p.written (λ j l. p.hashes j 0 l) (omega arith)
 
   module _ (h b : ℕ) (x : X) where
-    pub placed_more : 0 < cap → Placed cap pairs slots controls → h < 2 ^ 64 → find (is_empty_at controls) (shown h cap) ≡ Some b
+    pub placed_more : 0 < cap → Placed cap pairs slots controls → h < 2 ^ 64 → find (is_empty_at controls) (probed h cap) ≡ Some b
         → Placed cap (pairs ++ (h, x) ∷ []) (set slots b (Some x)) (with_control controls cap b (tag h))
     placed_more pos p hh e =
         let homes : List ℕ = p.homes in
         let w = p.written in
         let fits : (j : ℕ) → j < length (hashes_of pairs) → get_or (hashes_of pairs) j 0 < 2 ^ 64 = λ j l. p.hashes j 0 l in
-        let hb : b < cap = shown_below (is_empty_at controls) cap b (strides h cap) pos e in
-        let fb = leb-true 128 (get_or controls b 0) (some_find (is_empty_at controls) (shown h cap) b e).1 in
+        let hb : b < cap = probed_below (is_empty_at controls) cap b (strides h cap) pos e in
+        let fb = leb-true 128 (get_or controls b 0) (some_find (is_empty_at controls) (probed h cap) b e).1 in
         let apart : (i : ℕ) → i < length homes → get_or homes i 0 ≢ b = λ i l z. (
         let n = w.placed.count in
         let li : i < length (hashes_of pairs) = omega arith in
@@ -125,7 +125,7 @@ module _ {X : Type 0} (cap : ℕ) (pairs : List (ℕ × X)) (slots : List (Optio
         let mh : hashes_of (pairs ++ (h, x) ∷ []) ≡ hashes_of pairs ++ h ∷ [] = map-append (λ (y : ℕ × X). y.0) pairs ((h, x) ∷ []) in
         let mi : items_of (pairs ++ (h, x) ∷ []) ≡ items_of pairs ++ x ∷ [] = map-append (λ (y : ℕ × X). y.1) pairs ((h, x) ∷ []) in
         let w' : Written cap (hashes_of pairs ++ h ∷ []) (homes ++ b ∷ []) (with_control controls cap b (tag h)) = one_more cap h b (hashes_of pairs) homes controls pos w fits hh e in
-        let s' : Slotted cap (homes ++ b ∷ []) (items_of pairs ++ x ∷ []) (set slots b (Some x)) = slotted_more cap homes (items_of pairs) slots b x p.slotted hb (free_empty cap (hashes_of pairs) homes controls b w fits hb ∙ (some_find (is_empty_at controls) (shown h cap) b e).1) apart in
+        let s' : Slotted cap (homes ++ b ∷ []) (items_of pairs ++ x ∷ []) (set slots b (Some x)) = slotted_more cap homes (items_of pairs) slots b x p.slotted hb (free_empty cap (hashes_of pairs) homes controls b w fits hb ∙ (some_find (is_empty_at controls) (probed h cap) b e).1) apart in
         let f' : AreHashes (hashes_of pairs ++ h ∷ []) = fit_more (hashes_of pairs) h p.hashes hh in
         record {
           homes = homes ++ b ∷ [];

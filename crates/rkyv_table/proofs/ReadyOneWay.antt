@@ -26,8 +26,8 @@ units_one_way = record {
   image = λ v begin p part out out' r t h h'. h ∙ sym h';
 }
 
-pub seen_one_way : {X V R : Type 0} (seen : X → V) (f : Format V R) → WritesOneWay f → WritesOneWay (written_as seen f)
-seen_one_way seen f one = record { parts = λ x. one.parts (seen x); image = λ x. one.image (seen x) }
+pub written_as_one_way : {X V R : Type 0} (value_of : X → V) (f : Format V R) → WritesOneWay f → WritesOneWay (written_as value_of f)
+written_as_one_way value_of f one = record { parts = λ x. one.parts (value_of x); image = λ x. one.image (value_of x) }
 
 module _ (w : Width) (kind : IsArchiveWord w) (t : List ℕ) where
   limit_above : text_size w < text_limit w

@@ -124,7 +124,7 @@ module _ {T : Type 0} (w : Width) (s : ElementSpec) (p i q : ℕ) (before after 
       let header = cursor_table.header in (
         cursor_table,
         record {
-          table = viewable_kept (table_spec w s) before.archive.now after.archive.now p sealed.same_length cursor_table.holds is.table;
+          table = viewable_kept (table_spec w s) before.archive.now after.archive.now p sealed.same_length cursor_table.is_valid is.table;
           cap = there.cap ∙ is.cap ∙ cap_same w before.archive.now after.archive.now p header;
           buckets_end = λ h. there.buckets_end ∙ is.buckets_end (subst (λ n. 0 < n) there.cap h) ∙ pos_same w before.archive.now after.archive.now p header;
           left = there.left ∙ is.left ∙ ap length (sym cursor_buckets);

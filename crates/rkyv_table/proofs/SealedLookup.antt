@@ -16,7 +16,7 @@ use Rattle.rkyv_table.specs.Table.Reading.{FindsFirst, FindsFound, IsItemPos}
 use Rattle.rkyv_table.specs.Table.SealedLookup.{IsItemSeal, IsReadAt, IsTableSeal, SealsFirst, SealsFound}
 use Rattle.rkyv_table.specs.declared.table.ArchivedHashTable.{ArchivedHashTable}
 use Rattle.rkyv_table.specs.declared.table.TableOf.{TableOf}
-use Rattle.rkyv_table.proofs.Bare.{answers_of}
+use Rattle.rkyv_table.proofs.Bare.{compares_by_of}
 use Rattle.rkyv_table.proofs.ValidTable.{item_viewable}
 use Rattle.rkyv_table.proofs.SealedTable.{table_kept}
 
@@ -43,11 +43,11 @@ module _ {T W : Type 0} {ts : Specs T} {wt : Words W} (law : IsElement ts.spec) 
 
   module _ (post : View T → Bool → Type 0) (hash : ℕ) (result : Option ℕ) where
     pub seals_found : FindsFound post generic_kind t hash result → SealsFound post wt.word ts.spec a hash result
-    seals_found found accept answers =
+    seals_found found accept compares =
         let P = λ (b : List ℕ) (p : ℕ). result ≡ pos_found generic_kind wt.word ts.spec.size b p hash accept in
-        subst (P (archive_in a)) read.1 (subst (λ b. P b t.view.pos) read.0 (found accept (answers_of (archive_in a) (pos_in a) t read.0 read.1 post accept answers)))
+        subst (P (archive_in a)) read.1 (subst (λ b. P b t.view.pos) read.0 (found accept (compares_by_of (archive_in a) (pos_in a) t read.0 read.1 post accept compares)))
 
     pub seals_first : FindsFirst post t hash result → SealsFirst post wt.word ts.spec a hash result
-    seals_first first hashes homes accept written answers under =
+    seals_first first hashes homes accept written compares under =
         let P = λ (b : List ℕ) (p : ℕ). WrittenAt wt.word b p hashes homes → IsUnderHash hash hashes (home_positions wt.word ts.spec.size b p homes) accept → result ≡ find accept (home_positions wt.word ts.spec.size b p homes) in
-        subst (P (archive_in a)) read.1 (subst (λ b. P b t.view.pos) read.0 (λ x y. first hashes homes accept x (answers_of (archive_in a) (pos_in a) t read.0 read.1 post accept answers) y)) written under
+        subst (P (archive_in a)) read.1 (subst (λ b. P b t.view.pos) read.0 (λ x y. first hashes homes accept x (compares_by_of (archive_in a) (pos_in a) t read.0 read.1 post accept compares) y)) written under

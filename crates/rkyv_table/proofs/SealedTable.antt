@@ -10,7 +10,7 @@ use Rattle.rkyv_base.specs.Entry.{entry_spec, whole_size}
 use Rattle.rkyv_base.specs.Lemmas.Entry.{entry_element, key_and_value_inside, size_of_small}
 use Rattle.rkyv_base.specs.Sealing.{Keeps, Outside, Sealed, value_pos}
 use Rattle.rkyv_base.specs.ElementSpec.{IsElement, ElementSpec, Viewable}
-use Rattle.rkyv_base.proofs.Sealing.{entry_kept, holds_outside, same_outside, sealed_wider}
+use Rattle.rkyv_base.proofs.Sealing.{entry_kept, valid_outside, same_outside, sealed_wider}
 use Rattle.rkyv_table.proofs.SameTable.{written_there}
 use Rattle.rkyv_table.proofs.ValidTable.{item_viewable, part_of}
 use Rattle.rkyv_table.specs.Table.Positions.{IsWalked, WrittenAt, bucket_found, item_at}
@@ -23,7 +23,7 @@ use Rattle.rkyv_table.specs.Lemmas.ItemPositions.{HeldPart, bucket_holds_within,
 use Rattle.rkyv_table.specs.Controls.Numbers.{control_count}
 use Rattle.rkyv_table.specs.Table.Places.{AllHold}
 use Rattle.rkyv_table.specs.Lemmas.PlaceLaws.{AllBelow, range_below}
-use Rattle.rkyv_table.specs.Controls.Placing.{Accepted, walk}
+use Rattle.rkyv_table.specs.Controls.Placing.{AreValidControls, walk}
 use Rattle.rkyv_table.specs.Table.Layout.{IsPart, TableAt, bucket_at, controls_at, table_spec}
 use Rattle.rkyv_table.specs.Lemmas.SameHeader.{begin_same, cap_same, item_same, len_same, pos_same}
 use Rattle.rkyv_table.specs.Lemmas.TableLaws.{bucket_inside, of_numbers}
@@ -47,9 +47,9 @@ module _ (s : ElementSpec) (law : IsElement s) (b c : List ℕ) (begin cap i : �
   items_kept [] lo l o below h = h
   items_kept (j ∷ is) lo l o below h =
       let k : (lo ≤ h.0) × (h.0 ≤ begin) = law.rest_in_range b (at j) lo begin h.0 o h.1 in
-      let here : s.holds c (at j) lo begin h.0 = elim (cases_eq j i) [
-        | inl e ↦ subst (λ z. s.holds c (at z) lo begin h.0) (sym e) (keeps lo begin h.0 o (omega arith) (subst (λ z. s.holds b (at z) lo begin h.0) e h.1))
-        | inr ne ↦ holds_outside s law b c (at i) s.size sealed (at j) lo begin h.0 o (buckets_apart s.size begin cap i j walked below.0 ne) (inl (omega (arith, k.1))) h.1
+      let here : s.is_valid c (at j) lo begin h.0 = elim (cases_eq j i) [
+        | inl e ↦ subst (λ z. s.is_valid c (at z) lo begin h.0) (sym e) (keeps lo begin h.0 o (omega arith) (subst (λ z. s.is_valid b (at z) lo begin h.0) e h.1))
+        | inr ne ↦ valid_outside s law b c (at i) s.size sealed (at j) lo begin h.0 o (buckets_apart s.size begin cap i j walked below.0 ne) (inl (omega (arith, k.1))) h.1
       ] in
       (h.0, here, items_kept is h.0 l k.1 below.1 h.2)
 
@@ -63,21 +63,21 @@ module _ (s : ElementSpec) (law : IsElement s) (b c : List ℕ) (begin cap i : �
   part_kept len lo o is =
       let items = items_kept (walk (controls_at s.size b begin cap) cap) lo is.last o (range_below (λ k. is_full (slice_index (controls_at s.size b begin cap) k)) cap) is.items in
       record {
-        controls = subst (Accepted cap len) controls_kept is.controls;
+        controls = subst (AreValidControls cap len) controls_kept is.controls;
         last = is.last;
         items = subst (λ (x : List ℕ). AllHold s at c begin (walk x cap) lo is.last) controls_kept items;
       }
 
 -- the item in a full bucket has its parts before the buckets
 parts_before : (w : Width) (s : ElementSpec) (law : IsElement s) (b : List ℕ) (p e : ℕ) (t : HeldPart w s b p 0 p e) (j l : ℕ) → IsWalked w b p j
-    → s.holds b (bucket_at s.size t.begin (cap_at w b p) j) 0 (bucket_at s.size t.begin (cap_at w b p) j) l → l ≤ t.begin
+    → s.is_valid b (bucket_at s.size t.begin (cap_at w b p) j) 0 (bucket_at s.size t.begin (cap_at w b p) j) l → l ≤ t.begin
 parts_before w s law b p e t j l walked h =
     let cap = cap_at w b p in
     let q = bucket_at s.size t.begin cap j in
     let full : slice_index (controls_at s.size b t.begin cap) j < 128 = subst (λ (xs : List ℕ). slice_index xs j < 128) (decoded_controls w s.size b p t.begin t.part.begins) walked.1 in
     let one = bucket_holds_within s law b t.begin cap 0 t.is.last j (omega arith) t.is.items walked.0 full in
-    let d : (l' : ℕ) × s.holds b q 0 t.begin l' × (l' ≤ one.rest) = law.lower_lo b q one.lower 0 t.begin one.rest (omega arith) one.below one.holds in
-    let k = law.rest_in_range b q one.lower t.begin one.rest one.below one.holds in
+    let d : (l' : ℕ) × s.is_valid b q 0 t.begin l' × (l' ≤ one.rest) = law.lower_lo b q one.lower 0 t.begin one.rest (omega arith) one.below one.is_valid in
+    let k = law.rest_in_range b q one.lower t.begin one.rest one.below one.is_valid in
     let same : l ≡ d.0 = law.rest_unique b q 0 q l d.0 h (law.widen_hi b q 0 t.begin q d.0 (omega arith) d.1) in
     omega (arith, same, d.2, k.1)
 
@@ -130,7 +130,7 @@ module _ (w : Width) (s : ElementSpec) (law : IsElement s) (b : List ℕ) (p i :
       let same = header_same in
       let caps = sym (cap_same w b c p same) in
       record {
-        holds = λ lo hi l o o' h. of_numbers s c (begin_same w b c p same s.size) (cap_same w b c p same) (len_same w b c p same) (at_kept lo hi l h);
+        is_valid = λ lo hi l o o' h. of_numbers s c (begin_same w b c p same s.size) (cap_same w b c p same) (len_same w b c p same) (at_kept lo hi l h);
         header = same;
         controls =
             ap (λ z. slice_range c z (z + control_count (cap_at w c p))) (sym (pos_same w b c p same))

@@ -11,7 +11,7 @@ use Rattle.rkyv_table.specs.Controls.Numbers.{start, modulus, control_count, pro
 use Rattle.rkyv_table.specs.Controls.Probe.{probe_place, strides, buckets_at}
 use Rattle.rkyv_table.specs.Controls.Placing.{IsWrapped}
 use Rattle.rkyv_scan.specs.Groups.{Kind, IsKind}
-use Rattle.rkyv_table.specs.Controls.Finding.{marked, candidates, shows_empty, ends_at}
+use Rattle.rkyv_table.specs.Controls.Finding.{marked, candidates, stride_has_empty, ends_at}
 use Rattle.rkyv_table.proofs.Coverage.{has_stride, mod_more}
 use Rattle.rkyv_table.proofs.Modulus.{modulus_power}
 use Rattle.rkyv_table.proofs.Lists.{none_find, some_find}
@@ -95,7 +95,7 @@ mark_full kind law controls t p q ht le e =
 -- ---- the walk over the strides, for any tests
 
 pub record GoodStride (cap b : ℕ) (free accept : ℕ → Bool) (kind : Kind) (controls : List ℕ) (t p : ℕ) : Type 0 where
-  pub passes : find free (buckets_at cap p) ≡ None → (find accept (candidates kind controls cap t p) ≡ None) × (shows_empty controls p ≡ false)
+  pub passes : find free (buckets_at cap p) ≡ None → (find accept (candidates kind controls cap t p) ≡ None) × (stride_has_empty controls p ≡ false)
   pub hits : find free (buckets_at cap p) ≡ Some b → find accept (candidates kind controls cap t p) ≡ Some b
 
 abbrev pub answer : Kind → List ℕ → ℕ → ℕ → (ℕ → Bool) → List ℕ → Option ℕ
@@ -115,7 +115,7 @@ walk_on cap b free accept kind controls t p ps good rest h =
       | inl none ↦
           let g = good.passes none in
           let k = none_find accept (candidates kind controls cap t p) g.0 in
-          let e : ends_at kind controls cap t accept p ≡ false = or_from (list_any accept (candidates kind controls cap t p)) (shows_empty controls p) k g.1 in
+          let e : ends_at kind controls cap t accept p ≡ false = or_from (list_any accept (candidates kind controls cap t p)) (stride_has_empty controls p) k g.1 in
           let h'' = rw none at h' in
           rw e (rest none h'')
       | inr some ↦
@@ -124,7 +124,7 @@ walk_on cap b free accept kind controls t p ps good rest h =
           let same : x ≡ b = same_Some x b h'' in
           let g = good.hits (some.1 ∙ ap Some same) in
           let k = some_find accept (candidates kind controls cap t p) b g in
-          let e : ends_at kind controls cap t accept p ≡ true = or_left (list_any accept (candidates kind controls cap t p)) (shows_empty controls p) k.0 in
+          let e : ends_at kind controls cap t accept p ≡ true = or_left (list_any accept (candidates kind controls cap t p)) (stride_has_empty controls p) k.0 in
           rw e g
     ])
 

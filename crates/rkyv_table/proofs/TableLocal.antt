@@ -42,8 +42,8 @@ module _ {X : Type 0} (w : Width) (s : ElementSpec) (laws : IsElement s) (repres
         let inside = bucket_inside s.size begin cap k below in
         let at : ℕ = bucket_at s.size begin cap k in
         let end : ℕ = begin + part_size s.size cap in
-        let w1 = laws.rest_in_range b at h.lower begin h.rest h.below h.holds in
-        local x b c at h.lower begin h.rest h.below h.holds (agree_on_part b c lo end at (at + s.size) (omega (arith, inside.0, o)) (omega (arith, inside.1)) (omega arith) same)
+        let w1 = laws.rest_in_range b at h.lower begin h.rest h.below h.is_valid in
+        local x b c at h.lower begin h.rest h.below h.is_valid (agree_on_part b c lo end at (at + s.size) (omega (arith, inside.0, o)) (omega (arith, inside.1)) (omega arith) same)
         (agree_on_part b c lo end h.lower h.rest h.above (omega (arith, w1.1)) w1.0 same) (st.items i x e)
 
     buckets_local : BucketsRepresent s.size represents c cap begin pairs

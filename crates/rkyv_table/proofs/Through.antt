@@ -12,21 +12,21 @@ use Rattle.rkyv_table.specs.Table.Serializing.{WriteItemsFails, OwnCause, WroteI
 
 -- a state of the outer iterator has one of the inner. Each step of the outer is one of the inner,
 -- with the item that is seen in it
-module _ {T S X Y : Type 0} (inner : T → S) (outer : T → Option X → T → Type 0) (steps : S → Option Y → S → Type 0) (seen : X → Y)
-    (ends : (s t : T) → outer s None t → steps (inner s) None (inner t)) (gives : (s t : T) (x : X) → outer s (Some x) t → steps (inner s) (Some (seen x)) (inner t)) where
-  pub yields_through : (xs : List X) (s t : T) → Yields outer s xs t → Yields steps (inner s) (map seen xs) (inner t)
+module _ {T S X Y : Type 0} (inner : T → S) (outer : T → Option X → T → Type 0) (steps : S → Option Y → S → Type 0) (inner_of : X → Y)
+    (ends : (s t : T) → outer s None t → steps (inner s) None (inner t)) (gives : (s t : T) (x : X) → outer s (Some x) t → steps (inner s) (Some (inner_of x)) (inner t)) where
+  pub yields_through : (xs : List X) (s t : T) → Yields outer s xs t → Yields steps (inner s) (map inner_of xs) (inner t)
   yields_through [] s t e = ap inner e
   yields_through (x ∷ xs) s t h = (inner h.0, gives s h.0 x h.1, yields_through xs h.0 t h.2)
 
-  pub drains_through : (xs : List X) (s : T) → Drains outer s xs → Drains steps (inner s) (map seen xs)
+  pub drains_through : (xs : List X) (s : T) → Drains outer s xs → Drains steps (inner s) (map inner_of xs)
   drains_through xs s d = (inner d.0, (inner d.1.0, yields_through xs s d.1.0 d.1.1, ends d.1.0 d.0 d.1.2))
 
   pub other_through : (len : ℕ) (s : T) (n : ℕ) → YieldsOtherCount outer len s n → YieldsOtherCount steps len (inner s) n
   other_through len s n h =
       let xs = h.0.0 in (
         (
-          map seen xs,
-          h.0.1 ∙ ap (λ k. 0 + k) (sym (length-map xs seen)),
+          map inner_of xs,
+          h.0.1 ∙ ap (λ k. 0 + k) (sym (length-map xs inner_of)),
           elim h.0.2 [
             | inl d ↦ inl (d.0, drains_through xs s d.1)
             | inr d ↦ inr (d.0, (inner d.1.0, yields_through xs s d.1.0 d.1.1))
@@ -49,14 +49,14 @@ own_counted len factor max other other' f (Writer fault) h = h
 own_counted len factor max other other' f (Refused c) h = h
 
 -- the result of writing the outer items is that of writing the inner ones
-module _ {F X Y V R : Type 0} (seen : X → Y) (yields : List X → Type 0) (yields' : List Y → Type 0) (other other' : ℕ → Type 0) (exactly : (xs : List X) → yields xs → yields' (map seen xs))
-    (counted : (n : ℕ) → other n → other' n) (of_outer : List X → V) (of_inner : List Y → V) (same : (xs : List X) → of_outer xs ≡ of_inner (map seen xs))
+module _ {F X Y V R : Type 0} (inner_of : X → Y) (yields : List X → Type 0) (yields' : List Y → Type 0) (other other' : ℕ → Type 0) (exactly : (xs : List X) → yields xs → yields' (map inner_of xs))
+    (counted : (n : ℕ) → other n → other' n) (of_outer : List X → V) (of_inner : List Y → V) (same : (xs : List X) → of_outer xs ≡ of_inner (map inner_of xs))
     (base : Format V R) (len : ℕ) (factor : ℕ × ℕ) (max limit : ℕ) (o o' : Output) where
   pub answers_through : (result : Result R (WriteError F))
       → MatchResult result (WroteItems yields len factor max (written_as of_outer base) o o' limit) (WriteItemsFails yields len factor max (written_as of_outer base) o o' limit other)
       → MatchResult result (WroteItems yields' len factor max (written_as of_inner base) o o' limit) (WriteItemsFails yields' len factor max (written_as of_inner base) o o' limit other')
   answers_through (Ok r) h =
-      (h.0, map seen h.1, (exactly h.1 h.2.0, length-map h.1 seen ∙ h.2.1), subst (λ v. Serialized limit base v o o' r) (same h.1) h.3)
+      (h.0, map inner_of h.1, (exactly h.1 h.2.0, length-map h.1 inner_of ∙ h.2.1), subst (λ v. Serialized limit base v o o' r) (same h.1) h.3)
   answers_through (Err e) (inl h) = inl (own_counted len factor max other other' counted e h.0, h.1)
   answers_through (Err e) (inr h) =
-      inr (h.0, map seen h.1, (exactly h.1 h.2.0, length-map h.1 seen ∙ h.2.1), subst (λ v. SerializeFails limit base v o o' e) (same h.1) h.3)
+      inr (h.0, map inner_of h.1, (exactly h.1 h.2.0, length-map h.1 inner_of ∙ h.2.1), subst (λ v. SerializeFails limit base v o o' e) (same h.1) h.3)

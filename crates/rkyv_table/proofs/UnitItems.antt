@@ -6,11 +6,11 @@ use Rattle.rkyv_base.specs.Pairs.{written_as}
 use Rattle.rkyv_base.specs.Writing.{Output}
 use Rattle.rkyv_base.specs.declared.errors.WriteError.{WriteError}
 use Rattle.rkyv_table.specs.Table.Counting.{YieldsOtherCount}
-use Rattle.rkyv_table.specs.Table.ItemValues.{UnitStep, lent_keys, lent_pairs, with_units}
+use Rattle.rkyv_table.specs.Table.ItemValues.{UnitStep, key_values, pair_values, with_units}
 use Rattle.rkyv_table.specs.Table.Serializing.{WriteItemsFails, WroteItems}
 use Rattle.rkyv_table.proofs.Through.{answers_through, drains_through, other_through}
 
-same_keys : {BK A : Type 0} (key : BK → A) (xs : List (BK × Unit {0})) → lent_pairs key (λ u. u) xs ≡ with_units (lent_keys key (map (λ x. x.0) xs))
+same_keys : {BK A : Type 0} (key : BK → A) (xs : List (BK × Unit {0})) → pair_values key (λ u. u) xs ≡ with_units (key_values key (map (λ x. x.0) xs))
 same_keys key [] = refl
 same_keys {BK} {A} key (x ∷ xs) = ap (λ (t : List (A × Unit {0})). (key x.0, tt) ∷ t) (same_keys key xs)
 
@@ -20,10 +20,10 @@ module _ {T S BK : Type 0} (inner : T → S) (steps : S → Option BK → S → 
 
   module _ {A R : Type 0} (key : BK → A) (base : Format (List (A × Unit {0})) R) (len : ℕ) (factor : ℕ × ℕ) (max : ℕ) (o o' : Output) (s : T) where
     abbrev AsPairs : Format (List (BK × Unit {0})) R
-    AsPairs = written_as (lent_pairs key (λ u. u)) base
+    AsPairs = written_as (pair_values key (λ u. u)) base
 
     abbrev AsKeys : Format (List BK) R
-    AsKeys = written_as (lent_keys key) (written_as with_units base)
+    AsKeys = written_as (key_values key) (written_as with_units base)
 
     -- the result of writing the map of the keys is that of writing the set
     pub answers_set : {F : Type 0} (limit : ℕ) (result : Result R (WriteError F))
@@ -33,4 +33,4 @@ module _ {T S BK : Type 0} (inner : T → S) (steps : S → Option BK → S → 
         answers_through (λ x. x.0) (Drains UnitSteps s) (Drains steps (inner s)) (YieldsOtherCount UnitSteps len s) (YieldsOtherCount steps len (inner s))
         (λ xs d. drains_through inner UnitSteps steps (λ x. x.0) (λ s' t' h. h) (λ s' t' x h. h) xs s d)
         (λ n h. other_through inner UnitSteps steps (λ x. x.0) (λ s' t' h'. h') (λ s' t' x h'. h') len s n h)
-        (lent_pairs key (λ u. u)) (λ keys. with_units (lent_keys key keys)) (same_keys key) base len factor max limit o o' result
+        (pair_values key (λ u. u)) (λ keys. with_units (key_values key keys)) (same_keys key) base len factor max limit o o' result

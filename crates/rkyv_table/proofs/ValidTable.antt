@@ -17,7 +17,7 @@ use Rattle.rkyv_table.specs.Controls.Finding.{end, found}
 use Rattle.rkyv_table.specs.Table.Header.{cap_at, controls_pos, len_at}
 use Rattle.rkyv_table.specs.Lemmas.ItemPositions.{HeldPart, decoded_controls, decoded_item, decoded_pos, holds_at, item_holds}
 use Rattle.rkyv_table.specs.Controls.Numbers.{control_count}
-use Rattle.rkyv_table.specs.Controls.Placing.{Accepted}
+use Rattle.rkyv_table.specs.Controls.Placing.{AreValidControls}
 use Rattle.rkyv_table.specs.Table.Positions.{IsWalked, item_at, table_controls}
 use Rattle.rkyv_table.specs.Table.Reading.{IsFullIn, table_bytes, table_pos}
 use Rattle.rkyv_table.specs.declared.table.ArchivedHashTable.{ArchivedHashTable}
@@ -33,10 +33,10 @@ module _ (w : Width) (s : ElementSpec) (law : IsElement s) (b : List ℕ) (p : �
   part_of h = holds_at w s law b p 0 p v.valid.0 v.valid.1 h
 
   -- its control bytes are valid
-  pub controls_accepted : 0 < cap_at w b p → Accepted (cap_at w b p) (len_at w b p) (table_controls w b p)
+  pub controls_accepted : 0 < cap_at w b p → AreValidControls (cap_at w b p) (len_at w b p) (table_controls w b p)
   controls_accepted h =
       let t = part_of h in
-      subst (Accepted (cap_at w b p) (len_at w b p)) (sym (decoded_controls w s.size b p t.begin t.part.begins)) t.is.controls
+      subst (AreValidControls (cap_at w b p) (len_at w b p)) (sym (decoded_controls w s.size b p t.begin t.part.begins)) t.is.controls
 
   -- the end and the begin of its control bytes
   pub controls_inside : 0 < cap_at w b p → (controls_pos w b p + control_count (cap_at w b p) ≤ length b) × (pos (controls_pos w b p) ≡ pos p +ℤ signed_at w b p)
@@ -75,7 +75,7 @@ module _ (w : Width) (s : ElementSpec) (law : IsElement s) (b : List ℕ) (p : �
       record {
         inside = omega (arith, one.2, ends);
         aligned = subst (λ q. q % s.align ≡ 0) (sym at) (bucket_aligned s law t.begin (cap_at w b p) i t.part.aligned);
-        valid = valid_at s law b (item_at w s.size b p i) one.0.lower t.begin one.0.rest one.0.below one.1 one.0.holds;
+        valid = valid_at s law b (item_at w s.size b p i) one.0.lower t.begin one.0.rest one.0.below one.1 one.0.is_valid;
       }
 
   -- a table with items has buckets
@@ -95,7 +95,7 @@ module _ (w : Width) (s : ElementSpec) (law : IsElement s) (b : List ℕ) (p : �
 -- lookups in control bytes that were read of a table, if it has buckets, are those in its own
 module _ {T W : Type 0} {ts : Specs T} {wt : Words W} (law : IsElement ts.spec) (t : ArchivedHashTable T W ts wt) (controls : List ℕ)
     (are : 0 < t.header.cap → controls ≡ table_controls wt.word (table_bytes t) (table_pos t)) where
-  pub read_accepted : 0 < t.header.len → Accepted t.header.cap t.header.len controls
+  pub read_accepted : 0 < t.header.len → AreValidControls t.header.cap t.header.len controls
   read_accepted some =
       let n = some_cap wt.word ts.spec law (table_bytes t) (table_pos t) t.valid (rw t.decoded.len at some) in
       let a = controls_accepted wt.word ts.spec law (table_bytes t) (table_pos t) t.valid n in

@@ -10,7 +10,7 @@ use Rattle.rkyv_scan.specs.Groups.{is_full}
 use Rattle.rkyv_table.specs.Controls.ControlBytes.{IsFullBucket}
 use Rattle.rkyv_table.specs.Controls.Laws.{AreHashes}
 use Rattle.rkyv_table.specs.Controls.Placing.{Written, is_free, walk}
-use Rattle.rkyv_table.specs.Controls.Probe.{shown}
+use Rattle.rkyv_table.specs.Controls.Probe.{probed}
 use Rattle.rkyv_table.specs.Table.WalkLaws.{VisitsHomes}
 use Rattle.rkyv_table.proofs.Lists.{contains_member, member_contains, some_find}
 use Rattle.rkyv_table.proofs.Walks.{full_walked, walk_none, walked_full}
@@ -51,7 +51,7 @@ module _ (cap : ℕ) (hashes homes controls : List ℕ) (room : length hashes < 
   homes_differ : (i j : ℕ) → i < j → j < length homes → slice_index homes i ≡ slice_index homes j → ⊥
   homes_differ i j ij h e =
       let count = w.placed.count in
-      let free = (some_find (is_free (take j homes)) (shown (slice_index hashes j) cap) (slice_index homes j) (w.placed.first j (omega arith))).1 in
+      let free = (some_find (is_free (take j homes)) (probed (slice_index hashes j) cap) (slice_index homes j) (w.placed.first j (omega arith))).1 in
       let l = length-take j homes in
       let x = slice_index homes j in
       let there : get_or (take j homes) i x ≡ x = get_or-take j homes i x ij ∙ get_or_default homes i x 0 (omega arith) ∙ e in

@@ -9,15 +9,15 @@ use Rattle.std.proofs.lemmas.List.Sums.{passes_at_first, fails_before_first}
 use Rattle.std.proofs.lemmas.Option.{none-some, same_Some, slice_get-get_or}
 use Rattle.std.proofs.lemmas.Bool.{cases_Bool, cases_lt, and_parts, and_from, and_cases, and_left, and_right, or_left, or_right, eqb-true, eq-eqb, ltb-true, lt-ltb, lt-leb, not-false, true≢false, false_from_ne_true, both_ways}
 use Rattle.rkyv_table.specs.Controls.Numbers.{start, tag, control_count, probe_capacity}
-use Rattle.rkyv_table.specs.Controls.Probe.{strides, buckets_at, shown}
+use Rattle.rkyv_table.specs.Controls.Probe.{strides, buckets_at, probed}
 use Rattle.rkyv_table.specs.Controls.Placing.{is_free, Written}
 use Rattle.rkyv_scan.specs.Groups.{Kind, IsKind}
-use Rattle.rkyv_table.specs.Controls.Finding.{marked, candidates, shows_empty, ends_at, found}
+use Rattle.rkyv_table.specs.Controls.Finding.{marked, candidates, stride_has_empty, ends_at, found}
 use Rattle.rkyv_table.proofs.Coverage.{has_stride}
 use Rattle.rkyv_table.proofs.Search.{cases_option, control_of, tail_shows_all, strides_head, mark_equal, mark_full, GoodStride, answer, answer_cons, walk_on, walk_all}
 use Rattle.rkyv_table.proofs.Lists.{any_map_filter, any_member, any_range, none_range, find_none, none_find, some_find, find_map_filter, FirstIn, first_range, range_first}
 
--- ---- the buckets that a stride shows
+-- ---- the buckets that a stride probes
 
 pub find_buckets : (free : ℕ → Bool) (cap p : ℕ) → find free (buckets_at cap p) ≡ option_map (λ q. q % cap) (find (λ q. ltb q (2 * cap) && free (q % cap)) (range_with_len p 16))
 unfolding buckets_at
@@ -28,7 +28,7 @@ find_candidates : (accept : ℕ → Bool) (kind : Kind) (controls : List ℕ) (c
 unfolding candidates
 find_candidates accept kind controls cap t p = find_map_filter accept (marked kind controls t p) (λ q. q % cap) (range_with_len p 16)
 
--- a bucket that a stride shows, if no shown bucket is free
+-- a bucket that a stride probes, if no probed bucket is free
 pub taken_at : (free : ℕ → Bool) (cap p q : ℕ) → list_any free (buckets_at cap p) ≡ false → p ≤ q → q < p + 16 → q < 2 * cap → free (q % cap) ≡ false
 unfolding buckets_at
 taken_at free cap p q none lo hi two =
@@ -47,12 +47,12 @@ first_free free cap p b h =
     let w = option_map_some (λ q. q % cap) (find (λ q. ltb q (2 * cap) && free (q % cap)) (range_with_len p 16)) b (sym (find_buckets free cap p) ∙ h) in
     (w.0, first_range (λ q. ltb q (2 * cap) && free (q % cap)) p 16 w.0 w.1, w.2)
 
-pub shown_below : (free : ℕ → Bool) (cap b : ℕ) (ps : List ℕ) → 0 < cap → find free (flat_map (buckets_at cap) ps) ≡ Some b → b < cap
-shown_below free cap b [] pos h = absurd (none-some b h)
-shown_below free cap b (p ∷ ps) pos h =
+pub probed_below : (free : ℕ → Bool) (cap b : ℕ) (ps : List ℕ) → 0 < cap → find free (flat_map (buckets_at cap) ps) ≡ Some b → b < cap
+probed_below free cap b [] pos h = absurd (none-some b h)
+probed_below free cap b (p ∷ ps) pos h =
     let h' = sym (find-append free (buckets_at cap p) (flat_map (buckets_at cap) ps)) ∙ h in
     elim (cases_option (find free (buckets_at cap p))) [
-      | inl none ↦ let h'' = rw none at h' in shown_below free cap b ps pos h''
+      | inl none ↦ let h'' = rw none at h' in probed_below free cap b ps pos h''
       | inr some ↦ let h'' = rw some.1 at h' in
           let same : some.0 ≡ b = same_Some some.0 b h'' in
           let w = first_free free cap p some.0 some.1 in
@@ -72,20 +72,20 @@ taken_home homes i b hi h =
 
 -- ---- a written table and a lookup under the hash `h` of its item `i`, the first accepted one
 
-pub record Asked (cap h i : ℕ) (hashes homes controls : List ℕ) (kind : Kind) (accept : ℕ → Bool) : Type 0 where
+pub record IsFirstAccepted (cap h i : ℕ) (hashes homes controls : List ℕ) (kind : Kind) (accept : ℕ → Bool) : Type 0 where
   pub written : Written cap hashes homes controls
   pub law : IsKind kind
   pub hash_fits : (j : ℕ) → j < length hashes → get_or hashes j 0 < 2 ^ 64
   pub some : 0 < cap
   pub within : i < length hashes
-  pub asked : get_or hashes i 0 ≡ h
+  pub under_hash : get_or hashes i 0 ≡ h
   pub yes : accept (get_or homes i 0) ≡ true
   pub no : (j : ℕ) → j < i → accept (get_or homes j 0) ≡ false
 
 pub tag_small : (h : ℕ) → h < 2 ^ 64 → tag h < 128
 tag_small h l = omega arith
 
-module _ (cap h i : ℕ) (hashes homes controls : List ℕ) (kind : Kind) (accept : ℕ → Bool) (a : Asked cap h i hashes homes controls kind accept) where
+module _ (cap h i : ℕ) (hashes homes controls : List ℕ) (kind : Kind) (accept : ℕ → Bool) (a : IsFirstAccepted cap h i hashes homes controls kind accept) where
   unfoldable pub b : ℕ
   b = get_or homes i 0
 
@@ -110,7 +110,7 @@ module _ (cap h i : ℕ) (hashes homes controls : List ℕ) (kind : Kind) (accep
   stride_below : (p : ℕ) → list_any (eqb p) (strides h cap) ≡ true → p < probe_capacity cap
   stride_below p hp = ltb-true p (probe_capacity cap) (and_parts (ltb p (probe_capacity cap)) (eqb (p % 16) (start h cap % 16)) (sym (has_stride h cap p a.some) ∙ hp)).0
 
-  -- if the buckets that a stride shows are taken, its indices are below `2 * cap`
+  -- if the buckets that a stride probes are taken, its indices are below `2 * cap`
   fits_below : (p : ℕ) → b < cap → free b ≡ true → list_any (eqb p) (strides h cap) ≡ true → list_any free (buckets_at cap p) ≡ false → list_any free (buckets_at cap (start h cap)) ≡ false → p + 16 ≤ 2 * cap
   fits_below p hb fb hp none first =
       elim (cases_lt (2 * cap) (p + 16)) [
@@ -125,8 +125,8 @@ module _ (cap h i : ℕ) (hashes homes controls : List ℕ) (kind : Kind) (accep
 
   -- the search passes such a stride
   passed : (p : ℕ) → p < probe_capacity cap → p + 16 ≤ 2 * cap → list_any free (buckets_at cap p) ≡ false →
-      (find accept (candidates kind controls cap (tag h) p) ≡ None) × (shows_empty controls p ≡ false)
-  unfolding candidates shows_empty
+      (find accept (candidates kind controls cap (tag h) p) ≡ None) × (stride_has_empty controls p ≡ false)
+  unfolding candidates stride_has_empty
   passed p lp two none =
       let at = λ (q : ℕ) (lo : p ≤ q) (hi : q < p + 16). at_taken q (omega arith) (omega arith) (taken_at free cap p q none lo hi (omega arith)) in (
         find_none accept (candidates kind controls cap (tag h) p)
@@ -137,9 +137,9 @@ module _ (cap h i : ℕ) (hashes homes controls : List ℕ) (kind : Kind) (accep
       )
 
   -- the search ends at the stride that shows the home bucket
-  met : (p : ℕ) → p < probe_capacity cap → find free (buckets_at cap p) ≡ Some b → find accept (candidates kind controls cap (tag h) p) ≡ Some b
+  found_in : (p : ℕ) → p < probe_capacity cap → find free (buckets_at cap p) ≡ Some b → find accept (candidates kind controls cap (tag h) p) ≡ Some b
   unfolding free b
-  met p lp hb =
+  found_in p lp hb =
       let w = first_free free cap p b hb in
       let q = w.0 in
       let f = w.1 in
@@ -148,7 +148,7 @@ module _ (cap h i : ℕ) (hashes homes controls : List ℕ) (kind : Kind) (accep
       let u = and_parts (ltb q (2 * cap)) (free (q % cap)) f.yes in
       let two = ltb-true q (2 * cap) u.0 in
       let k = control_of cap controls q a.some a.written.repeats two (omega arith) in
-      let t : get_or controls q 0 ≡ tag h = k ∙ ap (λ z. get_or controls z 0) w.2 ∙ a.written.tags i a.within ∙ ap tag a.asked in
+      let t : get_or controls q 0 ≡ tag h = k ∙ ap (λ z. get_or controls z 0) w.2 ∙ a.written.tags i a.within ∙ ap tag a.under_hash in
       let m = mark_equal kind a.law controls (tag h) p q lo t in
       let r = range_first (λ q. marked kind controls (tag h) p q && accept (q % cap)) p 16 q (record {
         from = lo;
@@ -167,9 +167,9 @@ module _ (cap h i : ℕ) (hashes homes controls : List ℕ) (kind : Kind) (accep
   unfolding free b
   answers_home =
       let home = a.written.placed.first i a.within in
-      let home' : find free (shown h cap) ≡ Some b = rw a.asked at home in
-      let fb = (some_find free (shown h cap) b home').1 in
-      let lb = shown_below free cap b (strides h cap) a.some home' in
+      let home' : find free (probed h cap) ≡ Some b = rw a.under_hash at home in
+      let fb = (some_find free (probed h cap) b home').1 in
+      let lb = probed_below free cap b (strides h cap) a.some home' in
       let st = strides_head h cap a.some in
       let s = start h cap in
       let here : list_any (eqb s) (strides h cap) ≡ true = ap (list_any (eqb s)) st.1 ∙ or_left (eqb s s) (list_any (eqb s) st.0) (eq-eqb s s refl) in
@@ -177,7 +177,7 @@ module _ (cap h i : ℕ) (hashes homes controls : List ℕ) (kind : Kind) (accep
       (let lp = stride_below p hp in
       let g : GoodStride cap b free accept kind controls (tag h) p = record {
         passes = λ n. let none = none_find free (buckets_at cap p) n in passed p lp (fits_below p lb fb hp none (first none)) none;
-        hits = λ n. met p lp n;
+        hits = λ n. found_in p lp n;
       } in g) in
       let h' : find free (flat_map (buckets_at cap) (s ∷ st.0)) ≡ Some b = ap (λ ps. find free (flat_map (buckets_at cap) ps)) (sym st.1) ∙ home' in
       ap (answer kind controls cap (tag h) accept) st.1
@@ -227,7 +227,7 @@ pub found_written : (cap h : ℕ) (hashes homes controls : List ℕ) (kind : Kin
     → ((j : ℕ) → j < length hashes → get_or hashes j 0 < 2 ^ 64)
     → ((j : ℕ) → j < length hashes → accept (get_or homes j 0) ≡ true → get_or hashes j 0 ≡ h)
     → found kind controls cap (length hashes) h accept ≡ find accept homes
-found_written cap h hashes homes controls kind accept room hh law w fits asked =
+found_written cap h hashes homes controls kind accept room hh law w fits under_hash =
     let len = w.placed.count in
     elim (cases_Bool (eqb (length hashes) 0)) [
       | inl e ↦
@@ -244,8 +244,8 @@ found_written cap h hashes homes controls kind accept room hh law w fits asked =
                 let i = position_or_len accept homes in
                 let l : i < length homes = first_within accept homes some in
                 let y = passes_at_first accept homes 0 l in
-                let hi = asked i (omega arith) y in
-                let a : Asked cap h i hashes homes controls kind accept = record { written = w; law = law; hash_fits = fits; some = omega arith; within = omega arith; asked = hi; yes = y; no = λ j lj. fails_before_first accept homes j 0 lj } in
+                let hi = under_hash i (omega arith) y in
+                let a : IsFirstAccepted cap h i hashes homes controls kind accept = record { written = w; law = law; hash_fits = fits; some = omega arith; within = omega arith; under_hash = hi; yes = y; no = λ j lj. fails_before_first accept homes j 0 lj } in
                 answers_home cap h i hashes homes controls kind accept a
                 ∙ sym (find_at accept homes ∙ slice_get-get_or homes i 0 l)
           ])
@@ -261,7 +261,7 @@ pub found_first : {X : Type 0} (cap h : ℕ) (hashes homes controls : List ℕ) 
     → items ≡ map item_at homes
     → ((j : ℕ) → j < length hashes → c (item_at (get_or homes j 0)) ≡ true → get_or hashes j 0 ≡ h)
     → option_map item_at (found kind controls cap (length hashes) h (λ b. c (item_at b))) ≡ find c items
-found_first cap h hashes homes controls kind items item_at c room hh law w fits e asked =
-    ap (option_map item_at) (found_written cap h hashes homes controls kind (λ b. c (item_at b)) room hh law w fits asked)
+found_first cap h hashes homes controls kind items item_at c room hh law w fits e under_hash =
+    ap (option_map item_at) (found_written cap h hashes homes controls kind (λ b. c (item_at b)) room hh law w fits under_hash)
     ∙ sym (find_through item_at c homes)
     ∙ ap (find c) (sym e)

@@ -8,8 +8,8 @@ use Rattle.std.proofs.lemmas.List.{get_or_default}
 use Rattle.std.proofs.lemmas.List.Folds.{list_any_at, Any-from_list_any}
 use Rattle.std.proofs.lemmas.List.FromFn.{length-range_with_len, get_or-range_with_len}
 use Rattle.std.proofs.lemmas.Bool.{and_parts, and_from, eqb-true, eq-eqb, ne_eqb, leb-false, ltb-true, lt-ltb, not-true, not-false, false_from_ne_true, both_ways}
-use Rattle.rkyv_table.specs.Controls.Probe.{shown}
-use Rattle.rkyv_table.specs.Controls.Placing.{is_free, Homes, Written, Accepted, walk}
+use Rattle.rkyv_table.specs.Controls.Probe.{probed}
+use Rattle.rkyv_table.specs.Controls.Placing.{is_free, Homes, Written, AreValidControls, walk}
 use Rattle.rkyv_table.proofs.Coverage.{same_tests}
 use Rattle.rkyv_table.proofs.Lists.{any_filter, any_range, in_range, some_find, distinct_filter}
 use Rattle.rkyv_table.proofs.WrittenStep.{free_empty, home_below}
@@ -18,7 +18,7 @@ use Rattle.rkyv_table.proofs.WrittenStep.{free_empty, home_below}
 pub homes_apart : (cap : ℕ) (hashes homes : List ℕ) → Homes cap hashes homes → (i j : ℕ) → i < j → j < length homes → get_or homes i 0 ≡ get_or homes j 0 → ⊥
 homes_apart cap hashes homes p i j ij hj e =
     let count = p.count in
-    let f = (some_find (is_free (take j homes)) (shown (get_or hashes j 0) cap) (get_or homes j 0) (p.first j (omega arith))).1 in
+    let f = (some_find (is_free (take j homes)) (probed (get_or hashes j 0) cap) (get_or homes j 0) (p.first j (omega arith))).1 in
     let none = not-true (list_any (eqb (get_or homes j 0)) (take j homes)) f in
     let l = length-take j homes in
     let g = get_or-take j homes i 0 ij in
@@ -66,7 +66,7 @@ full_home cap hashes homes controls q pos w fits =
     let g = leb-false 128 (get_or controls q 0) (sym n ∙ free) in
     and_from (list_any (eqb q) (range_with_len 0 cap)) (F q) (any_range (eqb q) 0 cap q (omega arith) (omega arith) (eq-eqb q q refl)) (lt-ltb (get_or controls q 0) 128 (omega arith)))
 
-pub accepted_written : (cap : ℕ) (hashes homes controls : List ℕ) → length hashes < cap → Written cap hashes homes controls → ((j : ℕ) → j < length hashes → get_or hashes j 0 < 2 ^ 64) → Accepted cap (length hashes) controls
+pub accepted_written : (cap : ℕ) (hashes homes controls : List ℕ) → length hashes < cap → Written cap hashes homes controls → ((j : ℕ) → j < length hashes → get_or hashes j 0 < 2 ^ 64) → AreValidControls cap (length hashes) controls
 unfolding walk
 accepted_written cap hashes homes controls room w fits =
     let F = λ (b : ℕ). ltb (get_or controls b 0) 128 in

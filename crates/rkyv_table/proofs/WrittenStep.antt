@@ -11,10 +11,10 @@ use Rattle.std.proofs.lemmas.List.Folds.{list_any-append, find-append, Any-from_
 use Rattle.std.proofs.lemmas.Nat.{mod_below}
 use Rattle.std.proofs.lemmas.Bool.{cases_Bool, cases_eq, cases_lt, or_parts, eq-eqb, le-leb, lt-leb, leb-true, not-true, not-false, not_from_false, both_ways, ne_eqb, false_from_ne_true}
 use Rattle.rkyv_table.specs.Controls.Numbers.{tag, control_count}
-use Rattle.rkyv_table.specs.Controls.Probe.{strides, buckets_at, shown}
+use Rattle.rkyv_table.specs.Controls.Probe.{strides, buckets_at, probed}
 use Rattle.rkyv_table.specs.Controls.Placing.{is_free, Homes, Written}
 use Rattle.rkyv_table.specs.Controls.ControlBytes.{HasRoom, is_empty_at, with_control}
-use Rattle.rkyv_table.proofs.Written.{find_buckets, shown_below, tag_small, taken_home}
+use Rattle.rkyv_table.proofs.Written.{find_buckets, probed_below, tag_small, taken_home}
 use Rattle.rkyv_table.proofs.Lists.{some_find, any_member}
 
 -- ---- reading a control byte after the two writes
@@ -36,16 +36,16 @@ find_ext : (P Q : ℕ → Bool) (xs : List ℕ) → ((x : ℕ) → P x ≡ Q x) 
 find_ext P Q [] h = refl
 find_ext P Q (x ∷ xs) h = rw (h x, find_ext P Q xs h) refl
 
-shown_agree : (P Q : ℕ → Bool) (cap : ℕ) (ps : List ℕ) → 0 < cap → ((b : ℕ) → b < cap → P b ≡ Q b) → find P (flat_map (buckets_at cap) ps) ≡ find Q (flat_map (buckets_at cap) ps)
-shown_agree P Q cap [] pos h = refl
-shown_agree P Q cap (p ∷ ps) pos h =
+probed_agree : (P Q : ℕ → Bool) (cap : ℕ) (ps : List ℕ) → 0 < cap → ((b : ℕ) → b < cap → P b ≡ Q b) → find P (flat_map (buckets_at cap) ps) ≡ find Q (flat_map (buckets_at cap) ps)
+probed_agree P Q cap [] pos h = refl
+probed_agree P Q cap (p ∷ ps) pos h =
     let one : find P (buckets_at cap p) ≡ find Q (buckets_at cap p) =
     find_buckets P cap p
     ∙ ap (option_map (λ q. q % cap)) (find_ext (λ q. ltb q (2 * cap) && P (q % cap)) (λ q. ltb q (2 * cap) && Q (q % cap)) (range_with_len p 16)
     (λ q. ap (λ z. ltb q (2 * cap) && z) (h (q % cap) (mod_below q cap pos))))
     ∙ sym (find_buckets Q cap p) in
     find-append P (buckets_at cap p) (flat_map (buckets_at cap) ps)
-    ∙ rw (one, shown_agree P Q cap ps pos h) (sym (find-append Q (buckets_at cap p) (flat_map (buckets_at cap) ps)))
+    ∙ rw (one, probed_agree P Q cap ps pos h) (sym (find-append Q (buckets_at cap p) (flat_map (buckets_at cap) ps)))
 
 -- ---- the step
 
@@ -67,9 +67,9 @@ free_empty cap hashes homes controls b w fits hb =
     ]
 
 pub home_below : (cap : ℕ) (hashes homes controls : List ℕ) (i : ℕ) → 0 < cap → Written cap hashes homes controls → i < length hashes → get_or homes i 0 < cap
-home_below cap hashes homes controls i pos w hi = shown_below (is_free (take i homes)) cap (get_or homes i 0) (strides (get_or hashes i 0) cap) pos (w.placed.first i hi)
+home_below cap hashes homes controls i pos w hi = probed_below (is_free (take i homes)) cap (get_or homes i 0) (strides (get_or hashes i 0) cap) pos (w.placed.first i hi)
 
-pub homes_more : (cap h b : ℕ) (hashes homes : List ℕ) → Homes cap hashes homes → find (is_free homes) (shown h cap) ≡ Some b → Homes cap (hashes ++ h ∷ []) (homes ++ b ∷ [])
+pub homes_more : (cap h b : ℕ) (hashes homes : List ℕ) → Homes cap hashes homes → find (is_free homes) (probed h cap) ≡ Some b → Homes cap (hashes ++ h ∷ []) (homes ++ b ∷ [])
 homes_more cap h b hashes homes p e =
     let n = length hashes in
     let len = p.count in
@@ -94,15 +94,15 @@ homes_more cap h b hashes homes p e =
     }
 
 pub one_more : (cap h b : ℕ) (hashes homes controls : List ℕ) → 0 < cap → Written cap hashes homes controls → ((j : ℕ) → j < length hashes → get_or hashes j 0 < 2 ^ 64) → h < 2 ^ 64
-    → find (is_empty_at controls) (shown h cap) ≡ Some b
+    → find (is_empty_at controls) (probed h cap) ≡ Some b
     → Written cap (hashes ++ h ∷ []) (homes ++ b ∷ []) (with_control controls cap b (tag h))
 one_more cap h b hashes homes controls pos w fits hh e =
     let n = length hashes in
     let len = w.placed.count in
     let r = w.repeats in
     let count = r.count in
-    let hb : b < cap = shown_below (is_empty_at controls) cap b (strides h cap) pos e in
-    let fb = (some_find (is_empty_at controls) (shown h cap) b e).1 in
+    let hb : b < cap = probed_below (is_empty_at controls) cap b (strides h cap) pos e in
+    let fb = (some_find (is_empty_at controls) (probed h cap) b e).1 in
     let lb = leb-true 128 (get_or controls b 0) fb in
     let bc : b < length controls = omega arith in
     let t = tag h in
@@ -110,7 +110,7 @@ one_more cap h b hashes homes controls pos w fits hh e =
     let lenb = length_push homes b in
     let whole = take_all n homes (omega arith) in
     record {
-      placed = homes_more cap h b hashes homes w.placed (shown_agree (is_free homes) (is_empty_at controls) cap (strides h cap) pos (λ c hc. free_empty cap hashes homes controls c w fits hc) ∙ e);
+      placed = homes_more cap h b hashes homes w.placed (probed_agree (is_free homes) (is_empty_at controls) cap (strides h cap) pos (λ c hc. free_empty cap hashes homes controls c w fits hc) ∙ e);
       repeats = record {
         count = let l = length-set (set controls b t) (cap + b) t in let m = length-set controls b t in omega arith;
         repeated = λ q lo two c. elim (cases_eq q (cap + b)) [

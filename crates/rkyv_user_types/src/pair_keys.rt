@@ -8,7 +8,7 @@ ghost use Rattle.rkyv_keys.specs.AtViews.{at_view};
 ghost use Rattle.rkyv_keys.specs.Deserialize.{Deserializes};
 ghost use Rattle.rkyv_keys.specs.OfEntries.{BothRead, entry_fits};
 ghost use Rattle.rkyv_keys.specs.Lemmas.OfEntries.{entry_query};
-ghost use Rattle.rkyv_keys.specs.OfEntries.{entry_refuses, pair_calls};
+ghost use Rattle.rkyv_keys.specs.OfEntries.{entry_deserialize_fails, pair_calls};
 ghost use Rattle.rkyv_keys.specs.Lemmas.OfEntries.{entry_fits_its_equal};
 ghost use Rattle.rkyv_user_types.specs.Wrapped.{RepresentsAsPair, equals_as, query_as};
 
@@ -116,7 +116,7 @@ impl<
     K: Deserialize<A>,
     V: Deserialize<B>,
 > Deserialize<PairEntry<T>> for Entry<K, V> {
-    ghost deserialize_fails = { entry_refuses K.spec V.spec K.deserialize_fails
+    ghost deserialize_fails = { entry_deserialize_fails K.spec V.spec K.deserialize_fails
         V.deserialize_fails };
 
     #[inline]
@@ -124,7 +124,7 @@ impl<
         requires { IsValidView (entry_spec K.spec V.spec) view }
         ensures { Deserializes
             (RepresentsAsPair K.spec V.spec K.represents V.represents (λ x. T.pair x.0))
-            (entry_refuses K.spec V.spec K.deserialize_fails V.deserialize_fails)
+            (entry_deserialize_fails K.spec V.spec K.deserialize_fails V.deserialize_fails)
             view.entry result }
     {
         let first = K::deserialize(alloc, view.key())?;

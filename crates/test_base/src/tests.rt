@@ -15,6 +15,7 @@ macro_rules! expect_eq {
     };
 }
 
+mod access_failures;
 mod closure_writes;
 mod error_traits;
 mod errors;
@@ -23,7 +24,6 @@ mod memory;
 mod own;
 mod parts;
 mod pieces;
-mod refusals;
 mod roots;
 mod scalars;
 mod seals;

@@ -9,7 +9,7 @@ use Rattle.rkyv_collections.specs.Map.{map_bytes, map_pos}
 use Rattle.rkyv_collections.specs.declared.map.ArchivedHashMap.{ArchivedHashMap}
 use Rattle.rkyv_collections.specs.declared.map.HashMapOf.{HashMapOf}
 
-pub told_of_view : {K V H W : Type 0} {ks : Specs K} {vs : Specs V} {wt : Words W} (m : ArchivedHashMap K V H W ks vs wt) (view : View (HashMapOf K V H W)) (b : Bor (List ℕ)) (p : ℕ)
+pub view_transport : {K V H W : Type 0} {ks : Specs K} {vs : Specs V} {wt : Words W} (m : ArchivedHashMap K V H W ks vs wt) (view : View (HashMapOf K V H W)) (b : Bor (List ℕ)) (p : ℕ)
     → m.view ≡ view → view.archive ≡ b → view.pos ≡ p → (F : List ℕ → ℕ → Type 0) → F (map_bytes m) (map_pos m) → F b.now p
-told_of_view m view b p of archive place F x =
+view_transport m view b p of archive place F x =
     as_read m b.now p (ap (λ v. v.archive.now) of ∙ ap (λ a. a.now) archive) (ap (λ v. v.pos) of ∙ place) F x

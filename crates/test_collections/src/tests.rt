@@ -15,17 +15,17 @@ macro_rules! expect_eq {
     };
 }
 
-mod answers;
 mod archives;
-mod asks;
 mod examples;
 mod first;
 mod in_place;
 mod lists;
 mod lookups;
 mod nested;
+mod query_results;
 mod reading;
 mod recipes;
+mod requests;
 mod round_trip;
 mod sealed;
 mod sets;

@@ -45,11 +45,11 @@ fn is_looked_over<W: Width>(alloc: Global, end: u64) -> bool {
 fn a_list_is_found_as_it_was_written(rt: HostRuntime) {
     written_lists_represent::<Narrow, u8, &u8>();
     let alloc = rt.alloc();
-    let seen = [
+    let results = [
         is_looked_over::<Narrow>(alloc, 48),
         is_looked_over::<Wide>(alloc, 64),
     ];
-    assert_eq!(rt; seen, [true; 2]);
+    assert_eq!(rt; results, [true; 2]);
 }
 
 // Does the same with a writer of at most `limit` bytes, and looks over its bytes afterwards.
@@ -90,12 +90,12 @@ fn is_limited<W: Width>(alloc: Global, limit: u64) -> bool {
 #[test]
 fn a_list_is_written_by_any_writer(rt: HostRuntime) {
     let alloc = rt.alloc();
-    let seen = [
+    let results = [
         is_limited::<Narrow>(alloc, 48),
         is_limited::<Narrow>(alloc, 47),
         is_limited::<Wide>(alloc, 64),
     ];
-    assert_eq!(rt; seen, [true, false, true]);
+    assert_eq!(rt; results, [true, false, true]);
 }
 
 // The archive of a table of one pair of numbers, in the second of two buckets.
@@ -113,7 +113,7 @@ fn look(alloc: Global, bytes: &[u8; 60], hash: u64) -> Result<TableReport, LookE
 }
 
 #[test]
-fn untrusted_bytes_are_reported_or_refused(rt: HostRuntime) {
+fn untrusted_bytes_are_reported_or_rejected(rt: HostRuntime) {
     let alloc = rt.alloc();
     let found = match look(alloc, &ONE_PAIR, 0x5000_0000_0000_0001) {
         Ok(report) => is_report(&report, &[0], Some(0), 1),
@@ -125,12 +125,12 @@ fn untrusted_bytes_are_reported_or_refused(rt: HostRuntime) {
     };
     let mut bytes = ONE_PAIR;
     bytes[52] = 0;
-    let refused = matches!(
+    let failed = matches!(
         look(alloc, &bytes, 1),
         Err(LookError::Verify(VerifyError::WrongNumberOfElements {
             expected: 0,
             actual: 1,
         }))
     );
-    assert_eq!(rt; [found, none, refused], [true; 3]);
+    assert_eq!(rt; [found, none, failed], [true; 3]);
 }

@@ -1,6 +1,6 @@
 -- An archive whose validation returns the status 0 is valid.
 use Rattle.std.proofs.Common.{◌≡◌, ◌∙◌, ℕ, List, arith, inl, inr, sym}
-use Rattle.rkyv_base.specs.Access.{Accepted}
+use Rattle.rkyv_base.specs.Access.{IsValidArchive}
 use Rattle.rkyv_base.specs.ElementSpec.{ElementSpec}
 use Rattle.rkyv_base.specs.declared.errors.VerifyError.{VerifyError}
 use Rattle.rkyv_base.specs.declared.errors.VerifyError.TheVariants.{OutOfRange, Unaligned, InvalidLength, WrongNumberOfElements, UnwrappedControlByte, PlaceOutOfRange, InvalidValue, Refused}
@@ -19,6 +19,6 @@ verify_status_above_0 (PlaceOutOfRange place len) h = omega (arith, h)
 verify_status_above_0 (InvalidValue pos) h = omega (arith, h)
 verify_status_above_0 (Refused reason) h = omega (arith, h)
 
-pub opened : (limit : ℕ) (s : ElementSpec) (b : List ℕ) (status : ℕ) → Opens limit s b status → status ≡ 0 → Accepted limit s b
+pub opened : (limit : ℕ) (s : ElementSpec) (b : List ℕ) (status : ℕ) → Opens limit s b status → status ≡ 0 → IsValidArchive limit s b
 opened limit s b status (inl h) z = h.0
 opened limit s b status (inr h) z = absurd (verify_status_above_0 h.0 (sym h.2 ∙ z))

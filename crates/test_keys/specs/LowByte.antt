@@ -37,15 +37,15 @@ abbrev pub low_calls : List ℕ → ℕ → List HasherCall
 low_calls = value_calls low_byte byte_call
 
 abbrev pub low_fits : {Q : Type 0} → (Q → ℕ) → Q → List ℕ → ℕ → Bool
-low_fits seen = value_fits low_byte nat_eq seen
+low_fits model = value_fits low_byte nat_eq model
 
 -- the whole number represents the value
 abbrev pub low_represents : List ℕ → ℕ → ℕ → Type 0
 low_represents = ScalarRepresents (unsigned w32)
 
 -- deserializing a number whose low byte is 0 may fail with `Refused 7`
-abbrev pub low_refuses : DeserializeErrors
-low_refuses b p e = (e ≡ Refused 7) × (low_byte b p ≡ 0)
+abbrev pub low_fails : DeserializeErrors
+low_fails b p e = (e ≡ Refused 7) × (low_byte b p ≡ 0)
 
 pub low_element : IsElement low_spec
 low_element = scalar_element (unsigned w32) (inr (inr (inl refl))) (unsigned_codes w32)
@@ -60,6 +60,6 @@ pub low_key : IsKey low_spec low_same low_calls
 low_key = value_key low_spec low_byte nat_eq unsigned_Decides byte_call
     (λ v b c p lo hi l o h fixed part st. subst (λ s. from_le_bytes w32 s % 256 ≡ v) fixed st)
 
-pub low_query : {Q : Type 0} (seen : Q → ℕ)
-    → IsQuery low_spec low_same low_calls ReadsAnywhere (λ q. byte_call (seen q)) (low_fits seen)
-low_query seen = value_query low_spec low_byte nat_eq unsigned_Decides byte_call seen
+pub low_query : {Q : Type 0} (model : Q → ℕ)
+    → IsQuery low_spec low_same low_calls ReadsAnywhere (λ q. byte_call (model q)) (low_fits model)
+low_query model = value_query low_spec low_byte nat_eq unsigned_Decides byte_call model

@@ -4,7 +4,7 @@ use rkyv_base::errors::VerifyError;
 
 /// The numbers of changed archives, by the result for them.
 #[derive(Clone, Copy, Debug, PartialEq, Eq)]
-pub struct Answers {
+pub struct OutcomeCounts {
     /// Valid archives with the expected contents.
     pub right: u32,
     /// Valid archives.
@@ -29,9 +29,9 @@ fn add_one(count: &mut u32) {
     *count = count.wrapping_add(1);
 }
 
-impl Answers {
-    fn new() -> Answers {
-        Answers {
+impl OutcomeCounts {
+    fn new() -> OutcomeCounts {
+        OutcomeCounts {
             right: 0,
             accepted: 0,
             place_out_of_range: 0,
@@ -45,8 +45,8 @@ impl Answers {
     }
 
     // Counts one result; `Ok(true)` is a valid archive with the expected contents.
-    fn count(&mut self, answer: Result<bool, VerifyError>) {
-        match answer {
+    fn count(&mut self, outcome: Result<bool, VerifyError>) {
+        match outcome {
             Ok(right) => {
                 add_one(&mut self.accepted);
                 if right {
@@ -68,25 +68,25 @@ impl Answers {
 ///
 /// # Requires
 ///
-/// - `answer` is always callable.
+/// - `outcome` is always callable.
 pub fn outcomes_of_changes<A: Fn(&[u8]) -> Result<bool, VerifyError>>(
     archive: &mut [u8],
-    answer: A,
-) -> Answers
-    requires { A.IsAlwaysCallable answer }
+    outcome: A,
+) -> OutcomeCounts
+    requires { A.IsAlwaysCallable outcome }
 {
-    let mut answers = Answers::new();
+    let mut outcomes = OutcomeCounts::new();
     for place in 0..archive.len() {
         let kept = archive[place];
         for value in 0..=255 {
             if value != kept {
                 archive[place] = value;
-                answers.count(answer(&*archive));
+                outcomes.count(outcome(&*archive));
             }
         }
         archive[place] = kept;
     }
-    answers
+    outcomes
 }
 
 /// Returns the number of archives that pass `is_permitted`, of those with one byte inverted.
@@ -97,13 +97,13 @@ pub fn outcomes_of_changes<A: Fn(&[u8]) -> Result<bool, VerifyError>>(
 pub fn permitted_flips<A: Fn(&mut [u8]) -> bool>(archive: &mut [u8], is_permitted: A) -> usize
     requires { A.IsAlwaysCallable is_permitted }
 {
-    let mut answered = 0usize;
+    let mut permitted = 0usize;
     for place in 0..archive.len() {
         archive[place] ^= 0xff;
         if is_permitted(&mut *archive) {
-            answered = answered.wrapping_add(1);
+            permitted = permitted.wrapping_add(1);
         }
         archive[place] ^= 0xff;
     }
-    answered
+    permitted
 }

@@ -2,12 +2,12 @@
 //!
 //! - `archives` returns archives of known bytes, and `written` compares archives with known bytes.
 //! - `writers` has writers that fail, are near the greatest position, or keep lengths of pieces.
-//! - `asks` counts the calls of iterators whose items are written.
+//! - `requests` counts the calls of iterators whose items are written.
 //! - `changes` counts the results for archives with changed bytes.
 #![tactic(auto)]
 
 pub mod archives;
-pub mod asks;
 pub mod changes;
+pub mod requests;
 pub mod writers;
 pub mod written;

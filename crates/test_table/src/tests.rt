@@ -18,7 +18,6 @@ macro_rules! expect_eq {
 }
 
 mod archives;
-mod asks;
 mod capacities;
 mod changes;
 mod cursors;
@@ -31,11 +30,12 @@ mod misplaced;
 mod nested;
 mod pieces;
 mod reading;
-mod refusals;
+mod requests;
 mod sealed;
 mod starts;
 mod untrusted;
 mod walks;
 mod wide;
+mod write_failures;
 mod writers;
 mod writing;

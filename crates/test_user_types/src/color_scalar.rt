@@ -5,7 +5,7 @@ ghost use Rattle.std.proofs.Common.{inl, refl};
 ghost use Rattle.rkyv_scan.specs.Hash.{U8};
 ghost use Rattle.rkyv_base.specs.Scalar.{scalar_spec};
 ghost use Rattle.rkyv_base.specs.Lemmas.Scalar.{scalar_element, scalar_laws};
-ghost use Rattle.rkyv_user_types.specs.Variants.{variants_tell};
+ghost use Rattle.rkyv_user_types.specs.Variants.{variants_decide_equality};
 ghost use Rattle.test_user_types.specs.Color.{code, color_codes, color_encoding};
 ghost use Rattle.test_user_types.specs.contracts.color.Color.{the_type};
 
@@ -65,7 +65,7 @@ impl ScalarKey for Color {
         state.write_u8(number(self));
     }
 
-    ghost tells = { variants_tell the_type tt };
+    ghost decides = { variants_decide_equality the_type tt };
 
     ghost fixed = { λ color. tt };
 }

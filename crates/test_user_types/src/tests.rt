@@ -34,7 +34,7 @@ fn a_point_is_a_pair(rt: HostRuntime) -> Result<(), Fail> {
         hash_value::<PairEntry<Point>, FxHasher64>(&point),
         hash_value::<(i32, i32), FxHasher64>(&(-2, 3)),
     ];
-    let seen = [
+    let results = [
         bytes.as_slice() == [0xfe, 0xff, 0xff, 0xff, 3, 0, 0, 0].as_slice(),
         root.key().to_native() == -2,
         back == point,
@@ -45,7 +45,7 @@ fn a_point_is_a_pair(rt: HostRuntime) -> Result<(), Fail> {
         !Entry::<i32, i32>::eq_native(root, &other),
         hashes[0] == hashes[1],
     ];
-    assert_eq!(rt; seen, [true; 9]);
+    assert_eq!(rt; results, [true; 9]);
     Ok(())
 }
 
@@ -64,7 +64,7 @@ fn a_pixel_is_a_tuple(rt: HostRuntime) -> Result<(), Fail> {
     let bytes = to_bytes(rt.alloc(), &pixel)?;
     let root = access::<Entry<u8, Entry<u16, u16>>>(bytes.as_slice())?;
     let back: TupleEntry<Pixel> = Entry::<u8, Entry<u16, u16>>::deserialize(rt.alloc(), root)?;
-    let seen = [
+    let results = [
         bytes.as_slice() == [7, 0, 44, 1, 2, 0].as_slice(),
         root.value().key().to_native() == 300,
         back == pixel,
@@ -76,7 +76,7 @@ fn a_pixel_is_a_tuple(rt: HostRuntime) -> Result<(), Fail> {
         hash_value::<TupleEntry<Pixel>, FxHasher64>(&pixel)
             == hash_value::<(u8, (u16, u16)), FxHasher64>(&(7, (300, 2))),
     ];
-    assert_eq!(rt; seen, [true; 9]);
+    assert_eq!(rt; results, [true; 9]);
     Ok(())
 }
 
@@ -97,7 +97,7 @@ fn a_symbol_is_a_pair_with_a_text(rt: HostRuntime) -> Result<(), Fail> {
 fn a_color_is_a_scalar(rt: HostRuntime) -> Result<(), Fail> {
     let bytes = to_bytes(rt.alloc(), &(Color::Blue, 5u8))?;
     let root = access::<Entry<Color, u8>>(bytes.as_slice())?;
-    let seen = [
+    let results = [
         bytes.as_slice() == [2, 5].as_slice(),
         root.key().to_native() == Color::Blue,
         Color::Blue.same(root.key()),
@@ -107,7 +107,7 @@ fn a_color_is_a_scalar(rt: HostRuntime) -> Result<(), Fail> {
             Err(VerifyError::InvalidValue { pos: 0 })
         ),
     ];
-    assert_eq!(rt; seen, [true; 5]);
+    assert_eq!(rt; results, [true; 5]);
     Ok(())
 }
 
@@ -116,7 +116,7 @@ fn a_spot_is_an_entry_by_hand(rt: HostRuntime) -> Result<(), Fail> {
     let spot = Spot { x: -2, y: 3 };
     let bytes = to_bytes(rt.alloc(), &spot)?;
     let root = access::<ArchivedSpot>(bytes.as_slice())?;
-    let seen = [
+    let results = [
         bytes.as_slice() == [0xfe, 0xff, 0xff, 0xff, 3, 0, 0, 0].as_slice(),
         spot_of(root) == spot,
         spot.same(root),
@@ -124,6 +124,6 @@ fn a_spot_is_an_entry_by_hand(rt: HostRuntime) -> Result<(), Fail> {
         ArchivedSpot::eq_native(root, &spot),
         ArchivedSpot::size() == 8,
     ];
-    assert_eq!(rt; seen, [true; 6]);
+    assert_eq!(rt; results, [true; 6]);
     Ok(())
 }

@@ -2,10 +2,10 @@
 use Rattle.std.specs.Prelude.{ℕ, ◌-◌, List, length}
 use Rattle.std.proofs.Common.{arith}
 use Rattle.rkyv_base.specs.ElementSpec.{ElementSpec, Viewable}
-use Rattle.rkyv_base.specs.Access.{Accepted}
+use Rattle.rkyv_base.specs.Access.{IsValidArchive}
 
 -- the root of an accepted archive
-pub root_viewable : (limit : ℕ) (s : ElementSpec) (b : List ℕ) → Accepted limit s b
+pub root_viewable : (limit : ℕ) (s : ElementSpec) (b : List ℕ) → IsValidArchive limit s b
     → Viewable s b (length b - s.size)
 root_viewable limit s b a = record {
   inside = omega (arith, a.inside);

@@ -9,7 +9,7 @@ abbrev pub any_bytes : ℕ → ℕ → ElementSpec
 any_bytes size align = record {
   size = size;
   align = align;
-  holds = λ b p lo hi l. l ≡ lo;
+  is_valid = λ b p lo hi l. l ≡ lo;
   fails = λ b p lo hi e. ⊥;
 }
 

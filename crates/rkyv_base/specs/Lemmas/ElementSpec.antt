@@ -19,9 +19,9 @@ viewable_prop s laws b p =
 
 -- a valid value with its parts in some range is valid with the widest range
 pub valid_at : (s : ElementSpec) → IsElement s → (b : List ℕ) (p lo hi l : ℕ) → lo ≤ hi → hi ≤ p
-    → s.holds b p lo hi l → ValidAt s b p
+    → s.is_valid b p lo hi l → ValidAt s b p
 valid_at s laws b p lo hi l o o' h =
-    let d : (l' : ℕ) × s.holds b p 0 hi l' × (l' ≤ l) =
+    let d : (l' : ℕ) × s.is_valid b p 0 hi l' × (l' ≤ l) =
     laws.lower_lo b p lo 0 hi l (omega arith) o h in
     (d.0, laws.widen_hi b p 0 hi p d.0 o' d.1)
 

@@ -13,7 +13,7 @@ use Rattle.rkyv_base.specs.ElementSpec.{ElementSpec, IsAlign, IsElement, Viewabl
 use Rattle.rkyv_base.specs.Lemmas.ElementSpec.{valid_at}
 use Rattle.rkyv_base.specs.Lemmas.ElementSpec.{by_align, max_align, multiple_of_max, sum_multiple}
 use Rattle.rkyv_base.specs.Entry.{round_up, value_offset, whole_size, IsSmall, size_of_whole}
-use Rattle.rkyv_base.specs.Entry.{EntryHolds, EntryFails, EntriesAgree, entry_spec}
+use Rattle.rkyv_base.specs.Entry.{IsValidEntry, EntryFails, EntriesAgree, entry_spec}
 
 pub size_of_small : (whole : ℕ) → whole ≤ 1073741824 → size_of_whole whole ≡ whole
 size_of_small whole h = grind (arith, nat_tests)
@@ -42,30 +42,30 @@ pub key_and_value_inside : (k v : ElementSpec) → (k.size ≤ value_offset k v)
 key_and_value_inside k v = (omega arith, omega arith)
 
 module _ (k v : ElementSpec) (kl : IsElement k) (vl : IsElement v) where
-  entry_prop : (b : List ℕ) (p lo hi l : ℕ) → IsProp (EntryHolds k v b p lo hi l)
+  entry_prop : (b : List ℕ) (p lo hi l : ℕ) → IsProp (IsValidEntry k v b p lo hi l)
   entry_prop b p lo hi l =
-      prop_by {B = IsSmall k v × ((m : ℕ) × (k.holds b p lo hi m
-      × v.holds b (p + value_offset k v) m hi l))}
+      prop_by {B = IsSmall k v × ((m : ℕ) × (k.is_valid b p lo hi m
+      × v.is_valid b (p + value_offset k v) m hi l))}
       (λ h. (h.0, (h.1, (h.2, h.3)))) (λ h. (h.0, h.1.0, h.1.1.0, h.1.1.1)) (λ _. refl)
       (×_prop le_prop (only_one
       (λ m. ×_prop (kl.proper b p lo hi m) (vl.proper b (p + value_offset k v) m hi l))
       (λ m m' h h'. kl.rest_unique b p lo hi m m' h.0 h'.0)))
 
-  entry_between : (b : List ℕ) (p lo hi l : ℕ) → lo ≤ hi → EntryHolds k v b p lo hi l → (lo ≤ l)
+  entry_between : (b : List ℕ) (p lo hi l : ℕ) → lo ≤ hi → IsValidEntry k v b p lo hi l → (lo ≤ l)
       × (l ≤ hi)
   entry_between b p lo hi l o h =
       let x : (lo ≤ h.1) × (h.1 ≤ hi) = kl.rest_in_range b p lo hi h.1 o h.2 in
       let y : (h.1 ≤ l) × (l ≤ hi) = vl.rest_in_range b (p + value_offset k v) h.1 hi l x.1 h.3 in
       (omega arith, y.1)
 
-  entry_one : (b : List ℕ) (p lo hi l l' : ℕ) → EntryHolds k v b p lo hi l
-      → EntryHolds k v b p lo hi l' → l ≡ l'
+  entry_one : (b : List ℕ) (p lo hi l l' : ℕ) → IsValidEntry k v b p lo hi l
+      → IsValidEntry k v b p lo hi l' → l ≡ l'
   entry_one b p lo hi l l' h h' =
       let e : h'.1 ≡ h.1 = kl.rest_unique b p lo hi h'.1 h.1 h'.2 h.2 in
       vl.rest_unique b (p + value_offset k v) h.1 hi l l' h.3
-      (subst (λ m. v.holds b (p + value_offset k v) m hi l') e h'.3)
+      (subst (λ m. v.is_valid b (p + value_offset k v) m hi l') e h'.3)
 
-  entry_exclusive : (b : List ℕ) (p lo hi l : ℕ) (e : VerifyError) → EntryHolds k v b p lo hi l
+  entry_exclusive : (b : List ℕ) (p lo hi l : ℕ) (e : VerifyError) → IsValidEntry k v b p lo hi l
       → EntryFails k v b p lo hi e → ⊥
   entry_exclusive b p lo hi l e h (inl f) = omega (arith, h.0, f.0)
   entry_exclusive b p lo hi l e h (inr (f, inl g)) = kl.exclusive b p lo hi h.1 e h.2 g
@@ -112,7 +112,7 @@ module _ (k v : ElementSpec) (kl : IsElement k) (vl : IsElement v) where
       fixed
 
   -- two lists that agree on an entry and its parts agree on those of its key and its value
-  pub same_parts : (b c : List ℕ) (p lo hi l : ℕ) → lo ≤ hi → (h : EntryHolds k v b p lo hi l)
+  pub same_parts : (b c : List ℕ) (p lo hi l : ℕ) → lo ≤ hi → (h : IsValidEntry k v b p lo hi l)
       → AgreeOn b c p (p + size_of_whole (whole_size k v)) → AgreeOn b c lo l
       → EntriesAgree k v b c p lo hi h.1 l
   same_parts b c p lo hi l o h fixed part =
@@ -128,7 +128,7 @@ module _ (k v : ElementSpec) (kl : IsElement k) (vl : IsElement v) where
 
   entry_local : (b c : List ℕ) (p lo hi l : ℕ) → lo ≤ hi
       → AgreeOn b c p (p + size_of_whole (whole_size k v)) → AgreeOn b c lo l
-      → EntryHolds k v b p lo hi l → EntryHolds k v c p lo hi l
+      → IsValidEntry k v b p lo hi l → IsValidEntry k v c p lo hi l
   entry_local b c p lo hi l o fixed part h =
       let s = same_parts b c p lo hi l o h fixed part in (
         h.0,
@@ -137,13 +137,13 @@ module _ (k v : ElementSpec) (kl : IsElement k) (vl : IsElement v) where
         vl.local b c (p + value_offset k v) h.1 hi l s.room s.value s.value_parts h.3,
       )
 
-  entry_lower : (b : List ℕ) (p lo lo' hi l : ℕ) → lo' ≤ lo → lo ≤ hi → EntryHolds k v b p lo hi l
-      → (l' : ℕ) × EntryHolds k v b p lo' hi l' × (l' ≤ l)
+  entry_lower : (b : List ℕ) (p lo lo' hi l : ℕ) → lo' ≤ lo → lo ≤ hi → IsValidEntry k v b p lo hi l
+      → (l' : ℕ) × IsValidEntry k v b p lo' hi l' × (l' ≤ l)
   entry_lower b p lo lo' hi l o o' h =
       let x : (lo ≤ h.1) × (h.1 ≤ hi) = kl.rest_in_range b p lo hi h.1 o' h.2 in
-      let dk : (m : ℕ) × k.holds b p lo' hi m
+      let dk : (m : ℕ) × k.is_valid b p lo' hi m
       × (m ≤ h.1) = kl.lower_lo b p lo lo' hi h.1 o o' h.2 in
-      let dv : (m : ℕ) × v.holds b (p + value_offset k v) dk.0 hi m × (m ≤ l) =
+      let dv : (m : ℕ) × v.is_valid b (p + value_offset k v) dk.0 hi m × (m ≤ l) =
       vl.lower_lo b (p + value_offset k v) h.1 dk.0 hi l dk.2 x.1 h.3 in
       (dv.0, (h.0, dk.0, dk.1, dv.1), dv.2)
 

@@ -11,21 +11,23 @@ use Rattle.rkyv_base.specs.ElementSpec.{ElementSpec, IsElement}
 use Rattle.rkyv_base.specs.Lemmas.ElementSpec.{multiple_of_max, sum_multiple}
 use Rattle.rkyv_base.specs.Entry.{value_offset, whole_size, size_of_whole}
 use Rattle.rkyv_base.specs.Lemmas.Entry.{size_of_small}
-use Rattle.rkyv_base.specs.Entry.{EntryHolds, entry_spec}
+use Rattle.rkyv_base.specs.Entry.{IsValidEntry, entry_spec}
 use Rattle.rkyv_base.specs.Lemmas.Entry.{size_of_large, round_up-multiple}
 use Rattle.rkyv_base.specs.Lemmas.Entry.{key_and_value_inside, same_parts}
 use Rattle.rkyv_base.specs.Format.{Format, IsFormat, RepresentsLocally}
 use Rattle.rkyv_base.specs.Pairs.{pair_bytes, PairRepresents, PairParts, PairImage, PairOverflows}
 use Rattle.rkyv_base.specs.Pairs.{pair_format, written_as}
 
-pub written_as-format : {X V R : Type 0} (seen : X → V) (s : ElementSpec) (represents : List ℕ → ℕ
+pub written_as-format : {X V R : Type 0} (as_value : X → V) (s : ElementSpec)
+    (represents : List ℕ → ℕ
     → V
     → Type 0) (f : Format V R)
-    → IsFormat s represents f → IsFormat s (λ b p x. represents b p (seen x)) (written_as seen f)
-written_as-format seen s represents f laws = record {
-  size_exact = λ x. laws.size_exact (seen x);
-  exclusive = λ x. laws.exclusive (seen x);
-  sound = λ x. laws.sound (seen x);
+    → IsFormat s represents f
+    → IsFormat s (λ b p x. represents b p (as_value x)) (written_as as_value f)
+written_as-format as_value s represents f laws = record {
+  size_exact = λ x. laws.size_exact (as_value x);
+  exclusive = λ x. laws.exclusive (as_value x);
+  sound = λ x. laws.sound (as_value x);
 }
 
 length_pair : (off size : ℕ) (a b : List ℕ) → length a ≤ off → off + length b ≤ size
@@ -68,7 +70,8 @@ module _ {V W R Q : Type 0} (k v : ElementSpec) (kl : IsElement k) (vl : IsEleme
   pair_sound : (pair : V × W) (r : EntryResolver R Q) (c : List ℕ) (p0 p : ℕ) (part out : List ℕ)
       → PairParts k v kf vf pair p0 part r → PairImage k v kf vf pair r p out
       → OccursAt c p0 part → OccursAt c p out → p0 + length part ≤ p → p % max k.align v.align ≡ 0
-      → (l : ℕ) × EntryHolds k v c p p0 (p0 + length part) l × PairRepresents k v key value c p pair
+      → (l : ℕ) × IsValidEntry k v c p p0 (p0 + length part) l
+      × PairRepresents k v key value c p pair
   pair_sound pair r c p0 p part out h (inl g) s t o al = absurd (omega (arith, h.0, g.0))
   pair_sound pair r c p0 p part out h (inr g) s t o al =
       let off : ℕ = value_offset k v in
@@ -98,9 +101,9 @@ module _ {V W R Q : Type 0} (k v : ElementSpec) (kl : IsElement k) (vl : IsEleme
       (occurs_back c p0 h.1 h.2 sp) tv (omega arith) alv in
       let bk : (p0 ≤ dk.0) × (dk.0 ≤ p0 + length h.1) =
       kl.rest_in_range c p p0 (p0 + length h.1) dk.0 (omega arith) dk.1 in
-      let hk : k.holds c p p0 (p0 + length part) dk.0 =
+      let hk : k.is_valid c p p0 (p0 + length part) dk.0 =
       kl.widen_hi c p p0 (p0 + length h.1) (p0 + length part) dk.0 (omega arith) dk.1 in
-      let hv : v.holds c (p + off) (p0 + length h.1) (p0 + length part) dv.0 =
+      let hv : v.is_valid c (p + off) (p0 + length h.1) (p0 + length part) dv.0 =
       vl.widen_hi c (p + off) (p0 + length h.1) (p0 + length h.1 + length h.2) (p0 + length part)
       dv.0 (omega arith) dv.1 in
       let lv = vl.lower_lo c (p + off) (p0 + length h.1) dk.0 (p0 + length part) dv.0 bk.1

@@ -53,7 +53,7 @@ module _ {V : Type 0} (e : Encoding V) (word : IsWord e.word) where
     word = word;
     size = refl;
     align = refl;
-    holds = λ b p lo hi l. (λ h. h, λ h. h);
+    is_valid = λ b p lo hi l. (λ h. h, λ h. h);
     fails = λ b p lo hi error. (λ f. f, λ f. f);
   }
 
@@ -99,7 +99,7 @@ module _ {V : Type 0} (s : ElementSpec) (e : Encoding V) (laws : IsScalar s e) w
     sound = λ v r c p0 p part out h i s t o al.
         let n : number_at e.word c p ≡ e.code v = number_sits v out c p i t in (
           p0,
-          (laws.holds c p p0 (p0 + length part) p0).1 (refl, subst e.IsCode (sym n) i.is_code),
+          (laws.is_valid c p p0 (p0 + length part) p0).1 (refl, subst e.IsCode (sym n) i.is_code),
           ap e.value n ∙ i.reads_back,
         );
   }

@@ -18,7 +18,7 @@ use Rattle.rkyv_base.specs.Lemmas.Parts.{part_one, part_prop, part_exclusive, pa
 use Rattle.rkyv_base.specs.Lemmas.Parts.{part_wider}
 use Rattle.rkyv_base.specs.Text.{text_size, fixed_bytes, is_out_of_line, inline_text}
 use Rattle.rkyv_base.specs.Text.{out_of_line_length, out_of_line_begin, text_of, text_at, TextReads}
-use Rattle.rkyv_base.specs.Text.{InlineHolds, OutOfLineHolds, TextHolds, OutOfLineFails}
+use Rattle.rkyv_base.specs.Text.{IsValidInline, IsValidOutOfLine, IsValidText, OutOfLineFails}
 use Rattle.rkyv_base.specs.Text.{TextFails, text_spec, IsArchiveWord}
 
 -- a property of both words is one of either
@@ -28,7 +28,7 @@ by_archive_word P p32 p64 w (inr e) = subst P (sym e) p64
 
 module _ (w : Width) where
   -- a text is inline or out of line, and an out-of-line text has one position
-  out_of_line_prop : (s b : List ℕ) (p lo hi l : ℕ) → IsProp (OutOfLineHolds w s b p lo hi l)
+  out_of_line_prop : (s b : List ℕ) (p lo hi l : ℕ) → IsProp (IsValidOutOfLine w s b p lo hi l)
   out_of_line_prop s b p lo hi l =
       let P : ℕ → Type 0 =
       λ at. PartIn (out_of_line_begin w s p) (out_of_line_length w s) 1 lo hi at
@@ -44,41 +44,41 @@ module _ (w : Width) where
       (λ at at' h k. part_one (out_of_line_begin w s p)
       (out_of_line_length w s) 1 lo hi at at' h.0 k.0))))
 
-  inline_prop : (s : List ℕ) (lo l : ℕ) → IsProp (InlineHolds s lo l)
+  inline_prop : (s : List ℕ) (lo l : ℕ) → IsProp (IsValidInline s lo l)
   inline_prop s lo l =
       prop_by {B = (is_out_of_line s ≡ false) × (IsUtf8 (inline_text s) × (l ≡ lo))}
       (λ h. (h.0, (h.1, h.2))) (λ h. (h.0, h.1.0, h.1.1)) (λ _. refl)
       (×_prop (hlevel props) (×_prop (hlevel props) (hlevel props)))
 
-  text_prop : (s b : List ℕ) (p lo hi l : ℕ) → IsProp (TextHolds w s b p lo hi l)
+  text_prop : (s b : List ℕ) (p lo hi l : ℕ) → IsProp (IsValidText w s b p lo hi l)
   text_prop s b p lo hi l =
       either_prop (inline_prop s lo l) (out_of_line_prop s b p lo hi l) (λ h k. cc (h.0, k.0))
 
-  holds_between : (s b : List ℕ) (p lo hi l : ℕ) → lo ≤ hi → TextHolds w s b p lo hi l → (lo ≤ l)
+  valid_between : (s b : List ℕ) (p lo hi l : ℕ) → lo ≤ hi → IsValidText w s b p lo hi l → (lo ≤ l)
       × (l ≤ hi)
-  holds_between s b p lo hi l o (inl h) = (omega (arith, h.2), omega (arith, h.2))
-  holds_between s b p lo hi l o (inr (f, n, at, part, u, q)) =
+  valid_between s b p lo hi l o (inl h) = (omega (arith, h.2), omega (arith, h.2))
+  valid_between s b p lo hi l o (inr (f, n, at, part, u, q)) =
       (omega (arith, part.above, q), omega (arith, part.below, q))
 
-  holds_one : (s b : List ℕ) (p lo hi l l' : ℕ) → TextHolds w s b p lo hi l
-      → TextHolds w s b p lo hi l' → l ≡ l'
-  holds_one s b p lo hi l l' (inl h) (inl k) = h.2 ∙ sym k.2
-  holds_one s b p lo hi l l' (inl h) (inr k) = cc (h.0, k.0)
-  holds_one s b p lo hi l l' (inr h) (inl k) = cc (h.0, k.0)
-  holds_one s b p lo hi l l' (inr (f, n, at, part, u, q)) (inr (f', n', at', part', u', q')) =
+  valid_one : (s b : List ℕ) (p lo hi l l' : ℕ) → IsValidText w s b p lo hi l
+      → IsValidText w s b p lo hi l' → l ≡ l'
+  valid_one s b p lo hi l l' (inl h) (inl k) = h.2 ∙ sym k.2
+  valid_one s b p lo hi l l' (inl h) (inr k) = cc (h.0, k.0)
+  valid_one s b p lo hi l l' (inr h) (inl k) = cc (h.0, k.0)
+  valid_one s b p lo hi l l' (inr (f, n, at, part, u, q)) (inr (f', n', at', part', u', q')) =
       let same : at ≡ at' =
       part_one (out_of_line_begin w s p) (out_of_line_length w s) 1 lo hi at at' part part' in
       omega (arith, same, q, q')
 
-  holds_exclusive : (s b : List ℕ) (p lo hi l : ℕ) (e : VerifyError) → TextHolds w s b p lo hi l
+  valid_exclusive : (s b : List ℕ) (p lo hi l : ℕ) (e : VerifyError) → IsValidText w s b p lo hi l
       → TextFails w s b p lo hi e → ⊥
-  holds_exclusive s b p lo hi l e (inl h) (inl k) = k.1 h.1
-  holds_exclusive s b p lo hi l e (inl h) (inr k) = cc (h.0, k.0)
-  holds_exclusive s b p lo hi l e (inr h) (inl k) = cc (h.0, k.0)
-  holds_exclusive s b p lo hi l e (inr h) (inr (f, inl k)) = omega (arith, h.1, k.0)
-  holds_exclusive s b p lo hi l e (inr (f, n, at, part, u, q)) (inr (f', inr (inl k))) =
+  valid_exclusive s b p lo hi l e (inl h) (inl k) = k.1 h.1
+  valid_exclusive s b p lo hi l e (inl h) (inr k) = cc (h.0, k.0)
+  valid_exclusive s b p lo hi l e (inr h) (inl k) = cc (h.0, k.0)
+  valid_exclusive s b p lo hi l e (inr h) (inr (f, inl k)) = omega (arith, h.1, k.0)
+  valid_exclusive s b p lo hi l e (inr (f, n, at, part, u, q)) (inr (f', inr (inl k))) =
       part_exclusive (out_of_line_begin w s p) (out_of_line_length w s) 1 lo hi at e part k.1
-  holds_exclusive s b p lo hi l e (inr (f, n, at, part, u, q))
+  valid_exclusive s b p lo hi l e (inr (f, n, at, part, u, q))
       (inr (f', inr (inr (n', at', part', none, q')))) =
       let same : at ≡ at' =
       part_one (out_of_line_begin w s p) (out_of_line_length w s) 1 lo hi at at' part part' in
@@ -110,9 +110,9 @@ module _ (w : Width) where
   text_one_failure s b p lo hi e e' (inr f) (inr g) =
       out_of_line_one_failure s b p lo hi e e' f.1 g.1
 
-  holds_wider : (s b : List ℕ) (p lo lo' hi hi' l : ℕ) → lo' ≤ lo → hi ≤ hi'
-      → OutOfLineHolds w s b p lo hi l → OutOfLineHolds w s b p lo' hi' l
-  holds_wider s b p lo lo' hi hi' l low high (f, n, at, part, u, q) = (
+  valid_wider : (s b : List ℕ) (p lo lo' hi hi' l : ℕ) → lo' ≤ lo → hi ≤ hi'
+      → IsValidOutOfLine w s b p lo hi l → IsValidOutOfLine w s b p lo' hi' l
+  valid_wider s b p lo lo' hi hi' l low high (f, n, at, part, u, q) = (
     f,
     n,
     at,
@@ -121,21 +121,21 @@ module _ (w : Width) where
     q,
   )
 
-  holds_higher : (s b : List ℕ) (p lo hi hi' l : ℕ) → hi ≤ hi' → TextHolds w s b p lo hi l
-      → TextHolds w s b p lo hi' l
-  holds_higher s b p lo hi hi' l o (inl h) = inl h
-  holds_higher s b p lo hi hi' l o (inr h) =
-      inr (holds_wider s b p lo lo hi hi' l (omega arith) o h)
+  valid_higher : (s b : List ℕ) (p lo hi hi' l : ℕ) → hi ≤ hi' → IsValidText w s b p lo hi l
+      → IsValidText w s b p lo hi' l
+  valid_higher s b p lo hi hi' l o (inl h) = inl h
+  valid_higher s b p lo hi hi' l o (inr h) =
+      inr (valid_wider s b p lo lo hi hi' l (omega arith) o h)
 
-  holds_lower : (s b : List ℕ) (p lo lo' hi l : ℕ) → lo' ≤ lo → TextHolds w s b p lo hi l
-      → (l' : ℕ) × TextHolds w s b p lo' hi l' × (l' ≤ l)
-  holds_lower s b p lo lo' hi l o (inl h) = (lo', inl (h.0, h.1, refl), omega (arith, h.2))
-  holds_lower s b p lo lo' hi l o (inr h) =
-      (l, inr (holds_wider s b p lo lo' hi hi l o (omega arith) h), omega arith)
+  valid_lower : (s b : List ℕ) (p lo lo' hi l : ℕ) → lo' ≤ lo → IsValidText w s b p lo hi l
+      → (l' : ℕ) × IsValidText w s b p lo' hi l' × (l' ≤ l)
+  valid_lower s b p lo lo' hi l o (inl h) = (lo', inl (h.0, h.1, refl), omega (arith, h.2))
+  valid_lower s b p lo lo' hi l o (inr h) =
+      (l, inr (valid_wider s b p lo lo' hi hi l o (omega arith) h), omega arith)
 
   -- the out-of-line text is below the new lower end, so it is the same if those bytes are
   same_text : (s b c : List ℕ) (p lo hi l : ℕ) → AgreeOn b c lo l
-      → (h : OutOfLineHolds w s b p lo hi l)
+      → (h : IsValidOutOfLine w s b p lo hi l)
       → slice_range b h.2 (h.2 + out_of_line_length w s) ≡ slice_range c h.2
       (h.2 + out_of_line_length w s)
   same_text s b c p lo hi l part (f, n, at, at_part, u, q) =
@@ -143,10 +143,10 @@ module _ (w : Width) where
       (omega arith)
       part
 
-  holds_local : (s b c : List ℕ) (p lo hi l : ℕ) → AgreeOn b c lo l → TextHolds w s b p lo hi l
-      → TextHolds w s c p lo hi l
-  holds_local s b c p lo hi l part (inl h) = inl h
-  holds_local s b c p lo hi l part (inr h) =
+  valid_local : (s b c : List ℕ) (p lo hi l : ℕ) → AgreeOn b c lo l → IsValidText w s b p lo hi l
+      → IsValidText w s c p lo hi l
+  valid_local s b c p lo hi l part (inl h) = inl h
+  valid_local s b c p lo hi l part (inr h) =
       inr (h.0, h.1, h.2, h.3, subst IsUtf8 (same_text s b c p lo hi l part h) h.4, h.5)
 
   -- inline text, and out-of-line text, as read
@@ -163,7 +163,7 @@ module _ (w : Width) where
       let there : unsigned_abs (out_of_line_begin w s p) ≡ at = ap unsigned_abs (sym begins) in
       rw (out_of_line, there) refl
 
-  reads_local : (s b c : List ℕ) (p lo hi l : ℕ) (t : List ℕ) → TextHolds w s b p lo hi l
+  reads_local : (s b c : List ℕ) (p lo hi l : ℕ) (t : List ℕ) → IsValidText w s b p lo hi l
       → AgreeOn b c lo l → text_of w s b p ≡ t → text_of w s c p ≡ t
   reads_local s b c p lo hi l t (inl h) part e = inline_reads s c p h.0
       ∙ sym (inline_reads s b p h.0) ∙ e
@@ -172,15 +172,15 @@ module _ (w : Width) where
       ∙ sym (out_of_line_reads s b p h.2 h.0 h.3.begins) ∙ e
 
   -- a valid text is UTF-8
-  holds_text : (s b : List ℕ) (p lo hi l : ℕ) → TextHolds w s b p lo hi l
+  valid_text : (s b : List ℕ) (p lo hi l : ℕ) → IsValidText w s b p lo hi l
       → IsUtf8 (text_of w s b p)
-  holds_text s b p lo hi l (inl h) = subst IsUtf8 (sym (inline_reads s b p h.0)) h.1
-  holds_text s b p lo hi l (inr h) =
+  valid_text s b p lo hi l (inl h) = subst IsUtf8 (sym (inline_reads s b p h.0)) h.1
+  valid_text s b p lo hi l (inr h) =
       subst IsUtf8 (sym (out_of_line_reads s b p h.2 h.0 h.3.begins)) h.4
 
   -- the text of a view is UTF-8
   pub viewable_text : (b : List ℕ) (p : ℕ) → Viewable (text_spec w) b p → IsUtf8 (text_at w b p)
-  viewable_text b p v = holds_text (fixed_bytes w b p) b p 0 p v.valid.0 v.valid.1
+  viewable_text b p v = valid_text (fixed_bytes w b p) b p 0 p v.valid.0 v.valid.1
 
   -- the out-of-line text of a view is before the view's position
   pub viewable_out_of_line : (b : List ℕ) (p : ℕ) → Viewable (text_spec w) b p
@@ -197,7 +197,7 @@ module _ (w : Width) where
   pub text_local : RepresentsLocally (text_spec w) (TextReads w)
   text_local t b c p lo hi l o h fixed part reads =
       reads_local (fixed_bytes w c p) b c p lo hi l t
-      (subst (λ s. TextHolds w s b p lo hi l) fixed h) part
+      (subst (λ s. IsValidText w s b p lo hi l) fixed h) part
       (subst (λ s. text_of w s b p ≡ t) fixed reads)
 
 module _ (w : Width) (kind : IsArchiveWord w) where
@@ -208,12 +208,12 @@ module _ (w : Width) (kind : IsArchiveWord w) where
     size_whole = by_archive_word (λ v. text_size v % byte_len v ≡ 0) refl refl w kind;
     size_small = by_archive_word (λ v. text_size v ≤ 1073741824) (omega arith) (omega arith) w kind;
     proper = λ b p lo hi l. text_prop w (fixed_bytes w b p) b p lo hi l;
-    rest_in_range = λ b p lo hi l o h. holds_between w (fixed_bytes w b p) b p lo hi l o h;
-    rest_unique = λ b p lo hi l l' h h'. holds_one w (fixed_bytes w b p) b p lo hi l l' h h';
-    exclusive = λ b p lo hi l e h f. holds_exclusive w (fixed_bytes w b p) b p lo hi l e h f;
+    rest_in_range = λ b p lo hi l o h. valid_between w (fixed_bytes w b p) b p lo hi l o h;
+    rest_unique = λ b p lo hi l l' h h'. valid_one w (fixed_bytes w b p) b p lo hi l l' h h';
+    exclusive = λ b p lo hi l e h f. valid_exclusive w (fixed_bytes w b p) b p lo hi l e h f;
     one_failure = λ b p lo hi e e' f g. text_one_failure w (fixed_bytes w b p) b p lo hi e e' f g;
-    widen_hi = λ b p lo hi hi' l o h. holds_higher w (fixed_bytes w b p) b p lo hi hi' l o h;
-    lower_lo = λ b p lo lo' hi l o o' h. holds_lower w (fixed_bytes w b p) b p lo lo' hi l o h;
-    local = λ b c p lo hi l o fixed part h. holds_local w (fixed_bytes w c p) b c p lo hi l part
-        (subst (λ s. TextHolds w s b p lo hi l) fixed h);
+    widen_hi = λ b p lo hi hi' l o h. valid_higher w (fixed_bytes w b p) b p lo hi hi' l o h;
+    lower_lo = λ b p lo lo' hi l o o' h. valid_lower w (fixed_bytes w b p) b p lo lo' hi l o h;
+    local = λ b c p lo hi l o fixed part h. valid_local w (fixed_bytes w c p) b c p lo hi l part
+        (subst (λ s. IsValidText w s b p lo hi l) fixed h);
   }

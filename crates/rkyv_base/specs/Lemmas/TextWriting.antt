@@ -11,7 +11,7 @@ use Rattle.rkyv_base.specs.declared.strings.TextResolver.{TextResolver}
 use Rattle.rkyv_base.specs.Format.{IsFormat}
 use Rattle.rkyv_base.specs.Pairs.{written_as}
 use Rattle.rkyv_base.specs.Lemmas.Pairs.{written_as-format}
-use Rattle.rkyv_base.specs.Text.{IsArchiveWord, TextHolds, TextReads}
+use Rattle.rkyv_base.specs.Text.{IsArchiveWord, IsValidText, TextReads}
 use Rattle.rkyv_base.specs.Lemmas.Text.{by_archive_word}
 use Rattle.rkyv_base.specs.Text.{out_of_line_begin, out_of_line_length}
 use Rattle.rkyv_base.specs.Lemmas.Text.{out_of_line_reads}
@@ -132,8 +132,8 @@ module _ (w : Width) (kind : IsArchiveWord w) (n : ℕ) (d : ℤ) where
       ∙ ap (cast_signed w) (word_reads_back w word u (Fits-of_z fits).fits) ∙ to_z-of_z w d fits
 
 -- a distance leads back to the position from which it was taken
-there_and_back : (p q : ℕ) → pos q ≡ pos p +ℤ (pos q -ℤ pos p)
-there_and_back p q = omega (arith, ints)
+add_distance : (p q : ℕ) → pos q ≡ pos p +ℤ (pos q -ℤ pos p)
+add_distance p q = omega (arith, ints)
 
 module _ (w : Width) (kind : IsArchiveWord w) where
   sizes : (0 < text_size w) × (text_size w < text_limit w)
@@ -151,7 +151,7 @@ module _ (w : Width) (kind : IsArchiveWord w) where
 
   inline_sound : (t c : List ℕ) (p lo hi : ℕ) → IsUtf8 t
       → fixed_bytes w c p ≡ inline_bytes (text_size w) t
-      → (l : ℕ) × TextHolds w (fixed_bytes w c p) c p lo hi l × TextReads w c p t
+      → (l : ℕ) × IsValidText w (fixed_bytes w c p) c p lo hi l × TextReads w c p t
   inline_sound t c p lo hi u fixed =
       let inline : is_out_of_line (fixed_bytes w c p) ≡ false = ap is_out_of_line fixed
       ∙ inline_form (text_size w) t sizes.0 u in
@@ -167,7 +167,7 @@ module _ (w : Width) (kind : IsArchiveWord w) where
       → FitsSigned w (pos p0 -ℤ pos p)
       → OccursAt c p0 t
       → fixed_bytes w c p ≡ out_of_line_bytes w (length t) (pos p0 -ℤ pos p)
-      → (l : ℕ) × TextHolds w (fixed_bytes w c p) c p p0 (p0 + length t) l × TextReads w c p t
+      → (l : ℕ) × IsValidText w (fixed_bytes w c p) c p p0 (p0 + length t) l × TextReads w c p t
   out_of_line_sound t c p p0 u long fits sits fixed =
       let d : ℤ = pos p0 -ℤ pos p in
       let s : List ℕ = fixed_bytes w c p in
@@ -178,7 +178,7 @@ module _ (w : Width) (kind : IsArchiveWord w) where
       let distance : signed_at w s (byte_len w) ≡ d =
       ap (λ (x : List ℕ). signed_at w x (byte_len w)) fixed
       ∙ distance_reads w kind (length t) d fits in
-      let begins : pos p0 ≡ out_of_line_begin w s p = there_and_back p p0
+      let begins : pos p0 ≡ out_of_line_begin w s p = add_distance p p0
       ∙ ap (λ (z : ℤ). pos p +ℤ z) (sym distance) in
       let text : slice_range c p0 (p0 + out_of_line_length w s) ≡ t =
       ap (λ (n : ℕ). slice_range c p0 (p0 + n)) len ∙ sits.there in
@@ -203,7 +203,7 @@ module _ (w : Width) (kind : IsArchiveWord w) where
   text_sound : (t : List ℕ) (r : TextResolver) (c : List ℕ) (p0 p : ℕ) (part out : List ℕ)
       → TextParts w t p0 part r → TextImage w t r p out
       → OccursAt c p0 part → fixed_bytes w c p ≡ out
-      → (l : ℕ) × TextHolds w (fixed_bytes w c p) c p p0 (p0 + length part) l × TextReads w c p t
+      → (l : ℕ) × IsValidText w (fixed_bytes w c p) c p p0 (p0 + length part) l × TextReads w c p t
   text_sound t r c p0 p part out h (inl i) s fixed =
       inline_sound t c p p0 (p0 + length part) h.0 (fixed ∙ i.1)
   text_sound t r c p0 p part out (u, inl h) (inr (inl i)) s fixed =
@@ -218,7 +218,7 @@ module _ (w : Width) (kind : IsArchiveWord w) where
       let same : fixed_bytes w c p ≡ out_of_line_bytes w (length t) (pos p0 -ℤ pos p) =
       subst (λ q. fixed_bytes w c p ≡ out_of_line_bytes w (length t) (pos q -ℤ pos p)) h.2 (fixed
       ∙ i.2) in
-      subst (λ x. (l : ℕ) × TextHolds w (fixed_bytes w c p) c p p0 (p0 + length x) l
+      subst (λ x. (l : ℕ) × IsValidText w (fixed_bytes w c p) c p p0 (p0 + length x) l
       × TextReads w c p t) (sym h.1)
       (out_of_line_sound t c p p0 u h.0 fits (subst (OccursAt c p0) h.1 s) same)
 
@@ -232,8 +232,8 @@ module _ (w : Width) (kind : IsArchiveWord w) where
   }
 
   -- the same for any type that is written as a text
-  pub seen_text_is_format : {X : Type 0} (seen : X → List ℕ)
-      → IsFormat (text_spec w) (λ b p x. TextReads w b p (seen x))
-      (written_as seen (text_format w))
-  seen_text_is_format seen = written_as-format seen (text_spec w) (TextReads w) (text_format w)
+  pub text_as_format : {X : Type 0} (as_value : X → List ℕ)
+      → IsFormat (text_spec w) (λ b p x. TextReads w b p (as_value x))
+      (written_as as_value (text_format w))
+  text_as_format as_value = written_as-format as_value (text_spec w) (TextReads w) (text_format w)
       text_is_format

@@ -19,7 +19,7 @@ use Rattle.rkyv_table.specs.Controls.Numbers.{capacity}
 use Rattle.rkyv_table.specs.Controls.Placing.{Written}
 use Rattle.rkyv_table.specs.Table.Positions.{WrittenAt, home_positions, item_at}
 use Rattle.rkyv_table.specs.Table.Positions.{table_controls}
-use Rattle.rkyv_table.specs.Table.Layout.{TableHolds}
+use Rattle.rkyv_table.specs.Table.Layout.{IsValidTable}
 use Rattle.rkyv_table.specs.Table.TableFormat.{TableRepresents}
 use Rattle.rkyv_table.specs.Lemmas.TableSound.{table_is_format}
 use Rattle.rkyv_table.specs.Table.PlacedItems.{hashes_of, items_of}
@@ -33,7 +33,7 @@ use Rattle.rkyv_table.specs.Lemmas.SameControls.{same_controls}
 
 -- the hash of a key depends only on the bytes on which the validity of the key depends
 abbrev pub HashLocal : ElementSpec → (List ℕ → ℕ → ℕ) → Type 0
-HashLocal k hash = (b c : List ℕ) (q lo hi l : ℕ) → lo ≤ hi → k.holds b q lo hi l
+HashLocal k hash = (b c : List ℕ) (q lo hi l : ℕ) → lo ≤ hi → k.is_valid b q lo hi l
     → AgreeOn b c q (q + k.size) → AgreeOn b c lo l → hash b q ≡ hash c q
 
 -- a key that represents a value has the hash of the value
@@ -67,10 +67,10 @@ module _ (k v : ElementSpec) (kl : IsElement k) (vl : IsElement v) (w : Width) w
   pub key_valid : (b : List ℕ) (q lo hi l : ℕ) → HoldsWithin S b q lo hi l → hi ≤ q
       → ValidAt k b q
   key_valid b q lo hi l h o =
-      let e = h.holds in
+      let e = h.is_valid in
       valid_at k kl b q h.lower hi e.1 h.below o e.2
 
-  module _ (b : List ℕ) (p lo hi l : ℕ) (h : TableHolds w S b p lo hi l) (hashes homes : List ℕ)
+  module _ (b : List ℕ) (p lo hi l : ℕ) (h : IsValidTable w S b p lo hi l) (hashes homes : List ℕ)
       (written : WrittenAt w b p hashes homes) where
     -- the entry of each item is valid
     pub entry_there : (i : ℕ) → i < length homes
@@ -92,7 +92,7 @@ module _ (k v : ElementSpec) (kl : IsElement k) (vl : IsElement v) (w : Width) w
     module _ (local : HashLocal k hash) (kn : RepresentsLocally k key)
         (vn : RepresentsLocally v value)
         (pairs : List (A × B)) (b c : List ℕ) (p lo hi l : ℕ) (o : lo ≤ hi)
-        (h : TableHolds w S b p lo hi l) (fixed : AgreeOn b c p (p + 3 * byte_len w))
+        (h : IsValidTable w S b p lo hi l) (fixed : AgreeOn b c p (p + 3 * byte_len w))
         (part : AgreeOn b c lo l) (st : MapRepresents w k v key value hash factor b p pairs) where
       same_positions : home_positions w S.size b p st.homes ≡ home_positions w S.size c p st.homes
       same_positions = ap (λ z. map (λ i. z - (i + 1) * S.size) st.homes) (pos_same w b c p fixed)
@@ -119,7 +119,7 @@ module _ (k v : ElementSpec) (kl : IsElement k) (vl : IsElement v) (w : Width) w
       same_hash i below =
           let r = there i below in
           let q = place b p st.homes i in
-          let e = r.1.holds in
+          let e = r.1.is_valid in
           let x = kl.rest_in_range b q r.1.lower r.0.begin e.1 r.1.below e.2 in
           let y = vl.rest_in_range b (q + value_offset k v) e.1 r.0.begin r.1.rest x.1 e.3 in
           let ends = r.0.ends in
@@ -178,10 +178,10 @@ module _ (k v : ElementSpec) (kl : IsElement k) (vl : IsElement v) (w : Width) w
             let q = place b p st.homes i in
             let ends = r.0.ends in
             let ends' = r.1.ends in
-            let x = law.rest_in_range b q r.1.lower r.0.begin r.1.rest r.1.below r.1.holds in
+            let x = law.rest_in_range b q r.1.lower r.0.begin r.1.rest r.1.below r.1.is_valid in
             let there' =
             pair_local k v kl vl key value kn vn pair b c q r.1.lower r.0.begin r.1.rest
-            r.1.below r.1.holds (same_entry i below)
+            r.1.below r.1.is_valid (same_entry i below)
             (agree_on_part b c lo l r.1.lower r.1.rest r.1.above (omega
             (arith, ends, ends')) x.0 part)
             (st.at i pair e) in
@@ -190,7 +190,8 @@ module _ (k v : ElementSpec) (kl : IsElement k) (vl : IsElement v) (w : Width) w
       }
 
     module _ (own : A → ℕ) (hashes_alike : HashesAlike k key hash own) where
-      module _ (pairs : List (A × B)) (c : List ℕ) (p lo hi l : ℕ) (h : TableHolds w S c p lo hi l)
+      module _ (pairs : List (A × B)) (c : List ℕ) (p lo hi l : ℕ)
+          (h : IsValidTable w S c p lo hi l)
           (t : TableRepresents w S (PairRepresents k v key value) factor c p
           (keyed own pairs)) where
         whole : IsWrittenOf w S.size (PairRepresents k v key value) c p (keyed own pairs)

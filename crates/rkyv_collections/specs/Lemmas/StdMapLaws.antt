@@ -27,7 +27,7 @@ use Rattle.rkyv_table.specs.Controls.Placing.{walk}
 use Rattle.rkyv_table.specs.Table.Positions.{IsWalked, home_positions, item_at}
 use Rattle.rkyv_table.specs.Table.Positions.{item_positions, table_controls}
 use Rattle.rkyv_table.specs.Lemmas.SameHeader.{cap_same, pos_same}
-use Rattle.rkyv_table.specs.Table.Layout.{TableHolds}
+use Rattle.rkyv_table.specs.Table.Layout.{IsValidTable}
 use Rattle.rkyv_table.proofs.RawWalks.{walk_count, walked_all}
 use Rattle.rkyv_table.proofs.WalkedHomes.{walked_homes}
 use Rattle.rkyv_table.proofs.Walks.{walk_none}
@@ -46,7 +46,7 @@ module _ (k v : ElementSpec) (kl : IsElement k) (vl : IsElement v) (w : Width) w
   abbrev law : IsElement S
   law = entry_element k v kl vl
 
-  module _ (b c : List ℕ) (p lo hi l : ℕ) (o : lo ≤ hi) (h : TableHolds w S b p lo hi l)
+  module _ (b c : List ℕ) (p lo hi l : ℕ) (o : lo ≤ hi) (h : IsValidTable w S b p lo hi l)
       (fixed : AgreeOn b c p (p + 3 * byte_len w)) (part : AgreeOn b c lo l) where
     same_walk : walk (table_controls w b p) (cap_at w b p)
         ≡ walk (table_controls w c p) (cap_at w c p)
@@ -80,9 +80,9 @@ module _ (k v : ElementSpec) (kl : IsElement k) (vl : IsElement v) (w : Width) w
           let above = t.part.above in
           let ends = t.ends in
           let ends' = r.0.ends in
-          let x = law.rest_in_range b q r.0.lower t.begin r.0.rest r.0.below r.0.holds in
+          let x = law.rest_in_range b q r.0.lower t.begin r.0.rest r.0.below r.0.is_valid in
           pair_local k v kl vl key value kn vn pair b c q r.0.lower t.begin r.0.rest r.0.below
-          r.0.holds
+          r.0.is_valid
           (agree_on_part b c lo l q (q + S.size) (omega (arith, r.1, above)) r.2 (omega arith) part)
           (agree_on_part b c lo l r.0.lower r.0.rest r.0.above (omega
           (arith, ends, ends')) x.0 part) st

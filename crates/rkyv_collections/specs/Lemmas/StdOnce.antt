@@ -104,7 +104,7 @@ module _ {A B : Type 0} (equal : A → A → Bool) (laws : IsEquivalence equal) 
           let t = holds_at w s law b p 0 p st.0 st.1 (omega (arith, walked.0)) in
           let one = item_holds w s law b p 0 p st.0 st.1 i walked t in
           valid_at s law b (item_at w s.size b p i) one.0.lower t.begin one.0.rest one.0.below one.1
-          one.0.holds
+          one.0.is_valid
 
       zip_alike : (b : List ℕ) (positions : List ℕ) (ps qs : List (A × B))
           → All (ValidAt (entry_spec k v) b) positions → ArePairsAt k v key value b positions ps

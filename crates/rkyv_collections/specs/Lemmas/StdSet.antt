@@ -49,15 +49,15 @@ set_equal_entries w k hash fits b p keys h = (
 -- a set of std equals its archived form
 pub set_equal_written : {X A R : Type 0} (w : Width) (k s : ElementSpec) (hash : A → ℕ) (fits : A
     → List ℕ
-    → ℕ → Bool) (seen : X → List A) (f : Format X R)
+    → ℕ → Bool) (model : X → List A) (f : Format X R)
     → IsFormat s (λ b p x. EntriesEqual w k unit_spec hash fits unit_represents b p
-    (with_units (seen x))) f
-    → IsFormat s (λ b p x. (len_at w b p ≡ length (seen x))
-    × All (λ key. FindsPair w k unit_spec hash fits unit_represents b p (key, tt)) (seen x)) f
-set_equal_written w k s hash fits seen f law = record {
+    (with_units (model x))) f
+    → IsFormat s (λ b p x. (len_at w b p ≡ length (model x))
+    × All (λ key. FindsPair w k unit_spec hash fits unit_represents b p (key, tt)) (model x)) f
+set_equal_written w k s hash fits model f law = record {
   size_exact = law.size_exact;
   exclusive = law.exclusive;
   sound = λ x r c p0 p part out h i t o q al.
       let d = law.sound x r c p0 p part out h i t o q al in
-      (d.0, d.1, set_equal_entries w k hash fits c p (seen x) d.2);
+      (d.0, d.1, set_equal_entries w k hash fits c p (model x) d.2);
 }

@@ -7,10 +7,10 @@ use Rattle.std.specs.Option.{is_some}
 use Rattle.rkyv_base.specs.Scalar.{Encoding, ScalarRepresents}
 use Rattle.rkyv_base.specs.Sealing.{with_value}
 use Rattle.rkyv_base.specs.ElementSpec.{ElementSpec}
-use Rattle.rkyv_keys.specs.Asked.{Asked}
+use Rattle.rkyv_keys.specs.KeyLookup.{KeyLookup}
 use Rattle.rkyv_table.specs.Table.SealedItems.{WrittenBy}
 use Rattle.rkyv_keys.specs.FirstPairs.{first_pair}
-use Rattle.rkyv_collections.specs.Map.MapAt.{AskedValue, MapAt, TellsValueAt}
+use Rattle.rkyv_collections.specs.Map.MapAt.{ValueQuery, MapAt, FoundValueHasAt}
 use Rattle.rkyv_collections.specs.Map.MapFormat.{MapRepresents}
 use Rattle.rkyv_collections.specs.Map.ValueWrites.{KeepsMap}
 
@@ -30,9 +30,9 @@ WritesFound {F} {R} post write b result c place = MatchOption place ((result ≡
 
 -- the list with `value` in the first pair with an accepted key
 abbrev pub with_first : {A B : Type 0} → (A → Bool) → B → List (A × B) → List (A × B)
-with_first asks value [] = []
-with_first asks value (pair ∷ rest) =
-    cond (asks pair.0) ((pair.0, value) ∷ rest) (pair ∷ with_first asks value rest)
+with_first accept_value value [] = []
+with_first accept_value value (pair ∷ rest) =
+    cond (accept_value pair.0) ((pair.0, value) ∷ rest) (pair ∷ with_first accept_value value rest)
 
 module _ {N : Type 0} (w : Width) (k v : ElementSpec) (e : Encoding N) where
   -- No value is found, and the archive is unchanged. Or the value at the position is the new one,
@@ -44,17 +44,17 @@ module _ {N : Type 0} (w : Width) (k v : ElementSpec) (e : Encoding N) where
 
 -- the value that a lookup finds is written, if it finds one. `result`: it finds one, `c`: bytes
 -- afterwards
-abbrev pub SetsValue : {N : Type 0} → MapAt → Asked → Encoding N → N → Bool → List ℕ → Type 0
-SetsValue m a e value result c = TellsValueAt m a
+abbrev pub SetsValue : {N : Type 0} → MapAt → KeyLookup → Encoding N → N → Bool → List ℕ → Type 0
+SetsValue m a e value result c = FoundValueHasAt m a
     (SetsFound m.word m.key m.value e a.key_hash m.bytes m.pos value result c)
 
 -- a map that represents a list of pairs represents the list with the new value in the first pair
 -- with an accepted key
-abbrev pub SetsFirst : {A N : Type 0} → MapAt → AskedValue A → Encoding N → N → Bool → List ℕ
+abbrev pub SetsFirst : {A N : Type 0} → MapAt → ValueQuery A → Encoding N → N → Bool → List ℕ
     → Type 0
 SetsFirst {A} {N} m a e value result c = (factor : ℕ × ℕ) (pairs : List (A × N))
     → MapRepresents m.word m.key m.value a.represents
     (ScalarRepresents e) a.key_hash factor m.bytes m.pos pairs
-    → (result ≡ is_some (first_pair a.asks pairs))
+    → (result ≡ is_some (first_pair a.accept_value pairs))
     × MapRepresents m.word m.key m.value a.represents (ScalarRepresents e) a.key_hash factor c m.pos
-    (with_first a.asks value pairs)
+    (with_first a.accept_value value pairs)

@@ -8,7 +8,7 @@ use Rattle.std.specs.Option.{option_map}
 use Rattle.std.specs.declared.vec.Vec.{Vec}
 use Rattle.rkyv_scan.specs.Groups.{generic_kind}
 use Rattle.rkyv_scan.specs.Hash.{fx_hasher, low_halves}
-use Rattle.rkyv_base.specs.Access.{Accepted, OpensNarrow}
+use Rattle.rkyv_base.specs.Access.{IsValidArchive, OpensNarrow}
 use Rattle.rkyv_base.specs.Entry.{entry_spec, value_offset}
 use Rattle.rkyv_base.specs.Format.{Format}
 use Rattle.rkyv_base.specs.Layout.{narrow_limit}
@@ -58,7 +58,7 @@ TextMapRepresents e factor b p pairs = MapRepresents w32 (text_spec w32) (scalar
 -- `b`: narrow archive. Its root is a map of texts to scalars under `FxHasher64`
 -- that represents `pairs` under some load factor
 pub record IsTextMap {N : Type 0} (e : Encoding N) (b : List ℕ) (pairs : TextPairs N) : Type 0 where
-  pub accepted : Accepted narrow_limit (text_map_spec e) b
+  pub accepted : IsValidArchive narrow_limit (text_map_spec e) b
   pub load_factor : ℕ × ℕ
   pub represents : TextMapRepresents e load_factor b (length b - (text_map_spec e).size) pairs
 
@@ -112,11 +112,11 @@ abbrev pub FoundAreListed : {A Q B K V W : Type 0} → (H : Type 0) → Words W 
 FoundAreListed {A} {Q} {B} {K} {V} {W} H wt ks vs keys values =
     (map : ArchivedHashMap K V H W ks vs wt) (root : View (HashMapOf K V H W))
     (archive : Bor (List ℕ)) (factor : ℕ × ℕ) (pairs : List (A × B))
-    (asked : Q) (found : Option (View V))
+    (query : Q) (found : Option (View V))
     → map.view ≡ root → IsAt root archive (map_root wt.word ks.spec vs.spec archive.now)
     → MapRepresents wt.word ks.spec vs.spec keys.represents values.represents keys.key_hash factor
     archive.now (map_root wt.word ks.spec vs.spec archive.now) pairs
     → IfSome found (IsValueIn map)
-    → FindsFirstKey map keys.key_hash (keys.fits asked (map_bytes map))
+    → FindsFirstKey map keys.key_hash (keys.fits query (map_bytes map))
     (IsValueAt ks.spec vs.spec found)
-    → values.IsFound found (first_value (keys.equal asked) pairs)
+    → values.IsFound found (first_value (keys.equal query) pairs)

@@ -18,12 +18,12 @@ abbrev pub key_positions_at : Width → ElementSpec → ElementSpec → List ℕ
 key_positions_at w k v b p = item_positions w (entry_spec k v).size b p
 
 -- The positions have the items of the list, each once, and no others.
--- `given` is the list in another order: its items are at the positions in turn
-pub record GivesEach {X : Type 0} (Related : ℕ → X → Type 0) (positions : List ℕ)
+-- `reordered` is the list in another order: its items are at the positions in turn
+pub record HasEachOnce {X : Type 0} (Related : ℕ → X → Type 0) (positions : List ℕ)
     (items : List X) : Type 0 where
-  pub given : List X
-  pub each : IsPermutation items given
-  pub related : AllZip Related positions given
+  pub reordered : List X
+  pub each : IsPermutation items reordered
+  pub related : AllZip Related positions reordered
 
 module _ {A B : Type 0} (w : Width) (k v : ElementSpec) (key : List ℕ → ℕ → A → Type 0)
     (value : List ℕ → ℕ → B → Type 0) (key_hash : List ℕ → ℕ → ℕ) where
@@ -38,15 +38,15 @@ module _ {A B : Type 0} (w : Width) (k v : ElementSpec) (key : List ℕ → ℕ 
 
   -- in a map that represents a list of pairs, the positions of a walk have each pair once,
   -- and no others
-  abbrev pub WalksGiveListed : Type 0
-  WalksGiveListed = (factor : ℕ × ℕ) (b : List ℕ) (p : ℕ) (pairs : List (A × B))
+  abbrev pub WalksVisitEach : Type 0
+  WalksVisitEach = (factor : ℕ × ℕ) (b : List ℕ) (p : ℕ) (pairs : List (A × B))
       → MapRepresents w k v key value key_hash factor b p pairs
-      → GivesEach (PairRepresents k v key value b) (key_positions_at w k v b p) pairs
+      → HasEachOnce (PairRepresents k v key value b) (key_positions_at w k v b p) pairs
 
 -- in a set that represents a list of keys, the positions of a walk have each key once,
 -- and no others
-abbrev pub SetWalksGiveListed : {A : Type 0} → Width → ElementSpec → (List ℕ → ℕ → A → Type 0)
+abbrev pub SetWalksVisitEach : {A : Type 0} → Width → ElementSpec → (List ℕ → ℕ → A → Type 0)
     → (List ℕ → ℕ → ℕ) → Type 0
-SetWalksGiveListed {A} w k key key_hash = (factor : ℕ × ℕ) (b : List ℕ) (p : ℕ) (keys : List A)
+SetWalksVisitEach {A} w k key key_hash = (factor : ℕ × ℕ) (b : List ℕ) (p : ℕ) (keys : List A)
     → SetRepresents w k key key_hash factor b p keys
-    → GivesEach (key b) (key_positions_at w k unit_spec b p) keys
+    → HasEachOnce (key b) (key_positions_at w k unit_spec b p) keys

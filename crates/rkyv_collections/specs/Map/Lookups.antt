@@ -8,7 +8,7 @@ use Rattle.rkyv_base.specs.ElementSpec.{ElementSpec}
 use Rattle.rkyv_base.specs.View.{IsAt, IsValidView, archive_of, pos_of}
 use Rattle.rkyv_base.specs.declared.entry.Entry.{Entry}
 use Rattle.rkyv_base.specs.declared.view.View.{View}
-use Rattle.rkyv_keys.specs.Asked.{Asked}
+use Rattle.rkyv_keys.specs.KeyLookup.{KeyLookup}
 use Rattle.rkyv_collections.specs.Map.{FindsBy, FindsFirstBy, FindsFirstKey, FindsKey, IsViewAt}
 use Rattle.rkyv_collections.specs.Map.{IsEntryIn, IsKeyIn, IsPairAt, IsPairIn, IsValueAt}
 use Rattle.rkyv_collections.specs.Map.{IsValueIn, map_bytes}
@@ -24,7 +24,7 @@ pub record Part (M X : Type 0) : Type 1 where
 module _ {K V H W : Type 0} {ks : Specs K} {vs : Specs V} {wt : Words W} where
   -- the property applies to the position that a lookup finds: in any map, in a written map,
   -- and if no key is misplaced
-  pub record TellsKey (m : ArchivedHashMap K V H W ks vs wt) (a : Asked) (P : Option ℕ
+  pub record FoundKeyHas (m : ArchivedHashMap K V H W ks vs wt) (a : KeyLookup) (P : Option ℕ
       → Type 0) :
       Type 0 where
     pub answer : FindsKey m a.hash (a.fits (map_bytes m)) P
@@ -55,7 +55,7 @@ module _ {K V H W : Type 0} {ks : Specs K} {vs : Specs V} {wt : Words W} where
   module _ {X : Type 0} (part : Part (ArchivedHashMap K V H W ks vs wt) X)
       (m : ArchivedHashMap K V H W ks vs wt) where
     -- `result`: part of the pair that a lookup finds
-    pub record GetsKey (a : Asked) (result : Option X) : Type 0 where
+    pub record GetsKey (a : KeyLookup) (result : Option X) : Type 0 where
       pub walked : IfSome result (part.In m)
       pub answer : FindsKey m a.hash (a.fits (map_bytes m)) (part.At result)
       pub first : FindsFirstKey m a.key_hash (a.fits (map_bytes m)) (part.At result)

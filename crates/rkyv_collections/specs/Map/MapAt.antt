@@ -7,7 +7,7 @@ use Rattle.std.specs.Option.{option_map}
 use Rattle.rkyv_scan.specs.Hash.{Hasher, HasherCall, hash_of_calls}
 use Rattle.rkyv_base.specs.Sealing.{value_pos}
 use Rattle.rkyv_base.specs.ElementSpec.{ElementSpec}
-use Rattle.rkyv_keys.specs.Asked.{Asked}
+use Rattle.rkyv_keys.specs.KeyLookup.{KeyLookup}
 use Rattle.rkyv_collections.specs.Map.{FindsFirstKeyAt, FindsKeyAt}
 use Rattle.rkyv_collections.specs.Map.Misplaced.{FindsOneKeyAt}
 
@@ -27,28 +27,28 @@ map_at wt ks vs bytes pos =
 
 -- the property applies to the position of the key that a lookup finds, or to `None`: in any map,
 -- in a written map, and if no key is misplaced
-pub record TellsKeyAt (m : MapAt) (a : Asked) (P : Option ℕ → Type 0) : Type 0 where
+pub record FoundKeyHasAt (m : MapAt) (a : KeyLookup) (P : Option ℕ → Type 0) : Type 0 where
   pub answer : FindsKeyAt m.word m.key m.value m.bytes m.pos a.hash (a.fits m.bytes) P
   pub first : FindsFirstKeyAt m.word m.key m.value m.bytes m.pos a.key_hash (a.fits m.bytes) P
   pub complete : FindsOneKeyAt m.word m.key m.value m.bytes m.pos a.key_hash a.same
       (a.fits m.bytes) P
 
 -- the property applies to the position of the value that a lookup finds, or to `None`
-abbrev pub TellsValueAt : MapAt → Asked → (Option ℕ → Type 0) → Type 0
-TellsValueAt m a P = TellsKeyAt m a (λ place. P (option_map (value_pos m.key m.value) place))
+abbrev pub FoundValueHasAt : MapAt → KeyLookup → (Option ℕ → Type 0) → Type 0
+FoundValueHasAt m a P = FoundKeyHasAt m a (λ place. P (option_map (value_pos m.key m.value) place))
 
 -- A lookup by the values that keys represent. `represents`: bytes at a position represent a value,
--- `key_hash`: hash of the key at a position, `asks`: accepted values
-pub record AskedValue (A : Type 0) : Type 1 where
+-- `key_hash`: hash of the key at a position, `accept_value`: accepted values
+pub record ValueQuery (A : Type 0) : Type 1 where
   pub represents : List ℕ → ℕ → A → Type 0
   pub key_hash : List ℕ → ℕ → ℕ
-  pub asks : A → Bool
+  pub accept_value : A → Bool
 
--- the lookup of values that `asks` accepts, by the hasher and the hasher calls of keys
-abbrev pub asked_value : {State A : Type 0} → Hasher State → (List ℕ → ℕ → List HasherCall)
-    → (List ℕ → ℕ → A → Type 0) → (A → Bool) → AskedValue A
-asked_value hasher key_calls represents asks = record {
+-- the lookup of values that `accept_value` accepts, by the hasher and the hasher calls of keys
+abbrev pub query_of_value : {State A : Type 0} → Hasher State → (List ℕ → ℕ → List HasherCall)
+    → (List ℕ → ℕ → A → Type 0) → (A → Bool) → ValueQuery A
+query_of_value hasher key_calls represents accept_value = record {
   represents = represents;
   key_hash = λ b q. hash_of_calls hasher (key_calls b q);
-  asks = asks;
+  accept_value = accept_value;
 }

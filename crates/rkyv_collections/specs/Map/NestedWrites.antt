@@ -18,8 +18,8 @@ use Rattle.rkyv_collections.specs.Map.ValueWrites.{entry_at}
 -- `c`: bytes `b` after a write among the parts of the value at `q`. A valid value
 -- stays valid with the same lower end, and the bytes outside its parts are unchanged
 pub record WritesParts (s : ElementSpec) (b c : List ℕ) (q : ℕ) : Type 0 where
-  pub holds : (lo hi l : ℕ) → lo ≤ hi → hi ≤ q → s.holds b q lo hi l → s.holds c q lo hi l
-  pub sealed : (lo hi l : ℕ) → lo ≤ hi → hi ≤ q → s.holds b q lo hi l → Sealed b lo (l - lo) c
+  pub is_valid : (lo hi l : ℕ) → lo ≤ hi → hi ≤ q → s.is_valid b q lo hi l → s.is_valid c q lo hi l
+  pub sealed : (lo hi l : ℕ) → lo ≤ hi → hi ≤ q → s.is_valid b q lo hi l → Sealed b lo (l - lo) c
 
 -- the value at `q` is valid, with its parts in some range before it
 pub record HoldsBefore (s : ElementSpec) (b : List ℕ) (q : ℕ) : Type 0 where
@@ -28,7 +28,7 @@ pub record HoldsBefore (s : ElementSpec) (b : List ℕ) (q : ℕ) : Type 0 where
   pub rest : ℕ
   pub order : lower ≤ upper
   pub before : upper ≤ q
-  pub holds : s.holds b q lower upper rest
+  pub is_valid : s.is_valid b q lower upper rest
 
 -- the value at `q` is the same in both: its own bytes, and the range of its parts
 pub record StaysAt (s : ElementSpec) (b c : List ℕ) (q : ℕ) : Type 0 where
@@ -68,17 +68,17 @@ module _ (w : Width) (k v : ElementSpec) where
       → WritesParts v b c (value_pos k v q) → KeepsOuterMap key_hash b c p at.0
 
   -- The map represents a list of pairs, and the value of the first pair with a key
-  -- equal to `asked` is written among its parts. The map then represents
+  -- equal to `query` is written among its parts. The map then represents
   -- the list with the new value there. `keys`: native keys of the map, `value`: what represents
   -- a value
   abbrev pub NestedWritesRepresent : {A Q B : Type 0} → NativeKeys A Q → (List ℕ → ℕ → B → Type 0)
       → Type 0
   NestedWritesRepresent {A} {Q} {B} keys value =
-      (b c : List ℕ) (p pos : ℕ) (factor : ℕ × ℕ) (pairs : List (A × B)) (asked : Q) (new : B)
+      (b c : List ℕ) (p pos : ℕ) (factor : ℕ × ℕ) (pairs : List (A × B)) (query : Q) (new : B)
       → Viewable (map_spec w k v) b p
       → MapRepresents w k v keys.represents value keys.key_hash factor b p pairs
-      → FindsFirstKeyAt w k v b p keys.key_hash (keys.fits asked b)
+      → FindsFirstKeyAt w k v b p keys.key_hash (keys.fits query b)
       (λ place. Some pos ≡ option_map (value_pos k v) place)
       → WritesParts v b c pos → value c pos new
       → MapRepresents w k v keys.represents value keys.key_hash factor c p
-      (with_first (keys.equal asked) new pairs)
+      (with_first (keys.equal query) new pairs)

@@ -38,12 +38,12 @@ pub record IsKeyAt {K : Type 0} (w : Width) (k v : ElementSpec) (b : List ℕ) (
 
 module _ {K : Type 0} (w : Width) (k v : ElementSpec) (b : List ℕ) (p : ℕ) where
   -- the comparison can be called with each key
-  abbrev pub MayAskKeysAt : (View K → Type 0) → Type 0
-  MayAskKeysAt pre = (key : View K) → IsKeyAt w k v b p key → pre key
+  abbrev pub CanCompareKeysAt : (View K → Type 0) → Type 0
+  CanCompareKeysAt pre = (key : View K) → IsKeyAt w k v b p key → pre key
 
   -- the comparison returns `accept` of the position of a key
-  abbrev pub AnswersKeysAt : (View K → Bool → Type 0) → (ℕ → Bool) → Type 0
-  AnswersKeysAt post accept = (key : View K) (r : Bool) → IsKeyAt w k v b p key → post key r
+  abbrev pub ComparesKeysByAt : (View K → Bool → Type 0) → (ℕ → Bool) → Type 0
+  ComparesKeysByAt post accept = (key : View K) (r : Bool) → IsKeyAt w k v b p key → post key r
       → r ≡ accept (pos_of key)
 
   -- the comparison with `post` accepts the key at the position
@@ -54,13 +54,13 @@ module _ {K : Type 0} (w : Width) (k v : ElementSpec) (b : List ℕ) (p : ℕ) w
   -- the property applies to the position that a lookup by a comparison finds,
   -- if the comparison depends only on the position of a key
   abbrev pub FindsByAt : (View K → Bool → Type 0) → ℕ → (Option ℕ → Type 0) → Type 0
-  FindsByAt post hash P = (accept : ℕ → Bool) → AnswersKeysAt post accept
+  FindsByAt post hash P = (accept : ℕ → Bool) → ComparesKeysByAt post accept
       → FindsKeyAt w k v b p hash accept P
 
   -- the same for a written map, if each accepted key is under the hash
   abbrev pub FindsFirstByAt : (View K → Bool → Type 0) → ℕ → (List ℕ → ℕ → ℕ) → (Option ℕ → Type 0)
       → Type 0
-  FindsFirstByAt post hash key_hash P = (accept : ℕ → Bool) → AnswersKeysAt post accept
+  FindsFirstByAt post hash key_hash P = (accept : ℕ → Bool) → ComparesKeysByAt post accept
       → AreUnderHashAt w k v b p hash key_hash accept
       → FindsFirstKeyAt w k v b p key_hash accept P
 
@@ -72,8 +72,8 @@ module _ {K V H W : Type 0} (w : Width) (k v : ElementSpec) (a : ArchiveSeal
   IsKeyPosIn q = IsKeyPosAt w k v (archive_in a) (pos_in a) q
 
   -- the comparison can be called with each key
-  abbrev pub MayAskKeysIn : (View K → Type 0) → Type 0
-  MayAskKeysIn pre = MayAskKeysAt w k v (archive_in a) (pos_in a) pre
+  abbrev pub CanCompareKeysIn : (View K → Type 0) → Type 0
+  CanCompareKeysIn pre = CanCompareKeysAt w k v (archive_in a) (pos_in a) pre
 
 -- the map of keys `ks` and values `vs` at the seal
 abbrev pub map_sealed : {K V H W : Type 0} → Words W → Specs K → Specs V
@@ -83,7 +83,7 @@ map_sealed wt ks vs a = map_at wt ks vs (archive_in a) (pos_in a)
 -- the property applies to the position of the key that a lookup by a comparison finds
 -- under the hash, or to `None`: in any map and in a written one.
 -- `accepted`: the comparison accepted the key
-pub record TellsByAt {K : Type 0} (m : MapAt) (hash : ℕ) (key_hash : List ℕ → ℕ → ℕ)
+pub record FoundByHasAt {K : Type 0} (m : MapAt) (hash : ℕ) (key_hash : List ℕ → ℕ → ℕ)
     (post : View K → Bool → Type 0) (P : Option ℕ → Type 0) : Type 0 where
   pub accepted : (place : Option ℕ) × P place
       × IfSome place (IsAcceptedKeyAt m.word m.key m.value m.bytes m.pos post)

@@ -42,7 +42,8 @@ module _ {K V : Type 0} (k v : ElementSpec) where
       pub count : cursor_len r ≡ len_at w b p
 
   -- the first remaining pair is taken, and its key is at `q`
-  pub record TakesPairAt (w : Width) (p : ℕ) (before after : RawIterSeal (Entry K V)) (q : ℕ) : Type
+  pub record YieldsPairAt (w : Width) (p : ℕ) (before after : RawIterSeal (Entry K V)) (q : ℕ) :
+      Type
       0 where
     pub bucket : ℕ
     pub first : cursor_buckets_left w p before ≡ bucket ∷ cursor_buckets_left w p after
@@ -56,17 +57,17 @@ module _ {K V : Type 0} (k v : ElementSpec) where
     pub iter : IsPairIter w p after
 
   -- a step over the positions of the keys of a map: none remains, or the first is taken
-  abbrev pub TakesKeyPos : RawIterSeal (Entry K V) → Option ℕ → RawIterSeal (Entry K V) → Type 0
-  TakesKeyPos before result after =
+  abbrev pub YieldsKeyPos : RawIterSeal (Entry K V) → Option ℕ → RawIterSeal (Entry K V) → Type 0
+  YieldsKeyPos before result after =
       (w : Width) (p : ℕ) → IsPairIter w p before
-      → MatchOption result (IsDone w p before after) (TakesPairAt w p before after)
+      → MatchOption result (IsDone w p before after) (YieldsPairAt w p before after)
 
   -- a step over the positions of the values of a map: none remains, or the first is taken
-  abbrev pub TakesValuePos : RawIterSeal (Entry K V) → Option ℕ → RawIterSeal (Entry K V) → Type 0
-  TakesValuePos before result after =
+  abbrev pub YieldsValuePos : RawIterSeal (Entry K V) → Option ℕ → RawIterSeal (Entry K V) → Type 0
+  YieldsValuePos before result after =
       (w : Width) (p : ℕ) → IsPairIter w p before
       → MatchOption result (IsDone w p before after) (λ q. (key : ℕ) × (q ≡ value_pos k v key)
-      × TakesPairAt w p before after key)
+      × YieldsPairAt w p before after key)
 
   -- the key and the seal of the value of the first remaining pair, or `None` if none remains
   abbrev pub LendsFirstPair : RawIterSeal (Entry K V) → Option (View K × Seal V) → Type 0
@@ -116,7 +117,7 @@ module _ {K V : Type 0} (k v : ElementSpec) where
     pub stepped : RawIterSeal (Entry K V)
     pub archive : SameArchive before stepped
     pub counts : CountsDown before result stepped
-    pub takes : TakesKeyPos before result stepped
+    pub takes : YieldsKeyPos before result stepped
     pub writes : MatchOption result (after ≡ stepped)
         (λ q. StaysThere stepped after × Writes (cursor_bytes stepped) q (cursor_bytes after))
 
@@ -128,6 +129,6 @@ module _ {K V : Type 0} (k v : ElementSpec) where
     pub stepped : RawIterSeal (Entry K V)
     pub archive : SameArchive before stepped
     pub counts : CountsDown before result stepped
-    pub takes : TakesValuePos before result stepped
+    pub takes : YieldsValuePos before result stepped
     pub writes : MatchOption result (after ≡ stepped) (λ q. StaysThere stepped after
         × Writes (cursor_bytes stepped) q (cursor_bytes after))

@@ -39,9 +39,9 @@ module _ (w : Width) (k v : ElementSpec) where
       → WritesValue k v b c (entry_at b p i) → KeepsMap key_hash b c p i
 
   -- after a write of one value in place, a query with a hash of its own finds the same key
-  abbrev pub ValueWritesKeepAnswers : {Q : Type 0} → (Q → Type 0) → (Q → ℕ)
+  abbrev pub ValueWritesKeepLookups : {Q : Type 0} → (Q → Type 0) → (Q → ℕ)
       → (Q → List ℕ → ℕ → Bool) → Type 0
-  ValueWritesKeepAnswers {Q} can_read hash fits =
+  ValueWritesKeepLookups {Q} can_read hash fits =
       (b c : List ℕ) (p i : ℕ) → Viewable (map_spec w k v) b p → IsWalked w b p i
       → WritesValue k v b c (entry_at b p i)
       → (q : Q) → can_read q

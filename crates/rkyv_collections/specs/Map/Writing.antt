@@ -9,7 +9,7 @@ use Rattle.rkyv_base.specs.Writing.{Output}
 use Rattle.rkyv_base.specs.declared.errors.WriteError.{WriteError}
 use Rattle.rkyv_base.specs.declared.lend.Lend.{Ghosts as Lends}
 use Rattle.rkyv_table.specs.Table.Input.{Input, from_iter}
-use Rattle.rkyv_table.specs.Table.ItemValues.{lent_keys, lent_pairs}
+use Rattle.rkyv_table.specs.Table.ItemValues.{key_values, pair_values}
 use Rattle.rkyv_table.specs.Table.Serializing.{WritesItems}
 use Rattle.rkyv_table.specs.Table.TableFormat.{TableResolver, WritesHeader}
 use Rattle.rkyv_collections.specs.Map.MapFormat.{map_format}
@@ -18,7 +18,7 @@ use Rattle.rkyv_collections.specs.Set.SetFormat.{set_format}
 
 -- items to be written. `input`: the items, `lent`: the values that they lend, `len`: their claimed
 -- number, `load_factor`: the load factor
-pub record LentItems (X Y : Type 0) : Type 1 where
+pub record ItemsToWrite (X Y : Type 0) : Type 1 where
   pub input : Input X
   pub lent : List X → List Y
   pub len : ℕ
@@ -26,20 +26,20 @@ pub record LentItems (X Y : Type 0) : Type 1 where
 
 -- `len` pairs of an iterator, which lend keys and values
 abbrev pub pairs_in : {BK BV A B S : Type 0} → Lends BK A → Lends BV B → Iterators S (BK × BV) → S
-    → ℕ → ℕ × ℕ → LentItems (BK × BV) (A × B)
+    → ℕ → ℕ × ℕ → ItemsToWrite (BK × BV) (A × B)
 pairs_in key value steps iter len load_factor = record {
   input = from_iter steps.next_gives iter;
-  lent = lent_pairs key.lent value.lent;
+  lent = pair_values key.lent value.lent;
   len = len;
   load_factor = load_factor;
 }
 
 -- `len` items of an iterator, which lend keys
 abbrev pub keys_in : {BK A S : Type 0} → Lends BK A → Iterators S BK → S → ℕ → ℕ × ℕ
-    → LentItems BK A
+    → ItemsToWrite BK A
 keys_in key steps iter len load_factor = record {
   input = from_iter steps.next_gives iter;
-  lent = lent_keys key.lent;
+  lent = key_values key.lent;
   len = len;
   load_factor = load_factor;
 }
@@ -47,25 +47,26 @@ keys_in key steps iter len load_factor = record {
 module _ {F : Type 0} (w : WidthMembers) where
   -- the items are written in the format under their load factor. The result is a resolver,
   -- or an error
-  abbrev pub WritesLent : {X Y : Type 0} → (ℕ × ℕ → Format (List Y) TableResolver) → LentItems X Y
+  abbrev pub WritesInFormat : {X Y : Type 0} → (ℕ × ℕ → Format (List Y) TableResolver)
+      → ItemsToWrite X Y
       → Output → Output → Result TableResolver (WriteError F) → Type 0
-  WritesLent format items o o' result =
+  WritesInFormat format items o o' result =
       WritesItems items.input items.len items.load_factor w.MAX_CAPACITY w.LIMIT
       (written_as items.lent (format items.load_factor)) o o' result
 
   -- the pairs that the items lend are written as a map, under the hashes of the keys
   -- and the load factor. The result is its resolver, or an error
-  abbrev pub WritesMap : {X A B R Q : Type 0} → PairFormat A B R Q → LentItems X (A × B) → Output
+  abbrev pub WritesMap : {X A B R Q : Type 0} → PairFormat A B R Q → ItemsToWrite X (A × B) → Output
       → Output → Result TableResolver (WriteError F) → Type 0
-  WritesMap pair items o o' result = WritesLent
+  WritesMap pair items o o' result = WritesInFormat
       (map_format w.word pair.key_spec pair.value_spec pair.key pair.value pair.hash) items o o'
       result
 
   -- the same for keys, as a set
-  abbrev pub WritesSet : {X A R : Type 0} → KeyFormat A R → LentItems X A → Output → Output
+  abbrev pub WritesSet : {X A R : Type 0} → KeyFormat A R → ItemsToWrite X A → Output → Output
       → Result TableResolver (WriteError F) → Type 0
   WritesSet key items o o' result =
-      WritesLent (set_format w.word key.spec key.format key.hash) items o o' result
+      WritesInFormat (set_format w.word key.spec key.format key.hash) items o o' result
 
 -- the bytes became the header at `p` of the resolved map. Or the distance doesn't fit,
 -- and they are unchanged

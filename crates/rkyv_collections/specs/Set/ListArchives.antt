@@ -26,10 +26,10 @@ abbrev pub MembersFoundAreListed : {A Q K W : Type 0} → (H : Type 0) → Words
     → NativeKeys A Q → Type 0
 MembersFoundAreListed {A} {Q} {K} {W} H wt ks keys =
     (set : ArchivedHashSet K H W ks wt) (root : View (HashSetOf K H W)) (archive : Bor (List ℕ))
-    (factor : ℕ × ℕ) (items : List A) (asked : Q) (found : Bool)
+    (factor : ℕ × ℕ) (items : List A) (query : Q) (found : Bool)
     → IsSetAt set (archive_of root) (pos_of root)
     → IsAt root archive (set_root wt.word ks.spec archive.now)
     → SetRepresents wt.word ks.spec keys.represents keys.key_hash factor archive.now
     (set_root wt.word ks.spec archive.now) items
-    → FindsFirstKey set.map keys.key_hash (keys.fits asked (set_bytes set)) (IsFoundAt found)
-    → found ≡ list_any (keys.equal asked) items
+    → FindsFirstKey set.map keys.key_hash (keys.fits query (set_bytes set)) (IsFoundAt found)
+    → found ≡ list_any (keys.equal query) items

@@ -4,7 +4,7 @@ use Rattle.std.specs.Prelude.{ℕ, ◌-◌, List, length}
 use Rattle.std.specs.HashMap.{HashMap}
 use Rattle.std.specs.HashSet.{HashSet}
 use Rattle.std.specs.Int.{Width}
-use Rattle.rkyv_base.specs.Access.{Accepted}
+use Rattle.rkyv_base.specs.Access.{IsValidArchive}
 use Rattle.rkyv_base.specs.Format.{Format}
 use Rattle.rkyv_base.specs.Layout.{narrow_limit, wide_limit}
 use Rattle.rkyv_base.specs.Root.{RootBytes}
@@ -20,7 +20,7 @@ use Rattle.rkyv_collections.specs.declared.std_maps.hashed.Hashed.{Hashed}
 -- `element`: element of its root, `format`: format of the native value
 pub record IsWrittenArchive {V R : Type 0} (limit : ℕ) (element : ElementMembers V)
     (format : Format V R) (b : List ℕ) (value : V) : Type 0 where
-  pub accepted : Accepted limit element.spec b
+  pub accepted : IsValidArchive limit element.spec b
   pub bytes : RootBytes element.spec.align format value 0 b (length b - element.spec.size)
 
 -- `b`: narrow archive with the written bytes of the native value, and no others

@@ -6,9 +6,9 @@ use Rattle.rkyv_base.specs.ElementSpec.{ElementSpec}
 
 -- the root of the archive of a value equals the value, and each value that the root
 -- represents is equal to it
-abbrev pub ArchivesComeBack : {V R : Type 0} → ℕ → ElementSpec → (List ℕ → ℕ → V → Type 0)
+abbrev pub ArchivesRoundTrip : {V R : Type 0} → ℕ → ElementSpec → (List ℕ → ℕ → V → Type 0)
     → (List ℕ → ℕ → V → Type 0) → Format V R → (V → V → Bool) → Type 0
-ArchivesComeBack {V} limit s represents equals format equal =
+ArchivesRoundTrip {V} limit s represents equals format equal =
     (value : V) (b : List ℕ) → ArchiveOf limit s represents format value b
     → equals b (length b - s.size) value
     × ((back : V) → represents b (length b - s.size) back → equal back value ≡ true)

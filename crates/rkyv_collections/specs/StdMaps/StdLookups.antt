@@ -15,7 +15,7 @@ use Rattle.rkyv_base.specs.Entry.{entry_spec, value_offset}
 use Rattle.rkyv_base.specs.Format.{Format, IsFormat}
 use Rattle.rkyv_base.specs.ElementSpec.{ElementSpec}
 use Rattle.rkyv_table.specs.Table.Positions.{pos_found}
-use Rattle.rkyv_collections.specs.Map.ListedLookups.{AsksFor}
+use Rattle.rkyv_collections.specs.Map.ListedLookups.{AgreesOnKeys}
 use Rattle.rkyv_collections.specs.Map.{map_bytes, map_pos}
 use Rattle.rkyv_collections.specs.Map.MapSpec.{map_spec}
 use Rattle.rkyv_collections.specs.Natives.{Queried}
@@ -35,36 +35,40 @@ module _ {Q A : Type 0} (w : Width) (k : ElementSpec) (hash : Q → ℕ) (fits :
   where
     -- The query finds the value of the first entry with an accepted key, in the map at `p`.
     -- It finds none if and only if no entry has one
-    abbrev pub FindsAsked : {B : Type 0} → ElementSpec → (List ℕ → ℕ → B → Type 0) → List ℕ → ℕ → Q
+    abbrev pub FindsFirstAccepted : {B : Type 0} → ElementSpec → (List ℕ → ℕ → B → Type 0) → List ℕ
+        → ℕ → Q
         → (A → Bool) → List (A × B) → Type 0
-    FindsAsked v value b p q asks entries =
+    FindsFirstAccepted v value b p q accept_value entries =
         IsValueBehind value b (value_offset k v)
         (pos_found generic_kind w (entry_spec k v).size b p (hash q) (fits q b))
-        (lookup asks entries)
+        (lookup accept_value entries)
 
     module _ (key : List ℕ → ℕ → A → Type 0) (can_read : Q → Type 0) where
       -- each query that can be read finds in the map at `p` the value that `entries` have
       abbrev pub FindsEntries : {B : Type 0} → ElementSpec → (List ℕ → ℕ → B → Type 0) → List ℕ → ℕ
           → List (A × B) → Type 0
-      FindsEntries v value b p entries = (q : Q) (asks : A → Bool) → can_read q
-          → AsksFor k key b (fits q b) asks → FindsAsked v value b p q asks entries
+      FindsEntries v value b p entries = (q : Q) (accept_value : A → Bool) → can_read q
+          → AgreesOnKeys k key b (fits q b) accept_value
+          → FindsFirstAccepted v value b p q accept_value entries
 
       -- each query that can be read is found in the set at `p` if and only if a key is accepted
       abbrev pub FindsMembers : List ℕ → ℕ → List A → Type 0
-      FindsMembers b p keys = (q : Q) (asks : A → Bool) → can_read q
-          → AsksFor k key b (fits q b) asks
+      FindsMembers b p keys = (q : Q) (accept_value : A → Bool) → can_read q
+          → AgreesOnKeys k key b (fits q b) accept_value
           → is_some
           (pos_found generic_kind w (entry_spec k unit_spec).size b p (hash q) (fits q b))
-          ≡ list_any asks keys
+          ≡ list_any accept_value keys
 
 -- The query finds the value of the first entry with an accepted key in the map.
 -- It finds none if and only if no entry has one
-abbrev pub FindsAskedIn : {A B K V H W Q : Type 0} {ks : Specs K} {vs : Specs V} {wt : Words W}
+abbrev pub FindsFirstAcceptedIn : {A B K V H W Q : Type 0} {ks : Specs K} {vs : Specs V}
+    {wt : Words W}
     → ArchivedHashMap K V H W ks vs wt → Queried Q → (List ℕ → ℕ → B → Type 0) → Q → (A → Bool)
     → List (A × B) → Type 0
-FindsAskedIn {ks = ks} {vs = vs} {wt = wt} m queries value q asks entries =
-    FindsAsked wt.word ks.spec queries.hash queries.fits vs.spec value (map_bytes m) (map_pos m) q
-    asks entries
+FindsFirstAcceptedIn {ks = ks} {vs = vs} {wt = wt} m queries value q accept_value entries =
+    FindsFirstAccepted wt.word ks.spec queries.hash queries.fits vs.spec value (map_bytes m)
+    (map_pos m) q
+    accept_value entries
 
 -- In any archive with the written bytes of a map of std, each query that can be read finds
 -- the value that the map has. `k`, `v`: what represents the keys and the values

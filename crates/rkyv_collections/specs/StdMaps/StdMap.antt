@@ -13,7 +13,7 @@ use Rattle.rkyv_base.specs.View.{AtView}
 use Rattle.rkyv_base.specs.declared.errors.ReadError.{ReadError}
 use Rattle.rkyv_base.specs.declared.errors.ReadError.TheVariants.{Memory}
 use Rattle.rkyv_base.specs.declared.view.View.{View}
-use Rattle.rkyv_keys.specs.OfEntries.{entry_refuses}
+use Rattle.rkyv_keys.specs.OfEntries.{entry_deserialize_fails}
 use Rattle.rkyv_keys.specs.Deserialize.{DeserializeErrors}
 use Rattle.rkyv_table.specs.Table.Positions.{item_positions}
 use Rattle.rkyv_collections.specs.Map.MapSpec.{IsKeyPosAt}
@@ -52,10 +52,10 @@ of_entries equal f = record {
 
 -- `e`: error of deserializing the map at `p`. Memory could not be allocated,
 -- or a key or a value of the map has the error
-abbrev pub std_map_refuses : Width → ElementSpec → ElementSpec → DeserializeErrors
+abbrev pub std_map_fails : Width → ElementSpec → ElementSpec → DeserializeErrors
     → DeserializeErrors → DeserializeErrors
-std_map_refuses w k v key value b p e =
-    (e ≡ Memory) ⊎ ((q : ℕ) × IsKeyPosAt w k v b p q × entry_refuses k v key value b q e)
+std_map_fails w k v key value b p e =
+    (e ≡ Memory) ⊎ ((q : ℕ) × IsKeyPosAt w k v b p q × entry_deserialize_fails k v key value b q e)
 
 -- `result`: map of std that the view represents, with the hash state `state`, or an error
 abbrev pub ReadsStdMap : {A B S T : Type 0} → (List ℕ → ℕ → HashMap A B S → Type 0)
@@ -80,9 +80,9 @@ InsertsPair {A} {B} equal P m n =
 -- has the error
 abbrev pub insert_pair_fails : ElementSpec → ElementSpec → DeserializeErrors → DeserializeErrors
     → DeserializeErrors
-insert_pair_fails k v key value b q e = (e ≡ Memory) ⊎ entry_refuses k v key value b q e
+insert_pair_fails k v key value b q e = (e ≡ Memory) ⊎ entry_deserialize_fails k v key value b q e
 
--- `result`: the pair at the view was inserted into the first of the maps, which gives the second,
+-- `result`: the pair at the view was inserted into the first of the maps, which yields the second,
 -- or an error of inserting it
 abbrev pub InsertsRead : {A B S T X : Type 0} → (A → A → Bool) → (List ℕ → ℕ → A × B → Type 0)
     → DeserializeErrors → View T → HashMap A B S × HashMap A B S → Result X ReadError → Type 0

@@ -40,8 +40,8 @@ insert_key_fails key b q e = (e ≡ Memory) ⊎ key b q e
 
 -- `e`: error of deserializing the set at `p`. Memory could not be allocated,
 -- or a key of the set has the error
-abbrev pub std_set_refuses : Width → ElementSpec → DeserializeErrors → DeserializeErrors
-std_set_refuses w k key b p e =
+abbrev pub std_set_fails : Width → ElementSpec → DeserializeErrors → DeserializeErrors
+std_set_fails w k key b p e =
     (e ≡ Memory) ⊎ ((q : ℕ) × IsKeyPosAt w k unit_spec b p q × key b q e)
 
 -- `result`: set of std that the view represents, with the hash state `state`, or an error

@@ -24,9 +24,9 @@ ghost use Rattle.rkyv_base.specs.ElementSpec.{Viewable};
 ghost use Rattle.rkyv_collections.specs.Map.InPlace.{MayWriteFound, SetsFirst, SetsValue};
 ghost use Rattle.rkyv_collections.specs.Map.InPlace.{WritesFound};
 ghost use Rattle.rkyv_collections.specs.Map.{map_bytes, map_pos};
-ghost use Rattle.rkyv_collections.specs.Map.MapAt.{TellsValueAt, asked_value, map_at};
+ghost use Rattle.rkyv_collections.specs.Map.MapAt.{FoundValueHasAt, query_of_value, map_at};
 ghost use Rattle.rkyv_collections.specs.Map.MapSpec.{IsKeyPosAt, map_spec};
-ghost use Rattle.rkyv_keys.specs.Asked.{asked};
+ghost use Rattle.rkyv_keys.specs.KeyLookup.{query_of};
 ghost use Rattle.rkyv_collections.specs.Map.NestedWrites.{WritesParts};
 
 pub mod iter_seal;
@@ -65,8 +65,8 @@ impl<'a, K: KeyElement, V: Element, H: KeyHasher, W: Width> ArchivedHashMap<'a, 
             × IsKeyPosAt W.word K.spec V.spec archive.now root place
             × (pos ≡ value_pos K.spec V.spec place)) }
         ensures inside { IfSome result (λ pos. pos + V.spec.size ≤ length archive.now) }
-        ensures finds { TellsValueAt (map_at W.Word K.HasSpec V.HasSpec archive.now root)
-            (asked H.hasher K.key_calls K.same (Q.calls key.now) (Q.fits key.now))
+        ensures finds { FoundValueHasAt (map_at W.Word K.HasSpec V.HasSpec archive.now root)
+            (query_of H.hasher K.key_calls K.same (Q.calls key.now) (Q.fits key.now))
             (λ pos. result ≡ pos) }
     {
         found_pos(map_over::<K, V, H, W>(archive, root).get(key))
@@ -109,8 +109,8 @@ impl<'a, K: KeyElement, V: Element, H: KeyHasher, W: Width> ArchivedHashMap<'a, 
         requires map { Viewable (map_spec W.word K.spec V.spec) archive.old root }
         requires query { Q.can_read key.now }
         requires callable { MayWriteFound V.spec F.pre archive.old write }
-        ensures { TellsValueAt (map_at W.Word K.HasSpec V.HasSpec archive.old root)
-            (asked H.hasher K.key_calls K.same (Q.calls key.now) (Q.fits key.now))
+        ensures { FoundValueHasAt (map_at W.Word K.HasSpec V.HasSpec archive.old root)
+            (query_of H.hasher K.key_calls K.same (Q.calls key.now) (Q.fits key.now))
             (WritesFound F.post write archive.old result archive.new) }
     {
         match Self::value_pos_in(&*archive, root, key) {
@@ -154,10 +154,10 @@ pub fn set_value_of<
     requires map { Viewable (map_spec W.word K.spec N.spec) archive.old root }
     requires query { A.can_read key.now }
     ensures answer { SetsValue (map_at W.Word K.HasSpec N.HasSpec archive.old root)
-        (asked H.hasher K.key_calls K.same (A.calls key.now) (A.fits key.now))
+        (query_of H.hasher K.key_calls K.same (A.calls key.now) (A.fits key.now))
         N.encoding value result archive.new }
     ensures listed { SetsFirst (map_at W.Word K.HasSpec N.HasSpec archive.old root)
-        (asked_value H.hasher K.key_calls K.represents (A.eq key.now))
+        (query_of_value H.hasher K.key_calls K.represents (A.eq key.now))
         N.encoding value result archive.new }
     ensures parts { WritesParts (map_spec W.word K.spec N.spec)
         archive.old archive.new root }

@@ -6,7 +6,7 @@
 ghost use Rattle.rkyv_collections.specs.Map.BothHashers.{ComparedAlike, QueriedAlike, WrittenAlike};
 ghost use Rattle.rkyv_collections.specs.Map.Equality.{EqualHaveSamePairs};
 ghost use Rattle.rkyv_collections.specs.Map.ListedLookups.{LookupsFindListed};
-ghost use Rattle.rkyv_collections.specs.Map.ListedWalks.{WalksGiveListed, WalksVisitPairs};
+ghost use Rattle.rkyv_collections.specs.Map.ListedWalks.{WalksVisitEach, WalksVisitPairs};
 ghost use Rattle.rkyv_collections.specs.Map.{hash_at};
 ghost use Rattle.rkyv_collections.specs.Map.Misplaced.{RepeatedKeysAreMisplaced};
 ghost use Rattle.rkyv_keys.specs.Natives.{native_pairs};
@@ -66,7 +66,7 @@ pub fn lookups_find_listed<
 /// - `homes`: a walk visits the home bucket of each pair once, and no other bucket.
 ///   The buckets are in ascending order, and the n-th home bucket has the n-th pair.
 /// - `pairs`: the positions of a walk have the pairs of the list, each once, in some order.
-pub fn walks_give_listed<
+pub fn walks_visit_each<
     A,
     B,
     K: KeyElement + Represents<A>,
@@ -76,7 +76,7 @@ pub fn walks_give_listed<
 >()
     ensures homes { WalksVisitPairs W.word K.spec V.spec K.represents V.represents
         (hash_at H.hasher K.key_calls) }
-    ensures pairs { WalksGiveListed W.word K.spec V.spec K.represents V.represents
+    ensures pairs { WalksVisitEach W.word K.spec V.spec K.represents V.represents
         (hash_at H.hasher K.key_calls) }
 {}
 

@@ -11,9 +11,9 @@ ghost use Rattle.rkyv_base.specs.Empty.{unit_spec};
 ghost use Rattle.rkyv_base.specs.Lemmas.Empty.{unit_element};
 ghost use Rattle.rkyv_base.specs.View.{IsValidView, archive_of, pos_of};
 ghost use Rattle.rkyv_collections.specs.Map.MapSpec.{map_element};
-ghost use Rattle.rkyv_keys.specs.Asked.{asked};
+ghost use Rattle.rkyv_keys.specs.KeyLookup.{query_of};
 ghost use Rattle.rkyv_collections.specs.Map.{IsFoundAt};
-ghost use Rattle.rkyv_collections.specs.Set.{GetsMember, IsSetAt, TellsMember};
+ghost use Rattle.rkyv_collections.specs.Set.{GetsMember, IsSetAt, FoundMemberHas};
 ghost use Rattle.rkyv_collections.specs.Set.{member_positions, set_archive, set_len, set_spec};
 
 use crate::map::read::iter::Keys;
@@ -182,7 +182,7 @@ impl<'a, K: KeyElement, H: KeyHasher, W: Width> ArchivedHashSet<'a, K, H, W> {
     pub fn get<Q: Query<K>>(self, key: &Q) -> Option<View<'a, K>>
         requires query { Q.can_read key.now }
         ensures { GetsMember self.entry
-            (asked H.hasher K.key_calls K.same (Q.calls key.now) (Q.fits key.now)) result }
+            (query_of H.hasher K.key_calls K.same (Q.calls key.now) (Q.fits key.now)) result }
     {
         match self.map.get_key_value(key) {
             Some((stored, _)) => Some(stored),
@@ -210,8 +210,8 @@ impl<'a, K: KeyElement, H: KeyHasher, W: Width> ArchivedHashSet<'a, K, H, W> {
     #[inline]
     pub fn contains<Q: Query<K>>(self, key: &Q) -> bool
         requires query { Q.can_read key.now }
-        ensures { TellsMember self.entry
-            (asked H.hasher K.key_calls K.same (Q.calls key.now) (Q.fits key.now)) (IsFoundAt
+        ensures { FoundMemberHas self.entry
+            (query_of H.hasher K.key_calls K.same (Q.calls key.now) (Q.fits key.now)) (IsFoundAt
             result) }
     {
         self.map.contains_key(key)

@@ -2,7 +2,7 @@
 //!
 //! They are about iterations and lookups. `written` is about the bytes of written sets.
 
-ghost use Rattle.rkyv_collections.specs.Map.ListedWalks.{SetWalksGiveListed};
+ghost use Rattle.rkyv_collections.specs.Map.ListedWalks.{SetWalksVisitEach};
 ghost use Rattle.rkyv_collections.specs.Map.{hash_at};
 ghost use Rattle.rkyv_base.specs.Same.{SameSpec, SameValues};
 ghost use Rattle.rkyv_keys.specs.Natives.{native_keys};
@@ -22,8 +22,8 @@ use rkyv_scan::hash::KeyHasher;
 /// States that `iter` returns each key of the list that a set represents once.
 ///
 /// The positions of a walk have the keys of the list, each once, in some order.
-pub fn walks_give_listed<A, K: KeyElement + Represents<A>, H: KeyHasher, W: Width>()
-    ensures { SetWalksGiveListed W.word K.spec K.represents (hash_at H.hasher K.key_calls) }
+pub fn walks_visit_each<A, K: KeyElement + Represents<A>, H: KeyHasher, W: Width>()
+    ensures { SetWalksVisitEach W.word K.spec K.represents (hash_at H.hasher K.key_calls) }
 {}
 
 /// States that `contains` in a root set is `true` if and only if the list has an equal key.

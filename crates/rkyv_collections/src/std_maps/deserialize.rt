@@ -10,7 +10,7 @@ ghost use Rattle.rkyv_keys.specs.Deserialize.{Deserializes};
 ghost use Rattle.rkyv_collections.specs.Map.{map_view};
 ghost use Rattle.rkyv_collections.specs.Map.MapSpec.{map_spec};
 ghost use Rattle.rkyv_collections.specs.StdMaps.StdMap.{InsertsRead, ReadsStdMap, StdMapRepresents};
-ghost use Rattle.rkyv_collections.specs.StdMaps.StdMap.{insert_pair_fails, std_map_refuses};
+ghost use Rattle.rkyv_collections.specs.StdMaps.StdMap.{insert_pair_fails, std_map_fails};
 
 use crate::map::{ArchivedHashMap, HashMapOf};
 use crate::std_maps::hashed::Hashed;
@@ -63,7 +63,7 @@ impl<'a, K: Element, V: Element, H, W: Width> ArchivedHashMap<'a, K, V, H, W> {
     /// type Ages = HashMap<String, u8>;
     ///
     /// // Archives a map of std's, and reads it back.
-    /// fn ages_come_back(alloc: Global, ages: Ages) -> Result<Ages, Fail> {
+    /// fn ages_round_trip(alloc: Global, ages: Ages) -> Result<Ages, Fail> {
     ///     let ages: Hashed<Ages> = Hashed::new(ages);
     ///     let archive = to_bytes(alloc, &ages)?;
     ///     let map = ArchivedHashMap::of(access::<HashMapOf<Text, u8>>(archive.as_slice())?);
@@ -79,7 +79,7 @@ impl<'a, K: Element, V: Element, H, W: Width> ArchivedHashMap<'a, K, V, H, W> {
         K: Deserialize<A>,
         V: Deserialize<B>,
         ensures { ReadsStdMap (StdMapRepresents K.spec V.spec K.represents V.represents W.word A.eq)
-            (std_map_refuses W.word K.spec V.spec K.deserialize_fails V.deserialize_fails)
+            (std_map_fails W.word K.spec V.spec K.deserialize_fails V.deserialize_fails)
             (map_view self.entry) state result }
     {
         let mut map = HashMap::with_hasher(alloc, state);
@@ -93,7 +93,7 @@ impl<'a, K: Element, V: Element, H, W: Width> ArchivedHashMap<'a, K, V, H, W> {
 impl<K: Deserialize<A>, V: Deserialize<B>, H, W: Width, A: Eq + Hash + Drop, B: Drop> Deserialize<
     HashMap<A, B>,
 > for HashMapOf<K, V, H, W> {
-    ghost deserialize_fails = { std_map_refuses W.word K.spec V.spec K.deserialize_fails
+    ghost deserialize_fails = { std_map_fails W.word K.spec V.spec K.deserialize_fails
         V.deserialize_fails };
 
     #[inline]
@@ -101,7 +101,7 @@ impl<K: Deserialize<A>, V: Deserialize<B>, H, W: Width, A: Eq + Hash + Drop, B: 
         requires { IsValidView (map_spec W.word K.spec V.spec) view }
         ensures { Deserializes
             (StdMapRepresents K.spec V.spec K.represents V.represents W.word A.eq)
-            (std_map_refuses W.word K.spec V.spec K.deserialize_fails V.deserialize_fails)
+            (std_map_fails W.word K.spec V.spec K.deserialize_fails V.deserialize_fails)
             view.entry result }
     {
         ArchivedHashMap::of(view).deserialize_std(alloc, BuildHasherDefault::new())
@@ -111,7 +111,7 @@ impl<K: Deserialize<A>, V: Deserialize<B>, H, W: Width, A: Eq + Hash + Drop, B: 
 impl<K: Deserialize<A>, V: Deserialize<B>, H, W: Width, A: Eq + Hash + Drop, B: Drop> Deserialize<
     Hashed<HashMap<A, B>, H>,
 > for HashMapOf<K, V, H, W> {
-    ghost deserialize_fails = { std_map_refuses W.word K.spec V.spec K.deserialize_fails
+    ghost deserialize_fails = { std_map_fails W.word K.spec V.spec K.deserialize_fails
         V.deserialize_fails };
 
     #[inline]
@@ -122,7 +122,7 @@ impl<K: Deserialize<A>, V: Deserialize<B>, H, W: Width, A: Eq + Hash + Drop, B: 
         requires { IsValidView (map_spec W.word K.spec V.spec) view }
         ensures { Deserializes (λ b p x. StdMapRepresents K.spec V.spec K.represents V.represents
             W.word A.eq b p x.map)
-            (std_map_refuses W.word K.spec V.spec K.deserialize_fails V.deserialize_fails)
+            (std_map_fails W.word K.spec V.spec K.deserialize_fails V.deserialize_fails)
             view.entry result }
     {
         let map = ArchivedHashMap::of(view).deserialize_std(alloc, BuildHasherDefault::new())?;

@@ -17,7 +17,7 @@ ghost use Rattle.rkyv_collections.specs.Natives.{queried};
 ghost use Rattle.rkyv_collections.specs.StdMaps.StdEquality.{EntriesEqual, FindsPairIn};
 ghost use Rattle.rkyv_collections.specs.StdMaps.StdEquality.{StdMapEquals};
 ghost use Rattle.rkyv_collections.specs.StdMaps.StdEquality.{StdMapEqualsIn};
-ghost use Rattle.rkyv_collections.specs.StdMaps.StdLookups.{FindsAskedIn};
+ghost use Rattle.rkyv_collections.specs.StdMaps.StdLookups.{FindsFirstAcceptedIn};
 ghost use Rattle.rkyv_collections.specs.StdMaps.StdMap.{of_entries};
 
 use crate::map::{ArchivedHashMap, HashMapOf};
@@ -52,7 +52,7 @@ impl<'a, K: KeyElement, V: HasSpec, H: KeyHasher, W: Width> ArchivedHashMap<'a, 
     ///
     /// They agree if both find a value and the values are equal, or if neither finds one.
     #[inline]
-    pub(crate) fn answers_as<A: NativeKey<K> + Hash, B, T: BuildHasher>(
+    pub(crate) fn agrees_on<A: NativeKey<K> + Hash, B, T: BuildHasher>(
         self,
         other: &HashMap<A, B, T>,
         key: &A,
@@ -61,7 +61,7 @@ impl<'a, K: KeyElement, V: HasSpec, H: KeyHasher, W: Width> ArchivedHashMap<'a, 
         K: Represents<A>,
         V: MatchesNative<B>,
         ensures { let queries = queried H.hasher A.calls A.fits in
-            IsTrue result ↔ FindsAskedIn self.entry queries V.equals key.now (A.eq key.now)
+            IsTrue result ↔ FindsFirstAcceptedIn self.entry queries V.equals key.now (A.eq key.now)
             other.now.entries }
     {
         match other.get(key) {

@@ -22,7 +22,7 @@ ghost use Rattle.rkyv_collections.specs.Lemmas.StdMapLaws.{entries_local, entrie
 ghost use Rattle.rkyv_collections.specs.StdMaps.StdSet.{InsertsKey, ReadsStdSet, StdSetEquals};
 ghost use Rattle.rkyv_collections.specs.StdMaps.StdSet.{StdSetEqualsIn, StdSetRepresents};
 ghost use Rattle.rkyv_collections.specs.StdMaps.StdSet.{insert_key_fails};
-ghost use Rattle.rkyv_collections.specs.StdMaps.StdSet.{std_set_refuses};
+ghost use Rattle.rkyv_collections.specs.StdMaps.StdSet.{std_set_fails};
 ghost use Rattle.rkyv_collections.specs.Lemmas.StdSet.{set_equal_written};
 
 use crate::set::write::HashSetResolver;
@@ -161,7 +161,7 @@ impl<'a, K: Element, H, W: Width> ArchivedHashSet<'a, K, H, W> {
     where
         K: Deserialize<A>,
         ensures { ReadsStdSet (StdSetRepresents K.spec K.represents W.word A.eq)
-            (std_set_refuses W.word K.spec K.deserialize_fails) (set_view self.entry) state result }
+            (std_set_fails W.word K.spec K.deserialize_fails) (set_view self.entry) state result }
     {
         let mut set = HashSet::with_hasher(alloc, state);
         for key in self.iter() {
@@ -275,14 +275,14 @@ where
 
 impl<K: Deserialize<A>, H, W: Width, A: Eq + Hash + Drop> Deserialize<HashSet<A>>
     for HashSetOf<K, H, W> {
-    ghost deserialize_fails = { std_set_refuses W.word K.spec K.deserialize_fails };
+    ghost deserialize_fails = { std_set_fails W.word K.spec K.deserialize_fails };
 
     #[inline]
     fn deserialize(alloc: Global, view: View<'_, Self>) -> Result<HashSet<A>, ReadError>
         requires { IsValidView (set_spec W.word K.spec) view }
         ensures { MatchResult result
             (AtView (StdSetRepresents K.spec K.represents W.word A.eq) view.entry)
-            (AtView (std_set_refuses W.word K.spec K.deserialize_fails) view.entry) }
+            (AtView (std_set_fails W.word K.spec K.deserialize_fails) view.entry) }
     {
         ArchivedHashSet::of(view).deserialize_std(alloc, BuildHasherDefault::new())
     }
@@ -290,14 +290,14 @@ impl<K: Deserialize<A>, H, W: Width, A: Eq + Hash + Drop> Deserialize<HashSet<A>
 
 impl<K: Deserialize<A>, H, W: Width, A: Eq + Hash + Drop> Deserialize<Hashed<HashSet<A>, H>>
     for HashSetOf<K, H, W> {
-    ghost deserialize_fails = { std_set_refuses W.word K.spec K.deserialize_fails };
+    ghost deserialize_fails = { std_set_fails W.word K.spec K.deserialize_fails };
 
     #[inline]
     fn deserialize(alloc: Global, view: View<'_, Self>) -> Result<Hashed<HashSet<A>, H>, ReadError>
         requires { IsValidView (set_spec W.word K.spec) view }
         ensures { MatchResult result
             (λ x. AtView (StdSetRepresents K.spec K.represents W.word A.eq) view.entry x.map)
-            (AtView (std_set_refuses W.word K.spec K.deserialize_fails) view.entry) }
+            (AtView (std_set_fails W.word K.spec K.deserialize_fails) view.entry) }
     {
         let set = ArchivedHashSet::of(view).deserialize_std(alloc, BuildHasherDefault::new())?;
         Ok(Hashed::new(set))

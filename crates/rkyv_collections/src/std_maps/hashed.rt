@@ -15,7 +15,7 @@ use std::marker::PhantomData;
 /// # Examples
 ///
 /// ```rust
-/// fn comes_through(alloc: Global) -> Result<bool, Fail> {
+/// fn archive_equals_map(alloc: Global) -> Result<bool, Fail> {
 ///     let mut map = HashMap::new(alloc);
 ///     map.insert(1, 2)?;
 ///     let map: Hashed<HashMap<i8, i8>> = Hashed::new(map);

@@ -6,7 +6,7 @@ ghost use Rattle.rkyv_collections.specs.Natives.{queried};
 ghost use Rattle.rkyv_collections.specs.Map.{hash_at};
 ghost use Rattle.rkyv_collections.specs.StdMaps.ListArchives.{WrittenMapsAreLists};
 ghost use Rattle.rkyv_collections.specs.StdMaps.ListArchives.{WrittenSetsAreLists};
-ghost use Rattle.rkyv_collections.specs.StdMaps.RoundTrips.{ArchivesComeBack};
+ghost use Rattle.rkyv_collections.specs.StdMaps.RoundTrips.{ArchivesRoundTrip};
 ghost use Rattle.rkyv_collections.specs.StdMaps.StdLookups.{FindsInWrittenMap, FindsInWrittenSet};
 
 use crate::std_maps::hashed::Hashed;
@@ -100,9 +100,9 @@ where
 ///
 /// The archive is one that `to_bytes` makes. The root equals the value in place.
 /// A deserialized value is represented by the root, and so it is `==` to the value.
-pub fn archives_come_back<W: Width, M: EqualsWritten<W> + PartialEq>()
+pub fn archives_round_trip<W: Width, M: EqualsWritten<W> + PartialEq>()
 where
     M::Archived: MatchesNative<M> + RepresentsUniquely<M>,
-    ensures { ArchivesComeBack W.LIMIT M.Archived.spec M.Archived.represents M.Archived.equals
+    ensures { ArchivesRoundTrip W.LIMIT M.Archived.spec M.Archived.represents M.Archived.equals
         M.format M.eq }
 {}

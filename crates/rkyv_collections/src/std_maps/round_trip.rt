@@ -1,8 +1,8 @@
 //! Round trips: values that are written, opened, compared and deserialized.
 //!
-//! - `comes_back` writes a value, opens and deserializes it, and compares both.
+//! - `round_trips_equal` writes a value, opens and deserializes it, and compares both.
 //! - `lookups_agree` compares a lookup in the archive with one in the map of std.
-//! - `laws::archives_come_back` is the law behind `comes_back`.
+//! - `laws::archives_round_trip` is the law behind `round_trips_equal`.
 
 ghost use Rattle.std.specs.Prelude.{◌≡◌, IfErr, IfOk, true};
 ghost use Rattle.rkyv_keys.specs.Deserialize.{nothing_fails};
@@ -34,10 +34,10 @@ use std::hash::{BuildHasher, Hash};
 ///
 /// - `RoundTripError::Write`: the error of `to_bytes_in`.
 /// - `RoundTripError::Read`: the error of `deserialize`.
-pub fn comes_back<W: Width, M: Serialize<VecWriter, W> + EqualsWritten<W> + PartialEq + Drop>(
-    alloc: Global,
-    value: &M,
-) -> Result<bool, RoundTripError>
+pub fn round_trips_equal<
+    W: Width,
+    M: Serialize<VecWriter, W> + EqualsWritten<W> + PartialEq + Drop,
+>(alloc: Global, value: &M) -> Result<bool, RoundTripError>
 where
     M::Archived: Deserialize<M> + MatchesNative<M> + RepresentsUniquely<M>,
     ensures same { IfOk result (λ same. same ≡ true) }
@@ -93,5 +93,5 @@ where
         Ok(root) => root,
         Err(_) => return Ok(false),
     };
-    Ok(ArchivedHashMap::of(root).answers_as(&map.map, key))
+    Ok(ArchivedHashMap::of(root).agrees_on(&map.map, key))
 }

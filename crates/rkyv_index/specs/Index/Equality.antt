@@ -11,7 +11,7 @@ use Rattle.rkyv_base.specs.ElementSpec.{ElementSpec}
 use Rattle.rkyv_keys.specs.Equality.{Comparison}
 use Rattle.rkyv_keys.specs.OfEntries.{entry_same}
 use Rattle.rkyv_table.specs.Table.Header.{len_at}
-use Rattle.rkyv_table.specs.Table.Misplaced.{is_answer}
+use Rattle.rkyv_table.specs.Table.Misplaced.{is_found_at}
 use Rattle.rkyv_index.specs.Index.{Index, IsWritten, index_bytes, index_found, index_places}
 use Rattle.rkyv_index.specs.Index.{index_strides}
 use Rattle.rkyv_index.specs.Index.{index_pos, key_at}
@@ -55,7 +55,7 @@ module _ {K : Type 0} (m : Index K) (key_hash : List ℕ → ℕ → ℕ) (same_
 
   -- a lookup of the key at index `i` finds another index, or none
   abbrev pub is_misplaced : ℕ → Bool
-  is_misplaced i = not (is_answer i (own_found i))
+  is_misplaced i = not (is_found_at i (own_found i))
 
   -- the number of misplaced keys
   abbrev pub index_misplaced : ℕ
@@ -85,8 +85,8 @@ module _ {K : Type 0} (m : Index K) (key_hash : List ℕ → ℕ → ℕ) (same_
   index_repeated = length (filter is_repeated (index_places m))
 
   -- `result`: in a written map, `true` if and only if the key at index `i` is a repeated one
-  abbrev pub TellsRepeated : ℕ → Bool → Type 0
-  TellsRepeated i result = (homes : List ℕ) → IsWritten m key_hash homes → result ≡ is_repeated i
+  abbrev pub ReturnsRepeated : ℕ → Bool → Type 0
+  ReturnsRepeated i result = (homes : List ℕ) → IsWritten m key_hash homes → result ≡ is_repeated i
 
   -- `result`: in a written map, the number of repeated keys
   abbrev pub CountsRepeated : ℕ → Type 0

@@ -43,14 +43,14 @@ module _ {P X R : Type 0} (w : Width) (ps : ElementSpec) (e : Encoding P) (s : E
   pub record BeforeZeros (front : List ℕ) (t : TableResolver) (rs : List R) : Type 0 where
     pub table : List ℕ
     pub part_bytes : List ℕ
-    pub made : PlaceTable table t
+    pub serialized : PlaceTable table t
     pub parts : RowParts f xs (p + length table) part_bytes rs
     pub is : front ≡ table ++ part_bytes
 
   -- `front`: those bytes, and then zeros up to the alignment of the values
   pub record BeforeRow (front : List ℕ) (t : TableResolver) (rs : List R) : Type 0 where
     pub head : List ℕ
-    pub made : BeforeZeros head t rs
+    pub serialized : BeforeZeros head t rs
     pub is : front ≡ head ++ zeros (padding s.align (p + length head))
 
   -- `part`: bytes of the written index map. `r`: its resolver
@@ -60,7 +60,7 @@ module _ {P X R : Type 0} (w : Width) (ps : ElementSpec) (e : Encoding P) (s : E
     pub row : List ℕ
     pub before : BeforeRow front r.table resolvers
     pub at : r.entries ≡ p + length front
-    pub shown : RowImages f xs resolvers r.entries row
+    pub images : RowImages f xs resolvers r.entries row
     pub is : part ≡ front ++ row
 
   -- `step`: next step after `front`. It is a step of the table, of the parts of a value,

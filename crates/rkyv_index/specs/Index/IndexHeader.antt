@@ -19,7 +19,7 @@ pub record IsIndexHeader (w : Width) (len cap : ℕ) (r : IndexResolver) (p : �
   pub header : IsHeader w len cap r.table.pos p table
   pub distance : ℤ
   pub fits : FitsSigned w distance
-  pub told : distance ≡ pos r.entries -ℤ pos (distance_pos w p)
+  pub distance_value : distance ≡ pos r.entries -ℤ pos (distance_pos w p)
   pub is : out ≡ table ++ to_le_bytes w (cast_unsigned w distance)
 
 -- the distance to the table of indices doesn't fit in the width, or that to the entries doesn't

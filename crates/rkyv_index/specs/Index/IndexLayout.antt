@@ -11,14 +11,14 @@ use Rattle.rkyv_base.specs.ElementSpec.{ElementSpec}
 use Rattle.rkyv_table.specs.Table.Header.{len_at}
 use Rattle.rkyv_table.specs.Table.Places.{AllHold, FirstFails}
 use Rattle.rkyv_table.specs.Table.Positions.{item_positions}
-use Rattle.rkyv_table.specs.Table.Layout.{TableFails, TableHolds}
+use Rattle.rkyv_table.specs.Table.Layout.{TableFails, IsValidTable}
 
 -- the spec of an index in a bucket: one word, which is always valid
 abbrev pub place_spec : Width → ElementSpec
 place_spec w = record {
   size = byte_len w;
   align = byte_len w;
-  holds = λ b p lo hi l. l
+  is_valid = λ b p lo hi l. l
       ≡ lo;
   fails = λ b p lo hi e. ⊥;
 }
@@ -67,26 +67,26 @@ FirstNotBelow w b n (q ∷ qs) e =
 abbrev pub EntriesHold : ElementSpec → List ℕ → ℕ → ℕ → ℕ → ℕ → Type 0
 EntriesHold s b begin len lo l = AllHold s (entry_at s.size begin) b begin (places_of len) lo l
 
--- `len` valid entries in a part that begins at `told`, inside the range from `lo` to `hi`.
+-- `len` valid entries in a part that begins at `decoded`, inside the range from `lo` to `hi`.
 -- `l`: end of the part, and lower end of the next one
-pub record EntriesIn (s : ElementSpec) (b : List ℕ) (told : ℤ) (len lo hi l : ℕ) : Type 0 where
+pub record EntriesIn (s : ElementSpec) (b : List ℕ) (decoded : ℤ) (len lo hi l : ℕ) : Type 0 where
   pub begin : ℕ
-  pub part : PartIn told (len * s.size) s.align lo hi begin
+  pub part : PartIn decoded (len * s.size) s.align lo hi begin
   pub last : ℕ
   pub hold : EntriesHold s b begin len lo last
   pub ends : l ≡ begin + len * s.size
 
 -- `e`: fault of the part, or else the first fault of an entry
 abbrev pub EntriesFail : ElementSpec → List ℕ → ℤ → ℕ → ℕ → ℕ → VerifyError → Type 0
-EntriesFail s b told len lo hi e =
-    PartFails told (len * s.size) s.align lo hi e
-    ⊎ ((begin : ℕ) × PartIn told (len * s.size) s.align lo hi begin × FirstFails s
+EntriesFail s b decoded len lo hi e =
+    PartFails decoded (len * s.size) s.align lo hi e
+    ⊎ ((begin : ℕ) × PartIn decoded (len * s.size) s.align lo hi begin × FirstFails s
     (entry_at s.size begin) b begin (places_of len) lo e)
 
 -- a valid index map at `p`: a table of indices below its length, and as many valid entries
-pub record IndexHolds (w : Width) (s : ElementSpec) (b : List ℕ) (p lo hi l : ℕ) : Type 0 where
+pub record IsValidIndex (w : Width) (s : ElementSpec) (b : List ℕ) (p lo hi l : ℕ) : Type 0 where
   pub middle : ℕ
-  pub table : TableHolds w (place_spec w) b p lo hi middle
+  pub table : IsValidTable w (place_spec w) b p lo hi middle
   pub below : PlacesBelow w b (len_at w b p) (item_positions w (byte_len w) b p)
   pub entries : EntriesIn s b (decode_entries w b p) (len_at w b p) middle hi l
 
@@ -94,7 +94,7 @@ pub record IndexHolds (w : Width) (s : ElementSpec) (b : List ℕ) (p lo hi l : 
 abbrev pub IndexFails : Width → ElementSpec → List ℕ → ℕ → ℕ → ℕ → VerifyError → Type 0
 IndexFails w s b p lo hi e =
     TableFails w (place_spec w) b p lo hi e
-    ⊎ ((middle : ℕ) × TableHolds w (place_spec w) b p lo hi middle
+    ⊎ ((middle : ℕ) × IsValidTable w (place_spec w) b p lo hi middle
     × (FirstNotBelow w b (len_at w b p) (item_positions w (byte_len w) b p) e
     ⊎ (PlacesBelow w b (len_at w b p) (item_positions w (byte_len w) b p) × EntriesFail s b
     (decode_entries w b p) (len_at w b p) middle hi e)))
@@ -104,6 +104,6 @@ abbrev pub index_spec : Width → ElementSpec → ElementSpec
 index_spec w s = record {
   size = 4 * byte_len w;
   align = byte_len w;
-  holds = IndexHolds w s;
+  is_valid = IsValidIndex w s;
   fails = IndexFails w s;
 }

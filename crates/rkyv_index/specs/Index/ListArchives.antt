@@ -26,13 +26,13 @@ index_root w k v b = length b - (index_spec w (entry_spec k v)).size
 -- `value`: its value
 pub record FindsInRoot {A Q B K V H W : Type 0} {ks : Specs K} {vs : Specs V} {wt : Words W}
     (keys : NativeKeys A Q) (values : FoundValues V B) (map : ArchivedIndexMap K V H W ks vs wt)
-    (asked : Q) (pairs : List (A × B)) : Type 0 where
+    (query : Q) (pairs : List (A × B)) : Type 0 where
   pub place : (found : Option ℕ)
-      → FindsFirstKey (index_of map) keys.key_hash (keys.fits asked) (IsIndex found)
-      → found ≡ position (λ pair. keys.equal asked pair.0) pairs
+      → FindsFirstKey (index_of map) keys.key_hash (keys.fits query) (IsIndex found)
+      → found ≡ position (λ pair. keys.equal query pair.0) pairs
   pub value : (found : Option (View V))
-      → FindsFirstKey (index_of map) keys.key_hash (keys.fits asked) (IsValueAt map found)
-      → values.IsFound found (first_value (keys.equal asked) pairs)
+      → FindsFirstKey (index_of map) keys.key_hash (keys.fits query) (IsValueAt map found)
+      → values.IsFound found (first_value (keys.equal query) pairs)
 
 -- Lookups by a query in a root map that represents a list find the first key that equals
 -- the query. `wt`: word of the archive, `keys`: its native keys, `values`: how its values are found
@@ -40,8 +40,8 @@ abbrev pub FoundAreListed : {A Q B K V W : Type 0} → (H : Type 0) → Words W 
     → NativeKeys A Q → FoundValues V B → Type 0
 FoundAreListed {A} {Q} {B} {K} {V} {W} H wt ks vs keys values =
     (map : ArchivedIndexMap K V H W ks vs wt) (root : View (IndexMapOf K V H W))
-    (archive : Bor (List ℕ)) (factor : ℕ × ℕ) (pairs : List (A × B)) (asked : Q)
+    (archive : Bor (List ℕ)) (factor : ℕ × ℕ) (pairs : List (A × B)) (query : Q)
     → map.view ≡ root → IsAt root archive (index_root wt.word ks.spec vs.spec archive.now)
     → IndexRepresents wt.word ks.spec vs.spec keys.represents values.represents keys.key_hash factor
     archive.now (index_root wt.word ks.spec vs.spec archive.now) pairs
-    → FindsInRoot keys values map asked pairs
+    → FindsInRoot keys values map query pairs

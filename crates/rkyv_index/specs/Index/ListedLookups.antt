@@ -12,28 +12,29 @@ use Rattle.rkyv_index.specs.Index.{key_pos}
 use Rattle.rkyv_index.specs.Index.IndexFormat.{IndexRepresents}
 use Rattle.rkyv_index.specs.declared.map.ArchivedIndexMap.{ArchivedIndexMap}
 
--- a valid key fits if and only if `asks` accepts the value that it represents
-abbrev pub AsksFor : {A : Type 0} → ElementSpec → (List ℕ → ℕ → A → Type 0) → List ℕ
+-- a valid key fits if and only if `accept` accepts the value that it represents
+abbrev pub AgreesOnKeys : {A : Type 0} → ElementSpec → (List ℕ → ℕ → A → Type 0) → List ℕ
     → (List ℕ → ℕ → Bool) → (A → Bool) → Type 0
-AsksFor {A} k key b fits asks = (a : A) (q : ℕ) → ValidAt k b q → key b q a → fits b q ≡ asks a
+AgreesOnKeys {A} k key b fits accept = (a : A) (q : ℕ) → ValidAt k b q → key b q a
+    → fits b q ≡ accept a
 
 -- the index is that of the first pair with an accepted key, or no pair has one
 abbrev pub IsFirst : {A B : Type 0} → (A → Bool) → List (A × B) → Option ℕ → Type 0
-IsFirst {A} {B} asks pairs None =
-    (i : ℕ) (pair : A × B) → slice_get pairs i ≡ Some pair → asks pair.0 ≡ false
-IsFirst {A} {B} asks pairs (Some n) =
-    ((pair : A × B) × (slice_get pairs n ≡ Some pair) × (asks pair.0 ≡ true))
-    × ((i : ℕ) (pair : A × B) → i < n → slice_get pairs i ≡ Some pair → asks pair.0 ≡ false)
+IsFirst {A} {B} accept pairs None =
+    (i : ℕ) (pair : A × B) → slice_get pairs i ≡ Some pair → accept pair.0 ≡ false
+IsFirst {A} {B} accept pairs (Some n) =
+    ((pair : A × B) × (slice_get pairs n ≡ Some pair) × (accept pair.0 ≡ true))
+    × ((i : ℕ) (pair : A × B) → i < n → slice_get pairs i ≡ Some pair → accept pair.0 ≡ false)
 
 module _ {A B K V H W : Type 0} {ks : Specs K} {vs : Specs V} {wt : Words W}
     (native : NativePairs A B) (m : ArchivedIndexMap K V H W ks vs wt) where
   -- The index map was written of the list. `first`: the index of a lookup's clause `first` is that
   -- of the first pair with an accepted key. `each`: each pair is at its index
-  pub record FindsListed (fits : List ℕ → ℕ → Bool) (asks : A → Bool) (pairs : List (A × B))
+  pub record FindsListed (fits : List ℕ → ℕ → Bool) (accept : A → Bool) (pairs : List (A × B))
       : Type 0 where
     pub homes : List ℕ
     pub written : IsWritten (index_of m) native.key_hash homes
-    pub first : IsFirst asks pairs (find (fits_at (index_of m) fits) (index_places (index_of m)))
+    pub first : IsFirst accept pairs (find (fits_at (index_of m) fits) (index_places (index_of m)))
     pub each : (i : ℕ) (pair : A × B) → slice_get pairs i ≡ Some pair
         → PairRepresents ks.spec vs.spec native.key native.value (index_bytes m) (key_pos m i) pair
 
@@ -42,9 +43,9 @@ module _ {A B K V H W : Type 0} {ks : Specs K} {vs : Specs V} {wt : Words W}
 abbrev pub LookupsFindListed : {A B K V W : Type 0} → (H : Type 0) → Words W → Specs K → Specs V
     → NativePairs A B → Type 0
 LookupsFindListed {A} {B} {K} {V} {W} H wt ks vs native =
-    (m : ArchivedIndexMap K V H W ks vs wt) (fits : List ℕ → ℕ → Bool) (asks : A → Bool)
+    (m : ArchivedIndexMap K V H W ks vs wt) (fits : List ℕ → ℕ → Bool) (accept : A → Bool)
     (factor : ℕ × ℕ) (pairs : List (A × B))
-    → AsksFor ks.spec native.key (index_bytes m) fits asks
+    → AgreesOnKeys ks.spec native.key (index_bytes m) fits accept
     → IndexRepresents wt.word ks.spec vs.spec native.key native.value native.key_hash factor
     (index_bytes m) (index_pos m) pairs
-    → FindsListed native m fits asks pairs
+    → FindsListed native m fits accept pairs

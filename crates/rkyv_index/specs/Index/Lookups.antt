@@ -3,7 +3,7 @@ use Rattle.rkyv_base.specs.declared.element.HasSpec.{Ghosts as Specs}
 use Rattle.rkyv_base.specs.declared.width.Word.{Ghosts as Words}
 use Rattle.std.specs.Prelude.{◌≡◌, ℕ, Bool, IfSome, List, Option}
 use Rattle.rkyv_base.specs.declared.view.View.{View}
-use Rattle.rkyv_keys.specs.Asked.{Asked}
+use Rattle.rkyv_keys.specs.KeyLookup.{KeyLookup}
 use Rattle.rkyv_index.specs.Index.Complete.{FindsOneKey}
 use Rattle.rkyv_index.specs.Index.{FindsBy, FindsFirstBy, FindsFirstKey, FindsKey, IsAccepted}
 use Rattle.rkyv_index.specs.Index.{IsFullResult, IsFullKeyIn, IsStored, IsStoredIndex, IsKeyOf}
@@ -58,7 +58,7 @@ module _ {K V H W : Type 0} {ks : Specs K} {vs : Specs V} {wt : Words W} where
   module _ (m : ArchivedIndexMap K V H W ks vs wt) where
     -- `P` is a property of the index that a lookup finds: in any map, in a written map,
     -- and if no key is misplaced
-    pub record TellsKey (a : Asked) (P : Option ℕ → Type 0) : Type 0 where
+    pub record FoundKeyHas (a : KeyLookup) (P : Option ℕ → Type 0) : Type 0 where
       pub answer : FindsKey (index_of m) a.hash a.fits P
       pub first : FindsFirstKey (index_of m) a.key_hash a.fits P
       pub complete : FindsOneKey (index_of m) a.key_hash a.same a.fits P
@@ -68,7 +68,7 @@ module _ {K V H W : Type 0} {ks : Specs K} {vs : Specs V} {wt : Words W} where
     -- `result`: part of the pair that a lookup finds. `answer`: in any map, by the control bytes.
     -- `first`: in a written map, of the first key that fits. `complete`: of the only key that fits,
     -- if no key is misplaced
-    pub record GetsKey (a : Asked) (result : Option X) : Type 0 where
+    pub record GetsKey (a : KeyLookup) (result : Option X) : Type 0 where
       pub walked : IfSome result (part.In m)
       pub answer : FindsKey (index_of m) a.hash a.fits (part.At m result)
       pub first : FindsFirstKey (index_of m) a.key_hash a.fits (part.At m result)

@@ -12,7 +12,7 @@ use Rattle.rkyv_base.specs.Entry.{entry_spec}
 use Rattle.rkyv_base.specs.ElementSpec.{ElementSpec, Viewable}
 use Rattle.rkyv_base.specs.declared.errors.ReadError.{ReadError}
 use Rattle.rkyv_base.specs.declared.errors.ReadError.TheVariants.{Memory}
-use Rattle.rkyv_keys.specs.OfEntries.{entry_refuses}
+use Rattle.rkyv_keys.specs.OfEntries.{entry_deserialize_fails}
 use Rattle.rkyv_keys.specs.Deserialize.{DeserializeErrors, DeserializeMembers}
 use Rattle.rkyv_keys.specs.RoundTrips.{RoundTrip}
 use Rattle.rkyv_table.specs.Table.Header.{len_at}
@@ -56,19 +56,20 @@ module _ {K V H W A B : Type 0} {ks : Specs K} {vs : Specs V} {wt : Words W}
       pairs
 
 -- `e`: error of the key or the value at the index `place`
-abbrev pub pair_refuses : {K V H W : Type 0} {ks : Specs K} {vs : Specs V} {wt : Words W}
+abbrev pub pair_deserialize_fails : {K V H W : Type 0} {ks : Specs K} {vs : Specs V} {wt : Words W}
     → DeserializeErrors → DeserializeErrors → ArchivedIndexMap K V H W ks vs wt → ℕ → ReadError
     → Type 0
-pair_refuses {ks = ks} {vs} key value m place e =
-    entry_refuses ks.spec vs.spec key value (index_bytes m) (key_pos m place) e
+pair_deserialize_fails {ks = ks} {vs} key value m place e =
+    entry_deserialize_fails ks.spec vs.spec key value (index_bytes m) (key_pos m place) e
 
 module _ {A B : Type 0} (w : Width) (k : DeserializeMembers A) (v : DeserializeMembers B) where
   -- `e`: error of deserializing the pairs of the index map at `p` of `b`. It is `Memory`,
   -- or the error of a key or a value, after all pairs before it were deserialized
-  abbrev pub pairs_refuse : DeserializeErrors
-  pairs_refuse b p e = (e ≡ Memory) ⊎ ((before : List (A × B)) × (length before < len_at w b p)
+  abbrev pub pairs_deserialize_fails : DeserializeErrors
+  pairs_deserialize_fails b p e = (e ≡ Memory) ⊎
+      ((before : List (A × B)) × (length before < len_at w b p)
       × ArePairsAt w k.spec v.spec k.represents v.represents b p before
-      × entry_refuses k.spec v.spec k.deserialize_fails v.deserialize_fails b
+      × entry_deserialize_fails k.spec v.spec k.deserialize_fails v.deserialize_fails b
       (pair_at w k.spec v.spec b p (length before)) e)
 
 module _ {A : Type 0} (w : Width) (k : ElementSpec) (key : List ℕ → ℕ → A → Type 0) (b : List ℕ)
@@ -95,8 +96,9 @@ module _ {K H W A : Type 0} {ks : Specs K} {wt : Words W} (key : List ℕ → �
 
 -- `e`: error of deserializing the keys of the index set at `p` of `b`. It is `Memory`,
 -- or the error of a key, after all keys before it were deserialized
-abbrev pub items_refuse : {A : Type 0} → Width → DeserializeMembers A → DeserializeErrors
-items_refuse {A} w k b p e = (e ≡ Memory) ⊎ ((before : List A) × (length before < len_at w b p)
+abbrev pub items_deserialize_fails : {A : Type 0} → Width → DeserializeMembers A → DeserializeErrors
+items_deserialize_fails {A} w k b p e = (e ≡ Memory) ⊎
+    ((before : List A) × (length before < len_at w b p)
     × AreItemsAt w k.spec k.represents b p before
     × k.deserialize_fails b (pair_at w k.spec unit_spec b p (length before)) e)
 
@@ -107,7 +109,7 @@ pairs_trip limit w k v format = record {
   limit = limit;
   spec = index_spec w (entry_spec k.spec v.spec);
   format = format;
-  deserialize_fails = pairs_refuse w k v;
+  deserialize_fails = pairs_deserialize_fails w k v;
 }
 
 -- the round trip of a list of keys. `limit`: greatest position of the archive
@@ -117,7 +119,7 @@ items_trip limit w k format = record {
   limit = limit;
   spec = index_set_spec w k.spec;
   format = format;
-  deserialize_fails = items_refuse w k;
+  deserialize_fails = items_deserialize_fails w k;
 }
 
 -- both parts are equal

@@ -5,7 +5,7 @@ use Rattle.rkyv_base.specs.declared.errors.WriteError.{WriteError}
 use Rattle.rkyv_base.specs.Format.{Format}
 use Rattle.rkyv_base.specs.Writing.{Appended, Appends, Output, Step, WriteFails, Within, distance}
 use Rattle.rkyv_base.specs.Writing.{end_of}
-use Rattle.rkyv_base.specs.Writing.{piece, refusal}
+use Rattle.rkyv_base.specs.Writing.{piece, failure}
 
 module _ {X R : Type 0} (f : Format X R) where
   -- `part`: parts of the values in order, from position `p` on. `rs`: their resolvers
@@ -31,14 +31,14 @@ module _ {X R : Type 0} (f : Format X R) where
   -- `step`: own bytes of the value `x` at position `p`, or the error that a distance doesn't fit
   abbrev pub ValueStep : X → R → ℕ → Step → Type 0
   ValueStep x r p step = ((out : List ℕ) × f.image x r p out × (step ≡ piece out))
-      ⊎ (f.overflow x r p × (step ≡ refusal distance))
+      ⊎ (f.overflow x r p × (step ≡ failure distance))
 
   module _ (xs : List X) (rs : List R) (p : ℕ) where
     -- `front`: own bytes of the values before `x`, the value at index `i`. `r`: its resolver
     pub record Before (i : ℕ) (x : X) (r : R) (front : List ℕ) : Type 0 where
       pub value : slice_get xs i ≡ Some x
       pub resolver : slice_get rs i ≡ Some r
-      pub shown : RowImages (take i xs) (take i rs) p front
+      pub images : RowImages (take i xs) (take i rs) p front
 
     -- `step`: next step after `front` when the own bytes of the values are written
     abbrev pub RowNext : List ℕ → Step → Type 0

@@ -20,7 +20,7 @@ module _ (w : Width) (k v : ElementSpec) where
   -- The index map at `p` of `b` is kept in `c`, but for the value at index `i`.
   -- Its header, the bytes before its entries, all keys and all other entries are unchanged.
   pub record KeepsEntries (b c : List ℕ) (p i : ℕ) : Type 0 where
-    pub holds : Keeps (index_spec w (entry_spec k v)) b c p
+    pub is_valid : Keeps (index_spec w (entry_spec k v)) b c p
     pub header : AgreeOn b c p (p + 4 * byte_len w)
     pub front : AgreeOn b c 0 (entries_pos w b p)
     pub keys : (j : ℕ) → j < len_at w b p → SameValue k b c (pair_at b p j)
@@ -70,9 +70,9 @@ module _ (w : Width) (k v : ElementSpec) where
       → KeepsIndexMap (index_kind w k v key_hash) b c p i
 
   -- after a write of one value in place, each query `q` finds the same index. `hash q`: its hash
-  abbrev pub ValueWritesKeepAnswers : {Q : Type 0} → (Q → Type 0) → (Q → ℕ)
+  abbrev pub ValueWritesKeepLookups : {Q : Type 0} → (Q → Type 0) → (Q → ℕ)
       → (Q → List ℕ → ℕ → Bool) → Type 0
-  ValueWritesKeepAnswers {Q} can_read hash fits = (b c : List ℕ) (p i : ℕ)
+  ValueWritesKeepLookups {Q} can_read hash fits = (b c : List ℕ) (p i : ℕ)
       → Viewable (index_spec w (entry_spec k v)) b p → i < len_at w b p
       → WritesValue k v b c (pair_at w k v b p i) → (q : Q) → can_read q
       → index_found w c p (hash q) (fits_in w k v c p (fits q))

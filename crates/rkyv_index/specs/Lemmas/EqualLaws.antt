@@ -11,7 +11,7 @@ use Rattle.rkyv_keys.specs.Equality.{Comparison, IsEquivalence}
 use Rattle.rkyv_table.specs.Table.Header.{len_at}
 use Rattle.rkyv_index.specs.Index.Equality.{index_equal, same_at}
 use Rattle.rkyv_index.specs.Index.IndexLayout.{entries_pos, pair_pos}
-use Rattle.rkyv_index.specs.Index.IndexLayout.{IndexHolds, entry_at, index_spec, places_of}
+use Rattle.rkyv_index.specs.Index.IndexLayout.{IsValidIndex, entry_at, index_spec, places_of}
 use Rattle.rkyv_index.specs.Lemmas.IndexLaws.{each_holds, entry_inside}
 
 -- `list_all f` of a range is `true` if and only if `f` is `true` for each number in it
@@ -37,7 +37,7 @@ module _ (w : Width) (s : ElementSpec) (law : IsElement s) where
   entry_valid : (b : List ℕ) (p : ℕ) → ValidAt (index_spec w s) b p → (i : ℕ) → i < len_at w b
       p → ValidAt s b (pair_pos w s.size b p i)
   entry_valid b p h i below =
-      let held : IndexHolds w s b p 0 p h.0 = h.1 in
+      let held : IsValidIndex w s b p 0 p h.0 = h.1 in
       let begin = held.entries.begin in
       let at : entries_pos w b p ≡ begin = sym (ap unsigned_abs held.entries.part.begins) in
       let r = each_holds s law (entry_at s.size begin) b begin 0 (len_at w b p) held.middle
@@ -45,7 +45,7 @@ module _ (w : Width) (s : ElementSpec) (law : IsElement s) where
       (omega (arith, below)) in
       let u = entry_inside s.size begin (len_at w b p) i below in
       subst (λ n. ValidAt s b (entry_at s.size n i)) (sym at)
-      (valid_at s law b (entry_at s.size begin i) r.lower begin r.rest r.below u.0 r.holds)
+      (valid_at s law b (entry_at s.size begin i) r.lower begin r.rest r.below u.0 r.is_valid)
 
   module _ {same : Comparison} (e : IsEquivalence s same) where
     -- equal maps have the same length and the same entries

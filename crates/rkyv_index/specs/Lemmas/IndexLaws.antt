@@ -31,13 +31,13 @@ use Rattle.rkyv_table.specs.Controls.Placing.{walk}
 use Rattle.rkyv_table.specs.Table.Positions.{IsWalked, item_at, item_positions}
 use Rattle.rkyv_table.specs.Table.Positions.{table_controls}
 use Rattle.rkyv_table.specs.Lemmas.SameHeader.{cap_same, item_same, len_same}
-use Rattle.rkyv_table.specs.Table.Layout.{TableHolds, table_spec}
+use Rattle.rkyv_table.specs.Table.Layout.{IsValidTable, table_spec}
 use Rattle.rkyv_table.specs.Lemmas.TableLaws.{table_element}
 use Rattle.rkyv_table.proofs.RawWalks.{walked_all}
 use Rattle.rkyv_table.proofs.Walks.{walk_none}
 use Rattle.rkyv_index.specs.Index.IndexLayout.{EntriesFail, EntriesHold, EntriesIn, FirstNotBelow}
 use Rattle.rkyv_index.specs.Index.IndexLayout.{IndexFails}
-use Rattle.rkyv_index.specs.Index.IndexLayout.{IndexHolds, PlacesBelow, distance_pos}
+use Rattle.rkyv_index.specs.Index.IndexLayout.{IsValidIndex, PlacesBelow, distance_pos}
 use Rattle.rkyv_index.specs.Index.IndexLayout.{decode_entries}
 use Rattle.rkyv_index.specs.Index.IndexLayout.{entry_at, index_spec, place_spec, places_of}
 
@@ -90,7 +90,7 @@ each_holds s law at b hi a (suc n) lo l i o h from to =
             above = omega arith;
             below = o;
             ends = after.0;
-            holds =
+            is_valid =
                 h.1;
           })
       | inr ne ↦
@@ -120,79 +120,84 @@ not_below_one w b n (q ∷ qs) e e' (inr f) (inr g) = not_below_one w b n qs e e
 
 -- entries that are in a part
 module _ (s : ElementSpec) (law : IsElement s) where
-  entries_between : (b : List ℕ) (told : ℤ) (len lo hi l : ℕ) → EntriesIn s b told len lo hi l
+  entries_between : (b : List ℕ) (decoded : ℤ) (len lo hi l : ℕ) → EntriesIn s b decoded len lo hi l
       → (lo ≤ l) × (l ≤ hi)
-  entries_between b told len lo hi l h = let e = h.ends in (
+  entries_between b decoded len lo hi l h = let e = h.ends in (
     omega (arith, h.part.above, e),
     omega
         (arith, h.part.below, e),
   )
 
-  entries_one : (b : List ℕ) (told : ℤ) (len lo hi l l' : ℕ) → EntriesIn s b told len lo hi l
-      → EntriesIn s b told len lo hi l' → l ≡ l'
-  entries_one b told len lo hi l l' h h' =
-      let same : h.begin ≡ h'.begin = part_one told (len * s.size) s.align lo hi h.begin h'.begin
+  entries_one : (b : List ℕ) (decoded : ℤ) (len lo hi l l' : ℕ) → EntriesIn s b decoded len lo hi l
+      → EntriesIn s b decoded len lo hi l' → l ≡ l'
+  entries_one b decoded len lo hi l l' h h' =
+      let same : h.begin ≡ h'.begin = part_one decoded (len * s.size) s.align lo hi h.begin h'.begin
       h.part h'.part in
       h.ends ∙ ap (λ x. x + len * s.size) same ∙ sym h'.ends
 
-  entries_exclusive : (b : List ℕ) (told : ℤ) (len lo hi l : ℕ) (e : VerifyError)
-      → EntriesIn s b told
-      len lo hi l → EntriesFail s b told len lo hi e → ⊥
-  entries_exclusive b told len lo hi l e h (inl f) =
-      part_exclusive told (len * s.size) s.align lo hi
+  entries_exclusive : (b : List ℕ) (decoded : ℤ) (len lo hi l : ℕ) (e : VerifyError)
+      → EntriesIn s b decoded
+      len lo hi l → EntriesFail s b decoded len lo hi e → ⊥
+  entries_exclusive b decoded len lo hi l e h (inl f) =
+      part_exclusive decoded (len * s.size) s.align lo hi
       h.begin e h.part f
-  entries_exclusive b told len lo hi l e h (inr f) =
-      let same : f.0 ≡ h.begin = part_one told (len * s.size) s.align lo hi f.0 h.begin f.1 h.part
+  entries_exclusive b decoded len lo hi l e h (inr f) =
+      let same : f.0 ≡ h.begin =
+      part_one decoded (len * s.size) s.align lo hi f.0 h.begin f.1 h.part
       in
       all_exclusive s law (entry_at s.size h.begin) b h.begin (places_of len) lo h.last e h.hold
       (subst (λ n. FirstFails s (entry_at s.size n) b n (places_of len) lo e) same f.2)
 
-  entries_one_failure : (b : List ℕ) (told : ℤ) (len lo hi : ℕ) (e e' : VerifyError) → EntriesFail s
-      b told len lo hi e
-      → EntriesFail s b told len lo hi e' → e ≡ e'
-  entries_one_failure b told len lo hi e e' (inl f) (inl g) = part_one_failure told (len * s.size)
+  entries_one_failure : (b : List ℕ) (decoded : ℤ) (len lo hi : ℕ) (e e' : VerifyError)
+      → EntriesFail s
+      b decoded len lo hi e
+      → EntriesFail s b decoded len lo hi e' → e ≡ e'
+  entries_one_failure b decoded len lo hi e e' (inl f) (inl g) =
+      part_one_failure decoded (len * s.size)
       s.align lo hi e e' f g
-  entries_one_failure b told len lo hi e e' (inl f) (inr g) =
-      absurd (part_exclusive told (len * s.size)
+  entries_one_failure b decoded len lo hi e e' (inl f) (inr g) =
+      absurd (part_exclusive decoded (len * s.size)
       s.align lo hi g.0 e g.1 f)
-  entries_one_failure b told len lo hi e e' (inr f) (inl g) =
-      absurd (part_exclusive told (len * s.size)
+  entries_one_failure b decoded len lo hi e e' (inr f) (inl g) =
+      absurd (part_exclusive decoded (len * s.size)
       s.align lo hi f.0 e' f.1 g)
-  entries_one_failure b told len lo hi e e' (inr f) (inr g) =
-      let same : g.0 ≡ f.0 = part_one told (len * s.size) s.align lo hi g.0 f.0 g.1 f.1 in
+  entries_one_failure b decoded len lo hi e e' (inr f) (inr g) =
+      let same : g.0 ≡ f.0 = part_one decoded (len * s.size) s.align lo hi g.0 f.0 g.1 f.1 in
       all_one_failure s law (entry_at s.size f.0) b f.0 (places_of len) lo e e' f.2
       (subst (λ n. FirstFails s (entry_at s.size n) b n (places_of len) lo e') same g.2)
 
-  entries_higher : (b : List ℕ) (told : ℤ) (len lo hi hi' l : ℕ) → hi ≤ hi' → EntriesIn s b told len
-      lo hi l → EntriesIn s b told len lo hi' l
-  entries_higher b told len lo hi hi' l o h =
+  entries_higher : (b : List ℕ) (decoded : ℤ) (len lo hi hi' l : ℕ) → hi ≤ hi'
+      → EntriesIn s b decoded len
+      lo hi l → EntriesIn s b decoded len lo hi' l
+  entries_higher b decoded len lo hi hi' l o h =
       record {
         begin = h.begin;
-        part = part_wider told (len * s.size) s.align lo lo hi hi' h.begin
+        part = part_wider decoded (len * s.size) s.align lo lo hi hi' h.begin
             (omega arith) o h.part;
         last = h.last;
         hold = h.hold;
         ends = h.ends;
       }
 
-  entries_lower : (b : List ℕ) (told : ℤ) (len lo lo' hi l : ℕ) → lo' ≤ lo → EntriesIn s b told len
-      lo hi l → EntriesIn s b told len lo' hi l
-  entries_lower b told len lo lo' hi l o h =
+  entries_lower : (b : List ℕ) (decoded : ℤ) (len lo lo' hi l : ℕ) → lo' ≤ lo
+      → EntriesIn s b decoded len
+      lo hi l → EntriesIn s b decoded len lo' hi l
+  entries_lower b decoded len lo lo' hi l o h =
       let d = all_lower s law (entry_at s.size h.begin) b h.begin (places_of len) lo lo' h.last o
       h.part.above h.hold in
       record {
         begin = h.begin;
-        part = part_wider told (len * s.size) s.align lo lo' hi hi h.begin o
+        part = part_wider decoded (len * s.size) s.align lo lo' hi hi h.begin o
             (omega arith) h.part;
         last = d.0;
         hold = d.1;
         ends = h.ends;
       }
 
-  entries_local : (b c : List ℕ) (told : ℤ) (len lo hi l : ℕ) → AgreeOn b c lo l
-      → EntriesIn s b told
-      len lo hi l → EntriesIn s c told len lo hi l
-  entries_local b c told len lo hi l same h =
+  entries_local : (b c : List ℕ) (decoded : ℤ) (len lo hi l : ℕ) → AgreeOn b c lo l
+      → EntriesIn s b decoded
+      len lo hi l → EntriesIn s c decoded len lo hi l
+  entries_local b c decoded len lo hi l same h =
       let e = h.ends in
       let above = h.part.above in
       record {
@@ -224,7 +229,7 @@ module _ (w : Width) (kind : IsArchiveWord w) where
 
   -- the indices are the same if the bytes of the header and of the table are
   module _ (b c : List ℕ) (p lo hi m : ℕ) (o : lo ≤ hi) (fixed : AgreeOn b c p (p + 3 * byte_len w))
-      (part : AgreeOn b c lo m) (h : TableHolds w P b p lo hi m) where
+      (part : AgreeOn b c lo m) (h : IsValidTable w P b p lo hi m) where
     item_within : (i : ℕ) → IsWalked w b p i → (lo ≤ item_at w (byte_len w) b p i)
         × (item_at w (byte_len w) b p i + byte_len w ≤ m)
     item_within i walked =
@@ -266,9 +271,9 @@ module _ (w : Width) (kind : IsArchiveWord w) where
         (All-unmap (λ q. number_at w b q < n) (at b p) ws below k d lt)))
 
 -- the entries begin at the same position if the bytes of the header are the same
-pub told_same : (w : Width) (b c : List ℕ) (p : ℕ) → AgreeOn b c p (p + 4 * byte_len w)
+pub decoded_same : (w : Width) (b c : List ℕ) (p : ℕ) → AgreeOn b c p (p + 4 * byte_len w)
     → decode_entries w b p ≡ decode_entries w c p
-told_same w b c p fixed =
+decoded_same w b c p fixed =
     let field : AgreeOn b c (distance_pos w p) (distance_pos w p + byte_len w) =
     agree_on_part b c p (p + 4 * byte_len w) (distance_pos w p) (distance_pos w p + byte_len w)
     (omega arith) (omega arith) (omega arith) fixed in
@@ -285,7 +290,7 @@ module _ (w : Width) (kind : IsArchiveWord w) (s : ElementSpec) (law : IsElement
   abbrev T_law : IsElement (table_spec w (place_spec w))
   T_law = table_element w kind (place_spec w) (place_element w kind)
 
-  index_exclusive : (b : List ℕ) (p lo hi l : ℕ) (e : VerifyError) → IndexHolds w s b p lo hi l
+  index_exclusive : (b : List ℕ) (p lo hi l : ℕ) (e : VerifyError) → IsValidIndex w s b p lo hi l
       → IndexFails w s b p lo hi e → ⊥
   index_exclusive b p lo hi l e h (inl f) = T_law.exclusive b p lo hi h.middle e h.table f
   index_exclusive b p lo hi l e h (inr (m, t, inl f)) = not_below_exclusive w b (len_at w b p)
@@ -313,7 +318,8 @@ module _ (w : Width) (kind : IsArchiveWord w) (s : ElementSpec) (law : IsElement
       entries_one_failure s law b (decode_entries w b p) (len_at w b p) m hi e e' f.1
       (subst (λ x. EntriesFail s b (decode_entries w b p) (len_at w b p) x hi e') same g.1)
 
-  index_one : (b : List ℕ) (p lo hi l l' : ℕ) → IndexHolds w s b p lo hi l → IndexHolds w s b p lo
+  index_one : (b : List ℕ) (p lo hi l l' : ℕ) → IsValidIndex w s b p lo hi l
+      → IsValidIndex w s b p lo
       hi l' → l ≡ l'
   index_one b p lo hi l l' h h' =
       let same : h'.middle ≡ h.middle =
@@ -322,9 +328,10 @@ module _ (w : Width) (kind : IsArchiveWord w) (s : ElementSpec) (law : IsElement
       (subst (λ x. EntriesIn s b (decode_entries w b p) (len_at w b p) x hi l') same h'.entries)
 
   -- that the entries are valid, and that the map is, are propositions
-  entries_prop : (b : List ℕ) (told : ℤ) (len lo hi l : ℕ) → IsProp (EntriesIn s b told len lo hi l)
-  entries_prop b told len lo hi l =
-      let P : ℕ → Type 0 = λ begin. PartIn told (len * s.size) s.align lo hi begin
+  entries_prop : (b : List ℕ) (decoded : ℤ) (len lo hi l : ℕ)
+      → IsProp (EntriesIn s b decoded len lo hi l)
+  entries_prop b decoded len lo hi l =
+      let P : ℕ → Type 0 = λ begin. PartIn decoded (len * s.size) s.align lo hi begin
       × (((last : ℕ) × EntriesHold s b begin len lo last) × (l ≡ begin + len * s.size)) in
       prop_by {B = (begin : ℕ) × P begin} (λ h. (h.begin, (h.part, ((h.last, h.hold), h.ends))))
       (λ h. record {
@@ -336,14 +343,14 @@ module _ (w : Width) (kind : IsArchiveWord w) (s : ElementSpec) (law : IsElement
             h.1.1.1;
       })
       (λ _. refl) (only_one
-      (λ begin. ×_prop (part_prop told (len * s.size) s.align lo hi begin)
+      (λ begin. ×_prop (part_prop decoded (len * s.size) s.align lo hi begin)
       (×_prop (only_one (all_prop s law (entry_at s.size begin) b begin (places_of len) lo)
       (all_one s law (entry_at s.size begin) b begin (places_of len) lo)) (hlevel props)))
-      (λ n n' h k. part_one told (len * s.size) s.align lo hi n n' h.0 k.0))
+      (λ n n' h k. part_one decoded (len * s.size) s.align lo hi n n' h.0 k.0))
 
-  index_prop : (b : List ℕ) (p lo hi l : ℕ) → IsProp (IndexHolds w s b p lo hi l)
+  index_prop : (b : List ℕ) (p lo hi l : ℕ) → IsProp (IsValidIndex w s b p lo hi l)
   index_prop b p lo hi l =
-      let P : ℕ → Type 0 = λ m. TableHolds w (place_spec w) b p lo hi m
+      let P : ℕ → Type 0 = λ m. IsValidTable w (place_spec w) b p lo hi m
       × (PlacesBelow w b (len_at w b p) (item_positions w (byte_len w) b p)
       × EntriesIn s b (decode_entries w b p) (len_at w b p) m hi l) in
       prop_by {B = (m : ℕ) × P m} (λ h. (h.middle, (h.table, (h.below, h.entries))))
@@ -352,7 +359,7 @@ module _ (w : Width) (kind : IsArchiveWord w) (s : ElementSpec) (law : IsElement
       (entries_prop b (decode_entries w b p) (len_at w b p) m hi l)))
       (λ m m' h k. T_law.rest_unique b p lo hi m m' h.0 k.0))
 
-  index_between : (b : List ℕ) (p lo hi l : ℕ) → lo ≤ hi → IndexHolds w s b p lo hi l → (lo ≤ l)
+  index_between : (b : List ℕ) (p lo hi l : ℕ) → lo ≤ hi → IsValidIndex w s b p lo hi l → (lo ≤ l)
       × (l ≤ hi)
   index_between b p lo hi l o h =
       let t = T_law.rest_in_range b p lo hi h.middle o h.table in
@@ -360,8 +367,8 @@ module _ (w : Width) (kind : IsArchiveWord w) (s : ElementSpec) (law : IsElement
       (len_at w b p) h.middle hi l h.entries in
       (omega (arith, t.0, r.0), r.1)
 
-  index_lower : (b : List ℕ) (p lo lo' hi l : ℕ) → lo' ≤ lo → lo ≤ hi → IndexHolds w s b p lo hi l
-      → (l' : ℕ) × IndexHolds w s b p lo' hi l' × (l' ≤ l)
+  index_lower : (b : List ℕ) (p lo lo' hi l : ℕ) → lo' ≤ lo → lo ≤ hi → IsValidIndex w s b p lo hi l
+      → (l' : ℕ) × IsValidIndex w s b p lo' hi l' × (l' ≤ l)
   index_lower b p lo lo' hi l o o' h =
       let t = T_law.lower_lo b p lo lo' hi h.middle o o' h.table in (
         l,
@@ -378,9 +385,9 @@ module _ (w : Width) (kind : IsArchiveWord w) (s : ElementSpec) (law : IsElement
   -- an index map is valid again if the header and the table are the same and the entries
   -- are valid again
   pub index_again : (b c : List ℕ) (p lo hi l : ℕ) → lo ≤ hi → AgreeOn b c p (p + 4 * byte_len w)
-      → (h : IndexHolds w s b p lo hi l) → AgreeOn b c lo h.middle
+      → (h : IsValidIndex w s b p lo hi l) → AgreeOn b c lo h.middle
       → EntriesIn s c (decode_entries w b p) (len_at w b p) h.middle hi l
-      → IndexHolds w s c p lo hi l
+      → IsValidIndex w s c p lo hi l
   index_again b c p lo hi l o fixed h front entries =
       let head = head_same w b c p fixed in
       let len : len_at w b p ≡ len_at w c p = len_same w b c p head in
@@ -390,13 +397,13 @@ module _ (w : Width) (kind : IsArchiveWord w) (s : ElementSpec) (law : IsElement
         below = subst (λ n. PlacesBelow w c n (item_positions w (byte_len w) c p)) len
             (places_local w kind b c p lo hi h.middle o head front h.table (len_at w b p) h.below);
         entries = subst (λ n. EntriesIn s c (decode_entries w c p) n h.middle hi l) len
-            (subst (λ z. EntriesIn s c z (len_at w b p) h.middle hi l) (told_same w b c p fixed)
+            (subst (λ z. EntriesIn s c z (len_at w b p) h.middle hi l) (decoded_same w b c p fixed)
             entries);
       }
 
   index_local : (b c : List ℕ) (p lo hi l : ℕ) → lo ≤ hi → AgreeOn b c p (p + 4 * byte_len w)
       → AgreeOn b c
-      lo l → IndexHolds w s b p lo hi l → IndexHolds w s c p lo hi l
+      lo l → IsValidIndex w s b p lo hi l → IsValidIndex w s c p lo hi l
   index_local b c p lo hi l o fixed part h =
       let t = T_law.rest_in_range b p lo hi h.middle o h.table in
       let r = entries_between s law b (decode_entries w b p)

@@ -32,13 +32,13 @@ use Rattle.rkyv_index.specs.Index.{hash_at}
 use Rattle.rkyv_index.specs.Index.IndexFormat.{IndexRepresents, IndexWrittenAt}
 use Rattle.rkyv_index.specs.Index.IndexLayout.{entries_pos, pair_pos}
 use Rattle.rkyv_index.specs.Lemmas.IndexLaws.{each_holds, entry_inside, place_element}
-use Rattle.rkyv_index.specs.Lemmas.IndexLaws.{head_same, place_same_at, told_same}
-use Rattle.rkyv_index.specs.Index.IndexLayout.{IndexHolds, entry_at}
+use Rattle.rkyv_index.specs.Lemmas.IndexLaws.{head_same, place_same_at, decoded_same}
+use Rattle.rkyv_index.specs.Index.IndexLayout.{IsValidIndex, entry_at}
 use Rattle.rkyv_index.specs.Index.IndexLayout.{index_spec, place_spec, places_of}
 
 -- the hash of a valid key depends only on the bytes of the key and its parts
 abbrev pub HashLocal : ElementSpec → (List ℕ → ℕ → ℕ) → Type 0
-HashLocal k hash = (b c : List ℕ) (q lo hi l : ℕ) → lo ≤ hi → k.holds b q lo hi l → AgreeOn b c q
+HashLocal k hash = (b c : List ℕ) (q lo hi l : ℕ) → lo ≤ hi → k.is_valid b q lo hi l → AgreeOn b c q
     (q + k.size) → AgreeOn b c lo l → hash b q ≡ hash c q
 
 -- An index map that was written in `b` was also written in `c`. Both have the same header
@@ -112,13 +112,13 @@ module _ (w : Width) (kind : IsArchiveWord w) (k v : ElementSpec) (kl : IsElemen
   abbrev law : IsElement S
   law = entry_element k v kl vl
 
-  module _ (h : IndexHolds w S b p lo hi l) (fixed : AgreeOn b c p (p + 4 * byte_len w))
+  module _ (h : IsValidIndex w S b p lo hi l) (fixed : AgreeOn b c p (p + 4 * byte_len w))
       (part : AgreeOn b c lo l) (st : IndexRepresents w k v key value hash factor b p pairs) where
     head : AgreeOn b c p (p + 3 * byte_len w)
     head = head_same w b c p fixed
 
     same_pos : (i : ℕ) → pair_pos w S.size b p i ≡ pair_pos w S.size c p i
-    same_pos i = ap (λ z. entry_at S.size (unsigned_abs z) i) (told_same w b c p fixed)
+    same_pos i = ap (λ z. entry_at S.size (unsigned_abs z) i) (decoded_same w b c p fixed)
 
     same_len : len_at w b p ≡ len_at w c p
     same_len = len_same w b c p head
@@ -167,7 +167,7 @@ module _ (w : Width) (kind : IsArchiveWord w) (k v : ElementSpec) (kl : IsElemen
       same_hash : hash b q ≡ hash c q
       same_hash =
           let r = (entry_there i below).0 in
-          let e = r.holds in
+          let e = r.is_valid in
           let x = kl.rest_in_range b q r.lower h.entries.begin e.1 r.below e.2 in
           let y = vl.rest_in_range b _ e.1 h.entries.begin r.rest x.1 e.3 in
           let ends = h.entries.ends in
@@ -181,11 +181,11 @@ module _ (w : Width) (kind : IsArchiveWord w) (k v : ElementSpec) (kl : IsElemen
           pair
       same_pair pair there =
           let r = (entry_there i below).0 in
-          let x = law.rest_in_range b q r.lower h.entries.begin r.rest r.below r.holds in
+          let x = law.rest_in_range b q r.lower h.entries.begin r.rest r.below r.is_valid in
           let ends = h.entries.ends in
           let within = r.ends in
           pair_local k v kl vl key value kn vn pair b c q r.lower h.entries.begin r.rest r.below
-          r.holds same_entry
+          r.is_valid same_entry
           (agree_on_part b c lo l r.lower r.rest (omega (arith, r.above, table_ends))
           (omega (arith, within, last_ends, ends)) x.0 part) there
 

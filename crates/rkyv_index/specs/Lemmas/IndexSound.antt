@@ -39,7 +39,7 @@ use Rattle.rkyv_table.specs.Table.Places.{AllHold}
 use Rattle.rkyv_table.specs.Controls.Placing.{walk}
 use Rattle.rkyv_table.specs.Table.Positions.{IsWalked, WrittenAt, home_positions, item_at}
 use Rattle.rkyv_table.specs.Table.Positions.{item_positions, table_controls}
-use Rattle.rkyv_table.specs.Table.Layout.{TableHolds, table_spec}
+use Rattle.rkyv_table.specs.Table.Layout.{IsValidTable, table_spec}
 use Rattle.rkyv_table.specs.Table.TableFormat.{TableRepresents, resolved_capacity}
 use Rattle.rkyv_table.specs.Lemmas.TableLaws.{table_element}
 use Rattle.rkyv_table.specs.Lemmas.TableSound.{table_is_format}
@@ -53,7 +53,7 @@ use Rattle.rkyv_index.specs.Index.IndexFormat.{IndexRepresents}
 use Rattle.rkyv_index.specs.Index.IndexFormat.{RowRepresents, index_format, places_from, row_format}
 use Rattle.rkyv_index.specs.Index.IndexHeader.{IndexOverflows, IndexResolver, IsIndexHeader}
 use Rattle.rkyv_index.specs.Index.IndexLayout.{entries_pos, pair_pos}
-use Rattle.rkyv_index.specs.Index.IndexLayout.{IndexHolds, PlacesBelow, distance_pos}
+use Rattle.rkyv_index.specs.Index.IndexLayout.{IsValidIndex, PlacesBelow, distance_pos}
 use Rattle.rkyv_index.specs.Index.IndexLayout.{decode_entries}
 use Rattle.rkyv_index.specs.Index.IndexLayout.{index_spec, places_of}
 use Rattle.rkyv_index.specs.Lemmas.PlaceSpecs.{place_table_holds}
@@ -125,17 +125,18 @@ module _ {P X R : Type 0} (w : Width) (kind : IsArchiveWord w) (ps : ElementSpec
       homes_count = home_count w c p (hashes_of Places) tw.homes tw.written ∙ hashes_count
 
       -- the home bucket of the value with number `j` has the index `j`
-      places_tell : (j : ℕ) → j < length xs → number_at w c
+      numbers_at_homes : (j : ℕ) → j < length xs → number_at w c
           (slice_index (home_positions w (byte_len w) c p tw.homes) j) ≡ j
-      places_tell j h =
+      numbers_at_homes j h =
           let z : 0 + j ≡ j = omega arith in
           let q = slice_index (home_positions w (byte_len e.word) c p tw.homes) j in
           let there : e.value (number_at e.word c q) ≡ e.value j = tw.at j (e.value j)
           (place_there own e.value 0 xs j h ∙ ap (λ n. Some (e.value n)) z) in
-          let told : number_at e.word c q ≡ j = sym (back (number_at e.word c q)) ∙ ap e.code there
+          let decoded : number_at e.word c q ≡ j = sym (back (number_at e.word c q))
+          ∙ ap e.code there
           ∙ back j in
           subst (λ v. number_at v c
-          (slice_index (home_positions w (byte_len v) c p tw.homes) j) ≡ j) place.word told
+          (slice_index (home_positions w (byte_len v) c p tw.homes) j) ≡ j) place.word decoded
 
       -- each full bucket has the index of a value
       walked_below : (i : ℕ) → IsWalked w c p i → number_at w c (item_at w (byte_len w) c p i) <
@@ -156,9 +157,10 @@ module _ {P X R : Type 0} (w : Width) (kind : IsArchiveWord w) (ps : ElementSpec
             let q : slice_index (home_positions w (byte_len w) c p tw.homes) j ≡ item_at w
             (byte_len w) c p i = home_pos w (byte_len w) c p tw.homes j home.1
             ∙ ap (item_at w (byte_len w) c p) at in
-            let told : number_at w c (item_at w (byte_len w) c p i) ≡ j = ap (number_at w c) (sym q)
-            ∙ places_tell j below in
-            omega (arith, told, below)
+            let decoded : number_at w c (item_at w (byte_len w) c p i) ≡ j =
+            ap (number_at w c) (sym q)
+            ∙ numbers_at_homes j below in
+            omega (arith, decoded, below)
       ]
 
       places_below : PlacesBelow w c (length xs) (item_positions w (byte_len w) c p)
@@ -184,7 +186,7 @@ module _ {P X R : Type 0} (w : Width) (kind : IsArchiveWord w) (ps : ElementSpec
           (m ∙ n ∙ sym (length-range_with_len 0 (length xs)))
           (λ i below.
           let k : i < length xs = omega (arith, below, m, n) in
-          get_or-map (number_at w c) hs i 0 0 (omega (arith, k, n)) ∙ places_tell i k
+          get_or-map (number_at w c) hs i 0 0 (omega (arith, k, n)) ∙ numbers_at_homes i k
           ∙ sym (get_or-range_with_len 0 (length xs) i 0 k ∙ omega arith))
 
     module _ (r : IndexResolver) (c : List ℕ) (p0 p : ℕ) (part out : List ℕ)
@@ -196,7 +198,7 @@ module _ {P X R : Type 0} (w : Width) (kind : IsArchiveWord w) (ps : ElementSpec
       row = t.row
 
       abbrev zb : BeforeZeros w ps e s f own factor xs p0 t.before.head r.table t.resolvers
-      zb = t.before.made
+      zb = t.before.serialized
 
       abbrev pad : List ℕ
       pad = zeros (padding s.align (p0 + length t.before.head))
@@ -228,7 +230,7 @@ module _ {P X R : Type 0} (w : Width) (kind : IsArchiveWord w) (ps : ElementSpec
       part_length = ap length t.is ∙ length-append t.front row
 
       row_length : length row ≡ length xs * s.size
-      row_length = images_length s laws represents f fl xs t.resolvers begin row t.shown
+      row_length = images_length s laws represents f fl xs t.resolvers begin row t.images
 
       begin_aligned : begin % s.align ≡ 0
       begin_aligned =
@@ -245,25 +247,25 @@ module _ {P X R : Type 0} (w : Width) (kind : IsArchiveWord w) (ps : ElementSpec
       header_sits : OccursAt c p (i.table ++ to_le_bytes w (cast_unsigned w i.distance))
       header_sits = subst (OccursAt c p) i.is so
 
-      told : decode_entries w c p ≡ pos begin
-      told =
+      decoded : decode_entries w c p ≡ pos begin
+      decoded =
           let d = distance_back w kind i.distance c (distance_pos w p) i.fits
           (subst (λ k. OccursAt c (p + k) (to_le_bytes w (cast_unsigned w i.distance))) table_length
           (occurs_back c p i.table (to_le_bytes w (cast_unsigned w i.distance)) header_sits)) in
           let k : pos (distance_pos w p) +ℤ (pos begin -ℤ pos (distance_pos w p)) ≡ pos begin =
           omega (arith, ints) in
-          ap (λ z. pos (distance_pos w p) +ℤ z) (d ∙ i.told) ∙ k
+          ap (λ z. pos (distance_pos w p) +ℤ z) (d ∙ i.distance_value) ∙ k
 
       begin_is : entries_pos w c p ≡ begin
-      begin_is = ap unsigned_abs told
+      begin_is = ap unsigned_abs decoded
 
-      table : (l : ℕ) × TableHolds w ps c p p0 (p0 + length zb.table) l
+      table : (l : ℕ) × IsValidTable w ps c p p0 (p0 + length zb.table) l
           × TableRepresents w
           ps (ScalarRepresents e) factor c p Places
       table = (table_is_format w kind ps pe (ScalarRepresents e)
           (scalar_format e) (scalar_is_format ps e pk) factor).sound Places r.table c p0 p zb.table
           i.table
-          zb.made i.header (occurs_front c p0 zb.table zb.part_bytes head_sits)
+          zb.serialized i.header (occurs_front c p0 zb.table zb.part_bytes head_sits)
           (occurs_front c p i.table (to_le_bytes w (cast_unsigned w i.distance)) header_sits)
           (omega (arith, o, part_length, front_length, head_length)) al
 
@@ -277,7 +279,7 @@ module _ {P X R : Type 0} (w : Width) (kind : IsArchiveWord w) (ps : ElementSpec
       rows =
           row_sound s laws represents f fl c begin xs 0
           (p0 + length zb.table) zb.part_bytes row t.resolvers
-          zb.parts (subst (λ k. RowImages f xs t.resolvers k row) first_at_begin t.shown)
+          zb.parts (subst (λ k. RowImages f xs t.resolvers k row) first_at_begin t.images)
           (occurs_back c p0 zb.table zb.part_bytes head_sits)
           (subst (λ k. OccursAt c k row) first_at_begin row_sits)
           (omega (arith, t.at, front_length, head_length)) (subst (λ k. k % s.align ≡ 0)
@@ -286,45 +288,45 @@ module _ {P X R : Type 0} (w : Width) (kind : IsArchiveWord w) (ps : ElementSpec
       table_represents : TableRepresents w ps (ScalarRepresents e) factor c p Places
       table_represents = table.2
 
-      len_told : len_at w c p ≡ length xs
-      len_told = table_represents.len ∙ count
+      len_decoded : len_at w c p ≡ length xs
+      len_decoded = table_represents.len ∙ count
 
       abbrev homes : List ℕ
       homes = (tw c p table_represents).homes
 
-      at_told : (j : ℕ) → begin + (0 + j) * s.size ≡ pair_pos w s.size c p j
-      at_told j =
+      pair_pos_is : (j : ℕ) → begin + (0 + j) * s.size ≡ pair_pos w s.size c p j
+      pair_pos_is j =
           let z : 0 + j ≡ j = omega arith in
           ap (λ k. begin + k * s.size) z ∙ ap (λ b. b + j * s.size) (sym begin_is)
 
-      hashes_told : hashes_of Places ≡ map (λ k. hash c (pair_pos w s.size c p k))
+      hashes_are : hashes_of Places ≡ map (λ k. hash c (pair_pos w s.size c p k))
           (places_of (len_at w c p))
-      hashes_told =
+      hashes_are =
           hashes_there own e.value (pair_pos w s.size c p) (hash c) 0 xs (λ j x there.
           let z : j ≡ 0 + j = omega arith in
           let st = rows.3 j x there in
-          same_hash x c (begin + (0 + j) * s.size) st.0 st.1 ∙ ap (hash c) (at_told j)
+          same_hash x c (begin + (0 + j) * s.size) st.0 st.1 ∙ ap (hash c) (pair_pos_is j)
           ∙ ap (λ k. hash c (pair_pos w s.size c p k)) z)
-          ∙ ap (λ n. map (λ k. hash c (pair_pos w s.size c p k)) (places_of n)) (sym len_told)
+          ∙ ap (λ n. map (λ k. hash c (pair_pos w s.size c p k)) (places_of n)) (sym len_decoded)
 
       row_represents : RowRepresents w s.size represents hash factor c p xs
       row_represents = record {
         homes = homes;
         written = record {
-          table = subst (λ (hs : List ℕ). WrittenAt w c p hs homes) hashes_told
+          table = subst (λ (hs : List ℕ). WrittenAt w c p hs homes) hashes_are
               (tw c p table_represents).written;
-          places = places_are c p table_represents ∙ ap places_of (sym len_told);
+          places = places_are c p table_represents ∙ ap places_of (sym len_decoded);
         };
-        len = len_told;
+        len = len_decoded;
         cap = table_represents.cap ∙ ap (λ n. capacity n factor) count;
-        at = λ j x there. subst (λ q. represents c q x) (at_told j) (rows.3 j x there).1;
+        at = λ j x there. subst (λ q. represents c q x) (pair_pos_is j) (rows.3 j x there).1;
       }
 
       table_law : IsElement (table_spec w ps)
       table_law = table_element w kind ps pe
 
-      holds : (l : ℕ) × IndexHolds w s c p p0 (p0 + length part) l
-      holds =
+      is_valid : (l : ℕ) × IsValidIndex w s c p p0 (p0 + length part) l
+      is_valid =
           let b = table_law.rest_in_range c p p0 (p0 + length zb.table) table.0
           (omega arith) table.1 in
           let up = table_law.widen_hi c p p0 (p0 + length zb.table) (p0 + length part) table.0
@@ -334,17 +336,17 @@ module _ {P X R : Type 0} (w : Width) (kind : IsArchiveWord w) (ps : ElementSpec
           (p0 + length zb.table) table.0 rows.0 b.1
           (omega (arith, t.at, front_length, head_length)) rows.1 in
           let size : len_at w c p * s.size ≡ length xs * s.size =
-          ap (λ n. n * s.size) len_told in (
+          ap (λ n. n * s.size) len_decoded in (
             begin + len_at w c p * s.size,
             record {
               middle = table.0;
               table = place_table_holds w ps e pk place c p p0 (p0 + length part) table.0 up;
               below = subst (λ n. PlacesBelow w c n (item_positions w (byte_len w) c p))
-                  (sym len_told) (places_below c p table_represents);
+                  (sym len_decoded) (places_below c p table_represents);
               entries = record {
                 begin = begin;
                 part = record {
-                  begins = sym told;
+                  begins = sym decoded;
                   above = omega (
                     arith,
                     b.1,
@@ -357,7 +359,7 @@ module _ {P X R : Type 0} (w : Width) (kind : IsArchiveWord w) (ps : ElementSpec
                 };
                 last = low.0;
                 hold = subst (λ n. AllHold s (λ k. begin + k * s.size) c begin
-                    (range_with_len 0 n) table.0 low.0) (sym len_told) low.1;
+                    (range_with_len 0 n) table.0 low.0) (sym len_decoded) low.1;
                 ends = refl;
               };
             },
@@ -376,11 +378,12 @@ module _ {P X R : Type 0} (w : Width) (kind : IsArchiveWord w) (ps : ElementSpec
   header_exclusive : (r : IndexResolver) (p : ℕ) (out : List ℕ) → IsIndexHeader w r.table.len
       (resolved_capacity r.table) r p out
       → IndexOverflows w r.table.len r p → ⊥
-  header_exclusive r p out i (inl overflow) = elim i.header.told [
+  header_exclusive r p out i (inl overflow) = elim i.header.distance_value [
     | inl h ↦ omega (arith, h.0, overflow.0)
     | inr h ↦ overflow.1 (subst (FitsSigned w) h.1 i.header.fits)
   ]
-  header_exclusive r p out i (inr overflow) = overflow (subst (FitsSigned w) i.told i.fits)
+  header_exclusive r p out i (inr overflow) =
+      overflow (subst (FitsSigned w) i.distance_value i.fits)
 
   -- Written bytes of values and an aligned header behind them are a valid index map in any archive
   -- that has them. It represents the values.
@@ -390,7 +393,7 @@ module _ {P X R : Type 0} (w : Width) (kind : IsArchiveWord w) (ps : ElementSpec
     size_exact = λ xs r p out i. header_whole r p out i;
     exclusive = λ xs r p out i overflow. header_exclusive r p out i overflow;
     sound = λ xs r c p0 p part out t i sp so o al.
-        let h = holds xs r c p0 p part out t i sp so o al in (
+        let h = is_valid xs r c p0 p part out t i sp so o al in (
           h.0,
           h.1,
           row_represents xs r c p0 p part out t i sp so o al,

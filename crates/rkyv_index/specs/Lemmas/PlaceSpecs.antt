@@ -10,20 +10,20 @@ use Rattle.rkyv_table.specs.Table.Header.{decode_begin, cap_at, len_at}
 use Rattle.rkyv_table.specs.Controls.Placing.{walk}
 use Rattle.rkyv_table.specs.Table.Places.{AllHold, FirstFails}
 use Rattle.rkyv_table.specs.Table.Layout.{FailsInside, IsPart, TableAt, TableFails, TableFailsAt}
-use Rattle.rkyv_table.specs.Table.Layout.{TableHolds, bucket_at, controls_at, table_spec}
+use Rattle.rkyv_table.specs.Table.Layout.{IsValidTable, bucket_at, controls_at, table_spec}
 use Rattle.rkyv_index.specs.Index.IndexLayout.{place_spec}
 
 -- specs of one size and alignment
-module _ (size align : ℕ) (holds holds' : List ℕ → ℕ → ℕ → ℕ → ℕ → Type 0) (fails fails' : List ℕ
+module _ (size align : ℕ) (is_valid holds' : List ℕ → ℕ → ℕ → ℕ → ℕ → Type 0) (fails fails' : List ℕ
     → ℕ → ℕ → ℕ → VerifyError → Type 0)
-    (to : (b : List ℕ) (p lo hi l : ℕ) → holds b p lo hi l → holds' b p lo hi l)
+    (to : (b : List ℕ) (p lo hi l : ℕ) → is_valid b p lo hi l → holds' b p lo hi l)
     (fail : (b : List ℕ) (p lo hi : ℕ) (e : VerifyError) → fails b p lo hi e → fails' b p lo hi e)
   where
     abbrev from : ElementSpec
-    from = record { size = size; align = align; holds = holds; fails = fails }
+    from = record { size = size; align = align; is_valid = is_valid; fails = fails }
 
     abbrev onto : ElementSpec
-    onto = record { size = size; align = align; holds = holds'; fails = fails' }
+    onto = record { size = size; align = align; is_valid = holds'; fails = fails' }
 
     all_as : (at : ℕ → ℕ) (b : List ℕ) (hi : ℕ) (is : List ℕ) (lo l : ℕ) → AllHold from at b hi is
         lo
@@ -65,26 +65,28 @@ module _ (size align : ℕ) (holds holds' : List ℕ → ℕ → ℕ → ℕ →
           f.2,
         )
 
-    at_as : (b : List ℕ) (told : ℤ) (cap len lo hi l : ℕ) → TableAt from b told cap len lo hi l
-        → TableAt onto b told cap len lo hi l
-    at_as b told cap len lo hi l (inl h) = inl h
-    at_as b told cap len lo hi l (inr (n, part, is, e)) = inr (
+    at_as : (b : List ℕ) (decoded : ℤ) (cap len lo hi l : ℕ)
+        → TableAt from b decoded cap len lo hi l
+        → TableAt onto b decoded cap len lo hi l
+    at_as b decoded cap len lo hi l (inl h) = inl h
+    at_as b decoded cap len lo hi l (inr (n, part, is, e)) = inr (
       n,
       part,
       part_as b cap len lo n is,
       e,
     )
 
-    fails_at_as : (b : List ℕ) (told : ℤ) (cap len lo hi : ℕ) (e : VerifyError) → TableFailsAt from
+    fails_at_as : (b : List ℕ) (decoded : ℤ) (cap len lo hi : ℕ) (e : VerifyError)
+        → TableFailsAt from
         b
-        told cap len lo hi e → TableFailsAt onto b told cap len lo hi e
-    fails_at_as b told cap len lo hi e (inl f) = inl f
-    fails_at_as b told cap len lo hi e (inr (inl f)) = inr (inl f)
-    fails_at_as b told cap len lo hi e (inr (inr (room, n, part, f))) =
+        decoded cap len lo hi e → TableFailsAt onto b decoded cap len lo hi e
+    fails_at_as b decoded cap len lo hi e (inl f) = inl f
+    fails_at_as b decoded cap len lo hi e (inr (inl f)) = inr (inl f)
+    fails_at_as b decoded cap len lo hi e (inr (inr (room, n, part, f))) =
         inr (inr (room, n, part, inside_as b cap len lo n e f))
 
-    pub holds_as : (w : Width) (b : List ℕ) (p lo hi l : ℕ) → TableHolds w from b p lo hi l
-        → TableHolds w onto b p lo hi l
+    pub holds_as : (w : Width) (b : List ℕ) (p lo hi l : ℕ) → IsValidTable w from b p lo hi l
+        → IsValidTable w onto b p lo hi l
     holds_as w b p lo hi l h =
         at_as b (decode_begin w size b p) (cap_at w b p) (len_at w b p) lo hi l
         h
@@ -103,23 +105,24 @@ module _ {V : Type 0} (w : Width) (s : ElementSpec) (e : Encoding V) (laws : IsS
 
   -- the spec of the numbers, with this size and alignment
   abbrev sized : ℕ → ℕ → ElementSpec
-  sized size align = record { size = size; align = align; holds = s.holds; fails = s.fails }
+  sized size align = record { size = size; align = align; is_valid = s.is_valid; fails = s.fails }
 
-  to_word : (b : List ℕ) (p lo hi l : ℕ) → s.holds b p lo hi l → l ≡ lo
-  to_word b p lo hi l h = ((laws.holds b p lo hi l).0 h).0
+  to_word : (b : List ℕ) (p lo hi l : ℕ) → s.is_valid b p lo hi l → l ≡ lo
+  to_word b p lo hi l h = ((laws.is_valid b p lo hi l).0 h).0
 
   never : (b : List ℕ) (p lo hi : ℕ) (x : VerifyError) → s.fails b p lo hi x → ⊥
   never b p lo hi x f = ((laws.fails b p lo hi x).0 f).1 (is.any _)
 
   -- a table of the width's numbers is valid as a table of words
-  pub place_table_holds : (b : List ℕ) (p lo hi l : ℕ) → TableHolds w s b p lo hi l → TableHolds w
+  pub place_table_holds : (b : List ℕ) (p lo hi l : ℕ) → IsValidTable w s b p lo hi l
+      → IsValidTable w
       (place_spec w) b p lo hi l
   place_table_holds b p lo hi l h =
-      let there : TableHolds w (sized n n) b p lo hi l =
-      subst (λ a. TableHolds w (sized n a) b p lo hi l) laws.align
-      (subst (λ k. TableHolds w (sized k s.align) b p lo hi l) laws.size h) in
-      subst (λ v. TableHolds w (place_spec v) b p lo hi l) is.word
-      (holds_as n n s.holds (λ b p lo hi l. l
+      let there : IsValidTable w (sized n n) b p lo hi l =
+      subst (λ a. IsValidTable w (sized n a) b p lo hi l) laws.align
+      (subst (λ k. IsValidTable w (sized k s.align) b p lo hi l) laws.size h) in
+      subst (λ v. IsValidTable w (place_spec v) b p lo hi l) is.word
+      (holds_as n n s.is_valid (λ b p lo hi l. l
       ≡ lo) s.fails (λ b p lo hi e. ⊥) to_word never w b p lo
       hi l there)
 
@@ -130,21 +133,21 @@ module _ {V : Type 0} (w : Width) (s : ElementSpec) (e : Encoding V) (laws : IsS
       subst (λ a. TableFails w (sized n a) b p lo hi x) laws.align
       (subst (λ k. TableFails w (sized k s.align) b p lo hi x) laws.size f) in
       subst (λ v. TableFails w (place_spec v) b p lo hi x) is.word
-      (fails_as n n s.holds (λ b p lo hi l. l
+      (fails_as n n s.is_valid (λ b p lo hi l. l
       ≡ lo) s.fails (λ b p lo hi e. ⊥) to_word never w b p lo
       hi x there)
 
   -- a table of words is valid as a table of the width's numbers
-  pub number_table_holds : (b : List ℕ) (p lo hi l : ℕ) → TableHolds w (place_spec w) b p lo hi l
-      → TableHolds w s b p lo hi l
+  pub number_table_holds : (b : List ℕ) (p lo hi l : ℕ) → IsValidTable w (place_spec w) b p lo hi l
+      → IsValidTable w s b p lo hi l
   number_table_holds b p lo hi l h =
-      let there : TableHolds w (sized n n) b p lo hi l =
-      holds_as n n (λ b p lo hi l. l ≡ lo) s.holds (λ b p lo hi e. ⊥) s.fails
-      (λ b p lo hi l h. (laws.holds b p lo hi l).1 (h, is.any _))
+      let there : IsValidTable w (sized n n) b p lo hi l =
+      holds_as n n (λ b p lo hi l. l ≡ lo) s.is_valid (λ b p lo hi e. ⊥) s.fails
+      (λ b p lo hi l h. (laws.is_valid b p lo hi l).1 (h, is.any _))
       (λ b p lo hi x f. absurd f) w b p lo hi l
-      (subst (λ v. TableHolds w (place_spec v) b p lo hi l) (sym is.word) h) in
-      subst (λ k. TableHolds w (sized k s.align) b p lo hi l) (sym laws.size)
-      (subst (λ a. TableHolds w (sized n a) b p lo hi l) (sym laws.align) there)
+      (subst (λ v. IsValidTable w (place_spec v) b p lo hi l) (sym is.word) h) in
+      subst (λ k. IsValidTable w (sized k s.align) b p lo hi l) (sym laws.size)
+      (subst (λ a. IsValidTable w (sized n a) b p lo hi l) (sym laws.align) there)
 
   -- a table of words at `p` is also a table of the width's numbers
   pub number_table_viewable : (b : List ℕ) (p : ℕ) → Viewable (table_spec w (place_spec w)) b p

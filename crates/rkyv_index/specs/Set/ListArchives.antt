@@ -22,14 +22,14 @@ index_set_root w k b = length b - (index_set_spec w k).size
 -- The root of the archive is an index set that represents a list of keys. A lookup of a native
 -- key finds the first equal key, if the list has one. `place`: its index, `member`: if there is one
 pub record FindsInRootSet {A Q K H W : Type 0} {ks : Specs K} {wt : Words W}
-    (keys : NativeKeys A Q) (set : ArchivedIndexSet K H W ks wt) (asked : Q) (items : List A)
+    (keys : NativeKeys A Q) (set : ArchivedIndexSet K H W ks wt) (query : Q) (items : List A)
     : Type 0 where
   pub place : (found : Option ℕ)
-      → FindsFirstKey (index_of_set set) keys.key_hash (keys.fits asked) (IsIndex found)
-      → found ≡ position (keys.equal asked) items
+      → FindsFirstKey (index_of_set set) keys.key_hash (keys.fits query) (IsIndex found)
+      → found ≡ position (keys.equal query) items
   pub member : (found : Bool)
-      → FindsFirstKey (index_of_set set) keys.key_hash (keys.fits asked) (IsFoundAt found)
-      → found ≡ list_any (keys.equal asked) items
+      → FindsFirstKey (index_of_set set) keys.key_hash (keys.fits query) (IsFoundAt found)
+      → found ≡ list_any (keys.equal query) items
 
 -- Lookups by a query in a root set that represents a list find the first key that equals
 -- the query. `wt`: word of the archive, `keys`: its native keys
@@ -37,9 +37,9 @@ abbrev pub MembersFoundAreListed : {A Q K W : Type 0} → (H : Type 0) → Words
     → NativeKeys A Q → Type 0
 MembersFoundAreListed {A} {Q} {K} {W} H wt ks keys =
     (set : ArchivedIndexSet K H W ks wt) (root : View (IndexSetOf K H W)) (archive : Bor (List ℕ))
-    (factor : ℕ × ℕ) (items : List A) (asked : Q)
+    (factor : ℕ × ℕ) (items : List A) (query : Q)
     → IsAt (keys_of set).view (archive_of root) (pos_of root)
     → IsAt root archive (index_set_root wt.word ks.spec archive.now)
     → IndexSetRepresents wt.word ks.spec keys.represents keys.key_hash factor archive.now
     (index_set_root wt.word ks.spec archive.now) items
-    → FindsInRootSet keys set asked items
+    → FindsInRootSet keys set query items

@@ -141,7 +141,7 @@ fn check_entries<T: Element>(
 #[inline]
 pub(crate) fn decode_entries<W: Width>(bytes: &[u8], pos: u64) -> i128
     requires inside { pos + 4 * byte_len W.word ≤ length bytes.now }
-    ensures told { result ≡ decode_entries W.word bytes.now pos }
+    ensures decoded { result ≡ decode_entries W.word bytes.now pos }
 {
     let at = pos + 3 * W::ALIGN as u64;
     distance_target(at, W::read_distance(bytes, at as usize))
@@ -184,8 +184,8 @@ pub(crate) fn check_part<W: Width, T: Element>(
         (EntriesFail T.spec bytes.now (decode_entries W.word bytes.now pos) len range.lo range.hi) }
 {
     let size = T::size();
-    let told = decode_entries::<W>(bytes, pos);
-    let begin = part_in(told, entries_size(len, size), T::align() as u64, range)?;
+    let decoded = decode_entries::<W>(bytes, pos);
+    let begin = part_in(decoded, entries_size(len, size), T::align() as u64, range)?;
     check_entries::<T>(bytes, begin, len, range.lo)?;
     Ok(begin + (len * size) as u64)
 }

@@ -5,7 +5,7 @@
 ghost use Rattle.rkyv_index.specs.Index.{hash_at};
 ghost use Rattle.rkyv_index.specs.Index.IndexFormat.{hash_of};
 ghost use Rattle.rkyv_index.specs.Index.Reading.{PairsReadBackAreListed, reads_as};
-ghost use Rattle.rkyv_index.specs.Index.ValueWrites.{ValueWritesKeepAnswers};
+ghost use Rattle.rkyv_index.specs.Index.ValueWrites.{ValueWritesKeepLookups};
 ghost use Rattle.rkyv_index.specs.Index.ValueWrites.{ValuesWrittenRepresent};
 ghost use Rattle.rkyv_index.specs.Index.ValueWrites.{ValueWritesKeepIndexMaps};
 ghost use Rattle.rkyv_base.specs.Entry.{entry_spec};
@@ -37,9 +37,9 @@ pub fn value_writes_keep_index_maps<K: KeyElement, V: Element, H: KeyHasher, W: 
 {}
 
 /// States that each query finds the same index after a write of one value that keeps it valid.
-pub fn value_writes_keep_answers<K: KeyElement, V: Element, Q: Query<K>, H: KeyHasher, W: Width>()
+pub fn value_writes_keep_lookups<K: KeyElement, V: Element, Q: Query<K>, H: KeyHasher, W: Width>()
     ensures { let hash = hash_of H.hasher Q.calls in
-        ValueWritesKeepAnswers W.word K.spec V.spec Q.can_read hash Q.fits }
+        ValueWritesKeepLookups W.word K.spec V.spec Q.can_read hash Q.fits }
 {}
 
 /// States that a write of one value in place replaces it in the represented list of pairs.

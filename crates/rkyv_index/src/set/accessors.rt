@@ -14,9 +14,9 @@ ghost use Rattle.rkyv_table.specs.Table.RawItems.{AllValid};
 ghost use Rattle.rkyv_index.specs.Index.{IsFoundAt, IsStoredIndex, IsKeyOf, index_archive};
 ghost use Rattle.rkyv_index.specs.Index.{index_len, key_positions};
 ghost use Rattle.rkyv_index.specs.Set.IndexSet.{IsMemberAt, index_set_spec, keys_of};
-ghost use Rattle.rkyv_index.specs.Index.Lookups.{GetsKey, TellsKey, full_key_part, key_part};
+ghost use Rattle.rkyv_index.specs.Index.Lookups.{GetsKey, FoundKeyHas, full_key_part, key_part};
 ghost use Rattle.rkyv_index.specs.Index.Lookups.{place_part};
-ghost use Rattle.rkyv_keys.specs.Asked.{asked};
+ghost use Rattle.rkyv_keys.specs.KeyLookup.{query_of};
 
 use crate::map::read::iter::Keys;
 use crate::map::{ArchivedIndexMap, IndexMapOf};
@@ -149,7 +149,7 @@ impl<'a, K: KeyElement, H: KeyHasher, W: Width> ArchivedIndexSet<'a, K, H, W> {
     pub fn get_full<Q: Query<K>>(self, key: &Q) -> Option<(usize, View<'a, K>)>
         requires query { Q.can_read key.now }
         ensures { GetsKey full_key_part (keys_of self.entry)
-            (asked H.hasher K.key_calls K.same (Q.calls key.now) (Q.fits key.now)) result }
+            (query_of H.hasher K.key_calls K.same (Q.calls key.now) (Q.fits key.now)) result }
     {
         match self.map.get_full(key) {
             Some((place, stored, _)) => Some((place, stored)),
@@ -180,7 +180,7 @@ impl<'a, K: KeyElement, H: KeyHasher, W: Width> ArchivedIndexSet<'a, K, H, W> {
     pub fn get<Q: Query<K>>(self, key: &Q) -> Option<View<'a, K>>
         requires query { Q.can_read key.now }
         ensures { GetsKey key_part (keys_of self.entry)
-            (asked H.hasher K.key_calls K.same (Q.calls key.now) (Q.fits key.now)) result }
+            (query_of H.hasher K.key_calls K.same (Q.calls key.now) (Q.fits key.now)) result }
     {
         self.key_of(self.map.find_key(key))
     }
@@ -220,7 +220,7 @@ impl<'a, K: KeyElement, H: KeyHasher, W: Width> ArchivedIndexSet<'a, K, H, W> {
     pub fn get_index_of<Q: Query<K>>(self, key: &Q) -> Option<usize>
         requires query { Q.can_read key.now }
         ensures { GetsKey place_part (keys_of self.entry)
-            (asked H.hasher K.key_calls K.same (Q.calls key.now) (Q.fits key.now)) result }
+            (query_of H.hasher K.key_calls K.same (Q.calls key.now) (Q.fits key.now)) result }
     {
         self.map.get_index_of(key)
     }
@@ -235,8 +235,8 @@ impl<'a, K: KeyElement, H: KeyHasher, W: Width> ArchivedIndexSet<'a, K, H, W> {
     #[inline]
     pub fn contains<Q: Query<K>>(self, key: &Q) -> bool
         requires query { Q.can_read key.now }
-        ensures { TellsKey (keys_of self.entry)
-            (asked H.hasher K.key_calls K.same (Q.calls key.now) (Q.fits key.now))
+        ensures { FoundKeyHas (keys_of self.entry)
+            (query_of H.hasher K.key_calls K.same (Q.calls key.now) (Q.fits key.now))
             (IsFoundAt result) }
     {
         self.map.contains_key(key)

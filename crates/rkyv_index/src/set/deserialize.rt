@@ -2,7 +2,7 @@
 ghost use Rattle.std.specs.Prelude.{MatchResult, ◌<◌};
 ghost use Rattle.rkyv_index.specs.Index.{index_len, key_pos};
 ghost use Rattle.rkyv_index.specs.Set.IndexSet.{keys_of, set_bytes, set_pos};
-ghost use Rattle.rkyv_index.specs.Index.Reading.{ReadsItems, items_refuse};
+ghost use Rattle.rkyv_index.specs.Index.Reading.{ReadsItems, items_deserialize_fails};
 
 use crate::set::ArchivedIndexSet;
 use rkyv_base::element::Element;
@@ -46,7 +46,8 @@ impl<'a, K: Element, H, W: Width> ArchivedIndexSet<'a, K, H, W> {
         K: Deserialize<A>,
         ensures { MatchResult result
             (λ list. ReadsItems K.represents self.entry list.items)
-            (items_refuse W.word K.Deserialize (set_bytes self.entry) (set_pos self.entry)) }
+            (items_deserialize_fails W.word K.Deserialize (set_bytes self.entry)
+            (set_pos self.entry)) }
     {
         let mut list = Vec::new(alloc);
         for place in 0..self.len() {

@@ -42,7 +42,7 @@ impl<'a, K: KeyElement, H: KeyHasher, W: Width> ArchivedIndexSet<'a, K, H, W> {
     /// Keys that share a hash cost a number of comparisons that is quadratic in their number.
     /// `FxHasher64` takes no secret key, so chosen keys can share one.
     pub fn misplaced(self) -> usize
-        ensures told { result ≡ index_misplaced (index_of_set self.entry)
+        ensures exact { result ≡ index_misplaced (index_of_set self.entry)
             (hash_at H.hasher K.key_calls) K.same }
         ensures repeated { CountsRepeated (index_of_set self.entry)
             (hash_at H.hasher K.key_calls) K.same result }

@@ -9,7 +9,7 @@ ghost use Rattle.rkyv_index.specs.Index.Writing.{WritesUnder, listing};
 ghost use Rattle.rkyv_index.specs.Index.IndexFormat.{hash_of};
 ghost use Rattle.rkyv_index.specs.Index.IndexHeader.{WritesIndexHeader};
 ghost use Rattle.rkyv_index.specs.Set.SetFormat.{index_set_format};
-ghost use Rattle.rkyv_table.specs.Table.ItemValues.{lent_keys};
+ghost use Rattle.rkyv_table.specs.Table.ItemValues.{key_values};
 
 use crate::map::ArchivedIndexMap;
 use crate::map::write::resolve::IndexMapResolver;
@@ -34,7 +34,7 @@ impl<K: Element, H: KeyHasher, W: PlaceWidth, A: KeyHash + Archive<W>, BK: Lend<
     BK,
     A,
 > for IndexSetOf<K, H, W> {
-    ghost format = { λ load_factor. written_as (lent_keys BK.lent)
+    ghost format = { λ load_factor. written_as (key_values BK.lent)
         (index_set_format W.word W.Place.spec W.Place.encoding K.spec A.format (hash_of
         H.hasher A.calls)
         load_factor) };

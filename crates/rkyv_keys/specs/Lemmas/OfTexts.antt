@@ -32,11 +32,11 @@ module _ (w : Width) where
 
   -- the text at a position has the bytes of the query
   abbrev pub text_fits : {Q : Type 0} → (Q → List ℕ) → Q → List ℕ → ℕ → Bool
-  text_fits seen = value_fits (text_at w) same_bytes seen
+  text_fits as_value = value_fits (text_at w) same_bytes as_value
 
   -- the text at position `p` is that of the value `q`
   abbrev pub IsTextOf : {Q : Type 0} → (Q → List ℕ) → List ℕ → ℕ → Q → Type 0
-  IsTextOf seen b p q = TextReads w b p (seen q)
+  IsTextOf as_value b p q = TextReads w b p (as_value q)
 
   pub text_equivalence : IsEquivalence (text_spec w) text_same
   text_equivalence = value_equivalence (text_spec w) (text_at w) same_bytes bytes_decides
@@ -47,18 +47,21 @@ module _ (w : Width) where
   pub text_key_fixed : MakesFixedCalls (text_spec w) text_key_calls
   text_key_fixed b p h = text_fixed (text_at w b p)
 
-  pub text_fits_its_equal : {Q A : Type 0} (asked : Q → List ℕ) (seen : A → List ℕ)
-      → FitsItsEqual (text_spec w) (IsTextOf seen) (λ q a. same_bytes (asked q) (seen a))
-      (text_fits asked)
+  pub text_fits_its_equal : {Q A : Type 0} (query_value : Q → List ℕ) (as_value : A → List ℕ)
+      → FitsItsEqual (text_spec w) (IsTextOf as_value)
+      (λ q a. same_bytes (query_value q) (as_value a))
+      (text_fits query_value)
   text_fits_its_equal = value_fits_its_equal (text_spec w) (text_at w) same_bytes
 
-  module _ {Q : Type 0} (seen : Q → List ℕ) where
+  module _ {Q : Type 0} (as_value : Q → List ℕ) where
     pub text_query : IsQuery (text_spec w) text_same text_key_calls ReadsAnywhere
-        (λ q. text_calls (seen q)) (text_fits seen)
-    text_query = value_query (text_spec w) (text_at w) same_bytes bytes_decides text_calls seen
+        (λ q. text_calls (as_value q)) (text_fits as_value)
+    text_query = value_query (text_spec w) (text_at w) same_bytes bytes_decides text_calls as_value
 
     -- a text represents only values with its bytes
-    pub text_once : RepresentsOnce (text_spec w) (IsTextOf seen) (λ q v. same_bytes (seen q)
-        (seen v))
-    text_once = native_once (text_spec w) (IsTextOf seen) (λ q v. same_bytes (seen q) (seen v))
-        (text_fits seen) (text_fits_its_equal seen seen) (λ v. bytes_equal_themselves (seen v))
+    pub text_once : RepresentsOnce (text_spec w) (IsTextOf as_value) (λ q v. same_bytes (as_value q)
+        (as_value v))
+    text_once =
+        native_once (text_spec w) (IsTextOf as_value) (λ q v. same_bytes (as_value q) (as_value v))
+        (text_fits as_value) (text_fits_its_equal as_value as_value)
+        (λ v. bytes_equal_themselves (as_value v))

@@ -1,7 +1,7 @@
 -- Lemmas: the unit value, which is valid at every position and makes no call.
 use Rattle.std.proofs.Common.{refl}
 use Rattle.rkyv_base.specs.Empty.{unit_spec, unit_represents}
-use Rattle.rkyv_keys.specs.Equality.{IsEquivalence, TellsApart}
+use Rattle.rkyv_keys.specs.Equality.{IsEquivalence, DecidesEquality}
 use Rattle.rkyv_keys.specs.Keys.{FitsItsEqual, IsKey, IsQuery, ReadsAnywhere}
 use Rattle.rkyv_keys.specs.Fixed.{MakesFixedCalls}
 use Rattle.rkyv_keys.specs.Lemmas.Fixed.{none_fixed}
@@ -9,21 +9,21 @@ use Rattle.rkyv_keys.specs.Lemmas.OfValues.{value_equivalence, value_key, value_
 use Rattle.rkyv_keys.specs.OfUnits.{unit_at, units_equal, unit_same, no_calls, unit_calls}
 use Rattle.rkyv_keys.specs.OfUnits.{unit_fits}
 
-units_tell : TellsApart units_equal
-units_tell v w = (λ e. refl, λ e. refl)
+units_decide_equality : DecidesEquality units_equal
+units_decide_equality v w = (λ e. refl, λ e. refl)
 
 pub unit_equivalence : IsEquivalence unit_spec unit_same
-unit_equivalence = value_equivalence unit_spec unit_at units_equal units_tell
+unit_equivalence = value_equivalence unit_spec unit_at units_equal units_decide_equality
 
 pub unit_key : IsKey unit_spec unit_same unit_calls
-unit_key = value_key unit_spec unit_at units_equal units_tell no_calls
+unit_key = value_key unit_spec unit_at units_equal units_decide_equality no_calls
     (λ v b c p lo hi l o h fixed part st. st)
 
 pub unit_fixed : MakesFixedCalls unit_spec unit_calls
 unit_fixed b p h = none_fixed
 
 pub unit_query : IsQuery unit_spec unit_same unit_calls ReadsAnywhere no_calls unit_fits
-unit_query = value_query unit_spec unit_at units_equal units_tell no_calls (λ v. v)
+unit_query = value_query unit_spec unit_at units_equal units_decide_equality no_calls (λ v. v)
 
 pub unit_fits_its_equal : FitsItsEqual unit_spec unit_represents units_equal unit_fits
 unit_fits_its_equal q v b p h st = refl

@@ -5,17 +5,17 @@ use Rattle.std.proofs.Common.{refl, sym, ◌∙◌, ap}
 use Rattle.rkyv_scan.specs.Hash.{HasherCall}
 use Rattle.rkyv_base.specs.ElementSpec.{ElementSpec}
 use Rattle.rkyv_base.specs.Format.{RepresentsLocally}
-use Rattle.rkyv_keys.specs.Equality.{IsEquivalence, TellsApart}
+use Rattle.rkyv_keys.specs.Equality.{IsEquivalence, DecidesEquality}
 use Rattle.rkyv_keys.specs.Keys.{IsKey, IsQuery, FitsItsEqual, ReadsAnywhere}
 use Rattle.rkyv_keys.specs.OfValues.{values_same, value_calls, value_fits, ValueRepresents}
 
 module _ {V : Type 0} (s : ElementSpec) (value_at : List ℕ → ℕ → V) (equal : V → V → Bool)
-    (tells : TellsApart equal) where
+    (decides : DecidesEquality equal) where
   same_value : (v w : V) → equal v w ≡ true → v ≡ w
-  same_value v w h = (tells v w).0 h
+  same_value v w h = (decides v w).0 h
 
   value_same : (v w : V) → v ≡ w → equal v w ≡ true
-  value_same v w h = (tells v w).1 h
+  value_same v w h = (decides v w).1 h
 
   pub value_equivalence : IsEquivalence s (values_same value_at equal)
   value_equivalence = record {
@@ -37,18 +37,19 @@ module _ {V : Type 0} (s : ElementSpec) (value_at : List ℕ → ℕ → V) (equ
           (sym (rests (value_at b p) b c p lo hi l o h fixed part refl));
     }
 
-    pub value_query : {Q : Type 0} (seen : Q → V)
+    pub value_query : {Q : Type 0} (as_value : Q → V)
         → IsQuery s (values_same value_at equal) (value_calls value_at calls) ReadsAnywhere
-        (λ q. calls (seen q)) (value_fits value_at equal seen)
-    value_query seen = record {
-      same_calls = λ q b p r h f. ap calls (same_value (seen q) (value_at b p) f);
+        (λ q. calls (as_value q)) (value_fits value_at equal as_value)
+    value_query as_value = record {
+      same_calls = λ q b p r h f. ap calls (same_value (as_value q) (value_at b p) f);
       respects_same = λ q b c p r ready h g f. ap (λ v. equal v (value_at c r))
-          (same_value (seen q) (value_at b p) f);
+          (same_value (as_value q) (value_at b p) f);
     }
 
 -- a query fits a key if and only if its value equals the one that the key represents
 pub value_fits_its_equal : {V Q A : Type 0} (s : ElementSpec) (value_at : List ℕ → ℕ → V)
-    (equal : V → V → Bool) (asked : Q → V) (seen : A → V)
-    → FitsItsEqual s (ValueRepresents value_at seen) (λ q a. equal (asked q) (seen a))
-    (value_fits value_at equal asked)
-value_fits_its_equal s value_at equal asked seen q a b p h there = ap (equal (asked q)) there
+    (equal : V → V → Bool) (query_value : Q → V) (as_value : A → V)
+    → FitsItsEqual s (ValueRepresents value_at as_value) (λ q a. equal (query_value q) (as_value a))
+    (value_fits value_at equal query_value)
+value_fits_its_equal s value_at equal query_value as_value q a b p h there =
+    ap (equal (query_value q)) there

@@ -6,7 +6,7 @@ use Rattle.rkyv_scan.specs.Hash.{HasherCall}
 use Rattle.rkyv_base.specs.ElementSpec.{IsElement, ElementSpec, ValidAt}
 use Rattle.rkyv_keys.specs.Equality.{Comparison, IsEquivalence, RepresentsOnce}
 use Rattle.rkyv_keys.specs.Keys.{FitsItsEqual, IsKey, IsQuery}
-use Rattle.rkyv_keys.specs.QueryLaws.{HashesAsWritten, AsksForValues, RestsOnKeys}
+use Rattle.rkyv_keys.specs.QueryLaws.{HashesAsWritten, FitsByValue, RestsOnKeys}
 
 module _ {V : Type 0} (s : ElementSpec) (same : Comparison) (key_calls : List ℕ → ℕ
     → List HasherCall)
@@ -32,8 +32,8 @@ module _ {V : Type 0} (s : ElementSpec) (same : Comparison) (key_calls : List �
       → ℕ → Bool)
       (laws : IsQuery s same key_calls can_read q_calls q_fits)
       (equivalence : IsEquivalence s same) where
-    pub asks_for_values : AsksForValues s represents reads can_read q_fits
-    asks_for_values q v b c p r ready can' h g st st' =
+    pub fits_by_value : FitsByValue s represents reads can_read q_fits
+    fits_by_value q v b c p r ready can' h g st st' =
         let there = same_written v b c p r can' h g st st' in
         let back = equivalence.symmetric b c p r h g there in
         same_from_decides (q_fits q b p) (q_fits q c r) (

@@ -35,11 +35,11 @@ or_left : (a b : Bool) → a ≡ true → (a || b) ≡ true
 or_left true b h = refl
 or_left false b h = cc
 
-or_and_tells : (a b c : Bool) → (a || (b && c)) ≡ true → (a ≡ true) ⊎ ((b ≡ true) × (c ≡ true))
-or_and_tells true b c h = inl refl
-or_and_tells false true true h = inr (refl, refl)
-or_and_tells false true false h = cc
-or_and_tells false false c h = cc
+or_and_cases : (a b c : Bool) → (a || (b && c)) ≡ true → (a ≡ true) ⊎ ((b ≡ true) × (c ≡ true))
+or_and_cases true b c h = inl refl
+or_and_cases false true true h = inr (refl, refl)
+or_and_cases false true false h = cc
+or_and_cases false false c h = cc
 
 equal_lem : (s : List ℕ) (t k : ℕ) → slice_index s k ≡ t → is_word_match_at s t k ≡ true
 equal_lem s t zero h = eq-eqb (slice_index s zero) t h
@@ -55,7 +55,7 @@ full_lem s t (suc k) l h =
     ))
     (λ (e : (eqb (slice_index s (suc k)) (bit_xor t 1) ≡ true) × (is_word_match_at s t k ≡ true)).
     omega (arith, eqb-true (slice_index s (suc k)) (bit_xor t 1) e.0))
-    (or_and_tells _ _ _ h)
+    (or_and_cases _ _ _ h)
 
 lowest_lem : (s : List ℕ) (t k : ℕ) → is_word_match_at s t k ≡ true
     → ((j : ℕ) → j < k → is_word_match_at s t j ≡ false) → slice_index s k ≡ t
@@ -64,7 +64,7 @@ lowest_lem s t (suc k) h low =
     ⊎_elim (λ (e : eqb (slice_index s (suc k)) t ≡ true). eqb-true (slice_index s (suc k)) t e)
     (λ (e : (eqb (slice_index s (suc k)) (bit_xor t 1) ≡ true) × (is_word_match_at s t k ≡ true)).
     absurd (true≢false (sym e.1 ∙ low k (omega arith))))
-    (or_and_tells _ _ _ h)
+    (or_and_cases _ _ _ h)
 
 pub word_lawful : IsKind generic_kind
 word_lawful = record {

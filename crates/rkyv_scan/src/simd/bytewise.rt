@@ -42,7 +42,7 @@ impl Marks for Bitmask {
 
     ghost ready = { λ _. tt };
 
-    ghost gives = { λ _ _ _ h. h };
+    ghost yields = { λ _ _ _ h. h };
 
     ghost ends = { λ _. refl };
 

@@ -6,7 +6,7 @@ ghost use Rattle.std.specs.Iterator.{YieldsFirst, item_count};
 ghost use Rattle.rkyv_scan.specs.Groups.{mask_places, lanes_kind};
 ghost use Rattle.rkyv_scan.specs.Lemmas.Ascending.{mask_ascends};
 ghost use Rattle.rkyv_scan.specs.Lemmas.KindLaws.{equal_lawful};
-ghost use Rattle.rkyv_scan.specs.Paired.{TellsEqual};
+ghost use Rattle.rkyv_scan.specs.Paired.{MarksEqual};
 ghost use Rattle.std.proofs.Common.{refl, arith};
 
 use crate::simd::{GroupKind, Marks};
@@ -38,7 +38,7 @@ impl Marks for Bitmask {
 
     ghost ready = { λ _. tt };
 
-    ghost gives = { λ _ _ _ h. h };
+    ghost yields = { λ _ _ _ h. h };
 
     ghost ends = { λ _. refl };
 
@@ -90,10 +90,10 @@ impl Group {
     /// Returns the bits of the indices whose control byte is `byte`.
     #[inline]
     pub(crate) fn equal_bits(self, byte: u8) -> u16
-        ensures { TellsEqual self.lanes byte result }
+        ensures { MarksEqual self.lanes byte result }
     {
-        let asked = u8x16::splat(byte);
-        self.lanes.simd_eq(asked).to_bitmask() as u16
+        let byte_lanes = u8x16::splat(byte);
+        self.lanes.simd_eq(byte_lanes).to_bitmask() as u16
     }
 }
 

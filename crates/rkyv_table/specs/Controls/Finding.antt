@@ -19,15 +19,15 @@ unfoldable pub candidates : Kind → List ℕ → ℕ → ℕ → ℕ → List �
 candidates kind controls cap t p =
     map (λ q. q % cap) (filter (marked kind controls t p) (range_with_len p 16))
 
--- the stride from `p` on shows an empty control byte
-unfoldable pub shows_empty : List ℕ → ℕ → Bool
-shows_empty controls p = list_any (is_empty_at controls) (range_with_len p 16)
+-- the stride from `p` on has an empty control byte
+unfoldable pub stride_has_empty : List ℕ → ℕ → Bool
+stride_has_empty controls p = list_any (is_empty_at controls) (range_with_len p 16)
 
--- the search ends at the stride from `p` on: it shows an accepted candidate or
+-- the search ends at the stride from `p` on: it has an accepted candidate or
 -- an empty control byte
 abbrev pub ends_at : Kind → List ℕ → ℕ → ℕ → (ℕ → Bool) → ℕ → Bool
 ends_at kind controls cap t accept p =
-    list_any accept (candidates kind controls cap t p) || shows_empty controls p
+    list_any accept (candidates kind controls cap t p) || stride_has_empty controls p
 
 -- the number of the stride at which the search ends, counted from 1, or 0 in an empty table
 abbrev pub end : Kind → List ℕ → ℕ → ℕ → ℕ → (ℕ → Bool) → ℕ
@@ -43,8 +43,8 @@ found kind controls cap len hash accept =
     (find (ends_at kind controls cap (tag hash) accept) (strides hash cap)))
 
 -- the comparison returns `accept b` for each bucket `b` that it may be called with
-abbrev pub AnswersAs : (ℕ → Bool → Type 0) → (ℕ → Type 0) → (ℕ → Bool) → Type 0
-AnswersAs post asked accept = (b : ℕ) (r : Bool) → asked b → post b r → r ≡ accept b
+abbrev pub ComparesByBucket : (ℕ → Bool → Type 0) → (ℕ → Type 0) → (ℕ → Bool) → Type 0
+ComparesByBucket post callable accept = (b : ℕ) (r : Bool) → callable b → post b r → r ≡ accept b
 
 -- the number of strides that a lookup reads: none if `len` is 0, else at least one and at most
 -- `bound`
@@ -80,7 +80,7 @@ pub record FindsBucket (l : Lookup) (post : ℕ → Bool → Type 0) (before aft
   pub walked : IfSome result (IsFullBucket l.cap l.controls)
   pub accepted : IfSome result (λ b. post b true)
   pub bounded : ReadsWithin l.len (probe_capacity l.cap / 16) before after
-  pub answer : (accept : ℕ → Bool) → AnswersAs post (IsFullBucket l.cap l.controls) accept
+  pub answer : (accept : ℕ → Bool) → ComparesByBucket post (IsFullBucket l.cap l.controls) accept
       → result ≡ found l.kind l.controls l.cap l.len l.hash accept
-  pub counted : (accept : ℕ → Bool) → AnswersAs post (IsFullBucket l.cap l.controls) accept
+  pub counted : (accept : ℕ → Bool) → ComparesByBucket post (IsFullBucket l.cap l.controls) accept
       → after ≡ before + end l.kind l.controls l.cap l.len l.hash accept

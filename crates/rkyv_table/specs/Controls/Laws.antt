@@ -5,8 +5,8 @@ use Rattle.std.specs.List.{All, Contains, IsDistinct, find}
 use Rattle.rkyv_scan.specs.Groups.{Kind, IsKind}
 use Rattle.rkyv_table.specs.Controls.ControlBytes.{IsFullBucket}
 use Rattle.rkyv_table.specs.Controls.Numbers.{start, probe_capacity}
-use Rattle.rkyv_table.specs.Controls.Probe.{strides, shown}
-use Rattle.rkyv_table.specs.Controls.Placing.{Homes, Written, Accepted, walk, homes}
+use Rattle.rkyv_table.specs.Controls.Probe.{strides, probed}
+use Rattle.rkyv_table.specs.Controls.Placing.{Homes, Written, AreValidControls, walk, homes}
 use Rattle.rkyv_table.specs.Controls.Placing.{written_controls}
 use Rattle.rkyv_table.specs.Controls.Finding.{marked, found, end}
 
@@ -22,9 +22,9 @@ pub record IsCover (hash cap : ℕ) (places : List ℕ) : Type 0 where
 abbrev pub StridesCover : Type 0
 StridesCover = (hash cap : ℕ) → 0 < cap → IsCover hash cap (strides hash cap)
 
--- the strides of a hash show every bucket
-abbrev pub BucketsAreShown : Type 0
-BucketsAreShown = (hash cap bucket : ℕ) → bucket < cap → Contains (shown hash cap) bucket
+-- the strides of a hash probe every bucket
+abbrev pub BucketsAreProbed : Type 0
+BucketsAreProbed = (hash cap bucket : ℕ) → bucket < cap → Contains (probed hash cap) bucket
 
 -- each hash is below 2^64
 abbrev pub AreHashes : List ℕ → Type 0
@@ -46,7 +46,8 @@ WrittenAreOneList = (cap : ℕ) (hashes xs controls : List ℕ) → 0 < cap
 -- the written control bytes of fewer items than buckets are valid
 abbrev pub WrittenAreAccepted : Type 0
 WrittenAreAccepted = (cap : ℕ) (hashes xs controls : List ℕ) → length hashes < cap
-    → AreHashes hashes → Written cap hashes xs controls → Accepted cap (length hashes) controls
+    → AreHashes hashes → Written cap hashes xs controls
+    → AreValidControls cap (length hashes) controls
 
 -- a walk visits a bucket if and only if it is full
 abbrev pub WalkedAreFull : Type 0
@@ -56,13 +57,13 @@ WalkedAreFull = (cap bucket : ℕ) (controls : List ℕ) → Contains (walk cont
 -- a search in valid control bytes ends within ceil(cap / 16) strides
 abbrev pub SearchIsBounded : Type 0
 SearchIsBounded = (kind : Kind) (cap len hash : ℕ) (controls : List ℕ) (accept : ℕ → Bool)
-    → (0 < len → Accepted cap len controls)
+    → (0 < len → AreValidControls cap len controls)
     → end kind controls cap len hash accept ≤ probe_capacity cap / 16
 
 -- a marked index of a stride is below `2 * cap`, and its bucket is in the walk
 abbrev pub MarkedAreWalked : Type 0
 MarkedAreWalked = (kind : Kind) (cap len hash tag p q : ℕ) (controls : List ℕ) → IsKind kind
-    → Accepted cap len controls → tag < 128
+    → AreValidControls cap len controls → tag < 128
     → Contains (strides hash cap) p → p ≤ q → q < p + 16 → marked kind controls tag p q ≡ true
     → (q < 2 * cap) × Contains (walk controls cap) (q % cap)
 

@@ -6,23 +6,23 @@ use Rattle.std.specs.List.{find, list_any, fold, range_with_len, position_or_len
 use Rattle.std.specs.Option.{unwrap_or}
 use Rattle.rkyv_scan.specs.Groups.{is_full}
 use Rattle.rkyv_table.specs.Controls.Numbers.{tag, control_count}
-use Rattle.rkyv_table.specs.Controls.Probe.{shown}
+use Rattle.rkyv_table.specs.Controls.Probe.{probed}
 
 -- `b` is not in `taken`
 abbrev pub is_free : List ℕ → ℕ → Bool
 is_free taken b = not (list_any (eqb b) taken)
 
--- `homes`: home buckets of items under `hashes`. A home bucket is the first one shown
+-- `homes`: home buckets of items under `hashes`. A home bucket is the first one probed
 -- that no earlier item has
 pub record Homes (cap : ℕ) (hashes homes : List ℕ) : Type 0 where
   pub count : length homes ≡ length hashes
   pub first : (i : ℕ) → i < length hashes
-      → find (is_free (take i homes)) (shown (slice_index hashes i) cap)
+      → find (is_free (take i homes)) (probed (slice_index hashes i) cap)
       ≡ Some (slice_index homes i)
 
 -- `taken`, followed by the home bucket of an item under `hash`
 unfoldable pub with_home : ℕ → List ℕ → ℕ → List ℕ
-with_home cap taken hash = taken ++ unwrap_or (find (is_free taken) (shown hash cap)) 0 ∷ []
+with_home cap taken hash = taken ++ unwrap_or (find (is_free taken) (probed hash cap)) 0 ∷ []
 
 -- the home buckets of items under `hashes`, in order
 abbrev pub homes : ℕ → List ℕ → List ℕ
@@ -42,7 +42,7 @@ walk controls cap = filter (λ b. is_full (slice_index controls b)) (range_with_
 
 -- the valid control bytes of a table of `len` items. Some bucket is empty, `len` are full,
 -- and the control bytes mirror those of the buckets
-pub record Accepted (cap len : ℕ) (controls : List ℕ) : Type 0 where
+pub record AreValidControls (cap len : ℕ) (controls : List ℕ) : Type 0 where
   pub room : len < cap
   pub full : length (walk controls cap) ≡ len
   pub repeats : IsWrapped cap controls

@@ -1,4 +1,4 @@
--- The probe sequence of a hash, and the buckets that it shows.
+-- The probe sequence of a hash, and the probed buckets.
 use Rattle.std.specs.Prelude.{◌≡◌, ℕ, ◌+◌, ◌*◌, ◌-◌, ◌/◌, ◌%◌, ◌<◌, ◌≤◌, ◌^◌, List, map, filter}
 use Rattle.std.specs.Prelude.{ltb}
 use Rattle.std.specs.List.{range_with_len, flat_map}
@@ -23,9 +23,9 @@ strides_from cap s k = filter (λ p. ltb p (probe_capacity cap))
 unfoldable pub buckets_at : ℕ → ℕ → List ℕ
 buckets_at cap p = map (λ q. q % cap) (filter (λ q. ltb q (2 * cap)) (range_with_len p 16))
 
--- the buckets that the strides of a hash show, in order
-abbrev pub shown : ℕ → ℕ → List ℕ
-shown hash cap = flat_map (buckets_at cap) (strides hash cap)
+-- the buckets that the strides of a hash probe, in order
+abbrev pub probed : ℕ → ℕ → List ℕ
+probed hash cap = flat_map (buckets_at cap) (strides hash cap)
 
 -- the invariant of a `Probe`. `offset`: offset of the last considered index, `index`: number
 -- of considered indices

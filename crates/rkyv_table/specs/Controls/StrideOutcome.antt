@@ -2,7 +2,7 @@
 use Rattle.std.specs.Prelude.{◌≡◌, ℕ, ◌+◌, ◌%◌, ◌<◌, ⊤, List, Bool, true, false, length}
 use Rattle.std.specs.Prelude.{slice_index, Some, None}
 use Rattle.std.specs.List.{find}
-use Rattle.rkyv_table.specs.Controls.Finding.{AnswersAs}
+use Rattle.rkyv_table.specs.Controls.Finding.{ComparesByBucket}
 use Rattle.rkyv_table.specs.declared.controls.find.StrideOutcome.{StrideOutcome}
 use Rattle.rkyv_table.specs.declared.controls.find.StrideOutcome.TheVariants.{Accepted, HasEmpty}
 use Rattle.rkyv_table.specs.declared.controls.find.StrideOutcome.TheVariants.{Continue}
@@ -17,23 +17,24 @@ IsFullInStride stride p cap b =
     (q : ℕ) × (q < 16) × (slice_index stride q < 128) × (b ≡ (p + q) % cap)
 
 -- an accepted bucket is one of a full control byte of the stride
-abbrev pub IsShownIfAccepted : List ℕ → ℕ → ℕ → StrideOutcome → Type 0
-IsShownIfAccepted stride p cap (Accepted b) = IsFullInStride stride p cap b
-IsShownIfAccepted stride p cap HasEmpty = ⊤
-IsShownIfAccepted stride p cap Continue = ⊤
+abbrev pub IsFullIfAccepted : List ℕ → ℕ → ℕ → StrideOutcome → Type 0
+IsFullIfAccepted stride p cap (Accepted b) = IsFullInStride stride p cap b
+IsFullIfAccepted stride p cap HasEmpty = ⊤
+IsFullIfAccepted stride p cap Continue = ⊤
 
 -- the first accepted bucket of `buckets`, the candidates of the stride; without one, `HasEmpty`
--- if the stride shows an empty control byte, as `empty` says, else `Continue`
+-- if the stride has an empty control byte (`empty`), else `Continue`
 abbrev pub IsStrideOutcome : List ℕ → Bool → (ℕ → Bool) → StrideOutcome → Type 0
 IsStrideOutcome buckets empty accept (Accepted b) = find accept buckets ≡ Some b
 IsStrideOutcome buckets empty accept HasEmpty = (find accept buckets ≡ None) × (empty ≡ true)
 IsStrideOutcome buckets empty accept Continue = (find accept buckets ≡ None) × (empty ≡ false)
 
--- `seen`: outcome of the stride with the candidates `buckets`, if the comparison depends only
+-- `outcome`: outcome of the stride with the candidates `buckets`, if the comparison depends only
 -- on the bucket
 abbrev pub SeesFirst : (ℕ → Bool → Type 0) → (ℕ → Type 0) → List ℕ → Bool → StrideOutcome → Type 0
-SeesFirst post asked buckets empty seen =
-    (accept : ℕ → Bool) → AnswersAs post asked accept → IsStrideOutcome buckets empty accept seen
+SeesFirst post callable buckets empty outcome =
+    (accept : ℕ → Bool) → ComparesByBucket post callable accept
+    → IsStrideOutcome buckets empty accept outcome
 
 -- an accepted bucket is one for which the comparison returned `true`
 abbrev pub IsAcceptedBy : (ℕ → Bool → Type 0) → StrideOutcome → Type 0

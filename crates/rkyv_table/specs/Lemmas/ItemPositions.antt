@@ -18,7 +18,7 @@ use Rattle.rkyv_table.specs.Lemmas.PlaceLaws.{all_between}
 use Rattle.rkyv_table.specs.Table.Places.{AllHold}
 use Rattle.rkyv_table.specs.Controls.Placing.{walk}
 use Rattle.rkyv_table.specs.Table.Positions.{IsWalked, item_at, table_controls}
-use Rattle.rkyv_table.specs.Table.Layout.{IsPart, ItemsHold, TableHolds, bucket_at, controls_at}
+use Rattle.rkyv_table.specs.Table.Layout.{IsPart, ItemsHold, IsValidTable, bucket_at, controls_at}
 use Rattle.rkyv_table.specs.Table.Layout.{part_size}
 use Rattle.rkyv_table.specs.Lemmas.TableLaws.{bucket_inside}
 
@@ -30,7 +30,7 @@ pub record HoldsWithin (s : ElementSpec) (b : List ℕ) (q lo hi l : ℕ) : Type
   pub above : lo ≤ lower
   pub below : lower ≤ hi
   pub ends : rest ≤ l
-  pub holds : s.holds b q lower hi rest
+  pub is_valid : s.is_valid b q lower hi rest
 
 -- the same with a lesser lower end of the range
 abbrev pub within_lower : (s : ElementSpec) (b : List ℕ) (q lo lo' hi l : ℕ) → lo' ≤ lo
@@ -41,7 +41,7 @@ within_lower s b q lo lo' hi l less h = record {
   above = omega (arith, less, h.above);
   below = h.below;
   ends = h.ends;
-  holds = h.holds;
+  is_valid = h.is_valid;
 }
 
 module _ (s : ElementSpec) (law : IsElement s) (at : ℕ → ℕ) where
@@ -64,7 +64,7 @@ module _ (s : ElementSpec) (law : IsElement s) (at : ℕ → ℕ) where
             above = omega arith;
             below = o;
             ends = after.0;
-            holds = h'.1;
+            is_valid = h'.1;
           })
           | inr ne ↦
               within_lower s b (at i) h'.0 lo hi l k.0
@@ -91,13 +91,13 @@ bucket_holds_within s law b begin cap lo l i o h below full =
     (omega arith) (omega arith)
     (lt-ltb (slice_index (controls_at s.size b begin cap) i) 128 full)
 
-module _ (w : Width) (size : ℕ) (b : List ℕ) (p begin : ℕ) (told : pos begin
+module _ (w : Width) (size : ℕ) (b : List ℕ) (p begin : ℕ) (decoded : pos begin
     ≡ decode_begin w size b p) where
   -- the position of the control bytes
   pub decoded_pos : controls_pos w b p ≡ begin + cap_at w b p * size
   decoded_pos =
       let e : pos (begin + cap_at w b p * size) ≡ pos p +ℤ signed_at w b p =
-      omega (arith, ints, told) in
+      omega (arith, ints, decoded) in
       sym (ap unsigned_abs e)
 
   pub decoded_controls : table_controls w b p ≡ controls_at size b begin (cap_at w b p)
@@ -122,7 +122,7 @@ pub record HeldPart (w : Width) (s : ElementSpec) (b : List ℕ) (p lo hi l : �
   pub ends : l ≡ begin + part_size s.size (cap_at w b p)
 
 module _ (w : Width) (s : ElementSpec) (law : IsElement s) (b : List ℕ) (p lo hi l : ℕ)
-    (h : TableHolds w s b p lo hi l) where
+    (h : IsValidTable w s b p lo hi l) where
   pub holds_at : 0 < cap_at w b p → HeldPart w s b p lo hi l
   holds_at some = elim h [
     | inl e ↦ absurd (omega (arith, e.1, some))
@@ -135,10 +135,10 @@ module _ (w : Width) (s : ElementSpec) (law : IsElement s) (b : List ℕ) (p lo 
       × (t.begin ≤ item_at w s.size b p i) × (item_at w s.size b p i + s.size ≤ l)
   item_holds i walked t =
       let cap = cap_at w b p in
-      let told = t.part.begins in
+      let decoded = t.part.begins in
       let full : slice_index (controls_at s.size b t.begin cap) i < 128 =
       subst (λ (xs : List ℕ). slice_index xs i
-      < 128) (decoded_controls w s.size b p t.begin told) walked.1 in
+      < 128) (decoded_controls w s.size b p t.begin decoded) walked.1 in
       let above = t.part.above in
       let ends = all_between s law (bucket_at s.size t.begin cap) b t.begin
       (walk (controls_at s.size b t.begin cap) cap) lo t.is.last above t.is.items in
@@ -147,7 +147,7 @@ module _ (w : Width) (s : ElementSpec) (law : IsElement s) (b : List ℕ) (p lo 
       let u = bucket_inside s.size t.begin cap i walked.0 in
       let e = t.ends in
       subst (λ q. HoldsWithin s b q lo t.begin t.begin × (t.begin ≤ q)
-      × (q + s.size ≤ l)) (sym (decoded_item w s.size b p t.begin told i walked.0)) (
+      × (q + s.size ≤ l)) (sym (decoded_item w s.size b p t.begin decoded i walked.0)) (
         record {
           lower = one.lower;
           rest = one.rest;
@@ -155,7 +155,7 @@ module _ (w : Width) (s : ElementSpec) (law : IsElement s) (b : List ℕ) (p lo 
           below = one.below;
           ends =
               omega (arith, one.ends, ends.1);
-          holds = one.holds;
+          is_valid = one.is_valid;
         },
         u.0,
         omega (arith, u.1, e),

@@ -48,7 +48,7 @@ module _ (s : ElementSpec) (law : IsElement s) (at : ℕ → ℕ) where
       → IsProp (AllHold s at b hi is lo l)
   all_prop b hi [] lo l = hlevel props
   all_prop b hi (i ∷ is) lo l =
-      prop_by {B = (m : ℕ) × (s.holds b (at i) lo hi m × AllHold s at b hi is m l)}
+      prop_by {B = (m : ℕ) × (s.is_valid b (at i) lo hi m × AllHold s at b hi is m l)}
       (λ h. (h.0, (h.1, h.2))) (λ h. (h.0, h.1.0, h.1.1)) (λ _. refl)
       (only_one (λ m. ×_prop (law.proper b (at i) lo hi m) (all_prop b hi is m l))
       (λ m m' h h'. law.rest_unique b (at i) lo hi m m' h.0 h'.0))
@@ -80,7 +80,7 @@ module _ (s : ElementSpec) (law : IsElement s) (at : ℕ → ℕ) where
   all_lower b hi [] lo lo' l o o' h = (lo', refl, omega arith)
   all_lower b hi (i ∷ is) lo lo' l o o' h =
       let k : (lo ≤ h.0) × (h.0 ≤ hi) = law.rest_in_range b (at i) lo hi h.0 o' h.1 in
-      let d : (m : ℕ) × s.holds b (at i) lo' hi m × (m ≤ h.0) =
+      let d : (m : ℕ) × s.is_valid b (at i) lo' hi m × (m ≤ h.0) =
       law.lower_lo b (at i) lo lo' hi h.0 o o' h.1 in
       let r : (m : ℕ) × AllHold s at b hi is d.0 m × (m ≤ l) =
       all_lower b hi is h.0 d.0 l d.2 k.1 h.2 in

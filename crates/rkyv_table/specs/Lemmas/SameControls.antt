@@ -9,12 +9,12 @@ use Rattle.rkyv_table.specs.Controls.Numbers.{control_count}
 use Rattle.rkyv_table.specs.Lemmas.ItemPositions.{decoded_pos, holds_at}
 use Rattle.rkyv_table.specs.Lemmas.SameHeader.{cap_same, pos_same}
 use Rattle.rkyv_table.specs.Table.Header.{cap_at, controls_pos}
-use Rattle.rkyv_table.specs.Table.Layout.{TableHolds}
+use Rattle.rkyv_table.specs.Table.Layout.{IsValidTable}
 use Rattle.rkyv_table.specs.Table.Positions.{table_controls}
 
 pub same_controls : (w : Width) (s : ElementSpec) → IsElement s → (b c : List ℕ) (p lo hi l : ℕ)
     → lo ≤ hi
-    → TableHolds w s b p lo hi l → AgreeOn b c p (p + 3 * byte_len w) → AgreeOn b c lo l
+    → IsValidTable w s b p lo hi l → AgreeOn b c p (p + 3 * byte_len w) → AgreeOn b c lo l
     → 0 < cap_at w b p → table_controls w b p ≡ table_controls w c p
 same_controls w s law b c p lo hi l o h fixed part some =
     let t = holds_at w s law b p lo hi l h some in

@@ -26,8 +26,8 @@ filled_count b (None ∷ ss) = filled_count (b + 1) ss
 filled_count b (Some x ∷ ss) = ap suc (filled_count (b + 1) ss)
 
 -- a test of buckets that is `true` if and only if the slot has an item
-abbrev pub Tells : {X : Type 0} → (ℕ → Bool) → ℕ → List (Option X) → Type 0
-Tells {X = X} full b ss = ((i : ℕ) → slice_get ss i ≡ Some None → full (b + i) ≡ false)
+abbrev pub TestsFull : {X : Type 0} → (ℕ → Bool) → ℕ → List (Option X) → Type 0
+TestsFull {X = X} full b ss = ((i : ℕ) → slice_get ss i ≡ Some None → full (b + i) ≡ false)
     × ((i : ℕ) (x : X) → slice_get ss i ≡ Some (Some x) → full (b + i) ≡ true)
 
 next_place : (b i : ℕ) → b + suc i ≡ (b + 1) + i
@@ -37,14 +37,14 @@ first_slot : (b : ℕ) → b + 0 ≡ b
 first_slot b = omega arith
 
 tells_rest : {X : Type 0} (full : ℕ → Bool) (b : ℕ) (s : Option X) (ss : List (Option X))
-    → Tells full b (s ∷ ss) → Tells full (b + 1) ss
+    → TestsFull full b (s ∷ ss) → TestsFull full (b + 1) ss
 tells_rest full b s ss t = (
   λ i e. ap full (sym (next_place b i))
       ∙ t.0 (suc i) e,
   λ i x e. ap full (sym (next_place b i)) ∙ t.1 (suc i) x e,
 )
 
-filter_filled : {X : Type 0} (full : ℕ → Bool) (b : ℕ) (ss : List (Option X)) → Tells full b ss
+filter_filled : {X : Type 0} (full : ℕ → Bool) (b : ℕ) (ss : List (Option X)) → TestsFull full b ss
     → filter full (range_with_len b (length ss)) ≡ filled_from b ss
 filter_filled full b [] t = refl
 filter_filled full b (None ∷ ss) t =

@@ -26,11 +26,11 @@ use Rattle.rkyv_table.specs.Table.Places.{AllHold}
 use Rattle.rkyv_table.specs.Lemmas.PlaceLaws.{AllBelow, all_exclusive, all_lower, all_local}
 use Rattle.rkyv_table.specs.Lemmas.PlaceLaws.{all_one, all_prop}
 use Rattle.rkyv_table.specs.Lemmas.PlaceLaws.{all_one_failure, range_below}
-use Rattle.rkyv_table.specs.Controls.Placing.{Accepted, IsWrapped, walk}
+use Rattle.rkyv_table.specs.Controls.Placing.{AreValidControls, IsWrapped, walk}
 use Rattle.rkyv_table.specs.Controls.Repeating.{FirstUnwrapped}
 use Rattle.rkyv_table.specs.Lemmas.SameHeader.{begin_same, cap_same, len_same}
 use Rattle.rkyv_table.specs.Table.Layout.{FailsInside, IsPart, ItemsHold, TableAt, TableFailsAt}
-use Rattle.rkyv_table.specs.Table.Layout.{TableHolds, bucket_at, controls_at, part_size}
+use Rattle.rkyv_table.specs.Table.Layout.{IsValidTable, bucket_at, controls_at, part_size}
 use Rattle.rkyv_table.specs.Table.Layout.{table_spec}
 
 -- a bucket is between the begin of the buckets and the control bytes
@@ -76,64 +76,65 @@ unlike_one cap q q' controls u u' = elim (cases_lt q q') [
 
 module _ (s : ElementSpec) where
   -- a table that is valid by some numbers of a header is valid by equal numbers
-  pub of_numbers : (b : List ℕ) {told told' : ℤ} {cap cap' len len' lo hi l : ℕ} → told ≡ told'
+  pub of_numbers : (b : List ℕ) {decoded decoded' : ℤ} {cap cap' len len' lo hi l : ℕ}
+      → decoded ≡ decoded'
       → cap ≡ cap' → len ≡ len'
-      → TableAt s b told cap len lo hi l → TableAt s b told' cap' len' lo hi l
-  of_numbers b {told} {told'} {cap} {cap'} {len} {len'} {lo} {hi} {l} e f g h =
-      subst (λ x. TableAt s b told' cap' x lo hi l) g
-      (subst (λ x. TableAt s b told' x len lo hi l) f
+      → TableAt s b decoded cap len lo hi l → TableAt s b decoded' cap' len' lo hi l
+  of_numbers b {decoded} {decoded'} {cap} {cap'} {len} {len'} {lo} {hi} {l} e f g h =
+      subst (λ x. TableAt s b decoded' cap' x lo hi l) g
+      (subst (λ x. TableAt s b decoded' x len lo hi l) f
       (subst (λ x. TableAt s b x cap len lo hi l) e h))
 
-  pub fails_of_numbers : (b : List ℕ) {told told' : ℤ} {cap cap' len len' lo hi : ℕ}
-      {x : VerifyError} → told ≡ told' → cap ≡ cap' → len ≡ len'
-      → TableFailsAt s b told cap len lo hi x → TableFailsAt s b told' cap' len' lo hi x
-  fails_of_numbers b {told} {told'} {cap} {cap'} {len} {len'} {lo} {hi} {x} e f g h =
-      subst (λ y. TableFailsAt s b told' cap' y lo hi x) g
-      (subst (λ y. TableFailsAt s b told' y len lo hi x) f
+  pub fails_of_numbers : (b : List ℕ) {decoded decoded' : ℤ} {cap cap' len len' lo hi : ℕ}
+      {x : VerifyError} → decoded ≡ decoded' → cap ≡ cap' → len ≡ len'
+      → TableFailsAt s b decoded cap len lo hi x → TableFailsAt s b decoded' cap' len' lo hi x
+  fails_of_numbers b {decoded} {decoded'} {cap} {cap'} {len} {len'} {lo} {hi} {x} e f g h =
+      subst (λ y. TableFailsAt s b decoded' cap' y lo hi x) g
+      (subst (λ y. TableFailsAt s b decoded' y len lo hi x) f
       (subst (λ y. TableFailsAt s b y cap len lo hi x) e h))
 
 module _ (s : ElementSpec) (law : IsElement s) where
-  at_between : (b : List ℕ) (told : ℤ) (cap len lo hi l : ℕ) → lo ≤ hi
-      → TableAt s b told cap len lo hi l → (lo ≤ l) × (l ≤ hi)
-  at_between b told cap len lo hi l o (inl h) = (omega (arith, h.2), omega (arith, h.2))
-  at_between b told cap len lo hi l o (inr (n, part, is, e)) =
+  at_between : (b : List ℕ) (decoded : ℤ) (cap len lo hi l : ℕ) → lo ≤ hi
+      → TableAt s b decoded cap len lo hi l → (lo ≤ l) × (l ≤ hi)
+  at_between b decoded cap len lo hi l o (inl h) = (omega (arith, h.2), omega (arith, h.2))
+  at_between b decoded cap len lo hi l o (inr (n, part, is, e)) =
       (omega (arith, part.above, e), omega (arith, part.below, e))
 
-  at_one : (b : List ℕ) (told : ℤ) (cap len lo hi l l' : ℕ) → TableAt s b told cap len lo hi l
-      → TableAt s b told cap len lo hi l' → l ≡ l'
-  at_one b told cap len lo hi l l' (inl h) (inl k) = h.2 ∙ sym k.2
-  at_one b told cap len lo hi l l' (inl h) (inr (n, part, is, e)) =
+  at_one : (b : List ℕ) (decoded : ℤ) (cap len lo hi l l' : ℕ) → TableAt s b decoded cap len lo hi l
+      → TableAt s b decoded cap len lo hi l' → l ≡ l'
+  at_one b decoded cap len lo hi l l' (inl h) (inl k) = h.2 ∙ sym k.2
+  at_one b decoded cap len lo hi l l' (inl h) (inr (n, part, is, e)) =
       absurd (omega (arith, h.1, is.controls.room))
-  at_one b told cap len lo hi l l' (inr (n, part, is, e)) (inl k) =
+  at_one b decoded cap len lo hi l l' (inr (n, part, is, e)) (inl k) =
       absurd (omega (arith, k.1, is.controls.room))
-  at_one b told cap len lo hi l l' (inr (n, part, is, e)) (inr (n', part', is', e')) =
-      let same : n ≡ n' = part_one told (part_size s.size cap) s.align lo hi n n' part part' in
+  at_one b decoded cap len lo hi l l' (inr (n, part, is, e)) (inr (n', part', is', e')) =
+      let same : n ≡ n' = part_one decoded (part_size s.size cap) s.align lo hi n n' part part' in
       e ∙ ap (λ x. x + part_size s.size cap) same ∙ sym e'
 
   part_proper : (b : List ℕ) (cap len lo begin : ℕ) → IsProp (IsPart s b cap len lo begin)
   part_proper b cap len lo begin =
       let at : ℕ → ℕ = bucket_at s.size begin cap in
       let full : List ℕ = walk (controls_at s.size b begin cap) cap in
-      prop_by {B = Accepted cap len (controls_at s.size b begin cap)
+      prop_by {B = AreValidControls cap len (controls_at s.size b begin cap)
       × ((last : ℕ) × AllHold s at b begin full lo last)}
       (λ h. (h.controls, (h.last, h.items)))
       (λ h. record { controls = h.0; last = h.1.0; items = h.1.1 }) (λ _. refl)
       (×_prop (hlevel props) (only_one (all_prop s law at b begin full lo)
       (all_one s law at b begin full lo)))
 
-  at_proper : (b : List ℕ) (told : ℤ) (cap len lo hi l : ℕ)
-      → IsProp (TableAt s b told cap len lo hi l)
-  at_proper b told cap len lo hi l =
-      let P : ℕ → Type 0 = λ begin. PartIn told (part_size s.size cap) s.align lo hi begin
+  at_proper : (b : List ℕ) (decoded : ℤ) (cap len lo hi l : ℕ)
+      → IsProp (TableAt s b decoded cap len lo hi l)
+  at_proper b decoded cap len lo hi l =
+      let P : ℕ → Type 0 = λ begin. PartIn decoded (part_size s.size cap) s.align lo hi begin
       × (IsPart s b cap len lo begin × (l ≡ begin + part_size s.size cap)) in
       either_prop
       (prop_by {B = (len ≡ 0) × ((cap ≡ 0) × (l ≡ lo))} (λ h. (h.0, (h.1, h.2)))
       (λ h. (h.0, h.1.0, h.1.1)) (λ _. refl) (hlevel props))
       (prop_by {B = (begin : ℕ) × P begin} (λ h. (h.0, (h.1, (h.2, h.3))))
       (λ h. (h.0, h.1.0, h.1.1.0, h.1.1.1)) (λ _. refl) (only_one
-      (λ begin. ×_prop (part_prop told (part_size s.size cap) s.align lo hi begin)
+      (λ begin. ×_prop (part_prop decoded (part_size s.size cap) s.align lo hi begin)
       (×_prop (part_proper b cap len lo begin) (hlevel props)))
-      (λ n n' h k. part_one told (part_size s.size cap) s.align lo hi n n' h.0 k.0)))
+      (λ n n' h k. part_one decoded (part_size s.size cap) s.align lo hi n n' h.0 k.0)))
       (λ h k. omega (arith, h.1, k.2.controls.room))
 
   inside_exclusive : (b : List ℕ) (cap len lo begin : ℕ) (e : VerifyError)
@@ -147,17 +148,17 @@ module _ (s : ElementSpec) (law : IsElement s) where
   inside_exclusive b cap len lo begin e is (inr (last, items, inr (equal, q, unlike, x))) =
       repeats_exclusive cap q (controls_at s.size b begin cap) is.controls.repeats unlike
 
-  at_exclusive : (b : List ℕ) (told : ℤ) (cap len lo hi l : ℕ) (e : VerifyError)
-      → TableAt s b told cap len lo hi l → TableFailsAt s b told cap len lo hi e → ⊥
-  at_exclusive b told cap len lo hi l e (inl h) (inl f) = omega (arith, h.0, f.1)
-  at_exclusive b told cap len lo hi l e (inl h) (inr (inl f)) = omega (arith, h.1, f.0)
-  at_exclusive b told cap len lo hi l e (inl h) (inr (inr f)) = omega (arith, h.1, f.0)
-  at_exclusive b told cap len lo hi l e (inr (n, part, is, x)) (inl f) =
+  at_exclusive : (b : List ℕ) (decoded : ℤ) (cap len lo hi l : ℕ) (e : VerifyError)
+      → TableAt s b decoded cap len lo hi l → TableFailsAt s b decoded cap len lo hi e → ⊥
+  at_exclusive b decoded cap len lo hi l e (inl h) (inl f) = omega (arith, h.0, f.1)
+  at_exclusive b decoded cap len lo hi l e (inl h) (inr (inl f)) = omega (arith, h.1, f.0)
+  at_exclusive b decoded cap len lo hi l e (inl h) (inr (inr f)) = omega (arith, h.1, f.0)
+  at_exclusive b decoded cap len lo hi l e (inr (n, part, is, x)) (inl f) =
       omega (arith, f.0, is.controls.room)
-  at_exclusive b told cap len lo hi l e (inr (n, part, is, x)) (inr (inl f)) =
-      part_exclusive told (part_size s.size cap) s.align lo hi n e part f.1
-  at_exclusive b told cap len lo hi l e (inr (n, part, is, x)) (inr (inr (room, n', part', f))) =
-      let same : n' ≡ n = part_one told (part_size s.size cap) s.align lo hi n' n part' part in
+  at_exclusive b decoded cap len lo hi l e (inr (n, part, is, x)) (inr (inl f)) =
+      part_exclusive decoded (part_size s.size cap) s.align lo hi n e part f.1
+  at_exclusive b decoded cap len lo hi l e (inr (n, part, is, x)) (inr (inr (room, n', part', f))) =
+      let same : n' ≡ n = part_one decoded (part_size s.size cap) s.align lo hi n' n part' part in
       inside_exclusive b cap len lo n e is (subst (λ m. FailsInside s b cap len lo m e) same f)
 
   inside_one_failure : (b : List ℕ) (cap len lo begin : ℕ) (e e' : VerifyError)
@@ -182,21 +183,27 @@ module _ (s : ElementSpec) (law : IsElement s) where
       f.3 ∙ ap UnwrappedControlByte (unlike_one cap f.1 g.1 (controls_at s.size b begin cap) f.2
       g.2) ∙ sym g.3
 
-  at_one_failure : (b : List ℕ) (told : ℤ) (cap len lo hi : ℕ) (e e' : VerifyError)
-      → TableFailsAt s b told cap len lo hi e → TableFailsAt s b told cap len lo hi e' → e ≡ e'
-  at_one_failure b told cap len lo hi e e' (inl f) (inl g) = f.2 ∙ sym g.2
-  at_one_failure b told cap len lo hi e e' (inl f) (inr (inl g)) = absurd (omega (arith, f.0, g.0))
-  at_one_failure b told cap len lo hi e e' (inl f) (inr (inr g)) = absurd (omega (arith, f.0, g.0))
-  at_one_failure b told cap len lo hi e e' (inr (inl f)) (inl g) = absurd (omega (arith, f.0, g.0))
-  at_one_failure b told cap len lo hi e e' (inr (inr f)) (inl g) = absurd (omega (arith, f.0, g.0))
-  at_one_failure b told cap len lo hi e e' (inr (inl f)) (inr (inl g)) =
-      part_one_failure told (part_size s.size cap) s.align lo hi e e' f.1 g.1
-  at_one_failure b told cap len lo hi e e' (inr (inl f)) (inr (inr g)) =
-      absurd (part_exclusive told (part_size s.size cap) s.align lo hi g.1 e g.2 f.1)
-  at_one_failure b told cap len lo hi e e' (inr (inr f)) (inr (inl g)) =
-      absurd (part_exclusive told (part_size s.size cap) s.align lo hi f.1 e' f.2 g.1)
-  at_one_failure b told cap len lo hi e e' (inr (inr f)) (inr (inr g)) =
-      let same : g.1 ≡ f.1 = part_one told (part_size s.size cap) s.align lo hi g.1 f.1 g.2 f.2 in
+  at_one_failure : (b : List ℕ) (decoded : ℤ) (cap len lo hi : ℕ) (e e' : VerifyError)
+      → TableFailsAt s b decoded cap len lo hi e → TableFailsAt s b decoded cap len lo hi e'
+      → e ≡ e'
+  at_one_failure b decoded cap len lo hi e e' (inl f) (inl g) = f.2 ∙ sym g.2
+  at_one_failure b decoded cap len lo hi e e' (inl f) (inr (inl g)) =
+      absurd (omega (arith, f.0, g.0))
+  at_one_failure b decoded cap len lo hi e e' (inl f) (inr (inr g)) =
+      absurd (omega (arith, f.0, g.0))
+  at_one_failure b decoded cap len lo hi e e' (inr (inl f)) (inl g) =
+      absurd (omega (arith, f.0, g.0))
+  at_one_failure b decoded cap len lo hi e e' (inr (inr f)) (inl g) =
+      absurd (omega (arith, f.0, g.0))
+  at_one_failure b decoded cap len lo hi e e' (inr (inl f)) (inr (inl g)) =
+      part_one_failure decoded (part_size s.size cap) s.align lo hi e e' f.1 g.1
+  at_one_failure b decoded cap len lo hi e e' (inr (inl f)) (inr (inr g)) =
+      absurd (part_exclusive decoded (part_size s.size cap) s.align lo hi g.1 e g.2 f.1)
+  at_one_failure b decoded cap len lo hi e e' (inr (inr f)) (inr (inl g)) =
+      absurd (part_exclusive decoded (part_size s.size cap) s.align lo hi f.1 e' f.2 g.1)
+  at_one_failure b decoded cap len lo hi e e' (inr (inr f)) (inr (inr g)) =
+      let same : g.1 ≡ f.1 =
+      part_one decoded (part_size s.size cap) s.align lo hi g.1 f.1 g.2 f.2 in
       inside_one_failure b cap len lo f.1 e e' f.3
       (subst (λ m. FailsInside s b cap len lo m e') same g.3)
 
@@ -208,26 +215,26 @@ module _ (s : ElementSpec) (law : IsElement s) where
       (walk (controls_at s.size b begin cap) cap) lo lo' is.last o o' is.items in
       record { controls = is.controls; last = d.0; items = d.1 }
 
-  at_higher : (b : List ℕ) (told : ℤ) (cap len lo hi hi' l : ℕ) → hi ≤ hi'
-      → TableAt s b told cap len lo hi l → TableAt s b told cap len lo hi' l
-  at_higher b told cap len lo hi hi' l o (inl h) = inl h
-  at_higher b told cap len lo hi hi' l o (inr (n, part, is, e)) =
+  at_higher : (b : List ℕ) (decoded : ℤ) (cap len lo hi hi' l : ℕ) → hi ≤ hi'
+      → TableAt s b decoded cap len lo hi l → TableAt s b decoded cap len lo hi' l
+  at_higher b decoded cap len lo hi hi' l o (inl h) = inl h
+  at_higher b decoded cap len lo hi hi' l o (inr (n, part, is, e)) =
       inr (
         n,
-        part_wider told (part_size s.size cap) s.align lo lo hi hi' n (omega arith) o part,
+        part_wider decoded (part_size s.size cap) s.align lo lo hi hi' n (omega arith) o part,
         is,
         e,
       )
 
-  at_lower : (b : List ℕ) (told : ℤ) (cap len lo lo' hi l : ℕ) → lo' ≤ lo
-      → TableAt s b told cap len lo hi l
-      → (l' : ℕ) × TableAt s b told cap len lo' hi l' × (l' ≤ l)
-  at_lower b told cap len lo lo' hi l o (inl h) = (lo', inl (h.0, h.1, refl), omega (arith, h.2))
-  at_lower b told cap len lo lo' hi l o (inr (n, part, is, e)) = (
+  at_lower : (b : List ℕ) (decoded : ℤ) (cap len lo lo' hi l : ℕ) → lo' ≤ lo
+      → TableAt s b decoded cap len lo hi l
+      → (l' : ℕ) × TableAt s b decoded cap len lo' hi l' × (l' ≤ l)
+  at_lower b decoded cap len lo lo' hi l o (inl h) = (lo', inl (h.0, h.1, refl), omega (arith, h.2))
+  at_lower b decoded cap len lo lo' hi l o (inr (n, part, is, e)) = (
     l,
     inr (
       n,
-      part_wider told (part_size s.size cap) s.align lo lo' hi hi n o (omega arith) part,
+      part_wider decoded (part_size s.size cap) s.align lo lo' hi hi n o (omega arith) part,
       is_lower b cap len lo lo' n o part.above is,
       e,
     ),
@@ -248,20 +255,20 @@ module _ (s : ElementSpec) (law : IsElement s) where
       (λ i h. let u = bucket_inside s.size begin cap i h in
       (omega (arith, u.0), omega (arith, u.1))) is.items in
       record {
-        controls = subst (Accepted cap len) e is.controls;
+        controls = subst (AreValidControls cap len) e is.controls;
         last = is.last;
         items = subst (λ (x : List ℕ).
             AllHold s (bucket_at s.size begin cap) c begin (walk x cap) lo is.last) e items;
       }
 
-  at_local : (b c : List ℕ) (told : ℤ) (cap len lo hi l : ℕ) → AgreeOn b c lo l
-      → TableAt s b told cap len lo hi l → TableAt s c told cap len lo hi l
-  at_local b c told cap len lo hi l same (inl h) = inl h
-  at_local b c told cap len lo hi l same (inr (n, part, is, e)) =
+  at_local : (b c : List ℕ) (decoded : ℤ) (cap len lo hi l : ℕ) → AgreeOn b c lo l
+      → TableAt s b decoded cap len lo hi l → TableAt s c decoded cap len lo hi l
+  at_local b c decoded cap len lo hi l same (inl h) = inl h
+  at_local b c decoded cap len lo hi l same (inr (n, part, is, e)) =
       inr (n, part, is_near b c cap len lo n part.above (subst (AgreeOn b c lo) e same) is, e)
 
   holds_local : (w : Width) (b c : List ℕ) (p lo hi l : ℕ) → AgreeOn b c p (p + 3 * byte_len w)
-      → AgreeOn b c lo l → TableHolds w s b p lo hi l → TableHolds w s c p lo hi l
+      → AgreeOn b c lo l → IsValidTable w s b p lo hi l → IsValidTable w s c p lo hi l
   holds_local w b c p lo hi l fixed part h =
       at_local b c (decode_begin w s.size c p) (cap_at w c p) (len_at w c p) lo hi l part
       (of_numbers s b (begin_same w b c p fixed s.size) (cap_same w b c p fixed)

@@ -20,12 +20,12 @@ use Rattle.rkyv_table.specs.Lemmas.Buckets.{images_length}
 use Rattle.rkyv_table.specs.Table.Header.{IsHeader, decode_begin, cap_at, header_bytes, len_at}
 use Rattle.rkyv_table.specs.Lemmas.HeaderReads.{cap_reads, distance_reads, header_length, len_reads}
 use Rattle.rkyv_table.specs.Controls.Numbers.{capacity}
-use Rattle.rkyv_table.specs.Controls.Placing.{Accepted, Written, walk}
+use Rattle.rkyv_table.specs.Controls.Placing.{AreValidControls, Written, walk}
 use Rattle.rkyv_table.specs.Table.Places.{AllHold}
 use Rattle.rkyv_table.specs.Lemmas.SlotSound.{slots_sound}
 use Rattle.rkyv_table.specs.Lemmas.SlotWalk.{filled_count, filled_from, walk_filled}
 use Rattle.rkyv_table.specs.Table.Slots.{TableBytes}
-use Rattle.rkyv_table.specs.Table.Layout.{IsPart, TableAt, TableHolds, bucket_at, controls_at}
+use Rattle.rkyv_table.specs.Table.Layout.{IsPart, TableAt, IsValidTable, bucket_at, controls_at}
 use Rattle.rkyv_table.specs.Table.Layout.{part_size, table_spec}
 use Rattle.rkyv_table.specs.Table.TableFormat.{BucketsRepresent, TableParts, TableResolver}
 use Rattle.rkyv_table.specs.Table.TableFormat.{TableRepresents}
@@ -54,7 +54,7 @@ module _ {X R : Type 0} (s : ElementSpec) (laws : IsElement s) (represents : Lis
   hashes_count : length (hashes_of pairs) ≡ length pairs
   hashes_count = length-map pairs (λ (y : ℕ × X). y.0)
 
-  written_accepted : Accepted cap (length pairs) controls
+  written_accepted : AreValidControls cap (length pairs) controls
   written_accepted = record {
     room = room;
     full = ap length (walk_filled cap pairs slots controls placed) ∙ filled_count 0 slots
@@ -125,7 +125,7 @@ module _ {X R : Type 0} (s : ElementSpec) (laws : IsElement s) (represents : Lis
 
     pub part_valid : IsPart s c cap (length pairs) p begin
     part_valid = record {
-      controls = subst (Accepted cap (length pairs)) (sym controls_there) written_accepted;
+      controls = subst (AreValidControls cap (length pairs)) (sym controls_there) written_accepted;
       last = items.0;
       items = subst (λ is. AllHold s (bucket_at s.size begin cap) c begin is p items.0)
           (sym (ap (λ (cs : List ℕ). walk cs cap) controls_there
@@ -149,7 +149,7 @@ module _ {X R : Type 0} (w : Width) (kind : IsArchiveWord w) (s : ElementSpec) (
     → Type 0) (f : Format X R) (fl : IsFormat s represents f) (factor : ℕ × ℕ)
   where
     abbrev Sound : List (ℕ × X) → List ℕ → ℕ → ℕ → ℕ → Type 0
-    Sound pairs c p p0 hi = (l : ℕ) × TableHolds w s c p p0 hi l
+    Sound pairs c p p0 hi = (l : ℕ) × IsValidTable w s c p p0 hi l
         × TableRepresents w s represents factor c p pairs
 
     module _ (pairs : List (ℕ × X)) (r : TableResolver) (c : List ℕ) (p0 p : ℕ) (part out : List ℕ)
@@ -162,26 +162,32 @@ module _ {X R : Type 0} (w : Width) (kind : IsArchiveWord w) (s : ElementSpec) (
       capacity_is : resolved_capacity r ≡ capacity (length pairs) factor
       capacity_is = ap (λ n. capacity n r.load_factor) t.len ∙ ap (capacity (length pairs)) t.factor
 
-      len_told : len_at w c p ≡ length pairs
-      len_told =
+      len_decoded : len_at w c p ≡ length pairs
+      len_decoded =
           let b = below_capacity r.len r.load_factor in
           len_reads w kind i.distance r.len (resolved_capacity r) c p header
           (omega (arith, b, t.fits)) ∙ t.len
 
-      cap_told : cap_at w c p ≡ capacity (length pairs) factor
-      cap_told = cap_reads w kind i.distance r.len (resolved_capacity r) c p header t.fits
+      cap_decoded : cap_at w c p ≡ capacity (length pairs) factor
+      cap_decoded = cap_reads w kind i.distance r.len (resolved_capacity r) c p header t.fits
           ∙ capacity_is
 
-      distance_told : signed_at w c p ≡ i.distance
-      distance_told = distance_reads w kind i.distance r.len (resolved_capacity r) c p header i.fits
+      distance_decoded : signed_at w c p ≡ i.distance
+      distance_decoded =
+          distance_reads w kind i.distance r.len (resolved_capacity r) c p header i.fits
 
       none_sound : pairs ≡ [] → Sound pairs c p p0 (p0 + length part)
       none_sound e =
           let n : length pairs ≡ 0 = ap length e in
           let z : capacity (length pairs) factor ≡ 0 = ap (λ k. capacity k factor) n in (
             p0,
-            inl (len_told ∙ n, cap_told ∙ z, refl),
-            record { len = len_told; cap = cap_told; buckets = λ h. absurd (omega (arith, h, n)) },
+            inl (len_decoded ∙ n, cap_decoded ∙ z, refl),
+            record {
+              len =
+                  len_decoded;
+              cap = cap_decoded;
+              buckets = λ h. absurd (omega (arith, h, n));
+            },
           )
 
       module _ (slots : List (Option X)) (controls : List ℕ) (some : 0 < length pairs)
@@ -197,7 +203,7 @@ module _ {X R : Type 0} (w : Width) (kind : IsArchiveWord w) (s : ElementSpec) (
         B = begin s laws represents f fl c p0 C pairs slots controls placed room r.pos part b sp
 
         distance_is : i.distance ≡ pos r.pos -ℤ pos p
-        distance_is = elim i.told [
+        distance_is = elim i.distance_value [
           | inl h ↦ absurd (omega (arith, h.0, t.len, some))
           | inr h ↦ h.1
         ]
@@ -209,8 +215,8 @@ module _ {X R : Type 0} (w : Width) (kind : IsArchiveWord w) (s : ElementSpec) (
             part b sp in
             let e : (pos p +ℤ (pos r.pos -ℤ pos p)) -ℤ pos (C * s.size) ≡ pos B =
             omega (arith, ints, z) in
-            ap (λ d. (pos p +ℤ d) -ℤ pos (cap_at w c p * s.size)) (distance_told ∙ distance_is)
-            ∙ ap (λ k. (pos p +ℤ (pos r.pos -ℤ pos p)) -ℤ pos (k * s.size)) cap_told ∙ e
+            ap (λ d. (pos p +ℤ d) -ℤ pos (cap_at w c p * s.size)) (distance_decoded ∙ distance_is)
+            ∙ ap (λ k. (pos p +ℤ (pos r.pos -ℤ pos p)) -ℤ pos (k * s.size)) cap_decoded ∙ e
 
         table_at : TableAt s c (pos B) C (length pairs) p0 (p0 + length part)
             (B + part_size s.size C)
@@ -243,12 +249,12 @@ module _ {X R : Type 0} (w : Width) (kind : IsArchiveWord w) (s : ElementSpec) (
           subst (λ k. TableAt s c k (cap_at w c p) (len_at w c p) p0 (p0 + length part)
               (B + part_size s.size C)) (sym begin_is)
               (subst (λ k. TableAt s c (pos B) k (len_at w c p) p0 (p0 + length part)
-              (B + part_size s.size C)) (sym cap_told)
+              (B + part_size s.size C)) (sym cap_decoded)
               (subst (λ k. TableAt s c (pos B) C k p0 (p0 + length part) (B + part_size s.size C))
-              (sym len_told) table_at)),
+              (sym len_decoded) table_at)),
           record {
-            len = len_told;
-            cap = cap_told;
+            len = len_decoded;
+            cap = cap_decoded;
             buckets = λ h. (
               B,
               sym begin_is,
@@ -271,7 +277,7 @@ module _ {X R : Type 0} (w : Width) (kind : IsArchiveWord w) (s : ElementSpec) (
     table_is_format = record {
       size_exact = λ pairs r p out i. ap length i.is
           ∙ header_length w kind i.distance r.len (resolved_capacity r);
-      exclusive = λ pairs r p out i f. elim i.told [
+      exclusive = λ pairs r p out i f. elim i.distance_value [
         | inl h ↦ omega (arith, h.0, f.0)
         | inr h ↦ f.1 (subst (FitsSigned w) h.1 i.fits)
       ];

@@ -35,13 +35,14 @@ pub record IsItemOf {T : Type 0} (w : Width) (s : ElementSpec) (b : List ℕ) (p
   pub viewable : Viewable s b v.pos
 
 -- the comparison can be called with each item
-abbrev pub MayAskOf : {T : Type 0} → (View T → Type 0) → Width → ElementSpec → List ℕ → ℕ → Type 0
-MayAskOf {T} pre w s b p = (v : View T) → IsItemOf w s b p v → pre v
+abbrev pub CanCompareOf : {T : Type 0} → (View T → Type 0) → Width → ElementSpec → List ℕ → ℕ
+    → Type 0
+CanCompareOf {T} pre w s b p = (v : View T) → IsItemOf w s b p v → pre v
 
 -- the comparison returns `accept q` for the item at each position `q`
-abbrev pub AnswersOf : {T : Type 0} → (View T → Bool → Type 0) → Width → ElementSpec → List ℕ → ℕ
+abbrev pub ComparesByOf : {T : Type 0} → (View T → Bool → Type 0) → Width → ElementSpec → List ℕ → ℕ
     → (ℕ → Bool) → Type 0
-AnswersOf {T} post w s b p accept =
+ComparesByOf {T} post w s b p accept =
     (v : View T) (r : Bool) → IsItemOf w s b p v → post v r → r ≡ accept v.pos
 
 -- `q`: position of an item for which the comparison returned `true`
@@ -55,10 +56,10 @@ AcceptedOf {T} post w s b p q = (v : View T) × IsItemOf w s b p v × (v.pos ≡
 pub record LooksUp {T : Type 0} (post : View T → Bool → Type 0) (kind : Kind) (w : Width)
     (s : ElementSpec) (b : List ℕ) (p hash : ℕ) (found : Option ℕ) : Type 0 where
   pub accepted : IfSome found (AcceptedOf post w s b p)
-  pub answer : (accept : ℕ → Bool) → AnswersOf post w s b p accept
+  pub answer : (accept : ℕ → Bool) → ComparesByOf post w s b p accept
       → found ≡ pos_found kind w s.size b p hash accept
   pub first : (hashes homes : List ℕ) (accept : ℕ → Bool) → WrittenAt w b p hashes homes
-      → AnswersOf post w s b p accept
+      → ComparesByOf post w s b p accept
       → IsUnderHash hash hashes (home_positions w s.size b p homes) accept
       → found ≡ find accept (home_positions w s.size b p homes)
 
@@ -67,7 +68,7 @@ abbrev pub ReadsExactly : {T : Type 0} → (View T → Bool → Type 0) → Kind
     → List ℕ
     → ℕ → ℕ → ℕ → Type 0
 ReadsExactly post kind w s b p hash count =
-    (accept : ℕ → Bool) → AnswersOf post w s b p accept
+    (accept : ℕ → Bool) → ComparesByOf post w s b p accept
     → count ≡ lookup_end kind w s.size b p hash accept
 
 -- `Writes` changed `b` to `c` at the found position, and returned the result; or nothing

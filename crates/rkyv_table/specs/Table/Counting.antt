@@ -3,11 +3,12 @@ use Rattle.std.specs.Prelude.{◌≡◌, ◌≢◌, ℕ, ◌+◌, ◌≤◌, ◌
 use Rattle.std.specs.Iterator.{Yields, Drains}
 use Rattle.rkyv_table.specs.Table.PlacedItems.{hashes_of, items_of}
 
--- `n`: number of items from `s` on, counted on from `seen`. It is exact up to `len`, and `len + 1`
+-- `n`: number of items from `s` on, counted on from `before`. It is exact up to `len`, and `len +
+-- 1`
 -- if there are more
 abbrev pub CountedOn : {S A : Type 0} → (S → Option A → S → Type 0) → ℕ → S → ℕ → ℕ → Type 0
-CountedOn {S} {A} steps len s seen n =
-    (xs : List A) × (n ≡ seen + length xs)
+CountedOn {S} {A} steps len s before n =
+    (xs : List A) × (n ≡ before + length xs)
     × (((n ≤ len) × Drains steps s xs) ⊎ ((n ≡ len + 1) × ((t : S) × Yields steps s xs t)))
 
 -- `n`: number of items, counted up to `len + 1`

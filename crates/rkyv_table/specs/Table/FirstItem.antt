@@ -18,10 +18,10 @@ abbrev pub AreUnder : {X : Type 0} → ℕ → (X → Bool) → List (ℕ × X) 
 AreUnder hash accept pairs = All (λ pair. accept pair.1 ≡ true → pair.0 ≡ hash) pairs
 
 -- the test of positions and `accept` agree on each item and its position
-abbrev pub TellsOf : {X : Type 0} → (List ℕ → ℕ → X → Type 0) → List ℕ → (X → Bool) → List X
+abbrev pub TestsAgree : {X : Type 0} → (List ℕ → ℕ → X → Type 0) → List ℕ → (X → Bool) → List X
     → (ℕ → Bool) → Type 0
-TellsOf {X} represents c accept items told =
-    (i q : ℕ) (x : X) → slice_get items i ≡ Some x → represents c q x → told q ≡ accept x
+TestsAgree {X} represents c accept items accept_at =
+    (i q : ℕ) (x : X) → slice_get items i ≡ Some x → represents c q x → accept_at q ≡ accept x
 
 -- `result`: position of the first accepted item, or `None` if and only if no item is accepted
 abbrev pub IsFirstOf : {X : Type 0} → (List ℕ → ℕ → X → Type 0) → List ℕ → (X → Bool) → List X
@@ -32,11 +32,11 @@ IsFirstOf {X} represents c accept items result =
 
 -- a lookup in a table that represents the pairs finds the first accepted item,
 -- if each accepted item is under `hash`
-abbrev pub AnswersFirst : {X : Type 0} → Width → ElementSpec → (List ℕ → ℕ → X → Type 0) → ℕ × ℕ
+abbrev pub LookupFindsFirst : {X : Type 0} → Width → ElementSpec → (List ℕ → ℕ → X → Type 0) → ℕ × ℕ
     → Type 0
-AnswersFirst {X} w s represents load_factor =
+LookupFindsFirst {X} w s represents load_factor =
     (kind : Kind) (c : List ℕ) (p hash : ℕ) (pairs : List (ℕ × X)) (accept : X → Bool)
-    (told : ℕ → Bool) → IsKind kind → hash < 2 ^ 64
+    (accept_at : ℕ → Bool) → IsKind kind → hash < 2 ^ 64
     → TableRepresents w s represents load_factor c p pairs
-    → AreUnder hash accept pairs → TellsOf represents c accept (items_of pairs) told
-    → IsFirstOf represents c accept (items_of pairs) (pos_found kind w s.size c p hash told)
+    → AreUnder hash accept pairs → TestsAgree represents c accept (items_of pairs) accept_at
+    → IsFirstOf represents c accept (items_of pairs) (pos_found kind w s.size c p hash accept_at)

@@ -31,7 +31,7 @@ header_bytes w distance len cap =
 pub record IsHeader (w : Width) (len cap z p : ℕ) (out : List ℕ) : Type 0 where
   pub distance : ℤ
   pub fits : FitsSigned w distance
-  pub told : ((len ≡ 0) × (distance ≡ pos 1)) ⊎ ((0 < len) × (distance ≡ pos z -ℤ pos p))
+  pub distance_value : ((len ≡ 0) × (distance ≡ pos 1)) ⊎ ((0 < len) × (distance ≡ pos z -ℤ pos p))
   pub is : out ≡ header_bytes w distance len cap
 
 -- the distance from a header at `p` to the first control byte at `z` doesn't fit, and the table

@@ -26,9 +26,9 @@ from_both items hashes s t = record {
 }
 
 -- the input has `len` pairs, and their items are placed; or the result is another number of pairs
-abbrev pub TakesItems : {X : Type 0} → Input (ℕ × X) → ℕ → ℕ → List (Option X) → List ℕ
+abbrev pub PlacesInput : {X : Type 0} → Input (ℕ × X) → ℕ → ℕ → List (Option X) → List ℕ
     → Result Unit ℕ → Type 0
-TakesItems {X} input len cap slots controls result = MatchResult result
+PlacesInput {X} input len cap slots controls result = MatchResult result
     (λ _. (pairs : List (ℕ × X)) × input.yields pairs × (length pairs ≡ len)
     × Placed cap pairs slots controls)
     (input.yields_other_count len)

@@ -2,12 +2,12 @@
 use Rattle.std.specs.Prelude.{List, map, MatchOption, Option, Some, None}
 
 -- each pair by its values. `key`, `value`: value of a first and of a second component
-abbrev pub lent_pairs : {BK BV A B : Type 0} → (BK → A) → (BV → B) → List (BK × BV) → List (A × B)
-lent_pairs key value items = map (λ item. (key item.0, value item.1)) items
+abbrev pub pair_values : {BK BV A B : Type 0} → (BK → A) → (BV → B) → List (BK × BV) → List (A × B)
+pair_values key value items = map (λ item. (key item.0, value item.1)) items
 
 -- the values of the keys
-abbrev pub lent_keys : {BK A : Type 0} → (BK → A) → List BK → List A
-lent_keys key items = map key items
+abbrev pub key_values : {BK A : Type 0} → (BK → A) → List BK → List A
+key_values key items = map key items
 
 -- keys as pairs with the unit value
 abbrev pub with_units : {A : Type 0} → List A → List (A × Unit {0})

@@ -11,7 +11,7 @@ use Rattle.rkyv_base.specs.ElementSpec.{ElementSpec}
 use Rattle.rkyv_table.specs.Table.Header.{decode_begin, cap_at, len_at}
 use Rattle.rkyv_table.specs.Controls.Numbers.{control_count}
 use Rattle.rkyv_table.specs.Table.Places.{AllHold, FirstFails}
-use Rattle.rkyv_table.specs.Controls.Placing.{Accepted, walk}
+use Rattle.rkyv_table.specs.Controls.Placing.{AreValidControls, walk}
 use Rattle.rkyv_table.specs.Controls.Repeating.{FirstUnwrapped}
 
 -- the number of bytes of the buckets and the control bytes
@@ -36,7 +36,7 @@ ItemsHold s b begin cap lo l =
 -- the buckets and control bytes at `begin` are valid: the control bytes are those of `len` items,
 -- and each item is valid
 pub record IsPart (s : ElementSpec) (b : List ℕ) (cap len lo begin : ℕ) : Type 0 where
-  pub controls : Accepted cap len (controls_at s.size b begin cap)
+  pub controls : AreValidControls cap len (controls_at s.size b begin cap)
   pub last : ℕ
   pub items : ItemsHold s b begin cap lo last
 
@@ -55,23 +55,23 @@ FailsInside s b cap len lo begin e =
 -- a valid table with these numbers in its header, and `l` as the new lower end. An empty table
 -- has no part
 abbrev pub TableAt : ElementSpec → List ℕ → ℤ → ℕ → ℕ → ℕ → ℕ → ℕ → Type 0
-TableAt s b told cap len lo hi l =
+TableAt s b decoded cap len lo hi l =
     ((len ≡ 0) × (cap ≡ 0) × (l ≡ lo))
-    ⊎ ((begin : ℕ) × PartIn told (part_size s.size cap) s.align lo hi begin
+    ⊎ ((begin : ℕ) × PartIn decoded (part_size s.size cap) s.align lo hi begin
     × IsPart s b cap len lo begin × (l ≡ begin + part_size s.size cap))
 
 -- `e`: first fault of a table. The length isn't below the capacity, or else the part
 -- isn't in the range, or else it has a fault inside
 abbrev pub TableFailsAt : ElementSpec → List ℕ → ℤ → ℕ → ℕ → ℕ → ℕ → VerifyError → Type 0
-TableFailsAt s b told cap len lo hi e =
+TableFailsAt s b decoded cap len lo hi e =
     ((cap ≤ len) × (0 < len) × (e ≡ InvalidLength len cap))
-    ⊎ ((len < cap) × PartFails told (part_size s.size cap) s.align lo hi e)
-    ⊎ ((len < cap) × (begin : ℕ) × PartIn told (part_size s.size cap) s.align lo hi begin
+    ⊎ ((len < cap) × PartFails decoded (part_size s.size cap) s.align lo hi e)
+    ⊎ ((len < cap) × (begin : ℕ) × PartIn decoded (part_size s.size cap) s.align lo hi begin
     × FailsInside s b cap len lo begin e)
 
 -- the header at `p` is that of a valid table
-abbrev pub TableHolds : Width → ElementSpec → List ℕ → ℕ → ℕ → ℕ → ℕ → Type 0
-TableHolds w s b p lo hi l =
+abbrev pub IsValidTable : Width → ElementSpec → List ℕ → ℕ → ℕ → ℕ → ℕ → Type 0
+IsValidTable w s b p lo hi l =
     TableAt s b (decode_begin w s.size b p) (cap_at w b p) (len_at w b p) lo
     hi l
 
@@ -85,7 +85,7 @@ abbrev pub table_spec : Width → ElementSpec → ElementSpec
 table_spec w s = record {
   size = 3 * byte_len w;
   align = byte_len w;
-  holds =
-      TableHolds w s;
+  is_valid =
+      IsValidTable w s;
   fails = TableFails w s;
 }

@@ -5,18 +5,18 @@ use Rattle.std.specs.List.{Contains, list_any, range_with_len, sum_by}
 use Rattle.rkyv_scan.specs.Groups.{Kind, IsKind}
 use Rattle.rkyv_table.specs.Controls.Finding.{end, found}
 use Rattle.rkyv_table.specs.Controls.Laws.{AreHashes}
-use Rattle.rkyv_table.specs.Controls.Placing.{Accepted, Written, walk}
+use Rattle.rkyv_table.specs.Controls.Placing.{AreValidControls, Written, walk}
 
 -- a lookup found `bucket`
-abbrev pub is_answer : ℕ → Option ℕ → Bool
-is_answer bucket None = false
-is_answer bucket (Some answer) = eqb bucket answer
+abbrev pub is_found_at : ℕ → Option ℕ → Bool
+is_found_at bucket None = false
+is_found_at bucket (Some answer) = eqb bucket answer
 
 -- a lookup of the item in `bucket` doesn't find it. The lookup is under the item's hash,
 -- and accepts the items that are the same as it
 abbrev pub is_misplaced : Kind → List ℕ → ℕ → ℕ → (ℕ → ℕ) → (ℕ → ℕ → Bool) → ℕ → Bool
 is_misplaced kind controls cap len hash_at same_at bucket =
-    not (is_answer bucket (found kind controls cap len (hash_at bucket) (same_at bucket)))
+    not (is_found_at bucket (found kind controls cap len (hash_at bucket) (same_at bucket)))
 
 -- the number of misplaced items
 abbrev pub misplaced : Kind → List ℕ → ℕ → ℕ → (ℕ → ℕ) → (ℕ → ℕ → Bool) → ℕ
@@ -64,7 +64,7 @@ RepeatedAreMisplaced = (kind : Kind) (cap : ℕ) (hashes homes controls : List �
 
 -- each item that the query accepts has its hash, and the query accepts exactly the items
 -- that are the same as it
-pub record AsksForOne (controls : List ℕ) (cap hash : ℕ) (accept : ℕ → Bool) (hash_at : ℕ → ℕ)
+pub record AcceptsSame (controls : List ℕ) (cap hash : ℕ) (accept : ℕ → Bool) (hash_at : ℕ → ℕ)
     (same_at : ℕ → ℕ → Bool) : Type 0 where
   pub hashed : (b : ℕ) → Contains (walk controls cap) b → accept b ≡ true → hash_at b ≡ hash
   pub same : (b c : ℕ) → Contains (walk controls cap) b → Contains (walk controls cap) c
@@ -85,8 +85,8 @@ pub record AloneAccepted (controls : List ℕ) (cap : ℕ) (accept : ℕ → Boo
 -- is accepted
 abbrev pub NoneMisplacedIsComplete : Type 0
 NoneMisplacedIsComplete = (kind : Kind) (cap len hash : ℕ) (controls : List ℕ) (accept : ℕ → Bool)
-    (hash_at : ℕ → ℕ) (same_at : ℕ → ℕ → Bool) → IsKind kind → Accepted cap len controls
+    (hash_at : ℕ → ℕ) (same_at : ℕ → ℕ → Bool) → IsKind kind → AreValidControls cap len controls
     → hash < 2 ^ 64 → misplaced kind controls cap len hash_at same_at ≡ 0
-    → AsksForOne controls cap hash accept hash_at same_at
+    → AcceptsSame controls cap hash accept hash_at same_at
     → MatchOption (found kind controls cap len hash accept) (NoneAccepted controls cap accept)
     (AloneAccepted controls cap accept)

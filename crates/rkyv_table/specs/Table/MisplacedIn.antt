@@ -33,29 +33,29 @@ module _ {T W : Type 0} {ts : Specs T} {wt : Words W} where
 
   -- a function of the control bytes, the capacity and the length of a table, and of the hashes
   -- and the relation of items by bucket. `hash_of` and `same` are by positions of items
-  abbrev pub told_of_table : {A : Type 0} → (List ℕ → ℕ → ℕ → (ℕ → ℕ) → (ℕ → ℕ → Bool) → A)
+  abbrev pub apply_to_table : {A : Type 0} → (List ℕ → ℕ → ℕ → (ℕ → ℕ) → (ℕ → ℕ → Bool) → A)
       → ArchivedHashTable T W ts wt → (ℕ → ℕ) → (ℕ → ℕ → Bool) → A
-  told_of_table told t hash_of same =
-      told (table_controls wt.word (table_bytes t) (table_pos t))
+  apply_to_table quantity t hash_of same =
+      quantity (table_controls wt.word (table_bytes t) (table_pos t))
       (cap_at wt.word (table_bytes t) (table_pos t)) (len_at wt.word (table_bytes t) (table_pos t))
       (λ i. hash_of (item_pos t i)) (λ i j. same (item_pos t i) (item_pos t j))
 
   -- the item in the bucket is misplaced
   abbrev pub bucket_misplaced : Kind → ArchivedHashTable T W ts wt → (ℕ → ℕ) → (ℕ → ℕ → Bool) → ℕ
       → Bool
-  bucket_misplaced kind t hash_of same = told_of_table (is_misplaced kind) t hash_of same
+  bucket_misplaced kind t hash_of same = apply_to_table (is_misplaced kind) t hash_of same
 
   -- the number of misplaced items
   abbrev pub table_misplaced : Kind → ArchivedHashTable T W ts wt → (ℕ → ℕ) → (ℕ → ℕ → Bool) → ℕ
-  table_misplaced kind t hash_of same = told_of_table (misplaced kind) t hash_of same
+  table_misplaced kind t hash_of same = apply_to_table (misplaced kind) t hash_of same
 
   -- the number of strides that a lookup of the item in the bucket reads
   abbrev pub bucket_strides : Kind → ArchivedHashTable T W ts wt → (ℕ → ℕ) → (ℕ → ℕ → Bool) → ℕ → ℕ
-  bucket_strides kind t hash_of same = told_of_table (own_strides kind) t hash_of same
+  bucket_strides kind t hash_of same = apply_to_table (own_strides kind) t hash_of same
 
   -- the number of strides that the lookups of all items read
   abbrev pub table_strides : Kind → ArchivedHashTable T W ts wt → (ℕ → ℕ) → (ℕ → ℕ → Bool) → ℕ
-  table_strides kind t hash_of same = told_of_table (all_strides kind) t hash_of same
+  table_strides kind t hash_of same = apply_to_table (all_strides kind) t hash_of same
 
   -- `result`: result of the comparison for the items in buckets `i` and `j`
   abbrev pub ComparesItems : (View T → View T → Bool → Type 0) → ArchivedHashTable T W ts wt → ℕ → ℕ
@@ -65,9 +65,9 @@ module _ {T W : Type 0} {ts : Specs T} {wt : Words W} where
 
   -- `result`: `true` if the item in the bucket is misplaced, if both functions depend only on
   -- positions of items
-  abbrev pub TellsMisplaced : (View T → ℕ → Type 0) → (View T → View T → Bool → Type 0)
+  abbrev pub ReturnsMisplaced : (View T → ℕ → Type 0) → (View T → View T → Bool → Type 0)
       → ArchivedHashTable T W ts wt → ℕ → Bool → Type 0
-  TellsMisplaced hashes compares t bucket result =
+  ReturnsMisplaced hashes compares t bucket result =
       (hash_of : ℕ → ℕ) (same : ℕ → ℕ → Bool) → HashesAs hashes t hash_of
       → ComparesAs compares t same → result ≡ bucket_misplaced generic_kind t hash_of same bucket
 

@@ -8,7 +8,7 @@ use Rattle.rkyv_base.specs.declared.view.View.{View}
 use Rattle.rkyv_table.specs.Table.RawItems.{ItemsLeft}
 
 -- `place` was the first remaining position, and the archive is unchanged
-pub record TakesFirst (before : ItemsLeft) (place : ℕ) (after : ItemsLeft) : Type 0 where
+pub record YieldsFirstPos (before : ItemsLeft) (place : ℕ) (after : ItemsLeft) : Type 0 where
   pub first : before.positions ≡ place ∷ after.positions
   pub archive : after.archive ≡ before.archive
 
@@ -25,23 +25,23 @@ pub record ViewsAt {T : Type 0} (s : ElementSpec) (before : ItemsLeft) (place : 
   pub viewable : IsValidView s view
 
 -- the step returns the first remaining key and its value
-abbrev pub TakesPair : {K V : Type 0} → ElementSpec → ElementSpec → ItemsLeft
+abbrev pub YieldsPair : {K V : Type 0} → ElementSpec → ElementSpec → ItemsLeft
     → Option (View K × View V)
     → ItemsLeft → Type 0
-TakesPair {K} {V} k v before result after = MatchOption result (IsAtEnd before after)
-    (λ (pair : View K × View V). TakesFirst before pair.0.pos after
+YieldsPair {K} {V} k v before result after = MatchOption result (IsAtEnd before after)
+    (λ (pair : View K × View V). YieldsFirstPos before pair.0.pos after
     × ViewsAt k before pair.0.pos pair.0
     × ViewsAt v before (pair.0.pos + value_offset k v) pair.1)
 
 -- the step returns the first remaining key
-abbrev pub TakesKey : {K : Type 0} → ElementSpec → ItemsLeft → Option (View K) → ItemsLeft → Type 0
-TakesKey {K} k before result after = MatchOption result (IsAtEnd before after)
-    (λ (key : View K). TakesFirst before key.pos after × ViewsAt k before key.pos key)
+abbrev pub YieldsKey : {K : Type 0} → ElementSpec → ItemsLeft → Option (View K) → ItemsLeft → Type 0
+YieldsKey {K} k before result after = MatchOption result (IsAtEnd before after)
+    (λ (key : View K). YieldsFirstPos before key.pos after × ViewsAt k before key.pos key)
 
 -- the step returns the value of the first remaining key
-abbrev pub TakesValue : {V : Type 0} → ElementSpec → ElementSpec → ItemsLeft → Option (View V)
+abbrev pub YieldsValue : {V : Type 0} → ElementSpec → ElementSpec → ItemsLeft → Option (View V)
     → ItemsLeft
     → Type 0
-TakesValue {V} k v before result after = MatchOption result (IsAtEnd before after)
-    (λ (value : View V). (place : ℕ) × TakesFirst before place after
+YieldsValue {V} k v before result after = MatchOption result (IsAtEnd before after)
+    (λ (value : View V). (place : ℕ) × YieldsFirstPos before place after
     × ViewsAt v before (place + value_offset k v) value)

@@ -11,7 +11,7 @@ use Rattle.rkyv_table.specs.Table.TableFormat.{TableResolver, table_format}
 -- at `end` at the latest
 abbrev pub HoldsAround : ElementSpec → List ℕ → ℕ → ℕ → ℕ → Type 0
 HoldsAround s c p begin end =
-    (lo hi : ℕ) → lo ≤ begin → end ≤ hi → (l : ℕ) × s.holds c p lo hi l × (lo ≤ l) × (l ≤ end)
+    (lo hi : ℕ) → lo ≤ begin → end ≤ hi → (l : ℕ) × s.is_valid c p lo hi l × (lo ≤ l) × (l ≤ end)
 
 -- in every archive with the written bytes of a table and its header, the table is
 -- valid in each range around the written bytes

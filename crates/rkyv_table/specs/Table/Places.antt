@@ -7,7 +7,7 @@ use Rattle.rkyv_base.specs.ElementSpec.{ElementSpec}
 -- the lower end for the next
 abbrev pub AllHold : ElementSpec → (ℕ → ℕ) → List ℕ → ℕ → List ℕ → ℕ → ℕ → Type 0
 AllHold s at b hi [] lo l = l ≡ lo
-AllHold s at b hi (i ∷ is) lo l = (m : ℕ) × s.holds b (at i) lo hi m × AllHold s at b hi is m l
+AllHold s at b hi (i ∷ is) lo l = (m : ℕ) × s.is_valid b (at i) lo hi m × AllHold s at b hi is m l
 
 -- the values are valid, and leave some lower end
 abbrev pub SomeHold : ElementSpec → (ℕ → ℕ) → List ℕ → ℕ → List ℕ → ℕ → Type 0
@@ -17,10 +17,10 @@ SomeHold s at b hi is lo = (l : ℕ) × AllHold s at b hi is lo l
 abbrev pub FirstFails : ElementSpec → (ℕ → ℕ) → List ℕ → ℕ → List ℕ → ℕ → VerifyError → Type 0
 FirstFails s at b hi [] lo e = ⊥
 FirstFails s at b hi (i ∷ is) lo e =
-    s.fails b (at i) lo hi e ⊎ ((m : ℕ) × s.holds b (at i) lo hi m × FirstFails s at b hi is m e)
+    s.fails b (at i) lo hi e ⊎ ((m : ℕ) × s.is_valid b (at i) lo hi m × FirstFails s at b hi is m e)
 
 -- the value at `p` is valid, and the result is the new lower end; or the result is its first fault
 abbrev pub ChecksValue : ElementSpec → List ℕ → ℕ → ℕ → ℕ → Result ℕ VerifyError → Type 0
 ChecksValue s b p lo hi result = MatchResult result
-    (λ rest. (lo ≤ rest) × (rest ≤ hi) × s.holds b p lo hi rest)
+    (λ rest. (lo ≤ rest) × (rest ≤ hi) × s.is_valid b p lo hi rest)
     (s.fails b p lo hi)

@@ -12,7 +12,7 @@ pub record ItemsLeft : Type 0 where
   pub positions : List ℕ
 
 -- a step takes the first of the positions, and keeps the archive
-pub record TakesPos (before : ItemsLeft) (result : Option ℕ) (after : ItemsLeft) : Type 0 where
+pub record YieldsPos (before : ItemsLeft) (result : Option ℕ) (after : ItemsLeft) : Type 0 where
   pub takes : YieldsFirst (λ (left : ItemsLeft). left.positions) before result after
   pub archive : after.archive ≡ before.archive
 

@@ -48,8 +48,8 @@ module _ {T W : Type 0} {ts : Specs T} {wt : Words W} where
   IsItemPos t q = (i : ℕ) × IsFullIn t i × (q ≡ item_pos t i)
 
   -- the comparison can be called with each item
-  abbrev pub MayAsk : (View T → Type 0) → ArchivedHashTable T W ts wt → Type 0
-  MayAsk pre t = (v : View T) → IsItem t v → pre v
+  abbrev pub CanCompare : (View T → Type 0) → ArchivedHashTable T W ts wt → Type 0
+  CanCompare pre t = (v : View T) → IsItem t v → pre v
 
   module _ (post : View T → Bool → Type 0) where
     -- `q`: position of an item of the table for which the comparison returned `true`
@@ -57,13 +57,13 @@ module _ {T W : Type 0} {ts : Specs T} {wt : Words W} where
     IsAcceptedAt t q = (v : View T) × IsItem t v × (v.pos ≡ q) × post v true
 
     -- the comparison returns `accept q` for the item at each position `q`
-    abbrev pub Answers : ArchivedHashTable T W ts wt → (ℕ → Bool) → Type 0
-    Answers t accept = (v : View T) (r : Bool) → IsItem t v → post v r → r ≡ accept v.pos
+    abbrev pub ComparesBy : ArchivedHashTable T W ts wt → (ℕ → Bool) → Type 0
+    ComparesBy t accept = (v : View T) (r : Bool) → IsItem t v → post v r → r ≡ accept v.pos
 
     -- the position that a lookup finds in any table, if the comparison depends only on positions
     abbrev pub FindsFound : Kind → ArchivedHashTable T W ts wt → ℕ → Option ℕ → Type 0
     FindsFound kind t hash result =
-        (accept : ℕ → Bool) → Answers t accept → result
+        (accept : ℕ → Bool) → ComparesBy t accept → result
         ≡ pos_found kind wt.word ts.spec.size (table_bytes t) (table_pos t) hash accept
 
     -- the position that a lookup finds in a written table: that of the first accepted item
@@ -72,7 +72,7 @@ module _ {T W : Type 0} {ts : Specs T} {wt : Words W} where
     abbrev pub FindsFirst : ArchivedHashTable T W ts wt → ℕ → Option ℕ → Type 0
     FindsFirst t hash result =
         (hashes homes : List ℕ) (accept : ℕ → Bool)
-        → WrittenAt wt.word (table_bytes t) (table_pos t) hashes homes → Answers t accept
+        → WrittenAt wt.word (table_bytes t) (table_pos t) hashes homes → ComparesBy t accept
         → IsUnderHash hash hashes
         (home_positions wt.word ts.spec.size (table_bytes t) (table_pos t) homes) accept
         → result
@@ -81,7 +81,7 @@ module _ {T W : Type 0} {ts : Specs T} {wt : Words W} where
     -- the lookup reads as many strides as the number of the one at which it ends
     abbrev pub CountsEnd : Kind → ArchivedHashTable T W ts wt → ℕ → ℕ → ℕ → Type 0
     CountsEnd kind t hash before after =
-        (accept : ℕ → Bool) → Answers t accept → after ≡ before
+        (accept : ℕ → Bool) → ComparesBy t accept → after ≡ before
         + lookup_end kind wt.word ts.spec.size (table_bytes t) (table_pos t) hash accept
 
     -- `result`: position of the item that a lookup finds

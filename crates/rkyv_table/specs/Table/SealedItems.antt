@@ -49,7 +49,7 @@ pub record IsItemAt (w : Width) (s : ElementSpec) (b : List ℕ) (p i q : ℕ) :
   pub kept : KeptByWrites w s b p i
 
 -- the first remaining bucket, with its item at `q`, and the cursor over the others
-pub record TakesBucket {T : Type 0} (w : Width) (s : ElementSpec) (p : ℕ)
+pub record YieldsBucket {T : Type 0} (w : Width) (s : ElementSpec) (p : ℕ)
     (before after : RawIterSeal T)
     (q : ℕ) : Type 0 where
   pub bucket : ℕ
@@ -58,13 +58,13 @@ pub record TakesBucket {T : Type 0} (w : Width) (s : ElementSpec) (p : ℕ)
   pub iter : IsSealIter w s p after
 
 -- a step over the positions of a table's items: none remains, or the first is taken
-abbrev pub TakesPosition : {T : Type 0} → ElementSpec → RawIterSeal T → Option ℕ → RawIterSeal T
+abbrev pub YieldsPosition : {T : Type 0} → ElementSpec → RawIterSeal T → Option ℕ → RawIterSeal T
     → Type 0
-TakesPosition s before result after =
+YieldsPosition s before result after =
     (w : Width) (p : ℕ) → IsSealIter w s p before
     → MatchOption result ((cursor_buckets_left w p before ≡ [])
     × (cursor_buckets_left w p after ≡ [])
-    × IsSealIter w s p after) (TakesBucket w s p before after)
+    × IsSealIter w s p after) (YieldsBucket w s p before after)
 
 -- the number of remaining items decreases by one with each item, and is unchanged at the end
 abbrev pub CountsDown : {T : Type 0} → RawIterSeal T → Option ℕ → RawIterSeal T → Type 0
@@ -131,7 +131,7 @@ pub record StepsAndWrites {T : Type 0} (s : ElementSpec) (Writes : List ℕ → 
   pub stepped : RawIterSeal T
   pub archive : SameArchive before stepped
   pub counts : CountsDown before result stepped
-  pub takes : TakesPosition s before result stepped
+  pub takes : YieldsPosition s before result stepped
   pub writes : MatchOption result (after ≡ stepped) (λ q. StaysThere stepped after
       × Writes stepped.archive.now q after.archive.now)
 

@@ -13,7 +13,7 @@ use Rattle.rkyv_base.specs.declared.view.View.{View}
 use Rattle.rkyv_scan.specs.Groups.{generic_kind}
 use Rattle.rkyv_table.specs.Controls.Laws.{IsUnderHash}
 use Rattle.rkyv_table.specs.Table.Positions.{IsWalked, WrittenAt, home_positions}
-use Rattle.rkyv_table.specs.Table.Bare.{AnswersOf, MayAskOf}
+use Rattle.rkyv_table.specs.Table.Bare.{ComparesByOf, CanCompareOf}
 use Rattle.rkyv_table.specs.Table.Positions.{item_at, pos_found}
 use Rattle.rkyv_table.specs.Table.Reading.{table_bytes, table_pos}
 use Rattle.rkyv_table.specs.Table.SealedTable.{KeptByWrites}
@@ -31,15 +31,15 @@ abbrev pub IsReadAt : {T W : Type 0} {ts : Specs T} {wt : Words W} → ArchiveSe
 IsReadAt a t = (table_bytes t ≡ archive_in a) × (table_pos t ≡ pos_in a)
 
 -- the comparison can be called with each item
-abbrev pub MayAskAt : {T W : Type 0} → (View T → Type 0) → Width → ElementSpec
+abbrev pub CanCompareAt : {T W : Type 0} → (View T → Type 0) → Width → ElementSpec
     → ArchiveSeal (TableOf T W)
     → Type 0
-MayAskAt pre w s a = MayAskOf pre w s (archive_in a) (pos_in a)
+CanCompareAt pre w s a = CanCompareOf pre w s (archive_in a) (pos_in a)
 
 -- the comparison returns `accept q` for the item at each position `q`
-abbrev pub AnswersAt : {T W : Type 0} → (View T → Bool → Type 0) → Width → ElementSpec
+abbrev pub ComparesByAt : {T W : Type 0} → (View T → Bool → Type 0) → Width → ElementSpec
     → ArchiveSeal (TableOf T W) → (ℕ → Bool) → Type 0
-AnswersAt post w s a accept = AnswersOf post w s (archive_in a) (pos_in a) accept
+ComparesByAt post w s a accept = ComparesByOf post w s (archive_in a) (pos_in a) accept
 
 -- `x`: seal of an item of the table. Each write through it alone that keeps the item valid keeps
 -- the table
@@ -59,7 +59,7 @@ pos_of_seal seal = option_map seal_pos seal
 abbrev pub SealsFound : {T W : Type 0} → (View T → Bool → Type 0) → Width → ElementSpec
     → ArchiveSeal (TableOf T W) → ℕ → Option ℕ → Type 0
 SealsFound post w s a hash result =
-    (accept : ℕ → Bool) → AnswersAt post w s a accept
+    (accept : ℕ → Bool) → ComparesByAt post w s a accept
     → result ≡ pos_found generic_kind w s.size (archive_in a) (pos_in a) hash accept
 
 -- the position that a lookup finds in a written table: that of the first accepted item
@@ -68,6 +68,6 @@ abbrev pub SealsFirst : {T W : Type 0} → (View T → Bool → Type 0) → Widt
     → ArchiveSeal (TableOf T W) → ℕ → Option ℕ → Type 0
 SealsFirst post w s a hash result =
     (hashes homes : List ℕ) (accept : ℕ → Bool) → WrittenAt w (archive_in a) (pos_in a) hashes homes
-    → AnswersAt post w s a accept
+    → ComparesByAt post w s a accept
     → IsUnderHash hash hashes (home_positions w s.size (archive_in a) (pos_in a) homes) accept
     → result ≡ find accept (home_positions w s.size (archive_in a) (pos_in a) homes)

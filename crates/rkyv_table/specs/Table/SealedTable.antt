@@ -13,7 +13,7 @@ use Rattle.rkyv_table.specs.Table.Layout.{table_spec}
 -- `b` and `c` have the same bytes of the value at `q` and its parts
 pub record SameValue (s : ElementSpec) (b c : List ℕ) (q : ℕ) : Type 0 where
   pub fixed : AgreeOn b c q (q + s.size)
-  pub parts : (l : ℕ) → s.holds b q 0 q l → AgreeOn b c 0 l
+  pub parts : (l : ℕ) → s.is_valid b q 0 q l → AgreeOn b c 0 l
 
 -- `fits` of a key depends only on the bytes on which the validity of the key depends
 abbrev pub RestsOnKey : ElementSpec → (List ℕ → ℕ → Bool) → Type 0
@@ -28,7 +28,7 @@ pub record WritesValue (k v : ElementSpec) (b c : List ℕ) (q : ℕ) : Type 0 w
 -- the table at `p` in `b` is valid in `c`. It has the same header, the same control bytes,
 -- and the same bytes of each item but that in bucket `i`
 pub record KeepsTable (w : Width) (s : ElementSpec) (b c : List ℕ) (p i : ℕ) : Type 0 where
-  pub holds : Keeps (table_spec w s) b c p
+  pub is_valid : Keeps (table_spec w s) b c p
   pub header : AgreeOn b c p (p + 3 * byte_len w)
   pub controls : table_controls w c p ≡ table_controls w b p
   pub others : (j : ℕ) → IsWalked w b p j → j ≢ i → SameValue s b c (item_at w s.size b p j)

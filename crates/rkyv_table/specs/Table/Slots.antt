@@ -7,7 +7,7 @@ use Rattle.rkyv_base.specs.Pairs.{written_as}
 use Rattle.rkyv_base.specs.ElementSpec.{ElementSpec}
 use Rattle.rkyv_base.specs.Writing.{Appended, Appends, Output, Step, WriteFails, Within, distance}
 use Rattle.rkyv_base.specs.Writing.{end_of}
-use Rattle.rkyv_base.specs.Writing.{padding, piece, refusal, zeros}
+use Rattle.rkyv_base.specs.Writing.{padding, piece, failure, zeros}
 use Rattle.rkyv_base.specs.declared.errors.WriteError.{WriteError}
 
 -- the number of slots with an item
@@ -92,7 +92,7 @@ module _ {X R : Type 0} (size : ℕ) (f : Format X R) where
   abbrev pub BucketStep : Option X → List R → ℕ → Step → Type 0
   BucketStep s left p step =
       ((more : List R) × (out : List ℕ) × Filled s left more p out × (step ≡ piece out))
-      ⊎ (BucketOverflows s left p × (step ≡ refusal distance))
+      ⊎ (BucketOverflows s left p × (step ≡ failure distance))
 
   module _ (slots : List (Option X)) (rs : List R) (p : ℕ) where
     -- `front`: buckets above `i`, written from `p` on, `left`: resolvers of the other items

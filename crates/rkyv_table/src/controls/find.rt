@@ -6,11 +6,12 @@ ghost use Rattle.std.specs.Prelude.{Bool, IfSome, List, drop, length, map, slice
 ghost use Rattle.std.specs.Prelude.{ℕ, ◌%◌, ◌*◌, ◌+◌, ◌<◌, ◌^◌, ◌≡◌, ◌≤◌};
 ghost use Rattle.std.specs.List.{find};
 ghost use Rattle.rkyv_table.specs.Controls.ControlBytes.{IsFullBucket};
-ghost use Rattle.rkyv_table.specs.Controls.Finding.{AnswersAs, FindsBucket, candidates, lookup};
-ghost use Rattle.rkyv_table.specs.Controls.Finding.{shows_empty};
-ghost use Rattle.rkyv_table.specs.Controls.Placing.{Accepted};
+ghost use Rattle.rkyv_table.specs.Controls.Finding.{ComparesByBucket, FindsBucket, candidates};
+ghost use Rattle.rkyv_table.specs.Controls.Finding.{lookup};
+ghost use Rattle.rkyv_table.specs.Controls.Finding.{stride_has_empty};
+ghost use Rattle.rkyv_table.specs.Controls.Placing.{AreValidControls};
 ghost use Rattle.rkyv_table.specs.Controls.StrideOutcome.{IsAcceptedBy, IsFullInStride, IsMarked};
-ghost use Rattle.rkyv_table.specs.Controls.StrideOutcome.{IsShownIfAccepted, SeesFirst};
+ghost use Rattle.rkyv_table.specs.Controls.StrideOutcome.{IsFullIfAccepted, SeesFirst};
 
 use crate::controls::numbers::{bucket_of, start, tag};
 use crate::controls::probe::Probe;
@@ -74,7 +75,7 @@ fn first_accepted<M: Marks, F: Fn(usize) -> bool>(
     ensures among { IfSome result (IsMarked at cap (M.places marks)) }
     ensures accepted { IfSome result (λ b. F.post cmp.now b true) }
     ensures first { (accept : ℕ → Bool)
-        → AnswersAs (F.post cmp.now) (IsMarked at cap (M.places marks)) accept
+        → ComparesByBucket (F.post cmp.now) (IsMarked at cap (M.places marks)) accept
         → result ≡ find accept (map (λ j. (at + j) % cap) (M.places marks)) }
 {
     let mut rest = marks;
@@ -111,11 +112,11 @@ fn scan<G: GroupKind, F: Fn(usize) -> bool>(
     requires tag { tag < 128 }
     requires below { (q : ℕ) → q < 16 → slice_index stride.now q < 128 → pos + q < 2 * cap }
     requires callable { (b : ℕ) → IsFullInStride stride.now pos cap b → F.pre cmp.now b }
-    ensures full { IsShownIfAccepted stride.now pos cap result }
+    ensures full { IsFullIfAccepted stride.now pos cap result }
     ensures accepted { IsAcceptedBy (F.post cmp.now) result }
-    ensures seen { (bytes : List ℕ) → stride.now ≡ take 16 (drop pos bytes)
+    ensures outcome { (bytes : List ℕ) → stride.now ≡ take 16 (drop pos bytes)
         → SeesFirst (F.post cmp.now) (IsFullInStride stride.now pos cap)
-        (candidates G.kind bytes cap tag pos) (shows_empty bytes pos) result }
+        (candidates G.kind bytes cap tag pos) (stride_has_empty bytes pos) result }
 {
     if G::WIDTH == 16 {
         let whole = G::read(stride, 0);
@@ -170,7 +171,7 @@ pub fn find_from<G: GroupKind, F: Fn(usize) -> bool>(
     cmp: F,
     strides: &mut Strides,
 ) -> Option<usize>
-    requires accepted { 0 < len → Accepted cap len controls.now }
+    requires accepted { 0 < len → AreValidControls cap len controls.now }
     requires start { 0 < cap → start ≡ hash % cap }
     requires room { strides.old ≤ 2 ^ 63 }
     requires callable { (b : ℕ) → IsFullBucket cap controls.now b → F.pre cmp b }
@@ -213,7 +214,7 @@ pub fn find<G: GroupKind, F: Fn(usize) -> bool>(
     cmp: F,
     strides: &mut Strides,
 ) -> Option<usize>
-    requires accepted { 0 < len → Accepted cap len controls.now }
+    requires accepted { 0 < len → AreValidControls cap len controls.now }
     requires room { strides.old ≤ 2 ^ 63 }
     requires callable { (b : ℕ) → IsFullBucket cap controls.now b → F.pre cmp b }
     ensures { FindsBucket (lookup G.kind controls.now cap len hash) (F.post cmp) strides.old

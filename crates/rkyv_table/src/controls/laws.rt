@@ -1,5 +1,5 @@
 //! Laws of the probe sequence and of written control bytes, over their definitions alone.
-ghost use Rattle.rkyv_table.specs.Controls.Laws.{BucketsAreShown, FoundOnWritten, HomesAreOneList};
+ghost use Rattle.rkyv_table.specs.Controls.Laws.{BucketsAreProbed, FoundOnWritten, HomesAreOneList};
 ghost use Rattle.rkyv_table.specs.Controls.Laws.{HomesExist, MarkedAreWalked, SearchIsBounded};
 ghost use Rattle.rkyv_table.specs.Controls.Laws.{StridesCover, WalkedAreFull, WrittenAreAccepted};
 ghost use Rattle.rkyv_table.specs.Controls.Laws.{WrittenAreOneList};
@@ -12,9 +12,9 @@ pub fn strides_cover()
     ensures { StridesCover }
 {}
 
-/// States that the strides of a hash show every bucket.
-pub fn buckets_are_shown()
-    ensures { BucketsAreShown }
+/// States that the strides of a hash probe every bucket.
+pub fn buckets_are_probed()
+    ensures { BucketsAreProbed }
 {}
 
 /// States that each of fewer items than buckets has a home bucket.

@@ -1,13 +1,13 @@
 //! Placing items: the home bucket of each item, and its control bytes.
 //!
-//! The home bucket of an item is the first empty bucket that its hash shows.
+//! The home bucket of an item is the first empty bucket that its hash probes.
 ghost use Rattle.std.specs.Prelude.{IfErr, IfOk, IsOk, Some, [], length, ◌%◌, ◌+◌, ◌<◌, ◌≡◌, ◌≤◌};
 ghost use Rattle.std.specs.List.{find};
 ghost use Rattle.rkyv_table.specs.Controls.ControlBytes.{HasRoom, empty_place, fresh_controls};
 ghost use Rattle.rkyv_table.specs.Controls.ControlBytes.{is_empty_at, with_control};
 ghost use Rattle.rkyv_table.specs.Controls.Numbers.{tag};
 ghost use Rattle.rkyv_table.specs.Controls.Placing.{IsWrapped, Written};
-ghost use Rattle.rkyv_table.specs.Controls.Probe.{shown};
+ghost use Rattle.rkyv_table.specs.Controls.Probe.{probed};
 
 use crate::controls::numbers::{bucket_of, tag};
 use crate::controls::probe::Probe;
@@ -29,7 +29,7 @@ fn first_empty<G: GroupKind>(controls: &[u8], pos: usize) -> Option<usize>
     None
 }
 
-/// Sets the control bytes of the first empty bucket that a hash shows, and returns the bucket.
+/// Sets the control bytes of the first empty bucket that a hash probes, and returns the bucket.
 ///
 /// The tag of the hash is written at the bucket's index, and at the mirrored index if there is one.
 ///
@@ -41,7 +41,7 @@ fn first_empty<G: GroupKind>(controls: &[u8], pos: usize) -> Option<usize>
 pub fn place_one<G: GroupKind>(controls: &mut [u8], cap: usize, hash: u64) -> usize
     requires repeats { IsWrapped cap controls.old }
     requires room { HasRoom cap controls.old }
-    ensures first { find (is_empty_at controls.old) (shown hash cap) ≡ Some result }
+    ensures first { find (is_empty_at controls.old) (probed hash cap) ≡ Some result }
     ensures after { controls.new ≡ with_control controls.old cap result (tag hash) }
 {
     place_from::<G>(controls, cap, (hash % cap as u64) as usize, hash)
@@ -61,7 +61,7 @@ pub fn place_from<G: GroupKind>(controls: &mut [u8], cap: usize, start: usize, h
     requires repeats { IsWrapped cap controls.old }
     requires room { HasRoom cap controls.old }
     requires begun { start ≡ hash % cap }
-    ensures first { find (is_empty_at controls.old) (shown hash cap) ≡ Some result }
+    ensures first { find (is_empty_at controls.old) (probed hash cap) ≡ Some result }
     ensures after { controls.new ≡ with_control controls.old cap result (tag hash) }
 {
     for pos in Probe::starting_at(start, cap) {

@@ -7,8 +7,8 @@ ghost use Rattle.rkyv_base.specs.Empty.{unit_format};
 ghost use Rattle.rkyv_base.specs.Pairs.{pair_format, written_as};
 ghost use Rattle.rkyv_base.specs.Scalar.{scalar_format};
 ghost use Rattle.rkyv_base.specs.TextWriting.{text_format};
-ghost use Rattle.rkyv_table.specs.Table.FirstItem.{AnswersFirst};
-ghost use Rattle.rkyv_table.specs.Table.Lending.{lent_represents};
+ghost use Rattle.rkyv_table.specs.Table.FirstItem.{LookupFindsFirst};
+ghost use Rattle.rkyv_table.specs.Table.Lending.{value_represents};
 ghost use Rattle.rkyv_table.specs.Table.OneWay.{WritesOneWay};
 ghost use Rattle.rkyv_table.specs.Table.TableFormat.{table_format};
 ghost use Rattle.rkyv_table.specs.Table.WalkLaws.{WalkVisitsHomes};
@@ -37,9 +37,9 @@ pub fn walk_visits_homes()
 ///
 /// It returns `None` if and only if no item is accepted. Each accepted item is under the hash
 /// of the lookup.
-pub fn lookups_answer_the_first<W: Width, U: Archive<W>, X: Lend<U>>()
+pub fn lookups_find_the_first<W: Width, U: Archive<W>, X: Lend<U>>()
     ensures { (load_factor : ℕ × ℕ) →
-        AnswersFirst W.word U.Archived.spec (lent_represents X.lent
+        LookupFindsFirst W.word U.Archived.spec (value_represents X.lent
         U.Archived.represents) load_factor }
 {}
 

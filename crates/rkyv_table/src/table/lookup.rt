@@ -10,7 +10,7 @@ ghost use Rattle.std.specs.Prelude.{◌^◌, ◌≤◌};
 ghost use Rattle.rkyv_base.specs.declared.view.View.{View};
 ghost use Rattle.rkyv_scan.specs.Groups.{generic_kind};
 ghost use Rattle.rkyv_table.specs.Table.Reading.{CountsStrides, FindsItem, FindsItemPos};
-ghost use Rattle.rkyv_table.specs.Table.Reading.{IsFullIn, IsItemIn, MayAsk};
+ghost use Rattle.rkyv_table.specs.Table.Reading.{IsFullIn, IsItemIn, CanCompare};
 
 use crate::controls::find::{Strides, find_from};
 use crate::table::ArchivedHashTable;
@@ -31,7 +31,7 @@ impl<'a, T: Element, W: Width> ArchivedHashTable<'a, T, W> {
         strides: &mut Strides,
     ) -> Option<View<'a, T>>
         requires room { strides.old ≤ 2 ^ 63 }
-        requires callable { MayAsk (F.pre cmp) self }
+        requires callable { CanCompare (F.pre cmp) self }
         ensures found { FindsItem (F.post cmp) G.kind self.entry hash result }
         ensures counts { CountsStrides (F.post cmp) G.kind self.entry hash
             strides.old strides.new }
@@ -44,7 +44,7 @@ impl<'a, T: Element, W: Width> ArchivedHashTable<'a, T, W> {
             self.start(hash),
             |bucket|
                 requires full { IsFullIn self bucket }
-                requires callable { MayAsk (F.pre cmp) self }
+                requires callable { CanCompare (F.pre cmp) self }
                 ensures { (v : View T) × IsItemIn self.entry bucket v × F.post cmp v result }
             { cmp(self.item(bucket)) },
             strides,
@@ -87,7 +87,7 @@ impl<'a, T: Element, W: Width> ArchivedHashTable<'a, T, W> {
     /// ```
     #[inline]
     pub fn get_with<F: Fn(View<'a, T>) -> bool>(self, hash: u64, cmp: F) -> Option<View<'a, T>>
-        requires callable { MayAsk (F.pre cmp) self }
+        requires callable { CanCompare (F.pre cmp) self }
         ensures { FindsItem (F.post cmp) generic_kind self.entry hash result }
     {
         self.get_by::<paired::Group, F>(hash, cmp)
@@ -104,7 +104,7 @@ impl<'a, T: Element, W: Width> ArchivedHashTable<'a, T, W> {
     /// # Examples
     ///
     /// ```rust
-    /// match table.get_by::<G, _>(hash, |item| is_accepted(item.to_native(), wanted)) {
+    /// match table.get_by::<G, _>(hash, |item| is_accepted(item.to_native(), accepted)) {
     ///     Some(item) => Ok(Some(item.to_native())),
     ///     None => Ok(None),
     /// }
@@ -115,7 +115,7 @@ impl<'a, T: Element, W: Width> ArchivedHashTable<'a, T, W> {
         hash: u64,
         cmp: F,
     ) -> Option<View<'a, T>>
-        requires callable { MayAsk (F.pre cmp) self }
+        requires callable { CanCompare (F.pre cmp) self }
         ensures { FindsItem (F.post cmp) G.kind self.entry hash result }
     {
         self.find_by::<G, F>(hash, cmp, &mut Strides::new())
@@ -133,14 +133,14 @@ impl<'a, T: Element, W: Width> ArchivedHashTable<'a, T, W> {
     ///
     /// ```rust
     /// // Returns the position of a number that is found under a hash.
-    /// fn pos_of_number(bytes: &[u8], hash: u64, wanted: u8) -> Result<Option<u64>, VerifyError> {
+    /// fn pos_of_number(bytes: &[u8], hash: u64, number: u8) -> Result<Option<u64>, VerifyError> {
     ///     let table = ArchivedHashTable::of(access::<TableOf<u8>>(bytes)?);
-    ///     Ok(table.get_pos_with(hash, |item| item.to_native() == wanted))
+    ///     Ok(table.get_pos_with(hash, |item| item.to_native() == number))
     /// }
     /// ```
     #[inline]
     pub fn get_pos_with<F: Fn(View<'a, T>) -> bool>(self, hash: u64, cmp: F) -> Option<u64>
-        requires callable { MayAsk (F.pre cmp) self }
+        requires callable { CanCompare (F.pre cmp) self }
         ensures { FindsItemPos (F.post cmp) generic_kind self.entry hash result }
     {
         found_pos(self.get_with(hash, cmp))
@@ -168,7 +168,7 @@ impl<'a, T: Element, W: Width> ArchivedHashTable<'a, T, W> {
     where
         F: Fn(View<'a, T>) -> bool,
         requires room { strides.old ≤ 2 ^ 63 }
-        requires callable { MayAsk (F.pre cmp) self }
+        requires callable { CanCompare (F.pre cmp) self }
         ensures found { FindsItem (F.post cmp) generic_kind self.entry hash result }
         ensures counts { CountsStrides (F.post cmp) generic_kind self.entry hash
             strides.old strides.new }

@@ -4,11 +4,11 @@
 //! - `misplaced_up_to_by` ends at a limit on the strides that are read.
 ghost use Rattle.std.specs.Prelude.{IfSome, false, not, true, ◌+◌, ◌<◌, ◌^◌, ◌≡◌, ◌≤◌, ◌⊎◌};
 ghost use Rattle.rkyv_scan.specs.Groups.{generic_kind};
-ghost use Rattle.rkyv_table.specs.Table.Misplaced.{is_answer};
+ghost use Rattle.rkyv_table.specs.Table.Misplaced.{is_found_at};
 ghost use Rattle.rkyv_table.specs.Table.MisplacedIn.{ComparesItems, CountsMisplaced, CountsOwn};
 ghost use Rattle.rkyv_table.specs.Table.MisplacedIn.{CountsUpTo, MayCompare, ReadsUpTo};
-ghost use Rattle.rkyv_table.specs.Table.MisplacedIn.{TellsMisplaced, table_len};
-ghost use Rattle.rkyv_table.specs.Table.Reading.{IsFullIn, IsItemIn, MayAsk};
+ghost use Rattle.rkyv_table.specs.Table.MisplacedIn.{ReturnsMisplaced, table_len};
+ghost use Rattle.rkyv_table.specs.Table.Reading.{IsFullIn, IsItemIn, CanCompare};
 
 use crate::controls::find::{Strides, find_from};
 use crate::table::ArchivedHashTable;
@@ -19,7 +19,7 @@ use rkyv_base::width::Width;
 /// Returns `true` if a lookup found another bucket, or none.
 #[inline]
 pub fn finds_another_or_none(bucket: usize, found: Option<usize>) -> bool
-    ensures { result ≡ not (is_answer bucket found) }
+    ensures { result ≡ not (is_found_at bucket found) }
 {
     match found {
         Some(found) => bucket != found,
@@ -55,9 +55,9 @@ impl<'a, T: Element, W: Width> ArchivedHashTable<'a, T, W> {
     ) -> bool
         requires item { IsItemIn self bucket item }
         requires room { strides.old ≤ 2 ^ 63 }
-        requires hashable { MayAsk (H.pre hash_of.now) self }
+        requires hashable { CanCompare (H.pre hash_of.now) self }
         requires comparable { MayCompare (S.pre same.now) self }
-        ensures tells { TellsMisplaced (H.post hash_of.now) (S.post same.now) self.entry bucket
+        ensures exact { ReturnsMisplaced (H.post hash_of.now) (S.post same.now) self.entry bucket
             result }
         ensures counts { CountsOwn (H.post hash_of.now) (S.post same.now) self.entry bucket
             strides.old strides.new }
@@ -116,7 +116,7 @@ impl<'a, T: Element, W: Width> ArchivedHashTable<'a, T, W> {
         hash_of: H,
         same: S,
     ) -> usize
-        requires hashable { MayAsk (H.pre hash_of) self }
+        requires hashable { CanCompare (H.pre hash_of) self }
         requires comparable { MayCompare (S.pre same) self }
         ensures counts { CountsMisplaced (H.post hash_of) (S.post same) generic_kind
             self.entry result }
@@ -173,7 +173,7 @@ impl<'a, T: Element, W: Width> ArchivedHashTable<'a, T, W> {
     where
         H: Fn(View<'a, T>) -> u64,
         S: Fn(View<'a, T>, View<'a, T>) -> bool,
-        requires hashable { MayAsk (H.pre hash_of) self }
+        requires hashable { CanCompare (H.pre hash_of) self }
         requires comparable { MayCompare (S.pre same) self }
         requires room { strides.old ≤ 2 ^ 63 }
         ensures counts { CountsUpTo (H.post hash_of) (S.post same) self.entry limit strides.old

@@ -8,7 +8,7 @@ ghost use Rattle.std.specs.Iterator.{at_most};
 ghost use Rattle.rkyv_base.specs.View.{IsValidView, archive_of, pos_of};
 ghost use Rattle.rkyv_table.specs.Table.Header.{len_at};
 ghost use Rattle.rkyv_table.specs.Table.Hints.{HintsExactly};
-ghost use Rattle.rkyv_table.specs.Table.RawItems.{AllValid, TakesPos};
+ghost use Rattle.rkyv_table.specs.Table.RawItems.{AllValid, YieldsPos};
 ghost use Rattle.rkyv_table.specs.Table.Positions.{item_positions};
 ghost use Rattle.rkyv_table.specs.Table.Reading.{table_bytes, table_pos};
 
@@ -114,7 +114,7 @@ impl<'a, T: Element> RawIter<'a, T> {
 impl<'a, T> Iterator for RawIter<'a, T> {
     type Item = u64;
 
-    ghost next_gives = { TakesPos };
+    ghost next_gives = { YieldsPos };
 
     ghost remaining = { λ left. at_most (length left.positions) };
 
@@ -155,13 +155,13 @@ impl<'a, T: Element, W: Width> ArchivedHashTable<'a, T, W> {
     ///
     /// ```rust
     /// // Returns the first four results of a walk.
-    /// fn four_asks<T: Element>(bytes: &[u8]) -> Result<[Option<u64>; 4], VerifyError> {
+    /// fn four_steps<T: Element>(bytes: &[u8]) -> Result<[Option<u64>; 4], VerifyError> {
     ///     let table = ArchivedHashTable::of(access::<TableOf<T>>(bytes)?);
     ///     let mut rest = table.raw_iter();
     ///     Ok([rest.next(), rest.next(), rest.next(), rest.next()])
     /// }
     ///
-    /// let given = four_asks::<u8>(&two_archived()).ok();
+    /// let given = four_steps::<u8>(&two_archived()).ok();
     /// assert_eq!(rt; given, Some([Some(2), Some(0), None, None]));
     /// ```
     #[inline]

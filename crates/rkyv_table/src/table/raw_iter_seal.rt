@@ -28,13 +28,13 @@ ghost use Rattle.rkyv_table.specs.Table.SealedItems.{
   SealedBy,
   StaysThere,
   StepsAndWrites,
-  TakesPosition,
+  YieldsPosition,
   WrittenBy,
   cursor_buckets_left,
   cursor_bytes,
   cursor_len,
 };
-ghost use Rattle.rkyv_table.specs.Table.Bare.{LendsFound, MayAskOf, table_in};
+ghost use Rattle.rkyv_table.specs.Table.Bare.{LendsFound, CanCompareOf, table_in};
 ghost use Rattle.rkyv_table.specs.Table.RawItems.{pos_before};
 ghost use Rattle.rkyv_table.specs.Table.SealedLookup.{IsTableSeal};
 ghost use Rattle.rkyv_base.specs.ElementSpec.{Viewable};
@@ -140,7 +140,7 @@ impl<'a, T: Element> RawIterSeal<'a, T> {
         ensures archive { SameArchive self.old self.new }
         ensures counts { CountsDown self.old result self.new }
         ensures inside { IfSome result (λ q. q + T.spec.size ≤ length (cursor_bytes self.old)) }
-        ensures takes { TakesPosition T.spec self.old result self.new }
+        ensures takes { YieldsPosition T.spec self.old result self.new }
     {
         match self.first() {
             Some(first) => {
@@ -276,7 +276,7 @@ impl<'a, T> RawIterSeal<'a, T> {
             ≡ with_value N.encoding (cursor_bytes self.old) (pos + offset) value }
         ensures sealed { Sealed (cursor_bytes self.old) (pos + offset) (N.spec.size)
             (cursor_bytes self.new) }
-        ensures holds { Keeps N.spec (cursor_bytes self.old)
+        ensures is_valid { Keeps N.spec (cursor_bytes self.old)
             (cursor_bytes self.new) (pos + offset) }
     {
         let bytes = &mut *self.archive;
@@ -419,7 +419,7 @@ impl<'a, T: Element, W: Width> ArchivedHashTable<'a, T, W> {
         write: G,
     ) -> Option<R>
         requires table { Viewable (table_spec W.word T.spec) archive.old pos }
-        requires callable { MayAskOf (F.pre cmp) W.word T.spec archive.old pos }
+        requires callable { CanCompareOf (F.pre cmp) W.word T.spec archive.old pos }
         requires writable { MaySealIn G.pre T.spec write archive.old }
         ensures { LendsFound (table_in W.Word T.HasSpec archive.old pos) (F.post cmp)
             (SealedBy G.post write) hash result archive.new }

@@ -4,7 +4,7 @@
 //! - `found_with` of `raw_iter_seal` takes bytes and a closure.
 ghost use Rattle.std.specs.Prelude.{IfSome};
 ghost use Rattle.rkyv_base.specs.Seal.{LiesIn};
-ghost use Rattle.rkyv_table.specs.Table.SealedLookup.{IsItemSeal, IsTableSeal, MayAskAt};
+ghost use Rattle.rkyv_table.specs.Table.SealedLookup.{IsItemSeal, IsTableSeal, CanCompareAt};
 ghost use Rattle.rkyv_table.specs.Table.SealedLookup.{SealsFirst, SealsFound, pos_of_seal};
 
 use crate::table::{ArchivedHashTable, TableOf};
@@ -28,10 +28,10 @@ impl<'a, T: Element, W: Width> ArchivedHashTable<'a, T, W> {
     /// # Examples
     ///
     /// ```rust
-    /// match ArchivedHashTable::get_seal_with(whole, hash, |item| item.to_native() == wanted) {
+    /// match ArchivedHashTable::get_seal_with(whole, hash, |item| item.to_native() == old) {
     ///     Some(mut seal) => {
     ///         let before = seal.to_native();
-    ///         seal.set(number);
+    ///         seal.set(new);
     ///         Ok(Some((before, seal.to_native())))
     ///     }
     ///     None => Ok(None),
@@ -44,7 +44,7 @@ impl<'a, T: Element, W: Width> ArchivedHashTable<'a, T, W> {
         cmp: F,
     ) -> Option<Seal<'a, T>>
         requires table { IsTableSeal W.word T.spec this }
-        requires callable { MayAskAt (F.pre cmp) W.word T.spec this }
+        requires callable { CanCompareAt (F.pre cmp) W.word T.spec this }
         ensures inside { IfSome result (LiesIn T.spec) }
         ensures walked { IfSome result (IsItemSeal W.word T.spec this.entry) }
         ensures answer { SealsFound (F.post cmp) W.word T.spec this.entry hash

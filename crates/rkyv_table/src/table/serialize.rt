@@ -168,7 +168,7 @@ fn serialize_source<
 impl<'a, T: HasSpec, W: Width> ArchivedHashTable<'a, T, W> {
     /// Writes a table of `len` items, each under the next of the hashes, and returns its resolver.
     ///
-    /// Each item goes into its home bucket: the first bucket that its hash shows
+    /// Each item goes into its home bucket: the first bucket that its hash probes
     /// and that no earlier item has. The layout is rkyv's:
     ///
     /// 1. the parts of the items, in bucket order,

@@ -2,7 +2,7 @@
 
 ghost use Rattle.std.specs.Prelude.{◌≡◌, ℕ, ◌<◌, [], MatchResult, None, replicate};
 ghost use Rattle.rkyv_table.specs.Controls.ControlBytes.{fresh_controls};
-ghost use Rattle.rkyv_table.specs.Table.Input.{Input, TakesItems, from_both, from_iter};
+ghost use Rattle.rkyv_table.specs.Table.Input.{Input, PlacesInput, from_both, from_iter};
 
 use crate::table::take::{expect_none, take_pairs};
 use crate::table::take_two::take_two;
@@ -16,7 +16,7 @@ pub(crate) trait ItemSource<X>: Drop {
     // The input pairs of hash and item.
     ghost input: { Self → Input (ℕ × X) };
 
-    // Takes `len` pairs, and puts each item into the first empty bucket that its hash shows.
+    // Takes `len` pairs, and puts each item into the first empty bucket that its hash probes.
     // An `Err` has the number of input pairs, counted up to `len + 1`.
     fn place_all<G: GroupKind>(
         self,
@@ -29,7 +29,7 @@ pub(crate) trait ItemSource<X>: Drop {
         requires room { len < cap }
         requires fresh { controls.old ≡ fresh_controls cap }
         requires empty { slots.old ≡ replicate cap None }
-        ensures { TakesItems (input self) len cap slots.new controls.new result };
+        ensures { PlacesInput (input self) len cap slots.new controls.new result };
 
     // Checks that the input is empty. An `Err` has the number of input pairs, counted up to 1.
     fn expect_none(self) -> Result<(), usize>

@@ -7,7 +7,7 @@ ghost use Rattle.std.specs.Prelude.{MatchResult, None, Some, replicate, IfSome, 
 ghost use Rattle.std.specs.Iterator.{Drains};
 ghost use Rattle.rkyv_table.specs.Controls.ControlBytes.{fresh_controls};
 ghost use Rattle.rkyv_table.specs.Table.Counting.{YieldsOtherCount};
-ghost use Rattle.rkyv_table.specs.Table.Input.{TakesItems, from_iter};
+ghost use Rattle.rkyv_table.specs.Table.Input.{PlacesInput, from_iter};
 ghost use Rattle.rkyv_table.specs.Table.PlacedItems.{HasPlace, Placed};
 
 use crate::controls::place::place_from;
@@ -37,7 +37,7 @@ fn put<X: Drop>(slots: &mut [Option<X>], bucket: usize, item: X)
     slots[bucket] = Some(item);
 }
 
-// Puts an item into the first empty bucket that its hash shows. The hash is `start` modulo `cap`.
+// Puts an item into the first empty bucket that its hash probes. The hash is `start` modulo `cap`.
 #[inline]
 pub(crate) fn place_item<G: GroupKind, X: Drop>(
     controls: &mut [u8],
@@ -56,7 +56,7 @@ pub(crate) fn place_item<G: GroupKind, X: Drop>(
     put(slots, bucket, item);
 }
 
-// Takes `len` pairs, and puts each item into the first empty bucket that its hash shows. An `Err`
+// Takes `len` pairs, and puts each item into the first empty bucket that its hash probes. An `Err`
 // has the number of pairs, counted up to `len + 1`.
 pub(crate) fn take_pairs<G: GroupKind, X: Drop, I: Iterator<Item = (u64, X)>>(
     pairs: I,
@@ -69,7 +69,7 @@ pub(crate) fn take_pairs<G: GroupKind, X: Drop, I: Iterator<Item = (u64, X)>>(
     requires room { len < cap }
     requires fresh { controls.old ≡ fresh_controls cap }
     requires empty { slots.old ≡ replicate cap None }
-    ensures { TakesItems (from_iter I.next_gives pairs) len cap slots.new controls.new result }
+    ensures { PlacesInput (from_iter I.next_gives pairs) len cap slots.new controls.new result }
 {
     let mut rest = pairs;
     let reciprocal = Reciprocal::new(cap as u64);

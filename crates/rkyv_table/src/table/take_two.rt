@@ -5,23 +5,23 @@
 ghost use Rattle.std.specs.Prelude.{◌≡◌, ◌+◌, ◌<◌, ◌≤◌, ◌^◌, None, replicate};
 ghost use Rattle.rkyv_table.specs.Controls.ControlBytes.{fresh_controls};
 ghost use Rattle.rkyv_table.specs.Table.Counting.{CountedOn};
-ghost use Rattle.rkyv_table.specs.Table.Input.{TakesItems, from_both};
+ghost use Rattle.rkyv_table.specs.Table.Input.{PlacesInput, from_both};
 
 use crate::controls::reciprocal::Reciprocal;
 use crate::table::take::{next_item, place_item};
 use rkyv_scan::simd::GroupKind;
 
-// Counts the items that remain, on from `seen` and up to `len + 1`.
-fn count_rest<I: Iterator>(rest: I, seen: usize, len: usize) -> usize
+// Counts the items that remain, on from `before` and up to `len + 1`.
+fn count_rest<I: Iterator>(rest: I, before: usize, len: usize) -> usize
 where
     I::Item: Drop,
     requires ready { I.can_next rest }
-    requires below { seen ≤ len }
+    requires below { before ≤ len }
     requires fits { len + 1 < 2 ^ 64 }
-    ensures { CountedOn I.next_gives len rest seen result }
+    ensures { CountedOn I.next_gives len rest before result }
 {
     let mut others = rest;
-    for count in seen..len + 1 {
+    for count in before..len + 1 {
         match next_item(&mut others) {
             Some(_) => {}
             None => return count,
@@ -31,7 +31,7 @@ where
 }
 
 // Takes `len` items and their hashes, and puts each item into the first empty bucket that its hash
-// shows. An `Err` has the number of items, counted up to `len + 1`. If that is `len`,
+// probes. An `Err` has the number of items, counted up to `len + 1`. If that is `len`,
 // it has the number of hashes.
 pub(crate) fn take_two<G: GroupKind, X: Drop, I: Iterator<Item = X>, J: Iterator<Item = u64>>(
     items: I,
@@ -45,7 +45,7 @@ pub(crate) fn take_two<G: GroupKind, X: Drop, I: Iterator<Item = X>, J: Iterator
     requires room { len < cap }
     requires fresh { controls.old ≡ fresh_controls cap }
     requires empty { slots.old ≡ replicate cap None }
-    ensures { TakesItems (from_both I.next_gives J.next_gives items hashes) len cap slots.new
+    ensures { PlacesInput (from_both I.next_gives J.next_gives items hashes) len cap slots.new
         controls.new result }
 {
     let mut rest = items;

@@ -22,8 +22,8 @@ enum Ending {
     Other,
 }
 
-fn ending_of<R: Drop>(answer: Result<R, WriteError<NoMemory>>) -> Ending {
-    match answer {
+fn ending_of<R: Drop>(outcome: Result<R, WriteError<NoMemory>>) -> Ending {
+    match outcome {
         Ok(_) => Ending::Written,
         Err(WriteError::Memory) => Ending::Memory,
         Err(WriteError::Writer(NoMemory)) => Ending::Writer,

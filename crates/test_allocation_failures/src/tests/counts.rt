@@ -51,7 +51,7 @@ fn writes_table<U: Serialize<VecWriter, Narrow>>(alloc: Global, items: &[U]) -> 
 // Writes the table of an item to a writer that fails, and returns whether that is the error.
 fn fails_to_write_table<U: Serialize<BrokenWriter, Narrow>>(alloc: Global, item: &U) -> bool {
     let mut writer = BrokenWriter::new(0);
-    let answer = ArchivedHashTable::<U::Archived, Narrow>::serialize_from_iter::<
+    let outcome = ArchivedHashTable::<U::Archived, Narrow>::serialize_from_iter::<
         BrokenWriter,
         U,
         &U,
@@ -65,7 +65,7 @@ fn fails_to_write_table<U: Serialize<BrokenWriter, Narrow>>(alloc: Global, item:
         (7, 8),
         &mut writer,
     );
-    matches!(answer, Err(WriteError::Writer(Broken))) && writer.failures() == 1
+    matches!(outcome, Err(WriteError::Writer(Broken))) && writer.failures() == 1
 }
 
 #[test]

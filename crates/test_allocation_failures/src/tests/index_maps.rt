@@ -80,7 +80,7 @@ fn behind_a_nine(alloc: Global) -> Option<(bool, bool)> {
     let pairs = four(alloc)?;
     let mut writer = VecWriter::new(alloc);
     append(&mut writer, &[9]).ok()?;
-    let answer = ArchivedIndexMap::<i8, i8, FxHasher64, Narrow>::serialize_from_iter::<
+    let outcome = ArchivedIndexMap::<i8, i8, FxHasher64, Narrow>::serialize_from_iter::<
         VecWriter,
         i8,
         i8,
@@ -90,7 +90,7 @@ fn behind_a_nine(alloc: Global) -> Option<(bool, bool)> {
     >(alloc, pairs.into_iter(), 4, (7, 8), &mut writer);
     let nothing = writer.bytes() == [9].as_slice();
     let kept = matches!(writer.bytes(), [9, ..]);
-    match answer {
+    match outcome {
         Ok(_) => Some((true, kept)),
         Err(WriteError::Memory) => Some((false, nothing)),
         Err(WriteError::Writer(NoMemory)) => Some((false, kept)),

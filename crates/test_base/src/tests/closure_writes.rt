@@ -1,7 +1,7 @@
 //! Tests of archives whose bytes are passed to a closure.
 
 ghost use Rattle.std.specs.Prelude.{◌≡◌, ◌+◌, ◌-◌, ◌≤◌, IsOk, MatchResult, length};
-ghost use Rattle.rkyv_base.specs.Access.{Accepted};
+ghost use Rattle.rkyv_base.specs.Access.{IsValidArchive};
 ghost use Rattle.rkyv_base.specs.Sealing.{with_value};
 
 use rkyv_base::{
@@ -15,7 +15,7 @@ fn root_written<W: Width, N: Scalar>(bytes: &mut [u8], value: N) -> Result<(), V
         (λ _. bytes.new ≡ with_value N.encoding bytes.old
         (length bytes.old - N.spec.size) value)
         (λ _. bytes.new ≡ bytes.old) }
-    ensures accepts { Accepted W.LIMIT N.spec bytes.old → IsOk result }
+    ensures accepts { IsValidArchive W.LIMIT N.spec bytes.old → IsOk result }
 {
     access_mut_with_in::<W, N, (), _>(
         bytes,
@@ -47,31 +47,31 @@ fn value_written<N: Scalar>(bytes: &mut [u8], pos: u64, value: N)
 #[test]
 fn an_accepted_root_is_written(rt: HostRuntime) {
     let mut bytes = [1, 0, 0, 0];
-    let told = access_mut_with::<u32, u64, _>(&mut bytes, |archive: &mut [u8], pos: u64| {
+    let returned = access_mut_with::<u32, u64, _>(&mut bytes, |archive: &mut [u8], pos: u64| {
         archive.fill(7);
         pos
     });
-    expect_eq!(rt; (told.ok(), bytes), (Some(0), [7; 4]));
+    expect_eq!(rt; (returned.ok(), bytes), (Some(0), [7; 4]));
 }
 
 #[test]
 fn invalid_archive_is_unchanged(rt: HostRuntime) {
     let mut bytes = [1, 0, 0];
-    let told = access_mut_with::<u32, (), _>(&mut bytes, |archive: &mut [u8], _pos: u64| {
+    let returned = access_mut_with::<u32, (), _>(&mut bytes, |archive: &mut [u8], _pos: u64| {
         archive.fill(7);
     });
-    expect_eq!(rt; (told.is_err(), bytes), (true, [1, 0, 0]));
+    expect_eq!(rt; (returned.is_err(), bytes), (true, [1, 0, 0]));
 }
 
 #[test]
 fn callers_write_exact_bytes(rt: HostRuntime) {
     let mut bytes = [9; 6];
     value_written(&mut bytes, 1, 16_909_060u32);
-    let refused = root_written::<Narrow, u32>(&mut bytes, 7).is_err();
-    let refused_bytes = bytes;
+    let failed = root_written::<Narrow, u32>(&mut bytes, 7).is_err();
+    let bytes_after_failure = bytes;
     let written = root_written::<Wide, u16>(&mut bytes, 7).is_ok();
     expect_eq!(rt;
-        (refused, refused_bytes, written, bytes),
+        (failed, bytes_after_failure, written, bytes),
         (true, [9, 4, 3, 2, 1, 9], true, [9, 4, 3, 2, 7, 0])
     );
 }

@@ -20,7 +20,7 @@ fn mismatch(expected: usize, actual: usize) -> IteratorLengthMismatch {
 }
 
 #[test]
-fn write_errors_are_shown(rt: HostRuntime) {
+fn write_errors_have_messages(rt: HostRuntime) {
     let alloc = rt.alloc();
     let shown = [
         write_shows(
@@ -52,7 +52,7 @@ fn write_errors_are_shown(rt: HostRuntime) {
 }
 
 #[test]
-fn verify_errors_are_shown(rt: HostRuntime) {
+fn verify_errors_have_messages(rt: HostRuntime) {
     let alloc = rt.alloc();
     let shown = [
         shows(
@@ -99,7 +99,7 @@ fn verify_errors_are_shown(rt: HostRuntime) {
 }
 
 #[test]
-fn read_errors_are_shown(rt: HostRuntime) {
+fn read_errors_have_messages(rt: HostRuntime) {
     let shown = [
         shows(rt.alloc(), ReadError::Memory, "no memory"),
         shows(rt.alloc(), ReadError::Refused(7), "refused 7"),
@@ -108,7 +108,7 @@ fn read_errors_are_shown(rt: HostRuntime) {
 }
 
 #[test]
-fn a_mismatch_is_shown(rt: HostRuntime) {
+fn a_mismatch_has_a_message(rt: HostRuntime) {
     let text =
         "iterator claimed that it contained 2 elements, but yielded 3 items during iteration";
     assert!(rt; shows(rt.alloc(), mismatch(2, 3), text));

@@ -9,7 +9,7 @@ ghost use Rattle.rkyv_base.specs.Lemmas.Numbers.{unsigned_codes};
 ghost use Rattle.rkyv_base.specs.Scalar.{scalar_spec};
 ghost use Rattle.rkyv_base.specs.Lemmas.Scalar.{scalar_element, scalar_laws};
 
-use crate::tests::refusals::{Refusal, refused};
+use crate::tests::access_failures::{Failure, access_failure};
 use rkyv_base::access::access;
 use rkyv_base::element::HasSpec;
 use rkyv_base::{
@@ -128,7 +128,7 @@ fn an_own_scalar_is_archived(rt: HostRuntime) {
 }
 
 // Returns `true` if archiving a value fails with `Refused(0)`.
-fn is_refused<V: Serialize<VecWriter, Narrow>>(alloc: Global, value: &V) -> bool {
+fn write_fails<V: Serialize<VecWriter, Narrow>>(alloc: Global, value: &V) -> bool {
     matches!(to_bytes(alloc, value), Err(WriteError::Refused(0)))
 }
 
@@ -140,21 +140,21 @@ fn rejects_entries_that_are_too_large(rt: HostRuntime) {
         <Entry<Huge, u16> as Element>::size(),
         <Entry<Huge, u16> as Element>::align(),
     ];
-    let refusals = [
-        refused::<Narrow, Entry<Huge, ()>>(&[]),
-        refused::<Narrow, Entry<Huge, u16>>(&[]),
+    let access_failures = [
+        access_failure::<Narrow, Entry<Huge, ()>>(&[]),
+        access_failure::<Narrow, Entry<Huge, u16>>(&[]),
     ];
-    let refused = [
-        is_refused(rt.alloc(), &(Huge, 7u16)),
-        is_refused(rt.alloc(), &(1u8, (7u16, Huge))),
+    let fails = [
+        write_fails(rt.alloc(), &(Huge, 7u16)),
+        write_fails(rt.alloc(), &(1u8, (7u16, Huge))),
     ];
     expect_eq!(rt;
-        (sizes, refusals, refused),
+        (sizes, access_failures, fails),
         (
             [1_073_741_824, 1_073_741_826, 0, 2],
             [
-                Some(Refusal::OutOfRange(-1_073_741_824, 1_073_741_824)),
-                Some(Refusal::Refused(0))
+                Some(Failure::OutOfRange(-1_073_741_824, 1_073_741_824)),
+                Some(Failure::Refused(0))
             ],
             [true; 2]
         )

@@ -1,7 +1,7 @@
 //! Tests of whole archives of numbers and pairs.
 ghost use Rattle.std.specs.Prelude.{IfOk, ◌≡◌};
 
-use crate::tests::refusals::{Refusal, refused};
+use crate::tests::access_failures::{Failure, access_failure};
 use rkyv_base::access::access;
 use rkyv_base::entry::Entry;
 use rkyv_base::errors::WriteError;
@@ -48,19 +48,19 @@ fn pairs_are_read_in_place(rt: HostRuntime) {
 
 #[test]
 fn rejects_invalid_roots(rt: HostRuntime) {
-    let refused = [
-        refused::<Narrow, bool>(&[2]),
-        refused::<Narrow, char>(&[0x00, 0xd8, 0x00, 0x00]),
-        refused::<Narrow, u32>(&[0, 0, 0]),
-        refused::<Narrow, u32>(&[0, 0, 0, 0, 0]),
+    let failure = [
+        access_failure::<Narrow, bool>(&[2]),
+        access_failure::<Narrow, char>(&[0x00, 0xd8, 0x00, 0x00]),
+        access_failure::<Narrow, u32>(&[0, 0, 0]),
+        access_failure::<Narrow, u32>(&[0, 0, 0, 0, 0]),
     ];
     expect_eq!(rt;
-        refused,
+        failure,
         [
-            Some(Refusal::InvalidValue(0)),
-            Some(Refusal::InvalidValue(0)),
-            Some(Refusal::OutOfRange(-1, 4)),
-            Some(Refusal::Unaligned(1, 4))
+            Some(Failure::InvalidValue(0)),
+            Some(Failure::InvalidValue(0)),
+            Some(Failure::OutOfRange(-1, 4)),
+            Some(Failure::Unaligned(1, 4))
         ]
     );
 }

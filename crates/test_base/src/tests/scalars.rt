@@ -1,5 +1,5 @@
 //! Tests of scalars, widths and entries at their limits.
-use crate::tests::refusals::{Refusal, refused};
+use crate::tests::access_failures::{Failure, access_failure};
 use rkyv_base::{
     Element, Entry, Narrow, Scalar, Wide, Width, access_in, to_bytes_in, value_offset, whole_size,
 };
@@ -75,14 +75,14 @@ fn bool_and_char_at_their_limits(rt: HostRuntime) {
         represents_as(alloc, '\u{e000}', &[0, 0xe0, 0, 0]),
         represents_as(alloc, '\u{10ffff}', &[0xff, 0xff, 0x10, 0]),
     ];
-    let refused = [
-        refused::<Narrow, char>(&[0xff, 0xdf, 0, 0]),
-        refused::<Narrow, char>(&[0, 0, 0x11, 0]),
-        refused::<Narrow, char>(&[0xff, 0xff, 0xff, 0xff]),
+    let failure = [
+        access_failure::<Narrow, char>(&[0xff, 0xdf, 0, 0]),
+        access_failure::<Narrow, char>(&[0, 0, 0x11, 0]),
+        access_failure::<Narrow, char>(&[0xff, 0xff, 0xff, 0xff]),
     ];
     expect_eq!(rt;
-        (right, refused),
-        ([true; 6], [Some(Refusal::InvalidValue(0)); 3])
+        (right, failure),
+        ([true; 6], [Some(Failure::InvalidValue(0)); 3])
     );
 }
 
@@ -225,7 +225,7 @@ fn entries_of_every_mix_of_alignments(rt: HostRuntime) {
         laid_out::<Entry<u8, u16>, u8>(),
         laid_out::<u8, Entry<u8, u32>>(),
     ];
-    let wanted = [
+    let expected = [
         (2, 1, 1),
         (4, 2, 2),
         (8, 4, 4),
@@ -248,5 +248,5 @@ fn entries_of_every_mix_of_alignments(rt: HostRuntime) {
         (6, 2, 4),
         (12, 4, 4),
     ];
-    expect_eq!(rt; (laid_out, whole_size::<u64, u8>()), (wanted, 16));
+    expect_eq!(rt; (laid_out, whole_size::<u64, u8>()), (expected, 16));
 }

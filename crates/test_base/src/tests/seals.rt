@@ -9,7 +9,7 @@ ghost use Rattle.rkyv_base.specs.Scalar.{scalar_spec};
 ghost use Rattle.rkyv_base.specs.Sealing.{with_value};
 ghost use Rattle.rkyv_base.specs.ElementSpec.{Viewable};
 
-use crate::tests::refusals::{Refusal, refused_to_write};
+use crate::tests::access_failures::{Failure, access_mut_failure};
 use rkyv_base::access::access;
 use rkyv_base::{
     ArchiveSeal, Entry, Narrow, Seal, Text, VerifyError, View, Wide, Width, access_mut,
@@ -160,18 +160,18 @@ fn archive_seal_returns_the_archive(rt: HostRuntime) {
 #[test]
 fn access_mut_rejects_invalid_roots(rt: HostRuntime) {
     let (mut bytes, mut zeros) = ([2], [0, 0, 0, 0, 0]);
-    let refused = [
-        refused_to_write::<Narrow, bool>(&mut bytes),
-        refused_to_write::<Narrow, u32>(&mut zeros),
-        refused_to_write::<Wide, u64>(&mut zeros),
+    let failure = [
+        access_mut_failure::<Narrow, bool>(&mut bytes),
+        access_mut_failure::<Narrow, u32>(&mut zeros),
+        access_mut_failure::<Wide, u64>(&mut zeros),
     ];
     expect_eq!(rt;
-        (refused, bytes),
+        (failure, bytes),
         (
             [
-                Some(Refusal::InvalidValue(0)),
-                Some(Refusal::Unaligned(1, 4)),
-                Some(Refusal::OutOfRange(-3, 8))
+                Some(Failure::InvalidValue(0)),
+                Some(Failure::Unaligned(1, 4)),
+                Some(Failure::OutOfRange(-3, 8))
             ],
             [2]
         )
@@ -201,13 +201,13 @@ fn inline_text_is_uppercased_in_place(rt: HostRuntime) {
     let mut bytes = [0x68, 0x65, 0x6c, 0x6c, 0x6f, 255, 255, 255, 97];
     let mut full = [0x7a; 8];
     let mut seal = Seal::<Text>::over(&mut bytes, 0);
-    let raised = seal.make_ascii_uppercase();
+    let uppercased = seal.make_ascii_uppercase();
     drop(seal);
     let mut seal = Seal::<Text>::over(&mut full, 0);
-    let full_raised = seal.make_ascii_uppercase();
+    let full_uppercased = seal.make_ascii_uppercase();
     drop(seal);
     expect_eq!(rt;
-        (raised, bytes, full_raised, full),
+        (uppercased, bytes, full_uppercased, full),
         (
             true,
             [0x48, 0x45, 0x4c, 0x4c, 0x4f, 255, 255, 255, 97],
@@ -217,9 +217,9 @@ fn inline_text_is_uppercased_in_place(rt: HostRuntime) {
     );
 }
 
-// Returns two flags: a seal of the text at the root has no text, and it raises the text.
+// Returns two flags: a seal of the text at the root has no text, and it converts the text.
 #[tactic(auto, using(rkyv_base::proofs::SealedText::viewable_sealed))]
-fn raises_elsewhere<W: Width>(bytes: &mut [u8]) -> Result<(bool, bool), VerifyError> {
+fn uppercases_elsewhere<W: Width>(bytes: &mut [u8]) -> Result<(bool, bool), VerifyError> {
     let whole = access_mut_in::<W, Text<W>>(bytes)?;
     let root = whole.pos();
     let mut seal = whole.seal_at::<Text<W>>(root);
@@ -230,10 +230,10 @@ fn raises_elsewhere<W: Width>(bytes: &mut [u8]) -> Result<(bool, bool), VerifyEr
 fn text_out_of_line_stays(rt: HostRuntime) {
     let wonderful = *b"wonderful\0\0\0\x89\0\0\0\xf4\xff\xff\xff";
     let mut bytes = wonderful;
-    let raised = raises_elsewhere::<Narrow>(&mut bytes).ok();
+    let uppercased = uppercases_elsewhere::<Narrow>(&mut bytes).ok();
     let same = is_archived_as(rt.alloc(), &"wonderful", &bytes);
     expect_eq!(rt;
-        (raised, bytes, same),
+        (uppercased, bytes, same),
         (Some((true, false)), wonderful, true)
     );
 }
@@ -253,12 +253,12 @@ fn wide_text_is_uppercased_in_place(rt: HostRuntime) {
         0x77, 0x6f, 0x6e, 0x64, 0x65, 0x72, 0x66, 0x75, 0x6c, 255, 97, 97, 97, 97, 97, 97,
     ];
     let mut seal = Seal::<Text<Wide>>::over(&mut bytes, 0);
-    let is_raised = seal.make_ascii_uppercase();
+    let is_uppercased = seal.make_ascii_uppercase();
     drop(seal);
-    let raised = [
+    let uppercased = [
         0x57, 0x4f, 0x4e, 0x44, 0x45, 0x52, 0x46, 0x55, 0x4c, 255, 97, 97, 97, 97, 97, 97,
     ];
-    expect_eq!(rt; (is_raised, bytes), (true, raised));
+    expect_eq!(rt; (is_uppercased, bytes), (true, uppercased));
 }
 
 #[test]
@@ -267,7 +267,7 @@ fn wide_text_out_of_line_stays(rt: HostRuntime) {
     let mut bytes =
         *b"most wonderful text\0\0\0\0\0\x93\0\0\0\0\0\0\0\xe8\xff\xff\xff\xff\xff\xff\xff";
     expect_eq!(rt;
-        raises_elsewhere::<Wide>(&mut bytes).ok(),
+        uppercases_elsewhere::<Wide>(&mut bytes).ok(),
         Some((true, false))
     );
 }

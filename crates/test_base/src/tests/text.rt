@@ -1,5 +1,5 @@
 //! Tests of text: its bytes, its errors, and reading it in place.
-use crate::tests::refusals::{Refusal, refused};
+use crate::tests::access_failures::{Failure, access_failure};
 use rkyv_base::{
     Archive, Entry, Narrow, Text, TextResolver, VerifyError, Wide, Width, access_in, to_bytes_in,
 };
@@ -81,10 +81,10 @@ fn two_texts_are_one_behind_the_other(rt: HostRuntime) {
     let archived = is_archived_as(rt.alloc(), &("wonderful", "excellent"), &bytes);
     let read = are_root(&bytes, ("wonderful", "excellent"));
     bytes[32] = 0xe4;
-    let refused = refused::<Narrow, Entry<Text, Text>>(&bytes);
+    let failure = access_failure::<Narrow, Entry<Text, Text>>(&bytes);
     expect_eq!(rt;
-        (archived, read, refused),
-        (true, true, Some(Refusal::OutOfRange(0, 9)))
+        (archived, read, failure),
+        (true, true, Some(Failure::OutOfRange(0, 9)))
     );
 }
 
@@ -92,21 +92,21 @@ fn two_texts_are_one_behind_the_other(rt: HostRuntime) {
 fn rejects_invalid_texts(rt: HostRuntime) {
     let mut bytes = *b"wonderful\0\0\0\x89\0\0\0\xf4\xff\xff\xff";
     bytes[0] = 0xff;
-    let refused = [
-        refused::<Narrow, Text>(b"\x89\0\0\0\xf4\xff\xff\xff"),
-        refused::<Narrow, Text>(b"\x88\0\0\0\0\0\0\0"),
-        refused::<Wide, Text<Wide>>(b"\x90\0\0\0\0\0\0\0\0\0\0\0\0\0\0\0"),
-        refused::<Narrow, Text>(&bytes),
-        refused::<Narrow, Text>(b"\xc3\xff\xff\xff\xff\xff\xff\xff"),
+    let failure = [
+        access_failure::<Narrow, Text>(b"\x89\0\0\0\xf4\xff\xff\xff"),
+        access_failure::<Narrow, Text>(b"\x88\0\0\0\0\0\0\0"),
+        access_failure::<Wide, Text<Wide>>(b"\x90\0\0\0\0\0\0\0\0\0\0\0\0\0\0\0"),
+        access_failure::<Narrow, Text>(&bytes),
+        access_failure::<Narrow, Text>(b"\xc3\xff\xff\xff\xff\xff\xff\xff"),
     ];
-    let invalid = Some(Refusal::InvalidValue(0));
+    let invalid = Some(Failure::InvalidValue(0));
     expect_eq!(rt;
-        refused,
+        failure,
         [
-            Some(Refusal::OutOfRange(-12, 9)),
+            Some(Failure::OutOfRange(-12, 9)),
             invalid,
             invalid,
-            Some(Refusal::InvalidValue(12)),
+            Some(Failure::InvalidValue(12)),
             invalid
         ]
     );
@@ -198,7 +198,7 @@ fn wide_characters_are_inline_and_out_of_line(rt: HostRuntime) {
 }
 
 #[test]
-fn a_distance_that_does_not_fit_is_refused(rt: HostRuntime) {
+fn rejects_a_distance_that_does_not_fit(rt: HostRuntime) {
     let (mut local, mut inline, mut wide) = ([0; 8], [0; 8], [0; 16]);
     let overflow = TextResolver { pos: 0 };
     let fits = Archive::<Narrow>::resolve(

@@ -20,8 +20,8 @@ fn vec_writer_stores_the_written_bytes(rt: HostRuntime) {
     let last = append_in::<Wide, VecWriter>(&mut writer, &[5]).is_ok();
     let wide = align_for_in::<Wide, u64, VecWriter>(&mut writer).ok();
     let ends = (writer.pos(), writer.failures());
-    let wanted = [1, 2, 3, 4, 5, 0, 0, 0];
-    let held = writer.bytes() == wanted.as_slice();
+    let expected = [1, 2, 3, 4, 5, 0, 0, 0];
+    let held = writer.bytes() == expected.as_slice();
     let bytes = writer.into_vec();
     expect_eq!(rt;
         (
@@ -42,14 +42,14 @@ fn vec_writer_stores_the_written_bytes(rt: HostRuntime) {
             Some(8),
             (8, 0),
             true,
-            wanted.as_slice()
+            expected.as_slice()
         )
     );
 }
 
 // Returns `true` if a write fails since it would end after the greatest position.
-fn is_too_large<T: Drop>(answer: Result<T, WriteError<NoRoom>>) -> bool {
-    matches!(answer, Err(WriteError::PositionTooLarge))
+fn is_too_large<T: Drop>(outcome: Result<T, WriteError<NoRoom>>) -> bool {
+    matches!(outcome, Err(WriteError::PositionTooLarge))
 }
 
 #[test]
@@ -89,14 +89,14 @@ fn pieces_are_appended_up_to_the_limit(rt: HostRuntime) {
 #[test]
 fn zeros_are_appended_up_to_the_limit(rt: HostRuntime) {
     let mut writer = LateWriter::new(rt.alloc());
-    let refused = is_too_large(align_for::<u64, LateWriter>(&mut writer));
+    let failed = is_too_large(align_for::<u64, LateWriter>(&mut writer));
     let two = align_for::<u16, LateWriter>(&mut writer).ok();
     let none = writer.bytes().len();
     let four = align_for::<u32, LateWriter>(&mut writer).ok();
     let held = writer.bytes() == [0, 0].as_slice();
     let wide = align_for_in::<Wide, u64, LateWriter>(&mut writer).ok();
     expect_eq!(rt;
-        (refused, [two, four, wide], none, held),
+        (failed, [two, four, wide], none, held),
         (
             true,
             [
@@ -111,14 +111,14 @@ fn zeros_are_appended_up_to_the_limit(rt: HostRuntime) {
 }
 
 #[test]
-fn a_root_past_the_limit_is_refused(rt: HostRuntime) {
+fn rejects_a_root_past_the_limit(rt: HostRuntime) {
     let mut writer = LateWriter::new(rt.alloc());
-    let refused = is_too_large(write_root(rt.alloc(), &(1u32, 2u32), &mut writer));
+    let failed = is_too_large(write_root(rt.alloc(), &(1u32, 2u32), &mut writer));
     let held = writer.bytes() == [0, 0].as_slice();
     let narrow = write_root(rt.alloc(), &(1u8, 2u8), &mut writer).ok();
     let wide = write_root_in::<Wide, LateWriter, u8>(rt.alloc(), &3, &mut writer).ok();
     expect_eq!(rt;
-        (refused, held, [narrow, wide], writer.bytes()),
+        (failed, held, [narrow, wide], writer.bytes()),
         (
             true,
             true,
@@ -131,11 +131,11 @@ fn a_root_past_the_limit_is_refused(rt: HostRuntime) {
 #[test]
 fn nothing_is_written_after_a_fault(rt: HostRuntime) {
     let mut writer = BrokenWriter::new(0);
-    let refused = matches!(
+    let failed = matches!(
         write_root(rt.alloc(), &(1u32, 2u32), &mut writer),
         Err(WriteError::Writer(Broken))
     );
-    expect_eq!(rt; (refused, writer.calls(), writer.failures()), (true, 1, 1));
+    expect_eq!(rt; (failed, writer.calls(), writer.failures()), (true, 1, 1));
 }
 
 #[test]
@@ -143,8 +143,8 @@ fn failure_count_saturates(rt: HostRuntime) {
     let mut writer = BrokenWriter::new(18_446_744_073_709_551_614);
     let first = (append(&mut writer, &[1]).is_err(), writer.failures());
     let second = (append(&mut writer, &[1]).is_err(), writer.failures());
-    let wanted = (true, 18_446_744_073_709_551_615);
-    expect_eq!(rt; [first, second], [wanted; 2]);
+    let expected = (true, 18_446_744_073_709_551_615);
+    expect_eq!(rt; [first, second], [expected; 2]);
 }
 
 // The byte 9, followed by the aligned archive of 1 and 2.
@@ -180,7 +180,7 @@ fn limit_keeps_a_prefix_of_the_archive(rt: HostRuntime) {
     }
     let mut writer = LimitWriter::new(VecWriter::new(rt.alloc()), 12);
     let root = write_whole(rt.alloc(), &mut writer).ok();
-    let told = (writer.pos(), writer.failures());
+    let state = (writer.pos(), writer.failures());
     let nothing = append(&mut writer, &[]).is_ok();
     let full = matches!(
         append(&mut writer, &[1]),
@@ -188,14 +188,14 @@ fn limit_keeps_a_prefix_of_the_archive(rt: HostRuntime) {
     );
     let inner = writer.into_inner();
     expect_eq!(rt;
-        (right, root, told, nothing, full, inner.bytes()),
+        (right, root, state, nothing, full, inner.bytes()),
         (true, Some(4), (12, 0), true, true, WHOLE.as_slice())
     );
 }
 
 // Returns `true` if the fault is that of an inner writer that is full.
-fn is_full_within(answer: Result<(), LimitFault<LimitFault<NoMemory>>>) -> bool {
-    matches!(answer, Err(LimitFault::Inner(LimitFault::Full)))
+fn is_full_within(outcome: Result<(), LimitFault<LimitFault<NoMemory>>>) -> bool {
+    matches!(outcome, Err(LimitFault::Inner(LimitFault::Full)))
 }
 
 #[test]
@@ -203,20 +203,20 @@ fn errors_of_the_inner_writer_are_returned(rt: HostRuntime) {
     let mut writer = LimitWriter::new(LimitWriter::new(VecWriter::new(rt.alloc()), 3), 5);
     // The piece fits in the outer limit, and the inner writer takes three of its bytes.
     let first = is_full_within(writer.write(&[1, 2, 3, 4]));
-    let told = (writer.pos(), writer.failures());
+    let state = (writer.pos(), writer.failures());
     // The inner writer takes none of the two bytes that still fit in the outer limit.
     let second = is_full_within(writer.write(&[4, 5, 6]));
     let third = is_full_within(writer.write(&[4, 5]));
     let nothing = writer.write(&[]).is_ok();
-    let told_then = (writer.pos(), writer.failures());
+    let next_state = (writer.pos(), writer.failures());
     let inner = writer.into_inner();
     let failures = inner.failures();
     let inmost = inner.into_inner();
     expect_eq!(rt;
         (
             [first, second, third, nothing],
-            told,
-            told_then,
+            state,
+            next_state,
             failures,
             inmost.bytes()
         ),

@@ -10,7 +10,7 @@ use std::test::Fail;
 
 // Archives the map of 1 to 2 and opens the bytes. Returns whether the archived map has the value of
 // the key, and equals std's map.
-fn comes_through(alloc: Global) -> Result<bool, Fail> {
+fn archive_equals_map(alloc: Global) -> Result<bool, Fail> {
     let mut map = HashMap::new(alloc);
     map.insert(1, 2)?;
     let map: Hashed<HashMap<i8, i8>> = Hashed::new(map);
@@ -24,7 +24,7 @@ fn comes_through(alloc: Global) -> Result<bool, Fail> {
 
 #[test]
 fn a_map_is_written_and_read(rt: HostRuntime) -> Result<(), Fail> {
-    let whole = comes_through(rt.alloc())?;
+    let whole = archive_equals_map(rt.alloc())?;
     assert!(rt; whole);
     Ok(())
 }

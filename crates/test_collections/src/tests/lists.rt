@@ -32,8 +32,8 @@ fn written_and_read(
     archive: &[u8],
 ) -> Option<(bool, (usize, usize, [bool; 2]))> {
     let bytes = archive_of(alloc, items).ok()?;
-    let answers = read(bytes.as_slice()).ok()?;
-    Some((bytes.as_slice() == archive, answers))
+    let results = read(bytes.as_slice()).ok()?;
+    Some((bytes.as_slice() == archive, results))
 }
 
 // Returns the set of the items 1 and 1, in four buckets: entries at 0, controls at 4, header at 36.
@@ -60,7 +60,7 @@ fn equal_items_of_a_list_are_kept(rt: HostRuntime) {
 }
 
 // Returns whether writing a list fails with the error for its load factor.
-fn is_refused(alloc: Global, items: SetItems<'_, u8>) -> bool {
+fn write_fails(alloc: Global, items: SetItems<'_, u8>) -> bool {
     matches!(
         archive_of(alloc, items),
         Err(WriteError::InvalidLoadFactor {
@@ -71,8 +71,8 @@ fn is_refused(alloc: Global, items: SetItems<'_, u8>) -> bool {
 }
 
 #[test]
-fn a_list_under_a_load_factor_above_1_is_refused(rt: HostRuntime) {
+fn rejects_a_list_under_a_load_factor_above_1(rt: HostRuntime) {
     let items = [1];
-    let refused = is_refused(rt.alloc(), SetItems::with_load_factor(&items, (8, 7)));
-    assert!(rt; refused);
+    let fails = write_fails(rt.alloc(), SetItems::with_load_factor(&items, (8, 7)));
+    assert!(rt; fails);
 }

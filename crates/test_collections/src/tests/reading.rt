@@ -4,10 +4,10 @@ ghost use Rattle.rkyv_base.specs.Entry.{entry_spec};
 ghost use Rattle.rkyv_base.specs.Text.{text_spec};
 ghost use Rattle.rkyv_base.specs.View.{IsValidView};
 
-use crate::tests::answers::{
+use crate::tests::archives::map_archive;
+use crate::tests::query_results::{
     counts, equal_maps, has_key, map_prints, misplaced, misplaced_up_to, number_of, pair_of,
 };
-use crate::tests::archives::map_archive;
 use rkyv_base::access::{access, access_in};
 use rkyv_base::entry::Entry;
 use rkyv_base::errors::VerifyError;
@@ -99,8 +99,8 @@ fn one_pair_is_found(rt: HostRuntime) {
 }
 
 // Counts a call of a comparison, and returns `accepts`.
-fn count_call(asks: &Cell<usize>, accepts: bool) -> bool {
-    asks.set(asks.get().wrapping_add(1));
+fn count_call(calls: &Cell<usize>, accepts: bool) -> bool {
+    calls.set(calls.get().wrapping_add(1));
     accepts
 }
 
@@ -108,20 +108,20 @@ fn count_call(asks: &Cell<usize>, accepts: bool) -> bool {
 // Returns the position of the value, if one is found, and the number of calls of the comparison.
 fn value_with(bytes: &[u8], key: i8, accepts: bool) -> Result<(Option<u64>, usize), VerifyError> {
     let map = ArchivedHashMap::of(access::<Small>(bytes)?);
-    let asks = Cell::new(0usize);
-    match map.get_with(&key, |_: &i8, _: View<'_, i8>| count_call(&asks, accepts)) {
-        Some(value) => Ok((Some(value.pos()), asks.get())),
-        None => Ok((None, asks.get())),
+    let calls = Cell::new(0usize);
+    match map.get_with(&key, |_: &i8, _: View<'_, i8>| count_call(&calls, accepts)) {
+        Some(value) => Ok((Some(value.pos()), calls.get())),
+        None => Ok((None, calls.get())),
     }
 }
 
 // Does the same by the lookup that also returns the key.
 fn pair_with(bytes: &[u8], key: i8, accepts: bool) -> Result<(Option<u64>, usize), VerifyError> {
     let map = ArchivedHashMap::of(access::<Small>(bytes)?);
-    let asks = Cell::new(0usize);
-    match map.get_key_value_with(&key, |_: &i8, _: View<'_, i8>| count_call(&asks, accepts)) {
-        Some((_, value)) => Ok((Some(value.pos()), asks.get())),
-        None => Ok((None, asks.get())),
+    let calls = Cell::new(0usize);
+    match map.get_key_value_with(&key, |_: &i8, _: View<'_, i8>| count_call(&calls, accepts)) {
+        Some((_, value)) => Ok((Some(value.pos()), calls.get())),
+        None => Ok((None, calls.get())),
     }
 }
 
@@ -157,11 +157,11 @@ fn lookup_takes_a_comparison(rt: HostRuntime) {
     );
 }
 
-// Returns whether the two texts of a key are those of `asked`.
-fn has_names(asked: &(&str, &str), key: View<'_, Entry<Text, Text>>) -> bool
+// Returns whether the two texts of a key are those of `query`.
+fn has_names(query: &(&str, &str), key: View<'_, Entry<Text, Text>>) -> bool
     requires { IsValidView (entry_spec (text_spec w32) (text_spec w32)) key }
 {
-    key.key().as_str() == asked.0 && key.value().as_str() == asked.1
+    key.key().as_str() == query.0 && key.value().as_str() == query.1
 }
 
 // Returns whether the value of a key of two texts is `text`.
@@ -173,9 +173,9 @@ fn is_text_of_two(
     let map = ArchivedHashMap::of(access::<HashMapOf<Entry<Text, Text>, Text>>(bytes)?);
     let found = map.get_with(
         &key,
-        |asked: &(&str, &str), key: View<'_, Entry<Text, Text>>|
+        |query: &(&str, &str), key: View<'_, Entry<Text, Text>>|
             requires { IsValidView (entry_spec (text_spec w32) (text_spec w32)) key }
-        { has_names(asked, key) },
+        { has_names(query, key) },
     );
     match found {
         Some(value) => Ok(Some(value.as_str() == text)),

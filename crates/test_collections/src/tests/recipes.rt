@@ -38,7 +38,7 @@ fn two_ages(alloc: Global) -> Result<Ages, Fail> {
 }
 
 // Archives a map of std's, and reads it back.
-fn ages_come_back(alloc: Global, ages: Ages) -> Result<Ages, Fail> {
+fn ages_round_trip(alloc: Global, ages: Ages) -> Result<Ages, Fail> {
     let ages: Hashed<Ages> = Hashed::new(ages);
     let archive = to_bytes(alloc, &ages)?;
     let map = ArchivedHashMap::of(access::<HashMapOf<Text, u8>>(archive.as_slice())?);
@@ -48,14 +48,14 @@ fn ages_come_back(alloc: Global, ages: Ages) -> Result<Ages, Fail> {
 #[test]
 fn a_map_of_std(rt: HostRuntime) -> Result<(), Fail> {
     let alloc = rt.alloc();
-    let back = ages_come_back(alloc, two_ages(alloc)?)?;
+    let back = ages_round_trip(alloc, two_ages(alloc)?)?;
     let ages = two_ages(alloc)?;
     assert!(rt; back == ages);
     Ok(())
 }
 
 // Archives a set of std's, and reads it back with a state of its own.
-fn primes_come_back(alloc: Global, state: RandomState) -> Result<HashSet<u32, RandomState>, Fail> {
+fn primes_round_trip(alloc: Global, state: RandomState) -> Result<HashSet<u32, RandomState>, Fail> {
     let mut primes = HashSet::new(alloc);
     primes.insert(2)?;
     primes.insert(3)?;
@@ -67,7 +67,7 @@ fn primes_come_back(alloc: Global, state: RandomState) -> Result<HashSet<u32, Ra
 
 #[test]
 fn a_set_of_std(rt: HostRuntime) -> Result<(), Fail> {
-    let back = primes_come_back(rt.alloc(), RandomState::new(&rt)?)?;
+    let back = primes_round_trip(rt.alloc(), RandomState::new(&rt)?)?;
     let found = (back.len(), back.contains(&3), back.contains(&4));
     expect_eq!(rt; found, (2, true, false));
     Ok(())
@@ -135,7 +135,7 @@ fn set_number(
             archive, pos, &thing, number,
         )),
         Ok(None) => Ok(false),
-        Err(refused) => Err(refused),
+        Err(error) => Err(error),
     }
 }
 

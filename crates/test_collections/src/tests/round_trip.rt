@@ -9,7 +9,7 @@ use rkyv_base::text::Text;
 use rkyv_base::width::{Narrow, Wide};
 use rkyv_collections::set::{ArchivedHashSet, HashSetOf};
 use rkyv_collections::std_maps::hashed::Hashed;
-use rkyv_collections::std_maps::round_trip::{RoundTripError, comes_back, lookups_agree};
+use rkyv_collections::std_maps::round_trip::{RoundTripError, lookups_agree, round_trips_equal};
 use rkyv_scan::hash::{FxHasher64, FxHasher64Wide};
 use std::alloc::{AllocError, Global};
 use std::collections::{HashMap, HashSet};
@@ -21,14 +21,14 @@ type Ports = Hashed<HashMap<String, u16>>;
 
 // Writes a table of ports, compares the archive with it, and reads it back.
 // Returns whether all are equal, and whether a lookup of `name` agrees with the table.
-fn ports_come_through(
+fn ports_round_trip(
     alloc: Global,
     ports: &Ports,
     name: &String,
 ) -> Result<(bool, bool), RoundTripError>
     ensures { IfOk result (λ same. (same.0 ≡ true) × (same.1 ≡ true)) }
 {
-    let back = comes_back::<Narrow, Ports>(alloc, ports)?;
+    let back = round_trips_equal::<Narrow, Ports>(alloc, ports)?;
     let found = lookups_agree::<Narrow, _, _, _, _>(alloc, ports, name)?;
     Ok((back, found))
 }
@@ -43,20 +43,20 @@ fn table_of(alloc: Global, ports: &[(&str, u16)]) -> Result<Ports, AllocError> {
     Ok(Hashed::new(table))
 }
 
-// Returns both results of `ports_come_through` for a table and a name.
-fn answers_of(alloc: Global, ports: &Ports, name: &str) -> Option<(bool, bool)> {
+// Returns both results of `ports_round_trip` for a table and a name.
+fn both_results(alloc: Global, ports: &Ports, name: &str) -> Option<(bool, bool)> {
     let name = String::from_str(alloc, name).ok()?;
-    ports_come_through(alloc, ports, &name).ok()
+    ports_round_trip(alloc, ports, &name).ok()
 }
 
 #[test]
 fn a_table_of_ports(rt: HostRuntime) -> Result<(), Fail> {
     let ports = table_of(rt.alloc(), &[("ssh", 22), ("https", 443)])?;
-    let answers = [
-        answers_of(rt.alloc(), &ports, "ssh"),
-        answers_of(rt.alloc(), &ports, "telnet"),
+    let results = [
+        both_results(rt.alloc(), &ports, "ssh"),
+        both_results(rt.alloc(), &ports, "telnet"),
     ];
-    expect_eq!(rt; answers, [Some((true, true)); 2]);
+    expect_eq!(rt; results, [Some((true, true)); 2]);
     Ok(())
 }
 

@@ -9,8 +9,8 @@ ghost use Rattle.rkyv_collections.specs.Map.MapAt.{map_at};
 ghost use Rattle.rkyv_collections.specs.Map.MapSpec.{IsKeyPosAt, map_spec};
 ghost use Rattle.test_collections.specs.InMaps.{FindsIn, KeepsIn};
 
-use crate::tests::answers::number_of;
 use crate::tests::archives::map_archive;
+use crate::tests::query_results::number_of;
 use rkyv_base::access::{access, access_in, access_mut};
 use rkyv_base::element::Element;
 use rkyv_base::errors::VerifyError;
@@ -163,10 +163,10 @@ fn a_found_value_is_written_in_place(rt: HostRuntime) {
     let mut bytes = one_number();
     let replaced = replace(&mut bytes, 1, 16_909_060).ok();
     let found = number_of::<u32, u32, FxHasher64, Narrow, u32>(&bytes, &1).ok();
-    let mut wanted = one_number();
-    wanted[4..8].copy_from_slice(&[4, 3, 2, 1]);
+    let mut expected = one_number();
+    expected[4..8].copy_from_slice(&[4, 3, 2, 1]);
     expect_eq!(rt;
-        (replaced, found, bytes == wanted),
+        (replaced, found, bytes == expected),
         (Some(Some((2, 16_909_060))), Some(Some(16_909_060)), true)
     );
 }
@@ -342,7 +342,7 @@ fn values_are_written_while_the_cursor_steps(rt: HostRuntime) {
 }
 
 #[test]
-fn pairs_are_lent_by_ascending_bucket(rt: HostRuntime) {
+fn pairs_are_yielded_by_ascending_bucket(rt: HostRuntime) {
     let mut bytes = four_pairs();
     let written = write_pairs(&mut bytes, &[(5, -5), (7, -7), (1, -1), (3, -3)]).ok();
     let same = bytes == four_with([3, 0xfd, 1, 0xff, 0, 0, 7, 0xf9, 5, 0xfb]);
@@ -409,7 +409,7 @@ fn is_text(bytes: &[u8], key: &str, text: &str) -> Result<Option<bool>, VerifyEr
 }
 
 // Writes the value of a key in upper case. Returns the result of the seal.
-fn raise(bytes: &mut [u8], key: &str) -> Result<Option<bool>, VerifyError> {
+fn uppercase(bytes: &mut [u8], key: &str) -> Result<Option<bool>, VerifyError> {
     let whole = access_mut::<Texts>(bytes)?;
     match ArchivedHashMap::get_seal(whole, &key) {
         Some(mut seal) => Ok(Some(seal.make_ascii_uppercase())),
@@ -418,71 +418,71 @@ fn raise(bytes: &mut [u8], key: &str) -> Result<Option<bool>, VerifyError> {
 }
 
 // Writes three values in upper case. Returns the number of seals that return `true`.
-fn raise_three(bytes: &mut [u8]) -> Result<Option<usize>, VerifyError> {
+fn uppercase_three(bytes: &mut [u8]) -> Result<Option<usize>, VerifyError> {
     let whole = access_mut::<Texts>(bytes)?;
     let mut rest = ArchivedHashMap::values_seal(whole);
-    let mut raised = 0usize;
+    let mut uppercased = 0usize;
     for _ in 0..3 {
         match rest.next_seal() {
             Some(mut seal) => {
                 if seal.make_ascii_uppercase() {
-                    raised = raised.wrapping_add(1);
+                    uppercased = uppercased.wrapping_add(1);
                 }
             }
             None => return Ok(None),
         }
     }
-    Ok(Some(raised))
+    Ok(Some(uppercased))
 }
 
 // Compares a value, writes it in upper case, and compares it again. Returns the three results.
-fn raise_and_read(bytes: &mut [u8]) -> [Option<Option<bool>>; 3] {
+fn uppercase_and_read(bytes: &mut [u8]) -> [Option<Option<bool>>; 3] {
     [
         is_text_in_place(&mut *bytes, "hello", "world").ok(),
-        raise(&mut *bytes, "hello").ok(),
+        uppercase(&mut *bytes, "hello").ok(),
         is_text(&*bytes, "hello", "WORLD").ok(),
     ]
 }
 
 // Does the same in a new archive. Returns the results, and whether the archive is as expected.
-fn raised(alloc: Global) -> Option<([Option<Option<bool>>; 3], bool)> {
+fn uppercased(alloc: Global) -> Option<([Option<Option<bool>>; 3], bool)> {
     let mut bytes = archive_of(alloc, ["world", "bar", "bat"])?;
-    let answers = raise_and_read(bytes.as_mut_slice());
+    let query_results = uppercase_and_read(bytes.as_mut_slice());
     let same = is_archived_as(alloc, ["WORLD", "bar", "bat"], bytes.as_slice());
-    Some((answers, same))
+    Some((query_results, same))
 }
 
 #[test]
 fn text_is_uppercased_in_place(rt: HostRuntime) {
-    expect_eq!(rt; raised(rt.alloc()), Some(([Some(Some(true)); 3], true)));
+    expect_eq!(rt; uppercased(rt.alloc()), Some(([Some(Some(true)); 3], true)));
 }
 
 // Writes each text of an archive in upper case. Returns the number of texts that are written,
 // and whether the archive is as expected.
-fn each_raised(alloc: Global) -> Option<(Option<Option<usize>>, bool)> {
+fn each_uppercased(alloc: Global) -> Option<(Option<Option<usize>>, bool)> {
     let mut bytes = archive_of(alloc, ["world", "bar", "bat"])?;
-    let raised = raise_three(bytes.as_mut_slice()).ok();
+    let uppercased = uppercase_three(bytes.as_mut_slice()).ok();
     let same = is_archived_as(alloc, ["WORLD", "BAR", "BAT"], bytes.as_slice());
-    Some((raised, same))
+    Some((uppercased, same))
 }
 
 #[test]
 fn each_text_is_uppercased_in_place(rt: HostRuntime) {
-    expect_eq!(rt; each_raised(rt.alloc()), Some((Some(Some(3)), true)));
+    expect_eq!(rt; each_uppercased(rt.alloc()), Some((Some(Some(3)), true)));
 }
 
 // Writes a text out of line in upper case. Returns the result, and whether the archive is the same.
-fn raised_out_of_line(alloc: Global) -> Option<(Option<Option<bool>>, bool)> {
+fn uppercased_out_of_line(alloc: Global) -> Option<(Option<Option<bool>>, bool)> {
     let mut bytes = archive_of(alloc, ["wonderful", "bar", "bat"])?;
-    let raised = raise(bytes.as_mut_slice(), "hello").ok();
+    let uppercased = uppercase(bytes.as_mut_slice(), "hello").ok();
     let same = is_archived_as(alloc, ["wonderful", "bar", "bat"], bytes.as_slice());
-    Some((raised, same))
+    Some((uppercased, same))
 }
 
 #[test]
 fn a_text_out_of_line_stays(rt: HostRuntime) {
     expect_eq!(rt;
-        raised_out_of_line(rt.alloc()),
+        uppercased_out_of_line(rt.alloc()),
         Some((Some(Some(false)), true))
     );
 }

@@ -1,6 +1,6 @@
 //! Tests of reading sets in place, from fixed bytes.
 
-use crate::tests::answers::{
+use crate::tests::query_results::{
     equal_maps, equal_sets, map_prints, member_of, set_counts, set_misplaced_up_to, set_prints,
 };
 use rkyv_base::access::access_in;

@@ -12,7 +12,7 @@ use rkyv_collections::map::{ArchivedHashMap, HashMapOf};
 use rkyv_collections::set::{ArchivedHashSet, HashSetOf};
 use rkyv_collections::std_maps::equality::EqArchived;
 use rkyv_collections::std_maps::hashed::Hashed;
-use rkyv_collections::std_maps::round_trip::comes_back;
+use rkyv_collections::std_maps::round_trip::round_trips_equal;
 use rkyv_keys::deserialize::Deserialize;
 use rkyv_keys::equality::{EqualsWritten, MatchesNative, RepresentsUniquely};
 use rkyv_keys::keys::{KeyElement, NativeKey};
@@ -29,7 +29,7 @@ type Nested = Hashed<HashMap<i8, Hashed<HashMap<i8, i8>>>>;
 type Pairs = Hashed<HashMap<(u8, u8), Hashed<HashMap<u16, u16>>>>;
 
 // Returns whether a map is the same after a round trip through an archive.
-fn map_comes_back<
+fn map_round_trips<
     W: Width,
     H: KeyHasher,
     A: Serialize<VecWriter, W> + Eq + Hash + Drop,
@@ -40,11 +40,11 @@ where
     A: NativeKey<A::Archived>,
     B::Archived: Deserialize<B> + MatchesNative<B> + RepresentsUniquely<B>,
 {
-    comes_back::<W, Hashed<HashMap<A, B>, H>>(alloc, map).ok()
+    round_trips_equal::<W, Hashed<HashMap<A, B>, H>>(alloc, map).ok()
 }
 
 // Returns whether a set is the same after a round trip through an archive.
-fn set_comes_back<W: Width, A: Serialize<VecWriter, W> + Eq + Hash + Drop>(
+fn set_round_trips<W: Width, A: Serialize<VecWriter, W> + Eq + Hash + Drop>(
     alloc: Global,
     set: &Hashed<HashSet<A>>,
 ) -> Option<bool>
@@ -52,7 +52,7 @@ where
     A::Archived: KeyElement + Deserialize<A> + RepresentsUniquely<A>,
     A: NativeKey<A::Archived>,
 {
-    comes_back::<W, Hashed<HashSet<A>>>(alloc, set).ok()
+    round_trips_equal::<W, Hashed<HashSet<A>>>(alloc, set).ok()
 }
 
 // Returns the archive of a map.
@@ -186,8 +186,8 @@ fn of_one_pair(alloc: Global) -> Option<(bool, Option<(bool, bool)>, [Option<boo
     let written = is_archived(alloc, &map, &one_pair());
     let equal = equals_small(&one_pair(), map.get()).ok();
     let back = [
-        map_comes_back::<Narrow, _, _, _>(alloc, &map),
-        map_comes_back::<Wide, _, _, _>(alloc, &map),
+        map_round_trips::<Narrow, _, _, _>(alloc, &map),
+        map_round_trips::<Wide, _, _, _>(alloc, &map),
     ];
     Some((written, equal, back, map.into_inner().len()))
 }
@@ -206,22 +206,22 @@ fn a_map_of_one_pair(rt: HostRuntime) {
 }
 
 // Returns whether the map of four pairs is the same after a round trip.
-fn four_come_back(alloc: Global) -> Option<bool> {
+fn four_round_trip(alloc: Global) -> Option<bool> {
     let pairs = [(1i8, 2i8), (3, 4), (5, 6), (7, 8)];
     let map: Hashed<HashMap<i8, i8>> = Hashed::new(map_of(alloc, &pairs).ok()?);
-    map_comes_back::<Narrow, _, _, _>(alloc, &map)
+    map_round_trips::<Narrow, _, _, _>(alloc, &map)
 }
 
 #[test]
 fn four_pairs(rt: HostRuntime) {
-    expect_eq!(rt; four_come_back(rt.alloc()), Some(true));
+    expect_eq!(rt; four_round_trip(rt.alloc()), Some(true));
 }
 
 // Returns whether the archive of the empty map is as expected, and the result of its round trip.
 fn of_no_pair(alloc: Global) -> (bool, Option<bool>) {
     let map: Hashed<HashMap<i8, i32>> = Hashed::new(HashMap::new(alloc));
     let written = is_archived(alloc, &map, &no_items());
-    (written, map_comes_back::<Narrow, _, _, _>(alloc, &map))
+    (written, map_round_trips::<Narrow, _, _, _>(alloc, &map))
 }
 
 #[test]
@@ -240,8 +240,8 @@ fn of_nested(alloc: Global) -> Option<(bool, [Option<bool>; 2])> {
     let outer = map_in_a_map(alloc).ok()?;
     let written = is_archived(alloc, &outer, &nested());
     let back = [
-        map_comes_back::<Narrow, _, _, _>(alloc, &outer),
-        map_comes_back::<Wide, _, _, _>(alloc, &outer),
+        map_round_trips::<Narrow, _, _, _>(alloc, &outer),
+        map_round_trips::<Wide, _, _, _>(alloc, &outer),
     ];
     Some((written, back))
 }
@@ -263,7 +263,7 @@ fn two_maps(alloc: Global) -> Result<Pairs, AllocError> {
 fn of_two_maps(alloc: Global) -> Option<(usize, Option<bool>)> {
     let pairs = two_maps(alloc).ok()?;
     let len = archived(alloc, &pairs)?.len();
-    Some((len, map_comes_back::<Narrow, _, _, _>(alloc, &pairs)))
+    Some((len, map_round_trips::<Narrow, _, _, _>(alloc, &pairs)))
 }
 
 #[test]
@@ -272,9 +272,9 @@ fn two_maps_in_a_map(rt: HostRuntime) {
 }
 
 // Returns whether the map of these texts to numbers is the same after a round trip.
-fn numbers_come_back(alloc: Global, pairs: &[(&str, i32)]) -> Option<bool> {
+fn numbers_round_trip(alloc: Global, pairs: &[(&str, i32)]) -> Option<bool> {
     let map: Hashed<HashMap<String, i32>> = Hashed::new(numbers_of(alloc, pairs).ok()?);
-    map_comes_back::<Narrow, _, _, _>(alloc, &map)
+    map_round_trips::<Narrow, _, _, _>(alloc, &map)
 }
 
 #[test]
@@ -286,40 +286,40 @@ fn texts_to_numbers(rt: HostRuntime) {
         ("bar", 78),
         ("baz", 90),
     ];
-    expect_eq!(rt; numbers_come_back(rt.alloc(), &pairs), Some(true));
+    expect_eq!(rt; numbers_round_trip(rt.alloc(), &pairs), Some(true));
 }
 
 // Returns whether the map of these texts is the same after a round trip.
-fn texts_come_back(alloc: Global, pairs: &[(&str, &str)]) -> Option<bool> {
+fn texts_round_trip(alloc: Global, pairs: &[(&str, &str)]) -> Option<bool> {
     let mut texts = HashMap::new(alloc);
     insert_texts(&mut texts, alloc, pairs).ok()?;
     let map: Hashed<HashMap<String, String>> = Hashed::new(texts);
-    map_comes_back::<Narrow, _, _, _>(alloc, &map)
+    map_round_trips::<Narrow, _, _, _>(alloc, &map)
 }
 
 #[test]
 fn texts_to_texts(rt: HostRuntime) {
     let pairs = [("hello", "world"), ("foo", "bar"), ("baz", "bat")];
-    expect_eq!(rt; texts_come_back(rt.alloc(), &pairs), Some(true));
+    expect_eq!(rt; texts_round_trip(rt.alloc(), &pairs), Some(true));
 }
 
 // Returns whether the map of the unit value to 10 is the same after a round trip.
 fn unit_to_number(alloc: Global) -> Option<bool> {
     let map: Hashed<HashMap<(), i32>> = Hashed::new(map_of(alloc, &[((), 10)]).ok()?);
-    map_comes_back::<Narrow, _, _, _>(alloc, &map)
+    map_round_trips::<Narrow, _, _, _>(alloc, &map)
 }
 
 // Returns whether the map of the unit value to itself is the same after a round trip.
 fn unit_to_unit(alloc: Global) -> Option<bool> {
     let map: Hashed<HashMap<(), ()>> = Hashed::new(map_of(alloc, &[((), ())]).ok()?);
-    map_comes_back::<Narrow, _, _, _>(alloc, &map)
+    map_round_trips::<Narrow, _, _, _>(alloc, &map)
 }
 
 // Returns whether the archive of the set of the unit value is as expected, and its round trip.
 fn set_of_unit(alloc: Global) -> Option<(bool, Option<bool>)> {
     let set: Hashed<HashSet<()>> = Hashed::new(set_of_one(alloc, ()).ok()?);
     let written = is_archived_as(alloc, &set, &one_unit());
-    Some((written, set_comes_back::<Narrow, ()>(alloc, &set)))
+    Some((written, set_round_trips::<Narrow, ()>(alloc, &set)))
 }
 
 #[test]
@@ -369,17 +369,17 @@ fn a_hundred_texts(rt: HostRuntime) {
 
 // Returns whether the hundred texts are the same after round trips in both widths, under the hasher
 // that feeds all bits.
-fn hundred_come_back(alloc: Global) -> Option<[Option<bool>; 2]> {
+fn hundred_round_trip(alloc: Global) -> Option<[Option<bool>; 2]> {
     let map: Hashed<HashMap<String, u32>, FxHasher64Wide> = Hashed::new(hundred(alloc).ok()?);
     Some([
-        map_comes_back::<Narrow, _, _, _>(alloc, &map),
-        map_comes_back::<Wide, _, _, _>(alloc, &map),
+        map_round_trips::<Narrow, _, _, _>(alloc, &map),
+        map_round_trips::<Wide, _, _, _>(alloc, &map),
     ])
 }
 
 #[test]
 fn a_hundred_texts_under_the_hasher_that_feeds_all_bits(rt: HostRuntime) {
-    expect_eq!(rt; hundred_come_back(rt.alloc()), Some([Some(true); 2]));
+    expect_eq!(rt; hundred_round_trip(rt.alloc()), Some([Some(true); 2]));
 }
 
 // Reads an archive back into a map of std's. Returns its length and its value of 1.
@@ -430,12 +430,12 @@ fn both_hashers_write_a_number_alike(rt: HostRuntime) {
 // bytes, and fails with `Full` if and only if these are not all.
 fn keeps_a_prefix(alloc: Global, map: &Hashed<HashMap<u32, u32>>, limit: u64) -> bool {
     let mut writer = LimitWriter::new(VecWriter::new(alloc), limit);
-    let told = match write_root(alloc, map, &mut writer) {
+    let as_expected = match write_root(alloc, map, &mut writer) {
         Ok(pos) => limit == 60 && pos == 48,
         Err(WriteError::Writer(LimitFault::Full)) => limit < 60,
         Err(_) => false,
     };
-    told && one_number().get(..limit as usize) == Some(writer.into_inner().bytes())
+    as_expected && one_number().get(..limit as usize) == Some(writer.into_inner().bytes())
 }
 
 // Returns the number of limits, up to the archive's length, that keep a prefix of it.
@@ -484,8 +484,8 @@ fn of_words(
     let words: Hashed<HashSet<String>> = Hashed::new(words_of(alloc, words).ok()?);
     let bytes = to_bytes(alloc, &words).ok()?;
     let back = [
-        set_comes_back::<Narrow, String>(alloc, &words),
-        set_comes_back::<Wide, String>(alloc, &words),
+        set_round_trips::<Narrow, String>(alloc, &words),
+        set_round_trips::<Wide, String>(alloc, &words),
     ];
     Some((members_both_ways(bytes.as_slice(), words.get()).ok(), back))
 }
@@ -517,17 +517,17 @@ fn set_in_a_map(alloc: Global) -> Result<Sets, AllocError> {
 }
 
 // Returns whether that map is the same after round trips in both widths.
-fn sets_come_back(alloc: Global) -> Option<[Option<bool>; 2]> {
+fn sets_round_trip(alloc: Global) -> Option<[Option<bool>; 2]> {
     let outer = set_in_a_map(alloc).ok()?;
     Some([
-        map_comes_back::<Narrow, _, _, _>(alloc, &outer),
-        map_comes_back::<Wide, _, _, _>(alloc, &outer),
+        map_round_trips::<Narrow, _, _, _>(alloc, &outer),
+        map_round_trips::<Wide, _, _, _>(alloc, &outer),
     ])
 }
 
 #[test]
 fn a_set_in_a_map(rt: HostRuntime) {
-    expect_eq!(rt; sets_come_back(rt.alloc()), Some([Some(true); 2]));
+    expect_eq!(rt; sets_round_trip(rt.alloc()), Some([Some(true); 2]));
 }
 
 // Returns whether an archived map equals `map`, and is read back as `map` with this hash state.
@@ -545,7 +545,7 @@ fn is_read_with<T: BuildHasher + Copy + Drop>(
 }
 
 // Returns whether a map with this hash state is the same after a round trip.
-fn comes_back_with<T: BuildHasher + Copy + Drop>(
+fn round_trips_with<T: BuildHasher + Copy + Drop>(
     alloc: Global,
     map: &Hashed<HashMap<i8, i8, T>>,
     state: T,
@@ -573,7 +573,7 @@ fn texts_are_read_with<T: BuildHasher + Copy + Drop>(
     }
 }
 
-fn texts_come_back_with<T: BuildHasher + Copy + Drop>(
+fn texts_round_trip_with<T: BuildHasher + Copy + Drop>(
     alloc: Global,
     map: &Hashed<HashMap<String, String, T>>,
     state: T,
@@ -599,9 +599,9 @@ fn maps_with_a_hash_state_of_their_own(rt: HostRuntime) -> Result<(), Fail> {
     let pairs = [("hello", "world"), ("foo", "bar"), ("baz", "bat")];
     insert_texts(&mut texts, alloc, &pairs)?;
     let back = [
-        comes_back_with(alloc, &empty, state),
-        comes_back_with(alloc, &Hashed::new(small), state),
-        texts_come_back_with(alloc, &Hashed::new(texts), state),
+        round_trips_with(alloc, &empty, state),
+        round_trips_with(alloc, &Hashed::new(small), state),
+        texts_round_trip_with(alloc, &Hashed::new(texts), state),
     ];
     expect_eq!(rt; back, [true; 3]);
     Ok(())

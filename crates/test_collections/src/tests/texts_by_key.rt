@@ -19,7 +19,7 @@ fn texts(alloc: Global) -> Result<Vec<u8>, Fail> {
 }
 
 // Writes the text of a key in upper case. Returns the result of the call.
-fn raise(bytes: &mut [u8], key: &str) -> Result<Option<bool>, VerifyError> {
+fn uppercase(bytes: &mut [u8], key: &str) -> Result<Option<bool>, VerifyError> {
     let root = access::<HashMapOf<Text, Text>>(&*bytes)?.pos();
     Ok(make_ascii_uppercase_of::<&str, Text, FxHasher64, Narrow>(bytes, root, &key))
 }
@@ -34,20 +34,26 @@ fn is_text(bytes: &[u8], key: &str, text: &str) -> Result<Option<bool>, VerifyEr
 }
 
 // Returns the results of three calls, and whether the texts are as expected after them.
-fn raise_three(bytes: &mut [u8]) -> Result<([Option<bool>; 3], [Option<bool>; 2]), VerifyError> {
-    let raised = [raise(bytes, "a")?, raise(bytes, "b")?, raise(bytes, "c")?];
+fn uppercase_three(
+    bytes: &mut [u8],
+) -> Result<([Option<bool>; 3], [Option<bool>; 2]), VerifyError> {
+    let uppercased = [
+        uppercase(bytes, "a")?,
+        uppercase(bytes, "b")?,
+        uppercase(bytes, "c")?,
+    ];
     let after = [
         is_text(bytes, "a", "HELLO")?,
         is_text(bytes, "b", "wonderful")?,
     ];
-    Ok((raised, after))
+    Ok((uppercased, after))
 }
 
 #[test]
 fn inline_text_is_uppercased_by_key(rt: HostRuntime) -> Result<(), Fail> {
     let mut bytes = texts(rt.alloc())?;
     expect_eq!(rt;
-        raise_three(bytes.as_mut_slice()).ok(),
+        uppercase_three(bytes.as_mut_slice()).ok(),
         Some(([Some(true), Some(false), None], [Some(true), Some(true)]))
     );
     Ok(())

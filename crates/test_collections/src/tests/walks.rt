@@ -187,7 +187,7 @@ fn keys_and_values_are_walked_by_ascending_bucket(rt: HostRuntime) {
 }
 
 #[test]
-fn a_walk_over_the_empty_map_gives_nothing(rt: HostRuntime) {
+fn a_walk_over_the_empty_map_yields_nothing(rt: HostRuntime) {
     let bytes = no_items();
     let pairs = pairs_of::<i8, i8>(&bytes).ok();
     let keys = keys_of::<i8, i8>(&bytes).ok();

@@ -1,7 +1,7 @@
 //! Tests of the written bytes of maps and sets.
 
-use crate::tests::answers::{counts, number_of};
 use crate::tests::archives::{is_map_archive, map_archive};
+use crate::tests::query_results::{counts, number_of};
 use rkyv_base::archive::Serialize;
 use rkyv_base::element::Represents;
 use rkyv_base::errors::WriteError;

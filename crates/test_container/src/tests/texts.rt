@@ -11,7 +11,7 @@ fn shows(alloc: Global, error: ContainerError, text: &str) -> bool {
 }
 
 #[test]
-fn header_errors_are_shown(rt: HostRuntime) {
+fn header_errors_have_messages(rt: HostRuntime) {
     let alloc = rt.alloc();
     let short = ContainerError::TooShort { len: 31 };
     let shown = [
@@ -62,7 +62,7 @@ fn header_errors_are_shown(rt: HostRuntime) {
 }
 
 #[test]
-fn open_errors_are_shown(rt: HostRuntime) {
+fn open_errors_have_messages(rt: HostRuntime) {
     let alloc = rt.alloc();
     let shown = [
         shows(

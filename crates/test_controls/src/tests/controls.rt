@@ -2,7 +2,7 @@
 ghost use Rattle.std.specs.Prelude.{IfSome, length, ◌<◌, ◌≤◌, ◌^◌};
 ghost use Rattle.rkyv_table.specs.Controls.Numbers.{control_count};
 ghost use Rattle.rkyv_table.specs.Controls.ControlBytes.{IsFullBucket};
-ghost use Rattle.rkyv_table.specs.Controls.Placing.{Accepted};
+ghost use Rattle.rkyv_table.specs.Controls.Placing.{AreValidControls};
 
 use rkyv_scan::hash::{FxHasher64, KeyHasher};
 use rkyv_scan::simd::{GroupKind, bytewise, generic, lanes};
@@ -29,7 +29,7 @@ struct Table {
     len: usize,
     controls: Vec<u8>,
     homes: Vec<usize>,
-    ghost accepted: { Accepted cap len controls.items },
+    ghost accepted: { AreValidControls cap len controls.items },
 }
 
 impl Table {
@@ -66,7 +66,7 @@ impl Table {
 
 // Returns a bucket whose item may have the hash.
 fn candidate(controls: &[u8], cap: usize, len: usize, hash: u64) -> Option<usize>
-    requires { Accepted cap len controls.now }
+    requires { AreValidControls cap len controls.now }
     ensures { IfSome result (IsFullBucket cap controls.now) }
 {
     let mut strides = Strides::new();
@@ -110,7 +110,7 @@ fn capacities(rt: HostRuntime) {
 }
 
 #[test]
-fn refused_capacities(rt: HostRuntime) {
+fn rejects_invalid_capacities(rt: HostRuntime) {
     let factors = [
         capacity(0, (8, 7), NARROW),
         capacity(0, (0, 1), NARROW),
@@ -170,7 +170,7 @@ fn four_places(start: u64, cap: usize) -> [Option<usize>; 4]
 #[test]
 fn probe_places(rt: HostRuntime) {
     laws::strides_cover();
-    laws::buckets_are_shown();
+    laws::buckets_are_probed();
     let places = [
         four_places(1, 33),
         four_places(32, 33),
@@ -330,32 +330,32 @@ fn finds_by_each_kind(rt: HostRuntime) {
 fn finds_by_false_marks(rt: HostRuntime) -> Result<(), AllocError> {
     let hash = 0x5000_0000_0000_0001;
     let table = Table::written::<generic::Group>(rt.alloc(), 3, &[hash, 0x5200_0000_0000_0000])?;
-    let asked = [
+    let found = [
         table.lookup::<generic::Group, _>(hash, |b| b == 1),
         table.lookup::<bytewise::Group, _>(hash, |b| b == 1),
         table.lookup::<lanes::Group, _>(hash, |b| b == 1),
     ];
-    expect_eq!(rt; asked, [(Some(1), 1), (None, 1), (None, 1)]);
+    expect_eq!(rt; found, [(Some(1), 1), (None, 1), (None, 1)]);
     Ok(())
 }
 
 // Returns whether a lookup that accepts no bucket tries those of the first stride, then the second.
 fn compares_in_order<G: GroupKind>(alloc: Global) -> Result<bool, AllocError> {
     let table = Table::written::<G>(alloc, 17, &[16; 16])?;
-    let asks = Cell::new(0usize);
+    let calls = Cell::new(0usize);
     let in_order = Cell::new(true);
-    let answer = table.lookup::<G, _>(16, |b| {
-        let ask = asks.get();
-        asks.set(ask.wrapping_add(1));
-        let wanted = match ask {
+    let outcome = table.lookup::<G, _>(16, |b| {
+        let call = calls.get();
+        calls.set(call.wrapping_add(1));
+        let expected = match call {
             0 => 16,
-            1..16 => ask - 1,
-            _ => ask - 16,
+            1..16 => call - 1,
+            _ => call - 16,
         };
-        in_order.set(in_order.get() && b == wanted);
+        in_order.set(in_order.get() && b == expected);
         false
     });
-    Ok(answer == (None, 2) && asks.get() == 31 && in_order.get())
+    Ok(outcome == (None, 2) && calls.get() == 31 && in_order.get())
 }
 
 #[test]
@@ -372,9 +372,9 @@ fn compares_buckets_of_each_stride(rt: HostRuntime) {
 #[test]
 fn comparison_may_change_its_result(rt: HostRuntime) -> Result<(), AllocError> {
     let table = Table::written::<generic::Group>(rt.alloc(), 3, &[2, 2])?;
-    let asked = Cell::new(false);
-    let answer = table.lookup::<generic::Group, _>(2, |_| asked.replace(true));
-    assert!(rt; answer == (Some(0), 1));
+    let compared = Cell::new(false);
+    let outcome = table.lookup::<generic::Group, _>(2, |_| compared.replace(true));
+    assert!(rt; outcome == (Some(0), 1));
     Ok(())
 }
 
@@ -386,8 +386,8 @@ fn walks<G: GroupKind>(alloc: Global) -> Result<bool, AllocError> {
     }
     let mut walk = Walk::<G>::new(controls, 17);
     let mut right = count_full::<G>(controls, 17) == 16;
-    for wanted in 0..15 {
-        right = right && walk.next() == Some(wanted);
+    for expected in 0..15 {
+        right = right && walk.next() == Some(expected);
     }
     right = right && walk.next() == Some(16) && walk.next() == None && walk.next() == None;
     Ok(right && Walk::<G>::empty().next() == None)
@@ -421,7 +421,7 @@ fn repeats(rt: HostRuntime) {
     let last = check_wrapped(&small, 2);
     let mut even = [0xffu8; 31];
     even[0] = 1;
-    let answers = [
+    let results = [
         written,
         third,
         other_empty,
@@ -429,5 +429,5 @@ fn repeats(rt: HostRuntime) {
         last,
         check_wrapped(&even, 16),
     ];
-    expect_eq!(rt; answers, [Ok(()), Err(4), Err(2), Ok(()), Err(30), Err(16)]);
+    expect_eq!(rt; results, [Ok(()), Err(4), Err(2), Ok(()), Err(30), Err(16)]);
 }

@@ -13,7 +13,7 @@ fn form(kind: Kind, bits: ArchiveWidth) -> Form {
 
 // Returns the length of the archive of the pairs, the number of its misplaced keys, and its lines.
 // The lines are those of its pairs, then those of lookups of the keys.
-fn shown(
+fn output_of(
     alloc: Global,
     form: Form,
     list: &PairList<'_>,
@@ -30,16 +30,16 @@ fn shown(
     Some((bytes.len(), misplaced(form, bytes), out))
 }
 
-// Returns whether `shown` returns `want`.
-fn shows(
+// Returns whether `output_of` returns `expected`.
+fn has_output(
     alloc: Global,
     form: Form,
     list: &PairList<'_>,
     keys: &[Key<'_>],
-    want: (usize, usize, &str),
+    expected: (usize, usize, &str),
 ) -> bool {
-    match shown(alloc, form, list, keys) {
-        Some((len, count, lines)) => (len, count, lines.as_str()) == want,
+    match output_of(alloc, form, list, keys) {
+        Some((len, count, lines)) => (len, count, lines.as_str()) == expected,
         None => false,
     }
 }
@@ -56,8 +56,8 @@ fn both_show(
 ) -> bool {
     let narrow = form(kind, ArchiveWidth::Bits32);
     let wide = form(kind, ArchiveWidth::Bits64);
-    shows(alloc, narrow, list, keys, (lens.0, 0, lines))
-        && shows(alloc, wide, list, keys, (lens.1, 0, lines))
+    has_output(alloc, narrow, list, keys, (lens.0, 0, lines))
+        && has_output(alloc, wide, list, keys, (lens.1, 0, lines))
 }
 
 #[test]
@@ -93,8 +93,8 @@ fn no_pairs(rt: HostRuntime) {
 fn of_equal_keys_the_first_is_found(rt: HostRuntime) -> Result<(), Fail> {
     let list = PairList::Numbers(vec![in rt.alloc(); (1, 2), (1, 9)]?);
     let narrow = form(Kind::Num, ArchiveWidth::Bits32);
-    let want = (68, 1, "entries 2\n1 2\n1 9\n2\n");
-    let right = shows(rt.alloc(), narrow, &list, &[Key::Number(1)], want);
+    let expected = (68, 1, "entries 2\n1 2\n1 9\n2\n");
+    let right = has_output(rt.alloc(), narrow, &list, &[Key::Number(1)], expected);
     assert!(rt; right);
     Ok(())
 }

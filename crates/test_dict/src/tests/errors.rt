@@ -1,10 +1,10 @@
 //! The numbers and names of errors, and the errors that end a run.
 
 use rkyv_base::{IteratorLengthMismatch, NoMemory, VerifyError, WriteError};
-use rkyv_dict::errors::{cause_text, is_allocation_failure, refusal_text};
+use rkyv_dict::errors::{cause_text, is_allocation_failure, verify_error_text};
 
-fn refusal(error: VerifyError) -> &'static str {
-    refusal_text(&error)
+fn verify_error_name(error: VerifyError) -> &'static str {
+    verify_error_text(&error)
 }
 
 fn cause(error: WriteError<NoMemory>) -> (&'static str, bool) {
@@ -13,18 +13,18 @@ fn cause(error: WriteError<NoMemory>) -> (&'static str, bool) {
 
 #[test]
 fn verify_errors_have_a_text(rt: HostRuntime) {
-    let told = [
-        refusal(VerifyError::OutOfRange { pos: -12, size: 9 }),
-        refusal(VerifyError::Unaligned { pos: 1, align: 4 }),
-        refusal(VerifyError::InvalidLength { len: 3, cap: 2 }),
-        refusal(VerifyError::WrongNumberOfElements {
+    let texts = [
+        verify_error_name(VerifyError::OutOfRange { pos: -12, size: 9 }),
+        verify_error_name(VerifyError::Unaligned { pos: 1, align: 4 }),
+        verify_error_name(VerifyError::InvalidLength { len: 3, cap: 2 }),
+        verify_error_name(VerifyError::WrongNumberOfElements {
             expected: 0,
             actual: 1,
         }),
-        refusal(VerifyError::UnwrappedControlByte { index: 16 }),
-        refusal(VerifyError::PlaceOutOfRange { place: 4, len: 3 }),
-        refusal(VerifyError::InvalidValue { pos: 12 }),
-        refusal(VerifyError::Refused(0)),
+        verify_error_name(VerifyError::UnwrappedControlByte { index: 16 }),
+        verify_error_name(VerifyError::PlaceOutOfRange { place: 4, len: 3 }),
+        verify_error_name(VerifyError::InvalidValue { pos: 12 }),
+        verify_error_name(VerifyError::Refused(0)),
     ];
     let names = [
         "1 OutOfRange",
@@ -36,12 +36,12 @@ fn verify_errors_have_a_text(rt: HostRuntime) {
         "7 InvalidValue",
         "8 Refused",
     ];
-    expect_eq!(rt; told, names);
+    expect_eq!(rt; texts, names);
 }
 
 #[test]
 fn write_errors_have_a_text(rt: HostRuntime) {
-    let told = [
+    let texts = [
         cause(WriteError::InvalidLoadFactor {
             numerator: 8,
             denominator: 7,
@@ -69,5 +69,5 @@ fn write_errors_have_a_text(rt: HostRuntime) {
         ("8 Memory", true),
         ("9 Refused", false),
     ];
-    expect_eq!(rt; told, names);
+    expect_eq!(rt; texts, names);
 }

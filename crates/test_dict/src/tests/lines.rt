@@ -75,8 +75,8 @@ fn rejects_bad_lines(rt: HostRuntime) {
 #[test]
 fn text_that_is_not_utf8_is_a_bad_line(rt: HostRuntime) {
     let script = b"kind text\nput a \xff\nput \xc3 b\nbuild\nget \xff\n";
-    let want = "error 10 BadLine\nerror 10 BadLine\nbuilt 12\nerror 10 BadLine\n";
-    assert!(rt; outputs(rt.alloc(), script, want));
+    let expected = "error 10 BadLine\nerror 10 BadLine\nbuilt 12\nerror 10 BadLine\n";
+    assert!(rt; outputs(rt.alloc(), script, expected));
 }
 
 #[test]

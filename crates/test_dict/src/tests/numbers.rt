@@ -88,20 +88,20 @@ fn many_lookups(alloc: Global) -> Result<String, AllocError> {
 
 // Returns the output of `many_lookups`.
 fn many_values(alloc: Global) -> Result<String, AllocError> {
-    let mut want = String::new(alloc);
-    want.push_str("built 205748\n")?;
+    let mut expected = String::new(alloc);
+    expected.push_str("built 205748\n")?;
     for _ in 0..20_000u32 {
-        want.push_str("0\n")?;
+        expected.push_str("0\n")?;
     }
-    want.push_str("none\n")?;
-    Ok(want)
+    expected.push_str("none\n")?;
+    Ok(expected)
 }
 
 #[test]
 fn output_longer_than_a_piece(rt: HostRuntime) -> Result<(), AllocError> {
     let script = many_lookups(rt.alloc())?;
-    let want = many_values(rt.alloc())?;
-    assert!(rt; outputs(rt.alloc(), script.as_bytes(), want.as_str()));
+    let expected = many_values(rt.alloc())?;
+    assert!(rt; outputs(rt.alloc(), script.as_bytes(), expected.as_str()));
     Ok(())
 }
 

@@ -5,33 +5,33 @@ use std::alloc::{AllocError, Global};
 use std::error::Error;
 
 // Returns the text of `Debug`, and the message.
-fn shown<E: Error>(alloc: Global, error: E) -> Result<(String, String), AllocError> {
+fn texts_of<E: Error>(alloc: Global, error: E) -> Result<(String, String), AllocError> {
     let debug = format!(in alloc; "{error:?}")?;
     let message = format!(in alloc; "{error}")?;
     Ok((debug, message))
 }
 
 // Returns `true` if an error is shown as these texts.
-fn is_shown(alloc: Global, error: RunError, debug: &str, message: &str) -> bool {
-    match shown(alloc, error) {
+fn prints_as(alloc: Global, error: RunError, debug: &str, message: &str) -> bool {
+    match texts_of(alloc, error) {
         Ok((first, second)) => first.as_str() == debug && second.as_str() == message,
         Err(_) => false,
     }
 }
 
 #[test]
-fn errors_of_a_run_are_shown(rt: HostRuntime) {
+fn run_errors_have_messages(rt: HostRuntime) {
     let alloc = rt.alloc();
-    let shown = [
-        is_shown(alloc, RunError::Read, "Read", "read fault"),
-        is_shown(alloc, RunError::Write, "Write", "write fault"),
-        is_shown(alloc, RunError::Memory, "Memory", "no memory"),
+    let texts_of = [
+        prints_as(alloc, RunError::Read, "Read", "read fault"),
+        prints_as(alloc, RunError::Write, "Write", "write fault"),
+        prints_as(alloc, RunError::Memory, "Memory", "no memory"),
     ];
-    expect_eq!(rt; shown, [true; 3]);
+    expect_eq!(rt; texts_of, [true; 3]);
 }
 
 #[test]
 fn a_failed_allocation_is_an_error_of_memory(rt: HostRuntime) {
     let error = RunError::from(AllocError);
-    assert!(rt; is_shown(rt.alloc(), error, "Memory", "no memory"));
+    assert!(rt; prints_as(rt.alloc(), error, "Memory", "no memory"));
 }

@@ -11,21 +11,21 @@ pub(crate) const ONE: &str =
 pub(crate) const SCRIPT: &[u8] = b"put 1 2\nbuild\nhex\nget 1\nget 2\nlist\n";
 
 /// The output of the script.
-pub(crate) const ANSWERS: &str =
+pub(crate) const EXPECTED_OUTPUT: &str =
     "built 60\n01000000020000000000000000000000ff28ff28ffffffffffffffffffffffffffffffffffffffffffffffffffffff00e0ffffff0100000002000000\n2\nnone\nentries 1\n1 2\n";
 
-/// Returns whether the output of a script is `want`.
-pub(crate) fn outputs(alloc: Global, script: &[u8], want: &str) -> bool {
+/// Returns whether the output of a script is `expected`.
+pub(crate) fn outputs(alloc: Global, script: &[u8], expected: &str) -> bool {
     let mut reader = script;
     let mut out = Vec::new(alloc);
     let outcome = run(alloc, &mut reader, &mut out);
-    outcome.is_ok() && out.as_slice() == want.as_bytes()
+    outcome.is_ok() && out.as_slice() == expected.as_bytes()
 }
 
 /// Returns the first script whose output isn't the text beside it.
 pub(crate) fn first_wrong<'a>(alloc: Global, rows: &[(&'a str, &str)]) -> Option<&'a str> {
-    for (script, want) in rows {
-        if !outputs(alloc, script.as_bytes(), want) {
+    for (script, expected) in rows {
+        if !outputs(alloc, script.as_bytes(), expected) {
             return Some(script);
         }
     }
@@ -48,10 +48,16 @@ pub(crate) fn puts(
     Ok(script)
 }
 
-/// Returns whether the output of a script from `puts` is `want`.
-pub(crate) fn puts_output(alloc: Global, head: &str, count: u32, tail: &str, want: &str) -> bool {
+/// Returns whether the output of a script from `puts` is `expected`.
+pub(crate) fn puts_output(
+    alloc: Global,
+    head: &str,
+    count: u32,
+    tail: &str,
+    expected: &str,
+) -> bool {
     match puts(alloc, head, count, tail) {
-        Ok(script) => outputs(alloc, script.as_bytes(), want),
+        Ok(script) => outputs(alloc, script.as_bytes(), expected),
         Err(_) => false,
     }
 }
@@ -63,10 +69,10 @@ pub(crate) fn first_wrong_check<'a>(
     alloc: Global,
     rows: &[(&str, &'a str, &str, &str)],
 ) -> Option<&'a str> {
-    for (head, digits, tail, want) in rows {
+    for (head, digits, tail, expected) in rows {
         let script = format!(in alloc; "{head}check {digits}\n{tail}");
         let right = match script {
-            Ok(script) => outputs(alloc, script.as_bytes(), want),
+            Ok(script) => outputs(alloc, script.as_bytes(), expected),
             Err(_) => false,
         };
         if !right {

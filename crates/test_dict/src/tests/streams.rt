@@ -1,6 +1,6 @@
 //! Readers and writers that fail, and the exit status of the run.
 
-use crate::tests::scripts::{ANSWERS, SCRIPT, outputs};
+use crate::tests::scripts::{EXPECTED_OUTPUT, SCRIPT, outputs};
 use rkyv_dict::run::{RunError, exit_status, run};
 use std::alloc::{AllocError, Global};
 use std::io;
@@ -81,7 +81,7 @@ fn write_fails(alloc: Global, most: usize, left: usize) -> (u8, Vec<u8>) {
 // Returns whether a run into a writer that fails after `left` bytes writes just these bytes.
 fn leaves_a_prefix(alloc: Global, most: usize, left: usize) -> bool {
     let (status, taken) = write_fails(alloc, most, left);
-    match ANSWERS.as_bytes().get(..left) {
+    match EXPECTED_OUTPUT.as_bytes().get(..left) {
         Some(beginning) => status == 3 && taken.as_slice() == beginning,
         None => false,
     }
@@ -142,17 +142,17 @@ fn many_reads_are_made(rt: HostRuntime) -> Result<(), AllocError> {
     };
     let mut out = Vec::new(rt.alloc());
     let status = exit_status(&run(rt.alloc(), &mut reader, &mut out));
-    expect_eq!(rt; (status, out.as_slice()), (0, ANSWERS.as_bytes()));
+    expect_eq!(rt; (status, out.as_slice()), (0, EXPECTED_OUTPUT.as_bytes()));
     Ok(())
 }
 
 #[test]
 fn failed_write_leaves_a_prefix(rt: HostRuntime) {
-    let wrong = (0..ANSWERS.len()).find(|left| !leaves_a_prefix(rt.alloc(), 7, *left));
-    let (whole, all) = write_fails(rt.alloc(), 1, ANSWERS.len());
+    let wrong = (0..EXPECTED_OUTPUT.len()).find(|left| !leaves_a_prefix(rt.alloc(), 7, *left));
+    let (whole, all) = write_fails(rt.alloc(), 1, EXPECTED_OUTPUT.len());
     expect_eq!(rt;
         (wrong, whole, all.as_slice()),
-        (None, 0, ANSWERS.as_bytes())
+        (None, 0, EXPECTED_OUTPUT.as_bytes())
     );
 }
 
@@ -164,5 +164,5 @@ fn a_write_that_takes_nothing_fails(rt: HostRuntime) {
 
 #[test]
 fn script_has_the_expected_output(rt: HostRuntime) {
-    assert!(rt; outputs(rt.alloc(), SCRIPT, ANSWERS));
+    assert!(rt; outputs(rt.alloc(), SCRIPT, EXPECTED_OUTPUT));
 }

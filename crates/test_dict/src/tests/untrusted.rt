@@ -6,9 +6,9 @@ fn takes_an_archive(rt: HostRuntime) {
     let upper =
         "01000000020000000000000000000000FF28FF28FFFFFFFFFFFFFFFFFFFFFFFFFFFFFFFFFFfffFfFfFfFfFfFfFfFfF00E0FFFFFF0100000002000000";
     let tail = "hex\nget 1\nget 2\nlist\naudit\n";
-    let want =
+    let expected =
         "ok 1\n01000000020000000000000000000000ff28ff28ffffffffffffffffffffffffffffffffffffffffffffffffffffff00e0ffffff0100000002000000\n2\nnone\nentries 1\n1 2\nmisplaced 0\n";
-    let rows = [("", ONE, tail, want), ("", upper, tail, want)];
+    let rows = [("", ONE, tail, expected), ("", upper, tail, expected)];
     expect_eq!(rt; first_wrong_check(rt.alloc(), &rows), None);
 }
 
@@ -62,7 +62,7 @@ fn check_prints_the_error_of_an_archive(rt: HostRuntime) {
 }
 
 #[test]
-fn a_refused_check_keeps_the_archive(rt: HostRuntime) {
+fn a_failed_check_keeps_the_archive(rt: HostRuntime) {
     let rows = [
         (
             "put 1 2\nbuild\nput 3 4\ncheck 01\nget 1\ncheck 010000000000000000000000\nget 1\ncheck 01\nlist\nbuild\nget 3\n",

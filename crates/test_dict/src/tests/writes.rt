@@ -1,7 +1,7 @@
 //! Writers of which one write fails, and the writes of the run.
 ghost use Rattle.std.specs.Prelude.{◌<◌};
 
-use crate::tests::scripts::{ANSWERS, SCRIPT};
+use crate::tests::scripts::{EXPECTED_OUTPUT, SCRIPT};
 use rkyv_dict::run::{RunError, run};
 use std::alloc::{AllocError, Global};
 use std::io;
@@ -74,14 +74,14 @@ fn is_returned(alloc: Global, most: usize, fails_at: usize) -> bool {
     let before = fails_at.saturating_sub(1).saturating_mul(most);
     outcome == Ending::Write
         && writer.writes == fails_at
-        && ANSWERS.as_bytes().get(..before) == Some(writer.taken.as_slice())
+        && EXPECTED_OUTPUT.as_bytes().get(..before) == Some(writer.taken.as_slice())
 }
 
 // Returns the number of writes of at most `most` bytes for the whole output.
 fn writes(most: usize) -> usize
     requires { 0 < most }
 {
-    ANSWERS.len().div_ceil(most)
+    EXPECTED_OUTPUT.len().div_ceil(most)
 }
 
 #[test]
@@ -113,7 +113,7 @@ fn failure_past_the_last_write_has_no_effect(rt: HostRuntime) {
     let outcome = outcome(rt.alloc(), SCRIPT, &mut writer);
     expect_eq!(rt;
         (outcome, writer.writes, writer.taken.as_slice()),
-        (Ending::Done, writes(64), ANSWERS.as_bytes())
+        (Ending::Done, writes(64), EXPECTED_OUTPUT.as_bytes())
     );
 }
 

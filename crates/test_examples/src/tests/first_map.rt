@@ -10,8 +10,8 @@ fn looked_up(alloc: Global) -> Result<(Option<u64>, Option<u64>, bool), Fail> {
     let symbols = [("main", 0x1139), ("top", u64::MAX), ("main", 1)];
     let table = write(alloc, &symbols)?;
     let bytes = table.as_slice();
-    let refused = look_up(&bytes[..bytes.len().saturating_sub(1)], "main").is_err();
-    Ok((look_up(bytes, "main")?, look_up(bytes, "puts")?, refused))
+    let failed = look_up(&bytes[..bytes.len().saturating_sub(1)], "main").is_err();
+    Ok((look_up(bytes, "main")?, look_up(bytes, "puts")?, failed))
 }
 
 #[test]

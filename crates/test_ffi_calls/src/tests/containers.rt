@@ -89,19 +89,19 @@ fn explained(bytes: &[u8], codes: Codes) -> (u32, i64, u64, u64) {
     (status, position, first, second)
 }
 
-// Returns the status of writing a header, and whether the header is then `wanted`.
-fn writes(codes: Codes, checked: bool, wanted: &[u8]) -> (u32, bool) {
+// Returns the status of writing a header, and whether the header is then `expected`.
+fn writes(codes: Codes, checked: bool, expected: &[u8]) -> (u32, bool) {
     let mut header = [9; 32];
     let status = write_header(&[1, 2, 3], codes, checked, &mut header);
-    (status, header.as_slice() == wanted)
+    (status, header.as_slice() == expected)
 }
 
 // Returns the status of writing a header without a checksum, and whether it then has the codes and
-// flags `wanted`.
-fn writes_codes(codes: Codes, wanted: &[u8]) -> (u32, bool) {
+// flags `expected`.
+fn writes_codes(codes: Codes, expected: &[u8]) -> (u32, bool) {
     let mut header = [9; 32];
     let status = write_header(&[1, 2, 3], codes, false, &mut header);
-    (status, &header[10..16] == wanted)
+    (status, &header[10..16] == expected)
 }
 
 // Returns the status of opening the container with another byte at `pos`.

@@ -28,9 +28,9 @@ fn numbers<K: NumberKey>(
     let mut before = [1, 2];
     let mut built = Built { bytes: &mut before };
     let status = build_index_numbers(alloc, items, form, &mut built);
-    let wanted = if status == DONE { bytes } else { &[1, 2] };
+    let expected = if status == DONE { bytes } else { &[1, 2] };
     let Built { bytes: after } = built;
-    (status, &*after == wanted)
+    (status, &*after == expected)
 }
 
 // Writes the pair of 1 and 2.
@@ -56,9 +56,9 @@ fn texts(alloc: Global, items: &[Pair<&[u8], u64>], form: Form, bytes: &[u8]) ->
     let mut before = [1, 2];
     let mut built = Built { bytes: &mut before };
     let status = build_index_texts(alloc, items, form, &mut built);
-    let wanted = if status == DONE { bytes } else { &[1, 2] };
+    let expected = if status == DONE { bytes } else { &[1, 2] };
     let Built { bytes: after } = built;
-    (status, &*after == wanted)
+    (status, &*after == expected)
 }
 
 // Writes one pair of a text.

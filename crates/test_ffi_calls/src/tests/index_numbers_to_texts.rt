@@ -30,13 +30,13 @@ fn is_map<K: NumberKey>(archive: &[u8], wide: bool) -> bool
     }
 }
 
-// Returns the number of pairs, and the status and the index of a lookup, if the value is `wanted`
+// Returns the number of pairs, and the status and the index of a lookup, if the value is `expected`
 // afterwards. The index is 8 and the value `?` at first.
 fn lookup<'a, K: NumberKey>(
     archive: &'a [u8],
     wide: bool,
     key: K,
-    wanted: &[u8],
+    expected: &[u8],
 ) -> Option<(usize, u32, usize)> {
     if !is_map::<K>(archive, wide) {
         return None;
@@ -45,7 +45,7 @@ fn lookup<'a, K: NumberKey>(
     let value: &'a [u8] = b"?";
     let mut found = Indexed { index: 8, value };
     let status = get_index_text_of_number(archive, wide, &header, key, &mut found);
-    if found.value == wanted {
+    if found.value == expected {
         Some((header.len(), status, found.index))
     } else {
         None
@@ -74,7 +74,7 @@ fn is_long_pair(pair: Pair<u64, &[u8]>, key: u64, value: &[u8]) -> bool {
     pair.key == key && pair.value == value
 }
 
-// Returns how many pairs are stored over two, from an index on, if the two are as wanted
+// Returns how many pairs are stored over two, from an index on, if the two are as expected
 // afterwards. Each is 9 to `?` at first.
 fn several(
     archive: &[u8],

@@ -26,9 +26,9 @@ fn numbers<'a, K: NumberKey>(
     let mut before = [1, 2];
     let mut built = Built { bytes: &mut before };
     let status = build_index_numbers_to_texts(alloc, items, wide, &mut built);
-    let wanted = if status == DONE { bytes } else { &[1, 2] };
+    let expected = if status == DONE { bytes } else { &[1, 2] };
     let Built { bytes: after } = built;
-    (status, &*after == wanted)
+    (status, &*after == expected)
 }
 
 // Writes the pair of 1 to the value.
@@ -84,9 +84,9 @@ fn texts(alloc: Global, items: &[Pair<&[u8], &[u8]>], wide: bool, bytes: &[u8]) 
     let mut before = [1, 2];
     let mut built = Built { bytes: &mut before };
     let status = build_index_texts_to_texts(alloc, items, wide, &mut built);
-    let wanted = if status == DONE { bytes } else { &[1, 2] };
+    let expected = if status == DONE { bytes } else { &[1, 2] };
     let Built { bytes: after } = built;
-    (status, &*after == wanted)
+    (status, &*after == expected)
 }
 
 // Writes the pair of a text to the value.

@@ -47,8 +47,8 @@ const NINE: Pair<&[u8], u64> = Pair {
     key: b"?",
 };
 
-// Returns how many pairs are stored over one, from an index on, if the one is as wanted afterwards.
-// It has the key `?` and the value 9 at first.
+// Returns how many pairs are stored over one, from an index on, if the one is as expected
+// afterwards. It has the key `?` and the value 9 at first.
 fn pair_at(archive: &[u8], form: Form, index: usize, key: &[u8], value: u64) -> Option<usize> {
     if !is_map(archive, form) {
         return None;
@@ -63,7 +63,7 @@ fn pair_at(archive: &[u8], form: Form, index: usize, key: &[u8], value: u64) -> 
     }
 }
 
-// Returns how many pairs are stored over two, from an index on, if the first is as wanted
+// Returns how many pairs are stored over two, from an index on, if the first is as expected
 // afterwards. Each has the key `?` and the value 9 at first.
 fn several(archive: &[u8], form: Form, from: usize, key: &[u8], value: u64) -> Option<usize> {
     if !is_map(archive, form) {

@@ -23,9 +23,9 @@ fn is_map(archive: &[u8], wide: bool) -> bool
     }
 }
 
-// Returns the number of pairs, and the status and the index of a lookup, if the value is `wanted`
+// Returns the number of pairs, and the status and the index of a lookup, if the value is `expected`
 // afterwards. The index is 8 and the value `?` at first.
-fn lookup(archive: &[u8], wide: bool, key: &[u8], wanted: &[u8]) -> Option<(usize, u32, usize)> {
+fn lookup(archive: &[u8], wide: bool, key: &[u8], expected: &[u8]) -> Option<(usize, u32, usize)> {
     if !is_map(archive, wide) {
         return None;
     }
@@ -33,7 +33,7 @@ fn lookup(archive: &[u8], wide: bool, key: &[u8], wanted: &[u8]) -> Option<(usiz
     let value: &[u8] = b"?";
     let mut found = Indexed { index: 8, value };
     let status = get_index_text_of_text(archive, wide, &header, key, &mut found);
-    if found.value == wanted {
+    if found.value == expected {
         Some((header.len(), status, found.index))
     } else {
         None
@@ -51,8 +51,8 @@ fn is_pair(pair: Pair<&[u8], &[u8]>, parts: [&[u8]; 2]) -> bool {
     pair.key == parts[0] && pair.value == parts[1]
 }
 
-// Returns how many pairs are stored over one, from an index on, if the one is as wanted afterwards.
-// It is `!` to `?` at first.
+// Returns how many pairs are stored over one, from an index on, if the one is as expected
+// afterwards. It is `!` to `?` at first.
 fn pair_at(archive: &[u8], wide: bool, index: usize, pair: [&[u8]; 2]) -> Option<usize> {
     if !is_map(archive, wide) {
         return None;
@@ -67,7 +67,7 @@ fn pair_at(archive: &[u8], wide: bool, index: usize, pair: [&[u8]; 2]) -> Option
     }
 }
 
-// Returns how many pairs are stored over three, from an index on, if the first two are as wanted
+// Returns how many pairs are stored over three, from an index on, if the first two are as expected
 // afterwards and the third is unchanged. Each is `!` to `?` at first.
 fn several(
     archive: &[u8],

@@ -33,12 +33,12 @@ fn step(archive: &[u8], form: Form, from: u64) -> Option<(usize, (u64, u64, u64)
 fn several(archive: &[u8], form: Form, from: u64) -> Option<(usize, [(u64, u64, u64); 3])> {
     let mut pairs = [NINE; 3];
     let count = walk(archive, form, from, &mut pairs)?;
-    let seen = [
+    let results = [
         numbers_of(pairs[0]),
         numbers_of(pairs[1]),
         numbers_of(pairs[2]),
     ];
-    Some((count, seen))
+    Some((count, results))
 }
 
 #[test]
@@ -66,11 +66,11 @@ fn lookups_compare_all_64_bits(rt: HostRuntime) {
 
 #[test]
 fn walks_of_long_numbers_visit_bucket_1(rt: HostRuntime) {
-    let wanted = Some((1, (2, 1, 2)));
-    expect_eq!(rt; step(&one_long_number(), SHORT, 0), wanted);
-    expect_eq!(rt; step(&one_long_number(), LONG, 1), wanted);
-    expect_eq!(rt; step(&one_wide_long_number(), WIDE, 0), wanted);
-    expect_eq!(rt; step(&one_wide_long_number(), WIDE_LONG, 1), wanted);
+    let expected = Some((1, (2, 1, 2)));
+    expect_eq!(rt; step(&one_long_number(), SHORT, 0), expected);
+    expect_eq!(rt; step(&one_long_number(), LONG, 1), expected);
+    expect_eq!(rt; step(&one_wide_long_number(), WIDE, 0), expected);
+    expect_eq!(rt; step(&one_wide_long_number(), WIDE_LONG, 1), expected);
     let great = Some((1, (2, GREAT, 2)));
     expect_eq!(rt; step(&one_great_number(), LONG, 0), great);
     expect_eq!(rt; step(&one_wide_great_number(), WIDE, 0), great);

@@ -27,9 +27,9 @@ fn write<K: NumberKey>(
     let mut before = [1, 2];
     let mut built = Built { bytes: &mut before };
     let status = build_numbers(alloc, items, form, &mut built);
-    let wanted = if status == DONE { bytes } else { &[1, 2] };
+    let expected = if status == DONE { bytes } else { &[1, 2] };
     let Built { bytes: after } = built;
-    (status, &*after == wanted)
+    (status, &*after == expected)
 }
 
 // Writes the pairs of 1 and `first`, and of 1 and `second`.

@@ -176,9 +176,9 @@ fn write<K: NumberKey>(alloc: Global, items: &[K], wide: bool, bytes: &[u8]) -> 
     let mut before = [1, 2];
     let mut built = Built { bytes: &mut before };
     let status = build_number_set(alloc, items, wide, &mut built);
-    let wanted = if status == DONE { bytes } else { &[1, 2] };
+    let expected = if status == DONE { bytes } else { &[1, 2] };
     let Built { bytes: after } = built;
-    (status, &*after == wanted)
+    (status, &*after == expected)
 }
 
 // Returns whether the result is that of the archive, or of an allocation that fails.

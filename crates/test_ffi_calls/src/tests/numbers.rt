@@ -112,12 +112,12 @@ fn step(archive: &[u8], form: Form, from: u64) -> Option<(usize, (u64, u32, u64)
 fn several(archive: &[u8], form: Form, from: u64) -> Option<(usize, [(u64, u32, u64); 3])> {
     let mut pairs = [NINE; 3];
     let count = walk(archive, form, from, &mut pairs)?;
-    let seen = [
+    let results = [
         numbers_of(pairs[0]),
         numbers_of(pairs[1]),
         numbers_of(pairs[2]),
     ];
-    Some((count, seen))
+    Some((count, results))
 }
 
 #[test]
@@ -144,11 +144,11 @@ fn lookups_find_no_other_number(rt: HostRuntime) {
 
 #[test]
 fn walks_visit_bucket_1(rt: HostRuntime) {
-    let wanted = Some((1, (2, 1, 2)));
-    expect_eq!(rt; step(&one_number(), SHORT, 0), wanted);
-    expect_eq!(rt; step(&one_long_number(), LONG, 1), wanted);
-    expect_eq!(rt; step(&one_wide_number(), WIDE, 0), wanted);
-    expect_eq!(rt; step(&one_wide_long_number(), WIDE_LONG, 1), wanted);
+    let expected = Some((1, (2, 1, 2)));
+    expect_eq!(rt; step(&one_number(), SHORT, 0), expected);
+    expect_eq!(rt; step(&one_long_number(), LONG, 1), expected);
+    expect_eq!(rt; step(&one_wide_number(), WIDE, 0), expected);
+    expect_eq!(rt; step(&one_wide_long_number(), WIDE_LONG, 1), expected);
 }
 
 #[test]

@@ -31,13 +31,13 @@ fn is_map<K: NumberKey>(archive: &[u8], wide: bool) -> bool
     }
 }
 
-// Returns the number of pairs and the status of a lookup, if the value is `wanted` afterwards.
+// Returns the number of pairs and the status of a lookup, if the value is `expected` afterwards.
 // It is `?` at first.
 fn lookup<'a, K: NumberKey>(
     archive: &'a [u8],
     wide: bool,
     key: K,
-    wanted: &[u8],
+    expected: &[u8],
 ) -> Option<(usize, u32)> {
     if !is_map::<K>(archive, wide) {
         return None;
@@ -45,7 +45,7 @@ fn lookup<'a, K: NumberKey>(
     let header = decode_numbers_to_texts::<K>(archive, wide);
     let mut value: &'a [u8] = b"?";
     let status = get_text_of_number(archive, wide, &header, key, &mut value);
-    if value == wanted {
+    if value == expected {
         Some((header.len(), status))
     } else {
         None
@@ -80,7 +80,7 @@ fn is_long_step(step: Step<Pair<u64, &[u8]>>, next: u64, key: u64, value: &[u8])
     step.next == next && step.pair.key == key && step.pair.value == value
 }
 
-// Returns how many pairs are stored over one, from the given bucket on, if the one is as wanted
+// Returns how many pairs are stored over one, from the given bucket on, if the one is as expected
 // afterwards. It is 9 to `?` at first.
 fn step(archive: &[u8], wide: bool, from: u64, next: u64, key: u32, value: &[u8]) -> Option<usize> {
     if !is_map::<u32>(archive, wide) {
@@ -97,7 +97,7 @@ fn step(archive: &[u8], wide: bool, from: u64, next: u64, key: u32, value: &[u8]
 }
 
 // Returns how many pairs are stored over three, from the given bucket on, if the first two are as
-// wanted afterwards and the third is unchanged. Each is 9 to `?` at first.
+// expected afterwards and the third is unchanged. Each is 9 to `?` at first.
 fn several(
     archive: &[u8],
     wide: bool,
@@ -121,7 +121,7 @@ fn several(
     }
 }
 
-// Returns how many pairs with keys of 64 bits are stored over two, if the two are as wanted
+// Returns how many pairs with keys of 64 bits are stored over two, if the two are as expected
 // afterwards. Each is 9 to `?` at first.
 fn several_long(
     archive: &[u8],

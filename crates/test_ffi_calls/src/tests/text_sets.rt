@@ -76,15 +76,15 @@ const OTHER: Step<Pair<&[u8], ()>> = Step {
 };
 
 // Returns how many texts are stored over one, from a bucket on, the next bucket, and whether the
-// item is `wanted`. They are 9 and `?` at first.
-fn step(archive: &[u8], wide: bool, from: u64, wanted: &[u8]) -> Option<(usize, u64, bool)> {
+// item is `expected`. They are 9 and `?` at first.
+fn step(archive: &[u8], wide: bool, from: u64, expected: &[u8]) -> Option<(usize, u64, bool)> {
     if !is_set(archive, wide) {
         return None;
     }
     let header = decode_text_set(archive, wide);
     let mut members = [OTHER];
     let count = next_text_members(archive, wide, &header, from, &mut members);
-    Some((count, members[0].next, members[0].pair.key == wanted))
+    Some((count, members[0].next, members[0].pair.key == expected))
 }
 
 // Returns how many items are stored over two, and their lengths, which are 1 at first.
@@ -125,9 +125,9 @@ fn write(alloc: Global, items: &[SetText<'_>], wide: bool, bytes: &[u8]) -> (u32
     let mut before = [1, 2];
     let mut built = Built { bytes: &mut before };
     let status = build_text_set(alloc, items, wide, &mut built);
-    let wanted = if status == DONE { bytes } else { &[1, 2] };
+    let expected = if status == DONE { bytes } else { &[1, 2] };
     let Built { bytes: after } = built;
-    (status, &*after == wanted)
+    (status, &*after == expected)
 }
 
 // Writes a set of one text.

@@ -27,9 +27,9 @@ fn write_numbers<'a, K: NumberKey>(
     let mut before = [1, 2];
     let mut built = Built { bytes: &mut before };
     let status = build_numbers_to_texts(alloc, items, wide, &mut built);
-    let wanted = if status == DONE { bytes } else { &[1, 2] };
+    let expected = if status == DONE { bytes } else { &[1, 2] };
     let Built { bytes: after } = built;
-    (status, &*after == wanted)
+    (status, &*after == expected)
 }
 
 // Writes the pairs of 1 to the values.
@@ -82,9 +82,9 @@ fn write_texts(
     let mut before = [1, 2];
     let mut built = Built { bytes: &mut before };
     let status = build_texts_to_texts(alloc, items, wide, &mut built);
-    let wanted = if status == DONE { bytes } else { &[1, 2] };
+    let expected = if status == DONE { bytes } else { &[1, 2] };
     let Built { bytes: after } = built;
-    (status, &*after == wanted)
+    (status, &*after == expected)
 }
 
 // Writes the pair of a key and a value.

@@ -48,7 +48,7 @@ fn is_step(step: Step<Pair<&[u8], u64>>, next: u64, key: &[u8], value: u64) -> b
     step.next == next && step.pair.key == key && step.pair.value == value
 }
 
-// Returns how many pairs are stored over one, from the given bucket on, if the one is as wanted
+// Returns how many pairs are stored over one, from the given bucket on, if the one is as expected
 // afterwards. It has the key `?` and the value 9 at first.
 fn step(archive: &[u8], form: Form, from: u64, next: u64, key: &[u8], value: u64) -> Option<usize> {
     if !is_map(archive, form) {
@@ -64,7 +64,7 @@ fn step(archive: &[u8], form: Form, from: u64, next: u64, key: &[u8], value: u64
     }
 }
 
-// Returns how many pairs are stored over two, from the given bucket on, if the two are as wanted
+// Returns how many pairs are stored over two, from the given bucket on, if the two are as expected
 // afterwards. Each has the key `?` and the value 9 at first.
 fn several(
     archive: &[u8],

@@ -24,16 +24,16 @@ fn is_map(archive: &[u8], wide: bool) -> bool
     }
 }
 
-// Returns the number of pairs and the status of a lookup, if the value is `wanted` afterwards.
+// Returns the number of pairs and the status of a lookup, if the value is `expected` afterwards.
 // It is `?` at first.
-fn lookup(archive: &[u8], wide: bool, key: &[u8], wanted: &[u8]) -> Option<(usize, u32)> {
+fn lookup(archive: &[u8], wide: bool, key: &[u8], expected: &[u8]) -> Option<(usize, u32)> {
     if !is_map(archive, wide) {
         return None;
     }
     let header = decode_texts_to_texts(archive, wide);
     let mut value: &[u8] = b"?";
     let status = get_text_of_text(archive, wide, &header, key, &mut value);
-    if value == wanted {
+    if value == expected {
         Some((header.len(), status))
     } else {
         None
@@ -54,7 +54,7 @@ fn is_step(step: Step<Pair<&[u8], &[u8]>>, next: u64, pair: [&[u8]; 2]) -> bool 
     step.next == next && step.pair.key == pair[0] && step.pair.value == pair[1]
 }
 
-// Returns how many pairs are stored over one, from the given bucket on, if the one is as wanted
+// Returns how many pairs are stored over one, from the given bucket on, if the one is as expected
 // afterwards. It is `!` to `?` at first.
 fn step(archive: &[u8], wide: bool, from: u64, next: u64, pair: [&[u8]; 2]) -> Option<usize> {
     if !is_map(archive, wide) {
@@ -70,7 +70,7 @@ fn step(archive: &[u8], wide: bool, from: u64, next: u64, pair: [&[u8]; 2]) -> O
     }
 }
 
-// Returns how many pairs are stored over two, from the given bucket on, if the first is as wanted
+// Returns how many pairs are stored over two, from the given bucket on, if the first is as expected
 // afterwards and the second is unchanged. Each is `!` to `?` at first.
 fn several(archive: &[u8], wide: bool, from: u64, next: u64, pair: [&[u8]; 2]) -> Option<usize> {
     if !is_map(archive, wide) {

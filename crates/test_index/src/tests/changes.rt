@@ -4,7 +4,7 @@ use rkyv_base::access::access;
 use rkyv_base::errors::VerifyError;
 use rkyv_index::{ArchivedIndexMap, IndexMapOf};
 use test_support::archives::four_entries;
-use test_support::changes::{Answers, outcomes_of_changes};
+use test_support::changes::{OutcomeCounts, outcomes_of_changes};
 
 // Returns whether a valid archive has each of the four keys at its own index.
 fn is_whole(bytes: &[u8]) -> Result<bool, VerifyError> {
@@ -19,10 +19,10 @@ fn is_whole(bytes: &[u8]) -> Result<bool, VerifyError> {
 #[test]
 fn changes_of_one_byte_have_known_outcomes(rt: HostRuntime) {
     let mut bytes = four_entries();
-    let answers = outcomes_of_changes(&mut bytes, is_whole);
+    let outcomes = outcomes_of_changes(&mut bytes, is_whole);
     expect_eq!(rt;
-        answers,
-        Answers {
+        outcomes,
+        OutcomeCounts {
             right: 4962,
             accepted: 5995,
             place_out_of_range: 4068,

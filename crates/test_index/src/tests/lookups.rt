@@ -127,13 +127,13 @@ fn of_equal_keys_the_first_is_found(rt: HostRuntime) -> Result<(), Fail> {
 fn a_comparison_that_accepts_none(rt: HostRuntime) -> Result<(), Fail> {
     let bytes = one_key_twice();
     let map = ArchivedIndexMap::of(access::<Small>(&bytes)?);
-    let asks = Cell::new(0usize);
+    let calls = Cell::new(0usize);
     let found = map.get_with(&1i8, |_: &i8, _: View<'_, i8>| {
-        asks.set(asks.get().wrapping_add(1));
+        calls.set(calls.get().wrapping_add(1));
         false
     });
     assert!(rt; found.is_none());
-    expect_eq!(rt; asks.get(), 4);
+    expect_eq!(rt; calls.get(), 4);
     Ok(())
 }
 
@@ -146,11 +146,11 @@ fn strides_are_counted(rt: HostRuntime) -> Result<(), Fail> {
     let mut strides = Strides::new();
     let found = map.get_index_of_counted(&5i8, |_: &i8, _: View<'_, i8>| true, &mut strides);
     let one = strides.count();
-    let refused = map.get_index_of_counted(&5i8, |_: &i8, _: View<'_, i8>| false, &mut strides);
+    let rejected = map.get_index_of_counted(&5i8, |_: &i8, _: View<'_, i8>| false, &mut strides);
     let two = strides.count();
     let nothing = empty.get_index_of_counted(&5i8, |_: &i8, _: View<'_, i8>| true, &mut strides);
     expect_eq!(rt;
-        (found, refused, nothing, one, two, strides.count()),
+        (found, rejected, nothing, one, two, strides.count()),
         (Some(2), None, None, 1, 2, 2)
     );
     Ok(())
@@ -172,8 +172,8 @@ fn strides_of_seventeen_keys_under_one_hash(rt: HostRuntime) -> Result<(), Fail>
     let at = |_: &i8, key: View<'_, i8>| key.pos() == last;
     let behind = map.get_index_of_counted(&1i8, at, &mut strides);
     let three = strides.count();
-    let refused = map.get_index_of_counted(&1i8, |_: &i8, _: View<'_, i8>| false, &mut strides);
-    expect_eq!(rt; (first, behind, refused), (Some(0), Some(16), None));
+    let rejected = map.get_index_of_counted(&1i8, |_: &i8, _: View<'_, i8>| false, &mut strides);
+    expect_eq!(rt; (first, behind, rejected), (Some(0), Some(16), None));
     expect_eq!(rt; (one, three, strides.count()), (1, 3, 5));
     Ok(())
 }

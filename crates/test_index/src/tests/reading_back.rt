@@ -4,7 +4,7 @@ use crate::tests::archives::{no_pairs, one_key_twice, wide_pair};
 use crate::tests::writing::set_archive;
 use rkyv_base::access::{access, access_in};
 use rkyv_base::width::{Narrow, Wide, Width};
-use rkyv_index::round_trip::{items_come_back, pairs_come_back};
+use rkyv_index::round_trip::{items_round_trip, pairs_round_trip};
 use rkyv_index::{
     ArchivedIndexMap, ArchivedIndexSet, IndexMapOf, IndexSetOf, OrderedItems, OrderedPairs,
 };
@@ -73,25 +73,25 @@ fn items_are_read_back_in_their_order(rt: HostRuntime) -> Result<(), Fail> {
 }
 
 // Returns whether the list of these names is the same after a round trip through a wide archive.
-fn names_come_back(alloc: Global, first: &str, second: &str) -> Option<bool> {
+fn names_round_trip(alloc: Global, first: &str, second: &str) -> Option<bool> {
     let first = String::from_str(alloc, first).ok()?;
     let second = String::from_str(alloc, second).ok()?;
     let names = OrderedItems(vec![in alloc; first, second].ok()?);
-    items_come_back::<Wide, String>(alloc, &names).ok()
+    items_round_trip::<Wide, String>(alloc, &names).ok()
 }
 
 // Returns whether a list of pairs, two of them with one key, is the same after a narrow round trip.
-fn numbers_come_back(alloc: Global) -> Option<bool> {
+fn numbers_round_trip(alloc: Global) -> Option<bool> {
     let pairs = OrderedPairs(vec![in alloc; (3i8, 4i8), (1, 2), (3, 5)].ok()?);
-    pairs_come_back::<Narrow, i8, i8>(alloc, &pairs).ok()
+    pairs_round_trip::<Narrow, i8, i8>(alloc, &pairs).ok()
 }
 
 #[test]
-fn lists_come_back(rt: HostRuntime) {
+fn lists_round_trip(rt: HostRuntime) {
     let alloc = rt.alloc();
     let back = [
-        names_come_back(alloc, "main", "a name of more than eight bytes"),
-        numbers_come_back(alloc),
+        names_round_trip(alloc, "main", "a name of more than eight bytes"),
+        numbers_round_trip(alloc),
     ];
     expect_eq!(rt; back, [Some(true); 2]);
 }

@@ -14,7 +14,7 @@ use rkyv_base::view::View;
 use rkyv_base::width::{Narrow, Width};
 use rkyv_index::map::in_place::set_value_at;
 use rkyv_index::map::laws::{
-    value_writes_keep_answers, value_writes_keep_index_maps, values_written_represent,
+    value_writes_keep_index_maps, value_writes_keep_lookups, values_written_represent,
 };
 use rkyv_index::{ArchivedIndexMap, IndexMapOf};
 use rkyv_keys::keys::{KeyElement, Query};
@@ -117,15 +117,15 @@ fn value_by(bytes: &mut [u8], key: i8, accepts: bool) -> Result<Option<i8>, Veri
 #[test]
 fn a_found_value_is_written_in_place(rt: HostRuntime) {
     value_writes_keep_index_maps::<i8, i8, FxHasher64, Narrow>();
-    value_writes_keep_answers::<i8, i8, i8, FxHasher64, Narrow>();
+    value_writes_keep_lookups::<i8, i8, i8, FxHasher64, Narrow>();
     values_written_represent::<i8, i8, i8, i8, FxHasher64, Narrow>();
     let mut bytes = one_pair();
     let replaced = replace(&mut bytes, 1, -1).ok();
     let found = value_of(&bytes, 1).ok();
-    let mut wanted = one_pair();
-    wanted[40] = 0xff;
+    let mut expected = one_pair();
+    expected[40] = 0xff;
     expect_eq!(rt;
-        (replaced, found, bytes == wanted),
+        (replaced, found, bytes == expected),
         (Some(Some((0, 1, 2))), Some(Some(-1)), true)
     );
 }
@@ -143,10 +143,10 @@ fn every_form_writes_the_same(rt: HostRuntime) {
         key_by(&mut bytes, 5, true).ok(),
         value_by(&mut bytes, 5, true).ok(),
     );
-    let mut wanted = four_entries();
-    wanted[51..59].copy_from_slice(&[1, 20, 3, 40, 5, 60, 7, 80]);
+    let mut expected = four_entries();
+    expected[51..59].copy_from_slice(&[1, 20, 3, 40, 5, 60, 7, 80]);
     expect_eq!(rt;
-        (replaced, beside_key, value, by_comparison, bytes == wanted),
+        (replaced, beside_key, value, by_comparison, bytes == expected),
         (
             [Some(Some((3, 7, 8))), Some(Some((1, 3, 4)))],
             Some(Some((5, 6))),
@@ -232,10 +232,10 @@ fn a_value_is_written_by_its_place(rt: HostRuntime) {
         write_small(&mut bytes, 9, 0).ok(),
     ];
     let found = value_of(&bytes, 5).ok();
-    let mut wanted = four_entries();
-    wanted[56] = 0xff;
+    let mut expected = four_entries();
+    expected[56] = 0xff;
     expect_eq!(rt;
-        (written, found, bytes == wanted),
+        (written, found, bytes == expected),
         ([Some(Some(2)), Some(None)], Some(Some(-1)), true)
     );
 }

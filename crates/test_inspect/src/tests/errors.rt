@@ -11,9 +11,9 @@ use std::test::Fail;
 fn length_of_the_capacity(rt: HostRuntime) -> Result<(), Fail> {
     let mut bytes = ONE_NUMBER;
     bytes[52] = 2;
-    let refused = inspect(rt.alloc(), &bytes, numbers(), 1000);
+    let failed = inspect(rt.alloc(), &bytes, numbers(), 1000);
     let length = matches!(
-        &refused,
+        &failed,
         Err(InspectError::Invalid(VerifyError::InvalidLength { len: 2, cap: 2 }))
     );
     assert!(rt; length);

@@ -44,7 +44,7 @@ fn is_read_back<N: ScalarKey>(alloc: Global, bytes: &[u8], value: N) -> bool {
 }
 
 // Returns `true` if the value of an archive is formatted as this text.
-fn is_shown<N: ScalarKey + Debug>(alloc: Global, bytes: &[u8], text: &str) -> bool {
+fn prints_as<N: ScalarKey + Debug>(alloc: Global, bytes: &[u8], text: &str) -> bool {
     match access::<N>(bytes) {
         Ok(view) => {
             let shown = format!(in alloc; "{:?}", Shown::new(view));
@@ -66,7 +66,7 @@ fn represents_in<N: ScalarKey + Debug>(
     compared(bytes, others, value, other).ok() == Some([true, false, true, false, true, false])
         && hashes_alike(bytes, value).ok() == Some(true)
         && is_read_back(alloc, bytes, value)
-        && is_shown::<N>(alloc, bytes, text)
+        && prints_as::<N>(alloc, bytes, text)
 }
 
 // Archives a value and another, and calls `represents_in` on the archives.

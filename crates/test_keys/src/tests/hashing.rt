@@ -67,7 +67,7 @@ fn a_pair_feeds_its_parts_in_order(rt: HostRuntime) {
 }
 
 #[test]
-fn sizes_feed_as_many_bits_as_the_hasher_says(rt: HostRuntime) {
+fn sizes_feed_as_many_bits_as_the_hasher_takes(rt: HostRuntime) {
     let low = [
         hash_value::<usize, FxHasher64>(&1),
         hash_value::<usize, FxHasher64>(&4_294_967_297),

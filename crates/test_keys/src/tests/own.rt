@@ -7,7 +7,7 @@ ghost use Rattle.rkyv_keys.specs.Calls.{after_calls};
 ghost use Rattle.rkyv_keys.specs.AtViews.{at_view, at_views};
 ghost use Rattle.test_keys.specs.LowByte.{byte_call, low_calls, low_element, low_equivalence};
 ghost use Rattle.test_keys.specs.LowByte.{low_fits, low_key, low_local, low_query};
-ghost use Rattle.test_keys.specs.LowByte.{low_refuses, low_same, low_spec, low_represents};
+ghost use Rattle.test_keys.specs.LowByte.{low_fails, low_same, low_spec, low_represents};
 
 use rkyv_base::access::access;
 use rkyv_base::element::HasSpec;
@@ -105,13 +105,13 @@ impl Represents<u32> for LowByte {
 
 // Deserializing a number whose low byte is 0 fails with `Refused(7)`.
 impl Deserialize<u32> for LowByte {
-    ghost deserialize_fails = { low_refuses };
+    ghost deserialize_fails = { low_fails };
 
     fn deserialize(_alloc: Global, view: View<'_, LowByte>) -> Result<u32, ReadError>
         requires { IsValidView low_spec view }
         ensures { MatchResult result
             (AtView low_represents view.entry)
-            (AtView low_refuses view.entry) }
+            (AtView low_fails view.entry) }
     {
         let value = number(view);
         if value % 256 == 0 {

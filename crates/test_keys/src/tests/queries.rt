@@ -66,8 +66,8 @@ fn reads_text(alloc: Global, bytes: &[u8], text: &str) -> bool {
 }
 
 // Returns `true` if an owned text is this one.
-fn is(text: &String, wanted: &str) -> bool {
-    text.as_str() == wanted
+fn is(text: &String, expected: &str) -> bool {
+    text.as_str() == expected
 }
 
 // Returns `true` if this pair of a text and a number is deserialized.
@@ -112,7 +112,7 @@ fn owned_hello(alloc: Global) -> Option<[Option<bool>; 4]> {
 #[test]
 fn str_queries_match_texts(rt: HostRuntime) {
     let (yes, no) = (Some(true), Some(false));
-    let asked = [
+    let compared = [
         query_matches::<Text, &str>(&"hello", &HELLO).ok(),
         query_matches::<Text, &str>(&"hello", &HELLO_AGAIN).ok(),
         query_matches::<Text, &str>(&"hellx", &HELLO).ok(),
@@ -120,7 +120,7 @@ fn str_queries_match_texts(rt: HostRuntime) {
         query_matches::<Text<Wide>, &str>(&"wonderful", &WIDE_WONDERFUL).ok(),
     ];
     expect_eq!(rt;
-        (asked, owned_hello(rt.alloc())),
+        (compared, owned_hello(rt.alloc())),
         ([yes, yes, no, yes, yes], Some([yes, no, yes, no]))
     );
 }
@@ -133,37 +133,37 @@ fn keys_hash_as_their_queries(rt: HostRuntime) {
         hash_of::<Entry<Text, u32>>(&HELLO_SEVEN).ok(),
         hash_of::<()>(&[]).ok(),
     ];
-    let wanted = [
+    let expected = [
         Some(hash_value::<&str, FxHasher64>(&"hello")),
         Some(hash_value::<&str, FxHasher64>(&"wonderful")),
         Some(hash_value::<(&str, u32), FxHasher64>(&("hello", 7))),
         Some(0),
     ];
-    expect_eq!(rt; hashes, wanted);
+    expect_eq!(rt; hashes, expected);
 }
 
 #[test]
 fn pair_queries_match_entries(rt: HostRuntime) {
-    let asked = [
+    let compared = [
         query_matches::<Entry<Text, u32>, (&str, u32)>(&("hello", 7), &HELLO_SEVEN).ok(),
         query_matches::<Entry<Text, u32>, (&str, u32)>(&("hello", 8), &HELLO_SEVEN).ok(),
         query_matches::<Entry<Text, u32>, (&str, u32)>(&("hell", 7), &HELLO_SEVEN).ok(),
         query_matches::<(), ()>(&(), &[]).ok(),
     ];
-    expect_eq!(rt; asked, [Some(true), Some(false), Some(false), Some(true)]);
+    expect_eq!(rt; compared, [Some(true), Some(false), Some(false), Some(true)]);
 }
 
 #[test]
 fn archived_keys_match_keys_of_other_archives(rt: HostRuntime) {
     let (yes, no) = (Some(true), Some(false));
-    let asked = [
+    let compared = [
         key_matches::<Text>(&HELLO, &HELLO_AGAIN).ok(),
         key_matches::<Text>(&HELLO, &WONDERFUL).ok(),
         key_matches::<Entry<Text, u32>>(&HELLO_SEVEN, &HELLO_SEVEN).ok(),
         key_matches::<Entry<Text, u32>>(&HELLO_SEVEN, &HELLO_EIGHT).ok(),
         key_matches::<u16>(&[1, 2], &[1, 2]).ok(),
     ];
-    expect_eq!(rt; asked, [yes, no, yes, no, yes]);
+    expect_eq!(rt; compared, [yes, no, yes, no, yes]);
 }
 
 #[test]

@@ -164,7 +164,7 @@ pub(crate) fn is_archive<U: Serialize<VecWriter, Narrow>>(
     load_factor: (usize, usize),
 ) -> bool {
     match archived(alloc, items, hashes, load_factor) {
-        Ok(wanted) => wanted.as_slice() == bytes,
+        Ok(expected) => expected.as_slice() == bytes,
         Err(_) => false,
     }
 }

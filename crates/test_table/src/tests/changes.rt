@@ -8,7 +8,7 @@ use rkyv_base::errors::VerifyError;
 use rkyv_base::width::Narrow;
 use rkyv_table::table::TableOf;
 use test_support::archives::one_number;
-use test_support::changes::{Answers, outcomes_of_changes};
+use test_support::changes::{OutcomeCounts, outcomes_of_changes};
 
 // Returns `true` if a lookup of a number reads one stride.
 fn is_one_stride(bytes: &[u8], key: u32) -> bool {
@@ -31,10 +31,10 @@ fn is_small(bytes: &[u8]) -> Result<bool, VerifyError> {
 #[test]
 fn changes_of_one_byte_have_known_outcomes(rt: HostRuntime) {
     let mut bytes = one_number();
-    let answers = outcomes_of_changes(&mut bytes, is_small);
+    let outcomes = outcomes_of_changes(&mut bytes, is_small);
     expect_eq!(rt;
-        answers,
-        Answers {
+        outcomes,
+        OutcomeCounts {
             right: 7764,
             accepted: 7764,
             place_out_of_range: 0,

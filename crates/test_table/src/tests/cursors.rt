@@ -52,10 +52,10 @@ fn write_pair(bytes: &mut [u8]) -> Result<Option<(u64, bool)>, VerifyError> {
 fn a_scalar_is_written_at_an_offset_of_an_item(rt: HostRuntime) {
     let mut bytes = one_number();
     let written = write_pair(&mut bytes).ok();
-    let mut wanted = one_number();
-    wanted[0] = 3;
-    wanted[4] = 4;
-    expect_eq!(rt; (written, bytes), (Some(Some((0, true))), wanted));
+    let mut expected = one_number();
+    expected[0] = 3;
+    expected[4] = 4;
+    expect_eq!(rt; (written, bytes), (Some(Some((0, true))), expected));
 }
 
 // Writes a byte over the first item of the table of 10 and 20, in the bytes of the cursor.
@@ -80,7 +80,7 @@ fn write_in_bytes(bytes: &mut [u8], byte: u8) -> Result<(usize, Option<u64>), Ve
 fn the_bytes_of_a_cursor_are_the_archive(rt: HostRuntime) {
     let mut bytes = two_archived();
     let written = write_in_bytes(&mut bytes, 30).ok();
-    let mut wanted = two_archived();
-    wanted[2] = 30;
-    expect_eq!(rt; (written, bytes), (Some((48, Some(0))), wanted));
+    let mut expected = two_archived();
+    expected[2] = 30;
+    expect_eq!(rt; (written, bytes), (Some((48, Some(0))), expected));
 }

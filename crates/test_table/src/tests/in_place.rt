@@ -4,7 +4,7 @@
 ghost use Rattle.rkyv_base.specs.Seal.{LiesIn, SealStays, bytes_in, seal_pos};
 ghost use Rattle.rkyv_base.specs.Sealing.{Keeps, Sealed};
 ghost use Rattle.rkyv_base.specs.ElementSpec.{Viewable};
-ghost use Rattle.rkyv_table.specs.Table.Bare.{MayAskOf};
+ghost use Rattle.rkyv_table.specs.Table.Bare.{CanCompareOf};
 ghost use Rattle.rkyv_table.specs.Table.Layout.{table_spec};
 
 use crate::tests::archives::two_archived;
@@ -40,7 +40,7 @@ fn set_all_by_seals<N: Scalar, W: Width>(archive: &mut [u8], pos: u64, value: N)
                 ensures stays { SealStays seal.old seal.new }
                 ensures sealed { Sealed (bytes_in seal.old) (seal_pos seal.old)
                     N.spec.size (bytes_in seal.new) }
-                ensures holds { Keeps N.spec (bytes_in seal.old)
+                ensures is_valid { Keeps N.spec (bytes_in seal.old)
                     (bytes_in seal.new) (seal_pos seal.old) }
             {
                 seal.set(value);
@@ -81,7 +81,7 @@ fn set_found<N: Scalar, W: Width, F: Fn(View<'_, N>) -> bool>(
     value: N,
 ) -> Option<N>
     requires table { Viewable (table_spec W.word N.spec) archive.old pos }
-    requires callable { MayAskOf (F.pre accepts) W.word N.spec archive.old pos }
+    requires callable { CanCompareOf (F.pre accepts) W.word N.spec archive.old pos }
 {
     ArchivedHashTable::<N, W>::found_with(
         archive,
@@ -101,20 +101,26 @@ fn set_found<N: Scalar, W: Width, F: Fn(View<'_, N>) -> bool>(
 fn set_number(
     bytes: &mut [u8],
     hash: u64,
-    wanted: u8,
+    expected: u8,
     number: u8,
 ) -> Result<Option<u8>, VerifyError> {
     let pos = access::<TableOf<u8>>(&*bytes)?.pos();
-    Ok(set_found::<u8, Narrow, _>(bytes, pos, hash, |item| item.to_native() == wanted, number))
+    Ok(set_found::<u8, Narrow, _>(
+        bytes,
+        pos,
+        hash,
+        |item| item.to_native() == expected,
+        number,
+    ))
 }
 
 #[test]
 fn found_item_is_written_in_place(rt: HostRuntime) {
     let mut bytes = two_archived();
     let found = set_number(&mut bytes, 2, 20, 30).ok();
-    let mut wanted = two_archived();
-    wanted[2] = 30;
-    expect_eq!(rt; (found, bytes), (Some(Some(30)), wanted));
+    let mut expected = two_archived();
+    expected[2] = 30;
+    expect_eq!(rt; (found, bytes), (Some(Some(30)), expected));
 }
 
 #[test]
@@ -149,11 +155,11 @@ fn write_stepping(bytes: &mut [u8]) -> Result<([Option<u64>; 3], usize), VerifyE
 fn items_are_written_while_the_cursor_steps(rt: HostRuntime) {
     let mut bytes = two_archived();
     let stepped = write_stepping(&mut bytes).ok();
-    let mut wanted = two_archived();
-    wanted[2] = 7;
-    wanted[0] = 9;
+    let mut expected = two_archived();
+    expected[2] = 7;
+    expected[0] = 9;
     expect_eq!(rt;
         (stepped, bytes),
-        (Some(([Some(2), Some(0), None], 0)), wanted)
+        (Some(([Some(2), Some(0), None], 0)), expected)
     );
 }

@@ -4,7 +4,7 @@ use crate::tests::archives::{
     EVEN_TAG, archived, fifteen_archived, hash_of_i8, hash_of_u32, hash_of_usize, sixteen_archived,
     tags_archived, two_archived,
 };
-use crate::tests::reading::{answers_of, counts, first_pos, value_of, value_of_small};
+use crate::tests::reading::{counts, counts_and_lookup, first_pos, value_of, value_of_small};
 use rkyv_base::access::access;
 use rkyv_base::element::Element;
 use rkyv_base::entry::Entry;
@@ -18,26 +18,26 @@ use std::alloc::Global;
 use std::cell::Cell;
 use test_support::archives::{four_pairs, no_items, one_key_twice, one_number, one_unit};
 
-// Returns `true` if the number is the wanted one, or if none is wanted.
-fn is_accepted(number: u8, wanted: Option<u8>) -> bool {
-    match wanted {
-        Some(wanted) => number == wanted,
+// Returns `true` if the number is the accepted one, or if each number is accepted.
+fn is_accepted(number: u8, accepted: Option<u8>) -> bool {
+    match accepted {
+        Some(accepted) => number == accepted,
         None => true,
     }
 }
 
 // Returns the number that is found under a hash, and the number of strides that are read.
-// All numbers are accepted if none is wanted.
-fn counted_or_refused(
+// Each number is accepted if `accepted` is `None`.
+fn try_counted(
     bytes: &[u8],
     hash: u64,
-    wanted: Option<u8>,
+    accepted: Option<u8>,
 ) -> Result<(Option<u8>, u64), VerifyError> {
     let table = ArchivedHashTable::of(access::<TableOf<u8>>(bytes)?);
     let mut strides = Strides::new();
     let found = table.get_counted(
         hash,
-        |item| is_accepted(item.to_native(), wanted),
+        |item| is_accepted(item.to_native(), accepted),
         &mut strides,
     );
     match found {
@@ -46,29 +46,29 @@ fn counted_or_refused(
     }
 }
 
-fn counted(bytes: &[u8], hash: u64, wanted: Option<u8>) -> Option<(Option<u8>, u64)> {
-    counted_or_refused(bytes, hash, wanted).ok()
+fn counted(bytes: &[u8], hash: u64, accepted: Option<u8>) -> Option<(Option<u8>, u64)> {
+    try_counted(bytes, hash, accepted).ok()
 }
 
 // Returns the same number, by groups of the kind `G`.
 fn found_by<G: GroupKind>(
     bytes: &[u8],
     hash: u64,
-    wanted: Option<u8>,
+    accepted: Option<u8>,
 ) -> Result<Option<u8>, VerifyError> {
     let table = ArchivedHashTable::of(access::<TableOf<u8>>(bytes)?);
-    match table.get_by::<G, _>(hash, |item| is_accepted(item.to_native(), wanted)) {
+    match table.get_by::<G, _>(hash, |item| is_accepted(item.to_native(), accepted)) {
         Some(item) => Ok(Some(item.to_native())),
         None => Ok(None),
     }
 }
 
 // Returns the same number, by groups of each kind.
-fn found(bytes: &[u8], hash: u64, wanted: Option<u8>) -> [Option<Option<u8>>; 3] {
+fn found(bytes: &[u8], hash: u64, accepted: Option<u8>) -> [Option<Option<u8>>; 3] {
     [
-        found_by::<bytewise::Group>(bytes, hash, wanted).ok(),
-        found_by::<generic::Group>(bytes, hash, wanted).ok(),
-        found_by::<lanes::Group>(bytes, hash, wanted).ok(),
+        found_by::<bytewise::Group>(bytes, hash, accepted).ok(),
+        found_by::<generic::Group>(bytes, hash, accepted).ok(),
+        found_by::<lanes::Group>(bytes, hash, accepted).ok(),
     ]
 }
 
@@ -158,16 +158,16 @@ fn the_first_of_two_under_one_hash_is_found(rt: HostRuntime) {
 }
 
 // Returns the number of calls of a comparison that accepts no item.
-fn asks_under<T: Element>(bytes: &[u8], hash: u64) -> Result<usize, VerifyError> {
+fn count_calls<T: Element>(bytes: &[u8], hash: u64) -> Result<usize, VerifyError> {
     let table = ArchivedHashTable::of(access::<TableOf<T>>(bytes)?);
-    let asks = Cell::new(0usize);
+    let calls = Cell::new(0usize);
     let found = table.get_pos_with(hash, |_| {
-        asks.set(asks.get().wrapping_add(1));
+        calls.set(calls.get().wrapping_add(1));
         false
     });
     match found {
         Some(_) => Ok(0),
-        None => Ok(asks.get()),
+        None => Ok(calls.get()),
     }
 }
 
@@ -176,9 +176,9 @@ fn the_first_of_a_repeated_key_is_found(rt: HostRuntime) {
     let archive = one_key_twice();
     let (bytes, hash): (&[u8], u64) = (&archive, hash_of_i8(1));
     // in a small table each control byte is there twice, and so each item is compared twice
-    let asks = asks_under::<Entry<i8, i8>>(bytes, hash).ok();
+    let calls = count_calls::<Entry<i8, i8>>(bytes, hash).ok();
     expect_eq!(rt;
-        (value_of_small(bytes, hash, 1).ok(), asks),
+        (value_of_small(bytes, hash, 1).ok(), calls),
         (Some((Some(2), 1)), Some(4))
     );
 }
@@ -230,15 +230,15 @@ fn the_second_stride_is_read_where_the_first_is_full(rt: HostRuntime) {
 
 /// The calls of a comparison that accepts no item, in the table of sixteen items under one hash.
 #[derive(Drop)]
-pub(crate) struct Asks {
+pub(crate) struct CallRecord {
     count: Cell<usize>,
     in_order: Cell<bool>,
 }
 
-impl Asks {
+impl CallRecord {
     /// Returns a record of no calls.
-    pub(crate) fn new() -> Asks {
-        Asks {
+    pub(crate) fn new() -> CallRecord {
+        CallRecord {
             count: Cell::new(0),
             in_order: Cell::new(true),
         }
@@ -248,14 +248,14 @@ impl Asks {
     ///
     /// The items are to be 1 to 16, and then 2 to 16.
     pub(crate) fn accepts(&self, item: u8) -> bool {
-        let ask = self.count.get();
-        self.count.set(ask.wrapping_add(1));
-        let wanted = match ask {
-            0..16 => ask + 1,
-            _ => ask - 14,
+        let call = self.count.get();
+        self.count.set(call.wrapping_add(1));
+        let expected = match call {
+            0..16 => call + 1,
+            _ => call - 14,
         };
         self.in_order
-            .set(self.in_order.get() && usize::from(item) == wanted);
+            .set(self.in_order.get() && usize::from(item) == expected);
         false
     }
 
@@ -268,9 +268,9 @@ impl Asks {
 // Looks up in the table of sixteen items under one hash, and accepts no item. Returns whether
 // each lookup finds nothing and compares each item that it is to compare, and the number
 // of strides. The lookups are by a view, by a position, and with counted strides.
-fn asks_plainly(bytes: &[u8]) -> Result<([bool; 6], u64), VerifyError> {
+fn compares_all_plain(bytes: &[u8]) -> Result<([bool; 6], u64), VerifyError> {
     let table = ArchivedHashTable::of(access::<TableOf<u8>>(bytes)?);
-    let (by_view, by_pos, by_count) = (Asks::new(), Asks::new(), Asks::new());
+    let (by_view, by_pos, by_count) = (CallRecord::new(), CallRecord::new(), CallRecord::new());
     let view = table.get_with(16, |item| by_view.accepts(item.to_native()));
     let pos = table.get_pos_with(16, |item| by_pos.accepts(item.to_native()));
     let mut strides = Strides::new();
@@ -287,11 +287,11 @@ fn asks_plainly(bytes: &[u8]) -> Result<([bool; 6], u64), VerifyError> {
 }
 
 // Looks up in the same way, by groups of the kind `G`.
-fn asks_by<G: GroupKind>(bytes: &[u8]) -> Result<[bool; 2], VerifyError> {
+fn compares_all_by<G: GroupKind>(bytes: &[u8]) -> Result<[bool; 2], VerifyError> {
     let table = ArchivedHashTable::of(access::<TableOf<u8>>(bytes)?);
-    let asks = Asks::new();
-    let found = table.get_by::<G, _>(16, |item| asks.accepts(item.to_native()));
-    Ok([found.is_none(), asks.are_all()])
+    let calls = CallRecord::new();
+    let found = table.get_by::<G, _>(16, |item| calls.accepts(item.to_native()));
+    Ok([found.is_none(), calls.are_all()])
 }
 
 #[test]
@@ -299,12 +299,12 @@ fn unsuccessful_lookup_compares_each_item(rt: HostRuntime) {
     let archive = sixteen_archived();
     let bytes: &[u8] = &archive;
     let by_kind = [
-        asks_by::<bytewise::Group>(bytes).ok(),
-        asks_by::<generic::Group>(bytes).ok(),
-        asks_by::<lanes::Group>(bytes).ok(),
+        compares_all_by::<bytewise::Group>(bytes).ok(),
+        compares_all_by::<generic::Group>(bytes).ok(),
+        compares_all_by::<lanes::Group>(bytes).ok(),
     ];
     expect_eq!(rt;
-        (asks_plainly(bytes).ok(), by_kind),
+        (compares_all_plain(bytes).ok(), by_kind),
         (Some(([true; 6], 2)), [Some([true; 2]); 3])
     );
 }
@@ -313,9 +313,9 @@ fn unsuccessful_lookup_compares_each_item(rt: HostRuntime) {
 fn an_empty_table_is_not_read(rt: HostRuntime) {
     let archive = no_items();
     let bytes: &[u8] = &archive;
-    let answers = (
+    let results = (
         is_empty_copied::<u8>(bytes),
-        answers_of::<u8>(bytes, 2).ok(),
+        counts_and_lookup::<u8>(bytes, 2).ok(),
     );
     let found = (
         first_pos::<u8, Narrow>(bytes, 2).ok(),
@@ -323,7 +323,7 @@ fn an_empty_table_is_not_read(rt: HostRuntime) {
         found(bytes, 2, None),
     );
     expect_eq!(rt;
-        (answers, found),
+        (results, found),
         (
             (Some(true), Some((true, 0, 0, true))),
             (Some(None), Some((None, 0)), [Some(None); 3])
@@ -354,9 +354,9 @@ fn items_of_another_hash_may_be_compared(rt: HostRuntime) {
 // accepted, and the number of strides that are read.
 fn second_counted(bytes: &[u8], hash: u64) -> Result<(Option<u8>, u64), VerifyError> {
     let table = ArchivedHashTable::of(access::<TableOf<u8>>(bytes)?);
-    let asked = Cell::new(false);
+    let called = Cell::new(false);
     let mut strides = Strides::new();
-    match table.get_counted(hash, |_| asked.replace(true), &mut strides) {
+    match table.get_counted(hash, |_| called.replace(true), &mut strides) {
         Some(item) => Ok((Some(item.to_native()), strides.count())),
         None => Ok((None, strides.count())),
     }
@@ -369,10 +369,10 @@ fn comparison_may_change_its_result(rt: HostRuntime) {
 }
 
 // Returns whether a number is found under a hash, and the number of strides that are read.
-fn is_found(bytes: &[u8], hash: u64, wanted: u64) -> Result<(bool, u64), VerifyError> {
+fn is_found(bytes: &[u8], hash: u64, number: u64) -> Result<(bool, u64), VerifyError> {
     let table = ArchivedHashTable::of(access::<TableOf<u64>>(bytes)?);
     let mut strides = Strides::new();
-    let found = table.get_counted(hash, |item| item.to_native() == wanted, &mut strides);
+    let found = table.get_counted(hash, |item| item.to_native() == number, &mut strides);
     Ok((found.is_some(), strides.count()))
 }
 
@@ -381,11 +381,11 @@ fn are_found(
     alloc: Global,
     numbers: [u64; 2],
     hashes: [u64; 2],
-    wanted: [(u64, u64); 3],
+    expected: [(u64, u64); 3],
 ) -> Option<[Option<(bool, u64)>; 3]> {
     let bytes = archived(alloc, &numbers, &hashes, (7, 8)).ok()?;
     let bytes = bytes.as_slice();
-    let [(one, first), (two, second), (three, third)] = wanted;
+    let [(one, first), (two, second), (three, third)] = expected;
     Some([
         is_found(bytes, one, first).ok(),
         is_found(bytes, two, second).ok(),
@@ -405,19 +405,19 @@ fn lookup_with_another_hasher(rt: HostRuntime) {
         hash_of_usize::<FxHasher64Wide>(large),
     );
     let (numbers, large) = ([1, large as u64], large as u64);
-    let wanted = [(one, 1), (other, large), (hashes[1], large)];
+    let expected = [(one, 1), (other, large), (hashes[1], large)];
     expect_eq!(rt;
-        are_found(rt.alloc(), numbers, hashes, wanted),
+        are_found(rt.alloc(), numbers, hashes, expected),
         Some([Some((true, 1)), Some((false, 1)), Some((true, 1))])
     );
 }
 
 // Returns `true` if an untrusted table has the number under the hash.
-fn has_number(bytes: &[u8], hash: u64, wanted: u32) -> Result<bool, VerifyError> {
+fn has_number(bytes: &[u8], hash: u64, number: u32) -> Result<bool, VerifyError> {
     let table = ArchivedHashTable::of(access::<TableOf<u32>>(bytes)?);
     Ok(
         table
-            .get_with(hash, |item| item.to_native() == wanted)
+            .get_with(hash, |item| item.to_native() == number)
             .is_some(),
     )
 }

@@ -37,10 +37,10 @@ fn texts_are_written_by_ascending_bucket(rt: HostRuntime) {
 }
 
 // Returns `true` if a text is found under a hash.
-fn has_text(bytes: &[u8], hash: u64, wanted: &str) -> Result<bool, VerifyError> {
+fn has_text(bytes: &[u8], hash: u64, expected: &str) -> Result<bool, VerifyError> {
     let table = ArchivedHashTable::of(access::<TableOf<Text>>(bytes)?);
-    match table.get_with(hash, |text| text.as_str() == wanted) {
-        Some(text) => Ok(text.as_str() == wanted),
+    match table.get_with(hash, |text| text.as_str() == expected) {
+        Some(text) => Ok(text.as_str() == expected),
         None => Ok(false),
     }
 }
@@ -73,8 +73,8 @@ fn has_one_part(bytes: &[u8]) -> bool {
 }
 
 // Returns the length of the archive of two texts, and whether it is invalid after a change.
-// The change gives the highest bucket the text of the first bucket.
-fn refused_texts(alloc: Global) -> Option<(usize, bool)> {
+// The change copies the text of the first bucket to the highest bucket.
+fn invalid_texts(alloc: Global) -> Option<(usize, bool)> {
     let texts = ["wonderful one", "wonderful two"];
     let mut bytes = archived(alloc, &texts, &[2, 2], (1, 1)).ok()?;
     match bytes.get_mut(32) {
@@ -86,7 +86,7 @@ fn refused_texts(alloc: Global) -> Option<(usize, bool)> {
 
 #[test]
 fn two_texts_may_not_have_one_part(rt: HostRuntime) {
-    expect_eq!(rt; refused_texts(rt.alloc()), Some((96, true)));
+    expect_eq!(rt; invalid_texts(rt.alloc()), Some((96, true)));
 }
 
 // Returns the number of items of the table that is the value of an entry.

@@ -167,7 +167,7 @@ fn a_header_is_one_piece(rt: HostRuntime) {
 // Returns whether it is full, and the writer.
 fn write_up_to(alloc: Global, limit: u64) -> (bool, PieceWriter) {
     let mut writer = LimitWriter::new(PieceWriter::new(alloc), limit);
-    let answer = ArchivedHashTable::<u32, Narrow>::serialize_from_iter::<_, u32, u32, _, _>(
+    let outcome = ArchivedHashTable::<u32, Narrow>::serialize_from_iter::<_, u32, u32, _, _>(
         alloc,
         [7u32].into_iter(),
         [0u64].into_iter(),
@@ -175,7 +175,7 @@ fn write_up_to(alloc: Global, limit: u64) -> (bool, PieceWriter) {
         (7, 8),
         &mut writer,
     );
-    let full = matches!(answer, Err(WriteError::Writer(LimitFault::Full)));
+    let full = matches!(outcome, Err(WriteError::Writer(LimitFault::Full)));
     (full, writer.into_inner())
 }
 

@@ -58,7 +58,7 @@ pub(crate) fn first_pos<T: Element, W: Width>(
 /// Returns whether a table is empty, its length, its capacity, and whether a lookup finds nothing.
 ///
 /// The lookup accepts all items.
-pub(crate) fn answers_of<T: Element>(
+pub(crate) fn counts_and_lookup<T: Element>(
     bytes: &[u8],
     hash: u64,
 ) -> Result<(bool, usize, usize, bool), VerifyError> {

@@ -1,7 +1,7 @@
 //! Items written in place.
 
 use crate::tests::archives::{sixteen_archived, two_archived};
-use crate::tests::lookups::Asks;
+use crate::tests::lookups::CallRecord;
 use rkyv_base::access::{access, access_mut};
 use rkyv_base::errors::VerifyError;
 use rkyv_table::table::{ArchivedHashTable, TableOf};
@@ -9,15 +9,15 @@ use test_support::archives::no_items;
 
 // Returns `true` if a sealed lookup compares each item that it is to compare. It is in the table
 // of sixteen items under one hash, and accepts none.
-fn asks_sealed(bytes: &mut [u8]) -> Result<bool, VerifyError> {
+fn compares_all_sealed(bytes: &mut [u8]) -> Result<bool, VerifyError> {
     let whole = access_mut::<TableOf<u8>>(bytes)?;
-    let asks = Asks::new();
+    let calls = CallRecord::new();
     let none = ArchivedHashTable::get_seal_with(
         whole,
         16,
-        |item| asks.accepts(item.to_native()),
+        |item| calls.accepts(item.to_native()),
     ).is_none();
-    Ok(none && asks.are_all())
+    Ok(none && calls.are_all())
 }
 
 // Returns the number of the seal that is found under a hash if all are accepted.
@@ -30,17 +30,12 @@ fn first_sealed(bytes: &mut [u8], hash: u64) -> Result<Option<u8>, VerifyError> 
 }
 
 // Writes a number over the one that is found under a hash. Returns the number before and after it.
-fn replace(
-    bytes: &mut [u8],
-    hash: u64,
-    wanted: u8,
-    number: u8,
-) -> Result<Option<(u8, u8)>, VerifyError> {
+fn replace(bytes: &mut [u8], hash: u64, old: u8, new: u8) -> Result<Option<(u8, u8)>, VerifyError> {
     let whole = access_mut::<TableOf<u8>>(bytes)?;
-    match ArchivedHashTable::get_seal_with(whole, hash, |item| item.to_native() == wanted) {
+    match ArchivedHashTable::get_seal_with(whole, hash, |item| item.to_native() == old) {
         Some(mut seal) => {
             let before = seal.to_native();
-            seal.set(number);
+            seal.set(new);
             Ok(Some((before, seal.to_native())))
         }
         None => Ok(None),
@@ -48,9 +43,9 @@ fn replace(
 }
 
 // Returns the position of a number that is found under a hash.
-fn pos_of_number(bytes: &[u8], hash: u64, wanted: u8) -> Result<Option<u64>, VerifyError> {
+fn pos_of_number(bytes: &[u8], hash: u64, number: u8) -> Result<Option<u64>, VerifyError> {
     let table = ArchivedHashTable::of(access::<TableOf<u8>>(bytes)?);
-    Ok(table.get_pos_with(hash, |item| item.to_native() == wanted))
+    Ok(table.get_pos_with(hash, |item| item.to_native() == number))
 }
 
 // The way to write the items of a cursor.
@@ -92,8 +87,8 @@ fn write_each(bytes: &mut [u8], numbers: &[u8], by: By) -> Result<bool, VerifyEr
 #[test]
 fn unsuccessful_sealed_lookup_compares_each_item(rt: HostRuntime) {
     let mut bytes = sixteen_archived();
-    let asks = asks_sealed(&mut bytes).ok();
-    expect_eq!(rt; (asks, bytes), (Some(true), sixteen_archived()));
+    let calls = compares_all_sealed(&mut bytes).ok();
+    expect_eq!(rt; (calls, bytes), (Some(true), sixteen_archived()));
 }
 
 #[test]
@@ -104,11 +99,11 @@ fn a_found_item_is_written_in_place(rt: HostRuntime) {
         pos_of_number(&bytes, 2, 30).ok(),
         pos_of_number(&bytes, 2, 20).ok(),
     ];
-    let mut wanted = two_archived();
-    wanted[2] = 30;
+    let mut expected = two_archived();
+    expected[2] = 30;
     expect_eq!(rt;
         (replaced, found, bytes),
-        (Some(Some((20, 30))), [Some(Some(2)), Some(None)], wanted)
+        (Some(Some((20, 30))), [Some(Some(2)), Some(None)], expected)
     );
 }
 
@@ -126,23 +121,23 @@ fn lookup_of_a_missing_item_changes_nothing(rt: HostRuntime) {
 }
 
 #[test]
-fn items_are_lent_by_ascending_bucket(rt: HostRuntime) {
+fn items_are_yielded_by_ascending_bucket(rt: HostRuntime) {
     let mut bytes = two_archived();
     let written = write_each(&mut bytes, &[40, 30], By::Seal).ok();
-    let mut wanted = two_archived();
-    wanted[0] = 30;
-    wanted[2] = 40;
-    expect_eq!(rt; (written, bytes), (Some(true), wanted));
+    let mut expected = two_archived();
+    expected[0] = 30;
+    expected[2] = 40;
+    expect_eq!(rt; (written, bytes), (Some(true), expected));
 }
 
 #[test]
 fn items_are_written_by_position(rt: HostRuntime) {
     let mut bytes = sixteen_archived();
     let written = write_each(&mut bytes, &[7; 16], By::Position).ok();
-    let mut wanted = sixteen_archived();
-    wanted[0] = 7;
-    wanted[2..17].copy_from_slice(&[7; 15]);
-    expect_eq!(rt; (written, bytes), (Some(true), wanted));
+    let mut expected = sixteen_archived();
+    expected[0] = 7;
+    expected[2..17].copy_from_slice(&[7; 15]);
+    expect_eq!(rt; (written, bytes), (Some(true), expected));
 }
 
 #[test]
@@ -160,12 +155,12 @@ fn an_empty_table_has_no_sealed_item(rt: HostRuntime) {
 #[test]
 fn invalid_table_is_unchanged(rt: HostRuntime) {
     let mut bytes = [1, 0, 0, 0, 2, 0, 0, 0, 2, 0, 0, 0];
-    let refused = matches!(
+    let failed = matches!(
         access_mut::<TableOf<u8>>(&mut bytes),
         Err(VerifyError::InvalidLength { len: 2, cap: 2 })
     );
     expect_eq!(rt;
-        (refused, bytes),
+        (failed, bytes),
         (true, [1, 0, 0, 0, 2, 0, 0, 0, 2, 0, 0, 0])
     );
 }

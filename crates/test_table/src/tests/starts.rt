@@ -1,4 +1,4 @@
-//! Lookups, each from the start that the reciprocal of the capacity gives.
+//! Lookups, each from the start that is computed with the reciprocal of the capacity.
 
 use crate::tests::archives::{SIXTEEN, archived};
 use rkyv_base::access::access_in;
@@ -24,29 +24,29 @@ const WIDE_SEVEN: [u8; 64] = [
     0x01, 0x00, 0x00, 0x00, 0x00, 0x00, 0x00, 0x00, 0x02, 0x00, 0x00, 0x00, 0x00, 0x00, 0x00, 0x00,
 ];
 
-// Returns the number that a lookup of `wanted` finds, and the number of strides that it reads.
+// Returns the number that a lookup of `expected` finds, and the number of strides that it reads.
 fn counted<W: Width>(
     bytes: &[u8],
     hash: u64,
-    wanted: u8,
+    expected: u8,
 ) -> Result<(Option<u8>, u64), VerifyError> {
     let table = ArchivedHashTable::of(access_in::<W, TableOf<u8, W>>(bytes)?);
     let mut strides = Strides::new();
-    match table.get_counted(hash, |item| item.to_native() == wanted, &mut strides) {
+    match table.get_counted(hash, |item| item.to_native() == expected, &mut strides) {
         Some(item) => Ok((Some(item.to_native()), strides.count())),
         None => Ok((None, strides.count())),
     }
 }
 
-// Returns the number that a lookup of `wanted` finds, and its position.
+// Returns the number that a lookup of `expected` finds, and its position.
 fn viewed_and_placed(
     bytes: &[u8],
     hash: u64,
-    wanted: u8,
+    expected: u8,
 ) -> Result<(Option<u8>, Option<u64>), VerifyError> {
     let table = ArchivedHashTable::of(access_in::<Narrow, TableOf<u8>>(bytes)?);
-    let place = table.get_pos_with(hash, |item| item.to_native() == wanted);
-    match table.get_with(hash, |item| item.to_native() == wanted) {
+    let place = table.get_pos_with(hash, |item| item.to_native() == expected);
+    match table.get_with(hash, |item| item.to_native() == expected) {
         Some(item) => Ok((Some(item.to_native()), place)),
         None => Ok((None, place)),
     }

@@ -1,7 +1,7 @@
 //! Untrusted headers and control bytes.
 
 use crate::tests::archives::{bools_archived, fifteen_archived};
-use crate::tests::reading::{answers_of, counts};
+use crate::tests::reading::{counts, counts_and_lookup};
 use rkyv_base::access::{access, access_in};
 use rkyv_base::element::PartRange;
 use rkyv_base::entry::Entry;
@@ -12,12 +12,15 @@ use test_support::archives::one_number;
 
 #[test]
 fn the_distance_of_an_empty_table_is_not_read(rt: HostRuntime) {
-    let answers = answers_of::<Entry<u32, u32>>(&[77, 0, 0, 0, 0, 0, 0, 0, 0, 0, 0, 0], 0).ok();
-    expect_eq!(rt; answers, Some((true, 0, 0, true)));
+    let results = counts_and_lookup::<Entry<u32, u32>>(
+        &[77, 0, 0, 0, 0, 0, 0, 0, 0, 0, 0, 0],
+        0,
+    ).ok();
+    expect_eq!(rt; results, Some((true, 0, 0, true)));
 }
 
 #[test]
-fn a_length_that_is_the_capacity_is_refused(rt: HostRuntime) {
+fn rejects_a_length_that_is_the_capacity(rt: HostRuntime) {
     assert!(rt;
         matches!(
             access::<TableOf<Entry<u32, u32>>>(&[1, 0, 0, 0, 2, 0, 0, 0, 2, 0, 0, 0]),
@@ -27,7 +30,7 @@ fn a_length_that_is_the_capacity_is_refused(rt: HostRuntime) {
 }
 
 #[test]
-fn more_items_than_the_length_are_refused(rt: HostRuntime) {
+fn rejects_more_items_than_the_length(rt: HostRuntime) {
     let mut bytes = one_number();
     bytes[52] = 0;
     assert!(rt;
@@ -47,8 +50,8 @@ fn a_table_that_has_buckets_and_no_items_is_accepted(rt: HostRuntime) {
     bytes[17] = 0xff;
     bytes[19] = 0xff;
     bytes[52] = 0;
-    let answers = answers_of::<Entry<u32, u32>>(&bytes, 0x5000_0000_0000_0001).ok();
-    expect_eq!(rt; answers, Some((true, 0, 2, true)));
+    let results = counts_and_lookup::<Entry<u32, u32>>(&bytes, 0x5000_0000_0000_0001).ok();
+    expect_eq!(rt; results, Some((true, 0, 2, true)));
 }
 
 #[test]
@@ -99,45 +102,45 @@ fn the_part_of_a_table_is_the_range_up_to_its_end(rt: HostRuntime) {
 
 // Returns `true` if the first `len` bytes of the archive of one pair have the expected result.
 fn has_known_result(len: usize, front: &[u8]) -> bool {
-    let answer = access::<TableOf<Entry<u32, u32>>>(front);
+    let outcome = access::<TableOf<Entry<u32, u32>>>(front);
     match len {
         0..12 => matches!(
-            answer,
+            outcome,
             Err(VerifyError::OutOfRange { pos, size: 12 }) if pos == len as i128 - 12
         ),
-        12 => matches!(answer, Err(VerifyError::InvalidLength { len: 2, cap: 0 })),
+        12 => matches!(outcome, Err(VerifyError::InvalidLength { len: 2, cap: 0 })),
         16 => matches!(counts::<Entry<u32, u32>, Narrow>(front), Ok((0, 0))),
         20 => matches!(
-            answer,
+            outcome,
             Err(VerifyError::OutOfRange {
                 pos: -5_502_486_512,
                 size: 6_190_297_351,
             })
         ),
-        24 | 52 => matches!(answer, Err(VerifyError::OutOfRange { .. })),
+        24 | 52 => matches!(outcome, Err(VerifyError::OutOfRange { .. })),
         28 | 32 | 36 | 40 | 44 => matches!(
-            answer,
+            outcome,
             Err(VerifyError::InvalidLength {
                 len: 4_294_967_295,
                 cap: 4_294_967_295,
             })
         ),
         48 => matches!(
-            answer,
+            outcome,
             Err(VerifyError::InvalidLength {
                 len: 4_294_967_295,
                 cap: 16_777_215,
             })
         ),
         56 => matches!(
-            answer,
+            outcome,
             Err(VerifyError::InvalidLength {
                 len: 4_294_967_264,
                 cap: 1,
             })
         ),
         _ => matches!(
-            answer,
+            outcome,
             Err(VerifyError::Unaligned { pos, align: 4 }) if pos == len as u64 - 12
         ),
     }
@@ -170,12 +173,12 @@ fn rejects_invalid_items(rt: HostRuntime) {
     bytes[1] = 2;
     let changed = counts::<bool, Narrow>(&bytes).ok();
     bytes[0] = 2;
-    let refused = matches!(
+    let failed = matches!(
         access::<TableOf<bool>>(&bytes),
         Err(VerifyError::InvalidValue { pos: 0 })
     );
     expect_eq!(rt;
-        (written, changed, refused),
+        (written, changed, failed),
         (Some((2, 3)), Some((2, 3)), true)
     );
 }

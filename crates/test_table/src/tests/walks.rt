@@ -18,11 +18,11 @@ fn walks(bytes: &[u8], items: &[u8]) -> Result<bool, VerifyError> {
     let mut rest = table.raw_iter();
     let mut right = true;
     let mut left = items.len();
-    for wanted in items {
+    for expected in items {
         right = right && rest.len() == left && rest.size_hint() == (left, Some(left));
         left = left.saturating_sub(1);
         match rest.next() {
-            Some(pos) => right = right && bytes.get(pos as usize) == Some(wanted),
+            Some(pos) => right = right && bytes.get(pos as usize) == Some(expected),
             None => return Ok(false),
         }
     }
@@ -55,26 +55,26 @@ fn a_repeated_key_is_walked_twice(rt: HostRuntime) {
 }
 
 // Returns the first four results of a walk.
-fn four_asks<T: Element>(bytes: &[u8]) -> Result<[Option<u64>; 4], VerifyError> {
+fn four_steps<T: Element>(bytes: &[u8]) -> Result<[Option<u64>; 4], VerifyError> {
     let table = ArchivedHashTable::of(access::<TableOf<T>>(bytes)?);
     let mut rest = table.raw_iter();
     Ok([rest.next(), rest.next(), rest.next(), rest.next()])
 }
 
 #[test]
-fn a_walk_gives_positions(rt: HostRuntime) {
-    let given = four_asks::<u8>(&two_archived()).ok();
+fn a_walk_yields_positions(rt: HostRuntime) {
+    let given = four_steps::<u8>(&two_archived()).ok();
     assert_eq!(rt; given, Some([Some(2), Some(0), None, None]));
 }
 
 #[test]
 fn items_of_no_bytes_are_walked(rt: HostRuntime) {
-    let given = four_asks::<()>(&two_units()).ok();
+    let given = four_steps::<()>(&two_units()).ok();
     expect_eq!(rt; given, Some([Some(0), Some(0), None, None]));
 }
 
 #[test]
-fn an_empty_walk_gives_nothing(rt: HostRuntime) {
+fn an_empty_walk_yields_nothing(rt: HostRuntime) {
     let mut rest = RawIter::<u8>::empty();
     let none = [
         rest.next().is_none(),
@@ -97,7 +97,7 @@ fn two_views(bytes: &[u8]) -> Result<Option<(u8, u8, bool)>, VerifyError> {
 }
 
 #[test]
-fn a_walk_gives_views(rt: HostRuntime) {
+fn a_walk_yields_views(rt: HostRuntime) {
     let views = two_views(&two_archived()).ok();
     expect_eq!(rt; views, Some(Some((20, 10, true))));
 }

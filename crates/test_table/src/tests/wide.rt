@@ -122,7 +122,7 @@ fn rejects_a_wide_capacity_beyond_the_archive(rt: HostRuntime) {
 }
 
 #[test]
-fn wide_capacities_are_refused(rt: HostRuntime) {
+fn rejects_large_wide_capacities(rt: HostRuntime) {
     let mut writer = VecWriter::new(rt.alloc());
     assert!(rt;
         matches!(

@@ -31,14 +31,14 @@ fn write_one_pair<S: Writer>(alloc: Global, writer: &mut S) -> WriteResult<(), S
 }
 
 #[test]
-fn a_table_past_the_greatest_position_is_refused(rt: HostRuntime) {
+fn rejects_a_table_past_the_greatest_position(rt: HostRuntime) {
     let mut writer = LateWriter::new(rt.alloc());
-    let refused = matches!(
+    let failed = matches!(
         write_one_pair(rt.alloc(), &mut writer),
         Err(WriteError::PositionTooLarge)
     );
     expect_eq!(rt;
-        (refused, writer.failures(), writer.bytes()),
+        (failed, writer.failures(), writer.bytes()),
         (true, 0, [0, 0].as_slice())
     );
 }
@@ -46,11 +46,11 @@ fn a_table_past_the_greatest_position_is_refused(rt: HostRuntime) {
 #[test]
 fn nothing_is_written_after_a_fault(rt: HostRuntime) {
     let mut writer = BrokenWriter::new(0);
-    let refused = matches!(
+    let failed = matches!(
         write_one_pair(rt.alloc(), &mut writer),
         Err(WriteError::Writer(Broken))
     );
-    expect_eq!(rt; (refused, writer.calls(), writer.failures()), (true, 1, 1));
+    expect_eq!(rt; (failed, writer.calls(), writer.failures()), (true, 1, 1));
 }
 
 // Returns `true` if a writer with this limit keeps as many bytes of the archive, and reports
@@ -63,8 +63,10 @@ fn keeps_a_prefix(alloc: Global, limit: u64) -> bool {
         Err(_) => (false, false),
     };
     let counted = writer.pos() == limit && writer.failures() == u64::from(full);
-    let told = if limit < 60 { full } else { written };
-    told && counted && one_number().get(..limit as usize) == Some(writer.into_inner().bytes())
+    let as_expected = if limit < 60 { full } else { written };
+    as_expected
+        && counted
+        && one_number().get(..limit as usize) == Some(writer.into_inner().bytes())
 }
 
 #[test]

@@ -1,7 +1,7 @@
 use Rattle.std.proofs.Common.{◌≡◌}
-use Rattle.bench_calls.specs.Totals.{pair_seen, total}
+use Rattle.bench_calls.specs.Totals.{view_pair_weight, total}
 use Rattle.bench_calls.proofs.totals.pair_total.Given as goal
 
 -- the sum is that of the yielded pairs
 abbrev pub invariant-loop-key : goal.invariant-loop-key
-invariant-loop-key g l = l.total ≡ total (pair_seen g.K.Weigh.weight) l.yielded
+invariant-loop-key g l = l.total ≡ total (view_pair_weight g.K.Weigh.weight) l.yielded

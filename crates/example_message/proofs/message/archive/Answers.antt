@@ -7,10 +7,10 @@ use Rattle.example_message.proofs.message.archive.Goals as goal
 pub returns-clause-whole : goal.returns-clause-whole
 unfolding IsMessageOf MessageFails
 returns-clause-whole c =
-    let told : ℕ × ℕ → Parts → Type 0 = λ factor parts. MatchResult c.to_bytes.result (λ message. ArchiveOf 4_294_967_295 header_spec (PartsRepresent factor) (parts_format factor) parts message.items)
+    let WriteResult : ℕ × ℕ → Parts → Type 0 = λ factor parts. MatchResult c.to_bytes.result (λ message. ArchiveOf 4_294_967_295 header_spec (PartsRepresent factor) (parts_format factor) parts message.items)
     (ToBytesFails 4_294_967_295 header_spec (parts_format factor) parts) in
     let list = c.new-list in
-    subst (λ factor. told factor c.args.parts.now) list.ensures.load_factor (subst (λ parts. told list.result.load_factor parts) list.ensures.pairs c.to_bytes.ensures)
+    subst (λ factor. WriteResult factor c.args.parts.now) list.ensures.load_factor (subst (λ parts. WriteResult list.result.load_factor parts) list.ensures.pairs c.to_bytes.ensures)
 
 pub returns-clause-represents : goal.returns-clause-represents
 unfolding IsMessage IsMessageOf Represents

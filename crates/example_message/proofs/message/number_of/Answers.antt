@@ -5,7 +5,7 @@ use Rattle.rkyv_base.specs.Bytes.{number_at}
 use Rattle.rkyv_collections.proofs.FoundValues.{read_at}
 use Rattle.example_message.specs.Message.{ArePartsFields, FieldsRepresent, IsFields, number_in_fields, number_spec, value_found}
 use Rattle.rkyv_table.proofs.Moved.{moved}
-use Rattle.example_message.proofs.Found.{none_told, number_told}
+use Rattle.example_message.proofs.Found.{no_number_in_part, number_in_part}
 use Rattle.example_message.proofs.message.number_of.Goals as goal
 
 pub of-requires : goal.of-requires
@@ -17,13 +17,13 @@ pub returns-in-Some-clause-listed : goal.returns-in-Some-clause-listed
 returns-in-Some-clause-listed c = λ parts represents.
     let same : c.in_ok-pos.field-0 ≡ Some c.in-Some.pos = c.in-Some.is in
     let at = read_at c.of.result _ _ _ c.of.ensures.view c.new.ensures in
-    number_told c.args.message.now c.args.field.now c.in-Some.pos _ _ (subst (ArePartsFields c.args.message.now c.args.part.now parts) same (c.in_ok-pos.ensures.listed parts represents))
+    number_in_part c.args.message.now c.args.field.now c.in-Some.pos _ _ (subst (ArePartsFields c.args.message.now c.args.part.now parts) same (c.in_ok-pos.ensures.listed parts represents))
     (λ factor list there. c.field_number.ensures.listed factor list (moved (λ x q. FieldsRepresent factor x q list) _ _ _ _ (sym at.0) (sym at.1) there))
 
 pub returns-in-None-clause-listed : goal.returns-in-None-clause-listed
 returns-in-None-clause-listed c = λ parts represents.
     let same : c.in_ok-pos.field-0 ≡ None = c.in-None.is in
-    none_told c.args.message.now c.args.field.now _ (subst (ArePartsFields c.args.message.now c.args.part.now parts) same (c.in_ok-pos.ensures.listed parts represents))
+    no_number_in_part c.args.message.now c.args.field.now _ (subst (ArePartsFields c.args.message.now c.args.part.now parts) same (c.in_ok-pos.ensures.listed parts represents))
 
 pub returns-in-Some-clause-found : goal.returns-in-Some-clause-found
 returns-in-Some-clause-found c =

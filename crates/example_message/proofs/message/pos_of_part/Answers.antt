@@ -6,14 +6,14 @@ use Rattle.rkyv_base.specs.Sealing.{value_pos}
 use Rattle.rkyv_keys.specs.OfTexts.{same_bytes}
 use Rattle.rkyv_collections.specs.Map.{FindsFirstKeyAt}
 use Rattle.rkyv_collections.specs.Map.MapSpec.{IsKeyPosAt}
-use Rattle.example_message.specs.Message.{IsFields, IsMessage, IsRefused, PartsRepresent, Represents, fields_spec, is_named, is_named_at, name_hash, name_spec, value_found}
+use Rattle.example_message.specs.Message.{IsFields, IsMessage, ValidationFails, PartsRepresent, Represents, fields_spec, is_named, is_named_at, name_hash, name_spec, value_found}
 use Rattle.rkyv_table.proofs.Moved.{moved}
 use Rattle.rkyv_collections.proofs.FoundValues.{read_at}
 use Rattle.example_message.proofs.Found.{no_part_found, part_found}
 use Rattle.example_message.proofs.message.pos_of_part.Goals as goal
 
 pub returns-in_err-access-clause-checked : goal.returns-in_err-access-clause-checked
-unfolding IsRefused
+unfolding ValidationFails
 returns-in_err-access-clause-checked c =
     let p = err_from_is_err_and c.from_residual.result c.from_residual.ensures.1 in
     rw (p.1, p.2) c.in_err-access.ensures.root
@@ -36,14 +36,14 @@ unfolding Represents
 returns-in-Some-clause-listed c = λ parts represents.
     let at = read_at c.of-map.result _ _ _ c.of-map.ensures.view c.in_ok-access.ensures.root.1 in
     let listed = c.lookups_find_listed.ensures c.of-map.result _ (is_named c.args.part.now) (7, 8) parts (λ held q s there. ap (same_bytes c.args.part.now) there) (moved (λ b p. PartsRepresent (7, 8) b p parts) _ _ _ _ (sym at.0) (sym at.1) represents) in
-    part_found _ _ c.in-Some.fields _ (ap (λ a. a.now) c.in-Some.ensures.walked.at.0 ∙ at.0) (sym c.pos.ensures) (listed.gives_value (Some c.in-Some.fields) c.in-Some.ensures.walked c.in-Some.ensures.first)
+    part_found _ _ c.in-Some.fields _ (ap (λ a. a.now) c.in-Some.ensures.walked.at.0 ∙ at.0) (sym c.pos.ensures) (listed.returns_value (Some c.in-Some.fields) c.in-Some.ensures.walked c.in-Some.ensures.first)
 
 pub returns-in-None-clause-listed : goal.returns-in-None-clause-listed
 unfolding Represents
 returns-in-None-clause-listed c = λ parts represents.
     let at = read_at c.of-map.result _ _ _ c.of-map.ensures.view c.in_ok-access.ensures.root.1 in
     let listed = c.lookups_find_listed.ensures c.of-map.result _ (is_named c.args.part.now) (7, 8) parts (λ held q s there. ap (same_bytes c.args.part.now) there) (moved (λ b p. PartsRepresent (7, 8) b p parts) _ _ _ _ (sym at.0) (sym at.1) represents) in
-    no_part_found _ _ (listed.gives_value None c.in-None.ensures.walked c.in-None.ensures.first)
+    no_part_found _ _ (listed.returns_value None c.in-None.ensures.walked c.in-None.ensures.first)
 
 pub returns-in_err-access-clause-accepts : goal.returns-in_err-access-clause-accepts
 unfolding IsMessage

@@ -6,20 +6,20 @@ use Rattle.std.proofs.lemmas.Bool.Decides.{nat_tests}
 use Rattle.std.proofs.lemmas.Grind.{common_steps}
 use Rattle.std.proofs.lemmas.Str.{IsCharBoundary-after_ascii}
 use Rattle.example_symbols.specs.Lines.{has_symbol}
-use Rattle.example_symbols.proofs.Digits.{address_told, told}
+use Rattle.example_symbols.proofs.Digits.{hexdigits_numeral, symbol_layout}
 use Rattle.example_symbols.proofs.lines.symbol.Goals as goal
 
 pub range_from-requires : goal.range_from-requires
 range_from-requires c = λ _.
     let h : has_symbol c.args.line.now ≡ true = grind (arith, nat_tests) in
-    let is = told c.args.line.now h in
+    let is = symbol_layout c.args.line.now h in
     IsCharBoundary-after_ascii c.args.line.now 18 c.utf8.line (omega arith) (omega arith)
 
 pub returns-in-Err : goal.returns-in-Err
 returns-in-Err c =
     let h : has_symbol c.args.line.now ≡ true = grind (arith, nat_tests) in
-    let is = told c.args.line.now h in
+    let is = symbol_layout c.args.line.now h in
     let digits : list_all is_ascii_hexdigit c.range.result.now ≡ true = grind (arith, common_steps) in
     let sixteen : length c.range.result.now ≡ 16 = grind (arith, common_steps) in
-    let tells = address_told c.range.result.now digits sixteen in
-    absurd (c.in-Err.ensures.value (subst (λ ds. IsNumeral 16 ds × (digits_value 16 ds < 2 ^ 64)) (sym tells.0) (tells.1, tells.2)))
+    let numeral = hexdigits_numeral c.range.result.now digits sixteen in
+    absurd (c.in-Err.ensures.value (subst (λ ds. IsNumeral 16 ds × (digits_value 16 ds < 2 ^ 64)) (sym numeral.0) (numeral.1, numeral.2)))

@@ -7,10 +7,10 @@ use Rattle.example_symbols.proofs.table.archive.Goals as goal
 pub returns-clause-whole : goal.returns-clause-whole
 unfolding IsTableOf TableFails
 returns-clause-whole c =
-    let told : ℕ × ℕ → Symbols → Type 0 = λ factor symbols. MatchResult c.to_bytes.result (λ table. ArchiveOf 4_294_967_295 header_spec (SymbolsRepresent factor) (symbols_format factor) symbols table.items)
+    let WriteResult : ℕ × ℕ → Symbols → Type 0 = λ factor symbols. MatchResult c.to_bytes.result (λ table. ArchiveOf 4_294_967_295 header_spec (SymbolsRepresent factor) (symbols_format factor) symbols table.items)
     (ToBytesFails 4_294_967_295 header_spec (symbols_format factor) symbols) in
     let list = c.new-list in
-    subst (λ factor. told factor c.args.symbols.now) list.ensures.load_factor (subst (λ symbols. told list.result.load_factor symbols) list.ensures.pairs c.to_bytes.ensures)
+    subst (λ factor. WriteResult factor c.args.symbols.now) list.ensures.load_factor (subst (λ symbols. WriteResult list.result.load_factor symbols) list.ensures.pairs c.to_bytes.ensures)
 
 pub returns-clause-represents : goal.returns-clause-represents
 unfolding IsTable IsTableOf Represents

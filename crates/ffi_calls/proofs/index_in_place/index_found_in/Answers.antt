@@ -3,7 +3,7 @@ use Rattle.rkyv_index.specs.Index.{index_bytes}
 use Rattle.rkyv_index.specs.Index.ListedLookups.{IsFirst}
 use Rattle.ffi_calls.specs.IndexArchives.{found_index, pair_count}
 use Rattle.ffi_calls.specs.IndexLists.{IndexRepresentsPairs}
-use Rattle.ffi_calls.specs.Lists.{asked_key, asked_pairs}
+use Rattle.ffi_calls.specs.Lists.{query_of_key, query_pairs}
 use Rattle.ffi_calls.proofs.IndexFound.{of_same_map}
 use Rattle.ffi_calls.proofs.index_in_place.index_found_in.Goals as goal
 
@@ -32,23 +32,23 @@ returns-in-Some-clause-below g c =
 pub returns-in-Some-clause-first : goal.returns-in-Some-clause-first
 returns-in-Some-clause-first g c = λ factor pairs represents.
     let m = c.of-map.result in
-    let asks = g.A.PartialEq.eq c.args.key.now in
+    let accepts = g.A.PartialEq.eq c.args.key.now in
     let fits = g.A.Query.fits c.args.key.now in
     let view = c.of-map.ensures.view in
-    let asked = asked_key g.K.Represents.represents g.K.KeyElement.key_calls asks in
-    let here = of_same_map (λ n. IndexRepresentsPairs n (asked_pairs n asked g.V.Represents.represents) factor pairs) g.W.Word.word g.K.HasSpec.spec g.V.HasSpec.spec _ _ _ _ (sym (ap (λ v. v.archive.now) view ∙ ap (λ a. a.now) c.new.ensures.0))
+    let query = query_of_key g.K.Represents.represents g.K.KeyElement.key_calls accepts in
+    let here = of_same_map (λ n. IndexRepresentsPairs n (query_pairs n query g.V.Represents.represents) factor pairs) g.W.Word.word g.K.HasSpec.spec g.V.HasSpec.spec _ _ _ _ (sym (ap (λ v. v.archive.now) view ∙ ap (λ a. a.now) c.new.ensures.0))
     (sym (ap (λ v. v.pos) view ∙ c.new.ensures.1 ∙ c.index_root_of-root.ensures.at)) represents in
-    let listed = c.lookups_find_listed.ensures m fits asks factor pairs (λ a q s there. g.met.A.NativeKey.native c.args.key.now a (index_bytes m) q s there) here in
-    subst (IsFirst asks pairs) (sym (c.in-Some.ensures.first listed.homes listed.written)) listed.first
+    let listed = c.lookups_find_listed.ensures m fits accepts factor pairs (λ a q s there. g.met.A.NativeKey.native c.args.key.now a (index_bytes m) q s there) here in
+    subst (IsFirst accepts pairs) (sym (c.in-Some.ensures.first listed.homes listed.written)) listed.first
 
 pub returns-in-None-clause-first : goal.returns-in-None-clause-first
 returns-in-None-clause-first g c = λ factor pairs represents.
     let m = c.of-map.result in
-    let asks = g.A.PartialEq.eq c.args.key.now in
+    let accepts = g.A.PartialEq.eq c.args.key.now in
     let fits = g.A.Query.fits c.args.key.now in
     let view = c.of-map.ensures.view in
-    let asked = asked_key g.K.Represents.represents g.K.KeyElement.key_calls asks in
-    let here = of_same_map (λ n. IndexRepresentsPairs n (asked_pairs n asked g.V.Represents.represents) factor pairs) g.W.Word.word g.K.HasSpec.spec g.V.HasSpec.spec _ _ _ _ (sym (ap (λ v. v.archive.now) view ∙ ap (λ a. a.now) c.new.ensures.0))
+    let query = query_of_key g.K.Represents.represents g.K.KeyElement.key_calls accepts in
+    let here = of_same_map (λ n. IndexRepresentsPairs n (query_pairs n query g.V.Represents.represents) factor pairs) g.W.Word.word g.K.HasSpec.spec g.V.HasSpec.spec _ _ _ _ (sym (ap (λ v. v.archive.now) view ∙ ap (λ a. a.now) c.new.ensures.0))
     (sym (ap (λ v. v.pos) view ∙ c.new.ensures.1 ∙ c.index_root_of-root.ensures.at)) represents in
-    let listed = c.lookups_find_listed.ensures m fits asks factor pairs (λ a q s there. g.met.A.NativeKey.native c.args.key.now a (index_bytes m) q s there) here in
-    subst (IsFirst asks pairs) (sym (c.in-None.ensures.first listed.homes listed.written)) listed.first
+    let listed = c.lookups_find_listed.ensures m fits accepts factor pairs (λ a q s there. g.met.A.NativeKey.native c.args.key.now a (index_bytes m) q s there) here in
+    subst (IsFirst accepts pairs) (sym (c.in-None.ensures.first listed.homes listed.written)) listed.first

@@ -1,6 +1,6 @@
 use Rattle.ffi_calls.specs.Archives.{IsHeaderOf}
-use Rattle.ffi_calls.specs.IndexArchives.{GivesIndexedText, IsTextIndex, text_index_in}
-use Rattle.ffi_calls.specs.IndexLists.{GivesFirstIndexedText}
+use Rattle.ffi_calls.specs.IndexArchives.{ReturnsIndexedText, IsTextIndex, text_index_in}
+use Rattle.ffi_calls.specs.IndexLists.{ReturnsFirstIndexedText}
 use Rattle.ffi_calls.proofs.Forms.{at_form, of_form}
 use Rattle.ffi_calls.proofs.index_texts.get_of.Goals as goal
 
@@ -28,26 +28,26 @@ typed_index_header-requires-in-false-false-clause-archive g c = of_form (λ f. I
 pub typed_index_header-requires-in-false-false-clause-header : goal.typed_index_header-requires-in-false-false-clause-header
 typed_index_header-requires-in-false-false-clause-header g c = of_form (λ f. IsHeaderOf (text_index_in f c.args.archive.now) c.args.header.now) c.args.form c.in-false-false.is-0 c.in-false-false.is-1 c.requires.header
 
-pub returns-in-true-true-clause-gives : goal.returns-in-true-true-clause-gives
-returns-in-true-true-clause-gives g c = at_form (λ f. GivesIndexedText f c.args.archive.now c.args.key.now (g.I.IndexedOf.indexed_of c.args.found.now) c.find_in.result (g.I.IndexedOf.indexed_of c.find_in.new.found)) c.args.form c.in-true-true.is-0 c.in-true-true.is-1 c.find_in.ensures.gives
+pub returns-in-true-true-clause-outcome : goal.returns-in-true-true-clause-outcome
+returns-in-true-true-clause-outcome g c = at_form (λ f. ReturnsIndexedText f c.args.archive.now c.args.key.now (g.I.IndexedOf.indexed_of c.args.found.now) c.find_in.result (g.I.IndexedOf.indexed_of c.find_in.new.found)) c.args.form c.in-true-true.is-0 c.in-true-true.is-1 c.find_in.ensures.outcome
 
 pub returns-in-true-true-clause-listed : goal.returns-in-true-true-clause-listed
-returns-in-true-true-clause-listed g c = at_form (λ f. GivesFirstIndexedText f c.args.archive.now c.args.key.now (g.I.IndexedOf.indexed_of c.args.found.now) c.find_in.result (g.I.IndexedOf.indexed_of c.find_in.new.found)) c.args.form c.in-true-true.is-0 c.in-true-true.is-1 c.find_in.ensures.listed
+returns-in-true-true-clause-listed g c = at_form (λ f. ReturnsFirstIndexedText f c.args.archive.now c.args.key.now (g.I.IndexedOf.indexed_of c.args.found.now) c.find_in.result (g.I.IndexedOf.indexed_of c.find_in.new.found)) c.args.form c.in-true-true.is-0 c.in-true-true.is-1 c.find_in.ensures.listed
 
-pub returns-in-true-false-clause-gives : goal.returns-in-true-false-clause-gives
-returns-in-true-false-clause-gives g c = at_form (λ f. GivesIndexedText f c.args.archive.now c.args.key.now (g.I.IndexedOf.indexed_of c.args.found.now) c.find_in-in-true-false.result (g.I.IndexedOf.indexed_of c.find_in-in-true-false.new.found)) c.args.form c.in-true-false.is-0 c.in-true-false.is-1 c.find_in-in-true-false.ensures.gives
+pub returns-in-true-false-clause-outcome : goal.returns-in-true-false-clause-outcome
+returns-in-true-false-clause-outcome g c = at_form (λ f. ReturnsIndexedText f c.args.archive.now c.args.key.now (g.I.IndexedOf.indexed_of c.args.found.now) c.find_in-in-true-false.result (g.I.IndexedOf.indexed_of c.find_in-in-true-false.new.found)) c.args.form c.in-true-false.is-0 c.in-true-false.is-1 c.find_in-in-true-false.ensures.outcome
 
 pub returns-in-true-false-clause-listed : goal.returns-in-true-false-clause-listed
-returns-in-true-false-clause-listed g c = at_form (λ f. GivesFirstIndexedText f c.args.archive.now c.args.key.now (g.I.IndexedOf.indexed_of c.args.found.now) c.find_in-in-true-false.result (g.I.IndexedOf.indexed_of c.find_in-in-true-false.new.found)) c.args.form c.in-true-false.is-0 c.in-true-false.is-1 c.find_in-in-true-false.ensures.listed
+returns-in-true-false-clause-listed g c = at_form (λ f. ReturnsFirstIndexedText f c.args.archive.now c.args.key.now (g.I.IndexedOf.indexed_of c.args.found.now) c.find_in-in-true-false.result (g.I.IndexedOf.indexed_of c.find_in-in-true-false.new.found)) c.args.form c.in-true-false.is-0 c.in-true-false.is-1 c.find_in-in-true-false.ensures.listed
 
-pub returns-in-false-true-clause-gives : goal.returns-in-false-true-clause-gives
-returns-in-false-true-clause-gives g c = at_form (λ f. GivesIndexedText f c.args.archive.now c.args.key.now (g.I.IndexedOf.indexed_of c.args.found.now) c.find_in-in-false-true.result (g.I.IndexedOf.indexed_of c.find_in-in-false-true.new.found)) c.args.form c.in-false-true.is-0 c.in-false-true.is-1 c.find_in-in-false-true.ensures.gives
+pub returns-in-false-true-clause-outcome : goal.returns-in-false-true-clause-outcome
+returns-in-false-true-clause-outcome g c = at_form (λ f. ReturnsIndexedText f c.args.archive.now c.args.key.now (g.I.IndexedOf.indexed_of c.args.found.now) c.find_in-in-false-true.result (g.I.IndexedOf.indexed_of c.find_in-in-false-true.new.found)) c.args.form c.in-false-true.is-0 c.in-false-true.is-1 c.find_in-in-false-true.ensures.outcome
 
 pub returns-in-false-true-clause-listed : goal.returns-in-false-true-clause-listed
-returns-in-false-true-clause-listed g c = at_form (λ f. GivesFirstIndexedText f c.args.archive.now c.args.key.now (g.I.IndexedOf.indexed_of c.args.found.now) c.find_in-in-false-true.result (g.I.IndexedOf.indexed_of c.find_in-in-false-true.new.found)) c.args.form c.in-false-true.is-0 c.in-false-true.is-1 c.find_in-in-false-true.ensures.listed
+returns-in-false-true-clause-listed g c = at_form (λ f. ReturnsFirstIndexedText f c.args.archive.now c.args.key.now (g.I.IndexedOf.indexed_of c.args.found.now) c.find_in-in-false-true.result (g.I.IndexedOf.indexed_of c.find_in-in-false-true.new.found)) c.args.form c.in-false-true.is-0 c.in-false-true.is-1 c.find_in-in-false-true.ensures.listed
 
-pub returns-in-false-false-clause-gives : goal.returns-in-false-false-clause-gives
-returns-in-false-false-clause-gives g c = at_form (λ f. GivesIndexedText f c.args.archive.now c.args.key.now (g.I.IndexedOf.indexed_of c.args.found.now) c.find_in-in-false-false.result (g.I.IndexedOf.indexed_of c.find_in-in-false-false.new.found)) c.args.form c.in-false-false.is-0 c.in-false-false.is-1 c.find_in-in-false-false.ensures.gives
+pub returns-in-false-false-clause-outcome : goal.returns-in-false-false-clause-outcome
+returns-in-false-false-clause-outcome g c = at_form (λ f. ReturnsIndexedText f c.args.archive.now c.args.key.now (g.I.IndexedOf.indexed_of c.args.found.now) c.find_in-in-false-false.result (g.I.IndexedOf.indexed_of c.find_in-in-false-false.new.found)) c.args.form c.in-false-false.is-0 c.in-false-false.is-1 c.find_in-in-false-false.ensures.outcome
 
 pub returns-in-false-false-clause-listed : goal.returns-in-false-false-clause-listed
-returns-in-false-false-clause-listed g c = at_form (λ f. GivesFirstIndexedText f c.args.archive.now c.args.key.now (g.I.IndexedOf.indexed_of c.args.found.now) c.find_in-in-false-false.result (g.I.IndexedOf.indexed_of c.find_in-in-false-false.new.found)) c.args.form c.in-false-false.is-0 c.in-false-false.is-1 c.find_in-in-false-false.ensures.listed
+returns-in-false-false-clause-listed g c = at_form (λ f. ReturnsFirstIndexedText f c.args.archive.now c.args.key.now (g.I.IndexedOf.indexed_of c.args.found.now) c.find_in-in-false-false.result (g.I.IndexedOf.indexed_of c.find_in-in-false-false.new.found)) c.args.form c.in-false-false.is-0 c.in-false-false.is-1 c.find_in-in-false-false.ensures.listed

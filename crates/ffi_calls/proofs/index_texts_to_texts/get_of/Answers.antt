@@ -1,5 +1,5 @@
 use Rattle.ffi_calls.specs.Archives.{IsHeaderOf}
-use Rattle.ffi_calls.specs.IndexTextValues.{GivesFirstIndexedTextOfText, GivesIndexedTextOfText, IsTextTextIndex, text_text_index_in}
+use Rattle.ffi_calls.specs.IndexTextValues.{ReturnsFirstIndexedTextOfText, ReturnsIndexedTextOfText, IsTextTextIndex, text_text_index_in}
 use Rattle.ffi_calls.proofs.Forms.{at_flag, of_flag}
 use Rattle.ffi_calls.proofs.index_texts_to_texts.get_of.Goals as goal
 
@@ -15,14 +15,14 @@ typed_index_header-requires-else-wide-clause-archive g c = of_flag (λ f. IsText
 pub typed_index_header-requires-else-wide-clause-header : goal.typed_index_header-requires-else-wide-clause-header
 typed_index_header-requires-else-wide-clause-header g c = of_flag (λ f. IsHeaderOf (text_text_index_in f c.args.archive.now) c.args.header.now) c.if-wide.false c.requires.header
 
-pub returns-then-wide-clause-gives : goal.returns-then-wide-clause-gives
-returns-then-wide-clause-gives g c = at_flag (λ f. GivesIndexedTextOfText f c.args.archive.now c.args.key.now (g.I.IndexedOf.indexed_of c.args.found.now) c.find_in.result (g.I.IndexedOf.indexed_of c.find_in.new.found)) c.if-wide.true c.find_in.ensures.gives
+pub returns-then-wide-clause-outcome : goal.returns-then-wide-clause-outcome
+returns-then-wide-clause-outcome g c = at_flag (λ f. ReturnsIndexedTextOfText f c.args.archive.now c.args.key.now (g.I.IndexedOf.indexed_of c.args.found.now) c.find_in.result (g.I.IndexedOf.indexed_of c.find_in.new.found)) c.if-wide.true c.find_in.ensures.outcome
 
 pub returns-then-wide-clause-listed : goal.returns-then-wide-clause-listed
-returns-then-wide-clause-listed g c = at_flag (λ f. GivesFirstIndexedTextOfText f c.args.archive.now c.args.key.now (g.I.IndexedOf.indexed_of c.args.found.now) c.find_in.result (g.I.IndexedOf.indexed_of c.find_in.new.found)) c.if-wide.true c.find_in.ensures.listed
+returns-then-wide-clause-listed g c = at_flag (λ f. ReturnsFirstIndexedTextOfText f c.args.archive.now c.args.key.now (g.I.IndexedOf.indexed_of c.args.found.now) c.find_in.result (g.I.IndexedOf.indexed_of c.find_in.new.found)) c.if-wide.true c.find_in.ensures.listed
 
-pub returns-else-wide-clause-gives : goal.returns-else-wide-clause-gives
-returns-else-wide-clause-gives g c = at_flag (λ f. GivesIndexedTextOfText f c.args.archive.now c.args.key.now (g.I.IndexedOf.indexed_of c.args.found.now) c.find_in-else-wide.result (g.I.IndexedOf.indexed_of c.find_in-else-wide.new.found)) c.if-wide.false c.find_in-else-wide.ensures.gives
+pub returns-else-wide-clause-outcome : goal.returns-else-wide-clause-outcome
+returns-else-wide-clause-outcome g c = at_flag (λ f. ReturnsIndexedTextOfText f c.args.archive.now c.args.key.now (g.I.IndexedOf.indexed_of c.args.found.now) c.find_in-else-wide.result (g.I.IndexedOf.indexed_of c.find_in-else-wide.new.found)) c.if-wide.false c.find_in-else-wide.ensures.outcome
 
 pub returns-else-wide-clause-listed : goal.returns-else-wide-clause-listed
-returns-else-wide-clause-listed g c = at_flag (λ f. GivesFirstIndexedTextOfText f c.args.archive.now c.args.key.now (g.I.IndexedOf.indexed_of c.args.found.now) c.find_in-else-wide.result (g.I.IndexedOf.indexed_of c.find_in-else-wide.new.found)) c.if-wide.false c.find_in-else-wide.ensures.listed
+returns-else-wide-clause-listed g c = at_flag (λ f. ReturnsFirstIndexedTextOfText f c.args.archive.now c.args.key.now (g.I.IndexedOf.indexed_of c.args.found.now) c.find_in-else-wide.result (g.I.IndexedOf.indexed_of c.find_in-else-wide.new.found)) c.if-wide.false c.find_in-else-wide.ensures.listed

@@ -3,4 +3,4 @@ use Rattle.ffi_calls.proofs.laws.archives_represent_their_lists.Goals as goal
 
 pub returns : goal.returns
 unfolding IsArchiveOf
-returns g c = λ pairs b made. (made.0, made.1)
+returns g c = λ pairs b written. (written.0, written.1)

@@ -3,4 +3,4 @@ use Rattle.ffi_calls.proofs.laws.set_archives_represent_their_lists.Goals as goa
 
 pub returns : goal.returns
 unfolding IsSetArchive
-returns g c = λ items b made. (made.0, made.1)
+returns g c = λ items b written. (written.0, written.1)

@@ -4,7 +4,7 @@ use Rattle.rkyv_base.specs.Scalar.{ScalarRepresents}
 use Rattle.rkyv_collections.specs.Map.{hash_at}
 use Rattle.rkyv_collections.specs.Map.MapFormat.{MapRepresents}
 use Rattle.rkyv_collections.specs.Map.MapSpec.{map_spec}
-use Rattle.ffi_calls.proofs.Writing.{set_keeps_header, set_kept, set_told}
+use Rattle.ffi_calls.proofs.Writing.{set_keeps_header, set_kept, overwrite_status}
 use Rattle.rkyv_collections.specs.Map.InPlace.{with_first}
 use Rattle.rkyv_keys.specs.FirstPairs.{first_pair}
 use Rattle.ffi_calls.proofs.First.{first_set}
@@ -33,9 +33,9 @@ returns-clause-header g c =
 pub returns-clause-sets : goal.returns-clause-sets
 returns-clause-sets g c =
     let set = c.set_value_of-found in
-    let told = set_told g.W.Word.word g.K.HasSpec.spec g.V.HasSpec.spec g.V.Scalar.encoding (hash_at (fx_hasher low_halves) g.K.KeyElement.key_calls) c.args.archive.now c.root_of-root.result (g.A.KeyHash.calls c.args.key.now)
+    let overwrites = overwrite_status g.W.Word.word g.K.HasSpec.spec g.V.HasSpec.spec g.V.Scalar.encoding (hash_at (fx_hasher low_halves) g.K.KeyElement.key_calls) c.args.archive.now c.root_of-root.result (g.A.KeyHash.calls c.args.key.now)
     (g.A.Query.fits c.args.key.now c.args.archive.now) c.in-Some.number set.result set.new.archive c.root_of-root.ensures.at set.ensures.answer.answer c.status_of.result c.status_of.ensures.yes c.status_of.ensures.no in
-    inr (c.in-Some.ensures.read.0, (c.in-Some.number, c.in-Some.ensures.exact, told))
+    inr (c.in-Some.ensures.read.0, (c.in-Some.number, c.in-Some.ensures.exact, overwrites))
 
 pub returns-in-None-clause-listed : goal.returns-in-None-clause-listed
 returns-in-None-clause-listed g c = λ factor pairs represents. inl (c.in-None.ensures.exact, refl)
@@ -45,7 +45,7 @@ returns-clause-listed g c = λ factor pairs represents.
     let e = g.V.Scalar.encoding in
     let b = c.args.archive.now in
     let set = c.set_value_of-found in
-    let asks = g.A.PartialEq.eq c.args.key.now in
+    let accepts = g.A.PartialEq.eq c.args.key.now in
     let Represents : List ℕ → ℕ → List (g.row.A.Denot × g.row.V.Denot) → Type 0 = λ d r ps. MapRepresents g.W.Word.word g.K.HasSpec.spec g.V.HasSpec.spec g.K.Represents.represents (ScalarRepresents e) (hash_at (fx_hasher low_halves) g.K.KeyElement.key_calls) factor d r ps in
     let at = c.root_of-root.ensures.at in
     let same : length set.new.archive ≡ length b = omega (arith, set.auto.archive) in
@@ -56,7 +56,7 @@ returns-clause-listed g c = λ factor pairs represents.
       (
         c.in-Some.number,
         c.in-Some.ensures.exact,
-        first_set (first_pair asks pairs) set.result c.status_of.result after.0 c.status_of.ensures.yes c.status_of.ensures.no,
-        subst (λ p. Represents set.new.archive p (with_first asks c.in-Some.number pairs)) root_after after.1,
+        first_set (first_pair accepts pairs) set.result c.status_of.result after.0 c.status_of.ensures.yes c.status_of.ensures.no,
+        subst (λ p. Represents set.new.archive p (with_first accepts c.in-Some.number pairs)) root_after after.1,
       ),
     )

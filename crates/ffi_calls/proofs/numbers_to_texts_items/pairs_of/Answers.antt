@@ -1,11 +1,11 @@
 use Rattle.std.proofs.Common.{◌∙◌, [], ◌∷◌, ap, arith, inr, map, refl}
 use Rattle.std.proofs.lemmas.List.{map-append}
-use Rattle.ffi_calls.specs.TextItems.{NumberTextFits, number_text_image, number_text_seen}
+use Rattle.ffi_calls.specs.TextItems.{NumberTextFits, number_text_image, number_text_model}
 use Rattle.ffi_calls.proofs.Collected.{all_read, item_there, nothing_yet, one_read, same_pair}
 use Rattle.ffi_calls.proofs.numbers_to_texts_items.pairs_of.Goals as goal
 
 pub loop-item-init : goal.loop-item-init
-loop-item-init g c = nothing_yet NumberTextFits number_text_image (map g.P.PairOf.pair_of c.args.items.now) _ (ap (map number_text_seen) c.in-Ok.ensures.items)
+loop-item-init g c = nothing_yet NumberTextFits number_text_image (map g.P.PairOf.pair_of c.args.items.now) _ (ap (map number_text_model) c.in-Ok.ensures.items)
 
 pub returns-in-None : goal.returns-in-None
 returns-in-None g c =
@@ -14,8 +14,8 @@ returns-in-None g c =
 
 pub loop-item-preserved : goal.loop-item-preserved
 loop-item-preserved g c =
-    let before = map number_text_seen c.loop-item.pairs.items in
-    let pushed = ap (map number_text_seen) c.in-Ok-push.ensures.items ∙ map-append number_text_seen c.loop-item.pairs.items ((_, c.in-Some.value) ∷ [])
+    let before = map number_text_model c.loop-item.pairs.items in
+    let pushed = ap (map number_text_model) c.in-Ok-push.ensures.items ∙ map-append number_text_model c.loop-item.pairs.items ((_, c.in-Some.value) ∷ [])
     ∙ same_pair before _ _ _ _ refl c.in-Some.ensures.1 in
     one_read g.P.PairOf.pair_of NumberTextFits number_text_image c.args.items.now c.loop-item.item-index c.item-item.result c.pair-item.result before _ c.loop-item-test.true (c.pair-item.ensures ∙ ap g.P.PairOf.pair_of c.item-item.is) c.in-Some.ensures.0 pushed c.loop-item.invariant
 

@@ -1,6 +1,6 @@
-use Rattle.ffi_calls.specs.Archives.{GivesAt, IsHeaderOf, IsTextArchive, texts_in, word_of}
+use Rattle.ffi_calls.specs.Archives.{ReturnsAt, IsHeaderOf, IsTextArchive, texts_in, word_of}
 use Rattle.ffi_calls.specs.Calls.{text_found}
-use Rattle.ffi_calls.specs.Listed.{GivesFirstText}
+use Rattle.ffi_calls.specs.Listed.{ReturnsFirstText}
 use Rattle.ffi_calls.specs.Reading.{ReadsWord}
 use Rattle.ffi_calls.proofs.Forms.{at_form, of_form}
 use Rattle.ffi_calls.proofs.texts.get_of.Goals as goal
@@ -29,26 +29,26 @@ typed_header-requires-in-false-false-clause-archive c = of_form (λ f. IsTextArc
 pub typed_header-requires-in-false-false-clause-header : goal.typed_header-requires-in-false-false-clause-header
 typed_header-requires-in-false-false-clause-header c = of_form (λ f. IsHeaderOf (texts_in f c.args.archive.now) c.args.header.now) c.args.form c.in-false-false.is-0 c.in-false-false.is-1 c.requires.header
 
-pub returns-in-true-true-clause-gives : goal.returns-in-true-true-clause-gives
-returns-in-true-true-clause-gives c = at_form (λ f. GivesAt (ReadsWord (word_of f.long_values) c.args.archive.now) (text_found f c.args.archive.now c.args.key.now) c.args.value.now c.get_in.result c.get_in.new.value) c.args.form c.in-true-true.is-0 c.in-true-true.is-1 c.get_in.ensures.gives
+pub returns-in-true-true-clause-outcome : goal.returns-in-true-true-clause-outcome
+returns-in-true-true-clause-outcome c = at_form (λ f. ReturnsAt (ReadsWord (word_of f.long_values) c.args.archive.now) (text_found f c.args.archive.now c.args.key.now) c.args.value.now c.get_in.result c.get_in.new.value) c.args.form c.in-true-true.is-0 c.in-true-true.is-1 c.get_in.ensures.outcome
 
-pub returns-in-true-false-clause-gives : goal.returns-in-true-false-clause-gives
-returns-in-true-false-clause-gives c = at_form (λ f. GivesAt (ReadsWord (word_of f.long_values) c.args.archive.now) (text_found f c.args.archive.now c.args.key.now) c.args.value.now c.get_in-in-true-false.result c.get_in-in-true-false.new.value) c.args.form c.in-true-false.is-0 c.in-true-false.is-1 c.get_in-in-true-false.ensures.gives
+pub returns-in-true-false-clause-outcome : goal.returns-in-true-false-clause-outcome
+returns-in-true-false-clause-outcome c = at_form (λ f. ReturnsAt (ReadsWord (word_of f.long_values) c.args.archive.now) (text_found f c.args.archive.now c.args.key.now) c.args.value.now c.get_in-in-true-false.result c.get_in-in-true-false.new.value) c.args.form c.in-true-false.is-0 c.in-true-false.is-1 c.get_in-in-true-false.ensures.outcome
 
-pub returns-in-false-true-clause-gives : goal.returns-in-false-true-clause-gives
-returns-in-false-true-clause-gives c = at_form (λ f. GivesAt (ReadsWord (word_of f.long_values) c.args.archive.now) (text_found f c.args.archive.now c.args.key.now) c.args.value.now c.get_in-in-false-true.result c.get_in-in-false-true.new.value) c.args.form c.in-false-true.is-0 c.in-false-true.is-1 c.get_in-in-false-true.ensures.gives
+pub returns-in-false-true-clause-outcome : goal.returns-in-false-true-clause-outcome
+returns-in-false-true-clause-outcome c = at_form (λ f. ReturnsAt (ReadsWord (word_of f.long_values) c.args.archive.now) (text_found f c.args.archive.now c.args.key.now) c.args.value.now c.get_in-in-false-true.result c.get_in-in-false-true.new.value) c.args.form c.in-false-true.is-0 c.in-false-true.is-1 c.get_in-in-false-true.ensures.outcome
 
-pub returns-in-false-false-clause-gives : goal.returns-in-false-false-clause-gives
-returns-in-false-false-clause-gives c = at_form (λ f. GivesAt (ReadsWord (word_of f.long_values) c.args.archive.now) (text_found f c.args.archive.now c.args.key.now) c.args.value.now c.get_in-in-false-false.result c.get_in-in-false-false.new.value) c.args.form c.in-false-false.is-0 c.in-false-false.is-1 c.get_in-in-false-false.ensures.gives
+pub returns-in-false-false-clause-outcome : goal.returns-in-false-false-clause-outcome
+returns-in-false-false-clause-outcome c = at_form (λ f. ReturnsAt (ReadsWord (word_of f.long_values) c.args.archive.now) (text_found f c.args.archive.now c.args.key.now) c.args.value.now c.get_in-in-false-false.result c.get_in-in-false-false.new.value) c.args.form c.in-false-false.is-0 c.in-false-false.is-1 c.get_in-in-false-false.ensures.outcome
 
 pub returns-in-true-true-clause-listed : goal.returns-in-true-true-clause-listed
-returns-in-true-true-clause-listed c = at_form (λ f. GivesFirstText f c.args.archive.now c.args.key.now c.args.value.now c.get_in.result c.get_in.new.value) c.args.form c.in-true-true.is-0 c.in-true-true.is-1 c.get_in.ensures.listed
+returns-in-true-true-clause-listed c = at_form (λ f. ReturnsFirstText f c.args.archive.now c.args.key.now c.args.value.now c.get_in.result c.get_in.new.value) c.args.form c.in-true-true.is-0 c.in-true-true.is-1 c.get_in.ensures.listed
 
 pub returns-in-true-false-clause-listed : goal.returns-in-true-false-clause-listed
-returns-in-true-false-clause-listed c = at_form (λ f. GivesFirstText f c.args.archive.now c.args.key.now c.args.value.now c.get_in-in-true-false.result c.get_in-in-true-false.new.value) c.args.form c.in-true-false.is-0 c.in-true-false.is-1 c.get_in-in-true-false.ensures.listed
+returns-in-true-false-clause-listed c = at_form (λ f. ReturnsFirstText f c.args.archive.now c.args.key.now c.args.value.now c.get_in-in-true-false.result c.get_in-in-true-false.new.value) c.args.form c.in-true-false.is-0 c.in-true-false.is-1 c.get_in-in-true-false.ensures.listed
 
 pub returns-in-false-true-clause-listed : goal.returns-in-false-true-clause-listed
-returns-in-false-true-clause-listed c = at_form (λ f. GivesFirstText f c.args.archive.now c.args.key.now c.args.value.now c.get_in-in-false-true.result c.get_in-in-false-true.new.value) c.args.form c.in-false-true.is-0 c.in-false-true.is-1 c.get_in-in-false-true.ensures.listed
+returns-in-false-true-clause-listed c = at_form (λ f. ReturnsFirstText f c.args.archive.now c.args.key.now c.args.value.now c.get_in-in-false-true.result c.get_in-in-false-true.new.value) c.args.form c.in-false-true.is-0 c.in-false-true.is-1 c.get_in-in-false-true.ensures.listed
 
 pub returns-in-false-false-clause-listed : goal.returns-in-false-false-clause-listed
-returns-in-false-false-clause-listed c = at_form (λ f. GivesFirstText f c.args.archive.now c.args.key.now c.args.value.now c.get_in-in-false-false.result c.get_in-in-false-false.new.value) c.args.form c.in-false-false.is-0 c.in-false-false.is-1 c.get_in-in-false-false.ensures.listed
+returns-in-false-false-clause-listed c = at_form (λ f. ReturnsFirstText f c.args.archive.now c.args.key.now c.args.value.now c.get_in-in-false-false.result c.get_in-in-false-false.new.value) c.args.form c.in-false-false.is-0 c.in-false-false.is-1 c.get_in-in-false-false.ensures.listed

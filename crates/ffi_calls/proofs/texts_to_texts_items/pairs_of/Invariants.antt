@@ -1,8 +1,8 @@
 use Rattle.std.proofs.Common.{map}
-use Rattle.ffi_calls.specs.TextItems.{TextTextFits, text_text_image, text_text_seen}
+use Rattle.ffi_calls.specs.TextItems.{TextTextFits, text_text_image, text_text_model}
 use Rattle.ffi_calls.proofs.Collected.{Collected}
 use Rattle.ffi_calls.proofs.texts_to_texts_items.pairs_of.Given as goal
 
 -- the images of the pairs are those of the items that are read
 abbrev pub invariant-loop-item : goal.invariant-loop-item
-invariant-loop-item g l = Collected TextTextFits text_text_image (map g.P.PairOf.pair_of l.items) l.item-index (map text_text_seen l.pairs.items)
+invariant-loop-item g l = Collected TextTextFits text_text_image (map g.P.PairOf.pair_of l.items) l.item-index (map text_text_model l.pairs.items)

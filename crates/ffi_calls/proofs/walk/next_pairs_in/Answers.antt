@@ -1,7 +1,7 @@
 use Rattle.std.proofs.Common.{◌≡◌, ◌∙◌, ◌+◌, ◌<◌, ◌≤◌, ap, arith, inl, inr, length, map, slice_set, subst, sym}
 use Rattle.std.proofs.lemmas.List.{length-map, map-set}
 use Rattle.ffi_calls.specs.Archives.{map_in}
-use Rattle.ffi_calls.specs.Walking.{IsPairIn, TakesSteps, buckets_from}
+use Rattle.ffi_calls.specs.Walking.{IsPairIn, StoresSteps, buckets_from}
 use Rattle.ffi_calls.proofs.Together.{Stepped, all_stepped, none_stepped, one_stepped}
 use Rattle.ffi_calls.proofs.walk.next_pairs_in.Goals as goal
 
@@ -42,6 +42,6 @@ returns g c =
     let all : c.loop-count.count ≡ length (map of c.args.pairs.now) = omega (arith, room) in
     let few : c.loop-count.count ≤ length (map of c.args.pairs.now) = omega (arith, room) in
     let whole : c.loop-count.count ≡ length c.loop-count.pairs = omega (arith, c.loop-count.auto.pairs) in
-    subst (λ n. TakesSteps (buckets_from m) is c.args.from (map of c.args.pairs.now) n (map of c.loop-count.pairs)) whole (
+    subst (λ n. StoresSteps (buckets_from m) is c.args.from (map of c.args.pairs.now) n (map of c.loop-count.pairs)) whole (
     all_stepped (buckets_from m) is c.args.from (map of c.args.pairs.now) c.loop-count.count c.loop-count.next (map of c.loop-count.pairs) few c.loop-count.invariant (inr all)
     )

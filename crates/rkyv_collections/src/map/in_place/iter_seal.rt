@@ -21,8 +21,8 @@ ghost use Rattle.rkyv_collections.specs.Map.SealedPairs.{HasAllPairs, KeepsPairs
 ghost use Rattle.rkyv_collections.specs.Map.SealedPairs.{LendsFirstPair, LendsFirstValue};
 ghost use Rattle.rkyv_collections.specs.Map.SealedPairs.{MayWritePair};
 ghost use Rattle.rkyv_collections.specs.Map.SealedPairs.{MayWriteValue, StepsAndWritesPair};
-ghost use Rattle.rkyv_collections.specs.Map.SealedPairs.{StepsAndWritesValue, TakesKeyPos};
-ghost use Rattle.rkyv_collections.specs.Map.SealedPairs.{TakesValuePos, entries_in, entries_of};
+ghost use Rattle.rkyv_collections.specs.Map.SealedPairs.{StepsAndWritesValue, YieldsKeyPos};
+ghost use Rattle.rkyv_collections.specs.Map.SealedPairs.{YieldsValuePos, entries_in, entries_of};
 
 use crate::map::{ArchivedHashMap, HashMapOf};
 use rkyv_base::element::{Element, PartRange};
@@ -112,7 +112,7 @@ impl<'a, K: Element, V: Element, H, W> IterMut<'a, K, V, H, W> {
         ensures counts { CountsDown (entries_in self.old) result (entries_in self.new) }
         ensures inside { IfSome result (λ q. value_pos K.spec V.spec q + V.spec.size
             ≤ length (cursor_bytes (entries_in self.old))) }
-        ensures takes { TakesKeyPos K.spec V.spec (entries_in self.old) result
+        ensures takes { YieldsKeyPos K.spec V.spec (entries_in self.old) result
             (entries_in self.new) }
     {
         if whole_size::<K, V>() > LARGEST {
@@ -222,7 +222,7 @@ impl<'a, K: Element, V: Element, H, W> ValuesMut<'a, K, V, H, W> {
         ensures counts { CountsDown (entries_of self.old) result (entries_of self.new) }
         ensures inside { IfSome result (λ q. q + V.spec.size
             ≤ length (cursor_bytes (entries_of self.old))) }
-        ensures takes { TakesValuePos K.spec V.spec (entries_of self.old) result
+        ensures takes { YieldsValuePos K.spec V.spec (entries_of self.old) result
             (entries_of self.new) }
     {
         match self.pairs.next_pos() {

@@ -14,12 +14,13 @@ ghost use Rattle.rkyv_base.specs.ElementSpec.{Viewable};
 ghost use Rattle.rkyv_base.specs.View.{IsValidView};
 ghost use Rattle.rkyv_collections.specs.Map.{hash_at, map_bytes, map_pos};
 ghost use Rattle.rkyv_collections.specs.Map.MapFormat.{hash_of};
-ghost use Rattle.rkyv_collections.specs.Map.MapAt.{TellsKeyAt};
+ghost use Rattle.rkyv_collections.specs.Map.MapAt.{FoundKeyHasAt};
 ghost use Rattle.rkyv_collections.specs.Map.SealedMap.{IsKeyPosIn, IsMapSeal, IsPairSeal};
 ghost use Rattle.rkyv_collections.specs.Map.SealedMap.{IsPairSealAt};
-ghost use Rattle.rkyv_collections.specs.Map.SealedMap.{IsValueSeal, IsValueSealAt, MayAskKeysIn};
-ghost use Rattle.rkyv_collections.specs.Map.SealedMap.{TellsByAt, map_sealed};
-ghost use Rattle.rkyv_keys.specs.Asked.{asked};
+ghost use Rattle.rkyv_collections.specs.Map.SealedMap.{IsValueSeal, IsValueSealAt};
+ghost use Rattle.rkyv_collections.specs.Map.SealedMap.{CanCompareKeysIn};
+ghost use Rattle.rkyv_collections.specs.Map.SealedMap.{FoundByHasAt, map_sealed};
+ghost use Rattle.rkyv_keys.specs.KeyLookup.{query_of};
 
 use crate::map::{ArchivedHashMap, HashMapOf};
 use rkyv_base::element::Element;
@@ -68,9 +69,9 @@ impl<'a, K: KeyElement, V: Element, H: KeyHasher, W: Width> ArchivedHashMap<'a, 
     ) -> Option<u64>
         requires map { IsMapSeal W.word K.spec V.spec this.now }
         requires query { Q.can_read key.now }
-        requires callable { MayAskKeysIn W.word K.spec V.spec this.now (F.pre cmp key) }
+        requires callable { CanCompareKeysIn W.word K.spec V.spec this.now (F.pre cmp key) }
         ensures walked { IfSome result (IsKeyPosIn W.word K.spec V.spec this.now) }
-        ensures finds { TellsByAt (map_sealed W.Word K.HasSpec V.HasSpec this.now)
+        ensures finds { FoundByHasAt (map_sealed W.Word K.HasSpec V.HasSpec this.now)
             (hash_of H.hasher Q.calls key.now) (hash_at H.hasher K.key_calls)
             (F.post cmp key.entry) (λ place. result ≡ place) }
     {
@@ -86,8 +87,8 @@ impl<'a, K: KeyElement, V: Element, H: KeyHasher, W: Width> ArchivedHashMap<'a, 
         requires map { IsMapSeal W.word K.spec V.spec this.now }
         requires query { Q.can_read key.now }
         ensures walked { IfSome result (IsKeyPosIn W.word K.spec V.spec this.now) }
-        ensures finds { TellsKeyAt (map_sealed W.Word K.HasSpec V.HasSpec this.now)
-            (asked H.hasher K.key_calls K.same (Q.calls key.now) (Q.fits key.now))
+        ensures finds { FoundKeyHasAt (map_sealed W.Word K.HasSpec V.HasSpec this.now)
+            (query_of H.hasher K.key_calls K.same (Q.calls key.now) (Q.fits key.now))
             (λ place. result ≡ place) }
     {
         found_pos(map_in(this).find_key(key))
@@ -154,11 +155,11 @@ impl<'a, K: KeyElement, V: Element, H: KeyHasher, W: Width> ArchivedHashMap<'a, 
     ) -> Option<(View<'a, K>, Seal<'a, V>)>
         requires map { IsMapSeal W.word K.spec V.spec this }
         requires query { Q.can_read key.now }
-        requires callable { MayAskKeysIn W.word K.spec V.spec this (F.pre cmp key) }
+        requires callable { CanCompareKeysIn W.word K.spec V.spec this (F.pre cmp key) }
         ensures inside { IfSome result (λ pair. LiesIn V.spec pair.1) }
         ensures viewable { IfSome result (λ pair. IsValidView K.spec pair.0) }
         ensures walked { IfSome result (IsPairSeal W.word K.spec V.spec this.entry) }
-        ensures finds { TellsByAt (map_sealed W.Word K.HasSpec V.HasSpec this.entry)
+        ensures finds { FoundByHasAt (map_sealed W.Word K.HasSpec V.HasSpec this.entry)
             (hash_of H.hasher Q.calls key.now) (hash_at H.hasher K.key_calls)
             (F.post cmp key.entry) (IsPairSealAt result) }
     {
@@ -203,8 +204,8 @@ impl<'a, K: KeyElement, V: Element, H: KeyHasher, W: Width> ArchivedHashMap<'a, 
         ensures inside { IfSome result (λ pair. LiesIn V.spec pair.1) }
         ensures viewable { IfSome result (λ pair. IsValidView K.spec pair.0) }
         ensures walked { IfSome result (IsPairSeal W.word K.spec V.spec this.entry) }
-        ensures finds { TellsKeyAt (map_sealed W.Word K.HasSpec V.HasSpec this.entry)
-            (asked H.hasher K.key_calls K.same (Q.calls key.now) (Q.fits key.now))
+        ensures finds { FoundKeyHasAt (map_sealed W.Word K.HasSpec V.HasSpec this.entry)
+            (query_of H.hasher K.key_calls K.same (Q.calls key.now) (Q.fits key.now))
             (IsPairSealAt result) }
     {
         let found = Self::find_key_pos(&this, key);
@@ -230,12 +231,12 @@ impl<'a, K: KeyElement, V: Element, H: KeyHasher, W: Width> ArchivedHashMap<'a, 
     ) -> Option<Seal<'a, V>>
         requires map { IsMapSeal W.word K.spec V.spec this }
         requires query { Q.can_read key.now }
-        requires callable { MayAskKeysIn W.word K.spec V.spec this (F.pre cmp key) }
+        requires callable { CanCompareKeysIn W.word K.spec V.spec this (F.pre cmp key) }
         ensures inside { IfSome result (LiesIn V.spec) }
         ensures viewable { IfSome result (λ value. Viewable V.spec (bytes_in value)
             (seal_pos value)) }
         ensures walked { IfSome result (IsValueSeal W.word K.spec V.spec this.entry) }
-        ensures finds { TellsByAt (map_sealed W.Word K.HasSpec V.HasSpec this.entry)
+        ensures finds { FoundByHasAt (map_sealed W.Word K.HasSpec V.HasSpec this.entry)
             (hash_of H.hasher Q.calls key.now) (hash_at H.hasher K.key_calls)
             (F.post cmp key.entry) (IsValueSealAt K.spec V.spec result) }
     {
@@ -283,8 +284,8 @@ impl<'a, K: KeyElement, V: Element, H: KeyHasher, W: Width> ArchivedHashMap<'a, 
         ensures viewable { IfSome result (λ value. Viewable V.spec (bytes_in value)
             (seal_pos value)) }
         ensures walked { IfSome result (IsValueSeal W.word K.spec V.spec this.entry) }
-        ensures finds { TellsKeyAt (map_sealed W.Word K.HasSpec V.HasSpec this.entry)
-            (asked H.hasher K.key_calls K.same (Q.calls key.now) (Q.fits key.now))
+        ensures finds { FoundKeyHasAt (map_sealed W.Word K.HasSpec V.HasSpec this.entry)
+            (query_of H.hasher K.key_calls K.same (Q.calls key.now) (Q.fits key.now))
             (IsValueSealAt K.spec V.spec result) }
     {
         let found = Self::find_key_pos(&this, key);

@@ -2,14 +2,15 @@
 //!
 //! `map::in_place` has a table of all calls that write values.
 ghost use Rattle.std.specs.Prelude.{length, ◌+◌, ◌≤◌};
-ghost use Rattle.rkyv_base.specs.SealedText.{Raised};
+ghost use Rattle.rkyv_base.specs.SealedText.{Uppercases};
 ghost use Rattle.rkyv_base.specs.ElementSpec.{Viewable};
 ghost use Rattle.rkyv_base.specs.Text.{text_size};
-ghost use Rattle.rkyv_collections.specs.Map.InPlaceText.{RaisesFirst, RaisesText, map_to_texts_at};
+ghost use Rattle.rkyv_collections.specs.Map.InPlaceText.{UppercasesFirst, UppercasesText};
+ghost use Rattle.rkyv_collections.specs.Map.InPlaceText.{map_to_texts_at};
 ghost use Rattle.rkyv_collections.specs.Map.InPlaceText.{map_to_texts_spec};
-ghost use Rattle.rkyv_collections.specs.Map.MapAt.{asked_value};
+ghost use Rattle.rkyv_collections.specs.Map.MapAt.{query_of_value};
 ghost use Rattle.rkyv_collections.specs.Map.NestedWrites.{WritesParts};
-ghost use Rattle.rkyv_keys.specs.Asked.{asked};
+ghost use Rattle.rkyv_keys.specs.KeyLookup.{query_of};
 
 use crate::map::ArchivedHashMap;
 use rkyv_base::element::Represents;
@@ -23,7 +24,7 @@ use rkyv_scan::hash::KeyHasher;
 #[inline]
 fn uppercase_at<W: Width>(bytes: &mut [u8], pos: usize) -> bool
     requires { pos + text_size W.word ≤ length bytes.old }
-    ensures { Raised W.word bytes.old pos bytes.new result }
+    ensures { Uppercases W.word bytes.old pos bytes.new result }
 {
     let mut seal = Seal::<Text<W>>::over(bytes, pos);
     let is_inline = seal.make_ascii_uppercase();
@@ -51,7 +52,7 @@ fn uppercase_at<W: Width>(bytes: &mut [u8], pos: usize) -> bool
 ///
 /// ```rust
 /// // Writes the text of a key in upper case. Returns the result of the call.
-/// fn raise(bytes: &mut [u8], key: &str) -> Result<Option<bool>, VerifyError> {
+/// fn uppercase(bytes: &mut [u8], key: &str) -> Result<Option<bool>, VerifyError> {
 ///     let root = access::<HashMapOf<Text, Text>>(&*bytes)?.pos();
 ///     Ok(make_ascii_uppercase_of::<&str, Text, FxHasher64, Narrow>(bytes, root, &key))
 /// }
@@ -64,11 +65,11 @@ pub fn make_ascii_uppercase_of<
 >(archive: &mut [u8], root: u64, key: &A) -> Option<bool>
     requires map { Viewable (map_to_texts_spec W.word K.spec) archive.old root }
     requires query { A.can_read key.now }
-    ensures answer { RaisesText (map_to_texts_at W.Word K.HasSpec archive.old root)
-        (asked H.hasher K.key_calls K.same (A.calls key.now) (A.fits key.now))
+    ensures answer { UppercasesText (map_to_texts_at W.Word K.HasSpec archive.old root)
+        (query_of H.hasher K.key_calls K.same (A.calls key.now) (A.fits key.now))
         result archive.new }
-    ensures listed { RaisesFirst (map_to_texts_at W.Word K.HasSpec archive.old root)
-        (asked_value H.hasher K.key_calls K.represents (A.eq key.now)) result archive.new }
+    ensures listed { UppercasesFirst (map_to_texts_at W.Word K.HasSpec archive.old root)
+        (query_of_value H.hasher K.key_calls K.represents (A.eq key.now)) result archive.new }
     ensures parts { WritesParts (map_to_texts_spec W.word K.spec) archive.old archive.new root }
 {
     match ArchivedHashMap::<K, Text<W>, H, W>::value_pos_in(&*archive, root, key) {

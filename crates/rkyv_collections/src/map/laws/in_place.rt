@@ -2,7 +2,7 @@
 
 ghost use Rattle.rkyv_collections.specs.Map.{hash_at};
 ghost use Rattle.rkyv_collections.specs.Map.MapFormat.{hash_of};
-ghost use Rattle.rkyv_collections.specs.Map.ValueWrites.{ValueWritesKeepAnswers};
+ghost use Rattle.rkyv_collections.specs.Map.ValueWrites.{ValueWritesKeepLookups};
 ghost use Rattle.rkyv_collections.specs.Map.ValueWrites.{ValueWritesKeepMaps};
 ghost use Rattle.rkyv_collections.specs.Map.ValueWrites.{ValuesWrittenRepresent};
 
@@ -22,9 +22,9 @@ pub fn value_writes_keep_maps<K: KeyElement, V: Element, H: KeyHasher, W: Width>
 {}
 
 /// States that each query finds the same key after a write of one value that keeps it valid.
-pub fn value_writes_keep_answers<K: KeyElement, V: Element, Q: Query<K>, H: KeyHasher, W: Width>()
+pub fn value_writes_keep_lookups<K: KeyElement, V: Element, Q: Query<K>, H: KeyHasher, W: Width>()
     ensures { let hash = hash_of H.hasher Q.calls in
-        ValueWritesKeepAnswers W.word K.spec V.spec Q.can_read hash Q.fits }
+        ValueWritesKeepLookups W.word K.spec V.spec Q.can_read hash Q.fits }
 {}
 
 /// States that a write of one value in place replaces it in the represented list of pairs.

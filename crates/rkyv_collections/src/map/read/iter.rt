@@ -1,13 +1,13 @@
 //! Iterators over the pairs, the keys and the values of a map.
 //!
-//! Each returns views, in bucket order. `map::laws::walks_give_listed` relates them
+//! Each returns views, in bucket order. `map::laws::walks_visit_each` relates them
 //! to the list that the map represents.
 ghost use Rattle.std.specs.Prelude.{length, ◌≡◌};
 ghost use Rattle.std.specs.Iterator.{at_most};
 ghost use Rattle.rkyv_base.specs.Entry.{entry_spec};
 ghost use Rattle.rkyv_table.specs.Table.Hints.{HintsExactly};
 ghost use Rattle.rkyv_collections.specs.Map.{key_positions, map_archive, map_len};
-ghost use Rattle.rkyv_table.specs.Table.PairWalks.{TakesKey, TakesPair, TakesValue};
+ghost use Rattle.rkyv_table.specs.Table.PairWalks.{YieldsKey, YieldsPair, YieldsValue};
 
 use crate::map::ArchivedHashMap;
 use rkyv_base::element::{Element, HasSpec};
@@ -40,7 +40,7 @@ impl<'a, K: HasSpec, V: HasSpec, H, W> Model for Iter<'a, K, V, H, W> {
 impl<'a, K: Element, V: Element, H, W> Iterator for Iter<'a, K, V, H, W> {
     type Item = PairView<'a, K, V>;
 
-    ghost next_gives = { TakesPair K.spec V.spec };
+    ghost next_gives = { YieldsPair K.spec V.spec };
 
     ghost remaining = { λ left. at_most (length left.positions) };
 
@@ -84,7 +84,7 @@ impl<'a, K: HasSpec, V: HasSpec, H, W> Model for Keys<'a, K, V, H, W> {
 impl<'a, K: Element, V: Element, H, W> Iterator for Keys<'a, K, V, H, W> {
     type Item = View<'a, K>;
 
-    ghost next_gives = { TakesKey K.spec };
+    ghost next_gives = { YieldsKey K.spec };
 
     ghost remaining = { λ left. at_most (length left.positions) };
 
@@ -128,7 +128,7 @@ impl<'a, K: HasSpec, V: HasSpec, H, W> Model for Values<'a, K, V, H, W> {
 impl<'a, K: Element, V: Element, H, W> Iterator for Values<'a, K, V, H, W> {
     type Item = View<'a, V>;
 
-    ghost next_gives = { TakesValue K.spec V.spec };
+    ghost next_gives = { YieldsValue K.spec V.spec };
 
     ghost remaining = { λ left. at_most (length left.positions) };
 

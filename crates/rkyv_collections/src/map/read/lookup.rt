@@ -13,9 +13,11 @@ ghost use Rattle.rkyv_base.specs.View.{IsAt, IsValidView, archive_of, pos_of};
 ghost use Rattle.rkyv_base.specs.declared.view.View.{View};
 ghost use Rattle.rkyv_collections.specs.Map.Lookups.{GetsBy, GetsKey, IsPairOfEntry};
 ghost use Rattle.rkyv_collections.specs.Map.Lookups.{IsValueOfEntry};
-ghost use Rattle.rkyv_collections.specs.Map.Lookups.{TellsKey, entry_part, pair_part, value_part};
-ghost use Rattle.rkyv_keys.specs.Asked.{asked};
-ghost use Rattle.rkyv_collections.specs.Map.{FindsKey, IsFoundAt, IsViewAt, MayAskKeys, hash_at};
+ghost use Rattle.rkyv_collections.specs.Map.Lookups.{FoundKeyHas, entry_part, pair_part};
+ghost use Rattle.rkyv_collections.specs.Map.Lookups.{value_part};
+ghost use Rattle.rkyv_keys.specs.KeyLookup.{query_of};
+ghost use Rattle.rkyv_collections.specs.Map.{FindsKey, IsFoundAt, IsViewAt, CanCompareKeys};
+ghost use Rattle.rkyv_collections.specs.Map.{hash_at};
 ghost use Rattle.rkyv_collections.specs.Map.{map_bytes};
 ghost use Rattle.rkyv_collections.specs.Map.MapFormat.{hash_of};
 
@@ -72,7 +74,7 @@ impl<'a, K: KeyElement, V: Element, H: KeyHasher, W: Width> ArchivedHashMap<'a, 
     where
         F: Fn(&Q, View<'a, K>) -> bool,
         requires query { Q.can_read key.now }
-        requires callable { MayAskKeys self (F.pre cmp key) }
+        requires callable { CanCompareKeys self (F.pre cmp key) }
         ensures found { GetsBy entry_part self.entry (hash_of H.hasher Q.calls key.now)
             (hash_at H.hasher K.key_calls) (F.post cmp key.entry) result }
         ensures hash { hash_of_calls H.hasher (Q.calls key.now) < 2 ^ 64 }
@@ -110,7 +112,7 @@ impl<'a, K: KeyElement, V: Element, H: KeyHasher, W: Width> ArchivedHashMap<'a, 
     where
         F: Fn(&Q, View<'a, K>) -> bool,
         requires query { Q.can_read key.now }
-        requires callable { MayAskKeys self (F.pre cmp key) }
+        requires callable { CanCompareKeys self (F.pre cmp key) }
         ensures { GetsBy pair_part self.entry (hash_of H.hasher Q.calls key.now)
             (hash_at H.hasher K.key_calls) (F.post cmp key.entry) result }
     {
@@ -132,7 +134,7 @@ impl<'a, K: KeyElement, V: Element, H: KeyHasher, W: Width> ArchivedHashMap<'a, 
     where
         F: Fn(&Q, View<'a, K>) -> bool,
         requires query { Q.can_read key.now }
-        requires callable { MayAskKeys self (F.pre cmp key) }
+        requires callable { CanCompareKeys self (F.pre cmp key) }
         ensures { GetsBy value_part self.entry (hash_of H.hasher Q.calls key.now)
             (hash_at H.hasher K.key_calls) (F.post cmp key.entry) result }
     {
@@ -144,7 +146,7 @@ impl<'a, K: KeyElement, V: Element, H: KeyHasher, W: Width> ArchivedHashMap<'a, 
     pub(crate) fn find_key<Q: Query<K>>(self, key: &Q) -> Option<View<'a, Entry<K, V>>>
         requires query { Q.can_read key.now }
         ensures { GetsKey entry_part self.entry
-            (asked H.hasher K.key_calls K.same (Q.calls key.now) (Q.fits key.now)) result }
+            (query_of H.hasher K.key_calls K.same (Q.calls key.now) (Q.fits key.now)) result }
     {
         self.find(
             key,
@@ -174,7 +176,7 @@ impl<'a, K: KeyElement, V: Element, H: KeyHasher, W: Width> ArchivedHashMap<'a, 
     pub fn get_key_value<Q: Query<K>>(self, key: &Q) -> Option<PairView<'a, K, V>>
         requires query { Q.can_read key.now }
         ensures { GetsKey pair_part self.entry
-            (asked H.hasher K.key_calls K.same (Q.calls key.now) (Q.fits key.now)) result }
+            (query_of H.hasher K.key_calls K.same (Q.calls key.now) (Q.fits key.now)) result }
     {
         found_pair(self.find_key(key))
     }
@@ -205,7 +207,7 @@ impl<'a, K: KeyElement, V: Element, H: KeyHasher, W: Width> ArchivedHashMap<'a, 
     pub fn get<Q: Query<K>>(self, key: &Q) -> Option<View<'a, V>>
         requires query { Q.can_read key.now }
         ensures { GetsKey value_part self.entry
-            (asked H.hasher K.key_calls K.same (Q.calls key.now) (Q.fits key.now)) result }
+            (query_of H.hasher K.key_calls K.same (Q.calls key.now) (Q.fits key.now)) result }
     {
         found_value(self.find_key(key))
     }
@@ -220,8 +222,8 @@ impl<'a, K: KeyElement, V: Element, H: KeyHasher, W: Width> ArchivedHashMap<'a, 
     #[inline]
     pub fn contains_key<Q: Query<K>>(self, key: &Q) -> bool
         requires query { Q.can_read key.now }
-        ensures { TellsKey self.entry
-            (asked H.hasher K.key_calls K.same (Q.calls key.now) (Q.fits key.now)) (IsFoundAt
+        ensures { FoundKeyHas self.entry
+            (query_of H.hasher K.key_calls K.same (Q.calls key.now) (Q.fits key.now)) (IsFoundAt
             result) }
     {
         is_found(self.find_key(key))
@@ -256,7 +258,8 @@ impl<'a, K: KeyElement, V: Element, H: KeyHasher, W: Width> ArchivedHashMap<'a, 
             (hash_of H.hasher Q.calls key.now)
             (Q.fits key.now (map_bytes self)) IsSome }
         ensures { GetsKey value_part self.entry
-            (asked H.hasher K.key_calls K.same (Q.calls key.now) (Q.fits key.now)) (Some result) }
+            (query_of H.hasher K.key_calls K.same (Q.calls key.now) (Q.fits key.now))
+            (Some result) }
     {
         self.find_key(key).unwrap().value()
     }

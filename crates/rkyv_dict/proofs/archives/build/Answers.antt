@@ -2,7 +2,7 @@ use Rattle.std.proofs.Common.{◌≡◌, ℕ, Result, subst, sym}
 use Rattle.std.specs.declared.vec.Vec.{Vec}
 use Rattle.rkyv_base.specs.declared.errors.WriteError.{WriteError}
 use Rattle.rkyv_dict.specs.Built.{Builds, form_of_pairs}
-use Rattle.rkyv_dict.specs.Forms.{pairs_seen}
+use Rattle.rkyv_dict.specs.Forms.{pairs_of}
 use Rattle.rkyv_dict.specs.declared.form.ArchiveWidth.{ArchiveWidth}
 use Rattle.rkyv_dict.specs.declared.form.ArchiveWidth.TheVariants.{Bits32, Bits64}
 use Rattle.rkyv_dict.specs.declared.form.PairList.{PairList}
@@ -11,9 +11,9 @@ use Rattle.rkyv_dict.proofs.archives.build.Goals as goal
 
 -- a build of a list and a width that equal known ones
 of_known : {F Z : Type 0} (factor : ℕ × ℕ) (result : Result (Vec ℕ Z) (WriteError F)) (bits width : ArchiveWidth) (list known : PairList) → bits ≡ width → list ≡ known
-    → Builds (form_of_pairs width (pairs_seen known)) factor (pairs_seen known) result → Builds (form_of_pairs bits (pairs_seen list)) factor (pairs_seen list) result
+    → Builds (form_of_pairs width (pairs_of known)) factor (pairs_of known) result → Builds (form_of_pairs bits (pairs_of list)) factor (pairs_of list) result
 of_known factor result bits width list known e h built =
-    let Built : ArchiveWidth → PairList → Type 0 = λ b l. Builds (form_of_pairs b (pairs_seen l)) factor (pairs_seen l) result in
+    let Built : ArchiveWidth → PairList → Type 0 = λ b l. Builds (form_of_pairs b (pairs_of l)) factor (pairs_of l) result in
     subst (λ b. Built b list) (sym e) (subst (Built width) (sym h) built)
 
 pub returns-in-Texts-Bits32 : goal.returns-in-Texts-Bits32

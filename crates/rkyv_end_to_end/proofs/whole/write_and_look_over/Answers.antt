@@ -3,7 +3,7 @@ use Rattle.rkyv_base.specs.Writing.{end_of, vec_output}
 use Rattle.rkyv_base.specs.declared.element.PartRange.{PartRange}
 use Rattle.rkyv_table.specs.Table.Bare.{table_in}
 use Rattle.rkyv_end_to_end.specs.Listing.{encoding, list_of, pairs_of}
-use Rattle.rkyv_end_to_end.proofs.Listing.{appended_sits, element_members, look_fails, not_refused, width_members, written_found}
+use Rattle.rkyv_end_to_end.proofs.Listing.{appended_sits, element_members, look_fails, written_never_fails, width_members, written_found}
 use Rattle.rkyv_end_to_end.proofs.whole.write_and_look_over.Goals as goal
 
 pub returns-in-Ok-look_over : goal.returns-in-Ok-look_over
@@ -32,5 +32,5 @@ returns-in-Err-look_over g c =
     let valid = c.written_lists_represent.ensures c.args.load_factor wrote.1 (end_of o) at.end at.pos wrote.2 o'.bytes wrote.3.2 sits in
     let range : PartRange = record { lo = c.pos-begin.result; hi = at.end } in
     look_fails list o o' (table_in g.W.Word g.U.Archived.HasSpec c.bytes.result.now at.pos) at.end at.pos range wrote
-    (not_refused g.W.Word.word g.met.W.Width.layout.kind g.U.Archived.HasSpec.spec g.U.Archived.HasSpec.laws o'.bytes c.bytes.result.now at.pos (end_of o) at.end valid.0.passes c.bytes.ensures range c.pos-begin.ensures refl)
+    (written_never_fails g.W.Word.word g.met.W.Width.layout.kind g.U.Archived.HasSpec.spec g.U.Archived.HasSpec.laws o'.bytes c.bytes.result.now at.pos (end_of o) at.end valid.0.passes c.bytes.ensures range c.pos-begin.ensures refl)
     c.in-Err-look_over.e c.in-Err-look_over.ensures

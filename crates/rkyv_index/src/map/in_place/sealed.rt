@@ -18,7 +18,8 @@ ghost use Rattle.rkyv_table.specs.Table.Header.{len_at};
 ghost use Rattle.rkyv_table.specs.Table.PairSeals.{LendsPair, LendsValue};
 ghost use Rattle.rkyv_index.specs.Index.{FindsBy, FindsFirstBy, FindsFirstKey, FindsKey};
 ghost use Rattle.rkyv_index.specs.Index.{IsStoredAt};
-ghost use Rattle.rkyv_index.specs.Index.{IsIndex, MayAskKeysOf, hash_at, index_bytes, index_pos};
+ghost use Rattle.rkyv_index.specs.Index.{IsIndex, CanCompareKeysOf, hash_at, index_bytes};
+ghost use Rattle.rkyv_index.specs.Index.{index_pos};
 ghost use Rattle.rkyv_index.specs.Index.IndexFormat.{hash_of};
 ghost use Rattle.rkyv_index.specs.Index.SealedIndex.{
   IsFullSeal,
@@ -80,7 +81,7 @@ impl<'a, K: KeyElement, V: Element, H: KeyHasher, W: Width> ArchivedIndexMap<'a,
     ) -> Option<usize>
         requires map { IsIndexSeal W.word K.spec V.spec this.now }
         requires query { Q.can_read key.now }
-        requires callable { MayAskKeysOf (index_in W.word K.spec V.spec this.now)
+        requires callable { CanCompareKeysOf (index_in W.word K.spec V.spec this.now)
             (F.pre cmp key) }
         ensures stored { IfSome result (IsStoredAt W.word (archive_in this.now) (pos_in this.now)) }
         ensures below { IfSome result
@@ -245,7 +246,7 @@ impl<'a, K: KeyElement, V: Element, H: KeyHasher, W: Width> ArchivedIndexMap<'a,
     ) -> Option<(usize, View<'a, K>, Seal<'a, V>)>
         requires map { IsIndexSeal W.word K.spec V.spec this }
         requires query { Q.can_read key.now }
-        requires callable { MayAskKeysOf (index_in W.word K.spec V.spec this)
+        requires callable { CanCompareKeysOf (index_in W.word K.spec V.spec this)
             (F.pre cmp key) }
         ensures inside { IfSome result (λ full. LiesIn V.spec full.2) }
         ensures viewable { IfSome result (λ full. IsValidView K.spec full.1) }
@@ -330,7 +331,7 @@ impl<'a, K: KeyElement, V: Element, H: KeyHasher, W: Width> ArchivedIndexMap<'a,
     ) -> Option<(View<'a, K>, Seal<'a, V>)>
         requires map { IsIndexSeal W.word K.spec V.spec this }
         requires query { Q.can_read key.now }
-        requires callable { MayAskKeysOf (index_in W.word K.spec V.spec this)
+        requires callable { CanCompareKeysOf (index_in W.word K.spec V.spec this)
             (F.pre cmp key) }
         ensures inside { IfSome result (λ pair. LiesIn V.spec pair.1) }
         ensures viewable { IfSome result (λ pair. IsValidView K.spec pair.0) }
@@ -400,7 +401,7 @@ impl<'a, K: KeyElement, V: Element, H: KeyHasher, W: Width> ArchivedIndexMap<'a,
     ) -> Option<Seal<'a, V>>
         requires map { IsIndexSeal W.word K.spec V.spec this }
         requires query { Q.can_read key.now }
-        requires callable { MayAskKeysOf (index_in W.word K.spec V.spec this)
+        requires callable { CanCompareKeysOf (index_in W.word K.spec V.spec this)
             (F.pre cmp key) }
         ensures inside { IfSome result (LiesIn V.spec) }
         ensures viewable { IfSome result (λ value. Viewable V.spec (bytes_in value)

@@ -19,11 +19,11 @@ use rkyv_table::table::{ArchivedHashTable, TableOf};
 
 // Converts a position that is at least 0 and below 2^64.
 #[inline]
-fn decode_pos(told: i128) -> u64
-    requires { (at : ℕ) × (int at ≡ told) × (at < 2 ^ 64) }
-    ensures { result ≡ unsigned_abs told }
+fn decode_pos(decoded: i128) -> u64
+    requires { (at : ℕ) × (int at ≡ decoded) × (at < 2 ^ 64) }
+    ensures { result ≡ unsigned_abs decoded }
 {
-    told as u64
+    decoded as u64
 }
 
 // Decodes the header of the table of indices of a map.

@@ -1,8 +1,8 @@
 //! Deserializing an index map into a list of pairs.
 ghost use Rattle.std.specs.Prelude.{MatchResult, ◌<◌};
 ghost use Rattle.rkyv_index.specs.Index.{index_bytes, index_len, index_pos};
-ghost use Rattle.rkyv_index.specs.Index.Reading.{IsPairRead, ReadsPairs, pair_refuses};
-ghost use Rattle.rkyv_index.specs.Index.Reading.{pairs_refuse};
+ghost use Rattle.rkyv_index.specs.Index.Reading.{IsPairRead, ReadsPairs, pair_deserialize_fails};
+ghost use Rattle.rkyv_index.specs.Index.Reading.{pairs_deserialize_fails};
 
 use crate::map::ArchivedIndexMap;
 use rkyv_base::element::Element;
@@ -22,7 +22,7 @@ impl<'a, K: Element, V: Element, H, W: Width> ArchivedIndexMap<'a, K, V, H, W> {
         requires below { place < index_len self }
         ensures { MatchResult result
             (IsPairRead K.represents V.represents self.entry place)
-            (pair_refuses K.deserialize_fails V.deserialize_fails self.entry place) }
+            (pair_deserialize_fails K.deserialize_fails V.deserialize_fails self.entry place) }
     {
         Entry::<K, V>::deserialize(alloc, self.entries().entry(place))
     }
@@ -54,7 +54,7 @@ impl<'a, K: Element, V: Element, H, W: Width> ArchivedIndexMap<'a, K, V, H, W> {
         V: Deserialize<B>,
         ensures { MatchResult result
             (λ list. ReadsPairs K.represents V.represents self.entry list.items)
-            (pairs_refuse W.word K.Deserialize V.Deserialize (index_bytes self.entry)
+            (pairs_deserialize_fails W.word K.Deserialize V.Deserialize (index_bytes self.entry)
             (index_pos self.entry)) }
     {
         let mut list = Vec::new(alloc);

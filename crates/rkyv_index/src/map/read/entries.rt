@@ -6,8 +6,8 @@ ghost use Rattle.rkyv_base.specs.View.{IsAt, IsValidView, bytes_of, pos_of};
 ghost use Rattle.rkyv_table.specs.Table.Header.{len_at};
 ghost use Rattle.rkyv_scan.specs.Groups.{generic_kind};
 ghost use Rattle.rkyv_table.specs.Table.Reading.{CountsStrides};
-ghost use Rattle.rkyv_index.specs.Index.{AnswersPlace, AreEntries, FindsIndexIn, IsEntryOf};
-ghost use Rattle.rkyv_index.specs.Index.{IsKeyIn, IsPairOf, MayAskPlace, MayAskPlaces};
+ghost use Rattle.rkyv_index.specs.Index.{ComparesPlaceBy, AreEntries, FindsIndexIn, IsEntryOf};
+ghost use Rattle.rkyv_index.specs.Index.{IsKeyIn, IsPairOf, CanComparePlace, CanComparePlaces};
 ghost use Rattle.rkyv_index.specs.Index.{index_archive, index_len, index_pos, place_at};
 ghost use Rattle.rkyv_index.specs.Index.IndexLayout.{entries_pos, entry_at, index_spec};
 
@@ -127,16 +127,17 @@ pub(crate) fn find_place<W: Width, F: Fn(usize) -> bool>(
     strides: &mut Strides,
 ) -> Option<usize>
     requires room { strides.old ≤ 2 ^ 63 }
-    requires callable { MayAskPlaces (F.pre accepts) table }
+    requires callable { CanComparePlaces (F.pre accepts) table }
     ensures found { FindsIndexIn (F.post accepts) table.entry hash result }
-    ensures counts { CountsStrides (AnswersPlace W.word (F.post accepts)) generic_kind table.entry
+    ensures counts { CountsStrides (ComparesPlaceBy W.word (F.post accepts)) generic_kind
+        table.entry
         hash strides.old strides.new }
 {
     let held = table.get_counted(
         hash,
         |item|
-            requires { MayAskPlace W.word (F.pre accepts) item }
-            ensures { AnswersPlace W.word (F.post accepts) item.entry result }
+            requires { CanComparePlace W.word (F.pre accepts) item }
+            ensures { ComparesPlaceBy W.word (F.post accepts) item.entry result }
         { accepts(read_place::<W>(item)) },
         strides,
     );

@@ -7,7 +7,7 @@ ghost use Rattle.rkyv_base.specs.Entry.{entry_spec};
 ghost use Rattle.rkyv_table.specs.Table.Hints.{HintsExactly};
 ghost use Rattle.rkyv_table.specs.Table.RawItems.{AllValid};
 ghost use Rattle.rkyv_index.specs.Index.{index_archive, index_len, key_positions};
-ghost use Rattle.rkyv_table.specs.Table.PairWalks.{TakesKey, TakesPair, TakesValue};
+ghost use Rattle.rkyv_table.specs.Table.PairWalks.{YieldsKey, YieldsPair, YieldsValue};
 
 use crate::map::ArchivedIndexMap;
 use rkyv_base::element::{Element, HasSpec};
@@ -46,7 +46,7 @@ impl<'a, K: HasSpec, V: HasSpec> Model for Iter<'a, K, V> {
 impl<'a, K: Element, V: Element> Iterator for Iter<'a, K, V> {
     type Item = PairView<'a, K, V>;
 
-    ghost next_gives = { TakesPair K.spec V.spec };
+    ghost next_gives = { YieldsPair K.spec V.spec };
 
     ghost remaining = { λ left. at_most (length left.positions) };
 
@@ -93,7 +93,7 @@ impl<'a, K: HasSpec, V: HasSpec> Model for Keys<'a, K, V> {
 impl<'a, K: Element, V: Element> Iterator for Keys<'a, K, V> {
     type Item = View<'a, K>;
 
-    ghost next_gives = { TakesKey K.spec };
+    ghost next_gives = { YieldsKey K.spec };
 
     ghost remaining = { λ left. at_most (length left.positions) };
 
@@ -137,7 +137,7 @@ impl<'a, K: HasSpec, V: HasSpec> Model for Values<'a, K, V> {
 impl<'a, K: Element, V: Element> Iterator for Values<'a, K, V> {
     type Item = View<'a, V>;
 
-    ghost next_gives = { TakesValue K.spec V.spec };
+    ghost next_gives = { YieldsValue K.spec V.spec };
 
     ghost remaining = { λ left. at_most (length left.positions) };
 

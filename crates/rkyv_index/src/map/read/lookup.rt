@@ -15,13 +15,15 @@ ghost use Rattle.rkyv_scan.specs.Hash.{hash_of_calls};
 ghost use Rattle.rkyv_base.specs.View.{IsValidView, bytes_of, pos_of};
 ghost use Rattle.rkyv_base.specs.declared.view.View.{View};
 ghost use Rattle.rkyv_table.specs.Table.Header.{len_at};
-ghost use Rattle.rkyv_keys.specs.Asked.{asked};
+ghost use Rattle.rkyv_keys.specs.KeyLookup.{query_of};
 ghost use Rattle.rkyv_index.specs.Index.{IsFoundAt, IsStoredIndex, IsKeyIn, IsPairAt, IsValueAt};
 ghost use Rattle.rkyv_index.specs.Index.{CountsBy, CountsKey, index_of};
-ghost use Rattle.rkyv_index.specs.Index.{MayAskKeys, MayAskKeysIn, ReadsWithinBound, hash_at};
+ghost use Rattle.rkyv_index.specs.Index.{CanCompareKeys, CanCompareKeysIn, ReadsWithinBound};
+ghost use Rattle.rkyv_index.specs.Index.{hash_at};
 ghost use Rattle.rkyv_index.specs.Index.IndexFormat.{hash_of};
 ghost use Rattle.rkyv_index.specs.Index.IndexLayout.{entries_pos, index_spec};
-ghost use Rattle.rkyv_index.specs.Index.Lookups.{GetsBy, GetsKey, TellsKey, full_part, pair_part};
+ghost use Rattle.rkyv_index.specs.Index.Lookups.{GetsBy, GetsKey, FoundKeyHas, full_part};
+ghost use Rattle.rkyv_index.specs.Index.Lookups.{pair_part};
 ghost use Rattle.rkyv_index.specs.Index.Lookups.{place_part, value_part};
 
 use crate::map::ArchivedIndexMap;
@@ -45,7 +47,7 @@ impl<'a, K: KeyElement, V: Element, H: KeyHasher, W: Width> ArchivedIndexMap<'a,
         F: Fn(&Q, View<'a, K>) -> bool,
         requires query { Q.can_read key.now }
         requires room { strides.old ≤ 2 ^ 63 }
-        requires callable { MayAskKeys self (F.pre cmp key) }
+        requires callable { CanCompareKeys self (F.pre cmp key) }
         ensures found { GetsBy place_part self.entry (hash_of H.hasher Q.calls key.now)
             (hash_at H.hasher K.key_calls) (F.post cmp key.entry) result }
         ensures hash { hash_of_calls H.hasher (Q.calls key.now) < 2 ^ 64 }
@@ -63,7 +65,7 @@ impl<'a, K: KeyElement, V: Element, H: KeyHasher, W: Width> ArchivedIndexMap<'a,
                 requires map { IsValidView (index_spec W.word (entry_spec K.spec V.spec)) view }
                 requires begin { begin ≡ entries_pos W.word (bytes_of view) (pos_of view) }
                 requires below { place < len_at W.word (bytes_of view) (pos_of view) }
-                requires callable { MayAskKeysIn W.word K.spec V.spec view (F.pre cmp key) }
+                requires callable { CanCompareKeysIn W.word K.spec V.spec view (F.pre cmp key) }
                 ensures { (k : View K) × IsKeyIn W.word K.spec V.spec view.entry place k
                     × F.post cmp key.entry k result }
             { cmp(key, key_in(view, begin, place)) },
@@ -95,7 +97,7 @@ impl<'a, K: KeyElement, V: Element, H: KeyHasher, W: Width> ArchivedIndexMap<'a,
     where
         F: Fn(&Q, View<'a, K>) -> bool,
         requires query { Q.can_read key.now }
-        requires callable { MayAskKeys self (F.pre cmp key) }
+        requires callable { CanCompareKeys self (F.pre cmp key) }
         ensures { GetsBy full_part self.entry (hash_of H.hasher Q.calls key.now)
             (hash_at H.hasher K.key_calls) (F.post cmp key.entry) result }
     {
@@ -114,7 +116,7 @@ impl<'a, K: KeyElement, V: Element, H: KeyHasher, W: Width> ArchivedIndexMap<'a,
         requires query { Q.can_read key.now }
         requires room { strides.old ≤ 2 ^ 63 }
         ensures found { GetsKey place_part self.entry
-            (asked H.hasher K.key_calls K.same (Q.calls key.now) (Q.fits key.now)) result }
+            (query_of H.hasher K.key_calls K.same (Q.calls key.now) (Q.fits key.now)) result }
         ensures bounded { ReadsWithinBound self.entry strides.old strides.new }
         ensures counted { CountsKey (index_of self.entry) (hash_of H.hasher Q.calls key.now)
             (Q.fits key.now) strides.old strides.new }
@@ -135,7 +137,7 @@ impl<'a, K: KeyElement, V: Element, H: KeyHasher, W: Width> ArchivedIndexMap<'a,
     pub(crate) fn find_key<Q: Query<K>>(self, key: &Q) -> Option<usize>
         requires query { Q.can_read key.now }
         ensures { GetsKey place_part self.entry
-            (asked H.hasher K.key_calls K.same (Q.calls key.now) (Q.fits key.now)) result }
+            (query_of H.hasher K.key_calls K.same (Q.calls key.now) (Q.fits key.now)) result }
     {
         self.find_counted(key, &mut Strides::new())
     }
@@ -173,7 +175,7 @@ impl<'a, K: KeyElement, V: Element, H: KeyHasher, W: Width> ArchivedIndexMap<'a,
     pub fn get_full<Q: Query<K>>(self, key: &Q) -> Option<(usize, View<'a, K>, View<'a, V>)>
         requires query { Q.can_read key.now }
         ensures { GetsKey full_part self.entry
-            (asked H.hasher K.key_calls K.same (Q.calls key.now) (Q.fits key.now)) result }
+            (query_of H.hasher K.key_calls K.same (Q.calls key.now) (Q.fits key.now)) result }
     {
         match self.find_key(key) {
             Some(place) => {
@@ -223,7 +225,7 @@ impl<'a, K: KeyElement, V: Element, H: KeyHasher, W: Width> ArchivedIndexMap<'a,
     where
         F: Fn(&Q, View<'a, K>) -> bool,
         requires query { Q.can_read key.now }
-        requires callable { MayAskKeys self (F.pre cmp key) }
+        requires callable { CanCompareKeys self (F.pre cmp key) }
         ensures { GetsBy pair_part self.entry (hash_of H.hasher Q.calls key.now)
             (hash_at H.hasher K.key_calls) (F.post cmp key.entry) result }
     {
@@ -243,7 +245,7 @@ impl<'a, K: KeyElement, V: Element, H: KeyHasher, W: Width> ArchivedIndexMap<'a,
     pub fn get_key_value<Q: Query<K>>(self, key: &Q) -> Option<PairView<'a, K, V>>
         requires query { Q.can_read key.now }
         ensures { GetsKey pair_part self.entry
-            (asked H.hasher K.key_calls K.same (Q.calls key.now) (Q.fits key.now)) result }
+            (query_of H.hasher K.key_calls K.same (Q.calls key.now) (Q.fits key.now)) result }
     {
         self.pair_of(self.find_key(key))
     }
@@ -263,7 +265,7 @@ impl<'a, K: KeyElement, V: Element, H: KeyHasher, W: Width> ArchivedIndexMap<'a,
     where
         F: Fn(&Q, View<'a, K>) -> bool,
         requires query { Q.can_read key.now }
-        requires callable { MayAskKeys self (F.pre cmp key) }
+        requires callable { CanCompareKeys self (F.pre cmp key) }
         ensures { GetsBy value_part self.entry (hash_of H.hasher Q.calls key.now)
             (hash_at H.hasher K.key_calls) (F.post cmp key.entry) result }
     {
@@ -298,7 +300,7 @@ impl<'a, K: KeyElement, V: Element, H: KeyHasher, W: Width> ArchivedIndexMap<'a,
     pub fn get<Q: Query<K>>(self, key: &Q) -> Option<View<'a, V>>
         requires query { Q.can_read key.now }
         ensures { GetsKey value_part self.entry
-            (asked H.hasher K.key_calls K.same (Q.calls key.now) (Q.fits key.now)) result }
+            (query_of H.hasher K.key_calls K.same (Q.calls key.now) (Q.fits key.now)) result }
     {
         self.value_of(self.find_key(key))
     }
@@ -318,7 +320,7 @@ impl<'a, K: KeyElement, V: Element, H: KeyHasher, W: Width> ArchivedIndexMap<'a,
     where
         F: Fn(&Q, View<'a, K>) -> bool,
         requires query { Q.can_read key.now }
-        requires callable { MayAskKeys self (F.pre cmp key) }
+        requires callable { CanCompareKeys self (F.pre cmp key) }
         ensures { GetsBy place_part self.entry (hash_of H.hasher Q.calls key.now)
             (hash_at H.hasher K.key_calls) (F.post cmp key.entry) result }
     {
@@ -357,7 +359,7 @@ impl<'a, K: KeyElement, V: Element, H: KeyHasher, W: Width> ArchivedIndexMap<'a,
         F: Fn(&Q, View<'a, K>) -> bool,
         requires query { Q.can_read key.now }
         requires room { strides.old ≤ 2 ^ 63 }
-        requires callable { MayAskKeys self (F.pre cmp key) }
+        requires callable { CanCompareKeys self (F.pre cmp key) }
         ensures found { GetsBy place_part self.entry (hash_of H.hasher Q.calls key.now)
             (hash_at H.hasher K.key_calls) (F.post cmp key.entry) result }
         ensures bounded { ReadsWithinBound self.entry strides.old strides.new }
@@ -380,7 +382,7 @@ impl<'a, K: KeyElement, V: Element, H: KeyHasher, W: Width> ArchivedIndexMap<'a,
     pub fn get_index_of<Q: Query<K>>(self, key: &Q) -> Option<usize>
         requires query { Q.can_read key.now }
         ensures { GetsKey place_part self.entry
-            (asked H.hasher K.key_calls K.same (Q.calls key.now) (Q.fits key.now)) result }
+            (query_of H.hasher K.key_calls K.same (Q.calls key.now) (Q.fits key.now)) result }
     {
         self.find_key(key)
     }
@@ -395,8 +397,8 @@ impl<'a, K: KeyElement, V: Element, H: KeyHasher, W: Width> ArchivedIndexMap<'a,
     #[inline]
     pub fn contains_key<Q: Query<K>>(self, key: &Q) -> bool
         requires query { Q.can_read key.now }
-        ensures { TellsKey self.entry
-            (asked H.hasher K.key_calls K.same (Q.calls key.now) (Q.fits key.now))
+        ensures { FoundKeyHas self.entry
+            (query_of H.hasher K.key_calls K.same (Q.calls key.now) (Q.fits key.now))
             (IsFoundAt result) }
     {
         self.find_key(key).is_some()

@@ -3,7 +3,7 @@
 //! - `misplaced` looks up each key. Its cost on an untrusted map may be quadratic.
 //! - `misplaced_up_to` ends at a limit on the strides that are read.
 ghost use Rattle.std.specs.Prelude.{◌+◌, ◌<◌, ◌^◌, ◌≡◌, ◌≤◌};
-ghost use Rattle.rkyv_index.specs.Index.Equality.{CountsRepeated, TellsRepeated, index_misplaced};
+ghost use Rattle.rkyv_index.specs.Index.Equality.{CountsRepeated, ReturnsRepeated, index_misplaced};
 ghost use Rattle.rkyv_index.specs.Index.Equality.{CountsUpTo, is_misplaced, own_strides};
 ghost use Rattle.rkyv_index.specs.Index.{AreEntries, ReadsUpTo, ReadsWithinBound, hash_at};
 ghost use Rattle.rkyv_index.specs.Index.{index_len, index_of};
@@ -25,9 +25,9 @@ impl<'a, K: KeyElement, V: Element, H: KeyHasher, W: Width> Entries<'a, K, V, H,
         requires entries { AreEntries self }
         requires below { place < index_len self.map }
         requires room { strides.old ≤ 2 ^ 63 }
-        ensures told { result ≡ is_misplaced (index_of self.entry.map)
+        ensures exact { result ≡ is_misplaced (index_of self.entry.map)
             (hash_at H.hasher K.key_calls) K.same place }
-        ensures repeated { TellsRepeated (index_of self.entry.map)
+        ensures repeated { ReturnsRepeated (index_of self.entry.map)
             (hash_at H.hasher K.key_calls) K.same place result }
         ensures bounded { ReadsWithinBound self.entry.map strides.old strides.new }
         ensures counted { strides.new ≡ strides.old + own_strides (index_of self.entry.map)
@@ -62,7 +62,7 @@ impl<'a, K: KeyElement, V: Element, H: KeyHasher, W: Width> ArchivedIndexMap<'a,
     /// assert_eq!(rt; misplaced(&one_key_twice()).ok(), Some(1));
     /// ```
     pub fn misplaced(self) -> usize
-        ensures told { result ≡ index_misplaced (index_of self.entry)
+        ensures exact { result ≡ index_misplaced (index_of self.entry)
             (hash_at H.hasher K.key_calls) K.same }
         ensures repeated { CountsRepeated (index_of self.entry)
             (hash_at H.hasher K.key_calls) K.same result }

@@ -6,7 +6,7 @@
 ghost use Rattle.std.specs.Prelude.{List, ℕ};
 ghost use Rattle.rkyv_base.specs.Format.{Format};
 ghost use Rattle.rkyv_base.specs.Pairs.{written_as};
-ghost use Rattle.rkyv_table.specs.Table.ItemValues.{lent_pairs};
+ghost use Rattle.rkyv_table.specs.Table.ItemValues.{pair_values};
 ghost use Rattle.rkyv_index.specs.Index.Writing.{WritesUnder, listing};
 ghost use Rattle.rkyv_index.specs.Index.IndexFormat.{hash_of, index_format};
 ghost use Rattle.rkyv_index.specs.Index.IndexHeader.{IndexResolver};
@@ -46,7 +46,7 @@ impl<
     BK: Lend<A>,
     BV: Lend<B>,
 > ListFormat<(BK, BV), (A, B)> for IndexMapOf<K, V, H, W> {
-    ghost format = { λ load_factor. written_as (lent_pairs BK.lent BV.lent)
+    ghost format = { λ load_factor. written_as (pair_values BK.lent BV.lent)
         (index_format W.word W.Place.spec W.Place.encoding K.spec V.spec A.format B.format
         (hash_of H.hasher A.calls) load_factor) };
 }

@@ -14,8 +14,8 @@ returns-clause-reads g c =
     let b : List ℕ = index_bytes map in
     let q : ℕ = key_pos map c.args.place in
     let accept : ℕ → Bool = λ i. same b q b (key_pos map i) in
-    let counted = c.get_index_of_counted.ensures.counted accept (λ i other r of told.
-    told.1 ∙ read_at (λ a p. same a p (bytes_of other) (pos_of other)) key (index_archive map) q is.at
+    let counted = c.get_index_of_counted.ensures.counted accept (λ i other r of returned.
+    returned.1 ∙ read_at (λ a p. same a p (bytes_of other) (pos_of other)) key (index_archive map) q is.at
     ∙ read_at (same b q) other (index_archive map) (key_pos map i) of.at) in
     let hash = read_at key_hash key (index_archive map) q is.at in
     let end : ℕ → ℕ = λ h. index_strides g.W.Word.word b (index_pos map) h accept in

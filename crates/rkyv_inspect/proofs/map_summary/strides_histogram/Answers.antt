@@ -8,7 +8,7 @@ use Rattle.rkyv_table.specs.Table.Header.{cap_at}
 use Rattle.rkyv_table.specs.Table.Positions.{item_positions}
 use Rattle.rkyv_table.specs.Table.RawItems.{ItemsLeft}
 use Rattle.rkyv_table.specs.Table.Reading.{table_bytes, table_pos}
-use Rattle.rkyv_inspect.specs.Summaries.{key_places, key_strides, key_type, keyed_map}
+use Rattle.rkyv_inspect.specs.Summaries.{key_positions, key_strides, key_type, keyed_map}
 use Rattle.rkyv_inspect.proofs.Histograms.{Partial, partial_all, partial_more, partial_none}
 use Rattle.rkyv_inspect.proofs.KeyLookups.{read_at}
 use Rattle.rkyv_inspect.proofs.map_summary.strides_histogram.Goals as goal
@@ -20,7 +20,7 @@ loop-key-init g c =
     let keys = key_type g.K.HasSpec.spec g.K.ElementEq.same (hash_at g.H.KeyHasher.hasher g.K.KeyElement.key_calls) in
     let m = keyed_map w keys g.V.HasSpec.spec (bytes_of root) (pos_of root) in
     let f : ℕ → ℕ = key_strides m in
-    let items : List ℕ = key_places m in
+    let items : List ℕ = key_positions m in
     let counts : List ℕ = c.in_ok-counts.counts.items in
     let most : ℕ = c.most_strides.result + 1 in
     let zs : counts ≡ replicate most 0 = c.in_ok-counts.ensures in
@@ -47,7 +47,7 @@ loop-key-preserved g c =
     let bound : List ℕ → ℕ → ℕ = λ b p. probe_capacity (cap_at w b p) / 16 in
     let m = keyed_map w keys g.V.HasSpec.spec (bytes_of root) (pos_of root) in
     let f : ℕ → ℕ = key_strides m in
-    let items : List ℕ = key_places m in
+    let items : List ℕ = key_positions m in
     let counts : List ℕ = c.loop-key.counts.items in
     let read : ℕ = c.strides_of.result in
     let before : ItemsLeft = c.loop-key.key-iterator in

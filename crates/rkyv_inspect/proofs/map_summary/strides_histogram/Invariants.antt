@@ -3,7 +3,7 @@ use Rattle.rkyv_base.specs.View.{archive_of, bytes_of, pos_of}
 use Rattle.rkyv_collections.specs.Map.{hash_at}
 use Rattle.rkyv_table.specs.Controls.Numbers.{probe_capacity}
 use Rattle.rkyv_table.specs.Table.Header.{cap_at}
-use Rattle.rkyv_inspect.specs.Summaries.{key_places, key_strides, key_type, keyed_map}
+use Rattle.rkyv_inspect.specs.Summaries.{key_positions, key_strides, key_type, keyed_map}
 use Rattle.rkyv_inspect.proofs.Histograms.{Partial}
 use Rattle.rkyv_inspect.proofs.map_summary.strides_histogram.Given as goal
 
@@ -14,6 +14,6 @@ invariant-loop-key g l =
     let m = keyed_map g.W.Word.word key g.V.HasSpec.spec (bytes_of l.root) (pos_of l.root) in
     record {
       archive : l.key-iterator.archive ≡ archive_of l.root;
-      counted : Partial (key_strides m) (key_places m) l.key-iterator.positions l.counts.items;
+      counted : Partial (key_strides m) (key_positions m) l.key-iterator.positions l.counts.items;
       long : length l.counts.items ≡ probe_capacity (cap_at g.W.Word.word (bytes_of l.root) (pos_of l.root)) / 16 + 1;
     }

@@ -6,7 +6,7 @@ use Rattle.rkyv_collections.specs.Map.{hash_at}
 use Rattle.rkyv_scan.specs.Groups.{generic_kind}
 use Rattle.rkyv_table.specs.Table.Positions.{lookup_end}
 use Rattle.rkyv_table.specs.Table.Reading.{table_bytes, table_pos}
-use Rattle.rkyv_inspect.proofs.KeyLookups.{own_answers}
+use Rattle.rkyv_inspect.proofs.KeyLookups.{compares_by_position}
 use Rattle.rkyv_inspect.proofs.map_summary.strides_of.Goals as goal
 
 pub returns-clause-reads : goal.returns-clause-reads
@@ -18,7 +18,7 @@ returns-clause-reads g c =
     let key_hash = hash_at g.H.KeyHasher.hasher g.K.KeyElement.key_calls in
     let here : bytes_of key ≡ b = ap (λ (a : Bor (List ℕ)). a.now) c.requires.archive in
     let counted = c.get_counted.ensures.counts.counted (same b (pos_of key) b)
-    (own_answers t same (pos_of key) _ (λ v r e. e.1 ∙ ap (λ (a : List ℕ). same a (pos_of key) (bytes_of v) (pos_of v)) here)) in
+    (compares_by_position t same (pos_of key) _ (λ v r e. e.1 ∙ ap (λ (a : List ℕ). same a (pos_of key) (bytes_of v) (pos_of v)) here)) in
     let hash : c.hash_value.result ≡ key_hash b (pos_of key) = c.hash_value.ensures ∙ ap (λ (a : List ℕ). key_hash a (pos_of key)) here in
     let end : ℕ → ℕ = λ h. lookup_end generic_kind g.W.Word.word (entry_spec g.K.HasSpec.spec g.V.HasSpec.spec).size b (table_pos t) h (same b (pos_of key) b) in
     let moved : end c.hash_value.result ≡ end (key_hash b (pos_of key)) = ap end hash in

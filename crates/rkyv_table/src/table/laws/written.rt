@@ -3,7 +3,7 @@
 ghost use Rattle.std.specs.Prelude.{ℕ};
 ghost use Rattle.rkyv_base.specs.Format.{RepresentsLocally};
 ghost use Rattle.rkyv_base.specs.Pairs.{written_as};
-ghost use Rattle.rkyv_table.specs.Table.Lending.{lent_represents};
+ghost use Rattle.rkyv_table.specs.Table.Lending.{value_represents};
 ghost use Rattle.rkyv_table.specs.Table.Layout.{table_spec};
 ghost use Rattle.rkyv_table.specs.Table.TableFormat.{TableRepresents, WrittenTablesRepresent};
 ghost use Rattle.rkyv_table.specs.Table.Passing.{WrittenTablesPass};
@@ -19,7 +19,7 @@ use rkyv_base::width::Width;
 /// of the table. The control bytes are those of the hashes, and each item is in its home bucket.
 pub fn written_tables_represent<W: Width, U: Archive<W>, X: Lend<U>>()
     ensures { (load_factor : ℕ × ℕ) → WrittenTablesRepresent W.word U.Archived.spec
-        (lent_represents X.lent U.Archived.represents) (written_as X.lent U.format) load_factor }
+        (value_represents X.lent U.Archived.represents) (written_as X.lent U.format) load_factor }
 {}
 
 /// States that the written table is valid in each range around the written bytes.
@@ -34,7 +34,7 @@ pub fn written_tables_pass<W: Width, U: Archive<W>, X: Lend<U>>()
 pub fn tables_represent_locally<W: Width, U: Archive<W>, X: Lend<U>>()
     ensures { (load_factor : ℕ × ℕ) → let s = U.Archived.spec in
         RepresentsLocally (table_spec W.word s)
-        (TableRepresents W.word s (lent_represents X.lent U.Archived.represents) load_factor) }
+        (TableRepresents W.word s (value_represents X.lent U.Archived.represents) load_factor) }
 {}
 
 /// States that a table that represents items was written from them, in order.
@@ -42,6 +42,6 @@ pub fn tables_represent_locally<W: Width, U: Archive<W>, X: Lend<U>>()
 /// Each item is under its hash and in its home bucket. So a lookup finds the first accepted item.
 pub fn valid_tables_were_written<W: Width, U: Archive<W>, X: Lend<U>>()
     ensures { (load_factor : ℕ × ℕ) →
-        ValidWereWritten W.word U.Archived.spec (lent_represents X.lent U.Archived.represents)
+        ValidWereWritten W.word U.Archived.spec (value_represents X.lent U.Archived.represents)
         load_factor }
 {}

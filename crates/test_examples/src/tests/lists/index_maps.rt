@@ -52,11 +52,11 @@ fn the_first_index_of_a_name_is_found(rt: HostRuntime) -> Result<(), Fail> {
 fn parts_of_index_maps_are_out_of_range(rt: HostRuntime) -> Result<(), Fail> {
     let archive = prices(rt.alloc())?;
     let bytes = archive.as_slice();
-    let refused = [
+    let errors = [
         out_of_range(price_of(without_first(bytes, 4), "tea")),
         out_of_range(index_of_name(without_first(bytes, 4), "tea")),
         out_of_range(index_of_name(&bytes[..bytes.len().min(15)], "tea")),
     ];
-    expect_eq!(rt; refused, [Some((-4, 51)), Some((-4, 51)), Some((-1, 16))]);
+    expect_eq!(rt; errors, [Some((-4, 51)), Some((-4, 51)), Some((-1, 16))]);
     Ok(())
 }

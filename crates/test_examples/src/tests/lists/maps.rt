@@ -101,11 +101,11 @@ fn maps_without_their_first_bytes_are_out_of_range(rt: HostRuntime) -> Result<()
     let numbers = numbers(rt.alloc())?;
     let titles = titles(rt.alloc())?;
     let spots = spots(rt.alloc())?;
-    let refused = [
+    let errors = [
         out_of_range(number_of(without_first(numbers.as_slice(), 8), 7)),
         out_of_range(title_of(without_first(titles.as_slice(), 4), 7)),
         out_of_range(spot_of(without_first(spots.as_slice(), 4), "hill")),
     ];
-    expect_eq!(rt; refused, [Some((-8, 111)), Some((-4, 12)), Some((-4, 14))]);
+    expect_eq!(rt; errors, [Some((-8, 111)), Some((-4, 12)), Some((-4, 14))]);
     Ok(())
 }

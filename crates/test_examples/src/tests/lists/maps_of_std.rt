@@ -79,10 +79,10 @@ fn lines_of_the_set_are_found(rt: HostRuntime) -> Result<(), Fail> {
 fn std_archives_without_their_first_bytes_are_out_of_range(rt: HostRuntime) -> Result<(), Fail> {
     let fares = fares(rt.alloc())?;
     let lines = lines(rt.alloc())?;
-    let refused = [
+    let errors = [
         out_of_range(fare_of(without_first(fares.as_slice(), 4), 12)),
         out_of_range(has_line(without_first(lines.as_slice(), 4), 12)),
     ];
-    expect_eq!(rt; refused, [Some((-4, 79)), Some((-4, 43))]);
+    expect_eq!(rt; errors, [Some((-4, 79)), Some((-4, 43))]);
     Ok(())
 }

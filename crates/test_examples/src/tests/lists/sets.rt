@@ -55,10 +55,10 @@ fn the_first_index_of_an_id_is_found(rt: HostRuntime) -> Result<(), Fail> {
 fn sets_without_their_first_bytes_are_out_of_range(rt: HostRuntime) -> Result<(), Fail> {
     let words = words(rt.alloc())?;
     let ids = ids(rt.alloc())?;
-    let refused = [
+    let errors = [
         out_of_range(has_word(without_first(words.as_slice(), 4), "tea")),
         out_of_range(index_of_id(without_first(ids.as_slice(), 4), 3)),
     ];
-    expect_eq!(rt; refused, [Some((-4, 71)), Some((-4, 51))]);
+    expect_eq!(rt; errors, [Some((-4, 71)), Some((-4, 51))]);
     Ok(())
 }

@@ -25,27 +25,27 @@ fn is_permitted(bytes: &mut [u8]) -> bool {
 // Returns the number of prefixes that pass `is_permitted`.
 // It also returns the number of those shorter than a header that fail with `OutOfRange`.
 fn permitted_prefixes(bytes: &mut [u8]) -> (usize, usize) {
-    let mut answered = 0usize;
+    let mut permitted = 0usize;
     let mut short = 0usize;
     for len in 0..bytes.len() {
         let front = &mut bytes[..len];
         if is_permitted(front) {
-            answered = answered.wrapping_add(1);
+            permitted = permitted.wrapping_add(1);
         }
-        let told = number_of(front, "head", "b");
-        if len < 12 && matches!(told, Err(VerifyError::OutOfRange { .. })) {
+        let found = number_of(front, "head", "b");
+        if len < 12 && matches!(found, Err(VerifyError::OutOfRange { .. })) {
             short = short.wrapping_add(1);
         }
     }
-    (answered, short)
+    (permitted, short)
 }
 
 #[test]
 fn prefixes_have_permitted_results(rt: HostRuntime) -> Result<(), Fail> {
     let mut bytes = message(rt.alloc())?;
     let len = bytes.len();
-    let seen = permitted_prefixes(bytes.as_mut_slice());
-    expect_eq!(rt; seen, (len, 12));
+    let results = permitted_prefixes(bytes.as_mut_slice());
+    expect_eq!(rt; results, (len, 12));
     Ok(())
 }
 
@@ -53,7 +53,7 @@ fn prefixes_have_permitted_results(rt: HostRuntime) -> Result<(), Fail> {
 fn changed_bytes_have_permitted_results(rt: HostRuntime) -> Result<(), Fail> {
     let mut bytes = message(rt.alloc())?;
     let len = bytes.len();
-    let answered = permitted_flips(bytes.as_mut_slice(), is_permitted);
-    expect_eq!(rt; answered, len);
+    let permitted = permitted_flips(bytes.as_mut_slice(), is_permitted);
+    expect_eq!(rt; permitted, len);
     Ok(())
 }

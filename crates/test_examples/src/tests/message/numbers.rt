@@ -36,19 +36,19 @@ fn numbers_are_read(rt: HostRuntime) -> Result<(), Fail> {
 // Returns the results of three overwrites, and the numbers after them.
 fn written(alloc: Global) -> Result<([bool; 3], [Option<u32>; 5]), Fail> {
     let mut bytes = message(alloc)?;
-    let told = [
+    let lookups = [
         set_number(bytes.as_mut_slice(), "head", "b", 99)?,
         set_number(bytes.as_mut_slice(), "head", "c", 1)?,
         set_number(bytes.as_mut_slice(), "body", "b", 1)?,
     ];
-    Ok((told, numbers(bytes.as_slice())?))
+    Ok((lookups, numbers(bytes.as_slice())?))
 }
 
 #[test]
 fn a_number_is_written(rt: HostRuntime) -> Result<(), Fail> {
-    let seen = written(rt.alloc())?;
+    let results = written(rt.alloc())?;
     expect_eq!(rt;
-        seen,
+        results,
         (
             [true, false, false],
             [Some(7), Some(99), Some(9), None, None]

@@ -31,12 +31,12 @@ fn is_permitted(bytes: &[u8]) -> bool {
 // Returns the number of prefixes with permitted results.
 // It also returns the number of those shorter than a header that fail with `OutOfRange`.
 fn permitted_prefixes(bytes: &[u8]) -> (usize, usize) {
-    let mut answered = 0usize;
+    let mut permitted = 0usize;
     let mut short = 0usize;
     for len in 0..bytes.len() {
         let front = &bytes[..len];
         if is_permitted(front) {
-            answered = answered.wrapping_add(1);
+            permitted = permitted.wrapping_add(1);
         }
         if len < 12
             && matches!(
@@ -47,14 +47,14 @@ fn permitted_prefixes(bytes: &[u8]) -> (usize, usize) {
             short = short.wrapping_add(1);
         }
     }
-    (answered, short)
+    (permitted, short)
 }
 
 #[test]
 fn prefixes_have_permitted_results(rt: HostRuntime) -> Result<(), Fail> {
     let bytes = table(rt.alloc())?;
-    let seen = permitted_prefixes(bytes.as_slice());
-    expect_eq!(rt; seen, (bytes.len(), 12));
+    let results = permitted_prefixes(bytes.as_slice());
+    expect_eq!(rt; results, (bytes.len(), 12));
     Ok(())
 }
 
@@ -62,10 +62,10 @@ fn prefixes_have_permitted_results(rt: HostRuntime) -> Result<(), Fail> {
 fn changed_bytes_have_permitted_results(rt: HostRuntime) -> Result<(), Fail> {
     let mut bytes = table(rt.alloc())?;
     let len = bytes.len();
-    let answered = permitted_flips(
+    let permitted = permitted_flips(
         bytes.as_mut_slice(),
         |table: &mut [u8]| is_permitted(&*table),
     );
-    expect_eq!(rt; answered, len);
+    expect_eq!(rt; permitted, len);
     Ok(())
 }

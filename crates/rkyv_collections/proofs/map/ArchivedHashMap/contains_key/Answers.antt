@@ -2,6 +2,6 @@ use Rattle.rkyv_collections.proofs.map.ArchivedHashMap.contains_key.Goals as goa
 
 pub returns : goal.returns
 returns g c =
-    let told = c.is_found.ensures in
+    let found_at = c.is_found.ensures in
     let key = c.find_key.ensures in
-    record { answer = told _ key.answer; first = λ homes written. told _ (key.first homes written); complete = λ none. let one = key.complete none in (one.0, one.1, told one.0 one.2) }
+    record { answer = found_at _ key.answer; first = λ homes written. found_at _ (key.first homes written); complete = λ none. let one = key.complete none in (one.0, one.1, found_at one.0 one.2) }

@@ -4,7 +4,7 @@ use Rattle.std.specs.HashMap.{get, keys}
 use Rattle.std.specs.Map.{keys_of, lookup}
 use Rattle.std.proofs.lemmas.Result.{err_from_is_err_and}
 use Rattle.rkyv_base.specs.Pairs.{PairRepresents}
-use Rattle.rkyv_keys.specs.OfEntries.{entry_refuses}
+use Rattle.rkyv_keys.specs.OfEntries.{entry_deserialize_fails}
 use Rattle.rkyv_collections.specs.Map.{map_archive, map_pos}
 use Rattle.rkyv_collections.proofs.StdReading.{walks_first, walks_key, walks_last, walks_next}
 use Rattle.rkyv_collections.proofs.map.ArchivedHashMap.deserialize_std.Goals as goal
@@ -45,7 +45,7 @@ returns-in_err-insert_read g c =
       | inr part ↦ inr (
         c.in-Some.key.pos,
         key,
-        subst (λ (a : Bor (List ℕ)). entry_refuses g.K.HasSpec.spec g.V.HasSpec.spec g.K.Deserialize.deserialize_fails g.V.Deserialize.deserialize_fails a.now c.in-Some.key.pos c.in_err-insert_read.field-0.0) (step.1.at.0 ∙ on.0.0) part,
+        subst (λ (a : Bor (List ℕ)). entry_deserialize_fails g.K.HasSpec.spec g.V.HasSpec.spec g.K.Deserialize.deserialize_fails g.V.Deserialize.deserialize_fails a.now c.in-Some.key.pos c.in_err-insert_read.field-0.0) (step.1.at.0 ∙ on.0.0) part,
       )
     ])
 

@@ -1,8 +1,8 @@
 use Rattle.std.proofs.Common.{◌≡◌, sym, ◌∙◌}
 use Rattle.rkyv_base.specs.Seal.{archive_in, pos_in}
 use Rattle.rkyv_collections.specs.Map.{IsViewAt}
-use Rattle.rkyv_keys.specs.Asked.{asked}
-use Rattle.rkyv_collections.proofs.SealedMap.{entry_read, tells_read}
+use Rattle.rkyv_keys.specs.KeyLookup.{query_of}
+use Rattle.rkyv_collections.proofs.SealedMap.{entry_read, satisfies_read}
 use Rattle.rkyv_collections.proofs.map.ArchivedHashMap.find_key_pos.Goals as goal
 
 pub returns-clause-walked : goal.returns-clause-walked
@@ -11,5 +11,5 @@ returns-clause-walked g c =
 
 pub returns-clause-finds : goal.returns-clause-finds
 returns-clause-finds g c =
-    tells_read c.map_in.result (archive_in c.args.this.now) (pos_in c.args.this.now) c.map_in.ensures.bytes c.map_in.ensures.pos (IsViewAt c.find_key.result) (λ place. c.found_pos.result ≡ place) (λ place at. c.found_pos.ensures ∙ at)
-    (asked g.H.KeyHasher.hasher g.K.KeyElement.key_calls g.K.ElementEq.same (g.Q.KeyHash.calls c.args.key.now) (g.Q.Query.fits c.args.key.now)) c.find_key.ensures.answer c.find_key.ensures.first c.find_key.ensures.complete
+    satisfies_read c.map_in.result (archive_in c.args.this.now) (pos_in c.args.this.now) c.map_in.ensures.bytes c.map_in.ensures.pos (IsViewAt c.find_key.result) (λ place. c.found_pos.result ≡ place) (λ place at. c.found_pos.ensures ∙ at)
+    (query_of g.H.KeyHasher.hasher g.K.KeyElement.key_calls g.K.ElementEq.same (g.Q.KeyHash.calls c.args.key.now) (g.Q.Query.fits c.args.key.now)) c.find_key.ensures.answer c.find_key.ensures.first c.find_key.ensures.complete

@@ -22,16 +22,16 @@ returns g c =
     let same_key = g.K.ElementEq.same in
     let hash_of : ℕ → ℕ = key_hash b in
     let same : ℕ → ℕ → Bool = λ p q. same_key b p b q in
-    let told : (List ℕ → ℕ → ℕ → (ℕ → ℕ) → (ℕ → ℕ → Bool) → ℕ) → List ℕ → ℕ → ℕ =
+    let count_in : (List ℕ → ℕ → ℕ → (ℕ → ℕ) → (ℕ → ℕ → Bool) → ℕ) → List ℕ → ℕ → ℕ =
     λ f a p. f (table_controls w a p) (cap_at w a p) (len_at w a p) (λ i. hash_of (item_at w s.size a p i)) (λ i j. same (item_at w s.size a p i) (item_at w s.size a p j)) in
     let here : (x : View (Entry g.row.K.Denot g.row.V.Denot)) → IsItem t x → bytes_of x ≡ b =
     λ x item. ap (λ (a : Bor (List ℕ)). a.now) (item.1.archive ∙ c.table.ensures.at.0) in
-    let moved : (f : List ℕ → ℕ → ℕ → (ℕ → ℕ) → (ℕ → ℕ → Bool) → ℕ) → told f (table_bytes t) (table_pos t) ≡ told f b (map_pos c.args.self) =
-    λ f. ap (λ (a : Bor (List ℕ)). told f a.now (table_pos t)) c.table.ensures.at.0 ∙ ap (told f b) c.table.ensures.at.1 in
-    let read : ℕ = told (all_strides generic_kind) (table_bytes t) (table_pos t) in
-    let strides : ℕ = told (all_strides generic_kind) b (map_pos c.args.self) in
-    let counted : ℕ = told (misplaced generic_kind) (table_bytes t) (table_pos t) in
-    let keys : ℕ = told (misplaced generic_kind) b (map_pos c.args.self) in
+    let moved : (f : List ℕ → ℕ → ℕ → (ℕ → ℕ) → (ℕ → ℕ → Bool) → ℕ) → count_in f (table_bytes t) (table_pos t) ≡ count_in f b (map_pos c.args.self) =
+    λ f. ap (λ (a : Bor (List ℕ)). count_in f a.now (table_pos t)) c.table.ensures.at.0 ∙ ap (count_in f b) c.table.ensures.at.1 in
+    let read : ℕ = count_in (all_strides generic_kind) (table_bytes t) (table_pos t) in
+    let strides : ℕ = count_in (all_strides generic_kind) b (map_pos c.args.self) in
+    let counted : ℕ = count_in (misplaced generic_kind) (table_bytes t) (table_pos t) in
+    let keys : ℕ = count_in (misplaced generic_kind) b (map_pos c.args.self) in
     let Counts : ℕ → ℕ → ℕ → Type 0 = λ all some many.
     MatchOption c.misplaced_up_to_by.result ((c.args.limit < some) ⊎ (2 ^ 63 < all)) (λ n. (some ≤ c.args.limit) × (n ≡ many)) in
     let first : Counts (c.new.result + read) read counted = c.misplaced_up_to_by.ensures.counts hash_of same

@@ -3,9 +3,9 @@ use Rattle.std.specs.Iterator.{Drains}
 use Rattle.rkyv_base.specs.Pairs.{written_as}
 use Rattle.rkyv_table.specs.Table.Counting.{YieldsOtherCount}
 use Rattle.rkyv_table.specs.Table.Serializing.{WriteItemsFails, WroteItems}
-use Rattle.rkyv_table.specs.Table.ItemValues.{lent_pairs}
+use Rattle.rkyv_table.specs.Table.ItemValues.{pair_values}
 use Rattle.rkyv_collections.specs.Map.MapFormat.{hash_of, map_format}
-use Rattle.rkyv_collections.proofs.HashedPairs.{answers_map}
+use Rattle.rkyv_collections.proofs.HashedPairs.{writes_as_map}
 use Rattle.rkyv_collections.proofs.map.ArchivedHashMap.serialize_from_iter.Goals as goal
 
 pub returns : goal.returns
@@ -20,6 +20,6 @@ returns g c =
     let max = g.W.Width.MAX_CAPACITY in
     let o = g.S.Writer.output c.args.serializer.now in
     let o' = g.S.Writer.output c.serialize_by.new.serializer in
-    let f = written_as (lent_pairs g.BK.Lend.lent g.BV.Lend.lent) (map_format w k v g.A.Archive.format g.B.Archive.format hash factor) in
+    let f = written_as (pair_values g.BK.Lend.lent g.BV.Lend.lent) (map_format w k v g.A.Archive.format g.B.Archive.format hash factor) in
     subst (λ iter. MatchResult c.serialize_by.result (WroteItems (Drains steps iter) len factor max f o o' g.W.Width.LIMIT) (WriteItemsFails (Drains steps iter) len factor max f o o' g.W.Width.LIMIT (YieldsOtherCount steps len iter))) c.new-entries.ensures
-    (answers_map (λ s. s.pairs) steps g.BK.Lend.lent g.BV.Lend.lent hash len factor max w k v g.A.Archive.format g.B.Archive.format o o' c.new-entries.result g.W.Width.LIMIT c.serialize_by.result c.serialize_by.ensures)
+    (writes_as_map (λ s. s.pairs) steps g.BK.Lend.lent g.BV.Lend.lent hash len factor max w k v g.A.Archive.format g.B.Archive.format o o' c.new-entries.result g.W.Width.LIMIT c.serialize_by.result c.serialize_by.ensures)

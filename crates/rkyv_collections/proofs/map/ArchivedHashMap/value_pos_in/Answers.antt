@@ -2,8 +2,8 @@ use Rattle.std.proofs.Common.{◌≡◌, sym, ◌∙◌}
 use Rattle.std.specs.Option.{option_map}
 use Rattle.rkyv_base.specs.Sealing.{value_pos}
 use Rattle.rkyv_collections.specs.Map.{IsValueAt}
-use Rattle.rkyv_keys.specs.Asked.{asked}
-use Rattle.rkyv_collections.proofs.SealedMap.{tells_read, value_inside, value_read}
+use Rattle.rkyv_keys.specs.KeyLookup.{query_of}
+use Rattle.rkyv_collections.proofs.SealedMap.{satisfies_read, value_inside, value_read}
 use Rattle.rkyv_collections.proofs.map.ArchivedHashMap.value_pos_in.Goals as goal
 
 pub returns-clause-walked : goal.returns-clause-walked
@@ -16,5 +16,5 @@ returns-clause-inside g c =
 
 pub returns-clause-finds : goal.returns-clause-finds
 returns-clause-finds g c =
-    tells_read c.map_over.result c.args.archive.now c.args.root c.map_over.ensures.bytes c.map_over.ensures.pos (IsValueAt g.K.HasSpec.spec g.V.HasSpec.spec c.get.result) (λ found. c.found_pos.result ≡ option_map (value_pos g.K.HasSpec.spec g.V.HasSpec.spec) found) (λ found at. c.found_pos.ensures ∙ at)
-    (asked g.H.KeyHasher.hasher g.K.KeyElement.key_calls g.K.ElementEq.same (g.Q.KeyHash.calls c.args.key.now) (g.Q.Query.fits c.args.key.now)) c.get.ensures.answer c.get.ensures.first c.get.ensures.complete
+    satisfies_read c.map_over.result c.args.archive.now c.args.root c.map_over.ensures.bytes c.map_over.ensures.pos (IsValueAt g.K.HasSpec.spec g.V.HasSpec.spec c.get.result) (λ found. c.found_pos.result ≡ option_map (value_pos g.K.HasSpec.spec g.V.HasSpec.spec) found) (λ found at. c.found_pos.ensures ∙ at)
+    (query_of g.H.KeyHasher.hasher g.K.KeyElement.key_calls g.K.ElementEq.same (g.Q.KeyHash.calls c.args.key.now) (g.Q.Query.fits c.args.key.now)) c.get.ensures.answer c.get.ensures.first c.get.ensures.complete

@@ -7,7 +7,7 @@ use Rattle.rkyv_collections.specs.Map.{hash_at}
 use Rattle.rkyv_collections.specs.Map.MapSpec.{map_spec}
 use Rattle.rkyv_collections.proofs.FirstWrites.{first_behind, none_behind}
 use Rattle.rkyv_collections.proofs.NestedWrites.{unwritten, value_nested_at}
-use Rattle.rkyv_collections.proofs.SealedMap.{tells_more}
+use Rattle.rkyv_collections.proofs.SealedMap.{satisfies_implied}
 use Rattle.rkyv_collections.proofs.ValueWrites.{map_kept_at}
 use Rattle.rkyv_collections.proofs.map.in_place.set_value_of.Goals as goal
 
@@ -20,9 +20,9 @@ returns-in-Some-clause-answer g c =
     let key_hash = hash_at g.H.KeyHasher.hasher g.K.KeyElement.key_calls in
     let t = c.in-Some.ensures.walked in
     let kept = map_kept_at g.K.HasSpec.spec g.N.HasSpec.spec g.K.HasSpec.laws g.N.HasSpec.laws g.W.Word.word key_hash
-    (λ x y q lo hi l o holds fixed part. ap (hash_of_calls g.H.KeyHasher.hasher) (g.met.K.KeyElement.key.local x y q lo hi l o holds fixed part))
-    c.args.archive.now c.set_at.new.bytes c.args.root t.0 c.in-Some.pos c.requires.map t.1 t.2 c.set_at.ensures.sealed c.set_at.ensures.holds in
-    tells_more _ _ _ _ (λ place at. subst (SetsFound g.W.Word.word g.K.HasSpec.spec g.N.HasSpec.spec e key_hash c.args.archive.now c.args.root c.args.value true c.set_at.new.bytes) at (refl, c.set_at.ensures.written, (t.1.0, kept))) c.in-Some.ensures.finds
+    (λ x y q lo hi l o is_valid fixed part. ap (hash_of_calls g.H.KeyHasher.hasher) (g.met.K.KeyElement.key.local x y q lo hi l o is_valid fixed part))
+    c.args.archive.now c.set_at.new.bytes c.args.root t.0 c.in-Some.pos c.requires.map t.1 t.2 c.set_at.ensures.sealed c.set_at.ensures.is_valid in
+    satisfies_implied _ _ _ _ (λ place at. subst (SetsFound g.W.Word.word g.K.HasSpec.spec g.N.HasSpec.spec e key_hash c.args.archive.now c.args.root c.args.value true c.set_at.new.bytes) at (refl, c.set_at.ensures.written, (t.1.0, kept))) c.in-Some.ensures.finds
 
 pub returns-in-Some-clause-listed : goal.returns-in-Some-clause-listed
 returns-in-Some-clause-listed g c = λ factor pairs st.
@@ -35,14 +35,14 @@ returns-in-Some-clause-listed g c = λ factor pairs st.
     first_behind g.W.Word.word k g.N.HasSpec.spec g.K.HasSpec.laws g.N.HasSpec.laws g.K.Represents.represents (ScalarRepresents e)
     (hash_at h.hasher g.K.KeyElement.key_calls) factor b c.args.root pairs c.args.value fits (g.A.PartialEq.eq c.args.key.now) c.requires.map
     (λ a q s there. g.met.A.NativeKey.native c.args.key.now a b q s there) st g.met.K.Represents.local (scalar_local g.N.HasSpec.spec e g.met.N.Scalar.laws)
-    (λ x y q lo hi l o holds fixed part. ap (hash_of_calls h.hasher) (g.met.K.KeyElement.key.local x y q lo hi l o holds fixed part))
-    c.set_at.new.bytes c.in-Some.pos (c.in-Some.ensures.finds.first st.homes st.written) set.sealed set.holds set.reads
+    (λ x y q lo hi l o is_valid fixed part. ap (hash_of_calls h.hasher) (g.met.K.KeyElement.key.local x y q lo hi l o is_valid fixed part))
+    c.set_at.new.bytes c.in-Some.pos (c.in-Some.ensures.finds.first st.homes st.written) set.sealed set.is_valid set.reads
 
 pub returns-in-None-clause-answer : goal.returns-in-None-clause-answer
 returns-in-None-clause-answer g c =
     let h = g.H.KeyHasher in
     let b = c.args.archive.now in
-    tells_more _ _ _ _ (λ place at. subst (SetsFound g.W.Word.word g.K.HasSpec.spec g.N.HasSpec.spec g.N.Scalar.encoding (hash_at h.hasher g.K.KeyElement.key_calls) b c.args.root c.args.value false b)
+    satisfies_implied _ _ _ _ (λ place at. subst (SetsFound g.W.Word.word g.K.HasSpec.spec g.N.HasSpec.spec g.N.Scalar.encoding (hash_at h.hasher g.K.KeyElement.key_calls) b c.args.root c.args.value false b)
     at (refl, refl)) c.in-None.ensures.finds
 
 pub returns-in-None-clause-listed : goal.returns-in-None-clause-listed
@@ -58,7 +58,7 @@ pub returns-in-Some-clause-parts : goal.returns-in-Some-clause-parts
 returns-in-Some-clause-parts g c =
     let t = c.in-Some.ensures.walked in
     value_nested_at g.W.Word.word g.K.HasSpec.spec g.N.HasSpec.spec g.K.HasSpec.laws g.N.HasSpec.laws
-    c.args.archive.now c.set_at.new.bytes c.args.root t.0 c.in-Some.pos c.requires.map t.1 t.2 c.set_at.ensures.sealed c.set_at.ensures.holds
+    c.args.archive.now c.set_at.new.bytes c.args.root t.0 c.in-Some.pos c.requires.map t.1 t.2 c.set_at.ensures.sealed c.set_at.ensures.is_valid
 
 pub returns-in-None-clause-parts : goal.returns-in-None-clause-parts
 returns-in-None-clause-parts g c = unwritten (map_spec g.W.Word.word g.K.HasSpec.spec g.N.HasSpec.spec) c.args.archive.now c.args.root

@@ -2,7 +2,7 @@ use Rattle.rkyv_base.specs.Lemmas.Empty.{unit_element, unit_is_format}
 use Rattle.rkyv_table.specs.Table.ItemValues.{with_units}
 use Rattle.rkyv_collections.specs.Map.MapFormat.{hash_of}
 use Rattle.rkyv_collections.specs.Set.{set_spec}
-use Rattle.rkyv_collections.proofs.StdFinding.{members_looked_up, seen_looked_up}
+use Rattle.rkyv_collections.proofs.StdFinding.{members_looked_up, entries_looked_up}
 use Rattle.rkyv_collections.proofs.std_maps.laws.written_sets_are_looked_up.Goals as goal
 
 pub returns : goal.returns
@@ -11,5 +11,5 @@ returns g c =
     let k = g.A.Archived.HasSpec.spec in
     let own = g.met.A in
     members_looked_up w k (set_spec w k) g.A.Archived.Represents.represents g.Q.KeyHash.can_read (hash_of g.H.KeyHasher.hasher g.Q.KeyHash.calls) g.Q.Query.fits (λ x. x.map.keys) _
-    (seen_looked_up g.H.KeyHasher.hasher g.met.H.KeyHasher.fits w g.met.W.Width.layout.kind g.W.Width.MAX_CAPACITY g.A.Archived.HasSpec.laws unit_element
+    (entries_looked_up g.H.KeyHasher.hasher g.met.H.KeyHasher.fits w g.met.W.Width.layout.kind g.W.Width.MAX_CAPACITY g.A.Archived.HasSpec.laws unit_element
     g.met.Q.Query.query own.Query.query own.NativeKey.native own.Eq.laws.refl own.NativeKey.reads own.Archive.laws unit_is_format (λ x. with_units x.map.keys))

@@ -1,31 +1,31 @@
 use Rattle.std.proofs.Common.{refl, ap, ◌∙◌}
-use Rattle.rkyv_dict.specs.Forms.{pairs_seen}
+use Rattle.rkyv_dict.specs.Forms.{pairs_of}
 use Rattle.rkyv_dict.specs.State.{emptied}
 use Rattle.rkyv_dict.specs.declared.form.Form.{Form}
-use Rattle.rkyv_dict.specs.Dicts.{state_seen}
+use Rattle.rkyv_dict.specs.Dicts.{state_of}
 use Rattle.rkyv_dict.proofs.Adding.{adds_as, adds_none, on_ok_map}
 use Rattle.rkyv_dict.proofs.Putting.{pair_put}
 use Rattle.rkyv_dict.proofs.dict.Dict.apply.Goals as goal
 
 pub returns-in-SetKind : goal.returns-in-SetKind
-returns-in-SetKind c = adds_as _ _ (state_seen c.args.self.now) (state_seen c.empty.new.self) _ _ c.in-SetKind.is (adds_none _ _ (refl, c.empty.ensures))
+returns-in-SetKind c = adds_as _ _ (state_of c.args.self.now) (state_of c.empty.new.self) _ _ c.in-SetKind.is (adds_none _ _ (refl, c.empty.ensures))
 
 pub returns-in-SetWidth : goal.returns-in-SetWidth
 returns-in-SetWidth c =
-    adds_as _ _ (state_seen c.args.self.now) (state_seen c.empty-in-SetWidth.new.self) _ _ c.in-SetWidth.is
-    (adds_none _ _ (refl, c.empty-in-SetWidth.ensures ∙ ap (λ (f : Form). emptied f.kind c.in-SetWidth.bits (state_seen c.args.self.now)) c.form-kind.ensures))
+    adds_as _ _ (state_of c.args.self.now) (state_of c.empty-in-SetWidth.new.self) _ _ c.in-SetWidth.is
+    (adds_none _ _ (refl, c.empty-in-SetWidth.ensures ∙ ap (λ (f : Form). emptied f.kind c.in-SetWidth.bits (state_of c.args.self.now)) c.form-kind.ensures))
 
 pub returns-in-SetLoadFactor : goal.returns-in-SetLoadFactor
-returns-in-SetLoadFactor c = adds_as _ _ (state_seen c.args.self.now) _ _ _ c.in-SetLoadFactor.is (adds_none _ _ (refl, refl))
+returns-in-SetLoadFactor c = adds_as _ _ (state_of c.args.self.now) _ _ _ c.in-SetLoadFactor.is (adds_none _ _ (refl, refl))
 
 pub returns-in-PutNumbers : goal.returns-in-PutNumbers
 returns-in-PutNumbers c =
     let s = c.args.self.now in
-    let put = pair_put s.bits s.load_factor (pairs_seen s.list) (pairs_seen c.put_numbers.new.list) _ _ s.archive s.built_in_list c.put_numbers.ensures.first in
-    on_ok_map c.put_numbers.result _ _ (λ e. adds_as _ _ (state_seen s) _ _ _ c.in-PutNumbers.is (adds_none _ _ (refl, put e))) c.put_numbers.ensures.added
+    let put = pair_put s.bits s.load_factor (pairs_of s.list) (pairs_of c.put_numbers.new.list) _ _ s.archive s.built_in_list c.put_numbers.ensures.first in
+    on_ok_map c.put_numbers.result _ _ (λ e. adds_as _ _ (state_of s) _ _ _ c.in-PutNumbers.is (adds_none _ _ (refl, put e))) c.put_numbers.ensures.added
 
 pub returns-in-PutTexts : goal.returns-in-PutTexts
 returns-in-PutTexts c =
     let s = c.args.self.now in
-    let put = pair_put s.bits s.load_factor (pairs_seen s.list) (pairs_seen c.put_texts.new.list) _ _ s.archive s.built_in_list c.put_texts.ensures.first in
-    on_ok_map c.put_texts.result _ _ (λ e. adds_as _ _ (state_seen s) _ _ _ c.in-PutTexts.is (adds_none _ _ (refl, put e))) c.put_texts.ensures.added
+    let put = pair_put s.bits s.load_factor (pairs_of s.list) (pairs_of c.put_texts.new.list) _ _ s.archive s.built_in_list c.put_texts.ensures.first in
+    on_ok_map c.put_texts.result _ _ (λ e. adds_as _ _ (state_of s) _ _ _ c.in-PutTexts.is (adds_none _ _ (refl, put e))) c.put_texts.ensures.added

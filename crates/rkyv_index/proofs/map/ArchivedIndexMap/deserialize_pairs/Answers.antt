@@ -3,7 +3,7 @@ use Rattle.std.proofs.lemmas.List.{length_push}
 use Rattle.std.specs.List.{slice_get}
 use Rattle.std.proofs.lemmas.Result.{err_from_is_err_and}
 use Rattle.rkyv_base.specs.Pairs.{PairRepresents}
-use Rattle.rkyv_keys.specs.OfEntries.{entry_refuses}
+use Rattle.rkyv_keys.specs.OfEntries.{entry_deserialize_fails}
 use Rattle.rkyv_index.specs.Index.{index_bytes, key_pos}
 use Rattle.rkyv_index.proofs.ListSteps.{pushed_too}
 use Rattle.rkyv_index.proofs.map.ArchivedIndexMap.deserialize_pairs.Goals as goal
@@ -26,6 +26,6 @@ returns-in_err-pair g c =
     let p = err_from_is_err_and c.from_residual.result c.from_residual.ensures.1 in
     let m = c.args.self in
     let inv = c.loop-place.invariant in
-    let deserialize_fails = entry_refuses g.K.HasSpec.spec g.V.HasSpec.spec g.K.Deserialize.deserialize_fails g.V.Deserialize.deserialize_fails (index_bytes m) in
+    let deserialize_fails = entry_deserialize_fails g.K.HasSpec.spec g.V.HasSpec.spec g.K.Deserialize.deserialize_fails g.V.Deserialize.deserialize_fails (index_bytes m) in
     let at = subst (λ n. deserialize_fails (key_pos m n) c.in_err-pair.field-0.0) (sym inv.0) c.in_err-pair.ensures in
     rw (p.1, p.2) (inr (c.loop-place.list.items, omega (arith, inv.0), inv.1, at))

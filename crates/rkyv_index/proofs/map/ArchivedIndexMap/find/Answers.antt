@@ -49,7 +49,7 @@ returns-clause-bounded g c =
     c.table-table.result c.table-table.ensures.at _ _ c.find_place.ensures.counts.bounded
 
 pub returns-clause-counted : goal.returns-clause-counted
-returns-clause-counted g c = λ accept answers.
+returns-clause-counted g c = λ accept compares.
     let w = g.W.Word.word in
     let k = g.K.HasSpec.spec in
     let v = g.V.HasSpec.spec in
@@ -59,4 +59,4 @@ returns-clause-counted g c = λ accept answers.
     (λ h r x.
     let there = subst (λ n. IsKeyIn w k v m.view n x.2.0) x.1 x.2.1 in
     (x.2.0, record { below = there.below; at = there.at; viewable = there.viewable }, x.2.2))
-    None accept answers c.hash_value-hash.result _ _ _ c.hash_value-hash.ensures c.find_place.ensures.counts.counted
+    None accept compares c.hash_value-hash.result _ _ _ c.hash_value-hash.ensures c.find_place.ensures.counts.counted

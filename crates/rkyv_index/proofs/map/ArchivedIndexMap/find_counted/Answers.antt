@@ -1,5 +1,5 @@
 use Rattle.rkyv_index.specs.Index.{fits_at, index_of}
-use Rattle.rkyv_index.proofs.Queries.{answers_fits}
+use Rattle.rkyv_index.proofs.Queries.{compares_fits}
 use Rattle.rkyv_index.proofs.QueryPlaces.{query_place}
 use Rattle.rkyv_index.proofs.map.ArchivedIndexMap.find_counted.Goals as goal
 
@@ -13,4 +13,4 @@ pub returns-clause-counted : goal.returns-clause-counted
 returns-clause-counted g c =
     let m = c.args.self in
     let fits = g.Q.Query.fits c.args.key.now in
-    c.find.ensures.counted (fits_at (index_of m) fits) (answers_fits m fits _ (λ key r e. e.1))
+    c.find.ensures.counted (fits_at (index_of m) fits) (compares_fits m fits _ (λ key r e. e.1))

@@ -4,7 +4,7 @@ use Rattle.std.proofs.lemmas.Option.{IfSome_then}
 use Rattle.rkyv_scan.specs.Hash.{hash_of_calls}
 use Rattle.rkyv_table.specs.Table.Header.{len_at}
 use Rattle.rkyv_index.specs.Index.{IsIndex, IsStoredAt, hash_at}
-use Rattle.rkyv_index.proofs.SealedIndex.{answers_read, as_read, finds_first_read, finds_read, under_read}
+use Rattle.rkyv_index.proofs.SealedIndex.{compares_read, as_read, finds_first_read, finds_read, under_read}
 use Rattle.rkyv_index.proofs.map.ArchivedIndexMap.find_in.Goals as goal
 
 pub returns-clause-stored : goal.returns-clause-stored
@@ -14,7 +14,7 @@ pub returns-clause-below : goal.returns-clause-below
 returns-clause-below g c = as_read c.read.result _ _ c.read.ensures.bytes c.read.ensures.pos (λ d r. IfSome c.find.result (λ i. i < len_at g.W.Word.word d r)) (IfSome_then c.find.result c.find.ensures.found.walked (λ i there. there.1))
 
 pub returns-clause-answer : goal.returns-clause-answer
-returns-clause-answer g c = λ accept answers.
+returns-clause-answer g c = λ accept compares.
     let w = g.W.Word.word in
     let k = g.K.HasSpec.spec in
     let v = g.V.HasSpec.spec in
@@ -22,10 +22,10 @@ returns-clause-answer g c = λ accept answers.
     let e = c.read.ensures in
     let hash = hash_of_calls g.H.KeyHasher.hasher (g.Q.KeyHash.calls c.args.key.now) in
     finds_read m _ _ e.bytes e.pos hash accept (IsIndex c.find.result)
-    (c.find.ensures.found.answer accept (answers_read m _ _ e.bytes e.pos _ accept answers))
+    (c.find.ensures.found.answer accept (compares_read m _ _ e.bytes e.pos _ accept compares))
 
 pub returns-clause-first : goal.returns-clause-first
-returns-clause-first g c = λ accept answers under.
+returns-clause-first g c = λ accept compares under.
     let w = g.W.Word.word in
     let k = g.K.HasSpec.spec in
     let v = g.V.HasSpec.spec in
@@ -33,4 +33,4 @@ returns-clause-first g c = λ accept answers under.
     let e = c.read.ensures in
     let key_hash = hash_at g.H.KeyHasher.hasher g.K.KeyElement.key_calls in
     finds_first_read m _ _ e.bytes e.pos key_hash accept (IsIndex c.find.result)
-    (c.find.ensures.found.first accept (answers_read m _ _ e.bytes e.pos _ accept answers) (under_read m _ _ e.bytes e.pos _ key_hash accept under))
+    (c.find.ensures.found.first accept (compares_read m _ _ e.bytes e.pos _ accept compares) (under_read m _ _ e.bytes e.pos _ key_hash accept under))

@@ -1,8 +1,8 @@
 use Rattle.std.proofs.Common.{subst, ◌≡◌, ◌<◌, ◌∙◌, ap, arith, sym, Bool, ℕ}
-use Rattle.rkyv_index.specs.Index.Equality.{TellsRepeated, is_misplaced, is_repeated}
+use Rattle.rkyv_index.specs.Index.Equality.{ReturnsRepeated, is_misplaced, is_repeated}
 use Rattle.rkyv_index.specs.Index.{hash_at, index_len, index_of}
 use Rattle.rkyv_index.specs.declared.map.ArchivedIndexMap.{ArchivedIndexMap}
-use Rattle.rkyv_index.proofs.Counted.{all_told, left_first, none_more, one_more}
+use Rattle.rkyv_index.proofs.Counted.{count_is_all, left_first, none_more, one_more}
 use Rattle.rkyv_index.proofs.map.ArchivedIndexMap.misplaced.Goals.{then-is_misplaced, else-is_misplaced}
 use Rattle.rkyv_index.proofs.map.ArchivedIndexMap.misplaced.Goals as goal
 
@@ -13,7 +13,7 @@ loop-place-init g c =
     let key_hash = hash_at g.H.KeyHasher.hasher g.K.KeyElement.key_calls in
     let e = left_first (is_misplaced m key_hash g.K.ElementEq.same) n in
     let f = left_first (is_repeated m key_hash g.K.ElementEq.same) n in
-    record { few = omega arith; told = omega (arith, e); repeated = λ homes written. omega (arith, f) }
+    record { few = omega arith; exact = omega (arith, e); repeated = λ homes written. omega (arith, f) }
 
 pub loop-place-preserved : goal.loop-place-preserved
 loop-place-preserved g c =
@@ -28,30 +28,30 @@ loop-place-preserved g c =
     let end : c.len-place-end.result ≡ n = c.len-place-end.ensures in
     let test = c.loop-place-test.true in
     let below : i < n = omega (arith, test, end) in
-    let is : c.is_misplaced.result ≡ P i = c.is_misplaced.ensures.told ∙ ap (λ x. is_misplaced (index x) key_hash same i) c.entries-entries.ensures.map in
+    let is : c.is_misplaced.result ≡ P i = c.is_misplaced.ensures.exact ∙ ap (λ x. is_misplaced (index x) key_hash same i) c.entries-entries.ensures.map in
     let inv = c.loop-place.invariant in
     let few = inv.few in
-    let told = inv.told in
-    let repeats = subst (λ x. TellsRepeated (index x) key_hash same i c.is_misplaced.result) c.entries-entries.ensures.map c.is_misplaced.ensures.repeated in
+    let exact = inv.exact in
+    let repeats = subst (λ x. ReturnsRepeated (index x) key_hash same i c.is_misplaced.result) c.entries-entries.ensures.map c.is_misplaced.ensures.repeated in
     elim c.if-is_misplaced.branch [
       | then-is_misplaced x ↦
           let e = x.count-is in
           let hit = x.if-is_misplaced.true in
-          record { few = omega arith; told = one_more P _ i n _ told _ below (sym is ∙ hit) e; repeated = λ homes written. one_more R _ i n _ (inv.repeated homes written) _ below (sym (repeats homes written) ∙ hit) e }
+          record { few = omega arith; exact = one_more P _ i n _ exact _ below (sym is ∙ hit) e; repeated = λ homes written. one_more R _ i n _ (inv.repeated homes written) _ below (sym (repeats homes written) ∙ hit) e }
       | else-is_misplaced x ↦
           let e = x.count-is in
           let miss = x.if-is_misplaced.false in
-          record { few = omega arith; told = none_more P _ i n _ told _ below (sym is ∙ miss) e; repeated = λ homes written. none_more R _ i n _ (inv.repeated homes written) _ below (sym (repeats homes written) ∙ miss) e }
+          record { few = omega arith; exact = none_more P _ i n _ exact _ below (sym is ∙ miss) e; repeated = λ homes written. none_more R _ i n _ (inv.repeated homes written) _ below (sym (repeats homes written) ∙ miss) e }
     ]
 
-pub returns-clause-told : goal.returns-clause-told
-returns-clause-told g c =
+pub returns-clause-exact : goal.returns-clause-exact
+returns-clause-exact g c =
     let end : c.len-place-end.result ≡ index_len c.args.self = c.len-place-end.ensures in
     let test = c.loop-place-test.false in
-    all_told _ _ c.loop-place.place (index_len c.args.self) _ c.loop-place.invariant.told (omega (arith, test, end))
+    count_is_all _ _ c.loop-place.place (index_len c.args.self) _ c.loop-place.invariant.exact (omega (arith, test, end))
 
 pub returns-clause-repeated : goal.returns-clause-repeated
 returns-clause-repeated g c = λ homes written.
     let end : c.len-place-end.result ≡ index_len c.args.self = c.len-place-end.ensures in
     let test = c.loop-place-test.false in
-    all_told _ _ c.loop-place.place (index_len c.args.self) _ (c.loop-place.invariant.repeated homes written) (omega (arith, test, end))
+    count_is_all _ _ c.loop-place.place (index_len c.args.self) _ (c.loop-place.invariant.repeated homes written) (omega (arith, test, end))

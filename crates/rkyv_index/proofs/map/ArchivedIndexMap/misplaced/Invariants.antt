@@ -13,7 +13,7 @@ invariant-loop-place g l =
     let same = g.K.ElementEq.same in
     record {
       few : l.count ≤ l.place;
-      told : l.count + length (filter (is_misplaced m key_hash same) (range_with_len l.place (n - l.place))) ≡ index_misplaced m key_hash same;
+      exact : l.count + length (filter (is_misplaced m key_hash same) (range_with_len l.place (n - l.place))) ≡ index_misplaced m key_hash same;
       repeated : (homes : List ℕ) → IsWritten m key_hash homes
           → l.count + length (filter (is_repeated m key_hash same) (range_with_len l.place (n - l.place))) ≡ index_repeated m key_hash same;
     }

@@ -4,7 +4,7 @@ use Rattle.rkyv_table.proofs.MisplacedIn.{past_all, reads_on}
 use Rattle.rkyv_index.specs.Index.Equality.{is_misplaced, keys_strides, own_strides}
 use Rattle.rkyv_index.specs.Index.{hash_at, index_len, index_of}
 use Rattle.rkyv_index.specs.declared.map.ArchivedIndexMap.{ArchivedIndexMap}
-use Rattle.rkyv_index.proofs.Counted.{all_told, left_first, none_more, one_more, sum_end, sum_first, sum_step}
+use Rattle.rkyv_index.proofs.Counted.{count_is_all, left_first, none_more, one_more, sum_end, sum_first, sum_step}
 use Rattle.rkyv_index.proofs.map.ArchivedIndexMap.misplaced_up_to_counted.Goals.{After-is_misplaced-is_misplaced, then-is_misplaced, else-is_misplaced}
 use Rattle.rkyv_index.proofs.map.ArchivedIndexMap.misplaced_up_to_counted.Goals as goal
 
@@ -16,7 +16,7 @@ loop-place-init g c =
     let same = g.K.ElementEq.same in
     let e = left_first (is_misplaced m key_hash same) n in
     let s : sum_by (own_strides m key_hash same) (range_with_len 0 (n - 0)) ≡ keys_strides m key_hash same = sum_first (own_strides m key_hash same) 0 n in
-    record { few = omega arith; told = omega (arith, e); spent = omega (arith, c.count-before.ensures, s); within = omega (arith, c.count-before.ensures, c.requires.room) }
+    record { few = omega arith; exact = omega (arith, e); spent = omega (arith, c.count-before.ensures, s); within = omega (arith, c.count-before.ensures, c.requires.room) }
 
 -- the lookup of one key: the key is below the length, and the strides are counted
 module _ (g : _) (c : After-is_misplaced-is_misplaced g) where
@@ -61,7 +61,7 @@ loop-place-preserved g c =
     let i : ℕ = c.loop-place.place in
     let at = (goal.at.loop-place-preserved g c).After-is_misplaced-is_misplaced in
     let lt = below g at in
-    let is : c.is_misplaced-is_misplaced.result ≡ P i = c.is_misplaced-is_misplaced.ensures.told ∙ ap (λ x. is_misplaced (index x) key_hash same i) c.entries-entries.ensures.map in
+    let is : c.is_misplaced-is_misplaced.result ≡ P i = c.is_misplaced-is_misplaced.ensures.exact ∙ ap (λ x. is_misplaced (index x) key_hash same i) c.entries-entries.ensures.map in
     let inv = c.loop-place.invariant in
     let few = inv.few in
     let all = spent g at in
@@ -71,10 +71,10 @@ loop-place-preserved g c =
     elim c.if-is_misplaced.branch [
       | then-is_misplaced x ↦
           let e = x.count-is in
-          record { few = omega arith; told = one_more P _ i n _ inv.told _ lt (sym is ∙ x.if-is_misplaced.true) e; spent = all; within = within }
+          record { few = omega arith; exact = one_more P _ i n _ inv.exact _ lt (sym is ∙ x.if-is_misplaced.true) e; spent = all; within = within }
       | else-is_misplaced x ↦
           let e = x.count-is in
-          record { few = omega arith; told = none_more P _ i n _ inv.told _ lt (sym is ∙ x.if-is_misplaced.false) e; spent = all; within = within }
+          record { few = omega arith; exact = none_more P _ i n _ inv.exact _ lt (sym is ∙ x.if-is_misplaced.false) e; spent = all; within = within }
     ]
 
 pub returns-clause-counts : goal.returns-clause-counts
@@ -87,4 +87,4 @@ returns-clause-counts g c =
     let rest = sum_end (own_strides m key_hash g.K.ElementEq.same) c.loop-place.place (index_len c.args.self) above in
     let spent = c.loop-place.invariant.spent in
     let most = c.loop-place.invariant.within.1 in
-    (omega (arith, rest, spent, most), all_told _ _ c.loop-place.place (index_len c.args.self) _ c.loop-place.invariant.told above)
+    (omega (arith, rest, spent, most), count_is_all _ _ c.loop-place.place (index_len c.args.self) _ c.loop-place.invariant.exact above)

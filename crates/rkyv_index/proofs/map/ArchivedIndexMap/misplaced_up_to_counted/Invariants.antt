@@ -14,7 +14,7 @@ invariant-loop-place g l =
     let same = g.K.ElementEq.same in
     record {
       few : l.count ≤ l.place;
-      told : l.count + length (filter (is_misplaced m key_hash same) (range_with_len l.place (n - l.place))) ≡ index_misplaced m key_hash same;
+      exact : l.count + length (filter (is_misplaced m key_hash same) (range_with_len l.place (n - l.place))) ≡ index_misplaced m key_hash same;
       spent : l.before + keys_strides m key_hash same ≡ l.strides + sum_by (own_strides m key_hash same) (range_with_len l.place (n - l.place));
       within : (l.before ≤ l.strides) × (l.strides ≤ l.before + l.limit) × (l.strides ≤ 2 ^ 63);
     }

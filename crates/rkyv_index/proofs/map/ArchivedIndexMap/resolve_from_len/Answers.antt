@@ -19,7 +19,7 @@ returns g c =
       header = subst (λ (r : IndexResolver). IsHeader g.W.Word.word c.args.len (capacity c.args.len c.args.load_factor) r.table.pos c.args.pos c.resolve_from_len.new.out) c.resolver.view_is c.in_ok-resolve_from_len.ensures;
       distance = c.in-Some.distance;
       fits = c.in-Some.ensures.1;
-      told = c.in-Some.ensures.0 ∙ ap (λ n. pos c.resolver.inside.entries -ℤ pos n) at ∙ ap (λ (r : IndexResolver). pos r.entries -ℤ pos (c.args.pos + 3 * byte_len g.W.Word.word)) c.resolver.view_is;
+      distance_value = c.in-Some.ensures.0 ∙ ap (λ n. pos c.resolver.inside.entries -ℤ pos n) at ∙ ap (λ (r : IndexResolver). pos r.entries -ℤ pos (c.args.pos + 3 * byte_len g.W.Word.word)) c.resolver.view_is;
       is = ap (λ (y : List ℕ). c.resolve_from_len.new.out ++ y) (c.write_distance.ensures ∙ ap (λ d. to_le_bytes g.W.Word.word (cast_unsigned g.W.Word.word d)) (to_z-of_z w64 c.in-Some.distance fits));
     })
 

@@ -27,7 +27,7 @@ loop-i-preserved g c =
     let inv = c.loop-i.invariant in
     let step = sym (places_step c.loop-i.i c.args.len c.loop-i-test.true) in
     let at = entry_at s.size c.args.begin in
-    let here = subst (λ q. s.holds b q c.loop-i.low c.args.begin c.in_ok-rest.rest.lo) inv.at c.in_ok-rest.ensures.1 in
+    let here = subst (λ q. s.is_valid b q c.loop-i.low c.args.begin c.in_ok-rest.rest.lo) inv.at c.in_ok-rest.ensures.1 in
     let k = g.T.HasSpec.laws.rest_in_range b (at c.loop-i.i) c.loop-i.low c.args.begin c.in_ok-rest.rest.lo inv.ordered here in
     record {
       at = ap (λ q. q + c.size.result) inv.at ∙ ap (λ n. at c.loop-i.i + n) c.size.ensures ∙ entry_next s.size c.args.begin c.loop-i.i;

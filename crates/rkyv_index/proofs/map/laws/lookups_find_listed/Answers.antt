@@ -10,7 +10,7 @@ use Rattle.rkyv_index.proofs.FirstListed.{first_listed}
 use Rattle.rkyv_index.proofs.map.laws.lookups_find_listed.Goals as goal
 
 pub returns : goal.returns
-returns g c = λ m fits asks factor pairs decides represents.
+returns g c = λ m fits accept factor pairs decides represents.
     let k = g.K.HasSpec.spec in
     let v = g.V.HasSpec.spec in
     let kl = g.K.HasSpec.laws in
@@ -21,7 +21,7 @@ returns g c = λ m fits asks factor pairs decides represents.
     record {
       homes = represents.homes;
       written = represents.written;
-      first = first_listed P asks pairs (λ i pair e.
+      first = first_listed P accept pairs (λ i pair e.
           let within = slice_get_within pairs i pair e in
           let below : i < index_len m = omega (arith, n, within) in
           let there = entry_viewable g.W.Word.word g.met.W.Width.layout.kind (entry_spec k v) (entry_element k v kl vl) b (index_pos m) m.valid i below in

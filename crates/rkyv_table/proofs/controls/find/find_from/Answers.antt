@@ -1,20 +1,20 @@
 use Rattle.std.proofs.Common.{arith, ◌≡◌, ℕ, ◌+◌, ◌/◌, ◌<◌, sym, ap, ◌∙◌, Bool, List, Option, length, drop, length-take, length-drop, []}
 use Rattle.rkyv_table.specs.Controls.ControlBytes.{IsFullBucket}
-use Rattle.rkyv_table.specs.Controls.Finding.{AnswersAs, ReadsWithin, end, found}
+use Rattle.rkyv_table.specs.Controls.Finding.{ComparesByBucket, ReadsWithin, end, found}
 use Rattle.rkyv_table.specs.Controls.StrideOutcome.{IsFullInStride}
 use Rattle.rkyv_table.proofs.Coverage.{count_strides, stride_below}
 use Rattle.rkyv_table.proofs.FirstFree.{member_front, member_rest}
 use Rattle.rkyv_table.specs.Controls.Numbers.{probe_capacity, tag}
 use Rattle.rkyv_table.specs.Controls.Probe.{strides}
 use Rattle.rkyv_table.proofs.Search.{answer}
-use Rattle.rkyv_table.specs.Controls.Placing.{Accepted}
+use Rattle.rkyv_table.specs.Controls.Placing.{AreValidControls}
 use Rattle.rkyv_table.proofs.Lookup.{end_index, ends_by_item, ends_by_empty, goes_on, ends_somewhere, found_is, end_is, few_strides, stride_full, shown_full}
 use Rattle.rkyv_table.proofs.controls.find.find_from.Goals as goal
 use Rattle.rkyv_table.proofs.controls.find.find_from.Goals.{After-cmp-1}
 
 pub loop-pos-init : goal.loop-pos-init
 loop-pos-init g c =
-    let a : Accepted c.args.cap c.args.len c.args.controls.now = c.requires.accepted (omega (arith, c.if-len-eq0.false)) in
+    let a : AreValidControls c.args.cap c.args.len c.args.controls.now = c.requires.accepted (omega (arith, c.if-len-eq0.false)) in
     let room = a.room in
     let all : c.starting_at-pos-items.result ≡ strides c.args.hash c.args.cap = c.starting_at-pos-items.ensures c.args.hash (c.requires.start (omega arith)) in
     let same : c.into_iter-pos-iterator.result ≡ strides c.args.hash c.args.cap = cc in
@@ -22,13 +22,13 @@ loop-pos-init g c =
       room = ap (λ (ps : List ℕ). c.args.strides.now + length ps) same;
       members = λ p m. rw (← same) m;
       up = omega arith;
-      same = λ accept answers. ap (answer g.G.GroupKind.kind c.args.controls.now c.args.cap (tag c.args.hash) accept) (sym same);
-      counted = λ accept answers. ap (λ ps. c.args.strides.now + end_index g.G.GroupKind.kind c.args.controls.now c.args.cap (tag c.args.hash) accept ps) same;
+      same = λ accept compares. ap (answer g.G.GroupKind.kind c.args.controls.now c.args.cap (tag c.args.hash) accept) (sym same);
+      counted = λ accept compares. ap (λ ps. c.args.strides.now + end_index g.G.GroupKind.kind c.args.controls.now c.args.cap (tag c.args.hash) accept ps) same;
     }
 
 -- a stride that was read
 module _ (g : _) (c : After-cmp-1 g) where
-  accepted : Accepted c.args.cap c.args.len c.args.controls.now
+  accepted : AreValidControls c.args.cap c.args.len c.args.controls.now
   accepted = c.requires.accepted (omega (arith, c.if-len-eq0.false))
 
   below : c.in-Some.pos < probe_capacity c.args.cap
@@ -37,23 +37,23 @@ module _ (g : _) (c : After-cmp-1 g) where
   full : (b : ℕ) → IsFullInStride c.stride.result.now c.in-Some.pos c.args.cap b → IsFullBucket c.args.cap c.args.controls.now b
   full = shown_full c.args.cap c.args.len c.args.controls.now c.stride.result.now c.in-Some.pos accepted below c.stride.ensures.value
 
-  module _ (accept : ℕ → Bool) (answers : AnswersAs (goal.F-post g c.args.cmp) (IsFullBucket c.args.cap c.args.controls.now) accept) where
-    asked : AnswersAs (goal.F-post g c.args.cmp) (IsFullInStride c.stride.result.now c.in-Some.pos c.args.cap) accept
-    asked b r shown told = answers b r (full b shown) told
+  module _ (accept : ℕ → Bool) (compares : ComparesByBucket (goal.F-post g c.args.cmp) (IsFullBucket c.args.cap c.args.controls.now) accept) where
+    compares_here : ComparesByBucket (goal.F-post g c.args.cmp) (IsFullInStride c.stride.result.now c.in-Some.pos c.args.cap) accept
+    compares_here b r shown returned = compares b r (full b shown) returned
 
     answered : (r : Option ℕ) → answer g.G.GroupKind.kind c.args.controls.now c.args.cap (tag c.args.hash) accept c.loop-pos.pos-iterator ≡ r → r ≡ found g.G.GroupKind.kind c.args.controls.now c.args.cap c.args.len c.args.hash accept
-    answered r e = sym (found_is g.G.GroupKind.kind c.args.controls.now c.args.cap c.args.len c.args.hash accept c.if-len-eq0.false ∙ c.loop-pos.invariant.same accept answers ∙ e)
+    answered r e = sym (found_is g.G.GroupKind.kind c.args.controls.now c.args.cap c.args.len c.args.hash accept c.if-len-eq0.false ∙ c.loop-pos.invariant.same accept compares ∙ e)
 
     counted : end_index g.G.GroupKind.kind c.args.controls.now c.args.cap (tag c.args.hash) accept c.loop-pos.pos-iterator ≡ 0 → c.stride.new.self ≡ c.args.strides.now + end g.G.GroupKind.kind c.args.controls.now c.args.cap c.args.len c.args.hash accept
     counted z =
         let f = end_is g.G.GroupKind.kind c.args.controls.now c.args.cap c.args.len c.args.hash accept c.if-len-eq0.false in
-        let k = c.loop-pos.invariant.counted accept answers in
+        let k = c.loop-pos.invariant.counted accept compares in
         let d = c.stride.ensures.counted in
         omega arith
 
 pub stride-requires-clause-inside : goal.stride-requires-clause-inside
 stride-requires-clause-inside g c =
-    let a : Accepted c.args.cap c.args.len c.args.controls.now = c.requires.accepted (omega (arith, c.if-len-eq0.false)) in
+    let a : AreValidControls c.args.cap c.args.len c.args.controls.now = c.requires.accepted (omega (arith, c.if-len-eq0.false)) in
     let room = a.room in
     let lp = stride_below c.args.hash c.args.cap c.in-Some.pos (omega arith) (c.loop-pos.invariant.members c.in-Some.pos (member_front c.in-Some.pos c.next.new.self c.loop-pos.pos-iterator c.in-Some.ensures.steps)) in
     let count = a.repeats.count in
@@ -61,7 +61,7 @@ stride-requires-clause-inside g c =
 
 pub stride-requires-clause-room : goal.stride-requires-clause-room
 stride-requires-clause-room g c =
-    let a : Accepted c.args.cap c.args.len c.args.controls.now = c.requires.accepted (omega (arith, c.if-len-eq0.false)) in
+    let a : AreValidControls c.args.cap c.args.len c.args.controls.now = c.requires.accepted (omega (arith, c.if-len-eq0.false)) in
     let room = a.room in
     let count = a.repeats.count in
     let few = few_strides c.args.hash c.args.cap (omega arith) (omega arith) in
@@ -108,29 +108,29 @@ module _ (g : _) (c : After-cmp-1 g) where
 pub returns-in-Accepted : goal.returns-in-Accepted
 returns-in-Accepted g c =
     let at = (goal.at.returns-in-Accepted g c).After-cmp-1 in
-    let ends = λ (accept : ℕ → Bool) (answers : AnswersAs (goal.F-post g c.args.cmp) (IsFullBucket c.args.cap c.args.controls.now) accept).
-    (let s = rw c.tag-tag.ensures at (c.in-Accepted.ensures.seen c.args.controls.now c.stride.ensures.value accept (asked g at accept answers)) in
+    let ends = λ (accept : ℕ → Bool) (compares : ComparesByBucket (goal.F-post g c.args.cmp) (IsFullBucket c.args.cap c.args.controls.now) accept).
+    (let s = rw c.tag-tag.ensures at (c.in-Accepted.ensures.outcome c.args.controls.now c.stride.ensures.value accept (compares_here g at accept compares)) in
     ends_by_item g.G.GroupKind.kind c.args.controls.now c.args.cap (tag c.args.hash) accept c.in-Some.pos c.in-Accepted.bucket c.next.new.self c.loop-pos.pos-iterator c.in-Some.ensures.steps s) in
     record {
       walked = full g at c.in-Accepted.bucket c.in-Accepted.ensures.full;
       accepted = c.in-Accepted.ensures.accepted;
       bounded = within g at;
-      answer = λ accept answers. answered g at accept answers _ (ends accept answers).0;
-      counted = λ accept answers. counted g at accept answers (ends accept answers).1;
+      answer = λ accept compares. answered g at accept compares _ (ends accept compares).0;
+      counted = λ accept compares. counted g at accept compares (ends accept compares).1;
     }
 
 pub returns-in-HasEmpty : goal.returns-in-HasEmpty
 returns-in-HasEmpty g c =
     let at = (goal.at.returns-in-HasEmpty g c).After-cmp-1 in
-    let ends = λ (accept : ℕ → Bool) (answers : AnswersAs (goal.F-post g c.args.cmp) (IsFullBucket c.args.cap c.args.controls.now) accept).
-    (let s = rw c.tag-tag.ensures at (c.in-HasEmpty.ensures.seen c.args.controls.now c.stride.ensures.value accept (asked g at accept answers)) in
+    let ends = λ (accept : ℕ → Bool) (compares : ComparesByBucket (goal.F-post g c.args.cmp) (IsFullBucket c.args.cap c.args.controls.now) accept).
+    (let s = rw c.tag-tag.ensures at (c.in-HasEmpty.ensures.outcome c.args.controls.now c.stride.ensures.value accept (compares_here g at accept compares)) in
     ends_by_empty g.G.GroupKind.kind c.args.controls.now c.args.cap (tag c.args.hash) accept c.in-Some.pos c.next.new.self c.loop-pos.pos-iterator c.in-Some.ensures.steps s.0 s.1) in
     record {
       walked = tt;
       accepted = tt;
       bounded = within g at;
-      answer = λ accept answers. answered g at accept answers _ (ends accept answers).0;
-      counted = λ accept answers. counted g at accept answers (ends accept answers).1;
+      answer = λ accept compares. answered g at accept compares _ (ends accept compares).0;
+      counted = λ accept compares. counted g at accept compares (ends accept compares).1;
     }
 
 pub loop-pos-preserved : goal.loop-pos-preserved
@@ -138,21 +138,21 @@ loop-pos-preserved g c =
     let at = (goal.at.loop-pos-preserved g c).After-cmp-1 in
     let more = c.in-Some.ensures.steps in
     let d = c.stride.ensures.counted in
-    let on = λ (accept : ℕ → Bool) (answers : AnswersAs (goal.F-post g c.args.cmp) (IsFullBucket c.args.cap c.args.controls.now) accept).
-    (let s = rw c.tag-tag.ensures at (c.in-Continue.ensures.seen c.args.controls.now c.stride.ensures.value accept (asked g at accept answers)) in
+    let on = λ (accept : ℕ → Bool) (compares : ComparesByBucket (goal.F-post g c.args.cmp) (IsFullBucket c.args.cap c.args.controls.now) accept).
+    (let s = rw c.tag-tag.ensures at (c.in-Continue.ensures.outcome c.args.controls.now c.stride.ensures.value accept (compares_here g at accept compares)) in
     goes_on g.G.GroupKind.kind c.args.controls.now c.args.cap (tag c.args.hash) accept c.in-Some.pos c.next.new.self c.loop-pos.pos-iterator more s.0 s.1) in
     record {
       members = λ p m. c.loop-pos.invariant.members p (member_rest c.in-Some.pos p c.next.new.self c.loop-pos.pos-iterator more m);
       room = (let r = c.loop-pos.invariant.room in let l = ap length more in omega arith);
       up = (let u = c.loop-pos.invariant.up in omega arith);
-      same = λ accept answers. c.loop-pos.invariant.same accept answers ∙ (on accept answers).0;
-      counted = λ accept answers. (let k = c.loop-pos.invariant.counted accept answers in let o = (on accept answers).1 in omega arith);
+      same = λ accept compares. c.loop-pos.invariant.same accept compares ∙ (on accept compares).0;
+      counted = λ accept compares. (let k = c.loop-pos.invariant.counted accept compares in let o = (on accept compares).1 in omega arith);
     }
 
 -- the probe sequence doesn't end before the search does
 pub returns : goal.returns
 returns g c =
-    let a : Accepted c.args.cap c.args.len c.args.controls.now = c.requires.accepted (omega (arith, c.if-len-eq0.false)) in
+    let a : AreValidControls c.args.cap c.args.len c.args.controls.now = c.requires.accepted (omega (arith, c.if-len-eq0.false)) in
     let room = a.room in
     let done : c.loop-pos.pos-iterator ≡ [] = c.in-None.ensures.steps.0 in
     let l = ap length done in
@@ -161,12 +161,12 @@ returns g c =
       walked = tt;
       accepted = tt;
       bounded = (let k = count_strides c.args.hash c.args.cap (omega arith) in record { none = λ z. absurd (c.if-len-eq0.false z); some = λ _. omega arith; most = omega arith });
-      answer = λ accept answers.
-          sym (found_is g.G.GroupKind.kind c.args.controls.now c.args.cap c.args.len c.args.hash accept c.if-len-eq0.false ∙ c.loop-pos.invariant.same accept answers
+      answer = λ accept compares.
+          sym (found_is g.G.GroupKind.kind c.args.controls.now c.args.cap c.args.len c.args.hash accept c.if-len-eq0.false ∙ c.loop-pos.invariant.same accept compares
           ∙ ap (answer g.G.GroupKind.kind c.args.controls.now c.args.cap (tag c.args.hash) accept) done);
-      counted = λ accept answers.
+      counted = λ accept compares.
           let s = ends_somewhere g.G.GroupKind.kind c.args.controls.now c.args.cap c.args.len c.args.hash (tag c.args.hash) accept a in
-          let k = c.loop-pos.invariant.counted accept answers in
+          let k = c.loop-pos.invariant.counted accept compares in
           let p = ap (end_index g.G.GroupKind.kind c.args.controls.now c.args.cap (tag c.args.hash) accept) done in
           absurd (omega arith);
     }

@@ -1,7 +1,7 @@
 use Rattle.std.proofs.Common.{◌≡◌, ℕ, ◌+◌, ◌≤◌, Bool, eqb, true, length}
 use Rattle.std.specs.List.{list_any}
 use Rattle.rkyv_table.specs.Controls.ControlBytes.{IsFullBucket}
-use Rattle.rkyv_table.specs.Controls.Finding.{AnswersAs}
+use Rattle.rkyv_table.specs.Controls.Finding.{ComparesByBucket}
 use Rattle.rkyv_table.specs.Controls.Numbers.{tag}
 use Rattle.rkyv_table.specs.Controls.Probe.{strides}
 use Rattle.rkyv_table.proofs.Search.{answer}
@@ -13,10 +13,10 @@ invariant-loop-pos g l = record {
   room : l.strides + length (l.pos-iterator) ≡ l.initial.strides + length (strides l.hash l.cap);
   members : (p : ℕ) → list_any (eqb p) l.pos-iterator ≡ true → list_any (eqb p) (strides l.hash l.cap) ≡ true;
   up : l.initial.strides ≤ l.strides;
-  same : (accept : ℕ → Bool) → AnswersAs (goal.F-post g l.cmp) (IsFullBucket l.cap l.controls) accept
+  same : (accept : ℕ → Bool) → ComparesByBucket (goal.F-post g l.cmp) (IsFullBucket l.cap l.controls) accept
       → answer (g.G.GroupKind.kind) l.controls l.cap (tag l.hash) accept (strides l.hash l.cap)
       ≡ answer (g.G.GroupKind.kind) l.controls l.cap (tag l.hash) accept (l.pos-iterator);
-  counted : (accept : ℕ → Bool) → AnswersAs (goal.F-post g l.cmp) (IsFullBucket l.cap l.controls) accept
+  counted : (accept : ℕ → Bool) → ComparesByBucket (goal.F-post g l.cmp) (IsFullBucket l.cap l.controls) accept
       → l.strides + end_index (g.G.GroupKind.kind) l.controls l.cap (tag l.hash) accept (l.pos-iterator)
       ≡ l.initial.strides + end_index (g.G.GroupKind.kind) l.controls l.cap (tag l.hash) accept (strides l.hash l.cap);
 }

@@ -34,32 +34,32 @@ cmp-requires g c =
     c.requires.callable c.bucket_of-bucket.result (rw c.bucket_of-bucket.ensures m)
 
 pub returns-then-cmp-clause-first : goal.returns-then-cmp-clause-first
-returns-then-cmp-clause-first g c = λ accept answers.
+returns-then-cmp-clause-first g c = λ accept compares.
     let gone = c.loop-j.invariant.gone in
     let m = marked_head c.args.at c.args.cap (g.M.Marks.places c.args.marks) (g.M.Marks.places c.loop-j.rest) gone.0 c.in-Some.j gone.1 c.in-Some.ensures in
     let e = c.bucket_of-bucket.ensures in
     let m' : IsMarked c.args.at c.args.cap (g.M.Marks.places c.args.marks) c.bucket_of-bucket.result = rw e m in
-    let yes : accept ((c.args.at + c.in-Some.j) % c.args.cap) ≡ true = ap accept (sym e) ∙ sym (answers c.bucket_of-bucket.result true m' c.if-cmp.ensures) in
+    let yes : accept ((c.args.at + c.in-Some.j) % c.args.cap) ≡ true = ap accept (sym e) ∙ sym (compares c.bucket_of-bucket.result true m' c.if-cmp.ensures) in
     ap Some e
     ∙ head_found (λ j. (c.args.at + j) % c.args.cap) accept (g.M.Marks.places c.loop-j.rest) c.in-Some.j c.in-Some.ensures yes
-    ∙ sym (c.loop-j.invariant.same accept answers)
+    ∙ sym (c.loop-j.invariant.same accept compares)
 
 pub returns-clause-first : goal.returns-clause-first
-returns-clause-first g c = λ accept answers.
+returns-clause-first g c = λ accept compares.
     none_found (λ j. (c.args.at + j) % c.args.cap) accept (g.M.Marks.places c.loop-j.rest) c.in_default.ensures
-    ∙ sym (c.loop-j.invariant.same accept answers)
+    ∙ sym (c.loop-j.invariant.same accept compares)
 
 pub loop-j-preserved : goal.loop-j-preserved
 loop-j-preserved g c =
     let gone = c.loop-j.invariant.gone in
     record {
       gone = (gone.0 + 1, c.remove_lowest_bit-rest.ensures ∙ ap (drop 1) gone.1 ∙ drop-drop 1 gone.0 (g.M.Marks.places c.args.marks));
-      same = λ accept answers.
+      same = λ accept compares.
           let m = marked_head c.args.at c.args.cap (g.M.Marks.places c.args.marks) (g.M.Marks.places c.loop-j.rest) gone.0 c.in-Some.j gone.1 c.in-Some.ensures in
           let e = c.bucket_of-bucket.ensures in
           let m' : IsMarked c.args.at c.args.cap (g.M.Marks.places c.args.marks) c.bucket_of-bucket.result = rw e m in
-          let no : accept ((c.args.at + c.in-Some.j) % c.args.cap) ≡ false = ap accept (sym e) ∙ sym (answers c.bucket_of-bucket.result false m' c.if-cmp.ensures) in
-          c.loop-j.invariant.same accept answers
+          let no : accept ((c.args.at + c.in-Some.j) % c.args.cap) ≡ false = ap accept (sym e) ∙ sym (compares c.bucket_of-bucket.result false m' c.if-cmp.ensures) in
+          c.loop-j.invariant.same accept compares
           ∙ head_skipped (λ j. (c.args.at + j) % c.args.cap) accept (g.M.Marks.places c.loop-j.rest) c.in-Some.j c.in-Some.ensures no
           ∙ ap (λ xs. find accept (map (λ j. (c.args.at + j) % c.args.cap) xs)) (sym c.remove_lowest_bit-rest.ensures);
     }

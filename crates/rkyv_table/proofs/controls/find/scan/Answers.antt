@@ -1,12 +1,12 @@
 use Rattle.std.proofs.Common.{arith, ◌≡◌, ◌+◌, ◌*◌, ◌≤◌, ℕ, sym, ap, ◌∙◌, take, drop, List, leb, get_or, None}
 use Rattle.std.specs.List.{find, list_any, range_with_len}
 use Rattle.rkyv_scan.specs.Groups.{Kind}
-use Rattle.rkyv_table.proofs.Groups.{candidates_in, empty_in, all_candidates, all_empty, no_candidates, no_empty, found_more, found_whole, more_empty, group_of, group_fits, groups_end, or_no, places_are, mark_told, width_divides}
+use Rattle.rkyv_table.proofs.Groups.{candidates_in, empty_in, all_candidates, all_empty, no_candidates, no_empty, found_more, found_whole, more_empty, group_of, group_fits, groups_end, or_no, places_are, mark_is_any, width_divides}
 use Rattle.rkyv_table.proofs.Search.{width_some}
-use Rattle.rkyv_table.proofs.WholeStride.{whole_found, whole_none, whole_shown}
+use Rattle.rkyv_table.proofs.WholeStride.{whole_found, whole_none, whole_marked_full}
 use Rattle.std.proofs.lemmas.Bool.{or_right}
 use Rattle.rkyv_table.specs.Controls.StrideOutcome.{IsFullInStride, IsMarked}
-use Rattle.rkyv_table.proofs.Marks.{place_full, marked_shown}
+use Rattle.rkyv_table.proofs.Marks.{place_full, marked_bucket_full}
 use Rattle.rkyv_table.proofs.controls.find.scan.Goals as goal
 use Rattle.rkyv_table.proofs.controls.find.scan.Goals.{After-match_byte, After-match_byte-in-loop-i, then-any_bit_set-2, else-any_bit_set-2}
 
@@ -19,7 +19,7 @@ module _ (g : _) (c : After-match_byte-in-loop-i g) where
   fits = group_fits c.loop-i.i g.G.GroupKind.kind.width (rw (c.WIDTH-i-end.ensures, g.met.G.GroupKind.width) at c.loop-i-test.true)
 
   shown : (b : ℕ) → IsMarked (c.args.pos + c.loop-i.i * c.WIDTH-in-loop-i.result) c.args.cap (g.G.Mask.Marks.places c.match_byte-in-loop-i.result) b → IsFullInStride c.args.stride.now c.args.pos c.args.cap b
-  shown = marked_shown g.G.GroupKind.kind g.met.G.GroupKind.lawful c.args.tag c.args.pos c.args.cap (c.loop-i.i * c.WIDTH-in-loop-i.result) c.args.stride.now (g.G.GroupKind.controls c.read-group.result) (g.G.Mask.Marks.places c.match_byte-in-loop-i.result) c.requires.tag (rw width_is fits) c.read-group.ensures c.match_byte-in-loop-i.ensures
+  shown = marked_bucket_full g.G.GroupKind.kind g.met.G.GroupKind.lawful c.args.tag c.args.pos c.args.cap (c.loop-i.i * c.WIDTH-in-loop-i.result) c.args.stride.now (g.G.GroupKind.controls c.read-group.result) (g.G.Mask.Marks.places c.match_byte-in-loop-i.result) c.requires.tag (rw width_is fits) c.read-group.ensures c.match_byte-in-loop-i.ensures
 
 pub overflow_add-pos : goal.overflow_add-pos
 overflow_add-pos g c =
@@ -33,21 +33,21 @@ loop-i-init g c =
     let z : 0 * g.G.GroupKind.kind.width ≡ 0 = omega arith in
     record {
       shown = λ controls e. sym (ap (empty_in controls c.args.pos) z ∙ no_empty controls c.args.pos);
-      none = λ controls e accept answers. ap (λ n. find accept (candidates_in kind controls c.args.cap c.args.tag c.args.pos n)) z ∙ ap (find accept) (no_candidates kind controls c.args.cap c.args.tag c.args.pos);
+      none = λ controls e accept compares. ap (λ n. find accept (candidates_in kind controls c.args.cap c.args.tag c.args.pos n)) z ∙ ap (find accept) (no_candidates kind controls c.args.cap c.args.tag c.args.pos);
     }
 
-pub returns-in-Some-first_accepted-clause-seen : goal.returns-in-Some-first_accepted-clause-seen
-returns-in-Some-first_accepted-clause-seen g c = λ controls e accept answers.
+pub returns-in-Some-first_accepted-clause-outcome : goal.returns-in-Some-first_accepted-clause-outcome
+returns-in-Some-first_accepted-clause-outcome g c = λ controls e accept compares.
     let kind : Kind = g.G.GroupKind.kind in
     let law = g.met.G.GroupKind.lawful in
     let i = c.loop-i.i in
-    let after = (goal.at.returns-in-Some-first_accepted-clause-seen g c).After-match_byte-in-loop-i in
-    let f = c.in-Some-first_accepted.ensures.first accept (λ b r marked told. answers b r (shown g after b marked) told) in
+    let after = (goal.at.returns-in-Some-first_accepted-clause-outcome g c).After-match_byte-in-loop-i in
+    let f = c.in-Some-first_accepted.ensures.first accept (λ b r marked returned. compares b r (shown g after b marked) returned) in
     let f' = rw (c.match_byte-in-loop-i.ensures, places_are, c.WIDTH-in-loop-i.ensures, g.met.G.GroupKind.width) at f in
     let s = c.read-group.ensures in
     let s' = rw (c.WIDTH-in-loop-i.ensures, g.met.G.GroupKind.width) at s in
     let s'' = s' ∙ group_of controls c.args.stride.now c.args.pos (i * g.G.GroupKind.kind.width) g.G.GroupKind.kind.width (fits g after) e in
-    let m = found_more kind controls (g.G.GroupKind.controls c.read-group.result) c.args.cap c.args.tag c.args.pos i accept _ (width_some kind law) s'' (c.loop-i.invariant.none controls e accept answers) f' in
+    let m = found_more kind controls (g.G.GroupKind.controls c.read-group.result) c.args.cap c.args.tag c.args.pos i accept _ (width_some kind law) s'' (c.loop-i.invariant.none controls e accept compares) f' in
     let le : (i + 1) * g.G.GroupKind.kind.width ≤ 16 = omega (arith, fits g after) in
     found_whole kind controls c.args.cap c.args.tag c.args.pos ((i + 1) * g.G.GroupKind.kind.width) c.in-Some-first_accepted.bucket accept le m
 
@@ -65,7 +65,7 @@ loop-i-preserved g c =
       shown = λ controls e.
           let m = more_empty controls shows c.args.pos i g.G.GroupKind.kind.width (at controls e) in
           let a = rw (c.match_empty-in-loop-i.ensures, places_are) at c.any_bit_set-in-loop-i.ensures in
-          let a'' = mark_told c.any_bit_set-in-loop-i.result (λ j. leb 128 (get_or shows j 0)) (range_with_len 0 g.G.GroupKind.kind.width) a in
+          let a'' = mark_is_any c.any_bit_set-in-loop-i.result (λ j. leb 128 (get_or shows j 0)) (range_with_len 0 g.G.GroupKind.kind.width) a in
           let b = c.loop-i.invariant.shown controls e in
           let la = list_any (λ j. leb 128 (get_or shows j 0)) (range_with_len 0 g.G.GroupKind.kind.width) in
           let before = empty_in controls c.args.pos (i * g.G.GroupKind.kind.width) in
@@ -73,21 +73,21 @@ loop-i-preserved g c =
             | then-any_bit_set-2 w ↦ w.empty-is ∙ sym (m ∙ or_right before la (sym a'' ∙ w.if-any_bit_set-2.true))
             | else-any_bit_set-2 w ↦ w.empty-is ∙ b ∙ sym (m ∙ or_no before la (sym a'' ∙ w.if-any_bit_set-2.false))
           ]);
-      none = λ controls e accept answers.
-          let f = c.in_default.ensures.first accept (λ b r marked told. answers b r (shown g after b marked) told) in
+      none = λ controls e accept compares.
+          let f = c.in_default.ensures.first accept (λ b r marked returned. compares b r (shown g after b marked) returned) in
           let f' = rw (c.match_byte-in-loop-i.ensures, places_are, c.WIDTH-in-loop-i.ensures, g.met.G.GroupKind.width) at f in
-          found_more kind controls shows c.args.cap c.args.tag c.args.pos i accept None (width_some kind law) (at controls e) (c.loop-i.invariant.none controls e accept answers) f';
+          found_more kind controls shows c.args.cap c.args.tag c.args.pos i accept None (width_some kind law) (at controls e) (c.loop-i.invariant.none controls e accept compares) f';
     }
 
-pub returns-then-empty-clause-seen : goal.returns-then-empty-clause-seen
-returns-then-empty-clause-seen g c = λ controls e accept answers.
+pub returns-then-empty-clause-outcome : goal.returns-then-empty-clause-outcome
+returns-then-empty-clause-outcome g c = λ controls e accept compares.
     let n : c.loop-i.i * g.G.GroupKind.kind.width ≡ 16 = groups_end c.loop-i.i g.G.GroupKind.kind.width (width_divides g.G.GroupKind.kind g.met.G.GroupKind.lawful) (rw (c.WIDTH-i-end.ensures, g.met.G.GroupKind.width) at c.loop-i.auto.i-end) (rw (c.WIDTH-i-end.ensures, g.met.G.GroupKind.width) at c.loop-i-test.false) in
-    ((rw (n, all_candidates) at (c.loop-i.invariant.none controls e accept answers)), sym (rw (n, all_empty) at (c.loop-i.invariant.shown controls e)) ∙ c.if-empty.true)
+    ((rw (n, all_candidates) at (c.loop-i.invariant.none controls e accept compares)), sym (rw (n, all_empty) at (c.loop-i.invariant.shown controls e)) ∙ c.if-empty.true)
 
-pub returns-else-empty-clause-seen : goal.returns-else-empty-clause-seen
-returns-else-empty-clause-seen g c = λ controls e accept answers.
+pub returns-else-empty-clause-outcome : goal.returns-else-empty-clause-outcome
+returns-else-empty-clause-outcome g c = λ controls e accept compares.
     let n : c.loop-i.i * g.G.GroupKind.kind.width ≡ 16 = groups_end c.loop-i.i g.G.GroupKind.kind.width (width_divides g.G.GroupKind.kind g.met.G.GroupKind.lawful) (rw (c.WIDTH-i-end.ensures, g.met.G.GroupKind.width) at c.loop-i.auto.i-end) (rw (c.WIDTH-i-end.ensures, g.met.G.GroupKind.width) at c.loop-i-test.false) in
-    ((rw (n, all_candidates) at (c.loop-i.invariant.none controls e accept answers)), sym (rw (n, all_empty) at (c.loop-i.invariant.shown controls e)) ∙ c.if-empty.false)
+    ((rw (n, all_candidates) at (c.loop-i.invariant.none controls e accept compares)), sym (rw (n, all_empty) at (c.loop-i.invariant.shown controls e)) ∙ c.if-empty.false)
 
 pub first_accepted-requires-in-loop-i-clause-below : goal.first_accepted-requires-in-loop-i-clause-below
 first_accepted-requires-in-loop-i-clause-below g c = λ k h.
@@ -112,7 +112,7 @@ module _ (g : _) (c : After-match_byte g) where
   one = sym g.met.G.GroupKind.width ∙ sym c.WIDTH.ensures ∙ c.if-WIDTH-eq16.true
 
   whole_is_shown : (b : ℕ) → IsMarked c.args.pos c.args.cap (g.G.Mask.Marks.places c.match_byte.result) b → IsFullInStride c.args.stride.now c.args.pos c.args.cap b
-  whole_is_shown = whole_shown g.G.GroupKind.kind g.met.G.GroupKind.lawful c.args.tag c.args.pos c.args.cap c.args.stride.now (g.G.GroupKind.controls c.read-whole.result) (g.G.Mask.Marks.places c.match_byte.result) c.requires.tag one c.read-whole.ensures c.match_byte.ensures
+  whole_is_shown = whole_marked_full g.G.GroupKind.kind g.met.G.GroupKind.lawful c.args.tag c.args.pos c.args.cap c.args.stride.now (g.G.GroupKind.controls c.read-whole.result) (g.G.Mask.Marks.places c.match_byte.result) c.requires.tag one c.read-whole.ensures c.match_byte.ensures
 
 pub first_accepted-requires-clause-below : goal.first_accepted-requires-clause-below
 first_accepted-requires-clause-below g c = λ k h.
@@ -127,19 +127,19 @@ first_accepted-requires-clause-callable g c = λ b marked. c.requires.callable b
 pub returns-in-Some-clause-full : goal.returns-in-Some-clause-full
 returns-in-Some-clause-full g c = whole_is_shown g (goal.at.returns-in-Some-clause-full g c).After-match_byte c.in-Some.bucket c.in-Some.ensures.among
 
-pub returns-in-Some-clause-seen : goal.returns-in-Some-clause-seen
-returns-in-Some-clause-seen g c = λ controls e accept answers.
-    whole_found g.G.GroupKind.kind g.met.G.GroupKind.lawful controls (g.G.GroupKind.controls c.read-whole.result) c.args.stride.now c.args.cap c.args.tag c.args.pos accept _ (g.G.Mask.Marks.places c.match_byte.result) (one g (goal.at.returns-in-Some-clause-seen g c).After-match_byte) c.read-whole.ensures e c.match_byte.ensures
-    (c.in-Some.ensures.first accept (λ b r marked told. answers b r (whole_is_shown g (goal.at.returns-in-Some-clause-seen g c).After-match_byte b marked) told))
+pub returns-in-Some-clause-outcome : goal.returns-in-Some-clause-outcome
+returns-in-Some-clause-outcome g c = λ controls e accept compares.
+    whole_found g.G.GroupKind.kind g.met.G.GroupKind.lawful controls (g.G.GroupKind.controls c.read-whole.result) c.args.stride.now c.args.cap c.args.tag c.args.pos accept _ (g.G.Mask.Marks.places c.match_byte.result) (one g (goal.at.returns-in-Some-clause-outcome g c).After-match_byte) c.read-whole.ensures e c.match_byte.ensures
+    (c.in-Some.ensures.first accept (λ b r marked returned. compares b r (whole_is_shown g (goal.at.returns-in-Some-clause-outcome g c).After-match_byte b marked) returned))
 
-pub returns-then-any_bit_set-clause-seen : goal.returns-then-any_bit_set-clause-seen
-returns-then-any_bit_set-clause-seen g c = λ controls e accept answers.
-    let s = whole_none g.G.GroupKind.kind g.met.G.GroupKind.lawful controls (g.G.GroupKind.controls c.read-whole.result) c.args.stride.now c.args.cap c.args.tag c.args.pos accept c.any_bit_set.result (g.G.Mask.Marks.places c.match_byte.result) (g.G.Mask.Marks.places c.match_empty.result) (one g (goal.at.returns-then-any_bit_set-clause-seen g c).After-match_byte) c.read-whole.ensures e
-    c.match_byte.ensures (c.in-None.ensures.first accept (λ b r marked told. answers b r (whole_is_shown g (goal.at.returns-then-any_bit_set-clause-seen g c).After-match_byte b marked) told)) c.match_empty.ensures c.any_bit_set.ensures in
+pub returns-then-any_bit_set-clause-outcome : goal.returns-then-any_bit_set-clause-outcome
+returns-then-any_bit_set-clause-outcome g c = λ controls e accept compares.
+    let s = whole_none g.G.GroupKind.kind g.met.G.GroupKind.lawful controls (g.G.GroupKind.controls c.read-whole.result) c.args.stride.now c.args.cap c.args.tag c.args.pos accept c.any_bit_set.result (g.G.Mask.Marks.places c.match_byte.result) (g.G.Mask.Marks.places c.match_empty.result) (one g (goal.at.returns-then-any_bit_set-clause-outcome g c).After-match_byte) c.read-whole.ensures e
+    c.match_byte.ensures (c.in-None.ensures.first accept (λ b r marked returned. compares b r (whole_is_shown g (goal.at.returns-then-any_bit_set-clause-outcome g c).After-match_byte b marked) returned)) c.match_empty.ensures c.any_bit_set.ensures in
     (s.0, s.1 ∙ c.if-any_bit_set.true)
 
-pub returns-else-any_bit_set-clause-seen : goal.returns-else-any_bit_set-clause-seen
-returns-else-any_bit_set-clause-seen g c = λ controls e accept answers.
-    let s = whole_none g.G.GroupKind.kind g.met.G.GroupKind.lawful controls (g.G.GroupKind.controls c.read-whole.result) c.args.stride.now c.args.cap c.args.tag c.args.pos accept c.any_bit_set.result (g.G.Mask.Marks.places c.match_byte.result) (g.G.Mask.Marks.places c.match_empty.result) (one g (goal.at.returns-else-any_bit_set-clause-seen g c).After-match_byte) c.read-whole.ensures e
-    c.match_byte.ensures (c.in-None.ensures.first accept (λ b r marked told. answers b r (whole_is_shown g (goal.at.returns-else-any_bit_set-clause-seen g c).After-match_byte b marked) told)) c.match_empty.ensures c.any_bit_set.ensures in
+pub returns-else-any_bit_set-clause-outcome : goal.returns-else-any_bit_set-clause-outcome
+returns-else-any_bit_set-clause-outcome g c = λ controls e accept compares.
+    let s = whole_none g.G.GroupKind.kind g.met.G.GroupKind.lawful controls (g.G.GroupKind.controls c.read-whole.result) c.args.stride.now c.args.cap c.args.tag c.args.pos accept c.any_bit_set.result (g.G.Mask.Marks.places c.match_byte.result) (g.G.Mask.Marks.places c.match_empty.result) (one g (goal.at.returns-else-any_bit_set-clause-outcome g c).After-match_byte) c.read-whole.ensures e
+    c.match_byte.ensures (c.in-None.ensures.first accept (λ b r marked returned. compares b r (whole_is_shown g (goal.at.returns-else-any_bit_set-clause-outcome g c).After-match_byte b marked) returned)) c.match_empty.ensures c.any_bit_set.ensures in
     (s.0, s.1 ∙ c.if-any_bit_set.false)

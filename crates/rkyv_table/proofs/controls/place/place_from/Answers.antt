@@ -3,15 +3,15 @@ use Rattle.std.specs.List.{find}
 use Rattle.std.proofs.lemmas.Bool.{le-leb}
 use Rattle.rkyv_table.specs.Controls.ControlBytes.{is_empty_at, with_control}
 use Rattle.rkyv_table.specs.Controls.Numbers.{tag}
-use Rattle.rkyv_table.specs.Controls.Probe.{shown}
+use Rattle.rkyv_table.specs.Controls.Probe.{probed}
 use Rattle.rkyv_table.proofs.Coverage.{stride_below}
 use Rattle.rkyv_table.proofs.FirstFree.{some_shown, none_shown, begun, passes_on, first_at, later_started, member_front, member_rest, runs_out, empty_place_is, one_write}
 use Rattle.rkyv_table.proofs.controls.place.place_from.Goals as goal
 use Rattle.rkyv_table.proofs.controls.place.place_from.Goals.{In-Some-first_empty}
 
--- the first empty index is that of the first shown bucket whose control byte is empty
+-- the first empty index is that of the first probed bucket whose control byte is empty
 found_here : (g : _) (c : In-Some-first_empty g)
-    → (c.in-Some-first_empty.place < 2 * c.args.cap) × (find (is_empty_at c.args.controls.now) (shown c.args.hash c.args.cap) ≡ Some (c.in-Some-first_empty.place % c.args.cap))
+    → (c.in-Some-first_empty.place < 2 * c.args.cap) × (find (is_empty_at c.args.controls.now) (probed c.args.hash c.args.cap) ≡ Some (c.in-Some-first_empty.place % c.args.cap))
 found_here g c =
     let h = c.args.hash in
     let cap' = c.args.cap in

@@ -2,13 +2,13 @@ use Rattle.std.proofs.Common.{◌≡◌, ◌⊎◌, ℕ, length, eqb, true, fals
 use Rattle.std.specs.List.{find, flat_map, list_any}
 use Rattle.rkyv_table.specs.Controls.ControlBytes.{is_empty_at}
 use Rattle.rkyv_table.specs.Controls.Numbers.{start}
-use Rattle.rkyv_table.specs.Controls.Probe.{strides, shown, buckets_at}
+use Rattle.rkyv_table.specs.Controls.Probe.{strides, probed, buckets_at}
 use Rattle.rkyv_table.proofs.controls.place.place_from.Given as goal
 
 abbrev pub invariant-loop-pos : goal.invariant-loop-pos
 invariant-loop-pos g l = record {
   kept : l.controls ≡ l.initial.controls;
-  same : find (is_empty_at l.controls) (shown l.hash l.cap) ≡ find (is_empty_at l.controls) (flat_map (buckets_at l.cap) (l.pos-iterator));
+  same : find (is_empty_at l.controls) (probed l.hash l.cap) ≡ find (is_empty_at l.controls) (flat_map (buckets_at l.cap) (l.pos-iterator));
   members : (p : ℕ) → list_any (eqb p) (l.pos-iterator) ≡ true → list_any (eqb p) (strides l.hash l.cap) ≡ true;
   started : (l.pos-iterator ≡ strides l.hash l.cap) ⊎ (list_any (is_empty_at l.controls) (buckets_at l.cap (start l.hash l.cap)) ≡ false);
 }

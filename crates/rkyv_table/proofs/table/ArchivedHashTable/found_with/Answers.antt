@@ -1,6 +1,6 @@
 use Rattle.std.proofs.Common.{◌∙◌, refl, ap, arith, length, Some, None}
 use Rattle.rkyv_scan.specs.Groups.{generic_kind}
-use Rattle.rkyv_table.proofs.Bare.{item_at_found, looks_up_none, looks_up_some, may_ask}
+use Rattle.rkyv_table.proofs.Bare.{item_at_found, looks_up_none, looks_up_some, can_compare}
 use Rattle.rkyv_table.proofs.table.ArchivedHashTable.found_with.Goals as goal
 
 pub get_pos_with-requires : goal.get_pos_with-requires
@@ -8,7 +8,7 @@ get_pos_with-requires g c κs =
     let bytes = ap (λ v. v.archive.now) c.of-table.ensures.view ∙ ap (λ v. v.now) c.new.ensures.0 in
     let place = ap (λ v. v.pos) c.of-table.ensures.view ∙ c.new.ensures.1 in (
       (refl, tt),
-      may_ask c.args.archive.now c.args.pos c.of-table.result bytes place _ c.requires.callable,
+      can_compare c.args.archive.now c.args.pos c.of-table.result bytes place _ c.requires.callable,
     )
 
 pub lend_seal-requires : goal.lend_seal-requires

@@ -1,6 +1,6 @@
 use Rattle.std.proofs.Common.{refl, ap, ◌∙◌, ◌+◌, ◌≤◌, length, Some, None}
 use Rattle.rkyv_table.specs.Table.SealedLookup.{IsReadAt}
-use Rattle.rkyv_table.proofs.Bare.{may_ask}
+use Rattle.rkyv_table.proofs.Bare.{can_compare}
 use Rattle.rkyv_table.proofs.SealedLookup.{item_seal, place_viewable, seals_first, seals_found}
 use Rattle.rkyv_table.proofs.table.ArchivedHashTable.get_seal_with.Goals as goal
 
@@ -8,7 +8,7 @@ pub get_pos_with-requires : goal.get_pos_with-requires
 get_pos_with-requires g c κs =
     let read : IsReadAt c.args.this c.of.result = (ap (λ v. v.archive.now) c.of.ensures.view ∙ c.as_view.ensures.bytes, ap (λ v. v.pos) c.of.ensures.view ∙ c.as_view.ensures.pos) in (
       (refl, tt),
-      may_ask _ _ c.of.result read.0 read.1 _ c.requires.callable,
+      can_compare _ _ c.of.result read.0 read.1 _ c.requires.callable,
     )
 
 pub seal_at-requires : goal.seal_at-requires
@@ -31,12 +31,12 @@ returns-in-Some-clause-walked g c =
 pub returns-in-Some-clause-answer : goal.returns-in-Some-clause-answer
 returns-in-Some-clause-answer g c =
     let read : IsReadAt c.args.this c.of.result = (ap (λ v. v.archive.now) c.of.ensures.view ∙ c.as_view.ensures.bytes, ap (λ v. v.pos) c.of.ensures.view ∙ c.as_view.ensures.pos) in
-    λ accept answers. ap Some c.seal_at.ensures.at.place ∙ seals_found g.T.HasSpec.laws c.args.this c.of.result read c.requires.table _ c.args.hash (Some c.in-Some.pos) c.in-Some.ensures.answer accept answers
+    λ accept compares. ap Some c.seal_at.ensures.at.place ∙ seals_found g.T.HasSpec.laws c.args.this c.of.result read c.requires.table _ c.args.hash (Some c.in-Some.pos) c.in-Some.ensures.answer accept compares
 
 pub returns-in-Some-clause-first : goal.returns-in-Some-clause-first
 returns-in-Some-clause-first g c =
     let read : IsReadAt c.args.this c.of.result = (ap (λ v. v.archive.now) c.of.ensures.view ∙ c.as_view.ensures.bytes, ap (λ v. v.pos) c.of.ensures.view ∙ c.as_view.ensures.pos) in
-    λ hashes homes accept written answers under. ap Some c.seal_at.ensures.at.place ∙ seals_first g.T.HasSpec.laws c.args.this c.of.result read c.requires.table _ c.args.hash (Some c.in-Some.pos) c.in-Some.ensures.first hashes homes accept written answers under
+    λ hashes homes accept written compares under. ap Some c.seal_at.ensures.at.place ∙ seals_first g.T.HasSpec.laws c.args.this c.of.result read c.requires.table _ c.args.hash (Some c.in-Some.pos) c.in-Some.ensures.first hashes homes accept written compares under
 
 pub returns-clause-answer : goal.returns-clause-answer
 returns-clause-answer g c =

@@ -1,6 +1,6 @@
 use Rattle.std.proofs.Common.{refl, ap, not, ◌∙◌, ◌+◌, ℕ}
 use Rattle.rkyv_scan.specs.Groups.{generic_kind}
-use Rattle.rkyv_table.specs.Table.Misplaced.{is_answer}
+use Rattle.rkyv_table.specs.Table.Misplaced.{is_found_at}
 use Rattle.rkyv_table.specs.Table.Positions.{bucket_found, lookup_end}
 use Rattle.rkyv_table.specs.Table.Reading.{item_pos, table_bytes, table_pos}
 use Rattle.rkyv_table.proofs.ValidTable.{read_accepted, read_end, read_found, read_walked}
@@ -17,15 +17,15 @@ find_from-found-requires g c κs =
       callable = λ b full. ((refl, tt), (c.requires.item.walked, (read_walked g.T.HasSpec.laws c.args.self read c.controls.ensures b full, c.requires.comparable)));
     }
 
-pub returns-clause-tells : goal.returns-clause-tells
-returns-clause-tells g c = λ hash_of same hash_as same_as.
+pub returns-clause-exact : goal.returns-clause-exact
+returns-clause-exact g c = λ hash_of same hash_as same_as.
     let t = c.args.self in
     let at : ℕ → ℕ = item_pos t in
     c.finds_another_or_none.ensures
-    ∙ ap (λ o. not (is_answer c.args.bucket o))
+    ∙ ap (λ o. not (is_found_at c.args.bucket o))
     (c.find_from-found.ensures.answer (λ i. same (at c.args.bucket) (at i)) (λ b r full. own_answer _ t c.args.bucket same same_as b r)
     ∙ read_found g.T.HasSpec.laws t _ c.controls.ensures generic_kind c.hash_of-hash.result (λ i. same (at c.args.bucket) (at i)))
-    ∙ ap (λ h. not (is_answer c.args.bucket (bucket_found generic_kind g.W.Word.word g.T.HasSpec.spec.size (table_bytes t) (table_pos t) h (same (at c.args.bucket)))))
+    ∙ ap (λ h. not (is_found_at c.args.bucket (bucket_found generic_kind g.W.Word.word g.T.HasSpec.spec.size (table_bytes t) (table_pos t) h (same (at c.args.bucket)))))
     (hash_is t _ c.args.bucket c.hash_of-hash.result c.args.item c.requires.item c.hash_of-hash.ensures hash_of hash_as)
 
 pub returns-clause-counts : goal.returns-clause-counts

@@ -28,7 +28,7 @@ loop-bucket-init g c =
       walked = subst (All (IsWalked w b p)) (sym e) (walked_all w s g.T.HasSpec.laws b p);
       counted = omega arith;
       few = omega (arith, l, all);
-      told = λ hash_of same hash_as same_as.
+      counting = λ hash_of same hash_as same_as.
           zero-add _ ∙ ap (λ xs. length (filter (bucket_misplaced generic_kind c.args.self hash_of same) xs)) e;
     }
 
@@ -55,8 +55,8 @@ loop-bucket-preserved-then-is_misplaced g c =
       walked = rest g at.In-Some;
       counted = omega arith;
       few = omega (arith, l, c.loop-bucket.invariant.few);
-      told = counted_one c.args.self _ _ c.loop-bucket.count c.in-Some.bucket c.loop-bucket.bucket-iterator c.next.new.self c.in-Some.ensures.steps c.is_misplaced.result
-          c.is_misplaced.ensures.tells c.loop-bucket.invariant.told c.if-is_misplaced.true;
+      counting = counted_one c.args.self _ _ c.loop-bucket.count c.in-Some.bucket c.loop-bucket.bucket-iterator c.next.new.self c.in-Some.ensures.steps c.is_misplaced.result
+          c.is_misplaced.ensures.exact c.loop-bucket.invariant.counting c.if-is_misplaced.true;
     }
 
 pub loop-bucket-preserved : goal.loop-bucket-preserved
@@ -68,16 +68,16 @@ loop-bucket-preserved g c =
       walked = rest g at.In-Some;
       counted = omega arith;
       few = omega (arith, l, c.loop-bucket.invariant.few);
-      told = counted_none c.args.self _ _ c.loop-bucket.count c.in-Some.bucket c.loop-bucket.bucket-iterator c.next.new.self c.in-Some.ensures.steps c.is_misplaced.result
-          c.is_misplaced.ensures.tells c.loop-bucket.invariant.told c.if-is_misplaced.false;
+      counting = counted_none c.args.self _ _ c.loop-bucket.count c.in-Some.bucket c.loop-bucket.bucket-iterator c.next.new.self c.in-Some.ensures.steps c.is_misplaced.result
+          c.is_misplaced.ensures.exact c.loop-bucket.invariant.counting c.if-is_misplaced.false;
     }
 
 pub returns-clause-counts : goal.returns-clause-counts
 returns-clause-counts g c = λ hash_of same hash_as same_as.
     let Q = bucket_misplaced generic_kind c.args.self hash_of same in
     let n = ap (λ xs. length (filter Q xs)) c.in-None.ensures.steps.0 in
-    let told = c.loop-bucket.invariant.told hash_of same hash_as same_as in
-    omega (arith, n, told)
+    let counting = c.loop-bucket.invariant.counting hash_of same hash_as same_as in
+    omega (arith, n, counting)
 
 pub returns-clause-within : goal.returns-clause-within
 returns-clause-within g c = omega (arith, c.loop-bucket.invariant.few)

@@ -28,7 +28,7 @@ loop-bucket-init g c =
       walked = subst (All (IsWalked w b p)) (sym e) (walked_all w s g.T.HasSpec.laws b p);
       counted = omega arith;
       few = omega (arith, l, all);
-      told = λ hash_of same hash_as same_as.
+      counting = λ hash_of same hash_as same_as.
           zero-add _ ∙ ap (λ xs. length (filter (bucket_misplaced generic_kind c.args.self hash_of same) xs)) e;
       spent = λ hash_of same hash_as same_as.
           let f = bucket_strides generic_kind c.args.self hash_of same in
@@ -75,8 +75,8 @@ loop-bucket-preserved-then-is_misplaced g c =
       walked = rest g at.In-Some;
       counted = omega arith;
       few = omega (arith, l, c.loop-bucket.invariant.few);
-      told = counted_one c.args.self _ _ c.loop-bucket.misplaced c.in-Some.bucket c.loop-bucket.bucket-iterator c.next.new.self c.in-Some.ensures.steps c.is_misplaced-is_misplaced.result
-          c.is_misplaced-is_misplaced.ensures.tells c.loop-bucket.invariant.told c.if-is_misplaced.true;
+      counting = counted_one c.args.self _ _ c.loop-bucket.misplaced c.in-Some.bucket c.loop-bucket.bucket-iterator c.next.new.self c.in-Some.ensures.steps c.is_misplaced-is_misplaced.result
+          c.is_misplaced-is_misplaced.ensures.exact c.loop-bucket.invariant.counting c.if-is_misplaced.true;
       spent = spent g at.After-is_misplaced-is_misplaced;
       within = omega (arith, reads_on _ _ _ _ c.is_misplaced-is_misplaced.ensures.counts.bounded, c.loop-bucket.invariant.within, c.count.ensures, c.is_past.ensures.within c.if-is_past.false);
     }
@@ -90,8 +90,8 @@ loop-bucket-preserved g c =
       walked = rest g at.In-Some;
       counted = omega arith;
       few = omega (arith, l, c.loop-bucket.invariant.few);
-      told = counted_none c.args.self _ _ c.loop-bucket.misplaced c.in-Some.bucket c.loop-bucket.bucket-iterator c.next.new.self c.in-Some.ensures.steps c.is_misplaced-is_misplaced.result
-          c.is_misplaced-is_misplaced.ensures.tells c.loop-bucket.invariant.told c.if-is_misplaced.false;
+      counting = counted_none c.args.self _ _ c.loop-bucket.misplaced c.in-Some.bucket c.loop-bucket.bucket-iterator c.next.new.self c.in-Some.ensures.steps c.is_misplaced-is_misplaced.result
+          c.is_misplaced-is_misplaced.ensures.exact c.loop-bucket.invariant.counting c.if-is_misplaced.false;
       spent = spent g at.After-is_misplaced-is_misplaced;
       within = omega (arith, reads_on _ _ _ _ c.is_misplaced-is_misplaced.ensures.counts.bounded, c.loop-bucket.invariant.within, c.count.ensures, c.is_past.ensures.within c.if-is_past.false);
     }
@@ -100,11 +100,11 @@ pub returns-clause-counts : goal.returns-clause-counts
 returns-clause-counts g c = λ hash_of same hash_as same_as.
     let none = c.in-None.ensures.steps.0 in
     let n = ap (λ xs. length (filter (bucket_misplaced generic_kind c.args.self hash_of same) xs)) none in
-    let told = c.loop-bucket.invariant.told hash_of same hash_as same_as in
+    let counting = c.loop-bucket.invariant.counting hash_of same hash_as same_as in
     let rest = ap (sum_by (bucket_strides generic_kind c.args.self hash_of same)) none in
     let spent = c.loop-bucket.invariant.spent hash_of same hash_as same_as in
     let most = c.loop-bucket.invariant.within.1 in
-    (omega (arith, rest, spent, most), omega (arith, n, told))
+    (omega (arith, rest, spent, most), omega (arith, n, counting))
 
 pub returns-clause-within : goal.returns-clause-within
 returns-clause-within g c = omega (arith, c.loop-bucket.invariant.few)

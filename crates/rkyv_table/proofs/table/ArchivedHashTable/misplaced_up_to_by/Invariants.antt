@@ -12,7 +12,7 @@ invariant-loop-bucket g l = record {
   walked : All (IsWalked g.W.Word.word (table_bytes l.fn.self) (table_pos l.fn.self)) l.bucket-iterator;
   counted : l.misplaced + length l.bucket-iterator ≤ cap_at g.W.Word.word (table_bytes l.fn.self) (table_pos l.fn.self);
   few : l.misplaced + length l.bucket-iterator ≤ table_len l.fn.self;
-  told : Counting l.fn.self (goal.H-post g l.fn.hash_of) (goal.S-post g l.fn.same) l.misplaced l.bucket-iterator;
+  counting : Counting l.fn.self (goal.H-post g l.fn.hash_of) (goal.S-post g l.fn.same) l.misplaced l.bucket-iterator;
   spent : Spending l.fn.self (goal.H-post g l.fn.hash_of) (goal.S-post g l.fn.same) l.before l.strides l.bucket-iterator;
   within : (l.before ≤ l.strides) × (l.strides ≤ l.before + l.limit) × (l.strides ≤ 2 ^ 63);
 }

@@ -6,6 +6,6 @@ pub returns-then-len-eq0 : goal.returns-then-len-eq0
 returns-then-len-eq0 g c = record {
   distance = pos 1;
   fits = by_archive_word (λ w. FitsSigned w (pos 1)) (search rules) (search rules) g.W.Word.word g.met.W.Width.layout.kind;
-  told = inl (c.if-len-eq0.true, refl);
+  distance_value = inl (c.if-len-eq0.true, refl);
   is = rw c.if-len-eq0.true c.write_header.ensures;
 }

@@ -1,7 +1,7 @@
 use Rattle.std.proofs.Common.{◌≡◌, ◌∙◌, ◌+◌, ◌≤◌, ◌∷◌, List, ap, arith, drop, ℕ, sym}
 use Rattle.std.proofs.lemmas.Result.{err_from_is_err_and}
 use Rattle.rkyv_table.specs.Controls.Walking.{full_from}
-use Rattle.rkyv_table.proofs.ItemSteps.{Goes, below_head, below_rest, fewer, goes_end, goes_fails, goes_init, goes_same, goes_small, goes_step, marks_and_rest, marks_below, rest_group, rest_head, rest_none}
+use Rattle.rkyv_table.proofs.ItemSteps.{IsPartlyChecked, below_head, below_rest, fewer, checked_end, checked_fails, checked_init, checked_same, checked_small, checked_step, marks_and_rest, marks_below, rest_group, rest_head, rest_none}
 use Rattle.rkyv_table.proofs.Search.{width_some}
 use Rattle.rkyv_table.proofs.SealedItems.{full_end, full_skipped, full_taken}
 use Rattle.rkyv_table.proofs.table.verify.check_items.Goals as goal
@@ -10,7 +10,7 @@ use Rattle.rkyv_table.proofs.table.verify.check_items.Goals.{In-Some, then-contr
 pub loop-base-init : goal.loop-base-init
 loop-base-init g c = record {
   below = omega arith;
-  goes = goes_init g.T.HasSpec.spec c.args.begin c.args.cap c.args.bytes.now c.args.controls.now c.args.lo c.requires.ordered;
+  checked = checked_init g.T.HasSpec.spec c.args.begin c.args.cap c.args.bytes.now c.args.controls.now c.args.lo c.requires.ordered;
 }
 
 pub loop-j-init : goal.loop-j-init
@@ -26,8 +26,8 @@ loop-j-init g c =
     record {
       inside = inside;
       below = marks_below shows w marks c.match_full-marks.ensures;
-      goes = goes_same g.T.HasSpec.spec c.args.begin c.args.cap c.args.bytes.now c.args.controls.now c.args.lo (full_from c.args.controls.now c.args.cap b) (marks_and_rest c.args.controls.now c.args.cap b w marks) c.loop-base.low c.loop-base.count
-          (rest_group c.args.controls.now shows c.args.cap b w marks inside c.read.ensures c.match_full-marks.ensures) c.loop-base.invariant.goes;
+      checked = checked_same g.T.HasSpec.spec c.args.begin c.args.cap c.args.bytes.now c.args.controls.now c.args.lo (full_from c.args.controls.now c.args.cap b) (marks_and_rest c.args.controls.now c.args.cap b w marks) c.loop-base.low c.loop-base.count
+          (rest_group c.args.controls.now shows c.args.cap b w marks inside c.read.ensures c.match_full-marks.ensures) c.loop-base.invariant.checked;
     }
 
 -- a marked bucket
@@ -35,9 +35,9 @@ module _ (g : _) (c : In-Some g) where
   abbrev rest : List ℕ
   rest = marks_and_rest c.args.controls.now c.args.cap c.loop-base.base g.G.GroupKind.kind.width (drop 1 (g.G.Mask.Marks.places c.loop-j.marks))
 
-  here : Goes g.T.HasSpec.spec c.args.begin c.args.cap c.args.bytes.now c.args.controls.now c.args.lo ((c.loop-base.base + c.in-Some.j) ∷ rest) c.loop-j.low c.loop-j.count
-  here = goes_same g.T.HasSpec.spec c.args.begin c.args.cap c.args.bytes.now c.args.controls.now c.args.lo _ _ c.loop-j.low c.loop-j.count
-      (rest_head c.args.controls.now c.args.cap c.loop-base.base g.G.GroupKind.kind.width c.in-Some.j (g.G.Mask.Marks.places c.loop-j.marks) c.in-Some.ensures) c.loop-j.invariant.goes
+  here : IsPartlyChecked g.T.HasSpec.spec c.args.begin c.args.cap c.args.bytes.now c.args.controls.now c.args.lo ((c.loop-base.base + c.in-Some.j) ∷ rest) c.loop-j.low c.loop-j.count
+  here = checked_same g.T.HasSpec.spec c.args.begin c.args.cap c.args.bytes.now c.args.controls.now c.args.lo _ _ c.loop-j.low c.loop-j.count
+      (rest_head c.args.controls.now c.args.cap c.loop-base.base g.G.GroupKind.kind.width c.in-Some.j (g.G.Mask.Marks.places c.loop-j.marks) c.in-Some.ensures) c.loop-j.invariant.checked
 
 pub overflow_add-base : goal.overflow_add-base
 overflow_add-base g c =
@@ -56,20 +56,20 @@ pub returns-in_err-low-clause-fails : goal.returns-in_err-low-clause-fails
 returns-in_err-low-clause-fails g c =
     let arm = (goal.at.returns-in_err-low-clause-fails g c).In-Some in
     let p = err_from_is_err_and c.from_residual.result c.from_residual.ensures.1 in
-    rw (p.1, p.2) (goes_fails g.T.HasSpec.spec c.args.begin c.args.cap c.args.bytes.now c.args.controls.now c.args.lo (c.loop-base.base + c.in-Some.j) (rest g arm) c.loop-j.low c.loop-j.count c.in_err-low.field-0.0 (here g arm) c.in_err-low.ensures)
+    rw (p.1, p.2) (checked_fails g.T.HasSpec.spec c.args.begin c.args.cap c.args.bytes.now c.args.controls.now c.args.lo (c.loop-base.base + c.in-Some.j) (rest g arm) c.loop-j.low c.loop-j.count c.in_err-low.field-0.0 (here g arm) c.in_err-low.ensures)
 
 pub overflow_add-count : goal.overflow_add-count
 overflow_add-count g c =
     let arm = (goal.at.overflow_add-count g c).In-Some in
-    let small = goes_small g.T.HasSpec.spec c.args.begin c.args.cap c.args.bytes.now c.args.controls.now c.args.lo (c.loop-base.base + c.in-Some.j) (rest g arm) c.loop-j.low c.loop-j.count (here g arm) in
+    let small = checked_small g.T.HasSpec.spec c.args.begin c.args.cap c.args.bytes.now c.args.controls.now c.args.lo (c.loop-base.base + c.in-Some.j) (rest g arm) c.loop-j.low c.loop-j.count (here g arm) in
     let r = c.ranges.cap.fits in
     record { fits = omega arith }
 
 pub loop-j-preserved : goal.loop-j-preserved
 loop-j-preserved g c =
     let arm = (goal.at.loop-j-preserved g c).In-Some in
-    let step = goes_step g.T.HasSpec.spec c.args.begin c.args.cap c.args.bytes.now c.args.controls.now c.args.lo (c.loop-base.base + c.in-Some.j) (rest g arm) c.loop-j.low c.loop-j.count c.in_ok-low.low (here g arm) c.in_ok-low.ensures.1 c.in_ok-low.ensures.2 in
-    rw c.remove_lowest_bit-marks.ensures (record { inside = c.loop-j.invariant.inside; below = below_rest g.G.GroupKind.kind.width (g.G.Mask.Marks.places c.loop-j.marks) c.loop-j.invariant.below; goes = step })
+    let step = checked_step g.T.HasSpec.spec c.args.begin c.args.cap c.args.bytes.now c.args.controls.now c.args.lo (c.loop-base.base + c.in-Some.j) (rest g arm) c.loop-j.low c.loop-j.count c.in_ok-low.low (here g arm) c.in_ok-low.ensures.1 c.in_ok-low.ensures.2 in
+    rw c.remove_lowest_bit-marks.ensures (record { inside = c.loop-j.invariant.inside; below = below_rest g.G.GroupKind.kind.width (g.G.Mask.Marks.places c.loop-j.marks) c.loop-j.invariant.below; checked = step })
 
 pub loop-j-smaller : goal.loop-j-smaller
 loop-j-smaller g c = rw c.remove_lowest_bit-marks.ensures (fewer (g.G.Mask.Marks.places c.loop-j.marks) c.in-Some.j c.in-Some.ensures)
@@ -82,8 +82,8 @@ loop-base-preserved g c =
     let i = c.loop-j.invariant.inside in
     record {
       below = omega arith;
-      goes = goes_same g.T.HasSpec.spec c.args.begin c.args.cap c.args.bytes.now c.args.controls.now c.args.lo _ _ c.loop-j.low c.loop-j.count
-          (rest_none c.args.controls.now c.args.cap b w (g.G.Mask.Marks.places c.loop-j.marks) c.in_default.ensures ∙ ap (λ z. full_from c.args.controls.now c.args.cap (b + z)) (sym e)) c.loop-j.invariant.goes;
+      checked = checked_same g.T.HasSpec.spec c.args.begin c.args.cap c.args.bytes.now c.args.controls.now c.args.lo _ _ c.loop-j.low c.loop-j.count
+          (rest_none c.args.controls.now c.args.cap b w (g.G.Mask.Marks.places c.loop-j.marks) c.in_default.ensures ∙ ap (λ z. full_from c.args.controls.now c.args.cap (b + z)) (sym e)) c.loop-j.invariant.checked;
     }
 
 pub loop-base-smaller : goal.loop-base-smaller
@@ -96,17 +96,17 @@ loop-base-smaller g c =
 pub returns-in_err-low-2-clause-fails : goal.returns-in_err-low-2-clause-fails
 returns-in_err-low-2-clause-fails g c =
     let i = c.loop-bucket.bucket in
-    let here = goes_same g.T.HasSpec.spec c.args.begin c.args.cap c.args.bytes.now c.args.controls.now c.args.lo _ _ c.loop-bucket.low c.loop-bucket.count
-    (full_taken c.args.controls.now c.args.cap i c.loop-bucket-test.true c.if-controls-bucket-lt128.true) c.loop-bucket.invariant.goes in
+    let here = checked_same g.T.HasSpec.spec c.args.begin c.args.cap c.args.bytes.now c.args.controls.now c.args.lo _ _ c.loop-bucket.low c.loop-bucket.count
+    (full_taken c.args.controls.now c.args.cap i c.loop-bucket-test.true c.if-controls-bucket-lt128.true) c.loop-bucket.invariant.checked in
     let p = err_from_is_err_and c.from_residual-in_err-low-2.result c.from_residual-in_err-low-2.ensures.1 in
-    rw (p.1, p.2) (goes_fails g.T.HasSpec.spec c.args.begin c.args.cap c.args.bytes.now c.args.controls.now c.args.lo i (full_from c.args.controls.now c.args.cap (i + 1)) c.loop-bucket.low c.loop-bucket.count c.in_err-low-2.field-0.0 here c.in_err-low-2.ensures)
+    rw (p.1, p.2) (checked_fails g.T.HasSpec.spec c.args.begin c.args.cap c.args.bytes.now c.args.controls.now c.args.lo i (full_from c.args.controls.now c.args.cap (i + 1)) c.loop-bucket.low c.loop-bucket.count c.in_err-low-2.field-0.0 here c.in_err-low-2.ensures)
 
 pub overflow_add-count-then-controls-bucket-lt128 : goal.overflow_add-count-then-controls-bucket-lt128
 overflow_add-count-then-controls-bucket-lt128 g c =
     let i = c.loop-bucket.bucket in
-    let here = goes_same g.T.HasSpec.spec c.args.begin c.args.cap c.args.bytes.now c.args.controls.now c.args.lo _ _ c.loop-bucket.low c.loop-bucket.count
-    (full_taken c.args.controls.now c.args.cap i c.loop-bucket-test.true c.if-controls-bucket-lt128.true) c.loop-bucket.invariant.goes in
-    let small = goes_small g.T.HasSpec.spec c.args.begin c.args.cap c.args.bytes.now c.args.controls.now c.args.lo i (full_from c.args.controls.now c.args.cap (i + 1)) c.loop-bucket.low c.loop-bucket.count here in
+    let here = checked_same g.T.HasSpec.spec c.args.begin c.args.cap c.args.bytes.now c.args.controls.now c.args.lo _ _ c.loop-bucket.low c.loop-bucket.count
+    (full_taken c.args.controls.now c.args.cap i c.loop-bucket-test.true c.if-controls-bucket-lt128.true) c.loop-bucket.invariant.checked in
+    let small = checked_small g.T.HasSpec.spec c.args.begin c.args.cap c.args.bytes.now c.args.controls.now c.args.lo i (full_from c.args.controls.now c.args.cap (i + 1)) c.loop-bucket.low c.loop-bucket.count here in
     let r = c.ranges.cap.fits in
     record { fits = omega arith }
 
@@ -117,15 +117,15 @@ loop-bucket-preserved g c =
     let rest : List ℕ = full_from c.args.controls.now c.args.cap (i + 1) in
     record {
       below = c.loop-bucket.invariant.below;
-      goes = elim c.if-controls-bucket-lt128.branch [
+      checked = elim c.if-controls-bucket-lt128.branch [
         | then-controls-bucket-lt128+in_ok-low-2 w ↦
-            let here = goes_same s c.args.begin c.args.cap c.args.bytes.now c.args.controls.now c.args.lo _ _ c.loop-bucket.low c.loop-bucket.count
-            (full_taken c.args.controls.now c.args.cap i c.loop-bucket-test.true w.if-controls-bucket-lt128.true) c.loop-bucket.invariant.goes in
-            let step = goes_step s c.args.begin c.args.cap c.args.bytes.now c.args.controls.now c.args.lo i rest c.loop-bucket.low c.loop-bucket.count w.in_ok-low-2.low here w.in_ok-low-2.ensures.1 w.in_ok-low-2.ensures.2 in
+            let here = checked_same s c.args.begin c.args.cap c.args.bytes.now c.args.controls.now c.args.lo _ _ c.loop-bucket.low c.loop-bucket.count
+            (full_taken c.args.controls.now c.args.cap i c.loop-bucket-test.true w.if-controls-bucket-lt128.true) c.loop-bucket.invariant.checked in
+            let step = checked_step s c.args.begin c.args.cap c.args.bytes.now c.args.controls.now c.args.lo i rest c.loop-bucket.low c.loop-bucket.count w.in_ok-low-2.low here w.in_ok-low-2.ensures.1 w.in_ok-low-2.ensures.2 in
             rw (w.low-is, w.count-is) step
         | else-controls-bucket-lt128 w ↦
-            let here = goes_same s c.args.begin c.args.cap c.args.bytes.now c.args.controls.now c.args.lo _ _ c.loop-bucket.low c.loop-bucket.count
-            (full_skipped c.args.controls.now c.args.cap i c.loop-bucket-test.true w.if-controls-bucket-lt128.false) c.loop-bucket.invariant.goes in
+            let here = checked_same s c.args.begin c.args.cap c.args.bytes.now c.args.controls.now c.args.lo _ _ c.loop-bucket.low c.loop-bucket.count
+            (full_skipped c.args.controls.now c.args.cap i c.loop-bucket-test.true w.if-controls-bucket-lt128.false) c.loop-bucket.invariant.checked in
             rw (w.low-is, w.count-is) here
       ];
     }
@@ -133,11 +133,11 @@ loop-bucket-preserved g c =
 pub returns-clause-hold : goal.returns-clause-hold
 returns-clause-hold g c =
     let e = full_end c.args.controls.now c.args.cap c.loop-bucket.bucket c.loop-bucket-test.false in
-    (goes_end g.T.HasSpec.spec c.args.begin c.args.cap c.args.bytes.now c.args.controls.now c.args.lo c.loop-bucket.low c.loop-bucket.count
-    (goes_same g.T.HasSpec.spec c.args.begin c.args.cap c.args.bytes.now c.args.controls.now c.args.lo _ _ c.loop-bucket.low c.loop-bucket.count e c.loop-bucket.invariant.goes)).0
+    (checked_end g.T.HasSpec.spec c.args.begin c.args.cap c.args.bytes.now c.args.controls.now c.args.lo c.loop-bucket.low c.loop-bucket.count
+    (checked_same g.T.HasSpec.spec c.args.begin c.args.cap c.args.bytes.now c.args.controls.now c.args.lo _ _ c.loop-bucket.low c.loop-bucket.count e c.loop-bucket.invariant.checked)).0
 
 pub returns-clause-count : goal.returns-clause-count
 returns-clause-count g c =
     let e = full_end c.args.controls.now c.args.cap c.loop-bucket.bucket c.loop-bucket-test.false in
-    (goes_end g.T.HasSpec.spec c.args.begin c.args.cap c.args.bytes.now c.args.controls.now c.args.lo c.loop-bucket.low c.loop-bucket.count
-    (goes_same g.T.HasSpec.spec c.args.begin c.args.cap c.args.bytes.now c.args.controls.now c.args.lo _ _ c.loop-bucket.low c.loop-bucket.count e c.loop-bucket.invariant.goes)).1
+    (checked_end g.T.HasSpec.spec c.args.begin c.args.cap c.args.bytes.now c.args.controls.now c.args.lo c.loop-bucket.low c.loop-bucket.count
+    (checked_same g.T.HasSpec.spec c.args.begin c.args.cap c.args.bytes.now c.args.controls.now c.args.lo _ _ c.loop-bucket.low c.loop-bucket.count e c.loop-bucket.invariant.checked)).1

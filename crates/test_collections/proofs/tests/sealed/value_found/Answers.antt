@@ -6,14 +6,14 @@ use Rattle.rkyv_base.specs.Entry.{entry_spec}
 use Rattle.rkyv_base.specs.Sealing.{value_pos}
 use Rattle.rkyv_table.specs.Table.Positions.{pos_found}
 use Rattle.rkyv_collections.specs.Map.MapSpec.{IsKeyPosAt}
-use Rattle.test_collections.proofs.Views.{told_of_view}
+use Rattle.test_collections.proofs.Views.{view_transport}
 use Rattle.test_collections.proofs.tests.sealed.value_found.Goals as goal
 
 pub returns-in-Some-clause-walked : goal.returns-in-Some-clause-walked
 returns-in-Some-clause-walked g c =
     let is = c.in-Some.ensures.walked in
-    let told = told_of_view c.of-map.result c.new.result c.args.bytes c.args.root c.of-map.ensures.view c.new.ensures.0 c.new.ensures.1 in
-    (is.key, told (λ d r. IsKeyPosAt g.W.Word.word g.K.HasSpec.spec g.V.HasSpec.spec d r is.key) is.walked, c.pos.ensures ∙ is.at.1)
+    let transport = view_transport c.of-map.result c.new.result c.args.bytes c.args.root c.of-map.ensures.view c.new.ensures.0 c.new.ensures.1 in
+    (is.key, transport (λ d r. IsKeyPosAt g.W.Word.word g.K.HasSpec.spec g.V.HasSpec.spec d r is.key) is.walked, c.pos.ensures ∙ is.at.1)
 
 pub returns-in-Some-clause-answer : goal.returns-in-Some-clause-answer
 returns-in-Some-clause-answer g c =
@@ -21,7 +21,7 @@ returns-in-Some-clause-answer g c =
     let v = g.V.HasSpec.spec in
     let hash = hash_of_calls g.H.KeyHasher.hasher (g.Q.KeyHash.calls c.args.key.now) in
     ap Some c.pos.ensures
-    ∙ told_of_view c.of-map.result c.new.result c.args.bytes c.args.root c.of-map.ensures.view c.new.ensures.0 c.new.ensures.1
+    ∙ view_transport c.of-map.result c.new.result c.args.bytes c.args.root c.of-map.ensures.view c.new.ensures.0 c.new.ensures.1
     (λ d r. Some c.in-Some.value.pos ≡ option_map (value_pos k v) (pos_found generic_kind g.W.Word.word (entry_spec k v).size d r hash (g.Q.Query.fits c.args.key.now d))) c.in-Some.ensures.answer
 
 pub returns-in-None-clause-answer : goal.returns-in-None-clause-answer
@@ -30,5 +30,5 @@ returns-in-None-clause-answer g c =
     let v = g.V.HasSpec.spec in
     let hash = hash_of_calls g.H.KeyHasher.hasher (g.Q.KeyHash.calls c.args.key.now) in
     let none : Option ℕ = None in
-    told_of_view c.of-map.result c.new.result c.args.bytes c.args.root c.of-map.ensures.view c.new.ensures.0 c.new.ensures.1
+    view_transport c.of-map.result c.new.result c.args.bytes c.args.root c.of-map.ensures.view c.new.ensures.0 c.new.ensures.1
     (λ d r. none ≡ option_map (value_pos k v) (pos_found generic_kind g.W.Word.word (entry_spec k v).size d r hash (g.Q.Query.fits c.args.key.now d))) c.in-None.ensures.answer

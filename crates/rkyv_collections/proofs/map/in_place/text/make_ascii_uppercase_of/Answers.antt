@@ -2,12 +2,12 @@ use Rattle.std.proofs.Common.{None, Some, ap, refl, subst}
 use Rattle.rkyv_scan.specs.Hash.{hash_of_calls}
 use Rattle.rkyv_base.specs.Text.{text_spec}
 use Rattle.rkyv_base.specs.Lemmas.Text.{text_element}
-use Rattle.rkyv_base.proofs.SealedText.{raised_holds, raised_sealed}
-use Rattle.rkyv_collections.specs.Map.InPlaceText.{RaisesFound}
+use Rattle.rkyv_base.proofs.SealedText.{uppercased_valid, uppercased_sealed}
+use Rattle.rkyv_collections.specs.Map.InPlaceText.{UppercasesFound}
 use Rattle.rkyv_collections.specs.Map.{hash_at}
 use Rattle.rkyv_collections.proofs.NestedWrites.{value_nested_at}
-use Rattle.rkyv_collections.proofs.RaisedTexts.{first_raised, none_raised}
-use Rattle.rkyv_collections.proofs.SealedMap.{tells_more}
+use Rattle.rkyv_collections.proofs.UppercaseTexts.{first_uppercased, none_uppercased}
+use Rattle.rkyv_collections.proofs.SealedMap.{satisfies_implied}
 use Rattle.rkyv_collections.proofs.ValueWrites.{map_kept_at}
 use Rattle.rkyv_collections.proofs.map.in_place.text.make_ascii_uppercase_of.Goals as goal
 
@@ -17,19 +17,19 @@ returns-in-Some-clause-answer g c =
     let key_hash = hash_at g.H.KeyHasher.hasher g.K.KeyElement.key_calls in
     let t = c.in-Some.ensures.walked in
     let raised = c.uppercase_at.ensures in
-    let sealed = raised_sealed w c.args.archive.now c.in-Some.pos c.in-Some.ensures.inside _ _ raised in
-    let holds = raised_holds w c.args.archive.now c.in-Some.pos c.in-Some.ensures.inside _ _ raised in
+    let sealed = uppercased_sealed w c.args.archive.now c.in-Some.pos c.in-Some.ensures.inside _ _ raised in
+    let is_valid = uppercased_valid w c.args.archive.now c.in-Some.pos c.in-Some.ensures.inside _ _ raised in
     let kept = map_kept_at g.K.HasSpec.spec (text_spec w) g.K.HasSpec.laws (text_element w g.met.W.Width.layout.kind) w key_hash
-    (λ x y q lo hi l o holds fixed part. ap (hash_of_calls g.H.KeyHasher.hasher) (g.met.K.KeyElement.key.local x y q lo hi l o holds fixed part))
-    c.args.archive.now c.uppercase_at.new.bytes c.args.root t.0 c.in-Some.pos c.requires.map t.1 t.2 sealed holds in
-    tells_more _ _ _ _ (λ place at. subst (RaisesFound w g.K.HasSpec.spec key_hash c.args.archive.now c.args.root (Some c.uppercase_at.result) c.uppercase_at.new.bytes) at (c.uppercase_at.result, refl, raised, (t.1.0, kept))) c.in-Some.ensures.finds
+    (λ x y q lo hi l o is_valid fixed part. ap (hash_of_calls g.H.KeyHasher.hasher) (g.met.K.KeyElement.key.local x y q lo hi l o is_valid fixed part))
+    c.args.archive.now c.uppercase_at.new.bytes c.args.root t.0 c.in-Some.pos c.requires.map t.1 t.2 sealed is_valid in
+    satisfies_implied _ _ _ _ (λ place at. subst (UppercasesFound w g.K.HasSpec.spec key_hash c.args.archive.now c.args.root (Some c.uppercase_at.result) c.uppercase_at.new.bytes) at (c.uppercase_at.result, refl, raised, (t.1.0, kept))) c.in-Some.ensures.finds
 
 pub returns-in-Some-clause-listed : goal.returns-in-Some-clause-listed
 returns-in-Some-clause-listed g c = λ factor pairs st.
     let b = c.args.archive.now in
-    first_raised g.W.Word.word g.K.HasSpec.spec g.K.HasSpec.laws (text_element g.W.Word.word g.met.W.Width.layout.kind) g.K.Represents.represents (hash_at g.H.KeyHasher.hasher g.K.KeyElement.key_calls) factor b c.args.root pairs
+    first_uppercased g.W.Word.word g.K.HasSpec.spec g.K.HasSpec.laws (text_element g.W.Word.word g.met.W.Width.layout.kind) g.K.Represents.represents (hash_at g.H.KeyHasher.hasher g.K.KeyElement.key_calls) factor b c.args.root pairs
     (g.A.Query.fits c.args.key.now b) (g.A.PartialEq.eq c.args.key.now) c.requires.map (λ a q s there. g.met.A.NativeKey.native c.args.key.now a b q s there) st g.met.K.Represents.local
-    (λ x y q lo hi l o holds fixed part. ap (hash_of_calls g.H.KeyHasher.hasher) (g.met.K.KeyElement.key.local x y q lo hi l o holds fixed part))
+    (λ x y q lo hi l o is_valid fixed part. ap (hash_of_calls g.H.KeyHasher.hasher) (g.met.K.KeyElement.key.local x y q lo hi l o is_valid fixed part))
     c.uppercase_at.new.bytes c.in-Some.pos c.uppercase_at.result c.in-Some.ensures.inside (c.in-Some.ensures.finds.first st.homes st.written) c.uppercase_at.ensures
 
 pub returns-in-Some-clause-parts : goal.returns-in-Some-clause-parts
@@ -40,16 +40,16 @@ returns-in-Some-clause-parts g c =
     let inside = c.in-Some.ensures.inside in
     let raised = c.uppercase_at.ensures in
     value_nested_at w g.K.HasSpec.spec (text_spec w) g.K.HasSpec.laws (text_element w g.met.W.Width.layout.kind) b c.uppercase_at.new.bytes c.args.root t.0 c.in-Some.pos c.requires.map t.1 t.2
-    (raised_sealed w b c.in-Some.pos inside _ _ raised) (raised_holds w b c.in-Some.pos inside _ _ raised)
+    (uppercased_sealed w b c.in-Some.pos inside _ _ raised) (uppercased_valid w b c.in-Some.pos inside _ _ raised)
 
 pub returns-in-None-clause-listed : goal.returns-in-None-clause-listed
 returns-in-None-clause-listed g c = λ factor pairs st.
     let b = c.args.archive.now in
-    none_raised g.W.Word.word g.K.HasSpec.spec g.K.HasSpec.laws (text_element g.W.Word.word g.met.W.Width.layout.kind) g.K.Represents.represents (hash_at g.H.KeyHasher.hasher g.K.KeyElement.key_calls) factor b c.args.root pairs
+    none_uppercased g.W.Word.word g.K.HasSpec.spec g.K.HasSpec.laws (text_element g.W.Word.word g.met.W.Width.layout.kind) g.K.Represents.represents (hash_at g.H.KeyHasher.hasher g.K.KeyElement.key_calls) factor b c.args.root pairs
     (g.A.Query.fits c.args.key.now b) (g.A.PartialEq.eq c.args.key.now) c.requires.map (λ a q s there. g.met.A.NativeKey.native c.args.key.now a b q s there) st (c.in-None.ensures.finds.first st.homes st.written)
 
 pub returns-in-None-clause-answer : goal.returns-in-None-clause-answer
 returns-in-None-clause-answer g c =
     let b = c.args.archive.now in
-    tells_more _ _ _ _ (λ place at. subst (RaisesFound g.W.Word.word g.K.HasSpec.spec (hash_at g.H.KeyHasher.hasher g.K.KeyElement.key_calls) b c.args.root None b)
+    satisfies_implied _ _ _ _ (λ place at. subst (UppercasesFound g.W.Word.word g.K.HasSpec.spec (hash_at g.H.KeyHasher.hasher g.K.KeyElement.key_calls) b c.args.root None b)
     at (refl, refl)) c.in-None.ensures.finds

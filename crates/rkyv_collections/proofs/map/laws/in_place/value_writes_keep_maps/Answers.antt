@@ -8,5 +8,5 @@ pub returns : goal.returns
 returns g c = λ b d p i view walked writes.
     let h = g.H.KeyHasher in
     map_kept g.K.HasSpec.spec g.V.HasSpec.spec g.K.HasSpec.laws g.V.HasSpec.laws g.W.Word.word (hash_at h.hasher g.K.KeyElement.key_calls)
-    (λ x y q lo hi l o holds fixed part. ap (hash_of_calls h.hasher) (g.met.K.KeyElement.key.local x y q lo hi l o holds fixed part))
+    (λ x y q lo hi l o is_valid fixed part. ap (hash_of_calls h.hasher) (g.met.K.KeyElement.key.local x y q lo hi l o is_valid fixed part))
     b d p i view walked writes

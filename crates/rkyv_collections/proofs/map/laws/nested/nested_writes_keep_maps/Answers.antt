@@ -12,5 +12,5 @@ returns g c = λ b d p q view at writes.
     let k = g.K.HasSpec.spec in
     let v = g.V.HasSpec.spec in
     nested_kept g.W.Word.word k v g.K.HasSpec.laws g.V.HasSpec.laws (hash_at h.hasher g.K.KeyElement.key_calls)
-    (λ x y r lo hi l o holds fixed part. ap (hash_of_calls h.hasher) (g.met.K.KeyElement.key.local x y r lo hi l o holds fixed part))
+    (λ x y r lo hi l o is_valid fixed part. ap (hash_of_calls h.hasher) (g.met.K.KeyElement.key.local x y r lo hi l o is_valid fixed part))
     b d p at.0 view at.1 (subst (λ z. WritesParts v b d (value_pos k v z)) at.2 writes)

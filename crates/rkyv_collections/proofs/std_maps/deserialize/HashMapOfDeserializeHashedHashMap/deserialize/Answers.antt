@@ -1,10 +1,10 @@
 use Rattle.std.proofs.Common.{subst}
 use Rattle.std.proofs.lemmas.Result.{err_from_is_err_and}
 use Rattle.rkyv_base.specs.View.{AtView}
-use Rattle.rkyv_collections.specs.StdMaps.StdMap.{std_map_refuses}
+use Rattle.rkyv_collections.specs.StdMaps.StdMap.{std_map_fails}
 use Rattle.rkyv_collections.proofs.std_maps.deserialize.HashMapOfDeserializeHashedHashMap.deserialize.Goals as goal
 
 pub returns-in_err-map : goal.returns-in_err-map
 returns-in_err-map g c =
     let p = err_from_is_err_and c.from_residual.result c.from_residual.ensures.1 in
-    rw (p.1, p.2) (subst (λ view. AtView (std_map_refuses g.W.Word.word g.K.HasSpec.spec g.V.HasSpec.spec g.K.Deserialize.deserialize_fails g.V.Deserialize.deserialize_fails) view c.in_err-map.field-0.0) c.of.ensures.view c.in_err-map.ensures)
+    rw (p.1, p.2) (subst (λ view. AtView (std_map_fails g.W.Word.word g.K.HasSpec.spec g.V.HasSpec.spec g.K.Deserialize.deserialize_fails g.V.Deserialize.deserialize_fails) view c.in_err-map.field-0.0) c.of.ensures.view c.in_err-map.ensures)

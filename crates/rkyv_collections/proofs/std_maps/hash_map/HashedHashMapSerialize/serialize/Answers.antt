@@ -1,9 +1,9 @@
 use Rattle.std.proofs.Common.{refl}
 use Rattle.std.specs.Map.Iter.{deref_pair}
-use Rattle.rkyv_table.specs.Table.ItemValues.{lent_pairs}
+use Rattle.rkyv_table.specs.Table.ItemValues.{pair_values}
 use Rattle.rkyv_table.specs.Table.Listed.{listed}
 use Rattle.rkyv_collections.specs.Map.MapFormat.{hash_of, map_format}
-use Rattle.rkyv_collections.proofs.StdWriting.{answers_distinct, answers_shown}
+use Rattle.rkyv_collections.proofs.StdWriting.{writes_distinct, writes_shown}
 use Rattle.rkyv_collections.proofs.std_maps.hash_map.HashedHashMapSerialize.serialize.Goals as goal
 
 pub returns : goal.returns
@@ -13,6 +13,6 @@ returns g c =
     let f = map_format g.W.Word.word g.A.Archived.HasSpec.spec g.B.Archived.HasSpec.spec g.A.Archive.format g.B.Archive.format hash (7, 8) in
     let o = g.S.Writer.output c.args.serializer.now in
     let o' = g.S.Writer.output c.serialize_from_iter.new.serializer in
-    answers_distinct g.A.PartialEq.eq (listed g.W.Width.MAX_CAPACITY (7, 8) f) m.entries c.iter.ensures.unique g.W.Width.LIMIT o o' c.serialize_from_iter.result
-    (answers_shown deref_pair (lent_pairs (λ k. k.now) (λ k. k.now)) (λ xs. refl) m.entries c.iter.result c.iter.ensures.rest c.len.result c.len.ensures.len
+    writes_distinct g.A.PartialEq.eq (listed g.W.Width.MAX_CAPACITY (7, 8) f) m.entries c.iter.ensures.unique g.W.Width.LIMIT o o' c.serialize_from_iter.result
+    (writes_shown deref_pair (pair_values (λ k. k.now) (λ k. k.now)) (λ xs. refl) m.entries c.iter.result c.iter.ensures.rest c.len.result c.len.ensures.len
     (7, 8) g.W.Width.MAX_CAPACITY g.W.Width.LIMIT f o o' c.serialize_from_iter.result c.serialize_from_iter.ensures)

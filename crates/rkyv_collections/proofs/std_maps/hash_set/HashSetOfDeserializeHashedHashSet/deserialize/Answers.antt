@@ -2,12 +2,12 @@ use Rattle.std.proofs.Common.{ℕ, subst, List}
 use Rattle.std.specs.Borrow.{Bor}
 use Rattle.std.proofs.lemmas.Result.{err_from_is_err_and}
 use Rattle.rkyv_collections.specs.Set.{set_pos}
-use Rattle.rkyv_collections.specs.StdMaps.StdSet.{std_set_refuses}
+use Rattle.rkyv_collections.specs.StdMaps.StdSet.{std_set_fails}
 use Rattle.rkyv_collections.proofs.std_maps.hash_set.HashSetOfDeserializeHashedHashSet.deserialize.Goals as goal
 
 pub returns-in_err-set : goal.returns-in_err-set
 returns-in_err-set g c =
     let at = c.of.ensures.at in
-    let told : List ℕ → ℕ → Type 0 = λ b p. std_set_refuses g.W.Word.word g.K.HasSpec.spec g.K.Deserialize.deserialize_fails b p c.in_err-set.field-0.0 in
+    let fails_at : List ℕ → ℕ → Type 0 = λ b p. std_set_fails g.W.Word.word g.K.HasSpec.spec g.K.Deserialize.deserialize_fails b p c.in_err-set.field-0.0 in
     let p = err_from_is_err_and c.from_residual.result c.from_residual.ensures.1 in
-    rw (p.1, p.2) (subst (λ (q : ℕ). told c.args.view.archive.now q) at.1 (subst (λ (a : Bor (List ℕ)). told a.now (set_pos c.of.result)) at.0 c.in_err-set.ensures))
+    rw (p.1, p.2) (subst (λ (q : ℕ). fails_at c.args.view.archive.now q) at.1 (subst (λ (a : Bor (List ℕ)). fails_at a.now (set_pos c.of.result)) at.0 c.in_err-set.ensures))

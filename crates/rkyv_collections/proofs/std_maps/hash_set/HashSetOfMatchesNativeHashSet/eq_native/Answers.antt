@@ -11,5 +11,5 @@ returns g c =
     let hash = hash_of g.H.KeyHasher.hasher g.A.KeyHash.calls in
     let value = c.args.value.now in
     let at = c.of.ensures.at in
-    let told : List ℕ → ℕ → Type 0 = λ b p. IsTrue c.eq_std.result ↔ StdSetEquals g.W.Word.word g.K.HasSpec.spec hash g.A.Query.fits b p value in
-    subst (λ (q : ℕ). told c.args.view.archive.now q) at.1 (subst (λ (a : Bor (List ℕ)). told a.now (set_pos c.of.result)) at.0 c.eq_std.ensures)
+    let equals_at : List ℕ → ℕ → Type 0 = λ b p. IsTrue c.eq_std.result ↔ StdSetEquals g.W.Word.word g.K.HasSpec.spec hash g.A.Query.fits b p value in
+    subst (λ (q : ℕ). equals_at c.args.view.archive.now q) at.1 (subst (λ (a : Bor (List ℕ)). equals_at a.now (set_pos c.of.result)) at.0 c.eq_std.ensures)

@@ -5,7 +5,7 @@ use Rattle.rkyv_table.specs.Table.Listed.{listed}
 use Rattle.rkyv_collections.specs.Map.MapFormat.{hash_of, map_format}
 use Rattle.rkyv_table.specs.Table.ItemValues.{with_units}
 use Rattle.rkyv_collections.specs.Lemmas.StdSet.{keys_with_units}
-use Rattle.rkyv_collections.proofs.StdWriting.{answers_distinct, answers_keys}
+use Rattle.rkyv_collections.proofs.StdWriting.{writes_distinct, writes_keys}
 use Rattle.rkyv_collections.proofs.std_maps.hash_set.HashedHashSetSerialize.serialize.Goals as goal
 
 pub returns : goal.returns
@@ -16,5 +16,5 @@ returns g c =
     let o = g.S.Writer.output c.args.serializer.now in
     let o' = g.S.Writer.output c.serialize_from_iter.new.serializer in
     let unique = subst (λ (ks : List g.row.A.Denot). IsDistinct g.A.PartialEq.eq ks) (sym (keys_with_units keys)) c.iter.ensures.unique in
-    answers_distinct g.A.PartialEq.eq (listed g.W.Width.MAX_CAPACITY (7, 8) f) (with_units keys) unique g.W.Width.LIMIT o o' c.serialize_from_iter.result
-    (answers_keys keys c.iter.result c.iter.ensures.rest c.len.result c.len.ensures.len (7, 8) g.W.Width.MAX_CAPACITY g.W.Width.LIMIT f o o' c.serialize_from_iter.result c.serialize_from_iter.ensures)
+    writes_distinct g.A.PartialEq.eq (listed g.W.Width.MAX_CAPACITY (7, 8) f) (with_units keys) unique g.W.Width.LIMIT o o' c.serialize_from_iter.result
+    (writes_keys keys c.iter.result c.iter.ensures.rest c.len.result c.len.ensures.len (7, 8) g.W.Width.MAX_CAPACITY g.W.Width.LIMIT f o o' c.serialize_from_iter.result c.serialize_from_iter.ensures)

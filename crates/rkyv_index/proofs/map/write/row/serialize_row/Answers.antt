@@ -8,7 +8,7 @@ use Rattle.rkyv_index.proofs.map.write.row.serialize_row.Goals as goal
 
 pub push_reserved-requires : goal.push_reserved-requires
 push_reserved-requires g c =
-    let m = c.loop-value.invariant.made in
+    let m = c.loop-value.invariant.appended in
     let n = parts_count g.U.Archive.format _ _ _ _ m.2 in
     let t = length-take c.loop-value.value-index c.args.values.now in
     let r = c.loop-value.invariant.room in
@@ -18,7 +18,7 @@ push_reserved-requires g c =
 
 pub returns-in_err-resolver : goal.returns-in_err-resolver
 returns-in_err-resolver g c =
-    let m = c.loop-value.invariant.made in
+    let m = c.loop-value.invariant.appended in
     let there = slice_get_read c.args.values.now _ c.loop-value.value-index c.value-item.result refl c.loop-value-test.true c.value-item.is in
     let p = err_from_is_err_and c.from_residual.result c.from_residual.ensures.1 in
     rw (p.1, p.2) (step_fails g.U.Archive.format c.args.values.now c.loop-value.value-index c.value-item.result there (g.S.Writer.output c.args.serializer.now) (g.S.Writer.output c.loop-value.serializer) m.0 c.loop-value.resolvers.items m.1 m.2
@@ -26,11 +26,11 @@ returns-in_err-resolver g c =
 
 pub loop-value-preserved : goal.loop-value-preserved
 loop-value-preserved g c =
-    let m = c.loop-value.invariant.made in
+    let m = c.loop-value.invariant.appended in
     let s = c.in_ok-resolver.ensures in
     let there = slice_get_read c.args.values.now _ c.loop-value.value-index c.value-item.result refl c.loop-value-test.true c.value-item.is in
     record {
-      made = (
+      appended = (
         m.0 ++ s.0,
         appends_after (g.S.Writer.output c.args.serializer.now) (g.S.Writer.output c.loop-value.serializer) (g.S.Writer.output c.serialize.new.serializer) m.0 s.0 m.1 s.1,
         rw c.push_reserved.ensures.items (step_part g.U.Archive.format c.args.values.now c.loop-value.value-index c.value-item.result there (g.S.Writer.output c.args.serializer.now) (g.S.Writer.output c.loop-value.serializer) m.0 c.loop-value.resolvers.items m.1 m.2 s.0 c.in_ok-resolver.resolver s.2),

@@ -1,7 +1,7 @@
 use Rattle.std.proofs.Common.{arith, ◌≡◌, ◌+◌, ◌++◌, ◌∷◌, [], refl, ap, ◌∙◌, inl, inr, length}
 use Rattle.std.proofs.lemmas.List.{length-map, length_push}
 use Rattle.rkyv_index.specs.Index.Writing.{pairs_of}
-use Rattle.rkyv_index.proofs.EntrySteps.{made_more}
+use Rattle.rkyv_index.proofs.EntrySteps.{entries_yield_more}
 use Rattle.rkyv_table.proofs.PlacingSteps.{yields_more}
 use Rattle.rkyv_index.proofs.map.write.source.take_entries.Goals as goal
 
@@ -17,7 +17,7 @@ loop-count-preserved g c =
     let i = c.loop-count.invariant in
     record {
       ready = c.in-Some.ensures.keeps;
-      taken = rw (c.push_reserved.ensures.items) (made_more g.I.Iterator.next_gives _ _ _ c.loop-count.entries.items c.new.result i.taken (rw (c.new.ensures.key, c.new.ensures.value) c.in-Some.ensures.steps));
+      taken = rw (c.push_reserved.ensures.items) (entries_yield_more g.I.Iterator.next_gives _ _ _ c.loop-count.entries.items c.new.result i.taken (rw (c.new.ensures.key, c.new.ensures.value) c.in-Some.ensures.steps));
       count = ap length c.push_reserved.ensures.items ∙ length_push c.loop-count.entries.items _ ∙ ap (λ n. n + 1) i.count;
       room = rw c.push_reserved.ensures.capacity i.room;
     }

@@ -1,5 +1,5 @@
 use Rattle.std.proofs.Common.{◌<◌, subst}
-use Rattle.rkyv_collections.proofs.SealedPairs.{none_large, takes_key}
+use Rattle.rkyv_collections.proofs.SealedPairs.{none_large, yields_key_pos}
 use Rattle.rkyv_collections.proofs.map.in_place.iter_seal.IterMut.next_pos.Goals as goal
 
 pub returns-then-whole_size-gt-LARGEST-clause-takes : goal.returns-then-whole_size-gt-LARGEST-clause-takes
@@ -9,4 +9,4 @@ returns-then-whole_size-gt-LARGEST-clause-takes g c = λ w p is.
     record { none = none; still = none; iter = is }
 
 pub returns-clause-takes : goal.returns-clause-takes
-returns-clause-takes g c = takes_key g.K.HasSpec.spec g.V.HasSpec.spec g.K.HasSpec.laws g.V.HasSpec.laws c.args.self.now.entries c.next_pos.new.self c.next_pos.result c.next_pos.ensures.takes
+returns-clause-takes g c = yields_key_pos g.K.HasSpec.spec g.V.HasSpec.spec g.K.HasSpec.laws g.V.HasSpec.laws c.args.self.now.entries c.next_pos.new.self c.next_pos.result c.next_pos.ensures.takes

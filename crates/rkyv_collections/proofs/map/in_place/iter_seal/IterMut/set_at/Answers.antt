@@ -10,4 +10,4 @@ returns-clause-kept g c =
     let same = c.value_offset.ensures.value in
     pairs_kept g.K.HasSpec.spec g.N.HasSpec.spec g.K.HasSpec.laws g.N.HasSpec.laws before after c.args.pos c.write_at.ensures.stays
     (subst (λ n. Sealed before.archive.now (c.args.pos + n) g.N.HasSpec.spec.size after.archive.now) same c.write_at.ensures.sealed)
-    (subst (λ n. Keeps g.N.HasSpec.spec before.archive.now after.archive.now (c.args.pos + n)) same c.write_at.ensures.holds)
+    (subst (λ n. Keeps g.N.HasSpec.spec before.archive.now after.archive.now (c.args.pos + n)) same c.write_at.ensures.is_valid)

@@ -10,4 +10,4 @@ returns-clause-kept g c = λ key at.
     let zero : c.args.pos + 0 ≡ c.args.pos = omega arith in
     pairs_kept g.K.HasSpec.spec g.N.HasSpec.spec g.K.HasSpec.laws g.N.HasSpec.laws before after key c.write_at.ensures.stays
     (subst (λ n. Sealed before.archive.now n g.N.HasSpec.spec.size after.archive.now) (zero ∙ at) c.write_at.ensures.sealed)
-    (subst (λ n. Keeps g.N.HasSpec.spec before.archive.now after.archive.now n) (zero ∙ at) c.write_at.ensures.holds)
+    (subst (λ n. Keeps g.N.HasSpec.spec before.archive.now after.archive.now n) (zero ∙ at) c.write_at.ensures.is_valid)

@@ -3,7 +3,7 @@ use Rattle.std.specs.List.{find}
 use Rattle.rkyv_base.specs.Entry.{entry_spec}
 use Rattle.rkyv_base.specs.Lemmas.Entry.{entry_element}
 use Rattle.rkyv_keys.specs.Lemmas.OfEntries.{valid_key}
-use Rattle.rkyv_table.specs.Table.Misplaced.{is_answer}
+use Rattle.rkyv_table.specs.Table.Misplaced.{is_found_at}
 use Rattle.rkyv_index.specs.Index.Equality.{same_keys}
 use Rattle.rkyv_base.specs.View.{IsAt}
 use Rattle.rkyv_index.specs.Index.{hash_at, index_archive, index_found, index_of, index_places, index_strides, key_at}
@@ -12,13 +12,13 @@ use Rattle.rkyv_index.proofs.ValidIndexMap.{entry_viewable}
 use Rattle.rkyv_index.proofs.FirstAccepted.{another_repeated}
 use Rattle.rkyv_index.proofs.map.read.entries.Entries.is_misplaced.Goals as goal
 
-pub returns-clause-told : goal.returns-clause-told
-returns-clause-told g c =
+pub returns-clause-exact : goal.returns-clause-exact
+returns-clause-exact g c =
     let m = index_of c.args.self.map in
     let key_hash = hash_at g.H.KeyHasher.hasher g.K.KeyElement.key_calls in
     let own : _ → ℕ → Option ℕ = λ b q. index_found m.word m.bytes m.pos (key_hash b q) (λ j. g.K.ElementEq.same b q m.bytes (key_at m j)) in
     let at : IsAt c.key-key.result (index_archive c.args.self.map) (key_at m c.args.place) = (c.key-key.ensures.at.0 ∙ c.entry.ensures.at.0, c.key-key.ensures.at.1 ∙ c.entry.ensures.at.1) in
-    c.finds_another_or_none.ensures ∙ ap (λ (o : Option ℕ). not (is_answer c.args.place o)) (c.find_counted.ensures.found.answer ∙ view_at c.key-key.result _ _ at own)
+    c.finds_another_or_none.ensures ∙ ap (λ (o : Option ℕ). not (is_found_at c.args.place o)) (c.find_counted.ensures.found.answer ∙ view_at c.key-key.result _ _ at own)
 
 pub returns-clause-repeated : goal.returns-clause-repeated
 returns-clause-repeated g c = λ homes written.
@@ -32,7 +32,7 @@ returns-clause-repeated g c = λ homes written.
     let at : IsAt c.key-key.result (index_archive c.args.self.map) (key_at m c.args.place) = (c.key-key.ensures.at.0 ∙ c.entry.ensures.at.0, c.key-key.ensures.at.1 ∙ c.entry.ensures.at.1) in
     let there = entry_viewable m.word g.met.W.Width.layout.kind (entry_spec k v) (entry_element k v kl vl) m.bytes m.pos c.args.self.map.valid i c.requires.below in
     let itself : same_keys m (hash_at g.H.KeyHasher.hasher g.K.KeyElement.key_calls) g.K.ElementEq.same i i ≡ true = g.met.K.ElementEquiv.equivalence.reflexive m.bytes (key_at m i) (valid_key kl vl m.bytes (key_at m i) there.valid) in
-    c.finds_another_or_none.ensures ∙ ap (λ (o : Option ℕ). not (is_answer i o)) (c.find_counted.ensures.found.first homes written ∙ view_at c.key-key.result _ _ at first)
+    c.finds_another_or_none.ensures ∙ ap (λ (o : Option ℕ). not (is_found_at i o)) (c.find_counted.ensures.found.first homes written ∙ view_at c.key-key.result _ _ at first)
     ∙ another_repeated _ _ i c.requires.below itself
 
 pub returns-clause-counted : goal.returns-clause-counted

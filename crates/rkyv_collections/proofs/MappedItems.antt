@@ -1,0 +1,178 @@
+-- A table that is written of items is the table of the values that `model` returns for them.
+use Rattle.std.proofs.Common.{◌≡◌, ℕ, suc, ◌+◌, ◌-◌, ◌*◌, ◌<◌, refl, ap, sym, subst, ◌∙◌, inl, inr, List, [], ◌∷◌, map, take, drop, length, slice_get, slice_index, Option, Some, None}
+use Rattle.std.specs.List.{take-map, drop-map}
+use Rattle.std.specs.Option.{option_map}
+use Rattle.std.specs.Int.{Width}
+use Rattle.std.proofs.lemmas.List.{length-map}
+use Rattle.std.proofs.lemmas.Option.{slice_get-map}
+use Rattle.rkyv_base.specs.declared.errors.WriteError.{WriteError}
+use Rattle.rkyv_base.specs.Entry.{round_up}
+use Rattle.rkyv_base.specs.Format.{Format, SerializeFails, Serialized}
+use Rattle.rkyv_base.specs.Pairs.{written_as}
+use Rattle.rkyv_base.specs.ElementSpec.{ElementSpec}
+use Rattle.rkyv_base.specs.Writing.{Output, Step, end_of}
+use Rattle.rkyv_base.proofs.WritingSteps.{fails_under}
+use Rattle.rkyv_table.specs.Controls.Laws.{AreHashes}
+use Rattle.rkyv_table.specs.Controls.Numbers.{capacity}
+use Rattle.rkyv_table.specs.Controls.Placing.{Written}
+use Rattle.rkyv_table.specs.Table.Slots.{Above, BeforeBuckets, BucketNext, BucketStep, Filled, PartsNext, SlotImages, SlotParts, TableBytes, TableNext, BucketOverflows, filled}
+use Rattle.rkyv_table.specs.Table.TableFormat.{InBuckets, PairsNext, TableParts, TableResolver, TableWritten, table_format}
+use Rattle.rkyv_table.specs.Table.PlacedItems.{Placed, Slotted, hashes_of, items_of}
+
+-- the value of each item, under the hash of the item
+abbrev pub mapped_pairs : {X Y : Type 0} → (X → Y) → List (ℕ × X) → List (ℕ × Y)
+mapped_pairs model pairs = map (λ pair. (pair.0, model pair.1)) pairs
+
+abbrev mapped_slots : {X Y : Type 0} → (X → Y) → List (Option X) → List (Option Y)
+mapped_slots model slots = map (option_map model) slots
+
+module _ {X Y : Type 0} (model : X → Y) where
+  mapped_hashes : (pairs : List (ℕ × X)) → hashes_of (mapped_pairs model pairs) ≡ hashes_of pairs
+  mapped_hashes [] = refl
+  mapped_hashes (x ∷ xs) = ap (λ (t : List ℕ). x.0 ∷ t) (mapped_hashes xs)
+
+  mapped_items : (pairs : List (ℕ × X)) → items_of (mapped_pairs model pairs) ≡ map model (items_of pairs)
+  mapped_items [] = refl
+  mapped_items (x ∷ xs) = ap (λ (t : List Y). model x.1 ∷ t) (mapped_items xs)
+
+  mapped_filled : (slots : List (Option X)) → filled (mapped_slots model slots) ≡ filled slots
+  mapped_filled [] = refl
+  mapped_filled (None ∷ slots) = mapped_filled slots
+  mapped_filled (Some x ∷ slots) = ap suc (mapped_filled slots)
+
+  mapped_at : (slots : List (Option X)) (i : ℕ) (s : Option X) → slice_get slots i ≡ Some s → slice_get (mapped_slots model slots) i ≡ Some (option_map model s)
+  mapped_at slots i s e = slice_get-map (option_map model) slots i ∙ ap (option_map (option_map model)) e
+
+  pub mapped_some : (o : Option X) (y : Y) → option_map model o ≡ Some y → (x : X) × (o ≡ Some x) × (model x ≡ y)
+  mapped_some None y e = absurd cc
+  mapped_some (Some x) y e = (x, refl, cc)
+
+  module _ (cap : ℕ) (homes : List ℕ) where
+    mapped_slotted : (items : List X) (slots : List (Option X)) → Slotted cap homes items slots → Slotted cap homes (map model items) (mapped_slots model slots)
+    mapped_slotted items slots h = record {
+      count = length-map slots (option_map model) ∙ h.count;
+      full = mapped_filled slots ∙ h.full;
+      items_count = length-map items model ∙ h.items_count;
+      at = λ i y e.
+          let w = mapped_some (slice_get items i) y (sym (slice_get-map model items i) ∙ e) in
+          mapped_at slots (slice_index homes i) (Some w.0) (h.at i w.0 w.1) ∙ ap (λ (z : Y). Some (Some z)) w.2;
+      others = λ b below free. mapped_at slots b None (h.others b below free);
+    }
+
+  mapped_placed : (cap : ℕ) (pairs : List (ℕ × X)) (slots : List (Option X)) (controls : List ℕ) → Placed cap pairs slots controls
+      → Placed cap (mapped_pairs model pairs) (mapped_slots model slots) controls
+  mapped_placed cap pairs slots controls h = record {
+    homes = h.homes;
+    hashes = subst AreHashes (sym (mapped_hashes pairs)) h.hashes;
+    written = subst (λ (hashes : List ℕ). Written cap hashes h.homes controls) (sym (mapped_hashes pairs)) h.written;
+    slotted = subst (λ (items : List Y). Slotted cap h.homes items (mapped_slots model slots)) (sym (mapped_items pairs)) (mapped_slotted cap h.homes (items_of pairs) slots h.slotted);
+  }
+
+  mapped_inside : (factor : ℕ × ℕ) (pairs : List (ℕ × X)) (slots : List (Option X)) (controls : List ℕ) → InBuckets factor pairs slots controls
+      → InBuckets factor (mapped_pairs model pairs) (mapped_slots model slots) controls
+  mapped_inside factor pairs slots controls h =
+      let n : length (mapped_pairs model pairs) ≡ length pairs = length-map pairs (λ (pair : ℕ × X). (pair.0, model pair.1)) in
+      subst (λ k. (0 < k) × Placed (capacity k factor) (mapped_pairs model pairs) (mapped_slots model slots) controls) (sym n)
+      (h.0, mapped_placed (capacity (length pairs) factor) pairs slots controls h.1)
+
+module _ {X Y R : Type 0} (model : X → Y) (f : Format Y R) where
+  mapped_parts : (slots : List (Option X)) (p : ℕ) (part : List ℕ) (rs : List R) → SlotParts (written_as model f) slots p part rs → SlotParts f (mapped_slots model slots) p part rs
+  mapped_parts [] p part rs h = h
+  mapped_parts (None ∷ slots) p part rs h = mapped_parts slots p part rs h
+  mapped_parts (Some x ∷ slots) p part rs h = (h.0, h.1, h.2, h.3, h.4, mapped_parts slots (p + length h.0) h.2 h.3 h.5, h.6, h.7)
+
+  front_parts : (slots : List (Option X)) (i p : ℕ) (part : List ℕ) (rs : List R) → SlotParts (written_as model f) (take i slots) p part rs
+      → SlotParts f (take i (mapped_slots model slots)) p part rs
+  front_parts slots i p part rs h =
+      subst (λ (t : List (Option Y)). SlotParts f t p part rs) (sym (take-map (option_map model) i slots)) (mapped_parts (take i slots) p part rs h)
+
+  module _ (slots : List (Option X)) (p : ℕ) where
+    parts_next : (front : List ℕ) (step : Step) → PartsNext (written_as model f) slots p front step → PartsNext f (mapped_slots model slots) p front step
+    parts_next front step h =
+        (h.0, model h.1, h.2, h.3, h.4, mapped_at model slots h.0 (Some h.1) h.5, front_parts slots h.0 p h.2 h.3 h.6, h.7, h.8)
+
+  module _ (size : ℕ) where
+    mapped_images : (slots : List (Option X)) (rs : List R) (z : ℕ) (out : List ℕ) → SlotImages size (written_as model f) slots rs z out
+        → SlotImages size f (mapped_slots model slots) rs z out
+    mapped_images [] rs z out h = h
+    mapped_images (None ∷ slots) rs z out h = (h.0, mapped_images slots rs (z - size) h.0 h.1, h.2)
+    mapped_images (Some x ∷ slots) rs z out h = (h.0, h.1, h.2, h.3, h.4, h.5, mapped_images slots h.1 (z - size) h.2 h.6, h.7)
+
+    mapped_bucket : (s : Option X) (left more : List R) (p : ℕ) (out : List ℕ) → Filled size (written_as model f) s left more p out
+        → Filled size f (option_map model s) left more p out
+    mapped_bucket None left more p out h = h
+    mapped_bucket (Some x) left more p out h = h
+
+    mapped_overflows : (s : Option X) (left : List R) (p : ℕ) → BucketOverflows size (written_as model f) s left p → BucketOverflows size f (option_map model s) left p
+    mapped_overflows None left p h = h
+    mapped_overflows (Some x) left p h = h
+
+    mapped_step : (s : Option X) (left : List R) (p : ℕ) (step : Step) → BucketStep size (written_as model f) s left p step
+        → BucketStep size f (option_map model s) left p step
+    mapped_step s left p step (inl h) = inl (h.0, h.1, mapped_bucket s left h.0 p h.1 h.2, h.3)
+    mapped_step s left p step (inr h) = inr (mapped_overflows s left p h.0, h.1)
+
+    module _ (slots : List (Option X)) (rs : List R) (p : ℕ) where
+      mapped_above : (i : ℕ) (left : List R) (front : List ℕ) → Above size (written_as model f) slots rs p i left front
+          → Above size f (mapped_slots model slots) rs p i left front
+      mapped_above i left front h = (
+        h.0,
+        h.1,
+        subst (λ (t : List (Option Y)). SlotImages size f t h.0 (p + length front) front) (sym (drop-map (option_map model) (i + 1) slots))
+            (mapped_images (drop (i + 1) slots) h.0 (p + length front) front h.2),
+      )
+
+      bucket_next : (front : List ℕ) (step : Step) → BucketNext size (written_as model f) slots rs p front step → BucketNext size f (mapped_slots model slots) rs p front step
+      bucket_next front step h =
+          (h.0, h.1, mapped_above h.0 h.1 front h.2, option_map model h.3, mapped_at model slots h.0 h.3 h.4, mapped_step h.3 h.1 (p + length front) step h.5)
+
+  module _ (s : ElementSpec) (slots : List (Option X)) (controls : List ℕ) (p : ℕ) where
+    mapped_bytes : (z : ℕ) (bytes : List ℕ) → TableBytes s (written_as model f) slots controls p z bytes → TableBytes s f (mapped_slots model slots) controls p z bytes
+    mapped_bytes z bytes h = record {
+      part = h.part;
+      resolvers = h.resolvers;
+      buckets = h.buckets;
+      made = mapped_parts slots p h.part h.resolvers h.made;
+      images = mapped_images s.size slots h.resolvers z h.buckets h.images;
+      at = h.at ∙ ap (λ n. round_up (p + length h.part) s.align + n * s.size) (sym (length-map slots (option_map model)));
+      is = h.is;
+    }
+
+    mapped_before : (a : List ℕ) (rs : List R) (front : List ℕ) → BeforeBuckets s (written_as model f) slots controls p a rs front
+        → BeforeBuckets s f (mapped_slots model slots) controls p a rs front
+    mapped_before a rs front h = (mapped_parts slots p a rs h.0, h.1)
+
+    mapped_next : (front : List ℕ) (step : Step) → TableNext s (written_as model f) slots controls p front step → TableNext s f (mapped_slots model slots) controls p front step
+    mapped_next front step (inl h) = inl (parts_next slots p front step h)
+    mapped_next front step (inr (inl h)) = inr (inl (h.0, mapped_parts slots p front h.0 h.1, h.2))
+    mapped_next front step (inr (inr (inl h))) =
+        inr (inr (inl (h.0, h.1, h.2, h.3, mapped_before h.0 h.1 h.2 h.4, bucket_next s.size slots h.1 (p + length h.2) h.3 step h.5, h.6)))
+    mapped_next front step (inr (inr (inr h))) =
+        inr (inr (inr (h.0, h.1, h.2, h.3, mapped_before h.0 h.1 h.2 h.4, mapped_images s.size slots h.1 (p + length front) h.3 h.5, h.6, h.7)))
+
+  module _ (w : Width) (s : ElementSpec) (factor : ℕ × ℕ) (pairs : List (ℕ × X)) (p : ℕ) where
+    mapped_written : (z : ℕ) (part : List ℕ) → TableWritten w s (written_as model f) factor pairs p z part → TableWritten w s f factor (mapped_pairs model pairs) p z part
+    mapped_written z part (inl h) = inl (ap (mapped_pairs model) h.0, h.1, h.2)
+    mapped_written z part (inr h) = inr (mapped_slots model h.0, h.1, mapped_inside model factor pairs h.0 h.1 h.2, mapped_bytes s h.0 h.1 p z part h.3)
+
+    pub mapped_table : (part : List ℕ) (r : TableResolver) → TableParts w s (written_as model f) factor pairs p part r → TableParts w s f factor (mapped_pairs model pairs) p part r
+    mapped_table part r h = record {
+      len = h.len ∙ sym (length-map pairs (λ (pair : ℕ × X). (pair.0, model pair.1)));
+      factor = h.factor;
+      fits = h.fits;
+      written = mapped_written r.pos part h.written;
+    }
+
+    pub mapped_pairs_next : (front : List ℕ) (step : Step) → PairsNext w s (written_as model f) factor pairs p front step → PairsNext w s f factor (mapped_pairs model pairs) p front step
+    mapped_pairs_next front step h = (mapped_slots model h.0, h.1, mapped_inside model factor pairs h.0 h.1 h.2, mapped_next s h.0 h.1 p front step h.3)
+
+  module _ (w : Width) (s : ElementSpec) (factor : ℕ × ℕ) (pairs : List (ℕ × X)) (o o' : Output) (limit : ℕ) where
+    pub mapped_serialized : (r : TableResolver) → Serialized limit (table_format w s (written_as model f) factor) pairs o o' r
+        → Serialized limit (table_format w s f factor) (mapped_pairs model pairs) o o' r
+    mapped_serialized r h = (h.0, h.1, mapped_table w s factor pairs (end_of o) h.0 r h.2, h.3)
+
+    pub mapped_fails : {F : Type 0} (e : WriteError F) → SerializeFails limit (table_format w s (written_as model f) factor) pairs o o' e
+        → SerializeFails limit (table_format w s f factor) (mapped_pairs model pairs) o o' e
+    mapped_fails e h =
+        fails_under limit (PairsNext w s f factor (mapped_pairs model pairs) (end_of o)) (PairsNext w s (written_as model f) factor pairs (end_of o)) o o' e
+        (λ front step n. mapped_pairs_next w s factor pairs (end_of o) front step n) h

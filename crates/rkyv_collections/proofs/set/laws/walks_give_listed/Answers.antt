@@ -1,6 +1,0 @@
-use Rattle.rkyv_collections.specs.Map.{hash_at}
-use Rattle.rkyv_collections.proofs.WalkedPairs.{set_walks_give_listed}
-use Rattle.rkyv_collections.proofs.set.laws.walks_give_listed.Goals as goal
-
-pub returns : goal.returns
-returns g c = set_walks_give_listed g.W.Word.word g.K.HasSpec.spec g.K.Represents.represents (hash_at g.H.KeyHasher.hasher g.K.KeyElement.key_calls)

@@ -1,0 +1,36 @@
+use Rattle.std.proofs.Common.{ap, ◌∙◌, subst}
+use Rattle.std.specs.Option.{option_copied}
+use Rattle.rkyv_dict.specs.Dicts.{state_of}
+use Rattle.rkyv_dict.specs.Run.{AppendsFront}
+use Rattle.rkyv_dict.specs.Script.{parts_after}
+use Rattle.rkyv_dict.proofs.Running.{progress_front, progress_line, progress_moved, progress_none}
+use Rattle.rkyv_dict.proofs.Sound.{line_sound, start_sound}
+use Rattle.rkyv_dict.proofs.Writing.{on_err, on_err_map}
+use Rattle.rkyv_dict.proofs.run.write_output.Goals as goal
+
+pub loop-rest-init : goal.loop-rest-init
+loop-rest-init g c = record {
+  progress = progress_none _ _ _ _ c.new-dict.ensures c.new-held.ensures.bytes;
+  sound = start_sound _ c.new-dict.ensures;
+}
+
+pub loop-rest-preserved : goal.loop-rest-preserved
+loop-rest-preserved g c =
+    let cut = ap (λ r. parts_after 10 (option_copied r)) c.in-Some.is ∙ c.cut.ensures.parts in
+    let line = progress_line _ _ _ _ _ _ _ _ (state_of c.loop-rest.dict) (state_of c.execute.new.self) c.loop-rest.invariant.progress cut c.in_ok-execute.ensures in
+    record {
+      progress = progress_moved _ _ _ _ _ _ _ _ line c.in_ok-write_much.ensures.ok;
+      sound = line_sound _ _ _ _ c.loop-rest.invariant.sound c.in_ok-execute.ensures.accepted;
+    }
+
+pub returns-in_err-write_much-clause-front : goal.returns-in_err-write_much-clause-front
+returns-in_err-write_much-clause-front g c =
+    let cut = ap (λ r. parts_after 10 (option_copied r)) c.in-Some.is ∙ c.cut.ensures.parts in
+    let line = progress_line _ _ _ _ _ _ _ _ (state_of c.loop-rest.dict) (state_of c.execute.new.self) c.loop-rest.invariant.progress cut c.in_ok-execute.ensures in
+    on_err _ _ (progress_front _ _ _ _ _ _ _ line c.in_err-write_much.ensures.front)
+
+pub returns-clause-front : goal.returns-clause-front
+returns-clause-front g c =
+    on_err_map _ (AppendsFront (g.W.Write.contents c.loop-rest.writer) (g.W.Write.contents c.write_piece.new.writer) c.as_bytes.result.now) _
+    (λ f. progress_front _ _ _ _ _ _ _ c.loop-rest.invariant.progress (subst (AppendsFront (g.W.Write.contents c.loop-rest.writer) (g.W.Write.contents c.write_piece.new.writer)) c.as_bytes.ensures.value f))
+    c.write_piece.ensures.front

@@ -1,0 +1,43 @@
+use Rattle.std.proofs.Common.{ℕ, ◌-◌, ◌∙◌, subst, sym, length, List}
+use Rattle.std.specs.Borrow.{Bor}
+use Rattle.rkyv_base.specs.Entry.{entry_spec}
+use Rattle.rkyv_base.specs.View.{bytes_of, pos_of}
+use Rattle.rkyv_scan.specs.Hash.{fx_hasher, low_halves}
+use Rattle.rkyv_keys.specs.Deserialize.{DeserializeMembers}
+use Rattle.rkyv_index.specs.Index.{hash_at, index_bytes, index_pos}
+use Rattle.rkyv_index.specs.Index.IndexFormat.{IndexRepresents}
+use Rattle.rkyv_index.specs.Index.IndexLayout.{index_spec}
+use Rattle.rkyv_index.specs.Index.Reading.{pairs_deserialize_fails}
+use Rattle.rkyv_index.proofs.round_trip.pairs_round_trip.Goals as goal
+
+pub returns-in-Ok-deserialize_pairs-clause-same : goal.returns-in-Ok-deserialize_pairs-clause-same
+returns-in-Ok-deserialize_pairs-clause-same g c =
+    let w = g.W.Word.word in
+    let k = g.A.Archived.HasSpec.spec in
+    let v = g.B.Archived.HasSpec.spec in
+    let s = index_spec w (entry_spec k v) in
+    let listed = c.args.pairs.now.0.items in
+    let P : List ℕ → ℕ → Type 0 = λ b p. IndexRepresents w k v g.A.Archived.Represents.represents g.B.Archived.Represents.represents (hash_at (fx_hasher low_halves) g.A.Archived.KeyElement.key_calls) (7, 8) b p listed in
+    let root = c.in-Ok-access_in.ensures.root.1 in
+    let read = c.as_slice.result in
+    let here = subst (λ (xs : List ℕ). P xs (length xs - s.size)) (sym c.as_slice.ensures.value) c.in-Ok.ensures.1 in
+    let there = subst (λ (a : Bor (List ℕ)). P a.now (length read.now - s.size)) (sym root.0) here in
+    let at_root = subst (λ (q : ℕ). P c.in-Ok-access_in.root.archive.now q) (sym root.1) there in
+    let represents = subst (λ view. P (bytes_of view) (pos_of view)) (sym c.of.ensures.view) at_root in
+    c.eq.ensures ∙ c.pairs_read_back_are_listed.ensures (index_bytes c.of.result) (index_pos c.of.result) (7, 8) listed c.in-Ok-deserialize_pairs.back.items c.of.result.valid represents c.in-Ok-deserialize_pairs.ensures
+
+pub returns-clause-error : goal.returns-clause-error
+returns-clause-error g c =
+    let k = g.A.Archived.HasSpec.spec in
+    let v = g.B.Archived.HasSpec.spec in
+    let s = index_spec g.W.Word.word (entry_spec k v) in
+    let key : DeserializeMembers g.row.A.Denot = record { spec = g.A.Archived.HasSpec.spec; laws = g.A.Archived.HasSpec.laws; represents = g.A.Archived.Represents.represents; deserialize_fails = g.A.Archived.Deserialize.deserialize_fails } in
+    let value : DeserializeMembers g.row.B.Denot = record { spec = g.B.Archived.HasSpec.spec; laws = g.B.Archived.HasSpec.laws; represents = g.B.Archived.Represents.represents; deserialize_fails = g.B.Archived.Deserialize.deserialize_fails } in
+    let deserialize_fails : List ℕ → ℕ → Type 0 = λ b p. pairs_deserialize_fails g.W.Word.word key value b p c.in-Err-deserialize_pairs.e in
+    let root = c.in-Ok-access_in.ensures.root.1 in
+    let read = c.as_slice.result in
+    let viewed = subst (λ view. deserialize_fails (bytes_of view) (pos_of view)) c.of.ensures.view c.in-Err-deserialize_pairs.ensures in
+    let placed = subst (λ (q : ℕ). deserialize_fails c.in-Ok-access_in.root.archive.now q) root.1 viewed in
+    let there = subst (λ (a : Bor (List ℕ)). deserialize_fails a.now (length read.now - s.size)) root.0 placed in
+    let here = subst (λ (xs : List ℕ). deserialize_fails xs (length xs - s.size)) c.as_slice.ensures.value there in
+    (c.in-Ok.bytes.items, c.in-Ok.ensures.2, here)

@@ -1,8 +1,0 @@
-use Rattle.rkyv_keys.specs.Lemmas.QueryLaws.{asks_for_values}
-use Rattle.rkyv_keys.proofs.laws.queries_ask_for_values.Goals as goal
-
-pub returns : goal.returns
-returns g c =
-    asks_for_values g.K.HasSpec.spec g.K.ElementEq.same g.K.KeyElement.key_calls g.V.KeyHash.can_read g.V.KeyHash.calls g.V.Query.fits
-    g.K.Represents.represents g.V.PartialEq.eq g.met.V.Eq.laws.refl g.met.V.Query.query g.met.V.NativeKey.native
-    g.Q.KeyHash.can_read g.Q.KeyHash.calls g.Q.Query.fits g.met.Q.Query.query g.met.K.ElementEquiv.equivalence

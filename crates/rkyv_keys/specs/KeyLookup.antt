@@ -1,0 +1,24 @@
+-- The question of a lookup by a query.
+use Rattle.std.specs.Prelude.{ℕ, Bool, List}
+use Rattle.rkyv_scan.specs.Hash.{Hasher, HasherCall, hash_of_calls}
+use Rattle.rkyv_keys.specs.Equality.{Comparison}
+
+-- A lookup under `hash` of a key that `fits` accepts, among keys with the hashes `key_hash`
+-- that are equal by `same`. The functions are by the bytes and the position of a key
+pub record KeyLookup : Type 0 where
+  pub hash : ℕ
+  pub key_hash : List ℕ → ℕ → ℕ
+  pub same : Comparison
+  pub fits : List ℕ → ℕ → Bool
+
+-- the question of a query: by the hasher, the hasher calls and the equality of keys, and the hasher
+-- calls of the query and the keys that it fits
+abbrev pub query_of : {State : Type 0} → Hasher State → (List ℕ → ℕ → List HasherCall)
+    → Comparison
+    → List HasherCall → (List ℕ → ℕ → Bool) → KeyLookup
+query_of hasher key_calls same calls fits = record {
+  hash = hash_of_calls hasher calls;
+  key_hash = λ b q. hash_of_calls hasher (key_calls b q);
+  same = same;
+  fits = fits;
+}

@@ -1,0 +1,122 @@
+//! Iterators, which are called only after the allocations.
+
+use rkyv_base::width::Narrow;
+use rkyv_base::writer::VecWriter;
+use rkyv_collections::map::ArchivedHashMap;
+use rkyv_collections::set::ArchivedHashSet;
+use rkyv_scan::hash::FxHasher64;
+use std::alloc::Global;
+use std::cell::Cell;
+use std::iter;
+use test_support::requests::{
+    Outcome, outcome_of, requests_of_pairs, requests_of_table, yields_next,
+};
+
+type Numbers = ArchivedHashMap<'static, i8, i8, FxHasher64, Narrow>;
+
+type Keys = ArchivedHashSet<'static, i8, FxHasher64, Narrow>;
+
+// Returns whether the number of calls of an iterator of two items fits the outcome.
+// There is no call if an allocation fails first, and else one for each item and one for the end.
+fn fits(outcome: Outcome, requests: usize) -> bool {
+    match outcome {
+        Outcome::Memory => requests == 0,
+        Outcome::Written | Outcome::Growth => requests == 3,
+        _ => false,
+    }
+}
+
+// Writes a table of two items and two hashes.
+// Returns the outcome, and whether the calls of both iterators fit it.
+fn table(alloc: Global) -> (Outcome, bool) {
+    let (outcome, items, hashes) = requests_of_table(alloc, 2, 2, 2);
+    (outcome, fits(outcome, items) && fits(outcome, hashes))
+}
+
+// Writes a table of two pairs of hash and item, as `table` does.
+fn table_of_pairs(alloc: Global) -> (Outcome, bool) {
+    let (outcome, requests) = requests_of_pairs(alloc, 2, 2);
+    (outcome, fits(outcome, requests))
+}
+
+// Writes a map of two pairs, as `table` does.
+fn map(alloc: Global) -> (Outcome, bool) {
+    let requests = Cell::new(0usize);
+    let mut writer = VecWriter::new(alloc);
+    let outcome = Numbers::serialize_from_iter::<VecWriter, i8, i8, i8, i8, _>(
+        alloc,
+        iter::from_fn(|| if yields_next(&requests, 2) {
+            Some((1i8, 2i8))
+        } else {
+            None
+        }),
+        2,
+        (7, 8),
+        &mut writer,
+    );
+    let outcome = outcome_of(outcome, &writer);
+    (outcome, fits(outcome, requests.get()))
+}
+
+// Writes a set of two keys, as `table` does.
+fn set(alloc: Global) -> (Outcome, bool) {
+    let requests = Cell::new(0usize);
+    let mut writer = VecWriter::new(alloc);
+    let outcome = Keys::serialize_from_iter::<VecWriter, i8, i8, _>(
+        alloc,
+        iter::from_fn(|| if yields_next(&requests, 2) {
+            Some(1i8)
+        } else {
+            None
+        }),
+        2,
+        (7, 8),
+        &mut writer,
+    );
+    let outcome = outcome_of(outcome, &writer);
+    (outcome, fits(outcome, requests.get()))
+}
+
+#[test]
+fn table_allocates_before_reading_items(rt: HostRuntime) {
+    let (_, right) = table(rt.alloc());
+    assert!(rt; right);
+}
+
+#[test]
+fn a_table_succeeds(rt: HostRuntime) {
+    assert_eq!(rt; table(rt.alloc()), (Outcome::Written, true));
+}
+
+#[test]
+fn table_allocates_before_reading_pairs(rt: HostRuntime) {
+    let (_, right) = table_of_pairs(rt.alloc());
+    assert!(rt; right);
+}
+
+#[test]
+fn a_table_of_pairs_succeeds(rt: HostRuntime) {
+    assert_eq!(rt; table_of_pairs(rt.alloc()), (Outcome::Written, true));
+}
+
+#[test]
+fn map_allocates_before_reading_pairs(rt: HostRuntime) {
+    let (_, right) = map(rt.alloc());
+    assert!(rt; right);
+}
+
+#[test]
+fn a_map_succeeds(rt: HostRuntime) {
+    assert_eq!(rt; map(rt.alloc()), (Outcome::Written, true));
+}
+
+#[test]
+fn set_allocates_before_reading_keys(rt: HostRuntime) {
+    let (_, right) = set(rt.alloc());
+    assert!(rt; right);
+}
+
+#[test]
+fn a_set_succeeds(rt: HostRuntime) {
+    assert_eq!(rt; set(rt.alloc()), (Outcome::Written, true));
+}

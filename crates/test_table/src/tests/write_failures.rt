@@ -1,0 +1,133 @@
+//! Tables for which writing fails before the first byte.
+
+use rkyv_base::errors::WriteError;
+use rkyv_base::width::Narrow;
+use rkyv_base::writer::{NoMemory, VecWriter, append};
+use rkyv_scan::simd::lanes;
+use rkyv_table::table::ArchivedHashTable;
+use rkyv_table::table::resolve::HashTableResolver;
+use std::alloc::Global;
+
+// Returns `true` if writing failed with this text, and nothing was written after a nine.
+fn is_failure(
+    alloc: Global,
+    outcome: Result<HashTableResolver, WriteError<NoMemory>>,
+    writer: &VecWriter,
+    text: &str,
+) -> bool {
+    match outcome {
+        Ok(_) => false,
+        Err(error) => match error.to_string(alloc) {
+            Ok(shown) => shown.as_str() == text && writer.bytes() == [9].as_slice(),
+            Err(_) => false,
+        },
+    }
+}
+
+// The claimed number of items, and the load factor.
+type Claim = (usize, (usize, usize));
+
+// Returns a writer that has written a nine.
+fn behind_a_nine(alloc: Global) -> Option<VecWriter> {
+    let mut writer = VecWriter::new(alloc);
+    match append(&mut writer, &[9]) {
+        Ok(()) => Some(writer),
+        Err(_) => None,
+    }
+}
+
+// Returns `true` if writing a table of the numbers fails with this text, and nothing is written.
+// Each number is under the next hash.
+fn write_fails(alloc: Global, items: &[u8], hashes: &[u64], claim: Claim, text: &str) -> bool {
+    let mut writer = match behind_a_nine(alloc) {
+        Some(writer) => writer,
+        None => return false,
+    };
+    let outcome = ArchivedHashTable::<u8, Narrow>::serialize_from_iter::<VecWriter, u8, &u8, _, _>(
+        alloc,
+        items.iter(),
+        hashes.iter().copied(),
+        claim.0,
+        claim.1,
+        &mut writer,
+    );
+    is_failure(alloc, outcome, &writer, text)
+}
+
+// Returns the same for pairs of hash and number.
+fn write_of_pairs_fails(alloc: Global, pairs: &[(u64, u8)], claim: Claim, text: &str) -> bool {
+    let mut writer = match behind_a_nine(alloc) {
+        Some(writer) => writer,
+        None => return false,
+    };
+    let outcome = ArchivedHashTable::<u8, Narrow>::serialize_by::<
+        lanes::Group,
+        VecWriter,
+        u8,
+        u8,
+        _,
+    >(alloc, pairs.iter().copied(), claim.0, claim.1, &mut writer);
+    is_failure(alloc, outcome, &writer, text)
+}
+
+#[test]
+fn rejects_invalid_load_factors(rt: HostRuntime) {
+    let alloc = rt.alloc();
+    let above = "invalid load factor 8 / 7, load factor must be a fraction in the range (0, 1]";
+    let zero = "invalid load factor 0 / 1, load factor must be a fraction in the range (0, 1]";
+    let undivided = "invalid load factor 1 / 0, load factor must be a fraction in the range (0, 1]";
+    let failed = [
+        write_fails(alloc, &[7], &[0], (1, (8, 7)), above),
+        write_fails(alloc, &[7], &[0], (1, (0, 1)), zero),
+        write_fails(alloc, &[7], &[0], (1, (1, 0)), undivided),
+        // also for no items, and before they are counted
+        write_fails(alloc, &[], &[], (0, (8, 7)), above),
+        write_fails(alloc, &[7], &[], (0, (0, 1)), zero),
+        write_of_pairs_fails(alloc, &[(0, 7)], (1, (8, 7)), above),
+        write_of_pairs_fails(alloc, &[], (0, (1, 0)), undivided),
+    ];
+    expect_eq!(rt; failed, [true; 7]);
+}
+
+#[test]
+fn rejects_large_capacities(rt: HostRuntime) {
+    let alloc = rt.alloc();
+    let one = "capacity too large for length 1";
+    let full = "capacity too large for length 4294967295";
+    let all = "capacity too large for length 18446744073709551615";
+    let failed = [
+        write_fails(alloc, &[7], &[0], (1, (1, 4_294_967_296)), one),
+        write_fails(alloc, &[], &[], (4_294_967_295, (1, 1)), full),
+        write_fails(alloc, &[], &[], (usize::MAX, (1, usize::MAX)), all),
+        write_of_pairs_fails(alloc, &[], (4_294_967_295, (1, 1)), full),
+    ];
+    expect_eq!(rt; failed, [true; 4]);
+}
+
+#[test]
+fn rejects_other_numbers_of_items(rt: HostRuntime) {
+    let alloc = rt.alloc();
+    let two = "iterator claimed that it contained 3 elements, but yielded 2 items during iteration";
+    let none =
+        "iterator claimed that it contained 0 elements, but yielded 1 items during iteration";
+    let one = "iterator claimed that it contained 2 elements, but yielded 1 items during iteration";
+    let more =
+        "iterator claimed that it contained 2 elements, but yielded 3 items during iteration";
+    let four = [(0, 7), (1, 8), (2, 9), (3, 10)];
+    let failed = [
+        write_fails(alloc, &[7, 8], &[0, 1, 2], (3, (7, 8)), two),
+        write_fails(alloc, &[7], &[], (0, (7, 8)), none),
+        write_fails(alloc, &[7, 8, 9], &[], (0, (7, 8)), none),
+        write_fails(alloc, &[], &[0, 1, 2], (0, (7, 8)), none),
+        write_fails(alloc, &[7, 8], &[0], (2, (7, 8)), one),
+        write_fails(alloc, &[7, 8], &[0, 1, 2, 3], (2, (7, 8)), more),
+        write_fails(alloc, &[7, 8, 9, 10], &[0, 1], (2, (7, 8)), more),
+        // the items are counted before the hashes
+        write_fails(alloc, &[7], &[0, 1, 2], (2, (7, 8)), one),
+        write_fails(alloc, &[7, 8, 9], &[0], (2, (7, 8)), more),
+        write_of_pairs_fails(alloc, &[(0, 7), (1, 8)], (3, (7, 8)), two),
+        write_of_pairs_fails(alloc, &[(0, 7)], (0, (7, 8)), none),
+        write_of_pairs_fails(alloc, &four, (2, (7, 8)), more),
+    ];
+    expect_eq!(rt; failed, [true; 12]);
+}
