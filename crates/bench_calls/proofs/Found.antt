@@ -14,11 +14,11 @@ use Rattle.rkyv_collections.specs.declared.map.ArchivedHashMap.{ArchivedHashMap}
 use Rattle.bench_calls.specs.Archives.{number_spec}
 use Rattle.bench_calls.specs.Totals.{found_number, value_or_miss}
 
-pub map_found_number : {K V H W : Type 0} {ks : Specs K} {vs : Specs V} {wt : Words W} (key : ElementSpec) (m : ArchivedHashMap K V H W ks vs wt) (found : Option (View V)) (place : Option ℕ) → IfSome found (IsValueIn m) → IsValueAt key number_spec found place
-    → found_number found ≡ value_or_miss key (map_bytes m) place
+pub map_found_number : {K V H W : Type 0} {ks : Specs K} {vs : Specs V} {wt : Words W} (key : ElementSpec) (m : ArchivedHashMap K V H W ks vs wt) (found : Option (View V)) (key_pos : Option ℕ) → IfSome found (IsValueIn m) → IsValueAt key number_spec found key_pos
+    → found_number found ≡ value_or_miss key (map_bytes m) key_pos
 map_found_number key m None None walked at = refl
 map_found_number key m None (Some q) walked at = cc
 map_found_number key m (Some value) None walked at = cc
 map_found_number key m (Some value) (Some q) walked at =
-    let place : value.pos ≡ q + value_offset key number_spec = cc in
-    ap (λ (a : Bor (List ℕ)). number_at w32 a.now value.pos) walked.at.0 ∙ ap (number_at w32 (map_bytes m)) place
+    let same_pos : value.pos ≡ q + value_offset key number_spec = cc in
+    ap (λ (a : Bor (List ℕ)). number_at w32 a.now value.pos) walked.at.0 ∙ ap (number_at w32 (map_bytes m)) same_pos

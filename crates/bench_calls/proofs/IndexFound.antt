@@ -22,7 +22,7 @@ module _ {K V H W : Type 0} {ks : Specs K} {vs : Specs V} {wt : Words W} (m : Ar
       ap (λ w. pair_pos w (entry_spec ks.spec vs.spec).size (index_bytes m) (index_pos m) i + value_offset ks.spec vs.spec) word
       ∙ ap (λ v. pair_pos w32 (entry_spec ks.spec v).size (index_bytes m) (index_pos m) i + value_offset ks.spec v) spec
 
-  pub index_found_number : (found : Option (View V)) (place : Option ℕ) → IsValueAt m found place → found_number found ≡ indexed_value_or_miss ks.spec (index_bytes m) (index_pos m) place
+  pub index_found_number : (found : Option (View V)) (index : Option ℕ) → IsValueAt m found index → found_number found ≡ indexed_value_or_miss ks.spec (index_bytes m) (index_pos m) index
   index_found_number found None at = ap found_number at
   index_found_number found (Some i) at =
       ap found_number at.1 ∙ ap (λ (a : Bor (List ℕ)). number_at w32 a.now (pos_of at.0)) at.2.at.0

@@ -12,7 +12,7 @@ use Rattle.rkyv_table.specs.Table.Counting.{YieldsOtherCount}
 use Rattle.rkyv_table.specs.Table.ItemValues.{pair_values}
 use Rattle.rkyv_table.specs.Table.Listed.{listed}
 use Rattle.rkyv_table.specs.Table.Serializing.{WriteItemsFails, WroteItems}
-use Rattle.rkyv_table.proofs.Listing.{all_came, answers_listed, no_other_came}
+use Rattle.rkyv_table.proofs.Listing.{all_came, no_other_came, results_listed}
 use Rattle.bench_calls.specs.declared.building.Both.{Both}
 
 -- equal keys and values have equal pairs
@@ -34,5 +34,5 @@ module _ {A B R F : Type 0} (keys : List A) (values : List B) (both : Both A B) 
       → MatchResult result (Serialized limit (listed max (7, 8) f) (zip keys values) o o') (SerializeFails limit (listed max (7, 8) f) (zip keys values) o o')
   pairs_listed k v len count max limit f o o' =
       let all : left both ≡ zip keys values = ap (λ those. zip those (iter_rest both.values)) k ∙ ap (zip keys) v in
-      answers_listed (Drains Step both) (YieldsOtherCount Step len both) (pair_values (λ k. k) (λ v. v)) (zip keys values) (λ items d. all_came (λ pair. pair) left items both d ∙ all)
+      results_listed (Drains Step both) (YieldsOtherCount Step len both) (pair_values (λ k. k) (λ v. v)) (zip keys values) (λ items d. all_came (λ pair. pair) left items both d ∙ all)
       (λ n h. no_other_came (λ pair. pair) left len both (ap length all ∙ sym count) n h) len count (7, 8) max limit f o o'

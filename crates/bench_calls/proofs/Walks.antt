@@ -9,7 +9,7 @@ use Rattle.rkyv_base.specs.declared.view.View.{View}
 use Rattle.rkyv_table.specs.Table.PairWalks.{IsAtEnd, YieldsPair}
 use Rattle.rkyv_table.specs.Table.RawItems.{ItemsLeft}
 use Rattle.bench_calls.specs.Archives.{number_spec}
-use Rattle.bench_calls.specs.Totals.{CountsAll, view_pair_weight, pair_weight, total}
+use Rattle.bench_calls.specs.Totals.{CountsAll, pair_weight, total, view_pair_weight}
 use Rattle.bench_calls.proofs.Sums.{counted_all, sum_of_images}
 
 -- the weights of the remaining pairs

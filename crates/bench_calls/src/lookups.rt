@@ -6,7 +6,7 @@ ghost use Rattle.rkyv_base.specs.View.{IsValidView};
 ghost use Rattle.rkyv_keys.specs.AtViews.{at_view};
 ghost use Rattle.bench_calls.specs.Archives.{number_spec};
 ghost use Rattle.bench_calls.specs.Index.{index_map_looked_up};
-ghost use Rattle.bench_calls.specs.Totals.{map_looked_up, found_number, number_weight};
+ghost use Rattle.bench_calls.specs.Totals.{found_number, map_looked_up, number_weight};
 
 use rkyv_base::view::View;
 use rkyv_collections::map::ArchivedHashMap;

@@ -9,7 +9,7 @@ use Rattle.rkyv_table.proofs.Moved.{moved}
 use Rattle.rkyv_collections.specs.Map.InPlace.{SetsFound, with_first}
 use Rattle.rkyv_keys.specs.FirstPairs.{IsFoundValue, first_pair}
 use Rattle.rkyv_collections.specs.declared.lists.pairs.MapPairs.{MapPairs}
-use Rattle.example_message.specs.Message.{FieldList, FieldsRepresent, PartRepresents, Parts, PartsRepresent, RepresentsIfFound, is_named, name_hash, name_spec, number_in, number_of_part, number_spec, WritesIfFound, with_field, with_part}
+use Rattle.example_message.specs.Message.{FieldList, FieldsRepresent, PartRepresents, Parts, PartsRepresent, RepresentsIfFound, WritesIfFound, is_named, name_hash, name_spec, number_in, number_of_part, number_spec, with_field, with_part}
 
 pub part_found : {V : Type 0} (b : List ℕ) (p : ℕ) (view : View V) (o : Option (MapPairs (Bor (List ℕ)) ℕ ℕ)) → view.archive.now ≡ b → view.pos ≡ p → IsFoundValue PartRepresents (Some view) o → RepresentsIfFound b o (Some p)
 part_found b p view None e f h = absurd h
@@ -50,7 +50,7 @@ none_set b part field number parts p None s represents = (refl, represents)
 none_set b part field number parts p (Some fields) s represents = absurd s
 
 -- a write at the position that a lookup finds
-pub only_written : (b c : List ℕ) (p n : ℕ) (found : Bool) (place : Option ℕ) → SetsFound w32 name_spec number_spec (unsigned w32) name_hash b p n found c place
-    → WritesIfFound place n b c found
+pub only_written : (b c : List ℕ) (p n : ℕ) (found : Bool) (key_pos : Option ℕ) → SetsFound w32 name_spec number_spec (unsigned w32) name_hash b p n found c key_pos
+    → WritesIfFound key_pos n b c found
 only_written b c p n found None h = h
 only_written b c p n found (Some q) h = (h.0, h.1)

@@ -6,7 +6,7 @@ use Rattle.std.specs.Int.{w32}
 use Rattle.std.specs.Option.{is_some, option_map}
 use Rattle.rkyv_scan.specs.Groups.{generic_kind}
 use Rattle.rkyv_scan.specs.Hash.{fx_hasher, low_halves}
-use Rattle.rkyv_base.specs.Access.{IsValidArchive, AccessFails}
+use Rattle.rkyv_base.specs.Access.{AccessFails, IsValidArchive}
 use Rattle.rkyv_base.specs.Entry.{entry_spec}
 use Rattle.rkyv_base.specs.Format.{Format}
 use Rattle.rkyv_base.specs.Numbers.{unsigned}
@@ -164,7 +164,7 @@ IsPartsPos b p = (q : ℕ) × IsKeyPosAt w32 name_spec fields_spec b (root b) q
 -- in a written message, `found` is the position of the fields of the first part with the name
 abbrev pub FindsFirstPart : List ℕ → List ℕ → Option ℕ → Type 0
 FindsFirstPart b part found = FindsFirstKeyAt w32 name_spec fields_spec b (root b) name_hash
-    (is_named_at part b) (λ place. found ≡ option_map (value_pos name_spec fields_spec) place)
+    (is_named_at part b) (λ key_pos. found ≡ option_map (value_pos name_spec fields_spec) key_pos)
 
 -- the position of the value whose name a lookup finds in the map at `p`
 abbrev pub value_found : ElementSpec → List ℕ → List ℕ → ℕ → Option ℕ
@@ -185,10 +185,10 @@ number_in_fields field message (Some p) = value_found number_spec field message 
 abbrev pub number_found : List ℕ → List ℕ → List ℕ → Option ℕ
 number_found part field message = number_in_fields field message (fields_found part message)
 
--- `c` is `b` with the number at `place` overwritten, and `found` is `true`.
+-- `c` is `b` with the number at `key_pos` overwritten, and `found` is `true`.
 -- At `None`, `c` is `b` and `found` is `false`.
 abbrev pub WritesIfFound : Option ℕ → ℕ → List ℕ → List ℕ → Bool → Type 0
-WritesIfFound place number b c found = MatchOption place ((found ≡ false) × (c ≡ b))
+WritesIfFound key_pos number b c found = MatchOption key_pos ((found ≡ false) × (c ≡ b))
     (λ q. (found ≡ true) × (c ≡ with_value (unsigned w32) b q number))
 
 -- `c` is `b` with the number of the field overwritten if lookups find one; `found` is the result

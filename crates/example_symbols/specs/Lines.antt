@@ -1,6 +1,6 @@
 -- The symbols of lines, each a name and an address.
 use Rattle.std.specs.Prelude.{ℕ, ◌&&◌, ◌==◌, Bool, if◌then◌else◌, List, nat_lt, length, take, drop}
-use Rattle.std.specs.Prelude.{slice_index, Option, None, Some}
+use Rattle.std.specs.Prelude.{None, Option, Some, slice_index}
 use Rattle.std.specs.Borrow.{Bor}
 use Rattle.std.specs.Char.{is_ascii_hexdigit}
 use Rattle.std.specs.List.{filter_map, list_all}

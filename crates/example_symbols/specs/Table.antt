@@ -5,7 +5,7 @@ use Rattle.std.specs.Int.{w32, w64}
 use Rattle.std.specs.Option.{option_map}
 use Rattle.rkyv_scan.specs.Groups.{generic_kind}
 use Rattle.rkyv_scan.specs.Hash.{fx_hasher, low_halves}
-use Rattle.rkyv_base.specs.Access.{IsValidArchive, AccessFails}
+use Rattle.rkyv_base.specs.Access.{AccessFails, IsValidArchive}
 use Rattle.rkyv_base.specs.Bytes.{number_at}
 use Rattle.rkyv_base.specs.Entry.{entry_spec, value_offset}
 use Rattle.rkyv_base.specs.Format.{Format}

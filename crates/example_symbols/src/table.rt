@@ -6,12 +6,12 @@
 //! - `address_of` validates a table, then looks up a name.
 ghost use Rattle.std.specs.Prelude.{IfOk, IsOk, MatchResult, ◌≡◌};
 ghost use Rattle.example_symbols.specs.Table.{
-  ValidationFails,
   IsTable,
   IsTableOf,
-  TableFails,
   Represents,
   Symbols,
+  TableFails,
+  ValidationFails,
   address_found,
   first_address,
 };

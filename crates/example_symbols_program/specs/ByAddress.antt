@@ -8,7 +8,7 @@ use Rattle.std.specs.declared.vec.Vec.{Vec}
 use Rattle.std.proofs.Common.{nat_cmp}
 use Rattle.std.specs.List.Sorted.{IsNonDecreasingBy, IsPermutation, IsStableByKey}
 use Rattle.rkyv_scan.specs.Hash.{U64, fx_hasher, low_halves}
-use Rattle.rkyv_base.specs.Access.{IsValidArchive, AccessFails}
+use Rattle.rkyv_base.specs.Access.{AccessFails, IsValidArchive}
 use Rattle.rkyv_base.specs.Entry.{entry_spec}
 use Rattle.rkyv_base.specs.Format.{Format}
 use Rattle.rkyv_base.specs.Numbers.{unsigned}
@@ -18,7 +18,7 @@ use Rattle.rkyv_base.specs.Scalar.{ScalarRepresents, scalar_format, scalar_spec}
 use Rattle.rkyv_base.specs.ElementSpec.{ElementSpec}
 use Rattle.rkyv_base.specs.Text.{text_at}
 use Rattle.rkyv_base.specs.TextWriting.{text_format}
-use Rattle.rkyv_base.specs.View.{IsAt, AtView, bytes_of, pos_of}
+use Rattle.rkyv_base.specs.View.{AtView, IsAt, bytes_of, pos_of}
 use Rattle.rkyv_base.specs.declared.errors.VerifyError.{VerifyError}
 use Rattle.rkyv_base.specs.declared.errors.WriteError.{WriteError}
 use Rattle.rkyv_base.specs.declared.errors.WriteError.TheVariants.{Memory}
@@ -95,11 +95,11 @@ OpensIndex s index result = MatchResult result
     × IsAt map.view index (length index.now - s.size))
     (AccessFails 4_294_967_295 s index.now)
 
--- `entry` is the address and the name at index `place` of an index map
+-- `entry` is the address and the name at index `i` of an index map
 abbrev pub IsEntryOf : {K V H W : Type 0} {ks : Specs K} {vs : Specs V} {wt : Words W}
     → ArchivedIndexMap K V H W ks vs wt → ℕ
     → ℕ × Bor (List ℕ) → Type 0
-IsEntryOf {K} {V} index place entry = (pair : View K × View V)
-    × IsPairOf index place pair
+IsEntryOf {K} {V} index i entry = (pair : View K × View V)
+    × IsPairOf index i pair
     × AtView (ScalarRepresents (unsigned w64)) pair.0 entry.0
     × (entry.1.now ≡ text_at w32 (bytes_of pair.1) (pos_of pair.1))

@@ -1,5 +1,5 @@
 -- Outcomes of commands.
-use Rattle.std.specs.Prelude.{Option, Some, None}
+use Rattle.std.specs.Prelude.{None, Option, Some}
 use Rattle.example_symbols_program.specs.declared.outcome.Outcome.{Outcome}
 use Rattle.example_symbols_program.specs.declared.outcome.Outcome.TheVariants.{Complete, Missing}
 

@@ -74,11 +74,11 @@ pub fn open(index: &[u8]) -> Result<ArchivedIndexMap<'_, u64, Text>, VerifyError
     Ok(ArchivedIndexMap::of(access::<IndexMapOf<u64, Text>>(index)?))
 }
 
-/// Returns the address and the name at index `place` of the map, or `None` from its length on.
-pub fn entry<'a>(map: ArchivedIndexMap<'a, u64, Text>, place: usize) -> Option<(u64, &'a str)>
-    ensures { MatchOption result (index_len map.entry ≤ place) (IsEntryOf map.entry place) }
+/// Returns the address and the name at `index` of the map, or `None` from its length on.
+pub fn entry<'a>(map: ArchivedIndexMap<'a, u64, Text>, index: usize) -> Option<(u64, &'a str)>
+    ensures { MatchOption result (index_len map.entry ≤ index) (IsEntryOf map.entry index) }
 {
-    match map.get_index(place) {
+    match map.get_index(index) {
         Some((address, name)) => Some((address.to_native(), name.as_str())),
         None => None,
     }

@@ -116,8 +116,8 @@ fn list(rt: &HostRuntime, index: &str) -> Result<Outcome, SymbolsError> {
         Ok(map) => map,
         Err(error) => return Err(invalid_error(rt.alloc(), index, error)),
     };
-    for place in 0..map.len() {
-        if let Some((address, name)) = by_address::entry(map, place) {
+    for i in 0..map.len() {
+        if let Some((address, name)) = by_address::entry(map, i) {
             println!(rt; "{address:016x} {name}")?;
         }
     }

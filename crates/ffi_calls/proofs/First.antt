@@ -13,9 +13,9 @@ use Rattle.rkyv_collections.specs.Map.{IsValueIn, map_bytes}
 use Rattle.rkyv_collections.specs.declared.map.ArchivedHashMap.{ArchivedHashMap}
 use Rattle.rkyv_keys.specs.FirstPairs.{IsFoundValue}
 
--- the value is at the position `place`
+-- the value is at the position `target`
 abbrev RepresentsIn : {B : Type 0} → (List ℕ → ℕ → B → Type 0) → List ℕ → Option ℕ → B → Type 0
-RepresentsIn represents b place x = (q : ℕ) × (place ≡ Some q) × represents b q x
+RepresentsIn represents b target x = (q : ℕ) × (target ≡ Some q) × represents b q x
 
 -- a valid element at a position is one at the position of a view of it
 pub viewable_at_view : {T : Type 0} (s : ElementSpec) (view : View T) (a : Bor (List ℕ)) (p : ℕ) → view.archive ≡ a → view.pos ≡ p → Viewable s a.now p → Viewable s view.archive.now view.pos
@@ -23,30 +23,30 @@ viewable_at_view s view a p e f h = subst (Viewable s view.archive.now) (sym f) 
 
 -- the position of a value that is found in a map over the bytes `b`, and its validity
 module _ {K V H W : Type 0} {ks : Specs K} {vs : Specs V} {wt : Words W} (m : ArchivedHashMap K V H W ks vs wt) (b : List ℕ) (same : map_bytes m ≡ b) where
-  pub found_viewable : (found : Option (View V)) (place : Option ℕ) → place ≡ pos_of_found found → IfSome found (IsValueIn m) → IfSome place (Viewable vs.spec b)
-  found_viewable None place e h = subst (λ (o : Option ℕ). IfSome o (Viewable vs.spec b)) (sym e) h
-  found_viewable (Some value) place e h = subst (λ (o : Option ℕ). IfSome o (Viewable vs.spec b)) (sym e) (subst (λ d. Viewable vs.spec d value.pos) (ap (λ (a : Bor (List ℕ)). a.now) h.at.0 ∙ same) h.viewable)
+  pub found_viewable : (found : Option (View V)) (target : Option ℕ) → target ≡ pos_of_found found → IfSome found (IsValueIn m) → IfSome target (Viewable vs.spec b)
+  found_viewable None target e h = subst (λ (o : Option ℕ). IfSome o (Viewable vs.spec b)) (sym e) h
+  found_viewable (Some value) target e h = subst (λ (o : Option ℕ). IfSome o (Viewable vs.spec b)) (sym e) (subst (λ d. Viewable vs.spec d value.pos) (ap (λ (a : Bor (List ℕ)). a.now) h.at.0 ∙ same) h.viewable)
 
-  pub found_placed : {B : Type 0} (represents : List ℕ → ℕ → B → Type 0) (found : Option (View V)) (place : Option ℕ) (o : Option B) → place ≡ pos_of_found found → IfSome found (IsValueIn m)
-      → IsFoundValue represents found o → MatchOption o (place ≡ None) (RepresentsIn represents b place)
-  found_placed represents None place None e within h = e
-  found_placed represents None place (Some x) e within h = absurd h
-  found_placed represents (Some value) place None e within h = absurd h
-  found_placed represents (Some value) place (Some x) e within h = (value.pos, e, subst (λ d. represents d value.pos x) (ap (λ (a : Bor (List ℕ)). a.now) within.at.0 ∙ same) h)
+  pub found_placed : {B : Type 0} (represents : List ℕ → ℕ → B → Type 0) (found : Option (View V)) (target : Option ℕ) (o : Option B) → target ≡ pos_of_found found → IfSome found (IsValueIn m)
+      → IsFoundValue represents found o → MatchOption o (target ≡ None) (RepresentsIn represents b target)
+  found_placed represents None target None e within h = e
+  found_placed represents None target (Some x) e within h = absurd h
+  found_placed represents (Some value) target None e within h = absurd h
+  found_placed represents (Some value) target (Some x) e within h = (value.pos, e, subst (λ d. represents d value.pos x) (ap (λ (a : Bor (List ℕ)). a.now) within.at.0 ∙ same) h)
 
--- the value at `place`, and at `None` the one before. `At`: the value at a position
-module _ {X B : Type 0} (At : ℕ → B → Type 0) (IsValue : X → B → Type 0) (place : Option ℕ) (status : ℕ) (after before : X) where
+-- the value at `target`, and at `None` the one before. `At`: the value at a position
+module _ {X B : Type 0} (At : ℕ → B → Type 0) (IsValue : X → B → Type 0) (target : Option ℕ) (status : ℕ) (after before : X) where
   abbrev ReturnsValue : Option B → Type 0
   ReturnsValue o = MatchOption o ((status ≡ 1) × (after ≡ before)) (λ x. (status ≡ 0) × IsValue after x)
 
   abbrev Placed : Option B → Type 0
-  Placed o = MatchOption o (place ≡ None) (λ x. (q : ℕ) × (place ≡ Some q) × At q x)
+  Placed o = MatchOption o (target ≡ None) (λ x. (q : ℕ) × (target ≡ Some q) × At q x)
 
-  pub first_returned : (pos : ℕ) (o : Option B) → place ≡ Some pos → status ≡ 0 → ((x : B) → At pos x → IsValue after x) → Placed o → ReturnsValue o
+  pub first_returned : (pos : ℕ) (o : Option B) → target ≡ Some pos → status ≡ 0 → ((x : B) → At pos x → IsValue after x) → Placed o → ReturnsValue o
   first_returned pos None p z shows h = absurd cc
   first_returned pos (Some x) p z shows h = (z, shows x (subst (λ q. At q x) (sym (same_Some pos h.0 (sym p ∙ h.1))) h.2))
 
-  pub none_returned : (o : Option B) → place ≡ None → status ≡ 1 → after ≡ before → Placed o → ReturnsValue o
+  pub none_returned : (o : Option B) → target ≡ None → status ≡ 1 → after ≡ before → Placed o → ReturnsValue o
   none_returned None p z e h = (z, e)
   none_returned (Some x) p z e h = absurd (let wrong = h.1 in cc)
 

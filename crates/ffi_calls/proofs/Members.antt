@@ -25,6 +25,6 @@ module _ {B : Type 0} (At : ℕ → B → Type 0) where
   found_status pos None h = absurd cc
   found_status pos (Some x) h = refl
 
-  pub missing_status : (o : Option B) (place : Option ℕ) → place ≡ None → MatchOption o (place ≡ None) (λ x. (q : ℕ) × (place ≡ Some q) × At q x) → IsFoundStatus o 1
-  missing_status None place none h = refl
-  missing_status (Some x) place none h = absurd (let wrong = h.1 in cc)
+  pub missing_status : (o : Option B) (target : Option ℕ) → target ≡ None → MatchOption o (target ≡ None) (λ x. (q : ℕ) × (target ≡ Some q) × At q x) → IsFoundStatus o 1
+  missing_status None target none h = refl
+  missing_status (Some x) target none h = absurd (let wrong = h.1 in cc)

@@ -6,7 +6,7 @@ use Rattle.std.specs.Option.{option_map}
 use mir.Val.{bits}
 use Rattle.rkyv_scan.specs.Groups.{generic_kind}
 use Rattle.rkyv_scan.specs.Hash.{HasherCall, fx_hash, low_halves}
-use Rattle.rkyv_base.specs.Access.{IsValidArchive, AccessFails}
+use Rattle.rkyv_base.specs.Access.{AccessFails, IsValidArchive}
 use Rattle.rkyv_base.specs.Entry.{entry_spec}
 use Rattle.rkyv_base.specs.Numbers.{unsigned}
 use Rattle.rkyv_base.specs.Scalar.{Encoding, scalar_spec}
@@ -116,17 +116,17 @@ value_found m calls fits = option_map (value_pos m.key m.value)
     (pos_found generic_kind m.word (entry_spec m.key m.value).size m.bytes m.pos (hash_by calls)
     fits)
 
--- the status is 0 and `after` has the value at `place`, by `IsAt`.
+-- the status is 0 and `after` has the value at `target`, by `IsAt`.
 -- At `None` the status is 1 and `after` is `before`.
 abbrev pub ReturnsAt : {X : Type 0} → (ℕ → X → Type 0) → Option ℕ → X → ℕ → X → Type 0
-ReturnsAt IsAt place before status after = MatchOption place ((status ≡ 1) × (after ≡ before))
+ReturnsAt IsAt target before status after = MatchOption target ((status ≡ 1) × (after ≡ before))
     (λ q. (status ≡ 0) × IsAt q after)
 
--- `c` is `b` with the value of `number` at `place`, and the status is 0.
+-- `c` is `b` with the value of `number` at `target`, and the status is 0.
 -- If `number` has too many bits, or at `None`, no byte is changed.
 abbrev pub Overwrites : {N : Type 0} → Encoding N → List ℕ → Option ℕ → ℕ → ℕ → List ℕ → Type 0
-Overwrites {N} e b place number status c =
+Overwrites {N} e b target number status c =
     ((2 ^ bits e.word ≤ number) × (status ≡ 3) × (c ≡ b))
     ⊎ ((number < 2 ^ bits e.word) × ((value : N) × (e.code value ≡ number)
-    × MatchOption place ((status ≡ 1) × (c ≡ b))
+    × MatchOption target ((status ≡ 1) × (c ≡ b))
     (λ q. (status ≡ 0) × (c ≡ with_value e b q value))))

@@ -7,7 +7,7 @@ use Rattle.rkyv_base.specs.Scalar.{ScalarRepresents}
 use Rattle.rkyv_keys.specs.Calls.{text_calls}
 use Rattle.rkyv_keys.specs.OfScalars.{one_call, scalar_fits}
 use Rattle.rkyv_keys.specs.OfTexts.{same_bytes}
-use Rattle.ffi_calls.specs.Archives.{ReturnsAt, Overwrites, numbers_in, texts_in, value_encoding}
+use Rattle.ffi_calls.specs.Archives.{Overwrites, ReturnsAt, numbers_in, texts_in, value_encoding}
 use Rattle.ffi_calls.specs.Archives.{value_found, word_of}
 use Rattle.ffi_calls.specs.Keys.{NumberKey}
 use Rattle.ffi_calls.specs.Reading.{ReadsText, ReadsWord}

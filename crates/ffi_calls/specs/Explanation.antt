@@ -1,14 +1,14 @@
 -- Why an archive is invalid, or a container: the first error, with its numbers.
 use Rattle.std.specs.Prelude.{◌≡◌, ℕ, ℤ, ◌⊎◌, ◌-◌, ◌^◌, cond, int_lt, min, negsuc, List}
 use Rattle.std.specs.Prelude.{pos as int}
-use Rattle.rkyv_base.specs.Access.{IsValidArchive, AccessFails}
+use Rattle.rkyv_base.specs.Access.{AccessFails, IsValidArchive}
 use Rattle.rkyv_base.specs.ElementSpec.{ElementSpec}
 use Rattle.rkyv_base.specs.declared.errors.VerifyError.{VerifyError}
 use Rattle.rkyv_base.specs.declared.errors.VerifyError.TheVariants.{OutOfRange, Unaligned}
 use Rattle.rkyv_base.specs.declared.errors.VerifyError.TheVariants.{InvalidLength}
 use Rattle.rkyv_base.specs.declared.errors.VerifyError.TheVariants.{WrongNumberOfElements}
 use Rattle.rkyv_base.specs.declared.errors.VerifyError.TheVariants.{UnwrappedControlByte}
-use Rattle.rkyv_base.specs.declared.errors.VerifyError.TheVariants.{PlaceOutOfRange, InvalidValue}
+use Rattle.rkyv_base.specs.declared.errors.VerifyError.TheVariants.{InvalidValue, PlaceOutOfRange}
 use Rattle.rkyv_base.specs.declared.errors.VerifyError.TheVariants.{Refused}
 use Rattle.rkyv_container.specs.Codes.{item_code, kind_code, width_code}
 use Rattle.rkyv_container.specs.Container.{IsContainerOf, OpenAsFails}

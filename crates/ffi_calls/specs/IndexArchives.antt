@@ -99,12 +99,12 @@ abbrev pub found_index : MapAt → List HasherCall → (ℕ → Bool) → Option
 found_index m calls fits =
     index_found m.word m.bytes m.pos (hash_by calls) (λ i. fits (pair_pos_at m i))
 
--- the status is 0 and `after` has the index `place` and the value at it.
+-- the status is 0 and `after` has the index `at` and the value at it.
 -- At `None` the status is 1 and `after` is `before`. `value`: the stored value at a position
 abbrev pub ReturnsIndexed : {Y : Type 0} → MapAt → (List ℕ → ℕ → Y → Type 0) → Option ℕ → Indexed Y
     → ℕ → Indexed Y → Type 0
-ReturnsIndexed m value place before status after =
-    MatchOption place ((status ≡ 1) × (after ≡ before))
+ReturnsIndexed m value at before status after =
+    MatchOption at ((status ≡ 1) × (after ≡ before))
     (λ i. (status ≡ 0) × (after.index ≡ i) × value m.bytes (value_pos_at m i) after.value)
 
 -- the key and the value of the pair are those at index `i`. `key` and `value`: the stored key and

@@ -6,7 +6,7 @@ use Rattle.std.specs.Str.{IsUtf8}
 use mir.Val.{bits}
 use Rattle.rkyv_scan.specs.Hash.{HasherCall}
 use Rattle.rkyv_base.specs.Scalar.{Encoding, ScalarRepresents}
-use Rattle.rkyv_collections.specs.Map.MapAt.{ValueQuery, MapAt}
+use Rattle.rkyv_collections.specs.Map.MapAt.{MapAt, ValueQuery}
 use Rattle.rkyv_index.specs.Index.ListedLookups.{IsFirst}
 use Rattle.ffi_calls.specs.Archives.{Overwrites, value_encoding, word_of}
 use Rattle.ffi_calls.specs.IndexArchives.{found_index, index_in, number_index_found}

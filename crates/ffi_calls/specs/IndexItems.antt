@@ -18,7 +18,7 @@ use Rattle.rkyv_keys.specs.Calls.{text_calls}
 use Rattle.rkyv_keys.specs.Natives.{NativePairs}
 use Rattle.rkyv_collections.specs.Natives.{PairFormat}
 use Rattle.rkyv_table.specs.Table.Listed.{listed}
-use Rattle.rkyv_index.specs.Index.IndexFormat.{IndexRepresents, PlacesAs, index_format, indices}
+use Rattle.rkyv_index.specs.Index.IndexFormat.{IndexRepresents, IndicesAs, index_format, indices}
 use Rattle.rkyv_index.specs.Index.IndexHeader.{IndexResolver}
 use Rattle.ffi_calls.specs.Archives.{value_encoding, value_spec, word_of}
 use Rattle.ffi_calls.specs.IndexArchives.{index_in, index_map}
@@ -35,7 +35,7 @@ use Rattle.ffi_calls.specs.declared.pairs.Pair.{Pair}
 -- the width of an archive of an index map. `indices`: how its indices are written
 pub record IndexWidth (P : Type 0) : Type 1 where
   pub archive : ArchiveWidth
-  pub indices : PlacesAs P
+  pub indices : IndicesAs P
 
 -- the width with the members of a `Width`, whose indices have this spec and encoding
 abbrev pub index_width : {P : Type 0} → WidthMembers → ElementSpec → Encoding P → IndexWidth P

@@ -4,13 +4,13 @@ use Rattle.std.specs.Prelude.{min, slice_get}
 use Rattle.std.specs.Borrow.{Bor}
 use Rattle.rkyv_base.specs.Scalar.{ScalarRepresents}
 use Rattle.rkyv_keys.specs.Natives.{NativePairs}
-use Rattle.rkyv_collections.specs.Map.MapAt.{ValueQuery, MapAt}
+use Rattle.rkyv_collections.specs.Map.MapAt.{MapAt, ValueQuery}
 use Rattle.rkyv_index.specs.Index.IndexFormat.{IndexRepresents}
 use Rattle.rkyv_index.specs.Index.ListedLookups.{IsFirst}
 use Rattle.ffi_calls.specs.Archives.{value_encoding, word_of}
 use Rattle.ffi_calls.specs.IndexArchives.{number_index_in, text_index_in}
 use Rattle.ffi_calls.specs.Keys.{NumberKey}
-use Rattle.ffi_calls.specs.Listed.{query_of_number, query_of_text, number_natives, text_natives}
+use Rattle.ffi_calls.specs.Listed.{number_natives, query_of_number, query_of_text, text_natives}
 use Rattle.ffi_calls.specs.Lists.{query_pairs}
 use Rattle.ffi_calls.specs.declared.form.Form.{Form}
 use Rattle.ffi_calls.specs.Reading.{HasBytesOf, IsNumberOf, IsSame}

@@ -14,7 +14,7 @@ use Rattle.rkyv_keys.specs.Calls.{text_calls}
 use Rattle.rkyv_keys.specs.Natives.{NativePairs}
 use Rattle.rkyv_keys.specs.OfScalars.{one_call, scalar_fits}
 use Rattle.rkyv_keys.specs.OfTexts.{same_bytes}
-use Rattle.rkyv_collections.specs.Map.MapAt.{ValueQuery, MapAt}
+use Rattle.rkyv_collections.specs.Map.MapAt.{MapAt, ValueQuery}
 use Rattle.rkyv_collections.specs.Natives.{PairFormat}
 use Rattle.rkyv_index.specs.Index.IndexFormat.{indices}
 use Rattle.ffi_calls.specs.Archives.{limit_of, word_of}
@@ -33,7 +33,7 @@ use Rattle.ffi_calls.specs.TextValues.{text_by}
 use Rattle.ffi_calls.specs.declared.pairs.Indexed.{Indexed}
 use Rattle.ffi_calls.specs.declared.pairs.Pair.{Pair}
 
--- the result of a lookup whose index and text replace `before`. `place`: the index that is found
+-- the result of a lookup whose index and text replace `before`. `at`: the index that is found
 abbrev pub ReturnsIndexedTextAt : Bool → MapAt → Option ℕ → Indexed (Bor (List ℕ)) → ℕ
     → Indexed (Bor (List ℕ)) → Type 0
 ReturnsIndexedTextAt wide m = ReturnsIndexed m (ReadsText (word_of wide))

@@ -19,7 +19,7 @@ use Rattle.rkyv_collections.specs.Natives.{PairFormat}
 use Rattle.ffi_calls.specs.Archives.{limit_of, most_of, value_encoding, value_spec, word_of}
 use Rattle.ffi_calls.specs.Keys.{NumberKey}
 use Rattle.ffi_calls.specs.Listed.{TextRepresents, number_natives}
-use Rattle.ffi_calls.specs.Lists.{ArchiveWidth, IsArchiveOf, ArchiveFails, format_of}
+use Rattle.ffi_calls.specs.Lists.{ArchiveFails, ArchiveWidth, IsArchiveOf, format_of}
 use Rattle.ffi_calls.specs.Lists.{natives}
 use Rattle.ffi_calls.specs.Status.{write_status}
 use Rattle.ffi_calls.specs.declared.building.Built.{Built}

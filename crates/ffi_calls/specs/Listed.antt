@@ -7,10 +7,10 @@ use Rattle.rkyv_keys.specs.Natives.{NativePairs}
 use Rattle.rkyv_keys.specs.OfScalars.{scalar_calls}
 use Rattle.rkyv_keys.specs.OfTexts.{same_bytes}
 use Rattle.rkyv_keys.specs.Lemmas.OfTexts.{IsTextOf, text_key_calls}
-use Rattle.rkyv_collections.specs.Map.MapAt.{ValueQuery, MapAt}
+use Rattle.rkyv_collections.specs.Map.MapAt.{MapAt, ValueQuery}
 use Rattle.ffi_calls.specs.Archives.{numbers_in, texts_in, value_encoding, word_of}
 use Rattle.ffi_calls.specs.Keys.{NumberKey}
-use Rattle.ffi_calls.specs.Lists.{ReturnsFirst, SetsFirstOf, query_of_key, natives}
+use Rattle.ffi_calls.specs.Lists.{ReturnsFirst, SetsFirstOf, natives, query_of_key}
 use Rattle.ffi_calls.specs.Reading.{IsNumberOf}
 use Rattle.ffi_calls.specs.declared.form.Form.{Form}
 

@@ -16,7 +16,7 @@ use Rattle.rkyv_table.specs.Table.TableFormat.{TableResolver}
 use Rattle.rkyv_collections.specs.Map.InPlace.{with_first}
 use Rattle.rkyv_keys.specs.FirstPairs.{first_pair, first_value}
 use Rattle.rkyv_collections.specs.Map.ListedWalks.{WalksVisitPairs}
-use Rattle.rkyv_collections.specs.Map.MapAt.{ValueQuery, MapAt, query_of_value}
+use Rattle.rkyv_collections.specs.Map.MapAt.{MapAt, ValueQuery, query_of_value}
 use Rattle.rkyv_collections.specs.Map.MapSpec.{map_spec}
 use Rattle.rkyv_collections.specs.Map.MapFormat.{MapRepresents, map_format}
 use Rattle.rkyv_keys.specs.Natives.{NativePairs, native_pairs}
@@ -65,12 +65,12 @@ module _ {A B : Type 0} (m : MapAt) (a : ValueQuery A) (value : List ℕ → ℕ
   abbrev pub query_pairs : NativePairs A B
   query_pairs = record { key = a.represents; value = value; key_hash = a.key_hash }
 
-  -- `place` is the position of the first value whose key is accepted, or both are `None`
+  -- `target` is the position of the first value whose key is accepted, or both are `None`
   abbrev pub PosOfFirst : Option ℕ → Type 0
-  PosOfFirst place = (factor : ℕ × ℕ) (pairs : List (A × B))
+  PosOfFirst target = (factor : ℕ × ℕ) (pairs : List (A × B))
       → PairsRepresent m query_pairs factor pairs
-      → MatchOption (first_value a.accept_value pairs) (place ≡ None)
-      (λ x. (q : ℕ) × (place ≡ Some q) × value m.bytes q x)
+      → MatchOption (first_value a.accept_value pairs) (target ≡ None)
+      (λ x. (q : ℕ) × (target ≡ Some q) × value m.bytes q x)
 
   -- The result of a lookup is the value of the first pair whose key is accepted, by `IsValue`.
   -- Without one the status is 1 and `after` is `before`.

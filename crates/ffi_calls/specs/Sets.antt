@@ -12,7 +12,7 @@ use Rattle.rkyv_base.specs.Scalar.{ScalarRepresents}
 use Rattle.rkyv_keys.specs.Calls.{text_calls}
 use Rattle.rkyv_keys.specs.OfScalars.{one_call, scalar_fits}
 use Rattle.rkyv_keys.specs.OfTexts.{same_bytes}
-use Rattle.rkyv_collections.specs.Map.MapAt.{ValueQuery, MapAt}
+use Rattle.rkyv_collections.specs.Map.MapAt.{MapAt, ValueQuery}
 use Rattle.rkyv_collections.specs.Set.{set_spec}
 use Rattle.rkyv_collections.specs.Set.SetFormat.{SetRepresents}
 use Rattle.ffi_calls.specs.Archives.{limit_of, map_in, value_found, word_of}

@@ -10,7 +10,7 @@ use Rattle.rkyv_base.specs.Scalar.{ScalarRepresents}
 use Rattle.rkyv_keys.specs.Calls.{text_calls}
 use Rattle.rkyv_keys.specs.OfScalars.{one_call, scalar_fits}
 use Rattle.rkyv_keys.specs.OfTexts.{same_bytes}
-use Rattle.rkyv_collections.specs.Map.MapAt.{ValueQuery, MapAt}
+use Rattle.rkyv_collections.specs.Map.MapAt.{MapAt, ValueQuery}
 use Rattle.rkyv_collections.specs.Map.MapSpec.{map_spec}
 use Rattle.ffi_calls.specs.Archives.{ReturnsAt, limit_of, map_in, value_found, word_of}
 use Rattle.ffi_calls.specs.Keys.{NumberKey}
@@ -53,7 +53,7 @@ number_texts_in k wide = to_texts_in (word_of wide) k.spec
 abbrev pub text_texts_in : Bool → List ℕ → MapAt
 text_texts_in wide = to_texts_in (word_of wide) (text_by wide)
 
--- the status is 0 and `after` has the text at `place`.
+-- the status is 0 and `after` has the text at `target`.
 -- At `None` the status is 1 and `after` is `before`.
 abbrev pub ReturnsTextAt : MapAt → Option ℕ → Bor (List ℕ) → ℕ → Bor (List ℕ) → Type 0
 ReturnsTextAt m = ReturnsAt (ReadsText m.word m.bytes)

@@ -5,11 +5,11 @@ ghost use Rattle.rkyv_base.specs.Access.{IsValidArchive};
 ghost use Rattle.rkyv_index.specs.Index.{index_bytes, index_pos};
 ghost use Rattle.ffi_calls.specs.Archives.{IsHeaderOf, Opens};
 ghost use Rattle.ffi_calls.specs.Explanation.{Explains};
-ghost use Rattle.ffi_calls.specs.IndexArchives.{ReturnsIndexed, IsIndexArchive, IsIndexPair};
+ghost use Rattle.ffi_calls.specs.IndexArchives.{IsIndexArchive, IsIndexPair, ReturnsIndexed};
 ghost use Rattle.ffi_calls.specs.IndexArchives.{IsPairAtIndex, StoresPairs, found_index, index_at};
 ghost use Rattle.ffi_calls.specs.IndexArchives.{index_in, index_map, index_root};
 ghost use Rattle.ffi_calls.specs.IndexLists.{ReturnsFirstIndexed, StoresListed};
-ghost use Rattle.ffi_calls.specs.Lists.{query_of_key, fx_pairs};
+ghost use Rattle.ffi_calls.specs.Lists.{fx_pairs, query_of_key};
 
 use crate::explanation::{Explanation, explain, explained};
 use crate::pairs::{Indexed, IndexedOf, Pair, PairOf};

@@ -16,15 +16,15 @@ use crate::{number_items, text_items};
 use rkyv_base::root::to_bytes_in;
 use rkyv_base::width::{Narrow, Wide};
 use rkyv_index::OrderedPairs;
-use rkyv_index::width::PlaceWidth;
+use rkyv_index::width::IndexMapWidth;
 use std::alloc::Global;
 
 /// Writes the archive of the items as an index map, in their order, under the load factor 7 / 8.
-fn numbers_in<K: NumberKey, V: Value, W: PlaceWidth, P: PairOf<K, u64>>(
+fn numbers_in<K: NumberKey, V: Value, W: IndexMapWidth, P: PairOf<K, u64>>(
     alloc: Global,
     items: &[P],
 ) -> Result<Vec<u8>, u32>
-    ensures { let w = index_width W.Width W.Place.spec W.Place.encoding in
+    ensures { let w = index_width W.Width W.Index.spec W.Index.encoding in
         WritesNumberIndex K.NumberKey w V.spec V.encoding (map P.pair_of items.now) result }
 {
     let pairs = match number_items::pairs_of::<K, V, P>(alloc, items) {
@@ -79,11 +79,11 @@ pub fn build_index_numbers<K: NumberKey, P: PairOf<K, u64>>(
 }
 
 /// Writes the archive of the items as an index map, in their order, under the load factor 7 / 8.
-fn texts_in<'a, V: Value, W: PlaceWidth, P: PairOf<&'a [u8], u64>>(
+fn texts_in<'a, V: Value, W: IndexMapWidth, P: PairOf<&'a [u8], u64>>(
     alloc: Global,
     items: &[P],
 ) -> Result<Vec<u8>, u32>
-    ensures { let w = index_width W.Width W.Place.spec W.Place.encoding in
+    ensures { let w = index_width W.Width W.Index.spec W.Index.encoding in
         WritesTextIndex w V.spec V.encoding (map P.pair_of items.now) result }
 {
     let pairs = match text_items::pairs_of::<V, P>(alloc, items) {

@@ -6,7 +6,7 @@
 ghost use Rattle.std.specs.Prelude.{map, ◌≡◌};
 ghost use Rattle.ffi_calls.specs.Archives.{IsHeaderOf, KeepsHeader, Opens, limit_of};
 ghost use Rattle.ffi_calls.specs.Explanation.{Explains};
-ghost use Rattle.ffi_calls.specs.IndexArchives.{ReturnsIndexedNumber, IsNumberIndex, StoresNumbers};
+ghost use Rattle.ffi_calls.specs.IndexArchives.{IsNumberIndex, ReturnsIndexedNumber, StoresNumbers};
 ghost use Rattle.ffi_calls.specs.IndexArchives.{number_index, number_index_in};
 ghost use Rattle.ffi_calls.specs.IndexInPlace.{SetsFirstIndexedNumber, SetsIndexedNumber};
 ghost use Rattle.ffi_calls.specs.IndexLists.{ReturnsFirstIndexedNumber, StoresListedNumbers};

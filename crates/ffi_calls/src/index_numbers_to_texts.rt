@@ -7,7 +7,7 @@ ghost use Rattle.std.specs.Prelude.{map, ◌≡◌};
 ghost use Rattle.ffi_calls.specs.Archives.{IsHeaderOf, Opens, limit_of};
 ghost use Rattle.ffi_calls.specs.Explanation.{Explains};
 ghost use Rattle.ffi_calls.specs.IndexTextValues.{ReturnsFirstIndexedTextOfNumber};
-ghost use Rattle.ffi_calls.specs.IndexTextValues.{ReturnsIndexedTextOfNumber, IsNumberTextIndex};
+ghost use Rattle.ffi_calls.specs.IndexTextValues.{IsNumberTextIndex, ReturnsIndexedTextOfNumber};
 ghost use Rattle.ffi_calls.specs.IndexTextValues.{StoresListedNumberTexts, StoresNumberTexts};
 ghost use Rattle.ffi_calls.specs.IndexTextValues.{number_text_index, number_text_index_in};
 

@@ -4,7 +4,7 @@ ghost use Rattle.std.specs.Prelude.{MatchResult, map};
 ghost use Rattle.ffi_calls.specs.IndexItems.{index_width};
 ghost use Rattle.ffi_calls.specs.IndexTextValues.{IndexOfNumberTextsFails, IndexOfTextTextsFails};
 ghost use Rattle.ffi_calls.specs.IndexTextValues.{IsIndexOfNumberTexts, IsIndexOfTextTexts};
-ghost use Rattle.ffi_calls.specs.IndexTextValues.{TextTextIndexWriteOk, TextTextIndexWriteFails};
+ghost use Rattle.ffi_calls.specs.IndexTextValues.{TextTextIndexWriteFails, TextTextIndexWriteOk};
 ghost use Rattle.ffi_calls.specs.IndexTextValues.{WritesNumberTextIndex};
 ghost use Rattle.ffi_calls.specs.Items.{Outputs};
 
@@ -16,15 +16,15 @@ use crate::{numbers_to_texts_items, texts_to_texts_items};
 use rkyv_base::root::to_bytes_in;
 use rkyv_base::width::{Narrow, Wide};
 use rkyv_index::OrderedPairs;
-use rkyv_index::width::PlaceWidth;
+use rkyv_index::width::IndexMapWidth;
 use std::alloc::Global;
 
 /// Writes the archive of the items as an index map, in their order, under the load factor 7 / 8.
-fn number_texts_in<'a, K: NumberKey, W: PlaceWidth, P: PairOf<K, &'a [u8]>>(
+fn number_texts_in<'a, K: NumberKey, W: IndexMapWidth, P: PairOf<K, &'a [u8]>>(
     alloc: Global,
     items: &[P],
 ) -> Result<Vec<u8>, u32>
-    ensures { let w = index_width W.Width W.Place.spec W.Place.encoding in
+    ensures { let w = index_width W.Width W.Index.spec W.Index.encoding in
         WritesNumberTextIndex K.NumberKey w (map P.pair_of items.now) result }
 {
     let pairs = match numbers_to_texts_items::pairs_of::<K, P>(alloc, items) {
@@ -78,11 +78,11 @@ pub fn build_index_numbers_to_texts<'a, K: NumberKey, P: PairOf<K, &'a [u8]>>(
 }
 
 /// Writes the archive of the items as an index map, in their order, under the load factor 7 / 8.
-fn text_texts_in<'a, W: PlaceWidth, P: PairOf<&'a [u8], &'a [u8]>>(
+fn text_texts_in<'a, W: IndexMapWidth, P: PairOf<&'a [u8], &'a [u8]>>(
     alloc: Global,
     items: &[P],
 ) -> Result<Vec<u8>, u32>
-    ensures { let w = index_width W.Width W.Place.spec W.Place.encoding in
+    ensures { let w = index_width W.Width W.Index.spec W.Index.encoding in
         MatchResult result (λ v. TextTextIndexWriteOk w (map P.pair_of items.now) v.items)
         (TextTextIndexWriteFails w (map P.pair_of items.now)) }
 {

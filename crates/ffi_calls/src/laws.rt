@@ -10,7 +10,7 @@ use rkyv_base::element::Represents;
 use rkyv_base::width::Width;
 use rkyv_collections::map::laws::walks_visit_each;
 use rkyv_collections::{FxHasher64, KeyElement, NativeKey};
-use rkyv_index::width::PlaceWidth;
+use rkyv_index::width::IndexMapWidth;
 
 /// States that a walk over an archive of a list visits each pair's home bucket once, and no other.
 ///
@@ -44,13 +44,13 @@ where
 {}
 
 /// States that an index map that is written from a list of pairs is valid, and represents the list.
-pub fn indexes_represent_their_lists<A, B, K, V, W: PlaceWidth>()
+pub fn indexes_represent_their_lists<A, B, K, V, W: IndexMapWidth>()
 where
     A: NativeKey<K> + Archive<W, Archived = K>,
     B: Archive<W, Archived = V>,
     K: KeyElement + Represents<A>,
     V: Represents<B>,
-    ensures { IndexesRepresent (index_width W.Width W.Place.spec W.Place.encoding)
+    ensures { IndexesRepresent (index_width W.Width W.Index.spec W.Index.encoding)
         (fx_format K.spec V.spec A.format B.format A.calls)
         (fx_pairs K.represents V.represents K.key_calls) }
 {}

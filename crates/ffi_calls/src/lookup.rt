@@ -2,9 +2,9 @@
 
 ghost use Rattle.std.specs.Prelude.{IfSome, false, true, ◌≡◌};
 ghost use Rattle.rkyv_base.specs.ElementSpec.{Viewable};
-ghost use Rattle.ffi_calls.specs.Archives.{ReturnsAt, IsHeaderOf, IsMapArchive, KeepsHeader};
+ghost use Rattle.ffi_calls.specs.Archives.{IsHeaderOf, IsMapArchive, KeepsHeader, ReturnsAt};
 ghost use Rattle.ffi_calls.specs.Archives.{Overwrites, map_in, value_found};
-ghost use Rattle.ffi_calls.specs.Lists.{ReturnsFirst, PosOfFirst, SetsFirstOf, query_of_key};
+ghost use Rattle.ffi_calls.specs.Lists.{PosOfFirst, ReturnsFirst, SetsFirstOf, query_of_key};
 
 use crate::archives::{map_of, root_of};
 use crate::reading::{ReadAs, StoresNative};

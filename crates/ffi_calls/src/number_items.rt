@@ -1,7 +1,7 @@
 //! Archives of pairs of numbers.
 
 ghost use Rattle.std.specs.Prelude.{MatchResult, map};
-ghost use Rattle.ffi_calls.specs.Items.{IsArchiveOfNumbers, ArchiveOfNumbersFails};
+ghost use Rattle.ffi_calls.specs.Items.{ArchiveOfNumbersFails, IsArchiveOfNumbers};
 ghost use Rattle.ffi_calls.specs.Items.{ArePairsOfNumbers, Outputs, PairsOfNumbersFail};
 ghost use Rattle.ffi_calls.specs.Items.{WritesNumbers};
 ghost use Rattle.ffi_calls.specs.Lists.{archive_width};

@@ -9,7 +9,7 @@ ghost use Rattle.ffi_calls.specs.Explanation.{Explains};
 ghost use Rattle.ffi_calls.specs.Items.{Outputs};
 ghost use Rattle.ffi_calls.specs.Lists.{archive_width};
 ghost use Rattle.ffi_calls.specs.SetItems.{ArchiveOfNumberSetFails, IsArchiveOfNumberSet};
-ghost use Rattle.ffi_calls.specs.SetItems.{NumberSetWriteOk, NumberSetWriteFails};
+ghost use Rattle.ffi_calls.specs.SetItems.{NumberSetWriteFails, NumberSetWriteOk};
 ghost use Rattle.ffi_calls.specs.Sets.{FindsListedNumber, FindsNumber, IsNumberSet};
 ghost use Rattle.ffi_calls.specs.Sets.{StoresNextNumberMembers, number_set, number_set_in};
 

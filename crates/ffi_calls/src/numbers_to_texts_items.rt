@@ -5,7 +5,7 @@ ghost use Rattle.ffi_calls.specs.Items.{Outputs};
 ghost use Rattle.ffi_calls.specs.Lists.{archive_width};
 ghost use Rattle.ffi_calls.specs.TextItems.{ArchiveOfNumberTextsFails, AreNumberTexts};
 ghost use Rattle.ffi_calls.specs.TextItems.{IsArchiveOfNumberTexts, NumberTextsFail};
-ghost use Rattle.ffi_calls.specs.TextItems.{NumberTextsWriteOk, NumberTextsWriteFails};
+ghost use Rattle.ffi_calls.specs.TextItems.{NumberTextsWriteFails, NumberTextsWriteOk};
 
 use crate::building::{Built, archive_of, leak_into};
 use crate::pairs::PairOf;

@@ -1,9 +1,9 @@
 //! Archives of pairs of texts and numbers.
 
 ghost use Rattle.std.specs.Prelude.{MatchResult, map};
-ghost use Rattle.ffi_calls.specs.Items.{IsArchiveOfTexts, ArchiveOfTextsFails};
+ghost use Rattle.ffi_calls.specs.Items.{ArchiveOfTextsFails, IsArchiveOfTexts};
 ghost use Rattle.ffi_calls.specs.Items.{ArePairsOfTexts, Outputs, PairsOfTextsFail};
-ghost use Rattle.ffi_calls.specs.Items.{TextsWriteOk, TextsWriteFails};
+ghost use Rattle.ffi_calls.specs.Items.{TextsWriteFails, TextsWriteOk};
 ghost use Rattle.ffi_calls.specs.Lists.{archive_width};
 
 use crate::building::{Built, archive_of, leak_into};

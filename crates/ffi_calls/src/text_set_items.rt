@@ -3,7 +3,7 @@
 ghost use Rattle.std.specs.Prelude.{MatchResult};
 ghost use Rattle.ffi_calls.specs.Items.{Outputs};
 ghost use Rattle.ffi_calls.specs.Lists.{archive_width};
-ghost use Rattle.ffi_calls.specs.SetItems.{AreSetTexts, ArchiveOfTextSetFails};
+ghost use Rattle.ffi_calls.specs.SetItems.{ArchiveOfTextSetFails, AreSetTexts};
 ghost use Rattle.ffi_calls.specs.SetItems.{IsArchiveOfTextSet, SetTextsFail, TextSetWriteOk};
 ghost use Rattle.ffi_calls.specs.SetItems.{TextSetWriteFails};
 

@@ -5,7 +5,7 @@
 
 ghost use Rattle.std.specs.Prelude.{IsTrue, MatchOption, map, ◌↔◌, ◌≡◌};
 ghost use Rattle.std.specs.Str.{IsUtf8};
-ghost use Rattle.ffi_calls.specs.Archives.{ReturnsAt, IsHeaderOf, IsTextArchive, KeepsHeader};
+ghost use Rattle.ffi_calls.specs.Archives.{IsHeaderOf, IsTextArchive, KeepsHeader, ReturnsAt};
 ghost use Rattle.ffi_calls.specs.Archives.{Opens, Overwrites, limit_of, text_map, texts_in};
 ghost use Rattle.ffi_calls.specs.Archives.{value_encoding, word_of};
 ghost use Rattle.ffi_calls.specs.Calls.{ReturnsText, SetsText, StoresNextTexts, text_found};

@@ -5,7 +5,7 @@ ghost use Rattle.ffi_calls.specs.Items.{Outputs};
 ghost use Rattle.ffi_calls.specs.Lists.{archive_width};
 ghost use Rattle.ffi_calls.specs.TextItems.{ArchiveOfTextTextsFails, AreTextTexts};
 ghost use Rattle.ffi_calls.specs.TextItems.{IsArchiveOfTextTexts, TextTextsFail};
-ghost use Rattle.ffi_calls.specs.TextItems.{TextTextsWriteOk, TextTextsWriteFails};
+ghost use Rattle.ffi_calls.specs.TextItems.{TextTextsWriteFails, TextTextsWriteOk};
 
 use crate::building::{Built, archive_of, leak_into};
 use crate::pairs::PairOf;

@@ -5,7 +5,7 @@
 
 ghost use Rattle.std.specs.Prelude.{false, true};
 ghost use Rattle.ffi_calls.specs.Archives.{IsHeaderOf, form_of};
-ghost use Rattle.ffi_calls.specs.IndexArchives.{ReturnsIndexedNumber, IsNumberIndex};
+ghost use Rattle.ffi_calls.specs.IndexArchives.{IsNumberIndex, ReturnsIndexedNumber};
 ghost use Rattle.ffi_calls.specs.IndexArchives.{number_index_in};
 ghost use Rattle.ffi_calls.specs.IndexLists.{ReturnsFirstIndexedNumber};
 ghost use Rattle.ffi_calls.specs.Keys.{long_key};

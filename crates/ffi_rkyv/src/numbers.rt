@@ -5,7 +5,7 @@ ghost use Rattle.ffi_calls.specs.Archives.{IsHeaderOf, IsNumberArchive, KeepsHea
 ghost use Rattle.ffi_calls.specs.Archives.{form_of, limit_of, number_map, numbers_in};
 ghost use Rattle.ffi_calls.specs.Calls.{SetsNumber, StoresNextNumbers};
 ghost use Rattle.ffi_calls.specs.Explanation.{Explains};
-ghost use Rattle.ffi_calls.specs.Items.{Outputs, IsArchiveOfNumbers, ArchiveOfNumbersFails};
+ghost use Rattle.ffi_calls.specs.Items.{ArchiveOfNumbersFails, IsArchiveOfNumbers, Outputs};
 ghost use Rattle.ffi_calls.specs.Keys.{short_key};
 ghost use Rattle.ffi_calls.specs.Listed.{SetsFirstNumber};
 ghost use Rattle.ffi_rkyv.specs.Pairs.{number_pair, number_step};

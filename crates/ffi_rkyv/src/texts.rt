@@ -7,7 +7,7 @@ ghost use Rattle.ffi_calls.specs.Archives.{IsHeaderOf, KeepsHeader, texts_in};
 ghost use Rattle.ffi_calls.specs.Calls.{SetsText, StoresNextTexts};
 ghost use Rattle.ffi_calls.specs.Explanation.{Explains};
 ghost use Rattle.ffi_calls.specs.Listed.{SetsFirstText};
-ghost use Rattle.ffi_calls.specs.Items.{Outputs, IsArchiveOfTexts, ArchiveOfTextsFails};
+ghost use Rattle.ffi_calls.specs.Items.{ArchiveOfTextsFails, IsArchiveOfTexts, Outputs};
 ghost use Rattle.ffi_rkyv.specs.Pairs.{text_pair, text_step};
 
 use crate::pairs::{TextPair, TextStep};

@@ -7,10 +7,10 @@ use Rattle.std.specs.Str.{IsUtf8}
 use Rattle.std.proofs.Common.{refl, arith, subst, sym, ◌∙◌, ap, inl, inr}
 use Rattle.std.proofs.lemmas.Bool.{cases_Bool}
 use Rattle.std.proofs.lemmas.Bool.Decides.{nat_tests}
-use Rattle.std.proofs.lemmas.List.{drop-take, drop-drop, length-take, length-drop, length-map}
+use Rattle.std.proofs.lemmas.List.{drop-drop, drop-take, length-drop, length-map, length-take}
 use Rattle.std.proofs.Math.Seq.{take-append-add}
-use Rattle.rkyv_base.specs.Sealing.{Sealed, Keeps}
-use Rattle.rkyv_base.specs.SealedText.{IsInline, IsSealedText, inline_at, with_uppercase, Uppercases}
+use Rattle.rkyv_base.specs.Sealing.{Keeps, Sealed}
+use Rattle.rkyv_base.specs.SealedText.{IsInline, IsSealedText, Uppercases, inline_at, with_uppercase}
 use Rattle.rkyv_base.specs.ElementSpec.{Viewable}
 use Rattle.rkyv_base.specs.Text.{fixed_bytes, inline_text, is_out_of_line, text_at, text_spec}
 use Rattle.rkyv_base.specs.Text.{text_size}

@@ -2,12 +2,12 @@
 use Rattle.std.specs.Prelude.{◌≡◌, ℕ, ◌+◌, ◌<◌, ◌≤◌, ◌⊎◌, ℤ, true, List, length, slice_range}
 use Rattle.std.specs.Int.{Width, w32, w64}
 use Rattle.std.specs.Str.{IsUtf8}
-use Rattle.std.proofs.Common.{refl, sym, subst, inl, inr, arith}
+use Rattle.std.proofs.Common.{arith, inl, inr, refl, subst, sym}
 use Rattle.std.proofs.lemmas.Grind.{common_steps}
 use Rattle.rkyv_base.specs.declared.errors.VerifyError.{VerifyError}
 use Rattle.rkyv_base.specs.declared.errors.VerifyError.TheVariants.{InvalidValue}
-use Rattle.rkyv_base.specs.Parts.{PartIn, PartFails}
-use Rattle.rkyv_base.specs.Text.{IsValidText, TextFails, out_of_line_begin, out_of_line_length, is_out_of_line, text_size}
+use Rattle.rkyv_base.specs.Parts.{PartFails, PartIn}
+use Rattle.rkyv_base.specs.Text.{IsValidText, TextFails, is_out_of_line, out_of_line_begin, out_of_line_length, text_size}
 
 eight_fit : (w : Width) → (w ≡ w32) ⊎ (w ≡ w64) → 8 ≤ text_size w
 eight_fit w (inl e) = subst (λ v. 8 ≤ text_size v) (sym e) (omega arith)

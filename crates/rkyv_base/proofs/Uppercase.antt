@@ -3,7 +3,7 @@ use Rattle.std.specs.Prelude.{◌≡◌, ℕ, ◌+◌, ◌/◌, ◌%◌, ◌≤�
 use Rattle.std.specs.Char.{to_ascii_uppercase}
 use Rattle.std.specs.Str.{IsUtf8}
 use Rattle.std.proofs.Common.{refl, arith, sym, ◌∙◌, ap, inl, inr, ltb}
-use Rattle.std.proofs.Math.Utf8.{encode, encodes, scalar, scalars, low_scalar}
+use Rattle.std.proofs.Math.Utf8.{encode, encodes, low_scalar, scalar, scalars}
 use Rattle.std.proofs.lemmas.Bool.{and_parts, cases_lt, cond_both, ltb-true}
 use Rattle.std.proofs.lemmas.List.{map-append}
 use Rattle.std.proofs.lemmas.Str.{encode_ascii}

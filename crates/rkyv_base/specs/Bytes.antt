@@ -1,6 +1,6 @@
 -- Numbers and lists of bytes at a position of an archive.
 use Rattle.std.specs.Prelude.{◌≡◌, ℕ, ◌+◌, ◌-◌, ◌≤◌, ℤ, List, length, slice_range}
-use Rattle.std.specs.Int.{Width, byte_len, from_le_bytes, cast_signed}
+use Rattle.std.specs.Int.{Width, byte_len, cast_signed, from_le_bytes}
 
 -- the little-endian number of width `w` at position `p`
 abbrev pub number_at : Width → List ℕ → ℕ → ℕ

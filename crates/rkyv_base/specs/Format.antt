@@ -3,7 +3,7 @@ use Rattle.std.specs.Prelude.{◌≡◌, ℕ, ◌+◌, ◌%◌, ◌≤◌, List,
 use Rattle.rkyv_base.specs.declared.errors.WriteError.{WriteError}
 use Rattle.rkyv_base.specs.Bytes.{AgreeOn, OccursAt}
 use Rattle.rkyv_base.specs.ElementSpec.{ElementSpec}
-use Rattle.rkyv_base.specs.Writing.{Output, end_of, Appends, Step, WriteFails, Within}
+use Rattle.rkyv_base.specs.Writing.{Appends, Output, Step, Within, WriteFails, end_of}
 
 -- The format of the values `V`, with resolvers `R`.
 -- - `parts v p part r`: serialized at `p`, the value appends `part` and returns `r`.

@@ -1,6 +1,6 @@
 -- The sizes that the width of an archive fixes.
 use Rattle.std.specs.Prelude.{◌≡◌, ℕ, ◌*◌, ◌^◌, ◌<◌, ◌≤◌, ◌⊎◌}
-use Rattle.std.specs.Int.{Width, w32, w64, byte_len}
+use Rattle.std.specs.Int.{Width, byte_len, w32, w64}
 use mir.Val.{bits}
 use Rattle.rkyv_base.specs.Scalar.{Encoding}
 
@@ -19,7 +19,7 @@ pub record IsLayout (word : Width) (limit max_capacity table_size index_size ali
   pub text_limit_is : text_limit * 4 ≡ 2 ^ bits word
 
 -- an index of an index map is any number of one word
-pub record IsPlace {V : Type 0} (w : Width) (e : Encoding V) : Type 0 where
+pub record IsIndexEncoding {V : Type 0} (w : Width) (e : Encoding V) : Type 0 where
   pub word : e.word ≡ w
   pub any : (n : ℕ) → e.IsCode n
 

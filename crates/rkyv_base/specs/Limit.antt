@@ -3,7 +3,7 @@ use Rattle.std.specs.Prelude.{◌≡◌, ℕ, ◌+◌, ◌<◌, ◌⊎◌, List,
 use Rattle.rkyv_base.specs.declared.limit.LimitFault.{LimitFault}
 use Rattle.rkyv_base.specs.declared.limit.LimitFault.TheVariants.{Full, Inner}
 use Rattle.rkyv_base.specs.declared.limit.LimitWriter.{LimitWriter}
-use Rattle.rkyv_base.specs.Writing.{Output, Appends, Faults}
+use Rattle.rkyv_base.specs.Writing.{Appends, Faults, Output}
 
 -- the output of a writer with a limit: the inner output, with a count of failures of its own
 abbrev pub limited : {W : Type 0} → (W → Output) → LimitWriter W → Output

@@ -1,7 +1,7 @@
 -- The encodings of numbers, `bool` and `char`.
 use Rattle.std.specs.Prelude.{◌==◌, ℕ, ℤ, ◌≤◌, ⊤, Bool, if◌then◌else◌}
 use Rattle.std.specs.Char.{IsScalar}
-use Rattle.std.specs.Int.{Width, w8, w32, cast_signed, cast_unsigned}
+use Rattle.std.specs.Int.{Width, cast_signed, cast_unsigned, w32, w8}
 use Rattle.rkyv_base.specs.Scalar.{Encoding}
 
 -- the encoding of unsigned numbers. Each is its own code

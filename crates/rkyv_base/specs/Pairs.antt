@@ -4,7 +4,7 @@ use Rattle.std.specs.Prelude.{◌≡◌, ℕ, ◌+◌, ◌-◌, ◌<◌, ◌⊎�
 use Rattle.rkyv_base.specs.declared.pairs.EntryResolver.{EntryResolver}
 use Rattle.rkyv_base.specs.Writing.{Step, failure, refused, zeros}
 use Rattle.rkyv_base.specs.ElementSpec.{ElementSpec}
-use Rattle.rkyv_base.specs.Entry.{value_offset, whole_size, IsSmall}
+use Rattle.rkyv_base.specs.Entry.{IsSmall, value_offset, whole_size}
 use Rattle.rkyv_base.specs.Format.{Format}
 
 -- a value at the front of its `n` bytes, followed by zeros

@@ -16,22 +16,22 @@ use Rattle.std.specs.Prelude.{
 use Rattle.std.specs.declared.vec.Vec.{Vec}
 use Rattle.rkyv_base.specs.declared.errors.WriteError.{WriteError}
 use Rattle.rkyv_base.specs.Writing.{
+  Appends,
   Only,
   Output,
-  end_of,
-  Appends,
   Step,
   WriteFails,
   distance,
+  end_of,
+  failure,
   no_memory,
   padding,
   piece,
-  failure,
   zeros,
 }
 use Rattle.rkyv_base.specs.ElementSpec.{ElementSpec}
 use Rattle.rkyv_base.specs.Entry.{round_up}
-use Rattle.rkyv_base.specs.Access.{IsValidArchive, IsArchive}
+use Rattle.rkyv_base.specs.Access.{IsArchive, IsValidArchive}
 use Rattle.rkyv_base.specs.Format.{Format}
 use Rattle.rkyv_base.specs.Layout.{narrow_limit, wide_limit}
 use Rattle.rkyv_base.specs.Members.{ElementMembers}

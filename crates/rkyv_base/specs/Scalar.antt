@@ -1,12 +1,12 @@
 -- Scalars, which are one little-endian number: numbers, `bool` and `char`.
 use Rattle.std.specs.Prelude.{◌≡◌, ℕ, ◌^◌, ◌<◌, ◌⊎◌, ◌↔◌, List, []}
-use Rattle.std.specs.Int.{Width, w8, w16, w32, w64, byte_len, to_le_bytes}
+use Rattle.std.specs.Int.{Width, byte_len, to_le_bytes, w16, w32, w64, w8}
 use mir.Val.{bits}
 use Rattle.rkyv_base.specs.declared.errors.VerifyError.{VerifyError}
 use Rattle.rkyv_base.specs.declared.errors.VerifyError.TheVariants.{InvalidValue}
 use Rattle.rkyv_base.specs.Bytes.{number_at}
 use Rattle.rkyv_base.specs.ElementSpec.{ElementSpec}
-use Rattle.rkyv_base.specs.Format.{Format, nothing_next, no_overflow}
+use Rattle.rkyv_base.specs.Format.{Format, no_overflow, nothing_next}
 
 -- an encoding of the values `V`. `word`: the number's width, `code`: number of a value,
 -- `value`: value of a number, `IsCode`: numbers of values

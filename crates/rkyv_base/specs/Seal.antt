@@ -1,6 +1,6 @@
 -- The borrowed bytes of a seal, and the position of its value.
 use Rattle.std.specs.Prelude.{◌≡◌, ℕ, ◌+◌, ◌≤◌, List, ◌++◌, length}
-use Rattle.std.specs.Borrow.{MutBor, Fml, LendsBoth, Array, u8}
+use Rattle.std.specs.Borrow.{Array, Fml, LendsBoth, MutBor, u8}
 use Rattle.rkyv_base.specs.declared.seal.ArchiveSeal.{ArchiveSeal}
 use Rattle.rkyv_base.specs.declared.seal.Seal.{Seal}
 use Rattle.rkyv_base.specs.ElementSpec.{ElementSpec}
@@ -10,12 +10,12 @@ pub record BorrowsAt (lent : MutBor (List ℕ)) (at : ℕ) (lender : MutBor (Lis
     0 where
   pub same_reference : lent.ghost_name ≡ lender.ghost_name
   pub bytes : lent.now ≡ lender.now
-  pub place : at ≡ p
+  pub pos : at ≡ p
 
 -- the same reference, whose bytes may have changed, and the same position
 pub record IsSameBorrow (lent lent' : MutBor (List ℕ)) (at at' : ℕ) : Type 0 where
   pub same_reference : lent'.ghost_name ≡ lent.ghost_name
-  pub place : at' ≡ at
+  pub pos : at' ≡ at
 
 -- the bytes that the seal `s` borrows
 abbrev pub bytes_in : {T : Type 0} → Seal T → List ℕ

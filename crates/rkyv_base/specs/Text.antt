@@ -1,15 +1,15 @@
 -- Text in an archive: inline in its fixed bytes, or out of line, with a length and a distance.
 use Rattle.std.specs.Prelude.{◌≡◌, ℕ, ◌+◌, ◌*◌, ◌/◌, ◌%◌, ◌<◌, ◌≤◌, ◌⊎◌, ◌==◌, ◌&&◌, ℤ, pos, ◌+ℤ◌}
 use Rattle.std.specs.Prelude.{unsigned_abs, Bool, true, false, nat_le, nat_lt, if◌then◌else◌, List}
-use Rattle.std.specs.Prelude.{slice_range, slice_index}
+use Rattle.std.specs.Prelude.{slice_index, slice_range}
 use Rattle.std.specs.List.{before_first}
-use Rattle.std.specs.Int.{Width, w32, w64, byte_len}
+use Rattle.std.specs.Int.{Width, byte_len, w32, w64}
 use Rattle.std.specs.Str.{IsUtf8}
 use Rattle.rkyv_base.specs.declared.errors.VerifyError.{VerifyError}
 use Rattle.rkyv_base.specs.declared.errors.VerifyError.TheVariants.{InvalidValue}
 use Rattle.rkyv_base.specs.Bytes.{number_at, signed_at}
 use Rattle.rkyv_base.specs.ElementSpec.{ElementSpec}
-use Rattle.rkyv_base.specs.Parts.{PartIn, PartFails}
+use Rattle.rkyv_base.specs.Parts.{PartFails, PartIn}
 
 -- the number of fixed bytes of a text, with words of width `w`
 abbrev pub text_size : Width → ℕ

@@ -2,11 +2,11 @@
 -- and else in one piece out of line.
 use Rattle.std.specs.Prelude.{FitsSigned, List, [], length, pos, replicate, ℕ, ℤ, ◌%◌, ◌*◌, ◌++◌}
 use Rattle.std.specs.Prelude.{◌+◌, ◌-ℤ◌, ◌-◌, ◌/◌, ◌<◌, ◌^◌, ◌≡◌, ◌≤◌, ◌⊎◌}
-use Rattle.std.specs.Int.{Width, to_le_bytes, cast_unsigned}
+use Rattle.std.specs.Int.{Width, cast_unsigned, to_le_bytes}
 use Rattle.std.specs.Str.{IsUtf8}
 use mir.Val.{bits}
 use Rattle.rkyv_base.specs.declared.strings.TextResolver.{TextResolver}
-use Rattle.rkyv_base.specs.Writing.{Only, Step, long_text, piece, failure}
+use Rattle.rkyv_base.specs.Writing.{Only, Step, failure, long_text, piece}
 use Rattle.rkyv_base.specs.Format.{Format}
 use Rattle.rkyv_base.specs.Text.{text_size}
 

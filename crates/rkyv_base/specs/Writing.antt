@@ -21,15 +21,15 @@ use Rattle.std.specs.Prelude.{
 }
 use Rattle.rkyv_base.specs.declared.errors.WriteError.{WriteError}
 use Rattle.rkyv_base.specs.declared.errors.WriteError.TheVariants.{
+  CapacityTooLarge,
+  DistanceTooLarge,
   InvalidLoadFactor,
   IteratorLengthMismatch,
-  CapacityTooLarge,
+  Memory,
   PositionTooLarge,
-  DistanceTooLarge,
+  Refused,
   TextTooLong,
   Writer,
-  Memory,
-  Refused,
 }
 
 -- the output of a writer. `start`: position of its first byte, `bytes`: its bytes,

@@ -8,7 +8,7 @@
 ghost use Rattle.std.specs.Prelude.{◌≡◌, ℕ, ◌+◌, ◌%◌, ◌≤◌, List, length, MatchResult};
 ghost use Rattle.rkyv_base.specs.Checking.{Fails, Passes};
 ghost use Rattle.rkyv_base.specs.Format.{RepresentsLocally};
-ghost use Rattle.rkyv_base.specs.ElementSpec.{IsElement, ElementSpec};
+ghost use Rattle.rkyv_base.specs.ElementSpec.{ElementSpec, IsElement};
 
 use crate::errors::VerifyError;
 

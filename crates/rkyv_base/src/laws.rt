@@ -3,7 +3,7 @@
 //! An implementation names these in its own ghost members. The laws say them of each type,
 //! by the definitions in `specs/`.
 
-ghost use Rattle.std.specs.Int.{w8, w16, w32, w64};
+ghost use Rattle.std.specs.Int.{w16, w32, w64, w8};
 ghost use Rattle.std.specs.Prelude.{string_bytes};
 ghost use Rattle.rkyv_base.specs.Empty.{unit_format, unit_represents, unit_spec};
 ghost use Rattle.rkyv_base.specs.Entry.{entry_spec};

@@ -4,8 +4,8 @@
 //! and a `char` is its code in four bytes.
 
 ghost use Rattle.std.specs.Prelude.{◌≡◌};
-ghost use Rattle.std.specs.Int.{w8, w16, w32, w64};
-ghost use Rattle.std.proofs.Common.{refl, inl, inr};
+ghost use Rattle.std.specs.Int.{w16, w32, w64, w8};
+ghost use Rattle.std.proofs.Common.{inl, inr, refl};
 ghost use Rattle.rkyv_base.specs.Numbers.{bool_encoding, char_encoding};
 ghost use Rattle.rkyv_base.specs.Lemmas.Numbers.{bool_codes, char_codes};
 ghost use Rattle.rkyv_base.specs.Numbers.{signed, unsigned};

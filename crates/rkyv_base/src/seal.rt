@@ -29,8 +29,8 @@ ghost use Rattle.rkyv_base.specs.Seal.{
   SealStays,
   archive_in,
   bytes_in,
-  seal_pos,
   pos_in,
+  seal_pos,
 };
 ghost use Rattle.rkyv_base.specs.Sealing.{
   IsValueAt,

@@ -9,7 +9,7 @@ ghost use Rattle.rkyv_base.specs.Seal.{LiesIn, SealStays, bytes_in, seal_pos};
 ghost use Rattle.rkyv_base.specs.SealedText.{IsInline, IsOutOfLine, IsSealedText, Uppercases};
 ghost use Rattle.rkyv_base.specs.SealedText.{ReadsInline, inline_at};
 ghost use Rattle.rkyv_base.specs.Sealing.{Keeps, Sealed};
-ghost use Rattle.rkyv_base.specs.Text.{text_at, text_spec, text_size};
+ghost use Rattle.rkyv_base.specs.Text.{text_at, text_size, text_spec};
 
 use crate::seal::Seal;
 use crate::text::{Text, fixed_at, inline_part, is_out_of_line};

@@ -19,7 +19,7 @@ ghost use Rattle.std.specs.Prelude.{
 ghost use Rattle.rkyv_base.specs.Format.{Serializes};
 ghost use Rattle.rkyv_base.specs.Pairs.{written_as};
 ghost use Rattle.rkyv_base.specs.Text.{text_size};
-ghost use Rattle.rkyv_base.specs.TextWriting.{out_of_line_bytes, inline_bytes, length_word};
+ghost use Rattle.rkyv_base.specs.TextWriting.{inline_bytes, length_word, out_of_line_bytes};
 ghost use Rattle.rkyv_base.specs.TextWriting.{text_format, text_limit};
 ghost use Rattle.rkyv_base.specs.Lemmas.TextWriting.{text_as_format};
 

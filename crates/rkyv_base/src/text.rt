@@ -29,7 +29,7 @@ ghost use Rattle.rkyv_base.specs.Checking.{Fails, Passes};
 ghost use Rattle.rkyv_base.specs.Text.{TextReads, out_of_line_begin, out_of_line_length};
 ghost use Rattle.rkyv_base.specs.Text.{fixed_bytes, inline_text, is_out_of_line, text_at};
 ghost use Rattle.rkyv_base.specs.Text.{text_spec};
-ghost use Rattle.rkyv_base.specs.Text.{text_size, decode_length};
+ghost use Rattle.rkyv_base.specs.Text.{decode_length, text_size};
 ghost use Rattle.rkyv_base.specs.Lemmas.Text.{text_element, text_local};
 ghost use Rattle.rkyv_base.specs.ElementSpec.{Viewable};
 ghost use Rattle.rkyv_base.specs.View.{IsValidView, bytes_of, pos_of};

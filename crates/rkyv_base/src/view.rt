@@ -8,7 +8,7 @@ ghost use Rattle.std.specs.Prelude.{◌≡◌, ◌+◌};
 ghost use Rattle.rkyv_base.specs.Entry.{entry_spec, value_offset};
 ghost use Rattle.rkyv_base.specs.Scalar.{ScalarRepresents};
 ghost use Rattle.rkyv_base.specs.ElementSpec.{Viewable};
-ghost use Rattle.rkyv_base.specs.View.{IsAt, IsValidView, AtView, archive_of, bytes_of, pos_of};
+ghost use Rattle.rkyv_base.specs.View.{AtView, IsAt, IsValidView, archive_of, bytes_of, pos_of};
 ghost use Rattle.rkyv_base.specs.View.{pos_of_found};
 
 use crate::element::Element;

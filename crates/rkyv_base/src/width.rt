@@ -19,10 +19,10 @@ ghost use Rattle.std.specs.Prelude.{
   length,
   ◌++◌,
 };
-ghost use Rattle.std.specs.Int.{Width as IntWidth, w32, w64, byte_len, to_le_bytes, cast_unsigned};
+ghost use Rattle.std.specs.Int.{Width as IntWidth, byte_len, cast_unsigned, to_le_bytes, w32, w64};
 ghost use mir.Val.{bits};
 ghost use Rattle.rkyv_base.specs.Bytes.{number_at, signed_at};
-ghost use Rattle.rkyv_base.specs.Layout.{IsLayout, IsPlace, narrow_limit};
+ghost use Rattle.rkyv_base.specs.Layout.{IsIndexEncoding, IsLayout, narrow_limit};
 ghost use Rattle.rkyv_base.specs.Lemmas.Layout.{narrow_layout};
 ghost use Rattle.rkyv_base.specs.Lemmas.Layout.{wide_layout};
 ghost use Rattle.rkyv_base.specs.Text.{IsArchiveWord};
@@ -41,7 +41,7 @@ pub trait Word {
 /// The width of the positions and counts of an archive, and the sizes that depend on it.
 pub trait Width: Word {
     /// The element of an index in an index map: a number of one word.
-    type Place: Scalar;
+    type Index: Scalar;
 
     /// The greatest position, and the greatest length of an archive, in bytes.
     const LIMIT: u64;
@@ -126,7 +126,7 @@ pub trait Width: Word {
     ghost layout: { IsLayout Self.word LIMIT MAX_CAPACITY TABLE_SIZE INDEX_SIZE ALIGN TEXT_SIZE
         TEXT_LIMIT };
 
-    ghost place: { IsPlace Self.word Self.Place.encoding };
+    ghost index: { IsIndexEncoding Self.word Self.Index.encoding };
 }
 
 /// The width of archives of up to 4,294,967,295 bytes. Positions and counts have 32 bits.
@@ -152,7 +152,7 @@ impl Word for Wide {
 }
 
 impl Width for Narrow {
-    type Place = u32;
+    type Index = u32;
 
     ghost LIMIT = { narrow_limit };
 
@@ -207,11 +207,11 @@ impl Width for Narrow {
 
     ghost layout = { narrow_layout };
 
-    ghost place = { record { word = refl; any = λ n. tt } };
+    ghost index = { record { word = refl; any = λ n. tt } };
 }
 
 impl Width for Wide {
-    type Place = u64;
+    type Index = u64;
 
     ghost LIMIT = { 9223372036854775807 };
 
@@ -266,5 +266,5 @@ impl Width for Wide {
 
     ghost layout = { wide_layout };
 
-    ghost place = { record { word = refl; any = λ n. tt } };
+    ghost index = { record { word = refl; any = λ n. tt } };
 }

@@ -8,7 +8,7 @@ use Rattle.rkyv_scan.specs.Hash.{HasherCall, SizeWords, fx_hash}
 use Rattle.rkyv_scan.specs.Lemmas.Numbers.{fx_fits}
 use Rattle.rkyv_scan.proofs.HashLaws.{fixed_alike}
 use Rattle.rkyv_base.specs.Entry.{entry_spec}
-use Rattle.rkyv_base.specs.ElementSpec.{IsElement, ElementSpec, ValidAt, Viewable}
+use Rattle.rkyv_base.specs.ElementSpec.{ElementSpec, IsElement, ValidAt, Viewable}
 use Rattle.rkyv_keys.specs.Equality.{Comparison}
 use Rattle.rkyv_keys.specs.Fixed.{MakesFixedCalls}
 use Rattle.rkyv_keys.specs.Keys.{IsQuery}
@@ -19,7 +19,7 @@ use Rattle.rkyv_collections.specs.Map.BothHashers.{QueriedAlike, fx_hash_at}
 use Rattle.rkyv_collections.specs.Map.Equality.{pair_at}
 use Rattle.rkyv_collections.specs.Map.{MapWrittenAt}
 use Rattle.rkyv_collections.specs.Map.MapSpec.{map_spec}
-use Rattle.rkyv_collections.proofs.WrittenPairs.{first_accepted, pair_valid, place_of_pair}
+use Rattle.rkyv_collections.proofs.WrittenPairs.{first_accepted, pair_valid, pos_of_pair}
 
 module _ (w : Width) (k v : ElementSpec) (kl : IsElement k) (vl : IsElement v) (key_calls : List ℕ → ℕ → List HasherCall) (fixed : MakesFixedCalls k key_calls)
     (one other : SizeWords) (b : List ℕ) (p : ℕ) (homes : List ℕ) (view : Viewable (map_spec w k v) b p)
@@ -40,7 +40,7 @@ module _ (w : Width) (k v : ElementSpec) (kl : IsElement k) (vl : IsElement v) (
       ext_get_or 0 (map f positions) (map g positions) (length-map positions f ∙ sym (length-map positions g))
       (λ i below.
       let n : i < length homes = omega (arith, below, length-map positions f, total) in
-      let here : slice_index positions i ≡ pair_at w k v b p homes i = place_of_pair w k v kl vl f' b p homes view written i n in
+      let here : slice_index positions i ≡ pair_at w k v b p homes i = pos_of_pair w k v kl vl f' b p homes view written i n in
       get_or-map f positions i 0 0 (omega (arith, n, total)) ∙ ap f here ∙ keys_alike i n ∙ ap g (sym here) ∙ sym (get_or-map g positions i 0 0 (omega (arith, n, total))))
     where
       f' : List ℕ → ℕ → ℕ

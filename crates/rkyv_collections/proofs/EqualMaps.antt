@@ -8,7 +8,7 @@ use Rattle.std.proofs.lemmas.List.{get_or_default, length-map}
 use Rattle.std.proofs.lemmas.List.Folds.{find_at}
 use Rattle.std.proofs.lemmas.Option.{same_Some, slice_get-get_or}
 use Rattle.rkyv_base.specs.Entry.{entry_spec, value_offset}
-use Rattle.rkyv_base.specs.ElementSpec.{IsElement, ElementSpec, ValidAt}
+use Rattle.rkyv_base.specs.ElementSpec.{ElementSpec, IsElement, ValidAt}
 use Rattle.rkyv_keys.specs.Equality.{Comparison, IsEquivalence}
 use Rattle.rkyv_keys.specs.OfEntries.{entry_same}
 use Rattle.rkyv_keys.specs.Lemmas.OfEntries.{entry_equivalence, valid_key}
@@ -19,7 +19,7 @@ use Rattle.rkyv_table.proofs.Search.{cases_option}
 use Rattle.rkyv_table.proofs.Written.{first_within}
 use Rattle.rkyv_collections.specs.Map.Equality.{EachIsIn, EqualHaveSamePairs, IsWrittenApart, pair_at, pair_matches}
 use Rattle.rkyv_collections.proofs.Matching.{IsMatching, column_matched, rows_within}
-use Rattle.rkyv_collections.proofs.WrittenPairs.{all_inserted, all_walked, first_accepted, hash_small, len_is_count, pair_valid, place_of_pair}
+use Rattle.rkyv_collections.proofs.WrittenPairs.{all_inserted, all_walked, first_accepted, hash_small, len_is_count, pair_valid, pos_of_pair}
 
 -- the first number of a list that passes the test has an index
 found_index : (test : ℕ → Bool) (xs : List ℕ) (x : ℕ) → find test xs ≡ Some x → (j : ℕ) × (j < length xs) × (get_or xs j 0 ≡ x)
@@ -43,9 +43,9 @@ module _ (w : Width) (k v : ElementSpec) (kl : IsElement k) (vl : IsElement v) (
     other_valid : (j : ℕ) → j < length others → ValidAt k c (pair_at w k v c r others j)
     other_valid j h = valid_key kl vl c (pair_at w k v c r others j) (pair_valid w k v kl vl key_hash c r others second.valid second.written j h)
 
-    -- the value of the pair `i` of the first map is the same as that of the pair at `place`
+    -- the value of the pair `i` of the first map is the same as that of the pair at `key_pos`
     same_at : ℕ → ℕ → Bool
-    same_at i place = same_value b (pair_at w k v b p homes i + value_offset k v) c (place + value_offset k v)
+    same_at i key_pos = same_value b (pair_at w k v b p homes i + value_offset k v) c (key_pos + value_offset k v)
 
     -- the key of a pair of the first map is looked up among the keys of the second,
     -- in insertion order
@@ -72,10 +72,10 @@ module _ (w : Width) (k v : ElementSpec) (kl : IsElement k) (vl : IsElement v) (
           | inr some ↦
               let value : same_at i some.0 ≡ true = rw some.1 at e in
               let key = (some_find (same_key b q c) xs some.0 some.1).1 in
-              let place = found_index (same_key b q c) xs some.0 some.1 in
-              let inside : place.0 < length others = omega (arith, place.1) in
-              let is : pair_at w k v c r others place.0 ≡ some.0 = sym (place_of_pair w k v kl vl key_hash c r others second.valid second.written place.0 inside) ∙ place.2 in (
-                place.0,
+              let index = found_index (same_key b q c) xs some.0 some.1 in
+              let inside : index.0 < length others = omega (arith, index.1) in
+              let is : pair_at w k v c r others index.0 ≡ some.0 = sym (pos_of_pair w k v kl vl key_hash c r others second.valid second.written index.0 inside) ∙ index.2 in (
+                index.0,
                 inside,
                 subst (λ x. entry_same k v same_key same_value b q c x ≡ true) (sym is)
                     (and_from (same_key b q c some.0) (same_value b (q + value_offset k v) c (some.0 + value_offset k v)) key value),
@@ -93,20 +93,20 @@ module _ (w : Width) (k v : ElementSpec) (kl : IsElement k) (vl : IsElement v) (
         let xs = home_positions w (entry_spec k v).size c r others in
         let n = length-map others (item_at w (entry_spec k v).size c r) in
         let both = and_parts (same_key b q c x) (same_value b (q + value_offset k v) c (x + value_offset k v)) same in
-        let there = place_of_pair w k v kl vl key_hash c r others second.valid second.written j l in
+        let there = pos_of_pair w k v kl vl key_hash c r others second.valid second.written j l in
         elim (cases_option (find (same_key b q c) xs)) [
           | inl none ↦
               let member = contains_member (get_or xs j 0) xs (j, omega arith, get_or_itself xs j (omega arith)) in
               absurd (both_ways _ (none_find (same_key b q c) xs none) (any_member (same_key b q c) (get_or xs j 0) xs member (ap (same_key b q c) there ∙ both.0)))
           | inr some ↦
               let key = (some_find (same_key b q c) xs some.0 some.1).1 in
-              let place = found_index (same_key b q c) xs some.0 some.1 in
-              let inside : place.0 < length others = omega (arith, place.1) in
-              let y = pair_at w k v c r others place.0 in
-              let is : y ≡ some.0 = sym (place_of_pair w k v kl vl key_hash c r others second.valid second.written place.0 inside) ∙ place.2 in
+              let index = found_index (same_key b q c) xs some.0 some.1 in
+              let inside : index.0 < length others = omega (arith, index.1) in
+              let y = pair_at w k v c r others index.0 in
+              let is : y ≡ some.0 = sym (pos_of_pair w k v kl vl key_hash c r others second.valid second.written index.0 inside) ∙ index.2 in
               let found_key : same_key b q c y ≡ true = subst (λ z. same_key b q c z ≡ true) (sym is) key in
               let turned = ke.symmetric b c q x (key_valid i h) (other_valid j l) both.0 in
-              let one : j ≡ place.0 = second.apart j place.0 l inside (ke.transitive c b c x q y (other_valid j l) (key_valid i h) (other_valid place.0 inside) turned found_key) in
+              let one : j ≡ index.0 = second.apart j index.0 l inside (ke.transitive c b c x q y (other_valid j l) (key_valid i h) (other_valid index.0 inside) turned found_key) in
               let here : x ≡ some.0 = ap (pair_at w k v c r others) one ∙ is in
               matches_is i h ∙ rw some.1 (subst (λ z. same_at i z ≡ true) here both.1)
         ]

@@ -11,7 +11,7 @@ use Rattle.std.proofs.lemmas.Option.{same_Some, slice_get_within}
 use Rattle.rkyv_base.specs.Entry.{entry_spec}
 use Rattle.rkyv_base.specs.Format.{RepresentsLocally}
 use Rattle.rkyv_base.specs.Sealing.{Keeps, Sealed, value_pos}
-use Rattle.rkyv_base.specs.ElementSpec.{IsElement, ElementSpec, ValidAt, Viewable}
+use Rattle.rkyv_base.specs.ElementSpec.{ElementSpec, IsElement, ValidAt, Viewable}
 use Rattle.rkyv_keys.specs.Lemmas.OfEntries.{valid_key}
 use Rattle.rkyv_table.specs.Table.Positions.{home_positions, item_at}
 use Rattle.rkyv_collections.specs.Map.InPlace.{WritesFound, with_first}
@@ -22,7 +22,7 @@ use Rattle.rkyv_collections.specs.Map.MapSpec.{map_spec}
 use Rattle.rkyv_collections.specs.Map.MapFormat.{MapRepresents}
 use Rattle.rkyv_table.specs.Table.SealedTable.{WritesValue}
 use Rattle.rkyv_collections.proofs.ValueWrites.{written_value_represents}
-use Rattle.rkyv_collections.proofs.WrittenPairs.{pair_valid, place_of_pair}
+use Rattle.rkyv_collections.proofs.WrittenPairs.{pair_valid, pos_of_pair}
 
 module _ {A B : Type 0} (accept_value : A → Bool) (value : B) where
   -- the found position is that of the pair `n`, which is the first accepted one of both lists
@@ -30,7 +30,7 @@ module _ {A B : Type 0} (accept_value : A → Bool) (value : B) where
     pub n : ℕ
     pub pair : A × B
     pub below : n < length xs
-    pub place : found ≡ Some (slice_index xs n)
+    pub pos : found ≡ Some (slice_index xs n)
     pub at : slice_get ys n ≡ Some pair
     pub first : first_pair accept_value ys ≡ Some pair
     pub written : with_first accept_value value ys ≡ slice_set ys n (pair.0, value)
@@ -51,7 +51,7 @@ module _ {A B : Type 0} (accept_value : A → Bool) (value : B) where
           n = 0;
           pair = y;
           below = omega arith;
-          place = rw (here, t) refl;
+          pos = rw (here, t) refl;
           at = refl;
           first = rw t refl;
           written = rw t refl;
@@ -64,7 +64,7 @@ module _ {A B : Type 0} (accept_value : A → Bool) (value : B) where
                 n = suc r.n;
                 pair = r.pair;
                 below = omega (arith, less);
-                place = rw (here, f) r.place;
+                pos = rw (here, f) r.pos;
                 at = r.at;
                 first = rw f r.first;
                 written = rw f (ap (λ (l : List (A × B)). y ∷ l) r.written);
@@ -72,13 +72,13 @@ module _ {A B : Type 0} (accept_value : A → Bool) (value : B) where
         ]
       ]
 
-pub some_place : (f : ℕ → ℕ) (o : Option ℕ) (pos : ℕ) → Some pos ≡ option_map f o → (q : ℕ) × (Some q ≡ o) × (pos ≡ f q)
-some_place f None pos e = absurd cc
-some_place f (Some q) pos e = (q, refl, same_Some pos (f q) e)
+pub some_pos : (f : ℕ → ℕ) (o : Option ℕ) (pos : ℕ) → Some pos ≡ option_map f o → (q : ℕ) × (Some q ≡ o) × (pos ≡ f q)
+some_pos f None pos e = absurd cc
+some_pos f (Some q) pos e = (q, refl, same_Some pos (f q) e)
 
-no_place : (f : ℕ → ℕ) (o : Option ℕ) → None ≡ option_map f o → None ≡ o
-no_place f None e = refl
-no_place f (Some q) e = absurd cc
+no_pos : (f : ℕ → ℕ) (o : Option ℕ) → None ≡ option_map f o → None ≡ o
+no_pos f None e = refl
+no_pos f (Some q) e = absurd cc
 
 module _ (w : Width) (k v : ElementSpec) (kl : IsElement k) (vl : IsElement v) {A B : Type 0} (key : List ℕ → ℕ → A → Type 0) (value : List ℕ → ℕ → B → Type 0)
     (key_hash : List ℕ → ℕ → ℕ) (factor : ℕ × ℕ) (b : List ℕ) (p : ℕ) (pairs : List (A × B)) (new : B) (accept : ℕ → Bool) (accept_value : A → Bool)
@@ -96,7 +96,7 @@ module _ (w : Width) (k v : ElementSpec) (kl : IsElement k) (vl : IsElement v) {
   each_alike i y get =
       let inside = slice_get_within pairs i y get in
       let below : i < length st.homes = omega (arith, inside, count, positions_count) in
-      let at = sym (place_of_pair w k v kl vl key_hash b p st.homes view st.written i below) in
+      let at = sym (pos_of_pair w k v kl vl key_hash b p st.homes view st.written i below) in
       let entry = subst (λ z. ValidAt (entry_spec k v) b z) at (pair_valid w k v kl vl key_hash b p st.homes view st.written i below) in
       agrees y.0 (slice_index positions i) (valid_key kl vl b (slice_index positions i) entry) (st.at i y get).0
 
@@ -104,7 +104,7 @@ module _ (w : Width) (k v : ElementSpec) (kl : IsElement k) (vl : IsElement v) {
   pub none_written : None ≡ find accept positions → (false ≡ is_some (first_pair accept_value pairs)) × MapRepresents w k v key value key_hash factor b p (with_first accept_value new pairs)
   none_written found = elim (nth_found accept_value new accept positions pairs count each_alike) [
     | inl none ↦ (ap is_some (sym none.1), subst (λ (l : List (A × B)). MapRepresents w k v key value key_hash factor b p l) (sym none.2) st)
-    | inr r ↦ absurd (let e = found ∙ r.place in cc)
+    | inr r ↦ absurd (let e = found ∙ r.pos in cc)
   ]
 
   -- after a write of the first accepted value, the map represents the list with that value
@@ -114,7 +114,7 @@ module _ (w : Width) (k v : ElementSpec) (kl : IsElement k) (vl : IsElement v) {
   first_written kn vn local c q found writes represents = elim (nth_found accept_value new accept positions pairs count each_alike) [
     | inl none ↦ absurd (let e = found ∙ none.0 in cc)
     | inr r ↦
-        let at : q ≡ slice_index positions r.n = same_Some q (slice_index positions r.n) (found ∙ r.place) in
+        let at : q ≡ slice_index positions r.n = same_Some q (slice_index positions r.n) (found ∙ r.pos) in
         let there = written_value_represents k v kl vl w key_hash local key value kn vn b c p r.n factor pairs r.pair new view st r.at
         (subst (WritesValue k v b c) at writes) (subst (λ z. value c (value_pos k v z) new) at represents) in
         (ap is_some (sym r.first), subst (λ (l : List (A × B)). MapRepresents w k v key value key_hash factor c p l) (sym r.written) there)
@@ -123,21 +123,21 @@ module _ (w : Width) (k v : ElementSpec) (kl : IsElement k) (vl : IsElement v) {
   -- the same for the position of the value
   pub none_behind : None ≡ option_map (value_pos k v) (find accept positions)
       → (false ≡ is_some (first_pair accept_value pairs)) × MapRepresents w k v key value key_hash factor b p (with_first accept_value new pairs)
-  none_behind found = none_written (no_place (value_pos k v) (find accept positions) found)
+  none_behind found = none_written (no_pos (value_pos k v) (find accept positions) found)
 
   pub first_behind : (kn : RepresentsLocally k key) (vn : RepresentsLocally v value) → HashLocal k key_hash → (c : List ℕ) (pos : ℕ)
       → Some pos ≡ option_map (value_pos k v) (find accept positions) → Sealed b pos v.size c → Keeps v b c pos → value c pos new
       → (true ≡ is_some (first_pair accept_value pairs)) × MapRepresents w k v key value key_hash factor c p (with_first accept_value new pairs)
   first_behind kn vn local c pos found sealed keeps represents =
-      let t = some_place (value_pos k v) (find accept positions) pos found in
+      let t = some_pos (value_pos k v) (find accept positions) pos found in
       first_written kn vn local c t.0 t.1 (record { sealed = subst (λ n. Sealed b n v.size c) t.2 sealed; keeps = subst (λ n. Keeps v b c n) t.2 keeps })
       (subst (λ n. value c n new) t.2 represents)
 
 -- the result of a writer that is called with the position of the found value
-pub found_written : {F R : Type 0} (post : F → MutBor (List ℕ) → ℕ → R → MutBor (List ℕ) → Type 0) (write : F) (x y : MutBor (List ℕ)) (r : R) (pos : ℕ) (place : Option ℕ)
-    → Some pos ≡ place → post write x pos r y → WritesFound post write x.now (Some r) y.now place
-found_written post write x y r pos place e h = subst (WritesFound post write x.now (Some r) y.now) e (r, refl, (x, y, refl, refl, h))
+pub found_written : {F R : Type 0} (post : F → MutBor (List ℕ) → ℕ → R → MutBor (List ℕ) → Type 0) (write : F) (x y : MutBor (List ℕ)) (r : R) (pos : ℕ) (key_pos : Option ℕ)
+    → Some pos ≡ key_pos → post write x pos r y → WritesFound post write x.now (Some r) y.now key_pos
+found_written post write x y r pos key_pos e h = subst (WritesFound post write x.now (Some r) y.now) e (r, refl, (x, y, refl, refl, h))
 
-pub nothing_written : {F R : Type 0} (post : F → MutBor (List ℕ) → ℕ → R → MutBor (List ℕ) → Type 0) (write : F) (b : List ℕ) (place : Option ℕ)
-    → None ≡ place → WritesFound post write b None b place
-nothing_written {R = R} post write b place e = subst (WritesFound {R = R} post write b None b) e (refl, refl)
+pub nothing_written : {F R : Type 0} (post : F → MutBor (List ℕ) → ℕ → R → MutBor (List ℕ) → Type 0) (write : F) (b : List ℕ) (key_pos : Option ℕ)
+    → None ≡ key_pos → WritesFound post write b None b key_pos
+nothing_written {R = R} post write b key_pos e = subst (WritesFound {R = R} post write b None b) e (refl, refl)

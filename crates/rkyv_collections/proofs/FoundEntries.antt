@@ -20,7 +20,7 @@ use Rattle.rkyv_table.specs.Table.Positions.{WrittenAt, home_positions, pos_foun
 use Rattle.rkyv_table.specs.Table.Reading.{ComparesBy, FindsFirst, FindsFound, FindsItem, IsItem}
 use Rattle.rkyv_table.specs.Table.Reading.{table_bytes, table_pos}
 use Rattle.rkyv_table.specs.declared.table.ArchivedHashTable.{ArchivedHashTable}
-use Rattle.rkyv_collections.specs.Map.{ComparesKeysBy, AreUnderHash, FindsBy, FindsFirstBy, FindsKey}
+use Rattle.rkyv_collections.specs.Map.{AreUnderHash, ComparesKeysBy, FindsBy, FindsFirstBy, FindsKey}
 use Rattle.rkyv_collections.specs.Map.{IsEntryIn, IsMap, IsViewAt, MapWrittenAt, hash_at}
 use Rattle.rkyv_collections.specs.Map.{map_archive, map_bytes, map_pos}
 use Rattle.rkyv_collections.specs.Map.Lookups.{IsAcceptedKey}
@@ -33,8 +33,8 @@ module _ {K V H W : Type 0} {ks : Specs K} {vs : Specs V} {wt : Words W} (m : Ar
   same : table_bytes t ≡ map_bytes m
   same = ap (λ (x : Bor (List ℕ)). x.now) at.0
 
-  same_place : table_pos t ≡ map_pos m
-  same_place = at.1
+  same_pos : table_pos t ≡ map_pos m
+  same_pos = at.1
 
   -- a comparison of an entry by its key depends only on the position of the key
   key_compared : (post : View K → Bool → Type 0) (accept : ℕ → Bool) → ComparesKeysBy m post accept
@@ -55,25 +55,25 @@ module _ {K V H W : Type 0} {ks : Specs K} {vs : Specs V} {wt : Words W} (m : Ar
       ≡ pos_found generic_kind wt.word (entry_spec ks.spec vs.spec).size (map_bytes m) (map_pos m) query_hash accept
   found_there hash query_hash accept e =
       let found : List ℕ → ℕ → ℕ → Option ℕ = λ b p h. pos_found generic_kind wt.word (entry_spec ks.spec vs.spec).size b p h accept in
-      ap (λ b. found b (table_pos t) hash) same ∙ ap (λ p. found (map_bytes m) p hash) same_place ∙ ap (found (map_bytes m) (map_pos m)) e
+      ap (λ b. found b (table_pos t) hash) same ∙ ap (λ p. found (map_bytes m) p hash) same_pos ∙ ap (found (map_bytes m) (map_pos m)) e
 
   -- the table was written with the same home buckets and the same positions,
   -- and each accepted item is under the hash
   written_there : (hashes homes : List ℕ) → WrittenAt wt.word (map_bytes m) (map_pos m) hashes homes → WrittenAt wt.word (table_bytes t) (table_pos t) hashes homes
-  written_there hashes homes written = rw (same, same_place) written
+  written_there hashes homes written = rw (same, same_pos) written
 
-  places_there : (homes : List ℕ) → home_positions wt.word (entry_spec ks.spec vs.spec).size (table_bytes t) (table_pos t) homes ≡ home_positions wt.word (entry_spec ks.spec vs.spec).size (map_bytes m) (map_pos m) homes
-  places_there homes =
+  positions_there : (homes : List ℕ) → home_positions wt.word (entry_spec ks.spec vs.spec).size (table_bytes t) (table_pos t) homes ≡ home_positions wt.word (entry_spec ks.spec vs.spec).size (map_bytes m) (map_pos m) homes
+  positions_there homes =
       let positions : List ℕ → ℕ → List ℕ = λ b p. home_positions wt.word (entry_spec ks.spec vs.spec).size b p homes in
-      ap (λ b. positions b (table_pos t)) same ∙ ap (positions (map_bytes m)) same_place
+      ap (λ b. positions b (table_pos t)) same ∙ ap (positions (map_bytes m)) same_pos
 
   under_there : (hash query_hash : ℕ) (key_hash : List ℕ → ℕ → ℕ) (accept : ℕ → Bool) (homes : List ℕ) → hash ≡ query_hash
       → AreUnderHash m query_hash key_hash accept → MapWrittenAt wt.word (entry_spec ks.spec vs.spec) key_hash (map_bytes m) (map_pos m) homes
       → IsUnderHash hash (map (key_hash (map_bytes m)) (home_positions wt.word (entry_spec ks.spec vs.spec).size (map_bytes m) (map_pos m) homes))
       (home_positions wt.word (entry_spec ks.spec vs.spec).size (table_bytes t) (table_pos t) homes) accept
   under_there hash query_hash key_hash accept homes e under written =
-      let here = under_hash m hash key_hash accept homes (λ q place fits. under q place fits ∙ sym e) written in
-      rw (places_there homes) here
+      let here = under_hash m hash key_hash accept homes (λ q key_pos fits. under q key_pos fits ∙ sym e) written in
+      rw (positions_there homes) here
 
   -- a lookup in the table that compares each entry by its key finds the same as one in the map
   -- that compares keys
@@ -101,7 +101,7 @@ module _ {K V H W : Type 0} {ks : Specs K} {vs : Specs V} {wt : Words W} (m : Ar
     first_by_key found by_key key_hash = λ accept compares under homes written.
         let hashes = map (key_hash (map_bytes m)) (home_positions wt.word (entry_spec ks.spec vs.spec).size (map_bytes m) (map_pos m) homes) in
         found hashes homes accept (written_there hashes homes written) (entry_compared by_key accept compares) (under_there hash query_hash key_hash accept homes same_hash under written)
-        ∙ ap (find accept) (places_there homes)
+        ∙ ap (find accept) (positions_there homes)
 
 -- if no key is misplaced, a lookup under the hash of a query finds the one key that fits
 pub one_found : {K V H W Q State : Type 0} {ks : Specs K} {vs : Specs V} {wt : Words W} (m : ArchivedHashMap K V H W ks vs wt) (kl : IsElement ks.spec) (vl : IsElement vs.spec) (hasher : Hasher State)

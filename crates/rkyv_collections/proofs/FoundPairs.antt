@@ -9,7 +9,7 @@ use Rattle.std.proofs.lemmas.List.{length-map}
 use Rattle.std.proofs.lemmas.Option.{same_Some, slice_get_within}
 use Rattle.rkyv_base.specs.Entry.{entry_spec, value_offset}
 use Rattle.rkyv_base.specs.Pairs.{PairRepresents}
-use Rattle.rkyv_base.specs.ElementSpec.{IsElement, ElementSpec, ValidAt, Viewable}
+use Rattle.rkyv_base.specs.ElementSpec.{ElementSpec, IsElement, ValidAt, Viewable}
 use Rattle.rkyv_base.specs.declared.view.View.{View}
 use Rattle.rkyv_keys.specs.Lemmas.OfEntries.{valid_key}
 use Rattle.rkyv_table.specs.Table.Positions.{home_positions, item_at}
@@ -18,7 +18,7 @@ use Rattle.rkyv_collections.specs.Map.ListedLookups.{AgreesOnKeys, IsPairOf}
 use Rattle.rkyv_collections.specs.Map.{IsFoundAt, IsPairAt, IsValueAt, IsViewAt}
 use Rattle.rkyv_collections.specs.Map.MapSpec.{map_spec}
 use Rattle.rkyv_collections.specs.Map.MapFormat.{MapRepresents}
-use Rattle.rkyv_collections.proofs.WrittenPairs.{pair_valid, place_of_pair}
+use Rattle.rkyv_collections.proofs.WrittenPairs.{pair_valid, pos_of_pair}
 
 module _ {A B : Type 0} (k v : ElementSpec) (key : List ℕ → ℕ → A → Type 0) (value : List ℕ → ℕ → B → Type 0) (b : List ℕ) where
   -- if two lists correspond, their first accepted items correspond
@@ -37,8 +37,8 @@ module _ {A B : Type 0} (k v : ElementSpec) (key : List ℕ → ℕ → A → Ty
       ]
 
   -- the views of the found value and of the found pair
-  pub value_listed : {V : Type 0} (place : Option ℕ) (o : Option (A × B)) (result : Option (View V)) → IfSome result (λ x. x.archive.now ≡ b)
-      → IsPairOf k v key value b place o → IsValueAt k v result place → IsFoundValue value result (option_map (λ pair. pair.1) o)
+  pub value_listed : {V : Type 0} (key_pos : Option ℕ) (o : Option (A × B)) (result : Option (View V)) → IfSome result (λ x. x.archive.now ≡ b)
+      → IsPairOf k v key value b key_pos o → IsValueAt k v result key_pos → IsFoundValue value result (option_map (λ pair. pair.1) o)
   value_listed None None None same t e = tt
   value_listed None None (Some x) same t e = absurd cc
   value_listed (Some q) (Some pair) None same t e = absurd cc
@@ -47,8 +47,8 @@ module _ {A B : Type 0} (k v : ElementSpec) (key : List ℕ → ℕ → A → Ty
   value_listed None (Some pair) result same t e = absurd t
   value_listed (Some q) None result same t e = absurd t
 
-  pub key_listed : {K : Type 0} (place : Option ℕ) (o : Option (A × B)) (result : Option (View K)) → IfSome result (λ x. x.archive.now ≡ b)
-      → IsPairOf k v key value b place o → IsViewAt result place → IsFoundValue key result (option_map (λ pair. pair.0) o)
+  pub key_listed : {K : Type 0} (key_pos : Option ℕ) (o : Option (A × B)) (result : Option (View K)) → IfSome result (λ x. x.archive.now ≡ b)
+      → IsPairOf k v key value b key_pos o → IsViewAt result key_pos → IsFoundValue key result (option_map (λ pair. pair.0) o)
   key_listed None None None same t e = tt
   key_listed None None (Some x) same t e = absurd cc
   key_listed (Some q) (Some pair) None same t e = absurd cc
@@ -56,9 +56,9 @@ module _ {A B : Type 0} (k v : ElementSpec) (key : List ℕ → ℕ → A → Ty
   key_listed None (Some pair) result same t e = absurd t
   key_listed (Some q) None result same t e = absurd t
 
-  pub pair_listed : {K V : Type 0} (place : Option ℕ) (o : Option (A × B)) (result : Option (View K × View V))
+  pub pair_listed : {K V : Type 0} (key_pos : Option ℕ) (o : Option (A × B)) (result : Option (View K × View V))
       → IfSome result (λ x. (x.0.archive.now ≡ b) × (x.1.archive.now ≡ b) × (x.1.pos ≡ x.0.pos + value_offset k v))
-      → IsPairOf k v key value b place o → IsPairAt result place → IsFoundPair key value result o
+      → IsPairOf k v key value b key_pos o → IsPairAt result key_pos → IsFoundPair key value result o
   pair_listed None None None same t e = tt
   pair_listed None None (Some x) same t e = absurd cc
   pair_listed (Some q) (Some pair) None same t e = absurd cc
@@ -71,7 +71,7 @@ module _ {A B : Type 0} (k v : ElementSpec) (key : List ℕ → ℕ → A → Ty
   pair_listed None (Some pair) result same t e = absurd t
   pair_listed (Some q) None result same t e = absurd t
 
-  pub contains_listed : (place : Option ℕ) (o : Option (A × B)) (result : Bool) → IsPairOf k v key value b place o → IsFoundAt result place → result ≡ is_some o
+  pub contains_listed : (key_pos : Option ℕ) (o : Option (A × B)) (result : Bool) → IsPairOf k v key value b key_pos o → IsFoundAt result key_pos → result ≡ is_some o
   contains_listed None None true t e = absurd (true≢false (sym (e.0 refl)))
   contains_listed None None false t e = refl
   contains_listed (Some q) (Some pair) true t e = refl
@@ -94,5 +94,5 @@ first_listed w k v kl vl key value hash factor b p pairs view accept accept_valu
     let inside = slice_get_within pairs i pair get in
     let below : i < length h.homes = omega (arith, inside, count, m) in
     let there = h.at i pair get in
-    let at = subst (λ q. ValidAt (entry_spec k v) b q) (sym (place_of_pair w k v kl vl hash b p h.homes view h.written i below)) (pair_valid w k v kl vl hash b p h.homes view h.written i below) in
+    let at = subst (λ q. ValidAt (entry_spec k v) b q) (sym (pos_of_pair w k v kl vl hash b p h.homes view h.written i below)) (pair_valid w k v kl vl hash b p h.homes view h.written i below) in
     (agrees pair.0 (slice_index positions i) (valid_key kl vl b (slice_index positions i) at) there.0, there))

@@ -27,11 +27,11 @@ use Rattle.rkyv_collections.proofs.Lookups.{query_under_hash}
 module _ {K V H W : Type 0} {ks : Specs K} {vs : Specs V} {wt : Words W} (m : ArchivedHashMap K V H W ks vs wt) where
   -- the clauses on a found value are clauses on each value that is made of it
   module _ {X Y : Type 0} (part : Part (ArchivedHashMap K V H W ks vs wt) X) (out : Part (ArchivedHashMap K V H W ks vs wt) Y) (found : Option X) (result : Option Y)
-      (walks : IfSome found (part.In m) → IfSome result (out.In m)) (at : (place : Option ℕ) → part.At found place → out.At result place) where
+      (walks : IfSome found (part.In m) → IfSome result (out.In m)) (at : (key_pos : Option ℕ) → part.At found key_pos → out.At result key_pos) where
     pub key_through : (a : KeyLookup) → GetsKey part m a found → GetsKey out m a result
     key_through a h = record {
       walked = walks h.walked;
-      answer = at _ h.answer;
+      finds = at _ h.finds;
       first = λ homes written. at _ (h.first homes written);
       complete = λ none. let one = h.complete none in (one.0, one.1, at one.0 one.2);
     }
@@ -40,7 +40,7 @@ module _ {K V H W : Type 0} {ks : Specs K} {vs : Specs V} {wt : Words W} (m : Ar
     by_through hash key_hash post h = record {
       walked = walks h.walked;
       accepted = (h.accepted.0, at h.accepted.0 h.accepted.1, h.accepted.2);
-      answer = λ accept compares. at _ (h.answer accept compares);
+      finds = λ accept compares. at _ (h.finds accept compares);
       first = λ accept compares under homes written. at _ (h.first accept compares under homes written);
     }
 
@@ -54,10 +54,10 @@ module _ {K V H W : Type 0} {ks : Specs K} {vs : Specs V} {wt : Words W} (m : Ar
   gets_query hasher kl vl same_key key_calls can_read calls fits query is q ready small post tells part result h =
       let accept : ℕ → Bool = fits q (map_bytes m) in
       let compares : ComparesKeysBy m post accept = λ key r in_map e. tells key r e ∙ ap (λ (a : Bor (List ℕ)). fits q a.now key.pos) in_map.archive in
-      let found = h.answer accept compares in
+      let found = h.finds accept compares in
       record {
         walked = h.walked;
-        answer = found;
+        finds = found;
         first = h.first accept compares (query_under_hash m kl vl hasher same_key key_calls can_read calls fits query is q ready);
         complete = one_found m kl vl hasher same_key key_calls can_read calls fits query is q ready small (part.At result) found;
       }
@@ -71,7 +71,7 @@ module _ {K V H W : Type 0} {ks : Specs K} {vs : Specs V} {wt : Words W} (m : Ar
   pair_walked : (found : Option (View (Entry K V))) (result : Option (View K × View V)) → IsPairOfEntry ks.spec vs.spec result found → IfSome found (IsEntryIn m) → IfSome result (IsPairIn m)
   pair_walked None result is walked = subst (λ r. IfSome r (IsPairIn m)) (sym is) tt
   pair_walked (Some entry) result is walked = subst (λ r. IfSome r (IsPairIn m)) (sym is.1) (record {
-    key = record { archive = is.2.0 ∙ walked.0; viewable = is.3; place = (walked.2.0, walked.2.1, is.2.1 ∙ walked.2.2) };
+    key = record { archive = is.2.0 ∙ walked.0; viewable = is.3; key_pos = (walked.2.0, walked.2.1, is.2.1 ∙ walked.2.2) };
     viewable = is.5;
     at = (is.4.0 ∙ walked.0, is.4.1 ∙ ap (λ q. q + value_offset ks.spec vs.spec) (sym is.2.1));
   })
@@ -88,14 +88,14 @@ module _ {K V H W : Type 0} {ks : Specs K} {vs : Specs V} {wt : Words W} (m : Ar
 
 module _ {K V : Type 0} (k v : ElementSpec) where
   -- the pair is at the position of the found entry
-  pair_at : (found : Option (View (Entry K V))) (result : Option (View K × View V)) → IsPairOfEntry k v result found → (place : Option ℕ) → IsViewAt found place → IsPairAt result place
-  pair_at None result is place at = ap key_pos_found is ∙ at
-  pair_at (Some entry) result is place at = ap key_pos_found is.1 ∙ ap Some is.2.1 ∙ at
+  pair_at : (found : Option (View (Entry K V))) (result : Option (View K × View V)) → IsPairOfEntry k v result found → (key_pos : Option ℕ) → IsViewAt found key_pos → IsPairAt result key_pos
+  pair_at None result is key_pos at = ap key_pos_found is ∙ at
+  pair_at (Some entry) result is key_pos at = ap key_pos_found is.1 ∙ ap Some is.2.1 ∙ at
 
   -- the value is behind the position of the found entry
-  value_at : (found : Option (View (Entry K V))) (result : Option (View V)) → IsValueOfEntry k v result found → (place : Option ℕ) → IsViewAt found place → IsValueAt k v result place
-  value_at None result is place at = ap pos_of_found is ∙ ap (option_map (λ (q : ℕ). q + value_offset k v)) at
-  value_at (Some entry) result is place at = ap pos_of_found is.1 ∙ ap Some is.2.1 ∙ ap (option_map (λ (q : ℕ). q + value_offset k v)) at
+  value_at : (found : Option (View (Entry K V))) (result : Option (View V)) → IsValueOfEntry k v result found → (key_pos : Option ℕ) → IsViewAt found key_pos → IsValueAt k v result key_pos
+  value_at None result is key_pos at = ap pos_of_found is ∙ ap (option_map (λ (q : ℕ). q + value_offset k v)) at
+  value_at (Some entry) result is key_pos at = ap pos_of_found is.1 ∙ ap Some is.2.1 ∙ ap (option_map (λ (q : ℕ). q + value_offset k v)) at
 
 -- the clauses of a lookup on a found entry are clauses on its pair and on its value
 module _ {K V H W : Type 0} {ks : Specs K} {vs : Specs V} {wt : Words W} {m : ArchivedHashMap K V H W ks vs wt} {found : Option (View (Entry K V))} where
@@ -123,12 +123,12 @@ module _ {K V H W : Type 0} {ks : Specs K} {vs : Specs V} {wt : Words W} {m : Ar
 -- a set returns the key of the pair
 module _ {K V H W : Type 0} {ks : Specs K} {vs : Specs V} {wt : Words W} {m : ArchivedHashMap K V H W ks vs wt} {a : KeyLookup} where
   pub member_of_pair : {pair : View K × View V} → GetsKey pair_part m a (Some pair) → GetsKey key_part m a (Some pair.0)
-  member_of_pair got = record { walked = got.walked.key; answer = got.answer; first = got.first; complete = got.complete }
+  member_of_pair got = record { walked = got.walked.key; finds = got.finds; first = got.first; complete = got.complete }
 
   pub no_member : GetsKey pair_part m a None → GetsKey key_part m a None
-  no_member got = record { walked = tt; answer = got.answer; first = got.first; complete = got.complete }
+  no_member got = record { walked = tt; finds = got.finds; first = got.first; complete = got.complete }
 
 -- an entry that has a position is found
-pub some_found : {E : Type 0} (found : Option (View E)) (place : Option ℕ) → IsViewAt found place → IsSome place → IsSome found
-some_found None place at some = subst IsSome (sym at) some
-some_found (Some entry) place at some = refl
+pub some_found : {E : Type 0} (found : Option (View E)) (key_pos : Option ℕ) → IsViewAt found key_pos → IsSome key_pos → IsSome found
+some_found None key_pos at some = subst IsSome (sym at) some
+some_found (Some entry) key_pos at some = refl

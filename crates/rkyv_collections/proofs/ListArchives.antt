@@ -29,7 +29,7 @@ use Rattle.rkyv_collections.specs.Map.ListedLookups.{IsPairOf}
 use Rattle.rkyv_collections.specs.Map.MapFormat.{MapRepresents}
 use Rattle.rkyv_keys.specs.Natives.{NativeKeys}
 use Rattle.rkyv_keys.specs.Keys.{FitsItsEqual}
-use Rattle.rkyv_collections.specs.Map.ListArchives.{FoundAreListed, IsTextMapUnder, TextMapFails, TextMapResult, TextMapRepresents, TextPairs, map_root, text_map_format, text_map_spec}
+use Rattle.rkyv_collections.specs.Map.ListArchives.{FoundAreListed, IsTextMapUnder, TextMapFails, TextMapRepresents, TextMapResult, TextPairs, map_root, text_map_format, text_map_spec}
 use Rattle.rkyv_keys.specs.FirstPairs.{FoundValues, first_pair, scalar_found}
 use Rattle.rkyv_keys.specs.Lemmas.FirstPairs.{FindsByView}
 use Rattle.rkyv_collections.specs.declared.map.ArchivedHashMap.{ArchivedHashMap}
@@ -60,12 +60,12 @@ pub scalar_at_root : {K N H W : Type 0} {ks : Specs K} {vs : Specs N} {wt : Word
     → FindsKey m hash (fits (map_bytes m)) (IsValueAt ks.spec vs.spec found)
     → scalar_found e found ≡ option_map (λ q. value_at e archive.now (q + value_offset ks.spec vs.spec))
     (pos_found generic_kind wt.word (entry_spec ks.spec vs.spec).size archive.now (map_root wt.word ks.spec vs.spec archive.now) hash (fits archive.now))
-scalar_at_root {ks = ks} {vs = vs} {wt = wt} e m root archive hash fits found view at walked answer =
+scalar_at_root {ks = ks} {vs = vs} {wt = wt} e m root archive hash fits found view at walked finds =
     let bytes = ap (λ x. x.archive.now) view ∙ ap (λ a. a.now) at.0 in
-    let place = ap (λ x. x.pos) view ∙ at.1 in
+    let same_pos = ap (λ x. x.pos) view ∙ at.1 in
     scalar_behind e archive.now (value_offset ks.spec vs.spec) found _
     (IfSome_then found walked (λ x i. ap (λ a. a.now) i.at.0 ∙ bytes))
-    (moved (λ c p. IsValueAt ks.spec vs.spec found (pos_found generic_kind wt.word (entry_spec ks.spec vs.spec).size c p hash (fits c))) _ _ _ _ bytes place answer)
+    (moved (λ c p. IsValueAt ks.spec vs.spec found (pos_found generic_kind wt.word (entry_spec ks.spec vs.spec).size c p hash (fits c))) _ _ _ _ bytes same_pos finds)
 
 -- In the map at the root of an archive that represents a list of pairs, the first key that fits is that of the first pair with an equal key
 pub record FirstInRoot {A B : Type 0} (w : Width) (k v : ElementSpec) (key : List ℕ → ℕ → A → Type 0) (value : List ℕ → ℕ → B → Type 0) (hash : List ℕ → ℕ → ℕ) (b : List ℕ) (p : ℕ)

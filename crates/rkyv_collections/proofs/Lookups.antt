@@ -31,8 +31,8 @@ module _ {K V H W : Type 0} {ks : Specs K} {vs : Specs V} {wt : Words W} (m : Ar
       → IsEntryIn m entry
   entry_of_item t at entry item =
       let walked : IsWalked wt.word (map_bytes m) (map_pos m) item.0 = rw (← at.0, ← at.1) item.1.walked in
-      let place : entry.pos ≡ item_at wt.word (entry_spec ks.spec vs.spec).size (map_bytes m) (map_pos m) item.0 = rw (← at.0, ← at.1) item.1.place in
-      (item.1.archive ∙ at.0, item.1.viewable, (item.0, walked, place))
+      let entry_pos : entry.pos ≡ item_at wt.word (entry_spec ks.spec vs.spec).size (map_bytes m) (map_pos m) item.0 = rw (← at.0, ← at.1) item.1.pos in
+      (item.1.archive ∙ at.0, item.1.viewable, (item.0, walked, entry_pos))
 
   -- a valid key at an entry of the map is a key of the map
   pub key_of_entry : (entry : View (Entry K V)) (key : View K) → IsEntryIn m entry → IsAt key (archive_of entry) (pos_of entry) → IsValidView ks.spec key
@@ -40,7 +40,7 @@ module _ {K V H W : Type 0} {ks : Specs K} {vs : Specs V} {wt : Words W} (m : Ar
   key_of_entry entry key is at viewable = record {
     archive = at.0 ∙ is.0;
     viewable = viewable;
-    place = (is.2.0, is.2.1, at.1 ∙ is.2.2);
+    key_pos = (is.2.0, is.2.1, at.1 ∙ is.2.2);
   }
 
   -- the keys under the hash are the items under it
@@ -65,13 +65,13 @@ module _ {K V H W : Type 0} {ks : Specs K} {vs : Specs V} {wt : Words W} (m : Ar
       (same : Comparison) (key_calls : List ℕ → ℕ → List HasherCall) (can_read : Q → Type 0) (calls : Q → List HasherCall) (fits : Q → List ℕ → ℕ → Bool)
       → IsQuery ks.spec same key_calls can_read calls fits → IsMap m → (q : Q) → can_read q
       → AreUnderHash m (hash_of_calls hasher (calls q)) (hash_at hasher key_calls) (fits q (map_bytes m))
-  query_under_hash kl vl hasher same key_calls can_read calls fits query is q ready place key accepted =
+  query_under_hash kl vl hasher same key_calls can_read calls fits query is q ready key_pos key accepted =
       let b = map_bytes m in
       let item = item_viewable wt.word (entry_spec ks.spec vs.spec) (entry_element ks.spec vs.spec kl vl) b (map_pos m) is key.0 key.1 in
-      let valid : ValidAt ks.spec b place = valid_key kl vl b place (subst (ValidAt (entry_spec ks.spec vs.spec) b) (sym key.2) item.valid) in
-      ap (hash_of_calls hasher) (sym (query.same_calls q b place ready valid accepted))
+      let valid : ValidAt ks.spec b key_pos = valid_key kl vl b key_pos (subst (ValidAt (entry_spec ks.spec vs.spec) b) (sym key.2) item.valid) in
+      ap (hash_of_calls hasher) (sym (query.same_calls q b key_pos ready valid accepted))
 
 -- an entry is found if and only if it has a position
-pub some_at : {E : Type 0} (found : Option (View E)) (place : Option ℕ) (answer : Bool) → answer ≡ is_some found → IsViewAt found place → IsFoundAt answer place
-some_at None place answer e at = rw (e, ← at) (λ t. t, λ t. t)
-some_at (Some entry) place answer e at = rw (e, ← at) (λ t. t, λ t. t)
+pub some_at : {E : Type 0} (found : Option (View E)) (key_pos : Option ℕ) (result : Bool) → result ≡ is_some found → IsViewAt found key_pos → IsFoundAt result key_pos
+some_at None key_pos result e at = rw (e, ← at) (λ t. t, λ t. t)
+some_at (Some entry) key_pos result e at = rw (e, ← at) (λ t. t, λ t. t)

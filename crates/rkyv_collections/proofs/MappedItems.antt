@@ -1,6 +1,6 @@
 -- A table that is written of items is the table of the values that `model` returns for them.
 use Rattle.std.proofs.Common.{◌≡◌, ℕ, suc, ◌+◌, ◌-◌, ◌*◌, ◌<◌, refl, ap, sym, subst, ◌∙◌, inl, inr, List, [], ◌∷◌, map, take, drop, length, slice_get, slice_index, Option, Some, None}
-use Rattle.std.specs.List.{take-map, drop-map}
+use Rattle.std.specs.List.{drop-map, take-map}
 use Rattle.std.specs.Option.{option_map}
 use Rattle.std.specs.Int.{Width}
 use Rattle.std.proofs.lemmas.List.{length-map}
@@ -15,7 +15,7 @@ use Rattle.rkyv_base.proofs.WritingSteps.{fails_under}
 use Rattle.rkyv_table.specs.Controls.Laws.{AreHashes}
 use Rattle.rkyv_table.specs.Controls.Numbers.{capacity}
 use Rattle.rkyv_table.specs.Controls.Placing.{Written}
-use Rattle.rkyv_table.specs.Table.Slots.{Above, BeforeBuckets, BucketNext, BucketStep, Filled, PartsNext, SlotImages, SlotParts, TableBytes, TableNext, BucketOverflows, filled}
+use Rattle.rkyv_table.specs.Table.Slots.{Above, BeforeBuckets, BucketNext, BucketOverflows, BucketStep, Filled, PartsNext, SlotImages, SlotParts, TableBytes, TableNext, filled}
 use Rattle.rkyv_table.specs.Table.TableFormat.{InBuckets, PairsNext, TableParts, TableResolver, TableWritten, table_format}
 use Rattle.rkyv_table.specs.Table.PlacedItems.{Placed, Slotted, hashes_of, items_of}
 

@@ -5,19 +5,19 @@ use Rattle.std.specs.Prelude.{MatchOption}
 use Rattle.std.specs.Int.{Width}
 use Rattle.std.specs.List.{Contains, list_any, range_with_len}
 use Rattle.std.proofs.lemmas.Bool.{cases_eq}
-use Rattle.std.proofs.lemmas.List.{get_or_default, get_or-map, length-map, nil_from_length, take-map}
+use Rattle.std.proofs.lemmas.List.{get_or-map, get_or_default, length-map, nil_from_length, take-map}
 use Rattle.rkyv_scan.specs.Groups.{generic_kind}
 use Rattle.rkyv_scan.specs.Hash.{Hasher, HasherCall, hash_of_calls}
 use Rattle.rkyv_scan.specs.Lemmas.KindLaws.{word_lawful}
 use Rattle.rkyv_base.specs.Entry.{entry_spec}
 use Rattle.rkyv_base.specs.Lemmas.Entry.{entry_element}
-use Rattle.rkyv_base.specs.ElementSpec.{IsElement, ElementSpec, ValidAt, Viewable}
+use Rattle.rkyv_base.specs.ElementSpec.{ElementSpec, IsElement, ValidAt, Viewable}
 use Rattle.rkyv_keys.specs.Equality.{Comparison, IsEquivalence}
 use Rattle.rkyv_keys.specs.Keys.{IsQuery}
 use Rattle.rkyv_keys.specs.Lemmas.OfEntries.{valid_key}
 use Rattle.rkyv_table.specs.Controls.Finding.{found}
 use Rattle.rkyv_table.specs.Table.Header.{cap_at, len_at}
-use Rattle.rkyv_table.specs.Table.Misplaced.{AloneAccepted, AcceptsSame, IsSameness, NoneAccepted, misplaced, repeated, repeats_earlier}
+use Rattle.rkyv_table.specs.Table.Misplaced.{AcceptsSame, AloneAccepted, IsSameness, NoneAccepted, misplaced, repeated, repeats_earlier}
 use Rattle.rkyv_table.specs.Controls.Placing.{walk}
 use Rattle.rkyv_table.specs.Table.Positions.{home_positions, item_at, pos_found, table_controls}
 use Rattle.rkyv_table.proofs.ValidTable.{controls_accepted, item_viewable, no_items}
@@ -36,8 +36,8 @@ module _ (at : ℕ → ℕ) (same : ℕ → ℕ → Bool) (homes : List ℕ) whe
   any_earlier x [] = refl
   any_earlier x (j ∷ is) = ap (λ rest. same x (at j) || rest) (any_earlier x is)
 
-  pub repeated_places : repeated (λ i j. same (at i) (at j)) homes ≡ repeated same (map at homes)
-  repeated_places =
+  pub repeated_positions : repeated (λ i j. same (at i) (at j)) homes ≡ repeated same (map at homes)
+  repeated_positions =
       let n = length-map homes at in
       ap length (filter_agree_range (repeats_earlier (λ i j. same (at i) (at j)) homes) (repeats_earlier same (map at homes)) 0 (length homes)
       (λ i from to.
@@ -82,7 +82,7 @@ module _ (w : Width) (k v : ElementSpec) (kl : IsElement k) (vl : IsElement v) (
           ap (λ n. misplaced generic_kind (table_controls w b p) (cap_at w b p) n (λ i. key_hash b (at i)) (λ i j. same_key b (at i) b (at j))) written.count
           ∙ repeated_misplaced generic_kind (cap_at w b p) hashes homes (table_controls w b p) (λ i. key_hash b (at i)) (λ i j. same_key b (at i) b (at j)) word_lawful
           some.0 (λ j l. written.fit j 0 l) some.1 sameness
-          ∙ repeated_places at (λ q r. same_key b q b r) homes
+          ∙ repeated_positions at (λ q r. same_key b q b r) homes
     ]
 
   pub repeated_keys_misplaced : RepeatedKeysAreMisplaced w k v key_hash same_key
@@ -121,9 +121,9 @@ module _ {Q State : Type 0} (w : Width) (k v : ElementSpec) (kl : IsElement k) (
     same = λ i j c d f. query.respects_same q b b (item_pos i) (item_pos j) ready (key_walked i c) (key_walked j d) f;
   }
 
-  by_place : (o : Option ℕ) → MatchOption o (NoneAccepted controls cap accept) (AloneAccepted controls cap accept) → FindsTheOne w size b p (fits q b) (option_map item_pos o)
-  by_place None n = λ i walked. n i (full_walked cap controls i walked)
-  by_place (Some i) a = record {
+  by_pos : (o : Option ℕ) → MatchOption o (NoneAccepted controls cap accept) (AloneAccepted controls cap accept) → FindsTheOne w size b p (fits q b) (option_map item_pos o)
+  by_pos None n = λ i walked. n i (full_walked cap controls i walked)
+  by_pos (Some i) a = record {
     bucket = i;
     walked = walked_full cap controls i a.walked;
     at = refl;
@@ -136,9 +136,9 @@ module _ {Q State : Type 0} (w : Width) (k v : ElementSpec) (kl : IsElement k) (
     | inl z ↦
         let e = no_items w (entry_spec k v) (entry_element k v kl vl) b p view z in
         subst (λ n. FindsTheOne w size b p (fits q b) (option_map item_pos (found generic_kind controls cap n hash accept))) (sym e)
-        (by_place None (λ i c. absurd (omega (arith, (walked_full cap controls i c).0, z))))
+        (by_pos None (λ i c. absurd (omega (arith, (walked_full cap controls i c).0, z))))
     | inr some ↦
-        by_place (found generic_kind controls cap (len_at w b p) hash accept)
+        by_pos (found generic_kind controls cap (len_at w b p) hash accept)
         (complete generic_kind cap (len_at w b p) hash controls accept (λ i. hash_at hasher key_calls b (item_pos i)) (λ i j. same b (item_pos i) b (item_pos j)) word_lawful
         (controls_accepted w (entry_spec k v) (entry_element k v kl vl) b p view (omega arith)) small none accepts_same)
   ]

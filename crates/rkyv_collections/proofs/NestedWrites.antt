@@ -13,10 +13,10 @@ use Rattle.rkyv_base.specs.Lemmas.Entry.{entry_element, key_and_value_inside, sa
 use Rattle.rkyv_base.specs.Lemmas.Entry.{size_of_small}
 use Rattle.rkyv_base.specs.Format.{RepresentsLocally}
 use Rattle.rkyv_base.specs.Sealing.{Keeps, Sealed, value_pos}
-use Rattle.rkyv_base.specs.ElementSpec.{IsElement, ElementSpec, Viewable}
+use Rattle.rkyv_base.specs.ElementSpec.{ElementSpec, IsElement, Viewable}
 use Rattle.rkyv_base.proofs.Sealing.{sealed_wider, viewable_kept}
 use Rattle.rkyv_table.specs.Table.Positions.{IsWalked, home_positions, item_at}
-use Rattle.rkyv_table.specs.Lemmas.ItemPositions.{holds_at, item_holds}
+use Rattle.rkyv_table.specs.Lemmas.ItemPositions.{item_is_valid, valid_part}
 use Rattle.rkyv_table.specs.Lemmas.SameHeader.{item_same}
 use Rattle.rkyv_table.proofs.ValidTable.{item_viewable}
 use Rattle.rkyv_table.proofs.SameTable.{written_there}
@@ -26,10 +26,10 @@ use Rattle.rkyv_collections.specs.Lemmas.MapLaws.{HashLocal}
 use Rattle.rkyv_collections.specs.Map.ListedLookups.{AgreesOnKeys}
 use Rattle.rkyv_collections.specs.Map.MapSpec.{IsKeyPosAt, map_spec}
 use Rattle.rkyv_collections.specs.Map.MapFormat.{MapRepresents}
-use Rattle.rkyv_collections.specs.Map.NestedWrites.{HoldsBefore, KeepsOuterMap, StaysAt, WritesParts}
+use Rattle.rkyv_collections.specs.Map.NestedWrites.{IsValidBefore, KeepsOuterMap, StaysAt, WritesParts}
 use Rattle.rkyv_table.specs.Table.SealedTable.{WritesValue}
-use Rattle.rkyv_collections.proofs.FirstWrites.{count, each_alike, nth_found, some_place}
-use Rattle.rkyv_collections.proofs.NewValues.{home, new_value_represents, own_place, own_walked, written_again}
+use Rattle.rkyv_collections.proofs.FirstWrites.{count, each_alike, nth_found, some_pos}
+use Rattle.rkyv_collections.proofs.NewValues.{home, new_value_represents, own_pos, own_walked, written_again}
 use Rattle.rkyv_collections.proofs.NestedTables.{KeepsOuter, outer_kept, same_above, same_below}
 
 module _ (k v : ElementSpec) (kl : IsElement k) (vl : IsElement v) (b c : List ℕ) (q : ℕ) where
@@ -49,11 +49,11 @@ module _ (k v : ElementSpec) (kl : IsElement k) (vl : IsElement v) (b c : List �
       record { is_valid = λ lo hi l o o' h. (wrote lo hi l o o' h).0; sealed = λ lo hi l o o' h. (wrote lo hi l o o' h).1 }
 
   -- the key of a valid entry is valid, with its parts in some range before it
-  abbrev key_before : HoldsBefore S b q → HoldsBefore k b q
+  abbrev key_before : IsValidBefore S b q → IsValidBefore k b q
   key_before h = record { lower = h.lower; upper = h.upper; rest = h.is_valid.1; order = h.order; before = h.before; is_valid = h.is_valid.2 }
 
   -- the key of the entry is unchanged
-  key_of_own : WritesParts v b c (value_pos k v q) → HoldsBefore S b q → StaysAt k b c q
+  key_of_own : WritesParts v b c (value_pos k v q) → IsValidBefore S b q → StaysAt k b c q
   key_of_own writes h =
       let m = h.is_valid.1 in
       let x = kl.rest_in_range b q h.lower h.upper m h.order h.is_valid.2 in
@@ -116,8 +116,8 @@ module _ (w : Width) (k v : ElementSpec) (kl : IsElement k) (vl : IsElement v) (
   hash_stays : (j : ℕ) → IsWalked w b p j → key_hash c (at j) ≡ key_hash b (at j)
   hash_stays j there = let h = key_stays j there in sym (local b c (at j) h.held.lower h.held.upper h.held.rest h.held.order h.held.is_valid h.fixed h.parts)
 
-  place_stays : (j : ℕ) → item_at w E.size c p j ≡ at j
-  place_stays j = sym (item_same w b c p kept.header E.size j)
+  pos_stays : (j : ℕ) → item_at w E.size c p j ≡ at j
+  pos_stays j = sym (item_same w b c p kept.header E.size j)
 
   length_same : length c ≡ length b
   length_same = (kept.nested.sealed 0 p view.valid.0 (omega arith) (omega arith) view.valid.1).same_length
@@ -128,26 +128,26 @@ module _ (w : Width) (k v : ElementSpec) (kl : IsElement k) (vl : IsElement v) (
     nested = kept.nested;
     header = kept.header;
     controls = kept.controls;
-    positions = place_stays;
+    positions = pos_stays;
     keys = key_stays;
     values = λ j there ne. value_of_other k v kl vl b c (at j) (kept.others j there ne);
     hashes = hash_stays;
     written = λ homes written.
-        written_again w E key_hash b c p place_stays hash_stays homes written
+        written_again w E key_hash b c p pos_stays hash_stays homes written
         (written_there w b c p kept.header (λ some. sym kept.controls) (map (key_hash b) (home_positions w E.size b p homes)) homes written);
   }
 
 module _ (w : Width) (k v : ElementSpec) (kl : IsElement k) (vl : IsElement v) (key_hash : List ℕ → ℕ → ℕ) (local : HashLocal k key_hash) {A B : Type 0} (key : List ℕ → ℕ → A → Type 0) (value : List ℕ → ℕ → B → Type 0)
     (kn : RepresentsLocally k key) (vn : RepresentsLocally v value) (b c : List ℕ) (p n : ℕ) (factor : ℕ × ℕ) (pairs : List (A × B)) (pair : A × B) (new : B) (view : Viewable (map_spec w k v) b p)
     (st : MapRepresents w k v key value key_hash factor b p pairs) (at_n : slice_get pairs n ≡ Some pair) where
-  abbrev place : ℕ
-  place = slice_index (home_positions w (entry_spec k v).size b p st.homes) n
+  abbrev key_pos : ℕ
+  key_pos = slice_index (home_positions w (entry_spec k v).size b p st.homes) n
 
-  pub nested_represents : WritesParts v b c (value_pos k v place) → value c (value_pos k v place) new → MapRepresents w k v key value key_hash factor c p (slice_set pairs n (pair.0, new))
+  pub nested_represents : WritesParts v b c (value_pos k v key_pos) → value c (value_pos k v key_pos) new → MapRepresents w k v key value key_hash factor c p (slice_set pairs n (pair.0, new))
   nested_represents writes represents =
       let i = home w k v key value key_hash b c p n factor pairs pair new st at_n n in
       let there = own_walked w k v key value key_hash b c p n factor pairs pair new st at_n in
-      let is = own_place w k v key value key_hash b c p n factor pairs pair new st at_n in
+      let is = own_pos w k v key value key_hash b c p n factor pairs pair new st at_n in
       let item = item_at w (entry_spec k v).size b p in
       let kept = nested_kept w k v kl vl key_hash local b c p i view there (subst (λ z. WritesParts v b c (value_pos k v z)) is writes) in
       new_value_represents w k v key value key_hash b c p n factor pairs pair new st at_n kept.header kept.positions kept.written
@@ -164,12 +164,12 @@ module _ (w : Width) (k v : ElementSpec) (kl : IsElement k) (vl : IsElement v) {
       → MapRepresents w k v key value key_hash factor c p (with_first accept_value new pairs)
   nested_first kn vn local c pos found writes represents =
       let xs = home_positions w (entry_spec k v).size b p st.homes in
-      let t = some_place (value_pos k v) (find accept xs) pos found in
+      let t = some_pos (value_pos k v) (find accept xs) pos found in
       elim (nth_found accept_value new accept xs pairs (count w k v kl vl key value key_hash factor b p pairs new accept accept_value view agrees st)
       (each_alike w k v kl vl key value key_hash factor b p pairs new accept accept_value view agrees st)) [
         | inl none ↦ absurd (let e = t.1 ∙ none.0 in cc)
         | inr r ↦
-            let at : t.0 ≡ slice_index xs r.n = same_Some t.0 (slice_index xs r.n) (t.1 ∙ r.place) in
+            let at : t.0 ≡ slice_index xs r.n = same_Some t.0 (slice_index xs r.n) (t.1 ∙ r.pos) in
             let there : pos ≡ value_pos k v (slice_index xs r.n) = t.2 ∙ ap (value_pos k v) at in
             subst (λ (l : List (A × B)). MapRepresents w k v key value key_hash factor c p l) (sym r.written)
             (nested_represents w k v kl vl key_hash local key value kn vn b c p r.n factor pairs r.pair new view st r.at
@@ -188,8 +188,8 @@ value_nested w k v kl vl b c p i view walked writes =
     let within = key_and_value_inside k v in record {
       is_valid = (value_kept w k v kl vl b p i view walked c writes.sealed writes.keeps).0.is_valid;
       sealed = λ lo hi l o o' h.
-          let t = holds_at w s law b p lo hi l h (omega (arith, walked.0)) in
-          let x = item_holds w s law b p lo hi l h i walked t in
+          let t = valid_part w s law b p lo hi l h (omega (arith, walked.0)) in
+          let x = item_is_valid w s law b p lo hi l h i walked t in
           let above = t.part.above in
           sealed_wider b c (value_pos k v q) v.size lo (l - lo) (omega (arith, above, x.1)) (omega (arith, above, x.1, x.2, small, within.1)) writes.sealed;
     }

@@ -63,9 +63,9 @@ module _ (w : Width) (k v : ElementSpec) {A B : Type 0} (key : List ℕ → ℕ 
   unfolding home
   walked_home j h = home_walked w b p hashes st.homes st.written j (has_home j h)
 
-  place_home : (j : ℕ) → j < length pairs → slice_index (positions b) j ≡ at (home j)
+  pos_home : (j : ℕ) → j < length pairs → slice_index (positions b) j ≡ at (home j)
   unfolding home
-  place_home j h = home_pos w (entry_spec k v).size b p st.homes j (has_home j h)
+  pos_home j h = home_pos w (entry_spec k v).size b p st.homes j (has_home j h)
 
   inside : n < length pairs
   inside = slice_get_within pairs n pair at_n
@@ -74,8 +74,8 @@ module _ (w : Width) (k v : ElementSpec) {A B : Type 0} (key : List ℕ → ℕ 
   pub own_walked : IsWalked w b p (home n)
   own_walked = walked_home n inside
 
-  pub own_place : slice_index (positions b) n ≡ at (home n)
-  own_place = place_home n inside
+  pub own_pos : slice_index (positions b) n ≡ at (home n)
+  own_pos = pos_home n inside
 
   -- no two pairs have one home bucket
   homes_differ : (j : ℕ) → j < length pairs → j ≢ n → home j ≢ home n
@@ -92,18 +92,18 @@ module _ (w : Width) (k v : ElementSpec) {A B : Type 0} (key : List ℕ → ℕ 
       (again : (homes : List ℕ) → MapWrittenAt w (entry_spec k v) key_hash b p homes → MapWrittenAt w (entry_spec k v) key_hash c p homes)
       (own : key b (at (home n)) pair.0 → PairRepresents k v key value c (at (home n)) (pair.0, new))
       (others : (j : ℕ) → IsWalked w b p j → j ≢ home n → (x : A × B) → PairRepresents k v key value b (at j) x → PairRepresents k v key value c (at j) x) where
-    place_stays : (j : ℕ) → j < length pairs → slice_index (positions c) j ≡ at (home j)
+    pos_stays : (j : ℕ) → j < length pairs → slice_index (positions c) j ≡ at (home j)
     unfolding home
-    place_stays j h = get_or-map (item_at w (entry_spec k v).size c p) st.homes j 0 0 (omega (arith, homes_count)) ∙ stay (home j)
+    pos_stays j h = get_or-map (item_at w (entry_spec k v).size c p) st.homes j 0 0 (omega (arith, homes_count)) ∙ stay (home j)
 
     own_represents : PairRepresents k v key value c (slice_index (positions c) n) (pair.0, new)
-    own_represents = subst (λ z. PairRepresents k v key value c z (pair.0, new)) (sym (place_stays n inside)) (own (subst (λ z. key b z pair.0) own_place (st.at n pair at_n).0))
+    own_represents = subst (λ z. PairRepresents k v key value c z (pair.0, new)) (sym (pos_stays n inside)) (own (subst (λ z. key b z pair.0) own_pos (st.at n pair at_n).0))
 
     other_represents : (j : ℕ) (x : A × B) → slice_get pairs j ≡ Some x → j ≢ n → PairRepresents k v key value c (slice_index (positions c) j) x
     other_represents j x at_j ne =
         let h = slice_get_within pairs j x at_j in
-        let before = subst (λ z. PairRepresents k v key value b z x) (place_home j h) (st.at j x at_j) in
-        subst (λ z. PairRepresents k v key value c z x) (sym (place_stays j h)) (others (home j) (walked_home j h) (homes_differ j h ne) x before)
+        let before = subst (λ z. PairRepresents k v key value b z x) (pos_home j h) (st.at j x at_j) in
+        subst (λ z. PairRepresents k v key value c z x) (sym (pos_stays j h)) (others (home j) (walked_home j h) (homes_differ j h ne) x before)
 
     -- the pair has the new value, and all other pairs are unchanged
     pub new_value_represents : MapRepresents w k v key value key_hash factor c p (slice_set pairs n (pair.0, new))

@@ -8,22 +8,22 @@ use Rattle.std.specs.Prelude.{IfSome}
 use Rattle.rkyv_base.specs.Entry.{entry_spec}
 use Rattle.rkyv_base.specs.Lemmas.Entry.{entry_element, viewable_key, viewable_value}
 use Rattle.rkyv_base.specs.Sealing.{value_pos}
-use Rattle.rkyv_base.specs.ElementSpec.{IsElement, ElementSpec, Viewable}
+use Rattle.rkyv_base.specs.ElementSpec.{ElementSpec, IsElement, Viewable}
 use Rattle.rkyv_base.specs.View.{pos_of}
 use Rattle.rkyv_base.specs.declared.view.View.{View}
 use Rattle.rkyv_table.proofs.ValidTable.{item_viewable}
 use Rattle.rkyv_table.proofs.Moved.{moved}
 use Rattle.rkyv_table.proofs.SealedTable.{value_kept}
 use Rattle.rkyv_base.specs.declared.entry.Entry.{Entry}
-use Rattle.rkyv_collections.specs.Map.{ComparesKeysBy, AreUnderHashAt, FindsBy, FindsFirstBy}
+use Rattle.rkyv_collections.specs.Map.{AreUnderHashAt, ComparesKeysBy, FindsBy, FindsFirstBy}
 use Rattle.rkyv_collections.specs.Map.{FindsFirstKey, FindsFirstKeyAt, FindsKey, FindsKeyAt}
 use Rattle.rkyv_collections.specs.Map.{IsEntryIn, IsKeyIn, IsValueIn, IsViewAt, map_bytes, map_pos}
 use Rattle.rkyv_collections.specs.Map.Lookups.{IsAcceptedKey}
-use Rattle.rkyv_collections.specs.Map.MapAt.{MapAt, FoundKeyHasAt, map_at}
+use Rattle.rkyv_collections.specs.Map.MapAt.{FoundKeyHasAt, MapAt, map_at}
 use Rattle.rkyv_collections.specs.Map.MapSpec.{IsKeyPosAt, map_spec}
 use Rattle.rkyv_collections.specs.Map.Misplaced.{FindsOneKey, FindsOneKeyAt}
 use Rattle.rkyv_keys.specs.KeyLookup.{KeyLookup}
-use Rattle.rkyv_collections.specs.Map.SealedMap.{ComparesKeysByAt, FindsByAt, FindsFirstByAt, IsAcceptedKeyAt, IsKeyAt, IsPairPos, FoundByHasAt}
+use Rattle.rkyv_collections.specs.Map.SealedMap.{ComparesKeysByAt, FindsByAt, FindsFirstByAt, FoundByHasAt, IsAcceptedKeyAt, IsKeyAt, IsPairPos}
 use Rattle.rkyv_collections.specs.declared.map.ArchivedHashMap.{ArchivedHashMap}
 
 module _ (w : Width) (k v : ElementSpec) (kl : IsElement k) (vl : IsElement v) (b : List ℕ) (p : ℕ) (view : Viewable (map_spec w k v) b p) where
@@ -32,22 +32,22 @@ module _ (w : Width) (k v : ElementSpec) (kl : IsElement k) (vl : IsElement v) (
   entry_viewable q at = subst (Viewable (entry_spec k v) b) (sym at.2) (item_viewable w (entry_spec k v) (entry_element k v kl vl) b p view at.0 at.1)
 
   -- the pair is one whose value may be written
-  pub pair_place : (q : ℕ) (at : IsKeyPosAt w k v b p q) → IsPairPos w k v b p at.0 q
-  pair_place q at =
+  pub pair_pos : (q : ℕ) (at : IsKeyPosAt w k v b p q) → IsPairPos w k v b p at.0 q
+  pair_pos q at =
       let entry = entry_viewable q at in
       record {
         walked = at.1;
-        place = at.2;
+        pos = at.2;
         key = viewable_key k v kl vl b q entry;
         value = viewable_value k v kl vl b q entry;
         kept = λ c sealed keeps. value_kept w k v kl vl b p at.0 view at.1 c sealed keeps;
       }
 
   -- the pair of the found key
-  pub found_place : (found : Option ℕ) (q : ℕ) → found ≡ Some q → IfSome found (IsKeyPosAt w k v b p) → (i : ℕ) × IsPairPos w k v b p i q
-  found_place found q is walked =
+  pub found_key_pos : (found : Option ℕ) (q : ℕ) → found ≡ Some q → IfSome found (IsKeyPosAt w k v b p) → (i : ℕ) × IsPairPos w k v b p i q
+  found_key_pos found q is walked =
       let at = subst (λ (o : Option ℕ). IfSome o (IsKeyPosAt w k v b p)) is walked in
-      (at.0, pair_place q at)
+      (at.0, pair_pos q at)
 
   pub found_entry : (found : Option ℕ) (q : ℕ) → found ≡ Some q → IfSome found (IsKeyPosAt w k v b p) → Viewable (entry_spec k v) b q
   found_entry found q is walked = entry_viewable q (subst (λ (o : Option ℕ). IfSome o (IsKeyPosAt w k v b p)) is walked)
@@ -55,7 +55,7 @@ module _ (w : Width) (k v : ElementSpec) (kl : IsElement k) (vl : IsElement v) (
   -- a value behind a key ends inside the bytes
   pub value_inside : (pos : Option ℕ) → IfSome pos (λ q. (key : ℕ) × IsKeyPosAt w k v b p key × (q ≡ value_pos k v key)) → IfSome pos (λ q. q + v.size ≤ length b)
   value_inside None h = tt
-  value_inside (Some q) h = subst (λ n. n + v.size ≤ length b) (sym h.2) (pair_place h.0 h.1).value.inside
+  value_inside (Some q) h = subst (λ n. n + v.size ≤ length b) (sym h.2) (pair_pos h.0 h.1).value.inside
 
 -- a property of a found value, by its position
 found_pos_satisfies : {E : Type 0} (P : View E → Type 0) (Q : ℕ → Type 0) → ((x : View E) → P x → Q (pos_of x)) → (result : Option (View E)) (pos : Option ℕ) → IsViewAt result pos → IfSome result P → IfSome pos Q
@@ -63,23 +63,23 @@ found_pos_satisfies P Q implies None pos at h = subst (λ (o : Option ℕ). IfSo
 found_pos_satisfies P Q implies (Some x) pos at h = subst (λ (o : Option ℕ). IfSome o Q) at (implies x h)
 
 -- the map that is read has these bytes and this position
-module _ {K V H W : Type 0} {ks : Specs K} {vs : Specs V} {wt : Words W} (m : ArchivedHashMap K V H W ks vs wt) (b : List ℕ) (p : ℕ) (bytes : map_bytes m ≡ b) (place : map_pos m ≡ p) where
+module _ {K V H W : Type 0} {ks : Specs K} {vs : Specs V} {wt : Words W} (m : ArchivedHashMap K V H W ks vs wt) (b : List ℕ) (p : ℕ) (bytes : map_bytes m ≡ b) (same_pos : map_pos m ≡ p) where
   pub as_read : (F : List ℕ → ℕ → Type 0) → F (map_bytes m) (map_pos m) → F b p
-  as_read F x = moved F (map_bytes m) b (map_pos m) p bytes place x
+  as_read F x = moved F (map_bytes m) b (map_pos m) p bytes same_pos x
 
   module _ where
     key_at : (key : View K) → IsKeyIn m key → IsKeyAt wt.word ks.spec vs.spec b p key
     key_at key is = record {
       bytes = ap (λ (archive : Bor (List ℕ)). archive.now) is.archive ∙ bytes;
       viewable = is.viewable;
-      place = as_read (λ c q. IsKeyPosAt wt.word ks.spec vs.spec c q (pos_of key)) is.place;
+      key_pos = as_read (λ c q. IsKeyPosAt wt.word ks.spec vs.spec c q (pos_of key)) is.key_pos;
     }
 
     compares_read : (post : View K → Bool → Type 0) (accept : ℕ → Bool) → ComparesKeysByAt wt.word ks.spec vs.spec b p post accept → ComparesKeysBy m post accept
     compares_read post accept compares key r is compared = compares key r (key_at key is) compared
 
     -- an accepted key, by its position
-    pub accepted_read : (post : View K → Bool → Type 0) (place : Option ℕ) → IfSome place (IsAcceptedKey m post) → IfSome place (IsAcceptedKeyAt wt.word ks.spec vs.spec b p post)
+    pub accepted_read : (post : View K → Bool → Type 0) (key_pos : Option ℕ) → IfSome key_pos (IsAcceptedKey m post) → IfSome key_pos (IsAcceptedKeyAt wt.word ks.spec vs.spec b p post)
     accepted_read post None accepted = tt
     accepted_read post (Some q) accepted = (accepted.0, key_at accepted.0 accepted.1, accepted.2, accepted.3)
 
@@ -107,11 +107,11 @@ module _ {K V H W : Type 0} {ks : Specs K} {vs : Specs V} {wt : Words W} (m : Ar
 
       pub first_by_read : (post : View K → Bool → Type 0) (hash : ℕ) (key_hash : List ℕ → ℕ → ℕ) → FindsFirstBy m post hash key_hash Fact → FindsFirstByAt wt.word ks.spec vs.spec b p post hash key_hash Implied
       first_by_read post hash key_hash found = λ accept compares under.
-          first_key_read key_hash (λ c. accept) (found accept (compares_read post accept compares) (moved (λ c q. AreUnderHashAt wt.word ks.spec vs.spec c q hash key_hash accept) b (map_bytes m) p (map_pos m) (sym bytes) (sym place) under))
+          first_key_read key_hash (λ c. accept) (found accept (compares_read post accept compares) (moved (λ c q. AreUnderHashAt wt.word ks.spec vs.spec c q hash key_hash accept) b (map_bytes m) p (map_pos m) (sym bytes) (sym same_pos) under))
 
       pub satisfies_read : (a : KeyLookup) → FindsKey m a.hash (a.fits (map_bytes m)) Fact → FindsFirstKey m a.key_hash (a.fits (map_bytes m)) Fact → FindsOneKey m a.key_hash a.same (a.fits (map_bytes m)) Fact → FoundKeyHasAt (map_at wt ks vs b p) a Implied
-      satisfies_read a answer first complete = record {
-        answer = key_read a.hash a.fits answer;
+      satisfies_read a finds first complete = record {
+        finds = key_read a.hash a.fits finds;
         first = first_key_read a.key_hash a.fits first;
         complete = λ none.
             let one = as_read (λ c q. FindsOneKeyAt wt.word ks.spec vs.spec c q a.key_hash a.same (a.fits c) Fact) complete none in
@@ -119,17 +119,17 @@ module _ {K V H W : Type 0} {ks : Specs K} {vs : Specs V} {wt : Words W} (m : Ar
       }
 
 -- a property that follows from another of each position
-pub satisfies_implied : (m : MapAt) (a : KeyLookup) (Fact Implied : Option ℕ → Type 0) → ((place : Option ℕ) → Fact place → Implied place) → FoundKeyHasAt m a Fact → FoundKeyHasAt m a Implied
+pub satisfies_implied : (m : MapAt) (a : KeyLookup) (Fact Implied : Option ℕ → Type 0) → ((key_pos : Option ℕ) → Fact key_pos → Implied key_pos) → FoundKeyHasAt m a Fact → FoundKeyHasAt m a Implied
 satisfies_implied m a Fact Implied implies t = record {
-  answer = implies _ t.answer;
+  finds = implies _ t.finds;
   first = λ homes written. implies _ (t.first homes written);
   complete = λ none. let one = t.complete none in (one.0, one.1, implies one.0 one.2);
 }
 
-pub satisfies_implied_by : {K : Type 0} (m : MapAt) (hash : ℕ) (key_hash : List ℕ → ℕ → ℕ) (post : View K → Bool → Type 0) (Fact Implied : Option ℕ → Type 0) → ((place : Option ℕ) → Fact place → Implied place)
+pub satisfies_implied_by : {K : Type 0} (m : MapAt) (hash : ℕ) (key_hash : List ℕ → ℕ → ℕ) (post : View K → Bool → Type 0) (Fact Implied : Option ℕ → Type 0) → ((key_pos : Option ℕ) → Fact key_pos → Implied key_pos)
     → FoundByHasAt m hash key_hash post Fact → FoundByHasAt m hash key_hash post Implied
 satisfies_implied_by m hash key_hash post Fact Implied implies t = record {
   accepted = (t.accepted.0, implies t.accepted.0 t.accepted.1, t.accepted.2);
-  answer = λ accept compares. implies _ (t.answer accept compares);
+  finds = λ accept compares. implies _ (t.finds accept compares);
   first = λ accept compares under homes written. implies _ (t.first accept compares under homes written);
 }

@@ -6,7 +6,7 @@ use Rattle.std.proofs.lemmas.Bool.{cases_lt, true≢false}
 use Rattle.rkyv_base.specs.Entry.{entry_spec, whole_size}
 use Rattle.rkyv_base.specs.Lemmas.Entry.{entry_element, key_and_value_inside, size_of_small}
 use Rattle.rkyv_base.specs.Sealing.{Keeps, Sealed, value_pos}
-use Rattle.rkyv_base.specs.ElementSpec.{IsElement, ElementSpec, Viewable}
+use Rattle.rkyv_base.specs.ElementSpec.{ElementSpec, IsElement, Viewable}
 use Rattle.rkyv_base.specs.Seal.{bytes_in, seal_pos}
 use Rattle.rkyv_base.specs.View.{IsValidView, bytes_of, pos_of}
 use Rattle.rkyv_base.specs.declared.entry.Entry.{Entry}
@@ -25,7 +25,7 @@ use Rattle.rkyv_collections.specs.Map.SealedMap.{IsPairPos}
 use Rattle.rkyv_collections.specs.Map.SealedPairs.{IsPairIter, KeepsPairs, YieldsKeyPos, YieldsPairAt}
 use Rattle.rkyv_table.specs.Table.PairSeals.{LendsPair}
 use Rattle.rkyv_table.proofs.PairSeals.{pair_lent}
-use Rattle.rkyv_collections.proofs.SealedMap.{pair_place}
+use Rattle.rkyv_collections.proofs.SealedMap.{pair_pos}
 
 -- if no control byte is full, no bucket remains
 none_full : (controls : List ℕ) (cap : ℕ) → ((i : ℕ) → i < cap → slice_index controls i < 128 → ⊥) → (n from : ℕ) → cap ≤ from + n → full_from controls cap from ≡ []
@@ -58,7 +58,7 @@ module _ {K V : Type 0} (k v : ElementSpec) (kl : IsElement k) (vl : IsElement v
       record {
         bucket = t.bucket;
         first = t.first;
-        pair = pair_place w k v kl vl before.archive.now p is.table q (t.bucket, t.item.walked, t.item.place);
+        pair = pair_pos w k v kl vl before.archive.now p is.table q (t.bucket, t.item.walked, t.item.pos);
         iter = t.iter;
       }
 
@@ -89,8 +89,8 @@ module _ {K V : Type 0} (k v : ElementSpec) (kl : IsElement k) (vl : IsElement v
       let item = item_viewable w s law b p is.table i at.walked in
       let small = size_of_small (whole_size k v) item.valid.1.0 in
       let inside = key_and_value_inside k v in
-      let kept = at.kept c (subst (λ n. Sealed b (value_pos k v n) v.size c) at.place sealed) (subst (λ n. Keeps v b c (value_pos k v n)) at.place keeps) in
+      let kept = at.kept c (subst (λ n. Sealed b (value_pos k v n) v.size c) at.pos sealed) (subst (λ n. Keeps v b c (value_pos k v n)) at.pos keeps) in
       let cursor = cursor_kept w s p i q before after is
-      (record { walked = at.walked; place = at.place; viewable = subst (λ n. Viewable s b n) (sym at.place) item; kept = λ d x y. table_kept w s law b p i is.table at.walked d x y })
+      (record { walked = at.walked; pos = at.pos; viewable = subst (λ n. Viewable s b n) (sym at.pos) item; kept = λ d x y. table_kept w s law b p i is.table at.walked d x y })
       there (sealed_wider b c (value_pos k v q) v.size q s.size (omega arith) (omega (arith, small, inside.1)) sealed) (entry_kept k v kl vl b c q sealed keeps) in
-      (kept.0, subst (λ n. SameValue k b c n) (sym at.place) kept.1, cursor.1, cursor.2)
+      (kept.0, subst (λ n. SameValue k b c n) (sym at.pos) kept.1, cursor.1, cursor.2)

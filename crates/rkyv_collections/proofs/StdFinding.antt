@@ -9,10 +9,10 @@ use Rattle.std.proofs.lemmas.Option.{none-some, same_Some}
 use Rattle.std.specs.Prelude.{IsSome, IsSomeAnd, IsTrue, not}
 use Rattle.rkyv_scan.specs.Groups.{generic_kind}
 use Rattle.rkyv_scan.specs.Hash.{Hasher, HasherCall, NumbersFit, hash_of_calls}
-use Rattle.rkyv_base.specs.Empty.{unit_spec, unit_represents}
+use Rattle.rkyv_base.specs.Empty.{unit_represents, unit_spec}
 use Rattle.rkyv_base.specs.Entry.{entry_spec, value_offset}
 use Rattle.rkyv_base.specs.Format.{Format, IsFormat}
-use Rattle.rkyv_base.specs.ElementSpec.{IsElement, ElementSpec, Viewable}
+use Rattle.rkyv_base.specs.ElementSpec.{ElementSpec, IsElement, Viewable}
 use Rattle.rkyv_base.specs.Text.{IsArchiveWord}
 use Rattle.rkyv_keys.specs.Equality.{Comparison}
 use Rattle.rkyv_keys.specs.Keys.{FitsItsEqual, IsQuery}
@@ -32,7 +32,7 @@ use Rattle.rkyv_base.specs.Lemmas.Pairs.{written_as-format}
 use Rattle.rkyv_collections.specs.Lemmas.DistinctEntries.{of_entries-format}
 use Rattle.rkyv_table.specs.Table.ItemValues.{with_units}
 use Rattle.rkyv_collections.specs.StdMaps.StdEquality.{FindsPair}
-use Rattle.rkyv_collections.specs.StdMaps.StdLookups.{FindsFirstAccepted, FindsEntries, FindsMembers, IsValueBehind}
+use Rattle.rkyv_collections.specs.StdMaps.StdLookups.{FindsEntries, FindsFirstAccepted, FindsMembers, IsValueBehind}
 use Rattle.rkyv_collections.specs.StdMaps.StdMap.{of_entries}
 use Rattle.rkyv_collections.proofs.FoundPairs.{first_listed}
 use Rattle.rkyv_collections.specs.Lemmas.StdSet.{unit_lookup}
@@ -47,17 +47,17 @@ first_looked_up accept_value (e ∷ es) = elim (cases_Bool (accept_value e.0)) [
 ]
 
 -- the result of a lookup with a value, if an equal value is found
-as_value : {B : Type 0} (value : List ℕ → ℕ → B → Type 0) (b : List ℕ) (offset : ℕ) (place : Option ℕ) (o : Option B) (x : B) (r : Bool) → Some x ≡ o
-    → IsTrue r ↔ IsSomeAnd place (λ q. value b (q + offset) x) → IsTrue r ↔ IsValueBehind value b offset place o
-as_value value b offset place None x r e h = absurd (none-some x (sym e))
+as_value : {B : Type 0} (value : List ℕ → ℕ → B → Type 0) (b : List ℕ) (offset : ℕ) (key_pos : Option ℕ) (o : Option B) (x : B) (r : Bool) → Some x ≡ o
+    → IsTrue r ↔ IsSomeAnd key_pos (λ q. value b (q + offset) x) → IsTrue r ↔ IsValueBehind value b offset key_pos o
+as_value value b offset key_pos None x r e h = absurd (none-some x (sym e))
 as_value value b offset None (Some y) x r e h = h
 as_value value b offset (Some q) (Some y) x r e h =
     (λ t. subst (value b (q + offset)) (same_Some x y e) (h.0 t), λ v. h.1 (subst (value b (q + offset)) (sym (same_Some x y e)) v))
 
 -- the result of a lookup without a value
-as_none : {B : Type 0} (value : List ℕ → ℕ → B → Type 0) (b : List ℕ) (offset : ℕ) (place : Option ℕ) (o : Option B) (found r : Bool) → None ≡ o
-    → IsTrue found ↔ IsSome place → r ≡ not found → IsTrue r ↔ IsValueBehind value b offset place o
-as_none value b offset place (Some x) found r e h n = absurd (none-some x e)
+as_none : {B : Type 0} (value : List ℕ → ℕ → B → Type 0) (b : List ℕ) (offset : ℕ) (key_pos : Option ℕ) (o : Option B) (found r : Bool) → None ≡ o
+    → IsTrue found ↔ IsSome key_pos → r ≡ not found → IsTrue r ↔ IsValueBehind value b offset key_pos o
+as_none value b offset key_pos (Some x) found r e h n = absurd (none-some x e)
 as_none value b offset None None true r e h n = absurd (true≢false (sym (h.0 refl)))
 as_none value b offset None None false r e h n = (λ t. tt, λ t. n)
 as_none value b offset (Some q) None true r e h n = (λ t. absurd (true≢false (sym t ∙ n)), λ t. absurd t)
@@ -66,25 +66,25 @@ as_none value b offset (Some q) None false r e h n = absurd (true≢false (sym (
 -- The result for a key that is looked up in entries. If they have a value,
 -- an equal one must be found. If they have none, none may be found.
 module _ {A B : Type 0} (w : Width) (k v : ElementSpec) (hash : A → ℕ) (fits : A → List ℕ → ℕ → Bool) (equals : List ℕ → ℕ → B → Type 0) (b : List ℕ) (p : ℕ) (key : A) (accept_value : A → Bool) (entries : List (A × B)) where
-  abbrev place : Option ℕ
-  place = pos_found generic_kind w (entry_spec k v).size b p (hash key) (fits key b)
+  abbrev key_pos : Option ℕ
+  key_pos = pos_found generic_kind w (entry_spec k v).size b p (hash key) (fits key b)
 
   pub accepted_some : (x : B) (r : Bool) → Some x ≡ lookup accept_value entries → IsTrue r ↔ FindsPair w k v hash fits equals b p (key, x) → IsTrue r ↔ FindsFirstAccepted w k hash fits v equals b p key accept_value entries
-  accepted_some x r e h = as_value equals b (value_offset k v) place (lookup accept_value entries) x r e h
+  accepted_some x r e h = as_value equals b (value_offset k v) key_pos (lookup accept_value entries) x r e h
 
-  pub accepted_none : (found r : Bool) → None ≡ lookup accept_value entries → IsTrue found ↔ IsSome place → r ≡ not found → IsTrue r ↔ FindsFirstAccepted w k hash fits v equals b p key accept_value entries
-  accepted_none found r e h n = as_none equals b (value_offset k v) place (lookup accept_value entries) found r e h n
+  pub accepted_none : (found r : Bool) → None ≡ lookup accept_value entries → IsTrue found ↔ IsSome key_pos → r ≡ not found → IsTrue r ↔ FindsFirstAccepted w k hash fits v equals b p key accept_value entries
+  accepted_none found r e h n = as_none equals b (value_offset k v) key_pos (lookup accept_value entries) found r e h n
 
 -- at the position of a pair, its value is behind the key
-value_behind : {A B : Type 0} (k v : ElementSpec) (key : List ℕ → ℕ → A → Type 0) (value : List ℕ → ℕ → B → Type 0) (b : List ℕ) (place : Option ℕ) (o : Option (A × B))
-    → IsPairOf k v key value b place o → IsValueBehind value b (value_offset k v) place (option_map (λ pair. pair.1) o)
+value_behind : {A B : Type 0} (k v : ElementSpec) (key : List ℕ → ℕ → A → Type 0) (value : List ℕ → ℕ → B → Type 0) (b : List ℕ) (key_pos : Option ℕ) (o : Option (A × B))
+    → IsPairOf k v key value b key_pos o → IsValueBehind value b (value_offset k v) key_pos (option_map (λ pair. pair.1) o)
 value_behind k v key value b None None h = tt
 value_behind k v key value b (Some q) (Some pair) h = h.1
 value_behind k v key value b None (Some pair) h = absurd h
 value_behind k v key value b (Some q) None h = absurd h
 
 -- both find something, or neither does
-both_or_none : {B : Type 0} (value : List ℕ → ℕ → B → Type 0) (b : List ℕ) (offset : ℕ) (place : Option ℕ) (o : Option B) → IsValueBehind value b offset place o → is_some place ≡ is_some o
+both_or_none : {B : Type 0} (value : List ℕ → ℕ → B → Type 0) (b : List ℕ) (offset : ℕ) (key_pos : Option ℕ) (o : Option B) → IsValueBehind value b offset key_pos o → is_some key_pos ≡ is_some o
 both_or_none value b offset None None h = refl
 both_or_none value b offset (Some q) (Some x) h = refl
 both_or_none value b offset None (Some x) h = absurd h
@@ -113,7 +113,7 @@ module _ {State : Type 0} (hasher : Hasher State) (small : NumbersFit hasher) (w
       (sym (query.same_calls q b (pair_at w k v b p st.homes i) ready (valid_key kl vl b (pair_at w k v b p st.homes i) (pair_valid w k v kl vl hash b p st.homes view st.written i h)) accepted))) in
       let listed = first_listed w k v kl vl key value hash factor b p entries view accept accept_value agrees st in
       let behind = value_behind k v key value b (find accept positions) (first_pair accept_value entries) listed in
-      subst (λ (place : Option ℕ). IsValueBehind value b (value_offset k v) place (lookup accept_value entries)) (sym found)
+      subst (λ (key_pos : Option ℕ). IsValueBehind value b (value_offset k v) key_pos (lookup accept_value entries)) (sym found)
       (subst (λ (o : Option B). IsValueBehind value b (value_offset k v) (find accept positions) o) (first_looked_up accept_value entries) behind)
 
   -- in any archive with the written bytes of a map of std
@@ -152,8 +152,8 @@ members_looked_up w k s key can_read hash fits model f law = record {
         d.0,
         d.1,
         λ query accept_value ready agrees.
-            let place = pos_found generic_kind w (entry_spec k unit_spec).size c p (hash query) (fits query c) in
-            both_or_none unit_represents c (value_offset k unit_spec) place (lookup accept_value (with_units (model x))) (d.2 query accept_value ready agrees)
+            let key_pos = pos_found generic_kind w (entry_spec k unit_spec).size c p (hash query) (fits query c) in
+            both_or_none unit_represents c (value_offset k unit_spec) key_pos (lookup accept_value (with_units (model x))) (d.2 query accept_value ready agrees)
             ∙ ap is_some (unit_lookup accept_value (model x)) ∙ some_either {X = Unit {0}} tt (list_any accept_value (model x)),
       );
 }

@@ -11,7 +11,7 @@ use Rattle.std.proofs.lemmas.List.Elements.{All-head, All-map, All-tail, All-wea
 use Rattle.rkyv_base.specs.Entry.{entry_spec}
 use Rattle.rkyv_base.specs.Lemmas.Entry.{entry_element}
 use Rattle.rkyv_base.specs.Pairs.{PairRepresents}
-use Rattle.rkyv_base.specs.ElementSpec.{IsElement, ElementSpec}
+use Rattle.rkyv_base.specs.ElementSpec.{ElementSpec, IsElement}
 use Rattle.rkyv_table.specs.Table.Header.{cap_at}
 use Rattle.rkyv_table.specs.Controls.Placing.{walk}
 use Rattle.rkyv_table.specs.Table.Positions.{IsWalked, item_at, item_positions, table_controls}
@@ -55,9 +55,9 @@ module _ {A B : Type 0} (k v : ElementSpec) (key : List ℕ → ℕ → A → Ty
       find-append (equal q) ms rest ∙ ap (λ (o : Option A). option_or o (find (equal q) rest)) (adds q) ∙ sym (find-append (equal q) (ks ++ a ∷ []) rest)
       ∙ ap (find (equal q)) (append_assoc ks (a ∷ []) rest)
 
-  leads_next : (place : ℕ) (left : List ℕ) (f f' : A → Option B) (ks ms : List A) (a : A) (x : B) → LeadsOn (place ∷ left) f ks → PairRepresents k v key value b place (a, x)
+  leads_next : (key_pos : ℕ) (left : List ℕ) (f f' : A → Option B) (ks ms : List A) (a : A) (x : B) → LeadsOn (key_pos ∷ left) f ks → PairRepresents k v key value b key_pos (a, x)
       → ((q : A) → f' q ≡ cond (equal a q) (Some x) (f q)) → AddsKey equal ks ms a → LeadsOn left f' ms
-  leads_next place left f f' ks ms a x h st u adds rest read g e ns stored =
+  leads_next key_pos left f f' ks ms a x h st u adds rest read g e ns stored =
       h ((a, x) ∷ rest) (st, read) g (λ q. e q ∙ ap (λ (t : A → Option B). update_all equal t rest q) (λ i z. u z i)) ns (λ q. stored q ∙ added_first ks ms a adds (keys_of rest) q)
 
   leads_last : (f : A → Option B) (ks : List A) → LeadsOn [] f ks → ReadsAll f ks
@@ -82,17 +82,17 @@ module _ {A B : Type 0} (w : Width) (k v : ElementSpec) (key : List ℕ → ℕ 
         subst (λ (xs : List ℕ). LeadsOn k v key value equal archive.now all_positions xs found stored) (sym at) (leads_first k v key value equal archive.now all_positions found stored empty none),
       )
 
-  module _ (before after : ItemsLeft) (place : ℕ) (found : A → Option B) (stored : List A) (step : YieldsFirstPos before place after) (on : WalksOn before found stored) where
+  module _ (before after : ItemsLeft) (key_pos : ℕ) (found : A → Option B) (stored : List A) (step : YieldsFirstPos before key_pos after) (on : WalksOn before found stored) where
     -- the next key is one of the map, in the same bytes
-    pub walks_key : IsKeyPosAt w k v archive.now p place
-    walks_key = All-head (IsKeyPosAt w k v archive.now p) place after.positions (subst (All (IsKeyPosAt w k v archive.now p)) step.first on.1)
+    pub walks_key : IsKeyPosAt w k v archive.now p key_pos
+    walks_key = All-head (IsKeyPosAt w k v archive.now p) key_pos after.positions (subst (All (IsKeyPosAt w k v archive.now p)) step.first on.1)
 
-    pub walks_next : (found' : A → Option B) (stored' : List A) (a : A) (x : B) → PairRepresents k v key value archive.now place (a, x) → ((q : A) → found' q ≡ cond (equal a q) (Some x) (found q))
+    pub walks_next : (found' : A → Option B) (stored' : List A) (a : A) (x : B) → PairRepresents k v key value archive.now key_pos (a, x) → ((q : A) → found' q ≡ cond (equal a q) (Some x) (found q))
         → AddsKey equal stored stored' a → WalksOn after found' stored'
     walks_next found' stored' a x represents inserted adds = (
       step.archive ∙ on.0,
-      All-tail (IsKeyPosAt w k v archive.now p) place after.positions (subst (All (IsKeyPosAt w k v archive.now p)) step.first on.1),
-      leads_next k v key value equal archive.now all_positions place after.positions found found' stored stored' a x
+      All-tail (IsKeyPosAt w k v archive.now p) key_pos after.positions (subst (All (IsKeyPosAt w k v archive.now p)) step.first on.1),
+      leads_next k v key value equal archive.now all_positions key_pos after.positions found found' stored stored' a x
           (subst (λ (xs : List ℕ). LeadsOn k v key value equal archive.now all_positions xs found stored) step.first on.2) represents inserted adds,
     )
 

@@ -15,7 +15,7 @@ use Rattle.rkyv_table.specs.Table.Serializing.{WriteItemsFails, WroteItems}
 use Rattle.rkyv_table.specs.Table.Listed.{listed}
 use Rattle.rkyv_table.specs.Table.ItemValues.{key_values, with_units}
 use Rattle.rkyv_collections.specs.StdMaps.StdMap.{of_entries}
-use Rattle.rkyv_table.proofs.Listing.{all_came, answers_listed, no_other_came}
+use Rattle.rkyv_table.proofs.Listing.{all_came, no_other_came, results_listed}
 
 -- an iterator over the items of the list, with the length of the list
 module _ {A V F : Type 0} (shows : A → V) (lent : List A → List V) (lent_shows : (xs : List A) → lent xs ≡ map shows xs) (items from : List V) (rest : from ≡ items) (len : ℕ) (count : len ≡ length items)
@@ -25,7 +25,7 @@ module _ {A V F : Type 0} (shows : A → V) (lent : List A → List V) (lent_sho
       (WriteItemsFails (Drains (TakesFirst shows) from) len factor max (written_as lent f) o o' limit (YieldsOtherCount (TakesFirst shows) len from))
       → MatchResult result (Serialized limit (listed max factor f) items o o') (SerializeFails limit (listed max factor f) items o o')
   writes_shown result h =
-      answers_listed (Drains (TakesFirst shows) from) (YieldsOtherCount (TakesFirst shows) len from) lent items
+      results_listed (Drains (TakesFirst shows) from) (YieldsOtherCount (TakesFirst shows) len from) lent items
       (λ xs d. lent_shows xs ∙ all_came shows (λ (s : List V). s) xs from d ∙ rest)
       (λ n g. no_other_came shows (λ (s : List V). s) len from (ap length rest ∙ sym count) n g)
       len count factor max limit f o o' result h
@@ -45,7 +45,7 @@ module _ {A F : Type 0} (keys from : List A) (rest : from ≡ keys) (len : ℕ) 
       (WriteItemsFails (Drains (TakesFirst deref) from) len factor max (written_as (λ xs. with_units (key_values (λ k. k.now) xs)) f) o o' limit (YieldsOtherCount (TakesFirst deref) len from))
       → MatchResult result (Serialized limit (listed max factor f) (with_units keys) o o') (SerializeFails limit (listed max factor f) (with_units keys) o o')
   writes_keys result h =
-      answers_listed (Drains (TakesFirst deref) from) (YieldsOtherCount (TakesFirst deref) len from) (λ xs. with_units (key_values (λ k. k.now) xs)) (with_units keys)
+      results_listed (Drains (TakesFirst deref) from) (YieldsOtherCount (TakesFirst deref) len from) (λ xs. with_units (key_values (λ k. k.now) xs)) (with_units keys)
       (λ xs d. ap with_units (all_came deref (λ (s : List A). s) xs from d ∙ rest))
       (λ n g. no_other_came deref (λ (s : List A). s) len from (ap length rest ∙ sym count) n g)
       len (count ∙ sym (length-map keys (λ key. (key, tt)))) factor max limit f o o' result h

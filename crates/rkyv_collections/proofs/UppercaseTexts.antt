@@ -13,10 +13,10 @@ use Rattle.rkyv_base.specs.Format.{RepresentsLocally}
 use Rattle.rkyv_base.specs.Pairs.{PairRepresents}
 use Rattle.rkyv_base.specs.SealedText.{Uppercases}
 use Rattle.rkyv_base.specs.Sealing.{value_pos}
-use Rattle.rkyv_base.specs.ElementSpec.{IsElement, ElementSpec, Viewable}
-use Rattle.rkyv_base.specs.Text.{text_at, text_spec, text_size}
+use Rattle.rkyv_base.specs.ElementSpec.{ElementSpec, IsElement, Viewable}
+use Rattle.rkyv_base.specs.Text.{text_at, text_size, text_spec}
 use Rattle.rkyv_base.specs.Lemmas.Text.{text_local}
-use Rattle.rkyv_base.proofs.SealedText.{uppercased_valid, uppercased_reads, uppercased_sealed}
+use Rattle.rkyv_base.proofs.SealedText.{uppercased_reads, uppercased_sealed, uppercased_valid}
 use Rattle.rkyv_keys.specs.Lemmas.OfTexts.{IsTextOf}
 use Rattle.rkyv_table.specs.Table.Positions.{home_positions}
 use Rattle.rkyv_collections.specs.Map.InPlace.{with_first}
@@ -26,7 +26,7 @@ use Rattle.rkyv_keys.specs.FirstPairs.{first_pair}
 use Rattle.rkyv_collections.specs.Map.ListedLookups.{AgreesOnKeys, IsPairOf}
 use Rattle.rkyv_collections.specs.Map.MapSpec.{map_spec}
 use Rattle.rkyv_collections.specs.Map.MapFormat.{MapRepresents}
-use Rattle.rkyv_collections.proofs.FirstWrites.{first_behind, some_place}
+use Rattle.rkyv_collections.proofs.FirstWrites.{first_behind, some_pos}
 use Rattle.rkyv_collections.proofs.FoundPairs.{first_listed}
 
 -- the list with the first accepted text in upper case is the list with that new value
@@ -43,12 +43,12 @@ uppercase_with_first {A} accept_value (x ∷ xs) pair e = elim (cases_Bool (acce
 
 module _ {A : Type 0} (k v : ElementSpec) (key : List ℕ → ℕ → A → Type 0) (value : List ℕ → ℕ → Bor (List ℕ) → Type 0) (b : List ℕ) where
   -- the found pair, by its position
-  pair_of : (place : Option ℕ) (q : ℕ) (o : Option (A × Bor (List ℕ))) → Some q ≡ place → IsPairOf k v key value b place o → (pair : A × Bor (List ℕ)) × (o ≡ Some pair) × PairRepresents k v key value b q pair
+  pair_of : (key_pos : Option ℕ) (q : ℕ) (o : Option (A × Bor (List ℕ))) → Some q ≡ key_pos → IsPairOf k v key value b key_pos o → (pair : A × Bor (List ℕ)) × (o ≡ Some pair) × PairRepresents k v key value b q pair
   pair_of None q o e h = absurd cc
   pair_of (Some r) q None e h = absurd h
   pair_of (Some r) q (Some pair) e h = (pair, refl, subst (λ z. PairRepresents k v key value b z pair) (sym (same_Some q r e)) h)
 
-  no_pair : (f : ℕ → ℕ) (place : Option ℕ) (o : Option (A × Bor (List ℕ))) → None ≡ option_map f place → IsPairOf k v key value b place o → false ≡ is_some o
+  no_pair : (f : ℕ → ℕ) (key_pos : Option ℕ) (o : Option (A × Bor (List ℕ))) → None ≡ option_map f key_pos → IsPairOf k v key value b key_pos o → false ≡ is_some o
   no_pair f None None e h = refl
   no_pair f None (Some pair) e h = absurd h
   no_pair f (Some q) o e h = absurd cc
@@ -65,24 +65,24 @@ module _ (w : Width) (k : ElementSpec) (kl : IsElement k) (tl : IsElement (text_
   abbrev Represents : List ℕ → List (A × Bor (List ℕ)) → Type 0
   Represents c l = MapRepresents w k v key value key_hash factor c p l
 
-  abbrev place : Option ℕ
-  place = find accept (home_positions w (entry_spec k v).size b p st.homes)
+  abbrev key_pos : Option ℕ
+  key_pos = find accept (home_positions w (entry_spec k v).size b p st.homes)
 
-  first : IsPairOf k v key value b place (first_pair accept_value pairs)
+  first : IsPairOf k v key value b key_pos (first_pair accept_value pairs)
   first = first_listed w k v kl tl key value key_hash factor b p pairs view accept accept_value agrees st
 
-  pub none_uppercased : None ≡ option_map (value_pos k v) place → (false ≡ is_some (first_pair accept_value pairs)) × Represents b pairs
-  none_uppercased found = (no_pair k v key value b (value_pos k v) place (first_pair accept_value pairs) found first, st)
+  pub none_uppercased : None ≡ option_map (value_pos k v) key_pos → (false ≡ is_some (first_pair accept_value pairs)) × Represents b pairs
+  none_uppercased found = (no_pair k v key value b (value_pos k v) key_pos (first_pair accept_value pairs) found first, st)
 
-  pub first_uppercased : RepresentsLocally k key → HashLocal k key_hash → (c : List ℕ) (pos : ℕ) (inline : Bool) → pos + text_size w ≤ length b → Some pos ≡ option_map (value_pos k v) place
+  pub first_uppercased : RepresentsLocally k key → HashLocal k key_hash → (c : List ℕ) (pos : ℕ) (inline : Bool) → pos + text_size w ≤ length b → Some pos ≡ option_map (value_pos k v) key_pos
       → Uppercases w b pos c inline → (true ≡ is_some (first_pair accept_value pairs)) × Represents c (list_after_uppercase w k accept_value (Some inline) pairs)
   first_uppercased kn local c pos false inside found uppercased =
-      let t = some_place (value_pos k v) place pos found in
-      let pair = pair_of k v key value b place t.0 (first_pair accept_value pairs) t.1 first in
+      let t = some_pos (value_pos k v) key_pos pos found in
+      let pair = pair_of k v key value b key_pos t.0 (first_pair accept_value pairs) t.1 first in
       (ap is_some (sym pair.1), subst (λ x. Represents x pairs) (sym uppercased.1) st)
   first_uppercased kn local c pos true inside found uppercased =
-      let t = some_place (value_pos k v) place pos found in
-      let pair = pair_of k v key value b place t.0 (first_pair accept_value pairs) t.1 first in
+      let t = some_pos (value_pos k v) key_pos pos found in
+      let pair = pair_of k v key value b key_pos t.0 (first_pair accept_value pairs) t.1 first in
       let there : text_at w b pos ≡ pair.0.1.now = ap (text_at w b) t.2 ∙ pair.2.1 in
       let reads : text_at w c pos ≡ map to_ascii_uppercase pair.0.1.now = uppercased_reads w b pos inside c true uppercased uppercased.0 ∙ ap (map to_ascii_uppercase) there in
       let wrote = first_behind w k v kl tl key value key_hash factor b p pairs (uppercase_text pair.0.1) accept accept_value view agrees st kn (λ x. text_local w x.now) local c pos found

@@ -13,7 +13,7 @@ use Rattle.rkyv_base.specs.Lemmas.Entry.{entry_element, same_key, viewable_key}
 use Rattle.rkyv_base.specs.Format.{RepresentsLocally}
 use Rattle.rkyv_base.specs.Lemmas.Pairs.{pair_local}
 use Rattle.rkyv_base.specs.Sealing.{Keeps, Sealed, value_pos}
-use Rattle.rkyv_base.specs.ElementSpec.{IsElement, ElementSpec, Viewable}
+use Rattle.rkyv_base.specs.ElementSpec.{ElementSpec, IsElement, Viewable}
 use Rattle.rkyv_base.proofs.Sealing.{viewable_kept}
 use Rattle.rkyv_keys.specs.QueryLaws.{RestsOnKeys}
 use Rattle.rkyv_table.specs.Table.Header.{cap_at, len_at}
@@ -28,7 +28,7 @@ use Rattle.rkyv_collections.specs.Map.{MapWrittenAt}
 use Rattle.rkyv_collections.specs.Map.MapSpec.{IsKeyPosAt, map_spec}
 use Rattle.rkyv_collections.specs.Map.MapFormat.{MapRepresents}
 use Rattle.rkyv_collections.specs.Lemmas.MapLaws.{HashLocal}
-use Rattle.rkyv_collections.proofs.NewValues.{home, new_value_represents, own_place, own_walked, written_again}
+use Rattle.rkyv_collections.proofs.NewValues.{home, new_value_represents, own_pos, own_walked, written_again}
 use Rattle.rkyv_collections.specs.Map.ValueWrites.{KeepsMap, entry_at}
 
 map_of_found : (f g : ℕ → ℕ) → ((i : ℕ) → f i ≡ g i) → (o : Option ℕ) → option_map f o ≡ option_map g o
@@ -131,18 +131,18 @@ module _ (k v : ElementSpec) (kl : IsElement k) (vl : IsElement v) (w : Width) (
   abbrev at : ℕ → ℕ
   at = item_at w (entry_spec k v).size b p
 
-  abbrev place : ℕ
-  place = slice_index (home_positions w (entry_spec k v).size b p st.homes) n
+  abbrev key_pos : ℕ
+  key_pos = slice_index (home_positions w (entry_spec k v).size b p st.homes) n
 
   entry_there : (j : ℕ) → IsWalked w b p j → Viewable (entry_spec k v) b (at j)
   entry_there j there = item_viewable w (entry_spec k v) (entry_element k v kl vl) b p view j there
 
   -- the written pair has the new value, and each other pair is unchanged
-  pub written_value_represents : WritesValue k v b c place → value c (value_pos k v place) new → MapRepresents w k v key value key_hash factor c p (slice_set pairs n (pair.0, new))
+  pub written_value_represents : WritesValue k v b c key_pos → value c (value_pos k v key_pos) new → MapRepresents w k v key value key_hash factor c p (slice_set pairs n (pair.0, new))
   written_value_represents writes represents =
       let i = home w k v key value key_hash b c p n factor pairs pair new st at_n n in
       let there = own_walked w k v key value key_hash b c p n factor pairs pair new st at_n in
-      let is = own_place w k v key value key_hash b c p n factor pairs pair new st at_n in
+      let is = own_pos w k v key value key_hash b c p n factor pairs pair new st at_n in
       let kept = map_kept k v kl vl w key_hash local b c p i view there (subst (WritesValue k v b c) is writes) in
       let viewable = viewable_key k v kl vl b (at i) (entry_there i there) in
       let same = kept.keys i there in

@@ -8,7 +8,7 @@ use Rattle.std.proofs.lemmas.List.Sorted.{Contains-permutation, IsPermutation-co
 use Rattle.std.proofs.lemmas.Map.Keys.{IsDistinct-tail, apart_from_distinct}
 use Rattle.std.proofs.lemmas.Option.{slice_get-map, slice_get_within}
 use Rattle.std.specs.Option.{option_map}
-use Rattle.rkyv_base.specs.Empty.{unit_spec, unit_represents}
+use Rattle.rkyv_base.specs.Empty.{unit_represents, unit_spec}
 use Rattle.rkyv_base.specs.Entry.{entry_spec}
 use Rattle.rkyv_base.specs.Pairs.{PairRepresents}
 use Rattle.rkyv_base.specs.ElementSpec.{ElementSpec}

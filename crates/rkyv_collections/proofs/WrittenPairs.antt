@@ -10,7 +10,7 @@ use Rattle.rkyv_scan.specs.Groups.{generic_kind}
 use Rattle.rkyv_scan.specs.Lemmas.KindLaws.{word_lawful}
 use Rattle.rkyv_base.specs.Entry.{entry_spec}
 use Rattle.rkyv_base.specs.Lemmas.Entry.{entry_element}
-use Rattle.rkyv_base.specs.ElementSpec.{IsElement, ElementSpec, ValidAt, Viewable}
+use Rattle.rkyv_base.specs.ElementSpec.{ElementSpec, IsElement, ValidAt, Viewable}
 use Rattle.rkyv_table.specs.Table.Header.{cap_at, len_at}
 use Rattle.rkyv_table.specs.Controls.Placing.{walk}
 use Rattle.rkyv_table.specs.Table.Positions.{IsWalked, home_positions, item_at, item_positions}
@@ -37,8 +37,8 @@ module _ (w : Width) (k v : ElementSpec) (kl : IsElement k) (vl : IsElement v) (
   unfolding hashes positions
   hash_count = length-map positions (key_hash b) ∙ length-map homes (item_at w (entry_spec k v).size b p)
 
-  pub place_of_pair : (i : ℕ) → i < length homes → slice_index (home_positions w (entry_spec k v).size b p homes) i ≡ pair_at w k v b p homes i
-  place_of_pair i h = home_pos w (entry_spec k v).size b p homes i h
+  pub pos_of_pair : (i : ℕ) → i < length homes → slice_index (home_positions w (entry_spec k v).size b p homes) i ≡ pair_at w k v b p homes i
+  pos_of_pair i h = home_pos w (entry_spec k v).size b p homes i h
 
   -- the hash with the number `i` is that of the key with that number
   pub hash_of_pair : (i : ℕ) → i < length homes
@@ -46,7 +46,7 @@ module _ (w : Width) (k v : ElementSpec) (kl : IsElement k) (vl : IsElement v) (
   unfolding hashes positions
   hash_of_pair i h =
       let n = length-map homes (item_at w (entry_spec k v).size b p) in
-      get_or-map (key_hash b) positions i 0 0 (omega arith) ∙ ap (key_hash b) (place_of_pair i h)
+      get_or-map (key_hash b) positions i 0 0 (omega arith) ∙ ap (key_hash b) (pos_of_pair i h)
 
   pub hash_small : (i : ℕ) → i < length homes → key_hash b (pair_at w k v b p homes i) < 2 ^ 64
   unfolding hashes positions
@@ -108,4 +108,4 @@ module _ (w : Width) (k v : ElementSpec) (kl : IsElement k) (vl : IsElement v) (
       first_found generic_kind word_lawful w (entry_spec k v).size b p hash small hashes homes accept written
       (λ i h accepted.
       let l : i < length homes = omega (arith, hash_count) in
-      hash_of_pair i l ∙ under i l (ap accept (sym (place_of_pair i l)) ∙ accepted))
+      hash_of_pair i l ∙ under i l (ap accept (sym (pos_of_pair i l)) ∙ accepted))

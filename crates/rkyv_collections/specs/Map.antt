@@ -80,7 +80,7 @@ module _ {K V H W : Type 0} {ks : Specs K} {vs : Specs V} {wt : Words W} where
   pub record IsKeyIn (m : ArchivedHashMap K V H W ks vs wt) (key : View K) : Type 0 where
     pub archive : key.archive ≡ map_archive m
     pub viewable : IsValidView ks.spec key
-    pub place : IsKeyPos m key.pos
+    pub key_pos : IsKeyPos m key.pos
 
   -- the view is that of the value behind a key of the map
   pub record IsValueIn (m : ArchivedHashMap K V H W ks vs wt) (value : View V) : Type 0 where
@@ -172,7 +172,7 @@ module _ {K V H W : Type 0} {ks : Specs K} {vs : Specs V} {wt : Words W}
 
 -- the position is that of the found view, or there is neither
 abbrev pub IsViewAt : {E : Type 0} → Option (View E) → Option ℕ → Type 0
-IsViewAt result place = pos_of_found result ≡ place
+IsViewAt result key_pos = pos_of_found result ≡ key_pos
 
 -- the position of the key of a found pair
 abbrev pub key_pos_found : {K V : Type 0} → Option (View K × View V) → Option ℕ
@@ -180,13 +180,13 @@ key_pos_found {K} {V} result = option_map (λ (pair : View K × View V). pos_of 
 
 -- the position is that of the key of the found pair, or there is neither
 abbrev pub IsPairAt : {K V : Type 0} → Option (View K × View V) → Option ℕ → Type 0
-IsPairAt result place = key_pos_found result ≡ place
+IsPairAt result key_pos = key_pos_found result ≡ key_pos
 
 -- the found value is behind the key at the position, or there is neither
 abbrev pub IsValueAt : {V : Type 0} → ElementSpec → ElementSpec → Option (View V) → Option ℕ
     → Type 0
-IsValueAt k v result place = pos_of_found result ≡ option_map (λ q. q + value_offset k v) place
+IsValueAt k v result key_pos = pos_of_found result ≡ option_map (λ q. q + value_offset k v) key_pos
 
 -- the result is `true` if and only if a key is found
 abbrev pub IsFoundAt : Bool → Option ℕ → Type 0
-IsFoundAt result place = IsTrue result ↔ IsSome place
+IsFoundAt result key_pos = IsTrue result ↔ IsSome key_pos

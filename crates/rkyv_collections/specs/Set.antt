@@ -14,7 +14,7 @@ use Rattle.rkyv_keys.specs.KeyLookup.{KeyLookup}
 use Rattle.rkyv_keys.specs.Equality.{Comparison}
 use Rattle.rkyv_keys.specs.OfUnits.{unit_same}
 use Rattle.rkyv_collections.specs.Map.Equality.{map_equal}
-use Rattle.rkyv_collections.specs.Map.Lookups.{GetsKey, FoundKeyHas, key_part}
+use Rattle.rkyv_collections.specs.Map.Lookups.{FoundKeyHas, GetsKey, key_part}
 use Rattle.rkyv_collections.specs.Map.{key_positions, map_archive, map_bytes}
 use Rattle.rkyv_collections.specs.Map.{map_len, map_pos}
 use Rattle.rkyv_collections.specs.Map.MapSpec.{map_spec}

@@ -1,4 +1,4 @@
--- The bytes of a header: each field in its place, and headers with equal bytes are equal.
+-- The bytes of a header: each field at its offset, and headers with equal bytes are equal.
 use Rattle.std.proofs.Common.{
   ◌≡◌,
   ℕ,
@@ -25,9 +25,9 @@ use Rattle.std.proofs.Common.{
   arith,
   length-take,
 }
-use Rattle.std.specs.Prelude.{slice_range, slice_index}
-use Rattle.std.specs.Int.{w16, w32, w64, to_le_bytes, from_le_bytes}
-use Rattle.std.proofs.lemmas.List.{drop-take, take-take, take-append-drop, drop-drop}
+use Rattle.std.specs.Prelude.{slice_index, slice_range}
+use Rattle.std.specs.Int.{from_le_bytes, to_le_bytes, w16, w32, w64}
+use Rattle.std.proofs.lemmas.List.{drop-drop, drop-take, take-append-drop, take-take}
 use Rattle.std.proofs.lemmas.Nat.{
   from_le_bytes-to_le_bytes_2,
   from_le_bytes-to_le_bytes_4,
@@ -42,32 +42,32 @@ use Rattle.rkyv_container.specs.declared.contents.Kind.TheVariants.{
 }
 use Rattle.rkyv_container.specs.declared.contents.ItemType.{ItemType}
 use Rattle.rkyv_container.specs.declared.contents.ItemType.TheVariants.{
-  Unit as UnitType,
   Bool as BoolType,
-  Char,
-  Text,
   Bytes,
-  U8,
-  U16,
-  U32,
-  U64,
-  I8,
+  Char,
   I16,
   I32,
   I64,
+  I8,
+  Text,
+  U16,
+  U32,
+  U64,
+  U8,
+  Unit as UnitType,
 }
 use Rattle.rkyv_container.specs.declared.contents.Width.{Width}
 use Rattle.rkyv_container.specs.declared.contents.Width.TheVariants.{Narrow, Wide}
 use Rattle.rkyv_container.specs.declared.contents.Contents.{Contents}
 use Rattle.rkyv_container.specs.declared.header.Header.{Header}
-use Rattle.rkyv_container.specs.Codes.{kind_code, item_code, width_code}
+use Rattle.rkyv_container.specs.Codes.{item_code, kind_code, width_code}
 use Rattle.rkyv_container.specs.Header.{
-  flags_of,
-  checksum_field,
-  contents_bytes,
-  header_bytes,
   Fits,
   IsHeader,
+  checksum_field,
+  contents_bytes,
+  flags_of,
+  header_bytes,
 }
 
 -- a range of the first `n` bytes

@@ -24,15 +24,15 @@ use Rattle.std.proofs.Common.{
   arith,
   lit<,
 }
-use Rattle.std.specs.Prelude.{slice_range, slice_index}
-use Rattle.std.specs.Int.{w16, w32, w64, to_le_bytes, from_le_bytes}
+use Rattle.std.specs.Prelude.{slice_index, slice_range}
+use Rattle.std.specs.Int.{from_le_bytes, to_le_bytes, w16, w32, w64}
 use Rattle.std.proofs.lemmas.List.{
   get_or-drop,
   get_or-take,
   get_or_past,
+  length-drop,
   length-take,
   length-take-le,
-  length-drop,
 }
 use Rattle.std.proofs.lemmas.Bool.{cases_lt}
 use Rattle.std.proofs.lemmas.Nat.{
@@ -44,22 +44,22 @@ use Rattle.rkyv_container.specs.declared.contents.Contents.{Contents}
 use Rattle.rkyv_container.specs.declared.header.Header.{Header}
 use Rattle.rkyv_container.specs.declared.errors.ContainerError.{ContainerError}
 use Rattle.rkyv_container.specs.declared.errors.ContainerError.TheVariants.{UnknownWidth}
-use Rattle.rkyv_container.specs.Codes.{IsKindCode, IsItemCode, IsWidthCode}
+use Rattle.rkyv_container.specs.Codes.{IsItemCode, IsKindCode, IsWidthCode}
 use Rattle.rkyv_container.specs.Checks.{AllPass, FirstFails, followed_by}
 use Rattle.rkyv_container.specs.Header.{
-  magic,
-  flags_of,
-  checksum_field,
-  contents_bytes,
-  IsHeader,
   IsChecksumField,
-  start_checks,
+  IsHeader,
+  checksum_field,
   code_checks,
+  contents_bytes,
   flag_checks,
-  reserved_checks,
+  flags_of,
   header_checks,
+  magic,
+  reserved_checks,
+  start_checks,
 }
-use Rattle.rkyv_container.proofs.Checking.{pass_both, fails_first, fails_later}
+use Rattle.rkyv_container.proofs.Checking.{fails_first, fails_later, pass_both}
 use Rattle.rkyv_container.proofs.HeaderBytes.{field, header_length, slice_join}
 
 -- the error of the last of the four codes

@@ -22,7 +22,7 @@ use Rattle.std.proofs.Common.{
   inl,
   inr,
 }
-use Rattle.std.proofs.lemmas.List.{take_at, drop_at, take-append-drop}
+use Rattle.std.proofs.lemmas.List.{drop_at, take-append-drop, take_at}
 use Rattle.rkyv_container.specs.declared.contents.Contents.{Contents}
 use Rattle.rkyv_container.specs.declared.header.Header.{Header}
 use Rattle.rkyv_container.specs.declared.errors.ContainerError.{ContainerError}
@@ -30,23 +30,23 @@ use Rattle.rkyv_container.specs.declared.errors.ContainerError.TheVariants.{
   WrongValueType,
   WrongWidth,
 }
-use Rattle.rkyv_container.specs.Checks.{Checks, AllPass, FirstFails, followed_by}
+use Rattle.rkyv_container.specs.Checks.{AllPass, Checks, FirstFails, followed_by}
 use Rattle.rkyv_container.specs.Header.{IsHeader, header_bytes, header_checks}
 use Rattle.rkyv_container.specs.Container.{
   IsContainer,
   IsContainerOf,
   IsSplit,
-  OpenFails,
   OpenAsFails,
+  OpenFails,
   archive_checks,
   contents_checks,
 }
 use Rattle.rkyv_container.proofs.Checking.{
+  first_unique,
   pass_both,
   pass_excludes,
-  first_unique,
 }
-use Rattle.rkyv_container.proofs.HeaderBytes.{header_unique, contents_equal}
+use Rattle.rkyv_container.proofs.HeaderBytes.{contents_equal, header_unique}
 use Rattle.rkyv_container.proofs.HeaderChecks.{header_passes}
 
 -- the value type, or the width, is the first difference

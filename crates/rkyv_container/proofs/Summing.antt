@@ -26,15 +26,15 @@ use Rattle.std.proofs.Common.{
   length-drop,
 }
 use Rattle.std.specs.Prelude.{slice_range}
-use Rattle.std.proofs.lemmas.List.{take_more, take_all, length-take-le, get_or_at}
-use Rattle.std.proofs.lemmas.List.Sums.{sum_by_more, sum_by-append, sum_by-cons}
+use Rattle.std.proofs.lemmas.List.{get_or_at, length-take-le, take_all, take_more}
+use Rattle.std.proofs.lemmas.List.Sums.{sum_by-append, sum_by-cons, sum_by_more}
 use Rattle.std.proofs.lemmas.Nat.{mul-mod_second}
 use Rattle.rkyv_container.specs.Checksum.{
-  weighted_sum,
-  adler32_low,
-  adler32_high,
-  adler32_of,
   DetectsChange,
+  adler32_high,
+  adler32_low,
+  adler32_of,
+  weighted_sum,
 }
 use Rattle.rkyv_container.proofs.HeaderBytes.{slice_join}
 

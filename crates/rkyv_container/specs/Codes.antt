@@ -9,19 +9,19 @@ use Rattle.rkyv_container.specs.declared.contents.Kind.TheVariants.{
 }
 use Rattle.rkyv_container.specs.declared.contents.ItemType.{ItemType}
 use Rattle.rkyv_container.specs.declared.contents.ItemType.TheVariants.{
-  Unit as UnitType,
   Bool as BoolType,
-  Char,
-  Text,
   Bytes,
-  U8,
-  U16,
-  U32,
-  U64,
-  I8,
+  Char,
   I16,
   I32,
   I64,
+  I8,
+  Text,
+  U16,
+  U32,
+  U64,
+  U8,
+  Unit as UnitType,
 }
 use Rattle.rkyv_container.specs.declared.contents.Width.{Width}
 use Rattle.rkyv_container.specs.declared.contents.Width.TheVariants.{Narrow, Wide}

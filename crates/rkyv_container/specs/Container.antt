@@ -4,16 +4,16 @@ use Rattle.rkyv_container.specs.declared.contents.Contents.{Contents}
 use Rattle.rkyv_container.specs.declared.header.Header.{Header}
 use Rattle.rkyv_container.specs.declared.errors.ContainerError.{ContainerError}
 use Rattle.rkyv_container.specs.declared.errors.ContainerError.TheVariants.{
-  WrongKind,
+  WrongChecksum,
   WrongKeyType,
+  WrongKind,
+  WrongLength,
   WrongValueType,
   WrongWidth,
-  WrongLength,
-  WrongChecksum,
 }
-use Rattle.rkyv_container.specs.Checks.{Checks, done, check, followed_by, FirstFails}
+use Rattle.rkyv_container.specs.Checks.{Checks, FirstFails, check, done, followed_by}
 use Rattle.rkyv_container.specs.Checksum.{adler32_of}
-use Rattle.rkyv_container.specs.Header.{Fits, IsHeader, header_bytes, header_checks, checksum_field}
+use Rattle.rkyv_container.specs.Header.{Fits, IsHeader, checksum_field, header_bytes, header_checks}
 
 -- the checksum `c`, if there is one, is that of the archive `a`
 abbrev pub ChecksumMatches : Option ℕ → List ℕ → Type 0

@@ -18,30 +18,30 @@ use Rattle.std.specs.Prelude.{
   None,
   Some,
 }
-use Rattle.std.specs.Int.{w16, w32, w64, to_le_bytes, from_le_bytes}
+use Rattle.std.specs.Int.{from_le_bytes, to_le_bytes, w16, w32, w64}
 use Rattle.rkyv_container.specs.declared.contents.Contents.{Contents}
 use Rattle.rkyv_container.specs.declared.header.Header.{Header}
 use Rattle.rkyv_container.specs.declared.errors.ContainerError.TheVariants.{
+  NonzeroReserved,
   TooShort,
-  WrongMagic,
-  UnsupportedVersion,
-  UnknownKind,
+  UnexpectedChecksum,
+  UnknownFlags,
   UnknownKeyType,
+  UnknownKind,
   UnknownValueType,
   UnknownWidth,
-  UnknownFlags,
-  UnexpectedChecksum,
-  NonzeroReserved,
+  UnsupportedVersion,
+  WrongMagic,
 }
 use Rattle.rkyv_container.specs.Codes.{
-  kind_code,
-  item_code,
-  width_code,
-  IsKindCode,
   IsItemCode,
+  IsKindCode,
   IsWidthCode,
+  item_code,
+  kind_code,
+  width_code,
 }
-use Rattle.rkyv_container.specs.Checks.{Checks, done, check, followed_by}
+use Rattle.rkyv_container.specs.Checks.{Checks, check, done, followed_by}
 
 -- the first eight bytes of a container: 137, RKYV, carriage return, line feed, 26
 abbrev pub magic : List ℕ

@@ -3,9 +3,9 @@ use Rattle.std.proofs.Common.{◌≡◌, ℕ, zero, suc, ◌+◌, ◌-◌, ◌*�
 use Rattle.std.specs.Prelude.{◌⊎◌, slice_get}
 use Rattle.std.proofs.lemmas.List.{length-replicate}
 use Rattle.rkyv_base.specs.Format.{Format}
-use Rattle.rkyv_base.specs.Writing.{WriteFailure, Step, distance, piece, failure, zeros}
+use Rattle.rkyv_base.specs.Writing.{Step, WriteFailure, distance, failure, piece, zeros}
 use Rattle.rkyv_table.specs.Table.Slots.{BucketNext, BucketStep, SlotImages, filled}
-use Rattle.rkyv_dict.proofs.Ends.{Ends, IsKnown, ends_as, ends_at_once, ends_by_piece, no_piece, nothing_there, same_piece, same_error, same_slot, then_ends}
+use Rattle.rkyv_dict.proofs.Ends.{Ends, IsKnown, ends_as, ends_at_once, ends_by_piece, no_piece, nothing_there, same_error, same_piece, same_slot, then_ends}
 
 empty : {A : Type 0} (xs : List A) → length xs ≡ 0 → xs ≡ []
 empty [] e = refl

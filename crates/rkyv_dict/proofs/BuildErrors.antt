@@ -15,7 +15,7 @@ use Rattle.rkyv_base.specs.Text.{IsArchiveWord, TextReads}
 use Rattle.rkyv_base.specs.Lemmas.Text.{text_element}
 use Rattle.rkyv_base.specs.TextWriting.{text_format}
 use Rattle.rkyv_base.specs.Lemmas.TextWriting.{text_is_format}
-use Rattle.rkyv_base.specs.Writing.{WriteFailure, piece, failure}
+use Rattle.rkyv_base.specs.Writing.{WriteFailure, failure, piece}
 use Rattle.rkyv_base.specs.declared.errors.WriteError.{WriteError}
 use Rattle.rkyv_base.specs.declared.writer.NoMemory.{NoMemory}
 use Rattle.rkyv_table.specs.Table.Listed.{ListFails, listed}
@@ -28,7 +28,7 @@ use Rattle.rkyv_table.specs.Table.OneWay.{WritesOneWay}
 use Rattle.rkyv_table.specs.Table.Serializing.{HasCapacity}
 use Rattle.rkyv_table.specs.Table.TableFormat.{TableRepresents, table_format}
 use Rattle.rkyv_dict.specs.Archives.{hash, header_spec, pair_spec}
-use Rattle.rkyv_dict.specs.Built.{IsArchiveOf, ArchiveFails, built_in, pairs_format, build_fails_in}
+use Rattle.rkyv_dict.specs.Built.{ArchiveFails, IsArchiveOf, build_fails_in, built_in, pairs_format}
 use Rattle.rkyv_dict.specs.Errors.{cause_text, is_allocation_failure}
 use Rattle.rkyv_dict.specs.Forms.{Pairs, buckets_of, numbers, texts, word_of}
 use Rattle.rkyv_dict.specs.MapTypes.{MapTypes, number_calls, number_parts, text_parts}
@@ -36,7 +36,7 @@ use Rattle.rkyv_dict.specs.Once.{BuildErrorsAreOne}
 use Rattle.rkyv_dict.specs.declared.form.ArchiveWidth.{ArchiveWidth}
 use Rattle.rkyv_dict.specs.declared.form.Kind.{Kind}
 use Rattle.rkyv_dict.specs.declared.form.Kind.TheVariants.{Num, Text}
-use Rattle.rkyv_dict.proofs.CauseEnds.{IsErrorText, text_of_cause, error_text_exclusive, error_text_unique}
+use Rattle.rkyv_dict.proofs.CauseEnds.{IsErrorText, error_text_exclusive, error_text_unique, text_of_cause}
 use Rattle.rkyv_dict.proofs.Ends.{Ends, IsKnown, no_piece, same_error}
 use Rattle.rkyv_dict.proofs.FormatEnds.{EndsOneWay, pairs_end, scalars_end, texts_end}
 use Rattle.rkyv_dict.proofs.Once.{is_word, pairs_written_one_way}

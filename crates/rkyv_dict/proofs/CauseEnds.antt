@@ -2,9 +2,9 @@
 use Rattle.std.proofs.Common.{◌≡◌, ℕ, ◌+◌, ◌<◌, ◌≤◌, ◌∙◌, refl, sym, ap, arith, inl, inr, List, length, false}
 use Rattle.std.specs.Prelude.{◌⊎◌, codes}
 use Rattle.rkyv_base.specs.Root.{fresh}
-use Rattle.rkyv_base.specs.Writing.{CauseApplies, Extends, Output, Reached, WriteFailure, Step, Within, capacity, distance, end_of, load_factor, long_text, mismatch, no_memory, piece, failure, refused}
+use Rattle.rkyv_base.specs.Writing.{CauseApplies, Extends, Output, Reached, Step, Within, WriteFailure, capacity, distance, end_of, failure, load_factor, long_text, mismatch, no_memory, piece, refused}
 use Rattle.rkyv_base.specs.declared.errors.WriteError.{WriteError}
-use Rattle.rkyv_base.specs.declared.errors.WriteError.TheVariants.{InvalidLoadFactor, IteratorLengthMismatch, CapacityTooLarge, PositionTooLarge, DistanceTooLarge, TextTooLong, Writer, Memory, Refused as RefusedWrite}
+use Rattle.rkyv_base.specs.declared.errors.WriteError.TheVariants.{CapacityTooLarge, DistanceTooLarge, InvalidLoadFactor, IteratorLengthMismatch, Memory, PositionTooLarge, Refused as RefusedWrite, TextTooLong, Writer}
 use Rattle.rkyv_dict.specs.Errors.{cause_text, is_allocation_failure}
 use Rattle.rkyv_dict.proofs.Ends.{Ends, IsKnown}
 

@@ -16,7 +16,7 @@ use Rattle.rkyv_table.specs.Table.Positions.{home_positions}
 use Rattle.rkyv_dict.specs.Archives.{hash, pair_spec, root, value_text}
 use Rattle.rkyv_dict.specs.Built.{PairsRepresent, PairsRepresentAt, RootRepresents}
 use Rattle.rkyv_dict.specs.First.{HasHomes, first_under, first_value}
-use Rattle.rkyv_dict.specs.Forms.{Pairs, number_key, text_key, numbers, texts, word_of}
+use Rattle.rkyv_dict.specs.Forms.{Pairs, number_key, numbers, text_key, texts, word_of}
 use Rattle.rkyv_dict.specs.MapTypes.{MapTypes, number_parts, text_parts}
 use Rattle.rkyv_dict.specs.declared.form.ArchiveWidth.{ArchiveWidth}
 use Rattle.rkyv_dict.specs.declared.form.Form.{Form}

@@ -10,9 +10,9 @@ use Rattle.rkyv_base.specs.ElementSpec.{ElementSpec}
 use Rattle.rkyv_base.specs.Text.{IsArchiveWord, text_size}
 use Rattle.rkyv_base.specs.Lemmas.Text.{by_archive_word}
 use Rattle.rkyv_base.specs.TextWriting.{TextNext, TextParts, text_format, text_limit}
-use Rattle.rkyv_base.specs.Writing.{WriteFailure, Step, long_text, piece, failure}
+use Rattle.rkyv_base.specs.Writing.{Step, WriteFailure, failure, long_text, piece}
 use Rattle.rkyv_table.specs.Table.OneWay.{WritesOneWay}
-use Rattle.rkyv_dict.proofs.Ends.{Ends, IsKnown, ThenWrites, ThenNext, ends_at_once, no_piece, same_piece, same_error, then_ends}
+use Rattle.rkyv_dict.proofs.Ends.{Ends, IsKnown, ThenNext, ThenWrites, ends_at_once, no_piece, same_error, same_piece, then_ends}
 
 -- serialization ends in one way
 pub record EndsOneWay {V R : Type 0} (f : Format V R) : Type 0 where

@@ -8,7 +8,7 @@ use Rattle.rkyv_base.specs.ElementSpec.{ElementSpec}
 use Rattle.rkyv_base.specs.declared.view.View.{View}
 use Rattle.rkyv_keys.specs.AtViews.{at_view}
 use Rattle.rkyv_table.specs.Table.RawItems.{ItemsLeft}
-use Rattle.rkyv_table.specs.Table.PairWalks.{YieldsFirstPos, ViewsAt}
+use Rattle.rkyv_table.specs.Table.PairWalks.{ViewsAt, YieldsFirstPos}
 use Rattle.rkyv_dict.specs.Archives.{line, line_at}
 
 module _ {K V : Type 0} (s : ElementSpec) (text : List ℕ → ℕ → List ℕ) (archive : Bor (List ℕ)) (before after : ItemsLeft) (key : View K) (value : View V) (same : before.archive ≡ archive)

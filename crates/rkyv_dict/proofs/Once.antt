@@ -1,7 +1,7 @@
 -- Pairs have one archive, and a validation has one outcome.
 use Rattle.std.proofs.Common.{◌≡◌, ℕ, ◌+◌, ◌-◌, ◌∙◌, refl, sym, ap, subst, arith, inl, inr, List, ◌++◌, length}
 use Rattle.std.specs.Int.{w32}
-use Rattle.rkyv_base.specs.Access.{IsValidArchive, AccessFails}
+use Rattle.rkyv_base.specs.Access.{AccessFails, IsValidArchive}
 use Rattle.rkyv_base.specs.Entry.{round_up}
 use Rattle.rkyv_base.specs.Lemmas.Entry.{entry_element}
 use Rattle.rkyv_base.specs.Format.{Format}
@@ -10,7 +10,7 @@ use Rattle.rkyv_base.specs.Lemmas.Numbers.{unsigned_codes}
 use Rattle.rkyv_base.specs.Root.{ArchiveOf}
 use Rattle.rkyv_base.specs.Scalar.{ScalarRepresents, scalar_format}
 use Rattle.rkyv_base.specs.Lemmas.Scalar.{scalar_element}
-use Rattle.rkyv_base.specs.ElementSpec.{IsElement, ElementSpec}
+use Rattle.rkyv_base.specs.ElementSpec.{ElementSpec, IsElement}
 use Rattle.rkyv_base.specs.Text.{IsArchiveWord, TextReads}
 use Rattle.rkyv_base.specs.Lemmas.Text.{text_element}
 use Rattle.rkyv_base.specs.TextWriting.{text_format}
@@ -30,7 +30,7 @@ use Rattle.rkyv_dict.specs.declared.form.Kind.TheVariants.{Num, Text}
 use Rattle.rkyv_keys.specs.Calls.{text_calls}
 use Rattle.rkyv_scan.specs.Hash.{HasherCall}
 use Rattle.rkyv_table.proofs.OneWay.{tables_one_way}
-use Rattle.rkyv_table.proofs.ReadyOneWay.{pairs_one_way, scalars_one_way, written_as_one_way, texts_one_way}
+use Rattle.rkyv_table.proofs.ReadyOneWay.{pairs_one_way, scalars_one_way, texts_one_way, written_as_one_way}
 use Rattle.rkyv_table.specs.Lemmas.TableLaws.{table_element}
 use Rattle.rkyv_table.specs.Table.OneWay.{WritesOneWay}
 

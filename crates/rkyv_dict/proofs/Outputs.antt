@@ -1,12 +1,12 @@
 -- A script has one output.
 use Rattle.std.proofs.Common.{◌≡◌, ℕ, sym, ap, ◌∙◌, subst, inl, inr, List, [], ◌∷◌, ◌++◌, Option, None, Some}
 use Rattle.std.specs.Prelude.{codes}
-use Rattle.rkyv_dict.specs.Steps.{StepsTo, StepsIf, StepsLine, RunsTo}
+use Rattle.rkyv_dict.specs.Steps.{RunsTo, StepsIf, StepsLine, StepsTo}
 use Rattle.rkyv_dict.specs.Archives.{line}
 use Rattle.rkyv_dict.specs.Built.{kind_of_pairs}
 use Rattle.rkyv_dict.specs.Once.{BuildErrorsAreOne, ScriptsAreOne}
 use Rattle.rkyv_dict.specs.Output.{built_line, verify_error_line}
-use Rattle.rkyv_dict.specs.Script.{Request, set_kind, set_width, set_load_factor, put_numbers, put_texts, build_archive, check_archive, show_hex, get_value, list_pairs, count_misplaced, request_of}
+use Rattle.rkyv_dict.specs.Script.{Request, build_archive, check_archive, count_misplaced, get_value, list_pairs, put_numbers, put_texts, request_of, set_kind, set_load_factor, set_width, show_hex}
 use Rattle.rkyv_dict.specs.State.{State, form_of}
 use Rattle.rkyv_dict.proofs.Once.{builds_are_one, checks_are_one}
 use Rattle.rkyv_dict.proofs.BuildErrors.{build_errors_are_one}

@@ -4,12 +4,12 @@ use Rattle.std.proofs.lemmas.List.{length-replicate}
 use Rattle.rkyv_base.specs.Entry.{round_up}
 use Rattle.rkyv_base.specs.Format.{Format}
 use Rattle.rkyv_base.specs.Root.{RootBytes, RootNext}
-use Rattle.rkyv_base.specs.Writing.{Step, no_memory, padding, failure}
+use Rattle.rkyv_base.specs.Writing.{Step, failure, no_memory, padding}
 use Rattle.rkyv_table.specs.Table.OneWay.{WritesOneWay}
-use Rattle.rkyv_dict.proofs.Ends.{Ends, ThenWrites, ThenNext, ends_as, then_ends}
+use Rattle.rkyv_dict.proofs.Ends.{Ends, ThenNext, ThenWrites, ends_as, then_ends}
 use Rattle.rkyv_dict.proofs.BucketEnds.{OwnNext, own_ends}
 use Rattle.rkyv_dict.proofs.FormatEnds.{EndsOneWay}
-use Rattle.rkyv_dict.proofs.TableEnds.{AlignedWrites, AlignedNext, aligned_ends, gap}
+use Rattle.rkyv_dict.proofs.TableEnds.{AlignedNext, AlignedWrites, aligned_ends, gap}
 
 module _ {V R : Type 0} (size align : ℕ) (f : Format V R) (one : WritesOneWay f) (ends : EndsOneWay f)
     (whole : (v : V) (r : R) (p : ℕ) (out : List ℕ) → f.image v r p out → length out ≡ size)

@@ -33,8 +33,8 @@ some_map None f h = h
 some_map (Some x) f h = f x h
 
 -- the text of a value that may be found, by the position of its key
-text_found : {V : Type 0} (text : List ℕ → ℕ → List ℕ) (b : List ℕ) (off : ℕ) (value : Option (View V)) (place : Option ℕ) → IfSome value (λ v. bytes_of v ≡ b)
-    → pos_of_found value ≡ option_map (λ q. q + off) place → option_map (at_view text) value ≡ option_map (λ q. text b (q + off)) place
+text_found : {V : Type 0} (text : List ℕ → ℕ → List ℕ) (b : List ℕ) (off : ℕ) (value : Option (View V)) (key_pos : Option ℕ) → IfSome value (λ v. bytes_of v ≡ b)
+    → pos_of_found value ≡ option_map (λ q. q + off) key_pos → option_map (at_view text) value ≡ option_map (λ q. text b (q + off)) key_pos
 text_found text b off None None same e = refl
 text_found text b off None (Some q) same e = absurd cc
 text_found text b off (Some v) None same e = absurd cc
@@ -42,8 +42,8 @@ text_found text b off (Some v) (Some q) same e = ap Some (ap (λ a. text a v.pos
 
 -- the text of a value that may be found, by the position of the map's view
 pub text_read : {T V : Type 0} (text : List ℕ → ℕ → List ℕ) (off : ℕ) (v : View T) (archive : Bor (List ℕ)) (p : ℕ) → IsAt v archive p
-    → (value : Option (View V)) → IfSome value (λ x. x.archive ≡ v.archive) → (place : List ℕ → ℕ → Option ℕ)
-    → pos_of_found value ≡ option_map (λ q. q + off) (place (bytes_of v) (pos_of v)) → option_map (at_view text) value ≡ option_map (λ q. text archive.now (q + off)) (place archive.now p)
-text_read text off v archive p at value same place e =
+    → (value : Option (View V)) → IfSome value (λ x. x.archive ≡ v.archive) → (key_pos : List ℕ → ℕ → Option ℕ)
+    → pos_of_found value ≡ option_map (λ q. q + off) (key_pos (bytes_of v) (pos_of v)) → option_map (at_view text) value ≡ option_map (λ q. text archive.now (q + off)) (key_pos archive.now p)
+text_read text off v archive p at value same key_pos e =
     let bytes : IfSome value (λ x. bytes_of x ≡ archive.now) = some_map value (λ x s. ap (λ (a : Bor (List ℕ)). a.now) (s ∙ at.0)) same in
-    text_found text archive.now off value (place archive.now p) bytes (e ∙ ap (option_map (λ q. q + off)) (read_at place v archive p at))
+    text_found text archive.now off value (key_pos archive.now p) bytes (e ∙ ap (option_map (λ q. q + off)) (read_at key_pos v archive p at))

@@ -2,8 +2,8 @@
 use Rattle.std.proofs.Common.{◌≡◌, ℕ, List, [], ◌∷◌, ◌++◌, Option, refl, sym, ap, ◌∙◌, subst, append_assoc}
 use Rattle.std.proofs.KnownBytes.{Appends-nil, Appends-trans}
 use Rattle.std.proofs.lemmas.List.{append-nil}
-use Rattle.rkyv_dict.specs.Steps.{StepsLine, RunsTo}
-use Rattle.rkyv_dict.specs.Run.{AppendsSome, AppendsBeginning, AppendsFront, MovesFront, Progress}
+use Rattle.rkyv_dict.specs.Steps.{RunsTo, StepsLine}
+use Rattle.rkyv_dict.specs.Run.{AppendsBeginning, AppendsFront, AppendsSome, MovesFront, Progress}
 use Rattle.rkyv_dict.specs.Script.{lines_of}
 use Rattle.rkyv_dict.specs.State.{State, start}
 

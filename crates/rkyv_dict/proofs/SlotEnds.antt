@@ -5,7 +5,7 @@ use Rattle.rkyv_base.specs.Format.{Format}
 use Rattle.rkyv_base.specs.Writing.{Step}
 use Rattle.rkyv_table.specs.Table.OneWay.{WritesOneWay}
 use Rattle.rkyv_table.specs.Table.Slots.{PartsNext, SlotParts}
-use Rattle.rkyv_dict.proofs.Ends.{Ends, ThenWrites, ThenNext, ends_as, ends_at_once, nothing_there, same_slot, then_ends}
+use Rattle.rkyv_dict.proofs.Ends.{Ends, ThenNext, ThenWrites, ends_as, ends_at_once, nothing_there, same_slot, then_ends}
 use Rattle.rkyv_dict.proofs.FormatEnds.{EndsOneWay}
 
 module _ {X R : Type 0} (f : Format X R) (one : WritesOneWay f) (ends : EndsOneWay f) where

@@ -6,12 +6,12 @@ use Rattle.rkyv_base.specs.declared.errors.VerifyError.{VerifyError}
 use Rattle.rkyv_dict.specs.declared.form.ArchiveWidth.{ArchiveWidth}
 use Rattle.rkyv_dict.specs.declared.form.Form.{Form}
 use Rattle.rkyv_dict.specs.Archives.{IsArchive, IsMapArchive, ValidationFails, value_found, value_line}
-use Rattle.rkyv_dict.specs.Steps.{StepsTo, StepsIf, StepsLine}
+use Rattle.rkyv_dict.specs.Steps.{StepsIf, StepsLine, StepsTo}
 use Rattle.rkyv_dict.specs.Built.{IsArchiveOf, IsBuilt, PairsRepresent, RootRepresents, form_of_pairs, kind_of_pairs}
 use Rattle.rkyv_dict.specs.First.{first_value}
 use Rattle.rkyv_dict.specs.Forms.{LookupKey, Pairs, numbers, texts}
 use Rattle.rkyv_dict.specs.Output.{archive_output, get_line, value_in}
-use Rattle.rkyv_dict.specs.Script.{Request, set_kind, set_width, set_load_factor, put_numbers, put_texts, build_archive, check_archive, show_hex, get_value, list_pairs, count_misplaced, request_of}
+use Rattle.rkyv_dict.specs.Script.{Request, build_archive, check_archive, count_misplaced, get_value, list_pairs, put_numbers, put_texts, request_of, set_kind, set_load_factor, set_width, show_hex}
 use Rattle.rkyv_dict.specs.State.{Archived, IsSound, IsSoundIn, State, form_of, start, with_numbers, with_texts}
 
 kind_with_numbers : (pairs : Pairs) (key value : ℕ) → kind_of_pairs (with_numbers pairs key value) ≡ kind_of_pairs pairs

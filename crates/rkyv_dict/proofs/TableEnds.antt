@@ -8,7 +8,7 @@ use Rattle.rkyv_table.proofs.PartSteps.{parts_filled}
 use Rattle.rkyv_table.specs.Table.OneWay.{WritesOneWay}
 use Rattle.rkyv_table.specs.Table.Slots.{BucketNext, PartsNext, SlotImages, SlotParts, TableBytes, TableNext, filled}
 use Rattle.rkyv_table.specs.Lemmas.Buckets.{images_length}
-use Rattle.rkyv_dict.proofs.Ends.{Ends, ThenWrites, ThenNext, ends_as, ends_by_piece, then_ends}
+use Rattle.rkyv_dict.proofs.Ends.{Ends, ThenNext, ThenWrites, ends_as, ends_by_piece, then_ends}
 use Rattle.rkyv_dict.proofs.BucketEnds.{buckets_end}
 use Rattle.rkyv_dict.proofs.FormatEnds.{EndsOneWay}
 use Rattle.rkyv_dict.proofs.SlotEnds.{parts_same, slot_parts_end}

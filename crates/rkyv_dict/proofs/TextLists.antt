@@ -20,9 +20,9 @@ use Rattle.rkyv_table.specs.Table.Positions.{home_positions}
 use Rattle.rkyv_table.specs.Table.TableFormat.{PairsNext, TableParts, TableResolver}
 use Rattle.rkyv_table.specs.Table.Listed.{ListFails}
 use Rattle.rkyv_collections.specs.Map.MapFormat.{keyed}
-use Rattle.rkyv_collections.proofs.MappedItems.{mapped_pairs, mapped_pairs_next, mapped_table, mapped_some}
+use Rattle.rkyv_collections.proofs.MappedItems.{mapped_pairs, mapped_pairs_next, mapped_some, mapped_table}
 use Rattle.rkyv_dict.specs.Archives.{hash, header_spec, pair_spec, root}
-use Rattle.rkyv_dict.specs.Built.{BuildFails, IsArchiveOf, IsBuilt, ArchiveFails, PairsRepresentAt, form_of_pairs, pairs_format}
+use Rattle.rkyv_dict.specs.Built.{ArchiveFails, BuildFails, IsArchiveOf, IsBuilt, PairsRepresentAt, form_of_pairs, pairs_format}
 use Rattle.rkyv_dict.specs.Forms.{buckets_of, text_pair, texts, word_of}
 use Rattle.rkyv_dict.specs.MapTypes.{MapTypes, text_parts}
 use Rattle.rkyv_dict.specs.declared.form.ArchiveWidth.{ArchiveWidth}

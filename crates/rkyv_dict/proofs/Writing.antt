@@ -1,9 +1,9 @@
 -- Bytes that are written, held and still to be read.
 use Rattle.std.proofs.Common.{ℕ, List, ◌++◌, take, drop, Option, sym, ap, ◌∙◌, append_assoc, take-append-drop, subst}
-use Rattle.std.specs.Prelude.{Result, Ok, Err, OnErr, IfSome, None, Some}
+use Rattle.std.specs.Prelude.{Err, IfSome, None, Ok, OnErr, Result, Some}
 use Rattle.std.specs.Io.KnownBytes.{Appends, Consumes}
 use Rattle.std.proofs.KnownBytes.{Appends-trans, Consumes-trans}
-use Rattle.rkyv_dict.specs.Run.{MovesFront, Gathers}
+use Rattle.rkyv_dict.specs.Run.{Gathers, MovesFront}
 
 -- a prefix of the held output is written
 pub moves_more : (a b c : Option (List ℕ)) (whole held : List ℕ) (n : ℕ) → MovesFront a b whole held → Appends b c (take n held) → MovesFront a c whole (drop n held)

@@ -1,12 +1,12 @@
 -- Commands as contracts see them.
 use Rattle.rkyv_dict.specs.Forms.{lookup_key}
-use Rattle.rkyv_dict.specs.Script.{Request, set_kind, set_width, set_load_factor, put_numbers}
-use Rattle.rkyv_dict.specs.Script.{put_texts, build_archive, check_archive, show_hex, get_value}
-use Rattle.rkyv_dict.specs.Script.{list_pairs, count_misplaced}
+use Rattle.rkyv_dict.specs.Script.{Request, put_numbers, set_kind, set_load_factor, set_width}
+use Rattle.rkyv_dict.specs.Script.{build_archive, check_archive, get_value, put_texts, show_hex}
+use Rattle.rkyv_dict.specs.Script.{count_misplaced, list_pairs}
 use Rattle.rkyv_dict.specs.declared.script.Command.{Command}
-use Rattle.rkyv_dict.specs.declared.script.Command.TheVariants.{SetKind, SetWidth, SetLoadFactor}
-use Rattle.rkyv_dict.specs.declared.script.Command.TheVariants.{PutNumbers, PutTexts, Build, Check}
-use Rattle.rkyv_dict.specs.declared.script.Command.TheVariants.{Hex, Get, ListPairs, Audit}
+use Rattle.rkyv_dict.specs.declared.script.Command.TheVariants.{SetKind, SetLoadFactor, SetWidth}
+use Rattle.rkyv_dict.specs.declared.script.Command.TheVariants.{Build, Check, PutNumbers, PutTexts}
+use Rattle.rkyv_dict.specs.declared.script.Command.TheVariants.{Audit, Get, Hex, ListPairs}
 
 -- the request of a command
 abbrev pub command_request : Command → Request

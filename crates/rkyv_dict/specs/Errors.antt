@@ -5,7 +5,7 @@ use Rattle.rkyv_base.specs.declared.errors.VerifyError.TheVariants.{OutOfRange, 
 use Rattle.rkyv_base.specs.declared.errors.VerifyError.TheVariants.{InvalidLength}
 use Rattle.rkyv_base.specs.declared.errors.VerifyError.TheVariants.{WrongNumberOfElements}
 use Rattle.rkyv_base.specs.declared.errors.VerifyError.TheVariants.{UnwrappedControlByte}
-use Rattle.rkyv_base.specs.declared.errors.VerifyError.TheVariants.{PlaceOutOfRange, InvalidValue}
+use Rattle.rkyv_base.specs.declared.errors.VerifyError.TheVariants.{InvalidValue, PlaceOutOfRange}
 use Rattle.rkyv_base.specs.declared.errors.VerifyError.TheVariants.{Refused}
 use Rattle.rkyv_base.specs.declared.errors.WriteError.{WriteError}
 use Rattle.rkyv_base.specs.declared.errors.WriteError.TheVariants.{InvalidLoadFactor}
@@ -13,10 +13,10 @@ use Rattle.rkyv_base.specs.declared.errors.WriteError.TheVariants.{IteratorLengt
 use Rattle.rkyv_base.specs.declared.errors.WriteError.TheVariants.{CapacityTooLarge}
 use Rattle.rkyv_base.specs.declared.errors.WriteError.TheVariants.{PositionTooLarge}
 use Rattle.rkyv_base.specs.declared.errors.WriteError.TheVariants.{DistanceTooLarge, TextTooLong}
-use Rattle.rkyv_base.specs.declared.errors.WriteError.TheVariants.{Writer, Memory}
+use Rattle.rkyv_base.specs.declared.errors.WriteError.TheVariants.{Memory, Writer}
 use Rattle.rkyv_base.specs.declared.errors.WriteError.TheVariants.{Refused as RefusedWrite}
 use Rattle.rkyv_dict.specs.declared.run.RunError.{RunError}
-use Rattle.rkyv_dict.specs.declared.run.RunError.TheVariants.{Read, Write, Memory as NoMemoryLeft}
+use Rattle.rkyv_dict.specs.declared.run.RunError.TheVariants.{Memory as NoMemoryLeft, Read, Write}
 
 -- the message of a failed run
 abbrev pub message_of : RunError → List ℕ

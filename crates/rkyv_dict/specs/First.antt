@@ -6,7 +6,7 @@ use Rattle.rkyv_keys.specs.OfTexts.{same_bytes}
 use Rattle.rkyv_table.specs.Table.Positions.{home_positions}
 use Rattle.rkyv_collections.specs.Map.{MapWrittenAt}
 use Rattle.rkyv_dict.specs.Archives.{hash, pair_spec, root, value_text}
-use Rattle.rkyv_dict.specs.Forms.{LookupKey, Pairs, number_key, text_key, numbers, texts}
+use Rattle.rkyv_dict.specs.Forms.{LookupKey, Pairs, number_key, numbers, text_key, texts}
 use Rattle.rkyv_dict.specs.MapTypes.{MapTypes}
 
 -- the value of the first pair whose key passes `accept`

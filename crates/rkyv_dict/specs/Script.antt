@@ -1,11 +1,11 @@
 -- The lines of a script, and the requests that they represent.
 use denote.Ref.{Bor}
 use Rattle.std.specs.Prelude.{ℕ, ◌&&◌, ◌||◌, ◌==◌, Bool, not, nat_le, if◌then◌else◌, List, [], ◌∷◌}
-use Rattle.std.specs.Prelude.{length, Option, Some, None, codes, slice_index}
-use Rattle.std.specs.List.{slice_split, list_all}
+use Rattle.std.specs.Prelude.{None, Option, Some, codes, length, slice_index}
+use Rattle.std.specs.List.{list_all, slice_split}
 use Rattle.std.specs.Char.{is_ascii_digit}
-use Rattle.std.specs.Option.{option_map, option_copied}
-use Rattle.std.specs.Str.{is_utf8, bytes_eq}
+use Rattle.std.specs.Option.{option_copied, option_map}
+use Rattle.std.specs.Str.{bytes_eq, is_utf8}
 use Rattle.std.specs.Str.Parse.{digits_value}
 use Rattle.rkyv_dict.specs.Hex.{bytes_of_digits}
 use Rattle.rkyv_dict.specs.Forms.{LookupKey, number_key, text_key}

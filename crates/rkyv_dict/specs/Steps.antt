@@ -9,9 +9,9 @@ use Rattle.rkyv_dict.specs.Errors.{is_allocation_failure}
 use Rattle.rkyv_dict.specs.Output.{archive_output, audit_line, bad_line, built_line, error_line}
 use Rattle.rkyv_dict.specs.Output.{get_line}
 use Rattle.rkyv_dict.specs.Output.{hex_line, list_lines, ok_line, verify_error_line}
-use Rattle.rkyv_dict.specs.Script.{Request, set_kind, set_width, set_load_factor, put_numbers}
-use Rattle.rkyv_dict.specs.Script.{put_texts, build_archive, check_archive, show_hex, get_value}
-use Rattle.rkyv_dict.specs.Script.{list_pairs, count_misplaced, request_of}
+use Rattle.rkyv_dict.specs.Script.{Request, put_numbers, set_kind, set_load_factor, set_width}
+use Rattle.rkyv_dict.specs.Script.{build_archive, check_archive, get_value, put_texts, show_hex}
+use Rattle.rkyv_dict.specs.Script.{count_misplaced, list_pairs, request_of}
 use Rattle.rkyv_dict.specs.State.{State, emptied, form_of, with_numbers, with_texts}
 
 -- ---- requests whose outcome depends on the bytes

@@ -1,7 +1,7 @@
 //! The dictionary: its state, and the output of each command.
 //!
 //! `Dict::execute` executes one line of a script, and appends its output.
-ghost use Rattle.rkyv_dict.specs.Steps.{StepsTo, StepsLine};
+ghost use Rattle.rkyv_dict.specs.Steps.{StepsLine, StepsTo};
 ghost use Rattle.rkyv_dict.specs.Counts.{list_len};
 ghost use Rattle.rkyv_dict.specs.Forms.{lookup_key};
 ghost use Rattle.rkyv_dict.specs.Output.{archive_output, audit_line, error_line, get_line};

@@ -3,7 +3,7 @@
 //! 1. The script is read to the end, in pieces.
 //! 2. Each line is executed by `dict`.
 //! 3. The held output is written when it has at least one piece, and at the end.
-ghost use Rattle.rkyv_dict.specs.Run.{AppendsOutput, AppendsBeginning, AppendsFront, Gathers};
+ghost use Rattle.rkyv_dict.specs.Run.{AppendsBeginning, AppendsFront, AppendsOutput, Gathers};
 ghost use Rattle.rkyv_dict.specs.Run.{MovesFront};
 ghost use Rattle.rkyv_dict.specs.Errors.{message_of};
 ghost use Rattle.rkyv_dict.specs.declared.run.RunError.TheVariants.{Memory};

@@ -1,6 +1,6 @@
 //! The words of a line, and the values that they represent.
 ghost use Rattle.rkyv_dict.specs.Script.{bits_of_word, is_numeral, kind_of_word, number_of, one_of};
-ghost use Rattle.rkyv_dict.specs.Script.{parts_after, parsed_by, parsed_by_both, split_at, text_of};
+ghost use Rattle.rkyv_dict.specs.Script.{parsed_by, parsed_by_both, parts_after, split_at, text_of};
 ghost use Rattle.rkyv_dict.specs.Script.{two_of, words_left, words_of};
 ghost use Rattle.std.specs.Char.{digit_value, is_ascii_digit};
 ghost use Rattle.std.specs.List.{list_all, position};

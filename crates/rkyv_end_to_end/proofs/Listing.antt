@@ -14,7 +14,7 @@ use Rattle.rkyv_base.specs.Entry.{round_up}
 use Rattle.rkyv_base.specs.Lemmas.Entry.{round_up-multiple}
 use Rattle.rkyv_base.specs.Format.{Format, IsFormat}
 use Rattle.rkyv_base.specs.Root.{RootNext}
-use Rattle.rkyv_base.specs.ElementSpec.{IsElement, ElementSpec}
+use Rattle.rkyv_base.specs.ElementSpec.{ElementSpec, IsElement}
 use Rattle.rkyv_base.specs.Text.{IsArchiveWord}
 use Rattle.rkyv_base.specs.Lemmas.Text.{by_archive_word}
 use Rattle.rkyv_base.specs.Writing.{Appends, Output, end_of, padding, zeros}
@@ -30,7 +30,7 @@ use Rattle.rkyv_base.proofs.WritingSteps.{appends_after, end-appends, fails_unde
 use Rattle.rkyv_table.specs.Lemmas.TableLaws.{table_element}
 use Rattle.rkyv_table.specs.Table.Bare.{TableIn}
 use Rattle.rkyv_table.specs.Table.Layout.{table_spec}
-use Rattle.rkyv_table.specs.Table.Passing.{HoldsAround, WrittenTablesPass}
+use Rattle.rkyv_table.specs.Table.Passing.{IsValidAround, WrittenTablesPass}
 use Rattle.rkyv_table.specs.Table.Serializing.{WriteItemsFails}
 use Rattle.rkyv_table.specs.Table.FirstItem.{AreUnder, IsFirstOf}
 use Rattle.rkyv_table.specs.Table.Header.{IsHeader, cap_at}
@@ -42,8 +42,8 @@ use Rattle.rkyv_table.specs.Table.WalkLaws.{VisitsHomes, WalkVisitsHomes}
 use Rattle.rkyv_table.specs.Table.WrittenTables.{ValidWereWritten}
 use Rattle.rkyv_table.proofs.WalkedHomes.{none_visits}
 use Rattle.rkyv_table.proofs.WrittenTables.{home_count}
-use Rattle.rkyv_table.specs.Table.TableFormat.{TableResolver, TableRepresents, resolved_capacity, table_format}
-use Rattle.rkyv_end_to_end.specs.Listing.{AgreesAt, Encoding, IsWrittenList, ListBytes, ListInput, ListsAreValid, VisitsItems, WriteAndFindFails, WriteListFails, ReportsList, WroteList, list_format, table_of}
+use Rattle.rkyv_table.specs.Table.TableFormat.{TableRepresents, TableResolver, resolved_capacity, table_format}
+use Rattle.rkyv_end_to_end.specs.Listing.{AgreesAt, Encoding, IsWrittenList, ListBytes, ListInput, ListsAreValid, ReportsList, VisitsItems, WriteAndFindFails, WriteListFails, WroteList, list_format, table_of}
 use Rattle.rkyv_end_to_end.specs.Report.{LookOverFails, ReportsTable}
 use Rattle.rkyv_end_to_end.specs.declared.looking.LookError.{LookError}
 use Rattle.rkyv_end_to_end.specs.declared.looking.LookError.TheVariants.{Memory, Verify}
@@ -171,7 +171,7 @@ module _ {X R : Type 0} (w : Width) (items : Encoding X R) (load_factor : ℕ ×
         record {
           behind = (omega (arith, l.ends), omega (arith, l.at));
           aligned = aligned;
-          passes = subst (HoldsAround (table_spec w s) c p begin) (sym l.ends) around;
+          passes = subst (IsValidAround (table_spec w s) c p begin) (sym l.ends) around;
           table_represents = table_represents;
           items = items_visited w s items.represents load_factor were visits c p pairs table_represents;
         },
@@ -246,7 +246,7 @@ module _ {T X R : Type 0} (list : ListInput X R) (post : View T → Bool → Typ
       }
 
 -- the bytes of a written list do not fail
-pub written_never_fails : (w : Width) → IsArchiveWord w → (s : ElementSpec) → IsElement s → (c b : List ℕ) (p begin end : ℕ) → HoldsAround (table_spec w s) c p begin end → b ≡ c → (range : PartRange)
+pub written_never_fails : (w : Width) → IsArchiveWord w → (s : ElementSpec) → IsElement s → (c b : List ℕ) (p begin end : ℕ) → IsValidAround (table_spec w s) c p begin end → b ≡ c → (range : PartRange)
     → range.lo ≡ begin → range.hi ≡ end → (e : VerifyError) → Fails (table_spec w s) b p range e → ⊥
 written_never_fails w kind s law c b p begin end around same range low high e fails =
     let there = subst (λ (x : List ℕ). (table_spec w s).fails x p range.lo range.hi e) same fails in

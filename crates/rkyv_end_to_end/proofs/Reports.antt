@@ -7,7 +7,7 @@ use Rattle.std.specs.Int.{Width, byte_len}
 use Rattle.std.specs.List.{All, Contains}
 use Rattle.std.proofs.lemmas.List.{get_or-map, length-map}
 use Rattle.rkyv_base.specs.Checking.{Passes}
-use Rattle.rkyv_base.specs.ElementSpec.{IsElement, ElementSpec, Viewable}
+use Rattle.rkyv_base.specs.ElementSpec.{ElementSpec, IsElement, Viewable}
 use Rattle.rkyv_base.specs.Lemmas.ElementSpec.{valid_at}
 use Rattle.rkyv_base.specs.Text.{IsArchiveWord}
 use Rattle.rkyv_base.specs.declared.element.PartRange.{PartRange}
@@ -25,7 +25,7 @@ use Rattle.rkyv_table.specs.Table.Reading.{CountsWithin, FindsFirst, FindsFound,
 use Rattle.rkyv_base.specs.View.{pos_of_found}
 use Rattle.rkyv_table.specs.declared.table.ArchivedHashTable.{ArchivedHashTable}
 use Rattle.rkyv_table.proofs.Bare.{looks_up_none, looks_up_some}
-use Rattle.rkyv_table.proofs.RawWalks.{places_count, places_viewable}
+use Rattle.rkyv_table.proofs.RawWalks.{positions_count, positions_viewable}
 use Rattle.rkyv_table.proofs.Walks.{full_walked}
 use Rattle.rkyv_end_to_end.specs.Report.{ReadsWithinBound, ReportsTable}
 use Rattle.rkyv_end_to_end.specs.declared.looking.TableReport.{TableReport}
@@ -49,7 +49,7 @@ module _ {T : Type 0} (post : View T → Bool → Type 0) (w : Width) (s : Eleme
       let one = is.1 in
       let at : ℕ → ℕ = item_at w s.size b p in
       let there = contains_map at (walk (table_controls w b p) (cap_at w b p)) one.bucket (full_walked (cap_at w b p) (table_controls w b p) one.bucket one.walked) in
-      subst (Contains (item_positions w s.size b p)) (sym one.place ∙ is.2) there
+      subst (Contains (item_positions w s.size b p)) (sym one.pos ∙ is.2) there
 
   found_walked : (found : Option ℕ) → IfSome found (AcceptedOf post w s b p) → IfSome found (Contains (item_positions w s.size b p))
   found_walked None is = tt
@@ -61,8 +61,8 @@ module _ {T : Type 0} (post : View T → Bool → Type 0) (w : Width) (s : Eleme
       → ReportsTable (record { word = w; spec = s; bytes = b; pos = p }) post hash report
   table_reported law viewable hash report walks looks reads exact = record {
     walks = walks;
-    count = ap length walks ∙ places_count w s law b p viewable;
-    checked = subst (All (Viewable s b)) (sym walks) (places_viewable w s law b p viewable);
+    count = ap length walks ∙ positions_count w s law b p viewable;
+    checked = subst (All (Viewable s b)) (sym walks) (positions_viewable w s law b p viewable);
     among = subst (λ (xs : List ℕ). IfSome report.found (Contains xs)) (sym walks) (found_walked report.found looks.accepted);
     looks = looks;
     reads = reads;
@@ -73,15 +73,15 @@ module _ {T : Type 0} (post : View T → Bool → Type 0) (w : Width) (s : Eleme
 pub looks_found : {T W : Type 0} {ts : Specs T} {wt : Words W} (post : View T → Bool → Type 0) (b : List ℕ) (p : ℕ) (t : ArchivedHashTable T W ts wt) → t.view.archive.now ≡ b → t.view.pos ≡ p
     → (hash : ℕ) (found : Option (View T)) → IfSome found (IsItem t) → IfSome found (λ v. post v true) → FindsFound post generic_kind t hash (pos_of_found found)
     → FindsFirst post t hash (pos_of_found found) → LooksUp post generic_kind wt.word ts.spec b p hash (pos_of_found found)
-looks_found post b p t bytes place hash None walked accepted answer first = looks_up_none b p t bytes place post generic_kind hash answer first
-looks_found post b p t bytes place hash (Some v) walked accepted answer first = looks_up_some b p t bytes place post generic_kind hash v.pos answer first (v, walked, refl, accepted)
+looks_found post b p t bytes pos hash None walked accepted finds first = looks_up_none b p t bytes pos post generic_kind hash finds first
+looks_found post b p t bytes pos hash (Some v) walked accepted finds first = looks_up_some b p t bytes pos post generic_kind hash v.pos finds first (v, walked, refl, accepted)
 
 -- the strides that a lookup in the table reads are those of the bytes
 pub read_within_bound : {T W : Type 0} {ts : Specs T} {wt : Words W} (b : List ℕ) (p : ℕ) (t : ArchivedHashTable T W ts wt) → t.view.archive.now ≡ b → t.view.pos ≡ p
     → (before after : ℕ) → before ≡ 0 → CountsWithin t before after → ReadsWithinBound wt.word b p after
-read_within_bound {wt = wt} b p t bytes place before after none within =
+read_within_bound {wt = wt} b p t bytes pos before after none within =
     let P = λ (c : List ℕ) (q : ℕ). ReadsWithin (len_at wt.word c q) (probe_capacity (cap_at wt.word c q) / 16) before after in
-    let there : P b p = subst (P b) place (subst (λ (c : List ℕ). P c t.view.pos) bytes within) in
+    let there : P b p = subst (P b) pos (subst (λ (c : List ℕ). P c t.view.pos) bytes within) in
     let most = there.most in
     record {
       none = λ h. there.none h ∙ none;

@@ -1,6 +1,6 @@
 -- A list that is written as a table followed by its header, and the result of its lookup.
 use Rattle.std.specs.Prelude.{◌≡◌, ℕ, ◌+◌, ◌*◌, ◌%◌, ◌≤◌, ◌⊎◌, Bool, List, ◌++◌, length}
-use Rattle.std.specs.Prelude.{slice_get, slice_index, MatchResult, Option, Result, Some}
+use Rattle.std.specs.Prelude.{MatchResult, Option, Result, Some, slice_get, slice_index}
 use Rattle.std.specs.Int.{Width, byte_len}
 use Rattle.std.specs.declared.iter.Iterator.{Ghosts as Iterators}
 use Rattle.rkyv_base.specs.Members.{ElementMembers, WidthMembers}
@@ -11,7 +11,7 @@ use Rattle.rkyv_base.specs.Pairs.{written_as}
 use Rattle.rkyv_base.specs.Root.{WriteRootFails}
 use Rattle.rkyv_base.specs.ElementSpec.{ElementSpec}
 use Rattle.rkyv_base.specs.View.{IsValidView}
-use Rattle.rkyv_base.specs.Writing.{Appended, Output, end_of, vec_output, padding, zeros}
+use Rattle.rkyv_base.specs.Writing.{Appended, Output, end_of, padding, vec_output, zeros}
 use Rattle.rkyv_base.specs.declared.archive.Archive.{Ghosts as Archives}
 use Rattle.rkyv_base.specs.declared.errors.WriteError.{WriteError}
 use Rattle.rkyv_base.specs.declared.lend.Lend.{Ghosts as Lends}
@@ -22,10 +22,10 @@ use Rattle.rkyv_table.specs.Table.Header.{cap_at}
 use Rattle.rkyv_table.specs.Table.Input.{Input, from_both}
 use Rattle.rkyv_table.specs.Table.Layout.{table_spec}
 use Rattle.rkyv_table.specs.Table.Lending.{value_represents}
-use Rattle.rkyv_table.specs.Table.Passing.{HoldsAround}
+use Rattle.rkyv_table.specs.Table.Passing.{IsValidAround}
 use Rattle.rkyv_table.specs.Table.Positions.{WrittenAt, home_positions, table_controls}
-use Rattle.rkyv_table.specs.Table.Serializing.{YieldsExactly, HasCapacity, OwnCause}
-use Rattle.rkyv_table.specs.Table.TableFormat.{TableResolver, TableRepresents, table_format}
+use Rattle.rkyv_table.specs.Table.Serializing.{HasCapacity, OwnCause, YieldsExactly}
+use Rattle.rkyv_table.specs.Table.TableFormat.{TableRepresents, TableResolver, table_format}
 use Rattle.rkyv_table.specs.Table.PlacedItems.{hashes_of, items_of}
 use Rattle.rkyv_table.specs.Table.WalkLaws.{VisitsHomes}
 use Rattle.rkyv_end_to_end.specs.Report.{ReportsTable}
@@ -150,7 +150,7 @@ pub record IsWrittenList {X : Type 0} (t : TableIn) (represents : List ℕ → �
     (load_factor : ℕ × ℕ) (begin end : ℕ) (pairs : List (ℕ × X)) : Type 0 where
   pub behind : (begin ≤ end) × (end ≤ t.pos)
   pub aligned : t.pos % byte_len t.word ≡ 0
-  pub passes : HoldsAround (table_spec t.word t.spec) t.bytes t.pos begin end
+  pub passes : IsValidAround (table_spec t.word t.spec) t.bytes t.pos begin end
   pub table_represents : TableRepresents t.word t.spec represents load_factor t.bytes t.pos pairs
   pub items : VisitsItems t represents pairs
 

@@ -9,7 +9,7 @@ use Rattle.rkyv_base.specs.declared.element.PartRange.{PartRange}
 use Rattle.rkyv_base.specs.declared.view.View.{View}
 use Rattle.rkyv_scan.specs.Groups.{generic_kind}
 use Rattle.rkyv_table.specs.Controls.Finding.{ReadsWithin}
-use Rattle.rkyv_table.specs.Table.Bare.{LooksUp, CanCompareOf, ReadsExactly, TableIn}
+use Rattle.rkyv_table.specs.Table.Bare.{CanCompareOf, LooksUp, ReadsExactly, TableIn}
 use Rattle.rkyv_table.specs.Table.Header.{cap_at, len_at}
 use Rattle.rkyv_table.specs.Table.Layout.{table_spec}
 use Rattle.rkyv_table.specs.Table.Positions.{item_positions}

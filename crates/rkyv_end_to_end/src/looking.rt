@@ -135,10 +135,10 @@ pub fn look_over<W: Width, T: Element, F: Fn(View<'_, T>) -> bool>(
         Ok(walked) => walked,
         Err(_) => return Err(LookError::Memory),
     };
-    let answer = look_up::<W, T, _>(bytes, pos, hash, cmp);
+    let lookup = look_up::<W, T, _>(bytes, pos, hash, cmp);
     Ok(TableReport {
         walked,
-        found: answer.found,
-        strides: answer.strides,
+        found: lookup.found,
+        strides: lookup.strides,
     })
 }

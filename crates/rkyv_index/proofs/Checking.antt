@@ -9,10 +9,10 @@ use Rattle.std.proofs.lemmas.List.Elements.{All-map, All-weaker}
 use Rattle.std.proofs.lemmas.Int.{to_z-of_z}
 use Rattle.std.proofs.lemmas.Nat.{mul-mod}
 use Rattle.rkyv_base.specs.Bytes.{number_at}
-use Rattle.rkyv_base.specs.Layout.{IsPlace}
+use Rattle.rkyv_base.specs.Layout.{IsIndexEncoding}
 use Rattle.rkyv_base.specs.Scalar.{Encoding, IsScalar}
-use Rattle.rkyv_base.specs.ElementSpec.{IsElement, ElementSpec, Viewable}
-use Rattle.rkyv_base.specs.Lemmas.ElementSpec.{by_align, valid_at, sum_multiple}
+use Rattle.rkyv_base.specs.ElementSpec.{ElementSpec, IsElement, Viewable}
+use Rattle.rkyv_base.specs.Lemmas.ElementSpec.{by_align, sum_multiple, valid_at}
 use Rattle.rkyv_base.specs.Text.{IsArchiveWord}
 use Rattle.rkyv_base.specs.View.{IsAt, IsValidView}
 use Rattle.rkyv_base.specs.declared.view.View.{View}
@@ -26,9 +26,9 @@ use Rattle.rkyv_table.proofs.Moved.{moved}
 use Rattle.rkyv_table.proofs.ValidTable.{controls_inside, item_before}
 use Rattle.rkyv_table.proofs.RawWalks.{walked_all}
 use Rattle.rkyv_table.specs.Lemmas.TableLaws.{table_element}
-use Rattle.rkyv_index.specs.Index.IndexLayout.{AreBelow, PlacesBelow, entry_at, place_spec}
-use Rattle.rkyv_index.specs.Lemmas.IndexLaws.{place_element}
-use Rattle.rkyv_index.specs.Lemmas.PlaceSpecs.{place_table_holds}
+use Rattle.rkyv_index.specs.Index.IndexLayout.{AreBelow, IndicesBelow, entry_at, stored_index_spec}
+use Rattle.rkyv_index.specs.Lemmas.IndexLaws.{stored_index_element}
+use Rattle.rkyv_index.specs.Lemmas.IndexSpecs.{index_table_is_valid}
 
 -- each entry is aligned if the first one is
 pub entry_aligned : (s : ElementSpec) → IsElement s → (begin i : ℕ) → begin % s.align ≡ 0 → entry_at s.size begin i % s.align ≡ 0
@@ -42,8 +42,8 @@ pub entry_next : (size begin i : ℕ) → entry_at size begin i + size ≡ entry
 entry_next size begin i = let m = add-mul i 1 size in omega (arith, m)
 
 -- the indices from `i` on are `i` and those from `i + 1` on
-pub places_step : (i n : ℕ) → i < n → range_with_len i (n - i) ≡ i ∷ range_with_len (i + 1) (n - (i + 1))
-places_step i n h = let e : n - i ≡ suc (n - (i + 1)) = omega arith in ap (range_with_len i) e
+pub indices_step : (i n : ℕ) → i < n → range_with_len i (n - i) ≡ i ∷ range_with_len (i + 1) (n - (i + 1))
+indices_step i n h = let e : n - i ≡ suc (n - (i + 1)) = omega arith in ap (range_with_len i) e
 
 -- a number that fits is unchanged by its encoding
 pub decoded_is : (r x : ℤ) → FitsSigned w128 r → r ≡ x → to_z w128 (of_z w128 r) ≡ x
@@ -59,27 +59,27 @@ pub view_at : {T X : Type 0} (v : View T) (archive : Bor (List ℕ)) (p : ℕ) �
 view_at v archive p at read = ap (λ (x : Bor (List ℕ)). read x.now v.pos) at.0 ∙ ap (read archive.now) at.1
 
 -- the table of a valid index map is valid for a view
-pub table_viewable : {V : Type 0} (w : Width) → IsArchiveWord w → (s : ElementSpec) (e : Encoding V) → IsScalar s e → IsPlace w e → (b : List ℕ) (p lo hi m : ℕ)
-    → p + 4 * byte_len w ≤ length b → p % byte_len w ≡ 0 → lo ≤ hi → hi ≤ p → IsValidTable w s b p lo hi m → Viewable (table_spec w (place_spec w)) b p
+pub table_viewable : {V : Type 0} (w : Width) → IsArchiveWord w → (s : ElementSpec) (e : Encoding V) → IsScalar s e → IsIndexEncoding w e → (b : List ℕ) (p lo hi m : ℕ)
+    → p + 4 * byte_len w ≤ length b → p % byte_len w ≡ 0 → lo ≤ hi → hi ≤ p → IsValidTable w s b p lo hi m → Viewable (table_spec w (stored_index_spec w)) b p
 table_viewable w kind s e laws is b p lo hi m inside aligned o o' h = record {
   inside = omega arith;
   aligned = aligned;
-  valid = valid_at (table_spec w (place_spec w)) (table_element w kind (place_spec w) (place_element w kind)) b p lo hi m o o' (place_table_holds w s e laws is b p lo hi m h);
+  valid = valid_at (table_spec w (stored_index_spec w)) (table_element w kind (stored_index_spec w) (stored_index_element w kind)) b p lo hi m o o' (index_table_is_valid w s e laws is b p lo hi m h);
 }
 
 -- one more index of a range, which passes the test `P` or fails it
 module _ (P : ℕ → Bool) (i n : ℕ) (below : i < n) where
   pub filter_step : (passes : P i ≡ true) → length (filter P (range_with_len i (n - i))) ≡ 1 + length (filter P (range_with_len (i + 1) (n - (i + 1))))
-  filter_step passes = ap (λ (xs : List ℕ). length (filter P xs)) (places_step i n below) ∙ rw passes (omega arith)
+  filter_step passes = ap (λ (xs : List ℕ). length (filter P xs)) (indices_step i n below) ∙ rw passes (omega arith)
 
   pub filter_skip : (fails : P i ≡ false) → length (filter P (range_with_len i (n - i))) ≡ length (filter P (range_with_len (i + 1) (n - (i + 1))))
-  filter_skip fails = ap (λ (xs : List ℕ). length (filter P xs)) (places_step i n below) ∙ rw fails refl
+  filter_skip fails = ap (λ (xs : List ℕ). length (filter P xs)) (indices_step i n below) ∙ rw fails refl
 
   pub all_step : (passes : P i ≡ true) → list_all P (range_with_len i (n - i)) ≡ list_all P (range_with_len (i + 1) (n - (i + 1)))
-  all_step passes = ap (list_all P) (places_step i n below) ∙ rw passes refl
+  all_step passes = ap (list_all P) (indices_step i n below) ∙ rw passes refl
 
   pub all_fails : (fails : P i ≡ false) → list_all P (range_with_len i (n - i)) ≡ false
-  all_fails fails = ap (list_all P) (places_step i n below) ∙ rw fails refl
+  all_fails fails = ap (list_all P) (indices_step i n below) ∙ rw fails refl
 
 -- no index remains
 pub none_left : (i n : ℕ) → n ≤ i → range_with_len i (n - i) ≡ []
@@ -103,7 +103,7 @@ below_next w b begin n len h last i small = elim (cases_eq i n) [
 ]
 
 -- the indices of the full buckets are below `n` if those of all buckets are
-module _ (w : Width) (kind : IsArchiveWord w) (b : List ℕ) (p n begin : ℕ) (v : Viewable (table_spec w (place_spec w)) b p) (at : 0 < cap_at w b p → begin ≡ controls_pos w b p - cap_at w b p * byte_len w) where
+module _ (w : Width) (kind : IsArchiveWord w) (b : List ℕ) (p n begin : ℕ) (v : Viewable (table_spec w (stored_index_spec w)) b p) (at : 0 < cap_at w b p → begin ≡ controls_pos w b p - cap_at w b p * byte_len w) where
   bucket_below : AreBelow w b begin (cap_at w b p) n → (i : ℕ) → IsWalked w b p i → number_at w b (item_at w (byte_len w) b p i) < n
   bucket_below all i walked =
       let size = byte_len w in
@@ -112,31 +112,31 @@ module _ (w : Width) (kind : IsArchiveWord w) (b : List ℕ) (p n begin : ℕ) (
       let k = cap - (i + 1) in
       let whole : (i + 1) + k ≡ cap = omega arith in
       let split : cap * size ≡ (i + 1) * size + k * size = ap (λ m. m * size) (sym whole) ∙ add-mul (i + 1) k size in
-      let last : (cap - 1 + 1) * size ≤ controls_pos w b p = item_before w (place_spec w) (place_element w kind) b p v (cap - 1) (omega arith) in
+      let last : (cap - 1 + 1) * size ≤ controls_pos w b p = item_before w (stored_index_spec w) (stored_index_element w kind) b p v (cap - 1) (omega arith) in
       let before : cap * size ≤ controls_pos w b p = subst (λ m. m * size ≤ controls_pos w b p) (omega arith) last in
       let item_pos_is = at (omega arith) in
       let there : begin + k * size ≡ item_at w size b p i = omega (arith, split, before, item_pos_is) in
       subst (λ q. number_at w b q < n) there (all k (omega arith))
 
-  pub buckets_below : AreBelow w b begin (cap_at w b p) n → PlacesBelow w b n (item_positions w (byte_len w) b p)
+  pub buckets_below : AreBelow w b begin (cap_at w b p) n → IndicesBelow w b n (item_positions w (byte_len w) b p)
   buckets_below all =
       let is = walk (table_controls w b p) (cap_at w b p) in
       All-map (λ q. number_at w b q < n) (item_at w (byte_len w) b p) is
-      (All-weaker (IsWalked w b p) (λ i. number_at w b (item_at w (byte_len w) b p i) < n) (bucket_below all) is (walked_all w (place_spec w) (place_element w kind) b p))
+      (All-weaker (IsWalked w b p) (λ i. number_at w b (item_at w (byte_len w) b p i) < n) (bucket_below all) is (walked_all w (stored_index_spec w) (stored_index_element w kind) b p))
 
 -- a property of the bytes and the position of a view is one of those that it is of
-pub holds_there : {T : Type 0} (view new : View T) (a : Bor (List ℕ)) (p : ℕ) → view ≡ new → IsAt new a p → (P : List ℕ → ℕ → Type 0) → P view.archive.now view.pos → P a.now p
-holds_there view new a p same at P =
+pub is_valid_there : {T : Type 0} (view new : View T) (a : Bor (List ℕ)) (p : ℕ) → view ≡ new → IsAt new a p → (P : List ℕ → ℕ → Type 0) → P view.archive.now view.pos → P a.now p
+is_valid_there view new a p same at P =
     moved P view.archive.now a.now view.pos p (ap (λ v. v.archive.now) same ∙ ap (λ b. b.now) at.0) (ap (λ v. v.pos) same ∙ at.1)
 
 -- the buckets of a table, by its decoded header
-module _ (w : Width) (kind : IsArchiveWord w) (b : List ℕ) (p : ℕ) (v : Viewable (table_spec w (place_spec w)) b p) (header : Decoded) (is : IsDecoded w b p header) where
+module _ (w : Width) (kind : IsArchiveWord w) (b : List ℕ) (p : ℕ) (v : Viewable (table_spec w (stored_index_spec w)) b p) (header : Decoded) (is : IsDecoded w b p header) where
   -- they are before the control bytes
   pub decoded_before : 0 < header.cap → header.cap * byte_len w ≤ header.controls_pos
   decoded_before some =
       let cap = is.cap in
       let whole : cap_at w b p - 1 + 1 ≡ header.cap = omega (arith, cap) in
-      let last = item_before w (place_spec w) (place_element w kind) b p v (cap_at w b p - 1) (omega (arith, cap)) in
+      let last = item_before w (stored_index_spec w) (stored_index_element w kind) b p v (cap_at w b p - 1) (omega (arith, cap)) in
       subst (λ c. header.cap * byte_len w ≤ c) (sym (is.controls_pos some)) (subst (λ m. m * byte_len w ≤ controls_pos w b p) whole last)
 
   module _ (begin : ℕ) (none_at : header.cap ≡ 0 → begin ≡ 0) (some_at : 0 < header.cap → begin ≡ header.controls_pos - header.cap * byte_len w) where
@@ -153,7 +153,7 @@ module _ (w : Width) (kind : IsArchiveWord w) (b : List ℕ) (p : ℕ) (v : View
           let before = decoded_before some in
           let cap = is.cap in
           let controls = is.controls_pos some in
-          let inside = (controls_inside w (place_spec w) (place_element w kind) b p v (omega (arith, cap))).0 in
+          let inside = (controls_inside w (stored_index_spec w) (stored_index_element w kind) b p v (omega (arith, cap))).0 in
           omega arith
     ]
 

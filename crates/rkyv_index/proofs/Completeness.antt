@@ -11,7 +11,7 @@ use Rattle.rkyv_scan.specs.Lemmas.KindLaws.{word_lawful}
 use Rattle.rkyv_base.specs.Bytes.{number_at}
 use Rattle.rkyv_base.specs.Entry.{entry_spec}
 use Rattle.rkyv_base.specs.Lemmas.Entry.{entry_element}
-use Rattle.rkyv_base.specs.ElementSpec.{IsElement, ElementSpec, ValidAt, Viewable}
+use Rattle.rkyv_base.specs.ElementSpec.{ElementSpec, IsElement, ValidAt, Viewable}
 use Rattle.rkyv_base.specs.Text.{IsArchiveWord}
 use Rattle.rkyv_keys.specs.Equality.{Comparison}
 use Rattle.rkyv_keys.specs.Keys.{IsQuery}
@@ -27,9 +27,9 @@ use Rattle.rkyv_index.specs.Index.Complete.{FindsTheOne}
 use Rattle.rkyv_index.specs.Index.Equality.{index_misplaced, own_found}
 use Rattle.rkyv_index.specs.Index.{Index, hash_at, index_found}
 use Rattle.rkyv_index.specs.Index.IndexLayout.{pair_pos}
-use Rattle.rkyv_index.specs.Index.IndexLayout.{index_spec, place_spec}
-use Rattle.rkyv_index.specs.Lemmas.IndexLaws.{place_element}
-use Rattle.rkyv_index.proofs.ValidIndexMap.{entry_viewable, place_below, table_there}
+use Rattle.rkyv_index.specs.Index.IndexLayout.{index_spec, stored_index_spec}
+use Rattle.rkyv_index.specs.Lemmas.IndexLaws.{stored_index_element}
+use Rattle.rkyv_index.proofs.ValidIndexMap.{entry_viewable, index_below, table_there}
 
 -- if no number of a range passes `P`, each number fails it
 none_kept : (P : ℕ → Bool) (a n : ℕ) → length (filter P (range_with_len a n)) ≡ 0 → (i : ℕ) → a ≤ i → i < a + n → P i ≡ false
@@ -103,17 +103,17 @@ module _ {K Q : Type 0} (m : Index K) (kind : IsArchiveWord m.word) (kl : IsElem
   found_fits : (i : ℕ) → index_found w b p (hash_of_calls hasher (calls q)) accept ≡ Some i → (i < len) × (accept i ≡ true)
   found_fits i e = elim (cases_eq cap 0) [
     | inl z ↦
-        let n = no_items w (place_spec w) (place_element w kind) b p (table_there w kind s law b p view) z in
+        let n = no_items w (stored_index_spec w) (stored_index_element w kind) b p (table_there w kind s law b p view) z in
         let f = found_somewhere (number_at w b) _ i e in
         let g = found_somewhere (item_at w (byte_len w) b p) (found generic_kind controls cap (len_at w b p) (hash_of_calls hasher (calls q)) (λ j. accept (read j))) f.0 f.1 in
         absurd (none-some g.0 (subst (λ m. found generic_kind controls cap m (hash_of_calls hasher (calls q)) (λ j. accept (read j)) ≡ Some g.0) n g.1))
     | inr some ↦
         let f = found_somewhere (number_at w b) _ i e in
         let g = found_somewhere (item_at w (byte_len w) b p) (found generic_kind controls cap (len_at w b p) (hash_of_calls hasher (calls q)) (λ j. accept (read j))) f.0 f.1 in
-        let ok = controls_accepted w (place_spec w) (place_element w kind) b p (table_there w kind s law b p view) (omega arith) in
+        let ok = controls_accepted w (stored_index_spec w) (stored_index_element w kind) b p (table_there w kind s law b p view) (omega arith) in
         let there = found_walked generic_kind cap (len_at w b p) (hash_of_calls hasher (calls q)) controls word_lawful ok small (λ j. accept (read j)) g.0 g.1 in
         let is : read g.0 ≡ i = ap (number_at w b) g.2 ∙ f.2 in
-        let below = place_below w kind s law b p view g.0 (walked_full cap controls g.0 there.1) in
+        let below = index_below w kind s law b p view g.0 (walked_full cap controls g.0 there.1) in
         (subst (λ n. n < len) is below, subst (λ n. accept n ≡ true) is there.0)
   ]
 
@@ -129,13 +129,13 @@ module _ {K Q : Type 0} (m : Index K) (kind : IsArchiveWord m.word) (kl : IsElem
       let lookup : found generic_kind controls cap (len_at w b p) (hash_of_calls hasher (calls q)) (λ j. accept (read j))
       ≡ found generic_kind controls cap (len_at w b p) (hash_of_calls hasher (calls q)) (λ j. same b (at i) b (at (read j))) = elim (cases_eq cap 0) [
         | inl z ↦
-            let n = no_items w (place_spec w) (place_element w kind) b p (table_there w kind s law b p view) z in
+            let n = no_items w (stored_index_spec w) (stored_index_element w kind) b p (table_there w kind s law b p view) z in
             ap (λ m. found generic_kind controls cap m (hash_of_calls hasher (calls q)) (λ j. accept (read j))) n
             ∙ sym (ap (λ m. found generic_kind controls cap m (hash_of_calls hasher (calls q)) (λ j. same b (at i) b (at (read j)))) n)
         | inr some ↦
-            let full = controls_accepted w (place_spec w) (place_element w kind) b p (table_there w kind s law b p view) (omega arith) in
+            let full = controls_accepted w (stored_index_spec w) (stored_index_element w kind) b p (table_there w kind s law b p view) (omega arith) in
             found_agree generic_kind cap (len_at w b p) (hash_of_calls hasher (calls q)) controls word_lawful full small (λ j. accept (read j)) (λ j. same b (at i) b (at (read j)))
-            (λ j there. agree (read j) (place_below w kind s law b p view j (walked_full cap controls j there)))
+            (λ j there. agree (read j) (index_below w kind s law b p view j (walked_full cap controls j there)))
       ] in
       ap of lookup ∙ ap (λ h. index_found w b p h (λ j. same b (at i) b (at j))) same_hash ∙ own_result
 

@@ -5,7 +5,7 @@ use Rattle.std.specs.Option.{is_some}
 use Rattle.std.proofs.lemmas.Bool.{eq-eqb, ne_eqb}
 use Rattle.std.proofs.lemmas.Option.{none-some, same_Some}
 use Rattle.rkyv_table.specs.Table.Misplaced.{is_found_at}
-use Rattle.rkyv_index.specs.Index.IndexLayout.{places_of}
+use Rattle.rkyv_index.specs.Index.IndexLayout.{indices_of}
 
 front_step : (t : Bool) (y x : ℕ) (r r' : Option ℕ) → (r ≡ Some x → r' ≡ Some x) → cond t (Some y) r ≡ Some x → cond t (Some y) r' ≡ Some x
 front_step true y x r r' h e = e
@@ -49,21 +49,21 @@ module _ (P : ℕ → Bool) where
     abbrev rest : List ℕ
     rest = range_with_len (i + 1) (n - (i + 1))
 
-    split : places_of n ≡ places_of i ++ i ∷ rest
+    split : indices_of n ≡ indices_of i ++ i ∷ rest
     split =
         let e : n ≡ i + suc (n - (i + 1)) = omega arith in
         let z : 0 + i ≡ i = omega arith in
-        ap (range_with_len 0) e ∙ range_split 0 i (suc (n - (i + 1))) ∙ ap (λ k. places_of i ++ range_with_len k (suc (n - (i + 1)))) z
+        ap (range_with_len 0) e ∙ range_split 0 i (suc (n - (i + 1))) ∙ ap (λ k. indices_of i ++ range_with_len k (suc (n - (i + 1)))) z
 
-    by_front : (o : Option ℕ) → find P (places_of i) ≡ o → not (is_found_at i (find P (places_of n))) ≡ is_some o
+    by_front : (o : Option ℕ) → find P (indices_of i) ≡ o → not (is_found_at i (find P (indices_of n))) ≡ is_some o
     by_front None e =
-        let f : find P (places_of n) ≡ Some i = ap (find P) split ∙ find-behind (places_of i) (i ∷ rest) e ∙ ap (λ b. cond b (Some i) (find P rest)) ok in
+        let f : find P (indices_of n) ≡ Some i = ap (find P) split ∙ find-behind (indices_of i) (i ∷ rest) e ∙ ap (λ b. cond b (Some i) (find P rest)) ok in
         ap (λ o. not (is_found_at i o)) f ∙ ap not (eq-eqb i i refl)
     by_front (Some x) e =
-        let f : find P (places_of n) ≡ Some x = ap (find P) split ∙ find-front (places_of i) (i ∷ rest) x e in
+        let f : find P (indices_of n) ≡ Some x = ap (find P) split ∙ find-front (indices_of i) (i ∷ rest) x e in
         let lt = found_below 0 i x e in
         ap (λ o. not (is_found_at i o)) f ∙ ap not (ne_eqb i x (λ same. omega (arith, lt, same)))
 
     -- an accepted index isn't the first if and only if an earlier index is accepted
-    pub another_repeated : not (is_found_at i (find P (places_of n))) ≡ is_some (find P (places_of i))
-    another_repeated = by_front (find P (places_of i)) refl
+    pub another_repeated : not (is_found_at i (find P (indices_of n))) ≡ is_some (find P (indices_of i))
+    another_repeated = by_front (find P (indices_of i)) refl

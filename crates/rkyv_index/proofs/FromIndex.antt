@@ -7,39 +7,39 @@ use Rattle.std.specs.Prelude.{IfSome}
 use Rattle.rkyv_base.specs.declared.view.View.{View}
 use Rattle.rkyv_keys.specs.KeyLookup.{KeyLookup}
 use Rattle.rkyv_index.specs.Index.{IsFoundAt, IsFullKeyIn, IsStored, IsStoredIndex, MatchesAt, full_index, full_key_index}
-use Rattle.rkyv_index.specs.Index.Lookups.{GetsBy, GetsKey, Part, FoundKeyHas, full_key_part, full_part, part_at, place_part}
+use Rattle.rkyv_index.specs.Index.Lookups.{FoundKeyHas, GetsBy, GetsKey, Part, full_key_part, full_part, index_part, part_at}
 use Rattle.rkyv_index.specs.declared.map.ArchivedIndexMap.{ArchivedIndexMap}
 
--- `answer` is `true` if and only if an index is found
-pub some_at : (found place : Option ℕ) (answer : Bool) → answer ≡ is_some found → found ≡ place → IsFoundAt answer place
-some_at None place answer e at = rw (e, ← at) (λ t. t, λ t. t)
-some_at (Some i) place answer e at = rw (e, ← at) (λ t. t, λ t. t)
+-- `is_found` is `true` if and only if an index is found
+pub some_at : (found index : Option ℕ) (is_found : Bool) → is_found ≡ is_some found → found ≡ index → IsFoundAt is_found index
+some_at None index is_found e at = rw (e, ← at) (λ t. t, λ t. t)
+some_at (Some i) index is_found e at = rw (e, ← at) (λ t. t, λ t. t)
 
 module _ {K V H W : Type 0} {ks : Specs K} {vs : Specs V} {wt : Words W} where
   -- the clauses on a found index are clauses on another result at it
   module _ {X : Type 0} (part : Part (ArchivedIndexMap K V H W ks vs wt) X) {m : ArchivedIndexMap K V H W ks vs wt} {found : Option ℕ} {result : Option X} where
-    pub key_as : {a : KeyLookup} → GetsKey place_part m a found → IfSome result (part.In m) → part.At m result found → GetsKey part m a result
+    pub key_as : {a : KeyLookup} → GetsKey index_part m a found → IfSome result (part.In m) → part.At m result found → GetsKey part m a result
     key_as got walked at = record {
       walked = walked;
-      answer = subst (part.At m result) got.answer at;
+      finds = subst (part.At m result) got.finds at;
       first = λ homes written. subst (part.At m result) (got.first homes written) at;
       complete = λ none. let one = got.complete none in (one.0, one.1, subst (part.At m result) one.2 at);
     }
 
-    pub by_as : {hash : ℕ} {key_hash : List ℕ → ℕ → ℕ} {post : View K → Bool → Type 0} → GetsBy place_part m hash key_hash post found → IfSome result (part.In m) → part.At m result found → GetsBy part m hash key_hash post result
+    pub by_as : {hash : ℕ} {key_hash : List ℕ → ℕ → ℕ} {post : View K → Bool → Type 0} → GetsBy index_part m hash key_hash post found → IfSome result (part.In m) → part.At m result found → GetsBy part m hash key_hash post result
     by_as got walked at = record {
       walked = walked;
       accepted = (got.accepted.0, subst (part.At m result) got.accepted.1 at, got.accepted.2);
-      answer = λ accept compares. subst (part.At m result) (got.answer accept compares) at;
+      finds = λ accept compares. subst (part.At m result) (got.finds accept compares) at;
       first = λ accept compares alone homes written. subst (part.At m result) (got.first accept compares alone homes written) at;
     }
 
   -- the clauses on a pair with its index are clauses on the key with its index
   module _ {m : ArchivedIndexMap K V H W ks vs wt} {found : Option (ℕ × View K × View V)} {result : Option (ℕ × View K)} where
-    pub key_of_full : {a : KeyLookup} → GetsKey full_part m a found → IfSome result (IsFullKeyIn m) → ((place : Option ℕ) → full_index found ≡ place → full_key_index result ≡ place) → GetsKey full_key_part m a result
+    pub key_of_full : {a : KeyLookup} → GetsKey full_part m a found → IfSome result (IsFullKeyIn m) → ((index : Option ℕ) → full_index found ≡ index → full_key_index result ≡ index) → GetsKey full_key_part m a result
     key_of_full got walked at = record {
       walked = walked;
-      answer = at _ got.answer;
+      finds = at _ got.finds;
       first = λ homes written. at _ (got.first homes written);
       complete = λ none. let one = got.complete none in (one.0, one.1, at _ one.2);
     }
@@ -51,16 +51,16 @@ module _ {K V H W : Type 0} {ks : Specs K} {vs : Specs V} {wt : Words W} where
     part_is_stored m (Some i) result walked at = subst (λ r. IfSome r (λ x. (j : ℕ) × IsStored m j × Related m j x)) (sym at.1) (i, walked.0, at.2)
 
     module _ {m : ArchivedIndexMap K V H W ks vs wt} {found : Option ℕ} {result : Option X} where
-      pub key_as_part : {a : KeyLookup} → GetsKey place_part m a found → MatchesAt (Related m) result found → GetsKey (part_at Related) m a result
+      pub key_as_part : {a : KeyLookup} → GetsKey index_part m a found → MatchesAt (Related m) result found → GetsKey (part_at Related) m a result
       key_as_part got at = key_as (part_at Related) got (part_is_stored m found result got.walked at) at
 
-      pub by_as_part : {hash : ℕ} {key_hash : List ℕ → ℕ → ℕ} {post : View K → Bool → Type 0} → GetsBy place_part m hash key_hash post found → MatchesAt (Related m) result found → GetsBy (part_at Related) m hash key_hash post result
+      pub by_as_part : {hash : ℕ} {key_hash : List ℕ → ℕ → ℕ} {post : View K → Bool → Type 0} → GetsBy index_part m hash key_hash post found → MatchesAt (Related m) result found → GetsBy (part_at Related) m hash key_hash post result
       by_as_part got at = by_as (part_at Related) got (part_is_stored m found result got.walked at) at
 
-  -- the clauses on a found index are clauses on `answer`
-  pub contains_as_found : {m : ArchivedIndexMap K V H W ks vs wt} {a : KeyLookup} {found : Option ℕ} {answer : Bool} → GetsKey place_part m a found → answer ≡ is_some found → FoundKeyHas m a (IsFoundAt answer)
-  contains_as_found {found = found} {answer = answer} got is = record {
-    answer = some_at found _ answer is got.answer;
-    first = λ homes written. some_at found _ answer is (got.first homes written);
-    complete = λ none. let one = got.complete none in (one.0, one.1, some_at found _ answer is one.2);
+  -- the clauses on a found index are clauses on `is_found`
+  pub contains_as_found : {m : ArchivedIndexMap K V H W ks vs wt} {a : KeyLookup} {found : Option ℕ} {is_found : Bool} → GetsKey index_part m a found → is_found ≡ is_some found → FoundKeyHas m a (IsFoundAt is_found)
+  contains_as_found {found = found} {is_found = is_found} got is = record {
+    finds = some_at found _ is_found is got.finds;
+    first = λ homes written. some_at found _ is_found is (got.first homes written);
+    complete = λ none. let one = got.complete none in (one.0, one.1, some_at found _ is_found is one.2);
   }

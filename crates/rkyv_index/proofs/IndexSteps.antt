@@ -6,16 +6,16 @@ use Rattle.rkyv_base.specs.declared.errors.WriteError.{WriteError}
 use Rattle.rkyv_base.specs.Format.{Format, SerializeFails, Serialized}
 use Rattle.rkyv_base.specs.Scalar.{Encoding, scalar_format}
 use Rattle.rkyv_base.specs.ElementSpec.{ElementSpec}
-use Rattle.rkyv_base.specs.Writing.{Appends, Only, Output, Step, WriteFails, Within, end_of, padding, piece, zeros}
+use Rattle.rkyv_base.specs.Writing.{Appends, Only, Output, Step, Within, WriteFails, end_of, padding, piece, zeros}
 use Rattle.rkyv_base.proofs.WritingSteps.{appends_after, end-appends, fails_after, fails_under, grows, within_after}
 use Rattle.rkyv_table.specs.Table.Counting.{YieldsOtherCount}
 use Rattle.rkyv_table.specs.Table.Serializing.{WriteItemsFails, WroteItems}
 use Rattle.rkyv_table.specs.Table.TableFormat.{PairsNext, TableResolver, table_format}
 use Rattle.rkyv_table.proofs.TableSteps.{piece_fails, zeros_behind}
 use Rattle.rkyv_index.specs.Index.Writing.{NoOther, OwnOrSerializeFails}
-use Rattle.rkyv_index.specs.Index.IndexFormat.{BeforeRow, BeforeZeros, IndexNext, places_from, row_format}
+use Rattle.rkyv_index.specs.Index.IndexFormat.{BeforeRow, BeforeZeros, IndexNext, indices_from, row_format}
 use Rattle.rkyv_index.specs.Index.Row.{RowNext, RowParts, RowPartsNext, WroteRow}
-use Rattle.rkyv_index.specs.Lemmas.IndexSound.{places_count}
+use Rattle.rkyv_index.specs.Lemmas.IndexSound.{indices_count}
 use Rattle.rkyv_table.proofs.Through.{own_counted}
 
 -- an iterator whose state has the list of the items that remain
@@ -39,32 +39,32 @@ module _ {S A : Type 0} (rest : S → List A) where
       ]
 
 module _ (F : Type 0) {P X : Type 0} (w : Width) (ps : ElementSpec) (e : Encoding P) (hash : X → ℕ) (factor : ℕ × ℕ) (limit : ℕ) (xs : List X) (o : Output) where
-  abbrev Places : List (ℕ × P)
-  Places = places_from hash e.value 0 xs
+  abbrev Indices : List (ℕ × P)
+  Indices = indices_from hash e.value 0 xs
 
   abbrev TableOf : Format (List (ℕ × P)) TableResolver
   TableOf = table_format w ps (scalar_format e) factor
 
-  module _ {S : Type 0} (rest : S → List (ℕ × P)) (state : S) (there : rest state ≡ Places) (max : ℕ) (o1 : Output) where
+  module _ {S : Type 0} (rest : S → List (ℕ × P)) (state : S) (there : rest state ≡ Indices) (max : ℕ) (o1 : Output) where
     abbrev DrainsRest : List (ℕ × P) → Type 0
     DrainsRest = Drains (YieldsFirst rest) state
 
-    wrote_places : (r : TableResolver) → WroteItems DrainsRest (length xs) factor max TableOf o o1 limit r → Serialized limit TableOf Places o o1 r
-    wrote_places r h = subst (λ l. Serialized limit TableOf l o o1 r) (drained rest h.1 state h.2.0 ∙ there) h.3
+    wrote_indices : (r : TableResolver) → WroteItems DrainsRest (length xs) factor max TableOf o o1 limit r → Serialized limit TableOf Indices o o1 r
+    wrote_indices r h = subst (λ l. Serialized limit TableOf l o o1 r) (drained rest h.1 state h.2.0 ∙ there) h.3
 
-    places_fail : (err : WriteError F) → WriteItemsFails DrainsRest (length xs) factor max TableOf o o1 limit (YieldsOtherCount (YieldsFirst rest) (length xs) state) err
-        → OwnOrSerializeFails (length xs) factor max NoOther limit TableOf Places o o1 err
-    places_fail err (inl h) =
-        let n : length (rest state) ≡ length xs = ap length there ∙ places_count hash e.value 0 xs in
+    indices_not_written : (err : WriteError F) → WriteItemsFails DrainsRest (length xs) factor max TableOf o o1 limit (YieldsOtherCount (YieldsFirst rest) (length xs) state) err
+        → OwnOrSerializeFails (length xs) factor max NoOther limit TableOf Indices o o1 err
+    indices_not_written err (inl h) =
+        let n : length (rest state) ≡ length xs = ap length there ∙ indices_count hash e.value 0 xs in
         inl (own_counted (length xs) factor max (YieldsOtherCount (YieldsFirst rest) (length xs) state) NoOther (λ k g. no_other_drained rest (length xs) state n k g) err h.0, h.1)
-    places_fail err (inr h) = inr (subst (λ l. SerializeFails limit TableOf l o o1 err) (drained rest h.1 state h.2.0 ∙ there) h.3)
+    indices_not_written err (inr h) = inr (subst (λ l. SerializeFails limit TableOf l o o1 err) (drained rest h.1 state h.2.0 ∙ there) h.3)
 
     -- the result of writing the table is that of writing the indices
-    pub places_result : (result : Result TableResolver (WriteError F))
+    pub indices_result : (result : Result TableResolver (WriteError F))
         → MatchResult result (WroteItems DrainsRest (length xs) factor max TableOf o o1 limit) (WriteItemsFails DrainsRest (length xs) factor max TableOf o o1 limit (YieldsOtherCount (YieldsFirst rest) (length xs) state))
-        → MatchResult result (Serialized limit TableOf Places o o1) (OwnOrSerializeFails (length xs) factor max NoOther limit TableOf Places o o1)
-    places_result (Ok r) h = wrote_places r h
-    places_result (Err err) h = places_fail err h
+        → MatchResult result (Serialized limit TableOf Indices o o1) (OwnOrSerializeFails (length xs) factor max NoOther limit TableOf Indices o o1)
+    indices_result (Ok r) h = wrote_indices r h
+    indices_result (Err err) h = indices_not_written err h
 
   module _ {R : Type 0} (s : ElementSpec) (f : Format X R) where
     abbrev Next : List ℕ → Step → Type 0
@@ -73,17 +73,17 @@ module _ (F : Type 0) {P X : Type 0} (w : Width) (ps : ElementSpec) (e : Encodin
     abbrev Stopped : Output → WriteError F → Type 0
     Stopped o' err = WriteFails limit Next o o' err
 
-    table_fails : (o1 : Output) (err : WriteError F) → SerializeFails limit TableOf Places o o1 err → Stopped o1 err
+    table_fails : (o1 : Output) (err : WriteError F) → SerializeFails limit TableOf Indices o o1 err → Stopped o1 err
     table_fails o1 err t =
-        fails_under limit Next (PairsNext w ps (scalar_format e) factor Places (end_of o)) o o1 err (λ g step h. inl h) t
+        fails_under limit Next (PairsNext w ps (scalar_format e) factor Indices (end_of o)) o o1 err (λ g step h. inl h) t
 
     -- if writing the indices fails, writing the values fails with the same error
-    pub indices_fail : (max : ℕ) (o1 : Output) (err : WriteError F) → OwnOrSerializeFails (length xs) factor max NoOther limit TableOf Places o o1 err
+    pub indices_fail : (max : ℕ) (o1 : Output) (err : WriteError F) → OwnOrSerializeFails (length xs) factor max NoOther limit TableOf Indices o o1 err
         → OwnOrSerializeFails (length xs) factor max NoOther limit (row_format w ps e s f hash factor) xs o o1 err
     indices_fail max o1 err (inl h) = inl h
     indices_fail max o1 err (inr h) = inr (table_fails o1 err h)
 
-    module _ (o1 : Output) (t : TableResolver) (wrote : Serialized limit TableOf Places o o1 t) where
+    module _ (o1 : Output) (t : TableResolver) (wrote : Serialized limit TableOf Indices o o1 t) where
       abbrev table : List ℕ
       table = wrote.0
 

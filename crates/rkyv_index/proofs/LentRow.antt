@@ -21,7 +21,7 @@ use Rattle.rkyv_table.specs.Table.TableFormat.{PairsNext, TableParts, TableResol
 use Rattle.rkyv_index.specs.Index.Writing.{NoOther, OwnOrSerializeFails, pairs_of}
 use Rattle.rkyv_table.specs.Table.Serializing.{WriteItemsFails, WroteItems}
 use Rattle.rkyv_table.specs.Table.ItemValues.{pair_values}
-use Rattle.rkyv_index.specs.Index.IndexFormat.{BeforeRow, BeforeZeros, IndexNext, IndexParts, index_format, places_from, row_format}
+use Rattle.rkyv_index.specs.Index.IndexFormat.{BeforeRow, BeforeZeros, IndexNext, IndexParts, index_format, indices_from, row_format}
 use Rattle.rkyv_index.specs.Index.IndexHeader.{IndexResolver}
 use Rattle.rkyv_index.specs.Index.Row.{Before, RowImages, RowNext, RowParts, RowPartsNext}
 use Rattle.rkyv_table.proofs.Through.{own_counted}
@@ -63,14 +63,14 @@ module _ {X Y R : Type 0} (value_of : X → Y) (f : Format Y R) where
     abbrev own : X → ℕ
     own x = hash (value_of x)
 
-    mapped_places : (i : ℕ) (xs : List X) → places_from own e.value i xs ≡ places_from hash e.value i (map value_of xs)
-    mapped_places i [] = refl
-    mapped_places i (x ∷ xs) = ap (λ (l : List (ℕ × P)). (hash (value_of x), e.value i) ∷ l) (mapped_places (i + 1) xs)
+    mapped_indices : (i : ℕ) (xs : List X) → indices_from own e.value i xs ≡ indices_from hash e.value i (map value_of xs)
+    mapped_indices i [] = refl
+    mapped_indices i (x ∷ xs) = ap (λ (l : List (ℕ × P)). (hash (value_of x), e.value i) ∷ l) (mapped_indices (i + 1) xs)
 
     module _ (xs : List X) (p : ℕ) where
-      mapped_table : (part : List ℕ) (t : TableResolver) → TableParts w ps (scalar_format e) factor (places_from own e.value 0 xs) p part t
-          → TableParts w ps (scalar_format e) factor (places_from hash e.value 0 (map value_of xs)) p part t
-      mapped_table part t h = subst (λ (l : List (ℕ × P)). TableParts w ps (scalar_format e) factor l p part t) (mapped_places 0 xs) h
+      mapped_table : (part : List ℕ) (t : TableResolver) → TableParts w ps (scalar_format e) factor (indices_from own e.value 0 xs) p part t
+          → TableParts w ps (scalar_format e) factor (indices_from hash e.value 0 (map value_of xs)) p part t
+      mapped_table part t h = subst (λ (l : List (ℕ × P)). TableParts w ps (scalar_format e) factor l p part t) (mapped_indices 0 xs) h
 
       mapped_zeros : (front : List ℕ) (t : TableResolver) (rs : List R) → BeforeZeros w ps e s F own factor xs p front t rs → BeforeZeros w ps e s f hash factor (map value_of xs) p front t rs
       mapped_zeros front t rs h = record {
@@ -96,7 +96,7 @@ module _ {X Y R : Type 0} (value_of : X → Y) (f : Format Y R) where
       }
 
       mapped_next : (front : List ℕ) (step : Step) → IndexNext w ps e s F own factor xs p front step → IndexNext w ps e s f hash factor (map value_of xs) p front step
-      mapped_next front step (inl h) = inl (subst (λ (l : List (ℕ × P)). PairsNext w ps (scalar_format e) factor l p front step) (mapped_places 0 xs) h)
+      mapped_next front step (inl h) = inl (subst (λ (l : List (ℕ × P)). PairsNext w ps (scalar_format e) factor l p front step) (mapped_indices 0 xs) h)
       mapped_next front step (inr (inl h)) = inr (inl (h.0, h.1, h.2, mapped_table h.0 h.1 h.3, parts_next xs (p + length h.0) h.2 step h.4, h.5))
       mapped_next front step (inr (inr (inl h))) = inr (inr (inl (h.0, h.1, mapped_zeros front h.0 h.1 h.2, h.3)))
       mapped_next front step (inr (inr (inr h))) = inr (inr (inr (h.0, h.1, h.2, h.3, mapped_front h.0 h.1 h.2 h.4, row_next xs (p + length h.0) h.2 h.3 step h.5, h.6)))

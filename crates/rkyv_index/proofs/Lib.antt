@@ -1,13 +1,13 @@
 pub mod Checking
 pub mod ValidIndexMap
 pub mod Lookups
-pub mod PlacesFound
+pub mod IndicesFound
 pub mod Queries
 pub mod Rows
 pub mod FromIndex
 pub mod SameEntries
 pub mod Completeness
-pub mod QueryPlaces
+pub mod QueryIndices
 pub mod RowSteps
 pub mod IndexSteps
 pub mod LentRow

@@ -23,7 +23,7 @@ use Rattle.rkyv_keys.specs.Lemmas.FirstPairs.{FindsByView}
 use Rattle.rkyv_keys.specs.Lemmas.OfEntries.{valid_key}
 use Rattle.rkyv_table.specs.Table.ItemValues.{with_units}
 use Rattle.rkyv_table.proofs.Moved.{moved}
-use Rattle.rkyv_index.specs.Index.{IsFoundAt, IsValueAt, IsWritten, fits_at, index_bytes, index_len, index_of, index_places, index_pos, key_pos}
+use Rattle.rkyv_index.specs.Index.{IsFoundAt, IsValueAt, IsWritten, fits_at, index_bytes, index_indices, index_len, index_of, index_pos, key_pos}
 use Rattle.rkyv_index.specs.Index.IndexFormat.{IndexRepresents}
 use Rattle.rkyv_index.specs.Index.ListArchives.{FoundAreListed, index_root}
 use Rattle.rkyv_index.specs.Set.IndexSet.{keys_of}
@@ -31,10 +31,10 @@ use Rattle.rkyv_index.specs.Set.ListArchives.{MembersFoundAreListed}
 use Rattle.rkyv_index.specs.declared.map.ArchivedIndexMap.{ArchivedIndexMap}
 use Rattle.rkyv_index.proofs.ValidIndexMap.{entry_viewable}
 
--- `place`: the index of the first pair with an accepted key, `first`: that pair, or there is neither
+-- `index`: the index of the first pair with an accepted key, `first`: that pair, or there is neither
 abbrev IsFirstAt : {A B : Type 0} → List (A × B) → ℕ → Option ℕ → Option (A × B) → Type 0
-IsFirstAt {A} {B} pairs from place first =
-    MatchOption place (first ≡ None) (λ n. (i : ℕ) × (pair : A × B) × (n ≡ from + i) × (slice_get pairs i ≡ Some pair) × (first ≡ Some pair))
+IsFirstAt {A} {B} pairs from index first =
+    MatchOption index (first ≡ None) (λ n. (i : ℕ) × (pair : A × B) × (n ≡ from + i) × (slice_get pairs i ≡ Some pair) × (first ≡ Some pair))
 
 module _ {A B : Type 0} (P : ℕ → Bool) (accept : A → Bool) where
   -- `P` accepts the indices of the pairs with an accepted key
@@ -47,17 +47,17 @@ module _ {A B : Type 0} (P : ℕ → Bool) (accept : A → Bool) where
   behind : (from : ℕ) (x : A × B) (xs : List (A × B)) → Agrees from (x ∷ xs) → Agrees (from + 1) xs
   behind from x xs agrees i pair e = ap P (omega arith) ∙ agrees (suc i) pair e
 
-  pub place_listed : (from : ℕ) (pairs : List (A × B)) → Agrees from pairs → find P (range_with_len from (length pairs)) ≡ position_from (λ pair. accept pair.0) from pairs
-  place_listed from [] agrees = refl
-  place_listed from (x ∷ xs) agrees =
+  pub index_listed : (from : ℕ) (pairs : List (A × B)) → Agrees from pairs → find P (range_with_len from (length pairs)) ≡ position_from (λ pair. accept pair.0) from pairs
+  index_listed from [] agrees = refl
+  index_listed from (x ∷ xs) agrees =
       let e = here from x xs agrees in
-      let rest = place_listed (from + 1) xs (behind from x xs agrees) in
+      let rest = index_listed (from + 1) xs (behind from x xs agrees) in
       elim (cases_Bool (accept x.0)) [
         | inl t ↦ rw (e, t) refl
         | inr f ↦ rw (e, f) rest
       ]
 
-  later : (from : ℕ) (x : A × B) (xs : List (A × B)) (place : Option ℕ) (first : Option (A × B)) → IsFirstAt xs (from + 1) place first → IsFirstAt (x ∷ xs) from place first
+  later : (from : ℕ) (x : A × B) (xs : List (A × B)) (index : Option ℕ) (first : Option (A × B)) → IsFirstAt xs (from + 1) index first → IsFirstAt (x ∷ xs) from index first
   later from x xs None first h = h
   later from x xs (Some n) first h = (suc h.0, h.1, omega (arith, h.2), h.3, h.4)
 
@@ -74,7 +74,7 @@ module _ {A B : Type 0} (P : ℕ → Bool) (accept : A → Bool) where
 -- the value that is found at an index is that of the first pair
 found_at : {A B K V H W : Type 0} {ks : Specs K} {vs : Specs V} {wt : Words W} (m : ArchivedIndexMap K V H W ks vs wt) (key : List ℕ → ℕ → A → Type 0) (value : List ℕ → ℕ → B → Type 0) (pairs : List (A × B))
     → ((i : ℕ) (pair : A × B) → slice_get pairs i ≡ Some pair → PairRepresents ks.spec vs.spec key value (index_bytes m) (key_pos m i) pair)
-    → (place : Option ℕ) (found : Option (View V)) (first : Option (A × B)) → IsValueAt m found place → IsFirstAt pairs 0 place first → IsFoundValue value found (option_map (λ pair. pair.1) first)
+    → (index : Option ℕ) (found : Option (View V)) (first : Option (A × B)) → IsValueAt m found index → IsFirstAt pairs 0 index first → IsFoundValue value found (option_map (λ pair. pair.1) first)
 found_at m key value pairs represents None None None at is = tt
 found_at m key value pairs represents None (Some view) first at is = absurd (none-some view (sym at))
 found_at m key value pairs represents None None (Some pair) at is = absurd (none-some pair (sym is))
@@ -83,9 +83,9 @@ found_at m key value pairs represents (Some n) (Some view) None at is = absurd (
 found_at {ks = ks} {vs = vs} m key value pairs represents (Some n) (Some view) (Some pair) at is =
     let same = same_Some view at.0 at.1 in
     let bytes = ap (λ (x : View _). x.archive.now) same ∙ ap (λ a. a.now) at.2.at.0 in
-    let place : view.pos ≡ key_pos m is.0 + value_offset ks.spec vs.spec = ap (λ (x : View _). x.pos) same ∙ at.2.at.1 ∙ ap (λ i. key_pos m i + value_offset ks.spec vs.spec) (omega (arith, is.2)) in
+    let index : view.pos ≡ key_pos m is.0 + value_offset ks.spec vs.spec = ap (λ (x : View _). x.pos) same ∙ at.2.at.1 ∙ ap (λ i. key_pos m i + value_offset ks.spec vs.spec) (omega (arith, is.2)) in
     let there = (represents is.0 is.1 is.3).1 in
-    moved (λ b p. value b p pair.1) _ _ _ _ (sym bytes) (sym place) (subst (λ x. value (index_bytes m) (key_pos m is.0 + value_offset ks.spec vs.spec) x.1) (sym (same_Some pair is.1 is.4)) there)
+    moved (λ b p. value b p pair.1) _ _ _ _ (sym bytes) (sym index) (subst (λ x. value (index_bytes m) (key_pos m is.0 + value_offset ks.spec vs.spec) x.1) (sym (same_Some pair is.1 is.4)) there)
 
 -- In an index map that represents a list of pairs, native keys find the first pair with an equal key
 pub record FirstInMap {A Q B K V H W : Type 0} {ks : Specs K} {vs : Specs V} {wt : Words W} (m : ArchivedIndexMap K V H W ks vs wt) (keys : NativeKeys A Q) (value : List ℕ → ℕ → B → Type 0) (query : Q) (pairs : List (A × B))
@@ -93,8 +93,8 @@ pub record FirstInMap {A Q B K V H W : Type 0} {ks : Specs K} {vs : Specs V} {wt
   pub homes : List ℕ
   pub written : IsWritten (index_of m) keys.key_hash homes
   pub at : (i : ℕ) (pair : A × B) → slice_get pairs i ≡ Some pair → PairRepresents ks.spec vs.spec keys.represents value (index_bytes m) (key_pos m i) pair
-  pub place : find (fits_at (index_of m) (keys.fits query)) (index_places (index_of m)) ≡ position_from (λ pair. keys.equal query pair.0) 0 pairs
-  pub first : IsFirstAt pairs 0 (find (fits_at (index_of m) (keys.fits query)) (index_places (index_of m))) (first_pair (keys.equal query) pairs)
+  pub index : find (fits_at (index_of m) (keys.fits query)) (index_indices (index_of m)) ≡ position_from (λ pair. keys.equal query pair.0) 0 pairs
+  pub first : IsFirstAt pairs 0 (find (fits_at (index_of m) (keys.fits query)) (index_indices (index_of m))) (first_pair (keys.equal query) pairs)
 
 first_in_map : {A Q B K V H W : Type 0} {ks : Specs K} {vs : Specs V} {wt : Words W} → IsArchiveWord wt.word → (m : ArchivedIndexMap K V H W ks vs wt) (keys : NativeKeys A Q)
     → FitsItsEqual ks.spec keys.represents keys.equal keys.fits → (value : List ℕ → ℕ → B → Type 0) (query : Q) (archive : Bor (List ℕ)) (p : ℕ) (factor : ℕ × ℕ) (pairs : List (A × B))
@@ -114,8 +114,8 @@ first_in_map {ks = ks} {vs = vs} {wt = wt} kind m keys native value query archiv
       homes = represents.homes;
       written = represents.written;
       at = represents.at;
-      place = range ∙ place_listed P (keys.equal query) 0 pairs agrees;
-      first = subst (λ place. IsFirstAt pairs 0 place (first_pair (keys.equal query) pairs)) (sym range) (first_listed_at P (keys.equal query) 0 pairs agrees);
+      index = range ∙ index_listed P (keys.equal query) 0 pairs agrees;
+      first = subst (λ index. IsFirstAt pairs 0 index (first_pair (keys.equal query) pairs)) (sym range) (first_listed_at P (keys.equal query) 0 pairs agrees);
     }
 
 -- a lookup in the index map at the root of an archive finds the first pair of the list
@@ -125,7 +125,7 @@ found_listed H wt kind ks vs keys native values by = λ map root archive factor 
     let there : IsAt map.view archive (index_root wt.word ks.spec vs.spec archive.now) = (ap (λ x. x.archive) view ∙ at.0, ap (λ x. x.pos) view ∙ at.1) in
     let r = first_in_map kind map keys native values.represents query archive _ factor pairs there is in
     record {
-      place = λ found finds. finds r.homes r.written ∙ r.place ∙ sym (position_from-zero (λ pair. keys.equal query pair.0) pairs);
+      index = λ found finds. finds r.homes r.written ∙ r.index ∙ sym (position_from-zero (λ pair. keys.equal query pair.0) pairs);
       value = λ found finds. by found _ (found_at map keys.represents values.represents pairs r.at _ found _ (finds r.homes r.written) r.first);
     }
 
@@ -142,7 +142,7 @@ module _ {A : Type 0} (accept : A → Bool) where
     | inr f ↦ rw f (any_position (from + 1) xs)
   ]
 
-is_found : (found : Bool) (place : Option ℕ) → IsFoundAt found place → found ≡ is_some place
+is_found : (found : Bool) (index : Option ℕ) → IsFoundAt found index → found ≡ is_some index
 is_found true None e = absurd (true≢false (sym (e.0 refl)))
 is_found false None e = refl
 is_found true (Some n) e = refl
@@ -153,8 +153,8 @@ pub members_listed : {A Q K W : Type 0} (H : Type 0) (wt : Words W) → IsArchiv
     → MembersFoundAreListed H wt ks keys
 members_listed H wt kind ks keys native = λ set root archive factor items query there at is.
     let r = first_in_map kind (keys_of set) keys native unit_represents query archive _ factor (with_units items) (there.0 ∙ at.0, there.1 ∙ at.1) is in
-    let place = r.place ∙ position_units (keys.equal query) 0 items in
+    let index = r.index ∙ position_units (keys.equal query) 0 items in
     record {
-      place = λ found finds. finds r.homes r.written ∙ place ∙ sym (position_from-zero (keys.equal query) items);
-      member = λ found finds. is_found found _ (finds r.homes r.written) ∙ ap is_some place ∙ any_position (keys.equal query) 0 items;
+      index = λ found finds. finds r.homes r.written ∙ index ∙ sym (position_from-zero (keys.equal query) items);
+      member = λ found finds. is_found found _ (finds r.homes r.written) ∙ ap is_some index ∙ any_position (keys.equal query) 0 items;
     }

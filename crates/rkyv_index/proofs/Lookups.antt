@@ -12,9 +12,9 @@ use Rattle.rkyv_scan.specs.Groups.{generic_kind}
 use Rattle.rkyv_base.specs.Bytes.{number_at}
 use Rattle.rkyv_base.specs.Entry.{entry_spec}
 use Rattle.rkyv_base.specs.Lemmas.Entry.{entry_element}
-use Rattle.rkyv_base.specs.Layout.{IsPlace}
+use Rattle.rkyv_base.specs.Layout.{IsIndexEncoding}
 use Rattle.rkyv_base.specs.Scalar.{Encoding, IsScalar}
-use Rattle.rkyv_base.specs.ElementSpec.{IsElement, ElementSpec}
+use Rattle.rkyv_base.specs.ElementSpec.{ElementSpec, IsElement}
 use Rattle.rkyv_base.specs.View.{IsAt, bytes_of, pos_of_found}
 use Rattle.rkyv_base.specs.declared.view.View.{View}
 use Rattle.rkyv_table.specs.Controls.Laws.{IsUnderHash}
@@ -23,11 +23,11 @@ use Rattle.rkyv_table.specs.Table.Positions.{lookup_end, pos_found}
 use Rattle.rkyv_table.specs.Table.Reading.{ComparesBy, CountsEnd, FindsFirst, FindsFound, IsItem}
 use Rattle.rkyv_table.specs.Table.Reading.{table_bytes, table_pos}
 use Rattle.rkyv_table.specs.declared.table.ArchivedHashTable.{ArchivedHashTable}
-use Rattle.rkyv_index.specs.Index.{ComparesKeysBy, AreUnderHash, IsStored, IsKeyOf, IsPlaceOf, IsWritten, index_archive, index_bytes, index_found, index_len, index_of, index_pos, index_strides, key_pos}
+use Rattle.rkyv_index.specs.Index.{AreUnderHash, ComparesKeysBy, IsIndexOf, IsKeyOf, IsStored, IsWritten, index_archive, index_bytes, index_found, index_len, index_of, index_pos, index_strides, key_pos}
 use Rattle.rkyv_index.specs.Index.IndexFormat.{IndexWrittenAt}
-use Rattle.rkyv_index.specs.Index.IndexLayout.{places_of}
+use Rattle.rkyv_index.specs.Index.IndexLayout.{indices_of}
 use Rattle.rkyv_index.specs.declared.map.ArchivedIndexMap.{ArchivedIndexMap}
-use Rattle.rkyv_index.proofs.ValidIndexMap.{place_below, place_inside}
+use Rattle.rkyv_index.proofs.ValidIndexMap.{index_below, index_inside}
 
 -- the image of the first accepted element is the first accepted image
 find-step : (f : ℕ → ℕ) (accept : ℕ → Bool) (x : ℕ) (r : Option ℕ) (r' : Option ℕ) (t : Bool) → option_map f r ≡ r'
@@ -40,10 +40,10 @@ find-map f accept [] = refl
 find-map f accept (x ∷ xs) = find-step f accept x (find (λ y. accept (f y)) xs) (find accept (map f xs)) (accept (f x)) (find-map f accept xs)
 
 -- the number at index `i` of the indices is `i`
-place_read : (n i : ℕ) → i < n → slice_index (places_of n) i ≡ i
-place_read n i below = get_or-range_with_len 0 n i 0 below ∙ omega arith
+index_read : (n i : ℕ) → i < n → slice_index (indices_of n) i ≡ i
+index_read n i below = get_or-range_with_len 0 n i 0 below ∙ omega arith
 
-module _ {K V H W P N : Type 0} {ks : Specs K} {vs : Specs V} {ts : Specs P} {wt : Words W} (m : ArchivedIndexMap K V H W ks vs wt) (e : Encoding N) (pk : IsScalar ts.spec e) (place : IsPlace wt.word e)
+module _ {K V H W P N : Type 0} {ks : Specs K} {vs : Specs V} {ts : Specs P} {wt : Words W} (m : ArchivedIndexMap K V H W ks vs wt) (e : Encoding N) (pk : IsScalar ts.spec e) (index : IsIndexEncoding wt.word e)
     (t : ArchivedHashTable P W ts wt) (at : IsAt t.view (index_archive m) (index_pos m)) where
   abbrev w : Width
   w = wt.word
@@ -55,7 +55,7 @@ module _ {K V H W P N : Type 0} {ks : Specs K} {vs : Specs V} {ts : Specs P} {wt
   law = entry_element ks.spec vs.spec ks.laws vs.laws
 
   size_is : ts.spec.size ≡ byte_len w
-  size_is = pk.size ∙ ap byte_len place.word
+  size_is = pk.size ∙ ap byte_len index.word
 
   bytes_same : table_bytes t ≡ index_bytes m
   bytes_same = ap (λ (x : Bor (List ℕ)). x.now) at.0
@@ -84,7 +84,7 @@ module _ {K V H W P N : Type 0} {ks : Specs K} {vs : Specs V} {ts : Specs P} {wt
   item_there : (h : View P) → IsItem t h → (i : ℕ) × IsWalked w (index_bytes m) (index_pos m) i × (h.pos ≡ item_at w (byte_len w) (index_bytes m) (index_pos m) i)
   item_there h item =
       let walked = subst (λ q. IsWalked w (index_bytes m) q item.0) at.1 (subst (λ (x : List ℕ). IsWalked w x (table_pos t) item.0) bytes_same item.1.walked) in
-      let pos = item.1.place ∙ ap (λ n. item_at w n (table_bytes t) (table_pos t) item.0) size_is
+      let pos = item.1.pos ∙ ap (λ n. item_at w n (table_bytes t) (table_pos t) item.0) size_is
       ∙ ap (λ (x : List ℕ). item_at w (byte_len w) x (table_pos t) item.0) bytes_same
       ∙ ap (λ q. item_at w (byte_len w) (index_bytes m) q item.0) at.1 in
       (item.0, walked, pos)
@@ -94,18 +94,18 @@ module _ {K V H W P N : Type 0} {ks : Specs K} {vs : Specs V} {ts : Specs P} {wt
   read_there h item = ap (λ (x : Bor (List ℕ)). x.now) (item.1.archive ∙ at.0)
 
   -- the number in a full bucket is an index of the map
-  place_at_bucket : (h : View P) (i : ℕ) → IsWalked w (index_bytes m) (index_pos m) i → h.pos ≡ item_at w (byte_len w) (index_bytes m) (index_pos m) i → bytes_of h ≡ index_bytes m → IsPlaceOf w m.view h
-  place_at_bucket h i walked pos read =
-      let inside = place_inside w wt.kind s law (index_bytes m) (index_pos m) m.valid i walked in
-      let below = place_below w wt.kind s law (index_bytes m) (index_pos m) m.valid i walked in (
+  index_at_bucket : (h : View P) (i : ℕ) → IsWalked w (index_bytes m) (index_pos m) i → h.pos ≡ item_at w (byte_len w) (index_bytes m) (index_pos m) i → bytes_of h ≡ index_bytes m → IsIndexOf w m.view h
+  index_at_bucket h i walked pos read =
+      let inside = index_inside w wt.kind s law (index_bytes m) (index_pos m) m.valid i walked in
+      let below = index_below w wt.kind s law (index_bytes m) (index_pos m) m.valid i walked in (
         subst (λ (x : List ℕ). h.pos + byte_len w ≤ length x) (sym read) (subst (λ q. q + byte_len w ≤ length (index_bytes m)) (sym pos) inside),
         subst (λ (x : List ℕ). number_at w x h.pos < index_len m) (sym read) (subst (λ q. number_at w (index_bytes m) q < index_len m) (sym pos) below),
       )
 
-  pub item_place : (h : View P) → IsItem t h → IsPlaceOf w m.view h
-  item_place h item =
+  pub item_index : (h : View P) → IsItem t h → IsIndexOf w m.view h
+  item_index h item =
       let there = item_there h item in
-      place_at_bucket h there.0 there.1 there.2 (read_there h item)
+      index_at_bucket h there.0 there.1 there.2 (read_there h item)
 
   -- a full bucket of the map has that index
   pub item_stored : (h : View P) → IsItem t h → IsStored m (number_at w (bytes_of h) h.pos)
@@ -114,16 +114,16 @@ module _ {K V H W P N : Type 0} {ks : Specs K} {vs : Specs V} {ts : Specs P} {wt
       (there.0, there.1, ap (number_at w (index_bytes m)) (sym there.2) ∙ ap (λ (x : List ℕ). number_at w x h.pos) (sym (read_there h item)))
 
   -- the index at the found position is the one that the map finds
-  pub place_is : (result : Option (View P)) (hash : ℕ) (accept : ℕ → Bool)
+  pub index_is : (result : Option (View P)) (hash : ℕ) (accept : ℕ → Bool)
       → pos_of_found result ≡ pos_found generic_kind w ts.spec.size (table_bytes t) (table_pos t) hash (λ q. accept (number_at w (index_bytes m) q))
       → option_map (number_at w (index_bytes m)) (pos_of_found result)
       ≡ option_map (number_at w (index_bytes m)) (pos_found generic_kind w (byte_len w) (index_bytes m) (index_pos m) hash (λ q. accept (number_at w (index_bytes m) q)))
-  place_is result hash accept found =
+  index_is result hash accept found =
       ap (option_map (number_at w (index_bytes m))) (found ∙ found_is hash (λ q. accept (number_at w (index_bytes m) q)))
 
   module _ (key_hash : List ℕ → ℕ → ℕ) (homes : List ℕ) (written : IndexWrittenAt w s.size key_hash (index_bytes m) (index_pos m) homes) where
     abbrev hashes : List ℕ
-    hashes = map (λ i. key_hash (index_bytes m) (key_pos m i)) (places_of (index_len m))
+    hashes = map (λ i. key_hash (index_bytes m) (key_pos m i)) (indices_of (index_len m))
 
     pub written_there : WrittenAt w (table_bytes t) (table_pos t) hashes homes
     written_there = subst (λ q. WrittenAt w (table_bytes t) q hashes homes) (sym at.1) (subst (λ (x : List ℕ). WrittenAt w x (index_pos m) hashes homes) (sym bytes_same) written.table)
@@ -133,22 +133,22 @@ module _ {K V H W P N : Type 0} {ks : Specs K} {vs : Specs V} {ts : Specs P} {wt
     under_there hash accept under i h accepted =
         let n = index_len m in
         let items = home_positions w (byte_len w) (index_bytes m) (index_pos m) homes in
-        let count : length hashes ≡ n = length-map (places_of n) (λ j. key_hash (index_bytes m) (key_pos m j)) ∙ length-range_with_len 0 n in
+        let count : length hashes ≡ n = length-map (indices_of n) (λ j. key_hash (index_bytes m) (key_pos m j)) ∙ length-range_with_len 0 n in
         let below : i < n = omega (arith, h, count) in
-        let many : length items ≡ n = sym (length-map items (number_at w (index_bytes m))) ∙ ap length written.places ∙ length-range_with_len 0 n in
+        let many : length items ≡ n = sym (length-map items (number_at w (index_bytes m))) ∙ ap length written.indices ∙ length-range_with_len 0 n in
         let read : number_at w (index_bytes m) (slice_index items i) ≡ i =
-        sym (get_or-map (number_at w (index_bytes m)) items i 0 0 (omega (arith, below, many))) ∙ ap (λ (xs : List ℕ). slice_index xs i) written.places ∙ place_read n i below in
+        sym (get_or-map (number_at w (index_bytes m)) items i 0 0 (omega (arith, below, many))) ∙ ap (λ (xs : List ℕ). slice_index xs i) written.indices ∙ index_read n i below in
         let here : accept i ≡ true = sym (ap accept (ap (λ (xs : List ℕ). number_at w (index_bytes m) (slice_index xs i)) (homes_are homes) ∙ read)) ∙ accepted in
-        get_or-map (λ j. key_hash (index_bytes m) (key_pos m j)) (places_of n) i 0 0 (omega (arith, below, length-range_with_len 0 n))
-        ∙ ap (λ j. key_hash (index_bytes m) (key_pos m j)) (place_read n i below) ∙ under i below here
+        get_or-map (λ j. key_hash (index_bytes m) (key_pos m j)) (indices_of n) i 0 0 (omega (arith, below, length-range_with_len 0 n))
+        ∙ ap (λ j. key_hash (index_bytes m) (key_pos m j)) (index_read n i below) ∙ under i below here
 
     pub first_is : (result : Option (View P)) (accept : ℕ → Bool)
         → pos_of_found result ≡ find (λ q. accept (number_at w (index_bytes m) q)) (home_positions w ts.spec.size (table_bytes t) (table_pos t) homes)
-        → option_map (number_at w (index_bytes m)) (pos_of_found result) ≡ find accept (places_of (index_len m))
+        → option_map (number_at w (index_bytes m)) (pos_of_found result) ≡ find accept (indices_of (index_len m))
     first_is result accept found =
         ap (option_map (number_at w (index_bytes m))) (found ∙ ap (find (λ q. accept (number_at w (index_bytes m) q))) (homes_are homes))
         ∙ find-map (number_at w (index_bytes m)) accept (home_positions w (byte_len w) (index_bytes m) (index_pos m) homes)
-        ∙ ap (find accept) written.places
+        ∙ ap (find accept) written.indices
 
   -- If the table compares each item by the key at its index, its lookup finds the same as one
   -- in the map that compares keys.
@@ -162,18 +162,18 @@ module _ {K V H W P N : Type 0} {ks : Specs K} {vs : Specs V} {ts : Specs P} {wt
         let x = post_at_key h r is in
         compares (number_at w (bytes_of h) h.pos) x.0 r x.1 x.2 ∙ ap (λ (y : List ℕ). accept (number_at w y h.pos)) (read_there h item)
 
-    pub finds_place : FindsFound Post generic_kind t hash (pos_of_found result)
+    pub finds_index : FindsFound Post generic_kind t hash (pos_of_found result)
         → option_map (number_at w (index_bytes m)) (pos_of_found result) ≡ index_found w (index_bytes m) (index_pos m) hash accept
-    finds_place found = place_is result hash accept (found accept_at items_compare)
+    finds_index found = index_is result hash accept (found accept_at items_compare)
 
     -- it reads as many strides
-    pub counts_place : (query_hash before after : ℕ) → hash ≡ query_hash → CountsEnd Post generic_kind t hash before after
+    pub counts_index : (query_hash before after : ℕ) → hash ≡ query_hash → CountsEnd Post generic_kind t hash before after
         → after ≡ before + index_strides w (index_bytes m) (index_pos m) query_hash accept
-    counts_place query_hash before after under counts =
+    counts_index query_hash before after under counts =
         counts accept_at items_compare ∙ ap (λ n. before + n) (end_is hash accept_at ∙ ap (λ h. index_strides w (index_bytes m) (index_pos m) h accept) under)
 
-    pub finds_first_place : (key_hash : List ℕ → ℕ → ℕ) → AreUnderHash (index_of m) hash key_hash accept → FindsFirst Post t hash (pos_of_found result)
-        → (homes : List ℕ) → IsWritten (index_of m) key_hash homes → option_map (number_at w (index_bytes m)) (pos_of_found result) ≡ find accept (places_of (index_len m))
-    finds_first_place key_hash under found homes written =
+    pub finds_first_index : (key_hash : List ℕ → ℕ → ℕ) → AreUnderHash (index_of m) hash key_hash accept → FindsFirst Post t hash (pos_of_found result)
+        → (homes : List ℕ) → IsWritten (index_of m) key_hash homes → option_map (number_at w (index_bytes m)) (pos_of_found result) ≡ find accept (indices_of (index_len m))
+    finds_first_index key_hash under found homes written =
         first_is key_hash homes written result accept
         (found (hashes key_hash homes written) homes accept_at (written_there key_hash homes written) items_compare (under_there key_hash homes written hash accept under))

@@ -9,7 +9,7 @@ use Rattle.rkyv_base.specs.View.{pos_of}
 use Rattle.rkyv_base.specs.declared.view.View.{View}
 use Rattle.rkyv_table.specs.Table.Header.{len_at}
 use Rattle.rkyv_table.proofs.Moved.{moved}
-use Rattle.rkyv_index.specs.Index.{ComparesKeysBy, AreUnderHash, FindsFirstKey, FindsFirstPlace, FindsKey, FindsPlace, IsKeyOf, index_bytes, index_of, index_pos}
+use Rattle.rkyv_index.specs.Index.{AreUnderHash, ComparesKeysBy, FindsFirstIndex, FindsFirstKey, FindsIndex, FindsKey, IsKeyOf, index_bytes, index_of, index_pos}
 use Rattle.rkyv_index.specs.Index.SealedIndex.{IsKeyAt, index_at}
 use Rattle.rkyv_index.specs.Index.ValueWrites.{pair_at}
 use Rattle.rkyv_index.specs.declared.map.ArchivedIndexMap.{ArchivedIndexMap}
@@ -44,12 +44,12 @@ module _ {K V H W : Type 0} {ks : Specs K} {vs : Specs V} {wt : Words W} (m : Ar
   under_read hash key_hash accept under = moved (λ c q. AreUnderHash (index_at {K = K} w k v c q) hash key_hash accept) b (index_bytes m) p (index_pos m) (sym bytes) (sym pos) under
 
   -- a property of the index that is found in one is one for the other
-  pub finds_read : (hash : ℕ) (accept : ℕ → Bool) (P : Option ℕ → Type 0) → FindsPlace (index_of m) hash accept P → FindsPlace (index_at {K = K} w k v b p) hash accept P
-  finds_read hash accept P = as_read (λ d r. FindsPlace (index_at {K = K} w k v d r) hash accept P)
+  pub finds_read : (hash : ℕ) (accept : ℕ → Bool) (P : Option ℕ → Type 0) → FindsIndex (index_of m) hash accept P → FindsIndex (index_at {K = K} w k v b p) hash accept P
+  finds_read hash accept P = as_read (λ d r. FindsIndex (index_at {K = K} w k v d r) hash accept P)
 
-  pub finds_first_read : (key_hash : List ℕ → ℕ → ℕ) (accept : ℕ → Bool) (P : Option ℕ → Type 0) → FindsFirstPlace (index_of m) key_hash accept P
-      → FindsFirstPlace (index_at {K = K} w k v b p) key_hash accept P
-  finds_first_read key_hash accept P = as_read (λ d r. FindsFirstPlace (index_at {K = K} w k v d r) key_hash accept P)
+  pub finds_first_read : (key_hash : List ℕ → ℕ → ℕ) (accept : ℕ → Bool) (P : Option ℕ → Type 0) → FindsFirstIndex (index_of m) key_hash accept P
+      → FindsFirstIndex (index_at {K = K} w k v b p) key_hash accept P
+  finds_first_read key_hash accept P = as_read (λ d r. FindsFirstIndex (index_at {K = K} w k v d r) key_hash accept P)
 
   module _ (fits : List ℕ → ℕ → Bool) (P : Option ℕ → Type 0) where
     pub finds_key_read : (hash : ℕ) → FindsKey (index_of m) hash fits P → FindsKey (index_at {K = K} w k v b p) hash fits P

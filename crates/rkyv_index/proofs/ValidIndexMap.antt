@@ -3,11 +3,11 @@ use Rattle.std.proofs.Common.{◌≡◌, ℕ, zero, suc, ◌+◌, ◌*◌, ◌<�
 use Rattle.std.specs.Prelude.{unsigned_abs}
 use Rattle.std.specs.Int.{Width, byte_len}
 use Rattle.std.specs.List.{All}
-use Rattle.std.proofs.lemmas.List.Elements.{All-contains, All-cons, All-nil}
+use Rattle.std.proofs.lemmas.List.Elements.{All-cons, All-contains, All-nil}
 use Rattle.rkyv_base.specs.Bytes.{number_at}
-use Rattle.rkyv_base.specs.Layout.{IsPlace}
+use Rattle.rkyv_base.specs.Layout.{IsIndexEncoding}
 use Rattle.rkyv_base.specs.Scalar.{Encoding, IsScalar}
-use Rattle.rkyv_base.specs.ElementSpec.{IsElement, ElementSpec, Viewable}
+use Rattle.rkyv_base.specs.ElementSpec.{ElementSpec, IsElement, Viewable}
 use Rattle.rkyv_base.specs.Lemmas.ElementSpec.{valid_at}
 use Rattle.rkyv_base.specs.Text.{IsArchiveWord}
 use Rattle.rkyv_table.specs.Table.Header.{cap_at, len_at}
@@ -19,9 +19,9 @@ use Rattle.rkyv_table.proofs.ValidTable.{item_viewable}
 use Rattle.rkyv_table.proofs.Walks.{full_walked}
 use Rattle.rkyv_index.specs.Index.{pair_positions, row}
 use Rattle.rkyv_index.specs.Index.IndexLayout.{entries_pos, pair_pos}
-use Rattle.rkyv_index.specs.Index.IndexLayout.{IsValidIndex, decode_entries, entry_at, index_spec, place_spec}
-use Rattle.rkyv_index.specs.Lemmas.IndexLaws.{All-unmap, each_holds, entry_inside, place_element}
-use Rattle.rkyv_index.specs.Lemmas.PlaceSpecs.{number_table_viewable}
+use Rattle.rkyv_index.specs.Index.IndexLayout.{IsValidIndex, decode_entries, entry_at, index_spec, stored_index_spec}
+use Rattle.rkyv_index.specs.Lemmas.IndexLaws.{All-unmap, each_is_valid, entry_inside, stored_index_element}
+use Rattle.rkyv_index.specs.Lemmas.IndexSpecs.{number_table_viewable}
 use Rattle.rkyv_index.proofs.Checking.{entry_aligned}
 
 -- a property of each value of a row is one of all values of the row
@@ -36,13 +36,13 @@ module _ (w : Width) (kind : IsArchiveWord w) (s : ElementSpec) (law : IsElement
   held = v.valid.1
 
   -- the table of the map is valid
-  pub table_there : Viewable (table_spec w (place_spec w)) b p
+  pub table_there : Viewable (table_spec w (stored_index_spec w)) b p
   table_there =
       let inside = v.inside in
       record {
         inside = omega arith;
         aligned = v.aligned;
-        valid = valid_at (table_spec w (place_spec w)) (table_element w kind (place_spec w) (place_element w kind)) b p 0 p held.middle (omega arith) (omega arith) held.table;
+        valid = valid_at (table_spec w (stored_index_spec w)) (table_element w kind (stored_index_spec w) (stored_index_element w kind)) b p 0 p held.middle (omega arith) (omega arith) held.table;
       }
 
   -- the position at which the entries begin
@@ -59,7 +59,7 @@ module _ (w : Width) (kind : IsArchiveWord w) (s : ElementSpec) (law : IsElement
   pub entry_viewable : (i : ℕ) → i < len_at w b p → Viewable s b (pair_pos w s.size b p i)
   entry_viewable i below =
       let begin = held.entries.begin in
-      let r = each_holds s law (entry_at s.size begin) b begin 0 (len_at w b p) held.middle held.entries.last i held.entries.part.above held.entries.hold (omega arith) (omega (arith, below)) in
+      let r = each_is_valid s law (entry_at s.size begin) b begin 0 (len_at w b p) held.middle held.entries.last i held.entries.part.above held.entries.hold (omega arith) (omega (arith, below)) in
       let u = entry_inside s.size begin (len_at w b p) i below in
       let room = held.entries.part.below in
       let inside = v.inside in
@@ -73,15 +73,15 @@ module _ (w : Width) (kind : IsArchiveWord w) (s : ElementSpec) (law : IsElement
   entries_viewable = All-row (Viewable s b) s.size (entries_pos w b p) (len_at w b p) entry_viewable
 
   -- the index in a full bucket is inside the archive, and below the length
-  pub place_inside : (i : ℕ) → IsWalked w b p i → item_at w (byte_len w) b p i + byte_len w ≤ length b
-  place_inside i walked = (item_viewable w (place_spec w) (place_element w kind) b p table_there i walked).inside
+  pub index_inside : (i : ℕ) → IsWalked w b p i → item_at w (byte_len w) b p i + byte_len w ≤ length b
+  index_inside i walked = (item_viewable w (stored_index_spec w) (stored_index_element w kind) b p table_there i walked).inside
 
-  pub place_below : (i : ℕ) → IsWalked w b p i → number_at w b (item_at w (byte_len w) b p i) < len_at w b p
-  place_below i walked =
+  pub index_below : (i : ℕ) → IsWalked w b p i → number_at w b (item_at w (byte_len w) b p i) < len_at w b p
+  index_below i walked =
       All-contains (λ j. number_at w b (item_at w (byte_len w) b p j) < len_at w b p) (walk (table_controls w b p) (cap_at w b p)) i
       (All-unmap (λ q. number_at w b q < len_at w b p) (item_at w (byte_len w) b p) (walk (table_controls w b p) (cap_at w b p)) held.below)
       (full_walked (cap_at w b p) (table_controls w b p) i walked)
 
-  module _ {V : Type 0} (ps : ElementSpec) (e : Encoding V) (pk : IsScalar ps e) (is : IsPlace w e) where
-    pub table_of_places : Viewable (table_spec w ps) b p
-    table_of_places = number_table_viewable w ps e pk is b p table_there
+  module _ {V : Type 0} (ps : ElementSpec) (e : Encoding V) (pk : IsScalar ps e) (is : IsIndexEncoding w e) where
+    pub table_of_indices : Viewable (table_spec w ps) b p
+    table_of_indices = number_table_viewable w ps e pk is b p table_there

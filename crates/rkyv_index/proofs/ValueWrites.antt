@@ -17,18 +17,18 @@ use Rattle.rkyv_base.specs.Format.{RepresentsLocally}
 use Rattle.rkyv_base.specs.Pairs.{PairRepresents}
 use Rattle.rkyv_base.specs.Lemmas.Pairs.{pair_local}
 use Rattle.rkyv_base.specs.Sealing.{Keeps, Outside, Sealed, value_pos}
-use Rattle.rkyv_base.specs.ElementSpec.{IsElement, ElementSpec, Viewable}
+use Rattle.rkyv_base.specs.ElementSpec.{ElementSpec, IsElement, Viewable}
 use Rattle.rkyv_base.specs.Text.{IsArchiveWord}
-use Rattle.rkyv_base.proofs.Sealing.{entry_kept, valid_outside, same_outside, sealed_wider, viewable_kept}
+use Rattle.rkyv_base.proofs.Sealing.{entry_kept, same_outside, sealed_wider, valid_outside, viewable_kept}
 use Rattle.rkyv_keys.specs.QueryLaws.{RestsOnKeys}
 use Rattle.rkyv_table.specs.Table.Header.{cap_at, len_at}
 use Rattle.rkyv_table.specs.Controls.Finding.{found}
 use Rattle.rkyv_table.specs.Controls.Numbers.{capacity}
-use Rattle.rkyv_table.specs.Lemmas.ItemPositions.{HoldsWithin}
-use Rattle.rkyv_table.specs.Lemmas.PlaceLaws.{AllBelow}
+use Rattle.rkyv_table.specs.Lemmas.ItemPositions.{IsValidWithin}
+use Rattle.rkyv_table.specs.Lemmas.ValidItemLaws.{AllBelow}
 use Rattle.rkyv_table.specs.Lemmas.SameHeader.{cap_same, len_same}
 use Rattle.rkyv_table.specs.Lemmas.TableLaws.{table_element}
-use Rattle.rkyv_table.specs.Table.Places.{AllHold}
+use Rattle.rkyv_table.specs.Table.ValidItems.{AreValidAt}
 use Rattle.rkyv_table.specs.Table.Positions.{IsWalked, item_at, table_controls}
 use Rattle.rkyv_table.specs.Table.SealedTable.{RestsOnKey, SameValue, WritesValue}
 use Rattle.rkyv_table.proofs.Lists.{set_each}
@@ -37,8 +37,8 @@ use Rattle.rkyv_table.proofs.Misplaced.{found_agree, found_walked}
 use Rattle.rkyv_table.proofs.Walks.{walked_full}
 use Rattle.rkyv_index.specs.Index.{fits_in, hash_at, index_found}
 use Rattle.rkyv_index.specs.Index.IndexFormat.{IndexRepresents, IndexWrittenAt}
-use Rattle.rkyv_index.specs.Index.IndexLayout.{EntriesIn, IsValidIndex, entries_pos, decode_entries, entry_at, index_spec, pair_pos, place_spec, places_of}
-use Rattle.rkyv_index.specs.Lemmas.IndexLaws.{each_holds, entry_inside, head_same, index_again, place_element, place_same_at, places_below, decoded_same}
+use Rattle.rkyv_index.specs.Index.IndexLayout.{EntriesIn, IsValidIndex, decode_entries, entries_pos, entry_at, index_spec, indices_of, pair_pos, stored_index_spec}
+use Rattle.rkyv_index.specs.Lemmas.IndexLaws.{decoded_same, each_is_valid, entry_inside, head_same, index_again, index_same_at, indices_below, stored_index_element}
 use Rattle.rkyv_table.specs.Lemmas.SameControls.{same_controls}
 use Rattle.rkyv_scan.specs.Hash.{Hasher, HasherCall, hash_of_calls}
 use Rattle.rkyv_keys.specs.Equality.{Comparison}
@@ -46,7 +46,7 @@ use Rattle.rkyv_keys.specs.Keys.{IsKey}
 use Rattle.rkyv_index.specs.Lemmas.IndexLocal.{HashLocal, written_again}
 use Rattle.rkyv_index.specs.Index.SealedIndex.{IsPairPos}
 use Rattle.rkyv_index.specs.Index.ValueWrites.{KeepsEntries, KeepsIndexMap, index_kind, pair_at}
-use Rattle.rkyv_index.proofs.ValidIndexMap.{begin_is, entries_inside, entry_viewable, place_below, table_there}
+use Rattle.rkyv_index.proofs.ValidIndexMap.{begin_is, entries_inside, entry_viewable, index_below, table_there}
 
 -- the hash of a valid key depends only on the bytes of the key and its parts
 pub hash_local : {State : Type 0} (hasher : Hasher State) {k : ElementSpec} {same : Comparison} {calls : List ℕ → ℕ → List HasherCall} → IsKey k same calls → HashLocal k (hash_at hasher calls)
@@ -69,7 +69,7 @@ entries_apart size begin i j ne = elim (cases_lt i j) [
 -- Several valid values in order are valid after a write of one of them that keeps it valid.
 -- That one shares no byte with the others, and its own bytes are behind all parts.
 all_kept : (s : ElementSpec) → IsElement s → (at : ℕ → ℕ) (b c : List ℕ) (n hi i : ℕ) → Sealed b (at i) s.size c → Keeps s b c (at i) → hi ≤ at i
-    → ((j : ℕ) → j < n → j ≢ i → Outside (at i) s.size (at j) (at j + s.size)) → (is : List ℕ) (lo l : ℕ) → lo ≤ hi → AllBelow n is → AllHold s at b hi is lo l → AllHold s at c hi is lo l
+    → ((j : ℕ) → j < n → j ≢ i → Outside (at i) s.size (at j) (at j + s.size)) → (is : List ℕ) (lo l : ℕ) → lo ≤ hi → AllBelow n is → AreValidAt s at b hi is lo l → AreValidAt s at c hi is lo l
 all_kept s law at b c n hi i sealed keeps above apart [] lo l o below h = h
 all_kept s law at b c n hi i sealed keeps above apart (j ∷ is) lo l o below h =
     let k : (lo ≤ h.0) × (h.0 ≤ hi) = law.rest_in_range b (at j) lo hi h.0 o h.1 in
@@ -119,11 +119,11 @@ module _ (w : Width) (kind : IsArchiveWord w) (k v : ElementSpec) (kl : IsElemen
       omega (arith, u.1, e)
 
   -- an entry is valid with its parts before the entries
-  entry_parts : (i : ℕ) → i < len_at w b p → HoldsWithin S b (at i) held.middle (entries_pos w b p) held.entries.last
+  entry_parts : (i : ℕ) → i < len_at w b p → IsValidWithin S b (at i) held.middle (entries_pos w b p) held.entries.last
   entry_parts i below =
       let begin = held.entries.begin in
-      let r = each_holds S law (entry_at S.size begin) b begin 0 (len_at w b p) held.middle held.entries.last i held.entries.part.above held.entries.hold (omega arith) (omega (arith, below)) in
-      subst (λ n. HoldsWithin S b (entry_at S.size n i) held.middle n held.entries.last) (sym begins) r
+      let r = each_is_valid S law (entry_at S.size begin) b begin 0 (len_at w b p) held.middle held.entries.last i held.entries.part.above held.entries.hold (omega arith) (omega (arith, below)) in
+      subst (λ n. IsValidWithin S b (entry_at S.size n i) held.middle n held.entries.last) (sym begins) r
 
   -- the value at index `i` is written
   module _ (c : List ℕ) (i : ℕ) (below : i < len_at w b p) (writes : WritesValue k v b c (at i)) where
@@ -145,8 +145,8 @@ module _ (w : Width) (kind : IsArchiveWord w) (k v : ElementSpec) (kl : IsElemen
     head : AgreeOn b c p (p + 3 * byte_len w)
     head = head_same w b c p header_same
 
-    entries_hold : (lo hi l : ℕ) → EntriesIn S b (decode_entries w b p) (len_at w b p) lo hi l → EntriesIn S c (decode_entries w b p) (len_at w b p) lo hi l
-    entries_hold lo hi l h =
+    entries_are_valid : (lo hi l : ℕ) → EntriesIn S b (decode_entries w b p) (len_at w b p) lo hi l → EntriesIn S c (decode_entries w b p) (len_at w b p) lo hi l
+    entries_are_valid lo hi l h =
         let n = len_at w b p in
         let begin = h.begin in
         let is : entries_pos w b p ≡ begin = ap unsigned_abs (sym h.part.begins) in
@@ -156,16 +156,16 @@ module _ (w : Width) (kind : IsArchiveWord w) (k v : ElementSpec) (kl : IsElemen
           last = h.last;
           hold = all_kept S law (entry_at S.size begin) b c n begin i
               (subst (λ m. Sealed b (entry_at S.size m i) S.size c) is wider) (subst (λ m. Keeps S b c (entry_at S.size m i)) is entry_keeps)
-              (omega arith) (λ j less ne. entries_apart S.size begin i j ne) (places_of n) lo h.last h.part.above (places_below n) h.hold;
+              (omega arith) (λ j less ne. entries_apart S.size begin i j ne) (indices_of n) lo h.last h.part.above (indices_below n) h.hold;
           ends = h.ends;
         }
 
-    index_holds : Keeps (index_spec w S) b c p
-    index_holds lo hi l o o' h =
-        let t = (table_element w kind (place_spec w) (place_element w kind)).rest_in_range b p lo hi h.middle o h.table in
+    index_is_valid : Keeps (index_spec w S) b c p
+    index_is_valid lo hi l o o' h =
+        let t = (table_element w kind (stored_index_spec w) (stored_index_element w kind)).rest_in_range b p lo hi h.middle o h.table in
         let is : entries_pos w b p ≡ h.entries.begin = ap unsigned_abs (sym h.entries.part.begins) in
         let above = h.entries.part.above in
-        index_again w kind S law b c p lo hi l o header_same h (front_same lo h.middle t.0 (omega (arith, above, is))) (entries_hold h.middle hi l h.entries)
+        index_again w kind S law b c p lo hi l o header_same h (front_same lo h.middle t.0 (omega (arith, above, is))) (entries_are_valid h.middle hi l h.entries)
 
     entry_same : (j : ℕ) → j ≢ i → AgreeOn b c (at j) (at j + S.size)
     entry_same j ne = same_outside b (at i) S.size c wider (at j) (at j + S.size) (omega arith) (entries_apart S.size (entries_pos w b p) i j ne)
@@ -197,7 +197,7 @@ module _ (w : Width) (kind : IsArchiveWord w) (k v : ElementSpec) (kl : IsElemen
 
     pub entries_kept : KeepsEntries w k v b c p i
     entries_kept = record {
-      is_valid = index_holds;
+      is_valid = index_is_valid;
       header = header_same;
       front = front_same 0 (entries_pos w b p) (omega arith) (omega arith);
       keys = key_same;
@@ -213,13 +213,13 @@ module _ (w : Width) (kind : IsArchiveWord w) (k v : ElementSpec) (kl : IsElemen
     table_below = let above = held.entries.part.above in omega (arith, above, begins)
 
     controls_same : 0 < cap_at w b p → table_controls w b p ≡ table_controls w c p
-    controls_same = same_controls w (place_spec w) (place_element w kind) b c p 0 p held.middle (omega arith) held.table head (front_same 0 held.middle (omega arith) table_below)
+    controls_same = same_controls w (stored_index_spec w) (stored_index_element w kind) b c p 0 p held.middle (omega arith) held.table head (front_same 0 held.middle (omega arith) table_below)
 
     read_same : (j : ℕ) → IsWalked w b p j → number_at w b (item_at w (byte_len w) b p j) ≡ number_at w c (item_at w (byte_len w) c p j)
-    read_same = place_same_at w kind b c p 0 p held.middle (omega arith) head (front_same 0 held.middle (omega arith) table_below) held.table
+    read_same = index_same_at w kind b c p 0 p held.middle (omega arith) head (front_same 0 held.middle (omega arith) table_below) held.table
 
     some_buckets : 0 < cap_at w b p
-    some_buckets = some_cap w (place_spec w) (place_element w kind) b p (table_there w kind S law b p view) (omega (arith, below))
+    some_buckets = some_cap w (stored_index_spec w) (stored_index_element w kind) b p (table_there w kind S law b p view) (omega (arith, below))
 
     module _ (hash : ℕ) (small : hash < 2 ^ 64) (fits : List ℕ → ℕ → Bool) (rests : RestsOnKey k fits) where
       abbrev fits_bucket : List ℕ → ℕ → Bool
@@ -231,7 +231,7 @@ module _ (w : Width) (kind : IsArchiveWord w) (k v : ElementSpec) (kl : IsElemen
       fits_same : (j : ℕ) → IsWalked w b p j → fits_bucket c j ≡ fits_bucket b j
       fits_same j there =
           let n = number_at w b (item_at w (byte_len w) b p j) in
-          let inside = place_below w kind S law b p view j there in
+          let inside = index_below w kind S law b p view j there in
           let key = viewable_key k v kl vl b (at n) (entry_there n inside) in
           ap (λ m. fits c (pair_pos w S.size c p m)) (sym (read_same j there)) ∙ ap (fits c) (positions_same n)
           ∙ rests b c (at n) key.valid (key_same n inside)
@@ -243,7 +243,7 @@ module _ (w : Width) (kind : IsArchiveWord w) (k v : ElementSpec) (kl : IsElemen
           ∙ ap (λ n. f (table_controls w b p) n (len_at w c p) hash (fits_bucket c)) (sym (cap_same w b c p head))
           ∙ ap (λ n. f (table_controls w b p) (cap_at w b p) n hash (fits_bucket c)) (sym (len_same w b c p head))
           ∙ found_agree generic_kind (cap_at w b p) (len_at w b p) hash (table_controls w b p) word_lawful
-          (controls_accepted w (place_spec w) (place_element w kind) b p (table_there w kind S law b p view) some_buckets) small (fits_bucket c) (fits_bucket b)
+          (controls_accepted w (stored_index_spec w) (stored_index_element w kind) b p (table_there w kind S law b p view) some_buckets) small (fits_bucket c) (fits_bucket b)
           (λ j there. fits_same j (walked_full (cap_at w b p) (table_controls w b p) j there))
 
       lookup_same : index_found w c p hash (fits_in w k v c p fits) ≡ index_found w b p hash (fits_in w k v b p fits)
@@ -251,7 +251,7 @@ module _ (w : Width) (kind : IsArchiveWord w) (k v : ElementSpec) (kl : IsElemen
           let of : List ℕ → Option ℕ → Option ℕ = λ d o. option_map (number_at w d) (option_map (item_at w (byte_len w) d p) o) in
           ap (of c) bucket_same ∙ read_alike (number_at w c) (item_at w (byte_len w) c p) (number_at w b) (item_at w (byte_len w) b p) bucket (λ j is.
           let walked = found_walked generic_kind (cap_at w b p) (len_at w b p) hash (table_controls w b p) word_lawful
-          (controls_accepted w (place_spec w) (place_element w kind) b p (table_there w kind S law b p view) some_buckets) small (fits_bucket b) j is in
+          (controls_accepted w (stored_index_spec w) (stored_index_element w kind) b p (table_there w kind S law b p view) some_buckets) small (fits_bucket b) j is in
           sym (read_same j (walked_full (cap_at w b p) (table_controls w b p) j walked.1)))
 
     -- ---- written index maps, and index maps that represent a list
@@ -270,7 +270,7 @@ module _ (w : Width) (kind : IsArchiveWord w) (k v : ElementSpec) (kl : IsElemen
       pub index_kept : KeepsIndexMap (index_kind w k v key_hash) b c p i
       index_kept = record {
         entries = entries_kept;
-        valid = viewable_kept (index_spec w S) b c p writes.sealed.same_length index_holds view;
+        valid = viewable_kept (index_spec w S) b c p writes.sealed.same_length index_is_valid view;
         len = sym (len_same w b c p head);
         positions = positions_same;
         hashes = hash_same;

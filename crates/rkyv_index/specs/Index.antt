@@ -16,7 +16,7 @@ pub mod Writing
 use Rattle.rkyv_base.specs.declared.element.HasSpec.{Ghosts as Specs}
 use Rattle.rkyv_base.specs.declared.width.Word.{Ghosts as Words}
 use Rattle.std.specs.Prelude.{◌≡◌, ℕ, suc, zero, ◌+◌, ◌/◌, ◌<◌, ◌≤◌, ◌↔◌, List, [], ◌∷◌, Bool, true}
-use Rattle.std.specs.Prelude.{Option, Some, None, IsSome, IsTrue, MatchOption, length}
+use Rattle.std.specs.Prelude.{IsSome, IsTrue, MatchOption, None, Option, Some, length}
 use Rattle.std.specs.Borrow.{Bor}
 use Rattle.std.specs.Int.{Width, byte_len}
 use Rattle.std.specs.List.{find}
@@ -36,7 +36,7 @@ use Rattle.rkyv_table.specs.Table.Positions.{IsWalked, item_at, lookup_end, pos_
 use Rattle.rkyv_table.specs.Table.Reading.{FindsItem, IsItem}
 use Rattle.rkyv_table.specs.declared.table.ArchivedHashTable.{ArchivedHashTable}
 use Rattle.rkyv_index.specs.Index.IndexFormat.{IndexWrittenAt}
-use Rattle.rkyv_index.specs.Index.IndexLayout.{entries_pos, pair_pos, places_of}
+use Rattle.rkyv_index.specs.Index.IndexLayout.{entries_pos, indices_of, pair_pos}
 use Rattle.rkyv_index.specs.declared.map.ArchivedIndexMap.{ArchivedIndexMap}
 use Rattle.rkyv_index.specs.declared.map.read.entries.Entries.{Entries}
 
@@ -151,35 +151,35 @@ module _ {K V H W : Type 0} {ks : Specs K} {vs : Specs V} {wt : Words W} where
       + probe_capacity (cap_at wt.word (index_bytes m) (index_pos m)) / 16
 
 -- `item`: a position inside its archive, with an index below the length of the map at `m`
-abbrev pub IsPlaceOf : {M P : Type 0} → Width → View M → View P → Type 0
-IsPlaceOf w m item = (pos_of item + byte_len w ≤ length (bytes_of item))
+abbrev pub IsIndexOf : {M P : Type 0} → Width → View M → View P → Type 0
+IsIndexOf w m item = (pos_of item + byte_len w ≤ length (bytes_of item))
     × (number_at w (bytes_of item) (pos_of item) < len_at w (bytes_of m) (pos_of m))
 
 -- the index at the view `item`
-abbrev pub place_at : {P : Type 0} → Width → View P → ℕ
-place_at w item = number_at w (bytes_of item) (pos_of item)
+abbrev pub stored_index : {P : Type 0} → Width → View P → ℕ
+stored_index w item = number_at w (bytes_of item) (pos_of item)
 
 -- `item` is inside its archive, and the condition `pre` is met for the index there
-abbrev pub CanComparePlace : {P : Type 0} → Width → (ℕ → Type 0) → View P → Type 0
-CanComparePlace w pre item = (pos_of item + byte_len w ≤ length (bytes_of item))
-    × ((i : ℕ) → i ≡ place_at w item → pre i)
+abbrev pub CanCompareIndex : {P : Type 0} → Width → (ℕ → Type 0) → View P → Type 0
+CanCompareIndex w pre item = (pos_of item + byte_len w ≤ length (bytes_of item))
+    × ((i : ℕ) → i ≡ stored_index w item → pre i)
 
 -- the condition `pre` is met for the index at each item of a table of indices
-abbrev pub CanComparePlaces : {P W : Type 0} {ts : Specs P} {wt : Words W} → (ℕ → Type 0)
+abbrev pub CanCompareIndices : {P W : Type 0} {ts : Specs P} {wt : Words W} → (ℕ → Type 0)
     → ArchivedHashTable P W ts wt → Type 0
-CanComparePlaces {P} {wt = wt} pre t = (item : View P) → IsItem t item
-    → CanComparePlace wt.word pre item
+CanCompareIndices {P} {wt = wt} pre t = (item : View P) → IsItem t item
+    → CanCompareIndex wt.word pre item
 
 -- `post` is true of the index at `item` and of `r`
-abbrev pub ComparesPlaceBy : {P : Type 0} → Width → (ℕ → Bool → Type 0) → View P → Bool → Type 0
-ComparesPlaceBy w post item r = (i : ℕ) × (i ≡ place_at w item) × post i r
+abbrev pub ComparesIndexBy : {P : Type 0} → Width → (ℕ → Bool → Type 0) → View P → Bool → Type 0
+ComparesIndexBy w post item r = (i : ℕ) × (i ≡ stored_index w item) × post i r
 
 -- `result`: the index at the item that a lookup by `post` finds in a table of indices
 pub record FindsIndexIn {P W : Type 0} {ts : Specs P} {wt : Words W} (post : ℕ → Bool → Type 0)
     (t : ArchivedHashTable P W ts wt) (hash : ℕ) (result : Option ℕ) : Type 0 where
   pub item : Option (View P)
-  pub found : FindsItem (ComparesPlaceBy wt.word post) generic_kind t hash item
-  pub is : result ≡ option_map (place_at wt.word) item
+  pub found : FindsItem (ComparesIndexBy wt.word post) generic_kind t hash item
+  pub is : result ≡ option_map (stored_index wt.word) item
 
 -- `key`: view of the key at index `i` of the map at `m`
 pub record IsKeyIn {M K : Type 0} (w : Width) (k v : ElementSpec) (m : View M) (i : ℕ)
@@ -195,10 +195,10 @@ abbrev pub CanCompareKeysIn : {M K : Type 0} → Width → ElementSpec → Eleme
     → Type 0
 CanCompareKeysIn {M} {K} w k v m pre = (i : ℕ) (key : View K) → IsKeyIn w k v m i key → pre key
 
--- `result` is at the index `place`, or both are `None`
+-- `result` is at `index`, or both are `None`
 abbrev pub MatchesAt : {X : Type 0} → (ℕ → X → Type 0) → Option X → Option ℕ → Type 0
-MatchesAt {X} Related result place =
-    MatchOption place (result ≡ None) (λ i. (x : X) × (result ≡ Some x) × Related i x)
+MatchesAt {X} Related result index =
+    MatchOption index (result ≡ None) (λ i. (x : X) × (result ≡ Some x) × Related i x)
 
 -- the key at index `i` of the map at `p` fits
 abbrev pub fits_in : Width → ElementSpec → ElementSpec → List ℕ → ℕ → (List ℕ → ℕ → Bool) → ℕ → Bool
@@ -229,8 +229,8 @@ index_of {ks = ks} {vs} {wt} m = record {
 
 module _ {K : Type 0} (m : Index K) where
   -- the indices of the pairs, in order
-  abbrev pub index_places : List ℕ
-  index_places = places_of (len_at m.word m.bytes m.pos)
+  abbrev pub index_indices : List ℕ
+  index_indices = indices_of (len_at m.word m.bytes m.pos)
 
   -- the position of the key at index `i`
   abbrev pub key_at : ℕ → ℕ
@@ -261,13 +261,13 @@ module _ {K : Type 0} (m : Index K) where
       → key_hash m.bytes (key_at i) ≡ hash
 
   -- `Fact` is a property of the index that a lookup under `hash` finds, in any valid map
-  abbrev pub FindsPlace : ℕ → (ℕ → Bool) → (Option ℕ → Type 0) → Type 0
-  FindsPlace hash accept Fact = Fact (index_found m.word m.bytes m.pos hash accept)
+  abbrev pub FindsIndex : ℕ → (ℕ → Bool) → (Option ℕ → Type 0) → Type 0
+  FindsIndex hash accept Fact = Fact (index_found m.word m.bytes m.pos hash accept)
 
   -- `Fact` is a property of the first accepted index, in a written map
-  abbrev pub FindsFirstPlace : (List ℕ → ℕ → ℕ) → (ℕ → Bool) → (Option ℕ → Type 0) → Type 0
-  FindsFirstPlace key_hash accept Fact = (homes : List ℕ) → IsWritten key_hash homes
-      → Fact (find accept index_places)
+  abbrev pub FindsFirstIndex : (List ℕ → ℕ → ℕ) → (ℕ → Bool) → (Option ℕ → Type 0) → Type 0
+  FindsFirstIndex key_hash accept Fact = (homes : List ℕ) → IsWritten key_hash homes
+      → Fact (find accept index_indices)
 
   -- a lookup by a comparison reads these strides, under a hash. `before`, `after`: counts
   -- of strides
@@ -284,23 +284,23 @@ module _ {K : Type 0} (m : Index K) where
   -- `accept i`: result of the comparison for the key at index `i`
   abbrev pub FindsBy : (View K → Bool → Type 0) → ℕ → (Option ℕ → Type 0) → Type 0
   FindsBy post hash Fact = (accept : ℕ → Bool) → ComparesKeysBy post accept
-      → FindsPlace hash accept Fact
+      → FindsIndex hash accept Fact
 
   -- `Fact` is a property of the first accepted index, in a written map whose accepted keys are
   -- under the hash. `key_hash b q`: hash of the key at `q`
   abbrev pub FindsFirstBy : (View K → Bool → Type 0) → ℕ → (List ℕ → ℕ → ℕ) → (Option ℕ → Type 0)
       → Type 0
   FindsFirstBy post hash key_hash Fact = (accept : ℕ → Bool) → ComparesKeysBy post accept
-      → AreUnderHash hash key_hash accept → FindsFirstPlace key_hash accept Fact
+      → AreUnderHash hash key_hash accept → FindsFirstIndex key_hash accept Fact
 
   -- `Fact` is a property of the index that a lookup of a query finds, under a hash.
   -- `fits`: test of the keys
   abbrev pub FindsKey : ℕ → (List ℕ → ℕ → Bool) → (Option ℕ → Type 0) → Type 0
-  FindsKey hash fits Fact = FindsPlace hash (fits_at fits) Fact
+  FindsKey hash fits Fact = FindsIndex hash (fits_at fits) Fact
 
   -- `Fact` is a property of the first index whose key fits, in a written map
   abbrev pub FindsFirstKey : (List ℕ → ℕ → ℕ) → (List ℕ → ℕ → Bool) → (Option ℕ → Type 0) → Type 0
-  FindsFirstKey key_hash fits Fact = FindsFirstPlace key_hash (fits_at fits) Fact
+  FindsFirstKey key_hash fits Fact = FindsFirstIndex key_hash (fits_at fits) Fact
 
 module _ {K V H W : Type 0} {ks : Specs K} {vs : Specs V} {wt : Words W}
     (m : ArchivedIndexMap K V H W ks vs wt) where
@@ -312,17 +312,17 @@ module _ {K V H W : Type 0} {ks : Specs K} {vs : Specs V} {wt : Words W}
   abbrev pub IsAccepted : (View K → Bool → Type 0) → ℕ → Type 0
   IsAccepted post i = (key : View K) × IsKeyOf m i key × post key true
 
-  -- `result`: the pair at the index `place`, or `None` if `place` is `None`
+  -- `result`: the pair at `index`, or `None` if `index` is `None`
   abbrev pub IsPairAt : Option (View K × View V) → Option ℕ → Type 0
-  IsPairAt result place = MatchesAt (IsPairOf m) result place
+  IsPairAt result index = MatchesAt (IsPairOf m) result index
 
-  -- `result`: the value at the index `place`, or `None` if `place` is `None`
+  -- `result`: the value at `index`, or `None` if `index` is `None`
   abbrev pub IsValueAt : Option (View V) → Option ℕ → Type 0
-  IsValueAt result place = MatchesAt (IsValueOf m) result place
+  IsValueAt result index = MatchesAt (IsValueOf m) result index
 
--- `result` is the index `place`, or both are `None`
+-- `result` is `index`, or both are `None`
 abbrev pub IsIndex : Option ℕ → Option ℕ → Type 0
-IsIndex result place = result ≡ place
+IsIndex result index = result ≡ index
 
 -- the index in `result`
 abbrev pub full_index : {K V : Type 0} → Option (ℕ × View K × View V) → Option ℕ
@@ -332,9 +332,9 @@ full_index {K} {V} result = option_map (λ (full : ℕ × View K × View V). ful
 abbrev pub full_key_index : {K : Type 0} → Option (ℕ × View K) → Option ℕ
 full_key_index {K} result = option_map (λ (full : ℕ × View K). full.0) result
 
--- `result` is `true` if and only if `place` is `Some`
+-- `result` is `true` if and only if `index` is `Some`
 abbrev pub IsFoundAt : Bool → Option ℕ → Type 0
-IsFoundAt result place = IsTrue result ↔ IsSome place
+IsFoundAt result index = IsTrue result ↔ IsSome index
 
 -- `entries`: a map, and the position of its first entry
 pub record AreEntries {K V H W : Type 0} {ks : Specs K} {vs : Specs V} {wt : Words W}

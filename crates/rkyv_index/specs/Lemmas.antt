@@ -1,6 +1,6 @@
 -- Lemmas for the laws of traits and impls. A law imports only from specs/.
 pub mod IndexLaws
-pub mod PlaceSpecs
+pub mod IndexSpecs
 pub mod EqualLaws
 pub mod RowSound
 pub mod IndexLocal

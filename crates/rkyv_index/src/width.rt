@@ -1,7 +1,6 @@
 //! Indices of entries as numbers of a width.
 //!
-//! The items of an index map's table are such numbers. The names call the index of an entry
-//! its place.
+//! The items of an index map's table are such numbers.
 
 ghost use Rattle.std.specs.Prelude.{◌≡◌, ◌<◌, ◌^◌};
 ghost use Rattle.std.proofs.Common.{refl};
@@ -13,31 +12,31 @@ use rkyv_base::width::{Narrow, Wide, Width};
 /// A width whose numbers can be indices of entries.
 ///
 /// The code of an encoded number is that number.
-pub trait PlaceWidth: Width {
+pub trait IndexMapWidth: Width {
     /// Returns the number of the width that encodes `number`.
     ///
     /// # Requires
     ///
     /// - `number` fits in a word of the width.
-    fn to_place(number: u64) -> Self::Place
+    fn to_index(number: u64) -> Self::Index
         requires { number < 2 ^ bits Self.word }
-        ensures { result ≡ Self.Place.encoding.value number };
+        ensures { result ≡ Self.Index.encoding.value number };
 
-    ghost reads_back: { CodesReadBack Self.Place.encoding };
+    ghost reads_back: { CodesReadBack Self.Index.encoding };
 }
 
-impl PlaceWidth for Narrow {
+impl IndexMapWidth for Narrow {
     #[inline]
-    fn to_place(number: u64) -> u32 {
+    fn to_index(number: u64) -> u32 {
         number as u32
     }
 
     ghost reads_back = { λ n. refl };
 }
 
-impl PlaceWidth for Wide {
+impl IndexMapWidth for Wide {
     #[inline]
-    fn to_place(number: u64) -> u64 {
+    fn to_index(number: u64) -> u64 {
         number
     }
 

@@ -25,13 +25,13 @@ pub forth_at : {T : Type 0} (P : List ℕ → ℕ → Type 0) (v : View T) (arch
 forth_at P v archive p at x = subst (P archive.now) at.1 (subst (λ (a : Bor (List ℕ)). P a.now (pos_of v)) at.0 x)
 
 -- the position of the control bytes has no meaning without buckets
-controls_if : (count at place : ℕ) → (0 < count → at ≡ place) → some_controls count at ≡ some_controls count place
-controls_if count at place same = elim (cases_eq count 0) [
-  | inl none ↦ subst (λ n. some_controls n at ≡ some_controls n place) (sym none) refl
+controls_if : (count at pos : ℕ) → (0 < count → at ≡ pos) → some_controls count at ≡ some_controls count pos
+controls_if count at pos same = elim (cases_eq count 0) [
+  | inl none ↦ subst (λ n. some_controls n at ≡ some_controls n pos) (sym none) refl
   | inr some ↦ ap (some_controls count) (same (omega arith))
 ]
 
-pub same_controls : (read header_cap header_at count at place : ℕ) → read ≡ header_cap → header_cap ≡ count → at ≡ header_at → (0 < header_cap → header_at ≡ place)
-    → some_controls read at ≡ some_controls count place
-same_controls read header_cap header_at count at place e f h same =
-    ap (λ n. some_controls n at) (e ∙ f) ∙ ap (some_controls count) h ∙ controls_if count header_at place (λ some. same (omega arith))
+pub same_controls : (read header_cap header_at count at pos : ℕ) → read ≡ header_cap → header_cap ≡ count → at ≡ header_at → (0 < header_cap → header_at ≡ pos)
+    → some_controls read at ≡ some_controls count pos
+same_controls read header_cap header_at count at pos e f h same =
+    ap (λ n. some_controls n at) (e ∙ f) ∙ ap (some_controls count) h ∙ controls_if count header_at pos (λ some. same (omega arith))

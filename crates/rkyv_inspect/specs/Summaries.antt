@@ -12,7 +12,7 @@ use Rattle.rkyv_table.specs.Table.Misplaced.{is_found_at}
 use Rattle.rkyv_table.specs.Table.Positions.{item_positions, lookup_end}
 use Rattle.rkyv_collections.specs.Map.Misplaced.{map_misplaced, map_strides}
 use Rattle.rkyv_index.specs.Index.{index_found, index_strides}
-use Rattle.rkyv_index.specs.Index.IndexLayout.{pair_pos, places_of}
+use Rattle.rkyv_index.specs.Index.IndexLayout.{indices_of, pair_pos}
 use Rattle.rkyv_inspect.specs.Histogram.{IsHistogram}
 use Rattle.rkyv_inspect.specs.declared.summary.Lookups.{Lookups}
 use Rattle.rkyv_inspect.specs.declared.summary.Summary.{Summary}
@@ -42,12 +42,12 @@ abbrev pub keyed_map : Width → KeyType → ElementSpec → List ℕ → ℕ �
 keyed_map word key value bytes pos =
     record { word = word; key = key; value = value; bytes = bytes; pos = pos }
 
--- `lookups`: lookups of the items at `places`, of which `misplaced` find another item or none.
+-- `lookups`: lookups of the items at `items`, of which `misplaced` find another item or none.
 -- `reads q`: number of strides that the lookup of the item at `q` reads
-pub record AreLookups (misplaced : ℕ) (reads : ℕ → ℕ) (places : List ℕ) (lookups : Lookups)
+pub record AreLookups (misplaced : ℕ) (reads : ℕ → ℕ) (items : List ℕ) (lookups : Lookups)
     : Type 0 where
   pub misplaced_is : lookups.misplaced ≡ misplaced
-  pub strides_are : IsHistogram reads places lookups.strides.items
+  pub strides_are : IsHistogram reads items lookups.strides.items
 
 -- `result` has the property `P`, or is `None` if the lookups of all items, which read `all`
 -- strides, read more than `limit`, or more than 2^63
@@ -57,7 +57,7 @@ UpTo limit all P result = MatchOption result ((limit < all) ⊎ (2 ^ 63 < all))
 
 -- the position of the control bytes, if there are `cap` buckets
 abbrev pub some_controls : ℕ → ℕ → Option ℕ
-some_controls cap place = cond (cap == 0) None (Some place)
+some_controls cap pos = cond (cap == 0) None (Some pos)
 
 -- `summary`: numbers of the map `m`, whose lookups have the property `P`
 pub record IsSummary (m : KeyedMap) (P : Option Lookups → Type 0) (summary : Summary) : Type 0
@@ -117,7 +117,7 @@ module _ (m : KeyedMap) where
 
   -- the indices of its keys, in order
   abbrev pub key_indices : List ℕ
-  key_indices = places_of (len_at m.word m.bytes m.pos)
+  key_indices = indices_of (len_at m.word m.bytes m.pos)
 
   -- `counts`: histogram of the strides that lookups of the keys of the index map `m` read
   abbrev pub CountsIndexStrides : List ℕ → Type 0

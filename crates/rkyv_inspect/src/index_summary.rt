@@ -26,12 +26,12 @@ use std::alloc::{AllocError, Global};
 /// Returns the key at an index of the map.
 fn key_at<'a, K: KeyElement, V: Element, H: KeyHasher, W: Width>(
     map: ArchivedIndexMap<'a, K, V, H, W>,
-    place: usize,
+    index: usize,
 ) -> View<'a, K>
-    requires { place < index_len map }
-    ensures { IsKeyOf map.entry place result }
+    requires { index < index_len map }
+    ensures { IsKeyOf map.entry index result }
 {
-    match map.get_index(place) {
+    match map.get_index(index) {
         Some((key, _)) => key,
         None => unreachable!(),
     }
@@ -40,16 +40,16 @@ fn key_at<'a, K: KeyElement, V: Element, H: KeyHasher, W: Width>(
 /// Returns the number of strides that a lookup of the key at an index of the map reads.
 fn strides_of<K: KeyElement, V: Element, H: KeyHasher, W: Width>(
     map: ArchivedIndexMap<'_, K, V, H, W>,
-    place: usize,
+    index: usize,
 ) -> usize
-    requires { place < index_len map }
+    requires { index < index_len map }
     ensures reads { let keys = key_type K.spec K.same (hash_at H.hasher K.key_calls) in
         let m = keyed_map W.word keys V.spec (index_bytes map.entry) (index_pos map.entry) in
-        result ≡ index_key_strides m place }
+        result ≡ index_key_strides m index }
     ensures most { result
         ≤ probe_capacity (cap_at W.word (index_bytes map.entry) (index_pos map.entry)) / 16 }
 {
-    let key = key_at(map, place);
+    let key = key_at(map, index);
     let mut strides = Strides::new();
     let _ = map.get_index_of_counted(
         &key,
@@ -81,8 +81,8 @@ fn strides_histogram<K: KeyElement, V: Element, H: KeyHasher, W: Width>(
         IfOk result (λ counts. CountsIndexStrides m counts.items) }
 {
     let mut counts = zeros(alloc, most_strides(capacity) + 1)?;
-    for place in 0..map.len() {
-        count_one(&mut counts, strides_of(map, place));
+    for index in 0..map.len() {
+        count_one(&mut counts, strides_of(map, index));
     }
     Ok(counts)
 }
@@ -151,5 +151,5 @@ pub(crate) fn header_of<K: Element, V: Element, H, W: Width>(
     requires { IsValidView (index_spec W.word (entry_spec K.spec V.spec)) root }
     ensures { IsDecoded W.word (bytes_of root.entry) (pos_of root.entry) result }
 {
-    ArchivedHashTable::of(root.at::<TableOf<W::Place, W>>(root.pos())).header()
+    ArchivedHashTable::of(root.at::<TableOf<W::Index, W>>(root.pos())).header()
 }

@@ -7,9 +7,9 @@ use Rattle.rkyv_inspect_program.specs.declared.options.Options.{Options}
 use Rattle.rkyv_inspect_program.specs.Options.{IsBare, IsIncomplete, NamesNoContents, value_of}
 use Rattle.rkyv_inspect_program.specs.CommandLines.{
   Argument,
-  SetOptions,
   MakeUp,
   NamesOptions,
+  SetOptions,
   argument_of,
 }
 use Rattle.rkyv_inspect_program.proofs.Adding.{files_of}
@@ -37,7 +37,7 @@ same_arguments words xs ys m n =
     k.whole ∙ ap (λ l. xs ++ l) (no_arguments k.makes_up.pieces k.more k.makes_up.joined k.makes_up.each)
     ∙ append-nil xs
 
--- the options have equal fields but for the place of the file
+-- the options have equal fields but for the position of the file
 record Agree (o q : Options) : Type 0 where
   file : files_of o ≡ files_of q
   kind : o.kind ≡ q.kind

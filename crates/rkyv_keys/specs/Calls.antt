@@ -1,6 +1,6 @@
 -- The calls of a key to a hasher.
 use Rattle.std.specs.Prelude.{ℕ, Bool, if◌then◌else◌, List, [], ◌∷◌, fold}
-use Rattle.rkyv_scan.specs.Hash.{Hasher, HasherCall, Bytes, U8}
+use Rattle.rkyv_scan.specs.Hash.{Bytes, Hasher, HasherCall, U8}
 
 -- the state `state` after a list of calls, in order
 abbrev pub after_calls : {State : Type 0} → Hasher State → State → List HasherCall → State

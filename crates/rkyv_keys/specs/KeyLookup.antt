@@ -1,4 +1,4 @@
--- The question of a lookup by a query.
+-- Lookups of keys by a query.
 use Rattle.std.specs.Prelude.{ℕ, Bool, List}
 use Rattle.rkyv_scan.specs.Hash.{Hasher, HasherCall, hash_of_calls}
 use Rattle.rkyv_keys.specs.Equality.{Comparison}
@@ -11,8 +11,8 @@ pub record KeyLookup : Type 0 where
   pub same : Comparison
   pub fits : List ℕ → ℕ → Bool
 
--- the question of a query: by the hasher, the hasher calls and the equality of keys, and the hasher
--- calls of the query and the keys that it fits
+-- the lookup by a query that fits `fits` and makes the hasher calls `calls`. The keys make
+-- `key_calls`, and are equal by `same`
 abbrev pub query_of : {State : Type 0} → Hasher State → (List ℕ → ℕ → List HasherCall)
     → Comparison
     → List HasherCall → (List ℕ → ℕ → Bool) → KeyLookup

@@ -6,11 +6,11 @@ use Rattle.rkyv_base.specs.Scalar.{Encoding, IsScalar, ScalarRepresents}
 use Rattle.rkyv_base.specs.Lemmas.Scalar.{scalar_local}
 use Rattle.rkyv_base.specs.ElementSpec.{ElementSpec}
 use Rattle.rkyv_base.specs.Sealing.{value_at}
-use Rattle.rkyv_keys.specs.Equality.{Comparison, IsEquivalence, DecidesEquality}
+use Rattle.rkyv_keys.specs.Equality.{Comparison, DecidesEquality, IsEquivalence}
 use Rattle.rkyv_keys.specs.Keys.{FitsItsEqual, IsKey, IsQuery, ReadsAnywhere}
 use Rattle.rkyv_keys.specs.Fixed.{MakesFixedCalls}
 use Rattle.rkyv_keys.specs.Lemmas.Fixed.{one_fixed}
-use Rattle.rkyv_keys.specs.OfValues.{values_same, value_calls, value_fits}
+use Rattle.rkyv_keys.specs.OfValues.{value_calls, value_fits, values_same}
 use Rattle.rkyv_keys.specs.Lemmas.OfValues.{value_equivalence, value_key, value_query}
 use Rattle.rkyv_keys.specs.Lemmas.OfValues.{value_fits_its_equal}
 

@@ -3,7 +3,7 @@
 //! A type implements `Deserialize` for each native type as which its values are read.
 
 ghost use Rattle.std.specs.Prelude.{MatchResult};
-ghost use Rattle.rkyv_base.specs.View.{IsValidView, AtView};
+ghost use Rattle.rkyv_base.specs.View.{AtView, IsValidView};
 ghost use Rattle.rkyv_keys.specs.Deserialize.{DeserializeErrors};
 
 use rkyv_base::element::Represents;

@@ -7,7 +7,7 @@ ghost use Rattle.std.specs.Prelude.{◌≡◌, IsTrue, ◌↔◌, MatchResult};
 ghost use Rattle.rkyv_base.specs.Entry.{entry_spec};
 ghost use Rattle.rkyv_base.specs.Pairs.{PairRepresents};
 ghost use Rattle.rkyv_base.specs.Lemmas.Pairs.{pair_is_format};
-ghost use Rattle.rkyv_base.specs.View.{IsValidView, AtView};
+ghost use Rattle.rkyv_base.specs.View.{AtView, IsValidView};
 ghost use Rattle.rkyv_keys.specs.AtViews.{at_view, at_views};
 ghost use Rattle.rkyv_keys.specs.Calls.{after_calls};
 ghost use Rattle.rkyv_keys.specs.Lemmas.Fixed.{entry_fixed};

@@ -5,11 +5,11 @@
 
 ghost use Rattle.std.specs.Prelude.{◌≡◌, IsTrue, ◌↔◌, MatchResult};
 ghost use Rattle.std.specs.Cmp.{booleans_Decides, signed_Decides, unsigned_Decides};
-ghost use Rattle.rkyv_scan.specs.Hash.{HasherCall, I8, I16, I32, I64, U8, U16, U32, U64};
+ghost use Rattle.rkyv_scan.specs.Hash.{HasherCall, I16, I32, I64, I8, U16, U32, U64, U8};
 ghost use Rattle.rkyv_scan.specs.Laws.{IsFixed};
 ghost use Rattle.rkyv_base.specs.Scalar.{ScalarRepresents};
 ghost use Rattle.rkyv_base.specs.Lemmas.Scalar.{scalar_is_format};
-ghost use Rattle.rkyv_base.specs.View.{IsValidView, AtView};
+ghost use Rattle.rkyv_base.specs.View.{AtView, IsValidView};
 ghost use Rattle.rkyv_keys.specs.AtViews.{at_view, at_views};
 ghost use Rattle.rkyv_keys.specs.Calls.{after_calls, bool_call};
 ghost use Rattle.rkyv_keys.specs.Lemmas.QueryLaws.{native_once};

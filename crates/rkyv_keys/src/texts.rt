@@ -3,7 +3,7 @@
 ghost use Rattle.std.specs.Prelude.{◌≡◌, string_bytes, IsTrue, ◌↔◌, MatchResult};
 ghost use Rattle.rkyv_base.specs.Text.{text_spec};
 ghost use Rattle.rkyv_base.specs.Lemmas.TextWriting.{text_as_format};
-ghost use Rattle.rkyv_base.specs.View.{IsValidView, AtView};
+ghost use Rattle.rkyv_base.specs.View.{AtView, IsValidView};
 ghost use Rattle.rkyv_keys.specs.AtViews.{at_view, at_views};
 ghost use Rattle.rkyv_keys.specs.Calls.{after_calls, text_calls};
 ghost use Rattle.rkyv_keys.specs.Deserialize.{memory_fails};

@@ -1,12 +1,12 @@
 -- Proofs of the laws of the hash.
 use Rattle.std.proofs.Common.{◌≡◌, ℕ, zero, suc, ◌+◌, ◌*◌, ◌/◌, ◌%◌, ◌<◌, ◌≤◌, cond, eqb, List, [], ◌∷◌, ◌++◌, length, get_or, map, drop, refl, sym, ap, ◌∙◌, arith, add-zero, zero-add, get_or-drop, append-nil, append_assoc, length-append, w8, w16, w32, w64}
-use Rattle.std.specs.List.{range_with_len, flat_map, fold, All}
+use Rattle.std.specs.List.{All, flat_map, fold, range_with_len}
 use Rattle.std.specs.Int.{Width, from_le_bytes}
 use Rattle.std.proofs.lemmas.List.{get_or_append_left}
 use Rattle.std.proofs.Math.Seq.{drop-append-add}
 use Rattle.std.proofs.lemmas.List.Sums.{fold-append}
-use Rattle.rkyv_scan.specs.Hash.{HasherCall, Usize, Isize, hash_word, hash_words, byte_words, whole_words, rest_words, number_from, SizeWords, call_words, fx_feed}
-use Rattle.rkyv_scan.specs.Laws.{WritesJoin, EightBytesAreOneWord, IsFixed, FixedCallsAgree, FixedCallsHashAlike, CallsHashTheirWords}
+use Rattle.rkyv_scan.specs.Hash.{HasherCall, Isize, SizeWords, Usize, byte_words, call_words, fx_feed, hash_word, hash_words, number_from, rest_words, whole_words}
+use Rattle.rkyv_scan.specs.Laws.{CallsHashTheirWords, EightBytesAreOneWord, FixedCallsAgree, FixedCallsHashAlike, IsFixed, WritesJoin}
 
 pub fixed_agree : FixedCallsAgree
 fixed_agree one other (Usize n) h = absurd h

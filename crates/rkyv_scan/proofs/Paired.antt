@@ -4,12 +4,12 @@ use Rattle.std.specs.Int.{bit_at}
 use Rattle.std.specs.Int.RustNames.{bit_or}
 use Rattle.std.proofs.lemmas.Bool.{cases_eq, ne_eqb}
 use Rattle.std.proofs.lemmas.Nat.{shr_split}
-use Rattle.std.proofs.lemmas.Nat.Bits.{bit_at_and, bit_at_or, bit_at-lt, bit_at-suc, bit_at-zero, bit_at_cat_low}
-use Rattle.rkyv_scan.specs.Groups.{is_word_match_at, mask_places, places_where}
+use Rattle.std.proofs.lemmas.Nat.Bits.{bit_at-lt, bit_at-suc, bit_at-zero, bit_at_and, bit_at_cat_low, bit_at_or}
+use Rattle.rkyv_scan.specs.Groups.{indices_where, is_word_match_at, mask_indices}
 use Rattle.rkyv_scan.specs.Paired.{MarksEqual, bits_after, chain, half_of, is_half_match_at}
 use Rattle.rkyv_scan.specs.Lemmas.Paired.{half_at, half_lower}
 use Rattle.rkyv_scan.proofs.Bits.{all_to_at}
-use Rattle.rkyv_scan.proofs.Places.{range_agree}
+use Rattle.rkyv_scan.proofs.Indices.{range_agree}
 
 half_first : (xs : List ℕ) (t k : ℕ) → k % 8 ≡ 0 → is_half_match_at xs t k ≡ eqb (slice_index xs k) t
 half_first xs t k e = ap (is_word_match_at (half_of xs k) t) e ∙ ap (λ x. eqb x t) (ap (slice_index (half_of xs k)) (sym e) ∙ half_at xs k)
@@ -124,9 +124,9 @@ none_equal xs t equal marks_byte z k l h =
     let none = λ (j : ℕ) (m : j < 16). sym (marks_byte j m) ∙ ap (λ x. eqb (bit_at x j) 1) z ∙ ap (λ x. eqb x 1) (bit_at-zero j) in
     ap (λ x. eqb x 1) (bit_at-zero k) ∙ sym (none_marked xs t none 7 k l h)
 
-pub chained_places : (xs : List ℕ) (t m : ℕ) → Chains xs t 7 m → mask_places 1 0 16 m ≡ places_where (is_half_match_at xs t) 16
-unfolding mask_places places_where
-chained_places xs t m h =
+pub chained_indices : (xs : List ℕ) (t m : ℕ) → Chains xs t 7 m → mask_indices 1 0 16 m ≡ indices_where (is_half_match_at xs t) 16
+unfolding mask_indices indices_where
+chained_indices xs t m h =
     range_agree _ _ 0 16 (λ k l b.
     let at : 1 * k + 0 ≡ k = omega arith in
     ap (λ j. eqb (bit_at m j) 1) at ∙ h k (omega arith) (omega arith))

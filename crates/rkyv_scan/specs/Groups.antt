@@ -26,8 +26,8 @@ use Rattle.std.specs.List.{filter, range_with_len}
 use Rattle.std.specs.Int.{bit_at}
 
 -- the indices below `n` that pass `test`, ascending
-unfoldable pub places_where : (ℕ → Bool) → ℕ → List ℕ
-places_where test n = filter test (range_with_len 0 n)
+unfoldable pub indices_where : (ℕ → Bool) → ℕ → List ℕ
+indices_where test n = filter test (range_with_len 0 n)
 
 -- `control`: control byte. It is empty if its high bit is set
 abbrev pub is_empty : ℕ → Bool
@@ -37,23 +37,23 @@ is_empty control = nat_le 128 control
 abbrev pub is_full : ℕ → Bool
 is_full control = nat_lt control 128
 
--- the control byte at index `place` is `byte`
+-- the control byte at `index` is `byte`
 abbrev pub is_equal_at : List ℕ → ℕ → ℕ → Bool
-is_equal_at controls byte place = slice_index controls place == byte
+is_equal_at controls byte index = slice_index controls index == byte
 
--- the control byte at index `place` is `byte`, or differs from it in the lowest bit alone
+-- the control byte at `index` is `byte`, or differs from it in the lowest bit alone
 -- and follows an index that matches
 abbrev pub is_word_match_at : List ℕ → ℕ → ℕ → Bool
 is_word_match_at controls byte zero = is_equal_at controls byte 0
-is_word_match_at controls byte (suc place) =
-    is_equal_at controls byte (suc place)
-    || (is_equal_at controls (bit_xor byte 1) (suc place) && is_word_match_at controls byte place)
+is_word_match_at controls byte (suc index) =
+    is_equal_at controls byte (suc index)
+    || (is_equal_at controls (bit_xor byte 1) (suc index) && is_word_match_at controls byte index)
 
 -- the indices below `count` whose bit is set in `bits`. The bit of index k
 -- is the bit `spacing * k + offset`
-unfoldable pub mask_places : ℕ → ℕ → ℕ → ℕ → List ℕ
-mask_places spacing offset count bits =
-    places_where (λ place. bit_at bits (spacing * place + offset) == 1) count
+unfoldable pub mask_indices : ℕ → ℕ → ℕ → ℕ → List ℕ
+mask_indices spacing offset count bits =
+    indices_where (λ index. bit_at bits (spacing * index + offset) == 1) count
 
 -- a kind of group. `width`: control bytes in a group, `marks`: indices marked for a byte
 pub record Kind : Type 0 where
@@ -64,13 +64,13 @@ pub record Kind : Type 0 where
 -- and the lowest marked index has the byte. For a byte below 128, each marked index is full
 pub record IsKind (kind : Kind) : Type 0 where
   pub power : (k : ℕ) × (k ≤ 4) × (kind.width ≡ 2 ^ k)
-  pub equal : (controls : List ℕ) (byte place : ℕ) → place < kind.width
-      → slice_index controls place ≡ byte → kind.marks controls byte place ≡ true
-  pub full : (controls : List ℕ) (byte place : ℕ) → byte < 128
-      → kind.marks controls byte place ≡ true → slice_index controls place < 128
-  pub lowest : (controls : List ℕ) (byte place : ℕ) → kind.marks controls byte place ≡ true
-      → ((lower : ℕ) → lower < place → kind.marks controls byte lower ≡ false)
-      → slice_index controls place ≡ byte
+  pub equal : (controls : List ℕ) (byte index : ℕ) → index < kind.width
+      → slice_index controls index ≡ byte → kind.marks controls byte index ≡ true
+  pub full : (controls : List ℕ) (byte index : ℕ) → byte < 128
+      → kind.marks controls byte index ≡ true → slice_index controls index < 128
+  pub lowest : (controls : List ℕ) (byte index : ℕ) → kind.marks controls byte index ≡ true
+      → ((lower : ℕ) → lower < index → kind.marks controls byte lower ≡ false)
+      → slice_index controls index ≡ byte
 
 -- the kind with eight control bytes that marks the equal ones
 abbrev pub bytewise_kind : Kind
@@ -85,11 +85,11 @@ abbrev pub lanes_kind : Kind
 lanes_kind = record { width = 16; marks = is_equal_at }
 
 -- the indices of the set flags, of eight
-unfoldable pub flag_places : List Bool → List ℕ
-flag_places flags = places_where (λ place. slice_index_or flags place false) 8
+unfoldable pub flag_indices : List Bool → List ℕ
+flag_indices flags = indices_where (λ index. slice_index_or flags index false) 8
 
 -- `first`: index of the first set flag of eight, or 8
 pub record IsFirstFlag (flags : List Bool) (first : ℕ) : Type 0 where
   pub within : first ≤ 8
-  pub below : (place : ℕ) → place < first → slice_index_or flags place false ≡ false
+  pub below : (index : ℕ) → index < first → slice_index_or flags index false ≡ false
   pub set : first < 8 → slice_index_or flags first false ≡ true

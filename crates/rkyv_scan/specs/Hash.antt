@@ -22,15 +22,15 @@ use Rattle.std.specs.Prelude.{
 use Rattle.std.specs.List.{range_with_len}
 use Rattle.std.specs.Int.{
   Width,
-  w8,
+  cast_signed,
+  cast_unsigned,
+  from_le_bytes,
+  rotate_left,
+  w128,
   w16,
   w32,
   w64,
-  w128,
-  rotate_left,
-  from_le_bytes,
-  cast_unsigned,
-  cast_signed,
+  w8,
 }
 
 -- one call of a hasher, with its argument

@@ -1,18 +1,18 @@
 -- Laws of the hash, over its definition alone. Each is for every rule for `usize`
 -- and `isize`, and so for both hashers.
 use Rattle.std.specs.Prelude.{◌≡◌, ℕ, ◌%◌, List, ◌++◌, length, All, flat_map}
-use Rattle.std.specs.Int.{w64, from_le_bytes}
+use Rattle.std.specs.Int.{from_le_bytes, w64}
 use Rattle.rkyv_scan.specs.Hash.{
-  HasherCall,
   Bytes,
-  U64,
-  Usize,
+  HasherCall,
   Isize,
   SizeWords,
-  hash_words,
+  U64,
+  Usize,
   call_words,
   fx_feed,
   fx_hash,
+  hash_words,
 }
 
 -- the hash of a list of calls is the hash from 0 of all words that they feed

@@ -21,13 +21,13 @@ use Rattle.std.specs.Prelude.{
 use Rattle.std.specs.Int.{bit_at}
 use Rattle.rkyv_scan.specs.Groups.{Kind, is_word_match_at}
 
--- the eight control bytes of the half that has index `place`
+-- the eight control bytes of the half that has `index`
 abbrev pub half_of : List ℕ → ℕ → List ℕ
-half_of controls place = take 8 (drop (place / 8 * 8) controls)
+half_of controls index = take 8 (drop (index / 8 * 8) controls)
 
--- `is_word_match_at` within the half that has index `place`
+-- `is_word_match_at` within the half that has `index`
 abbrev pub is_half_match_at : List ℕ → ℕ → ℕ → Bool
-is_half_match_at controls byte place = is_word_match_at (half_of controls place) byte (place % 8)
+is_half_match_at controls byte index = is_word_match_at (half_of controls index) byte (index % 8)
 
 -- the kind with sixteen control bytes that marks those of `is_half_match_at`
 abbrev pub paired_kind : Kind

@@ -3,14 +3,14 @@
 //! The laws of the hash are about its definition alone, under any rule for `usize` and `isize`.
 //! The others say which definitions the public hashers, masks and groups have.
 ghost use Rattle.std.specs.Prelude.{◌≡◌, ◌+◌, ◌≤◌, List, [], drop, length, take};
-ghost use Rattle.rkyv_scan.specs.Groups.{is_word_match_at, places_where};
+ghost use Rattle.rkyv_scan.specs.Groups.{indices_where, is_word_match_at};
 ghost use Rattle.rkyv_scan.specs.Hash.{HasherCall, all_bits, fx_hash, hash_of_calls, low_halves};
 ghost use Rattle.rkyv_scan.specs.Laws.{
   CallsHashTheirWords,
-  WritesJoin,
   EightBytesAreOneWord,
   FixedCallsAgree,
   FixedCallsHashAlike,
+  WritesJoin,
 };
 
 use crate::hash::{FxHasher64, FxHasher64Wide, KeyHasher};
@@ -44,9 +44,9 @@ pub fn fixed_calls_hash_alike()
 
 /// Returns the mask `EMPTY` of each of three kinds of group, which marks no index.
 pub fn empty_masks() -> (bytewise::Bitmask, generic::Bitmask, lanes::Bitmask)
-    ensures bytewise { ⟦<bytewise::Bitmask as Marks>⟧.places result.0 ≡ [] }
-    ensures generic { ⟦<generic::Bitmask as Marks>⟧.places result.1 ≡ [] }
-    ensures lanes { ⟦<lanes::Bitmask as Marks>⟧.places result.2 ≡ [] }
+    ensures bytewise { ⟦<bytewise::Bitmask as Marks>⟧.indices result.0 ≡ [] }
+    ensures generic { ⟦<generic::Bitmask as Marks>⟧.indices result.1 ≡ [] }
+    ensures lanes { ⟦<lanes::Bitmask as Marks>⟧.indices result.2 ≡ [] }
 {
     (
         bytewise::Bitmask::EMPTY,
@@ -77,8 +77,8 @@ pub fn fx_hashers()
 /// - `pos + 8` is at most the length of `bytes`.
 pub fn root_group_marks(bytes: &[u8], pos: usize, byte: u8) -> Bitmask
     requires { pos + 8 ≤ length bytes.now }
-    ensures { ⟦<Bitmask as Marks>⟧.places result
-        ≡ places_where (is_word_match_at (take 8 (drop pos bytes.now)) byte) 8 }
+    ensures { ⟦<Bitmask as Marks>⟧.indices result
+        ≡ indices_where (is_word_match_at (take 8 (drop pos bytes.now)) byte) 8 }
 {
     Group::read(bytes, pos).match_byte(byte)
 }

@@ -27,7 +27,7 @@ ghost use Rattle.std.specs.Prelude.{
 };
 ghost use Rattle.std.specs.Iterator.{YieldsFirst, item_count};
 ghost use Rattle.std.specs.List.Sorted.{IsStrictlyIncreasing};
-ghost use Rattle.rkyv_scan.specs.Groups.{places_where, is_empty, is_full, Kind, IsKind};
+ghost use Rattle.rkyv_scan.specs.Groups.{IsKind, Kind, indices_where, is_empty, is_full};
 
 pub mod bytewise;
 pub mod generic;
@@ -42,13 +42,13 @@ pub const MAX_GROUP_WIDTH: usize = 16;
 /// A mask iterates over its indices in ascending order.
 pub trait Marks: Iterator<Item = usize> + Copy {
     // The marked indices, ascending.
-    ghost places: { Self → List ℕ };
+    ghost indices: { Self → List ℕ };
 
-    ghost ascend: { (m : Self) → IsStrictlyIncreasing (places m) };
+    ghost ascend: { (m : Self) → IsStrictlyIncreasing (indices m) };
 
     /// Returns `true` if and only if some index is marked.
     fn any_bit_set(self) -> bool
-        ensures { IsTrue result ↔ (0 < length (places self)) };
+        ensures { IsTrue result ↔ (0 < length (indices self)) };
 
     /// Returns the mask without its lowest index.
     ///
@@ -56,20 +56,20 @@ pub trait Marks: Iterator<Item = usize> + Copy {
     ///
     /// - Some index is marked.
     fn remove_lowest_bit(self) -> Self
-        requires { 0 < length (places self) }
-        ensures { places result ≡ drop 1 (places self) };
+        requires { 0 < length (indices self) }
+        ensures { indices result ≡ drop 1 (indices self) };
 
     /// Returns the lowest marked index, or `None` if no index is marked.
     fn lowest_set_bit(self) -> Option<usize>
-        ensures { result ≡ slice_get (places self) 0 };
+        ensures { result ≡ slice_get (indices self) 0 };
 
     // The iterator yields the marked indices.
     ghost ready: { (s : Self) → Self.can_next s };
 
     ghost yields: { (s t : Self) (r : Option ℕ) → Self.next_gives s r t
-        → YieldsFirst places s r t };
+        → YieldsFirst indices s r t };
 
-    ghost ends: { (s : Self) → Self.remaining s ≡ item_count places s };
+    ghost ends: { (s : Self) → Self.remaining s ≡ item_count indices s };
 }
 
 /// A kind of group: a fixed number of control bytes that are matched at once.
@@ -113,18 +113,18 @@ pub trait GroupKind: Copy {
     /// The lowest marked index is never a false match. If `byte` is below 128,
     /// each marked index is full.
     fn match_byte(self, byte: u8) -> Self::Mask
-        ensures { Self.Mask.places result
-            ≡ places_where (kind.marks (controls self) byte) kind.width };
+        ensures { Self.Mask.indices result
+            ≡ indices_where (kind.marks (controls self) byte) kind.width };
 
     /// Marks the empty indices and no others.
     fn match_empty(self) -> Self::Mask
-        ensures { Self.Mask.places result
-            ≡ places_where (λ k. is_empty (slice_index (controls self) k)) kind.width };
+        ensures { Self.Mask.indices result
+            ≡ indices_where (λ k. is_empty (slice_index (controls self) k)) kind.width };
 
     /// Marks the full indices and no others.
     fn match_full(self) -> Self::Mask
-        ensures { Self.Mask.places result
-            ≡ places_where (λ k. is_full (slice_index (controls self) k)) kind.width };
+        ensures { Self.Mask.indices result
+            ≡ indices_where (λ k. is_full (slice_index (controls self) k)) kind.width };
 
     ghost width: { WIDTH ≡ kind.width };
 

@@ -7,30 +7,30 @@ use Rattle.rkyv_base.specs.ElementSpec.{IsElement, Viewable}
 use Rattle.rkyv_base.specs.declared.view.View.{View}
 use Rattle.rkyv_scan.specs.Groups.{Kind}
 use Rattle.rkyv_table.specs.Controls.Laws.{IsUnderHash}
-use Rattle.rkyv_table.specs.Table.Bare.{AcceptedOf, ComparesByOf, IsItemOf, LooksUp, CanCompareOf, ReadsExactly}
+use Rattle.rkyv_table.specs.Table.Bare.{AcceptedOf, CanCompareOf, ComparesByOf, IsItemOf, LooksUp, ReadsExactly}
 use Rattle.rkyv_table.specs.Table.Layout.{table_spec}
 use Rattle.rkyv_table.specs.Table.Positions.{IsWalked, WrittenAt, home_positions, item_at}
 use Rattle.rkyv_table.specs.Table.Positions.{lookup_end, pos_found}
 use Rattle.rkyv_table.specs.Table.Reading.{ComparesBy, CountsEnd, FindsFirst, FindsFound, IsAcceptedAt}
-use Rattle.rkyv_table.specs.Table.Reading.{IsItem, IsItemPos, CanCompare}
+use Rattle.rkyv_table.specs.Table.Reading.{CanCompare, IsItem, IsItemPos}
 use Rattle.rkyv_table.specs.Table.SealedItems.{IsItemAt}
 use Rattle.rkyv_table.proofs.ValidTable.{item_viewable}
 use Rattle.rkyv_table.proofs.SealedTable.{table_kept}
 use Rattle.rkyv_table.specs.declared.table.ArchivedHashTable.{ArchivedHashTable}
 
-module _ {T W : Type 0} {ts : Specs T} {wt : Words W} (b : List ℕ) (p : ℕ) (t : ArchivedHashTable T W ts wt) (bytes : t.view.archive.now ≡ b) (place : t.view.pos ≡ p) where
+module _ {T W : Type 0} {ts : Specs T} {wt : Words W} (b : List ℕ) (p : ℕ) (t : ArchivedHashTable T W ts wt) (bytes : t.view.archive.now ≡ b) (pos : t.view.pos ≡ p) where
   -- an item of the table is one of the bytes
   pub item_of : (v : View T) → IsItem t v → IsItemOf wt.word ts.spec b p v
   item_of v is =
       let i = is.0 in
       let archive : v.archive.now ≡ b = ap (λ a. a.now) is.1.archive ∙ bytes in
       let P = λ (c : List ℕ) (q : ℕ). IsWalked wt.word c q i × (v.pos ≡ item_at wt.word ts.spec.size c q i) in
-      let there : P b p = subst (P b) place (subst (λ (c : List ℕ). P c t.view.pos) bytes (is.1.walked, is.1.place)) in
+      let there : P b p = subst (P b) pos (subst (λ (c : List ℕ). P c t.view.pos) bytes (is.1.walked, is.1.pos)) in
       record {
         archive = archive;
         bucket = i;
         walked = there.0;
-        place = there.1;
+        pos = there.1;
         viewable = subst (λ (c : List ℕ). Viewable ts.spec c v.pos) archive is.1.viewable;
       }
 
@@ -47,7 +47,7 @@ module _ {T W : Type 0} {ts : Specs T} {wt : Words W} (b : List ℕ) (p : ℕ) (
     module _ (kind : Kind) (hash : ℕ) (found : Option ℕ) (finds : FindsFound post kind t hash found) where
       pub found_of : (accept : ℕ → Bool) → ComparesByOf post wt.word ts.spec b p accept → found ≡ pos_found kind wt.word ts.spec.size b p hash accept
       found_of accept compares =
-          subst (λ q. found ≡ pos_found kind wt.word ts.spec.size b q hash accept) place
+          subst (λ q. found ≡ pos_found kind wt.word ts.spec.size b q hash accept) pos
           (subst (λ (c : List ℕ). found ≡ pos_found kind wt.word ts.spec.size c t.view.pos hash accept) bytes (finds accept (compares_by_of accept compares)))
 
       module _ (first : FindsFirst post t hash found) where
@@ -55,21 +55,21 @@ module _ {T W : Type 0} {ts : Specs T} {wt : Words W} (b : List ℕ) (p : ℕ) (
             → IsUnderHash hash hashes (home_positions wt.word ts.spec.size b p homes) accept → found ≡ find accept (home_positions wt.word ts.spec.size b p homes)
         first_of hashes homes accept written compares under =
             let P = λ (c : List ℕ) (q : ℕ). WrittenAt wt.word c q hashes homes → IsUnderHash hash hashes (home_positions wt.word ts.spec.size c q homes) accept → found ≡ find accept (home_positions wt.word ts.spec.size c q homes) in
-            subst (P b) place (subst (λ (c : List ℕ). P c t.view.pos) bytes (λ x y. first hashes homes accept x (compares_by_of accept compares) y)) written under
+            subst (P b) pos (subst (λ (c : List ℕ). P c t.view.pos) bytes (λ x y. first hashes homes accept x (compares_by_of accept compares) y)) written under
 
     -- a lookup in the table has the same result in the bytes
     pub looks_up_none : (kind : Kind) (hash : ℕ) → FindsFound post kind t hash None → FindsFirst post t hash None → LooksUp post kind wt.word ts.spec b p hash None
-    looks_up_none kind hash finds first = record { accepted = tt; answer = found_of kind hash None finds; first = first_of kind hash None finds first }
+    looks_up_none kind hash finds first = record { accepted = tt; finds = found_of kind hash None finds; first = first_of kind hash None finds first }
 
     pub looks_up_some : (kind : Kind) (hash q : ℕ) → FindsFound post kind t hash (Some q) → FindsFirst post t hash (Some q) → IsAcceptedAt post t q
         → LooksUp post kind wt.word ts.spec b p hash (Some q)
     looks_up_some kind hash q finds first accepted =
-        record { accepted = accepted_of q accepted; answer = found_of kind hash (Some q) finds; first = first_of kind hash (Some q) finds first }
+        record { accepted = accepted_of q accepted; finds = found_of kind hash (Some q) finds; first = first_of kind hash (Some q) finds first }
 
     pub reads_exactly : (kind : Kind) (hash before after : ℕ) → before ≡ 0 → CountsEnd post kind t hash before after → ReadsExactly post kind wt.word ts.spec b p hash after
     reads_exactly kind hash before after none counts accept compares =
         let P = λ (c : List ℕ) (q : ℕ). after ≡ lookup_end kind wt.word ts.spec.size c q hash accept in
-        subst (P b) place (subst (λ (c : List ℕ). P c t.view.pos) bytes
+        subst (P b) pos (subst (λ (c : List ℕ). P c t.view.pos) bytes
         (counts accept (compares_by_of accept compares) ∙ ap (λ n. n + lookup_end kind wt.word ts.spec.size t.view.archive.now t.view.pos hash accept) none ∙ zero-add _))
 
   -- each write of an item of the table alone that keeps it valid keeps the table
@@ -77,11 +77,11 @@ module _ {T W : Type 0} {ts : Specs T} {wt : Words W} (b : List ℕ) (p : ℕ) (
   item_at_found law table q is =
       let i = is.0 in
       let P = λ (c : List ℕ) (r : ℕ). IsWalked wt.word c r i × (q ≡ item_at wt.word ts.spec.size c r i) in
-      let there : P b p = subst (P b) place (subst (λ (c : List ℕ). P c t.view.pos) bytes (is.1, is.2)) in (
+      let there : P b p = subst (P b) pos (subst (λ (c : List ℕ). P c t.view.pos) bytes (is.1, is.2)) in (
         i,
         record {
           walked = there.0;
-          place = there.1;
+          pos = there.1;
           viewable = subst (Viewable ts.spec b) (sym there.1) (item_viewable wt.word ts.spec law b p table i there.0);
           kept = λ c sealed keeps. table_kept wt.word ts.spec law b p i table there.0 c sealed keeps;
         },

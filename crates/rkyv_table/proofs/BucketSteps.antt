@@ -1,15 +1,15 @@
 -- One bucket more written.
 use Rattle.std.proofs.Common.{◌≡◌, ℕ, ◌+◌, ◌-◌, ◌<◌, ◌≤◌, refl, sym, ap, ◌∙◌, subst, arith, inl, inr, List, [], ◌∷◌, ◌++◌, length, get_or, take, drop, Option, Some, None, add-one, append-nil, append_assoc}
-use Rattle.std.specs.Prelude.{slice_get, IfSome}
-use Rattle.std.proofs.lemmas.List.{take_more, length_push, get_or_default, length-replicate, take_all, drop_all}
+use Rattle.std.specs.Prelude.{IfSome, slice_get}
+use Rattle.std.proofs.lemmas.List.{drop_all, get_or_default, length-replicate, length_push, take_all, take_more}
 use Rattle.std.proofs.Math.Seq.{drop-cons}
 use Rattle.std.proofs.lemmas.Option.{slice_get-get_or}
 use Rattle.rkyv_base.specs.declared.errors.WriteError.{WriteError}
 use Rattle.rkyv_base.specs.declared.errors.WriteError.TheVariants.{DistanceTooLarge}
-use Rattle.rkyv_base.specs.Writing.{Only, Output, end_of, Appends, WriteFails, piece, zeros}
+use Rattle.rkyv_base.specs.Writing.{Appends, Only, Output, WriteFails, end_of, piece, zeros}
 use Rattle.rkyv_base.specs.Format.{Format}
 use Rattle.rkyv_base.proofs.WritingSteps.{appends_after, end-appends, fails_after, grows, none_appended}
-use Rattle.rkyv_table.specs.Table.Slots.{SlotImages, BucketNext, filled, WroteBuckets, Filled, BucketOverflows}
+use Rattle.rkyv_table.specs.Table.Slots.{BucketNext, BucketOverflows, Filled, SlotImages, WroteBuckets, filled}
 use Rattle.rkyv_table.proofs.PartSteps.{filled-append}
 
 drop_at : {A : Type 0} (xs : List A) (i : ℕ) (d : A) → i < length xs → drop i xs ≡ get_or xs i d ∷ drop (i + 1) xs

@@ -1,22 +1,22 @@
 -- The strides of a hash begin at the indices congruent to the start modulo 16, each once. They show
 -- every bucket.
 use Rattle.std.proofs.Common.{◌≡◌, ℕ, ◌+◌, ◌*◌, ◌-◌, ◌/◌, ◌%◌, ◌^◌, ◌<◌, ◌≤◌, inl, inr, refl, sym, ap, ◌∙◌, arith, List, Bool, true, false, ◌&&◌, eqb, ltb, length, map}
-use Rattle.std.specs.List.{list_any, range_with_len, IsDistinct}
-use Rattle.std.proofs.Math.Nat.{mod-eq_of_lt, mod-add-mod, add-mul-mod_self_right}
-use Rattle.std.proofs.lemmas.Nat.{pow_pos, mod_below, mod-mul-add, div-add-mod'}
-use Rattle.std.proofs.lemmas.Bool.{cases_lt, and_parts, and_from, eqb-true, eq-eqb, ltb-true, lt-ltb}
+use Rattle.std.specs.List.{IsDistinct, list_any, range_with_len}
+use Rattle.std.proofs.Math.Nat.{add-mul-mod_self_right, mod-add-mod, mod-eq_of_lt}
+use Rattle.std.proofs.lemmas.Nat.{div-add-mod', mod-mul-add, mod_below, pow_pos}
+use Rattle.std.proofs.lemmas.Bool.{and_from, and_parts, cases_lt, eq-eqb, eqb-true, lt-ltb, ltb-true}
 use Rattle.std.proofs.lemmas.Map.Made.{length-from_same_keys}
 use Rattle.std.specs.Cmp.{nat_eq_equiv}
 use Rattle.std.proofs.lemmas.List.FromFn.{length-map-range_with_len}
-use Rattle.rkyv_table.specs.Controls.Numbers.{start, modulus, probe_capacity}
-use Rattle.rkyv_table.specs.Controls.Probe.{probe_place, strides}
-use Rattle.rkyv_table.proofs.Triangle.{triangle, hits, hits_once}
-use Rattle.rkyv_table.proofs.Lists.{any_filter, any_map_range, from_map_range, distinct_filter, distinct_map_range}
+use Rattle.rkyv_table.specs.Controls.Numbers.{modulus, probe_capacity, start}
+use Rattle.rkyv_table.specs.Controls.Probe.{probe_index, strides}
+use Rattle.rkyv_table.proofs.Triangle.{hits, hits_once, triangle}
+use Rattle.rkyv_table.proofs.Lists.{any_filter, any_map_range, distinct_filter, distinct_map_range, from_map_range}
 use Rattle.rkyv_table.proofs.Modulus.{modulus_power}
 
 -- the index with the number `k`, if the modulus is `16 * n`
-pub place_is : (s n k : ℕ) → 0 < n → probe_place s (16 * n) k ≡ 16 * ((s / 16 + triangle k) % n) + s % 16
-place_is s n k pos =
+pub probe_index_is : (s n k : ℕ) → 0 < n → probe_index s (16 * n) k ≡ 16 * ((s / 16 + triangle k) % n) + s % 16
+probe_index_is s n k pos =
     let r = (s / 16 + triangle k) % n in
     let lr : r < n = mod_below (s / 16 + triangle k) n pos in
     let q = (s / 16 + triangle k) / n in
@@ -55,20 +55,20 @@ unturn a t u n pos e =
     sym ft ∙ sym p ∙ ap (λ w. (w + b) % n) e ∙ p' ∙ fu
 
 -- each residue is that of exactly one index
-place_hit : (s n j : ℕ) → j < 2 ^ n → (k : ℕ) × (k < 2 ^ n) × (probe_place s (16 * 2 ^ n) k ≡ 16 * j + s % 16)
-place_hit s n j h =
+index_hit : (s n j : ℕ) → j < 2 ^ n → (k : ℕ) × (k < 2 ^ n) × (probe_index s (16 * 2 ^ n) k ≡ 16 * j + s % 16)
+index_hit s n j h =
     let pos : 0 < 2 ^ n = pow_pos n in
     let a = s / 16 % 2 ^ n in
     let la : a < 2 ^ n = mod_below (s / 16) (2 ^ n) pos in
     let lr : (j + (2 ^ n - a)) % 2 ^ n < 2 ^ n = mod_below (j + (2 ^ n - a)) (2 ^ n) pos in
     let t = hits n ((j + (2 ^ n - a)) % 2 ^ n) lr in
-    (t.0, t.1, place_is s (2 ^ n) t.0 pos ∙ ap (λ z. 16 * z + s % 16) (turn (s / 16) (triangle t.0) j (2 ^ n) h t.2))
+    (t.0, t.1, probe_index_is s (2 ^ n) t.0 pos ∙ ap (λ z. 16 * z + s % 16) (turn (s / 16) (triangle t.0) j (2 ^ n) h t.2))
 
-place_once : (s n x y : ℕ) → x < 2 ^ n → y < 2 ^ n → probe_place s (16 * 2 ^ n) x ≡ probe_place s (16 * 2 ^ n) y → x ≡ y
-place_once s n x y hx hy e =
+index_once : (s n x y : ℕ) → x < 2 ^ n → y < 2 ^ n → probe_index s (16 * 2 ^ n) x ≡ probe_index s (16 * 2 ^ n) y → x ≡ y
+index_once s n x y hx hy e =
     let pos : 0 < 2 ^ n = pow_pos n in
-    let ex = place_is s (2 ^ n) x pos in
-    let ey = place_is s (2 ^ n) y pos in
+    let ex = probe_index_is s (2 ^ n) x pos in
+    let ey = probe_index_is s (2 ^ n) y pos in
     let same : (s / 16 + triangle x) % 2 ^ n ≡ (s / 16 + triangle y) % 2 ^ n = omega arith in
     hits_once n x y hx hy (unturn (s / 16) (triangle x) (triangle y) (2 ^ n) pos same)
 
@@ -78,61 +78,61 @@ same_tests false true f g = g refl
 same_tests false false f g = refl
 
 -- all indices, below the probe capacity or not
-places : ℕ → ℕ → List ℕ
-places s m = map (probe_place s m) (range_with_len 0 (m / 16))
+indices : ℕ → ℕ → List ℕ
+indices s m = map (probe_index s m) (range_with_len 0 (m / 16))
 
-has_place : (s m n x : ℕ) → m ≡ 16 * 2 ^ n → x < m → list_any (eqb x) (places s m) ≡ eqb (x % 16) (s % 16)
-unfolding places
-has_place s m n x e h =
-    let f = probe_place s (16 * 2 ^ n) in
+has_index : (s m n x : ℕ) → m ≡ 16 * 2 ^ n → x < m → list_any (eqb x) (indices s m) ≡ eqb (x % 16) (s % 16)
+unfolding indices
+has_index s m n x e h =
+    let f = probe_index s (16 * 2 ^ n) in
     let len : m / 16 ≡ 2 ^ n = omega arith in
     let goal : list_any (eqb x) (map f (range_with_len 0 (2 ^ n))) ≡ eqb (x % 16) (s % 16) =
     same_tests (list_any (eqb x) (map f (range_with_len 0 (2 ^ n)))) (eqb (x % 16) (s % 16))
     (λ t. let w = from_map_range f (2 ^ n) x t in
-    let p = place_is s (2 ^ n) w.0 (pow_pos n) in
+    let p = probe_index_is s (2 ^ n) w.0 (pow_pos n) in
     eq-eqb (x % 16) (s % 16) (omega arith))
     (λ t. let u = eqb-true (x % 16) (s % 16) t in
     let j : x / 16 < 2 ^ n = omega arith in
-    let w = place_hit s n (x / 16) j in
+    let w = index_hit s n (x / 16) j in
     let a = any_map_range f (2 ^ n) w.0 w.1 in
     let k : f w.0 ≡ x = w.2 ∙ omega arith in
     rw k at a) in
     rw (len, e) goal
 
-distinct_places : (s m n : ℕ) → m ≡ 16 * 2 ^ n → IsDistinct eqb (places s m)
-unfolding places
-distinct_places s m n e =
+distinct_indices : (s m n : ℕ) → m ≡ 16 * 2 ^ n → IsDistinct eqb (indices s m)
+unfolding indices
+distinct_indices s m n e =
     let len : m / 16 ≡ 2 ^ n = omega arith in
-    rw (len, e) (distinct_map_range (probe_place s (16 * 2 ^ n)) (2 ^ n) (λ i j hi hj q. place_once s n i j hi hj q))
+    rw (len, e) (distinct_map_range (probe_index s (16 * 2 ^ n)) (2 ^ n) (λ i j hi hj q. index_once s n i j hi hj q))
 
 -- an index is in the strides if and only if it is below the probe capacity and congruent
 -- to the start modulo 16
 pub has_stride : (h cap p : ℕ) → 0 < cap → list_any (eqb p) (strides h cap) ≡ (ltb p (probe_capacity cap) && eqb (p % 16) (start h cap % 16))
-unfolding strides places
+unfolding strides indices
 has_stride h cap p pos =
     let w = modulus_power cap pos in
     let m = modulus cap in
     let s = start h cap in
-    any_filter p (λ x. ltb x (probe_capacity cap)) (places s m)
-    ∙ same_tests (list_any (eqb p) (places s m) && ltb p (probe_capacity cap)) (ltb p (probe_capacity cap) && eqb (p % 16) (s % 16))
-    (λ t. let u = and_parts (list_any (eqb p) (places s m)) (ltb p (probe_capacity cap)) t in
+    any_filter p (λ x. ltb x (probe_capacity cap)) (indices s m)
+    ∙ same_tests (list_any (eqb p) (indices s m) && ltb p (probe_capacity cap)) (ltb p (probe_capacity cap) && eqb (p % 16) (s % 16))
+    (λ t. let u = and_parts (list_any (eqb p) (indices s m)) (ltb p (probe_capacity cap)) t in
     let l = ltb-true p (probe_capacity cap) u.1 in
-    let v = has_place s m w.0 p w.1 (omega arith) in
+    let v = has_index s m w.0 p w.1 (omega arith) in
     and_from (ltb p (probe_capacity cap)) (eqb (p % 16) (s % 16)) u.1 (sym v ∙ u.0))
     (λ t. let u = and_parts (ltb p (probe_capacity cap)) (eqb (p % 16) (s % 16)) t in
     let l = ltb-true p (probe_capacity cap) u.0 in
-    let v = has_place s m w.0 p w.1 (omega arith) in
-    and_from (list_any (eqb p) (places s m)) (ltb p (probe_capacity cap)) (v ∙ u.1) u.0)
+    let v = has_index s m w.0 p w.1 (omega arith) in
+    and_from (list_any (eqb p) (indices s m)) (ltb p (probe_capacity cap)) (v ∙ u.1) u.0)
 
 pub stride_below : (h cap p : ℕ) → 0 < cap → list_any (eqb p) (strides h cap) ≡ true → p < probe_capacity cap
 stride_below h cap p pos m = ltb-true p (probe_capacity cap) (and_parts (ltb p (probe_capacity cap)) (eqb (p % 16) (start h cap % 16)) (sym (has_stride h cap p pos) ∙ m)).0
 
 -- each index is in the strides once
 pub distinct_strides : (h cap : ℕ) → 0 < cap → IsDistinct eqb (strides h cap)
-unfolding strides places
+unfolding strides indices
 distinct_strides h cap pos =
     let w = modulus_power cap pos in
-    distinct_filter (λ x. ltb x (probe_capacity cap)) (places (start h cap) (modulus cap)) (distinct_places (start h cap) (modulus cap) w.0 w.1)
+    distinct_filter (λ x. ltb x (probe_capacity cap)) (indices (start h cap) (modulus cap)) (distinct_indices (start h cap) (modulus cap) w.0 w.1)
 
 -- the number of strides is a sixteenth of the probe capacity
 pub count_strides : (h cap : ℕ) → 0 < cap → length (strides h cap) ≡ probe_capacity cap / 16

@@ -1,20 +1,20 @@
 -- Placing: the first empty index of a stride, and the first of all strides.
 use Rattle.std.proofs.Common.{◌≡◌, ℕ, zero, suc, ◌+◌, ◌*◌, ◌-◌, ◌%◌, ◌<◌, ◌≤◌, ◌⊎◌, inl, inr, refl, sym, ap, ◌∙◌, arith, List, [], ◌∷◌, Bool, true, false, ◌&&◌, eqb, leb, ltb, length, get_or, take, drop, set, filter, Option, Some, None}
-use Rattle.std.specs.List.{find, list_any, range_with_len, flat_map, slice_get}
+use Rattle.std.specs.List.{find, flat_map, list_any, range_with_len, slice_get}
 use Rattle.std.specs.Option.{option_map}
 use Rattle.std.proofs.lemmas.List.Folds.{find-append}
 use Rattle.std.proofs.lemmas.List.{length-set, set_past}
-use Rattle.std.proofs.lemmas.Bool.{cases_Bool, cases_lt, and_from, and_left, and_right, lt-ltb, le-ltb, both_ways, false_from_ne_true, eq-eqb, or_left, or_right}
-use Rattle.rkyv_scan.specs.Groups.{places_where}
-use Rattle.rkyv_table.specs.Controls.Numbers.{start, control_count, probe_capacity}
-use Rattle.rkyv_table.specs.Controls.Probe.{strides, buckets_at, probed}
+use Rattle.std.proofs.lemmas.Bool.{and_from, and_left, and_right, both_ways, cases_Bool, cases_lt, eq-eqb, false_from_ne_true, le-ltb, lt-ltb, or_left, or_right}
+use Rattle.rkyv_scan.specs.Groups.{indices_where}
+use Rattle.rkyv_table.specs.Controls.Numbers.{control_count, probe_capacity, start}
+use Rattle.rkyv_table.specs.Controls.Probe.{buckets_at, probed, strides}
 use Rattle.rkyv_table.specs.Controls.Placing.{IsWrapped}
-use Rattle.rkyv_table.specs.Controls.ControlBytes.{is_empty_at, empty_place, with_control}
+use Rattle.rkyv_table.specs.Controls.ControlBytes.{empty_index, is_empty_at, with_control}
 use Rattle.rkyv_table.proofs.Coverage.{covered}
-use Rattle.rkyv_table.proofs.Search.{control_of, tail_shows_all, strides_head}
+use Rattle.rkyv_table.proofs.Search.{control_of, strides_head, tail_shows_all}
 use Rattle.rkyv_table.proofs.Groups.{range_append, same_control}
 use Rattle.rkyv_table.proofs.Written.{find_buckets, taken_at}
-use Rattle.rkyv_table.proofs.Lists.{any_range, any_flat_map, any_map_filter, any_member, find_none, none_find, first_range, range_first, none_range}
+use Rattle.rkyv_table.proofs.Lists.{any_flat_map, any_map_filter, any_member, any_range, find_none, first_range, none_find, none_range, range_first}
 
 -- ---- one stride
 
@@ -31,10 +31,10 @@ find_shift P P' c i (suc n) h =
     elim (cases_Bool (P' i)) [ inl t ↦ rw (e, t) refl | inr t ↦ rw (e, t, f, ih) refl ]
 
 -- one group more. `g`: its control bytes, `i`: its number
-pub more_places : (controls g : List ℕ) (p i w : ℕ) (r : Option ℕ) → g ≡ take w (drop (p + i * w) controls) → find (is_empty_at controls) (range_with_len p (i * w)) ≡ None
+pub more_indices : (controls g : List ℕ) (p i w : ℕ) (r : Option ℕ) → g ≡ take w (drop (p + i * w) controls) → find (is_empty_at controls) (range_with_len p (i * w)) ≡ None
     → r ≡ slice_get (filter (λ j. leb 128 (get_or g j 0)) (range_with_len 0 w)) 0
     → find (is_empty_at controls) (range_with_len p ((i + 1) * w)) ≡ option_map (λ j. p + i * w + j) r
-more_places controls g p i w r e none is =
+more_indices controls g p i w r e none is =
     let a = i * w in
     let len : (i + 1) * w ≡ a + w = omega arith in
     let s = find_shift (is_empty_at controls) (λ j. leb 128 (get_or g j 0)) (p + a) 0 w (λ j lo hi. rw (same_control controls g (p + a) w j e (omega arith)) refl) in
@@ -52,9 +52,9 @@ whole_stride P p n q le h =
     ap (λ z. find P (range_with_len p z)) e ∙ ap (find P) (range_append p n (16 - n)) ∙ find-append P (range_with_len p n) (range_with_len (p + n) (16 - n)) ∙ rw h refl
 
 -- the first marked index of a group is inside it
-pub place_inside : (P : ℕ → Bool) (n j : ℕ) (ps : List ℕ) → ps ≡ places_where P n → Some j ≡ slice_get ps 0 → j < n
-unfolding places_where
-place_inside P n j ps e h =
+pub index_inside : (P : ℕ → Bool) (n j : ℕ) (ps : List ℕ) → ps ≡ indices_where P n → Some j ≡ slice_get ps 0 → j < n
+unfolding indices_where
+index_inside P n j ps e h =
     let f = first_range P 0 n j (sym (h ∙ ap (λ xs. slice_get xs 0) e ∙ head_filter P (range_with_len 0 n))) in
     omega (arith, f.to)
 
@@ -170,9 +170,9 @@ runs_out h cap b free qs hb fb e same =
     let n : find free (probed h cap) ≡ None = same ∙ ap (λ xs. find free (flat_map (buckets_at cap) xs)) e in
     both_ways (list_any free (probed h cap)) (none_find free (probed h cap) n) (free_probed h cap free b hb fb)
 
-pub empty_place_is : (controls : List ℕ) (p : ℕ) → empty_place controls p ≡ find (is_empty_at controls) (range_with_len p 16)
-unfolding empty_place
-empty_place_is controls p = refl
+pub empty_index_is : (controls : List ℕ) (p : ℕ) → empty_index controls p ≡ find (is_empty_at controls) (range_with_len p 16)
+unfolding empty_index
+empty_index_is controls p = refl
 
 pub no_range : (P : ℕ → Bool) (p n : ℕ) → n ≡ 0 → find P (range_with_len p n) ≡ None
 no_range P p n e = rw e refl

@@ -8,7 +8,7 @@ use Rattle.std.proofs.lemmas.List.{get_or-map, length-map}
 use Rattle.std.proofs.lemmas.Option.{slice_get-map, slice_get_cases}
 use Rattle.rkyv_base.specs.ElementSpec.{ElementSpec}
 use Rattle.rkyv_table.specs.Controls.Laws.{IsUnderHash}
-use Rattle.rkyv_table.specs.Table.FirstItem.{LookupFindsFirst, AreUnder, IsFirstOf, TestsAgree}
+use Rattle.rkyv_table.specs.Table.FirstItem.{AreUnder, IsFirstOf, LookupFindsFirst, TestsAgree}
 use Rattle.rkyv_table.specs.Table.Positions.{home_positions}
 use Rattle.rkyv_table.specs.Table.PlacedItems.{hashes_of, items_of}
 use Rattle.rkyv_table.specs.Table.WrittenTables.{IsWrittenOf}
@@ -32,30 +32,30 @@ first_along represents c accept accept_at (x ∷ xs) (q ∷ qs) k there agrees =
 
 module _ {X : Type 0} (w : Width) (size : ℕ) (represents : List ℕ → ℕ → X → Type 0) (c : List ℕ) (p hash : ℕ) (pairs : List (ℕ × X)) (written : IsWrittenOf w size represents c p pairs)
     (accept : X → Bool) (accept_at : ℕ → Bool) (under : AreUnder hash accept pairs) (agrees : TestsAgree represents c accept (items_of pairs) accept_at) where
-  abbrev places : List ℕ
-  places = home_positions w size c p written.homes
+  abbrev positions : List ℕ
+  positions = home_positions w size c p written.homes
 
   hashes_count : length (hashes_of pairs) ≡ length pairs
   hashes_count = length-map pairs (λ (y : ℕ × X). y.0)
 
-  places_count : length (items_of pairs) ≡ length places
-  places_count = length-map pairs (λ (y : ℕ × X). y.1) ∙ sym hashes_count ∙ sym (home_count w c p (hashes_of pairs) written.homes written.written) ∙ sym (length-map written.homes _)
+  positions_count : length (items_of pairs) ≡ length positions
+  positions_count = length-map pairs (λ (y : ℕ × X). y.1) ∙ sym hashes_count ∙ sym (home_count w c p (hashes_of pairs) written.homes written.written) ∙ sym (length-map written.homes _)
 
   -- only positions of items under the hash are accepted
-  pub accepted_under : IsUnderHash hash (hashes_of pairs) places accept_at
+  pub accepted_under : IsUnderHash hash (hashes_of pairs) positions accept_at
   accepted_under i below t = elim (slice_get_cases pairs i).1 [
     | inl e ↦
         let pair = e.0 in
         let item : slice_get (items_of pairs) i ≡ Some pair.1 = slice_get-map (λ (y : ℕ × X). y.1) pairs i ∙ ap (option_map (λ (y : ℕ × X). y.1)) e.2 in
-        let same = agrees i (slice_index places i) pair.1 item (written.at i pair.1 item) in
+        let same = agrees i (slice_index positions i) pair.1 item (written.at i pair.1 item) in
         let own : pair.0 ≡ hash = subst (λ (y : ℕ × X). accept y.1 ≡ true → y.0 ≡ hash) e.3 (under i pair e.1) (sym same ∙ t) in
         get_or-map (λ (y : ℕ × X). y.0) pairs i pair 0 e.1 ∙ ap (λ (y : ℕ × X). y.0) e.3 ∙ own
     | inr past ↦ absurd (omega (arith, past.0, below, hashes_count))
   ]
 
   -- the first accepted one of the positions
-  pub first_at_home : IsFirstOf represents c accept (items_of pairs) (find accept_at places)
-  first_at_home = first_along represents c accept accept_at (items_of pairs) places places_count written.at agrees
+  pub first_at_home : IsFirstOf represents c accept (items_of pairs) (find accept_at positions)
+  first_at_home = first_along represents c accept accept_at (items_of pairs) positions positions_count written.at agrees
 
 -- a lookup in a written table finds the first accepted item of the list
 pub lookup_finds_first : {X : Type 0} (w : Width) (s : ElementSpec) (represents : List ℕ → ℕ → X → Type 0) (factor : ℕ × ℕ) → LookupFindsFirst w s represents factor

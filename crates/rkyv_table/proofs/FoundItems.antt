@@ -34,7 +34,7 @@ module _ {T W : Type 0} {ts : Specs T} {wt : Words W} (post : View T → Bool �
       record {
         walked = h.walked;
         accepted = h.accepted;
-        answer = λ accept alone. h.answer accept alone ∙ ap (option_map at) (found_paired (table_controls wt.word b p) (cap_at wt.word b p) (len_at wt.word b p) hash (λ i. accept (at i)));
+        finds = λ accept alone. h.finds accept alone ∙ ap (option_map at) (found_paired (table_controls wt.word b p) (cap_at wt.word b p) (len_at wt.word b p) hash (λ i. accept (at i)));
         first = h.first;
       }
 
@@ -49,8 +49,8 @@ module _ {T W : Type 0} {ts : Specs T} {wt : Words W} (post : View T → Bool �
 
   -- the position of a found item
   pub pos_of_item : (kind : Kind) (result : Option (View T)) → FindsItem post kind t hash result → FindsItemPos post kind t hash (pos_of_found result)
-  pos_of_item kind (Some v) h = record { walked = (h.walked.0, h.walked.1.walked, h.walked.1.place); accepted = (v, h.walked, refl, h.accepted); answer = h.answer; first = h.first }
-  pos_of_item kind None h = record { walked = tt; accepted = tt; answer = h.answer; first = h.first }
+  pos_of_item kind (Some v) h = record { walked = (h.walked.0, h.walked.1.walked, h.walked.1.pos); accepted = (v, h.walked, refl, h.accepted); finds = h.finds; first = h.first }
+  pos_of_item kind None h = record { walked = tt; accepted = tt; finds = h.finds; first = h.first }
 
 -- a lookup in the control bytes that were read, with the comparison called for items of buckets
 module _ {T W : Type 0} {ts : Specs T} {wt : Words W} (post : View T → Bool → Type 0) (kind : Kind) (law : IsKind kind) (element : IsElement ts.spec) (t : ArchivedHashTable T W ts wt) (controls : List ℕ)
@@ -58,33 +58,33 @@ module _ {T W : Type 0} {ts : Specs T} {wt : Words W} (post : View T → Bool �
     (hash : ℕ) (fits : hash < 2 ^ 64) (before after : ℕ)
     (bucket_post : ℕ → Bool → Type 0) (meets : (i : ℕ) (r : Bool) → bucket_post i r → (v : View T) × IsItemIn t i v × post v r) (found : Option ℕ)
     (finds : FindsBucket (lookup kind controls t.header.cap t.header.len hash) bucket_post before after found) where
-  abbrev place : ℕ → ℕ
-  place = item_at wt.word ts.spec.size (table_bytes t) (table_pos t)
+  abbrev bucket_pos : ℕ → ℕ
+  bucket_pos = item_at wt.word ts.spec.size (table_bytes t) (table_pos t)
 
-  compares_bucket : (accept : ℕ → Bool) → ComparesBy post t accept → (i : ℕ) (r : Bool) → bucket_post i r → r ≡ accept (place i)
-  compares_bucket accept alone i r returned = let e = meets i r returned in alone e.0 r (i, e.1) e.2 ∙ ap accept e.1.place
+  compares_bucket : (accept : ℕ → Bool) → ComparesBy post t accept → (i : ℕ) (r : Bool) → bucket_post i r → r ≡ accept (bucket_pos i)
+  compares_bucket accept alone i r returned = let e = meets i r returned in alone e.0 r (i, e.1) e.2 ∙ ap accept e.1.pos
 
   bucket_is : (accept : ℕ → Bool) → ComparesBy post t accept → found ≡ bucket_found kind wt.word ts.spec.size (table_bytes t) (table_pos t) hash accept
-  bucket_is accept alone = finds.answer (λ i. accept (place i)) (λ i r full. compares_bucket accept alone i r) ∙ read_found element t controls are kind hash (λ i. accept (place i))
+  bucket_is accept alone = finds.finds (λ i. accept (bucket_pos i)) (λ i r full. compares_bucket accept alone i r) ∙ read_found element t controls are kind hash (λ i. accept (bucket_pos i))
 
   pub strides_counted : CountsStrides post kind t hash before after
   strides_counted = record {
     bounded = rw (t.decoded.len, t.decoded.cap) at finds.bounded;
-    counted = λ accept alone. finds.counted (λ i. accept (place i)) (λ i r full. compares_bucket accept alone i r) ∙ ap (λ n. before + n) (read_end element t controls are kind hash (λ i. accept (place i)));
+    counted = λ accept alone. finds.counted (λ i. accept (bucket_pos i)) (λ i r full. compares_bucket accept alone i r) ∙ ap (λ n. before + n) (read_end element t controls are kind hash (λ i. accept (bucket_pos i)));
   }
 
   pub item_found : (i : ℕ) → found ≡ Some i → (v : View T) → IsItemIn t i v → FindsItem post kind t hash (Some v)
   item_found i is v here =
-      let answer : FindsFound post kind t hash (Some v.pos) = λ accept alone. ap Some here.place ∙ ap (option_map place) (sym is ∙ bucket_is accept alone) in
+      let finds_found : FindsFound post kind t hash (Some v.pos) = λ accept alone. ap Some here.pos ∙ ap (option_map bucket_pos) (sym is ∙ bucket_is accept alone) in
       let e = meets i true (rw is at finds.accepted) in
       record {
         walked = (i, here);
-        accepted = subst (λ u. post u true) (view_is e.0 v (e.1.archive ∙ sym here.archive) (e.1.place ∙ sym here.place)) e.2;
-        answer = answer;
-        first = finds_first post t hash kind law fits (Some v.pos) answer;
+        accepted = subst (λ u. post u true) (view_is e.0 v (e.1.archive ∙ sym here.archive) (e.1.pos ∙ sym here.pos)) e.2;
+        finds = finds_found;
+        first = finds_first post t hash kind law fits (Some v.pos) finds_found;
       }
 
   pub none_found : found ≡ None → FindsItem post kind t hash None
   none_found is =
-      let answer : FindsFound post kind t hash None = λ accept alone. ap (option_map place) (sym is ∙ bucket_is accept alone) in
-      record { walked = tt; accepted = tt; answer = answer; first = finds_first post t hash kind law fits None answer }
+      let finds_found : FindsFound post kind t hash None = λ accept alone. ap (option_map bucket_pos) (sym is ∙ bucket_is accept alone) in
+      record { walked = tt; accepted = tt; finds = finds_found; first = finds_first post t hash kind law fits None finds_found }

@@ -1,16 +1,16 @@
 -- A stride, group by group.
 use Rattle.std.proofs.Common.{◌≡◌, ◌↔◌, ℕ, zero, suc, ◌+◌, ◌*◌, ◌-◌, ◌/◌, ◌%◌, ◌^◌, ◌<◌, ◌≤◌, inl, inr, refl, sym, ap, ◌∙◌, arith, List, [], ◌∷◌, ◌++◌, Bool, true, false, ◌||◌, leb, length, map, filter, drop, take, get_or, Option, Some, None, get_or-take, get_or-drop}
 use Rattle.std.specs.List.{find, list_any, range_with_len}
-use Rattle.std.proofs.lemmas.List.{map-append, drop-take, take-take, drop-drop}
+use Rattle.std.proofs.lemmas.List.{drop-drop, drop-take, map-append, take-take}
 use Rattle.std.proofs.lemmas.List.Elements.{filter-append}
-use Rattle.std.proofs.lemmas.List.Folds.{list_any-append, find-append}
+use Rattle.std.proofs.lemmas.List.Folds.{find-append, list_any-append}
 use Rattle.std.proofs.Math.Pow.{pow_mono}
-use Rattle.std.proofs.lemmas.Nat.{pow-add, div-mul-add, mod-mul-add, div-add-mod'}
+use Rattle.std.proofs.lemmas.Nat.{div-add-mod', div-mul-add, mod-mul-add, pow-add}
 use Rattle.std.proofs.Math.Nat.{mul-le-mul_right, mul-mod_left}
 use Rattle.std.proofs.lemmas.Bool.{cases_Bool, or_left, or_right, false≢true}
 use Rattle.rkyv_table.proofs.Coverage.{same_tests}
-use Rattle.rkyv_scan.specs.Groups.{Kind, IsKind, places_where}
-use Rattle.rkyv_table.specs.Controls.Finding.{marked, candidates, stride_has_empty}
+use Rattle.rkyv_scan.specs.Groups.{IsKind, Kind, indices_where}
+use Rattle.rkyv_table.specs.Controls.Finding.{candidates, marked, stride_has_empty}
 
 pub range_append : (a m n : ℕ) → range_with_len a (m + n) ≡ range_with_len a m ++ range_with_len (a + m) n
 range_append a zero n = let e : a + 0 ≡ a = omega arith in let f : 0 + n ≡ n = omega arith in rw (e, f) refl
@@ -174,6 +174,6 @@ pub or_no : (b c : Bool) → c ≡ false → (b || c) ≡ b
 or_no true c e = refl
 or_no false c e = e
 
-pub places_are : (P : ℕ → Bool) (n : ℕ) → places_where P n ≡ filter P (range_with_len 0 n)
-unfolding places_where
-places_are P n = refl
+pub indices_are : (P : ℕ → Bool) (n : ℕ) → indices_where P n ≡ filter P (range_with_len 0 n)
+unfolding indices_where
+indices_are P n = refl

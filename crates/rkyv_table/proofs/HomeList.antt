@@ -1,15 +1,15 @@
 -- The capacity and the hashes determine the home buckets and the written control bytes.
 use Rattle.std.proofs.Common.{◌≡◌, ℕ, zero, suc, ◌+◌, ◌*◌, ◌%◌, ◌<◌, ◌≤◌, inl, inr, refl, sym, ap, ◌∙◌, arith, List, [], ◌∷◌, ◌++◌, Bool, true, false, cond, eqb, ltb, length, get_or, take, map, Some, length-take}
-use Rattle.std.specs.List.{list_any, find, fold, range_with_len, position_or_len}
+use Rattle.std.specs.List.{find, fold, list_any, position_or_len, range_with_len}
 use Rattle.std.specs.Option.{unwrap_or}
 use Rattle.std.proofs.lemmas.Nat.{mod_below}
-use Rattle.std.proofs.lemmas.List.{take_all, take_more, ext_get_or, get_or_past, get_or-map, length-map}
-use Rattle.std.proofs.lemmas.List.FromFn.{length-map-range_with_len, get_or-map-range_with_len}
+use Rattle.std.proofs.lemmas.List.{ext_get_or, get_or-map, get_or_past, length-map, take_all, take_more}
+use Rattle.std.proofs.lemmas.List.FromFn.{get_or-map-range_with_len, length-map-range_with_len}
 use Rattle.std.proofs.lemmas.List.Sums.{fold-append, passes_at_first}
-use Rattle.std.proofs.lemmas.Bool.{cases_Bool, cases_lt, or_parts, eqb-true, lt-ltb, le-ltb, both_ways}
-use Rattle.rkyv_table.specs.Controls.Numbers.{tag, control_count}
+use Rattle.std.proofs.lemmas.Bool.{both_ways, cases_Bool, cases_lt, eqb-true, le-ltb, lt-ltb, or_parts}
+use Rattle.rkyv_table.specs.Controls.Numbers.{control_count, tag}
 use Rattle.rkyv_table.specs.Controls.Probe.{probed}
-use Rattle.rkyv_table.specs.Controls.Placing.{is_free, Homes, with_home, homes, Written, bucket_control, written_controls}
+use Rattle.rkyv_table.specs.Controls.Placing.{Homes, Written, bucket_control, homes, is_free, with_home, written_controls}
 use Rattle.rkyv_table.proofs.FirstFree.{free_probed}
 use Rattle.rkyv_table.proofs.Lists.{none_find}
 use Rattle.rkyv_table.proofs.Search.{cases_option, control_of}

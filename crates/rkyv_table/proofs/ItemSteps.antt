@@ -4,9 +4,9 @@ use Rattle.std.specs.List.{range_with_len, slice_get}
 use Rattle.std.proofs.lemmas.Option.{none-some, same_Some}
 use Rattle.rkyv_base.specs.declared.errors.VerifyError.{VerifyError}
 use Rattle.rkyv_base.specs.ElementSpec.{ElementSpec}
-use Rattle.rkyv_scan.specs.Groups.{places_where}
-use Rattle.rkyv_table.specs.Lemmas.PlaceLaws.{AllBelow, range_below}
-use Rattle.rkyv_table.specs.Table.Places.{AllHold, FirstFails, SomeHold}
+use Rattle.rkyv_scan.specs.Groups.{indices_where}
+use Rattle.rkyv_table.specs.Lemmas.ValidItemLaws.{AllBelow, range_below}
+use Rattle.rkyv_table.specs.Table.ValidItems.{AreValid, AreValidAt, FirstFails}
 use Rattle.rkyv_table.specs.Controls.Placing.{walk}
 use Rattle.rkyv_table.specs.Table.Layout.{bucket_at}
 use Rattle.rkyv_table.specs.Controls.Walking.{full_from}
@@ -18,7 +18,7 @@ use Rattle.rkyv_table.proofs.Walks.{walk_small, whole_walk}
 pub record IsPartlyChecked (s : ElementSpec) (begin cap : ℕ) (b controls : List ℕ) (lo : ℕ) (rest : List ℕ) (low count : ℕ) : Type 0 where
   pub ordered : low ≤ begin
   pub counted : count + length rest ≡ length (walk controls cap)
-  pub held : (m : ℕ) → AllHold s (bucket_at s.size begin cap) b begin rest low m → AllHold s (bucket_at s.size begin cap) b begin (walk controls cap) lo m
+  pub held : (m : ℕ) → AreValidAt s (bucket_at s.size begin cap) b begin rest low m → AreValidAt s (bucket_at s.size begin cap) b begin (walk controls cap) lo m
   pub failed : (e : VerifyError) → FirstFails s (bucket_at s.size begin cap) b begin rest low e → FirstFails s (bucket_at s.size begin cap) b begin (walk controls cap) lo e
 
 module _ (s : ElementSpec) (begin cap : ℕ) (b controls : List ℕ) (lo : ℕ) where
@@ -34,7 +34,7 @@ module _ (s : ElementSpec) (begin cap : ℕ) (b controls : List ℕ) (lo : ℕ) 
   pub checked_fails : (i : ℕ) (rest : List ℕ) (low count : ℕ) (e : VerifyError) → IsPartlyChecked s begin cap b controls lo (i ∷ rest) low count → s.fails b (bucket_at s.size begin cap i) low begin e → FirstFails s (bucket_at s.size begin cap) b begin (walk controls cap) lo e
   checked_fails i rest low count e g f = g.failed e (inl f)
 
-  pub checked_end : (low count : ℕ) → IsPartlyChecked s begin cap b controls lo [] low count → SomeHold s (bucket_at s.size begin cap) b begin (walk controls cap) lo × (count ≡ length (walk controls cap))
+  pub checked_end : (low count : ℕ) → IsPartlyChecked s begin cap b controls lo [] low count → AreValid s (bucket_at s.size begin cap) b begin (walk controls cap) lo × (count ≡ length (walk controls cap))
   checked_end low count g = ((low, g.held low refl), omega (arith, g.counted))
 
   pub checked_small : (i : ℕ) (rest : List ℕ) (low count : ℕ) → IsPartlyChecked s begin cap b controls lo (i ∷ rest) low count → count + 1 ≤ cap
@@ -53,16 +53,16 @@ pub rest_none : (controls : List ℕ) (cap base width : ℕ) (marks : List ℕ) 
 rest_none controls cap base width [] e = refl
 rest_none controls cap base width (x ∷ xs) e = absurd (none-some x e)
 
-pub rest_group : (controls g : List ℕ) (cap base width : ℕ) (marks : List ℕ) → base + width ≤ cap → g ≡ take width (drop base controls) → marks ≡ places_where (λ j. ltb (get_or g j 0) 128) width
+pub rest_group : (controls g : List ℕ) (cap base width : ℕ) (marks : List ℕ) → base + width ≤ cap → g ≡ take width (drop base controls) → marks ≡ indices_where (λ j. ltb (get_or g j 0) 128) width
     → full_from controls cap base ≡ marks_and_rest controls cap base width marks
 unfolding full_from
 rest_group controls g cap base width marks le e is =
-    let read = group_read controls base width marks (is ∙ ap (λ (xs : List ℕ). places_where (λ j. ltb (get_or xs j 0) 128) width) e) in
+    let read = group_read controls base width marks (is ∙ ap (λ (xs : List ℕ). indices_where (λ j. ltb (get_or xs j 0) 128) width) e) in
     sym (ap (λ xs. map (λ j. base + j) xs ++ filter (λ q. ltb (get_or controls q 0) 128) (range_with_len (base + width) (cap - (base + width)))) read
     ∙ group_cut (λ q. ltb (get_or controls q 0) 128) cap base width le)
 
-pub marks_below : (g : List ℕ) (width : ℕ) (marks : List ℕ) → marks ≡ places_where (λ j. ltb (get_or g j 0) 128) width → AllBelow width marks
-unfolding places_where
+pub marks_below : (g : List ℕ) (width : ℕ) (marks : List ℕ) → marks ≡ indices_where (λ j. ltb (get_or g j 0) 128) width → AllBelow width marks
+unfolding indices_where
 marks_below g width marks e = subst (AllBelow width) (sym e) (range_below (λ j. ltb (get_or g j 0) 128) width)
 
 pub below_head : (width j : ℕ) (marks : List ℕ) → AllBelow width marks → Some j ≡ slice_get marks 0 → j < width

@@ -4,14 +4,14 @@ use Rattle.std.specs.Iterator.{Drains, Yields, YieldsFirstBy}
 use Rattle.std.proofs.lemmas.List.{append-nil, length-map}
 use Rattle.rkyv_base.specs.Format.{Format, SerializeFails, Serialized}
 use Rattle.rkyv_base.specs.Pairs.{written_as}
-use Rattle.rkyv_base.specs.Writing.{CauseApplies, Output, end_of, capacity as too_large, load_factor, no_memory}
+use Rattle.rkyv_base.specs.Writing.{CauseApplies, Output, capacity as too_large, end_of, load_factor, no_memory}
 use Rattle.rkyv_base.proofs.WritingSteps.{fails_under, grows, none_appended}
 use Rattle.rkyv_base.specs.declared.errors.WriteError.{WriteError}
-use Rattle.rkyv_base.specs.declared.errors.WriteError.TheVariants.{InvalidLoadFactor, IteratorLengthMismatch, CapacityTooLarge, PositionTooLarge, DistanceTooLarge, TextTooLong, Writer, Memory, Refused}
+use Rattle.rkyv_base.specs.declared.errors.WriteError.TheVariants.{CapacityTooLarge, DistanceTooLarge, InvalidLoadFactor, IteratorLengthMismatch, Memory, PositionTooLarge, Refused, TextTooLong, Writer}
 use Rattle.rkyv_table.specs.Table.Counting.{YieldsOtherCount}
 use Rattle.rkyv_table.specs.Controls.Numbers.{capacity}
 use Rattle.rkyv_table.specs.Table.Listed.{listed}
-use Rattle.rkyv_table.specs.Table.Serializing.{HasCapacity, WriteItemsFails, OwnCause, WroteItems}
+use Rattle.rkyv_table.specs.Table.Serializing.{HasCapacity, OwnCause, WriteItemsFails, WroteItems}
 
 -- an iterator whose state shows the items that remain
 module _ {S A B : Type 0} (view : A → B) (rest : S → List B) where
@@ -55,14 +55,14 @@ module _ {X V R : Type 0} (yields : List X → Type 0) (other : ℕ → Type 0) 
   own_applies (Writer fault) h = absurd h
   own_applies (Refused c) h = absurd h
 
-  pub answers_listed : {F : Type 0} (result : Result R (WriteError F))
+  pub results_listed : {F : Type 0} (result : Result R (WriteError F))
       → MatchResult result (WroteItems yields len factor max (written_as value_of f) o o' limit) (WriteItemsFails yields len factor max (written_as value_of f) o o' limit other)
       → MatchResult result (Serialized limit Whole values o o') (SerializeFails limit Whole values o o')
-  answers_listed (Ok r) h =
+  results_listed (Ok r) h =
       let x = subst (λ (vs : List V). Serialized limit f vs o o' r) (all h.1 h.2.0) h.3 in
       (x.0, x.1, (has h.0, x.2), x.3)
-  answers_listed (Err e) (inl h) =
+  results_listed (Err e) (inl h) =
       subst (λ x. SerializeFails limit Whole values o x e) (sym h.1) (record { front = []; kept = grows o o [] (none_appended o); cause = own_applies e h.0 })
-  answers_listed (Err e) (inr h) =
+  results_listed (Err e) (inr h) =
       fails_under limit (Whole.next values (end_of o)) (f.next values (end_of o)) o o' e (λ front step n. inr (has h.0, n))
       (subst (λ (vs : List V). SerializeFails limit f vs o o' e) (all h.1 h.2.0) h.3)

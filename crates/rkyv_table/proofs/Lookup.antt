@@ -1,20 +1,20 @@
 -- The steps of a lookup over the strides, which ends in valid control bytes.
 use Rattle.std.proofs.Common.{◌≡◌, ℕ, suc, ◌+◌, ◌*◌, ◌/◌, ◌%◌, ◌^◌, ◌<◌, ◌≤◌, inl, inr, refl, sym, ap, ◌∙◌, arith, List, [], ◌∷◌, Bool, true, false, not, eqb, leb, ltb, length, get_or, filter, take, drop, get_or-take, get_or-drop, Some, None}
-use Rattle.std.specs.List.{find, list_any, Contains, range_with_len, position_or_len}
-use Rattle.std.proofs.lemmas.List.FromFn.{length-range_with_len, get_or-range_with_len}
+use Rattle.std.specs.List.{Contains, find, list_any, position_or_len, range_with_len}
+use Rattle.std.proofs.lemmas.List.FromFn.{get_or-range_with_len, length-range_with_len}
 use Rattle.std.proofs.lemmas.List.Folds.{Any-from_list_any}
 use Rattle.std.proofs.lemmas.Nat.{mod_below}
-use Rattle.std.proofs.lemmas.Bool.{cases_Bool, cases_eq, cases_lt, eq-eqb, ne_eqb, or_left, or_right, or_from, or_parts, ltb-true, ltb-false, le-leb, not-false, not-true, and_parts}
-use Rattle.rkyv_table.specs.Controls.Numbers.{start, tag, control_count, probe_capacity}
+use Rattle.std.proofs.lemmas.Bool.{and_parts, cases_Bool, cases_eq, cases_lt, eq-eqb, le-leb, ltb-false, ltb-true, ne_eqb, not-false, not-true, or_from, or_left, or_parts, or_right}
+use Rattle.rkyv_table.specs.Controls.Numbers.{control_count, probe_capacity, start, tag}
 use Rattle.rkyv_table.specs.Controls.Probe.{strides}
 use Rattle.rkyv_table.specs.Controls.ControlBytes.{IsFullBucket}
 use Rattle.rkyv_table.specs.Controls.StrideOutcome.{IsFullInStride}
 use Rattle.rkyv_table.specs.Controls.Placing.{AreValidControls, walk}
-use Rattle.rkyv_scan.specs.Groups.{Kind, IsKind}
-use Rattle.rkyv_table.specs.Controls.Finding.{marked, candidates, stride_has_empty, ends_at, found, end}
-use Rattle.rkyv_table.proofs.Coverage.{covered, has_stride, count_strides, stride_below}
+use Rattle.rkyv_scan.specs.Groups.{IsKind, Kind}
+use Rattle.rkyv_table.specs.Controls.Finding.{candidates, end, ends_at, found, marked, stride_has_empty}
+use Rattle.rkyv_table.proofs.Coverage.{count_strides, covered, has_stride, stride_below}
 use Rattle.rkyv_table.proofs.Lists.{any_member, any_range, contains_member, none_find, some_find}
-use Rattle.rkyv_table.proofs.Search.{answer, answer_cons, control_of, mark_full}
+use Rattle.rkyv_table.proofs.Search.{control_of, found_along, found_along_cons, mark_full}
 use Rattle.rkyv_table.proofs.Walks.{full_walked}
 use Rattle.rkyv_table.proofs.Written.{first_within}
 
@@ -23,24 +23,24 @@ module _ (kind : Kind) (controls : List ℕ) (cap t : ℕ) (accept : ℕ → Boo
   end_index ps = position_or_len (ends_at kind controls cap t accept) ps
 
   pub ends_by_item : (p b : ℕ) (ps qs : List ℕ) → qs ≡ p ∷ ps → find accept (candidates kind controls cap t p) ≡ Some b
-      → (answer kind controls cap t accept qs ≡ Some b) × (end_index qs ≡ 0)
+      → (found_along kind controls cap t accept qs ≡ Some b) × (end_index qs ≡ 0)
   ends_by_item p b ps qs q h =
       let k = some_find accept (candidates kind controls cap t p) b h in
       let e : ends_at kind controls cap t accept p ≡ true = or_left (list_any accept (candidates kind controls cap t p)) (stride_has_empty controls p) k.0 in
-      rw q (answer_cons kind controls cap t accept p ps ∙ rw e h, rw e refl)
+      rw q (found_along_cons kind controls cap t accept p ps ∙ rw e h, rw e refl)
 
   pub ends_by_empty : (p : ℕ) (ps qs : List ℕ) → qs ≡ p ∷ ps → find accept (candidates kind controls cap t p) ≡ None → stride_has_empty controls p ≡ true
-      → (answer kind controls cap t accept qs ≡ None) × (end_index qs ≡ 0)
+      → (found_along kind controls cap t accept qs ≡ None) × (end_index qs ≡ 0)
   ends_by_empty p ps qs q h s =
       let e : ends_at kind controls cap t accept p ≡ true = or_right (list_any accept (candidates kind controls cap t p)) (stride_has_empty controls p) s in
-      rw q (answer_cons kind controls cap t accept p ps ∙ rw e h, rw e refl)
+      rw q (found_along_cons kind controls cap t accept p ps ∙ rw e h, rw e refl)
 
   pub goes_on : (p : ℕ) (ps qs : List ℕ) → qs ≡ p ∷ ps → find accept (candidates kind controls cap t p) ≡ None → stride_has_empty controls p ≡ false
-      → (answer kind controls cap t accept qs ≡ answer kind controls cap t accept ps) × (end_index qs ≡ 1 + end_index ps)
+      → (found_along kind controls cap t accept qs ≡ found_along kind controls cap t accept ps) × (end_index qs ≡ 1 + end_index ps)
   goes_on p ps qs q h s =
       let k = none_find accept (candidates kind controls cap t p) h in
       let e : ends_at kind controls cap t accept p ≡ false = or_from (list_any accept (candidates kind controls cap t p)) (stride_has_empty controls p) k s in
-      rw q (answer_cons kind controls cap t accept p ps ∙ rw e refl, rw e refl)
+      rw q (found_along_cons kind controls cap t accept p ps ∙ rw e refl, rw e refl)
 
 -- ---- valid control bytes have an empty bucket, so some stride ends the search
 
@@ -103,7 +103,7 @@ stride_full cap len controls stride p q a lp lq e f =
 pub shown_full : (cap len : ℕ) (controls stride : List ℕ) (p : ℕ) → AreValidControls cap len controls → p < probe_capacity cap → stride ≡ take 16 (drop p controls) → (b : ℕ) → IsFullInStride stride p cap b → IsFullBucket cap controls b
 shown_full cap len controls stride p a lp e b s = let k = stride_full cap len controls stride p s.0 a lp s.1 e s.2 in rw s.3 (k.1)
 
-pub found_is : (kind : Kind) (controls : List ℕ) (cap len h : ℕ) (accept : ℕ → Bool) → (len ≡ 0 → ⊥) → found kind controls cap len h accept ≡ answer kind controls cap (tag h) accept (strides h cap)
+pub found_is : (kind : Kind) (controls : List ℕ) (cap len h : ℕ) (accept : ℕ → Bool) → (len ≡ 0 → ⊥) → found kind controls cap len h accept ≡ found_along kind controls cap (tag h) accept (strides h cap)
 found_is kind controls cap len h accept n = rw (ne_eqb len 0 n) refl
 
 pub end_is : (kind : Kind) (controls : List ℕ) (cap len h : ℕ) (accept : ℕ → Bool) → (len ≡ 0 → ⊥) → end kind controls cap len h accept ≡ suc (end_index kind controls cap (tag h) accept (strides h cap))

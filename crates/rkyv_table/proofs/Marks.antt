@@ -1,8 +1,8 @@
 -- The first index of a mask, and the others.
 use Rattle.std.proofs.Common.{◌≡◌, ◌∙◌, ℕ, zero, suc, ◌+◌, ◌%◌, ◌<◌, ◌≤◌, inl, inr, refl, sym, ap, arith, List, [], ◌∷◌, Bool, true, false, map, filter, drop, take, length, get_or, get_or-take, get_or-drop, Some, None}
-use Rattle.rkyv_scan.specs.Groups.{Kind, IsKind, places_where}
+use Rattle.rkyv_scan.specs.Groups.{IsKind, Kind, indices_where}
 use Rattle.std.proofs.lemmas.Bool.{cases_Bool}
-use Rattle.std.specs.List.{find, slice_get, range_with_len}
+use Rattle.std.specs.List.{find, range_with_len, slice_get}
 use Rattle.rkyv_table.specs.Controls.StrideOutcome.{IsFullInStride, IsMarked}
 use Rattle.std.proofs.lemmas.Option.{none-some, same_Some}
 
@@ -47,23 +47,23 @@ in_filter P a (suc n) (suc k) h = elim (cases_Bool (P a)) [
 ]
 
 -- a marked index of the group at `at` is full
-pub place_full : (kind : Kind) → IsKind kind → (t : ℕ) (stride group ps : List ℕ) (at k : ℕ) → t < 128 → group ≡ take kind.width (drop at stride)
-    → ps ≡ places_where (kind.marks group t) kind.width → k < length ps → (get_or ps k 0 < kind.width) × (get_or stride (at + get_or ps k 0) 0 < 128)
-unfolding places_where
-place_full kind law t stride group ps at k ht e p h =
+pub index_full : (kind : Kind) → IsKind kind → (t : ℕ) (stride group ps : List ℕ) (at k : ℕ) → t < 128 → group ≡ take kind.width (drop at stride)
+    → ps ≡ indices_where (kind.marks group t) kind.width → k < length ps → (get_or ps k 0 < kind.width) × (get_or stride (at + get_or ps k 0) 0 < 128)
+unfolding indices_where
+index_full kind law t stride group ps at k ht e p h =
     let h' : k < length (filter (kind.marks group t) (range_with_len 0 kind.width)) = rw p at h in
     let r = in_filter (kind.marks group t) 0 kind.width k h' in
     let j = get_or (filter (kind.marks group t) (range_with_len 0 kind.width)) k 0 in
     let lt : j < kind.width = omega (arith, r.0) in
     let full : get_or group j 0 < 128 = law.full group t j ht r.1 in
-    let at_place : get_or group j 0 ≡ get_or stride (at + j) 0 = ap (λ xs. get_or xs j 0) e ∙ get_or-take kind.width (drop at stride) j 0 lt ∙ get_or-drop at stride j 0 in
-    rw p (lt, rw at_place at full)
+    let at_index : get_or group j 0 ≡ get_or stride (at + j) 0 = ap (λ xs. get_or xs j 0) e ∙ get_or-take kind.width (drop at stride) j 0 lt ∙ get_or-drop at stride j 0 in
+    rw p (lt, rw at_index at full)
 
 -- the bucket of a marked index is that of a full control byte of the stride
 pub marked_bucket_full : (kind : Kind) → IsKind kind → (t p cap at : ℕ) (stride group ps : List ℕ) → t < 128 → at + kind.width ≤ 16 → group ≡ take kind.width (drop at stride)
-    → ps ≡ places_where (kind.marks group t) kind.width → (b : ℕ) → IsMarked (p + at) cap ps b → IsFullInStride stride p cap b
+    → ps ≡ indices_where (kind.marks group t) kind.width → (b : ℕ) → IsMarked (p + at) cap ps b → IsFullInStride stride p cap b
 marked_bucket_full kind law t p cap at stride group ps ht fits e m b k =
-    let f = place_full kind law t stride group ps at k.0 ht e m k.1 in
+    let f = index_full kind law t stride group ps at k.0 ht e m k.1 in
     let j = get_or ps k.0 0 in
     let a : p + at + j ≡ p + (at + j) = omega arith in
     (at + j, omega (arith, f.0), f.1, k.2 ∙ ap (λ x. x % cap) a)

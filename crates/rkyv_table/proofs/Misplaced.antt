@@ -1,24 +1,24 @@
 -- Items that a lookup of their own doesn't find.
 use Rattle.std.proofs.Common.{◌≡◌, ℕ, suc, ◌+◌, ◌%◌, ◌^◌, ◌<◌, ◌≤◌, inl, inr, refl, sym, ap, subst, ◌∙◌, arith, List, [], ◌∷◌, Bool, true, false, not, ◌&&◌, eqb, length, filter, get_or, map, take, Option, Some, None, get_or-take, length-take}
 use Rattle.std.specs.Prelude.{MatchOption}
-use Rattle.std.specs.List.{find, list_any, Contains, IsDistinct, range_with_len, position_or_len}
+use Rattle.std.specs.List.{Contains, IsDistinct, find, list_any, position_or_len, range_with_len}
 use Rattle.std.specs.Cmp.{nat_eq_equiv}
 use Rattle.std.proofs.lemmas.List.{ext_get_or, get_or_default, nil_from_length}
 use Rattle.std.proofs.lemmas.List.Folds.{Any-from_list_any, find_at, list_any_at}
-use Rattle.std.proofs.lemmas.List.FromFn.{length-range_with_len, get_or-range_with_len, length-map-range_with_len, get_or-map-range_with_len}
+use Rattle.std.proofs.lemmas.List.FromFn.{get_or-map-range_with_len, get_or-range_with_len, length-map-range_with_len, length-range_with_len}
 use Rattle.std.proofs.lemmas.List.Sums.{fails_before_first, passes_at_first}
 use Rattle.std.proofs.lemmas.Map.Made.{length-from_same_keys}
 use Rattle.std.proofs.lemmas.Option.{none-some, same_Some, slice_get-get_or}
 use Rattle.std.proofs.lemmas.Bool.{cases_Bool, cases_eq, cases_lt, and_parts, and_from, eq-eqb, eqb-true, ne_eqb, not-false, or_left, or_right, true≢false}
-use Rattle.rkyv_scan.specs.Groups.{Kind, IsKind, is_full}
-use Rattle.rkyv_table.specs.Controls.Finding.{marked, candidates, ends_at, found}
-use Rattle.rkyv_table.specs.Table.Misplaced.{AloneAccepted, AcceptsSame, IsSameness, NoneAccepted, is_found_at, is_misplaced, misplaced, repeated, repeats_earlier}
+use Rattle.rkyv_scan.specs.Groups.{IsKind, Kind, is_full}
+use Rattle.rkyv_table.specs.Controls.Finding.{candidates, ends_at, found, marked}
+use Rattle.rkyv_table.specs.Table.Misplaced.{AcceptsSame, AloneAccepted, IsSameness, NoneAccepted, is_found_at, is_misplaced, misplaced, repeated, repeats_earlier}
 use Rattle.rkyv_table.specs.Controls.Numbers.{tag}
 use Rattle.rkyv_table.specs.Controls.Placing.{AreValidControls, Written, walk}
 use Rattle.rkyv_table.specs.Controls.Probe.{strides}
 use Rattle.rkyv_table.proofs.Lists.{any_filter, any_map_filter, any_member, contains_member, distinct_filter, member_contains, some_find}
 use Rattle.rkyv_table.proofs.Lookup.{found_is, marked_walked}
-use Rattle.rkyv_table.proofs.Search.{answer, answer_cons, cases_option}
+use Rattle.rkyv_table.proofs.Search.{cases_option, found_along, found_along_cons}
 use Rattle.rkyv_table.proofs.Walks.{filter_agree_range}
 use Rattle.rkyv_table.proofs.Written.{first_within, found_written, tag_small}
 use Rattle.rkyv_table.proofs.WrittenAccepted.{distinct_homes, distinct_range, full_home, homes_apart}
@@ -56,11 +56,11 @@ module _ (kind : Kind) (cap len h : ℕ) (controls : List ℕ) (law : IsKind kin
       let k = marked_walked kind cap len h (tag h) p q controls law accepted (tag_small h fits) (member_contains p (strides h cap) here) (omega arith) (omega arith) t.0 in
       subst (Contains (walk controls cap)) (sym (eqb-true b (q % cap) t.1)) k.1
 
-  answer_walked : (accept : ℕ → Bool) (b : ℕ) (ps : List ℕ) → ((p : ℕ) → list_any (eqb p) ps ≡ true → list_any (eqb p) (strides h cap) ≡ true)
-      → answer kind controls cap (tag h) accept ps ≡ Some b → (accept b ≡ true) × Contains (walk controls cap) b
-  answer_walked accept b [] sub e = absurd (none-some b e)
-  answer_walked accept b (p ∷ ps) sub e =
-      let e' = sym (answer_cons kind controls cap (tag h) accept p ps) ∙ e in
+  finds_walked : (accept : ℕ → Bool) (b : ℕ) (ps : List ℕ) → ((p : ℕ) → list_any (eqb p) ps ≡ true → list_any (eqb p) (strides h cap) ≡ true)
+      → found_along kind controls cap (tag h) accept ps ≡ Some b → (accept b ≡ true) × Contains (walk controls cap) b
+  finds_walked accept b [] sub e = absurd (none-some b e)
+  finds_walked accept b (p ∷ ps) sub e =
+      let e' = sym (found_along_cons kind controls cap (tag h) accept p ps) ∙ e in
       elim (cases_Bool (ends_at kind controls cap (tag h) accept p)) [
         | inl t ↦
             let f : find accept (candidates kind controls cap (tag h) p) ≡ Some b = rw t at e' in (
@@ -68,14 +68,14 @@ module _ (kind : Kind) (cap len h : ℕ) (controls : List ℕ) (law : IsKind kin
               candidate_walked p b (sub p (or_left (eqb p p) (list_any (eqb p) ps) (eq-eqb p p refl))) (found_member accept b (candidates kind controls cap (tag h) p) f),
             )
         | inr n ↦
-            let f : answer kind controls cap (tag h) accept ps ≡ Some b = rw n at e' in
-            answer_walked accept b ps (λ q m. sub q (or_right (eqb q p) (list_any (eqb q) ps) m)) f
+            let f : found_along kind controls cap (tag h) accept ps ≡ Some b = rw n at e' in
+            finds_walked accept b ps (λ q m. sub q (or_right (eqb q p) (list_any (eqb q) ps) m)) f
       ]
 
   pub found_walked : (accept : ℕ → Bool) (b : ℕ) → found kind controls cap len h accept ≡ Some b → (accept b ≡ true) × Contains (walk controls cap) b
   found_walked accept b e = elim (cases_eq len 0) [
     | inl z ↦ absurd (none-some b (rw (eq-eqb len 0 z) at e))
-    | inr n ↦ answer_walked accept b (strides h cap) (λ p m. m) (sym (found_is kind controls cap len h accept n) ∙ e)
+    | inr n ↦ finds_walked accept b (strides h cap) (λ p m. m) (sym (found_is kind controls cap len h accept n) ∙ e)
   ]
 
   -- ---- a lookup depends only on the accepted ones of the full buckets
@@ -84,14 +84,14 @@ module _ (kind : Kind) (cap len h : ℕ) (controls : List ℕ) (law : IsKind kin
   Agree P Q = (b : ℕ) → Contains (walk controls cap) b → P b ≡ Q b
 
   answers_agree : (P Q : ℕ → Bool) → Agree P Q → (ps : List ℕ) → ((p : ℕ) → list_any (eqb p) ps ≡ true → list_any (eqb p) (strides h cap) ≡ true)
-      → answer kind controls cap (tag h) P ps ≡ answer kind controls cap (tag h) Q ps
+      → found_along kind controls cap (tag h) P ps ≡ found_along kind controls cap (tag h) Q ps
   answers_agree P Q same [] sub = refl
   answers_agree P Q same (p ∷ ps) sub =
       let xs = candidates kind controls cap (tag h) p in
       let on : (b : ℕ) → list_any (eqb b) xs ≡ true → P b ≡ Q b = λ b m. same b (candidate_walked p b (sub p (or_left (eqb p p) (list_any (eqb p) ps) (eq-eqb p p refl))) m) in
       let rest = answers_agree P Q same ps (λ q m. sub q (or_right (eqb q p) (list_any (eqb q) ps) m)) in
-      answer_cons kind controls cap (tag h) P p ps
-      ∙ rw (any_agree P Q xs on, find_agree P Q xs on, rest) (sym (answer_cons kind controls cap (tag h) Q p ps))
+      found_along_cons kind controls cap (tag h) P p ps
+      ∙ rw (any_agree P Q xs on, find_agree P Q xs on, rest) (sym (found_along_cons kind controls cap (tag h) Q p ps))
 
   pub found_agree : (P Q : ℕ → Bool) → Agree P Q → found kind controls cap len h P ≡ found kind controls cap len h Q
   found_agree P Q same = elim (cases_eq len 0) [
@@ -110,9 +110,9 @@ none_filtered P xs x e m = elim (cases_Bool (P x)) [
       absurd (true≢false (sym k ∙ ap (list_any (eqb x)) n))
 ]
 
-answer_is : (b : ℕ) (o : Option ℕ) → is_found_at b o ≡ true → o ≡ Some b
-answer_is b None e = absurd (true≢false (sym e))
-answer_is b (Some x) e = ap Some (sym (eqb-true b x e))
+finds_is : (b : ℕ) (o : Option ℕ) → is_found_at b o ≡ true → o ≡ Some b
+finds_is b None e = absurd (true≢false (sym e))
+finds_is b (Some x) e = ap Some (sym (eqb-true b x e))
 
 module _ (kind : Kind) (cap len hash : ℕ) (controls : List ℕ) (accept : ℕ → Bool) (hash_at : ℕ → ℕ) (same_at : ℕ → ℕ → Bool) (law : IsKind kind) (accepted : AreValidControls cap len controls)
     (fits : hash < 2 ^ 64) (none : misplaced kind controls cap len hash_at same_at ≡ 0) (accepts_same : AcceptsSame controls cap hash accept hash_at same_at) where
@@ -121,7 +121,7 @@ module _ (kind : Kind) (cap len hash : ℕ) (controls : List ℕ) (accept : ℕ 
       let P = is_misplaced kind controls cap len hash_at same_at in
       let f : P b ≡ false = none_filtered P (walk controls cap) b none (contains_member b (walk controls cap) here) in
       let own : found kind controls cap len (hash_at b) (same_at b) ≡ Some b =
-      answer_is b (found kind controls cap len (hash_at b) (same_at b)) (not-false (is_found_at b (found kind controls cap len (hash_at b) (same_at b))) f) in
+      finds_is b (found kind controls cap len (hash_at b) (same_at b)) (not-false (is_found_at b (found kind controls cap len (hash_at b) (same_at b))) f) in
       found_agree kind cap len hash controls law accepted fits accept (same_at b) (λ d there. accepts_same.same b d here there ok)
       ∙ ap (λ z. found kind controls cap len z (same_at b)) (sym (accepts_same.hashed b here ok)) ∙ own
 
@@ -151,8 +151,8 @@ filter_map_length P f (x ∷ xs) = elim (cases_Bool (P (f x))) [
 ]
 
 -- a list by its indices
-by_places : (xs : List ℕ) → xs ≡ map (λ i. get_or xs i 0) (range_with_len 0 (length xs))
-by_places xs =
+by_indices : (xs : List ℕ) → xs ≡ map (λ i. get_or xs i 0) (range_with_len 0 (length xs))
+by_indices xs =
     let f = λ (i : ℕ). get_or xs i 0 in
     let n = length xs in
     ext_get_or 0 xs (map f (range_with_len 0 n)) (sym (length-map-range_with_len f 0 n))
@@ -223,5 +223,5 @@ module _ (kind : Kind) (cap : ℕ) (hashes homes controls : List ℕ) (hash_at :
       length-from_same_keys nat_eq_equiv (filter P (walk controls cap)) (filter P homes) (distinct_filter P (walk controls cap) distinct_walk)
       (distinct_filter P homes (distinct_homes cap hashes homes w.placed))
       (λ q. any_filter q P (walk controls cap) ∙ ap (λ t. t && P q) (full_home cap hashes homes controls q (omega arith) w fits) ∙ sym (any_filter q P homes)) in
-      d ∙ ap (λ xs. length (filter P xs)) (by_places homes) ∙ filter_map_length P (λ i. get_or homes i 0) (range_with_len 0 n)
+      d ∙ ap (λ xs. length (filter P xs)) (by_indices homes) ∙ filter_map_length P (λ i. get_or homes i 0) (range_with_len 0 n)
       ∙ ap length (filter_agree_range (λ i. P (get_or homes i 0)) (repeats_earlier same_at homes) 0 n (λ i from to. own_is i (omega (arith, to))))

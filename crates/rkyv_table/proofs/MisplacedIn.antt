@@ -20,13 +20,13 @@ count_passed P x xs rest e f = ap (λ ys. length (filter P ys)) e ∙ rw f refl
 
 -- the comparison with a bucket's own item, by positions
 module _ {T W : Type 0} {ts : Specs T} {wt : Words W} (compares : View T → View T → Bool → Type 0) (t : ArchivedHashTable T W ts wt) (bucket : ℕ) (same : ℕ → ℕ → Bool) (alone : ComparesAs compares t same) where
-  pub own_answer : (other : ℕ) (r : Bool) → ComparesItems compares t bucket other r → r ≡ same (item_pos t bucket) (item_pos t other)
-  own_answer other r e = alone e.0 e.1 r (bucket, e.2) (other, e.3) e.4 ∙ ap (λ p. same p e.1.pos) e.2.place ∙ ap (same (item_pos t bucket)) e.3.place
+  pub own_finds : (other : ℕ) (r : Bool) → ComparesItems compares t bucket other r → r ≡ same (item_pos t bucket) (item_pos t other)
+  own_finds other r e = alone e.0 e.1 r (bucket, e.2) (other, e.3) e.4 ∙ ap (λ p. same p e.1.pos) e.2.pos ∙ ap (same (item_pos t bucket)) e.3.pos
 
 -- the hash of a bucket's item, by its position
 pub hash_is : {T W : Type 0} {ts : Specs T} {wt : Words W} (t : ArchivedHashTable T W ts wt) (hashes : View T → ℕ → Type 0) (bucket hash : ℕ) (item : View T) → IsItemIn t bucket item → hashes item hash
     → (hash_of : ℕ → ℕ) → HashesAs hashes t hash_of → hash ≡ hash_of (item_pos t bucket)
-hash_is t hashes bucket hash item here hashed hash_of hash_as = hash_as item hash (bucket, here) hashed ∙ ap hash_of here.place
+hash_is t hashes bucket hash item here hashed hash_of hash_as = hash_as item hash (bucket, here) hashed ∙ ap hash_of here.pos
 
 -- the counted items and those of the remaining buckets are all misplaced items
 module _ {T W : Type 0} {ts : Specs T} {wt : Words W} (t : ArchivedHashTable T W ts wt) (hashes : View T → ℕ → Type 0) (compares : View T → View T → Bool → Type 0) where

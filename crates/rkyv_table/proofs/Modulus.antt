@@ -1,15 +1,15 @@
 -- The modulus is the least power of two that is at least the number of control bytes, and 16 times
 -- a power of two.
 use Rattle.std.proofs.Common.{◌≡◌, ℕ, zero, suc, ◌+◌, ◌*◌, ◌-◌, ◌^◌, ◌<◌, ◌≤◌, inl, inr, sym, ap, ◌∙◌, arith, zero-add, leb, get_or}
-use Rattle.std.specs.List.{range_with_len, position_or_len}
+use Rattle.std.specs.List.{position_or_len, range_with_len}
 use Rattle.std.specs.Int.{IsNextPowerOfTwo}
 use Rattle.std.proofs.Math.Nat.{two-pow-succ}
 use Rattle.std.proofs.Math.Pow.{pow_mono}
 use Rattle.std.proofs.lemmas.Nat.{pow-add, pow_below}
-use Rattle.std.proofs.lemmas.Bool.{cases_lt, leb-true, lt-leb, le-leb}
-use Rattle.std.proofs.lemmas.List.FromFn.{length-range_with_len, get_or-range_with_len}
+use Rattle.std.proofs.lemmas.Bool.{cases_lt, le-leb, leb-true, lt-leb}
+use Rattle.std.proofs.lemmas.List.FromFn.{get_or-range_with_len, length-range_with_len}
 use Rattle.std.proofs.lemmas.List.Sums.{passes_at_first, position_or_len_is}
-use Rattle.rkyv_table.specs.Controls.Numbers.{modulus, control_count}
+use Rattle.rkyv_table.specs.Controls.Numbers.{control_count, modulus}
 
 below_pow : (n : ℕ) → n < 2 ^ n
 below_pow zero = omega arith

@@ -56,8 +56,8 @@ module _ {X : Type 0} (w : Width) (s : ElementSpec) (law : IsElement s) (represe
   ]
 
   module _ (kept : KeepsTable w s b c p (home n)) (one : represents c (item_at w s.size b p (home n)) new) where
-    place : (j : ℕ) → j < length pairs → slice_index (home_positions w s.size c p of.homes) j ≡ item_at w s.size b p (home j)
-    place j h = home_pos w s.size c p of.homes j (omega (arith, counted, h)) ∙ item_stays w s b c p (home n) kept (home j)
+    same_pos : (j : ℕ) → j < length pairs → slice_index (home_positions w s.size c p of.homes) j ≡ item_at w s.size b p (home j)
+    same_pos j h = home_pos w s.size c p of.homes j (omega (arith, counted, h)) ∙ item_stays w s b c p (home n) kept (home j)
 
     before : (j : ℕ) → j < length pairs → slice_index (home_positions w s.size b p of.homes) j ≡ item_at w s.size b p (home j)
     before j h = home_pos w s.size b p of.homes j (omega (arith, counted, h))
@@ -71,10 +71,10 @@ module _ {X : Type 0} (w : Width) (s : ElementSpec) (law : IsElement s) (represe
         let valid = (item_viewable w s law b p view (home j) (walked j h)).valid in
         let same = kept.others (home j) (walked j h) (apart j h ne) in
         let was : represents b q x = subst (λ r. represents b r x) (before j h) (of.at j x at_j) in
-        subst (λ r. represents c r x) (sym (place j h)) (local x b c q 0 q valid.0 (omega arith) valid.1 same.fixed (same.parts valid.0 valid.1) was)
+        subst (λ r. represents c r x) (sym (same_pos j h)) (local x b c q 0 q valid.0 (omega arith) valid.1 same.fixed (same.parts valid.0 valid.1) was)
 
     own : represents c (slice_index (home_positions w s.size c p of.homes) n) new
-    own = subst (λ r. represents c r new) (sym (place n inside)) one
+    own = subst (λ r. represents c r new) (sym (same_pos n inside)) one
 
     pub written_of : IsWrittenOf w s.size represents c p (slice_set pairs n (hash, new))
     written_of =

@@ -10,10 +10,10 @@ use Rattle.rkyv_table.specs.Table.PairSeals.{LendsPair}
 
 pub pair_lent : {K V : Type 0} (k v : ElementSpec) (b : List ℕ) (At : ℕ → Type 0) (q : ℕ) (pair : View K × Seal V) → At q → pos_of pair.0 ≡ q → IsValidView k pair.0
     → bytes_of pair.0 ≡ take (value_pos k v q) b → bytes_in pair.1 ≡ drop (value_pos k v q) b → seal_pos pair.1 ≡ 0 → LendsPair k v b At pair
-pair_lent k v b At q pair at place key front back begin = record {
-  at = subst At (sym place) at;
+pair_lent k v b At q pair at pos key front back begin = record {
+  at = subst At (sym pos) at;
   key = key;
-  front = front ∙ ap (λ n. take (value_pos k v n) b) (sym place);
-  back = back ∙ ap (λ n. drop (value_pos k v n) b) (sym place);
+  front = front ∙ ap (λ n. take (value_pos k v n) b) (sym pos);
+  back = back ∙ ap (λ n. drop (value_pos k v n) b) (sym pos);
   begin = begin;
 }

@@ -1,13 +1,13 @@
 -- One slot more whose item is serialized.
 use Rattle.std.proofs.Common.{◌≡◌, ℕ, suc, ◌+◌, ◌<◌, ◌≤◌, refl, sym, ap, ◌∙◌, subst, arith, List, [], ◌∷◌, ◌++◌, length, get_or, take, drop, Option, Some, None, append-nil, append_assoc, length-append}
 use Rattle.std.specs.Prelude.{slice_get}
-use Rattle.std.proofs.lemmas.List.{take_more, take-append-drop}
+use Rattle.std.proofs.lemmas.List.{take-append-drop, take_more}
 use Rattle.std.proofs.lemmas.Option.{slice_get-get_or}
 use Rattle.rkyv_base.specs.declared.errors.WriteError.{WriteError}
-use Rattle.rkyv_base.specs.Writing.{Output, end_of, Appends, WriteFails, Within}
+use Rattle.rkyv_base.specs.Writing.{Appends, Output, Within, WriteFails, end_of}
 use Rattle.rkyv_base.specs.Format.{Format}
 use Rattle.rkyv_base.proofs.WritingSteps.{end-appends, fails_after}
-use Rattle.rkyv_table.specs.Table.Slots.{SlotParts, PartsNext, filled}
+use Rattle.rkyv_table.specs.Table.Slots.{PartsNext, SlotParts, filled}
 
 zero_plus : (n : ℕ) → 0 + n ≡ n
 zero_plus n = omega arith

@@ -2,16 +2,16 @@
 use Rattle.std.proofs.Common.{ℕ, ◌+◌, ◌≤◌, arith, length}
 use Rattle.std.specs.Int.{Width}
 use Rattle.rkyv_base.specs.Format.{Format, IsFormat}
-use Rattle.rkyv_base.specs.ElementSpec.{IsElement, ElementSpec}
+use Rattle.rkyv_base.specs.ElementSpec.{ElementSpec, IsElement}
 use Rattle.rkyv_base.specs.Text.{IsArchiveWord}
 use Rattle.rkyv_table.specs.Lemmas.TableLaws.{table_element}
 use Rattle.rkyv_table.specs.Lemmas.TableSound.{table_is_format}
-use Rattle.rkyv_table.specs.Table.Passing.{HoldsAround, WrittenTablesPass}
+use Rattle.rkyv_table.specs.Table.Passing.{IsValidAround, WrittenTablesPass}
 use Rattle.std.proofs.Common.{List}
 
 -- a value that is valid in a range is valid in each range around it
-pub holds_around : (s : ElementSpec) → IsElement s → (c : List ℕ) (p begin end l : ℕ) → begin ≤ end → s.is_valid c p begin end l → HoldsAround s c p begin end
-holds_around s law c p begin end l o h lo hi below above =
+pub is_valid_around : (s : ElementSpec) → IsElement s → (c : List ℕ) (p begin end l : ℕ) → begin ≤ end → s.is_valid c p begin end l → IsValidAround s c p begin end
+is_valid_around s law c p begin end l o h lo hi below above =
     let d = law.lower_lo c p begin lo end l below o h in
     let b = law.rest_in_range c p begin end l o h in
     let within = law.rest_in_range c p lo end d.0 (omega arith) d.1 in
@@ -21,4 +21,4 @@ pub tables_pass : {X R : Type 0} (w : Width) → IsArchiveWord w → (s : Elemen
     → (factor : ℕ × ℕ) → WrittenTablesPass w s f factor
 tables_pass w kind s law represents f fl factor pairs r c begin p part out made image sits head behind aligned =
     let d = (table_is_format w kind s law represents f fl factor).sound pairs r c begin p part out made image sits head behind aligned in
-    holds_around _ (table_element w kind s law) c p begin (begin + length part) d.0 (omega arith) d.1
+    is_valid_around _ (table_element w kind s law) c p begin (begin + length part) d.0 (omega arith) d.1

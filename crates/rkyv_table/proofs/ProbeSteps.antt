@@ -4,9 +4,9 @@ use Rattle.std.specs.List.{range_with_len}
 use Rattle.std.proofs.Math.Nat.{mod-add-mod, mod-eq_of_lt}
 use Rattle.std.proofs.Math.Pow.{pow_mono}
 use Rattle.std.proofs.lemmas.Nat.{and_mask, mod_below, pow_pos}
-use Rattle.std.proofs.lemmas.Bool.{cases_lt, lt-ltb, le-ltb}
+use Rattle.std.proofs.lemmas.Bool.{cases_lt, le-ltb, lt-ltb}
 use Rattle.rkyv_table.specs.Controls.Numbers.{modulus, probe_capacity}
-use Rattle.rkyv_table.specs.Controls.Probe.{probe_place, strides, strides_from, IsProbe}
+use Rattle.rkyv_table.specs.Controls.Probe.{IsProbe, probe_index, strides, strides_from}
 use Rattle.rkyv_table.proofs.Triangle.{triangle, twice}
 use Rattle.rkyv_table.proofs.Modulus.{modulus_power}
 
@@ -68,9 +68,9 @@ stepped cap s offset k h is =
       at = and_mask (offset + 16 * k) _ ∙ offset_next (modulus cap) k offset h is.at ∙ ap (λ z. 16 * (z / 2) % modulus cap) (sym t);
     }
 
-pub place_is : (cap s offset k : ℕ) → 0 < k → IsProbe cap s offset k → bit_and (s + bit_and (offset + 16 * k) (modulus cap - 1)) (modulus cap - 1) ≡ probe_place s (modulus cap) k
+pub probe_index_is : (cap s offset k : ℕ) → 0 < k → IsProbe cap s offset k → bit_and (s + bit_and (offset + 16 * k) (modulus cap - 1)) (modulus cap - 1) ≡ probe_index s (modulus cap) k
 unfolding modulus
-place_is cap s offset k h is =
+probe_index_is cap s offset k h is =
     let o = and_mask (offset + 16 * k) _ ∙ offset_next (modulus cap) k offset h is.at in
     and_mask (s + bit_and (offset + 16 * k) (modulus cap - 1)) _
     ∙ ap (λ z. (s + z) % modulus cap) o
@@ -79,18 +79,18 @@ place_is cap s offset k h is =
 range_cons : (k n : ℕ) → k < n → range_with_len k (n - k) ≡ k ∷ range_with_len (k + 1) (n - (k + 1))
 range_cons k n h = let e : n - k ≡ suc (n - (k + 1)) = omega arith in rw e refl
 
-pub takes : (cap s k p : ℕ) → k < modulus cap / 16 → p ≡ probe_place s (modulus cap) k → p < probe_capacity cap → strides_from cap s k ≡ p ∷ strides_from cap s (k + 1)
+pub takes : (cap s k p : ℕ) → k < modulus cap / 16 → p ≡ probe_index s (modulus cap) k → p < probe_capacity cap → strides_from cap s k ≡ p ∷ strides_from cap s (k + 1)
 unfolding strides_from
 takes cap s k p lt e below =
     let t = lt-ltb p (probe_capacity cap) below in
-    let t' : ltb (probe_place s (modulus cap) k) (probe_capacity cap) ≡ true = rw e at t in
+    let t' : ltb (probe_index s (modulus cap) k) (probe_capacity cap) ≡ true = rw e at t in
     rw (range_cons k (modulus cap / 16) lt, t', e) refl
 
-pub skips : (cap s k p : ℕ) → k < modulus cap / 16 → p ≡ probe_place s (modulus cap) k → probe_capacity cap ≤ p → strides_from cap s k ≡ strides_from cap s (k + 1)
+pub skips : (cap s k p : ℕ) → k < modulus cap / 16 → p ≡ probe_index s (modulus cap) k → probe_capacity cap ≤ p → strides_from cap s k ≡ strides_from cap s (k + 1)
 unfolding strides_from
 skips cap s k p lt e above =
     let t = le-ltb p (probe_capacity cap) above in
-    let t' : ltb (probe_place s (modulus cap) k) (probe_capacity cap) ≡ false = rw e at t in
+    let t' : ltb (probe_index s (modulus cap) k) (probe_capacity cap) ≡ false = rw e at t in
     rw (range_cons k (modulus cap / 16) lt, t') refl
 
 pub ends : (cap s k : ℕ) → modulus cap / 16 ≤ k → strides_from cap s k ≡ []

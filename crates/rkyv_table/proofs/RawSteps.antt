@@ -6,7 +6,7 @@ use Rattle.std.proofs.lemmas.Option.{none-some, same_Some}
 use Rattle.std.proofs.lemmas.List.{take-append-le, take_all}
 use Rattle.std.proofs.Math.Nat.{mul-le-mul_right}
 use Rattle.std.proofs.lemmas.List.Elements.{All-head, All-rest, All-same, filter-append}
-use Rattle.rkyv_scan.specs.Groups.{places_where}
+use Rattle.rkyv_scan.specs.Groups.{indices_where}
 use Rattle.rkyv_table.specs.Controls.Numbers.{control_count}
 use Rattle.rkyv_table.specs.Controls.Placing.{walk}
 use Rattle.rkyv_table.specs.Table.RawItems.{IsAhead, IsRawIter, buckets_left, marked_left, pos_before, positions_left}
@@ -37,15 +37,15 @@ group_cut F end base w le =
     ap (λ xs. xs ++ filter F (range_with_len (base + w) n)) (sym s')
     ∙ sym (ap (λ k. filter F (range_with_len base k)) d ∙ ap (filter F) (range_append base w n) ∙ filter-append F (range_with_len base w) (range_with_len (base + w) n))
 
-pub group_read : (controls : List ℕ) (base w : ℕ) (marks : List ℕ) → marks ≡ places_where (λ j. ltb (get_or (take w (drop base controls)) j 0) 128) w
+pub group_read : (controls : List ℕ) (base w : ℕ) (marks : List ℕ) → marks ≡ indices_where (λ j. ltb (get_or (take w (drop base controls)) j 0) 128) w
     → marks ≡ filter (λ j. ltb (get_or controls (base + j) 0) 128) (range_with_len 0 w)
-unfolding places_where
+unfolding indices_where
 group_read controls base w marks e =
     e ∙ filter_agree_range (λ j. ltb (get_or (take w (drop base controls)) j 0) 128) (λ j. ltb (get_or controls (base + j) 0) 128) 0 w
     (λ j lo hi. ap (λ x. ltb x 128) (get_or-take w (drop base controls) j 0 (omega arith) ∙ get_or-drop base controls j 0))
 
 -- a group that is read anew
-group_marked : (controls : List ℕ) (base : ℕ) (marks : List ℕ) → base + 8 ≤ length controls → marks ≡ places_where (λ j. ltb (get_or (take 8 (drop base controls)) j 0) 128) 8
+group_marked : (controls : List ℕ) (base : ℕ) (marks : List ℕ) → base + 8 ≤ length controls → marks ≡ indices_where (λ j. ltb (get_or (take 8 (drop base controls)) j 0) 128) 8
     → marked_left controls base marks ≡ full_from controls (length controls) base
 unfolding marked_left full_from
 group_marked controls base marks le e =
@@ -85,8 +85,8 @@ module _ (buckets_end size count : ℕ) (controls : List ℕ) (base : ℕ) (mark
       let p : (base + j + 1) * size ≡ base * size + (j + 1) * size = omega arith in
       (omega (arith, h.0), omega (arith, h.1, p))
 
-  pub head_places : (j : ℕ) → 0 < count → Some j ≡ slice_get marks 0 → positions_left buckets_end size count controls base marks ≡ (buckets_end - (j + 1) * size) ∷ positions_left buckets_end size (count - 1) controls base (drop 1 marks)
-  head_places j some e =
+  pub head_positions : (j : ℕ) → 0 < count → Some j ≡ slice_get marks 0 → positions_left buckets_end size count controls base marks ≡ (buckets_end - (j + 1) * size) ∷ positions_left buckets_end size (count - 1) controls base (drop 1 marks)
+  head_positions j some e =
       let p : (base + j + 1) * size ≡ base * size + (j + 1) * size = omega arith in
       let q : buckets_end + base * size - (base + j + 1) * size ≡ buckets_end - (j + 1) * size = omega (arith, p) in
       ap (map (pos_before (buckets_end + base * size) size)) (head_left j some e)
@@ -129,29 +129,29 @@ module _ (buckets_end size count : ℕ) (controls : List ℕ) (base : ℕ) (mark
       let m = mul-le-mul_right {m = base + 9} {n = h.0 + 1} size (omega (arith, h.1)) in
       (omega (arith, h.1, h.2.0), omega (arith, h.2.1, m))
 
-  module _ (some : 0 < count) (none : None ≡ slice_get marks 0) (marks' : List ℕ) (read : marks' ≡ places_where (λ j. ltb (get_or (take 8 (drop (base + 8) controls)) j 0) 128) 8) where
+  module _ (some : 0 < count) (none : None ≡ slice_get marks 0) (marks' : List ℕ) (read : marks' ≡ indices_where (λ j. ltb (get_or (take 8 (drop (base + 8) controls)) j 0) 128) 8) where
     next_left : buckets_left count controls base marks ≡ buckets_left count controls (base + 8) marks'
     unfolding buckets_left
     next_left =
         let h = next_inside some none in
         rest_left none ∙ sym (ap (take count) (group_marked controls (base + 8) marks' (omega (arith, h.0)) read))
 
-    next_place : buckets_end - 8 * size + (base + 8) * size ≡ buckets_end + base * size
-    next_place =
+    next_pos : buckets_end - 8 * size + (base + 8) * size ≡ buckets_end + base * size
+    next_pos =
         let h = next_inside some none in
         let p : (base + 8) * size ≡ base * size + 8 * size = omega arith in
         omega (arith, p, h.1)
 
-    pub next_places : positions_left buckets_end size count controls base marks ≡ positions_left (buckets_end - 8 * size) size count controls (base + 8) marks'
-    next_places =
+    pub next_positions : positions_left buckets_end size count controls base marks ≡ positions_left (buckets_end - 8 * size) size count controls (base + 8) marks'
+    next_positions =
         ap (map (pos_before (buckets_end + base * size) size)) next_left
-        ∙ ap (λ z. map (pos_before z size) (buckets_left count controls (base + 8) marks')) (sym next_place)
+        ∙ ap (λ z. map (pos_before z size) (buckets_left count controls (base + 8) marks')) (sym next_pos)
 
     pub next_keeps : IsRawIter (buckets_end - 8 * size) size count controls (base + 8) marks'
     next_keeps = record {
       counted = is.counted ∙ ap length next_left;
       ahead = All-same (IsAhead (buckets_end - 8 * size + (base + 8) * size) size controls) (buckets_left count controls (base + 8) marks') (buckets_left count controls base marks) (sym next_left)
-          (rw next_place is.ahead);
+          (rw next_pos is.ahead);
     }
 
 -- no bucket remains
@@ -159,8 +159,8 @@ pub end_left : (count : ℕ) (controls : List ℕ) (base : ℕ) (marks : List �
 unfolding buckets_left
 end_left count controls base marks e = ap (λ n. take n (marked_left controls base marks)) e
 
-pub end_places : (buckets_end size count : ℕ) (controls : List ℕ) (base : ℕ) (marks : List ℕ) → count ≡ 0 → positions_left buckets_end size count controls base marks ≡ []
-end_places buckets_end size count controls base marks e = ap (map (pos_before (buckets_end + base * size) size)) (end_left count controls base marks e)
+pub end_positions : (buckets_end size count : ℕ) (controls : List ℕ) (base : ℕ) (marks : List ℕ) → count ≡ 0 → positions_left buckets_end size count controls base marks ≡ []
+end_positions buckets_end size count controls base marks e = ap (map (pos_before (buckets_end + base * size) size)) (end_left count controls base marks e)
 
 -- the buckets of a walk are the first full indices
 walked_first : (controls : List ℕ) (cap : ℕ) → cap ≤ length controls → take (length (walk controls cap)) (full_from controls (length controls) 0) ≡ walk controls cap
@@ -179,7 +179,7 @@ no_length [] e = refl
 no_length (x ∷ xs) e = absurd (omega arith)
 
 pub start_left : (controls shown : List ℕ) (cap len : ℕ) (marks : List ℕ) → len ≡ length (walk shown cap) → (0 < len → controls ≡ shown) → (0 < len → control_count cap ≤ length controls)
-    → (0 < len → marks ≡ places_where (λ j. ltb (get_or (take 8 controls) j 0) 128) 8) → buckets_left len controls 0 marks ≡ walk shown cap
+    → (0 < len → marks ≡ indices_where (λ j. ltb (get_or (take 8 controls) j 0) 128) 8) → buckets_left len controls 0 marks ≡ walk shown cap
 unfolding buckets_left
 start_left controls shown cap len marks count same long read =
     elim (cases_eq len 0) [

@@ -5,7 +5,7 @@ use Rattle.std.specs.List.{All, Contains}
 use Rattle.std.proofs.lemmas.Bool.{cases_eq}
 use Rattle.std.proofs.lemmas.List.{length-map}
 use Rattle.std.proofs.lemmas.List.Elements.{All-contains_itself, All-map, All-weaker}
-use Rattle.rkyv_base.specs.ElementSpec.{IsElement, ElementSpec, Viewable}
+use Rattle.rkyv_base.specs.ElementSpec.{ElementSpec, IsElement, Viewable}
 use Rattle.rkyv_table.specs.Table.Header.{cap_at, controls_pos, len_at}
 use Rattle.rkyv_table.specs.Controls.Placing.{walk}
 use Rattle.rkyv_table.specs.Table.RawItems.{IsAhead, pos_before}
@@ -25,8 +25,8 @@ module _ (w : Width) (s : ElementSpec) (law : IsElement s) (b : List ℕ) (p : �
     | inr some ↦ (controls_accepted w s law b p v (omega arith)).full
   ]
 
-  pub places_count : Viewable (table_spec w s) b p → length (item_positions w s.size b p) ≡ len_at w b p
-  places_count v = length-map (walk (table_controls w b p) (cap_at w b p)) (item_at w s.size b p) ∙ walk_count v
+  pub positions_count : Viewable (table_spec w s) b p → length (item_positions w s.size b p) ≡ len_at w b p
+  positions_count v = length-map (walk (table_controls w b p) (cap_at w b p)) (item_at w s.size b p) ∙ walk_count v
 
   -- each bucket of the walk has an item
   pub walked_all : All (IsWalked w b p) (walk (table_controls w b p) (cap_at w b p))
@@ -34,26 +34,26 @@ module _ (w : Width) (s : ElementSpec) (law : IsElement s) (b : List ℕ) (p : �
       All-weaker (Contains (walk (table_controls w b p) (cap_at w b p))) (IsWalked w b p) (λ i h. walked_full (cap_at w b p) (table_controls w b p) i h)
       (walk (table_controls w b p) (cap_at w b p)) (All-contains_itself (walk (table_controls w b p) (cap_at w b p)))
 
-  pub places_viewable : Viewable (table_spec w s) b p → All (Viewable s b) (item_positions w s.size b p)
-  places_viewable v =
+  pub positions_viewable : Viewable (table_spec w s) b p → All (Viewable s b) (item_positions w s.size b p)
+  positions_viewable v =
       All-map (Viewable s b) (item_at w s.size b p) (walk (table_controls w b p) (cap_at w b p))
       (All-weaker (IsWalked w b p) (λ i. Viewable s b (item_at w s.size b p i)) (λ i h. item_viewable w s law b p v i h) (walk (table_controls w b p) (cap_at w b p)) walked_all)
 
   -- each bucket of the walk is before the position that was read of the header, and its group
   -- is inside the control bytes
-  pub read_ahead : Viewable (table_spec w s) b p → (place : ℕ) → (0 < cap_at w b p → place ≡ controls_pos w b p) → (controls : List ℕ) → (0 < cap_at w b p → controls ≡ table_controls w b p)
-      → All (IsAhead place s.size controls) (walk (table_controls w b p) (cap_at w b p))
-  read_ahead v place is controls shown =
-      All-weaker (IsWalked w b p) (IsAhead place s.size controls)
+  pub read_ahead : Viewable (table_spec w s) b p → (pos : ℕ) → (0 < cap_at w b p → pos ≡ controls_pos w b p) → (controls : List ℕ) → (0 < cap_at w b p → controls ≡ table_controls w b p)
+      → All (IsAhead pos s.size controls) (walk (table_controls w b p) (cap_at w b p))
+  read_ahead v pos is controls shown =
+      All-weaker (IsWalked w b p) (IsAhead pos s.size controls)
       (λ i h.
       let some : 0 < cap_at w b p = omega (arith, h.0) in
       let long = (controls_accepted w s law b p v some).repeats.count in
       (rw (shown some) (omega (arith, h.0, long)), rw (is some) (item_before w s law b p v i h.0)))
       (walk (table_controls w b p) (cap_at w b p)) walked_all
 
-  pub read_places : (place : ℕ) → (0 < cap_at w b p → place ≡ controls_pos w b p)
-      → map (pos_before place s.size) (walk (table_controls w b p) (cap_at w b p)) ≡ item_positions w s.size b p
-  read_places place is = elim (cases_eq (cap_at w b p) 0) [
-    | inl none ↦ ap (map (pos_before place s.size)) (none_walked none) ∙ sym (ap (map (item_at w s.size b p)) (none_walked none))
+  pub read_positions : (pos : ℕ) → (0 < cap_at w b p → pos ≡ controls_pos w b p)
+      → map (pos_before pos s.size) (walk (table_controls w b p) (cap_at w b p)) ≡ item_positions w s.size b p
+  read_positions pos is = elim (cases_eq (cap_at w b p) 0) [
+    | inl none ↦ ap (map (pos_before pos s.size)) (none_walked none) ∙ sym (ap (map (item_at w s.size b p)) (none_walked none))
     | inr some ↦ ap (λ z. map (pos_before z s.size) (walk (table_controls w b p) (cap_at w b p))) (is (omega arith))
   ]

@@ -4,7 +4,7 @@ use Rattle.rkyv_base.specs.declared.width.Word.{Ghosts as Words}
 use Rattle.std.proofs.Common.{◌≡◌, ℕ, ◌+◌, ◌-◌, ◌*◌, ◌<◌, ◌≤◌, suc, inl, inr, refl, sym, ap, subst, ◌∙◌, arith, List, [], ◌∷◌, length, slice_index, slice_range, take, drop, get_or-take}
 use Rattle.std.specs.Int.{Width}
 use Rattle.std.proofs.lemmas.Bool.{cases_eq, le-ltb, lt-ltb}
-use Rattle.rkyv_base.specs.ElementSpec.{IsElement, ElementSpec, Viewable}
+use Rattle.rkyv_base.specs.ElementSpec.{ElementSpec, IsElement, Viewable}
 use Rattle.rkyv_scan.specs.Groups.{is_full}
 use Rattle.rkyv_table.specs.Table.Header.{cap_at, controls_pos, len_at}
 use Rattle.rkyv_table.specs.Controls.Numbers.{control_count}
@@ -100,11 +100,11 @@ module _ {T : Type 0} (w : Width) (s : ElementSpec) (law : IsElement s) (p : ℕ
   first_item h i q l full at =
       let e = is.buckets_end (some_buckets h) in
       let walked : IsWalked w bytes p i = (subst (λ n. i < n) is.cap l, subst (λ n. n < 128) (control_same h i l) full) in
-      let place : q ≡ item_at w s.size bytes p i = at ∙ ap (λ n. n - (i + 1) * s.size) e in
+      let pos : q ≡ item_at w s.size bytes p i = at ∙ ap (λ n. n - (i + 1) * s.size) e in
       record {
         walked = walked;
-        place = place;
-        viewable = subst (Viewable s bytes) (sym place) (item_viewable w s law bytes p is.table i walked);
+        pos = pos;
+        viewable = subst (Viewable s bytes) (sym pos) (item_viewable w s law bytes p is.table i walked);
         kept = λ c sealed keeps. table_kept w s law bytes p i is.table walked c sealed keeps;
       }
 
@@ -113,7 +113,7 @@ module _ {T : Type 0} (w : Width) (s : ElementSpec) (p i q : ℕ) (before after 
     (there : StaysThere before after) (sealed : Sealed before.archive.now q s.size after.archive.now) (keeps : Keeps s before.archive.now after.archive.now q) where
   cursor_table : KeepsTable w s before.archive.now after.archive.now p i
   cursor_table =
-      item.kept after.archive.now (subst (λ x. Sealed before.archive.now x s.size after.archive.now) item.place sealed) (subst (Keeps s before.archive.now after.archive.now) item.place keeps)
+      item.kept after.archive.now (subst (λ x. Sealed before.archive.now x s.size after.archive.now) item.pos sealed) (subst (Keeps s before.archive.now after.archive.now) item.pos keeps)
 
   cursor_buckets : cursor_buckets_left w p after ≡ cursor_buckets_left w p before
   cursor_buckets = ap (λ xs. full_from xs after.cap after.next) cursor_table.controls

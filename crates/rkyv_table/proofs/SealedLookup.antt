@@ -27,8 +27,8 @@ module _ {T W : Type 0} {ts : Specs T} {wt : Words W} (law : IsElement ts.spec) 
       let P = λ (b : List ℕ) (p : ℕ). (i : ℕ) × IsWalked wt.word b p i × (q ≡ item_at wt.word ts.spec.size b p i) in
       subst (P (archive_in a)) read.1 (subst (λ b. P b t.view.pos) read.0 is)
 
-  pub place_viewable : (q : ℕ) → IsItemPos t q → Viewable ts.spec (archive_in a) q
-  place_viewable q is = let k = at_seal q is in subst (Viewable ts.spec (archive_in a)) (sym k.2) (item_viewable wt.word ts.spec law (archive_in a) (pos_in a) table k.0 k.1)
+  pub pos_viewable : (q : ℕ) → IsItemPos t q → Viewable ts.spec (archive_in a) q
+  pos_viewable q is = let k = at_seal q is in subst (Viewable ts.spec (archive_in a)) (sym k.2) (item_viewable wt.word ts.spec law (archive_in a) (pos_in a) table k.0 k.1)
 
   pub item_seal : (q : ℕ) (x : Seal T) → IsItemPos t q → SealAt x a.archive q → IsItemSeal wt.word ts.spec a x
   item_seal q x is at =
@@ -37,7 +37,7 @@ module _ {T W : Type 0} {ts : Specs T} {wt : Words W} (law : IsElement ts.spec) 
         bucket = k.0;
         walked = k.1;
         at = subst (SealAt x a.archive) k.2 at;
-        viewable = subst (Viewable ts.spec (archive_in a)) (sym at.place) (place_viewable q is);
+        viewable = subst (Viewable ts.spec (archive_in a)) (sym at.pos) (pos_viewable q is);
         kept = λ c sealed keeps. table_kept wt.word ts.spec law (archive_in a) (pos_in a) k.0 table k.1 c sealed keeps;
       }
 

@@ -9,20 +9,20 @@ use Rattle.rkyv_base.specs.Bytes.{AgreeOn}
 use Rattle.rkyv_base.specs.Entry.{entry_spec, whole_size}
 use Rattle.rkyv_base.specs.Lemmas.Entry.{entry_element, key_and_value_inside, size_of_small}
 use Rattle.rkyv_base.specs.Sealing.{Keeps, Outside, Sealed, value_pos}
-use Rattle.rkyv_base.specs.ElementSpec.{IsElement, ElementSpec, Viewable}
-use Rattle.rkyv_base.proofs.Sealing.{entry_kept, valid_outside, same_outside, sealed_wider}
+use Rattle.rkyv_base.specs.ElementSpec.{ElementSpec, IsElement, Viewable}
+use Rattle.rkyv_base.proofs.Sealing.{entry_kept, same_outside, sealed_wider, valid_outside}
 use Rattle.rkyv_table.proofs.SameTable.{written_there}
 use Rattle.rkyv_table.proofs.ValidTable.{item_viewable, part_of}
 use Rattle.rkyv_table.specs.Table.Positions.{IsWalked, WrittenAt, bucket_found, item_at}
 use Rattle.rkyv_table.specs.Table.Positions.{table_controls}
-use Rattle.rkyv_table.specs.Table.Header.{decode_begin, cap_at, controls_pos, len_at}
+use Rattle.rkyv_table.specs.Table.Header.{cap_at, controls_pos, decode_begin, len_at}
 use Rattle.rkyv_table.specs.Table.SealedTable.{KeepsTable, SameValue}
 use Rattle.rkyv_scan.specs.Groups.{Kind, is_full}
 use Rattle.rkyv_table.specs.Controls.Finding.{found}
-use Rattle.rkyv_table.specs.Lemmas.ItemPositions.{HeldPart, bucket_holds_within, decoded_controls, decoded_item, decoded_pos}
+use Rattle.rkyv_table.specs.Lemmas.ItemPositions.{ValidPart, bucket_is_valid_within, decoded_controls, decoded_item, decoded_pos}
 use Rattle.rkyv_table.specs.Controls.Numbers.{control_count}
-use Rattle.rkyv_table.specs.Table.Places.{AllHold}
-use Rattle.rkyv_table.specs.Lemmas.PlaceLaws.{AllBelow, range_below}
+use Rattle.rkyv_table.specs.Table.ValidItems.{AreValidAt}
+use Rattle.rkyv_table.specs.Lemmas.ValidItemLaws.{AllBelow, range_below}
 use Rattle.rkyv_table.specs.Controls.Placing.{AreValidControls, walk}
 use Rattle.rkyv_table.specs.Table.Layout.{IsPart, TableAt, bucket_at, controls_at, table_spec}
 use Rattle.rkyv_table.specs.Lemmas.SameHeader.{begin_same, cap_same, item_same, len_same, pos_same}
@@ -43,7 +43,7 @@ module _ (s : ElementSpec) (law : IsElement s) (b c : List ℕ) (begin cap i : �
   abbrev at : ℕ → ℕ
   at = bucket_at s.size begin cap
 
-  items_kept : (is : List ℕ) (lo l : ℕ) → lo ≤ begin → AllBelow cap is → AllHold s at b begin is lo l → AllHold s at c begin is lo l
+  items_kept : (is : List ℕ) (lo l : ℕ) → lo ≤ begin → AllBelow cap is → AreValidAt s at b begin is lo l → AreValidAt s at c begin is lo l
   items_kept [] lo l o below h = h
   items_kept (j ∷ is) lo l o below h =
       let k : (lo ≤ h.0) × (h.0 ≤ begin) = law.rest_in_range b (at j) lo begin h.0 o h.1 in
@@ -65,17 +65,17 @@ module _ (s : ElementSpec) (law : IsElement s) (b c : List ℕ) (begin cap i : �
       record {
         controls = subst (AreValidControls cap len) controls_kept is.controls;
         last = is.last;
-        items = subst (λ (x : List ℕ). AllHold s at c begin (walk x cap) lo is.last) controls_kept items;
+        items = subst (λ (x : List ℕ). AreValidAt s at c begin (walk x cap) lo is.last) controls_kept items;
       }
 
 -- the item in a full bucket has its parts before the buckets
-parts_before : (w : Width) (s : ElementSpec) (law : IsElement s) (b : List ℕ) (p e : ℕ) (t : HeldPart w s b p 0 p e) (j l : ℕ) → IsWalked w b p j
+parts_before : (w : Width) (s : ElementSpec) (law : IsElement s) (b : List ℕ) (p e : ℕ) (t : ValidPart w s b p 0 p e) (j l : ℕ) → IsWalked w b p j
     → s.is_valid b (bucket_at s.size t.begin (cap_at w b p) j) 0 (bucket_at s.size t.begin (cap_at w b p) j) l → l ≤ t.begin
 parts_before w s law b p e t j l walked h =
     let cap = cap_at w b p in
     let q = bucket_at s.size t.begin cap j in
     let full : slice_index (controls_at s.size b t.begin cap) j < 128 = subst (λ (xs : List ℕ). slice_index xs j < 128) (decoded_controls w s.size b p t.begin t.part.begins) walked.1 in
-    let one = bucket_holds_within s law b t.begin cap 0 t.is.last j (omega arith) t.is.items walked.0 full in
+    let one = bucket_is_valid_within s law b t.begin cap 0 t.is.last j (omega arith) t.is.items walked.0 full in
     let d : (l' : ℕ) × s.is_valid b q 0 t.begin l' × (l' ≤ one.rest) = law.lower_lo b q one.lower 0 t.begin one.rest (omega arith) one.below one.is_valid in
     let k = law.rest_in_range b q one.lower t.begin one.rest one.below one.is_valid in
     let same : l ≡ d.0 = law.rest_unique b q 0 q l d.0 h (law.widen_hi b q 0 t.begin q d.0 (omega arith) d.1) in
@@ -83,7 +83,7 @@ parts_before w s law b p e t j l walked h =
 
 module _ (w : Width) (s : ElementSpec) (law : IsElement s) (b : List ℕ) (p i : ℕ) (view : Viewable (table_spec w s) b p) (walked : IsWalked w b p i)
     (c : List ℕ) (sealed : Sealed b (item_at w s.size b p i) s.size c) (keeps : Keeps s b c (item_at w s.size b p i)) where
-  whole : HeldPart w s b p 0 p view.valid.0
+  whole : ValidPart w s b p 0 p view.valid.0
   whole = part_of w s law b p view (omega (arith, walked.0))
 
   at_is : (j : ℕ) → j < cap_at w b p → item_at w s.size b p j ≡ bucket_at s.size whole.begin (cap_at w b p) j

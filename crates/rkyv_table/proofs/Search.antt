@@ -1,17 +1,17 @@
 -- The general steps of a search over strides.
 use Rattle.std.proofs.Common.{◌≡◌, ℕ, zero, suc, ◌+◌, ◌*◌, ◌-◌, ◌/◌, ◌%◌, ◌<◌, ◌≤◌, ◌⊎◌, inl, inr, refl, sym, ap, ◌∙◌, arith, List, [], ◌∷◌, Bool, true, false, cond, eqb, ltb, get_or, take, drop, map, filter, Option, Some, None, get_or-take, get_or-drop, add-zero}
-use Rattle.std.specs.List.{list_any, find, range_with_len, flat_map}
+use Rattle.std.specs.List.{find, flat_map, list_any, range_with_len}
 use Rattle.std.specs.Option.{option_and_then}
 use Rattle.std.proofs.Math.Nat.{mod-eq_of_lt}
-use Rattle.std.proofs.lemmas.Nat.{pow_pos, mod_below, div-add-mod'}
+use Rattle.std.proofs.lemmas.Nat.{div-add-mod', mod_below, pow_pos}
 use Rattle.std.proofs.lemmas.List.Folds.{find-append}
 use Rattle.std.proofs.lemmas.Option.{none-some, same_Some}
-use Rattle.std.proofs.lemmas.Bool.{cases_Bool, cases_lt, and_parts, or_left, or_right, or_from, eqb-true, eq-eqb, ltb-true, lt-ltb}
-use Rattle.rkyv_table.specs.Controls.Numbers.{start, modulus, control_count, probe_capacity}
-use Rattle.rkyv_table.specs.Controls.Probe.{probe_place, strides, buckets_at}
+use Rattle.std.proofs.lemmas.Bool.{and_parts, cases_Bool, cases_lt, eq-eqb, eqb-true, lt-ltb, ltb-true, or_from, or_left, or_right}
+use Rattle.rkyv_table.specs.Controls.Numbers.{control_count, modulus, probe_capacity, start}
+use Rattle.rkyv_table.specs.Controls.Probe.{buckets_at, probe_index, strides}
 use Rattle.rkyv_table.specs.Controls.Placing.{IsWrapped}
-use Rattle.rkyv_scan.specs.Groups.{Kind, IsKind}
-use Rattle.rkyv_table.specs.Controls.Finding.{marked, candidates, stride_has_empty, ends_at}
+use Rattle.rkyv_scan.specs.Groups.{IsKind, Kind}
+use Rattle.rkyv_table.specs.Controls.Finding.{candidates, ends_at, marked, stride_has_empty}
 use Rattle.rkyv_table.proofs.Coverage.{has_stride, mod_more}
 use Rattle.rkyv_table.proofs.Modulus.{modulus_power}
 use Rattle.rkyv_table.proofs.Lists.{none_find, some_find}
@@ -65,8 +65,8 @@ strides_head h cap pos =
     let s = start h cap in
     let ls : s < cap = mod_below h cap pos in
     let some : 0 < m / 16 = let u = pow_pos w.0 in omega arith in
-    let e : probe_place s m 0 ≡ s = ap (λ z. z % m) (add-zero s) ∙ mod-eq_of_lt (let l : s < m = omega arith in l) in
-    let r = range_head (probe_place s m) (λ p. ltb p (probe_capacity cap)) (m / 16) some (rw e (lt-ltb s (probe_capacity cap) (omega arith))) in
+    let e : probe_index s m 0 ≡ s = ap (λ z. z % m) (add-zero s) ∙ mod-eq_of_lt (let l : s < m = omega arith in l) in
+    let r = range_head (probe_index s m) (λ p. ltb p (probe_capacity cap)) (m / 16) some (rw e (lt-ltb s (probe_capacity cap) (omega arith))) in
     (r.0, r.1 ∙ ap (λ z. z ∷ r.0) e)
 
 -- ---- marked indices
@@ -98,20 +98,20 @@ pub record GoodStride (cap b : ℕ) (free accept : ℕ → Bool) (kind : Kind) (
   pub passes : find free (buckets_at cap p) ≡ None → (find accept (candidates kind controls cap t p) ≡ None) × (stride_has_empty controls p ≡ false)
   pub hits : find free (buckets_at cap p) ≡ Some b → find accept (candidates kind controls cap t p) ≡ Some b
 
-abbrev pub answer : Kind → List ℕ → ℕ → ℕ → (ℕ → Bool) → List ℕ → Option ℕ
-answer kind controls cap t accept ps = option_and_then (λ p. find accept (candidates kind controls cap t p)) (find (ends_at kind controls cap t accept) ps)
+abbrev pub found_along : Kind → List ℕ → ℕ → ℕ → (ℕ → Bool) → List ℕ → Option ℕ
+found_along kind controls cap t accept ps = option_and_then (λ p. find accept (candidates kind controls cap t p)) (find (ends_at kind controls cap t accept) ps)
 
 -- one stride, and then the others
-pub answer_cons : (kind : Kind) (controls : List ℕ) (cap t : ℕ) (accept : ℕ → Bool) (p : ℕ) (ps : List ℕ) →
-    answer kind controls cap t accept (p ∷ ps) ≡ cond (ends_at kind controls cap t accept p) (find accept (candidates kind controls cap t p)) (answer kind controls cap t accept ps)
-answer_cons kind controls cap t accept p ps = elim (cases_Bool (ends_at kind controls cap t accept p)) [ inl e ↦ rw e refl | inr e ↦ rw e refl ]
+pub found_along_cons : (kind : Kind) (controls : List ℕ) (cap t : ℕ) (accept : ℕ → Bool) (p : ℕ) (ps : List ℕ) →
+    found_along kind controls cap t accept (p ∷ ps) ≡ cond (ends_at kind controls cap t accept p) (find accept (candidates kind controls cap t p)) (found_along kind controls cap t accept ps)
+found_along_cons kind controls cap t accept p ps = elim (cases_Bool (ends_at kind controls cap t accept p)) [ inl e ↦ rw e refl | inr e ↦ rw e refl ]
 
 pub walk_on : (cap b : ℕ) (free accept : ℕ → Bool) (kind : Kind) (controls : List ℕ) (t p : ℕ) (ps : List ℕ) → GoodStride cap b free accept kind controls t p
-    → (find free (buckets_at cap p) ≡ None → find free (flat_map (buckets_at cap) ps) ≡ Some b → answer kind controls cap t accept ps ≡ Some b)
-    → find free (flat_map (buckets_at cap) (p ∷ ps)) ≡ Some b → answer kind controls cap t accept (p ∷ ps) ≡ Some b
+    → (find free (buckets_at cap p) ≡ None → find free (flat_map (buckets_at cap) ps) ≡ Some b → found_along kind controls cap t accept ps ≡ Some b)
+    → find free (flat_map (buckets_at cap) (p ∷ ps)) ≡ Some b → found_along kind controls cap t accept (p ∷ ps) ≡ Some b
 walk_on cap b free accept kind controls t p ps good rest h =
     let h' = sym (find-append free (buckets_at cap p) (flat_map (buckets_at cap) ps)) ∙ h in
-    answer_cons kind controls cap t accept p ps ∙ (elim (cases_option (find free (buckets_at cap p))) [
+    found_along_cons kind controls cap t accept p ps ∙ (elim (cases_option (find free (buckets_at cap p))) [
       | inl none ↦
           let g = good.passes none in
           let k = none_find accept (candidates kind controls cap t p) g.0 in
@@ -129,7 +129,7 @@ walk_on cap b free accept kind controls t p ps good rest h =
     ])
 
 pub walk_all : (cap b : ℕ) (free accept : ℕ → Bool) (kind : Kind) (controls : List ℕ) (t : ℕ) (ps : List ℕ) → ((p : ℕ) → list_any (eqb p) ps ≡ true → GoodStride cap b free accept kind controls t p)
-    → find free (flat_map (buckets_at cap) ps) ≡ Some b → answer kind controls cap t accept ps ≡ Some b
+    → find free (flat_map (buckets_at cap) ps) ≡ Some b → found_along kind controls cap t accept ps ≡ Some b
 walk_all cap b free accept kind controls t [] good h = absurd (none-some b h)
 walk_all cap b free accept kind controls t (p ∷ ps) good h =
     walk_on cap b free accept kind controls t p ps (good p (or_left (eqb p p) (list_any (eqb p) ps) (eq-eqb p p refl)))

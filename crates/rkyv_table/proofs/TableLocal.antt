@@ -9,20 +9,20 @@ use Rattle.std.specs.Prelude.{◌≡◌, ℕ, ◌+◌, ◌*◌, ◌^◌, ◌<◌
 use Rattle.rkyv_base.specs.Bytes.{AgreeOn}
 use Rattle.rkyv_base.specs.Lemmas.Bytes.{agree_on_part}
 use Rattle.rkyv_base.specs.Format.{RepresentsLocally}
-use Rattle.rkyv_base.specs.ElementSpec.{IsElement, ElementSpec}
+use Rattle.rkyv_base.specs.ElementSpec.{ElementSpec, IsElement}
 use Rattle.rkyv_table.proofs.WrittenStep.{home_below}
 use Rattle.rkyv_table.specs.Table.Header.{cap_at}
-use Rattle.rkyv_table.specs.Lemmas.ItemPositions.{bucket_holds_within}
+use Rattle.rkyv_table.specs.Lemmas.ItemPositions.{bucket_is_valid_within}
 use Rattle.rkyv_table.specs.Controls.Numbers.{capacity, control_count}
 use Rattle.rkyv_table.specs.Controls.Placing.{Written}
 use Rattle.rkyv_table.specs.Lemmas.SameHeader.{begin_same, cap_same, len_same}
-use Rattle.rkyv_table.specs.Table.Layout.{ItemsHold, bucket_at, controls_at, part_size, table_spec}
+use Rattle.rkyv_table.specs.Table.Layout.{AreValidItems, bucket_at, controls_at, part_size, table_spec}
 use Rattle.rkyv_table.specs.Table.TableFormat.{BucketsRepresent, TableRepresents}
 use Rattle.rkyv_table.specs.Lemmas.TableLaws.{bucket_inside}
 use Rattle.rkyv_table.specs.Table.PlacedItems.{hashes_of, items_of}
 
 module _ {X : Type 0} (w : Width) (s : ElementSpec) (laws : IsElement s) (represents : List ℕ → ℕ → X → Type 0) (local : RepresentsLocally s represents) (factor : ℕ × ℕ) where
-  module _ (pairs : List (ℕ × X)) (b c : List ℕ) (lo last begin cap : ℕ) (some : 0 < length pairs) (o : lo ≤ begin) (items : ItemsHold s b begin cap lo last)
+  module _ (pairs : List (ℕ × X)) (b c : List ℕ) (lo last begin cap : ℕ) (some : 0 < length pairs) (o : lo ≤ begin) (items : AreValidItems s b begin cap lo last)
       (same : AgreeOn b c lo (begin + part_size s.size cap)) (st : BucketsRepresent s.size represents b cap begin pairs) (pos_cap : 0 < cap) where
     controls_same : controls_at s.size b begin cap ≡ controls_at s.size c begin cap
     controls_same = agree_on_part b c lo (begin + part_size s.size cap) (begin + cap * s.size) (begin + cap * s.size + control_count cap) (omega arith) (omega arith) (omega arith) same
@@ -38,7 +38,7 @@ module _ {X : Type 0} (w : Width) (s : ElementSpec) (laws : IsElement s) (repres
         let below : k < cap = home_below cap (hashes_of pairs) st.homes controls i pos_cap st.controls l in
         let small = All-get_or (λ v. v < 2 ^ 64) (hashes_of pairs) i 0 l st.hashes in
         let tag = st.controls.tags i l in
-        let h = bucket_holds_within s laws b begin cap lo last k o items below (omega (arith, tag, small)) in
+        let h = bucket_is_valid_within s laws b begin cap lo last k o items below (omega (arith, tag, small)) in
         let inside = bucket_inside s.size begin cap k below in
         let at : ℕ = bucket_at s.size begin cap k in
         let end : ℕ = begin + part_size s.size cap in
@@ -65,8 +65,8 @@ module _ {X : Type 0} (w : Width) (s : ElementSpec) (laws : IsElement s) (repres
                 let begins : t.0 ≡ d.0 = omega (arith, ints, t.1.begins, d.1) in
                 let room : 0 < cap_at w b p = (let r = t.2.controls.room in omega arith) in
                 let end : l ≡ d.0 + part_size s.size C = t.3 ∙ ap (λ k. k + part_size s.size (cap_at w b p)) begins ∙ ap (λ k. d.0 + part_size s.size k) st.cap in
-                let items : ItemsHold s b d.0 C lo t.2.last =
-                subst (λ k. ItemsHold s b d.0 k lo t.2.last) st.cap (subst (λ k. ItemsHold s b k (cap_at w b p) lo t.2.last) begins t.2.items) in
+                let items : AreValidItems s b d.0 C lo t.2.last =
+                subst (λ k. AreValidItems s b d.0 k lo t.2.last) st.cap (subst (λ k. AreValidItems s b k (cap_at w b p) lo t.2.last) begins t.2.items) in
                 buckets_local pairs b c lo t.2.last d.0 C some (omega (arith, t.1.above, begins)) items (subst (AgreeOn b c lo) end part) d.2 (omega (arith, room, st.cap))
           ],
         );

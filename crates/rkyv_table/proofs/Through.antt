@@ -6,9 +6,9 @@ use Rattle.rkyv_base.specs.Format.{Format, SerializeFails, Serialized}
 use Rattle.rkyv_base.specs.Pairs.{written_as}
 use Rattle.rkyv_base.specs.Writing.{Output}
 use Rattle.rkyv_base.specs.declared.errors.WriteError.{WriteError}
-use Rattle.rkyv_base.specs.declared.errors.WriteError.TheVariants.{InvalidLoadFactor, IteratorLengthMismatch, CapacityTooLarge, PositionTooLarge, DistanceTooLarge, TextTooLong, Writer, Memory, Refused}
+use Rattle.rkyv_base.specs.declared.errors.WriteError.TheVariants.{CapacityTooLarge, DistanceTooLarge, InvalidLoadFactor, IteratorLengthMismatch, Memory, PositionTooLarge, Refused, TextTooLong, Writer}
 use Rattle.rkyv_table.specs.Table.Counting.{YieldsOtherCount}
-use Rattle.rkyv_table.specs.Table.Serializing.{WriteItemsFails, OwnCause, WroteItems}
+use Rattle.rkyv_table.specs.Table.Serializing.{OwnCause, WriteItemsFails, WroteItems}
 
 -- a state of the outer iterator has one of the inner. Each step of the outer is one of the inner,
 -- with the item that is seen in it
@@ -52,11 +52,11 @@ own_counted len factor max other other' f (Refused c) h = h
 module _ {F X Y V R : Type 0} (inner_of : X → Y) (yields : List X → Type 0) (yields' : List Y → Type 0) (other other' : ℕ → Type 0) (exactly : (xs : List X) → yields xs → yields' (map inner_of xs))
     (counted : (n : ℕ) → other n → other' n) (of_outer : List X → V) (of_inner : List Y → V) (same : (xs : List X) → of_outer xs ≡ of_inner (map inner_of xs))
     (base : Format V R) (len : ℕ) (factor : ℕ × ℕ) (max limit : ℕ) (o o' : Output) where
-  pub answers_through : (result : Result R (WriteError F))
+  pub results_through : (result : Result R (WriteError F))
       → MatchResult result (WroteItems yields len factor max (written_as of_outer base) o o' limit) (WriteItemsFails yields len factor max (written_as of_outer base) o o' limit other)
       → MatchResult result (WroteItems yields' len factor max (written_as of_inner base) o o' limit) (WriteItemsFails yields' len factor max (written_as of_inner base) o o' limit other')
-  answers_through (Ok r) h =
+  results_through (Ok r) h =
       (h.0, map inner_of h.1, (exactly h.1 h.2.0, length-map h.1 inner_of ∙ h.2.1), subst (λ v. Serialized limit base v o o' r) (same h.1) h.3)
-  answers_through (Err e) (inl h) = inl (own_counted len factor max other other' counted e h.0, h.1)
-  answers_through (Err e) (inr h) =
+  results_through (Err e) (inl h) = inl (own_counted len factor max other other' counted e h.0, h.1)
+  results_through (Err e) (inr h) =
       inr (h.0, map inner_of h.1, (exactly h.1 h.2.0, length-map h.1 inner_of ∙ h.2.1), subst (λ v. SerializeFails limit base v o o' e) (same h.1) h.3)

@@ -8,7 +8,7 @@ use Rattle.rkyv_base.specs.declared.errors.WriteError.{WriteError}
 use Rattle.rkyv_table.specs.Table.Counting.{YieldsOtherCount}
 use Rattle.rkyv_table.specs.Table.ItemValues.{UnitStep, key_values, pair_values, with_units}
 use Rattle.rkyv_table.specs.Table.Serializing.{WriteItemsFails, WroteItems}
-use Rattle.rkyv_table.proofs.Through.{answers_through, drains_through, other_through}
+use Rattle.rkyv_table.proofs.Through.{drains_through, other_through, results_through}
 
 same_keys : {BK A : Type 0} (key : BK → A) (xs : List (BK × Unit {0})) → pair_values key (λ u. u) xs ≡ with_units (key_values key (map (λ x. x.0) xs))
 same_keys key [] = refl
@@ -26,11 +26,11 @@ module _ {T S BK : Type 0} (inner : T → S) (steps : S → Option BK → S → 
     AsKeys = written_as (key_values key) (written_as with_units base)
 
     -- the result of writing the map of the keys is that of writing the set
-    pub answers_set : {F : Type 0} (limit : ℕ) (result : Result R (WriteError F))
+    pub results_set : {F : Type 0} (limit : ℕ) (result : Result R (WriteError F))
         → MatchResult result (WroteItems (Drains UnitSteps s) len factor max AsPairs o o' limit) (WriteItemsFails (Drains UnitSteps s) len factor max AsPairs o o' limit (YieldsOtherCount UnitSteps len s))
         → MatchResult result (WroteItems (Drains steps (inner s)) len factor max AsKeys o o' limit) (WriteItemsFails (Drains steps (inner s)) len factor max AsKeys o o' limit (YieldsOtherCount steps len (inner s)))
-    answers_set limit result =
-        answers_through (λ x. x.0) (Drains UnitSteps s) (Drains steps (inner s)) (YieldsOtherCount UnitSteps len s) (YieldsOtherCount steps len (inner s))
+    results_set limit result =
+        results_through (λ x. x.0) (Drains UnitSteps s) (Drains steps (inner s)) (YieldsOtherCount UnitSteps len s) (YieldsOtherCount steps len (inner s))
         (λ xs d. drains_through inner UnitSteps steps (λ x. x.0) (λ s' t' h. h) (λ s' t' x h. h) xs s d)
         (λ n h. other_through inner UnitSteps steps (λ x. x.0) (λ s' t' h'. h') (λ s' t' x h'. h') len s n h)
         (pair_values key (λ u. u)) (λ keys. with_units (key_values key keys)) (same_keys key) base len factor max limit o o' result

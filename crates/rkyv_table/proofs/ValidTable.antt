@@ -15,7 +15,7 @@ use Rattle.rkyv_base.specs.Lemmas.ElementSpec.{valid_at}
 use Rattle.rkyv_table.specs.Controls.ControlBytes.{IsFullBucket}
 use Rattle.rkyv_table.specs.Controls.Finding.{end, found}
 use Rattle.rkyv_table.specs.Table.Header.{cap_at, controls_pos, len_at}
-use Rattle.rkyv_table.specs.Lemmas.ItemPositions.{HeldPart, decoded_controls, decoded_item, decoded_pos, holds_at, item_holds}
+use Rattle.rkyv_table.specs.Lemmas.ItemPositions.{ValidPart, decoded_controls, decoded_item, decoded_pos, item_is_valid, valid_part}
 use Rattle.rkyv_table.specs.Controls.Numbers.{control_count}
 use Rattle.rkyv_table.specs.Controls.Placing.{AreValidControls}
 use Rattle.rkyv_table.specs.Table.Positions.{IsWalked, item_at, table_controls}
@@ -29,8 +29,8 @@ range_count b at n inside = grind (arith, common_steps)
 
 module _ (w : Width) (s : ElementSpec) (law : IsElement s) (b : List ℕ) (p : ℕ) (v : Viewable (table_spec w s) b p) where
   -- the buckets and control bytes of a table with buckets
-  pub part_of : 0 < cap_at w b p → HeldPart w s b p 0 p v.valid.0
-  part_of h = holds_at w s law b p 0 p v.valid.0 v.valid.1 h
+  pub part_of : 0 < cap_at w b p → ValidPart w s b p 0 p v.valid.0
+  part_of h = valid_part w s law b p 0 p v.valid.0 v.valid.1 h
 
   -- its control bytes are valid
   pub controls_accepted : 0 < cap_at w b p → AreValidControls (cap_at w b p) (len_at w b p) (table_controls w b p)
@@ -67,7 +67,7 @@ module _ (w : Width) (s : ElementSpec) (law : IsElement s) (b : List ℕ) (p : �
   pub item_viewable : (i : ℕ) → IsWalked w b p i → Viewable s b (item_at w s.size b p i)
   item_viewable i walked =
       let t = part_of (omega (arith, walked.0)) in
-      let one = item_holds w s law b p 0 p v.valid.0 v.valid.1 i walked t in
+      let one = item_is_valid w s law b p 0 p v.valid.0 v.valid.1 i walked t in
       let at = decoded_item w s.size b p t.begin t.part.begins i walked.0 in
       let ends = t.ends in
       let below = t.part.below in
@@ -125,4 +125,4 @@ module _ {T W : Type 0} {ts : Specs T} {wt : Words W} (law : IsElement ts.spec) 
 
 -- views of one position of one archive are one view
 pub view_is : {T : Type 0} (v u : View T) → v.archive ≡ u.archive → v.pos ≡ u.pos → v ≡ u
-view_is v u archive place = ap (λ a. record v { archive = a }) archive ∙ ap (λ n. record u { pos = n }) place
+view_is v u archive same_pos = ap (λ a. record v { archive = a }) archive ∙ ap (λ n. record u { pos = n }) same_pos

@@ -1,17 +1,17 @@
 -- The steps of a walk.
 use Rattle.std.proofs.Common.{◌≡◌, ℕ, zero, suc, ◌+◌, ◌-◌, ◌<◌, ◌≤◌, inl, inr, refl, sym, ap, ◌∙◌, arith, List, [], ◌∷◌, ◌++◌, Bool, true, false, eqb, ltb, map, filter, drop, take, length, get_or, Some, None, get_or-take, get_or-drop}
-use Rattle.std.specs.List.{range_with_len, slice_get, list_any, Contains}
-use Rattle.std.proofs.lemmas.Bool.{cases_Bool, cases_lt, cases_eq, and_parts, and_from, eq-eqb, ltb-true, lt-ltb, le-ltb}
+use Rattle.std.specs.List.{Contains, list_any, range_with_len, slice_get}
+use Rattle.std.proofs.lemmas.Bool.{and_from, and_parts, cases_Bool, cases_eq, cases_lt, eq-eqb, le-ltb, lt-ltb, ltb-true}
 use Rattle.std.proofs.lemmas.Option.{none-some, same_Some}
-use Rattle.std.proofs.lemmas.List.Sums.{length-filter, count_by-le-length}
+use Rattle.std.proofs.lemmas.List.Sums.{count_by-le-length, length-filter}
 use Rattle.std.proofs.lemmas.List.FromFn.{length-range_with_len}
 use Rattle.rkyv_table.specs.Controls.Numbers.{control_count}
 use Rattle.rkyv_table.specs.Controls.Placing.{walk}
-use Rattle.rkyv_scan.specs.Groups.{places_where}
-use Rattle.rkyv_table.specs.Controls.Walking.{IsWalk, full_from, left, first_place}
+use Rattle.rkyv_scan.specs.Groups.{indices_where}
+use Rattle.rkyv_table.specs.Controls.Walking.{IsWalk, first_index, full_from, left}
 use Rattle.rkyv_table.proofs.Groups.{filter_shift}
 use Rattle.rkyv_table.proofs.FirstFree.{head_filter}
-use Rattle.rkyv_table.proofs.Lists.{FirstIn, first_range, any_filter, any_range, in_range, member_contains, contains_member}
+use Rattle.rkyv_table.proofs.Lists.{FirstIn, any_filter, any_range, contains_member, first_range, in_range, member_contains}
 use Rattle.rkyv_table.specs.Controls.ControlBytes.{IsFullBucket}
 
 pub filter_agree_range : (P Q : ℕ → Bool) (a n : ℕ) → ((j : ℕ) → a ≤ j → j < a + n → P j ≡ Q j) → filter P (range_with_len a n) ≡ filter Q (range_with_len a n)
@@ -47,15 +47,15 @@ cut F cap a (suc n) =
 
 -- ---- the indices of the mask are all full ones from some index on
 
-pub record WalkFrom (controls : List ℕ) (cap base width : ℕ) (places : List ℕ) : Type 0 where
+pub record WalkFrom (controls : List ℕ) (cap base width : ℕ) (indices : List ℕ) : Type 0 where
   pub count : control_count cap ≤ length controls
   pub below : base ≤ cap
   pub next : ℕ
   pub inside : next ≤ width
-  pub marks : places ≡ filter (λ j. ltb (get_or controls (base + j) 0) 128) (range_with_len next (width - next))
+  pub marks : indices ≡ filter (λ j. ltb (get_or controls (base + j) 0) 128) (range_with_len next (width - next))
 
-pub walk_from : (controls : List ℕ) (cap base width : ℕ) (places : List ℕ) → IsWalk controls cap base width places → WalkFrom controls cap base width places
-walk_from controls cap base width places w = record { count = w.count; below = w.below; next = first_place width places; inside = w.inside; marks = w.marks }
+pub walk_from : (controls : List ℕ) (cap base width : ℕ) (indices : List ℕ) → IsWalk controls cap base width indices → WalkFrom controls cap base width indices
+walk_from controls cap base width indices w = record { count = w.count; below = w.below; next = first_index width indices; inside = w.inside; marks = w.marks }
 
 -- a filtered range begins at its first element
 head_range : (P : ℕ → Bool) (a n : ℕ) → (a ≤ get_or (filter P (range_with_len a n)) 0 (a + n)) × (get_or (filter P (range_with_len a n)) 0 (a + n) ≤ a + n)
@@ -68,8 +68,8 @@ head_range P a (suc n) =
       | inr f ↦ let ih = head_range P (a + 1) n in rw (f, e) (omega (arith, ih.0), ih.1, ih.2)
     ]
 
-pub walk_of : (controls : List ℕ) (cap base width : ℕ) (places : List ℕ) → WalkFrom controls cap base width places → IsWalk controls cap base width places
-walk_of controls cap base width places w =
+pub walk_of : (controls : List ℕ) (cap base width : ℕ) (indices : List ℕ) → WalkFrom controls cap base width indices → IsWalk controls cap base width indices
+walk_of controls cap base width indices w =
     let P = λ (j : ℕ). ltb (get_or controls (base + j) 0) 128 in
     let inside = w.inside in
     let h = head_range P w.next (width - w.next) in
@@ -78,9 +78,9 @@ walk_of controls cap base width places w =
     record { count = w.count; below = w.below; inside = h'.1; marks = h'.2 }
 
 -- the remaining buckets are the full buckets from an index on
-pub left_is : (controls : List ℕ) (cap base width : ℕ) (places : List ℕ) → (w : WalkFrom controls cap base width places) → left controls cap base width places ≡ full_from controls cap (base + w.next)
+pub left_is : (controls : List ℕ) (cap base width : ℕ) (indices : List ℕ) → (w : WalkFrom controls cap base width indices) → left controls cap base width indices ≡ full_from controls cap (base + w.next)
 unfolding left full_from
-left_is controls cap base width places w =
+left_is controls cap base width indices w =
     let inside = w.inside in
     let F = λ (q : ℕ). ltb (get_or controls q 0) 128 in
     let s = filter_shift F (λ j. F (base + j)) base w.next (width - w.next) (λ j lo hi. refl) in
@@ -92,10 +92,10 @@ left_is controls cap base width places w =
 
 -- ---- an index is taken
 
-pub takes_place : (controls : List ℕ) (cap base width j : ℕ) (places : List ℕ) → Some j ≡ slice_get places 0 → base + j < cap → left controls cap base width places ≡ (base + j) ∷ left controls cap base width (drop 1 places)
+pub takes_index : (controls : List ℕ) (cap base width j : ℕ) (indices : List ℕ) → Some j ≡ slice_get indices 0 → base + j < cap → left controls cap base width indices ≡ (base + j) ∷ left controls cap base width (drop 1 indices)
 unfolding left
-takes_place controls cap base width j [] e h = absurd (none-some j (sym e))
-takes_place controls cap base width j (x ∷ xs) e h =
+takes_index controls cap base width j [] e h = absurd (none-some j (sym e))
+takes_index controls cap base width j (x ∷ xs) e h =
     let s = same_Some j x e in
     let t : ltb (base + x) cap ≡ true = rw s at (lt-ltb (base + j) cap h) in
     rw (s, t) refl
@@ -115,23 +115,23 @@ drop_first P a (suc n) q f = elim (cases_eq a q) [
       rw (t, e) (drop_first P (a + 1) n q (record { from = omega arith; to = omega arith; yes = f.yes; no = λ i l g. f.no i (omega arith) g }))
 ]
 
-first_left : (controls : List ℕ) (cap base width j : ℕ) (places : List ℕ) (w : WalkFrom controls cap base width places) → Some j ≡ slice_get places 0 → FirstIn (λ i. ltb (get_or controls (base + i) 0) 128) w.next (width - w.next) j
-first_left controls cap base width j places w e =
+first_left : (controls : List ℕ) (cap base width j : ℕ) (indices : List ℕ) (w : WalkFrom controls cap base width indices) → Some j ≡ slice_get indices 0 → FirstIn (λ i. ltb (get_or controls (base + i) 0) 128) w.next (width - w.next) j
+first_left controls cap base width j indices w e =
     let P = λ (i : ℕ). ltb (get_or controls (base + i) 0) 128 in
     let e' : Some j ≡ slice_get (filter P (range_with_len w.next (width - w.next))) 0 = e ∙ ap (λ xs. slice_get xs 0) w.marks in
     first_range P w.next (width - w.next) j (sym (e' ∙ head_filter P (range_with_len w.next (width - w.next))))
 
-pub head_inside : (controls : List ℕ) (cap base width j : ℕ) (places : List ℕ) → IsWalk controls cap base width places → Some j ≡ slice_get places 0 → j < width
-head_inside controls cap base width j places w e =
-    let f = first_left controls cap base width j places (walk_from controls cap base width places w) e in
+pub head_inside : (controls : List ℕ) (cap base width j : ℕ) (indices : List ℕ) → IsWalk controls cap base width indices → Some j ≡ slice_get indices 0 → j < width
+head_inside controls cap base width j indices w e =
+    let f = first_left controls cap base width j indices (walk_from controls cap base width indices w) e in
     let inside = w.inside in
     omega (arith, f.to)
 
-pub keeps_walk : (controls : List ℕ) (cap base width j : ℕ) (places rest : List ℕ) → IsWalk controls cap base width places → Some j ≡ slice_get places 0 → rest ≡ drop 1 places → IsWalk controls cap base width rest
-keeps_walk controls cap base width j places rest is e r =
+pub keeps_walk : (controls : List ℕ) (cap base width j : ℕ) (indices rest : List ℕ) → IsWalk controls cap base width indices → Some j ≡ slice_get indices 0 → rest ≡ drop 1 indices → IsWalk controls cap base width rest
+keeps_walk controls cap base width j indices rest is e r =
     let P = λ (i : ℕ). ltb (get_or controls (base + i) 0) 128 in
-    let w = walk_from controls cap base width places is in
-    let f = first_left controls cap base width j places w e in
+    let w = walk_from controls cap base width indices is in
+    let f = first_left controls cap base width j indices w e in
     let inside = w.inside in
     let hi = f.to in
     let n : w.next + (width - w.next) - (j + 1) ≡ width - (j + 1) = omega arith in
@@ -149,40 +149,40 @@ none_full : (F : ℕ → Bool) (a n : ℕ) → ((q : ℕ) → a ≤ q → q < a 
 none_full F a zero h = refl
 none_full F a (suc n) h = rw (h a (omega arith) (omega arith)) (none_full F (a + 1) n (λ q lo hi. h q (omega arith) (omega arith)))
 
-pub ends_past : (controls : List ℕ) (cap base width j : ℕ) (places : List ℕ) → WalkFrom controls cap base width places → Some j ≡ slice_get places 0 → cap ≤ base + j → left controls cap base width places ≡ []
+pub ends_past : (controls : List ℕ) (cap base width j : ℕ) (indices : List ℕ) → WalkFrom controls cap base width indices → Some j ≡ slice_get indices 0 → cap ≤ base + j → left controls cap base width indices ≡ []
 unfolding full_from
-ends_past controls cap base width j places w e h =
-    let f = first_left controls cap base width j places w e in
+ends_past controls cap base width j indices w e h =
+    let f = first_left controls cap base width j indices w e in
     let lo = f.from in
-    left_is controls cap base width places w
+    left_is controls cap base width indices w
     ∙ none_full (λ q. ltb (get_or controls q 0) 128) (base + w.next) (cap - (base + w.next)) (λ q l u.
     let n = f.no (q - base) (omega arith) (omega arith) in
     let b : base + (q - base) ≡ q = omega arith in
     rw b at n)
 
-no_places : (places : List ℕ) → None ≡ slice_get places 0 → places ≡ []
-no_places [] e = refl
-no_places (x ∷ xs) e = absurd (none-some x e)
+no_indices : (indices : List ℕ) → None ≡ slice_get indices 0 → indices ≡ []
+no_indices [] e = refl
+no_indices (x ∷ xs) e = absurd (none-some x e)
 
-pub left_none : (controls : List ℕ) (cap base width : ℕ) (places : List ℕ) → None ≡ slice_get places 0 → left controls cap base width places ≡ full_from controls cap (base + width)
+pub left_none : (controls : List ℕ) (cap base width : ℕ) (indices : List ℕ) → None ≡ slice_get indices 0 → left controls cap base width indices ≡ full_from controls cap (base + width)
 unfolding left
-left_none controls cap base width places e = ap (λ xs. filter (λ q. ltb q cap) (map (λ j. base + j) xs) ++ full_from controls cap (base + width)) (no_places places e)
+left_none controls cap base width indices e = ap (λ xs. filter (λ q. ltb q cap) (map (λ j. base + j) xs) ++ full_from controls cap (base + width)) (no_indices indices e)
 
 past_end : (controls : List ℕ) (cap b : ℕ) → cap ≤ b → full_from controls cap b ≡ []
 unfolding full_from
 past_end controls cap b h = let e : cap - b ≡ 0 = omega arith in rw e refl
 
-pub ends_last : (controls : List ℕ) (cap base width : ℕ) (places : List ℕ) → None ≡ slice_get places 0 → cap ≤ base + width → left controls cap base width places ≡ []
-ends_last controls cap base width places e h = left_none controls cap base width places e ∙ past_end controls cap (base + width) h
+pub ends_last : (controls : List ℕ) (cap base width : ℕ) (indices : List ℕ) → None ≡ slice_get indices 0 → cap ≤ base + width → left controls cap base width indices ≡ []
+ends_last controls cap base width indices e h = left_none controls cap base width indices e ∙ past_end controls cap (base + width) h
 
-pub ends_full : (controls : List ℕ) (cap base width : ℕ) (places : List ℕ) → WalkFrom controls cap base width places → cap ≤ base → left controls cap base width places ≡ []
-ends_full controls cap base width places w h = left_is controls cap base width places w ∙ past_end controls cap (base + w.next) (omega arith)
+pub ends_full : (controls : List ℕ) (cap base width : ℕ) (indices : List ℕ) → WalkFrom controls cap base width indices → cap ≤ base → left controls cap base width indices ≡ []
+ends_full controls cap base width indices w h = left_is controls cap base width indices w ∙ past_end controls cap (base + w.next) (omega arith)
 
 -- ---- a group
 
-unfoldable pub group_walk : (controls g : List ℕ) (cap base width : ℕ) (places : List ℕ) → control_count cap ≤ length controls → base ≤ cap → g ≡ take width (drop base controls) → places ≡ places_where (λ j. ltb (get_or g j 0) 128) width → WalkFrom controls cap base width places
-unfolding places_where
-group_walk controls g cap base width places n h e p =
+unfoldable pub group_walk : (controls g : List ℕ) (cap base width : ℕ) (indices : List ℕ) → control_count cap ≤ length controls → base ≤ cap → g ≡ take width (drop base controls) → indices ≡ indices_where (λ j. ltb (get_or g j 0) 128) width → WalkFrom controls cap base width indices
+unfolding indices_where
+group_walk controls g cap base width indices n h e p =
     let z : width - 0 ≡ width = omega arith in
     record {
       count = n;
@@ -197,12 +197,12 @@ group_walk controls g cap base width places n h e p =
     }
 
 -- the remaining buckets of a group that is read anew
-pub left_group : (controls g : List ℕ) (cap base width : ℕ) (places : List ℕ) → control_count cap ≤ length controls → base ≤ cap → g ≡ take width (drop base controls) → places ≡ places_where (λ j. ltb (get_or g j 0) 128) width
-    → left controls cap base width places ≡ full_from controls cap base
+pub left_group : (controls g : List ℕ) (cap base width : ℕ) (indices : List ℕ) → control_count cap ≤ length controls → base ≤ cap → g ≡ take width (drop base controls) → indices ≡ indices_where (λ j. ltb (get_or g j 0) 128) width
+    → left controls cap base width indices ≡ full_from controls cap base
 unfolding group_walk
-left_group controls g cap base width places n h e p =
+left_group controls g cap base width indices n h e p =
     let z : base + 0 ≡ base = omega arith in
-    left_is controls cap base width places (group_walk controls g cap base width places n h e p) ∙ ap (full_from controls cap) z
+    left_is controls cap base width indices (group_walk controls g cap base width indices n h e p) ∙ ap (full_from controls cap) z
 
 pub whole_walk : (controls : List ℕ) (cap : ℕ) → full_from controls cap 0 ≡ walk controls cap
 unfolding full_from walk

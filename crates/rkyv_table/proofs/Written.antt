@@ -1,21 +1,21 @@
 -- A lookup in written control bytes finds the first accepted home bucket.
 use Rattle.std.proofs.Common.{◌≡◌, ℕ, ◌+◌, ◌*◌, ◌%◌, ◌^◌, ◌<◌, ◌≤◌, inl, inr, refl, sym, ap, ◌∙◌, arith, List, [], ◌∷◌, Bool, true, false, ◌&&◌, eqb, ltb, leb, length, get_or, take, map, Option, Some, None, get_or-take, length-take}
-use Rattle.std.specs.List.{list_any, find, range_with_len, flat_map, position_or_len}
+use Rattle.std.specs.List.{find, flat_map, list_any, position_or_len, range_with_len}
 use Rattle.std.specs.Option.{option_map}
 use Rattle.std.proofs.lemmas.Nat.{mod_below}
 use Rattle.std.proofs.lemmas.List.{get_or_default, nil_from_length}
-use Rattle.std.proofs.lemmas.List.Folds.{find-append, find_at, Any-from_list_any}
-use Rattle.std.proofs.lemmas.List.Sums.{passes_at_first, fails_before_first}
+use Rattle.std.proofs.lemmas.List.Folds.{Any-from_list_any, find-append, find_at}
+use Rattle.std.proofs.lemmas.List.Sums.{fails_before_first, passes_at_first}
 use Rattle.std.proofs.lemmas.Option.{none-some, same_Some, slice_get-get_or}
 use Rattle.std.proofs.lemmas.Bool.{cases_Bool, cases_lt, and_parts, and_from, and_cases, and_left, and_right, or_left, or_right, eqb-true, eq-eqb, ltb-true, lt-ltb, lt-leb, not-false, true≢false, false_from_ne_true, both_ways}
-use Rattle.rkyv_table.specs.Controls.Numbers.{start, tag, control_count, probe_capacity}
-use Rattle.rkyv_table.specs.Controls.Probe.{strides, buckets_at, probed}
-use Rattle.rkyv_table.specs.Controls.Placing.{is_free, Written}
-use Rattle.rkyv_scan.specs.Groups.{Kind, IsKind}
-use Rattle.rkyv_table.specs.Controls.Finding.{marked, candidates, stride_has_empty, ends_at, found}
+use Rattle.rkyv_table.specs.Controls.Numbers.{control_count, probe_capacity, start, tag}
+use Rattle.rkyv_table.specs.Controls.Probe.{buckets_at, probed, strides}
+use Rattle.rkyv_table.specs.Controls.Placing.{Written, is_free}
+use Rattle.rkyv_scan.specs.Groups.{IsKind, Kind}
+use Rattle.rkyv_table.specs.Controls.Finding.{candidates, ends_at, found, marked, stride_has_empty}
 use Rattle.rkyv_table.proofs.Coverage.{has_stride}
-use Rattle.rkyv_table.proofs.Search.{cases_option, control_of, tail_shows_all, strides_head, mark_equal, mark_full, GoodStride, answer, answer_cons, walk_on, walk_all}
-use Rattle.rkyv_table.proofs.Lists.{any_map_filter, any_member, any_range, none_range, find_none, none_find, some_find, find_map_filter, FirstIn, first_range, range_first}
+use Rattle.rkyv_table.proofs.Search.{GoodStride, cases_option, control_of, found_along, found_along_cons, mark_equal, mark_full, strides_head, tail_shows_all, walk_all, walk_on}
+use Rattle.rkyv_table.proofs.Lists.{FirstIn, any_map_filter, any_member, any_range, find_map_filter, find_none, first_range, none_find, none_range, range_first, some_find}
 
 -- ---- the buckets that a stride probes
 
@@ -163,9 +163,9 @@ module _ (cap h i : ℕ) (hashes homes controls : List ℕ) (kind : Kind) (accep
       find_candidates accept kind controls cap (tag h) p ∙ ap (option_map (λ q. q % cap)) r ∙ ap Some w.2
 
   -- the result is the home bucket of that item
-  pub answers_home : answer kind controls cap (tag h) accept (strides h cap) ≡ Some (get_or homes i 0)
+  pub finds_home : found_along kind controls cap (tag h) accept (strides h cap) ≡ Some (get_or homes i 0)
   unfolding free b
-  answers_home =
+  finds_home =
       let home = a.written.placed.first i a.within in
       let home' : find free (probed h cap) ≡ Some b = rw a.under_hash at home in
       let fb = (some_find free (probed h cap) b home').1 in
@@ -180,7 +180,7 @@ module _ (cap h i : ℕ) (hashes homes controls : List ℕ) (kind : Kind) (accep
         hits = λ n. found_in p lp n;
       } in g) in
       let h' : find free (flat_map (buckets_at cap) (s ∷ st.0)) ≡ Some b = ap (λ ps. find free (flat_map (buckets_at cap) ps)) (sym st.1) ∙ home' in
-      ap (answer kind controls cap (tag h) accept) st.1
+      ap (found_along kind controls cap (tag h) accept) st.1
       ∙ walk_on cap b free accept kind controls (tag h) s st.0 (good s here (λ n. n))
       (λ n hr. let none = none_find free (buckets_at cap s) n in
       walk_all cap b free accept kind controls (tag h) st.0 (λ p hp. good p (ap (list_any (eqb p)) st.1 ∙ or_right (eqb p s) (list_any (eqb p) st.0) hp) (λ _. none)) hr) h'
@@ -206,12 +206,12 @@ none_accepted cap h p hashes homes controls kind accept pos hh law w none lp =
           (false_from_ne_true (accept (q % cap)) (λ t. both_ways (list_any accept homes) none (any_member accept (q % cap) homes has t)))
     ]))
 
-answer_none : (kind : Kind) (controls : List ℕ) (cap t : ℕ) (accept : ℕ → Bool) (ps : List ℕ) → ((p : ℕ) → list_any (eqb p) ps ≡ true → find accept (candidates kind controls cap t p) ≡ None) → answer kind controls cap t accept ps ≡ None
-answer_none kind controls cap t accept [] h = refl
-answer_none kind controls cap t accept (p ∷ ps) h =
-    answer_cons kind controls cap t accept p ps ∙ (elim (cases_Bool (ends_at kind controls cap t accept p)) [
+found_along_none : (kind : Kind) (controls : List ℕ) (cap t : ℕ) (accept : ℕ → Bool) (ps : List ℕ) → ((p : ℕ) → list_any (eqb p) ps ≡ true → find accept (candidates kind controls cap t p) ≡ None) → found_along kind controls cap t accept ps ≡ None
+found_along_none kind controls cap t accept [] h = refl
+found_along_none kind controls cap t accept (p ∷ ps) h =
+    found_along_cons kind controls cap t accept p ps ∙ (elim (cases_Bool (ends_at kind controls cap t accept p)) [
       | inl e ↦ rw e (h p (or_left (eqb p p) (list_any (eqb p) ps) (eq-eqb p p refl)))
-      | inr e ↦ rw e (answer_none kind controls cap t accept ps (λ q m. h q (or_right (eqb q p) (list_any (eqb q) ps) m)))
+      | inr e ↦ rw e (found_along_none kind controls cap t accept ps (λ q m. h q (or_right (eqb q p) (list_any (eqb q) ps) m)))
     ])
 
 pub first_within : (P : ℕ → Bool) (xs : List ℕ) → list_any P xs ≡ true → position_or_len P xs < length xs
@@ -236,7 +236,7 @@ found_written cap h hashes homes controls kind accept room hh law w fits under_h
           rw e (sym (ap (find accept) n))
       | inr e ↦
           rw e (elim (cases_Bool (list_any accept homes)) [
-            | inr none ↦ answer_none kind controls cap (tag h) accept (strides h cap)
+            | inr none ↦ found_along_none kind controls cap (tag h) accept (strides h cap)
                 (λ p hp. none_accepted cap h p hashes homes controls kind accept (omega arith) hh law w none
                 (ltb-true p (probe_capacity cap) (and_parts (ltb p (probe_capacity cap)) (eqb (p % 16) (start h cap % 16)) (sym (has_stride h cap p (omega arith)) ∙ hp)).0))
                 ∙ sym (find_none accept homes none)
@@ -246,7 +246,7 @@ found_written cap h hashes homes controls kind accept room hh law w fits under_h
                 let y = passes_at_first accept homes 0 l in
                 let hi = under_hash i (omega arith) y in
                 let a : IsFirstAccepted cap h i hashes homes controls kind accept = record { written = w; law = law; hash_fits = fits; some = omega arith; within = omega arith; under_hash = hi; yes = y; no = λ j lj. fails_before_first accept homes j 0 lj } in
-                answers_home cap h i hashes homes controls kind accept a
+                finds_home cap h i hashes homes controls kind accept a
                 ∙ sym (find_at accept homes ∙ slice_get-get_or homes i 0 l)
           ])
     ]

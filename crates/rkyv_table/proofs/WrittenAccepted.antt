@@ -1,17 +1,17 @@
 -- Written control bytes are valid: they have as many full buckets as items.
 use Rattle.std.proofs.Common.{◌≡◌, ℕ, ◌+◌, ◌^◌, ◌<◌, refl, sym, ◌∙◌, arith, List, false, ◌&&◌, eqb, ltb, length, get_or, take, get_or-take, length-take}
-use Rattle.std.specs.List.{list_any, range_with_len, IsDistinct}
+use Rattle.std.specs.List.{IsDistinct, list_any, range_with_len}
 use Rattle.std.specs.Cmp.{nat_eq_equiv}
 use Rattle.std.proofs.lemmas.Map.Keys.{IsDistinct-from_apart}
 use Rattle.std.proofs.lemmas.Map.Made.{length-from_same_keys}
 use Rattle.std.proofs.lemmas.List.{get_or_default}
-use Rattle.std.proofs.lemmas.List.Folds.{list_any_at, Any-from_list_any}
-use Rattle.std.proofs.lemmas.List.FromFn.{length-range_with_len, get_or-range_with_len}
-use Rattle.std.proofs.lemmas.Bool.{and_parts, and_from, eqb-true, eq-eqb, ne_eqb, leb-false, ltb-true, lt-ltb, not-true, not-false, false_from_ne_true, both_ways}
+use Rattle.std.proofs.lemmas.List.Folds.{Any-from_list_any, list_any_at}
+use Rattle.std.proofs.lemmas.List.FromFn.{get_or-range_with_len, length-range_with_len}
+use Rattle.std.proofs.lemmas.Bool.{and_from, and_parts, both_ways, eq-eqb, eqb-true, false_from_ne_true, leb-false, lt-ltb, ltb-true, ne_eqb, not-false, not-true}
 use Rattle.rkyv_table.specs.Controls.Probe.{probed}
-use Rattle.rkyv_table.specs.Controls.Placing.{is_free, Homes, Written, AreValidControls, walk}
+use Rattle.rkyv_table.specs.Controls.Placing.{AreValidControls, Homes, Written, is_free, walk}
 use Rattle.rkyv_table.proofs.Coverage.{same_tests}
-use Rattle.rkyv_table.proofs.Lists.{any_filter, any_range, in_range, some_find, distinct_filter}
+use Rattle.rkyv_table.proofs.Lists.{any_filter, any_range, distinct_filter, in_range, some_find}
 use Rattle.rkyv_table.proofs.WrittenStep.{free_empty, home_below}
 
 -- no two items have one home bucket

@@ -1,21 +1,21 @@
 -- One item more in written control bytes.
 use Rattle.std.proofs.Common.{◌≡◌, ℕ, ◌+◌, ◌*◌, ◌-◌, ◌%◌, ◌^◌, ◌<◌, ◌≢◌, inl, inr, refl, sym, ap, ◌∙◌, arith, List, [], ◌∷◌, ◌++◌, Bool, true, false, ◌&&◌, eqb, ltb, length, get_or, take, set, replicate, Some, get_or-set_same, get_or-set_other, length-set, length-take, get_or-take}
-use Rattle.std.specs.List.{find, list_any, range_with_len, flat_map, IsDistinct}
+use Rattle.std.specs.List.{IsDistinct, find, flat_map, list_any, range_with_len}
 use Rattle.std.specs.Cmp.{nat_eq_equiv}
 use Rattle.std.proofs.lemmas.Map.Keys.{IsDistinct-from_apart}
 use Rattle.std.proofs.lemmas.Map.Made.{length-le_from_is_member}
-use Rattle.std.proofs.lemmas.List.FromFn.{length-range_with_len, get_or-range_with_len}
+use Rattle.std.proofs.lemmas.List.FromFn.{get_or-range_with_len, length-range_with_len}
 use Rattle.std.specs.Option.{option_map}
-use Rattle.std.proofs.lemmas.List.{take_all, take-append-le, get_or_append_left, get_or_push, length_push, get_or-replicate, length-replicate}
-use Rattle.std.proofs.lemmas.List.Folds.{list_any-append, find-append, Any-from_list_any}
+use Rattle.std.proofs.lemmas.List.{get_or-replicate, get_or_append_left, get_or_push, length-replicate, length_push, take-append-le, take_all}
+use Rattle.std.proofs.lemmas.List.Folds.{Any-from_list_any, find-append, list_any-append}
 use Rattle.std.proofs.lemmas.Nat.{mod_below}
-use Rattle.std.proofs.lemmas.Bool.{cases_Bool, cases_eq, cases_lt, or_parts, eq-eqb, le-leb, lt-leb, leb-true, not-true, not-false, not_from_false, both_ways, ne_eqb, false_from_ne_true}
-use Rattle.rkyv_table.specs.Controls.Numbers.{tag, control_count}
-use Rattle.rkyv_table.specs.Controls.Probe.{strides, buckets_at, probed}
-use Rattle.rkyv_table.specs.Controls.Placing.{is_free, Homes, Written}
+use Rattle.std.proofs.lemmas.Bool.{both_ways, cases_Bool, cases_eq, cases_lt, eq-eqb, false_from_ne_true, le-leb, leb-true, lt-leb, ne_eqb, not-false, not-true, not_from_false, or_parts}
+use Rattle.rkyv_table.specs.Controls.Numbers.{control_count, tag}
+use Rattle.rkyv_table.specs.Controls.Probe.{buckets_at, probed, strides}
+use Rattle.rkyv_table.specs.Controls.Placing.{Homes, Written, is_free}
 use Rattle.rkyv_table.specs.Controls.ControlBytes.{HasRoom, is_empty_at, with_control}
 use Rattle.rkyv_table.proofs.Written.{find_buckets, probed_below, tag_small, taken_home}
-use Rattle.rkyv_table.proofs.Lists.{some_find, any_member}
+use Rattle.rkyv_table.proofs.Lists.{any_member, some_find}
 
 -- ---- reading a control byte after the two writes
 

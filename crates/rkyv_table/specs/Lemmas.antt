@@ -1,5 +1,5 @@
 -- Lemmas for the laws of traits and of their impls. A law can import from specs/ alone.
-pub mod PlaceLaws
+pub mod ValidItemLaws
 pub mod TableLaws
 pub mod ItemPositions
 pub mod SameHeader

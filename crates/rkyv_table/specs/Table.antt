@@ -1,6 +1,6 @@
 -- Definitions on tables: header, buckets, writing, validation, lookups and walks.
 pub mod Header
-pub mod Places
+pub mod ValidItems
 pub mod Layout
 pub mod Positions
 pub mod Reading

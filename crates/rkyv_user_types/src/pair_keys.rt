@@ -3,7 +3,7 @@
 ghost use Rattle.std.specs.Prelude.{◌&&◌, ◌↔◌, ◌≡◌, IsTrue};
 ghost use Rattle.std.specs.Cmp.{and_equiv, and_per, on_equiv, on_per};
 ghost use Rattle.rkyv_base.specs.Entry.{entry_spec};
-ghost use Rattle.rkyv_base.specs.View.{IsValidView, AtView};
+ghost use Rattle.rkyv_base.specs.View.{AtView, IsValidView};
 ghost use Rattle.rkyv_keys.specs.AtViews.{at_view};
 ghost use Rattle.rkyv_keys.specs.Deserialize.{Deserializes};
 ghost use Rattle.rkyv_keys.specs.OfEntries.{BothRead, entry_fits};

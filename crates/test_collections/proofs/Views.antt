@@ -11,5 +11,5 @@ use Rattle.rkyv_collections.specs.declared.map.HashMapOf.{HashMapOf}
 
 pub view_transport : {K V H W : Type 0} {ks : Specs K} {vs : Specs V} {wt : Words W} (m : ArchivedHashMap K V H W ks vs wt) (view : View (HashMapOf K V H W)) (b : Bor (List ℕ)) (p : ℕ)
     → m.view ≡ view → view.archive ≡ b → view.pos ≡ p → (F : List ℕ → ℕ → Type 0) → F (map_bytes m) (map_pos m) → F b.now p
-view_transport m view b p of archive place F x =
-    as_read m b.now p (ap (λ v. v.archive.now) of ∙ ap (λ a. a.now) archive) (ap (λ v. v.pos) of ∙ place) F x
+view_transport m view b p of archive key_pos F x =
+    as_read m b.now p (ap (λ v. v.archive.now) of ∙ ap (λ a. a.now) archive) (ap (λ v. v.pos) of ∙ key_pos) F x

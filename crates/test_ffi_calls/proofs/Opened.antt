@@ -3,7 +3,7 @@ use Rattle.std.proofs.Common.{◌≡◌, ◌∙◌, ℕ, List, arith, inl, inr, 
 use Rattle.rkyv_base.specs.Access.{IsValidArchive}
 use Rattle.rkyv_base.specs.ElementSpec.{ElementSpec}
 use Rattle.rkyv_base.specs.declared.errors.VerifyError.{VerifyError}
-use Rattle.rkyv_base.specs.declared.errors.VerifyError.TheVariants.{OutOfRange, Unaligned, InvalidLength, WrongNumberOfElements, UnwrappedControlByte, PlaceOutOfRange, InvalidValue, Refused}
+use Rattle.rkyv_base.specs.declared.errors.VerifyError.TheVariants.{InvalidLength, InvalidValue, OutOfRange, PlaceOutOfRange, Refused, Unaligned, UnwrappedControlByte, WrongNumberOfElements}
 use Rattle.ffi_calls.specs.Archives.{Opens}
 use Rattle.ffi_calls.specs.Status.{verify_status}
 

@@ -1,7 +1,7 @@
 -- A key of the tests: a number that is compared and hashed by its low byte.
 use Rattle.std.specs.Prelude.{◌≡◌, ℕ, ◌%◌, Bool, nat_eq, List, [], ◌∷◌}
 use Rattle.std.specs.Cmp.{unsigned_Decides}
-use Rattle.std.specs.Int.{w32, from_le_bytes}
+use Rattle.std.specs.Int.{from_le_bytes, w32}
 use Rattle.std.proofs.Common.{inl, inr, refl, subst}
 use Rattle.rkyv_scan.specs.Hash.{HasherCall, U8}
 use Rattle.rkyv_base.specs.declared.errors.ReadError.TheVariants.{Refused}
@@ -11,11 +11,11 @@ use Rattle.rkyv_base.specs.Lemmas.Numbers.{unsigned_codes}
 use Rattle.rkyv_base.specs.Scalar.{ScalarRepresents}
 use Rattle.rkyv_base.specs.Lemmas.Scalar.{scalar_element, scalar_laws, scalar_local}
 use Rattle.rkyv_base.specs.Scalar.{scalar_spec}
-use Rattle.rkyv_base.specs.ElementSpec.{IsElement, ElementSpec}
+use Rattle.rkyv_base.specs.ElementSpec.{ElementSpec, IsElement}
 use Rattle.rkyv_base.specs.Format.{RepresentsLocally}
 use Rattle.rkyv_keys.specs.Equality.{Comparison, IsEquivalence}
 use Rattle.rkyv_keys.specs.Keys.{IsKey, IsQuery, ReadsAnywhere}
-use Rattle.rkyv_keys.specs.OfValues.{values_same, value_calls, value_fits}
+use Rattle.rkyv_keys.specs.OfValues.{value_calls, value_fits, values_same}
 use Rattle.rkyv_keys.specs.Lemmas.OfValues.{value_equivalence}
 use Rattle.rkyv_keys.specs.Lemmas.OfValues.{value_key, value_query}
 use Rattle.rkyv_keys.specs.Deserialize.{DeserializeErrors}

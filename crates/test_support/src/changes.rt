@@ -76,15 +76,15 @@ pub fn outcomes_of_changes<A: Fn(&[u8]) -> Result<bool, VerifyError>>(
     requires { A.IsAlwaysCallable outcome }
 {
     let mut outcomes = OutcomeCounts::new();
-    for place in 0..archive.len() {
-        let kept = archive[place];
+    for pos in 0..archive.len() {
+        let kept = archive[pos];
         for value in 0..=255 {
             if value != kept {
-                archive[place] = value;
+                archive[pos] = value;
                 outcomes.count(outcome(&*archive));
             }
         }
-        archive[place] = kept;
+        archive[pos] = kept;
     }
     outcomes
 }
@@ -98,12 +98,12 @@ pub fn permitted_flips<A: Fn(&mut [u8]) -> bool>(archive: &mut [u8], is_permitte
     requires { A.IsAlwaysCallable is_permitted }
 {
     let mut permitted = 0usize;
-    for place in 0..archive.len() {
-        archive[place] ^= 0xff;
+    for pos in 0..archive.len() {
+        archive[pos] ^= 0xff;
         if is_permitted(&mut *archive) {
             permitted = permitted.wrapping_add(1);
         }
-        archive[place] ^= 0xff;
+        archive[pos] ^= 0xff;
     }
     permitted
 }

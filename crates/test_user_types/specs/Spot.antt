@@ -16,7 +16,7 @@ use Rattle.rkyv_base.specs.Lemmas.Scalar.{scalar_element}
 use Rattle.rkyv_base.specs.Scalar.{scalar_format}
 use Rattle.rkyv_base.specs.Scalar.{scalar_spec}
 use Rattle.rkyv_base.specs.Lemmas.Scalar.{scalar_is_format, scalar_laws, scalar_local}
-use Rattle.rkyv_base.specs.ElementSpec.{IsElement, ElementSpec}
+use Rattle.rkyv_base.specs.ElementSpec.{ElementSpec, IsElement}
 use Rattle.rkyv_base.specs.declared.pairs.EntryResolver.{EntryResolver}
 use Rattle.test_user_types.specs.declared.spot.Spot.{Spot}
 

@@ -1,5 +1,5 @@
 //! The archived form of spots.
-ghost use Rattle.rkyv_base.specs.View.{IsValidView, AtView};
+ghost use Rattle.rkyv_base.specs.View.{AtView, IsValidView};
 ghost use Rattle.test_user_types.specs.Spot.{
   SpotRepresents,
   spot_element,

@@ -1,6 +1,6 @@
 //! Spots as keys.
 ghost use Rattle.std.specs.Prelude.{◌≡◌, IsTrue, MatchResult, ◌↔◌};
-ghost use Rattle.rkyv_base.specs.View.{IsValidView, AtView};
+ghost use Rattle.rkyv_base.specs.View.{AtView, IsValidView};
 ghost use Rattle.rkyv_keys.specs.Calls.{after_calls};
 ghost use Rattle.rkyv_keys.specs.AtViews.{at_view, at_views};
 ghost use Rattle.rkyv_keys.specs.Deserialize.{nothing_fails};

@@ -10,12 +10,12 @@ pub returns-in-Some-clause-found : goal.returns-in-Some-clause-found
 returns-in-Some-clause-found c = let found = c.in-Some.ensures in
     ap Some (sym c.to_native.ensures)
     ∙ scalar_at_root (unsigned w64) c.of-symbols.result _ _ _ (λ b q. same_bytes c.args.name.now (text_at w32 b q)) (Some c.in-Some.address)
-    c.of-symbols.ensures.view c.in_ok-access.ensures.root.1 found.walked found.answer
+    c.of-symbols.ensures.view c.in_ok-access.ensures.root.1 found.walked found.finds
 
 pub returns-in-None-clause-found : goal.returns-in-None-clause-found
 returns-in-None-clause-found c = let found = c.in-None.ensures in
     scalar_at_root (unsigned w64) c.of-symbols.result _ _ _ (λ b q. same_bytes c.args.name.now (text_at w32 b q)) None
-    c.of-symbols.ensures.view c.in_ok-access.ensures.root.1 found.walked found.answer
+    c.of-symbols.ensures.view c.in_ok-access.ensures.root.1 found.walked found.finds
 
 pub returns-in_err-access-clause-listed : goal.returns-in_err-access-clause-listed
 returns-in_err-access-clause-listed c = λ symbols is.

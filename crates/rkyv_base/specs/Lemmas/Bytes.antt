@@ -1,8 +1,8 @@
 -- Lemmas: numbers and lists of bytes at a position of an archive.
 use Rattle.std.specs.Prelude.{◌≡◌, ℕ, ◌+◌, ◌-◌, ◌≤◌, List, ◌++◌, length, drop, slice_range}
 use Rattle.std.proofs.Common.{refl, arith, sym, ◌∙◌, ap, length-append}
-use Rattle.std.proofs.lemmas.List.{drop-take, take-take, drop-drop, take_all}
-use Rattle.std.proofs.Math.Seq.{take-append_seam, drop-append_seam}
+use Rattle.std.proofs.lemmas.List.{drop-drop, drop-take, take-take, take_all}
+use Rattle.std.proofs.Math.Seq.{drop-append_seam, take-append_seam}
 use Rattle.rkyv_base.specs.Bytes.{AgreeOn, OccursAt}
 
 -- a part of a range, cut out of the range

@@ -1,7 +1,7 @@
 -- Lemmas: the size and the alignment of an element, and the condition for valid bytes.
 use Rattle.std.specs.Prelude.{◌≡◌, ℕ, ◌+◌, ◌%◌, ◌<◌, ◌≤◌, max, List, length}
 use Rattle.std.specs.Coded.{le_prop, ×_prop}
-use Rattle.std.proofs.Common.{refl, arith, inl, inr, subst, sym}
+use Rattle.std.proofs.Common.{arith, inl, inr, refl, subst, sym}
 use Rattle.std.proofs.Props.{props}
 use Rattle.rkyv_base.specs.Lemmas.Props.{only_one, prop_by}
 use Rattle.rkyv_base.specs.ElementSpec.{ElementSpec, IsAlign, IsElement, ValidAt, Viewable}

@@ -1,6 +1,6 @@
 -- Lemmas: the sizes that the width of an archive fixes.
 use Rattle.std.specs.Prelude.{◌≡◌, ℕ, ◌*◌, ◌^◌, ◌<◌, ◌≤◌, ◌⊎◌}
-use Rattle.std.specs.Int.{Width, w32, w64, byte_len}
+use Rattle.std.specs.Int.{Width, byte_len, w32, w64}
 use Rattle.std.proofs.Common.{inl, inr, refl, lit<, lit≤}
 use mir.Val.{bits}
 use Rattle.rkyv_base.specs.Layout.{IsLayout, narrow_limit}

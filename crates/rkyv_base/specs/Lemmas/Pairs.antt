@@ -5,17 +5,17 @@ use Rattle.std.proofs.Common.{arith, subst, sym, ◌∙◌, ap, inl, inr, length
 use Rattle.std.proofs.lemmas.List.{length-replicate}
 use Rattle.rkyv_base.specs.declared.pairs.EntryResolver.{EntryResolver}
 use Rattle.rkyv_base.specs.Bytes.{OccursAt}
-use Rattle.rkyv_base.specs.Lemmas.Bytes.{occurs_front, occurs_back, occurs_third}
+use Rattle.rkyv_base.specs.Lemmas.Bytes.{occurs_back, occurs_front, occurs_third}
 use Rattle.rkyv_base.specs.Writing.{zeros}
 use Rattle.rkyv_base.specs.ElementSpec.{ElementSpec, IsElement}
 use Rattle.rkyv_base.specs.Lemmas.ElementSpec.{multiple_of_max, sum_multiple}
-use Rattle.rkyv_base.specs.Entry.{value_offset, whole_size, size_of_whole}
+use Rattle.rkyv_base.specs.Entry.{size_of_whole, value_offset, whole_size}
 use Rattle.rkyv_base.specs.Lemmas.Entry.{size_of_small}
 use Rattle.rkyv_base.specs.Entry.{IsValidEntry, entry_spec}
-use Rattle.rkyv_base.specs.Lemmas.Entry.{size_of_large, round_up-multiple}
+use Rattle.rkyv_base.specs.Lemmas.Entry.{round_up-multiple, size_of_large}
 use Rattle.rkyv_base.specs.Lemmas.Entry.{key_and_value_inside, same_parts}
 use Rattle.rkyv_base.specs.Format.{Format, IsFormat, RepresentsLocally}
-use Rattle.rkyv_base.specs.Pairs.{pair_bytes, PairRepresents, PairParts, PairImage, PairOverflows}
+use Rattle.rkyv_base.specs.Pairs.{PairImage, PairOverflows, PairParts, PairRepresents, pair_bytes}
 use Rattle.rkyv_base.specs.Pairs.{pair_format, written_as}
 
 pub written_as-format : {X V R : Type 0} (as_value : X → V) (s : ElementSpec)

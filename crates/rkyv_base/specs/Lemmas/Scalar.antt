@@ -1,7 +1,7 @@
 -- Lemmas: scalars, which are one little-endian number: numbers, `bool` and `char`.
 use Rattle.std.specs.Prelude.{◌≡◌, ℕ, ◌+◌, ◌%◌, ◌^◌, ◌<◌, ◌≤◌, List, length}
 use Rattle.std.specs.Prelude.{slice_range}
-use Rattle.std.specs.Int.{Width, w8, w16, w32, w64, byte_len, from_le_bytes, to_le_bytes}
+use Rattle.std.specs.Int.{Width, byte_len, from_le_bytes, to_le_bytes, w16, w32, w64, w8}
 use Rattle.std.specs.Coded.{×_prop}
 use Rattle.std.proofs.Common.{refl, arith, inl, inr, subst, sym, ◌∙◌, ap}
 use Rattle.std.proofs.Props.{props}
@@ -11,7 +11,7 @@ use mir.Val.{bits}
 use Rattle.rkyv_base.specs.Bytes.{AgreeOn, OccursAt, number_at}
 use Rattle.rkyv_base.specs.ElementSpec.{ElementSpec, IsAlign, IsElement}
 use Rattle.rkyv_base.specs.Format.{IsFormat, RepresentsLocally}
-use Rattle.rkyv_base.specs.Scalar.{Encoding, IsWord, Encodes, scalar_spec, ScalarRepresents}
+use Rattle.rkyv_base.specs.Scalar.{Encodes, Encoding, IsWord, ScalarRepresents, scalar_spec}
 use Rattle.rkyv_base.specs.Scalar.{AreProps, IsScalar, scalar_format}
 
 -- a property of each word is one of any word

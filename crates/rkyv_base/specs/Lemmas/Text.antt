@@ -2,7 +2,7 @@
 -- distance.
 use Rattle.std.specs.Prelude.{◌≡◌, ℕ, ◌+◌, ◌%◌, ◌<◌, ◌≤◌, pos, unsigned_abs, true, false, List}
 use Rattle.std.specs.Prelude.{slice_range}
-use Rattle.std.specs.Int.{Width, w32, w64, byte_len}
+use Rattle.std.specs.Int.{Width, byte_len, w32, w64}
 use Rattle.std.specs.Str.{IsUtf8}
 use Rattle.std.specs.Coded.{le_prop, ×_prop}
 use Rattle.std.proofs.Common.{refl, arith, subst, sym, ◌∙◌, ap, inl, inr}
@@ -14,12 +14,12 @@ use Rattle.rkyv_base.specs.ElementSpec.{IsAlign, IsElement, Viewable}
 use Rattle.rkyv_base.specs.Format.{RepresentsLocally}
 use Rattle.rkyv_base.specs.Lemmas.Props.{either_prop, only_one, prop_by}
 use Rattle.rkyv_base.specs.Parts.{PartIn}
-use Rattle.rkyv_base.specs.Lemmas.Parts.{part_one, part_prop, part_exclusive, part_one_failure}
+use Rattle.rkyv_base.specs.Lemmas.Parts.{part_exclusive, part_one, part_one_failure, part_prop}
 use Rattle.rkyv_base.specs.Lemmas.Parts.{part_wider}
-use Rattle.rkyv_base.specs.Text.{text_size, fixed_bytes, is_out_of_line, inline_text}
-use Rattle.rkyv_base.specs.Text.{out_of_line_length, out_of_line_begin, text_of, text_at, TextReads}
+use Rattle.rkyv_base.specs.Text.{fixed_bytes, inline_text, is_out_of_line, text_size}
+use Rattle.rkyv_base.specs.Text.{TextReads, out_of_line_begin, out_of_line_length, text_at, text_of}
 use Rattle.rkyv_base.specs.Text.{IsValidInline, IsValidOutOfLine, IsValidText, OutOfLineFails}
-use Rattle.rkyv_base.specs.Text.{TextFails, text_spec, IsArchiveWord}
+use Rattle.rkyv_base.specs.Text.{IsArchiveWord, TextFails, text_spec}
 
 -- a property of both words is one of either
 pub by_archive_word : (P : Width → Type 0) → P w32 → P w64 → (w : Width) → IsArchiveWord w → P w

@@ -4,7 +4,7 @@ use Rattle.std.specs.Prelude.{FitsSigned, List, [], false, get_or, length, nat_l
 use Rattle.std.specs.Prelude.{replicate, slice_index, slice_range, take, true, ℕ, ℤ, ◌%◌, ◌&&◌}
 use Rattle.std.specs.Prelude.{◌++◌, ◌+ℤ◌, ◌+◌, ◌-ℤ◌, ◌-◌, ◌<◌, ◌==◌, ◌^◌, ◌∷◌, ◌≡◌, ◌≤◌}
 use Rattle.std.specs.List.{position_or_len}
-use Rattle.std.specs.Int.{Width, byte_len, to_le_bytes, from_le_bytes, cast_unsigned, cast_signed}
+use Rattle.std.specs.Int.{Width, byte_len, cast_signed, cast_unsigned, from_le_bytes, to_le_bytes}
 use Rattle.std.specs.Str.{IsUtf8}
 use mir.Val.{bits}
 use Rattle.rkyv_base.specs.declared.strings.TextResolver.{TextResolver}
@@ -17,13 +17,13 @@ use Rattle.rkyv_base.specs.Text.{out_of_line_begin, out_of_line_length}
 use Rattle.rkyv_base.specs.Lemmas.Text.{out_of_line_reads}
 use Rattle.rkyv_base.specs.Text.{fixed_bytes, inline_text, is_out_of_line, text_spec}
 use Rattle.rkyv_base.specs.Lemmas.Text.{inline_reads}
-use Rattle.rkyv_base.specs.Text.{text_size, decode_length}
+use Rattle.rkyv_base.specs.Text.{decode_length, text_size}
 use Rattle.rkyv_base.specs.Bytes.{OccursAt, signed_at}
-use Rattle.rkyv_base.specs.Lemmas.Utf8.{text_below, text_begins}
+use Rattle.rkyv_base.specs.Lemmas.Utf8.{text_begins, text_below}
 use Rattle.std.proofs.Common.{refl, arith, sym, subst, ◌∙◌, ap, inl, inr, length-append}
 use Rattle.std.proofs.Math.Facts.{Fits-of_z}
 use Rattle.std.proofs.Math.ListN.{get_or-append}
-use Rattle.std.proofs.Math.Seq.{get_or-append_right, take-append_seam, drop-append_seam}
+use Rattle.std.proofs.Math.Seq.{drop-append_seam, get_or-append_right, take-append_seam}
 use Rattle.std.proofs.lemmas.Bool.Decides.{nat_tests}
 use Rattle.std.proofs.lemmas.Int.{ints, to_z-of_z}
 use Rattle.std.proofs.lemmas.List.{get_or-replicate, length-replicate, take_all}
@@ -31,8 +31,8 @@ use Rattle.std.proofs.lemmas.List.Sums.{position_or_len_is}
 use Rattle.rkyv_base.specs.Parts.{PartIn}
 use Rattle.rkyv_base.specs.Scalar.{IsWord}
 use Rattle.rkyv_base.specs.Lemmas.Scalar.{word_bytes, word_reads_back}
-use Rattle.rkyv_base.specs.TextWriting.{text_limit, IsLong, length_word, inline_bytes}
-use Rattle.rkyv_base.specs.TextWriting.{out_of_line_bytes, TextParts, TextImage, TextOverflows}
+use Rattle.rkyv_base.specs.TextWriting.{IsLong, inline_bytes, length_word, text_limit}
+use Rattle.rkyv_base.specs.TextWriting.{TextImage, TextOverflows, TextParts, out_of_line_bytes}
 use Rattle.rkyv_base.specs.TextWriting.{text_format}
 
 -- the bytes in an archive at a text's position are its fixed bytes

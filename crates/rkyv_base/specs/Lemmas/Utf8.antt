@@ -21,7 +21,7 @@ use Rattle.std.specs.Prelude.{
 }
 use Rattle.std.specs.Str.{IsUtf8}
 use Rattle.std.proofs.Common.{arith, inl, inr, ltb, subst}
-use Rattle.std.proofs.Math.Utf8.{encode, encodes, scalar, scalars, scalar_cases}
+use Rattle.std.proofs.Math.Utf8.{encode, encodes, scalar, scalar_cases, scalars}
 use Rattle.std.proofs.lemmas.Bool.{and_parts, cond_both, ltb-true}
 use Rattle.std.proofs.lemmas.Bool.Decides.{nat_tests}
 use Rattle.std.proofs.lemmas.List.Elements.{All-append}

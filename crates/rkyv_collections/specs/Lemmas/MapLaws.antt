@@ -11,7 +11,7 @@ use Rattle.rkyv_base.specs.Lemmas.Entry.{entry_element, same_key}
 use Rattle.rkyv_base.specs.Format.{Format, IsFormat, RepresentsLocally}
 use Rattle.rkyv_base.specs.Pairs.{PairRepresents, pair_format}
 use Rattle.rkyv_base.specs.Lemmas.Pairs.{pair_is_format, pair_local}
-use Rattle.rkyv_base.specs.ElementSpec.{IsElement, ElementSpec, ValidAt}
+use Rattle.rkyv_base.specs.ElementSpec.{ElementSpec, IsElement, ValidAt}
 use Rattle.rkyv_base.specs.Lemmas.ElementSpec.{valid_at}
 use Rattle.rkyv_base.specs.Text.{IsArchiveWord}
 use Rattle.rkyv_table.specs.Table.Header.{cap_at}
@@ -23,7 +23,8 @@ use Rattle.rkyv_table.specs.Table.Layout.{IsValidTable}
 use Rattle.rkyv_table.specs.Table.TableFormat.{TableRepresents}
 use Rattle.rkyv_table.specs.Lemmas.TableSound.{table_is_format}
 use Rattle.rkyv_table.specs.Table.PlacedItems.{hashes_of, items_of}
-use Rattle.rkyv_table.specs.Lemmas.ItemPositions.{HeldPart, HoldsWithin, holds_at, item_holds}
+use Rattle.rkyv_table.specs.Lemmas.ItemPositions.{IsValidWithin, ValidPart, item_is_valid}
+use Rattle.rkyv_table.specs.Lemmas.ItemPositions.{valid_part}
 use Rattle.rkyv_table.specs.Lemmas.SameHeader.{cap_same, len_same, pos_same}
 use Rattle.rkyv_table.specs.Table.WrittenTables.{IsWrittenOf}
 use Rattle.rkyv_table.proofs.WrittenTables.{home_count, home_pos, home_walked, table_written}
@@ -60,11 +61,11 @@ module _ (k v : ElementSpec) (kl : IsElement k) (vl : IsElement v) (w : Width) w
   law = entry_element k v kl vl
 
   -- the position of the item with the number `i`, in insertion order
-  abbrev place : List ℕ → ℕ → List ℕ → ℕ → ℕ
-  place b p homes i = slice_index (home_positions w S.size b p homes) i
+  abbrev pos_of_home : List ℕ → ℕ → List ℕ → ℕ → ℕ
+  pos_of_home b p homes i = slice_index (home_positions w S.size b p homes) i
 
   -- the key of a valid entry is valid
-  pub key_valid : (b : List ℕ) (q lo hi l : ℕ) → HoldsWithin S b q lo hi l → hi ≤ q
+  pub key_valid : (b : List ℕ) (q lo hi l : ℕ) → IsValidWithin S b q lo hi l → hi ≤ q
       → ValidAt k b q
   key_valid b q lo hi l h o =
       let e = h.is_valid in
@@ -74,15 +75,16 @@ module _ (k v : ElementSpec) (kl : IsElement k) (vl : IsElement v) (w : Width) w
       (written : WrittenAt w b p hashes homes) where
     -- the entry of each item is valid
     pub entry_there : (i : ℕ) → i < length homes
-        → (t : HeldPart w S b p lo hi l) × HoldsWithin S b (place b p homes i) lo t.begin t.begin
-        × (t.begin ≤ place b p homes i) × (place b p homes i + S.size ≤ l)
+        → (t : ValidPart w S b p lo hi l)
+        × IsValidWithin S b (pos_of_home b p homes i) lo t.begin t.begin
+        × (t.begin ≤ pos_of_home b p homes i) × (pos_of_home b p homes i + S.size ≤ l)
     entry_there i below =
         let walked = home_walked w b p hashes homes written i below in
-        let t = holds_at w S law b p lo hi l h (omega (arith, walked.0)) in
-        let r = item_holds w S law b p lo hi l h (slice_index homes i) walked t in
+        let t = valid_part w S law b p lo hi l h (omega (arith, walked.0)) in
+        let r = item_is_valid w S law b p lo hi l h (slice_index homes i) walked t in
         let e = sym (home_pos w S.size b p homes i below) in (
           t,
-          subst (λ q. HoldsWithin S b q lo t.begin t.begin) e r.0,
+          subst (λ q. IsValidWithin S b q lo t.begin t.begin) e r.0,
           subst (λ q. t.begin ≤ q) e r.1,
           subst (λ q. q + S.size ≤ l) e r.2,
         )
@@ -101,24 +103,24 @@ module _ (k v : ElementSpec) (kl : IsElement k) (vl : IsElement v) (w : Width) w
       hashes = map (hash b) (home_positions w S.size b p st.homes)
 
       there : (i : ℕ) → i < length st.homes
-          → (t : HeldPart w S b p lo hi l)
-          × HoldsWithin S b (place b p st.homes i) lo t.begin t.begin
-          × (t.begin ≤ place b p st.homes i) × (place b p st.homes i + S.size ≤ l)
+          → (t : ValidPart w S b p lo hi l)
+          × IsValidWithin S b (pos_of_home b p st.homes i) lo t.begin t.begin
+          × (t.begin ≤ pos_of_home b p st.homes i) × (pos_of_home b p st.homes i + S.size ≤ l)
       there i below = entry_there b p lo hi l h hashes st.homes st.written i below
 
       same_entry : (i : ℕ) (below : i < length st.homes)
-          → AgreeOn b c (place b p st.homes i) (place b p st.homes i + S.size)
+          → AgreeOn b c (pos_of_home b p st.homes i) (pos_of_home b p st.homes i + S.size)
       same_entry i below =
           let r = there i below in
           let above = r.0.part.above in
-          agree_on_part b c lo l (place b p st.homes i) (place b p st.homes i + S.size)
+          agree_on_part b c lo l (pos_of_home b p st.homes i) (pos_of_home b p st.homes i + S.size)
           (omega (arith, above, r.2)) (omega (arith, r.3)) (omega arith) part
 
       same_hash : (i : ℕ) → i < length st.homes
-          → hash b (place b p st.homes i) ≡ hash c (place b p st.homes i)
+          → hash b (pos_of_home b p st.homes i) ≡ hash c (pos_of_home b p st.homes i)
       same_hash i below =
           let r = there i below in
-          let q = place b p st.homes i in
+          let q = pos_of_home b p st.homes i in
           let e = r.1.is_valid in
           let x = kl.rest_in_range b q r.1.lower r.0.begin e.1 r.1.below e.2 in
           let y = vl.rest_in_range b (q + value_offset k v) e.1 r.0.begin r.1.rest x.1 e.3 in
@@ -175,7 +177,7 @@ module _ (k v : ElementSpec) (kl : IsElement k) (vl : IsElement v) (w : Width) w
             let n3 = st.len in
             let below : i < length st.homes = omega (arith, inside, n0, n1, n2, n3) in
             let r = there i below in
-            let q = place b p st.homes i in
+            let q = pos_of_home b p st.homes i in
             let ends = r.0.ends in
             let ends' = r.1.ends in
             let x = law.rest_in_range b q r.1.lower r.0.begin r.1.rest r.1.below r.1.is_valid in
@@ -213,16 +215,17 @@ module _ (k v : ElementSpec) (kl : IsElement k) (vl : IsElement v) (w : Width) w
         homes_count = home_count w c p under homes whole.written ∙ under_count
 
         pair_at : (i : ℕ) (pair : A × B) → slice_get pairs i ≡ Some pair
-            → PairRepresents k v key value c (place c p homes i) pair
+            → PairRepresents k v key value c (pos_of_home c p homes i) pair
         pair_at i pair e = whole.at i pair
             (ap (λ (xs : List (A × B)). slice_get xs i) (keyed_items own pairs) ∙ e)
 
-        hash_there : (i : ℕ) → i < length pairs → slice_index under i ≡ hash c (place c p homes i)
+        hash_there : (i : ℕ) → i < length pairs
+            → slice_index under i ≡ hash c (pos_of_home c p homes i)
         hash_there i inside = elim (slice_get_cases pairs i).1 [
           | inl x ↦
               let below : i < length homes = omega (arith, inside, homes_count) in
               let r = entry_there c p lo hi l h under homes whole.written i below in
-              let q = place c p homes i in
+              let q = pos_of_home c p homes i in
               let valid = key_valid c q lo r.0.begin r.0.begin r.1 r.2 in
               ap (λ (xs : List ℕ). slice_index xs i) (keyed_hashes own pairs)
               ∙ get_or-map (λ (pair : A × B). own pair.0) pairs i x.0 0 inside

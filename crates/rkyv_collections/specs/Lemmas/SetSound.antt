@@ -6,7 +6,7 @@ use Rattle.rkyv_base.specs.Lemmas.Empty.{unit_element, unit_is_format, unit_loca
 use Rattle.rkyv_base.specs.Empty.{unit_represents}
 use Rattle.rkyv_base.specs.Format.{Format, IsFormat, RepresentsLocally}
 use Rattle.rkyv_base.specs.Lemmas.Pairs.{written_as-format}
-use Rattle.rkyv_base.specs.ElementSpec.{IsElement, ElementSpec}
+use Rattle.rkyv_base.specs.ElementSpec.{ElementSpec, IsElement}
 use Rattle.rkyv_base.specs.Text.{IsArchiveWord}
 use Rattle.rkyv_scan.specs.Hash.{Hasher, HasherCall}
 use Rattle.rkyv_keys.specs.Equality.{Comparison}

@@ -1,7 +1,7 @@
 -- A map of std equals its archived form.
 use Rattle.std.proofs.Common.{◌≡◌, ℕ, zero, suc, ◌+◌, ◌<◌, ◌^◌, refl, sym, ap, subst, ◌∙◌, arith}
 use Rattle.std.proofs.Common.{Bool, true, false, List, [], ◌∷◌, map, length, slice_get, slice_index}
-use Rattle.std.proofs.Common.{get_or, Some}
+use Rattle.std.proofs.Common.{Some, get_or}
 use Rattle.std.specs.Cmp.{IsEquivalence}
 use Rattle.std.specs.Int.{Width}
 use Rattle.std.specs.List.{All, IsDistinct, find}
@@ -17,7 +17,7 @@ use Rattle.rkyv_base.specs.Entry.{entry_spec, value_offset}
 use Rattle.rkyv_base.specs.Lemmas.Entry.{entry_element}
 use Rattle.rkyv_base.specs.Format.{Format, IsFormat}
 use Rattle.rkyv_base.specs.Pairs.{PairRepresents}
-use Rattle.rkyv_base.specs.ElementSpec.{IsElement, ElementSpec, ValidAt, Viewable}
+use Rattle.rkyv_base.specs.ElementSpec.{ElementSpec, IsElement, ValidAt, Viewable}
 use Rattle.rkyv_base.specs.Text.{IsArchiveWord}
 use Rattle.rkyv_keys.specs.Equality.{Comparison}
 use Rattle.rkyv_keys.specs.Keys.{FitsItsEqual, IsQuery}
@@ -58,8 +58,8 @@ module _ (w : Width) (k v : ElementSpec) (kl : IsElement k) (vl : IsElement v) {
     abbrev hashes : List ℕ
     hashes = map (there b) (home_positions w size b p st.homes)
 
-    abbrev place : ℕ → ℕ
-    place i = item_at w size b p (slice_index st.homes i)
+    abbrev item_pos : ℕ → ℕ
+    item_pos i = item_at w size b p (slice_index st.homes i)
 
     homes_count : length st.homes ≡ length pairs
     homes_count = home_count w b p hashes st.homes st.written ∙ sym st.written.count ∙ st.len
@@ -68,30 +68,30 @@ module _ (w : Width) (k v : ElementSpec) (kl : IsElement k) (vl : IsElement v) {
     hashes_total = length-map (home_positions w size b p st.homes) (there b)
         ∙ length-map st.homes (item_at w size b p)
 
-    key_valid : (i : ℕ) → i < length st.homes → ValidAt k b (place i)
+    key_valid : (i : ℕ) → i < length st.homes → ValidAt k b (item_pos i)
     key_valid i h =
-        valid_key kl vl b (place i)
+        valid_key kl vl b (item_pos i)
         (item_viewable w (entry_spec k v) (entry_element k v kl vl) b p view
         (slice_index st.homes i) (home_walked w b p hashes st.homes st.written i h)).valid
 
     pair_represents : (i : ℕ) (y : A × B) → i < length st.homes → slice_get pairs i ≡ Some y
-        → PairRepresents k v key equals b (place i) y
+        → PairRepresents k v key equals b (item_pos i) y
     pair_represents i y h e = subst (λ q. PairRepresents k v key equals b q y)
         (home_pos w size b p st.homes i h) (st.at i y e)
 
     fits_is : (q : A) (i : ℕ) (y : A × B) → i < length st.homes → slice_get pairs i ≡ Some y
-        → fits q b (place i) ≡ equal q y.0
-    fits_is q i y h e = native q y.0 b (place i) (key_valid i h) (pair_represents i y h e).0
+        → fits q b (item_pos i) ≡ equal q y.0
+    fits_is q i y h e = native q y.0 b (item_pos i) (key_valid i h) (pair_represents i y h e).0
 
-    hash_is : (i : ℕ) → i < length st.homes → slice_index hashes i ≡ there b (place i)
+    hash_is : (i : ℕ) → i < length st.homes → slice_index hashes i ≡ there b (item_pos i)
     hash_is i h =
         let n = length-map st.homes (item_at w size b p) in
         get_or-map (there b) (home_positions w size b p st.homes) i 0 0 (omega (arith, n, h))
         ∙ ap (there b) (home_pos w size b p st.homes i h)
 
-    under : (q : A) (i : ℕ) → i < length st.homes → fits q b (place i) ≡ true
-        → there b (place i) ≡ own q
-    under q i h = same_hash q b (place i) (key_valid i h)
+    under : (q : A) (i : ℕ) → i < length st.homes → fits q b (item_pos i) ≡ true
+        → there b (item_pos i) ≡ own q
+    under q i h = same_hash q b (item_pos i) (key_valid i h)
 
     key_of : (i : ℕ) (y : A × B) (d : A) → slice_get pairs i ≡ Some y
         → get_or (keys_of pairs) i d ≡ y.0
@@ -100,7 +100,7 @@ module _ (w : Width) (k v : ElementSpec) (kl : IsElement k) (vl : IsElement v) {
         ∙ ap (λ (x : A × B). x.0) (get_or_from_slice_get pairs i y y e)
 
     no_other : (n : ℕ) (y : A × B) → slice_get pairs n ≡ Some y → (j : ℕ) → j < n
-        → fits y.0 b (place j) ≡ false
+        → fits y.0 b (item_pos j) ≡ false
     no_other n y e j less =
         let inside = slice_get_within pairs n y e in
         let below : j < length st.homes = omega (arith, less, inside, homes_count) in
@@ -114,13 +114,13 @@ module _ (w : Width) (k v : ElementSpec) (kl : IsElement k) (vl : IsElement v) {
         (omega (arith, inside, count))
 
     pair_found : (n : ℕ) (y : A × B) → slice_get pairs n ≡ Some y
-        → pos_found generic_kind w size b p (own y.0) (fits y.0 b) ≡ Some (place n)
+        → pos_found generic_kind w size b p (own y.0) (fits y.0 b) ≡ Some (item_pos n)
     pair_found n y e =
         let inside = slice_get_within pairs n y e in
         let below : n < length st.homes = omega (arith, inside, homes_count) in
         let positions = home_positions w size b p st.homes in
         let total = length-map st.homes (item_at w size b p) in
-        let here : fits y.0 b (place n) ≡ true = fits_is y.0 n y below e ∙ laws.refl y.0 in
+        let here : fits y.0 b (item_pos n) ≡ true = fits_is y.0 n y below e ∙ laws.refl y.0 in
         let small : own y.0 < 2 ^ 64 =
         subst (λ x. x < 2 ^ 64) (hash_is n below
         ∙ under y.0 n below here) (st.written.fit n 0

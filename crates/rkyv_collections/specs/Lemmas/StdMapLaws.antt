@@ -19,10 +19,10 @@ use Rattle.rkyv_base.specs.Lemmas.Entry.{entry_element}
 use Rattle.rkyv_base.specs.Format.{Format, IsFormat, RepresentsLocally}
 use Rattle.rkyv_base.specs.Pairs.{PairRepresents}
 use Rattle.rkyv_base.specs.Lemmas.Pairs.{pair_local}
-use Rattle.rkyv_base.specs.ElementSpec.{IsElement, ElementSpec, Viewable}
+use Rattle.rkyv_base.specs.ElementSpec.{ElementSpec, IsElement, Viewable}
 use Rattle.rkyv_base.specs.Text.{IsArchiveWord}
 use Rattle.rkyv_table.specs.Table.Header.{cap_at, len_at}
-use Rattle.rkyv_table.specs.Lemmas.ItemPositions.{holds_at, item_holds}
+use Rattle.rkyv_table.specs.Lemmas.ItemPositions.{item_is_valid, valid_part}
 use Rattle.rkyv_table.specs.Controls.Placing.{walk}
 use Rattle.rkyv_table.specs.Table.Positions.{IsWalked, home_positions, item_at}
 use Rattle.rkyv_table.specs.Table.Positions.{item_positions, table_controls}
@@ -75,8 +75,8 @@ module _ (k v : ElementSpec) (kl : IsElement k) (vl : IsElement v) (w : Width) w
           → PairRepresents k v key value c (item_at w S.size b p i) pair
       pair_again i walked pair st =
           let q = item_at w S.size b p i in
-          let t = holds_at w S law b p lo hi l h (omega (arith, walked.0)) in
-          let r = item_holds w S law b p lo hi l h i walked t in
+          let t = valid_part w S law b p lo hi l h (omega (arith, walked.0)) in
+          let r = item_is_valid w S law b p lo hi l h i walked t in
           let above = t.part.above in
           let ends = t.ends in
           let ends' = r.0.ends in

@@ -12,16 +12,16 @@ use Rattle.std.proofs.lemmas.Bool.{and_from, cases_Bool, true≢false}
 use Rattle.std.proofs.lemmas.List.Elements.{All-head, All-map, All-tail, All-weaker}
 use Rattle.std.proofs.lemmas.List.Sums.{list_all-from_AllPass}
 use Rattle.std.proofs.lemmas.Map.Made.{All-is_member}
-use Rattle.rkyv_base.specs.Empty.{unit_spec, unit_represents}
+use Rattle.rkyv_base.specs.Empty.{unit_represents, unit_spec}
 use Rattle.rkyv_base.specs.Lemmas.Empty.{unit_element}
 use Rattle.rkyv_base.specs.Entry.{entry_spec, value_offset}
 use Rattle.rkyv_base.specs.Lemmas.Entry.{entry_element}
-use Rattle.rkyv_base.specs.ElementSpec.{IsElement, ElementSpec, ValidAt}
+use Rattle.rkyv_base.specs.ElementSpec.{ElementSpec, IsElement, ValidAt}
 use Rattle.rkyv_base.specs.Lemmas.ElementSpec.{valid_at}
 use Rattle.rkyv_keys.specs.Equality.{RepresentsOnce}
 use Rattle.rkyv_keys.specs.Lemmas.OfEntries.{valid_key, valid_value}
 use Rattle.rkyv_table.specs.Table.Header.{cap_at}
-use Rattle.rkyv_table.specs.Lemmas.ItemPositions.{holds_at, item_holds}
+use Rattle.rkyv_table.specs.Lemmas.ItemPositions.{item_is_valid, valid_part}
 use Rattle.rkyv_table.specs.Controls.Placing.{walk}
 use Rattle.rkyv_table.specs.Table.Positions.{IsWalked, item_at, item_positions, table_controls}
 use Rattle.rkyv_table.proofs.RawWalks.{walked_all}
@@ -101,8 +101,8 @@ module _ {A B : Type 0} (equal : A → A → Bool) (laws : IsEquivalence equal) 
       entry_valid b p st i walked =
           let s = entry_spec k v in
           let law = entry_element k v kl vl in
-          let t = holds_at w s law b p 0 p st.0 st.1 (omega (arith, walked.0)) in
-          let one = item_holds w s law b p 0 p st.0 st.1 i walked t in
+          let t = valid_part w s law b p 0 p st.0 st.1 (omega (arith, walked.0)) in
+          let one = item_is_valid w s law b p 0 p st.0 st.1 i walked t in
           valid_at s law b (item_at w s.size b p i) one.0.lower t.begin one.0.rest one.0.below one.1
           one.0.is_valid
 

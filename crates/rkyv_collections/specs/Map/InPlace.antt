@@ -10,7 +10,7 @@ use Rattle.rkyv_base.specs.ElementSpec.{ElementSpec}
 use Rattle.rkyv_keys.specs.KeyLookup.{KeyLookup}
 use Rattle.rkyv_table.specs.Table.SealedItems.{WrittenBy}
 use Rattle.rkyv_keys.specs.FirstPairs.{first_pair}
-use Rattle.rkyv_collections.specs.Map.MapAt.{ValueQuery, MapAt, FoundValueHasAt}
+use Rattle.rkyv_collections.specs.Map.MapAt.{FoundValueHasAt, MapAt, ValueQuery}
 use Rattle.rkyv_collections.specs.Map.MapFormat.{MapRepresents}
 use Rattle.rkyv_collections.specs.Map.ValueWrites.{KeepsMap}
 
@@ -25,7 +25,7 @@ MayWriteFound v pre archive write =
 -- and the position of the value
 abbrev pub WritesFound : {F R : Type 0} → (F → MutBor (List ℕ) → ℕ → R → MutBor (List ℕ) → Type 0)
     → F → List ℕ → Option R → List ℕ → Option ℕ → Type 0
-WritesFound {F} {R} post write b result c place = MatchOption place ((result ≡ None) × (c ≡ b))
+WritesFound {F} {R} post write b result c key_pos = MatchOption key_pos ((result ≡ None) × (c ≡ b))
     (λ q. (r : R) × (result ≡ Some r) × WrittenBy post write r b q c)
 
 -- the list with `value` in the first pair with an accepted key
@@ -38,7 +38,7 @@ module _ {N : Type 0} (w : Width) (k v : ElementSpec) (e : Encoding N) where
   -- No value is found, and the archive is unchanged. Or the value at the position is the new one,
   -- all other bytes are unchanged, and the map is kept
   abbrev pub SetsFound : (List ℕ → ℕ → ℕ) → List ℕ → ℕ → N → Bool → List ℕ → Option ℕ → Type 0
-  SetsFound key_hash b p value result c place = MatchOption place ((result ≡ false) × (c ≡ b))
+  SetsFound key_hash b p value result c key_pos = MatchOption key_pos ((result ≡ false) × (c ≡ b))
       (λ q. (result ≡ true) × (c ≡ with_value e b q value)
       × ((i : ℕ) × KeepsMap w k v key_hash b c p i))
 

@@ -11,7 +11,7 @@ use Rattle.rkyv_base.specs.ElementSpec.{ElementSpec}
 use Rattle.rkyv_base.specs.Text.{text_spec}
 use Rattle.rkyv_keys.specs.KeyLookup.{KeyLookup}
 use Rattle.rkyv_keys.specs.Lemmas.OfTexts.{IsTextOf}
-use Rattle.rkyv_collections.specs.Map.MapAt.{ValueQuery, MapAt, FoundValueHasAt}
+use Rattle.rkyv_collections.specs.Map.MapAt.{FoundValueHasAt, MapAt, ValueQuery}
 use Rattle.rkyv_keys.specs.FirstPairs.{first_pair}
 use Rattle.rkyv_collections.specs.Map.MapSpec.{map_spec}
 use Rattle.rkyv_collections.specs.Map.MapFormat.{MapRepresents}

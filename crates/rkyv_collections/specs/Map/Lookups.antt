@@ -16,7 +16,7 @@ use Rattle.rkyv_collections.specs.Map.Misplaced.{FindsOneKey}
 use Rattle.rkyv_collections.specs.declared.map.ArchivedHashMap.{ArchivedHashMap}
 
 -- What a lookup in `M` returns of the pair that it finds. `In m x`: `x` is of a pair of `m`,
--- `At result place`: the result is that of the key at the place, or there is neither
+-- `At result key_pos`: the result is that of the key at `key_pos`, or there is neither
 pub record Part (M X : Type 0) : Type 1 where
   pub In : M → X → Type 0
   pub At : Option X → Option ℕ → Type 0
@@ -27,7 +27,7 @@ module _ {K V H W : Type 0} {ks : Specs K} {vs : Specs V} {wt : Words W} where
   pub record FoundKeyHas (m : ArchivedHashMap K V H W ks vs wt) (a : KeyLookup) (P : Option ℕ
       → Type 0) :
       Type 0 where
-    pub answer : FindsKey m a.hash (a.fits (map_bytes m)) P
+    pub finds : FindsKey m a.hash (a.fits (map_bytes m)) P
     pub first : FindsFirstKey m a.key_hash (a.fits (map_bytes m)) P
     pub complete : FindsOneKey m a.key_hash a.same (a.fits (map_bytes m)) P
 
@@ -57,7 +57,7 @@ module _ {K V H W : Type 0} {ks : Specs K} {vs : Specs V} {wt : Words W} where
     -- `result`: part of the pair that a lookup finds
     pub record GetsKey (a : KeyLookup) (result : Option X) : Type 0 where
       pub walked : IfSome result (part.In m)
-      pub answer : FindsKey m a.hash (a.fits (map_bytes m)) (part.At result)
+      pub finds : FindsKey m a.hash (a.fits (map_bytes m)) (part.At result)
       pub first : FindsFirstKey m a.key_hash (a.fits (map_bytes m)) (part.At result)
       pub complete : FindsOneKey m a.key_hash a.same (a.fits (map_bytes m)) (part.At result)
 
@@ -66,9 +66,9 @@ module _ {K V H W : Type 0} {ks : Specs K} {vs : Specs V} {wt : Words W} where
     pub record GetsBy (hash : ℕ) (key_hash : List ℕ → ℕ → ℕ) (post : View K → Bool → Type 0)
         (result : Option X) : Type 0 where
       pub walked : IfSome result (part.In m)
-      pub accepted : (place : Option ℕ) × part.At result place
-          × IfSome place (IsAcceptedKey m post)
-      pub answer : FindsBy m post hash (part.At result)
+      pub accepted : (key_pos : Option ℕ) × part.At result key_pos
+          × IfSome key_pos (IsAcceptedKey m post)
+      pub finds : FindsBy m post hash (part.At result)
       pub first : FindsFirstBy m post hash key_hash (part.At result)
 
 module _ {K V : Type 0} (k v : ElementSpec) where

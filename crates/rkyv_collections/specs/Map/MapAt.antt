@@ -28,14 +28,15 @@ map_at wt ks vs bytes pos =
 -- the property applies to the position of the key that a lookup finds, or to `None`: in any map,
 -- in a written map, and if no key is misplaced
 pub record FoundKeyHasAt (m : MapAt) (a : KeyLookup) (P : Option ℕ → Type 0) : Type 0 where
-  pub answer : FindsKeyAt m.word m.key m.value m.bytes m.pos a.hash (a.fits m.bytes) P
+  pub finds : FindsKeyAt m.word m.key m.value m.bytes m.pos a.hash (a.fits m.bytes) P
   pub first : FindsFirstKeyAt m.word m.key m.value m.bytes m.pos a.key_hash (a.fits m.bytes) P
   pub complete : FindsOneKeyAt m.word m.key m.value m.bytes m.pos a.key_hash a.same
       (a.fits m.bytes) P
 
 -- the property applies to the position of the value that a lookup finds, or to `None`
 abbrev pub FoundValueHasAt : MapAt → KeyLookup → (Option ℕ → Type 0) → Type 0
-FoundValueHasAt m a P = FoundKeyHasAt m a (λ place. P (option_map (value_pos m.key m.value) place))
+FoundValueHasAt m a P =
+    FoundKeyHasAt m a (λ key_pos. P (option_map (value_pos m.key m.value) key_pos))
 
 -- A lookup by the values that keys represent. `represents`: bytes at a position represent a value,
 -- `key_hash`: hash of the key at a position, `accept_value`: accepted values

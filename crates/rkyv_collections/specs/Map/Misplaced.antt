@@ -62,12 +62,12 @@ module _ (w : Width) (size : ℕ) (b : List ℕ) (p : ℕ) (fits : ℕ → Bool)
   abbrev pub NoneFits : Type 0
   NoneFits = (i : ℕ) → IsWalked w b p i → fits (item_at w size b p i) ≡ false
 
-  -- the key at `place` fits, and no other key of the map does
-  pub record FitsAlone (place : ℕ) : Type 0 where
+  -- the key at `key_pos` fits, and no other key of the map does
+  pub record FitsAlone (key_pos : ℕ) : Type 0 where
     pub bucket : ℕ
     pub walked : IsWalked w b p bucket
-    pub at : place ≡ item_at w size b p bucket
-    pub fitting : fits place ≡ true
+    pub at : key_pos ≡ item_at w size b p bucket
+    pub fitting : fits key_pos ≡ true
     pub alone : (i : ℕ) → IsWalked w b p i → fits (item_at w size b p i) ≡ true → i ≡ bucket
 
   -- the position is that of the one key that fits, or no key fits
@@ -81,7 +81,7 @@ abbrev pub FindsOneKeyAt : Width → ElementSpec → ElementSpec → List ℕ �
     → (ℕ → Bool) → (Option ℕ → Type 0) → Type 0
 FindsOneKeyAt w k v b p key_hash same_key fits P =
     map_misplaced w k v key_hash same_key b p ≡ 0
-    → (place : Option ℕ) × FindsTheOne w (entry_spec k v).size b p fits place × P place
+    → (key_pos : Option ℕ) × FindsTheOne w (entry_spec k v).size b p fits key_pos × P key_pos
 
 -- the same for a map
 abbrev pub FindsOneKey : {K V H W : Type 0} {ks : Specs K} {vs : Specs V} {wt : Words W}

@@ -22,7 +22,7 @@ pub record WritesParts (s : ElementSpec) (b c : List ℕ) (q : ℕ) : Type 0 whe
   pub sealed : (lo hi l : ℕ) → lo ≤ hi → hi ≤ q → s.is_valid b q lo hi l → Sealed b lo (l - lo) c
 
 -- the value at `q` is valid, with its parts in some range before it
-pub record HoldsBefore (s : ElementSpec) (b : List ℕ) (q : ℕ) : Type 0 where
+pub record IsValidBefore (s : ElementSpec) (b : List ℕ) (q : ℕ) : Type 0 where
   pub lower : ℕ
   pub upper : ℕ
   pub rest : ℕ
@@ -32,7 +32,7 @@ pub record HoldsBefore (s : ElementSpec) (b : List ℕ) (q : ℕ) : Type 0 where
 
 -- the value at `q` is the same in both: its own bytes, and the range of its parts
 pub record StaysAt (s : ElementSpec) (b c : List ℕ) (q : ℕ) : Type 0 where
-  pub held : HoldsBefore s b q
+  pub held : IsValidBefore s b q
   pub fixed : AgreeOn b c q (q + s.size)
   pub parts : AgreeOn b c held.lower held.rest
 
@@ -78,7 +78,7 @@ module _ (w : Width) (k v : ElementSpec) where
       → Viewable (map_spec w k v) b p
       → MapRepresents w k v keys.represents value keys.key_hash factor b p pairs
       → FindsFirstKeyAt w k v b p keys.key_hash (keys.fits query b)
-      (λ place. Some pos ≡ option_map (value_pos k v) place)
+      (λ key_pos. Some pos ≡ option_map (value_pos k v) key_pos)
       → WritesParts v b c pos → value c pos new
       → MapRepresents w k v keys.represents value keys.key_hash factor c p
       (with_first (keys.equal query) new pairs)

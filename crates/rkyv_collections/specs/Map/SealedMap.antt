@@ -34,7 +34,7 @@ pub record IsKeyAt {K : Type 0} (w : Width) (k v : ElementSpec) (b : List ℕ) (
     0 where
   pub bytes : bytes_of key ≡ b
   pub viewable : IsValidView k key
-  pub place : IsKeyPosAt w k v b p (pos_of key)
+  pub key_pos : IsKeyPosAt w k v b p (pos_of key)
 
 module _ {K : Type 0} (w : Width) (k v : ElementSpec) (b : List ℕ) (p : ℕ) where
   -- the comparison can be called with each key
@@ -85,9 +85,9 @@ map_sealed wt ks vs a = map_at wt ks vs (archive_in a) (pos_in a)
 -- `accepted`: the comparison accepted the key
 pub record FoundByHasAt {K : Type 0} (m : MapAt) (hash : ℕ) (key_hash : List ℕ → ℕ → ℕ)
     (post : View K → Bool → Type 0) (P : Option ℕ → Type 0) : Type 0 where
-  pub accepted : (place : Option ℕ) × P place
-      × IfSome place (IsAcceptedKeyAt m.word m.key m.value m.bytes m.pos post)
-  pub answer : FindsByAt m.word m.key m.value m.bytes m.pos post hash P
+  pub accepted : (key_pos : Option ℕ) × P key_pos
+      × IfSome key_pos (IsAcceptedKeyAt m.word m.key m.value m.bytes m.pos post)
+  pub finds : FindsByAt m.word m.key m.value m.bytes m.pos post hash P
   pub first : FindsFirstByAt m.word m.key m.value m.bytes m.pos post hash key_hash P
 
 -- `q`: position of the key in bucket `i` of the map at `p`, with the value behind it.
@@ -95,7 +95,7 @@ pub record FoundByHasAt {K : Type 0} (m : MapAt) (hash : ℕ) (key_hash : List �
 -- all keys and all other values
 pub record IsPairPos (w : Width) (k v : ElementSpec) (b : List ℕ) (p i q : ℕ) : Type 0 where
   pub walked : IsWalked w b p i
-  pub place : q ≡ item_at w (entry_spec k v).size b p i
+  pub pos : q ≡ item_at w (entry_spec k v).size b p i
   pub key : Viewable k b q
   pub value : Viewable v b (value_pos k v q)
   pub kept : KeptByValueWrites w k v b p i
@@ -114,10 +114,10 @@ module _ {K V H W : Type 0} (w : Width) (k v : ElementSpec) (a : ArchiveSeal
 
 -- the position is that of the key of the found pair, or there is neither
 abbrev pub IsPairSealAt : {K V : Type 0} → Option (View K × Seal V) → Option ℕ → Type 0
-IsPairSealAt {K} {V} result place =
-    option_map (λ (pair : View K × Seal V). pos_of pair.0) result ≡ place
+IsPairSealAt {K} {V} result key_pos =
+    option_map (λ (pair : View K × Seal V). pos_of pair.0) result ≡ key_pos
 
 -- the found value is behind the key at the position, or there is neither
 abbrev pub IsValueSealAt : {V : Type 0} → ElementSpec → ElementSpec → Option (Seal V) → Option ℕ
     → Type 0
-IsValueSealAt k v result place = pos_of_seal result ≡ option_map (value_pos k v) place
+IsValueSealAt k v result key_pos = pos_of_seal result ≡ option_map (value_pos k v) key_pos

@@ -24,7 +24,7 @@ ghost use Rattle.rkyv_base.specs.ElementSpec.{Viewable};
 ghost use Rattle.rkyv_collections.specs.Map.InPlace.{MayWriteFound, SetsFirst, SetsValue};
 ghost use Rattle.rkyv_collections.specs.Map.InPlace.{WritesFound};
 ghost use Rattle.rkyv_collections.specs.Map.{map_bytes, map_pos};
-ghost use Rattle.rkyv_collections.specs.Map.MapAt.{FoundValueHasAt, query_of_value, map_at};
+ghost use Rattle.rkyv_collections.specs.Map.MapAt.{FoundValueHasAt, map_at, query_of_value};
 ghost use Rattle.rkyv_collections.specs.Map.MapSpec.{IsKeyPosAt, map_spec};
 ghost use Rattle.rkyv_keys.specs.KeyLookup.{query_of};
 ghost use Rattle.rkyv_collections.specs.Map.NestedWrites.{WritesParts};
@@ -61,9 +61,9 @@ impl<'a, K: KeyElement, V: Element, H: KeyHasher, W: Width> ArchivedHashMap<'a, 
     pub(crate) fn value_pos_in<Q: Query<K>>(archive: &[u8], root: u64, key: &Q) -> Option<u64>
         requires map { Viewable (map_spec W.word K.spec V.spec) archive.now root }
         requires query { Q.can_read key.now }
-        ensures walked { IfSome result (λ pos. (place : ℕ)
-            × IsKeyPosAt W.word K.spec V.spec archive.now root place
-            × (pos ≡ value_pos K.spec V.spec place)) }
+        ensures walked { IfSome result (λ pos. (key_pos : ℕ)
+            × IsKeyPosAt W.word K.spec V.spec archive.now root key_pos
+            × (pos ≡ value_pos K.spec V.spec key_pos)) }
         ensures inside { IfSome result (λ pos. pos + V.spec.size ≤ length archive.now) }
         ensures finds { FoundValueHasAt (map_at W.Word K.HasSpec V.HasSpec archive.now root)
             (query_of H.hasher K.key_calls K.same (Q.calls key.now) (Q.fits key.now))
@@ -153,7 +153,7 @@ pub fn set_value_of<
 >(archive: &mut [u8], root: u64, key: &A, value: N) -> bool
     requires map { Viewable (map_spec W.word K.spec N.spec) archive.old root }
     requires query { A.can_read key.now }
-    ensures answer { SetsValue (map_at W.Word K.HasSpec N.HasSpec archive.old root)
+    ensures sets { SetsValue (map_at W.Word K.HasSpec N.HasSpec archive.old root)
         (query_of H.hasher K.key_calls K.same (A.calls key.now) (A.fits key.now))
         N.encoding value result archive.new }
     ensures listed { SetsFirst (map_at W.Word K.HasSpec N.HasSpec archive.old root)

@@ -13,7 +13,7 @@ ghost use Rattle.rkyv_base.specs.View.{IsValidView, archive_of, pos_of};
 ghost use Rattle.rkyv_collections.specs.Map.MapSpec.{map_element};
 ghost use Rattle.rkyv_keys.specs.KeyLookup.{query_of};
 ghost use Rattle.rkyv_collections.specs.Map.{IsFoundAt};
-ghost use Rattle.rkyv_collections.specs.Set.{GetsMember, IsSetAt, FoundMemberHas};
+ghost use Rattle.rkyv_collections.specs.Set.{FoundMemberHas, GetsMember, IsSetAt};
 ghost use Rattle.rkyv_collections.specs.Set.{member_positions, set_archive, set_len, set_spec};
 
 use crate::map::read::iter::Keys;

@@ -6,7 +6,7 @@
 
 ghost use Rattle.std.specs.Prelude.{IsTrue, ◌↔◌};
 ghost use Rattle.rkyv_base.specs.Lemmas.Pairs.{written_as-format};
-ghost use Rattle.rkyv_base.specs.View.{IsValidView, AtView};
+ghost use Rattle.rkyv_base.specs.View.{AtView, IsValidView};
 ghost use Rattle.rkyv_table.specs.Table.Listed.{listed};
 ghost use Rattle.rkyv_collections.specs.Map.MapSpec.{map_spec};
 ghost use Rattle.rkyv_collections.specs.Map.MapFormat.{hash_of, map_format};

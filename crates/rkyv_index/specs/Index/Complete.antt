@@ -11,11 +11,11 @@ module _ (len : ℕ) (fits : ℕ → Bool) where
   abbrev pub NoneFits : Type 0
   NoneFits = (i : ℕ) → i < len → fits i ≡ false
 
-  -- `place`: the only index below `len` that fits
-  pub record FitsAlone (place : ℕ) : Type 0 where
-    pub below : place < len
-    pub fitting : fits place ≡ true
-    pub alone : (i : ℕ) → i < len → fits i ≡ true → i ≡ place
+  -- `index`: the only index below `len` that fits
+  pub record FitsAlone (index : ℕ) : Type 0 where
+    pub below : index < len
+    pub fitting : fits index ≡ true
+    pub alone : (i : ℕ) → i < len → fits i ≡ true → i ≡ index
 
   -- `found`: the only index that fits, or `None` if none fits
   abbrev pub FindsTheOne : Option ℕ → Type 0
@@ -27,5 +27,5 @@ abbrev pub FindsOneKey : {K : Type 0} → Index K → (List ℕ → ℕ → ℕ)
     → (List ℕ → ℕ → Bool) → (Option ℕ → Type 0) → Type 0
 FindsOneKey m key_hash same fits P =
     index_misplaced m key_hash same ≡ 0
-    → (place : Option ℕ) × FindsTheOne (len_at m.word m.bytes m.pos) (fits_at m fits) place
-    × P place
+    → (index : Option ℕ) × FindsTheOne (len_at m.word m.bytes m.pos) (fits_at m fits) index
+    × P index

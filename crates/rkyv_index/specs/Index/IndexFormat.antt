@@ -15,7 +15,7 @@ use Rattle.rkyv_table.specs.Table.Positions.{WrittenAt, home_positions}
 use Rattle.rkyv_table.specs.Table.TableFormat.{PairsNext, TableParts, TableResolver}
 use Rattle.rkyv_table.specs.Table.TableFormat.{resolved_capacity}
 use Rattle.rkyv_index.specs.Index.IndexHeader.{IndexOverflows, IndexResolver, IsIndexHeader}
-use Rattle.rkyv_index.specs.Index.IndexLayout.{index_spec, pair_pos, places_of}
+use Rattle.rkyv_index.specs.Index.IndexLayout.{index_spec, indices_of, pair_pos}
 use Rattle.rkyv_index.specs.Index.Row.{RowImages, RowNext, RowParts, RowPartsNext}
 
 -- the code of each number that is encoded by `e` is the number
@@ -23,27 +23,27 @@ abbrev pub CodesReadBack : {P : Type 0} → Encoding P → Type 0
 CodesReadBack e = (n : ℕ) → e.code (e.value n) ≡ n
 
 -- the indices of the values from `i` on, each under the hash of its value
-abbrev pub places_from : {X P : Type 0} → (X → ℕ) → (ℕ → P) → ℕ → List X → List (ℕ × P)
-places_from hash place i [] = []
-places_from hash place i (x ∷ xs) = (hash x, place i) ∷ places_from hash place (i + 1) xs
+abbrev pub indices_from : {X P : Type 0} → (X → ℕ) → (ℕ → P) → ℕ → List X → List (ℕ × P)
+indices_from hash index i [] = []
+indices_from hash index i (x ∷ xs) = (hash x, index i) ∷ indices_from hash index (i + 1) xs
 
 module _ {P X R : Type 0} (w : Width) (ps : ElementSpec) (e : Encoding P) (s : ElementSpec)
     (f : Format X R)
     (hash : X → ℕ)
     (load_factor : ℕ × ℕ) (xs : List X) (p : ℕ) where
   -- the indices of `xs`, each under the hash of its value
-  abbrev pub places : List (ℕ × P)
-  places = places_from hash e.value 0 xs
+  abbrev pub hashed_indices : List (ℕ × P)
+  hashed_indices = indices_from hash e.value 0 xs
 
   -- `part`: bytes of the table of indices, which are written first. `r`: its resolver
-  abbrev pub PlaceTable : List ℕ → TableResolver → Type 0
-  PlaceTable part r = TableParts w ps (scalar_format e) load_factor places p part r
+  abbrev pub IndexTable : List ℕ → TableResolver → Type 0
+  IndexTable part r = TableParts w ps (scalar_format e) load_factor hashed_indices p part r
 
   -- `front`: bytes of the table of indices, and then the parts of the values
   pub record BeforeZeros (front : List ℕ) (t : TableResolver) (rs : List R) : Type 0 where
     pub table : List ℕ
     pub part_bytes : List ℕ
-    pub serialized : PlaceTable table t
+    pub serialized : IndexTable table t
     pub parts : RowParts f xs (p + length table) part_bytes rs
     pub is : front ≡ table ++ part_bytes
 
@@ -66,9 +66,9 @@ module _ {P X R : Type 0} (w : Width) (ps : ElementSpec) (e : Encoding P) (s : E
   -- `step`: next step after `front`. It is a step of the table, of the parts of a value,
   -- of the zeros, or of the own bytes of a value
   abbrev pub IndexNext : List ℕ → Step → Type 0
-  IndexNext front step = PairsNext w ps (scalar_format e) load_factor places p front
+  IndexNext front step = PairsNext w ps (scalar_format e) load_factor hashed_indices p front
       step
-      ⊎ ((table : List ℕ) × (t : TableResolver) × (rest : List ℕ) × PlaceTable table t
+      ⊎ ((table : List ℕ) × (t : TableResolver) × (rest : List ℕ) × IndexTable table t
       × RowPartsNext f xs (p + length table) rest step × (front ≡ table ++ rest))
       ⊎ ((t : TableResolver) × (rs : List R) × BeforeZeros front t rs
       × (step ≡ piece (zeros (padding s.align (p + length front)))))
@@ -108,8 +108,8 @@ index_format w ps e k v key value hash load_factor = row_format w ps e (entry_sp
 pub record IndexWrittenAt (w : Width) (size : ℕ) (key_hash : List ℕ → ℕ → ℕ) (b : List ℕ) (p : ℕ)
     (homes : List ℕ) : Type 0 where
   pub table : WrittenAt w b p (map (λ i. key_hash b (pair_pos w size b p i))
-      (places_of (len_at w b p))) homes
-  pub places : map (number_at w b) (home_positions w (byte_len w) b p homes) ≡ places_of
+      (indices_of (len_at w b p))) homes
+  pub indices : map (number_at w b) (home_positions w (byte_len w) b p homes) ≡ indices_of
       (len_at w b p)
 
 -- The index map at `p` represents the list `xs`: it was written, and the values are in a row,
@@ -130,12 +130,12 @@ IndexRepresents w k v key value hash load_factor b p pairs = RowRepresents w (en
     (PairRepresents k v key value) hash load_factor b p pairs
 
 -- how indices are written: their spec and their encoding
-pub record PlacesAs (P : Type 0) : Type 1 where
+pub record IndicesAs (P : Type 0) : Type 1 where
   pub spec : ElementSpec
   pub encoding : Encoding P
 
 -- indices of this spec and encoding
-abbrev pub indices : {P : Type 0} → ElementSpec → Encoding P → PlacesAs P
+abbrev pub indices : {P : Type 0} → ElementSpec → Encoding P → IndicesAs P
 indices spec encoding = record { spec = spec; encoding = encoding }
 
 -- how values are archived by an element: its spec, the values that it represents,
@@ -152,10 +152,10 @@ element spec represents format = record { spec = spec; represents = represents; 
 
 -- Under each load factor, written bytes of pairs and an aligned header behind them are a valid
 -- index map. It represents the pairs, in any archive that has these bytes.
-abbrev pub WrittenIndexMaps : {P A B R Q : Type 0} → Width → PlacesAs P
+abbrev pub WrittenIndexMaps : {P A B R Q : Type 0} → Width → IndicesAs P
     → ArchivedAs A R → ArchivedAs B Q → (List ℕ → ℕ → ℕ) → (A → ℕ) → Type 0
-WrittenIndexMaps w places k v key_hash hash =
+WrittenIndexMaps w hashed_indices k v key_hash hash =
     (load_factor : ℕ × ℕ) → IsFormat (index_spec w (entry_spec k.spec v.spec))
     (IndexRepresents w k.spec v.spec k.represents v.represents key_hash load_factor)
-    (index_format w places.spec places.encoding k.spec v.spec k.format v.format hash
+    (index_format w hashed_indices.spec hashed_indices.encoding k.spec v.spec k.format v.format hash
     load_factor)

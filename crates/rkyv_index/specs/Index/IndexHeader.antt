@@ -1,7 +1,7 @@
 -- The header of an index map: that of its table of indices, and then the distance to its entries.
 use Rattle.std.specs.Prelude.{◌≡◌, ℕ, ◌⊎◌, ℤ, pos, ◌-ℤ◌, FitsSigned, List, ◌++◌, MatchResult}
 use Rattle.std.specs.Prelude.{Result}
-use Rattle.std.specs.Int.{Width, to_le_bytes, cast_unsigned}
+use Rattle.std.specs.Int.{Width, cast_unsigned, to_le_bytes}
 use Rattle.rkyv_table.specs.Controls.Numbers.{capacity}
 use Rattle.rkyv_table.specs.Table.Header.{HeaderOverflows, IsHeader}
 use Rattle.rkyv_table.specs.Table.TableFormat.{TableResolver}

@@ -9,13 +9,13 @@ use Rattle.rkyv_base.specs.Bytes.{number_at, signed_at}
 use Rattle.rkyv_base.specs.Parts.{PartFails, PartIn}
 use Rattle.rkyv_base.specs.ElementSpec.{ElementSpec}
 use Rattle.rkyv_table.specs.Table.Header.{len_at}
-use Rattle.rkyv_table.specs.Table.Places.{AllHold, FirstFails}
+use Rattle.rkyv_table.specs.Table.ValidItems.{AreValidAt, FirstFails}
 use Rattle.rkyv_table.specs.Table.Positions.{item_positions}
-use Rattle.rkyv_table.specs.Table.Layout.{TableFails, IsValidTable}
+use Rattle.rkyv_table.specs.Table.Layout.{IsValidTable, TableFails}
 
 -- the spec of an index in a bucket: one word, which is always valid
-abbrev pub place_spec : Width → ElementSpec
-place_spec w = record {
+abbrev pub stored_index_spec : Width → ElementSpec
+stored_index_spec w = record {
   size = byte_len w;
   align = byte_len w;
   is_valid = λ b p lo hi l. l
@@ -44,8 +44,8 @@ abbrev pub pair_pos : Width → ℕ → List ℕ → ℕ → ℕ → ℕ
 pair_pos w size b p i = entry_at size (entries_pos w b p) i
 
 -- the indices of `len` entries, in order
-abbrev pub places_of : ℕ → List ℕ
-places_of len = range_with_len 0 len
+abbrev pub indices_of : ℕ → List ℕ
+indices_of len = range_with_len 0 len
 
 -- the `count` indices from position `begin` on are below `n`
 abbrev pub AreBelow : Width → List ℕ → ℕ → ℕ → ℕ → Type 0
@@ -53,8 +53,8 @@ AreBelow w b begin count n =
     (i : ℕ) → i < count → number_at w b (begin + i * byte_len w) < n
 
 -- the index at each of the positions `qs` is below `n`
-abbrev pub PlacesBelow : Width → List ℕ → ℕ → List ℕ → Type 0
-PlacesBelow w b n qs = All (λ q. number_at w b q < n) qs
+abbrev pub IndicesBelow : Width → List ℕ → ℕ → List ℕ → Type 0
+IndicesBelow w b n qs = All (λ q. number_at w b q < n) qs
 
 -- `e`: error for the first position of `qs` whose index isn't below `n`
 abbrev pub FirstNotBelow : Width → List ℕ → ℕ → List ℕ → VerifyError → Type 0
@@ -64,8 +64,9 @@ FirstNotBelow w b n (q ∷ qs) e =
     ⊎ ((number_at w b q < n) × FirstNotBelow w b n qs e)
 
 -- the entries are valid in order, with their parts from `lo` to `begin`
-abbrev pub EntriesHold : ElementSpec → List ℕ → ℕ → ℕ → ℕ → ℕ → Type 0
-EntriesHold s b begin len lo l = AllHold s (entry_at s.size begin) b begin (places_of len) lo l
+abbrev pub AreValidEntries : ElementSpec → List ℕ → ℕ → ℕ → ℕ → ℕ → Type 0
+AreValidEntries s b begin len lo l =
+    AreValidAt s (entry_at s.size begin) b begin (indices_of len) lo l
 
 -- `len` valid entries in a part that begins at `decoded`, inside the range from `lo` to `hi`.
 -- `l`: end of the part, and lower end of the next one
@@ -73,7 +74,7 @@ pub record EntriesIn (s : ElementSpec) (b : List ℕ) (decoded : ℤ) (len lo hi
   pub begin : ℕ
   pub part : PartIn decoded (len * s.size) s.align lo hi begin
   pub last : ℕ
-  pub hold : EntriesHold s b begin len lo last
+  pub hold : AreValidEntries s b begin len lo last
   pub ends : l ≡ begin + len * s.size
 
 -- `e`: fault of the part, or else the first fault of an entry
@@ -81,22 +82,22 @@ abbrev pub EntriesFail : ElementSpec → List ℕ → ℤ → ℕ → ℕ → �
 EntriesFail s b decoded len lo hi e =
     PartFails decoded (len * s.size) s.align lo hi e
     ⊎ ((begin : ℕ) × PartIn decoded (len * s.size) s.align lo hi begin × FirstFails s
-    (entry_at s.size begin) b begin (places_of len) lo e)
+    (entry_at s.size begin) b begin (indices_of len) lo e)
 
 -- a valid index map at `p`: a table of indices below its length, and as many valid entries
 pub record IsValidIndex (w : Width) (s : ElementSpec) (b : List ℕ) (p lo hi l : ℕ) : Type 0 where
   pub middle : ℕ
-  pub table : IsValidTable w (place_spec w) b p lo hi middle
-  pub below : PlacesBelow w b (len_at w b p) (item_positions w (byte_len w) b p)
+  pub table : IsValidTable w (stored_index_spec w) b p lo hi middle
+  pub below : IndicesBelow w b (len_at w b p) (item_positions w (byte_len w) b p)
   pub entries : EntriesIn s b (decode_entries w b p) (len_at w b p) middle hi l
 
 -- `e`: fault of the table, or else of an index, or else of the entries
 abbrev pub IndexFails : Width → ElementSpec → List ℕ → ℕ → ℕ → ℕ → VerifyError → Type 0
 IndexFails w s b p lo hi e =
-    TableFails w (place_spec w) b p lo hi e
-    ⊎ ((middle : ℕ) × IsValidTable w (place_spec w) b p lo hi middle
+    TableFails w (stored_index_spec w) b p lo hi e
+    ⊎ ((middle : ℕ) × IsValidTable w (stored_index_spec w) b p lo hi middle
     × (FirstNotBelow w b (len_at w b p) (item_positions w (byte_len w) b p) e
-    ⊎ (PlacesBelow w b (len_at w b p) (item_positions w (byte_len w) b p) × EntriesFail s b
+    ⊎ (IndicesBelow w b (len_at w b p) (item_positions w (byte_len w) b p) × EntriesFail s b
     (decode_entries w b p) (len_at w b p) middle hi e)))
 
 -- the spec of an index map of entries of spec `s`: a header of four words

@@ -22,12 +22,12 @@ abbrev pub index_root : Width → ElementSpec → ElementSpec → List ℕ → �
 index_root w k v b = length b - (index_spec w (entry_spec k v)).size
 
 -- The root of the archive is an index map that represents a list of pairs. A lookup of a native key
--- finds the first pair with an equal key, and `None` if no pair has one. `place`: its index,
+-- finds the first pair with an equal key, and `None` if no pair has one. `index`: its index,
 -- `value`: its value
 pub record FindsInRoot {A Q B K V H W : Type 0} {ks : Specs K} {vs : Specs V} {wt : Words W}
     (keys : NativeKeys A Q) (values : FoundValues V B) (map : ArchivedIndexMap K V H W ks vs wt)
     (query : Q) (pairs : List (A × B)) : Type 0 where
-  pub place : (found : Option ℕ)
+  pub index : (found : Option ℕ)
       → FindsFirstKey (index_of map) keys.key_hash (keys.fits query) (IsIndex found)
       → found ≡ position (λ pair. keys.equal query pair.0) pairs
   pub value : (found : Option (View V))

@@ -6,14 +6,14 @@ use Rattle.rkyv_base.specs.declared.view.View.{View}
 use Rattle.rkyv_keys.specs.KeyLookup.{KeyLookup}
 use Rattle.rkyv_index.specs.Index.Complete.{FindsOneKey}
 use Rattle.rkyv_index.specs.Index.{FindsBy, FindsFirstBy, FindsFirstKey, FindsKey, IsAccepted}
-use Rattle.rkyv_index.specs.Index.{IsFullResult, IsFullKeyIn, IsStored, IsStoredIndex, IsKeyOf}
+use Rattle.rkyv_index.specs.Index.{IsFullKeyIn, IsFullResult, IsKeyOf, IsStored, IsStoredIndex}
 use Rattle.rkyv_index.specs.Index.{IsPairOf}
 use Rattle.rkyv_index.specs.Index.{IsIndex, IsValueOf, MatchesAt, full_index, full_key_index}
 use Rattle.rkyv_index.specs.Index.{index_of}
 use Rattle.rkyv_index.specs.declared.map.ArchivedIndexMap.{ArchivedIndexMap}
 
 -- What a lookup in `M` returns of the pair that it finds. `In m x`: `x` is of a pair of `m`
--- whose index a full bucket has, `At m result place`: the result is of the pair at the index,
+-- whose index a full bucket has, `At m result index`: the result is of the pair at the index,
 -- or there is neither
 pub record Part (M X : Type 0) : Type 1 where
   pub In : M → X → Type 0
@@ -21,18 +21,18 @@ pub record Part (M X : Type 0) : Type 1 where
 
 module _ {K V H W : Type 0} {ks : Specs K} {vs : Specs V} {wt : Words W} where
   -- the index
-  abbrev pub place_part : Part (ArchivedIndexMap K V H W ks vs wt) ℕ
-  place_part = record { In = IsStoredIndex; At = λ m. IsIndex }
+  abbrev pub index_part : Part (ArchivedIndexMap K V H W ks vs wt) ℕ
+  index_part = record { In = IsStoredIndex; At = λ m. IsIndex }
 
   -- the index, the key and the value
   abbrev pub full_part : Part (ArchivedIndexMap K V H W ks vs wt) (ℕ × View K × View V)
-  full_part = record { In = IsFullResult; At = λ m result place. full_index result ≡ place }
+  full_part = record { In = IsFullResult; At = λ m result index. full_index result ≡ index }
 
   -- the index and the key
   abbrev pub full_key_part : Part (ArchivedIndexMap K V H W ks vs wt) (ℕ × View K)
   full_key_part = record {
     In = IsFullKeyIn;
-    At = λ m result place. full_key_index result ≡ place;
+    At = λ m result index. full_key_index result ≡ index;
   }
 
   -- what `Related` describes, without the index
@@ -59,18 +59,18 @@ module _ {K V H W : Type 0} {ks : Specs K} {vs : Specs V} {wt : Words W} where
     -- `P` is a property of the index that a lookup finds: in any map, in a written map,
     -- and if no key is misplaced
     pub record FoundKeyHas (a : KeyLookup) (P : Option ℕ → Type 0) : Type 0 where
-      pub answer : FindsKey (index_of m) a.hash a.fits P
+      pub finds : FindsKey (index_of m) a.hash a.fits P
       pub first : FindsFirstKey (index_of m) a.key_hash a.fits P
       pub complete : FindsOneKey (index_of m) a.key_hash a.same a.fits P
 
   module _ {X : Type 0} (part : Part (ArchivedIndexMap K V H W ks vs wt) X)
       (m : ArchivedIndexMap K V H W ks vs wt) where
-    -- `result`: part of the pair that a lookup finds. `answer`: in any map, by the control bytes.
+    -- `result`: part of the pair that a lookup finds. `finds`: in any map, by the control bytes.
     -- `first`: in a written map, of the first key that fits. `complete`: of the only key that fits,
     -- if no key is misplaced
     pub record GetsKey (a : KeyLookup) (result : Option X) : Type 0 where
       pub walked : IfSome result (part.In m)
-      pub answer : FindsKey (index_of m) a.hash a.fits (part.At m result)
+      pub finds : FindsKey (index_of m) a.hash a.fits (part.At m result)
       pub first : FindsFirstKey (index_of m) a.key_hash a.fits (part.At m result)
       pub complete : FindsOneKey (index_of m) a.key_hash a.same a.fits (part.At m result)
 
@@ -79,6 +79,6 @@ module _ {K V H W : Type 0} {ks : Specs K} {vs : Specs V} {wt : Words W} where
     pub record GetsBy (hash : ℕ) (key_hash : List ℕ → ℕ → ℕ) (post : View K → Bool → Type 0)
         (result : Option X) : Type 0 where
       pub walked : IfSome result (part.In m)
-      pub accepted : (place : Option ℕ) × part.At m result place × IfSome place (IsAccepted m post)
-      pub answer : FindsBy (index_of m) post hash (part.At m result)
+      pub accepted : (index : Option ℕ) × part.At m result index × IfSome index (IsAccepted m post)
+      pub finds : FindsBy (index_of m) post hash (part.At m result)
       pub first : FindsFirstBy (index_of m) post hash key_hash (part.At m result)

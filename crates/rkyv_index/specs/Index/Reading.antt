@@ -40,10 +40,10 @@ module _ {A B : Type 0} (w : Width) (k v : ElementSpec) (key : List ℕ → ℕ 
 module _ {K V H W A B : Type 0} {ks : Specs K} {vs : Specs V} {wt : Words W}
     (key : List ℕ → ℕ → A → Type 0) (value : List ℕ → ℕ → B → Type 0)
     (m : ArchivedIndexMap K V H W ks vs wt) where
-  -- `pair`: represented by the entry at the index `place`
+  -- `pair`: represented by the entry at `index`
   abbrev pub IsPairRead : ℕ → A × B → Type 0
-  IsPairRead place pair =
-      PairRepresents ks.spec vs.spec key value (index_bytes m) (key_pos m place) pair
+  IsPairRead index pair =
+      PairRepresents ks.spec vs.spec key value (index_bytes m) (key_pos m index) pair
 
   -- each of the pairs is represented by the entry at its index
   abbrev pub ArePairsRead : List (A × B) → Type 0
@@ -55,12 +55,12 @@ module _ {K V H W A B : Type 0} {ks : Specs K} {vs : Specs V} {wt : Words W}
   ReadsPairs pairs = HasPairsAt wt.word ks.spec vs.spec key value (index_bytes m) (index_pos m)
       pairs
 
--- `e`: error of the key or the value at the index `place`
+-- `e`: error of the key or the value at `index`
 abbrev pub pair_deserialize_fails : {K V H W : Type 0} {ks : Specs K} {vs : Specs V} {wt : Words W}
     → DeserializeErrors → DeserializeErrors → ArchivedIndexMap K V H W ks vs wt → ℕ → ReadError
     → Type 0
-pair_deserialize_fails {ks = ks} {vs} key value m place e =
-    entry_deserialize_fails ks.spec vs.spec key value (index_bytes m) (key_pos m place) e
+pair_deserialize_fails {ks = ks} {vs} key value m index e =
+    entry_deserialize_fails ks.spec vs.spec key value (index_bytes m) (key_pos m index) e
 
 module _ {A B : Type 0} (w : Width) (k : DeserializeMembers A) (v : DeserializeMembers B) where
   -- `e`: error of deserializing the pairs of the index map at `p` of `b`. It is `Memory`,

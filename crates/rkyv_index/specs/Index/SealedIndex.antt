@@ -77,20 +77,20 @@ module _ {K V H W : Type 0} (w : Width) (k v : ElementSpec) (a : ArchiveSeal
   IsValueSeal value = (i : ℕ) × IsStoredAt w (archive_in a) (pos_in a) i
       × LendsValue k v (archive_in a) (IsPairPosIn i) value
 
-  -- `result`: the pair at the index `place`, or `None` if `place` is `None`
+  -- `result`: the pair at `index`, or `None` if `index` is `None`
   abbrev pub SealsPair : Option (View K × Seal V) → Option ℕ → Type 0
-  SealsPair result place =
-      MatchesAt (λ i. LendsPair k v (archive_in a) (IsPairPosIn i)) result place
+  SealsPair result index =
+      MatchesAt (λ i. LendsPair k v (archive_in a) (IsPairPosIn i)) result index
 
-  -- `result`: the value at the index `place`, or `None` if `place` is `None`
+  -- `result`: the value at `index`, or `None` if `index` is `None`
   abbrev pub SealsValue : Option (Seal V) → Option ℕ → Type 0
-  SealsValue result place =
-      MatchesAt (λ i. LendsValue k v (archive_in a) (IsPairPosIn i)) result place
+  SealsValue result index =
+      MatchesAt (λ i. LendsValue k v (archive_in a) (IsPairPosIn i)) result index
 
 -- the index in `result`
 abbrev pub full_seal_index : {K V : Type 0} → Option (ℕ × View K × Seal V) → Option ℕ
 full_seal_index {K} {V} result = option_map (λ (full : ℕ × View K × Seal V). full.0) result
 
--- `result` has the index `place`, or both are `None`
+-- `result` has `index`, or both are `None`
 abbrev pub IsFullSealAt : {K V : Type 0} → Option (ℕ × View K × Seal V) → Option ℕ → Type 0
-IsFullSealAt result place = full_seal_index result ≡ place
+IsFullSealAt result index = full_seal_index result ≡ index

@@ -10,7 +10,7 @@ use Rattle.rkyv_base.specs.Writing.{Output}
 use Rattle.rkyv_table.specs.Table.Input.{Input, from_iter}
 use Rattle.rkyv_table.specs.Table.Serializing.{OwnCause, WritesItems}
 use Rattle.rkyv_table.specs.Table.TableFormat.{TableResolver, table_format}
-use Rattle.rkyv_index.specs.Index.IndexFormat.{PlacesAs, places_from, row_format}
+use Rattle.rkyv_index.specs.Index.IndexFormat.{IndicesAs, indices_from, row_format}
 use Rattle.rkyv_index.specs.Index.IndexHeader.{IndexResolver}
 
 -- the pairs of key and value of the entries
@@ -51,15 +51,15 @@ abbrev pub hashed_row : {X R : Type 0} → ElementSpec → Format X R → (X →
 hashed_row spec format hash load_factor values =
     record { spec = spec; format = format; list = hashed hash load_factor values }
 
-module _ {F P X : Type 0} (width : WidthMembers) (places : PlacesAs P) where
+module _ {F P X : Type 0} (width : WidthMembers) (indices : IndicesAs P) where
   -- `result`: the resolver of the written table, or the error. The table has the indices
   -- of the values, each under the hash of its value
-  abbrev pub WritesPlaces : HashedList X → Output → Output → Result TableResolver (WriteError F)
+  abbrev pub WritesIndices : HashedList X → Output → Output → Result TableResolver (WriteError F)
       → Type 0
-  WritesPlaces xs o o' result =
-      let f = table_format width.word places.spec (scalar_format places.encoding)
+  WritesIndices xs o o' result =
+      let f = table_format width.word indices.spec (scalar_format indices.encoding)
       xs.load_factor in
-      let pairs = places_from xs.hash places.encoding.value 0 xs.values in
+      let pairs = indices_from xs.hash indices.encoding.value 0 xs.values in
       MatchResult result (Serialized width.LIMIT f pairs o o')
       (OwnOrSerializeFails (length xs.values) xs.load_factor width.MAX_CAPACITY NoOther width.LIMIT
       f
@@ -71,7 +71,7 @@ module _ {F P X : Type 0} (width : WidthMembers) (places : PlacesAs P) where
       → Result IndexResolver (WriteError F) → Type 0
   WritesEntries row o o' result =
       let xs = row.list in
-      let f = row_format width.word places.spec places.encoding row.spec row.format xs.hash
+      let f = row_format width.word indices.spec indices.encoding row.spec row.format xs.hash
       xs.load_factor in
       MatchResult result (Serialized width.LIMIT f xs.values o o')
       (OwnOrSerializeFails (length xs.values) xs.load_factor width.MAX_CAPACITY NoOther width.LIMIT

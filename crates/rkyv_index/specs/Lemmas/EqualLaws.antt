@@ -5,14 +5,14 @@ use Rattle.std.specs.Int.{Width}
 use Rattle.std.specs.List.{list_all, range_with_len}
 use Rattle.std.proofs.Common.{refl, arith, subst, sym, ◌∙◌, ap, inl, inr}
 use Rattle.std.proofs.lemmas.Bool.{and_from, and_parts, cases_eq, eq-eqb, eqb-true}
-use Rattle.rkyv_base.specs.ElementSpec.{IsElement, ElementSpec, ValidAt}
+use Rattle.rkyv_base.specs.ElementSpec.{ElementSpec, IsElement, ValidAt}
 use Rattle.rkyv_base.specs.Lemmas.ElementSpec.{valid_at}
 use Rattle.rkyv_keys.specs.Equality.{Comparison, IsEquivalence}
 use Rattle.rkyv_table.specs.Table.Header.{len_at}
 use Rattle.rkyv_index.specs.Index.Equality.{index_equal, same_at}
 use Rattle.rkyv_index.specs.Index.IndexLayout.{entries_pos, pair_pos}
-use Rattle.rkyv_index.specs.Index.IndexLayout.{IsValidIndex, entry_at, index_spec, places_of}
-use Rattle.rkyv_index.specs.Lemmas.IndexLaws.{each_holds, entry_inside}
+use Rattle.rkyv_index.specs.Index.IndexLayout.{IsValidIndex, entry_at, index_spec, indices_of}
+use Rattle.rkyv_index.specs.Lemmas.IndexLaws.{each_is_valid, entry_inside}
 
 -- `list_all f` of a range is `true` if and only if `f` is `true` for each number in it
 all_from : (f : ℕ → Bool) (a n : ℕ) → ((i : ℕ) → a ≤ i → i < a + n → f i ≡ true) → list_all f
@@ -40,7 +40,7 @@ module _ (w : Width) (s : ElementSpec) (law : IsElement s) where
       let held : IsValidIndex w s b p 0 p h.0 = h.1 in
       let begin = held.entries.begin in
       let at : entries_pos w b p ≡ begin = sym (ap unsigned_abs held.entries.part.begins) in
-      let r = each_holds s law (entry_at s.size begin) b begin 0 (len_at w b p) held.middle
+      let r = each_is_valid s law (entry_at s.size begin) b begin 0 (len_at w b p) held.middle
       held.entries.last i held.entries.part.above held.entries.hold (omega arith)
       (omega (arith, below)) in
       let u = entry_inside s.size begin (len_at w b p) i below in
@@ -54,7 +54,7 @@ module _ (w : Width) (s : ElementSpec) (law : IsElement s) where
         ≡ true)
     parts b c p q h =
         let t = and_parts (len_at w b p == len_at w c q) (list_all (same_at w s same b p c q)
-        (places_of (len_at w b p))) h in (
+        (indices_of (len_at w b p))) h in (
           eqb-true (len_at w b p) (len_at w c q) t.0,
           λ i below. all_at (same_at w s same b p c q) 0
               (len_at w b p) t.1 i (omega arith) (omega (arith, below)),
@@ -64,7 +64,7 @@ module _ (w : Width) (s : ElementSpec) (law : IsElement s) where
         → same_at w s same b p c q i ≡ true) → index_equal w s same b p c q ≡ true
     from b c p q n f =
         and_from (len_at w b p == len_at w c q) (list_all (same_at w s same b p c q)
-        (places_of (len_at w b p))) (eq-eqb (len_at w b p) (len_at w c q) n)
+        (indices_of (len_at w b p))) (eq-eqb (len_at w b p) (len_at w c q) n)
         (all_from (same_at w s same b p c q) 0 (len_at w b p)
         (λ i at below. f i (omega (arith, below))))
 

@@ -16,17 +16,17 @@ use Rattle.rkyv_base.specs.Lemmas.Props.{only_one, prop_by}
 use Rattle.rkyv_base.specs.Parts.{PartIn}
 use Rattle.rkyv_base.specs.Lemmas.Parts.{part_exclusive, part_one, part_one_failure, part_prop}
 use Rattle.rkyv_base.specs.Lemmas.Parts.{part_wider}
-use Rattle.rkyv_base.specs.ElementSpec.{ElementSpec, IsElement, IsAlign}
+use Rattle.rkyv_base.specs.ElementSpec.{ElementSpec, IsAlign, IsElement}
 use Rattle.rkyv_base.specs.Text.{IsArchiveWord}
 use Rattle.rkyv_base.specs.Lemmas.Text.{by_archive_word}
 use Rattle.rkyv_table.specs.Table.Header.{cap_at, len_at}
-use Rattle.rkyv_table.specs.Lemmas.ItemPositions.{HoldsWithin, holds_at, item_holds}
+use Rattle.rkyv_table.specs.Lemmas.ItemPositions.{IsValidWithin, item_is_valid, valid_part}
 use Rattle.rkyv_table.specs.Lemmas.ItemPositions.{within_lower}
 use Rattle.rkyv_table.specs.Lemmas.SameControls.{same_controls}
-use Rattle.rkyv_table.specs.Lemmas.PlaceLaws.{AllBelow, all_between, all_exclusive, all_lower}
-use Rattle.rkyv_table.specs.Lemmas.PlaceLaws.{all_local}
-use Rattle.rkyv_table.specs.Lemmas.PlaceLaws.{all_one, all_one_failure, all_prop}
-use Rattle.rkyv_table.specs.Table.Places.{AllHold, FirstFails}
+use Rattle.rkyv_table.specs.Lemmas.ValidItemLaws.{AllBelow, all_between, all_exclusive, all_lower}
+use Rattle.rkyv_table.specs.Lemmas.ValidItemLaws.{all_local}
+use Rattle.rkyv_table.specs.Lemmas.ValidItemLaws.{all_one, all_one_failure, all_prop}
+use Rattle.rkyv_table.specs.Table.ValidItems.{AreValidAt, FirstFails}
 use Rattle.rkyv_table.specs.Controls.Placing.{walk}
 use Rattle.rkyv_table.specs.Table.Positions.{IsWalked, item_at, item_positions}
 use Rattle.rkyv_table.specs.Table.Positions.{table_controls}
@@ -35,15 +35,15 @@ use Rattle.rkyv_table.specs.Table.Layout.{IsValidTable, table_spec}
 use Rattle.rkyv_table.specs.Lemmas.TableLaws.{table_element}
 use Rattle.rkyv_table.proofs.RawWalks.{walked_all}
 use Rattle.rkyv_table.proofs.Walks.{walk_none}
-use Rattle.rkyv_index.specs.Index.IndexLayout.{EntriesFail, EntriesHold, EntriesIn, FirstNotBelow}
-use Rattle.rkyv_index.specs.Index.IndexLayout.{IndexFails}
-use Rattle.rkyv_index.specs.Index.IndexLayout.{IsValidIndex, PlacesBelow, distance_pos}
+use Rattle.rkyv_index.specs.Index.IndexLayout.{AreValidEntries, EntriesFail, EntriesIn}
+use Rattle.rkyv_index.specs.Index.IndexLayout.{FirstNotBelow, IndexFails}
+use Rattle.rkyv_index.specs.Index.IndexLayout.{IndicesBelow, IsValidIndex, distance_pos}
 use Rattle.rkyv_index.specs.Index.IndexLayout.{decode_entries}
-use Rattle.rkyv_index.specs.Index.IndexLayout.{entry_at, index_spec, place_spec, places_of}
+use Rattle.rkyv_index.specs.Index.IndexLayout.{entry_at, index_spec, indices_of, stored_index_spec}
 
 -- an index in a bucket is an element
-pub place_element : (w : Width) → IsArchiveWord w → IsElement (place_spec w)
-place_element w kind = record {
+pub stored_index_element : (w : Width) → IsArchiveWord w → IsElement (stored_index_spec w)
+stored_index_element w kind = record {
   align_is = by_archive_word (λ v. IsAlign (byte_len v)) (inr (inr (inl refl)))
       (inr (inr (inr refl))) w kind;
   size_whole = by_archive_word (λ v. byte_len v % byte_len v ≡ 0) refl refl w kind;
@@ -63,8 +63,8 @@ all_below : (a n m : ℕ) → a + n ≤ m → AllBelow m (range_with_len a n)
 all_below a zero m h = tt
 all_below a (suc n) m h = (omega arith, all_below (a + 1) n m (omega arith))
 
-pub places_below : (n : ℕ) → AllBelow n (places_of n)
-places_below n = all_below 0 n n (omega arith)
+pub indices_below : (n : ℕ) → AllBelow n (indices_of n)
+indices_below n = all_below 0 n n (omega arith)
 
 -- an entry is between the begin and the end of the entries
 pub entry_inside : (size begin n i : ℕ) → i < n → (begin ≤ entry_at size begin i)
@@ -74,16 +74,16 @@ entry_inside size begin n i h =
     (omega arith, omega (arith, m))
 
 -- each of several valid values in order is valid in a range of its own
-pub each_holds : (s : ElementSpec) → IsElement s → (at : ℕ → ℕ) (b : List ℕ) (hi a n lo l i : ℕ)
+pub each_is_valid : (s : ElementSpec) → IsElement s → (at : ℕ → ℕ) (b : List ℕ) (hi a n lo l i : ℕ)
     → lo ≤ hi
-    → AllHold s at b hi (range_with_len a n) lo l → a ≤ i → i < a + n
-    → HoldsWithin s b (at i) lo hi l
-each_holds s law at b hi a zero lo l i o h from to = absurd (omega arith)
-each_holds s law at b hi a (suc n) lo l i o h from to =
+    → AreValidAt s at b hi (range_with_len a n) lo l → a ≤ i → i < a + n
+    → IsValidWithin s b (at i) lo hi l
+each_is_valid s law at b hi a zero lo l i o h from to = absurd (omega arith)
+each_is_valid s law at b hi a (suc n) lo l i o h from to =
     let k : (lo ≤ h.0) × (h.0 ≤ hi) = law.rest_in_range b (at a) lo hi h.0 o h.1 in
     let after = all_between s law at b hi (range_with_len (a + 1) n) h.0 l k.1 h.2 in
     elim (cases_eq a i) [
-      | inl e ↦ subst (λ z. HoldsWithin s b (at z) lo hi l) e
+      | inl e ↦ subst (λ z. IsValidWithin s b (at z) lo hi l) e
           (record {
             lower = lo;
             rest = h.0;
@@ -95,12 +95,12 @@ each_holds s law at b hi a (suc n) lo l i o h from to =
           })
       | inr ne ↦
           within_lower s b (at i) h.0 lo hi l k.0
-          (each_holds s law at b hi (a + 1) n h.0 l i k.1 h.2 (omega arith) (omega arith))
+          (each_is_valid s law at b hi (a + 1) n h.0 l i k.1 h.2 (omega arith) (omega arith))
     ]
 
 -- if all indices are below `n`, no position is the first whose index isn't
 not_below_exclusive : (w : Width) (b : List ℕ) (n : ℕ) (qs : List ℕ) (e : VerifyError)
-    → PlacesBelow w b
+    → IndicesBelow w b
     n qs → FirstNotBelow w b n qs e → ⊥
 not_below_exclusive w b n [] e h f = f
 not_below_exclusive w b n (q ∷ qs) e h (inl f) = let k = All-head (λ x. number_at w b x < n) q qs h
@@ -145,8 +145,8 @@ module _ (s : ElementSpec) (law : IsElement s) where
       let same : f.0 ≡ h.begin =
       part_one decoded (len * s.size) s.align lo hi f.0 h.begin f.1 h.part
       in
-      all_exclusive s law (entry_at s.size h.begin) b h.begin (places_of len) lo h.last e h.hold
-      (subst (λ n. FirstFails s (entry_at s.size n) b n (places_of len) lo e) same f.2)
+      all_exclusive s law (entry_at s.size h.begin) b h.begin (indices_of len) lo h.last e h.hold
+      (subst (λ n. FirstFails s (entry_at s.size n) b n (indices_of len) lo e) same f.2)
 
   entries_one_failure : (b : List ℕ) (decoded : ℤ) (len lo hi : ℕ) (e e' : VerifyError)
       → EntriesFail s
@@ -163,8 +163,8 @@ module _ (s : ElementSpec) (law : IsElement s) where
       s.align lo hi f.0 e' f.1 g)
   entries_one_failure b decoded len lo hi e e' (inr f) (inr g) =
       let same : g.0 ≡ f.0 = part_one decoded (len * s.size) s.align lo hi g.0 f.0 g.1 f.1 in
-      all_one_failure s law (entry_at s.size f.0) b f.0 (places_of len) lo e e' f.2
-      (subst (λ n. FirstFails s (entry_at s.size n) b n (places_of len) lo e') same g.2)
+      all_one_failure s law (entry_at s.size f.0) b f.0 (indices_of len) lo e e' f.2
+      (subst (λ n. FirstFails s (entry_at s.size n) b n (indices_of len) lo e') same g.2)
 
   entries_higher : (b : List ℕ) (decoded : ℤ) (len lo hi hi' l : ℕ) → hi ≤ hi'
       → EntriesIn s b decoded len
@@ -183,7 +183,7 @@ module _ (s : ElementSpec) (law : IsElement s) where
       → EntriesIn s b decoded len
       lo hi l → EntriesIn s b decoded len lo' hi l
   entries_lower b decoded len lo lo' hi l o h =
-      let d = all_lower s law (entry_at s.size h.begin) b h.begin (places_of len) lo lo' h.last o
+      let d = all_lower s law (entry_at s.size h.begin) b h.begin (indices_of len) lo lo' h.last o
       h.part.above h.hold in
       record {
         begin = h.begin;
@@ -204,8 +204,8 @@ module _ (s : ElementSpec) (law : IsElement s) where
         begin = h.begin;
         part = h.part;
         last = h.last;
-        hold = all_local s law (entry_at s.size h.begin) b c lo l len h.begin (places_of len) lo
-            h.last same (omega arith) above (omega arith) (places_below len)
+        hold = all_local s law (entry_at s.size h.begin) b c lo l len h.begin (indices_of len) lo
+            h.last same (omega arith) above (omega arith) (indices_below len)
             (λ i below. let u = entry_inside s.size h.begin len i below in (
               omega (arith, u.0),
               omega (arith, u.1),
@@ -222,10 +222,10 @@ All-unmap Q f (x ∷ xs) h = All-cons (λ x. Q (f x)) x xs (All-head Q (f x) (ma
 
 module _ (w : Width) (kind : IsArchiveWord w) where
   abbrev P : ElementSpec
-  P = place_spec w
+  P = stored_index_spec w
 
   abbrev P_law : IsElement P
-  P_law = place_element w kind
+  P_law = stored_index_element w kind
 
   -- the indices are the same if the bytes of the header and of the table are
   module _ (b c : List ℕ) (p lo hi m : ℕ) (o : lo ≤ hi) (fixed : AgreeOn b c p (p + 3 * byte_len w))
@@ -233,14 +233,14 @@ module _ (w : Width) (kind : IsArchiveWord w) where
     item_within : (i : ℕ) → IsWalked w b p i → (lo ≤ item_at w (byte_len w) b p i)
         × (item_at w (byte_len w) b p i + byte_len w ≤ m)
     item_within i walked =
-        let t = holds_at w P P_law b p lo hi m h (omega (arith, walked.0)) in
-        let r = item_holds w P P_law b p lo hi m h i walked t in
+        let t = valid_part w P P_law b p lo hi m h (omega (arith, walked.0)) in
+        let r = item_is_valid w P P_law b p lo hi m h i walked t in
         let above = t.part.above in
         (omega (arith, r.1), r.2)
 
-    pub place_same_at : (i : ℕ) → IsWalked w b p i → number_at w b (item_at w (byte_len w) b p i)
+    pub index_same_at : (i : ℕ) → IsWalked w b p i → number_at w b (item_at w (byte_len w) b p i)
         ≡ number_at w c (item_at w (byte_len w) c p i)
-    place_same_at i walked =
+    index_same_at i walked =
         let u = item_within i walked in
         let q = item_at w (byte_len w) b p i in
         ap (from_le_bytes w) (agree_on_part b c lo m q (q + byte_len w) u.0 u.1 (omega arith) part)
@@ -259,15 +259,15 @@ module _ (w : Width) (kind : IsArchiveWord w) where
           ∙ ap (walk (table_controls w c p)) (cap_same w b c p fixed)
     ]
 
-    places_local : (n : ℕ) → PlacesBelow w b n (item_positions w (byte_len w) b p) → PlacesBelow w c
-        n (item_positions w (byte_len w) c p)
-    places_local n below =
+    indices_local : (n : ℕ) → IndicesBelow w b n (item_positions w (byte_len w) b p)
+        → IndicesBelow w c n (item_positions w (byte_len w) c p)
+    indices_local n below =
         let at = item_at w (byte_len w) in
         let ws = walk (table_controls w b p) (cap_at w b p) in
-        subst (λ (xs : List ℕ). PlacesBelow w c n (map (at c p) xs)) same_walk
+        subst (λ (xs : List ℕ). IndicesBelow w c n (map (at c p) xs)) same_walk
         (All-map (λ q. number_at w c q < n) (at c p) ws
         (λ k d lt.
-        subst (λ x. x < n) (place_same_at (get_or ws k d) (walked_all w P P_law b p k d lt))
+        subst (λ x. x < n) (index_same_at (get_or ws k d) (walked_all w P P_law b p k d lt))
         (All-unmap (λ q. number_at w b q < n) (at b p) ws below k d lt)))
 
 -- the entries begin at the same position if the bytes of the header are the same
@@ -287,8 +287,8 @@ head_same w b c p fixed =
     (omega arith) (omega arith) fixed
 
 module _ (w : Width) (kind : IsArchiveWord w) (s : ElementSpec) (law : IsElement s) where
-  abbrev T_law : IsElement (table_spec w (place_spec w))
-  T_law = table_element w kind (place_spec w) (place_element w kind)
+  abbrev T_law : IsElement (table_spec w (stored_index_spec w))
+  T_law = table_element w kind (stored_index_spec w) (stored_index_element w kind)
 
   index_exclusive : (b : List ℕ) (p lo hi l : ℕ) (e : VerifyError) → IsValidIndex w s b p lo hi l
       → IndexFails w s b p lo hi e → ⊥
@@ -332,7 +332,7 @@ module _ (w : Width) (kind : IsArchiveWord w) (s : ElementSpec) (law : IsElement
       → IsProp (EntriesIn s b decoded len lo hi l)
   entries_prop b decoded len lo hi l =
       let P : ℕ → Type 0 = λ begin. PartIn decoded (len * s.size) s.align lo hi begin
-      × (((last : ℕ) × EntriesHold s b begin len lo last) × (l ≡ begin + len * s.size)) in
+      × (((last : ℕ) × AreValidEntries s b begin len lo last) × (l ≡ begin + len * s.size)) in
       prop_by {B = (begin : ℕ) × P begin} (λ h. (h.begin, (h.part, ((h.last, h.hold), h.ends))))
       (λ h. record {
         begin = h.0;
@@ -344,14 +344,14 @@ module _ (w : Width) (kind : IsArchiveWord w) (s : ElementSpec) (law : IsElement
       })
       (λ _. refl) (only_one
       (λ begin. ×_prop (part_prop decoded (len * s.size) s.align lo hi begin)
-      (×_prop (only_one (all_prop s law (entry_at s.size begin) b begin (places_of len) lo)
-      (all_one s law (entry_at s.size begin) b begin (places_of len) lo)) (hlevel props)))
+      (×_prop (only_one (all_prop s law (entry_at s.size begin) b begin (indices_of len) lo)
+      (all_one s law (entry_at s.size begin) b begin (indices_of len) lo)) (hlevel props)))
       (λ n n' h k. part_one decoded (len * s.size) s.align lo hi n n' h.0 k.0))
 
   index_prop : (b : List ℕ) (p lo hi l : ℕ) → IsProp (IsValidIndex w s b p lo hi l)
   index_prop b p lo hi l =
-      let P : ℕ → Type 0 = λ m. IsValidTable w (place_spec w) b p lo hi m
-      × (PlacesBelow w b (len_at w b p) (item_positions w (byte_len w) b p)
+      let P : ℕ → Type 0 = λ m. IsValidTable w (stored_index_spec w) b p lo hi m
+      × (IndicesBelow w b (len_at w b p) (item_positions w (byte_len w) b p)
       × EntriesIn s b (decode_entries w b p) (len_at w b p) m hi l) in
       prop_by {B = (m : ℕ) × P m} (λ h. (h.middle, (h.table, (h.below, h.entries))))
       (λ h. record { middle = h.0; table = h.1.0; below = h.1.1.0; entries = h.1.1.1 }) (λ _. refl)
@@ -394,8 +394,8 @@ module _ (w : Width) (kind : IsArchiveWord w) (s : ElementSpec) (law : IsElement
       record {
         middle = h.middle;
         table = T_law.local b c p lo hi h.middle o head front h.table;
-        below = subst (λ n. PlacesBelow w c n (item_positions w (byte_len w) c p)) len
-            (places_local w kind b c p lo hi h.middle o head front h.table (len_at w b p) h.below);
+        below = subst (λ n. IndicesBelow w c n (item_positions w (byte_len w) c p)) len
+            (indices_local w kind b c p lo hi h.middle o head front h.table (len_at w b p) h.below);
         entries = subst (λ n. EntriesIn s c (decode_entries w c p) n h.middle hi l) len
             (subst (λ z. EntriesIn s c z (len_at w b p) h.middle hi l) (decoded_same w b c p fixed)
             entries);

@@ -1,6 +1,6 @@
 -- Index maps in two archives that have the same bytes.
 use Rattle.std.proofs.Common.{◌≡◌, ℕ, ◌+◌, ◌*◌, ◌<◌, ◌≤◌, sym, ap, subst, ◌∙◌, arith}
-use Rattle.std.proofs.Common.{List, length, map, get_or, slice_index}
+use Rattle.std.proofs.Common.{List, get_or, length, map, slice_index}
 use Rattle.std.specs.Prelude.{unsigned_abs}
 use Rattle.std.specs.Int.{Width, byte_len}
 use Rattle.std.proofs.lemmas.List.{ext_get_or, get_or-map, length-map}
@@ -14,13 +14,13 @@ use Rattle.rkyv_base.specs.Lemmas.Entry.{entry_element, same_key}
 use Rattle.rkyv_base.specs.Format.{RepresentsLocally}
 use Rattle.rkyv_base.specs.Pairs.{PairRepresents}
 use Rattle.rkyv_base.specs.Lemmas.Pairs.{pair_local}
-use Rattle.rkyv_base.specs.ElementSpec.{IsElement, ElementSpec}
+use Rattle.rkyv_base.specs.ElementSpec.{ElementSpec, IsElement}
 use Rattle.rkyv_base.specs.Text.{IsArchiveWord}
 use Rattle.rkyv_keys.specs.Equality.{Comparison}
 use Rattle.rkyv_keys.specs.Keys.{IsKey}
 use Rattle.rkyv_table.specs.Table.Header.{cap_at, len_at}
-use Rattle.rkyv_table.specs.Lemmas.ItemPositions.{HoldsWithin}
-use Rattle.rkyv_table.specs.Lemmas.PlaceLaws.{all_between}
+use Rattle.rkyv_table.specs.Lemmas.ItemPositions.{IsValidWithin}
+use Rattle.rkyv_table.specs.Lemmas.ValidItemLaws.{all_between}
 use Rattle.rkyv_table.specs.Table.Positions.{IsWalked, WrittenAt, home_positions, item_at}
 use Rattle.rkyv_table.specs.Table.Positions.{table_controls}
 use Rattle.rkyv_table.specs.Lemmas.SameHeader.{cap_same, len_same}
@@ -31,10 +31,10 @@ use Rattle.rkyv_table.proofs.WrittenTables.{home_pos, home_walked}
 use Rattle.rkyv_index.specs.Index.{hash_at}
 use Rattle.rkyv_index.specs.Index.IndexFormat.{IndexRepresents, IndexWrittenAt}
 use Rattle.rkyv_index.specs.Index.IndexLayout.{entries_pos, pair_pos}
-use Rattle.rkyv_index.specs.Lemmas.IndexLaws.{each_holds, entry_inside, place_element}
-use Rattle.rkyv_index.specs.Lemmas.IndexLaws.{head_same, place_same_at, decoded_same}
+use Rattle.rkyv_index.specs.Lemmas.IndexLaws.{each_is_valid, entry_inside, stored_index_element}
+use Rattle.rkyv_index.specs.Lemmas.IndexLaws.{decoded_same, head_same, index_same_at}
 use Rattle.rkyv_index.specs.Index.IndexLayout.{IsValidIndex, entry_at}
-use Rattle.rkyv_index.specs.Index.IndexLayout.{index_spec, place_spec, places_of}
+use Rattle.rkyv_index.specs.Index.IndexLayout.{index_spec, indices_of, stored_index_spec}
 
 -- the hash of a valid key depends only on the bytes of the key and its parts
 abbrev pub HashLocal : ElementSpec → (List ℕ → ℕ → ℕ) → Type 0
@@ -52,7 +52,7 @@ module _ (w : Width) (size : ℕ) (key_hash : List ℕ → ℕ → ℕ) (b c : L
     (same_hash : (i : ℕ) → i < len_at w b p → key_hash b (pair_pos w size b p i)
     ≡ key_hash c (pair_pos w size c p i)) where
   abbrev hashes_in : List ℕ → List ℕ
-  hashes_in d = map (λ i. key_hash d (pair_pos w size d p i)) (places_of (len_at w d p))
+  hashes_in d = map (λ i. key_hash d (pair_pos w size d p i)) (indices_of (len_at w d p))
 
   len_is : len_at w b p ≡ len_at w c p
   len_is = len_same w b c p head
@@ -60,7 +60,7 @@ module _ (w : Width) (size : ℕ) (key_hash : List ℕ → ℕ → ℕ) (b c : L
   same_hashes : hashes_in b ≡ hashes_in c
   same_hashes =
       let n = len_at w b p in
-      let is = places_of n in
+      let is = indices_of n in
       let count = length-range_with_len 0 n in
       let f : ℕ → ℕ = λ i. key_hash b (pair_pos w size b p i) in
       let g : ℕ → ℕ = λ i. key_hash c (pair_pos w size c p i) in
@@ -71,11 +71,11 @@ module _ (w : Width) (size : ℕ) (key_hash : List ℕ → ℕ → ℕ) (b c : L
       let at : get_or is i 0 ≡ i = get_or-range_with_len 0 n i 0 inside ∙ omega arith in
       get_or-map f is i 0 0 here ∙ ap f at ∙ same_hash i inside ∙ ap g (sym at)
       ∙ sym (get_or-map g is i 0 0 here))
-      ∙ ap (λ m. map g (places_of m)) len_is
+      ∙ ap (λ m. map g (indices_of m)) len_is
 
-  same_places : (homes : List ℕ) → IndexWrittenAt w size key_hash b p homes
-      → map (number_at w c) (home_positions w (byte_len w) c p homes) ≡ places_of (len_at w c p)
-  same_places homes written =
+  same_indices : (homes : List ℕ) → IndexWrittenAt w size key_hash b p homes
+      → map (number_at w c) (home_positions w (byte_len w) c p homes) ≡ indices_of (len_at w c p)
+  same_indices homes written =
       let hb = home_positions w (byte_len w) b p homes in
       let hc = home_positions w (byte_len w) c p homes in
       let nb : length hb ≡ length homes = length-map homes (item_at w (byte_len w) b p) in
@@ -89,14 +89,14 @@ module _ (w : Width) (size : ℕ) (key_hash : List ℕ → ℕ → ℕ) (b c : L
       (home_pos w (byte_len w) c p homes i n) ∙ sym (read (slice_index homes i) walked)
       ∙ ap (number_at w b) (sym (home_pos w (byte_len w) b p homes i n))
       ∙ sym (get_or-map (number_at w b) hb i 0 0 (omega (arith, n, nb))))
-      ∙ written.places ∙ ap places_of len_is
+      ∙ written.indices ∙ ap indices_of len_is
 
   pub written_again : (homes : List ℕ) → IndexWrittenAt w size key_hash b p homes
       → IndexWrittenAt w size key_hash c p homes
   written_again homes written = record {
     table = subst (λ (xs : List ℕ). WrittenAt w c p xs homes) same_hashes
         (written_there w b c p head controls (hashes_in b) homes written.table);
-    places = same_places homes written;
+    indices = same_indices homes written;
   }
 
 module _ (w : Width) (kind : IsArchiveWord w) (k v : ElementSpec) (kl : IsElement k)
@@ -131,24 +131,24 @@ module _ (w : Width) (kind : IsArchiveWord w) (k v : ElementSpec) (kl : IsElemen
 
     table_ends : (lo ≤ h.middle) × (h.middle ≤ hi)
     table_ends =
-        (table_element w kind (place_spec w) (place_element w kind)).rest_in_range b p lo hi
-        h.middle o h.table
+        (table_element w kind (stored_index_spec w) (stored_index_element w kind)).rest_in_range
+        b p lo hi h.middle o h.table
 
     last_ends : (h.middle ≤ h.entries.last) × (h.entries.last ≤ h.entries.begin)
     last_ends = all_between S law (entry_at S.size h.entries.begin) b h.entries.begin
-        (places_of (len_at w b p)) h.middle h.entries.last h.entries.part.above h.entries.hold
+        (indices_of (len_at w b p)) h.middle h.entries.last h.entries.part.above h.entries.hold
 
     -- each entry is valid, and inside the part
-    entry_there : (i : ℕ) → i < len_at w b p → HoldsWithin S b (pair_pos w S.size b p i) h.middle
+    entry_there : (i : ℕ) → i < len_at w b p → IsValidWithin S b (pair_pos w S.size b p i) h.middle
         h.entries.begin h.entries.last
         × (h.entries.begin ≤ pair_pos w S.size b p i) × (pair_pos w S.size b p i + S.size ≤ l)
     entry_there i below =
-        let r = each_holds S law (entry_at S.size h.entries.begin) b h.entries.begin 0
+        let r = each_is_valid S law (entry_at S.size h.entries.begin) b h.entries.begin 0
         (len_at w b p) h.middle h.entries.last i h.entries.part.above h.entries.hold
         (omega arith) (omega arith) in
         let u = entry_inside S.size h.entries.begin (len_at w b p) i below in
         let e = h.entries.ends in
-        subst (λ n. HoldsWithin S b (entry_at S.size n i) h.middle h.entries.begin h.entries.last
+        subst (λ n. IsValidWithin S b (entry_at S.size n i) h.middle h.entries.begin h.entries.last
         × (h.entries.begin ≤ entry_at S.size n i) × (entry_at S.size n i + S.size ≤ l))
         (sym begin_is)
         (r, u.0, omega (arith, u.1, e))
@@ -200,9 +200,9 @@ module _ (w : Width) (kind : IsArchiveWord w) (k v : ElementSpec) (kl : IsElemen
     represents_again = record {
       homes = st.homes;
       written = written_again w S.size hash b c p head
-          (same_controls w (place_spec w) (place_element w kind) b c p lo hi h.middle o h.table
-          head table_local)
-          (place_same_at w kind b c p lo hi h.middle o head table_local h.table)
+          (same_controls w (stored_index_spec w) (stored_index_element w kind)
+          b c p lo hi h.middle o h.table head table_local)
+          (index_same_at w kind b c p lo hi h.middle o head table_local h.table)
           (λ i below. same_hash i below ∙ ap (hash c) (same_pos i)) st.homes st.written;
       len = sym same_len ∙ st.len;
       cap = sym same_cap ∙ st.cap;

@@ -10,18 +10,18 @@ use Rattle.std.specs.Int.{Width, byte_len, cast_signed, cast_unsigned, from_le_b
 use Rattle.std.specs.List.{range_with_len}
 use Rattle.std.specs.Prelude.{◌≡◌, ℕ, suc, ◌+◌, ◌*◌, ◌%◌, ◌<◌, ◌≤◌, ℤ, pos, ◌+ℤ◌, ◌-ℤ◌}
 use Rattle.std.specs.Prelude.{unsigned_abs, FitsSigned, Bool, true, List, [], ◌∷◌, ◌++◌, length}
-use Rattle.std.specs.Prelude.{map, slice_get, slice_index, slice_range, Some}
+use Rattle.std.specs.Prelude.{Some, map, slice_get, slice_index, slice_range}
 use Rattle.rkyv_base.specs.Bytes.{OccursAt, number_at, signed_at}
 use Rattle.rkyv_base.specs.Lemmas.Bytes.{occurs_back, occurs_front}
 use Rattle.rkyv_base.specs.Entry.{entry_spec, round_up}
 use Rattle.rkyv_base.specs.Lemmas.Entry.{entry_element, round_up-multiple}
 use Rattle.rkyv_base.specs.Format.{Format, IsFormat}
-use Rattle.rkyv_base.specs.Layout.{IsPlace}
+use Rattle.rkyv_base.specs.Layout.{IsIndexEncoding}
 use Rattle.rkyv_base.specs.Pairs.{PairRepresents, pair_format}
 use Rattle.rkyv_base.specs.Lemmas.Pairs.{pair_is_format}
 use Rattle.rkyv_base.specs.Scalar.{Encoding, IsScalar, IsWord, ScalarRepresents, scalar_format}
 use Rattle.rkyv_base.specs.Lemmas.Scalar.{scalar_is_format, word_bytes, word_reads_back}
-use Rattle.rkyv_base.specs.ElementSpec.{IsElement, ElementSpec, ValidAt}
+use Rattle.rkyv_base.specs.ElementSpec.{ElementSpec, IsElement, ValidAt}
 use Rattle.rkyv_base.specs.Text.{IsArchiveWord}
 use Rattle.rkyv_base.specs.Lemmas.Text.{by_archive_word}
 use Rattle.rkyv_base.specs.Writing.{padding, zeros}
@@ -34,8 +34,8 @@ use Rattle.rkyv_index.specs.Index.{hash_at}
 use Rattle.rkyv_table.specs.Table.Header.{cap_at, len_at}
 use Rattle.rkyv_table.specs.Lemmas.HeaderReads.{header_length}
 use Rattle.rkyv_table.specs.Controls.Numbers.{capacity}
-use Rattle.rkyv_table.specs.Lemmas.PlaceLaws.{all_lower}
-use Rattle.rkyv_table.specs.Table.Places.{AllHold}
+use Rattle.rkyv_table.specs.Lemmas.ValidItemLaws.{all_lower}
+use Rattle.rkyv_table.specs.Table.ValidItems.{AreValidAt}
 use Rattle.rkyv_table.specs.Controls.Placing.{walk}
 use Rattle.rkyv_table.specs.Table.Positions.{IsWalked, WrittenAt, home_positions, item_at}
 use Rattle.rkyv_table.specs.Table.Positions.{item_positions, table_controls}
@@ -49,40 +49,40 @@ use Rattle.rkyv_table.proofs.WalkedHomes.{walked_homes}
 use Rattle.rkyv_table.proofs.Walks.{full_walked, walked_full}
 use Rattle.rkyv_table.proofs.WrittenTables.{home_count, home_pos, table_written}
 use Rattle.rkyv_index.specs.Index.IndexFormat.{BeforeZeros, CodesReadBack, IndexParts}
-use Rattle.rkyv_index.specs.Index.IndexFormat.{IndexRepresents}
-use Rattle.rkyv_index.specs.Index.IndexFormat.{RowRepresents, index_format, places_from, row_format}
+use Rattle.rkyv_index.specs.Index.IndexFormat.{IndexRepresents, RowRepresents, index_format}
+use Rattle.rkyv_index.specs.Index.IndexFormat.{indices_from, row_format}
 use Rattle.rkyv_index.specs.Index.IndexHeader.{IndexOverflows, IndexResolver, IsIndexHeader}
 use Rattle.rkyv_index.specs.Index.IndexLayout.{entries_pos, pair_pos}
-use Rattle.rkyv_index.specs.Index.IndexLayout.{IsValidIndex, PlacesBelow, distance_pos}
+use Rattle.rkyv_index.specs.Index.IndexLayout.{IndicesBelow, IsValidIndex, distance_pos}
 use Rattle.rkyv_index.specs.Index.IndexLayout.{decode_entries}
-use Rattle.rkyv_index.specs.Index.IndexLayout.{index_spec, places_of}
-use Rattle.rkyv_index.specs.Lemmas.PlaceSpecs.{place_table_holds}
+use Rattle.rkyv_index.specs.Index.IndexLayout.{index_spec, indices_of}
+use Rattle.rkyv_index.specs.Lemmas.IndexSpecs.{index_table_is_valid}
 use Rattle.rkyv_index.specs.Index.Row.{RowImages}
 use Rattle.rkyv_index.specs.Lemmas.RowSound.{images_length, row_sound}
 
 module _ {X P : Type 0} (own : X → ℕ) (v : ℕ → P) where
-  pub places_count : (i : ℕ) (xs : List X) → length (places_from own v i xs) ≡ length xs
-  places_count i [] = refl
-  places_count i (x ∷ xs) = ap suc (places_count (i + 1) xs)
+  pub indices_count : (i : ℕ) (xs : List X) → length (indices_from own v i xs) ≡ length xs
+  indices_count i [] = refl
+  indices_count i (x ∷ xs) = ap suc (indices_count (i + 1) xs)
 
   -- the item with number `j` is the index `i + j`
-  place_there : (i : ℕ) (xs : List X) (j : ℕ) → j < length xs → slice_get
-      (items_of (places_from own v i xs)) j ≡ Some (v (i + j))
-  place_there i [] j h = absurd (omega (arith, h))
-  place_there i (x ∷ xs) zero h = let k : i ≡ i + 0 = omega arith in ap (λ n. Some (v n)) k
-  place_there i (x ∷ xs) (suc j) h = let k : (i + 1) + j ≡ i + suc j = omega arith in place_there
+  index_there : (i : ℕ) (xs : List X) (j : ℕ) → j < length xs → slice_get
+      (items_of (indices_from own v i xs)) j ≡ Some (v (i + j))
+  index_there i [] j h = absurd (omega (arith, h))
+  index_there i (x ∷ xs) zero h = let k : i ≡ i + 0 = omega arith in ap (λ n. Some (v n)) k
+  index_there i (x ∷ xs) (suc j) h = let k : (i + 1) + j ≡ i + suc j = omega arith in index_there
       (i + 1) xs j (omega (arith, h)) ∙ ap (λ n. Some (v n)) k
 
   -- the hashes of the items are those of the values at the indices
   hashes_there : (at hash : ℕ → ℕ) (i : ℕ) (xs : List X) → ((j : ℕ) (x : X) → slice_get xs j
       ≡ Some x → own x ≡ hash (at (i + j)))
-      → hashes_of (places_from own v i xs) ≡ map (λ k. hash (at k)) (range_with_len i (length xs))
+      → hashes_of (indices_from own v i xs) ≡ map (λ k. hash (at k)) (range_with_len i (length xs))
   hashes_there at hash i [] h = refl
   hashes_there at hash i (x ∷ xs) h =
       let k : i + 0 ≡ i = omega arith in
       let rest = hashes_there at hash (i + 1) xs (λ j y e. let n : i + suc j ≡ (i + 1) + j =
       omega arith in h (suc j) y e ∙ ap (λ m. hash (at m)) n) in
-      ap (λ (n : ℕ). n ∷ hashes_of (places_from own v (i + 1) xs)) (h 0 x refl
+      ap (λ (n : ℕ). n ∷ hashes_of (indices_from own v (i + 1) xs)) (h 0 x refl
       ∙ ap (λ m. hash (at m)) k) ∙ ap (λ (l : List ℕ). hash (at i) ∷ l) rest
 
 -- a written distance is read back
@@ -97,7 +97,7 @@ distance_back w kind d c p fits s =
     ap (cast_signed w) there ∙ to_z-of_z w d fits
 
 module _ {P X R : Type 0} (w : Width) (kind : IsArchiveWord w) (ps : ElementSpec) (e : Encoding P)
-    (pe : IsElement ps) (pk : IsScalar ps e) (place : IsPlace w e) (back : CodesReadBack e)
+    (pe : IsElement ps) (pk : IsScalar ps e) (index : IsIndexEncoding w e) (back : CodesReadBack e)
     (s : ElementSpec) (laws : IsElement s)
     (represents : List ℕ → ℕ → X → Type 0) (f : Format X R) (fl : IsFormat s represents f) (own : X
     → ℕ)
@@ -106,23 +106,23 @@ module _ {P X R : Type 0} (w : Width) (kind : IsArchiveWord w) (ps : ElementSpec
     x → own x ≡ hash b q)
     (factor : ℕ × ℕ) where
   module _ (xs : List X) where
-    abbrev Places : List (ℕ × P)
-    Places = places_from own e.value 0 xs
+    abbrev Indices : List (ℕ × P)
+    Indices = indices_from own e.value 0 xs
 
-    count : length Places ≡ length xs
-    count = places_count own e.value 0 xs
+    count : length Indices ≡ length xs
+    count = indices_count own e.value 0 xs
 
     module _ (c : List ℕ) (p : ℕ)
-        (table_represents : TableRepresents w ps (ScalarRepresents e) factor c p Places) where
-      tw : IsWrittenOf w (byte_len e.word) (ScalarRepresents e) c p Places
-      tw = subst (λ n. IsWrittenOf w n (ScalarRepresents e) c p Places) pk.size
-          (table_written w ps (ScalarRepresents e) factor c p Places table_represents)
+        (table_represents : TableRepresents w ps (ScalarRepresents e) factor c p Indices) where
+      tw : IsWrittenOf w (byte_len e.word) (ScalarRepresents e) c p Indices
+      tw = subst (λ n. IsWrittenOf w n (ScalarRepresents e) c p Indices) pk.size
+          (table_written w ps (ScalarRepresents e) factor c p Indices table_represents)
 
-      hashes_count : length (hashes_of Places) ≡ length xs
-      hashes_count = length-map Places (λ (y : ℕ × P). y.0) ∙ count
+      hashes_count : length (hashes_of Indices) ≡ length xs
+      hashes_count = length-map Indices (λ (y : ℕ × P). y.0) ∙ count
 
       homes_count : length tw.homes ≡ length xs
-      homes_count = home_count w c p (hashes_of Places) tw.homes tw.written ∙ hashes_count
+      homes_count = home_count w c p (hashes_of Indices) tw.homes tw.written ∙ hashes_count
 
       -- the home bucket of the value with number `j` has the index `j`
       numbers_at_homes : (j : ℕ) → j < length xs → number_at w c
@@ -131,12 +131,12 @@ module _ {P X R : Type 0} (w : Width) (kind : IsArchiveWord w) (ps : ElementSpec
           let z : 0 + j ≡ j = omega arith in
           let q = slice_index (home_positions w (byte_len e.word) c p tw.homes) j in
           let there : e.value (number_at e.word c q) ≡ e.value j = tw.at j (e.value j)
-          (place_there own e.value 0 xs j h ∙ ap (λ n. Some (e.value n)) z) in
+          (index_there own e.value 0 xs j h ∙ ap (λ n. Some (e.value n)) z) in
           let decoded : number_at e.word c q ≡ j = sym (back (number_at e.word c q))
           ∙ ap e.code there
           ∙ back j in
           subst (λ v. number_at v c
-          (slice_index (home_positions w (byte_len v) c p tw.homes) j) ≡ j) place.word decoded
+          (slice_index (home_positions w (byte_len v) c p tw.homes) j) ≡ j) index.word decoded
 
       -- each full bucket has the index of a value
       walked_below : (i : ℕ) → IsWalked w c p i → number_at w c (item_at w (byte_len w) c p i) <
@@ -148,7 +148,7 @@ module _ {P X R : Type 0} (w : Width) (kind : IsArchiveWord w) (ps : ElementSpec
             ∙ ap (λ k. capacity k factor) (count ∙ n) in
             absurd (omega (arith, walked.0, z))
         | inr some ↦
-            let visits = walked_homes (cap_at w c p) (hashes_of Places) tw.homes _ some.0
+            let visits = walked_homes (cap_at w c p) (hashes_of Indices) tw.homes _ some.0
             tw.written.fit some.1 in
             let home = (visits.members i).0 (full_walked (cap_at w c p) _ i walked) in
             let j : ℕ = home.0 in
@@ -163,8 +163,8 @@ module _ {P X R : Type 0} (w : Width) (kind : IsArchiveWord w) (ps : ElementSpec
             omega (arith, decoded, below)
       ]
 
-      places_below : PlacesBelow w c (length xs) (item_positions w (byte_len w) c p)
-      places_below i d below =
+      indices_below : IndicesBelow w c (length xs) (item_positions w (byte_len w) c p)
+      indices_below i d below =
           let ws = walk (table_controls w c p) (cap_at w c p) in
           let n : i < length ws =
           omega (arith, below, length-map ws (item_at w (byte_len w) c p)) in
@@ -175,14 +175,14 @@ module _ {P X R : Type 0} (w : Width) (kind : IsArchiveWord w) (ps : ElementSpec
           let h = walked_below bucket walked in
           subst (λ q. number_at w c q < length xs) (sym e) h
 
-      places_are : map (number_at w c) (home_positions w (byte_len w) c p tw.homes) ≡ places_of
+      indices_are : map (number_at w c) (home_positions w (byte_len w) c p tw.homes) ≡ indices_of
           (length xs)
-      places_are =
+      indices_are =
           let hs = home_positions w (byte_len w) c p tw.homes in
           let n : length hs ≡ length xs = length-map tw.homes (item_at w (byte_len w) c p)
           ∙ homes_count in
           let m = length-map hs (number_at w c) in
-          ext_get_or 0 (map (number_at w c) hs) (places_of (length xs))
+          ext_get_or 0 (map (number_at w c) hs) (indices_of (length xs))
           (m ∙ n ∙ sym (length-range_with_len 0 (length xs)))
           (λ i below.
           let k : i < length xs = omega (arith, below, m, n) in
@@ -261,9 +261,9 @@ module _ {P X R : Type 0} (w : Width) (kind : IsArchiveWord w) (ps : ElementSpec
 
       table : (l : ℕ) × IsValidTable w ps c p p0 (p0 + length zb.table) l
           × TableRepresents w
-          ps (ScalarRepresents e) factor c p Places
+          ps (ScalarRepresents e) factor c p Indices
       table = (table_is_format w kind ps pe (ScalarRepresents e)
-          (scalar_format e) (scalar_is_format ps e pk) factor).sound Places r.table c p0 p zb.table
+          (scalar_format e) (scalar_is_format ps e pk) factor).sound Indices r.table c p0 p zb.table
           i.table
           zb.serialized i.header (occurs_front c p0 zb.table zb.part_bytes head_sits)
           (occurs_front c p i.table (to_le_bytes w (cast_unsigned w i.distance)) header_sits)
@@ -272,7 +272,7 @@ module _ {P X R : Type 0} (w : Width) (kind : IsArchiveWord w) (ps : ElementSpec
       first_at_begin : begin ≡ begin + 0 * s.size
       first_at_begin = omega arith
 
-      rows : (l : ℕ) × AllHold s (λ k. begin + k * s.size) c begin (range_with_len 0 (length xs))
+      rows : (l : ℕ) × AreValidAt s (λ k. begin + k * s.size) c begin (range_with_len 0 (length xs))
           (p0 + length zb.table) l × (l ≤ (p0 + length zb.table) + length zb.part_bytes)
           × ((j : ℕ) (x : X) → slice_get xs j ≡ Some x → ValidAt s c (begin + (0 + j) * s.size)
           × represents c (begin + (0 + j) * s.size) x)
@@ -285,7 +285,7 @@ module _ {P X R : Type 0} (w : Width) (kind : IsArchiveWord w) (ps : ElementSpec
           (omega (arith, t.at, front_length, head_length)) (subst (λ k. k % s.align ≡ 0)
           first_at_begin begin_aligned)
 
-      table_represents : TableRepresents w ps (ScalarRepresents e) factor c p Places
+      table_represents : TableRepresents w ps (ScalarRepresents e) factor c p Indices
       table_represents = table.2
 
       len_decoded : len_at w c p ≡ length xs
@@ -299,15 +299,15 @@ module _ {P X R : Type 0} (w : Width) (kind : IsArchiveWord w) (ps : ElementSpec
           let z : 0 + j ≡ j = omega arith in
           ap (λ k. begin + k * s.size) z ∙ ap (λ b. b + j * s.size) (sym begin_is)
 
-      hashes_are : hashes_of Places ≡ map (λ k. hash c (pair_pos w s.size c p k))
-          (places_of (len_at w c p))
+      hashes_are : hashes_of Indices ≡ map (λ k. hash c (pair_pos w s.size c p k))
+          (indices_of (len_at w c p))
       hashes_are =
           hashes_there own e.value (pair_pos w s.size c p) (hash c) 0 xs (λ j x there.
           let z : j ≡ 0 + j = omega arith in
           let st = rows.3 j x there in
           same_hash x c (begin + (0 + j) * s.size) st.0 st.1 ∙ ap (hash c) (pair_pos_is j)
           ∙ ap (λ k. hash c (pair_pos w s.size c p k)) z)
-          ∙ ap (λ n. map (λ k. hash c (pair_pos w s.size c p k)) (places_of n)) (sym len_decoded)
+          ∙ ap (λ n. map (λ k. hash c (pair_pos w s.size c p k)) (indices_of n)) (sym len_decoded)
 
       row_represents : RowRepresents w s.size represents hash factor c p xs
       row_represents = record {
@@ -315,7 +315,7 @@ module _ {P X R : Type 0} (w : Width) (kind : IsArchiveWord w) (ps : ElementSpec
         written = record {
           table = subst (λ (hs : List ℕ). WrittenAt w c p hs homes) hashes_are
               (tw c p table_represents).written;
-          places = places_are c p table_represents ∙ ap places_of (sym len_decoded);
+          indices = indices_are c p table_represents ∙ ap indices_of (sym len_decoded);
         };
         len = len_decoded;
         cap = table_represents.cap ∙ ap (λ n. capacity n factor) count;
@@ -340,9 +340,9 @@ module _ {P X R : Type 0} (w : Width) (kind : IsArchiveWord w) (ps : ElementSpec
             begin + len_at w c p * s.size,
             record {
               middle = table.0;
-              table = place_table_holds w ps e pk place c p p0 (p0 + length part) table.0 up;
-              below = subst (λ n. PlacesBelow w c n (item_positions w (byte_len w) c p))
-                  (sym len_decoded) (places_below c p table_represents);
+              table = index_table_is_valid w ps e pk index c p p0 (p0 + length part) table.0 up;
+              below = subst (λ n. IndicesBelow w c n (item_positions w (byte_len w) c p))
+                  (sym len_decoded) (indices_below c p table_represents);
               entries = record {
                 begin = begin;
                 part = record {
@@ -358,7 +358,7 @@ module _ {P X R : Type 0} (w : Width) (kind : IsArchiveWord w) (ps : ElementSpec
                   aligned = begin_aligned;
                 };
                 last = low.0;
-                hold = subst (λ n. AllHold s (λ k. begin + k * s.size) c begin
+                hold = subst (λ n. AreValidAt s (λ k. begin + k * s.size) c begin
                     (range_with_len 0 n) table.0 low.0) (sym len_decoded) low.1;
                 ends = refl;
               };
@@ -409,7 +409,7 @@ HashesAlike {A = A} k key hash own = (a : A) (b : List ℕ) (q : ℕ) → ValidA
 -- Written bytes of pairs and an aligned header behind them are a valid index map in any archive
 -- that has them. It represents the pairs.
 pub index_is_format : {P A B R Q : Type 0} (w : Width) (kind : IsArchiveWord w) (ps : ElementSpec)
-    (e : Encoding P) (pe : IsElement ps) (pk : IsScalar ps e) (place : IsPlace w e)
+    (e : Encoding P) (pe : IsElement ps) (pk : IsScalar ps e) (index : IsIndexEncoding w e)
     (back : CodesReadBack e) (k v : ElementSpec)
     (kl : IsElement k) (vl : IsElement v)
     (key : List ℕ → ℕ → A → Type 0) (value : List ℕ → ℕ → B → Type 0) (kf : Format A R)
@@ -417,16 +417,16 @@ pub index_is_format : {P A B R Q : Type 0} (w : Width) (kind : IsArchiveWord w) 
     → (own : A → ℕ) (hash : List ℕ → ℕ → ℕ) → HashesAlike k key hash own → (factor : ℕ × ℕ)
     → IsFormat (index_spec w (entry_spec k v)) (IndexRepresents w k v key value hash factor)
     (index_format w ps e k v kf vf own factor)
-index_is_format w kind ps e pe pk place back k v kl vl key value kf vf kw vw own hash same_hash
+index_is_format w kind ps e pe pk index back k v kl vl key value kf vf kw vw own hash same_hash
     factor =
-    row_is_format w kind ps e pe pk place back (entry_spec k v) (entry_element k v kl vl)
+    row_is_format w kind ps e pe pk index back (entry_spec k v) (entry_element k v kl vl)
     (PairRepresents k v key value) (pair_format k v kf vf) (pair_is_format k v kl vl key value kf vf
     kw vw)
     (λ pair. own pair.0) hash (λ pair b q h st. same_hash pair.0 b q (h.1.1, h.1.2) st.0) factor
 
 module _ {State : Type 0} (hasher : Hasher State)
     (w : Width) (kind : IsArchiveWord w) {P : Type 0} (ps : ElementSpec) (e : Encoding P)
-    (pe : IsElement ps) (pk : IsScalar ps e) (place : IsPlace w e) (back : CodesReadBack e)
+    (pe : IsElement ps) (pk : IsScalar ps e) (index : IsIndexEncoding w e) (back : CodesReadBack e)
     {k v : ElementSpec} (kl : IsElement k) (vl : IsElement v) {A B : Type 0} {key : List ℕ → ℕ → A
     → Type 0} {value : List ℕ → ℕ → B → Type 0} {same : Comparison} {key_calls : List ℕ → ℕ
     → List HasherCall} (factor : ℕ × ℕ) where
@@ -440,7 +440,7 @@ module _ {State : Type 0} (hasher : Hasher State)
       (hash_at hasher key_calls) factor) (index_format w ps e k v kf vf
       (hash_of hasher calls) factor)
   index_sound {can_read} {calls} {fits} {equal} {R} {Q} {kf} {vf} query native itself reads kw vw =
-      index_is_format w kind ps e pe pk place back k v kl vl key value kf vf kw vw
+      index_is_format w kind ps e pe pk index back k v kl vl key value kf vf kw vw
       (hash_of hasher calls) (hash_at hasher key_calls)
       (λ a b q valid there. ap (hash_of_calls hasher) (hashes_as_written k same
       key_calls can_read calls fits key equal itself query native a b q (reads a) valid there))

@@ -2,16 +2,16 @@
 use Rattle.std.proofs.Common.{arith, refl, sym, ◌∙◌, ap, subst, zero, length-append}
 use Rattle.std.proofs.lemmas.Option.{none-some, same_Some}
 use Rattle.std.specs.Prelude.{◌≡◌, ℕ, suc, ◌+◌, ◌*◌, ◌%◌, ◌≤◌, List, [], ◌∷◌, ◌++◌, length}
-use Rattle.std.specs.Prelude.{slice_get, Some}
+use Rattle.std.specs.Prelude.{Some, slice_get}
 use Rattle.std.specs.List.{range_with_len}
 use Rattle.rkyv_base.specs.Bytes.{OccursAt}
 use Rattle.rkyv_base.specs.Lemmas.Bytes.{occurs_back, occurs_front}
 use Rattle.rkyv_base.specs.Format.{Format, IsFormat}
-use Rattle.rkyv_base.specs.ElementSpec.{IsElement, ElementSpec, ValidAt}
-use Rattle.rkyv_base.specs.Lemmas.ElementSpec.{valid_at, sum_multiple}
-use Rattle.rkyv_table.specs.Lemmas.PlaceLaws.{all_lower}
+use Rattle.rkyv_base.specs.ElementSpec.{ElementSpec, IsElement, ValidAt}
+use Rattle.rkyv_base.specs.Lemmas.ElementSpec.{sum_multiple, valid_at}
+use Rattle.rkyv_table.specs.Lemmas.ValidItemLaws.{all_lower}
 use Rattle.rkyv_table.specs.Lemmas.SlotSound.{same_both}
-use Rattle.rkyv_table.specs.Table.Places.{AllHold}
+use Rattle.rkyv_table.specs.Table.ValidItems.{AreValidAt}
 use Rattle.rkyv_index.specs.Index.Row.{RowImages, RowParts}
 
 next_times : (n size : ℕ) → (n + 1) * size ≡ n * size + size
@@ -58,7 +58,7 @@ module _ {X R : Type 0} (s : ElementSpec) (laws : IsElement s) (represents : Lis
     -- the values from the index `n` on are valid and represented
     pub row_sound : (xs : List X) (n p : ℕ) (part out : List ℕ) (rs : List R) → RowParts f xs p part
         rs → RowImages f xs rs (at n) out → OccursAt c p part → OccursAt c (at n) out
-        → p + length part ≤ begin → at n % s.align ≡ 0 → (l : ℕ) × AllHold s at c begin
+        → p + length part ≤ begin → at n % s.align ≡ 0 → (l : ℕ) × AreValidAt s at c begin
         (range_with_len n (length xs)) p l × (l ≤ p + length part) × RowRepresent n xs
     row_sound [] n p part out rs m i sp so o al = (
       p,

@@ -57,6 +57,6 @@ module _ {K H W : Type 0} {ks : Specs K} {wt : Words W} where
   abbrev pub IsMemberOf : ArchivedIndexSet K H W ks wt → ℕ → View K → Type 0
   IsMemberOf s i key = IsKeyOf (keys_of s) i key
 
-  -- `result`: the key at the index `place`, or `None` if `place` is `None`
+  -- `result`: the key at `index`, or `None` if `index` is `None`
   abbrev pub IsMemberAt : ArchivedIndexSet K H W ks wt → Option (View K) → Option ℕ → Type 0
-  IsMemberAt s result place = MatchesAt (IsMemberOf s) result place
+  IsMemberAt s result index = MatchesAt (IsMemberOf s) result index

@@ -1,7 +1,7 @@
 -- The format of a list as an index set: that of an index map of the items to the unit value.
 use Rattle.std.specs.Prelude.{ℕ, List}
 use Rattle.std.specs.Int.{Width}
-use Rattle.rkyv_base.specs.Empty.{unit_format, unit_spec, unit_represents}
+use Rattle.rkyv_base.specs.Empty.{unit_format, unit_represents, unit_spec}
 use Rattle.rkyv_base.specs.Format.{Format}
 use Rattle.rkyv_base.specs.Pairs.{written_as}
 use Rattle.rkyv_base.specs.Scalar.{Encoding}

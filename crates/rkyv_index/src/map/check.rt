@@ -9,7 +9,7 @@ ghost use Rattle.std.specs.Prelude.{true, ◌+◌, ◌-◌, ◌<◌, ◌≡◌, 
 ghost use Rattle.std.specs.Int.{byte_len};
 ghost use Rattle.rkyv_base.specs.ElementSpec.{Viewable};
 ghost use Rattle.rkyv_table.specs.Table.Header.{len_at};
-ghost use Rattle.rkyv_table.specs.Table.Places.{FirstFails, SomeHold};
+ghost use Rattle.rkyv_table.specs.Table.ValidItems.{AreValid, FirstFails};
 ghost use Rattle.rkyv_table.specs.Table.Positions.{item_positions};
 ghost use Rattle.rkyv_table.specs.Table.Layout.{table_spec};
 ghost use Rattle.rkyv_index.specs.Index.IndexLayout.{
@@ -17,11 +17,11 @@ ghost use Rattle.rkyv_index.specs.Index.IndexLayout.{
   EntriesFail,
   EntriesIn,
   FirstNotBelow,
-  PlacesBelow,
+  IndicesBelow,
   decode_entries,
   entry_at,
-  place_spec,
-  places_of,
+  indices_of,
+  stored_index_spec,
 };
 
 use rkyv_base::element::{Element, PartRange};
@@ -48,10 +48,10 @@ fn buckets_begin<W: Width>(header: Decoded) -> usize
 
 /// Returns `true` only if `below` is and the index is below `len`.
 #[inline]
-fn and_below(below: bool, place: u64, len: usize) -> bool
-    ensures { result ≡ true → (below ≡ true) × (place < len) }
+fn and_below(below: bool, index: u64, len: usize) -> bool
+    ensures { result ≡ true → (below ≡ true) × (index < len) }
 {
-    if place < len as u64 { below } else { false }
+    if index < len as u64 { below } else { false }
 }
 
 /// Returns `true` only if each of the `count` indices from `begin` on is below `len`.
@@ -80,24 +80,24 @@ fn all_below<W: Width>(bytes: &[u8], begin: usize, count: usize, len: usize) -> 
 /// # Errors
 ///
 /// - `PlaceOutOfRange`: the first index that isn't below the length.
-pub(crate) fn check_places<W: Width>(bytes: &[u8], pos: u64) -> Result<usize, VerifyError>
-    requires { Viewable (table_spec W.word (place_spec W.word)) bytes.now pos }
-    ensures below { IfOk result (λ _. PlacesBelow W.word bytes.now (len_at W.word bytes.now pos)
+pub(crate) fn check_indices<W: Width>(bytes: &[u8], pos: u64) -> Result<usize, VerifyError>
+    requires { Viewable (table_spec W.word (stored_index_spec W.word)) bytes.now pos }
+    ensures below { IfOk result (λ _. IndicesBelow W.word bytes.now (len_at W.word bytes.now pos)
         (item_positions W.word (byte_len W.word) bytes.now pos)) }
     ensures len { IfOk result (λ n. n ≡ len_at W.word bytes.now pos) }
     ensures fails { IfErr result (FirstNotBelow W.word bytes.now (len_at W.word bytes.now pos)
         (item_positions W.word (byte_len W.word) bytes.now pos)) }
 {
-    let table = ArchivedHashTable::<W::Place, W>::of(View::new(bytes, pos));
+    let table = ArchivedHashTable::<W::Index, W>::of(View::new(bytes, pos));
     let len = table.len();
     let header = table.header();
     if all_below::<W>(bytes, buckets_begin::<W>(header), header.capacity(), len) {
         return Ok(len);
     }
     for at in table.raw_iter() {
-        let place = W::read_count(bytes, at as usize) as usize;
-        if place >= len {
-            return Err(VerifyError::PlaceOutOfRange { place, len });
+        let index = W::read_count(bytes, at as usize) as usize;
+        if index >= len {
+            return Err(VerifyError::PlaceOutOfRange { place: index, len });
         }
     }
     Ok(len)
@@ -122,10 +122,10 @@ fn check_entries<T: Element>(
     requires inside { begin + len * T.spec.size ≤ length bytes.now }
     requires aligned { begin % T.spec.align ≡ 0 }
     requires ordered { lo ≤ begin }
-    ensures hold { IfOk result (λ _. SomeHold T.spec (entry_at T.spec.size begin) bytes.now begin
-        (places_of len) lo) }
+    ensures hold { IfOk result (λ _. AreValid T.spec (entry_at T.spec.size begin) bytes.now begin
+        (indices_of len) lo) }
     ensures fails { IfErr result (FirstFails T.spec (entry_at T.spec.size begin) bytes.now begin
-        (places_of len) lo) }
+        (indices_of len) lo) }
 {
     let mut low = lo;
     let mut at = begin;

@@ -5,7 +5,7 @@ ghost use Rattle.rkyv_index.specs.Index.IndexLayout.{index_spec};
 ghost use Rattle.rkyv_index.specs.Lemmas.IndexLaws.{index_element};
 
 use crate::map::IndexMapOf;
-use crate::map::check::{check_part, check_places};
+use crate::map::check::{check_indices, check_part};
 use rkyv_base::element::{Element, HasSpec, PartRange};
 use rkyv_base::entry::Entry;
 use rkyv_base::errors::VerifyError;
@@ -31,8 +31,8 @@ impl<K: Element, V: Element, H, W: Width> Element for IndexMapOf<K, V, H, W> {
     }
 
     fn check(bytes: &[u8], pos: u64, range: PartRange) -> Result<PartRange, VerifyError> {
-        let rest = ArchivedHashTable::<W::Place, W>::verify(bytes, pos, range)?;
-        let len = check_places::<W>(bytes, pos)?;
+        let rest = ArchivedHashTable::<W::Index, W>::verify(bytes, pos, range)?;
+        let len = check_indices::<W>(bytes, pos)?;
         let end = check_part::<W, Entry<K, V>>(bytes, pos, len, rest)?;
         Ok(PartRange {
             lo: end,

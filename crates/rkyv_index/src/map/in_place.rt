@@ -33,20 +33,20 @@ use rkyv_base::width::Width;
 use rkyv_keys::keys::KeyElement;
 use rkyv_scan::hash::KeyHasher;
 
-/// Returns the position of the value at the index `place`, in the map at `root` of an archive.
+/// Returns the position of the value at `index`, in the map at `root` of an archive.
 #[inline]
-fn value_pos_at<K: Element, V: Element, H, W: Width>(archive: &[u8], root: u64, place: usize) -> u64
+fn value_pos_at<K: Element, V: Element, H, W: Width>(archive: &[u8], root: u64, index: usize) -> u64
     requires map { Viewable (index_spec W.word (entry_spec K.spec V.spec)) archive.now root }
-    requires below { place < len_at W.word archive.now root }
+    requires below { index < len_at W.word archive.now root }
     ensures at { result ≡ value_pos K.spec V.spec
-        (pair_at W.word K.spec V.spec archive.now root place) }
+        (pair_at W.word K.spec V.spec archive.now root index) }
     ensures inside { result + V.spec.size ≤ length archive.now }
 {
     let map = ArchivedIndexMap::<K, V, H, W>::of(View::new(archive, root));
-    map.entries().entry(place).value().pos()
+    map.entries().entry(index).value().pos()
 }
 
-/// Writes the value at the index `place` of the map at `root` of an archive.
+/// Writes the value at `index` of the map at `root` of an archive.
 ///
 /// All other bytes are unchanged. `get_index_of` returns the index of a key.
 ///
@@ -56,15 +56,15 @@ fn value_pos_at<K: Element, V: Element, H, W: Width>(archive: &[u8], root: u64, 
 /// # Requires
 ///
 /// - The archive has a valid index map at `root`.
-/// - `place` is below the length of the map.
+/// - `index` is below the length of the map.
 ///
 /// # Examples
 ///
 /// ```rust
-/// match place_of::<K, N, H, W, Q>(&*bytes, root, key) {
-///     Some(place) => {
-///         set_value_at::<A, K, N, H, W>(bytes, root, place, value);
-///         Ok(Some(place))
+/// match index_of::<K, N, H, W, Q>(&*bytes, root, key) {
+///     Some(index) => {
+///         set_value_at::<A, K, N, H, W>(bytes, root, index, value);
+///         Ok(Some(index))
 ///     }
 ///     None => Ok(None),
 /// }
@@ -72,22 +72,22 @@ fn value_pos_at<K: Element, V: Element, H, W: Width>(archive: &[u8], root: u64, 
 pub fn set_value_at<A, K: KeyElement + Represents<A>, N: Scalar, H: KeyHasher, W: Width>(
     archive: &mut [u8],
     root: u64,
-    place: usize,
+    index: usize,
     value: N,
 )
     requires map { Viewable (index_spec W.word (entry_spec K.spec N.spec))
         archive.old root }
-    requires below { place < len_at W.word archive.old root }
+    requires below { index < len_at W.word archive.old root }
     ensures written { archive.new ≡ with_value N.encoding archive.old
         (value_pos K.spec N.spec
-        (pair_at W.word K.spec N.spec archive.old root place)) value }
+        (pair_at W.word K.spec N.spec archive.old root index)) value }
     ensures kept { KeepsIndexMap
         (index_kind W.word K.spec N.spec (hash_at H.hasher K.key_calls))
-        archive.old archive.new root place }
+        archive.old archive.new root index }
     ensures listed { SetsValue
         (IndexRepresents W.word K.spec N.spec K.represents (ScalarRepresents N.encoding)
-        (hash_at H.hasher K.key_calls)) archive.old archive.new root place value }
+        (hash_at H.hasher K.key_calls)) archive.old archive.new root index value }
 {
-    let pos = value_pos_at::<K, N, H, W>(&*archive, root, place);
+    let pos = value_pos_at::<K, N, H, W>(&*archive, root, index);
     set_at(archive, pos as usize, value);
 }

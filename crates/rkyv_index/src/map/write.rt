@@ -7,19 +7,19 @@
 
 ghost use Rattle.std.specs.Prelude.{◌≡◌, ◌<◌, ◌≤◌, [], length, vec_capacity};
 ghost use Rattle.rkyv_table.specs.Table.Serializing.{HasCapacity};
-ghost use Rattle.rkyv_index.specs.Index.Writing.{WritesEntries, WritesPlaces, hashed, hashed_row};
+ghost use Rattle.rkyv_index.specs.Index.Writing.{WritesEntries, WritesIndices, hashed, hashed_row};
 ghost use Rattle.rkyv_index.specs.Index.IndexFormat.{indices};
 
-pub(crate) mod places;
+pub(crate) mod hashed_indices;
 pub mod resolve;
 mod row;
 pub mod serialize;
 mod source;
 
-use crate::map::write::places::{HashedEntry, HashedPlaces};
+use crate::map::write::hashed_indices::{HashedEntry, HashedIndices};
 use crate::map::write::resolve::IndexMapResolver;
 use crate::map::write::row::{serialize_row, write_row};
-use crate::width::PlaceWidth;
+use crate::width::IndexMapWidth;
 use rkyv_base::archive::{Serialize, WriteResult};
 use rkyv_base::writer::{Writer, align_for_in};
 use rkyv_scan::simd::lanes;
@@ -29,7 +29,7 @@ use std::alloc::Global;
 
 // Writes the table of the indices of `entries`, each under the hash of its entry.
 #[inline]
-fn write_places<W: PlaceWidth, H, S: Writer, U: HashedEntry<H>>(
+fn write_indices<W: IndexMapWidth, H, S: Writer, U: HashedEntry<H>>(
     alloc: Global,
     entries: &[U],
     load_factor: (usize, usize),
@@ -37,24 +37,24 @@ fn write_places<W: PlaceWidth, H, S: Writer, U: HashedEntry<H>>(
 ) -> WriteResult<HashTableResolver<W>, S>
     requires capacity { HasCapacity (length entries.now) load_factor W.MAX_CAPACITY }
     requires hashes { (entry : U) → U.can_hash entry }
-    ensures { WritesPlaces W.Width (indices W.Place.spec W.Place.encoding)
+    ensures { WritesIndices W.Width (indices W.Index.spec W.Index.encoding)
         (hashed U.hash load_factor entries.now)
         (S.output serializer.old) (S.output serializer.new) result }
 {
-    let places = HashedPlaces::<'_, U, H, W>::new(entries);
-    ArchivedHashTable::<W::Place, W>::serialize_by::<
+    let indices = HashedIndices::<'_, U, H, W>::new(entries);
+    ArchivedHashTable::<W::Index, W>::serialize_by::<
         lanes::Group,
         S,
-        W::Place,
-        W::Place,
-        HashedPlaces<'_, U, H, W>,
-    >(alloc, places, entries.len(), load_factor, serializer)
+        W::Index,
+        W::Index,
+        HashedIndices<'_, U, H, W>,
+    >(alloc, indices, entries.len(), load_factor, serializer)
 }
 
 // Writes the table of indices, the parts of the entries, zeros and the entries.
 //
 // Returns the resolver of the index map.
-pub(crate) fn write_index<W: PlaceWidth, H, S: Writer, U: HashedEntry<H> + Serialize<S, W>>(
+pub(crate) fn write_index<W: IndexMapWidth, H, S: Writer, U: HashedEntry<H> + Serialize<S, W>>(
     alloc: Global,
     entries: &[U],
     resolvers: Vec<U::Resolver>,
@@ -67,11 +67,11 @@ pub(crate) fn write_index<W: PlaceWidth, H, S: Writer, U: HashedEntry<H> + Seria
     requires empty { resolvers.items ≡ [] }
     requires resolvers { length entries.now ≤ vec_capacity resolvers }
     requires room { 0 < length entries.now → length scratch.old ≡ U.Archived.spec.size }
-    ensures { WritesEntries W.Width (indices W.Place.spec W.Place.encoding)
+    ensures { WritesEntries W.Width (indices W.Index.spec W.Index.encoding)
         (hashed_row U.Archived.spec U.format U.hash load_factor entries.now)
         (S.output serializer.old) (S.output serializer.new) result }
 {
-    let table = write_places::<W, H, _, _>(alloc, entries, load_factor, serializer)?;
+    let table = write_indices::<W, H, _, _>(alloc, entries, load_factor, serializer)?;
     let mut kept = resolvers;
     serialize_row::<W, _, _>(alloc, entries, &mut kept, serializer)?;
     let pos = align_for_in::<W, U::Archived, _>(serializer)?;

@@ -11,11 +11,11 @@ ghost use Rattle.rkyv_base.specs.Empty.{unit_spec};
 ghost use Rattle.rkyv_base.specs.Entry.{entry_spec};
 ghost use Rattle.rkyv_base.specs.View.{IsAt, IsValidView, archive_of, pos_of};
 ghost use Rattle.rkyv_table.specs.Table.RawItems.{AllValid};
-ghost use Rattle.rkyv_index.specs.Index.{IsFoundAt, IsStoredIndex, IsKeyOf, index_archive};
+ghost use Rattle.rkyv_index.specs.Index.{IsFoundAt, IsKeyOf, IsStoredIndex, index_archive};
 ghost use Rattle.rkyv_index.specs.Index.{index_len, key_positions};
 ghost use Rattle.rkyv_index.specs.Set.IndexSet.{IsMemberAt, index_set_spec, keys_of};
-ghost use Rattle.rkyv_index.specs.Index.Lookups.{GetsKey, FoundKeyHas, full_key_part, key_part};
-ghost use Rattle.rkyv_index.specs.Index.Lookups.{place_part};
+ghost use Rattle.rkyv_index.specs.Index.Lookups.{FoundKeyHas, GetsKey, full_key_part, key_part};
+ghost use Rattle.rkyv_index.specs.Index.Lookups.{index_part};
 ghost use Rattle.rkyv_keys.specs.KeyLookup.{query_of};
 
 use crate::map::read::iter::Keys;
@@ -86,12 +86,12 @@ impl<'a, K: Element, H, W: Width> ArchivedIndexSet<'a, K, H, W> {
     /// }
     /// ```
     #[inline]
-    pub fn get_index(self, place: usize) -> Option<View<'a, K>>
+    pub fn get_index(self, index: usize) -> Option<View<'a, K>>
         ensures { MatchOption result
-            (index_len (keys_of self.entry) ≤ place)
-            (λ key. IsKeyOf (keys_of self.entry) place key) }
+            (index_len (keys_of self.entry) ≤ index)
+            (λ key. IsKeyOf (keys_of self.entry) index key) }
     {
-        match self.map.get_index(place) {
+        match self.map.get_index(index) {
             Some((key, _)) => Some(key),
             None => None,
         }
@@ -152,7 +152,7 @@ impl<'a, K: KeyElement, H: KeyHasher, W: Width> ArchivedIndexSet<'a, K, H, W> {
             (query_of H.hasher K.key_calls K.same (Q.calls key.now) (Q.fits key.now)) result }
     {
         match self.map.get_full(key) {
-            Some((place, stored, _)) => Some((place, stored)),
+            Some((index, stored, _)) => Some((index, stored)),
             None => None,
         }
     }
@@ -187,12 +187,12 @@ impl<'a, K: KeyElement, H: KeyHasher, W: Width> ArchivedIndexSet<'a, K, H, W> {
 
     /// Returns the key at a found index.
     #[inline]
-    fn key_of(self, place: Option<usize>) -> Option<View<'a, K>>
-        requires stored { IfSome place (IsStoredIndex (keys_of self)) }
-        ensures { IsMemberAt self.entry result place }
+    fn key_of(self, index: Option<usize>) -> Option<View<'a, K>>
+        requires stored { IfSome index (IsStoredIndex (keys_of self)) }
+        ensures { IsMemberAt self.entry result index }
     {
-        match place {
-            Some(place) => Some(self.map.entries().entry(place).key()),
+        match index {
+            Some(index) => Some(self.map.entries().entry(index).key()),
             None => None,
         }
     }
@@ -219,7 +219,7 @@ impl<'a, K: KeyElement, H: KeyHasher, W: Width> ArchivedIndexSet<'a, K, H, W> {
     #[inline]
     pub fn get_index_of<Q: Query<K>>(self, key: &Q) -> Option<usize>
         requires query { Q.can_read key.now }
-        ensures { GetsKey place_part (keys_of self.entry)
+        ensures { GetsKey index_part (keys_of self.entry)
             (query_of H.hasher K.key_calls K.same (Q.calls key.now) (Q.fits key.now)) result }
     {
         self.map.get_index_of(key)

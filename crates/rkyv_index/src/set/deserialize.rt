@@ -12,17 +12,17 @@ use rkyv_keys::deserialize::Deserialize;
 use std::alloc::Global;
 
 impl<'a, K: Element, H, W: Width> ArchivedIndexSet<'a, K, H, W> {
-    // Deserializes the key at the index `place`.
+    // Deserializes the key at `index`.
     #[inline]
-    fn read_item<A>(self, alloc: Global, place: usize) -> Result<A, ReadError>
+    fn read_item<A>(self, alloc: Global, index: usize) -> Result<A, ReadError>
     where
         K: Deserialize<A>,
-        requires below { place < index_len (keys_of self) }
-        ensures { let at = key_pos (keys_of self.entry) place in
+        requires below { index < index_len (keys_of self) }
+        ensures { let at = key_pos (keys_of self.entry) index in
             MatchResult result (K.represents (set_bytes self.entry) at)
             (K.deserialize_fails (set_bytes self.entry) at) }
     {
-        K::deserialize(alloc, self.map.entries().entry(place).key())
+        K::deserialize(alloc, self.map.entries().entry(index).key())
     }
 
     /// Deserializes the keys into a list, in order.
@@ -50,8 +50,8 @@ impl<'a, K: Element, H, W: Width> ArchivedIndexSet<'a, K, H, W> {
             (set_pos self.entry)) }
     {
         let mut list = Vec::new(alloc);
-        for place in 0..self.len() {
-            let item = self.read_item(alloc, place)?;
+        for index in 0..self.len() {
+            let item = self.read_item(alloc, index)?;
             match list.push(item) {
                 Ok(()) => {}
                 Err(_) => return Err(ReadError::Memory),

@@ -34,7 +34,7 @@ pub fn items_read_back_are_listed<
 ///
 /// The set is the root of an archive, and represents the list.
 ///
-/// - `place`: `get_index_of` finds its index, and `None` if the list has no such key.
+/// - `index`: `get_index_of` finds its index, and `None` if the list has no such key.
 /// - `member`: `contains` is `true` if and only if the list has such a key.
 pub fn members_found_are_listed<
     A,

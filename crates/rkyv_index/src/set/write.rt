@@ -15,7 +15,7 @@ use crate::map::ArchivedIndexMap;
 use crate::map::write::resolve::IndexMapResolver;
 use crate::map::write::serialize::ListFormat;
 use crate::set::{ArchivedIndexSet, IndexSetOf};
-use crate::width::PlaceWidth;
+use crate::width::IndexMapWidth;
 use rkyv_base::archive::{Archive, ResolveResult, Serialize, WriteResult};
 use rkyv_base::element::{Element, Represents};
 use rkyv_base::lend::Lend;
@@ -30,17 +30,17 @@ use std::alloc::Global;
 /// The resolver of a written index set: that of the index map of its keys.
 pub type IndexSetResolver<W = Narrow> = IndexMapResolver<W>;
 
-impl<K: Element, H: KeyHasher, W: PlaceWidth, A: KeyHash + Archive<W>, BK: Lend<A>> ListFormat<
+impl<K: Element, H: KeyHasher, W: IndexMapWidth, A: KeyHash + Archive<W>, BK: Lend<A>> ListFormat<
     BK,
     A,
 > for IndexSetOf<K, H, W> {
     ghost format = { λ load_factor. written_as (key_values BK.lent)
-        (index_set_format W.word W.Place.spec W.Place.encoding K.spec A.format (hash_of
+        (index_set_format W.word W.Index.spec W.Index.encoding K.spec A.format (hash_of
         H.hasher A.calls)
         load_factor) };
 }
 
-impl<'a, K: KeyElement, H: KeyHasher, W: PlaceWidth> ArchivedIndexSet<'a, K, H, W> {
+impl<'a, K: KeyElement, H: KeyHasher, W: IndexMapWidth> ArchivedIndexSet<'a, K, H, W> {
     /// Writes an index set of `len` keys and returns its resolver.
     ///
     /// The keys are themselves or references. The bytes are those of the index map of the keys

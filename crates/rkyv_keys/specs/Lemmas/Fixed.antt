@@ -1,8 +1,8 @@
 -- Lemmas: keys that hash alike under every rule for `usize` and `isize`.
 use Rattle.std.specs.Prelude.{ℕ, ◌+◌, List, [], ◌∷◌, All}
-use Rattle.std.proofs.lemmas.List.Elements.{All-cons, All-append}
+use Rattle.std.proofs.lemmas.List.Elements.{All-append, All-cons}
 use Rattle.std.proofs.Common.{arith}
-use Rattle.rkyv_scan.specs.Hash.{HasherCall, Bytes, U8}
+use Rattle.rkyv_scan.specs.Hash.{Bytes, HasherCall, U8}
 use Rattle.rkyv_scan.specs.Laws.{IsFixed}
 use Rattle.rkyv_base.specs.ElementSpec.{ElementSpec, IsElement}
 use Rattle.rkyv_base.specs.Entry.{entry_spec, value_offset}

@@ -5,9 +5,9 @@ use Rattle.std.proofs.Common.{refl, sym, ◌∙◌, ap}
 use Rattle.rkyv_scan.specs.Hash.{HasherCall}
 use Rattle.rkyv_base.specs.ElementSpec.{ElementSpec}
 use Rattle.rkyv_base.specs.Format.{RepresentsLocally}
-use Rattle.rkyv_keys.specs.Equality.{IsEquivalence, DecidesEquality}
-use Rattle.rkyv_keys.specs.Keys.{IsKey, IsQuery, FitsItsEqual, ReadsAnywhere}
-use Rattle.rkyv_keys.specs.OfValues.{values_same, value_calls, value_fits, ValueRepresents}
+use Rattle.rkyv_keys.specs.Equality.{DecidesEquality, IsEquivalence}
+use Rattle.rkyv_keys.specs.Keys.{FitsItsEqual, IsKey, IsQuery, ReadsAnywhere}
+use Rattle.rkyv_keys.specs.OfValues.{ValueRepresents, value_calls, value_fits, values_same}
 
 module _ {V : Type 0} (s : ElementSpec) (value_at : List ℕ → ℕ → V) (equal : V → V → Bool)
     (decides : DecidesEquality equal) where

@@ -3,10 +3,10 @@ use Rattle.std.specs.Prelude.{◌≡◌, ℕ, Bool, true, List}
 use Rattle.std.proofs.Common.{sym, ◌∙◌, arith}
 use Rattle.std.proofs.lemmas.Bool.Decides.{same_from_decides}
 use Rattle.rkyv_scan.specs.Hash.{HasherCall}
-use Rattle.rkyv_base.specs.ElementSpec.{IsElement, ElementSpec, ValidAt}
+use Rattle.rkyv_base.specs.ElementSpec.{ElementSpec, IsElement, ValidAt}
 use Rattle.rkyv_keys.specs.Equality.{Comparison, IsEquivalence, RepresentsOnce}
 use Rattle.rkyv_keys.specs.Keys.{FitsItsEqual, IsKey, IsQuery}
-use Rattle.rkyv_keys.specs.QueryLaws.{HashesAsWritten, FitsByValue, RestsOnKeys}
+use Rattle.rkyv_keys.specs.QueryLaws.{FitsByValue, HashesAsWritten, RestsOnKeys}
 
 module _ {V : Type 0} (s : ElementSpec) (same : Comparison) (key_calls : List ℕ → ℕ
     → List HasherCall)

@@ -3,10 +3,10 @@
 //! A match marks the equal bytes and no others. The mask has one flag for each index.
 ghost use Rattle.std.specs.Prelude.{◌≡◌, ℕ, false};
 ghost use Rattle.std.specs.Iterator.{YieldsFirst, item_count};
-ghost use Rattle.rkyv_scan.specs.Groups.{flag_places, bytewise_kind, IsFirstFlag};
+ghost use Rattle.rkyv_scan.specs.Groups.{IsFirstFlag, bytewise_kind, flag_indices};
 ghost use Rattle.rkyv_scan.specs.Lemmas.Ascending.{flags_ascend};
 ghost use Rattle.rkyv_scan.specs.Lemmas.KindLaws.{equal_lawful};
-ghost use Rattle.std.proofs.Common.{refl, arith};
+ghost use Rattle.std.proofs.Common.{arith, refl};
 
 use crate::simd::{GroupKind, Marks};
 use std::simd::prelude::*;
@@ -27,16 +27,16 @@ impl Bitmask {
 fn first(marks: &[bool; 8]) -> usize
     ensures { IsFirstFlag marks.now result }
 {
-    for place in 0..8 {
-        if marks[place] {
-            return place;
+    for index in 0..8 {
+        if marks[index] {
+            return index;
         }
     }
     8
 }
 
 impl Marks for Bitmask {
-    ghost places = { λ m. flag_places m.marks };
+    ghost indices = { λ m. flag_indices m.marks };
 
     ghost ascend = { λ m. flags_ascend m.marks };
 
@@ -53,31 +53,31 @@ impl Marks for Bitmask {
 
     #[inline]
     fn remove_lowest_bit(self) -> Self {
-        let place = first(&self.marks);
+        let index = first(&self.marks);
         let mut marks = self.marks;
-        marks[place] = false;
+        marks[index] = false;
         Bitmask { marks }
     }
 
     #[inline]
     fn lowest_set_bit(self) -> Option<usize> {
-        let place = first(&self.marks);
-        if place < 8 { Some(place) } else { None }
+        let index = first(&self.marks);
+        if index < 8 { Some(index) } else { None }
     }
 }
 
 impl Iterator for Bitmask {
     type Item = usize;
 
-    ghost next_gives = { YieldsFirst (λ m. flag_places m.marks) };
+    ghost next_gives = { YieldsFirst (λ m. flag_indices m.marks) };
 
-    ghost remaining = { item_count (λ m. flag_places m.marks) };
+    ghost remaining = { item_count (λ m. flag_indices m.marks) };
 
     #[inline]
     fn next(&mut self) -> Option<usize> {
-        let place = self.lowest_set_bit()?;
+        let index = self.lowest_set_bit()?;
         *self = self.remove_lowest_bit();
-        Some(place)
+        Some(index)
     }
 }
 
@@ -112,8 +112,8 @@ impl GroupKind for Group {
     #[inline]
     fn match_byte(self, byte: u8) -> Bitmask {
         let mut marks = [false; 8];
-        for place in 0..8 {
-            marks[place] = self.bytes[place] == byte;
+        for index in 0..8 {
+            marks[index] = self.bytes[index] == byte;
         }
         Bitmask { marks }
     }
@@ -121,8 +121,8 @@ impl GroupKind for Group {
     #[inline]
     fn match_empty(self) -> Bitmask {
         let mut marks = [false; 8];
-        for place in 0..8 {
-            marks[place] = self.bytes[place] >= 0x80;
+        for index in 0..8 {
+            marks[index] = self.bytes[index] >= 0x80;
         }
         Bitmask { marks }
     }
@@ -130,8 +130,8 @@ impl GroupKind for Group {
     #[inline]
     fn match_full(self) -> Bitmask {
         let mut marks = [false; 8];
-        for place in 0..8 {
-            marks[place] = self.bytes[place] < 0x80;
+        for index in 0..8 {
+            marks[index] = self.bytes[index] < 0x80;
         }
         Bitmask { marks }
     }

@@ -4,8 +4,8 @@
 //! of the word's bytes. `match_byte` may also mark a byte right after a marked one.
 ghost use Rattle.std.specs.Prelude.{◌≡◌, ℕ, ◌*◌, bit_and};
 ghost use Rattle.std.specs.Iterator.{YieldsFirst, item_count};
-ghost use Rattle.std.specs.Int.{w64, to_le_bytes};
-ghost use Rattle.rkyv_scan.specs.Groups.{mask_places, generic_kind};
+ghost use Rattle.std.specs.Int.{to_le_bytes, w64};
+ghost use Rattle.rkyv_scan.specs.Groups.{generic_kind, mask_indices};
 ghost use Rattle.rkyv_scan.specs.Lemmas.Ascending.{mask_ascends};
 ghost use Rattle.rkyv_scan.specs.Lemmas.KindLaws.{word_lawful};
 ghost use Rattle.std.proofs.Common.{refl};
@@ -33,7 +33,7 @@ impl Bitmask {
 }
 
 impl Marks for Bitmask {
-    ghost places = { λ m. mask_places 8 7 8 m.bits };
+    ghost indices = { λ m. mask_indices 8 7 8 m.bits };
 
     ghost ascend = { λ m. mask_ascends 8 7 8 m.bits };
 
@@ -67,15 +67,15 @@ impl Marks for Bitmask {
 impl Iterator for Bitmask {
     type Item = usize;
 
-    ghost next_gives = { YieldsFirst (λ m. mask_places 8 7 8 m.bits) };
+    ghost next_gives = { YieldsFirst (λ m. mask_indices 8 7 8 m.bits) };
 
-    ghost remaining = { item_count (λ m. mask_places 8 7 8 m.bits) };
+    ghost remaining = { item_count (λ m. mask_indices 8 7 8 m.bits) };
 
     #[inline]
     fn next(&mut self) -> Option<usize> {
-        let place = self.lowest_set_bit()?;
+        let index = self.lowest_set_bit()?;
         *self = self.remove_lowest_bit();
-        Some(place)
+        Some(index)
     }
 }
 

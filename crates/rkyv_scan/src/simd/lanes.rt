@@ -3,11 +3,11 @@
 //! A match marks the equal bytes and no others. The mask has one bit for each index.
 ghost use Rattle.std.specs.Prelude.{◌≡◌, ℕ, length};
 ghost use Rattle.std.specs.Iterator.{YieldsFirst, item_count};
-ghost use Rattle.rkyv_scan.specs.Groups.{mask_places, lanes_kind};
+ghost use Rattle.rkyv_scan.specs.Groups.{lanes_kind, mask_indices};
 ghost use Rattle.rkyv_scan.specs.Lemmas.Ascending.{mask_ascends};
 ghost use Rattle.rkyv_scan.specs.Lemmas.KindLaws.{equal_lawful};
 ghost use Rattle.rkyv_scan.specs.Paired.{MarksEqual};
-ghost use Rattle.std.proofs.Common.{refl, arith};
+ghost use Rattle.std.proofs.Common.{arith, refl};
 
 use crate::simd::{GroupKind, Marks};
 use std::simd::prelude::*;
@@ -32,7 +32,7 @@ impl Bitmask {
 }
 
 impl Marks for Bitmask {
-    ghost places = { λ m. mask_places 1 0 16 m.bits };
+    ghost indices = { λ m. mask_indices 1 0 16 m.bits };
 
     ghost ascend = { λ m. mask_ascends 1 0 16 m.bits };
 
@@ -67,15 +67,15 @@ impl Marks for Bitmask {
 impl Iterator for Bitmask {
     type Item = usize;
 
-    ghost next_gives = { YieldsFirst (λ m. mask_places 1 0 16 m.bits) };
+    ghost next_gives = { YieldsFirst (λ m. mask_indices 1 0 16 m.bits) };
 
-    ghost remaining = { item_count (λ m. mask_places 1 0 16 m.bits) };
+    ghost remaining = { item_count (λ m. mask_indices 1 0 16 m.bits) };
 
     #[inline]
     fn next(&mut self) -> Option<usize> {
-        let place = self.lowest_set_bit()?;
+        let index = self.lowest_set_bit()?;
         *self = self.remove_lowest_bit();
-        Some(place)
+        Some(index)
     }
 }
 

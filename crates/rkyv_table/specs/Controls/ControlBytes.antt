@@ -5,9 +5,9 @@ use Rattle.std.specs.List.{find, range_with_len}
 use Rattle.rkyv_scan.specs.Groups.{is_empty}
 use Rattle.rkyv_table.specs.Controls.Numbers.{control_count}
 
--- the control byte at index `place` is empty
+-- the control byte at `index` is empty
 abbrev pub is_empty_at : List ℕ → ℕ → Bool
-is_empty_at controls place = is_empty (slice_index controls place)
+is_empty_at controls index = is_empty (slice_index controls index)
 
 -- a full bucket: one whose control byte is below 128
 abbrev pub IsFullBucket : ℕ → List ℕ → ℕ → Type 0
@@ -26,5 +26,5 @@ abbrev pub with_control : List ℕ → ℕ → ℕ → ℕ → List ℕ
 with_control controls cap bucket tag = slice_set (slice_set controls bucket tag) (cap + bucket) tag
 
 -- the first empty index of the stride from `p` on
-unfoldable pub empty_place : List ℕ → ℕ → Option ℕ
-empty_place controls p = find (is_empty_at controls) (range_with_len p 16)
+unfoldable pub empty_index : List ℕ → ℕ → Option ℕ
+empty_index controls p = find (is_empty_at controls) (range_with_len p 16)

@@ -1,7 +1,7 @@
 -- The result of a lookup.
 use Rattle.std.specs.Prelude.{◌≡◌, ℕ, suc, ◌+◌, ◌*◌, ◌-◌, ◌/◌, ◌%◌, ◌<◌, ◌≤◌, List, Bool, ◌||◌}
 use Rattle.std.specs.Prelude.{take, drop, Option, None, map, filter, cond, ◌==◌, IfSome, true}
-use Rattle.std.specs.List.{find, list_any, range_with_len, position_or_len}
+use Rattle.std.specs.List.{find, list_any, position_or_len, range_with_len}
 use Rattle.std.specs.Option.{option_and_then}
 use Rattle.rkyv_scan.specs.Groups.{Kind}
 use Rattle.rkyv_table.specs.Controls.ControlBytes.{IsFullBucket, is_empty_at}
@@ -80,7 +80,7 @@ pub record FindsBucket (l : Lookup) (post : ℕ → Bool → Type 0) (before aft
   pub walked : IfSome result (IsFullBucket l.cap l.controls)
   pub accepted : IfSome result (λ b. post b true)
   pub bounded : ReadsWithin l.len (probe_capacity l.cap / 16) before after
-  pub answer : (accept : ℕ → Bool) → ComparesByBucket post (IsFullBucket l.cap l.controls) accept
+  pub finds : (accept : ℕ → Bool) → ComparesByBucket post (IsFullBucket l.cap l.controls) accept
       → result ≡ found l.kind l.controls l.cap l.len l.hash accept
   pub counted : (accept : ℕ → Bool) → ComparesByBucket post (IsFullBucket l.cap l.controls) accept
       → after ≡ before + end l.kind l.controls l.cap l.len l.hash accept

@@ -2,21 +2,21 @@
 use Rattle.std.specs.Prelude.{◌≡◌, ℕ, ◌+◌, ◌*◌, ◌%◌, ◌/◌, ◌<◌, ◌≤◌, ◌^◌, ◌↔◌, List, Bool, true, eqb}
 use Rattle.std.specs.Prelude.{length, slice_index}
 use Rattle.std.specs.List.{All, Contains, IsDistinct, find}
-use Rattle.rkyv_scan.specs.Groups.{Kind, IsKind}
+use Rattle.rkyv_scan.specs.Groups.{IsKind, Kind}
 use Rattle.rkyv_table.specs.Controls.ControlBytes.{IsFullBucket}
-use Rattle.rkyv_table.specs.Controls.Numbers.{start, probe_capacity}
-use Rattle.rkyv_table.specs.Controls.Probe.{strides, probed}
-use Rattle.rkyv_table.specs.Controls.Placing.{Homes, Written, AreValidControls, walk, homes}
+use Rattle.rkyv_table.specs.Controls.Numbers.{probe_capacity, start}
+use Rattle.rkyv_table.specs.Controls.Probe.{probed, strides}
+use Rattle.rkyv_table.specs.Controls.Placing.{AreValidControls, Homes, Written, homes, walk}
 use Rattle.rkyv_table.specs.Controls.Placing.{written_controls}
-use Rattle.rkyv_table.specs.Controls.Finding.{marked, found, end}
+use Rattle.rkyv_table.specs.Controls.Finding.{end, found, marked}
 
--- `places`: all indices below the probe capacity that are congruent to the start modulo 16,
+-- `indices`: all indices below the probe capacity that are congruent to the start modulo 16,
 -- each once
-pub record IsCover (hash cap : ℕ) (places : List ℕ) : Type 0 where
-  pub members : (p : ℕ) → Contains places p
+pub record IsCover (hash cap : ℕ) (indices : List ℕ) : Type 0 where
+  pub members : (p : ℕ) → Contains indices p
       ↔ (p < probe_capacity cap) × (p % 16 ≡ start hash cap % 16)
-  pub once : IsDistinct eqb places
-  pub count : length places ≡ probe_capacity cap / 16
+  pub once : IsDistinct eqb indices
+  pub count : length indices ≡ probe_capacity cap / 16
 
 -- the strides of a hash begin at the indices congruent to the start modulo 16, each once
 abbrev pub StridesCover : Type 0

@@ -1,11 +1,11 @@
 -- Home buckets, and the control bytes of items in them.
 use Rattle.std.specs.Prelude.{◌≡◌, ℕ, ◌*◌, ◌-◌, ◌%◌, ◌<◌, ◌≤◌, List, [], ◌∷◌, ◌++◌, Bool, true, not}
-use Rattle.std.specs.Prelude.{ltb, eqb, cond, map, length, take, slice_index, slice_index_or, Some}
+use Rattle.std.specs.Prelude.{Some, cond, eqb, length, ltb, map, slice_index, slice_index_or, take}
 use Rattle.std.specs.Prelude.{filter}
-use Rattle.std.specs.List.{find, list_any, fold, range_with_len, position_or_len}
+use Rattle.std.specs.List.{find, fold, list_any, position_or_len, range_with_len}
 use Rattle.std.specs.Option.{unwrap_or}
 use Rattle.rkyv_scan.specs.Groups.{is_full}
-use Rattle.rkyv_table.specs.Controls.Numbers.{tag, control_count}
+use Rattle.rkyv_table.specs.Controls.Numbers.{control_count, tag}
 use Rattle.rkyv_table.specs.Controls.Probe.{probed}
 
 -- `b` is not in `taken`

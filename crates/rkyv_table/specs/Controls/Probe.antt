@@ -1,23 +1,23 @@
 -- The probe sequence of a hash, and the probed buckets.
 use Rattle.std.specs.Prelude.{◌≡◌, ℕ, ◌+◌, ◌*◌, ◌-◌, ◌/◌, ◌%◌, ◌<◌, ◌≤◌, ◌^◌, List, map, filter}
 use Rattle.std.specs.Prelude.{ltb}
-use Rattle.std.specs.List.{range_with_len, flat_map}
-use Rattle.rkyv_table.specs.Controls.Numbers.{start, probe_capacity, control_count, modulus}
+use Rattle.std.specs.List.{flat_map, range_with_len}
+use Rattle.rkyv_table.specs.Controls.Numbers.{control_count, modulus, probe_capacity, start}
 
 -- the index with the number `k` in the probe sequence that begins at `s`, modulo `m`
-abbrev pub probe_place : ℕ → ℕ → ℕ → ℕ
-probe_place s m k = (s + 16 * (k * (k + 1) / 2)) % m
+abbrev pub probe_index : ℕ → ℕ → ℕ → ℕ
+probe_index s m k = (s + 16 * (k * (k + 1) / 2)) % m
 
 -- the indices at which the strides of a hash begin: those of the probe sequence
 -- below the probe capacity, in order
 unfoldable pub strides : ℕ → ℕ → List ℕ
 strides hash cap = filter (λ p. ltb p (probe_capacity cap))
-    (map (probe_place (start hash cap) (modulus cap)) (range_with_len 0 (modulus cap / 16)))
+    (map (probe_index (start hash cap) (modulus cap)) (range_with_len 0 (modulus cap / 16)))
 
 -- the strides from the number `k` on, in the probe sequence that begins at `s`
 unfoldable pub strides_from : ℕ → ℕ → ℕ → List ℕ
 strides_from cap s k = filter (λ p. ltb p (probe_capacity cap))
-    (map (probe_place s (modulus cap)) (range_with_len k (modulus cap / 16 - k)))
+    (map (probe_index s (modulus cap)) (range_with_len k (modulus cap / 16 - k)))
 
 -- the buckets of the sixteen indices from `p` on, in order
 unfoldable pub buckets_at : ℕ → ℕ → List ℕ

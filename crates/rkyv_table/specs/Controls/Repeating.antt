@@ -7,9 +7,9 @@ abbrev pub IsWrappedAt : ℕ → List ℕ → ℕ → Type 0
 IsWrappedAt cap controls q = (q < 2 * cap → slice_index controls q ≡ slice_index controls (q - cap))
     × (2 * cap ≤ q → 128 ≤ slice_index controls q)
 
--- `place`: lowest index from `cap` on whose control byte isn't as it must be
-pub record FirstUnwrapped (cap : ℕ) (controls : List ℕ) (place : ℕ) : Type 0 where
-  pub from : cap ≤ place
-  pub below : place < control_count cap
-  pub unlike : IsWrappedAt cap controls place → ⊥
-  pub least : (q : ℕ) → cap ≤ q → q < place → IsWrappedAt cap controls q
+-- `index`: lowest index from `cap` on whose control byte isn't as it must be
+pub record FirstUnwrapped (cap : ℕ) (controls : List ℕ) (index : ℕ) : Type 0 where
+  pub from : cap ≤ index
+  pub below : index < control_count cap
+  pub unlike : IsWrappedAt cap controls index → ⊥
+  pub least : (q : ℕ) → cap ≤ q → q < index → IsWrappedAt cap controls q

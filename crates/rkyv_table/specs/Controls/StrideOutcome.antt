@@ -1,6 +1,6 @@
 -- The outcome of one stride of a lookup.
 use Rattle.std.specs.Prelude.{◌≡◌, ℕ, ◌+◌, ◌%◌, ◌<◌, ⊤, List, Bool, true, false, length}
-use Rattle.std.specs.Prelude.{slice_index, Some, None}
+use Rattle.std.specs.Prelude.{None, Some, slice_index}
 use Rattle.std.specs.List.{find}
 use Rattle.rkyv_table.specs.Controls.Finding.{ComparesByBucket}
 use Rattle.rkyv_table.specs.declared.controls.find.StrideOutcome.{StrideOutcome}
@@ -9,7 +9,7 @@ use Rattle.rkyv_table.specs.declared.controls.find.StrideOutcome.TheVariants.{Co
 
 -- `b`: bucket of a marked index of the group that begins at `p`
 abbrev pub IsMarked : ℕ → ℕ → List ℕ → ℕ → Type 0
-IsMarked p cap places b = (k : ℕ) × (k < length places) × (b ≡ (p + slice_index places k) % cap)
+IsMarked p cap indices b = (k : ℕ) × (k < length indices) × (b ≡ (p + slice_index indices k) % cap)
 
 -- `b`: bucket of a full control byte of the stride that begins at `p`
 abbrev pub IsFullInStride : List ℕ → ℕ → ℕ → ℕ → Type 0

@@ -10,21 +10,21 @@ unfoldable pub full_from : List ℕ → ℕ → ℕ → List ℕ
 full_from controls cap b = filter (λ q. is_full (slice_index controls q))
     (range_with_len b (cap - b))
 
--- the first of `places`, or `width`
-abbrev pub first_place : ℕ → List ℕ → ℕ
-first_place width places = slice_index_or places 0 width
+-- the first of `indices`, or `width`
+abbrev pub first_index : ℕ → List ℕ → ℕ
+first_index width indices = slice_index_or indices 0 width
 
--- the invariant of a walk. All control bytes are there, and `places` are the full indices
+-- the invariant of a walk. All control bytes are there, and `indices` are the full indices
 -- of the group at `base`, from the first of them on
-pub record IsWalk (controls : List ℕ) (cap base width : ℕ) (places : List ℕ) : Type 0 where
+pub record IsWalk (controls : List ℕ) (cap base width : ℕ) (indices : List ℕ) : Type 0 where
   pub count : control_count cap ≤ length controls
   pub below : base ≤ cap
-  pub inside : first_place width places ≤ width
-  pub marks : places ≡ filter (λ j. is_full (slice_index controls (base + j)))
-      (range_with_len (first_place width places) (width - first_place width places))
+  pub inside : first_index width indices ≤ width
+  pub marks : indices ≡ filter (λ j. is_full (slice_index controls (base + j)))
+      (range_with_len (first_index width indices) (width - first_index width indices))
 
 -- the remaining buckets of a walk: those of the current mask below `cap`, and the full buckets
 -- of the groups after it
 unfoldable pub left : List ℕ → ℕ → ℕ → ℕ → List ℕ → List ℕ
-left controls cap base width places =
-    filter (λ q. ltb q cap) (map (λ j. base + j) places) ++ full_from controls cap (base + width)
+left controls cap base width indices =
+    filter (λ q. ltb q cap) (map (λ j. base + j) indices) ++ full_from controls cap (base + width)

@@ -6,25 +6,25 @@ use Rattle.std.specs.Int.{Width}
 use Rattle.std.specs.List.{range_with_len}
 use Rattle.std.specs.Prelude.{unsigned_abs}
 use Rattle.std.proofs.Math.Nat.{add-mul}
-use Rattle.std.proofs.lemmas.Bool.{cases_Bool, cases_eq, lt-ltb, both_ways}
+use Rattle.std.proofs.lemmas.Bool.{both_ways, cases_Bool, cases_eq, lt-ltb}
 use Rattle.std.proofs.lemmas.Int.{ints}
 use Rattle.rkyv_base.specs.Bytes.{signed_at}
 use Rattle.rkyv_base.specs.Parts.{PartIn}
-use Rattle.rkyv_base.specs.ElementSpec.{IsElement, ElementSpec}
+use Rattle.rkyv_base.specs.ElementSpec.{ElementSpec, IsElement}
 use Rattle.rkyv_scan.specs.Groups.{is_full}
-use Rattle.rkyv_table.specs.Table.Header.{decode_begin, cap_at, controls_pos, len_at}
+use Rattle.rkyv_table.specs.Table.Header.{cap_at, controls_pos, decode_begin, len_at}
 use Rattle.rkyv_table.specs.Controls.Numbers.{control_count}
-use Rattle.rkyv_table.specs.Lemmas.PlaceLaws.{all_between}
-use Rattle.rkyv_table.specs.Table.Places.{AllHold}
+use Rattle.rkyv_table.specs.Lemmas.ValidItemLaws.{all_between}
+use Rattle.rkyv_table.specs.Table.ValidItems.{AreValidAt}
 use Rattle.rkyv_table.specs.Controls.Placing.{walk}
 use Rattle.rkyv_table.specs.Table.Positions.{IsWalked, item_at, table_controls}
-use Rattle.rkyv_table.specs.Table.Layout.{IsPart, ItemsHold, IsValidTable, bucket_at, controls_at}
-use Rattle.rkyv_table.specs.Table.Layout.{part_size}
+use Rattle.rkyv_table.specs.Table.Layout.{AreValidItems, IsPart, IsValidTable, bucket_at}
+use Rattle.rkyv_table.specs.Table.Layout.{controls_at, part_size}
 use Rattle.rkyv_table.specs.Lemmas.TableLaws.{bucket_inside}
 
 -- the value at `q` is valid in a range of its own between `lo` and `hi`. It leaves a lower end
 -- that is at most `l`
-pub record HoldsWithin (s : ElementSpec) (b : List ℕ) (q lo hi l : ℕ) : Type 0 where
+pub record IsValidWithin (s : ElementSpec) (b : List ℕ) (q lo hi l : ℕ) : Type 0 where
   pub lower : ℕ
   pub rest : ℕ
   pub above : lo ≤ lower
@@ -34,7 +34,7 @@ pub record HoldsWithin (s : ElementSpec) (b : List ℕ) (q lo hi l : ℕ) : Type
 
 -- the same with a lesser lower end of the range
 abbrev pub within_lower : (s : ElementSpec) (b : List ℕ) (q lo lo' hi l : ℕ) → lo' ≤ lo
-    → HoldsWithin s b q lo hi l → HoldsWithin s b q lo' hi l
+    → IsValidWithin s b q lo hi l → IsValidWithin s b q lo' hi l
 within_lower s b q lo lo' hi l less h = record {
   lower = h.lower;
   rest = h.rest;
@@ -46,18 +46,18 @@ within_lower s b q lo lo' hi l less h = record {
 
 module _ (s : ElementSpec) (law : IsElement s) (at : ℕ → ℕ) where
   -- each of several values that are valid in order is valid within the range
-  pub each_holds : (P : ℕ → Bool) (b : List ℕ) (hi a n lo l i : ℕ) → lo ≤ hi
-      → AllHold s at b hi (filter P (range_with_len a n)) lo l → a ≤ i → i < a + n → P i ≡ true
-      → HoldsWithin s b (at i) lo hi l
-  each_holds P b hi a zero lo l i o h from to t = absurd (omega arith)
-  each_holds P b hi a (suc n) lo l i o h from to t = elim (cases_Bool (P a)) [
+  pub each_is_valid : (P : ℕ → Bool) (b : List ℕ) (hi a n lo l i : ℕ) → lo ≤ hi
+      → AreValidAt s at b hi (filter P (range_with_len a n)) lo l → a ≤ i → i < a + n → P i ≡ true
+      → IsValidWithin s b (at i) lo hi l
+  each_is_valid P b hi a zero lo l i o h from to t = absurd (omega arith)
+  each_is_valid P b hi a (suc n) lo l i o h from to t = elim (cases_Bool (P a)) [
     | inl y ↦
-        let h' : AllHold s at b hi (a ∷ filter P (range_with_len (a + 1) n)) lo l = rw y at h in
+        let h' : AreValidAt s at b hi (a ∷ filter P (range_with_len (a + 1) n)) lo l = rw y at h in
         let k : (lo ≤ h'.0) × (h'.0 ≤ hi) = law.rest_in_range b (at a) lo hi h'.0 o h'.1 in
         let after = all_between s law at b hi (filter P (range_with_len (a + 1) n)) h'.0 l k.1
         h'.2 in
         elim (cases_eq a i) [
-          | inl e ↦ subst (λ z. HoldsWithin s b (at z) lo hi l) e (record {
+          | inl e ↦ subst (λ z. IsValidWithin s b (at z) lo hi l) e (record {
             lower = lo;
             rest =
                 h'.0;
@@ -68,25 +68,25 @@ module _ (s : ElementSpec) (law : IsElement s) (at : ℕ → ℕ) where
           })
           | inr ne ↦
               within_lower s b (at i) h'.0 lo hi l k.0
-              (each_holds P b hi (a + 1) n h'.0 l i k.1 h'.2 (omega arith) (omega arith) t)
+              (each_is_valid P b hi (a + 1) n h'.0 l i k.1 h'.2 (omega arith) (omega arith) t)
         ]
     | inr y ↦
-        let h' : AllHold s at b hi (filter P (range_with_len (a + 1) n)) lo l = rw y at h in
+        let h' : AreValidAt s at b hi (filter P (range_with_len (a + 1) n)) lo l = rw y at h in
         elim (cases_eq a i) [
           | inl e ↦ let y' : P i ≡ false = subst (λ z. P z ≡ false) e y in
               absurd (both_ways (P i) y' t)
-          | inr ne ↦ each_holds P b hi (a + 1) n lo l i o h' (omega arith) (omega arith) t
+          | inr ne ↦ each_is_valid P b hi (a + 1) n lo l i o h' (omega arith) (omega arith) t
         ]
   ]
 
 -- the item in a full bucket is valid within the range
-pub bucket_holds_within : (s : ElementSpec) → IsElement s → (b : List ℕ) (begin cap lo l i : ℕ)
-    → lo ≤ begin → ItemsHold s b begin cap lo l → i < cap
+pub bucket_is_valid_within : (s : ElementSpec) → IsElement s → (b : List ℕ) (begin cap lo l i : ℕ)
+    → lo ≤ begin → AreValidItems s b begin cap lo l → i < cap
     → slice_index (controls_at s.size b begin cap) i < 128
-    → HoldsWithin s b (bucket_at s.size begin cap i) lo begin l
+    → IsValidWithin s b (bucket_at s.size begin cap i) lo begin l
 unfolding walk
-bucket_holds_within s law b begin cap lo l i o h below full =
-    each_holds s law (bucket_at s.size begin cap) (λ j.
+bucket_is_valid_within s law b begin cap lo l i o h below full =
+    each_is_valid s law (bucket_at s.size begin cap) (λ j.
     is_full (slice_index (controls_at s.size b begin cap) j)) b begin 0 cap lo l i o h
     (omega arith) (omega arith)
     (lt-ltb (slice_index (controls_at s.size b begin cap) i) 128 full)
@@ -114,7 +114,7 @@ module _ (w : Width) (size : ℕ) (b : List ℕ) (p begin : ℕ) (decoded : pos 
       ap (λ z. z - (i + 1) * size) decoded_pos ∙ omega (arith, m)
 
 -- the buckets and the control bytes of a valid table whose header has buckets
-pub record HeldPart (w : Width) (s : ElementSpec) (b : List ℕ) (p lo hi l : ℕ) : Type 0 where
+pub record ValidPart (w : Width) (s : ElementSpec) (b : List ℕ) (p lo hi l : ℕ) : Type 0 where
   pub begin : ℕ
   pub part : PartIn (decode_begin w s.size b p) (part_size s.size
       (cap_at w b p)) s.align lo hi begin
@@ -123,17 +123,17 @@ pub record HeldPart (w : Width) (s : ElementSpec) (b : List ℕ) (p lo hi l : �
 
 module _ (w : Width) (s : ElementSpec) (law : IsElement s) (b : List ℕ) (p lo hi l : ℕ)
     (h : IsValidTable w s b p lo hi l) where
-  pub holds_at : 0 < cap_at w b p → HeldPart w s b p lo hi l
-  holds_at some = elim h [
+  pub valid_part : 0 < cap_at w b p → ValidPart w s b p lo hi l
+  valid_part some = elim h [
     | inl e ↦ absurd (omega (arith, e.1, some))
     | inr t ↦ record { begin = t.0; part = t.1; is = t.2; ends = t.3 }
   ]
 
   -- the item in a full bucket is valid, and is before the control bytes
-  pub item_holds : (i : ℕ) → IsWalked w b p i → (t : HeldPart w s b p lo hi l)
-      → HoldsWithin s b (item_at w s.size b p i) lo t.begin t.begin
+  pub item_is_valid : (i : ℕ) → IsWalked w b p i → (t : ValidPart w s b p lo hi l)
+      → IsValidWithin s b (item_at w s.size b p i) lo t.begin t.begin
       × (t.begin ≤ item_at w s.size b p i) × (item_at w s.size b p i + s.size ≤ l)
-  item_holds i walked t =
+  item_is_valid i walked t =
       let cap = cap_at w b p in
       let decoded = t.part.begins in
       let full : slice_index (controls_at s.size b t.begin cap) i < 128 =
@@ -142,11 +142,11 @@ module _ (w : Width) (s : ElementSpec) (law : IsElement s) (b : List ℕ) (p lo 
       let above = t.part.above in
       let ends = all_between s law (bucket_at s.size t.begin cap) b t.begin
       (walk (controls_at s.size b t.begin cap) cap) lo t.is.last above t.is.items in
-      let one = bucket_holds_within s law b t.begin cap lo t.is.last i above t.is.items walked.0
+      let one = bucket_is_valid_within s law b t.begin cap lo t.is.last i above t.is.items walked.0
       full in
       let u = bucket_inside s.size t.begin cap i walked.0 in
       let e = t.ends in
-      subst (λ q. HoldsWithin s b q lo t.begin t.begin × (t.begin ≤ q)
+      subst (λ q. IsValidWithin s b q lo t.begin t.begin × (t.begin ≤ q)
       × (q + s.size ≤ l)) (sym (decoded_item w s.size b p t.begin decoded i walked.0)) (
         record {
           lower = one.lower;

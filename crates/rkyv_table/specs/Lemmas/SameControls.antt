@@ -4,9 +4,9 @@ use Rattle.std.specs.Int.{Width, byte_len}
 use Rattle.std.specs.Prelude.{slice_range}
 use Rattle.rkyv_base.specs.Bytes.{AgreeOn}
 use Rattle.rkyv_base.specs.Lemmas.Bytes.{agree_on_part}
-use Rattle.rkyv_base.specs.ElementSpec.{IsElement, ElementSpec}
+use Rattle.rkyv_base.specs.ElementSpec.{ElementSpec, IsElement}
 use Rattle.rkyv_table.specs.Controls.Numbers.{control_count}
-use Rattle.rkyv_table.specs.Lemmas.ItemPositions.{decoded_pos, holds_at}
+use Rattle.rkyv_table.specs.Lemmas.ItemPositions.{decoded_pos, valid_part}
 use Rattle.rkyv_table.specs.Lemmas.SameHeader.{cap_same, pos_same}
 use Rattle.rkyv_table.specs.Table.Header.{cap_at, controls_pos}
 use Rattle.rkyv_table.specs.Table.Layout.{IsValidTable}
@@ -17,7 +17,7 @@ pub same_controls : (w : Width) (s : ElementSpec) → IsElement s → (b c : Lis
     → IsValidTable w s b p lo hi l → AgreeOn b c p (p + 3 * byte_len w) → AgreeOn b c lo l
     → 0 < cap_at w b p → table_controls w b p ≡ table_controls w c p
 same_controls w s law b c p lo hi l o h fixed part some =
-    let t = holds_at w s law b p lo hi l h some in
+    let t = valid_part w s law b p lo hi l h some in
     let at = decoded_pos w s.size b p t.begin t.part.begins in
     let above = t.part.above in
     let ends = t.ends in

@@ -2,16 +2,16 @@
 use Rattle.std.proofs.Common.{arith, refl, sym, ◌∙◌, ap, subst, zero, length-append}
 use Rattle.std.proofs.lemmas.Option.{none-some, same_Some}
 use Rattle.std.specs.Prelude.{◌≡◌, ℕ, suc, ◌+◌, ◌-◌, ◌*◌, ◌%◌, ◌≤◌, List, [], ◌∷◌, ◌++◌, drop}
-use Rattle.std.specs.Prelude.{length, slice_get, Option, Some, None}
+use Rattle.std.specs.Prelude.{None, Option, Some, length, slice_get}
 use Rattle.rkyv_base.specs.Bytes.{OccursAt}
 use Rattle.rkyv_base.specs.Lemmas.Bytes.{occurs_back, occurs_front}
 use Rattle.rkyv_base.specs.Format.{Format, IsFormat}
-use Rattle.rkyv_base.specs.ElementSpec.{IsAlign, IsElement, ElementSpec}
+use Rattle.rkyv_base.specs.ElementSpec.{ElementSpec, IsAlign, IsElement}
 use Rattle.rkyv_base.specs.Lemmas.ElementSpec.{by_align, sum_multiple}
 use Rattle.rkyv_base.specs.Writing.{zeros}
 use Rattle.rkyv_table.specs.Lemmas.Buckets.{images_length}
-use Rattle.rkyv_table.specs.Table.Places.{AllHold}
-use Rattle.rkyv_table.specs.Lemmas.PlaceLaws.{all_lower}
+use Rattle.rkyv_table.specs.Table.ValidItems.{AreValidAt}
+use Rattle.rkyv_table.specs.Lemmas.ValidItemLaws.{all_lower}
 use Rattle.rkyv_table.specs.Lemmas.SlotWalk.{filled_from}
 use Rattle.rkyv_table.specs.Table.Slots.{SlotImages, SlotParts}
 use Rattle.rkyv_table.specs.Table.Layout.{bucket_at}
@@ -69,7 +69,7 @@ module _ {X R : Type 0} (s : ElementSpec) (laws : IsElement s) (represents : Lis
       → b + length ss ≡ cap → SlotParts f ss p part rs → SlotImages s.size f ss rs z out
       → OccursAt c p part → OccursAt c begin out → begin + length ss * s.size ≡ z
       → p + length part ≤ begin
-      → (l : ℕ) × AllHold s at c begin (filled_from b ss) p l × (l ≤ p + length part)
+      → (l : ℕ) × AreValidAt s at c begin (filled_from b ss) p l × (l ≤ p + length part)
       × SlotsRepresent b ss
   slots_sound [] b p z part out rs n m i sp so e o =
       (p, refl, omega arith, λ k x g. absurd (none-some (Some x) g))

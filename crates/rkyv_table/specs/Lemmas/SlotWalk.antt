@@ -7,7 +7,7 @@ use Rattle.std.proofs.lemmas.List.Folds.{Any-from_list_any}
 use Rattle.std.proofs.lemmas.Option.{none-some, same_Some, slice_get_within}
 use Rattle.std.specs.List.{list_any, range_with_len}
 use Rattle.std.specs.Prelude.{◌≡◌, ℕ, suc, ◌+◌, ◌^◌, ◌<◌, List, [], ◌∷◌, Bool, true, false, eqb}
-use Rattle.std.specs.Prelude.{filter, length, slice_get, slice_index, Option, Some, None}
+use Rattle.std.specs.Prelude.{None, Option, Some, filter, length, slice_get, slice_index}
 use Rattle.rkyv_scan.specs.Groups.{is_full}
 use Rattle.rkyv_table.specs.Controls.Placing.{is_free, walk}
 use Rattle.rkyv_table.specs.Table.Slots.{filled}
@@ -30,8 +30,8 @@ abbrev pub TestsFull : {X : Type 0} → (ℕ → Bool) → ℕ → List (Option 
 TestsFull {X = X} full b ss = ((i : ℕ) → slice_get ss i ≡ Some None → full (b + i) ≡ false)
     × ((i : ℕ) (x : X) → slice_get ss i ≡ Some (Some x) → full (b + i) ≡ true)
 
-next_place : (b i : ℕ) → b + suc i ≡ (b + 1) + i
-next_place b i = omega arith
+next_index : (b i : ℕ) → b + suc i ≡ (b + 1) + i
+next_index b i = omega arith
 
 first_slot : (b : ℕ) → b + 0 ≡ b
 first_slot b = omega arith
@@ -39,9 +39,9 @@ first_slot b = omega arith
 tells_rest : {X : Type 0} (full : ℕ → Bool) (b : ℕ) (s : Option X) (ss : List (Option X))
     → TestsFull full b (s ∷ ss) → TestsFull full (b + 1) ss
 tells_rest full b s ss t = (
-  λ i e. ap full (sym (next_place b i))
+  λ i e. ap full (sym (next_index b i))
       ∙ t.0 (suc i) e,
-  λ i x e. ap full (sym (next_place b i)) ∙ t.1 (suc i) x e,
+  λ i x e. ap full (sym (next_index b i)) ∙ t.1 (suc i) x e,
 )
 
 filter_filled : {X : Type 0} (full : ℕ → Bool) (b : ℕ) (ss : List (Option X)) → TestsFull full b ss
@@ -112,10 +112,10 @@ module _ {X : Type 0} (cap : ℕ) (pairs : List (ℕ × X)) (slots : List (Optio
   unfolding walk
   walk_filled =
       let full : ℕ → Bool = λ b. is_full (slice_index controls b) in
-      let zero_place : (i : ℕ) → 0 + i ≡ i = λ i. omega arith in
+      let zero_index : (i : ℕ) → 0 + i ≡ i = λ i. omega arith in
       ap (λ (n : ℕ). filter full (range_with_len 0 n)) (sym p.slotted.count)
       ∙ filter_filled full 0 slots (
-        λ i e. ap full (zero_place i)
+        λ i e. ap full (zero_index i)
             ∙ empty_slot i e,
-        λ i x e. ap full (zero_place i) ∙ filled_slot i x e,
+        λ i x e. ap full (zero_index i) ∙ filled_slot i x e,
       )

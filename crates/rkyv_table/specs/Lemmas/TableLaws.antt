@@ -16,20 +16,20 @@ use Rattle.rkyv_base.specs.Lemmas.Props.{either_prop, only_one, prop_by}
 use Rattle.rkyv_base.specs.Parts.{PartIn}
 use Rattle.rkyv_base.specs.Lemmas.Parts.{part_exclusive, part_one, part_one_failure, part_prop}
 use Rattle.rkyv_base.specs.Lemmas.Parts.{part_wider}
-use Rattle.rkyv_base.specs.ElementSpec.{ElementSpec, IsElement, IsAlign}
+use Rattle.rkyv_base.specs.ElementSpec.{ElementSpec, IsAlign, IsElement}
 use Rattle.rkyv_base.specs.Lemmas.ElementSpec.{by_align, sum_multiple}
 use Rattle.rkyv_base.specs.Text.{IsArchiveWord}
 use Rattle.rkyv_base.specs.Lemmas.Text.{by_archive_word}
-use Rattle.rkyv_table.specs.Table.Header.{decode_begin, cap_at, len_at}
+use Rattle.rkyv_table.specs.Table.Header.{cap_at, decode_begin, len_at}
 use Rattle.rkyv_table.specs.Controls.Numbers.{control_count}
-use Rattle.rkyv_table.specs.Table.Places.{AllHold}
-use Rattle.rkyv_table.specs.Lemmas.PlaceLaws.{AllBelow, all_exclusive, all_lower, all_local}
-use Rattle.rkyv_table.specs.Lemmas.PlaceLaws.{all_one, all_prop}
-use Rattle.rkyv_table.specs.Lemmas.PlaceLaws.{all_one_failure, range_below}
+use Rattle.rkyv_table.specs.Table.ValidItems.{AreValidAt}
+use Rattle.rkyv_table.specs.Lemmas.ValidItemLaws.{AllBelow, all_exclusive, all_local, all_lower}
+use Rattle.rkyv_table.specs.Lemmas.ValidItemLaws.{all_one, all_prop}
+use Rattle.rkyv_table.specs.Lemmas.ValidItemLaws.{all_one_failure, range_below}
 use Rattle.rkyv_table.specs.Controls.Placing.{AreValidControls, IsWrapped, walk}
 use Rattle.rkyv_table.specs.Controls.Repeating.{FirstUnwrapped}
 use Rattle.rkyv_table.specs.Lemmas.SameHeader.{begin_same, cap_same, len_same}
-use Rattle.rkyv_table.specs.Table.Layout.{FailsInside, IsPart, ItemsHold, TableAt, TableFailsAt}
+use Rattle.rkyv_table.specs.Table.Layout.{AreValidItems, FailsInside, IsPart, TableAt, TableFailsAt}
 use Rattle.rkyv_table.specs.Table.Layout.{IsValidTable, bucket_at, controls_at, part_size}
 use Rattle.rkyv_table.specs.Table.Layout.{table_spec}
 
@@ -116,7 +116,7 @@ module _ (s : ElementSpec) (law : IsElement s) where
       let at : ℕ → ℕ = bucket_at s.size begin cap in
       let full : List ℕ = walk (controls_at s.size b begin cap) cap in
       prop_by {B = AreValidControls cap len (controls_at s.size b begin cap)
-      × ((last : ℕ) × AllHold s at b begin full lo last)}
+      × ((last : ℕ) × AreValidAt s at b begin full lo last)}
       (λ h. (h.controls, (h.last, h.items)))
       (λ h. record { controls = h.0; last = h.1.0; items = h.1.1 }) (λ _. refl)
       (×_prop (hlevel props) (only_one (all_prop s law at b begin full lo)
@@ -210,7 +210,7 @@ module _ (s : ElementSpec) (law : IsElement s) where
   is_lower : (b : List ℕ) (cap len lo lo' begin : ℕ) → lo' ≤ lo → lo ≤ begin
       → IsPart s b cap len lo begin → IsPart s b cap len lo' begin
   is_lower b cap len lo lo' begin o o' is =
-      let d : (l' : ℕ) × ItemsHold s b begin cap lo' l' × (l' ≤ is.last) =
+      let d : (l' : ℕ) × AreValidItems s b begin cap lo' l' × (l' ≤ is.last) =
       all_lower s law (bucket_at s.size begin cap) b begin
       (walk (controls_at s.size b begin cap) cap) lo lo' is.last o o' is.items in
       record { controls = is.controls; last = d.0; items = d.1 }
@@ -258,7 +258,7 @@ module _ (s : ElementSpec) (law : IsElement s) where
         controls = subst (AreValidControls cap len) e is.controls;
         last = is.last;
         items = subst (λ (x : List ℕ).
-            AllHold s (bucket_at s.size begin cap) c begin (walk x cap) lo is.last) e items;
+            AreValidAt s (bucket_at s.size begin cap) c begin (walk x cap) lo is.last) e items;
       }
 
   at_local : (b c : List ℕ) (decoded : ℤ) (cap len lo hi l : ℕ) → AgreeOn b c lo l
@@ -267,9 +267,9 @@ module _ (s : ElementSpec) (law : IsElement s) where
   at_local b c decoded cap len lo hi l same (inr (n, part, is, e)) =
       inr (n, part, is_near b c cap len lo n part.above (subst (AgreeOn b c lo) e same) is, e)
 
-  holds_local : (w : Width) (b c : List ℕ) (p lo hi l : ℕ) → AgreeOn b c p (p + 3 * byte_len w)
+  is_valid_local : (w : Width) (b c : List ℕ) (p lo hi l : ℕ) → AgreeOn b c p (p + 3 * byte_len w)
       → AgreeOn b c lo l → IsValidTable w s b p lo hi l → IsValidTable w s c p lo hi l
-  holds_local w b c p lo hi l fixed part h =
+  is_valid_local w b c p lo hi l fixed part h =
       at_local b c (decode_begin w s.size c p) (cap_at w c p) (len_at w c p) lo hi l part
       (of_numbers s b (begin_same w b c p fixed s.size) (cap_same w b c p fixed)
       (len_same w b c p fixed) h)
@@ -297,5 +297,5 @@ table_element w kind s law = record {
       at_higher s law b (decode_begin w s.size b p) (cap_at w b p) (len_at w b p) lo hi hi' l o h;
   lower_lo = λ b p lo lo' hi l o o' h.
       at_lower s law b (decode_begin w s.size b p) (cap_at w b p) (len_at w b p) lo lo' hi l o h;
-  local = λ b c p lo hi l o fixed part h. holds_local s law w b c p lo hi l fixed part h;
+  local = λ b c p lo hi l o fixed part h. is_valid_local s law w b c p lo hi l fixed part h;
 }

@@ -7,25 +7,25 @@ use Rattle.std.proofs.lemmas.List.{length-map, length-replicate}
 use Rattle.std.specs.Int.{Width}
 use Rattle.std.specs.Prelude.{◌≡◌, ℕ, suc, ◌+◌, ◌*◌, ◌/◌, ◌%◌, ◌<◌, ◌≤◌, cond, max, pos, ◌+ℤ◌, ◌-ℤ◌}
 use Rattle.std.specs.Prelude.{FitsSigned, List, [], ◌++◌, length, slice_get, slice_index}
-use Rattle.std.specs.Prelude.{slice_range, Option, Some}
+use Rattle.std.specs.Prelude.{Option, Some, slice_range}
 use Rattle.rkyv_base.specs.Bytes.{OccursAt, signed_at}
 use Rattle.rkyv_base.specs.Lemmas.Bytes.{occurs_back, occurs_front}
 use Rattle.rkyv_base.specs.Entry.{round_up}
 use Rattle.rkyv_base.specs.Lemmas.Entry.{round_up-multiple}
 use Rattle.rkyv_base.specs.Format.{Format, IsFormat}
-use Rattle.rkyv_base.specs.ElementSpec.{IsElement, ElementSpec}
+use Rattle.rkyv_base.specs.ElementSpec.{ElementSpec, IsElement}
 use Rattle.rkyv_base.specs.Text.{IsArchiveWord}
 use Rattle.rkyv_base.specs.Writing.{padding, zeros}
 use Rattle.rkyv_table.specs.Lemmas.Buckets.{images_length}
-use Rattle.rkyv_table.specs.Table.Header.{IsHeader, decode_begin, cap_at, header_bytes, len_at}
+use Rattle.rkyv_table.specs.Table.Header.{IsHeader, cap_at, decode_begin, header_bytes, len_at}
 use Rattle.rkyv_table.specs.Lemmas.HeaderReads.{cap_reads, distance_reads, header_length, len_reads}
 use Rattle.rkyv_table.specs.Controls.Numbers.{capacity}
 use Rattle.rkyv_table.specs.Controls.Placing.{AreValidControls, Written, walk}
-use Rattle.rkyv_table.specs.Table.Places.{AllHold}
+use Rattle.rkyv_table.specs.Table.ValidItems.{AreValidAt}
 use Rattle.rkyv_table.specs.Lemmas.SlotSound.{slots_sound}
 use Rattle.rkyv_table.specs.Lemmas.SlotWalk.{filled_count, filled_from, walk_filled}
 use Rattle.rkyv_table.specs.Table.Slots.{TableBytes}
-use Rattle.rkyv_table.specs.Table.Layout.{IsPart, TableAt, IsValidTable, bucket_at, controls_at}
+use Rattle.rkyv_table.specs.Table.Layout.{IsPart, IsValidTable, TableAt, bucket_at, controls_at}
 use Rattle.rkyv_table.specs.Table.Layout.{part_size, table_spec}
 use Rattle.rkyv_table.specs.Table.TableFormat.{BucketsRepresent, TableParts, TableResolver}
 use Rattle.rkyv_table.specs.Table.TableFormat.{TableRepresents}
@@ -112,7 +112,7 @@ module _ {X R : Type 0} (s : ElementSpec) (laws : IsElement s) (represents : Lis
     controls_there = ap (λ k. slice_range c (begin + cap * s.size) (begin + cap * s.size + k))
         (sym placed.written.repeats.count) ∙ controls_sit.there
 
-    items : (l : ℕ) × AllHold s (bucket_at s.size begin cap) c begin (filled_from 0 slots) p l
+    items : (l : ℕ) × AreValidAt s (bucket_at s.size begin cap) c begin (filled_from 0 slots) p l
         × (l ≤ p + length t.part) × ((i : ℕ) (x : X) → slice_get slots i ≡ Some (Some x)
         → represents c (bucket_at s.size begin cap (0 + i)) x)
     items =
@@ -127,7 +127,7 @@ module _ {X R : Type 0} (s : ElementSpec) (laws : IsElement s) (represents : Lis
     part_valid = record {
       controls = subst (AreValidControls cap (length pairs)) (sym controls_there) written_accepted;
       last = items.0;
-      items = subst (λ is. AllHold s (bucket_at s.size begin cap) c begin is p items.0)
+      items = subst (λ is. AreValidAt s (bucket_at s.size begin cap) c begin is p items.0)
           (sym (ap (λ (cs : List ℕ). walk cs cap) controls_there
           ∙ walk_filled cap pairs slots controls placed)) items.1;
     }

@@ -31,7 +31,7 @@ pub record IsItemOf {T : Type 0} (w : Width) (s : ElementSpec) (b : List ℕ) (p
   pub archive : v.archive.now ≡ b
   pub bucket : ℕ
   pub walked : IsWalked w b p bucket
-  pub place : v.pos ≡ item_at w s.size b p bucket
+  pub pos : v.pos ≡ item_at w s.size b p bucket
   pub viewable : Viewable s b v.pos
 
 -- the comparison can be called with each item
@@ -56,7 +56,7 @@ AcceptedOf {T} post w s b p q = (v : View T) × IsItemOf w s b p v × (v.pos ≡
 pub record LooksUp {T : Type 0} (post : View T → Bool → Type 0) (kind : Kind) (w : Width)
     (s : ElementSpec) (b : List ℕ) (p hash : ℕ) (found : Option ℕ) : Type 0 where
   pub accepted : IfSome found (AcceptedOf post w s b p)
-  pub answer : (accept : ℕ → Bool) → ComparesByOf post w s b p accept
+  pub finds : (accept : ℕ → Bool) → ComparesByOf post w s b p accept
       → found ≡ pos_found kind w s.size b p hash accept
   pub first : (hashes homes : List ℕ) (accept : ℕ → Bool) → WrittenAt w b p hashes homes
       → ComparesByOf post w s b p accept

@@ -1,6 +1,6 @@
 -- The number of items of an iterator, counted up to one more than a claimed number.
 use Rattle.std.specs.Prelude.{◌≡◌, ◌≢◌, ℕ, ◌+◌, ◌≤◌, ◌⊎◌, List, length, Option}
-use Rattle.std.specs.Iterator.{Yields, Drains}
+use Rattle.std.specs.Iterator.{Drains, Yields}
 use Rattle.rkyv_table.specs.Table.PlacedItems.{hashes_of, items_of}
 
 -- `n`: number of items from `s` on, counted on from `before`. It is exact up to `len`, and `len +

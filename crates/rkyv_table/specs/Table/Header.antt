@@ -2,7 +2,7 @@
 use Rattle.std.specs.Prelude.{◌≡◌, ℕ, ◌+◌, ◌*◌, ◌<◌, ◌⊎◌, ℤ, pos, unsigned_abs, ◌+ℤ◌, ◌-ℤ◌}
 use Rattle.std.specs.Prelude.{FitsSigned, List}
 use Rattle.std.specs.Prelude.{◌++◌}
-use Rattle.std.specs.Int.{Width, byte_len, to_le_bytes, cast_unsigned}
+use Rattle.std.specs.Int.{Width, byte_len, cast_unsigned, to_le_bytes}
 use Rattle.rkyv_base.specs.Bytes.{number_at, signed_at}
 
 -- the number of items, as in the header at `p`

@@ -1,7 +1,7 @@
 -- The input of a table.
 use Rattle.std.specs.Prelude.{◌≡◌, ℕ, List, length, MatchResult, Option, Result}
 use Rattle.std.specs.Iterator.{Drains}
-use Rattle.rkyv_table.specs.Table.Counting.{YieldsBoth, YieldsOtherCount, CountsDiffer}
+use Rattle.rkyv_table.specs.Table.Counting.{CountsDiffer, YieldsBoth, YieldsOtherCount}
 use Rattle.rkyv_table.specs.Table.PlacedItems.{Placed}
 
 -- an input. `yields`: its items, `yields_other_count`: another number of items than a claimed one

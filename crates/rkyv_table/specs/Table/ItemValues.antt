@@ -1,5 +1,5 @@
 -- The values of the items of an iterator.
-use Rattle.std.specs.Prelude.{List, map, MatchOption, Option, Some, None}
+use Rattle.std.specs.Prelude.{List, MatchOption, None, Option, Some, map}
 
 -- each pair by its values. `key`, `value`: value of a first and of a second component
 abbrev pub pair_values : {BK BV A B : Type 0} → (BK → A) → (BV → B) → List (BK × BV) → List (A × B)

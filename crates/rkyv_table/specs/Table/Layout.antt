@@ -6,11 +6,11 @@ use Rattle.rkyv_base.specs.declared.errors.VerifyError.{VerifyError}
 use Rattle.rkyv_base.specs.declared.errors.VerifyError.TheVariants.{InvalidLength}
 use Rattle.rkyv_base.specs.declared.errors.VerifyError.TheVariants.{WrongNumberOfElements}
 use Rattle.rkyv_base.specs.declared.errors.VerifyError.TheVariants.{UnwrappedControlByte}
-use Rattle.rkyv_base.specs.Parts.{PartIn, PartFails}
+use Rattle.rkyv_base.specs.Parts.{PartFails, PartIn}
 use Rattle.rkyv_base.specs.ElementSpec.{ElementSpec}
-use Rattle.rkyv_table.specs.Table.Header.{decode_begin, cap_at, len_at}
+use Rattle.rkyv_table.specs.Table.Header.{cap_at, decode_begin, len_at}
 use Rattle.rkyv_table.specs.Controls.Numbers.{control_count}
-use Rattle.rkyv_table.specs.Table.Places.{AllHold, FirstFails}
+use Rattle.rkyv_table.specs.Table.ValidItems.{AreValidAt, FirstFails}
 use Rattle.rkyv_table.specs.Controls.Placing.{AreValidControls, walk}
 use Rattle.rkyv_table.specs.Controls.Repeating.{FirstUnwrapped}
 
@@ -29,16 +29,17 @@ bucket_at size begin cap i = begin + (cap - (i + 1)) * size
 
 -- the items in the full buckets are valid in bucket order, with their parts from `lo`
 -- on and below `begin`
-abbrev pub ItemsHold : ElementSpec → List ℕ → ℕ → ℕ → ℕ → ℕ → Type 0
-ItemsHold s b begin cap lo l =
-    AllHold s (bucket_at s.size begin cap) b begin (walk (controls_at s.size b begin cap) cap) lo l
+abbrev pub AreValidItems : ElementSpec → List ℕ → ℕ → ℕ → ℕ → ℕ → Type 0
+AreValidItems s b begin cap lo l =
+    AreValidAt s (bucket_at s.size begin cap) b begin
+    (walk (controls_at s.size b begin cap) cap) lo l
 
 -- the buckets and control bytes at `begin` are valid: the control bytes are those of `len` items,
 -- and each item is valid
 pub record IsPart (s : ElementSpec) (b : List ℕ) (cap len lo begin : ℕ) : Type 0 where
   pub controls : AreValidControls cap len (controls_at s.size b begin cap)
   pub last : ℕ
-  pub items : ItemsHold s b begin cap lo last
+  pub items : AreValidItems s b begin cap lo last
 
 -- `e`: first fault of the buckets and control bytes. It is that of an item, or else of the number
 -- of items, or else of a control byte after those of the buckets
@@ -46,7 +47,7 @@ abbrev pub FailsInside : ElementSpec → List ℕ → ℕ → ℕ → ℕ → �
 FailsInside s b cap len lo begin e =
     FirstFails s (bucket_at s.size begin cap) b begin (walk (controls_at s.size b begin cap) cap) lo
     e
-    ⊎ ((last : ℕ) × ItemsHold s b begin cap lo last
+    ⊎ ((last : ℕ) × AreValidItems s b begin cap lo last
     × (((length (walk (controls_at s.size b begin cap) cap) ≢ len)
     × (e ≡ WrongNumberOfElements len (length (walk (controls_at s.size b begin cap) cap))))
     ⊎ ((length (walk (controls_at s.size b begin cap) cap) ≡ len) × (q : ℕ)

@@ -1,8 +1,8 @@
 -- Items that a lookup of their own doesn't find.
 use Rattle.std.specs.Prelude.{◌≡◌, ℕ, ◌<◌, ◌^◌, List, Bool, true, false, not, length, Option, Some}
-use Rattle.std.specs.Prelude.{None, filter, take, slice_index, eqb, MatchOption}
+use Rattle.std.specs.Prelude.{MatchOption, None, eqb, filter, slice_index, take}
 use Rattle.std.specs.List.{Contains, list_any, range_with_len, sum_by}
-use Rattle.rkyv_scan.specs.Groups.{Kind, IsKind}
+use Rattle.rkyv_scan.specs.Groups.{IsKind, Kind}
 use Rattle.rkyv_table.specs.Controls.Finding.{end, found}
 use Rattle.rkyv_table.specs.Controls.Laws.{AreHashes}
 use Rattle.rkyv_table.specs.Controls.Placing.{AreValidControls, Written, walk}
@@ -10,7 +10,7 @@ use Rattle.rkyv_table.specs.Controls.Placing.{AreValidControls, Written, walk}
 -- a lookup found `bucket`
 abbrev pub is_found_at : ℕ → Option ℕ → Bool
 is_found_at bucket None = false
-is_found_at bucket (Some answer) = eqb bucket answer
+is_found_at bucket (Some other) = eqb bucket other
 
 -- a lookup of the item in `bucket` doesn't find it. The lookup is under the item's hash,
 -- and accepts the items that are the same as it

@@ -23,4 +23,4 @@ pub record LendsValue {V : Type 0} (k v : ElementSpec) (b : List ℕ) (At : ℕ
   pub key : ℕ
   pub at : At key
   pub bytes : bytes_in value ≡ b
-  pub place : seal_pos value ≡ value_pos k v key
+  pub pos : seal_pos value ≡ value_pos k v key

@@ -7,9 +7,9 @@ use Rattle.rkyv_base.specs.View.{IsAt, IsValidView}
 use Rattle.rkyv_base.specs.declared.view.View.{View}
 use Rattle.rkyv_table.specs.Table.RawItems.{ItemsLeft}
 
--- `place` was the first remaining position, and the archive is unchanged
-pub record YieldsFirstPos (before : ItemsLeft) (place : ℕ) (after : ItemsLeft) : Type 0 where
-  pub first : before.positions ≡ place ∷ after.positions
+-- `pos` was the first remaining position, and the archive is unchanged
+pub record YieldsFirstPos (before : ItemsLeft) (pos : ℕ) (after : ItemsLeft) : Type 0 where
+  pub first : before.positions ≡ pos ∷ after.positions
   pub archive : after.archive ≡ before.archive
 
 -- no position remained
@@ -17,11 +17,11 @@ pub record IsAtEnd (before after : ItemsLeft) : Type 0 where
   pub none : before.positions ≡ []
   pub still : after ≡ before
 
--- `view`: view of a valid value at position `place` of the archive
-pub record ViewsAt {T : Type 0} (s : ElementSpec) (before : ItemsLeft) (place : ℕ)
+-- `view`: view of a valid value at position `pos` of the archive
+pub record ViewsAt {T : Type 0} (s : ElementSpec) (before : ItemsLeft) (pos : ℕ)
     (view : View T) : Type
     0 where
-  pub at : IsAt view before.archive place
+  pub at : IsAt view before.archive pos
   pub viewable : IsValidView s view
 
 -- the step returns the first remaining key and its value
@@ -43,5 +43,5 @@ abbrev pub YieldsValue : {V : Type 0} → ElementSpec → ElementSpec → ItemsL
     → ItemsLeft
     → Type 0
 YieldsValue {V} k v before result after = MatchOption result (IsAtEnd before after)
-    (λ (value : View V). (place : ℕ) × YieldsFirstPos before place after
-    × ViewsAt v before (place + value_offset k v) value)
+    (λ (value : View V). (pos : ℕ) × YieldsFirstPos before pos after
+    × ViewsAt v before (pos + value_offset k v) value)

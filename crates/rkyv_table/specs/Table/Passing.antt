@@ -9,8 +9,8 @@ use Rattle.rkyv_table.specs.Table.TableFormat.{TableResolver, table_format}
 
 -- the value at `p` is valid in each range around `begin` and `end`, and the next part can begin
 -- at `end` at the latest
-abbrev pub HoldsAround : ElementSpec → List ℕ → ℕ → ℕ → ℕ → Type 0
-HoldsAround s c p begin end =
+abbrev pub IsValidAround : ElementSpec → List ℕ → ℕ → ℕ → ℕ → Type 0
+IsValidAround s c p begin end =
     (lo hi : ℕ) → lo ≤ begin → end ≤ hi → (l : ℕ) × s.is_valid c p lo hi l × (lo ≤ l) × (l ≤ end)
 
 -- in every archive with the written bytes of a table and its header, the table is
@@ -21,4 +21,4 @@ WrittenTablesPass {X} w s f load_factor =
     → (table_format w s f load_factor).parts pairs begin part r
     → (table_format w s f load_factor).image pairs r p out
     → OccursAt c begin part → OccursAt c p out → begin + length part ≤ p → p % byte_len w ≡ 0
-    → HoldsAround (table_spec w s) c p begin (begin + length part)
+    → IsValidAround (table_spec w s) c p begin (begin + length part)

@@ -1,6 +1,6 @@
 -- The slots into which a list of pairs of hash and item is put.
 use Rattle.std.specs.Prelude.{◌≡◌, ℕ, ◌<◌, List, map, length, true, slice_index, slice_get, Option}
-use Rattle.std.specs.Prelude.{Some, None}
+use Rattle.std.specs.Prelude.{None, Some}
 use Rattle.rkyv_table.specs.Controls.Laws.{AreHashes}
 use Rattle.rkyv_table.specs.Controls.Placing.{Written, is_free}
 use Rattle.rkyv_table.specs.Table.Slots.{filled}
@@ -33,6 +33,6 @@ pub record Placed {X : Type 0} (cap : ℕ) (pairs : List (ℕ × X)) (slots : Li
   pub slotted : Slotted cap homes (items_of pairs) slots
 
 -- some pairs are placed, and there is an empty bucket for one more
-abbrev pub HasPlace : {X : Type 0} → ℕ → List (Option X) → List ℕ → Type 0
-HasPlace {X} cap slots controls =
+abbrev pub HasEmptyBucket : {X : Type 0} → ℕ → List (Option X) → List ℕ → Type 0
+HasEmptyBucket {X} cap slots controls =
     (pairs : List (ℕ × X)) × (length pairs < cap) × Placed cap pairs slots controls

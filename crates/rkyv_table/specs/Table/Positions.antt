@@ -1,6 +1,6 @@
 -- The positions of a table's control bytes and items, and the position that a lookup finds.
 use Rattle.std.specs.Prelude.{◌≡◌, ℕ, ◌+◌, ◌-◌, ◌*◌, ◌<◌, ◌⊎◌, List, [], Bool, Option}
-use Rattle.std.specs.Prelude.{slice_range, length, map}
+use Rattle.std.specs.Prelude.{length, map, slice_range}
 use Rattle.std.specs.Int.{Width}
 use Rattle.std.specs.Option.{option_map}
 use Rattle.rkyv_scan.specs.Groups.{Kind}

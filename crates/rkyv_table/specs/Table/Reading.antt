@@ -1,6 +1,6 @@
 -- Valid tables: their items, and the results of lookups.
 use Rattle.std.specs.Prelude.{◌≡◌, ℕ, ◌+◌, ◌/◌, List, Bool, true}
-use Rattle.std.specs.Prelude.{Option, IfSome}
+use Rattle.std.specs.Prelude.{IfSome, Option}
 use Rattle.std.specs.List.{find}
 use Rattle.rkyv_base.specs.View.{IsValidView, bytes_of, pos_of, pos_of_found}
 use Rattle.rkyv_base.specs.declared.view.View.{View}
@@ -37,7 +37,7 @@ module _ {T W : Type 0} {ts : Specs T} {wt : Words W} where
     pub archive : v.archive ≡ t.view.archive
     pub viewable : IsValidView ts.spec v
     pub walked : IsFullIn t i
-    pub place : v.pos ≡ item_pos t i
+    pub pos : v.pos ≡ item_pos t i
 
   -- `v`: view of an item of the table
   abbrev pub IsItem : ArchivedHashTable T W ts wt → View T → Type 0
@@ -89,7 +89,7 @@ module _ {T W : Type 0} {ts : Specs T} {wt : Words W} where
         (result : Option ℕ) : Type 0 where
       pub walked : IfSome result (IsItemPos t)
       pub accepted : IfSome result (IsAcceptedAt t)
-      pub answer : FindsFound kind t hash result
+      pub finds : FindsFound kind t hash result
       pub first : FindsFirst t hash result
 
   -- the lookup reads at most ceil(cap / 16) strides, whatever the comparison returns
@@ -106,7 +106,7 @@ module _ {T W : Type 0} {ts : Specs T} {wt : Words W} (post : View T → Bool �
   pub record FindsItem (result : Option (View T)) : Type 0 where
     pub walked : IfSome result (IsItem t)
     pub accepted : IfSome result (λ v. post v true)
-    pub answer : FindsFound post kind t hash (pos_of_found result)
+    pub finds : FindsFound post kind t hash (pos_of_found result)
     pub first : FindsFirst post t hash (pos_of_found result)
 
   -- the number of strides that a lookup reads

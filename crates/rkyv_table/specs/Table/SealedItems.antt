@@ -11,7 +11,7 @@ use Rattle.rkyv_base.specs.declared.seal.ArchiveSeal.{ArchiveSeal}
 use Rattle.rkyv_table.specs.Table.SealedTable.{KeepsTable, KeptByWrites}
 use Rattle.rkyv_table.specs.Table.Layout.{table_spec}
 use Rattle.rkyv_table.specs.Controls.Walking.{full_from}
-use Rattle.rkyv_table.specs.declared.table.raw_iter_seal.Place.{Place}
+use Rattle.rkyv_table.specs.declared.table.raw_iter_seal.NextItem.{NextItem}
 use Rattle.rkyv_table.specs.declared.table.raw_iter_seal.RawIterSeal.{RawIterSeal}
 
 -- the bytes of the archive of a cursor
@@ -44,7 +44,7 @@ pub record SameArchive {T : Type 0} (before after : RawIterSeal T) : Type 0 wher
 -- that keeps it valid keeps the table
 pub record IsItemAt (w : Width) (s : ElementSpec) (b : List ℕ) (p i q : ℕ) : Type 0 where
   pub walked : IsWalked w b p i
-  pub place : q ≡ item_at w s.size b p i
+  pub pos : q ≡ item_at w s.size b p i
   pub viewable : Viewable s b q
   pub kept : KeptByWrites w s b p i
 
@@ -80,7 +80,7 @@ LendsFirst s before result =
     × IsItemAt w s before.archive.now p i (seal_pos x))
 
 -- the bucket and the position of the first remaining item of a cursor over a table
-abbrev pub FindsFirstLeft : {T : Type 0} → ElementSpec → RawIterSeal T → Option Place → Type 0
+abbrev pub FindsFirstLeft : {T : Type 0} → ElementSpec → RawIterSeal T → Option NextItem → Type 0
 FindsFirstLeft s r result =
     (w : Width) (p : ℕ) → IsSealIter w s p r
     → MatchOption result (cursor_buckets_left w p r ≡ [])
@@ -147,7 +147,7 @@ pub record SealedBy {F R T : Type 0} (post : F → MutBor (Seal T) → R → Mut
   pub given : MutBor (Seal T)
   pub left : MutBor (Seal T)
   pub bytes : bytes_in given.now ≡ b
-  pub place : seal_pos given.now ≡ q
+  pub pos : seal_pos given.now ≡ q
   pub met : post write given r left
   pub leaves : left.now.bytes.ghost_name ≡ given.now.bytes.ghost_name → bytes_in left.now ≡ c
 

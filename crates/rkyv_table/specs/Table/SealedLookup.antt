@@ -5,7 +5,7 @@ use Rattle.std.specs.Prelude.{◌≡◌, ℕ, Bool, List, Option}
 use Rattle.std.specs.Int.{Width}
 use Rattle.std.specs.List.{find}
 use Rattle.std.specs.Option.{option_map}
-use Rattle.rkyv_base.specs.Seal.{SealAt, archive_in, seal_pos, pos_in}
+use Rattle.rkyv_base.specs.Seal.{SealAt, archive_in, pos_in, seal_pos}
 use Rattle.rkyv_base.specs.ElementSpec.{ElementSpec, Viewable}
 use Rattle.rkyv_base.specs.declared.seal.ArchiveSeal.{ArchiveSeal}
 use Rattle.rkyv_base.specs.declared.seal.Seal.{Seal}
@@ -13,7 +13,7 @@ use Rattle.rkyv_base.specs.declared.view.View.{View}
 use Rattle.rkyv_scan.specs.Groups.{generic_kind}
 use Rattle.rkyv_table.specs.Controls.Laws.{IsUnderHash}
 use Rattle.rkyv_table.specs.Table.Positions.{IsWalked, WrittenAt, home_positions}
-use Rattle.rkyv_table.specs.Table.Bare.{ComparesByOf, CanCompareOf}
+use Rattle.rkyv_table.specs.Table.Bare.{CanCompareOf, ComparesByOf}
 use Rattle.rkyv_table.specs.Table.Positions.{item_at, pos_found}
 use Rattle.rkyv_table.specs.Table.Reading.{table_bytes, table_pos}
 use Rattle.rkyv_table.specs.Table.SealedTable.{KeptByWrites}

@@ -52,6 +52,6 @@ KeptByValueWrites w k v b p i =
 pub record SameLookups (w : Width) (s : ElementSpec) (b c : List ℕ) (p : ℕ) : Type 0 where
   pub found : (kind : Kind) (hash : ℕ) (accept : ℕ → Bool)
       → bucket_found kind w s.size c p hash accept ≡ bucket_found kind w s.size b p hash accept
-  pub place : (i : ℕ) → item_at w s.size c p i ≡ item_at w s.size b p i
+  pub pos : (i : ℕ) → item_at w s.size c p i ≡ item_at w s.size b p i
   pub written : (hashes homes : List ℕ) → WrittenAt w b p hashes homes
       → WrittenAt w c p hashes homes

@@ -7,7 +7,7 @@ use Rattle.rkyv_base.specs.declared.errors.WriteError.TheVariants.{IteratorLengt
 use Rattle.rkyv_base.specs.declared.errors.WriteError.TheVariants.{CapacityTooLarge}
 use Rattle.rkyv_base.specs.declared.errors.WriteError.TheVariants.{PositionTooLarge}
 use Rattle.rkyv_base.specs.declared.errors.WriteError.TheVariants.{DistanceTooLarge, TextTooLong}
-use Rattle.rkyv_base.specs.declared.errors.WriteError.TheVariants.{Writer, Memory, Refused}
+use Rattle.rkyv_base.specs.declared.errors.WriteError.TheVariants.{Memory, Refused, Writer}
 use Rattle.rkyv_base.specs.Format.{Format, SerializeFails, Serialized}
 use Rattle.rkyv_base.specs.ElementSpec.{ElementSpec}
 use Rattle.rkyv_base.specs.Writing.{Appended, Output, WriteFails, end_of}

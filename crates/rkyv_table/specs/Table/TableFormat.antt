@@ -6,7 +6,7 @@ use mir.Val.{bits}
 use Rattle.rkyv_base.specs.Format.{Format, IsFormat}
 use Rattle.rkyv_base.specs.ElementSpec.{ElementSpec}
 use Rattle.rkyv_base.specs.Writing.{Step}
-use Rattle.rkyv_table.specs.Table.Header.{HeaderOverflows, IsHeader, decode_begin, cap_at, len_at}
+use Rattle.rkyv_table.specs.Table.Header.{HeaderOverflows, IsHeader, cap_at, decode_begin, len_at}
 use Rattle.rkyv_table.specs.Controls.Laws.{AreHashes}
 use Rattle.rkyv_table.specs.Controls.Numbers.{capacity}
 use Rattle.rkyv_table.specs.Controls.Placing.{Written}

@@ -69,14 +69,14 @@ fn first_accepted<M: Marks, F: Fn(usize) -> bool>(
     cmp: &F,
 ) -> Option<usize>
     requires small { cap < 2 ^ 63 }
-    requires below { (k : ℕ) → k < length (M.places marks)
-        → at + slice_index (M.places marks) k < 2 * cap }
-    requires callable { (b : ℕ) → IsMarked at cap (M.places marks) b → F.pre cmp.now b }
-    ensures among { IfSome result (IsMarked at cap (M.places marks)) }
+    requires below { (k : ℕ) → k < length (M.indices marks)
+        → at + slice_index (M.indices marks) k < 2 * cap }
+    requires callable { (b : ℕ) → IsMarked at cap (M.indices marks) b → F.pre cmp.now b }
+    ensures among { IfSome result (IsMarked at cap (M.indices marks)) }
     ensures accepted { IfSome result (λ b. F.post cmp.now b true) }
     ensures first { (accept : ℕ → Bool)
-        → ComparesByBucket (F.post cmp.now) (IsMarked at cap (M.places marks)) accept
-        → result ≡ find accept (map (λ j. (at + j) % cap) (M.places marks)) }
+        → ComparesByBucket (F.post cmp.now) (IsMarked at cap (M.indices marks)) accept
+        → result ≡ find accept (map (λ j. (at + j) % cap) (M.indices marks)) }
 {
     let mut rest = marks;
     while let Some(j) = rest.lowest_set_bit() {

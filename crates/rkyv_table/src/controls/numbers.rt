@@ -113,9 +113,9 @@ pub fn tag(hash: u64) -> u8
 ///
 /// - The index is below `2 * cap`.
 #[inline]
-pub fn bucket_of(place: usize, cap: usize) -> usize
-    requires below { place < 2 * cap }
-    ensures { result ≡ place % cap }
+pub fn bucket_of(index: usize, cap: usize) -> usize
+    requires below { index < 2 * cap }
+    ensures { result ≡ index % cap }
 {
-    if place < cap { place } else { place - cap }
+    if index < cap { index } else { index - cap }
 }

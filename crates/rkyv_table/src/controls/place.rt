@@ -3,7 +3,7 @@
 //! The home bucket of an item is the first empty bucket that its hash probes.
 ghost use Rattle.std.specs.Prelude.{IfErr, IfOk, IsOk, Some, [], length, ◌%◌, ◌+◌, ◌<◌, ◌≡◌, ◌≤◌};
 ghost use Rattle.std.specs.List.{find};
-ghost use Rattle.rkyv_table.specs.Controls.ControlBytes.{HasRoom, empty_place, fresh_controls};
+ghost use Rattle.rkyv_table.specs.Controls.ControlBytes.{HasRoom, empty_index, fresh_controls};
 ghost use Rattle.rkyv_table.specs.Controls.ControlBytes.{is_empty_at, with_control};
 ghost use Rattle.rkyv_table.specs.Controls.Numbers.{tag};
 ghost use Rattle.rkyv_table.specs.Controls.Placing.{IsWrapped, Written};
@@ -18,7 +18,7 @@ use std::alloc::{AllocError, Global};
 #[inline]
 fn first_empty<G: GroupKind>(controls: &[u8], pos: usize) -> Option<usize>
     requires { pos + 16 ≤ length controls.now }
-    ensures { result ≡ empty_place controls.now pos }
+    ensures { result ≡ empty_index controls.now pos }
 {
     for i in 0..16 / G::WIDTH {
         let at = pos + i * G::WIDTH;
@@ -65,8 +65,8 @@ pub fn place_from<G: GroupKind>(controls: &mut [u8], cap: usize, start: usize, h
     ensures after { controls.new ≡ with_control controls.old cap result (tag hash) }
 {
     for pos in Probe::starting_at(start, cap) {
-        if let Some(place) = first_empty::<G>(controls, pos) {
-            let bucket = bucket_of(place, cap);
+        if let Some(index) = first_empty::<G>(controls, pos) {
+            let bucket = bucket_of(index, cap);
             let tag = tag(hash);
             controls[bucket] = tag;
             if bucket < controls.len() - cap {

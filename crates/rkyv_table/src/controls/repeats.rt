@@ -6,15 +6,15 @@ ghost use Rattle.rkyv_table.specs.Controls.Repeating.{FirstUnwrapped, IsWrappedA
 
 // Returns `true` if the control byte at an index from `cap` on is as it must be.
 #[inline]
-fn is_wrapped_at(controls: &[u8], cap: usize, place: usize) -> bool
-    requires from { cap ≤ place }
-    requires inside { place < length controls.now }
-    ensures { IsTrue result ↔ IsWrappedAt cap controls.now place }
+fn is_wrapped_at(controls: &[u8], cap: usize, index: usize) -> bool
+    requires from { cap ≤ index }
+    requires inside { index < length controls.now }
+    ensures { IsTrue result ↔ IsWrappedAt cap controls.now index }
 {
-    if place - cap < cap {
-        controls[place] == controls[place - cap]
+    if index - cap < cap {
+        controls[index] == controls[index - cap]
     } else {
-        controls[place] >= 0x80
+        controls[index] >= 0x80
     }
 }
 
@@ -35,9 +35,9 @@ pub fn check_wrapped(controls: &[u8], cap: usize) -> Result<(), usize>
     ensures repeats { IfOk result (λ _. IsWrapped cap controls.now) }
     ensures fails { IfErr result (FirstUnwrapped cap controls.now) }
 {
-    for place in cap..controls.len() {
-        if !is_wrapped_at(controls, cap, place) {
-            return Err(place);
+    for index in cap..controls.len() {
+        if !is_wrapped_at(controls, cap, index) {
+            return Err(index);
         }
     }
     Ok(())

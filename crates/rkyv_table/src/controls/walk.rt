@@ -23,10 +23,10 @@ pub struct Walk<'a, G: GroupKind> {
 impl<'a, G: GroupKind> Model for Walk<'a, G> {
     ghost Value = { List ℕ };
 
-    ghost view = { λ w. left w.controls.now w.cap w.base G.kind.width (G.Mask.places w.marks) };
+    ghost view = { λ w. left w.controls.now w.cap w.base G.kind.width (G.Mask.indices w.marks) };
 
     ghost invariant = { λ w. IsWalk w.controls.now w.cap w.base G.kind.width
-        (G.Mask.places w.marks) };
+        (G.Mask.indices w.marks) };
 }
 
 // A group of empty control bytes.

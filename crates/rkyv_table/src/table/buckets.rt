@@ -26,7 +26,7 @@ fn fill_bucket<W: Width, U: Archive<W>, X: Lend<U>>(
     requires room { length bucket.old ≡ U.Archived.spec.size }
     requires fits { pos + U.Archived.spec.size < 2 ^ 64 }
     ensures kept { length bucket.new ≡ U.Archived.spec.size }
-    ensures answer { FillsBucket (item_format U.Archived.spec X.lent U.format) slot.now
+    ensures writes { FillsBucket (item_format U.Archived.spec X.lent U.format) slot.now
         rest.old.items rest.new.items (bucket_with pos bucket.new) result }
 {
     match slot {
@@ -54,7 +54,7 @@ fn write_by<W: Width, S: Writer, U: Archive<W>, X: Lend<U>>(
     requires room { length bucket.old ≡ U.Archived.spec.size }
     requires within { end_of (S.output serializer.old) ≤ W.LIMIT }
     ensures kept { length bucket.new ≡ U.Archived.spec.size }
-    ensures answer { WritesBuckets W.LIMIT (item_format U.Archived.spec X.lent U.format)
+    ensures writes { WritesBuckets W.LIMIT (item_format U.Archived.spec X.lent U.format)
         (slots_with slots.now resolvers.items)
         (S.output serializer.old) (S.output serializer.new) result }
 {
@@ -83,7 +83,7 @@ pub(crate) fn write_buckets<W: Width, S: Writer, U: Archive<W>, X: Lend<U>>(
     requires room { length bucket.old ≡ U.Archived.spec.size }
     requires within { end_of (S.output serializer.old) ≤ W.LIMIT }
     ensures kept { length bucket.new ≡ U.Archived.spec.size }
-    ensures answer { WritesBuckets W.LIMIT (item_format U.Archived.spec X.lent U.format)
+    ensures writes { WritesBuckets W.LIMIT (item_format U.Archived.spec X.lent U.format)
         (slots_with slots.now resolvers.items)
         (S.output serializer.old) (S.output serializer.new) result }
 {

@@ -10,7 +10,7 @@ ghost use Rattle.std.specs.Prelude.{◌^◌, ◌≤◌};
 ghost use Rattle.rkyv_base.specs.declared.view.View.{View};
 ghost use Rattle.rkyv_scan.specs.Groups.{generic_kind};
 ghost use Rattle.rkyv_table.specs.Table.Reading.{CountsStrides, FindsItem, FindsItemPos};
-ghost use Rattle.rkyv_table.specs.Table.Reading.{IsFullIn, IsItemIn, CanCompare};
+ghost use Rattle.rkyv_table.specs.Table.Reading.{CanCompare, IsFullIn, IsItemIn};
 
 use crate::controls::find::{Strides, find_from};
 use crate::table::ArchivedHashTable;

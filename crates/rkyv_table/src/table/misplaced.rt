@@ -8,7 +8,7 @@ ghost use Rattle.rkyv_table.specs.Table.Misplaced.{is_found_at};
 ghost use Rattle.rkyv_table.specs.Table.MisplacedIn.{ComparesItems, CountsMisplaced, CountsOwn};
 ghost use Rattle.rkyv_table.specs.Table.MisplacedIn.{CountsUpTo, MayCompare, ReadsUpTo};
 ghost use Rattle.rkyv_table.specs.Table.MisplacedIn.{ReturnsMisplaced, table_len};
-ghost use Rattle.rkyv_table.specs.Table.Reading.{IsFullIn, IsItemIn, CanCompare};
+ghost use Rattle.rkyv_table.specs.Table.Reading.{CanCompare, IsFullIn, IsItemIn};
 
 use crate::controls::find::{Strides, find_from};
 use crate::table::ArchivedHashTable;

@@ -3,7 +3,7 @@
 //! The iterator returns the positions of the items, and `next_view` returns views.
 ghost use Rattle.std.specs.Prelude.{[], IfSome, MatchOption, length, slice_index, take, ◌<◌};
 ghost use Rattle.std.specs.Prelude.{◌≤◌, ◌∷◌, ◌≡◌};
-ghost use Rattle.rkyv_scan.specs.Groups.{is_full, mask_places, places_where};
+ghost use Rattle.rkyv_scan.specs.Groups.{indices_where, is_full, mask_indices};
 ghost use Rattle.std.specs.Iterator.{at_most};
 ghost use Rattle.rkyv_base.specs.View.{IsValidView, archive_of, pos_of};
 ghost use Rattle.rkyv_table.specs.Table.Header.{len_at};
@@ -39,7 +39,7 @@ pub struct RawIter<'a, T> {
 }
 
 impl<'a, T> Model for RawIter<'a, T> {
-    ghost use Rattle.rkyv_scan.specs.Groups.{mask_places};
+    ghost use Rattle.rkyv_scan.specs.Groups.{mask_indices};
     ghost use Rattle.rkyv_table.specs.Table.RawItems.{IsRawIter, ItemsLeft, positions_left};
 
     ghost Value = { ItemsLeft };
@@ -48,11 +48,11 @@ impl<'a, T> Model for RawIter<'a, T> {
       archive = r.archive;
       positions =
           positions_left r.buckets_end r.size r.count r.controls.now r.base
-          (mask_places 8 7 8 r.marks.bits);
+          (mask_indices 8 7 8 r.marks.bits);
     } };
 
     ghost invariant = { λ r. IsRawIter r.buckets_end r.size r.count r.controls.now r.base
-        (mask_places 8 7 8 r.marks.bits) };
+        (mask_indices 8 7 8 r.marks.bits) };
 }
 
 /// Returns the full indices of the first group of control bytes, if there are items.
@@ -60,8 +60,8 @@ impl<'a, T> Model for RawIter<'a, T> {
 fn first_marks(controls: &[u8], len: usize) -> Bitmask
     requires { 0 < len → 8 ≤ length controls.now }
     ensures { 0 < len
-        → mask_places 8 7 8 result.bits
-        ≡ places_where (λ j. is_full (slice_index (take 8 controls.now) j)) 8 }
+        → mask_indices 8 7 8 result.bits
+        ≡ indices_where (λ j. is_full (slice_index (take 8 controls.now) j)) 8 }
 {
     if len == 0 {
         Bitmask::EMPTY

@@ -28,13 +28,13 @@ ghost use Rattle.rkyv_table.specs.Table.SealedItems.{
   SealedBy,
   StaysThere,
   StepsAndWrites,
-  YieldsPosition,
   WrittenBy,
+  YieldsPosition,
   cursor_buckets_left,
   cursor_bytes,
   cursor_len,
 };
-ghost use Rattle.rkyv_table.specs.Table.Bare.{LendsFound, CanCompareOf, table_in};
+ghost use Rattle.rkyv_table.specs.Table.Bare.{CanCompareOf, LendsFound, table_in};
 ghost use Rattle.rkyv_table.specs.Table.RawItems.{pos_before};
 ghost use Rattle.rkyv_table.specs.Table.SealedLookup.{IsTableSeal};
 ghost use Rattle.rkyv_base.specs.ElementSpec.{Viewable};
@@ -77,9 +77,9 @@ fn pos_before(buckets_end: usize, bucket: usize, size: usize) -> Option<usize>
     Some(buckets_end - behind as usize)
 }
 
-/// A bucket, and the position of its item.
+/// The next item of a cursor: its bucket and its position.
 #[derive(Clone, Copy)]
-struct Place {
+struct NextItem {
     bucket: usize,
     at: usize,
 }
@@ -112,7 +112,7 @@ impl<'a, T: Element> RawIterSeal<'a, T> {
 
     // Returns the first item that remains, or `None`.
     #[inline]
-    fn first(&self) -> Option<Place>
+    fn first(&self) -> Option<NextItem>
         ensures some { IfSome result (λ _. 0 < cursor_len self.now) }
         ensures below { IfSome result (λ f. f.bucket < self.now.cap) }
         ensures inside { IfSome result (λ f. f.at + T.spec.size ≤ length (cursor_bytes self.now)) }
@@ -129,7 +129,7 @@ impl<'a, T: Element> RawIterSeal<'a, T> {
             None => return None,
         };
         match pos_before(self.buckets_end, bucket, T::size()) {
-            Some(at) => Some(Place { bucket, at }),
+            Some(at) => Some(NextItem { bucket, at }),
             None => None,
         }
     }
@@ -316,12 +316,12 @@ impl<'a, T: Element, W: Width> ArchivedHashTable<'a, T, W> {
     /// fn write_stepping(bytes: &mut [u8]) -> Result<([Option<u64>; 3], usize), VerifyError> {
     ///     let whole = access_mut::<TableOf<u8>>(bytes)?;
     ///     let mut rest = ArchivedHashTable::raw_iter_seal(whole);
-    ///     let places = [
+    ///     let positions = [
     ///         rest.next_with(|archive: &mut [u8], pos: u64| change(archive, pos, 7)),
     ///         rest.next_with(|archive: &mut [u8], pos: u64| change(archive, pos, 9)),
     ///         rest.next_with(|archive: &mut [u8], pos: u64| change(archive, pos, 11)),
     ///     ];
-    ///     Ok((places, rest.len()))
+    ///     Ok((positions, rest.len()))
     /// }
     /// ```
     #[inline]

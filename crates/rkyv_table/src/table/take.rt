@@ -3,12 +3,12 @@
 //! The number of pairs is counted up to one more than claimed.
 
 ghost use Rattle.std.specs.Prelude.{◌≡◌, ℕ, ◌%◌, ◌+◌, ◌<◌, ◌∷◌, ◌++◌, List, []};
-ghost use Rattle.std.specs.Prelude.{MatchResult, None, Some, replicate, IfSome, length, slice_set};
+ghost use Rattle.std.specs.Prelude.{IfSome, MatchResult, None, Some, length, replicate, slice_set};
 ghost use Rattle.std.specs.Iterator.{Drains};
 ghost use Rattle.rkyv_table.specs.Controls.ControlBytes.{fresh_controls};
 ghost use Rattle.rkyv_table.specs.Table.Counting.{YieldsOtherCount};
 ghost use Rattle.rkyv_table.specs.Table.Input.{PlacesInput, from_iter};
-ghost use Rattle.rkyv_table.specs.Table.PlacedItems.{HasPlace, Placed};
+ghost use Rattle.rkyv_table.specs.Table.PlacedItems.{HasEmptyBucket, Placed};
 
 use crate::controls::place::place_from;
 use crate::controls::reciprocal::Reciprocal;
@@ -47,7 +47,7 @@ pub(crate) fn place_item<G: GroupKind, X: Drop>(
     hash: u64,
     item: X,
 )
-    requires room { HasPlace cap slots.old controls.old }
+    requires room { HasEmptyBucket cap slots.old controls.old }
     requires begun { start ≡ hash % cap }
     ensures { (pairs : List (ℕ × X)) → Placed cap pairs slots.old controls.old
         → Placed cap (pairs ++ (hash, item) ∷ []) slots.new controls.new }

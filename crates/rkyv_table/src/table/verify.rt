@@ -9,7 +9,7 @@ ghost use Rattle.std.specs.Prelude.{IfErr, IfOk, MatchResult, length, ◌%◌, �
 ghost use Rattle.std.specs.Int.{byte_len};
 ghost use Rattle.rkyv_base.specs.Checking.{Fails, Passes};
 ghost use Rattle.rkyv_table.specs.Controls.Numbers.{control_count};
-ghost use Rattle.rkyv_table.specs.Table.Places.{ChecksValue, FirstFails, SomeHold};
+ghost use Rattle.rkyv_table.specs.Table.ValidItems.{AreValid, ChecksValue, FirstFails};
 ghost use Rattle.rkyv_table.specs.Controls.Placing.{walk};
 ghost use Rattle.rkyv_table.specs.Table.Layout.{FailsInside, IsPart, bucket_at, part_size};
 ghost use Rattle.rkyv_table.specs.Table.Layout.{table_spec};
@@ -58,7 +58,7 @@ fn check_items<G: GroupKind, T: Element>(
     requires aligned { begin % T.spec.align ≡ 0 }
     requires ordered { lo ≤ begin }
     ensures hold { IfOk result (λ _.
-        SomeHold T.spec (bucket_at T.spec.size begin cap) bytes.now begin (walk controls.now cap)
+        AreValid T.spec (bucket_at T.spec.size begin cap) bytes.now begin (walk controls.now cap)
         lo) }
     ensures count { IfOk result (λ n. n ≡ length (walk controls.now cap)) }
     ensures fails { IfErr result (FirstFails T.spec (bucket_at T.spec.size begin cap) bytes.now

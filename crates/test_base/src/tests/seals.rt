@@ -19,11 +19,11 @@ use std::test::Fail;
 use test_support::written::is_archived_as;
 
 // Writes by `Seal::over`. The contract states all bytes after the write.
-fn sets_over(bytes: &mut [u8], place: usize, value: i64)
-    requires { place + 8 ≤ length bytes.old }
-    ensures { bytes.new ≡ with_value (signed w64) bytes.old place value }
+fn sets_over(bytes: &mut [u8], pos: usize, value: i64)
+    requires { pos + 8 ≤ length bytes.old }
+    ensures { bytes.new ≡ with_value (signed w64) bytes.old pos value }
 {
-    let mut seal = Seal::<i64>::over(bytes, place);
+    let mut seal = Seal::<i64>::over(bytes, pos);
     seal.set(value);
 }
 

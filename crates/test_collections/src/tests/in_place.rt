@@ -53,16 +53,16 @@ fn change_small(bytes: &mut [u8], key: i8, byte: u8) -> Option<Option<u64>> {
 #[test]
 fn a_found_value_is_written_over_the_bare_bytes(rt: HostRuntime) {
     let mut bytes = four_pairs();
-    let place = change_small(&mut bytes, 7, 70);
+    let key_pos = change_small(&mut bytes, 7, 70);
     let same = bytes == four_with([3, 4, 1, 2, 0, 0, 7, 70, 5, 6]);
-    expect_eq!(rt; (place, same), (Some(Some(7)), true));
+    expect_eq!(rt; (key_pos, same), (Some(Some(7)), true));
 }
 
 #[test]
 fn lookup_of_a_missing_key_changes_nothing(rt: HostRuntime) {
     let mut bytes = four_pairs();
-    let place = change_small(&mut bytes, 9, 70);
-    expect_eq!(rt; (place, bytes == four_pairs()), (Some(None), true));
+    let key_pos = change_small(&mut bytes, 9, 70);
+    expect_eq!(rt; (key_pos, bytes == four_pairs()), (Some(None), true));
 }
 
 // Writes a byte behind the key of each pair while the cursor steps. Returns the results of five
@@ -71,8 +71,8 @@ fn change_stepping(bytes: &mut [u8], byte: u8) -> Result<([Option<u64>; 5], usiz
     let whole = access_mut::<Small>(bytes)?;
     let mut rest = ArchivedHashMap::iter_seal(whole);
     let mut positions = [None; 5];
-    for place in &mut positions {
-        *place = rest.next_with(|archive: &mut [u8], pos: u64| {
+    for key_pos in &mut positions {
+        *key_pos = rest.next_with(|archive: &mut [u8], pos: u64| {
             let _value = change(archive, pos.wrapping_add(1), byte);
         });
     }

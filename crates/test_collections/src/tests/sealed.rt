@@ -40,12 +40,12 @@ fn value_found<K: KeyElement, V: Element, H: KeyHasher, W: Width, Q: Query<K>>(
 ) -> Option<u64>
     requires map { Viewable (map_spec W.word K.spec V.spec) bytes.now root }
     requires query { Q.can_read key.now }
-    ensures walked { IfSome result (λ pos. (place : ℕ)
-        × IsKeyPosAt W.word K.spec V.spec bytes.now root place
-        × (pos ≡ value_pos K.spec V.spec place)) }
-    ensures answer { let hash = hash_of_calls H.hasher (Q.calls key.now) in
-        FindsIn (map_at W.Word K.HasSpec V.HasSpec bytes.now root) hash (Q.fits key.now)
-        (λ place. result ≡ option_map (value_pos K.spec V.spec) place) }
+    ensures walked { IfSome result (λ pos. (key_pos : ℕ)
+        × IsKeyPosAt W.word K.spec V.spec bytes.now root key_pos
+        × (pos ≡ value_pos K.spec V.spec key_pos)) }
+    ensures finds { let h = hash_of_calls H.hasher (Q.calls key.now) in
+        FindsIn (map_at W.Word K.HasSpec V.HasSpec bytes.now root) h (Q.fits key.now)
+        (λ key_pos. result ≡ option_map (value_pos K.spec V.spec) key_pos) }
 {
     let map = ArchivedHashMap::<K, V, H, W>::of(View::new(bytes, root));
     match map.get(key) {
@@ -62,8 +62,8 @@ fn write_value<K: KeyElement, N: Scalar, H: KeyHasher, W: Width>(
     value: N,
 )
     requires map { Viewable (map_spec W.word K.spec N.spec) bytes.old root }
-    requires place { (place : ℕ) × IsKeyPosAt W.word K.spec N.spec bytes.old
-        root place × (pos ≡ value_pos K.spec N.spec place) }
+    requires key_pos { (key_pos : ℕ) × IsKeyPosAt W.word K.spec N.spec bytes.old
+        root key_pos × (pos ≡ value_pos K.spec N.spec key_pos) }
     ensures kept { let key_hash = hash_at H.hasher K.key_calls in
         (i : ℕ) × KeepsIn (map_at W.Word K.HasSpec N.HasSpec bytes.old root) key_hash bytes.new i }
     ensures reads { value_at N.encoding bytes.new pos ≡ value }

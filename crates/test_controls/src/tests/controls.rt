@@ -159,7 +159,7 @@ fn numbers(rt: HostRuntime) {
 }
 
 // Returns the first four indices of a probe sequence.
-fn four_places(start: u64, cap: usize) -> [Option<usize>; 4]
+fn four_indices(start: u64, cap: usize) -> [Option<usize>; 4]
     requires some { 0 < cap }
     requires fits { control_count cap ≤ 2 ^ 63 }
 {
@@ -168,16 +168,16 @@ fn four_places(start: u64, cap: usize) -> [Option<usize>; 4]
 }
 
 #[test]
-fn probe_places(rt: HostRuntime) {
+fn probe_indices(rt: HostRuntime) {
     laws::strides_cover();
     laws::buckets_are_probed();
-    let places = [
-        four_places(1, 33),
-        four_places(32, 33),
-        four_places(5, 1 << 62),
+    let indices = [
+        four_indices(1, 33),
+        four_indices(32, 33),
+        four_indices(5, 1 << 62),
     ];
     expect_eq!(rt;
-        places,
+        indices,
         [
             [Some(1), Some(17), Some(33), None],
             [Some(32), Some(16), Some(0), None],
@@ -187,10 +187,10 @@ fn probe_places(rt: HostRuntime) {
 }
 
 #[test]
-fn sixteen_buckets_are_one_place(rt: HostRuntime) {
+fn sixteen_buckets_are_one_stride(rt: HostRuntime) {
     let mut right = true;
     for start in 0..16 {
-        right = right && four_places(start, 16) == [Some(start as usize), None, None, None];
+        right = right && four_indices(start, 16) == [Some(start as usize), None, None, None];
     }
     assert!(rt; right);
 }

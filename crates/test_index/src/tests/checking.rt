@@ -78,7 +78,7 @@ fn a_wide_map_is_accepted(rt: HostRuntime) -> Result<(), Fail> {
     let root = access_in::<Wide, IndexMapOf<i8, i8, FxHasher64, Wide>>(&bytes)?;
     let map = ArchivedIndexMap::of(root);
     let found = match map.get_full(&1) {
-        Some((place, _, value)) => (place, value.to_native()),
+        Some((index, _, value)) => (index, value.to_native()),
         None => (9, 0),
     };
     expect_eq!(rt; found, (0, 2));

@@ -8,7 +8,7 @@ use rkyv_index::{ArchivedIndexMap, ArchivedIndexSet, IndexMapOf, IndexSetOf};
 use rkyv_scan::hash::FxHasher64;
 use test_support::archives::{four_entries, one_index_key};
 
-// The results of the forms of a lookup: place, key and value; key and value; the value; the place;
+// The results of the forms of a lookup: index, key and value; key and value; the value; the index;
 // whether the key is found.
 type Found = (
     Option<(usize, i8, i8)>,
@@ -22,7 +22,7 @@ fn found<W: Width>(bytes: &[u8], key: i8) -> Result<Found, VerifyError> {
     let root = access_in::<W, IndexMapOf<i8, i8, FxHasher64, W>>(bytes)?;
     let map = ArchivedIndexMap::of(root);
     let full = match map.get_full(&key) {
-        Some((place, key, value)) => Some((place, key.to_native(), value.to_native())),
+        Some((index, key, value)) => Some((index, key.to_native(), value.to_native())),
         None => None,
     };
     let pair = match map.get_key_value(&key) {
@@ -42,14 +42,14 @@ fn found<W: Width>(bytes: &[u8], key: i8) -> Result<Found, VerifyError> {
     ))
 }
 
-// The same in a set: place and key; the key; the place; whether the key is found.
+// The same in a set: index and key; the key; the index; whether the key is found.
 type Member = (Option<(usize, i8)>, Option<i8>, Option<usize>, bool);
 
 fn member(bytes: &[u8], key: i8) -> Result<Member, VerifyError> {
     let root = access_in::<Narrow, IndexSetOf<i8>>(bytes)?;
     let set = ArchivedIndexSet::of(root);
     let full = match set.get_full(&key) {
-        Some((place, key)) => Some((place, key.to_native())),
+        Some((index, key)) => Some((index, key.to_native())),
         None => None,
     };
     let stored = match set.get(&key) {
@@ -60,18 +60,18 @@ fn member(bytes: &[u8], key: i8) -> Result<Member, VerifyError> {
 }
 
 // The results of the forms for a pair that is found.
-fn pair(place: usize, key: i8, value: i8) -> Option<Found> {
+fn pair(index: usize, key: i8, value: i8) -> Option<Found> {
     Some((
-        Some((place, key, value)),
+        Some((index, key, value)),
         Some((key, value)),
         Some(value),
-        Some(place),
+        Some(index),
         true,
     ))
 }
 
 #[test]
-fn all_forms_find_pairs_with_their_places(rt: HostRuntime) {
+fn all_forms_find_pairs_with_their_indices(rt: HostRuntime) {
     let none: Option<Found> = Some((None, None, None, None, false));
     let found = [
         found::<Narrow>(&four_entries(), 1).ok(),

@@ -13,11 +13,11 @@ use test_support::archives::four_entries;
 type Small = IndexMapOf<i8, i8>;
 
 #[test]
-fn a_key_is_found_with_its_place(rt: HostRuntime) -> Result<(), Fail> {
+fn a_key_is_found_with_its_index(rt: HostRuntime) -> Result<(), Fail> {
     let bytes = four_entries();
     let map = ArchivedIndexMap::of(access::<Small>(&bytes)?);
     let found = match map.get_full(&7) {
-        Some((place, key, value)) => (place, key.to_native(), value.to_native()),
+        Some((index, key, value)) => (index, key.to_native(), value.to_native()),
         None => (0, 0, 0),
     };
     let second = match map.get_index(1) {
@@ -43,9 +43,9 @@ fn every_form_finds_the_same(rt: HostRuntime) -> Result<(), Fail> {
         Some((key, _)) => key.to_native(),
         None => 0,
     };
-    let place = map.get_index_of(&5);
+    let index = map.get_index_of(&5);
     expect_eq!(rt; (key, value), (5, 6));
-    assert!(rt; place == Some(2));
+    assert!(rt; index == Some(2));
     assert!(rt; map.contains_key(&5));
     Ok(())
 }
@@ -55,7 +55,7 @@ fn lookup_takes_a_comparison(rt: HostRuntime) -> Result<(), Fail> {
     let bytes = four_entries();
     let map = ArchivedIndexMap::of(access::<Small>(&bytes)?);
     let found = match map.get_full_with(&5i8, |_: &i8, _: View<'_, i8>| true) {
-        Some((place, _, value)) => (place, value.to_native()),
+        Some((index, _, value)) => (index, value.to_native()),
         None => (0, 0),
     };
     let value = match map.get_with(&5i8, |_: &i8, _: View<'_, i8>| true) {
@@ -66,9 +66,9 @@ fn lookup_takes_a_comparison(rt: HostRuntime) -> Result<(), Fail> {
         Some((key, _)) => key.to_native(),
         None => 0,
     };
-    let place = map.get_index_of_with(&5i8, |_: &i8, _: View<'_, i8>| true);
+    let index = map.get_index_of_with(&5i8, |_: &i8, _: View<'_, i8>| true);
     expect_eq!(rt; (found, value, key), ((2, 6), 6, 5));
-    assert!(rt; place == Some(2));
+    assert!(rt; index == Some(2));
     Ok(())
 }
 
@@ -109,7 +109,7 @@ fn of_equal_keys_the_first_is_found(rt: HostRuntime) -> Result<(), Fail> {
     let bytes = one_key_twice();
     let map = ArchivedIndexMap::of(access::<Small>(&bytes)?);
     let found = match map.get_full(&1) {
-        Some((place, _, value)) => (place, value.to_native()),
+        Some((index, _, value)) => (index, value.to_native()),
         None => (9, 0),
     };
     let second = match map.get_index(1) {
@@ -184,7 +184,7 @@ fn an_index_in_two_buckets(rt: HostRuntime) -> Result<(), Fail> {
     bytes[4] = 0;
     let map = ArchivedIndexMap::of(access::<Small>(&bytes)?);
     let found = match map.get_full(&1) {
-        Some((place, key, value)) => (place, key.to_native(), value.to_native()),
+        Some((index, key, value)) => (index, key.to_native(), value.to_native()),
         None => (9, 0, 0),
     };
     expect_eq!(rt; (found, map.misplaced()), ((0, 1, 2), 1));

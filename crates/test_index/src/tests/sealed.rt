@@ -35,8 +35,8 @@ fn value_of(bytes: &[u8], key: i8) -> Result<Option<i8>, VerifyError> {
 fn replace(bytes: &mut [u8], key: i8, value: i8) -> Result<Option<(usize, i8, i8)>, VerifyError> {
     let whole = access_mut::<Small>(bytes)?;
     match ArchivedIndexMap::get_full_seal(whole, &key) {
-        Some((place, stored, mut seal)) => {
-            let before = (place, stored.to_native(), seal.to_native());
+        Some((index, stored, mut seal)) => {
+            let before = (index, stored.to_native(), seal.to_native());
             seal.set(value);
             Ok(Some(before))
         }
@@ -53,8 +53,8 @@ fn replace_by(
 ) -> Result<Option<(usize, i8, i8)>, VerifyError> {
     let whole = access_mut::<Small>(bytes)?;
     match ArchivedIndexMap::get_full_seal_with(whole, &key, |_: &i8, _: View<'_, i8>| accepts) {
-        Some((place, stored, mut seal)) => {
-            let before = (place, stored.to_native(), seal.to_native());
+        Some((index, stored, mut seal)) => {
+            let before = (index, stored.to_native(), seal.to_native());
             seal.set(value);
             Ok(Some(before))
         }
@@ -189,14 +189,14 @@ fn unsuccessful_lookup_returns_no_seal(rt: HostRuntime) {
 }
 
 // Returns the index of a key, by a plain lookup in the map at `root`.
-fn place_of<K: KeyElement, V: Element, H: KeyHasher, W: Width, Q: Query<K>>(
+fn index_of<K: KeyElement, V: Element, H: KeyHasher, W: Width, Q: Query<K>>(
     bytes: &[u8],
     root: u64,
     key: &Q,
 ) -> Option<usize>
     requires map { Viewable (index_spec W.word (entry_spec K.spec V.spec)) bytes.now root }
     requires query { Q.can_read key.now }
-    ensures { IfSome result (λ place. place < len_at W.word bytes.now root) }
+    ensures { IfSome result (λ index. index < len_at W.word bytes.now root) }
 {
     ArchivedIndexMap::<K, V, H, W>::of(View::new(bytes, root)).get_index_of(key)
 }
@@ -210,10 +210,10 @@ fn write_at<A, K: KeyElement + Represents<A>, N: Scalar, H: KeyHasher, W: Width,
     requires { Q.can_read key.now }
 {
     let root = access_in::<W, IndexMapOf<K, N, H, W>>(&*bytes)?.pos();
-    match place_of::<K, N, H, W, Q>(&*bytes, root, key) {
-        Some(place) => {
-            set_value_at::<A, K, N, H, W>(bytes, root, place, value);
-            Ok(Some(place))
+    match index_of::<K, N, H, W, Q>(&*bytes, root, key) {
+        Some(index) => {
+            set_value_at::<A, K, N, H, W>(bytes, root, index, value);
+            Ok(Some(index))
         }
         None => Ok(None),
     }
@@ -225,7 +225,7 @@ fn write_small(bytes: &mut [u8], key: i8, value: i8) -> Result<Option<usize>, Ve
 }
 
 #[test]
-fn a_value_is_written_by_its_place(rt: HostRuntime) {
+fn a_value_is_written_by_its_index(rt: HostRuntime) {
     let mut bytes = four_entries();
     let written = [
         write_small(&mut bytes, 5, -1).ok(),

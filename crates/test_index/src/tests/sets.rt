@@ -21,7 +21,7 @@ fn one_item_is_written(rt: HostRuntime) -> Result<(), Fail> {
     expect_eq!(rt; bytes.as_slice(), one_index_key().as_slice());
     let set = ArchivedIndexSet::of(access::<Keys>(bytes.as_slice())?);
     let found = match set.get_full(&1) {
-        Some((place, key)) => (place, key.to_native()),
+        Some((index, key)) => (index, key.to_native()),
         None => (9, 0),
     };
     expect_eq!(rt; found, (0, 1));
@@ -89,8 +89,8 @@ fn keys_are_found(rt: HostRuntime) -> Result<(), Fail> {
         (has, none, same, set.is_empty()),
         (true, false, true, false)
     );
-    let place = set.get_index_of(&3);
-    assert!(rt; place == Some(2));
+    let index = set.get_index_of(&3);
+    assert!(rt; index == Some(2));
     assert!(rt; set.get_index(3).is_none());
     let mut last = [0; 2];
     for key in set {

@@ -8,7 +8,7 @@ use rkyv_base::limit::{LimitFault, LimitWriter};
 use rkyv_base::root::{to_bytes, to_bytes_in, write_root};
 use rkyv_base::width::{Narrow, Wide};
 use rkyv_base::writer::{NoMemory, VecWriter};
-use rkyv_index::width::PlaceWidth;
+use rkyv_index::width::IndexMapWidth;
 use rkyv_index::{ArchivedIndexMap, IndexMapOf, OrderedItems, OrderedPairs};
 use rkyv_keys::keys::{KeyElement, NativeKey};
 use rkyv_scan::hash::FxHasher64;
@@ -25,7 +25,7 @@ fn list_of(alloc: Global, pairs: &[(i8, i8)]) -> Result<OrderedPairs<i8, i8>, Al
 }
 
 // Returns the archive of a list of pairs as an index map.
-fn map_archive<W: PlaceWidth, A: Serialize<VecWriter, W>, B: Serialize<VecWriter, W>>(
+fn map_archive<W: IndexMapWidth, A: Serialize<VecWriter, W>, B: Serialize<VecWriter, W>>(
     alloc: Global,
     list: &OrderedPairs<A, B>,
 ) -> Result<Vec<u8>, WriteError<NoMemory>>

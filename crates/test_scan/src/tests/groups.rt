@@ -9,14 +9,14 @@ fn is_over<M: Marks>(mut items: M) -> bool {
 }
 
 // Returns `true` if the mask's indices are these, by its iterator and by its methods.
-fn marks<M: Marks>(mask: M, places: &[usize]) -> bool {
+fn marks<M: Marks>(mask: M, indices: &[usize]) -> bool {
     let mut items = mask;
     let mut left = mask;
-    for place in places {
+    for index in indices {
         if !left.any_bit_set() {
             return false;
         }
-        if left.lowest_set_bit() != Some(*place) || items.next() != Some(*place) {
+        if left.lowest_set_bit() != Some(*index) || items.next() != Some(*index) {
             return false;
         }
         left = left.remove_lowest_bit();
@@ -26,14 +26,14 @@ fn marks<M: Marks>(mask: M, places: &[usize]) -> bool {
 
 // The indices that a group marks: of a byte, of the empty control bytes, and of the full ones.
 #[derive(Clone, Copy)]
-struct Places<'a> {
+struct Indices<'a> {
     byte: &'a [usize],
     empty: &'a [usize],
     full: &'a [usize],
 }
 
 // Returns `true` if the first group of the control bytes marks these indices.
-fn matches<G: GroupKind>(controls: &[u8], byte: u8, expected: &Places) -> bool {
+fn matches<G: GroupKind>(controls: &[u8], byte: u8, expected: &Indices) -> bool {
     if controls.len() < G::WIDTH {
         return false;
     }
@@ -46,8 +46,8 @@ fn matches<G: GroupKind>(controls: &[u8], byte: u8, expected: &Places) -> bool {
 // Returns the control bytes, followed by eight empty ones.
 fn padded(controls: [u8; 8]) -> [u8; 16] {
     let mut all = [0xff; 16];
-    for place in 0..8 {
-        all[place] = controls[place];
+    for index in 0..8 {
+        all[index] = controls[index];
     }
     all
 }
@@ -68,20 +68,20 @@ struct Marked<'a> {
 // sixteen lanes, and sixteen lanes that mark as two words.
 fn each_kind_matches(eight: [u8; 8], byte: u8, marked: &Marked) -> [bool; 4] {
     let controls = padded(eight);
-    let exact = Places {
+    let exact = Indices {
         byte: marked.byte,
         empty: marked.empty_of_eight,
         full: marked.full,
     };
-    let word = Places {
+    let word = Indices {
         byte: marked.by_word,
         ..exact
     };
-    let wide = Places {
+    let wide = Indices {
         empty: marked.empty,
         ..exact
     };
-    let both_words = Places {
+    let both_words = Indices {
         empty: marked.empty,
         ..word
     };
@@ -138,12 +138,12 @@ fn marks_any_high_bit_as_empty(rt: HostRuntime) {
         0xff, 0x80, 0x7f, 0x00, 0x28, 0xfe, 0x01, 0x81, 0xff, 0xff, 0xff, 0xff, 0xff, 0xff, 0xff,
         0x00,
     ];
-    let wide = Places {
+    let wide = Indices {
         byte: &[4],
         empty: &[0, 1, 5, 7, 8, 9, 10, 11, 12, 13, 14],
         full: &[2, 3, 4, 6, 15],
     };
-    let eight = Places {
+    let eight = Indices {
         byte: &[4],
         empty: &[0, 1, 5, 7],
         full: &[2, 3, 4, 6],
@@ -166,11 +166,11 @@ fn marks_any_high_bit_as_empty(rt: HostRuntime) {
 fn halves_match(
     controls: &[u8; 16],
     byte: u8,
-    places: &[usize],
+    indices: &[usize],
     words: [&[usize]; 2],
 ) -> [bool; 3] {
     [
-        marks(paired::Group::read(controls, 0).match_byte(byte), places),
+        marks(paired::Group::read(controls, 0).match_byte(byte), indices),
         marks(generic::Group::read(controls, 0).match_byte(byte), words[0]),
         marks(generic::Group::read(controls, 8).match_byte(byte), words[1]),
     ]
@@ -243,7 +243,7 @@ fn root_group_marks_as_the_word_kind(rt: HostRuntime) {
 
 // Returns `true` if the group's clone marks the indices for the byte,
 // and the clone of its mask has them.
-fn clones_match<G: GroupKind>(controls: &[u8; 16], byte: u8, places: &[usize]) -> bool {
+fn clones_match<G: GroupKind>(controls: &[u8; 16], byte: u8, indices: &[usize]) -> bool {
     if G::WIDTH > 16 {
         return false;
     }
@@ -251,7 +251,7 @@ fn clones_match<G: GroupKind>(controls: &[u8; 16], byte: u8, places: &[usize]) -
         return false;
     };
     match group.match_byte(byte).clone() {
-        Ok(mask) => marks(mask, places),
+        Ok(mask) => marks(mask, indices),
         Err(_) => false,
     }
 }
@@ -285,7 +285,7 @@ fn rest_is_cloned<M: Marks>(mask: M, others: &[usize]) -> bool {
 
 // Returns `true` for each mask of a clone of the group whose own clone has the other indices: that
 // of a byte, of the empty control bytes and of the full ones.
-fn rests_are_cloned<G: GroupKind>(controls: &[u8; 16], byte: u8, others: &Places) -> [bool; 3] {
+fn rests_are_cloned<G: GroupKind>(controls: &[u8; 16], byte: u8, others: &Indices) -> [bool; 3] {
     if G::WIDTH > 16 {
         return [false; 3];
     }
@@ -304,12 +304,12 @@ fn a_clone_of_a_mask_has_the_indices_that_are_left(rt: HostRuntime) {
     let mut controls = [0xffu8; 16];
     controls[3] = 0x28;
     controls[6] = 0x28;
-    let eight = Places {
+    let eight = Indices {
         byte: &[6],
         empty: &[1, 2, 4, 5, 7],
         full: &[6],
     };
-    let sixteen = Places {
+    let sixteen = Indices {
         empty: &[1, 2, 4, 5, 7, 8, 9, 10, 11, 12, 13, 14, 15],
         ..eight
     };

@@ -143,12 +143,12 @@ fn change(archive: &mut [u8], pos: u64, byte: u8) {
 fn write_stepping(bytes: &mut [u8]) -> Result<([Option<u64>; 3], usize), VerifyError> {
     let whole = access_mut::<TableOf<u8>>(bytes)?;
     let mut rest = ArchivedHashTable::raw_iter_seal(whole);
-    let places = [
+    let positions = [
         rest.next_with(|archive: &mut [u8], pos: u64| change(archive, pos, 7)),
         rest.next_with(|archive: &mut [u8], pos: u64| change(archive, pos, 9)),
         rest.next_with(|archive: &mut [u8], pos: u64| change(archive, pos, 11)),
     ];
-    Ok((places, rest.len()))
+    Ok((positions, rest.len()))
 }
 
 #[test]

@@ -45,10 +45,10 @@ fn viewed_and_placed(
     expected: u8,
 ) -> Result<(Option<u8>, Option<u64>), VerifyError> {
     let table = ArchivedHashTable::of(access_in::<Narrow, TableOf<u8>>(bytes)?);
-    let place = table.get_pos_with(hash, |item| item.to_native() == expected);
+    let pos = table.get_pos_with(hash, |item| item.to_native() == expected);
     match table.get_with(hash, |item| item.to_native() == expected) {
-        Some(item) => Ok((Some(item.to_native()), place)),
-        None => Ok((None, place)),
+        Some(item) => Ok((Some(item.to_native()), pos)),
+        None => Ok((None, pos)),
     }
 }
 

@@ -23,7 +23,7 @@ returns-in-None-clause-listed c = λ factor list represents.
 pub returns-in-Some-clause-found : goal.returns-in-Some-clause-found
 returns-in-Some-clause-found c =
     let at = ap (λ a. number_at w32 a.now c.in-Some.number.pos) (sym c.in-Some.ensures.walked.at.0) in
-    ap Some (sym (at ∙ c.to_native.ensures)) ∙ ap (option_map (number_at w32 (map_bytes c.args.fields))) c.in-Some.ensures.answer
+    ap Some (sym (at ∙ c.to_native.ensures)) ∙ ap (option_map (number_at w32 (map_bytes c.args.fields))) c.in-Some.ensures.finds
 
 pub returns-in-None-clause-found : goal.returns-in-None-clause-found
-returns-in-None-clause-found c = ap (option_map (number_at w32 (map_bytes c.args.fields))) c.in-None.ensures.answer
+returns-in-None-clause-found c = ap (option_map (number_at w32 (map_bytes c.args.fields))) c.in-None.ensures.finds

@@ -6,7 +6,7 @@ use Rattle.rkyv_base.specs.Sealing.{value_pos}
 use Rattle.rkyv_keys.specs.OfTexts.{same_bytes}
 use Rattle.rkyv_collections.specs.Map.{FindsFirstKeyAt}
 use Rattle.rkyv_collections.specs.Map.MapSpec.{IsKeyPosAt}
-use Rattle.example_message.specs.Message.{IsFields, IsMessage, ValidationFails, PartsRepresent, Represents, fields_spec, is_named, is_named_at, name_hash, name_spec, value_found}
+use Rattle.example_message.specs.Message.{IsFields, IsMessage, PartsRepresent, Represents, ValidationFails, fields_spec, is_named, is_named_at, name_hash, name_spec, value_found}
 use Rattle.rkyv_table.proofs.Moved.{moved}
 use Rattle.rkyv_collections.proofs.FoundValues.{read_at}
 use Rattle.example_message.proofs.Found.{no_part_found, part_found}
@@ -62,24 +62,24 @@ returns-in-Some-clause-first c = λ homes written.
     let at = read_at c.of-map.result _ _ _ c.of-map.ensures.view c.in_ok-access.ensures.root.1 in
     let found : ℕ = c.in-Some.fields.pos in
     ap Some c.pos.ensures
-    ∙ moved (λ b p. FindsFirstKeyAt w32 name_spec fields_spec b p name_hash (is_named_at c.args.part.now b) (λ place. Some found ≡ option_map (value_pos name_spec fields_spec) place)) _ _ _ _
+    ∙ moved (λ b p. FindsFirstKeyAt w32 name_spec fields_spec b p name_hash (is_named_at c.args.part.now b) (λ key_pos. Some found ≡ option_map (value_pos name_spec fields_spec) key_pos)) _ _ _ _
     at.0 at.1 c.in-Some.ensures.first homes written
 
 pub returns-in-None-clause-first : goal.returns-in-None-clause-first
 returns-in-None-clause-first c =
     let at = read_at c.of-map.result _ _ _ c.of-map.ensures.view c.in_ok-access.ensures.root.1 in
     let none : Option ℕ = None in
-    moved (λ b p. FindsFirstKeyAt w32 name_spec fields_spec b p name_hash (is_named_at c.args.part.now b) (λ place. none ≡ option_map (value_pos name_spec fields_spec) place)) _ _ _ _
+    moved (λ b p. FindsFirstKeyAt w32 name_spec fields_spec b p name_hash (is_named_at c.args.part.now b) (λ key_pos. none ≡ option_map (value_pos name_spec fields_spec) key_pos)) _ _ _ _
     at.0 at.1 c.in-None.ensures.first
 
 pub returns-in-Some-clause-found : goal.returns-in-Some-clause-found
 returns-in-Some-clause-found c =
     let at = read_at c.of-map.result _ _ _ c.of-map.ensures.view c.in_ok-access.ensures.root.1 in
     let found : ℕ = c.in-Some.fields.pos in
-    ap Some c.pos.ensures ∙ moved (λ b p. Some found ≡ value_found fields_spec c.args.part.now b p) _ _ _ _ at.0 at.1 c.in-Some.ensures.answer
+    ap Some c.pos.ensures ∙ moved (λ b p. Some found ≡ value_found fields_spec c.args.part.now b p) _ _ _ _ at.0 at.1 c.in-Some.ensures.finds
 
 pub returns-in-None-clause-found : goal.returns-in-None-clause-found
 returns-in-None-clause-found c =
     let at = read_at c.of-map.result _ _ _ c.of-map.ensures.view c.in_ok-access.ensures.root.1 in
     let none : Option ℕ = None in
-    moved (λ b p. none ≡ value_found fields_spec c.args.part.now b p) _ _ _ _ at.0 at.1 c.in-None.ensures.answer
+    moved (λ b p. none ≡ value_found fields_spec c.args.part.now b p) _ _ _ _ at.0 at.1 c.in-None.ensures.finds

@@ -18,8 +18,8 @@ use Rattle.example_symbols.proofs.Found.{none_read, number_read}
 use Rattle.example_symbols.proofs.table.address_in.Goals as goal
 
 -- the position of the value whose key a lookup of the name finds in some bytes
-abbrev place : List ℕ → List ℕ → ℕ → Option ℕ
-place name b p = option_map (λ q. q + value_offset name_spec address_spec)
+abbrev address_pos : List ℕ → List ℕ → ℕ → Option ℕ
+address_pos name b p = option_map (λ q. q + value_offset name_spec address_spec)
     (pos_found generic_kind w32 (entry_spec name_spec address_spec).size b p (hash_of (fx_hasher low_halves) text_calls name) (λ q. same_bytes name (text_at w32 b q)))
 
 pub access_unchecked-requires : goal.access_unchecked-requires
@@ -32,13 +32,13 @@ returns-in-Some-clause-found c =
     let at = read_at c.of-map.result _ _ _ c.of-map.ensures.view c.access_unchecked.ensures.at in
     let b = c.args.table.now in
     let read : number_at w64 b c.in-Some.address.pos ≡ c.to_native.result = ap (λ x. number_at w64 x c.in-Some.address.pos) (sym (ap (λ a. a.now) c.in-Some.ensures.walked.at.0 ∙ at.0)) ∙ c.to_native.ensures in
-    number_read (number_at w64 b) _ _ _ _ read (moved (λ x p. Some c.in-Some.address.pos ≡ place c.args.name.now x p) _ _ _ _ at.0 at.1 c.in-Some.ensures.answer)
+    number_read (number_at w64 b) _ _ _ _ read (moved (λ x p. Some c.in-Some.address.pos ≡ address_pos c.args.name.now x p) _ _ _ _ at.0 at.1 c.in-Some.ensures.finds)
 
 pub returns-in-None-clause-found : goal.returns-in-None-clause-found
 unfolding address_found
 returns-in-None-clause-found c =
     let at = read_at c.of-map.result _ _ _ c.of-map.ensures.view c.access_unchecked.ensures.at in
-    none_read (number_at w64 c.args.table.now) _ _ (moved (λ x p. None ≡ place c.args.name.now x p) _ _ _ _ at.0 at.1 c.in-None.ensures.answer)
+    none_read (number_at w64 c.args.table.now) _ _ (moved (λ x p. None ≡ address_pos c.args.name.now x p) _ _ _ _ at.0 at.1 c.in-None.ensures.finds)
 
 pub returns-in-Some-clause-listed : goal.returns-in-Some-clause-listed
 unfolding Represents

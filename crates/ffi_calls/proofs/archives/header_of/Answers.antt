@@ -12,5 +12,5 @@ of-requires g c = viewable_at_view (map_spec g.W.Word.word g.K.HasSpec.spec g.V.
 pub returns : goal.returns
 returns g c =
     let bytes = ap (λ v. v.archive.now) c.of.ensures.view ∙ ap (λ a. a.now) c.new.ensures.0 in
-    let place = ap (λ v. v.pos) c.of.ensures.view ∙ c.new.ensures.1 ∙ c.root_of-root.ensures.at in
-    moved (λ d r. IsDecoded g.W.Word.word d r c.header.result) c.of.result.view.archive.now c.args.archive.now c.of.result.view.pos (root g.W.Word.word g.K.HasSpec.spec g.V.HasSpec.spec c.args.archive.now) bytes place c.header.ensures
+    let same_pos = ap (λ v. v.pos) c.of.ensures.view ∙ c.new.ensures.1 ∙ c.root_of-root.ensures.at in
+    moved (λ d r. IsDecoded g.W.Word.word d r c.header.result) c.of.result.view.archive.now c.args.archive.now c.of.result.view.pos (root g.W.Word.word g.K.HasSpec.spec g.V.HasSpec.spec c.args.archive.now) bytes same_pos c.header.ensures

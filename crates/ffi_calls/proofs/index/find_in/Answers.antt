@@ -20,7 +20,7 @@ returns-in-Some-clause-outcome g c =
     let there = value_there m reads i c.in-Some.value c.read_as.result c.read_as.ensures c.in-Some.ensures.walked.1.1 in
     let before = of c.args.found.now in
     let given = of_same_map (λ n. ReturnsIndexed n reads (found_index n calls (fits n.bytes)) before 0 after) g.W.Word.word g.K.HasSpec.spec g.V.HasSpec.spec _ _ _ _ c.index_of.ensures.bytes c.index_of.ensures.pos
-    (subst (λ place. ReturnsIndexed (index_at m) reads place before 0 after) c.in-Some.ensures.answer (refl, refl, there)) in
+    (subst (λ at. ReturnsIndexed (index_at m) reads at before 0 after) c.in-Some.ensures.finds (refl, refl, there)) in
     let now = index_in g.W.Word.word g.K.HasSpec.spec g.V.HasSpec.spec c.args.archive.now in
     subst (ReturnsIndexed now reads (found_index now calls (fits c.args.archive.now)) before 0) (sym c.of_indexed.ensures) given
 
@@ -31,7 +31,7 @@ returns-in-None-clause-outcome g c =
     let fits = g.A.Query.fits c.args.key.now in
     let before = g.I.IndexedOf.indexed_of c.args.found.now in
     of_same_map (λ n. ReturnsIndexed n reads (found_index n calls (fits n.bytes)) before 1 before) g.W.Word.word g.K.HasSpec.spec g.V.HasSpec.spec _ _ _ _ c.index_of.ensures.bytes c.index_of.ensures.pos
-    (subst (λ place. ReturnsIndexed (index_at c.index_of.result) reads place before 1 before) c.in-None.ensures.answer (refl, refl))
+    (subst (λ at. ReturnsIndexed (index_at c.index_of.result) reads at before 1 before) c.in-None.ensures.finds (refl, refl))
 
 pub returns-in-Some-clause-listed : goal.returns-in-Some-clause-listed
 returns-in-Some-clause-listed g c = λ factor pairs represents.

@@ -13,7 +13,7 @@ returns-in-Some-clause-found g c =
     let fits = g.A.Query.fits c.args.key.now in
     let view = c.of-map.ensures.view in
     of_same_map (λ n. Some c.in-Some.index ≡ found_index n calls (fits n.bytes)) g.W.Word.word g.K.HasSpec.spec g.V.HasSpec.spec _ _ _ _ (ap (λ v. v.archive.now) view ∙ ap (λ a. a.now) c.new.ensures.0)
-    (ap (λ v. v.pos) view ∙ c.new.ensures.1 ∙ c.index_root_of-root.ensures.at) c.in-Some.ensures.answer
+    (ap (λ v. v.pos) view ∙ c.new.ensures.1 ∙ c.index_root_of-root.ensures.at) c.in-Some.ensures.finds
 
 pub returns-in-None-clause-found : goal.returns-in-None-clause-found
 returns-in-None-clause-found g c =
@@ -21,7 +21,7 @@ returns-in-None-clause-found g c =
     let fits = g.A.Query.fits c.args.key.now in
     let view = c.of-map.ensures.view in
     of_same_map (λ n. None ≡ found_index n calls (fits n.bytes)) g.W.Word.word g.K.HasSpec.spec g.V.HasSpec.spec _ _ _ _ (ap (λ v. v.archive.now) view ∙ ap (λ a. a.now) c.new.ensures.0)
-    (ap (λ v. v.pos) view ∙ c.new.ensures.1 ∙ c.index_root_of-root.ensures.at) c.in-None.ensures.answer
+    (ap (λ v. v.pos) view ∙ c.new.ensures.1 ∙ c.index_root_of-root.ensures.at) c.in-None.ensures.finds
 
 pub returns-in-Some-clause-below : goal.returns-in-Some-clause-below
 returns-in-Some-clause-below g c =

@@ -44,7 +44,7 @@ returns-clause-sets g c =
     let m = index_in w k v b in
     let written = subst (λ (q : ℕ). set.new.archive ≡ with_value e b (value_pos k v (pair_pos w (entry_spec k v).size b q c.in-Some-index_found_in.index)) c.in-Some.number) c.index_root_of-root.ensures.at set.ensures.written in
     let done : ℕ = 0 in
-    let OverwritesAt : Option ℕ → Type 0 = λ place. MatchOption (option_map (value_pos_at m) place) ((done ≡ 1) × (set.new.archive ≡ b)) (λ q. (done ≡ 0) × (set.new.archive ≡ with_value e b q c.in-Some.number)) in
+    let OverwritesAt : Option ℕ → Type 0 = λ at. MatchOption (option_map (value_pos_at m) at) ((done ≡ 1) × (set.new.archive ≡ b)) (λ q. (done ≡ 0) × (set.new.archive ≡ with_value e b q c.in-Some.number)) in
     let overwrites = subst OverwritesAt c.in-Some-index_found_in.ensures.found (refl, written) in
     inr (c.in-Some.ensures.read.0, (c.in-Some.number, c.in-Some.ensures.exact, overwrites))
 

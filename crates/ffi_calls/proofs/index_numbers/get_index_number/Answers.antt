@@ -1,5 +1,5 @@
 use Rattle.ffi_calls.specs.Archives.{IsHeaderOf}
-use Rattle.ffi_calls.specs.IndexArchives.{ReturnsIndexedNumber, IsNumberIndex, number_index_in}
+use Rattle.ffi_calls.specs.IndexArchives.{IsNumberIndex, ReturnsIndexedNumber, number_index_in}
 use Rattle.ffi_calls.specs.IndexLists.{ReturnsFirstIndexedNumber}
 use Rattle.ffi_calls.specs.Keys.{NumberKey}
 use Rattle.ffi_calls.proofs.Forms.{at_form, of_form}

@@ -9,10 +9,10 @@ returns-in-Some-clause-outcome g c =
     let b = c.args.archive.now in
     let reads = g.V.StoredAs.reads in
     let read = there (λ d q. reads d q c.read_as.result) _ _ _ _ b c.new.ensures.0 refl c.new.ensures.1 c.read_as.ensures in
-    subst (λ place. ReturnsAt (reads b) place c.args.value.now 0 c.read_as.result) c.in-Some.ensures.found (refl, read)
+    subst (λ target. ReturnsAt (reads b) target c.args.value.now 0 c.read_as.result) c.in-Some.ensures.found (refl, read)
 
 pub returns-in-None-clause-outcome : goal.returns-in-None-clause-outcome
-returns-in-None-clause-outcome g c = subst (λ place. ReturnsAt (g.V.StoredAs.reads c.args.archive.now) place c.args.value.now 1 c.args.value.now) c.in-None.ensures.found (refl, refl)
+returns-in-None-clause-outcome g c = subst (λ target. ReturnsAt (g.V.StoredAs.reads c.args.archive.now) target c.args.value.now 1 c.args.value.now) c.in-None.ensures.found (refl, refl)
 
 pub returns-in-Some-clause-listed : goal.returns-in-Some-clause-listed
 returns-in-Some-clause-listed g c = λ factor pairs represents.

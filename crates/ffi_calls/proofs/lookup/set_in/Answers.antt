@@ -4,7 +4,7 @@ use Rattle.rkyv_base.specs.Scalar.{ScalarRepresents}
 use Rattle.rkyv_collections.specs.Map.{hash_at}
 use Rattle.rkyv_collections.specs.Map.MapFormat.{MapRepresents}
 use Rattle.rkyv_collections.specs.Map.MapSpec.{map_spec}
-use Rattle.ffi_calls.proofs.Writing.{set_keeps_header, set_kept, overwrite_status}
+use Rattle.ffi_calls.proofs.Writing.{overwrite_status, set_keeps_header, set_kept}
 use Rattle.rkyv_collections.specs.Map.InPlace.{with_first}
 use Rattle.rkyv_keys.specs.FirstPairs.{first_pair}
 use Rattle.ffi_calls.proofs.First.{first_set}
@@ -18,7 +18,7 @@ returns-clause-kept g c =
     let set = c.set_value_of-found in
     let same : length set.new.archive ≡ length c.args.archive.now = omega (arith, set.auto.archive) in
     set_kept g.W.Word.word g.K.HasSpec.spec g.V.HasSpec.spec g.V.Scalar.encoding (hash_at (fx_hasher low_halves) g.K.KeyElement.key_calls) c.args.archive.now c.root_of-root.result (g.A.KeyHash.calls c.args.key.now)
-    (g.A.Query.fits c.args.key.now c.args.archive.now) c.in-Some.number set.result set.new.archive c.root_of-root.ensures.at set.ensures.answer.answer g.W.Width.LIMIT c.requires.archive c.root_of-root.ensures.viewable same
+    (g.A.Query.fits c.args.key.now c.args.archive.now) c.in-Some.number set.result set.new.archive c.root_of-root.ensures.at set.ensures.sets.finds g.W.Width.LIMIT c.requires.archive c.root_of-root.ensures.viewable same
 
 pub returns-in-None-clause-header : goal.returns-in-None-clause-header
 returns-in-None-clause-header g c = λ header is. is
@@ -28,13 +28,13 @@ returns-clause-header g c =
     let set = c.set_value_of-found in
     let same : length set.new.archive ≡ length c.args.archive.now = omega (arith, set.auto.archive) in
     set_keeps_header g.W.Word.word g.K.HasSpec.spec g.V.HasSpec.spec g.V.Scalar.encoding (hash_at (fx_hasher low_halves) g.K.KeyElement.key_calls) c.args.archive.now c.root_of-root.result (g.A.KeyHash.calls c.args.key.now)
-    (g.A.Query.fits c.args.key.now c.args.archive.now) c.in-Some.number set.result set.new.archive c.root_of-root.ensures.at set.ensures.answer.answer same
+    (g.A.Query.fits c.args.key.now c.args.archive.now) c.in-Some.number set.result set.new.archive c.root_of-root.ensures.at set.ensures.sets.finds same
 
 pub returns-clause-sets : goal.returns-clause-sets
 returns-clause-sets g c =
     let set = c.set_value_of-found in
     let overwrites = overwrite_status g.W.Word.word g.K.HasSpec.spec g.V.HasSpec.spec g.V.Scalar.encoding (hash_at (fx_hasher low_halves) g.K.KeyElement.key_calls) c.args.archive.now c.root_of-root.result (g.A.KeyHash.calls c.args.key.now)
-    (g.A.Query.fits c.args.key.now c.args.archive.now) c.in-Some.number set.result set.new.archive c.root_of-root.ensures.at set.ensures.answer.answer c.status_of.result c.status_of.ensures.yes c.status_of.ensures.no in
+    (g.A.Query.fits c.args.key.now c.args.archive.now) c.in-Some.number set.result set.new.archive c.root_of-root.ensures.at set.ensures.sets.finds c.status_of.result c.status_of.ensures.yes c.status_of.ensures.no in
     inr (c.in-Some.ensures.read.0, (c.in-Some.number, c.in-Some.ensures.exact, overwrites))
 
 pub returns-in-None-clause-listed : goal.returns-in-None-clause-listed

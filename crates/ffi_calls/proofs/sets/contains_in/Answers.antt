@@ -6,10 +6,10 @@ use Rattle.ffi_calls.proofs.Members.{found_status, item_found, missing_status}
 use Rattle.ffi_calls.proofs.sets.contains_in.Goals as goal
 
 pub returns-in-Some-clause-found : goal.returns-in-Some-clause-found
-returns-in-Some-clause-found g c = subst (λ place. IsFoundStatus place 0) c.in-Some.ensures.found refl
+returns-in-Some-clause-found g c = subst (λ target. IsFoundStatus target 0) c.in-Some.ensures.found refl
 
 pub returns-in-None-clause-found : goal.returns-in-None-clause-found
-returns-in-None-clause-found g c = subst (λ place. IsFoundStatus place 1) c.in-None.ensures.found refl
+returns-in-None-clause-found g c = subst (λ target. IsFoundStatus target 1) c.in-None.ensures.found refl
 
 pub returns-in-Some-clause-listed : goal.returns-in-Some-clause-listed
 returns-in-Some-clause-listed g c = λ factor items represents.

@@ -1,4 +1,4 @@
-use Rattle.ffi_calls.specs.Archives.{ReturnsAt, IsHeaderOf, IsTextArchive, texts_in, word_of}
+use Rattle.ffi_calls.specs.Archives.{IsHeaderOf, IsTextArchive, ReturnsAt, texts_in, word_of}
 use Rattle.ffi_calls.specs.Calls.{text_found}
 use Rattle.ffi_calls.specs.Listed.{ReturnsFirstText}
 use Rattle.ffi_calls.specs.Reading.{ReadsWord}

@@ -1,6 +1,6 @@
 use Rattle.std.proofs.Common.{◌+◌, ℕ, List, arith, length, take, drop, ◌∙◌, ap}
 use Rattle.std.specs.List.{position}
-use Rattle.rkyv_base.proofs.FirstMark.{eight, whole, tail_is, eight_stretch, rest_stretch, stretch_hit, stretch_miss, none_first}
+use Rattle.rkyv_base.proofs.FirstMark.{eight, eight_stretch, none_first, rest_stretch, stretch_hit, stretch_miss, tail_is, whole}
 use Rattle.rkyv_base.proofs.byte_search.first.Goals as goal
 
 pub returns-in-Some : goal.returns-in-Some

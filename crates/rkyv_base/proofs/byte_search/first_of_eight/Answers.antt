@@ -1,6 +1,6 @@
 use Rattle.std.proofs.Common.{◌≡◌, ℕ, List, arith, length, take, sym, ap, ◌∙◌, Some}
 use Rattle.std.proofs.lemmas.Grind.{common_steps}
-use Rattle.rkyv_base.proofs.FirstMark.{some_marked, none_marked}
+use Rattle.rkyv_base.proofs.FirstMark.{none_marked, some_marked}
 use lib.Count.{count_trailing_zeros}
 use Rattle.rkyv_base.proofs.byte_search.first_of_eight.Goals as goal
 

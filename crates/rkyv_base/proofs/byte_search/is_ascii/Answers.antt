@@ -1,7 +1,7 @@
 use Rattle.std.proofs.Common.{◌≡◌, ◌+◌, ◌-◌, ◌≤◌, ℕ, List, Option, not, arith, drop, leb, length, take, None, sym, ap, ◌∙◌}
 use Rattle.std.specs.List.{position}
 use Rattle.rkyv_base.proofs.Ascii.{none_high}
-use Rattle.rkyv_base.proofs.FirstMark.{NoneBelow, eight, tail_is, eight_stretch, is_absent, stretch_miss}
+use Rattle.rkyv_base.proofs.FirstMark.{NoneBelow, eight, eight_stretch, is_absent, stretch_miss, tail_is}
 use Rattle.rkyv_base.proofs.byte_search.is_ascii.Goals as goal
 
 -- the next eight bytes, all below 128

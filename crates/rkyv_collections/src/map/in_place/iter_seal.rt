@@ -8,7 +8,7 @@
 //!
 //! `map::in_place` has a table of all calls that write values.
 ghost use Rattle.std.specs.Prelude.{IfSome, IsSome, IsTrue, drop, length, take, ◌+◌, ◌↔◌, ◌≡◌, ◌≤◌};
-ghost use Rattle.rkyv_base.specs.Seal.{LiesIn, archive_in, bytes_in, seal_pos, pos_in};
+ghost use Rattle.rkyv_base.specs.Seal.{LiesIn, archive_in, bytes_in, pos_in, seal_pos};
 ghost use Rattle.rkyv_base.specs.Sealing.{value_pos, with_value};
 ghost use Rattle.rkyv_base.specs.ElementSpec.{Viewable};
 ghost use Rattle.rkyv_base.specs.View.{IsValidView, bytes_of, pos_of};
@@ -150,7 +150,7 @@ impl<'a, K: Element, V: Element, H, W> IterMut<'a, K, V, H, W> {
     pub fn key_at(&self, pos: u64) -> View<'_, K>
         requires { Viewable K.spec (cursor_bytes (entries_in self.now)) pos }
         ensures bytes { bytes_of result ≡ cursor_bytes (entries_in self.now) }
-        ensures place { pos_of result ≡ pos }
+        ensures at { pos_of result ≡ pos }
         ensures viewable { IsValidView K.spec result }
     {
         View::new(self.entries.bytes(), pos)

@@ -73,7 +73,7 @@ impl<'a, K: KeyElement, V: Element, H: KeyHasher, W: Width> ArchivedHashMap<'a, 
         ensures walked { IfSome result (IsKeyPosIn W.word K.spec V.spec this.now) }
         ensures finds { FoundByHasAt (map_sealed W.Word K.HasSpec V.HasSpec this.now)
             (hash_of H.hasher Q.calls key.now) (hash_at H.hasher K.key_calls)
-            (F.post cmp key.entry) (λ place. result ≡ place) }
+            (F.post cmp key.entry) (λ key_pos. result ≡ key_pos) }
     {
         found_pos(map_in(this).find(key, cmp))
     }
@@ -89,7 +89,7 @@ impl<'a, K: KeyElement, V: Element, H: KeyHasher, W: Width> ArchivedHashMap<'a, 
         ensures walked { IfSome result (IsKeyPosIn W.word K.spec V.spec this.now) }
         ensures finds { FoundKeyHasAt (map_sealed W.Word K.HasSpec V.HasSpec this.now)
             (query_of H.hasher K.key_calls K.same (Q.calls key.now) (Q.fits key.now))
-            (λ place. result ≡ place) }
+            (λ key_pos. result ≡ key_pos) }
     {
         found_pos(map_in(this).find_key(key))
     }

@@ -65,7 +65,7 @@ pub fn make_ascii_uppercase_of<
 >(archive: &mut [u8], root: u64, key: &A) -> Option<bool>
     requires map { Viewable (map_to_texts_spec W.word K.spec) archive.old root }
     requires query { A.can_read key.now }
-    ensures answer { UppercasesText (map_to_texts_at W.Word K.HasSpec archive.old root)
+    ensures uppercases { UppercasesText (map_to_texts_at W.Word K.HasSpec archive.old root)
         (query_of H.hasher K.key_calls K.same (A.calls key.now) (A.fits key.now))
         result archive.new }
     ensures listed { UppercasesFirst (map_to_texts_at W.Word K.HasSpec archive.old root)

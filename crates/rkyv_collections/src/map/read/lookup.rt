@@ -16,7 +16,7 @@ ghost use Rattle.rkyv_collections.specs.Map.Lookups.{IsValueOfEntry};
 ghost use Rattle.rkyv_collections.specs.Map.Lookups.{FoundKeyHas, entry_part, pair_part};
 ghost use Rattle.rkyv_collections.specs.Map.Lookups.{value_part};
 ghost use Rattle.rkyv_keys.specs.KeyLookup.{query_of};
-ghost use Rattle.rkyv_collections.specs.Map.{FindsKey, IsFoundAt, IsViewAt, CanCompareKeys};
+ghost use Rattle.rkyv_collections.specs.Map.{CanCompareKeys, FindsKey, IsFoundAt, IsViewAt};
 ghost use Rattle.rkyv_collections.specs.Map.{hash_at};
 ghost use Rattle.rkyv_collections.specs.Map.{map_bytes};
 ghost use Rattle.rkyv_collections.specs.Map.MapFormat.{hash_of};
@@ -33,7 +33,7 @@ use rkyv_scan::hash::KeyHasher;
 /// Returns `true` if and only if an entry is found.
 #[inline]
 pub(crate) fn is_found<T: Element>(found: Option<View<'_, T>>) -> bool
-    ensures { (place : Option ℕ) → IsViewAt found.entry place → IsFoundAt result place }
+    ensures { (key_pos : Option ℕ) → IsViewAt found.entry key_pos → IsFoundAt result key_pos }
 {
     found.is_some()
 }

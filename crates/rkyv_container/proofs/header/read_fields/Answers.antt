@@ -1,5 +1,5 @@
 use Rattle.std.proofs.Common.{◌∙◌, ap, sym, arith, rules}
-use Rattle.std.specs.Int.{w32, to_le_bytes}
+use Rattle.std.specs.Int.{to_le_bytes, w32}
 use Rattle.rkyv_container.proofs.HeaderChecks.{flags_fail, header_from}
 use Rattle.rkyv_container.proofs.header.read_fields.Goals as goal
 

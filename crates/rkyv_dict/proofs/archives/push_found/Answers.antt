@@ -15,9 +15,9 @@ returns-clause-found g c =
     let s = g.P.HasSpec.spec in
     let m = c.map_of.result in
     let fits : List ℕ → ℕ → Bool = g.Q.Query.fits c.args.key.now in
-    let place : List ℕ → ℕ → Option ℕ = λ b p. pos_found generic_kind g.W.Word.word (entry_spec s s).size b p (hash (g.Q.KeyHash.calls c.args.key.now)) (fits b) in
+    let key_pos : List ℕ → ℕ → Option ℕ = λ b p. pos_found generic_kind g.W.Word.word (entry_spec s s).size b p (hash (g.Q.KeyHash.calls c.args.key.now)) (fits b) in
     let same : IfSome c.get.result (λ v. v.archive ≡ map_archive m) = some_map c.get.result (λ v is. is.at.0) c.get.ensures.walked in
-    let text = text_read g.P.Printable.text (value_offset s s) m.view _ _ c.map_of.ensures.at c.get.result same place c.get.ensures.answer in
+    let text = text_read g.P.Printable.text (value_offset s s) m.view _ _ c.map_of.ensures.at c.get.result same key_pos c.get.ensures.finds in
     subst (λ t. OnOk c.push_text.result (string_bytes c.push_text.new.out ≡ string_bytes c.args.out.now ++ value_line t)) text c.push_text.ensures
 
 pub returns-clause-first : goal.returns-clause-first
@@ -27,8 +27,8 @@ returns-clause-first g c homes written =
     let w = g.W.Word.word in
     let m = c.map_of.result in
     let fits : List ℕ → ℕ → Bool = g.Q.Query.fits c.args.key.now in
-    let place : List ℕ → ℕ → Option ℕ = λ b p. find (fits b) (home_positions w (entry_spec s s).size b p homes) in
+    let key_pos : List ℕ → ℕ → Option ℕ = λ b p. find (fits b) (home_positions w (entry_spec s s).size b p homes) in
     let same : IfSome c.get.result (λ v. v.archive ≡ map_archive m) = some_map c.get.result (λ v is. is.at.0) c.get.ensures.walked in
     let here = back_at (λ b p. MapWrittenAt w (entry_spec s s) (λ c q. hash (g.P.KeyElement.key_calls c q)) b p homes) m.view _ _ c.map_of.ensures.at written in
-    let text = text_read g.P.Printable.text (value_offset s s) m.view _ _ c.map_of.ensures.at c.get.result same place (c.get.ensures.first homes here) in
+    let text = text_read g.P.Printable.text (value_offset s s) m.view _ _ c.map_of.ensures.at c.get.result same key_pos (c.get.ensures.first homes here) in
     subst (λ t. OnOk c.push_text.result (string_bytes c.push_text.new.out ≡ string_bytes c.args.out.now ++ value_line t)) text c.push_text.ensures

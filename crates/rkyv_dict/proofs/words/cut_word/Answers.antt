@@ -1,4 +1,4 @@
-use Rattle.std.proofs.Common.{Some, None}
+use Rattle.std.proofs.Common.{None, Some}
 use Rattle.rkyv_dict.proofs.Cuts.{cut_first}
 use Rattle.rkyv_dict.proofs.words.cut_word.Goals as goal
 

@@ -3,7 +3,7 @@ use Rattle.std.specs.Str.Parse.{digits_value}
 use Rattle.std.proofs.lemmas.Int.Digits.{digits_value_more}
 use Rattle.std.proofs.lemmas.List.{take_all}
 use Rattle.rkyv_dict.specs.Script.{number_of}
-use Rattle.rkyv_dict.proofs.Numerals.{number_is, number_front_too_large}
+use Rattle.rkyv_dict.proofs.Numerals.{number_front_too_large, number_is}
 use Rattle.rkyv_dict.proofs.words.number.Goals as goal
 
 pub returns-then-not-is_numeral-clause-value : goal.returns-then-not-is_numeral-clause-value

@@ -7,8 +7,8 @@ walk-requires g c =
     accepted_viewable g.W.Word.word g.met.W.Width.layout.kind g.T.HasSpec.spec g.T.HasSpec.laws c.args.bytes.now c.args.pos c.args.range c.in-Ok.field-0
     c.requires.inside c.requires.aligned c.requires.ordered.0 c.requires.ordered.1 c.in-Ok.ensures
 
-pub look_up-answer-requires-clause-table : goal.look_up-answer-requires-clause-table
-look_up-answer-requires-clause-table g c =
+pub look_up-lookup-requires-clause-table : goal.look_up-lookup-requires-clause-table
+look_up-lookup-requires-clause-table g c =
     accepted_viewable g.W.Word.word g.met.W.Width.layout.kind g.T.HasSpec.spec g.T.HasSpec.laws c.args.bytes.now c.args.pos c.args.range c.in-Ok.field-0
     c.requires.inside c.requires.aligned c.requires.ordered.0 c.requires.ordered.1 c.in-Ok.ensures
 
@@ -19,9 +19,9 @@ returns g c =
     let law = g.T.HasSpec.laws in
     let viewable = accepted_viewable w g.met.W.Width.layout.kind s law c.args.bytes.now c.args.pos c.args.range c.in-Ok.field-0
     c.requires.inside c.requires.aligned c.requires.ordered.0 c.requires.ordered.1 c.in-Ok.ensures in
-    let answer = c.look_up-answer in
-    let report : TableReport = record { walked = c.in-Ok-walk.walked; found = answer.result.found; strides = answer.result.strides } in (
+    let lookup = c.look_up-lookup in
+    let report : TableReport = record { walked = c.in-Ok-walk.walked; found = lookup.result.found; strides = lookup.result.strides } in (
       c.in-Ok.field-0,
       c.in-Ok.ensures,
-      table_reported (goal.F-post g c.args.cmp) w s c.args.bytes.now c.args.pos law viewable c.args.hash report c.in-Ok-walk.ensures answer.ensures.looks answer.ensures.reads answer.ensures.exact,
+      table_reported (goal.F-post g c.args.cmp) w s c.args.bytes.now c.args.pos law viewable c.args.hash report c.in-Ok-walk.ensures lookup.ensures.looks lookup.ensures.reads lookup.ensures.exact,
     )

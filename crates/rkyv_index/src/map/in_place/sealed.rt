@@ -18,7 +18,7 @@ ghost use Rattle.rkyv_table.specs.Table.Header.{len_at};
 ghost use Rattle.rkyv_table.specs.Table.PairSeals.{LendsPair, LendsValue};
 ghost use Rattle.rkyv_index.specs.Index.{FindsBy, FindsFirstBy, FindsFirstKey, FindsKey};
 ghost use Rattle.rkyv_index.specs.Index.{IsStoredAt};
-ghost use Rattle.rkyv_index.specs.Index.{IsIndex, CanCompareKeysOf, hash_at, index_bytes};
+ghost use Rattle.rkyv_index.specs.Index.{CanCompareKeysOf, IsIndex, hash_at, index_bytes};
 ghost use Rattle.rkyv_index.specs.Index.{index_pos};
 ghost use Rattle.rkyv_index.specs.Index.IndexFormat.{hash_of};
 ghost use Rattle.rkyv_index.specs.Index.SealedIndex.{
@@ -86,7 +86,7 @@ impl<'a, K: KeyElement, V: Element, H: KeyHasher, W: Width> ArchivedIndexMap<'a,
         ensures stored { IfSome result (IsStoredAt W.word (archive_in this.now) (pos_in this.now)) }
         ensures below { IfSome result
             (λ i. i < len_at W.word (archive_in this.now) (pos_in this.now)) }
-        ensures answer { FindsBy (index_in W.word K.spec V.spec this.now)
+        ensures finds { FindsBy (index_in W.word K.spec V.spec this.now)
             (F.post cmp key.entry) (hash_of H.hasher Q.calls key.now) (IsIndex result) }
         ensures first { FindsFirstBy (index_in W.word K.spec V.spec this.now)
             (F.post cmp key.entry) (hash_of H.hasher Q.calls key.now)
@@ -106,7 +106,7 @@ impl<'a, K: KeyElement, V: Element, H: KeyHasher, W: Width> ArchivedIndexMap<'a,
         ensures stored { IfSome result (IsStoredAt W.word (archive_in this.now) (pos_in this.now)) }
         ensures below { IfSome result
             (λ i. i < len_at W.word (archive_in this.now) (pos_in this.now)) }
-        ensures answer { FindsKey (index_in W.word K.spec V.spec this.now)
+        ensures finds { FindsKey (index_in W.word K.spec V.spec this.now)
             (hash_of H.hasher Q.calls key.now) (Q.fits key.now) (IsIndex result) }
         ensures first { FindsFirstKey (index_in W.word K.spec V.spec this.now)
             (hash_at H.hasher K.key_calls) (Q.fits key.now) (IsIndex result) }
@@ -114,44 +114,44 @@ impl<'a, K: KeyElement, V: Element, H: KeyHasher, W: Width> ArchivedIndexMap<'a,
         Self::read(this).find_key(key)
     }
 
-    /// Returns the position of the pair at the index `place`.
+    /// Returns the position of the pair at `index`.
     #[inline]
-    fn pair_pos_in(this: &ArchiveSeal<'_, IndexMapOf<K, V, H, W>>, place: usize) -> u64
+    fn pair_pos_in(this: &ArchiveSeal<'_, IndexMapOf<K, V, H, W>>, index: usize) -> u64
         requires map { IsIndexSeal W.word K.spec V.spec this.now }
-        requires below { place < len_at W.word (archive_in this.now) (pos_in this.now) }
-        ensures at { IsPairPosIn W.word K.spec V.spec this.now place result }
+        requires below { index < len_at W.word (archive_in this.now) (pos_in this.now) }
+        ensures at { IsPairPosIn W.word K.spec V.spec this.now index result }
         ensures entry { Viewable (entry_spec K.spec V.spec) (archive_in this.now) result }
     {
-        Self::read(this).entries().entry(place).pos()
+        Self::read(this).entries().entry(index).pos()
     }
 
-    /// Returns a view of the key at the index `place` and a seal of its value.
+    /// Returns a view of the key at `index` and a seal of its value.
     #[inline]
     fn lend_pair(
         this: ArchiveSeal<'a, IndexMapOf<K, V, H, W>>,
-        place: usize,
+        index: usize,
     ) -> (View<'a, K>, Seal<'a, V>)
         requires map { IsIndexSeal W.word K.spec V.spec this }
-        requires below { place < len_at W.word (archive_in this) (pos_in this) }
+        requires below { index < len_at W.word (archive_in this) (pos_in this) }
         ensures inside { LiesIn V.spec result.1 }
         ensures lent { LendsPair K.spec V.spec (archive_in this.entry)
-            (IsPairPosIn W.word K.spec V.spec this.entry place) result }
+            (IsPairPosIn W.word K.spec V.spec this.entry index) result }
     {
-        let pos = Self::pair_pos_in(&this, place);
+        let pos = Self::pair_pos_in(&this, index);
         this.split_value(pos)
     }
 
-    /// Returns a seal of the value at the index `place`.
+    /// Returns a seal of the value at `index`.
     #[inline]
-    fn lend_value(this: ArchiveSeal<'a, IndexMapOf<K, V, H, W>>, place: usize) -> Seal<'a, V>
+    fn lend_value(this: ArchiveSeal<'a, IndexMapOf<K, V, H, W>>, index: usize) -> Seal<'a, V>
         requires map { IsIndexSeal W.word K.spec V.spec this }
-        requires below { place < len_at W.word (archive_in this) (pos_in this) }
+        requires below { index < len_at W.word (archive_in this) (pos_in this) }
         ensures inside { LiesIn V.spec result }
         ensures viewable { Viewable V.spec (bytes_in result) (seal_pos result) }
         ensures lent { LendsValue K.spec V.spec (archive_in this.entry)
-            (IsPairPosIn W.word K.spec V.spec this.entry place) result }
+            (IsPairPosIn W.word K.spec V.spec this.entry index) result }
     {
-        let pos = Self::pair_pos_in(&this, place);
+        let pos = Self::pair_pos_in(&this, index);
         value_seal(this, pos)
     }
 
@@ -159,21 +159,21 @@ impl<'a, K: KeyElement, V: Element, H: KeyHasher, W: Width> ArchivedIndexMap<'a,
     #[inline]
     fn full_seal_of(
         this: ArchiveSeal<'a, IndexMapOf<K, V, H, W>>,
-        place: Option<usize>,
+        index: Option<usize>,
     ) -> Option<(usize, View<'a, K>, Seal<'a, V>)>
         requires map { IsIndexSeal W.word K.spec V.spec this }
-        requires stored { IfSome place (IsStoredAt W.word (archive_in this) (pos_in this)) }
-        requires below { IfSome place
+        requires stored { IfSome index (IsStoredAt W.word (archive_in this) (pos_in this)) }
+        requires below { IfSome index
             (λ i. i < len_at W.word (archive_in this) (pos_in this)) }
         ensures inside { IfSome result (λ full. LiesIn V.spec full.2) }
         ensures viewable { IfSome result (λ full. IsValidView K.spec full.1) }
         ensures walked { IfSome result (IsFullSeal W.word K.spec V.spec this.entry) }
-        ensures at { IsFullSealAt result place }
+        ensures at { IsFullSealAt result index }
     {
-        match place {
-            Some(place) => {
-                let (key, value) = Self::lend_pair(this, place);
-                Some((place, key, value))
+        match index {
+            Some(index) => {
+                let (key, value) = Self::lend_pair(this, index);
+                Some((index, key, value))
             }
             None => None,
         }
@@ -183,19 +183,19 @@ impl<'a, K: KeyElement, V: Element, H: KeyHasher, W: Width> ArchivedIndexMap<'a,
     #[inline]
     fn pair_seal_of(
         this: ArchiveSeal<'a, IndexMapOf<K, V, H, W>>,
-        place: Option<usize>,
+        index: Option<usize>,
     ) -> Option<(View<'a, K>, Seal<'a, V>)>
         requires map { IsIndexSeal W.word K.spec V.spec this }
-        requires stored { IfSome place (IsStoredAt W.word (archive_in this) (pos_in this)) }
-        requires below { IfSome place
+        requires stored { IfSome index (IsStoredAt W.word (archive_in this) (pos_in this)) }
+        requires below { IfSome index
             (λ i. i < len_at W.word (archive_in this) (pos_in this)) }
         ensures inside { IfSome result (λ pair. LiesIn V.spec pair.1) }
         ensures viewable { IfSome result (λ pair. IsValidView K.spec pair.0) }
         ensures walked { IfSome result (IsPairSeal W.word K.spec V.spec this.entry) }
-        ensures at { SealsPair W.word K.spec V.spec this.entry result place }
+        ensures at { SealsPair W.word K.spec V.spec this.entry result index }
     {
-        match place {
-            Some(place) => Some(Self::lend_pair(this, place)),
+        match index {
+            Some(index) => Some(Self::lend_pair(this, index)),
             None => None,
         }
     }
@@ -204,20 +204,20 @@ impl<'a, K: KeyElement, V: Element, H: KeyHasher, W: Width> ArchivedIndexMap<'a,
     #[inline]
     fn value_seal_of(
         this: ArchiveSeal<'a, IndexMapOf<K, V, H, W>>,
-        place: Option<usize>,
+        index: Option<usize>,
     ) -> Option<Seal<'a, V>>
         requires map { IsIndexSeal W.word K.spec V.spec this }
-        requires stored { IfSome place (IsStoredAt W.word (archive_in this) (pos_in this)) }
-        requires below { IfSome place
+        requires stored { IfSome index (IsStoredAt W.word (archive_in this) (pos_in this)) }
+        requires below { IfSome index
             (λ i. i < len_at W.word (archive_in this) (pos_in this)) }
         ensures inside { IfSome result (LiesIn V.spec) }
         ensures viewable { IfSome result (λ value. Viewable V.spec (bytes_in value)
             (seal_pos value)) }
         ensures walked { IfSome result (IsValueSeal W.word K.spec V.spec this.entry) }
-        ensures at { SealsValue W.word K.spec V.spec this.entry result place }
+        ensures at { SealsValue W.word K.spec V.spec this.entry result index }
     {
-        match place {
-            Some(place) => Some(Self::lend_value(this, place)),
+        match index {
+            Some(index) => Some(Self::lend_value(this, index)),
             None => None,
         }
     }
@@ -251,14 +251,14 @@ impl<'a, K: KeyElement, V: Element, H: KeyHasher, W: Width> ArchivedIndexMap<'a,
         ensures inside { IfSome result (λ full. LiesIn V.spec full.2) }
         ensures viewable { IfSome result (λ full. IsValidView K.spec full.1) }
         ensures walked { IfSome result (IsFullSeal W.word K.spec V.spec this.entry) }
-        ensures answer { FindsBy (index_in W.word K.spec V.spec this.entry)
+        ensures finds { FindsBy (index_in W.word K.spec V.spec this.entry)
             (F.post cmp key.entry) (hash_of H.hasher Q.calls key.now) (IsFullSealAt result) }
         ensures first { FindsFirstBy (index_in W.word K.spec V.spec this.entry)
             (F.post cmp key.entry) (hash_of H.hasher Q.calls key.now)
             (hash_at H.hasher K.key_calls) (IsFullSealAt result) }
     {
-        let place = Self::find_in(&this, key, cmp);
-        Self::full_seal_of(this, place)
+        let index = Self::find_in(&this, key, cmp);
+        Self::full_seal_of(this, index)
     }
 
     /// Returns the index, the key and a seal of the value that the query finds, or `None`.
@@ -282,8 +282,8 @@ impl<'a, K: KeyElement, V: Element, H: KeyHasher, W: Width> ArchivedIndexMap<'a,
     ///
     /// let whole = access_mut::<Small>(bytes)?;
     /// match ArchivedIndexMap::get_full_seal(whole, &key) {
-    ///     Some((place, stored, mut seal)) => {
-    ///         let before = (place, stored.to_native(), seal.to_native());
+    ///     Some((index, stored, mut seal)) => {
+    ///         let before = (index, stored.to_native(), seal.to_native());
     ///         seal.set(value);
     ///         Ok(Some(before))
     ///     }
@@ -300,13 +300,13 @@ impl<'a, K: KeyElement, V: Element, H: KeyHasher, W: Width> ArchivedIndexMap<'a,
         ensures inside { IfSome result (λ full. LiesIn V.spec full.2) }
         ensures viewable { IfSome result (λ full. IsValidView K.spec full.1) }
         ensures walked { IfSome result (IsFullSeal W.word K.spec V.spec this.entry) }
-        ensures answer { FindsKey (index_in W.word K.spec V.spec this.entry)
+        ensures finds { FindsKey (index_in W.word K.spec V.spec this.entry)
             (hash_of H.hasher Q.calls key.now) (Q.fits key.now) (IsFullSealAt result) }
         ensures first { FindsFirstKey (index_in W.word K.spec V.spec this.entry)
             (hash_at H.hasher K.key_calls) (Q.fits key.now) (IsFullSealAt result) }
     {
-        let place = Self::find_key_in(&this, key);
-        Self::full_seal_of(this, place)
+        let index = Self::find_key_in(&this, key);
+        Self::full_seal_of(this, index)
     }
 
     /// Returns a key that the comparison accepts and a seal of its value, or `None`.
@@ -336,7 +336,7 @@ impl<'a, K: KeyElement, V: Element, H: KeyHasher, W: Width> ArchivedIndexMap<'a,
         ensures inside { IfSome result (λ pair. LiesIn V.spec pair.1) }
         ensures viewable { IfSome result (λ pair. IsValidView K.spec pair.0) }
         ensures walked { IfSome result (IsPairSeal W.word K.spec V.spec this.entry) }
-        ensures answer { FindsBy (index_in W.word K.spec V.spec this.entry)
+        ensures finds { FindsBy (index_in W.word K.spec V.spec this.entry)
             (F.post cmp key.entry) (hash_of H.hasher Q.calls key.now)
             (SealsPair W.word K.spec V.spec this.entry result) }
         ensures first { FindsFirstBy (index_in W.word K.spec V.spec this.entry)
@@ -344,8 +344,8 @@ impl<'a, K: KeyElement, V: Element, H: KeyHasher, W: Width> ArchivedIndexMap<'a,
             (hash_at H.hasher K.key_calls)
             (SealsPair W.word K.spec V.spec this.entry result) }
     {
-        let place = Self::find_in(&this, key, cmp);
-        Self::pair_seal_of(this, place)
+        let index = Self::find_in(&this, key, cmp);
+        Self::pair_seal_of(this, index)
     }
 
     /// Returns the key that the query finds and a seal of its value, or `None`.
@@ -371,15 +371,15 @@ impl<'a, K: KeyElement, V: Element, H: KeyHasher, W: Width> ArchivedIndexMap<'a,
         ensures inside { IfSome result (λ pair. LiesIn V.spec pair.1) }
         ensures viewable { IfSome result (λ pair. IsValidView K.spec pair.0) }
         ensures walked { IfSome result (IsPairSeal W.word K.spec V.spec this.entry) }
-        ensures answer { FindsKey (index_in W.word K.spec V.spec this.entry)
+        ensures finds { FindsKey (index_in W.word K.spec V.spec this.entry)
             (hash_of H.hasher Q.calls key.now) (Q.fits key.now)
             (SealsPair W.word K.spec V.spec this.entry result) }
         ensures first { FindsFirstKey (index_in W.word K.spec V.spec this.entry)
             (hash_at H.hasher K.key_calls) (Q.fits key.now)
             (SealsPair W.word K.spec V.spec this.entry result) }
     {
-        let place = Self::find_key_in(&this, key);
-        Self::pair_seal_of(this, place)
+        let index = Self::find_key_in(&this, key);
+        Self::pair_seal_of(this, index)
     }
 
     /// Returns a seal of the value of a key that the comparison accepts, or `None`.
@@ -407,7 +407,7 @@ impl<'a, K: KeyElement, V: Element, H: KeyHasher, W: Width> ArchivedIndexMap<'a,
         ensures viewable { IfSome result (λ value. Viewable V.spec (bytes_in value)
             (seal_pos value)) }
         ensures walked { IfSome result (IsValueSeal W.word K.spec V.spec this.entry) }
-        ensures answer { FindsBy (index_in W.word K.spec V.spec this.entry)
+        ensures finds { FindsBy (index_in W.word K.spec V.spec this.entry)
             (F.post cmp key.entry) (hash_of H.hasher Q.calls key.now)
             (SealsValue W.word K.spec V.spec this.entry result) }
         ensures first { FindsFirstBy (index_in W.word K.spec V.spec this.entry)
@@ -415,8 +415,8 @@ impl<'a, K: KeyElement, V: Element, H: KeyHasher, W: Width> ArchivedIndexMap<'a,
             (hash_at H.hasher K.key_calls)
             (SealsValue W.word K.spec V.spec this.entry result) }
     {
-        let place = Self::find_in(&this, key, cmp);
-        Self::value_seal_of(this, place)
+        let index = Self::find_in(&this, key, cmp);
+        Self::value_seal_of(this, index)
     }
 
     /// Returns a seal of the value of the key that the query finds, or `None`.
@@ -456,14 +456,14 @@ impl<'a, K: KeyElement, V: Element, H: KeyHasher, W: Width> ArchivedIndexMap<'a,
         ensures viewable { IfSome result (λ value. Viewable V.spec (bytes_in value)
             (seal_pos value)) }
         ensures walked { IfSome result (IsValueSeal W.word K.spec V.spec this.entry) }
-        ensures answer { FindsKey (index_in W.word K.spec V.spec this.entry)
+        ensures finds { FindsKey (index_in W.word K.spec V.spec this.entry)
             (hash_of H.hasher Q.calls key.now) (Q.fits key.now)
             (SealsValue W.word K.spec V.spec this.entry result) }
         ensures first { FindsFirstKey (index_in W.word K.spec V.spec this.entry)
             (hash_at H.hasher K.key_calls) (Q.fits key.now)
             (SealsValue W.word K.spec V.spec this.entry result) }
     {
-        let place = Self::find_key_in(&this, key);
-        Self::value_seal_of(this, place)
+        let index = Self::find_key_in(&this, key);
+        Self::value_seal_of(this, index)
     }
 }

@@ -3,7 +3,7 @@
 //! A lookup of a native key in a root index map that represents a list of pairs finds the first
 //! pair whose key equals it, and `None` if the list has no such pair.
 //!
-//! - `place`: `get_index_of` finds its index in the list.
+//! - `index`: `get_index_of` finds its index in the list.
 //! - `value`: `get` finds its value.
 ghost use Rattle.rkyv_index.specs.Index.ListArchives.{FoundAreListed};
 ghost use Rattle.rkyv_index.specs.Index.{hash_at};

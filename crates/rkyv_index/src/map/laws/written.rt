@@ -4,7 +4,7 @@ ghost use Rattle.rkyv_index.specs.Index.{hash_at};
 ghost use Rattle.rkyv_index.specs.Index.IndexFormat.{WrittenIndexMaps, element, hash_of};
 ghost use Rattle.rkyv_index.specs.Index.IndexFormat.{indices};
 
-use crate::width::PlaceWidth;
+use crate::width::IndexMapWidth;
 use rkyv_base::archive::Archive;
 use rkyv_base::element::Represents;
 use rkyv_keys::keys::{KeyElement, NativeKey};
@@ -16,14 +16,14 @@ use rkyv_scan::hash::KeyHasher;
 /// of the map. The table has the indices in order, each under the hash of its key.
 /// The pairs are in a row, in insertion order.
 pub fn written_index_maps_represent<
-    W: PlaceWidth,
+    W: IndexMapWidth,
     H: KeyHasher,
     K: KeyElement + Represents<A>,
     V: Represents<B>,
     A: NativeKey<K> + Archive<W, Archived = K>,
     B: Archive<W, Archived = V>,
 >()
-    ensures { WrittenIndexMaps W.word (indices W.Place.spec W.Place.encoding)
+    ensures { WrittenIndexMaps W.word (indices W.Index.spec W.Index.encoding)
         (element K.spec K.represents A.format) (element V.spec V.represents B.format)
         (hash_at H.hasher K.key_calls) (hash_of H.hasher A.calls) }
 {}

@@ -32,7 +32,7 @@ fn decode<K: Element, V: Element, H, W: Width>(view: View<'_, IndexMapOf<K, V, H
     requires { IsValidView (index_spec W.word (entry_spec K.spec V.spec)) view }
     ensures { IsDecoded W.word (bytes_of view.entry) (pos_of view.entry) result }
 {
-    ArchivedHashTable::of(view.at::<TableOf<W::Place, W>>(view.pos())).header()
+    ArchivedHashTable::of(view.at::<TableOf<W::Index, W>>(view.pos())).header()
 }
 
 // Returns the position of the first entry of a map.
@@ -140,14 +140,14 @@ impl<'a, K: Element, V: Element, H, W: Width> ArchivedIndexMap<'a, K, V, H, W> {
     /// }
     /// ```
     #[inline]
-    pub fn get_index(self, place: usize) -> Option<PairView<'a, K, V>>
+    pub fn get_index(self, index: usize) -> Option<PairView<'a, K, V>>
         ensures { MatchOption result
-            (index_len self.entry ≤ place)
-            (λ pair. IsPairOf self.entry place pair) }
+            (index_len self.entry ≤ index)
+            (λ pair. IsPairOf self.entry index pair) }
     {
-        if place >= self.len() {
+        if index >= self.len() {
             return None;
         }
-        Some(self.entries().pair(place))
+        Some(self.entries().pair(index))
     }
 }

@@ -13,18 +13,18 @@ use rkyv_keys::deserialize::Deserialize;
 use std::alloc::Global;
 
 impl<'a, K: Element, V: Element, H, W: Width> ArchivedIndexMap<'a, K, V, H, W> {
-    // Deserializes the pair at the index `place`.
+    // Deserializes the pair at `index`.
     #[inline]
-    fn read_pair<A: Drop, B>(self, alloc: Global, place: usize) -> Result<(A, B), ReadError>
+    fn read_pair<A: Drop, B>(self, alloc: Global, index: usize) -> Result<(A, B), ReadError>
     where
         K: Deserialize<A>,
         V: Deserialize<B>,
-        requires below { place < index_len self }
+        requires below { index < index_len self }
         ensures { MatchResult result
-            (IsPairRead K.represents V.represents self.entry place)
-            (pair_deserialize_fails K.deserialize_fails V.deserialize_fails self.entry place) }
+            (IsPairRead K.represents V.represents self.entry index)
+            (pair_deserialize_fails K.deserialize_fails V.deserialize_fails self.entry index) }
     {
-        Entry::<K, V>::deserialize(alloc, self.entries().entry(place))
+        Entry::<K, V>::deserialize(alloc, self.entries().entry(index))
     }
 
     /// Deserializes the pairs into a list, in order.
@@ -58,8 +58,8 @@ impl<'a, K: Element, V: Element, H, W: Width> ArchivedIndexMap<'a, K, V, H, W> {
             (index_pos self.entry)) }
     {
         let mut list = Vec::new(alloc);
-        for place in 0..self.len() {
-            let pair = self.read_pair(alloc, place)?;
+        for index in 0..self.len() {
+            let pair = self.read_pair(alloc, index)?;
             match list.push(pair) {
                 Ok(()) => {}
                 Err(_) => return Err(ReadError::Memory),

@@ -6,9 +6,9 @@ ghost use Rattle.rkyv_base.specs.View.{IsAt, IsValidView, bytes_of, pos_of};
 ghost use Rattle.rkyv_table.specs.Table.Header.{len_at};
 ghost use Rattle.rkyv_scan.specs.Groups.{generic_kind};
 ghost use Rattle.rkyv_table.specs.Table.Reading.{CountsStrides};
-ghost use Rattle.rkyv_index.specs.Index.{ComparesPlaceBy, AreEntries, FindsIndexIn, IsEntryOf};
-ghost use Rattle.rkyv_index.specs.Index.{IsKeyIn, IsPairOf, CanComparePlace, CanComparePlaces};
-ghost use Rattle.rkyv_index.specs.Index.{index_archive, index_len, index_pos, place_at};
+ghost use Rattle.rkyv_index.specs.Index.{AreEntries, ComparesIndexBy, FindsIndexIn, IsEntryOf};
+ghost use Rattle.rkyv_index.specs.Index.{CanCompareIndex, CanCompareIndices, IsKeyIn, IsPairOf};
+ghost use Rattle.rkyv_index.specs.Index.{index_archive, index_len, index_pos, stored_index};
 ghost use Rattle.rkyv_index.specs.Index.IndexLayout.{entries_pos, entry_at, index_spec};
 
 use crate::map::{ArchivedIndexMap, IndexMapOf};
@@ -47,10 +47,10 @@ fn entry_pos(begin: u64, i: usize, size: usize) -> u64
 impl<'a, K: Element, V: Element, H, W: Width> ArchivedIndexMap<'a, K, V, H, W> {
     /// Returns the table of the indices.
     #[inline]
-    pub(crate) fn table(self) -> ArchivedHashTable<'a, W::Place, W>
+    pub(crate) fn table(self) -> ArchivedHashTable<'a, W::Index, W>
         ensures at { IsAt result.view (index_archive self.entry) (index_pos self.entry) }
     {
-        let view = self.view.at::<TableOf<W::Place, W>>(self.view.pos());
+        let view = self.view.at::<TableOf<W::Index, W>>(self.view.pos());
         ArchivedHashTable::with_header(view, self.header)
     }
 
@@ -68,50 +68,50 @@ impl<'a, K: Element, V: Element, H, W: Width> ArchivedIndexMap<'a, K, V, H, W> {
 }
 
 impl<'a, K: Element, V: Element, H, W: Width> Entries<'a, K, V, H, W> {
-    /// Returns a view of the entry at the index `place`.
+    /// Returns a view of the entry at `index`.
     #[inline]
-    pub(crate) fn entry(self, place: usize) -> View<'a, Entry<K, V>>
+    pub(crate) fn entry(self, index: usize) -> View<'a, Entry<K, V>>
         requires entries { AreEntries self }
-        requires below { place < index_len self.map }
-        ensures { IsEntryOf self.entry.map place result }
+        requires below { index < index_len self.map }
+        ensures { IsEntryOf self.entry.map index result }
     {
-        let at = entry_pos(self.begin, place, Entry::<K, V>::size());
+        let at = entry_pos(self.begin, index, Entry::<K, V>::size());
         self.map.view.at::<Entry<K, V>>(at)
     }
 
-    /// Returns views of the key and the value at the index `place`.
+    /// Returns views of the key and the value at `index`.
     #[inline]
-    pub(crate) fn pair(self, place: usize) -> PairView<'a, K, V>
+    pub(crate) fn pair(self, index: usize) -> PairView<'a, K, V>
         requires entries { AreEntries self }
-        requires below { place < index_len self.map }
-        ensures { IsPairOf self.entry.map place result }
+        requires below { index < index_len self.map }
+        ensures { IsPairOf self.entry.map index result }
     {
-        let entry = self.entry(place);
+        let entry = self.entry(index);
         (entry.key(), entry.value())
     }
 }
 
-/// Returns a view of the key at the index `place` of the map at `view`.
+/// Returns a view of the key at `index` of the map at `view`.
 #[inline]
 pub(crate) fn key_in<'a, K: Element, V: Element, H, W: Width>(
     view: View<'a, IndexMapOf<K, V, H, W>>,
     begin: u64,
-    place: usize,
+    index: usize,
 ) -> View<'a, K>
     requires map { IsValidView (index_spec W.word (entry_spec K.spec V.spec)) view }
     requires begin { begin ≡ entries_pos W.word (bytes_of view) (pos_of view) }
-    requires below { place < len_at W.word (bytes_of view) (pos_of view) }
-    ensures { IsKeyIn W.word K.spec V.spec view.entry place result }
+    requires below { index < len_at W.word (bytes_of view) (pos_of view) }
+    ensures { IsKeyIn W.word K.spec V.spec view.entry index result }
 {
-    let at = entry_pos(begin, place, Entry::<K, V>::size());
+    let at = entry_pos(begin, index, Entry::<K, V>::size());
     view.at::<Entry<K, V>>(at).key()
 }
 
 /// Returns the index at an item of a table of indices.
 #[inline]
-fn read_place<W: Width>(item: View<'_, W::Place>) -> usize
+fn read_index<W: Width>(item: View<'_, W::Index>) -> usize
     requires { pos_of item + byte_len W.word ≤ length (bytes_of item) }
-    ensures { result ≡ place_at W.word item.entry }
+    ensures { result ≡ stored_index W.word item.entry }
 {
     W::read_count(item.bytes(), item.pos() as usize) as usize
 }
@@ -120,29 +120,29 @@ fn read_place<W: Width>(item: View<'_, W::Place>) -> usize
 ///
 /// The count is increased by the strides of sixteen control bytes that are read.
 #[inline]
-pub(crate) fn find_place<W: Width, F: Fn(usize) -> bool>(
-    table: ArchivedHashTable<'_, W::Place, W>,
+pub(crate) fn find_index<W: Width, F: Fn(usize) -> bool>(
+    table: ArchivedHashTable<'_, W::Index, W>,
     hash: u64,
     accepts: F,
     strides: &mut Strides,
 ) -> Option<usize>
     requires room { strides.old ≤ 2 ^ 63 }
-    requires callable { CanComparePlaces (F.pre accepts) table }
+    requires callable { CanCompareIndices (F.pre accepts) table }
     ensures found { FindsIndexIn (F.post accepts) table.entry hash result }
-    ensures counts { CountsStrides (ComparesPlaceBy W.word (F.post accepts)) generic_kind
+    ensures counts { CountsStrides (ComparesIndexBy W.word (F.post accepts)) generic_kind
         table.entry
         hash strides.old strides.new }
 {
     let held = table.get_counted(
         hash,
         |item|
-            requires { CanComparePlace W.word (F.pre accepts) item }
-            ensures { ComparesPlaceBy W.word (F.post accepts) item.entry result }
-        { accepts(read_place::<W>(item)) },
+            requires { CanCompareIndex W.word (F.pre accepts) item }
+            ensures { ComparesIndexBy W.word (F.post accepts) item.entry result }
+        { accepts(read_index::<W>(item)) },
         strides,
     );
     match held {
-        Some(item) => Some(read_place::<W>(item)),
+        Some(item) => Some(read_index::<W>(item)),
         None => None,
     }
 }

@@ -43,8 +43,8 @@ impl<'a, K: ElementEq, V: ElementEq, H, W: Width> ArchivedIndexMap<'a, K, V, H, 
         }
         let own = self.entries();
         let others = other.entries();
-        for place in 0..len {
-            if !Entry::<K, V>::same(own.entry(place), others.entry(place)) {
+        for index in 0..len {
+            if !Entry::<K, V>::same(own.entry(index), others.entry(index)) {
                 return false;
             }
         }

@@ -16,18 +16,18 @@ ghost use Rattle.rkyv_base.specs.View.{IsValidView, bytes_of, pos_of};
 ghost use Rattle.rkyv_base.specs.declared.view.View.{View};
 ghost use Rattle.rkyv_table.specs.Table.Header.{len_at};
 ghost use Rattle.rkyv_keys.specs.KeyLookup.{query_of};
-ghost use Rattle.rkyv_index.specs.Index.{IsFoundAt, IsStoredIndex, IsKeyIn, IsPairAt, IsValueAt};
+ghost use Rattle.rkyv_index.specs.Index.{IsFoundAt, IsKeyIn, IsPairAt, IsStoredIndex, IsValueAt};
 ghost use Rattle.rkyv_index.specs.Index.{CountsBy, CountsKey, index_of};
 ghost use Rattle.rkyv_index.specs.Index.{CanCompareKeys, CanCompareKeysIn, ReadsWithinBound};
 ghost use Rattle.rkyv_index.specs.Index.{hash_at};
 ghost use Rattle.rkyv_index.specs.Index.IndexFormat.{hash_of};
 ghost use Rattle.rkyv_index.specs.Index.IndexLayout.{entries_pos, index_spec};
-ghost use Rattle.rkyv_index.specs.Index.Lookups.{GetsBy, GetsKey, FoundKeyHas, full_part};
+ghost use Rattle.rkyv_index.specs.Index.Lookups.{FoundKeyHas, GetsBy, GetsKey, full_part};
 ghost use Rattle.rkyv_index.specs.Index.Lookups.{pair_part};
-ghost use Rattle.rkyv_index.specs.Index.Lookups.{place_part, value_part};
+ghost use Rattle.rkyv_index.specs.Index.Lookups.{index_part, value_part};
 
 use crate::map::ArchivedIndexMap;
-use crate::map::read::entries::{find_place, key_in};
+use crate::map::read::entries::{find_index, key_in};
 use rkyv_base::element::Element;
 use rkyv_base::view::{PairView, View};
 use rkyv_base::width::Width;
@@ -48,7 +48,7 @@ impl<'a, K: KeyElement, V: Element, H: KeyHasher, W: Width> ArchivedIndexMap<'a,
         requires query { Q.can_read key.now }
         requires room { strides.old ≤ 2 ^ 63 }
         requires callable { CanCompareKeys self (F.pre cmp key) }
-        ensures found { GetsBy place_part self.entry (hash_of H.hasher Q.calls key.now)
+        ensures found { GetsBy index_part self.entry (hash_of H.hasher Q.calls key.now)
             (hash_at H.hasher K.key_calls) (F.post cmp key.entry) result }
         ensures hash { hash_of_calls H.hasher (Q.calls key.now) < 2 ^ 64 }
         ensures bounded { ReadsWithinBound self.entry strides.old strides.new }
@@ -58,17 +58,17 @@ impl<'a, K: KeyElement, V: Element, H: KeyHasher, W: Width> ArchivedIndexMap<'a,
         let hash = hash_value::<Q, H>(key);
         let table = self.table();
         let (view, begin) = (self.view, self.begin);
-        find_place::<W, _>(
+        find_index::<W, _>(
             table,
             hash,
-            |place|
+            |index|
                 requires map { IsValidView (index_spec W.word (entry_spec K.spec V.spec)) view }
                 requires begin { begin ≡ entries_pos W.word (bytes_of view) (pos_of view) }
-                requires below { place < len_at W.word (bytes_of view) (pos_of view) }
+                requires below { index < len_at W.word (bytes_of view) (pos_of view) }
                 requires callable { CanCompareKeysIn W.word K.spec V.spec view (F.pre cmp key) }
-                ensures { (k : View K) × IsKeyIn W.word K.spec V.spec view.entry place k
+                ensures { (k : View K) × IsKeyIn W.word K.spec V.spec view.entry index k
                     × F.post cmp key.entry k result }
-            { cmp(key, key_in(view, begin, place)) },
+            { cmp(key, key_in(view, begin, index)) },
             strides,
         )
     }
@@ -102,9 +102,9 @@ impl<'a, K: KeyElement, V: Element, H: KeyHasher, W: Width> ArchivedIndexMap<'a,
             (hash_at H.hasher K.key_calls) (F.post cmp key.entry) result }
     {
         match self.find(key, cmp, &mut Strides::new()) {
-            Some(place) => {
-                let entry = self.entries().entry(place);
-                Some((place, entry.key(), entry.value()))
+            Some(index) => {
+                let entry = self.entries().entry(index);
+                Some((index, entry.key(), entry.value()))
             }
             None => None,
         }
@@ -115,7 +115,7 @@ impl<'a, K: KeyElement, V: Element, H: KeyHasher, W: Width> ArchivedIndexMap<'a,
     pub(crate) fn find_counted<Q: Query<K>>(self, key: &Q, strides: &mut Strides) -> Option<usize>
         requires query { Q.can_read key.now }
         requires room { strides.old ≤ 2 ^ 63 }
-        ensures found { GetsKey place_part self.entry
+        ensures found { GetsKey index_part self.entry
             (query_of H.hasher K.key_calls K.same (Q.calls key.now) (Q.fits key.now)) result }
         ensures bounded { ReadsWithinBound self.entry strides.old strides.new }
         ensures counted { CountsKey (index_of self.entry) (hash_of H.hasher Q.calls key.now)
@@ -136,7 +136,7 @@ impl<'a, K: KeyElement, V: Element, H: KeyHasher, W: Width> ArchivedIndexMap<'a,
     #[inline]
     pub(crate) fn find_key<Q: Query<K>>(self, key: &Q) -> Option<usize>
         requires query { Q.can_read key.now }
-        ensures { GetsKey place_part self.entry
+        ensures { GetsKey index_part self.entry
             (query_of H.hasher K.key_calls K.same (Q.calls key.now) (Q.fits key.now)) result }
     {
         self.find_counted(key, &mut Strides::new())
@@ -178,9 +178,9 @@ impl<'a, K: KeyElement, V: Element, H: KeyHasher, W: Width> ArchivedIndexMap<'a,
             (query_of H.hasher K.key_calls K.same (Q.calls key.now) (Q.fits key.now)) result }
     {
         match self.find_key(key) {
-            Some(place) => {
-                let entry = self.entries().entry(place);
-                Some((place, entry.key(), entry.value()))
+            Some(index) => {
+                let entry = self.entries().entry(index);
+                Some((index, entry.key(), entry.value()))
             }
             None => None,
         }
@@ -188,24 +188,24 @@ impl<'a, K: KeyElement, V: Element, H: KeyHasher, W: Width> ArchivedIndexMap<'a,
 
     /// Returns the pair at a found index.
     #[inline]
-    fn pair_of(self, place: Option<usize>) -> Option<PairView<'a, K, V>>
-        requires stored { IfSome place (IsStoredIndex self) }
-        ensures { IsPairAt self.entry result place }
+    fn pair_of(self, index: Option<usize>) -> Option<PairView<'a, K, V>>
+        requires stored { IfSome index (IsStoredIndex self) }
+        ensures { IsPairAt self.entry result index }
     {
-        match place {
-            Some(place) => Some(self.entries().pair(place)),
+        match index {
+            Some(index) => Some(self.entries().pair(index)),
             None => None,
         }
     }
 
     /// Returns the value at a found index.
     #[inline]
-    fn value_of(self, place: Option<usize>) -> Option<View<'a, V>>
-        requires stored { IfSome place (IsStoredIndex self) }
-        ensures { IsValueAt self.entry result place }
+    fn value_of(self, index: Option<usize>) -> Option<View<'a, V>>
+        requires stored { IfSome index (IsStoredIndex self) }
+        ensures { IsValueAt self.entry result index }
     {
-        match place {
-            Some(place) => Some(self.entries().entry(place).value()),
+        match index {
+            Some(index) => Some(self.entries().entry(index).value()),
             None => None,
         }
     }
@@ -321,7 +321,7 @@ impl<'a, K: KeyElement, V: Element, H: KeyHasher, W: Width> ArchivedIndexMap<'a,
         F: Fn(&Q, View<'a, K>) -> bool,
         requires query { Q.can_read key.now }
         requires callable { CanCompareKeys self (F.pre cmp key) }
-        ensures { GetsBy place_part self.entry (hash_of H.hasher Q.calls key.now)
+        ensures { GetsBy index_part self.entry (hash_of H.hasher Q.calls key.now)
             (hash_at H.hasher K.key_calls) (F.post cmp key.entry) result }
     {
         self.find(key, cmp, &mut Strides::new())
@@ -360,7 +360,7 @@ impl<'a, K: KeyElement, V: Element, H: KeyHasher, W: Width> ArchivedIndexMap<'a,
         requires query { Q.can_read key.now }
         requires room { strides.old ≤ 2 ^ 63 }
         requires callable { CanCompareKeys self (F.pre cmp key) }
-        ensures found { GetsBy place_part self.entry (hash_of H.hasher Q.calls key.now)
+        ensures found { GetsBy index_part self.entry (hash_of H.hasher Q.calls key.now)
             (hash_at H.hasher K.key_calls) (F.post cmp key.entry) result }
         ensures bounded { ReadsWithinBound self.entry strides.old strides.new }
         ensures counted { CountsBy (index_of self.entry) (F.post cmp key.entry)
@@ -381,7 +381,7 @@ impl<'a, K: KeyElement, V: Element, H: KeyHasher, W: Width> ArchivedIndexMap<'a,
     #[inline]
     pub fn get_index_of<Q: Query<K>>(self, key: &Q) -> Option<usize>
         requires query { Q.can_read key.now }
-        ensures { GetsKey place_part self.entry
+        ensures { GetsKey index_part self.entry
             (query_of H.hasher K.key_calls K.same (Q.calls key.now) (Q.fits key.now)) result }
     {
         self.find_key(key)

@@ -18,23 +18,23 @@ use rkyv_table::Strides;
 use rkyv_table::table::misplaced::{finds_another_or_none, is_past};
 
 impl<'a, K: KeyElement, V: Element, H: KeyHasher, W: Width> Entries<'a, K, V, H, W> {
-    // Returns `true` if and only if a lookup of the key at `place` doesn't find `place`.
+    // Returns `true` if and only if a lookup of the key at `index` doesn't find `index`.
     // The count is increased by the strides that the lookup reads.
     #[inline]
-    fn is_misplaced(self, place: usize, strides: &mut Strides) -> bool
+    fn is_misplaced(self, index: usize, strides: &mut Strides) -> bool
         requires entries { AreEntries self }
-        requires below { place < index_len self.map }
+        requires below { index < index_len self.map }
         requires room { strides.old ≤ 2 ^ 63 }
         ensures exact { result ≡ is_misplaced (index_of self.entry.map)
-            (hash_at H.hasher K.key_calls) K.same place }
+            (hash_at H.hasher K.key_calls) K.same index }
         ensures repeated { ReturnsRepeated (index_of self.entry.map)
-            (hash_at H.hasher K.key_calls) K.same place result }
+            (hash_at H.hasher K.key_calls) K.same index result }
         ensures bounded { ReadsWithinBound self.entry.map strides.old strides.new }
         ensures counted { strides.new ≡ strides.old + own_strides (index_of self.entry.map)
-            (hash_at H.hasher K.key_calls) K.same place }
+            (hash_at H.hasher K.key_calls) K.same index }
     {
-        let key = self.entry(place).key();
-        finds_another_or_none(place, self.map.find_counted(&key, strides))
+        let key = self.entry(index).key();
+        finds_another_or_none(index, self.map.find_counted(&key, strides))
     }
 }
 
@@ -69,8 +69,8 @@ impl<'a, K: KeyElement, V: Element, H: KeyHasher, W: Width> ArchivedIndexMap<'a,
     {
         let entries = self.entries();
         let mut count = 0;
-        for place in 0..self.len() {
-            if entries.is_misplaced(place, &mut Strides::new()) {
+        for index in 0..self.len() {
+            if entries.is_misplaced(index, &mut Strides::new()) {
                 count += 1;
             }
         }
@@ -122,8 +122,8 @@ impl<'a, K: KeyElement, V: Element, H: KeyHasher, W: Width> ArchivedIndexMap<'a,
         let entries = self.entries();
         let before = strides.count();
         let mut count = 0;
-        for place in 0..self.len() {
-            let is_misplaced = entries.is_misplaced(place, strides);
+        for index in 0..self.len() {
+            let is_misplaced = entries.is_misplaced(index, strides);
             if is_past(before, strides.count(), limit) {
                 return None;
             }

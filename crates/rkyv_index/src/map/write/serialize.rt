@@ -15,7 +15,7 @@ use crate::map::write::resolve::IndexMapResolver;
 use crate::map::write::source::{Room, take_entries};
 use crate::map::write::write_index;
 use crate::map::{ArchivedIndexMap, IndexMapOf};
-use crate::width::PlaceWidth;
+use crate::width::IndexMapWidth;
 use rkyv_base::adapter::EntryAdapter;
 use rkyv_base::archive::{Archive, Serialize, WriteResult};
 use rkyv_base::element::{Element, Represents};
@@ -40,18 +40,24 @@ impl<
     K: Element,
     V: Element,
     H: KeyHasher,
-    W: PlaceWidth,
+    W: IndexMapWidth,
     A: KeyHash + Archive<W>,
     B: Archive<W>,
     BK: Lend<A>,
     BV: Lend<B>,
 > ListFormat<(BK, BV), (A, B)> for IndexMapOf<K, V, H, W> {
     ghost format = { λ load_factor. written_as (pair_values BK.lent BV.lent)
-        (index_format W.word W.Place.spec W.Place.encoding K.spec V.spec A.format B.format
+        (index_format W.word W.Index.spec W.Index.encoding K.spec V.spec A.format B.format
         (hash_of H.hasher A.calls) load_factor) };
 }
 
-impl<'a, K: KeyElement, V: Element, H: KeyHasher, W: PlaceWidth> ArchivedIndexMap<'a, K, V, H, W> {
+impl<'a, K: KeyElement, V: Element, H: KeyHasher, W: IndexMapWidth> ArchivedIndexMap<
+    'a,
+    K,
+    V,
+    H,
+    W,
+> {
     /// Writes an index map of `len` pairs and returns its resolver.
     ///
     /// The pairs have their keys and values as themselves or by reference.

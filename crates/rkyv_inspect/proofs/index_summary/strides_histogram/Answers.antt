@@ -3,14 +3,14 @@ use Rattle.std.specs.List.{range_with_len}
 use Rattle.std.proofs.lemmas.List.{length-replicate}
 use Rattle.std.proofs.lemmas.List.FromFn.{length-range_with_len}
 use Rattle.rkyv_index.specs.Index.{hash_at, index_bytes, index_len, index_pos}
-use Rattle.rkyv_index.proofs.Checking.{all_left, none_left, places_step}
+use Rattle.rkyv_index.proofs.Checking.{all_left, indices_step, none_left}
 use Rattle.rkyv_table.specs.Controls.Numbers.{probe_capacity}
 use Rattle.rkyv_inspect.specs.Summaries.{index_key_strides, key_indices, key_type, keyed_map}
 use Rattle.rkyv_inspect.proofs.Histograms.{Partial, partial_all, partial_more, partial_none}
 use Rattle.rkyv_inspect.proofs.index_summary.strides_histogram.Goals as goal
 
-pub loop-place-init : goal.loop-place-init
-loop-place-init g c =
+pub loop-index-init : goal.loop-index-init
+loop-index-init g c =
     let keys = key_type g.K.HasSpec.spec g.K.ElementEq.same (hash_at g.H.KeyHasher.hasher g.K.KeyElement.key_calls) in
     let m = keyed_map g.W.Word.word keys g.V.HasSpec.spec (index_bytes c.args.map) (index_pos c.args.map) in
     let f : ℕ → ℕ = index_key_strides m in
@@ -27,42 +27,42 @@ loop-place-init g c =
 pub count_one-requires-clause-room : goal.count_one-requires-clause-room
 count_one-requires-clause-room g c =
     let n : ℕ = index_len c.args.map in
-    let place : ℕ = c.loop-place.place in
-    let total = c.loop-place.invariant.counted.total in
-    let left = length-range_with_len place (n - place) in
+    let index : ℕ = c.loop-index.index in
+    let total = c.loop-index.invariant.counted.total in
+    let left = length-range_with_len index (n - index) in
     let all = length-range_with_len 0 n in
-    let end : c.len-place-end.result ≡ n = c.len-place-end.ensures in
-    let small = c.len-place-end.type_inv in
-    let test = c.loop-place-test.true in
+    let end : c.len-index-end.result ≡ n = c.len-index-end.ensures in
+    let small = c.len-index-end.type_inv in
+    let test = c.loop-index-test.true in
     omega (arith, total, left, all, end, small, test)
 
-pub loop-place-preserved : goal.loop-place-preserved
-loop-place-preserved g c =
+pub loop-index-preserved : goal.loop-index-preserved
+loop-index-preserved g c =
     let keys = key_type g.K.HasSpec.spec g.K.ElementEq.same (hash_at g.H.KeyHasher.hasher g.K.KeyElement.key_calls) in
     let m = keyed_map g.W.Word.word keys g.V.HasSpec.spec (index_bytes c.args.map) (index_pos c.args.map) in
     let f : ℕ → ℕ = index_key_strides m in
     let items : List ℕ = key_indices m in
     let n : ℕ = index_len c.args.map in
-    let place : ℕ = c.loop-place.place in
-    let counts : List ℕ = c.loop-place.counts.items in
+    let index : ℕ = c.loop-index.index in
+    let counts : List ℕ = c.loop-index.counts.items in
     let read : ℕ = c.strides_of.result in
-    let left : List ℕ = range_with_len place (n - place) in
-    let rest : List ℕ = range_with_len (place + 1) (n - (place + 1)) in
-    let long = c.loop-place.invariant.long in
+    let left : List ℕ = range_with_len index (n - index) in
+    let rest : List ℕ = range_with_len (index + 1) (n - (index + 1)) in
+    let long = c.loop-index.invariant.long in
     let most = c.strides_of.ensures.most in
-    let end : c.len-place-end.result ≡ n = c.len-place-end.ensures in
-    let test = c.loop-place-test.true in
-    let below : place < n = omega (arith, end, test) in
+    let end : c.len-index-end.result ≡ n = c.len-index-end.ensures in
+    let test = c.loop-index-test.true in
+    let below : index < n = omega (arith, end, test) in
     let within : read < length counts = omega (arith, long, most) in
     record {
       counted = subst (λ (xs : List ℕ). Partial f items rest xs) (sym c.count_one.ensures)
-          (partial_more f items left rest counts place read (places_step place n below) c.strides_of.ensures.reads within c.loop-place.invariant.counted);
+          (partial_more f items left rest counts index read (indices_step index n below) c.strides_of.ensures.reads within c.loop-index.invariant.counted);
       long = ap length c.count_one.ensures ∙ length-set counts read _ ∙ long;
     }
 
 pub returns : goal.returns
 returns g c =
     let n : ℕ = index_len c.args.map in
-    let end : c.len-place-end.result ≡ n = c.len-place-end.ensures in
-    let test = c.loop-place-test.false in
-    partial_all _ _ _ c.loop-place.counts.items (none_left c.loop-place.place n (omega (arith, end, test))) c.loop-place.invariant.counted
+    let end : c.len-index-end.result ≡ n = c.len-index-end.ensures in
+    let test = c.loop-index-test.false in
+    partial_all _ _ _ c.loop-index.counts.items (none_left c.loop-index.index n (omega (arith, end, test))) c.loop-index.invariant.counted

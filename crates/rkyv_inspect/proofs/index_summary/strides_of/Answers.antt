@@ -12,7 +12,7 @@ returns-clause-reads g c =
     let same = g.K.ElementEq.same in
     let key_hash = hash_at g.H.KeyHasher.hasher g.K.KeyElement.key_calls in
     let b : List ℕ = index_bytes map in
-    let q : ℕ = key_pos map c.args.place in
+    let q : ℕ = key_pos map c.args.index in
     let accept : ℕ → Bool = λ i. same b q b (key_pos map i) in
     let counted = c.get_index_of_counted.ensures.counted accept (λ i other r of returned.
     returned.1 ∙ read_at (λ a p. same a p (bytes_of other) (pos_of other)) key (index_archive map) q is.at

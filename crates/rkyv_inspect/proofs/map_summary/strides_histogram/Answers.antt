@@ -26,13 +26,13 @@ loop-key-init g c =
     let zs : counts ≡ replicate most 0 = c.in_ok-counts.ensures in
     let walk : ItemsLeft = c.iter-key-items.result in
     let same : c.into_iter-key-iterator.result ≡ walk = cc in
-    let places : c.into_iter-key-iterator.result.positions ≡ items = ap (λ (left : ItemsLeft). left.positions) same ∙ c.iter-key-items.ensures.positions
+    let positions : c.into_iter-key-iterator.result.positions ≡ items = ap (λ (left : ItemsLeft). left.positions) same ∙ c.iter-key-items.ensures.positions
     ∙ ap (λ v. item_positions w (entry_spec g.K.HasSpec.spec g.V.HasSpec.spec).size (bytes_of v) (pos_of v)) c.of.ensures.view in
     let cap : c.capacity.result ≡ cap_at w (bytes_of root) (pos_of root) = c.capacity.ensures ∙ ap (λ v. cap_at w (bytes_of v) (pos_of v)) c.of-table.ensures.view
     ∙ read_at (cap_at w) c.at.result root.archive c.pos.result c.at.ensures ∙ ap (cap_at w root.archive.now) c.pos.ensures in
     record {
       archive = ap (λ (left : ItemsLeft). left.archive) same ∙ c.iter-key-items.ensures.archive ∙ ap (λ v. archive_of v) c.of.ensures.view;
-      counted = subst (λ (left : List ℕ). Partial f items left counts) (sym places) (subst (λ (xs : List ℕ). Partial f items items xs) (sym zs) (partial_none f items most));
+      counted = subst (λ (left : List ℕ). Partial f items left counts) (sym positions) (subst (λ (xs : List ℕ). Partial f items items xs) (sym zs) (partial_none f items most));
       long = ap length zs ∙ length-replicate {A = ℕ} most 0 ∙ ap (λ n. n + 1) (c.most_strides.ensures ∙ ap (λ n. probe_capacity n / 16) cap);
     }
 

@@ -7,6 +7,6 @@ pub returns-in-Some : goal.returns-in-Some
 returns-in-Some g c =
     let w = g.W.Word.word in
     let bytes = c.args.self.now.bytes.now in
-    let place = c.args.self.now.pos in
+    let pos = c.args.self.now.pos in
     let h = c.in-Some.ensures in
-    (h.0, c.from_utf8_unchecked.ensures ∙ h.1 ∙ sym (inline_reads w (fixed_bytes w bytes place) bytes place h.0))
+    (h.0, c.from_utf8_unchecked.ensures ∙ h.1 ∙ sym (inline_reads w (fixed_bytes w bytes pos) bytes pos h.0))

@@ -1,4 +1,4 @@
-use Rattle.rkyv_base.proofs.SealedText.{uppercased_valid, uppercased_reads, uppercased_sealed, uppercased_text}
+use Rattle.rkyv_base.proofs.SealedText.{uppercased_reads, uppercased_sealed, uppercased_text, uppercased_valid}
 use Rattle.rkyv_base.proofs.seal_text.Seal+Text+W.make_ascii_uppercase.Goals as goal
 
 pub returns-clause-sealed : goal.returns-clause-sealed

@@ -1,4 +1,4 @@
-use Rattle.std.proofs.Common.{sym, subst}
+use Rattle.std.proofs.Common.{subst, sym}
 use Rattle.std.specs.Str.{IsUtf8}
 use Rattle.rkyv_base.specs.Lemmas.Text.{viewable_text}
 use Rattle.rkyv_base.proofs.text.View+Text+W.as_str.Goals as goal

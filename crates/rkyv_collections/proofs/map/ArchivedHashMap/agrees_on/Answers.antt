@@ -12,4 +12,4 @@ returns-in-Some g c =
 pub returns-in-None : goal.returns-in-None
 returns-in-None g c =
     accepted_none g.W.Word.word g.K.HasSpec.spec g.V.HasSpec.spec (hash_of g.H.KeyHasher.hasher g.A.KeyHash.calls) g.A.Query.fits g.V.MatchesNative.equals (map_bytes c.args.self) (map_pos c.args.self)
-    c.args.key.now (g.A.PartialEq.eq c.args.key.now) c.args.other.now.entries c.contains_key.result _ c.in-None.ensures.value c.contains_key.ensures.answer refl
+    c.args.key.now (g.A.PartialEq.eq c.args.key.now) c.args.other.now.entries c.contains_key.result _ c.in-None.ensures.value c.contains_key.ensures.finds refl

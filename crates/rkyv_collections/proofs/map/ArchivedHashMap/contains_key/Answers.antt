@@ -4,4 +4,4 @@ pub returns : goal.returns
 returns g c =
     let found_at = c.is_found.ensures in
     let key = c.find_key.ensures in
-    record { answer = found_at _ key.answer; first = λ homes written. found_at _ (key.first homes written); complete = λ none. let one = key.complete none in (one.0, one.1, found_at one.0 one.2) }
+    record { finds = found_at _ key.finds; first = λ homes written. found_at _ (key.first homes written); complete = λ none. let one = key.complete none in (one.0, one.1, found_at one.0 one.2) }

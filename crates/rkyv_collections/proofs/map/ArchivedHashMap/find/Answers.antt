@@ -14,6 +14,6 @@ returns-clause-found g c =
     record {
       walked = entry_found c.args.self t at result got.walked;
       accepted = (pos_of_found result, refl, accepted_by_key c.args.self t at _ post _ _ c.hash_value-hash.ensures result got (λ entry r e. e.1));
-      answer = found_by_key c.args.self t at _ post _ _ c.hash_value-hash.ensures result got.answer (λ entry r e. e.1);
+      finds = found_by_key c.args.self t at _ post _ _ c.hash_value-hash.ensures result got.finds (λ entry r e. e.1);
       first = first_by_key c.args.self t at _ post _ _ c.hash_value-hash.ensures result got.first (λ entry r e. e.1) (hash_at g.H.KeyHasher.hasher g.K.KeyElement.key_calls);
     }

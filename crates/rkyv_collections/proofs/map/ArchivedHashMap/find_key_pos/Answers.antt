@@ -11,5 +11,5 @@ returns-clause-walked g c =
 
 pub returns-clause-finds : goal.returns-clause-finds
 returns-clause-finds g c =
-    satisfies_read c.map_in.result (archive_in c.args.this.now) (pos_in c.args.this.now) c.map_in.ensures.bytes c.map_in.ensures.pos (IsViewAt c.find_key.result) (λ place. c.found_pos.result ≡ place) (λ place at. c.found_pos.ensures ∙ at)
-    (query_of g.H.KeyHasher.hasher g.K.KeyElement.key_calls g.K.ElementEq.same (g.Q.KeyHash.calls c.args.key.now) (g.Q.Query.fits c.args.key.now)) c.find_key.ensures.answer c.find_key.ensures.first c.find_key.ensures.complete
+    satisfies_read c.map_in.result (archive_in c.args.this.now) (pos_in c.args.this.now) c.map_in.ensures.bytes c.map_in.ensures.pos (IsViewAt c.find_key.result) (λ key_pos. c.found_pos.result ≡ key_pos) (λ key_pos at. c.found_pos.ensures ∙ at)
+    (query_of g.H.KeyHasher.hasher g.K.KeyElement.key_calls g.K.ElementEq.same (g.Q.KeyHash.calls c.args.key.now) (g.Q.Query.fits c.args.key.now)) c.find_key.ensures.finds c.find_key.ensures.first c.find_key.ensures.complete

@@ -12,13 +12,13 @@ returns-clause-walked g c =
 pub returns-clause-finds : goal.returns-clause-finds
 returns-clause-finds g c =
     let P = IsViewAt c.find.result in
-    let says : (place : Option ℕ) → P place → c.found_pos.result ≡ place = λ place at. c.found_pos.ensures ∙ at in
+    let says : (key_pos : Option ℕ) → P key_pos → c.found_pos.result ≡ key_pos = λ key_pos at. c.found_pos.ensures ∙ at in
     let hash = hash_of g.H.KeyHasher.hasher g.Q.KeyHash.calls c.args.key.now in
     let key_hash = hash_at g.H.KeyHasher.hasher g.K.KeyElement.key_calls in
     let read = c.map_in.ensures in
     let accepted = c.find.ensures.found.accepted in
     record {
       accepted = (accepted.0, says accepted.0 accepted.1, accepted_read c.map_in.result (archive_in c.args.this.now) (pos_in c.args.this.now) read.bytes read.pos (goal.F-post g c.args.cmp c.args.key) accepted.0 accepted.2);
-      answer = by_read c.map_in.result (archive_in c.args.this.now) (pos_in c.args.this.now) read.bytes read.pos P (λ place. c.found_pos.result ≡ place) says _ hash c.find.ensures.found.answer;
-      first = first_by_read c.map_in.result (archive_in c.args.this.now) (pos_in c.args.this.now) read.bytes read.pos P (λ place. c.found_pos.result ≡ place) says _ hash key_hash c.find.ensures.found.first;
+      finds = by_read c.map_in.result (archive_in c.args.this.now) (pos_in c.args.this.now) read.bytes read.pos P (λ key_pos. c.found_pos.result ≡ key_pos) says _ hash c.find.ensures.found.finds;
+      first = first_by_read c.map_in.result (archive_in c.args.this.now) (pos_in c.args.this.now) read.bytes read.pos P (λ key_pos. c.found_pos.result ≡ key_pos) says _ hash key_hash c.find.ensures.found.first;
     }

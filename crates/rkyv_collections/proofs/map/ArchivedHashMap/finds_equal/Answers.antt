@@ -18,7 +18,7 @@ returns-in-Some g c =
     let equals = g.V.MatchesNative.equals in
     let b = map_bytes c.args.self in
     let hash = hash_of g.H.KeyHasher.hasher g.A.KeyHash.calls c.args.key.now in
-    let place = pos_found generic_kind g.W.Word.word (entry_spec k v).size b (map_pos c.args.self) hash (g.A.Query.fits c.args.key.now b) in
-    let here = of_found (λ q. q + value_offset k v) (λ q. equals b q value) place found.pos c.in-Some.ensures.answer in
+    let key_pos = pos_found generic_kind g.W.Word.word (entry_spec k v).size b (map_pos c.args.self) hash (g.A.Query.fits c.args.key.now b) in
+    let here = of_found (λ q. q + value_offset k v) (λ q. equals b q value) key_pos found.pos c.in-Some.ensures.finds in
     let equal = subst (λ (a : Bor (List ℕ)). IsTrue c.eq_native.result ↔ equals a.now found.pos value) c.in-Some.ensures.walked.at.0 c.eq_native.ensures in
     (λ t. here.0 (equal.0 t), λ h. equal.1 (here.1 h))

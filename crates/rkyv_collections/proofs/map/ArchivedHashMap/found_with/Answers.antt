@@ -9,8 +9,8 @@ write-requires g c = c.requires.callable _ c.in-Some.pos refl c.in-Some.ensures.
 pub returns-in-Some : goal.returns-in-Some
 returns-in-Some g c =
     let met = c.write.ensures in
-    satisfies_implied _ _ _ _ (λ place at. search (rules, found_written)) c.in-Some.ensures.finds
+    satisfies_implied _ _ _ _ (λ key_pos at. search (rules, found_written)) c.in-Some.ensures.finds
 
 pub returns-in-None : goal.returns-in-None
 returns-in-None g c =
-    satisfies_implied _ _ _ _ (λ place at. search (rules, nothing_written)) c.in-None.ensures.finds
+    satisfies_implied _ _ _ _ (λ key_pos at. search (rules, nothing_written)) c.in-None.ensures.finds

@@ -1,19 +1,19 @@
 use Rattle.rkyv_base.specs.Seal.{archive_in, pos_in}
-use Rattle.rkyv_collections.proofs.SealedMap.{found_place}
+use Rattle.rkyv_collections.proofs.SealedMap.{found_key_pos}
 use Rattle.rkyv_collections.proofs.map.ArchivedHashMap.lend_value.Goals as goal
 
 pub value_seal-requires : goal.value_seal-requires
 value_seal-requires g c =
-    let pair = found_place g.W.Word.word g.K.HasSpec.spec g.V.HasSpec.spec g.K.HasSpec.laws g.V.HasSpec.laws (archive_in c.args.this) (pos_in c.args.this) c.requires.map c.args.found c.in-Some.pos c.in-Some.is c.requires.found in
+    let pair = found_key_pos g.W.Word.word g.K.HasSpec.spec g.V.HasSpec.spec g.K.HasSpec.laws g.V.HasSpec.laws (archive_in c.args.this) (pos_in c.args.this) c.requires.map c.args.found c.in-Some.pos c.in-Some.is c.requires.found in
     pair.1.value.inside
 
 pub returns-in-Some-clause-walked : goal.returns-in-Some-clause-walked
 returns-in-Some-clause-walked g c =
-    let pair = found_place g.W.Word.word g.K.HasSpec.spec g.V.HasSpec.spec g.K.HasSpec.laws g.V.HasSpec.laws (archive_in c.args.this) (pos_in c.args.this) c.requires.map c.args.found c.in-Some.pos c.in-Some.is c.requires.found in
+    let pair = found_key_pos g.W.Word.word g.K.HasSpec.spec g.V.HasSpec.spec g.K.HasSpec.laws g.V.HasSpec.laws (archive_in c.args.this) (pos_in c.args.this) c.requires.map c.args.found c.in-Some.pos c.in-Some.is c.requires.found in
     let e = c.value_seal.ensures.at in
-    (pair.0, record { key = c.in-Some.pos; at = pair.1; bytes = e.bytes; place = e.place })
+    (pair.0, record { key = c.in-Some.pos; at = pair.1; bytes = e.bytes; pos = e.pos })
 
 pub returns-in-Some-clause-viewable : goal.returns-in-Some-clause-viewable
 returns-in-Some-clause-viewable g c =
-    let pair = found_place g.W.Word.word g.K.HasSpec.spec g.V.HasSpec.spec g.K.HasSpec.laws g.V.HasSpec.laws (archive_in c.args.this) (pos_in c.args.this) c.requires.map c.args.found c.in-Some.pos c.in-Some.is c.requires.found in
-    rw (c.value_seal.ensures.at.bytes, c.value_seal.ensures.at.place) pair.1.value
+    let pair = found_key_pos g.W.Word.word g.K.HasSpec.spec g.V.HasSpec.spec g.K.HasSpec.laws g.V.HasSpec.laws (archive_in c.args.this) (pos_in c.args.this) c.requires.map c.args.found c.in-Some.pos c.in-Some.is c.requires.found in
+    rw (c.value_seal.ensures.at.bytes, c.value_seal.ensures.at.pos) pair.1.value

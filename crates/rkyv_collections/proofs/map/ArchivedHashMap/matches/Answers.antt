@@ -7,8 +7,8 @@ use Rattle.rkyv_collections.specs.Map.{map_bytes}
 use Rattle.rkyv_collections.proofs.map.ArchivedHashMap.matches.Goals as goal
 
 -- a value `offset` bytes behind the position of the found key compares as the value there
-some_matches : (same : ℕ → Bool) (offset : ℕ) (place : Option ℕ) (at : ℕ) → Some at ≡ option_map (λ q. q + offset) place
-    → same at ≡ unwrap_or (option_map (λ q. same (q + offset)) place) false
+some_matches : (same : ℕ → Bool) (offset : ℕ) (key_pos : Option ℕ) (at : ℕ) → Some at ≡ option_map (λ q. q + offset) key_pos
+    → same at ≡ unwrap_or (option_map (λ q. same (q + offset)) key_pos) false
 some_matches same offset None at e = cc
 some_matches same offset (Some q) at e = let h : at ≡ q + offset = cc in ap same h
 
@@ -22,4 +22,4 @@ returns-in-Some g c =
     ∙ ap (λ (a : Bor (List ℕ)). same a.now (pos_of c.args.value) (bytes_of found) (pos_of found)) c.requires.pair.0
     ∙ ap (λ p. same (bytes_of key) p (bytes_of found) (pos_of found)) c.requires.pair.1
     ∙ ap (λ (a : Bor (List ℕ)). same (bytes_of key) (pos_of key + offset) a.now (pos_of found)) c.in-Some.ensures.walked.at.0
-    ∙ some_matches (λ p. same (bytes_of key) (pos_of key + offset) (map_bytes c.args.self) p) offset _ (pos_of found) c.in-Some.ensures.answer
+    ∙ some_matches (λ p. same (bytes_of key) (pos_of key + offset) (map_bytes c.args.self) p) offset _ (pos_of found) c.in-Some.ensures.finds

@@ -14,15 +14,15 @@ use Rattle.rkyv_collections.proofs.map.in_place.set_value_of.Goals as goal
 pub set_at-requires : goal.set_at-requires
 set_at-requires g c = c.in-Some.ensures.inside
 
-pub returns-in-Some-clause-answer : goal.returns-in-Some-clause-answer
-returns-in-Some-clause-answer g c =
+pub returns-in-Some-clause-sets : goal.returns-in-Some-clause-sets
+returns-in-Some-clause-sets g c =
     let e = g.N.Scalar.encoding in
     let key_hash = hash_at g.H.KeyHasher.hasher g.K.KeyElement.key_calls in
     let t = c.in-Some.ensures.walked in
     let kept = map_kept_at g.K.HasSpec.spec g.N.HasSpec.spec g.K.HasSpec.laws g.N.HasSpec.laws g.W.Word.word key_hash
     (λ x y q lo hi l o is_valid fixed part. ap (hash_of_calls g.H.KeyHasher.hasher) (g.met.K.KeyElement.key.local x y q lo hi l o is_valid fixed part))
     c.args.archive.now c.set_at.new.bytes c.args.root t.0 c.in-Some.pos c.requires.map t.1 t.2 c.set_at.ensures.sealed c.set_at.ensures.is_valid in
-    satisfies_implied _ _ _ _ (λ place at. subst (SetsFound g.W.Word.word g.K.HasSpec.spec g.N.HasSpec.spec e key_hash c.args.archive.now c.args.root c.args.value true c.set_at.new.bytes) at (refl, c.set_at.ensures.written, (t.1.0, kept))) c.in-Some.ensures.finds
+    satisfies_implied _ _ _ _ (λ key_pos at. subst (SetsFound g.W.Word.word g.K.HasSpec.spec g.N.HasSpec.spec e key_hash c.args.archive.now c.args.root c.args.value true c.set_at.new.bytes) at (refl, c.set_at.ensures.written, (t.1.0, kept))) c.in-Some.ensures.finds
 
 pub returns-in-Some-clause-listed : goal.returns-in-Some-clause-listed
 returns-in-Some-clause-listed g c = λ factor pairs st.
@@ -38,11 +38,11 @@ returns-in-Some-clause-listed g c = λ factor pairs st.
     (λ x y q lo hi l o is_valid fixed part. ap (hash_of_calls h.hasher) (g.met.K.KeyElement.key.local x y q lo hi l o is_valid fixed part))
     c.set_at.new.bytes c.in-Some.pos (c.in-Some.ensures.finds.first st.homes st.written) set.sealed set.is_valid set.reads
 
-pub returns-in-None-clause-answer : goal.returns-in-None-clause-answer
-returns-in-None-clause-answer g c =
+pub returns-in-None-clause-sets : goal.returns-in-None-clause-sets
+returns-in-None-clause-sets g c =
     let h = g.H.KeyHasher in
     let b = c.args.archive.now in
-    satisfies_implied _ _ _ _ (λ place at. subst (SetsFound g.W.Word.word g.K.HasSpec.spec g.N.HasSpec.spec g.N.Scalar.encoding (hash_at h.hasher g.K.KeyElement.key_calls) b c.args.root c.args.value false b)
+    satisfies_implied _ _ _ _ (λ key_pos at. subst (SetsFound g.W.Word.word g.K.HasSpec.spec g.N.HasSpec.spec g.N.Scalar.encoding (hash_at h.hasher g.K.KeyElement.key_calls) b c.args.root c.args.value false b)
     at (refl, refl)) c.in-None.ensures.finds
 
 pub returns-in-None-clause-listed : goal.returns-in-None-clause-listed

@@ -2,7 +2,7 @@ use Rattle.std.proofs.Common.{ap, inl, inr, refl, subst, sym, ◌∙◌, ℕ, Li
 use Rattle.std.specs.Borrow.{Bor}
 use Rattle.std.specs.List.{IsDistinct, find}
 use Rattle.std.proofs.lemmas.Result.{err_from_is_err_and}
-use Rattle.rkyv_base.specs.Empty.{unit_spec, unit_represents}
+use Rattle.rkyv_base.specs.Empty.{unit_represents, unit_spec}
 use Rattle.rkyv_base.specs.Lemmas.Empty.{unit_element}
 use Rattle.rkyv_collections.specs.Set.{set_archive, set_pos}
 use Rattle.rkyv_collections.specs.Lemmas.StdSet.{keys_with_units}

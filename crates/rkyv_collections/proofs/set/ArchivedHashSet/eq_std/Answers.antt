@@ -1,7 +1,7 @@
 use Rattle.std.proofs.Common.{rules, subst}
 use Rattle.std.specs.HashSet.{hash_set_len}
 use Rattle.rkyv_table.specs.Table.Header.{len_at}
-use Rattle.rkyv_base.specs.Empty.{unit_spec, unit_represents}
+use Rattle.rkyv_base.specs.Empty.{unit_represents, unit_spec}
 use Rattle.rkyv_collections.specs.Map.MapFormat.{hash_of}
 use Rattle.rkyv_collections.specs.Set.{set_bytes, set_pos}
 use Rattle.rkyv_collections.specs.StdMaps.StdEquality.{FindsPair}

@@ -1,5 +1,5 @@
 use Rattle.rkyv_base.specs.Empty.{unit_format, unit_spec}
-use Rattle.rkyv_table.proofs.UnitItems.{answers_set}
+use Rattle.rkyv_table.proofs.UnitItems.{results_set}
 use Rattle.rkyv_collections.specs.Map.MapFormat.{hash_of, map_format}
 use Rattle.rkyv_collections.proofs.set.ArchivedHashSet.serialize_from_iter.Goals as goal
 
@@ -7,5 +7,5 @@ pub returns : goal.returns
 returns g c =
     let hash = hash_of g.H.KeyHasher.hasher g.A.KeyHash.calls in
     let pairs = map_format g.W.Word.word g.K.HasSpec.spec unit_spec g.A.Archive.format unit_format hash c.args.load_factor in
-    answers_set (λ s. s.keys) g.I.Iterator.next_gives g.BK.Lend.lent pairs c.args.len c.args.load_factor g.W.Width.MAX_CAPACITY
+    results_set (λ s. s.keys) g.I.Iterator.next_gives g.BK.Lend.lent pairs c.args.len c.args.load_factor g.W.Width.MAX_CAPACITY
     (g.S.Writer.output c.args.serializer.now) (g.S.Writer.output c.serialize_from_iter.new.serializer) (record { keys = c.args.iter }) g.W.Width.LIMIT c.serialize_from_iter.result c.serialize_from_iter.ensures

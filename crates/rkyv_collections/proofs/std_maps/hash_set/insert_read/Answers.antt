@@ -1,7 +1,7 @@
 use Rattle.std.proofs.Common.{inl, refl}
 use Rattle.rkyv_collections.specs.Lemmas.StoredKeys.{key_put}
 use Rattle.rkyv_collections.proofs.std_maps.hash_set.insert_read.Goals as goal
-use Rattle.rkyv_collections.proofs.std_maps.hash_set.insert_read.Goals.{in-Ok, in-Err}
+use Rattle.rkyv_collections.proofs.std_maps.hash_set.insert_read.Goals.{in-Err, in-Ok}
 
 pub returns : goal.returns
 returns g c = elim c.match-insert.branch [

@@ -1,6 +1,6 @@
 use Rattle.rkyv_container.specs.Checks.{FirstFails}
 use Rattle.rkyv_container.specs.Header.{IsHeader, header_checks}
-use Rattle.rkyv_container.proofs.Checking.{ok_exact, err_exact, pass_excludes, first_unique}
+use Rattle.rkyv_container.proofs.Checking.{err_exact, first_unique, ok_exact, pass_excludes}
 use Rattle.rkyv_container.proofs.HeaderBytes.{header_unique}
 use Rattle.rkyv_container.proofs.HeaderChecks.{header_passes}
 use Rattle.rkyv_container.proofs.header.Header.read.Goals as goal

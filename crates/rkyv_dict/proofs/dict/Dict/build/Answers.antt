@@ -1,4 +1,4 @@
-use Rattle.std.proofs.Common.{string_bytes, refl, inr, rules}
+use Rattle.std.proofs.Common.{inr, refl, rules, string_bytes}
 use Rattle.rkyv_dict.specs.Output.{error_line}
 use Rattle.rkyv_dict.proofs.Adding.{adds_this}
 use Rattle.rkyv_dict.proofs.dict.Dict.build.Goals as goal

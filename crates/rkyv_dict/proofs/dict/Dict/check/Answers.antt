@@ -1,4 +1,4 @@
-use Rattle.std.proofs.Common.{string_bytes, refl, inr}
+use Rattle.std.proofs.Common.{inr, refl, string_bytes}
 use Rattle.rkyv_dict.specs.Dicts.{state_of}
 use Rattle.rkyv_dict.specs.Output.{verify_error_line}
 use Rattle.rkyv_dict.proofs.Adding.{adds_this}

@@ -8,7 +8,7 @@ use Rattle.rkyv_table.specs.Table.ItemValues.{pair_values}
 use Rattle.rkyv_index.specs.Index.IndexFormat.{hash_of}
 use Rattle.rkyv_index.specs.Index.IndexFormat.{index_format}
 use Rattle.rkyv_table.specs.declared.table.list_inputs.PairRefs.{PairRefs}
-use Rattle.rkyv_table.proofs.Listing.{all_came, answers_listed, no_other_came}
+use Rattle.rkyv_table.proofs.Listing.{all_came, no_other_came, results_listed}
 use Rattle.rkyv_index.proofs.lists.OrderedPairsSerialize.serialize.Goals as goal
 
 pub returns : goal.returns
@@ -19,10 +19,10 @@ returns g c =
     let rest : PairRefs g.row.A.Denot g.row.B.Denot → List (g.row.A.Denot × g.row.B.Denot) = λ s. iter_rest s.pairs in
     let steps = YieldsFirstBy view rest in
     let hash = hash_of (fx_hasher low_halves) g.A.KeyHash.calls in
-    let f = index_format g.W.Word.word g.W.Place.HasSpec.spec g.W.Place.Scalar.encoding g.A.Archived.HasSpec.spec g.B.Archived.HasSpec.spec g.A.Archive.format g.B.Archive.format hash (7, 8) in
+    let f = index_format g.W.Word.word g.W.Index.HasSpec.spec g.W.Index.Scalar.encoding g.A.Archived.HasSpec.spec g.B.Archived.HasSpec.spec g.A.Archive.format g.B.Archive.format hash (7, 8) in
     let all : iter_rest pairs.pairs ≡ values = search rules in
     let count : c.len.result ≡ length values = search rules in
-    answers_listed (Drains steps pairs) (YieldsOtherCount steps c.len.result pairs) (pair_values (λ k. k.now) (λ k. k.now)) values
+    results_listed (Drains steps pairs) (YieldsOtherCount steps c.len.result pairs) (pair_values (λ k. k.now) (λ k. k.now)) values
     (λ items d. all_came view rest items pairs d ∙ all) (λ n h. no_other_came view rest c.len.result pairs (ap length all ∙ sym count) n h)
     c.len.result count (7, 8) g.W.Width.MAX_CAPACITY g.W.Width.LIMIT f (g.S.Writer.output c.args.serializer.now) (g.S.Writer.output c.serialize_from_iter.new.serializer)
     c.serialize_from_iter.result c.serialize_from_iter.ensures

@@ -2,8 +2,8 @@ use Rattle.std.proofs.Common.{◌≡◌, length}
 use Rattle.rkyv_index.specs.Index.Reading.{ArePairsRead}
 use Rattle.rkyv_index.proofs.map.ArchivedIndexMap.deserialize_pairs.Given as goal
 
--- the list has the pairs at the indices below `place`, deserialized
-abbrev pub invariant-loop-place : goal.invariant-loop-place
-invariant-loop-place g l =
-    (length l.list.items ≡ l.place)
+-- the list has the pairs at the indices below `index`, deserialized
+abbrev pub invariant-loop-index : goal.invariant-loop-index
+invariant-loop-index g l =
+    (length l.list.items ≡ l.index)
     × ArePairsRead g.K.Represents.represents g.V.Represents.represents l.self l.list.items

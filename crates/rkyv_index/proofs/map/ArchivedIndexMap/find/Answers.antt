@@ -1,16 +1,16 @@
 use Rattle.std.proofs.Common.{None, refl, subst, sym, ◌∙◌, ◌<◌}
 use Rattle.rkyv_index.specs.Index.{IsKeyIn, hash_at, index_len}
-use Rattle.rkyv_index.proofs.Lookups.{counts_place, item_place}
-use Rattle.rkyv_index.proofs.PlacesFound.{gets_place, place_found, reads_few}
+use Rattle.rkyv_index.proofs.Lookups.{counts_index, item_index}
+use Rattle.rkyv_index.proofs.IndicesFound.{gets_index, reads_few, stored_index_found}
 use Rattle.rkyv_index.proofs.map.ArchivedIndexMap.find.Goals as goal
 
-pub find_place-requires : goal.find_place-requires
-find_place-requires g c κs =
+pub find_index-requires : goal.find_index-requires
+find_index-requires g c κs =
     let m = c.args.self in
     record {
       room = c.requires.room;
       callable = λ item is_item.
-          let there = item_place m g.W.Place.Scalar.encoding g.met.W.Place.Scalar.laws g.met.W.Width.place c.table-table.result c.table-table.ensures.at item is_item in (
+          let there = item_index m g.W.Index.Scalar.encoding g.met.W.Index.Scalar.laws g.met.W.Width.index c.table-table.result c.table-table.ensures.at item is_item in (
             there.0,
             λ i e. (
               (refl, tt),
@@ -34,19 +34,19 @@ returns-clause-found g c =
     let k = g.K.HasSpec.spec in
     let v = g.V.HasSpec.spec in
     let m = c.args.self in
-    let f = c.find_place.ensures.found in
-    gets_place m g.W.Place.Scalar.encoding g.met.W.Place.Scalar.laws g.met.W.Width.place c.table-table.result c.table-table.ensures.at
+    let f = c.find_index.ensures.found in
+    gets_index m g.W.Index.Scalar.encoding g.met.W.Index.Scalar.laws g.met.W.Width.index c.table-table.result c.table-table.ensures.at
     (hash_at g.H.KeyHasher.hasher g.K.KeyElement.key_calls) _ (goal.F-post g c.args.cmp c.args.key)
     (λ h r x.
     let there = subst (λ n. IsKeyIn w k v m.view n x.2.0) x.1 x.2.1 in
     (x.2.0, record { below = there.below; at = there.at; viewable = there.viewable }, x.2.2))
-    c.hash_value-hash.result _ c.hash_value-hash.ensures f.item f.found c.find_place.result
-    (f.is ∙ place_found m g.W.Place.Scalar.encoding g.met.W.Place.Scalar.laws g.met.W.Width.place c.table-table.result c.table-table.ensures.at f.item f.found.walked)
+    c.hash_value-hash.result _ c.hash_value-hash.ensures f.item f.found c.find_index.result
+    (f.is ∙ stored_index_found m g.W.Index.Scalar.encoding g.met.W.Index.Scalar.laws g.met.W.Width.index c.table-table.result c.table-table.ensures.at f.item f.found.walked)
 
 pub returns-clause-bounded : goal.returns-clause-bounded
 returns-clause-bounded g c =
-    reads_few c.args.self g.W.Place.Scalar.encoding g.met.W.Place.Scalar.laws g.met.W.Width.place
-    c.table-table.result c.table-table.ensures.at _ _ c.find_place.ensures.counts.bounded
+    reads_few c.args.self g.W.Index.Scalar.encoding g.met.W.Index.Scalar.laws g.met.W.Width.index
+    c.table-table.result c.table-table.ensures.at _ _ c.find_index.ensures.counts.bounded
 
 pub returns-clause-counted : goal.returns-clause-counted
 returns-clause-counted g c = λ accept compares.
@@ -54,9 +54,9 @@ returns-clause-counted g c = λ accept compares.
     let k = g.K.HasSpec.spec in
     let v = g.V.HasSpec.spec in
     let m = c.args.self in
-    counts_place m g.W.Place.Scalar.encoding g.met.W.Place.Scalar.laws g.met.W.Width.place c.table-table.result c.table-table.ensures.at
+    counts_index m g.W.Index.Scalar.encoding g.met.W.Index.Scalar.laws g.met.W.Width.index c.table-table.result c.table-table.ensures.at
     _ (goal.F-post g c.args.cmp c.args.key)
     (λ h r x.
     let there = subst (λ n. IsKeyIn w k v m.view n x.2.0) x.1 x.2.1 in
     (x.2.0, record { below = there.below; at = there.at; viewable = there.viewable }, x.2.2))
-    None accept compares c.hash_value-hash.result _ _ _ c.hash_value-hash.ensures c.find_place.ensures.counts.counted
+    None accept compares c.hash_value-hash.result _ _ _ c.hash_value-hash.ensures c.find_index.ensures.counts.counted

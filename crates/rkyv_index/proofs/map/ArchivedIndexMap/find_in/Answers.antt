@@ -4,7 +4,7 @@ use Rattle.std.proofs.lemmas.Option.{IfSome_then}
 use Rattle.rkyv_scan.specs.Hash.{hash_of_calls}
 use Rattle.rkyv_table.specs.Table.Header.{len_at}
 use Rattle.rkyv_index.specs.Index.{IsIndex, IsStoredAt, hash_at}
-use Rattle.rkyv_index.proofs.SealedIndex.{compares_read, as_read, finds_first_read, finds_read, under_read}
+use Rattle.rkyv_index.proofs.SealedIndex.{as_read, compares_read, finds_first_read, finds_read, under_read}
 use Rattle.rkyv_index.proofs.map.ArchivedIndexMap.find_in.Goals as goal
 
 pub returns-clause-stored : goal.returns-clause-stored
@@ -13,8 +13,8 @@ returns-clause-stored g c = as_read c.read.result _ _ c.read.ensures.bytes c.rea
 pub returns-clause-below : goal.returns-clause-below
 returns-clause-below g c = as_read c.read.result _ _ c.read.ensures.bytes c.read.ensures.pos (λ d r. IfSome c.find.result (λ i. i < len_at g.W.Word.word d r)) (IfSome_then c.find.result c.find.ensures.found.walked (λ i there. there.1))
 
-pub returns-clause-answer : goal.returns-clause-answer
-returns-clause-answer g c = λ accept compares.
+pub returns-clause-finds : goal.returns-clause-finds
+returns-clause-finds g c = λ accept compares.
     let w = g.W.Word.word in
     let k = g.K.HasSpec.spec in
     let v = g.V.HasSpec.spec in
@@ -22,7 +22,7 @@ returns-clause-answer g c = λ accept compares.
     let e = c.read.ensures in
     let hash = hash_of_calls g.H.KeyHasher.hasher (g.Q.KeyHash.calls c.args.key.now) in
     finds_read m _ _ e.bytes e.pos hash accept (IsIndex c.find.result)
-    (c.find.ensures.found.answer accept (compares_read m _ _ e.bytes e.pos _ accept compares))
+    (c.find.ensures.found.finds accept (compares_read m _ _ e.bytes e.pos _ accept compares))
 
 pub returns-clause-first : goal.returns-clause-first
 returns-clause-first g c = λ accept compares under.

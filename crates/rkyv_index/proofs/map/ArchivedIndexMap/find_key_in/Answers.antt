@@ -13,10 +13,10 @@ returns-clause-stored g c = as_read c.read.result _ _ c.read.ensures.bytes c.rea
 pub returns-clause-below : goal.returns-clause-below
 returns-clause-below g c = as_read c.read.result _ _ c.read.ensures.bytes c.read.ensures.pos (λ d r. IfSome c.find_key.result (λ i. i < len_at g.W.Word.word d r)) (IfSome_then c.find_key.result c.find_key.ensures.walked (λ i there. there.1))
 
-pub returns-clause-answer : goal.returns-clause-answer
-returns-clause-answer g c =
+pub returns-clause-finds : goal.returns-clause-finds
+returns-clause-finds g c =
     finds_key_read c.read.result _ _ c.read.ensures.bytes c.read.ensures.pos
-    (g.Q.Query.fits c.args.key.now) (IsIndex c.find_key.result) (hash_of g.H.KeyHasher.hasher g.Q.KeyHash.calls c.args.key.now) c.find_key.ensures.answer
+    (g.Q.Query.fits c.args.key.now) (IsIndex c.find_key.result) (hash_of g.H.KeyHasher.hasher g.Q.KeyHash.calls c.args.key.now) c.find_key.ensures.finds
 
 pub returns-clause-first : goal.returns-clause-first
 returns-clause-first g c =

@@ -2,8 +2,8 @@ use Rattle.std.proofs.Common.{subst}
 use Rattle.rkyv_index.specs.Index.SealedIndex.{IsFullSealAt}
 use Rattle.rkyv_index.proofs.map.ArchivedIndexMap.get_full_seal.Goals as goal
 
-pub returns-clause-answer : goal.returns-clause-answer
-returns-clause-answer g c = subst (IsFullSealAt c.full_seal_of.result) c.find_key_in-place.ensures.answer c.full_seal_of.ensures.at
+pub returns-clause-finds : goal.returns-clause-finds
+returns-clause-finds g c = subst (IsFullSealAt c.full_seal_of.result) c.find_key_in-index.ensures.finds c.full_seal_of.ensures.at
 
 pub returns-clause-first : goal.returns-clause-first
-returns-clause-first g c homes written = subst (IsFullSealAt c.full_seal_of.result) (c.find_key_in-place.ensures.first homes written) c.full_seal_of.ensures.at
+returns-clause-first g c homes written = subst (IsFullSealAt c.full_seal_of.result) (c.find_key_in-index.ensures.first homes written) c.full_seal_of.ensures.at

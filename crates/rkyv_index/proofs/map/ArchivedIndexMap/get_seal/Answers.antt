@@ -2,8 +2,8 @@ use Rattle.std.proofs.Common.{subst}
 use Rattle.rkyv_index.specs.Index.SealedIndex.{SealsValue}
 use Rattle.rkyv_index.proofs.map.ArchivedIndexMap.get_seal.Goals as goal
 
-pub returns-clause-answer : goal.returns-clause-answer
-returns-clause-answer g c = subst (SealsValue g.W.Word.word g.K.HasSpec.spec g.V.HasSpec.spec c.args.this c.value_seal_of.result) c.find_key_in-place.ensures.answer c.value_seal_of.ensures.at
+pub returns-clause-finds : goal.returns-clause-finds
+returns-clause-finds g c = subst (SealsValue g.W.Word.word g.K.HasSpec.spec g.V.HasSpec.spec c.args.this c.value_seal_of.result) c.find_key_in-index.ensures.finds c.value_seal_of.ensures.at
 
 pub returns-clause-first : goal.returns-clause-first
-returns-clause-first g c homes written = subst (SealsValue g.W.Word.word g.K.HasSpec.spec g.V.HasSpec.spec c.args.this c.value_seal_of.result) (c.find_key_in-place.ensures.first homes written) c.value_seal_of.ensures.at
+returns-clause-first g c homes written = subst (SealsValue g.W.Word.word g.K.HasSpec.spec g.V.HasSpec.spec c.args.this c.value_seal_of.result) (c.find_key_in-index.ensures.first homes written) c.value_seal_of.ensures.at

@@ -2,8 +2,8 @@ use Rattle.std.proofs.Common.{subst}
 use Rattle.rkyv_index.specs.Index.SealedIndex.{SealsValue}
 use Rattle.rkyv_index.proofs.map.ArchivedIndexMap.get_seal_with.Goals as goal
 
-pub returns-clause-answer : goal.returns-clause-answer
-returns-clause-answer g c accept compares = subst (SealsValue g.W.Word.word g.K.HasSpec.spec g.V.HasSpec.spec c.args.this c.value_seal_of.result) (c.find_in-place.ensures.answer accept compares) c.value_seal_of.ensures.at
+pub returns-clause-finds : goal.returns-clause-finds
+returns-clause-finds g c accept compares = subst (SealsValue g.W.Word.word g.K.HasSpec.spec g.V.HasSpec.spec c.args.this c.value_seal_of.result) (c.find_in-index.ensures.finds accept compares) c.value_seal_of.ensures.at
 
 pub returns-clause-first : goal.returns-clause-first
-returns-clause-first g c accept compares under homes written = subst (SealsValue g.W.Word.word g.K.HasSpec.spec g.V.HasSpec.spec c.args.this c.value_seal_of.result) (c.find_in-place.ensures.first accept compares under homes written) c.value_seal_of.ensures.at
+returns-clause-first g c accept compares under homes written = subst (SealsValue g.W.Word.word g.K.HasSpec.spec g.V.HasSpec.spec c.args.this c.value_seal_of.result) (c.find_in-index.ensures.first accept compares under homes written) c.value_seal_of.ensures.at

@@ -4,9 +4,9 @@ pub value_seal-requires : goal.value_seal-requires
 value_seal-requires g c = c.pair_pos_in-pos.ensures.at.value.inside
 
 pub returns-clause-viewable : goal.returns-clause-viewable
-returns-clause-viewable g c = rw (c.value_seal.ensures.at.bytes, c.value_seal.ensures.at.place) c.pair_pos_in-pos.ensures.at.value
+returns-clause-viewable g c = rw (c.value_seal.ensures.at.bytes, c.value_seal.ensures.at.pos) c.pair_pos_in-pos.ensures.at.value
 
 pub returns-clause-lent : goal.returns-clause-lent
 returns-clause-lent g c =
     let e = c.value_seal.ensures.at in
-    record { key = c.pair_pos_in-pos.result; at = c.pair_pos_in-pos.ensures.at; bytes = e.bytes; place = e.place }
+    record { key = c.pair_pos_in-pos.result; at = c.pair_pos_in-pos.ensures.at; bytes = e.bytes; pos = e.pos }

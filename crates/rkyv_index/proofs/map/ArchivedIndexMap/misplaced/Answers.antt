@@ -3,11 +3,11 @@ use Rattle.rkyv_index.specs.Index.Equality.{ReturnsRepeated, is_misplaced, is_re
 use Rattle.rkyv_index.specs.Index.{hash_at, index_len, index_of}
 use Rattle.rkyv_index.specs.declared.map.ArchivedIndexMap.{ArchivedIndexMap}
 use Rattle.rkyv_index.proofs.Counted.{count_is_all, left_first, none_more, one_more}
-use Rattle.rkyv_index.proofs.map.ArchivedIndexMap.misplaced.Goals.{then-is_misplaced, else-is_misplaced}
+use Rattle.rkyv_index.proofs.map.ArchivedIndexMap.misplaced.Goals.{else-is_misplaced, then-is_misplaced}
 use Rattle.rkyv_index.proofs.map.ArchivedIndexMap.misplaced.Goals as goal
 
-pub loop-place-init : goal.loop-place-init
-loop-place-init g c =
+pub loop-index-init : goal.loop-index-init
+loop-index-init g c =
     let m = index_of c.args.self in
     let n : ℕ = index_len c.args.self in
     let key_hash = hash_at g.H.KeyHasher.hasher g.K.KeyElement.key_calls in
@@ -15,8 +15,8 @@ loop-place-init g c =
     let f = left_first (is_repeated m key_hash g.K.ElementEq.same) n in
     record { few = omega arith; exact = omega (arith, e); repeated = λ homes written. omega (arith, f) }
 
-pub loop-place-preserved : goal.loop-place-preserved
-loop-place-preserved g c =
+pub loop-index-preserved : goal.loop-index-preserved
+loop-index-preserved g c =
     let index : ArchivedIndexMap _ _ _ _ _ _ _ → _ = index_of in
     let m = index c.args.self in
     let n : ℕ = index_len c.args.self in
@@ -24,12 +24,12 @@ loop-place-preserved g c =
     let same = g.K.ElementEq.same in
     let P : ℕ → Bool = is_misplaced m key_hash same in
     let R : ℕ → Bool = is_repeated m key_hash same in
-    let i : ℕ = c.loop-place.place in
-    let end : c.len-place-end.result ≡ n = c.len-place-end.ensures in
-    let test = c.loop-place-test.true in
+    let i : ℕ = c.loop-index.index in
+    let end : c.len-index-end.result ≡ n = c.len-index-end.ensures in
+    let test = c.loop-index-test.true in
     let below : i < n = omega (arith, test, end) in
     let is : c.is_misplaced.result ≡ P i = c.is_misplaced.ensures.exact ∙ ap (λ x. is_misplaced (index x) key_hash same i) c.entries-entries.ensures.map in
-    let inv = c.loop-place.invariant in
+    let inv = c.loop-index.invariant in
     let few = inv.few in
     let exact = inv.exact in
     let repeats = subst (λ x. ReturnsRepeated (index x) key_hash same i c.is_misplaced.result) c.entries-entries.ensures.map c.is_misplaced.ensures.repeated in
@@ -46,12 +46,12 @@ loop-place-preserved g c =
 
 pub returns-clause-exact : goal.returns-clause-exact
 returns-clause-exact g c =
-    let end : c.len-place-end.result ≡ index_len c.args.self = c.len-place-end.ensures in
-    let test = c.loop-place-test.false in
-    count_is_all _ _ c.loop-place.place (index_len c.args.self) _ c.loop-place.invariant.exact (omega (arith, test, end))
+    let end : c.len-index-end.result ≡ index_len c.args.self = c.len-index-end.ensures in
+    let test = c.loop-index-test.false in
+    count_is_all _ _ c.loop-index.index (index_len c.args.self) _ c.loop-index.invariant.exact (omega (arith, test, end))
 
 pub returns-clause-repeated : goal.returns-clause-repeated
 returns-clause-repeated g c = λ homes written.
-    let end : c.len-place-end.result ≡ index_len c.args.self = c.len-place-end.ensures in
-    let test = c.loop-place-test.false in
-    count_is_all _ _ c.loop-place.place (index_len c.args.self) _ (c.loop-place.invariant.repeated homes written) (omega (arith, test, end))
+    let end : c.len-index-end.result ≡ index_len c.args.self = c.len-index-end.ensures in
+    let test = c.loop-index-test.false in
+    count_is_all _ _ c.loop-index.index (index_len c.args.self) _ (c.loop-index.invariant.repeated homes written) (omega (arith, test, end))

@@ -5,15 +5,15 @@ use Rattle.rkyv_index.specs.Index.{IsWritten, hash_at, index_len, index_of}
 use Rattle.rkyv_index.proofs.map.ArchivedIndexMap.misplaced.Given as goal
 
 -- the number of misplaced keys is the count and the number of those that remain
-abbrev pub invariant-loop-place : goal.invariant-loop-place
-invariant-loop-place g l =
+abbrev pub invariant-loop-index : goal.invariant-loop-index
+invariant-loop-index g l =
     let m = index_of l.fn.self in
     let n : ℕ = index_len l.fn.self in
     let key_hash = hash_at g.H.KeyHasher.hasher g.K.KeyElement.key_calls in
     let same = g.K.ElementEq.same in
     record {
-      few : l.count ≤ l.place;
-      exact : l.count + length (filter (is_misplaced m key_hash same) (range_with_len l.place (n - l.place))) ≡ index_misplaced m key_hash same;
+      few : l.count ≤ l.index;
+      exact : l.count + length (filter (is_misplaced m key_hash same) (range_with_len l.index (n - l.index))) ≡ index_misplaced m key_hash same;
       repeated : (homes : List ℕ) → IsWritten m key_hash homes
-          → l.count + length (filter (is_repeated m key_hash same) (range_with_len l.place (n - l.place))) ≡ index_repeated m key_hash same;
+          → l.count + length (filter (is_repeated m key_hash same) (range_with_len l.index (n - l.index))) ≡ index_repeated m key_hash same;
     }

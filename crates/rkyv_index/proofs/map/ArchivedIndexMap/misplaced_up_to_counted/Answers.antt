@@ -5,11 +5,11 @@ use Rattle.rkyv_index.specs.Index.Equality.{is_misplaced, keys_strides, own_stri
 use Rattle.rkyv_index.specs.Index.{hash_at, index_len, index_of}
 use Rattle.rkyv_index.specs.declared.map.ArchivedIndexMap.{ArchivedIndexMap}
 use Rattle.rkyv_index.proofs.Counted.{count_is_all, left_first, none_more, one_more, sum_end, sum_first, sum_step}
-use Rattle.rkyv_index.proofs.map.ArchivedIndexMap.misplaced_up_to_counted.Goals.{After-is_misplaced-is_misplaced, then-is_misplaced, else-is_misplaced}
+use Rattle.rkyv_index.proofs.map.ArchivedIndexMap.misplaced_up_to_counted.Goals.{After-is_misplaced-is_misplaced, else-is_misplaced, then-is_misplaced}
 use Rattle.rkyv_index.proofs.map.ArchivedIndexMap.misplaced_up_to_counted.Goals as goal
 
-pub loop-place-init : goal.loop-place-init
-loop-place-init g c =
+pub loop-index-init : goal.loop-index-init
+loop-index-init g c =
     let m = index_of c.args.self in
     let n : ℕ = index_len c.args.self in
     let key_hash = hash_at g.H.KeyHasher.hasher g.K.KeyElement.key_calls in
@@ -20,27 +20,27 @@ loop-place-init g c =
 
 -- the lookup of one key: the key is below the length, and the strides are counted
 module _ (g : _) (c : After-is_misplaced-is_misplaced g) where
-  below : c.loop-place.place < index_len c.args.self
-  below = let end : c.len-place-end.result ≡ index_len c.args.self = c.len-place-end.ensures in omega (arith, c.loop-place-test.true, end)
+  below : c.loop-index.index < index_len c.args.self
+  below = let end : c.len-index-end.result ≡ index_len c.args.self = c.len-index-end.ensures in omega (arith, c.loop-index-test.true, end)
 
   spent : c.count-before.result + keys_strides (index_of c.args.self) (hash_at g.H.KeyHasher.hasher g.K.KeyElement.key_calls) g.K.ElementEq.same
       ≡ c.is_misplaced-is_misplaced.new.strides + sum_by (own_strides (index_of c.args.self) (hash_at g.H.KeyHasher.hasher g.K.KeyElement.key_calls) g.K.ElementEq.same)
-      (range_with_len (c.loop-place.place + 1) (index_len c.args.self - (c.loop-place.place + 1)))
+      (range_with_len (c.loop-index.index + 1) (index_len c.args.self - (c.loop-index.index + 1)))
   spent =
       let index : ArchivedIndexMap _ _ _ _ _ _ _ → _ = index_of in
       let key_hash = hash_at g.H.KeyHasher.hasher g.K.KeyElement.key_calls in
       let same = g.K.ElementEq.same in
       let f : ℕ → ℕ = own_strides (index c.args.self) key_hash same in
-      let now : c.is_misplaced-is_misplaced.new.strides ≡ c.loop-place.strides + f c.loop-place.place =
-      c.is_misplaced-is_misplaced.ensures.counted ∙ ap (λ x. c.loop-place.strides + own_strides (index x) key_hash same c.loop-place.place) c.entries-entries.ensures.map in
-      let step = sum_step f c.loop-place.place (index_len c.args.self) below in
-      omega (arith, now, step, c.loop-place.invariant.spent)
+      let now : c.is_misplaced-is_misplaced.new.strides ≡ c.loop-index.strides + f c.loop-index.index =
+      c.is_misplaced-is_misplaced.ensures.counted ∙ ap (λ x. c.loop-index.strides + own_strides (index x) key_hash same c.loop-index.index) c.entries-entries.ensures.map in
+      let step = sum_step f c.loop-index.index (index_len c.args.self) below in
+      omega (arith, now, step, c.loop-index.invariant.spent)
 
-  on : c.loop-place.strides ≤ c.is_misplaced-is_misplaced.new.strides
+  on : c.loop-index.strides ≤ c.is_misplaced-is_misplaced.new.strides
   on = reads_on _ _ _ _ c.is_misplaced-is_misplaced.ensures.bounded
 
 pub is_past-requires : goal.is_past-requires
-is_past-requires g c = omega (arith, on g (goal.at.is_past-requires g c).After-is_misplaced-is_misplaced, c.loop-place.invariant.within.0, c.count.ensures)
+is_past-requires g c = omega (arith, on g (goal.at.is_past-requires g c).After-is_misplaced-is_misplaced, c.loop-index.invariant.within.0, c.count.ensures)
 
 pub returns-then-is_past-clause-counts : goal.returns-then-is_past-clause-counts
 returns-then-is_past-clause-counts g c =
@@ -51,18 +51,18 @@ returns-then-is_past-clause-counts g c =
     subst (λ n. (c.args.limit < strides) ⊎ (2 ^ 63 < n + strides)) c.count-before.ensures
     (past_all c.count-before.result _ _ strides _ all (rw c.count.ensures at c.is_past.ensures.past c.if-is_past.true))
 
-pub loop-place-preserved : goal.loop-place-preserved
-loop-place-preserved g c =
+pub loop-index-preserved : goal.loop-index-preserved
+loop-index-preserved g c =
     let index : ArchivedIndexMap _ _ _ _ _ _ _ → _ = index_of in
     let n : ℕ = index_len c.args.self in
     let key_hash = hash_at g.H.KeyHasher.hasher g.K.KeyElement.key_calls in
     let same = g.K.ElementEq.same in
     let P : ℕ → Bool = is_misplaced (index c.args.self) key_hash same in
-    let i : ℕ = c.loop-place.place in
-    let at = (goal.at.loop-place-preserved g c).After-is_misplaced-is_misplaced in
+    let i : ℕ = c.loop-index.index in
+    let at = (goal.at.loop-index-preserved g c).After-is_misplaced-is_misplaced in
     let lt = below g at in
     let is : c.is_misplaced-is_misplaced.result ≡ P i = c.is_misplaced-is_misplaced.ensures.exact ∙ ap (λ x. is_misplaced (index x) key_hash same i) c.entries-entries.ensures.map in
-    let inv = c.loop-place.invariant in
+    let inv = c.loop-index.invariant in
     let few = inv.few in
     let all = spent g at in
     let more = on g at in
@@ -81,10 +81,10 @@ pub returns-clause-counts : goal.returns-clause-counts
 returns-clause-counts g c =
     let m = index_of c.args.self in
     let key_hash = hash_at g.H.KeyHasher.hasher g.K.KeyElement.key_calls in
-    let end : c.len-place-end.result ≡ index_len c.args.self = c.len-place-end.ensures in
-    let test = c.loop-place-test.false in
-    let above : index_len c.args.self ≤ c.loop-place.place = omega (arith, test, end) in
-    let rest = sum_end (own_strides m key_hash g.K.ElementEq.same) c.loop-place.place (index_len c.args.self) above in
-    let spent = c.loop-place.invariant.spent in
-    let most = c.loop-place.invariant.within.1 in
-    (omega (arith, rest, spent, most), count_is_all _ _ c.loop-place.place (index_len c.args.self) _ c.loop-place.invariant.exact above)
+    let end : c.len-index-end.result ≡ index_len c.args.self = c.len-index-end.ensures in
+    let test = c.loop-index-test.false in
+    let above : index_len c.args.self ≤ c.loop-index.index = omega (arith, test, end) in
+    let rest = sum_end (own_strides m key_hash g.K.ElementEq.same) c.loop-index.index (index_len c.args.self) above in
+    let spent = c.loop-index.invariant.spent in
+    let most = c.loop-index.invariant.within.1 in
+    (omega (arith, rest, spent, most), count_is_all _ _ c.loop-index.index (index_len c.args.self) _ c.loop-index.invariant.exact above)

@@ -6,15 +6,15 @@ use Rattle.rkyv_index.proofs.map.ArchivedIndexMap.misplaced_up_to_counted.Given 
 
 -- the number of misplaced keys is the count and the number of those that remain,
 -- and the strides of all keys are those that were read and those of the remaining keys
-abbrev pub invariant-loop-place : goal.invariant-loop-place
-invariant-loop-place g l =
+abbrev pub invariant-loop-index : goal.invariant-loop-index
+invariant-loop-index g l =
     let m = index_of l.fn.self in
     let n : ℕ = index_len l.fn.self in
     let key_hash = hash_at g.H.KeyHasher.hasher g.K.KeyElement.key_calls in
     let same = g.K.ElementEq.same in
     record {
-      few : l.count ≤ l.place;
-      exact : l.count + length (filter (is_misplaced m key_hash same) (range_with_len l.place (n - l.place))) ≡ index_misplaced m key_hash same;
-      spent : l.before + keys_strides m key_hash same ≡ l.strides + sum_by (own_strides m key_hash same) (range_with_len l.place (n - l.place));
+      few : l.count ≤ l.index;
+      exact : l.count + length (filter (is_misplaced m key_hash same) (range_with_len l.index (n - l.index))) ≡ index_misplaced m key_hash same;
+      spent : l.before + keys_strides m key_hash same ≡ l.strides + sum_by (own_strides m key_hash same) (range_with_len l.index (n - l.index));
       within : (l.before ≤ l.strides) × (l.strides ≤ l.before + l.limit) × (l.strides ≤ 2 ^ 63);
     }

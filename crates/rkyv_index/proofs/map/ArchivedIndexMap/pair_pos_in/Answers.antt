@@ -14,19 +14,19 @@ use Rattle.rkyv_index.proofs.map.ArchivedIndexMap.pair_pos_in.Goals as goal
 
 pub entry-requires-clause-below : goal.entry-requires-clause-below
 entry-requires-clause-below g c =
-    subst (λ m. c.args.place < index_len m) (sym c.entries.ensures.map)
-    (moved (λ d r. c.args.place < len_at g.W.Word.word d r) _ _ _ _ (sym c.read.ensures.bytes) (sym c.read.ensures.pos) c.requires.below)
+    subst (λ m. c.args.index < index_len m) (sym c.entries.ensures.map)
+    (moved (λ d r. c.args.index < len_at g.W.Word.word d r) _ _ _ _ (sym c.read.ensures.bytes) (sym c.read.ensures.pos) c.requires.below)
 
 pub returns-clause-at : goal.returns-clause-at
 returns-clause-at g c =
     let w = g.W.Word.word in
     let k = g.K.HasSpec.spec in
     let v = g.V.HasSpec.spec in
-    let there : (b : List ℕ) → ℕ → ℕ = λ b p. pair_at w k v b p c.args.place in
-    let is = c.pos.ensures ∙ c.entry.ensures.at.1 ∙ ap (λ m. key_pos m c.args.place) c.entries.ensures.map
-    ∙ as_read c.read.result _ _ c.read.ensures.bytes c.read.ensures.pos (λ d r. key_pos c.read.result c.args.place ≡ there d r) refl in
-    subst (IsPairPos w k v _ _ c.args.place) (sym is)
-    (pair_position w g.met.W.Width.layout.kind k v g.K.HasSpec.laws g.V.HasSpec.laws _ _ c.requires.map c.args.place c.requires.below)
+    let there : (b : List ℕ) → ℕ → ℕ = λ b p. pair_at w k v b p c.args.index in
+    let is = c.pos.ensures ∙ c.entry.ensures.at.1 ∙ ap (λ m. key_pos m c.args.index) c.entries.ensures.map
+    ∙ as_read c.read.result _ _ c.read.ensures.bytes c.read.ensures.pos (λ d r. key_pos c.read.result c.args.index ≡ there d r) refl in
+    subst (IsPairPos w k v _ _ c.args.index) (sym is)
+    (pair_position w g.met.W.Width.layout.kind k v g.K.HasSpec.laws g.V.HasSpec.laws _ _ c.requires.map c.args.index c.requires.below)
 
 pub returns-clause-entry : goal.returns-clause-entry
 returns-clause-entry g c =
@@ -34,4 +34,4 @@ returns-clause-entry g c =
     let v = g.V.HasSpec.spec in
     let at = returns-clause-at g c in
     subst (Viewable (entry_spec k v) _) (sym at.pos)
-    (entry_viewable g.W.Word.word g.met.W.Width.layout.kind (entry_spec k v) (entry_element k v g.K.HasSpec.laws g.V.HasSpec.laws) _ _ c.requires.map c.args.place c.requires.below)
+    (entry_viewable g.W.Word.word g.met.W.Width.layout.kind (entry_spec k v) (entry_element k v g.K.HasSpec.laws g.V.HasSpec.laws) _ _ c.requires.map c.args.index c.requires.below)

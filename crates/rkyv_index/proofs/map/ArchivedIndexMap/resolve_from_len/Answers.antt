@@ -6,7 +6,7 @@ use Rattle.std.proofs.lemmas.Result.{err_from_is_err_and}
 use Rattle.rkyv_table.specs.Table.Header.{HeaderOverflows, IsHeader}
 use Rattle.rkyv_table.specs.Controls.Numbers.{capacity}
 use Rattle.rkyv_index.specs.Index.IndexHeader.{IndexResolver}
-use Rattle.rkyv_index.proofs.Headers.{overflow_of, header_of}
+use Rattle.rkyv_index.proofs.Headers.{header_of, overflow_of}
 use Rattle.rkyv_index.proofs.map.ArchivedIndexMap.resolve_from_len.Goals as goal
 
 pub returns : goal.returns

@@ -1,8 +1,8 @@
 use Rattle.std.proofs.Common.{◌≡◌, ◌≤◌, ◌-◌, ℕ}
 use Rattle.std.specs.List.{range_with_len}
 use Rattle.rkyv_base.specs.declared.errors.VerifyError.{VerifyError}
-use Rattle.rkyv_table.specs.Table.Places.{AllHold, FirstFails}
-use Rattle.rkyv_index.specs.Index.IndexLayout.{entry_at, places_of}
+use Rattle.rkyv_table.specs.Table.ValidItems.{AreValidAt, FirstFails}
+use Rattle.rkyv_index.specs.Index.IndexLayout.{entry_at, indices_of}
 use Rattle.rkyv_index.proofs.map.check.check_entries.Given as goal
 
 -- `at` is the position of the next entry. The result for the remaining entries is that for all
@@ -13,6 +13,6 @@ invariant-loop-i g l =
     record {
       at : l.at ≡ entry_at s.size l.begin l.i;
       ordered : l.low ≤ l.begin;
-      held : (m : ℕ) → AllHold s (entry_at s.size l.begin) l.bytes l.begin is l.low m → AllHold s (entry_at s.size l.begin) l.bytes l.begin (places_of l.len) l.lo m;
-      failed : (e : VerifyError) → FirstFails s (entry_at s.size l.begin) l.bytes l.begin is l.low e → FirstFails s (entry_at s.size l.begin) l.bytes l.begin (places_of l.len) l.lo e;
+      held : (m : ℕ) → AreValidAt s (entry_at s.size l.begin) l.bytes l.begin is l.low m → AreValidAt s (entry_at s.size l.begin) l.bytes l.begin (indices_of l.len) l.lo m;
+      failed : (e : VerifyError) → FirstFails s (entry_at s.size l.begin) l.bytes l.begin is l.low e → FirstFails s (entry_at s.size l.begin) l.bytes l.begin (indices_of l.len) l.lo e;
     }

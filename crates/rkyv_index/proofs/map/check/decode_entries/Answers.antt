@@ -1,5 +1,5 @@
 use Rattle.std.proofs.Common.{FitsSigned, rules, ap, ◌∙◌, ◌+◌, ◌*◌, ◌≡◌, ◌+ℤ◌, pos, List, ℕ}
-use Rattle.std.specs.Int.{byte_len, w64, w128}
+use Rattle.std.specs.Int.{byte_len, w128, w64}
 use Rattle.std.proofs.lemmas.Int.{to_z-of_z}
 use Rattle.rkyv_base.specs.Bytes.{signed_at}
 use Rattle.rkyv_index.specs.Index.IndexLayout.{decode_entries}

@@ -13,7 +13,7 @@ returns-clause-written g c =
 pub returns-clause-kept : goal.returns-clause-kept
 returns-clause-kept g c =
     let v = g.N.HasSpec.spec in
-    index_kept g.W.Word.word g.met.W.Width.layout.kind g.K.HasSpec.spec v g.K.HasSpec.laws g.N.HasSpec.laws c.args.archive.now c.args.root c.requires.map c.set_at.new.bytes c.args.place c.requires.below
+    index_kept g.W.Word.word g.met.W.Width.layout.kind g.K.HasSpec.spec v g.K.HasSpec.laws g.N.HasSpec.laws c.args.archive.now c.args.root c.requires.map c.set_at.new.bytes c.args.index c.requires.below
     (value_written g.W.Word.word g.K.HasSpec.spec v _ _ _ _ c.value_pos_at-pos.ensures.at c.set_at.ensures.sealed c.set_at.ensures.is_valid)
     (hash_at g.H.KeyHasher.hasher g.K.KeyElement.key_calls) (hash_local g.H.KeyHasher.hasher g.met.K.KeyElement.key)
 
@@ -21,7 +21,7 @@ pub returns-clause-listed : goal.returns-clause-listed
 returns-clause-listed g c = λ factor pairs pair st there.
     let e = g.N.Scalar.encoding in
     let v = g.N.HasSpec.spec in
-    written_value_represents g.W.Word.word g.met.W.Width.layout.kind g.K.HasSpec.spec v g.K.HasSpec.laws g.N.HasSpec.laws c.args.archive.now c.args.root c.requires.map c.set_at.new.bytes c.args.place c.requires.below
+    written_value_represents g.W.Word.word g.met.W.Width.layout.kind g.K.HasSpec.spec v g.K.HasSpec.laws g.N.HasSpec.laws c.args.archive.now c.args.root c.requires.map c.set_at.new.bytes c.args.index c.requires.below
     (value_written g.W.Word.word g.K.HasSpec.spec v _ _ _ _ c.value_pos_at-pos.ensures.at c.set_at.ensures.sealed c.set_at.ensures.is_valid)
     (hash_at g.H.KeyHasher.hasher g.K.KeyElement.key_calls) (hash_local g.H.KeyHasher.hasher g.met.K.KeyElement.key)
     g.K.Represents.represents (ScalarRepresents e) g.met.K.Represents.local (scalar_local v e g.met.N.Scalar.laws) factor pairs pair c.args.value st there

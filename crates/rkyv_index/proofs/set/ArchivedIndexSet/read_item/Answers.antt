@@ -8,7 +8,7 @@ pub returns : goal.returns
 returns g c =
     let w = g.W.Word.word in
     let k = g.K.HasSpec.spec in
-    let i = c.args.place in
+    let i = c.args.index in
     let there = c.entries.result.map in
     let at = c.entry.ensures.at in
     let Read : List ℕ → ℕ → Type 0 = λ b p. MatchResult c.deserialize.result (g.K.Represents.represents b p) (g.K.Deserialize.deserialize_fails b p) in

@@ -6,9 +6,9 @@ use Rattle.rkyv_table.proofs.Coverage.{count_strides, stride_below}
 use Rattle.rkyv_table.proofs.FirstFree.{member_front, member_rest}
 use Rattle.rkyv_table.specs.Controls.Numbers.{probe_capacity, tag}
 use Rattle.rkyv_table.specs.Controls.Probe.{strides}
-use Rattle.rkyv_table.proofs.Search.{answer}
+use Rattle.rkyv_table.proofs.Search.{found_along}
 use Rattle.rkyv_table.specs.Controls.Placing.{AreValidControls}
-use Rattle.rkyv_table.proofs.Lookup.{end_index, ends_by_item, ends_by_empty, goes_on, ends_somewhere, found_is, end_is, few_strides, stride_full, shown_full}
+use Rattle.rkyv_table.proofs.Lookup.{end_index, end_is, ends_by_empty, ends_by_item, ends_somewhere, few_strides, found_is, goes_on, shown_full, stride_full}
 use Rattle.rkyv_table.proofs.controls.find.find_from.Goals as goal
 use Rattle.rkyv_table.proofs.controls.find.find_from.Goals.{After-cmp-1}
 
@@ -22,7 +22,7 @@ loop-pos-init g c =
       room = ap (λ (ps : List ℕ). c.args.strides.now + length ps) same;
       members = λ p m. rw (← same) m;
       up = omega arith;
-      same = λ accept compares. ap (answer g.G.GroupKind.kind c.args.controls.now c.args.cap (tag c.args.hash) accept) (sym same);
+      same = λ accept compares. ap (found_along g.G.GroupKind.kind c.args.controls.now c.args.cap (tag c.args.hash) accept) (sym same);
       counted = λ accept compares. ap (λ ps. c.args.strides.now + end_index g.G.GroupKind.kind c.args.controls.now c.args.cap (tag c.args.hash) accept ps) same;
     }
 
@@ -41,8 +41,8 @@ module _ (g : _) (c : After-cmp-1 g) where
     compares_here : ComparesByBucket (goal.F-post g c.args.cmp) (IsFullInStride c.stride.result.now c.in-Some.pos c.args.cap) accept
     compares_here b r shown returned = compares b r (full b shown) returned
 
-    answered : (r : Option ℕ) → answer g.G.GroupKind.kind c.args.controls.now c.args.cap (tag c.args.hash) accept c.loop-pos.pos-iterator ≡ r → r ≡ found g.G.GroupKind.kind c.args.controls.now c.args.cap c.args.len c.args.hash accept
-    answered r e = sym (found_is g.G.GroupKind.kind c.args.controls.now c.args.cap c.args.len c.args.hash accept c.if-len-eq0.false ∙ c.loop-pos.invariant.same accept compares ∙ e)
+    found_as : (r : Option ℕ) → found_along g.G.GroupKind.kind c.args.controls.now c.args.cap (tag c.args.hash) accept c.loop-pos.pos-iterator ≡ r → r ≡ found g.G.GroupKind.kind c.args.controls.now c.args.cap c.args.len c.args.hash accept
+    found_as r e = sym (found_is g.G.GroupKind.kind c.args.controls.now c.args.cap c.args.len c.args.hash accept c.if-len-eq0.false ∙ c.loop-pos.invariant.same accept compares ∙ e)
 
     counted : end_index g.G.GroupKind.kind c.args.controls.now c.args.cap (tag c.args.hash) accept c.loop-pos.pos-iterator ≡ 0 → c.stride.new.self ≡ c.args.strides.now + end g.G.GroupKind.kind c.args.controls.now c.args.cap c.args.len c.args.hash accept
     counted z =
@@ -115,7 +115,7 @@ returns-in-Accepted g c =
       walked = full g at c.in-Accepted.bucket c.in-Accepted.ensures.full;
       accepted = c.in-Accepted.ensures.accepted;
       bounded = within g at;
-      answer = λ accept compares. answered g at accept compares _ (ends accept compares).0;
+      finds = λ accept compares. found_as g at accept compares _ (ends accept compares).0;
       counted = λ accept compares. counted g at accept compares (ends accept compares).1;
     }
 
@@ -129,7 +129,7 @@ returns-in-HasEmpty g c =
       walked = tt;
       accepted = tt;
       bounded = within g at;
-      answer = λ accept compares. answered g at accept compares _ (ends accept compares).0;
+      finds = λ accept compares. found_as g at accept compares _ (ends accept compares).0;
       counted = λ accept compares. counted g at accept compares (ends accept compares).1;
     }
 
@@ -161,9 +161,9 @@ returns g c =
       walked = tt;
       accepted = tt;
       bounded = (let k = count_strides c.args.hash c.args.cap (omega arith) in record { none = λ z. absurd (c.if-len-eq0.false z); some = λ _. omega arith; most = omega arith });
-      answer = λ accept compares.
+      finds = λ accept compares.
           sym (found_is g.G.GroupKind.kind c.args.controls.now c.args.cap c.args.len c.args.hash accept c.if-len-eq0.false ∙ c.loop-pos.invariant.same accept compares
-          ∙ ap (answer g.G.GroupKind.kind c.args.controls.now c.args.cap (tag c.args.hash) accept) done);
+          ∙ ap (found_along g.G.GroupKind.kind c.args.controls.now c.args.cap (tag c.args.hash) accept) done);
       counted = λ accept compares.
           let s = ends_somewhere g.G.GroupKind.kind c.args.controls.now c.args.cap c.args.len c.args.hash (tag c.args.hash) accept a in
           let k = c.loop-pos.invariant.counted accept compares in

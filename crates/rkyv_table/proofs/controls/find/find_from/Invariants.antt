@@ -4,7 +4,7 @@ use Rattle.rkyv_table.specs.Controls.ControlBytes.{IsFullBucket}
 use Rattle.rkyv_table.specs.Controls.Finding.{ComparesByBucket}
 use Rattle.rkyv_table.specs.Controls.Numbers.{tag}
 use Rattle.rkyv_table.specs.Controls.Probe.{strides}
-use Rattle.rkyv_table.proofs.Search.{answer}
+use Rattle.rkyv_table.proofs.Search.{found_along}
 use Rattle.rkyv_table.proofs.Lookup.{end_index}
 use Rattle.rkyv_table.proofs.controls.find.find_from.Given as goal
 
@@ -14,8 +14,8 @@ invariant-loop-pos g l = record {
   members : (p : ℕ) → list_any (eqb p) l.pos-iterator ≡ true → list_any (eqb p) (strides l.hash l.cap) ≡ true;
   up : l.initial.strides ≤ l.strides;
   same : (accept : ℕ → Bool) → ComparesByBucket (goal.F-post g l.cmp) (IsFullBucket l.cap l.controls) accept
-      → answer (g.G.GroupKind.kind) l.controls l.cap (tag l.hash) accept (strides l.hash l.cap)
-      ≡ answer (g.G.GroupKind.kind) l.controls l.cap (tag l.hash) accept (l.pos-iterator);
+      → found_along (g.G.GroupKind.kind) l.controls l.cap (tag l.hash) accept (strides l.hash l.cap)
+      ≡ found_along (g.G.GroupKind.kind) l.controls l.cap (tag l.hash) accept (l.pos-iterator);
   counted : (accept : ℕ → Bool) → ComparesByBucket (goal.F-post g l.cmp) (IsFullBucket l.cap l.controls) accept
       → l.strides + end_index (g.G.GroupKind.kind) l.controls l.cap (tag l.hash) accept (l.pos-iterator)
       ≡ l.initial.strides + end_index (g.G.GroupKind.kind) l.controls l.cap (tag l.hash) accept (strides l.hash l.cap);

@@ -1,14 +1,14 @@
 use Rattle.std.proofs.Common.{arith, ◌≡◌, ◌+◌, ◌*◌, ◌≤◌, ℕ, sym, ap, ◌∙◌, take, drop, List, leb, get_or, None}
 use Rattle.std.specs.List.{find, list_any, range_with_len}
 use Rattle.rkyv_scan.specs.Groups.{Kind}
-use Rattle.rkyv_table.proofs.Groups.{candidates_in, empty_in, all_candidates, all_empty, no_candidates, no_empty, found_more, found_whole, more_empty, group_of, group_fits, groups_end, or_no, places_are, mark_is_any, width_divides}
+use Rattle.rkyv_table.proofs.Groups.{all_candidates, all_empty, candidates_in, empty_in, found_more, found_whole, group_fits, group_of, groups_end, indices_are, mark_is_any, more_empty, no_candidates, no_empty, or_no, width_divides}
 use Rattle.rkyv_table.proofs.Search.{width_some}
-use Rattle.rkyv_table.proofs.WholeStride.{whole_found, whole_none, whole_marked_full}
+use Rattle.rkyv_table.proofs.WholeStride.{whole_found, whole_marked_full, whole_none}
 use Rattle.std.proofs.lemmas.Bool.{or_right}
 use Rattle.rkyv_table.specs.Controls.StrideOutcome.{IsFullInStride, IsMarked}
-use Rattle.rkyv_table.proofs.Marks.{place_full, marked_bucket_full}
+use Rattle.rkyv_table.proofs.Marks.{index_full, marked_bucket_full}
 use Rattle.rkyv_table.proofs.controls.find.scan.Goals as goal
-use Rattle.rkyv_table.proofs.controls.find.scan.Goals.{After-match_byte, After-match_byte-in-loop-i, then-any_bit_set-2, else-any_bit_set-2}
+use Rattle.rkyv_table.proofs.controls.find.scan.Goals.{After-match_byte, After-match_byte-in-loop-i, else-any_bit_set-2, then-any_bit_set-2}
 
 -- one group
 module _ (g : _) (c : After-match_byte-in-loop-i g) where
@@ -18,8 +18,8 @@ module _ (g : _) (c : After-match_byte-in-loop-i g) where
   fits : c.loop-i.i * g.G.GroupKind.kind.width + g.G.GroupKind.kind.width ≤ 16
   fits = group_fits c.loop-i.i g.G.GroupKind.kind.width (rw (c.WIDTH-i-end.ensures, g.met.G.GroupKind.width) at c.loop-i-test.true)
 
-  shown : (b : ℕ) → IsMarked (c.args.pos + c.loop-i.i * c.WIDTH-in-loop-i.result) c.args.cap (g.G.Mask.Marks.places c.match_byte-in-loop-i.result) b → IsFullInStride c.args.stride.now c.args.pos c.args.cap b
-  shown = marked_bucket_full g.G.GroupKind.kind g.met.G.GroupKind.lawful c.args.tag c.args.pos c.args.cap (c.loop-i.i * c.WIDTH-in-loop-i.result) c.args.stride.now (g.G.GroupKind.controls c.read-group.result) (g.G.Mask.Marks.places c.match_byte-in-loop-i.result) c.requires.tag (rw width_is fits) c.read-group.ensures c.match_byte-in-loop-i.ensures
+  shown : (b : ℕ) → IsMarked (c.args.pos + c.loop-i.i * c.WIDTH-in-loop-i.result) c.args.cap (g.G.Mask.Marks.indices c.match_byte-in-loop-i.result) b → IsFullInStride c.args.stride.now c.args.pos c.args.cap b
+  shown = marked_bucket_full g.G.GroupKind.kind g.met.G.GroupKind.lawful c.args.tag c.args.pos c.args.cap (c.loop-i.i * c.WIDTH-in-loop-i.result) c.args.stride.now (g.G.GroupKind.controls c.read-group.result) (g.G.Mask.Marks.indices c.match_byte-in-loop-i.result) c.requires.tag (rw width_is fits) c.read-group.ensures c.match_byte-in-loop-i.ensures
 
 pub overflow_add-pos : goal.overflow_add-pos
 overflow_add-pos g c =
@@ -43,7 +43,7 @@ returns-in-Some-first_accepted-clause-outcome g c = λ controls e accept compare
     let i = c.loop-i.i in
     let after = (goal.at.returns-in-Some-first_accepted-clause-outcome g c).After-match_byte-in-loop-i in
     let f = c.in-Some-first_accepted.ensures.first accept (λ b r marked returned. compares b r (shown g after b marked) returned) in
-    let f' = rw (c.match_byte-in-loop-i.ensures, places_are, c.WIDTH-in-loop-i.ensures, g.met.G.GroupKind.width) at f in
+    let f' = rw (c.match_byte-in-loop-i.ensures, indices_are, c.WIDTH-in-loop-i.ensures, g.met.G.GroupKind.width) at f in
     let s = c.read-group.ensures in
     let s' = rw (c.WIDTH-in-loop-i.ensures, g.met.G.GroupKind.width) at s in
     let s'' = s' ∙ group_of controls c.args.stride.now c.args.pos (i * g.G.GroupKind.kind.width) g.G.GroupKind.kind.width (fits g after) e in
@@ -64,7 +64,7 @@ loop-i-preserved g c =
     record {
       shown = λ controls e.
           let m = more_empty controls shows c.args.pos i g.G.GroupKind.kind.width (at controls e) in
-          let a = rw (c.match_empty-in-loop-i.ensures, places_are) at c.any_bit_set-in-loop-i.ensures in
+          let a = rw (c.match_empty-in-loop-i.ensures, indices_are) at c.any_bit_set-in-loop-i.ensures in
           let a'' = mark_is_any c.any_bit_set-in-loop-i.result (λ j. leb 128 (get_or shows j 0)) (range_with_len 0 g.G.GroupKind.kind.width) a in
           let b = c.loop-i.invariant.shown controls e in
           let la = list_any (λ j. leb 128 (get_or shows j 0)) (range_with_len 0 g.G.GroupKind.kind.width) in
@@ -75,7 +75,7 @@ loop-i-preserved g c =
           ]);
       none = λ controls e accept compares.
           let f = c.in_default.ensures.first accept (λ b r marked returned. compares b r (shown g after b marked) returned) in
-          let f' = rw (c.match_byte-in-loop-i.ensures, places_are, c.WIDTH-in-loop-i.ensures, g.met.G.GroupKind.width) at f in
+          let f' = rw (c.match_byte-in-loop-i.ensures, indices_are, c.WIDTH-in-loop-i.ensures, g.met.G.GroupKind.width) at f in
           found_more kind controls shows c.args.cap c.args.tag c.args.pos i accept None (width_some kind law) (at controls e) (c.loop-i.invariant.none controls e accept compares) f';
     }
 
@@ -96,8 +96,8 @@ first_accepted-requires-in-loop-i-clause-below g c = λ k h.
     let i = c.loop-i.i in
     let after = (goal.at.first_accepted-requires-in-loop-i-clause-below g c).After-match_byte-in-loop-i in
     let e : i * c.WIDTH-in-loop-i.result ≡ i * g.G.GroupKind.kind.width = ap (λ x. i * x) (width_is g after) in
-    let f = place_full kind law c.args.tag c.args.stride.now (g.G.GroupKind.controls c.read-group.result) (g.G.Mask.Marks.places c.match_byte-in-loop-i.result) (i * c.WIDTH-in-loop-i.result) k c.requires.tag c.read-group.ensures c.match_byte-in-loop-i.ensures h in
-    let j = get_or (g.G.Mask.Marks.places c.match_byte-in-loop-i.result) k 0 in
+    let f = index_full kind law c.args.tag c.args.stride.now (g.G.GroupKind.controls c.read-group.result) (g.G.Mask.Marks.indices c.match_byte-in-loop-i.result) (i * c.WIDTH-in-loop-i.result) k c.requires.tag c.read-group.ensures c.match_byte-in-loop-i.ensures h in
+    let j = get_or (g.G.Mask.Marks.indices c.match_byte-in-loop-i.result) k 0 in
     omega (arith, c.requires.below (i * c.WIDTH-in-loop-i.result + j) (omega (arith, f.0, fits g after)) f.1)
 
 pub first_accepted-requires-in-loop-i-clause-callable : goal.first_accepted-requires-in-loop-i-clause-callable
@@ -111,13 +111,13 @@ module _ (g : _) (c : After-match_byte g) where
   one : g.G.GroupKind.kind.width ≡ 16
   one = sym g.met.G.GroupKind.width ∙ sym c.WIDTH.ensures ∙ c.if-WIDTH-eq16.true
 
-  whole_is_shown : (b : ℕ) → IsMarked c.args.pos c.args.cap (g.G.Mask.Marks.places c.match_byte.result) b → IsFullInStride c.args.stride.now c.args.pos c.args.cap b
-  whole_is_shown = whole_marked_full g.G.GroupKind.kind g.met.G.GroupKind.lawful c.args.tag c.args.pos c.args.cap c.args.stride.now (g.G.GroupKind.controls c.read-whole.result) (g.G.Mask.Marks.places c.match_byte.result) c.requires.tag one c.read-whole.ensures c.match_byte.ensures
+  whole_is_shown : (b : ℕ) → IsMarked c.args.pos c.args.cap (g.G.Mask.Marks.indices c.match_byte.result) b → IsFullInStride c.args.stride.now c.args.pos c.args.cap b
+  whole_is_shown = whole_marked_full g.G.GroupKind.kind g.met.G.GroupKind.lawful c.args.tag c.args.pos c.args.cap c.args.stride.now (g.G.GroupKind.controls c.read-whole.result) (g.G.Mask.Marks.indices c.match_byte.result) c.requires.tag one c.read-whole.ensures c.match_byte.ensures
 
 pub first_accepted-requires-clause-below : goal.first_accepted-requires-clause-below
 first_accepted-requires-clause-below g c = λ k h.
-    let f = place_full g.G.GroupKind.kind g.met.G.GroupKind.lawful c.args.tag c.args.stride.now (g.G.GroupKind.controls c.read-whole.result) (g.G.Mask.Marks.places c.match_byte.result) 0 k c.requires.tag c.read-whole.ensures c.match_byte.ensures h in
-    let j = get_or (g.G.Mask.Marks.places c.match_byte.result) k 0 in
+    let f = index_full g.G.GroupKind.kind g.met.G.GroupKind.lawful c.args.tag c.args.stride.now (g.G.GroupKind.controls c.read-whole.result) (g.G.Mask.Marks.indices c.match_byte.result) 0 k c.requires.tag c.read-whole.ensures c.match_byte.ensures h in
+    let j = get_or (g.G.Mask.Marks.indices c.match_byte.result) k 0 in
     let width = one g (goal.at.first_accepted-requires-clause-below g c).After-match_byte in
     omega (arith, c.requires.below (0 + j) (omega (arith, f.0)) f.1)
 
@@ -129,17 +129,17 @@ returns-in-Some-clause-full g c = whole_is_shown g (goal.at.returns-in-Some-clau
 
 pub returns-in-Some-clause-outcome : goal.returns-in-Some-clause-outcome
 returns-in-Some-clause-outcome g c = λ controls e accept compares.
-    whole_found g.G.GroupKind.kind g.met.G.GroupKind.lawful controls (g.G.GroupKind.controls c.read-whole.result) c.args.stride.now c.args.cap c.args.tag c.args.pos accept _ (g.G.Mask.Marks.places c.match_byte.result) (one g (goal.at.returns-in-Some-clause-outcome g c).After-match_byte) c.read-whole.ensures e c.match_byte.ensures
+    whole_found g.G.GroupKind.kind g.met.G.GroupKind.lawful controls (g.G.GroupKind.controls c.read-whole.result) c.args.stride.now c.args.cap c.args.tag c.args.pos accept _ (g.G.Mask.Marks.indices c.match_byte.result) (one g (goal.at.returns-in-Some-clause-outcome g c).After-match_byte) c.read-whole.ensures e c.match_byte.ensures
     (c.in-Some.ensures.first accept (λ b r marked returned. compares b r (whole_is_shown g (goal.at.returns-in-Some-clause-outcome g c).After-match_byte b marked) returned))
 
 pub returns-then-any_bit_set-clause-outcome : goal.returns-then-any_bit_set-clause-outcome
 returns-then-any_bit_set-clause-outcome g c = λ controls e accept compares.
-    let s = whole_none g.G.GroupKind.kind g.met.G.GroupKind.lawful controls (g.G.GroupKind.controls c.read-whole.result) c.args.stride.now c.args.cap c.args.tag c.args.pos accept c.any_bit_set.result (g.G.Mask.Marks.places c.match_byte.result) (g.G.Mask.Marks.places c.match_empty.result) (one g (goal.at.returns-then-any_bit_set-clause-outcome g c).After-match_byte) c.read-whole.ensures e
+    let s = whole_none g.G.GroupKind.kind g.met.G.GroupKind.lawful controls (g.G.GroupKind.controls c.read-whole.result) c.args.stride.now c.args.cap c.args.tag c.args.pos accept c.any_bit_set.result (g.G.Mask.Marks.indices c.match_byte.result) (g.G.Mask.Marks.indices c.match_empty.result) (one g (goal.at.returns-then-any_bit_set-clause-outcome g c).After-match_byte) c.read-whole.ensures e
     c.match_byte.ensures (c.in-None.ensures.first accept (λ b r marked returned. compares b r (whole_is_shown g (goal.at.returns-then-any_bit_set-clause-outcome g c).After-match_byte b marked) returned)) c.match_empty.ensures c.any_bit_set.ensures in
     (s.0, s.1 ∙ c.if-any_bit_set.true)
 
 pub returns-else-any_bit_set-clause-outcome : goal.returns-else-any_bit_set-clause-outcome
 returns-else-any_bit_set-clause-outcome g c = λ controls e accept compares.
-    let s = whole_none g.G.GroupKind.kind g.met.G.GroupKind.lawful controls (g.G.GroupKind.controls c.read-whole.result) c.args.stride.now c.args.cap c.args.tag c.args.pos accept c.any_bit_set.result (g.G.Mask.Marks.places c.match_byte.result) (g.G.Mask.Marks.places c.match_empty.result) (one g (goal.at.returns-else-any_bit_set-clause-outcome g c).After-match_byte) c.read-whole.ensures e
+    let s = whole_none g.G.GroupKind.kind g.met.G.GroupKind.lawful controls (g.G.GroupKind.controls c.read-whole.result) c.args.stride.now c.args.cap c.args.tag c.args.pos accept c.any_bit_set.result (g.G.Mask.Marks.indices c.match_byte.result) (g.G.Mask.Marks.indices c.match_empty.result) (one g (goal.at.returns-else-any_bit_set-clause-outcome g c).After-match_byte) c.read-whole.ensures e
     c.match_byte.ensures (c.in-None.ensures.first accept (λ b r marked returned. compares b r (whole_is_shown g (goal.at.returns-else-any_bit_set-clause-outcome g c).After-match_byte b marked) returned)) c.match_empty.ensures c.any_bit_set.ensures in
     (s.0, s.1 ∙ c.if-any_bit_set.false)

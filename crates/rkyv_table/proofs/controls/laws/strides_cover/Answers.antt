@@ -1,10 +1,10 @@
 use Rattle.std.proofs.Common.{◌%◌, eqb, ltb}
-use Rattle.std.proofs.lemmas.Bool.{and_parts, and_from, eqb-true, eq-eqb, ltb-true, lt-ltb}
+use Rattle.std.proofs.lemmas.Bool.{and_from, and_parts, eq-eqb, eqb-true, lt-ltb, ltb-true}
 use Rattle.std.proofs.Common.{sym, ◌∙◌}
 use Rattle.rkyv_table.specs.Controls.Numbers.{probe_capacity, start}
 use Rattle.rkyv_table.specs.Controls.Probe.{strides}
-use Rattle.rkyv_table.proofs.Coverage.{has_stride, distinct_strides, count_strides}
-use Rattle.rkyv_table.proofs.Lists.{member_contains, contains_member}
+use Rattle.rkyv_table.proofs.Coverage.{count_strides, distinct_strides, has_stride}
+use Rattle.rkyv_table.proofs.Lists.{contains_member, member_contains}
 use Rattle.rkyv_table.proofs.controls.laws.strides_cover.Goals as goal
 
 pub returns : goal.returns

@@ -1,8 +1,8 @@
 use Rattle.std.proofs.Common.{arith, ◌≡◌, ◌+◌, ◌*◌, ◌<◌, ◌≤◌, ◌/◌, sym, ap, ◌∙◌, None}
 use Rattle.std.specs.List.{find, range_with_len}
 use Rattle.rkyv_table.specs.Controls.ControlBytes.{is_empty_at}
-use Rattle.rkyv_table.proofs.Groups.{group_fits, groups_end, places_are, width_divides}
-use Rattle.rkyv_table.proofs.FirstFree.{place_inside, more_places, whole_stride, empty_place_is, no_range}
+use Rattle.rkyv_table.proofs.Groups.{group_fits, groups_end, indices_are, width_divides}
+use Rattle.rkyv_table.proofs.FirstFree.{empty_index_is, index_inside, more_indices, no_range, whole_stride}
 use Rattle.rkyv_table.proofs.controls.place.first_empty.Goals as goal
 
 pub overflow_add-result : goal.overflow_add-result
@@ -11,7 +11,7 @@ overflow_add-result g c =
     let lt : c.loop-i.i < 16 / g.G.GroupKind.kind.width = rw (c.WIDTH-i-end.ensures, g.met.G.GroupKind.width) at c.loop-i-test.true in
     let fits = group_fits c.loop-i.i g.G.GroupKind.kind.width lt in
     let e : c.loop-i.i * c.WIDTH.result ≡ c.loop-i.i * g.G.GroupKind.kind.width = ap (λ x. c.loop-i.i * x) w in
-    let l = place_inside _ g.G.GroupKind.kind.width c.in-Some.j (g.G.Mask.Marks.places c.match_empty.result) c.match_empty.ensures c.in-Some.ensures in
+    let l = index_inside _ g.G.GroupKind.kind.width c.in-Some.j (g.G.Mask.Marks.indices c.match_empty.result) c.match_empty.ensures c.in-Some.ensures in
     let r = c.requires in
     record { fits = omega arith }
 
@@ -23,11 +23,11 @@ returns-in-Some g c =
     let fits = group_fits i g.G.GroupKind.kind.width lt in
     let s = rw (c.WIDTH.ensures, g.met.G.GroupKind.width) at c.read.ensures in
     let v = c.in-Some.ensures in
-    let v' = rw (c.match_empty.ensures, places_are) at v in
-    let m = more_places c.args.controls.now (g.G.GroupKind.controls c.read.result) c.args.pos i g.G.GroupKind.kind.width _ s c.loop-i.invariant v' in
+    let v' = rw (c.match_empty.ensures, indices_are) at v in
+    let m = more_indices c.args.controls.now (g.G.GroupKind.controls c.read.result) c.args.pos i g.G.GroupKind.kind.width _ s c.loop-i.invariant v' in
     let le : (i + 1) * g.G.GroupKind.kind.width ≤ 16 = omega arith in
     let r = whole_stride (is_empty_at c.args.controls.now) c.args.pos ((i + 1) * g.G.GroupKind.kind.width) (c.args.pos + i * g.G.GroupKind.kind.width + c.in-Some.j) le m in
-    rw (c.WIDTH.ensures, g.met.G.GroupKind.width) (sym (empty_place_is c.args.controls.now c.args.pos ∙ r))
+    rw (c.WIDTH.ensures, g.met.G.GroupKind.width) (sym (empty_index_is c.args.controls.now c.args.pos ∙ r))
 
 pub loop-i-init : goal.loop-i-init
 loop-i-init g c = no_range (is_empty_at c.args.controls.now) c.args.pos (0 * g.G.GroupKind.kind.width) (omega arith)
@@ -37,8 +37,8 @@ loop-i-preserved g c =
     let i = c.loop-i.i in
     let s = rw (c.WIDTH.ensures, g.met.G.GroupKind.width) at c.read.ensures in
     let v = c.in_default.ensures in
-    let v' = rw (c.match_empty.ensures, places_are) at v in
-    more_places c.args.controls.now (g.G.GroupKind.controls c.read.result) c.args.pos i g.G.GroupKind.kind.width None s c.loop-i.invariant v'
+    let v' = rw (c.match_empty.ensures, indices_are) at v in
+    more_indices c.args.controls.now (g.G.GroupKind.controls c.read.result) c.args.pos i g.G.GroupKind.kind.width None s c.loop-i.invariant v'
 
 pub returns : goal.returns
 returns g c =
@@ -47,4 +47,4 @@ returns g c =
     let down = rw (c.WIDTH-i-end.ensures, g.met.G.GroupKind.width) at c.loop-i-test.false in
     let n : c.loop-i.i * g.G.GroupKind.kind.width ≡ 16 = groups_end c.loop-i.i g.G.GroupKind.kind.width (width_divides g.G.GroupKind.kind law) up down in
     let e : find (is_empty_at c.args.controls.now) (range_with_len c.args.pos (c.loop-i.i * g.G.GroupKind.kind.width)) ≡ None = c.loop-i.invariant in
-    sym (empty_place_is c.args.controls.now c.args.pos ∙ ap (λ z. find (is_empty_at c.args.controls.now) (range_with_len c.args.pos z)) (sym n) ∙ e)
+    sym (empty_index_is c.args.controls.now c.args.pos ∙ ap (λ z. find (is_empty_at c.args.controls.now) (range_with_len c.args.pos z)) (sym n) ∙ e)

@@ -1,6 +1,6 @@
 use Rattle.std.proofs.Common.{arith, ℕ, List, take, get_or, length-take}
 use Rattle.std.proofs.lemmas.List.{take_more}
-use Rattle.rkyv_table.proofs.WrittenStep.{room_left, one_more, fresh, all_fit}
+use Rattle.rkyv_table.proofs.WrittenStep.{all_fit, fresh, one_more, room_left}
 use Rattle.rkyv_table.proofs.controls.place.place.Goals as goal
 
 pub loop-hash-init : goal.loop-hash-init

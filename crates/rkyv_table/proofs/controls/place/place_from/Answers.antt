@@ -5,13 +5,13 @@ use Rattle.rkyv_table.specs.Controls.ControlBytes.{is_empty_at, with_control}
 use Rattle.rkyv_table.specs.Controls.Numbers.{tag}
 use Rattle.rkyv_table.specs.Controls.Probe.{probed}
 use Rattle.rkyv_table.proofs.Coverage.{stride_below}
-use Rattle.rkyv_table.proofs.FirstFree.{some_shown, none_shown, begun, passes_on, first_at, later_started, member_front, member_rest, runs_out, empty_place_is, one_write}
+use Rattle.rkyv_table.proofs.FirstFree.{begun, empty_index_is, first_at, later_started, member_front, member_rest, none_shown, one_write, passes_on, runs_out, some_shown}
 use Rattle.rkyv_table.proofs.controls.place.place_from.Goals as goal
 use Rattle.rkyv_table.proofs.controls.place.place_from.Goals.{In-Some-first_empty}
 
 -- the first empty index is that of the first probed bucket whose control byte is empty
 found_here : (g : _) (c : In-Some-first_empty g)
-    → (c.in-Some-first_empty.place < 2 * c.args.cap) × (find (is_empty_at c.args.controls.now) (probed c.args.hash c.args.cap) ≡ Some (c.in-Some-first_empty.place % c.args.cap))
+    → (c.in-Some-first_empty.index < 2 * c.args.cap) × (find (is_empty_at c.args.controls.now) (probed c.args.hash c.args.cap) ≡ Some (c.in-Some-first_empty.index % c.args.cap))
 found_here g c =
     let h = c.args.hash in
     let cap' = c.args.cap in
@@ -22,14 +22,14 @@ found_here g c =
     let same = rw inv.kept at inv.same in
     let st = rw inv.kept at inv.started in
     let e = rw inv.kept at c.in-Some-first_empty.ensures in
-    let e' = sym (e ∙ empty_place_is controls c.in-Some.pos) in
+    let e' = sym (e ∙ empty_index_is controls c.in-Some.pos) in
     let w = c.requires.room in
     let before = c.loop-pos.pos-iterator in
     let after = c.next.new.self in
-    let s = some_shown h cap' controls c.in-Some.pos c.in-Some-first_empty.place w.0 c.requires.repeats w.1 (le-leb 128 (get_or controls w.0 0) w.2)
+    let s = some_shown h cap' controls c.in-Some.pos c.in-Some-first_empty.index w.0 c.requires.repeats w.1 (le-leb 128 (get_or controls w.0 0) w.2)
     (inv.members c.in-Some.pos (member_front c.in-Some.pos after before more)) lp
     (begun h cap' c.in-Some.pos (is_empty_at controls) after before (omega (arith, w.1)) st more) e' in
-    (s.0, first_at h cap' c.in-Some.pos (c.in-Some-first_empty.place % cap') (is_empty_at controls) after before more s.1 same)
+    (s.0, first_at h cap' c.in-Some.pos (c.in-Some-first_empty.index % cap') (is_empty_at controls) after before more s.1 same)
 
 pub first_empty-requires : goal.first_empty-requires
 first_empty-requires g c =
@@ -69,7 +69,7 @@ loop-pos-preserved g c =
     let free = is_empty_at c.loop-pos.controls in
     let w = c.requires.room in
     let r = rw (← inv.kept) at c.requires.repeats in
-    let e = sym (c.in_default.ensures ∙ empty_place_is c.loop-pos.controls c.in-Some.pos) in
+    let e = sym (c.in_default.ensures ∙ empty_index_is c.loop-pos.controls c.in-Some.pos) in
     let none = none_shown cap' c.loop-pos.controls c.in-Some.pos (omega (arith, w.1)) r lp e in
     record {
       kept = inv.kept;

@@ -7,23 +7,23 @@ pub returns-then-not-is_wrapped_at-clause-fails : goal.returns-then-not-is_wrapp
 returns-then-not-is_wrapped_at-clause-fails c =
     let count = c.requires.count in
     record {
-      from = c.loop-place.auto.place;
+      from = c.loop-index.auto.index;
       below = omega arith;
       unlike = λ r. true≢false (sym (c.is_wrapped_at.ensures.1 r) ∙ c.if-not-is_wrapped_at.true);
-      least = c.loop-place.invariant;
+      least = c.loop-index.invariant;
     }
 
-pub loop-place-preserved : goal.loop-place-preserved
-loop-place-preserved c = λ q lo hi. elim (cases_eq q c.loop-place.place) [
+pub loop-index-preserved : goal.loop-index-preserved
+loop-index-preserved c = λ q lo hi. elim (cases_eq q c.loop-index.index) [
   | inl e ↦ subst (IsWrappedAt c.args.cap c.args.controls.now) (sym e) (c.is_wrapped_at.ensures.0 c.if-not-is_wrapped_at.false)
-  | inr n ↦ c.loop-place.invariant q lo (omega arith)
+  | inr n ↦ c.loop-index.invariant q lo (omega arith)
 ]
 
 pub returns-clause-repeats : goal.returns-clause-repeats
 returns-clause-repeats c =
     let count = c.requires.count in
-    let inv = c.loop-place.invariant in
-    let done = c.loop-place-test.false in
+    let inv = c.loop-index.invariant in
+    let done = c.loop-index-test.false in
     record {
       count = count;
       repeated = λ q lo two l. (inv q lo (omega arith)).0 two;

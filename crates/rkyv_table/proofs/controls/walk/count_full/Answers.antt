@@ -1,4 +1,4 @@
-use Rattle.std.proofs.Common.{ap, length, arith, inl}
+use Rattle.std.proofs.Common.{ap, arith, inl, length}
 use Rattle.rkyv_table.proofs.Walks.{walk_small}
 use Rattle.rkyv_table.proofs.controls.walk.count_full.Goals as goal
 

@@ -1,42 +1,42 @@
 use Rattle.std.proofs.Common.{◌∙◌, refl, ap, arith, length, Some, None}
 use Rattle.rkyv_scan.specs.Groups.{generic_kind}
-use Rattle.rkyv_table.proofs.Bare.{item_at_found, looks_up_none, looks_up_some, can_compare}
+use Rattle.rkyv_table.proofs.Bare.{can_compare, item_at_found, looks_up_none, looks_up_some}
 use Rattle.rkyv_table.proofs.table.ArchivedHashTable.found_with.Goals as goal
 
 pub get_pos_with-requires : goal.get_pos_with-requires
 get_pos_with-requires g c κs =
     let bytes = ap (λ v. v.archive.now) c.of-table.ensures.view ∙ ap (λ v. v.now) c.new.ensures.0 in
-    let place = ap (λ v. v.pos) c.of-table.ensures.view ∙ c.new.ensures.1 in (
+    let pos = ap (λ v. v.pos) c.of-table.ensures.view ∙ c.new.ensures.1 in (
       (refl, tt),
-      can_compare c.args.archive.now c.args.pos c.of-table.result bytes place _ c.requires.callable,
+      can_compare c.args.archive.now c.args.pos c.of-table.result bytes pos _ c.requires.callable,
     )
 
 pub lend_seal-requires : goal.lend_seal-requires
 lend_seal-requires g c =
     let bytes = ap (λ v. v.archive.now) c.of-table.ensures.view ∙ ap (λ v. v.now) c.new.ensures.0 in
-    let place = ap (λ v. v.pos) c.of-table.ensures.view ∙ c.new.ensures.1 in
-    let item = item_at_found c.args.archive.now c.args.pos c.of-table.result bytes place g.T.HasSpec.laws c.requires.table c.in-Some.item_pos c.in-Some.ensures.walked in
+    let pos = ap (λ v. v.pos) c.of-table.ensures.view ∙ c.new.ensures.1 in
+    let item = item_at_found c.args.archive.now c.args.pos c.of-table.result bytes pos g.T.HasSpec.laws c.requires.table c.in-Some.item_pos c.in-Some.ensures.walked in
     λ x same at. c.requires.writable x same (omega (arith, item.1.viewable.inside, at, ap length same))
 
 pub returns-in-Some : goal.returns-in-Some
 returns-in-Some g c =
     let bytes = ap (λ v. v.archive.now) c.of-table.ensures.view ∙ ap (λ v. v.now) c.new.ensures.0 in
-    let place = ap (λ v. v.pos) c.of-table.ensures.view ∙ c.new.ensures.1 in
+    let pos = ap (λ v. v.pos) c.of-table.ensures.view ∙ c.new.ensures.1 in
     let e = c.in-Some.ensures in
     record {
       found = Some c.in-Some.item_pos;
-      looks = looks_up_some c.args.archive.now c.args.pos c.of-table.result bytes place _ generic_kind c.args.hash c.in-Some.item_pos e.answer e.first e.accepted;
-      item = item_at_found c.args.archive.now c.args.pos c.of-table.result bytes place g.T.HasSpec.laws c.requires.table c.in-Some.item_pos e.walked;
+      looks = looks_up_some c.args.archive.now c.args.pos c.of-table.result bytes pos _ generic_kind c.args.hash c.in-Some.item_pos e.finds e.first e.accepted;
+      item = item_at_found c.args.archive.now c.args.pos c.of-table.result bytes pos g.T.HasSpec.laws c.requires.table c.in-Some.item_pos e.walked;
       writes = (c.lend_seal.result, refl, c.lend_seal.ensures);
     }
 
 pub returns-in-None : goal.returns-in-None
 returns-in-None g c =
     let bytes = ap (λ v. v.archive.now) c.of-table.ensures.view ∙ ap (λ v. v.now) c.new.ensures.0 in
-    let place = ap (λ v. v.pos) c.of-table.ensures.view ∙ c.new.ensures.1 in
+    let pos = ap (λ v. v.pos) c.of-table.ensures.view ∙ c.new.ensures.1 in
     record {
       found = None;
-      looks = looks_up_none c.args.archive.now c.args.pos c.of-table.result bytes place _ generic_kind c.args.hash c.in-None.ensures.answer c.in-None.ensures.first;
+      looks = looks_up_none c.args.archive.now c.args.pos c.of-table.result bytes pos _ generic_kind c.args.hash c.in-None.ensures.finds c.in-None.ensures.first;
       item = tt;
       writes = (refl, refl);
     }

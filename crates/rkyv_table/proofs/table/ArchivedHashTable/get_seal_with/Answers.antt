@@ -1,7 +1,7 @@
 use Rattle.std.proofs.Common.{refl, ap, ◌∙◌, ◌+◌, ◌≤◌, length, Some, None}
 use Rattle.rkyv_table.specs.Table.SealedLookup.{IsReadAt}
 use Rattle.rkyv_table.proofs.Bare.{can_compare}
-use Rattle.rkyv_table.proofs.SealedLookup.{item_seal, place_viewable, seals_first, seals_found}
+use Rattle.rkyv_table.proofs.SealedLookup.{item_seal, pos_viewable, seals_first, seals_found}
 use Rattle.rkyv_table.proofs.table.ArchivedHashTable.get_seal_with.Goals as goal
 
 pub get_pos_with-requires : goal.get_pos_with-requires
@@ -14,34 +14,34 @@ get_pos_with-requires g c κs =
 pub seal_at-requires : goal.seal_at-requires
 seal_at-requires g c =
     let read : IsReadAt c.args.this c.of.result = (ap (λ v. v.archive.now) c.of.ensures.view ∙ c.as_view.ensures.bytes, ap (λ v. v.pos) c.of.ensures.view ∙ c.as_view.ensures.pos) in
-    place_viewable g.T.HasSpec.laws c.args.this c.of.result read c.requires.table c.in-Some.pos c.in-Some.ensures.walked
+    pos_viewable g.T.HasSpec.laws c.args.this c.of.result read c.requires.table c.in-Some.pos c.in-Some.ensures.walked
 
 pub returns-in-Some-clause-inside : goal.returns-in-Some-clause-inside
 returns-in-Some-clause-inside g c =
     let read : IsReadAt c.args.this c.of.result = (ap (λ v. v.archive.now) c.of.ensures.view ∙ c.as_view.ensures.bytes, ap (λ v. v.pos) c.of.ensures.view ∙ c.as_view.ensures.pos) in
-    let there = place_viewable g.T.HasSpec.laws c.args.this c.of.result read c.requires.table c.in-Some.pos c.in-Some.ensures.walked in
+    let there = pos_viewable g.T.HasSpec.laws c.args.this c.of.result read c.requires.table c.in-Some.pos c.in-Some.ensures.walked in
     let inside : c.in-Some.pos + g.T.HasSpec.spec.size ≤ length c.args.this.archive.now = there.inside in
-    rw (c.seal_at.ensures.at.bytes, c.seal_at.ensures.at.place) inside
+    rw (c.seal_at.ensures.at.bytes, c.seal_at.ensures.at.pos) inside
 
 pub returns-in-Some-clause-walked : goal.returns-in-Some-clause-walked
 returns-in-Some-clause-walked g c =
     let read : IsReadAt c.args.this c.of.result = (ap (λ v. v.archive.now) c.of.ensures.view ∙ c.as_view.ensures.bytes, ap (λ v. v.pos) c.of.ensures.view ∙ c.as_view.ensures.pos) in
     item_seal g.T.HasSpec.laws c.args.this c.of.result read c.requires.table c.in-Some.pos c.seal_at.result c.in-Some.ensures.walked c.seal_at.ensures.at
 
-pub returns-in-Some-clause-answer : goal.returns-in-Some-clause-answer
-returns-in-Some-clause-answer g c =
+pub returns-in-Some-clause-finds : goal.returns-in-Some-clause-finds
+returns-in-Some-clause-finds g c =
     let read : IsReadAt c.args.this c.of.result = (ap (λ v. v.archive.now) c.of.ensures.view ∙ c.as_view.ensures.bytes, ap (λ v. v.pos) c.of.ensures.view ∙ c.as_view.ensures.pos) in
-    λ accept compares. ap Some c.seal_at.ensures.at.place ∙ seals_found g.T.HasSpec.laws c.args.this c.of.result read c.requires.table _ c.args.hash (Some c.in-Some.pos) c.in-Some.ensures.answer accept compares
+    λ accept compares. ap Some c.seal_at.ensures.at.pos ∙ seals_found g.T.HasSpec.laws c.args.this c.of.result read c.requires.table _ c.args.hash (Some c.in-Some.pos) c.in-Some.ensures.finds accept compares
 
 pub returns-in-Some-clause-first : goal.returns-in-Some-clause-first
 returns-in-Some-clause-first g c =
     let read : IsReadAt c.args.this c.of.result = (ap (λ v. v.archive.now) c.of.ensures.view ∙ c.as_view.ensures.bytes, ap (λ v. v.pos) c.of.ensures.view ∙ c.as_view.ensures.pos) in
-    λ hashes homes accept written compares under. ap Some c.seal_at.ensures.at.place ∙ seals_first g.T.HasSpec.laws c.args.this c.of.result read c.requires.table _ c.args.hash (Some c.in-Some.pos) c.in-Some.ensures.first hashes homes accept written compares under
+    λ hashes homes accept written compares under. ap Some c.seal_at.ensures.at.pos ∙ seals_first g.T.HasSpec.laws c.args.this c.of.result read c.requires.table _ c.args.hash (Some c.in-Some.pos) c.in-Some.ensures.first hashes homes accept written compares under
 
-pub returns-clause-answer : goal.returns-clause-answer
-returns-clause-answer g c =
+pub returns-clause-finds : goal.returns-clause-finds
+returns-clause-finds g c =
     let read : IsReadAt c.args.this c.of.result = (ap (λ v. v.archive.now) c.of.ensures.view ∙ c.as_view.ensures.bytes, ap (λ v. v.pos) c.of.ensures.view ∙ c.as_view.ensures.pos) in
-    seals_found g.T.HasSpec.laws c.args.this c.of.result read c.requires.table _ c.args.hash None c.in-None.ensures.answer
+    seals_found g.T.HasSpec.laws c.args.this c.of.result read c.requires.table _ c.args.hash None c.in-None.ensures.finds
 
 pub returns-clause-first : goal.returns-clause-first
 returns-clause-first g c =

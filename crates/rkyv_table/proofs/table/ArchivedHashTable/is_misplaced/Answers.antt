@@ -4,7 +4,7 @@ use Rattle.rkyv_table.specs.Table.Misplaced.{is_found_at}
 use Rattle.rkyv_table.specs.Table.Positions.{bucket_found, lookup_end}
 use Rattle.rkyv_table.specs.Table.Reading.{item_pos, table_bytes, table_pos}
 use Rattle.rkyv_table.proofs.ValidTable.{read_accepted, read_end, read_found, read_walked}
-use Rattle.rkyv_table.proofs.MisplacedIn.{hash_is, own_answer}
+use Rattle.rkyv_table.proofs.MisplacedIn.{hash_is, own_finds}
 use Rattle.rkyv_table.proofs.table.ArchivedHashTable.is_misplaced.Goals as goal
 
 pub find_from-found-requires : goal.find_from-found-requires
@@ -23,7 +23,7 @@ returns-clause-exact g c = λ hash_of same hash_as same_as.
     let at : ℕ → ℕ = item_pos t in
     c.finds_another_or_none.ensures
     ∙ ap (λ o. not (is_found_at c.args.bucket o))
-    (c.find_from-found.ensures.answer (λ i. same (at c.args.bucket) (at i)) (λ b r full. own_answer _ t c.args.bucket same same_as b r)
+    (c.find_from-found.ensures.finds (λ i. same (at c.args.bucket) (at i)) (λ b r full. own_finds _ t c.args.bucket same same_as b r)
     ∙ read_found g.T.HasSpec.laws t _ c.controls.ensures generic_kind c.hash_of-hash.result (λ i. same (at c.args.bucket) (at i)))
     ∙ ap (λ h. not (is_found_at c.args.bucket (bucket_found generic_kind g.W.Word.word g.T.HasSpec.spec.size (table_bytes t) (table_pos t) h (same (at c.args.bucket)))))
     (hash_is t _ c.args.bucket c.hash_of-hash.result c.args.item c.requires.item c.hash_of-hash.ensures hash_of hash_as)
@@ -35,7 +35,7 @@ returns-clause-counts g c =
     record {
       bounded = rw (t.decoded.len, t.decoded.cap) at c.find_from-found.ensures.bounded;
       counted = λ hash_of same hash_as same_as.
-          c.find_from-found.ensures.counted (λ i. same (at c.args.bucket) (at i)) (λ b r full. own_answer _ t c.args.bucket same same_as b r)
+          c.find_from-found.ensures.counted (λ i. same (at c.args.bucket) (at i)) (λ b r full. own_finds _ t c.args.bucket same same_as b r)
           ∙ ap (λ n. c.args.strides.now + n)
           (read_end g.T.HasSpec.laws t _ c.controls.ensures generic_kind c.hash_of-hash.result (λ i. same (at c.args.bucket) (at i))
           ∙ ap (λ h. lookup_end generic_kind g.W.Word.word g.T.HasSpec.spec.size (table_bytes t) (table_pos t) h (same (at c.args.bucket)))

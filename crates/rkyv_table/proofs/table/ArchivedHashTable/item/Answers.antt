@@ -32,12 +32,12 @@ returns g c =
     let h = c.args.self.decoded in
     let some : 0 < c.args.self.header.cap = omega (arith, h.cap, c.requires.0) in
     let v = item_viewable g.W.Word.word s g.T.HasSpec.laws t.archive.now t.pos c.args.self.valid c.args.bucket c.requires in
-    let place : c.new.result.pos ≡ item_at g.W.Word.word s.size t.archive.now t.pos c.args.bucket =
+    let pos : c.new.result.pos ≡ item_at g.W.Word.word s.size t.archive.now t.pos c.args.bucket =
     c.new.ensures.1 ∙ ap (λ n. c.args.self.header.controls_pos - (c.args.bucket + 1) * n) c.size.ensures ∙ ap (λ z. z - (c.args.bucket + 1) * s.size) (h.controls_pos some) in
     let archive : c.new.result.archive ≡ t.archive = c.new.ensures.0 ∙ c.bytes.ensures in
     record {
       archive = archive;
-      viewable = rw (archive, place) v;
+      viewable = rw (archive, pos) v;
       walked = c.requires;
-      place = place;
+      pos = pos;
     }

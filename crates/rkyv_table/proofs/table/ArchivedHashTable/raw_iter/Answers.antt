@@ -1,6 +1,6 @@
 use Rattle.std.proofs.Common.{◌≡◌, ◌+◌, ◌*◌, ◌<◌, ◌∙◌, ℕ, List, ap, arith, length, map, sym}
 use Rattle.std.proofs.lemmas.List.Elements.{All-same}
-use Rattle.rkyv_scan.specs.Groups.{mask_places}
+use Rattle.rkyv_scan.specs.Groups.{mask_indices}
 use Rattle.rkyv_base.specs.ElementSpec.{Viewable}
 use Rattle.rkyv_table.specs.Table.Header.{cap_at}
 use Rattle.rkyv_table.specs.Controls.Placing.{walk}
@@ -9,7 +9,7 @@ use Rattle.rkyv_table.specs.Table.Positions.{item_positions, table_controls}
 use Rattle.rkyv_table.specs.Table.Reading.{table_bytes, table_pos}
 use Rattle.rkyv_table.proofs.ValidTable.{controls_accepted}
 use Rattle.rkyv_table.proofs.RawSteps.{some_capacity, start_left}
-use Rattle.rkyv_table.proofs.RawWalks.{places_count, places_viewable, read_ahead, read_places, walk_count}
+use Rattle.rkyv_table.proofs.RawWalks.{positions_count, positions_viewable, read_ahead, read_positions, walk_count}
 use Rattle.rkyv_table.proofs.table.ArchivedHashTable.raw_iter.Goals as goal
 use Rattle.rkyv_table.proofs.table.ArchivedHashTable.raw_iter.Goals.{After-first_marks}
 
@@ -36,7 +36,7 @@ module _ (g : _) (c : After-first_marks g) where
       let t = c.args.self in
       t.decoded.len ∙ sym (walk_count g.W.Word.word g.T.HasSpec.spec g.T.HasSpec.laws (table_bytes c.args.self) (table_pos c.args.self) t.valid)
 
-  left : buckets_left c.args.self.header.len c.controls-controls.result.now 0 (mask_places 8 7 8 c.first_marks.result.bits) ≡ walked
+  left : buckets_left c.args.self.header.len c.controls-controls.result.now 0 (mask_indices 8 7 8 c.first_marks.result.bits) ≡ walked
   left =
       let w = g.W.Word.word in
       let t = c.args.self in
@@ -44,7 +44,7 @@ module _ (g : _) (c : After-first_marks g) where
       let p : ℕ = table_pos t in
       let cap = λ (some : 0 < t.header.len). some_capacity (table_controls w b p) (cap_at w b p) t.header.len count some in
       let same = λ (some : 0 < t.header.len). c.controls-controls.ensures (rw t.decoded.cap (cap some)) in
-      start_left c.controls-controls.result.now (table_controls w b p) (cap_at w b p) t.header.len (mask_places 8 7 8 c.first_marks.result.bits) count same
+      start_left c.controls-controls.result.now (table_controls w b p) (cap_at w b p) t.header.len (mask_indices 8 7 8 c.first_marks.result.bits) count same
       (λ some. rw (same some) (let long = (controls_accepted w g.T.HasSpec.spec g.T.HasSpec.laws b p t.valid (cap some)).repeats.count in omega (arith, long))) c.first_marks.ensures
 
 pub invariant_of-result : goal.invariant_of-result
@@ -52,7 +52,7 @@ invariant_of-result g c =
     let s = g.T.HasSpec.spec in
     let t = c.args.self in
     let after = (goal.at.invariant_of-result g c).After-first_marks in
-    let marks : List ℕ = mask_places 8 7 8 c.first_marks.result.bits in
+    let marks : List ℕ = mask_indices 8 7 8 c.first_marks.result.bits in
     let ahead = read_ahead g.W.Word.word s g.T.HasSpec.laws (table_bytes t) (table_pos t) t.valid t.header.controls_pos (λ h. t.decoded.controls_pos (rw t.decoded.cap h)) c.controls-controls.result.now (λ h. c.controls-controls.ensures (rw t.decoded.cap h)) in
     let z : t.header.controls_pos + 0 * s.size ≡ t.header.controls_pos = omega arith in
     record {
@@ -66,25 +66,25 @@ returns-clause-positions g c =
     let s = g.T.HasSpec.spec in
     let t = c.args.self in
     let after = (goal.at.returns-clause-positions g c).After-first_marks in
-    let marks : List ℕ = mask_places 8 7 8 c.first_marks.result.bits in
+    let marks : List ℕ = mask_indices 8 7 8 c.first_marks.result.bits in
     let z : t.header.controls_pos + 0 * s.size ≡ t.header.controls_pos = omega arith in
     ap (λ n. positions_left t.header.controls_pos n t.header.len c.controls-controls.result.now 0 marks) c.size.ensures
     ∙ ap (λ q. map (pos_before q s.size) (buckets_left t.header.len c.controls-controls.result.now 0 marks)) z
     ∙ ap (map (pos_before t.header.controls_pos s.size)) (left g after)
-    ∙ read_places w s g.T.HasSpec.laws (table_bytes t) (table_pos t) t.header.controls_pos (λ h. t.decoded.controls_pos (rw t.decoded.cap h))
+    ∙ read_positions w s g.T.HasSpec.laws (table_bytes t) (table_pos t) t.header.controls_pos (λ h. t.decoded.controls_pos (rw t.decoded.cap h))
 
 pub returns-clause-count : goal.returns-clause-count
 returns-clause-count g c =
     let w = g.W.Word.word in
     let s = g.T.HasSpec.spec in
     let t = c.args.self in
-    ap length (returns-clause-positions g c) ∙ places_count w s g.T.HasSpec.laws (table_bytes t) (table_pos t) c.args.self.valid
+    ap length (returns-clause-positions g c) ∙ positions_count w s g.T.HasSpec.laws (table_bytes t) (table_pos t) c.args.self.valid
 
 pub returns-clause-all_valid : goal.returns-clause-all_valid
 returns-clause-all_valid g c =
     let w = g.W.Word.word in
     let s = g.T.HasSpec.spec in
     let t = c.args.self in
-    let all = All-same (Viewable s (table_bytes t)) (positions_left t.header.controls_pos c.size.result t.header.len c.controls-controls.result.now 0 (mask_places 8 7 8 c.first_marks.result.bits)) (item_positions w s.size (table_bytes t) (table_pos t))
-    (returns-clause-positions g c) (places_viewable w s g.T.HasSpec.laws (table_bytes t) (table_pos t) c.args.self.valid) in
+    let all = All-same (Viewable s (table_bytes t)) (positions_left t.header.controls_pos c.size.result t.header.len c.controls-controls.result.now 0 (mask_indices 8 7 8 c.first_marks.result.bits)) (item_positions w s.size (table_bytes t) (table_pos t))
+    (returns-clause-positions g c) (positions_viewable w s g.T.HasSpec.laws (table_bytes t) (table_pos t) c.args.self.valid) in
     rw c.bytes.ensures all

@@ -1,7 +1,7 @@
 use Rattle.std.proofs.Common.{arith, ◌≡◌, ◌+◌, ◌-◌}
 use Rattle.std.proofs.lemmas.Result.{err_from_is_err_and}
 use Rattle.rkyv_base.specs.Pairs.{written_as}
-use Rattle.rkyv_table.proofs.BucketSteps.{Down, down_rooms, down_read, down_step, down_init, down_end, bucket_fails, overflow_fails}
+use Rattle.rkyv_table.proofs.BucketSteps.{Down, bucket_fails, down_end, down_init, down_read, down_rooms, down_step, overflow_fails}
 use Rattle.rkyv_table.proofs.table.buckets.write_by.Goals as goal
 use Rattle.rkyv_table.proofs.table.buckets.write_by.Goals.{In-loop-above}
 
@@ -24,29 +24,29 @@ fill_bucket-requires-clause-some g c =
     let e = down_read g.U.Archived.HasSpec.spec.size g.W.Width.LIMIT (written_as g.X.Lend.lent g.U.Archive.format) c.args.slots.now c.args.resolvers.items (g.S.Writer.output c.args.serializer.now) (c.loop-above.above - 1) c.loop-above.rest.items (g.S.Writer.output c.loop-above.serializer) (g.S.Writer.output c.loop-above.serializer) d c.index-slots-above.result c.index-slots-above.is in
     down_rooms g.U.Archived.HasSpec.spec.size g.W.Width.LIMIT (written_as g.X.Lend.lent g.U.Archive.format) c.args.slots.now c.args.resolvers.items (g.S.Writer.output c.args.serializer.now) (c.loop-above.above - 1) c.loop-above.rest.items (g.S.Writer.output c.loop-above.serializer) (g.S.Writer.output c.loop-above.serializer) d c.index-slots-above.result e
 
-pub returns-in-Err-clause-answer : goal.returns-in-Err-clause-answer
-returns-in-Err-clause-answer g c =
-    let d = down_here g (goal.at.returns-in-Err-clause-answer g c).In-loop-above in
+pub returns-in-Err-clause-writes : goal.returns-in-Err-clause-writes
+returns-in-Err-clause-writes g c =
+    let d = down_here g (goal.at.returns-in-Err-clause-writes g c).In-loop-above in
     let e = down_read g.U.Archived.HasSpec.spec.size g.W.Width.LIMIT (written_as g.X.Lend.lent g.U.Archive.format) c.args.slots.now c.args.resolvers.items (g.S.Writer.output c.args.serializer.now) (c.loop-above.above - 1) c.loop-above.rest.items (g.S.Writer.output c.loop-above.serializer) (g.S.Writer.output c.loop-above.serializer) d c.index-slots-above.result c.index-slots-above.is in
-    overflow_fails g.U.Archived.HasSpec.spec.size g.W.Width.LIMIT (written_as g.X.Lend.lent g.U.Archive.format) c.args.slots.now c.args.resolvers.items (g.S.Writer.output c.args.serializer.now) (c.loop-above.above - 1) c.loop-above.rest.items (g.S.Writer.output c.loop-above.serializer) (g.S.Writer.output c.loop-above.serializer) d c.index-slots-above.result e (rw c.pos.ensures at c.in-Err.ensures.answer)
+    overflow_fails g.U.Archived.HasSpec.spec.size g.W.Width.LIMIT (written_as g.X.Lend.lent g.U.Archive.format) c.args.slots.now c.args.resolvers.items (g.S.Writer.output c.args.serializer.now) (c.loop-above.above - 1) c.loop-above.rest.items (g.S.Writer.output c.loop-above.serializer) (g.S.Writer.output c.loop-above.serializer) d c.index-slots-above.result e (rw c.pos.ensures at c.in-Err.ensures.writes)
 
-pub returns-in_err-append_in-clause-answer : goal.returns-in_err-append_in-clause-answer
-returns-in_err-append_in-clause-answer g c =
-    let d = down_here g (goal.at.returns-in_err-append_in-clause-answer g c).In-loop-above in
+pub returns-in_err-append_in-clause-writes : goal.returns-in_err-append_in-clause-writes
+returns-in_err-append_in-clause-writes g c =
+    let d = down_here g (goal.at.returns-in_err-append_in-clause-writes g c).In-loop-above in
     let e = down_read g.U.Archived.HasSpec.spec.size g.W.Width.LIMIT (written_as g.X.Lend.lent g.U.Archive.format) c.args.slots.now c.args.resolvers.items (g.S.Writer.output c.args.serializer.now) (c.loop-above.above - 1) c.loop-above.rest.items (g.S.Writer.output c.loop-above.serializer) (g.S.Writer.output c.append_in.new.serializer) d c.index-slots-above.result c.index-slots-above.is in
     let p = err_from_is_err_and c.from_residual.result c.from_residual.ensures.1 in
-    rw (p.1, p.2) (bucket_fails g.U.Archived.HasSpec.spec.size g.W.Width.LIMIT (written_as g.X.Lend.lent g.U.Archive.format) c.args.slots.now c.args.resolvers.items (g.S.Writer.output c.args.serializer.now) (c.loop-above.above - 1) c.loop-above.rest.items (g.S.Writer.output c.loop-above.serializer) (g.S.Writer.output c.append_in.new.serializer) d c.index-slots-above.result e c.fill_bucket.new.rest.items c.fill_bucket.new.bucket c.in_err-append_in.field-0.0 (rw c.pos.ensures at c.in-Ok.ensures.answer) c.in_err-append_in.ensures)
+    rw (p.1, p.2) (bucket_fails g.U.Archived.HasSpec.spec.size g.W.Width.LIMIT (written_as g.X.Lend.lent g.U.Archive.format) c.args.slots.now c.args.resolvers.items (g.S.Writer.output c.args.serializer.now) (c.loop-above.above - 1) c.loop-above.rest.items (g.S.Writer.output c.loop-above.serializer) (g.S.Writer.output c.append_in.new.serializer) d c.index-slots-above.result e c.fill_bucket.new.rest.items c.fill_bucket.new.bucket c.in_err-append_in.field-0.0 (rw c.pos.ensures at c.in-Ok.ensures.writes) c.in_err-append_in.ensures)
 
 pub loop-above-preserved : goal.loop-above-preserved
 loop-above-preserved g c =
     let d = down_here g (goal.at.loop-above-preserved g c).In-loop-above in
     let e = down_read g.U.Archived.HasSpec.spec.size g.W.Width.LIMIT (written_as g.X.Lend.lent g.U.Archive.format) c.args.slots.now c.args.resolvers.items (g.S.Writer.output c.args.serializer.now) (c.loop-above.above - 1) c.loop-above.rest.items (g.S.Writer.output c.loop-above.serializer) (g.S.Writer.output c.append_in.new.serializer) d c.index-slots-above.result c.index-slots-above.is in
     record {
-      down = down_step g.U.Archived.HasSpec.spec.size g.W.Width.LIMIT (written_as g.X.Lend.lent g.U.Archive.format) c.args.slots.now c.args.resolvers.items (g.S.Writer.output c.args.serializer.now) (c.loop-above.above - 1) c.loop-above.rest.items (g.S.Writer.output c.loop-above.serializer) (g.S.Writer.output c.append_in.new.serializer) d c.index-slots-above.result c.fill_bucket.new.rest.items c.fill_bucket.new.bucket e (rw c.pos.ensures at c.in-Ok.ensures.answer) c.in-Ok.ensures.kept c.in_ok-append_in.ensures.0 c.in_ok-append_in.ensures.1;
+      down = down_step g.U.Archived.HasSpec.spec.size g.W.Width.LIMIT (written_as g.X.Lend.lent g.U.Archive.format) c.args.slots.now c.args.resolvers.items (g.S.Writer.output c.args.serializer.now) (c.loop-above.above - 1) c.loop-above.rest.items (g.S.Writer.output c.loop-above.serializer) (g.S.Writer.output c.append_in.new.serializer) d c.index-slots-above.result c.fill_bucket.new.rest.items c.fill_bucket.new.bucket e (rw c.pos.ensures at c.in-Ok.ensures.writes) c.in-Ok.ensures.kept c.in_ok-append_in.ensures.0 c.in_ok-append_in.ensures.1;
       room = c.in-Ok.ensures.kept;
     }
 
-pub returns-clause-answer : goal.returns-clause-answer
-returns-clause-answer g c =
+pub returns-clause-writes : goal.returns-clause-writes
+returns-clause-writes g c =
     let z : c.loop-above.above ≡ 0 = omega (arith, c.loop-above-test.false) in
     down_end g.U.Archived.HasSpec.spec.size g.W.Width.LIMIT (written_as g.X.Lend.lent g.U.Archive.format) c.args.slots.now c.args.resolvers.items (g.S.Writer.output c.args.serializer.now) c.loop-above.rest.items (g.S.Writer.output c.loop-above.serializer) (rw z at c.loop-above.invariant.down)

@@ -4,7 +4,7 @@ use Rattle.std.proofs.lemmas.List.{take_all}
 use Rattle.std.proofs.lemmas.List.{get_or_default}
 use Rattle.rkyv_base.specs.Pairs.{written_as}
 use Rattle.rkyv_base.proofs.WritingSteps.{appends_after, grows, within_after}
-use Rattle.rkyv_table.proofs.PartSteps.{step_none, step_some, step_room, step_fails}
+use Rattle.rkyv_table.proofs.PartSteps.{step_fails, step_none, step_room, step_some}
 use Rattle.rkyv_table.proofs.table.parts.serialize_slots.Goals as goal
 use Rattle.rkyv_table.proofs.table.parts.serialize_slots.Goals.{in-Some+in_ok-resolver, in_default}
 

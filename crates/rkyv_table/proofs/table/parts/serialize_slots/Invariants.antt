@@ -1,6 +1,6 @@
 use Rattle.std.proofs.Common.{ℕ, List, take, vec_capacity, ◌≤◌}
 use Rattle.rkyv_base.specs.Pairs.{written_as}
-use Rattle.rkyv_base.specs.Writing.{end_of, Appends, Within}
+use Rattle.rkyv_base.specs.Writing.{Appends, Within, end_of}
 use Rattle.rkyv_table.specs.Table.Slots.{SlotParts, filled}
 use Rattle.rkyv_table.proofs.table.parts.serialize_slots.Given as goal
 

@@ -1,9 +1,9 @@
 use Rattle.std.proofs.Common.{arith, ◌≡◌, ◌+◌, ◌++◌, ◌∷◌, [], ℕ, List, length, refl, ap, ◌∙◌, inl, inr, length-append, Option, Some}
 use Rattle.std.specs.Iterator.{Yields}
-use Rattle.std.proofs.lemmas.List.{length_push, length-map, map-append}
+use Rattle.std.proofs.lemmas.List.{length-map, length_push, map-append}
 use Rattle.rkyv_table.specs.Table.Counting.{Counted, CountedOn}
-use Rattle.rkyv_table.specs.Table.PlacedItems.{items_of, hashes_of}
-use Rattle.rkyv_table.proofs.PlacingSteps.{yields_more, yields_join, placed_none}
+use Rattle.rkyv_table.specs.Table.PlacedItems.{hashes_of, items_of}
+use Rattle.rkyv_table.proofs.PlacingSteps.{placed_none, yields_join, yields_more}
 use Rattle.rkyv_table.proofs.table.take_two.take_two.Goals as goal
 
 pub loop-count-init : goal.loop-count-init

@@ -1,7 +1,7 @@
 use Rattle.std.proofs.Common.{◌≡◌, ◌∙◌, ◌+◌, ◌≤◌, ◌∷◌, List, ap, arith, drop, ℕ, sym}
 use Rattle.std.proofs.lemmas.Result.{err_from_is_err_and}
 use Rattle.rkyv_table.specs.Controls.Walking.{full_from}
-use Rattle.rkyv_table.proofs.ItemSteps.{IsPartlyChecked, below_head, below_rest, fewer, checked_end, checked_fails, checked_init, checked_same, checked_small, checked_step, marks_and_rest, marks_below, rest_group, rest_head, rest_none}
+use Rattle.rkyv_table.proofs.ItemSteps.{IsPartlyChecked, below_head, below_rest, checked_end, checked_fails, checked_init, checked_same, checked_small, checked_step, fewer, marks_and_rest, marks_below, rest_group, rest_head, rest_none}
 use Rattle.rkyv_table.proofs.Search.{width_some}
 use Rattle.rkyv_table.proofs.SealedItems.{full_end, full_skipped, full_taken}
 use Rattle.rkyv_table.proofs.table.verify.check_items.Goals as goal
@@ -20,7 +20,7 @@ loop-j-init g c =
     let b = c.loop-base.base in
     let t = c.loop-base-test.true in
     let i = c.loop-base.invariant.below in
-    let marks : List ℕ = g.G.Mask.Marks.places c.match_full-marks.result in
+    let marks : List ℕ = g.G.Mask.Marks.indices c.match_full-marks.result in
     let shows : List ℕ = g.G.GroupKind.controls c.read.result in
     let inside : b + w ≤ c.args.cap = omega arith in
     record {
@@ -33,22 +33,22 @@ loop-j-init g c =
 -- a marked bucket
 module _ (g : _) (c : In-Some g) where
   abbrev rest : List ℕ
-  rest = marks_and_rest c.args.controls.now c.args.cap c.loop-base.base g.G.GroupKind.kind.width (drop 1 (g.G.Mask.Marks.places c.loop-j.marks))
+  rest = marks_and_rest c.args.controls.now c.args.cap c.loop-base.base g.G.GroupKind.kind.width (drop 1 (g.G.Mask.Marks.indices c.loop-j.marks))
 
   here : IsPartlyChecked g.T.HasSpec.spec c.args.begin c.args.cap c.args.bytes.now c.args.controls.now c.args.lo ((c.loop-base.base + c.in-Some.j) ∷ rest) c.loop-j.low c.loop-j.count
   here = checked_same g.T.HasSpec.spec c.args.begin c.args.cap c.args.bytes.now c.args.controls.now c.args.lo _ _ c.loop-j.low c.loop-j.count
-      (rest_head c.args.controls.now c.args.cap c.loop-base.base g.G.GroupKind.kind.width c.in-Some.j (g.G.Mask.Marks.places c.loop-j.marks) c.in-Some.ensures) c.loop-j.invariant.checked
+      (rest_head c.args.controls.now c.args.cap c.loop-base.base g.G.GroupKind.kind.width c.in-Some.j (g.G.Mask.Marks.indices c.loop-j.marks) c.in-Some.ensures) c.loop-j.invariant.checked
 
 pub overflow_add-base : goal.overflow_add-base
 overflow_add-base g c =
-    let l = below_head g.G.GroupKind.kind.width c.in-Some.j (g.G.Mask.Marks.places c.loop-j.marks) c.loop-j.invariant.below c.in-Some.ensures in
+    let l = below_head g.G.GroupKind.kind.width c.in-Some.j (g.G.Mask.Marks.indices c.loop-j.marks) c.loop-j.invariant.below c.in-Some.ensures in
     let i = c.loop-j.invariant.inside in
     let r = c.ranges.cap.fits in
     record { fits = omega arith }
 
 pub check_item-requires-clause-bucket : goal.check_item-requires-clause-bucket
 check_item-requires-clause-bucket g c =
-    let l = below_head g.G.GroupKind.kind.width c.in-Some.j (g.G.Mask.Marks.places c.loop-j.marks) c.loop-j.invariant.below c.in-Some.ensures in
+    let l = below_head g.G.GroupKind.kind.width c.in-Some.j (g.G.Mask.Marks.indices c.loop-j.marks) c.loop-j.invariant.below c.in-Some.ensures in
     let i = c.loop-j.invariant.inside in
     omega arith
 
@@ -69,10 +69,10 @@ pub loop-j-preserved : goal.loop-j-preserved
 loop-j-preserved g c =
     let arm = (goal.at.loop-j-preserved g c).In-Some in
     let step = checked_step g.T.HasSpec.spec c.args.begin c.args.cap c.args.bytes.now c.args.controls.now c.args.lo (c.loop-base.base + c.in-Some.j) (rest g arm) c.loop-j.low c.loop-j.count c.in_ok-low.low (here g arm) c.in_ok-low.ensures.1 c.in_ok-low.ensures.2 in
-    rw c.remove_lowest_bit-marks.ensures (record { inside = c.loop-j.invariant.inside; below = below_rest g.G.GroupKind.kind.width (g.G.Mask.Marks.places c.loop-j.marks) c.loop-j.invariant.below; checked = step })
+    rw c.remove_lowest_bit-marks.ensures (record { inside = c.loop-j.invariant.inside; below = below_rest g.G.GroupKind.kind.width (g.G.Mask.Marks.indices c.loop-j.marks) c.loop-j.invariant.below; checked = step })
 
 pub loop-j-smaller : goal.loop-j-smaller
-loop-j-smaller g c = rw c.remove_lowest_bit-marks.ensures (fewer (g.G.Mask.Marks.places c.loop-j.marks) c.in-Some.j c.in-Some.ensures)
+loop-j-smaller g c = rw c.remove_lowest_bit-marks.ensures (fewer (g.G.Mask.Marks.indices c.loop-j.marks) c.in-Some.j c.in-Some.ensures)
 
 pub loop-base-preserved : goal.loop-base-preserved
 loop-base-preserved g c =
@@ -83,7 +83,7 @@ loop-base-preserved g c =
     record {
       below = omega arith;
       checked = checked_same g.T.HasSpec.spec c.args.begin c.args.cap c.args.bytes.now c.args.controls.now c.args.lo _ _ c.loop-j.low c.loop-j.count
-          (rest_none c.args.controls.now c.args.cap b w (g.G.Mask.Marks.places c.loop-j.marks) c.in_default.ensures ∙ ap (λ z. full_from c.args.controls.now c.args.cap (b + z)) (sym e)) c.loop-j.invariant.checked;
+          (rest_none c.args.controls.now c.args.cap b w (g.G.Mask.Marks.indices c.loop-j.marks) c.in_default.ensures ∙ ap (λ z. full_from c.args.controls.now c.args.cap (b + z)) (sym e)) c.loop-j.invariant.checked;
     }
 
 pub loop-base-smaller : goal.loop-base-smaller

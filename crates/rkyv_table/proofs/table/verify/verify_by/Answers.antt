@@ -1,4 +1,4 @@
-use Rattle.std.proofs.Common.{rules, inl, inr, FitsSigned}
+use Rattle.std.proofs.Common.{FitsSigned, inl, inr, rules}
 use Rattle.std.specs.Int.{w128}
 use Rattle.std.proofs.lemmas.Result.{err_from_is_err_and}
 use Rattle.rkyv_table.specs.Lemmas.TableLaws.{fails_of_numbers}

@@ -12,4 +12,4 @@ pub get_seal-requires-in-Some-clause-map : goal.get_seal-requires-in-Some-clause
 get_seal-requires-in-Some-clause-map c =
     let things = map_spec w32 (text_spec w32) (scalar_spec (unsigned w32)) in
     let at = c.into_archive.ensures in
-    subst (λ b. Viewable things b (pos_in c.into_archive.result)) (sym at.bytes) (subst (Viewable things (bytes_in c.in-Some.things)) (sym at.place) c.in-Some.ensures.viewable)
+    subst (λ b. Viewable things b (pos_in c.into_archive.result)) (sym at.bytes) (subst (Viewable things (bytes_in c.in-Some.things)) (sym at.pos) c.in-Some.ensures.viewable)

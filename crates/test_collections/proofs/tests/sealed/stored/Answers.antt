@@ -6,7 +6,7 @@ use Rattle.rkyv_base.specs.Scalar.{ScalarRepresents}
 use Rattle.rkyv_base.specs.Sealing.{value_pos}
 use Rattle.rkyv_base.specs.ElementSpec.{Viewable}
 use Rattle.rkyv_keys.specs.Lemmas.QueryLaws.{rests_on_keys}
-use Rattle.rkyv_collections.proofs.SealedMap.{pair_place}
+use Rattle.rkyv_collections.proofs.SealedMap.{pair_pos}
 use Rattle.rkyv_collections.proofs.ValueWrites.{rests_on_each}
 use Rattle.test_collections.proofs.tests.sealed.stored.Goals as goal
 
@@ -22,14 +22,14 @@ pub new-requires : goal.new-requires
 new-requires g c =
     let v = g.N.HasSpec.spec in
     let t = c.in-Some-value_found.ensures.walked in
-    let at = pair_place g.W.Word.word g.K.HasSpec.spec v g.K.HasSpec.laws g.N.HasSpec.laws c.write_value.new.bytes c.args.root c.write_value.ensures.kept.1.valid t.0 t.1 in
+    let at = pair_pos g.W.Word.word g.K.HasSpec.spec v g.K.HasSpec.laws g.N.HasSpec.laws c.write_value.new.bytes c.args.root c.write_value.ensures.kept.1.valid t.0 t.1 in
     subst (Viewable v c.write_value.new.bytes) (sym t.2) at.value
 
 pub to_native-requires : goal.to_native-requires
 to_native-requires g c =
     let v = g.N.HasSpec.spec in
     let t = c.in-Some-value_found.ensures.walked in
-    let at = pair_place g.W.Word.word g.K.HasSpec.spec v g.K.HasSpec.laws g.N.HasSpec.laws c.write_value.new.bytes c.args.root c.write_value.ensures.kept.1.valid t.0 t.1 in
+    let at = pair_pos g.W.Word.word g.K.HasSpec.spec v g.K.HasSpec.laws g.N.HasSpec.laws c.write_value.new.bytes c.args.root c.write_value.ensures.kept.1.valid t.0 t.1 in
     rw (c.new.ensures.0, c.new.ensures.1) (subst (Viewable v c.write_value.new.bytes) (sym t.2) at.value)
 
 pub returns-in-Some-value_found : goal.returns-in-Some-value_found
@@ -41,10 +41,10 @@ returns-in-Some-value_found g c =
     let hash = hash_of_calls h.hasher (g.Q.KeyHash.calls c.args.key.now) in
     let one = c.write_value.ensures.kept.1.lookups hash (g.Q.Query.fits c.args.key.now) (g.met.H.KeyHasher.fits (g.Q.KeyHash.calls c.args.key.now))
     (rests_on_each g.K.HasSpec.spec g.Q.KeyHash.can_read g.Q.Query.fits (rests_on_keys g.K.HasSpec.laws g.met.K.ElementEquiv.equivalence g.met.K.KeyElement.key g.met.Q.Query.query) c.args.key.now c.requires.query) in
-    let first = c.in-Some.ensures.answer in
-    let place : c.in-Some-value_found.found ≡ c.in-Some.pos = same_Some c.in-Some-value_found.found c.in-Some.pos (c.in-Some-value_found.ensures.answer ∙ ap (option_map f) one ∙ sym first) in
+    let first = c.in-Some.ensures.finds in
+    let same_pos : c.in-Some-value_found.found ≡ c.in-Some.pos = same_Some c.in-Some-value_found.found c.in-Some.pos (c.in-Some-value_found.ensures.finds ∙ ap (option_map f) one ∙ sym first) in
     let read : ScalarRepresents e d c.in-Some-value_found.found c.to_native.result = rw (c.new.ensures.0, c.new.ensures.1) at c.to_native.ensures in
-    let new : c.to_native.result ≡ c.args.value = sym (subst (λ n. ScalarRepresents e d n c.to_native.result) place read) ∙ c.write_value.ensures.reads in
+    let new : c.to_native.result ≡ c.args.value = sym (subst (λ n. ScalarRepresents e d n c.to_native.result) same_pos read) ∙ c.write_value.ensures.reads in
     ap Some new ∙ sym (given f _ c.in-Some.pos c.args.value first)
 
 pub returns-in-None-value_found : goal.returns-in-None-value_found
@@ -54,4 +54,4 @@ returns-in-None-value_found g c =
     let hash = hash_of_calls h.hasher (g.Q.KeyHash.calls c.args.key.now) in
     let one = c.write_value.ensures.kept.1.lookups hash (g.Q.Query.fits c.args.key.now) (g.met.H.KeyHasher.fits (g.Q.KeyHash.calls c.args.key.now))
     (rests_on_each g.K.HasSpec.spec g.Q.KeyHash.can_read g.Q.Query.fits (rests_on_keys g.K.HasSpec.laws g.met.K.ElementEquiv.equivalence g.met.K.KeyElement.key g.met.Q.Query.query) c.args.key.now c.requires.query) in
-    absurd (none-some c.in-Some.pos (c.in-None-value_found.ensures.answer ∙ ap (option_map f) one ∙ sym c.in-Some.ensures.answer))
+    absurd (none-some c.in-Some.pos (c.in-None-value_found.ensures.finds ∙ ap (option_map f) one ∙ sym c.in-Some.ensures.finds))

@@ -1,6 +1,6 @@
 use Rattle.std.proofs.Common.{rules, ◌≡◌, ◌∙◌, sym, subst, List, ℕ, Option, None, Some}
 use Rattle.std.specs.Int.{Width}
-use Rattle.rkyv_base.specs.Sealing.{Sealed, Keeps}
+use Rattle.rkyv_base.specs.Sealing.{Keeps, Sealed}
 use Rattle.rkyv_base.specs.ElementSpec.{ElementSpec, Viewable}
 use Rattle.rkyv_table.specs.Table.SealedItems.{IsItemAt, IsSealIter, StepsAndWrites}
 use Rattle.rkyv_table.specs.Table.Layout.{table_spec}
@@ -25,7 +25,7 @@ step_keeps w s p before after result h is good = step_kept w s p _ good before a
 pub loop-preserved : goal.loop-preserved
 loop-preserved g c = (
   c.next_seal_with.ensures.reference ∙ c.loop.invariant.0,
-  step_keeps g.W.Word.word g.N.HasSpec.spec c.args.pos _ _ _ c.next_seal_with.ensures.steps c.loop.invariant.1 (λ b d q h. rw (sym h.bytes, sym h.place, sym (h.leaves h.met.0.same_reference)) h.met.1),
+  step_keeps g.W.Word.word g.N.HasSpec.spec c.args.pos _ _ _ c.next_seal_with.ensures.steps c.loop.invariant.1 (λ b d q h. rw (sym h.bytes, sym h.pos, sym (h.leaves h.met.0.same_reference)) h.met.1),
 )
 
 pub returns : goal.returns

@@ -7,7 +7,7 @@ use Rattle.rkyv_collections.specs.Map.MapFormat.{hash_of}
 use Rattle.rkyv_collections.specs.Set.SetFormat.{set_format}
 use Rattle.rkyv_table.specs.Table.ItemValues.{key_values}
 use Rattle.rkyv_table.specs.declared.table.list_inputs.Refs.{Refs}
-use Rattle.rkyv_table.proofs.Listing.{all_came, answers_listed, no_other_came}
+use Rattle.rkyv_table.proofs.Listing.{all_came, no_other_came, results_listed}
 use Rattle.rkyv_collections.proofs.lists.items.SetItemsSerialize.serialize.Goals as goal
 
 pub returns : goal.returns
@@ -22,7 +22,7 @@ returns g c =
     let f = set_format g.W.Word.word g.A.Archived.HasSpec.spec g.A.Archive.format hash factor in
     let all : iter_rest left.items ≡ values = search rules in
     let count : length values ≡ length values = refl in
-    answers_listed (Drains steps left) (YieldsOtherCount steps (length values) left) (key_values (λ k. k.now)) values
+    results_listed (Drains steps left) (YieldsOtherCount steps (length values) left) (key_values (λ k. k.now)) values
     (λ given d. all_came view rest given left d ∙ all) (λ n h. no_other_came view rest (length values) left (ap length all ∙ sym count) n h)
     (length values) count factor g.W.Width.MAX_CAPACITY g.W.Width.LIMIT f (g.S.Writer.output c.args.serializer.now) (g.S.Writer.output c.serialize_from_iter.new.serializer)
     c.serialize_from_iter.result c.serialize_from_iter.ensures

@@ -6,7 +6,7 @@ use Rattle.rkyv_table.specs.Table.Counting.{YieldsOtherCount}
 use Rattle.rkyv_table.specs.Table.ItemValues.{pair_values}
 use Rattle.rkyv_collections.specs.Map.MapFormat.{hash_of, map_format}
 use Rattle.rkyv_table.specs.declared.table.list_inputs.PairRefs.{PairRefs}
-use Rattle.rkyv_table.proofs.Listing.{all_came, answers_listed, no_other_came}
+use Rattle.rkyv_table.proofs.Listing.{all_came, no_other_came, results_listed}
 use Rattle.rkyv_collections.proofs.lists.pairs.MapPairsSerialize.serialize.Goals as goal
 
 pub returns : goal.returns
@@ -21,7 +21,7 @@ returns g c =
     let f = map_format g.W.Word.word g.A.Archived.HasSpec.spec g.B.Archived.HasSpec.spec g.A.Archive.format g.B.Archive.format hash factor in
     let all : iter_rest pairs.pairs ≡ values = search rules in
     let count : length values ≡ length values = refl in
-    answers_listed (Drains steps pairs) (YieldsOtherCount steps (length values) pairs) (pair_values (λ k. k.now) (λ k. k.now)) values
+    results_listed (Drains steps pairs) (YieldsOtherCount steps (length values) pairs) (pair_values (λ k. k.now) (λ k. k.now)) values
     (λ items d. all_came view rest items pairs d ∙ all) (λ n h. no_other_came view rest (length values) pairs (ap length all ∙ sym count) n h)
     (length values) count factor g.W.Width.MAX_CAPACITY g.W.Width.LIMIT f (g.S.Writer.output c.args.serializer.now) (g.S.Writer.output c.serialize_from_iter.new.serializer)
     c.serialize_from_iter.result c.serialize_from_iter.ensures

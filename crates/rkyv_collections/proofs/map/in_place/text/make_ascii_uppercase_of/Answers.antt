@@ -2,7 +2,7 @@ use Rattle.std.proofs.Common.{None, Some, ap, refl, subst}
 use Rattle.rkyv_scan.specs.Hash.{hash_of_calls}
 use Rattle.rkyv_base.specs.Text.{text_spec}
 use Rattle.rkyv_base.specs.Lemmas.Text.{text_element}
-use Rattle.rkyv_base.proofs.SealedText.{uppercased_valid, uppercased_sealed}
+use Rattle.rkyv_base.proofs.SealedText.{uppercased_sealed, uppercased_valid}
 use Rattle.rkyv_collections.specs.Map.InPlaceText.{UppercasesFound}
 use Rattle.rkyv_collections.specs.Map.{hash_at}
 use Rattle.rkyv_collections.proofs.NestedWrites.{value_nested_at}
@@ -11,8 +11,8 @@ use Rattle.rkyv_collections.proofs.SealedMap.{satisfies_implied}
 use Rattle.rkyv_collections.proofs.ValueWrites.{map_kept_at}
 use Rattle.rkyv_collections.proofs.map.in_place.text.make_ascii_uppercase_of.Goals as goal
 
-pub returns-in-Some-clause-answer : goal.returns-in-Some-clause-answer
-returns-in-Some-clause-answer g c =
+pub returns-in-Some-clause-uppercases : goal.returns-in-Some-clause-uppercases
+returns-in-Some-clause-uppercases g c =
     let w = g.W.Word.word in
     let key_hash = hash_at g.H.KeyHasher.hasher g.K.KeyElement.key_calls in
     let t = c.in-Some.ensures.walked in
@@ -22,7 +22,7 @@ returns-in-Some-clause-answer g c =
     let kept = map_kept_at g.K.HasSpec.spec (text_spec w) g.K.HasSpec.laws (text_element w g.met.W.Width.layout.kind) w key_hash
     (λ x y q lo hi l o is_valid fixed part. ap (hash_of_calls g.H.KeyHasher.hasher) (g.met.K.KeyElement.key.local x y q lo hi l o is_valid fixed part))
     c.args.archive.now c.uppercase_at.new.bytes c.args.root t.0 c.in-Some.pos c.requires.map t.1 t.2 sealed is_valid in
-    satisfies_implied _ _ _ _ (λ place at. subst (UppercasesFound w g.K.HasSpec.spec key_hash c.args.archive.now c.args.root (Some c.uppercase_at.result) c.uppercase_at.new.bytes) at (c.uppercase_at.result, refl, raised, (t.1.0, kept))) c.in-Some.ensures.finds
+    satisfies_implied _ _ _ _ (λ key_pos at. subst (UppercasesFound w g.K.HasSpec.spec key_hash c.args.archive.now c.args.root (Some c.uppercase_at.result) c.uppercase_at.new.bytes) at (c.uppercase_at.result, refl, raised, (t.1.0, kept))) c.in-Some.ensures.finds
 
 pub returns-in-Some-clause-listed : goal.returns-in-Some-clause-listed
 returns-in-Some-clause-listed g c = λ factor pairs st.
@@ -48,8 +48,8 @@ returns-in-None-clause-listed g c = λ factor pairs st.
     none_uppercased g.W.Word.word g.K.HasSpec.spec g.K.HasSpec.laws (text_element g.W.Word.word g.met.W.Width.layout.kind) g.K.Represents.represents (hash_at g.H.KeyHasher.hasher g.K.KeyElement.key_calls) factor b c.args.root pairs
     (g.A.Query.fits c.args.key.now b) (g.A.PartialEq.eq c.args.key.now) c.requires.map (λ a q s there. g.met.A.NativeKey.native c.args.key.now a b q s there) st (c.in-None.ensures.finds.first st.homes st.written)
 
-pub returns-in-None-clause-answer : goal.returns-in-None-clause-answer
-returns-in-None-clause-answer g c =
+pub returns-in-None-clause-uppercases : goal.returns-in-None-clause-uppercases
+returns-in-None-clause-uppercases g c =
     let b = c.args.archive.now in
-    satisfies_implied _ _ _ _ (λ place at. subst (UppercasesFound g.W.Word.word g.K.HasSpec.spec (hash_at g.H.KeyHasher.hasher g.K.KeyElement.key_calls) b c.args.root None b)
+    satisfies_implied _ _ _ _ (λ key_pos at. subst (UppercasesFound g.W.Word.word g.K.HasSpec.spec (hash_at g.H.KeyHasher.hasher g.K.KeyElement.key_calls) b c.args.root None b)
     at (refl, refl)) c.in-None.ensures.finds

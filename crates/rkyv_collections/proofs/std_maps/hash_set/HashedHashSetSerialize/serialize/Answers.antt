@@ -1,4 +1,4 @@
-use Rattle.std.proofs.Common.{subst, sym, List}
+use Rattle.std.proofs.Common.{List, subst, sym}
 use Rattle.std.specs.List.{IsDistinct}
 use Rattle.rkyv_base.specs.Empty.{unit_format, unit_spec}
 use Rattle.rkyv_table.specs.Table.Listed.{listed}

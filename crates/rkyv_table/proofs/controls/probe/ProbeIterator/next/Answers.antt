@@ -1,7 +1,7 @@
 use Rattle.std.proofs.Common.{◌≡◌, ◌∙◌, ℕ, ◌+◌, ◌*◌, ◌-◌, ◌∷◌, ◌<◌, ap, sym, arith, bit_and, length, rules}
 use Rattle.rkyv_table.specs.Controls.Numbers.{modulus, probe_capacity}
 use Rattle.rkyv_table.specs.Controls.Probe.{strides_from}
-use Rattle.rkyv_table.proofs.ProbeSteps.{modulus_small, masked_below, offset_below, stepped, place_is, takes, skips, ends, first_taken}
+use Rattle.rkyv_table.proofs.ProbeSteps.{ends, first_taken, masked_below, modulus_small, offset_below, probe_index_is, skips, stepped, takes}
 use Rattle.rkyv_table.proofs.controls.probe.ProbeIterator.next.Goals as goal
 use Rattle.rkyv_table.proofs.controls.probe.ProbeIterator.next.Goals.{In-loop-self}
 
@@ -32,7 +32,7 @@ module _ (c : In-loop-self) where
   step below =
       let p = c.loop-self.self-inside in
       let inv = c.loop-self.invariant in
-      let e : pos ≡ _ = rw modulus_is (place_is p.cap p.start p.offset p.index inv.begun inv.is) in
+      let e : pos ≡ _ = rw modulus_is (probe_index_is p.cap p.start p.offset p.index inv.begun inv.is) in
       sym c.self.view_is ∙ inv.same ∙ takes p.cap p.start p.index pos (rw modulus_is at c.loop-self-test.true) e (rw limit_is at below)
 
 pub overflow_add-self : goal.overflow_add-self
@@ -84,7 +84,7 @@ loop-self-preserved c =
     let p = c.loop-self.self-inside in
     let inv = c.loop-self.invariant in
     let turn = (goal.at.loop-self-preserved c).In-loop-self in
-    let e : pos turn ≡ _ = rw (modulus_is turn) (place_is p.cap p.start p.offset p.index inv.begun inv.is) in
+    let e : pos turn ≡ _ = rw (modulus_is turn) (probe_index_is p.cap p.start p.offset p.index inv.begun inv.is) in
     record {
       is = rw (modulus_is turn) (stepped p.cap p.start p.offset p.index inv.begun inv.is);
       begun = omega arith;

@@ -1,14 +1,14 @@
 use Rattle.std.proofs.Common.{◌≡◌, ◌+◌, ◌∷◌, ◌∙◌, ap, arith, sym, length, rules}
-use Rattle.rkyv_table.specs.Controls.Walking.{left, full_from}
+use Rattle.rkyv_table.specs.Controls.Walking.{full_from, left}
 use Rattle.rkyv_table.proofs.Groups.{width_small}
-use Rattle.rkyv_table.proofs.Walks.{group_walk, left_group, left_none, takes_place, keeps_walk, ends_past, ends_last, ends_full, head_inside, walk_of, walk_from}
+use Rattle.rkyv_table.proofs.Walks.{ends_full, ends_last, ends_past, group_walk, head_inside, keeps_walk, left_group, left_none, takes_index, walk_from, walk_of}
 use Rattle.rkyv_table.proofs.controls.walk.WalkIterator.next.Goals as goal
 
 pub overflow_add-bucket : goal.overflow_add-bucket
 overflow_add-bucket g c =
     let s = c.loop-self.self-inside in
     let w = width_small g.G.GroupKind.kind g.met.G.GroupKind.lawful in
-    let l = head_inside s.controls.now s.cap s.base g.G.GroupKind.kind.width c.in-Some.j (g.G.Mask.Marks.places s.marks) c.loop-self.invariant.is c.in-Some.ensures in
+    let l = head_inside s.controls.now s.cap s.base g.G.GroupKind.kind.width c.in-Some.j (g.G.Mask.Marks.indices s.marks) c.loop-self.invariant.is c.in-Some.ensures in
     let count = c.loop-self.invariant.is.count in
     let t = c.loop-self-test.true in
     record { fits = omega arith }
@@ -16,21 +16,21 @@ overflow_add-bucket g c =
 pub returns-then-bucket-self-clause-steps : goal.returns-then-bucket-self-clause-steps
 returns-then-bucket-self-clause-steps g c =
     let s = c.loop-self.self-inside in
-    let e = ends_past s.controls.now s.cap s.base g.G.GroupKind.kind.width c.in-Some.j (g.G.Mask.Marks.places s.marks)
-    (walk_from s.controls.now s.cap s.base g.G.GroupKind.kind.width (g.G.Mask.Marks.places s.marks) c.loop-self.invariant.is) c.in-Some.ensures c.if-bucket-self.true in
+    let e = ends_past s.controls.now s.cap s.base g.G.GroupKind.kind.width c.in-Some.j (g.G.Mask.Marks.indices s.marks)
+    (walk_from s.controls.now s.cap s.base g.G.GroupKind.kind.width (g.G.Mask.Marks.indices s.marks) c.loop-self.invariant.is) c.in-Some.ensures c.if-bucket-self.true in
     (sym c.self.view_is ∙ c.loop-self.invariant.value ∙ e, e)
 
 pub invariant_of-self-in-Some : goal.invariant_of-self-in-Some
 invariant_of-self-in-Some g c =
     let s = c.loop-self.self-inside in
-    keeps_walk s.controls.now s.cap s.base g.G.GroupKind.kind.width c.in-Some.j (g.G.Mask.Marks.places s.marks) _ c.loop-self.invariant.is c.in-Some.ensures c.remove_lowest_bit-self-inside.ensures
+    keeps_walk s.controls.now s.cap s.base g.G.GroupKind.kind.width c.in-Some.j (g.G.Mask.Marks.indices s.marks) _ c.loop-self.invariant.is c.in-Some.ensures c.remove_lowest_bit-self-inside.ensures
 
 pub returns-in-Some-clause-steps : goal.returns-in-Some-clause-steps
 returns-in-Some-clause-steps g c =
     let s = c.loop-self.self-inside in
     sym c.self.view_is
     ∙ c.loop-self.invariant.value
-    ∙ takes_place s.controls.now s.cap s.base g.G.GroupKind.kind.width c.in-Some.j (g.G.Mask.Marks.places s.marks) c.in-Some.ensures c.if-bucket-self.false
+    ∙ takes_index s.controls.now s.cap s.base g.G.GroupKind.kind.width c.in-Some.j (g.G.Mask.Marks.indices s.marks) c.in-Some.ensures c.if-bucket-self.false
     ∙ ap (λ xs. (s.base + c.in-Some.j) ∷ left s.controls.now s.cap s.base g.G.GroupKind.kind.width xs) (sym c.remove_lowest_bit-self-inside.ensures)
 
 pub returns-then-self-WIDTH-clause-steps : goal.returns-then-self-WIDTH-clause-steps
@@ -38,14 +38,14 @@ returns-then-self-WIDTH-clause-steps g c =
     let s = c.loop-self.self-inside in
     let t = c.if-self-WIDTH.true in
     let w : c.WIDTH.result ≡ g.G.GroupKind.kind.width = c.WIDTH.ensures ∙ g.met.G.GroupKind.width in
-    let e = ends_last s.controls.now s.cap s.base g.G.GroupKind.kind.width (g.G.Mask.Marks.places s.marks) c.in_default.ensures (omega arith) in
+    let e = ends_last s.controls.now s.cap s.base g.G.GroupKind.kind.width (g.G.Mask.Marks.indices s.marks) c.in_default.ensures (omega arith) in
     (sym c.self.view_is ∙ c.loop-self.invariant.value ∙ e, e)
 
 pub returns-clause-steps : goal.returns-clause-steps
 returns-clause-steps g c =
     let s = c.loop-self.self-inside in
-    let e = ends_full s.controls.now s.cap s.base g.G.GroupKind.kind.width (g.G.Mask.Marks.places s.marks)
-    (walk_from s.controls.now s.cap s.base g.G.GroupKind.kind.width (g.G.Mask.Marks.places s.marks) c.loop-self.invariant.is) c.loop-self-test.false in
+    let e = ends_full s.controls.now s.cap s.base g.G.GroupKind.kind.width (g.G.Mask.Marks.indices s.marks)
+    (walk_from s.controls.now s.cap s.base g.G.GroupKind.kind.width (g.G.Mask.Marks.indices s.marks) c.loop-self.invariant.is) c.loop-self-test.false in
     (sym c.self.view_is ∙ c.loop-self.invariant.value ∙ e, e)
 
 pub read-requires : goal.read-requires
@@ -66,13 +66,13 @@ loop-self-preserved g c =
     let v : c.WIDTH-in-loop-self.result ≡ g.G.GroupKind.kind.width = c.WIDTH-in-loop-self.ensures ∙ g.met.G.GroupKind.width in
     let inv = c.loop-self.invariant in
     let shows = g.G.GroupKind.controls c.read.result in
-    let places = g.G.Mask.Marks.places c.match_full-self-inside.result in
+    let indices = g.G.Mask.Marks.indices c.match_full-self-inside.result in
     let base = s.base + c.WIDTH-in-loop-self.result in
-    let e = left_none s.controls.now s.cap s.base g.G.GroupKind.kind.width (g.G.Mask.Marks.places s.marks) c.in_default.ensures in
-    let f = left_group s.controls.now shows s.cap base g.G.GroupKind.kind.width places c.loop-self.invariant.is.count (omega arith) c.read.ensures c.match_full-self-inside.ensures in
+    let e = left_none s.controls.now s.cap s.base g.G.GroupKind.kind.width (g.G.Mask.Marks.indices s.marks) c.in_default.ensures in
+    let f = left_group s.controls.now shows s.cap base g.G.GroupKind.kind.width indices c.loop-self.invariant.is.count (omega arith) c.read.ensures c.match_full-self-inside.ensures in
     let k = ap (λ z. full_from s.controls.now s.cap (s.base + z)) (sym v) in
     record {
-      is = walk_of s.controls.now s.cap base g.G.GroupKind.kind.width places (group_walk s.controls.now shows s.cap base g.G.GroupKind.kind.width places c.loop-self.invariant.is.count (omega arith) c.read.ensures c.match_full-self-inside.ensures);
+      is = walk_of s.controls.now s.cap base g.G.GroupKind.kind.width indices (group_walk s.controls.now shows s.cap base g.G.GroupKind.kind.width indices c.loop-self.invariant.is.count (omega arith) c.read.ensures c.match_full-self-inside.ensures);
       value = inv.value ∙ e ∙ k ∙ sym f;
     }
 
@@ -80,9 +80,9 @@ pub returns-in-Some-clause-goes : goal.returns-in-Some-clause-goes
 returns-in-Some-clause-goes g c =
     let s = c.loop-self.self-inside in
     let w = g.G.GroupKind.kind.width in
-    let e : c.args.self.now ≡ (s.base + c.in-Some.j) ∷ left s.controls.now s.cap s.base w (g.G.Mask.Marks.places c.remove_lowest_bit-self-inside.result) = sym c.self.view_is
+    let e : c.args.self.now ≡ (s.base + c.in-Some.j) ∷ left s.controls.now s.cap s.base w (g.G.Mask.Marks.indices c.remove_lowest_bit-self-inside.result) = sym c.self.view_is
     ∙ c.loop-self.invariant.value
-    ∙ takes_place s.controls.now s.cap s.base w c.in-Some.j (g.G.Mask.Marks.places s.marks) c.in-Some.ensures c.if-bucket-self.false
+    ∙ takes_index s.controls.now s.cap s.base w c.in-Some.j (g.G.Mask.Marks.indices s.marks) c.in-Some.ensures c.if-bucket-self.false
     ∙ ap (λ xs. (s.base + c.in-Some.j) ∷ left s.controls.now s.cap s.base w xs) (sym c.remove_lowest_bit-self-inside.ensures) in
     let l = ap length e in
     record { on = λ _. (search rules, search rules, omega arith); keeps = search rules; rests = search rules }

@@ -4,6 +4,6 @@ use Rattle.rkyv_table.proofs.table.laws.in_place.writes_keep_lookups.Goals as go
 pub returns : goal.returns
 returns g c = λ b d p i kept. record {
   found = lookup_kept g.W.Word.word g.T.HasSpec.spec b d p i kept;
-  place = item_stays g.W.Word.word g.T.HasSpec.spec b d p i kept;
+  pos = item_stays g.W.Word.word g.T.HasSpec.spec b d p i kept;
   written = written_kept g.W.Word.word g.T.HasSpec.spec b d p i kept;
 }

@@ -1,39 +1,39 @@
 use Rattle.std.proofs.Common.{◌∙◌, ◌+◌, ◌-◌, ◌*◌, ◌∷◌, ap, arith, get_or, length, List, ltb, ℕ, rules, sym}
-use Rattle.rkyv_scan.specs.Groups.{mask_places, places_where}
+use Rattle.rkyv_scan.specs.Groups.{indices_where, mask_indices}
 use Rattle.rkyv_table.specs.Table.RawItems.{positions_left}
-use Rattle.rkyv_table.proofs.RawSteps.{end_places, head_before, head_keeps, head_places, next_inside, next_keeps, next_places}
+use Rattle.rkyv_table.proofs.RawSteps.{end_positions, head_before, head_keeps, head_positions, next_inside, next_keeps, next_positions}
 use Rattle.rkyv_table.proofs.table.raw_iter.RawIterIterator.next.Goals as goal
 
 pub overflow_add-result : goal.overflow_add-result
 overflow_add-result g c =
     let s = c.loop-self.self-inside in
-    let h = head_before s.buckets_end s.size s.count s.controls.now s.base (mask_places 8 7 8 s.marks.bits) c.loop-self.invariant.is c.in-Some.j (omega (arith, c.loop-self-test.true)) c.in-Some.ensures in
+    let h = head_before s.buckets_end s.size s.count s.controls.now s.base (mask_indices 8 7 8 s.marks.bits) c.loop-self.invariant.is c.in-Some.j (omega (arith, c.loop-self-test.true)) c.in-Some.ensures in
     record { fits = omega (arith, h.0) }
 
 pub overflow_mul-result : goal.overflow_mul-result
 overflow_mul-result g c =
     let s = c.loop-self.self-inside in
-    let h = head_before s.buckets_end s.size s.count s.controls.now s.base (mask_places 8 7 8 s.marks.bits) c.loop-self.invariant.is c.in-Some.j (omega (arith, c.loop-self-test.true)) c.in-Some.ensures in
+    let h = head_before s.buckets_end s.size s.count s.controls.now s.base (mask_indices 8 7 8 s.marks.bits) c.loop-self.invariant.is c.in-Some.j (omega (arith, c.loop-self-test.true)) c.in-Some.ensures in
     record { fits = omega (arith, h.1) }
 
 pub overflow_sub-result : goal.overflow_sub-result
 overflow_sub-result g c =
     let s = c.loop-self.self-inside in
-    let h = head_before s.buckets_end s.size s.count s.controls.now s.base (mask_places 8 7 8 s.marks.bits) c.loop-self.invariant.is c.in-Some.j (omega (arith, c.loop-self-test.true)) c.in-Some.ensures in
+    let h = head_before s.buckets_end s.size s.count s.controls.now s.base (mask_indices 8 7 8 s.marks.bits) c.loop-self.invariant.is c.in-Some.j (omega (arith, c.loop-self-test.true)) c.in-Some.ensures in
     h.1
 
 pub invariant_of-self-in-Some : goal.invariant_of-self-in-Some
 invariant_of-self-in-Some g c =
     let s = c.loop-self.self-inside in
     rw c.remove_lowest_bit-self-inside.ensures
-    (head_keeps s.buckets_end s.size s.count s.controls.now s.base (mask_places 8 7 8 s.marks.bits) c.loop-self.invariant.is c.in-Some.j (omega (arith, c.loop-self-test.true)) c.in-Some.ensures)
+    (head_keeps s.buckets_end s.size s.count s.controls.now s.base (mask_indices 8 7 8 s.marks.bits) c.loop-self.invariant.is c.in-Some.j (omega (arith, c.loop-self-test.true)) c.in-Some.ensures)
 
 pub returns-in-Some-clause-steps : goal.returns-in-Some-clause-steps
 returns-in-Some-clause-steps g c =
     let s = c.loop-self.self-inside in
     record {
       takes = sym (ap (λ v. v.positions) c.self.view_is) ∙ c.loop-self.invariant.value
-          ∙ head_places s.buckets_end s.size s.count s.controls.now s.base (mask_places 8 7 8 s.marks.bits) c.loop-self.invariant.is c.in-Some.j (omega (arith, c.loop-self-test.true)) c.in-Some.ensures
+          ∙ head_positions s.buckets_end s.size s.count s.controls.now s.base (mask_indices 8 7 8 s.marks.bits) c.loop-self.invariant.is c.in-Some.j (omega (arith, c.loop-self-test.true)) c.in-Some.ensures
           ∙ ap (λ (ms : List ℕ). (s.buckets_end - (c.in-Some.j + 1) * s.size) ∷ positions_left s.buckets_end s.size (s.count - 1) s.controls.now s.base ms) (sym c.remove_lowest_bit-self-inside.ensures);
       archive = c.loop-self.invariant.archive ∙ ap (λ v. v.archive) c.self.view_is;
     }
@@ -47,43 +47,43 @@ returns-in-Some-clause-goes g c =
 pub overflow_add-self : goal.overflow_add-self
 overflow_add-self g c =
     let s = c.loop-self.self-inside in
-    let h = next_inside s.buckets_end s.size s.count s.controls.now s.base (mask_places 8 7 8 s.marks.bits) c.loop-self.invariant.is (omega (arith, c.loop-self-test.true)) c.in_default.ensures in
+    let h = next_inside s.buckets_end s.size s.count s.controls.now s.base (mask_indices 8 7 8 s.marks.bits) c.loop-self.invariant.is (omega (arith, c.loop-self-test.true)) c.in_default.ensures in
     record { fits = omega (arith, h.0) }
 
 pub overflow_mul-self : goal.overflow_mul-self
 overflow_mul-self g c =
     let s = c.loop-self.self-inside in
-    let h = next_inside s.buckets_end s.size s.count s.controls.now s.base (mask_places 8 7 8 s.marks.bits) c.loop-self.invariant.is (omega (arith, c.loop-self-test.true)) c.in_default.ensures in
+    let h = next_inside s.buckets_end s.size s.count s.controls.now s.base (mask_indices 8 7 8 s.marks.bits) c.loop-self.invariant.is (omega (arith, c.loop-self-test.true)) c.in_default.ensures in
     record { fits = omega (arith, h.1) }
 
 pub overflow_sub-self-in-loop-self : goal.overflow_sub-self-in-loop-self
 overflow_sub-self-in-loop-self g c =
     let s = c.loop-self.self-inside in
-    let h = next_inside s.buckets_end s.size s.count s.controls.now s.base (mask_places 8 7 8 s.marks.bits) c.loop-self.invariant.is (omega (arith, c.loop-self-test.true)) c.in_default.ensures in
+    let h = next_inside s.buckets_end s.size s.count s.controls.now s.base (mask_indices 8 7 8 s.marks.bits) c.loop-self.invariant.is (omega (arith, c.loop-self-test.true)) c.in_default.ensures in
     h.1
 
 pub read-requires : goal.read-requires
 read-requires g c =
     let s = c.loop-self.self-inside in
-    let h = next_inside s.buckets_end s.size s.count s.controls.now s.base (mask_places 8 7 8 s.marks.bits) c.loop-self.invariant.is (omega (arith, c.loop-self-test.true)) c.in_default.ensures in
+    let h = next_inside s.buckets_end s.size s.count s.controls.now s.base (mask_indices 8 7 8 s.marks.bits) c.loop-self.invariant.is (omega (arith, c.loop-self-test.true)) c.in_default.ensures in
     omega (arith, h.0)
 
 pub loop-self-preserved : goal.loop-self-preserved
 loop-self-preserved g c =
     let s = c.loop-self.self-inside in
-    let marks : List ℕ = mask_places 8 7 8 c.match_full-self-inside.result.bits in
-    let read = c.match_full-self-inside.ensures ∙ ap (λ (xs : List ℕ). places_where (λ j. ltb (get_or xs j 0) 128) 8) c.read.ensures in
+    let marks : List ℕ = mask_indices 8 7 8 c.match_full-self-inside.result.bits in
+    let read = c.match_full-self-inside.ensures ∙ ap (λ (xs : List ℕ). indices_where (λ j. ltb (get_or xs j 0) 128) 8) c.read.ensures in
     record {
-      is = next_keeps s.buckets_end s.size s.count s.controls.now s.base (mask_places 8 7 8 s.marks.bits) c.loop-self.invariant.is (omega (arith, c.loop-self-test.true)) c.in_default.ensures marks read;
+      is = next_keeps s.buckets_end s.size s.count s.controls.now s.base (mask_indices 8 7 8 s.marks.bits) c.loop-self.invariant.is (omega (arith, c.loop-self-test.true)) c.in_default.ensures marks read;
       archive = c.loop-self.invariant.archive;
       value = c.loop-self.invariant.value
-          ∙ next_places s.buckets_end s.size s.count s.controls.now s.base (mask_places 8 7 8 s.marks.bits) c.loop-self.invariant.is (omega (arith, c.loop-self-test.true)) c.in_default.ensures marks read;
+          ∙ next_positions s.buckets_end s.size s.count s.controls.now s.base (mask_indices 8 7 8 s.marks.bits) c.loop-self.invariant.is (omega (arith, c.loop-self-test.true)) c.in_default.ensures marks read;
     }
 
 pub returns-clause-steps : goal.returns-clause-steps
 returns-clause-steps g c =
     let s = c.loop-self.self-inside in
-    let e = end_places s.buckets_end s.size s.count s.controls.now s.base (mask_places 8 7 8 s.marks.bits) (omega (arith, c.loop-self-test.false)) in
+    let e = end_positions s.buckets_end s.size s.count s.controls.now s.base (mask_indices 8 7 8 s.marks.bits) (omega (arith, c.loop-self-test.false)) in
     record {
       takes = (sym (ap (λ v. v.positions) c.self.view_is) ∙ c.loop-self.invariant.value ∙ e, e);
       archive = c.loop-self.invariant.archive ∙ ap (λ v. v.archive) c.self.view_is;

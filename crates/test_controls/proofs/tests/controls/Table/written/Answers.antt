@@ -1,5 +1,5 @@
 use Rattle.std.proofs.Common.{◌≡◌, ◌∙◌, arith, length, take, drop, ◌++◌}
-use Rattle.std.proofs.lemmas.List.{take_all, take-append-le}
+use Rattle.std.proofs.lemmas.List.{take-append-le, take_all}
 use Rattle.rkyv_table.proofs.WrittenAccepted.{accepted_written}
 use Rattle.test_controls.proofs.tests.controls.Table.written.Goals as goal
 

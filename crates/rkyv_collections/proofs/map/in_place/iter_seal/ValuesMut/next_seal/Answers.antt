@@ -12,6 +12,6 @@ returns-in-Some-clause-first g c = λ w p is.
         key = t.0;
         at = t.2.pair;
         bytes = c.over.ensures.bytes ∙ c.bytes_mut-bytes.ensures ∙ c.in-Some.ensures.archive.bytes;
-        place = c.over.ensures.place ∙ t.1;
+        pos = c.over.ensures.pos ∙ t.1;
       },
     )

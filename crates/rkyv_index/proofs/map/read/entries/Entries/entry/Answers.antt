@@ -14,7 +14,7 @@ at-requires g c =
     let k = g.K.HasSpec.spec in
     let v = g.V.HasSpec.spec in
     let e = c.requires.entries in
-    let there = entry_viewable g.W.Word.word g.met.W.Width.layout.kind (entry_spec k v) (entry_element k v g.K.HasSpec.laws g.V.HasSpec.laws) m.archive.now m.pos c.args.self.map.valid c.args.place c.requires.below in
+    let there = entry_viewable g.W.Word.word g.met.W.Width.layout.kind (entry_spec k v) (entry_element k v g.K.HasSpec.laws g.V.HasSpec.laws) m.archive.now m.pos c.args.self.map.valid c.args.index c.requires.below in
     rw (c.entry_pos-at.ensures, c.size.ensures, e.begin) there
 
 pub returns : goal.returns
@@ -24,7 +24,7 @@ returns g c =
     let v = g.V.HasSpec.spec in
     let s = entry_spec k v in
     let e = c.requires.entries in
-    let there = entry_viewable g.W.Word.word g.met.W.Width.layout.kind s (entry_element k v g.K.HasSpec.laws g.V.HasSpec.laws) m.archive.now m.pos c.args.self.map.valid c.args.place c.requires.below in
-    let at = c.entry_pos-at.ensures ∙ ap (λ n. entry_at n c.args.self.begin c.args.place) c.size.ensures ∙ ap (λ q. entry_at s.size q c.args.place) e.begin in
-    let is : IsAt c.at.result m.archive (key_pos c.args.self.map c.args.place) = (c.at.ensures.0, c.at.ensures.1 ∙ at) in
-    record { below = c.requires.below; at = is; viewable = view_there s c.at.result m.archive (key_pos c.args.self.map c.args.place) is there }
+    let there = entry_viewable g.W.Word.word g.met.W.Width.layout.kind s (entry_element k v g.K.HasSpec.laws g.V.HasSpec.laws) m.archive.now m.pos c.args.self.map.valid c.args.index c.requires.below in
+    let at = c.entry_pos-at.ensures ∙ ap (λ n. entry_at n c.args.self.begin c.args.index) c.size.ensures ∙ ap (λ q. entry_at s.size q c.args.index) e.begin in
+    let is : IsAt c.at.result m.archive (key_pos c.args.self.map c.args.index) = (c.at.ensures.0, c.at.ensures.1 ∙ at) in
+    record { below = c.requires.below; at = is; viewable = view_there s c.at.result m.archive (key_pos c.args.self.map c.args.index) is there }

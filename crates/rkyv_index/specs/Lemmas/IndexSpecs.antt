@@ -1,17 +1,17 @@
 -- A table of the indices of a width is a table of words.
 use Rattle.std.specs.Prelude.{◌≡◌, ℕ, ℤ, List, [], ◌∷◌}
 use Rattle.std.specs.Int.{Width, byte_len}
-use Rattle.std.proofs.Common.{subst, sym, inl, inr}
+use Rattle.std.proofs.Common.{inl, inr, subst, sym}
 use Rattle.rkyv_base.specs.declared.errors.VerifyError.{VerifyError}
-use Rattle.rkyv_base.specs.Layout.{IsPlace}
+use Rattle.rkyv_base.specs.Layout.{IsIndexEncoding}
 use Rattle.rkyv_base.specs.Scalar.{Encoding, IsScalar}
 use Rattle.rkyv_base.specs.ElementSpec.{ElementSpec, Viewable}
-use Rattle.rkyv_table.specs.Table.Header.{decode_begin, cap_at, len_at}
+use Rattle.rkyv_table.specs.Table.Header.{cap_at, decode_begin, len_at}
 use Rattle.rkyv_table.specs.Controls.Placing.{walk}
-use Rattle.rkyv_table.specs.Table.Places.{AllHold, FirstFails}
+use Rattle.rkyv_table.specs.Table.ValidItems.{AreValidAt, FirstFails}
 use Rattle.rkyv_table.specs.Table.Layout.{FailsInside, IsPart, TableAt, TableFails, TableFailsAt}
 use Rattle.rkyv_table.specs.Table.Layout.{IsValidTable, bucket_at, controls_at, table_spec}
-use Rattle.rkyv_index.specs.Index.IndexLayout.{place_spec}
+use Rattle.rkyv_index.specs.Index.IndexLayout.{stored_index_spec}
 
 -- specs of one size and alignment
 module _ (size align : ℕ) (is_valid holds' : List ℕ → ℕ → ℕ → ℕ → ℕ → Type 0) (fails fails' : List ℕ
@@ -25,9 +25,8 @@ module _ (size align : ℕ) (is_valid holds' : List ℕ → ℕ → ℕ → ℕ 
     abbrev onto : ElementSpec
     onto = record { size = size; align = align; is_valid = holds'; fails = fails' }
 
-    all_as : (at : ℕ → ℕ) (b : List ℕ) (hi : ℕ) (is : List ℕ) (lo l : ℕ) → AllHold from at b hi is
-        lo
-        l → AllHold onto at b hi is lo l
+    all_as : (at : ℕ → ℕ) (b : List ℕ) (hi : ℕ) (is : List ℕ) (lo l : ℕ)
+        → AreValidAt from at b hi is lo l → AreValidAt onto at b hi is lo l
     all_as at b hi [] lo l h = h
     all_as at b hi (i ∷ is) lo l h = (h.0, to b (at i) lo hi h.0 h.1, all_as at b hi is h.0 l h.2)
 
@@ -85,9 +84,9 @@ module _ (size align : ℕ) (is_valid holds' : List ℕ → ℕ → ℕ → ℕ 
     fails_at_as b decoded cap len lo hi e (inr (inr (room, n, part, f))) =
         inr (inr (room, n, part, inside_as b cap len lo n e f))
 
-    pub holds_as : (w : Width) (b : List ℕ) (p lo hi l : ℕ) → IsValidTable w from b p lo hi l
+    pub is_valid_as : (w : Width) (b : List ℕ) (p lo hi l : ℕ) → IsValidTable w from b p lo hi l
         → IsValidTable w onto b p lo hi l
-    holds_as w b p lo hi l h =
+    is_valid_as w b p lo hi l h =
         at_as b (decode_begin w size b p) (cap_at w b p) (len_at w b p) lo hi l
         h
 
@@ -99,7 +98,7 @@ module _ (size align : ℕ) (is_valid holds' : List ℕ → ℕ → ℕ → ℕ 
         hi e f
 
 module _ {V : Type 0} (w : Width) (s : ElementSpec) (e : Encoding V) (laws : IsScalar s e)
-    (is : IsPlace w e) where
+    (is : IsIndexEncoding w e) where
   abbrev n : ℕ
   n = byte_len e.word
 
@@ -114,47 +113,48 @@ module _ {V : Type 0} (w : Width) (s : ElementSpec) (e : Encoding V) (laws : IsS
   never b p lo hi x f = ((laws.fails b p lo hi x).0 f).1 (is.any _)
 
   -- a table of the width's numbers is valid as a table of words
-  pub place_table_holds : (b : List ℕ) (p lo hi l : ℕ) → IsValidTable w s b p lo hi l
+  pub index_table_is_valid : (b : List ℕ) (p lo hi l : ℕ) → IsValidTable w s b p lo hi l
       → IsValidTable w
-      (place_spec w) b p lo hi l
-  place_table_holds b p lo hi l h =
+      (stored_index_spec w) b p lo hi l
+  index_table_is_valid b p lo hi l h =
       let there : IsValidTable w (sized n n) b p lo hi l =
       subst (λ a. IsValidTable w (sized n a) b p lo hi l) laws.align
       (subst (λ k. IsValidTable w (sized k s.align) b p lo hi l) laws.size h) in
-      subst (λ v. IsValidTable w (place_spec v) b p lo hi l) is.word
-      (holds_as n n s.is_valid (λ b p lo hi l. l
+      subst (λ v. IsValidTable w (stored_index_spec v) b p lo hi l) is.word
+      (is_valid_as n n s.is_valid (λ b p lo hi l. l
       ≡ lo) s.fails (λ b p lo hi e. ⊥) to_word never w b p lo
       hi l there)
 
-  pub place_table_fails : (b : List ℕ) (p lo hi : ℕ) (x : VerifyError) → TableFails w s b p lo hi x
-      → TableFails w (place_spec w) b p lo hi x
-  place_table_fails b p lo hi x f =
+  pub index_table_fails : (b : List ℕ) (p lo hi : ℕ) (x : VerifyError) → TableFails w s b p lo hi x
+      → TableFails w (stored_index_spec w) b p lo hi x
+  index_table_fails b p lo hi x f =
       let there : TableFails w (sized n n) b p lo hi x =
       subst (λ a. TableFails w (sized n a) b p lo hi x) laws.align
       (subst (λ k. TableFails w (sized k s.align) b p lo hi x) laws.size f) in
-      subst (λ v. TableFails w (place_spec v) b p lo hi x) is.word
+      subst (λ v. TableFails w (stored_index_spec v) b p lo hi x) is.word
       (fails_as n n s.is_valid (λ b p lo hi l. l
       ≡ lo) s.fails (λ b p lo hi e. ⊥) to_word never w b p lo
       hi x there)
 
   -- a table of words is valid as a table of the width's numbers
-  pub number_table_holds : (b : List ℕ) (p lo hi l : ℕ) → IsValidTable w (place_spec w) b p lo hi l
+  pub number_table_is_valid : (b : List ℕ) (p lo hi l : ℕ)
+      → IsValidTable w (stored_index_spec w) b p lo hi l
       → IsValidTable w s b p lo hi l
-  number_table_holds b p lo hi l h =
+  number_table_is_valid b p lo hi l h =
       let there : IsValidTable w (sized n n) b p lo hi l =
-      holds_as n n (λ b p lo hi l. l ≡ lo) s.is_valid (λ b p lo hi e. ⊥) s.fails
+      is_valid_as n n (λ b p lo hi l. l ≡ lo) s.is_valid (λ b p lo hi e. ⊥) s.fails
       (λ b p lo hi l h. (laws.is_valid b p lo hi l).1 (h, is.any _))
       (λ b p lo hi x f. absurd f) w b p lo hi l
-      (subst (λ v. IsValidTable w (place_spec v) b p lo hi l) (sym is.word) h) in
+      (subst (λ v. IsValidTable w (stored_index_spec v) b p lo hi l) (sym is.word) h) in
       subst (λ k. IsValidTable w (sized k s.align) b p lo hi l) (sym laws.size)
       (subst (λ a. IsValidTable w (sized n a) b p lo hi l) (sym laws.align) there)
 
   -- a table of words at `p` is also a table of the width's numbers
-  pub number_table_viewable : (b : List ℕ) (p : ℕ) → Viewable (table_spec w (place_spec w)) b p
-      → Viewable (table_spec w s) b p
+  pub number_table_viewable : (b : List ℕ) (p : ℕ)
+      → Viewable (table_spec w (stored_index_spec w)) b p → Viewable (table_spec w s) b p
   number_table_viewable b p v = record {
     inside = v.inside;
     aligned = v.aligned;
     valid =
-        (v.valid.0, number_table_holds b p 0 p v.valid.0 v.valid.1);
+        (v.valid.0, number_table_is_valid b p 0 p v.valid.0 v.valid.1);
   }

@@ -3,10 +3,10 @@ use Rattle.std.specs.Prelude.{IfSome}
 use Rattle.rkyv_table.specs.Table.Header.{len_at}
 use Rattle.rkyv_index.specs.Index.{IsStored, index_len}
 use Rattle.rkyv_index.proofs.SealedIndex.{as_read}
-use Rattle.test_index.proofs.tests.sealed.place_of.Goals as goal
+use Rattle.test_index.proofs.tests.sealed.index_of.Goals as goal
 
--- the second of two properties of the value in `place`, if there is one
-second : (P Q : ℕ → Type 0) (place : Option ℕ) → IfSome place (λ i. P i × Q i) → IfSome place Q
+-- the second of two properties of the value in `index`, if there is one
+second : (P Q : ℕ → Type 0) (index : Option ℕ) → IfSome index (λ i. P i × Q i) → IfSome index Q
 second P Q None both = tt
 second P Q (Some i) both = both.1
 

@@ -3,9 +3,9 @@
 ghost use Rattle.std.specs.Prelude.{ℕ, ◌≡◌, ◌+◌, ◌≤◌, length};
 ghost use Rattle.std.specs.Iterator.{YieldsFirst, at_most};
 ghost use Rattle.std.specs.Slice.Iter.{iter_rest};
-ghost use Rattle.rkyv_index.specs.Index.IndexFormat.{hash_of, places_from};
+ghost use Rattle.rkyv_index.specs.Index.IndexFormat.{hash_of, indices_from};
 
-use crate::width::PlaceWidth;
+use crate::width::IndexMapWidth;
 use rkyv_base::adapter::EntryAdapter;
 use rkyv_base::lend::Lend;
 use rkyv_keys::hash::{KeyHash, hash_value};
@@ -44,45 +44,45 @@ impl<BK: Lend<A>, BV, A: KeyHash, B, H: KeyHasher> HashedEntry<H> for EntryAdapt
 
 /// An iterator over the indices of values from 0 on, each with the hash of its value.
 #[derive(Drop)]
-pub(crate) struct HashedPlaces<'a, U, H, W> {
+pub(crate) struct HashedIndices<'a, U, H, W> {
     values: std::slice::Iter<'a, U>,
-    place: u64,
+    index: u64,
     kinds: PhantomData<(H, W)>,
 }
 
-impl<'a, U, H, W> HashedPlaces<'a, U, H, W> {
+impl<'a, U, H, W> HashedIndices<'a, U, H, W> {
     #[inline]
-    pub(crate) fn new(values: &'a [U]) -> HashedPlaces<'a, U, H, W>
+    pub(crate) fn new(values: &'a [U]) -> HashedIndices<'a, U, H, W>
         ensures rest { iter_rest result.values ≡ values.now }
-        ensures place { result.place ≡ 0 }
+        ensures index { result.index ≡ 0 }
     {
-        HashedPlaces {
+        HashedIndices {
             values: values.iter(),
-            place: 0,
+            index: 0,
             kinds: PhantomData,
         }
     }
 }
 
-impl<'a, U: HashedEntry<H>, H, W: PlaceWidth> Iterator for HashedPlaces<'a, U, H, W> {
-    type Item = (u64, W::Place);
+impl<'a, U: HashedEntry<H>, H, W: IndexMapWidth> Iterator for HashedIndices<'a, U, H, W> {
+    type Item = (u64, W::Index);
 
-    ghost can_next = { λ s. (s.place + length (iter_rest s.values) ≤ W.LIMIT)
+    ghost can_next = { λ s. (s.index + length (iter_rest s.values) ≤ W.LIMIT)
         × ((value : U) → U.can_hash value) };
 
-    ghost next_gives = { YieldsFirst (λ s. places_from U.hash W.Place.encoding.value s.place
+    ghost next_gives = { YieldsFirst (λ s. indices_from U.hash W.Index.encoding.value s.index
         (iter_rest s.values)) };
 
     ghost remaining = { λ s. at_most (length (iter_rest s.values)) };
 
     #[inline]
-    fn next(&mut self) -> Option<(u64, W::Place)> {
+    fn next(&mut self) -> Option<(u64, W::Index)> {
         match self.values.next() {
             Some(value) => {
                 let hash = value.hash();
-                let place = W::to_place(self.place);
-                self.place += 1;
-                Some((hash, place))
+                let index = W::to_index(self.index);
+                self.index += 1;
+                Some((hash, index))
             }
             None => None,
         }

@@ -1,8 +1,8 @@
 use Rattle.std.proofs.Common.{Some, ap, sym, ◌∙◌}
 use Rattle.std.specs.Option.{option_map}
-use Rattle.rkyv_index.specs.Index.{place_at}
-use Rattle.rkyv_index.proofs.PlacesFound.{counts_as, finds_as}
-use Rattle.rkyv_index.proofs.map.read.entries.find_place.Goals as goal
+use Rattle.rkyv_index.specs.Index.{stored_index}
+use Rattle.rkyv_index.proofs.IndicesFound.{counts_as, finds_as}
+use Rattle.rkyv_index.proofs.map.read.entries.find_index.Goals as goal
 
 pub returns-in-Some-clause-found : goal.returns-in-Some-clause-found
 returns-in-Some-clause-found g c =
@@ -11,7 +11,7 @@ returns-in-Some-clause-found g c =
     record {
       item = held;
       found = finds_as _ _ (λ h r x. x.1) c.args.table c.args.hash held c.get_counted-held.ensures.found;
-      is = ap Some c.read_place.ensures ∙ ap (option_map (place_at w)) (sym c.in-Some.is);
+      is = ap Some c.read_index.ensures ∙ ap (option_map (stored_index w)) (sym c.in-Some.is);
     }
 
 pub returns-clause-found : goal.returns-clause-found
@@ -21,7 +21,7 @@ returns-clause-found g c =
     record {
       item = held;
       found = finds_as _ _ (λ h r x. x.1) c.args.table c.args.hash held c.get_counted-held.ensures.found;
-      is = ap (option_map (place_at w)) (sym c.in-None.is);
+      is = ap (option_map (stored_index w)) (sym c.in-None.is);
     }
 
 pub returns-in-Some-clause-counts : goal.returns-in-Some-clause-counts

@@ -10,7 +10,7 @@ use Rattle.rkyv_base.specs.Bytes.{AgreeOn}
 use Rattle.rkyv_base.specs.Lemmas.Bytes.{agree_on_part}
 use Rattle.rkyv_base.specs.Lemmas.Props.{only_one, prop_by}
 use Rattle.rkyv_base.specs.ElementSpec.{ElementSpec, IsElement}
-use Rattle.rkyv_table.specs.Table.Places.{AllHold, FirstFails}
+use Rattle.rkyv_table.specs.Table.ValidItems.{AreValidAt, FirstFails}
 
 -- all are below `n`
 abbrev pub AllBelow : ℕ → List ℕ → Type 0
@@ -29,7 +29,7 @@ range_below P n = filter_below P 0 n n (omega arith)
 
 module _ (s : ElementSpec) (law : IsElement s) (at : ℕ → ℕ) where
   pub all_between : (b : List ℕ) (hi : ℕ) (is : List ℕ) (lo l : ℕ) → lo ≤ hi
-      → AllHold s at b hi is lo l → (lo ≤ l) × (l ≤ hi)
+      → AreValidAt s at b hi is lo l → (lo ≤ l) × (l ≤ hi)
   all_between b hi [] lo l o h = (omega arith, omega arith)
   all_between b hi (i ∷ is) lo l o h =
       let k : (lo ≤ h.0) × (h.0 ≤ hi) = law.rest_in_range b (at i) lo hi h.0 o h.1 in
@@ -37,24 +37,24 @@ module _ (s : ElementSpec) (law : IsElement s) (at : ℕ → ℕ) where
       (omega arith, r.1)
 
   -- the new lower end is unique, and that the values are valid is a proposition
-  pub all_one : (b : List ℕ) (hi : ℕ) (is : List ℕ) (lo l l' : ℕ) → AllHold s at b hi is lo l
-      → AllHold s at b hi is lo l' → l ≡ l'
+  pub all_one : (b : List ℕ) (hi : ℕ) (is : List ℕ) (lo l l' : ℕ) → AreValidAt s at b hi is lo l
+      → AreValidAt s at b hi is lo l' → l ≡ l'
   all_one b hi [] lo l l' h h' = h ∙ sym h'
   all_one b hi (i ∷ is) lo l l' h h' =
       let q : h'.0 ≡ h.0 = law.rest_unique b (at i) lo hi h'.0 h.0 h'.1 h.1 in
-      all_one b hi is h.0 l l' h.2 (subst (λ m. AllHold s at b hi is m l') q h'.2)
+      all_one b hi is h.0 l l' h.2 (subst (λ m. AreValidAt s at b hi is m l') q h'.2)
 
   pub all_prop : (b : List ℕ) (hi : ℕ) (is : List ℕ) (lo l : ℕ)
-      → IsProp (AllHold s at b hi is lo l)
+      → IsProp (AreValidAt s at b hi is lo l)
   all_prop b hi [] lo l = hlevel props
   all_prop b hi (i ∷ is) lo l =
-      prop_by {B = (m : ℕ) × (s.is_valid b (at i) lo hi m × AllHold s at b hi is m l)}
+      prop_by {B = (m : ℕ) × (s.is_valid b (at i) lo hi m × AreValidAt s at b hi is m l)}
       (λ h. (h.0, (h.1, h.2))) (λ h. (h.0, h.1.0, h.1.1)) (λ _. refl)
       (only_one (λ m. ×_prop (law.proper b (at i) lo hi m) (all_prop b hi is m l))
       (λ m m' h h'. law.rest_unique b (at i) lo hi m m' h.0 h'.0))
 
   pub all_exclusive : (b : List ℕ) (hi : ℕ) (is : List ℕ) (lo l : ℕ) (e : VerifyError)
-      → AllHold s at b hi is lo l → FirstFails s at b hi is lo e → ⊥
+      → AreValidAt s at b hi is lo l → FirstFails s at b hi is lo e → ⊥
   all_exclusive b hi [] lo l e h f = f
   all_exclusive b hi (i ∷ is) lo l e h (inl f) = law.exclusive b (at i) lo hi h.0 e h.1 f
   all_exclusive b hi (i ∷ is) lo l e h (inr f) =
@@ -75,14 +75,14 @@ module _ (s : ElementSpec) (law : IsElement s) (at : ℕ → ℕ) where
       all_one_failure b hi is f.0 e e' f.2 (subst (λ m. FirstFails s at b hi is m e') q g.2)
 
   pub all_lower : (b : List ℕ) (hi : ℕ) (is : List ℕ) (lo lo' l : ℕ) → lo' ≤ lo → lo ≤ hi
-      → AllHold s at b hi is lo l
-      → (l' : ℕ) × AllHold s at b hi is lo' l' × (l' ≤ l)
+      → AreValidAt s at b hi is lo l
+      → (l' : ℕ) × AreValidAt s at b hi is lo' l' × (l' ≤ l)
   all_lower b hi [] lo lo' l o o' h = (lo', refl, omega arith)
   all_lower b hi (i ∷ is) lo lo' l o o' h =
       let k : (lo ≤ h.0) × (h.0 ≤ hi) = law.rest_in_range b (at i) lo hi h.0 o' h.1 in
       let d : (m : ℕ) × s.is_valid b (at i) lo' hi m × (m ≤ h.0) =
       law.lower_lo b (at i) lo lo' hi h.0 o o' h.1 in
-      let r : (m : ℕ) × AllHold s at b hi is d.0 m × (m ≤ l) =
+      let r : (m : ℕ) × AreValidAt s at b hi is d.0 m × (m ≤ l) =
       all_lower b hi is h.0 d.0 l d.2 k.1 h.2 in
       (r.0, (d.0, d.1, r.1), r.2)
 
@@ -90,8 +90,8 @@ module _ (s : ElementSpec) (law : IsElement s) (at : ℕ → ℕ) where
   -- if the positions below `n` are in there
   pub all_local : (b c : List ℕ) (x y n hi : ℕ) (is : List ℕ) (lo l : ℕ) → AgreeOn b c x y → x ≤ lo
       → lo ≤ hi → hi ≤ y → AllBelow n is
-      → ((i : ℕ) → i < n → (x ≤ at i) × (at i + s.size ≤ y)) → AllHold s at b hi is lo l
-      → AllHold s at c hi is lo l
+      → ((i : ℕ) → i < n → (x ≤ at i) × (at i + s.size ≤ y)) → AreValidAt s at b hi is lo l
+      → AreValidAt s at c hi is lo l
   all_local b c x y n hi [] lo l same o o' o'' below inside h = h
   all_local b c x y n hi (i ∷ is) lo l same o o' o'' below inside h =
       let k : (lo ≤ h.0) × (h.0 ≤ hi) = law.rest_in_range b (at i) lo hi h.0 o' h.1 in

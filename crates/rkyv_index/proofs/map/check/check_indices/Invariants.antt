@@ -4,8 +4,8 @@ use Rattle.rkyv_base.specs.declared.errors.VerifyError.{VerifyError}
 use Rattle.rkyv_table.specs.Table.Header.{len_at}
 use Rattle.rkyv_table.specs.Table.RawItems.{AllValid}
 use Rattle.rkyv_table.specs.Table.Positions.{item_positions}
-use Rattle.rkyv_index.specs.Index.IndexLayout.{FirstNotBelow, PlacesBelow}
-use Rattle.rkyv_index.proofs.map.check.check_places.Given as goal
+use Rattle.rkyv_index.specs.Index.IndexLayout.{FirstNotBelow, IndicesBelow}
+use Rattle.rkyv_index.proofs.map.check.check_indices.Given as goal
 
 -- the remaining indices are inside the archive. The result for them is that for all
 abbrev pub invariant-loop-at : goal.invariant-loop-at
@@ -13,9 +13,9 @@ invariant-loop-at g l =
     let w = g.W.Word.word in
     let all = item_positions w (byte_len w) l.bytes l.pos in
     record {
-      all_valid : AllValid g.W.Place.HasSpec.spec l.at-iterator;
+      all_valid : AllValid g.W.Index.HasSpec.spec l.at-iterator;
       archive : l.at-iterator.archive.now ≡ l.bytes;
       len : l.len ≡ len_at w l.bytes l.pos;
-      below : PlacesBelow w l.bytes l.len l.at-iterator.positions → PlacesBelow w l.bytes l.len all;
+      below : IndicesBelow w l.bytes l.len l.at-iterator.positions → IndicesBelow w l.bytes l.len all;
       failed : (e : VerifyError) → FirstNotBelow w l.bytes l.len l.at-iterator.positions e → FirstNotBelow w l.bytes l.len all e;
     }

@@ -5,13 +5,14 @@ use Rattle.rkyv_base.specs.ElementSpec.{ElementSpec}
 
 -- the values at the positions `at i` are valid in order, with their parts below `hi`. Each leaves
 -- the lower end for the next
-abbrev pub AllHold : ElementSpec → (ℕ → ℕ) → List ℕ → ℕ → List ℕ → ℕ → ℕ → Type 0
-AllHold s at b hi [] lo l = l ≡ lo
-AllHold s at b hi (i ∷ is) lo l = (m : ℕ) × s.is_valid b (at i) lo hi m × AllHold s at b hi is m l
+abbrev pub AreValidAt : ElementSpec → (ℕ → ℕ) → List ℕ → ℕ → List ℕ → ℕ → ℕ → Type 0
+AreValidAt s at b hi [] lo l = l ≡ lo
+AreValidAt s at b hi (i ∷ is) lo l =
+    (m : ℕ) × s.is_valid b (at i) lo hi m × AreValidAt s at b hi is m l
 
 -- the values are valid, and leave some lower end
-abbrev pub SomeHold : ElementSpec → (ℕ → ℕ) → List ℕ → ℕ → List ℕ → ℕ → Type 0
-SomeHold s at b hi is lo = (l : ℕ) × AllHold s at b hi is lo l
+abbrev pub AreValid : ElementSpec → (ℕ → ℕ) → List ℕ → ℕ → List ℕ → ℕ → Type 0
+AreValid s at b hi is lo = (l : ℕ) × AreValidAt s at b hi is lo l
 
 -- `e`: first fault of the first value that isn't valid
 abbrev pub FirstFails : ElementSpec → (ℕ → ℕ) → List ℕ → ℕ → List ℕ → ℕ → VerifyError → Type 0

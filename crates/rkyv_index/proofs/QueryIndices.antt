@@ -11,7 +11,7 @@ use Rattle.rkyv_keys.specs.Keys.{IsQuery}
 use Rattle.rkyv_index.specs.Index.Complete.{FindsTheOne}
 use Rattle.rkyv_index.specs.Index.{fits_at, hash_at, index_len, index_of}
 use Rattle.rkyv_index.specs.Index.IndexFormat.{hash_of}
-use Rattle.rkyv_index.specs.Index.Lookups.{GetsBy, GetsKey, place_part}
+use Rattle.rkyv_index.specs.Index.Lookups.{GetsBy, GetsKey, index_part}
 use Rattle.rkyv_index.specs.declared.map.ArchivedIndexMap.{ArchivedIndexMap}
 use Rattle.rkyv_index.proofs.Completeness.{finds_the_one}
 use Rattle.rkyv_index.proofs.Queries.{compares_fits, query_under_hash}
@@ -20,14 +20,14 @@ module _ {K V H W Q State : Type 0} {ks : Specs K} {vs : Specs V} {wt : Words W}
     (hasher : Hasher State) (same : Comparison) (key_calls : List ℕ → ℕ → List HasherCall) (can_read : Q → Type 0) (calls : Q → List HasherCall) (fits : Q → List ℕ → ℕ → Bool)
     (query : IsQuery ks.spec same key_calls can_read calls fits) (q : Q) (ready : can_read q) (small : hash_of_calls hasher (calls q) < 2 ^ 64)
     (post : View K → Bool → Type 0) (returns_fits : (key : View K) (r : Bool) → post key r → r ≡ fits q (bytes_of key) (pos_of key)) (result : Option ℕ) where
-  pub query_place : GetsBy place_part m (hash_of hasher calls q) (hash_at hasher key_calls) post result → GetsKey place_part m (query_of hasher key_calls same (calls q) (fits q)) result
-  query_place got =
+  pub query_index : GetsBy index_part m (hash_of hasher calls q) (hash_at hasher key_calls) post result → GetsKey index_part m (query_of hasher key_calls same (calls q) (fits q)) result
+  query_index got =
       let accept = fits_at (index_of m) (fits q) in
       let compares = compares_fits m (fits q) post returns_fits in
-      let found = got.answer accept compares in
+      let found = got.finds accept compares in
       record {
         walked = got.walked;
-        answer = found;
+        finds = found;
         first = got.first accept compares (query_under_hash m hasher same key_calls can_read calls fits query q ready);
         complete = λ none. (
           result,

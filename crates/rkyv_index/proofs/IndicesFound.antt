@@ -9,7 +9,7 @@ use Rattle.std.specs.Prelude.{IfSome}
 use Rattle.std.proofs.lemmas.Option.{IfSome_then}
 use Rattle.rkyv_scan.specs.Groups.{generic_kind}
 use Rattle.rkyv_base.specs.Bytes.{number_at}
-use Rattle.rkyv_base.specs.Layout.{IsPlace}
+use Rattle.rkyv_base.specs.Layout.{IsIndexEncoding}
 use Rattle.rkyv_base.specs.Scalar.{Encoding, IsScalar}
 use Rattle.rkyv_base.specs.View.{IsAt, bytes_of, pos_of, pos_of_found}
 use Rattle.rkyv_base.specs.declared.view.View.{View}
@@ -18,10 +18,10 @@ use Rattle.rkyv_table.specs.Controls.Numbers.{probe_capacity}
 use Rattle.rkyv_table.specs.Table.Header.{cap_at, len_at}
 use Rattle.rkyv_table.specs.Table.Reading.{CountsStrides, CountsWithin, FindsItem, IsItem, table_pos}
 use Rattle.rkyv_table.specs.declared.table.ArchivedHashTable.{ArchivedHashTable}
-use Rattle.rkyv_index.specs.Index.{IsAccepted, IsKeyOf, IsStoredIndex, ReadsWithinBound, index_archive, index_bytes, index_found, index_pos, place_at}
-use Rattle.rkyv_index.specs.Index.Lookups.{GetsBy, place_part}
+use Rattle.rkyv_index.specs.Index.{IsAccepted, IsKeyOf, IsStoredIndex, ReadsWithinBound, index_archive, index_bytes, index_found, index_pos, stored_index}
+use Rattle.rkyv_index.specs.Index.Lookups.{GetsBy, index_part}
 use Rattle.rkyv_index.specs.declared.map.ArchivedIndexMap.{ArchivedIndexMap}
-use Rattle.rkyv_index.proofs.Lookups.{finds_first_place, finds_place, item_place, item_stored, read_there}
+use Rattle.rkyv_index.proofs.Lookups.{finds_first_index, finds_index, item_index, item_stored, read_there}
 
 -- a lookup by a comparison is one by each weaker condition on its results
 pub finds_as : {P W : Type 0} {ts : Specs P} {wt : Words W} (A B : View P → Bool → Type 0) → ((h : View P) (r : Bool) → A h r → B h r) → (t : ArchivedHashTable P W ts wt) (hash : ℕ) (held : Option (View P))
@@ -29,7 +29,7 @@ pub finds_as : {P W : Type 0} {ts : Specs P} {wt : Words W} (A B : View P → Bo
 finds_as A B weaker t hash held got = record {
   walked = got.walked;
   accepted = IfSome_then held got.accepted (λ h a. weaker h true a);
-  answer = λ accept compares. got.answer accept (λ h r item a. compares h r item (weaker h r a));
+  finds = λ accept compares. got.finds accept (λ h r item a. compares h r item (weaker h r a));
   first = λ hashes homes accept written compares under. got.first hashes homes accept written (λ h r item a. compares h r item (weaker h r a)) under;
 }
 
@@ -41,26 +41,26 @@ counts_as A B weaker t hash before after counts = record {
   counted = λ accept compares. counts.counted accept (λ h r item a. compares h r item (weaker h r a));
 }
 
-module _ {K V H W P N : Type 0} {ks : Specs K} {vs : Specs V} {ts : Specs P} {wt : Words W} (m : ArchivedIndexMap K V H W ks vs wt) (e : Encoding N) (pk : IsScalar ts.spec e) (place : IsPlace wt.word e)
+module _ {K V H W P N : Type 0} {ks : Specs K} {vs : Specs V} {ts : Specs P} {wt : Words W} (m : ArchivedIndexMap K V H W ks vs wt) (e : Encoding N) (pk : IsScalar ts.spec e) (index : IsIndexEncoding wt.word e)
     (t : ArchivedHashTable P W ts wt) (at : IsAt t.view (index_archive m) (index_pos m)) where
   abbrev w : Width
   w = wt.word
 
   -- the index in a found item is the number at its position
-  pub place_found : (held : Option (View P)) → IfSome held (IsItem t)
-      → option_map (place_at w) held ≡ option_map (number_at w (index_bytes m)) (pos_of_found held)
-  place_found None item = refl
-  place_found (Some h) item = ap Some (ap (λ (x : List ℕ). number_at w x h.pos) (read_there m e pk place t at h item))
+  pub stored_index_found : (held : Option (View P)) → IfSome held (IsItem t)
+      → option_map (stored_index w) held ≡ option_map (number_at w (index_bytes m)) (pos_of_found held)
+  stored_index_found None item = refl
+  stored_index_found (Some h) item = ap Some (ap (λ (x : List ℕ). number_at w x h.pos) (read_there m e pk index t at h item))
 
   -- a found item is inside the archive
-  pub place_inside : (held : Option (View P)) → IfSome held (IsItem t) → IfSome held (λ item. pos_of item + byte_len w ≤ length (bytes_of item))
-  place_inside None item = item
-  place_inside (Some h) item = (item_place m e pk place t at h item).0
+  pub index_inside : (held : Option (View P)) → IfSome held (IsItem t) → IfSome held (λ item. pos_of item + byte_len w ≤ length (bytes_of item))
+  index_inside None item = item
+  index_inside (Some h) item = (item_index m e pk index t at h item).0
 
   -- a full bucket has the index, and it is below the length
-  pub place_stored : (held : Option (View P)) → IfSome held (IsItem t) → IfSome (option_map (place_at w) held) (IsStoredIndex m)
-  place_stored None item = item
-  place_stored (Some h) item = (item_stored m e pk place t at h item, (item_place m e pk place t at h item).1)
+  pub index_stored : (held : Option (View P)) → IfSome held (IsItem t) → IfSome (option_map (stored_index w) held) (IsStoredIndex m)
+  index_stored None item = item
+  index_stored (Some h) item = (item_stored m e pk index t at h item, (item_index m e pk index t at h item).1)
 
   -- the strides of a lookup in the table are those of a lookup in the map
   pub reads_few : (before after : ℕ) → CountsWithin t before after → ReadsWithinBound m before after
@@ -69,23 +69,23 @@ module _ {K V H W P N : Type 0} {ks : Specs K} {vs : Specs V} {ts : Specs P} {wt
       (subst (λ (x : List ℕ). ReadsWithin (len_at w x (table_pos t)) (probe_capacity (cap_at w x (table_pos t)) / 16) before after) (ap (λ (x : Bor (List ℕ)). x.now) at.0) counts)
 
   -- the comparison accepted the key at the index in a found item
-  pub place_accepted : (Post : View P → Bool → Type 0) (post' : View K → Bool → Type 0) (post_at_key : (h : View P) (r : Bool) → Post h r → (key : View K) × IsKeyOf m (number_at w (bytes_of h) h.pos) key × post' key r)
-      (held : Option (View P)) → IfSome held (λ h. Post h true) → IfSome (option_map (place_at w) held) (IsAccepted m post')
-  place_accepted Post post' post_at_key None is_accepted = is_accepted
-  place_accepted Post post' post_at_key (Some h) is_accepted = post_at_key h true is_accepted
+  pub index_accepted : (Post : View P → Bool → Type 0) (post' : View K → Bool → Type 0) (post_at_key : (h : View P) (r : Bool) → Post h r → (key : View K) × IsKeyOf m (number_at w (bytes_of h) h.pos) key × post' key r)
+      (held : Option (View P)) → IfSome held (λ h. Post h true) → IfSome (option_map (stored_index w) held) (IsAccepted m post')
+  index_accepted Post post' post_at_key None is_accepted = is_accepted
+  index_accepted Post post' post_at_key (Some h) is_accepted = post_at_key h true is_accepted
 
   -- the clauses of a lookup in the table are clauses on the index in its result
   module _ (key_hash : List ℕ → ℕ → ℕ) (Post : View P → Bool → Type 0) (post : View K → Bool → Type 0)
       (post_at_key : (h : View P) (r : Bool) → Post h r → (key : View K) × IsKeyOf m (number_at w (bytes_of h) h.pos) key × post key r) (hash query_hash : ℕ) (under : hash ≡ query_hash)
       (held : Option (View P)) (got : FindsItem Post generic_kind t hash held) (result : Option ℕ) (read : result ≡ option_map (number_at w (index_bytes m)) (pos_of_found held)) where
-    found_there : result ≡ option_map (place_at w) held
-    found_there = read ∙ sym (place_found held got.walked)
+    found_there : result ≡ option_map (stored_index w) held
+    found_there = read ∙ sym (stored_index_found held got.walked)
 
-    pub gets_place : GetsBy place_part m query_hash key_hash post result
-    gets_place = record {
-      walked = subst (λ r. IfSome r (IsStoredIndex m)) (sym found_there) (place_stored held got.walked);
-      accepted = (result, refl, subst (λ r. IfSome r (IsAccepted m post)) (sym found_there) (place_accepted Post post post_at_key held got.accepted));
-      answer = λ accept compares. read ∙ finds_place m e pk place t at Post post post_at_key held accept compares hash got.answer ∙ ap (λ n. index_found w (index_bytes m) (index_pos m) n accept) under;
+    pub gets_index : GetsBy index_part m query_hash key_hash post result
+    gets_index = record {
+      walked = subst (λ r. IfSome r (IsStoredIndex m)) (sym found_there) (index_stored held got.walked);
+      accepted = (result, refl, subst (λ r. IfSome r (IsAccepted m post)) (sym found_there) (index_accepted Post post post_at_key held got.accepted));
+      finds = λ accept compares. read ∙ finds_index m e pk index t at Post post post_at_key held accept compares hash got.finds ∙ ap (λ n. index_found w (index_bytes m) (index_pos m) n accept) under;
       first = λ accept compares alone homes written.
-          read ∙ finds_first_place m e pk place t at Post post post_at_key held accept compares hash key_hash (λ i below accepted. alone i below accepted ∙ sym under) got.first homes written;
+          read ∙ finds_first_index m e pk index t at Post post post_at_key held accept compares hash key_hash (λ i below accepted. alone i below accepted ∙ sym under) got.first homes written;
     }
