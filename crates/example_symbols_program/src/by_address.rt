@@ -56,10 +56,7 @@ pub fn archive(alloc: Global, symbols: &[(&str, u64)]) -> Result<Vec<u8>, WriteE
         Ok(row) => row,
         Err(_) => return Err(WriteError::Memory),
     };
-    match to_bytes(alloc, &OrderedPairs(row)) {
-        Ok(index) => Ok(index),
-        Err(e) => Err(e),
-    }
+    to_bytes(alloc, &OrderedPairs(row))
 }
 
 /// Validates an index, and returns a view of its index map.

@@ -1,5 +1,9 @@
 use Rattle.std.proofs.Common.{inr}
+use Rattle.std.proofs.lemmas.Result.{MatchResult-weaker}
 use Rattle.example_symbols_program.proofs.by_address.archive.Goals as goal
 
 pub returns : goal.returns
-returns c = inr (record { 0 = c.in-Ok.row }, c.in-Ok.ensures, c.in-Err-to_bytes.ensures)
+returns c =
+    MatchResult-weaker c.to_bytes.result c.to_bytes.ensures
+    (λ index archived. (record { 0 = c.in-Ok.row }, c.in-Ok.ensures, archived))
+    (λ e failed. inr (record { 0 = c.in-Ok.row }, c.in-Ok.ensures, failed))
