@@ -36,23 +36,25 @@ IsBuilt IsOne old new n = ((bytes : List ℕ) × IsOne bytes × AreInFront bytes
 -- `bytes` are the archive of a map of numbers to numbers, under the load factor 7 / 8.
 -- The pairs are inserted in this order.
 abbrev pub IsNumberMap : List (ℕ × ℕ) → List ℕ → Type 0
-IsNumberMap pairs bytes = ArchiveOf 4294967295 (map_of number_spec)
+IsNumberMap pairs bytes =
+    ArchiveOf 4294967295 (map_of number_spec)
     (MapRepresents w32 number_spec number_spec (ScalarRepresents (unsigned w32))
     (ScalarRepresents (unsigned w32)) (λ b q. number_hash (number_at w32 b q)) (7, 8))
-    (listed 4294967295 (7, 8) (map_format w32 number_spec number_spec
-    (scalar_format (unsigned w32)) (scalar_format (unsigned w32)) number_hash (7, 8)))
-    pairs bytes
+    (listed 4294967295 (7, 8)
+    (map_format w32 number_spec number_spec (scalar_format (unsigned w32))
+    (scalar_format (unsigned w32)) number_hash (7, 8))) pairs bytes
 
 -- `bytes` are the archive of a map of borrowed texts to numbers, under the load factor 7 / 8.
 -- The pairs are inserted in this order.
 abbrev pub IsTextMap : List (Bor (List ℕ) × ℕ) → List ℕ → Type 0
-IsTextMap pairs bytes = ArchiveOf 4294967295 (map_of narrow_text_spec)
+IsTextMap pairs bytes =
+    ArchiveOf 4294967295 (map_of narrow_text_spec)
     (MapRepresents w32 narrow_text_spec number_spec (λ b q text. TextReads w32 b q text.now)
     (ScalarRepresents (unsigned w32)) (λ b q. text_hash (text_at w32 b q)) (7, 8))
-    (listed 4294967295 (7, 8) (map_format w32 narrow_text_spec number_spec
-    (written_as (λ text. text.now) (text_format w32)) (scalar_format (unsigned w32)) (λ text.
-    text_hash text.now) (7, 8)))
-    pairs bytes
+    (listed 4294967295 (7, 8)
+    (map_format w32 narrow_text_spec number_spec
+    (written_as (λ text. text.now) (text_format w32)) (scalar_format (unsigned w32))
+    (λ text. text_hash text.now) (7, 8))) pairs bytes
 
 -- `bytes` are the archive of a map of the texts, each to the value at its index
 abbrev pub MapsTexts : List (List ℕ) → List ℕ → List ℕ → Type 0

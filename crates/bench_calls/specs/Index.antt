@@ -65,8 +65,7 @@ index_looked_up key b p calls fits = indexed_value_or_miss key b p
 
 -- the value of the entry that a lookup finds in the index map `m`, or 2 ^ 32
 abbrev pub index_map_looked_up : {K V H W : Type 0} {ks : Specs K} {vs : Specs V} {wt : Words W}
-    → ElementSpec
-    → ArchivedIndexMap K V H W ks vs wt → List HasherCall → (List ℕ → ℕ → Bool) → ℕ
+    → ElementSpec → ArchivedIndexMap K V H W ks vs wt → List HasherCall → (List ℕ → ℕ → Bool) → ℕ
 index_map_looked_up key m = index_looked_up key (index_bytes m) (index_pos m)
 
 -- the value that a lookup of `number` finds in the index map at `p`, or 2 ^ 32
@@ -89,12 +88,14 @@ index_walk_total b = total (pair_weight number_spec number_weight b) (index_walk
 -- `bytes` are the archive of an index map of numbers to numbers, under the load factor 7 / 8.
 -- The pairs are inserted in this order.
 abbrev pub IsNumberIndex : List (ℕ × ℕ) → List ℕ → Type 0
-IsNumberIndex pairs bytes = ArchiveOf 4294967295 index_map
+IsNumberIndex pairs bytes =
+    ArchiveOf 4294967295 index_map
     (IndexRepresents w32 number_spec number_spec (ScalarRepresents (unsigned w32))
     (ScalarRepresents (unsigned w32)) (λ b q. number_hash (number_at w32 b q)) (7, 8))
-    (listed 4294967295 (7, 8) (index_format w32 number_spec (unsigned w32) number_spec
-    number_spec (scalar_format (unsigned w32)) (scalar_format (unsigned w32)) number_hash (7, 8)))
-    pairs bytes
+    (listed 4294967295 (7, 8)
+    (index_format w32 number_spec (unsigned w32) number_spec number_spec
+    (scalar_format (unsigned w32)) (scalar_format (unsigned w32)) number_hash (7, 8))) pairs
+    bytes
 
 -- `bytes` are the archive of an index map of the numbers, each to the value at its index.
 -- The pairs are inserted in this order.

@@ -19,8 +19,8 @@ has_symbol line = nat_lt 19 (length line)
 
 -- the name, and the address of the digits, or `None` if the line has no symbol
 abbrev pub symbol_of : List ℕ → Option (List ℕ × ℕ)
-symbol_of line = if has_symbol line then Some (drop 19 line, digits_value 16 (take 16 line))
-    else None
+symbol_of line =
+    if has_symbol line then Some (drop 19 line, digits_value 16 (take 16 line)) else None
 
 -- the symbols of the lines of `text`, in order; lines without a symbol are skipped
 abbrev pub symbols_of : List ℕ → List (List ℕ × ℕ)

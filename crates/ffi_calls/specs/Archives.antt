@@ -112,7 +112,8 @@ KeepsHeader m n = (header : Decoded) → IsHeaderOf m header → IsHeaderOf n he
 -- the position of the value that a lookup finds.
 -- `calls`: hasher calls of the key, `fits`: test of the key at a position
 abbrev pub value_found : MapAt → List HasherCall → (ℕ → Bool) → Option ℕ
-value_found m calls fits = option_map (value_pos m.key m.value)
+value_found m calls fits =
+    option_map (value_pos m.key m.value)
     (pos_found generic_kind m.word (entry_spec m.key m.value).size m.bytes m.pos (hash_by calls)
     fits)
 

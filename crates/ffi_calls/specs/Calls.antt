@@ -47,8 +47,8 @@ abbrev pub ReturnsText : Form → List ℕ → List ℕ → ℕ → ℕ → ℕ 
 ReturnsText form b key before status after =
     ((IsUtf8 key → ⊥) × (status ≡ 4) × (after ≡ before))
     ⊎ (IsUtf8 key
-    × ReturnsAt (ReadsWord (word_of form.long_values) b) (text_found form b key) before status
-    after)
+    × ReturnsAt (ReadsWord (word_of form.long_values) b) (text_found form b key) before
+    status after)
 
 -- the result of an overwrite of the value of `key` in `b`.
 -- The status is 4 and no byte is changed if `key` isn't UTF-8.

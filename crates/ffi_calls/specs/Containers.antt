@@ -89,9 +89,9 @@ OpensOwnCodes codes b status = (contents : Contents) (a : List ℕ) → IsContai
 abbrev pub UpdatesContainer : List ℕ → ℕ → List ℕ → Type 0
 UpdatesContainer before status after =
     ((h : Header) × IsHeader h before × (h.len ≡ length (drop 32 before)) × (status ≡ 0)
-    × IsContainer (header_of h.contents (drop 32 before) (is_some h.checksum)) (drop 32 before)
-    after)
+    × IsContainer (header_of h.contents (drop 32 before) (is_some h.checksum))
+    (drop 32 before) after)
     ⊎ ((e : ContainerError) × FirstFails (header_checks before) e
     × (status ≡ container_status e) × (after ≡ before))
-    ⊎ ((h : Header) × IsHeader h before × (h.len ≡ length (drop 32 before) → ⊥)
-    × (status ≡ 46) × (after ≡ before))
+    ⊎ ((h : Header) × IsHeader h before × (h.len ≡ length (drop 32 before) → ⊥) × (status ≡ 46)
+    × (after ≡ before))

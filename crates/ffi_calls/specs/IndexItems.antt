@@ -45,9 +45,10 @@ index_width w spec encoding =
 module _ {P A N R Q : Type 0} (width : IndexWidth P) (format : PairFormat A N R Q) where
   -- the format of a list of pairs as an index map under the load factor 7 / 8
   abbrev pub index_pairs_format : Format (List (A × N)) IndexResolver
-  index_pairs_format = listed width.archive.most (7, 8) (index_format width.archive.word
-      width.indices.spec width.indices.encoding format.key_spec format.value_spec format.key
-      format.value format.hash (7, 8))
+  index_pairs_format =
+      listed width.archive.most (7, 8)
+      (index_format width.archive.word width.indices.spec width.indices.encoding format.key_spec
+      format.value_spec format.key format.value format.hash (7, 8))
 
   -- the spec of the header of the index map
   abbrev pub index_header_spec : ElementSpec
@@ -56,9 +57,10 @@ module _ {P A N R Q : Type 0} (width : IndexWidth P) (format : PairFormat A N R 
   -- `b` is the archive of the pairs as an index map, in this order.
   -- It is valid, represents them, and has no other bytes.
   unfoldable pub IsIndexOf : NativePairs A N → List (A × N) → List ℕ → Type 0
-  IsIndexOf native pairs b = ArchiveOf width.archive.limit index_header_spec
-      (IndexRepresents width.archive.word format.key_spec format.value_spec native.key native.value
-      native.key_hash (7, 8)) index_pairs_format pairs b
+  IsIndexOf native pairs b =
+      ArchiveOf width.archive.limit index_header_spec
+      (IndexRepresents width.archive.word format.key_spec format.value_spec native.key
+      native.value native.key_hash (7, 8)) index_pairs_format pairs b
 
   -- the write of the pairs fails with `error`
   unfoldable pub IndexFails : {F : Type 0} → List (A × N) → WriteError F → Type 0
@@ -67,10 +69,12 @@ module _ {P A N R Q : Type 0} (width : IndexWidth P) (format : PairFormat A N R 
 
   -- an archive of a list as an index map is valid, and represents the list
   abbrev pub IndexesRepresent : NativePairs A N → Type 0
-  IndexesRepresent native = (pairs : List (A × N)) (b : List ℕ) → IsIndexOf native pairs b
+  IndexesRepresent native =
+      (pairs : List (A × N)) (b : List ℕ) → IsIndexOf native pairs b
       → IsValidArchive width.archive.limit index_header_spec b
-      × IndexRepresentsPairs (index_in width.archive.word format.key_spec format.value_spec b)
-      native (7, 8) pairs
+      × IndexRepresentsPairs
+      (index_in width.archive.word format.key_spec format.value_spec b) native (7, 8)
+      pairs
 
 module _ {A P N : Type 0} (k : NumberKey A) (width : IndexWidth P) (v : ElementSpec)
     (e : Encoding N) where

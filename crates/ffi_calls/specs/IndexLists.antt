@@ -20,8 +20,9 @@ use Rattle.ffi_calls.specs.declared.pairs.Pair.{Pair}
 -- the index map represents the pairs, in this order, under the load factor
 abbrev pub IndexRepresentsPairs : {A N : Type 0} → MapAt → NativePairs A N → ℕ × ℕ → List (A × N)
     → Type 0
-IndexRepresentsPairs m native factor pairs = IndexRepresents m.word m.key m.value native.key
-    native.value native.key_hash factor m.bytes m.pos pairs
+IndexRepresentsPairs m native factor pairs =
+    IndexRepresents m.word m.key m.value native.key native.value native.key_hash factor m.bytes
+    m.pos pairs
 
 -- the pair at index `i` of a list has the value of `stored`, by `is_of`
 abbrev pub HasValueAt : {A B Y : Type 0} → (Y → B → Type 0) → List (A × B) → ℕ → Y → Type 0

@@ -57,8 +57,9 @@ query_of_key represents key_calls accept_value =
 
 -- the map represents the pairs, under the load factor
 abbrev pub PairsRepresent : {A N : Type 0} → MapAt → NativePairs A N → ℕ × ℕ → List (A × N) → Type 0
-PairsRepresent m native factor pairs = MapRepresents m.word m.key m.value native.key native.value
-    native.key_hash factor m.bytes m.pos pairs
+PairsRepresent m native factor pairs =
+    MapRepresents m.word m.key m.value native.key native.value native.key_hash factor m.bytes m.pos
+    pairs
 
 module _ {A B : Type 0} (m : MapAt) (a : ValueQuery A) (value : List ℕ → ℕ → B → Type 0) where
   -- the pairs that entries of a map represent, by `a` and by `value`
@@ -112,8 +113,10 @@ archive_width w = record { word = w.word; limit = w.LIMIT; most = w.MAX_CAPACITY
 module _ {A N R Q : Type 0} (width : ArchiveWidth) (format : PairFormat A N R Q) where
   -- the format of a list of pairs as a map under the load factor 7 / 8
   abbrev pub pairs_format : Format (List (A × N)) TableResolver
-  pairs_format = listed width.most (7, 8) (map_format width.word format.key_spec
-      format.value_spec format.key format.value format.hash (7, 8))
+  pairs_format =
+      listed width.most (7, 8)
+      (map_format width.word format.key_spec format.value_spec format.key format.value
+      format.hash (7, 8))
 
   -- the spec of the header of the map
   abbrev pub header_spec : ElementSpec
@@ -122,9 +125,10 @@ module _ {A N R Q : Type 0} (width : ArchiveWidth) (format : PairFormat A N R Q)
   -- `b` is the archive of the pairs, in this order.
   -- It is valid, represents them, and has no other bytes.
   unfoldable pub IsArchiveOf : NativePairs A N → List (A × N) → List ℕ → Type 0
-  IsArchiveOf native pairs b = ArchiveOf width.limit header_spec (MapRepresents width.word
-      format.key_spec format.value_spec native.key native.value native.key_hash (7, 8))
-      pairs_format pairs b
+  IsArchiveOf native pairs b =
+      ArchiveOf width.limit header_spec
+      (MapRepresents width.word format.key_spec format.value_spec native.key native.value
+      native.key_hash (7, 8)) pairs_format pairs b
 
   -- the write of the pairs fails with `error`
   unfoldable pub ArchiveFails : {F : Type 0} → List (A × N) → WriteError F → Type 0

@@ -41,14 +41,15 @@ fx_hash_at calls b q = hash_of_calls (fx_hasher low_halves) (calls b q)
 module _ {A R : Type 0} (width : ArchiveWidth) (format : KeyFormat A R) where
   -- the format of a list of items as a set under the load factor 7 / 8
   abbrev pub items_format : Format (List A) TableResolver
-  items_format = listed width.most (7, 8) (set_format width.word format.spec format.format
-      format.hash (7, 8))
+  items_format =
+      listed width.most (7, 8) (set_format width.word format.spec format.format format.hash (7, 8))
 
   -- `b` is the archive of the items, in this order. It is valid, represents them, and has no other
   -- bytes. `represents` and `calls`: what represents an item, and its hasher calls at a position
   unfoldable pub IsSetArchive : (List ℕ → ℕ → A → Type 0) → (List ℕ → ℕ → List HasherCall)
       → List A → List ℕ → Type 0
-  IsSetArchive represents calls items b = ArchiveOf width.limit (set_spec width.word format.spec)
+  IsSetArchive represents calls items b =
+      ArchiveOf width.limit (set_spec width.word format.spec)
       (SetRepresents width.word format.spec represents (fx_hash_at calls) (7, 8)) items_format
       items b
 
@@ -108,9 +109,10 @@ module _ (width : ArchiveWidth) where
 
   -- `b` is the archive of the set of the texts of the items
   abbrev pub TextSetWriteOk : List SetText → List ℕ → Type 0
-  TextSetWriteOk items b = (texts : List (Bor (List ℕ))) × AreSetTexts items texts
-      × IsSetArchive width text_items (TextRepresents width.word) (text_key_calls width.word) texts
-      b
+  TextSetWriteOk items b =
+      (texts : List (Bor (List ℕ))) × AreSetTexts items texts
+      × IsSetArchive width text_items (TextRepresents width.word) (text_key_calls width.word)
+      texts b
 
   -- `status` is that of items without texts, or of the error of the write of the set
   abbrev pub TextSetWriteFails : List SetText → ℕ → Type 0

@@ -99,8 +99,9 @@ module _ (width : ArchiveWidth) where
 
   -- how pairs of texts are written
   abbrev pub text_texts_format : PairFormat (Bor (List ℕ)) (Bor (List ℕ)) TextResolver TextResolver
-  text_texts_format = fx_format (text_spec width.word) (text_spec width.word) bytes_format
-      bytes_format (λ text. text_calls text.now)
+  text_texts_format =
+      fx_format (text_spec width.word) (text_spec width.word) bytes_format bytes_format
+      (λ text. text_calls text.now)
 
   -- the pairs of texts that bytes represent
   abbrev pub text_texts_natives : NativePairs (Bor (List ℕ)) (Bor (List ℕ))

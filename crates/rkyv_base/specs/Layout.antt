@@ -6,8 +6,8 @@ use Rattle.rkyv_base.specs.Scalar.{Encoding}
 
 -- the sizes in words: alignment one, text two, table header three, index map header four.
 -- The text limit is a quarter of the numbers of a word
-pub record IsLayout (word : Width) (limit max_capacity table_size index_size align text_size
-    text_limit : ℕ) : Type 0 where
+pub record IsLayout (word : Width)
+    (limit max_capacity table_size index_size align text_size text_limit : ℕ) : Type 0 where
   pub kind : (word ≡ w32) ⊎ (word ≡ w64)
   pub limit_fits : limit < 2 ^ bits word
   pub limit_small : limit < 2 ^ 63

@@ -13,8 +13,8 @@ Padded n good out = (a : List ℕ) × good a × (out ≡ a ++ zeros (n - length 
 
 -- the bytes of a pair whose value begins at `off`
 abbrev pub pair_bytes : ℕ → ℕ → List ℕ → List ℕ → List ℕ
-pair_bytes off size key value = (key ++ zeros (off - length key)) ++
-    (value ++ zeros ((size - off) - length value))
+pair_bytes off size key value =
+    (key ++ zeros (off - length key)) ++ (value ++ zeros ((size - off) - length value))
 
 -- the bytes at `p` represent the key, and those at the value's offset represent the value
 abbrev pub PairRepresents : {V W : Type 0} → ElementSpec → ElementSpec → (List ℕ → ℕ → V → Type 0)
@@ -55,8 +55,7 @@ module _ {V W R Q : Type 0} (k v : ElementSpec) (kf : Format V R) (vf : Format W
     parts = PairParts;
     next = PairNext;
     image = PairImage;
-    overflow =
-        PairOverflows;
+    overflow = PairOverflows;
   }
 
 -- the format `f` for values of another type, which `as_value` maps to the values `V`

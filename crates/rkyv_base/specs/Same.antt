@@ -11,8 +11,8 @@ pub record SameSpec (s t : ElementSpec) : Type 0 where
   pub size : s.size ≡ t.size
   pub align : s.align ≡ t.align
   pub is_valid : (b : List ℕ) (p lo hi l : ℕ) → s.is_valid b p lo hi l ↔ t.is_valid b p lo hi l
-  pub fails : (b : List ℕ) (p lo hi : ℕ) (e : VerifyError) → s.fails b p lo hi e
-      ↔ t.fails b p lo hi e
+  pub fails : (b : List ℕ) (p lo hi : ℕ) (e : VerifyError)
+      → s.fails b p lo hi e ↔ t.fails b p lo hi e
 
 -- the numbers have the same width, each value the same number, and each number the same value
 pub record SameEncoding {V : Type 0} (e f : Encoding V) : Type 0 where
@@ -29,7 +29,7 @@ SameValues {V} represents other = (b : List ℕ) (p : ℕ) (v : V) → represent
 -- the parts, the steps, the fixed bytes and the overflows of both formats are the same
 pub record SameFormat {V R : Type 0} (f g : Format V R) : Type 0 where
   pub parts : (v : V) (p : ℕ) (part : List ℕ) (r : R) → f.parts v p part r ↔ g.parts v p part r
-  pub next : (v : V) (p : ℕ) (front : List ℕ) (step : Step) → f.next v p front step
-      ↔ g.next v p front step
+  pub next : (v : V) (p : ℕ) (front : List ℕ) (step : Step)
+      → f.next v p front step ↔ g.next v p front step
   pub image : (v : V) (r : R) (p : ℕ) (out : List ℕ) → f.image v r p out ↔ g.image v r p out
   pub overflow : (v : V) (r : R) (p : ℕ) → f.overflow v r p ↔ g.overflow v r p

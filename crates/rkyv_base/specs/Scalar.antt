@@ -58,8 +58,8 @@ pub record IsScalar {V : Type 0} (s : ElementSpec) (e : Encoding V) : Type 0 whe
   pub size : s.size ≡ byte_len e.word
   pub align : s.align ≡ byte_len e.word
   pub is_valid : (b : List ℕ) (p lo hi l : ℕ) → s.is_valid b p lo hi l ↔ IsValidScalar e b p lo hi l
-  pub fails : (b : List ℕ) (p lo hi : ℕ) (error : VerifyError) → s.fails b p lo hi error
-      ↔ ScalarFails e b p lo hi error
+  pub fails : (b : List ℕ) (p lo hi : ℕ) (error : VerifyError)
+      → s.fails b p lo hi error ↔ ScalarFails e b p lo hi error
 
 -- the format of a scalar, which appends nothing before its fixed bytes
 abbrev pub scalar_format : {V : Type 0} → Encoding V → Format V Unit

@@ -6,11 +6,11 @@ use Rattle.rkyv_base.specs.declared.seal.Seal.{Seal}
 use Rattle.rkyv_base.specs.ElementSpec.{ElementSpec}
 
 -- the reference `lender` with the same bytes, and the position `p`
-pub record BorrowsAt (lent : MutBor (List ℕ)) (at : ℕ) (lender : MutBor (List ℕ)) (p : ℕ) : Type
-    0 where
-  pub same_reference : lent.ghost_name ≡ lender.ghost_name
-  pub bytes : lent.now ≡ lender.now
-  pub pos : at ≡ p
+pub record BorrowsAt (lent : MutBor (List ℕ)) (at : ℕ) (lender : MutBor (List ℕ)) (p : ℕ) : Type 0
+  where
+    pub same_reference : lent.ghost_name ≡ lender.ghost_name
+    pub bytes : lent.now ≡ lender.now
+    pub pos : at ≡ p
 
 -- the same reference, whose bytes may have changed, and the same position
 pub record IsSameBorrow (lent lent' : MutBor (List ℕ)) (at at' : ℕ) : Type 0 where

@@ -149,8 +149,8 @@ module _ {K V H W : Type 0} {ks : Specs K} {vs : Specs V} {wt : Words W}
   -- the property applies to the position of the key that a lookup under the hash finds in the map,
   -- or to `None`
   abbrev pub FindsKey : ℕ → (ℕ → Bool) → (Option ℕ → Type 0) → Type 0
-  FindsKey hash accept P = FindsKeyAt wt.word ks.spec vs.spec (map_bytes m) (map_pos m) hash
-      accept P
+  FindsKey hash accept P =
+      FindsKeyAt wt.word ks.spec vs.spec (map_bytes m) (map_pos m) hash accept P
 
   -- if the map was written, the property applies to the position of the first accepted key
   -- in insertion order, or to `None`

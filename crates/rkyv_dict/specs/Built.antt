@@ -50,8 +50,8 @@ module _ (k : MapTypes) {A : Type 0} (factor : ℕ × ℕ) where
 
     -- `b` is the archive of the pairs: valid, its root represents them, and it has no other bytes
     unfoldable pub IsArchiveOf : (List ℕ → ℕ → A → Type 0) → List (A × A) → List ℕ → Type 0
-    IsArchiveOf represents pairs b = ArchiveOf k.limit (header_spec k) (PairsRepresentAt represents)
-        pairs_format pairs b
+    IsArchiveOf represents pairs b =
+        ArchiveOf k.limit (header_spec k) (PairsRepresentAt represents) pairs_format pairs b
 
     -- the write of the pairs fails with `e`
     unfoldable pub ArchiveFails : {F : Type 0} → List (A × A) → WriteError F → Type 0

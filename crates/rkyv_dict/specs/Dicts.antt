@@ -10,8 +10,7 @@ use Rattle.rkyv_dict.specs.State.{Archived, State}
 abbrev pub archived_of : Pairs → Stored → Archived
 archived_of pairs stored = record {
   bytes = stored.bytes.items;
-  built_of =
-      option_map (λ n. take_pairs n pairs) stored.built_len;
+  built_of = option_map (λ n. take_pairs n pairs) stored.built_len;
 }
 
 -- the state of a script that a dictionary has
@@ -19,7 +18,6 @@ abbrev pub state_of : Dict → State
 state_of dict = record {
   bits = dict.bits;
   load_factor = dict.load_factor;
-  pairs =
-      pairs_of dict.list;
+  pairs = pairs_of dict.list;
   archive = option_map (archived_of (pairs_of dict.list)) dict.archive;
 }

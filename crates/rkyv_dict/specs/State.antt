@@ -41,8 +41,7 @@ abbrev pub emptied : Kind → ArchiveWidth → State → State
 emptied kind bits s = record {
   bits = bits;
   load_factor = s.load_factor;
-  pairs =
-      no_pairs kind;
+  pairs = no_pairs kind;
   archive = None;
 }
 

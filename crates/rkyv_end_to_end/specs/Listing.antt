@@ -158,9 +158,8 @@ pub record IsWrittenList {X : Type 0} (t : TableIn) (represents : List ℕ → �
 abbrev pub ListsAreValid : {X R : Type 0} → Width → Encoding X R → ℕ × ℕ → Type 0
 ListsAreValid {X} w items load_factor =
     (pairs : List (ℕ × X)) (begin end p : ℕ) (bytes c : List ℕ)
-    → ListBytes (byte_len w) (table_format w items.spec items.format load_factor) pairs begin end
-    p bytes
-    → OccursAt c begin bytes
+    → ListBytes (byte_len w) (table_format w items.spec items.format load_factor) pairs begin
+    end p bytes → OccursAt c begin bytes
     → IsWrittenList (record { word = w; spec = items.spec; bytes = c; pos = p })
     items.represents load_factor begin end pairs
     × (p + 3 * byte_len w ≡ begin + length bytes)

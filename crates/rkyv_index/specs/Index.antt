@@ -61,8 +61,9 @@ IsStoredAt w b p i = (bucket : ℕ) × IsWalked w b p bucket
 
 -- the index that a lookup under `hash` finds. `accept i`: the key at index `i` is accepted
 abbrev pub index_found : Width → List ℕ → ℕ → ℕ → (ℕ → Bool) → Option ℕ
-index_found w b p hash accept = option_map (number_at w b) (pos_found generic_kind w (byte_len w) b
-    p hash (λ q. accept (number_at w b q)))
+index_found w b p hash accept =
+    option_map (number_at w b)
+    (pos_found generic_kind w (byte_len w) b p hash (λ q. accept (number_at w b q)))
 
 -- the number of strides that a lookup under `hash` reads. `accept i`: the key at index `i`
 -- is accepted
@@ -89,8 +90,7 @@ module _ {K V H W : Type 0} {ks : Specs K} {vs : Specs V} {wt : Words W} where
 
   -- the position of the key at index `i`
   abbrev pub key_pos : ArchivedIndexMap K V H W ks vs wt → ℕ → ℕ
-  key_pos m i = pair_pos wt.word (entry_spec ks.spec vs.spec).size (index_bytes m) (index_pos m)
-      i
+  key_pos m i = pair_pos wt.word (entry_spec ks.spec vs.spec).size (index_bytes m) (index_pos m) i
 
   -- the positions of the keys, in order
   abbrev pub key_positions : ArchivedIndexMap K V H W ks vs wt → List ℕ
@@ -111,8 +111,8 @@ module _ {K V H W : Type 0} {ks : Specs K} {vs : Specs V} {wt : Words W} where
       pub viewable : IsValidView vs.spec value
 
   -- `entry`: view of the entry at index `i`
-  pub record IsEntryOf (m : ArchivedIndexMap K V H W ks vs wt) (i : ℕ) (entry : View (Entry K V))
-      : Type 0 where
+  pub record IsEntryOf (m : ArchivedIndexMap K V H W ks vs wt) (i : ℕ) (entry : View (Entry K V)) :
+      Type 0 where
     pub below : i < index_len m
     pub at : IsAt entry (index_archive m) (key_pos m i)
     pub viewable : IsValidView (entry_spec ks.spec vs.spec) entry
@@ -183,8 +183,7 @@ pub record FindsIndexIn {P W : Type 0} {ts : Specs P} {wt : Words W} (post : ℕ
 
 -- `key`: view of the key at index `i` of the map at `m`
 pub record IsKeyIn {M K : Type 0} (w : Width) (k v : ElementSpec) (m : View M) (i : ℕ)
-    (key : View K)
-    : Type 0 where
+    (key : View K) : Type 0 where
   pub below : i < len_at w (bytes_of m) (pos_of m)
   pub at : IsAt key (archive_of m) (pair_pos w (entry_spec k v).size (bytes_of m) (pos_of m) i)
   pub viewable : IsValidView k key

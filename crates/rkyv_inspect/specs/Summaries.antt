@@ -44,10 +44,10 @@ keyed_map word key value bytes pos =
 
 -- `lookups`: lookups of the items at `items`, of which `misplaced` find another item or none.
 -- `reads q`: number of strides that the lookup of the item at `q` reads
-pub record AreLookups (misplaced : ℕ) (reads : ℕ → ℕ) (items : List ℕ) (lookups : Lookups)
-    : Type 0 where
-  pub misplaced_is : lookups.misplaced ≡ misplaced
-  pub strides_are : IsHistogram reads items lookups.strides.items
+pub record AreLookups (misplaced : ℕ) (reads : ℕ → ℕ) (items : List ℕ) (lookups : Lookups) : Type 0
+  where
+    pub misplaced_is : lookups.misplaced ≡ misplaced
+    pub strides_are : IsHistogram reads items lookups.strides.items
 
 -- `result` has the property `P`, or is `None` if the lookups of all items, which read `all`
 -- strides, read more than `limit`, or more than 2^63

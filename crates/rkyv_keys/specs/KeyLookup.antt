@@ -13,8 +13,7 @@ pub record KeyLookup : Type 0 where
 
 -- the lookup by a query that fits `fits` and makes the hasher calls `calls`. The keys make
 -- `key_calls`, and are equal by `same`
-abbrev pub query_of : {State : Type 0} → Hasher State → (List ℕ → ℕ → List HasherCall)
-    → Comparison
+abbrev pub query_of : {State : Type 0} → Hasher State → (List ℕ → ℕ → List HasherCall) → Comparison
     → List HasherCall → (List ℕ → ℕ → Bool) → KeyLookup
 query_of hasher key_calls same calls fits = record {
   hash = hash_of_calls hasher calls;

@@ -22,10 +22,9 @@ ReadsAnywhere q = Unit {0}
 
 -- the laws of a query. It makes the calls of each key that it fits.
 -- It then fits the keys that are the same as that key, and no others
-pub record IsQuery {Q : Type 0} (s : ElementSpec) (same : Comparison) (key_calls : List ℕ → ℕ
-    → List HasherCall)
-    (can_read : Q → Type 0) (calls : Q → List HasherCall) (fits : Q → List ℕ → ℕ → Bool) : Type
-    0 where
+pub record IsQuery {Q : Type 0} (s : ElementSpec) (same : Comparison)
+    (key_calls : List ℕ → ℕ → List HasherCall) (can_read : Q → Type 0) (calls : Q → List HasherCall)
+    (fits : Q → List ℕ → ℕ → Bool) : Type 0 where
   pub same_calls : (q : Q) (b : List ℕ) (p : ℕ) → can_read q → ValidAt s b p → fits q b p ≡ true
       → calls q ≡ key_calls b p
   pub respects_same : (q : Q) (b c : List ℕ) (p r : ℕ) → can_read q → ValidAt s b p → ValidAt s c r

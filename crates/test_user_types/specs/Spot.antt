@@ -64,10 +64,11 @@ spot_format = written_as as_pair (pair_format int_spec int_spec (scalar_format (
 
 pub spot_is_format : IsFormat spot_spec SpotRepresents spot_format
 spot_is_format =
-    written_as-format as_pair spot_spec (PairRepresents int_spec int_spec (ScalarRepresents
-    (signed w32)) (ScalarRepresents (signed w32)))
+    written_as-format as_pair spot_spec
+    (PairRepresents int_spec int_spec (ScalarRepresents (signed w32))
+    (ScalarRepresents (signed w32)))
     (pair_format int_spec int_spec (scalar_format (signed w32)) (scalar_format (signed w32)))
     (pair_is_format int_spec int_spec int_element int_element (ScalarRepresents (signed w32))
-    (ScalarRepresents (signed w32))
-    (scalar_format (signed w32)) (scalar_format (signed w32)) (scalar_is_format int_spec (signed
-    w32) int_laws) (scalar_is_format int_spec (signed w32) int_laws))
+    (ScalarRepresents (signed w32)) (scalar_format (signed w32))
+    (scalar_format (signed w32)) (scalar_is_format int_spec (signed w32) int_laws)
+    (scalar_is_format int_spec (signed w32) int_laws))

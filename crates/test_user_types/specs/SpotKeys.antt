@@ -21,8 +21,8 @@ use Rattle.test_user_types.specs.Spot.{spot_spec}
 
 -- the equality of spots at two positions
 abbrev pub spot_same : Comparison
-spot_same = entry_same int_spec int_spec (scalar_same (signed w32) int_eq) (scalar_same (signed
-    w32) int_eq)
+spot_same =
+    entry_same int_spec int_spec (scalar_same (signed w32) int_eq) (scalar_same (signed w32) int_eq)
 
 pub spot_equivalence : IsEquivalence spot_spec spot_same
 spot_equivalence = entry_equivalence int_element int_element
@@ -65,9 +65,7 @@ spot_eq a b = int_eq a.x b.x && int_eq a.y b.y
 
 pub spot_fits_its_equal : FitsItsEqual spot_spec SpotRepresents spot_eq spot_fits
 spot_fits_its_equal a b bytes p h st =
-    entry_fits_its_equal int_element int_element (ScalarRepresents (signed w32)) (ScalarRepresents
-    (signed
-    w32)) int_eq int_eq (scalar_fits (signed w32) int_eq) (scalar_fits (signed w32) int_eq)
-    (scalar_fits_its_equal int_spec (signed w32) int_eq)
-    (scalar_fits_its_equal int_spec (signed w32) int_eq)
-    (as_pair a) (as_pair b) bytes p h st
+    entry_fits_its_equal int_element int_element (ScalarRepresents (signed w32))
+    (ScalarRepresents (signed w32)) int_eq int_eq (scalar_fits (signed w32) int_eq)
+    (scalar_fits (signed w32) int_eq) (scalar_fits_its_equal int_spec (signed w32) int_eq)
+    (scalar_fits_its_equal int_spec (signed w32) int_eq) (as_pair a) (as_pair b) bytes p h st

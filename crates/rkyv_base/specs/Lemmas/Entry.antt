@@ -201,6 +201,7 @@ module _ (k v : ElementSpec) (kl : IsElement k) (vl : IsElement v) where
         inside = lie.0;
         aligned = sum_multiple p (value_offset k v) v.align vl.align_is lie.2
             (round_up-multiple k.size v.align vl.align_is);
-        valid = valid_at v vl b (p + value_offset k v) h.valid.1.1 p h.valid.0 x.1 (omega arith)
+        valid =
+            valid_at v vl b (p + value_offset k v) h.valid.1.1 p h.valid.0 x.1 (omega arith)
             h.valid.1.3;
       }

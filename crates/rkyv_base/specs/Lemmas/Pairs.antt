@@ -19,10 +19,7 @@ use Rattle.rkyv_base.specs.Pairs.{PairImage, PairOverflows, PairParts, PairRepre
 use Rattle.rkyv_base.specs.Pairs.{pair_format, written_as}
 
 pub written_as-format : {X V R : Type 0} (as_value : X → V) (s : ElementSpec)
-    (represents : List ℕ → ℕ
-    → V
-    → Type 0) (f : Format V R)
-    → IsFormat s represents f
+    (represents : List ℕ → ℕ → V → Type 0) (f : Format V R) → IsFormat s represents f
     → IsFormat s (λ b p x. represents b p (as_value x)) (written_as as_value f)
 written_as-format as_value s represents f laws = record {
   size_exact = λ x. laws.size_exact (as_value x);
@@ -34,9 +31,8 @@ length_pair : (off size : ℕ) (a b : List ℕ) → length a ≤ off → off + l
     → length (pair_bytes off size a b) ≡ size
 length_pair off size a b h g = simp (length-append, length-replicate) (omega arith)
 
-module _ {V W : Type 0} (k v : ElementSpec) (kl : IsElement k) (vl : IsElement v) (key : List ℕ → ℕ
-    → V
-    → Type 0) (value : List ℕ → ℕ → W → Type 0) where
+module _ {V W : Type 0} (k v : ElementSpec) (kl : IsElement k) (vl : IsElement v)
+    (key : List ℕ → ℕ → V → Type 0) (value : List ℕ → ℕ → W → Type 0) where
   pub pair_local : RepresentsLocally k key → RepresentsLocally v value
       → RepresentsLocally (entry_spec k v) (PairRepresents k v key value)
   pair_local kn vn pair b c p lo hi l o h fixed part st =
@@ -45,10 +41,9 @@ module _ {V W : Type 0} (k v : ElementSpec) (kl : IsElement k) (vl : IsElement v
         vn pair.1 b c (p + value_offset k v) h.1 hi l s.room h.3 s.value s.value_parts st.1,
       )
 
-module _ {V W R Q : Type 0} (k v : ElementSpec) (kl : IsElement k) (vl : IsElement v) (key : List ℕ
-    → ℕ
-    → V → Type 0) (value : List ℕ → ℕ → W → Type 0)
-    (kf : Format V R) (vf : Format W Q) (kw : IsFormat k key kf) (vw : IsFormat v value vf) where
+module _ {V W R Q : Type 0} (k v : ElementSpec) (kl : IsElement k) (vl : IsElement v)
+    (key : List ℕ → ℕ → V → Type 0) (value : List ℕ → ℕ → W → Type 0) (kf : Format V R)
+    (vf : Format W Q) (kw : IsFormat k key kf) (vw : IsFormat v value vf) where
   pair_whole : (pair : V × W) (r : EntryResolver R Q) (p : ℕ) (out : List ℕ)
       → PairImage k v kf vf pair r p out → length out ≡ size_of_whole (whole_size k v)
   pair_whole pair r p out (inl h) = ap length h.1 ∙ sym (size_of_large (whole_size k v) h.0)
@@ -92,9 +87,10 @@ module _ {V W R Q : Type 0} (k v : ElementSpec) (kl : IsElement k) (vl : IsEleme
       let tk : OccursAt c p g.1 = occurs_front c p g.1 (zeros (off - length g.1))
       (occurs_front c p (g.1 ++ zeros (off - length g.1))
       (g.2 ++ zeros ((whole - off) - length g.2)) tp) in
-      let tv : OccursAt c (p + off) g.2 = subst (λ n. OccursAt c (p + n) g.2) n1
-      (occurs_third c p g.1 (zeros (off - length g.1)) g.2 (zeros ((whole - off) - length g.2))
-      tp) in
+      let tv : OccursAt c (p + off) g.2 =
+      subst (λ n. OccursAt c (p + n) g.2) n1
+      (occurs_third c p g.1 (zeros (off - length g.1)) g.2
+      (zeros ((whole - off) - length g.2)) tp) in
       let dk = kw.sound pair.0 r.key c p0 p h.1 g.1 h.3 g.3 (occurs_front c p0 h.1 h.2 sp) tk
       (omega arith) als.0 in
       let dv = vw.sound pair.1 r.value c (p0 + length h.1) (p + off) h.2 g.2 h.4 g.4
@@ -115,6 +111,5 @@ module _ {V W R Q : Type 0} (k v : ElementSpec) (kl : IsElement k) (vl : IsEleme
   pair_is_format = record {
     size_exact = pair_whole;
     exclusive = pair_exclusive;
-    sound =
-        pair_sound;
+    sound = pair_sound;
   }

@@ -31,10 +31,9 @@ byte_reads_back n h = omega arith
 -- a number that fits in its word reads back as written
 pub word_reads_back : (w : Width) → IsWord w → (n : ℕ) → n < 2 ^ bits w
     → from_le_bytes w (to_le_bytes w n) ≡ n
-word_reads_back w h = by_word (λ v. (n : ℕ) → n < 2 ^ bits v
-    → from_le_bytes v (to_le_bytes v n) ≡ n)
-    byte_reads_back from_le_bytes-to_le_bytes_2 from_le_bytes-to_le_bytes_4
-    from_le_bytes-to_le_bytes_8 w h
+word_reads_back w h =
+    by_word (λ v. (n : ℕ) → n < 2 ^ bits v → from_le_bytes v (to_le_bytes v n) ≡ n) byte_reads_back
+    from_le_bytes-to_le_bytes_2 from_le_bytes-to_le_bytes_4 from_le_bytes-to_le_bytes_8 w h
 
 pub word_bytes : (w : Width) → IsWord w → (n : ℕ) → length (to_le_bytes w n) ≡ byte_len w
 word_bytes w h = by_word (λ v. (n : ℕ) → length (to_le_bytes v n) ≡ byte_len v) (λ n. refl)
@@ -78,8 +77,8 @@ module _ {V : Type 0} (e : Encoding V) (word : IsWord e.word) where
 module _ {V : Type 0} (s : ElementSpec) (e : Encoding V) (laws : IsScalar s e) where
   pub scalar_local : RepresentsLocally s (ScalarRepresents e)
   scalar_local v b c p lo hi l o h same part st =
-      let word : AgreeOn b c p (p + byte_len e.word) = subst (λ n. AgreeOn b c p (p + n)) laws.size
-      same in
+      let word : AgreeOn b c p (p + byte_len e.word) =
+      subst (λ n. AgreeOn b c p (p + n)) laws.size same in
       subst (λ t. e.value (from_le_bytes e.word t) ≡ v) word st
 
   -- the number at `p` of bytes in an archive

@@ -140,8 +140,7 @@ module _ (w : Width) where
       (h.2 + out_of_line_length w s)
   same_text s b c p lo hi l part (f, n, at, at_part, u, q) =
       agree_on_part b c lo l at (at + out_of_line_length w s) at_part.above (omega (arith, q))
-      (omega arith)
-      part
+      (omega arith) part
 
   valid_local : (s b c : List ℕ) (p lo hi l : ℕ) → AgreeOn b c lo l → IsValidText w s b p lo hi l
       → IsValidText w s c p lo hi l

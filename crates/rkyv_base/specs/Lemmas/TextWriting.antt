@@ -106,8 +106,7 @@ module _ (w : Width) (kind : IsArchiveWord w) (n : ℕ) (d : ℤ) where
   out_of_line_first =
       let first : slice_index (out_of_line_bytes w n d) 0 ≡ length_word n % 256 =
       by_archive_word (λ v. slice_index (out_of_line_bytes v n d) 0 ≡ length_word n % 256) refl refl
-      w
-      kind in
+      w kind in
       rw first (out_of_line_byte (length_word n % 256) (omega arith) (omega arith))
 
   length_reads : n < text_limit w → out_of_line_length w (out_of_line_bytes w n d) ≡ n
@@ -159,8 +158,7 @@ module _ (w : Width) (kind : IsArchiveWord w) where
       ∙ inline_ends (text_size w) t u in (
         lo,
         inl (inline, subst IsUtf8 (sym text) u, refl),
-        inline_reads w (fixed_bytes w c p) c p inline
-            ∙ text,
+        inline_reads w (fixed_bytes w c p) c p inline ∙ text,
       )
 
   out_of_line_sound : (t c : List ℕ) (p p0 : ℕ) → IsUtf8 t → IsLong w t
@@ -235,5 +233,5 @@ module _ (w : Width) (kind : IsArchiveWord w) where
   pub text_as_format : {X : Type 0} (as_value : X → List ℕ)
       → IsFormat (text_spec w) (λ b p x. TextReads w b p (as_value x))
       (written_as as_value (text_format w))
-  text_as_format as_value = written_as-format as_value (text_spec w) (TextReads w) (text_format w)
-      text_is_format
+  text_as_format as_value =
+      written_as-format as_value (text_spec w) (TextReads w) (text_format w) text_is_format

@@ -182,11 +182,10 @@ module _ (k v : ElementSpec) (kl : IsElement k) (vl : IsElement v) (w : Width) w
             let ends' = r.1.ends in
             let x = law.rest_in_range b q r.1.lower r.0.begin r.1.rest r.1.below r.1.is_valid in
             let there' =
-            pair_local k v kl vl key value kn vn pair b c q r.1.lower r.0.begin r.1.rest
-            r.1.below r.1.is_valid (same_entry i below)
-            (agree_on_part b c lo l r.1.lower r.1.rest r.1.above (omega
-            (arith, ends, ends')) x.0 part)
-            (st.at i pair e) in
+            pair_local k v kl vl key value kn vn pair b c q r.1.lower r.0.begin r.1.rest r.1.below
+            r.1.is_valid (same_entry i below)
+            (agree_on_part b c lo l r.1.lower r.1.rest r.1.above (omega (arith, ends, ends'))
+            x.0 part) (st.at i pair e) in
             subst (λ (xs : List ℕ). PairRepresents k v key value c (slice_index xs i) pair)
             same_positions there';
       }
@@ -261,9 +260,9 @@ module _ (k v : ElementSpec) (kl : IsElement k) (vl : IsElement v) (w : Width) w
         pub map_is_format : IsFormat (map_spec w k v) (MapRepresents w k v key value hash factor)
             (map_format w k v kf vf own factor)
         map_is_format =
-            let table = table_is_format w kind S law (PairRepresents k v key value)
-            (pair_format k v kf vf) (pair_is_format k v kl vl key value kf vf kw vw)
-            factor in
+            let table =
+            table_is_format w kind S law (PairRepresents k v key value) (pair_format k v kf vf)
+            (pair_is_format k v kl vl key value kf vf kw vw) factor in
             record {
               size_exact = λ pairs r p out i. table.size_exact (keyed own pairs) r p out i;
               exclusive = λ pairs r p out i f. table.exclusive (keyed own pairs) r p out i f;

@@ -83,9 +83,10 @@ module _ (k v : ElementSpec) (kl : IsElement k) (vl : IsElement v) (w : Width) w
           let x = law.rest_in_range b q r.0.lower t.begin r.0.rest r.0.below r.0.is_valid in
           pair_local k v kl vl key value kn vn pair b c q r.0.lower t.begin r.0.rest r.0.below
           r.0.is_valid
-          (agree_on_part b c lo l q (q + S.size) (omega (arith, r.1, above)) r.2 (omega arith) part)
-          (agree_on_part b c lo l r.0.lower r.0.rest r.0.above (omega
-          (arith, ends, ends')) x.0 part) st
+          (agree_on_part b c lo l q (q + S.size) (omega (arith, r.1, above)) r.2 (omega arith)
+          part)
+          (agree_on_part b c lo l r.0.lower r.0.rest r.0.above (omega (arith, ends, ends')) x.0
+          part) st
 
       pairs_again : (is : List ℕ) → All (IsWalked w b p) is → (pairs : List (A × B))
           → ArePairsAt k v key value b (map (item_at w S.size b p) is) pairs
@@ -103,7 +104,8 @@ module _ (k v : ElementSpec) (kl : IsElement k) (vl : IsElement v) (w : Width) w
           → EntriesRepresent k v key value w equal c p es
       entries_again equal es st = record {
         pairs = st.pairs;
-        read = subst (λ (positions : List ℕ). ArePairsAt k v key value c positions st.pairs)
+        read =
+            subst (λ (positions : List ℕ). ArePairsAt k v key value c positions st.pairs)
             same_positions
             (pairs_again (walk (table_controls w b p) (cap_at w b p)) (walked_all w S law b p)
             st.pairs st.read);
@@ -300,18 +302,15 @@ module _ (k v : ElementSpec) (kl : IsElement k) (vl : IsElement v) (w : Width) {
           ]
 
       pair_there : (n : ℕ) (y : A × B) → n < length st.homes → slice_get pairs n ≡ Some y
-          → PairRepresents k v key value b (item_at w (entry_spec k v).size b p
-          (slice_index st.homes n))
-          y
+          → PairRepresents k v key value b
+          (item_at w (entry_spec k v).size b p (slice_index st.homes n)) y
       pair_there n y h e =
           subst (λ q. PairRepresents k v key value b q y)
           (home_pos w (entry_spec k v).size b p st.homes n h) (st.at n y e)
 
       zip_positions : (is : List ℕ) (ys : List (A × B))
-          → AllZip (λ i y. PairRepresents k v key value b (item_at w
-          (entry_spec k v).size b p i) y) is
-          ys
-          → ArePairsAt k v key value b (map (item_at w (entry_spec k v).size b p) is) ys
+          → AllZip (λ i y. PairRepresents k v key value b (item_at w (entry_spec k v).size b p i) y)
+          is ys → ArePairsAt k v key value b (map (item_at w (entry_spec k v).size b p) is) ys
       zip_positions [] [] z = z
       zip_positions [] (y ∷ ys) z = z
       zip_positions (i ∷ is) [] z = z

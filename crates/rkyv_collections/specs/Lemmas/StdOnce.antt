@@ -92,9 +92,8 @@ module _ {A B : Type 0} (equal : A → A → Bool) (laws : IsEquivalence equal) 
         and_from (list_all test (keys_of m.entries)) (list_all test (keys_of n.entries))
         (all_pass test each (keys_of m.entries)) (all_pass test each (keys_of n.entries))
 
-    module _ (k v : ElementSpec) (kl : IsElement k) (vl : IsElement v) (w : Width) (key : List ℕ → ℕ
-        → A
-        → Type 0) (value : List ℕ → ℕ → B → Type 0)
+    module _ (k v : ElementSpec) (kl : IsElement k) (vl : IsElement v) (w : Width)
+        (key : List ℕ → ℕ → A → Type 0) (value : List ℕ → ℕ → B → Type 0)
         (ka : RepresentsOnce k key equal) (va : RepresentsOnce v value same) where
       entry_valid : (b : List ℕ) (p : ℕ) → ValidAt (map_spec w k v) b p → (i : ℕ)
           → IsWalked w b p i → ValidAt (entry_spec k v) b (item_at w (entry_spec k v).size b p i)

@@ -35,9 +35,8 @@ all_units P (x ∷ xs) all =
     (all_units P xs (All-tail P (x, tt) (with_units xs) all))
 
 -- a set that equals the keys, each with the unit value, equals the set of std
-pub set_equal_entries : {A : Type 0} (w : Width) (k : ElementSpec) (hash : A → ℕ) (fits : A → List ℕ
-    → ℕ
-    → Bool) (b : List ℕ) (p : ℕ) (keys : List A)
+pub set_equal_entries : {A : Type 0} (w : Width) (k : ElementSpec) (hash : A → ℕ)
+    (fits : A → List ℕ → ℕ → Bool) (b : List ℕ) (p : ℕ) (keys : List A)
     → EntriesEqual w k unit_spec hash fits unit_represents b p (with_units keys)
     → (len_at w b p ≡ length keys)
     × All (λ key. FindsPair w k unit_spec hash fits unit_represents b p (key, tt)) keys

@@ -98,8 +98,8 @@ module _ {A : Type 0} (equal : A → A → Bool) (laws : IsEquivalence equal) wh
       → IsPermutation (a ∷ before) after → AddsKey equal before after a
   key_added before after a d moved q =
       find_permuted (before ++ a ∷ []) after d
-      (IsPermutation-trans (before ++ a ∷ []) (a ∷ before) after (IsPermutation-to_front before a)
-      moved) q
+      (IsPermutation-trans (before ++ a ∷ []) (a ∷ before) after
+      (IsPermutation-to_front before a) moved) q
 
   -- a key that equals a stored one
   key_kept : (ks : List A) (a : A) → list_any (equal a) ks ≡ true → AddsKey equal ks ks a

@@ -28,7 +28,8 @@ module _ (w : Width) (k v : ElementSpec) (key_hash : List ℕ → ℕ
   -- a lookup of the key at `q` in `b` finds the same value in the map at `r` in `c`
   abbrev pub pair_matches : List ℕ → ℕ → List ℕ → ℕ → Bool
   pair_matches b q c r =
-      unwrap_or (option_map (λ at. same_value b (q + value_offset k v) c (at + value_offset k v))
+      unwrap_or
+      (option_map (λ at. same_value b (q + value_offset k v) c (at + value_offset k v))
       (pos_found generic_kind w (entry_spec k v).size c r (key_hash b q) (same_key b q c)))
       false
 

@@ -16,8 +16,7 @@ use Rattle.rkyv_collections.specs.Map.ValueWrites.{KeepsMap}
 
 -- the writer can be called with the archive and each position at which a value fits
 abbrev pub MayWriteFound : {F : Type 0} → ElementSpec → (F → MutBor (List ℕ) → ℕ → Type 0) → List ℕ
-    → F
-    → Type 0
+    → F → Type 0
 MayWriteFound v pre archive write =
     (b : MutBor (List ℕ)) (q : ℕ) → b.now ≡ archive → q + v.size ≤ length b.now → pre write b q
 

@@ -71,11 +71,11 @@ UppercasesText m a result c =
 -- with an accepted key is inline, the map represents the list with that text in upper case.
 -- Otherwise it represents the same list. The result is `None` if and only if no key is accepted
 abbrev pub UppercasesFirst : {A : Type 0} → MapAt → ValueQuery A → Option Bool → List ℕ → Type 0
-UppercasesFirst {A} m a result c = (factor : ℕ × ℕ) (pairs : List (A × Bor (List ℕ)))
-    → MapRepresents m.word m.key m.value a.represents (IsTextOf m.word
-    (λ text. text.now)) a.key_hash factor
-    m.bytes m.pos pairs
+UppercasesFirst {A} m a result c =
+    (factor : ℕ × ℕ) (pairs : List (A × Bor (List ℕ)))
+    → MapRepresents m.word m.key m.value a.represents (IsTextOf m.word (λ text. text.now))
+    a.key_hash factor m.bytes m.pos pairs
     → (is_some result ≡ is_some (first_pair a.accept_value pairs))
-    × MapRepresents m.word m.key m.value a.represents (IsTextOf m.word
-    (λ text. text.now)) a.key_hash factor
-    c m.pos (list_after_uppercase m.word m.key a.accept_value result pairs)
+    × MapRepresents m.word m.key m.value a.represents (IsTextOf m.word (λ text. text.now))
+    a.key_hash factor c m.pos
+    (list_after_uppercase m.word m.key a.accept_value result pairs)

@@ -111,11 +111,11 @@ abbrev pub FoundAreListed : {A Q B K V W : Type 0} → (H : Type 0) → Words W 
     → NativeKeys A Q → FoundValues V B → Type 0
 FoundAreListed {A} {Q} {B} {K} {V} {W} H wt ks vs keys values =
     (map : ArchivedHashMap K V H W ks vs wt) (root : View (HashMapOf K V H W))
-    (archive : Bor (List ℕ)) (factor : ℕ × ℕ) (pairs : List (A × B))
-    (query : Q) (found : Option (View V))
-    → map.view ≡ root → IsAt root archive (map_root wt.word ks.spec vs.spec archive.now)
-    → MapRepresents wt.word ks.spec vs.spec keys.represents values.represents keys.key_hash factor
-    archive.now (map_root wt.word ks.spec vs.spec archive.now) pairs
+    (archive : Bor (List ℕ)) (factor : ℕ × ℕ) (pairs : List (A × B)) (query : Q)
+    (found : Option (View V)) → map.view ≡ root
+    → IsAt root archive (map_root wt.word ks.spec vs.spec archive.now)
+    → MapRepresents wt.word ks.spec vs.spec keys.represents values.represents keys.key_hash
+    factor archive.now (map_root wt.word ks.spec vs.spec archive.now) pairs
     → IfSome found (IsValueIn map)
     → FindsFirstKey map keys.key_hash (keys.fits query (map_bytes map))
     (IsValueAt ks.spec vs.spec found)

@@ -28,8 +28,8 @@ abbrev pub map_format : {A B R Q : Type 0} → Width → ElementSpec → Element
     → Format B Q
     → (A → ℕ) → ℕ × ℕ → Format (List (A × B)) TableResolver
 map_format w k v key value hash load_factor =
-    written_as (keyed hash) (table_format w (entry_spec k v) (pair_format k v key value)
-    load_factor)
+    written_as (keyed hash)
+    (table_format w (entry_spec k v) (pair_format k v key value) load_factor)
 
 -- The map at `p` represents the pairs. It was written of them in this order,
 -- under the hashes of their keys, and each pair is in its home bucket. `hash b q`: hash of the key
@@ -42,17 +42,17 @@ pub record MapRepresents {A B : Type 0} (w : Width) (k v : ElementSpec) (key : L
   pub len : len_at w b p ≡ length pairs
   pub cap : cap_at w b p ≡ capacity (length pairs) load_factor
   pub at : (i : ℕ) (pair : A × B) → slice_get pairs i ≡ Some pair
-      → PairRepresents k v key value b (slice_index (home_positions w
-      (entry_spec k v).size b p homes)
-      i) pair
+      → PairRepresents k v key value b
+      (slice_index (home_positions w (entry_spec k v).size b p homes) i) pair
 
 -- in any archive with the written bytes of a map and its header, the map represents the pairs,
 -- under each load factor. `format`: how its pairs are written, `native`: what represents them
 abbrev pub WrittenMapsRepresent : {A B R Q : Type 0} → Width → PairFormat A B R Q → NativePairs A B
     → Type 0
-WrittenMapsRepresent w format native = (load_factor : ℕ × ℕ)
+WrittenMapsRepresent w format native =
+    (load_factor : ℕ × ℕ)
     → IsFormat (map_spec w format.key_spec format.value_spec)
-    (MapRepresents w format.key_spec format.value_spec native.key native.value native.key_hash
-    load_factor)
+    (MapRepresents w format.key_spec format.value_spec native.key native.value
+    native.key_hash load_factor)
     (map_format w format.key_spec format.value_spec format.key format.value format.hash
     load_factor)

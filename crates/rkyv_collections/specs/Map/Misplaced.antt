@@ -77,8 +77,7 @@ module _ (w : Width) (size : ℕ) (b : List ℕ) (p : ℕ) (fits : ℕ → Bool)
 -- If no key of the map at `p` is misplaced, the property applies to the position of the one key
 -- that fits. It applies to `None` if no key fits
 abbrev pub FindsOneKeyAt : Width → ElementSpec → ElementSpec → List ℕ → ℕ → (List ℕ → ℕ → ℕ)
-    → Comparison
-    → (ℕ → Bool) → (Option ℕ → Type 0) → Type 0
+    → Comparison → (ℕ → Bool) → (Option ℕ → Type 0) → Type 0
 FindsOneKeyAt w k v b p key_hash same_key fits P =
     map_misplaced w k v key_hash same_key b p ≡ 0
     → (key_pos : Option ℕ) × FindsTheOne w (entry_spec k v).size b p fits key_pos × P key_pos

@@ -29,9 +29,8 @@ abbrev pub IsMapSeal : {K V H W : Type 0} → Width → ElementSpec → ElementS
 IsMapSeal w k v a = Viewable (map_spec w k v) (archive_in a) (pos_in a)
 
 -- the view is that of a key of the map at `p`, in the same bytes
-pub record IsKeyAt {K : Type 0} (w : Width) (k v : ElementSpec) (b : List ℕ) (p : ℕ)
-    (key : View K) : Type
-    0 where
+pub record IsKeyAt {K : Type 0} (w : Width) (k v : ElementSpec) (b : List ℕ) (p : ℕ) (key : View K)
+    : Type 0 where
   pub bytes : bytes_of key ≡ b
   pub viewable : IsValidView k key
   pub key_pos : IsKeyPosAt w k v b p (pos_of key)

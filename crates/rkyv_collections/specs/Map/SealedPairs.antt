@@ -43,8 +43,7 @@ module _ {K V : Type 0} (k v : ElementSpec) where
 
   -- the first remaining pair is taken, and its key is at `q`
   pub record YieldsPairAt (w : Width) (p : ℕ) (before after : RawIterSeal (Entry K V)) (q : ℕ) :
-      Type
-      0 where
+      Type 0 where
     pub bucket : ℕ
     pub first : cursor_buckets_left w p before ≡ bucket ∷ cursor_buckets_left w p after
     pub pair : IsPairPos w k v (cursor_bytes before) p bucket q

@@ -58,9 +58,9 @@ module _ {F : Type 0} (w : WidthMembers) where
   -- and the load factor. The result is its resolver, or an error
   abbrev pub WritesMap : {X A B R Q : Type 0} → PairFormat A B R Q → ItemsToWrite X (A × B) → Output
       → Output → Result TableResolver (WriteError F) → Type 0
-  WritesMap pair items o o' result = WritesInFormat
-      (map_format w.word pair.key_spec pair.value_spec pair.key pair.value pair.hash) items o o'
-      result
+  WritesMap pair items o o' result =
+      WritesInFormat (map_format w.word pair.key_spec pair.value_spec pair.key pair.value pair.hash)
+      items o o' result
 
   -- the same for keys, as a set
   abbrev pub WritesSet : {X A R : Type 0} → KeyFormat A R → ItemsToWrite X A → Output → Output

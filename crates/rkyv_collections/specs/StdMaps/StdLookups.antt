@@ -53,11 +53,12 @@ module _ {Q A : Type 0} (w : Width) (k : ElementSpec) (hash : Q → ℕ) (fits :
 
       -- each query that can be read is found in the set at `p` if and only if a key is accepted
       abbrev pub FindsMembers : List ℕ → ℕ → List A → Type 0
-      FindsMembers b p keys = (q : Q) (accept_value : A → Bool) → can_read q
+      FindsMembers b p keys =
+          (q : Q) (accept_value : A → Bool) → can_read q
           → AgreesOnKeys k key b (fits q b) accept_value
           → is_some
-          (pos_found generic_kind w (entry_spec k unit_spec).size b p (hash q) (fits q b))
-          ≡ list_any accept_value keys
+          (pos_found generic_kind w (entry_spec k unit_spec).size b p (hash q)
+          (fits q b)) ≡ list_any accept_value keys
 
 -- The query finds the value of the first entry with an accepted key in the map.
 -- It finds none if and only if no entry has one
@@ -67,8 +68,7 @@ abbrev pub FindsFirstAcceptedIn : {A B K V H W Q : Type 0} {ks : Specs K} {vs : 
     → List (A × B) → Type 0
 FindsFirstAcceptedIn {ks = ks} {vs = vs} {wt = wt} m queries value q accept_value entries =
     FindsFirstAccepted wt.word ks.spec queries.hash queries.fits vs.spec value (map_bytes m)
-    (map_pos m) q
-    accept_value entries
+    (map_pos m) q accept_value entries
 
 -- In any archive with the written bytes of a map of std, each query that can be read finds
 -- the value that the map has. `k`, `v`: what represents the keys and the values

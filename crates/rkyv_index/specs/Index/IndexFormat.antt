@@ -66,8 +66,8 @@ module _ {P X R : Type 0} (w : Width) (ps : ElementSpec) (e : Encoding P) (s : E
   -- `step`: next step after `front`. It is a step of the table, of the parts of a value,
   -- of the zeros, or of the own bytes of a value
   abbrev pub IndexNext : List ℕ → Step → Type 0
-  IndexNext front step = PairsNext w ps (scalar_format e) load_factor hashed_indices p front
-      step
+  IndexNext front step =
+      PairsNext w ps (scalar_format e) load_factor hashed_indices p front step
       ⊎ ((table : List ℕ) × (t : TableResolver) × (rest : List ℕ) × IndexTable table t
       × RowPartsNext f xs (p + length table) rest step × (front ≡ table ++ rest))
       ⊎ ((t : TableResolver) × (rs : List R) × BeforeZeros front t rs
@@ -97,9 +97,7 @@ hash_of hasher calls value = hash_of_calls hasher (calls value)
 -- Its table has the index of each pair under the hash of its key. The parts of the entries follow,
 -- then zeros, and then the entries.
 abbrev pub index_format : {P A B R Q : Type 0} → Width → ElementSpec → Encoding P → ElementSpec
-    → ElementSpec
-    → Format A R
-    → Format B Q → (A → ℕ) → ℕ × ℕ → Format (List (A × B)) IndexResolver
+    → ElementSpec → Format A R → Format B Q → (A → ℕ) → ℕ × ℕ → Format (List (A × B)) IndexResolver
 index_format w ps e k v key value hash load_factor = row_format w ps e (entry_spec k v)
     (pair_format k v key value) (λ pair. hash pair.0) load_factor
 
@@ -155,7 +153,8 @@ element spec represents format = record { spec = spec; represents = represents; 
 abbrev pub WrittenIndexMaps : {P A B R Q : Type 0} → Width → IndicesAs P
     → ArchivedAs A R → ArchivedAs B Q → (List ℕ → ℕ → ℕ) → (A → ℕ) → Type 0
 WrittenIndexMaps w hashed_indices k v key_hash hash =
-    (load_factor : ℕ × ℕ) → IsFormat (index_spec w (entry_spec k.spec v.spec))
+    (load_factor : ℕ × ℕ)
+    → IsFormat (index_spec w (entry_spec k.spec v.spec))
     (IndexRepresents w k.spec v.spec k.represents v.represents key_hash load_factor)
-    (index_format w hashed_indices.spec hashed_indices.encoding k.spec v.spec k.format v.format hash
-    load_factor)
+    (index_format w hashed_indices.spec hashed_indices.encoding k.spec v.spec k.format
+    v.format hash load_factor)

@@ -18,8 +18,7 @@ abbrev pub stored_index_spec : Width → ElementSpec
 stored_index_spec w = record {
   size = byte_len w;
   align = byte_len w;
-  is_valid = λ b p lo hi l. l
-      ≡ lo;
+  is_valid = λ b p lo hi l. l ≡ lo;
   fails = λ b p lo hi e. ⊥;
 }
 

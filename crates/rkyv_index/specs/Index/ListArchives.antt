@@ -42,6 +42,6 @@ FoundAreListed {A} {Q} {B} {K} {V} {W} H wt ks vs keys values =
     (map : ArchivedIndexMap K V H W ks vs wt) (root : View (IndexMapOf K V H W))
     (archive : Bor (List ℕ)) (factor : ℕ × ℕ) (pairs : List (A × B)) (query : Q)
     → map.view ≡ root → IsAt root archive (index_root wt.word ks.spec vs.spec archive.now)
-    → IndexRepresents wt.word ks.spec vs.spec keys.represents values.represents keys.key_hash factor
-    archive.now (index_root wt.word ks.spec vs.spec archive.now) pairs
+    → IndexRepresents wt.word ks.spec vs.spec keys.represents values.represents keys.key_hash
+    factor archive.now (index_root wt.word ks.spec vs.spec archive.now) pairs
     → FindsInRoot keys values map query pairs

@@ -47,13 +47,13 @@ module _ {K V H W A B : Type 0} {ks : Specs K} {vs : Specs V} {wt : Words W}
 
   -- each of the pairs is represented by the entry at its index
   abbrev pub ArePairsRead : List (A × B) → Type 0
-  ArePairsRead pairs = ArePairsAt wt.word ks.spec vs.spec key value (index_bytes m) (index_pos m)
-      pairs
+  ArePairsRead pairs =
+      ArePairsAt wt.word ks.spec vs.spec key value (index_bytes m) (index_pos m) pairs
 
   -- the list has as many pairs as the map, and each is represented by the entry at its index
   abbrev pub ReadsPairs : List (A × B) → Type 0
-  ReadsPairs pairs = HasPairsAt wt.word ks.spec vs.spec key value (index_bytes m) (index_pos m)
-      pairs
+  ReadsPairs pairs =
+      HasPairsAt wt.word ks.spec vs.spec key value (index_bytes m) (index_pos m) pairs
 
 -- `e`: error of the key or the value at `index`
 abbrev pub pair_deserialize_fails : {K V H W : Type 0} {ks : Specs K} {vs : Specs V} {wt : Words W}
@@ -66,8 +66,9 @@ module _ {A B : Type 0} (w : Width) (k : DeserializeMembers A) (v : DeserializeM
   -- `e`: error of deserializing the pairs of the index map at `p` of `b`. It is `Memory`,
   -- or the error of a key or a value, after all pairs before it were deserialized
   abbrev pub pairs_deserialize_fails : DeserializeErrors
-  pairs_deserialize_fails b p e = (e ≡ Memory) ⊎
-      ((before : List (A × B)) × (length before < len_at w b p)
+  pairs_deserialize_fails b p e =
+      (e ≡ Memory)
+      ⊎ ((before : List (A × B)) × (length before < len_at w b p)
       × ArePairsAt w k.spec v.spec k.represents v.represents b p before
       × entry_deserialize_fails k.spec v.spec k.deserialize_fails v.deserialize_fails b
       (pair_at w k.spec v.spec b p (length before)) e)
@@ -97,8 +98,9 @@ module _ {K H W A : Type 0} {ks : Specs K} {wt : Words W} (key : List ℕ → �
 -- `e`: error of deserializing the keys of the index set at `p` of `b`. It is `Memory`,
 -- or the error of a key, after all keys before it were deserialized
 abbrev pub items_deserialize_fails : {A : Type 0} → Width → DeserializeMembers A → DeserializeErrors
-items_deserialize_fails {A} w k b p e = (e ≡ Memory) ⊎
-    ((before : List A) × (length before < len_at w b p)
+items_deserialize_fails {A} w k b p e =
+    (e ≡ Memory)
+    ⊎ ((before : List A) × (length before < len_at w b p)
     × AreItemsAt w k.spec k.represents b p before
     × k.deserialize_fails b (pair_at w k.spec unit_spec b p (length before)) e)
 

@@ -19,8 +19,7 @@ pairs_of entries = map (λ entry. (entry.key, entry.value)) entries
 
 -- `e` is an error before the first byte, and nothing was written; or else writing failed
 abbrev pub OwnOrSerializeFails : {F V R : Type 0} → ℕ → ℕ × ℕ → ℕ → (ℕ → Type 0) → ℕ → Format V R
-    → V
-    → Output → Output → WriteError F → Type 0
+    → V → Output → Output → WriteError F → Type 0
 OwnOrSerializeFails len load_factor max other limit f v o o' e =
     (OwnCause len load_factor max other e × (o' ≡ o)) ⊎ SerializeFails limit f v o o' e
 
@@ -57,13 +56,12 @@ module _ {F P X : Type 0} (width : WidthMembers) (indices : IndicesAs P) where
   abbrev pub WritesIndices : HashedList X → Output → Output → Result TableResolver (WriteError F)
       → Type 0
   WritesIndices xs o o' result =
-      let f = table_format width.word indices.spec (scalar_format indices.encoding)
-      xs.load_factor in
+      let f =
+      table_format width.word indices.spec (scalar_format indices.encoding) xs.load_factor in
       let pairs = indices_from xs.hash indices.encoding.value 0 xs.values in
       MatchResult result (Serialized width.LIMIT f pairs o o')
-      (OwnOrSerializeFails (length xs.values) xs.load_factor width.MAX_CAPACITY NoOther width.LIMIT
-      f
-      pairs o o')
+      (OwnOrSerializeFails (length xs.values) xs.load_factor width.MAX_CAPACITY NoOther
+      width.LIMIT f pairs o o')
 
   -- `result`: the resolver of the written index map of the values, or the error. Each value is
   -- under its hash
@@ -71,12 +69,12 @@ module _ {F P X : Type 0} (width : WidthMembers) (indices : IndicesAs P) where
       → Result IndexResolver (WriteError F) → Type 0
   WritesEntries row o o' result =
       let xs = row.list in
-      let f = row_format width.word indices.spec indices.encoding row.spec row.format xs.hash
+      let f =
+      row_format width.word indices.spec indices.encoding row.spec row.format xs.hash
       xs.load_factor in
       MatchResult result (Serialized width.LIMIT f xs.values o o')
-      (OwnOrSerializeFails (length xs.values) xs.load_factor width.MAX_CAPACITY NoOther width.LIMIT
-      f
-      xs.values o o')
+      (OwnOrSerializeFails (length xs.values) xs.load_factor width.MAX_CAPACITY NoOther
+      width.LIMIT f xs.values o o')
 
 -- a list to be written: the items of the input, their claimed number, and the load factor
 pub record Listing (X : Type 0) : Type 1 where

@@ -34,13 +34,14 @@ all_at f a (suc n) h i from to =
 
 module _ (w : Width) (s : ElementSpec) (law : IsElement s) where
   -- a valid map has a valid entry at each index below its length
-  entry_valid : (b : List ℕ) (p : ℕ) → ValidAt (index_spec w s) b p → (i : ℕ) → i < len_at w b
-      p → ValidAt s b (pair_pos w s.size b p i)
+  entry_valid : (b : List ℕ) (p : ℕ) → ValidAt (index_spec w s) b p → (i : ℕ) → i < len_at w b p
+      → ValidAt s b (pair_pos w s.size b p i)
   entry_valid b p h i below =
       let held : IsValidIndex w s b p 0 p h.0 = h.1 in
       let begin = held.entries.begin in
       let at : entries_pos w b p ≡ begin = sym (ap unsigned_abs held.entries.part.begins) in
-      let r = each_is_valid s law (entry_at s.size begin) b begin 0 (len_at w b p) held.middle
+      let r =
+      each_is_valid s law (entry_at s.size begin) b begin 0 (len_at w b p) held.middle
       held.entries.last i held.entries.part.above held.entries.hold (omega arith)
       (omega (arith, below)) in
       let u = entry_inside s.size begin (len_at w b p) i below in
@@ -50,8 +51,8 @@ module _ (w : Width) (s : ElementSpec) (law : IsElement s) where
   module _ {same : Comparison} (e : IsEquivalence s same) where
     -- equal maps have the same length and the same entries
     parts : (b c : List ℕ) (p q : ℕ) → index_equal w s same b p c q ≡ true
-        → (len_at w b p ≡ len_at w c q) × ((i : ℕ) → i < len_at w b p → same_at w s same b p c q i
-        ≡ true)
+        → (len_at w b p ≡ len_at w c q)
+        × ((i : ℕ) → i < len_at w b p → same_at w s same b p c q i ≡ true)
     parts b c p q h =
         let t = and_parts (len_at w b p == len_at w c q) (list_all (same_at w s same b p c q)
         (indices_of (len_at w b p))) h in (

@@ -90,8 +90,7 @@ each_is_valid s law at b hi a (suc n) lo l i o h from to =
             above = omega arith;
             below = o;
             ends = after.0;
-            is_valid =
-                h.1;
+            is_valid = h.1;
           })
       | inr ne ↦
           within_lower s b (at i) h.0 lo hi l k.0
@@ -100,8 +99,7 @@ each_is_valid s law at b hi a (suc n) lo l i o h from to =
 
 -- if all indices are below `n`, no position is the first whose index isn't
 not_below_exclusive : (w : Width) (b : List ℕ) (n : ℕ) (qs : List ℕ) (e : VerifyError)
-    → IndicesBelow w b
-    n qs → FirstNotBelow w b n qs e → ⊥
+    → IndicesBelow w b n qs → FirstNotBelow w b n qs e → ⊥
 not_below_exclusive w b n [] e h f = f
 not_below_exclusive w b n (q ∷ qs) e h (inl f) = let k = All-head (λ x. number_at w b x < n) q qs h
     in omega (arith, f.0, k)
@@ -109,9 +107,8 @@ not_below_exclusive w b n (q ∷ qs) e h (inr f) = not_below_exclusive w b n qs 
     (All-tail (λ x. number_at w b x < n) q qs h) f.1
 
 -- the first index that isn't below `n` has one error alone
-not_below_one : (w : Width) (b : List ℕ) (n : ℕ) (qs : List ℕ) (e e' : VerifyError) → FirstNotBelow
-    w b n qs e
-    → FirstNotBelow w b n qs e' → e ≡ e'
+not_below_one : (w : Width) (b : List ℕ) (n : ℕ) (qs : List ℕ) (e e' : VerifyError)
+    → FirstNotBelow w b n qs e → FirstNotBelow w b n qs e' → e ≡ e'
 not_below_one w b n [] e e' f g = absurd f
 not_below_one w b n (q ∷ qs) e e' (inl f) (inl g) = f.1 ∙ sym g.1
 not_below_one w b n (q ∷ qs) e e' (inl f) (inr g) = absurd (omega (arith, f.0, g.0))
@@ -131,44 +128,35 @@ module _ (s : ElementSpec) (law : IsElement s) where
   entries_one : (b : List ℕ) (decoded : ℤ) (len lo hi l l' : ℕ) → EntriesIn s b decoded len lo hi l
       → EntriesIn s b decoded len lo hi l' → l ≡ l'
   entries_one b decoded len lo hi l l' h h' =
-      let same : h.begin ≡ h'.begin = part_one decoded (len * s.size) s.align lo hi h.begin h'.begin
-      h.part h'.part in
+      let same : h.begin ≡ h'.begin =
+      part_one decoded (len * s.size) s.align lo hi h.begin h'.begin h.part h'.part in
       h.ends ∙ ap (λ x. x + len * s.size) same ∙ sym h'.ends
 
   entries_exclusive : (b : List ℕ) (decoded : ℤ) (len lo hi l : ℕ) (e : VerifyError)
-      → EntriesIn s b decoded
-      len lo hi l → EntriesFail s b decoded len lo hi e → ⊥
+      → EntriesIn s b decoded len lo hi l → EntriesFail s b decoded len lo hi e → ⊥
   entries_exclusive b decoded len lo hi l e h (inl f) =
-      part_exclusive decoded (len * s.size) s.align lo hi
-      h.begin e h.part f
+      part_exclusive decoded (len * s.size) s.align lo hi h.begin e h.part f
   entries_exclusive b decoded len lo hi l e h (inr f) =
       let same : f.0 ≡ h.begin =
-      part_one decoded (len * s.size) s.align lo hi f.0 h.begin f.1 h.part
-      in
+      part_one decoded (len * s.size) s.align lo hi f.0 h.begin f.1 h.part in
       all_exclusive s law (entry_at s.size h.begin) b h.begin (indices_of len) lo h.last e h.hold
       (subst (λ n. FirstFails s (entry_at s.size n) b n (indices_of len) lo e) same f.2)
 
   entries_one_failure : (b : List ℕ) (decoded : ℤ) (len lo hi : ℕ) (e e' : VerifyError)
-      → EntriesFail s
-      b decoded len lo hi e
-      → EntriesFail s b decoded len lo hi e' → e ≡ e'
+      → EntriesFail s b decoded len lo hi e → EntriesFail s b decoded len lo hi e' → e ≡ e'
   entries_one_failure b decoded len lo hi e e' (inl f) (inl g) =
-      part_one_failure decoded (len * s.size)
-      s.align lo hi e e' f g
+      part_one_failure decoded (len * s.size) s.align lo hi e e' f g
   entries_one_failure b decoded len lo hi e e' (inl f) (inr g) =
-      absurd (part_exclusive decoded (len * s.size)
-      s.align lo hi g.0 e g.1 f)
+      absurd (part_exclusive decoded (len * s.size) s.align lo hi g.0 e g.1 f)
   entries_one_failure b decoded len lo hi e e' (inr f) (inl g) =
-      absurd (part_exclusive decoded (len * s.size)
-      s.align lo hi f.0 e' f.1 g)
+      absurd (part_exclusive decoded (len * s.size) s.align lo hi f.0 e' f.1 g)
   entries_one_failure b decoded len lo hi e e' (inr f) (inr g) =
       let same : g.0 ≡ f.0 = part_one decoded (len * s.size) s.align lo hi g.0 f.0 g.1 f.1 in
       all_one_failure s law (entry_at s.size f.0) b f.0 (indices_of len) lo e e' f.2
       (subst (λ n. FirstFails s (entry_at s.size n) b n (indices_of len) lo e') same g.2)
 
   entries_higher : (b : List ℕ) (decoded : ℤ) (len lo hi hi' l : ℕ) → hi ≤ hi'
-      → EntriesIn s b decoded len
-      lo hi l → EntriesIn s b decoded len lo hi' l
+      → EntriesIn s b decoded len lo hi l → EntriesIn s b decoded len lo hi' l
   entries_higher b decoded len lo hi hi' l o h =
       record {
         begin = h.begin;
@@ -180,10 +168,10 @@ module _ (s : ElementSpec) (law : IsElement s) where
       }
 
   entries_lower : (b : List ℕ) (decoded : ℤ) (len lo lo' hi l : ℕ) → lo' ≤ lo
-      → EntriesIn s b decoded len
-      lo hi l → EntriesIn s b decoded len lo' hi l
+      → EntriesIn s b decoded len lo hi l → EntriesIn s b decoded len lo' hi l
   entries_lower b decoded len lo lo' hi l o h =
-      let d = all_lower s law (entry_at s.size h.begin) b h.begin (indices_of len) lo lo' h.last o
+      let d =
+      all_lower s law (entry_at s.size h.begin) b h.begin (indices_of len) lo lo' h.last o
       h.part.above h.hold in
       record {
         begin = h.begin;
@@ -195,8 +183,7 @@ module _ (s : ElementSpec) (law : IsElement s) where
       }
 
   entries_local : (b c : List ℕ) (decoded : ℤ) (len lo hi l : ℕ) → AgreeOn b c lo l
-      → EntriesIn s b decoded
-      len lo hi l → EntriesIn s c decoded len lo hi l
+      → EntriesIn s b decoded len lo hi l → EntriesIn s c decoded len lo hi l
   entries_local b c decoded len lo hi l same h =
       let e = h.ends in
       let above = h.part.above in
@@ -214,8 +201,8 @@ module _ (s : ElementSpec) (law : IsElement s) where
       }
 
 -- from `Q` of all images under `f` to `Q (f x)` of all numbers `x`
-pub All-unmap : (Q : ℕ → Type 0) (f : ℕ → ℕ) (xs : List ℕ) → All Q (map f xs) → All (λ x. Q (f x))
-    xs
+pub All-unmap : (Q : ℕ → Type 0) (f : ℕ → ℕ) (xs : List ℕ) → All Q (map f xs)
+    → All (λ x. Q (f x)) xs
 All-unmap Q f [] h = All-nil (λ x. Q (f x))
 All-unmap Q f (x ∷ xs) h = All-cons (λ x. Q (f x)) x xs (All-head Q (f x) (map f xs) h)
     (All-unmap Q f xs (All-tail Q (f x) (map f xs) h))
@@ -319,8 +306,7 @@ module _ (w : Width) (kind : IsArchiveWord w) (s : ElementSpec) (law : IsElement
       (subst (λ x. EntriesFail s b (decode_entries w b p) (len_at w b p) x hi e') same g.1)
 
   index_one : (b : List ℕ) (p lo hi l l' : ℕ) → IsValidIndex w s b p lo hi l
-      → IsValidIndex w s b p lo
-      hi l' → l ≡ l'
+      → IsValidIndex w s b p lo hi l' → l ≡ l'
   index_one b p lo hi l l' h h' =
       let same : h'.middle ≡ h.middle =
       T_law.rest_unique b p lo hi h'.middle h.middle h'.table h.table in
@@ -339,8 +325,7 @@ module _ (w : Width) (kind : IsArchiveWord w) (s : ElementSpec) (law : IsElement
         part = h.1.0;
         last = h.1.1.0.0;
         hold = h.1.1.0.1;
-        ends =
-            h.1.1.1;
+        ends = h.1.1.1;
       })
       (λ _. refl) (only_one
       (λ begin. ×_prop (part_prop decoded (len * s.size) s.align lo hi begin)
@@ -396,21 +381,20 @@ module _ (w : Width) (kind : IsArchiveWord w) (s : ElementSpec) (law : IsElement
         table = T_law.local b c p lo hi h.middle o head front h.table;
         below = subst (λ n. IndicesBelow w c n (item_positions w (byte_len w) c p)) len
             (indices_local w kind b c p lo hi h.middle o head front h.table (len_at w b p) h.below);
-        entries = subst (λ n. EntriesIn s c (decode_entries w c p) n h.middle hi l) len
-            (subst (λ z. EntriesIn s c z (len_at w b p) h.middle hi l) (decoded_same w b c p fixed)
-            entries);
+        entries =
+            subst (λ n. EntriesIn s c (decode_entries w c p) n h.middle hi l) len
+            (subst (λ z. EntriesIn s c z (len_at w b p) h.middle hi l)
+            (decoded_same w b c p fixed) entries);
       }
 
   index_local : (b c : List ℕ) (p lo hi l : ℕ) → lo ≤ hi → AgreeOn b c p (p + 4 * byte_len w)
-      → AgreeOn b c
-      lo l → IsValidIndex w s b p lo hi l → IsValidIndex w s c p lo hi l
+      → AgreeOn b c lo l → IsValidIndex w s b p lo hi l → IsValidIndex w s c p lo hi l
   index_local b c p lo hi l o fixed part h =
       let t = T_law.rest_in_range b p lo hi h.middle o h.table in
       let r = entries_between s law b (decode_entries w b p)
       (len_at w b p) h.middle hi l h.entries in
       let front : AgreeOn b c lo h.middle =
-      agree_on_part b c lo l lo h.middle (omega arith) r.0 t.0 part
-      in
+      agree_on_part b c lo l lo h.middle (omega arith) r.0 t.0 part in
       let back : AgreeOn b c h.middle l =
       agree_on_part b c lo l h.middle l t.0 (omega arith) r.0 part in
       index_again b c p lo hi l o fixed h front (entries_local s law b c (decode_entries w b p)
@@ -422,8 +406,8 @@ module _ (w : Width) (kind : IsArchiveWord w) (s : ElementSpec) (law : IsElement
     align_is = by_archive_word (λ v. IsAlign (byte_len v)) (inr (inr (inl refl)))
         (inr (inr (inr refl))) w kind;
     size_whole = by_archive_word (λ v. (4 * byte_len v) % byte_len v ≡ 0) refl refl w kind;
-    size_small = by_archive_word (λ v. 4 * byte_len v ≤ 1073741824) (omega arith) (omega arith) w
-        kind;
+    size_small =
+        by_archive_word (λ v. 4 * byte_len v ≤ 1073741824) (omega arith) (omega arith) w kind;
     proper = index_prop;
     rest_in_range = index_between;
     rest_unique = index_one;
@@ -433,7 +417,8 @@ module _ (w : Width) (kind : IsArchiveWord w) (s : ElementSpec) (law : IsElement
       middle = h.middle;
       table = T_law.widen_hi b p lo hi hi' h.middle o h.table;
       below = h.below;
-      entries = entries_higher s law b (decode_entries w b p) (len_at w b p) h.middle hi hi' l o
+      entries =
+          entries_higher s law b (decode_entries w b p) (len_at w b p) h.middle hi hi' l o
           h.entries;
     };
     lower_lo = index_lower;

@@ -131,16 +131,16 @@ module _ (w : Width) (kind : IsArchiveWord w) (k v : ElementSpec) (kl : IsElemen
 
     table_ends : (lo ≤ h.middle) × (h.middle ≤ hi)
     table_ends =
-        (table_element w kind (stored_index_spec w) (stored_index_element w kind)).rest_in_range
-        b p lo hi h.middle o h.table
+        (table_element w kind (stored_index_spec w) (stored_index_element w kind)).rest_in_range b p
+        lo hi h.middle o h.table
 
     last_ends : (h.middle ≤ h.entries.last) × (h.entries.last ≤ h.entries.begin)
     last_ends = all_between S law (entry_at S.size h.entries.begin) b h.entries.begin
         (indices_of (len_at w b p)) h.middle h.entries.last h.entries.part.above h.entries.hold
 
     -- each entry is valid, and inside the part
-    entry_there : (i : ℕ) → i < len_at w b p → IsValidWithin S b (pair_pos w S.size b p i) h.middle
-        h.entries.begin h.entries.last
+    entry_there : (i : ℕ) → i < len_at w b p
+        → IsValidWithin S b (pair_pos w S.size b p i) h.middle h.entries.begin h.entries.last
         × (h.entries.begin ≤ pair_pos w S.size b p i) × (pair_pos w S.size b p i + S.size ≤ l)
     entry_there i below =
         let r = each_is_valid S law (entry_at S.size h.entries.begin) b h.entries.begin 0
@@ -171,14 +171,13 @@ module _ (w : Width) (kind : IsArchiveWord w) (k v : ElementSpec) (kl : IsElemen
           let x = kl.rest_in_range b q r.lower h.entries.begin e.1 r.below e.2 in
           let y = vl.rest_in_range b _ e.1 h.entries.begin r.rest x.1 e.3 in
           let ends = h.entries.ends in
-          local b c q r.lower h.entries.begin e.1 r.below e.2 (same_key k v kl vl b c q e.0
-          same_entry)
+          local b c q r.lower h.entries.begin e.1 r.below e.2
+          (same_key k v kl vl b c q e.0 same_entry)
           (agree_on_part b c lo l r.lower e.1 (omega (arith, r.above, table_ends))
           (omega (arith, x.1, ends)) x.0 part)
 
       same_pair : (pair : A × B) → PairRepresents k v key value b q pair
-          → PairRepresents k v key value c q
-          pair
+          → PairRepresents k v key value c q pair
       same_pair pair there =
           let r = (entry_there i below).0 in
           let x = law.rest_in_range b q r.lower h.entries.begin r.rest r.below r.is_valid in
@@ -199,9 +198,10 @@ module _ (w : Width) (kind : IsArchiveWord w) (k v : ElementSpec) (kl : IsElemen
     represents_again : IndexRepresents w k v key value hash factor c p pairs
     represents_again = record {
       homes = st.homes;
-      written = written_again w S.size hash b c p head
-          (same_controls w (stored_index_spec w) (stored_index_element w kind)
-          b c p lo hi h.middle o h.table head table_local)
+      written =
+          written_again w S.size hash b c p head
+          (same_controls w (stored_index_spec w) (stored_index_element w kind) b c p lo hi
+          h.middle o h.table head table_local)
           (index_same_at w kind b c p lo hi h.middle o head table_local h.table)
           (λ i below. same_hash i below ∙ ap (hash c) (same_pos i)) st.homes st.written;
       len = sym same_len ∙ st.len;

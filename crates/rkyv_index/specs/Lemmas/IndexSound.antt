@@ -89,8 +89,8 @@ module _ {X P : Type 0} (own : X → ℕ) (v : ℕ → P) where
 distance_back : (w : Width) → IsArchiveWord w → (d : ℤ) (c : List ℕ) (p : ℕ) → FitsSigned w d
     → OccursAt c p (to_le_bytes w (cast_unsigned w d)) → signed_at w c p ≡ d
 distance_back w kind d c p fits s =
-    let word : IsWord w = by_archive_word IsWord (inr (inr (inl refl))) (inr (inr (inr refl))) w
-    kind in
+    let word : IsWord w =
+    by_archive_word IsWord (inr (inr (inl refl))) (inr (inr (inr refl))) w kind in
     let n = cast_unsigned w d in
     let there : number_at w c p ≡ n = ap (from_le_bytes w) (ap (λ k. slice_range c p (p + k))
     (sym (word_bytes w word n)) ∙ s.there) ∙ word_reads_back w word n (Fits-of_z fits).fits in
@@ -98,12 +98,9 @@ distance_back w kind d c p fits s =
 
 module _ {P X R : Type 0} (w : Width) (kind : IsArchiveWord w) (ps : ElementSpec) (e : Encoding P)
     (pe : IsElement ps) (pk : IsScalar ps e) (index : IsIndexEncoding w e) (back : CodesReadBack e)
-    (s : ElementSpec) (laws : IsElement s)
-    (represents : List ℕ → ℕ → X → Type 0) (f : Format X R) (fl : IsFormat s represents f) (own : X
-    → ℕ)
-    (hash : List ℕ → ℕ → ℕ) (same_hash : (x : X) (b : List ℕ) (q : ℕ) → ValidAt s b q
-    → represents b q
-    x → own x ≡ hash b q)
+    (s : ElementSpec) (laws : IsElement s) (represents : List ℕ → ℕ → X → Type 0) (f : Format X R)
+    (fl : IsFormat s represents f) (own : X → ℕ) (hash : List ℕ → ℕ → ℕ)
+    (same_hash : (x : X) (b : List ℕ) (q : ℕ) → ValidAt s b q → represents b q x → own x ≡ hash b q)
     (factor : ℕ × ℕ) where
   module _ (xs : List X) where
     abbrev Indices : List (ℕ × P)
@@ -139,8 +136,8 @@ module _ {P X R : Type 0} (w : Width) (kind : IsArchiveWord w) (ps : ElementSpec
           (slice_index (home_positions w (byte_len v) c p tw.homes) j) ≡ j) index.word decoded
 
       -- each full bucket has the index of a value
-      walked_below : (i : ℕ) → IsWalked w c p i → number_at w c (item_at w (byte_len w) c p i) <
-          length xs
+      walked_below : (i : ℕ) → IsWalked w c p i
+          → number_at w c (item_at w (byte_len w) c p i) < length xs
       walked_below i walked = elim tw.written.placed [
         | inl none ↦
             let n : length xs ≡ 0 = sym hashes_count ∙ ap length none.0 in
@@ -169,8 +166,9 @@ module _ {P X R : Type 0} (w : Width) (kind : IsArchiveWord w) (ps : ElementSpec
           let n : i < length ws =
           omega (arith, below, length-map ws (item_at w (byte_len w) c p)) in
           let bucket : ℕ = get_or ws i d in
-          let walked : IsWalked w c p bucket = walked_full (cap_at w c p) (table_controls w c p)
-          bucket (i, n, get_or_default ws i bucket d n) in
+          let walked : IsWalked w c p bucket =
+          walked_full (cap_at w c p) (table_controls w c p) bucket
+          (i, n, get_or_default ws i bucket d n) in
           let e = get_or-map (item_at w (byte_len w) c p) ws i d d n in
           let h = walked_below bucket walked in
           subst (λ q. number_at w c q < length xs) (sym e) h
@@ -236,9 +234,8 @@ module _ {P X R : Type 0} (w : Width) (kind : IsArchiveWord w) (ps : ElementSpec
       begin_aligned =
           let k : begin ≡ round_up (p0 + length t.before.head) s.align = t.at
           ∙ omega (arith, front_length) in
-          subst (λ n. n % s.align ≡ 0) (sym k) (round_up-multiple (p0 + length t.before.head)
-          s.align
-          laws.align_is)
+          subst (λ n. n % s.align ≡ 0) (sym k)
+          (round_up-multiple (p0 + length t.before.head) s.align laws.align_is)
 
       table_length : length i.table ≡ 3 * byte_len w
       table_length = ap length i.header.is ∙ header_length w kind i.header.distance r.table.len
@@ -260,11 +257,10 @@ module _ {P X R : Type 0} (w : Width) (kind : IsArchiveWord w) (ps : ElementSpec
       begin_is = ap unsigned_abs decoded
 
       table : (l : ℕ) × IsValidTable w ps c p p0 (p0 + length zb.table) l
-          × TableRepresents w
-          ps (ScalarRepresents e) factor c p Indices
-      table = (table_is_format w kind ps pe (ScalarRepresents e)
-          (scalar_format e) (scalar_is_format ps e pk) factor).sound Indices r.table c p0 p zb.table
-          i.table
+          × TableRepresents w ps (ScalarRepresents e) factor c p Indices
+      table =
+          (table_is_format w kind ps pe (ScalarRepresents e) (scalar_format e)
+          (scalar_is_format ps e pk) factor).sound Indices r.table c p0 p zb.table i.table
           zb.serialized i.header (occurs_front c p0 zb.table zb.part_bytes head_sits)
           (occurs_front c p i.table (to_le_bytes w (cast_unsigned w i.distance)) header_sits)
           (omega (arith, o, part_length, front_length, head_length)) al
@@ -277,13 +273,13 @@ module _ {P X R : Type 0} (w : Width) (kind : IsArchiveWord w) (ps : ElementSpec
           × ((j : ℕ) (x : X) → slice_get xs j ≡ Some x → ValidAt s c (begin + (0 + j) * s.size)
           × represents c (begin + (0 + j) * s.size) x)
       rows =
-          row_sound s laws represents f fl c begin xs 0
-          (p0 + length zb.table) zb.part_bytes row t.resolvers
-          zb.parts (subst (λ k. RowImages f xs t.resolvers k row) first_at_begin t.images)
+          row_sound s laws represents f fl c begin xs 0 (p0 + length zb.table) zb.part_bytes row
+          t.resolvers zb.parts
+          (subst (λ k. RowImages f xs t.resolvers k row) first_at_begin t.images)
           (occurs_back c p0 zb.table zb.part_bytes head_sits)
           (subst (λ k. OccursAt c k row) first_at_begin row_sits)
-          (omega (arith, t.at, front_length, head_length)) (subst (λ k. k % s.align ≡ 0)
-          first_at_begin begin_aligned)
+          (omega (arith, t.at, front_length, head_length))
+          (subst (λ k. k % s.align ≡ 0) first_at_begin begin_aligned)
 
       table_represents : TableRepresents w ps (ScalarRepresents e) factor c p Indices
       table_represents = table.2
@@ -368,10 +364,12 @@ module _ {P X R : Type 0} (w : Width) (kind : IsArchiveWord w) (ps : ElementSpec
   header_whole : (r : IndexResolver) (p : ℕ) (out : List ℕ) → IsIndexHeader w r.table.len
       (resolved_capacity r.table) r p out → length out ≡ 4 * byte_len w
   header_whole r p out i =
-      let t : length i.table ≡ 3 * byte_len w = ap length i.header.is ∙ header_length w kind
-      i.header.distance r.table.len (resolved_capacity r.table) in
-      let n = word_bytes w (by_archive_word IsWord (inr (inr (inl refl))) (inr (inr (inr refl))) w
-      kind) (cast_unsigned w i.distance) in
+      let t : length i.table ≡ 3 * byte_len w =
+      ap length i.header.is ∙ header_length w kind i.header.distance r.table.len
+      (resolved_capacity r.table) in
+      let n =
+      word_bytes w (by_archive_word IsWord (inr (inr (inl refl))) (inr (inr (inr refl))) w kind)
+      (cast_unsigned w i.distance) in
       ap length i.is ∙ length-append i.table (to_le_bytes w (cast_unsigned w i.distance))
       ∙ omega (arith, t, n)
 
@@ -420,9 +418,9 @@ pub index_is_format : {P A B R Q : Type 0} (w : Width) (kind : IsArchiveWord w) 
 index_is_format w kind ps e pe pk index back k v kl vl key value kf vf kw vw own hash same_hash
     factor =
     row_is_format w kind ps e pe pk index back (entry_spec k v) (entry_element k v kl vl)
-    (PairRepresents k v key value) (pair_format k v kf vf) (pair_is_format k v kl vl key value kf vf
-    kw vw)
-    (λ pair. own pair.0) hash (λ pair b q h st. same_hash pair.0 b q (h.1.1, h.1.2) st.0) factor
+    (PairRepresents k v key value) (pair_format k v kf vf)
+    (pair_is_format k v kl vl key value kf vf kw vw) (λ pair. own pair.0) hash
+    (λ pair b q h st. same_hash pair.0 b q (h.1.1, h.1.2) st.0) factor
 
 module _ {State : Type 0} (hasher : Hasher State)
     (w : Width) (kind : IsArchiveWord w) {P : Type 0} (ps : ElementSpec) (e : Encoding P)

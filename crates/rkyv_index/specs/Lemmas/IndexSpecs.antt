@@ -37,30 +37,28 @@ module _ (size align : ℕ) (is_valid holds' : List ℕ → ℕ → ℕ → ℕ 
     first_as at b hi (i ∷ is) lo e (inr f) = inr (
       f.0,
       to b (at i) lo hi f.0 f.1,
-      first_as at b hi is
-          f.0 e f.2,
+      first_as at b hi is f.0 e f.2,
     )
 
-    part_as : (b : List ℕ) (cap len lo begin : ℕ) → IsPart from b cap len lo begin → IsPart onto b
-        cap
-        len lo begin
+    part_as : (b : List ℕ) (cap len lo begin : ℕ) → IsPart from b cap len lo begin
+        → IsPart onto b cap len lo begin
     part_as b cap len lo begin is = record {
       controls = is.controls;
       last = is.last;
-      items = all_as (bucket_at size begin cap) b begin (walk (controls_at size b begin cap) cap) lo
+      items =
+          all_as (bucket_at size begin cap) b begin (walk (controls_at size b begin cap) cap) lo
           is.last is.items;
     }
 
-    inside_as : (b : List ℕ) (cap len lo begin : ℕ) (e : VerifyError) → FailsInside from b cap len
-        lo
-        begin e → FailsInside onto b cap len lo begin e
+    inside_as : (b : List ℕ) (cap len lo begin : ℕ) (e : VerifyError)
+        → FailsInside from b cap len lo begin e → FailsInside onto b cap len lo begin e
     inside_as b cap len lo begin e (inl f) = inl (first_as (bucket_at size begin cap) b begin
         (walk (controls_at size b begin cap) cap) lo e f)
     inside_as b cap len lo begin e (inr f) =
         inr (
           f.0,
-          all_as (bucket_at size begin cap) b begin (walk (controls_at size b begin cap) cap)
-              lo f.0 f.1,
+          all_as (bucket_at size begin cap) b begin (walk (controls_at size b begin cap) cap) lo f.0
+              f.1,
           f.2,
         )
 
@@ -76,9 +74,7 @@ module _ (size align : ℕ) (is_valid holds' : List ℕ → ℕ → ℕ → ℕ 
     )
 
     fails_at_as : (b : List ℕ) (decoded : ℤ) (cap len lo hi : ℕ) (e : VerifyError)
-        → TableFailsAt from
-        b
-        decoded cap len lo hi e → TableFailsAt onto b decoded cap len lo hi e
+        → TableFailsAt from b decoded cap len lo hi e → TableFailsAt onto b decoded cap len lo hi e
     fails_at_as b decoded cap len lo hi e (inl f) = inl f
     fails_at_as b decoded cap len lo hi e (inr (inl f)) = inr (inl f)
     fails_at_as b decoded cap len lo hi e (inr (inr (room, n, part, f))) =
@@ -87,15 +83,12 @@ module _ (size align : ℕ) (is_valid holds' : List ℕ → ℕ → ℕ → ℕ 
     pub is_valid_as : (w : Width) (b : List ℕ) (p lo hi l : ℕ) → IsValidTable w from b p lo hi l
         → IsValidTable w onto b p lo hi l
     is_valid_as w b p lo hi l h =
-        at_as b (decode_begin w size b p) (cap_at w b p) (len_at w b p) lo hi l
-        h
+        at_as b (decode_begin w size b p) (cap_at w b p) (len_at w b p) lo hi l h
 
-    pub fails_as : (w : Width) (b : List ℕ) (p lo hi : ℕ) (e : VerifyError) → TableFails w from b p
-        lo
-        hi e → TableFails w onto b p lo hi e
-    fails_as w b p lo hi e f = fails_at_as b (decode_begin w size b p) (cap_at w b p) (len_at w b p)
-        lo
-        hi e f
+    pub fails_as : (w : Width) (b : List ℕ) (p lo hi : ℕ) (e : VerifyError)
+        → TableFails w from b p lo hi e → TableFails w onto b p lo hi e
+    fails_as w b p lo hi e f =
+        fails_at_as b (decode_begin w size b p) (cap_at w b p) (len_at w b p) lo hi e f
 
 module _ {V : Type 0} (w : Width) (s : ElementSpec) (e : Encoding V) (laws : IsScalar s e)
     (is : IsIndexEncoding w e) where
@@ -121,9 +114,8 @@ module _ {V : Type 0} (w : Width) (s : ElementSpec) (e : Encoding V) (laws : IsS
       subst (λ a. IsValidTable w (sized n a) b p lo hi l) laws.align
       (subst (λ k. IsValidTable w (sized k s.align) b p lo hi l) laws.size h) in
       subst (λ v. IsValidTable w (stored_index_spec v) b p lo hi l) is.word
-      (is_valid_as n n s.is_valid (λ b p lo hi l. l
-      ≡ lo) s.fails (λ b p lo hi e. ⊥) to_word never w b p lo
-      hi l there)
+      (is_valid_as n n s.is_valid (λ b p lo hi l. l ≡ lo) s.fails (λ b p lo hi e. ⊥) to_word
+      never w b p lo hi l there)
 
   pub index_table_fails : (b : List ℕ) (p lo hi : ℕ) (x : VerifyError) → TableFails w s b p lo hi x
       → TableFails w (stored_index_spec w) b p lo hi x
@@ -132,9 +124,8 @@ module _ {V : Type 0} (w : Width) (s : ElementSpec) (e : Encoding V) (laws : IsS
       subst (λ a. TableFails w (sized n a) b p lo hi x) laws.align
       (subst (λ k. TableFails w (sized k s.align) b p lo hi x) laws.size f) in
       subst (λ v. TableFails w (stored_index_spec v) b p lo hi x) is.word
-      (fails_as n n s.is_valid (λ b p lo hi l. l
-      ≡ lo) s.fails (λ b p lo hi e. ⊥) to_word never w b p lo
-      hi x there)
+      (fails_as n n s.is_valid (λ b p lo hi l. l ≡ lo) s.fails (λ b p lo hi e. ⊥) to_word never
+      w b p lo hi x there)
 
   -- a table of words is valid as a table of the width's numbers
   pub number_table_is_valid : (b : List ℕ) (p lo hi l : ℕ)
@@ -155,6 +146,5 @@ module _ {V : Type 0} (w : Width) (s : ElementSpec) (e : Encoding V) (laws : IsS
   number_table_viewable b p v = record {
     inside = v.inside;
     aligned = v.aligned;
-    valid =
-        (v.valid.0, number_table_is_valid b p 0 p v.valid.0 v.valid.1);
+    valid = (v.valid.0, number_table_is_valid b p 0 p v.valid.0 v.valid.1);
   }

@@ -56,10 +56,11 @@ module _ {X R : Type 0} (s : ElementSpec) (laws : IsElement s) (represents : Lis
         subst (λ j. ValidAt s c (at j) × represents c (at j) x) k (h i x e)
 
     -- the values from the index `n` on are valid and represented
-    pub row_sound : (xs : List X) (n p : ℕ) (part out : List ℕ) (rs : List R) → RowParts f xs p part
-        rs → RowImages f xs rs (at n) out → OccursAt c p part → OccursAt c (at n) out
-        → p + length part ≤ begin → at n % s.align ≡ 0 → (l : ℕ) × AreValidAt s at c begin
-        (range_with_len n (length xs)) p l × (l ≤ p + length part) × RowRepresent n xs
+    pub row_sound : (xs : List X) (n p : ℕ) (part out : List ℕ) (rs : List R)
+        → RowParts f xs p part rs → RowImages f xs rs (at n) out → OccursAt c p part
+        → OccursAt c (at n) out → p + length part ≤ begin → at n % s.align ≡ 0
+        → (l : ℕ) × AreValidAt s at c begin (range_with_len n (length xs)) p l
+        × (l ≤ p + length part) × RowRepresent n xs
     row_sound [] n p part out rs m i sp so o al = (
       p,
       refl,
@@ -80,22 +81,22 @@ module _ {X R : Type 0} (s : ElementSpec) (laws : IsElement s) (represents : Lis
         (occurs_front c p a b sab) (occurs_front c (at n) i.2 i.3 sio) (omega arith) al in
         let w = laws.rest_in_range c (at n) p (p + length a) d.0 (omega arith) d.1 in
         let h1 = laws.widen_hi c (at n) p (p + length a) begin d.0 (omega arith) d.1 in
-        let al2 : at (n + 1) % s.align ≡ 0 = subst (λ k. k % s.align ≡ 0)
-        (ap (λ k. at n + k) (sym whole) ∙ next) (sum_multiple (at n) s.size s.align
-        laws.align_is al laws.size_whole) in
+        let al2 : at (n + 1) % s.align ≡ 0 =
+        subst (λ k. k % s.align ≡ 0) (ap (λ k. at n + k) (sym whole) ∙ next)
+        (sum_multiple (at n) s.size s.align laws.align_is al laws.size_whole) in
         let rec = row_sound xs (n + 1) (p + length a) b i.3 i.1
         (subst (λ y. RowParts f xs (p + length a) b y) same.1 m.5)
         (subst (λ k. RowImages f xs i.1 k i.3) next i.6)
         (occurs_back c p a b sab) (subst (λ k. OccursAt c k i.3) next (occurs_back c
         (at n) i.2 i.3 sio))
         (omega arith) al2 in
-        let low = all_lower s laws at c begin (range_with_len (n + 1) (length xs)) (p + length a)
-        d.0 rec.0 w.1 (omega arith) rec.1 in
+        let low =
+        all_lower s laws at c begin (range_with_len (n + 1) (length xs)) (p + length a) d.0 rec.0
+        w.1 (omega arith) rec.1 in
         let here =
         valid_at s laws c (at n) p (p + length a) d.0 (omega arith) (omega arith) d.1 in (
           low.0,
           (d.0, h1, low.1),
           omega (arith, low.2, rec.2, np),
-          more_represent n x xs here d.2
-              rec.3,
+          more_represent n x xs here d.2 rec.3,
         )

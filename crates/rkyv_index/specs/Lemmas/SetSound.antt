@@ -30,26 +30,24 @@ module _ {State : Type 0} (hasher : Hasher State)
   pub index_set_local : IsKey k same key_calls → RepresentsLocally k key
       → RepresentsLocally (index_set_spec w k)
       (IndexSetRepresents w k key (hash_at hasher key_calls) factor)
-  index_set_local law kn keys = index_represents_local hasher w kind kl unit_element factor
-      law kn unit_local (with_units keys)
+  index_set_local law kn keys =
+      index_represents_local hasher w kind kl unit_element factor law kn unit_local
+      (with_units keys)
 
   -- written bytes of an index set and its header are a valid index set that represents the keys,
   -- in any archive that has them
   pub index_set_sound : {P : Type 0} (ps : ElementSpec) (e : Encoding P) → IsElement ps
-      → IsScalar ps e
-      → IsIndexEncoding w e → CodesReadBack e → {can_read : A → Type 0} {calls : A
-      → List HasherCall} {fits : A → List ℕ → ℕ
-      → Bool} {equal : A → A → Bool} {R : Type 0} {kf : Format A R}
+      → IsScalar ps e → IsIndexEncoding w e → CodesReadBack e
+      → {can_read : A → Type 0} {calls : A → List HasherCall} {fits : A → List ℕ → ℕ → Bool}
+      {equal : A → A → Bool} {R : Type 0} {kf : Format A R}
       → IsQuery k same key_calls can_read calls fits → FitsItsEqual k key equal fits
       → ((a : A) → equal a a ≡ true) → ((a : A) → can_read a) → IsFormat k key kf
-      → IsFormat (index_set_spec w k) (IndexSetRepresents w k key (hash_at hasher
-      key_calls) factor) (index_set_format w ps e k kf (hash_of hasher calls) factor)
+      → IsFormat (index_set_spec w k) (IndexSetRepresents w k key (hash_at hasher key_calls) factor)
+      (index_set_format w ps e k kf (hash_of hasher calls) factor)
   index_set_sound ps e pe pk index back {can_read} {calls} {fits} {equal} {R} {kf} query native
-      itself
-      reads kw =
+      itself reads kw =
       written_as-format with_units (index_set_spec w k)
-      (IndexRepresents w k unit_spec key unit_represents
-      (hash_at hasher key_calls) factor)
+      (IndexRepresents w k unit_spec key unit_represents (hash_at hasher key_calls) factor)
       (index_format w ps e k unit_spec kf unit_format (hash_of hasher calls) factor)
       (index_sound hasher w kind ps e pe pk index back kl unit_element factor query native
       itself reads kw unit_is_format)

@@ -21,9 +21,8 @@ index_set_root w k b = length b - (index_set_spec w k).size
 
 -- The root of the archive is an index set that represents a list of keys. A lookup of a native
 -- key finds the first equal key, if the list has one. `index`: its index, `member`: if there is one
-pub record FindsInRootSet {A Q K H W : Type 0} {ks : Specs K} {wt : Words W}
-    (keys : NativeKeys A Q) (set : ArchivedIndexSet K H W ks wt) (query : Q) (items : List A)
-    : Type 0 where
+pub record FindsInRootSet {A Q K H W : Type 0} {ks : Specs K} {wt : Words W} (keys : NativeKeys A Q)
+    (set : ArchivedIndexSet K H W ks wt) (query : Q) (items : List A) : Type 0 where
   pub index : (found : Option ℕ)
       → FindsFirstKey (index_of_set set) keys.key_hash (keys.fits query) (IsIndex found)
       → found ≡ position (keys.equal query) items

@@ -14,13 +14,11 @@ use Rattle.rkyv_index.specs.Index.IndexHeader.{IndexResolver}
 abbrev pub index_set_format : {P A R : Type 0} → Width → ElementSpec → Encoding P → ElementSpec
     → Format A R → (A → ℕ)
     → ℕ × ℕ → Format (List A) IndexResolver
-index_set_format w ps e k key hash load_factor = written_as with_units (index_format w ps e k
-    unit_spec
-    key unit_format hash load_factor)
+index_set_format w ps e k key hash load_factor =
+    written_as with_units (index_format w ps e k unit_spec key unit_format hash load_factor)
 
 -- the index set at `p` represents the list `keys`
 abbrev pub IndexSetRepresents : {A : Type 0} → Width → ElementSpec → (List ℕ → ℕ → A → Type 0)
     → (List ℕ → ℕ → ℕ) → ℕ × ℕ → List ℕ → ℕ → List A → Type 0
 IndexSetRepresents w k key hash load_factor b p keys =
-    IndexRepresents w k unit_spec key unit_represents hash
-    load_factor b p (with_units keys)
+    IndexRepresents w k unit_spec key unit_represents hash load_factor b p (with_units keys)

@@ -88,8 +88,8 @@ module _ {k v : ElementSpec} (kl : IsElement k) (vl : IsElement v) where
                   cc;
               respects_same = λ q b c p r ready h g f.
                   let t = and_parts (kf q.0 b p) (vf q.1 b (p + off)) f in
-                  let x = kq.respects_same q.0 b c p r ready.0 (valid_key b p h) (valid_key c r g)
-                  t.0 in
+                  let x =
+                  kq.respects_same q.0 b c p r ready.0 (valid_key b p h) (valid_key c r g) t.0 in
                   let y = vq.respects_same q.1 b c (p + off) (r + off) ready.1 (valid_value b p h)
                   (valid_value c r g) t.1 in
                   cc;

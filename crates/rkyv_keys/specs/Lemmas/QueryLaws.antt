@@ -38,17 +38,14 @@ module _ {V : Type 0} (s : ElementSpec) (same : Comparison) (key_calls : List �
         let back = equivalence.symmetric b c p r h g there in
         same_from_decides (q_fits q b p) (q_fits q c r) (
           λ x. laws.respects_same q b c p r ready h g x ∙ there,
-          λ x. laws.respects_same q c b r p
-              ready g h x ∙ back,
+          λ x. laws.respects_same q c b r p ready g h x ∙ back,
         )
         (λ x. x, λ x. x)
 
 -- the native values that one key represents are equal
-pub native_once : {V : Type 0} (s : ElementSpec) (represents : List ℕ → ℕ → V → Type 0) (equal : V
-    → V
-    → Bool) (fits : V → List ℕ → ℕ → Bool)
-    → FitsItsEqual s represents equal fits → ((v : V) → equal v v ≡ true)
-    → RepresentsOnce s represents equal
+pub native_once : {V : Type 0} (s : ElementSpec) (represents : List ℕ → ℕ → V → Type 0)
+    (equal : V → V → Bool) (fits : V → List ℕ → ℕ → Bool) → FitsItsEqual s represents equal fits
+    → ((v : V) → equal v v ≡ true) → RepresentsOnce s represents equal
 native_once s represents equal fits native itself v x b p h st st' = sym (native v x b p h st')
     ∙ native v v b p h st ∙ itself v
 
@@ -65,7 +62,6 @@ rests_on_keys {s = s} {same = same} {fits = fits} laws equivalence key query q b
     let back : same c p b p ≡ true = equivalence.symmetric b c p p st st' there in
     same_from_decides (fits q c p) (fits q b p) (
       λ x. query.respects_same q c b p p ready st' st x ∙ back,
-      λ x. query.respects_same q b c p p ready st st' x
-          ∙ there,
+      λ x. query.respects_same q b c p p ready st st' x ∙ there,
     )
     (λ x. x, λ x. x)

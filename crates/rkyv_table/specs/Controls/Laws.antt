@@ -13,8 +13,8 @@ use Rattle.rkyv_table.specs.Controls.Finding.{end, found, marked}
 -- `indices`: all indices below the probe capacity that are congruent to the start modulo 16,
 -- each once
 pub record IsCover (hash cap : ℕ) (indices : List ℕ) : Type 0 where
-  pub members : (p : ℕ) → Contains indices p
-      ↔ (p < probe_capacity cap) × (p % 16 ≡ start hash cap % 16)
+  pub members : (p : ℕ)
+      → Contains indices p ↔ (p < probe_capacity cap) × (p % 16 ≡ start hash cap % 16)
   pub once : IsDistinct eqb indices
   pub count : length indices ≡ probe_capacity cap / 16
 
@@ -51,8 +51,9 @@ WrittenAreAccepted = (cap : ℕ) (hashes xs controls : List ℕ) → length hash
 
 -- a walk visits a bucket if and only if it is full
 abbrev pub WalkedAreFull : Type 0
-WalkedAreFull = (cap bucket : ℕ) (controls : List ℕ) → Contains (walk controls cap) bucket
-    ↔ IsFullBucket cap controls bucket
+WalkedAreFull =
+    (cap bucket : ℕ) (controls : List ℕ)
+    → Contains (walk controls cap) bucket ↔ IsFullBucket cap controls bucket
 
 -- a search in valid control bytes ends within ceil(cap / 16) strides
 abbrev pub SearchIsBounded : Type 0

@@ -54,13 +54,12 @@ module _ (s : ElementSpec) (law : IsElement s) (at : ℕ → ℕ) where
     | inl y ↦
         let h' : AreValidAt s at b hi (a ∷ filter P (range_with_len (a + 1) n)) lo l = rw y at h in
         let k : (lo ≤ h'.0) × (h'.0 ≤ hi) = law.rest_in_range b (at a) lo hi h'.0 o h'.1 in
-        let after = all_between s law at b hi (filter P (range_with_len (a + 1) n)) h'.0 l k.1
-        h'.2 in
+        let after =
+        all_between s law at b hi (filter P (range_with_len (a + 1) n)) h'.0 l k.1 h'.2 in
         elim (cases_eq a i) [
           | inl e ↦ subst (λ z. IsValidWithin s b (at z) lo hi l) e (record {
             lower = lo;
-            rest =
-                h'.0;
+            rest = h'.0;
             above = omega arith;
             below = o;
             ends = after.0;
@@ -142,8 +141,8 @@ module _ (w : Width) (s : ElementSpec) (law : IsElement s) (b : List ℕ) (p lo 
       let above = t.part.above in
       let ends = all_between s law (bucket_at s.size t.begin cap) b t.begin
       (walk (controls_at s.size b t.begin cap) cap) lo t.is.last above t.is.items in
-      let one = bucket_is_valid_within s law b t.begin cap lo t.is.last i above t.is.items walked.0
-      full in
+      let one =
+      bucket_is_valid_within s law b t.begin cap lo t.is.last i above t.is.items walked.0 full in
       let u = bucket_inside s.size t.begin cap i walked.0 in
       let e = t.ends in
       subst (λ q. IsValidWithin s b q lo t.begin t.begin × (t.begin ≤ q)
@@ -153,8 +152,7 @@ module _ (w : Width) (s : ElementSpec) (law : IsElement s) (b : List ℕ) (p lo 
           rest = one.rest;
           above = one.above;
           below = one.below;
-          ends =
-              omega (arith, one.ends, ends.1);
+          ends = omega (arith, one.ends, ends.1);
           is_valid = one.is_valid;
         },
         u.0,

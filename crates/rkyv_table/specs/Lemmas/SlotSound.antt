@@ -92,14 +92,14 @@ module _ {X R : Type 0} (s : ElementSpec) (laws : IsElement s) (represents : Lis
       let spq : OccursAt c p (a ++ q) = subst (OccursAt c p) m.6 sp in
       let sio : OccursAt c begin (i.2 ++ i.3) = subst (OccursAt c begin) i.7 so in
       let k : length i.2 ≡ length ss * s.size =
-      images_length s.size f (λ v r w o g. fl.size_exact v r w o g) ss i.1 (z - s.size) i.2
-      i.6 in
+      images_length s.size f (λ v r w o g. fl.size_exact v r w o g) ss i.1 (z - s.size) i.2 i.6 in
       let sone : OccursAt c (at b) i.3 =
       subst (λ y. OccursAt c y i.3) (ap (λ y. begin + y) k ∙ e'
       ∙ here) (occurs_back c begin i.2 i.3 sio) in
       let np : length part ≡ length a + length q = ap length m.6 ∙ length-append a q in
-      let al : at b % s.align ≡ 0 = sum_multiple begin ((cap - (b + 1)) * s.size) s.align
-      laws.align_is aligned (many (cap - (b + 1))) in
+      let al : at b % s.align ≡ 0 =
+      sum_multiple begin ((cap - (b + 1)) * s.size) s.align laws.align_is aligned
+      (many (cap - (b + 1))) in
       let im : f.image x i.0 (at b) i.3 = subst (λ y. f.image x i.0 y i.3) here i.5 in
       let d = fl.sound x i.0 c p (at b) a i.3 (subst (λ r. f.parts x p a r) same.0 m.4) im
       (occurs_front c p a q spq) sone (omega arith) al in

@@ -58,8 +58,7 @@ walk_below controls cap = range_below (λ b. is_full (slice_index controls b)) c
 
 -- control bytes that mirror those of the buckets have no first failure
 repeats_exclusive : (cap q : ℕ) (controls : List ℕ) → IsWrapped cap controls
-    → FirstUnwrapped cap controls q
-    → ⊥
+    → FirstUnwrapped cap controls q → ⊥
 repeats_exclusive cap q controls r u =
     u.unlike ((λ lt. r.repeated q u.from lt u.below), (λ ge. r.past q ge u.below))
 
@@ -180,8 +179,8 @@ module _ (s : ElementSpec) (law : IsElement s) where
       (inr (last', items', inl g)) = absurd (g.0 f.0)
   inside_one_failure b cap len lo begin e e' (inr (last, items, inr f))
       (inr (last', items', inr g)) =
-      f.3 ∙ ap UnwrappedControlByte (unlike_one cap f.1 g.1 (controls_at s.size b begin cap) f.2
-      g.2) ∙ sym g.3
+      f.3 ∙ ap UnwrappedControlByte
+      (unlike_one cap f.1 g.1 (controls_at s.size b begin cap) f.2 g.2) ∙ sym g.3
 
   at_one_failure : (b : List ℕ) (decoded : ℤ) (cap len lo hi : ℕ) (e e' : VerifyError)
       → TableFailsAt s b decoded cap len lo hi e → TableFailsAt s b decoded cap len lo hi e'
@@ -280,8 +279,8 @@ table_element w kind s law = record {
   align_is = by_archive_word (λ v. IsAlign (byte_len v)) (inr (inr (inl refl)))
       (inr (inr (inr refl))) w kind;
   size_whole = by_archive_word (λ v. (3 * byte_len v) % byte_len v ≡ 0) refl refl w kind;
-  size_small = by_archive_word (λ v. 3 * byte_len v ≤ 1073741824) (omega arith) (omega arith) w
-      kind;
+  size_small =
+      by_archive_word (λ v. 3 * byte_len v ≤ 1073741824) (omega arith) (omega arith) w kind;
   proper = λ b p lo hi l. at_proper s law b (decode_begin w s.size b p) (cap_at w b p)
       (len_at w b p) lo hi l;
   rest_in_range = λ b p lo hi l o h. at_between s law b (decode_begin w s.size b p) (cap_at w b p)

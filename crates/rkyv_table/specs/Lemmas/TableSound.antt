@@ -89,8 +89,9 @@ module _ {X R : Type 0} (s : ElementSpec) (laws : IsElement s) (represents : Lis
     slots_size = ap (λ k. k * s.size) placed.slotted.count
 
     pub buckets_size : length t.buckets ≡ cap * s.size
-    buckets_size = images_length s.size f (λ v r q o g. fl.size_exact v r q o g) slots t.resolvers z
-        t.buckets t.images ∙ slots_size
+    buckets_size =
+        images_length s.size f (λ v r q o g. fl.size_exact v r q o g) slots t.resolvers z t.buckets
+        t.images ∙ slots_size
 
     pub controls_begin : z ≡ begin + cap * s.size
     controls_begin = t.at ∙ ap (λ k. begin + k) slots_size
@@ -136,8 +137,8 @@ module _ {X R : Type 0} (s : ElementSpec) (laws : IsElement s) (represents : Lis
     buckets_represent = record {
       homes = placed.homes;
       hashes = placed.hashes;
-      controls = subst (Written cap (hashes_of pairs) placed.homes) (sym controls_there)
-          placed.written;
+      controls =
+          subst (Written cap (hashes_of pairs) placed.homes) (sym controls_there) placed.written;
       items = λ i x e.
           let n : 0 + slice_index placed.homes i ≡ slice_index placed.homes i = omega arith in
           subst (λ k. represents c (bucket_at s.size begin cap k) x) n
@@ -169,8 +170,8 @@ module _ {X R : Type 0} (w : Width) (kind : IsArchiveWord w) (s : ElementSpec) (
           (omega (arith, b, t.fits)) ∙ t.len
 
       cap_decoded : cap_at w c p ≡ capacity (length pairs) factor
-      cap_decoded = cap_reads w kind i.distance r.len (resolved_capacity r) c p header t.fits
-          ∙ capacity_is
+      cap_decoded =
+          cap_reads w kind i.distance r.len (resolved_capacity r) c p header t.fits ∙ capacity_is
 
       distance_decoded : signed_at w c p ≡ i.distance
       distance_decoded =
@@ -183,8 +184,7 @@ module _ {X R : Type 0} (w : Width) (kind : IsArchiveWord w) (s : ElementSpec) (
             p0,
             inl (len_decoded ∙ n, cap_decoded ∙ z, refl),
             record {
-              len =
-                  len_decoded;
+              len = len_decoded;
               cap = cap_decoded;
               buckets = λ h. absurd (omega (arith, h, n));
             },
@@ -210,9 +210,9 @@ module _ {X R : Type 0} (w : Width) (kind : IsArchiveWord w) (s : ElementSpec) (
 
         begin_is : decode_begin w s.size c p ≡ pos B
         begin_is =
-            let z = controls_begin s laws represents f fl c p0 C pairs slots controls placed room
-            r.pos
-            part b sp in
+            let z =
+            controls_begin s laws represents f fl c p0 C pairs slots controls placed room r.pos part
+            b sp in
             let e : (pos p +ℤ (pos r.pos -ℤ pos p)) -ℤ pos (C * s.size) ≡ pos B =
             omega (arith, ints, z) in
             ap (λ d. (pos p +ℤ d) -ℤ pos (cap_at w c p * s.size)) (distance_decoded ∙ distance_is)
@@ -221,9 +221,8 @@ module _ {X R : Type 0} (w : Width) (kind : IsArchiveWord w) (s : ElementSpec) (
         table_at : TableAt s c (pos B) C (length pairs) p0 (p0 + length part)
             (B + part_size s.size C)
         table_at =
-            let e = bytes_end s laws represents f fl c p0 C pairs slots controls placed room r.pos
-            part
-            b
+            let e =
+            bytes_end s laws represents f fl c p0 C pairs slots controls placed room r.pos part b
             sp in
             inr (
               B,
@@ -233,12 +232,9 @@ module _ {X R : Type 0} (w : Width) (kind : IsArchiveWord w) (s : ElementSpec) (
                 below = omega (arith, e);
                 aligned =
                     begin_aligned s laws represents f fl c p0 C pairs slots controls placed room
-                    r.pos
-                    part
-                    b sp;
+                    r.pos part b sp;
               },
-              part_valid s laws represents f fl c p0 C pairs slots controls placed room r.pos
-                  part b
+              part_valid s laws represents f fl c p0 C pairs slots controls placed room r.pos part b
                   sp,
               refl,
             )
@@ -259,8 +255,7 @@ module _ {X R : Type 0} (w : Width) (kind : IsArchiveWord w) (s : ElementSpec) (
               B,
               sym begin_is,
               buckets_represent s laws represents f fl c p0 C pairs slots controls placed room r.pos
-                  part b
-                  sp,
+                  part b sp,
             );
           },
         )
@@ -281,6 +276,6 @@ module _ {X R : Type 0} (w : Width) (kind : IsArchiveWord w) (s : ElementSpec) (
         | inl h ↦ omega (arith, h.0, f.0)
         | inr h ↦ f.1 (subst (FitsSigned w) h.1 i.fits)
       ];
-      sound = λ pairs r c p0 p part out t i sp so o al. table_sound pairs r c p0 p part out t i sp
-          so;
+      sound =
+          λ pairs r c p0 p part out t i sp so o al. table_sound pairs r c p0 p part out t i sp so;
     }

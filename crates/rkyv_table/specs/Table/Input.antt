@@ -13,8 +13,7 @@ pub record Input (X : Type 0) : Type 1 where
 abbrev pub from_iter : {S A : Type 0} → (S → Option A → S → Type 0) → S → Input A
 from_iter steps s = record {
   yields = Drains steps s;
-  yields_other_count =
-      λ len. YieldsOtherCount steps len s;
+  yields_other_count = λ len. YieldsOtherCount steps len s;
 }
 
 -- the items of an iterator, each with the next hash of another

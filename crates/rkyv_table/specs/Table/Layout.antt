@@ -49,9 +49,12 @@ FailsInside s b cap len lo begin e =
     e
     ⊎ ((last : ℕ) × AreValidItems s b begin cap lo last
     × (((length (walk (controls_at s.size b begin cap) cap) ≢ len)
-    × (e ≡ WrongNumberOfElements len (length (walk (controls_at s.size b begin cap) cap))))
+    × (e
+    ≡ WrongNumberOfElements len
+    (length (walk (controls_at s.size b begin cap) cap))))
     ⊎ ((length (walk (controls_at s.size b begin cap) cap) ≡ len) × (q : ℕ)
-    × FirstUnwrapped cap (controls_at s.size b begin cap) q × (e ≡ UnwrappedControlByte q))))
+    × FirstUnwrapped cap (controls_at s.size b begin cap) q
+    × (e ≡ UnwrappedControlByte q))))
 
 -- a valid table with these numbers in its header, and `l` as the new lower end. An empty table
 -- has no part
@@ -73,8 +76,7 @@ TableFailsAt s b decoded cap len lo hi e =
 -- the header at `p` is that of a valid table
 abbrev pub IsValidTable : Width → ElementSpec → List ℕ → ℕ → ℕ → ℕ → ℕ → Type 0
 IsValidTable w s b p lo hi l =
-    TableAt s b (decode_begin w s.size b p) (cap_at w b p) (len_at w b p) lo
-    hi l
+    TableAt s b (decode_begin w s.size b p) (cap_at w b p) (len_at w b p) lo hi l
 
 -- `e`: first fault of the table whose header is at `p`
 abbrev pub TableFails : Width → ElementSpec → List ℕ → ℕ → ℕ → ℕ → VerifyError → Type 0
@@ -86,7 +88,6 @@ abbrev pub table_spec : Width → ElementSpec → ElementSpec
 table_spec w s = record {
   size = 3 * byte_len w;
   align = byte_len w;
-  is_valid =
-      IsValidTable w s;
+  is_valid = IsValidTable w s;
   fails = TableFails w s;
 }

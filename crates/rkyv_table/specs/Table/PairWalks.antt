@@ -18,9 +18,8 @@ pub record IsAtEnd (before after : ItemsLeft) : Type 0 where
   pub still : after ≡ before
 
 -- `view`: view of a valid value at position `pos` of the archive
-pub record ViewsAt {T : Type 0} (s : ElementSpec) (before : ItemsLeft) (pos : ℕ)
-    (view : View T) : Type
-    0 where
+pub record ViewsAt {T : Type 0} (s : ElementSpec) (before : ItemsLeft) (pos : ℕ) (view : View T) :
+    Type 0 where
   pub at : IsAt view before.archive pos
   pub viewable : IsValidView s view
 
@@ -40,8 +39,7 @@ YieldsKey {K} k before result after = MatchOption result (IsAtEnd before after)
 
 -- the step returns the value of the first remaining key
 abbrev pub YieldsValue : {V : Type 0} → ElementSpec → ElementSpec → ItemsLeft → Option (View V)
-    → ItemsLeft
-    → Type 0
+    → ItemsLeft → Type 0
 YieldsValue {V} k v before result after = MatchOption result (IsAtEnd before after)
     (λ (value : View V). (pos : ℕ) × YieldsFirstPos before pos after
     × ViewsAt v before (pos + value_offset k v) value)

@@ -76,7 +76,8 @@ module _ {T W : Type 0} {ts : Specs T} {wt : Words W} where
         → IsUnderHash hash hashes
         (home_positions wt.word ts.spec.size (table_bytes t) (table_pos t) homes) accept
         → result
-        ≡ find accept (home_positions wt.word ts.spec.size (table_bytes t) (table_pos t) homes)
+        ≡ find accept
+        (home_positions wt.word ts.spec.size (table_bytes t) (table_pos t) homes)
 
     -- the lookup reads as many strides as the number of the one at which it ends
     abbrev pub CountsEnd : Kind → ArchivedHashTable T W ts wt → ℕ → ℕ → ℕ → Type 0
