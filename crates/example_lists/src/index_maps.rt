@@ -31,7 +31,7 @@ pub fn price_of(table: &[u8], name: &str) -> Result<Option<u32>, VerifyError>
     ensures opened { OpensNarrow ⟦<Prices as HasSpec>⟧.spec table.now result }
     ensures listed { (list : _) → IsNarrowArchive
         ⟦<Prices as Represents<PricePairs<'static>>>⟧ table.now list
-        → result ≡ Ok (first_value (λ held. same_bytes name.now held.now) list.0.items) }
+        → result ≡ Ok (first_value (λ other. same_bytes name.now other.now) list.0.items) }
 {
     scalars_found_are_listed::<&str, &str, u32, Text, FxHasher64, Narrow>();
     let prices = ArchivedIndexMap::of(access::<Prices>(table)?);

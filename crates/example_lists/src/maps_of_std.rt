@@ -51,7 +51,7 @@ pub fn fare_of(table: &[u8], line: u32) -> Result<Option<u64>, VerifyError>
     ensures opened { OpensNarrow ⟦<Fares as HasSpec>⟧.spec table.now result }
     ensures listed { (map : _) → IsNarrowWritten ⟦<Fares as Represents<FareMap>>⟧
         ⟦<FareMap as Archive<Narrow>>⟧.format table.now map
-        → result ≡ Ok (first_value (λ held. line == held) map.map.entries) }
+        → result ≡ Ok (first_value (λ other. line == other) map.map.entries) }
 {
     written_maps_are_lists::<Narrow, FxHasher64, u32, u64, BuildHasherDefault<FoldHasher>>();
     scalars_found_are_listed::<u32, u32, u64, u32, FxHasher64, Narrow>();
@@ -73,7 +73,7 @@ pub fn age_of(table: &[u8], name: &str) -> Result<Option<u8>, VerifyError>
     ensures opened { OpensNarrow ⟦<Ages as HasSpec>⟧.spec table.now result }
     ensures listed { (m : _) → IsNarrowWritten ⟦<Ages as Represents<AgeMap>>⟧
         ⟦<AgeMap as Archive<Narrow>>⟧.format table.now m
-        → result ≡ Ok (first_value (λ held. same_bytes name.now (string_bytes held))
+        → result ≡ Ok (first_value (λ other. same_bytes name.now (string_bytes other))
         m.map.entries) }
 {
     written_maps_are_lists::<Narrow, FxHasher64, String, u8, BuildHasherDefault<FoldHasher>>();
@@ -94,7 +94,7 @@ pub fn has_line(set: &[u8], line: u32) -> Result<bool, VerifyError>
     ensures opened { OpensNarrow ⟦<Lines as HasSpec>⟧.spec set.now result }
     ensures listed { (lines : _) → IsNarrowWritten ⟦<Lines as Represents<LineSet>>⟧
         ⟦<LineSet as Archive<Narrow>>⟧.format set.now lines
-        → result ≡ Ok (list_any (λ held. line == held) lines.map.keys) }
+        → result ≡ Ok (list_any (λ other. line == other) lines.map.keys) }
 {
     written_sets_are_lists::<Narrow, FxHasher64, u32, BuildHasherDefault<FoldHasher>>();
     members_found_are_listed::<u32, u32, u32, FxHasher64, Narrow>();

@@ -35,7 +35,7 @@ pub fn has_word(set: &[u8], word: &str) -> Result<bool, VerifyError>
     ensures opened { OpensNarrow ⟦<Words as HasSpec>⟧.spec set.now result }
     ensures listed { (list : _) → IsNarrowArchive
         ⟦<Words as Represents<WordItems<'static>>>⟧ set.now list
-        → result ≡ Ok (list_any (λ held. same_bytes word.now held.now) list.items.now) }
+        → result ≡ Ok (list_any (λ other. same_bytes word.now other.now) list.items.now) }
 {
     members_found_are_listed::<&str, &str, Text, FxHasher64, Narrow>();
     let words = ArchivedHashSet::of(access::<Words>(set)?);
@@ -51,7 +51,7 @@ pub fn index_of_id(set: &[u8], id: u64) -> Result<Option<usize>, VerifyError>
     ensures opened { OpensNarrow ⟦<Ids as HasSpec>⟧.spec set.now result }
     ensures listed { (list : _) → IsNarrowArchive
         ⟦<Ids as Represents<OrderedItems<u64>>>⟧ set.now list
-        → result ≡ Ok (position (λ held. id == held) list.0.items) }
+        → result ≡ Ok (position (λ other. id == other) list.0.items) }
 {
     indexed_members_found_are_listed::<u64, u64, u64, FxHasher64, Narrow>();
     let ids = ArchivedIndexSet::of(access::<Ids>(set)?);

@@ -124,9 +124,9 @@ IsMessageOf parts message =
 unfoldable pub MessageFails : {F : Type 0} → Parts → WriteError F → Type 0
 MessageFails parts e = ToBytesFails 4_294_967_295 header_spec (parts_format (7, 8)) parts e
 
--- `held` equals the name
+-- `stored` equals the name
 abbrev pub is_named : List ℕ → Bor (List ℕ) → Bool
-is_named name held = same_bytes name held.now
+is_named name stored = same_bytes name stored.now
 
 -- the number of the first field with the name
 abbrev pub number_in : List ℕ → FieldList → Option ℕ

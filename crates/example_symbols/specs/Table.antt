@@ -84,7 +84,7 @@ TableFails symbols e = ToBytesFails 4_294_967_295 header_spec (symbols_format (7
 
 -- the address of the first symbol with the name
 abbrev pub first_address : List ℕ → Symbols → Option ℕ
-first_address name symbols = first_value (λ held. same_bytes name held.now) symbols
+first_address name symbols = first_value (λ other. same_bytes name other.now) symbols
 
 -- the address that a lookup of `name` finds in any valid table
 unfoldable pub address_found : List ℕ → List ℕ → Option ℕ

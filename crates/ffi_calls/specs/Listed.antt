@@ -35,7 +35,7 @@ text_natives w e = natives (TextRepresents w) (text_key_calls w) e
 -- the lookup of the text `key`
 abbrev pub query_of_text : Width → List ℕ → ValueQuery (Bor (List ℕ))
 query_of_text w key =
-    query_of_key (TextRepresents w) (text_key_calls w) (λ held. same_bytes key held.now)
+    query_of_key (TextRepresents w) (text_key_calls w) (λ other. same_bytes key other.now)
 
 -- the result of a lookup is the number of the first pair whose key is accepted
 abbrev pub FindsFirst : {A N : Type 0} → MapAt → ValueQuery A → Encoding N → ℕ → ℕ → ℕ → Type 0

@@ -212,11 +212,11 @@ module _ (w : Width) (s : ElementSpec) (law : IsElement s) (b : List ℕ) (p i :
   sealed_where : (h : IsValidWithin s b (bucket_pos i) 0 begin whole.is.last) → Sealed b h.lower (h.rest - h.lower) c
   sealed_where h = writes_at.sealed h.lower begin h.rest h.below (up i) h.is_valid
 
-  abbrev held_before : (j : ℕ) (h : IsValidWithin s b (bucket_pos j) 0 begin whole.is.last) → IsValidBefore s b (bucket_pos j)
-  held_before j h = record { lower = h.lower; upper = begin; rest = h.rest; order = h.below; before = up j; is_valid = h.is_valid }
+  abbrev valid_before : (j : ℕ) (h : IsValidWithin s b (bucket_pos j) 0 begin whole.is.last) → IsValidBefore s b (bucket_pos j)
+  valid_before j h = record { lower = h.lower; upper = begin; rest = h.rest; order = h.below; before = up j; is_valid = h.is_valid }
 
   stays : (j : ℕ) (h : IsValidWithin s b (bucket_pos j) 0 begin whole.is.last) → AgreeOn b c h.lower h.rest → StaysAt s b c (bucket_pos j)
-  stays j h parts = record { held = held_before j h; fixed = fixed j; parts = parts }
+  stays j h parts = record { valid = valid_before j h; fixed = fixed j; parts = parts }
 
   other_stays : (j : ℕ) → IsWalked w b p j → j ≢ i → StaysAt s b c (bucket_pos j)
   other_stays j there ne = elim (cases_lt j i) [
@@ -250,6 +250,6 @@ module _ (w : Width) (s : ElementSpec) (law : IsElement s) (b : List ℕ) (p i :
             ∙ ap (λ z. slice_range c z (z + control_count cap)) (decoded_pos w s.size b p begin whole.part.begins)
             ∙ sym controls_same
             ∙ sym (decoded_controls w s.size b p begin whole.part.begins);
-        own = subst (IsValidBefore s b) (sym (at_is i walked.0)) (held_before i one);
+        own = subst (IsValidBefore s b) (sym (at_is i walked.0)) (valid_before i one);
         others = λ j there ne. subst (StaysAt s b c) (sym (at_is j there.0)) (other_stays j there ne);
       }

@@ -61,7 +61,7 @@ module _ (k v : ElementSpec) (kl : IsElement k) (vl : IsElement v) (b c : List �
       let y = vl.rest_in_range b (value_pos k v q) m h.upper h.rest x.1 h.is_valid.3 in
       let sealed = writes.sealed m h.upper h.rest x.1 (omega arith) h.is_valid.3 in
       record {
-        held = key_before h;
+        valid = key_before h;
         fixed = same_above b c m h.rest y.0 sealed q (q + k.size) (omega arith) (omega (arith, y.1));
         parts = same_below b c m h.rest y.0 sealed h.lower m x.0 (omega arith);
       }
@@ -69,32 +69,32 @@ module _ (k v : ElementSpec) (kl : IsElement k) (vl : IsElement v) (b c : List �
   -- the key and the value of an unchanged entry are unchanged
   key_of_other : StaysAt S b c q → StaysAt k b c q
   key_of_other s =
-      let h = s.held in
+      let h = s.valid in
       let m = h.is_valid.1 in
       let x = kl.rest_in_range b q h.lower h.upper m h.order h.is_valid.2 in
       let y = vl.rest_in_range b (value_pos k v q) m h.upper h.rest x.1 h.is_valid.3 in
       record {
-        held = key_before h;
+        valid = key_before h;
         fixed = same_key k v kl vl b c q h.is_valid.0 s.fixed;
         parts = agree_on_part b c h.lower h.rest h.lower m (omega arith) y.0 x.0 s.parts;
       }
 
   value_of_other : StaysAt S b c q → StaysAt v b c (value_pos k v q)
   value_of_other s =
-      let h = s.held in
+      let h = s.valid in
       let m = h.is_valid.1 in
       let up = h.before in
       let x = kl.rest_in_range b q h.lower h.upper m h.order h.is_valid.2 in
       let y = vl.rest_in_range b (value_pos k v q) m h.upper h.rest x.1 h.is_valid.3 in
       record {
-        held = record { lower = m; upper = h.upper; rest = h.rest; order = x.1; before = omega (arith, up); is_valid = h.is_valid.3 };
+        valid = record { lower = m; upper = h.upper; rest = h.rest; order = x.1; before = omega (arith, up); is_valid = h.is_valid.3 };
         fixed = same_value k v kl vl b c q h.is_valid.0 s.fixed;
         parts = agree_on_part b c h.lower h.rest m h.rest x.0 (omega arith) y.0 s.parts;
       }
 
 -- unchanged bytes represent the same value
 represents_on : {V : Type 0} (s : ElementSpec) (represents : List ℕ → ℕ → V → Type 0) → RepresentsLocally s represents → (x : V) (b c : List ℕ) (q : ℕ) → StaysAt s b c q → represents b q x → represents c q x
-represents_on s represents local x b c q h st = local x b c q h.held.lower h.held.upper h.held.rest h.held.order h.held.is_valid h.fixed h.parts st
+represents_on s represents local x b c q h st = local x b c q h.valid.lower h.valid.upper h.valid.rest h.valid.order h.valid.is_valid h.fixed h.parts st
 
 module _ (w : Width) (k v : ElementSpec) (kl : IsElement k) (vl : IsElement v) (key_hash : List ℕ → ℕ → ℕ) (local : HashLocal k key_hash) (b c : List ℕ) (p i : ℕ)
     (view : Viewable (map_spec w k v) b p) (walked : IsWalked w b p i) (writes : WritesParts v b c (value_pos k v (item_at w (entry_spec k v).size b p i))) where
@@ -114,7 +114,7 @@ module _ (w : Width) (k v : ElementSpec) (kl : IsElement k) (vl : IsElement v) (
   ]
 
   hash_stays : (j : ℕ) → IsWalked w b p j → key_hash c (at j) ≡ key_hash b (at j)
-  hash_stays j there = let h = key_stays j there in sym (local b c (at j) h.held.lower h.held.upper h.held.rest h.held.order h.held.is_valid h.fixed h.parts)
+  hash_stays j there = let h = key_stays j there in sym (local b c (at j) h.valid.lower h.valid.upper h.valid.rest h.valid.order h.valid.is_valid h.fixed h.parts)
 
   pos_stays : (j : ℕ) → item_at w E.size c p j ≡ at j
   pos_stays j = sym (item_same w b c p kept.header E.size j)

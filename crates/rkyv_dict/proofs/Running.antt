@@ -1,4 +1,4 @@
--- Lines are executed in turn, and their output is written or held.
+-- Lines are executed in turn, and their output is written or buffered.
 use Rattle.std.proofs.Common.{◌≡◌, ℕ, List, [], ◌∷◌, ◌++◌, Option, refl, sym, ap, ◌∙◌, subst, append_assoc}
 use Rattle.std.proofs.KnownBytes.{Appends-nil, Appends-trans}
 use Rattle.std.proofs.lemmas.List.{append-nil}
@@ -20,8 +20,8 @@ runs_more [] s output s' l printed s'' runs does =
 runs_more (x ∷ ls) s output s' l printed s'' runs does =
     (runs.0, runs.1, runs.2 ++ printed, runs.3, runs_more ls runs.1 runs.2 s' l printed s'' runs.4 does, ap (λ o. o ++ printed) runs.5 ∙ append_assoc runs.0 runs.2 printed)
 
-pub progress_none : (now : Option (List ℕ)) (script held : List ℕ) (s : State) → s ≡ start → held ≡ [] → Progress now now script held (lines_of script) s
-progress_none now script held s is none = record {
+pub progress_none : (now : Option (List ℕ)) (script buffered : List ℕ) (s : State) → s ≡ start → buffered ≡ [] → Progress now now script buffered (lines_of script) s
+progress_none now script buffered s is none = record {
   done = [];
   lines = refl;
   output = [];
@@ -29,25 +29,25 @@ progress_none now script held s is none = record {
   moved = record { moved = []; parts = sym none; appended = Appends-nil now };
 }
 
--- a line is executed, and its output is held
-pub progress_line : (old now : Option (List ℕ)) (script held held' : List ℕ) (rest more : List (List ℕ)) (line : List ℕ) (s s' : State)
-    → Progress old now script held rest s → rest ≡ line ∷ more → AppendsSome held held' (λ printed. StepsLine s line printed s') → Progress old now script held' more s'
-progress_line old now script held held' rest more line s s' p cut added = record {
+-- a line is executed, and its output is buffered
+pub progress_line : (old now : Option (List ℕ)) (script buffered buffered' : List ℕ) (rest more : List (List ℕ)) (line : List ℕ) (s s' : State)
+    → Progress old now script buffered rest s → rest ≡ line ∷ more → AppendsSome buffered buffered' (λ printed. StepsLine s line printed s') → Progress old now script buffered' more s'
+progress_line old now script buffered buffered' rest more line s s' p cut added = record {
   done = p.done ++ line ∷ [];
   lines = append_assoc p.done (line ∷ []) more ∙ ap (λ l. p.done ++ l) (sym cut) ∙ p.lines;
   output = p.output ++ added.printed;
   runs = runs_more p.done start p.output s line added.printed s' p.runs added.accepted;
   moved = record {
     moved = p.moved.moved;
-    parts = ap (λ l. l ++ added.printed) p.moved.parts ∙ append_assoc p.moved.moved held added.printed ∙ ap (λ l. p.moved.moved ++ l) (sym added.added);
+    parts = ap (λ l. l ++ added.printed) p.moved.parts ∙ append_assoc p.moved.moved buffered added.printed ∙ ap (λ l. p.moved.moved ++ l) (sym added.added);
     appended = p.moved.appended;
   };
 }
 
--- a prefix of the held output is written
-pub progress_moved : (old now next : Option (List ℕ)) (script held kept : List ℕ) (rest : List (List ℕ)) (s : State)
-    → Progress old now script held rest s → MovesFront now next held kept → Progress old next script kept rest s
-progress_moved old now next script held kept rest s p m = record {
+-- a prefix of the buffered output is written
+pub progress_moved : (old now next : Option (List ℕ)) (script buffered kept : List ℕ) (rest : List (List ℕ)) (s : State)
+    → Progress old now script buffered rest s → MovesFront now next buffered kept → Progress old next script kept rest s
+progress_moved old now next script buffered kept rest s p m = record {
   done = p.done;
   lines = p.lines;
   output = p.output;
@@ -60,9 +60,9 @@ progress_moved old now next script held kept rest s p m = record {
 }
 
 -- a prefix of the output of the executed lines is written
-progress_ends : (old now next : Option (List ℕ)) (script held : List ℕ) (rest : List (List ℕ)) (s : State)
-    → (p : Progress old now script held rest s) → AppendsFront old next p.output → AppendsBeginning old next script
-progress_ends old now next script held rest s p front = record {
+progress_ends : (old now next : Option (List ℕ)) (script buffered : List ℕ) (rest : List (List ℕ)) (s : State)
+    → (p : Progress old now script buffered rest s) → AppendsFront old next p.output → AppendsBeginning old next script
+progress_ends old now next script buffered rest s p front = record {
   done = p.done;
   rest = rest;
   lines = p.lines;
@@ -72,16 +72,16 @@ progress_ends old now next script held rest s p front = record {
   front = front;
 }
 
--- the run fails, and the held output isn't written
-pub progress_stopped : (old now : Option (List ℕ)) (script held : List ℕ) (rest : List (List ℕ)) (s : State)
-    → Progress old now script held rest s → AppendsBeginning old now script
-progress_stopped old now script held rest s p =
-    progress_ends old now now script held rest s p (record { front = p.moved.moved; rest = held; parts = sym p.moved.parts; appended = p.moved.appended })
+-- the run fails, and the buffered output isn't written
+pub progress_stopped : (old now : Option (List ℕ)) (script buffered : List ℕ) (rest : List (List ℕ)) (s : State)
+    → Progress old now script buffered rest s → AppendsBeginning old now script
+progress_stopped old now script buffered rest s p =
+    progress_ends old now now script buffered rest s p (record { front = p.moved.moved; rest = buffered; parts = sym p.moved.parts; appended = p.moved.appended })
 
--- a prefix of the held output is written, and the run fails
-pub progress_front : (old now next : Option (List ℕ)) (script held : List ℕ) (rest : List (List ℕ)) (s : State)
-    → Progress old now script held rest s → AppendsFront now next held → AppendsBeginning old next script
-progress_front old now next script held rest s p f = progress_ends old now next script held rest s p (record {
+-- a prefix of the buffered output is written, and the run fails
+pub progress_front : (old now next : Option (List ℕ)) (script buffered : List ℕ) (rest : List (List ℕ)) (s : State)
+    → Progress old now script buffered rest s → AppendsFront now next buffered → AppendsBeginning old next script
+progress_front old now next script buffered rest s p f = progress_ends old now next script buffered rest s p (record {
   front = p.moved.moved ++ f.front;
   rest = f.rest;
   parts = append_assoc p.moved.moved f.front f.rest ∙ ap (λ l. p.moved.moved ++ l) f.parts ∙ sym p.moved.parts;

@@ -1,16 +1,16 @@
--- Bytes that are written, held and still to be read.
+-- Bytes that are written, buffered and still to be read.
 use Rattle.std.proofs.Common.{ℕ, List, ◌++◌, take, drop, Option, sym, ap, ◌∙◌, append_assoc, take-append-drop, subst}
 use Rattle.std.specs.Prelude.{Err, IfSome, None, Ok, OnErr, Result, Some}
 use Rattle.std.specs.Io.KnownBytes.{Appends, Consumes}
 use Rattle.std.proofs.KnownBytes.{Appends-trans, Consumes-trans}
 use Rattle.rkyv_dict.specs.Run.{Gathers, MovesFront}
 
--- a prefix of the held output is written
-pub moves_more : (a b c : Option (List ℕ)) (whole held : List ℕ) (n : ℕ) → MovesFront a b whole held → Appends b c (take n held) → MovesFront a c whole (drop n held)
-moves_more a b c whole held n m taken = record {
-  moved = m.moved ++ take n held;
-  parts = m.parts ∙ ap (λ l. m.moved ++ l) (sym (take-append-drop n held)) ∙ sym (append_assoc m.moved (take n held) (drop n held));
-  appended = Appends-trans a b c m.moved (take n held) m.appended taken;
+-- a prefix of the buffered output is written
+pub moves_more : (a b c : Option (List ℕ)) (whole buffered : List ℕ) (n : ℕ) → MovesFront a b whole buffered → Appends b c (take n buffered) → MovesFront a c whole (drop n buffered)
+moves_more a b c whole buffered n m taken = record {
+  moved = m.moved ++ take n buffered;
+  parts = m.parts ∙ ap (λ l. m.moved ++ l) (sym (take-append-drop n buffered)) ∙ sym (append_assoc m.moved (take n buffered) (drop n buffered));
+  appended = Appends-trans a b c m.moved (take n buffered) m.appended taken;
 }
 
 pub gathers_more : (a b c : Option (List ℕ)) (before after : List ℕ) → Consumes a b before → Gathers b c before after → Consumes a c after

@@ -2,7 +2,7 @@
 //!
 //! 1. The script is read to the end, in pieces.
 //! 2. Each line is executed by `dict`.
-//! 3. The held output is written when it has at least one piece, and at the end.
+//! 3. The buffered output is written when it has at least one piece, and at the end.
 ghost use Rattle.rkyv_dict.specs.Run.{AppendsBeginning, AppendsFront, AppendsOutput, Gathers};
 ghost use Rattle.rkyv_dict.specs.Run.{MovesFront};
 ghost use Rattle.rkyv_dict.specs.Errors.{message_of};
@@ -66,7 +66,7 @@ impl From<AllocError> for RunError {
     }
 }
 
-/// The most bytes that one read asks for, and the number of held bytes that causes a write.
+/// The most bytes that one read asks for, and the number of buffered bytes that causes a write.
 const PIECE: usize = 65_536;
 
 /// The greatest number of reads.
@@ -139,17 +139,17 @@ fn write_piece<W: Write>(writer: &mut W, piece: &[u8]) -> Result<(), RunError>
     Ok(())
 }
 
-/// Writes the held output and empties it, if it has at least `PIECE` bytes.
-fn write_much<W: Write>(writer: &mut W, held: &mut String) -> Result<(), RunError>
+/// Writes the buffered output and empties it, if it has at least `PIECE` bytes.
+fn write_much<W: Write>(writer: &mut W, buffered: &mut String) -> Result<(), RunError>
     ensures ok { OnOk result (MovesFront (W.contents writer.old) (W.contents writer.new)
-        (string_bytes held.old) (string_bytes held.new)) }
+        (string_bytes buffered.old) (string_bytes buffered.new)) }
     ensures front { OnErr result
-        (AppendsFront (W.contents writer.old) (W.contents writer.new) (string_bytes held.old)) }
+        (AppendsFront (W.contents writer.old) (W.contents writer.new) (string_bytes buffered.old)) }
     ensures cause { IfErr result (λ e. e ≡ RunError.Write) }
 {
-    if held.len() >= PIECE {
-        write_piece(writer, held.as_bytes())?;
-        held.clear();
+    if buffered.len() >= PIECE {
+        write_piece(writer, buffered.as_bytes())?;
+        buffered.clear();
     }
     Ok(())
 }
@@ -163,15 +163,15 @@ fn write_output<W: Write>(alloc: Global, script: &[u8], writer: &mut W) -> Resul
     ensures causes { IfErr result (λ e. e ≢ RunError.Read) }
 {
     let mut dict = Dict::new(alloc);
-    let mut held = String::new(alloc);
+    let mut buffered = String::new(alloc);
     let mut rest = Some(script);
     while let Some(text) = rest {
         let (line, more) = cut(text, b'\n');
-        dict.execute(alloc, line, &mut held)?;
-        write_much(writer, &mut held)?;
+        dict.execute(alloc, line, &mut buffered)?;
+        write_much(writer, &mut buffered)?;
         rest = more;
     }
-    write_piece(writer, held.as_bytes())
+    write_piece(writer, buffered.as_bytes())
 }
 
 /// Reads a script to its end, then writes its output and nothing else.

@@ -125,8 +125,8 @@ module _ (w : Width) (kind : IsArchiveWord w) (b : List ℕ) (p n begin : ℕ) (
       (All-weaker (IsWalked w b p) (λ i. number_at w b (item_at w (byte_len w) b p i) < n) (bucket_below all) is (walked_all w (stored_index_spec w) (stored_index_element w kind) b p))
 
 -- a property of the bytes and the position of a view is one of those that it is of
-pub is_valid_there : {T : Type 0} (view new : View T) (a : Bor (List ℕ)) (p : ℕ) → view ≡ new → IsAt new a p → (P : List ℕ → ℕ → Type 0) → P view.archive.now view.pos → P a.now p
-is_valid_there view new a p same at P =
+pub moved_from_view : {T : Type 0} (view new : View T) (a : Bor (List ℕ)) (p : ℕ) → view ≡ new → IsAt new a p → (P : List ℕ → ℕ → Type 0) → P view.archive.now view.pos → P a.now p
+moved_from_view view new a p same at P =
     moved P view.archive.now a.now view.pos p (ap (λ v. v.archive.now) same ∙ ap (λ b. b.now) at.0) (ap (λ v. v.pos) same ∙ at.1)
 
 -- the buckets of a table, by its decoded header

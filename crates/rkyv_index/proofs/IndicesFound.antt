@@ -24,11 +24,11 @@ use Rattle.rkyv_index.specs.declared.map.ArchivedIndexMap.{ArchivedIndexMap}
 use Rattle.rkyv_index.proofs.Lookups.{finds_first_index, finds_index, item_index, item_stored, read_there}
 
 -- a lookup by a comparison is one by each weaker condition on its results
-pub finds_as : {P W : Type 0} {ts : Specs P} {wt : Words W} (A B : View P → Bool → Type 0) → ((h : View P) (r : Bool) → A h r → B h r) → (t : ArchivedHashTable P W ts wt) (hash : ℕ) (held : Option (View P))
-    → FindsItem A generic_kind t hash held → FindsItem B generic_kind t hash held
-finds_as A B weaker t hash held got = record {
+pub finds_as : {P W : Type 0} {ts : Specs P} {wt : Words W} (A B : View P → Bool → Type 0) → ((h : View P) (r : Bool) → A h r → B h r) → (t : ArchivedHashTable P W ts wt) (hash : ℕ) (found : Option (View P))
+    → FindsItem A generic_kind t hash found → FindsItem B generic_kind t hash found
+finds_as A B weaker t hash found got = record {
   walked = got.walked;
-  accepted = IfSome_then held got.accepted (λ h a. weaker h true a);
+  accepted = IfSome_then found got.accepted (λ h a. weaker h true a);
   finds = λ accept compares. got.finds accept (λ h r item a. compares h r item (weaker h r a));
   first = λ hashes homes accept written compares under. got.first hashes homes accept written (λ h r item a. compares h r item (weaker h r a)) under;
 }
@@ -47,18 +47,18 @@ module _ {K V H W P N : Type 0} {ks : Specs K} {vs : Specs V} {ts : Specs P} {wt
   w = wt.word
 
   -- the index in a found item is the number at its position
-  pub stored_index_found : (held : Option (View P)) → IfSome held (IsItem t)
-      → option_map (stored_index w) held ≡ option_map (number_at w (index_bytes m)) (pos_of_found held)
+  pub stored_index_found : (found : Option (View P)) → IfSome found (IsItem t)
+      → option_map (stored_index w) found ≡ option_map (number_at w (index_bytes m)) (pos_of_found found)
   stored_index_found None item = refl
   stored_index_found (Some h) item = ap Some (ap (λ (x : List ℕ). number_at w x h.pos) (read_there m e pk index t at h item))
 
   -- a found item is inside the archive
-  pub index_inside : (held : Option (View P)) → IfSome held (IsItem t) → IfSome held (λ item. pos_of item + byte_len w ≤ length (bytes_of item))
+  pub index_inside : (found : Option (View P)) → IfSome found (IsItem t) → IfSome found (λ item. pos_of item + byte_len w ≤ length (bytes_of item))
   index_inside None item = item
   index_inside (Some h) item = (item_index m e pk index t at h item).0
 
   -- a full bucket has the index, and it is below the length
-  pub index_stored : (held : Option (View P)) → IfSome held (IsItem t) → IfSome (option_map (stored_index w) held) (IsStoredIndex m)
+  pub index_stored : (found : Option (View P)) → IfSome found (IsItem t) → IfSome (option_map (stored_index w) found) (IsStoredIndex m)
   index_stored None item = item
   index_stored (Some h) item = (item_stored m e pk index t at h item, (item_index m e pk index t at h item).1)
 
@@ -70,22 +70,22 @@ module _ {K V H W P N : Type 0} {ks : Specs K} {vs : Specs V} {ts : Specs P} {wt
 
   -- the comparison accepted the key at the index in a found item
   pub index_accepted : (Post : View P → Bool → Type 0) (post' : View K → Bool → Type 0) (post_at_key : (h : View P) (r : Bool) → Post h r → (key : View K) × IsKeyOf m (number_at w (bytes_of h) h.pos) key × post' key r)
-      (held : Option (View P)) → IfSome held (λ h. Post h true) → IfSome (option_map (stored_index w) held) (IsAccepted m post')
+      (found : Option (View P)) → IfSome found (λ h. Post h true) → IfSome (option_map (stored_index w) found) (IsAccepted m post')
   index_accepted Post post' post_at_key None is_accepted = is_accepted
   index_accepted Post post' post_at_key (Some h) is_accepted = post_at_key h true is_accepted
 
   -- the clauses of a lookup in the table are clauses on the index in its result
   module _ (key_hash : List ℕ → ℕ → ℕ) (Post : View P → Bool → Type 0) (post : View K → Bool → Type 0)
       (post_at_key : (h : View P) (r : Bool) → Post h r → (key : View K) × IsKeyOf m (number_at w (bytes_of h) h.pos) key × post key r) (hash query_hash : ℕ) (under : hash ≡ query_hash)
-      (held : Option (View P)) (got : FindsItem Post generic_kind t hash held) (result : Option ℕ) (read : result ≡ option_map (number_at w (index_bytes m)) (pos_of_found held)) where
-    found_there : result ≡ option_map (stored_index w) held
-    found_there = read ∙ sym (stored_index_found held got.walked)
+      (found : Option (View P)) (got : FindsItem Post generic_kind t hash found) (result : Option ℕ) (read : result ≡ option_map (number_at w (index_bytes m)) (pos_of_found found)) where
+    found_there : result ≡ option_map (stored_index w) found
+    found_there = read ∙ sym (stored_index_found found got.walked)
 
     pub gets_index : GetsBy index_part m query_hash key_hash post result
     gets_index = record {
-      walked = subst (λ r. IfSome r (IsStoredIndex m)) (sym found_there) (index_stored held got.walked);
-      accepted = (result, refl, subst (λ r. IfSome r (IsAccepted m post)) (sym found_there) (index_accepted Post post post_at_key held got.accepted));
-      finds = λ accept compares. read ∙ finds_index m e pk index t at Post post post_at_key held accept compares hash got.finds ∙ ap (λ n. index_found w (index_bytes m) (index_pos m) n accept) under;
+      walked = subst (λ r. IfSome r (IsStoredIndex m)) (sym found_there) (index_stored found got.walked);
+      accepted = (result, refl, subst (λ r. IfSome r (IsAccepted m post)) (sym found_there) (index_accepted Post post post_at_key found got.accepted));
+      finds = λ accept compares. read ∙ finds_index m e pk index t at Post post post_at_key found accept compares hash got.finds ∙ ap (λ n. index_found w (index_bytes m) (index_pos m) n accept) under;
       first = λ accept compares alone homes written.
-          read ∙ finds_first_index m e pk index t at Post post post_at_key held accept compares hash key_hash (λ i below accepted. alone i below accepted ∙ sym under) got.first homes written;
+          read ∙ finds_first_index m e pk index t at Post post post_at_key found accept compares hash key_hash (λ i below accepted. alone i below accepted ∙ sym under) got.first homes written;
     }

@@ -23,7 +23,7 @@ use Rattle.rkyv_keys.specs.Lemmas.FirstPairs.{FindsByView}
 use Rattle.rkyv_keys.specs.Lemmas.OfEntries.{valid_key}
 use Rattle.rkyv_table.specs.Table.ItemValues.{with_units}
 use Rattle.rkyv_table.proofs.Moved.{moved}
-use Rattle.rkyv_index.specs.Index.{IsFoundAt, IsValueAt, IsWritten, fits_at, index_bytes, index_indices, index_len, index_of, index_pos, key_pos}
+use Rattle.rkyv_index.specs.Index.{IsFoundAt, IsValueAt, IsWritten, fits_at, index_bytes, index_len, index_of, index_pos, key_pos, pair_indices}
 use Rattle.rkyv_index.specs.Index.IndexFormat.{IndexRepresents}
 use Rattle.rkyv_index.specs.Index.ListArchives.{FoundAreListed, index_root}
 use Rattle.rkyv_index.specs.Set.IndexSet.{keys_of}
@@ -93,8 +93,8 @@ pub record FirstInMap {A Q B K V H W : Type 0} {ks : Specs K} {vs : Specs V} {wt
   pub homes : List ℕ
   pub written : IsWritten (index_of m) keys.key_hash homes
   pub at : (i : ℕ) (pair : A × B) → slice_get pairs i ≡ Some pair → PairRepresents ks.spec vs.spec keys.represents value (index_bytes m) (key_pos m i) pair
-  pub index : find (fits_at (index_of m) (keys.fits query)) (index_indices (index_of m)) ≡ position_from (λ pair. keys.equal query pair.0) 0 pairs
-  pub first : IsFirstAt pairs 0 (find (fits_at (index_of m) (keys.fits query)) (index_indices (index_of m))) (first_pair (keys.equal query) pairs)
+  pub index : find (fits_at (index_of m) (keys.fits query)) (pair_indices (index_of m)) ≡ position_from (λ pair. keys.equal query pair.0) 0 pairs
+  pub first : IsFirstAt pairs 0 (find (fits_at (index_of m) (keys.fits query)) (pair_indices (index_of m))) (first_pair (keys.equal query) pairs)
 
 first_in_map : {A Q B K V H W : Type 0} {ks : Specs K} {vs : Specs V} {wt : Words W} → IsArchiveWord wt.word → (m : ArchivedIndexMap K V H W ks vs wt) (keys : NativeKeys A Q)
     → FitsItsEqual ks.spec keys.represents keys.equal keys.fits → (value : List ℕ → ℕ → B → Type 0) (query : Q) (archive : Bor (List ℕ)) (p : ℕ) (factor : ℕ × ℕ) (pairs : List (A × B))

@@ -32,8 +32,8 @@ All-row P size q (suc n) h =
     All-cons P q (row size (q + size) n) first (All-row P size (q + size) n (λ i below. subst P (omega arith) (h (suc i) (omega arith))))
 
 module _ (w : Width) (kind : IsArchiveWord w) (s : ElementSpec) (law : IsElement s) (b : List ℕ) (p : ℕ) (v : Viewable (index_spec w s) b p) where
-  abbrev held : IsValidIndex w s b p 0 p v.valid.0
-  held = v.valid.1
+  abbrev valid : IsValidIndex w s b p 0 p v.valid.0
+  valid = v.valid.1
 
   -- the table of the map is valid
   pub table_there : Viewable (table_spec w (stored_index_spec w)) b p
@@ -42,30 +42,30 @@ module _ (w : Width) (kind : IsArchiveWord w) (s : ElementSpec) (law : IsElement
       record {
         inside = omega arith;
         aligned = v.aligned;
-        valid = valid_at (table_spec w (stored_index_spec w)) (table_element w kind (stored_index_spec w) (stored_index_element w kind)) b p 0 p held.middle (omega arith) (omega arith) held.table;
+        valid = valid_at (table_spec w (stored_index_spec w)) (table_element w kind (stored_index_spec w) (stored_index_element w kind)) b p 0 p valid.middle (omega arith) (omega arith) valid.table;
       }
 
   -- the position at which the entries begin
-  pub begin_is : entries_pos w b p ≡ held.entries.begin
-  begin_is = sym (ap unsigned_abs held.entries.part.begins)
+  pub begin_is : entries_pos w b p ≡ valid.entries.begin
+  begin_is = sym (ap unsigned_abs valid.entries.part.begins)
 
   pub entries_decoded : pos (entries_pos w b p) ≡ decode_entries w b p
-  entries_decoded = ap pos begin_is ∙ held.entries.part.begins
+  entries_decoded = ap pos begin_is ∙ valid.entries.part.begins
 
   pub entries_inside : entries_pos w b p + len_at w b p * s.size ≤ p
-  entries_inside = let below = held.entries.part.below in omega (arith, below, begin_is)
+  entries_inside = let below = valid.entries.part.below in omega (arith, below, begin_is)
 
   -- the archive has a valid entry at each index below the length
   pub entry_viewable : (i : ℕ) → i < len_at w b p → Viewable s b (pair_pos w s.size b p i)
   entry_viewable i below =
-      let begin = held.entries.begin in
-      let r = each_is_valid s law (entry_at s.size begin) b begin 0 (len_at w b p) held.middle held.entries.last i held.entries.part.above held.entries.hold (omega arith) (omega (arith, below)) in
+      let begin = valid.entries.begin in
+      let r = each_is_valid s law (entry_at s.size begin) b begin 0 (len_at w b p) valid.middle valid.entries.last i valid.entries.part.above valid.entries.valid (omega arith) (omega (arith, below)) in
       let u = entry_inside s.size begin (len_at w b p) i below in
-      let room = held.entries.part.below in
+      let room = valid.entries.part.below in
       let inside = v.inside in
       subst (λ n. Viewable s b (entry_at s.size n i)) (sym begin_is) (record {
         inside = omega (arith, u.1);
-        aligned = entry_aligned s law begin i held.entries.part.aligned;
+        aligned = entry_aligned s law begin i valid.entries.part.aligned;
         valid = valid_at s law b (entry_at s.size begin i) r.lower begin r.rest r.below u.0 r.is_valid;
       })
 
@@ -79,7 +79,7 @@ module _ (w : Width) (kind : IsArchiveWord w) (s : ElementSpec) (law : IsElement
   pub index_below : (i : ℕ) → IsWalked w b p i → number_at w b (item_at w (byte_len w) b p i) < len_at w b p
   index_below i walked =
       All-contains (λ j. number_at w b (item_at w (byte_len w) b p j) < len_at w b p) (walk (table_controls w b p) (cap_at w b p)) i
-      (All-unmap (λ q. number_at w b q < len_at w b p) (item_at w (byte_len w) b p) (walk (table_controls w b p) (cap_at w b p)) held.below)
+      (All-unmap (λ q. number_at w b q < len_at w b p) (item_at w (byte_len w) b p) (walk (table_controls w b p) (cap_at w b p)) valid.below)
       (full_walked (cap_at w b p) (table_controls w b p) i walked)
 
   module _ {V : Type 0} (ps : ElementSpec) (e : Encoding V) (pk : IsScalar ps e) (is : IsIndexEncoding w e) where

@@ -81,9 +81,9 @@ all_kept s law at b c n hi i sealed keeps above apart (j ∷ is) lo l o below h 
 
 -- a valid value whose parts are below `hi` leaves a lower end of at most `hi` in any range
 parts_below : (s : ElementSpec) → IsElement s → (b : List ℕ) (q lo hi rest l : ℕ) → lo ≤ hi → hi ≤ q → s.is_valid b q lo hi rest → s.is_valid b q 0 q l → l ≤ hi
-parts_below s law b q lo hi rest l o above held h =
-    let d : (l' : ℕ) × s.is_valid b q 0 hi l' × (l' ≤ rest) = law.lower_lo b q lo 0 hi rest (omega arith) o held in
-    let k = law.rest_in_range b q lo hi rest o held in
+parts_below s law b q lo hi rest l o above valid h =
+    let d : (l' : ℕ) × s.is_valid b q 0 hi l' × (l' ≤ rest) = law.lower_lo b q lo 0 hi rest (omega arith) o valid in
+    let k = law.rest_in_range b q lo hi rest o valid in
     let same : l ≡ d.0 = law.rest_unique b q 0 q l d.0 h (law.widen_hi b q 0 hi q d.0 above d.1) in
     omega (arith, same, d.2, k.1)
 
@@ -102,10 +102,10 @@ module _ (w : Width) (kind : IsArchiveWord w) (k v : ElementSpec) (kl : IsElemen
   abbrev at : ℕ → ℕ
   at = pair_pos w S.size b p
 
-  abbrev held : IsValidIndex w S b p 0 p view.valid.0
-  held = view.valid.1
+  abbrev valid : IsValidIndex w S b p 0 p view.valid.0
+  valid = view.valid.1
 
-  begins : entries_pos w b p ≡ held.entries.begin
+  begins : entries_pos w b p ≡ valid.entries.begin
   begins = begin_is w kind S law b p view
 
   entry_there : (i : ℕ) → i < len_at w b p → Viewable S b (at i)
@@ -119,11 +119,11 @@ module _ (w : Width) (kind : IsArchiveWord w) (k v : ElementSpec) (kl : IsElemen
       omega (arith, u.1, e)
 
   -- an entry is valid with its parts before the entries
-  entry_parts : (i : ℕ) → i < len_at w b p → IsValidWithin S b (at i) held.middle (entries_pos w b p) held.entries.last
+  entry_parts : (i : ℕ) → i < len_at w b p → IsValidWithin S b (at i) valid.middle (entries_pos w b p) valid.entries.last
   entry_parts i below =
-      let begin = held.entries.begin in
-      let r = each_is_valid S law (entry_at S.size begin) b begin 0 (len_at w b p) held.middle held.entries.last i held.entries.part.above held.entries.hold (omega arith) (omega (arith, below)) in
-      subst (λ n. IsValidWithin S b (entry_at S.size n i) held.middle n held.entries.last) (sym begins) r
+      let begin = valid.entries.begin in
+      let r = each_is_valid S law (entry_at S.size begin) b begin 0 (len_at w b p) valid.middle valid.entries.last i valid.entries.part.above valid.entries.valid (omega arith) (omega (arith, below)) in
+      subst (λ n. IsValidWithin S b (entry_at S.size n i) valid.middle n valid.entries.last) (sym begins) r
 
   -- the value at index `i` is written
   module _ (c : List ℕ) (i : ℕ) (below : i < len_at w b p) (writes : WritesValue k v b c (at i)) where
@@ -154,9 +154,9 @@ module _ (w : Width) (kind : IsArchiveWord w) (k v : ElementSpec) (kl : IsElemen
           begin = begin;
           part = h.part;
           last = h.last;
-          hold = all_kept S law (entry_at S.size begin) b c n begin i
+          valid = all_kept S law (entry_at S.size begin) b c n begin i
               (subst (λ m. Sealed b (entry_at S.size m i) S.size c) is wider) (subst (λ m. Keeps S b c (entry_at S.size m i)) is entry_keeps)
-              (omega arith) (λ j less ne. entries_apart S.size begin i j ne) (indices_of n) lo h.last h.part.above (indices_below n) h.hold;
+              (omega arith) (λ j less ne. entries_apart S.size begin i j ne) (indices_of n) lo h.last h.part.above (indices_below n) h.valid;
           ends = h.ends;
         }
 
@@ -209,14 +209,14 @@ module _ (w : Width) (kind : IsArchiveWord w) (k v : ElementSpec) (kl : IsElemen
     positions_same : (j : ℕ) → pair_pos w S.size c p j ≡ at j
     positions_same j = ap (λ z. entry_at S.size (unsigned_abs z) j) (sym (decoded_same w b c p header_same))
 
-    table_below : held.middle ≤ entries_pos w b p
-    table_below = let above = held.entries.part.above in omega (arith, above, begins)
+    table_below : valid.middle ≤ entries_pos w b p
+    table_below = let above = valid.entries.part.above in omega (arith, above, begins)
 
     controls_same : 0 < cap_at w b p → table_controls w b p ≡ table_controls w c p
-    controls_same = same_controls w (stored_index_spec w) (stored_index_element w kind) b c p 0 p held.middle (omega arith) held.table head (front_same 0 held.middle (omega arith) table_below)
+    controls_same = same_controls w (stored_index_spec w) (stored_index_element w kind) b c p 0 p valid.middle (omega arith) valid.table head (front_same 0 valid.middle (omega arith) table_below)
 
     read_same : (j : ℕ) → IsWalked w b p j → number_at w b (item_at w (byte_len w) b p j) ≡ number_at w c (item_at w (byte_len w) c p j)
-    read_same = index_same_at w kind b c p 0 p held.middle (omega arith) head (front_same 0 held.middle (omega arith) table_below) held.table
+    read_same = index_same_at w kind b c p 0 p valid.middle (omega arith) head (front_same 0 valid.middle (omega arith) table_below) valid.table
 
     some_buckets : 0 < cap_at w b p
     some_buckets = some_cap w (stored_index_spec w) (stored_index_element w kind) b p (table_there w kind S law b p view) (omega (arith, below))

@@ -228,8 +228,8 @@ index_of {ks = ks} {vs} {wt} m = record {
 
 module _ {K : Type 0} (m : Index K) where
   -- the indices of the pairs, in order
-  abbrev pub index_indices : List ℕ
-  index_indices = indices_of (len_at m.word m.bytes m.pos)
+  abbrev pub pair_indices : List ℕ
+  pair_indices = indices_of (len_at m.word m.bytes m.pos)
 
   -- the position of the key at index `i`
   abbrev pub key_at : ℕ → ℕ
@@ -266,7 +266,7 @@ module _ {K : Type 0} (m : Index K) where
   -- `Fact` is a property of the first accepted index, in a written map
   abbrev pub FindsFirstIndex : (List ℕ → ℕ → ℕ) → (ℕ → Bool) → (Option ℕ → Type 0) → Type 0
   FindsFirstIndex key_hash accept Fact = (homes : List ℕ) → IsWritten key_hash homes
-      → Fact (find accept index_indices)
+      → Fact (find accept pair_indices)
 
   -- a lookup by a comparison reads these strides, under a hash. `before`, `after`: counts
   -- of strides

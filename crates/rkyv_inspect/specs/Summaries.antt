@@ -42,12 +42,12 @@ abbrev pub keyed_map : Width → KeyType → ElementSpec → List ℕ → ℕ �
 keyed_map word key value bytes pos =
     record { word = word; key = key; value = value; bytes = bytes; pos = pos }
 
--- `lookups`: lookups of the items at `items`, of which `misplaced` find another item or none.
--- `reads q`: number of strides that the lookup of the item at `q` reads
-pub record AreLookups (misplaced : ℕ) (reads : ℕ → ℕ) (items : List ℕ) (lookups : Lookups) : Type 0
+-- `lookups`: counts of the lookups of each key of `keys`, by its position or index.
+-- `misplaced`: number of lookups that find another key or none, `reads q`: strides that one reads
+pub record AreLookups (misplaced : ℕ) (reads : ℕ → ℕ) (keys : List ℕ) (lookups : Lookups) : Type 0
   where
     pub misplaced_is : lookups.misplaced ≡ misplaced
-    pub strides_are : IsHistogram reads items lookups.strides.items
+    pub strides_are : IsHistogram reads keys lookups.strides.items
 
 -- `result` has the property `P`, or is `None` if the lookups of all items, which read `all`
 -- strides, read more than `limit`, or more than 2^63

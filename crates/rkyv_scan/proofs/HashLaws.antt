@@ -13,25 +13,25 @@ fixed_agree one other (Usize n) h = absurd h
 fixed_agree one other (Isize z) h = absurd h
 fixed_agree one other _ h = refl
 
-held_alike : (one other : SizeWords) (held : ℕ) (calls : List HasherCall) → All IsFixed calls
-    → fold (fx_feed one) held calls ≡ fold (fx_feed other) held calls
-held_alike one other held [] h = refl
-held_alike one other held (call ∷ calls) h =
-    held_alike one other (fx_feed one held call) calls (λ k default l. h (suc k) default (omega arith))
-    ∙ ap (λ words. fold (fx_feed other) (hash_words held words) calls) (fixed_agree one other call (h 0 call (omega arith)))
+states_agree : (one other : SizeWords) (state : ℕ) (calls : List HasherCall) → All IsFixed calls
+    → fold (fx_feed one) state calls ≡ fold (fx_feed other) state calls
+states_agree one other state [] h = refl
+states_agree one other state (call ∷ calls) h =
+    states_agree one other (fx_feed one state call) calls (λ k default l. h (suc k) default (omega arith))
+    ∙ ap (λ words. fold (fx_feed other) (hash_words state words) calls) (fixed_agree one other call (h 0 call (omega arith)))
 
 pub fixed_alike : FixedCallsHashAlike
-fixed_alike one other calls h = held_alike one other 0 calls h
+fixed_alike one other calls h = states_agree one other 0 calls h
 
-words_held : (sizes : SizeWords) (held : ℕ) (calls : List HasherCall)
-    → fold (fx_feed sizes) held calls ≡ hash_words held (flat_map (call_words sizes) calls)
-words_held sizes held [] = refl
-words_held sizes held (call ∷ calls) =
-    words_held sizes (fx_feed sizes held call) calls
-    ∙ sym (fold-append hash_word held (call_words sizes call) (flat_map (call_words sizes) calls))
+calls_are_words : (sizes : SizeWords) (state : ℕ) (calls : List HasherCall)
+    → fold (fx_feed sizes) state calls ≡ hash_words state (flat_map (call_words sizes) calls)
+calls_are_words sizes state [] = refl
+calls_are_words sizes state (call ∷ calls) =
+    calls_are_words sizes (fx_feed sizes state call) calls
+    ∙ sym (fold-append hash_word state (call_words sizes call) (flat_map (call_words sizes) calls))
 
 pub calls_words : CallsHashTheirWords
-calls_words sizes calls = words_held sizes 0 calls
+calls_words sizes calls = calls_are_words sizes 0 calls
 
 -- a length that is a multiple of eight leaves no further words
 rest_none : (a : List ℕ) → length a % 8 ≡ 0 → rest_words a ≡ []
@@ -45,7 +45,7 @@ rest_none a h =
 
 pub eight_bytes : EightBytesAreOneWord
 unfolding byte_words
-eight_bytes sizes held a long =
+eight_bytes sizes state a long =
     let none = rest_none a (rw long refl) in
     rw (none, long) refl
 
@@ -108,4 +108,4 @@ words_join a b h =
     ∙ ap (λ x. x ++ (whole_words b n ++ rest_words b)) (sym left)
 
 pub writes_join : WritesJoin
-writes_join sizes held a b whole = sym (ap (hash_words held) (words_join a b whole) ∙ fold-append hash_word held (byte_words a) (byte_words b))
+writes_join sizes state a b whole = sym (ap (hash_words state) (words_join a b whole) ∙ fold-append hash_word state (byte_words a) (byte_words b))

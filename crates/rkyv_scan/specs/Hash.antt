@@ -129,21 +129,21 @@ call_words sizes (I64 z) = signed_word w64 z
 call_words sizes (I128 z) = wide_words (cast_unsigned w128 z)
 call_words sizes (Isize z) = sizes.isize_word z ∷ []
 
--- the state `held` after one word
+-- the state after one word, from `state` on
 unfoldable pub hash_word : ℕ → ℕ → ℕ
-hash_word held word = (bit_xor (rotate_left w64 held 5) word * 0x517c_c1b7_2722_0a95) % 2 ^ 64
+hash_word state word = (bit_xor (rotate_left w64 state 5) word * 0x517c_c1b7_2722_0a95) % 2 ^ 64
 
--- the state `held` after a list of words
+-- the state after a list of words, from `state` on
 abbrev pub hash_words : ℕ → List ℕ → ℕ
-hash_words held words = fold hash_word held words
+hash_words state words = fold hash_word state words
 
--- the state `held` after one call
+-- the state after one call, from `state` on
 abbrev pub fx_feed : SizeWords → ℕ → HasherCall → ℕ
-fx_feed sizes held call = hash_words held (call_words sizes call)
+fx_feed sizes state call = hash_words state (call_words sizes call)
 
 -- the `FxHasher` of the rule `sizes`. Its state is at first 0, and is its own hash
 abbrev pub fx_hasher : SizeWords → Hasher ℕ
-fx_hasher sizes = record { initial = 0; feed = fx_feed sizes; finish = λ held. held }
+fx_hasher sizes = record { initial = 0; feed = fx_feed sizes; finish = λ state. state }
 
 -- the hash of a list of calls by the `FxHasher` of the rule `sizes`
 abbrev pub fx_hash : SizeWords → List HasherCall → ℕ

@@ -22,13 +22,13 @@ CallsHashTheirWords = (sizes : SizeWords) (calls : List HasherCall)
 
 -- two writes hash as one of both joined, if the length of the first is a multiple of eight
 abbrev pub WritesJoin : Type 0
-WritesJoin = (sizes : SizeWords) (held : ℕ) (a b : List ℕ) → length a % 8 ≡ 0
-    → fx_feed sizes (fx_feed sizes held (Bytes a)) (Bytes b) ≡ fx_feed sizes held (Bytes (a ++ b))
+WritesJoin = (sizes : SizeWords) (state : ℕ) (a b : List ℕ) → length a % 8 ≡ 0
+    → fx_feed sizes (fx_feed sizes state (Bytes a)) (Bytes b) ≡ fx_feed sizes state (Bytes (a ++ b))
 
 -- a write of eight bytes hashes as a `write_u64` of their little-endian number
 abbrev pub EightBytesAreOneWord : Type 0
-EightBytesAreOneWord = (sizes : SizeWords) (held : ℕ) (a : List ℕ) → length a ≡ 8
-    → fx_feed sizes held (Bytes a) ≡ fx_feed sizes held (U64 (from_le_bytes w64 a))
+EightBytesAreOneWord = (sizes : SizeWords) (state : ℕ) (a : List ℕ) → length a ≡ 8
+    → fx_feed sizes state (Bytes a) ≡ fx_feed sizes state (U64 (from_le_bytes w64 a))
 
 -- the call is no `write_usize` and no `write_isize`
 abbrev pub IsFixed : HasherCall → Type 0

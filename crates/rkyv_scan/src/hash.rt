@@ -181,11 +181,11 @@ impl SizeRule for AllBits {
 }
 
 #[inline]
-fn hash_word(held: u64, word: u64) -> u64
-    ensures { result ≡ hash_word held word }
+fn hash_word(state: u64, word: u64) -> u64
+    ensures { result ≡ hash_word state word }
 {
     const SEED: u64 = 0x517c_c1b7_2722_0a95;
-    (held.rotate_left(5) ^ word).wrapping_mul(SEED)
+    (state.rotate_left(5) ^ word).wrapping_mul(SEED)
 }
 
 #[inline]
@@ -213,63 +213,63 @@ fn read_u16(bytes: &[u8], at: usize) -> u16
 }
 
 // Reads and hashes the word even if it is not fed, as the two functions below do.
-// The choice between `fed` and `held` then needs no branch on a bit of the length.
+// The choice between `fed` and `state` then needs no branch on a bit of the length.
 // Such a branch is hard to predict for keys of many lengths.
 #[inline]
-fn hash_four_bytes(held: u64, bytes: &[u8]) -> u64
-    ensures { result ≡ hash_words held (four_bytes bytes.now) }
+fn hash_four_bytes(state: u64, bytes: &[u8]) -> u64
+    ensures { result ≡ hash_words state (four_bytes bytes.now) }
 {
     let len = bytes.len();
     if len < 4 {
-        return held;
+        return state;
     }
-    let fed = hash_word(held, u64::from(read_u32(bytes, len / 4 * 4 - 4)));
-    if len / 4 % 2 == 1 { fed } else { held }
+    let fed = hash_word(state, u64::from(read_u32(bytes, len / 4 * 4 - 4)));
+    if len / 4 % 2 == 1 { fed } else { state }
 }
 
 #[inline]
-fn hash_two_bytes(held: u64, bytes: &[u8]) -> u64
-    ensures { result ≡ hash_words held (two_bytes bytes.now) }
+fn hash_two_bytes(state: u64, bytes: &[u8]) -> u64
+    ensures { result ≡ hash_words state (two_bytes bytes.now) }
 {
     let len = bytes.len();
     if len < 2 {
-        return held;
+        return state;
     }
-    let fed = hash_word(held, u64::from(read_u16(bytes, len / 2 * 2 - 2)));
-    if len / 2 % 2 == 1 { fed } else { held }
+    let fed = hash_word(state, u64::from(read_u16(bytes, len / 2 * 2 - 2)));
+    if len / 2 % 2 == 1 { fed } else { state }
 }
 
 #[inline]
-fn hash_last_byte(held: u64, bytes: &[u8]) -> u64
-    ensures { result ≡ hash_words held (last_byte bytes.now) }
+fn hash_last_byte(state: u64, bytes: &[u8]) -> u64
+    ensures { result ≡ hash_words state (last_byte bytes.now) }
 {
     let len = bytes.len();
     if len < 1 {
-        return held;
+        return state;
     }
-    let fed = hash_word(held, u64::from(bytes[len - 1]));
-    if len % 2 == 1 { fed } else { held }
+    let fed = hash_word(state, u64::from(bytes[len - 1]));
+    if len % 2 == 1 { fed } else { state }
 }
 
 // Hashes the words after the last whole one.
 #[inline]
-fn hash_rest(held: u64, bytes: &[u8]) -> u64
-    ensures { result ≡ hash_words held (rest_words bytes.now) }
+fn hash_rest(state: u64, bytes: &[u8]) -> u64
+    ensures { result ≡ hash_words state (rest_words bytes.now) }
 {
-    let held = hash_four_bytes(held, bytes);
-    let held = hash_two_bytes(held, bytes);
-    hash_last_byte(held, bytes)
+    let state = hash_four_bytes(state, bytes);
+    let state = hash_two_bytes(state, bytes);
+    hash_last_byte(state, bytes)
 }
 
 #[inline]
-fn hash_bytes(held: u64, bytes: &[u8]) -> u64
-    ensures { result ≡ hash_words held (byte_words bytes.now) }
+fn hash_bytes(state: u64, bytes: &[u8]) -> u64
+    ensures { result ≡ hash_words state (byte_words bytes.now) }
 {
-    let mut held = held;
+    let mut state = state;
     for k in 0..bytes.len() / 8 {
-        held = hash_word(held, read_u64(bytes, 8 * k));
+        state = hash_word(state, read_u64(bytes, 8 * k));
     }
-    hash_rest(held, bytes)
+    hash_rest(state, bytes)
 }
 
 /// A hasher whose state is one word, at first 0, which is also its hash.
@@ -278,7 +278,7 @@ fn hash_bytes(held: u64, bytes: &[u8]) -> u64
 /// The rule `S` chooses the words of a `usize` and an `isize`.
 #[derive(Drop)]
 pub struct FxHasher<S> {
-    held: u64,
+    state: u64,
     rule: PhantomData<S>,
 }
 
@@ -310,7 +310,7 @@ pub type FxHasher64Wide = FxHasher<AllBits>;
 impl<S> Model for FxHasher<S> {
     ghost Value = { ℕ };
 
-    ghost view = { λ s. s.held };
+    ghost view = { λ s. s.state };
 }
 
 impl<S> Default for FxHasher<S> {
@@ -319,7 +319,7 @@ impl<S> Default for FxHasher<S> {
     #[inline]
     fn default() -> Self {
         FxHasher {
-            held: 0,
+            state: 0,
             rule: PhantomData,
         }
     }
@@ -334,39 +334,39 @@ impl<S: SizeRule> KeyHasher for FxHasher<S> {
 
     #[inline]
     fn write(&mut self, bytes: &[u8]) {
-        self.held = hash_bytes(self.held, bytes);
+        self.state = hash_bytes(self.state, bytes);
     }
 
     #[inline]
     fn write_u8(&mut self, number: u8) {
-        self.held = hash_word(self.held, u64::from(number));
+        self.state = hash_word(self.state, u64::from(number));
     }
 
     #[inline]
     fn write_u16(&mut self, number: u16) {
-        self.held = hash_word(self.held, u64::from(number));
+        self.state = hash_word(self.state, u64::from(number));
     }
 
     #[inline]
     fn write_u32(&mut self, number: u32) {
-        self.held = hash_word(self.held, u64::from(number));
+        self.state = hash_word(self.state, u64::from(number));
     }
 
     #[inline]
     fn write_u64(&mut self, number: u64) {
-        self.held = hash_word(self.held, number);
+        self.state = hash_word(self.state, number);
     }
 
     #[inline]
     fn write_u128(&mut self, number: u128) {
         let low = (number & 0xffff_ffff_ffff_ffff) as u64;
         let high = (number >> 64) as u64;
-        self.held = hash_word(hash_word(self.held, low), high);
+        self.state = hash_word(hash_word(self.state, low), high);
     }
 
     #[inline]
     fn write_usize(&mut self, number: usize) {
-        self.held = hash_word(self.held, S::usize_word(number));
+        self.state = hash_word(self.state, S::usize_word(number));
     }
 
     #[inline]
@@ -396,11 +396,11 @@ impl<S: SizeRule> KeyHasher for FxHasher<S> {
 
     #[inline]
     fn write_isize(&mut self, number: isize) {
-        self.held = hash_word(self.held, S::isize_word(number));
+        self.state = hash_word(self.state, S::isize_word(number));
     }
 
     #[inline]
     fn finish(&self) -> u64 {
-        self.held
+        self.state
     }
 }

@@ -18,7 +18,7 @@ use Rattle.rkyv_table.proofs.Walks.{walk_small, whole_walk}
 pub record IsPartlyChecked (s : ElementSpec) (begin cap : ℕ) (b controls : List ℕ) (lo : ℕ) (rest : List ℕ) (low count : ℕ) : Type 0 where
   pub ordered : low ≤ begin
   pub counted : count + length rest ≡ length (walk controls cap)
-  pub held : (m : ℕ) → AreValidAt s (bucket_at s.size begin cap) b begin rest low m → AreValidAt s (bucket_at s.size begin cap) b begin (walk controls cap) lo m
+  pub valid : (m : ℕ) → AreValidAt s (bucket_at s.size begin cap) b begin rest low m → AreValidAt s (bucket_at s.size begin cap) b begin (walk controls cap) lo m
   pub failed : (e : VerifyError) → FirstFails s (bucket_at s.size begin cap) b begin rest low e → FirstFails s (bucket_at s.size begin cap) b begin (walk controls cap) lo e
 
 module _ (s : ElementSpec) (begin cap : ℕ) (b controls : List ℕ) (lo : ℕ) where
@@ -26,16 +26,16 @@ module _ (s : ElementSpec) (begin cap : ℕ) (b controls : List ℕ) (lo : ℕ) 
   checked_same rest rest' low count e h = subst (λ is. IsPartlyChecked s begin cap b controls lo is low count) e h
 
   pub checked_init : lo ≤ begin → IsPartlyChecked s begin cap b controls lo (full_from controls cap 0) lo 0
-  checked_init o = checked_same (walk controls cap) (full_from controls cap 0) lo 0 (sym (whole_walk controls cap)) (record { ordered = o; counted = omega arith; held = λ m h. h; failed = λ e h. h })
+  checked_init o = checked_same (walk controls cap) (full_from controls cap 0) lo 0 (sym (whole_walk controls cap)) (record { ordered = o; counted = omega arith; valid = λ m h. h; failed = λ e h. h })
 
   pub checked_step : (i : ℕ) (rest : List ℕ) (low count m : ℕ) → IsPartlyChecked s begin cap b controls lo (i ∷ rest) low count → m ≤ begin → s.is_valid b (bucket_at s.size begin cap i) low begin m → IsPartlyChecked s begin cap b controls lo rest m (count + 1)
-  checked_step i rest low count m g o h = record { ordered = o; counted = omega (arith, g.counted); held = λ n k. g.held n (m, h, k); failed = λ e k. g.failed e (inr (m, h, k)) }
+  checked_step i rest low count m g o h = record { ordered = o; counted = omega (arith, g.counted); valid = λ n k. g.valid n (m, h, k); failed = λ e k. g.failed e (inr (m, h, k)) }
 
   pub checked_fails : (i : ℕ) (rest : List ℕ) (low count : ℕ) (e : VerifyError) → IsPartlyChecked s begin cap b controls lo (i ∷ rest) low count → s.fails b (bucket_at s.size begin cap i) low begin e → FirstFails s (bucket_at s.size begin cap) b begin (walk controls cap) lo e
   checked_fails i rest low count e g f = g.failed e (inl f)
 
   pub checked_end : (low count : ℕ) → IsPartlyChecked s begin cap b controls lo [] low count → AreValid s (bucket_at s.size begin cap) b begin (walk controls cap) lo × (count ≡ length (walk controls cap))
-  checked_end low count g = ((low, g.held low refl), omega (arith, g.counted))
+  checked_end low count g = ((low, g.valid low refl), omega (arith, g.counted))
 
   pub checked_small : (i : ℕ) (rest : List ℕ) (low count : ℕ) → IsPartlyChecked s begin cap b controls lo (i ∷ rest) low count → count + 1 ≤ cap
   checked_small i rest low count g = omega (arith, g.counted, walk_small controls cap)

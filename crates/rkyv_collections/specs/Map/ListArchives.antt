@@ -93,7 +93,7 @@ OpensTextMap e b result = OpensNarrow (text_map_spec e) b result
 
 -- the value of the first pair whose key is `text`
 abbrev pub first_of_text : {N : Type 0} → List ℕ → TextPairs N → Option N
-first_of_text text pairs = first_value (λ held. same_bytes text held.now) pairs
+first_of_text text pairs = first_value (λ other. same_bytes text other.now) pairs
 
 -- the value of the pair that a lookup of `text` finds in the map at the root of the archive `b`,
 -- which may represent no list

@@ -32,9 +32,9 @@ pub record IsValidBefore (s : ElementSpec) (b : List ℕ) (q : ℕ) : Type 0 whe
 
 -- the value at `q` is the same in both: its own bytes, and the range of its parts
 pub record StaysAt (s : ElementSpec) (b c : List ℕ) (q : ℕ) : Type 0 where
-  pub held : IsValidBefore s b q
+  pub valid : IsValidBefore s b q
   pub fixed : AgreeOn b c q (q + s.size)
-  pub parts : AgreeOn b c held.lower held.rest
+  pub parts : AgreeOn b c valid.lower valid.rest
 
 module _ (w : Width) (k v : ElementSpec) where
   -- The map at `p` in `b`, after a write among the parts of the value in bucket `i`, is a map

@@ -12,7 +12,7 @@ use Rattle.rkyv_keys.specs.Equality.{Comparison}
 use Rattle.rkyv_keys.specs.OfEntries.{entry_same}
 use Rattle.rkyv_table.specs.Table.Header.{len_at}
 use Rattle.rkyv_table.specs.Table.Misplaced.{is_found_at}
-use Rattle.rkyv_index.specs.Index.{Index, IsWritten, index_bytes, index_found, index_indices}
+use Rattle.rkyv_index.specs.Index.{Index, IsWritten, index_bytes, index_found, pair_indices}
 use Rattle.rkyv_index.specs.Index.{index_strides}
 use Rattle.rkyv_index.specs.Index.{index_pos, key_at}
 use Rattle.rkyv_index.specs.Index.IndexLayout.{pair_pos}
@@ -59,7 +59,7 @@ module _ {K : Type 0} (m : Index K) (key_hash : List ℕ → ℕ → ℕ) (same_
 
   -- the number of misplaced keys
   abbrev pub index_misplaced : ℕ
-  index_misplaced = length (filter is_misplaced (index_indices m))
+  index_misplaced = length (filter is_misplaced (pair_indices m))
 
   -- the number of strides that a lookup of the key at index `i` reads
   abbrev pub own_strides : ℕ → ℕ
@@ -67,7 +67,7 @@ module _ {K : Type 0} (m : Index K) (key_hash : List ℕ → ℕ → ℕ) (same_
 
   -- the number of strides that the lookups of all keys read
   abbrev pub keys_strides : ℕ
-  keys_strides = sum_by own_strides (index_indices m)
+  keys_strides = sum_by own_strides (pair_indices m)
 
   -- `result`: number of misplaced keys, or `None` if the lookups of all keys read more
   -- than `limit` strides, or more than 2^63 with those that were counted before
@@ -82,7 +82,7 @@ module _ {K : Type 0} (m : Index K) (key_hash : List ℕ → ℕ → ℕ) (same_
 
   -- the number of keys that are the same as an earlier key
   abbrev pub index_repeated : ℕ
-  index_repeated = length (filter is_repeated (index_indices m))
+  index_repeated = length (filter is_repeated (pair_indices m))
 
   -- `result`: in a written map, `true` if and only if the key at index `i` is a repeated one
   abbrev pub ReturnsRepeated : ℕ → Bool → Type 0

@@ -73,7 +73,7 @@ pub record EntriesIn (s : ElementSpec) (b : List ℕ) (decoded : ℤ) (len lo hi
   pub begin : ℕ
   pub part : PartIn decoded (len * s.size) s.align lo hi begin
   pub last : ℕ
-  pub hold : AreValidEntries s b begin len lo last
+  pub valid : AreValidEntries s b begin len lo last
   pub ends : l ≡ begin + len * s.size
 
 -- `e`: fault of the part, or else the first fault of an entry

@@ -6,7 +6,7 @@ use Rattle.std.specs.List.{find}
 use Rattle.rkyv_base.specs.ElementSpec.{ElementSpec, ValidAt}
 use Rattle.rkyv_base.specs.Pairs.{PairRepresents}
 use Rattle.rkyv_keys.specs.Natives.{NativePairs}
-use Rattle.rkyv_index.specs.Index.{IsWritten, fits_at, index_bytes, index_indices, index_of}
+use Rattle.rkyv_index.specs.Index.{IsWritten, fits_at, index_bytes, index_of, pair_indices}
 use Rattle.rkyv_index.specs.Index.{index_pos}
 use Rattle.rkyv_index.specs.Index.{key_pos}
 use Rattle.rkyv_index.specs.Index.IndexFormat.{IndexRepresents}
@@ -34,7 +34,7 @@ module _ {A B K V H W : Type 0} {ks : Specs K} {vs : Specs V} {wt : Words W}
       Type 0 where
     pub homes : List ℕ
     pub written : IsWritten (index_of m) native.key_hash homes
-    pub first : IsFirst accept pairs (find (fits_at (index_of m) fits) (index_indices (index_of m)))
+    pub first : IsFirst accept pairs (find (fits_at (index_of m) fits) (pair_indices (index_of m)))
     pub each : (i : ℕ) (pair : A × B) → slice_get pairs i ≡ Some pair
         → PairRepresents ks.spec vs.spec native.key native.value (index_bytes m) (key_pos m i) pair
 

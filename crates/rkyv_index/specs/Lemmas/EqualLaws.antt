@@ -37,12 +37,12 @@ module _ (w : Width) (s : ElementSpec) (law : IsElement s) where
   entry_valid : (b : List ℕ) (p : ℕ) → ValidAt (index_spec w s) b p → (i : ℕ) → i < len_at w b p
       → ValidAt s b (pair_pos w s.size b p i)
   entry_valid b p h i below =
-      let held : IsValidIndex w s b p 0 p h.0 = h.1 in
-      let begin = held.entries.begin in
-      let at : entries_pos w b p ≡ begin = sym (ap unsigned_abs held.entries.part.begins) in
+      let valid : IsValidIndex w s b p 0 p h.0 = h.1 in
+      let begin = valid.entries.begin in
+      let at : entries_pos w b p ≡ begin = sym (ap unsigned_abs valid.entries.part.begins) in
       let r =
-      each_is_valid s law (entry_at s.size begin) b begin 0 (len_at w b p) held.middle
-      held.entries.last i held.entries.part.above held.entries.hold (omega arith)
+      each_is_valid s law (entry_at s.size begin) b begin 0 (len_at w b p) valid.middle
+      valid.entries.last i valid.entries.part.above valid.entries.valid (omega arith)
       (omega (arith, below)) in
       let u = entry_inside s.size begin (len_at w b p) i below in
       subst (λ n. ValidAt s b (entry_at s.size n i)) (sym at)

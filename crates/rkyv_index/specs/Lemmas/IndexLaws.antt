@@ -139,7 +139,7 @@ module _ (s : ElementSpec) (law : IsElement s) where
   entries_exclusive b decoded len lo hi l e h (inr f) =
       let same : f.0 ≡ h.begin =
       part_one decoded (len * s.size) s.align lo hi f.0 h.begin f.1 h.part in
-      all_exclusive s law (entry_at s.size h.begin) b h.begin (indices_of len) lo h.last e h.hold
+      all_exclusive s law (entry_at s.size h.begin) b h.begin (indices_of len) lo h.last e h.valid
       (subst (λ n. FirstFails s (entry_at s.size n) b n (indices_of len) lo e) same f.2)
 
   entries_one_failure : (b : List ℕ) (decoded : ℤ) (len lo hi : ℕ) (e e' : VerifyError)
@@ -163,7 +163,7 @@ module _ (s : ElementSpec) (law : IsElement s) where
         part = part_wider decoded (len * s.size) s.align lo lo hi hi' h.begin
             (omega arith) o h.part;
         last = h.last;
-        hold = h.hold;
+        valid = h.valid;
         ends = h.ends;
       }
 
@@ -172,13 +172,13 @@ module _ (s : ElementSpec) (law : IsElement s) where
   entries_lower b decoded len lo lo' hi l o h =
       let d =
       all_lower s law (entry_at s.size h.begin) b h.begin (indices_of len) lo lo' h.last o
-      h.part.above h.hold in
+      h.part.above h.valid in
       record {
         begin = h.begin;
         part = part_wider decoded (len * s.size) s.align lo lo' hi hi h.begin o
             (omega arith) h.part;
         last = d.0;
-        hold = d.1;
+        valid = d.1;
         ends = h.ends;
       }
 
@@ -191,12 +191,12 @@ module _ (s : ElementSpec) (law : IsElement s) where
         begin = h.begin;
         part = h.part;
         last = h.last;
-        hold = all_local s law (entry_at s.size h.begin) b c lo l len h.begin (indices_of len) lo
+        valid = all_local s law (entry_at s.size h.begin) b c lo l len h.begin (indices_of len) lo
             h.last same (omega arith) above (omega arith) (indices_below len)
             (λ i below. let u = entry_inside s.size h.begin len i below in (
               omega (arith, u.0),
               omega (arith, u.1),
-            )) h.hold;
+            )) h.valid;
         ends = h.ends;
       }
 
@@ -319,12 +319,12 @@ module _ (w : Width) (kind : IsArchiveWord w) (s : ElementSpec) (law : IsElement
   entries_prop b decoded len lo hi l =
       let P : ℕ → Type 0 = λ begin. PartIn decoded (len * s.size) s.align lo hi begin
       × (((last : ℕ) × AreValidEntries s b begin len lo last) × (l ≡ begin + len * s.size)) in
-      prop_by {B = (begin : ℕ) × P begin} (λ h. (h.begin, (h.part, ((h.last, h.hold), h.ends))))
+      prop_by {B = (begin : ℕ) × P begin} (λ h. (h.begin, (h.part, ((h.last, h.valid), h.ends))))
       (λ h. record {
         begin = h.0;
         part = h.1.0;
         last = h.1.1.0.0;
-        hold = h.1.1.0.1;
+        valid = h.1.1.0.1;
         ends = h.1.1.1;
       })
       (λ _. refl) (only_one

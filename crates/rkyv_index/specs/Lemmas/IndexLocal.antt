@@ -136,7 +136,7 @@ module _ (w : Width) (kind : IsArchiveWord w) (k v : ElementSpec) (kl : IsElemen
 
     last_ends : (h.middle ≤ h.entries.last) × (h.entries.last ≤ h.entries.begin)
     last_ends = all_between S law (entry_at S.size h.entries.begin) b h.entries.begin
-        (indices_of (len_at w b p)) h.middle h.entries.last h.entries.part.above h.entries.hold
+        (indices_of (len_at w b p)) h.middle h.entries.last h.entries.part.above h.entries.valid
 
     -- each entry is valid, and inside the part
     entry_there : (i : ℕ) → i < len_at w b p
@@ -144,7 +144,7 @@ module _ (w : Width) (kind : IsArchiveWord w) (k v : ElementSpec) (kl : IsElemen
         × (h.entries.begin ≤ pair_pos w S.size b p i) × (pair_pos w S.size b p i + S.size ≤ l)
     entry_there i below =
         let r = each_is_valid S law (entry_at S.size h.entries.begin) b h.entries.begin 0
-        (len_at w b p) h.middle h.entries.last i h.entries.part.above h.entries.hold
+        (len_at w b p) h.middle h.entries.last i h.entries.part.above h.entries.valid
         (omega arith) (omega arith) in
         let u = entry_inside S.size h.entries.begin (len_at w b p) i below in
         let e = h.entries.ends in

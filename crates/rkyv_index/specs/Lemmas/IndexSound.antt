@@ -354,7 +354,7 @@ module _ {P X R : Type 0} (w : Width) (kind : IsArchiveWord w) (ps : ElementSpec
                   aligned = begin_aligned;
                 };
                 last = low.0;
-                hold = subst (λ n. AreValidAt s (λ k. begin + k * s.size) c begin
+                valid = subst (λ n. AreValidAt s (λ k. begin + k * s.size) c begin
                     (range_with_len 0 n) table.0 low.0) (sym len_decoded) low.1;
                 ends = refl;
               };

@@ -122,7 +122,7 @@ fn check_entries<T: Element>(
     requires inside { begin + len * T.spec.size ≤ length bytes.now }
     requires aligned { begin % T.spec.align ≡ 0 }
     requires ordered { lo ≤ begin }
-    ensures hold { IfOk result (λ _. AreValid T.spec (entry_at T.spec.size begin) bytes.now begin
+    ensures valid { IfOk result (λ _. AreValid T.spec (entry_at T.spec.size begin) bytes.now begin
         (indices_of len) lo) }
     ensures fails { IfErr result (FirstFails T.spec (entry_at T.spec.size begin) bytes.now begin
         (indices_of len) lo) }

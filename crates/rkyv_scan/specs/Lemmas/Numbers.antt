@@ -12,19 +12,19 @@ use Rattle.rkyv_scan.specs.Hash.{
   hash_words,
 }
 
-word_fits : (held word : ℕ) → hash_word held word < 2 ^ 64
+word_fits : (state word : ℕ) → hash_word state word < 2 ^ 64
 unfolding hash_word
-word_fits held word = omega arith
+word_fits state word = omega arith
 
-words_fit : (held : ℕ) (words : List ℕ) → held < 2 ^ 64 → hash_words held words < 2 ^ 64
-words_fit held [] h = h
-words_fit held (word ∷ words) h = words_fit (hash_word held word) words (word_fits held word)
+words_fit : (state : ℕ) (words : List ℕ) → state < 2 ^ 64 → hash_words state words < 2 ^ 64
+words_fit state [] h = h
+words_fit state (word ∷ words) h = words_fit (hash_word state word) words (word_fits state word)
 
-calls_fit : (sizes : SizeWords) (held : ℕ) (calls : List HasherCall) → held < 2 ^ 64
-    → fold (fx_feed sizes) held calls < 2 ^ 64
-calls_fit sizes held [] h = h
-calls_fit sizes held (call ∷ calls) h =
-    calls_fit sizes (fx_feed sizes held call) calls (words_fit held (call_words sizes call) h)
+calls_fit : (sizes : SizeWords) (state : ℕ) (calls : List HasherCall) → state < 2 ^ 64
+    → fold (fx_feed sizes) state calls < 2 ^ 64
+calls_fit sizes state [] h = h
+calls_fit sizes state (call ∷ calls) h =
+    calls_fit sizes (fx_feed sizes state call) calls (words_fit state (call_words sizes call) h)
 
 pub fx_fits : (sizes : SizeWords) → NumbersFit (fx_hasher sizes)
 fx_fits sizes calls = calls_fit sizes 0 calls (omega arith)

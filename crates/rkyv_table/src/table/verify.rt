@@ -57,7 +57,7 @@ fn check_items<G: GroupKind, T: Element>(
     requires inside { begin + cap * T.spec.size ≤ length bytes.now }
     requires aligned { begin % T.spec.align ≡ 0 }
     requires ordered { lo ≤ begin }
-    ensures hold { IfOk result (λ _.
+    ensures valid { IfOk result (λ _.
         AreValid T.spec (bucket_at T.spec.size begin cap) bytes.now begin (walk controls.now cap)
         lo) }
     ensures count { IfOk result (λ n. n ≡ length (walk controls.now cap)) }

@@ -21,7 +21,7 @@ fn vec_writer_stores_the_written_bytes(rt: HostRuntime) {
     let wide = align_for_in::<Wide, u64, VecWriter>(&mut writer).ok();
     let ends = (writer.pos(), writer.failures());
     let expected = [1, 2, 3, 4, 5, 0, 0, 0];
-    let held = writer.bytes() == expected.as_slice();
+    let equal = writer.bytes() == expected.as_slice();
     let bytes = writer.into_vec();
     expect_eq!(rt;
         (
@@ -31,7 +31,7 @@ fn vec_writer_stores_the_written_bytes(rt: HostRuntime) {
             last,
             wide,
             ends,
-            held,
+            equal,
             bytes.as_slice()
         ),
         (
@@ -66,7 +66,7 @@ fn pieces_are_appended_up_to_the_limit(rt: HostRuntime) {
     let greatest = writer.pos();
     let full = is_too_large(append(&mut writer, &[6]));
     let nothing = append(&mut writer, &[]).is_ok();
-    let held = writer.bytes() == [1, 2, 3, 4, 5].as_slice();
+    let equal = writer.bytes() == [1, 2, 3, 4, 5].as_slice();
     let wide = append_in::<Wide, LateWriter>(&mut writer, &[6]).is_ok();
     let above = writer.pos();
     let past = is_too_large(append(&mut writer, &[]));
@@ -74,7 +74,7 @@ fn pieces_are_appended_up_to_the_limit(rt: HostRuntime) {
         (
             first,
             written,
-            [full, nothing, held, wide, past],
+            [full, nothing, equal, wide, past],
             (greatest, above, writer.failures())
         ),
         (
@@ -93,10 +93,10 @@ fn zeros_are_appended_up_to_the_limit(rt: HostRuntime) {
     let two = align_for::<u16, LateWriter>(&mut writer).ok();
     let none = writer.bytes().len();
     let four = align_for::<u32, LateWriter>(&mut writer).ok();
-    let held = writer.bytes() == [0, 0].as_slice();
+    let equal = writer.bytes() == [0, 0].as_slice();
     let wide = align_for_in::<Wide, u64, LateWriter>(&mut writer).ok();
     expect_eq!(rt;
-        (failed, [two, four, wide], none, held),
+        (failed, [two, four, wide], none, equal),
         (
             true,
             [
@@ -114,11 +114,11 @@ fn zeros_are_appended_up_to_the_limit(rt: HostRuntime) {
 fn rejects_a_root_past_the_limit(rt: HostRuntime) {
     let mut writer = LateWriter::new(rt.alloc());
     let failed = is_too_large(write_root(rt.alloc(), &(1u32, 2u32), &mut writer));
-    let held = writer.bytes() == [0, 0].as_slice();
+    let equal = writer.bytes() == [0, 0].as_slice();
     let narrow = write_root(rt.alloc(), &(1u8, 2u8), &mut writer).ok();
     let wide = write_root_in::<Wide, LateWriter, u8>(rt.alloc(), &3, &mut writer).ok();
     expect_eq!(rt;
-        (failed, held, [narrow, wide], writer.bytes()),
+        (failed, equal, [narrow, wide], writer.bytes()),
         (
             true,
             true,

@@ -12,12 +12,12 @@ use Rattle.example_message.proofs.message.field_number.Goals as goal
 
 pub returns-in-Some-clause-listed : goal.returns-in-Some-clause-listed
 returns-in-Some-clause-listed c = λ factor list represents.
-    let listed = c.lookups_find_listed.ensures c.args.fields _ (is_named c.args.field.now) factor list (λ held q s there. ap (same_bytes c.args.field.now) there) represents in
+    let listed = c.lookups_find_listed.ensures c.args.fields _ (is_named c.args.field.now) factor list (λ stored q s there. ap (same_bytes c.args.field.now) there) represents in
     number_listed (number_at w32) c.in-Some.number _ _ c.to_native.ensures (listed.returns_value (Some c.in-Some.number) c.in-Some.ensures.walked c.in-Some.ensures.first)
 
 pub returns-in-None-clause-listed : goal.returns-in-None-clause-listed
 returns-in-None-clause-listed c = λ factor list represents.
-    let listed = c.lookups_find_listed.ensures c.args.fields _ (is_named c.args.field.now) factor list (λ held q s there. ap (same_bytes c.args.field.now) there) represents in
+    let listed = c.lookups_find_listed.ensures c.args.fields _ (is_named c.args.field.now) factor list (λ stored q s there. ap (same_bytes c.args.field.now) there) represents in
     none_listed (ScalarRepresents (unsigned w32)) _ (listed.returns_value None c.in-None.ensures.walked c.in-None.ensures.first)
 
 pub returns-in-Some-clause-found : goal.returns-in-Some-clause-found

@@ -35,14 +35,14 @@ pub returns-in-Some-clause-listed : goal.returns-in-Some-clause-listed
 unfolding Represents
 returns-in-Some-clause-listed c = λ parts represents.
     let at = read_at c.of-map.result _ _ _ c.of-map.ensures.view c.in_ok-access.ensures.root.1 in
-    let listed = c.lookups_find_listed.ensures c.of-map.result _ (is_named c.args.part.now) (7, 8) parts (λ held q s there. ap (same_bytes c.args.part.now) there) (moved (λ b p. PartsRepresent (7, 8) b p parts) _ _ _ _ (sym at.0) (sym at.1) represents) in
+    let listed = c.lookups_find_listed.ensures c.of-map.result _ (is_named c.args.part.now) (7, 8) parts (λ stored q s there. ap (same_bytes c.args.part.now) there) (moved (λ b p. PartsRepresent (7, 8) b p parts) _ _ _ _ (sym at.0) (sym at.1) represents) in
     part_found _ _ c.in-Some.fields _ (ap (λ a. a.now) c.in-Some.ensures.walked.at.0 ∙ at.0) (sym c.pos.ensures) (listed.returns_value (Some c.in-Some.fields) c.in-Some.ensures.walked c.in-Some.ensures.first)
 
 pub returns-in-None-clause-listed : goal.returns-in-None-clause-listed
 unfolding Represents
 returns-in-None-clause-listed c = λ parts represents.
     let at = read_at c.of-map.result _ _ _ c.of-map.ensures.view c.in_ok-access.ensures.root.1 in
-    let listed = c.lookups_find_listed.ensures c.of-map.result _ (is_named c.args.part.now) (7, 8) parts (λ held q s there. ap (same_bytes c.args.part.now) there) (moved (λ b p. PartsRepresent (7, 8) b p parts) _ _ _ _ (sym at.0) (sym at.1) represents) in
+    let listed = c.lookups_find_listed.ensures c.of-map.result _ (is_named c.args.part.now) (7, 8) parts (λ stored q s there. ap (same_bytes c.args.part.now) there) (moved (λ b p. PartsRepresent (7, 8) b p parts) _ _ _ _ (sym at.0) (sym at.1) represents) in
     no_part_found _ _ (listed.returns_value None c.in-None.ensures.walked c.in-None.ensures.first)
 
 pub returns-in_err-access-clause-accepts : goal.returns-in_err-access-clause-accepts

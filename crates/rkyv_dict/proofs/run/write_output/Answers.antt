@@ -10,7 +10,7 @@ use Rattle.rkyv_dict.proofs.run.write_output.Goals as goal
 
 pub loop-rest-init : goal.loop-rest-init
 loop-rest-init g c = record {
-  progress = progress_none _ _ _ _ c.new-dict.ensures c.new-held.ensures.bytes;
+  progress = progress_none _ _ _ _ c.new-dict.ensures c.new-buffered.ensures.bytes;
   sound = start_sound _ c.new-dict.ensures;
 }
 

@@ -9,7 +9,7 @@ use Rattle.rkyv_dict.proofs.run.write_output.Given as goal
 -- the first lines are executed, and the others remain
 abbrev pub invariant-loop-rest : goal.invariant-loop-rest
 invariant-loop-rest g l = record {
-  progress : Progress (g.W.Write.contents l.initial.writer) (g.W.Write.contents l.writer) l.script (string_bytes l.held) (parts_after 10 (option_copied l.rest)) (state_of l.dict);
+  progress : Progress (g.W.Write.contents l.initial.writer) (g.W.Write.contents l.writer) l.script (string_bytes l.buffered) (parts_after 10 (option_copied l.rest)) (state_of l.dict);
   sound : IsSound (state_of l.dict);
 }
 

@@ -133,7 +133,7 @@ pub(crate) fn find_index<W: Width, F: Fn(usize) -> bool>(
         table.entry
         hash strides.old strides.new }
 {
-    let held = table.get_counted(
+    let found = table.get_counted(
         hash,
         |item|
             requires { CanCompareIndex W.word (F.pre accepts) item }
@@ -141,7 +141,7 @@ pub(crate) fn find_index<W: Width, F: Fn(usize) -> bool>(
         { accepts(read_index::<W>(item)) },
         strides,
     );
-    match held {
+    match found {
         Some(item) => Some(read_index::<W>(item)),
         None => None,
     }

@@ -32,6 +32,6 @@ loop-i-preserved g c =
     record {
       at = ap (λ q. q + c.size.result) inv.at ∙ ap (λ n. at c.loop-i.i + n) c.size.ensures ∙ entry_next s.size c.args.begin c.loop-i.i;
       ordered = k.1;
-      held = λ m h. inv.held m (subst (λ (is : List ℕ). AreValidAt s at b c.args.begin is c.loop-i.low m) step (c.in_ok-rest.rest.lo, here, h));
+      valid = λ m h. inv.valid m (subst (λ (is : List ℕ). AreValidAt s at b c.args.begin is c.loop-i.low m) step (c.in_ok-rest.rest.lo, here, h));
       failed = λ x f. inv.failed x (subst (λ (is : List ℕ). FirstFails s at b c.args.begin is c.loop-i.low x) step (inr (c.in_ok-rest.rest.lo, here, f)));
     }

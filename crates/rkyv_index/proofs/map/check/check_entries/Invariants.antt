@@ -13,6 +13,6 @@ invariant-loop-i g l =
     record {
       at : l.at ≡ entry_at s.size l.begin l.i;
       ordered : l.low ≤ l.begin;
-      held : (m : ℕ) → AreValidAt s (entry_at s.size l.begin) l.bytes l.begin is l.low m → AreValidAt s (entry_at s.size l.begin) l.bytes l.begin (indices_of l.len) l.lo m;
+      valid : (m : ℕ) → AreValidAt s (entry_at s.size l.begin) l.bytes l.begin is l.low m → AreValidAt s (entry_at s.size l.begin) l.bytes l.begin (indices_of l.len) l.lo m;
       failed : (e : VerifyError) → FirstFails s (entry_at s.size l.begin) l.bytes l.begin is l.low e → FirstFails s (entry_at s.size l.begin) l.bytes l.begin (indices_of l.len) l.lo e;
     }

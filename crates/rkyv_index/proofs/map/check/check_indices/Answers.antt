@@ -13,7 +13,7 @@ use Rattle.rkyv_table.specs.Table.RawItems.{AllValid, ItemsLeft}
 use Rattle.rkyv_table.proofs.Moved.{moved}
 use Rattle.rkyv_index.specs.Index.IndexLayout.{AreBelow, FirstNotBelow, IndicesBelow}
 use Rattle.rkyv_index.specs.Lemmas.IndexSpecs.{number_table_viewable}
-use Rattle.rkyv_index.proofs.Checking.{buckets_below, decoded_before, decoded_begin, decoded_inside, is_valid_there, view_there}
+use Rattle.rkyv_index.proofs.Checking.{buckets_below, decoded_before, decoded_begin, decoded_inside, moved_from_view, view_there}
 use Rattle.rkyv_index.proofs.map.check.check_indices.Goals as goal
 
 pub new-requires : goal.new-requires
@@ -30,7 +30,7 @@ buckets_begin-requires g c =
     let w = g.W.Word.word in
     let b = c.args.bytes.now in
     let header = c.header-header.result in
-    let is = is_valid_there c.of-table.result.view c.new.result c.args.bytes c.args.pos c.of-table.ensures.view c.new.ensures (λ d r. IsDecoded w d r header) c.header-header.ensures in
+    let is = moved_from_view c.of-table.result.view c.new.result c.args.bytes c.args.pos c.of-table.ensures.view c.new.ensures (λ d r. IsDecoded w d r header) c.header-header.ensures in
     decoded_before w g.W.Word.kind b c.args.pos c.requires header is
 
 pub all_below-requires : goal.all_below-requires
@@ -38,20 +38,20 @@ all_below-requires g c =
     let w = g.W.Word.word in
     let b = c.args.bytes.now in
     let header = c.header-header.result in
-    let is = is_valid_there c.of-table.result.view c.new.result c.args.bytes c.args.pos c.of-table.ensures.view c.new.ensures (λ d r. IsDecoded w d r header) c.header-header.ensures in
+    let is = moved_from_view c.of-table.result.view c.new.result c.args.bytes c.args.pos c.of-table.ensures.view c.new.ensures (λ d r. IsDecoded w d r header) c.header-header.ensures in
     subst (λ n. c.buckets_begin.result + n * byte_len w ≤ length b) (sym c.capacity.ensures)
     (decoded_inside w g.W.Word.kind b c.args.pos c.requires header is c.buckets_begin.result c.buckets_begin.ensures.none c.buckets_begin.ensures.some)
 
 pub returns-then-all_below-clause-len : goal.returns-then-all_below-clause-len
-returns-then-all_below-clause-len g c = is_valid_there c.of-table.result.view c.new.result c.args.bytes c.args.pos c.of-table.ensures.view c.new.ensures (λ d r. c.len-len.result ≡ len_at g.W.Word.word d r) c.len-len.ensures
+returns-then-all_below-clause-len g c = moved_from_view c.of-table.result.view c.new.result c.args.bytes c.args.pos c.of-table.ensures.view c.new.ensures (λ d r. c.len-len.result ≡ len_at g.W.Word.word d r) c.len-len.ensures
 
 pub returns-then-all_below-clause-below : goal.returns-then-all_below-clause-below
 returns-then-all_below-clause-below g c =
     let w = g.W.Word.word in
     let b = c.args.bytes.now in
     let header = c.header-header.result in
-    let is = is_valid_there c.of-table.result.view c.new.result c.args.bytes c.args.pos c.of-table.ensures.view c.new.ensures (λ d r. IsDecoded w d r header) c.header-header.ensures in
-    let len = is_valid_there c.of-table.result.view c.new.result c.args.bytes c.args.pos c.of-table.ensures.view c.new.ensures (λ d r. c.len-len.result ≡ len_at w d r) c.len-len.ensures in
+    let is = moved_from_view c.of-table.result.view c.new.result c.args.bytes c.args.pos c.of-table.ensures.view c.new.ensures (λ d r. IsDecoded w d r header) c.header-header.ensures in
+    let len = moved_from_view c.of-table.result.view c.new.result c.args.bytes c.args.pos c.of-table.ensures.view c.new.ensures (λ d r. c.len-len.result ≡ len_at w d r) c.len-len.ensures in
     let begin = c.buckets_begin.result in
     let all : AreBelow w b begin (cap_at w b c.args.pos) (len_at w b c.args.pos) =
     moved (λ m n. AreBelow w b begin m n) c.capacity.result (cap_at w b c.args.pos) c.len-len.result (len_at w b c.args.pos) (c.capacity.ensures ∙ is.cap) len (c.all_below.ensures c.if-all_below.true) in

@@ -19,8 +19,8 @@ returns g c =
     record {
       begin = c.in_ok-begin.begin;
       part = rw (decoded, c.entries_size.ensures, c.size-size.ensures, c.align.ensures) at c.in_ok-begin.ensures;
-      last = c.in_ok-check_entries.ensures.hold.0;
-      hold = c.in_ok-check_entries.ensures.hold.1;
+      last = c.in_ok-check_entries.ensures.valid.0;
+      valid = c.in_ok-check_entries.ensures.valid.1;
       ends = ap (λ k. c.in_ok-begin.begin + c.args.len * k) c.size-size.ensures;
     }
 

@@ -130,8 +130,8 @@ loop-bucket-preserved g c =
       ];
     }
 
-pub returns-clause-hold : goal.returns-clause-hold
-returns-clause-hold g c =
+pub returns-clause-valid : goal.returns-clause-valid
+returns-clause-valid g c =
     let e = full_end c.args.controls.now c.args.cap c.loop-bucket.bucket c.loop-bucket-test.false in
     (checked_end g.T.HasSpec.spec c.args.begin c.args.cap c.args.bytes.now c.args.controls.now c.args.lo c.loop-bucket.low c.loop-bucket.count
     (checked_same g.T.HasSpec.spec c.args.begin c.args.cap c.args.bytes.now c.args.controls.now c.args.lo _ _ c.loop-bucket.low c.loop-bucket.count e c.loop-bucket.invariant.checked)).0

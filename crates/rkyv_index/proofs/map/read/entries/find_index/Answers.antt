@@ -7,25 +7,25 @@ use Rattle.rkyv_index.proofs.map.read.entries.find_index.Goals as goal
 pub returns-in-Some-clause-found : goal.returns-in-Some-clause-found
 returns-in-Some-clause-found g c =
     let w = g.W.Word.word in
-    let held = c.get_counted-held.result in
+    let found = c.get_counted-found.result in
     record {
-      item = held;
-      found = finds_as _ _ (λ h r x. x.1) c.args.table c.args.hash held c.get_counted-held.ensures.found;
+      item = found;
+      found = finds_as _ _ (λ h r x. x.1) c.args.table c.args.hash found c.get_counted-found.ensures.found;
       is = ap Some c.read_index.ensures ∙ ap (option_map (stored_index w)) (sym c.in-Some.is);
     }
 
 pub returns-clause-found : goal.returns-clause-found
 returns-clause-found g c =
     let w = g.W.Word.word in
-    let held = c.get_counted-held.result in
+    let found = c.get_counted-found.result in
     record {
-      item = held;
-      found = finds_as _ _ (λ h r x. x.1) c.args.table c.args.hash held c.get_counted-held.ensures.found;
+      item = found;
+      found = finds_as _ _ (λ h r x. x.1) c.args.table c.args.hash found c.get_counted-found.ensures.found;
       is = ap (option_map (stored_index w)) (sym c.in-None.is);
     }
 
 pub returns-in-Some-clause-counts : goal.returns-in-Some-clause-counts
-returns-in-Some-clause-counts g c = counts_as _ _ (λ h r x. x.1) c.args.table c.args.hash _ _ c.get_counted-held.ensures.counts
+returns-in-Some-clause-counts g c = counts_as _ _ (λ h r x. x.1) c.args.table c.args.hash _ _ c.get_counted-found.ensures.counts
 
 pub returns-clause-counts : goal.returns-clause-counts
-returns-clause-counts g c = counts_as _ _ (λ h r x. x.1) c.args.table c.args.hash _ _ c.get_counted-held.ensures.counts
+returns-clause-counts g c = counts_as _ _ (λ h r x. x.1) c.args.table c.args.hash _ _ c.get_counted-found.ensures.counts

@@ -6,7 +6,7 @@ use Rattle.rkyv_keys.specs.Lemmas.OfEntries.{valid_key}
 use Rattle.rkyv_table.specs.Table.Misplaced.{is_found_at}
 use Rattle.rkyv_index.specs.Index.Equality.{same_keys}
 use Rattle.rkyv_base.specs.View.{IsAt}
-use Rattle.rkyv_index.specs.Index.{hash_at, index_archive, index_found, index_indices, index_of, index_strides, key_at}
+use Rattle.rkyv_index.specs.Index.{hash_at, index_archive, index_found, index_of, index_strides, key_at, pair_indices}
 use Rattle.rkyv_index.proofs.Checking.{view_at}
 use Rattle.rkyv_index.proofs.ValidIndexMap.{entry_viewable}
 use Rattle.rkyv_index.proofs.FirstAccepted.{another_repeated}
@@ -28,7 +28,7 @@ returns-clause-repeated g c = λ homes written.
     let vl = g.V.HasSpec.laws in
     let m = index_of c.args.self.map in
     let i : ℕ = c.args.index in
-    let first : _ → ℕ → Option ℕ = λ b q. find (λ j. g.K.ElementEq.same b q m.bytes (key_at m j)) (index_indices m) in
+    let first : _ → ℕ → Option ℕ = λ b q. find (λ j. g.K.ElementEq.same b q m.bytes (key_at m j)) (pair_indices m) in
     let at : IsAt c.key-key.result (index_archive c.args.self.map) (key_at m c.args.index) = (c.key-key.ensures.at.0 ∙ c.entry.ensures.at.0, c.key-key.ensures.at.1 ∙ c.entry.ensures.at.1) in
     let there = entry_viewable m.word g.met.W.Width.layout.kind (entry_spec k v) (entry_element k v kl vl) m.bytes m.pos c.args.self.map.valid i c.requires.below in
     let itself : same_keys m (hash_at g.H.KeyHasher.hasher g.K.KeyElement.key_calls) g.K.ElementEq.same i i ≡ true = g.met.K.ElementEquiv.equivalence.reflexive m.bytes (key_at m i) (valid_key kl vl m.bytes (key_at m i) there.valid) in
