@@ -41,7 +41,7 @@ pub trait Word {
 /// The width of the positions and counts of an archive, and the sizes that depend on it.
 pub trait Width: Word {
     /// The element of an index in an index map: a number of one word.
-    type Index: Scalar;
+    type Place: Scalar;
 
     /// The greatest position, and the greatest length of an archive, in bytes.
     const LIMIT: u64;
@@ -126,7 +126,7 @@ pub trait Width: Word {
     ghost layout: { IsLayout Self.word LIMIT MAX_CAPACITY TABLE_SIZE INDEX_SIZE ALIGN TEXT_SIZE
         TEXT_LIMIT };
 
-    ghost index: { IsIndexEncoding Self.word Self.Index.encoding };
+    ghost index: { IsIndexEncoding Self.word Self.Place.encoding };
 }
 
 /// The width of archives of up to 4,294,967,295 bytes. Positions and counts have 32 bits.
@@ -152,7 +152,7 @@ impl Word for Wide {
 }
 
 impl Width for Narrow {
-    type Index = u32;
+    type Place = u32;
 
     ghost LIMIT = { narrow_limit };
 
@@ -211,7 +211,7 @@ impl Width for Narrow {
 }
 
 impl Width for Wide {
-    type Index = u64;
+    type Place = u64;
 
     ghost LIMIT = { 9223372036854775807 };
 

@@ -69,7 +69,7 @@ where
     type Resolver = IndexMapResolver<W>;
 
     ghost format = { written_as (λ x. x.0.items) (listed W.MAX_CAPACITY (7, 8)
-        (index_format W.word W.Index.spec W.Index.encoding A.Archived.spec B.Archived.spec
+        (index_format W.word W.Place.spec W.Place.encoding A.Archived.spec B.Archived.spec
         A.format B.format
         (hash_of (fx_hasher low_halves) A.calls) (7, 8))) };
 
@@ -80,15 +80,15 @@ where
     ghost laws = { let represents = IndexRepresents W.word A.Archived.spec B.Archived.spec
         A.Archived.represents B.Archived.represents
         (hash_at (fx_hasher low_halves) A.Archived.key_calls) (7, 8) in
-        let format = index_format W.word W.Index.spec W.Index.encoding A.Archived.spec
+        let format = index_format W.word W.Place.spec W.Place.encoding A.Archived.spec
         B.Archived.spec A.format
         B.format
         (hash_of (fx_hasher low_halves) A.calls) (7, 8) in
         let spec = index_spec W.word (entry_spec A.Archived.spec B.Archived.spec) in
         written_as-format (λ x. x.0.items) spec represents (listed W.MAX_CAPACITY (7, 8) format)
         (listed_format W.MAX_CAPACITY (7, 8) spec represents format
-        (index_sound (fx_hasher low_halves) W.word W.layout.kind W.Index.spec W.Index.encoding
-        W.Index.HasSpec.laws W.Index.Scalar.laws W.index W.reads_back
+        (index_sound (fx_hasher low_halves) W.word W.layout.kind W.Place.spec W.Place.encoding
+        W.Place.HasSpec.laws W.Place.Scalar.laws W.index W.reads_back
         A.Archived.laws B.Archived.laws (7, 8) A.query A.native A.Eq.laws.refl A.reads
         A.Archive.laws B.laws)) };
 }
@@ -149,7 +149,7 @@ where
     type Resolver = IndexSetResolver<W>;
 
     ghost format = { written_as (λ x. x.0.items) (listed W.MAX_CAPACITY (7, 8)
-        (index_set_format W.word W.Index.spec W.Index.encoding A.Archived.spec A.format
+        (index_set_format W.word W.Place.spec W.Place.encoding A.Archived.spec A.format
         (hash_of (fx_hasher low_halves) A.calls) (7, 8))) };
 
     fn resolve(&self, resolver: IndexSetResolver<W>, pos: u64, out: &mut [u8]) -> ResolveResult {
@@ -158,14 +158,14 @@ where
 
     ghost laws = { let represents = IndexSetRepresents W.word A.Archived.spec A.Archived.represents
         (hash_at (fx_hasher low_halves) A.Archived.key_calls) (7, 8) in
-        let format = index_set_format W.word W.Index.spec W.Index.encoding A.Archived.spec
+        let format = index_set_format W.word W.Place.spec W.Place.encoding A.Archived.spec
         A.format
         (hash_of (fx_hasher low_halves) A.calls) (7, 8) in
         let spec = index_set_spec W.word A.Archived.spec in
         written_as-format (λ x. x.0.items) spec represents (listed W.MAX_CAPACITY (7, 8) format)
         (listed_format W.MAX_CAPACITY (7, 8) spec represents format
         (index_set_sound (fx_hasher low_halves) W.word W.layout.kind A.Archived.laws
-        (7, 8) W.Index.spec W.Index.encoding W.Index.HasSpec.laws W.Index.Scalar.laws W.index
+        (7, 8) W.Place.spec W.Place.encoding W.Place.HasSpec.laws W.Place.Scalar.laws W.index
         W.reads_back
         A.query A.native A.Eq.laws.refl A.reads A.Archive.laws)) };
 }

@@ -18,11 +18,11 @@ pub trait IndexMapWidth: Width {
     /// # Requires
     ///
     /// - `number` fits in a word of the width.
-    fn to_index(number: u64) -> Self::Index
+    fn to_index(number: u64) -> Self::Place
         requires { number < 2 ^ bits Self.word }
-        ensures { result ≡ Self.Index.encoding.value number };
+        ensures { result ≡ Self.Place.encoding.value number };
 
-    ghost reads_back: { CodesReadBack Self.Index.encoding };
+    ghost reads_back: { CodesReadBack Self.Place.encoding };
 }
 
 impl IndexMapWidth for Narrow {

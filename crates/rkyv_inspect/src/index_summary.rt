@@ -151,5 +151,5 @@ pub(crate) fn header_of<K: Element, V: Element, H, W: Width>(
     requires { IsValidView (index_spec W.word (entry_spec K.spec V.spec)) root }
     ensures { IsDecoded W.word (bytes_of root.entry) (pos_of root.entry) result }
 {
-    ArchivedHashTable::of(root.at::<TableOf<W::Index, W>>(root.pos())).header()
+    ArchivedHashTable::of(root.at::<TableOf<W::Place, W>>(root.pos())).header()
 }

@@ -88,7 +88,7 @@ pub(crate) fn check_indices<W: Width>(bytes: &[u8], pos: u64) -> Result<usize, V
     ensures fails { IfErr result (FirstNotBelow W.word bytes.now (len_at W.word bytes.now pos)
         (item_positions W.word (byte_len W.word) bytes.now pos)) }
 {
-    let table = ArchivedHashTable::<W::Index, W>::of(View::new(bytes, pos));
+    let table = ArchivedHashTable::<W::Place, W>::of(View::new(bytes, pos));
     let len = table.len();
     let header = table.header();
     if all_below::<W>(bytes, buckets_begin::<W>(header), header.capacity(), len) {

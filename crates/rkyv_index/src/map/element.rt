@@ -31,7 +31,7 @@ impl<K: Element, V: Element, H, W: Width> Element for IndexMapOf<K, V, H, W> {
     }
 
     fn check(bytes: &[u8], pos: u64, range: PartRange) -> Result<PartRange, VerifyError> {
-        let rest = ArchivedHashTable::<W::Index, W>::verify(bytes, pos, range)?;
+        let rest = ArchivedHashTable::<W::Place, W>::verify(bytes, pos, range)?;
         let len = check_indices::<W>(bytes, pos)?;
         let end = check_part::<W, Entry<K, V>>(bytes, pos, len, rest)?;
         Ok(PartRange {

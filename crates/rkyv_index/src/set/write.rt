@@ -35,7 +35,7 @@ impl<K: Element, H: KeyHasher, W: IndexMapWidth, A: KeyHash + Archive<W>, BK: Le
     A,
 > for IndexSetOf<K, H, W> {
     ghost format = { λ load_factor. written_as (key_values BK.lent)
-        (index_set_format W.word W.Index.spec W.Index.encoding K.spec A.format (hash_of
+        (index_set_format W.word W.Place.spec W.Place.encoding K.spec A.format (hash_of
         H.hasher A.calls)
         load_factor) };
 }

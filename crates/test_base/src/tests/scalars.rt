@@ -94,7 +94,7 @@ fn widths_have_their_constants(rt: HostRuntime) {
         Narrow::TABLE_SIZE,
         Narrow::INDEX_SIZE,
         Narrow::TEXT_SIZE,
-        <<Narrow as Width>::Index as Element>::size(),
+        <<Narrow as Width>::Place as Element>::size(),
     ];
     let wide_limits = [Wide::LIMIT, Wide::MAX_CAPACITY, Wide::TEXT_LIMIT];
     let wide_sizes = [
@@ -102,7 +102,7 @@ fn widths_have_their_constants(rt: HostRuntime) {
         Wide::TABLE_SIZE,
         Wide::INDEX_SIZE,
         Wide::TEXT_SIZE,
-        <<Wide as Width>::Index as Element>::size(),
+        <<Wide as Width>::Place as Element>::size(),
     ];
     expect_eq!(rt;
         (limits, sizes, wide_limits, wide_sizes),

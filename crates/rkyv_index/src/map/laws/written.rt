@@ -23,7 +23,7 @@ pub fn written_index_maps_represent<
     A: NativeKey<K> + Archive<W, Archived = K>,
     B: Archive<W, Archived = V>,
 >()
-    ensures { WrittenIndexMaps W.word (indices W.Index.spec W.Index.encoding)
+    ensures { WrittenIndexMaps W.word (indices W.Place.spec W.Place.encoding)
         (element K.spec K.represents A.format) (element V.spec V.represents B.format)
         (hash_at H.hasher K.key_calls) (hash_of H.hasher A.calls) }
 {}

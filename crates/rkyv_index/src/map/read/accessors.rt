@@ -32,7 +32,7 @@ fn decode<K: Element, V: Element, H, W: Width>(view: View<'_, IndexMapOf<K, V, H
     requires { IsValidView (index_spec W.word (entry_spec K.spec V.spec)) view }
     ensures { IsDecoded W.word (bytes_of view.entry) (pos_of view.entry) result }
 {
-    ArchivedHashTable::of(view.at::<TableOf<W::Index, W>>(view.pos())).header()
+    ArchivedHashTable::of(view.at::<TableOf<W::Place, W>>(view.pos())).header()
 }
 
 // Returns the position of the first entry of a map.

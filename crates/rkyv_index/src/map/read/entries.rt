@@ -47,10 +47,10 @@ fn entry_pos(begin: u64, i: usize, size: usize) -> u64
 impl<'a, K: Element, V: Element, H, W: Width> ArchivedIndexMap<'a, K, V, H, W> {
     /// Returns the table of the indices.
     #[inline]
-    pub(crate) fn table(self) -> ArchivedHashTable<'a, W::Index, W>
+    pub(crate) fn table(self) -> ArchivedHashTable<'a, W::Place, W>
         ensures at { IsAt result.view (index_archive self.entry) (index_pos self.entry) }
     {
-        let view = self.view.at::<TableOf<W::Index, W>>(self.view.pos());
+        let view = self.view.at::<TableOf<W::Place, W>>(self.view.pos());
         ArchivedHashTable::with_header(view, self.header)
     }
 
@@ -109,7 +109,7 @@ pub(crate) fn key_in<'a, K: Element, V: Element, H, W: Width>(
 
 /// Returns the index at an item of a table of indices.
 #[inline]
-fn read_index<W: Width>(item: View<'_, W::Index>) -> usize
+fn read_index<W: Width>(item: View<'_, W::Place>) -> usize
     requires { pos_of item + byte_len W.word ≤ length (bytes_of item) }
     ensures { result ≡ stored_index W.word item.entry }
 {
@@ -121,7 +121,7 @@ fn read_index<W: Width>(item: View<'_, W::Index>) -> usize
 /// The count is increased by the strides of sixteen control bytes that are read.
 #[inline]
 pub(crate) fn find_index<W: Width, F: Fn(usize) -> bool>(
-    table: ArchivedHashTable<'_, W::Index, W>,
+    table: ArchivedHashTable<'_, W::Place, W>,
     hash: u64,
     accepts: F,
     strides: &mut Strides,

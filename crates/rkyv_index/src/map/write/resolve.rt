@@ -98,7 +98,7 @@ impl<'a, K: HasSpec, V: HasSpec, H, W: Width> ArchivedIndexMap<'a, K, V, H, W> {
             None => return Err(DistanceTooLarge),
         };
         let (table, entries) = out.split_at_mut(W::TABLE_SIZE);
-        ArchivedHashTable::<W::Index, W>::resolve_from_len(
+        ArchivedHashTable::<W::Place, W>::resolve_from_len(
             len,
             load_factor,
             resolver.table,

@@ -47,7 +47,7 @@ impl<
     BV: Lend<B>,
 > ListFormat<(BK, BV), (A, B)> for IndexMapOf<K, V, H, W> {
     ghost format = { λ load_factor. written_as (pair_values BK.lent BV.lent)
-        (index_format W.word W.Index.spec W.Index.encoding K.spec V.spec A.format B.format
+        (index_format W.word W.Place.spec W.Place.encoding K.spec V.spec A.format B.format
         (hash_of H.hasher A.calls) load_factor) };
 }
 

@@ -10,7 +10,7 @@ find_index-requires g c κs =
     record {
       room = c.requires.room;
       callable = λ item is_item.
-          let there = item_index m g.W.Index.Scalar.encoding g.met.W.Index.Scalar.laws g.met.W.Width.index c.table-table.result c.table-table.ensures.at item is_item in (
+          let there = item_index m g.W.Place.Scalar.encoding g.met.W.Place.Scalar.laws g.met.W.Width.index c.table-table.result c.table-table.ensures.at item is_item in (
             there.0,
             λ i e. (
               (refl, tt),
@@ -35,17 +35,17 @@ returns-clause-found g c =
     let v = g.V.HasSpec.spec in
     let m = c.args.self in
     let f = c.find_index.ensures.found in
-    gets_index m g.W.Index.Scalar.encoding g.met.W.Index.Scalar.laws g.met.W.Width.index c.table-table.result c.table-table.ensures.at
+    gets_index m g.W.Place.Scalar.encoding g.met.W.Place.Scalar.laws g.met.W.Width.index c.table-table.result c.table-table.ensures.at
     (hash_at g.H.KeyHasher.hasher g.K.KeyElement.key_calls) _ (goal.F-post g c.args.cmp c.args.key)
     (λ h r x.
     let there = subst (λ n. IsKeyIn w k v m.view n x.2.0) x.1 x.2.1 in
     (x.2.0, record { below = there.below; at = there.at; viewable = there.viewable }, x.2.2))
     c.hash_value-hash.result _ c.hash_value-hash.ensures f.item f.found c.find_index.result
-    (f.is ∙ stored_index_found m g.W.Index.Scalar.encoding g.met.W.Index.Scalar.laws g.met.W.Width.index c.table-table.result c.table-table.ensures.at f.item f.found.walked)
+    (f.is ∙ stored_index_found m g.W.Place.Scalar.encoding g.met.W.Place.Scalar.laws g.met.W.Width.index c.table-table.result c.table-table.ensures.at f.item f.found.walked)
 
 pub returns-clause-bounded : goal.returns-clause-bounded
 returns-clause-bounded g c =
-    reads_few c.args.self g.W.Index.Scalar.encoding g.met.W.Index.Scalar.laws g.met.W.Width.index
+    reads_few c.args.self g.W.Place.Scalar.encoding g.met.W.Place.Scalar.laws g.met.W.Width.index
     c.table-table.result c.table-table.ensures.at _ _ c.find_index.ensures.counts.bounded
 
 pub returns-clause-counted : goal.returns-clause-counted
@@ -54,7 +54,7 @@ returns-clause-counted g c = λ accept compares.
     let k = g.K.HasSpec.spec in
     let v = g.V.HasSpec.spec in
     let m = c.args.self in
-    counts_index m g.W.Index.Scalar.encoding g.met.W.Index.Scalar.laws g.met.W.Width.index c.table-table.result c.table-table.ensures.at
+    counts_index m g.W.Place.Scalar.encoding g.met.W.Place.Scalar.laws g.met.W.Width.index c.table-table.result c.table-table.ensures.at
     _ (goal.F-post g c.args.cmp c.args.key)
     (λ h r x.
     let there = subst (λ n. IsKeyIn w k v m.view n x.2.0) x.1 x.2.1 in
