@@ -1,16 +1,16 @@
 -- The first element of a list that passes a test, in steps over parts of the list.
-use Rattle.std.proofs.Common.{◌≡◌, ℕ, ◌+◌, ◌%◌, ◌<◌, ◌≤◌, ◌^◌, ◌-◌, Bool, true, false, not, cond, ltb, List, [], ◌∷◌, length, get_or, map, take, drop, replicate, Option, Some, None, refl, sym, ap, subst, ◌∙◌, arith, ⊎_elim, w8}
+use Rattle.std.proofs.Common.{◌≡◌, ℕ, ◌+◌, ◌%◌, ◌<◌, ◌≤◌, ◌^◌, ◌-◌, Bool, true, false, not, cond, ltb, List, length, get_or, map, take, drop, replicate, Option, Some, None, refl, sym, ap, subst, ◌∙◌, arith, ⊎_elim, w8}
 use Rattle.std.specs.List.{position, prefix_len}
 use Rattle.std.specs.Option.{is_some}
 use Rattle.std.specs.Simd.Lanes.{mask_l}
-use Rattle.std.proofs.lemmas.Bool.{cases_lt, le-ltb, lt-ltb}
+use Rattle.std.proofs.lemmas.Bool.{cases_lt, le-ltb, lt-ltb, not-true}
 use Rattle.std.proofs.lemmas.Option.{none-some}
 use Rattle.std.proofs.lemmas.Grind.{common_steps}
-use Rattle.std.proofs.lemmas.List.{get_or-drop, get_or-take, length-map, take_all}
+use Rattle.std.proofs.lemmas.List.{get_or-drop, get_or-take, length-map}
 use Rattle.std.proofs.lemmas.List.Sums.{prefix_len_is, prefix_len_passes}
 use Rattle.std.proofs.lemmas.List.Quantifiers.{position-Some}
 use Rattle.std.proofs.lemmas.Nat.Bits.{bit_at-trailing_zeros}
-use Rattle.std.proofs.lemmas.Simd.{leading_from_mask_l, mask_l-lt, mask_l-mod, tops_compared, trailing_mask_l}
+use Rattle.std.proofs.lemmas.Simd.{leading_from_mask_l, mask_l-lt, mask_l-mod, tops_compared, trailing_mask_l, zip2_splat_left}
 use lib.Lanes.{top, zip2}
 use lib.Count.{count_trailing_zeros}
 
@@ -24,15 +24,11 @@ position_is p xs n e l = sym (ap (λ m. cond (ltb m (length xs)) (Some m) None) 
 position_none : (p : ℕ → Bool) (xs : List ℕ) → prefix_len (λ x. not (p x)) xs ≡ length xs → None ≡ position p xs
 position_none p xs e = sym (ap (λ m. cond (ltb m (length xs)) (Some m) None) e ∙ ap (λ b. cond b (Some (length xs)) None) (le-ltb (length xs) (length xs) (omega arith)))
 
-splat_compared : (t : ℕ → ℕ → Bool) (y : ℕ) (xs : List ℕ) → zip2 t (replicate (length xs) y) xs ≡ map (t y) xs
-splat_compared t y [] = refl
-splat_compared t y (x ∷ xs) = ap (λ ms. t y x ∷ ms) (splat_compared t y xs)
-
 -- `to_bitmask` of the comparison `t` of a splat with eight bytes
 pub splat_bitmask : (t : ℕ → ℕ → Bool) (y : ℕ) (xs : List ℕ) → length xs ≡ 8
     → mask_l (map (top 7) (zip2 (λ a b. cond (t a b) (2 ^ 8 - 1) 0) (replicate 8 y) xs)) % 2 ^ 64 ≡ mask_l (map (t y) xs)
 splat_bitmask t y xs long =
-    ap (λ ms. mask_l ms % 2 ^ 64) (tops_compared w8 t (replicate 8 y) xs ∙ ap (λ n. zip2 t (replicate n y) xs) (sym long) ∙ splat_compared t y xs)
+    ap (λ ms. mask_l ms % 2 ^ 64) (tops_compared w8 t (replicate 8 y) xs ∙ zip2_splat_left t y 8 xs long)
     ∙ mask_l-mod (map (t y) xs) 64 (omega (arith, length-map xs (t y)))
 
 -- the first of eight that passes, by the mask of those that pass
@@ -55,14 +51,10 @@ pub record IsStretch (xs ys : List ℕ) (at : ℕ) : Type 0 where
   pub inside : at + length ys ≤ length xs
   pub same : (k : ℕ) → k < length ys → get_or ys k 0 ≡ get_or xs (at + k) 0
 
-fails_from : (b : Bool) → not b ≡ true → b ≡ false
-fails_from true h = cc
-fails_from false h = refl
-
 pub none_below : (p : ℕ → Bool) (ys : List ℕ) → None ≡ position p ys → NoneBelow p ys (length ys)
 none_below p ys e k l =
     ⊎_elim (λ (s : prefix_len (λ x. not (p x)) ys < length ys). absurd (none-some (prefix_len (λ x. not (p x)) ys) (e ∙ sym (position_is p ys (prefix_len (λ x. not (p x)) ys) refl s))))
-    (λ (g : length ys ≤ prefix_len (λ x. not (p x)) ys). fails_from (p (get_or ys k 0)) (prefix_len_passes (λ x. not (p x)) ys k 0 (omega arith)))
+    (λ (g : length ys ≤ prefix_len (λ x. not (p x)) ys). not-true (p (get_or ys k 0)) (prefix_len_passes (λ x. not (p x)) ys k 0 (omega arith)))
     (cases_lt (prefix_len (λ x. not (p x)) ys) (length ys))
 
 both_below : (p : ℕ → Bool) (xs ys : List ℕ) (at n : ℕ) → IsStretch xs ys at → n ≤ length ys → NoneBelow p xs at → NoneBelow p ys n → NoneBelow p xs (at + n)
@@ -96,9 +88,6 @@ eight xs at le = grind (arith, common_steps)
 
 pub whole : (xs : List ℕ) (at : ℕ) → at ≤ length xs → at + length (drop at xs) ≡ length xs
 whole xs at le = grind (arith, common_steps)
-
-pub tail_is : (xs : List ℕ) (at : ℕ) → at ≤ length xs → take (length xs - at) (drop at xs) ≡ drop at xs
-tail_is xs at le = take_all (length xs - at) (drop at xs) (omega (arith, whole xs at le))
 
 pub eight_stretch : (xs : List ℕ) (at : ℕ) → at + 8 ≤ length xs → IsStretch xs (take 8 (drop at xs)) at
 eight_stretch xs at le =

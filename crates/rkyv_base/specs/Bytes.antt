@@ -1,5 +1,5 @@
 -- Numbers and lists of bytes at a position of an archive.
-use Rattle.std.specs.Prelude.{◌≡◌, ℕ, ◌+◌, ◌-◌, ◌≤◌, ℤ, List, length, slice_range}
+use Rattle.std.specs.Prelude.{◌≡◌, ℕ, ◌+◌, ◌≤◌, ℤ, List, length, slice_range}
 use Rattle.std.specs.Int.{Width, byte_len, cast_signed, from_le_bytes}
 
 -- the little-endian number of width `w` at position `p`

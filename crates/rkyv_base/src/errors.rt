@@ -37,7 +37,7 @@ pub enum WriteError<F> {
     /// The actual number is at most one more than the claimed one.
     #[error("{0}")]
     IteratorLengthMismatch(IteratorLengthMismatch),
-    /// A hash table of this length needs more buckets than the width can count.
+    /// A hash table of this length needs more buckets than the width's greatest capacity.
     #[error("capacity too large for length {len}")]
     CapacityTooLarge {
         len: usize,

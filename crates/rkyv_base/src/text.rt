@@ -45,7 +45,7 @@ use std::marker::PhantomData;
 /// A text in an archive of the width `W`.
 ///
 /// A text of up to 8 bytes (16 in a wide archive) is inline, in the fixed bytes.
-/// All fixed bytes after it are ff.
+/// It ends before their first ff. All bytes after it are written as ff, and aren't validated.
 ///
 /// A longer text is out of line, before the fixed bytes. These then have its length,
 /// in a form with which no text begins, and the distance to it.

@@ -28,12 +28,8 @@ use Rattle.std.proofs.Common.{
   inr,
 }
 use Rattle.std.proofs.lemmas.Nat.{xor_lt}
-use Rattle.std.proofs.lemmas.Bool.{true≢false}
+use Rattle.std.proofs.lemmas.Bool.{or_left, true≢false}
 use Rattle.rkyv_scan.specs.Groups.{IsKind, generic_kind, is_equal_at, is_word_match_at}
-
-or_left : (a b : Bool) → a ≡ true → (a || b) ≡ true
-or_left true b h = refl
-or_left false b h = cc
 
 or_and_cases : (a b c : Bool) → (a || (b && c)) ≡ true → (a ≡ true) ⊎ ((b ≡ true) × (c ≡ true))
 or_and_cases true b c h = inl refl
@@ -41,13 +37,13 @@ or_and_cases false true true h = inr (refl, refl)
 or_and_cases false true false h = cc
 or_and_cases false false c h = cc
 
-equal_lem : (s : List ℕ) (t k : ℕ) → slice_index s k ≡ t → is_word_match_at s t k ≡ true
-equal_lem s t zero h = eq-eqb (slice_index s zero) t h
-equal_lem s t (suc k) h = or_left _ _ (eq-eqb (slice_index s (suc k)) t h)
+equal_is_marked : (s : List ℕ) (t k : ℕ) → slice_index s k ≡ t → is_word_match_at s t k ≡ true
+equal_is_marked s t zero h = eq-eqb (slice_index s zero) t h
+equal_is_marked s t (suc k) h = or_left _ _ (eq-eqb (slice_index s (suc k)) t h)
 
-full_lem : (s : List ℕ) (t k : ℕ) → t < 128 → is_word_match_at s t k ≡ true → slice_index s k < 128
-full_lem s t zero l h = omega (arith, eqb-true (slice_index s zero) t h)
-full_lem s t (suc k) l h =
+marked_is_full : (s : List ℕ) (t k : ℕ) → t < 128 → is_word_match_at s t k ≡ true → slice_index s k < 128
+marked_is_full s t zero l h = omega (arith, eqb-true (slice_index s zero) t h)
+marked_is_full s t (suc k) l h =
     let one : bit_xor t 1 < 2 ^ 7 = xor_lt 7 t 1 l (omega arith) in
     ⊎_elim (λ (e : eqb (slice_index s (suc k)) t ≡ true). omega (
       arith,
@@ -57,10 +53,10 @@ full_lem s t (suc k) l h =
     omega (arith, eqb-true (slice_index s (suc k)) (bit_xor t 1) e.0))
     (or_and_cases _ _ _ h)
 
-lowest_lem : (s : List ℕ) (t k : ℕ) → is_word_match_at s t k ≡ true
+lowest_is_equal : (s : List ℕ) (t k : ℕ) → is_word_match_at s t k ≡ true
     → ((j : ℕ) → j < k → is_word_match_at s t j ≡ false) → slice_index s k ≡ t
-lowest_lem s t zero h low = eqb-true (slice_index s zero) t h
-lowest_lem s t (suc k) h low =
+lowest_is_equal s t zero h low = eqb-true (slice_index s zero) t h
+lowest_is_equal s t (suc k) h low =
     ⊎_elim (λ (e : eqb (slice_index s (suc k)) t ≡ true). eqb-true (slice_index s (suc k)) t e)
     (λ (e : (eqb (slice_index s (suc k)) (bit_xor t 1) ≡ true) × (is_word_match_at s t k ≡ true)).
     absurd (true≢false (sym e.1 ∙ low k (omega arith))))
@@ -69,9 +65,9 @@ lowest_lem s t (suc k) h low =
 pub word_lawful : IsKind generic_kind
 word_lawful = record {
   power = (3, omega arith, refl);
-  equal = λ s t k l h. equal_lem s t k h;
-  full = λ s t k l h. full_lem s t k l h;
-  lowest = λ s t k h low. lowest_lem s t k h low;
+  equal = λ s t k l h. equal_is_marked s t k h;
+  full = λ s t k l h. marked_is_full s t k l h;
+  lowest = λ s t k h low. lowest_is_equal s t k h low;
 }
 
 -- a kind that marks the equal bytes alone is lawful
