@@ -1,6 +1,7 @@
 //! A symbol table: a file of names and addresses, which is mapped to look names up.
 //!
-//! The file is a container. So another file, or a damaged one, is an error.
+//! The file is a container. So another file, or a damaged one, is an error. `build` replaces the
+//! file, and a program that has mapped it keeps the old one.
 //!
 //! ```sh
 //! nm program | cargo run --example symbols -- build program.symbols
@@ -14,7 +15,7 @@
 mod mapping;
 
 use std::error::Error;
-use std::fs::File;
+use std::fs::{self, File};
 use std::io::{self, BufRead, Write};
 use std::path::Path;
 use std::process::ExitCode;
@@ -32,6 +33,9 @@ const LINES: &str = "\
 type Table<'a> = Map<'a, str, u64>;
 
 /// Writes the symbols of `nm`'s lines, `ADDRESS TYPE NAME`, to a file. Others have no address.
+///
+/// A running program may have mapped the file. So the symbols are written to a file beside it, whose
+/// name has `.new` behind it, and that file is renamed.
 fn build(path: &Path, lines: impl BufRead) -> Result<usize, Box<dyn Error>> {
     let mut symbols = Builder::<str, u64>::new();
     for line in lines.lines() {
@@ -43,15 +47,21 @@ fn build(path: &Path, lines: impl BufRead) -> Result<usize, Box<dyn Error>> {
         }
     }
     let archive = symbols.build(Width::Narrow)?;
-    File::create(path)
+    let mut new = path.as_os_str().to_owned();
+    new.push(".new");
+    File::create(&new)
         .and_then(|file| archive.write_container(Checksum::Adler32, file))
-        .map_err(|error| in_file(path, error))?;
+        .and_then(|()| fs::rename(&new, path))
+        .map_err(|error| {
+            let _ = fs::remove_file(&new);
+            in_file(path, error)
+        })?;
     Ok(symbols.len())
 }
 
 /// Maps a file, and passes its symbol table to a function.
 fn with_table<T>(path: &Path, use_table: impl FnOnce(Table) -> T) -> Result<T, Box<dyn Error>> {
-    // SAFETY: this program doesn't change a file that it has mapped. No other one should.
+    // SAFETY: `build` replaces a file, and never changes or truncates it. No other program should.
     let bytes = unsafe { Mapping::open(path) }.map_err(|error| in_file(path, error))?;
     let table = Table::open_container(&bytes).map_err(|error| in_file(path, error))?;
     Ok(use_table(table))

@@ -188,8 +188,10 @@ where
         let pairs = pairs.into_iter();
         self.reserve(pairs.size_hint().0);
         for (key, value) in pairs {
-            self.keys.push(key.borrow());
-            self.values.push(value.borrow());
+            // Both are borrowed first: if `borrow` panics, no key is without its value.
+            let (key, value): (&K, &V) = (key.borrow(), value.borrow());
+            self.keys.push(key);
+            self.values.push(value);
         }
     }
 }

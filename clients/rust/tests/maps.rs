@@ -3,7 +3,7 @@
 use std::borrow::Borrow;
 use std::collections::HashMap;
 use std::iter::FusedIterator;
-use std::panic::{catch_unwind, RefUnwindSafe, UnwindSafe};
+use std::panic::{catch_unwind, AssertUnwindSafe, RefUnwindSafe, UnwindSafe};
 
 use rkyv_maps::{
     Archive, Builder, Error, ErrorKind, Iter, Key, Keys, Map, MapMut, Number, Values, Width,
@@ -259,6 +259,31 @@ fn builders_collect_owned_and_borrowed_keys() {
     assert_eq!(narrow([(1, 2)].into()), one_to_two());
     assert_eq!(narrow([(&1, 2)].into()), one_to_two());
     assert_eq!(Builder::<str, u32>::default().len(), 0);
+}
+
+/// A number that panics if it is borrowed and is 0.
+struct NotZero(u32);
+
+impl Borrow<u32> for NotZero {
+    fn borrow(&self) -> &u32 {
+        assert_ne!(self.0, 0);
+        &self.0
+    }
+}
+
+#[test]
+fn a_pair_that_panics_is_not_appended() {
+    let pairs = |key, value| [(1, 2), (key, value), (5, 6)].map(|(k, v)| (NotZero(k), NotZero(v)));
+    for (key, value) in [(0, 4), (3, 0)] {
+        let mut builder = Builder::<u32, u32>::new();
+        let extended = catch_unwind(AssertUnwindSafe(|| builder.extend(pairs(key, value))));
+        assert!(extended.is_err());
+        builder.push(&7, 8);
+        assert_eq!(
+            (builder.len(), format!("{builder:?}")),
+            (2, "{1: 2, 7: 8}".into())
+        );
+    }
 }
 
 /// Compares a map with one of std that has the first value of each key.
