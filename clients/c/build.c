@@ -3,9 +3,11 @@
  *     build KIND WIDTH FILE [container] < PAIRS
  *
  * KIND is the number of a `rkyv_kind`. A pair is a line `VALUE KEY`, without spaces in the value. An
- * item of a set is a line with a space in front. The file has the archive, or
- * its container with a checksum. The last status is printed. The file is written only if it is
- * RKYV_OK. If it can't be written, the program exits with 1. */
+ * item of a set is a line with a space in front. A line has at most 65,535 bytes, and none is zero.
+ * The file has the archive, or its container with a checksum. The last status is printed. It is
+ * RKYV_TOO_LONG for a longer line, or for more than 2,048 lines of a kind that a builder doesn't
+ * build. The file is written only if it is RKYV_OK. If the lines can't be read or the file can't be
+ * written, the program exits with 1. */
 #include "rkyv.h"
 
 #include <stdio.h>
@@ -16,6 +18,25 @@
 #define ROOM 2048
 
 static char line[1 << 16];
+
+/* Reads the next line, without its end. Returns RKYV_END if none remains, and RKYV_TOO_LONG if `line`
+ * has no room for it. */
+static rkyv_status next_line(void) {
+    size_t length = 0;
+    int byte = getc(stdin);
+    if (byte == EOF) {
+        return RKYV_END;
+    }
+    while (byte != EOF && byte != '\n') {
+        if (length + 1 == sizeof line) {
+            return RKYV_TOO_LONG;
+        }
+        line[length++] = (char)byte;
+        byte = getc(stdin);
+    }
+    line[length] = 0;
+    return RKYV_OK;
+}
 
 /* Whether a builder builds the archive: not that of a set, of a map to texts, or of a hash map with
  * number keys of 64 bits. */
@@ -29,7 +50,6 @@ static rkyv_status put(rkyv_builder *builder, uint32_t kind, char *line) {
     char *key;
     uint64_t value = strtoull(line, &key, 10);
     key += *key == ' ';
-    key[strcspn(key, "\n")] = 0;
     switch (kind) {
     case RKYV_TEXT_TO_U32:
     case RKYV_TEXT_TO_U64:
@@ -57,74 +77,88 @@ static int written(const char *path, const uint8_t *header, size_t header_length
 static rkyv_status build(uint32_t kind, uint32_t width, uint8_t **bytes, size_t *length) {
     rkyv_builder *builder;
     rkyv_status status = rkyv_builder_new(kind, width, &builder);
-    while (status == RKYV_OK && fgets(line, sizeof line, stdin) != NULL) {
+    while (status == RKYV_OK && (status = next_line()) == RKYV_OK) {
         status = put(builder, kind, line);
     }
-    if (status == RKYV_OK) {
+    if (status == RKYV_END) {
         status = rkyv_builder_finish(builder, bytes, length);
     }
     rkyv_builder_free(builder);
     return status;
 }
 
-/* Builds the archive of the pairs of all lines, or of a set, by one call. */
-static rkyv_status build_at_once(uint32_t kind, uint32_t width, uint8_t **bytes, size_t *length) {
-    static rkyv_text_text_item texts[ROOM];
-    static rkyv_number_text_item numbers[ROOM];
-    static rkyv_long_number_text_item long_number_texts[ROOM];
-    static rkyv_long_number_item long_numbers[ROOM];
-    static rkyv_set_text set_texts[ROOM];
-    static uint32_t set_numbers[ROOM];
-    static uint64_t set_long_numbers[ROOM];
-    static char *lines[ROOM];
-    size_t count = 0;
-    while (count < ROOM && fgets(line, sizeof line, stdin) != NULL) {
-        char *value = (char *)malloc(strlen(line) + 1);
-        if (value == NULL) {
-            break;
-        }
-        lines[count] = strcpy(value, line);
-        size_t value_length = strcspn(value, " ");
-        const char *key = value + value_length + 1;
-        const uint64_t long_key = strtoull(key, NULL, 10);
-        const rkyv_text_text_item text = {value, value_length, key, strcspn(key, "\n")};
-        const rkyv_number_text_item number = {value, value_length, (uint32_t)long_key};
-        const rkyv_long_number_text_item long_number_text = {value, value_length, long_key};
-        const rkyv_long_number_item long_number = {strtoull(value, NULL, 10), long_key};
-        const rkyv_set_text set_text = {text.key, text.key_length};
-        texts[count] = text;
-        numbers[count] = number;
-        long_number_texts[count] = long_number_text;
-        long_numbers[count] = long_number;
-        set_texts[count] = set_text;
-        set_numbers[count] = number.key;
-        set_long_numbers[count++] = long_key;
+/* The lines, and their items in the form of each call that builds. */
+static char *lines[ROOM];
+static rkyv_text_text_item texts[ROOM];
+static rkyv_number_text_item numbers[ROOM];
+static rkyv_long_number_text_item long_number_texts[ROOM];
+static rkyv_long_number_item long_numbers[ROOM];
+static rkyv_set_text set_texts[ROOM];
+static uint32_t set_numbers[ROOM];
+static uint64_t set_long_numbers[ROOM];
+
+/* Stores the item at an index, of a copy of the line. */
+static rkyv_status store(size_t index) {
+    char *value = (char *)malloc(strlen(line) + 1);
+    if (value == NULL) {
+        return RKYV_NO_MEMORY;
     }
-    rkyv_status status;
+    lines[index] = strcpy(value, line);
+    const size_t value_length = strcspn(value, " ");
+    const char *key = value + value_length + (value[value_length] == ' ');
+    const uint64_t long_key = strtoull(key, NULL, 10);
+    const rkyv_text_text_item text = {value, value_length, key, strlen(key)};
+    const rkyv_number_text_item number = {value, value_length, (uint32_t)long_key};
+    const rkyv_long_number_text_item long_number_text = {value, value_length, long_key};
+    const rkyv_long_number_item long_number = {strtoull(value, NULL, 10), long_key};
+    const rkyv_set_text set_text = {text.key, text.key_length};
+    texts[index] = text;
+    numbers[index] = number;
+    long_number_texts[index] = long_number_text;
+    long_numbers[index] = long_number;
+    set_texts[index] = set_text;
+    set_numbers[index] = number.key;
+    set_long_numbers[index] = long_key;
+    return RKYV_OK;
+}
+
+/* Builds the archive of the stored items by one call. */
+static rkyv_status build_stored(size_t count, uint32_t kind, uint32_t width, uint8_t **bytes,
+                                size_t *length) {
     switch (kind) {
     case RKYV_NUMBER_TO_TEXT:
     case RKYV_INDEX_NUMBER_TO_TEXT:
-        status = rkyv_build_number_texts(numbers, count, kind, width, bytes, length);
-        break;
+        return rkyv_build_number_texts(numbers, count, kind, width, bytes, length);
     case RKYV_LONG_NUMBER_TO_TEXT:
     case RKYV_INDEX_LONG_NUMBER_TO_TEXT:
-        status = rkyv_build_long_number_texts(long_number_texts, count, kind, width, bytes, length);
-        break;
+        return rkyv_build_long_number_texts(long_number_texts, count, kind, width, bytes, length);
     case RKYV_TEXT_TO_TEXT:
     case RKYV_INDEX_TEXT_TO_TEXT:
-        status = rkyv_build_text_texts(texts, count, kind, width, bytes, length);
-        break;
+        return rkyv_build_text_texts(texts, count, kind, width, bytes, length);
     case RKYV_SET_OF_LONG_NUMBERS:
-        status = rkyv_build_long_number_set(set_long_numbers, count, width, bytes, length);
-        break;
+        return rkyv_build_long_number_set(set_long_numbers, count, width, bytes, length);
     case RKYV_SET_OF_NUMBERS:
-        status = rkyv_build_number_set(set_numbers, count, width, bytes, length);
-        break;
+        return rkyv_build_number_set(set_numbers, count, width, bytes, length);
     case RKYV_SET_OF_TEXTS:
-        status = rkyv_build_text_set(set_texts, count, width, bytes, length);
-        break;
+        return rkyv_build_text_set(set_texts, count, width, bytes, length);
     default:
-        status = rkyv_build_long_numbers(long_numbers, count, kind, width, bytes, length);
+        return rkyv_build_long_numbers(long_numbers, count, kind, width, bytes, length);
+    }
+}
+
+/* Builds the archive of the pairs of all lines, or of a set, by one call. */
+static rkyv_status build_at_once(uint32_t kind, uint32_t width, uint8_t **bytes, size_t *length) {
+    size_t count = 0;
+    rkyv_status status = next_line();
+    while (status == RKYV_OK) {
+        status = count < ROOM ? store(count) : RKYV_TOO_LONG;
+        if (status == RKYV_OK) {
+            count++;
+            status = next_line();
+        }
+    }
+    if (status == RKYV_END) {
+        status = build_stored(count, kind, width, bytes, length);
     }
     while (count > 0) {
         free(lines[--count]);
@@ -144,6 +178,11 @@ int main(int count, char **words) {
     size_t length = 0;
     rkyv_status status = has_builder(kind) ? build(kind, width, &bytes, &length)
                                            : build_at_once(kind, width, &bytes, &length);
+    if (ferror(stdin)) {
+        perror("standard input");
+        rkyv_bytes_free(bytes);
+        return 1;
+    }
     if (status == RKYV_OK && in_container) {
         status = rkyv_container_header(bytes, length, kind, width, true, header);
     }
