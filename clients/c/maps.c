@@ -37,10 +37,11 @@ static item nothing(void) {
 }
 
 static void print(const char *before, item item) {
+    printf("%s", before);
     if (item.text != NULL) {
-        printf("%s%.*s", before, (int)item.length, item.text);
+        fwrite(item.text, 1, item.length, stdout);
     } else {
-        printf("%s%llu", before, (unsigned long long)item.number);
+        printf("%llu", (unsigned long long)item.number);
     }
 }
 

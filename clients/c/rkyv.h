@@ -279,8 +279,12 @@ typedef struct rkyv_text_member {
  * header, and from RKYV_CONTAINER_WRONG_COLLECTION on what is expected and what is found.
  *
  * `position` counts from the first byte of the archive, and is negative before it. The numbers
- * besides it are `first` and `second`, in this order. Collections, types and widths have the codes
- * of docs/FORMAT.md. */
+ * besides it are `first` and `second`, in this order. Collections, types and widths are their codes
+ * in the header of a container. A found code may also be that of a type that no kind has.
+ *
+ *   collection    1 hash map, 2 set, 3 index map, 4 index set
+ *   type          1 none (the values of a set), 4 text, 20 numbers of 32 bits, 24 of 64 bits
+ *   width         4 the width 32, 8 the width 64 */
 typedef struct rkyv_error {
     uint32_t status;
     int64_t position;
@@ -337,6 +341,9 @@ rkyv_status rkyv_map_open_writable(void *bytes, size_t length, uint32_t kind, ui
  *
  * A container detects a wrong kind and an accident, not an attacker. So validation is as that of
  * `rkyv_map_open`.
+ *
+ * To read the kind of a container: its bytes 10 to 13 are the codes of its collection, of the types
+ * of its keys and of its values, and of its width. `rkyv_error` lists them.
  *
  * Errors, after which the handle is not of an open map:
  *   - RKYV_NULL: `map` is null;

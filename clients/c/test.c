@@ -930,7 +930,9 @@ static size_t empty_to_wonderful(uint8_t *bytes) {
 static void reads(const char *what, const char *text, size_t length, const char *wanted) {
     if (length != strlen(wanted) || memcmp(text, wanted, length) != 0) {
         faults++;
-        printf("%s: %.*s, not %s\n", what, (int)length, text, wanted);
+        printf("%s: ", what);
+        fwrite(text, 1, length, stdout);
+        printf(", not %s\n", wanted);
     }
 }
 

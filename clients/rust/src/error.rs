@@ -4,7 +4,16 @@ use crate::raw::{self, RawError};
 
 /// Why bytes are not an archive or a container of a map, or why no archive could be built.
 ///
-/// Its text has the position and the numbers of the error.
+/// Its text has the position and the numbers of the error. The numbers of a collection, a type or a
+/// width are its codes in the header of a container:
+///
+/// | | Codes |
+/// |---|---|
+/// | collection | 1 hash map, 2 set, 3 index map, 4 index set |
+/// | type | 1 none (the values of a set), 4 `str`, 20 `u32`, 24 `u64` |
+/// | width | 4 [`Width::Narrow`](crate::Width::Narrow), 8 [`Width::Wide`](crate::Width::Wide) |
+///
+/// A found code may also be that of a type that no map of this crate has.
 ///
 /// ```
 /// use rkyv_maps::{ErrorKind, Map, Width};
