@@ -4,7 +4,13 @@
 #   bench/run.sh            measures the library and the Rust crate, in about twenty minutes
 #   bench/run.sh --print    prints the table of the library alone, and writes nothing
 set -euo pipefail
+if [ "$#" -gt 0 ] && [ "$1" != --print ]; then
+    echo "bench/run.sh [--print]" >&2
+    exit 2
+fi
 cd "$(dirname "$0")"
+# With these, cargo would compile to another folder, or with other flags than those of .cargo.
+unset CARGO_TARGET_DIR CARGO_BUILD_TARGET_DIR CARGO_BUILD_TARGET RUSTFLAGS CARGO_BUILD_RUSTFLAGS CARGO_ENCODED_RUSTFLAGS
 
 (cd ../crates/bench_library && rt lib) >&2
 cargo build --release --offline
