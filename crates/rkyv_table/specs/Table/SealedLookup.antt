@@ -13,7 +13,7 @@ use Rattle.rkyv_base.specs.declared.view.View.{View}
 use Rattle.rkyv_scan.specs.Groups.{generic_kind}
 use Rattle.rkyv_table.specs.Controls.Laws.{IsUnderHash}
 use Rattle.rkyv_table.specs.Table.Positions.{IsWalked, WrittenAt, home_positions}
-use Rattle.rkyv_table.specs.Table.Bare.{CanCompareOf, ComparesByOf}
+use Rattle.rkyv_table.specs.Table.Bare.{AcceptedOf, CanCompareOf, ComparesByOf}
 use Rattle.rkyv_table.specs.Table.Positions.{item_at, pos_found}
 use Rattle.rkyv_table.specs.Table.Reading.{table_bytes, table_pos}
 use Rattle.rkyv_table.specs.Table.SealedTable.{KeptByWrites}
@@ -54,6 +54,11 @@ pub record IsItemSeal {T W : Type 0} (w : Width) (s : ElementSpec) (a : ArchiveS
 -- the position of a returned seal
 abbrev pub pos_of_seal : {T : Type 0} → Option (Seal T) → Option ℕ
 pos_of_seal seal = option_map seal_pos seal
+
+-- `q`: position of an item for which the comparison returned `true`
+abbrev pub AcceptedAt : {T W : Type 0} → (View T → Bool → Type 0) → Width → ElementSpec
+    → ArchiveSeal (TableOf T W) → ℕ → Type 0
+AcceptedAt post w s a q = AcceptedOf post w s (archive_in a) (pos_in a) q
 
 -- the position that a lookup finds in any valid table, if the comparison depends only on positions
 abbrev pub SealsFound : {T W : Type 0} → (View T → Bool → Type 0) → Width → ElementSpec

@@ -4,7 +4,8 @@
 //! - `found_with` of `raw_iter_seal` takes bytes and a closure.
 ghost use Rattle.std.specs.Prelude.{IfSome};
 ghost use Rattle.rkyv_base.specs.Seal.{LiesIn};
-ghost use Rattle.rkyv_table.specs.Table.SealedLookup.{CanCompareAt, IsItemSeal, IsTableSeal};
+ghost use Rattle.rkyv_table.specs.Table.SealedLookup.{AcceptedAt, CanCompareAt, IsItemSeal};
+ghost use Rattle.rkyv_table.specs.Table.SealedLookup.{IsTableSeal};
 ghost use Rattle.rkyv_table.specs.Table.SealedLookup.{SealsFirst, SealsFound, pos_of_seal};
 
 use crate::table::{ArchivedHashTable, TableOf};
@@ -47,6 +48,8 @@ impl<'a, T: Element, W: Width> ArchivedHashTable<'a, T, W> {
         requires callable { CanCompareAt (F.pre cmp) W.word T.spec this }
         ensures inside { IfSome result (LiesIn T.spec) }
         ensures walked { IfSome result (IsItemSeal W.word T.spec this.entry) }
+        ensures accepted { IfSome (pos_of_seal result)
+            (AcceptedAt (F.post cmp) W.word T.spec this.entry) }
         ensures finds { SealsFound (F.post cmp) W.word T.spec this.entry hash
             (pos_of_seal result) }
         ensures first { SealsFirst (F.post cmp) W.word T.spec this.entry hash

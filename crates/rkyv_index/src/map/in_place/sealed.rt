@@ -22,6 +22,8 @@ ghost use Rattle.rkyv_index.specs.Index.{CanCompareKeysOf, IsIndex, hash_at, ind
 ghost use Rattle.rkyv_index.specs.Index.{index_pos};
 ghost use Rattle.rkyv_index.specs.Index.IndexFormat.{hash_of};
 ghost use Rattle.rkyv_index.specs.Index.SealedIndex.{
+  AcceptsIn,
+  IsAcceptedIn,
   IsFullSeal,
   IsFullSealAt,
   IsIndexSeal,
@@ -86,6 +88,8 @@ impl<'a, K: KeyElement, V: Element, H: KeyHasher, W: Width> ArchivedIndexMap<'a,
         ensures stored { IfSome result (IsStoredAt W.word (archive_in this.now) (pos_in this.now)) }
         ensures below { IfSome result
             (λ i. i < len_at W.word (archive_in this.now) (pos_in this.now)) }
+        ensures accepted { IfSome result
+            (IsAcceptedIn W.word K.spec V.spec this.now (F.post cmp key.entry)) }
         ensures finds { FindsBy (index_in W.word K.spec V.spec this.now)
             (F.post cmp key.entry) (hash_of H.hasher Q.calls key.now) (IsIndex result) }
         ensures first { FindsFirstBy (index_in W.word K.spec V.spec this.now)
@@ -170,13 +174,9 @@ impl<'a, K: KeyElement, V: Element, H: KeyHasher, W: Width> ArchivedIndexMap<'a,
         ensures walked { IfSome result (IsFullSeal W.word K.spec V.spec this.entry) }
         ensures at { IsFullSealAt result index }
     {
-        match index {
-            Some(index) => {
-                let (key, value) = Self::lend_pair(this, index);
-                Some((index, key, value))
-            }
-            None => None,
-        }
+        let index = index?;
+        let (key, value) = Self::lend_pair(this, index);
+        Some((index, key, value))
     }
 
     /// Returns a view of the key at a found index and a seal of its value.
@@ -194,10 +194,7 @@ impl<'a, K: KeyElement, V: Element, H: KeyHasher, W: Width> ArchivedIndexMap<'a,
         ensures walked { IfSome result (IsPairSeal W.word K.spec V.spec this.entry) }
         ensures at { SealsPair W.word K.spec V.spec this.entry result index }
     {
-        match index {
-            Some(index) => Some(Self::lend_pair(this, index)),
-            None => None,
-        }
+        Some(Self::lend_pair(this, index?))
     }
 
     /// Returns a seal of the value at a found index.
@@ -216,10 +213,7 @@ impl<'a, K: KeyElement, V: Element, H: KeyHasher, W: Width> ArchivedIndexMap<'a,
         ensures walked { IfSome result (IsValueSeal W.word K.spec V.spec this.entry) }
         ensures at { SealsValue W.word K.spec V.spec this.entry result index }
     {
-        match index {
-            Some(index) => Some(Self::lend_value(this, index)),
-            None => None,
-        }
+        Some(Self::lend_value(this, index?))
     }
 }
 
@@ -251,6 +245,8 @@ impl<'a, K: KeyElement, V: Element, H: KeyHasher, W: Width> ArchivedIndexMap<'a,
         ensures inside { IfSome result (λ full. LiesIn V.spec full.2) }
         ensures viewable { IfSome result (λ full. IsValidView K.spec full.1) }
         ensures walked { IfSome result (IsFullSeal W.word K.spec V.spec this.entry) }
+        ensures accepted { AcceptsIn W.word K.spec V.spec this.entry (F.post cmp key.entry)
+            (IsFullSealAt result) }
         ensures finds { FindsBy (index_in W.word K.spec V.spec this.entry)
             (F.post cmp key.entry) (hash_of H.hasher Q.calls key.now) (IsFullSealAt result) }
         ensures first { FindsFirstBy (index_in W.word K.spec V.spec this.entry)
@@ -336,6 +332,8 @@ impl<'a, K: KeyElement, V: Element, H: KeyHasher, W: Width> ArchivedIndexMap<'a,
         ensures inside { IfSome result (λ pair. LiesIn V.spec pair.1) }
         ensures viewable { IfSome result (λ pair. IsValidView K.spec pair.0) }
         ensures walked { IfSome result (IsPairSeal W.word K.spec V.spec this.entry) }
+        ensures accepted { AcceptsIn W.word K.spec V.spec this.entry (F.post cmp key.entry)
+            (SealsPair W.word K.spec V.spec this.entry result) }
         ensures finds { FindsBy (index_in W.word K.spec V.spec this.entry)
             (F.post cmp key.entry) (hash_of H.hasher Q.calls key.now)
             (SealsPair W.word K.spec V.spec this.entry result) }
@@ -407,6 +405,8 @@ impl<'a, K: KeyElement, V: Element, H: KeyHasher, W: Width> ArchivedIndexMap<'a,
         ensures viewable { IfSome result (λ value. Viewable V.spec (bytes_in value)
             (seal_pos value)) }
         ensures walked { IfSome result (IsValueSeal W.word K.spec V.spec this.entry) }
+        ensures accepted { AcceptsIn W.word K.spec V.spec this.entry (F.post cmp key.entry)
+            (SealsValue W.word K.spec V.spec this.entry result) }
         ensures finds { FindsBy (index_in W.word K.spec V.spec this.entry)
             (F.post cmp key.entry) (hash_of H.hasher Q.calls key.now)
             (SealsValue W.word K.spec V.spec this.entry result) }

@@ -2,6 +2,9 @@ use Rattle.std.proofs.Common.{subst}
 use Rattle.rkyv_index.specs.Index.SealedIndex.{SealsValue}
 use Rattle.rkyv_index.proofs.map.ArchivedIndexMap.get_seal_with.Goals as goal
 
+pub returns-clause-accepted : goal.returns-clause-accepted
+returns-clause-accepted g c = (c.find_in-index.result, c.value_seal_of.ensures.at, c.find_in-index.ensures.accepted)
+
 pub returns-clause-finds : goal.returns-clause-finds
 returns-clause-finds g c accept compares = subst (SealsValue g.W.Word.word g.K.HasSpec.spec g.V.HasSpec.spec c.args.this c.value_seal_of.result) (c.find_in-index.ensures.finds accept compares) c.value_seal_of.ensures.at
 

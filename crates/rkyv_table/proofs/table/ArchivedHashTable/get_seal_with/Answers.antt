@@ -1,6 +1,7 @@
 use Rattle.std.proofs.Common.{refl, ap, ◌∙◌, ◌+◌, ◌≤◌, length, Some, None}
+use Rattle.rkyv_base.specs.Seal.{archive_in, pos_in}
 use Rattle.rkyv_table.specs.Table.SealedLookup.{IsReadAt}
-use Rattle.rkyv_table.proofs.Bare.{can_compare}
+use Rattle.rkyv_table.proofs.Bare.{accepted_of, can_compare}
 use Rattle.rkyv_table.proofs.SealedLookup.{item_seal, pos_viewable, seals_first, seals_found}
 use Rattle.rkyv_table.proofs.table.ArchivedHashTable.get_seal_with.Goals as goal
 
@@ -27,6 +28,11 @@ pub returns-in-Some-clause-walked : goal.returns-in-Some-clause-walked
 returns-in-Some-clause-walked g c =
     let read : IsReadAt c.args.this c.of.result = (ap (λ v. v.archive.now) c.of.ensures.view ∙ c.as_view.ensures.bytes, ap (λ v. v.pos) c.of.ensures.view ∙ c.as_view.ensures.pos) in
     item_seal g.T.HasSpec.laws c.args.this c.of.result read c.requires.table c.in-Some.pos c.seal_at.result c.in-Some.ensures.walked c.seal_at.ensures.at
+
+pub returns-in-Some-clause-accepted : goal.returns-in-Some-clause-accepted
+returns-in-Some-clause-accepted g c =
+    let read : IsReadAt c.args.this c.of.result = (ap (λ v. v.archive.now) c.of.ensures.view ∙ c.as_view.ensures.bytes, ap (λ v. v.pos) c.of.ensures.view ∙ c.as_view.ensures.pos) in
+    rw c.seal_at.ensures.at.pos (accepted_of (archive_in c.args.this) (pos_in c.args.this) c.of.result read.0 read.1 (goal.F-post g c.args.cmp) c.in-Some.pos c.in-Some.ensures.accepted)
 
 pub returns-in-Some-clause-finds : goal.returns-in-Some-clause-finds
 returns-in-Some-clause-finds g c =
