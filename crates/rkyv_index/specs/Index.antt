@@ -32,6 +32,7 @@ use Rattle.rkyv_base.specs.declared.view.View.{View}
 use Rattle.rkyv_table.specs.Controls.Finding.{ReadsWithin}
 use Rattle.rkyv_table.specs.Table.Header.{cap_at, len_at}
 use Rattle.rkyv_table.specs.Controls.Numbers.{probe_capacity}
+use Rattle.rkyv_table.specs.Table.MisplacedIn.{IsCutAt}
 use Rattle.rkyv_table.specs.Table.Positions.{IsWalked, item_at, lookup_end, pos_found}
 use Rattle.rkyv_table.specs.Table.Reading.{FindsItem, IsItem}
 use Rattle.rkyv_table.specs.declared.table.ArchivedHashTable.{ArchivedHashTable}
@@ -144,11 +145,13 @@ module _ {K V H W : Type 0} {ks : Specs K} {vs : Specs V} {wt : Words W} where
       (index_bytes m)
       (index_pos m)) / 16) before after
 
-  -- at most `limit` strides are read, and those of one more lookup. `before`, `after`: counts
-  -- of strides
-  abbrev pub ReadsUpTo : ArchivedIndexMap K V H W ks vs wt → ℕ → ℕ → ℕ → Type 0
-  ReadsUpTo m limit before after = after ≤ before + limit
-      + probe_capacity (cap_at wt.word (index_bytes m) (index_pos m)) / 16
+  -- No count is lost, at most `limit` strides are counted and those of one more lookup, and
+  -- `result` is `None` if and only if more than `limit` are, or 2^63 in all.
+  -- `before`, `after`: counts of strides
+  abbrev pub ReadsUpTo : ArchivedIndexMap K V H W ks vs wt → ℕ → ℕ → ℕ → Option ℕ → Type 0
+  ReadsUpTo m limit before after result =
+      IsCutAt limit (probe_capacity (cap_at wt.word (index_bytes m) (index_pos m)) / 16) before
+      after result
 
 -- `item`: a position inside its archive, with an index below the length of the map at `m`
 abbrev pub IsIndexOf : {M P : Type 0} → Width → View M → View P → Type 0
@@ -259,14 +262,14 @@ module _ {K : Type 0} (m : Index K) where
   AreUnderHash hash key_hash accept = (i : ℕ) → i < len_at m.word m.bytes m.pos → accept i ≡ true
       → key_hash m.bytes (key_at i) ≡ hash
 
-  -- `Fact` is a property of the index that a lookup under `hash` finds, in any valid map
+  -- the property applies to the index that a lookup under the hash finds, or to `None`
   abbrev pub FindsIndex : ℕ → (ℕ → Bool) → (Option ℕ → Type 0) → Type 0
-  FindsIndex hash accept Fact = Fact (index_found m.word m.bytes m.pos hash accept)
+  FindsIndex hash accept P = P (index_found m.word m.bytes m.pos hash accept)
 
-  -- `Fact` is a property of the first accepted index, in a written map
+  -- if the map was written, the property applies to the first accepted index, or to `None`
   abbrev pub FindsFirstIndex : (List ℕ → ℕ → ℕ) → (ℕ → Bool) → (Option ℕ → Type 0) → Type 0
-  FindsFirstIndex key_hash accept Fact = (homes : List ℕ) → IsWritten key_hash homes
-      → Fact (find accept pair_indices)
+  FindsFirstIndex key_hash accept P =
+      (homes : List ℕ) → IsWritten key_hash homes → P (find accept pair_indices)
 
   -- a lookup by a comparison reads these strides, under a hash. `before`, `after`: counts
   -- of strides
@@ -279,27 +282,27 @@ module _ {K : Type 0} (m : Index K) where
   CountsKey hash fits before after =
       after ≡ before + index_strides m.word m.bytes m.pos hash (fits_at fits)
 
-  -- `Fact` is a property of the index that a lookup by a comparison finds, under a hash.
-  -- `accept i`: result of the comparison for the key at index `i`
+  -- the property applies to the index that a lookup by a comparison finds, if the comparison
+  -- depends only on the index of a key
   abbrev pub FindsBy : (View K → Bool → Type 0) → ℕ → (Option ℕ → Type 0) → Type 0
-  FindsBy post hash Fact = (accept : ℕ → Bool) → ComparesKeysBy post accept
-      → FindsIndex hash accept Fact
+  FindsBy post hash P = (accept : ℕ → Bool) → ComparesKeysBy post accept → FindsIndex hash accept P
 
-  -- `Fact` is a property of the first accepted index, in a written map whose accepted keys are
-  -- under the hash. `key_hash b q`: hash of the key at `q`
+  -- the same for a written map, if each accepted key is under the hash. `key_hash b q`: hash of
+  -- the key at `q`
   abbrev pub FindsFirstBy : (View K → Bool → Type 0) → ℕ → (List ℕ → ℕ → ℕ) → (Option ℕ → Type 0)
       → Type 0
-  FindsFirstBy post hash key_hash Fact = (accept : ℕ → Bool) → ComparesKeysBy post accept
-      → AreUnderHash hash key_hash accept → FindsFirstIndex key_hash accept Fact
+  FindsFirstBy post hash key_hash P =
+      (accept : ℕ → Bool) → ComparesKeysBy post accept → AreUnderHash hash key_hash accept
+      → FindsFirstIndex key_hash accept P
 
-  -- `Fact` is a property of the index that a lookup of a query finds, under a hash.
-  -- `fits`: test of the keys
+  -- the property applies to the index that a lookup of a query finds, or to `None`. `fits`: test
+  -- of the keys
   abbrev pub FindsKey : ℕ → (List ℕ → ℕ → Bool) → (Option ℕ → Type 0) → Type 0
-  FindsKey hash fits Fact = FindsIndex hash (fits_at fits) Fact
+  FindsKey hash fits P = FindsIndex hash (fits_at fits) P
 
-  -- `Fact` is a property of the first index whose key fits, in a written map
+  -- if the map was written, the property applies to the first index whose key fits, or to `None`
   abbrev pub FindsFirstKey : (List ℕ → ℕ → ℕ) → (List ℕ → ℕ → Bool) → (Option ℕ → Type 0) → Type 0
-  FindsFirstKey key_hash fits Fact = FindsFirstIndex key_hash (fits_at fits) Fact
+  FindsFirstKey key_hash fits P = FindsFirstIndex key_hash (fits_at fits) P
 
 module _ {K V H W : Type 0} {ks : Specs K} {vs : Specs V} {wt : Words W}
     (m : ArchivedIndexMap K V H W ks vs wt) where

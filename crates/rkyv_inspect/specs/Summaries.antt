@@ -53,7 +53,7 @@ pub record AreLookups (misplaced : ℕ) (reads : ℕ → ℕ) (keys : List ℕ) 
 -- strides, read more than `limit`, or more than 2^63
 abbrev pub UpTo : ℕ → ℕ → (Lookups → Type 0) → Option Lookups → Type 0
 UpTo limit all P result = MatchOption result ((limit < all) ⊎ (2 ^ 63 < all))
-    (λ lookups. (all ≤ limit) × P lookups)
+    (λ lookups. (all ≤ limit) × (all ≤ 2 ^ 63) × P lookups)
 
 -- the position of the control bytes, if there are `cap` buckets
 abbrev pub some_controls : ℕ → ℕ → Option ℕ

@@ -45,7 +45,7 @@ CountsKeysUpTo {ks = ks} {vs = vs} {wt = wt} m key_hash same_key limit result =
     let strides : ℕ =
     map_strides wt.word ks.spec vs.spec key_hash same_key (map_bytes m) (map_pos m) in
     MatchOption result ((limit < strides) ⊎ (2 ^ 63 < strides))
-    (λ n. (strides ≤ limit) × (n ≡ misplaced_keys m key_hash same_key))
+    (λ n. (strides ≤ limit) × (strides ≤ 2 ^ 63) × (n ≡ misplaced_keys m key_hash same_key))
 
 -- in a valid written map, the number of misplaced keys is that of keys
 -- that are the same as an earlier key

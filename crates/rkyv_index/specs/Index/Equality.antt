@@ -74,7 +74,12 @@ module _ {K : Type 0} (m : Index K) (key_hash : List ℕ → ℕ → ℕ) (same_
   abbrev pub CountsUpTo : ℕ → ℕ → Option ℕ → Type 0
   CountsUpTo limit before result =
       MatchOption result ((limit < keys_strides) ⊎ (2 ^ 63 < before + keys_strides))
-      (λ n. (keys_strides ≤ limit) × (n ≡ index_misplaced))
+      (λ n. (keys_strides ≤ limit) × (before + keys_strides ≤ 2 ^ 63) × (n ≡ index_misplaced))
+
+  -- the strides of the lookups of all keys are counted, or a part of them if `result` is `None`
+  abbrev pub CountsAllStrides : ℕ → ℕ → Option ℕ → Type 0
+  CountsAllStrides before after result =
+      MatchOption result (after ≤ before + keys_strides) (λ n. after ≡ before + keys_strides)
 
   -- the key at index `i` is the same as an earlier key
   abbrev pub is_repeated : ℕ → Bool

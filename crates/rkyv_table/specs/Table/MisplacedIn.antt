@@ -12,6 +12,13 @@ use Rattle.rkyv_table.specs.Table.Positions.{table_controls}
 use Rattle.rkyv_table.specs.Table.Reading.{table_pos}
 use Rattle.rkyv_table.specs.declared.table.ArchivedHashTable.{ArchivedHashTable}
 
+-- A count of strides that is cut at `limit`. `bound`: most strides of one lookup
+pub record IsCutAt (limit bound before after : ℕ) (result : Option ℕ) : Type 0 where
+  pub grows : before ≤ after
+  pub bounded : after ≤ before + limit + bound
+  pub cut : MatchOption result ((before + limit < after) ⊎ (2 ^ 63 < after))
+      (λ n. (after ≤ before + limit) × (after ≤ 2 ^ 63))
+
 module _ {T W : Type 0} {ts : Specs T} {wt : Words W} where
   -- the number of items
   abbrev pub table_len : ArchivedHashTable T W ts wt → ℕ
@@ -96,9 +103,22 @@ module _ {T W : Type 0} {ts : Specs T} {wt : Words W} where
       → MatchOption result ((limit < table_strides generic_kind t hash_of same)
       ⊎ (2 ^ 63 < before + table_strides generic_kind t hash_of same))
       (λ n. (table_strides generic_kind t hash_of same ≤ limit)
+      × (before + table_strides generic_kind t hash_of same ≤ 2 ^ 63)
       × (n ≡ table_misplaced generic_kind t hash_of same))
 
-  -- at most `limit` strides are read, and those of one more lookup
-  abbrev pub ReadsUpTo : ArchivedHashTable T W ts wt → ℕ → ℕ → ℕ → Type 0
-  ReadsUpTo t limit before after = after ≤ before + limit
-      + probe_capacity (cap_at wt.word (table_bytes t) (table_pos t)) / 16
+  -- the strides of the lookups of all items are counted, or a part of them if `result` is `None`
+  abbrev pub CountsAllStrides : (View T → ℕ → Type 0) → (View T → View T → Bool → Type 0)
+      → ArchivedHashTable T W ts wt → ℕ → ℕ → Option ℕ → Type 0
+  CountsAllStrides hashes compares t before after result =
+      (hash_of : ℕ → ℕ) (same : ℕ → ℕ → Bool) → HashesAs hashes t hash_of
+      → ComparesAs compares t same
+      → MatchOption result (after ≤ before + table_strides generic_kind t hash_of same)
+      (λ n. after ≡ before + table_strides generic_kind t hash_of same)
+
+  -- For any two functions: no count is lost, at most `limit` strides are counted and those of one
+  -- more lookup, and `result` is `None` if and only if more than `limit` are, or 2^63 in all.
+  -- `before`, `after`: counts of strides
+  abbrev pub ReadsUpTo : ArchivedHashTable T W ts wt → ℕ → ℕ → ℕ → Option ℕ → Type 0
+  ReadsUpTo t limit before after result =
+      IsCutAt limit (probe_capacity (cap_at wt.word (table_bytes t) (table_pos t)) / 16) before
+      after result

@@ -5,8 +5,9 @@
 ghost use Rattle.std.specs.Prelude.{IfSome, false, not, true, ◌+◌, ◌<◌, ◌^◌, ◌≡◌, ◌≤◌, ◌⊎◌};
 ghost use Rattle.rkyv_scan.specs.Groups.{generic_kind};
 ghost use Rattle.rkyv_table.specs.Table.Misplaced.{is_found_at};
-ghost use Rattle.rkyv_table.specs.Table.MisplacedIn.{ComparesItems, CountsMisplaced, CountsOwn};
-ghost use Rattle.rkyv_table.specs.Table.MisplacedIn.{CountsUpTo, MayCompare, ReadsUpTo};
+ghost use Rattle.rkyv_table.specs.Table.MisplacedIn.{ComparesItems, CountsAllStrides};
+ghost use Rattle.rkyv_table.specs.Table.MisplacedIn.{CountsMisplaced, CountsOwn, CountsUpTo};
+ghost use Rattle.rkyv_table.specs.Table.MisplacedIn.{MayCompare, ReadsUpTo};
 ghost use Rattle.rkyv_table.specs.Table.MisplacedIn.{ReturnsMisplaced, table_len};
 ghost use Rattle.rkyv_table.specs.Table.Reading.{CanCompare, IsFullIn, IsItemIn};
 
@@ -134,14 +135,12 @@ impl<'a, T: Element, W: Width> ArchivedHashTable<'a, T, W> {
 
     /// Returns the number of misplaced items, or `None` at a limit on the strides that it reads.
     ///
-    /// The number is the result of `misplaced_by`.
+    /// The number is the result of `misplaced_by`. If both functions depend only on the positions
+    /// of their arguments, the result is `None` if and only if the lookups of all items read more
+    /// than `limit` strides of sixteen control bytes, or `strides` counts more than 2^63 then.
     ///
-    /// The result is `None` if the lookups of all items read more than `limit` strides of sixteen
-    /// control bytes, or if `strides` counts more than 2^63 then. Otherwise the number is exact.
-    ///
-    /// For any `hash_of` and `same`, it reads at most `limit` strides and those of one more lookup,
-    /// which are at most ceil(capacity / 16). So its cost on untrusted bytes is bounded.
-    /// Each stride that is read is counted.
+    /// For any `hash_of` and `same`, it counts at most `limit` strides and those of one more
+    /// lookup, which are at most ceil(capacity / 16). So its cost on untrusted bytes is bounded.
     ///
     /// # Requires
     ///
@@ -179,7 +178,9 @@ impl<'a, T: Element, W: Width> ArchivedHashTable<'a, T, W> {
         ensures counts { CountsUpTo (H.post hash_of) (S.post same) self.entry limit strides.old
             result }
         ensures within { IfSome result (λ count. count ≤ table_len self.entry) }
-        ensures bounded { ReadsUpTo self.entry limit strides.old strides.new }
+        ensures counted { CountsAllStrides (H.post hash_of) (S.post same) self.entry strides.old
+            strides.new result }
+        ensures bounded { ReadsUpTo self.entry limit strides.old strides.new result }
     {
         let before = strides.count();
         let mut misplaced = 0;

@@ -3,8 +3,9 @@
 //! - `misplaced` looks up each key. Its cost on an untrusted map may be quadratic.
 //! - `misplaced_up_to` ends at a limit on the strides that are read.
 ghost use Rattle.std.specs.Prelude.{◌+◌, ◌<◌, ◌^◌, ◌≡◌, ◌≤◌};
-ghost use Rattle.rkyv_index.specs.Index.Equality.{CountsRepeated, ReturnsRepeated, index_misplaced};
-ghost use Rattle.rkyv_index.specs.Index.Equality.{CountsUpTo, is_misplaced, own_strides};
+ghost use Rattle.rkyv_index.specs.Index.Equality.{CountsAllStrides, CountsRepeated, CountsUpTo};
+ghost use Rattle.rkyv_index.specs.Index.Equality.{ReturnsRepeated, index_misplaced, is_misplaced};
+ghost use Rattle.rkyv_index.specs.Index.Equality.{own_strides};
 ghost use Rattle.rkyv_index.specs.Index.{AreEntries, ReadsUpTo, ReadsWithinBound, hash_at};
 ghost use Rattle.rkyv_index.specs.Index.{index_len, index_of};
 
@@ -107,7 +108,7 @@ impl<'a, K: KeyElement, V: Element, H: KeyHasher, W: Width> ArchivedIndexMap<'a,
     /// It counts as `misplaced_up_to` does. The result is also `None` if `strides` would count more
     /// than 2^63.
     ///
-    /// It reads at most `limit` strides and those of one more lookup, which are at most
+    /// It counts at most `limit` strides and those of one more lookup, which are at most
     /// ceil(n / 16), where n is the number of buckets.
     ///
     /// # Requires
@@ -117,7 +118,9 @@ impl<'a, K: KeyElement, V: Element, H: KeyHasher, W: Width> ArchivedIndexMap<'a,
         requires room { strides.old ≤ 2 ^ 63 }
         ensures counts { CountsUpTo (index_of self.entry) (hash_at H.hasher K.key_calls) K.same
             limit strides.old result }
-        ensures bounded { ReadsUpTo self.entry limit strides.old strides.new }
+        ensures counted { CountsAllStrides (index_of self.entry) (hash_at H.hasher K.key_calls)
+            K.same strides.old strides.new result }
+        ensures bounded { ReadsUpTo self.entry limit strides.old strides.new result }
     {
         let entries = self.entries();
         let before = strides.count();

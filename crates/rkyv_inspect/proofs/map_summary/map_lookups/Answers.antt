@@ -18,6 +18,7 @@ returns g c =
     let k = g.K.HasSpec.spec in
     let v = g.V.HasSpec.spec in
     let same = g.K.ElementEq.same in
-    let here = subst (λ x. (map_strides w k v key_hash same (bytes_of x) (pos_of x) ≤ c.args.limit) × (c.in-Some.misplaced ≡ map_misplaced w k v key_hash same (bytes_of x) (pos_of x)))
+    let strides : View _ → ℕ = λ x. map_strides w k v key_hash same (bytes_of x) (pos_of x) in
+    let here = subst (λ x. (strides x ≤ c.args.limit) × (strides x ≤ 2 ^ 63) × (c.in-Some.misplaced ≡ map_misplaced w k v key_hash same (bytes_of x) (pos_of x)))
     c.of.ensures.view c.in-Some.ensures in
-    (here.0, record { misplaced_is = here.1; strides_are = c.in_ok-strides.ensures })
+    (here.0, here.1, record { misplaced_is = here.2; strides_are = c.in_ok-strides.ensures })

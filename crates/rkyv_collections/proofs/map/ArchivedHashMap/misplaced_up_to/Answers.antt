@@ -33,7 +33,7 @@ returns g c =
     let counted : ℕ = count_in (misplaced generic_kind) (table_bytes t) (table_pos t) in
     let keys : ℕ = count_in (misplaced generic_kind) b (map_pos c.args.self) in
     let Counts : ℕ → ℕ → ℕ → Type 0 = λ all some many.
-    MatchOption c.misplaced_up_to_by.result ((c.args.limit < some) ⊎ (2 ^ 63 < all)) (λ n. (some ≤ c.args.limit) × (n ≡ many)) in
+    MatchOption c.misplaced_up_to_by.result ((c.args.limit < some) ⊎ (2 ^ 63 < all)) (λ n. (some ≤ c.args.limit) × (all ≤ 2 ^ 63) × (n ≡ many)) in
     let first : Counts (c.new.result + read) read counted = c.misplaced_up_to_by.ensures.counts hash_of same
     (λ x h item e. e.1 ∙ ap (λ a. key_hash a x.pos) (here x item))
     (λ x y r own other e. e.2 ∙ ap (λ a. same_key a x.pos (bytes_of y) y.pos) (here x own) ∙ ap (λ a. same_key b x.pos a y.pos) (here y other)) in

@@ -1,8 +1,10 @@
-use Rattle.std.proofs.Common.{subst, ◌≡◌, ◌+◌, ◌-◌, ◌<◌, ◌≤◌, ◌^◌, ◌⊎◌, ◌∙◌, ap, arith, sym, Bool, ℕ}
+use Rattle.std.proofs.Common.{subst, ◌≡◌, ◌+◌, ◌-◌, ◌/◌, ◌<◌, ◌≤◌, ◌^◌, ◌⊎◌, ◌∙◌, ap, arith, sym, Bool, ℕ}
 use Rattle.std.specs.List.{range_with_len, sum_by}
+use Rattle.rkyv_table.specs.Controls.Numbers.{probe_capacity}
+use Rattle.rkyv_table.specs.Table.Header.{cap_at}
 use Rattle.rkyv_table.proofs.MisplacedIn.{past_all, reads_on}
 use Rattle.rkyv_index.specs.Index.Equality.{is_misplaced, keys_strides, own_strides}
-use Rattle.rkyv_index.specs.Index.{hash_at, index_len, index_of}
+use Rattle.rkyv_index.specs.Index.{hash_at, index_bytes, index_len, index_of, index_pos}
 use Rattle.rkyv_index.specs.declared.map.ArchivedIndexMap.{ArchivedIndexMap}
 use Rattle.rkyv_index.proofs.Counted.{count_is_all, left_first, none_more, one_more, sum_end, sum_first, sum_step}
 use Rattle.rkyv_index.proofs.map.ArchivedIndexMap.misplaced_up_to_counted.Goals.{After-is_misplaced-is_misplaced, else-is_misplaced, then-is_misplaced}
@@ -51,6 +53,26 @@ returns-then-is_past-clause-counts g c =
     subst (λ n. (c.args.limit < strides) ⊎ (2 ^ 63 < n + strides)) c.count-before.ensures
     (past_all c.count-before.result _ _ strides _ all (rw c.count.ensures at c.is_past.ensures.past c.if-is_past.true))
 
+pub returns-then-is_past-clause-counted : goal.returns-then-is_past-clause-counted
+returns-then-is_past-clause-counted g c =
+    let all = spent g (goal.at.returns-then-is_past-clause-counted g c).After-is_misplaced-is_misplaced in
+    omega (arith, all, c.count-before.ensures)
+
+pub returns-then-is_past-clause-bounded : goal.returns-then-is_past-clause-bounded
+returns-then-is_past-clause-bounded g c =
+    let now = c.is_misplaced-is_misplaced.new.strides in
+    let more = on g (goal.at.returns-then-is_past-clause-bounded g c).After-is_misplaced-is_misplaced in
+    let cap = λ (x : ArchivedIndexMap _ _ _ _ _ _ _). probe_capacity (cap_at g.W.Word.word (index_bytes x) (index_pos x)) / 16 in
+    let most : c.is_misplaced-is_misplaced.new.strides ≤ c.loop-index.strides + cap c.args.self =
+    subst (λ x. c.is_misplaced-is_misplaced.new.strides ≤ c.loop-index.strides + cap x) c.entries-entries.ensures.map c.is_misplaced-is_misplaced.ensures.bounded.most in
+    let within = c.loop-index.invariant.within in
+    let before = c.count-before.ensures in
+    record {
+      grows = omega (arith, more, within.0, before);
+      bounded = omega (arith, most, within.1, before);
+      cut = subst (λ n. (n + c.args.limit < now) ⊎ (2 ^ 63 < now)) before (rw c.count.ensures at c.is_past.ensures.past c.if-is_past.true);
+    }
+
 pub loop-index-preserved : goal.loop-index-preserved
 loop-index-preserved g c =
     let index : ArchivedIndexMap _ _ _ _ _ _ _ → _ = index_of in
@@ -87,4 +109,24 @@ returns-clause-counts g c =
     let rest = sum_end (own_strides m key_hash g.K.ElementEq.same) c.loop-index.index (index_len c.args.self) above in
     let spent = c.loop-index.invariant.spent in
     let most = c.loop-index.invariant.within.1 in
-    (omega (arith, rest, spent, most), count_is_all _ _ c.loop-index.index (index_len c.args.self) _ c.loop-index.invariant.exact above)
+    let small = c.loop-index.invariant.within.2 in
+    (omega (arith, rest, spent, most), omega (arith, rest, spent, small, c.count-before.ensures), count_is_all _ _ c.loop-index.index (index_len c.args.self) _ c.loop-index.invariant.exact above)
+
+pub returns-clause-counted : goal.returns-clause-counted
+returns-clause-counted g c =
+    let m = index_of c.args.self in
+    let key_hash = hash_at g.H.KeyHasher.hasher g.K.KeyElement.key_calls in
+    let end : c.len-index-end.result ≡ index_len c.args.self = c.len-index-end.ensures in
+    let test = c.loop-index-test.false in
+    let rest = sum_end (own_strides m key_hash g.K.ElementEq.same) c.loop-index.index (index_len c.args.self) (omega (arith, test, end)) in
+    omega (arith, rest, c.loop-index.invariant.spent, c.count-before.ensures)
+
+pub returns-clause-bounded : goal.returns-clause-bounded
+returns-clause-bounded g c =
+    let within = c.loop-index.invariant.within in
+    let before = c.count-before.ensures in
+    record {
+      grows = omega (arith, within.0, before);
+      bounded = omega (arith, within.1, before);
+      cut = (omega (arith, within.1, before), within.2);
+    }

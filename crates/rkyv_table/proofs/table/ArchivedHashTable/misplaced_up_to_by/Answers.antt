@@ -66,6 +66,25 @@ returns-then-is_past-clause-counts g c = λ hash_of same hash_as same_as.
     subst (λ n. (c.args.limit < strides) ⊎ (2 ^ 63 < n + strides)) c.count-before.ensures
     (past_all c.count-before.result _ _ strides (sum_by (bucket_strides generic_kind c.args.self hash_of same) c.next.new.self) all (rw c.count.ensures at c.is_past.ensures.past c.if-is_past.true))
 
+pub returns-then-is_past-clause-counted : goal.returns-then-is_past-clause-counted
+returns-then-is_past-clause-counted g c = λ hash_of same hash_as same_as.
+    let all = spent g (goal.at.returns-then-is_past-clause-counted g c).After-is_misplaced-is_misplaced hash_of same hash_as same_as in
+    omega (arith, all, c.count-before.ensures)
+
+pub returns-then-is_past-clause-bounded : goal.returns-then-is_past-clause-bounded
+returns-then-is_past-clause-bounded g c =
+    let now = c.is_misplaced-is_misplaced.new.strides in
+    let reads = c.is_misplaced-is_misplaced.ensures.counts.bounded in
+    let on = reads_on _ _ _ _ reads in
+    let most = reads.most in
+    let within = c.loop-bucket.invariant.within in
+    let before = c.count-before.ensures in
+    record {
+      grows = omega (arith, on, within.0, before);
+      bounded = omega (arith, most, within.1, before);
+      cut = subst (λ n. (n + c.args.limit < now) ⊎ (2 ^ 63 < now)) before (rw c.count.ensures at c.is_past.ensures.past c.if-is_past.true);
+    }
+
 pub loop-bucket-preserved-then-is_misplaced : goal.loop-bucket-preserved-then-is_misplaced
 loop-bucket-preserved-then-is_misplaced g c =
     let l = ap length c.in-Some.ensures.steps in
@@ -104,7 +123,24 @@ returns-clause-counts g c = λ hash_of same hash_as same_as.
     let rest = ap (sum_by (bucket_strides generic_kind c.args.self hash_of same)) none in
     let spent = c.loop-bucket.invariant.spent hash_of same hash_as same_as in
     let most = c.loop-bucket.invariant.within.1 in
-    (omega (arith, rest, spent, most), omega (arith, n, counting))
+    let small = c.loop-bucket.invariant.within.2 in
+    (omega (arith, rest, spent, most), omega (arith, rest, spent, small, c.count-before.ensures), omega (arith, n, counting))
+
+pub returns-clause-counted : goal.returns-clause-counted
+returns-clause-counted g c = λ hash_of same hash_as same_as.
+    let none = c.in-None.ensures.steps.0 in
+    let rest = ap (sum_by (bucket_strides generic_kind c.args.self hash_of same)) none in
+    omega (arith, rest, c.loop-bucket.invariant.spent hash_of same hash_as same_as, c.count-before.ensures)
+
+pub returns-clause-bounded : goal.returns-clause-bounded
+returns-clause-bounded g c =
+    let within = c.loop-bucket.invariant.within in
+    let before = c.count-before.ensures in
+    record {
+      grows = omega (arith, within.0, before);
+      bounded = omega (arith, within.1, before);
+      cut = (omega (arith, within.1, before), within.2);
+    }
 
 pub returns-clause-within : goal.returns-clause-within
 returns-clause-within g c = omega (arith, c.loop-bucket.invariant.few)
