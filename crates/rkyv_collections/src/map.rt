@@ -4,6 +4,7 @@
 //! - `read` has lookups, iterators and comparisons.
 //! - `in_place` writes values over the bytes of an archive.
 //! - `laws` has laws that a proof cites.
+ghost use Rattle.std.specs.Prelude.{◌≡◌, ⊤};
 ghost use Rattle.rkyv_base.specs.Lemmas.ElementSpec.{viewable_prop};
 ghost use Rattle.rkyv_base.specs.View.{IsValidView};
 ghost use Rattle.rkyv_table.specs.Table.Decoded.{IsDecoded};
@@ -48,6 +49,10 @@ impl<'a, K: HasSpec, V: HasSpec, H, W: Word> Clone for ArchivedHashMap<'a, K, V,
     fn clone(&self) -> Result<ArchivedHashMap<'a, K, V, H, W>, AllocError> {
         Ok(*self)
     }
+
+    ghost is_clone = { λ map clone. clone ≡ map };
+
+    ghost is_infallible = { λ _. ⊤ };
 }
 
 impl<'a, K: HasSpec, V: HasSpec, H, W: Word> Copy for ArchivedHashMap<'a, K, V, H, W> {}

@@ -2,6 +2,7 @@
 //!
 //! A set is the map of its keys to the unit value. `write` writes sets from iterators,
 //! and `laws` has laws of their bytes, their layout, lookups and walks.
+ghost use Rattle.std.specs.Prelude.{◌≡◌, ⊤};
 
 mod accessors;
 mod debug;
@@ -35,6 +36,10 @@ impl<'a, K: HasSpec, H, W: Word> Clone for ArchivedHashSet<'a, K, H, W> {
     fn clone(&self) -> Result<ArchivedHashSet<'a, K, H, W>, AllocError> {
         Ok(*self)
     }
+
+    ghost is_clone = { λ set clone. clone ≡ set };
+
+    ghost is_infallible = { λ _. ⊤ };
 }
 
 impl<'a, K: HasSpec, H, W: Word> Copy for ArchivedHashSet<'a, K, H, W> {}

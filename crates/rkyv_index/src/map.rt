@@ -4,7 +4,7 @@
 //! - `read` has lookups, iterators and comparisons, and returns lists of pairs.
 //! - `in_place` writes values over the bytes of an archive.
 //! - `laws` has laws that a proof cites.
-ghost use Rattle.std.specs.Prelude.{◌≡◌};
+ghost use Rattle.std.specs.Prelude.{◌≡◌, ⊤};
 ghost use Rattle.rkyv_base.specs.Entry.{entry_spec};
 ghost use Rattle.rkyv_base.specs.Lemmas.Entry.{entry_element};
 ghost use Rattle.rkyv_base.specs.Lemmas.ElementSpec.{viewable_prop};
@@ -56,6 +56,10 @@ impl<'a, K: HasSpec, V: HasSpec, H, W: Word> Clone for ArchivedIndexMap<'a, K, V
     fn clone(&self) -> Result<ArchivedIndexMap<'a, K, V, H, W>, AllocError> {
         Ok(*self)
     }
+
+    ghost is_clone = { λ map clone. clone ≡ map };
+
+    ghost is_infallible = { λ _. ⊤ };
 }
 
 impl<'a, K: HasSpec, V: HasSpec, H, W: Word> Copy for ArchivedIndexMap<'a, K, V, H, W> {}

@@ -1,7 +1,7 @@
 //! Round trips: lists that are written as index maps and index sets, opened and deserialized.
 
 ghost use Rattle.std.specs.Prelude.{◌≡◌, IfErr, IfOk, true};
-ghost use Rattle.rkyv_keys.specs.RoundTrips.{RoundTripFails};
+ghost use Rattle.rkyv_keys.specs.RoundTrips.{HasArchive, RoundTripFails};
 ghost use Rattle.rkyv_index.specs.Index.Reading.{items_trip, pairs_trip};
 
 use crate::lists::{OrderedItems, OrderedPairs};
@@ -40,6 +40,9 @@ where
     A: NativeKey<A::Archived>,
     B::Archived: Deserialize<B> + RepresentsUniquely<B>,
     ensures same { IfOk result (λ same. same ≡ true) }
+    ensures archived { IfOk result (λ _. HasArchive (pairs_trip W.LIMIT W.word
+        A.Archived.Deserialize B.Archived.Deserialize
+        ⟦<OrderedPairs<A, B> as Archive<W>>⟧.format) pairs.now) }
     ensures error { IfErr result (RoundTripFails (pairs_trip W.LIMIT W.word A.Archived.Deserialize
         B.Archived.Deserialize ⟦<OrderedPairs<A, B> as Archive<W>>⟧.format) pairs.now) }
 {
@@ -77,6 +80,8 @@ where
     A::Archived: KeyElement + Deserialize<A> + RepresentsUniquely<A>,
     A: NativeKey<A::Archived>,
     ensures same { IfOk result (λ same. same ≡ true) }
+    ensures archived { IfOk result (λ _. HasArchive (items_trip W.LIMIT W.word
+        A.Archived.Deserialize ⟦<OrderedItems<A> as Archive<W>>⟧.format) items.now) }
     ensures error { IfErr result (RoundTripFails (items_trip W.LIMIT W.word A.Archived.Deserialize
         ⟦<OrderedItems<A> as Archive<W>>⟧.format) items.now) }
 {

@@ -3,6 +3,7 @@
 //! A set is the index map of its keys to the unit value. `write` writes sets from iterators,
 //! and `deserialize` returns a list of the keys. `laws` has laws of that list, of lookups
 //! and of the layout.
+ghost use Rattle.std.specs.Prelude.{◌≡◌, ⊤};
 
 mod accessors;
 mod debug;
@@ -37,6 +38,10 @@ impl<'a, K: HasSpec, H, W: Word> Clone for ArchivedIndexSet<'a, K, H, W> {
     fn clone(&self) -> Result<ArchivedIndexSet<'a, K, H, W>, AllocError> {
         Ok(*self)
     }
+
+    ghost is_clone = { λ set clone. clone ≡ set };
+
+    ghost is_infallible = { λ _. ⊤ };
 }
 
 impl<'a, K: HasSpec, H, W: Word> Copy for ArchivedIndexSet<'a, K, H, W> {}

@@ -1,5 +1,6 @@
 -- Round trips: a value is written to memory, and deserialized from its archive.
 use Rattle.std.specs.Prelude.{ℕ, ◌-◌, List, length}
+use Rattle.rkyv_base.specs.Access.{IsValidArchive}
 use Rattle.rkyv_base.specs.ElementSpec.{ElementSpec}
 use Rattle.rkyv_base.specs.Format.{Format}
 use Rattle.rkyv_base.specs.Root.{RootBytes, ToBytesFails}
@@ -27,3 +28,8 @@ abbrev pub RoundTripFails : {V R : Type 0} → RoundTrip V R → V → RoundTrip
 RoundTripFails t v (Write e) = ToBytesFails t.limit t.spec t.format v e
 RoundTripFails t v (Read e) = (b : List ℕ) × RootBytes t.spec.align t.format v 0 b (length b
     - t.spec.size) × t.deserialize_fails b (length b - t.spec.size) e
+
+-- the value `v` has an archive
+abbrev pub HasArchive : {V R : Type 0} → RoundTrip V R → V → Type 0
+HasArchive t v = (b : List ℕ) × IsValidArchive t.limit t.spec b
+    × RootBytes t.spec.align t.format v 0 b (length b - t.spec.size)

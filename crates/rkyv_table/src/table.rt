@@ -8,6 +8,7 @@
 //! - `laws` has laws that a proof cites.
 //!
 //! `docs/FORMAT.md` has the layout of a table.
+ghost use Rattle.std.specs.Prelude.{◌≡◌, ⊤};
 ghost use Rattle.rkyv_base.specs.Lemmas.ElementSpec.{viewable_prop};
 ghost use Rattle.rkyv_base.specs.View.{IsValidView};
 ghost use Rattle.rkyv_table.specs.Table.Decoded.{IsDecoded};
@@ -66,6 +67,10 @@ impl<'a, T: HasSpec, W: Word> Clone for ArchivedHashTable<'a, T, W> {
     fn clone(&self) -> Result<ArchivedHashTable<'a, T, W>, AllocError> {
         Ok(*self)
     }
+
+    ghost is_clone = { λ table clone. clone ≡ table };
+
+    ghost is_infallible = { λ _. ⊤ };
 }
 
 impl<'a, T: HasSpec, W: Word> Copy for ArchivedHashTable<'a, T, W> {}

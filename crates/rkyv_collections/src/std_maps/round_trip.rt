@@ -6,7 +6,7 @@
 
 ghost use Rattle.std.specs.Prelude.{◌≡◌, IfErr, IfOk, true};
 ghost use Rattle.rkyv_keys.specs.Deserialize.{nothing_fails};
-ghost use Rattle.rkyv_keys.specs.RoundTrips.{RoundTripFails, round_trip};
+ghost use Rattle.rkyv_keys.specs.RoundTrips.{HasArchive, RoundTripFails, round_trip};
 ghost use Rattle.rkyv_collections.specs.Map.MapSpec.{map_spec};
 
 use crate::map::{ArchivedHashMap, HashMapOf};
@@ -41,6 +41,8 @@ pub fn round_trips_equal<
 where
     M::Archived: Deserialize<M> + MatchesNative<M> + RepresentsUniquely<M>,
     ensures same { IfOk result (λ same. same ≡ true) }
+    ensures archived { IfOk result (λ _. HasArchive (round_trip W.LIMIT M.Archived.spec M.format
+        M.Archived.deserialize_fails) value.now) }
     ensures error { IfErr result (RoundTripFails (round_trip W.LIMIT M.Archived.spec M.format
         M.Archived.deserialize_fails) value.now) }
 {
@@ -81,6 +83,9 @@ where
     A: NativeKey<A::Archived>,
     B::Archived: MatchesNative<B>,
     ensures same { IfOk result (λ same. same ≡ true) }
+    ensures archived { IfOk result (λ _. HasArchive (round_trip W.LIMIT
+        (map_spec W.word A.Archived.spec B.Archived.spec)
+        ⟦<Hashed<HashMap<A, B, T>, H> as Archive<W>>⟧.format nothing_fails) map.now) }
     ensures error { IfErr result (RoundTripFails (round_trip W.LIMIT
         (map_spec W.word A.Archived.spec B.Archived.spec)
         ⟦<Hashed<HashMap<A, B, T>, H> as Archive<W>>⟧.format nothing_fails) map.now) }
