@@ -18,6 +18,7 @@ use Rattle.rkyv_table.specs.Controls.Placing.{Written}
 use Rattle.rkyv_table.specs.Table.Slots.{Above, BeforeBuckets, BucketNext, BucketOverflows, BucketStep, Filled, PartsNext, SlotImages, SlotParts, TableBytes, TableNext, filled}
 use Rattle.rkyv_table.specs.Table.TableFormat.{InBuckets, PairsNext, TableParts, TableResolver, TableWritten, table_format}
 use Rattle.rkyv_table.specs.Table.PlacedItems.{Placed, Slotted, hashes_of, items_of}
+use Rattle.rkyv_table.proofs.Lists.{option_map_some}
 
 -- the value of each item, under the hash of the item
 abbrev pub mapped_pairs : {X Y : Type 0} → (X → Y) → List (ℕ × X) → List (ℕ × Y)
@@ -43,10 +44,6 @@ module _ {X Y : Type 0} (model : X → Y) where
   mapped_at : (slots : List (Option X)) (i : ℕ) (s : Option X) → slice_get slots i ≡ Some s → slice_get (mapped_slots model slots) i ≡ Some (option_map model s)
   mapped_at slots i s e = slice_get-map (option_map model) slots i ∙ ap (option_map (option_map model)) e
 
-  pub mapped_some : (o : Option X) (y : Y) → option_map model o ≡ Some y → (x : X) × (o ≡ Some x) × (model x ≡ y)
-  mapped_some None y e = absurd cc
-  mapped_some (Some x) y e = (x, refl, cc)
-
   module _ (cap : ℕ) (homes : List ℕ) where
     mapped_slotted : (items : List X) (slots : List (Option X)) → Slotted cap homes items slots → Slotted cap homes (map model items) (mapped_slots model slots)
     mapped_slotted items slots h = record {
@@ -54,7 +51,7 @@ module _ {X Y : Type 0} (model : X → Y) where
       full = mapped_filled slots ∙ h.full;
       items_count = length-map items model ∙ h.items_count;
       at = λ i y e.
-          let w = mapped_some (slice_get items i) y (sym (slice_get-map model items i) ∙ e) in
+          let w = option_map_some model (slice_get items i) y (sym (slice_get-map model items i) ∙ e) in
           mapped_at slots (slice_index homes i) (Some w.0) (h.at i w.0 w.1) ∙ ap (λ (z : Y). Some (Some z)) w.2;
       others = λ b below free. mapped_at slots b None (h.others b below free);
     }

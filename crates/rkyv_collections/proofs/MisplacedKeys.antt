@@ -9,6 +9,7 @@ use Rattle.std.proofs.lemmas.List.{get_or-map, get_or_default, length-map, nil_f
 use Rattle.rkyv_scan.specs.Groups.{generic_kind}
 use Rattle.rkyv_scan.specs.Hash.{Hasher, HasherCall, hash_of_calls}
 use Rattle.rkyv_scan.specs.Lemmas.KindLaws.{word_lawful}
+use Rattle.rkyv_scan.proofs.Indices.{range_agree}
 use Rattle.rkyv_base.specs.Entry.{entry_spec}
 use Rattle.rkyv_base.specs.Lemmas.Entry.{entry_element}
 use Rattle.rkyv_base.specs.ElementSpec.{ElementSpec, IsElement, ValidAt, Viewable}
@@ -23,7 +24,7 @@ use Rattle.rkyv_table.specs.Table.Positions.{home_positions, item_at, pos_found,
 use Rattle.rkyv_table.proofs.ValidTable.{controls_accepted, item_viewable, no_items}
 use Rattle.rkyv_table.proofs.Misplaced.{complete, repeated_misplaced}
 use Rattle.rkyv_table.proofs.RawWalks.{walk_count}
-use Rattle.rkyv_table.proofs.Walks.{filter_agree_range, full_walked, walked_full}
+use Rattle.rkyv_table.proofs.Walks.{full_walked, walked_full}
 use Rattle.rkyv_collections.specs.Map.Equality.{pair_at}
 use Rattle.rkyv_collections.specs.Map.{MapWrittenAt, hash_at}
 use Rattle.rkyv_collections.specs.Map.MapSpec.{map_spec}
@@ -39,7 +40,7 @@ module _ (at : ℕ → ℕ) (same : ℕ → ℕ → Bool) (homes : List ℕ) whe
   pub repeated_positions : repeated (λ i j. same (at i) (at j)) homes ≡ repeated same (map at homes)
   repeated_positions =
       let n = length-map homes at in
-      ap length (filter_agree_range (repeats_earlier (λ i j. same (at i) (at j)) homes) (repeats_earlier same (map at homes)) 0 (length homes)
+      ap length (range_agree (repeats_earlier (λ i j. same (at i) (at j)) homes) (repeats_earlier same (map at homes)) 0 (length homes)
       (λ i from to.
       ap (λ x. list_any (λ j. same x (at j)) (take i homes)) (sym (get_or-map at homes i 0 0 (omega arith)))
       ∙ any_earlier (slice_index (map at homes) i) (take i homes)

@@ -19,12 +19,13 @@ use Rattle.rkyv_table.specs.Table.SealedTable.{SameValue}
 use Rattle.rkyv_table.specs.Controls.Walking.{full_from}
 use Rattle.rkyv_table.specs.declared.table.raw_iter_seal.RawIterSeal.{RawIterSeal}
 use Rattle.rkyv_table.proofs.ValidTable.{item_viewable}
-use Rattle.rkyv_table.proofs.SealedItems.{cursor_kept, full_end, full_skipped}
+use Rattle.rkyv_table.proofs.SealedItems.{cursor_kept, full_skipped}
 use Rattle.rkyv_table.proofs.SealedTable.{table_kept}
 use Rattle.rkyv_collections.specs.Map.SealedMap.{IsPairPos}
 use Rattle.rkyv_collections.specs.Map.SealedPairs.{IsPairIter, KeepsPairs, YieldsKeyPos, YieldsPairAt}
 use Rattle.rkyv_table.specs.Table.PairSeals.{LendsPair}
 use Rattle.rkyv_table.proofs.PairSeals.{pair_lent}
+use Rattle.rkyv_table.proofs.Walks.{full_end}
 use Rattle.rkyv_collections.proofs.SealedMap.{pair_pos}
 
 -- if no control byte is full, no bucket remains

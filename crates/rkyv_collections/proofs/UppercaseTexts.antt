@@ -21,8 +21,8 @@ use Rattle.rkyv_keys.specs.Lemmas.OfTexts.{IsTextOf}
 use Rattle.rkyv_table.specs.Table.Positions.{home_positions}
 use Rattle.rkyv_collections.specs.Map.InPlace.{with_first}
 use Rattle.rkyv_collections.specs.Map.InPlaceText.{list_after_uppercase, uppercase_text, with_first_uppercase}
-use Rattle.rkyv_collections.specs.Lemmas.MapLaws.{HashLocal}
 use Rattle.rkyv_keys.specs.FirstPairs.{first_pair}
+use Rattle.rkyv_keys.specs.QueryLaws.{HashLocal}
 use Rattle.rkyv_collections.specs.Map.ListedLookups.{AgreesOnKeys, IsPairOf}
 use Rattle.rkyv_collections.specs.Map.MapSpec.{map_spec}
 use Rattle.rkyv_collections.specs.Map.MapFormat.{MapRepresents}

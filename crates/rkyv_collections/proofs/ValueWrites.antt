@@ -15,7 +15,7 @@ use Rattle.rkyv_base.specs.Lemmas.Pairs.{pair_local}
 use Rattle.rkyv_base.specs.Sealing.{Keeps, Sealed, value_pos}
 use Rattle.rkyv_base.specs.ElementSpec.{ElementSpec, IsElement, Viewable}
 use Rattle.rkyv_base.proofs.Sealing.{viewable_kept}
-use Rattle.rkyv_keys.specs.QueryLaws.{RestsOnKeys}
+use Rattle.rkyv_keys.specs.QueryLaws.{HashLocal, RestsOnKeys}
 use Rattle.rkyv_table.specs.Table.Header.{cap_at, len_at}
 use Rattle.rkyv_table.specs.Table.Positions.{IsWalked, bucket_found, home_positions, item_at}
 use Rattle.rkyv_table.specs.Table.Positions.{pos_found, table_controls}
@@ -27,7 +27,6 @@ use Rattle.rkyv_table.proofs.Walks.{walked_full}
 use Rattle.rkyv_collections.specs.Map.{MapWrittenAt}
 use Rattle.rkyv_collections.specs.Map.MapSpec.{IsKeyPosAt, map_spec}
 use Rattle.rkyv_collections.specs.Map.MapFormat.{MapRepresents}
-use Rattle.rkyv_collections.specs.Lemmas.MapLaws.{HashLocal}
 use Rattle.rkyv_collections.proofs.NewValues.{home, new_value_represents, own_pos, own_walked, written_again}
 use Rattle.rkyv_collections.specs.Map.ValueWrites.{KeepsMap, entry_at}
 

@@ -120,8 +120,7 @@ module _ (w : Width) (k v : ElementSpec) (b : List ℕ) (p : ℕ) where
   -- the property applies to the position of the key that a lookup under the hash finds,
   -- or to `None`
   abbrev pub FindsKeyAt : ℕ → (ℕ → Bool) → (Option ℕ → Type 0) → Type 0
-  FindsKeyAt hash accept P = P
-      (pos_found generic_kind w (entry_spec k v).size b p hash accept)
+  FindsKeyAt hash accept P = P (pos_found generic_kind w (entry_spec k v).size b p hash accept)
 
   -- if the map at `p` was written, the property applies to the position of the first accepted key
   -- in insertion order, or to `None`

@@ -1,15 +1,12 @@
 -- The write of a table's buckets ends in one way.
 use Rattle.std.proofs.Common.{◌≡◌, ℕ, zero, suc, ◌+◌, ◌-◌, ◌*◌, ◌<◌, ◌≤◌, ◌∙◌, refl, sym, ap, subst, arith, inl, inr, List, [], ◌∷◌, ◌++◌, length, drop, Option, None, Some, append-nil, append_assoc, length-append}
 use Rattle.std.specs.Prelude.{◌⊎◌, slice_get}
-use Rattle.std.proofs.lemmas.List.{length-replicate}
+use Rattle.std.proofs.lemmas.List.{length-replicate, nil_from_length}
+use Rattle.std.proofs.lemmas.Option.{none-some, same_Some}
 use Rattle.rkyv_base.specs.Format.{Format}
 use Rattle.rkyv_base.specs.Writing.{Step, WriteFailure, distance, failure, piece, zeros}
 use Rattle.rkyv_table.specs.Table.Slots.{BucketNext, BucketStep, SlotImages, filled}
-use Rattle.rkyv_dict.proofs.Ends.{Ends, IsKnown, ends_as, ends_at_once, ends_by_piece, no_piece, nothing_there, same_error, same_piece, same_slot, then_ends}
-
-empty : {A : Type 0} (xs : List A) → length xs ≡ 0 → xs ≡ []
-empty [] e = refl
-empty (x ∷ xs) e = absurd (omega arith)
+use Rattle.rkyv_dict.proofs.Ends.{Ends, IsKnown, ends_as, ends_at_once, ends_by_piece, no_piece, same_error, same_piece, then_ends}
 
 same_head : {A : Type 0} (x y : A) (xs ys : List A) → x ∷ xs ≡ y ∷ ys → x ≡ y
 same_head x y xs ys e = cc
@@ -114,21 +111,21 @@ module _ {X R : Type 0} (size : ℕ) (f : Format X R) (whole : (x : X) (r : R) (
   fewer (Some x ∷ ss) (suc i) = omega (arith, fewer ss i)
 
   one_fewer : (ss : List (Option X)) (i : ℕ) (x : X) → slice_get ss i ≡ Some (Some x) → filled (drop (suc i) ss) < filled ss
-  one_fewer [] i x e = absurd (nothing_there (Some x) e)
-  one_fewer (None ∷ ss) zero x e = absurd (nothing_there x (same_slot None (Some x) e))
+  one_fewer [] i x e = absurd (none-some (Some x) e)
+  one_fewer (None ∷ ss) zero x e = absurd (none-some x (same_Some None (Some x) e))
   one_fewer (Some y ∷ ss) zero x e = omega arith
   one_fewer (None ∷ ss) (suc i) x e = one_fewer ss i x e
   one_fewer (Some y ∷ ss) (suc i) x e = omega (arith, one_fewer ss i x e)
 
   of_none : (ss : List (Option X)) (rs : List R) (i : ℕ) (left done : List R) (front : List ℕ) → length rs ≡ filled ss → rs ≡ left ++ done → Images (drop (suc i) ss) done front
       → slice_get ss i ≡ Some None → ImagesNext ss rs front (piece (zeros size))
-  of_none [] rs i left done front count is above at = absurd (nothing_there None at)
+  of_none [] rs i left done front count is above at = absurd (none-some None at)
   of_none (None ∷ ss) rs zero left done front count is above at =
       let n = images_long ss done front above in
-      let none : left ≡ [] = empty left (omega (arith, count, ap length is, length-append left done, n.1)) in
+      let none : left ≡ [] = nil_from_length left (omega (arith, count, ap length is, length-append left done, n.1)) in
       let same : rs ≡ done = is ∙ ap (λ l. l ++ done) none in
       inr (front, tt, [], subst (λ (l : List R). Images ss l front) (sym same) above, (refl, refl), sym (append-nil front))
-  of_none (Some x ∷ ss) rs zero left done front count is above at = absurd (nothing_there x (sym (same_slot (Some x) None at)))
+  of_none (Some x ∷ ss) rs zero left done front count is above at = absurd (none-some x (sym (same_Some (Some x) None at)))
   of_none (None ∷ ss) rs (suc i) left done front count is above at = inl (of_none ss rs i left done front count is above at)
   of_none (Some x ∷ ss) [] (suc i) left done front count is above at = absurd (omega (arith, count))
   of_none (Some x ∷ ss) (r ∷ rs) (suc i) [] done front count is above at =
@@ -140,14 +137,14 @@ module _ {X R : Type 0} (size : ℕ) (f : Format X R) (whole : (x : X) (r : R) (
   of_some : (ss : List (Option X)) (rs : List R) (i : ℕ) (more : List R) (r : R) (done : List R) (front : List ℕ) (x : X) (step : Step) → length rs ≡ filled ss → rs ≡ more ++ (r ∷ done)
       → Images (drop (suc i) ss) done front → slice_get ss i ≡ Some (Some x)
       → ((out : List ℕ) × f.image x r (p + length front) out × (step ≡ piece out)) ⊎ (f.overflow x r (p + length front) × (step ≡ failure distance)) → ImagesNext ss rs front step
-  of_some [] rs i more r done front x step count is above at own = absurd (nothing_there (Some x) at)
-  of_some (None ∷ ss) rs zero more r done front x step count is above at own = absurd (nothing_there x (same_slot None (Some x) at))
+  of_some [] rs i more r done front x step count is above at own = absurd (none-some (Some x) at)
+  of_some (None ∷ ss) rs zero more r done front x step count is above at own = absurd (none-some x (same_Some None (Some x) at))
   of_some (Some y ∷ ss) [] zero more r done front x step count is above at own = absurd (omega (arith, count))
   of_some (Some y ∷ ss) (q ∷ rs) zero (m ∷ more) r done front x step count is above at own =
       let n = images_long ss done front above in
       absurd (omega (arith, count, ap length is, length-append more (r ∷ done), n.1))
   of_some (Some y ∷ ss) (q ∷ rs) zero [] r done front x step count is above at own =
-      let e : x ≡ y = sym (same_slot y x (same_slot (Some y) (Some x) at)) in
+      let e : x ≡ y = sym (same_Some y x (same_Some (Some y) (Some x) at)) in
       let k : r ≡ q = sym (same_head q r rs done is) in
       let l : done ≡ rs = sym (same_tail q r rs done is) in
       let there = subst (λ v. ((out : List ℕ) × f.image v q (p + length front) out × (step ≡ piece out)) ⊎ (f.overflow v q (p + length front) × (step ≡ failure distance))) e

@@ -1,5 +1,5 @@
 -- A write fails with one error, except for allocation failures, and doesn't succeed as well.
-use Rattle.std.proofs.Common.{◌≡◌, ℕ, ◌+◌, ◌-◌, ◌≤◌, sym, ap, subst, arith, inl, inr, List, [], ◌++◌, length, None, Some, length-append}
+use Rattle.std.proofs.Common.{◌≡◌, ℕ, ◌+◌, ◌-◌, ◌≤◌, sym, ap, subst, arith, inl, inr, List, [], ◌++◌, length, length-append}
 use Rattle.std.specs.Prelude.{◌⊎◌}
 use Rattle.rkyv_base.specs.Writing.{Step, WriteFailure, failure, no_memory, piece}
 
@@ -23,12 +23,6 @@ same_piece a b e = cc
 
 pub no_piece : (c : WriteFailure) (a : List ℕ) → failure c ≡ piece a → ⊥
 no_piece c a e = cc
-
-pub nothing_there : {A : Type 0} (a : A) → None ≡ Some a → ⊥
-nothing_there a e = cc
-
-pub same_slot : {A : Type 0} (a b : A) → Some a ≡ Some b → a ≡ b
-same_slot a b e = cc
 
 -- a write of no step
 pub ends_at_once : (writes : List ℕ → Type 0) → Ends (λ front step. ⊥) writes

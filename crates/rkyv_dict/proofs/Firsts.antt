@@ -15,7 +15,7 @@ use Rattle.rkyv_keys.specs.OfTexts.{same_bytes}
 use Rattle.rkyv_table.specs.Table.Positions.{home_positions}
 use Rattle.rkyv_dict.specs.Archives.{hash, pair_spec, root, value_text}
 use Rattle.rkyv_dict.specs.Built.{PairsRepresent, PairsRepresentAt, RootRepresents}
-use Rattle.rkyv_dict.specs.First.{HasHomes, first_under, first_value}
+use Rattle.rkyv_dict.specs.First.{HasHomes, first_under, first_value_text}
 use Rattle.rkyv_dict.specs.Forms.{Pairs, number_key, numbers, text_key, texts, word_of}
 use Rattle.rkyv_dict.specs.MapTypes.{MapTypes, number_parts, text_parts}
 use Rattle.rkyv_dict.specs.declared.form.ArchiveWidth.{ArchiveWidth}
@@ -66,7 +66,7 @@ module _ (bits : ArchiveWidth) (factor : ℕ × ℕ) (b : List ℕ) where
   -- the first pair of a map of numbers, and of a map of texts
   pub first_number : (pairs : Pairs) (n : ℕ) → RootRepresents (record { kind = Num; bits = bits }) factor b pairs
       → (homes : List ℕ) × HasHomes (number_parts bits) b homes
-      × (first_under (number_parts bits) b homes (λ q. n == number_at w32 b q) ≡ first_value pairs (number_key n))
+      × (first_under (number_parts bits) b homes (λ q. n == number_at w32 b q) ≡ first_value_text pairs (number_key n))
   first_number (numbers pairs) n h =
       let there = first_represents (number_parts bits) (ScalarRepresents (unsigned w32)) factor b pairs
       (λ q. n == number_at w32 b q) (λ key. n == key) decimal (λ q v st. ap (λ x. n == x) st) (λ q v st. ap decimal st) h in
@@ -75,7 +75,7 @@ module _ (bits : ArchiveWidth) (factor : ℕ × ℕ) (b : List ℕ) where
 
   pub first_text : (pairs : Pairs) (t : List ℕ) → RootRepresents (record { kind = Text; bits = bits }) factor b pairs
       → (homes : List ℕ) × HasHomes (text_parts bits) b homes
-      × (first_under (text_parts bits) b homes (λ q. same_bytes t (text_at (word_of bits) b q)) ≡ first_value pairs (text_key t))
+      × (first_under (text_parts bits) b homes (λ q. same_bytes t (text_at (word_of bits) b q)) ≡ first_value_text pairs (text_key t))
   first_text (texts pairs) t h =
       first_represents (text_parts bits) (TextReads (word_of bits)) factor b pairs
       (λ q. same_bytes t (text_at (word_of bits) b q)) (λ key. same_bytes t key) (λ v. v) (λ q v st. ap (same_bytes t) st) (λ q v st. st) h

@@ -1,5 +1,5 @@
 -- The write of a table of pairs ends in one way.
-use Rattle.std.proofs.Common.{◌≡◌, ℕ, zero, suc, ◌-◌, ◌<◌, ◌∙◌, refl, sym, ap, subst, arith, inl, inr, List, [], ◌∷◌, length, Option, None, Some, true, eqb, get_or}
+use Rattle.std.proofs.Common.{◌≡◌, ℕ, ◌-◌, ◌<◌, ◌∙◌, refl, sym, ap, subst, arith, inl, inr, List, length, Option, None, Some, true, eqb, get_or}
 use Rattle.std.specs.Prelude.{slice_get, slice_index}
 use Rattle.std.specs.Int.{Width}
 use Rattle.std.specs.List.{list_any, position_or_len}
@@ -19,14 +19,10 @@ use Rattle.rkyv_table.specs.Table.OneWay.{WritesOneWay}
 use Rattle.rkyv_table.specs.Table.Slots.{TableBytes, TableNext}
 use Rattle.rkyv_table.specs.Table.TableFormat.{InBuckets, PairsNext, TableParts, TableResolver, table_format}
 use Rattle.rkyv_table.specs.Table.PlacedItems.{Placed, Slotted, hashes_of, items_of}
+use Rattle.rkyv_table.specs.Lemmas.SlotWalk.{item_below}
 use Rattle.rkyv_dict.proofs.Ends.{Ends}
 use Rattle.rkyv_dict.proofs.FormatEnds.{EndsOneWay}
 use Rattle.rkyv_dict.proofs.TableEnds.{table_ends}
-
-within : {X : Type 0} (xs : List X) (i : ℕ) → i < length xs → (x : X) × (slice_get xs i ≡ Some x)
-within [] i h = absurd (omega (arith, h))
-within (x ∷ xs) zero h = (x, refl)
-within (x ∷ xs) (suc i) h = within xs i (omega (arith, h))
 
 -- two lists of slots with the same items in the same homes
 module _ {X : Type 0} (cap : ℕ) (xs : List ℕ) (items : List X) (ss ts : List (Option X)) (s : Slotted cap xs items ss) (t : Slotted cap xs items ts) where
@@ -39,7 +35,7 @@ module _ {X : Type 0} (cap : ℕ) (xs : List ℕ) (items : List X) (ss ts : List
         | inl some ↦
             let l : i < length xs = first_within (eqb b) xs some in
             let e = eqb-true b (get_or xs i 0) (passes_at_first (eqb b) xs 0 l) in
-            let x = within items i (omega arith) in
+            let x = item_below items i (omega arith) in
             ap (slice_get ss) e ∙ s.at i x.0 x.1 ∙ sym (t.at i x.0 x.1) ∙ ap (slice_get ts) (sym e)
       ]
 
@@ -55,7 +51,7 @@ module _ {X : Type 0} (cap : ℕ) (pairs : List (ℕ × X)) (ss ts : List (Optio
   some_bucket : 0 < cap
   some_bucket =
       let n : length (items_of pairs) ≡ length pairs = length-map pairs (λ pair. pair.1) in
-      let one = within (items_of pairs) 0 (omega arith) in
+      let one = item_below (items_of pairs) 0 (omega arith) in
       let at = slice_get_within ss (slice_index x.homes 0) (Some one.0) (x.slotted.at 0 one.0 one.1) in
       let count = x.slotted.count in
       omega arith

@@ -1,11 +1,12 @@
 -- Serialization of a table's items ends in one way.
 use Rattle.std.proofs.Common.{◌≡◌, ℕ, zero, suc, ◌+◌, ◌-◌, ◌∙◌, refl, sym, ap, subst, arith, inl, inr, List, [], ◌∷◌, ◌++◌, length, take, Option, None, Some, append_assoc, length-append}
 use Rattle.std.specs.Prelude.{◌⊎◌, slice_get}
+use Rattle.std.proofs.lemmas.Option.{none-some, same_Some}
 use Rattle.rkyv_base.specs.Format.{Format}
 use Rattle.rkyv_base.specs.Writing.{Step}
 use Rattle.rkyv_table.specs.Table.OneWay.{WritesOneWay}
 use Rattle.rkyv_table.specs.Table.Slots.{PartsNext, SlotParts}
-use Rattle.rkyv_dict.proofs.Ends.{Ends, ThenNext, ThenWrites, ends_as, ends_at_once, nothing_there, same_slot, then_ends}
+use Rattle.rkyv_dict.proofs.Ends.{Ends, ThenNext, ThenWrites, ends_as, ends_at_once, then_ends}
 use Rattle.rkyv_dict.proofs.FormatEnds.{EndsOneWay}
 
 module _ {X R : Type 0} (f : Format X R) (one : WritesOneWay f) (ends : EndsOneWay f) where
@@ -40,10 +41,10 @@ module _ {X R : Type 0} (f : Format X R) (one : WritesOneWay f) (ends : EndsOneW
 
   parts_in : (ss : List (Option X)) (i : ℕ) (p : ℕ) (x : X) (a : List ℕ) (rs : List R) (rest front : List ℕ) (step : Step) → slice_get ss i ≡ Some (Some x) → SlotParts f (take i ss) p a rs
       → f.next x (p + length a) rest step → front ≡ a ++ rest → PartsIn ss p front step
-  parts_in [] i p x a rs rest front step at made next is = absurd (nothing_there (Some x) at)
-  parts_in (None ∷ ss) zero p x a rs rest front step at made next is = absurd (nothing_there x (same_slot None (Some x) at))
+  parts_in [] i p x a rs rest front step at made next is = absurd (none-some (Some x) at)
+  parts_in (None ∷ ss) zero p x a rs rest front step at made next is = absurd (none-some x (same_Some None (Some x) at))
   parts_in (Some y ∷ ss) zero p x a rs rest front step at made next is =
-      let e : y ≡ x = same_slot y x (same_slot (Some y) (Some x) at) in
+      let e : y ≡ x = same_Some y x (same_Some (Some y) (Some x) at) in
       let here : p + length a ≡ p = ap (λ (l : List ℕ). p + length l) made.0 ∙ omega arith in
       let whole : front ≡ rest = is ∙ ap (λ l. l ++ rest) made.0 in
       inl (subst (λ z. f.next z p front step) (sym e) (subst (λ n. f.next x n front step) here (subst (λ (l : List ℕ). f.next x (p + length a) l step) (sym whole) next)))

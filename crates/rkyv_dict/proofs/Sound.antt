@@ -8,7 +8,7 @@ use Rattle.rkyv_dict.specs.declared.form.Form.{Form}
 use Rattle.rkyv_dict.specs.Archives.{IsArchive, IsMapArchive, ValidationFails, value_found, value_line}
 use Rattle.rkyv_dict.specs.Steps.{StepsIf, StepsLine, StepsTo}
 use Rattle.rkyv_dict.specs.Built.{IsArchiveOf, IsBuilt, PairsRepresent, RootRepresents, form_of_pairs, kind_of_pairs}
-use Rattle.rkyv_dict.specs.First.{first_value}
+use Rattle.rkyv_dict.specs.First.{first_value_text}
 use Rattle.rkyv_dict.specs.Forms.{LookupKey, Pairs, numbers, texts}
 use Rattle.rkyv_dict.specs.Output.{archive_output, get_line, value_in}
 use Rattle.rkyv_dict.specs.Script.{Request, build_archive, check_archive, count_misplaced, get_value, list_pairs, put_numbers, put_texts, request_of, set_kind, set_load_factor, set_width, show_hex}
@@ -47,7 +47,7 @@ failure_here s form b bytes e f is h = subst (λ (g : Form). ValidationFails g b
 value_by : {U E : Type 0} (form : Form) (bytes : List ℕ) (built : Option Pairs) (r : Result U E) (now old : List ℕ) (key : LookupKey)
     → ForSome built (λ pairs. (factor : ℕ × ℕ) × RootRepresents form factor bytes pairs)
     → OnOk r (now ≡ old ++ value_line (value_found form bytes key))
-    → ((pairs : Pairs) (factor : ℕ × ℕ) → RootRepresents form factor bytes pairs → OnOk r (now ≡ old ++ value_line (first_value pairs key)))
+    → ((pairs : Pairs) (factor : ℕ × ℕ) → RootRepresents form factor bytes pairs → OnOk r (now ≡ old ++ value_line (first_value_text pairs key)))
     → OnOk r (now ≡ old ++ value_line (value_in form bytes built key))
 value_by form bytes None r now old key represents found first = found
 value_by form bytes (Some pairs) r now old key represents found first = let h = represents pairs refl in first pairs h.0 h.1
@@ -55,7 +55,7 @@ value_by form bytes (Some pairs) r now old key represents found first = let h = 
 pub value_here : {U E : Type 0} (s : State) (a : Archived) (form : Form) (bytes : List ℕ) (r : Result U E) (now old : List ℕ) (key : LookupKey)
     → IsSound s → s.archive ≡ Some a → form ≡ form_of s → bytes ≡ a.bytes
     → OnOk r (now ≡ old ++ value_line (value_found form bytes key))
-    → ((pairs : Pairs) (factor : ℕ × ℕ) → RootRepresents form factor bytes pairs → OnOk r (now ≡ old ++ value_line (first_value pairs key)))
+    → ((pairs : Pairs) (factor : ℕ × ℕ) → RootRepresents form factor bytes pairs → OnOk r (now ≡ old ++ value_line (first_value_text pairs key)))
     → OnOk r (now ≡ old ++ archive_output (get_line (form_of s) key) s.archive)
 value_here s a form bytes r now old key sound is f b found first =
     let here = sound_here s a sound is in

@@ -19,8 +19,9 @@ use Rattle.rkyv_table.specs.Table.Serializing.{HasCapacity}
 use Rattle.rkyv_table.specs.Table.Positions.{home_positions}
 use Rattle.rkyv_table.specs.Table.TableFormat.{PairsNext, TableParts, TableResolver}
 use Rattle.rkyv_table.specs.Table.Listed.{ListFails}
+use Rattle.rkyv_table.proofs.Lists.{option_map_some}
 use Rattle.rkyv_collections.specs.Map.MapFormat.{keyed}
-use Rattle.rkyv_collections.proofs.MappedItems.{mapped_pairs, mapped_pairs_next, mapped_some, mapped_table}
+use Rattle.rkyv_collections.proofs.MappedItems.{mapped_pairs, mapped_pairs_next, mapped_table}
 use Rattle.rkyv_dict.specs.Archives.{hash, header_spec, pair_spec, root}
 use Rattle.rkyv_dict.specs.Built.{ArchiveFails, BuildFails, IsArchiveOf, IsBuilt, PairsRepresentAt, form_of_pairs, pairs_format}
 use Rattle.rkyv_dict.specs.Forms.{buckets_of, text_pair, texts, word_of}
@@ -48,7 +49,7 @@ module _ {A B : Type 0} (model_of : A → B) where
           len = h.len ∙ sym count;
           cap = h.cap ∙ ap (λ n. capacity n factor) (sym count);
           at = λ i y e.
-              let w = mapped_some both (slice_get pairs i) y (sym (slice_get-map both pairs i) ∙ e) in
+              let w = option_map_some both (slice_get pairs i) y (sym (slice_get-map both pairs i) ∙ e) in
               subst (PairRepresents k.spec k.spec represents represents b (slice_index (home_positions k.word (pair_spec k).size b p h.homes) i)) w.2 (h.at i w.0 w.1);
         }
 

@@ -2,6 +2,7 @@
 use Rattle.std.specs.Prelude.{ℕ, ◌==◌, Bool, List, Option, None, decimal}
 use Rattle.std.specs.List.{find}
 use Rattle.std.specs.Option.{option_map}
+use Rattle.rkyv_keys.specs.FirstPairs.{first_value}
 use Rattle.rkyv_keys.specs.OfTexts.{same_bytes}
 use Rattle.rkyv_table.specs.Table.Positions.{home_positions}
 use Rattle.rkyv_collections.specs.Map.{MapWrittenAt}
@@ -9,16 +10,13 @@ use Rattle.rkyv_dict.specs.Archives.{hash, pair_spec, root, value_text}
 use Rattle.rkyv_dict.specs.Forms.{LookupKey, Pairs, number_key, numbers, text_key, texts}
 use Rattle.rkyv_dict.specs.MapTypes.{MapTypes}
 
--- the value of the first pair whose key passes `accept`
-abbrev pub first_of : {A B : Type 0} → (A → Bool) → List (A × B) → Option B
-first_of accept pairs = option_map (λ pair. pair.1) (find (λ pair. accept pair.0) pairs)
-
 -- the text of the value of the first pair with the key; a key of the other kind is in no list
-abbrev pub first_value : Pairs → LookupKey → Option (List ℕ)
-first_value (numbers pairs) (number_key n) = option_map decimal (first_of (λ key. n == key) pairs)
-first_value (texts pairs) (text_key t) = first_of (λ key. same_bytes t key) pairs
-first_value (numbers pairs) (text_key t) = None
-first_value (texts pairs) (number_key n) = None
+abbrev pub first_value_text : Pairs → LookupKey → Option (List ℕ)
+first_value_text (numbers pairs) (number_key n) =
+    option_map decimal (first_value (λ key. n == key) pairs)
+first_value_text (texts pairs) (text_key t) = first_value (λ key. same_bytes t key) pairs
+first_value_text (numbers pairs) (text_key t) = None
+first_value_text (texts pairs) (number_key n) = None
 
 module _ (k : MapTypes) (b : List ℕ) where
   -- the map of `b` was written from pairs with these homes, in this order

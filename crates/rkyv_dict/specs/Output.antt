@@ -4,7 +4,7 @@ use Rattle.rkyv_base.specs.declared.errors.VerifyError.{VerifyError}
 use Rattle.rkyv_base.specs.declared.errors.WriteError.{WriteError}
 use Rattle.rkyv_dict.specs.declared.form.Form.{Form}
 use Rattle.rkyv_dict.specs.Archives.{line, listing, misplaced_count, value_found, value_line}
-use Rattle.rkyv_dict.specs.First.{first_value}
+use Rattle.rkyv_dict.specs.First.{first_value_text}
 use Rattle.rkyv_dict.specs.Errors.{cause_text, verify_error_text}
 use Rattle.rkyv_dict.specs.Forms.{LookupKey, Pairs}
 use Rattle.rkyv_dict.specs.Hex.{hex_of}
@@ -27,7 +27,7 @@ hex_line archived = line (hex_of archived.bytes)
 -- In an archive from `check`, it is the value that a lookup finds.
 abbrev pub value_in : Form → List ℕ → Option Pairs → LookupKey → Option (List ℕ)
 value_in form bytes None key = value_found form bytes key
-value_in form bytes (Some pairs) key = first_value pairs key
+value_in form bytes (Some pairs) key = first_value_text pairs key
 
 -- the line of the value of `key`
 abbrev pub get_line : Form → LookupKey → Archived → List ℕ

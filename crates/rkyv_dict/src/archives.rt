@@ -16,7 +16,7 @@ ghost use Rattle.rkyv_dict.specs.Archives.{pair_lines, root, value_found, value_
 ghost use Rattle.rkyv_dict.specs.Archives.{value_under};
 ghost use Rattle.rkyv_dict.specs.Built.{Builds, MakesArchive, RootRepresents, form_of_pairs};
 ghost use Rattle.rkyv_dict.specs.Built.{natives};
-ghost use Rattle.rkyv_dict.specs.First.{FindsFirstValue, first_value};
+ghost use Rattle.rkyv_dict.specs.First.{FindsFirstValue, first_value_text};
 ghost use Rattle.rkyv_dict.specs.Forms.{Pairs, lookup_key, pairs_of};
 ghost use Rattle.rkyv_dict.specs.MapTypes.{parts_by};
 ghost use Rattle.rkyv_dict.specs.Pushing.{AppendsText};
@@ -215,7 +215,7 @@ pub fn push_value(
         (value_line (value_found form bytes.now (lookup_key key.entry))) }
     ensures first { (pairs : Pairs) (factor : ℕ × ℕ) → RootRepresents form factor bytes.now pairs
         → AppendsText result out.old out.new
-        (value_line (first_value pairs (lookup_key key.entry))) }
+        (value_line (first_value_text pairs (lookup_key key.entry))) }
 {
     match (form.kind, key) {
         (Kind::Num, Key::Number(number)) => match form.bits {

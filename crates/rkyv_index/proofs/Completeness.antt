@@ -3,7 +3,7 @@ use Rattle.std.proofs.Common.{◌≡◌, ℕ, zero, suc, ◌+◌, ◌^◌, ◌<�
 use Rattle.std.specs.Option.{option_map}
 use Rattle.std.specs.Int.{Width, byte_len}
 use Rattle.std.specs.List.{range_with_len}
-use Rattle.std.proofs.lemmas.Bool.{cases_Bool, cases_eq, eqb-true, not-false, true≢false}
+use Rattle.std.proofs.lemmas.Bool.{cases_Bool, cases_eq, not-false}
 use Rattle.std.proofs.lemmas.Option.{none-some, same_Some}
 use Rattle.rkyv_scan.specs.Groups.{generic_kind}
 use Rattle.rkyv_scan.specs.Hash.{Hasher, HasherCall, hash_of_calls}
@@ -21,8 +21,9 @@ use Rattle.rkyv_table.specs.Table.Header.{cap_at, len_at}
 use Rattle.rkyv_table.specs.Table.Misplaced.{is_found_at}
 use Rattle.rkyv_table.specs.Table.Positions.{item_at, table_controls}
 use Rattle.rkyv_table.proofs.ValidTable.{controls_accepted, no_items}
-use Rattle.rkyv_table.proofs.Misplaced.{found_agree, found_walked}
+use Rattle.rkyv_table.proofs.Misplaced.{found_agree, found_at_is, found_walked}
 use Rattle.rkyv_table.proofs.Walks.{walked_full}
+use Rattle.rkyv_table.proofs.Lists.{option_map_some}
 use Rattle.rkyv_index.specs.Index.Complete.{FindsTheOne}
 use Rattle.rkyv_index.specs.Index.Equality.{index_misplaced, own_found}
 use Rattle.rkyv_index.specs.Index.{Index, hash_at, index_found}
@@ -43,15 +44,6 @@ none_kept P a (suc n) e i from to = elim (cases_Bool (P a)) [
         | inr ne ↦ none_kept P (a + 1) n e' i (omega (arith, from, ne)) (omega (arith, to))
       ]
 ]
-
-found_at_is : (b : ℕ) (o : Option ℕ) → is_found_at b o ≡ true → o ≡ Some b
-found_at_is b None e = absurd (true≢false (sym e))
-found_at_is b (Some x) e = ap Some (sym (eqb-true b x e))
-
--- a found image is that of a found item
-found_somewhere : {A B : Type 0} (f : A → B) (o : Option A) (y : B) → option_map f o ≡ Some y → (x : A) × (o ≡ Some x) × (f x ≡ y)
-found_somewhere f None y e = absurd (none-some y e)
-found_somewhere f (Some x) y e = (x, refl, same_Some (f x) y e)
 
 module _ {K Q : Type 0} (m : Index K) (kind : IsArchiveWord m.word) (kl : IsElement m.key) (vl : IsElement m.value)
     {State : Type 0} (hasher : Hasher State) (same : Comparison) (key_calls : List ℕ → ℕ → List HasherCall) (can_read : Q → Type 0) (calls : Q → List HasherCall) (fits : Q → List ℕ → ℕ → Bool)
@@ -104,12 +96,12 @@ module _ {K Q : Type 0} (m : Index K) (kind : IsArchiveWord m.word) (kl : IsElem
   found_fits i e = elim (cases_eq cap 0) [
     | inl z ↦
         let n = no_items w (stored_index_spec w) (stored_index_element w kind) b p (table_there w kind s law b p view) z in
-        let f = found_somewhere (number_at w b) _ i e in
-        let g = found_somewhere (item_at w (byte_len w) b p) (found generic_kind controls cap (len_at w b p) (hash_of_calls hasher (calls q)) (λ j. accept (read j))) f.0 f.1 in
+        let f = option_map_some (number_at w b) _ i e in
+        let g = option_map_some (item_at w (byte_len w) b p) (found generic_kind controls cap (len_at w b p) (hash_of_calls hasher (calls q)) (λ j. accept (read j))) f.0 f.1 in
         absurd (none-some g.0 (subst (λ m. found generic_kind controls cap m (hash_of_calls hasher (calls q)) (λ j. accept (read j)) ≡ Some g.0) n g.1))
     | inr some ↦
-        let f = found_somewhere (number_at w b) _ i e in
-        let g = found_somewhere (item_at w (byte_len w) b p) (found generic_kind controls cap (len_at w b p) (hash_of_calls hasher (calls q)) (λ j. accept (read j))) f.0 f.1 in
+        let f = option_map_some (number_at w b) _ i e in
+        let g = option_map_some (item_at w (byte_len w) b p) (found generic_kind controls cap (len_at w b p) (hash_of_calls hasher (calls q)) (λ j. accept (read j))) f.0 f.1 in
         let ok = controls_accepted w (stored_index_spec w) (stored_index_element w kind) b p (table_there w kind s law b p view) (omega arith) in
         let there = found_walked generic_kind cap (len_at w b p) (hash_of_calls hasher (calls q)) controls word_lawful ok small (λ j. accept (read j)) g.0 g.1 in
         let is : read g.0 ≡ i = ap (number_at w b) g.2 ∙ f.2 in

@@ -5,6 +5,7 @@ use Rattle.std.specs.Option.{is_some}
 use Rattle.std.proofs.lemmas.Bool.{eq-eqb, ne_eqb}
 use Rattle.std.proofs.lemmas.Option.{none-some, same_Some}
 use Rattle.rkyv_table.specs.Table.Misplaced.{is_found_at}
+use Rattle.rkyv_table.proofs.Groups.{range_append}
 use Rattle.rkyv_index.specs.Index.IndexLayout.{indices_of}
 
 front_step : (t : Bool) (y x : ℕ) (r r' : Option ℕ) → (r ≡ Some x → r' ≡ Some x) → cond t (Some y) r ≡ Some x → cond t (Some y) r' ≡ Some x
@@ -18,17 +19,6 @@ none_step false y r r' s h e = h e
 below_step : (t : Bool) (y x m : ℕ) (r : Option ℕ) → y < m → (r ≡ Some x → x < m) → cond t (Some y) r ≡ Some x → x < m
 below_step true y x m r lt h e = subst (λ k. k < m) (same_Some y x e) lt
 below_step false y x m r lt h e = h e
-
--- the numbers of a range are those of its front and those behind it
-range_split : (a i m : ℕ) → range_with_len a (i + m) ≡ range_with_len a i ++ range_with_len (a + i) m
-range_split a zero m =
-    let z : 0 + m ≡ m = omega arith in
-    let y : a ≡ a + 0 = omega arith in
-    ap (range_with_len a) z ∙ ap (λ k. range_with_len k m) y
-range_split a (suc i) m =
-    let e : suc i + m ≡ suc (i + m) = omega arith in
-    let k : (a + 1) + i ≡ a + suc i = omega arith in
-    ap (range_with_len a) e ∙ ap (λ (xs : List ℕ). a ∷ xs) (range_split (a + 1) i m ∙ ap (λ n. range_with_len (a + 1) i ++ range_with_len n m) k)
 
 module _ (P : ℕ → Bool) where
   find-front : (xs ys : List ℕ) (x : ℕ) → find P xs ≡ Some x → find P (xs ++ ys) ≡ Some x
@@ -53,7 +43,7 @@ module _ (P : ℕ → Bool) where
     split =
         let e : n ≡ i + suc (n - (i + 1)) = omega arith in
         let z : 0 + i ≡ i = omega arith in
-        ap (range_with_len 0) e ∙ range_split 0 i (suc (n - (i + 1))) ∙ ap (λ k. indices_of i ++ range_with_len k (suc (n - (i + 1)))) z
+        ap (range_with_len 0) e ∙ range_append 0 i (suc (n - (i + 1))) ∙ ap (λ k. indices_of i ++ range_with_len k (suc (n - (i + 1)))) z
 
     by_front : (o : Option ℕ) → find P (indices_of i) ≡ o → not (is_found_at i (find P (indices_of n))) ≡ is_some o
     by_front None e =

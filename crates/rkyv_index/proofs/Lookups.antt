@@ -60,34 +60,26 @@ module _ {K V H W P N : Type 0} {ks : Specs K} {vs : Specs V} {ts : Specs P} {wt
   bytes_same : table_bytes t ≡ index_bytes m
   bytes_same = ap (λ (x : Bor (List ℕ)). x.now) at.0
 
+  -- a function of the size, the bytes and the position of the table is one of those of the map
+  table_is : {X : Type 0} (F : ℕ → List ℕ → ℕ → X) → F ts.spec.size (table_bytes t) (table_pos t) ≡ F (byte_len w) (index_bytes m) (index_pos m)
+  table_is F = ap (λ n. F n (table_bytes t) (table_pos t)) size_is ∙ ap (λ (x : List ℕ). F (byte_len w) x (table_pos t)) bytes_same ∙ ap (F (byte_len w) (index_bytes m)) at.1
+
   found_is : (hash : ℕ) (accept : ℕ → Bool) → pos_found generic_kind w ts.spec.size (table_bytes t) (table_pos t) hash accept
       ≡ pos_found generic_kind w (byte_len w) (index_bytes m) (index_pos m) hash accept
-  found_is hash accept =
-      ap (λ n. pos_found generic_kind w n (table_bytes t) (table_pos t) hash accept) size_is
-      ∙ ap (λ (x : List ℕ). pos_found generic_kind w (byte_len w) x (table_pos t) hash accept) bytes_same
-      ∙ ap (λ q. pos_found generic_kind w (byte_len w) (index_bytes m) q hash accept) at.1
+  found_is hash accept = table_is (λ n x q. pos_found generic_kind w n x q hash accept)
 
   end_is : (hash : ℕ) (accept : ℕ → Bool) → lookup_end generic_kind w ts.spec.size (table_bytes t) (table_pos t) hash accept
       ≡ lookup_end generic_kind w (byte_len w) (index_bytes m) (index_pos m) hash accept
-  end_is hash accept =
-      ap (λ n. lookup_end generic_kind w n (table_bytes t) (table_pos t) hash accept) size_is
-      ∙ ap (λ (x : List ℕ). lookup_end generic_kind w (byte_len w) x (table_pos t) hash accept) bytes_same
-      ∙ ap (λ q. lookup_end generic_kind w (byte_len w) (index_bytes m) q hash accept) at.1
+  end_is hash accept = table_is (λ n x q. lookup_end generic_kind w n x q hash accept)
 
   homes_are : (homes : List ℕ) → home_positions w ts.spec.size (table_bytes t) (table_pos t) homes ≡ home_positions w (byte_len w) (index_bytes m) (index_pos m) homes
-  homes_are homes =
-      ap (λ n. home_positions w n (table_bytes t) (table_pos t) homes) size_is
-      ∙ ap (λ (x : List ℕ). home_positions w (byte_len w) x (table_pos t) homes) bytes_same
-      ∙ ap (λ q. home_positions w (byte_len w) (index_bytes m) q homes) at.1
+  homes_are homes = table_is (λ n x q. home_positions w n x q homes)
 
   -- an item of the table is in a full bucket of the map
   item_there : (h : View P) → IsItem t h → (i : ℕ) × IsWalked w (index_bytes m) (index_pos m) i × (h.pos ≡ item_at w (byte_len w) (index_bytes m) (index_pos m) i)
   item_there h item =
       let walked = subst (λ q. IsWalked w (index_bytes m) q item.0) at.1 (subst (λ (x : List ℕ). IsWalked w x (table_pos t) item.0) bytes_same item.1.walked) in
-      let pos = item.1.pos ∙ ap (λ n. item_at w n (table_bytes t) (table_pos t) item.0) size_is
-      ∙ ap (λ (x : List ℕ). item_at w (byte_len w) x (table_pos t) item.0) bytes_same
-      ∙ ap (λ q. item_at w (byte_len w) (index_bytes m) q item.0) at.1 in
-      (item.0, walked, pos)
+      (item.0, walked, item.1.pos ∙ table_is (λ n x q. item_at w n x q item.0))
 
   -- an item of the table is read in the archive of the map
   pub read_there : (h : View P) → IsItem t h → bytes_of h ≡ index_bytes m

@@ -20,7 +20,7 @@ use Rattle.rkyv_base.specs.Sealing.{Keeps, Outside, Sealed, value_pos}
 use Rattle.rkyv_base.specs.ElementSpec.{ElementSpec, IsElement, Viewable}
 use Rattle.rkyv_base.specs.Text.{IsArchiveWord}
 use Rattle.rkyv_base.proofs.Sealing.{entry_kept, same_outside, sealed_wider, valid_outside, viewable_kept}
-use Rattle.rkyv_keys.specs.QueryLaws.{RestsOnKeys}
+use Rattle.rkyv_keys.specs.QueryLaws.{HashLocal, RestsOnKeys}
 use Rattle.rkyv_table.specs.Table.Header.{cap_at, len_at}
 use Rattle.rkyv_table.specs.Controls.Finding.{found}
 use Rattle.rkyv_table.specs.Controls.Numbers.{capacity}
@@ -43,7 +43,7 @@ use Rattle.rkyv_table.specs.Lemmas.SameControls.{same_controls}
 use Rattle.rkyv_scan.specs.Hash.{Hasher, HasherCall, hash_of_calls}
 use Rattle.rkyv_keys.specs.Equality.{Comparison}
 use Rattle.rkyv_keys.specs.Keys.{IsKey}
-use Rattle.rkyv_index.specs.Lemmas.IndexLocal.{HashLocal, written_again}
+use Rattle.rkyv_index.specs.Lemmas.IndexLocal.{written_again}
 use Rattle.rkyv_index.specs.Index.SealedIndex.{IsPairPos}
 use Rattle.rkyv_index.specs.Index.ValueWrites.{KeepsEntries, KeepsIndexMap, index_kind, pair_at}
 use Rattle.rkyv_index.proofs.ValidIndexMap.{begin_is, entries_inside, entry_viewable, index_below, table_there}

@@ -1,5 +1,5 @@
 -- Laws of native keys and queries on written keys.
-use Rattle.std.specs.Prelude.{◌≡◌, ℕ, ◌+◌, Bool, List}
+use Rattle.std.specs.Prelude.{◌≡◌, ℕ, ◌+◌, ◌≤◌, Bool, List}
 use Rattle.rkyv_scan.specs.Hash.{HasherCall}
 use Rattle.rkyv_base.specs.Bytes.{AgreeOn}
 use Rattle.rkyv_base.specs.ElementSpec.{ElementSpec, ValidAt}
@@ -26,3 +26,14 @@ RestsOnKeys {Q = Q} s can_read fits =
     (q : Q) (b c : List ℕ) (p l : ℕ) → can_read q → s.is_valid b p 0 p l
     → AgreeOn b c p (p + s.size)
     → AgreeOn b c 0 l → fits q c p ≡ fits q b p
+
+-- the hash of a key depends only on the bytes on which the validity of the key depends
+abbrev pub HashLocal : ElementSpec → (List ℕ → ℕ → ℕ) → Type 0
+HashLocal k hash = (b c : List ℕ) (q lo hi l : ℕ) → lo ≤ hi → k.is_valid b q lo hi l
+    → AgreeOn b c q (q + k.size) → AgreeOn b c lo l → hash b q ≡ hash c q
+
+-- a valid key that represents a value has the hash of the value
+abbrev pub HashesAlike : {A : Type 0} → ElementSpec → (List ℕ → ℕ → A → Type 0) → (List ℕ → ℕ → ℕ)
+    → (A → ℕ) → Type 0
+HashesAlike {A = A} k key hash own =
+    (a : A) (b : List ℕ) (q : ℕ) → ValidAt k b q → key b q a → own a ≡ hash b q

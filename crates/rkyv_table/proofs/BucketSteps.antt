@@ -1,8 +1,7 @@
 -- One bucket more written.
-use Rattle.std.proofs.Common.{◌≡◌, ℕ, ◌+◌, ◌-◌, ◌<◌, ◌≤◌, refl, sym, ap, ◌∙◌, subst, arith, inl, inr, List, [], ◌∷◌, ◌++◌, length, get_or, take, drop, Option, Some, None, add-one, append-nil, append_assoc}
+use Rattle.std.proofs.Common.{◌≡◌, ℕ, ◌+◌, ◌-◌, ◌<◌, ◌≤◌, refl, sym, ap, ◌∙◌, subst, arith, inl, inr, List, [], ◌∷◌, ◌++◌, length, get_or, take, drop, Option, Some, None, append-nil, append_assoc}
 use Rattle.std.specs.Prelude.{IfSome, slice_get}
-use Rattle.std.proofs.lemmas.List.{drop_all, get_or_default, length-replicate, length_push, take_all, take_more}
-use Rattle.std.proofs.Math.Seq.{drop-cons}
+use Rattle.std.proofs.lemmas.List.{drop_all, drop_more, get_or_default, length-replicate, length_push, nil_from_length, take_all, take_more}
 use Rattle.std.proofs.lemmas.Option.{slice_get-get_or}
 use Rattle.rkyv_base.specs.declared.errors.WriteError.{WriteError}
 use Rattle.rkyv_base.specs.declared.errors.WriteError.TheVariants.{DistanceTooLarge}
@@ -11,13 +10,6 @@ use Rattle.rkyv_base.specs.Format.{Format}
 use Rattle.rkyv_base.proofs.WritingSteps.{appends_after, end-appends, fails_after, grows, none_appended}
 use Rattle.rkyv_table.specs.Table.Slots.{BucketNext, BucketOverflows, Filled, SlotImages, WroteBuckets, filled}
 use Rattle.rkyv_table.proofs.PartSteps.{filled-append}
-
-drop_at : {A : Type 0} (xs : List A) (i : ℕ) (d : A) → i < length xs → drop i xs ≡ get_or xs i d ∷ drop (i + 1) xs
-drop_at xs i d h = drop-cons xs i d h ∙ ap (λ n. get_or xs i d ∷ drop n xs) (sym (add-one i))
-
-none_left : {A : Type 0} (xs : List A) → length xs ≡ 0 → xs ≡ []
-none_left [] h = refl
-none_left (x ∷ xs) h = absurd (omega arith)
 
 module _ {X R : Type 0} (size limit : ℕ) (f : Format X R) (slots : List (Option X)) (rs : List R) (o : Output) where
   -- the buckets from `i` on are written, and `left` are the resolvers of the other items
@@ -50,7 +42,7 @@ module _ {X R : Type 0} (size limit : ℕ) (f : Format X R) (slots : List (Optio
           done = d.done;
           inside = omega arith;
           appended = appends_after o o1 o2 d.out (zeros size) d.appended a;
-          images = rw (drop_at slots i None q, e) (d.out, subst (λ k. SlotImages size f (drop (i + 1) slots) d.done k d.out) (sym n) d.images, refl);
+          images = rw (drop_more slots i None q, e) (d.out, subst (λ k. SlotImages size f (drop (i + 1) slots) d.done k d.out) (sym n) d.images, refl);
           all = d.all;
           count = (let t : filled (take (i + 1) slots) ≡ filled (take i slots) + 0 = rw (take_more slots i None q, e) (filled-append (take i slots) (None ∷ [])) in let c = d.count in omega arith);
           within = lim;
@@ -81,7 +73,7 @@ module _ {X R : Type 0} (size limit : ℕ) (f : Format X R) (slots : List (Optio
           done = r ∷ d.done;
           inside = omega arith;
           appended = appends_after o o1 o2 d.out one d.appended a;
-          images = rw (drop_at slots i None q, e) (
+          images = rw (drop_more slots i None q, e) (
             r,
             d.done,
             d.out,
@@ -140,5 +132,5 @@ module _ {X R : Type 0} (size limit : ℕ) (f : Format X R) (slots : List (Optio
 
   pub down_end : (left : List R) (o1 : Output) → Down 0 left o1 → WroteBuckets size f limit slots rs o o1
   down_end left o1 d =
-      let e : left ≡ [] = none_left left d.count in
+      let e : left ≡ [] = nil_from_length left d.count in
       (d.out, (d.appended, d.within), subst (λ z. SlotImages size f slots z (end_of o1) d.out) (sym (d.all ∙ ap (λ (z : List R). z ++ d.done) e)) d.images)

@@ -1,6 +1,6 @@
 -- Lists made by `filter`, `map` and `range_with_len`: membership, distinctness, and
 -- the first that passes.
-use Rattle.std.proofs.Common.{◌≡◌, ◌≢◌, ℕ, zero, suc, ◌+◌, ◌<◌, ◌≤◌, inl, inr, refl, sym, ap, subst, ◌∙◌, arith, List, [], ◌∷◌, Bool, true, false, ◌&&◌, ◌||◌, eqb, filter, get_or, length, map, Some, None}
+use Rattle.std.proofs.Common.{◌≡◌, ◌≢◌, ℕ, zero, suc, ◌+◌, ◌<◌, ◌≤◌, inl, inr, refl, sym, ap, subst, ◌∙◌, arith, List, [], ◌∷◌, Bool, true, false, ◌&&◌, ◌||◌, eqb, filter, get_or, length, map, Option, Some, None}
 use Rattle.std.specs.Prelude.{slice_get, slice_set}
 use Rattle.std.specs.List.{AllByRecursion, Contains, IsDistinct, find, flat_map, list_any, range_with_len}
 use Rattle.std.specs.Option.{option_map}
@@ -10,6 +10,11 @@ use Rattle.std.proofs.lemmas.List.Folds.{Any-from_list_any, list_any-append, lis
 use Rattle.std.proofs.lemmas.Bool.{cases_eq, cases_Bool, eqb-true, eq-eqb, ne_eqb, or_parts, or_left, or_right, or_from, false≢true}
 use Rattle.std.proofs.lemmas.Option.{get_or_from_slice_get, none-some, same_Some, slice_get-get_or, slice_get_within}
 use Rattle.std.proofs.lemmas.Map.Keys.{IsDistinct-from_apart}
+
+-- the image of an option is `Some` of the image of its item
+pub option_map_some : {A B : Type 0} (f : A → B) (o : Option A) (y : B) → option_map f o ≡ Some y → (x : A) × (o ≡ Some x) × (f x ≡ y)
+option_map_some f None y e = absurd (none-some y e)
+option_map_some f (Some x) y e = (x, refl, same_Some (f x) y e)
 
 -- ---- membership
 

@@ -11,6 +11,7 @@ use Rattle.std.proofs.lemmas.Map.Made.{length-from_same_keys}
 use Rattle.std.proofs.lemmas.Option.{none-some, same_Some, slice_get-get_or}
 use Rattle.std.proofs.lemmas.Bool.{cases_Bool, cases_eq, cases_lt, and_parts, and_from, eq-eqb, eqb-true, ne_eqb, not-false, or_left, or_right, true≢false}
 use Rattle.rkyv_scan.specs.Groups.{IsKind, Kind, is_full}
+use Rattle.rkyv_scan.proofs.Indices.{range_agree}
 use Rattle.rkyv_table.specs.Controls.Finding.{candidates, ends_at, found, marked}
 use Rattle.rkyv_table.specs.Table.Misplaced.{AcceptsSame, AloneAccepted, IsSameness, NoneAccepted, is_found_at, is_misplaced, misplaced, repeated, repeats_earlier}
 use Rattle.rkyv_table.specs.Controls.Numbers.{tag}
@@ -19,7 +20,6 @@ use Rattle.rkyv_table.specs.Controls.Probe.{strides}
 use Rattle.rkyv_table.proofs.Lists.{any_filter, any_map_filter, any_member, contains_member, distinct_filter, member_contains, some_find}
 use Rattle.rkyv_table.proofs.Lookup.{found_is, marked_walked}
 use Rattle.rkyv_table.proofs.Search.{cases_option, found_along, found_along_cons}
-use Rattle.rkyv_table.proofs.Walks.{filter_agree_range}
 use Rattle.rkyv_table.proofs.Written.{first_within, found_written, tag_small}
 use Rattle.rkyv_table.proofs.WrittenAccepted.{distinct_homes, distinct_range, full_home, homes_apart}
 
@@ -110,9 +110,9 @@ none_filtered P xs x e m = elim (cases_Bool (P x)) [
       absurd (true≢false (sym k ∙ ap (list_any (eqb x)) n))
 ]
 
-finds_is : (b : ℕ) (o : Option ℕ) → is_found_at b o ≡ true → o ≡ Some b
-finds_is b None e = absurd (true≢false (sym e))
-finds_is b (Some x) e = ap Some (sym (eqb-true b x e))
+pub found_at_is : (b : ℕ) (o : Option ℕ) → is_found_at b o ≡ true → o ≡ Some b
+found_at_is b None e = absurd (true≢false (sym e))
+found_at_is b (Some x) e = ap Some (sym (eqb-true b x e))
 
 module _ (kind : Kind) (cap len hash : ℕ) (controls : List ℕ) (accept : ℕ → Bool) (hash_at : ℕ → ℕ) (same_at : ℕ → ℕ → Bool) (law : IsKind kind) (accepted : AreValidControls cap len controls)
     (fits : hash < 2 ^ 64) (none : misplaced kind controls cap len hash_at same_at ≡ 0) (accepts_same : AcceptsSame controls cap hash accept hash_at same_at) where
@@ -121,7 +121,7 @@ module _ (kind : Kind) (cap len hash : ℕ) (controls : List ℕ) (accept : ℕ 
       let P = is_misplaced kind controls cap len hash_at same_at in
       let f : P b ≡ false = none_filtered P (walk controls cap) b none (contains_member b (walk controls cap) here) in
       let own : found kind controls cap len (hash_at b) (same_at b) ≡ Some b =
-      finds_is b (found kind controls cap len (hash_at b) (same_at b)) (not-false (is_found_at b (found kind controls cap len (hash_at b) (same_at b))) f) in
+      found_at_is b (found kind controls cap len (hash_at b) (same_at b)) (not-false (is_found_at b (found kind controls cap len (hash_at b) (same_at b))) f) in
       found_agree kind cap len hash controls law accepted fits accept (same_at b) (λ d there. accepts_same.same b d here there ok)
       ∙ ap (λ z. found kind controls cap len z (same_at b)) (sym (accepts_same.hashed b here ok)) ∙ own
 
@@ -224,4 +224,4 @@ module _ (kind : Kind) (cap : ℕ) (hashes homes controls : List ℕ) (hash_at :
       (distinct_filter P homes (distinct_homes cap hashes homes w.placed))
       (λ q. any_filter q P (walk controls cap) ∙ ap (λ t. t && P q) (full_home cap hashes homes controls q (omega arith) w fits) ∙ sym (any_filter q P homes)) in
       d ∙ ap (λ xs. length (filter P xs)) (by_indices homes) ∙ filter_map_length P (λ i. get_or homes i 0) (range_with_len 0 n)
-      ∙ ap length (filter_agree_range (λ i. P (get_or homes i 0)) (repeats_earlier same_at homes) 0 n (λ i from to. own_is i (omega (arith, to))))
+      ∙ ap length (range_agree (λ i. P (get_or homes i 0)) (repeats_earlier same_at homes) 0 n (λ i from to. own_is i (omega (arith, to))))

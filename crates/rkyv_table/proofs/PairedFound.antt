@@ -4,11 +4,11 @@ use Rattle.std.specs.List.{find, list_any, position_or_len}
 use Rattle.std.specs.Option.{option_and_then}
 use Rattle.rkyv_scan.specs.Groups.{generic_kind, is_word_match_at}
 use Rattle.rkyv_scan.specs.Paired.{paired_kind}
+use Rattle.rkyv_scan.proofs.Indices.{range_agree}
 use Rattle.rkyv_table.specs.Controls.Finding.{candidates, end, found, marked, stride_has_empty}
 use Rattle.rkyv_table.specs.Controls.Numbers.{tag}
 use Rattle.rkyv_table.specs.Controls.Probe.{strides}
 use Rattle.rkyv_table.proofs.Groups.{group_of}
-use Rattle.rkyv_table.proofs.Walks.{filter_agree_range}
 
 marked_alike : (controls : List ℕ) (t p q : ℕ) → p ≤ q → q < p + 16 → marked paired_kind controls t p q ≡ marked generic_kind controls t p q
 marked_alike controls t p q lo hi =
@@ -24,7 +24,7 @@ marked_alike controls t p q lo hi =
 candidates_alike : (controls : List ℕ) (cap t p : ℕ) → candidates paired_kind controls cap t p ≡ candidates generic_kind controls cap t p
 unfolding candidates
 candidates_alike controls cap t p =
-    ap (map (λ q. q % cap)) (filter_agree_range (marked paired_kind controls t p) (marked generic_kind controls t p) p 16 (λ q lo hi. marked_alike controls t p q lo hi))
+    ap (map (λ q. q % cap)) (range_agree (marked paired_kind controls t p) (marked generic_kind controls t p) p 16 (λ q lo hi. marked_alike controls t p q lo hi))
 
 pub found_paired : (controls : List ℕ) (cap len hash : ℕ) (accept : ℕ → Bool) → found paired_kind controls cap len hash accept ≡ found generic_kind controls cap len hash accept
 found_paired controls cap len hash accept =

@@ -7,6 +7,7 @@ use Rattle.std.proofs.lemmas.List.{take-append-le, take_all}
 use Rattle.std.proofs.Math.Nat.{mul-le-mul_right}
 use Rattle.std.proofs.lemmas.List.Elements.{All-head, All-rest, All-same, filter-append}
 use Rattle.rkyv_scan.specs.Groups.{indices_where}
+use Rattle.rkyv_scan.proofs.Indices.{range_agree}
 use Rattle.rkyv_table.specs.Controls.Numbers.{control_count}
 use Rattle.rkyv_table.specs.Controls.Placing.{walk}
 use Rattle.rkyv_table.specs.Table.RawItems.{IsAhead, IsRawIter, buckets_left, marked_left, pos_before, positions_left}
@@ -14,7 +15,7 @@ use Rattle.rkyv_table.specs.Controls.Walking.{full_from}
 use Rattle.rkyv_table.proofs.FirstFree.{head_filter}
 use Rattle.rkyv_table.proofs.Groups.{filter_shift, range_append}
 use Rattle.rkyv_table.proofs.Lists.{first_range}
-use Rattle.rkyv_table.proofs.Walks.{filter_agree_range, walk_small}
+use Rattle.rkyv_table.proofs.Walks.{walk_small}
 
 head_marked : (controls : List ℕ) (base j : ℕ) (marks : List ℕ) → Some j ≡ slice_get marks 0 → marked_left controls base marks ≡ (base + j) ∷ marked_left controls base (drop 1 marks)
 unfolding marked_left
@@ -41,7 +42,7 @@ pub group_read : (controls : List ℕ) (base w : ℕ) (marks : List ℕ) → mar
     → marks ≡ filter (λ j. ltb (get_or controls (base + j) 0) 128) (range_with_len 0 w)
 unfolding indices_where
 group_read controls base w marks e =
-    e ∙ filter_agree_range (λ j. ltb (get_or (take w (drop base controls)) j 0) 128) (λ j. ltb (get_or controls (base + j) 0) 128) 0 w
+    e ∙ range_agree (λ j. ltb (get_or (take w (drop base controls)) j 0) 128) (λ j. ltb (get_or controls (base + j) 0) 128) 0 w
     (λ j lo hi. ap (λ x. ltb x 128) (get_or-take w (drop base controls) j 0 (omega arith) ∙ get_or-drop base controls j 0))
 
 -- a group that is read anew

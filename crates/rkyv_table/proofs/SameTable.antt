@@ -1,16 +1,11 @@
 -- Two archives with the same bytes of a table have the same table.
-use Rattle.std.proofs.Common.{◌≡◌, ℕ, ◌+◌, ◌-◌, ◌*◌, ◌<◌, ◌∙◌, inl, inr, sym, ap, subst, arith, List, length, map}
+use Rattle.std.proofs.Common.{◌≡◌, ℕ, ◌+◌, ◌*◌, ◌<◌, ◌∙◌, inl, inr, sym, subst, arith, List, length}
 use Rattle.std.specs.Int.{Width, byte_len}
 use Rattle.rkyv_base.specs.Bytes.{AgreeOn}
 use Rattle.rkyv_table.specs.Controls.Placing.{Written}
-use Rattle.rkyv_table.specs.Lemmas.SameHeader.{cap_same, len_same, pos_same}
+use Rattle.rkyv_table.specs.Lemmas.SameHeader.{cap_same, len_same}
 use Rattle.rkyv_table.specs.Table.Header.{cap_at}
-use Rattle.rkyv_table.specs.Table.Positions.{WrittenAt, item_at, table_controls}
-
--- the positions of the items depend on the header alone
-module _ (w : Width) (size : ℕ) (b c : List ℕ) (p : ℕ) (fixed : AgreeOn b c p (p + 3 * byte_len w)) where
-  pub same_items : (is : List ℕ) → map (item_at w size b p) is ≡ map (item_at w size c p) is
-  same_items is = ap (λ z. map (λ i. z - (i + 1) * size) is) (pos_same w b c p fixed)
+use Rattle.rkyv_table.specs.Table.Positions.{WrittenAt, table_controls}
 
 -- a table that was written under some hashes is so in bytes with the same header and control bytes
 pub written_there : (w : Width) (b c : List ℕ) (p : ℕ) → AgreeOn b c p (p + 3 * byte_len w) → (0 < cap_at w b p → table_controls w b p ≡ table_controls w c p)

@@ -1,11 +1,12 @@
 -- The steps of a cursor that writes items in place.
 use Rattle.rkyv_base.specs.declared.element.HasSpec.{Ghosts as Specs}
 use Rattle.rkyv_base.specs.declared.width.Word.{Ghosts as Words}
-use Rattle.std.proofs.Common.{◌≡◌, ℕ, ◌+◌, ◌-◌, ◌*◌, ◌<◌, ◌≤◌, suc, inl, inr, refl, sym, ap, subst, ◌∙◌, arith, List, [], ◌∷◌, length, slice_index, slice_range, take, drop, get_or-take}
+use Rattle.std.proofs.Common.{◌≡◌, ℕ, ◌+◌, ◌-◌, ◌*◌, ◌<◌, ◌≤◌, suc, inl, inr, refl, sym, ap, subst, ◌∙◌, arith, List, ◌∷◌, length, slice_index, slice_range, take, drop, get_or-take}
 use Rattle.std.specs.Int.{Width}
 use Rattle.std.proofs.lemmas.Bool.{cases_eq, le-ltb, lt-ltb}
 use Rattle.rkyv_base.specs.ElementSpec.{ElementSpec, IsElement, Viewable}
 use Rattle.rkyv_scan.specs.Groups.{is_full}
+use Rattle.rkyv_scan.proofs.Indices.{range_agree}
 use Rattle.rkyv_table.specs.Table.Header.{cap_at, controls_pos, len_at}
 use Rattle.rkyv_table.specs.Controls.Numbers.{control_count}
 use Rattle.rkyv_table.specs.Table.RawItems.{pos_before}
@@ -28,7 +29,7 @@ use Rattle.rkyv_table.specs.declared.table.raw_iter_seal.RawIterSeal.{RawIterSea
 use Rattle.rkyv_table.proofs.ValidTable.{controls_inside, item_before, item_viewable}
 use Rattle.rkyv_table.proofs.RawWalks.{walk_count}
 use Rattle.rkyv_table.proofs.SealedTable.{table_kept}
-use Rattle.rkyv_table.proofs.Walks.{filter_agree_range, whole_walk}
+use Rattle.rkyv_table.proofs.Walks.{full_end, whole_walk}
 
 pub full_taken : (controls : List ℕ) (cap b : ℕ) → b < cap → slice_index controls b < 128 → full_from controls cap b ≡ b ∷ full_from controls cap (b + 1)
 unfolding full_from
@@ -43,10 +44,6 @@ full_skipped controls cap b h empty =
     let e : cap - b ≡ suc (cap - (b + 1)) = omega arith in
     let t = le-ltb (slice_index controls b) 128 empty in
     rw (e, t) refl
-
-pub full_end : (controls : List ℕ) (cap b : ℕ) → cap ≤ b → full_from controls cap b ≡ []
-unfolding full_from
-full_end controls cap b h = let e : cap - b ≡ 0 = omega arith in rw e refl
 
 -- the control bytes of the buckets are the front of all control bytes
 front_same : (xs : List ℕ) (n m i : ℕ) → i < n → i < m → slice_index (take n xs) i ≡ slice_index (take m xs) i
@@ -87,7 +84,7 @@ module _ {T : Type 0} (w : Width) (s : ElementSpec) (law : IsElement s) (p : ℕ
   pub full_same : 0 < r.left → (x : ℕ) → full_from controls r.cap x ≡ full_from (table_controls w bytes p) r.cap x
   unfolding full_from
   full_same h x =
-      filter_agree_range (λ q. is_full (slice_index controls q)) (λ q. is_full (slice_index (table_controls w bytes p) q)) x (r.cap - x)
+      range_agree (λ q. is_full (slice_index controls q)) (λ q. is_full (slice_index (table_controls w bytes p) q)) x (r.cap - x)
       (λ j from to. ap is_full (control_same h j (omega arith)))
 
   pub bucket_before : 0 < r.left → (i : ℕ) → i < r.cap → (i + 1) * s.size ≤ r.buckets_end

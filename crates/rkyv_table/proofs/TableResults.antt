@@ -1,6 +1,6 @@
 -- The result of writing a table, by the results of placing and writing.
 use Rattle.std.proofs.Common.{arith, inl, inr, refl, sym}
-use Rattle.std.specs.Prelude.{◌≡◌, ℕ, ◌^◌, ◌<◌, List, [], ◌∷◌, length}
+use Rattle.std.specs.Prelude.{◌≡◌, ℕ, ◌^◌, ◌<◌, List, [], length}
 use Rattle.std.specs.Int.{Width}
 use mir.Val.{bits}
 use Rattle.rkyv_base.specs.declared.errors.WriteError.{WriteError}
@@ -20,10 +20,6 @@ use Rattle.rkyv_table.specs.Table.PlacedItems.{Placed}
 pub capacity_fits : {word : Width} {limit table index align text text_limit : ℕ} (len : ℕ) (load_factor : ℕ × ℕ) (max : ℕ) → IsLayout word limit max table index align text text_limit
     → HasCapacity len load_factor max → capacity len load_factor < 2 ^ bits word
 capacity_fits len load_factor max l has = omega (arith, has.1, l.capacity_small, l.limit_fits)
-
-no_pairs : {X : Type 0} (xs : List X) → length xs ≡ 0 → xs ≡ []
-no_pairs [] e = refl
-no_pairs (x ∷ xs) e = absurd (omega (arith, e))
 
 module _ {X R : Type 0} (yields : List (ℕ × X) → Type 0) (len : ℕ) (load_factor : ℕ × ℕ) (max : ℕ) (w : Width) (s : ElementSpec) (f : Format X R) (o o' : Output) (limit : ℕ)
     (has : HasCapacity len load_factor max) where

@@ -1,5 +1,5 @@
 -- The steps of a walk.
-use Rattle.std.proofs.Common.{◌≡◌, ℕ, zero, suc, ◌+◌, ◌-◌, ◌<◌, ◌≤◌, inl, inr, refl, sym, ap, ◌∙◌, arith, List, [], ◌∷◌, ◌++◌, Bool, true, false, eqb, ltb, map, filter, drop, take, length, get_or, Some, None, get_or-take, get_or-drop}
+use Rattle.std.proofs.Common.{◌≡◌, ℕ, zero, suc, ◌+◌, ◌-◌, ◌<◌, ◌≤◌, inl, inr, refl, sym, ap, ◌∙◌, arith, List, [], ◌∷◌, ◌++◌, Bool, true, eqb, ltb, map, filter, drop, take, length, get_or, Some, None, get_or-take, get_or-drop}
 use Rattle.std.specs.List.{Contains, list_any, range_with_len, slice_get}
 use Rattle.std.proofs.lemmas.Bool.{and_from, and_parts, cases_Bool, cases_eq, cases_lt, eq-eqb, le-ltb, lt-ltb, ltb-true}
 use Rattle.std.proofs.lemmas.Option.{none-some, same_Some}
@@ -8,18 +8,12 @@ use Rattle.std.proofs.lemmas.List.FromFn.{length-range_with_len}
 use Rattle.rkyv_table.specs.Controls.Numbers.{control_count}
 use Rattle.rkyv_table.specs.Controls.Placing.{walk}
 use Rattle.rkyv_scan.specs.Groups.{indices_where}
+use Rattle.rkyv_scan.proofs.Indices.{range_agree, range_none}
 use Rattle.rkyv_table.specs.Controls.Walking.{IsWalk, first_index, full_from, left}
 use Rattle.rkyv_table.proofs.Groups.{filter_shift}
 use Rattle.rkyv_table.proofs.FirstFree.{head_filter}
 use Rattle.rkyv_table.proofs.Lists.{FirstIn, any_filter, any_range, contains_member, first_range, in_range, member_contains}
 use Rattle.rkyv_table.specs.Controls.ControlBytes.{IsFullBucket}
-
-pub filter_agree_range : (P Q : ℕ → Bool) (a n : ℕ) → ((j : ℕ) → a ≤ j → j < a + n → P j ≡ Q j) → filter P (range_with_len a n) ≡ filter Q (range_with_len a n)
-filter_agree_range P Q a zero h = refl
-filter_agree_range P Q a (suc n) h =
-    let e = h a (omega arith) (omega arith) in
-    let ih = filter_agree_range P Q (a + 1) n (λ j lo hi. h j (omega arith) (omega arith)) in
-    rw (e, ih) refl
 
 cut : (F : ℕ → Bool) (cap a n : ℕ) → filter (λ q. ltb q cap) (filter F (range_with_len a n)) ++ filter F (range_with_len (a + n) (cap - (a + n))) ≡ filter F (range_with_len a (cap - a))
 cut F cap a zero = let e : a + 0 ≡ a = omega arith in rw e refl
@@ -145,17 +139,13 @@ keeps_walk controls cap base width j indices rest is e r =
 
 -- ---- the end
 
-none_full : (F : ℕ → Bool) (a n : ℕ) → ((q : ℕ) → a ≤ q → q < a + n → F q ≡ false) → filter F (range_with_len a n) ≡ []
-none_full F a zero h = refl
-none_full F a (suc n) h = rw (h a (omega arith) (omega arith)) (none_full F (a + 1) n (λ q lo hi. h q (omega arith) (omega arith)))
-
 pub ends_past : (controls : List ℕ) (cap base width j : ℕ) (indices : List ℕ) → WalkFrom controls cap base width indices → Some j ≡ slice_get indices 0 → cap ≤ base + j → left controls cap base width indices ≡ []
 unfolding full_from
 ends_past controls cap base width j indices w e h =
     let f = first_left controls cap base width j indices w e in
     let lo = f.from in
     left_is controls cap base width indices w
-    ∙ none_full (λ q. ltb (get_or controls q 0) 128) (base + w.next) (cap - (base + w.next)) (λ q l u.
+    ∙ range_none (λ q. ltb (get_or controls q 0) 128) (base + w.next) (cap - (base + w.next)) (λ q l u.
     let n = f.no (q - base) (omega arith) (omega arith) in
     let b : base + (q - base) ≡ q = omega arith in
     rw b at n)
@@ -168,15 +158,15 @@ pub left_none : (controls : List ℕ) (cap base width : ℕ) (indices : List ℕ
 unfolding left
 left_none controls cap base width indices e = ap (λ xs. filter (λ q. ltb q cap) (map (λ j. base + j) xs) ++ full_from controls cap (base + width)) (no_indices indices e)
 
-past_end : (controls : List ℕ) (cap b : ℕ) → cap ≤ b → full_from controls cap b ≡ []
+pub full_end : (controls : List ℕ) (cap b : ℕ) → cap ≤ b → full_from controls cap b ≡ []
 unfolding full_from
-past_end controls cap b h = let e : cap - b ≡ 0 = omega arith in rw e refl
+full_end controls cap b h = let e : cap - b ≡ 0 = omega arith in rw e refl
 
 pub ends_last : (controls : List ℕ) (cap base width : ℕ) (indices : List ℕ) → None ≡ slice_get indices 0 → cap ≤ base + width → left controls cap base width indices ≡ []
-ends_last controls cap base width indices e h = left_none controls cap base width indices e ∙ past_end controls cap (base + width) h
+ends_last controls cap base width indices e h = left_none controls cap base width indices e ∙ full_end controls cap (base + width) h
 
 pub ends_full : (controls : List ℕ) (cap base width : ℕ) (indices : List ℕ) → WalkFrom controls cap base width indices → cap ≤ base → left controls cap base width indices ≡ []
-ends_full controls cap base width indices w h = left_is controls cap base width indices w ∙ past_end controls cap (base + w.next) (omega arith)
+ends_full controls cap base width indices w h = left_is controls cap base width indices w ∙ full_end controls cap (base + w.next) (omega arith)
 
 -- ---- a group
 
@@ -189,7 +179,7 @@ group_walk controls g cap base width indices n h e p =
       below = h;
       next = 0;
       inside = omega arith;
-      marks = p ∙ filter_agree_range (λ j. ltb (get_or g j 0) 128) (λ j. ltb (get_or controls (base + j) 0) 128) 0 width (λ j lo hi.
+      marks = p ∙ range_agree (λ j. ltb (get_or g j 0) 128) (λ j. ltb (get_or controls (base + j) 0) 128) 0 width (λ j lo hi.
           let x = get_or-take width (drop base controls) j 0 (omega arith) in
           let y = get_or-drop base controls j 0 in
           rw (e, x, y) refl)

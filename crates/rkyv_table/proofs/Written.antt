@@ -1,5 +1,5 @@
 -- A lookup in written control bytes finds the first accepted home bucket.
-use Rattle.std.proofs.Common.{◌≡◌, ℕ, ◌+◌, ◌*◌, ◌%◌, ◌^◌, ◌<◌, ◌≤◌, inl, inr, refl, sym, ap, ◌∙◌, arith, List, [], ◌∷◌, Bool, true, false, ◌&&◌, eqb, ltb, leb, length, get_or, take, map, Option, Some, None, get_or-take, length-take}
+use Rattle.std.proofs.Common.{◌≡◌, ℕ, ◌+◌, ◌*◌, ◌%◌, ◌^◌, ◌<◌, ◌≤◌, inl, inr, refl, sym, ap, ◌∙◌, arith, List, [], ◌∷◌, Bool, true, false, ◌&&◌, eqb, ltb, leb, length, get_or, take, map, Some, None, get_or-take, length-take}
 use Rattle.std.specs.List.{find, flat_map, list_any, position_or_len, range_with_len}
 use Rattle.std.specs.Option.{option_map}
 use Rattle.std.proofs.lemmas.Nat.{mod_below}
@@ -15,7 +15,7 @@ use Rattle.rkyv_scan.specs.Groups.{IsKind, Kind}
 use Rattle.rkyv_table.specs.Controls.Finding.{candidates, ends_at, found, marked, stride_has_empty}
 use Rattle.rkyv_table.proofs.Coverage.{has_stride}
 use Rattle.rkyv_table.proofs.Search.{GoodStride, cases_option, control_of, found_along, found_along_cons, mark_equal, mark_full, strides_head, tail_shows_all, walk_all, walk_on}
-use Rattle.rkyv_table.proofs.Lists.{FirstIn, any_map_filter, any_member, any_range, find_map_filter, find_none, first_range, none_find, none_range, range_first, some_find}
+use Rattle.rkyv_table.proofs.Lists.{FirstIn, any_map_filter, any_member, any_range, find_map_filter, find_none, first_range, none_find, none_range, option_map_some, range_first, some_find}
 
 -- ---- the buckets that a stride probes
 
@@ -36,10 +36,6 @@ taken_at free cap p q none lo hi two =
     let a = any_range (λ q. ltb q (2 * cap) && free (q % cap)) p 16 q lo hi (and_from (ltb q (2 * cap)) (free (q % cap)) (lt-ltb q (2 * cap) two) t) in
     let m = any_map_filter free (λ q. ltb q (2 * cap)) (λ q. q % cap) (range_with_len p 16) in
     both_ways (list_any free (buckets_at cap p)) none (m ∙ a))
-
-option_map_some : (f : ℕ → ℕ) (o : Option ℕ) (b : ℕ) → option_map f o ≡ Some b → (q : ℕ) × (o ≡ Some q) × (f q ≡ b)
-option_map_some f None b h = absurd (none-some b h)
-option_map_some f (Some q) b h = (q, refl, same_Some (f q) b h)
 
 -- the first free bucket of a stride, as its index
 pub first_free : (free : ℕ → Bool) (cap p b : ℕ) → find free (buckets_at cap p) ≡ Some b → (q : ℕ) × FirstIn (λ q. ltb q (2 * cap) && free (q % cap)) p 16 q × (q % cap ≡ b)

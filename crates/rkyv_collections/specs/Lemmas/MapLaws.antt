@@ -31,17 +31,7 @@ use Rattle.rkyv_table.proofs.WrittenTables.{home_count, home_pos, home_walked, t
 use Rattle.rkyv_collections.specs.Map.MapSpec.{map_spec}
 use Rattle.rkyv_collections.specs.Map.MapFormat.{MapRepresents, keyed, map_format}
 use Rattle.rkyv_table.specs.Lemmas.SameControls.{same_controls}
-
--- the hash of a key depends only on the bytes on which the validity of the key depends
-abbrev pub HashLocal : ElementSpec → (List ℕ → ℕ → ℕ) → Type 0
-HashLocal k hash = (b c : List ℕ) (q lo hi l : ℕ) → lo ≤ hi → k.is_valid b q lo hi l
-    → AgreeOn b c q (q + k.size) → AgreeOn b c lo l → hash b q ≡ hash c q
-
--- a key that represents a value has the hash of the value
-abbrev pub HashesAlike : {A : Type 0} → ElementSpec → (List ℕ → ℕ → A → Type 0) → (List ℕ → ℕ → ℕ)
-    → (A → ℕ) → Type 0
-HashesAlike {A = A} k key hash own = (a : A) (b : List ℕ) (q : ℕ) → ValidAt k b q → key b q a
-    → own a ≡ hash b q
+use Rattle.rkyv_keys.specs.QueryLaws.{HashLocal, HashesAlike}
 
 module _ {A B : Type 0} (own : A → ℕ) where
   keyed_hashes : (pairs : List (A × B))

@@ -18,6 +18,7 @@ use Rattle.rkyv_base.specs.ElementSpec.{ElementSpec, IsElement}
 use Rattle.rkyv_base.specs.Text.{IsArchiveWord}
 use Rattle.rkyv_keys.specs.Equality.{Comparison}
 use Rattle.rkyv_keys.specs.Keys.{IsKey}
+use Rattle.rkyv_keys.specs.QueryLaws.{HashLocal}
 use Rattle.rkyv_table.specs.Table.Header.{cap_at, len_at}
 use Rattle.rkyv_table.specs.Lemmas.ItemPositions.{IsValidWithin}
 use Rattle.rkyv_table.specs.Lemmas.ValidItemLaws.{all_between}
@@ -35,11 +36,6 @@ use Rattle.rkyv_index.specs.Lemmas.IndexLaws.{each_is_valid, entry_inside, store
 use Rattle.rkyv_index.specs.Lemmas.IndexLaws.{decoded_same, head_same, index_same_at}
 use Rattle.rkyv_index.specs.Index.IndexLayout.{IsValidIndex, entry_at}
 use Rattle.rkyv_index.specs.Index.IndexLayout.{index_spec, indices_of, stored_index_spec}
-
--- the hash of a valid key depends only on the bytes of the key and its parts
-abbrev pub HashLocal : ElementSpec → (List ℕ → ℕ → ℕ) → Type 0
-HashLocal k hash = (b c : List ℕ) (q lo hi l : ℕ) → lo ≤ hi → k.is_valid b q lo hi l → AgreeOn b c q
-    (q + k.size) → AgreeOn b c lo l → hash b q ≡ hash c q
 
 -- An index map that was written in `b` was also written in `c`. Both have the same header
 -- of the table at `p`, and the same control bytes if it has buckets. The numbers in full buckets

@@ -28,6 +28,7 @@ use Rattle.rkyv_base.specs.Writing.{padding, zeros}
 use Rattle.rkyv_keys.specs.Lemmas.QueryLaws.{hashes_as_written}
 use Rattle.rkyv_keys.specs.Equality.{Comparison}
 use Rattle.rkyv_keys.specs.Keys.{FitsItsEqual, IsQuery}
+use Rattle.rkyv_keys.specs.QueryLaws.{HashesAlike}
 use Rattle.rkyv_scan.specs.Hash.{Hasher, HasherCall, hash_of_calls}
 use Rattle.rkyv_index.specs.Index.IndexFormat.{hash_of}
 use Rattle.rkyv_index.specs.Index.{hash_at}
@@ -397,12 +398,6 @@ module _ {P X R : Type 0} (w : Width) (kind : IsArchiveWord w) (ps : ElementSpec
           row_represents xs r c p0 p part out t i sp so o al,
         );
   }
-
--- each valid key has the hash of the value `a` that it represents
-abbrev pub HashesAlike : {A : Type 0} → ElementSpec → (List ℕ → ℕ → A → Type 0) → (List ℕ → ℕ → ℕ)
-    → (A → ℕ) → Type 0
-HashesAlike {A = A} k key hash own = (a : A) (b : List ℕ) (q : ℕ) → ValidAt k b q → key b q a
-    → own a ≡ hash b q
 
 -- Written bytes of pairs and an aligned header behind them are a valid index map in any archive
 -- that has them. It represents the pairs.

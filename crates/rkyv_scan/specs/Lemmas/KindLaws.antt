@@ -41,7 +41,8 @@ equal_is_marked : (s : List ℕ) (t k : ℕ) → slice_index s k ≡ t → is_wo
 equal_is_marked s t zero h = eq-eqb (slice_index s zero) t h
 equal_is_marked s t (suc k) h = or_left _ _ (eq-eqb (slice_index s (suc k)) t h)
 
-marked_is_full : (s : List ℕ) (t k : ℕ) → t < 128 → is_word_match_at s t k ≡ true → slice_index s k < 128
+marked_is_full : (s : List ℕ) (t k : ℕ) → t < 128 → is_word_match_at s t k ≡ true
+    → slice_index s k < 128
 marked_is_full s t zero l h = omega (arith, eqb-true (slice_index s zero) t h)
 marked_is_full s t (suc k) l h =
     let one : bit_xor t 1 < 2 ^ 7 = xor_lt 7 t 1 l (omega arith) in

@@ -55,10 +55,12 @@ filter_filled full b (Some x ∷ ss) t =
     rw e (ap (λ (l : List ℕ). b ∷ l)
     (filter_filled full (b + 1) ss (tells_rest full b (Some x) ss t)))
 
-item_at : {X : Type 0} (xs : List X) (i : ℕ) → i < length xs → (x : X) × (slice_get xs i ≡ Some x)
-item_at [] i h = absurd (omega (arith, h))
-item_at (x ∷ xs) zero h = (x, refl)
-item_at (x ∷ xs) (suc i) h = item_at xs i (omega (arith, h))
+-- a list has an item at each index below its length
+pub item_below : {X : Type 0} (xs : List X) (i : ℕ) → i < length xs
+    → (x : X) × (slice_get xs i ≡ Some x)
+item_below [] i h = absurd (omega (arith, h))
+item_below (x ∷ xs) zero h = (x, refl)
+item_below (x ∷ xs) (suc i) h = item_below xs i (omega (arith, h))
 
 -- a bucket that isn't free is a home bucket
 home_of : (homes : List ℕ) (b : ℕ) → is_free homes b ≡ false
@@ -78,7 +80,7 @@ module _ {X : Type 0} (cap : ℕ) (pairs : List (ℕ × X)) (slots : List (Optio
   home_filled : (i b : ℕ) → i < length p.homes → slice_index p.homes i ≡ b
       → (x : X) × (slice_get slots b ≡ Some (Some x))
   home_filled i b h e =
-      let a = item_at (items_of pairs) i (let n = p.slotted.items_count in omega arith) in
+      let a = item_below (items_of pairs) i (let n = p.slotted.items_count in omega arith) in
       (a.0, ap (slice_get slots) (sym e) ∙ p.slotted.at i a.0 a.1)
 
   empty_slot : (b : ℕ) → slice_get slots b ≡ Some None → is_full (slice_index controls b) ≡ false

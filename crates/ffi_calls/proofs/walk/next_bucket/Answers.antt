@@ -8,7 +8,7 @@ use Rattle.rkyv_table.specs.Controls.Walking.{full_from}
 use Rattle.rkyv_table.specs.Table.Header.{cap_at, controls_pos}
 use Rattle.rkyv_table.specs.Table.Positions.{IsWalked, item_at, table_controls}
 use Rattle.rkyv_table.proofs.ValidTable.{controls_inside, item_before, item_viewable}
-use Rattle.rkyv_table.proofs.SealedItems.{full_end}
+use Rattle.rkyv_table.proofs.Walks.{full_end}
 use Rattle.rkyv_collections.specs.Map.MapSpec.{map_spec}
 use Rattle.ffi_calls.specs.Archives.{root}
 use Rattle.ffi_calls.proofs.walk.next_bucket.Goals as goal

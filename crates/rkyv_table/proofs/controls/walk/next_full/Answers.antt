@@ -1,6 +1,7 @@
 use Rattle.std.proofs.Common.{◌∙◌}
-use Rattle.rkyv_table.proofs.SealedItems.{full_end, full_skipped, full_taken}
+use Rattle.rkyv_table.proofs.SealedItems.{full_skipped, full_taken}
 use Rattle.rkyv_table.proofs.controls.walk.next_full.Goals as goal
+use Rattle.rkyv_table.proofs.Walks.{full_end}
 
 pub returns-then-controls-bucket-lt128 : goal.returns-then-controls-bucket-lt128
 returns-then-controls-bucket-lt128 c = (

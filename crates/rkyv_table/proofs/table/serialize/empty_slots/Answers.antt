@@ -1,13 +1,6 @@
-use Rattle.std.proofs.Common.{arith, ◌≡◌, ℕ, zero, suc, ◌+◌, ◌++◌, ◌∷◌, [], refl, sym, ap, ◌∙◌, None, replicate, length, add-one}
-use Rattle.std.proofs.lemmas.List.{length-replicate}
+use Rattle.std.proofs.Common.{arith, ◌≡◌, ◌++◌, ◌∷◌, [], ap, ◌∙◌, None, length}
+use Rattle.std.proofs.lemmas.List.{length-replicate, replicate_more}
 use Rattle.rkyv_table.proofs.table.serialize.empty_slots.Goals as goal
-
-suc_replicate : {A : Type 0} (n : ℕ) (x : A) → replicate n x ++ x ∷ [] ≡ replicate (suc n) x
-suc_replicate zero x = refl
-suc_replicate (suc n) x = ap (λ l. x ∷ l) (suc_replicate n x)
-
-push_replicate : {A : Type 0} (n : ℕ) (x : A) → replicate n x ++ x ∷ [] ≡ replicate (n + 1) x
-push_replicate n x = suc_replicate n x ∙ ap (λ k. replicate k x) (sym (add-one n))
 
 pub loop-init : goal.loop-init
 loop-init g c = record {
@@ -24,7 +17,7 @@ push_reserved-requires g c =
 
 pub loop-preserved : goal.loop-preserved
 loop-preserved g c = record {
-  items = c.push_reserved.ensures.items ∙ ap (λ l. l ++ None ∷ []) c.loop.invariant.items ∙ push_replicate c.loop.counter None;
+  items = c.push_reserved.ensures.items ∙ ap (λ l. l ++ None ∷ []) c.loop.invariant.items ∙ replicate_more c.loop.counter None;
   room = rw c.push_reserved.ensures.capacity c.loop.invariant.room;
 }
 

@@ -3,9 +3,10 @@ use Rattle.std.proofs.lemmas.Result.{err_from_is_err_and}
 use Rattle.rkyv_table.specs.Controls.Walking.{full_from}
 use Rattle.rkyv_table.proofs.ItemSteps.{IsPartlyChecked, below_head, below_rest, checked_end, checked_fails, checked_init, checked_same, checked_small, checked_step, fewer, marks_and_rest, marks_below, rest_group, rest_head, rest_none}
 use Rattle.rkyv_table.proofs.Search.{width_some}
-use Rattle.rkyv_table.proofs.SealedItems.{full_end, full_skipped, full_taken}
+use Rattle.rkyv_table.proofs.SealedItems.{full_skipped, full_taken}
 use Rattle.rkyv_table.proofs.table.verify.check_items.Goals as goal
 use Rattle.rkyv_table.proofs.table.verify.check_items.Goals.{In-Some, then-controls-bucket-lt128+in_ok-low-2, else-controls-bucket-lt128}
+use Rattle.rkyv_table.proofs.Walks.{full_end}
 
 pub loop-base-init : goal.loop-base-init
 loop-base-init g c = record {
