@@ -3,8 +3,8 @@
 use rkyv_base::access::access;
 use rkyv_base::entry::Entry;
 use rkyv_base::errors::{ReadError, VerifyError, WriteError};
-use rkyv_base::root::to_bytes;
-use rkyv_base::writer::NoMemory;
+use rkyv_base::root::write_root;
+use rkyv_base::writer::{NoMemory, VecWriter, Writer};
 use rkyv_collections::map::{ArchivedHashMap, HashMapOf};
 use rkyv_collections::std_maps::hashed::Hashed;
 use std::alloc::{AllocError, Global};
@@ -40,13 +40,17 @@ fn is_the_same(bytes: &[u8], map: &Pairs) -> bool {
     }
 }
 
-// Returns whether the archive of the map is right, or the error of its write.
-// It is `None` if the map fails to allocate.
-fn written(alloc: Global) -> Option<Result<bool, WriteError<NoMemory>>> {
+// Returns whether the archive of the map is right, or the error of its write and the number
+// of failures of its writer. It is `None` if the map fails to allocate.
+fn written(alloc: Global) -> Option<Result<bool, (WriteError<NoMemory>, u64)>> {
     let map = two_maps(alloc).ok()?;
-    match to_bytes(alloc, &map) {
-        Ok(bytes) => Some(Ok(bytes.len() == 172 && is_the_same(bytes.as_slice(), &map))),
-        Err(e) => Some(Err(e)),
+    let mut writer = VecWriter::new(alloc);
+    match write_root(alloc, &map, &mut writer) {
+        Ok(_) => {
+            let bytes = writer.bytes();
+            Some(Ok(bytes.len() == 172 && is_the_same(bytes, &map)))
+        }
+        Err(e) => Some(Err((e, writer.failures()))),
     }
 }
 
@@ -54,7 +58,9 @@ fn written(alloc: Global) -> Option<Result<bool, WriteError<NoMemory>>> {
 fn archive_is_complete_or_fails_to_allocate(rt: HostRuntime) {
     let right = match written(rt.alloc()) {
         Some(Ok(whole)) => whole,
-        Some(Err(cause)) => matches!(cause, WriteError::Memory | WriteError::Writer(_)),
+        Some(Err((WriteError::Memory, failures))) => failures == 0,
+        Some(Err((WriteError::Writer(NoMemory), failures))) => failures == 1,
+        Some(Err(_)) => false,
         None => true,
     };
     assert!(rt; right);

@@ -400,3 +400,15 @@ fn a_wide_map_is_read(rt: HostRuntime) {
         )
     );
 }
+
+// Returns the length of a copy of a map.
+fn copied_len(bytes: &[u8]) -> Option<usize> {
+    let map = ArchivedHashMap::of(access::<Small>(bytes).ok()?);
+    let copy = map.clone().ok()?;
+    Some(copy.len())
+}
+
+#[test]
+fn a_copy_of_a_map_is_read(rt: HostRuntime) {
+    expect_eq!(rt; copied_len(&four_pairs()), Some(4));
+}

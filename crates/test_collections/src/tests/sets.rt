@@ -120,3 +120,15 @@ fn a_set_is_the_value_of_a_map(rt: HostRuntime) {
         (Some(Some((1, true, false))), Some((true, true)), true)
     );
 }
+
+// Returns the length of a copy of a set.
+fn copied_len(bytes: &[u8]) -> Option<usize> {
+    let set = ArchivedHashSet::of(access_in::<Narrow, HashSetOf<u8>>(bytes).ok()?);
+    let copy = set.clone().ok()?;
+    Some(copy.len())
+}
+
+#[test]
+fn a_copy_of_a_set_is_read(rt: HostRuntime) {
+    expect_eq!(rt; copied_len(&three_keys()), Some(3));
+}

@@ -15,7 +15,7 @@ use rkyv_collections::set::laws::written::written_sets_represent;
 use rkyv_keys::keys::{KeyElement, NativeKey};
 use rkyv_scan::hash::FxHasher64;
 use std::alloc::Global;
-use test_support::archives::{nested, no_items, three_keys};
+use test_support::archives::{four_pairs_backwards, nested, no_items, three_keys};
 use test_support::written::is_then_empty;
 
 type Numbers = ArchivedHashMap<'static, i8, i8, FxHasher64, Narrow>;
@@ -90,16 +90,27 @@ fn maps_are_written(rt: HostRuntime) {
 }
 
 #[test]
+fn four_pairs_in_reverse_order(rt: HostRuntime) {
+    let pairs: &[(i8, i8)] = &[(7, 8), (5, 6), (3, 4), (1, 2)];
+    let same = is_map_archive(rt.alloc(), pairs, &four_pairs_backwards());
+    assert!(rt; same);
+}
+
+#[test]
 fn sets_are_written(rt: HostRuntime) {
     written_sets_represent::<Narrow, FxHasher64, u8, u8>();
     let alloc = rt.alloc();
     let three = [3, 2, 1, 0, 0xff, 0x28, 0x51, 0x7a, 0xff, 0x28, 0x51, 0x7a];
     let written = [
         set_pos::<()>(alloc, &[()], &[0, 0xff, 0], 28).ok(),
+        set_pos::<()>(alloc, &[(), ()], &[0, 0, 0xff, 0, 0], 26).ok(),
         set_pos::<u8>(alloc, &[1, 2, 3], &three, 23).ok(),
         set_pos::<u8>(alloc, &[], &[], 0).ok(),
     ];
-    expect_eq!(rt; written, [Some(Some(0)), Some(Some(4)), Some(Some(0))]);
+    expect_eq!(rt;
+        written,
+        [Some(Some(0)), Some(Some(0)), Some(Some(4)), Some(Some(0))]
+    );
 }
 
 // Returns the header of the set of 1, 2 and 3 at position 36, and whether it fits.

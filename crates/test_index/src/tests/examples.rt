@@ -77,3 +77,17 @@ fn the_strides_of_all_lookups_are_counted(rt: HostRuntime) {
     ];
     expect_eq!(rt; counted, [Some((Some(0), 4)), Some((None, 2))]);
 }
+
+// Counts the misplaced keys twice, and returns the strides that both counts read.
+fn counted_twice(archive: &[u8]) -> Option<([usize; 2], u64)> {
+    let map = ArchivedIndexMap::of(access::<IndexMapOf<i8, i8>>(archive).ok()?);
+    let mut strides = Strides::new();
+    let first = map.misplaced_up_to_counted(4, &mut strides)?;
+    let second = map.misplaced_up_to_counted(4, &mut strides)?;
+    Some(([first, second], strides.count()))
+}
+
+#[test]
+fn earlier_strides_stay_counted(rt: HostRuntime) {
+    expect_eq!(rt; counted_twice(&four_entries()), Some(([0, 0], 8)));
+}

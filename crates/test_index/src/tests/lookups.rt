@@ -225,3 +225,16 @@ fn maps_are_printed(rt: HostRuntime) -> Result<(), Fail> {
     expect_eq!(rt; text.as_str(), "{1: 2, 3: 4, 5: 6, 7: 8}");
     Ok(())
 }
+
+// Returns the length of a copy of a map.
+fn copied_len(bytes: &[u8]) -> Option<usize> {
+    let map = ArchivedIndexMap::of(access::<Small>(bytes).ok()?);
+    let copy = map.clone().ok()?;
+    Some(copy.len())
+}
+
+#[test]
+fn a_copy_of_a_map_is_read(rt: HostRuntime) -> Result<(), Fail> {
+    expect_eq!(rt; copied_len(&four_entries()), Some(4));
+    Ok(())
+}

@@ -106,3 +106,27 @@ fn counting_ends_with_the_first_stride_past_the_limit(rt: HostRuntime) {
         ]
     );
 }
+
+// Counts the misplaced pairs of a table twice, and returns the strides that both counts read.
+fn counted_twice(bytes: &[u8]) -> Option<([usize; 2], u64)> {
+    let table = ArchivedHashTable::of(access::<TableOf<Entry<i8, i8>>>(bytes).ok()?);
+    let mut strides = Strides::new();
+    let first = table.misplaced_up_to_by(
+        |pair| hash_of_i8(pair.key().to_native()),
+        |own, other| own.key().to_native() == other.key().to_native(),
+        4,
+        &mut strides,
+    )?;
+    let second = table.misplaced_up_to_by(
+        |pair| hash_of_i8(pair.key().to_native()),
+        |own, other| own.key().to_native() == other.key().to_native(),
+        4,
+        &mut strides,
+    )?;
+    Some(([first, second], strides.count()))
+}
+
+#[test]
+fn earlier_strides_stay_counted(rt: HostRuntime) {
+    expect_eq!(rt; counted_twice(&four_pairs()), Some(([0, 0], 8)));
+}
