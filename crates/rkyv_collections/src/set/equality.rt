@@ -18,7 +18,8 @@ impl<'a, K: KeyElement, H: KeyHasher, W: Width> ArchivedHashSet<'a, K, H, W> {
     /// Returns `true` if and only if both sets have the same length and the same keys.
     ///
     /// They have the same keys if a lookup finds each key of this set in `other`.
-    /// A set with misplaced keys may differ from itself.
+    /// A set with misplaced keys may differ from itself. A set with repeated keys may equal one
+    /// with other keys, which then differs from it.
     ///
     /// Each key costs a lookup in `other`. In an untrusted set, keys that share a hash make
     /// the cost quadratic in their number.

@@ -91,10 +91,8 @@ impl<'a, K: Element, H, W: Width> ArchivedIndexSet<'a, K, H, W> {
             (index_len (keys_of self.entry) ≤ index)
             (λ key. IsKeyOf (keys_of self.entry) index key) }
     {
-        match self.map.get_index(index) {
-            Some((key, _)) => Some(key),
-            None => None,
-        }
+        let (key, _) = self.map.get_index(index)?;
+        Some(key)
     }
 }
 

@@ -62,8 +62,9 @@ impl<'a, K: KeyElement, H: KeyHasher, W: IndexMapWidth> ArchivedIndexSet<'a, K, 
     ///   to `len + 1`.
     /// - The error of the first key or piece that fails.
     ///
-    /// Nothing is written with the first four errors. The bytes written before the call
-    /// are unchanged.
+    /// If the call itself fails with one of the first four errors, nothing is written. A key
+    /// that fails with the same error may follow bytes that were written. The bytes written
+    /// before the call are unchanged.
     pub fn serialize_from_iter<
         S: Writer,
         A: NativeKey<K> + Serialize<S, W, Archived = K>,

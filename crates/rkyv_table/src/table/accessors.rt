@@ -29,8 +29,8 @@ impl<'a, T: Element, W: Width> ArchivedHashTable<'a, T, W> {
     /// The items, their parts and the control bytes are in `range`. The rest of the range begins
     /// at the end of the control bytes.
     ///
-    /// An empty header is valid, and nothing else is read, as in rkyv. The buckets are not compared
-    /// with the hashes of the items.
+    /// An empty header is valid, and nothing else is read, as in rkyv. The rest is then `range`
+    /// itself. The buckets are not compared with the hashes of the items.
     ///
     /// # Requires
     ///

@@ -95,7 +95,8 @@ impl<'a, T: Element, W: Width> ArchivedHashTable<'a, T, W> {
 
     /// Returns an item that the comparison accepts, by groups of the kind `G`, or `None`.
     ///
-    /// It looks up as `get_with` does.
+    /// It looks up as `get_with` does, but at the indices that `G` marks. Both find the same item
+    /// in a written table if all accepted items are under `hash`. In others they may differ.
     ///
     /// # Requires
     ///

@@ -86,8 +86,8 @@ struct NextItem {
 
 /// A cursor over the items of a table, in bucket order, for writing in place.
 ///
-/// While the archive has a valid table, `next_pos`, `next_with` and `next_seal_with` return
-/// each item once. They return as many items as `len` says, and then `None`. The cursor
+/// While only items are written and stay valid, `next_pos`, `next_with` and `next_seal_with`
+/// return each item once. They return as many items as `len` says, and then `None`. The cursor
 /// is unspecified after `next_seal` has returned a seal, and after `bytes_mut`.
 #[derive(Drop)]
 pub struct RawIterSeal<'a, T> {

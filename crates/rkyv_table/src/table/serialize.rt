@@ -194,8 +194,9 @@ impl<'a, T: HasSpec, W: Width> ArchivedHashTable<'a, T, W> {
     ///   isn't. The number is counted up to `len + 1`.
     /// - The error of the first item or piece that fails.
     ///
-    /// Nothing is written with the first four errors. The bytes written before the call
-    /// are unchanged.
+    /// If the call itself fails with one of the first four errors, nothing is written. An item
+    /// that fails with the same error may follow bytes that were written. The bytes written
+    /// before the call are unchanged.
     ///
     /// # Examples
     ///

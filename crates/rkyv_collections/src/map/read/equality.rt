@@ -36,7 +36,8 @@ impl<'a, K: KeyElement, V: ElementEq, H: KeyHasher, W: Width> ArchivedHashMap<'a
     /// Returns `true` if and only if both maps have the same length and the same pairs.
     ///
     /// They have the same pairs if a lookup of each key of this map finds the same value
-    /// in `other`. A map with misplaced keys may differ from itself.
+    /// in `other`. A map with misplaced keys may differ from itself. A map with repeated keys
+    /// may equal one with other pairs, which then differs from it.
     ///
     /// Each pair costs a lookup in `other`. In an untrusted map, keys that share a hash make
     /// the cost quadratic in their number.

@@ -192,10 +192,7 @@ impl<'a, K: KeyElement, V: Element, H: KeyHasher, W: Width> ArchivedIndexMap<'a,
         requires stored { IfSome index (IsStoredIndex self) }
         ensures { IsPairAt self.entry result index }
     {
-        match index {
-            Some(index) => Some(self.entries().pair(index)),
-            None => None,
-        }
+        Some(self.entries().pair(index?))
     }
 
     /// Returns the value at a found index.
@@ -204,10 +201,7 @@ impl<'a, K: KeyElement, V: Element, H: KeyHasher, W: Width> ArchivedIndexMap<'a,
         requires stored { IfSome index (IsStoredIndex self) }
         ensures { IsValueAt self.entry result index }
     {
-        match index {
-            Some(index) => Some(self.entries().entry(index).value()),
-            None => None,
-        }
+        Some(self.entries().entry(index?).value())
     }
 
     /// Returns a pair whose key the comparison accepts, or `None`.
