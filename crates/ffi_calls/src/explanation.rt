@@ -16,7 +16,8 @@ use rkyv_container::errors::ContainerError;
 
 /// The status of an error, its position and its other numbers.
 ///
-/// The numbers are those of the error's text, in order. One that the error doesn't have is 0.
+/// The numbers are those of the error, in order. A kind, a type or a width is its code.
+/// A number that the error doesn't have is 0.
 #[repr(C)]
 #[derive(Clone, Copy)]
 pub struct Explanation {

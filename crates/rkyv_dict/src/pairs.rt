@@ -3,7 +3,7 @@ ghost use Rattle.rkyv_dict.specs.Built.{kind_of_pairs};
 ghost use Rattle.rkyv_dict.specs.Counts.{list_len, take_pairs};
 ghost use Rattle.rkyv_dict.specs.Forms.{pairs_of};
 ghost use Rattle.rkyv_dict.specs.State.{no_pairs, with_numbers, with_texts};
-ghost use Rattle.std.specs.Prelude.{◌≡◌, ◌≤◌, ℕ, OnOk};
+ghost use Rattle.std.specs.Prelude.{◌≡◌, ◌≤◌, ℕ, IfErr, OnOk};
 
 use crate::form::{Kind, PairList};
 use std::alloc::{AllocError, Global};
@@ -46,6 +46,7 @@ pub fn count_of(list: &PairList<'_>) -> usize
 pub fn put_numbers(list: &mut PairList<'_>, key: u32, value: u32) -> Result<(), AllocError>
     ensures added { OnOk result
         (pairs_of list.new ≡ with_numbers (pairs_of list.old) key value) }
+    ensures unchanged { IfErr result (λ _. pairs_of list.new ≡ pairs_of list.old) }
     ensures kept { list_len list.old ≤ list_len list.new }
     ensures first { (n : ℕ) → n ≤ list_len list.old
         → take_pairs n (pairs_of list.new) ≡ take_pairs n (pairs_of list.old) }
@@ -71,6 +72,7 @@ pub fn put_texts<'a>(
 ) -> Result<(), AllocError>
     ensures added { OnOk result
         (pairs_of list.new ≡ with_texts (pairs_of list.old) key.now value.now) }
+    ensures unchanged { IfErr result (λ _. pairs_of list.new ≡ pairs_of list.old) }
     ensures kept { list_len list.old ≤ list_len list.new }
     ensures first { (n : ℕ) → n ≤ list_len list.old
         → take_pairs n (pairs_of list.new) ≡ take_pairs n (pairs_of list.old) }

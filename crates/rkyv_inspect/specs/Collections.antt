@@ -84,7 +84,7 @@ abbrev pub is_value_type : ItemType → Bool
 is_value_type UnitType = true
 is_value_type item = is_key_type item
 
--- the spec of the header of a collection of the kind. A set is the map of its keys to unit values
+-- the spec of the header of a collection of the kind. A set is a map: its values are unit if `v` is
 abbrev pub root_spec : Kind → Width → ElementSpec → ElementSpec → ElementSpec
 root_spec HashMap w k v = map_spec w k v
 root_spec HashSet w k v = map_spec w k v

@@ -6,8 +6,8 @@ use std::fmt::{self, Display, Formatter, Write};
 
 /// A drawing of the regions of an archive: a standalone SVG.
 ///
-/// Each region is one rectangle, whose width is the number of its bytes and whose title is its
-/// text.
+/// Each region is one rectangle. Its width is the number of its bytes, and its title is its
+/// position and its text.
 ///
 /// # Examples
 ///

@@ -82,7 +82,7 @@ fn inspect_index_map<K: KeyElement + Field, V: Field, W: ArchiveWidth>(
     })
 }
 
-/// Inspects the archive of a map with keys and values of these types. A set has unit values.
+/// Inspects the archive of a map with keys and values of these types. A set is such a map too.
 fn inspect_kind<K: KeyElement + Field, V: Field, W: ArchiveWidth>(
     alloc: Global,
     archive: &[u8],
@@ -144,8 +144,7 @@ fn inspect_width<W: ArchiveWidth>(
 ///
 /// # Errors
 ///
-/// - `Unsupported`: the types of keys and values aren't numbers of 32 or 64 bits or text, or those
-///   of values unit.
+/// - `Unsupported`: the keys aren't `u32`, `u64` or text, or the values aren't these or unit.
 /// - `Invalid`: the bytes aren't a valid archive of this collection.
 /// - `Memory`: an allocation failed.
 ///

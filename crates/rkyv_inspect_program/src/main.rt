@@ -2,6 +2,7 @@
 #![tactic(auto)]
 
 ghost use Rattle.std.specs.Prelude.{IfOk, Ok, map, string_bytes, ◌↔◌, ◌≡◌};
+ghost use Rattle.rkyv_inspect.specs.Inspections.{InspectsContents};
 ghost use Rattle.rkyv_inspect_program.specs.CommandLines.{IsMisused};
 ghost use Rattle.rkyv_inspect_program.specs.Outcomes.{HasInspection};
 
@@ -14,7 +15,7 @@ use crate::options::{Options, USAGE};
 use crate::outcome::{Outcome, exit_status};
 use rkyv_container::contents::Contents;
 use rkyv_container::{Header, open};
-use rkyv_inspect::{ContainerLine, Drawing, Printed, inspect};
+use rkyv_inspect::{ContainerLine, Drawing, InspectError, Inspection, Printed, inspect};
 use std::alloc::AllocError;
 use std::io::{BufWriter, Write};
 use std::process::ExitCode;
@@ -22,6 +23,17 @@ use std::{env, fs, io};
 
 /// The greatest number of strides that the lookups of all keys may read.
 const STRIDES: u64 = 16_777_216;
+
+/// Returns the inspection of an archive, whose lookups read at most `STRIDES` strides.
+fn inspect_bounded(
+    rt: &HostRuntime,
+    archive: &[u8],
+    contents: Contents,
+) -> Result<Inspection, InspectError>
+    ensures { InspectsContents contents archive.now 16777216 result }
+{
+    inspect(rt.alloc(), archive, contents, STRIDES)
+}
 
 /// Prints the inspection of an archive, and the header of its container before it.
 fn print(
@@ -33,9 +45,9 @@ fn print(
     options: Options<'_>,
 ) -> Result<Outcome, ProgramError>
     ensures { IfOk result (λ outcome. (outcome ≡ Outcome.Complete)
-        × HasInspection contents archive.now STRIDES) }
+        × HasInspection contents archive.now 16777216) }
 {
-    let inspection = match inspect(rt.alloc(), archive, contents, STRIDES) {
+    let inspection = match inspect_bounded(rt, archive, contents) {
         Ok(inspection) => inspection,
         Err(error) => return Err(inspect_error(rt.alloc(), file, error)),
     };
