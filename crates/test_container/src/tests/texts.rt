@@ -116,3 +116,52 @@ fn open_errors_have_messages(rt: HostRuntime) {
     ];
     expect_eq!(rt; shown, [true; 6]);
 }
+
+// Returns `true` if a type is formatted as this text.
+fn is_type_named(alloc: Global, item: ItemType, text: &str) -> bool {
+    match item.to_string(alloc) {
+        Ok(shown) => shown.as_str() == text,
+        Err(_) => false,
+    }
+}
+
+#[test]
+fn types_have_names(rt: HostRuntime) {
+    let alloc = rt.alloc();
+    let named = [
+        is_type_named(alloc, ItemType::Unit, "()"),
+        is_type_named(alloc, ItemType::Bool, "bool"),
+        is_type_named(alloc, ItemType::Char, "char"),
+        is_type_named(alloc, ItemType::Text, "text"),
+        is_type_named(alloc, ItemType::Bytes, "bytes"),
+        is_type_named(alloc, ItemType::U8, "u8"),
+        is_type_named(alloc, ItemType::U16, "u16"),
+        is_type_named(alloc, ItemType::U32, "u32"),
+        is_type_named(alloc, ItemType::U64, "u64"),
+        is_type_named(alloc, ItemType::I8, "i8"),
+        is_type_named(alloc, ItemType::I16, "i16"),
+        is_type_named(alloc, ItemType::I32, "i32"),
+        is_type_named(alloc, ItemType::I64, "i64"),
+    ];
+    expect_eq!(rt; named, [true; 13]);
+}
+
+// Returns `true` if a kind is formatted as this text.
+fn is_kind_named(alloc: Global, kind: Kind, text: &str) -> bool {
+    match kind.to_string(alloc) {
+        Ok(shown) => shown.as_str() == text,
+        Err(_) => false,
+    }
+}
+
+#[test]
+fn kinds_have_names(rt: HostRuntime) {
+    let alloc = rt.alloc();
+    let named = [
+        is_kind_named(alloc, Kind::HashMap, "hash map"),
+        is_kind_named(alloc, Kind::HashSet, "hash set"),
+        is_kind_named(alloc, Kind::IndexMap, "index map"),
+        is_kind_named(alloc, Kind::IndexSet, "index set"),
+    ];
+    expect_eq!(rt; named, [true; 4]);
+}

@@ -1,6 +1,8 @@
 //! The regions of archives of each kind and width.
 
-use crate::tests::archives::{EMPTY, INDEX_NUMBER, NAMES, NUMBERED_TEXTS, WIDE_NUMBERS, WIDE_SET};
+use crate::tests::archives::{
+    EMPTY, INDEX_NUMBER, NAMES, NUMBERED_TEXTS, ONE_NUMBER, WIDE_NUMBERS, WIDE_SET,
+};
 use crate::tests::support::{narrow, numbers, wide};
 use rkyv_container::contents::{Contents, ItemType, Kind};
 use rkyv_inspect::{RegionKind, inspect};
@@ -136,5 +138,25 @@ fn empty_map(rt: HostRuntime) -> Result<(), Fail> {
         (12, RegionKind::Header),
     ];
     expect_eq!(rt; ends.as_slice(), expected.as_slice());
+    Ok(())
+}
+
+#[test]
+fn eight_bytes_before_the_buckets(rt: HostRuntime) -> Result<(), Fail> {
+    let mut bytes = [0; 68];
+    bytes[8..].copy_from_slice(&ONE_NUMBER);
+    let ends = ends_of(rt.alloc(), &bytes, numbers())?;
+    let first = ends.as_slice().first().copied();
+    expect_eq!(rt; first, Some((8, RegionKind::Unknown)));
+    Ok(())
+}
+
+#[test]
+fn a_byte_that_is_no_padding(rt: HostRuntime) -> Result<(), Fail> {
+    let mut bytes = ONE_NUMBER;
+    bytes[47] = 1;
+    let ends = ends_of(rt.alloc(), &bytes, numbers())?;
+    let fifth = ends.as_slice().get(4).copied();
+    expect_eq!(rt; fifth, Some((48, RegionKind::Unknown)));
     Ok(())
 }
