@@ -1,10 +1,11 @@
-//! Tests of the texts of errors.
+//! Tests of the texts of errors, kinds and types.
 use rkyv_container::{ContainerError, ItemType, Kind, Width};
 use std::alloc::Global;
+use std::fmt::Display;
 
-// Returns `true` if an error is formatted as this text.
-fn shows(alloc: Global, error: ContainerError, text: &str) -> bool {
-    match error.to_string(alloc) {
+// Returns `true` if a value is formatted as this text.
+fn shows<T: Display + Drop>(alloc: Global, value: T, text: &str) -> bool {
+    match value.to_string(alloc) {
         Ok(shown) => shown.as_str() == text,
         Err(_) => false,
     }
@@ -117,51 +118,35 @@ fn open_errors_have_messages(rt: HostRuntime) {
     expect_eq!(rt; shown, [true; 6]);
 }
 
-// Returns `true` if a type is formatted as this text.
-fn is_type_named(alloc: Global, item: ItemType, text: &str) -> bool {
-    match item.to_string(alloc) {
-        Ok(shown) => shown.as_str() == text,
-        Err(_) => false,
-    }
-}
-
 #[test]
 fn types_have_names(rt: HostRuntime) {
     let alloc = rt.alloc();
     let named = [
-        is_type_named(alloc, ItemType::Unit, "()"),
-        is_type_named(alloc, ItemType::Bool, "bool"),
-        is_type_named(alloc, ItemType::Char, "char"),
-        is_type_named(alloc, ItemType::Text, "text"),
-        is_type_named(alloc, ItemType::Bytes, "bytes"),
-        is_type_named(alloc, ItemType::U8, "u8"),
-        is_type_named(alloc, ItemType::U16, "u16"),
-        is_type_named(alloc, ItemType::U32, "u32"),
-        is_type_named(alloc, ItemType::U64, "u64"),
-        is_type_named(alloc, ItemType::I8, "i8"),
-        is_type_named(alloc, ItemType::I16, "i16"),
-        is_type_named(alloc, ItemType::I32, "i32"),
-        is_type_named(alloc, ItemType::I64, "i64"),
+        shows(alloc, ItemType::Unit, "()"),
+        shows(alloc, ItemType::Bool, "bool"),
+        shows(alloc, ItemType::Char, "char"),
+        shows(alloc, ItemType::Text, "text"),
+        shows(alloc, ItemType::Bytes, "bytes"),
+        shows(alloc, ItemType::U8, "u8"),
+        shows(alloc, ItemType::U16, "u16"),
+        shows(alloc, ItemType::U32, "u32"),
+        shows(alloc, ItemType::U64, "u64"),
+        shows(alloc, ItemType::I8, "i8"),
+        shows(alloc, ItemType::I16, "i16"),
+        shows(alloc, ItemType::I32, "i32"),
+        shows(alloc, ItemType::I64, "i64"),
     ];
     expect_eq!(rt; named, [true; 13]);
-}
-
-// Returns `true` if a kind is formatted as this text.
-fn is_kind_named(alloc: Global, kind: Kind, text: &str) -> bool {
-    match kind.to_string(alloc) {
-        Ok(shown) => shown.as_str() == text,
-        Err(_) => false,
-    }
 }
 
 #[test]
 fn kinds_have_names(rt: HostRuntime) {
     let alloc = rt.alloc();
     let named = [
-        is_kind_named(alloc, Kind::HashMap, "hash map"),
-        is_kind_named(alloc, Kind::HashSet, "hash set"),
-        is_kind_named(alloc, Kind::IndexMap, "index map"),
-        is_kind_named(alloc, Kind::IndexSet, "index set"),
+        shows(alloc, Kind::HashMap, "hash map"),
+        shows(alloc, Kind::HashSet, "hash set"),
+        shows(alloc, Kind::IndexMap, "index map"),
+        shows(alloc, Kind::IndexSet, "index set"),
     ];
     expect_eq!(rt; named, [true; 4]);
 }
