@@ -7,10 +7,10 @@ ghost use Rattle.std.specs.Slice.Iter.{iter_rest};
 ghost use Rattle.rkyv_base.specs.Pairs.{written_as};
 ghost use Rattle.rkyv_base.specs.Lemmas.Pairs.{written_as-format};
 ghost use Rattle.rkyv_base.specs.Root.{ArchiveOf};
+ghost use Rattle.rkyv_keys.specs.Calls.{hash_at, hash_of};
 ghost use Rattle.rkyv_table.specs.Table.Listed.{listed, listed_format};
-ghost use Rattle.rkyv_collections.specs.Map.{hash_at};
 ghost use Rattle.rkyv_collections.specs.Map.MapSpec.{map_spec};
-ghost use Rattle.rkyv_collections.specs.Map.MapFormat.{MapRepresents, hash_of, map_format};
+ghost use Rattle.rkyv_collections.specs.Map.MapFormat.{MapRepresents, map_format};
 ghost use Rattle.rkyv_collections.specs.Lemmas.MapSound.{map_local, map_sound};
 ghost use Rattle.bench_calls.specs.Building.{IsBuilt, IsPut};
 

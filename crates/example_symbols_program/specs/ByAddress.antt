@@ -25,9 +25,10 @@ use Rattle.rkyv_base.specs.declared.errors.WriteError.TheVariants.{Memory}
 use Rattle.rkyv_base.specs.declared.view.View.{View}
 use Rattle.rkyv_keys.specs.OfScalars.{one_call, scalar_calls}
 use Rattle.rkyv_keys.specs.Lemmas.OfTexts.{IsTextOf}
+use Rattle.rkyv_keys.specs.Calls.{hash_at, hash_of}
 use Rattle.rkyv_table.specs.Table.Listed.{listed}
-use Rattle.rkyv_index.specs.Index.{IsPairOf, hash_at}
-use Rattle.rkyv_index.specs.Index.IndexFormat.{IndexRepresents, hash_of, index_format}
+use Rattle.rkyv_index.specs.Index.{IsPairOf}
+use Rattle.rkyv_index.specs.Index.IndexFormat.{IndexRepresents, index_format}
 use Rattle.rkyv_index.specs.Index.IndexHeader.{IndexResolver}
 use Rattle.rkyv_index.specs.Index.IndexLayout.{index_spec}
 use Rattle.rkyv_index.specs.declared.lists.OrderedPairs.{OrderedPairs}

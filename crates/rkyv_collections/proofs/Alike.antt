@@ -8,7 +8,7 @@ use Rattle.rkyv_scan.specs.Hash.{HasherCall, SizeWords, fx_hash}
 use Rattle.rkyv_scan.specs.Lemmas.Numbers.{fx_fits}
 use Rattle.rkyv_scan.proofs.HashLaws.{fixed_alike}
 use Rattle.rkyv_base.specs.Entry.{entry_spec}
-use Rattle.rkyv_base.specs.ElementSpec.{ElementSpec, IsElement, ValidAt, Viewable}
+use Rattle.rkyv_base.specs.ElementSpec.{ElementSpec, IsElement, Viewable}
 use Rattle.rkyv_keys.specs.Equality.{Comparison}
 use Rattle.rkyv_keys.specs.Fixed.{MakesFixedCalls}
 use Rattle.rkyv_keys.specs.Keys.{IsQuery}
@@ -19,16 +19,13 @@ use Rattle.rkyv_collections.specs.Map.BothHashers.{QueriedAlike, fx_hash_at}
 use Rattle.rkyv_collections.specs.Map.Equality.{pair_at}
 use Rattle.rkyv_collections.specs.Map.{MapWrittenAt}
 use Rattle.rkyv_collections.specs.Map.MapSpec.{map_spec}
-use Rattle.rkyv_collections.proofs.WrittenPairs.{first_accepted, pair_valid, pos_of_pair}
+use Rattle.rkyv_collections.proofs.WrittenPairs.{first_accepted, key_valid, pair_valid, pos_of_pair}
 
 module _ (w : Width) (k v : ElementSpec) (kl : IsElement k) (vl : IsElement v) (key_calls : List ℕ → ℕ → List HasherCall) (fixed : MakesFixedCalls k key_calls)
     (one other : SizeWords) (b : List ℕ) (p : ℕ) (homes : List ℕ) (view : Viewable (map_spec w k v) b p)
     (written : MapWrittenAt w (entry_spec k v) (fx_hash_at one key_calls) b p homes) where
-  key_valid : (i : ℕ) → i < length homes → ValidAt k b (pair_at w k v b p homes i)
-  key_valid i h = valid_key kl vl b (pair_at w k v b p homes i) (pair_valid w k v kl vl (fx_hash_at one key_calls) b p homes view written i h)
-
   keys_alike : (i : ℕ) → i < length homes → fx_hash_at one key_calls b (pair_at w k v b p homes i) ≡ fx_hash_at other key_calls b (pair_at w k v b p homes i)
-  keys_alike i h = fixed_alike one other (key_calls b (pair_at w k v b p homes i)) (fixed b (pair_at w k v b p homes i) (key_valid i h))
+  keys_alike i h = fixed_alike one other (key_calls b (pair_at w k v b p homes i)) (fixed b (pair_at w k v b p homes i) (key_valid w k v kl vl (fx_hash_at one key_calls) b p homes view written i h))
 
   hashes_alike : map (fx_hash_at one key_calls b) (home_positions w (entry_spec k v).size b p homes)
       ≡ map (fx_hash_at other key_calls b) (home_positions w (entry_spec k v).size b p homes)

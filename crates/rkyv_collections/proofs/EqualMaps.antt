@@ -11,7 +11,7 @@ use Rattle.rkyv_base.specs.Entry.{entry_spec, value_offset}
 use Rattle.rkyv_base.specs.ElementSpec.{ElementSpec, IsElement, ValidAt}
 use Rattle.rkyv_keys.specs.Equality.{Comparison, IsEquivalence}
 use Rattle.rkyv_keys.specs.OfEntries.{entry_same}
-use Rattle.rkyv_keys.specs.Lemmas.OfEntries.{entry_equivalence, valid_key}
+use Rattle.rkyv_keys.specs.Lemmas.OfEntries.{entry_equivalence}
 use Rattle.rkyv_table.specs.Table.Header.{len_at}
 use Rattle.rkyv_table.specs.Table.Positions.{home_positions, item_at, item_positions}
 use Rattle.rkyv_table.proofs.Lists.{any_member, contains_member, none_find, some_find}
@@ -19,7 +19,7 @@ use Rattle.rkyv_table.proofs.Search.{cases_option}
 use Rattle.rkyv_table.proofs.Written.{first_within}
 use Rattle.rkyv_collections.specs.Map.Equality.{EachIsIn, EqualHaveSamePairs, IsWrittenApart, pair_at, pair_matches}
 use Rattle.rkyv_collections.proofs.Matching.{IsMatching, column_matched, rows_within}
-use Rattle.rkyv_collections.proofs.WrittenPairs.{all_inserted, all_walked, first_accepted, hash_small, len_is_count, pair_valid, pos_of_pair}
+use Rattle.rkyv_collections.proofs.WrittenPairs.{all_inserted, all_walked, first_accepted, hash_small, key_valid, len_is_count, pair_valid, pos_of_pair}
 
 -- the first number of a list that passes the test has an index
 found_index : (test : ℕ → Bool) (xs : List ℕ) (x : ℕ) → find test xs ≡ Some x → (j : ℕ) × (j < length xs) × (get_or xs j 0 ≡ x)
@@ -37,11 +37,11 @@ module _ (w : Width) (k v : ElementSpec) (kl : IsElement k) (vl : IsElement v) (
     (same_hash : (b c : List ℕ) (q r : ℕ) → ValidAt k b q → ValidAt k c r → same_key b q c r ≡ true → key_hash b q ≡ key_hash c r) where
   module _ (b c : List ℕ) (p r : ℕ) (homes others : List ℕ) (first : IsWrittenApart w k v key_hash same_key same_value b p homes)
       (second : IsWrittenApart w k v key_hash same_key same_value c r others) where
-    key_valid : (i : ℕ) → i < length homes → ValidAt k b (pair_at w k v b p homes i)
-    key_valid i h = valid_key kl vl b (pair_at w k v b p homes i) (pair_valid w k v kl vl key_hash b p homes first.valid first.written i h)
+    own_valid : (i : ℕ) → i < length homes → ValidAt k b (pair_at w k v b p homes i)
+    own_valid = key_valid w k v kl vl key_hash b p homes first.valid first.written
 
     other_valid : (j : ℕ) → j < length others → ValidAt k c (pair_at w k v c r others j)
-    other_valid j h = valid_key kl vl c (pair_at w k v c r others j) (pair_valid w k v kl vl key_hash c r others second.valid second.written j h)
+    other_valid = key_valid w k v kl vl key_hash c r others second.valid second.written
 
     -- the value of the pair `i` of the first map is the same as that of the pair at `key_pos`
     same_at : ℕ → ℕ → Bool
@@ -56,7 +56,7 @@ module _ (w : Width) (k v : ElementSpec) (kl : IsElement k) (vl : IsElement v) (
         let q = pair_at w k v b p homes i in
         ap (λ (found : Option ℕ). unwrap_or (option_map (same_at i) found) false)
         (first_accepted w k v kl vl key_hash c r others second.valid second.written (key_hash b q) (same_key b q c) (hash_small w k v kl vl key_hash b p homes first.valid first.written i h)
-        (λ j l fits. sym (same_hash b c q (pair_at w k v c r others j) (key_valid i h) (other_valid j l) fits)))
+        (λ j l fits. sym (same_hash b c q (pair_at w k v c r others j) (own_valid i h) (other_valid j l) fits)))
 
     -- a matched pair is the same as one of the other map
     match_same : (i : ℕ) → i < length homes → pair_matches w k v key_hash same_key same_value b (pair_at w k v b p homes i) c r ≡ true
@@ -105,8 +105,8 @@ module _ (w : Width) (k v : ElementSpec) (kl : IsElement k) (vl : IsElement v) (
               let y = pair_at w k v c r others index.0 in
               let is : y ≡ some.0 = sym (pos_of_pair w k v kl vl key_hash c r others second.valid second.written index.0 inside) ∙ index.2 in
               let found_key : same_key b q c y ≡ true = subst (λ z. same_key b q c z ≡ true) (sym is) key in
-              let turned = ke.symmetric b c q x (key_valid i h) (other_valid j l) both.0 in
-              let one : j ≡ index.0 = second.apart j index.0 l inside (ke.transitive c b c x q y (other_valid j l) (key_valid i h) (other_valid index.0 inside) turned found_key) in
+              let turned = ke.symmetric b c q x (own_valid i h) (other_valid j l) both.0 in
+              let one : j ≡ index.0 = second.apart j index.0 l inside (ke.transitive c b c x q y (other_valid j l) (own_valid i h) (other_valid index.0 inside) turned found_key) in
               let here : x ≡ some.0 = ap (pair_at w k v c r others) one ∙ is in
               matches_is i h ∙ rw some.1 (subst (λ z. same_at i z ≡ true) here both.1)
         ]
@@ -122,8 +122,8 @@ module _ (w : Width) (k v : ElementSpec) (kl : IsElement k) (vl : IsElement v) (
           let x = pair_at w k v c r others j in
           let key = (and_parts (same_key b q c x) (same_value b (q + value_offset k v) c (x + value_offset k v)) one).0 in
           let key' = (and_parts (same_key b q' c x) (same_value b (q' + value_offset k v) c (x + value_offset k v)) two).0 in
-          let turned = ke.symmetric b c q' x (key_valid i' h') (other_valid j l) key' in
-          first.apart i i' h h' (ke.transitive b c b q x q' (key_valid i h) (other_valid j l) (key_valid i' h') key turned);
+          let turned = ke.symmetric b c q' x (own_valid i' h') (other_valid j l) key' in
+          first.apart i i' h h' (ke.transitive b c b q x q' (own_valid i h) (other_valid j l) (own_valid i' h') key turned);
     }
 
   pub equal_have_same_pairs : EqualHaveSamePairs w k v key_hash same_key same_value

@@ -15,13 +15,14 @@ use Rattle.rkyv_base.specs.declared.entry.Entry.{Entry}
 use Rattle.rkyv_base.specs.declared.view.View.{View}
 use Rattle.rkyv_keys.specs.Equality.{Comparison}
 use Rattle.rkyv_keys.specs.Keys.{IsQuery}
+use Rattle.rkyv_keys.specs.Calls.{hash_at}
 use Rattle.rkyv_table.specs.Controls.Laws.{IsUnderHash}
 use Rattle.rkyv_table.specs.Table.Positions.{WrittenAt, home_positions, pos_found}
 use Rattle.rkyv_table.specs.Table.Reading.{ComparesBy, FindsFirst, FindsFound, FindsItem, IsItem}
 use Rattle.rkyv_table.specs.Table.Reading.{table_bytes, table_pos}
 use Rattle.rkyv_table.specs.declared.table.ArchivedHashTable.{ArchivedHashTable}
 use Rattle.rkyv_collections.specs.Map.{AreUnderHash, ComparesKeysBy, FindsBy, FindsFirstBy, FindsKey}
-use Rattle.rkyv_collections.specs.Map.{IsEntryIn, IsMap, IsViewAt, MapWrittenAt, hash_at}
+use Rattle.rkyv_collections.specs.Map.{IsEntryIn, IsMap, IsViewAt, MapWrittenAt}
 use Rattle.rkyv_collections.specs.Map.{map_archive, map_bytes, map_pos}
 use Rattle.rkyv_collections.specs.Map.Lookups.{IsAcceptedKey}
 use Rattle.rkyv_collections.specs.Map.Misplaced.{FindsOneKey}

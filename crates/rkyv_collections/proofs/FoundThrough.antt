@@ -15,10 +15,11 @@ use Rattle.rkyv_base.specs.declared.view.View.{View}
 use Rattle.rkyv_keys.specs.Equality.{Comparison}
 use Rattle.rkyv_keys.specs.Keys.{IsQuery}
 use Rattle.rkyv_keys.specs.KeyLookup.{KeyLookup, query_of}
+use Rattle.rkyv_keys.specs.Calls.{hash_at}
 use Rattle.rkyv_collections.specs.Map.Lookups.{GetsBy, GetsKey, IsPairOfEntry, IsValueOfEntry, Part}
 use Rattle.rkyv_collections.specs.Map.Lookups.{entry_part, key_part, pair_part, value_part}
 use Rattle.rkyv_collections.specs.Map.{ComparesKeysBy, IsEntryIn, IsMap, IsPairAt, IsViewAt}
-use Rattle.rkyv_collections.specs.Map.{IsPairIn, IsValueAt, IsValueIn, hash_at, key_pos_found}
+use Rattle.rkyv_collections.specs.Map.{IsPairIn, IsValueAt, IsValueIn, key_pos_found}
 use Rattle.rkyv_collections.specs.Map.{map_bytes}
 use Rattle.rkyv_collections.specs.declared.map.ArchivedHashMap.{ArchivedHashMap}
 use Rattle.rkyv_collections.proofs.FoundEntries.{one_found}

@@ -16,6 +16,7 @@ use Rattle.rkyv_base.specs.ElementSpec.{ElementSpec, IsElement, ValidAt, Viewabl
 use Rattle.rkyv_keys.specs.Equality.{Comparison, IsEquivalence}
 use Rattle.rkyv_keys.specs.Keys.{IsQuery}
 use Rattle.rkyv_keys.specs.Lemmas.OfEntries.{valid_key}
+use Rattle.rkyv_keys.specs.Calls.{hash_at}
 use Rattle.rkyv_table.specs.Controls.Finding.{found}
 use Rattle.rkyv_table.specs.Table.Header.{cap_at, len_at}
 use Rattle.rkyv_table.specs.Table.Misplaced.{AcceptsSame, AloneAccepted, IsSameness, NoneAccepted, misplaced, repeated, repeats_earlier}
@@ -26,7 +27,7 @@ use Rattle.rkyv_table.proofs.Misplaced.{complete, repeated_misplaced}
 use Rattle.rkyv_table.proofs.RawWalks.{walk_count}
 use Rattle.rkyv_table.proofs.Walks.{full_walked, walked_full}
 use Rattle.rkyv_collections.specs.Map.Equality.{pair_at}
-use Rattle.rkyv_collections.specs.Map.{MapWrittenAt, hash_at}
+use Rattle.rkyv_collections.specs.Map.{MapWrittenAt}
 use Rattle.rkyv_collections.specs.Map.MapSpec.{map_spec}
 use Rattle.rkyv_collections.specs.Map.Misplaced.{FindsTheOne, RepeatedKeysAreMisplaced, map_misplaced}
 use Rattle.rkyv_collections.proofs.WrittenPairs.{hash_of_pair, len_is_count, pair_valid}

@@ -1,22 +1,20 @@
 -- After a write of one value, a map represents the list with the new value.
-use Rattle.std.proofs.Common.{◌≡◌, ◌≢◌, ℕ, ◌+◌, ◌*◌, ◌<◌, ◌∙◌, inl, inr, sym, ap, subst, arith, List, length, map, Some, slice_index}
+use Rattle.std.proofs.Common.{◌≡◌, ◌≢◌, ℕ, ◌+◌, ◌*◌, ◌<◌, ◌∙◌, sym, ap, subst, arith, List, length, map, Some, slice_index}
 use Rattle.std.specs.Prelude.{slice_get, slice_set}
 use Rattle.std.specs.Int.{Width, byte_len}
-use Rattle.std.proofs.lemmas.Bool.{cases_lt}
 use Rattle.std.proofs.lemmas.List.{ext_get_or, get_or-map, length-map, length-set}
 use Rattle.std.proofs.lemmas.Option.{slice_get_within}
 use Rattle.rkyv_base.specs.Bytes.{AgreeOn}
 use Rattle.rkyv_base.specs.Entry.{entry_spec}
 use Rattle.rkyv_base.specs.Pairs.{PairRepresents}
 use Rattle.rkyv_base.specs.ElementSpec.{ElementSpec}
-use Rattle.rkyv_table.specs.Table.Header.{cap_at}
 use Rattle.rkyv_table.specs.Controls.Numbers.{capacity}
 use Rattle.rkyv_table.specs.Table.Positions.{IsWalked, WrittenAt, home_positions, item_at}
 use Rattle.rkyv_table.specs.Lemmas.SameHeader.{cap_same, len_same}
 use Rattle.rkyv_table.proofs.Lists.{set_each}
-use Rattle.rkyv_table.proofs.WrittenAccepted.{homes_apart}
-use Rattle.rkyv_table.proofs.WrittenTables.{home_count, home_pos, home_walked}
+use Rattle.rkyv_table.proofs.WrittenTables.{home_pos, home_walked, homes_differ}
 use Rattle.rkyv_collections.specs.Map.{MapWrittenAt}
+use Rattle.rkyv_collections.specs.Lemmas.PairHomes.{homes_count}
 use Rattle.rkyv_collections.specs.Map.MapFormat.{MapRepresents}
 
 -- if all entries have the same positions and their keys the same hashes, a written map is still one
@@ -49,11 +47,8 @@ module _ (w : Width) (k v : ElementSpec) {A B : Type 0} (key : List ℕ → ℕ 
   abbrev hashes : List ℕ
   hashes = map (key_hash b) (positions b)
 
-  homes_count : length st.homes ≡ length pairs
-  homes_count = home_count w b p hashes st.homes st.written ∙ sym st.written.count ∙ st.len
-
   has_home : (j : ℕ) → j < length pairs → j < length st.homes
-  has_home j h = omega (arith, homes_count)
+  has_home j h = omega (arith, homes_count st)
 
   -- the home bucket of the pair `j`
   pub home : ℕ → ℕ
@@ -78,15 +73,9 @@ module _ (w : Width) (k v : ElementSpec) {A B : Type 0} (key : List ℕ → ℕ 
   own_pos = pos_home n inside
 
   -- no two pairs have one home bucket
-  homes_differ : (j : ℕ) → j < length pairs → j ≢ n → home j ≢ home n
+  apart : (j : ℕ) → j < length pairs → j ≢ n → home j ≢ home n
   unfolding home
-  homes_differ j h ne e = elim st.written.placed [
-    | inl none ↦ let z : length st.homes ≡ 0 = ap length none.1 in omega (arith, z, homes_count, inside)
-    | inr some ↦ elim (cases_lt j n) [
-      | inl less ↦ homes_apart (cap_at w b p) hashes st.homes some.1.placed j n less (omega (arith, homes_count, inside)) e
-      | inr more ↦ homes_apart (cap_at w b p) hashes st.homes some.1.placed n j (omega (arith, ne)) (omega (arith, homes_count)) (sym e)
-    ]
-  ]
+  apart j h = homes_differ w b p hashes st.homes st.written j n (has_home j h) (has_home n inside)
 
   module _ (header : AgreeOn b c p (p + 3 * byte_len w)) (stay : (j : ℕ) → item_at w (entry_spec k v).size c p j ≡ at j)
       (again : (homes : List ℕ) → MapWrittenAt w (entry_spec k v) key_hash b p homes → MapWrittenAt w (entry_spec k v) key_hash c p homes)
@@ -94,7 +83,7 @@ module _ (w : Width) (k v : ElementSpec) {A B : Type 0} (key : List ℕ → ℕ 
       (others : (j : ℕ) → IsWalked w b p j → j ≢ home n → (x : A × B) → PairRepresents k v key value b (at j) x → PairRepresents k v key value c (at j) x) where
     pos_stays : (j : ℕ) → j < length pairs → slice_index (positions c) j ≡ at (home j)
     unfolding home
-    pos_stays j h = get_or-map (item_at w (entry_spec k v).size c p) st.homes j 0 0 (omega (arith, homes_count)) ∙ stay (home j)
+    pos_stays j h = get_or-map (item_at w (entry_spec k v).size c p) st.homes j 0 0 (omega (arith, homes_count st)) ∙ stay (home j)
 
     own_represents : PairRepresents k v key value c (slice_index (positions c) n) (pair.0, new)
     own_represents = subst (λ z. PairRepresents k v key value c z (pair.0, new)) (sym (pos_stays n inside)) (own (subst (λ z. key b z pair.0) own_pos (st.at n pair at_n).0))
@@ -103,7 +92,7 @@ module _ (w : Width) (k v : ElementSpec) {A B : Type 0} (key : List ℕ → ℕ 
     other_represents j x at_j ne =
         let h = slice_get_within pairs j x at_j in
         let before = subst (λ z. PairRepresents k v key value b z x) (pos_home j h) (st.at j x at_j) in
-        subst (λ z. PairRepresents k v key value c z x) (sym (pos_stays j h)) (others (home j) (walked_home j h) (homes_differ j h ne) x before)
+        subst (λ z. PairRepresents k v key value c z x) (sym (pos_stays j h)) (others (home j) (walked_home j h) (apart j h ne) x before)
 
     -- the pair has the new value, and all other pairs are unchanged
     pub new_value_represents : MapRepresents w k v key value key_hash factor c p (slice_set pairs n (pair.0, new))

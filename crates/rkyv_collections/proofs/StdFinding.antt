@@ -20,10 +20,10 @@ use Rattle.rkyv_keys.specs.Lemmas.OfEntries.{valid_key}
 use Rattle.rkyv_table.specs.Table.Positions.{home_positions, pos_found}
 use Rattle.rkyv_collections.specs.Map.Equality.{pair_at}
 use Rattle.rkyv_keys.specs.FirstPairs.{first_pair}
+use Rattle.rkyv_keys.specs.Calls.{hash_at, hash_of}
 use Rattle.rkyv_collections.specs.Map.ListedLookups.{IsPairOf}
-use Rattle.rkyv_collections.specs.Map.{hash_at}
 use Rattle.rkyv_collections.specs.Map.MapSpec.{map_spec}
-use Rattle.rkyv_collections.specs.Map.MapFormat.{MapRepresents, hash_of, map_format}
+use Rattle.rkyv_collections.specs.Map.MapFormat.{MapRepresents, map_format}
 use Rattle.rkyv_collections.specs.Lemmas.MapSound.{listed_map_sound}
 use Rattle.rkyv_table.specs.Table.Listed.{listed}
 use Rattle.rkyv_table.specs.Table.TableFormat.{TableResolver}

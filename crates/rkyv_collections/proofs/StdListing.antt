@@ -10,11 +10,11 @@ use Rattle.rkyv_base.specs.Root.{RootBytes}
 use Rattle.rkyv_base.specs.Text.{IsArchiveWord}
 use Rattle.rkyv_keys.specs.Equality.{Comparison}
 use Rattle.rkyv_keys.specs.Keys.{FitsItsEqual, IsQuery}
+use Rattle.rkyv_keys.specs.Calls.{hash_at, hash_of}
 use Rattle.rkyv_table.specs.Table.Listed.{listed}
 use Rattle.rkyv_collections.specs.Lemmas.MapSound.{listed_map_sound}
-use Rattle.rkyv_collections.specs.Map.{hash_at}
 use Rattle.rkyv_collections.specs.Map.ListArchives.{map_root}
-use Rattle.rkyv_collections.specs.Map.MapFormat.{MapRepresents, hash_of, map_format}
+use Rattle.rkyv_collections.specs.Map.MapFormat.{MapRepresents, map_format}
 use Rattle.rkyv_collections.specs.Map.MapSpec.{map_element, map_spec}
 use Rattle.rkyv_collections.specs.StdMaps.StdMap.{of_entries}
 use Rattle.rkyv_collections.proofs.WrittenRoots.{root_keeps}

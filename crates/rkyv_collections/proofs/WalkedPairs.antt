@@ -1,5 +1,5 @@
 -- A walk over a map that represents a list returns each item of the list once.
-use Rattle.std.proofs.Common.{◌≡◌, ◌∙◌, ℕ, zero, suc, ◌<◌, List, [], ◌∷◌, false, Some, ap, arith, eqb, get_or, inl, inr, length, map, refl, remove, slice_get, slice_index, slice_set, subst, swap, sym, IsPermutation}
+use Rattle.std.proofs.Common.{◌≡◌, ◌∙◌, ℕ, zero, suc, ◌<◌, List, [], ◌∷◌, false, Some, ap, arith, eqb, get_or, length, map, refl, remove, slice_get, slice_index, slice_set, subst, swap, sym, IsPermutation}
 use Rattle.std.specs.Int.{Width}
 use Rattle.std.specs.List.{AllZip, Contains, IsDistinct}
 use Rattle.std.proofs.lemmas.Bool.{eq-eqb, true≢false}
@@ -15,11 +15,10 @@ use Rattle.rkyv_base.specs.ElementSpec.{ElementSpec}
 use Rattle.rkyv_table.specs.Controls.Placing.{walk}
 use Rattle.rkyv_table.specs.Table.Header.{cap_at}
 use Rattle.rkyv_table.specs.Table.ItemValues.{with_units}
-use Rattle.rkyv_table.specs.Table.Positions.{WrittenAt, home_positions, item_at, table_controls}
-use Rattle.rkyv_table.specs.Table.WalkLaws.{VisitsHomes}
-use Rattle.rkyv_table.proofs.WalkedHomes.{none_visits, walked_homes}
-use Rattle.rkyv_table.proofs.WrittenTables.{home_count, home_pos}
+use Rattle.rkyv_table.specs.Table.Positions.{home_positions, item_at, table_controls}
+use Rattle.rkyv_table.proofs.WrittenTables.{home_pos}
 use Rattle.rkyv_collections.specs.Map.ListedWalks.{HasEachOnce, SetWalksVisitEach, WalksVisitEach, WalksVisitPairs, key_positions_at}
+use Rattle.rkyv_collections.specs.Lemmas.PairHomes.{homes_count, homes_visited}
 use Rattle.rkyv_collections.specs.Map.MapFormat.{MapRepresents}
 
 -- ---- distinct numbers, and a list of the same length that has each of them
@@ -115,32 +114,11 @@ module _ {A B : Type 0} (w : Width) (k v : ElementSpec) (key : List ℕ → ℕ 
     positions : List ℕ
     positions = home_positions w (entry_spec k v).size b p represents.homes
 
-    hashes : List ℕ
-    hashes = map (key_hash b) positions
-
-    written : WrittenAt w b p hashes represents.homes
-    unfolding hashes positions
-    written = represents.written
-
-    homes_count : length represents.homes ≡ length pairs
-    homes_count = home_count w b p hashes represents.homes written ∙ sym written.count ∙ represents.len
-
-    walk_visits : VisitsHomes (cap_at w b p) represents.homes (table_controls w b p)
-    walk_visits =
-        let controls = table_controls w b p in
-        elim written.placed [
-          | inl none ↦
-              let n : length pairs ≡ 0 = sym homes_count ∙ ap length none.1 in
-              let cap : cap_at w b p ≡ 0 = represents.cap ∙ rw n refl in
-              subst (λ n. VisitsHomes n represents.homes controls) (sym cap) (subst (λ (xs : List ℕ). VisitsHomes 0 xs controls) (sym none.1) (none_visits controls))
-          | inr some ↦ walked_homes (cap_at w b p) hashes represents.homes controls some.0 written.fit some.1
-        ]
-
     -- the positions of the walk are those of the home buckets, in another order
     walk_moved : IsPermutation positions (key_positions_at w k v b p)
     unfolding positions
     walk_moved =
-        let visits = walk_visits in
+        let visits = homes_visited represents in
         let walked = walk (table_controls w b p) (cap_at w b p) in
         IsPermutation-map (item_at w (entry_spec k v).size b p) represents.homes walked
         (permuted represents.homes walked visits.once visits.count (λ bucket. (visits.members bucket).1))
@@ -151,16 +129,16 @@ module _ {A B : Type 0} (w : Width) (k v : ElementSpec) (key : List ℕ → ℕ 
         → HasEachOnce R (key_positions_at w k v b p) xs
     unfolding positions
     walk_has_each R xs long each =
-        let count : length positions ≡ length xs = length-map represents.homes (item_at w (entry_spec k v).size b p) ∙ homes_count ∙ sym long in
+        let count : length positions ≡ length xs = length-map represents.homes (item_at w (entry_spec k v).size b p) ∙ homes_count represents ∙ sym long in
         permuted_has_each R positions (key_positions_at w k v b p) xs walk_moved (zip_from R positions xs count each)
 
     pair_at_home : (n : ℕ) (pair : A × B) → slice_get pairs n ≡ Some pair → PairRepresents k v key value b (item_at w (entry_spec k v).size b p (slice_index represents.homes n)) pair
     pair_at_home n pair at =
-        let below : n < length represents.homes = omega (arith, slice_get_within pairs n pair at, homes_count) in
+        let below : n < length represents.homes = omega (arith, slice_get_within pairs n pair at, homes_count represents) in
         subst (λ q. PairRepresents k v key value b q pair) (home_pos w (entry_spec k v).size b p represents.homes n below) (represents.at n pair at)
 
   pub walks_visit_pairs : WalksVisitPairs w k v key value key_hash
-  walks_visit_pairs factor b p pairs represents = (walk_visits factor b p pairs represents, pair_at_home factor b p pairs represents)
+  walks_visit_pairs factor b p pairs represents = (homes_visited represents, pair_at_home factor b p pairs represents)
 
   pub walks_visit_each : WalksVisitEach w k v key value key_hash
   walks_visit_each factor b p pairs represents = walk_has_each factor b p pairs represents (PairRepresents k v key value b) pairs refl represents.at

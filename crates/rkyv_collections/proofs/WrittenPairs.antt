@@ -11,6 +11,7 @@ use Rattle.rkyv_scan.specs.Lemmas.KindLaws.{word_lawful}
 use Rattle.rkyv_base.specs.Entry.{entry_spec}
 use Rattle.rkyv_base.specs.Lemmas.Entry.{entry_element}
 use Rattle.rkyv_base.specs.ElementSpec.{ElementSpec, IsElement, ValidAt, Viewable}
+use Rattle.rkyv_keys.specs.Lemmas.OfEntries.{valid_key}
 use Rattle.rkyv_table.specs.Table.Header.{cap_at, len_at}
 use Rattle.rkyv_table.specs.Controls.Placing.{walk}
 use Rattle.rkyv_table.specs.Table.Positions.{IsWalked, home_positions, item_at, item_positions}
@@ -58,6 +59,9 @@ module _ (w : Width) (k v : ElementSpec) (kl : IsElement k) (vl : IsElement v) (
 
   pub pair_valid : (i : ℕ) → i < length homes → ValidAt (entry_spec k v) b (pair_at w k v b p homes i)
   pair_valid i h = (item_viewable w (entry_spec k v) (entry_element k v kl vl) b p view (slice_index homes i) (pair_walked i h)).valid
+
+  pub key_valid : (i : ℕ) → i < length homes → ValidAt k b (pair_at w k v b p homes i)
+  key_valid i h = valid_key kl vl b (pair_at w k v b p homes i) (pair_valid i h)
 
   -- the length in the header is the number of pairs
   pub len_is_count : len_at w b p ≡ length homes

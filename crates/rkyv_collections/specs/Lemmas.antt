@@ -3,6 +3,7 @@ pub mod MapLaws
 pub mod MapSound
 pub mod SetSound
 pub mod DistinctEntries
+pub mod PairHomes
 pub mod StdMapLaws
 pub mod StdEqualLaws
 pub mod StdOnce

@@ -25,7 +25,6 @@ use Rattle.std.specs.Int.{Width}
 use Rattle.std.specs.List.{find}
 use Rattle.std.specs.Option.{option_map}
 use Rattle.rkyv_scan.specs.Groups.{generic_kind}
-use Rattle.rkyv_scan.specs.Hash.{Hasher, HasherCall, hash_of_calls}
 use Rattle.rkyv_base.specs.Entry.{entry_spec, value_offset}
 use Rattle.rkyv_base.specs.ElementSpec.{ElementSpec}
 use Rattle.rkyv_base.specs.View.{IsAt, IsValidView, archive_of, bytes_of, pos_of, pos_of_found}
@@ -99,11 +98,6 @@ module _ {K V H W : Type 0} {ks : Specs K} {vs : Specs V} {wt : Words W} where
   abbrev pub IsEntryIn : ArchivedHashMap K V H W ks vs wt → View (Entry K V) → Type 0
   IsEntryIn m entry = (entry.archive ≡ map_archive m)
       × IsValidView (entry_spec ks.spec vs.spec) entry × IsKeyPos m entry.pos
-
--- the hash of the key at `q`
-abbrev pub hash_at : {State : Type 0} → Hasher State → (List ℕ → ℕ → List HasherCall) → List ℕ → ℕ
-    → ℕ
-hash_at hasher calls b q = hash_of_calls hasher (calls b q)
 
 -- the table at `p` was written of entries under the hashes of their keys, in insertion order,
 -- with the home buckets `homes`

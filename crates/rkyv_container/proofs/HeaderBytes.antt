@@ -203,7 +203,8 @@ header_equal h k c n s =
     = cc in
     e
 
-flags_fit : (c : Option ℕ) → flags_of c < 2 ^ 16
+-- the flags fit in two bytes
+pub flags_fit : (c : Option ℕ) → flags_of c < 2 ^ 16
 flags_fit None = omega arith
 flags_fit (Some c) = omega arith
 

@@ -60,7 +60,7 @@ use Rattle.rkyv_container.specs.Header.{
   start_checks,
 }
 use Rattle.rkyv_container.proofs.Checking.{fails_first, fails_later, pass_both}
-use Rattle.rkyv_container.proofs.HeaderBytes.{field, header_length, slice_join}
+use Rattle.rkyv_container.proofs.HeaderBytes.{field, flags_fit, header_length, slice_join}
 
 -- the error of the last of the four codes
 pub width_fails : (f : List ℕ) → IsKindCode (slice_index f 0) → IsItemCode (slice_index f 1)
@@ -99,10 +99,6 @@ flags_pass : (c : Option ℕ) (n s : ℕ) → n ≡ flags_of c → s ≡ checksu
     → AllPass (flag_checks n s)
 flags_pass None n s e f = (omega arith, (inr f, tt))
 flags_pass (Some c) n s e f = (omega arith, (inl e, tt))
-
-flags_fit : (c : Option ℕ) → flags_of c < 2 ^ 16
-flags_fit None = omega arith
-flags_fit (Some c) = omega arith
 
 -- bytes that begin with a header pass the checks
 pub header_passes : (h : Header) (b : List ℕ) → IsHeader h b → AllPass (header_checks b)

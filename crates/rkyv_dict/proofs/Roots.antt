@@ -1,5 +1,5 @@
 -- The root of an archive of a map, and its values.
-use Rattle.std.proofs.Common.{◌≡◌, ℕ, ◌+◌, refl, ap, ◌∙◌, List, Option, Some, None, IfSome, subst, sym}
+use Rattle.std.proofs.Common.{◌≡◌, ℕ, ◌+◌, refl, ap, ◌∙◌, List, Option, Some, None, IfSome}
 use Rattle.std.specs.Borrow.{Bor}
 use Rattle.std.specs.Option.{option_map}
 use Rattle.std.proofs.lemmas.Option.{same_Some}
@@ -8,6 +8,7 @@ use Rattle.rkyv_base.specs.Lemmas.Access.{root_viewable}
 use Rattle.rkyv_base.specs.ElementSpec.{Viewable}
 use Rattle.rkyv_base.specs.View.{IsAt, bytes_of, pos_of, pos_of_found}
 use Rattle.rkyv_base.specs.declared.view.View.{View}
+use Rattle.rkyv_base.proofs.AtViews.{read_at}
 use Rattle.rkyv_keys.specs.AtViews.{at_view}
 use Rattle.rkyv_dict.specs.Archives.{IsMapArchive, header_spec, root}
 use Rattle.rkyv_dict.specs.MapTypes.{MapTypes}
@@ -19,14 +20,6 @@ module _ (k : MapTypes) (b : List ℕ) where
 
   pub map_root_viewable : IsMapArchive k b → Viewable (header_spec k) b (root k b)
   map_root_viewable h = root_viewable k.limit (header_spec k) b (accepted h)
-
--- a function of the bytes and position of a view is that of the archive and `p`
-pub read_at : {X T : Type 0} (f : List ℕ → ℕ → X) (v : View T) (archive : Bor (List ℕ)) (p : ℕ) → IsAt v archive p → f (bytes_of v) (pos_of v) ≡ f archive.now p
-read_at f v archive p h = ap (λ (a : Bor (List ℕ)). f a.now v.pos) h.0 ∙ ap (f archive.now) h.1
-
--- a property of the archive at `p` is one of the view
-pub back_at : {T : Type 0} (P : List ℕ → ℕ → Type 0) (v : View T) (archive : Bor (List ℕ)) (p : ℕ) → IsAt v archive p → P archive.now p → P (bytes_of v) (pos_of v)
-back_at P v archive p h x = subst (λ (a : Bor (List ℕ)). P a.now v.pos) (sym h.0) (subst (P archive.now) (sym h.1) x)
 
 pub some_map : {X : Type 0} {P Q : X → Type 0} (o : Option X) → ((x : X) → P x → Q x) → IfSome o P → IfSome o Q
 some_map None f h = h
@@ -46,4 +39,4 @@ pub text_read : {T V : Type 0} (text : List ℕ → ℕ → List ℕ) (off : ℕ
     → pos_of_found value ≡ option_map (λ q. q + off) (key_pos (bytes_of v) (pos_of v)) → option_map (at_view text) value ≡ option_map (λ q. text archive.now (q + off)) (key_pos archive.now p)
 text_read text off v archive p at value same key_pos e =
     let bytes : IfSome value (λ x. bytes_of x ≡ archive.now) = some_map value (λ x s. ap (λ (a : Bor (List ℕ)). a.now) (s ∙ at.0)) same in
-    text_found text archive.now off value (key_pos archive.now p) bytes (e ∙ ap (option_map (λ q. q + off)) (read_at key_pos v archive p at))
+    text_found text archive.now off value (key_pos archive.now p) bytes (e ∙ ap (option_map (λ q. q + off)) (read_at v archive p at key_pos))

@@ -1,11 +1,7 @@
 -- Writing a list with its header, step by step, and the written list.
-use Rattle.std.proofs.Common.{◌≡◌, ℕ, ◌+◌, ◌-◌, ◌*◌, ◌%◌, ◌≤◌, ◌∙◌, inl, inr, refl, sym, ap, subst, arith, append_assoc, length-append, length-take, suc, Bool, true, List, [], ◌∷◌, ◌++◌, length, slice_get, slice_index, Some, take}
+use Rattle.std.proofs.Common.{◌≡◌, ℕ, ◌+◌, ◌-◌, ◌*◌, ◌%◌, ◌≤◌, ◌∙◌, inl, inr, refl, sym, ap, subst, arith, append_assoc, length-append, length-take, Bool, List, [], ◌∷◌, ◌++◌, length, take}
 use Rattle.std.specs.Int.{Width, byte_len}
-use Rattle.std.specs.List.{find}
-use Rattle.std.specs.Option.{option_map}
-use Rattle.std.proofs.lemmas.Bool.{cases_Bool}
-use Rattle.std.proofs.lemmas.Option.{slice_get-map, slice_get_cases}
-use Rattle.std.proofs.lemmas.List.{get_or-map, length-map, length-replicate, take_all}
+use Rattle.std.proofs.lemmas.List.{length-map, length-replicate, take_all}
 use Rattle.rkyv_base.specs.Members.{ElementMembers, WidthMembers}
 use Rattle.rkyv_base.specs.Bytes.{OccursAt}
 use Rattle.rkyv_base.specs.Lemmas.Bytes.{occurs_back, occurs_front}
@@ -32,18 +28,17 @@ use Rattle.rkyv_table.specs.Table.Bare.{TableIn}
 use Rattle.rkyv_table.specs.Table.Layout.{table_spec}
 use Rattle.rkyv_table.specs.Table.Passing.{IsValidAround, WrittenTablesPass}
 use Rattle.rkyv_table.specs.Table.Serializing.{WriteItemsFails}
-use Rattle.rkyv_table.specs.Table.FirstItem.{AreUnder, IsFirstOf}
+use Rattle.rkyv_table.specs.Table.FirstItem.{IsFirstOf}
 use Rattle.rkyv_table.specs.Table.Header.{IsHeader, cap_at}
 use Rattle.rkyv_table.specs.Controls.Numbers.{capacity}
-use Rattle.rkyv_table.specs.Controls.Laws.{IsUnderHash}
-use Rattle.rkyv_table.specs.Table.Positions.{home_positions, table_controls}
+use Rattle.rkyv_table.specs.Table.Positions.{table_controls}
 use Rattle.rkyv_table.specs.Table.PlacedItems.{hashes_of, items_of}
 use Rattle.rkyv_table.specs.Table.WalkLaws.{VisitsHomes, WalkVisitsHomes}
-use Rattle.rkyv_table.specs.Table.WrittenTables.{ValidWereWritten}
+use Rattle.rkyv_table.specs.Table.WrittenTables.{IsWrittenOf, ValidWereWritten}
+use Rattle.rkyv_table.proofs.FirstItem.{accepted_under, first_at_home}
 use Rattle.rkyv_table.proofs.WalkedHomes.{none_visits}
-use Rattle.rkyv_table.proofs.WrittenTables.{home_count}
 use Rattle.rkyv_table.specs.Table.TableFormat.{TableRepresents, TableResolver, resolved_capacity, table_format}
-use Rattle.rkyv_end_to_end.specs.Listing.{AgreesAt, Encoding, IsWrittenList, ListBytes, ListInput, ListsAreValid, ReportsList, VisitsItems, WriteAndFindFails, WriteListFails, WroteList, list_format, table_of}
+use Rattle.rkyv_end_to_end.specs.Listing.{Encoding, IsWrittenList, ListBytes, ListInput, ListsAreValid, ReportsList, VisitsItems, WriteAndFindFails, WriteListFails, WroteList, list_format, table_of}
 use Rattle.rkyv_end_to_end.specs.Report.{LookOverFails, ReportsTable}
 use Rattle.rkyv_end_to_end.specs.declared.looking.LookError.{LookError}
 use Rattle.rkyv_end_to_end.specs.declared.looking.LookError.TheVariants.{Memory, Verify}
@@ -178,46 +173,6 @@ module _ {X R : Type 0} (w : Width) (items : Encoding X R) (load_factor : ℕ ×
         omega (arith, len, whole, at),
       )
 
--- the first accepted position is that of the first accepted item
-first_along : {X : Type 0} (represents : List ℕ → ℕ → X → Type 0) (c : List ℕ) (accept : X → Bool) (accept_at : ℕ → Bool) (items : List X) (qs : List ℕ)
-    → length items ≡ length qs → ((i : ℕ) (x : X) → slice_get items i ≡ Some x → represents c (slice_index qs i) x) → AgreesAt qs items accept accept_at → IsFirstOf represents c accept items (find accept_at qs)
-first_along represents c accept accept_at [] [] n there agrees = refl
-first_along represents c accept accept_at [] (q ∷ qs) n there agrees = absurd (omega arith)
-first_along represents c accept accept_at (x ∷ xs) [] n there agrees = absurd (omega arith)
-first_along represents c accept accept_at (x ∷ xs) (q ∷ qs) k there agrees =
-    let same : accept_at q ≡ accept x = agrees 0 x refl in
-    elim (cases_Bool (accept_at q)) [
-      | inl y ↦ rw (y, sym same ∙ y) (x, refl, there 0 x refl)
-      | inr n ↦ rw (n, sym same ∙ n) (first_along represents c accept accept_at xs qs (omega (arith, k)) (λ i y e. there (suc i) y e) (λ i y e. agrees (suc i) y e))
-    ]
-
--- the items and the lookup of a written list
-module _ {X : Type 0} (t : TableIn) (represents : List ℕ → ℕ → X → Type 0) (pairs : List (ℕ × X)) (items : VisitsItems t represents pairs) (hash : ℕ) (accept : X → Bool) (accept_at : ℕ → Bool) where
-  abbrev positions : List ℕ
-  positions = home_positions t.word t.spec.size t.bytes t.pos items.homes
-
-  hashes_count : length (hashes_of pairs) ≡ length pairs
-  hashes_count = length-map pairs (λ (y : ℕ × X). y.0)
-
-  positions_count : length (items_of pairs) ≡ length positions
-  positions_count = length-map pairs (λ (y : ℕ × X). y.1) ∙ sym hashes_count ∙ sym (home_count t.word t.bytes t.pos (hashes_of pairs) items.homes items.written) ∙ sym (length-map items.homes _)
-
-  -- only positions of items with the hash are accepted
-  pub accepted_under : AreUnder hash accept pairs → AgreesAt positions (items_of pairs) accept accept_at → IsUnderHash hash (hashes_of pairs) positions accept_at
-  accepted_under under agrees i below t = elim (slice_get_cases pairs i).1 [
-    | inl e ↦
-        let pair = e.0 in
-        let item : slice_get (items_of pairs) i ≡ Some pair.1 = slice_get-map (λ (y : ℕ × X). y.1) pairs i ∙ ap (option_map (λ (y : ℕ × X). y.1)) e.2 in
-        let same = agrees i pair.1 item in
-        let own : pair.0 ≡ hash = subst (λ (y : ℕ × X). accept y.1 ≡ true → y.0 ≡ hash) e.3 (under i pair e.1) (sym same ∙ t) in
-        get_or-map (λ (y : ℕ × X). y.0) pairs i pair 0 e.1 ∙ ap (λ (y : ℕ × X). y.0) e.3 ∙ own
-    | inr past ↦ absurd (omega (arith, past.0, below, hashes_count))
-  ]
-
-  -- the first accepted position is that of the first accepted item
-  pub first_at_home : AgreesAt positions (items_of pairs) accept accept_at → IsFirstOf represents t.bytes accept (items_of pairs) (find accept_at positions)
-  first_at_home agrees = first_along represents t.bytes accept accept_at (items_of pairs) positions positions_count items.at agrees
-
 -- a written list that was looked up
 module _ {T X R : Type 0} (list : ListInput X R) (post : View T → Bool → Type 0) (hash : ℕ) (o o' : Output) where
   pub written_found : (end p : ℕ) (wrote : WroteList list o o' end p) → IsWrittenList (table_of list o' p) list.items.represents list.load_factor (end_of o) end wrote.1
@@ -228,6 +183,8 @@ module _ {T X R : Type 0} (list : ListInput X R) (post : View T → Bool → Typ
       let there : ReportsTable t post hash report =
       subst (λ (c : List ℕ). ReportsTable (record { word = list.width.word; spec = list.items.spec; bytes = c; pos = p }) post hash report) same reports in
       let pairs : List (ℕ × X) = wrote.1 in
+      let items : IsWrittenOf t.word t.spec.size list.items.represents t.bytes t.pos pairs =
+      record { homes = valid.items.homes; written = valid.items.written; at = valid.items.at } in
       record {
         fits = wrote.0;
         pairs = pairs;
@@ -240,8 +197,8 @@ module _ {T X R : Type 0} (list : ListInput X R) (post : View T → Bool → Typ
         first = λ accept accept_at compares agrees under.
             subst (IsFirstOf list.items.represents o'.bytes accept (items_of pairs))
             (sym (there.looks.first (hashes_of pairs) valid.items.homes accept_at valid.items.written compares
-            (accepted_under t list.items.represents pairs valid.items hash accept accept_at under agrees)))
-            (first_at_home t list.items.represents pairs valid.items hash accept accept_at agrees);
+            (accepted_under t.word t.spec.size list.items.represents t.bytes t.pos pairs items hash accept accept_at agrees under)))
+            (first_at_home t.word t.spec.size list.items.represents t.bytes t.pos pairs items hash accept accept_at agrees);
         reports = there;
       }
 

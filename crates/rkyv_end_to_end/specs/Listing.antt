@@ -17,7 +17,7 @@ use Rattle.rkyv_base.specs.declared.errors.WriteError.{WriteError}
 use Rattle.rkyv_base.specs.declared.lend.Lend.{Ghosts as Lends}
 use Rattle.rkyv_base.specs.declared.view.View.{View}
 use Rattle.rkyv_table.specs.Table.Bare.{ComparesByOf, TableIn}
-use Rattle.rkyv_table.specs.Table.FirstItem.{AreUnder, IsFirstOf}
+use Rattle.rkyv_table.specs.Table.FirstItem.{AgreesAt, AreUnder, IsFirstOf}
 use Rattle.rkyv_table.specs.Table.Header.{cap_at}
 use Rattle.rkyv_table.specs.Table.Input.{Input, from_both}
 use Rattle.rkyv_table.specs.Table.Layout.{table_spec}
@@ -163,11 +163,6 @@ ListsAreValid {X} w items load_factor =
     → IsWrittenList (record { word = w; spec = items.spec; bytes = c; pos = p })
     items.represents load_factor begin end pairs
     × (p + 3 * byte_len w ≡ begin + length bytes)
-
--- `accept_at` returns at the position of each item what `accept` returns for the item
-abbrev pub AgreesAt : {X : Type 0} → List ℕ → List X → (X → Bool) → (ℕ → Bool) → Type 0
-AgreesAt {X} positions items accept accept_at =
-    (i : ℕ) (x : X) → slice_get items i ≡ Some x → accept_at (slice_index positions i) ≡ accept x
 
 -- the lookup finds the first accepted item, or none if no item is accepted.
 -- The comparison must be a function of the position, agree with `accept` at the position of each

@@ -26,6 +26,7 @@ use Rattle.rkyv_table.proofs.Moved.{moved}
 use Rattle.rkyv_table.proofs.ValidTable.{controls_inside, item_before}
 use Rattle.rkyv_table.proofs.RawWalks.{walked_all}
 use Rattle.rkyv_table.specs.Lemmas.TableLaws.{table_element}
+use Rattle.rkyv_table.proofs.Lists.{range_cons}
 use Rattle.rkyv_index.specs.Index.IndexLayout.{AreBelow, IndicesBelow, entry_at, stored_index_spec}
 use Rattle.rkyv_index.specs.Lemmas.IndexLaws.{stored_index_element}
 use Rattle.rkyv_index.specs.Lemmas.IndexSpecs.{index_table_is_valid}
@@ -40,10 +41,6 @@ entry_aligned s law begin i h =
 -- the end of entry `i` is the position of entry `i + 1`
 pub entry_next : (size begin i : ℕ) → entry_at size begin i + size ≡ entry_at size begin (i + 1)
 entry_next size begin i = let m = add-mul i 1 size in omega (arith, m)
-
--- the indices from `i` on are `i` and those from `i + 1` on
-pub indices_step : (i n : ℕ) → i < n → range_with_len i (n - i) ≡ i ∷ range_with_len (i + 1) (n - (i + 1))
-indices_step i n h = let e : n - i ≡ suc (n - (i + 1)) = omega arith in ap (range_with_len i) e
 
 -- a number that fits is unchanged by its encoding
 pub decoded_is : (r x : ℤ) → FitsSigned w128 r → r ≡ x → to_z w128 (of_z w128 r) ≡ x
@@ -70,16 +67,16 @@ table_viewable w kind s e laws is b p lo hi m inside aligned o o' h = record {
 -- one more index of a range, which passes the test `P` or fails it
 module _ (P : ℕ → Bool) (i n : ℕ) (below : i < n) where
   pub filter_step : (passes : P i ≡ true) → length (filter P (range_with_len i (n - i))) ≡ 1 + length (filter P (range_with_len (i + 1) (n - (i + 1))))
-  filter_step passes = ap (λ (xs : List ℕ). length (filter P xs)) (indices_step i n below) ∙ rw passes (omega arith)
+  filter_step passes = ap (λ (xs : List ℕ). length (filter P xs)) (range_cons i n below) ∙ rw passes (omega arith)
 
   pub filter_skip : (fails : P i ≡ false) → length (filter P (range_with_len i (n - i))) ≡ length (filter P (range_with_len (i + 1) (n - (i + 1))))
-  filter_skip fails = ap (λ (xs : List ℕ). length (filter P xs)) (indices_step i n below) ∙ rw fails refl
+  filter_skip fails = ap (λ (xs : List ℕ). length (filter P xs)) (range_cons i n below) ∙ rw fails refl
 
   pub all_step : (passes : P i ≡ true) → list_all P (range_with_len i (n - i)) ≡ list_all P (range_with_len (i + 1) (n - (i + 1)))
-  all_step passes = ap (list_all P) (indices_step i n below) ∙ rw passes refl
+  all_step passes = ap (list_all P) (range_cons i n below) ∙ rw passes refl
 
   pub all_fails : (fails : P i ≡ false) → list_all P (range_with_len i (n - i)) ≡ false
-  all_fails fails = ap (list_all P) (indices_step i n below) ∙ rw fails refl
+  all_fails fails = ap (list_all P) (range_cons i n below) ∙ rw fails refl
 
 -- no index remains
 pub none_left : (i n : ℕ) → n ≤ i → range_with_len i (n - i) ≡ []

@@ -16,6 +16,7 @@ use Rattle.rkyv_base.specs.Text.{IsArchiveWord}
 use Rattle.rkyv_keys.specs.Equality.{Comparison}
 use Rattle.rkyv_keys.specs.Keys.{IsQuery}
 use Rattle.rkyv_keys.specs.Lemmas.OfEntries.{valid_key}
+use Rattle.rkyv_keys.specs.Calls.{hash_at}
 use Rattle.rkyv_table.specs.Controls.Finding.{found}
 use Rattle.rkyv_table.specs.Table.Header.{cap_at, len_at}
 use Rattle.rkyv_table.specs.Table.Misplaced.{is_found_at}
@@ -26,7 +27,7 @@ use Rattle.rkyv_table.proofs.Walks.{walked_full}
 use Rattle.rkyv_table.proofs.Lists.{option_map_some}
 use Rattle.rkyv_index.specs.Index.Complete.{FindsTheOne}
 use Rattle.rkyv_index.specs.Index.Equality.{index_misplaced, own_found}
-use Rattle.rkyv_index.specs.Index.{Index, hash_at, index_found}
+use Rattle.rkyv_index.specs.Index.{Index, index_found}
 use Rattle.rkyv_index.specs.Index.IndexLayout.{pair_pos}
 use Rattle.rkyv_index.specs.Index.IndexLayout.{index_spec, stored_index_spec}
 use Rattle.rkyv_index.specs.Lemmas.IndexLaws.{stored_index_element}

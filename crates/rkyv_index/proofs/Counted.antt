@@ -2,7 +2,8 @@
 use Rattle.std.proofs.Common.{◌≡◌, ◌+◌, ◌-◌, ◌<◌, ◌≤◌, ◌∙◌, ap, arith, true, false, Bool, List, ℕ, filter, length}
 use Rattle.std.specs.List.{range_with_len, sum_by}
 use Rattle.std.proofs.lemmas.List.Sums.{sum_by-cons}
-use Rattle.rkyv_index.proofs.Checking.{all_left, filter_skip, filter_step, indices_step, none_left}
+use Rattle.rkyv_table.proofs.Lists.{range_cons}
+use Rattle.rkyv_index.proofs.Checking.{all_left, filter_skip, filter_step, none_left}
 
 -- at first, all indices remain
 pub left_first : (P : ℕ → Bool) (n : ℕ) → length (filter P (range_with_len 0 (n - 0))) ≡ length (filter P (range_with_len 0 n))
@@ -25,7 +26,7 @@ module _ (f : ℕ → ℕ) (i n : ℕ) where
   sum_first = ap (sum_by f) (all_left n)
 
   pub sum_step : i < n → sum_by f (range_with_len i (n - i)) ≡ f i + sum_by f (range_with_len (i + 1) (n - (i + 1)))
-  sum_step below = ap (sum_by f) (indices_step i n below) ∙ sum_by-cons f i (range_with_len (i + 1) (n - (i + 1)))
+  sum_step below = ap (sum_by f) (range_cons i n below) ∙ sum_by-cons f i (range_with_len (i + 1) (n - (i + 1)))
 
   pub sum_end : n ≤ i → sum_by f (range_with_len i (n - i)) ≡ 0
   sum_end above = ap (sum_by f) (none_left i n above)

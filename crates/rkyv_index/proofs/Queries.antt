@@ -9,9 +9,10 @@ use Rattle.rkyv_base.specs.ElementSpec.{ValidAt}
 use Rattle.rkyv_keys.specs.Equality.{Comparison}
 use Rattle.rkyv_keys.specs.Keys.{IsQuery}
 use Rattle.rkyv_keys.specs.Lemmas.OfEntries.{valid_key}
+use Rattle.rkyv_keys.specs.Calls.{hash_at}
 use Rattle.rkyv_base.specs.View.{bytes_of, pos_of}
 use Rattle.rkyv_base.specs.declared.view.View.{View}
-use Rattle.rkyv_index.specs.Index.{AreUnderHash, ComparesKeysBy, fits_at, hash_at, index_archive, index_bytes, index_of, index_pos, key_pos}
+use Rattle.rkyv_index.specs.Index.{AreUnderHash, ComparesKeysBy, fits_at, index_archive, index_bytes, index_of, index_pos, key_pos}
 use Rattle.rkyv_index.specs.declared.map.ArchivedIndexMap.{ArchivedIndexMap}
 use Rattle.rkyv_index.proofs.Checking.{view_at}
 use Rattle.rkyv_index.proofs.ValidIndexMap.{entry_viewable}

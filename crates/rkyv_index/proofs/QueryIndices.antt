@@ -8,9 +8,9 @@ use Rattle.rkyv_base.specs.declared.view.View.{View}
 use Rattle.rkyv_keys.specs.KeyLookup.{query_of}
 use Rattle.rkyv_keys.specs.Equality.{Comparison}
 use Rattle.rkyv_keys.specs.Keys.{IsQuery}
+use Rattle.rkyv_keys.specs.Calls.{hash_at, hash_of}
 use Rattle.rkyv_index.specs.Index.Complete.{FindsTheOne}
-use Rattle.rkyv_index.specs.Index.{fits_at, hash_at, index_len, index_of}
-use Rattle.rkyv_index.specs.Index.IndexFormat.{hash_of}
+use Rattle.rkyv_index.specs.Index.{fits_at, index_len, index_of}
 use Rattle.rkyv_index.specs.Index.Lookups.{GetsBy, GetsKey, index_part}
 use Rattle.rkyv_index.specs.declared.map.ArchivedIndexMap.{ArchivedIndexMap}
 use Rattle.rkyv_index.proofs.Completeness.{finds_the_one}

@@ -35,22 +35,15 @@ use Rattle.rkyv_table.proofs.Lists.{set_each}
 use Rattle.rkyv_table.proofs.ValidTable.{controls_accepted, some_cap}
 use Rattle.rkyv_table.proofs.Misplaced.{found_agree, found_walked}
 use Rattle.rkyv_table.proofs.Walks.{walked_full}
-use Rattle.rkyv_index.specs.Index.{fits_in, hash_at, index_found}
+use Rattle.rkyv_index.specs.Index.{fits_in, index_found}
 use Rattle.rkyv_index.specs.Index.IndexFormat.{IndexRepresents, IndexWrittenAt}
 use Rattle.rkyv_index.specs.Index.IndexLayout.{EntriesIn, IsValidIndex, decode_entries, entries_pos, entry_at, index_spec, indices_of, pair_pos, stored_index_spec}
 use Rattle.rkyv_index.specs.Lemmas.IndexLaws.{decoded_same, each_is_valid, entry_inside, head_same, index_again, index_same_at, indices_below, stored_index_element}
 use Rattle.rkyv_table.specs.Lemmas.SameControls.{same_controls}
-use Rattle.rkyv_scan.specs.Hash.{Hasher, HasherCall, hash_of_calls}
-use Rattle.rkyv_keys.specs.Equality.{Comparison}
-use Rattle.rkyv_keys.specs.Keys.{IsKey}
 use Rattle.rkyv_index.specs.Lemmas.IndexLocal.{written_again}
 use Rattle.rkyv_index.specs.Index.SealedIndex.{IsPairPos}
 use Rattle.rkyv_index.specs.Index.ValueWrites.{KeepsEntries, KeepsIndexMap, index_kind, pair_at}
 use Rattle.rkyv_index.proofs.ValidIndexMap.{begin_is, entries_inside, entry_viewable, index_below, table_there}
-
--- the hash of a valid key depends only on the bytes of the key and its parts
-pub hash_local : {State : Type 0} (hasher : Hasher State) {k : ElementSpec} {same : Comparison} {calls : List ℕ → ℕ → List HasherCall} → IsKey k same calls → HashLocal k (hash_at hasher calls)
-hash_local hasher key b c q lo hi l o is_valid fixed part = ap (hash_of_calls hasher) (key.local b c q lo hi l o is_valid fixed part)
 
 -- a write at the position of the value of a pair writes the value of that pair
 pub value_written : (w : Width) (k v : ElementSpec) (b c : List ℕ) (at q : ℕ) → at ≡ value_pos k v q → Sealed b at v.size c → Keeps v b c at → WritesValue k v b c q

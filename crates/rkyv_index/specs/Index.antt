@@ -22,7 +22,6 @@ use Rattle.std.specs.Int.{Width, byte_len}
 use Rattle.std.specs.List.{find}
 use Rattle.std.specs.Option.{option_map}
 use Rattle.rkyv_scan.specs.Groups.{generic_kind}
-use Rattle.rkyv_scan.specs.Hash.{Hasher, HasherCall, hash_of_calls}
 use Rattle.rkyv_base.specs.Bytes.{number_at}
 use Rattle.rkyv_base.specs.Entry.{entry_spec, value_offset}
 use Rattle.rkyv_base.specs.ElementSpec.{ElementSpec}
@@ -40,11 +39,6 @@ use Rattle.rkyv_index.specs.Index.IndexFormat.{IndexWrittenAt}
 use Rattle.rkyv_index.specs.Index.IndexLayout.{entries_pos, indices_of, pair_pos}
 use Rattle.rkyv_index.specs.declared.map.ArchivedIndexMap.{ArchivedIndexMap}
 use Rattle.rkyv_index.specs.declared.map.read.entries.Entries.{Entries}
-
--- the hash of the key at `q`
-abbrev pub hash_at : {State : Type 0} → Hasher State
-    → (List ℕ → ℕ → List HasherCall) → List ℕ → ℕ → ℕ
-hash_at hasher calls b q = hash_of_calls hasher (calls b q)
 
 -- the positions of `n` values of `size` bytes in a row, from `q` on
 abbrev pub row : ℕ → ℕ → ℕ → List ℕ

@@ -4,7 +4,7 @@ use Rattle.std.specs.Prelude.{ℕ, List}
 use Rattle.std.specs.Int.{Width}
 use Rattle.rkyv_base.specs.Members.{ElementMembers}
 use Rattle.rkyv_scan.specs.Hash.{HasherCall, fx_hasher, low_halves}
-use Rattle.rkyv_index.specs.Index.{hash_at}
+use Rattle.rkyv_keys.specs.Calls.{hash_at}
 use Rattle.rkyv_index.specs.Index.IndexFormat.{IndexRepresents}
 use Rattle.rkyv_index.specs.Set.SetFormat.{IndexSetRepresents}
 

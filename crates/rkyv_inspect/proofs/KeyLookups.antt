@@ -2,7 +2,7 @@
 use Rattle.std.proofs.Common.{◌≡◌, ◌∙◌, ◌<◌, ℕ, ap, arith, inl, inr, refl, subst, sym, Bool, List}
 use Rattle.std.specs.Borrow.{Bor}
 use Rattle.std.proofs.lemmas.Bool.{cases_eq}
-use Rattle.rkyv_base.specs.View.{IsAt, bytes_of, pos_of}
+use Rattle.rkyv_base.specs.View.{bytes_of, pos_of}
 use Rattle.rkyv_base.specs.declared.element.HasSpec.{Ghosts as Specs}
 use Rattle.rkyv_base.specs.declared.view.View.{View}
 use Rattle.rkyv_base.specs.declared.width.Word.{Ghosts as Words}
@@ -15,14 +15,6 @@ use Rattle.rkyv_inspect.specs.Summaries.{some_controls}
 pub compares_by_position : {T W : Type 0} {ts : Specs T} {wt : Words W} (t : ArchivedHashTable T W ts wt) (same : Comparison) (q : ℕ) (post : View T → Bool → Type 0)
     → ((v : View T) (r : Bool) → post v r → r ≡ same (table_bytes t) q (bytes_of v) (pos_of v)) → ComparesBy post t (same (table_bytes t) q (table_bytes t))
 compares_by_position t same q post compares v r item returned = compares v r returned ∙ ap (λ (a : Bor (List ℕ)). same (table_bytes t) q a.now (pos_of v)) item.1.archive
-
--- a function of the bytes and the position of a view is that of the archive and the position
-pub read_at : {X T : Type 0} (f : List ℕ → ℕ → X) (v : View T) (archive : Bor (List ℕ)) (p : ℕ) → IsAt v archive p → f (bytes_of v) (pos_of v) ≡ f archive.now p
-read_at f v archive p at = ap (λ (a : Bor (List ℕ)). f a.now (pos_of v)) at.0 ∙ ap (f archive.now) at.1
-
--- a property of a view is one of the archive and the position
-pub forth_at : {T : Type 0} (P : List ℕ → ℕ → Type 0) (v : View T) (archive : Bor (List ℕ)) (p : ℕ) → IsAt v archive p → P (bytes_of v) (pos_of v) → P archive.now p
-forth_at P v archive p at x = subst (P archive.now) at.1 (subst (λ (a : Bor (List ℕ)). P a.now (pos_of v)) at.0 x)
 
 -- the position of the control bytes has no meaning without buckets
 controls_if : (count at pos : ℕ) → (0 < count → at ≡ pos) → some_controls count at ≡ some_controls count pos

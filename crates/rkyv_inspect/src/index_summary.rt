@@ -2,8 +2,9 @@
 ghost use Rattle.std.specs.Prelude.{IfOk, ◌/◌, ◌<◌, ◌≡◌, ◌≤◌};
 ghost use Rattle.rkyv_base.specs.Entry.{entry_spec};
 ghost use Rattle.rkyv_base.specs.View.{IsValidView, bytes_of, pos_of};
+ghost use Rattle.rkyv_keys.specs.Calls.{hash_at};
 ghost use Rattle.rkyv_index.specs.Index.IndexLayout.{index_spec};
-ghost use Rattle.rkyv_index.specs.Index.{IsKeyOf, hash_at, index_bytes, index_len, index_pos};
+ghost use Rattle.rkyv_index.specs.Index.{IsKeyOf, index_bytes, index_len, index_pos};
 ghost use Rattle.rkyv_table.specs.Controls.Numbers.{probe_capacity};
 ghost use Rattle.rkyv_table.specs.Table.Decoded.{IsDecoded};
 ghost use Rattle.rkyv_table.specs.Table.Header.{cap_at};

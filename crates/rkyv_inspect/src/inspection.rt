@@ -1,6 +1,6 @@
 //! Inspections of archives of all kinds, types and widths.
 ghost use Rattle.rkyv_scan.specs.Hash.{fx_hasher, low_halves};
-ghost use Rattle.rkyv_collections.specs.Map.{hash_at};
+ghost use Rattle.rkyv_keys.specs.Calls.{hash_at};
 ghost use Rattle.rkyv_inspect.specs.Inspections.{Inspects, InspectsContents, InspectsKeys};
 ghost use Rattle.rkyv_inspect.specs.Inspections.{InspectsValues, target};
 ghost use Rattle.rkyv_inspect.specs.Summaries.{key_type};

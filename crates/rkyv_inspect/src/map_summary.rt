@@ -2,8 +2,8 @@
 ghost use Rattle.std.specs.Prelude.{IfOk, ◌/◌, ◌≡◌, ◌≤◌};
 ghost use Rattle.rkyv_base.specs.Entry.{entry_spec};
 ghost use Rattle.rkyv_base.specs.View.{IsValidView, archive_of, bytes_of, pos_of};
+ghost use Rattle.rkyv_keys.specs.Calls.{hash_at};
 ghost use Rattle.rkyv_collections.specs.Map.MapSpec.{map_spec};
-ghost use Rattle.rkyv_collections.specs.Map.{hash_at};
 ghost use Rattle.rkyv_table.specs.Controls.Numbers.{probe_capacity};
 ghost use Rattle.rkyv_table.specs.Table.Header.{cap_at};
 ghost use Rattle.rkyv_table.specs.Table.Reading.{table_bytes, table_pos};

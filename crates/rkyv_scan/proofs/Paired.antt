@@ -5,6 +5,7 @@ use Rattle.std.specs.Int.RustNames.{bit_or}
 use Rattle.std.proofs.lemmas.Bool.{cases_eq, ne_eqb}
 use Rattle.std.proofs.lemmas.Nat.{shr_split}
 use Rattle.std.proofs.lemmas.Nat.Bits.{bit_at-lt, bit_at-suc, bit_at-zero, bit_at_and, bit_at_cat_low, bit_at_or}
+use Rattle.std.proofs.Math.Bool.{and-false}
 use Rattle.rkyv_scan.specs.Groups.{indices_where, is_word_match_at, mask_indices}
 use Rattle.rkyv_scan.specs.Paired.{MarksEqual, bits_after, chain, half_of, is_half_match_at}
 use Rattle.rkyv_scan.specs.Lemmas.Paired.{half_at, half_lower}
@@ -43,10 +44,6 @@ after_some m k l ne =
     let half : n / 2 ≡ m = omega arith in
     let moved : bit_at n k ≡ bit_at m (k - 1) = ap (bit_at n) e ∙ bit_at-suc n (k - 1) ∙ ap (λ x. bit_at x (k - 1)) half in
     omega (arith, bit_at_and (n % 2 ^ 16) 65278 k, mask, low, moved, bit_at-lt (n % 2 ^ 16) k)
-
-and_no : (b : Bool) → (b && false) ≡ false
-and_no true = refl
-and_no false = refl
 
 two : (a : ℕ) → a < 2 → (a ≡ 0) ⊎ (a ≡ 1)
 two a l = elim (cases_eq a 0) [ inl z ↦ inl z | inr nz ↦ inr (omega arith) ]
@@ -115,7 +112,7 @@ none_marked xs t none (suc n) k l h = elim (cases_eq (k % 8) 0) [
   | inr nz ↦
       let a = none k l in
       let b = none_marked xs t none n (k - 1) (omega arith) (omega arith) in
-      half_next xs t k nz ∙ (λ i. a i || (eqb (slice_index xs k) (bit_xor t 1) && b i)) ∙ and_no (eqb (slice_index xs k) (bit_xor t 1))
+      half_next xs t k nz ∙ (λ i. a i || (eqb (slice_index xs k) (bit_xor t 1) && b i)) ∙ and-false (eqb (slice_index xs k) (bit_xor t 1))
 ]
 
 -- if no byte is equal, no index is marked

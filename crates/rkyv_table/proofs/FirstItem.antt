@@ -8,7 +8,7 @@ use Rattle.std.proofs.lemmas.List.{get_or-map, length-map}
 use Rattle.std.proofs.lemmas.Option.{slice_get-map, slice_get_cases}
 use Rattle.rkyv_base.specs.ElementSpec.{ElementSpec}
 use Rattle.rkyv_table.specs.Controls.Laws.{IsUnderHash}
-use Rattle.rkyv_table.specs.Table.FirstItem.{AreUnder, IsFirstOf, LookupFindsFirst, TestsAgree}
+use Rattle.rkyv_table.specs.Table.FirstItem.{AgreesAt, AreUnder, IsFirstOf, LookupFindsFirst}
 use Rattle.rkyv_table.specs.Table.Positions.{home_positions}
 use Rattle.rkyv_table.specs.Table.PlacedItems.{hashes_of, items_of}
 use Rattle.rkyv_table.specs.Table.WrittenTables.{IsWrittenOf}
@@ -17,21 +17,20 @@ use Rattle.rkyv_table.proofs.WrittenTables.{home_count, table_written}
 
 -- the first accepted position is that of the first accepted item
 first_along : {X : Type 0} (represents : List ℕ → ℕ → X → Type 0) (c : List ℕ) (accept : X → Bool) (accept_at : ℕ → Bool) (items : List X) (qs : List ℕ)
-    → length items ≡ length qs → ((i : ℕ) (x : X) → slice_get items i ≡ Some x → represents c (slice_index qs i) x)
-    → TestsAgree represents c accept items accept_at → IsFirstOf represents c accept items (find accept_at qs)
+    → length items ≡ length qs → ((i : ℕ) (x : X) → slice_get items i ≡ Some x → represents c (slice_index qs i) x) → AgreesAt qs items accept accept_at → IsFirstOf represents c accept items (find accept_at qs)
 first_along represents c accept accept_at [] [] n there agrees = refl
 first_along represents c accept accept_at [] (q ∷ qs) n there agrees = absurd (omega arith)
 first_along represents c accept accept_at (x ∷ xs) [] n there agrees = absurd (omega arith)
 first_along represents c accept accept_at (x ∷ xs) (q ∷ qs) k there agrees =
-    let here = there 0 x refl in
-    let same : accept_at q ≡ accept x = agrees 0 q x refl here in
+    let same : accept_at q ≡ accept x = agrees 0 x refl in
     elim (cases_Bool (accept_at q)) [
-      | inl y ↦ rw (y, sym same ∙ y) (x, refl, here)
-      | inr n ↦ rw (n, sym same ∙ n) (first_along represents c accept accept_at xs qs (omega (arith, k)) (λ i y e. there (suc i) y e) (λ i p y e st. agrees (suc i) p y e st))
+      | inl y ↦ rw (y, sym same ∙ y) (x, refl, there 0 x refl)
+      | inr n ↦ rw (n, sym same ∙ n) (first_along represents c accept accept_at xs qs (omega (arith, k)) (λ i y e. there (suc i) y e) (λ i y e. agrees (suc i) y e))
     ]
 
-module _ {X : Type 0} (w : Width) (size : ℕ) (represents : List ℕ → ℕ → X → Type 0) (c : List ℕ) (p hash : ℕ) (pairs : List (ℕ × X)) (written : IsWrittenOf w size represents c p pairs)
-    (accept : X → Bool) (accept_at : ℕ → Bool) (under : AreUnder hash accept pairs) (agrees : TestsAgree represents c accept (items_of pairs) accept_at) where
+-- the home buckets of written pairs, and their first accepted one
+module _ {X : Type 0} (w : Width) (size : ℕ) (represents : List ℕ → ℕ → X → Type 0) (c : List ℕ) (p : ℕ) (pairs : List (ℕ × X)) (written : IsWrittenOf w size represents c p pairs) (hash : ℕ)
+    (accept : X → Bool) (accept_at : ℕ → Bool) (agrees : AgreesAt (home_positions w size c p written.homes) (items_of pairs) accept accept_at) where
   abbrev positions : List ℕ
   positions = home_positions w size c p written.homes
 
@@ -42,12 +41,12 @@ module _ {X : Type 0} (w : Width) (size : ℕ) (represents : List ℕ → ℕ �
   positions_count = length-map pairs (λ (y : ℕ × X). y.1) ∙ sym hashes_count ∙ sym (home_count w c p (hashes_of pairs) written.homes written.written) ∙ sym (length-map written.homes _)
 
   -- only positions of items under the hash are accepted
-  pub accepted_under : IsUnderHash hash (hashes_of pairs) positions accept_at
-  accepted_under i below t = elim (slice_get_cases pairs i).1 [
+  pub accepted_under : AreUnder hash accept pairs → IsUnderHash hash (hashes_of pairs) positions accept_at
+  accepted_under under i below t = elim (slice_get_cases pairs i).1 [
     | inl e ↦
         let pair = e.0 in
         let item : slice_get (items_of pairs) i ≡ Some pair.1 = slice_get-map (λ (y : ℕ × X). y.1) pairs i ∙ ap (option_map (λ (y : ℕ × X). y.1)) e.2 in
-        let same = agrees i (slice_index positions i) pair.1 item (written.at i pair.1 item) in
+        let same = agrees i pair.1 item in
         let own : pair.0 ≡ hash = subst (λ (y : ℕ × X). accept y.1 ≡ true → y.0 ≡ hash) e.3 (under i pair e.1) (sym same ∙ t) in
         get_or-map (λ (y : ℕ × X). y.0) pairs i pair 0 e.1 ∙ ap (λ (y : ℕ × X). y.0) e.3 ∙ own
     | inr past ↦ absurd (omega (arith, past.0, below, hashes_count))
@@ -61,6 +60,8 @@ module _ {X : Type 0} (w : Width) (size : ℕ) (represents : List ℕ → ℕ �
 pub lookup_finds_first : {X : Type 0} (w : Width) (s : ElementSpec) (represents : List ℕ → ℕ → X → Type 0) (factor : ℕ × ℕ) → LookupFindsFirst w s represents factor
 lookup_finds_first w s represents factor kind c p hash pairs accept accept_at law fits t under agrees =
     let written = table_written w s represents factor c p pairs t in
+    let at : AgreesAt (home_positions w s.size c p written.homes) (items_of pairs) accept accept_at =
+    λ i x e. agrees i (slice_index (home_positions w s.size c p written.homes) i) x e (written.at i x e) in
     subst (IsFirstOf represents c accept (items_of pairs))
-    (sym (first_found kind law w s.size c p hash fits (hashes_of pairs) written.homes accept_at written.written (accepted_under w s.size represents c p hash pairs written accept accept_at under agrees)))
-    (first_at_home w s.size represents c p hash pairs written accept accept_at under agrees)
+    (sym (first_found kind law w s.size c p hash fits (hashes_of pairs) written.homes accept_at written.written (accepted_under w s.size represents c p pairs written hash accept accept_at at under)))
+    (first_at_home w s.size represents c p pairs written hash accept accept_at at)

@@ -1,6 +1,6 @@
 -- Lists made by `filter`, `map` and `range_with_len`: membership, distinctness, and
 -- the first that passes.
-use Rattle.std.proofs.Common.{◌≡◌, ◌≢◌, ℕ, zero, suc, ◌+◌, ◌<◌, ◌≤◌, inl, inr, refl, sym, ap, subst, ◌∙◌, arith, List, [], ◌∷◌, Bool, true, false, ◌&&◌, ◌||◌, eqb, filter, get_or, length, map, Option, Some, None}
+use Rattle.std.proofs.Common.{◌≡◌, ◌≢◌, ℕ, zero, suc, ◌+◌, ◌-◌, ◌<◌, ◌≤◌, inl, inr, refl, sym, ap, subst, ◌∙◌, arith, List, [], ◌∷◌, Bool, true, false, ◌&&◌, ◌||◌, eqb, filter, get_or, length, map, Option, Some, None}
 use Rattle.std.specs.Prelude.{slice_get, slice_set}
 use Rattle.std.specs.List.{AllByRecursion, Contains, IsDistinct, find, flat_map, list_any, range_with_len}
 use Rattle.std.specs.Option.{option_map}
@@ -10,6 +10,7 @@ use Rattle.std.proofs.lemmas.List.Folds.{Any-from_list_any, list_any-append, lis
 use Rattle.std.proofs.lemmas.Bool.{cases_eq, cases_Bool, eqb-true, eq-eqb, ne_eqb, or_parts, or_left, or_right, or_from, false≢true}
 use Rattle.std.proofs.lemmas.Option.{get_or_from_slice_get, none-some, same_Some, slice_get-get_or, slice_get_within}
 use Rattle.std.proofs.lemmas.Map.Keys.{IsDistinct-from_apart}
+use Rattle.std.proofs.Math.Bool.{and-false}
 
 -- the image of an option is `Some` of the image of its item
 pub option_map_some : {A B : Type 0} (f : A → B) (o : Option A) (y : B) → option_map f o ≡ Some y → (x : A) × (o ≡ Some x) × (f x ≡ y)
@@ -17,10 +18,6 @@ option_map_some f None y e = absurd (none-some y e)
 option_map_some f (Some x) y e = (x, refl, same_Some (f x) y e)
 
 -- ---- membership
-
-and_no : (b : Bool) → (b && false) ≡ false
-and_no true = refl
-and_no false = refl
 
 pub any_filter : (x : ℕ) (p : ℕ → Bool) (xs : List ℕ) → list_any (eqb x) (filter p xs) ≡ (list_any (eqb x) xs && p x)
 any_filter x p [] = refl
@@ -30,7 +27,7 @@ any_filter x p (y ∷ ys) =
       | inl e ↦ let same : p x ≡ p y = ap p (eqb-true x y e) in
           elim (cases_Bool (p y)) [
             | inl t ↦ rw (t, e, same, t) refl
-            | inr f ↦ rw (f, ih, e, same, f) (and_no (list_any (eqb x) ys))
+            | inr f ↦ rw (f, ih, e, same, f) (and-false (list_any (eqb x) ys))
           ]
       | inr e ↦ elim (cases_Bool (p y)) [
         | inl t ↦ rw (t, e, ih) refl
@@ -62,6 +59,10 @@ from_map_range f n x h =
     let e = get_or-map-range_with_len f 0 n a.0 a.0 a.1 lt (omega arith) in
     let t = eqb-true x a.1 a.4 in
     (a.0, lt, sym e ∙ a.3 ∙ sym t)
+
+-- the numbers from `k` on are `k` and those from `k + 1` on
+pub range_cons : (k n : ℕ) → k < n → range_with_len k (n - k) ≡ k ∷ range_with_len (k + 1) (n - (k + 1))
+range_cons k n h = let e : n - k ≡ suc (n - (k + 1)) = omega arith in ap (range_with_len k) e
 
 -- ---- distinctness
 

@@ -1,15 +1,17 @@
 -- The steps of counting misplaced items.
 use Rattle.rkyv_base.specs.declared.element.HasSpec.{Ghosts as Specs}
 use Rattle.rkyv_base.specs.declared.width.Word.{Ghosts as Words}
-use Rattle.std.proofs.Common.{◌≡◌, ℕ, zero, suc, ◌+◌, ◌<◌, ◌≤◌, ◌^◌, ◌⊎◌, inl, inr, refl, sym, ap, ◌∙◌, arith, List, ◌∷◌, Bool, true, false, length, filter}
-use Rattle.std.specs.List.{sum_by}
+use Rattle.std.proofs.Common.{◌≡◌, ℕ, zero, suc, ◌+◌, ◌<◌, ◌≤◌, ◌^◌, ◌⊎◌, inl, inr, refl, sym, ap, subst, ◌∙◌, arith, List, ◌∷◌, Bool, true, false, length, filter}
+use Rattle.std.specs.List.{All, sum_by}
+use Rattle.std.proofs.lemmas.List.Elements.{All-head, All-rest}
 use Rattle.std.proofs.lemmas.List.Sums.{sum_by-cons}
 use Rattle.rkyv_base.specs.declared.view.View.{View}
 use Rattle.rkyv_scan.specs.Groups.{generic_kind}
 use Rattle.rkyv_table.specs.Controls.Finding.{ReadsWithin}
 use Rattle.rkyv_table.specs.Table.MisplacedIn.{ComparesAs, ComparesItems, CountsOwn, HashesAs, ReturnsMisplaced, bucket_misplaced}
 use Rattle.rkyv_table.specs.Table.MisplacedIn.{bucket_strides, table_misplaced, table_strides}
-use Rattle.rkyv_table.specs.Table.Reading.{IsItemIn, item_pos}
+use Rattle.rkyv_table.specs.Table.Positions.{IsWalked}
+use Rattle.rkyv_table.specs.Table.Reading.{IsItemIn, item_pos, table_bytes, table_pos}
 use Rattle.rkyv_table.specs.declared.table.ArchivedHashTable.{ArchivedHashTable}
 
 pub count_taken : (P : ℕ → Bool) (x : ℕ) (xs rest : List ℕ) → xs ≡ x ∷ rest → P x ≡ true → length (filter P xs) ≡ suc (length (filter P rest))
@@ -27,6 +29,14 @@ module _ {T W : Type 0} {ts : Specs T} {wt : Words W} (compares : View T → Vie
 pub hash_is : {T W : Type 0} {ts : Specs T} {wt : Words W} (t : ArchivedHashTable T W ts wt) (hashes : View T → ℕ → Type 0) (bucket hash : ℕ) (item : View T) → IsItemIn t bucket item → hashes item hash
     → (hash_of : ℕ → ℕ) → HashesAs hashes t hash_of → hash ≡ hash_of (item_pos t bucket)
 hash_is t hashes bucket hash item here hashed hash_of hash_as = hash_as item hash (bucket, here) hashed ∙ ap hash_of here.pos
+
+-- the next of the full buckets, and those behind it, are full
+module _ {T W : Type 0} {ts : Specs T} {wt : Words W} (t : ArchivedHashTable T W ts wt) (bucket : ℕ) (buckets left : List ℕ) (steps : buckets ≡ bucket ∷ left) (walked : All (IsWalked wt.word (table_bytes t) (table_pos t)) buckets) where
+  pub next_walked : IsWalked wt.word (table_bytes t) (table_pos t) bucket
+  next_walked = All-head (IsWalked wt.word (table_bytes t) (table_pos t)) bucket left (subst (All (IsWalked wt.word (table_bytes t) (table_pos t))) steps walked)
+
+  pub left_walked : All (IsWalked wt.word (table_bytes t) (table_pos t)) left
+  left_walked = All-rest (IsWalked wt.word (table_bytes t) (table_pos t)) bucket left buckets steps walked
 
 -- the counted items and those of the remaining buckets are all misplaced items
 module _ {T W : Type 0} {ts : Specs T} {wt : Words W} (t : ArchivedHashTable T W ts wt) (hashes : View T → ℕ → Type 0) (compares : View T → View T → Bool → Type 0) where

@@ -1,14 +1,12 @@
 -- After a write of one item, a table is one that was written from the list with the new item.
-use Rattle.std.proofs.Common.{◌≡◌, ◌≢◌, ℕ, zero, suc, ◌<◌, ◌∙◌, inl, inr, refl, sym, ap, subst, arith, List, [], ◌∷◌, length, Some, slice_index}
+use Rattle.std.proofs.Common.{◌≡◌, ◌≢◌, ℕ, zero, suc, ◌<◌, ◌∙◌, refl, sym, ap, subst, arith, List, [], ◌∷◌, length, Some, slice_index}
 use Rattle.std.specs.Prelude.{slice_get, slice_set}
 use Rattle.std.specs.Int.{Width}
-use Rattle.std.proofs.lemmas.Bool.{cases_lt}
 use Rattle.std.proofs.lemmas.List.{length-map}
 use Rattle.std.proofs.lemmas.Option.{none-some, same_Some, slice_get_within}
 use Rattle.rkyv_base.specs.ElementSpec.{ElementSpec, IsElement, Viewable}
 use Rattle.rkyv_base.specs.Format.{RepresentsLocally}
 use Rattle.rkyv_base.specs.Sealing.{Keeps, Sealed}
-use Rattle.rkyv_table.specs.Table.Header.{cap_at}
 use Rattle.rkyv_table.specs.Table.Layout.{table_spec}
 use Rattle.rkyv_table.specs.Table.PlacedItems.{hashes_of, items_of}
 use Rattle.rkyv_table.specs.Table.Positions.{IsWalked, home_positions, item_at}
@@ -17,8 +15,7 @@ use Rattle.rkyv_table.specs.Table.WrittenTables.{IsWrittenOf}
 use Rattle.rkyv_table.proofs.Lists.{set_each}
 use Rattle.rkyv_table.proofs.ValidTable.{item_viewable}
 use Rattle.rkyv_table.proofs.SealedTable.{item_stays, table_kept, written_kept}
-use Rattle.rkyv_table.proofs.WrittenAccepted.{homes_apart}
-use Rattle.rkyv_table.proofs.WrittenTables.{home_count, home_pos, home_walked}
+use Rattle.rkyv_table.proofs.WrittenTables.{home_count, home_pos, home_walked, homes_differ}
 
 -- the hashes are those of the list before, and the items are those with the new one
 pub same_hashes : {X : Type 0} (pairs : List (ℕ × X)) (n hash : ℕ) (old new : X) → slice_get pairs n ≡ Some (hash, old) → hashes_of (slice_set pairs n (hash, new)) ≡ hashes_of pairs
@@ -47,13 +44,7 @@ module _ {X : Type 0} (w : Width) (s : ElementSpec) (law : IsElement s) (represe
 
   -- no two items have one home bucket
   apart : (j : ℕ) → j < length pairs → j ≢ n → home j ≢ home n
-  apart j h ne e = elim of.written.placed [
-    | inl none ↦ let z : length of.homes ≡ 0 = ap length none.1 in omega (arith, z, counted, inside)
-    | inr some ↦ elim (cases_lt j n) [
-      | inl less ↦ homes_apart (cap_at w b p) (hashes_of pairs) of.homes some.1.placed j n less (omega (arith, counted, inside)) e
-      | inr more ↦ homes_apart (cap_at w b p) (hashes_of pairs) of.homes some.1.placed n j (omega (arith, ne)) (omega (arith, counted)) (sym e)
-    ]
-  ]
+  apart j h = homes_differ w b p (hashes_of pairs) of.homes of.written j n (omega (arith, counted, h)) (omega (arith, counted, inside))
 
   module _ (kept : KeepsTable w s b c p (home n)) (one : represents c (item_at w s.size b p (home n)) new) where
     same_pos : (j : ℕ) → j < length pairs → slice_index (home_positions w s.size c p of.homes) j ≡ item_at w s.size b p (home j)

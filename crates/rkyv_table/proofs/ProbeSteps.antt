@@ -9,6 +9,7 @@ use Rattle.rkyv_table.specs.Controls.Numbers.{modulus, probe_capacity}
 use Rattle.rkyv_table.specs.Controls.Probe.{IsProbe, probe_index, strides, strides_from}
 use Rattle.rkyv_table.proofs.Triangle.{triangle, twice}
 use Rattle.rkyv_table.proofs.Modulus.{modulus_power}
+use Rattle.rkyv_table.proofs.Lists.{range_cons}
 
 twice_below : (k : ℕ) → 2 * (k * (k - 1) / 2) ≡ k * (k - 1)
 twice_below zero = refl
@@ -75,9 +76,6 @@ probe_index_is cap s offset k h is =
     and_mask (s + bit_and (offset + 16 * k) (modulus cap - 1)) _
     ∙ ap (λ z. (s + z) % modulus cap) o
     ∙ add_mod_inner s (modulus cap) (16 * triangle k)
-
-range_cons : (k n : ℕ) → k < n → range_with_len k (n - k) ≡ k ∷ range_with_len (k + 1) (n - (k + 1))
-range_cons k n h = let e : n - k ≡ suc (n - (k + 1)) = omega arith in rw e refl
 
 pub takes : (cap s k p : ℕ) → k < modulus cap / 16 → p ≡ probe_index s (modulus cap) k → p < probe_capacity cap → strides_from cap s k ≡ p ∷ strides_from cap s (k + 1)
 unfolding strides_from

@@ -1,20 +1,18 @@
 -- A walk over written control bytes visits the home buckets.
-use Rattle.std.proofs.Common.{◌≡◌, ℕ, ◌<◌, ◌∙◌, ◌↔◌, inl, inr, sym, ap, subst, arith, eqb, not, List, [], length, take, slice_index, get_or}
+use Rattle.std.proofs.Common.{◌≡◌, ℕ, ◌<◌, ◌∙◌, ◌↔◌, inl, inr, sym, ap, subst, arith, eqb, List, [], length, slice_index}
 use Rattle.std.specs.List.{AllPairs, Contains, IsDistinct, list_any, range_with_len}
-use Rattle.std.proofs.lemmas.Bool.{cases_Bool, ne_eqb, not-false, true≢false}
-use Rattle.std.proofs.lemmas.List.{get_or-take, get_or_default, length-take}
+use Rattle.std.proofs.lemmas.Bool.{cases_Bool, not-false, true≢false}
+use Rattle.std.proofs.lemmas.List.{get_or_default}
 use Rattle.std.proofs.lemmas.List.FromFn.{get_or-range_with_len, length-range_with_len}
 use Rattle.std.proofs.lemmas.List.Kept.{AllPairs-filter}
-use Rattle.std.proofs.lemmas.Map.Keys.{IsDistinct-from_apart}
 use Rattle.rkyv_scan.specs.Groups.{is_full}
 use Rattle.rkyv_table.specs.Controls.ControlBytes.{IsFullBucket}
 use Rattle.rkyv_table.specs.Controls.Laws.{AreHashes}
 use Rattle.rkyv_table.specs.Controls.Placing.{Written, is_free, walk}
-use Rattle.rkyv_table.specs.Controls.Probe.{probed}
 use Rattle.rkyv_table.specs.Table.WalkLaws.{VisitsHomes}
-use Rattle.rkyv_table.proofs.Lists.{contains_member, member_contains, some_find}
+use Rattle.rkyv_table.proofs.Lists.{member_contains}
 use Rattle.rkyv_table.proofs.Walks.{full_walked, walk_none, walked_full}
-use Rattle.rkyv_table.proofs.WrittenAccepted.{accepted_written}
+use Rattle.rkyv_table.proofs.WrittenAccepted.{accepted_written, distinct_homes}
 use Rattle.rkyv_table.proofs.WrittenStep.{home_below}
 
 range_ascends : (n : ℕ) → AllPairs (λ a b. a < b) (range_with_len 0 n)
@@ -47,24 +45,11 @@ module _ (cap : ℕ) (hashes homes controls : List ℕ) (room : length hashes < 
       let full : slice_index controls (slice_index homes c.0) < 128 = omega arith in
       full_walked cap controls bucket (subst (IsFullBucket cap controls) at (home_below cap hashes homes controls c.0 (omega arith) w l, full))
 
-  -- a home bucket is none of the earlier ones
-  homes_differ : (i j : ℕ) → i < j → j < length homes → slice_index homes i ≡ slice_index homes j → ⊥
-  homes_differ i j ij h e =
-      let count = w.placed.count in
-      let free = (some_find (is_free (take j homes)) (probed (slice_index hashes j) cap) (slice_index homes j) (w.placed.first j (omega arith))).1 in
-      let l = length-take j homes in
-      let x = slice_index homes j in
-      let there : get_or (take j homes) i x ≡ x = get_or-take j homes i x ij ∙ get_or_default homes i x 0 (omega arith) ∙ e in
-      let any = contains_member x (take j homes) (i, omega arith, there) in
-      true≢false (sym free ∙ ap not any)
-
   pub walked_homes : VisitsHomes cap homes controls
   walked_homes = record {
     members = λ bucket. (walked_home bucket, home_walked bucket);
     ascending = walk_ascends controls cap;
-    once = IsDistinct-from_apart eqb homes (λ i j d ij h.
-        ne_eqb (get_or homes i d) (get_or homes j d) (λ e.
-        homes_differ i j ij h (get_or_default homes i 0 d (omega arith) ∙ e ∙ get_or_default homes j d 0 h)));
+    once = distinct_homes cap hashes homes w.placed;
     count = (accepted_written cap hashes homes controls room w (λ j l. fit j 0 l)).full ∙ sym w.placed.count;
   }
 

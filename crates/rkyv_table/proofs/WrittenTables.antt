@@ -1,6 +1,7 @@
 -- A table that represents items was written from them.
-use Rattle.std.proofs.Common.{◌≡◌, ℕ, ◌^◌, ◌<◌, ap, refl, sym, subst, ◌∙◌, arith, inl, inr, List, [], ◌∷◌, length, slice_get, slice_index, Some, pos}
+use Rattle.std.proofs.Common.{◌≡◌, ◌≢◌, ℕ, ◌^◌, ◌<◌, ap, refl, sym, subst, ◌∙◌, arith, inl, inr, List, [], ◌∷◌, length, slice_get, slice_index, Some, pos}
 use Rattle.std.specs.Int.{Width}
+use Rattle.std.proofs.lemmas.Bool.{cases_lt}
 use Rattle.std.proofs.lemmas.List.{get_or-map, length-map}
 use Rattle.std.proofs.lemmas.Option.{slice_get_within}
 use Rattle.rkyv_base.specs.ElementSpec.{ElementSpec}
@@ -15,6 +16,7 @@ use Rattle.rkyv_table.specs.Table.TableFormat.{BucketsRepresent, TableRepresents
 use Rattle.rkyv_table.specs.Lemmas.TableSound.{capacity_above}
 use Rattle.rkyv_table.specs.Table.PlacedItems.{hashes_of, items_of}
 use Rattle.rkyv_table.specs.Table.WrittenTables.{IsWrittenOf, ValidWereWritten}
+use Rattle.rkyv_table.proofs.WrittenAccepted.{homes_apart}
 use Rattle.rkyv_table.proofs.WrittenStep.{home_below}
 
 -- the position of the item with the number `i`
@@ -28,6 +30,16 @@ module _ (w : Width) (b : List ℕ) (p : ℕ) (hashes homes : List ℕ) (written
   home_count = elim written.placed [
     | inl none ↦ rw (none.0, none.1) refl
     | inr some ↦ some.1.placed.count
+  ]
+
+  -- no two items have one home bucket
+  pub homes_differ : (i j : ℕ) → i < length homes → j < length homes → i ≢ j → slice_index homes i ≢ slice_index homes j
+  homes_differ i j inside below ne e = elim written.placed [
+    | inl none ↦ absurd (omega (arith, below, ap length none.1))
+    | inr some ↦ elim (cases_lt i j) [
+      | inl less ↦ homes_apart (cap_at w b p) hashes homes some.1.placed i j less below e
+      | inr more ↦ homes_apart (cap_at w b p) hashes homes some.1.placed j i (omega (arith, ne)) inside (sym e)
+    ]
   ]
 
   -- each home bucket has an item

@@ -9,9 +9,9 @@ use Rattle.rkyv_scan.specs.Hash.{Hasher, HasherCall, hash_of_calls}
 use Rattle.rkyv_keys.specs.Lemmas.QueryLaws.{hashes_as_written}
 use Rattle.rkyv_keys.specs.Equality.{Comparison}
 use Rattle.rkyv_keys.specs.Keys.{FitsItsEqual, IsKey, IsQuery}
-use Rattle.rkyv_collections.specs.Map.{hash_at}
+use Rattle.rkyv_keys.specs.Calls.{hash_at, hash_of}
 use Rattle.rkyv_collections.specs.Map.MapSpec.{map_spec}
-use Rattle.rkyv_collections.specs.Map.MapFormat.{MapRepresents, hash_of, map_format}
+use Rattle.rkyv_collections.specs.Map.MapFormat.{MapRepresents, map_format}
 use Rattle.rkyv_collections.specs.Lemmas.MapLaws.{map_is_format, represents_again}
 use Rattle.rkyv_table.specs.Table.Listed.{listed, listed_format}
 

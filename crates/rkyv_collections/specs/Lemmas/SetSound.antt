@@ -11,8 +11,8 @@ use Rattle.rkyv_base.specs.Text.{IsArchiveWord}
 use Rattle.rkyv_scan.specs.Hash.{Hasher, HasherCall}
 use Rattle.rkyv_keys.specs.Equality.{Comparison}
 use Rattle.rkyv_keys.specs.Keys.{FitsItsEqual, IsKey, IsQuery}
-use Rattle.rkyv_collections.specs.Map.{hash_at}
-use Rattle.rkyv_collections.specs.Map.MapFormat.{MapRepresents, hash_of, map_format}
+use Rattle.rkyv_keys.specs.Calls.{hash_at, hash_of}
+use Rattle.rkyv_collections.specs.Map.MapFormat.{MapRepresents, map_format}
 use Rattle.rkyv_collections.specs.Lemmas.MapSound.{map_local, map_sound}
 use Rattle.rkyv_table.specs.Table.Listed.{listed, listed_format}
 use Rattle.rkyv_collections.specs.Set.{set_spec}

@@ -22,14 +22,15 @@ use Rattle.rkyv_base.specs.Text.{IsArchiveWord}
 use Rattle.rkyv_keys.specs.Equality.{Comparison}
 use Rattle.rkyv_keys.specs.Keys.{FitsItsEqual, IsQuery}
 use Rattle.rkyv_keys.specs.Lemmas.OfEntries.{valid_key}
+use Rattle.rkyv_keys.specs.Calls.{hash_at, hash_of}
 use Rattle.rkyv_table.specs.Table.Positions.{home_positions, item_at, pos_found}
 use Rattle.rkyv_table.proofs.FirstFound.{first_found}
 use Rattle.rkyv_table.proofs.ValidTable.{item_viewable}
-use Rattle.rkyv_table.proofs.WrittenTables.{home_count, home_pos, home_walked}
-use Rattle.rkyv_collections.specs.Map.{hash_at}
+use Rattle.rkyv_table.proofs.WrittenTables.{home_pos, home_walked}
 use Rattle.rkyv_collections.specs.Map.MapSpec.{map_spec}
-use Rattle.rkyv_collections.specs.Map.MapFormat.{MapRepresents, hash_of}
+use Rattle.rkyv_collections.specs.Map.MapFormat.{MapRepresents}
 use Rattle.rkyv_collections.specs.Lemmas.DistinctEntries.{of_entries-format}
+use Rattle.rkyv_collections.specs.Lemmas.PairHomes.{homes_count}
 use Rattle.rkyv_collections.specs.StdMaps.StdEquality.{EntriesEqual, FindsPair}
 use Rattle.rkyv_collections.specs.StdMaps.StdMap.{of_entries}
 
@@ -60,9 +61,6 @@ module _ (w : Width) (k v : ElementSpec) (kl : IsElement k) (vl : IsElement v) {
 
     abbrev item_pos : ℕ → ℕ
     item_pos i = item_at w size b p (slice_index st.homes i)
-
-    homes_count : length st.homes ≡ length pairs
-    homes_count = home_count w b p hashes st.homes st.written ∙ sym st.written.count ∙ st.len
 
     hashes_total : length hashes ≡ length st.homes
     hashes_total = length-map (home_positions w size b p st.homes) (there b)
@@ -103,7 +101,7 @@ module _ (w : Width) (k v : ElementSpec) (kl : IsElement k) (vl : IsElement v) {
         → fits y.0 b (item_pos j) ≡ false
     no_other n y e j less =
         let inside = slice_get_within pairs n y e in
-        let below : j < length st.homes = omega (arith, less, inside, homes_count) in
+        let below : j < length st.homes = omega (arith, less, inside, homes_count st) in
         let x = get_or pairs j y in
         let at = slice_get-get_or pairs j y (omega (arith, less, inside)) in
         let count = length-map pairs (λ (z : A × B). z.0) in
@@ -117,7 +115,7 @@ module _ (w : Width) (k v : ElementSpec) (kl : IsElement k) (vl : IsElement v) {
         → pos_found generic_kind w size b p (own y.0) (fits y.0 b) ≡ Some (item_pos n)
     pair_found n y e =
         let inside = slice_get_within pairs n y e in
-        let below : n < length st.homes = omega (arith, inside, homes_count) in
+        let below : n < length st.homes = omega (arith, inside, homes_count st) in
         let positions = home_positions w size b p st.homes in
         let total = length-map st.homes (item_at w size b p) in
         let here : fits y.0 b (item_pos n) ≡ true = fits_is y.0 n y below e ∙ laws.refl y.0 in
@@ -142,7 +140,7 @@ module _ (w : Width) (k v : ElementSpec) (kl : IsElement k) (vl : IsElement v) {
         let y = get_or pairs n d in
         let e = slice_get-get_or pairs n d h in
         subst (λ o. IsSomeAnd o (λ q. equals b (q + value_offset k v) y.1)) (sym (pair_found n y e))
-        (pair_represents n y (omega (arith, h, homes_count)) e).1
+        (pair_represents n y (omega (arith, h, homes_count st)) e).1
 
   -- in any archive with the written bytes of a map of std, the map there equals it
   pub written_equal : {R : Type 0} (kind : IsArchiveWord w) (f : Format (List (A × B)) R)

@@ -1,5 +1,5 @@
 -- Written bytes of a map of std represent that map, and so do copies of these bytes.
-use Rattle.std.proofs.Common.{◌≡◌, ℕ, zero, suc, ◌+◌, ◌-◌, ◌*◌, ◌<◌, ◌≤◌, ◌↔◌, refl, sym, ap, subst}
+use Rattle.std.proofs.Common.{◌≡◌, ℕ, zero, suc, ◌+◌, ◌-◌, ◌*◌, ◌<◌, ◌≤◌, refl, sym, ap, subst}
 use Rattle.std.proofs.Common.{◌∙◌, arith, inl, inr, ◌⊎◌, Bool, true, false, cond, eqb, List, []}
 use Rattle.std.proofs.Common.{◌∷◌, map, length, slice_get, slice_index, Option, Some, None}
 use Rattle.std.specs.Cmp.{IsEquivalence}
@@ -10,7 +10,7 @@ use Rattle.std.proofs.lemmas.Bool.{both_ways, cases_Bool, cases_eq, cases_lt, eq
 use Rattle.std.proofs.lemmas.List.{get_or_default}
 use Rattle.std.proofs.lemmas.List.Elements.{All-contains_itself, All-head, All-tail, All-weaker}
 use Rattle.std.proofs.lemmas.Map.Entries.{lookup_from_place, place_from_lookup}
-use Rattle.std.proofs.lemmas.Map.Keys.{IsDistinct-from_apart, apart_from_distinct}
+use Rattle.std.proofs.lemmas.Map.Keys.{apart_from_distinct}
 use Rattle.std.proofs.lemmas.Option.{same_Some, slice_get_cases, slice_get_within}
 use Rattle.rkyv_base.specs.Bytes.{AgreeOn}
 use Rattle.rkyv_base.specs.Lemmas.Bytes.{agree_on_part}
@@ -19,22 +19,22 @@ use Rattle.rkyv_base.specs.Lemmas.Entry.{entry_element}
 use Rattle.rkyv_base.specs.Format.{Format, IsFormat, RepresentsLocally}
 use Rattle.rkyv_base.specs.Pairs.{PairRepresents}
 use Rattle.rkyv_base.specs.Lemmas.Pairs.{pair_local}
-use Rattle.rkyv_base.specs.ElementSpec.{ElementSpec, IsElement, Viewable}
+use Rattle.rkyv_base.specs.ElementSpec.{ElementSpec, IsElement}
 use Rattle.rkyv_base.specs.Text.{IsArchiveWord}
-use Rattle.rkyv_table.specs.Table.Header.{cap_at, len_at}
+use Rattle.rkyv_table.specs.Table.Header.{cap_at}
 use Rattle.rkyv_table.specs.Lemmas.ItemPositions.{item_is_valid, valid_part}
 use Rattle.rkyv_table.specs.Controls.Placing.{walk}
-use Rattle.rkyv_table.specs.Table.Positions.{IsWalked, home_positions, item_at}
+use Rattle.rkyv_table.specs.Table.Positions.{IsWalked, item_at}
 use Rattle.rkyv_table.specs.Table.Positions.{item_positions, table_controls}
 use Rattle.rkyv_table.specs.Lemmas.SameHeader.{cap_same, pos_same}
 use Rattle.rkyv_table.specs.Table.Layout.{IsValidTable}
-use Rattle.rkyv_table.proofs.RawWalks.{walk_count, walked_all}
-use Rattle.rkyv_table.proofs.WalkedHomes.{walked_homes}
+use Rattle.rkyv_table.proofs.RawWalks.{walked_all}
 use Rattle.rkyv_table.proofs.Walks.{walk_none}
-use Rattle.rkyv_table.proofs.WrittenTables.{home_count, home_pos}
+use Rattle.rkyv_table.proofs.WrittenTables.{home_pos}
 use Rattle.rkyv_collections.specs.Map.MapSpec.{map_spec}
 use Rattle.rkyv_collections.specs.Map.MapFormat.{MapRepresents}
 use Rattle.rkyv_collections.specs.Lemmas.DistinctEntries.{of_entries-format}
+use Rattle.rkyv_collections.specs.Lemmas.PairHomes.{homes_count, homes_visited}
 use Rattle.rkyv_collections.specs.Lemmas.StoredKeys.{find_in_distinct, key_contained, no_key}
 use Rattle.rkyv_table.specs.Lemmas.SameControls.{same_controls}
 use Rattle.rkyv_collections.specs.StdMaps.StdMap.{ArePairsAt, EntriesRepresent, of_entries}
@@ -263,43 +263,11 @@ module _ (k v : ElementSpec) (kl : IsElement k) (vl : IsElement v) (w : Width) {
     (equal : A → A → Bool) (laws : IsEquivalence equal) (hash : List ℕ → ℕ → ℕ) (factor : ℕ × ℕ)
   where
     -- a written map of distinct keys represents a map of std with the same lookups as its pairs
-    module _ (b : List ℕ) (p : ℕ) (view : Viewable (map_spec w k v) b p) (pairs : List (A × B))
+    module _ (b : List ℕ) (p : ℕ) (pairs : List (A × B))
         (st : MapRepresents w k v key value hash factor b p pairs)
         (apart : IsDistinct equal (keys_of pairs)) where
       walked : List ℕ
       walked = walk (table_controls w b p) (cap_at w b p)
-
-      homes_count : length st.homes ≡ length pairs
-      homes_count =
-          let hashes = map (hash b) (home_positions w (entry_spec k v).size b p st.homes) in
-          home_count w b p hashes st.homes st.written ∙ sym st.written.count ∙ st.len
-
-      -- the walk visits each home bucket, and no other
-      Visits : Type 0
-      Visits = ((i : ℕ) → Contains walked i ↔ Contains st.homes i) × IsDistinct eqb st.homes
-
-      visits : Visits
-      unfolding walked Visits
-      visits =
-          let hashes = map (hash b) (home_positions w (entry_spec k v).size b p st.homes) in
-          elim st.written.placed [
-            | inl none ↦
-                let count = walk_count w (entry_spec k v) (entry_element k v kl vl) b p view in
-                let homes : length st.homes ≡ 0 = ap length none.1 in
-                let len : len_at w b p ≡ 0 = st.len ∙ sym homes_count ∙ homes in (
-                  λ i. (
-                    λ at. absurd (omega (arith, at.1, count, len)),
-                    λ at. absurd (omega (arith, at.1, homes)),
-                  ),
-                  IsDistinct-from_apart eqb st.homes (λ i j d less h.
-                      absurd (omega (arith, h, homes))),
-                )
-            | inr placed ↦
-                let all = walked_homes (cap_at w b p) hashes st.homes (table_controls w b p)
-                placed.0
-                st.written.fit placed.1 in
-                (all.members, all.once)
-          ]
 
       pair_there : (n : ℕ) (y : A × B) → n < length st.homes → slice_get pairs n ≡ Some y
           → PairRepresents k v key value b
@@ -320,28 +288,29 @@ module _ (k v : ElementSpec) (kl : IsElement k) (vl : IsElement v) (w : Width) {
           × ArePairsAt k v key value b (item_positions w (entry_spec k v).size b p) ys
           × ((q : A) → lookup (equal q) pairs ≡ update_all equal (λ _. None) ys q)
           × ((q : A) → find (equal q) (keys_of pairs) ≡ find (equal q) (keys_of ys))
-      unfolding walked Visits Hits
+      unfolding walked Hits
       reads_written =
-          let picked = pick_all equal laws pairs apart st.homes visits.1 homes_count (λ i y.
+          let visits = homes_visited st in
+          let picked = pick_all equal laws pairs apart st.homes visits.once (homes_count st) (λ i y.
           PairRepresents k v key value b (item_at w (entry_spec k v).size b p i) y) pair_there
-          walked (All-weaker (Contains walked) (Contains st.homes) (λ i at. (visits.0 i).0 at)
+          walked (All-weaker (Contains walked) (Contains st.homes) (λ i at. (visits.members i).0 at)
           walked
           (All-contains_itself walked)) in (
             picked.0,
             zip_positions walked picked.0 picked.1,
-            λ q. sym (inserted equal laws pairs apart st.homes visits.1 homes_count q walked
+            λ q. sym (inserted equal laws pairs apart st.homes visits.once (homes_count st) q walked
                 picked.0 picked.2 (λ _. None)
-                (elim (found_picked equal laws pairs apart st.homes visits.1 homes_count q
+                (elim (found_picked equal laws pairs apart st.homes visits.once (homes_count st) q
                 (lookup (equal q) pairs) refl) [
                   | inl none ↦ inl (sym none)
-                  | inr hit ↦ inr (hit.0, (visits.0 hit.0).1 hit.1, hit.2)
+                  | inr hit ↦ inr (hit.0, (visits.members hit.0).1 hit.1, hit.2)
                 ])),
-            λ q. stored equal laws pairs apart st.homes visits.1 homes_count q walked picked.0
-                picked.2
-                (elim (found_picked equal laws pairs apart st.homes visits.1 homes_count q
+            λ q. stored equal laws pairs apart st.homes visits.once (homes_count st) q walked
+                picked.0 picked.2
+                (elim (found_picked equal laws pairs apart st.homes visits.once (homes_count st) q
                 (lookup (equal q) pairs) refl) [
                   | inl none ↦ inl none
-                  | inr hit ↦ inr (hit.0, (visits.0 hit.0).1 hit.1, hit.2)
+                  | inr hit ↦ inr (hit.0, (visits.members hit.0).1 hit.1, hit.2)
                 ]),
           )
 
@@ -352,7 +321,7 @@ module _ (k v : ElementSpec) (kl : IsElement k) (vl : IsElement v) (w : Width) {
     entries_sound kind f base =
         of_entries-format w kind kl vl factor equal (EntriesRepresent k v key value w equal)
         (λ b p view es st apart.
-        let read = reads_written b p view es st apart in
+        let read = reads_written b p es st apart in
         record {
           pairs = read.0;
           read = read.1;

@@ -5,7 +5,6 @@ use Rattle.rkyv_base.specs.Entry.{entry_spec}
 use Rattle.rkyv_base.specs.Format.{Format, IsFormat}
 use Rattle.rkyv_base.specs.Pairs.{PairRepresents, pair_format, written_as}
 use Rattle.rkyv_base.specs.ElementSpec.{ElementSpec}
-use Rattle.rkyv_scan.specs.Hash.{Hasher, HasherCall, hash_of_calls}
 use Rattle.rkyv_table.specs.Table.Header.{cap_at, len_at}
 use Rattle.rkyv_table.specs.Controls.Numbers.{capacity}
 use Rattle.rkyv_table.specs.Table.Positions.{home_positions}
@@ -14,10 +13,6 @@ use Rattle.rkyv_collections.specs.Map.{MapWrittenAt}
 use Rattle.rkyv_collections.specs.Map.MapSpec.{map_spec}
 use Rattle.rkyv_keys.specs.Natives.{NativePairs}
 use Rattle.rkyv_collections.specs.Natives.{PairFormat}
-
--- the hash of a value with the hasher calls `calls`
-abbrev pub hash_of : {State A : Type 0} → Hasher State → (A → List HasherCall) → A → ℕ
-hash_of hasher calls value = hash_of_calls hasher (calls value)
 
 -- the pairs, each with the hash of its key
 abbrev pub keyed : {A B : Type 0} → (A → ℕ) → List (A × B) → List (ℕ × (A × B))

@@ -7,9 +7,9 @@ ghost use Rattle.rkyv_collections.specs.Map.BothHashers.{ComparedAlike, QueriedA
 ghost use Rattle.rkyv_collections.specs.Map.Equality.{EqualHaveSamePairs};
 ghost use Rattle.rkyv_collections.specs.Map.ListedLookups.{LookupsFindListed};
 ghost use Rattle.rkyv_collections.specs.Map.ListedWalks.{WalksVisitEach, WalksVisitPairs};
-ghost use Rattle.rkyv_collections.specs.Map.{hash_at};
 ghost use Rattle.rkyv_collections.specs.Map.Misplaced.{RepeatedKeysAreMisplaced};
 ghost use Rattle.rkyv_keys.specs.Natives.{native_pairs};
+ghost use Rattle.rkyv_keys.specs.Calls.{hash_at};
 ghost use Rattle.rkyv_base.specs.Same.{SameSpec, SameValues};
 ghost use Rattle.rkyv_collections.specs.Map.MapSpec.{map_spec};
 ghost use Rattle.rkyv_collections.specs.Listed.{map_list};

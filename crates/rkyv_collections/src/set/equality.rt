@@ -2,7 +2,7 @@
 ghost use Rattle.std.specs.Prelude.{◌≡◌};
 ghost use Rattle.rkyv_base.specs.View.{IsValidView};
 ghost use Rattle.rkyv_keys.specs.AtViews.{at_views};
-ghost use Rattle.rkyv_collections.specs.Map.{hash_at};
+ghost use Rattle.rkyv_keys.specs.Calls.{hash_at};
 ghost use Rattle.rkyv_collections.specs.Map.Misplaced.{CountsKeysUpTo};
 ghost use Rattle.rkyv_collections.specs.Set.{set_bytes, set_equal, set_misplaced, set_pos};
 ghost use Rattle.rkyv_collections.specs.Set.{set_spec, set_view};

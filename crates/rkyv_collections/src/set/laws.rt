@@ -3,9 +3,9 @@
 //! They are about iterations and lookups. `written` is about the bytes of written sets.
 
 ghost use Rattle.rkyv_collections.specs.Map.ListedWalks.{SetWalksVisitEach};
-ghost use Rattle.rkyv_collections.specs.Map.{hash_at};
 ghost use Rattle.rkyv_base.specs.Same.{SameSpec, SameValues};
 ghost use Rattle.rkyv_keys.specs.Natives.{native_keys};
+ghost use Rattle.rkyv_keys.specs.Calls.{hash_at};
 ghost use Rattle.rkyv_collections.specs.Set.ListArchives.{MembersFoundAreListed};
 ghost use Rattle.rkyv_collections.specs.Set.{set_spec};
 ghost use Rattle.rkyv_collections.specs.Listed.{set_list};

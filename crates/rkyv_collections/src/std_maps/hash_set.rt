@@ -7,9 +7,9 @@ ghost use Rattle.rkyv_base.specs.Lemmas.Empty.{unit_element, unit_is_format, uni
 ghost use Rattle.rkyv_base.specs.Empty.{unit_represents, unit_spec};
 ghost use Rattle.rkyv_base.specs.Pairs.{written_as};
 ghost use Rattle.rkyv_base.specs.Lemmas.Pairs.{written_as-format};
+ghost use Rattle.rkyv_keys.specs.Calls.{hash_at, hash_of};
 ghost use Rattle.rkyv_table.specs.Table.Listed.{listed};
-ghost use Rattle.rkyv_collections.specs.Map.{hash_at};
-ghost use Rattle.rkyv_collections.specs.Map.MapFormat.{hash_of, map_format};
+ghost use Rattle.rkyv_collections.specs.Map.MapFormat.{map_format};
 ghost use Rattle.rkyv_collections.specs.Lemmas.MapSound.{listed_map_sound};
 ghost use Rattle.rkyv_collections.specs.Natives.{queried};
 ghost use Rattle.rkyv_collections.specs.Set.{set_spec, set_view};

@@ -2,8 +2,8 @@
 //!
 //! They are about lookups in these archives, and about values that are read back.
 
+ghost use Rattle.rkyv_keys.specs.Calls.{hash_at};
 ghost use Rattle.rkyv_collections.specs.Natives.{queried};
-ghost use Rattle.rkyv_collections.specs.Map.{hash_at};
 ghost use Rattle.rkyv_collections.specs.StdMaps.ListArchives.{WrittenMapsAreLists};
 ghost use Rattle.rkyv_collections.specs.StdMaps.ListArchives.{WrittenSetsAreLists};
 ghost use Rattle.rkyv_collections.specs.StdMaps.RoundTrips.{ArchivesRoundTrip};

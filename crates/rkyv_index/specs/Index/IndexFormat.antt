@@ -8,7 +8,6 @@ use Rattle.rkyv_base.specs.Pairs.{PairRepresents, pair_format}
 use Rattle.rkyv_base.specs.Scalar.{Encoding, scalar_format}
 use Rattle.rkyv_base.specs.ElementSpec.{ElementSpec}
 use Rattle.rkyv_base.specs.Writing.{Step, padding, piece, zeros}
-use Rattle.rkyv_scan.specs.Hash.{Hasher, HasherCall, hash_of_calls}
 use Rattle.rkyv_table.specs.Table.Header.{cap_at, len_at}
 use Rattle.rkyv_table.specs.Controls.Numbers.{capacity}
 use Rattle.rkyv_table.specs.Table.Positions.{WrittenAt, home_positions}
@@ -87,11 +86,6 @@ row_format w ps e s f hash load_factor = record {
   image = λ xs r p out. IsIndexHeader w r.table.len (resolved_capacity r.table) r p out;
   overflow = λ xs r p. IndexOverflows w r.table.len r p;
 }
-
--- the hash of a value by its hasher calls
-abbrev pub hash_of : {State A : Type 0} → Hasher State
-    → (A → List HasherCall) → A → ℕ
-hash_of hasher calls value = hash_of_calls hasher (calls value)
 
 -- The format of a list of pairs, in insertion order, as an index map under a load factor.
 -- Its table has the index of each pair under the hash of its key. The parts of the entries follow,

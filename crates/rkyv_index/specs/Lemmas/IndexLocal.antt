@@ -19,6 +19,7 @@ use Rattle.rkyv_base.specs.Text.{IsArchiveWord}
 use Rattle.rkyv_keys.specs.Equality.{Comparison}
 use Rattle.rkyv_keys.specs.Keys.{IsKey}
 use Rattle.rkyv_keys.specs.QueryLaws.{HashLocal}
+use Rattle.rkyv_keys.specs.Calls.{hash_at}
 use Rattle.rkyv_table.specs.Table.Header.{cap_at, len_at}
 use Rattle.rkyv_table.specs.Lemmas.ItemPositions.{IsValidWithin}
 use Rattle.rkyv_table.specs.Lemmas.ValidItemLaws.{all_between}
@@ -29,7 +30,6 @@ use Rattle.rkyv_table.specs.Lemmas.TableLaws.{table_element}
 use Rattle.rkyv_table.specs.Lemmas.SameControls.{same_controls}
 use Rattle.rkyv_table.proofs.SameTable.{written_there}
 use Rattle.rkyv_table.proofs.WrittenTables.{home_pos, home_walked}
-use Rattle.rkyv_index.specs.Index.{hash_at}
 use Rattle.rkyv_index.specs.Index.IndexFormat.{IndexRepresents, IndexWrittenAt}
 use Rattle.rkyv_index.specs.Index.IndexLayout.{entries_pos, pair_pos}
 use Rattle.rkyv_index.specs.Lemmas.IndexLaws.{each_is_valid, entry_inside, stored_index_element}

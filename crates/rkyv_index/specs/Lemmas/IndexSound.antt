@@ -30,8 +30,7 @@ use Rattle.rkyv_keys.specs.Equality.{Comparison}
 use Rattle.rkyv_keys.specs.Keys.{FitsItsEqual, IsQuery}
 use Rattle.rkyv_keys.specs.QueryLaws.{HashesAlike}
 use Rattle.rkyv_scan.specs.Hash.{Hasher, HasherCall, hash_of_calls}
-use Rattle.rkyv_index.specs.Index.IndexFormat.{hash_of}
-use Rattle.rkyv_index.specs.Index.{hash_at}
+use Rattle.rkyv_keys.specs.Calls.{hash_at, hash_of}
 use Rattle.rkyv_table.specs.Table.Header.{cap_at, len_at}
 use Rattle.rkyv_table.specs.Lemmas.HeaderReads.{header_length}
 use Rattle.rkyv_table.specs.Controls.Numbers.{capacity}

@@ -13,8 +13,7 @@ use Rattle.rkyv_base.specs.Text.{IsArchiveWord}
 use Rattle.rkyv_keys.specs.Equality.{Comparison}
 use Rattle.rkyv_keys.specs.Keys.{FitsItsEqual, IsKey, IsQuery}
 use Rattle.rkyv_scan.specs.Hash.{Hasher, HasherCall}
-use Rattle.rkyv_index.specs.Index.{hash_at}
-use Rattle.rkyv_index.specs.Index.IndexFormat.{hash_of}
+use Rattle.rkyv_keys.specs.Calls.{hash_at, hash_of}
 use Rattle.rkyv_index.specs.Index.IndexFormat.{CodesReadBack, IndexRepresents, index_format}
 use Rattle.rkyv_index.specs.Lemmas.IndexLocal.{index_represents_local}
 use Rattle.rkyv_index.specs.Lemmas.IndexSound.{index_sound}

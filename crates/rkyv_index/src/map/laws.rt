@@ -2,8 +2,7 @@
 //!
 //! They are about writes of one value in place, deserialized lists, lookups and the layout.
 //! `written` is about the bytes of written index maps, and `list_archives` about root index maps.
-ghost use Rattle.rkyv_index.specs.Index.{hash_at};
-ghost use Rattle.rkyv_index.specs.Index.IndexFormat.{hash_of};
+ghost use Rattle.rkyv_keys.specs.Calls.{hash_at, hash_of};
 ghost use Rattle.rkyv_index.specs.Index.Reading.{PairsReadBackAreListed, reads_as};
 ghost use Rattle.rkyv_index.specs.Index.ValueWrites.{ValueWritesKeepLookups};
 ghost use Rattle.rkyv_index.specs.Index.ValueWrites.{ValuesWrittenRepresent};

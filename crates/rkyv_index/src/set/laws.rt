@@ -1,7 +1,7 @@
 //! Laws of index sets, over their definitions alone.
 //!
 //! They are about deserialized lists, lookups and the layout.
-ghost use Rattle.rkyv_index.specs.Index.{hash_at};
+ghost use Rattle.rkyv_keys.specs.Calls.{hash_at};
 ghost use Rattle.rkyv_index.specs.Index.Reading.{ItemsReadBackAreListed};
 ghost use Rattle.rkyv_base.specs.Same.{SameSpec, SameValues};
 ghost use Rattle.rkyv_index.specs.Set.IndexSet.{index_set_spec};

@@ -5,8 +5,8 @@
 
 ghost use Rattle.std.specs.Prelude.{◌≡◌, ◌+◌, ◌<◌, ◌^◌, length};
 ghost use Rattle.rkyv_base.specs.Pairs.{written_as};
+ghost use Rattle.rkyv_keys.specs.Calls.{hash_of};
 ghost use Rattle.rkyv_index.specs.Index.Writing.{WritesUnder, listing};
-ghost use Rattle.rkyv_index.specs.Index.IndexFormat.{hash_of};
 ghost use Rattle.rkyv_index.specs.Index.IndexHeader.{WritesIndexHeader};
 ghost use Rattle.rkyv_index.specs.Set.SetFormat.{index_set_format};
 ghost use Rattle.rkyv_table.specs.Table.ItemValues.{key_values};

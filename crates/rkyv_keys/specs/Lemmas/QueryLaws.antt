@@ -1,12 +1,19 @@
 -- Lemmas: laws of native keys and queries on written keys.
 use Rattle.std.specs.Prelude.{◌≡◌, ℕ, Bool, true, List}
-use Rattle.std.proofs.Common.{sym, ◌∙◌, arith}
+use Rattle.std.proofs.Common.{sym, ◌∙◌, ap, arith}
 use Rattle.std.proofs.lemmas.Bool.Decides.{same_from_decides}
-use Rattle.rkyv_scan.specs.Hash.{HasherCall}
+use Rattle.rkyv_scan.specs.Hash.{Hasher, HasherCall, hash_of_calls}
 use Rattle.rkyv_base.specs.ElementSpec.{ElementSpec, IsElement, ValidAt}
+use Rattle.rkyv_keys.specs.Calls.{hash_at}
 use Rattle.rkyv_keys.specs.Equality.{Comparison, IsEquivalence, RepresentsOnce}
 use Rattle.rkyv_keys.specs.Keys.{FitsItsEqual, IsKey, IsQuery}
-use Rattle.rkyv_keys.specs.QueryLaws.{FitsByValue, HashesAsWritten, RestsOnKeys}
+use Rattle.rkyv_keys.specs.QueryLaws.{FitsByValue, HashLocal, HashesAsWritten, RestsOnKeys}
+
+-- the hash of a key depends only on the bytes on which the validity of the key depends
+pub hash_local : {State : Type 0} (hasher : Hasher State) {k : ElementSpec} {same : Comparison}
+    {calls : List ℕ → ℕ → List HasherCall} → IsKey k same calls → HashLocal k (hash_at hasher calls)
+hash_local hasher key b c q lo hi l o is_valid fixed part =
+    ap (hash_of_calls hasher) (key.local b c q lo hi l o is_valid fixed part)
 
 module _ {V : Type 0} (s : ElementSpec) (same : Comparison) (key_calls : List ℕ → ℕ
     → List HasherCall)

@@ -51,14 +51,11 @@ module _ {X R : Type 0} (s : ElementSpec) (laws : IsElement s) (represents : Lis
     → Type 0) (f : Format X R) (fl : IsFormat s represents f)
     (c : List ℕ) (p cap : ℕ) (pairs : List (ℕ × X)) (slots : List (Option X)) (controls : List ℕ)
     (placed : Placed cap pairs slots controls) (room : length pairs < cap) where
-  hashes_count : length (hashes_of pairs) ≡ length pairs
-  hashes_count = length-map pairs (λ (y : ℕ × X). y.0)
-
   written_accepted : AreValidControls cap (length pairs) controls
   written_accepted = record {
     room = room;
     full = ap length (walk_filled cap pairs slots controls placed) ∙ filled_count 0 slots
-        ∙ placed.slotted.full ∙ placed.written.placed.count ∙ hashes_count;
+        ∙ placed.slotted.full ∙ placed.written.placed.count ∙ length-map pairs (λ (y : ℕ × X). y.0);
     repeats = placed.written.repeats;
   }
 

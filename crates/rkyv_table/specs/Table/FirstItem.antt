@@ -1,6 +1,6 @@
 -- The first accepted item, as the result of a lookup in a written table.
-use Rattle.std.specs.Prelude.{◌≡◌, ℕ, ◌^◌, ◌<◌, Bool, true, List, slice_get, Option, Some, None}
-use Rattle.std.specs.Prelude.{MatchOption}
+use Rattle.std.specs.Prelude.{◌≡◌, ℕ, ◌^◌, ◌<◌, Bool, true, List, slice_get, slice_index, Option}
+use Rattle.std.specs.Prelude.{MatchOption, None, Some}
 use Rattle.std.specs.Int.{Width}
 use Rattle.std.specs.List.{All, find}
 use Rattle.rkyv_base.specs.ElementSpec.{ElementSpec}
@@ -22,6 +22,11 @@ abbrev pub TestsAgree : {X : Type 0} → (List ℕ → ℕ → X → Type 0) →
     → (ℕ → Bool) → Type 0
 TestsAgree {X} represents c accept items accept_at =
     (i q : ℕ) (x : X) → slice_get items i ≡ Some x → represents c q x → accept_at q ≡ accept x
+
+-- `accept_at` returns at the position of each item what `accept` returns for the item
+abbrev pub AgreesAt : {X : Type 0} → List ℕ → List X → (X → Bool) → (ℕ → Bool) → Type 0
+AgreesAt {X} positions items accept accept_at =
+    (i : ℕ) (x : X) → slice_get items i ≡ Some x → accept_at (slice_index positions i) ≡ accept x
 
 -- `result`: position of the first accepted item, or `None` if and only if no item is accepted
 abbrev pub IsFirstOf : {X : Type 0} → (List ℕ → ℕ → X → Type 0) → List ℕ → (X → Bool) → List X

@@ -7,8 +7,8 @@ use Rattle.rkyv_base.specs.Entry.{entry_spec}
 use Rattle.rkyv_base.specs.Lemmas.Bytes.{agree_on_part}
 use Rattle.rkyv_base.specs.Scalar.{ScalarRepresents}
 use Rattle.rkyv_base.specs.Sealing.{value_pos, with_value}
+use Rattle.rkyv_keys.specs.Calls.{hash_at}
 use Rattle.rkyv_table.specs.Table.Decoded.{IsDecoded}
-use Rattle.rkyv_index.specs.Index.{hash_at}
 use Rattle.rkyv_index.specs.Index.IndexFormat.{IndexRepresents}
 use Rattle.rkyv_index.specs.Index.IndexLayout.{pair_pos}
 use Rattle.ffi_calls.specs.IndexArchives.{index_in, index_map, value_pos_at}

@@ -1,7 +1,7 @@
 use Rattle.std.proofs.Common.{◌≡◌, ◌∙◌, ℕ, ◌-◌, List, ap, arith, inl, inr, length, refl, subst, sym}
 use Rattle.rkyv_scan.specs.Hash.{fx_hasher, low_halves}
 use Rattle.rkyv_base.specs.Scalar.{ScalarRepresents}
-use Rattle.rkyv_collections.specs.Map.{hash_at}
+use Rattle.rkyv_keys.specs.Calls.{hash_at}
 use Rattle.rkyv_collections.specs.Map.MapFormat.{MapRepresents}
 use Rattle.rkyv_collections.specs.Map.MapSpec.{map_spec}
 use Rattle.ffi_calls.proofs.Writing.{overwrite_status, set_keeps_header, set_kept}

@@ -9,7 +9,8 @@ use Rattle.rkyv_base.specs.View.{pos_of_found}
 use Rattle.rkyv_table.proofs.Moved.{moved}
 use Rattle.rkyv_collections.proofs.SealedMap.{as_read}
 use Rattle.rkyv_keys.specs.FirstPairs.{first_value}
-use Rattle.rkyv_collections.specs.Map.{hash_at, map_bytes, map_pos}
+use Rattle.rkyv_keys.specs.Calls.{hash_at}
+use Rattle.rkyv_collections.specs.Map.{map_bytes, map_pos}
 use Rattle.rkyv_collections.specs.Map.MapFormat.{MapRepresents}
 use Rattle.ffi_calls.specs.Archives.{hash_by, root}
 use Rattle.ffi_calls.proofs.First.{found_placed, found_viewable}

@@ -12,8 +12,7 @@ ghost use Rattle.rkyv_base.specs.Seal.{LiesIn, SealAt, archive_in, bytes_in, pos
 ghost use Rattle.rkyv_base.specs.Sealing.{value_pos};
 ghost use Rattle.rkyv_base.specs.ElementSpec.{Viewable};
 ghost use Rattle.rkyv_base.specs.View.{IsValidView};
-ghost use Rattle.rkyv_collections.specs.Map.{hash_at, map_bytes, map_pos};
-ghost use Rattle.rkyv_collections.specs.Map.MapFormat.{hash_of};
+ghost use Rattle.rkyv_collections.specs.Map.{map_bytes, map_pos};
 ghost use Rattle.rkyv_collections.specs.Map.MapAt.{FoundKeyHasAt};
 ghost use Rattle.rkyv_collections.specs.Map.SealedMap.{IsKeyPosIn, IsMapSeal, IsPairSeal};
 ghost use Rattle.rkyv_collections.specs.Map.SealedMap.{IsPairSealAt};
@@ -21,6 +20,7 @@ ghost use Rattle.rkyv_collections.specs.Map.SealedMap.{IsValueSeal, IsValueSealA
 ghost use Rattle.rkyv_collections.specs.Map.SealedMap.{CanCompareKeysIn};
 ghost use Rattle.rkyv_collections.specs.Map.SealedMap.{FoundByHasAt, map_sealed};
 ghost use Rattle.rkyv_keys.specs.KeyLookup.{query_of};
+ghost use Rattle.rkyv_keys.specs.Calls.{hash_at, hash_of};
 
 use crate::map::{ArchivedHashMap, HashMapOf};
 use rkyv_base::element::Element;

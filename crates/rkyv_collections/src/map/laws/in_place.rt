@@ -1,7 +1,6 @@
 //! Laws of writes of one value in place.
 
-ghost use Rattle.rkyv_collections.specs.Map.{hash_at};
-ghost use Rattle.rkyv_collections.specs.Map.MapFormat.{hash_of};
+ghost use Rattle.rkyv_keys.specs.Calls.{hash_at, hash_of};
 ghost use Rattle.rkyv_collections.specs.Map.ValueWrites.{ValueWritesKeepLookups};
 ghost use Rattle.rkyv_collections.specs.Map.ValueWrites.{ValueWritesKeepMaps};
 ghost use Rattle.rkyv_collections.specs.Map.ValueWrites.{ValuesWrittenRepresent};

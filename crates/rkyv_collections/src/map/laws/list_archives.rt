@@ -5,8 +5,8 @@
 ghost use Rattle.rkyv_collections.specs.Map.ListArchives.{FoundAreListed};
 ghost use Rattle.rkyv_keys.specs.FirstPairs.{found_scalars};
 ghost use Rattle.rkyv_keys.specs.FirstPairs.{found_texts, found_views};
-ghost use Rattle.rkyv_collections.specs.Map.{hash_at};
 ghost use Rattle.rkyv_keys.specs.Natives.{native_keys};
+ghost use Rattle.rkyv_keys.specs.Calls.{hash_at};
 
 use rkyv_base::element::{HasSpec, Represents};
 use rkyv_base::scalars::Scalar;

@@ -1,5 +1,5 @@
 //! Laws of writes among the parts of a value, as to a map that is the value of another map.
-ghost use Rattle.rkyv_collections.specs.Map.{hash_at};
+ghost use Rattle.rkyv_keys.specs.Calls.{hash_at};
 ghost use Rattle.rkyv_keys.specs.Natives.{native_keys};
 ghost use Rattle.rkyv_collections.specs.Map.NestedWrites.{
   NestedWritesKeepMaps,

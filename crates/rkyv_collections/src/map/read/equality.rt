@@ -6,8 +6,9 @@ ghost use Rattle.std.specs.Prelude.{◌+◌, ◌≡◌};
 ghost use Rattle.rkyv_base.specs.Entry.{value_offset};
 ghost use Rattle.rkyv_base.specs.View.{IsAt, IsValidView, archive_of, pos_of};
 ghost use Rattle.rkyv_keys.specs.AtViews.{at_views};
+ghost use Rattle.rkyv_keys.specs.Calls.{hash_at};
 ghost use Rattle.rkyv_collections.specs.Map.Equality.{finds_same, map_equal};
-ghost use Rattle.rkyv_collections.specs.Map.{hash_at, map_view};
+ghost use Rattle.rkyv_collections.specs.Map.{map_view};
 ghost use Rattle.rkyv_collections.specs.Map.MapSpec.{map_spec};
 
 use crate::map::{ArchivedHashMap, HashMapOf};

@@ -16,10 +16,9 @@ ghost use Rattle.rkyv_collections.specs.Map.Lookups.{IsValueOfEntry};
 ghost use Rattle.rkyv_collections.specs.Map.Lookups.{FoundKeyHas, entry_part, pair_part};
 ghost use Rattle.rkyv_collections.specs.Map.Lookups.{value_part};
 ghost use Rattle.rkyv_keys.specs.KeyLookup.{query_of};
+ghost use Rattle.rkyv_keys.specs.Calls.{hash_at, hash_of};
 ghost use Rattle.rkyv_collections.specs.Map.{CanCompareKeys, FindsKey, IsFoundAt, IsViewAt};
-ghost use Rattle.rkyv_collections.specs.Map.{hash_at};
 ghost use Rattle.rkyv_collections.specs.Map.{map_bytes};
-ghost use Rattle.rkyv_collections.specs.Map.MapFormat.{hash_of};
 
 use crate::map::ArchivedHashMap;
 use rkyv_base::element::Element;

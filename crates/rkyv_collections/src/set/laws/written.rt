@@ -1,7 +1,6 @@
 //! The law of written sets, in any archive that contains their bytes.
 
-ghost use Rattle.rkyv_collections.specs.Map.{hash_at};
-ghost use Rattle.rkyv_collections.specs.Map.MapFormat.{hash_of};
+ghost use Rattle.rkyv_keys.specs.Calls.{hash_at, hash_of};
 ghost use Rattle.rkyv_collections.specs.Set.SetFormat.{WrittenSetsRepresent};
 
 use rkyv_base::archive::Archive;

@@ -1,15 +1,15 @@
 use Rattle.std.proofs.Common.{◌∙◌, ap}
 use Rattle.std.proofs.lemmas.Result.{err_from_is_err_and}
+use Rattle.rkyv_base.proofs.AtViews.{read_at}
 use Rattle.rkyv_table.specs.Table.Header.{len_at}
 use Rattle.rkyv_dict.specs.Archives.{IsMapArchive, MapValidationFails, pair_count}
-use Rattle.rkyv_dict.proofs.Roots.{read_at}
 use Rattle.rkyv_dict.proofs.archives.check_map.Goals as goal
 
 pub returns : goal.returns
 unfolding IsMapArchive pair_count
 returns g c =
     let len = len_at g.W.Word.word in
-    (c.in_ok-root.ensures.root.0, c.len.ensures ∙ ap (λ v. len v.archive.now v.pos) c.of.ensures.view ∙ read_at len c.in_ok-root.root _ _ c.in_ok-root.ensures.root.1)
+    (c.in_ok-root.ensures.root.0, c.len.ensures ∙ ap (λ v. len v.archive.now v.pos) c.of.ensures.view ∙ read_at c.in_ok-root.root _ _ c.in_ok-root.ensures.root.1 len)
 
 pub returns-in_err-root : goal.returns-in_err-root
 unfolding MapValidationFails

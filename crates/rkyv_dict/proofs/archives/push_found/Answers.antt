@@ -2,11 +2,12 @@ use Rattle.std.proofs.Common.{subst, ◌≡◌, ◌++◌, ℕ, Bool, List, Optio
 use Rattle.std.specs.List.{find}
 use Rattle.rkyv_scan.specs.Groups.{generic_kind}
 use Rattle.rkyv_base.specs.Entry.{entry_spec, value_offset}
+use Rattle.rkyv_base.proofs.AtViews.{back_at}
 use Rattle.rkyv_table.specs.Table.Positions.{home_positions, pos_found}
 use Rattle.rkyv_collections.specs.Map.{MapWrittenAt, map_archive}
 use Rattle.rkyv_dict.specs.Archives.{hash, value_line, value_under}
 use Rattle.rkyv_dict.specs.First.{HasHomes, first_under}
-use Rattle.rkyv_dict.proofs.Roots.{back_at, some_map, text_read}
+use Rattle.rkyv_dict.proofs.Roots.{some_map, text_read}
 use Rattle.rkyv_dict.proofs.archives.push_found.Goals as goal
 
 pub returns-clause-found : goal.returns-clause-found
@@ -29,6 +30,6 @@ returns-clause-first g c homes written =
     let fits : List ℕ → ℕ → Bool = g.Q.Query.fits c.args.key.now in
     let key_pos : List ℕ → ℕ → Option ℕ = λ b p. find (fits b) (home_positions w (entry_spec s s).size b p homes) in
     let same : IfSome c.get.result (λ v. v.archive ≡ map_archive m) = some_map c.get.result (λ v is. is.at.0) c.get.ensures.walked in
-    let here = back_at (λ b p. MapWrittenAt w (entry_spec s s) (λ c q. hash (g.P.KeyElement.key_calls c q)) b p homes) m.view _ _ c.map_of.ensures.at written in
+    let here = back_at m.view _ _ c.map_of.ensures.at (λ b p. MapWrittenAt w (entry_spec s s) (λ c q. hash (g.P.KeyElement.key_calls c q)) b p homes) written in
     let text = text_read g.P.Printable.text (value_offset s s) m.view _ _ c.map_of.ensures.at c.get.result same key_pos (c.get.ensures.first homes here) in
     subst (λ t. OnOk c.push_text.result (string_bytes c.push_text.new.out ≡ string_bytes c.args.out.now ++ value_line t)) text c.push_text.ensures

@@ -2,7 +2,7 @@ use Rattle.std.proofs.Common.{ℕ, ◌-◌, ◌∙◌, subst, sym, length, List}
 use Rattle.std.specs.Borrow.{Bor}
 use Rattle.rkyv_scan.specs.Hash.{fx_hasher, low_halves}
 use Rattle.rkyv_keys.specs.Deserialize.{DeserializeMembers}
-use Rattle.rkyv_index.specs.Index.{hash_at}
+use Rattle.rkyv_keys.specs.Calls.{hash_at}
 use Rattle.rkyv_index.specs.Index.Reading.{items_deserialize_fails}
 use Rattle.rkyv_index.specs.Set.IndexSet.{index_set_spec, keys_of, set_bytes, set_pos}
 use Rattle.rkyv_index.specs.Set.SetFormat.{IndexSetRepresents}

@@ -4,7 +4,8 @@ use Rattle.rkyv_base.specs.Entry.{entry_spec}
 use Rattle.rkyv_base.specs.View.{bytes_of, pos_of}
 use Rattle.rkyv_scan.specs.Hash.{fx_hasher, low_halves}
 use Rattle.rkyv_keys.specs.Deserialize.{DeserializeMembers}
-use Rattle.rkyv_index.specs.Index.{hash_at, index_bytes, index_pos}
+use Rattle.rkyv_keys.specs.Calls.{hash_at}
+use Rattle.rkyv_index.specs.Index.{index_bytes, index_pos}
 use Rattle.rkyv_index.specs.Index.IndexFormat.{IndexRepresents}
 use Rattle.rkyv_index.specs.Index.IndexLayout.{index_spec}
 use Rattle.rkyv_index.specs.Index.Reading.{pairs_deserialize_fails}

@@ -14,13 +14,13 @@ ghost use Rattle.rkyv_base.specs.Seal.{LiesIn, SealAt, archive_in, bytes_in, pos
 ghost use Rattle.rkyv_base.specs.Sealing.{value_pos};
 ghost use Rattle.rkyv_base.specs.ElementSpec.{Viewable};
 ghost use Rattle.rkyv_base.specs.View.{IsValidView};
+ghost use Rattle.rkyv_keys.specs.Calls.{hash_at, hash_of};
 ghost use Rattle.rkyv_table.specs.Table.Header.{len_at};
 ghost use Rattle.rkyv_table.specs.Table.PairSeals.{LendsPair, LendsValue};
 ghost use Rattle.rkyv_index.specs.Index.{FindsBy, FindsFirstBy, FindsFirstKey, FindsKey};
 ghost use Rattle.rkyv_index.specs.Index.{IsStoredAt};
-ghost use Rattle.rkyv_index.specs.Index.{CanCompareKeysOf, IsIndex, hash_at, index_bytes};
+ghost use Rattle.rkyv_index.specs.Index.{CanCompareKeysOf, IsIndex, index_bytes};
 ghost use Rattle.rkyv_index.specs.Index.{index_pos};
-ghost use Rattle.rkyv_index.specs.Index.IndexFormat.{hash_of};
 ghost use Rattle.rkyv_index.specs.Index.SealedIndex.{
   AcceptsIn,
   IsAcceptedIn,

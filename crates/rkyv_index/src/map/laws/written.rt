@@ -1,7 +1,7 @@
 //! The law of written index maps, in any archive that contains their bytes.
 
-ghost use Rattle.rkyv_index.specs.Index.{hash_at};
-ghost use Rattle.rkyv_index.specs.Index.IndexFormat.{WrittenIndexMaps, element, hash_of};
+ghost use Rattle.rkyv_keys.specs.Calls.{hash_at, hash_of};
+ghost use Rattle.rkyv_index.specs.Index.IndexFormat.{WrittenIndexMaps, element};
 ghost use Rattle.rkyv_index.specs.Index.IndexFormat.{indices};
 
 use crate::width::IndexMapWidth;

@@ -3,10 +3,11 @@
 //! - `misplaced` looks up each key. Its cost on an untrusted map may be quadratic.
 //! - `misplaced_up_to` ends at a limit on the strides that are read.
 ghost use Rattle.std.specs.Prelude.{◌+◌, ◌<◌, ◌^◌, ◌≡◌, ◌≤◌};
+ghost use Rattle.rkyv_keys.specs.Calls.{hash_at};
 ghost use Rattle.rkyv_index.specs.Index.Equality.{CountsAllStrides, CountsRepeated, CountsUpTo};
 ghost use Rattle.rkyv_index.specs.Index.Equality.{ReturnsRepeated, index_misplaced, is_misplaced};
 ghost use Rattle.rkyv_index.specs.Index.Equality.{own_strides};
-ghost use Rattle.rkyv_index.specs.Index.{AreEntries, ReadsUpTo, ReadsWithinBound, hash_at};
+ghost use Rattle.rkyv_index.specs.Index.{AreEntries, ReadsUpTo, ReadsWithinBound};
 ghost use Rattle.rkyv_index.specs.Index.{index_len, index_of};
 
 use crate::map::ArchivedIndexMap;

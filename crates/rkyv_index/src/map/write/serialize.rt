@@ -6,9 +6,10 @@
 ghost use Rattle.std.specs.Prelude.{List, ℕ};
 ghost use Rattle.rkyv_base.specs.Format.{Format};
 ghost use Rattle.rkyv_base.specs.Pairs.{written_as};
+ghost use Rattle.rkyv_keys.specs.Calls.{hash_of};
 ghost use Rattle.rkyv_table.specs.Table.ItemValues.{pair_values};
 ghost use Rattle.rkyv_index.specs.Index.Writing.{WritesUnder, listing};
-ghost use Rattle.rkyv_index.specs.Index.IndexFormat.{hash_of, index_format};
+ghost use Rattle.rkyv_index.specs.Index.IndexFormat.{index_format};
 ghost use Rattle.rkyv_index.specs.Index.IndexHeader.{IndexResolver};
 
 use crate::map::write::resolve::IndexMapResolver;

@@ -2,8 +2,10 @@ use Rattle.std.proofs.Common.{◌≡◌, ◌+◌, ◌-◌, ◌∙◌, ◌/◌, �
 use Rattle.std.specs.List.{range_with_len}
 use Rattle.std.proofs.lemmas.List.{length-replicate}
 use Rattle.std.proofs.lemmas.List.FromFn.{length-range_with_len}
-use Rattle.rkyv_index.specs.Index.{hash_at, index_bytes, index_len, index_pos}
-use Rattle.rkyv_index.proofs.Checking.{all_left, indices_step, none_left}
+use Rattle.rkyv_keys.specs.Calls.{hash_at}
+use Rattle.rkyv_table.proofs.Lists.{range_cons}
+use Rattle.rkyv_index.specs.Index.{index_bytes, index_len, index_pos}
+use Rattle.rkyv_index.proofs.Checking.{all_left, none_left}
 use Rattle.rkyv_table.specs.Controls.Numbers.{probe_capacity}
 use Rattle.rkyv_inspect.specs.Summaries.{index_key_strides, key_indices, key_type, keyed_map}
 use Rattle.rkyv_inspect.proofs.Histograms.{Partial, partial_all, partial_more, partial_none}
@@ -56,7 +58,7 @@ loop-index-preserved g c =
     let within : read < length counts = omega (arith, long, most) in
     record {
       counted = subst (λ (xs : List ℕ). Partial f items rest xs) (sym c.count_one.ensures)
-          (partial_more f items left rest counts index read (indices_step index n below) c.strides_of.ensures.reads within c.loop-index.invariant.counted);
+          (partial_more f items left rest counts index read (range_cons index n below) c.strides_of.ensures.reads within c.loop-index.invariant.counted);
       long = ap length c.count_one.ensures ∙ length-set counts read _ ∙ long;
     }
 

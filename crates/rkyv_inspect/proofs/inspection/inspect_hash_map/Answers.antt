@@ -1,9 +1,9 @@
 use Rattle.std.proofs.Common.{refl, subst, List, ℕ, length}
 use Rattle.std.specs.Borrow.{Bor}
-use Rattle.rkyv_collections.specs.Map.{hash_at}
+use Rattle.rkyv_base.proofs.AtViews.{forth_at}
+use Rattle.rkyv_keys.specs.Calls.{hash_at}
 use Rattle.rkyv_inspect.specs.Regions.{Covers}
 use Rattle.rkyv_inspect.specs.Summaries.{IsMapSummary, key_type, keyed_map}
-use Rattle.rkyv_inspect.proofs.KeyLookups.{forth_at}
 use Rattle.rkyv_scan.specs.Hash.{fx_hasher, low_halves}
 use Rattle.rkyv_inspect.proofs.inspection.inspect_hash_map.Goals as goal
 
@@ -14,6 +14,6 @@ returns g c =
     record {
       accepted = root.0;
       contents_are = refl;
-      summary_is = forth_at (λ b p. IsMapSummary (keyed_map g.W.Word.word keys g.V.HasSpec.spec b p) c.args.limit c.in_ok-summary.summary) c.in-Ok.root c.args.archive _ root.1 c.in_ok-summary.ensures;
+      summary_is = forth_at c.in-Ok.root c.args.archive _ root.1 (λ b p. IsMapSummary (keyed_map g.W.Word.word keys g.V.HasSpec.spec b p) c.args.limit c.in_ok-summary.summary) c.in_ok-summary.ensures;
       regions_cover = subst (λ (a : Bor (List ℕ)). Covers 0 c.in_ok-regions.regions.items (length a.now)) root.1.0 c.in_ok-regions.ensures;
     }

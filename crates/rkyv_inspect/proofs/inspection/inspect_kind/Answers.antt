@@ -1,4 +1,4 @@
-use Rattle.rkyv_collections.specs.Map.{hash_at}
+use Rattle.rkyv_keys.specs.Calls.{hash_at}
 use Rattle.rkyv_container.specs.declared.contents.Kind.TheVariants.{HashSet, IndexSet}
 use Rattle.rkyv_inspect.specs.Inspections.{target}
 use Rattle.rkyv_inspect.specs.Summaries.{key_type}

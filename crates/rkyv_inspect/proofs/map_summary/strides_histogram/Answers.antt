@@ -2,7 +2,8 @@ use Rattle.std.proofs.Common.{◌≡◌, ◌+◌, ◌∙◌, ◌/◌, ◌<◌, �
 use Rattle.std.proofs.lemmas.List.{length-replicate}
 use Rattle.rkyv_base.specs.Entry.{entry_spec}
 use Rattle.rkyv_base.specs.View.{archive_of, bytes_of, pos_of}
-use Rattle.rkyv_collections.specs.Map.{hash_at}
+use Rattle.rkyv_base.proofs.AtViews.{read_at}
+use Rattle.rkyv_keys.specs.Calls.{hash_at}
 use Rattle.rkyv_table.specs.Controls.Numbers.{probe_capacity}
 use Rattle.rkyv_table.specs.Table.Header.{cap_at}
 use Rattle.rkyv_table.specs.Table.Positions.{item_positions}
@@ -10,7 +11,6 @@ use Rattle.rkyv_table.specs.Table.RawItems.{ItemsLeft}
 use Rattle.rkyv_table.specs.Table.Reading.{table_bytes, table_pos}
 use Rattle.rkyv_inspect.specs.Summaries.{key_positions, key_strides, key_type, keyed_map}
 use Rattle.rkyv_inspect.proofs.Histograms.{Partial, partial_all, partial_more, partial_none}
-use Rattle.rkyv_inspect.proofs.KeyLookups.{read_at}
 use Rattle.rkyv_inspect.proofs.map_summary.strides_histogram.Goals as goal
 
 pub loop-key-init : goal.loop-key-init
@@ -29,7 +29,7 @@ loop-key-init g c =
     let positions : c.into_iter-key-iterator.result.positions ≡ items = ap (λ (left : ItemsLeft). left.positions) same ∙ c.iter-key-items.ensures.positions
     ∙ ap (λ v. item_positions w (entry_spec g.K.HasSpec.spec g.V.HasSpec.spec).size (bytes_of v) (pos_of v)) c.of.ensures.view in
     let cap : c.capacity.result ≡ cap_at w (bytes_of root) (pos_of root) = c.capacity.ensures ∙ ap (λ v. cap_at w (bytes_of v) (pos_of v)) c.of-table.ensures.view
-    ∙ read_at (cap_at w) c.at.result root.archive c.pos.result c.at.ensures ∙ ap (cap_at w root.archive.now) c.pos.ensures in
+    ∙ read_at c.at.result root.archive c.pos.result c.at.ensures (cap_at w) ∙ ap (cap_at w root.archive.now) c.pos.ensures in
     record {
       archive = ap (λ (left : ItemsLeft). left.archive) same ∙ c.iter-key-items.ensures.archive ∙ ap (λ v. archive_of v) c.of.ensures.view;
       counted = subst (λ (left : List ℕ). Partial f items left counts) (sym positions) (subst (λ (xs : List ℕ). Partial f items items xs) (sym zs) (partial_none f items most));
@@ -54,7 +54,7 @@ loop-key-preserved g c =
     let after : ItemsLeft = c.next.new.self in
     let steps = c.in-Some.ensures.steps in
     let moved : (h : List ℕ → ℕ → ℕ) → h (table_bytes t) (table_pos t) ≡ h (bytes_of root) (pos_of root) = λ h.
-    ap (λ v. h (bytes_of v) (pos_of v)) c.of-table.ensures.view ∙ read_at h c.at.result root.archive c.pos.result c.at.ensures ∙ ap (h root.archive.now) c.pos.ensures in
+    ap (λ v. h (bytes_of v) (pos_of v)) c.of-table.ensures.view ∙ read_at c.at.result root.archive c.pos.result c.at.ensures h ∙ ap (h root.archive.now) c.pos.ensures in
     let reads : read ≡ f (pos_of key) = c.strides_of.ensures.reads ∙ moved strides in
     let same : bound (table_bytes t) (table_pos t) ≡ bound (bytes_of root) (pos_of root) = moved bound in
     let most : read ≤ bound (table_bytes t) (table_pos t) = c.strides_of.ensures.most in

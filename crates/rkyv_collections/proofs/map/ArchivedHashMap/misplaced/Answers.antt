@@ -5,11 +5,12 @@ use Rattle.rkyv_base.specs.Entry.{entry_spec}
 use Rattle.rkyv_base.specs.View.{bytes_of}
 use Rattle.rkyv_base.specs.declared.entry.Entry.{Entry}
 use Rattle.rkyv_base.specs.declared.view.View.{View}
+use Rattle.rkyv_keys.specs.Calls.{hash_at}
 use Rattle.rkyv_table.specs.Table.Header.{cap_at, len_at}
 use Rattle.rkyv_table.specs.Table.Misplaced.{misplaced}
 use Rattle.rkyv_table.specs.Table.Positions.{item_at, table_controls}
 use Rattle.rkyv_table.specs.Table.Reading.{IsItem, table_pos}
-use Rattle.rkyv_collections.specs.Map.{hash_at, map_bytes}
+use Rattle.rkyv_collections.specs.Map.{map_bytes}
 use Rattle.rkyv_collections.proofs.map.ArchivedHashMap.misplaced.Goals as goal
 
 pub returns : goal.returns

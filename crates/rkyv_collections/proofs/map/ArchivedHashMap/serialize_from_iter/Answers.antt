@@ -1,10 +1,11 @@
 use Rattle.std.proofs.Common.{MatchResult, subst}
 use Rattle.std.specs.Iterator.{Drains}
 use Rattle.rkyv_base.specs.Pairs.{written_as}
+use Rattle.rkyv_keys.specs.Calls.{hash_of}
 use Rattle.rkyv_table.specs.Table.Counting.{YieldsOtherCount}
 use Rattle.rkyv_table.specs.Table.Serializing.{WriteItemsFails, WroteItems}
 use Rattle.rkyv_table.specs.Table.ItemValues.{pair_values}
-use Rattle.rkyv_collections.specs.Map.MapFormat.{hash_of, map_format}
+use Rattle.rkyv_collections.specs.Map.MapFormat.{map_format}
 use Rattle.rkyv_collections.proofs.HashedPairs.{writes_as_map}
 use Rattle.rkyv_collections.proofs.map.ArchivedHashMap.serialize_from_iter.Goals as goal
 

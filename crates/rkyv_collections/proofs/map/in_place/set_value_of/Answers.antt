@@ -1,9 +1,9 @@
-use Rattle.std.proofs.Common.{ap, false, refl, subst, true}
-use Rattle.rkyv_scan.specs.Hash.{hash_of_calls}
+use Rattle.std.proofs.Common.{false, refl, subst, true}
 use Rattle.rkyv_base.specs.Scalar.{ScalarRepresents}
 use Rattle.rkyv_base.specs.Lemmas.Scalar.{scalar_local}
+use Rattle.rkyv_keys.specs.Lemmas.QueryLaws.{hash_local}
+use Rattle.rkyv_keys.specs.Calls.{hash_at}
 use Rattle.rkyv_collections.specs.Map.InPlace.{SetsFound}
-use Rattle.rkyv_collections.specs.Map.{hash_at}
 use Rattle.rkyv_collections.specs.Map.MapSpec.{map_spec}
 use Rattle.rkyv_collections.proofs.FirstWrites.{first_behind, none_behind}
 use Rattle.rkyv_collections.proofs.NestedWrites.{unwritten, value_nested_at}
@@ -20,7 +20,7 @@ returns-in-Some-clause-sets g c =
     let key_hash = hash_at g.H.KeyHasher.hasher g.K.KeyElement.key_calls in
     let t = c.in-Some.ensures.walked in
     let kept = map_kept_at g.K.HasSpec.spec g.N.HasSpec.spec g.K.HasSpec.laws g.N.HasSpec.laws g.W.Word.word key_hash
-    (λ x y q lo hi l o is_valid fixed part. ap (hash_of_calls g.H.KeyHasher.hasher) (g.met.K.KeyElement.key.local x y q lo hi l o is_valid fixed part))
+    (hash_local g.H.KeyHasher.hasher g.met.K.KeyElement.key)
     c.args.archive.now c.set_at.new.bytes c.args.root t.0 c.in-Some.pos c.requires.map t.1 t.2 c.set_at.ensures.sealed c.set_at.ensures.is_valid in
     satisfies_implied _ _ _ _ (λ key_pos at. subst (SetsFound g.W.Word.word g.K.HasSpec.spec g.N.HasSpec.spec e key_hash c.args.archive.now c.args.root c.args.value true c.set_at.new.bytes) at (refl, c.set_at.ensures.written, (t.1.0, kept))) c.in-Some.ensures.finds
 
@@ -35,7 +35,7 @@ returns-in-Some-clause-listed g c = λ factor pairs st.
     first_behind g.W.Word.word k g.N.HasSpec.spec g.K.HasSpec.laws g.N.HasSpec.laws g.K.Represents.represents (ScalarRepresents e)
     (hash_at h.hasher g.K.KeyElement.key_calls) factor b c.args.root pairs c.args.value fits (g.A.PartialEq.eq c.args.key.now) c.requires.map
     (λ a q s there. g.met.A.NativeKey.native c.args.key.now a b q s there) st g.met.K.Represents.local (scalar_local g.N.HasSpec.spec e g.met.N.Scalar.laws)
-    (λ x y q lo hi l o is_valid fixed part. ap (hash_of_calls h.hasher) (g.met.K.KeyElement.key.local x y q lo hi l o is_valid fixed part))
+    (hash_local h.hasher g.met.K.KeyElement.key)
     c.set_at.new.bytes c.in-Some.pos (c.in-Some.ensures.finds.first st.homes st.written) set.sealed set.is_valid set.reads
 
 pub returns-in-None-clause-sets : goal.returns-in-None-clause-sets

@@ -1,5 +1,5 @@
 use Rattle.rkyv_base.specs.Empty.{unit_represents, unit_spec}
-use Rattle.rkyv_collections.specs.Map.MapFormat.{hash_of}
+use Rattle.rkyv_keys.specs.Calls.{hash_of}
 use Rattle.rkyv_collections.specs.Set.{set_bytes, set_pos}
 use Rattle.rkyv_collections.specs.StdMaps.StdEquality.{FindsPair}
 use Rattle.rkyv_collections.proofs.StdComparing.{Decides}

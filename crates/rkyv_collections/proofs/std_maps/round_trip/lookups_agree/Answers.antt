@@ -3,9 +3,9 @@ use Rattle.std.specs.Borrow.{Bor}
 use Rattle.rkyv_base.specs.Access.{IsValidArchive}
 use Rattle.rkyv_base.specs.Lemmas.Entry.{entry_element}
 use Rattle.rkyv_base.specs.View.{bytes_of, pos_of}
+use Rattle.rkyv_keys.specs.Calls.{hash_of}
 use Rattle.rkyv_table.specs.Lemmas.TableLaws.{table_element}
 use Rattle.rkyv_collections.specs.Map.MapSpec.{map_spec}
-use Rattle.rkyv_collections.specs.Map.MapFormat.{hash_of}
 use Rattle.rkyv_collections.specs.StdMaps.StdLookups.{FindsFirstAccepted}
 use Rattle.rkyv_collections.proofs.WrittenRoots.{root_keeps}
 use Rattle.rkyv_collections.proofs.StdFinding.{entries_looked_up}

@@ -2,9 +2,9 @@ use Rattle.std.proofs.Common.{◌≡◌, List, ap, length, rules, sym, ◌∙◌
 use Rattle.std.specs.Borrow.{Bor}
 use Rattle.std.specs.Iterator.{Drains, YieldsFirstBy}
 use Rattle.std.specs.Slice.Iter.{iter_rest}
+use Rattle.rkyv_keys.specs.Calls.{hash_of}
 use Rattle.rkyv_table.specs.Table.Counting.{YieldsOtherCount}
 use Rattle.rkyv_scan.specs.Hash.{fx_hasher, low_halves}
-use Rattle.rkyv_index.specs.Index.IndexFormat.{hash_of}
 use Rattle.rkyv_index.specs.Set.SetFormat.{index_set_format}
 use Rattle.rkyv_table.specs.Table.ItemValues.{key_values}
 use Rattle.rkyv_table.specs.declared.table.list_inputs.Refs.{Refs}

@@ -1,8 +1,9 @@
 use Rattle.std.proofs.Common.{◌∙◌, ◌+◌, ap, inl, inr, subst, sym, List, ℕ}
 use Rattle.std.proofs.lemmas.Result.{err_from_is_err_and}
 use Rattle.rkyv_table.specs.Table.ValidItems.{AreValidAt, FirstFails}
+use Rattle.rkyv_table.proofs.Lists.{range_cons}
 use Rattle.rkyv_index.specs.Index.IndexLayout.{entry_at}
-use Rattle.rkyv_index.proofs.Checking.{entry_aligned, entry_next, indices_step}
+use Rattle.rkyv_index.proofs.Checking.{entry_aligned, entry_next}
 use Rattle.rkyv_index.proofs.map.check.check_entries.Goals as goal
 
 pub check-requires-clause-aligned : goal.check-requires-clause-aligned
@@ -18,14 +19,14 @@ returns-in_err-rest-clause-fails g c =
     let here = subst (λ q. s.fails b q c.loop-i.low c.args.begin c.in_err-rest.field-0.0) inv.at c.in_err-rest.ensures in
     let p = err_from_is_err_and c.from_residual.result c.from_residual.ensures.1 in
     rw (p.1, p.2) (inv.failed c.in_err-rest.field-0.0
-    (subst (λ (is : List ℕ). FirstFails s (entry_at s.size c.args.begin) b c.args.begin is c.loop-i.low c.in_err-rest.field-0.0) (sym (indices_step c.loop-i.i c.args.len c.loop-i-test.true)) (inl here)))
+    (subst (λ (is : List ℕ). FirstFails s (entry_at s.size c.args.begin) b c.args.begin is c.loop-i.low c.in_err-rest.field-0.0) (sym (range_cons c.loop-i.i c.args.len c.loop-i-test.true)) (inl here)))
 
 pub loop-i-preserved : goal.loop-i-preserved
 loop-i-preserved g c =
     let s = g.T.HasSpec.spec in
     let b : List ℕ = c.args.bytes.now in
     let inv = c.loop-i.invariant in
-    let step = sym (indices_step c.loop-i.i c.args.len c.loop-i-test.true) in
+    let step = sym (range_cons c.loop-i.i c.args.len c.loop-i-test.true) in
     let at = entry_at s.size c.args.begin in
     let here = subst (λ q. s.is_valid b q c.loop-i.low c.args.begin c.in_ok-rest.rest.lo) inv.at c.in_ok-rest.ensures.1 in
     let k = g.T.HasSpec.laws.rest_in_range b (at c.loop-i.i) c.loop-i.low c.args.begin c.in_ok-rest.rest.lo inv.ordered here in

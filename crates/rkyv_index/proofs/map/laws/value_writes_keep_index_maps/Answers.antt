@@ -1,5 +1,6 @@
-use Rattle.rkyv_index.specs.Index.{hash_at}
-use Rattle.rkyv_index.proofs.ValueWrites.{hash_local, index_kept}
+use Rattle.rkyv_keys.specs.Calls.{hash_at}
+use Rattle.rkyv_keys.specs.Lemmas.QueryLaws.{hash_local}
+use Rattle.rkyv_index.proofs.ValueWrites.{index_kept}
 use Rattle.rkyv_index.proofs.map.laws.value_writes_keep_index_maps.Goals as goal
 
 pub returns : goal.returns

@@ -1,7 +1,6 @@
-use Rattle.rkyv_keys.specs.Lemmas.QueryLaws.{rests_on_keys}
-use Rattle.rkyv_index.specs.Index.{hash_at}
-use Rattle.rkyv_index.specs.Index.IndexFormat.{hash_of}
-use Rattle.rkyv_index.proofs.ValueWrites.{hash_local, index_kept, rests_on_each}
+use Rattle.rkyv_keys.specs.Lemmas.QueryLaws.{hash_local, rests_on_keys}
+use Rattle.rkyv_keys.specs.Calls.{hash_at, hash_of}
+use Rattle.rkyv_index.proofs.ValueWrites.{index_kept, rests_on_each}
 use Rattle.rkyv_index.proofs.map.laws.value_writes_keep_lookups.Goals as goal
 
 pub returns : goal.returns

@@ -1,17 +1,15 @@
-use Rattle.std.proofs.Common.{◌≡◌, ◌∙◌, ◌∷◌, arith, sym, ap, subst, zero-add, length, filter}
+use Rattle.std.proofs.Common.{◌≡◌, ◌∙◌, arith, sym, ap, subst, zero-add, length, filter}
 use Rattle.std.specs.List.{All}
-use Rattle.std.proofs.lemmas.List.Elements.{All-head, All-rest}
 use Rattle.rkyv_scan.specs.Groups.{generic_kind}
 use Rattle.rkyv_table.specs.Table.Header.{cap_at}
 use Rattle.rkyv_table.specs.Table.MisplacedIn.{bucket_misplaced}
 use Rattle.rkyv_table.specs.Controls.Placing.{walk}
 use Rattle.rkyv_table.specs.Table.Positions.{IsWalked, table_controls}
 use Rattle.rkyv_table.specs.Table.Reading.{table_bytes, table_pos}
-use Rattle.rkyv_table.proofs.MisplacedIn.{counted_none, counted_one}
+use Rattle.rkyv_table.proofs.MisplacedIn.{counted_none, counted_one, left_walked, next_walked}
 use Rattle.rkyv_table.proofs.RawWalks.{walk_count, walked_all}
 use Rattle.rkyv_table.proofs.Walks.{walk_small}
 use Rattle.rkyv_table.proofs.table.ArchivedHashTable.misplaced_by.Goals as goal
-use Rattle.rkyv_table.proofs.table.ArchivedHashTable.misplaced_by.Goals.{In-Some}
 
 pub loop-bucket-init : goal.loop-bucket-init
 loop-bucket-init g c =
@@ -32,27 +30,15 @@ loop-bucket-init g c =
           zero-add _ ∙ ap (λ xs. length (filter (bucket_misplaced generic_kind c.args.self hash_of same) xs)) e;
     }
 
--- the current bucket and the remaining ones are full
-module _ (g : _) (c : In-Some g) where
-  walked : All (IsWalked g.W.Word.word (table_bytes c.args.self) (table_pos c.args.self)) (c.in-Some.bucket ∷ c.next.new.self)
-  walked = subst (All (IsWalked g.W.Word.word (table_bytes c.args.self) (table_pos c.args.self))) c.in-Some.ensures.steps c.loop-bucket.invariant.walked
-
-  here : IsWalked g.W.Word.word (table_bytes c.args.self) (table_pos c.args.self) c.in-Some.bucket
-  here = All-head (IsWalked g.W.Word.word (table_bytes c.args.self) (table_pos c.args.self)) c.in-Some.bucket c.next.new.self walked
-
-  rest : All (IsWalked g.W.Word.word (table_bytes c.args.self) (table_pos c.args.self)) c.next.new.self
-  rest = All-rest (IsWalked g.W.Word.word (table_bytes c.args.self) (table_pos c.args.self)) c.in-Some.bucket c.next.new.self c.loop-bucket.bucket-iterator c.in-Some.ensures.steps c.loop-bucket.invariant.walked
-
 pub item-item-requires : goal.item-item-requires
-item-item-requires g c = here g (goal.at.item-item-requires g c).In-Some
+item-item-requires g c = next_walked c.args.self c.in-Some.bucket c.loop-bucket.bucket-iterator c.next.new.self c.in-Some.ensures.steps c.loop-bucket.invariant.walked
 
 pub loop-bucket-preserved-then-is_misplaced : goal.loop-bucket-preserved-then-is_misplaced
 loop-bucket-preserved-then-is_misplaced g c =
     let l = ap length c.in-Some.ensures.steps in
     let counted = c.loop-bucket.invariant.counted in
-    let at = goal.at.loop-bucket-preserved-then-is_misplaced g c in
     record {
-      walked = rest g at.In-Some;
+      walked = left_walked c.args.self c.in-Some.bucket c.loop-bucket.bucket-iterator c.next.new.self c.in-Some.ensures.steps c.loop-bucket.invariant.walked;
       counted = omega arith;
       few = omega (arith, l, c.loop-bucket.invariant.few);
       counting = counted_one c.args.self _ _ c.loop-bucket.count c.in-Some.bucket c.loop-bucket.bucket-iterator c.next.new.self c.in-Some.ensures.steps c.is_misplaced.result
@@ -63,9 +49,8 @@ pub loop-bucket-preserved : goal.loop-bucket-preserved
 loop-bucket-preserved g c =
     let l = ap length c.in-Some.ensures.steps in
     let counted = c.loop-bucket.invariant.counted in
-    let at = goal.at.loop-bucket-preserved g c in
     record {
-      walked = rest g at.In-Some;
+      walked = left_walked c.args.self c.in-Some.bucket c.loop-bucket.bucket-iterator c.next.new.self c.in-Some.ensures.steps c.loop-bucket.invariant.walked;
       counted = omega arith;
       few = omega (arith, l, c.loop-bucket.invariant.few);
       counting = counted_none c.args.self _ _ c.loop-bucket.count c.in-Some.bucket c.loop-bucket.bucket-iterator c.next.new.self c.in-Some.ensures.steps c.is_misplaced.result

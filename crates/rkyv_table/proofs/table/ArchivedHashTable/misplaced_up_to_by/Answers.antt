@@ -1,17 +1,16 @@
-use Rattle.std.proofs.Common.{◌≡◌, ◌∙◌, ◌∷◌, ◌+◌, ◌<◌, ◌^◌, ◌⊎◌, arith, sym, ap, subst, zero-add, length, filter}
+use Rattle.std.proofs.Common.{◌≡◌, ◌∙◌, ◌+◌, ◌<◌, ◌^◌, ◌⊎◌, arith, sym, ap, subst, zero-add, length, filter}
 use Rattle.std.specs.List.{All, sum_by}
-use Rattle.std.proofs.lemmas.List.Elements.{All-head, All-rest}
 use Rattle.rkyv_scan.specs.Groups.{generic_kind}
 use Rattle.rkyv_table.specs.Controls.Placing.{walk}
 use Rattle.rkyv_table.specs.Table.Header.{cap_at}
 use Rattle.rkyv_table.specs.Table.MisplacedIn.{bucket_misplaced, bucket_strides, table_strides}
 use Rattle.rkyv_table.specs.Table.Positions.{IsWalked, table_controls}
 use Rattle.rkyv_table.specs.Table.Reading.{table_bytes, table_pos}
-use Rattle.rkyv_table.proofs.MisplacedIn.{Spending, counted_none, counted_one, past_all, reads_on, spent_one}
+use Rattle.rkyv_table.proofs.MisplacedIn.{Spending, counted_none, counted_one, left_walked, next_walked, past_all, reads_on, spent_one}
 use Rattle.rkyv_table.proofs.RawWalks.{walk_count, walked_all}
 use Rattle.rkyv_table.proofs.Walks.{walk_small}
 use Rattle.rkyv_table.proofs.table.ArchivedHashTable.misplaced_up_to_by.Goals as goal
-use Rattle.rkyv_table.proofs.table.ArchivedHashTable.misplaced_up_to_by.Goals.{After-is_misplaced-is_misplaced, In-Some}
+use Rattle.rkyv_table.proofs.table.ArchivedHashTable.misplaced_up_to_by.Goals.{After-is_misplaced-is_misplaced}
 
 pub loop-bucket-init : goal.loop-bucket-init
 loop-bucket-init g c =
@@ -36,17 +35,6 @@ loop-bucket-init g c =
       within = omega (arith, c.count-before.ensures, c.requires.room);
     }
 
--- the current bucket and the remaining ones are full
-module _ (g : _) (c : In-Some g) where
-  walked : All (IsWalked g.W.Word.word (table_bytes c.args.self) (table_pos c.args.self)) (c.in-Some.bucket ∷ c.next.new.self)
-  walked = subst (All (IsWalked g.W.Word.word (table_bytes c.args.self) (table_pos c.args.self))) c.in-Some.ensures.steps c.loop-bucket.invariant.walked
-
-  here : IsWalked g.W.Word.word (table_bytes c.args.self) (table_pos c.args.self) c.in-Some.bucket
-  here = All-head (IsWalked g.W.Word.word (table_bytes c.args.self) (table_pos c.args.self)) c.in-Some.bucket c.next.new.self walked
-
-  rest : All (IsWalked g.W.Word.word (table_bytes c.args.self) (table_pos c.args.self)) c.next.new.self
-  rest = All-rest (IsWalked g.W.Word.word (table_bytes c.args.self) (table_pos c.args.self)) c.in-Some.bucket c.next.new.self c.loop-bucket.bucket-iterator c.in-Some.ensures.steps c.loop-bucket.invariant.walked
-
 -- the strides of the lookup are counted
 module _ (g : _) (c : After-is_misplaced-is_misplaced g) where
   spent : Spending c.args.self (goal.H-post g c.args.hash_of) (goal.S-post g c.args.same) c.count-before.result c.is_misplaced-is_misplaced.new.strides c.next.new.self
@@ -54,7 +42,7 @@ module _ (g : _) (c : After-is_misplaced-is_misplaced g) where
       c.is_misplaced-is_misplaced.ensures.counts c.loop-bucket.invariant.spent
 
 pub item-item-requires : goal.item-item-requires
-item-item-requires g c = here g (goal.at.item-item-requires g c).In-Some
+item-item-requires g c = next_walked c.args.self c.in-Some.bucket c.loop-bucket.bucket-iterator c.next.new.self c.in-Some.ensures.steps c.loop-bucket.invariant.walked
 
 pub is_past-requires : goal.is_past-requires
 is_past-requires g c = omega (arith, reads_on _ _ _ _ c.is_misplaced-is_misplaced.ensures.counts.bounded, c.loop-bucket.invariant.within.0, c.count.ensures)
@@ -91,7 +79,7 @@ loop-bucket-preserved-then-is_misplaced g c =
     let counted = c.loop-bucket.invariant.counted in
     let at = goal.at.loop-bucket-preserved-then-is_misplaced g c in
     record {
-      walked = rest g at.In-Some;
+      walked = left_walked c.args.self c.in-Some.bucket c.loop-bucket.bucket-iterator c.next.new.self c.in-Some.ensures.steps c.loop-bucket.invariant.walked;
       counted = omega arith;
       few = omega (arith, l, c.loop-bucket.invariant.few);
       counting = counted_one c.args.self _ _ c.loop-bucket.misplaced c.in-Some.bucket c.loop-bucket.bucket-iterator c.next.new.self c.in-Some.ensures.steps c.is_misplaced-is_misplaced.result
@@ -106,7 +94,7 @@ loop-bucket-preserved g c =
     let counted = c.loop-bucket.invariant.counted in
     let at = goal.at.loop-bucket-preserved g c in
     record {
-      walked = rest g at.In-Some;
+      walked = left_walked c.args.self c.in-Some.bucket c.loop-bucket.bucket-iterator c.next.new.self c.in-Some.ensures.steps c.loop-bucket.invariant.walked;
       counted = omega arith;
       few = omega (arith, l, c.loop-bucket.invariant.few);
       counting = counted_none c.args.self _ _ c.loop-bucket.misplaced c.in-Some.bucket c.loop-bucket.bucket-iterator c.next.new.self c.in-Some.ensures.steps c.is_misplaced-is_misplaced.result

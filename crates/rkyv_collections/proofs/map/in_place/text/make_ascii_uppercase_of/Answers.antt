@@ -1,10 +1,10 @@
-use Rattle.std.proofs.Common.{None, Some, ap, refl, subst}
-use Rattle.rkyv_scan.specs.Hash.{hash_of_calls}
+use Rattle.std.proofs.Common.{None, Some, refl, subst}
 use Rattle.rkyv_base.specs.Text.{text_spec}
 use Rattle.rkyv_base.specs.Lemmas.Text.{text_element}
 use Rattle.rkyv_base.proofs.SealedText.{uppercased_sealed, uppercased_valid}
+use Rattle.rkyv_keys.specs.Lemmas.QueryLaws.{hash_local}
+use Rattle.rkyv_keys.specs.Calls.{hash_at}
 use Rattle.rkyv_collections.specs.Map.InPlaceText.{UppercasesFound}
-use Rattle.rkyv_collections.specs.Map.{hash_at}
 use Rattle.rkyv_collections.proofs.NestedWrites.{value_nested_at}
 use Rattle.rkyv_collections.proofs.UppercaseTexts.{first_uppercased, none_uppercased}
 use Rattle.rkyv_collections.proofs.SealedMap.{satisfies_implied}
@@ -20,7 +20,7 @@ returns-in-Some-clause-uppercases g c =
     let sealed = uppercased_sealed w c.args.archive.now c.in-Some.pos c.in-Some.ensures.inside _ _ raised in
     let is_valid = uppercased_valid w c.args.archive.now c.in-Some.pos c.in-Some.ensures.inside _ _ raised in
     let kept = map_kept_at g.K.HasSpec.spec (text_spec w) g.K.HasSpec.laws (text_element w g.met.W.Width.layout.kind) w key_hash
-    (λ x y q lo hi l o is_valid fixed part. ap (hash_of_calls g.H.KeyHasher.hasher) (g.met.K.KeyElement.key.local x y q lo hi l o is_valid fixed part))
+    (hash_local g.H.KeyHasher.hasher g.met.K.KeyElement.key)
     c.args.archive.now c.uppercase_at.new.bytes c.args.root t.0 c.in-Some.pos c.requires.map t.1 t.2 sealed is_valid in
     satisfies_implied _ _ _ _ (λ key_pos at. subst (UppercasesFound w g.K.HasSpec.spec key_hash c.args.archive.now c.args.root (Some c.uppercase_at.result) c.uppercase_at.new.bytes) at (c.uppercase_at.result, refl, raised, (t.1.0, kept))) c.in-Some.ensures.finds
 
@@ -29,7 +29,7 @@ returns-in-Some-clause-listed g c = λ factor pairs st.
     let b = c.args.archive.now in
     first_uppercased g.W.Word.word g.K.HasSpec.spec g.K.HasSpec.laws (text_element g.W.Word.word g.met.W.Width.layout.kind) g.K.Represents.represents (hash_at g.H.KeyHasher.hasher g.K.KeyElement.key_calls) factor b c.args.root pairs
     (g.A.Query.fits c.args.key.now b) (g.A.PartialEq.eq c.args.key.now) c.requires.map (λ a q s there. g.met.A.NativeKey.native c.args.key.now a b q s there) st g.met.K.Represents.local
-    (λ x y q lo hi l o is_valid fixed part. ap (hash_of_calls g.H.KeyHasher.hasher) (g.met.K.KeyElement.key.local x y q lo hi l o is_valid fixed part))
+    (hash_local g.H.KeyHasher.hasher g.met.K.KeyElement.key)
     c.uppercase_at.new.bytes c.in-Some.pos c.uppercase_at.result c.in-Some.ensures.inside (c.in-Some.ensures.finds.first st.homes st.written) c.uppercase_at.ensures
 
 pub returns-in-Some-clause-parts : goal.returns-in-Some-clause-parts

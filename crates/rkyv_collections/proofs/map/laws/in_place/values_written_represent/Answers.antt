@@ -1,6 +1,5 @@
-use Rattle.std.proofs.Common.{ap}
-use Rattle.rkyv_scan.specs.Hash.{hash_of_calls}
-use Rattle.rkyv_collections.specs.Map.{hash_at}
+use Rattle.rkyv_keys.specs.Calls.{hash_at}
+use Rattle.rkyv_keys.specs.Lemmas.QueryLaws.{hash_local}
 use Rattle.rkyv_collections.proofs.ValueWrites.{written_value_represents}
 use Rattle.rkyv_collections.proofs.map.laws.in_place.values_written_represent.Goals as goal
 
@@ -8,5 +7,5 @@ pub returns : goal.returns
 returns g c = λ b d p n factor pairs pair new view st there writes represents.
     let h = g.H.KeyHasher in
     written_value_represents g.K.HasSpec.spec g.V.HasSpec.spec g.K.HasSpec.laws g.V.HasSpec.laws g.W.Word.word (hash_at h.hasher g.K.KeyElement.key_calls)
-    (λ x y q lo hi l o is_valid fixed part. ap (hash_of_calls h.hasher) (g.met.K.KeyElement.key.local x y q lo hi l o is_valid fixed part))
+    (hash_local h.hasher g.met.K.KeyElement.key)
     g.K.Represents.represents g.V.Represents.represents g.met.K.Represents.local g.met.V.Represents.local b d p n factor pairs pair new view st there writes represents

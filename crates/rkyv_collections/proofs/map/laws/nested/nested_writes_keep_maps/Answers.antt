@@ -1,7 +1,7 @@
-use Rattle.std.proofs.Common.{ap, subst}
+use Rattle.std.proofs.Common.{subst}
 use Rattle.rkyv_base.specs.Sealing.{value_pos}
-use Rattle.rkyv_scan.specs.Hash.{hash_of_calls}
-use Rattle.rkyv_collections.specs.Map.{hash_at}
+use Rattle.rkyv_keys.specs.Calls.{hash_at}
+use Rattle.rkyv_keys.specs.Lemmas.QueryLaws.{hash_local}
 use Rattle.rkyv_collections.specs.Map.NestedWrites.{WritesParts}
 use Rattle.rkyv_collections.proofs.NestedWrites.{nested_kept}
 use Rattle.rkyv_collections.proofs.map.laws.nested.nested_writes_keep_maps.Goals as goal
@@ -12,5 +12,5 @@ returns g c = λ b d p q view at writes.
     let k = g.K.HasSpec.spec in
     let v = g.V.HasSpec.spec in
     nested_kept g.W.Word.word k v g.K.HasSpec.laws g.V.HasSpec.laws (hash_at h.hasher g.K.KeyElement.key_calls)
-    (λ x y r lo hi l o is_valid fixed part. ap (hash_of_calls h.hasher) (g.met.K.KeyElement.key.local x y r lo hi l o is_valid fixed part))
+    (hash_local h.hasher g.met.K.KeyElement.key)
     b d p at.0 view at.1 (subst (λ z. WritesParts v b d (value_pos k v z)) at.2 writes)

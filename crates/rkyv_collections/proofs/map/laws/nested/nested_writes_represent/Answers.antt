@@ -1,6 +1,5 @@
-use Rattle.std.proofs.Common.{ap}
-use Rattle.rkyv_scan.specs.Hash.{hash_of_calls}
-use Rattle.rkyv_collections.specs.Map.{hash_at}
+use Rattle.rkyv_keys.specs.Calls.{hash_at}
+use Rattle.rkyv_keys.specs.Lemmas.QueryLaws.{hash_local}
 use Rattle.rkyv_collections.proofs.NestedWrites.{nested_first}
 use Rattle.rkyv_collections.proofs.map.laws.nested.nested_writes_represent.Goals as goal
 
@@ -10,5 +9,5 @@ returns g c = λ b d p pos factor pairs query new view st first writes represent
     nested_first g.W.Word.word g.K.HasSpec.spec g.V.HasSpec.spec g.K.HasSpec.laws g.V.HasSpec.laws g.K.Represents.represents g.V.Represents.represents
     (hash_at h.hasher g.K.KeyElement.key_calls) factor b p pairs new (g.Q.Query.fits query b) (g.Q.NativeQuery.equals query) view
     (λ a q s there. g.met.Q.NativeQuery.finds query a b q s there) st g.met.K.Represents.local g.met.V.Represents.local
-    (λ x y r lo hi l o is_valid fixed part. ap (hash_of_calls h.hasher) (g.met.K.KeyElement.key.local x y r lo hi l o is_valid fixed part))
+    (hash_local h.hasher g.met.K.KeyElement.key)
     d pos (first st.homes st.written) writes represents

@@ -1,7 +1,7 @@
 use Rattle.std.proofs.Common.{subst, ◌↔◌}
 use Rattle.std.specs.Prelude.{IsTrue}
 use Rattle.rkyv_base.specs.View.{AtView}
-use Rattle.rkyv_collections.specs.Map.MapFormat.{hash_of}
+use Rattle.rkyv_keys.specs.Calls.{hash_of}
 use Rattle.rkyv_collections.specs.StdMaps.StdEquality.{StdMapEquals}
 use Rattle.rkyv_collections.proofs.std_maps.equality.HashMapOfMatchesNativeHashMap.eq_native.Goals as goal
 

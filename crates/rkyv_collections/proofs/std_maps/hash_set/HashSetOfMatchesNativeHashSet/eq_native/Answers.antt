@@ -1,7 +1,7 @@
 use Rattle.std.proofs.Common.{ℕ, subst, ◌↔◌, List}
 use Rattle.std.specs.Borrow.{Bor}
 use Rattle.std.specs.Prelude.{IsTrue}
-use Rattle.rkyv_collections.specs.Map.MapFormat.{hash_of}
+use Rattle.rkyv_keys.specs.Calls.{hash_of}
 use Rattle.rkyv_collections.specs.Set.{set_pos}
 use Rattle.rkyv_collections.specs.StdMaps.StdSet.{StdSetEquals}
 use Rattle.rkyv_collections.proofs.std_maps.hash_set.HashSetOfMatchesNativeHashSet.eq_native.Goals as goal
