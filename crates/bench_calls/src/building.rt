@@ -85,13 +85,9 @@ impl<'a, A: Copy, B: Copy> Iterator for Both<'a, A, B> {
 
     #[inline]
     fn next(&mut self) -> Option<(A, B)> {
-        match self.keys.next() {
-            Some(key) => match self.values.next() {
-                Some(value) => Some((*key, *value)),
-                None => None,
-            },
-            None => None,
-        }
+        let key = self.keys.next()?;
+        let value = self.values.next()?;
+        Some((*key, *value))
     }
 }
 

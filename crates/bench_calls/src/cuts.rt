@@ -36,14 +36,10 @@ impl<'a> Iterator for Cuts<'a> {
 
     #[inline]
     fn next(&mut self) -> Option<&'a str> {
-        match self.ends.next() {
-            Some(end) => {
-                let from = self.from;
-                self.from = *end as usize;
-                Some(text_between(self.bytes, from, self.from))
-            }
-            None => None,
-        }
+        let end = self.ends.next()?;
+        let from = self.from;
+        self.from = *end as usize;
+        Some(text_between(self.bytes, from, self.from))
     }
 }
 

@@ -70,10 +70,7 @@ fn field_number(fields: ArchivedHashMap<'_, Text, u32>, field: &str) -> Option<u
         → result ≡ number_in field.now list }
 {
     lookups_find_listed::<&str, u32, Text, u32, FxHasher64, Narrow>();
-    match fields.get(&field) {
-        Some(number) => Some(number.to_native()),
-        None => None,
-    }
+    Some(fields.get(&field)?.to_native())
 }
 
 /// Validates a message, and returns the position of the fields that a lookup of the part finds.

@@ -72,10 +72,7 @@ pub fn address_in(table: &[u8], name: &str) -> Option<u64>
 {
     scalars_found_are_listed::<&str, &str, u64, Text, FxHasher64, Narrow>();
     let map = ArchivedHashMap::of(access_unchecked::<HashMapOf<Text, u64>>(table));
-    match map.get(&name) {
-        Some(address) => Some(address.to_native()),
-        None => None,
-    }
+    Some(map.get(&name)?.to_native())
 }
 
 /// Validates a table, and returns the address that `address_in` returns.

@@ -52,10 +52,7 @@ fn ascending<'a>(
 pub fn archive(alloc: Global, symbols: &[(&str, u64)]) -> Result<Vec<u8>, WriteError<NoMemory>>
     ensures { IndexResult symbols.now result }
 {
-    let row = match ascending(alloc, symbols) {
-        Ok(row) => row,
-        Err(_) => return Err(WriteError::Memory),
-    };
+    let row = ascending(alloc, symbols)?;
     to_bytes(alloc, &OrderedPairs(row))
 }
 
@@ -75,8 +72,6 @@ pub fn open(index: &[u8]) -> Result<ArchivedIndexMap<'_, u64, Text>, VerifyError
 pub fn entry<'a>(map: ArchivedIndexMap<'a, u64, Text>, index: usize) -> Option<(u64, &'a str)>
     ensures { MatchOption result (index_len map.entry ≤ index) (IsEntryOf map.entry index) }
 {
-    match map.get_index(index) {
-        Some((address, name)) => Some((address.to_native(), name.as_str())),
-        None => None,
-    }
+    let (address, name) = map.get_index(index)?;
+    Some((address.to_native(), name.as_str()))
 }

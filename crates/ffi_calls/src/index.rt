@@ -133,13 +133,11 @@ fn pair_of<'a, X, Y, K: ReadAs<'a, X>, V: ReadAs<'a, Y>, W: Width>(
     ensures { let m = index_at map.entry in
         IsPairAtIndex m (IsIndexPair m K.reads V.reads) index result }
 {
-    match map.get_index(index) {
-        Some((key, value)) => Some(Pair {
-            value: V::read_as(value),
-            key: K::read_as(key),
-        }),
-        None => None,
-    }
+    let (key, value) = map.get_index(index)?;
+    Some(Pair {
+        value: V::read_as(value),
+        key: K::read_as(key),
+    })
 }
 
 /// Stores the pairs from an index on of the map in a valid archive, and returns their number.

@@ -49,10 +49,8 @@ fn index_found_in<A: NativeKey<K>, B, K: KeyElement + Represents<A>, V: Represen
     let map: ArchivedIndexMap<'_, K, V, FxHasher64, W> = ArchivedIndexMap::of(View::new(
         archive, root,
     ));
-    match map.get_full(key) {
-        Some((index, _, _)) => Some(index),
-        None => None,
-    }
+    let (index, _, _) = map.get_full(key)?;
+    Some(index)
 }
 
 /// Looks up a key in a valid archive, and overwrites its value in place.

@@ -27,10 +27,7 @@ fn numbers_in<K: NumberKey, V: Value, W: IndexMapWidth, P: PairOf<K, u64>>(
     ensures { let w = index_width W.Width W.Place.spec W.Place.encoding in
         WritesNumberIndex K.NumberKey w V.spec V.encoding (map P.pair_of items.now) result }
 {
-    let pairs = match number_items::pairs_of::<K, V, P>(alloc, items) {
-        Ok(pairs) => pairs,
-        Err(status) => return Err(status),
-    };
+    let pairs = number_items::pairs_of::<K, V, P>(alloc, items)?;
     match to_bytes_in::<W, OrderedPairs<K, V>>(alloc, &OrderedPairs(pairs)) {
         Ok(archive) => Ok(archive),
         Err(error) => Err(write_status(&error)),
@@ -86,10 +83,7 @@ fn texts_in<'a, V: Value, W: IndexMapWidth, P: PairOf<&'a [u8], u64>>(
     ensures { let w = index_width W.Width W.Place.spec W.Place.encoding in
         WritesTextIndex w V.spec V.encoding (map P.pair_of items.now) result }
 {
-    let pairs = match text_items::pairs_of::<V, P>(alloc, items) {
-        Ok(pairs) => pairs,
-        Err(status) => return Err(status),
-    };
+    let pairs = text_items::pairs_of::<V, P>(alloc, items)?;
     match to_bytes_in::<W, OrderedPairs<&str, V>>(alloc, &OrderedPairs(pairs)) {
         Ok(archive) => Ok(archive),
         Err(error) => Err(write_status(&error)),

@@ -27,10 +27,7 @@ fn number_texts_in<'a, K: NumberKey, W: IndexMapWidth, P: PairOf<K, &'a [u8]>>(
     ensures { let w = index_width W.Width W.Place.spec W.Place.encoding in
         WritesNumberTextIndex K.NumberKey w (map P.pair_of items.now) result }
 {
-    let pairs = match numbers_to_texts_items::pairs_of::<K, P>(alloc, items) {
-        Ok(pairs) => pairs,
-        Err(status) => return Err(status),
-    };
+    let pairs = numbers_to_texts_items::pairs_of::<K, P>(alloc, items)?;
     match to_bytes_in::<W, OrderedPairs<K, &str>>(alloc, &OrderedPairs(pairs)) {
         Ok(archive) => Ok(archive),
         Err(error) => Err(write_status(&error)),
@@ -86,10 +83,7 @@ fn text_texts_in<'a, W: IndexMapWidth, P: PairOf<&'a [u8], &'a [u8]>>(
         MatchResult result (λ v. TextTextIndexWriteOk w (map P.pair_of items.now) v.items)
         (TextTextIndexWriteFails w (map P.pair_of items.now)) }
 {
-    let pairs = match texts_to_texts_items::pairs_of::<P>(alloc, items) {
-        Ok(pairs) => pairs,
-        Err(status) => return Err(status),
-    };
+    let pairs = texts_to_texts_items::pairs_of::<P>(alloc, items)?;
     match to_bytes_in::<W, OrderedPairs<&str, &str>>(alloc, &OrderedPairs(pairs)) {
         Ok(archive) => Ok(archive),
         Err(error) => Err(write_status(&error)),

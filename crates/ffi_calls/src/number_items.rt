@@ -49,10 +49,7 @@ fn archive_in<K: NumberKey, V: Value, W: Width, P: PairOf<K, u64>>(
     ensures { WritesNumbers K.NumberKey (archive_width W.Width) V.spec V.encoding
         (map P.pair_of items.now) result }
 {
-    let pairs = match pairs_of::<K, V, P>(alloc, items) {
-        Ok(pairs) => pairs,
-        Err(status) => return Err(status),
-    };
+    let pairs = pairs_of::<K, V, P>(alloc, items)?;
     match archive_of::<K, V, W>(alloc, pairs.as_slice()) {
         Ok(archive) => Ok(archive),
         Err(error) => Err(write_status(&error)),

@@ -51,10 +51,7 @@ fn archive_in<'a, K: NumberKey, W: Width, P: PairOf<K, &'a [u8]>>(
         (λ v. NumberTextsWriteOk K.NumberKey w (map P.pair_of items.now) v.items)
         (NumberTextsWriteFails K.NumberKey w (map P.pair_of items.now)) }
 {
-    let pairs = match pairs_of::<K, P>(alloc, items) {
-        Ok(pairs) => pairs,
-        Err(status) => return Err(status),
-    };
+    let pairs = pairs_of::<K, P>(alloc, items)?;
     match archive_of::<K, &str, W>(alloc, pairs.as_slice()) {
         Ok(archive) => Ok(archive),
         Err(error) => Err(write_status(&error)),

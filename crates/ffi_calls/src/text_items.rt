@@ -54,10 +54,7 @@ fn archive_in<'a, V: Value, W: Width, P: PairOf<&'a [u8], u64>>(
         (λ v. TextsWriteOk w V.spec V.encoding (map P.pair_of items.now) v.items)
         (TextsWriteFails w V.spec V.encoding (map P.pair_of items.now)) }
 {
-    let pairs = match pairs_of::<V, P>(alloc, items) {
-        Ok(pairs) => pairs,
-        Err(status) => return Err(status),
-    };
+    let pairs = pairs_of::<V, P>(alloc, items)?;
     match archive_of::<&str, V, W>(alloc, pairs.as_slice()) {
         Ok(archive) => Ok(archive),
         Err(error) => Err(write_status(&error)),

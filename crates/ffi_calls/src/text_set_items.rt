@@ -49,10 +49,7 @@ fn archive_in<W: Width>(alloc: Global, items: &[SetText<'_>]) -> Result<Vec<u8>,
     ensures { MatchResult result (λ v. TextSetWriteOk (archive_width W.Width) items.now v.items)
         (TextSetWriteFails (archive_width W.Width) items.now) }
 {
-    let texts = match texts_of(alloc, items) {
-        Ok(texts) => texts,
-        Err(status) => return Err(status),
-    };
+    let texts = texts_of(alloc, items)?;
     match set_archive_of::<&str, W>(alloc, texts.as_slice()) {
         Ok(archive) => Ok(archive),
         Err(error) => Err(write_status(&error)),

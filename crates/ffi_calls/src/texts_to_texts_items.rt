@@ -53,10 +53,7 @@ fn archive_in<'a, W: Width, P: PairOf<&'a [u8], &'a [u8]>>(
         MatchResult result (λ v. TextTextsWriteOk w (map P.pair_of items.now) v.items)
         (TextTextsWriteFails w (map P.pair_of items.now)) }
 {
-    let pairs = match pairs_of::<P>(alloc, items) {
-        Ok(pairs) => pairs,
-        Err(status) => return Err(status),
-    };
+    let pairs = pairs_of::<P>(alloc, items)?;
     match archive_of::<&str, &str, W>(alloc, pairs.as_slice()) {
         Ok(archive) => Ok(archive),
         Err(error) => Err(write_status(&error)),

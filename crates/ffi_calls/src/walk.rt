@@ -68,13 +68,11 @@ fn next_bucket<K: Element, V: Element, W: Width>(
     let begin = header.controls_pos();
     let controls = controls_from(archive, begin, cap);
     let size = Entry::<K, V>::size();
-    match next_full(controls, cap, from as usize) {
-        Some(bucket) => Some(BucketPos {
-            bucket: bucket as u64,
-            pos: pos_before(begin, bucket, size),
-        }),
-        None => None,
-    }
+    let bucket = next_full(controls, cap, from as usize)?;
+    Some(BucketPos {
+        bucket: bucket as u64,
+        pos: pos_before(begin, bucket, size),
+    })
 }
 
 /// Returns the step to the first pair from the bucket `from` on, or `None` if no pair remains.
@@ -88,10 +86,7 @@ fn next_in<'a, X, Y, K: ReadAs<'a, X>, V: ReadAs<'a, Y>, W: Width>(
     requires header { IsHeaderOf (map_in W.word K.spec V.spec archive.now) header.now }
     ensures { FindsNextPair (map_in W.word K.spec V.spec archive.now) K.reads V.reads from result }
 {
-    let item = match next_bucket::<K, V, W>(archive, header, from) {
-        Some(item) => item,
-        None => return None,
-    };
+    let item = next_bucket::<K, V, W>(archive, header, from)?;
     let entry: View<'_, Entry<K, V>> = View::new(archive, item.pos);
     Some(Step {
         next: item.bucket + 1,

@@ -109,10 +109,7 @@ pub fn access<'a, T: Element>(bytes: &'a [u8]) -> Result<View<'a, T>, VerifyErro
 ///
 /// ```rust
 /// let map = ArchivedHashMap::of(access_unchecked::<HashMapOf<Text, u64>>(table));
-/// match map.get(&name) {
-///     Some(address) => Some(address.to_native()),
-///     None => None,
-/// }
+/// Some(map.get(&name)?.to_native())
 /// ```
 #[inline]
 pub fn access_unchecked<'a, T: Element>(bytes: &'a [u8]) -> View<'a, T>

@@ -100,10 +100,7 @@ pub(crate) fn first<S: ByteClass>(bytes: &[u8]) -> Option<usize>
         }
         at += 8;
     }
-    match first_of_bytes::<S>(&bytes[at..]) {
-        Some(len) => Some(at + len),
-        None => None,
-    }
+    Some(at + first_of_bytes::<S>(&bytes[at..])?)
 }
 
 /// Returns `true` only if all bytes, at least eight, are ASCII.

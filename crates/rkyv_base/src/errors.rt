@@ -5,8 +5,17 @@
 //! - `ReadError` is the error of a deserialization.
 //! - `RoundTripError` is the error of writing a value and deserializing it.
 //! - `DistanceTooLarge` is the error of `resolve` alone.
+//!
+//! `?` converts an `AllocError` into `Memory` of a write and of a deserialization, and
+//! `DistanceTooLarge` into that of a write. It wraps these errors into that of a round trip.
+
+ghost use Rattle.std.specs.Prelude.{◌≡◌};
+ghost use Rattle.rkyv_base.specs.declared.errors.ReadError.TheVariants as read;
+ghost use Rattle.rkyv_base.specs.declared.errors.RoundTripError.TheVariants.{Read, Write};
+ghost use Rattle.rkyv_base.specs.declared.errors.WriteError.TheVariants as write;
 
 use crate::writer::NoMemory;
+use std::alloc::AllocError;
 use thiserror::Error;
 
 /// The error for a distance from a position to a part that doesn't fit in the width.
@@ -64,6 +73,24 @@ pub enum WriteError<F> {
     Refused(u32),
 }
 
+impl<F> From<AllocError> for WriteError<F> {
+    ghost from_gives = { λ _ e. e ≡ write.Memory };
+
+    #[inline]
+    fn from(_error: AllocError) -> WriteError<F> {
+        WriteError::Memory
+    }
+}
+
+impl<F> From<DistanceTooLarge> for WriteError<F> {
+    ghost from_gives = { λ _ e. e ≡ write.DistanceTooLarge };
+
+    #[inline]
+    fn from(_error: DistanceTooLarge) -> WriteError<F> {
+        WriteError::DistanceTooLarge
+    }
+}
+
 /// The error of a validation: the first fault in the bytes.
 #[derive(Debug, Drop, Error)]
 pub enum VerifyError {
@@ -108,6 +135,15 @@ pub enum ReadError {
     Refused(u32),
 }
 
+impl From<AllocError> for ReadError {
+    ghost from_gives = { λ _ e. e ≡ read.Memory };
+
+    #[inline]
+    fn from(_error: AllocError) -> ReadError {
+        ReadError::Memory
+    }
+}
+
 /// The error of a round trip: a value is written to memory, and deserialized from its archive.
 #[derive(Debug, Drop, Error)]
 pub enum RoundTripError {
@@ -117,4 +153,22 @@ pub enum RoundTripError {
     /// The value could not be deserialized.
     #[error("{0}")]
     Read(ReadError),
+}
+
+impl From<WriteError<NoMemory>> for RoundTripError {
+    ghost from_gives = { λ error e. e ≡ Write error };
+
+    #[inline]
+    fn from(error: WriteError<NoMemory>) -> RoundTripError {
+        RoundTripError::Write(error)
+    }
+}
+
+impl From<ReadError> for RoundTripError {
+    ghost from_gives = { λ error e. e ≡ Read error };
+
+    #[inline]
+    fn from(error: ReadError) -> RoundTripError {
+        RoundTripError::Read(error)
+    }
 }

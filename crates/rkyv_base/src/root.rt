@@ -38,17 +38,11 @@ pub fn write_root_in<W: Width, S: Writer, V: Serialize<S, W>>(
         (S.output serializer.old) (S.output serializer.new) result }
 {
     let size = <V::Archived as Element>::size();
-    let mut scratch = match vec![in alloc; 0u8; size] {
-        Ok(scratch) => scratch,
-        Err(_) => return Err(WriteError::Memory),
-    };
+    let mut scratch = vec![in alloc; 0u8; size]?;
     let resolver = value.serialize(alloc, serializer)?;
     let root = align_for_in::<W, V::Archived, _>(serializer)?;
     let out = scratch.as_mut_slice();
-    match value.resolve(resolver, root, out) {
-        Ok(()) => {}
-        Err(_) => return Err(WriteError::DistanceTooLarge),
-    }
+    value.resolve(resolver, root, out)?;
     append_in::<W, S>(serializer, out)?;
     Ok(root)
 }

@@ -40,10 +40,7 @@ fn inline_len<W: Width>(bytes: &[u8], pos: usize) -> Option<usize>
         (λ len. IsInline W.word bytes.now pos
         × (len ≡ length (inline_at W.word bytes.now pos)) × (len ≤ text_size W.word)) }
 {
-    match inline_text_at::<W>(bytes, pos) {
-        Some(text) => Some(text.len()),
-        None => None,
-    }
+    Some(inline_text_at::<W>(bytes, pos)?.len())
 }
 
 /// Writes the inline text at a position in upper case, and returns `true` if it is inline.
@@ -76,10 +73,8 @@ impl<'a, W: Width> Seal<'a, Text<W>> {
             (IsOutOfLine W.word (bytes_in self.now) (seal_pos self.now))
             (λ text. ReadsInline W.word (bytes_in self.now) (seal_pos self.now) text.now) }
     {
-        match inline_text_at::<W>(&*self.bytes, self.pos) {
-            Some(text) => Some(unsafe { str::from_utf8_unchecked(text) }),
-            None => None,
-        }
+        let text = inline_text_at::<W>(&*self.bytes, self.pos)?;
+        Some(unsafe { str::from_utf8_unchecked(text) })
     }
 
     /// Writes each letter from a to z of inline text in upper case, and returns `true`.

@@ -77,10 +77,7 @@ impl<'a, T: Element> View<'a, T> {
 pub fn found_pos<T: Element>(found: Option<View<'_, T>>) -> Option<u64>
     ensures { result ≡ pos_of_found found.entry }
 {
-    match found {
-        Some(view) => Some(view.pos()),
-        None => None,
-    }
+    Some(found?.pos())
 }
 
 impl<'a, N: Scalar> View<'a, N> {

@@ -1,5 +1,5 @@
 -- A write fails with one error, except for allocation failures, and doesn't succeed as well.
-use Rattle.std.proofs.Common.{◌≡◌, ℕ, ◌+◌, ◌-◌, ◌≤◌, sym, ap, subst, arith, inl, inr, List, [], ◌++◌, length, length-append}
+use Rattle.std.proofs.Common.{◌≡◌, ℕ, ◌+◌, ◌≤◌, sym, ap, subst, arith, inl, inr, List, [], ◌++◌, length, length-append}
 use Rattle.std.specs.Prelude.{◌⊎◌}
 use Rattle.rkyv_base.specs.Writing.{Step, WriteFailure, failure, no_memory, piece}
 

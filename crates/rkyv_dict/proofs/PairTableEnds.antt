@@ -1,5 +1,5 @@
 -- The write of a table of pairs ends in one way.
-use Rattle.std.proofs.Common.{◌≡◌, ℕ, ◌-◌, ◌<◌, ◌∙◌, refl, sym, ap, subst, arith, inl, inr, List, length, Option, None, Some, true, eqb, get_or}
+use Rattle.std.proofs.Common.{◌≡◌, ℕ, ◌<◌, ◌∙◌, refl, sym, ap, subst, arith, inl, inr, List, length, Option, None, Some, true, eqb, get_or}
 use Rattle.std.specs.Prelude.{slice_get, slice_index}
 use Rattle.std.specs.Int.{Width}
 use Rattle.std.specs.List.{list_any, position_or_len}
@@ -14,7 +14,7 @@ use Rattle.rkyv_base.specs.Writing.{Step, failure}
 use Rattle.rkyv_table.proofs.HomeList.{homes_one_list, written_one_list}
 use Rattle.rkyv_table.proofs.Written.{first_within}
 use Rattle.rkyv_table.specs.Controls.Numbers.{capacity}
-use Rattle.rkyv_table.specs.Controls.Placing.{homes, is_free}
+use Rattle.rkyv_table.specs.Controls.Placing.{is_free}
 use Rattle.rkyv_table.specs.Table.OneWay.{WritesOneWay}
 use Rattle.rkyv_table.specs.Table.Slots.{TableBytes, TableNext}
 use Rattle.rkyv_table.specs.Table.TableFormat.{InBuckets, PairsNext, TableParts, TableResolver, table_format}

@@ -1,5 +1,5 @@
 -- The write of a table ends in one way.
-use Rattle.std.proofs.Common.{◌≡◌, ℕ, ◌+◌, ◌-◌, ◌*◌, ◌∙◌, refl, sym, ap, subst, arith, inl, inr, List, [], ◌++◌, length, Option, append-nil, append_assoc, length-append}
+use Rattle.std.proofs.Common.{◌≡◌, ℕ, ◌+◌, ◌*◌, ◌∙◌, refl, sym, ap, subst, arith, inl, inr, List, [], ◌++◌, length, Option, append-nil, append_assoc, length-append}
 use Rattle.std.proofs.lemmas.List.{length-replicate}
 use Rattle.rkyv_base.specs.Format.{Format}
 use Rattle.rkyv_base.specs.ElementSpec.{ElementSpec}

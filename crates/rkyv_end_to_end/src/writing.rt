@@ -3,7 +3,6 @@
 ghost use Rattle.rkyv_end_to_end.specs.Listing.{WritesList, encoding, list_of, pairs_of};
 
 use rkyv_base::archive::{Serialize, WriteResult};
-use rkyv_base::errors::WriteError;
 use rkyv_base::lend::Lend;
 use rkyv_base::width::Width;
 use rkyv_base::writer::{Writer, align_for_in, append_in};
@@ -67,16 +66,7 @@ pub fn write_list<
     let pos = align_for_in::<W, TableOf<U::Archived, W>, _>(serializer)?;
     let mut scratch = [0u8; 24];
     let out = &mut scratch[..W::TABLE_SIZE];
-    match ArchivedHashTable::<U::Archived, W>::resolve_from_len(
-        len,
-        load_factor,
-        resolver,
-        pos,
-        out,
-    ) {
-        Ok(()) => {}
-        Err(_) => return Err(WriteError::DistanceTooLarge),
-    }
+    ArchivedHashTable::<U::Archived, W>::resolve_from_len(len, load_factor, resolver, pos, out)?;
     append_in::<W, S>(serializer, out)?;
     Ok(WrittenList { end, pos })
 }

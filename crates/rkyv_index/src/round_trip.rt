@@ -47,20 +47,15 @@ where
         B.Archived.Deserialize ⟦<OrderedPairs<A, B> as Archive<W>>⟧.format) pairs.now) }
 {
     pairs_read_back_are_listed::<A, B, A::Archived, B::Archived, FxHasher64, W>();
-    let bytes = match to_bytes_in::<W, OrderedPairs<A, B>>(alloc, pairs) {
-        Ok(bytes) => bytes,
-        Err(e) => return Err(RoundTripError::Write(e)),
-    };
+    let bytes = to_bytes_in::<W, OrderedPairs<A, B>>(alloc, pairs)?;
     let root = match access_in::<W, IndexMapOf<A::Archived, B::Archived, FxHasher64, W>>(
         bytes.as_slice(),
     ) {
         Ok(root) => root,
         Err(_) => return Ok(false),
     };
-    match ArchivedIndexMap::of(root).deserialize_pairs::<A, B>(alloc) {
-        Ok(back) => Ok(pairs.0 == back),
-        Err(e) => Err(RoundTripError::Read(e)),
-    }
+    let back = ArchivedIndexMap::of(root).deserialize_pairs::<A, B>(alloc)?;
+    Ok(pairs.0 == back)
 }
 
 /// Writes a list of keys, opens the archive, deserializes the index set and compares the lists.
@@ -86,16 +81,11 @@ where
         ⟦<OrderedItems<A> as Archive<W>>⟧.format) items.now) }
 {
     items_read_back_are_listed::<A, A::Archived, FxHasher64, W>();
-    let bytes = match to_bytes_in::<W, OrderedItems<A>>(alloc, items) {
-        Ok(bytes) => bytes,
-        Err(e) => return Err(RoundTripError::Write(e)),
-    };
+    let bytes = to_bytes_in::<W, OrderedItems<A>>(alloc, items)?;
     let root = match access_in::<W, IndexSetOf<A::Archived, FxHasher64, W>>(bytes.as_slice()) {
         Ok(root) => root,
         Err(_) => return Ok(false),
     };
-    match ArchivedIndexSet::of(root).deserialize_items::<A>(alloc) {
-        Ok(back) => Ok(items.0 == back),
-        Err(e) => Err(RoundTripError::Read(e)),
-    }
+    let back = ArchivedIndexSet::of(root).deserialize_items::<A>(alloc)?;
+    Ok(items.0 == back)
 }

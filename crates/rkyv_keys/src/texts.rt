@@ -169,10 +169,7 @@ impl<W: Width> Deserialize<String> for Text<W> {
             (AtView (IsTextOf W.word (λ t. string_bytes t)) view.entry)
             (AtView memory_fails view.entry) }
     {
-        match String::from_str(alloc, view.as_str()) {
-            Ok(text) => Ok(text),
-            Err(_) => Err(ReadError::Memory),
-        }
+        Ok(String::from_str(alloc, view.as_str())?)
     }
 }
 

@@ -1,12 +1,13 @@
 -- A lookup in the table that is read is one in the bytes of the seal.
 use Rattle.rkyv_base.specs.declared.element.HasSpec.{Ghosts as Specs}
 use Rattle.rkyv_base.specs.declared.width.Word.{Ghosts as Words}
-use Rattle.std.proofs.Common.{◌≡◌, ℕ, sym, subst, Bool, List, Option}
+use Rattle.std.proofs.Common.{◌≡◌, ℕ, ap, sym, subst, ◌∙◌, Bool, List, Option}
 use Rattle.std.specs.List.{find}
 use Rattle.rkyv_base.specs.Seal.{SealAt, archive_in, pos_in}
 use Rattle.rkyv_base.specs.ElementSpec.{IsElement, Viewable}
 use Rattle.rkyv_base.specs.declared.seal.ArchiveSeal.{ArchiveSeal}
 use Rattle.rkyv_base.specs.declared.seal.Seal.{Seal}
+use Rattle.rkyv_base.specs.View.{bytes_of, pos_of}
 use Rattle.rkyv_base.specs.declared.view.View.{View}
 use Rattle.rkyv_scan.specs.Groups.{generic_kind}
 use Rattle.rkyv_table.specs.Controls.Laws.{IsUnderHash}
@@ -19,6 +20,10 @@ use Rattle.rkyv_table.specs.declared.table.TableOf.{TableOf}
 use Rattle.rkyv_table.proofs.Bare.{compares_by_of}
 use Rattle.rkyv_table.proofs.ValidTable.{item_viewable}
 use Rattle.rkyv_table.proofs.SealedTable.{table_kept}
+
+-- the table of a view of the seal is read at the seal
+pub read_there : {T W : Type 0} {ts : Specs T} {wt : Words W} (a : ArchiveSeal (TableOf T W)) (t : ArchivedHashTable T W ts wt) (v : View (TableOf T W)) → t.view ≡ v → bytes_of v ≡ archive_in a → pos_of v ≡ pos_in a → IsReadAt a t
+read_there a t v of bytes pos = (ap bytes_of of ∙ bytes, ap pos_of of ∙ pos)
 
 module _ {T W : Type 0} {ts : Specs T} {wt : Words W} (law : IsElement ts.spec) (a : ArchiveSeal (TableOf T W)) (t : ArchivedHashTable T W ts wt) (read : IsReadAt a t) (table : IsTableSeal wt.word ts.spec a) where
   -- the position of a bucket of the table, in the bytes of the seal

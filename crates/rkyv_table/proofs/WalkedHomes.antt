@@ -1,7 +1,7 @@
 -- A walk over written control bytes visits the home buckets.
 use Rattle.std.proofs.Common.{◌≡◌, ℕ, ◌<◌, ◌∙◌, ◌↔◌, inl, inr, sym, ap, subst, arith, eqb, List, [], length, slice_index}
 use Rattle.std.specs.List.{AllPairs, Contains, IsDistinct, list_any, range_with_len}
-use Rattle.std.proofs.lemmas.Bool.{cases_Bool, not-false, true≢false}
+use Rattle.std.proofs.lemmas.Bool.{cases_Bool, not-false}
 use Rattle.std.proofs.lemmas.List.{get_or_default}
 use Rattle.std.proofs.lemmas.List.FromFn.{get_or-range_with_len, length-range_with_len}
 use Rattle.std.proofs.lemmas.List.Kept.{AllPairs-filter}

@@ -113,10 +113,8 @@ impl<'a, K: KeyElement, V: Element, H: KeyHasher, W: Width> ArchivedHashMap<'a, 
             (query_of H.hasher K.key_calls K.same (Q.calls key.now) (Q.fits key.now))
             (WritesFound F.post write archive.old result archive.new) }
     {
-        match Self::value_pos_in(&*archive, root, key) {
-            Some(pos) => Some(write(archive, pos)),
-            None => None,
-        }
+        let pos = Self::value_pos_in(&*archive, root, key)?;
+        Some(write(archive, pos))
     }
 }
 

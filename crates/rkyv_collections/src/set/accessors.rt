@@ -184,10 +184,8 @@ impl<'a, K: KeyElement, H: KeyHasher, W: Width> ArchivedHashSet<'a, K, H, W> {
         ensures { GetsMember self.entry
             (query_of H.hasher K.key_calls K.same (Q.calls key.now) (Q.fits key.now)) result }
     {
-        match self.map.get_key_value(key) {
-            Some((stored, _)) => Some(stored),
-            None => None,
-        }
+        let (stored, _) = self.map.get_key_value(key)?;
+        Some(stored)
     }
 
     /// Returns `true` if and only if the query finds a key.

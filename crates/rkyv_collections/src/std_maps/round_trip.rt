@@ -46,10 +46,7 @@ where
     ensures error { IfErr result (RoundTripFails (round_trip W.LIMIT M.Archived.spec M.format
         M.Archived.deserialize_fails) value.now) }
 {
-    let bytes = match to_bytes_in::<W, M>(alloc, value) {
-        Ok(bytes) => bytes,
-        Err(e) => return Err(RoundTripError::Write(e)),
-    };
+    let bytes = to_bytes_in::<W, M>(alloc, value)?;
     let root = match access_in::<W, M::Archived>(bytes.as_slice()) {
         Ok(root) => root,
         Err(_) => return Ok(false),
@@ -57,10 +54,8 @@ where
     if !M::Archived::eq_native(root, value) {
         return Ok(false);
     }
-    match M::Archived::deserialize(alloc, root) {
-        Ok(back) => Ok(back == *value),
-        Err(e) => Err(RoundTripError::Read(e)),
-    }
+    let back = M::Archived::deserialize(alloc, root)?;
+    Ok(back == *value)
 }
 
 /// Writes a map of std, and compares a lookup in the archive with one in the map.
@@ -90,10 +85,7 @@ where
         (map_spec W.word A.Archived.spec B.Archived.spec)
         ⟦<Hashed<HashMap<A, B, T>, H> as Archive<W>>⟧.format nothing_fails) map.now) }
 {
-    let bytes = match to_bytes_in::<W, Hashed<HashMap<A, B, T>, H>>(alloc, map) {
-        Ok(bytes) => bytes,
-        Err(e) => return Err(RoundTripError::Write(e)),
-    };
+    let bytes = to_bytes_in::<W, Hashed<HashMap<A, B, T>, H>>(alloc, map)?;
     let root = match access_in::<W, HashMapOf<A::Archived, B::Archived, H, W>>(bytes.as_slice()) {
         Ok(root) => root,
         Err(_) => return Ok(false),

@@ -149,10 +149,8 @@ impl<'a, K: KeyElement, H: KeyHasher, W: Width> ArchivedIndexSet<'a, K, H, W> {
         ensures { GetsKey full_key_part (keys_of self.entry)
             (query_of H.hasher K.key_calls K.same (Q.calls key.now) (Q.fits key.now)) result }
     {
-        match self.map.get_full(key) {
-            Some((index, stored, _)) => Some((index, stored)),
-            None => None,
-        }
+        let (index, stored, _) = self.map.get_full(key)?;
+        Some((index, stored))
     }
 
     /// Returns the key that the query finds, or `None`.

@@ -57,10 +57,7 @@ impl Marks for Bitmask {
 
     #[inline]
     fn lowest_set_bit(self) -> Option<usize> {
-        match NonZeroWord::new(self.bits) {
-            Some(bits) => Some(bits.trailing_zeros() as usize / 8),
-            None => None,
-        }
+        Some(NonZeroWord::new(self.bits)?.trailing_zeros() as usize / 8)
     }
 }
 

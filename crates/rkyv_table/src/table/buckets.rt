@@ -9,7 +9,7 @@ ghost use Rattle.rkyv_table.specs.Table.Slots.{item_format, slots_with};
 
 use rkyv_base::archive::{Archive, ResolveResult, WriteResult};
 use rkyv_base::element::Element;
-use rkyv_base::errors::{DistanceTooLarge, WriteError};
+use rkyv_base::errors::DistanceTooLarge;
 use rkyv_base::lend::Lend;
 use rkyv_base::width::Width;
 use rkyv_base::writer::{Writer, append_in};
@@ -62,10 +62,7 @@ fn write_by<W: Width, S: Writer, U: Archive<W>, X: Lend<U>>(
     let mut above = slots.len();
     while above > 0 {
         above -= 1;
-        match fill_bucket::<W, U, _>(&slots[above], &mut rest, serializer.pos(), bucket) {
-            Ok(()) => {}
-            Err(_) => return Err(WriteError::DistanceTooLarge),
-        }
+        fill_bucket::<W, U, _>(&slots[above], &mut rest, serializer.pos(), bucket)?;
         append_in::<W, S>(serializer, bucket)?;
     }
     Ok(())

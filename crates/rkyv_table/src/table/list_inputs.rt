@@ -35,10 +35,8 @@ impl<'a, A, B> Iterator for PairRefs<'a, A, B> {
 
     #[inline]
     fn next(&mut self) -> Option<(&'a A, &'a B)> {
-        match self.pairs.next() {
-            Some(pair) => Some((&pair.0, &pair.1)),
-            None => None,
-        }
+        let pair = self.pairs.next()?;
+        Some((&pair.0, &pair.1))
     }
 }
 
@@ -91,9 +89,6 @@ impl<BK, I: Iterator<Item = BK>> Iterator for WithUnits<I> {
 
     #[inline]
     fn next(&mut self) -> Option<(BK, ())> {
-        match self.keys.next() {
-            Some(key) => Some((key, ())),
-            None => None,
-        }
+        Some((self.keys.next()?, ()))
     }
 }

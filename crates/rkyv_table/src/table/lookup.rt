@@ -49,10 +49,7 @@ impl<'a, T: Element, W: Width> ArchivedHashTable<'a, T, W> {
             { cmp(self.item(bucket)) },
             strides,
         );
-        match bucket {
-            Some(bucket) => Some(self.item(bucket)),
-            None => None,
-        }
+        Some(self.item(bucket?))
     }
 
     /// Returns an item that the comparison accepts, in a lookup under `hash`, or `None`.

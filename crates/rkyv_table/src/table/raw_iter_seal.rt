@@ -121,17 +121,10 @@ impl<'a, T: Element> RawIterSeal<'a, T> {
         if self.left == 0 {
             return None;
         }
-        let bucket = match part(&*self.archive, self.buckets_end, self.cap) {
-            Some(controls) => match next_full(controls, self.cap, self.next) {
-                Some(bucket) => bucket,
-                None => return None,
-            },
-            None => return None,
-        };
-        match pos_before(self.buckets_end, bucket, T::size()) {
-            Some(at) => Some(NextItem { bucket, at }),
-            None => None,
-        }
+        let controls = part(&*self.archive, self.buckets_end, self.cap)?;
+        let bucket = next_full(controls, self.cap, self.next)?;
+        let at = pos_before(self.buckets_end, bucket, T::size())?;
+        Some(NextItem { bucket, at })
     }
 
     /// Returns the position of the next item, or `None` at the end.
@@ -142,14 +135,10 @@ impl<'a, T: Element> RawIterSeal<'a, T> {
         ensures inside { IfSome result (λ q. q + T.spec.size ≤ length (cursor_bytes self.old)) }
         ensures takes { YieldsPosition T.spec self.old result self.new }
     {
-        match self.first() {
-            Some(first) => {
-                self.next = first.bucket + 1;
-                self.left -= 1;
-                Some(first.at as u64)
-            }
-            None => None,
-        }
+        let first = self.first()?;
+        self.next = first.bucket + 1;
+        self.left -= 1;
+        Some(first.at as u64)
     }
 
     /// Returns a seal of the next item, or `None` at the end.
@@ -161,13 +150,9 @@ impl<'a, T: Element> RawIterSeal<'a, T> {
         ensures bytes { IfSome result (λ s. bytes_in s ≡ cursor_bytes self.old) }
         ensures first { LendsFirst T.spec self.old result }
     {
-        match self.next_pos() {
-            Some(pos) => {
-                let bytes = &mut *self.archive;
-                Some(Seal::over(bytes, pos as usize))
-            }
-            None => None,
-        }
+        let pos = self.next_pos()?;
+        let bytes = &mut *self.archive;
+        Some(Seal::over(bytes, pos as usize))
     }
 }
 
@@ -425,9 +410,7 @@ impl<'a, T: Element, W: Width> ArchivedHashTable<'a, T, W> {
             (SealedBy G.post write) hash result archive.new }
     {
         let table = ArchivedHashTable::<T, W>::of(View::new(&*archive, pos));
-        match table.get_pos_with(hash, cmp) {
-            Some(item_pos) => Some(lend_seal(archive, item_pos as usize, write)),
-            None => None,
-        }
+        let item_pos = table.get_pos_with(hash, cmp)?;
+        Some(lend_seal(archive, item_pos as usize, write))
     }
 }

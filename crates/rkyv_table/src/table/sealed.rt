@@ -55,9 +55,7 @@ impl<'a, T: Element, W: Width> ArchivedHashTable<'a, T, W> {
         ensures first { SealsFirst (F.post cmp) W.word T.spec this.entry hash
             (pos_of_seal result) }
     {
-        match ArchivedHashTable::of(this.as_view()).get_pos_with(hash, cmp) {
-            Some(pos) => Some(this.seal_at(pos)),
-            None => None,
-        }
+        let pos = ArchivedHashTable::of(this.as_view()).get_pos_with(hash, cmp)?;
+        Some(this.seal_at(pos))
     }
 }

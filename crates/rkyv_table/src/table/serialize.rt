@@ -86,15 +86,8 @@ fn serialize_nonempty<
         (bucket_input (H.input given) len cap)
         (S.output serializer.old) (S.output serializer.new) result }
 {
-    let room: Room<X, U::Resolver> = match Room::new(
-        alloc,
-        len,
-        cap,
-        <U::Archived as Element>::size(),
-    ) {
-        Ok(room) => room,
-        Err(_) => return Err(WriteError::Memory),
-    };
+    let size = <U::Archived as Element>::size();
+    let room: Room<X, U::Resolver> = Room::new(alloc, len, cap, size)?;
     let mut slots = room.slots;
     let mut scratch = room.scratch;
     let resolvers = room.resolvers;

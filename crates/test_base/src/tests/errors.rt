@@ -1,6 +1,9 @@
-//! Tests of the text of each error.
-use rkyv_base::{IteratorLengthMismatch, NoMemory, ReadError, VerifyError, WriteError};
-use std::alloc::Global;
+//! Tests of the text of each error, and of the conversions between errors.
+use rkyv_base::errors::RoundTripError;
+use rkyv_base::{
+    DistanceTooLarge, IteratorLengthMismatch, NoMemory, ReadError, VerifyError, WriteError,
+};
+use std::alloc::{AllocError, Global};
 use std::fmt::Display;
 
 // Returns `true` if an error is formatted as this text.
@@ -49,6 +52,28 @@ fn write_errors_have_messages(rt: HostRuntime) {
         write_shows(alloc, WriteError::Refused(5), "refused 5"),
     ];
     expect_eq!(rt; shown, [true; 9]);
+}
+
+#[test]
+fn errors_are_converted(rt: HostRuntime) {
+    let alloc = rt.alloc();
+    let too_long: WriteError<NoMemory> = WriteError::TextTooLong;
+    let shown = [
+        write_shows(alloc, WriteError::from(AllocError), "no memory"),
+        write_shows(
+            alloc,
+            WriteError::from(DistanceTooLarge),
+            "distance too large",
+        ),
+        shows(alloc, ReadError::from(AllocError), "no memory"),
+        shows(alloc, RoundTripError::from(too_long), "text too long"),
+        shows(
+            alloc,
+            RoundTripError::from(ReadError::Refused(5)),
+            "refused 5",
+        ),
+    ];
+    expect_eq!(rt; shown, [true; 5]);
 }
 
 #[test]

@@ -25,29 +25,29 @@ pub access_unchecked-requires : goal.access_unchecked-requires
 unfolding IsTable
 access_unchecked-requires c = root_viewable 4_294_967_295 header_spec c.args.table.now c.requires
 
-pub returns-in-Some-clause-found : goal.returns-in-Some-clause-found
+pub returns-clause-found : goal.returns-clause-found
 unfolding address_found
-returns-in-Some-clause-found c =
+returns-clause-found c =
     let at = read_at c.of-map.result _ _ _ c.of-map.ensures.view c.access_unchecked.ensures.at in
     let b = c.args.table.now in
-    let read : number_at w64 b c.in-Some.address.pos ≡ c.to_native.result = ap (λ x. number_at w64 x c.in-Some.address.pos) (sym (ap (λ a. a.now) c.in-Some.ensures.walked.at.0 ∙ at.0)) ∙ c.to_native.ensures in
-    number_read (number_at w64 b) _ _ _ _ read (moved (λ x p. Some c.in-Some.address.pos ≡ address_pos c.args.name.now x p) _ _ _ _ at.0 at.1 c.in-Some.ensures.finds)
+    let read : number_at w64 b c.in_ok-get.field-0.pos ≡ c.to_native.result = ap (λ x. number_at w64 x c.in_ok-get.field-0.pos) (sym (ap (λ a. a.now) c.in_ok-get.ensures.walked.at.0 ∙ at.0)) ∙ c.to_native.ensures in
+    number_read (number_at w64 b) _ _ _ _ read (moved (λ x p. Some c.in_ok-get.field-0.pos ≡ address_pos c.args.name.now x p) _ _ _ _ at.0 at.1 c.in_ok-get.ensures.finds)
 
-pub returns-in-None-clause-found : goal.returns-in-None-clause-found
+pub returns-in_err-get-clause-found : goal.returns-in_err-get-clause-found
 unfolding address_found
-returns-in-None-clause-found c =
+returns-in_err-get-clause-found c =
     let at = read_at c.of-map.result _ _ _ c.of-map.ensures.view c.access_unchecked.ensures.at in
-    none_read (number_at w64 c.args.table.now) _ _ (moved (λ x p. None ≡ address_pos c.args.name.now x p) _ _ _ _ at.0 at.1 c.in-None.ensures.finds)
+    c.from_residual.ensures ∙ none_read (number_at w64 c.args.table.now) _ _ (moved (λ x p. None ≡ address_pos c.args.name.now x p) _ _ _ _ at.0 at.1 c.in_err-get.ensures.finds)
 
-pub returns-in-Some-clause-listed : goal.returns-in-Some-clause-listed
+pub returns-clause-listed : goal.returns-clause-listed
 unfolding Represents
-returns-in-Some-clause-listed c = λ symbols represents. let found = c.in-Some.ensures in
+returns-clause-listed c = λ symbols represents. let found = c.in_ok-get.ensures in
     ap Some (sym c.to_native.ensures)
-    ∙ c.scalars_found_are_listed.ensures c.of-map.result _ _ (7, 8) symbols c.args.name (Some c.in-Some.address)
+    ∙ c.scalars_found_are_listed.ensures c.of-map.result _ _ (7, 8) symbols c.args.name (Some c.in_ok-get.field-0)
     c.of-map.ensures.view c.access_unchecked.ensures.at represents found.walked found.first
 
-pub returns-in-None-clause-listed : goal.returns-in-None-clause-listed
+pub returns-in_err-get-clause-listed : goal.returns-in_err-get-clause-listed
 unfolding Represents
-returns-in-None-clause-listed c = λ symbols represents. let found = c.in-None.ensures in
-    c.scalars_found_are_listed.ensures c.of-map.result _ _ (7, 8) symbols c.args.name None
+returns-in_err-get-clause-listed c = λ symbols represents. let found = c.in_err-get.ensures in
+    c.from_residual.ensures ∙ c.scalars_found_are_listed.ensures c.of-map.result _ _ (7, 8) symbols c.args.name None
     c.of-map.ensures.view c.access_unchecked.ensures.at represents found.walked found.first

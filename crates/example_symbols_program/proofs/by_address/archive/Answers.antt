@@ -5,5 +5,5 @@ use Rattle.example_symbols_program.proofs.by_address.archive.Goals as goal
 pub returns : goal.returns
 returns c =
     MatchResult-weaker c.to_bytes.result c.to_bytes.ensures
-    (λ index archived. (record { 0 = c.in-Ok.row }, c.in-Ok.ensures, archived))
-    (λ e failed. inr (record { 0 = c.in-Ok.row }, c.in-Ok.ensures, failed))
+    (λ index archived. (record { 0 = c.in_ok-row.row }, c.in_ok-row.ensures, archived))
+    (λ e failed. inr (record { 0 = c.in_ok-row.row }, c.in_ok-row.ensures, failed))

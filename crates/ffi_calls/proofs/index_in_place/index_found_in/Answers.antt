@@ -7,30 +7,30 @@ use Rattle.ffi_calls.specs.Lists.{query_of_key, query_pairs}
 use Rattle.ffi_calls.proofs.IndexFound.{of_same_map}
 use Rattle.ffi_calls.proofs.index_in_place.index_found_in.Goals as goal
 
-pub returns-in-Some-clause-found : goal.returns-in-Some-clause-found
-returns-in-Some-clause-found g c =
+pub returns-clause-found : goal.returns-clause-found
+returns-clause-found g c =
     let calls = g.A.KeyHash.calls c.args.key.now in
     let fits = g.A.Query.fits c.args.key.now in
     let view = c.of-map.ensures.view in
-    of_same_map (λ n. Some c.in-Some.index ≡ found_index n calls (fits n.bytes)) g.W.Word.word g.K.HasSpec.spec g.V.HasSpec.spec _ _ _ _ (ap (λ v. v.archive.now) view ∙ ap (λ a. a.now) c.new.ensures.0)
-    (ap (λ v. v.pos) view ∙ c.new.ensures.1 ∙ c.index_root_of-root.ensures.at) c.in-Some.ensures.finds
+    of_same_map (λ n. Some c.in_ok-index.index ≡ found_index n calls (fits n.bytes)) g.W.Word.word g.K.HasSpec.spec g.V.HasSpec.spec _ _ _ _ (ap (λ v. v.archive.now) view ∙ ap (λ a. a.now) c.new.ensures.0)
+    (ap (λ v. v.pos) view ∙ c.new.ensures.1 ∙ c.index_root_of-root.ensures.at) c.in_ok-index.ensures.finds
 
-pub returns-in-None-clause-found : goal.returns-in-None-clause-found
-returns-in-None-clause-found g c =
+pub returns-in_err-index-clause-found : goal.returns-in_err-index-clause-found
+returns-in_err-index-clause-found g c =
     let calls = g.A.KeyHash.calls c.args.key.now in
     let fits = g.A.Query.fits c.args.key.now in
     let view = c.of-map.ensures.view in
-    of_same_map (λ n. None ≡ found_index n calls (fits n.bytes)) g.W.Word.word g.K.HasSpec.spec g.V.HasSpec.spec _ _ _ _ (ap (λ v. v.archive.now) view ∙ ap (λ a. a.now) c.new.ensures.0)
-    (ap (λ v. v.pos) view ∙ c.new.ensures.1 ∙ c.index_root_of-root.ensures.at) c.in-None.ensures.finds
+    c.from_residual.ensures ∙ of_same_map (λ n. None ≡ found_index n calls (fits n.bytes)) g.W.Word.word g.K.HasSpec.spec g.V.HasSpec.spec _ _ _ _ (ap (λ v. v.archive.now) view ∙ ap (λ a. a.now) c.new.ensures.0)
+    (ap (λ v. v.pos) view ∙ c.new.ensures.1 ∙ c.index_root_of-root.ensures.at) c.in_err-index.ensures.finds
 
-pub returns-in-Some-clause-below : goal.returns-in-Some-clause-below
-returns-in-Some-clause-below g c =
+pub returns-clause-below : goal.returns-clause-below
+returns-clause-below g c =
     let view = c.of-map.ensures.view in
-    of_same_map (λ n. c.in-Some.index < pair_count n) g.W.Word.word g.K.HasSpec.spec g.V.HasSpec.spec _ _ _ _ (ap (λ v. v.archive.now) view ∙ ap (λ a. a.now) c.new.ensures.0)
-    (ap (λ v. v.pos) view ∙ c.new.ensures.1 ∙ c.index_root_of-root.ensures.at) c.in-Some.ensures.walked.1.0.below
+    of_same_map (λ n. c.in_ok-index.index < pair_count n) g.W.Word.word g.K.HasSpec.spec g.V.HasSpec.spec _ _ _ _ (ap (λ v. v.archive.now) view ∙ ap (λ a. a.now) c.new.ensures.0)
+    (ap (λ v. v.pos) view ∙ c.new.ensures.1 ∙ c.index_root_of-root.ensures.at) c.in_ok-index.ensures.walked.1.0.below
 
-pub returns-in-Some-clause-first : goal.returns-in-Some-clause-first
-returns-in-Some-clause-first g c = λ factor pairs represents.
+pub returns-clause-first : goal.returns-clause-first
+returns-clause-first g c = λ factor pairs represents.
     let m = c.of-map.result in
     let accepts = g.A.PartialEq.eq c.args.key.now in
     let fits = g.A.Query.fits c.args.key.now in
@@ -39,10 +39,10 @@ returns-in-Some-clause-first g c = λ factor pairs represents.
     let here = of_same_map (λ n. IndexRepresentsPairs n (query_pairs n query g.V.Represents.represents) factor pairs) g.W.Word.word g.K.HasSpec.spec g.V.HasSpec.spec _ _ _ _ (sym (ap (λ v. v.archive.now) view ∙ ap (λ a. a.now) c.new.ensures.0))
     (sym (ap (λ v. v.pos) view ∙ c.new.ensures.1 ∙ c.index_root_of-root.ensures.at)) represents in
     let listed = c.lookups_find_listed.ensures m fits accepts factor pairs (λ a q s there. g.met.A.NativeKey.native c.args.key.now a (index_bytes m) q s there) here in
-    subst (IsFirst accepts pairs) (sym (c.in-Some.ensures.first listed.homes listed.written)) listed.first
+    subst (IsFirst accepts pairs) (sym (c.in_ok-index.ensures.first listed.homes listed.written)) listed.first
 
-pub returns-in-None-clause-first : goal.returns-in-None-clause-first
-returns-in-None-clause-first g c = λ factor pairs represents.
+pub returns-in_err-index-clause-first : goal.returns-in_err-index-clause-first
+returns-in_err-index-clause-first g c = λ factor pairs represents.
     let m = c.of-map.result in
     let accepts = g.A.PartialEq.eq c.args.key.now in
     let fits = g.A.Query.fits c.args.key.now in
@@ -51,4 +51,4 @@ returns-in-None-clause-first g c = λ factor pairs represents.
     let here = of_same_map (λ n. IndexRepresentsPairs n (query_pairs n query g.V.Represents.represents) factor pairs) g.W.Word.word g.K.HasSpec.spec g.V.HasSpec.spec _ _ _ _ (sym (ap (λ v. v.archive.now) view ∙ ap (λ a. a.now) c.new.ensures.0))
     (sym (ap (λ v. v.pos) view ∙ c.new.ensures.1 ∙ c.index_root_of-root.ensures.at)) represents in
     let listed = c.lookups_find_listed.ensures m fits accepts factor pairs (λ a q s there. g.met.A.NativeKey.native c.args.key.now a (index_bytes m) q s there) here in
-    subst (IsFirst accepts pairs) (sym (c.in-None.ensures.first listed.homes listed.written)) listed.first
+    subst (IsFirst accepts pairs) (sym (c.from_residual.ensures ∙ c.in_err-index.ensures.first listed.homes listed.written)) listed.first

@@ -42,56 +42,56 @@ pos_before-requires g c =
     let v = g.V.HasSpec.spec in
     let b = c.args.archive.now in
     let p = root w k v b in
-    let i = c.in-Some.bucket in
+    let i = c.in_ok-bucket.bucket in
     let cap : c.capacity-cap.result ≡ cap_at w b p = c.capacity-cap.ensures ∙ c.requires.header.cap in
-    let below : i < cap_at w b p = omega (arith, c.in-Some.ensures.0) in
+    let below : i < cap_at w b p = omega (arith, c.in_ok-bucket.ensures.0) in
     let decoded : 0 < c.args.header.now.cap = omega (arith, c.requires.header.cap) in
     let at : c.controls_pos-begin.result ≡ controls_pos w b p = c.controls_pos-begin.ensures ∙ c.requires.header.controls_pos decoded in
     let law = entry_element k v g.K.HasSpec.laws g.V.HasSpec.laws in
     let before = item_before w (entry_spec k v) law b p (root_viewable g.W.Width.LIMIT (map_spec w k v) b c.requires.archive) i below in
     record {
-      small = omega (arith, c.in-Some.ensures.0);
+      small = omega (arith, c.in_ok-bucket.ensures.0);
       room = rw (c.size-size.ensures, at) before;
     }
 
-pub returns-in-Some-clause-next : goal.returns-in-Some-clause-next
-returns-in-Some-clause-next g c =
+pub returns-clause-next : goal.returns-clause-next
+returns-clause-next g c =
     let w = g.W.Word.word in
     let s = entry_spec g.K.HasSpec.spec g.V.HasSpec.spec in
     let b = c.args.archive.now in
     let p = root w g.K.HasSpec.spec g.V.HasSpec.spec b in
-    let i = c.in-Some.bucket in
+    let i = c.in_ok-bucket.bucket in
     let cap : c.capacity-cap.result ≡ cap_at w b p = c.capacity-cap.ensures ∙ c.requires.header.cap in
     let decoded : 0 < c.args.header.now.cap = omega (arith, c.requires.header.cap) in
     let at : c.controls_pos-begin.result ≡ controls_pos w b p = c.controls_pos-begin.ensures ∙ c.requires.header.controls_pos decoded in
     let controls : c.controls_from-controls.result.now ≡ table_controls w b p = rw (at, cap) at c.controls_from-controls.ensures.bytes in
     let taken : full_from (table_controls w b p) c.capacity-cap.result c.args.from ≡ i ∷ full_from (table_controls w b p) c.capacity-cap.result (i + 1) =
-    subst (λ (xs : List ℕ). full_from xs c.capacity-cap.result c.args.from ≡ i ∷ full_from xs c.capacity-cap.result (i + 1)) controls c.in-Some.ensures.2 in (
+    subst (λ (xs : List ℕ). full_from xs c.capacity-cap.result c.args.from ≡ i ∷ full_from xs c.capacity-cap.result (i + 1)) controls c.in_ok-bucket.ensures.2 in (
       rw cap at taken,
       c.pos_before.ensures ∙ ap (λ n. c.controls_pos-begin.result - (i + 1) * n) c.size-size.ensures ∙ ap (λ n. n - (i + 1) * s.size) at,
     )
 
-pub returns-in-Some-clause-viewable : goal.returns-in-Some-clause-viewable
-returns-in-Some-clause-viewable g c =
+pub returns-clause-viewable : goal.returns-clause-viewable
+returns-clause-viewable g c =
     let w = g.W.Word.word in
     let k = g.K.HasSpec.spec in
     let v = g.V.HasSpec.spec in
     let s = entry_spec k v in
     let b = c.args.archive.now in
     let p = root w k v b in
-    let i = c.in-Some.bucket in
+    let i = c.in_ok-bucket.bucket in
     let cap : c.capacity-cap.result ≡ cap_at w b p = c.capacity-cap.ensures ∙ c.requires.header.cap in
     let decoded : 0 < c.args.header.now.cap = omega (arith, c.requires.header.cap) in
     let at : c.controls_pos-begin.result ≡ controls_pos w b p = c.controls_pos-begin.ensures ∙ c.requires.header.controls_pos decoded in
     let law = entry_element k v g.K.HasSpec.laws g.V.HasSpec.laws in
     let controls : c.controls_from-controls.result.now ≡ table_controls w b p = rw (at, cap) at c.controls_from-controls.ensures.bytes in
-    let walked : IsWalked w b p i = (subst (λ n. i < n) cap c.in-Some.ensures.0, subst (λ (xs : List ℕ). slice_index xs i < 128) controls c.in-Some.ensures.1) in
+    let walked : IsWalked w b p i = (subst (λ n. i < n) cap c.in_ok-bucket.ensures.0, subst (λ (xs : List ℕ). slice_index xs i < 128) controls c.in_ok-bucket.ensures.1) in
     let at_item : c.pos_before.result ≡ item_at w s.size b p i =
     c.pos_before.ensures ∙ ap (λ n. c.controls_pos-begin.result - (i + 1) * n) c.size-size.ensures ∙ ap (λ n. n - (i + 1) * s.size) at in
     subst (Viewable s b) (sym at_item) (item_viewable w s law b p (root_viewable g.W.Width.LIMIT (map_spec w k v) b c.requires.archive) i walked)
 
-pub returns-in-None-clause-next : goal.returns-in-None-clause-next
-returns-in-None-clause-next g c =
+pub returns-in_err-bucket-clause-next : goal.returns-in_err-bucket-clause-next
+returns-in_err-bucket-clause-next g c =
     let w = g.W.Word.word in
     let b = c.args.archive.now in
     let p = root w g.K.HasSpec.spec g.V.HasSpec.spec b in
@@ -100,5 +100,5 @@ returns-in-None-clause-next g c =
     let at : c.controls_pos-begin.result ≡ controls_pos w b p = c.controls_pos-begin.ensures ∙ c.requires.header.controls_pos decoded in
     let controls : c.controls_from-controls.result.now ≡ table_controls w b p = rw (at, cap) at c.controls_from-controls.ensures.bytes in
     let none : full_from (table_controls w b p) c.capacity-cap.result c.args.from ≡ [] =
-    subst (λ (xs : List ℕ). full_from xs c.capacity-cap.result c.args.from ≡ []) controls c.in-None.ensures in
-    rw cap at none
+    subst (λ (xs : List ℕ). full_from xs c.capacity-cap.result c.args.from ≡ []) controls c.in_err-bucket.ensures in
+    rw c.from_residual.ensures (rw cap at none)

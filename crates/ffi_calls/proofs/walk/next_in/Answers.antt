@@ -3,13 +3,13 @@ use Rattle.rkyv_base.specs.Sealing.{value_pos}
 use Rattle.ffi_calls.proofs.AtViews.{there}
 use Rattle.ffi_calls.proofs.walk.next_in.Goals as goal
 
-pub returns-in-None : goal.returns-in-None
-returns-in-None g c = c.in-None.ensures.next
+pub returns-in_err-item : goal.returns-in_err-item
+returns-in_err-item g c = rw c.from_residual.ensures c.in_err-item.ensures.next
 
 pub returns : goal.returns
 returns g c =
-    let item = c.in-Some.item in
-    let next = c.in-Some.ensures.next in
+    let item = c.in_ok-item.item in
+    let next = c.in_ok-item.ensures.next in
     let b = c.args.archive.now in
     let value_at : ℕ → ℕ = value_pos g.K.HasSpec.spec g.V.HasSpec.spec in
     let key = there (λ d q. g.K.StoredAs.reads d q c.read_as-2.result) _ _ _ _ b c.key.ensures.at.0 (ap (λ a. a.now) c.new-entry.ensures.0) (c.key.ensures.at.1 ∙ c.new-entry.ensures.1 ∙ next.1) c.read_as-2.ensures in

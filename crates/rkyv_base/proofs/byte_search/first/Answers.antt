@@ -22,16 +22,17 @@ loop-at-preserved g c =
     let m = stretch_miss g.S.ByteClass.in_class xs (take 8 (drop at xs)) at (eight_stretch xs at (omega arith)) c.loop-at.invariant.1 (c.in_default.ensures ∙ ap (λ ys. position g.S.ByteClass.in_class (take 8 ys)) (take_rest xs at)) in
     (omega arith, λ k l. m k (omega arith))
 
-pub returns-in-Some-first_of_bytes : goal.returns-in-Some-first_of_bytes
-returns-in-Some-first_of_bytes g c =
+pub returns : goal.returns
+returns g c =
     let xs : List ℕ = c.args.bytes.now in
     let at = c.loop-at.at in
-    stretch_hit g.S.ByteClass.in_class xs (drop at xs) at c.in-Some-first_of_bytes.len (rest_stretch xs at c.loop-at.invariant.0) c.loop-at.invariant.1 (c.in-Some-first_of_bytes.ensures ∙ ap (position g.S.ByteClass.in_class) (take_rest xs at))
+    stretch_hit g.S.ByteClass.in_class xs (drop at xs) at c.in_ok-first_of_bytes.field-0 (rest_stretch xs at c.loop-at.invariant.0) c.loop-at.invariant.1 (c.in_ok-first_of_bytes.ensures ∙ ap (position g.S.ByteClass.in_class) (take_rest xs at))
 
-pub returns-in-None : goal.returns-in-None
-returns-in-None g c =
+pub returns-in_err-first_of_bytes : goal.returns-in_err-first_of_bytes
+returns-in_err-first_of_bytes g c =
     let xs : List ℕ = c.args.bytes.now in
     let at = c.loop-at.at in
     let e = whole xs at c.loop-at.invariant.0 in
-    none_first g.S.ByteClass.in_class xs (at + length (drop at xs)) (omega arith)
-    (stretch_miss g.S.ByteClass.in_class xs (drop at xs) at (rest_stretch xs at c.loop-at.invariant.0) c.loop-at.invariant.1 (c.in-None.ensures ∙ ap (position g.S.ByteClass.in_class) (take_rest xs at)))
+    c.from_residual.ensures
+    ∙ none_first g.S.ByteClass.in_class xs (at + length (drop at xs)) (omega arith)
+    (stretch_miss g.S.ByteClass.in_class xs (drop at xs) at (rest_stretch xs at c.loop-at.invariant.0) c.loop-at.invariant.1 (c.in_err-first_of_bytes.ensures ∙ ap (position g.S.ByteClass.in_class) (take_rest xs at)))

@@ -169,10 +169,8 @@ impl<'a, K: Element, V: Element, H, W> IterMut<'a, K, V, H, W> {
         ensures viewable { IfSome result (λ pair. IsValidView K.spec pair.0) }
         ensures first { LendsFirstPair K.spec V.spec (entries_in self.old) result }
     {
-        match self.next_pos() {
-            Some(pos) => pair_at::<K, V>(self.entries.bytes_mut(), pos),
-            None => None,
-        }
+        let pos = self.next_pos()?;
+        pair_at::<K, V>(self.entries.bytes_mut(), pos)
     }
 }
 
@@ -225,10 +223,8 @@ impl<'a, K: Element, V: Element, H, W> ValuesMut<'a, K, V, H, W> {
         ensures takes { YieldsValuePos K.spec V.spec (entries_of self.old) result
             (entries_of self.new) }
     {
-        match self.pairs.next_pos() {
-            Some(key) => Some(behind::<K, V>(self.pairs.entries.bytes(), key)),
-            None => None,
-        }
+        let key = self.pairs.next_pos()?;
+        Some(behind::<K, V>(self.pairs.entries.bytes(), key))
     }
 
     /// Calls `write` with the archive and the position of the next value, and returns the position.
@@ -259,13 +255,9 @@ impl<'a, K: Element, V: Element, H, W> ValuesMut<'a, K, V, H, W> {
         ensures inside { IfSome result (LiesIn V.spec) }
         ensures first { LendsFirstValue K.spec V.spec (entries_of self.old) result }
     {
-        match self.next_pos() {
-            Some(pos) => {
-                let bytes = self.pairs.entries.bytes_mut();
-                Some(Seal::over(bytes, pos as usize))
-            }
-            None => None,
-        }
+        let pos = self.next_pos()?;
+        let bytes = self.pairs.entries.bytes_mut();
+        Some(Seal::over(bytes, pos as usize))
     }
 }
 

@@ -107,10 +107,7 @@ impl<'a, K: KeyElement, V: Element, H: KeyHasher, W: Width> ArchivedHashMap<'a, 
         ensures walked { IfSome result (IsPairSeal W.word K.spec V.spec this.entry) }
         ensures at { IsPairSealAt result found }
     {
-        match found {
-            Some(pos) => Some(this.split_value(pos)),
-            None => None,
-        }
+        Some(this.split_value(found?))
     }
 
     /// Returns a seal of the value of the found key.
@@ -127,10 +124,7 @@ impl<'a, K: KeyElement, V: Element, H: KeyHasher, W: Width> ArchivedHashMap<'a, 
         ensures walked { IfSome result (IsValueSeal W.word K.spec V.spec this.entry) }
         ensures at { IsValueSealAt K.spec V.spec result found }
     {
-        match found {
-            Some(pos) => Some(value_seal(this, pos)),
-            None => None,
-        }
+        Some(value_seal(this, found?))
     }
 }
 

@@ -72,8 +72,6 @@ pub fn make_ascii_uppercase_of<
         (query_of_value H.hasher K.key_calls K.represents (A.eq key.now)) result archive.new }
     ensures parts { WritesParts (map_to_texts_spec W.word K.spec) archive.old archive.new root }
 {
-    match ArchivedHashMap::<K, Text<W>, H, W>::value_pos_in(&*archive, root, key) {
-        Some(pos) => Some(uppercase_at::<W>(archive, pos as usize)),
-        None => None,
-    }
+    let pos = ArchivedHashMap::<K, Text<W>, H, W>::value_pos_in(&*archive, root, key)?;
+    Some(uppercase_at::<W>(archive, pos as usize))
 }

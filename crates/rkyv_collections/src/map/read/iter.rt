@@ -46,10 +46,8 @@ impl<'a, K: Element, V: Element, H, W> Iterator for Iter<'a, K, V, H, W> {
 
     #[inline]
     fn next(&mut self) -> Option<PairView<'a, K, V>> {
-        match self.entries.next_view() {
-            Some(entry) => Some((entry.key(), entry.value())),
-            None => None,
-        }
+        let entry = self.entries.next_view()?;
+        Some((entry.key(), entry.value()))
     }
 
     #[inline]
@@ -90,10 +88,8 @@ impl<'a, K: Element, V: Element, H, W> Iterator for Keys<'a, K, V, H, W> {
 
     #[inline]
     fn next(&mut self) -> Option<View<'a, K>> {
-        match self.pairs.next() {
-            Some((key, _)) => Some(key),
-            None => None,
-        }
+        let (key, _) = self.pairs.next()?;
+        Some(key)
     }
 
     #[inline]
@@ -134,10 +130,8 @@ impl<'a, K: Element, V: Element, H, W> Iterator for Values<'a, K, V, H, W> {
 
     #[inline]
     fn next(&mut self) -> Option<View<'a, V>> {
-        match self.pairs.next() {
-            Some((_, value)) => Some(value),
-            None => None,
-        }
+        let (_, value) = self.pairs.next()?;
+        Some(value)
     }
 
     #[inline]

@@ -45,10 +45,8 @@ pub(crate) fn found_pair<'a, K: Element, V: Element>(
     requires { IfSome found (IsValidView (entry_spec K.spec V.spec)) }
     ensures { IsPairOfEntry K.spec V.spec result found.entry }
 {
-    match found {
-        Some(entry) => Some((entry.key(), entry.value())),
-        None => None,
-    }
+    let entry = found?;
+    Some((entry.key(), entry.value()))
 }
 
 /// Returns the value of a found entry.
@@ -59,10 +57,7 @@ pub(crate) fn found_value<'a, K: Element, V: Element>(
     requires { IfSome found (IsValidView (entry_spec K.spec V.spec)) }
     ensures { IsValueOfEntry K.spec V.spec result found.entry }
 {
-    match found {
-        Some(entry) => Some(entry.value()),
-        None => None,
-    }
+    Some(found?.value())
 }
 
 // Every lookup is one call of `find`.

@@ -42,12 +42,8 @@ impl<A: KeyHash, B, H: KeyHasher, BK: Lend<A>, BV: Lend<B>, I: Iterator<Item = (
 
     #[inline]
     fn next(&mut self) -> Option<(u64, EntryAdapter<BK, BV, A, B>)> {
-        match self.pairs.next() {
-            Some((key, value)) => {
-                let hash = hash_value::<A, H>(key.lend());
-                Some((hash, EntryAdapter::new(key, value)))
-            }
-            None => None,
-        }
+        let (key, value) = self.pairs.next()?;
+        let hash = hash_value::<A, H>(key.lend());
+        Some((hash, EntryAdapter::new(key, value)))
     }
 }

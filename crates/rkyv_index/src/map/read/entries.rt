@@ -141,8 +141,5 @@ pub(crate) fn find_index<W: Width, F: Fn(usize) -> bool>(
         { accepts(read_index::<W>(item)) },
         strides,
     );
-    match found {
-        Some(item) => Some(read_index::<W>(item)),
-        None => None,
-    }
+    Some(read_index::<W>(found?))
 }

@@ -99,10 +99,8 @@ impl<'a, K: Element, V: Element> Iterator for Keys<'a, K, V> {
 
     #[inline]
     fn next(&mut self) -> Option<View<'a, K>> {
-        match self.pairs.next() {
-            Some((key, _)) => Some(key),
-            None => None,
-        }
+        let (key, _) = self.pairs.next()?;
+        Some(key)
     }
 
     #[inline]
@@ -143,10 +141,8 @@ impl<'a, K: Element, V: Element> Iterator for Values<'a, K, V> {
 
     #[inline]
     fn next(&mut self) -> Option<View<'a, V>> {
-        match self.pairs.next() {
-            Some((_, value)) => Some(value),
-            None => None,
-        }
+        let (_, value) = self.pairs.next()?;
+        Some(value)
     }
 
     #[inline]

@@ -100,13 +100,9 @@ impl<'a, K: KeyElement, V: Element, H: KeyHasher, W: Width> ArchivedIndexMap<'a,
         ensures { GetsBy full_part self.entry (hash_of H.hasher Q.calls key.now)
             (hash_at H.hasher K.key_calls) (F.post cmp key.entry) result }
     {
-        match self.find(key, cmp, &mut Strides::new()) {
-            Some(index) => {
-                let entry = self.entries().entry(index);
-                Some((index, entry.key(), entry.value()))
-            }
-            None => None,
-        }
+        let index = self.find(key, cmp, &mut Strides::new())?;
+        let entry = self.entries().entry(index);
+        Some((index, entry.key(), entry.value()))
     }
 
     /// Returns the index of the key that the query finds, and counts the strides it reads.
@@ -176,13 +172,9 @@ impl<'a, K: KeyElement, V: Element, H: KeyHasher, W: Width> ArchivedIndexMap<'a,
         ensures { GetsKey full_part self.entry
             (query_of H.hasher K.key_calls K.same (Q.calls key.now) (Q.fits key.now)) result }
     {
-        match self.find_key(key) {
-            Some(index) => {
-                let entry = self.entries().entry(index);
-                Some((index, entry.key(), entry.value()))
-            }
-            None => None,
-        }
+        let index = self.find_key(key)?;
+        let entry = self.entries().entry(index);
+        Some((index, entry.key(), entry.value()))
     }
 
     /// Returns the pair at a found index.

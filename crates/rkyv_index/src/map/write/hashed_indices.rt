@@ -78,14 +78,9 @@ impl<'a, U: HashedEntry<H>, H, W: IndexMapWidth> Iterator for HashedIndices<'a, 
 
     #[inline]
     fn next(&mut self) -> Option<(u64, W::Place)> {
-        match self.values.next() {
-            Some(value) => {
-                let hash = value.hash();
-                let index = W::to_index(self.index);
-                self.index += 1;
-                Some((hash, index))
-            }
-            None => None,
-        }
+        let hash = self.values.next()?.hash();
+        let index = W::to_index(self.index);
+        self.index += 1;
+        Some((hash, index))
     }
 }

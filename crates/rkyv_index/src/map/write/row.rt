@@ -5,7 +5,6 @@ ghost use Rattle.rkyv_base.specs.Writing.{end_of};
 ghost use Rattle.rkyv_index.specs.Index.Row.{SerializesRow, WritesRow, row_of};
 
 use rkyv_base::archive::{Archive, Serialize, WriteResult};
-use rkyv_base::errors::WriteError;
 use rkyv_base::width::Width;
 use rkyv_base::writer::{Writer, append_in};
 use std::alloc::Global;
@@ -48,10 +47,7 @@ pub(crate) fn write_row<W: Width, S: Writer, U: Archive<W>>(
             Some(resolver) => resolver,
             None => unreachable!(),
         };
-        match value.resolve(resolver, serializer.pos(), scratch) {
-            Ok(()) => {}
-            Err(_) => return Err(WriteError::DistanceTooLarge),
-        }
+        value.resolve(resolver, serializer.pos(), scratch)?;
         append_in::<W, S>(serializer, scratch)?;
     }
     Ok(())

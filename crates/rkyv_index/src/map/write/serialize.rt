@@ -141,10 +141,7 @@ impl<'a, K: KeyElement, V: Element, H: KeyHasher, W: IndexMapWidth> ArchivedInde
                 return Err(WriteError::CapacityTooLarge { len });
             }
         }
-        let room = match Room::new(alloc, len, Entry::<K, V>::size()) {
-            Ok(room) => room,
-            Err(_) => return Err(WriteError::Memory),
-        };
+        let room = Room::new(alloc, len, Entry::<K, V>::size())?;
         let mut entries = room.entries;
         let mut scratch = room.scratch;
         let resolvers = room.resolvers;

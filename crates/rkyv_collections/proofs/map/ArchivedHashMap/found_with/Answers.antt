@@ -4,13 +4,13 @@ use Rattle.rkyv_collections.proofs.SealedMap.{satisfies_implied}
 use Rattle.rkyv_collections.proofs.map.ArchivedHashMap.found_with.Goals as goal
 
 pub write-requires : goal.write-requires
-write-requires g c = c.requires.callable _ c.in-Some.pos refl c.in-Some.ensures.inside
+write-requires g c = c.requires.callable _ c.in_ok-pos.pos refl c.in_ok-pos.ensures.inside
 
-pub returns-in-Some : goal.returns-in-Some
-returns-in-Some g c =
+pub returns : goal.returns
+returns g c =
     let met = c.write.ensures in
-    satisfies_implied _ _ _ _ (λ key_pos at. search (rules, found_written)) c.in-Some.ensures.finds
+    satisfies_implied _ _ _ _ (λ key_pos at. search (rules, found_written)) c.in_ok-pos.ensures.finds
 
-pub returns-in-None : goal.returns-in-None
-returns-in-None g c =
-    satisfies_implied _ _ _ _ (λ key_pos at. search (rules, nothing_written)) c.in-None.ensures.finds
+pub returns-in_err-pos : goal.returns-in_err-pos
+returns-in_err-pos g c =
+    satisfies_implied _ _ _ _ (λ key_pos at. rw c.from_residual.ensures (nothing_written (goal.F-post g) c.args.write c.args.archive.now _ at)) c.in_err-pos.ensures.finds

@@ -4,16 +4,16 @@ use Rattle.rkyv_collections.proofs.map.ArchivedHashMap.lend_value.Goals as goal
 
 pub value_seal-requires : goal.value_seal-requires
 value_seal-requires g c =
-    let pair = found_key_pos g.W.Word.word g.K.HasSpec.spec g.V.HasSpec.spec g.K.HasSpec.laws g.V.HasSpec.laws (archive_in c.args.this) (pos_in c.args.this) c.requires.map c.args.found c.in-Some.pos c.in-Some.is c.requires.found in
+    let pair = found_key_pos g.W.Word.word g.K.HasSpec.spec g.V.HasSpec.spec g.K.HasSpec.laws g.V.HasSpec.laws (archive_in c.args.this) (pos_in c.args.this) c.requires.map c.args.found c.in_ok-found.field-0 c.in_ok-found.was c.requires.found in
     pair.1.value.inside
 
-pub returns-in-Some-clause-walked : goal.returns-in-Some-clause-walked
-returns-in-Some-clause-walked g c =
-    let pair = found_key_pos g.W.Word.word g.K.HasSpec.spec g.V.HasSpec.spec g.K.HasSpec.laws g.V.HasSpec.laws (archive_in c.args.this) (pos_in c.args.this) c.requires.map c.args.found c.in-Some.pos c.in-Some.is c.requires.found in
+pub returns-clause-walked : goal.returns-clause-walked
+returns-clause-walked g c =
+    let pair = found_key_pos g.W.Word.word g.K.HasSpec.spec g.V.HasSpec.spec g.K.HasSpec.laws g.V.HasSpec.laws (archive_in c.args.this) (pos_in c.args.this) c.requires.map c.args.found c.in_ok-found.field-0 c.in_ok-found.was c.requires.found in
     let e = c.value_seal.ensures.at in
-    (pair.0, record { key = c.in-Some.pos; at = pair.1; bytes = e.bytes; pos = e.pos })
+    (pair.0, record { key = c.in_ok-found.field-0; at = pair.1; bytes = e.bytes; pos = e.pos })
 
-pub returns-in-Some-clause-viewable : goal.returns-in-Some-clause-viewable
-returns-in-Some-clause-viewable g c =
-    let pair = found_key_pos g.W.Word.word g.K.HasSpec.spec g.V.HasSpec.spec g.K.HasSpec.laws g.V.HasSpec.laws (archive_in c.args.this) (pos_in c.args.this) c.requires.map c.args.found c.in-Some.pos c.in-Some.is c.requires.found in
+pub returns-clause-viewable : goal.returns-clause-viewable
+returns-clause-viewable g c =
+    let pair = found_key_pos g.W.Word.word g.K.HasSpec.spec g.V.HasSpec.spec g.K.HasSpec.laws g.V.HasSpec.laws (archive_in c.args.this) (pos_in c.args.this) c.requires.map c.args.found c.in_ok-found.field-0 c.in_ok-found.was c.requires.found in
     rw (c.value_seal.ensures.at.bytes, c.value_seal.ensures.at.pos) pair.1.value

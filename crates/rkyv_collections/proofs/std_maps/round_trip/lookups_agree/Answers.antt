@@ -1,8 +1,9 @@
 use Rattle.std.proofs.Common.{ℕ, ◌-◌, subst, sym, length, List}
-use Rattle.std.specs.Borrow.{Bor}
+use Rattle.std.proofs.lemmas.Result.{err_from_is_err_and}
 use Rattle.rkyv_base.specs.Access.{IsValidArchive}
 use Rattle.rkyv_base.specs.Lemmas.Entry.{entry_element}
 use Rattle.rkyv_base.specs.View.{bytes_of, pos_of}
+use Rattle.rkyv_base.proofs.AtViews.{back_at}
 use Rattle.rkyv_keys.specs.Calls.{hash_of}
 use Rattle.rkyv_table.specs.Lemmas.TableLaws.{table_element}
 use Rattle.rkyv_collections.specs.Map.MapSpec.{map_spec}
@@ -19,22 +20,24 @@ returns-clause-same g c =
     let s = map_spec w g.A.Archived.HasSpec.spec g.B.Archived.HasSpec.spec in
     let kl = g.A.Archived.HasSpec.laws in
     let vl = g.B.Archived.HasSpec.laws in
-    let b : List ℕ = c.in-Ok.bytes.items in
+    let b : List ℕ = c.in_ok-bytes.bytes.items in
     let finds_at : List ℕ → ℕ → Type 0 = λ b p. FindsFirstAccepted w g.A.Archived.HasSpec.spec (hash_of g.H.KeyHasher.hasher g.A.KeyHash.calls) g.A.Query.fits g.B.Archived.HasSpec.spec g.B.Archived.MatchesNative.equals b p key (g.A.PartialEq.eq key) c.args.map.now.map.entries in
     let at = root_keeps g.W.Width.LIMIT s (table_element w g.met.W.Width.layout.kind _ (entry_element _ _ kl vl)) _ _
     (entries_looked_up g.H.KeyHasher.hasher g.met.H.KeyHasher.fits w g.met.W.Width.layout.kind g.W.Width.MAX_CAPACITY kl vl met.Query.query met.Query.query met.NativeKey.native met.Eq.laws.refl met.NativeKey.reads
     met.Archive.laws g.met.B.EqualsWritten.equal (λ x. x.map.entries))
-    c.args.map.now b (length b - s.size) c.in-Ok.ensures.2 in
+    c.args.map.now b (length b - s.size) c.in_ok-bytes.ensures.2 in
     let found : finds_at b (length b - s.size) = at key (g.A.PartialEq.eq key) (met.NativeKey.reads key) (λ a q valid there. met.NativeKey.native key a b q valid there) in
-    let root = c.in-Ok-access_in.ensures.root.1 in
-    let read = c.as_slice.result in
     let here = subst (λ (xs : List ℕ). finds_at xs (length xs - s.size)) (sym c.as_slice.ensures.value) found in
-    let there = subst (λ (a : Bor (List ℕ)). finds_at a.now (length read.now - s.size)) (sym root.0) here in
-    let at_root = subst (λ (q : ℕ). finds_at c.in-Ok-access_in.root.archive.now q) (sym root.1) there in
+    let at_root = back_at c.in-Ok.root c.as_slice.result _ c.in-Ok.ensures.root.1 finds_at here in
     c.agrees_on.ensures.1 (subst (λ view. finds_at (bytes_of view) (pos_of view)) (sym c.of.ensures.view) at_root)
 
 -- the written archive is accepted
-pub returns-in-Err-access_in-clause-same : goal.returns-in-Err-access_in-clause-same
-returns-in-Err-access_in-clause-same g c =
+pub returns-in-Err-clause-same : goal.returns-in-Err-clause-same
+returns-in-Err-clause-same g c =
     let s = map_spec g.W.Word.word g.A.Archived.HasSpec.spec g.B.Archived.HasSpec.spec in
-    c.in-Err-access_in.ensures.accepts (subst (IsValidArchive g.W.Width.LIMIT s) (sym c.as_slice.ensures.value) c.in-Ok.ensures.0)
+    c.in-Err.ensures.accepts (subst (IsValidArchive g.W.Width.LIMIT s) (sym c.as_slice.ensures.value) c.in_ok-bytes.ensures.0)
+
+pub returns-in_err-bytes-clause-error : goal.returns-in_err-bytes-clause-error
+returns-in_err-bytes-clause-error g c =
+    let p = err_from_is_err_and c.from_residual.result c.from_residual.ensures.1 in
+    rw (p.1, p.2) c.in_err-bytes.ensures

@@ -13,22 +13,22 @@ find_from-bucket-requires g c κs =
       callable = λ b full. ((refl, tt), (read_walked g.T.HasSpec.laws c.args.self read c.controls.ensures b full, c.requires.callable));
     }
 
-pub returns-in-Some : goal.returns-in-Some
-returns-in-Some g c =
-    let post = goal.F-post g c.args.cmp in
-    record {
-      found = item_found post g.G.GroupKind.kind g.met.G.GroupKind.lawful g.T.HasSpec.laws c.args.self _ c.controls.ensures c.args.hash c.ranges.hash.fits _ _ _ (λ i r e. e)
-          (Some c.in-Some.bucket) c.in-Some.ensures c.in-Some.bucket refl c.item.result c.item.ensures;
-      counts = strides_counted post g.G.GroupKind.kind g.met.G.GroupKind.lawful g.T.HasSpec.laws c.args.self _ c.controls.ensures c.args.hash c.ranges.hash.fits _ _ _ (λ i r e. e)
-          (Some c.in-Some.bucket) c.in-Some.ensures;
-    }
-
 pub returns : goal.returns
 returns g c =
     let post = goal.F-post g c.args.cmp in
     record {
-      found = none_found post g.G.GroupKind.kind g.met.G.GroupKind.lawful g.T.HasSpec.laws c.args.self _ c.controls.ensures c.args.hash c.ranges.hash.fits _ _ _ (λ i r e. e)
-          None c.in-None.ensures refl;
+      found = item_found post g.G.GroupKind.kind g.met.G.GroupKind.lawful g.T.HasSpec.laws c.args.self _ c.controls.ensures c.args.hash c.ranges.hash.fits _ _ _ (λ i r e. e)
+          (Some c.in_ok-bucket.field-0) c.in_ok-bucket.ensures c.in_ok-bucket.field-0 refl c.item.result c.item.ensures;
       counts = strides_counted post g.G.GroupKind.kind g.met.G.GroupKind.lawful g.T.HasSpec.laws c.args.self _ c.controls.ensures c.args.hash c.ranges.hash.fits _ _ _ (λ i r e. e)
-          None c.in-None.ensures;
+          (Some c.in_ok-bucket.field-0) c.in_ok-bucket.ensures;
     }
+
+pub returns-in_err-bucket : goal.returns-in_err-bucket
+returns-in_err-bucket g c =
+    let post = goal.F-post g c.args.cmp in
+    rw c.from_residual.ensures (record {
+      found = none_found post g.G.GroupKind.kind g.met.G.GroupKind.lawful g.T.HasSpec.laws c.args.self _ c.controls.ensures c.args.hash c.ranges.hash.fits _ _ _ (λ i r e. e)
+          None c.in_err-bucket.ensures refl;
+      counts = strides_counted post g.G.GroupKind.kind g.met.G.GroupKind.lawful g.T.HasSpec.laws c.args.self _ c.controls.ensures c.args.hash c.ranges.hash.fits _ _ _ (λ i r e. e)
+          None c.in_err-bucket.ensures;
+    })

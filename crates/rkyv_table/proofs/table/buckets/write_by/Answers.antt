@@ -24,26 +24,27 @@ fill_bucket-requires-clause-some g c =
     let e = down_read g.U.Archived.HasSpec.spec.size g.W.Width.LIMIT (written_as g.X.Lend.lent g.U.Archive.format) c.args.slots.now c.args.resolvers.items (g.S.Writer.output c.args.serializer.now) (c.loop-above.above - 1) c.loop-above.rest.items (g.S.Writer.output c.loop-above.serializer) (g.S.Writer.output c.loop-above.serializer) d c.index-slots-above.result c.index-slots-above.is in
     down_rooms g.U.Archived.HasSpec.spec.size g.W.Width.LIMIT (written_as g.X.Lend.lent g.U.Archive.format) c.args.slots.now c.args.resolvers.items (g.S.Writer.output c.args.serializer.now) (c.loop-above.above - 1) c.loop-above.rest.items (g.S.Writer.output c.loop-above.serializer) (g.S.Writer.output c.loop-above.serializer) d c.index-slots-above.result e
 
-pub returns-in-Err-clause-writes : goal.returns-in-Err-clause-writes
-returns-in-Err-clause-writes g c =
-    let d = down_here g (goal.at.returns-in-Err-clause-writes g c).In-loop-above in
+pub returns-in_err-fill_bucket-clause-writes : goal.returns-in_err-fill_bucket-clause-writes
+returns-in_err-fill_bucket-clause-writes g c =
+    let d = down_here g (goal.at.returns-in_err-fill_bucket-clause-writes g c).In-loop-above in
     let e = down_read g.U.Archived.HasSpec.spec.size g.W.Width.LIMIT (written_as g.X.Lend.lent g.U.Archive.format) c.args.slots.now c.args.resolvers.items (g.S.Writer.output c.args.serializer.now) (c.loop-above.above - 1) c.loop-above.rest.items (g.S.Writer.output c.loop-above.serializer) (g.S.Writer.output c.loop-above.serializer) d c.index-slots-above.result c.index-slots-above.is in
-    overflow_fails g.U.Archived.HasSpec.spec.size g.W.Width.LIMIT (written_as g.X.Lend.lent g.U.Archive.format) c.args.slots.now c.args.resolvers.items (g.S.Writer.output c.args.serializer.now) (c.loop-above.above - 1) c.loop-above.rest.items (g.S.Writer.output c.loop-above.serializer) (g.S.Writer.output c.loop-above.serializer) d c.index-slots-above.result e (rw c.pos.ensures at c.in-Err.ensures.writes)
+    let p = err_from_is_err_and c.from_residual.result c.from_residual.ensures.1 in
+    rw (p.1, p.2) (overflow_fails g.U.Archived.HasSpec.spec.size g.W.Width.LIMIT (written_as g.X.Lend.lent g.U.Archive.format) c.args.slots.now c.args.resolvers.items (g.S.Writer.output c.args.serializer.now) (c.loop-above.above - 1) c.loop-above.rest.items (g.S.Writer.output c.loop-above.serializer) (g.S.Writer.output c.loop-above.serializer) d c.index-slots-above.result e (rw c.pos.ensures at c.in_err-fill_bucket.ensures.writes))
 
 pub returns-in_err-append_in-clause-writes : goal.returns-in_err-append_in-clause-writes
 returns-in_err-append_in-clause-writes g c =
     let d = down_here g (goal.at.returns-in_err-append_in-clause-writes g c).In-loop-above in
     let e = down_read g.U.Archived.HasSpec.spec.size g.W.Width.LIMIT (written_as g.X.Lend.lent g.U.Archive.format) c.args.slots.now c.args.resolvers.items (g.S.Writer.output c.args.serializer.now) (c.loop-above.above - 1) c.loop-above.rest.items (g.S.Writer.output c.loop-above.serializer) (g.S.Writer.output c.append_in.new.serializer) d c.index-slots-above.result c.index-slots-above.is in
-    let p = err_from_is_err_and c.from_residual.result c.from_residual.ensures.1 in
-    rw (p.1, p.2) (bucket_fails g.U.Archived.HasSpec.spec.size g.W.Width.LIMIT (written_as g.X.Lend.lent g.U.Archive.format) c.args.slots.now c.args.resolvers.items (g.S.Writer.output c.args.serializer.now) (c.loop-above.above - 1) c.loop-above.rest.items (g.S.Writer.output c.loop-above.serializer) (g.S.Writer.output c.append_in.new.serializer) d c.index-slots-above.result e c.fill_bucket.new.rest.items c.fill_bucket.new.bucket c.in_err-append_in.field-0.0 (rw c.pos.ensures at c.in-Ok.ensures.writes) c.in_err-append_in.ensures)
+    let p = err_from_is_err_and c.from_residual-in_err-append_in.result c.from_residual-in_err-append_in.ensures.1 in
+    rw (p.1, p.2) (bucket_fails g.U.Archived.HasSpec.spec.size g.W.Width.LIMIT (written_as g.X.Lend.lent g.U.Archive.format) c.args.slots.now c.args.resolvers.items (g.S.Writer.output c.args.serializer.now) (c.loop-above.above - 1) c.loop-above.rest.items (g.S.Writer.output c.loop-above.serializer) (g.S.Writer.output c.append_in.new.serializer) d c.index-slots-above.result e c.fill_bucket.new.rest.items c.fill_bucket.new.bucket c.in_err-append_in.field-0.0 (rw c.pos.ensures at c.in_ok-fill_bucket.ensures.writes) c.in_err-append_in.ensures)
 
 pub loop-above-preserved : goal.loop-above-preserved
 loop-above-preserved g c =
     let d = down_here g (goal.at.loop-above-preserved g c).In-loop-above in
     let e = down_read g.U.Archived.HasSpec.spec.size g.W.Width.LIMIT (written_as g.X.Lend.lent g.U.Archive.format) c.args.slots.now c.args.resolvers.items (g.S.Writer.output c.args.serializer.now) (c.loop-above.above - 1) c.loop-above.rest.items (g.S.Writer.output c.loop-above.serializer) (g.S.Writer.output c.append_in.new.serializer) d c.index-slots-above.result c.index-slots-above.is in
     record {
-      down = down_step g.U.Archived.HasSpec.spec.size g.W.Width.LIMIT (written_as g.X.Lend.lent g.U.Archive.format) c.args.slots.now c.args.resolvers.items (g.S.Writer.output c.args.serializer.now) (c.loop-above.above - 1) c.loop-above.rest.items (g.S.Writer.output c.loop-above.serializer) (g.S.Writer.output c.append_in.new.serializer) d c.index-slots-above.result c.fill_bucket.new.rest.items c.fill_bucket.new.bucket e (rw c.pos.ensures at c.in-Ok.ensures.writes) c.in-Ok.ensures.kept c.in_ok-append_in.ensures.0 c.in_ok-append_in.ensures.1;
-      room = c.in-Ok.ensures.kept;
+      down = down_step g.U.Archived.HasSpec.spec.size g.W.Width.LIMIT (written_as g.X.Lend.lent g.U.Archive.format) c.args.slots.now c.args.resolvers.items (g.S.Writer.output c.args.serializer.now) (c.loop-above.above - 1) c.loop-above.rest.items (g.S.Writer.output c.loop-above.serializer) (g.S.Writer.output c.append_in.new.serializer) d c.index-slots-above.result c.fill_bucket.new.rest.items c.fill_bucket.new.bucket e (rw c.pos.ensures at c.in_ok-fill_bucket.ensures.writes) c.in_ok-fill_bucket.ensures.kept c.in_ok-append_in.ensures.0 c.in_ok-append_in.ensures.1;
+      room = c.in_ok-fill_bucket.ensures.kept;
     }
 
 pub returns-clause-writes : goal.returns-clause-writes

@@ -1,5 +1,5 @@
 use Rattle.std.proofs.Common.{refl}
 use Rattle.rkyv_collections.proofs.map.read.lookup.found_value.Goals as goal
 
-pub returns-in-Some : goal.returns-in-Some
-returns-in-Some g c = rw c.in-Some.is (c.value.result, refl, c.value.ensures.at, c.value.ensures.viewable)
+pub returns : goal.returns
+returns g c = rw c.in_ok-found.was (c.value.result, refl, c.value.ensures.at, c.value.ensures.viewable)
