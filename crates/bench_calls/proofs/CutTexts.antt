@@ -3,10 +3,9 @@ use Rattle.std.proofs.Common.{◌≡◌, ℕ, List}
 use Rattle.std.specs.Borrow.{Bor}
 use Rattle.std.specs.Iterator.{YieldsFirstBy}
 use Rattle.std.specs.Slice.Iter.{iter_rest}
-use Rattle.rkyv_base.specs.View.{IsAt}
+use Rattle.rkyv_base.specs.{IsAt}
 use Rattle.rkyv_base.specs.declared.view.View.{View}
-use Rattle.bench_calls.specs.Cuts.{cut_from}
-use Rattle.bench_calls.specs.Totals.{CountsAll, total}
+use Rattle.bench_calls.specs.{CountsAll, cut_from, total}
 use Rattle.bench_calls.specs.declared.cuts.Cuts.{Cuts}
 use Rattle.bench_calls.proofs.Sums.{counted_at}
 

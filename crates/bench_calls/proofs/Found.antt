@@ -5,14 +5,11 @@ use Rattle.std.proofs.Common.{◌≡◌, ℕ, ◌+◌, ap, refl, ◌∙◌, Opti
 use Rattle.std.specs.Borrow.{Bor}
 use Rattle.std.specs.Int.{w32}
 use Rattle.std.specs.Prelude.{IfSome, List}
-use Rattle.rkyv_base.specs.Bytes.{number_at}
-use Rattle.rkyv_base.specs.Entry.{value_offset}
-use Rattle.rkyv_base.specs.ElementSpec.{ElementSpec}
+use Rattle.rkyv_base.specs.{ElementSpec, number_at, value_offset}
 use Rattle.rkyv_base.specs.declared.view.View.{View}
-use Rattle.rkyv_collections.specs.Map.{IsValueAt, IsValueIn, map_bytes}
+use Rattle.rkyv_collections.specs.{IsValueAt, IsValueIn, map_bytes}
 use Rattle.rkyv_collections.specs.declared.map.ArchivedHashMap.{ArchivedHashMap}
-use Rattle.bench_calls.specs.Archives.{number_spec}
-use Rattle.bench_calls.specs.Totals.{found_number, value_or_miss}
+use Rattle.bench_calls.specs.{found_number, number_spec, value_or_miss}
 
 pub map_found_number : {K V H W : Type 0} {ks : Specs K} {vs : Specs V} {wt : Words W} (key : ElementSpec) (m : ArchivedHashMap K V H W ks vs wt) (found : Option (View V)) (key_pos : Option ℕ) → IfSome found (IsValueIn m) → IsValueAt key number_spec found key_pos
     → found_number found ≡ value_or_miss key (map_bytes m) key_pos

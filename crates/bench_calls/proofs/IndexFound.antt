@@ -4,16 +4,11 @@ use Rattle.rkyv_base.specs.declared.width.Word.{Ghosts as Words}
 use Rattle.std.proofs.Common.{◌≡◌, ℕ, ◌+◌, ◌∙◌, ap, List, Option, None, Some}
 use Rattle.std.specs.Borrow.{Bor}
 use Rattle.std.specs.Int.{w32}
-use Rattle.rkyv_base.specs.Bytes.{number_at}
-use Rattle.rkyv_base.specs.Entry.{entry_spec, value_offset}
-use Rattle.rkyv_base.specs.View.{pos_of}
+use Rattle.rkyv_base.specs.{entry_spec, number_at, pos_of, value_offset}
 use Rattle.rkyv_base.specs.declared.view.View.{View}
-use Rattle.rkyv_index.specs.Index.{IsValueAt, index_bytes, index_pos, key_pos}
-use Rattle.rkyv_index.specs.Index.IndexLayout.{pair_pos}
+use Rattle.rkyv_index.specs.{IsValueAt, index_bytes, index_pos, key_pos, pair_pos}
 use Rattle.rkyv_index.specs.declared.map.ArchivedIndexMap.{ArchivedIndexMap}
-use Rattle.bench_calls.specs.Archives.{number_spec}
-use Rattle.bench_calls.specs.Index.{index_key_pos, indexed_value_or_miss}
-use Rattle.bench_calls.specs.Totals.{found_number}
+use Rattle.bench_calls.specs.{found_number, index_key_pos, indexed_value_or_miss, number_spec}
 
 module _ {K V H W : Type 0} {ks : Specs K} {vs : Specs V} {wt : Words W} (m : ArchivedIndexMap K V H W ks vs wt) (word : wt.word ≡ w32) (spec : vs.spec ≡ number_spec) where
   -- the position of the value at an index, in a narrow archive of numbers

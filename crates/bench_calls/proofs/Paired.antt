@@ -4,14 +4,9 @@ use Rattle.std.specs.Borrow.{Bor}
 use Rattle.std.specs.Iterator.{Drains, YieldsFirstBy}
 use Rattle.std.specs.List.{zip}
 use Rattle.std.specs.Slice.Iter.{iter_rest}
-use Rattle.rkyv_base.specs.Format.{Format, SerializeFails, Serialized}
-use Rattle.rkyv_base.specs.Pairs.{written_as}
-use Rattle.rkyv_base.specs.Writing.{Output}
+use Rattle.rkyv_base.specs.{Format, Output, SerializeFails, Serialized, written_as}
 use Rattle.rkyv_base.specs.declared.errors.WriteError.{WriteError}
-use Rattle.rkyv_table.specs.Table.Counting.{YieldsOtherCount}
-use Rattle.rkyv_table.specs.Table.ItemValues.{pair_values}
-use Rattle.rkyv_table.specs.Table.Listed.{listed}
-use Rattle.rkyv_table.specs.Table.Serializing.{WriteItemsFails, WroteItems}
+use Rattle.rkyv_table.specs.{WriteItemsFails, WroteItems, YieldsOtherCount, listed, pair_values}
 use Rattle.rkyv_table.proofs.Listing.{all_came, no_other_came, results_listed}
 use Rattle.bench_calls.specs.declared.building.Both.{Both}
 

@@ -8,9 +8,9 @@ use Rattle.std.specs.Iterator.{Drains, Yields}
 use Rattle.std.specs.List.{sum, sum_by}
 use Rattle.std.specs.Slice.Iter.{iter_rest, iter_steps}
 use Rattle.std.specs.declared.slice.Iter.{Iter}
-use Rattle.rkyv_base.specs.View.{IsAt}
+use Rattle.rkyv_base.specs.{IsAt}
 use Rattle.rkyv_base.specs.declared.view.View.{View}
-use Rattle.bench_calls.specs.Totals.{CountsAll, total}
+use Rattle.bench_calls.specs.{CountsAll, total}
 
 -- the sum of a function of an image of each item
 pub sum_of_images : {A B : Type 0} (view : A → B) (count : B → ℕ) (xs : List A) → sum_by (λ x. count (view x)) xs ≡ sum_by count (map view xs)

@@ -2,14 +2,10 @@
 use Rattle.std.proofs.Common.{◌≡◌, ℕ, ◌+◌, ◌%◌, ◌^◌, ◌∙◌, ap, sym, List, [], ◌∷◌, map, Some}
 use Rattle.std.specs.Borrow.{Bor}
 use Rattle.std.specs.Int.{w32}
-use Rattle.rkyv_base.specs.Bytes.{number_at}
-use Rattle.rkyv_base.specs.ElementSpec.{ElementSpec}
-use Rattle.rkyv_base.specs.View.{IsAt}
+use Rattle.rkyv_base.specs.{ElementSpec, IsAt, number_at}
 use Rattle.rkyv_base.specs.declared.view.View.{View}
-use Rattle.rkyv_table.specs.Table.PairWalks.{IsAtEnd, YieldsPair}
-use Rattle.rkyv_table.specs.Table.RawItems.{ItemsLeft}
-use Rattle.bench_calls.specs.Archives.{number_spec}
-use Rattle.bench_calls.specs.Totals.{CountsAll, pair_weight, total, view_pair_weight}
+use Rattle.rkyv_table.specs.{IsAtEnd, ItemsLeft, YieldsPair}
+use Rattle.bench_calls.specs.{CountsAll, number_spec, pair_weight, total, view_pair_weight}
 use Rattle.bench_calls.proofs.Sums.{counted_all, sum_of_images}
 
 -- the weights of the remaining pairs

@@ -4,15 +4,10 @@ use Rattle.rkyv_base.specs.declared.width.Word.{Ghosts as Words}
 use Rattle.std.specs.Prelude.{◌≡◌, ℕ, ◌+◌, ◌-◌, ◌⊎◌, List, length}
 use Rattle.std.specs.Borrow.{Bor}
 use Rattle.std.specs.Int.{w32}
-use Rattle.rkyv_base.specs.Access.{IsValidArchive}
-use Rattle.rkyv_base.specs.Numbers.{unsigned}
-use Rattle.rkyv_base.specs.Scalar.{scalar_spec}
-use Rattle.rkyv_base.specs.ElementSpec.{ElementSpec}
-use Rattle.rkyv_base.specs.Text.{text_spec}
-use Rattle.rkyv_base.specs.View.{IsAt}
-use Rattle.rkyv_collections.specs.Map.MapSpec.{map_spec}
+use Rattle.rkyv_base.specs.{ElementSpec, IsAt, IsValidArchive, scalar_spec, text_spec, unsigned}
+use Rattle.rkyv_collections.specs.{map_spec}
 use Rattle.rkyv_collections.specs.declared.map.ArchivedHashMap.{ArchivedHashMap}
-use Rattle.rkyv_table.specs.Table.Header.{len_at}
+use Rattle.rkyv_table.specs.{len_at}
 
 -- the spec of a number of 32 bits
 abbrev pub number_spec : ElementSpec

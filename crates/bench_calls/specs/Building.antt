@@ -3,15 +3,10 @@ use Rattle.std.specs.Borrow.{Bor}
 use Rattle.std.specs.List.{zip}
 use Rattle.std.specs.Prelude.{◌≡◌, ℕ, ◌<◌, ◌⊎◌, List, ◌++◌, length, drop, map}
 use Rattle.std.specs.Int.{w32}
-use Rattle.rkyv_base.specs.Bytes.{number_at}
-use Rattle.rkyv_base.specs.Numbers.{unsigned}
-use Rattle.rkyv_base.specs.Pairs.{written_as}
-use Rattle.rkyv_base.specs.Root.{ArchiveOf}
-use Rattle.rkyv_base.specs.Scalar.{ScalarRepresents, scalar_format}
-use Rattle.rkyv_base.specs.Text.{TextReads, text_at}
-use Rattle.rkyv_base.specs.TextWriting.{text_format}
-use Rattle.rkyv_table.specs.Table.Listed.{listed}
-use Rattle.rkyv_collections.specs.Map.MapFormat.{MapRepresents, map_format}
+use Rattle.rkyv_base.specs.{ArchiveOf, ScalarRepresents, TextReads, number_at, scalar_format}
+use Rattle.rkyv_base.specs.{text_at, text_format, unsigned, written_as}
+use Rattle.rkyv_table.specs.{listed}
+use Rattle.rkyv_collections.specs.{MapRepresents, map_format}
 use Rattle.bench_calls.specs.Archives.{map_of, narrow_text_spec, number_spec}
 use Rattle.bench_calls.specs.Totals.{number_hash, text_hash}
 

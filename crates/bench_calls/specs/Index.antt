@@ -6,20 +6,12 @@ use Rattle.std.specs.Prelude.{Some}
 use Rattle.std.specs.Borrow.{Bor}
 use Rattle.std.specs.Int.{w32}
 use Rattle.std.specs.List.{zip}
-use Rattle.rkyv_base.specs.Access.{IsValidArchive}
-use Rattle.rkyv_base.specs.Bytes.{number_at}
-use Rattle.rkyv_base.specs.Entry.{entry_spec, value_offset}
-use Rattle.rkyv_base.specs.Numbers.{unsigned}
-use Rattle.rkyv_base.specs.Root.{ArchiveOf}
-use Rattle.rkyv_base.specs.Scalar.{ScalarRepresents, scalar_format}
-use Rattle.rkyv_base.specs.ElementSpec.{ElementSpec}
-use Rattle.rkyv_base.specs.View.{IsAt}
-use Rattle.rkyv_scan.specs.Hash.{HasherCall}
-use Rattle.rkyv_table.specs.Table.Header.{len_at}
-use Rattle.rkyv_table.specs.Table.Listed.{listed}
-use Rattle.rkyv_index.specs.Index.{index_bytes, index_found, index_pos, pair_positions}
-use Rattle.rkyv_index.specs.Index.IndexFormat.{IndexRepresents, index_format}
-use Rattle.rkyv_index.specs.Index.IndexLayout.{index_spec, pair_pos}
+use Rattle.rkyv_base.specs.{ArchiveOf, ElementSpec, IsAt, IsValidArchive, ScalarRepresents}
+use Rattle.rkyv_base.specs.{entry_spec, number_at, scalar_format, unsigned, value_offset}
+use Rattle.rkyv_scan.specs.{HasherCall}
+use Rattle.rkyv_table.specs.{len_at, listed}
+use Rattle.rkyv_index.specs.{IndexRepresents, index_bytes, index_format, index_found, index_pos}
+use Rattle.rkyv_index.specs.{index_spec, pair_pos, pair_positions}
 use Rattle.rkyv_index.specs.declared.map.ArchivedIndexMap.{ArchivedIndexMap}
 use Rattle.bench_calls.specs.Archives.{IsAnd1, number_spec}
 use Rattle.bench_calls.specs.Totals.{hash_by, is_number, number_calls, number_hash}

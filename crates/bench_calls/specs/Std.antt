@@ -3,9 +3,8 @@ use Rattle.std.specs.Prelude.{◌≡◌, ℕ, ◌==◌, ◌⊎◌, List, None, l
 use Rattle.std.specs.Int.{w32}
 use Rattle.std.specs.List.{zip}
 use Rattle.std.specs.Map.{lookup, update_all}
-use Rattle.rkyv_base.specs.Numbers.{unsigned}
-use Rattle.rkyv_base.specs.Scalar.{ScalarRepresents}
-use Rattle.rkyv_collections.specs.StdMaps.StdMap.{EntriesRepresent}
+use Rattle.rkyv_base.specs.{ScalarRepresents, unsigned}
+use Rattle.rkyv_collections.specs.{EntriesRepresent}
 use Rattle.bench_calls.specs.Archives.{IsArchive, number_spec, root}
 
 -- `entries` are those of the map in the archive `b`, each key once

@@ -6,19 +6,12 @@ use Rattle.std.specs.Prelude.{Some, ◌≡◌}
 use Rattle.std.specs.Int.{w32}
 use Rattle.std.specs.Iterator.{Drains}
 use Rattle.std.specs.List.{sum_by}
-use Rattle.rkyv_base.specs.Bytes.{number_at}
-use Rattle.rkyv_base.specs.Entry.{entry_spec, value_offset}
-use Rattle.rkyv_base.specs.ElementSpec.{ElementSpec}
-use Rattle.rkyv_base.specs.Text.{text_at}
-use Rattle.rkyv_base.specs.View.{IsValidView}
+use Rattle.rkyv_base.specs.{ElementSpec, IsValidView, entry_spec, number_at, text_at, value_offset}
 use Rattle.rkyv_base.specs.declared.view.View.{View}
-use Rattle.rkyv_keys.specs.Calls.{text_calls}
-use Rattle.rkyv_keys.specs.OfTexts.{same_bytes}
-use Rattle.rkyv_keys.specs.AtViews.{at_view}
-use Rattle.rkyv_scan.specs.Groups.{generic_kind}
-use Rattle.rkyv_scan.specs.Hash.{HasherCall, U32, fx_hash, low_halves}
-use Rattle.rkyv_table.specs.Table.Positions.{item_positions, pos_found}
-use Rattle.rkyv_collections.specs.Map.{map_bytes, map_pos}
+use Rattle.rkyv_keys.specs.{at_view, same_bytes, text_calls}
+use Rattle.rkyv_scan.specs.{HasherCall, U32, fx_hash, generic_kind, low_halves}
+use Rattle.rkyv_table.specs.{item_positions, pos_found}
+use Rattle.rkyv_collections.specs.{map_bytes, map_pos}
 use Rattle.rkyv_collections.specs.declared.map.ArchivedHashMap.{ArchivedHashMap}
 use Rattle.bench_calls.specs.Archives.{narrow_text_spec, number_spec, root}
 

@@ -3,7 +3,7 @@
 ghost use Rattle.std.specs.Iterator.{YieldsFirstBy, at_most};
 ghost use Rattle.std.specs.Prelude.{IfOk, length, map, slice_range, ◌≡◌};
 ghost use Rattle.std.specs.Slice.Iter.{iter_rest};
-ghost use Rattle.bench_calls.specs.Cuts.{AreTexts, AreTextsFrom, IsText, cut_from, texts};
+ghost use Rattle.bench_calls.specs.{AreTexts, AreTextsFrom, IsText, cut_from, texts};
 
 use std::alloc::{AllocError, Global};
 

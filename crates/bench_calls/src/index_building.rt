@@ -1,13 +1,11 @@
 //! Pairs that are archived as an index map.
 
 ghost use Rattle.std.specs.List.{zip};
-ghost use Rattle.rkyv_base.specs.Entry.{entry_spec};
-ghost use Rattle.rkyv_base.specs.Pairs.{written_as};
+ghost use Rattle.rkyv_base.specs.{entry_spec, written_as};
 ghost use Rattle.rkyv_base.specs.Lemmas.Pairs.{written_as-format};
-ghost use Rattle.rkyv_keys.specs.Calls.{hash_at, hash_of};
-ghost use Rattle.rkyv_table.specs.Table.Listed.{listed, listed_format};
-ghost use Rattle.rkyv_index.specs.Index.IndexFormat.{IndexRepresents, index_format};
-ghost use Rattle.rkyv_index.specs.Index.IndexLayout.{index_spec};
+ghost use Rattle.rkyv_keys.specs.{hash_at, hash_of};
+ghost use Rattle.rkyv_table.specs.{listed, listed_format};
+ghost use Rattle.rkyv_index.specs.{IndexRepresents, index_format, index_spec};
 ghost use Rattle.rkyv_index.specs.Lemmas.IndexLocal.{index_represents_local};
 ghost use Rattle.rkyv_index.specs.Lemmas.IndexSound.{index_sound};
 

@@ -1,11 +1,9 @@
 //! The calls for index maps of numbers to numbers.
 
 ghost use Rattle.std.specs.Prelude.{◌≡◌};
-ghost use Rattle.bench_calls.specs.Building.{IsBuilt};
-ghost use Rattle.bench_calls.specs.Index.{IndexesNumbers, IsIndexArchive, IsIndexAtRoot};
-ghost use Rattle.bench_calls.specs.Index.{IsIndexLengthAnd1, index_number_looked_up};
-ghost use Rattle.bench_calls.specs.Index.{index_walk_total};
-ghost use Rattle.bench_calls.specs.Totals.{total};
+ghost use Rattle.bench_calls.specs.{IndexesNumbers, IsBuilt, IsIndexArchive, IsIndexAtRoot};
+ghost use Rattle.bench_calls.specs.{IsIndexLengthAnd1, index_number_looked_up, index_walk_total};
+ghost use Rattle.bench_calls.specs.{total};
 
 use crate::building::{Pairs, build};
 use crate::index_building::IndexPairs;

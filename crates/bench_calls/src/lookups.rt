@@ -1,12 +1,11 @@
 //! Lookups of keys in maps and index maps.
 
 ghost use Rattle.std.specs.Prelude.{IfSome, List, ℕ, Bool, ◌≡◌};
-ghost use Rattle.rkyv_scan.specs.Hash.{HasherCall};
-ghost use Rattle.rkyv_base.specs.View.{IsValidView};
-ghost use Rattle.rkyv_keys.specs.AtViews.{at_view};
-ghost use Rattle.bench_calls.specs.Archives.{number_spec};
-ghost use Rattle.bench_calls.specs.Index.{index_map_looked_up};
-ghost use Rattle.bench_calls.specs.Totals.{found_number, map_looked_up, number_weight};
+ghost use Rattle.rkyv_scan.specs.{HasherCall};
+ghost use Rattle.rkyv_base.specs.{IsValidView};
+ghost use Rattle.rkyv_keys.specs.{at_view};
+ghost use Rattle.bench_calls.specs.{found_number, index_map_looked_up, map_looked_up, number_spec};
+ghost use Rattle.bench_calls.specs.{number_weight};
 
 use rkyv_base::view::View;
 use rkyv_collections::map::ArchivedHashMap;

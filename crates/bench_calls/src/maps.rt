@@ -1,6 +1,6 @@
 //! The maps of archives.
 
-ghost use Rattle.bench_calls.specs.Archives.{IsArchive, IsLengthAnd1, IsMapAtRoot};
+ghost use Rattle.bench_calls.specs.{IsArchive, IsLengthAnd1, IsMapAtRoot};
 
 use rkyv_base::access::{access, access_unchecked};
 use rkyv_base::element::Element;

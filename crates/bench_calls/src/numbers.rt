@@ -1,10 +1,9 @@
 //! The calls for maps of numbers to numbers.
 
 ghost use Rattle.std.specs.Prelude.{◌≡◌};
-ghost use Rattle.bench_calls.specs.Archives.{IsArchive, IsLengthAnd1, number_spec};
-ghost use Rattle.bench_calls.specs.Building.{IsBuilt, MapsNumbers};
-ghost use Rattle.bench_calls.specs.Totals.{number_hash, number_looked_up, number_weight};
-ghost use Rattle.bench_calls.specs.Totals.{total, walk_total};
+ghost use Rattle.bench_calls.specs.{IsArchive, IsBuilt, IsLengthAnd1, MapsNumbers, number_hash};
+ghost use Rattle.bench_calls.specs.{number_looked_up, number_spec, number_weight, total};
+ghost use Rattle.bench_calls.specs.{walk_total};
 
 use crate::building::{Pairs, build};
 use crate::maps::{length_and_1, map_in};

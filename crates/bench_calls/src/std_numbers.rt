@@ -3,9 +3,7 @@
 ghost use Rattle.std.specs.HashMap.{IsFromIterResult};
 ghost use Rattle.std.specs.List.{zip};
 ghost use Rattle.std.specs.Prelude.{IfOk};
-ghost use Rattle.bench_calls.specs.Archives.{IsArchive, number_spec};
-ghost use Rattle.bench_calls.specs.Building.{IsBuilt};
-ghost use Rattle.bench_calls.specs.Std.{IsReadBack, StdMapsNumbers};
+ghost use Rattle.bench_calls.specs.{IsArchive, IsBuilt, IsReadBack, StdMapsNumbers, number_spec};
 
 use crate::building::build;
 use crate::maps::map_in;

@@ -1,11 +1,9 @@
 //! The calls for maps of texts to numbers.
 
 ghost use Rattle.std.specs.Prelude.{◌≡◌};
-ghost use Rattle.bench_calls.specs.Archives.{IsArchive, IsLengthAnd1, narrow_text_spec};
-ghost use Rattle.bench_calls.specs.Building.{IsBuilt, MapsTexts};
-ghost use Rattle.bench_calls.specs.Cuts.{AreTexts, texts};
-ghost use Rattle.bench_calls.specs.Totals.{text_hash, text_looked_up, text_weight, total};
-ghost use Rattle.bench_calls.specs.Totals.{walk_total};
+ghost use Rattle.bench_calls.specs.{AreTexts, IsArchive, IsBuilt, IsLengthAnd1, MapsTexts};
+ghost use Rattle.bench_calls.specs.{narrow_text_spec, text_hash, text_looked_up, text_weight};
+ghost use Rattle.bench_calls.specs.{texts, total, walk_total};
 
 use crate::building::{Pairs, build};
 use crate::cuts::{cut, list};

@@ -1,8 +1,8 @@
 //! Sums modulo 2^64.
 
 ghost use Rattle.std.specs.Iterator.{IsFinite};
-ghost use Rattle.bench_calls.specs.Archives.{number_spec};
-ghost use Rattle.bench_calls.specs.Totals.{CountsAll, YieldsValidViews, hash_by, view_pair_weight};
+ghost use Rattle.bench_calls.specs.{CountsAll, YieldsValidViews, hash_by, number_spec};
+ghost use Rattle.bench_calls.specs.{view_pair_weight};
 
 use crate::lookups::{Lookup, number_in};
 use crate::weighing::Weigh;

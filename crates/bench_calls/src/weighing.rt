@@ -1,9 +1,9 @@
 //! The weight of a key in the sum of a walk.
 
 ghost use Rattle.std.specs.Prelude.{List, ℕ, ◌≡◌};
-ghost use Rattle.rkyv_base.specs.View.{IsValidView};
-ghost use Rattle.rkyv_keys.specs.AtViews.{at_view};
-ghost use Rattle.bench_calls.specs.Totals.{number_weight, text_weight};
+ghost use Rattle.rkyv_base.specs.{IsValidView};
+ghost use Rattle.rkyv_keys.specs.{at_view};
+ghost use Rattle.bench_calls.specs.{number_weight, text_weight};
 
 use crate::lookups::number_in;
 use rkyv_base::element::Element;

@@ -1,10 +1,8 @@
 //! The calls for index maps of numbers to numbers.
 
 ghost use Rattle.std.specs.Prelude.{◌≡◌};
-ghost use Rattle.bench_calls.specs.Building.{IsBuilt};
-ghost use Rattle.bench_calls.specs.Index.{IndexesNumbers, IsIndexArchive, IsIndexLengthAnd1};
-ghost use Rattle.bench_calls.specs.Index.{index_number_looked_up, index_walk_total};
-ghost use Rattle.bench_calls.specs.Totals.{total};
+ghost use Rattle.bench_calls.specs.{IndexesNumbers, IsBuilt, IsIndexArchive, IsIndexLengthAnd1};
+ghost use Rattle.bench_calls.specs.{index_number_looked_up, index_walk_total, total};
 
 use bench_calls::index_numbers::{
     access_index_u32, build_index_u32, lookup_index_u32, walk_index_u32,

@@ -1,8 +1,6 @@
 //! The calls that write maps of std and read them back.
 
-ghost use Rattle.bench_calls.specs.Archives.{IsArchive, number_spec};
-ghost use Rattle.bench_calls.specs.Building.{IsBuilt};
-ghost use Rattle.bench_calls.specs.Std.{IsReadBack, StdMapsNumbers};
+ghost use Rattle.bench_calls.specs.{IsArchive, IsBuilt, IsReadBack, StdMapsNumbers, number_spec};
 
 use bench_calls::std_numbers::{build_std_u32, read_std_u32};
 use std::alloc::Global;

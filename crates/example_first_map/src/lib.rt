@@ -3,15 +3,9 @@
 
 ghost use Rattle.std.specs.Int.{w64};
 ghost use Rattle.std.specs.Prelude.{IfOk, ℕ, ◌≡◌};
-ghost use Rattle.rkyv_base.specs.Numbers.{unsigned};
-ghost use Rattle.rkyv_collections.specs.Map.ListArchives.{
-  IsTextMap,
-  OpensTextMap,
-  TextMapResult,
-  TextPairs,
-  first_of_text,
-  text_found,
-};
+ghost use Rattle.rkyv_base.specs.{unsigned};
+ghost use Rattle.rkyv_collections.specs.{IsTextMap, OpensTextMap, TextMapResult, TextPairs};
+ghost use Rattle.rkyv_collections.specs.{first_of_text, text_found};
 
 use rkyv_base::access::access;
 use rkyv_base::errors::{VerifyError, WriteError};

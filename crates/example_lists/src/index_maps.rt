@@ -2,9 +2,8 @@
 
 ghost use Rattle.std.specs.Prelude.{◌≡◌, Ok};
 ghost use Rattle.std.specs.List.{position};
-ghost use Rattle.rkyv_base.specs.Access.{IsNarrowArchive, OpensNarrow};
-ghost use Rattle.rkyv_keys.specs.FirstPairs.{first_value};
-ghost use Rattle.rkyv_keys.specs.OfTexts.{same_bytes};
+ghost use Rattle.rkyv_base.specs.{IsNarrowArchive, OpensNarrow};
+ghost use Rattle.rkyv_keys.specs.{first_value, same_bytes};
 
 use rkyv_base::access::access;
 use rkyv_base::element::{HasSpec, Represents};

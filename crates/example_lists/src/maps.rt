@@ -1,11 +1,9 @@
 //! Lookups in hash maps: of numbers, of texts, and of pairs of numbers.
 
 ghost use Rattle.std.specs.Prelude.{◌==◌, ◌≡◌, Ok};
-ghost use Rattle.rkyv_base.specs.Access.{IsNarrowArchive, IsWideArchive};
-ghost use Rattle.rkyv_base.specs.Access.{OpensNarrow, OpensWide};
-ghost use Rattle.rkyv_base.specs.Root.{ArchivesWide};
-ghost use Rattle.rkyv_keys.specs.FirstPairs.{IsTextOk, first_value};
-ghost use Rattle.rkyv_keys.specs.OfTexts.{same_bytes};
+ghost use Rattle.rkyv_base.specs.{ArchivesWide, IsNarrowArchive, IsWideArchive, OpensNarrow};
+ghost use Rattle.rkyv_base.specs.{OpensWide};
+ghost use Rattle.rkyv_keys.specs.{IsTextOk, first_value, same_bytes};
 
 use rkyv_base::access::{access, access_in};
 use rkyv_base::archive::Archive;

@@ -3,10 +3,9 @@
 ghost use Rattle.std.specs.List.{list_any};
 ghost use Rattle.std.specs.Prelude.{◌==◌, ◌≡◌, Ok};
 ghost use Rattle.std.specs.String.{string_bytes};
-ghost use Rattle.rkyv_base.specs.Access.{OpensNarrow};
-ghost use Rattle.rkyv_collections.specs.StdMaps.ListArchives.{IsNarrowWritten};
-ghost use Rattle.rkyv_keys.specs.FirstPairs.{first_value};
-ghost use Rattle.rkyv_keys.specs.OfTexts.{same_bytes};
+ghost use Rattle.rkyv_base.specs.{OpensNarrow};
+ghost use Rattle.rkyv_collections.specs.{IsNarrowWritten};
+ghost use Rattle.rkyv_keys.specs.{first_value, same_bytes};
 
 use rkyv_base::access::access;
 use rkyv_base::archive::Archive;

@@ -2,8 +2,8 @@
 
 ghost use Rattle.std.specs.Prelude.{◌==◌, ◌≡◌, Ok};
 ghost use Rattle.std.specs.List.{list_any, position};
-ghost use Rattle.rkyv_base.specs.Access.{IsNarrowArchive, OpensNarrow};
-ghost use Rattle.rkyv_keys.specs.OfTexts.{same_bytes};
+ghost use Rattle.rkyv_base.specs.{IsNarrowArchive, OpensNarrow};
+ghost use Rattle.rkyv_keys.specs.{same_bytes};
 
 use rkyv_base::access::access;
 use rkyv_base::element::{HasSpec, Represents};

@@ -3,13 +3,13 @@ use Rattle.std.proofs.Common.{◌≡◌, ℕ, Bool, List, Option, None, Some, fa
 use Rattle.std.specs.Borrow.{Bor}
 use Rattle.std.specs.Int.{w32}
 use Rattle.std.specs.Option.{is_some, option_map}
-use Rattle.rkyv_base.specs.Numbers.{unsigned}
+use Rattle.rkyv_base.specs.{unsigned}
 use Rattle.rkyv_base.specs.declared.view.View.{View}
 use Rattle.rkyv_table.proofs.Moved.{moved}
-use Rattle.rkyv_collections.specs.Map.InPlace.{SetsFound, with_first}
-use Rattle.rkyv_keys.specs.FirstPairs.{IsFoundValue, first_pair}
+use Rattle.rkyv_collections.specs.{SetsFound, with_first}
+use Rattle.rkyv_keys.specs.{IsFoundValue, first_pair}
 use Rattle.rkyv_collections.specs.declared.lists.pairs.MapPairs.{MapPairs}
-use Rattle.example_message.specs.Message.{FieldList, FieldsRepresent, PartRepresents, Parts, PartsRepresent, RepresentsIfFound, WritesIfFound, is_named, name_hash, name_spec, number_in, number_of_part, number_spec, with_field, with_part}
+use Rattle.example_message.specs.{FieldList, FieldsRepresent, PartRepresents, Parts, PartsRepresent, RepresentsIfFound, WritesIfFound, is_named, name_hash, name_spec, number_in, number_of_part, number_spec, with_field, with_part}
 
 pub part_found : {V : Type 0} (b : List ℕ) (p : ℕ) (view : View V) (o : Option (MapPairs (Bor (List ℕ)) ℕ ℕ)) → view.archive.now ≡ b → view.pos ≡ p → IsFoundValue PartRepresents (Some view) o → RepresentsIfFound b o (Some p)
 part_found b p view None e f h = absurd h

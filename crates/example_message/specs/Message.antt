@@ -4,32 +4,18 @@ use Rattle.std.specs.Prelude.{false, length, true}
 use Rattle.std.specs.Borrow.{Bor}
 use Rattle.std.specs.Int.{w32}
 use Rattle.std.specs.Option.{is_some, option_map}
-use Rattle.rkyv_scan.specs.Groups.{generic_kind}
-use Rattle.rkyv_scan.specs.Hash.{fx_hasher, low_halves}
-use Rattle.rkyv_base.specs.Access.{AccessFails, IsValidArchive}
-use Rattle.rkyv_base.specs.Entry.{entry_spec}
-use Rattle.rkyv_base.specs.Format.{Format}
-use Rattle.rkyv_base.specs.Numbers.{unsigned}
-use Rattle.rkyv_base.specs.Pairs.{written_as}
-use Rattle.rkyv_base.specs.Root.{ArchiveOf, ToBytesFails}
-use Rattle.rkyv_base.specs.Scalar.{ScalarRepresents, scalar_format, scalar_spec}
-use Rattle.rkyv_base.specs.Sealing.{value_pos, with_value}
-use Rattle.rkyv_base.specs.ElementSpec.{ElementSpec, Viewable}
-use Rattle.rkyv_base.specs.Text.{text_at, text_spec}
-use Rattle.rkyv_base.specs.TextWriting.{text_format}
+use Rattle.rkyv_scan.specs.{fx_hasher, generic_kind, low_halves}
+use Rattle.rkyv_base.specs.{AccessFails, ArchiveOf, ElementSpec, Format, IsValidArchive}
+use Rattle.rkyv_base.specs.{ScalarRepresents, ToBytesFails, Viewable, entry_spec, scalar_format}
+use Rattle.rkyv_base.specs.{scalar_spec, text_at, text_format, text_spec, unsigned, value_pos}
+use Rattle.rkyv_base.specs.{with_value, written_as}
 use Rattle.rkyv_base.specs.declared.errors.VerifyError.{VerifyError}
 use Rattle.rkyv_base.specs.declared.errors.WriteError.{WriteError}
-use Rattle.rkyv_keys.specs.Calls.{hash_at, hash_of, text_calls}
-use Rattle.rkyv_keys.specs.OfTexts.{same_bytes}
+use Rattle.rkyv_keys.specs.{first_value, hash_at, hash_of, same_bytes, text_calls}
 use Rattle.rkyv_keys.specs.Lemmas.OfTexts.{IsTextOf, text_key_calls}
-use Rattle.rkyv_table.specs.Table.Listed.{listed, written_as_each}
-use Rattle.rkyv_table.specs.Table.Positions.{pos_found}
-use Rattle.rkyv_table.specs.Table.TableFormat.{TableResolver}
-use Rattle.rkyv_collections.specs.Map.InPlace.{with_first}
-use Rattle.rkyv_keys.specs.FirstPairs.{first_value}
-use Rattle.rkyv_collections.specs.Map.{FindsFirstKeyAt}
-use Rattle.rkyv_collections.specs.Map.MapSpec.{IsKeyPosAt, map_spec}
-use Rattle.rkyv_collections.specs.Map.MapFormat.{MapRepresents, map_format}
+use Rattle.rkyv_table.specs.{TableResolver, listed, pos_found, written_as_each}
+use Rattle.rkyv_collections.specs.{FindsFirstKeyAt, IsKeyPosAt, MapRepresents, map_format, map_spec}
+use Rattle.rkyv_collections.specs.{with_first}
 use Rattle.rkyv_collections.specs.declared.lists.pairs.MapPairs.{MapPairs}
 
 -- names, each with a number

@@ -1,30 +1,13 @@
 //! Messages: `archive` writes one, `number_of` reads a number, and `set_number` overwrites one.
 ghost use Rattle.std.specs.Option.{option_map};
 ghost use Rattle.std.specs.Prelude.{IfOk, IfSome, IsOk, MatchResult, ℕ, ◌≡◌};
-ghost use Rattle.rkyv_base.specs.Bytes.{number_at};
-ghost use Rattle.rkyv_collections.specs.Map.{map_bytes, map_pos};
-ghost use Rattle.example_message.specs.Message.{
-  ArePartsFields,
-  FieldList,
-  FieldsRepresent,
-  FindsFirstPart,
-  IsFields,
-  IsMessage,
-  IsMessageOf,
-  IsPartsPos,
-  MessageFails,
-  Parts,
-  Represents,
-  SetsNumber,
-  ValidationFails,
-  WritesNumber,
-  fields_found,
-  first_number,
-  number_found,
-  number_in,
-  number_spec,
-  value_found,
-};
+ghost use Rattle.rkyv_base.specs.{number_at};
+ghost use Rattle.rkyv_collections.specs.{map_bytes, map_pos};
+ghost use Rattle.example_message.specs.{ArePartsFields, FieldList, FieldsRepresent, FindsFirstPart};
+ghost use Rattle.example_message.specs.{IsFields, IsMessage, IsMessageOf, IsPartsPos, MessageFails};
+ghost use Rattle.example_message.specs.{Parts, Represents, SetsNumber, ValidationFails};
+ghost use Rattle.example_message.specs.{WritesNumber, fields_found, first_number, number_found};
+ghost use Rattle.example_message.specs.{number_in, number_spec, value_found};
 ghost use Rattle.std.specs.Int.{w32};
 
 use rkyv_base::access::access;

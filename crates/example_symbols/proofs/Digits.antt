@@ -5,7 +5,7 @@ use Rattle.std.specs.List.{list_all}
 use Rattle.std.specs.Str.Parse.{AllDigits, IsNumeral, digits_value, without_leading_plus}
 use Rattle.std.proofs.lemmas.Bool.Decides.{nat_tests}
 use Rattle.std.proofs.lemmas.Int.Digits.{digits_value-lt}
-use Rattle.example_symbols.specs.Lines.{has_symbol}
+use Rattle.example_symbols.specs.{has_symbol}
 
 pub symbol_layout : (line : List ℕ) → has_symbol line ≡ true → (19 < length line) × (get_or line 18 0 ≡ 32) × (list_all is_ascii_hexdigit (take 16 line) ≡ true)
 symbol_layout line h = (grind (arith, nat_tests), grind (arith, nat_tests), grind (arith, nat_tests))

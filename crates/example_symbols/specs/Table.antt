@@ -3,30 +3,17 @@ use Rattle.std.specs.Prelude.{ℕ, ◌+◌, ◌-◌, List, length, Option}
 use Rattle.std.specs.Borrow.{Bor}
 use Rattle.std.specs.Int.{w32, w64}
 use Rattle.std.specs.Option.{option_map}
-use Rattle.rkyv_scan.specs.Groups.{generic_kind}
-use Rattle.rkyv_scan.specs.Hash.{fx_hasher, low_halves}
-use Rattle.rkyv_base.specs.Access.{AccessFails, IsValidArchive}
-use Rattle.rkyv_base.specs.Bytes.{number_at}
-use Rattle.rkyv_base.specs.Entry.{entry_spec, value_offset}
-use Rattle.rkyv_base.specs.Format.{Format}
-use Rattle.rkyv_base.specs.Numbers.{unsigned}
-use Rattle.rkyv_base.specs.Pairs.{written_as}
-use Rattle.rkyv_base.specs.Root.{ArchiveOf, ToBytesFails}
-use Rattle.rkyv_base.specs.Scalar.{ScalarRepresents, scalar_format, scalar_spec}
-use Rattle.rkyv_base.specs.ElementSpec.{ElementSpec}
-use Rattle.rkyv_base.specs.Text.{text_at, text_spec}
-use Rattle.rkyv_base.specs.TextWriting.{text_format}
+use Rattle.rkyv_scan.specs.{fx_hasher, generic_kind, low_halves}
+use Rattle.rkyv_base.specs.{AccessFails, ArchiveOf, ElementSpec, Format, IsValidArchive}
+use Rattle.rkyv_base.specs.{ScalarRepresents, ToBytesFails, entry_spec, number_at, scalar_format}
+use Rattle.rkyv_base.specs.{scalar_spec, text_at, text_format, text_spec, unsigned, value_offset}
+use Rattle.rkyv_base.specs.{written_as}
 use Rattle.rkyv_base.specs.declared.errors.VerifyError.{VerifyError}
 use Rattle.rkyv_base.specs.declared.errors.WriteError.{WriteError}
-use Rattle.rkyv_keys.specs.Calls.{hash_at, hash_of, text_calls}
-use Rattle.rkyv_keys.specs.OfTexts.{same_bytes}
+use Rattle.rkyv_keys.specs.{first_value, hash_at, hash_of, same_bytes, text_calls}
 use Rattle.rkyv_keys.specs.Lemmas.OfTexts.{IsTextOf, text_key_calls}
-use Rattle.rkyv_table.specs.Table.Positions.{pos_found}
-use Rattle.rkyv_table.specs.Table.TableFormat.{TableResolver}
-use Rattle.rkyv_table.specs.Table.Listed.{listed}
-use Rattle.rkyv_keys.specs.FirstPairs.{first_value}
-use Rattle.rkyv_collections.specs.Map.MapSpec.{map_spec}
-use Rattle.rkyv_collections.specs.Map.MapFormat.{MapRepresents, map_format}
+use Rattle.rkyv_table.specs.{TableResolver, listed, pos_found}
+use Rattle.rkyv_collections.specs.{MapRepresents, map_format, map_spec}
 
 -- names, each with its address
 abbrev pub Symbols : Type 0

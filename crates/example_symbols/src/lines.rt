@@ -3,7 +3,7 @@ ghost use Rattle.std.specs.List.{list_all};
 ghost use Rattle.std.specs.Option.{option_map, option_to_list};
 ghost use Rattle.std.specs.Char.{is_ascii_hexdigit};
 ghost use Rattle.std.specs.Prelude.{IfOk, OnOk, map, ◌++◌, ◌≡◌};
-ghost use Rattle.example_symbols.specs.Lines.{has_symbol, symbol_of, symbols_of, with_name_bytes};
+ghost use Rattle.example_symbols.specs.{has_symbol, symbol_of, symbols_of, with_name_bytes};
 
 use std::alloc::{AllocError, Global};
 

@@ -5,16 +5,8 @@
 //! - `address_in` looks up a name in a valid table.
 //! - `address_of` validates a table, then looks up a name.
 ghost use Rattle.std.specs.Prelude.{IfOk, IsOk, MatchResult, ◌≡◌};
-ghost use Rattle.example_symbols.specs.Table.{
-  IsTable,
-  IsTableOf,
-  Represents,
-  Symbols,
-  TableFails,
-  ValidationFails,
-  address_found,
-  first_address,
-};
+ghost use Rattle.example_symbols.specs.{IsTable, IsTableOf, Represents, Symbols, TableFails};
+ghost use Rattle.example_symbols.specs.{ValidationFails, address_found, first_address};
 
 use rkyv_base::access::{access, access_unchecked};
 use rkyv_base::errors::{VerifyError, WriteError};

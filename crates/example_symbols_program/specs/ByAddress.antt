@@ -7,33 +7,22 @@ use Rattle.std.specs.Int.{w32, w64}
 use Rattle.std.specs.declared.vec.Vec.{Vec}
 use Rattle.std.proofs.Common.{nat_cmp}
 use Rattle.std.specs.List.Sorted.{IsNonDecreasingBy, IsPermutation, IsStableByKey}
-use Rattle.rkyv_scan.specs.Hash.{U64, fx_hasher, low_halves}
-use Rattle.rkyv_base.specs.Access.{AccessFails, IsValidArchive}
-use Rattle.rkyv_base.specs.Entry.{entry_spec}
-use Rattle.rkyv_base.specs.Format.{Format}
-use Rattle.rkyv_base.specs.Numbers.{unsigned}
-use Rattle.rkyv_base.specs.Pairs.{written_as}
-use Rattle.rkyv_base.specs.Root.{ArchiveOf, ToBytesFails}
-use Rattle.rkyv_base.specs.Scalar.{ScalarRepresents, scalar_format, scalar_spec}
-use Rattle.rkyv_base.specs.ElementSpec.{ElementSpec}
-use Rattle.rkyv_base.specs.Text.{text_at}
-use Rattle.rkyv_base.specs.TextWriting.{text_format}
-use Rattle.rkyv_base.specs.View.{AtView, IsAt, bytes_of, pos_of}
+use Rattle.rkyv_scan.specs.{U64, fx_hasher, low_halves}
+use Rattle.rkyv_base.specs.{AccessFails, ArchiveOf, AtView, ElementSpec, Format, IsAt}
+use Rattle.rkyv_base.specs.{IsValidArchive, ScalarRepresents, ToBytesFails, bytes_of, entry_spec}
+use Rattle.rkyv_base.specs.{pos_of, scalar_format, scalar_spec, text_at, text_format, unsigned}
+use Rattle.rkyv_base.specs.{written_as}
 use Rattle.rkyv_base.specs.declared.errors.VerifyError.{VerifyError}
 use Rattle.rkyv_base.specs.declared.errors.WriteError.{WriteError}
 use Rattle.rkyv_base.specs.declared.errors.WriteError.TheVariants.{Memory}
 use Rattle.rkyv_base.specs.declared.view.View.{View}
-use Rattle.rkyv_keys.specs.OfScalars.{one_call, scalar_calls}
+use Rattle.rkyv_keys.specs.{hash_at, hash_of, one_call, scalar_calls}
 use Rattle.rkyv_keys.specs.Lemmas.OfTexts.{IsTextOf}
-use Rattle.rkyv_keys.specs.Calls.{hash_at, hash_of}
-use Rattle.rkyv_table.specs.Table.Listed.{listed}
-use Rattle.rkyv_index.specs.Index.{IsPairOf}
-use Rattle.rkyv_index.specs.Index.IndexFormat.{IndexRepresents, index_format}
-use Rattle.rkyv_index.specs.Index.IndexHeader.{IndexResolver}
-use Rattle.rkyv_index.specs.Index.IndexLayout.{index_spec}
+use Rattle.rkyv_table.specs.{listed}
+use Rattle.rkyv_index.specs.{IndexRepresents, IndexResolver, IsPairOf, index_format, index_spec}
 use Rattle.rkyv_index.specs.declared.lists.OrderedPairs.{OrderedPairs}
 use Rattle.rkyv_index.specs.declared.map.ArchivedIndexMap.{ArchivedIndexMap}
-use Rattle.example_symbols.specs.Table.{Symbols, address_spec, name_spec}
+use Rattle.example_symbols.specs.{Symbols, address_spec, name_spec}
 
 -- addresses, each with a name
 abbrev pub Row : Type 0

@@ -2,13 +2,9 @@
 use Rattle.std.specs.Prelude.{ℕ, List, Option, Some, None, codes, if◌then◌else◌, leb, ◌==◌}
 use Rattle.std.specs.Str.{bytes_eq}
 use Rattle.example_symbols_program.specs.declared.command.Command.{Command}
-use Rattle.example_symbols_program.specs.declared.command.Command.TheVariants.{
-  All,
-  Get,
-  Help,
-  List as Listing,
-  Write,
-}
+use Rattle.example_symbols_program.specs.declared.command.Command.TheVariants.{All, Get, Help}
+use Rattle.example_symbols_program.specs.declared.command.Command.TheVariants.{List as Listing}
+use Rattle.example_symbols_program.specs.declared.command.Command.TheVariants.{Write}
 
 -- the command with this name that takes `count` arguments
 abbrev pub command_of : List ℕ → ℕ → Option Command

@@ -1,9 +1,9 @@
 //! Indexes of symbols: archived index maps of addresses to names, in ascending order of address.
 ghost use Rattle.std.specs.Prelude.{IfOk, IsOk, MatchOption, ◌≡◌, ◌≤◌};
-ghost use Rattle.rkyv_base.specs.Access.{IsValidArchive};
-ghost use Rattle.rkyv_index.specs.Index.{index_len};
-ghost use Rattle.example_symbols_program.specs.ByAddress.{IndexResult, IsAscending, IsEntryOf};
-ghost use Rattle.example_symbols_program.specs.ByAddress.{OpensIndex, turned};
+ghost use Rattle.rkyv_base.specs.{IsValidArchive};
+ghost use Rattle.rkyv_index.specs.{index_len};
+ghost use Rattle.example_symbols_program.specs.{IndexResult, IsAscending, IsEntryOf, OpensIndex};
+ghost use Rattle.example_symbols_program.specs.{turned};
 
 use rkyv_base::access::access;
 use rkyv_base::element::Element;

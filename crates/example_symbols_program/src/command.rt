@@ -1,7 +1,7 @@
 //! The commands of the program.
 ghost use Rattle.std.specs.Prelude.{IfSome, ◌≡◌, ◌≤◌};
 ghost use Rattle.std.specs.Str.{bytes_eq};
-ghost use Rattle.example_symbols_program.specs.Commands.{command_of, least_count};
+ghost use Rattle.example_symbols_program.specs.{command_of, least_count};
 
 /// What `--help` prints.
 pub const USAGE: &str = "usage: symbols COMMAND

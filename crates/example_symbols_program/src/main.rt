@@ -2,9 +2,8 @@
 #![tactic(auto)]
 
 ghost use Rattle.std.specs.Prelude.{IfOk, None, Ok, OnOk, length, ◌≡◌};
-ghost use Rattle.example_symbols.specs.Table.{IsTable, address_found};
-ghost use Rattle.example_symbols_program.specs.Commands.{command_of};
-ghost use Rattle.example_symbols_program.specs.Outcomes.{outcome_of};
+ghost use Rattle.example_symbols.specs.{IsTable, address_found};
+ghost use Rattle.example_symbols_program.specs.{command_of, outcome_of};
 
 mod by_address;
 mod command;

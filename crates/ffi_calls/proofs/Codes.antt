@@ -2,7 +2,7 @@
 use Rattle.std.proofs.Common.{◌≡◌, ℕ, ◌∙◌, List, subst, sym}
 use Rattle.rkyv_container.specs.declared.contents.Contents.{Contents}
 use Rattle.rkyv_container.proofs.HeaderBytes.{contents_equal, item_unique, kind_unique, width_unique}
-use Rattle.ffi_calls.specs.Containers.{HasCodes, OpensOwn, OpensOwnCodes}
+use Rattle.ffi_calls.specs.{HasCodes, OpensOwn, OpensOwnCodes}
 use Rattle.ffi_calls.specs.declared.containers.Codes.{Codes}
 
 -- contents with equal codes are equal

@@ -6,12 +6,11 @@ use Rattle.std.specs.Option.{is_some}
 use Rattle.std.specs.Borrow.{Bor}
 use Rattle.std.specs.Prelude.{IfSome, MatchOption}
 use Rattle.std.proofs.lemmas.Option.{same_Some}
-use Rattle.rkyv_base.specs.ElementSpec.{ElementSpec, Viewable}
+use Rattle.rkyv_base.specs.{ElementSpec, Viewable, pos_of_found}
 use Rattle.rkyv_base.specs.declared.view.View.{View}
-use Rattle.rkyv_base.specs.View.{pos_of_found}
-use Rattle.rkyv_collections.specs.Map.{IsValueIn, map_bytes}
+use Rattle.rkyv_collections.specs.{IsValueIn, map_bytes}
 use Rattle.rkyv_collections.specs.declared.map.ArchivedHashMap.{ArchivedHashMap}
-use Rattle.rkyv_keys.specs.FirstPairs.{IsFoundValue}
+use Rattle.rkyv_keys.specs.{IsFoundValue}
 
 -- the value is at the position `target`
 abbrev RepresentsIn : {B : Type 0} → (List ℕ → ℕ → B → Type 0) → List ℕ → Option ℕ → B → Type 0

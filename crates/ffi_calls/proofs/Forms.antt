@@ -1,6 +1,6 @@
 -- Properties of a form, by its two flags, and of one flag.
 use Rattle.std.proofs.Common.{◌≡◌, Bool, subst, sym}
-use Rattle.ffi_calls.specs.Archives.{form_of}
+use Rattle.ffi_calls.specs.{form_of}
 use Rattle.ffi_calls.specs.declared.form.Form.{Form}
 
 -- a property of the form of two flags is one of a form with these flags

@@ -3,13 +3,13 @@ use Rattle.rkyv_base.specs.declared.element.HasSpec.{Ghosts as Specs}
 use Rattle.rkyv_base.specs.declared.width.Word.{Ghosts as Words}
 use Rattle.std.proofs.Common.{◌≡◌, ℕ, List, refl}
 use Rattle.std.specs.Int.{Width}
-use Rattle.rkyv_base.specs.ElementSpec.{ElementSpec}
+use Rattle.rkyv_base.specs.{ElementSpec}
 use Rattle.rkyv_base.specs.declared.view.View.{View}
 use Rattle.rkyv_table.proofs.Moved.{moved}
-use Rattle.rkyv_collections.specs.Map.MapAt.{MapAt}
-use Rattle.rkyv_index.specs.Index.{IsKeyOf, IsValueOf, index_bytes}
+use Rattle.rkyv_collections.specs.{MapAt}
+use Rattle.rkyv_index.specs.{IsKeyOf, IsValueOf, index_bytes}
 use Rattle.rkyv_index.specs.declared.map.ArchivedIndexMap.{ArchivedIndexMap}
-use Rattle.ffi_calls.specs.IndexArchives.{index_at, pair_pos_at, value_pos_at}
+use Rattle.ffi_calls.specs.{index_at, pair_pos_at, value_pos_at}
 use Rattle.ffi_calls.proofs.AtViews.{there}
 
 -- the map at a position

@@ -4,11 +4,9 @@ use Rattle.std.specs.Prelude.{slice_get}
 use Rattle.std.proofs.lemmas.Grind.{drop_more_same}
 use Rattle.std.proofs.lemmas.List.{drop-set-lt, length-set}
 use Rattle.rkyv_table.proofs.Lists.{set_each}
-use Rattle.rkyv_keys.specs.Natives.{NativePairs}
-use Rattle.rkyv_collections.specs.Map.MapAt.{MapAt}
-use Rattle.ffi_calls.specs.IndexArchives.{IsIndexPair, StoresPairs, pair_count, pair_pos_at, value_pos_at}
-use Rattle.ffi_calls.specs.IndexLists.{StoresListed}
-use Rattle.ffi_calls.specs.Reading.{Agrees}
+use Rattle.rkyv_keys.specs.{NativePairs}
+use Rattle.rkyv_collections.specs.{MapAt}
+use Rattle.ffi_calls.specs.{Agrees, IsIndexPair, StoresListed, StoresPairs, pair_count, pair_pos_at, value_pos_at}
 use Rattle.ffi_calls.specs.declared.pairs.Pair.{Pair}
 
 -- the first `n` pairs of `now` are those from index `from` on, and the others are those of `before`

@@ -3,9 +3,9 @@ use Rattle.std.proofs.Common.{◌≡◌, ℕ, Bool, List, [], ◌∷◌, None, O
 use Rattle.std.specs.List.{find}
 use Rattle.std.specs.Option.{option_map}
 use Rattle.std.specs.Prelude.{MatchOption}
-use Rattle.rkyv_table.specs.Table.ItemValues.{with_units}
-use Rattle.rkyv_keys.specs.FirstPairs.{first_value}
-use Rattle.ffi_calls.specs.Sets.{IsFoundStatus}
+use Rattle.rkyv_table.specs.{with_units}
+use Rattle.rkyv_keys.specs.{first_value}
+use Rattle.ffi_calls.specs.{IsFoundStatus}
 
 -- an item is found if and only if its pair with the unit value is
 module _ {A : Type 0} (accepts : A → Bool) (status : ℕ) where

@@ -2,7 +2,7 @@
 use Rattle.std.proofs.Common.{◌≡◌, arith}
 use Rattle.rkyv_container.specs.declared.errors.ContainerError.{ContainerError}
 use Rattle.rkyv_container.specs.declared.errors.ContainerError.TheVariants as container
-use Rattle.ffi_calls.specs.Status.{container_status}
+use Rattle.ffi_calls.specs.{container_status}
 
 -- no status of a container's error is that of success
 pub container_status_above_0 : (e : ContainerError) → container_status e ≡ 0 → ⊥

@@ -1,7 +1,7 @@
 -- The output of a call, of the result of a write.
 use Rattle.std.proofs.Common.{◌≡◌, ℕ, Err, List, MatchResult, Ok, Result, inl, inr, subst, sym}
 use Rattle.std.specs.declared.vec.Vec.{Vec}
-use Rattle.ffi_calls.specs.Items.{Outputs}
+use Rattle.ffi_calls.specs.{Outputs}
 use Rattle.ffi_calls.specs.declared.building.Built.{Built}
 
 -- the bytes of an archive that is made, or the status of an error

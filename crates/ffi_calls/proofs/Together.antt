@@ -2,7 +2,7 @@
 use Rattle.std.proofs.Common.{◌≡◌, ◌∙◌, ℕ, ◌+◌, ◌<◌, ◌≤◌, ◌++◌, ◌⊎◌, List, [], ◌∷◌, ap, arith, drop, inl, inr, length, refl, subst, sym, take, slice_set}
 use Rattle.std.proofs.lemmas.List.{append-nil, append_assoc, drop-set-lt, length-set, length_push, take_all, take_at, take_more_set}
 use Rattle.std.proofs.lemmas.Grind.{drop_more_same}
-use Rattle.ffi_calls.specs.Walking.{AreStepsIn, StoresSteps}
+use Rattle.ffi_calls.specs.{AreStepsIn, StoresSteps}
 use Rattle.ffi_calls.specs.declared.pairs.Step.{Step}
 
 module _ {P : Type 0} (buckets : ℕ → List ℕ) (IsPair : ℕ → P → Type 0) where

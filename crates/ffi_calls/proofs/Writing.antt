@@ -3,21 +3,13 @@ use Rattle.std.proofs.Common.{◌≡◌, ℕ, ◌*◌, ◌+◌, ◌-◌, ◌%◌
 use Rattle.std.specs.Int.{Width, byte_len}
 use Rattle.std.specs.Option.{option_map}
 use Rattle.std.specs.Prelude.{MatchOption}
-use Rattle.rkyv_scan.specs.Groups.{generic_kind}
-use Rattle.rkyv_scan.specs.Hash.{HasherCall}
-use Rattle.rkyv_base.specs.Access.{IsValidArchive}
-use Rattle.rkyv_base.specs.Bytes.{AgreeOn}
-use Rattle.rkyv_base.specs.Entry.{entry_spec}
-use Rattle.rkyv_base.specs.Scalar.{Encoding}
-use Rattle.rkyv_base.specs.Sealing.{value_pos, with_value}
-use Rattle.rkyv_base.specs.ElementSpec.{ElementSpec, ValidAt, Viewable}
+use Rattle.rkyv_scan.specs.{HasherCall, generic_kind}
+use Rattle.rkyv_base.specs.{AgreeOn, ElementSpec, Encoding, IsValidArchive, ValidAt, Viewable, entry_spec, value_pos, with_value}
 use Rattle.rkyv_table.specs.Lemmas.SameHeader.{cap_same, len_same, pos_same}
-use Rattle.rkyv_table.specs.Table.Decoded.{IsDecoded}
-use Rattle.rkyv_table.specs.Table.Positions.{pos_found}
+use Rattle.rkyv_table.specs.{IsDecoded, pos_found}
 use Rattle.rkyv_table.specs.declared.table.decoded.Decoded.{Decoded}
-use Rattle.rkyv_collections.specs.Map.InPlace.{SetsFound}
-use Rattle.rkyv_collections.specs.Map.MapSpec.{map_spec}
-use Rattle.ffi_calls.specs.Archives.{KeepsHeader, hash_by, map_in, root, value_found}
+use Rattle.rkyv_collections.specs.{SetsFound, map_spec}
+use Rattle.ffi_calls.specs.{KeepsHeader, hash_by, map_in, root, value_found}
 
 -- a decoded header is one of the same header in other bytes
 pub decoded_again : (w : Width) (b c : List ℕ) (p : ℕ) → AgreeOn b c p (p + 3 * byte_len w) → (header : Decoded) → IsDecoded w b p header → IsDecoded w c p header

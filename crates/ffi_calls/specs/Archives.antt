@@ -4,20 +4,12 @@ use Rattle.std.specs.Prelude.{MatchOption, Option}
 use Rattle.std.specs.Int.{Width, w32, w64}
 use Rattle.std.specs.Option.{option_map}
 use mir.Val.{bits}
-use Rattle.rkyv_scan.specs.Groups.{generic_kind}
-use Rattle.rkyv_scan.specs.Hash.{HasherCall, fx_hash, low_halves}
-use Rattle.rkyv_base.specs.Access.{AccessFails, IsValidArchive}
-use Rattle.rkyv_base.specs.Entry.{entry_spec}
-use Rattle.rkyv_base.specs.Numbers.{unsigned}
-use Rattle.rkyv_base.specs.Scalar.{Encoding, scalar_spec}
-use Rattle.rkyv_base.specs.Sealing.{value_pos, with_value}
-use Rattle.rkyv_base.specs.ElementSpec.{ElementSpec}
-use Rattle.rkyv_base.specs.Text.{text_spec}
+use Rattle.rkyv_scan.specs.{HasherCall, fx_hash, generic_kind, low_halves}
+use Rattle.rkyv_base.specs.{AccessFails, ElementSpec, Encoding, IsValidArchive, entry_spec}
+use Rattle.rkyv_base.specs.{scalar_spec, text_spec, unsigned, value_pos, with_value}
 use Rattle.rkyv_base.specs.declared.errors.VerifyError.{VerifyError}
-use Rattle.rkyv_collections.specs.Map.MapAt.{MapAt}
-use Rattle.rkyv_collections.specs.Map.MapSpec.{map_spec}
-use Rattle.rkyv_table.specs.Table.Decoded.{IsDecoded}
-use Rattle.rkyv_table.specs.Table.Positions.{pos_found}
+use Rattle.rkyv_collections.specs.{MapAt, map_spec}
+use Rattle.rkyv_table.specs.{IsDecoded, pos_found}
 use Rattle.rkyv_table.specs.declared.table.decoded.Decoded.{Decoded}
 use Rattle.ffi_calls.specs.Keys.{NumberKey}
 use Rattle.ffi_calls.specs.Status.{verify_status}

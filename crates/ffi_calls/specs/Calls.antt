@@ -2,11 +2,8 @@
 use Rattle.std.specs.Prelude.{◌≡◌, ℕ, ◌⊎◌, List, Option}
 use Rattle.std.specs.Borrow.{Bor}
 use Rattle.std.specs.Str.{IsUtf8}
-use Rattle.rkyv_base.specs.Text.{text_at}
-use Rattle.rkyv_base.specs.Scalar.{ScalarRepresents}
-use Rattle.rkyv_keys.specs.Calls.{text_calls}
-use Rattle.rkyv_keys.specs.OfScalars.{one_call, scalar_fits}
-use Rattle.rkyv_keys.specs.OfTexts.{same_bytes}
+use Rattle.rkyv_base.specs.{ScalarRepresents, text_at}
+use Rattle.rkyv_keys.specs.{one_call, same_bytes, scalar_fits, text_calls}
 use Rattle.ffi_calls.specs.Archives.{Overwrites, ReturnsAt, numbers_in, texts_in, value_encoding}
 use Rattle.ffi_calls.specs.Archives.{value_found, word_of}
 use Rattle.ffi_calls.specs.Keys.{NumberKey}

@@ -6,10 +6,8 @@ use Rattle.rkyv_container.specs.declared.contents.Width.{Width}
 use Rattle.rkyv_container.specs.declared.contents.Width.TheVariants.{Narrow, Wide}
 use Rattle.rkyv_container.specs.declared.errors.ContainerError.{ContainerError}
 use Rattle.rkyv_container.specs.declared.header.Header.{Header}
-use Rattle.rkyv_container.specs.Checks.{FirstFails}
-use Rattle.rkyv_container.specs.Codes.{item_code, kind_code, width_code}
-use Rattle.rkyv_container.specs.Container.{IsContainer, IsContainerOf, OpenAsFails, header_of}
-use Rattle.rkyv_container.specs.Header.{IsHeader, header_checks}
+use Rattle.rkyv_container.specs.{FirstFails, IsContainer, IsContainerOf, IsHeader, OpenAsFails}
+use Rattle.rkyv_container.specs.{header_checks, header_of, item_code, kind_code, width_code}
 use Rattle.ffi_calls.specs.Archives.{by_flag}
 use Rattle.ffi_calls.specs.Status.{container_status}
 use Rattle.ffi_calls.specs.declared.containers.Codes.{Codes}

@@ -1,8 +1,7 @@
 -- Why an archive is invalid, or a container: the first error, with its numbers.
 use Rattle.std.specs.Prelude.{◌≡◌, ℕ, ℤ, ◌⊎◌, ◌-◌, ◌^◌, cond, int_lt, min, negsuc, List}
 use Rattle.std.specs.Prelude.{pos as int}
-use Rattle.rkyv_base.specs.Access.{AccessFails, IsValidArchive}
-use Rattle.rkyv_base.specs.ElementSpec.{ElementSpec}
+use Rattle.rkyv_base.specs.{AccessFails, ElementSpec, IsValidArchive}
 use Rattle.rkyv_base.specs.declared.errors.VerifyError.{VerifyError}
 use Rattle.rkyv_base.specs.declared.errors.VerifyError.TheVariants.{OutOfRange, Unaligned}
 use Rattle.rkyv_base.specs.declared.errors.VerifyError.TheVariants.{InvalidLength}
@@ -10,8 +9,7 @@ use Rattle.rkyv_base.specs.declared.errors.VerifyError.TheVariants.{WrongNumberO
 use Rattle.rkyv_base.specs.declared.errors.VerifyError.TheVariants.{UnwrappedControlByte}
 use Rattle.rkyv_base.specs.declared.errors.VerifyError.TheVariants.{InvalidValue, PlaceOutOfRange}
 use Rattle.rkyv_base.specs.declared.errors.VerifyError.TheVariants.{Refused}
-use Rattle.rkyv_container.specs.Codes.{item_code, kind_code, width_code}
-use Rattle.rkyv_container.specs.Container.{IsContainerOf, OpenAsFails}
+use Rattle.rkyv_container.specs.{IsContainerOf, OpenAsFails, item_code, kind_code, width_code}
 use Rattle.rkyv_container.specs.declared.contents.Contents.{Contents}
 use Rattle.rkyv_container.specs.declared.errors.ContainerError.{ContainerError}
 use Rattle.rkyv_container.specs.declared.errors.ContainerError.TheVariants as container

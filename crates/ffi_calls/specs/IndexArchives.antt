@@ -6,20 +6,13 @@ use Rattle.std.specs.Prelude.{Option, Some, drop, length, min, slice_get}
 use Rattle.std.specs.Borrow.{Bor}
 use Rattle.std.specs.Int.{Width}
 use Rattle.std.specs.Str.{IsUtf8}
-use Rattle.rkyv_scan.specs.Hash.{HasherCall}
-use Rattle.rkyv_base.specs.Access.{IsValidArchive}
-use Rattle.rkyv_base.specs.Entry.{entry_spec}
-use Rattle.rkyv_base.specs.Sealing.{value_pos}
-use Rattle.rkyv_base.specs.ElementSpec.{ElementSpec}
-use Rattle.rkyv_base.specs.Text.{text_at}
-use Rattle.rkyv_base.specs.Scalar.{ScalarRepresents}
-use Rattle.rkyv_keys.specs.Calls.{text_calls}
-use Rattle.rkyv_keys.specs.OfScalars.{one_call, scalar_fits}
-use Rattle.rkyv_keys.specs.OfTexts.{same_bytes}
-use Rattle.rkyv_table.specs.Table.Header.{len_at}
-use Rattle.rkyv_collections.specs.Map.MapAt.{MapAt}
-use Rattle.rkyv_index.specs.Index.{index_bytes, index_found, index_pos}
-use Rattle.rkyv_index.specs.Index.IndexLayout.{index_spec, pair_pos}
+use Rattle.rkyv_scan.specs.{HasherCall}
+use Rattle.rkyv_base.specs.{ElementSpec, IsValidArchive, ScalarRepresents, entry_spec, text_at}
+use Rattle.rkyv_base.specs.{value_pos}
+use Rattle.rkyv_keys.specs.{one_call, same_bytes, scalar_fits, text_calls}
+use Rattle.rkyv_table.specs.{len_at}
+use Rattle.rkyv_collections.specs.{MapAt}
+use Rattle.rkyv_index.specs.{index_bytes, index_found, index_pos, index_spec, pair_pos}
 use Rattle.rkyv_index.specs.declared.map.ArchivedIndexMap.{ArchivedIndexMap}
 use Rattle.ffi_calls.specs.Archives.{hash_by, limit_of, text_key, value_spec}
 use Rattle.ffi_calls.specs.Archives.{word_of}

@@ -4,10 +4,10 @@ use Rattle.std.specs.Prelude.{slice_get, slice_set}
 use Rattle.std.specs.Option.{option_map}
 use Rattle.std.specs.Str.{IsUtf8}
 use mir.Val.{bits}
-use Rattle.rkyv_scan.specs.Hash.{HasherCall}
-use Rattle.rkyv_base.specs.Scalar.{Encoding, ScalarRepresents}
-use Rattle.rkyv_collections.specs.Map.MapAt.{MapAt, ValueQuery}
-use Rattle.rkyv_index.specs.Index.ListedLookups.{IsFirst}
+use Rattle.rkyv_scan.specs.{HasherCall}
+use Rattle.rkyv_base.specs.{Encoding, ScalarRepresents}
+use Rattle.rkyv_collections.specs.{MapAt, ValueQuery}
+use Rattle.rkyv_index.specs.{IsFirst}
 use Rattle.ffi_calls.specs.Archives.{Overwrites, value_encoding, word_of}
 use Rattle.ffi_calls.specs.IndexArchives.{found_index, index_in, number_index_found}
 use Rattle.ffi_calls.specs.IndexArchives.{number_index_in, text_index_found, text_index_in}

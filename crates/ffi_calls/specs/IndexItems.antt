@@ -2,24 +2,14 @@
 use Rattle.std.specs.Prelude.{◌≡◌, ℕ, ◌⊎◌, List, MatchResult, Result}
 use Rattle.std.specs.Borrow.{Bor}
 use Rattle.std.specs.declared.vec.Vec.{Vec}
-use Rattle.rkyv_base.specs.Access.{IsValidArchive}
-use Rattle.rkyv_base.specs.Format.{Format}
-use Rattle.rkyv_base.specs.Members.{WidthMembers}
-use Rattle.rkyv_base.specs.Numbers.{unsigned}
-use Rattle.rkyv_base.specs.Root.{ArchiveOf, ToBytesFails}
-use Rattle.rkyv_base.specs.Scalar.{Encoding, scalar_spec}
-use Rattle.rkyv_base.specs.ElementSpec.{ElementSpec}
-use Rattle.rkyv_base.specs.Pairs.{written_as}
-use Rattle.rkyv_base.specs.Text.{text_spec}
-use Rattle.rkyv_base.specs.TextWriting.{text_format}
+use Rattle.rkyv_base.specs.{ArchiveOf, ElementSpec, Encoding, Format, IsValidArchive, ToBytesFails}
+use Rattle.rkyv_base.specs.{WidthMembers, scalar_spec, text_format, text_spec, unsigned, written_as}
 use Rattle.rkyv_base.specs.declared.errors.WriteError.{WriteError}
 use Rattle.rkyv_base.specs.declared.writer.NoMemory.{NoMemory}
-use Rattle.rkyv_keys.specs.Calls.{text_calls}
-use Rattle.rkyv_keys.specs.Natives.{NativePairs}
-use Rattle.rkyv_collections.specs.Natives.{PairFormat}
-use Rattle.rkyv_table.specs.Table.Listed.{listed}
-use Rattle.rkyv_index.specs.Index.IndexFormat.{IndexRepresents, IndicesAs, index_format, indices}
-use Rattle.rkyv_index.specs.Index.IndexHeader.{IndexResolver}
+use Rattle.rkyv_keys.specs.{NativePairs, text_calls}
+use Rattle.rkyv_collections.specs.{PairFormat}
+use Rattle.rkyv_table.specs.{listed}
+use Rattle.rkyv_index.specs.{IndexRepresents, IndexResolver, IndicesAs, index_format, indices}
 use Rattle.ffi_calls.specs.Archives.{value_encoding, value_spec, word_of}
 use Rattle.ffi_calls.specs.IndexArchives.{index_in, index_map}
 use Rattle.ffi_calls.specs.IndexLists.{IndexRepresentsPairs}

@@ -2,11 +2,10 @@
 use Rattle.std.specs.Prelude.{◌≡◌, ℕ, ◌+◌, ◌-◌, ◌<◌, ◌⊎◌, List, None, Some, length}
 use Rattle.std.specs.Prelude.{min, slice_get}
 use Rattle.std.specs.Borrow.{Bor}
-use Rattle.rkyv_base.specs.Scalar.{ScalarRepresents}
-use Rattle.rkyv_keys.specs.Natives.{NativePairs}
-use Rattle.rkyv_collections.specs.Map.MapAt.{MapAt, ValueQuery}
-use Rattle.rkyv_index.specs.Index.IndexFormat.{IndexRepresents}
-use Rattle.rkyv_index.specs.Index.ListedLookups.{IsFirst}
+use Rattle.rkyv_base.specs.{ScalarRepresents}
+use Rattle.rkyv_keys.specs.{NativePairs}
+use Rattle.rkyv_collections.specs.{MapAt, ValueQuery}
+use Rattle.rkyv_index.specs.{IndexRepresents, IsFirst}
 use Rattle.ffi_calls.specs.Archives.{value_encoding, word_of}
 use Rattle.ffi_calls.specs.IndexArchives.{number_index_in, text_index_in}
 use Rattle.ffi_calls.specs.Keys.{NumberKey}

@@ -3,20 +3,13 @@ use Rattle.std.specs.Prelude.{◌≡◌, ℕ, ◌⊎◌, Bool, List, MatchResult
 use Rattle.std.specs.Borrow.{Bor}
 use Rattle.std.specs.Str.{IsUtf8}
 use Rattle.std.specs.declared.vec.Vec.{Vec}
-use Rattle.rkyv_base.specs.Access.{IsValidArchive}
-use Rattle.rkyv_base.specs.ElementSpec.{ElementSpec}
-use Rattle.rkyv_base.specs.Numbers.{unsigned}
-use Rattle.rkyv_base.specs.Scalar.{ScalarRepresents, scalar_spec}
-use Rattle.rkyv_base.specs.Text.{text_at}
+use Rattle.rkyv_base.specs.{ElementSpec, IsValidArchive, ScalarRepresents, scalar_spec, text_at}
+use Rattle.rkyv_base.specs.{unsigned}
 use Rattle.rkyv_base.specs.declared.errors.WriteError.{WriteError}
 use Rattle.rkyv_base.specs.declared.writer.NoMemory.{NoMemory}
-use Rattle.rkyv_keys.specs.Calls.{text_calls}
-use Rattle.rkyv_keys.specs.Natives.{NativePairs}
-use Rattle.rkyv_keys.specs.OfScalars.{one_call, scalar_fits}
-use Rattle.rkyv_keys.specs.OfTexts.{same_bytes}
-use Rattle.rkyv_collections.specs.Map.MapAt.{MapAt, ValueQuery}
-use Rattle.rkyv_collections.specs.Natives.{PairFormat}
-use Rattle.rkyv_index.specs.Index.IndexFormat.{indices}
+use Rattle.rkyv_keys.specs.{NativePairs, one_call, same_bytes, scalar_fits, text_calls}
+use Rattle.rkyv_collections.specs.{MapAt, PairFormat, ValueQuery}
+use Rattle.rkyv_index.specs.{indices}
 use Rattle.ffi_calls.specs.Archives.{limit_of, word_of}
 use Rattle.ffi_calls.specs.IndexArchives.{ReturnsIndexed, StoresPairs, found_index, index_in}
 use Rattle.ffi_calls.specs.IndexArchives.{index_map}

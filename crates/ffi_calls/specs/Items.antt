@@ -5,17 +5,13 @@ use Rattle.std.specs.Borrow.{Bor}
 use Rattle.std.specs.Str.{IsUtf8}
 use Rattle.std.specs.declared.vec.Vec.{Vec}
 use mir.Val.{bits}
-use Rattle.rkyv_base.specs.Scalar.{Encoding, scalar_format}
-use Rattle.rkyv_base.specs.ElementSpec.{ElementSpec}
-use Rattle.rkyv_base.specs.Pairs.{written_as}
-use Rattle.rkyv_base.specs.Text.{text_spec}
-use Rattle.rkyv_base.specs.TextWriting.{text_format}
+use Rattle.rkyv_base.specs.{ElementSpec, Encoding, scalar_format, text_format, text_spec}
+use Rattle.rkyv_base.specs.{written_as}
 use Rattle.rkyv_base.specs.declared.errors.WriteError.{WriteError}
 use Rattle.rkyv_base.specs.declared.writer.NoMemory.{NoMemory}
-use Rattle.rkyv_keys.specs.Calls.{text_calls}
+use Rattle.rkyv_keys.specs.{one_call, text_calls}
 use Rattle.rkyv_keys.specs.Lemmas.OfTexts.{text_key_calls}
-use Rattle.rkyv_keys.specs.OfScalars.{one_call}
-use Rattle.rkyv_collections.specs.Natives.{PairFormat}
+use Rattle.rkyv_collections.specs.{PairFormat}
 use Rattle.ffi_calls.specs.Archives.{limit_of, most_of, value_encoding, value_spec, word_of}
 use Rattle.ffi_calls.specs.Keys.{NumberKey}
 use Rattle.ffi_calls.specs.Listed.{TextRepresents, number_natives}

@@ -1,10 +1,8 @@
 -- Keys that are numbers.
 use Rattle.std.specs.Prelude.{ℕ, ◌==◌, Bool}
 use Rattle.std.specs.Int.{w32, w64}
-use Rattle.rkyv_scan.specs.Hash.{HasherCall, U32, U64}
-use Rattle.rkyv_base.specs.ElementSpec.{ElementSpec}
-use Rattle.rkyv_base.specs.Numbers.{unsigned}
-use Rattle.rkyv_base.specs.Scalar.{Encoding, scalar_spec}
+use Rattle.rkyv_scan.specs.{HasherCall, U32, U64}
+use Rattle.rkyv_base.specs.{ElementSpec, Encoding, scalar_spec, unsigned}
 
 -- a key that is a number. `eq`: equality of numbers, `spec` and `encoding`: those of the number,
 -- `call`: its hasher call

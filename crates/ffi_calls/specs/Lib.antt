@@ -1,3 +1,4 @@
+-- All definitions of the crate, which contracts and proofs import from here.
 pub mod Status
 pub mod Reading
 pub mod Keys
@@ -19,3 +20,89 @@ pub mod IndexItems
 pub mod IndexInPlace
 pub mod IndexTextValues
 pub mod Lemmas
+unfoldable pub use Status.{container_status, verify_status, write_status}
+unfoldable pub use Reading.{Agrees, HasBytesOf, IsNumberOf, IsSame, ReadsText, ReadsWord}
+unfoldable pub use Keys.{NumberKey, long_key, short_key}
+unfoldable pub use Archives.{IsHeaderOf, IsMapArchive, IsNumberArchive, IsTextArchive, KeepsHeader}
+unfoldable pub use Archives.{Opens, Overwrites, ReturnsAt, by_flag, form_of, hash_by, limit_of}
+unfoldable pub use Archives.{map_in, most_of, number_map, numbers_in, root, text_key, text_map}
+unfoldable pub use Archives.{texts_in, value_encoding, value_found, value_spec, word_of}
+unfoldable pub use Lists.{ArchiveFails, ArchivesRepresent, IsArchiveOf, IsWritten, PairsRepresent}
+unfoldable pub use Lists.{PosOfFirst, ReturnsFirst, SetsFirstOf, WalksVisitListed, archive_width}
+unfoldable pub use Lists.{format_of, fx_format, fx_pairs, header_spec, natives, pairs_format}
+unfoldable pub use Lists.{query_of_key, query_pairs}
+pub use Lists.{ArchiveWidth}
+unfoldable pub use Listed.{FindsFirst, ReturnsFirstNumber, ReturnsFirstText, SetsFirstNumber}
+unfoldable pub use Listed.{SetsFirstText, TextRepresents, number_natives, query_of_number}
+unfoldable pub use Listed.{query_of_text, text_natives}
+unfoldable pub use Items.{ArchiveOfNumbersFails, ArchiveOfTextsFails, ArePairsOfNumbers}
+unfoldable pub use Items.{ArePairsOfTexts, FirstUnfit, IsArchiveOfNumbers, IsArchiveOfTextPairs}
+unfoldable pub use Items.{IsArchiveOfTexts, NumberFits, NumbersWriteFails, NumbersWriteOk, Outputs}
+unfoldable pub use Items.{PairsOfNumbersFail, PairsOfTextsFail, TextFits, TextItemFails}
+unfoldable pub use Items.{TextPairsFail, TextsWriteFails, TextsWriteOk, WritesNumbers, number_pair}
+unfoldable pub use Items.{numbers_format, text_number_model, text_pair, width_of}
+unfoldable pub use Walking.{AreStepsIn, FindsNext, FindsNextPair, IsNextBucket, IsPairIn}
+unfoldable pub use Walking.{StoresNextPairs, StoresSteps, bucket_pair_pos, buckets_from}
+unfoldable pub use Calls.{ReturnsNumber, ReturnsText, SetsNumber, SetsText, StoresNextNumbers}
+unfoldable pub use Calls.{StoresNextTexts, number_found, text_found}
+unfoldable pub use TextValues.{IsNumberTextArchive, IsTextTextArchive, ReturnsFirstTextOfNumber}
+unfoldable pub use TextValues.{ReturnsFirstTextOfText, ReturnsFirstTextValue, ReturnsTextAt}
+unfoldable pub use TextValues.{ReturnsTextOfNumber, ReturnsTextOfText, StoresNextNumberTexts}
+unfoldable pub use TextValues.{StoresNextTextTexts, number_text_map, number_texts_in, text_by}
+unfoldable pub use TextValues.{text_of_text_found, text_text_map, text_texts_in, to_texts_in}
+unfoldable pub use TextItems.{ArchiveOfNumberTextsFails, ArchiveOfTextTextsFails, AreNumberTexts}
+unfoldable pub use TextItems.{ArePairsOf, AreTextTexts, IsArchiveOfNumberTexts}
+unfoldable pub use TextItems.{IsArchiveOfTextTexts, ItemsWriteFails, ItemsWriteOk, NumberTextFits}
+unfoldable pub use TextItems.{NumberTextsFail, NumberTextsWriteFails, NumberTextsWriteOk, PairsFail}
+unfoldable pub use TextItems.{TextTextFits, TextTextsFail, TextTextsWriteFails, TextTextsWriteOk}
+unfoldable pub use TextItems.{bytes_format, number_text_image, number_text_model}
+unfoldable pub use TextItems.{number_texts_format, number_texts_natives, text_text_image}
+unfoldable pub use TextItems.{text_text_model, text_texts_format, text_texts_natives, width_by}
+unfoldable pub use Containers.{AreUnknown, HasCodes, IsWrittenAs, MatchCodes, OpensAs}
+unfoldable pub use Containers.{OpensContainer, OpensOwn, OpensOwnCodes, ReadsWidth}
+unfoldable pub use Containers.{UpdatesContainer, WritesContainerHeader, codes_of}
+unfoldable pub use Containers.{container_width_by}
+unfoldable pub use Explanation.{Explains, ExplainsAs, ExplainsContainer, explain}
+unfoldable pub use Explanation.{explain_container_error, explained, nearest}
+unfoldable pub use Sets.{FindsItem, FindsListedNumber, FindsListedText, FindsNumber, FindsText}
+unfoldable pub use Sets.{IsFoundStatus, IsNumberSet, IsTextSet, StoresNextNumberMembers}
+unfoldable pub use Sets.{StoresNextTextMembers, member_found, number_set, number_set_in, set_in}
+unfoldable pub use Sets.{text_set, text_set_in}
+unfoldable pub use SetItems.{ArchiveOfNumberSetFails, ArchiveOfTextSetFails, AreSetTexts}
+unfoldable pub use SetItems.{IsArchiveOfNumberSet, IsArchiveOfTextSet, IsSetArchive}
+unfoldable pub use SetItems.{NumberSetWriteFails, NumberSetWriteOk, SetArchiveFails}
+unfoldable pub use SetItems.{SetArchivesRepresent, SetTextFits, SetTextsFail, TextSetWriteFails}
+unfoldable pub use SetItems.{TextSetWriteOk, fx_hash_at, fx_items, items_format, number_items}
+unfoldable pub use SetItems.{set_text_image, set_text_model, text_items}
+unfoldable pub use IndexArchives.{IsIndexArchive, IsIndexPair, IsNumberIndex, IsPairAtIndex}
+unfoldable pub use IndexArchives.{IsTextIndex, ReturnsIndexed, ReturnsIndexedBytes}
+unfoldable pub use IndexArchives.{ReturnsIndexedNumber, ReturnsIndexedText, StoresNumbers}
+unfoldable pub use IndexArchives.{StoresTexts, found_index, index_at, index_in, index_map}
+unfoldable pub use IndexArchives.{index_root, number_index, number_index_found, number_index_in}
+unfoldable pub use IndexArchives.{pair_count, pair_pos_at, text_index, text_index_found}
+unfoldable pub use IndexArchives.{text_index_in, value_pos_at}
+pub use IndexArchives.{StoresPairs}
+unfoldable pub use IndexLists.{HasValueAt, IndexRepresentsPairs, ReturnsFirstIndexed}
+unfoldable pub use IndexLists.{ReturnsFirstIndexedNumber, ReturnsFirstIndexedText, StoresListed}
+unfoldable pub use IndexLists.{StoresListedNumbers, StoresListedTexts}
+unfoldable pub use IndexItems.{IndexFails, IndexOfNumbersFails, IndexOfTextsFails, IndexesRepresent}
+unfoldable pub use IndexItems.{IsIndexOf, IsIndexOfNumbers, IsIndexOfTexts, NumberIndexWriteFails}
+unfoldable pub use IndexItems.{NumberIndexWriteOk, TextIndexWriteFails, TextIndexWriteOk}
+unfoldable pub use IndexItems.{WritesNumberIndex, WritesTextIndex, index_header_spec}
+unfoldable pub use IndexItems.{index_pairs_format, index_width, index_width_of}
+pub use IndexItems.{IndexWidth}
+unfoldable pub use IndexInPlace.{FindsFirstIndex, SetsFirstIndexed, SetsFirstIndexedNumber}
+unfoldable pub use IndexInPlace.{SetsFirstIndexedText, SetsIndexedBytes, SetsIndexedNumber}
+unfoldable pub use IndexInPlace.{SetsIndexedText, value_found_in}
+unfoldable pub use IndexTextValues.{IndexOfNumberTextsFails, IndexOfTextTextsFails, IndexWriteFails}
+unfoldable pub use IndexTextValues.{IndexWriteOk, IsIndexOfNumberTexts, IsIndexOfTextTexts}
+unfoldable pub use IndexTextValues.{IsNumberTextIndex, IsTextTextIndex, NumberTextIndexWriteFails}
+unfoldable pub use IndexTextValues.{NumberTextIndexWriteOk, ReturnsFirstIndexedTextAt}
+unfoldable pub use IndexTextValues.{ReturnsFirstIndexedTextOfNumber, ReturnsFirstIndexedTextOfText}
+unfoldable pub use IndexTextValues.{ReturnsIndexedTextAt, ReturnsIndexedTextOfBytes}
+unfoldable pub use IndexTextValues.{ReturnsIndexedTextOfNumber, ReturnsIndexedTextOfText}
+unfoldable pub use IndexTextValues.{StoresListedNumberTexts, StoresListedTextTexts}
+unfoldable pub use IndexTextValues.{StoresNumberTexts, StoresTextTexts, TextTextIndexWriteFails}
+unfoldable pub use IndexTextValues.{TextTextIndexWriteOk, WritesNumberTextIndex, index_width_by}
+unfoldable pub use IndexTextValues.{number_text_index, number_text_index_in, text_text_index}
+unfoldable pub use IndexTextValues.{text_text_index_in}

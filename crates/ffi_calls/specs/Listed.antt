@@ -2,12 +2,10 @@
 use Rattle.std.specs.Prelude.{ℕ, List}
 use Rattle.std.specs.Borrow.{Bor}
 use Rattle.std.specs.Int.{Width}
-use Rattle.rkyv_base.specs.Scalar.{Encoding, ScalarRepresents}
-use Rattle.rkyv_keys.specs.Natives.{NativePairs}
-use Rattle.rkyv_keys.specs.OfScalars.{scalar_calls}
-use Rattle.rkyv_keys.specs.OfTexts.{same_bytes}
+use Rattle.rkyv_base.specs.{Encoding, ScalarRepresents}
+use Rattle.rkyv_keys.specs.{NativePairs, same_bytes, scalar_calls}
 use Rattle.rkyv_keys.specs.Lemmas.OfTexts.{IsTextOf, text_key_calls}
-use Rattle.rkyv_collections.specs.Map.MapAt.{MapAt, ValueQuery}
+use Rattle.rkyv_collections.specs.{MapAt, ValueQuery}
 use Rattle.ffi_calls.specs.Archives.{numbers_in, texts_in, value_encoding, word_of}
 use Rattle.ffi_calls.specs.Keys.{NumberKey}
 use Rattle.ffi_calls.specs.Lists.{ReturnsFirst, SetsFirstOf, natives, query_of_key}

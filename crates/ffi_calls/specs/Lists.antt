@@ -3,25 +3,14 @@ use Rattle.std.specs.Prelude.{◌≡◌, ℕ, ◌<◌, ◌^◌, ◌≤◌, ◌�
 use Rattle.std.specs.Prelude.{Option, Some}
 use Rattle.std.specs.Int.{Width}
 use mir.Val.{bits}
-use Rattle.rkyv_base.specs.Members.{WidthMembers}
-use Rattle.rkyv_scan.specs.Hash.{HasherCall, fx_hasher, low_halves}
-use Rattle.rkyv_base.specs.Access.{IsValidArchive}
-use Rattle.rkyv_base.specs.Format.{Format}
-use Rattle.rkyv_base.specs.Root.{ArchiveOf, ToBytesFails}
-use Rattle.rkyv_base.specs.Scalar.{Encoding, ScalarRepresents, scalar_format}
-use Rattle.rkyv_base.specs.ElementSpec.{ElementSpec}
+use Rattle.rkyv_base.specs.{ArchiveOf, ElementSpec, Encoding, Format, IsValidArchive}
+use Rattle.rkyv_base.specs.{ScalarRepresents, ToBytesFails, WidthMembers, scalar_format}
+use Rattle.rkyv_scan.specs.{HasherCall, fx_hasher, low_halves}
 use Rattle.rkyv_base.specs.declared.errors.WriteError.{WriteError}
-use Rattle.rkyv_table.specs.Table.Listed.{listed}
-use Rattle.rkyv_table.specs.Table.TableFormat.{TableResolver}
-use Rattle.rkyv_collections.specs.Map.InPlace.{with_first}
-use Rattle.rkyv_keys.specs.FirstPairs.{first_pair, first_value}
-use Rattle.rkyv_collections.specs.Map.ListedWalks.{WalksVisitPairs}
-use Rattle.rkyv_collections.specs.Map.MapAt.{MapAt, ValueQuery, query_of_value}
-use Rattle.rkyv_collections.specs.Map.MapSpec.{map_spec}
-use Rattle.rkyv_collections.specs.Map.MapFormat.{MapRepresents, map_format}
-use Rattle.rkyv_keys.specs.Natives.{NativePairs, native_pairs}
-use Rattle.rkyv_collections.specs.Natives.{PairFormat}
-use Rattle.rkyv_collections.specs.Natives.{native_format}
+use Rattle.rkyv_table.specs.{TableResolver, listed}
+use Rattle.rkyv_collections.specs.{MapAt, MapRepresents, PairFormat, ValueQuery, WalksVisitPairs}
+use Rattle.rkyv_collections.specs.{map_format, map_spec, native_format, query_of_value, with_first}
+use Rattle.rkyv_keys.specs.{NativePairs, first_pair, first_value, native_pairs}
 use Rattle.ffi_calls.specs.Archives.{map_in}
 
 -- the pairs that bytes represent. `key` and `value`: what represents the keys and the values,

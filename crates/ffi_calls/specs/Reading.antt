@@ -2,9 +2,7 @@
 use Rattle.std.specs.Prelude.{◌≡◌, ℕ, List}
 use Rattle.std.specs.Borrow.{Bor}
 use Rattle.std.specs.Int.{Width}
-use Rattle.rkyv_base.specs.Bytes.{number_at}
-use Rattle.rkyv_base.specs.Scalar.{Encoding}
-use Rattle.rkyv_base.specs.Text.{text_at}
+use Rattle.rkyv_base.specs.{Encoding, number_at, text_at}
 
 -- A stored value at a position is that of the native value that the bytes there represent.
 -- `reads`: the stored value at a position, `is_of`: a stored value is that of a native value

@@ -2,25 +2,17 @@
 use Rattle.std.specs.Prelude.{◌≡◌, ℕ, ◌⊎◌, Bool, List}
 use Rattle.std.specs.Borrow.{Bor}
 use Rattle.std.specs.Str.{IsUtf8}
-use Rattle.rkyv_scan.specs.Hash.{HasherCall, fx_hasher, hash_of_calls, low_halves}
-use Rattle.rkyv_base.specs.Access.{IsValidArchive}
-use Rattle.rkyv_base.specs.ElementSpec.{ElementSpec}
-use Rattle.rkyv_base.specs.Empty.{unit_spec}
-use Rattle.rkyv_base.specs.Format.{Format}
-use Rattle.rkyv_base.specs.Root.{ArchiveOf, ToBytesFails}
-use Rattle.rkyv_base.specs.Scalar.{ScalarRepresents, scalar_format}
-use Rattle.rkyv_base.specs.Text.{text_spec}
+use Rattle.rkyv_scan.specs.{HasherCall, fx_hasher, hash_of_calls, low_halves}
+use Rattle.rkyv_base.specs.{ArchiveOf, ElementSpec, Format, IsValidArchive, ScalarRepresents}
+use Rattle.rkyv_base.specs.{ToBytesFails, scalar_format, text_spec, unit_spec}
 use Rattle.rkyv_base.specs.declared.errors.WriteError.{WriteError}
 use Rattle.rkyv_base.specs.declared.strings.TextResolver.{TextResolver}
 use Rattle.rkyv_base.specs.declared.writer.NoMemory.{NoMemory}
-use Rattle.rkyv_keys.specs.Calls.{text_calls}
+use Rattle.rkyv_keys.specs.{one_call, scalar_calls, text_calls}
 use Rattle.rkyv_keys.specs.Lemmas.OfTexts.{text_key_calls}
-use Rattle.rkyv_keys.specs.OfScalars.{one_call, scalar_calls}
-use Rattle.rkyv_table.specs.Table.Listed.{listed}
-use Rattle.rkyv_table.specs.Table.TableFormat.{TableResolver}
-use Rattle.rkyv_collections.specs.Natives.{KeyFormat, native_key_format}
-use Rattle.rkyv_collections.specs.Set.{set_spec}
-use Rattle.rkyv_collections.specs.Set.SetFormat.{SetRepresents, set_format}
+use Rattle.rkyv_table.specs.{TableResolver, listed}
+use Rattle.rkyv_collections.specs.{KeyFormat, SetRepresents, native_key_format, set_format}
+use Rattle.rkyv_collections.specs.{set_spec}
 use Rattle.ffi_calls.specs.Archives.{root}
 use Rattle.ffi_calls.specs.Keys.{NumberKey}
 use Rattle.ffi_calls.specs.Listed.{TextRepresents}

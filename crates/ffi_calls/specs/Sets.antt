@@ -4,17 +4,10 @@ use Rattle.std.specs.Borrow.{Bor}
 use Rattle.std.specs.Int.{Width}
 use Rattle.std.specs.List.{find}
 use Rattle.std.specs.Str.{IsUtf8}
-use Rattle.rkyv_base.specs.Access.{IsValidArchive}
-use Rattle.rkyv_base.specs.ElementSpec.{ElementSpec}
-use Rattle.rkyv_base.specs.Empty.{unit_represents, unit_spec}
-use Rattle.rkyv_base.specs.Text.{text_at}
-use Rattle.rkyv_base.specs.Scalar.{ScalarRepresents}
-use Rattle.rkyv_keys.specs.Calls.{text_calls}
-use Rattle.rkyv_keys.specs.OfScalars.{one_call, scalar_fits}
-use Rattle.rkyv_keys.specs.OfTexts.{same_bytes}
-use Rattle.rkyv_collections.specs.Map.MapAt.{MapAt, ValueQuery}
-use Rattle.rkyv_collections.specs.Set.{set_spec}
-use Rattle.rkyv_collections.specs.Set.SetFormat.{SetRepresents}
+use Rattle.rkyv_base.specs.{ElementSpec, IsValidArchive, ScalarRepresents, text_at, unit_represents}
+use Rattle.rkyv_base.specs.{unit_spec}
+use Rattle.rkyv_keys.specs.{one_call, same_bytes, scalar_fits, text_calls}
+use Rattle.rkyv_collections.specs.{MapAt, SetRepresents, ValueQuery, set_spec}
 use Rattle.ffi_calls.specs.Archives.{limit_of, map_in, value_found, word_of}
 use Rattle.ffi_calls.specs.Keys.{NumberKey}
 use Rattle.ffi_calls.specs.Listed.{query_of_number, query_of_text}

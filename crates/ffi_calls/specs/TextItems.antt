@@ -2,19 +2,14 @@
 use Rattle.std.specs.Prelude.{◌≡◌, ℕ, ◌⊎◌, All, Bool, List, map}
 use Rattle.std.specs.Borrow.{Bor}
 use Rattle.std.specs.Str.{IsUtf8}
-use Rattle.rkyv_base.specs.Format.{Format}
-use Rattle.rkyv_base.specs.Pairs.{written_as}
-use Rattle.rkyv_base.specs.Scalar.{ScalarRepresents, scalar_format}
-use Rattle.rkyv_base.specs.Text.{text_spec}
-use Rattle.rkyv_base.specs.TextWriting.{text_format}
+use Rattle.rkyv_base.specs.{Format, ScalarRepresents, scalar_format, text_format, text_spec}
+use Rattle.rkyv_base.specs.{written_as}
 use Rattle.rkyv_base.specs.declared.errors.WriteError.{WriteError}
 use Rattle.rkyv_base.specs.declared.strings.TextResolver.{TextResolver}
 use Rattle.rkyv_base.specs.declared.writer.NoMemory.{NoMemory}
-use Rattle.rkyv_keys.specs.Calls.{text_calls}
+use Rattle.rkyv_keys.specs.{NativePairs, one_call, scalar_calls, text_calls}
 use Rattle.rkyv_keys.specs.Lemmas.OfTexts.{text_key_calls}
-use Rattle.rkyv_keys.specs.Natives.{NativePairs}
-use Rattle.rkyv_keys.specs.OfScalars.{one_call, scalar_calls}
-use Rattle.rkyv_collections.specs.Natives.{PairFormat}
+use Rattle.rkyv_collections.specs.{PairFormat}
 use Rattle.ffi_calls.specs.Archives.{limit_of, most_of, word_of}
 use Rattle.ffi_calls.specs.Items.{FirstUnfit}
 use Rattle.ffi_calls.specs.Keys.{NumberKey}

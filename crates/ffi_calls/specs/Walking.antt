@@ -1,12 +1,9 @@
 -- Walks over the pairs of a map, from a bucket on.
 use Rattle.std.specs.Prelude.{◌≡◌, ℕ, ◌+◌, List, [], ◌∷◌, MatchOption, Option, drop, length}
 use Rattle.std.specs.Prelude.{take}
-use Rattle.rkyv_base.specs.Entry.{entry_spec}
-use Rattle.rkyv_base.specs.Sealing.{value_pos}
-use Rattle.rkyv_table.specs.Controls.Walking.{full_from}
-use Rattle.rkyv_table.specs.Table.Header.{cap_at}
-use Rattle.rkyv_table.specs.Table.Positions.{item_at, table_controls}
-use Rattle.rkyv_collections.specs.Map.MapAt.{MapAt}
+use Rattle.rkyv_base.specs.{entry_spec, value_pos}
+use Rattle.rkyv_table.specs.{cap_at, full_from, item_at, table_controls}
+use Rattle.rkyv_collections.specs.{MapAt}
 use Rattle.ffi_calls.specs.declared.pairs.Pair.{Pair}
 use Rattle.ffi_calls.specs.declared.pairs.Step.{Step}
 use Rattle.ffi_calls.specs.declared.walk.BucketPos.{BucketPos}

@@ -1,11 +1,9 @@
 //! The archive of a map: its validation, and its header, which is decoded once.
 
 ghost use Rattle.std.specs.Prelude.{◌≡◌};
-ghost use Rattle.rkyv_base.specs.Access.{IsValidArchive};
-ghost use Rattle.rkyv_base.specs.ElementSpec.{Viewable};
-ghost use Rattle.rkyv_collections.specs.Map.MapSpec.{map_spec};
-ghost use Rattle.rkyv_collections.specs.Map.{map_bytes, map_pos};
-ghost use Rattle.ffi_calls.specs.Archives.{IsHeaderOf, IsMapArchive, Opens, map_in, root};
+ghost use Rattle.rkyv_base.specs.{IsValidArchive, Viewable};
+ghost use Rattle.rkyv_collections.specs.{map_bytes, map_pos, map_spec};
+ghost use Rattle.ffi_calls.specs.{IsHeaderOf, IsMapArchive, Opens, map_in, root};
 
 use crate::status::{DONE, verify_status};
 use rkyv_base::access::{access_in, access_unchecked};

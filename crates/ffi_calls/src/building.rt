@@ -1,8 +1,7 @@
 //! Archives of lists of pairs.
 
 ghost use Rattle.std.specs.Prelude.{IfErr, IfOk, MatchResult, ◌≡◌};
-ghost use Rattle.ffi_calls.specs.Lists.{ArchiveFails, IsWritten, archive_width, fx_format};
-ghost use Rattle.ffi_calls.specs.Lists.{fx_pairs};
+ghost use Rattle.ffi_calls.specs.{ArchiveFails, IsWritten, archive_width, fx_format, fx_pairs};
 
 use crate::status::DONE;
 use rkyv_base::archive::Serialize;

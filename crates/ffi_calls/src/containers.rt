@@ -7,11 +7,9 @@
 //! the codes.
 
 ghost use Rattle.std.specs.Prelude.{length, MatchOption, ◌≡◌};
-ghost use Rattle.ffi_calls.specs.Containers.{AreUnknown, HasCodes, OpensAs, OpensContainer};
-ghost use Rattle.ffi_calls.specs.Containers.{OpensOwn, OpensOwnCodes, ReadsWidth};
-ghost use Rattle.ffi_calls.specs.Containers.{UpdatesContainer, WritesContainerHeader};
-ghost use Rattle.ffi_calls.specs.Containers.{container_width_by};
-ghost use Rattle.ffi_calls.specs.Explanation.{ExplainsAs, ExplainsContainer};
+ghost use Rattle.ffi_calls.specs.{AreUnknown, ExplainsAs, ExplainsContainer, HasCodes, OpensAs};
+ghost use Rattle.ffi_calls.specs.{OpensContainer, OpensOwn, OpensOwnCodes, ReadsWidth};
+ghost use Rattle.ffi_calls.specs.{UpdatesContainer, WritesContainerHeader, container_width_by};
 
 use crate::explanation::{Explanation, explain_container_error, explained};
 use crate::status::{DONE, UNKNOWN_CODES, WRONG_LENGTH, container_status};

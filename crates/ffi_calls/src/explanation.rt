@@ -1,9 +1,8 @@
 //! Why an archive is invalid, or a container: the first error, with its numbers.
 
 ghost use Rattle.std.specs.Prelude.{◌≡◌};
-ghost use Rattle.rkyv_collections.specs.Map.MapSpec.{map_spec};
-ghost use Rattle.ffi_calls.specs.Explanation.{Explains, explain, explain_container_error};
-ghost use Rattle.ffi_calls.specs.Explanation.{explained, nearest};
+ghost use Rattle.rkyv_collections.specs.{map_spec};
+ghost use Rattle.ffi_calls.specs.{Explains, explain, explain_container_error, explained, nearest};
 
 use crate::status::DONE;
 use rkyv_base::access::access_in;

@@ -1,15 +1,12 @@
 //! Index maps: their validation, the map in a valid archive, and lookups of keys.
 
 ghost use Rattle.std.specs.Prelude.{map, ◌≡◌};
-ghost use Rattle.rkyv_base.specs.Access.{IsValidArchive};
-ghost use Rattle.rkyv_index.specs.Index.{index_bytes, index_pos};
-ghost use Rattle.ffi_calls.specs.Archives.{IsHeaderOf, Opens};
-ghost use Rattle.ffi_calls.specs.Explanation.{Explains};
-ghost use Rattle.ffi_calls.specs.IndexArchives.{IsIndexArchive, IsIndexPair, ReturnsIndexed};
-ghost use Rattle.ffi_calls.specs.IndexArchives.{IsPairAtIndex, StoresPairs, found_index, index_at};
-ghost use Rattle.ffi_calls.specs.IndexArchives.{index_in, index_map, index_root};
-ghost use Rattle.ffi_calls.specs.IndexLists.{ReturnsFirstIndexed, StoresListed};
-ghost use Rattle.ffi_calls.specs.Lists.{fx_pairs, query_of_key};
+ghost use Rattle.rkyv_base.specs.{IsValidArchive};
+ghost use Rattle.rkyv_index.specs.{index_bytes, index_pos};
+ghost use Rattle.ffi_calls.specs.{Explains, IsHeaderOf, IsIndexArchive, IsIndexPair, IsPairAtIndex};
+ghost use Rattle.ffi_calls.specs.{Opens, ReturnsFirstIndexed, ReturnsIndexed, StoresListed};
+ghost use Rattle.ffi_calls.specs.{StoresPairs, found_index, fx_pairs, index_at, index_in};
+ghost use Rattle.ffi_calls.specs.{index_map, index_root, query_of_key};
 
 use crate::explanation::{Explanation, explain, explained};
 use crate::pairs::{Indexed, IndexedOf, Pair, PairOf};

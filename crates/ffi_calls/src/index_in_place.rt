@@ -1,12 +1,10 @@
 //! Overwrites of values in index maps.
 
 ghost use Rattle.std.specs.Prelude.{IfSome, ◌<◌, ◌≡◌};
-ghost use Rattle.rkyv_base.specs.ElementSpec.{Viewable};
-ghost use Rattle.ffi_calls.specs.Archives.{KeepsHeader, Overwrites};
-ghost use Rattle.ffi_calls.specs.IndexArchives.{IsIndexArchive, found_index, index_in, index_map};
-ghost use Rattle.ffi_calls.specs.IndexArchives.{index_root, pair_count};
-ghost use Rattle.ffi_calls.specs.IndexInPlace.{FindsFirstIndex, SetsFirstIndexed, value_found_in};
-ghost use Rattle.ffi_calls.specs.Lists.{query_of_key};
+ghost use Rattle.rkyv_base.specs.{Viewable};
+ghost use Rattle.ffi_calls.specs.{FindsFirstIndex, IsIndexArchive, KeepsHeader, Overwrites};
+ghost use Rattle.ffi_calls.specs.{SetsFirstIndexed, found_index, index_in, index_map, index_root};
+ghost use Rattle.ffi_calls.specs.{pair_count, query_of_key, value_found_in};
 
 use crate::status::{DONE, NOT_FOUND, VALUE_TOO_LARGE};
 use crate::value::Value;

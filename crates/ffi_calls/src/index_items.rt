@@ -1,10 +1,9 @@
 //! Archives of pairs as index maps.
 
 ghost use Rattle.std.specs.Prelude.{MatchResult, map};
-ghost use Rattle.ffi_calls.specs.IndexItems.{IndexOfNumbersFails, IndexOfTextsFails};
-ghost use Rattle.ffi_calls.specs.IndexItems.{IsIndexOfNumbers, IsIndexOfTexts, WritesNumberIndex};
-ghost use Rattle.ffi_calls.specs.IndexItems.{WritesTextIndex, index_width};
-ghost use Rattle.ffi_calls.specs.Items.{Outputs};
+ghost use Rattle.ffi_calls.specs.{IndexOfNumbersFails, IndexOfTextsFails, IsIndexOfNumbers};
+ghost use Rattle.ffi_calls.specs.{IsIndexOfTexts, Outputs, WritesNumberIndex, WritesTextIndex};
+ghost use Rattle.ffi_calls.specs.{index_width};
 
 use crate::building::{Built, leak_into};
 use crate::form::Form;

@@ -4,12 +4,10 @@
 //! valid one.
 
 ghost use Rattle.std.specs.Prelude.{map, ◌≡◌};
-ghost use Rattle.ffi_calls.specs.Archives.{IsHeaderOf, KeepsHeader, Opens, limit_of};
-ghost use Rattle.ffi_calls.specs.Explanation.{Explains};
-ghost use Rattle.ffi_calls.specs.IndexArchives.{IsNumberIndex, ReturnsIndexedNumber, StoresNumbers};
-ghost use Rattle.ffi_calls.specs.IndexArchives.{number_index, number_index_in};
-ghost use Rattle.ffi_calls.specs.IndexInPlace.{SetsFirstIndexedNumber, SetsIndexedNumber};
-ghost use Rattle.ffi_calls.specs.IndexLists.{ReturnsFirstIndexedNumber, StoresListedNumbers};
+ghost use Rattle.ffi_calls.specs.{Explains, IsHeaderOf, IsNumberIndex, KeepsHeader, Opens};
+ghost use Rattle.ffi_calls.specs.{ReturnsFirstIndexedNumber, ReturnsIndexedNumber};
+ghost use Rattle.ffi_calls.specs.{SetsFirstIndexedNumber, SetsIndexedNumber, StoresListedNumbers};
+ghost use Rattle.ffi_calls.specs.{StoresNumbers, limit_of, number_index, number_index_in};
 
 use crate::explanation::Explanation;
 use crate::form::Form;

@@ -4,12 +4,10 @@
 //! other calls require a valid one.
 
 ghost use Rattle.std.specs.Prelude.{map, ◌≡◌};
-ghost use Rattle.ffi_calls.specs.Archives.{IsHeaderOf, Opens, limit_of};
-ghost use Rattle.ffi_calls.specs.Explanation.{Explains};
-ghost use Rattle.ffi_calls.specs.IndexTextValues.{ReturnsFirstIndexedTextOfNumber};
-ghost use Rattle.ffi_calls.specs.IndexTextValues.{IsNumberTextIndex, ReturnsIndexedTextOfNumber};
-ghost use Rattle.ffi_calls.specs.IndexTextValues.{StoresListedNumberTexts, StoresNumberTexts};
-ghost use Rattle.ffi_calls.specs.IndexTextValues.{number_text_index, number_text_index_in};
+ghost use Rattle.ffi_calls.specs.{Explains, IsHeaderOf, IsNumberTextIndex, Opens};
+ghost use Rattle.ffi_calls.specs.{ReturnsFirstIndexedTextOfNumber, ReturnsIndexedTextOfNumber};
+ghost use Rattle.ffi_calls.specs.{StoresListedNumberTexts, StoresNumberTexts, limit_of};
+ghost use Rattle.ffi_calls.specs.{number_text_index, number_text_index_in};
 
 use crate::explanation::Explanation;
 use crate::index::{

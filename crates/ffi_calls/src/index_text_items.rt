@@ -1,12 +1,10 @@
 //! Archives of pairs with texts as values, as index maps.
 
 ghost use Rattle.std.specs.Prelude.{MatchResult, map};
-ghost use Rattle.ffi_calls.specs.IndexItems.{index_width};
-ghost use Rattle.ffi_calls.specs.IndexTextValues.{IndexOfNumberTextsFails, IndexOfTextTextsFails};
-ghost use Rattle.ffi_calls.specs.IndexTextValues.{IsIndexOfNumberTexts, IsIndexOfTextTexts};
-ghost use Rattle.ffi_calls.specs.IndexTextValues.{TextTextIndexWriteFails, TextTextIndexWriteOk};
-ghost use Rattle.ffi_calls.specs.IndexTextValues.{WritesNumberTextIndex};
-ghost use Rattle.ffi_calls.specs.Items.{Outputs};
+ghost use Rattle.ffi_calls.specs.{IndexOfNumberTextsFails, IndexOfTextTextsFails};
+ghost use Rattle.ffi_calls.specs.{IsIndexOfNumberTexts, IsIndexOfTextTexts, Outputs};
+ghost use Rattle.ffi_calls.specs.{TextTextIndexWriteFails, TextTextIndexWriteOk};
+ghost use Rattle.ffi_calls.specs.{WritesNumberTextIndex, index_width};
 
 use crate::building::{Built, leak_into};
 use crate::pairs::PairOf;

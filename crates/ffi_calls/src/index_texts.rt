@@ -5,14 +5,11 @@
 
 ghost use Rattle.std.specs.Prelude.{map, ◌≡◌};
 ghost use Rattle.std.specs.Str.{IsUtf8};
-ghost use Rattle.ffi_calls.specs.Archives.{IsHeaderOf, KeepsHeader, Opens, limit_of};
-ghost use Rattle.ffi_calls.specs.Explanation.{Explains};
-ghost use Rattle.ffi_calls.specs.IndexArchives.{ReturnsIndexedBytes, ReturnsIndexedText};
-ghost use Rattle.ffi_calls.specs.IndexArchives.{IsTextIndex};
-ghost use Rattle.ffi_calls.specs.IndexArchives.{StoresTexts, text_index, text_index_in};
-ghost use Rattle.ffi_calls.specs.IndexInPlace.{SetsFirstIndexedText, SetsIndexedBytes};
-ghost use Rattle.ffi_calls.specs.IndexInPlace.{SetsIndexedText};
-ghost use Rattle.ffi_calls.specs.IndexLists.{ReturnsFirstIndexedText, StoresListedTexts};
+ghost use Rattle.ffi_calls.specs.{Explains, IsHeaderOf, IsTextIndex, KeepsHeader, Opens};
+ghost use Rattle.ffi_calls.specs.{ReturnsFirstIndexedText, ReturnsIndexedBytes, ReturnsIndexedText};
+ghost use Rattle.ffi_calls.specs.{SetsFirstIndexedText, SetsIndexedBytes, SetsIndexedText};
+ghost use Rattle.ffi_calls.specs.{StoresListedTexts, StoresTexts, limit_of, text_index};
+ghost use Rattle.ffi_calls.specs.{text_index_in};
 
 use crate::explanation::Explanation;
 use crate::form::Form;

@@ -5,14 +5,10 @@
 
 ghost use Rattle.std.specs.Prelude.{map, ◌≡◌};
 ghost use Rattle.std.specs.Str.{IsUtf8};
-ghost use Rattle.ffi_calls.specs.Archives.{IsHeaderOf, Opens, limit_of};
-ghost use Rattle.ffi_calls.specs.Explanation.{Explains};
-ghost use Rattle.ffi_calls.specs.IndexTextValues.{ReturnsFirstIndexedTextOfText};
-ghost use Rattle.ffi_calls.specs.IndexTextValues.{ReturnsIndexedTextOfBytes};
-ghost use Rattle.ffi_calls.specs.IndexTextValues.{ReturnsIndexedTextOfText};
-ghost use Rattle.ffi_calls.specs.IndexTextValues.{IsTextTextIndex, StoresListedTextTexts};
-ghost use Rattle.ffi_calls.specs.IndexTextValues.{StoresTextTexts, text_text_index};
-ghost use Rattle.ffi_calls.specs.IndexTextValues.{text_text_index_in};
+ghost use Rattle.ffi_calls.specs.{Explains, IsHeaderOf, IsTextTextIndex, Opens};
+ghost use Rattle.ffi_calls.specs.{ReturnsFirstIndexedTextOfText, ReturnsIndexedTextOfBytes};
+ghost use Rattle.ffi_calls.specs.{ReturnsIndexedTextOfText, StoresListedTextTexts, StoresTextTexts};
+ghost use Rattle.ffi_calls.specs.{limit_of, text_text_index, text_text_index_in};
 
 use crate::explanation::Explanation;
 use crate::index::{

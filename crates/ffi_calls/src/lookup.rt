@@ -1,10 +1,10 @@
 //! Lookup of a key's value, and its overwrite in place.
 
 ghost use Rattle.std.specs.Prelude.{IfSome, false, true, ◌≡◌};
-ghost use Rattle.rkyv_base.specs.ElementSpec.{Viewable};
-ghost use Rattle.ffi_calls.specs.Archives.{IsHeaderOf, IsMapArchive, KeepsHeader, ReturnsAt};
-ghost use Rattle.ffi_calls.specs.Archives.{Overwrites, map_in, value_found};
-ghost use Rattle.ffi_calls.specs.Lists.{PosOfFirst, ReturnsFirst, SetsFirstOf, query_of_key};
+ghost use Rattle.rkyv_base.specs.{Viewable};
+ghost use Rattle.ffi_calls.specs.{IsHeaderOf, IsMapArchive, KeepsHeader, Overwrites, PosOfFirst};
+ghost use Rattle.ffi_calls.specs.{ReturnsAt, ReturnsFirst, SetsFirstOf, map_in, query_of_key};
+ghost use Rattle.ffi_calls.specs.{value_found};
 
 use crate::archives::{map_of, root_of};
 use crate::reading::{ReadAs, StoresNative};

@@ -1,10 +1,8 @@
 //! Archives of pairs of numbers.
 
 ghost use Rattle.std.specs.Prelude.{MatchResult, map};
-ghost use Rattle.ffi_calls.specs.Items.{ArchiveOfNumbersFails, IsArchiveOfNumbers};
-ghost use Rattle.ffi_calls.specs.Items.{ArePairsOfNumbers, Outputs, PairsOfNumbersFail};
-ghost use Rattle.ffi_calls.specs.Items.{WritesNumbers};
-ghost use Rattle.ffi_calls.specs.Lists.{archive_width};
+ghost use Rattle.ffi_calls.specs.{ArchiveOfNumbersFails, ArePairsOfNumbers, IsArchiveOfNumbers};
+ghost use Rattle.ffi_calls.specs.{Outputs, PairsOfNumbersFail, WritesNumbers, archive_width};
 
 use crate::building::{Built, archive_of, leak_into};
 use crate::form::Form;

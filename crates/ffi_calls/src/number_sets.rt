@@ -4,14 +4,11 @@
 //! one. The other calls require a valid one.
 
 ghost use Rattle.std.specs.Prelude.{MatchResult, map, ◌≡◌};
-ghost use Rattle.ffi_calls.specs.Archives.{IsHeaderOf, Opens, limit_of};
-ghost use Rattle.ffi_calls.specs.Explanation.{Explains};
-ghost use Rattle.ffi_calls.specs.Items.{Outputs};
-ghost use Rattle.ffi_calls.specs.Lists.{archive_width};
-ghost use Rattle.ffi_calls.specs.SetItems.{ArchiveOfNumberSetFails, IsArchiveOfNumberSet};
-ghost use Rattle.ffi_calls.specs.SetItems.{NumberSetWriteFails, NumberSetWriteOk};
-ghost use Rattle.ffi_calls.specs.Sets.{FindsListedNumber, FindsNumber, IsNumberSet};
-ghost use Rattle.ffi_calls.specs.Sets.{StoresNextNumberMembers, number_set, number_set_in};
+ghost use Rattle.ffi_calls.specs.{ArchiveOfNumberSetFails, Explains, FindsListedNumber};
+ghost use Rattle.ffi_calls.specs.{FindsNumber, IsArchiveOfNumberSet, IsHeaderOf, IsNumberSet};
+ghost use Rattle.ffi_calls.specs.{NumberSetWriteFails, NumberSetWriteOk, Opens, Outputs};
+ghost use Rattle.ffi_calls.specs.{StoresNextNumberMembers, archive_width, limit_of, number_set};
+ghost use Rattle.ffi_calls.specs.{number_set_in};
 
 use crate::archives::{header_of, open_map, typed_header};
 use crate::building::{Built, leak_into};

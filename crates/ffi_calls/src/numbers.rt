@@ -3,11 +3,9 @@
 //! `open_numbers` and `explain_numbers` validate an archive; the other calls require a valid one.
 
 ghost use Rattle.std.specs.Prelude.{map, ◌≡◌};
-ghost use Rattle.ffi_calls.specs.Archives.{IsHeaderOf, IsNumberArchive, KeepsHeader, Opens};
-ghost use Rattle.ffi_calls.specs.Archives.{limit_of, number_map, numbers_in};
-ghost use Rattle.ffi_calls.specs.Calls.{ReturnsNumber, SetsNumber, StoresNextNumbers};
-ghost use Rattle.ffi_calls.specs.Explanation.{Explains};
-ghost use Rattle.ffi_calls.specs.Listed.{ReturnsFirstNumber, SetsFirstNumber};
+ghost use Rattle.ffi_calls.specs.{Explains, IsHeaderOf, IsNumberArchive, KeepsHeader, Opens};
+ghost use Rattle.ffi_calls.specs.{ReturnsFirstNumber, ReturnsNumber, SetsFirstNumber, SetsNumber};
+ghost use Rattle.ffi_calls.specs.{StoresNextNumbers, limit_of, number_map, numbers_in};
 
 use crate::archives::{header_of, open_map, typed_header};
 use crate::explanation::{Explanation, explain_map};

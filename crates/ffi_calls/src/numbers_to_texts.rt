@@ -4,11 +4,10 @@
 //! require a valid one.
 
 ghost use Rattle.std.specs.Prelude.{map, ◌≡◌};
-ghost use Rattle.ffi_calls.specs.Archives.{IsHeaderOf, Opens, limit_of};
-ghost use Rattle.ffi_calls.specs.Explanation.{Explains};
-ghost use Rattle.ffi_calls.specs.TextValues.{ReturnsFirstTextOfNumber, ReturnsTextOfNumber};
-ghost use Rattle.ffi_calls.specs.TextValues.{IsNumberTextArchive, StoresNextNumberTexts};
-ghost use Rattle.ffi_calls.specs.TextValues.{number_text_map, number_texts_in};
+ghost use Rattle.ffi_calls.specs.{Explains, IsHeaderOf, IsNumberTextArchive, Opens};
+ghost use Rattle.ffi_calls.specs.{ReturnsFirstTextOfNumber, ReturnsTextOfNumber};
+ghost use Rattle.ffi_calls.specs.{StoresNextNumberTexts, limit_of, number_text_map};
+ghost use Rattle.ffi_calls.specs.{number_texts_in};
 
 use crate::archives::{header_of, open_map, typed_header};
 use crate::explanation::{Explanation, explain_map};

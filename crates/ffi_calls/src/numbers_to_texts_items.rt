@@ -1,11 +1,9 @@
 //! Archives of pairs of numbers and texts.
 
 ghost use Rattle.std.specs.Prelude.{MatchResult, map};
-ghost use Rattle.ffi_calls.specs.Items.{Outputs};
-ghost use Rattle.ffi_calls.specs.Lists.{archive_width};
-ghost use Rattle.ffi_calls.specs.TextItems.{ArchiveOfNumberTextsFails, AreNumberTexts};
-ghost use Rattle.ffi_calls.specs.TextItems.{IsArchiveOfNumberTexts, NumberTextsFail};
-ghost use Rattle.ffi_calls.specs.TextItems.{NumberTextsWriteFails, NumberTextsWriteOk};
+ghost use Rattle.ffi_calls.specs.{ArchiveOfNumberTextsFails, AreNumberTexts};
+ghost use Rattle.ffi_calls.specs.{IsArchiveOfNumberTexts, NumberTextsFail, NumberTextsWriteFails};
+ghost use Rattle.ffi_calls.specs.{NumberTextsWriteOk, Outputs, archive_width};
 
 use crate::building::{Built, archive_of, leak_into};
 use crate::pairs::PairOf;

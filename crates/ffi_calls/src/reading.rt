@@ -4,14 +4,10 @@
 
 ghost use Rattle.std.specs.Prelude.{List, ℕ};
 ghost use Rattle.std.specs.Int.{w32};
-ghost use Rattle.rkyv_base.specs.Empty.{unit_represents, unit_spec};
-ghost use Rattle.rkyv_base.specs.Numbers.{unsigned};
-ghost use Rattle.rkyv_base.specs.Scalar.{ScalarRepresents, scalar_spec};
-ghost use Rattle.rkyv_base.specs.Text.{text_spec};
-ghost use Rattle.rkyv_base.specs.View.{AtView, IsValidView};
+ghost use Rattle.rkyv_base.specs.{AtView, IsValidView, ScalarRepresents, scalar_spec, text_spec};
+ghost use Rattle.rkyv_base.specs.{unit_represents, unit_spec, unsigned};
 ghost use Rattle.ffi_calls.specs.Lemmas.Reading.{same_texts, same_values, values_of_numbers};
-ghost use Rattle.ffi_calls.specs.Reading.{Agrees, HasBytesOf, IsNumberOf, IsSame, ReadsText};
-ghost use Rattle.ffi_calls.specs.Reading.{ReadsWord};
+ghost use Rattle.ffi_calls.specs.{Agrees, HasBytesOf, IsNumberOf, IsSame, ReadsText, ReadsWord};
 
 use rkyv_base::element::{Element, Represents};
 use rkyv_base::text::Text;

@@ -1,11 +1,10 @@
 //! Sets: the lookup of an item, and the archive of a list of items.
 
 ghost use Rattle.std.specs.Prelude.{IfErr, IfOk};
-ghost use Rattle.rkyv_base.specs.Empty.{unit_spec};
-ghost use Rattle.ffi_calls.specs.Archives.{IsHeaderOf, IsMapArchive, value_found};
-ghost use Rattle.ffi_calls.specs.Lists.{archive_width, query_of_key};
-ghost use Rattle.ffi_calls.specs.SetItems.{IsSetArchive, SetArchiveFails, fx_items};
-ghost use Rattle.ffi_calls.specs.Sets.{FindsItem, IsFoundStatus, set_in};
+ghost use Rattle.rkyv_base.specs.{unit_spec};
+ghost use Rattle.ffi_calls.specs.{FindsItem, IsFoundStatus, IsHeaderOf, IsMapArchive, IsSetArchive};
+ghost use Rattle.ffi_calls.specs.{SetArchiveFails, archive_width, fx_items, query_of_key, set_in};
+ghost use Rattle.ffi_calls.specs.{value_found};
 
 use crate::lookup::value_pos_in;
 use crate::status::{DONE, NOT_FOUND};

@@ -1,7 +1,7 @@
 //! The statuses that calls return.
 
 ghost use Rattle.std.specs.Prelude.{◌≡◌};
-ghost use Rattle.ffi_calls.specs.Status.{container_status, verify_status, write_status};
+ghost use Rattle.ffi_calls.specs.{container_status, verify_status, write_status};
 
 use rkyv_base::errors::{VerifyError, WriteError};
 use rkyv_base::writer::NoMemory;

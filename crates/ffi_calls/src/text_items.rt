@@ -1,10 +1,8 @@
 //! Archives of pairs of texts and numbers.
 
 ghost use Rattle.std.specs.Prelude.{MatchResult, map};
-ghost use Rattle.ffi_calls.specs.Items.{ArchiveOfTextsFails, IsArchiveOfTexts};
-ghost use Rattle.ffi_calls.specs.Items.{ArePairsOfTexts, Outputs, PairsOfTextsFail};
-ghost use Rattle.ffi_calls.specs.Items.{TextsWriteFails, TextsWriteOk};
-ghost use Rattle.ffi_calls.specs.Lists.{archive_width};
+ghost use Rattle.ffi_calls.specs.{ArchiveOfTextsFails, ArePairsOfTexts, IsArchiveOfTexts, Outputs};
+ghost use Rattle.ffi_calls.specs.{PairsOfTextsFail, TextsWriteFails, TextsWriteOk, archive_width};
 
 use crate::building::{Built, archive_of, leak_into};
 use crate::form::Form;

@@ -1,11 +1,8 @@
 //! Archives of sets of texts.
 
 ghost use Rattle.std.specs.Prelude.{MatchResult};
-ghost use Rattle.ffi_calls.specs.Items.{Outputs};
-ghost use Rattle.ffi_calls.specs.Lists.{archive_width};
-ghost use Rattle.ffi_calls.specs.SetItems.{ArchiveOfTextSetFails, AreSetTexts};
-ghost use Rattle.ffi_calls.specs.SetItems.{IsArchiveOfTextSet, SetTextsFail, TextSetWriteOk};
-ghost use Rattle.ffi_calls.specs.SetItems.{TextSetWriteFails};
+ghost use Rattle.ffi_calls.specs.{ArchiveOfTextSetFails, AreSetTexts, IsArchiveOfTextSet, Outputs};
+ghost use Rattle.ffi_calls.specs.{SetTextsFail, TextSetWriteFails, TextSetWriteOk, archive_width};
 
 use crate::building::{Built, leak_into};
 use crate::sets::set_archive_of;

@@ -4,11 +4,9 @@
 
 ghost use Rattle.std.specs.Prelude.{map, ◌≡◌};
 ghost use Rattle.std.specs.Str.{IsUtf8};
-ghost use Rattle.ffi_calls.specs.Archives.{IsHeaderOf, Opens, limit_of};
-ghost use Rattle.ffi_calls.specs.Explanation.{Explains};
-ghost use Rattle.ffi_calls.specs.Sets.{FindsListedText, FindsText, IsFoundStatus, IsTextSet};
-ghost use Rattle.ffi_calls.specs.Sets.{StoresNextTextMembers, member_found, text_set};
-ghost use Rattle.ffi_calls.specs.Sets.{text_set_in};
+ghost use Rattle.ffi_calls.specs.{Explains, FindsListedText, FindsText, IsFoundStatus, IsHeaderOf};
+ghost use Rattle.ffi_calls.specs.{IsTextSet, Opens, StoresNextTextMembers, limit_of, member_found};
+ghost use Rattle.ffi_calls.specs.{text_set, text_set_in};
 
 use crate::archives::{header_of, open_map, typed_header};
 use crate::explanation::{Explanation, explain_map};

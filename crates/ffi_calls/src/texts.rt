@@ -5,13 +5,10 @@
 
 ghost use Rattle.std.specs.Prelude.{IsTrue, MatchOption, map, ◌↔◌, ◌≡◌};
 ghost use Rattle.std.specs.Str.{IsUtf8};
-ghost use Rattle.ffi_calls.specs.Archives.{IsHeaderOf, IsTextArchive, KeepsHeader, ReturnsAt};
-ghost use Rattle.ffi_calls.specs.Archives.{Opens, Overwrites, limit_of, text_map, texts_in};
-ghost use Rattle.ffi_calls.specs.Archives.{value_encoding, word_of};
-ghost use Rattle.ffi_calls.specs.Calls.{ReturnsText, SetsText, StoresNextTexts, text_found};
-ghost use Rattle.ffi_calls.specs.Explanation.{Explains};
-ghost use Rattle.ffi_calls.specs.Listed.{ReturnsFirstText, SetsFirstText};
-ghost use Rattle.ffi_calls.specs.Reading.{ReadsWord};
+ghost use Rattle.ffi_calls.specs.{Explains, IsHeaderOf, IsTextArchive, KeepsHeader, Opens};
+ghost use Rattle.ffi_calls.specs.{Overwrites, ReadsWord, ReturnsAt, ReturnsFirstText, ReturnsText};
+ghost use Rattle.ffi_calls.specs.{SetsFirstText, SetsText, StoresNextTexts, limit_of, text_found};
+ghost use Rattle.ffi_calls.specs.{text_map, texts_in, value_encoding, word_of};
 
 use crate::archives::{header_of, open_map, typed_header};
 use crate::explanation::{Explanation, explain_map};

@@ -5,12 +5,10 @@
 
 ghost use Rattle.std.specs.Prelude.{map, ◌≡◌};
 ghost use Rattle.std.specs.Str.{IsUtf8};
-ghost use Rattle.ffi_calls.specs.Archives.{IsHeaderOf, Opens, limit_of};
-ghost use Rattle.ffi_calls.specs.Explanation.{Explains};
-ghost use Rattle.ffi_calls.specs.TextValues.{ReturnsFirstTextOfText, ReturnsTextAt};
-ghost use Rattle.ffi_calls.specs.TextValues.{ReturnsTextOfText};
-ghost use Rattle.ffi_calls.specs.TextValues.{IsTextTextArchive, StoresNextTextTexts};
-ghost use Rattle.ffi_calls.specs.TextValues.{text_of_text_found, text_text_map, text_texts_in};
+ghost use Rattle.ffi_calls.specs.{Explains, IsHeaderOf, IsTextTextArchive, Opens};
+ghost use Rattle.ffi_calls.specs.{ReturnsFirstTextOfText, ReturnsTextAt, ReturnsTextOfText};
+ghost use Rattle.ffi_calls.specs.{StoresNextTextTexts, limit_of, text_of_text_found, text_text_map};
+ghost use Rattle.ffi_calls.specs.{text_texts_in};
 
 use crate::archives::{header_of, open_map, typed_header};
 use crate::explanation::{Explanation, explain_map};

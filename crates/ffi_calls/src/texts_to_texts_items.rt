@@ -1,11 +1,9 @@
 //! Archives of pairs of texts and texts.
 
 ghost use Rattle.std.specs.Prelude.{MatchResult, map};
-ghost use Rattle.ffi_calls.specs.Items.{Outputs};
-ghost use Rattle.ffi_calls.specs.Lists.{archive_width};
-ghost use Rattle.ffi_calls.specs.TextItems.{ArchiveOfTextTextsFails, AreTextTexts};
-ghost use Rattle.ffi_calls.specs.TextItems.{IsArchiveOfTextTexts, TextTextsFail};
-ghost use Rattle.ffi_calls.specs.TextItems.{TextTextsWriteFails, TextTextsWriteOk};
+ghost use Rattle.ffi_calls.specs.{ArchiveOfTextTextsFails, AreTextTexts, IsArchiveOfTextTexts};
+ghost use Rattle.ffi_calls.specs.{Outputs, TextTextsFail, TextTextsWriteFails, TextTextsWriteOk};
+ghost use Rattle.ffi_calls.specs.{archive_width};
 
 use crate::building::{Built, archive_of, leak_into};
 use crate::pairs::PairOf;

@@ -2,11 +2,10 @@
 
 ghost use Rattle.std.specs.Prelude.{IfSome, length, map, slice_range, ◌*◌};
 ghost use Rattle.std.specs.Prelude.{◌+◌, ◌-◌, ◌<◌, ◌^◌, ◌≡◌, ◌≤◌};
-ghost use Rattle.rkyv_base.specs.Entry.{entry_spec};
-ghost use Rattle.rkyv_base.specs.ElementSpec.{Viewable};
-ghost use Rattle.rkyv_table.specs.Controls.Numbers.{control_count};
-ghost use Rattle.ffi_calls.specs.Archives.{IsHeaderOf, IsMapArchive, map_in};
-ghost use Rattle.ffi_calls.specs.Walking.{FindsNextPair, IsNextBucket, StoresNextPairs};
+ghost use Rattle.rkyv_base.specs.{Viewable, entry_spec};
+ghost use Rattle.rkyv_table.specs.{control_count};
+ghost use Rattle.ffi_calls.specs.{FindsNextPair, IsHeaderOf, IsMapArchive, IsNextBucket};
+ghost use Rattle.ffi_calls.specs.{StoresNextPairs, map_in};
 
 use crate::pairs::{Pair, Step, StepOf};
 use crate::reading::ReadAs;

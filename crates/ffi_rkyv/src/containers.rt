@@ -4,9 +4,8 @@
 //! collection, of the types of keys and of values, and of the width.
 
 ghost use Rattle.std.specs.Prelude.{length, ◌≡◌};
-ghost use Rattle.ffi_calls.specs.Containers.{OpensContainer, OpensOwnCodes, ReadsWidth};
-ghost use Rattle.ffi_calls.specs.Containers.{UpdatesContainer, WritesContainerHeader, codes_of};
-ghost use Rattle.ffi_calls.specs.Explanation.{ExplainsContainer};
+ghost use Rattle.ffi_calls.specs.{ExplainsContainer, OpensContainer, OpensOwnCodes, ReadsWidth};
+ghost use Rattle.ffi_calls.specs.{UpdatesContainer, WritesContainerHeader, codes_of};
 
 use ffi_calls::containers::{
     Codes, Opened, container_width, explain_container, open_container, update_container,

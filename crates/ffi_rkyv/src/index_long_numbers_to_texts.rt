@@ -1,14 +1,10 @@
 //! The calls for index maps of numbers of 64 bits to texts.
 
 ghost use Rattle.std.specs.Prelude.{map, ◌≡◌};
-ghost use Rattle.ffi_calls.specs.Archives.{IsHeaderOf, Opens, limit_of};
-ghost use Rattle.ffi_calls.specs.Explanation.{Explains};
-ghost use Rattle.ffi_calls.specs.IndexTextValues.{IndexOfNumberTextsFails, IsIndexOfNumberTexts};
-ghost use Rattle.ffi_calls.specs.IndexTextValues.{IsNumberTextIndex};
-ghost use Rattle.ffi_calls.specs.IndexTextValues.{StoresListedNumberTexts, StoresNumberTexts};
-ghost use Rattle.ffi_calls.specs.IndexTextValues.{number_text_index, number_text_index_in};
-ghost use Rattle.ffi_calls.specs.Items.{Outputs};
-ghost use Rattle.ffi_calls.specs.Keys.{long_key};
+ghost use Rattle.ffi_calls.specs.{Explains, IndexOfNumberTextsFails, IsHeaderOf};
+ghost use Rattle.ffi_calls.specs.{IsIndexOfNumberTexts, IsNumberTextIndex, Opens, Outputs};
+ghost use Rattle.ffi_calls.specs.{StoresListedNumberTexts, StoresNumberTexts, limit_of, long_key};
+ghost use Rattle.ffi_calls.specs.{number_text_index, number_text_index_in};
 ghost use Rattle.ffi_rkyv.specs.Pairs.{long_number_text_pair};
 
 use crate::pairs::LongNumberTextPair;

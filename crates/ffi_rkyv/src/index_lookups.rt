@@ -4,11 +4,8 @@
 //! The names end with the type and the width. A lookup has no branch on either.
 
 ghost use Rattle.std.specs.Prelude.{false, true};
-ghost use Rattle.ffi_calls.specs.Archives.{IsHeaderOf, form_of};
-ghost use Rattle.ffi_calls.specs.IndexArchives.{IsNumberIndex, ReturnsIndexedNumber};
-ghost use Rattle.ffi_calls.specs.IndexArchives.{number_index_in};
-ghost use Rattle.ffi_calls.specs.IndexLists.{ReturnsFirstIndexedNumber};
-ghost use Rattle.ffi_calls.specs.Keys.{short_key};
+ghost use Rattle.ffi_calls.specs.{IsHeaderOf, IsNumberIndex, ReturnsFirstIndexedNumber};
+ghost use Rattle.ffi_calls.specs.{ReturnsIndexedNumber, form_of, number_index_in, short_key};
 ghost use Rattle.ffi_rkyv.specs.Pairs.{indexed_number};
 
 use crate::pairs::IndexedNumber;

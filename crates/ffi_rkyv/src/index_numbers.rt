@@ -1,15 +1,11 @@
 //! The calls for index maps of numbers of 32 bits.
 
 ghost use Rattle.std.specs.Prelude.{map, ◌≡◌};
-ghost use Rattle.ffi_calls.specs.Archives.{IsHeaderOf, KeepsHeader, Opens, form_of, limit_of};
-ghost use Rattle.ffi_calls.specs.Explanation.{Explains};
-ghost use Rattle.ffi_calls.specs.IndexArchives.{IsNumberIndex, StoresNumbers};
-ghost use Rattle.ffi_calls.specs.IndexArchives.{number_index, number_index_in};
-ghost use Rattle.ffi_calls.specs.IndexInPlace.{SetsFirstIndexedNumber, SetsIndexedNumber};
-ghost use Rattle.ffi_calls.specs.IndexItems.{IndexOfNumbersFails, IsIndexOfNumbers};
-ghost use Rattle.ffi_calls.specs.IndexLists.{StoresListedNumbers};
-ghost use Rattle.ffi_calls.specs.Items.{Outputs};
-ghost use Rattle.ffi_calls.specs.Keys.{short_key};
+ghost use Rattle.ffi_calls.specs.{Explains, IndexOfNumbersFails, IsHeaderOf, IsIndexOfNumbers};
+ghost use Rattle.ffi_calls.specs.{IsNumberIndex, KeepsHeader, Opens, Outputs};
+ghost use Rattle.ffi_calls.specs.{SetsFirstIndexedNumber, SetsIndexedNumber, StoresListedNumbers};
+ghost use Rattle.ffi_calls.specs.{StoresNumbers, form_of, limit_of, number_index, number_index_in};
+ghost use Rattle.ffi_calls.specs.{short_key};
 ghost use Rattle.ffi_rkyv.specs.Pairs.{number_pair};
 
 use crate::pairs::NumberPair;

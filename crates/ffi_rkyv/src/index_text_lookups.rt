@@ -4,9 +4,8 @@
 
 ghost use Rattle.std.specs.Prelude.{false, true};
 ghost use Rattle.std.specs.Str.{IsUtf8};
-ghost use Rattle.ffi_calls.specs.Archives.{IsHeaderOf, form_of};
-ghost use Rattle.ffi_calls.specs.IndexArchives.{IsTextIndex, ReturnsIndexedBytes, text_index_in};
-ghost use Rattle.ffi_calls.specs.IndexLists.{ReturnsFirstIndexedText};
+ghost use Rattle.ffi_calls.specs.{IsHeaderOf, IsTextIndex, ReturnsFirstIndexedText};
+ghost use Rattle.ffi_calls.specs.{ReturnsIndexedBytes, form_of, text_index_in};
 ghost use Rattle.ffi_rkyv.specs.Pairs.{indexed_number};
 
 use crate::pairs::IndexedNumber;

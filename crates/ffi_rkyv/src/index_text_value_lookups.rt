@@ -4,14 +4,10 @@
 
 ghost use Rattle.std.specs.Prelude.{false, true};
 ghost use Rattle.std.specs.Str.{IsUtf8};
-ghost use Rattle.ffi_calls.specs.Archives.{IsHeaderOf};
-ghost use Rattle.ffi_calls.specs.IndexTextValues.{ReturnsFirstIndexedTextOfNumber};
-ghost use Rattle.ffi_calls.specs.IndexTextValues.{ReturnsFirstIndexedTextOfText};
-ghost use Rattle.ffi_calls.specs.IndexTextValues.{ReturnsIndexedTextOfBytes};
-ghost use Rattle.ffi_calls.specs.IndexTextValues.{ReturnsIndexedTextOfNumber};
-ghost use Rattle.ffi_calls.specs.IndexTextValues.{IsNumberTextIndex, IsTextTextIndex};
-ghost use Rattle.ffi_calls.specs.IndexTextValues.{number_text_index_in, text_text_index_in};
-ghost use Rattle.ffi_calls.specs.Keys.{long_key, short_key};
+ghost use Rattle.ffi_calls.specs.{IsHeaderOf, IsNumberTextIndex, IsTextTextIndex};
+ghost use Rattle.ffi_calls.specs.{ReturnsFirstIndexedTextOfNumber, ReturnsFirstIndexedTextOfText};
+ghost use Rattle.ffi_calls.specs.{ReturnsIndexedTextOfBytes, ReturnsIndexedTextOfNumber, long_key};
+ghost use Rattle.ffi_calls.specs.{number_text_index_in, short_key, text_text_index_in};
 ghost use Rattle.ffi_rkyv.specs.Pairs.{indexed_text};
 
 use crate::pairs::IndexedText;

@@ -2,14 +2,10 @@
 
 ghost use Rattle.std.specs.Prelude.{map, ◌≡◌};
 ghost use Rattle.std.specs.Str.{IsUtf8};
-ghost use Rattle.ffi_calls.specs.Archives.{IsHeaderOf, KeepsHeader, Opens, form_of, limit_of};
-ghost use Rattle.ffi_calls.specs.Explanation.{Explains};
-ghost use Rattle.ffi_calls.specs.IndexArchives.{IsTextIndex, StoresTexts};
-ghost use Rattle.ffi_calls.specs.IndexArchives.{text_index, text_index_in};
-ghost use Rattle.ffi_calls.specs.IndexInPlace.{SetsFirstIndexedText, SetsIndexedBytes};
-ghost use Rattle.ffi_calls.specs.IndexItems.{IndexOfTextsFails, IsIndexOfTexts};
-ghost use Rattle.ffi_calls.specs.IndexLists.{StoresListedTexts};
-ghost use Rattle.ffi_calls.specs.Items.{Outputs};
+ghost use Rattle.ffi_calls.specs.{Explains, IndexOfTextsFails, IsHeaderOf, IsIndexOfTexts};
+ghost use Rattle.ffi_calls.specs.{IsTextIndex, KeepsHeader, Opens, Outputs, SetsFirstIndexedText};
+ghost use Rattle.ffi_calls.specs.{SetsIndexedBytes, StoresListedTexts, StoresTexts, form_of};
+ghost use Rattle.ffi_calls.specs.{limit_of, text_index, text_index_in};
 ghost use Rattle.ffi_rkyv.specs.Pairs.{text_pair};
 
 use crate::pairs::TextPair;

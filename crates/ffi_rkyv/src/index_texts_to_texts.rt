@@ -1,13 +1,9 @@
 //! The calls for index maps of texts to texts.
 
 ghost use Rattle.std.specs.Prelude.{map, ◌≡◌};
-ghost use Rattle.ffi_calls.specs.Archives.{IsHeaderOf, Opens, limit_of};
-ghost use Rattle.ffi_calls.specs.Explanation.{Explains};
-ghost use Rattle.ffi_calls.specs.IndexTextValues.{IndexOfTextTextsFails};
-ghost use Rattle.ffi_calls.specs.IndexTextValues.{IsIndexOfTextTexts, IsTextTextIndex};
-ghost use Rattle.ffi_calls.specs.IndexTextValues.{StoresListedTextTexts, StoresTextTexts};
-ghost use Rattle.ffi_calls.specs.IndexTextValues.{text_text_index, text_text_index_in};
-ghost use Rattle.ffi_calls.specs.Items.{Outputs};
+ghost use Rattle.ffi_calls.specs.{Explains, IndexOfTextTextsFails, IsHeaderOf, IsIndexOfTextTexts};
+ghost use Rattle.ffi_calls.specs.{IsTextTextIndex, Opens, Outputs, StoresListedTextTexts};
+ghost use Rattle.ffi_calls.specs.{StoresTextTexts, limit_of, text_text_index, text_text_index_in};
 ghost use Rattle.ffi_rkyv.specs.Pairs.{text_text_pair};
 
 use crate::pairs::TextTextPair;

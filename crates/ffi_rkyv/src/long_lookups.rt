@@ -3,10 +3,8 @@
 //! The names end with the type and the width. A lookup has no branch on either.
 
 ghost use Rattle.std.specs.Prelude.{false, true};
-ghost use Rattle.ffi_calls.specs.Archives.{IsHeaderOf, IsNumberArchive, form_of, numbers_in};
-ghost use Rattle.ffi_calls.specs.Calls.{ReturnsNumber};
-ghost use Rattle.ffi_calls.specs.Keys.{long_key};
-ghost use Rattle.ffi_calls.specs.Listed.{ReturnsFirstNumber};
+ghost use Rattle.ffi_calls.specs.{IsHeaderOf, IsNumberArchive, ReturnsFirstNumber, ReturnsNumber};
+ghost use Rattle.ffi_calls.specs.{form_of, long_key, numbers_in};
 
 use ffi_calls::form::Form;
 use ffi_calls::numbers::get_number;

@@ -1,13 +1,10 @@
 //! The calls for maps of numbers of 64 bits.
 
 ghost use Rattle.std.specs.Prelude.{map, ◌≡◌};
-ghost use Rattle.ffi_calls.specs.Archives.{IsHeaderOf, IsNumberArchive, KeepsHeader, Opens};
-ghost use Rattle.ffi_calls.specs.Archives.{form_of, limit_of, number_map, numbers_in};
-ghost use Rattle.ffi_calls.specs.Calls.{SetsNumber, StoresNextNumbers};
-ghost use Rattle.ffi_calls.specs.Explanation.{Explains};
-ghost use Rattle.ffi_calls.specs.Items.{ArchiveOfNumbersFails, IsArchiveOfNumbers, Outputs};
-ghost use Rattle.ffi_calls.specs.Keys.{long_key};
-ghost use Rattle.ffi_calls.specs.Listed.{SetsFirstNumber};
+ghost use Rattle.ffi_calls.specs.{ArchiveOfNumbersFails, Explains, IsArchiveOfNumbers, IsHeaderOf};
+ghost use Rattle.ffi_calls.specs.{IsNumberArchive, KeepsHeader, Opens, Outputs, SetsFirstNumber};
+ghost use Rattle.ffi_calls.specs.{SetsNumber, StoresNextNumbers, form_of, limit_of, long_key};
+ghost use Rattle.ffi_calls.specs.{number_map, numbers_in};
 ghost use Rattle.ffi_rkyv.specs.Pairs.{long_number_pair, long_number_step};
 
 use crate::pairs::{LongNumberPair, LongNumberStep};

@@ -4,11 +4,9 @@
 
 ghost use Rattle.std.specs.Prelude.{false, true};
 ghost use Rattle.std.specs.Str.{IsUtf8};
-ghost use Rattle.ffi_calls.specs.Archives.{IsHeaderOf, IsNumberArchive, IsTextArchive, form_of};
-ghost use Rattle.ffi_calls.specs.Archives.{numbers_in, texts_in};
-ghost use Rattle.ffi_calls.specs.Calls.{ReturnsNumber, ReturnsText};
-ghost use Rattle.ffi_calls.specs.Keys.{short_key};
-ghost use Rattle.ffi_calls.specs.Listed.{ReturnsFirstNumber, ReturnsFirstText};
+ghost use Rattle.ffi_calls.specs.{IsHeaderOf, IsNumberArchive, IsTextArchive, ReturnsFirstNumber};
+ghost use Rattle.ffi_calls.specs.{ReturnsFirstText, ReturnsNumber, ReturnsText, form_of};
+ghost use Rattle.ffi_calls.specs.{numbers_in, short_key, texts_in};
 
 use ffi_calls::form::Form;
 use ffi_calls::numbers::get_number;

@@ -1,13 +1,9 @@
 //! The calls for sets of numbers of 32 bits.
 
 ghost use Rattle.std.specs.Prelude.{map, ◌≡◌};
-ghost use Rattle.ffi_calls.specs.Archives.{IsHeaderOf, Opens, limit_of};
-ghost use Rattle.ffi_calls.specs.Explanation.{Explains};
-ghost use Rattle.ffi_calls.specs.Items.{Outputs};
-ghost use Rattle.ffi_calls.specs.Keys.{short_key};
-ghost use Rattle.ffi_calls.specs.SetItems.{ArchiveOfNumberSetFails, IsArchiveOfNumberSet};
-ghost use Rattle.ffi_calls.specs.Sets.{IsNumberSet, StoresNextNumberMembers};
-ghost use Rattle.ffi_calls.specs.Sets.{number_set, number_set_in};
+ghost use Rattle.ffi_calls.specs.{ArchiveOfNumberSetFails, Explains, IsArchiveOfNumberSet};
+ghost use Rattle.ffi_calls.specs.{IsHeaderOf, IsNumberSet, Opens, Outputs, StoresNextNumberMembers};
+ghost use Rattle.ffi_calls.specs.{limit_of, number_set, number_set_in, short_key};
 ghost use Rattle.ffi_rkyv.specs.Pairs.{number_member};
 
 use crate::pairs::NumberMember;

@@ -1,13 +1,10 @@
 //! The calls for maps of numbers of 32 bits.
 
 ghost use Rattle.std.specs.Prelude.{map, ◌≡◌};
-ghost use Rattle.ffi_calls.specs.Archives.{IsHeaderOf, IsNumberArchive, KeepsHeader, Opens};
-ghost use Rattle.ffi_calls.specs.Archives.{form_of, limit_of, number_map, numbers_in};
-ghost use Rattle.ffi_calls.specs.Calls.{SetsNumber, StoresNextNumbers};
-ghost use Rattle.ffi_calls.specs.Explanation.{Explains};
-ghost use Rattle.ffi_calls.specs.Items.{ArchiveOfNumbersFails, IsArchiveOfNumbers, Outputs};
-ghost use Rattle.ffi_calls.specs.Keys.{short_key};
-ghost use Rattle.ffi_calls.specs.Listed.{SetsFirstNumber};
+ghost use Rattle.ffi_calls.specs.{ArchiveOfNumbersFails, Explains, IsArchiveOfNumbers, IsHeaderOf};
+ghost use Rattle.ffi_calls.specs.{IsNumberArchive, KeepsHeader, Opens, Outputs, SetsFirstNumber};
+ghost use Rattle.ffi_calls.specs.{SetsNumber, StoresNextNumbers, form_of, limit_of, number_map};
+ghost use Rattle.ffi_calls.specs.{numbers_in, short_key};
 ghost use Rattle.ffi_rkyv.specs.Pairs.{number_pair, number_step};
 
 use crate::pairs::{NumberPair, NumberStep};

@@ -1,13 +1,10 @@
 //! The calls for maps of numbers of 32 bits to texts.
 
 ghost use Rattle.std.specs.Prelude.{map, ◌≡◌};
-ghost use Rattle.ffi_calls.specs.Archives.{IsHeaderOf, Opens, limit_of};
-ghost use Rattle.ffi_calls.specs.Explanation.{Explains};
-ghost use Rattle.ffi_calls.specs.Items.{Outputs};
-ghost use Rattle.ffi_calls.specs.Keys.{short_key};
-ghost use Rattle.ffi_calls.specs.TextItems.{ArchiveOfNumberTextsFails, IsArchiveOfNumberTexts};
-ghost use Rattle.ffi_calls.specs.TextValues.{IsNumberTextArchive, StoresNextNumberTexts};
-ghost use Rattle.ffi_calls.specs.TextValues.{number_text_map, number_texts_in};
+ghost use Rattle.ffi_calls.specs.{ArchiveOfNumberTextsFails, Explains, IsArchiveOfNumberTexts};
+ghost use Rattle.ffi_calls.specs.{IsHeaderOf, IsNumberTextArchive, Opens, Outputs};
+ghost use Rattle.ffi_calls.specs.{StoresNextNumberTexts, limit_of, number_text_map};
+ghost use Rattle.ffi_calls.specs.{number_texts_in, short_key};
 ghost use Rattle.ffi_rkyv.specs.Pairs.{number_text_pair, number_text_step};
 
 use crate::pairs::{NumberTextPair, NumberTextStep};

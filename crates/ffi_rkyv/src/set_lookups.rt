@@ -4,11 +4,9 @@
 
 ghost use Rattle.std.specs.Prelude.{false, true};
 ghost use Rattle.std.specs.Str.{IsUtf8};
-ghost use Rattle.ffi_calls.specs.Archives.{IsHeaderOf};
-ghost use Rattle.ffi_calls.specs.Keys.{long_key, short_key};
-ghost use Rattle.ffi_calls.specs.Sets.{FindsListedNumber, FindsListedText, FindsNumber};
-ghost use Rattle.ffi_calls.specs.Sets.{FindsText, IsNumberSet, IsTextSet, number_set_in};
-ghost use Rattle.ffi_calls.specs.Sets.{text_set_in};
+ghost use Rattle.ffi_calls.specs.{FindsListedNumber, FindsListedText, FindsNumber, FindsText};
+ghost use Rattle.ffi_calls.specs.{IsHeaderOf, IsNumberSet, IsTextSet, long_key, number_set_in};
+ghost use Rattle.ffi_calls.specs.{short_key, text_set_in};
 
 use ffi_calls::number_sets::contains_number;
 use ffi_calls::text_sets::contains_text;

@@ -1,12 +1,9 @@
 //! The calls for sets of texts.
 
 ghost use Rattle.std.specs.Prelude.{map, ◌≡◌};
-ghost use Rattle.ffi_calls.specs.Archives.{IsHeaderOf, Opens, limit_of};
-ghost use Rattle.ffi_calls.specs.Explanation.{Explains};
-ghost use Rattle.ffi_calls.specs.Items.{Outputs};
-ghost use Rattle.ffi_calls.specs.SetItems.{ArchiveOfTextSetFails, IsArchiveOfTextSet};
-ghost use Rattle.ffi_calls.specs.Sets.{IsTextSet, StoresNextTextMembers, text_set};
-ghost use Rattle.ffi_calls.specs.Sets.{text_set_in};
+ghost use Rattle.ffi_calls.specs.{ArchiveOfTextSetFails, Explains, IsArchiveOfTextSet, IsHeaderOf};
+ghost use Rattle.ffi_calls.specs.{IsTextSet, Opens, Outputs, StoresNextTextMembers, limit_of};
+ghost use Rattle.ffi_calls.specs.{text_set, text_set_in};
 ghost use Rattle.ffi_rkyv.specs.Pairs.{text_member};
 
 use crate::pairs::TextMember;

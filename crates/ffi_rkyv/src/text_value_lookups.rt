@@ -4,12 +4,10 @@
 
 ghost use Rattle.std.specs.Prelude.{false, true};
 ghost use Rattle.std.specs.Str.{IsUtf8};
-ghost use Rattle.ffi_calls.specs.Archives.{IsHeaderOf};
-ghost use Rattle.ffi_calls.specs.Keys.{long_key, short_key};
-ghost use Rattle.ffi_calls.specs.TextValues.{ReturnsFirstTextOfNumber, ReturnsFirstTextOfText};
-ghost use Rattle.ffi_calls.specs.TextValues.{ReturnsTextOfNumber, ReturnsTextOfText};
-ghost use Rattle.ffi_calls.specs.TextValues.{IsNumberTextArchive, IsTextTextArchive};
-ghost use Rattle.ffi_calls.specs.TextValues.{number_texts_in, text_texts_in};
+ghost use Rattle.ffi_calls.specs.{IsHeaderOf, IsNumberTextArchive, IsTextTextArchive};
+ghost use Rattle.ffi_calls.specs.{ReturnsFirstTextOfNumber, ReturnsFirstTextOfText};
+ghost use Rattle.ffi_calls.specs.{ReturnsTextOfNumber, ReturnsTextOfText, long_key};
+ghost use Rattle.ffi_calls.specs.{number_texts_in, short_key, text_texts_in};
 
 use crate::pairs::TextValue;
 use ffi_calls::numbers_to_texts::get_text_of_number;

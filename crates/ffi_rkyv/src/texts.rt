@@ -2,12 +2,9 @@
 
 ghost use Rattle.std.specs.Prelude.{IsTrue, map, ◌↔◌, ◌≡◌};
 ghost use Rattle.std.specs.Str.{IsUtf8};
-ghost use Rattle.ffi_calls.specs.Archives.{IsTextArchive, Opens, form_of, limit_of, text_map};
-ghost use Rattle.ffi_calls.specs.Archives.{IsHeaderOf, KeepsHeader, texts_in};
-ghost use Rattle.ffi_calls.specs.Calls.{SetsText, StoresNextTexts};
-ghost use Rattle.ffi_calls.specs.Explanation.{Explains};
-ghost use Rattle.ffi_calls.specs.Listed.{SetsFirstText};
-ghost use Rattle.ffi_calls.specs.Items.{ArchiveOfTextsFails, IsArchiveOfTexts, Outputs};
+ghost use Rattle.ffi_calls.specs.{ArchiveOfTextsFails, Explains, IsArchiveOfTexts, IsHeaderOf};
+ghost use Rattle.ffi_calls.specs.{IsTextArchive, KeepsHeader, Opens, Outputs, SetsFirstText};
+ghost use Rattle.ffi_calls.specs.{SetsText, StoresNextTexts, form_of, limit_of, text_map, texts_in};
 ghost use Rattle.ffi_rkyv.specs.Pairs.{text_pair, text_step};
 
 use crate::pairs::{TextPair, TextStep};

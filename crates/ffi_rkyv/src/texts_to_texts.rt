@@ -1,12 +1,9 @@
 //! The calls for maps of texts to texts.
 
 ghost use Rattle.std.specs.Prelude.{map, ◌≡◌};
-ghost use Rattle.ffi_calls.specs.Archives.{IsHeaderOf, Opens, limit_of};
-ghost use Rattle.ffi_calls.specs.Explanation.{Explains};
-ghost use Rattle.ffi_calls.specs.Items.{Outputs};
-ghost use Rattle.ffi_calls.specs.TextItems.{ArchiveOfTextTextsFails, IsArchiveOfTextTexts};
-ghost use Rattle.ffi_calls.specs.TextValues.{IsTextTextArchive, StoresNextTextTexts};
-ghost use Rattle.ffi_calls.specs.TextValues.{text_text_map, text_texts_in};
+ghost use Rattle.ffi_calls.specs.{ArchiveOfTextTextsFails, Explains, IsArchiveOfTextTexts};
+ghost use Rattle.ffi_calls.specs.{IsHeaderOf, IsTextTextArchive, Opens, Outputs};
+ghost use Rattle.ffi_calls.specs.{StoresNextTextTexts, limit_of, text_text_map, text_texts_in};
 ghost use Rattle.ffi_rkyv.specs.Pairs.{text_text_pair, text_text_step};
 
 use crate::pairs::{TextTextPair, TextTextStep};

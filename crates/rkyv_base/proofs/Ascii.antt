@@ -8,7 +8,7 @@ use Rattle.std.proofs.lemmas.Grind.{common_steps}
 use Rattle.std.proofs.lemmas.List.{get_or-take, get_or_past}
 use Rattle.std.proofs.lemmas.List.Sums.{prefix_len_passes}
 use Rattle.std.proofs.lemmas.List.Quantifiers.{position-Some}
-use Rattle.rkyv_base.specs.Text.{inline_text}
+use Rattle.rkyv_base.specs.{inline_text}
 use Rattle.rkyv_base.proofs.FirstMark.{NoneBelow, none_below}
 
 low : (x : ℕ) → leb 128 x ≡ false → x < 128

@@ -1,7 +1,7 @@
 -- Functions and properties of the bytes of a view and of its position.
 use Rattle.std.proofs.Common.{◌≡◌, ◌∙◌, ℕ, List, ap, subst, sym}
 use Rattle.std.specs.Borrow.{Bor}
-use Rattle.rkyv_base.specs.View.{IsAt, bytes_of, pos_of}
+use Rattle.rkyv_base.specs.{IsAt, bytes_of, pos_of}
 use Rattle.rkyv_base.specs.declared.view.View.{View}
 
 module _ {T : Type 0} (v : View T) (archive : Bor (List ℕ)) (p : ℕ) (at : IsAt v archive p) where

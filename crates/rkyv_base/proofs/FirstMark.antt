@@ -43,9 +43,6 @@ some_marked p xs long some =
     let f = trailing_mask_l p 64 xs (omega arith) pos in
     position_is p xs (count_trailing_zeros 64 m) (sym f) (omega (arith, below.0, e, f))
 
-pub none_marked : (p : ℕ → Bool) (xs : List ℕ) → mask_l (map p xs) ≡ 0 → None ≡ position p xs
-none_marked p xs e = position_none p xs (leading_from_mask_l p xs e)
-
 -- `ys`: part of `xs` from `at` on
 pub record IsStretch (xs ys : List ℕ) (at : ℕ) : Type 0 where
   pub inside : at + length ys ≤ length xs

@@ -3,11 +3,7 @@ use Rattle.std.specs.Prelude.{◌≡◌, ℕ, ◌+◌, List, ◌++◌, length}
 use Rattle.std.proofs.Common.{inl, inr, refl, subst}
 use Rattle.rkyv_base.specs.declared.errors.WriteError.{WriteError}
 use Rattle.rkyv_base.specs.declared.pairs.EntryResolver.{EntryResolver}
-use Rattle.rkyv_base.specs.ElementSpec.{ElementSpec}
-use Rattle.rkyv_base.specs.Entry.{IsSmall}
-use Rattle.rkyv_base.specs.Format.{Format, SerializeFails, Serialized}
-use Rattle.rkyv_base.specs.Pairs.{PairNext, pair_format}
-use Rattle.rkyv_base.specs.Writing.{Appends, Output, Within, end_of}
+use Rattle.rkyv_base.specs.{Appends, ElementSpec, Format, IsSmall, Output, PairNext, SerializeFails, Serialized, Within, end_of, pair_format}
 use Rattle.rkyv_base.proofs.WritingSteps.{appends_after, end-appends, fails_after, fails_under, grows, within_after}
 
 -- an error of the key

@@ -4,16 +4,10 @@ use Rattle.std.proofs.Common.{refl, arith, subst, sym, ◌∙◌, ap, inl, inr, 
 use Rattle.std.proofs.lemmas.List.{append-nil, length-replicate, take_all}
 use Rattle.rkyv_base.specs.declared.errors.WriteError.{WriteError}
 use Rattle.rkyv_base.specs.declared.errors.WriteError.TheVariants.{DistanceTooLarge}
-use Rattle.rkyv_base.specs.Bytes.{OccursAt}
+use Rattle.rkyv_base.specs.{Appends, ArchiveOf, ElementSpec, Format, IsElement, IsFormat, IsValidArchive, OccursAt, Only, Output, RootBytes, RootNext, ValidAt, Within, WriteFails, WriteRootFails, WroteRoot, end_of, fresh, padding, piece, round_up, zeros}
 use Rattle.rkyv_base.specs.Lemmas.Bytes.{occurs_back, occurs_front}
-use Rattle.rkyv_base.specs.Writing.{Appends, Only, Output, Within, WriteFails, end_of, padding, piece, zeros}
-use Rattle.rkyv_base.specs.ElementSpec.{ElementSpec, IsElement, ValidAt}
 use Rattle.rkyv_base.specs.Lemmas.ElementSpec.{valid_at}
-use Rattle.rkyv_base.specs.Entry.{round_up}
 use Rattle.rkyv_base.specs.Lemmas.Entry.{round_up-multiple}
-use Rattle.rkyv_base.specs.Access.{IsValidArchive}
-use Rattle.rkyv_base.specs.Format.{Format, IsFormat}
-use Rattle.rkyv_base.specs.Root.{ArchiveOf, RootBytes, RootNext, WriteRootFails, WroteRoot, fresh}
 use Rattle.rkyv_base.proofs.WritingSteps.{appends_after, end-appends, fails_after, grows}
 
 module _ (F : Type 0) {V R : Type 0} (limit align : ℕ) (f : Format V R) (v : V) (o o1 o2 o3 : Output)

@@ -9,11 +9,7 @@ use Rattle.std.proofs.lemmas.Bool.{cases_Bool}
 use Rattle.std.proofs.lemmas.Bool.Decides.{nat_tests}
 use Rattle.std.proofs.lemmas.List.{drop-drop, drop-take, length-drop, length-map, length-take}
 use Rattle.std.proofs.Math.Seq.{take-append-add}
-use Rattle.rkyv_base.specs.Sealing.{Keeps, Sealed}
-use Rattle.rkyv_base.specs.SealedText.{IsInline, IsSealedText, Uppercases, inline_at, with_uppercase}
-use Rattle.rkyv_base.specs.ElementSpec.{Viewable}
-use Rattle.rkyv_base.specs.Text.{fixed_bytes, inline_text, is_out_of_line, text_at, text_spec}
-use Rattle.rkyv_base.specs.Text.{text_size}
+use Rattle.rkyv_base.specs.{IsInline, IsSealedText, Keeps, Sealed, Uppercases, Viewable, fixed_bytes, inline_at, inline_text, is_out_of_line, text_at, text_size, text_spec, with_uppercase}
 use Rattle.rkyv_base.specs.Lemmas.Text.{inline_reads}
 use Rattle.rkyv_base.proofs.Uppercase.{utf8_uppercase}
 use Rattle.rkyv_base.proofs.Sealing.{sealed_wider, with_bytes-rest, with_bytes-sealed}

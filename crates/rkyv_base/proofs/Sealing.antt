@@ -4,12 +4,8 @@ use Rattle.std.specs.Int.{byte_len, from_le_bytes, to_le_bytes}
 use Rattle.std.proofs.Common.{refl, arith, subst, subst₂, sym, ◌∙◌, ap, inl, inr, zero-add, length-append, length-drop}
 use Rattle.std.proofs.lemmas.List.{drop-drop, drop-take, length-take-le, take-take}
 use Rattle.std.proofs.Math.Seq.{drop-append-add, drop-append_seam, take-append_seam}
-use Rattle.rkyv_base.specs.Bytes.{AgreeOn, number_at}
-use Rattle.rkyv_base.specs.Scalar.{Encodes, Encoding, IsScalar}
+use Rattle.rkyv_base.specs.{AgreeOn, ElementSpec, Encodes, Encoding, IsElement, IsScalar, IsValueAt, Keeps, Outside, Sealed, Viewable, entry_spec, number_at, value_at, value_offset, with_bytes, with_value}
 use Rattle.rkyv_base.specs.Lemmas.Scalar.{word_bytes, word_reads_back}
-use Rattle.rkyv_base.specs.Sealing.{IsValueAt, Keeps, Outside, Sealed, value_at, with_bytes, with_value}
-use Rattle.rkyv_base.specs.ElementSpec.{ElementSpec, IsElement, Viewable}
-use Rattle.rkyv_base.specs.Entry.{entry_spec, value_offset}
 use Rattle.rkyv_base.specs.Lemmas.Entry.{key_and_value_inside, viewable_key, viewable_value}
 
 module _ (b : List ℕ) (p n : ℕ) (w : List ℕ) (inside : p + n ≤ length b) (size : length w ≡ n) where

@@ -6,8 +6,7 @@ use Rattle.std.proofs.Common.{arith, inl, inr, refl, subst, sym}
 use Rattle.std.proofs.lemmas.Grind.{common_steps}
 use Rattle.rkyv_base.specs.declared.errors.VerifyError.{VerifyError}
 use Rattle.rkyv_base.specs.declared.errors.VerifyError.TheVariants.{InvalidValue}
-use Rattle.rkyv_base.specs.Parts.{PartFails, PartIn}
-use Rattle.rkyv_base.specs.Text.{IsValidText, TextFails, is_out_of_line, out_of_line_begin, out_of_line_length, text_size}
+use Rattle.rkyv_base.specs.{IsValidText, PartFails, PartIn, TextFails, is_out_of_line, out_of_line_begin, out_of_line_length, text_size}
 
 eight_fit : (w : Width) → (w ≡ w32) ⊎ (w ≡ w64) → 8 ≤ text_size w
 eight_fit w (inl e) = subst (λ v. 8 ≤ text_size v) (sym e) (omega arith)

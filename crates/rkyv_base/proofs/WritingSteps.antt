@@ -3,7 +3,7 @@ use Rattle.std.specs.Prelude.{◌≡◌, ℕ, ◌+◌, ◌^◌, ◌-◌, min, Li
 use Rattle.std.proofs.Common.{arith, refl, subst, sym, ◌∙◌, ap, inl, inr, append_assoc, append-nil, length-append}
 use Rattle.rkyv_base.specs.declared.errors.WriteError.{WriteError}
 use Rattle.rkyv_base.specs.declared.errors.WriteError.TheVariants.{CapacityTooLarge, DistanceTooLarge, InvalidLoadFactor, IteratorLengthMismatch, Memory, PositionTooLarge, Refused, TextTooLong, Writer}
-use Rattle.rkyv_base.specs.Writing.{Appends, CauseApplies, Extends, FaultsDuring, Output, Reached, Step, Within, WriteFails, end_of, piece}
+use Rattle.rkyv_base.specs.{Appends, CauseApplies, Extends, FaultsDuring, Output, Reached, Step, Within, WriteFails, end_of, piece}
 
 -- the appended bytes follow the earlier bytes
 pub grows : (o o1 : Output) (p : List ℕ) → Appends o o1 p → Extends o o1 p

@@ -3,11 +3,9 @@ use Rattle.std.specs.Prelude.{◌≡◌, ℕ, ◌+◌, ◌%◌, ◌≤◌, List,
 use Rattle.std.proofs.Common.{arith, ap, subst, sym, ◌∙◌}
 use Rattle.std.proofs.lemmas.List.{length-replicate, take-replicate}
 use Rattle.rkyv_base.specs.declared.errors.WriteError.{WriteError}
-use Rattle.rkyv_base.specs.ElementSpec.{IsAlign}
+use Rattle.rkyv_base.specs.{Appends, IsAlign, Only, Output, WriteFails, end_of, padding, piece, round_up, zeros}
 use Rattle.rkyv_base.specs.Lemmas.ElementSpec.{align_small}
-use Rattle.rkyv_base.specs.Entry.{round_up}
 use Rattle.rkyv_base.specs.Lemmas.Entry.{round_up-multiple}
-use Rattle.rkyv_base.specs.Writing.{Appends, Only, Output, WriteFails, end_of, padding, piece, zeros}
 use Rattle.rkyv_base.proofs.WritingSteps.{end-appends}
 
 -- the zeros up to an alignment are a front of eight

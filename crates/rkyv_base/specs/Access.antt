@@ -3,7 +3,7 @@ use Rattle.std.specs.Prelude.{MatchResult, Result, ◌≡◌, ◌≢◌, ℕ, �
 use Rattle.std.specs.Prelude.{length, pos, ◌-ℤ◌}
 use Rattle.rkyv_base.specs.declared.errors.VerifyError.{VerifyError}
 use Rattle.rkyv_base.specs.declared.errors.VerifyError.TheVariants.{OutOfRange, Unaligned}
-use Rattle.rkyv_base.specs.ElementSpec.{ElementSpec, ValidAt}
+use Rattle.rkyv_base.specs.ElementSpecs.{ElementSpec, ValidAt}
 use Rattle.rkyv_base.specs.Layout.{narrow_limit, wide_limit}
 use Rattle.rkyv_base.specs.Members.{ElementMembers}
 

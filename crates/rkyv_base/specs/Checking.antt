@@ -2,7 +2,7 @@
 use Rattle.std.specs.Prelude.{◌≡◌, ℕ, List}
 use Rattle.rkyv_base.specs.declared.element.PartRange.{PartRange}
 use Rattle.rkyv_base.specs.declared.errors.VerifyError.{VerifyError}
-use Rattle.rkyv_base.specs.ElementSpec.{ElementSpec}
+use Rattle.rkyv_base.specs.ElementSpecs.{ElementSpec}
 
 -- `rest`: rest of the range after the parts of the valid value at `p`
 abbrev pub Passes : ElementSpec → List ℕ → ℕ → PartRange → PartRange → Type 0

@@ -1,8 +1,8 @@
 -- The unit value.
 use Rattle.std.specs.Prelude.{◌≡◌, ℕ, List, []}
-use Rattle.rkyv_base.specs.ElementSpec.{ElementSpec}
+use Rattle.rkyv_base.specs.ElementSpecs.{ElementSpec}
 use Rattle.rkyv_base.specs.Lemmas.AnyBytes.{any_bytes}
-use Rattle.rkyv_base.specs.Format.{Format, no_overflow, nothing_next}
+use Rattle.rkyv_base.specs.Formats.{Format, no_overflow, nothing_next}
 
 -- the unit value as an element: valid at every position, without bytes
 abbrev pub unit_spec : ElementSpec

@@ -1,7 +1,7 @@
 -- The ghost members of bounds, as clauses name them: those of a width, and those of an element.
 use Rattle.std.specs.Prelude.{ℕ, List}
 use Rattle.std.specs.Int.{Width}
-use Rattle.rkyv_base.specs.ElementSpec.{ElementSpec, IsElement}
+use Rattle.rkyv_base.specs.ElementSpecs.{ElementSpec, IsElement}
 use Rattle.rkyv_base.specs.Text.{IsArchiveWord}
 
 -- the members of a `Width` and its `Word`

@@ -3,9 +3,9 @@
 use Rattle.std.specs.Prelude.{◌≡◌, ℕ, ◌+◌, ◌-◌, ◌<◌, ◌⊎◌, List, [], ◌++◌, length}
 use Rattle.rkyv_base.specs.declared.pairs.EntryResolver.{EntryResolver}
 use Rattle.rkyv_base.specs.Writing.{Step, failure, refused, zeros}
-use Rattle.rkyv_base.specs.ElementSpec.{ElementSpec}
-use Rattle.rkyv_base.specs.Entry.{IsSmall, value_offset, whole_size}
-use Rattle.rkyv_base.specs.Format.{Format}
+use Rattle.rkyv_base.specs.ElementSpecs.{ElementSpec}
+use Rattle.rkyv_base.specs.Entries.{IsSmall, value_offset, whole_size}
+use Rattle.rkyv_base.specs.Formats.{Format}
 
 -- a value at the front of its `n` bytes, followed by zeros
 abbrev pub Padded : ℕ → (List ℕ → Type 0) → List ℕ → Type 0

@@ -1,38 +1,14 @@
 -- The root of an archive: the parts of a value, zeros up to its alignment, and its fixed bytes.
-use Rattle.std.specs.Prelude.{
-  MatchResult,
-  Result,
-  ◌≡◌,
-  ℕ,
-  ◌+◌,
-  ◌-◌,
-  ◌≤◌,
-  ◌⊎◌,
-  List,
-  [],
-  ◌++◌,
-  length,
-}
+use Rattle.std.specs.Prelude.{List, MatchResult, Result, [], length, ℕ, ◌++◌, ◌+◌, ◌-◌, ◌≡◌, ◌≤◌}
+use Rattle.std.specs.Prelude.{◌⊎◌}
 use Rattle.std.specs.declared.vec.Vec.{Vec}
 use Rattle.rkyv_base.specs.declared.errors.WriteError.{WriteError}
-use Rattle.rkyv_base.specs.Writing.{
-  Appends,
-  Only,
-  Output,
-  Step,
-  WriteFails,
-  distance,
-  end_of,
-  failure,
-  no_memory,
-  padding,
-  piece,
-  zeros,
-}
-use Rattle.rkyv_base.specs.ElementSpec.{ElementSpec}
-use Rattle.rkyv_base.specs.Entry.{round_up}
+use Rattle.rkyv_base.specs.Writing.{Appends, Only, Output, Step, WriteFails, distance, end_of}
+use Rattle.rkyv_base.specs.Writing.{failure, no_memory, padding, piece, zeros}
+use Rattle.rkyv_base.specs.ElementSpecs.{ElementSpec}
+use Rattle.rkyv_base.specs.Entries.{round_up}
 use Rattle.rkyv_base.specs.Access.{IsArchive, IsValidArchive}
-use Rattle.rkyv_base.specs.Format.{Format}
+use Rattle.rkyv_base.specs.Formats.{Format}
 use Rattle.rkyv_base.specs.Layout.{narrow_limit, wide_limit}
 use Rattle.rkyv_base.specs.Members.{ElementMembers}
 

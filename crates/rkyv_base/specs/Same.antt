@@ -1,8 +1,8 @@
 -- Equality of specs, encodings, representations and formats, at each argument.
 use Rattle.std.specs.Prelude.{◌≡◌, ℕ, ◌↔◌, List}
 use Rattle.rkyv_base.specs.declared.errors.VerifyError.{VerifyError}
-use Rattle.rkyv_base.specs.ElementSpec.{ElementSpec}
-use Rattle.rkyv_base.specs.Format.{Format}
+use Rattle.rkyv_base.specs.ElementSpecs.{ElementSpec}
+use Rattle.rkyv_base.specs.Formats.{Format}
 use Rattle.rkyv_base.specs.Scalar.{Encoding}
 use Rattle.rkyv_base.specs.Writing.{Step}
 

@@ -5,8 +5,8 @@ use mir.Val.{bits}
 use Rattle.rkyv_base.specs.declared.errors.VerifyError.{VerifyError}
 use Rattle.rkyv_base.specs.declared.errors.VerifyError.TheVariants.{InvalidValue}
 use Rattle.rkyv_base.specs.Bytes.{number_at}
-use Rattle.rkyv_base.specs.ElementSpec.{ElementSpec}
-use Rattle.rkyv_base.specs.Format.{Format, no_overflow, nothing_next}
+use Rattle.rkyv_base.specs.ElementSpecs.{ElementSpec}
+use Rattle.rkyv_base.specs.Formats.{Format, no_overflow, nothing_next}
 
 -- an encoding of the values `V`. `word`: the number's width, `code`: number of a value,
 -- `value`: value of a number, `IsCode`: numbers of values

@@ -2,9 +2,9 @@
 use Rattle.std.specs.Prelude.{◌≡◌, ℕ, ◌+◌, ◌≤◌, ◌⊎◌, List, ◌++◌, length, take, drop}
 use Rattle.std.specs.Int.{byte_len, to_le_bytes}
 use Rattle.rkyv_base.specs.Bytes.{number_at}
-use Rattle.rkyv_base.specs.Entry.{entry_spec, value_offset}
+use Rattle.rkyv_base.specs.Entries.{entry_spec, value_offset}
 use Rattle.rkyv_base.specs.Scalar.{Encoding}
-use Rattle.rkyv_base.specs.ElementSpec.{ElementSpec}
+use Rattle.rkyv_base.specs.ElementSpecs.{ElementSpec}
 
 -- the bytes `b`, with the `n` bytes from position `p` on replaced by `w`
 abbrev pub with_bytes : List ℕ → ℕ → ℕ → List ℕ → List ℕ

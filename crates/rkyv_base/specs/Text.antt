@@ -8,7 +8,7 @@ use Rattle.std.specs.Str.{IsUtf8}
 use Rattle.rkyv_base.specs.declared.errors.VerifyError.{VerifyError}
 use Rattle.rkyv_base.specs.declared.errors.VerifyError.TheVariants.{InvalidValue}
 use Rattle.rkyv_base.specs.Bytes.{number_at, signed_at}
-use Rattle.rkyv_base.specs.ElementSpec.{ElementSpec}
+use Rattle.rkyv_base.specs.ElementSpecs.{ElementSpec}
 use Rattle.rkyv_base.specs.Parts.{PartFails, PartIn}
 
 -- the number of fixed bytes of a text, with words of width `w`

@@ -7,7 +7,7 @@ use Rattle.std.specs.Str.{IsUtf8}
 use mir.Val.{bits}
 use Rattle.rkyv_base.specs.declared.strings.TextResolver.{TextResolver}
 use Rattle.rkyv_base.specs.Writing.{Only, Step, failure, long_text, piece}
-use Rattle.rkyv_base.specs.Format.{Format}
+use Rattle.rkyv_base.specs.Formats.{Format}
 use Rattle.rkyv_base.specs.Text.{text_size}
 
 -- the least length of a text that can't be written

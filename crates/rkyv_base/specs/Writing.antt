@@ -1,36 +1,13 @@
 -- The output of a writer, and the results of one write.
-use Rattle.std.specs.Prelude.{
-  ◌≡◌,
-  ℕ,
-  ◌+◌,
-  ◌-◌,
-  ◌%◌,
-  ◌^◌,
-  ◌<◌,
-  ◌≤◌,
-  ◌⊎◌,
-  List,
-  [],
-  ◌++◌,
-  length,
-  take,
-  min,
-  replicate,
-  MatchResult,
-  Result,
-}
+use Rattle.std.specs.Prelude.{List, MatchResult, Result, [], length, min, replicate, take, ℕ, ◌%◌}
+use Rattle.std.specs.Prelude.{◌++◌, ◌+◌, ◌-◌, ◌<◌, ◌^◌, ◌≡◌, ◌≤◌, ◌⊎◌}
 use Rattle.rkyv_base.specs.declared.errors.WriteError.{WriteError}
-use Rattle.rkyv_base.specs.declared.errors.WriteError.TheVariants.{
-  CapacityTooLarge,
-  DistanceTooLarge,
-  InvalidLoadFactor,
-  IteratorLengthMismatch,
-  Memory,
-  PositionTooLarge,
-  Refused,
-  TextTooLong,
-  Writer,
-}
+use Rattle.rkyv_base.specs.declared.errors.WriteError.TheVariants.{CapacityTooLarge}
+use Rattle.rkyv_base.specs.declared.errors.WriteError.TheVariants.{DistanceTooLarge}
+use Rattle.rkyv_base.specs.declared.errors.WriteError.TheVariants.{InvalidLoadFactor}
+use Rattle.rkyv_base.specs.declared.errors.WriteError.TheVariants.{IteratorLengthMismatch, Memory}
+use Rattle.rkyv_base.specs.declared.errors.WriteError.TheVariants.{PositionTooLarge, Refused}
+use Rattle.rkyv_base.specs.declared.errors.WriteError.TheVariants.{TextTooLong, Writer}
 
 -- the output of a writer. `start`: position of its first byte, `bytes`: its bytes,
 -- `failures`: count of failed writes

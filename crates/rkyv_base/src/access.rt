@@ -9,12 +9,9 @@
 //! The others are for narrow archives.
 
 ghost use Rattle.std.specs.Prelude.{◌-◌, length, IfOk, IsOk, MatchResult};
-ghost use Rattle.rkyv_base.specs.Access.{AccessFails, AccessWrites, IsValidArchive};
-ghost use Rattle.rkyv_base.specs.Layout.{narrow_limit};
-ghost use Rattle.rkyv_base.specs.ClosureWrites.{MayWrite, Wrote};
-ghost use Rattle.rkyv_base.specs.Seal.{ArchiveAt, archive_in, pos_in};
-ghost use Rattle.rkyv_base.specs.ElementSpec.{Viewable};
-ghost use Rattle.rkyv_base.specs.View.{IsAt, IsValidView};
+ghost use Rattle.rkyv_base.specs.{AccessFails, AccessWrites, ArchiveAt, IsAt, IsValidArchive};
+ghost use Rattle.rkyv_base.specs.{IsValidView, MayWrite, Viewable, Wrote, archive_in, narrow_limit};
+ghost use Rattle.rkyv_base.specs.{pos_in};
 
 use crate::element::{Element, PartRange};
 use crate::errors::VerifyError;

@@ -1,9 +1,7 @@
 //! Pairs of a key and a value by reference or by value, which are archived as entries.
 
 ghost use Rattle.std.specs.Prelude.{◌≡◌};
-ghost use Rattle.rkyv_base.specs.Adapter.{pair_of};
-ghost use Rattle.rkyv_base.specs.Entry.{entry_spec};
-ghost use Rattle.rkyv_base.specs.Pairs.{PairRepresents, pair_format, written_as};
+ghost use Rattle.rkyv_base.specs.{PairRepresents, entry_spec, pair_format, pair_of, written_as};
 ghost use Rattle.rkyv_base.specs.Lemmas.Pairs.{pair_is_format, pair_local, written_as-format};
 
 use crate::archive::{Archive, ResolveResult, Serialize, WriteResult};

@@ -6,7 +6,7 @@
 //! `docs/OWN_TYPES.md` has whole examples of user-defined types.
 
 ghost use Rattle.std.specs.Prelude.{◌≡◌, ◌+◌, ◌^◌, ◌<◌, length, MatchResult};
-ghost use Rattle.rkyv_base.specs.Format.{Format, IsFormat, Serializes};
+ghost use Rattle.rkyv_base.specs.{Format, IsFormat, Serializes};
 
 use crate::element::Represents;
 use crate::errors::{DistanceTooLarge, WriteError};

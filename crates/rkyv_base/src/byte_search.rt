@@ -1,18 +1,7 @@
 //! The search for the first byte of a kind, eight bytes at a time.
 
-ghost use Rattle.std.specs.Prelude.{
-  ◌≡◌,
-  ℕ,
-  ◌≤◌,
-  ◌==◌,
-  Bool,
-  IsTrue,
-  length,
-  map,
-  nat_le,
-  position,
-  take,
-};
+ghost use Rattle.std.specs.Prelude.{Bool, IsTrue, length, map, nat_le, position, take, ℕ, ◌==◌};
+ghost use Rattle.std.specs.Prelude.{◌≡◌, ◌≤◌};
 ghost use Rattle.std.specs.Simd.Lanes.{mask_l};
 ghost use Rattle.std.specs.Str.{IsAscii};
 

@@ -7,8 +7,8 @@
 
 ghost use Rattle.std.specs.Prelude.{◌≡◌, ℕ, ◌+◌, ◌%◌, ◌≤◌, List, length, MatchResult};
 ghost use Rattle.rkyv_base.specs.Checking.{Fails, Passes};
-ghost use Rattle.rkyv_base.specs.Format.{RepresentsLocally};
-ghost use Rattle.rkyv_base.specs.ElementSpec.{ElementSpec, IsElement};
+ghost use Rattle.rkyv_base.specs.Formats.{RepresentsLocally};
+ghost use Rattle.rkyv_base.specs.ElementSpecs.{ElementSpec, IsElement};
 
 use crate::errors::VerifyError;
 

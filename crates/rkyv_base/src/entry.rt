@@ -4,7 +4,7 @@
 //! and padding up to the greater alignment. `value_offset` and `whole_size` return its numbers.
 
 ghost use Rattle.std.specs.Prelude.{◌≡◌, ◌+◌, ◌<◌, ◌≤◌, ◌^◌};
-ghost use Rattle.rkyv_base.specs.Entry.{entry_spec, round_up, value_offset, whole_size};
+ghost use Rattle.rkyv_base.specs.{entry_spec, round_up, value_offset, whole_size};
 ghost use Rattle.rkyv_base.specs.Lemmas.Entry.{entry_element};
 
 use crate::element::{Element, HasSpec, PartRange};

@@ -6,8 +6,9 @@
 //! - `RoundTripError` is the error of writing a value and deserializing it.
 //! - `DistanceTooLarge` is the error of `resolve` alone.
 //!
-//! `?` converts an `AllocError` into `Memory` of a write and of a deserialization, and
-//! `DistanceTooLarge` into that of a write. It wraps these errors into that of a round trip.
+//! `?` converts an `AllocError` into the `Memory` of a `WriteError` or a `ReadError`, and
+//! `DistanceTooLarge` into `WriteError::DistanceTooLarge`. It wraps a `WriteError<NoMemory>` and a
+//! `ReadError` into a `RoundTripError`.
 
 ghost use Rattle.std.specs.Prelude.{◌≡◌};
 ghost use Rattle.rkyv_base.specs.declared.errors.ReadError.TheVariants as read;

@@ -5,14 +5,11 @@
 
 ghost use Rattle.std.specs.Int.{w16, w32, w64, w8};
 ghost use Rattle.std.specs.Prelude.{string_bytes};
-ghost use Rattle.rkyv_base.specs.Empty.{unit_format, unit_represents, unit_spec};
-ghost use Rattle.rkyv_base.specs.Entry.{entry_spec};
-ghost use Rattle.rkyv_base.specs.Numbers.{bool_encoding, char_encoding, signed, unsigned};
-ghost use Rattle.rkyv_base.specs.Pairs.{PairRepresents, pair_format, written_as};
-ghost use Rattle.rkyv_base.specs.Same.{SameEncoding, SameFormat, SameSpec, SameValues};
-ghost use Rattle.rkyv_base.specs.Scalar.{IsScalar, ScalarRepresents, scalar_format};
-ghost use Rattle.rkyv_base.specs.Text.{TextReads, text_spec};
-ghost use Rattle.rkyv_base.specs.TextWriting.{text_format};
+ghost use Rattle.rkyv_base.specs.{IsScalar, PairRepresents, SameEncoding, SameFormat, SameSpec};
+ghost use Rattle.rkyv_base.specs.{SameValues, ScalarRepresents, TextReads, bool_encoding};
+ghost use Rattle.rkyv_base.specs.{char_encoding, entry_spec, pair_format, scalar_format, signed};
+ghost use Rattle.rkyv_base.specs.{text_format, text_spec, unit_format, unit_represents, unit_spec};
+ghost use Rattle.rkyv_base.specs.{unsigned, written_as};
 
 use crate::archive::Archive;
 use crate::element::{HasSpec, Represents};

@@ -3,22 +3,10 @@
 //! `LimitWriter` passes pieces to an inner writer. Its fault is `Full` at the limit, or the fault
 //! of the inner writer.
 
-ghost use Rattle.std.specs.Prelude.{
-  IfErr,
-  MatchResult,
-  OnErr,
-  OnOk,
-  length,
-  min,
-  ◌+◌,
-  ◌-◌,
-  ◌<◌,
-  ◌^◌,
-  ◌≡◌,
-  ◌≤◌,
-};
-ghost use Rattle.rkyv_base.specs.Limit.{Counts, InnerFaults, InnerTook, LimitWriteFails, limited};
-ghost use Rattle.rkyv_base.specs.Writing.{Appends, Faults, end_of};
+ghost use Rattle.std.specs.Prelude.{IfErr, MatchResult, OnErr, OnOk, length, min, ◌+◌, ◌-◌, ◌<◌};
+ghost use Rattle.std.specs.Prelude.{◌^◌, ◌≡◌, ◌≤◌};
+ghost use Rattle.rkyv_base.specs.{Appends, Counts, Faults, InnerFaults, InnerTook, LimitWriteFails};
+ghost use Rattle.rkyv_base.specs.{end_of, limited};
 
 use crate::writer::Writer;
 

@@ -6,11 +6,9 @@
 ghost use Rattle.std.specs.Prelude.{◌≡◌};
 ghost use Rattle.std.specs.Int.{w16, w32, w64, w8};
 ghost use Rattle.std.proofs.Common.{inl, inr, refl};
-ghost use Rattle.rkyv_base.specs.Numbers.{bool_encoding, char_encoding};
+ghost use Rattle.rkyv_base.specs.{bool_encoding, char_encoding, scalar_spec, signed, unsigned};
 ghost use Rattle.rkyv_base.specs.Lemmas.Numbers.{bool_codes, char_codes};
-ghost use Rattle.rkyv_base.specs.Numbers.{signed, unsigned};
 ghost use Rattle.rkyv_base.specs.Lemmas.Numbers.{signed_codes, unsigned_codes};
-ghost use Rattle.rkyv_base.specs.Scalar.{scalar_spec};
 ghost use Rattle.rkyv_base.specs.Lemmas.Scalar.{scalar_element, scalar_laws};
 
 use crate::element::HasSpec;

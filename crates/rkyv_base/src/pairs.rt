@@ -3,9 +3,7 @@
 //! The parts of the key are written first, then those of the value. The fixed bytes are an `Entry`.
 
 ghost use Rattle.std.specs.Prelude.{◌≡◌, ◌+◌, ◌^◌, ◌<◌, ◌≤◌, length, MatchResult};
-ghost use Rattle.rkyv_base.specs.Entry.{entry_spec};
-ghost use Rattle.rkyv_base.specs.Format.{Serializes};
-ghost use Rattle.rkyv_base.specs.Pairs.{Padded, PairRepresents, pair_format};
+ghost use Rattle.rkyv_base.specs.{Padded, PairRepresents, Serializes, entry_spec, pair_format};
 ghost use Rattle.rkyv_base.specs.Lemmas.Pairs.{pair_is_format};
 ghost use Rattle.rkyv_base.specs.Lemmas.Pairs.{pair_local};
 

@@ -3,7 +3,7 @@
 //! A validator calls `part_in` with a part's begin, which is computed from untrusted numbers.
 
 ghost use Rattle.std.specs.Prelude.{◌+ℤ◌, ◌<◌, ◌≡◌, pos as int, MatchResult};
-ghost use Rattle.rkyv_base.specs.Parts.{PartFails, PartIn};
+ghost use Rattle.rkyv_base.specs.{PartFails, PartIn};
 
 use crate::element::PartRange;
 use crate::errors::VerifyError;

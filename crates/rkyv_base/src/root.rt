@@ -8,8 +8,7 @@
 //! 3. The root's fixed bytes are written. Their position is the result of `write_root`.
 
 ghost use Rattle.std.specs.Prelude.{MatchResult};
-ghost use Rattle.rkyv_base.specs.Layout.{narrow_limit};
-ghost use Rattle.rkyv_base.specs.Root.{ArchiveOf, ToBytesFails, WritesRoot, root_format};
+ghost use Rattle.rkyv_base.specs.{ArchiveOf, ToBytesFails, WritesRoot, narrow_limit, root_format};
 
 use crate::archive::{Serialize, WriteResult};
 use crate::element::Element;

@@ -4,8 +4,7 @@
 
 ghost use Rattle.std.specs.Prelude.{◌≡◌, ◌+◌, length, IsTrue, ◌↔◌};
 ghost use Rattle.std.specs.Int.{byte_len, from_le_bytes};
-ghost use Rattle.rkyv_base.specs.Scalar.{Encodes, Encoding, IsScalar, ScalarRepresents};
-ghost use Rattle.rkyv_base.specs.Scalar.{scalar_format};
+ghost use Rattle.rkyv_base.specs.{Encodes, Encoding, IsScalar, ScalarRepresents, scalar_format};
 ghost use Rattle.rkyv_base.specs.Lemmas.Scalar.{scalar_is_format, scalar_local};
 
 use crate::archive::{Archive, ResolveResult, Serialize, WriteResult};

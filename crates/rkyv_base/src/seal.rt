@@ -17,31 +17,11 @@
 
 ghost use Rattle.std.specs.Prelude.{◌≡◌, ◌+◌, ◌≤◌, length, take, drop};
 ghost use Rattle.std.specs.Borrow.{sem};
-ghost use Rattle.rkyv_base.specs.View.{IsValidView, bytes_of, pos_of};
-ghost use Rattle.rkyv_base.specs.Entry.{entry_spec};
-ghost use Rattle.rkyv_base.specs.ClosureWrites.{MayWrite, Wrote};
-ghost use Rattle.rkyv_base.specs.Seal.{
-  ArchiveAt,
-  ArchiveStays,
-  LendsFrontAndBack,
-  LiesIn,
-  SealAt,
-  SealStays,
-  archive_in,
-  bytes_in,
-  pos_in,
-  seal_pos,
-};
-ghost use Rattle.rkyv_base.specs.Sealing.{
-  IsValueAt,
-  Keeps,
-  KeepsEntry,
-  Sealed,
-  value_at,
-  value_pos,
-  with_value,
-};
-ghost use Rattle.rkyv_base.specs.ElementSpec.{Viewable};
+ghost use Rattle.rkyv_base.specs.{ArchiveAt, ArchiveStays, IsValidView, IsValueAt, Keeps};
+ghost use Rattle.rkyv_base.specs.{KeepsEntry, LendsFrontAndBack, LiesIn, MayWrite, SealAt};
+ghost use Rattle.rkyv_base.specs.{SealStays, Sealed, Viewable, Wrote, archive_in, bytes_in};
+ghost use Rattle.rkyv_base.specs.{bytes_of, entry_spec, pos_in, pos_of, seal_pos, value_at};
+ghost use Rattle.rkyv_base.specs.{value_pos, with_value};
 
 use crate::element::Element;
 use crate::entry::value_offset;

@@ -5,11 +5,9 @@
 
 ghost use Rattle.std.specs.Prelude.{◌≡◌, ◌+◌, ◌≤◌, length, map, MatchOption};
 ghost use Rattle.std.specs.Char.{to_ascii_uppercase};
-ghost use Rattle.rkyv_base.specs.Seal.{LiesIn, SealStays, bytes_in, seal_pos};
-ghost use Rattle.rkyv_base.specs.SealedText.{IsInline, IsOutOfLine, IsSealedText, Uppercases};
-ghost use Rattle.rkyv_base.specs.SealedText.{ReadsInline, inline_at};
-ghost use Rattle.rkyv_base.specs.Sealing.{Keeps, Sealed};
-ghost use Rattle.rkyv_base.specs.Text.{text_at, text_size, text_spec};
+ghost use Rattle.rkyv_base.specs.{IsInline, IsOutOfLine, IsSealedText, Keeps, LiesIn, ReadsInline};
+ghost use Rattle.rkyv_base.specs.{SealStays, Sealed, Uppercases, bytes_in, inline_at, seal_pos};
+ghost use Rattle.rkyv_base.specs.{text_at, text_size, text_spec};
 
 use crate::seal::Seal;
 use crate::text::{Text, fixed_at, inline_part, is_out_of_line};

@@ -3,24 +3,10 @@
 //! Serializing writes the bytes of a text that is too long to be inline. Resolving writes the text
 //! itself, or its length and the distance to it.
 
-ghost use Rattle.std.specs.Prelude.{
-  ◌≡◌,
-  ◌+◌,
-  ◌-◌,
-  ◌^◌,
-  ◌<◌,
-  ◌≤◌,
-  ◌++◌,
-  length,
-  string_bytes,
-  FitsSigned,
-  MatchResult,
-};
-ghost use Rattle.rkyv_base.specs.Format.{Serializes};
-ghost use Rattle.rkyv_base.specs.Pairs.{written_as};
-ghost use Rattle.rkyv_base.specs.Text.{text_size};
-ghost use Rattle.rkyv_base.specs.TextWriting.{inline_bytes, length_word, out_of_line_bytes};
-ghost use Rattle.rkyv_base.specs.TextWriting.{text_format, text_limit};
+ghost use Rattle.std.specs.Prelude.{FitsSigned, MatchResult, length, string_bytes, ◌++◌, ◌+◌, ◌-◌};
+ghost use Rattle.std.specs.Prelude.{◌<◌, ◌^◌, ◌≡◌, ◌≤◌};
+ghost use Rattle.rkyv_base.specs.{Serializes, inline_bytes, length_word, out_of_line_bytes};
+ghost use Rattle.rkyv_base.specs.{text_format, text_limit, text_size, written_as};
 ghost use Rattle.rkyv_base.specs.Lemmas.TextWriting.{text_as_format};
 
 use crate::archive::{Archive, ResolveResult, Serialize, WriteResult};

@@ -8,31 +8,15 @@
 //!
 //! A view of a text has `as_str`.
 
-ghost use Rattle.std.specs.Prelude.{
-  ◌≡◌,
-  ℕ,
-  ◌+◌,
-  ◌<◌,
-  ◌≤◌,
-  ◌^◌,
-  length,
-  string_bytes,
-  true,
-  IsTrue,
-  MatchResult,
-  pos as int,
-  ◌+ℤ◌,
-};
+ghost use Rattle.std.specs.Prelude.{IsTrue, MatchResult, length, pos as int, string_bytes, true, ℕ};
+ghost use Rattle.std.specs.Prelude.{◌+ℤ◌, ◌+◌, ◌<◌, ◌^◌, ◌≡◌, ◌≤◌};
 ghost use Rattle.std.specs.Str.{IsAscii, IsUtf8};
 ghost use Rattle.rkyv_base.specs.declared.errors.VerifyError.TheVariants.{InvalidValue};
-ghost use Rattle.rkyv_base.specs.Checking.{Fails, Passes};
-ghost use Rattle.rkyv_base.specs.Text.{TextReads, out_of_line_begin, out_of_line_length};
-ghost use Rattle.rkyv_base.specs.Text.{fixed_bytes, inline_text, is_out_of_line, text_at};
-ghost use Rattle.rkyv_base.specs.Text.{text_spec};
-ghost use Rattle.rkyv_base.specs.Text.{decode_length, text_size};
+ghost use Rattle.rkyv_base.specs.{Fails, IsValidView, Passes, TextReads, Viewable, bytes_of};
+ghost use Rattle.rkyv_base.specs.{decode_length, fixed_bytes, inline_text, is_out_of_line};
+ghost use Rattle.rkyv_base.specs.{out_of_line_begin, out_of_line_length, pos_of, text_at};
+ghost use Rattle.rkyv_base.specs.{text_size, text_spec};
 ghost use Rattle.rkyv_base.specs.Lemmas.Text.{text_element, text_local};
-ghost use Rattle.rkyv_base.specs.ElementSpec.{Viewable};
-ghost use Rattle.rkyv_base.specs.View.{IsValidView, bytes_of, pos_of};
 
 use crate::byte_search::{NonAscii, PadByte, first, is_ascii};
 use crate::element::{Element, HasSpec, PartRange, Represents};

@@ -2,7 +2,7 @@
 //!
 //! It is the value type of a set, whose entries are therefore its keys alone.
 
-ghost use Rattle.rkyv_base.specs.Empty.{unit_format, unit_represents, unit_spec};
+ghost use Rattle.rkyv_base.specs.{unit_format, unit_represents, unit_spec};
 ghost use Rattle.rkyv_base.specs.Lemmas.Empty.{unit_element, unit_is_format, unit_local};
 
 use crate::archive::{Archive, ResolveResult, Serialize, WriteResult};

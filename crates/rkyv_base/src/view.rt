@@ -5,11 +5,9 @@
 //! - `at` returns a view of another value of the same archive.
 
 ghost use Rattle.std.specs.Prelude.{◌≡◌, ◌+◌};
-ghost use Rattle.rkyv_base.specs.Entry.{entry_spec, value_offset};
-ghost use Rattle.rkyv_base.specs.Scalar.{ScalarRepresents};
-ghost use Rattle.rkyv_base.specs.ElementSpec.{Viewable};
-ghost use Rattle.rkyv_base.specs.View.{AtView, IsAt, IsValidView, archive_of, bytes_of, pos_of};
-ghost use Rattle.rkyv_base.specs.View.{pos_of_found};
+ghost use Rattle.rkyv_base.specs.{AtView, IsAt, IsValidView, ScalarRepresents, Viewable};
+ghost use Rattle.rkyv_base.specs.{archive_of, bytes_of, entry_spec, pos_of, pos_of_found};
+ghost use Rattle.rkyv_base.specs.{value_offset};
 
 use crate::element::Element;
 use crate::entry::{Entry, value_offset};

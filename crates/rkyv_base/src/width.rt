@@ -3,29 +3,14 @@
 //! A `Width` has the limit of positions, the greatest capacity of a table, and the reading
 //! and writing of counts and distances. `Narrow` has words of 32 bits, and `Wide` of 64.
 
-ghost use Rattle.std.specs.Prelude.{
-  FitsSigned,
-  MatchOption,
-  pos,
-  ◌-ℤ◌,
-  ◌≡◌,
-  ℕ,
-  ◌+◌,
-  ◌-◌,
-  ◌*◌,
-  ◌^◌,
-  ◌<◌,
-  ◌≤◌,
-  length,
-  ◌++◌,
-};
+ghost use Rattle.std.specs.Prelude.{FitsSigned, MatchOption, length, pos, ℕ, ◌*◌, ◌++◌, ◌+◌, ◌-ℤ◌};
+ghost use Rattle.std.specs.Prelude.{◌-◌, ◌<◌, ◌^◌, ◌≡◌, ◌≤◌};
 ghost use Rattle.std.specs.Int.{Width as IntWidth, byte_len, cast_unsigned, to_le_bytes, w32, w64};
 ghost use mir.Val.{bits};
-ghost use Rattle.rkyv_base.specs.Bytes.{number_at, signed_at};
-ghost use Rattle.rkyv_base.specs.Layout.{IsIndexEncoding, IsLayout, narrow_limit};
+ghost use Rattle.rkyv_base.specs.{IsArchiveWord, IsIndexEncoding, IsLayout, narrow_limit};
+ghost use Rattle.rkyv_base.specs.{number_at, signed_at};
 ghost use Rattle.rkyv_base.specs.Lemmas.Layout.{narrow_layout};
 ghost use Rattle.rkyv_base.specs.Lemmas.Layout.{wide_layout};
-ghost use Rattle.rkyv_base.specs.Text.{IsArchiveWord};
 ghost use Rattle.std.proofs.Common.{inl, inr, refl};
 
 use crate::scalars::Scalar;

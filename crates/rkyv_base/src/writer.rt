@@ -3,29 +3,9 @@
 //! `Writer` is the trait, and `VecWriter` writes to memory. `append` and `align_for` write
 //! to a narrow archive by it, and `append_in` and `align_for_in` to one of any width.
 
-ghost use Rattle.std.specs.Prelude.{
-  List,
-  OnErr,
-  OnOk,
-  [],
-  length,
-  ℕ,
-  ◌+◌,
-  ◌<◌,
-  ◌^◌,
-  ◌≡◌,
-  ◌≤◌,
-};
-ghost use Rattle.rkyv_base.specs.Layout.{narrow_limit};
-ghost use Rattle.rkyv_base.specs.Writing.{
-  Aligns,
-  Appends,
-  AppendsPiece,
-  Faults,
-  Output,
-  end_of,
-  vec_output,
-};
+ghost use Rattle.std.specs.Prelude.{List, OnErr, OnOk, [], length, ℕ, ◌+◌, ◌<◌, ◌^◌, ◌≡◌, ◌≤◌};
+ghost use Rattle.rkyv_base.specs.{Aligns, Appends, AppendsPiece, Faults, Output, end_of};
+ghost use Rattle.rkyv_base.specs.{narrow_limit, vec_output};
 
 use crate::archive::WriteResult;
 use crate::element::Element;

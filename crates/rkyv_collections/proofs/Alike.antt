@@ -3,22 +3,15 @@ use Rattle.std.proofs.Common.{◌≡◌, ℕ, ◌<◌, ◌∙◌, arith, sym, ap
 use Rattle.std.specs.Int.{Width}
 use Rattle.std.specs.List.{find}
 use Rattle.std.proofs.lemmas.List.{ext_get_or, get_or-map, length-map}
-use Rattle.rkyv_scan.specs.Groups.{generic_kind}
-use Rattle.rkyv_scan.specs.Hash.{HasherCall, SizeWords, fx_hash}
+use Rattle.rkyv_scan.specs.{HasherCall, SizeWords, fx_hash, generic_kind}
 use Rattle.rkyv_scan.specs.Lemmas.Numbers.{fx_fits}
 use Rattle.rkyv_scan.proofs.HashLaws.{fixed_alike}
-use Rattle.rkyv_base.specs.Entry.{entry_spec}
-use Rattle.rkyv_base.specs.ElementSpec.{ElementSpec, IsElement, Viewable}
-use Rattle.rkyv_keys.specs.Equality.{Comparison}
-use Rattle.rkyv_keys.specs.Fixed.{MakesFixedCalls}
-use Rattle.rkyv_keys.specs.Keys.{IsQuery}
+use Rattle.rkyv_base.specs.{ElementSpec, IsElement, Viewable, entry_spec}
+use Rattle.rkyv_keys.specs.{Comparison, IsQuery, MakesFixedCalls}
 use Rattle.rkyv_keys.specs.Lemmas.OfEntries.{valid_key}
-use Rattle.rkyv_table.specs.Table.Positions.{WrittenAt, home_positions, item_at, pos_found}
+use Rattle.rkyv_table.specs.{WrittenAt, home_positions, item_at, pos_found}
 use Rattle.rkyv_keys.specs.declared.hash.KeyHash.{Ghosts as KeyHashes}
-use Rattle.rkyv_collections.specs.Map.BothHashers.{QueriedAlike, fx_hash_at}
-use Rattle.rkyv_collections.specs.Map.Equality.{pair_at}
-use Rattle.rkyv_collections.specs.Map.{MapWrittenAt}
-use Rattle.rkyv_collections.specs.Map.MapSpec.{map_spec}
+use Rattle.rkyv_collections.specs.{MapWrittenAt, QueriedAlike, fx_hash_at, map_spec, pair_at}
 use Rattle.rkyv_collections.proofs.WrittenPairs.{first_accepted, key_valid, pair_valid, pos_of_pair}
 
 module _ (w : Width) (k v : ElementSpec) (kl : IsElement k) (vl : IsElement v) (key_calls : List ℕ → ℕ → List HasherCall) (fixed : MakesFixedCalls k key_calls)

@@ -7,17 +7,14 @@ use Rattle.std.proofs.lemmas.Bool.{and_from, and_parts, both_ways, eq-eqb, eqb-t
 use Rattle.std.proofs.lemmas.List.{get_or_default, length-map}
 use Rattle.std.proofs.lemmas.List.Folds.{find_at}
 use Rattle.std.proofs.lemmas.Option.{same_Some, slice_get-get_or}
-use Rattle.rkyv_base.specs.Entry.{entry_spec, value_offset}
-use Rattle.rkyv_base.specs.ElementSpec.{ElementSpec, IsElement, ValidAt}
-use Rattle.rkyv_keys.specs.Equality.{Comparison, IsEquivalence}
-use Rattle.rkyv_keys.specs.OfEntries.{entry_same}
+use Rattle.rkyv_base.specs.{ElementSpec, IsElement, ValidAt, entry_spec, value_offset}
+use Rattle.rkyv_keys.specs.{Comparison, IsEquivalence, entry_same}
 use Rattle.rkyv_keys.specs.Lemmas.OfEntries.{entry_equivalence}
-use Rattle.rkyv_table.specs.Table.Header.{len_at}
-use Rattle.rkyv_table.specs.Table.Positions.{home_positions, item_at, item_positions}
+use Rattle.rkyv_table.specs.{home_positions, item_at, item_positions, len_at}
 use Rattle.rkyv_table.proofs.Lists.{any_member, contains_member, none_find, some_find}
 use Rattle.rkyv_table.proofs.Search.{cases_option}
 use Rattle.rkyv_table.proofs.Written.{first_within}
-use Rattle.rkyv_collections.specs.Map.Equality.{EachIsIn, EqualHaveSamePairs, IsWrittenApart, pair_at, pair_matches}
+use Rattle.rkyv_collections.specs.{EachIsIn, EqualHaveSamePairs, IsWrittenApart, pair_at, pair_matches}
 use Rattle.rkyv_collections.proofs.Matching.{IsMatching, column_matched, rows_within}
 use Rattle.rkyv_collections.proofs.WrittenPairs.{all_inserted, all_walked, first_accepted, hash_small, key_valid, len_is_count, pair_valid, pos_of_pair}
 

@@ -8,19 +8,11 @@ use Rattle.std.specs.Prelude.{slice_set}
 use Rattle.std.proofs.lemmas.Bool.{cases_Bool}
 use Rattle.std.proofs.lemmas.List.{length-map}
 use Rattle.std.proofs.lemmas.Option.{same_Some, slice_get_within}
-use Rattle.rkyv_base.specs.Entry.{entry_spec}
-use Rattle.rkyv_base.specs.Format.{RepresentsLocally}
-use Rattle.rkyv_base.specs.Sealing.{Keeps, Sealed, value_pos}
-use Rattle.rkyv_base.specs.ElementSpec.{ElementSpec, IsElement, ValidAt, Viewable}
+use Rattle.rkyv_base.specs.{ElementSpec, IsElement, Keeps, RepresentsLocally, Sealed, ValidAt, Viewable, entry_spec, value_pos}
 use Rattle.rkyv_keys.specs.Lemmas.OfEntries.{valid_key}
-use Rattle.rkyv_table.specs.Table.Positions.{home_positions, item_at}
-use Rattle.rkyv_collections.specs.Map.InPlace.{WritesFound, with_first}
-use Rattle.rkyv_keys.specs.FirstPairs.{first_pair}
-use Rattle.rkyv_keys.specs.QueryLaws.{HashLocal}
-use Rattle.rkyv_collections.specs.Map.ListedLookups.{AgreesOnKeys}
-use Rattle.rkyv_collections.specs.Map.MapSpec.{map_spec}
-use Rattle.rkyv_collections.specs.Map.MapFormat.{MapRepresents}
-use Rattle.rkyv_table.specs.Table.SealedTable.{WritesValue}
+use Rattle.rkyv_table.specs.{WritesValue, home_positions, item_at}
+use Rattle.rkyv_collections.specs.{AgreesOnKeys, MapRepresents, WritesFound, map_spec, with_first}
+use Rattle.rkyv_keys.specs.{HashLocal, first_pair}
 use Rattle.rkyv_collections.proofs.ValueWrites.{written_value_represents}
 use Rattle.rkyv_collections.proofs.WrittenPairs.{pair_valid, pos_of_pair}
 

@@ -5,27 +5,14 @@ use Rattle.std.proofs.Common.{◌≡◌, ℕ, ◌<◌, ◌^◌, ◌∙◌, ap, s
 use Rattle.std.specs.Borrow.{Bor}
 use Rattle.std.specs.List.{find}
 use Rattle.std.specs.Prelude.{IfSome}
-use Rattle.rkyv_scan.specs.Groups.{generic_kind}
-use Rattle.rkyv_scan.specs.Hash.{Hasher, HasherCall, hash_of_calls}
-use Rattle.rkyv_base.specs.Elements.{entry_specs}
-use Rattle.rkyv_base.specs.Entry.{entry_spec}
-use Rattle.rkyv_base.specs.ElementSpec.{IsElement}
-use Rattle.rkyv_base.specs.View.{IsAt, IsValidView, archive_of, pos_of, pos_of_found}
+use Rattle.rkyv_scan.specs.{Hasher, HasherCall, generic_kind, hash_of_calls}
+use Rattle.rkyv_base.specs.{IsAt, IsElement, IsValidView, archive_of, entry_spec, entry_specs, pos_of, pos_of_found}
 use Rattle.rkyv_base.specs.declared.entry.Entry.{Entry}
 use Rattle.rkyv_base.specs.declared.view.View.{View}
-use Rattle.rkyv_keys.specs.Equality.{Comparison}
-use Rattle.rkyv_keys.specs.Keys.{IsQuery}
-use Rattle.rkyv_keys.specs.Calls.{hash_at}
-use Rattle.rkyv_table.specs.Controls.Laws.{IsUnderHash}
-use Rattle.rkyv_table.specs.Table.Positions.{WrittenAt, home_positions, pos_found}
-use Rattle.rkyv_table.specs.Table.Reading.{ComparesBy, FindsFirst, FindsFound, FindsItem, IsItem}
-use Rattle.rkyv_table.specs.Table.Reading.{table_bytes, table_pos}
+use Rattle.rkyv_keys.specs.{Comparison, IsQuery, hash_at}
+use Rattle.rkyv_table.specs.{ComparesBy, FindsFirst, FindsFound, FindsItem, IsItem, IsUnderHash, WrittenAt, home_positions, pos_found, table_bytes, table_pos}
 use Rattle.rkyv_table.specs.declared.table.ArchivedHashTable.{ArchivedHashTable}
-use Rattle.rkyv_collections.specs.Map.{AreUnderHash, ComparesKeysBy, FindsBy, FindsFirstBy, FindsKey}
-use Rattle.rkyv_collections.specs.Map.{IsEntryIn, IsMap, IsViewAt, MapWrittenAt}
-use Rattle.rkyv_collections.specs.Map.{map_archive, map_bytes, map_pos}
-use Rattle.rkyv_collections.specs.Map.Lookups.{IsAcceptedKey}
-use Rattle.rkyv_collections.specs.Map.Misplaced.{FindsOneKey}
+use Rattle.rkyv_collections.specs.{AreUnderHash, ComparesKeysBy, FindsBy, FindsFirstBy, FindsKey, FindsOneKey, IsAcceptedKey, IsEntryIn, IsMap, IsViewAt, MapWrittenAt, map_archive, map_bytes, map_pos}
 use Rattle.rkyv_collections.specs.declared.map.ArchivedHashMap.{ArchivedHashMap}
 use Rattle.rkyv_collections.proofs.Lookups.{entry_of_item, key_of_entry, under_hash}
 use Rattle.rkyv_collections.proofs.MisplacedKeys.{finds_the_one}

@@ -6,21 +6,12 @@ use Rattle.std.specs.Borrow.{Bor}
 use Rattle.std.specs.Option.{option_map}
 use Rattle.std.specs.Prelude.{IfSome, IsSome}
 use Rattle.std.proofs.lemmas.Option.{IfSome_then}
-use Rattle.rkyv_scan.specs.Hash.{Hasher, HasherCall, hash_of_calls}
-use Rattle.rkyv_base.specs.Entry.{entry_spec, value_offset}
-use Rattle.rkyv_base.specs.ElementSpec.{ElementSpec, IsElement}
-use Rattle.rkyv_base.specs.View.{IsValidView, pos_of_found}
+use Rattle.rkyv_scan.specs.{Hasher, HasherCall, hash_of_calls}
+use Rattle.rkyv_base.specs.{ElementSpec, IsElement, IsValidView, entry_spec, pos_of_found, value_offset}
 use Rattle.rkyv_base.specs.declared.entry.Entry.{Entry}
 use Rattle.rkyv_base.specs.declared.view.View.{View}
-use Rattle.rkyv_keys.specs.Equality.{Comparison}
-use Rattle.rkyv_keys.specs.Keys.{IsQuery}
-use Rattle.rkyv_keys.specs.KeyLookup.{KeyLookup, query_of}
-use Rattle.rkyv_keys.specs.Calls.{hash_at}
-use Rattle.rkyv_collections.specs.Map.Lookups.{GetsBy, GetsKey, IsPairOfEntry, IsValueOfEntry, Part}
-use Rattle.rkyv_collections.specs.Map.Lookups.{entry_part, key_part, pair_part, value_part}
-use Rattle.rkyv_collections.specs.Map.{ComparesKeysBy, IsEntryIn, IsMap, IsPairAt, IsViewAt}
-use Rattle.rkyv_collections.specs.Map.{IsPairIn, IsValueAt, IsValueIn, key_pos_found}
-use Rattle.rkyv_collections.specs.Map.{map_bytes}
+use Rattle.rkyv_keys.specs.{Comparison, IsQuery, KeyLookup, hash_at, query_of}
+use Rattle.rkyv_collections.specs.{ComparesKeysBy, GetsBy, GetsKey, IsEntryIn, IsMap, IsPairAt, IsPairIn, IsPairOfEntry, IsValueAt, IsValueIn, IsValueOfEntry, IsViewAt, Part, entry_part, key_part, key_pos_found, map_bytes, pair_part, value_part}
 use Rattle.rkyv_collections.specs.declared.map.ArchivedHashMap.{ArchivedHashMap}
 use Rattle.rkyv_collections.proofs.FoundEntries.{one_found}
 use Rattle.rkyv_collections.proofs.Lookups.{query_under_hash}

@@ -3,10 +3,10 @@ use Rattle.rkyv_base.specs.declared.element.HasSpec.{Ghosts as Specs}
 use Rattle.rkyv_base.specs.declared.width.Word.{Ghosts as Words}
 use Rattle.std.proofs.Common.{◌≡◌, ℕ, List, Option, None, Some, Result, Ok, Err, MatchResult, IfOk, ap, refl, sym, ◌∙◌}
 use Rattle.std.specs.Borrow.{Bor}
-use Rattle.rkyv_base.specs.View.{IsAt}
+use Rattle.rkyv_base.specs.{IsAt}
 use Rattle.rkyv_base.specs.declared.view.View.{View}
-use Rattle.rkyv_keys.specs.FirstPairs.{IsFoundValue}
-use Rattle.rkyv_collections.specs.Map.{map_bytes, map_pos}
+use Rattle.rkyv_keys.specs.{IsFoundValue}
+use Rattle.rkyv_collections.specs.{map_bytes, map_pos}
 use Rattle.rkyv_collections.specs.declared.map.ArchivedHashMap.{ArchivedHashMap}
 use Rattle.rkyv_collections.specs.declared.map.HashMapOf.{HashMapOf}
 

@@ -3,20 +3,11 @@ use Rattle.std.proofs.Common.{◌≡◌, ℕ, refl, ap, subst, ◌∙◌, inl, i
 use Rattle.std.specs.Int.{Width}
 use Rattle.std.specs.Iterator.{Drains, Yields}
 use Rattle.std.proofs.lemmas.List.{length-map}
-use Rattle.rkyv_base.specs.Adapter.{pair_of}
-use Rattle.rkyv_base.specs.Entry.{entry_spec}
-use Rattle.rkyv_base.specs.Format.{Format, SerializeFails, Serialized}
-use Rattle.rkyv_base.specs.Pairs.{pair_format, written_as}
-use Rattle.rkyv_base.specs.ElementSpec.{ElementSpec}
-use Rattle.rkyv_base.specs.Writing.{Output}
+use Rattle.rkyv_base.specs.{ElementSpec, Format, Output, SerializeFails, Serialized, entry_spec, pair_format, pair_of, written_as}
 use Rattle.rkyv_base.specs.declared.adapter.EntryAdapter.{EntryAdapter}
 use Rattle.rkyv_base.specs.declared.errors.WriteError.{WriteError}
-use Rattle.rkyv_table.specs.Table.Counting.{YieldsOtherCount}
-use Rattle.rkyv_table.specs.Table.Serializing.{WriteItemsFails, WroteItems}
-use Rattle.rkyv_table.specs.Table.TableFormat.{TableResolver, table_format}
-use Rattle.rkyv_collections.specs.Map.HashedPairs.{HashedStep}
-use Rattle.rkyv_table.specs.Table.ItemValues.{pair_values}
-use Rattle.rkyv_collections.specs.Map.MapFormat.{keyed, map_format}
+use Rattle.rkyv_table.specs.{TableResolver, WriteItemsFails, WroteItems, YieldsOtherCount, pair_values, table_format}
+use Rattle.rkyv_collections.specs.{HashedStep, keyed, map_format}
 use Rattle.rkyv_table.proofs.Through.{drains_through, other_through, own_counted}
 use Rattle.rkyv_collections.proofs.MappedItems.{mapped_fails, mapped_pairs, mapped_serialized}
 

@@ -8,29 +8,17 @@ use Rattle.std.specs.Prelude.{IfSome}
 use Rattle.std.specs.declared.vec.Vec.{Vec}
 use Rattle.std.proofs.lemmas.Bool.{cases_Bool}
 use Rattle.std.proofs.lemmas.Option.{IfSome_then, none-some, same_Some}
-use Rattle.rkyv_scan.specs.Groups.{generic_kind}
-use Rattle.rkyv_base.specs.Entry.{entry_spec, value_offset}
-use Rattle.rkyv_base.specs.ElementSpec.{ElementSpec}
-use Rattle.rkyv_base.specs.Layout.{narrow_limit}
-use Rattle.rkyv_base.specs.Root.{ArchiveOf, ToBytesFails}
-use Rattle.rkyv_base.specs.Scalar.{Encoding}
-use Rattle.rkyv_base.specs.Sealing.{value_at}
-use Rattle.rkyv_base.specs.View.{IsAt, bytes_of, pos_of, pos_of_found}
+use Rattle.rkyv_scan.specs.{generic_kind}
+use Rattle.rkyv_base.specs.{ArchiveOf, ElementSpec, Encoding, IsAt, ToBytesFails, bytes_of, entry_spec, narrow_limit, pos_of, pos_of_found, value_at, value_offset}
 use Rattle.rkyv_base.specs.declared.element.HasSpec.{Ghosts as Specs}
 use Rattle.rkyv_base.specs.declared.errors.WriteError.{WriteError}
 use Rattle.rkyv_base.specs.declared.view.View.{View}
 use Rattle.rkyv_base.specs.declared.width.Word.{Ghosts as Words}
-use Rattle.rkyv_table.specs.Table.Positions.{home_positions, pos_found}
-use Rattle.rkyv_table.specs.Table.ItemValues.{with_units}
+use Rattle.rkyv_table.specs.{home_positions, pos_found, with_units}
 use Rattle.rkyv_table.proofs.Moved.{moved}
 use Rattle.rkyv_collections.proofs.FoundPairs.{first_listed, value_listed}
-use Rattle.rkyv_collections.specs.Map.{FindsKey, IsValueAt, IsValueIn, MapWrittenAt, map_bytes, map_pos}
-use Rattle.rkyv_collections.specs.Map.ListedLookups.{IsPairOf}
-use Rattle.rkyv_collections.specs.Map.MapFormat.{MapRepresents}
-use Rattle.rkyv_keys.specs.Natives.{NativeKeys}
-use Rattle.rkyv_keys.specs.Keys.{FitsItsEqual}
-use Rattle.rkyv_collections.specs.Map.ListArchives.{FoundAreListed, IsTextMapUnder, TextMapFails, TextMapRepresents, TextMapResult, TextPairs, map_root, text_map_format, text_map_spec}
-use Rattle.rkyv_keys.specs.FirstPairs.{FoundValues, first_pair, scalar_found}
+use Rattle.rkyv_collections.specs.{FindsKey, FoundAreListed, IsPairOf, IsTextMapUnder, IsValueAt, IsValueIn, MapRepresents, MapWrittenAt, TextMapFails, TextMapRepresents, TextMapResult, TextPairs, map_bytes, map_pos, map_root, text_map_format, text_map_spec}
+use Rattle.rkyv_keys.specs.{FitsItsEqual, FoundValues, NativeKeys, first_pair, scalar_found}
 use Rattle.rkyv_keys.specs.Lemmas.FirstPairs.{FindsByView}
 use Rattle.rkyv_collections.specs.declared.map.ArchivedHashMap.{ArchivedHashMap}
 use Rattle.rkyv_collections.specs.declared.map.HashMapOf.{HashMapOf}

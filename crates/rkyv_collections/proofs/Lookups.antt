@@ -4,25 +4,17 @@ use Rattle.rkyv_base.specs.declared.width.Word.{Ghosts as Words}
 use Rattle.std.proofs.Common.{◌≡◌, ℕ, ◌<◌, ◌∙◌, None, Some, ap, sym, arith, Bool, length, map, subst, List, Option, slice_index}
 use Rattle.std.specs.Option.{is_some}
 use Rattle.std.proofs.lemmas.List.{get_or-map, length-map}
-use Rattle.rkyv_scan.specs.Hash.{Hasher, HasherCall, hash_of_calls}
-use Rattle.rkyv_base.specs.Elements.{entry_specs}
-use Rattle.rkyv_base.specs.Entry.{entry_spec}
+use Rattle.rkyv_scan.specs.{Hasher, HasherCall, hash_of_calls}
+use Rattle.rkyv_base.specs.{IsAt, IsElement, IsValidView, ValidAt, archive_of, entry_spec, entry_specs, pos_of}
 use Rattle.rkyv_base.specs.Lemmas.Entry.{entry_element}
-use Rattle.rkyv_base.specs.ElementSpec.{IsElement, ValidAt}
-use Rattle.rkyv_base.specs.View.{IsAt, IsValidView, archive_of, pos_of}
 use Rattle.rkyv_base.specs.declared.view.View.{View}
 use Rattle.rkyv_base.specs.declared.entry.Entry.{Entry}
-use Rattle.rkyv_keys.specs.Equality.{Comparison}
-use Rattle.rkyv_keys.specs.Keys.{IsQuery}
+use Rattle.rkyv_keys.specs.{Comparison, IsQuery, hash_at}
 use Rattle.rkyv_keys.specs.Lemmas.OfEntries.{valid_key}
-use Rattle.rkyv_keys.specs.Calls.{hash_at}
-use Rattle.rkyv_table.specs.Controls.Laws.{IsUnderHash}
-use Rattle.rkyv_table.specs.Table.Positions.{IsWalked, home_positions, item_at}
-use Rattle.rkyv_table.specs.Table.Reading.{IsItem}
+use Rattle.rkyv_table.specs.{IsItem, IsUnderHash, IsWalked, home_positions, item_at}
 use Rattle.rkyv_table.specs.declared.table.ArchivedHashTable.{ArchivedHashTable}
 use Rattle.rkyv_table.proofs.ValidTable.{item_viewable}
-use Rattle.rkyv_collections.specs.Map.{AreUnderHash, IsEntryIn, IsFoundAt, IsViewAt, map_archive}
-use Rattle.rkyv_collections.specs.Map.{IsKeyIn, IsMap, MapWrittenAt, map_bytes, map_pos}
+use Rattle.rkyv_collections.specs.{AreUnderHash, IsEntryIn, IsFoundAt, IsKeyIn, IsMap, IsViewAt, MapWrittenAt, map_archive, map_bytes, map_pos}
 use Rattle.rkyv_collections.specs.declared.map.ArchivedHashMap.{ArchivedHashMap}
 use Rattle.rkyv_table.proofs.WrittenTables.{home_count, home_pos, home_walked}
 

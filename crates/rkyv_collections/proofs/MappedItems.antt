@@ -6,18 +6,9 @@ use Rattle.std.specs.Int.{Width}
 use Rattle.std.proofs.lemmas.List.{length-map}
 use Rattle.std.proofs.lemmas.Option.{slice_get-map}
 use Rattle.rkyv_base.specs.declared.errors.WriteError.{WriteError}
-use Rattle.rkyv_base.specs.Entry.{round_up}
-use Rattle.rkyv_base.specs.Format.{Format, SerializeFails, Serialized}
-use Rattle.rkyv_base.specs.Pairs.{written_as}
-use Rattle.rkyv_base.specs.ElementSpec.{ElementSpec}
-use Rattle.rkyv_base.specs.Writing.{Output, Step, end_of}
+use Rattle.rkyv_base.specs.{ElementSpec, Format, Output, SerializeFails, Serialized, Step, end_of, round_up, written_as}
 use Rattle.rkyv_base.proofs.WritingSteps.{fails_under}
-use Rattle.rkyv_table.specs.Controls.Laws.{AreHashes}
-use Rattle.rkyv_table.specs.Controls.Numbers.{capacity}
-use Rattle.rkyv_table.specs.Controls.Placing.{Written}
-use Rattle.rkyv_table.specs.Table.Slots.{Above, BeforeBuckets, BucketNext, BucketOverflows, BucketStep, Filled, PartsNext, SlotImages, SlotParts, TableBytes, TableNext, filled}
-use Rattle.rkyv_table.specs.Table.TableFormat.{InBuckets, PairsNext, TableParts, TableResolver, TableWritten, table_format}
-use Rattle.rkyv_table.specs.Table.PlacedItems.{Placed, Slotted, hashes_of, items_of}
+use Rattle.rkyv_table.specs.{Above, AreHashes, BeforeBuckets, BucketNext, BucketOverflows, BucketStep, Filled, InBuckets, PairsNext, PartsNext, Placed, SlotImages, SlotParts, Slotted, TableBytes, TableNext, TableParts, TableResolver, TableWritten, Written, capacity, filled, hashes_of, items_of, table_format}
 use Rattle.rkyv_table.proofs.Lists.{option_map_some}
 
 -- the value of each item, under the hash of the item

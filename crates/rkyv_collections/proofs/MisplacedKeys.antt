@@ -6,30 +6,19 @@ use Rattle.std.specs.Int.{Width}
 use Rattle.std.specs.List.{Contains, list_any, range_with_len}
 use Rattle.std.proofs.lemmas.Bool.{cases_eq}
 use Rattle.std.proofs.lemmas.List.{get_or-map, get_or_default, length-map, nil_from_length, take-map}
-use Rattle.rkyv_scan.specs.Groups.{generic_kind}
-use Rattle.rkyv_scan.specs.Hash.{Hasher, HasherCall, hash_of_calls}
+use Rattle.rkyv_scan.specs.{Hasher, HasherCall, generic_kind, hash_of_calls}
 use Rattle.rkyv_scan.specs.Lemmas.KindLaws.{word_lawful}
 use Rattle.rkyv_scan.proofs.Indices.{range_agree}
-use Rattle.rkyv_base.specs.Entry.{entry_spec}
+use Rattle.rkyv_base.specs.{ElementSpec, IsElement, ValidAt, Viewable, entry_spec}
 use Rattle.rkyv_base.specs.Lemmas.Entry.{entry_element}
-use Rattle.rkyv_base.specs.ElementSpec.{ElementSpec, IsElement, ValidAt, Viewable}
-use Rattle.rkyv_keys.specs.Equality.{Comparison, IsEquivalence}
-use Rattle.rkyv_keys.specs.Keys.{IsQuery}
+use Rattle.rkyv_keys.specs.{Comparison, IsEquivalence, IsQuery, hash_at}
 use Rattle.rkyv_keys.specs.Lemmas.OfEntries.{valid_key}
-use Rattle.rkyv_keys.specs.Calls.{hash_at}
-use Rattle.rkyv_table.specs.Controls.Finding.{found}
-use Rattle.rkyv_table.specs.Table.Header.{cap_at, len_at}
-use Rattle.rkyv_table.specs.Table.Misplaced.{AcceptsSame, AloneAccepted, IsSameness, NoneAccepted, misplaced, repeated, repeats_earlier}
-use Rattle.rkyv_table.specs.Controls.Placing.{walk}
-use Rattle.rkyv_table.specs.Table.Positions.{home_positions, item_at, pos_found, table_controls}
+use Rattle.rkyv_table.specs.{AcceptsSame, AloneAccepted, IsSameness, NoneAccepted, cap_at, found, home_positions, item_at, len_at, misplaced, pos_found, repeated, repeats_earlier, table_controls, walk}
 use Rattle.rkyv_table.proofs.ValidTable.{controls_accepted, item_viewable, no_items}
 use Rattle.rkyv_table.proofs.Misplaced.{complete, repeated_misplaced}
 use Rattle.rkyv_table.proofs.RawWalks.{walk_count}
 use Rattle.rkyv_table.proofs.Walks.{full_walked, walked_full}
-use Rattle.rkyv_collections.specs.Map.Equality.{pair_at}
-use Rattle.rkyv_collections.specs.Map.{MapWrittenAt}
-use Rattle.rkyv_collections.specs.Map.MapSpec.{map_spec}
-use Rattle.rkyv_collections.specs.Map.Misplaced.{FindsTheOne, RepeatedKeysAreMisplaced, map_misplaced}
+use Rattle.rkyv_collections.specs.{FindsTheOne, MapWrittenAt, RepeatedKeysAreMisplaced, map_misplaced, map_spec, pair_at}
 use Rattle.rkyv_collections.proofs.WrittenPairs.{hash_of_pair, len_is_count, pair_valid}
 
 -- the number of repeated items is that of repeated positions

@@ -4,24 +4,17 @@ use Rattle.std.specs.Int.{Width, byte_len}
 use Rattle.std.specs.List.{range_with_len}
 use Rattle.std.proofs.lemmas.Bool.{both_ways, cases_Bool, cases_eq, cases_lt, lt-ltb}
 use Rattle.std.proofs.lemmas.Int.{ints}
-use Rattle.rkyv_base.specs.Bytes.{AgreeOn}
+use Rattle.rkyv_base.specs.{AgreeOn, ElementSpec, IsElement, Sealed, Viewable}
 use Rattle.rkyv_base.specs.Lemmas.Bytes.{agree_on_part}
-use Rattle.rkyv_base.specs.Sealing.{Sealed}
-use Rattle.rkyv_base.specs.ElementSpec.{ElementSpec, IsElement, Viewable}
 use Rattle.rkyv_base.proofs.Sealing.{same_outside, sealed_wider}
-use Rattle.rkyv_scan.specs.Groups.{is_full}
-use Rattle.rkyv_table.specs.Controls.Numbers.{control_count}
-use Rattle.rkyv_table.specs.Controls.Placing.{AreValidControls, walk}
+use Rattle.rkyv_scan.specs.{is_full}
+use Rattle.rkyv_table.specs.{AreValidAt, AreValidControls, AreValidItems, IsPart, IsWalked, TableAt, bucket_at, cap_at, control_count, controls_at, controls_pos, decode_begin, item_at, len_at, table_controls, table_spec, walk}
 use Rattle.rkyv_table.specs.Lemmas.ItemPositions.{IsValidWithin, ValidPart, bucket_is_valid_within, decoded_controls, decoded_item, decoded_pos, each_is_valid, within_lower}
 use Rattle.rkyv_table.specs.Lemmas.ValidItemLaws.{all_between}
 use Rattle.rkyv_table.specs.Lemmas.SameHeader.{begin_same, cap_same, len_same, pos_same}
 use Rattle.rkyv_table.specs.Lemmas.TableLaws.{of_numbers}
-use Rattle.rkyv_table.specs.Table.Header.{cap_at, controls_pos, decode_begin, len_at}
-use Rattle.rkyv_table.specs.Table.Layout.{AreValidItems, IsPart, TableAt, bucket_at, controls_at, table_spec}
-use Rattle.rkyv_table.specs.Table.ValidItems.{AreValidAt}
-use Rattle.rkyv_table.specs.Table.Positions.{IsWalked, item_at, table_controls}
 use Rattle.rkyv_table.proofs.ValidTable.{part_of}
-use Rattle.rkyv_collections.specs.Map.NestedWrites.{IsValidBefore, StaysAt, WritesParts}
+use Rattle.rkyv_collections.specs.{IsValidBefore, StaysAt, WritesParts}
 
 -- the bytes before the lower end and those from the upper end on are the same
 module _ (b c : List ℕ) (lo l : ℕ) (o : lo ≤ l) (sealed : Sealed b lo (l - lo) c) where

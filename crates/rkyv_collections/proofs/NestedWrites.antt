@@ -8,29 +8,21 @@ use Rattle.std.specs.Option.{option_map}
 use Rattle.std.proofs.lemmas.Bool.{cases_eq}
 use Rattle.std.proofs.lemmas.Option.{same_Some}
 use Rattle.rkyv_base.specs.Lemmas.Bytes.{agree_on_part}
-use Rattle.rkyv_base.specs.Entry.{entry_spec, whole_size}
+use Rattle.rkyv_base.specs.{ElementSpec, IsElement, Keeps, RepresentsLocally, Sealed, Viewable, entry_spec, value_pos, whole_size}
 use Rattle.rkyv_base.specs.Lemmas.Entry.{entry_element, key_and_value_inside, same_key, same_value}
 use Rattle.rkyv_base.specs.Lemmas.Entry.{size_of_small}
-use Rattle.rkyv_base.specs.Format.{RepresentsLocally}
-use Rattle.rkyv_base.specs.Sealing.{Keeps, Sealed, value_pos}
-use Rattle.rkyv_base.specs.ElementSpec.{ElementSpec, IsElement, Viewable}
 use Rattle.rkyv_base.proofs.Sealing.{sealed_wider, viewable_kept}
-use Rattle.rkyv_table.specs.Table.Positions.{IsWalked, home_positions, item_at}
+use Rattle.rkyv_table.specs.{IsWalked, WritesValue, home_positions, item_at}
 use Rattle.rkyv_table.specs.Lemmas.ItemPositions.{item_is_valid, valid_part}
 use Rattle.rkyv_table.specs.Lemmas.SameHeader.{item_same}
 use Rattle.rkyv_table.proofs.ValidTable.{item_viewable}
 use Rattle.rkyv_table.proofs.SameTable.{written_there}
 use Rattle.rkyv_table.proofs.SealedTable.{value_kept}
-use Rattle.rkyv_collections.specs.Map.InPlace.{with_first}
-use Rattle.rkyv_collections.specs.Map.ListedLookups.{AgreesOnKeys}
-use Rattle.rkyv_collections.specs.Map.MapSpec.{IsKeyPosAt, map_spec}
-use Rattle.rkyv_collections.specs.Map.MapFormat.{MapRepresents}
-use Rattle.rkyv_collections.specs.Map.NestedWrites.{IsValidBefore, KeepsOuterMap, StaysAt, WritesParts}
-use Rattle.rkyv_table.specs.Table.SealedTable.{WritesValue}
+use Rattle.rkyv_collections.specs.{AgreesOnKeys, IsKeyPosAt, IsValidBefore, KeepsOuterMap, MapRepresents, StaysAt, WritesParts, map_spec, with_first}
 use Rattle.rkyv_collections.proofs.FirstWrites.{count, each_alike, nth_found, some_pos}
 use Rattle.rkyv_collections.proofs.NewValues.{home, new_value_represents, own_pos, own_walked, written_again}
 use Rattle.rkyv_collections.proofs.NestedTables.{KeepsOuter, outer_kept, same_above, same_below}
-use Rattle.rkyv_keys.specs.QueryLaws.{HashLocal}
+use Rattle.rkyv_keys.specs.{HashLocal}
 
 module _ (k v : ElementSpec) (kl : IsElement k) (vl : IsElement v) (b c : List ℕ) (q : ℕ) where
   abbrev S : ElementSpec

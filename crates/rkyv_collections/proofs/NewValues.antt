@@ -4,18 +4,13 @@ use Rattle.std.specs.Prelude.{slice_get, slice_set}
 use Rattle.std.specs.Int.{Width, byte_len}
 use Rattle.std.proofs.lemmas.List.{ext_get_or, get_or-map, length-map, length-set}
 use Rattle.std.proofs.lemmas.Option.{slice_get_within}
-use Rattle.rkyv_base.specs.Bytes.{AgreeOn}
-use Rattle.rkyv_base.specs.Entry.{entry_spec}
-use Rattle.rkyv_base.specs.Pairs.{PairRepresents}
-use Rattle.rkyv_base.specs.ElementSpec.{ElementSpec}
-use Rattle.rkyv_table.specs.Controls.Numbers.{capacity}
-use Rattle.rkyv_table.specs.Table.Positions.{IsWalked, WrittenAt, home_positions, item_at}
+use Rattle.rkyv_base.specs.{AgreeOn, ElementSpec, PairRepresents, entry_spec}
+use Rattle.rkyv_table.specs.{IsWalked, WrittenAt, capacity, home_positions, item_at}
 use Rattle.rkyv_table.specs.Lemmas.SameHeader.{cap_same, len_same}
 use Rattle.rkyv_table.proofs.Lists.{set_each}
 use Rattle.rkyv_table.proofs.WrittenTables.{home_pos, home_walked, homes_differ}
-use Rattle.rkyv_collections.specs.Map.{MapWrittenAt}
+use Rattle.rkyv_collections.specs.{MapRepresents, MapWrittenAt}
 use Rattle.rkyv_collections.specs.Lemmas.PairHomes.{homes_count}
-use Rattle.rkyv_collections.specs.Map.MapFormat.{MapRepresents}
 
 -- if all entries have the same positions and their keys the same hashes, a written map is still one
 pub written_again : (w : Width) (s : ElementSpec) (key_hash : List ℕ → ℕ → ℕ) (b c : List ℕ) (p : ℕ) → ((j : ℕ) → item_at w s.size c p j ≡ item_at w s.size b p j)

@@ -5,25 +5,15 @@ use Rattle.std.proofs.Common.{◌≡◌, ℕ, ◌+◌, ◌≤◌, ◌∙◌, sym
 use Rattle.std.specs.Borrow.{Bor}
 use Rattle.std.specs.Int.{Width}
 use Rattle.std.specs.Prelude.{IfSome}
-use Rattle.rkyv_base.specs.Entry.{entry_spec}
+use Rattle.rkyv_base.specs.{ElementSpec, IsElement, Viewable, entry_spec, pos_of, value_pos}
 use Rattle.rkyv_base.specs.Lemmas.Entry.{entry_element, viewable_key, viewable_value}
-use Rattle.rkyv_base.specs.Sealing.{value_pos}
-use Rattle.rkyv_base.specs.ElementSpec.{ElementSpec, IsElement, Viewable}
-use Rattle.rkyv_base.specs.View.{pos_of}
 use Rattle.rkyv_base.specs.declared.view.View.{View}
 use Rattle.rkyv_table.proofs.ValidTable.{item_viewable}
 use Rattle.rkyv_table.proofs.Moved.{moved}
 use Rattle.rkyv_table.proofs.SealedTable.{value_kept}
 use Rattle.rkyv_base.specs.declared.entry.Entry.{Entry}
-use Rattle.rkyv_collections.specs.Map.{AreUnderHashAt, ComparesKeysBy, FindsBy, FindsFirstBy}
-use Rattle.rkyv_collections.specs.Map.{FindsFirstKey, FindsFirstKeyAt, FindsKey, FindsKeyAt}
-use Rattle.rkyv_collections.specs.Map.{IsEntryIn, IsKeyIn, IsValueIn, IsViewAt, map_bytes, map_pos}
-use Rattle.rkyv_collections.specs.Map.Lookups.{IsAcceptedKey}
-use Rattle.rkyv_collections.specs.Map.MapAt.{FoundKeyHasAt, MapAt, map_at}
-use Rattle.rkyv_collections.specs.Map.MapSpec.{IsKeyPosAt, map_spec}
-use Rattle.rkyv_collections.specs.Map.Misplaced.{FindsOneKey, FindsOneKeyAt}
-use Rattle.rkyv_keys.specs.KeyLookup.{KeyLookup}
-use Rattle.rkyv_collections.specs.Map.SealedMap.{ComparesKeysByAt, FindsByAt, FindsFirstByAt, FoundByHasAt, IsAcceptedKeyAt, IsKeyAt, IsPairPos}
+use Rattle.rkyv_collections.specs.{AreUnderHashAt, ComparesKeysBy, ComparesKeysByAt, FindsBy, FindsByAt, FindsFirstBy, FindsFirstByAt, FindsFirstKey, FindsFirstKeyAt, FindsKey, FindsKeyAt, FindsOneKey, FindsOneKeyAt, FoundByHasAt, FoundKeyHasAt, IsAcceptedKey, IsAcceptedKeyAt, IsEntryIn, IsKeyAt, IsKeyIn, IsKeyPosAt, IsPairPos, IsValueIn, IsViewAt, MapAt, map_at, map_bytes, map_pos, map_spec}
+use Rattle.rkyv_keys.specs.{KeyLookup}
 use Rattle.rkyv_collections.specs.declared.map.ArchivedHashMap.{ArchivedHashMap}
 
 module _ (w : Width) (k v : ElementSpec) (kl : IsElement k) (vl : IsElement v) (b : List ℕ) (p : ℕ) (view : Viewable (map_spec w k v) b p) where

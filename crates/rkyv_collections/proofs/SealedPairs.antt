@@ -3,27 +3,18 @@ use Rattle.std.proofs.Common.{◌≡◌, ℕ, zero, suc, ◌+◌, ◌<◌, ◌�
 use Rattle.std.specs.Prelude.{IfSome, IsSome, MatchOption}
 use Rattle.std.specs.Int.{Width}
 use Rattle.std.proofs.lemmas.Bool.{cases_lt, true≢false}
-use Rattle.rkyv_base.specs.Entry.{entry_spec, whole_size}
+use Rattle.rkyv_base.specs.{ElementSpec, IsElement, IsValidView, Keeps, Sealed, Viewable, bytes_in, bytes_of, entry_spec, pos_of, seal_pos, value_pos, whole_size}
 use Rattle.rkyv_base.specs.Lemmas.Entry.{entry_element, key_and_value_inside, size_of_small}
-use Rattle.rkyv_base.specs.Sealing.{Keeps, Sealed, value_pos}
-use Rattle.rkyv_base.specs.ElementSpec.{ElementSpec, IsElement, Viewable}
-use Rattle.rkyv_base.specs.Seal.{bytes_in, seal_pos}
-use Rattle.rkyv_base.specs.View.{IsValidView, bytes_of, pos_of}
 use Rattle.rkyv_base.specs.declared.entry.Entry.{Entry}
 use Rattle.rkyv_base.specs.declared.seal.Seal.{Seal}
 use Rattle.rkyv_base.specs.declared.view.View.{View}
 use Rattle.rkyv_base.proofs.Sealing.{entry_kept, sealed_wider}
-use Rattle.rkyv_table.specs.Table.SealedItems.{StaysThere, YieldsPosition, cursor_buckets_left, cursor_bytes}
-use Rattle.rkyv_table.specs.Table.Positions.{table_controls}
-use Rattle.rkyv_table.specs.Table.SealedTable.{SameValue}
-use Rattle.rkyv_table.specs.Controls.Walking.{full_from}
+use Rattle.rkyv_table.specs.{LendsPair, SameValue, StaysThere, YieldsPosition, cursor_buckets_left, cursor_bytes, full_from, table_controls}
 use Rattle.rkyv_table.specs.declared.table.raw_iter_seal.RawIterSeal.{RawIterSeal}
 use Rattle.rkyv_table.proofs.ValidTable.{item_viewable}
 use Rattle.rkyv_table.proofs.SealedItems.{cursor_kept, full_skipped}
 use Rattle.rkyv_table.proofs.SealedTable.{table_kept}
-use Rattle.rkyv_collections.specs.Map.SealedMap.{IsPairPos}
-use Rattle.rkyv_collections.specs.Map.SealedPairs.{IsPairIter, KeepsPairs, YieldsKeyPos, YieldsPairAt}
-use Rattle.rkyv_table.specs.Table.PairSeals.{LendsPair}
+use Rattle.rkyv_collections.specs.{IsPairIter, IsPairPos, KeepsPairs, YieldsKeyPos, YieldsPairAt}
 use Rattle.rkyv_table.proofs.PairSeals.{pair_lent}
 use Rattle.rkyv_table.proofs.Walks.{full_end}
 use Rattle.rkyv_collections.proofs.SealedMap.{pair_pos}

@@ -7,33 +7,15 @@ use Rattle.std.specs.Option.{is_some, option_map}
 use Rattle.std.proofs.lemmas.Bool.{cases_Bool, true≢false}
 use Rattle.std.proofs.lemmas.Option.{none-some, same_Some}
 use Rattle.std.specs.Prelude.{IsSome, IsSomeAnd, IsTrue, not}
-use Rattle.rkyv_scan.specs.Groups.{generic_kind}
-use Rattle.rkyv_scan.specs.Hash.{Hasher, HasherCall, NumbersFit, hash_of_calls}
-use Rattle.rkyv_base.specs.Empty.{unit_represents, unit_spec}
-use Rattle.rkyv_base.specs.Entry.{entry_spec, value_offset}
-use Rattle.rkyv_base.specs.Format.{Format, IsFormat}
-use Rattle.rkyv_base.specs.ElementSpec.{ElementSpec, IsElement, Viewable}
-use Rattle.rkyv_base.specs.Text.{IsArchiveWord}
-use Rattle.rkyv_keys.specs.Equality.{Comparison}
-use Rattle.rkyv_keys.specs.Keys.{FitsItsEqual, IsQuery}
+use Rattle.rkyv_scan.specs.{Hasher, HasherCall, NumbersFit, generic_kind, hash_of_calls}
+use Rattle.rkyv_base.specs.{ElementSpec, Format, IsArchiveWord, IsElement, IsFormat, Viewable, entry_spec, unit_represents, unit_spec, value_offset, written_as}
+use Rattle.rkyv_keys.specs.{Comparison, FitsItsEqual, IsQuery, first_pair, hash_at, hash_of}
 use Rattle.rkyv_keys.specs.Lemmas.OfEntries.{valid_key}
-use Rattle.rkyv_table.specs.Table.Positions.{home_positions, pos_found}
-use Rattle.rkyv_collections.specs.Map.Equality.{pair_at}
-use Rattle.rkyv_keys.specs.FirstPairs.{first_pair}
-use Rattle.rkyv_keys.specs.Calls.{hash_at, hash_of}
-use Rattle.rkyv_collections.specs.Map.ListedLookups.{IsPairOf}
-use Rattle.rkyv_collections.specs.Map.MapSpec.{map_spec}
-use Rattle.rkyv_collections.specs.Map.MapFormat.{MapRepresents, map_format}
+use Rattle.rkyv_table.specs.{TableResolver, home_positions, listed, pos_found, with_units}
+use Rattle.rkyv_collections.specs.{FindsEntries, FindsFirstAccepted, FindsMembers, FindsPair, IsPairOf, IsValueBehind, MapRepresents, map_format, map_spec, of_entries, pair_at}
 use Rattle.rkyv_collections.specs.Lemmas.MapSound.{listed_map_sound}
-use Rattle.rkyv_table.specs.Table.Listed.{listed}
-use Rattle.rkyv_table.specs.Table.TableFormat.{TableResolver}
-use Rattle.rkyv_base.specs.Pairs.{written_as}
 use Rattle.rkyv_base.specs.Lemmas.Pairs.{written_as-format}
 use Rattle.rkyv_collections.specs.Lemmas.DistinctEntries.{of_entries-format}
-use Rattle.rkyv_table.specs.Table.ItemValues.{with_units}
-use Rattle.rkyv_collections.specs.StdMaps.StdEquality.{FindsPair}
-use Rattle.rkyv_collections.specs.StdMaps.StdLookups.{FindsEntries, FindsFirstAccepted, FindsMembers, IsValueBehind}
-use Rattle.rkyv_collections.specs.StdMaps.StdMap.{of_entries}
 use Rattle.rkyv_collections.proofs.FoundPairs.{first_listed}
 use Rattle.rkyv_collections.specs.Lemmas.StdSet.{unit_lookup}
 use Rattle.rkyv_collections.proofs.WrittenPairs.{first_accepted, pair_valid}

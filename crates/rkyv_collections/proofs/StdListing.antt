@@ -1,22 +1,13 @@
 -- Archives that were written of a map or a set of std represent the list of its entries.
 use Rattle.std.proofs.Common.{ℕ, Bool, List, true, ◌≡◌}
 use Rattle.std.specs.Int.{Width}
-use Rattle.rkyv_scan.specs.Hash.{Hasher, HasherCall}
-use Rattle.rkyv_base.specs.ElementSpec.{ElementSpec, IsElement}
-use Rattle.rkyv_base.specs.Format.{Format, IsFormat}
+use Rattle.rkyv_scan.specs.{Hasher, HasherCall}
+use Rattle.rkyv_base.specs.{ElementSpec, Format, IsArchiveWord, IsElement, IsFormat, RootBytes, written_as}
 use Rattle.rkyv_base.specs.Lemmas.Pairs.{written_as-format}
-use Rattle.rkyv_base.specs.Pairs.{written_as}
-use Rattle.rkyv_base.specs.Root.{RootBytes}
-use Rattle.rkyv_base.specs.Text.{IsArchiveWord}
-use Rattle.rkyv_keys.specs.Equality.{Comparison}
-use Rattle.rkyv_keys.specs.Keys.{FitsItsEqual, IsQuery}
-use Rattle.rkyv_keys.specs.Calls.{hash_at, hash_of}
-use Rattle.rkyv_table.specs.Table.Listed.{listed}
+use Rattle.rkyv_keys.specs.{Comparison, FitsItsEqual, IsQuery, hash_at, hash_of}
+use Rattle.rkyv_table.specs.{listed}
 use Rattle.rkyv_collections.specs.Lemmas.MapSound.{listed_map_sound}
-use Rattle.rkyv_collections.specs.Map.ListArchives.{map_root}
-use Rattle.rkyv_collections.specs.Map.MapFormat.{MapRepresents, map_format}
-use Rattle.rkyv_collections.specs.Map.MapSpec.{map_element, map_spec}
-use Rattle.rkyv_collections.specs.StdMaps.StdMap.{of_entries}
+use Rattle.rkyv_collections.specs.{MapRepresents, map_element, map_format, map_root, map_spec, of_entries}
 use Rattle.rkyv_collections.proofs.WrittenRoots.{root_keeps}
 
 -- a relation that the format of a list keeps is kept for entries with distinct keys

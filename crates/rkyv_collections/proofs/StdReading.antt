@@ -8,20 +8,12 @@ use Rattle.std.specs.Option.{option_or}
 use Rattle.std.specs.Map.{keys_of, lookup, update_all}
 use Rattle.std.proofs.lemmas.List.Folds.{find-append}
 use Rattle.std.proofs.lemmas.List.Elements.{All-head, All-map, All-tail, All-weaker}
-use Rattle.rkyv_base.specs.Entry.{entry_spec}
+use Rattle.rkyv_base.specs.{ElementSpec, IsElement, PairRepresents, entry_spec}
 use Rattle.rkyv_base.specs.Lemmas.Entry.{entry_element}
-use Rattle.rkyv_base.specs.Pairs.{PairRepresents}
-use Rattle.rkyv_base.specs.ElementSpec.{ElementSpec, IsElement}
-use Rattle.rkyv_table.specs.Table.Header.{cap_at}
-use Rattle.rkyv_table.specs.Controls.Placing.{walk}
-use Rattle.rkyv_table.specs.Table.Positions.{IsWalked, item_at, item_positions, table_controls}
-use Rattle.rkyv_table.specs.Table.PairWalks.{YieldsFirstPos}
-use Rattle.rkyv_table.specs.Table.RawItems.{ItemsLeft}
+use Rattle.rkyv_table.specs.{IsWalked, ItemsLeft, YieldsFirstPos, cap_at, item_at, item_positions, table_controls, walk, with_units}
 use Rattle.rkyv_table.proofs.RawWalks.{walked_all}
-use Rattle.rkyv_collections.specs.Map.MapSpec.{IsKeyPosAt}
-use Rattle.rkyv_table.specs.Table.ItemValues.{with_units}
+use Rattle.rkyv_collections.specs.{AddsKey, ArePairsAt, IsKeyPosAt}
 use Rattle.rkyv_collections.specs.Lemmas.StdSet.{unit_lookup}
-use Rattle.rkyv_collections.specs.StdMaps.StdMap.{AddsKey, ArePairsAt}
 
 -- each position of the walk is that of a key of the map
 keys_walked : (w : Width) (k v : ElementSpec) → IsElement k → IsElement v → (b : List ℕ) (p : ℕ) → All (IsKeyPosAt w k v b p) (item_positions w (entry_spec k v).size b p)

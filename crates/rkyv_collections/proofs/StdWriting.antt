@@ -5,16 +5,10 @@ use Rattle.std.specs.Map.{keys_of}
 use Rattle.std.specs.Iterator.{Drains}
 use Rattle.std.specs.Map.Iter.{TakesFirst, deref}
 use Rattle.std.proofs.lemmas.List.{length-map}
-use Rattle.rkyv_base.specs.Format.{Format, SerializeFails, Serialized}
-use Rattle.rkyv_base.specs.Pairs.{written_as}
-use Rattle.rkyv_base.specs.Writing.{Output}
+use Rattle.rkyv_base.specs.{Format, Output, SerializeFails, Serialized, written_as}
 use Rattle.rkyv_base.specs.declared.errors.WriteError.{WriteError}
-use Rattle.rkyv_table.specs.Table.Counting.{YieldsOtherCount}
-use Rattle.rkyv_table.specs.Table.TableFormat.{TableResolver}
-use Rattle.rkyv_table.specs.Table.Serializing.{WriteItemsFails, WroteItems}
-use Rattle.rkyv_table.specs.Table.Listed.{listed}
-use Rattle.rkyv_table.specs.Table.ItemValues.{key_values, with_units}
-use Rattle.rkyv_collections.specs.StdMaps.StdMap.{of_entries}
+use Rattle.rkyv_table.specs.{TableResolver, WriteItemsFails, WroteItems, YieldsOtherCount, key_values, listed, with_units}
+use Rattle.rkyv_collections.specs.{of_entries}
 use Rattle.rkyv_table.proofs.Listing.{all_came, no_other_came, results_listed}
 
 -- an iterator over the items of the list, with the length of the list

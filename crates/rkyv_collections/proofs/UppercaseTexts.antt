@@ -8,24 +8,13 @@ use Rattle.std.specs.Option.{is_some, option_map}
 use Rattle.std.specs.Prelude.{map}
 use Rattle.std.proofs.lemmas.Bool.{cases_Bool}
 use Rattle.std.proofs.lemmas.Option.{same_Some}
-use Rattle.rkyv_base.specs.Entry.{entry_spec}
-use Rattle.rkyv_base.specs.Format.{RepresentsLocally}
-use Rattle.rkyv_base.specs.Pairs.{PairRepresents}
-use Rattle.rkyv_base.specs.SealedText.{Uppercases}
-use Rattle.rkyv_base.specs.Sealing.{value_pos}
-use Rattle.rkyv_base.specs.ElementSpec.{ElementSpec, IsElement, Viewable}
-use Rattle.rkyv_base.specs.Text.{text_at, text_size, text_spec}
+use Rattle.rkyv_base.specs.{ElementSpec, IsElement, PairRepresents, RepresentsLocally, Uppercases, Viewable, entry_spec, text_at, text_size, text_spec, value_pos}
 use Rattle.rkyv_base.specs.Lemmas.Text.{text_local}
 use Rattle.rkyv_base.proofs.SealedText.{uppercased_reads, uppercased_sealed, uppercased_valid}
 use Rattle.rkyv_keys.specs.Lemmas.OfTexts.{IsTextOf}
-use Rattle.rkyv_table.specs.Table.Positions.{home_positions}
-use Rattle.rkyv_collections.specs.Map.InPlace.{with_first}
-use Rattle.rkyv_collections.specs.Map.InPlaceText.{list_after_uppercase, uppercase_text, with_first_uppercase}
-use Rattle.rkyv_keys.specs.FirstPairs.{first_pair}
-use Rattle.rkyv_keys.specs.QueryLaws.{HashLocal}
-use Rattle.rkyv_collections.specs.Map.ListedLookups.{AgreesOnKeys, IsPairOf}
-use Rattle.rkyv_collections.specs.Map.MapSpec.{map_spec}
-use Rattle.rkyv_collections.specs.Map.MapFormat.{MapRepresents}
+use Rattle.rkyv_table.specs.{home_positions}
+use Rattle.rkyv_collections.specs.{AgreesOnKeys, IsPairOf, MapRepresents, list_after_uppercase, map_spec, uppercase_text, with_first, with_first_uppercase}
+use Rattle.rkyv_keys.specs.{HashLocal, first_pair}
 use Rattle.rkyv_collections.proofs.FirstWrites.{first_behind, some_pos}
 use Rattle.rkyv_collections.proofs.FoundPairs.{first_listed}
 

@@ -5,30 +5,21 @@ use Rattle.std.specs.Prelude.{slice_get, slice_set}
 use Rattle.std.specs.Int.{Width}
 use Rattle.std.specs.Option.{option_map}
 use Rattle.std.proofs.lemmas.Bool.{cases_eq, eq-eqb}
-use Rattle.rkyv_scan.specs.Groups.{generic_kind}
+use Rattle.rkyv_scan.specs.{generic_kind}
 use Rattle.rkyv_scan.specs.Lemmas.KindLaws.{word_lawful}
 use Rattle.rkyv_base.specs.Lemmas.Bytes.{agree_on_part}
-use Rattle.rkyv_base.specs.Entry.{entry_spec}
+use Rattle.rkyv_base.specs.{ElementSpec, IsElement, Keeps, RepresentsLocally, Sealed, Viewable, entry_spec, value_pos}
 use Rattle.rkyv_base.specs.Lemmas.Entry.{entry_element, same_key, viewable_key}
-use Rattle.rkyv_base.specs.Format.{RepresentsLocally}
 use Rattle.rkyv_base.specs.Lemmas.Pairs.{pair_local}
-use Rattle.rkyv_base.specs.Sealing.{Keeps, Sealed, value_pos}
-use Rattle.rkyv_base.specs.ElementSpec.{ElementSpec, IsElement, Viewable}
 use Rattle.rkyv_base.proofs.Sealing.{viewable_kept}
-use Rattle.rkyv_keys.specs.QueryLaws.{HashLocal, RestsOnKeys}
-use Rattle.rkyv_table.specs.Table.Header.{cap_at, len_at}
-use Rattle.rkyv_table.specs.Table.Positions.{IsWalked, bucket_found, home_positions, item_at}
-use Rattle.rkyv_table.specs.Table.Positions.{pos_found, table_controls}
-use Rattle.rkyv_table.specs.Table.SealedTable.{KeepsTable, RestsOnKey, SameValue, WritesValue}
+use Rattle.rkyv_keys.specs.{HashLocal, RestsOnKeys}
+use Rattle.rkyv_table.specs.{IsWalked, KeepsTable, RestsOnKey, SameValue, WritesValue, bucket_found, cap_at, home_positions, item_at, len_at, pos_found, table_controls}
 use Rattle.rkyv_table.proofs.ValidTable.{controls_accepted, item_viewable, some_cap}
 use Rattle.rkyv_table.proofs.Misplaced.{found_agree}
 use Rattle.rkyv_table.proofs.SealedTable.{item_stays, lookup_kept, value_kept, written_kept}
 use Rattle.rkyv_table.proofs.Walks.{walked_full}
-use Rattle.rkyv_collections.specs.Map.{MapWrittenAt}
-use Rattle.rkyv_collections.specs.Map.MapSpec.{IsKeyPosAt, map_spec}
-use Rattle.rkyv_collections.specs.Map.MapFormat.{MapRepresents}
+use Rattle.rkyv_collections.specs.{IsKeyPosAt, KeepsMap, MapRepresents, MapWrittenAt, entry_at, map_spec}
 use Rattle.rkyv_collections.proofs.NewValues.{home, new_value_represents, own_pos, own_walked, written_again}
-use Rattle.rkyv_collections.specs.Map.ValueWrites.{KeepsMap, entry_at}
 
 map_of_found : (f g : ℕ → ℕ) → ((i : ℕ) → f i ≡ g i) → (o : Option ℕ) → option_map f o ≡ option_map g o
 map_of_found f g same None = refl

@@ -8,18 +8,11 @@ use Rattle.std.proofs.lemmas.List.Sorted.{Contains-permutation, IsPermutation-co
 use Rattle.std.proofs.lemmas.Map.Keys.{IsDistinct-tail, apart_from_distinct}
 use Rattle.std.proofs.lemmas.Option.{slice_get-map, slice_get_within}
 use Rattle.std.specs.Option.{option_map}
-use Rattle.rkyv_base.specs.Empty.{unit_represents, unit_spec}
-use Rattle.rkyv_base.specs.Entry.{entry_spec}
-use Rattle.rkyv_base.specs.Pairs.{PairRepresents}
-use Rattle.rkyv_base.specs.ElementSpec.{ElementSpec}
-use Rattle.rkyv_table.specs.Controls.Placing.{walk}
-use Rattle.rkyv_table.specs.Table.Header.{cap_at}
-use Rattle.rkyv_table.specs.Table.ItemValues.{with_units}
-use Rattle.rkyv_table.specs.Table.Positions.{home_positions, item_at, table_controls}
+use Rattle.rkyv_base.specs.{ElementSpec, PairRepresents, entry_spec, unit_represents, unit_spec}
+use Rattle.rkyv_table.specs.{cap_at, home_positions, item_at, table_controls, walk, with_units}
 use Rattle.rkyv_table.proofs.WrittenTables.{home_pos}
-use Rattle.rkyv_collections.specs.Map.ListedWalks.{HasEachOnce, SetWalksVisitEach, WalksVisitEach, WalksVisitPairs, key_positions_at}
+use Rattle.rkyv_collections.specs.{HasEachOnce, MapRepresents, SetWalksVisitEach, WalksVisitEach, WalksVisitPairs, key_positions_at}
 use Rattle.rkyv_collections.specs.Lemmas.PairHomes.{homes_count, homes_visited}
-use Rattle.rkyv_collections.specs.Map.MapFormat.{MapRepresents}
 
 -- ---- distinct numbers, and a list of the same length that has each of them
 
@@ -94,18 +87,6 @@ module _ {X : Type 0} (R : ℕ → X → Type 0) where
         related = zip_swap qs ys i j hi hj so_far.related;
       })
       others moved
-
--- If `read` is a function of the item at each position, a walk reads that function of the items,
--- in some order.
-pub models_permuted : {X Y : Type 0} (R : ℕ → X → Type 0) (read : ℕ → Y) (model : X → Y) → ((q : ℕ) (x : X) → R q x → read q ≡ model x)
-    → (positions : List ℕ) (items : List X) → HasEachOnce R positions items → IsPermutation (map model items) (map read positions)
-models_permuted {X} R read model same positions items has_each = subst (IsPermutation (map model items)) (sym (zip_mapped positions has_each.reordered has_each.related)) (IsPermutation-map model items has_each.reordered has_each.each)
-  where
-    zip_mapped : (qs : List ℕ) (xs : List X) → AllZip R qs xs → map read qs ≡ map model xs
-    zip_mapped [] [] h = refl
-    zip_mapped [] (x ∷ xs) h = absurd h
-    zip_mapped (q ∷ qs) [] h = absurd h
-    zip_mapped (q ∷ qs) (x ∷ xs) h = rw (same q x h.0, zip_mapped qs xs h.1) refl
 
 -- ---- the walk
 

@@ -6,24 +6,18 @@ use Rattle.std.proofs.lemmas.List.{get_or-map, get_or_default, length-map}
 use Rattle.std.proofs.lemmas.List.Elements.{All-contains_itself, All-weaker}
 use Rattle.std.proofs.lemmas.List.Folds.{list_all-map}
 use Rattle.std.proofs.lemmas.List.Sums.{AllPass-from_list_all, list_all-from_AllPass}
-use Rattle.rkyv_scan.specs.Groups.{generic_kind}
+use Rattle.rkyv_scan.specs.{generic_kind}
 use Rattle.rkyv_scan.specs.Lemmas.KindLaws.{word_lawful}
-use Rattle.rkyv_base.specs.Entry.{entry_spec}
+use Rattle.rkyv_base.specs.{ElementSpec, IsElement, ValidAt, Viewable, entry_spec}
 use Rattle.rkyv_base.specs.Lemmas.Entry.{entry_element}
-use Rattle.rkyv_base.specs.ElementSpec.{ElementSpec, IsElement, ValidAt, Viewable}
 use Rattle.rkyv_keys.specs.Lemmas.OfEntries.{valid_key}
-use Rattle.rkyv_table.specs.Table.Header.{cap_at, len_at}
-use Rattle.rkyv_table.specs.Controls.Placing.{walk}
-use Rattle.rkyv_table.specs.Table.Positions.{IsWalked, home_positions, item_at, item_positions}
-use Rattle.rkyv_table.specs.Table.Positions.{pos_found, table_controls}
+use Rattle.rkyv_table.specs.{IsWalked, cap_at, home_positions, item_at, item_positions, len_at, pos_found, table_controls, walk}
 use Rattle.rkyv_table.proofs.FirstFound.{first_found}
 use Rattle.rkyv_table.proofs.ValidTable.{item_viewable}
 use Rattle.rkyv_table.proofs.RawWalks.{walk_count}
 use Rattle.rkyv_table.proofs.WalkedHomes.{walked_homes}
 use Rattle.rkyv_table.proofs.Walks.{full_walked}
-use Rattle.rkyv_collections.specs.Map.Equality.{pair_at}
-use Rattle.rkyv_collections.specs.Map.{MapWrittenAt}
-use Rattle.rkyv_collections.specs.Map.MapSpec.{map_spec}
+use Rattle.rkyv_collections.specs.{MapWrittenAt, map_spec, pair_at}
 use Rattle.rkyv_table.proofs.WrittenTables.{home_pos, home_walked}
 
 module _ (w : Width) (k v : ElementSpec) (kl : IsElement k) (vl : IsElement v) (key_hash : List ℕ → ℕ → ℕ)

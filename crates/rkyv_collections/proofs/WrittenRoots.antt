@@ -1,10 +1,7 @@
 -- The root of a written archive, under any relation that its format keeps.
 use Rattle.std.proofs.Common.{◌≡◌, ℕ, ◌+◌, ◌-◌, arith, List, length}
 use Rattle.std.proofs.lemmas.List.{take_all}
-use Rattle.rkyv_base.specs.Bytes.{OccursAt}
-use Rattle.rkyv_base.specs.Format.{Format, IsFormat}
-use Rattle.rkyv_base.specs.Root.{RootBytes}
-use Rattle.rkyv_base.specs.ElementSpec.{ElementSpec, IsElement}
+use Rattle.rkyv_base.specs.{ElementSpec, Format, IsElement, IsFormat, OccursAt, RootBytes}
 use Rattle.rkyv_base.proofs.RootWriting.{root_sound}
 
 pub root_keeps : {V R : Type 0} (limit : ℕ) (s : ElementSpec) → IsElement s → (keeps : List ℕ → ℕ → V → Type 0) (f : Format V R) → IsFormat s keeps f → (v : V) (b : List ℕ) (root : ℕ)

@@ -1,6 +1,83 @@
+-- All definitions of the crate, which contracts and proofs import from here.
 pub mod StdMaps
 pub mod Natives
 pub mod Map
 pub mod Lemmas
 pub mod Set
 pub mod Listed
+unfoldable pub use StdMaps.StdMap.{AddsKey, ArePairsAt, InsertsPair, InsertsRead, ReadsStdMap}
+unfoldable pub use StdMaps.StdMap.{StdMapRepresents, insert_pair_fails, of_entries, std_map_fails}
+pub use StdMaps.StdMap.{EntriesRepresent}
+unfoldable pub use StdMaps.StdEquality.{EntriesEqual, FindsPair, FindsPairIn, StdMapEquals}
+unfoldable pub use StdMaps.StdEquality.{StdMapEqualsIn}
+unfoldable pub use StdMaps.StdSet.{InsertsKey, ReadsStdSet, StdSetEquals, StdSetEqualsIn}
+unfoldable pub use StdMaps.StdSet.{StdSetRepresents, insert_key_fails, std_set_fails}
+unfoldable pub use StdMaps.StdLookups.{FindsEntries, FindsFirstAccepted, FindsFirstAcceptedIn}
+unfoldable pub use StdMaps.StdLookups.{FindsInWrittenMap, FindsInWrittenSet, FindsMembers}
+unfoldable pub use StdMaps.StdLookups.{IsValueBehind}
+unfoldable pub use StdMaps.RoundTrips.{ArchivesRoundTrip}
+unfoldable pub use StdMaps.ListArchives.{IsNarrowWritten, IsWideWritten, WrittenMapsAreLists}
+unfoldable pub use StdMaps.ListArchives.{WrittenSetsAreLists}
+pub use StdMaps.ListArchives.{IsWrittenArchive}
+unfoldable pub use Natives.{native_format, native_key_format, queried}
+pub use Natives.{KeyFormat, PairFormat, Queried}
+unfoldable pub use Map.{AreUnderHash, AreUnderHashAt, CanCompareKeys, ComparesKeysBy, FindsBy}
+unfoldable pub use Map.{FindsFirstBy, FindsFirstKey, FindsFirstKeyAt, FindsKey, FindsKeyAt}
+unfoldable pub use Map.{IsEntryIn, IsFoundAt, IsKeyPos, IsMap, IsPairAt, IsValueAt, IsViewAt}
+unfoldable pub use Map.{MapWrittenAt, key_pos_found, key_positions, map_archive, map_bytes, map_cap}
+unfoldable pub use Map.{map_len, map_pos, map_view}
+pub use Map.{IsKeyIn, IsPairIn, IsValueIn}
+unfoldable pub use Map.MapSpec.{IsKeyPosAt, map_spec}
+pub use Map.MapSpec.{map_element}
+unfoldable pub use Map.Equality.{EachIsIn, EqualHaveSamePairs, finds_same, map_equal, pair_at}
+unfoldable pub use Map.Equality.{pair_matches}
+pub use Map.Equality.{IsWrittenApart}
+unfoldable pub use Map.Misplaced.{CountsKeysUpTo, FindsOneKey, FindsOneKeyAt, FindsTheOne, NoneFits}
+unfoldable pub use Map.Misplaced.{RepeatedKeysAreMisplaced, map_misplaced, map_strides}
+unfoldable pub use Map.Misplaced.{misplaced_keys}
+pub use Map.Misplaced.{FitsAlone}
+unfoldable pub use Map.MapAt.{FoundValueHasAt, map_at, query_of_value}
+pub use Map.MapAt.{FoundKeyHasAt, MapAt, ValueQuery}
+unfoldable pub use Map.Lookups.{IsAcceptedKey, IsPairOfEntry, IsValueOfEntry, entry_part, key_part}
+unfoldable pub use Map.Lookups.{pair_part, value_part}
+pub use Map.Lookups.{FoundKeyHas, GetsBy, GetsKey, Part}
+unfoldable pub use Map.MapFormat.{WrittenMapsRepresent, keyed, map_format}
+pub use Map.MapFormat.{MapRepresents}
+unfoldable pub use Map.HashedPairs.{HashedStep}
+unfoldable pub use Map.Writing.{ResolvesMap, WritesInFormat, WritesMap, WritesSet, keys_in}
+unfoldable pub use Map.Writing.{pairs_in}
+pub use Map.Writing.{ItemsToWrite}
+unfoldable pub use Map.SealedMap.{CanCompareKeysAt, CanCompareKeysIn, ComparesKeysByAt, FindsByAt}
+unfoldable pub use Map.SealedMap.{FindsFirstByAt, IsAcceptedKeyAt, IsKeyPosIn, IsMapSeal}
+unfoldable pub use Map.SealedMap.{IsPairSeal, IsPairSealAt, IsValueSeal, IsValueSealAt, map_sealed}
+pub use Map.SealedMap.{FoundByHasAt, IsKeyAt, IsPairPos}
+unfoldable pub use Map.SealedPairs.{IsPairIter, KeepsPairs, KeepsValues, LendsFirstPair}
+unfoldable pub use Map.SealedPairs.{LendsFirstValue, MayWritePair, MayWriteValue, YieldsKeyPos}
+unfoldable pub use Map.SealedPairs.{YieldsValuePos, entries_in, entries_of}
+pub use Map.SealedPairs.{HasAllPairs, IsDone, StepsAndWritesPair, StepsAndWritesValue, YieldsPairAt}
+unfoldable pub use Map.ValueWrites.{ValueWritesKeepLookups, ValueWritesKeepMaps}
+unfoldable pub use Map.ValueWrites.{ValuesWrittenRepresent, entry_at}
+pub use Map.ValueWrites.{KeepsMap}
+unfoldable pub use Map.ListedLookups.{AgreesOnKeys, IsPairOf, LookupsFindListed}
+pub use Map.ListedLookups.{FindsListed}
+unfoldable pub use Map.ListedWalks.{SetWalksVisitEach, WalksVisitEach, WalksVisitPairs}
+unfoldable pub use Map.ListedWalks.{key_positions_at}
+pub use Map.ListedWalks.{HasEachOnce}
+unfoldable pub use Map.BothHashers.{ComparedAlike, QueriedAlike, WrittenAlike, fx_found, fx_hash_at}
+unfoldable pub use Map.InPlace.{MayWriteFound, SetsFirst, SetsFound, SetsValue, WritesFound}
+unfoldable pub use Map.InPlace.{with_first}
+unfoldable pub use Map.ListArchives.{FoundAreListed, IsTextMapUnder, OpensTextMap, TextMapFails}
+unfoldable pub use Map.ListArchives.{TextMapRepresents, TextMapResult, TextPairs, first_of_text}
+unfoldable pub use Map.ListArchives.{map_root, text_found, text_map_format, text_map_spec}
+pub use Map.ListArchives.{IsTextMap}
+unfoldable pub use Map.NestedWrites.{NestedWritesKeepMaps, NestedWritesRepresent}
+unfoldable pub use Map.NestedWrites.{ValueWritesAreNested}
+pub use Map.NestedWrites.{IsValidBefore, KeepsOuterMap, StaysAt, WritesParts}
+unfoldable pub use Map.InPlaceText.{UppercasesFirst, UppercasesFound, UppercasesText}
+unfoldable pub use Map.InPlaceText.{list_after_uppercase, map_to_texts_at, map_to_texts_spec}
+unfoldable pub use Map.InPlaceText.{uppercase_text, with_first_uppercase}
+unfoldable pub use Set.{FoundMemberHas, GetsMember, IsSetAt, member_positions, set_archive}
+unfoldable pub use Set.{set_bytes, set_equal, set_len, set_misplaced, set_pos, set_spec, set_view}
+unfoldable pub use Set.ListArchives.{MembersFoundAreListed, set_root}
+unfoldable pub use Set.SetFormat.{SetRepresents, WrittenSetsRepresent, set_format}
+unfoldable pub use Listed.{map_list, set_list}

@@ -1,8 +1,7 @@
 -- The formats of native keys and pairs, and the hashes of queries.
 use Rattle.std.specs.Prelude.{ℕ, Bool, List}
-use Rattle.rkyv_scan.specs.Hash.{Hasher, HasherCall, hash_of_calls}
-use Rattle.rkyv_base.specs.Format.{Format}
-use Rattle.rkyv_base.specs.ElementSpec.{ElementSpec}
+use Rattle.rkyv_scan.specs.{Hasher, HasherCall, hash_of_calls}
+use Rattle.rkyv_base.specs.{ElementSpec, Format}
 
 -- how native keys are written. `spec`: spec of their elements, `format`: their format,
 -- `hash`: hash of a native key

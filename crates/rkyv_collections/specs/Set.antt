@@ -6,13 +6,9 @@ use Rattle.rkyv_base.specs.declared.width.Word.{Ghosts as Words}
 use Rattle.std.specs.Prelude.{ℕ, List, Option}
 use Rattle.std.specs.Borrow.{Bor}
 use Rattle.std.specs.Int.{Width}
-use Rattle.rkyv_base.specs.Empty.{unit_spec}
-use Rattle.rkyv_base.specs.ElementSpec.{ElementSpec}
-use Rattle.rkyv_base.specs.View.{IsAt}
+use Rattle.rkyv_base.specs.{ElementSpec, IsAt, unit_spec}
 use Rattle.rkyv_base.specs.declared.view.View.{View}
-use Rattle.rkyv_keys.specs.KeyLookup.{KeyLookup}
-use Rattle.rkyv_keys.specs.Equality.{Comparison}
-use Rattle.rkyv_keys.specs.OfUnits.{unit_same}
+use Rattle.rkyv_keys.specs.{Comparison, KeyLookup, unit_same}
 use Rattle.rkyv_collections.specs.Map.Equality.{map_equal}
 use Rattle.rkyv_collections.specs.Map.Lookups.{FoundKeyHas, GetsKey, key_part}
 use Rattle.rkyv_collections.specs.Map.{key_positions, map_archive, map_bytes}

@@ -6,8 +6,8 @@
 //! - `laws` has laws that a proof cites.
 ghost use Rattle.std.specs.Prelude.{◌≡◌, ⊤};
 ghost use Rattle.rkyv_base.specs.Lemmas.ElementSpec.{viewable_prop};
-ghost use Rattle.rkyv_base.specs.View.{IsValidView};
-ghost use Rattle.rkyv_table.specs.Table.Decoded.{IsDecoded};
+ghost use Rattle.rkyv_base.specs.{IsValidView};
+ghost use Rattle.rkyv_table.specs.{IsDecoded};
 ghost use Rattle.rkyv_collections.specs.Map.MapSpec.{map_element, map_spec};
 
 mod element;

@@ -14,7 +14,7 @@ use Rattle.std.proofs.Common.{
   subst,
 }
 use Rattle.rkyv_container.specs.declared.errors.ContainerError.{ContainerError}
-use Rattle.rkyv_container.specs.Checks.{AllPass, Checks, FirstFails, check, done, followed_by}
+use Rattle.rkyv_container.specs.{AllPass, Checks, FirstFails, check, done, followed_by}
 
 -- both groups pass
 pub pass_both : (p q : Checks) → AllPass p → AllPass q → AllPass (followed_by p q)

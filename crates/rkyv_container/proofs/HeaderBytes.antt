@@ -34,41 +34,14 @@ use Rattle.std.proofs.lemmas.Nat.{
   from_le_bytes-to_le_bytes_8,
 }
 use Rattle.rkyv_container.specs.declared.contents.Kind.{Kind}
-use Rattle.rkyv_container.specs.declared.contents.Kind.TheVariants.{
-  HashMap,
-  HashSet,
-  IndexMap,
-  IndexSet,
-}
+use Rattle.rkyv_container.specs.declared.contents.Kind.TheVariants.{HashMap, HashSet, IndexMap, IndexSet}
 use Rattle.rkyv_container.specs.declared.contents.ItemType.{ItemType}
-use Rattle.rkyv_container.specs.declared.contents.ItemType.TheVariants.{
-  Bool as BoolType,
-  Bytes,
-  Char,
-  I16,
-  I32,
-  I64,
-  I8,
-  Text,
-  U16,
-  U32,
-  U64,
-  U8,
-  Unit as UnitType,
-}
+use Rattle.rkyv_container.specs.declared.contents.ItemType.TheVariants.{Bool as BoolType, Bytes, Char, I16, I32, I64, I8, Text, U16, U32, U64, U8, Unit as UnitType}
 use Rattle.rkyv_container.specs.declared.contents.Width.{Width}
 use Rattle.rkyv_container.specs.declared.contents.Width.TheVariants.{Narrow, Wide}
 use Rattle.rkyv_container.specs.declared.contents.Contents.{Contents}
 use Rattle.rkyv_container.specs.declared.header.Header.{Header}
-use Rattle.rkyv_container.specs.Codes.{item_code, kind_code, width_code}
-use Rattle.rkyv_container.specs.Header.{
-  Fits,
-  IsHeader,
-  checksum_field,
-  contents_bytes,
-  flags_of,
-  header_bytes,
-}
+use Rattle.rkyv_container.specs.{Fits, IsHeader, checksum_field, contents_bytes, flags_of, header_bytes, item_code, kind_code, width_code}
 
 -- a range of the first `n` bytes
 pub slice_take : (b : List ℕ) (n i j : ℕ) → i ≤ j → j ≤ n

@@ -44,21 +44,7 @@ use Rattle.rkyv_container.specs.declared.contents.Contents.{Contents}
 use Rattle.rkyv_container.specs.declared.header.Header.{Header}
 use Rattle.rkyv_container.specs.declared.errors.ContainerError.{ContainerError}
 use Rattle.rkyv_container.specs.declared.errors.ContainerError.TheVariants.{UnknownWidth}
-use Rattle.rkyv_container.specs.Codes.{IsItemCode, IsKindCode, IsWidthCode}
-use Rattle.rkyv_container.specs.Checks.{AllPass, FirstFails, followed_by}
-use Rattle.rkyv_container.specs.Header.{
-  IsChecksumField,
-  IsHeader,
-  checksum_field,
-  code_checks,
-  contents_bytes,
-  flag_checks,
-  flags_of,
-  header_checks,
-  magic,
-  reserved_checks,
-  start_checks,
-}
+use Rattle.rkyv_container.specs.{AllPass, FirstFails, IsChecksumField, IsHeader, IsItemCode, IsKindCode, IsWidthCode, checksum_field, code_checks, contents_bytes, flag_checks, flags_of, followed_by, header_checks, magic, reserved_checks, start_checks}
 use Rattle.rkyv_container.proofs.Checking.{fails_first, fails_later, pass_both}
 use Rattle.rkyv_container.proofs.HeaderBytes.{field, flags_fit, header_length, slice_join}
 

@@ -26,21 +26,8 @@ use Rattle.std.proofs.lemmas.List.{drop_at, take-append-drop, take_at}
 use Rattle.rkyv_container.specs.declared.contents.Contents.{Contents}
 use Rattle.rkyv_container.specs.declared.header.Header.{Header}
 use Rattle.rkyv_container.specs.declared.errors.ContainerError.{ContainerError}
-use Rattle.rkyv_container.specs.declared.errors.ContainerError.TheVariants.{
-  WrongValueType,
-  WrongWidth,
-}
-use Rattle.rkyv_container.specs.Checks.{AllPass, Checks, FirstFails, followed_by}
-use Rattle.rkyv_container.specs.Header.{IsHeader, header_bytes, header_checks}
-use Rattle.rkyv_container.specs.Container.{
-  IsContainer,
-  IsContainerOf,
-  IsSplit,
-  OpenAsFails,
-  OpenFails,
-  archive_checks,
-  contents_checks,
-}
+use Rattle.rkyv_container.specs.declared.errors.ContainerError.TheVariants.{WrongValueType, WrongWidth}
+use Rattle.rkyv_container.specs.{AllPass, Checks, FirstFails, IsContainer, IsContainerOf, IsHeader, IsSplit, OpenAsFails, OpenFails, archive_checks, contents_checks, followed_by, header_bytes, header_checks}
 use Rattle.rkyv_container.proofs.Checking.{
   first_unique,
   pass_both,

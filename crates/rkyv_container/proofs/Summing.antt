@@ -29,13 +29,7 @@ use Rattle.std.specs.Prelude.{slice_range}
 use Rattle.std.proofs.lemmas.List.{get_or_at, length-take-le, take_all, take_more}
 use Rattle.std.proofs.lemmas.List.Sums.{sum_by-append, sum_by-cons, sum_by_more}
 use Rattle.std.proofs.lemmas.Nat.{mul-mod_second}
-use Rattle.rkyv_container.specs.Checksum.{
-  DetectsChange,
-  adler32_high,
-  adler32_low,
-  adler32_of,
-  weighted_sum,
-}
+use Rattle.rkyv_container.specs.{DetectsChange, adler32_high, adler32_low, adler32_of, weighted_sum}
 use Rattle.rkyv_container.proofs.HeaderBytes.{slice_join}
 
 -- `low` and `high`: the sums after the first `i` bytes of `b`, from `l` and `h` on

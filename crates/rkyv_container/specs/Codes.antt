@@ -1,28 +1,13 @@
 -- The codes of kinds, types and widths, each one byte of a header.
 use Rattle.std.specs.Prelude.{◌≡◌, ℕ}
 use Rattle.rkyv_container.specs.declared.contents.Kind.{Kind}
-use Rattle.rkyv_container.specs.declared.contents.Kind.TheVariants.{
-  HashMap,
-  HashSet,
-  IndexMap,
-  IndexSet,
-}
+use Rattle.rkyv_container.specs.declared.contents.Kind.TheVariants.{HashMap, HashSet, IndexMap}
+use Rattle.rkyv_container.specs.declared.contents.Kind.TheVariants.{IndexSet}
 use Rattle.rkyv_container.specs.declared.contents.ItemType.{ItemType}
-use Rattle.rkyv_container.specs.declared.contents.ItemType.TheVariants.{
-  Bool as BoolType,
-  Bytes,
-  Char,
-  I16,
-  I32,
-  I64,
-  I8,
-  Text,
-  U16,
-  U32,
-  U64,
-  U8,
-  Unit as UnitType,
-}
+use Rattle.rkyv_container.specs.declared.contents.ItemType.TheVariants.{Bool as BoolType, Bytes}
+use Rattle.rkyv_container.specs.declared.contents.ItemType.TheVariants.{Char, I16, I32, I64, I8}
+use Rattle.rkyv_container.specs.declared.contents.ItemType.TheVariants.{Text, U16, U32, U64, U8}
+use Rattle.rkyv_container.specs.declared.contents.ItemType.TheVariants.{Unit as UnitType}
 use Rattle.rkyv_container.specs.declared.contents.Width.{Width}
 use Rattle.rkyv_container.specs.declared.contents.Width.TheVariants.{Narrow, Wide}
 

@@ -3,17 +3,15 @@ use Rattle.std.specs.Prelude.{◌≡◌, ℕ, ◌⊎◌, List, ◌++◌, length,
 use Rattle.rkyv_container.specs.declared.contents.Contents.{Contents}
 use Rattle.rkyv_container.specs.declared.header.Header.{Header}
 use Rattle.rkyv_container.specs.declared.errors.ContainerError.{ContainerError}
-use Rattle.rkyv_container.specs.declared.errors.ContainerError.TheVariants.{
-  WrongChecksum,
-  WrongKeyType,
-  WrongKind,
-  WrongLength,
-  WrongValueType,
-  WrongWidth,
-}
-use Rattle.rkyv_container.specs.Checks.{Checks, FirstFails, check, done, followed_by}
+use Rattle.rkyv_container.specs.declared.errors.ContainerError.TheVariants.{WrongChecksum}
+use Rattle.rkyv_container.specs.declared.errors.ContainerError.TheVariants.{WrongKeyType, WrongKind}
+use Rattle.rkyv_container.specs.declared.errors.ContainerError.TheVariants.{WrongLength}
+use Rattle.rkyv_container.specs.declared.errors.ContainerError.TheVariants.{WrongValueType}
+use Rattle.rkyv_container.specs.declared.errors.ContainerError.TheVariants.{WrongWidth}
+use Rattle.rkyv_container.specs.Checking.{Checks, FirstFails, check, done, followed_by}
 use Rattle.rkyv_container.specs.Checksum.{adler32_of}
-use Rattle.rkyv_container.specs.Header.{Fits, IsHeader, checksum_field, header_bytes, header_checks}
+use Rattle.rkyv_container.specs.Headers.{Fits, IsHeader, checksum_field, header_bytes}
+use Rattle.rkyv_container.specs.Headers.{header_checks}
 
 -- the checksum `c`, if there is one, is that of the archive `a`
 abbrev pub ChecksumMatches : Option ℕ → List ℕ → Type 0

@@ -1,7 +1,7 @@
 //! The checksum of an archive.
 
 ghost use Rattle.std.specs.Prelude.{◌≡◌, ◌+◌, ◌*◌, ◌%◌, ◌≤◌, ◌<◌, length, sum};
-ghost use Rattle.rkyv_container.specs.Checksum.{DetectsChange, adler32_of, weighted_sum};
+ghost use Rattle.rkyv_container.specs.{DetectsChange, adler32_of, weighted_sum};
 
 // The modulus of both sums: the greatest prime below 65,536.
 const MODULUS: u64 = 65_521;

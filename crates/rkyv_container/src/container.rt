@@ -4,31 +4,11 @@
 //! - `open` returns the header and the archive, of any contents.
 //! - `open_as` also checks that the contents are the expected ones. Take it if they are known.
 
-ghost use Rattle.std.specs.Prelude.{
-  IfOk,
-  IsOk,
-  IsOkAnd,
-  List,
-  MatchResult,
-  drop,
-  length,
-  ℕ,
-  ◌≡◌,
-  ◌↔◌,
-  ◌≤◌,
-};
-ghost use Rattle.rkyv_container.specs.Checks.{AllPass, FirstFails};
-ghost use Rattle.rkyv_container.specs.Header.{header_checks};
-ghost use Rattle.rkyv_container.specs.Container.{
-  IsContainer,
-  IsContainerOf,
-  IsSplit,
-  OpenAsFails,
-  OpenFails,
-  archive_checks,
-  contents_checks,
-  header_of,
-};
+ghost use Rattle.std.specs.Prelude.{IfOk, IsOk, IsOkAnd, List, MatchResult, drop, length, ℕ, ◌↔◌};
+ghost use Rattle.std.specs.Prelude.{◌≡◌, ◌≤◌};
+ghost use Rattle.rkyv_container.specs.{AllPass, FirstFails, IsContainer, IsContainerOf, IsSplit};
+ghost use Rattle.rkyv_container.specs.{OpenAsFails, OpenFails, archive_checks, contents_checks};
+ghost use Rattle.rkyv_container.specs.{header_checks, header_of};
 
 use crate::checksum::adler32;
 use crate::contents::Contents;

@@ -3,14 +3,8 @@
 //! Each has a code of one byte in the header. `code` and `from_code` convert it.
 
 ghost use Rattle.std.specs.Prelude.{◌≡◌, MatchOption};
-ghost use Rattle.rkyv_container.specs.Codes.{
-  IsItemCode,
-  IsKindCode,
-  IsWidthCode,
-  item_code,
-  kind_code,
-  width_code,
-};
+ghost use Rattle.rkyv_container.specs.{IsItemCode, IsKindCode, IsWidthCode, item_code, kind_code};
+ghost use Rattle.rkyv_container.specs.{width_code};
 
 use std::fmt;
 

@@ -14,19 +14,9 @@
 
 ghost use Rattle.std.specs.Prelude.{◌≡◌, ◌↔◌, MatchResult, length};
 ghost use Rattle.std.specs.Int.{from_le_bytes, w16, w32};
-ghost use Rattle.rkyv_container.specs.Checks.{AllPass, FirstFails};
-ghost use Rattle.rkyv_container.specs.Container.{header_of};
-ghost use Rattle.rkyv_container.specs.Header.{
-  IsChecksumField,
-  IsHeader,
-  code_checks,
-  contents_bytes,
-  flag_checks,
-  flags_of,
-  header_bytes,
-  header_checks,
-  start_checks,
-};
+ghost use Rattle.rkyv_container.specs.{AllPass, FirstFails, IsChecksumField, IsHeader, code_checks};
+ghost use Rattle.rkyv_container.specs.{contents_bytes, flag_checks, flags_of, header_bytes};
+ghost use Rattle.rkyv_container.specs.{header_checks, header_of, start_checks};
 
 use crate::checksum::adler32;
 use crate::contents::{Contents, ItemType, Kind, Width};

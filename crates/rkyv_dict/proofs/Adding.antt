@@ -3,10 +3,7 @@ use Rattle.std.proofs.Common.{◌≡◌, ℕ, List, [], ◌++◌, Ok, Err, Resul
 use Rattle.std.specs.Prelude.{OnOk}
 use Rattle.std.proofs.lemmas.List.{append-nil}
 use Rattle.rkyv_dict.specs.declared.script.Command.{Command}
-use Rattle.rkyv_dict.specs.Steps.{StepsTo}
-use Rattle.rkyv_dict.specs.Commands.{command_request}
-use Rattle.rkyv_dict.specs.Run.{AppendsSome}
-use Rattle.rkyv_dict.specs.State.{State}
+use Rattle.rkyv_dict.specs.{AppendsSome, State, StepsTo, command_request}
 
 pub on_ok_map : {T E : Type 0} (r : Result T E) (P Q : Type 0) → (P → Q) → OnOk r P → OnOk r Q
 on_ok_map (Ok x) P Q f p = f p

@@ -3,9 +3,8 @@ use Rattle.std.proofs.Common.{◌≡◌, ℕ, zero, suc, ◌+◌, ◌-◌, ◌*�
 use Rattle.std.specs.Prelude.{◌⊎◌, slice_get}
 use Rattle.std.proofs.lemmas.List.{length-replicate, nil_from_length}
 use Rattle.std.proofs.lemmas.Option.{none-some, same_Some}
-use Rattle.rkyv_base.specs.Format.{Format}
-use Rattle.rkyv_base.specs.Writing.{Step, WriteFailure, distance, failure, piece, zeros}
-use Rattle.rkyv_table.specs.Table.Slots.{BucketNext, BucketStep, SlotImages, filled}
+use Rattle.rkyv_base.specs.{Format, Step, WriteFailure, distance, failure, piece, zeros}
+use Rattle.rkyv_table.specs.{BucketNext, BucketStep, SlotImages, filled}
 use Rattle.rkyv_dict.proofs.Ends.{Ends, IsKnown, ends_as, ends_at_once, ends_by_piece, no_piece, same_error, same_piece, then_ends}
 
 same_head : {A : Type 0} (x y : A) (xs ys : List A) → x ∷ xs ≡ y ∷ ys → x ≡ y

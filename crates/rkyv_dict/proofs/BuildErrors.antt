@@ -2,37 +2,21 @@
 use Rattle.std.proofs.Common.{◌≡◌, ℕ, ◌+◌, ◌-◌, ◌≤◌, ◌∙◌, refl, sym, arith, inl, inr, List, length, false}
 use Rattle.std.specs.Int.{w32}
 use Rattle.rkyv_base.specs.Lemmas.Entry.{entry_element}
-use Rattle.rkyv_base.specs.Format.{Format, IsFormat}
-use Rattle.rkyv_base.specs.Numbers.{unsigned}
+use Rattle.rkyv_base.specs.{Format, IsArchiveWord, IsElement, IsFormat, PairRepresents, RootBytes, RootNext, ScalarRepresents, TextReads, ToBytesFails, WriteFailure, failure, pair_format, piece, scalar_format, scalar_spec, text_format, unsigned, written_as}
 use Rattle.rkyv_base.specs.Lemmas.Numbers.{unsigned_codes}
-use Rattle.rkyv_base.specs.Pairs.{PairRepresents, pair_format, written_as}
 use Rattle.rkyv_base.specs.Lemmas.Pairs.{pair_is_format}
-use Rattle.rkyv_base.specs.Root.{RootBytes, RootNext, ToBytesFails}
-use Rattle.rkyv_base.specs.Scalar.{ScalarRepresents, scalar_format, scalar_spec}
 use Rattle.rkyv_base.specs.Lemmas.Scalar.{scalar_element, scalar_is_format, scalar_laws}
-use Rattle.rkyv_base.specs.ElementSpec.{IsElement}
-use Rattle.rkyv_base.specs.Text.{IsArchiveWord, TextReads}
 use Rattle.rkyv_base.specs.Lemmas.Text.{text_element}
-use Rattle.rkyv_base.specs.TextWriting.{text_format}
 use Rattle.rkyv_base.specs.Lemmas.TextWriting.{text_is_format}
-use Rattle.rkyv_base.specs.Writing.{WriteFailure, failure, piece}
 use Rattle.rkyv_base.specs.declared.errors.WriteError.{WriteError}
 use Rattle.rkyv_base.specs.declared.writer.NoMemory.{NoMemory}
-use Rattle.rkyv_table.specs.Table.Listed.{ListFails, listed}
-use Rattle.rkyv_collections.specs.Map.MapFormat.{keyed, map_format}
-use Rattle.rkyv_keys.specs.Calls.{text_calls}
-use Rattle.rkyv_scan.specs.Hash.{HasherCall}
+use Rattle.rkyv_table.specs.{HasCapacity, ListFails, TableRepresents, WritesOneWay, listed, table_format}
+use Rattle.rkyv_collections.specs.{keyed, map_format}
+use Rattle.rkyv_keys.specs.{text_calls}
+use Rattle.rkyv_scan.specs.{HasherCall}
 use Rattle.rkyv_table.proofs.ReadyOneWay.{pairs_one_way, scalars_one_way, texts_one_way}
 use Rattle.rkyv_table.specs.Lemmas.TableSound.{table_is_format}
-use Rattle.rkyv_table.specs.Table.OneWay.{WritesOneWay}
-use Rattle.rkyv_table.specs.Table.Serializing.{HasCapacity}
-use Rattle.rkyv_table.specs.Table.TableFormat.{TableRepresents, table_format}
-use Rattle.rkyv_dict.specs.Archives.{hash, header_spec, pair_spec}
-use Rattle.rkyv_dict.specs.Built.{ArchiveFails, IsArchiveOf, build_fails_in, built_in, pairs_format}
-use Rattle.rkyv_dict.specs.Errors.{cause_text, is_allocation_failure}
-use Rattle.rkyv_dict.specs.Forms.{Pairs, buckets_of, numbers, texts, word_of}
-use Rattle.rkyv_dict.specs.MapTypes.{MapTypes, number_calls, number_parts, text_parts}
-use Rattle.rkyv_dict.specs.Once.{BuildErrorsAreOne}
+use Rattle.rkyv_dict.specs.{ArchiveFails, BuildErrorsAreOne, IsArchiveOf, MapTypes, Pairs, buckets_of, build_fails_in, built_in, cause_text, hash, header_spec, is_allocation_failure, number_calls, number_parts, numbers, pair_spec, pairs_format, text_parts, texts, word_of}
 use Rattle.rkyv_dict.specs.declared.form.ArchiveWidth.{ArchiveWidth}
 use Rattle.rkyv_dict.specs.declared.form.Kind.{Kind}
 use Rattle.rkyv_dict.specs.declared.form.Kind.TheVariants.{Num, Text}

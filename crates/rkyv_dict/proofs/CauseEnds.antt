@@ -1,11 +1,10 @@
 -- The error of a root whose write fails.
 use Rattle.std.proofs.Common.{◌≡◌, ℕ, ◌+◌, ◌<◌, ◌≤◌, ◌∙◌, refl, sym, ap, arith, inl, inr, List, length, false}
 use Rattle.std.specs.Prelude.{◌⊎◌, codes}
-use Rattle.rkyv_base.specs.Root.{fresh}
-use Rattle.rkyv_base.specs.Writing.{CauseApplies, Extends, Output, Reached, Step, Within, WriteFailure, capacity, distance, end_of, failure, load_factor, long_text, mismatch, no_memory, piece, refused}
+use Rattle.rkyv_base.specs.{CauseApplies, Extends, Output, Reached, Step, Within, WriteFailure, capacity, distance, end_of, failure, fresh, load_factor, long_text, mismatch, no_memory, piece, refused}
 use Rattle.rkyv_base.specs.declared.errors.WriteError.{WriteError}
 use Rattle.rkyv_base.specs.declared.errors.WriteError.TheVariants.{CapacityTooLarge, DistanceTooLarge, InvalidLoadFactor, IteratorLengthMismatch, Memory, PositionTooLarge, Refused as RefusedWrite, TextTooLong, Writer}
-use Rattle.rkyv_dict.specs.Errors.{cause_text, is_allocation_failure}
+use Rattle.rkyv_dict.specs.{cause_text, is_allocation_failure}
 use Rattle.rkyv_dict.proofs.Ends.{Ends, IsKnown}
 
 -- the number and the name of an error

@@ -1,7 +1,7 @@
 -- A write fails with one error, except for allocation failures, and doesn't succeed as well.
 use Rattle.std.proofs.Common.{◌≡◌, ℕ, ◌+◌, ◌≤◌, sym, ap, subst, arith, inl, inr, List, [], ◌++◌, length, length-append}
 use Rattle.std.specs.Prelude.{◌⊎◌}
-use Rattle.rkyv_base.specs.Writing.{Step, WriteFailure, failure, no_memory, piece}
+use Rattle.rkyv_base.specs.{Step, WriteFailure, failure, no_memory, piece}
 
 -- an error that isn't an allocation failure
 abbrev pub IsKnown : WriteFailure → Type 0

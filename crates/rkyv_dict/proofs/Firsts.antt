@@ -6,18 +6,10 @@ use Rattle.std.specs.List.{find}
 use Rattle.std.specs.Prelude.{decimal}
 use Rattle.std.proofs.lemmas.Bool.{cases_Bool}
 use Rattle.std.proofs.lemmas.List.{length-map}
-use Rattle.rkyv_base.specs.Bytes.{number_at}
-use Rattle.rkyv_base.specs.Entry.{value_offset}
-use Rattle.rkyv_base.specs.Numbers.{unsigned}
-use Rattle.rkyv_base.specs.Scalar.{ScalarRepresents}
-use Rattle.rkyv_base.specs.Text.{TextReads, text_at}
-use Rattle.rkyv_keys.specs.OfTexts.{same_bytes}
-use Rattle.rkyv_table.specs.Table.Positions.{home_positions}
-use Rattle.rkyv_dict.specs.Archives.{hash, pair_spec, root, value_text}
-use Rattle.rkyv_dict.specs.Built.{PairsRepresent, PairsRepresentAt, RootRepresents}
-use Rattle.rkyv_dict.specs.First.{HasHomes, first_under, first_value_text}
-use Rattle.rkyv_dict.specs.Forms.{Pairs, number_key, numbers, text_key, texts, word_of}
-use Rattle.rkyv_dict.specs.MapTypes.{MapTypes, number_parts, text_parts}
+use Rattle.rkyv_base.specs.{ScalarRepresents, TextReads, number_at, text_at, unsigned, value_offset}
+use Rattle.rkyv_keys.specs.{same_bytes}
+use Rattle.rkyv_table.specs.{home_positions}
+use Rattle.rkyv_dict.specs.{HasHomes, MapTypes, Pairs, PairsRepresent, PairsRepresentAt, RootRepresents, first_under, first_value_text, hash, number_key, number_parts, numbers, pair_spec, root, text_key, text_parts, texts, value_text, word_of}
 use Rattle.rkyv_dict.specs.declared.form.ArchiveWidth.{ArchiveWidth}
 use Rattle.rkyv_dict.specs.declared.form.Form.{Form}
 use Rattle.rkyv_dict.specs.declared.form.Kind.{Kind}

@@ -3,15 +3,9 @@ use Rattle.std.proofs.Common.{◌≡◌, ℕ, ◌+◌, ◌<◌, ◌≤◌, ◌�
 use Rattle.std.specs.Int.{Width}
 use Rattle.rkyv_base.specs.declared.pairs.EntryResolver.{EntryResolver}
 use Rattle.rkyv_base.specs.declared.strings.TextResolver.{TextResolver}
-use Rattle.rkyv_base.specs.Format.{Format}
-use Rattle.rkyv_base.specs.Pairs.{PairNext, PairParts, pair_format}
-use Rattle.rkyv_base.specs.Scalar.{Encoding, scalar_format}
-use Rattle.rkyv_base.specs.ElementSpec.{ElementSpec}
-use Rattle.rkyv_base.specs.Text.{IsArchiveWord, text_size}
+use Rattle.rkyv_base.specs.{ElementSpec, Encoding, Format, IsArchiveWord, PairNext, PairParts, Step, TextNext, TextParts, WriteFailure, failure, long_text, pair_format, piece, scalar_format, text_format, text_limit, text_size}
 use Rattle.rkyv_base.specs.Lemmas.Text.{by_archive_word}
-use Rattle.rkyv_base.specs.TextWriting.{TextNext, TextParts, text_format, text_limit}
-use Rattle.rkyv_base.specs.Writing.{Step, WriteFailure, failure, long_text, piece}
-use Rattle.rkyv_table.specs.Table.OneWay.{WritesOneWay}
+use Rattle.rkyv_table.specs.{WritesOneWay}
 use Rattle.rkyv_dict.proofs.Ends.{Ends, IsKnown, ThenNext, ThenWrites, ends_at_once, no_piece, same_error, same_piece, then_ends}
 
 -- serialization ends in one way

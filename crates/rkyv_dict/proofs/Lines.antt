@@ -3,13 +3,11 @@ use Rattle.std.proofs.Common.{◌≡◌, ℕ, ◌+◌, ap, sym, ◌∙◌, appen
 use Rattle.std.specs.Borrow.{Bor}
 use Rattle.std.specs.List.{flat_map}
 use Rattle.std.specs.Prelude.{codes}
-use Rattle.rkyv_base.specs.Entry.{value_offset}
-use Rattle.rkyv_base.specs.ElementSpec.{ElementSpec}
+use Rattle.rkyv_base.specs.{ElementSpec, value_offset}
 use Rattle.rkyv_base.specs.declared.view.View.{View}
-use Rattle.rkyv_keys.specs.AtViews.{at_view}
-use Rattle.rkyv_table.specs.Table.RawItems.{ItemsLeft}
-use Rattle.rkyv_table.specs.Table.PairWalks.{ViewsAt, YieldsFirstPos}
-use Rattle.rkyv_dict.specs.Archives.{line, line_at}
+use Rattle.rkyv_keys.specs.{at_view}
+use Rattle.rkyv_table.specs.{ItemsLeft, ViewsAt, YieldsFirstPos}
+use Rattle.rkyv_dict.specs.{line, line_at}
 
 module _ {K V : Type 0} (s : ElementSpec) (text : List ℕ → ℕ → List ℕ) (archive : Bor (List ℕ)) (before after : ItemsLeft) (key : View K) (value : View V) (same : before.archive ≡ archive)
     (yields : YieldsFirstPos before key.pos after) (k : ViewsAt s before key.pos key) (v : ViewsAt s before (key.pos + value_offset s s) value) where

@@ -1,38 +1,24 @@
 -- Pairs have one archive, and a validation has one outcome.
 use Rattle.std.proofs.Common.{◌≡◌, ℕ, ◌+◌, ◌-◌, ◌∙◌, refl, sym, ap, subst, arith, inl, inr, List, ◌++◌, length}
 use Rattle.std.specs.Int.{w32}
-use Rattle.rkyv_base.specs.Access.{AccessFails, IsValidArchive}
-use Rattle.rkyv_base.specs.Entry.{round_up}
+use Rattle.rkyv_base.specs.{AccessFails, ArchiveOf, ElementSpec, Format, IsArchiveWord, IsElement, IsValidArchive, ScalarRepresents, TextReads, padding, round_up, scalar_format, text_format, unsigned, zeros}
 use Rattle.rkyv_base.specs.Lemmas.Entry.{entry_element}
-use Rattle.rkyv_base.specs.Format.{Format}
-use Rattle.rkyv_base.specs.Numbers.{unsigned}
 use Rattle.rkyv_base.specs.Lemmas.Numbers.{unsigned_codes}
-use Rattle.rkyv_base.specs.Root.{ArchiveOf}
-use Rattle.rkyv_base.specs.Scalar.{ScalarRepresents, scalar_format}
 use Rattle.rkyv_base.specs.Lemmas.Scalar.{scalar_element}
-use Rattle.rkyv_base.specs.ElementSpec.{ElementSpec, IsElement}
-use Rattle.rkyv_base.specs.Text.{IsArchiveWord, TextReads}
 use Rattle.rkyv_base.specs.Lemmas.Text.{text_element}
-use Rattle.rkyv_base.specs.TextWriting.{text_format}
-use Rattle.rkyv_base.specs.Writing.{padding, zeros}
 use Rattle.rkyv_base.specs.declared.errors.VerifyError.{VerifyError}
-use Rattle.rkyv_table.specs.Table.Listed.{listed}
-use Rattle.rkyv_collections.specs.Map.MapFormat.{keyed}
-use Rattle.rkyv_dict.specs.Archives.{IsMapArchive, MapValidationFails, hash, header_spec, pair_spec}
-use Rattle.rkyv_dict.specs.Built.{IsArchiveOf, PairsRepresentAt, built_in, pairs_format}
-use Rattle.rkyv_dict.specs.Forms.{Pairs, buckets_of, numbers, texts, word_of}
-use Rattle.rkyv_dict.specs.MapTypes.{MapTypes, number_calls, number_parts, parts_in, text_parts}
-use Rattle.rkyv_dict.specs.Once.{BuildsAreOne, ChecksAreOne}
+use Rattle.rkyv_table.specs.{WritesOneWay, listed}
+use Rattle.rkyv_collections.specs.{keyed}
+use Rattle.rkyv_dict.specs.{BuildsAreOne, ChecksAreOne, IsArchiveOf, IsMapArchive, MapTypes, MapValidationFails, Pairs, PairsRepresentAt, buckets_of, built_in, hash, header_spec, number_calls, number_parts, numbers, pair_spec, pairs_format, parts_in, text_parts, texts, word_of}
 use Rattle.rkyv_dict.specs.declared.form.ArchiveWidth.{ArchiveWidth}
 use Rattle.rkyv_dict.specs.declared.form.ArchiveWidth.TheVariants.{Bits32, Bits64}
 use Rattle.rkyv_dict.specs.declared.form.Kind.{Kind}
 use Rattle.rkyv_dict.specs.declared.form.Kind.TheVariants.{Num, Text}
-use Rattle.rkyv_keys.specs.Calls.{text_calls}
-use Rattle.rkyv_scan.specs.Hash.{HasherCall}
+use Rattle.rkyv_keys.specs.{text_calls}
+use Rattle.rkyv_scan.specs.{HasherCall}
 use Rattle.rkyv_table.proofs.OneWay.{tables_one_way}
 use Rattle.rkyv_table.proofs.ReadyOneWay.{pairs_one_way, scalars_one_way, texts_one_way, written_as_one_way}
 use Rattle.rkyv_table.specs.Lemmas.TableLaws.{table_element}
-use Rattle.rkyv_table.specs.Table.OneWay.{WritesOneWay}
 
 -- the word of each width is an archive word
 pub is_word : (bits : ArchiveWidth) → IsArchiveWord (word_of bits)

@@ -1,13 +1,7 @@
 -- A script has one output.
 use Rattle.std.proofs.Common.{◌≡◌, ℕ, sym, ap, ◌∙◌, subst, inl, inr, List, [], ◌∷◌, ◌++◌, Option, None, Some}
 use Rattle.std.specs.Prelude.{codes}
-use Rattle.rkyv_dict.specs.Steps.{RunsTo, StepsIf, StepsLine, StepsTo}
-use Rattle.rkyv_dict.specs.Archives.{line}
-use Rattle.rkyv_dict.specs.Built.{kind_of_pairs}
-use Rattle.rkyv_dict.specs.Once.{BuildErrorsAreOne, ScriptsAreOne}
-use Rattle.rkyv_dict.specs.Output.{built_line, verify_error_line}
-use Rattle.rkyv_dict.specs.Script.{Request, build_archive, check_archive, count_misplaced, get_value, list_pairs, put_numbers, put_texts, request_of, set_kind, set_load_factor, set_width, show_hex}
-use Rattle.rkyv_dict.specs.State.{State, form_of}
+use Rattle.rkyv_dict.specs.{BuildErrorsAreOne, Request, RunsTo, ScriptsAreOne, State, StepsIf, StepsLine, StepsTo, build_archive, built_line, check_archive, count_misplaced, form_of, get_value, kind_of_pairs, line, list_pairs, put_numbers, put_texts, request_of, set_kind, set_load_factor, set_width, show_hex, verify_error_line}
 use Rattle.rkyv_dict.proofs.Once.{builds_are_one, checks_are_one}
 use Rattle.rkyv_dict.proofs.BuildErrors.{build_errors_are_one}
 

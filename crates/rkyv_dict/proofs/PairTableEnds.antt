@@ -8,17 +8,10 @@ use Rattle.std.proofs.lemmas.List.{ext_get_or, length-map}
 use Rattle.std.proofs.lemmas.List.Sums.{passes_at_first}
 use Rattle.std.proofs.lemmas.Option.{slice_get_within, unwrap_or-slice_get}
 use Rattle.std.specs.Option.{unwrap_or}
-use Rattle.rkyv_base.specs.Format.{Format}
-use Rattle.rkyv_base.specs.ElementSpec.{ElementSpec}
-use Rattle.rkyv_base.specs.Writing.{Step, failure}
+use Rattle.rkyv_base.specs.{ElementSpec, Format, Step, failure}
 use Rattle.rkyv_table.proofs.HomeList.{homes_one_list, written_one_list}
 use Rattle.rkyv_table.proofs.Written.{first_within}
-use Rattle.rkyv_table.specs.Controls.Numbers.{capacity}
-use Rattle.rkyv_table.specs.Controls.Placing.{is_free}
-use Rattle.rkyv_table.specs.Table.OneWay.{WritesOneWay}
-use Rattle.rkyv_table.specs.Table.Slots.{TableBytes, TableNext}
-use Rattle.rkyv_table.specs.Table.TableFormat.{InBuckets, PairsNext, TableParts, TableResolver, table_format}
-use Rattle.rkyv_table.specs.Table.PlacedItems.{Placed, Slotted, hashes_of, items_of}
+use Rattle.rkyv_table.specs.{InBuckets, PairsNext, Placed, Slotted, TableBytes, TableNext, TableParts, TableResolver, WritesOneWay, capacity, hashes_of, is_free, items_of, table_format}
 use Rattle.rkyv_table.specs.Lemmas.SlotWalk.{item_below}
 use Rattle.rkyv_dict.proofs.Ends.{Ends}
 use Rattle.rkyv_dict.proofs.FormatEnds.{EndsOneWay}

@@ -3,10 +3,7 @@ use Rattle.std.proofs.Common.{◌≡◌, ℕ, ◌≤◌, Option, Some, None, ref
 use Rattle.std.specs.Option.{ForSome, option_map}
 use Rattle.rkyv_dict.specs.declared.dict.Stored.{Stored}
 use Rattle.rkyv_dict.specs.declared.form.ArchiveWidth.{ArchiveWidth}
-use Rattle.rkyv_dict.specs.Counts.{take_pairs}
-use Rattle.rkyv_dict.specs.Dicts.{archived_of}
-use Rattle.rkyv_dict.specs.Forms.{Pairs}
-use Rattle.rkyv_dict.specs.State.{State}
+use Rattle.rkyv_dict.specs.{Pairs, State, archived_of, take_pairs}
 
 built_kept : (old new : Pairs) (most : ℕ) (built_len : Option ℕ) → ForSome built_len (λ n. n ≤ most)
     → ((n : ℕ) → n ≤ most → take_pairs n new ≡ take_pairs n old)

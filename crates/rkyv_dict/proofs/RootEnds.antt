@@ -1,11 +1,8 @@
 -- The write of a root fails with one error, except for allocation failures, or makes an archive.
 use Rattle.std.proofs.Common.{◌≡◌, ℕ, ◌+◌, ◌∙◌, refl, sym, ap, subst, arith, inl, inr, List, [], ◌++◌, length, append-nil}
 use Rattle.std.proofs.lemmas.List.{length-replicate}
-use Rattle.rkyv_base.specs.Entry.{round_up}
-use Rattle.rkyv_base.specs.Format.{Format}
-use Rattle.rkyv_base.specs.Root.{RootBytes, RootNext}
-use Rattle.rkyv_base.specs.Writing.{Step, failure, no_memory, padding}
-use Rattle.rkyv_table.specs.Table.OneWay.{WritesOneWay}
+use Rattle.rkyv_base.specs.{Format, RootBytes, RootNext, Step, failure, no_memory, padding, round_up}
+use Rattle.rkyv_table.specs.{WritesOneWay}
 use Rattle.rkyv_dict.proofs.Ends.{Ends, ThenNext, ThenWrites, ends_as, then_ends}
 use Rattle.rkyv_dict.proofs.BucketEnds.{OwnNext, own_ends}
 use Rattle.rkyv_dict.proofs.FormatEnds.{EndsOneWay}

@@ -3,15 +3,12 @@ use Rattle.std.proofs.Common.{◌≡◌, ℕ, ◌+◌, refl, ap, ◌∙◌, List
 use Rattle.std.specs.Borrow.{Bor}
 use Rattle.std.specs.Option.{option_map}
 use Rattle.std.proofs.lemmas.Option.{same_Some}
-use Rattle.rkyv_base.specs.Access.{IsValidArchive}
+use Rattle.rkyv_base.specs.{IsAt, IsValidArchive, Viewable, bytes_of, pos_of, pos_of_found}
 use Rattle.rkyv_base.specs.Lemmas.Access.{root_viewable}
-use Rattle.rkyv_base.specs.ElementSpec.{Viewable}
-use Rattle.rkyv_base.specs.View.{IsAt, bytes_of, pos_of, pos_of_found}
 use Rattle.rkyv_base.specs.declared.view.View.{View}
 use Rattle.rkyv_base.proofs.AtViews.{read_at}
-use Rattle.rkyv_keys.specs.AtViews.{at_view}
-use Rattle.rkyv_dict.specs.Archives.{IsMapArchive, header_spec, root}
-use Rattle.rkyv_dict.specs.MapTypes.{MapTypes}
+use Rattle.rkyv_keys.specs.{at_view}
+use Rattle.rkyv_dict.specs.{IsMapArchive, MapTypes, header_spec, root}
 
 module _ (k : MapTypes) (b : List ℕ) where
   pub accepted : IsMapArchive k b → IsValidArchive k.limit (header_spec k) b

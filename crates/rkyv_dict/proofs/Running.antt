@@ -2,10 +2,7 @@
 use Rattle.std.proofs.Common.{◌≡◌, ℕ, List, [], ◌∷◌, ◌++◌, Option, refl, sym, ap, ◌∙◌, subst, append_assoc}
 use Rattle.std.proofs.KnownBytes.{Appends-nil, Appends-trans}
 use Rattle.std.proofs.lemmas.List.{append-nil}
-use Rattle.rkyv_dict.specs.Steps.{RunsTo, StepsLine}
-use Rattle.rkyv_dict.specs.Run.{AppendsBeginning, AppendsFront, AppendsSome, MovesFront, Progress}
-use Rattle.rkyv_dict.specs.Script.{lines_of}
-use Rattle.rkyv_dict.specs.State.{State, start}
+use Rattle.rkyv_dict.specs.{AppendsBeginning, AppendsFront, AppendsSome, MovesFront, Progress, RunsTo, State, StepsLine, lines_of, start}
 
 pub runs_none : (s : State) → RunsTo s [] [] s
 unfolding RunsTo

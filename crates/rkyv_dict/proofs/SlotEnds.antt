@@ -2,10 +2,8 @@
 use Rattle.std.proofs.Common.{◌≡◌, ℕ, zero, suc, ◌+◌, ◌∙◌, refl, sym, ap, subst, arith, inl, inr, List, [], ◌∷◌, ◌++◌, length, take, Option, None, Some, append_assoc, length-append}
 use Rattle.std.specs.Prelude.{◌⊎◌, slice_get}
 use Rattle.std.proofs.lemmas.Option.{none-some, same_Some}
-use Rattle.rkyv_base.specs.Format.{Format}
-use Rattle.rkyv_base.specs.Writing.{Step}
-use Rattle.rkyv_table.specs.Table.OneWay.{WritesOneWay}
-use Rattle.rkyv_table.specs.Table.Slots.{PartsNext, SlotParts}
+use Rattle.rkyv_base.specs.{Format, Step}
+use Rattle.rkyv_table.specs.{PartsNext, SlotParts, WritesOneWay}
 use Rattle.rkyv_dict.proofs.Ends.{Ends, ThenNext, ThenWrites, ends_as, ends_at_once, then_ends}
 use Rattle.rkyv_dict.proofs.FormatEnds.{EndsOneWay}
 

@@ -5,14 +5,7 @@ use Rattle.std.specs.Option.{ForSome}
 use Rattle.rkyv_base.specs.declared.errors.VerifyError.{VerifyError}
 use Rattle.rkyv_dict.specs.declared.form.ArchiveWidth.{ArchiveWidth}
 use Rattle.rkyv_dict.specs.declared.form.Form.{Form}
-use Rattle.rkyv_dict.specs.Archives.{IsArchive, IsMapArchive, ValidationFails, value_found, value_line}
-use Rattle.rkyv_dict.specs.Steps.{StepsIf, StepsLine, StepsTo}
-use Rattle.rkyv_dict.specs.Built.{IsArchiveOf, IsBuilt, PairsRepresent, RootRepresents, form_of_pairs, kind_of_pairs}
-use Rattle.rkyv_dict.specs.First.{first_value_text}
-use Rattle.rkyv_dict.specs.Forms.{LookupKey, Pairs, numbers, texts}
-use Rattle.rkyv_dict.specs.Output.{archive_output, get_line, value_in}
-use Rattle.rkyv_dict.specs.Script.{Request, build_archive, check_archive, count_misplaced, get_value, list_pairs, put_numbers, put_texts, request_of, set_kind, set_load_factor, set_width, show_hex}
-use Rattle.rkyv_dict.specs.State.{Archived, IsSound, IsSoundIn, State, form_of, start, with_numbers, with_texts}
+use Rattle.rkyv_dict.specs.{Archived, IsArchive, IsArchiveOf, IsBuilt, IsMapArchive, IsSound, IsSoundIn, LookupKey, Pairs, PairsRepresent, Request, RootRepresents, State, StepsIf, StepsLine, StepsTo, ValidationFails, archive_output, build_archive, check_archive, count_misplaced, first_value_text, form_of, form_of_pairs, get_line, get_value, kind_of_pairs, list_pairs, numbers, put_numbers, put_texts, request_of, set_kind, set_load_factor, set_width, show_hex, start, texts, value_found, value_in, value_line, with_numbers, with_texts}
 
 kind_with_numbers : (pairs : Pairs) (key value : ℕ) → kind_of_pairs (with_numbers pairs key value) ≡ kind_of_pairs pairs
 kind_with_numbers (numbers pairs) key value = refl

@@ -1,12 +1,9 @@
 -- The write of a table ends in one way.
 use Rattle.std.proofs.Common.{◌≡◌, ℕ, ◌+◌, ◌*◌, ◌∙◌, refl, sym, ap, subst, arith, inl, inr, List, [], ◌++◌, length, Option, append-nil, append_assoc, length-append}
 use Rattle.std.proofs.lemmas.List.{length-replicate}
-use Rattle.rkyv_base.specs.Format.{Format}
-use Rattle.rkyv_base.specs.ElementSpec.{ElementSpec}
-use Rattle.rkyv_base.specs.Writing.{Step, padding, piece, zeros}
+use Rattle.rkyv_base.specs.{ElementSpec, Format, Step, padding, piece, zeros}
 use Rattle.rkyv_table.proofs.PartSteps.{parts_filled}
-use Rattle.rkyv_table.specs.Table.OneWay.{WritesOneWay}
-use Rattle.rkyv_table.specs.Table.Slots.{BucketNext, PartsNext, SlotImages, SlotParts, TableBytes, TableNext, filled}
+use Rattle.rkyv_table.specs.{BucketNext, PartsNext, SlotImages, SlotParts, TableBytes, TableNext, WritesOneWay, filled}
 use Rattle.rkyv_table.specs.Lemmas.Buckets.{images_length}
 use Rattle.rkyv_dict.proofs.Ends.{Ends, ThenNext, ThenWrites, ends_as, ends_by_piece, then_ends}
 use Rattle.rkyv_dict.proofs.BucketEnds.{buckets_end}

@@ -3,29 +3,17 @@ use Rattle.std.proofs.Common.{◌≡◌, ℕ, refl, ap, sym, subst, ◌∙◌, i
 use Rattle.std.specs.Borrow.{Bor}
 use Rattle.std.proofs.lemmas.List.{length-map}
 use Rattle.std.proofs.lemmas.Option.{slice_get-map}
-use Rattle.rkyv_scan.specs.Hash.{HasherCall}
-use Rattle.rkyv_base.specs.Format.{Format}
-use Rattle.rkyv_base.specs.Pairs.{PairRepresents, pair_format, written_as}
-use Rattle.rkyv_base.specs.Root.{RootNext, fresh}
-use Rattle.rkyv_base.specs.Text.{TextReads}
-use Rattle.rkyv_base.specs.TextWriting.{text_format}
-use Rattle.rkyv_base.specs.Writing.{Step}
+use Rattle.rkyv_scan.specs.{HasherCall}
+use Rattle.rkyv_base.specs.{Format, PairRepresents, RootNext, Step, TextReads, fresh, pair_format, text_format, written_as}
 use Rattle.rkyv_base.specs.declared.pairs.EntryResolver.{EntryResolver}
 use Rattle.rkyv_base.specs.declared.errors.WriteError.{WriteError}
 use Rattle.rkyv_base.proofs.WritingSteps.{fails_under}
-use Rattle.rkyv_keys.specs.Calls.{text_calls}
-use Rattle.rkyv_table.specs.Controls.Numbers.{capacity}
-use Rattle.rkyv_table.specs.Table.Serializing.{HasCapacity}
-use Rattle.rkyv_table.specs.Table.Positions.{home_positions}
-use Rattle.rkyv_table.specs.Table.TableFormat.{PairsNext, TableParts, TableResolver}
-use Rattle.rkyv_table.specs.Table.Listed.{ListFails}
+use Rattle.rkyv_keys.specs.{text_calls}
+use Rattle.rkyv_table.specs.{HasCapacity, ListFails, PairsNext, TableParts, TableResolver, capacity, home_positions}
 use Rattle.rkyv_table.proofs.Lists.{option_map_some}
-use Rattle.rkyv_collections.specs.Map.MapFormat.{keyed}
+use Rattle.rkyv_collections.specs.{keyed}
 use Rattle.rkyv_collections.proofs.MappedItems.{mapped_pairs, mapped_pairs_next, mapped_table}
-use Rattle.rkyv_dict.specs.Archives.{hash, header_spec, pair_spec, root}
-use Rattle.rkyv_dict.specs.Built.{ArchiveFails, BuildFails, IsArchiveOf, IsBuilt, PairsRepresentAt, form_of_pairs, pairs_format}
-use Rattle.rkyv_dict.specs.Forms.{buckets_of, text_pair, texts, word_of}
-use Rattle.rkyv_dict.specs.MapTypes.{MapTypes, text_parts}
+use Rattle.rkyv_dict.specs.{ArchiveFails, BuildFails, IsArchiveOf, IsBuilt, MapTypes, PairsRepresentAt, buckets_of, form_of_pairs, hash, header_spec, pair_spec, pairs_format, root, text_pair, text_parts, texts, word_of}
 use Rattle.rkyv_dict.specs.declared.form.ArchiveWidth.{ArchiveWidth}
 
 module _ {A B : Type 0} (model_of : A → B) where

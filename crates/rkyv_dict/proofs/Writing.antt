@@ -3,7 +3,7 @@ use Rattle.std.proofs.Common.{ℕ, List, ◌++◌, take, drop, Option, sym, ap, 
 use Rattle.std.specs.Prelude.{Err, IfSome, None, Ok, OnErr, Result, Some}
 use Rattle.std.specs.Io.KnownBytes.{Appends, Consumes}
 use Rattle.std.proofs.KnownBytes.{Appends-trans, Consumes-trans}
-use Rattle.rkyv_dict.specs.Run.{Gathers, MovesFront}
+use Rattle.rkyv_dict.specs.{Gathers, MovesFront}
 
 -- a prefix of the buffered output is written
 pub moves_more : (a b c : Option (List ℕ)) (whole buffered : List ℕ) (n : ℕ) → MovesFront a b whole buffered → Appends b c (take n buffered) → MovesFront a c whole (drop n buffered)

@@ -4,26 +4,19 @@ use Rattle.std.specs.Prelude.{None, codes, decimal}
 use Rattle.std.specs.Int.{w32}
 use Rattle.std.specs.List.{flat_map}
 use Rattle.std.specs.Option.{option_map}
-use Rattle.rkyv_scan.specs.Groups.{generic_kind}
-use Rattle.rkyv_scan.specs.Hash.{HasherCall, fx_hash, low_halves}
-use Rattle.rkyv_base.specs.Access.{AccessFails, IsValidArchive}
-use Rattle.rkyv_base.specs.Bytes.{number_at}
-use Rattle.rkyv_base.specs.Entry.{entry_spec, value_offset}
-use Rattle.rkyv_base.specs.ElementSpec.{ElementSpec}
-use Rattle.rkyv_base.specs.Text.{text_at}
+use Rattle.rkyv_scan.specs.{HasherCall, fx_hash, generic_kind, low_halves}
+use Rattle.rkyv_base.specs.{AccessFails, ElementSpec, IsValidArchive, entry_spec, number_at}
+use Rattle.rkyv_base.specs.{text_at, value_offset}
 use Rattle.rkyv_base.specs.declared.errors.VerifyError.{VerifyError}
-use Rattle.rkyv_keys.specs.Calls.{text_calls}
-use Rattle.rkyv_keys.specs.OfTexts.{same_bytes}
-use Rattle.rkyv_table.specs.Table.Header.{len_at}
-use Rattle.rkyv_table.specs.Table.Positions.{item_positions, pos_found}
-use Rattle.rkyv_collections.specs.Map.MapSpec.{map_spec}
-use Rattle.rkyv_collections.specs.Map.Misplaced.{map_misplaced}
+use Rattle.rkyv_keys.specs.{same_bytes, text_calls}
+use Rattle.rkyv_table.specs.{item_positions, len_at, pos_found}
+use Rattle.rkyv_collections.specs.{map_misplaced, map_spec}
 use Rattle.rkyv_dict.specs.declared.form.ArchiveWidth.{ArchiveWidth}
 use Rattle.rkyv_dict.specs.declared.form.Form.{Form}
 use Rattle.rkyv_dict.specs.declared.form.Kind.{Kind}
 use Rattle.rkyv_dict.specs.declared.form.Kind.TheVariants.{Num, Text}
 use Rattle.rkyv_dict.specs.Forms.{LookupKey, number_key, text_key, word_of}
-use Rattle.rkyv_dict.specs.MapTypes.{MapTypes, number_calls, number_parts, text_parts, types_of}
+use Rattle.rkyv_dict.specs.Maps.{MapTypes, number_calls, number_parts, text_parts, types_of}
 
 -- the text, then LF
 abbrev pub line : List ℕ → List ℕ

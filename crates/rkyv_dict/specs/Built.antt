@@ -2,25 +2,20 @@
 use Rattle.std.specs.Prelude.{ℕ, List, MatchResult, Result}
 use Rattle.std.specs.Int.{w32}
 use Rattle.std.specs.declared.vec.Vec.{Vec}
-use Rattle.rkyv_scan.specs.Hash.{HasherCall}
-use Rattle.rkyv_base.specs.Format.{Format}
-use Rattle.rkyv_base.specs.Numbers.{unsigned}
-use Rattle.rkyv_base.specs.Root.{ArchiveOf, ToBytesFails}
-use Rattle.rkyv_base.specs.Scalar.{ScalarRepresents, scalar_format}
-use Rattle.rkyv_base.specs.Text.{TextReads}
-use Rattle.rkyv_base.specs.TextWriting.{text_format}
+use Rattle.rkyv_scan.specs.{HasherCall}
+use Rattle.rkyv_base.specs.{ArchiveOf, Format, ScalarRepresents, TextReads, ToBytesFails}
+use Rattle.rkyv_base.specs.{scalar_format, text_format, unsigned}
 use Rattle.rkyv_base.specs.declared.errors.WriteError.{WriteError}
-use Rattle.rkyv_keys.specs.Calls.{text_calls}
-use Rattle.rkyv_table.specs.Table.TableFormat.{TableResolver}
-use Rattle.rkyv_table.specs.Table.Listed.{listed}
-use Rattle.rkyv_collections.specs.Map.MapFormat.{MapRepresents, map_format}
+use Rattle.rkyv_keys.specs.{text_calls}
+use Rattle.rkyv_table.specs.{TableResolver, listed}
+use Rattle.rkyv_collections.specs.{MapRepresents, map_format}
 use Rattle.rkyv_dict.specs.declared.form.ArchiveWidth.{ArchiveWidth}
 use Rattle.rkyv_dict.specs.declared.form.Form.{Form}
 use Rattle.rkyv_dict.specs.declared.form.Kind.{Kind}
 use Rattle.rkyv_dict.specs.declared.form.Kind.TheVariants.{Num, Text}
 use Rattle.rkyv_dict.specs.Archives.{hash, header_spec, root}
 use Rattle.rkyv_dict.specs.Forms.{Pairs, buckets_of, numbers, texts, word_of}
-use Rattle.rkyv_dict.specs.MapTypes.{MapTypes, number_calls, number_parts, text_parts}
+use Rattle.rkyv_dict.specs.Maps.{MapTypes, number_calls, number_parts, text_parts}
 
 -- the kind of the pairs
 abbrev pub kind_of_pairs : Pairs → Kind

@@ -4,7 +4,7 @@ use Rattle.rkyv_dict.specs.declared.dict.Dict.{Dict}
 use Rattle.rkyv_dict.specs.declared.dict.Stored.{Stored}
 use Rattle.rkyv_dict.specs.Counts.{take_pairs}
 use Rattle.rkyv_dict.specs.Forms.{Pairs, pairs_of}
-use Rattle.rkyv_dict.specs.State.{Archived, State}
+use Rattle.rkyv_dict.specs.States.{Archived, State}
 
 -- an archive and its pairs: those of a built one are the first `built_len` pairs of the list
 abbrev pub archived_of : Pairs → Stored → Archived

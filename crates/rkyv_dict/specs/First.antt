@@ -2,13 +2,12 @@
 use Rattle.std.specs.Prelude.{ℕ, ◌==◌, Bool, List, Option, None, decimal}
 use Rattle.std.specs.List.{find}
 use Rattle.std.specs.Option.{option_map}
-use Rattle.rkyv_keys.specs.FirstPairs.{first_value}
-use Rattle.rkyv_keys.specs.OfTexts.{same_bytes}
-use Rattle.rkyv_table.specs.Table.Positions.{home_positions}
-use Rattle.rkyv_collections.specs.Map.{MapWrittenAt}
+use Rattle.rkyv_keys.specs.{first_value, same_bytes}
+use Rattle.rkyv_table.specs.{home_positions}
+use Rattle.rkyv_collections.specs.{MapWrittenAt}
 use Rattle.rkyv_dict.specs.Archives.{hash, pair_spec, root, value_text}
 use Rattle.rkyv_dict.specs.Forms.{LookupKey, Pairs, number_key, numbers, text_key, texts}
-use Rattle.rkyv_dict.specs.MapTypes.{MapTypes}
+use Rattle.rkyv_dict.specs.Maps.{MapTypes}
 
 -- the text of the value of the first pair with the key; a key of the other kind is in no list
 abbrev pub first_value_text : Pairs → LookupKey → Option (List ℕ)

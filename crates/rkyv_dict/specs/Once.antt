@@ -9,7 +9,7 @@ use Rattle.rkyv_dict.specs.Archives.{IsArchive, ValidationFails}
 use Rattle.rkyv_dict.specs.Built.{BuildFails, IsBuilt}
 use Rattle.rkyv_dict.specs.Errors.{cause_text, is_allocation_failure}
 use Rattle.rkyv_dict.specs.Forms.{Pairs}
-use Rattle.rkyv_dict.specs.State.{State}
+use Rattle.rkyv_dict.specs.States.{State}
 
 -- the pairs have at most one archive of a form under a load factor
 abbrev pub BuildsAreOne : Type 0

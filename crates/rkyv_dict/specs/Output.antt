@@ -8,7 +8,7 @@ use Rattle.rkyv_dict.specs.First.{first_value_text}
 use Rattle.rkyv_dict.specs.Errors.{cause_text, verify_error_text}
 use Rattle.rkyv_dict.specs.Forms.{LookupKey, Pairs}
 use Rattle.rkyv_dict.specs.Hex.{hex_of}
-use Rattle.rkyv_dict.specs.State.{Archived}
+use Rattle.rkyv_dict.specs.States.{Archived}
 
 -- the line of a line that is no request
 abbrev pub bad_line : List ℕ

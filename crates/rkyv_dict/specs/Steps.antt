@@ -12,7 +12,7 @@ use Rattle.rkyv_dict.specs.Output.{hex_line, list_lines, ok_line, verify_error_l
 use Rattle.rkyv_dict.specs.Script.{Request, put_numbers, set_kind, set_load_factor, set_width}
 use Rattle.rkyv_dict.specs.Script.{build_archive, check_archive, get_value, put_texts, show_hex}
 use Rattle.rkyv_dict.specs.Script.{count_misplaced, list_pairs, request_of}
-use Rattle.rkyv_dict.specs.State.{State, emptied, form_of, with_numbers, with_texts}
+use Rattle.rkyv_dict.specs.States.{State, emptied, form_of, with_numbers, with_texts}
 
 -- ---- requests whose outcome depends on the bytes
 

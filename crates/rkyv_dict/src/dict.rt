@@ -10,7 +10,7 @@ ghost use Rattle.rkyv_dict.specs.Output.{list_lines, verify_error_line};
 ghost use Rattle.rkyv_dict.specs.Pushing.{AppendsText};
 ghost use Rattle.rkyv_dict.specs.Run.{AppendsSome};
 ghost use Rattle.rkyv_dict.specs.Script.{build_archive, check_archive};
-ghost use Rattle.rkyv_dict.specs.State.{IsSound, emptied, form_of, start};
+ghost use Rattle.rkyv_dict.specs.States.{IsSound, emptied, form_of, start};
 ghost use Rattle.std.specs.Option.{ForSome};
 ghost use Rattle.std.specs.Prelude.{◌≡◌, ◌≤◌, OnOk, string_bytes};
 

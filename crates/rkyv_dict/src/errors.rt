@@ -1,5 +1,5 @@
 //! The number and the name of each error, as the output has them.
-ghost use Rattle.rkyv_dict.specs.Errors.{cause_text, is_allocation_failure, verify_error_text};
+ghost use Rattle.rkyv_dict.specs.{cause_text, is_allocation_failure, verify_error_text};
 ghost use Rattle.std.specs.Prelude.{◌≡◌};
 
 use rkyv_base::errors::{VerifyError, WriteError};

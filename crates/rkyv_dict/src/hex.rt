@@ -1,5 +1,5 @@
 //! Bytes as hexadecimal digits, and back.
-ghost use Rattle.rkyv_dict.specs.Hex.{byte_of_digits, bytes_of_digits, hex_of, hex_of_byte};
+ghost use Rattle.rkyv_dict.specs.{byte_of_digits, bytes_of_digits, hex_of, hex_of_byte};
 ghost use Rattle.std.specs.Char.{digit_value, is_ascii_hexdigit};
 ghost use Rattle.std.specs.Option.{option_map};
 ghost use Rattle.std.specs.Prelude.{◌≡◌, ◌<◌, ◌++◌, IfOk, IfSome, None, OnOk, Some, if◌then◌else◌};

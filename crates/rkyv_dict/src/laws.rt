@@ -1,5 +1,5 @@
 //! Laws of scripts, each a function whose contract is the statement.
-ghost use Rattle.rkyv_dict.specs.Once.{BuildsAreOne, ChecksAreOne, ScriptsAreOne};
+ghost use Rattle.rkyv_dict.specs.{BuildsAreOne, ChecksAreOne, ScriptsAreOne};
 
 /// States that the pairs have at most one archive of a form under a load factor.
 pub fn builds_are_one()

@@ -1,8 +1,6 @@
 //! The list of the pairs that a script puts.
-ghost use Rattle.rkyv_dict.specs.Built.{kind_of_pairs};
-ghost use Rattle.rkyv_dict.specs.Counts.{list_len, take_pairs};
-ghost use Rattle.rkyv_dict.specs.Forms.{pairs_of};
-ghost use Rattle.rkyv_dict.specs.State.{no_pairs, with_numbers, with_texts};
+ghost use Rattle.rkyv_dict.specs.{kind_of_pairs, list_len, no_pairs, pairs_of, take_pairs};
+ghost use Rattle.rkyv_dict.specs.{with_numbers, with_texts};
 ghost use Rattle.std.specs.Prelude.{◌≡◌, ◌≤◌, ℕ, IfErr, OnOk};
 
 use crate::form::{Kind, PairList};

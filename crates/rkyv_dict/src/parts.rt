@@ -1,11 +1,9 @@
 //! The keys and values of a dictionary's archives, and their text.
 
 ghost use Rattle.std.specs.Prelude.{ℕ, List};
-ghost use Rattle.rkyv_base.specs.Text.{text_at, text_spec};
-ghost use Rattle.rkyv_base.specs.View.{IsValidView};
-ghost use Rattle.rkyv_keys.specs.AtViews.{at_view};
-ghost use Rattle.rkyv_dict.specs.MapTypes.{number_spec, number_text};
-ghost use Rattle.rkyv_dict.specs.Pushing.{AppendsText};
+ghost use Rattle.rkyv_base.specs.{IsValidView, text_at, text_spec};
+ghost use Rattle.rkyv_keys.specs.{at_view};
+ghost use Rattle.rkyv_dict.specs.{AppendsText, number_spec, number_text};
 
 use rkyv_base::text::Text;
 use rkyv_base::view::View;

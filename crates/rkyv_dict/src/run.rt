@@ -3,9 +3,8 @@
 //! 1. The script is read to the end, in pieces.
 //! 2. Each line is executed by `dict`.
 //! 3. The buffered output is written when it has at least one piece, and at the end.
-ghost use Rattle.rkyv_dict.specs.Run.{AppendsBeginning, AppendsFront, AppendsOutput, Gathers};
-ghost use Rattle.rkyv_dict.specs.Run.{MovesFront};
-ghost use Rattle.rkyv_dict.specs.Errors.{message_of};
+ghost use Rattle.rkyv_dict.specs.{AppendsBeginning, AppendsFront, AppendsOutput, Gathers};
+ghost use Rattle.rkyv_dict.specs.{MovesFront, message_of};
 ghost use Rattle.rkyv_dict.specs.declared.run.RunError.TheVariants.{Memory};
 ghost use Rattle.std.specs.Io.KnownBytes.{Appends, IsAtEnd};
 ghost use Rattle.std.specs.Prelude.{◌≡◌, ◌≢◌, ◌<◌, IfErr, IfOk, IfSome, IsErrOf, IsTrue, OnErr};

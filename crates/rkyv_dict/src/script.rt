@@ -1,9 +1,7 @@
 //! The commands of a script, and the parser of a line.
-ghost use Rattle.rkyv_dict.specs.Commands.{command_request};
-ghost use Rattle.rkyv_dict.specs.Script.{check_request, get_request, without_arguments};
-ghost use Rattle.rkyv_dict.specs.Script.{kind_request};
-ghost use Rattle.rkyv_dict.specs.Script.{load_factor_request, put_request, request_by, request_of};
-ghost use Rattle.rkyv_dict.specs.Script.{width_request, words_left};
+ghost use Rattle.rkyv_dict.specs.{check_request, command_request, get_request, kind_request};
+ghost use Rattle.rkyv_dict.specs.{load_factor_request, put_request, request_by, request_of};
+ghost use Rattle.rkyv_dict.specs.{width_request, without_arguments, words_left};
 ghost use Rattle.std.specs.Option.{option_map};
 ghost use Rattle.std.specs.Prelude.{◌≡◌, IfOk};
 

@@ -1,7 +1,7 @@
 //! The words of a line, and the values that they represent.
-ghost use Rattle.rkyv_dict.specs.Script.{bits_of_word, is_numeral, kind_of_word, number_of, one_of};
-ghost use Rattle.rkyv_dict.specs.Script.{parsed_by, parsed_by_both, parts_after, split_at, text_of};
-ghost use Rattle.rkyv_dict.specs.Script.{two_of, words_left, words_of};
+ghost use Rattle.rkyv_dict.specs.{bits_of_word, is_numeral, kind_of_word, number_of, one_of};
+ghost use Rattle.rkyv_dict.specs.{parsed_by, parsed_by_both, parts_after, split_at, text_of};
+ghost use Rattle.rkyv_dict.specs.{two_of, words_left, words_of};
 ghost use Rattle.std.specs.Char.{digit_value, is_ascii_digit};
 ghost use Rattle.std.specs.List.{list_all, position};
 ghost use Rattle.std.specs.Option.{option_copied, option_map};

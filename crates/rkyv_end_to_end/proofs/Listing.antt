@@ -2,18 +2,10 @@
 use Rattle.std.proofs.Common.{◌≡◌, ℕ, ◌+◌, ◌-◌, ◌*◌, ◌%◌, ◌≤◌, ◌∙◌, inl, inr, refl, sym, ap, subst, arith, append_assoc, length-append, length-take, Bool, List, [], ◌∷◌, ◌++◌, length, take}
 use Rattle.std.specs.Int.{Width, byte_len}
 use Rattle.std.proofs.lemmas.List.{length-map, length-replicate, take_all}
-use Rattle.rkyv_base.specs.Members.{ElementMembers, WidthMembers}
-use Rattle.rkyv_base.specs.Bytes.{OccursAt}
+use Rattle.rkyv_base.specs.{Appends, ElementMembers, ElementSpec, Fails, Format, IsArchiveWord, IsElement, IsFormat, OccursAt, Output, RootNext, WidthMembers, end_of, padding, round_up, zeros}
 use Rattle.rkyv_base.specs.Lemmas.Bytes.{occurs_back, occurs_front}
-use Rattle.rkyv_base.specs.Checking.{Fails}
-use Rattle.rkyv_base.specs.Entry.{round_up}
 use Rattle.rkyv_base.specs.Lemmas.Entry.{round_up-multiple}
-use Rattle.rkyv_base.specs.Format.{Format, IsFormat}
-use Rattle.rkyv_base.specs.Root.{RootNext}
-use Rattle.rkyv_base.specs.ElementSpec.{ElementSpec, IsElement}
-use Rattle.rkyv_base.specs.Text.{IsArchiveWord}
 use Rattle.rkyv_base.specs.Lemmas.Text.{by_archive_word}
-use Rattle.rkyv_base.specs.Writing.{Appends, Output, end_of, padding, zeros}
 use Rattle.rkyv_base.specs.declared.element.PartRange.{PartRange}
 use Rattle.rkyv_base.specs.declared.errors.VerifyError.{VerifyError}
 use Rattle.rkyv_base.specs.declared.errors.WriteError.{WriteError}
@@ -24,22 +16,10 @@ use Rattle.rkyv_base.specs.declared.width.Width.{Ghosts as Widths}
 use Rattle.rkyv_base.specs.declared.width.Word.{Ghosts as Words}
 use Rattle.rkyv_base.proofs.WritingSteps.{appends_after, end-appends, fails_under}
 use Rattle.rkyv_table.specs.Lemmas.TableLaws.{table_element}
-use Rattle.rkyv_table.specs.Table.Bare.{TableIn}
-use Rattle.rkyv_table.specs.Table.Layout.{table_spec}
-use Rattle.rkyv_table.specs.Table.Passing.{IsValidAround, WrittenTablesPass}
-use Rattle.rkyv_table.specs.Table.Serializing.{WriteItemsFails}
-use Rattle.rkyv_table.specs.Table.FirstItem.{IsFirstOf}
-use Rattle.rkyv_table.specs.Table.Header.{IsHeader, cap_at}
-use Rattle.rkyv_table.specs.Controls.Numbers.{capacity}
-use Rattle.rkyv_table.specs.Table.Positions.{table_controls}
-use Rattle.rkyv_table.specs.Table.PlacedItems.{hashes_of, items_of}
-use Rattle.rkyv_table.specs.Table.WalkLaws.{VisitsHomes, WalkVisitsHomes}
-use Rattle.rkyv_table.specs.Table.WrittenTables.{IsWrittenOf, ValidWereWritten}
+use Rattle.rkyv_table.specs.{IsFirstOf, IsHeader, IsValidAround, IsWrittenOf, TableIn, TableRepresents, TableResolver, ValidWereWritten, VisitsHomes, WalkVisitsHomes, WriteItemsFails, WrittenTablesPass, cap_at, capacity, hashes_of, items_of, resolved_capacity, table_controls, table_format, table_spec}
 use Rattle.rkyv_table.proofs.FirstItem.{accepted_under, first_at_home}
 use Rattle.rkyv_table.proofs.WalkedHomes.{none_visits}
-use Rattle.rkyv_table.specs.Table.TableFormat.{TableRepresents, TableResolver, resolved_capacity, table_format}
-use Rattle.rkyv_end_to_end.specs.Listing.{Encoding, IsWrittenList, ListBytes, ListInput, ListsAreValid, ReportsList, VisitsItems, WriteAndFindFails, WriteListFails, WroteList, list_format, table_of}
-use Rattle.rkyv_end_to_end.specs.Report.{LookOverFails, ReportsTable}
+use Rattle.rkyv_end_to_end.specs.{Encoding, IsWrittenList, ListBytes, ListInput, ListsAreValid, LookOverFails, ReportsList, ReportsTable, VisitsItems, WriteAndFindFails, WriteListFails, WroteList, list_format, table_of}
 use Rattle.rkyv_end_to_end.specs.declared.looking.LookError.{LookError}
 use Rattle.rkyv_end_to_end.specs.declared.looking.LookError.TheVariants.{Memory, Verify}
 use Rattle.rkyv_end_to_end.specs.declared.looking.TableReport.{TableReport}

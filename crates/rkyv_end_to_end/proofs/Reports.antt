@@ -6,28 +6,18 @@ use Rattle.std.specs.Prelude.{IfSome}
 use Rattle.std.specs.Int.{Width, byte_len}
 use Rattle.std.specs.List.{All, Contains}
 use Rattle.std.proofs.lemmas.List.{get_or-map, length-map}
-use Rattle.rkyv_base.specs.Checking.{Passes}
-use Rattle.rkyv_base.specs.ElementSpec.{ElementSpec, IsElement, Viewable}
+use Rattle.rkyv_base.specs.{ElementSpec, IsArchiveWord, IsElement, Passes, Viewable, pos_of_found}
 use Rattle.rkyv_base.specs.Lemmas.ElementSpec.{valid_at}
-use Rattle.rkyv_base.specs.Text.{IsArchiveWord}
 use Rattle.rkyv_base.specs.declared.element.PartRange.{PartRange}
 use Rattle.rkyv_base.specs.declared.view.View.{View}
-use Rattle.rkyv_scan.specs.Groups.{generic_kind}
-use Rattle.rkyv_table.specs.Controls.Finding.{ReadsWithin}
-use Rattle.rkyv_table.specs.Controls.Numbers.{probe_capacity}
-use Rattle.rkyv_table.specs.Controls.Placing.{walk}
+use Rattle.rkyv_scan.specs.{generic_kind}
+use Rattle.rkyv_table.specs.{AcceptedOf, CountsWithin, FindsFirst, FindsFound, IsItem, LooksUp, ReadsExactly, ReadsWithin, cap_at, item_at, item_positions, len_at, probe_capacity, table_controls, table_spec, walk}
 use Rattle.rkyv_table.specs.Lemmas.TableLaws.{table_element}
-use Rattle.rkyv_table.specs.Table.Bare.{AcceptedOf, LooksUp, ReadsExactly}
-use Rattle.rkyv_table.specs.Table.Header.{cap_at, len_at}
-use Rattle.rkyv_table.specs.Table.Layout.{table_spec}
-use Rattle.rkyv_table.specs.Table.Positions.{item_at, item_positions, table_controls}
-use Rattle.rkyv_table.specs.Table.Reading.{CountsWithin, FindsFirst, FindsFound, IsItem}
-use Rattle.rkyv_base.specs.View.{pos_of_found}
 use Rattle.rkyv_table.specs.declared.table.ArchivedHashTable.{ArchivedHashTable}
 use Rattle.rkyv_table.proofs.Bare.{looks_up_none, looks_up_some}
 use Rattle.rkyv_table.proofs.RawWalks.{positions_count, positions_viewable}
 use Rattle.rkyv_table.proofs.Walks.{full_walked}
-use Rattle.rkyv_end_to_end.specs.Report.{ReadsWithinBound, ReportsTable}
+use Rattle.rkyv_end_to_end.specs.{ReadsWithinBound, ReportsTable}
 use Rattle.rkyv_end_to_end.specs.declared.looking.TableReport.{TableReport}
 
 -- accepted bytes are a valid table

@@ -3,31 +3,18 @@ use Rattle.std.specs.Prelude.{◌≡◌, ℕ, ◌+◌, ◌*◌, ◌%◌, ◌≤�
 use Rattle.std.specs.Prelude.{MatchResult, Option, Result, Some, slice_get, slice_index}
 use Rattle.std.specs.Int.{Width, byte_len}
 use Rattle.std.specs.declared.iter.Iterator.{Ghosts as Iterators}
-use Rattle.rkyv_base.specs.Members.{ElementMembers, WidthMembers}
-use Rattle.rkyv_base.specs.Bytes.{OccursAt}
-use Rattle.rkyv_base.specs.Entry.{round_up}
-use Rattle.rkyv_base.specs.Format.{Format}
-use Rattle.rkyv_base.specs.Pairs.{written_as}
-use Rattle.rkyv_base.specs.Root.{WriteRootFails}
-use Rattle.rkyv_base.specs.ElementSpec.{ElementSpec}
-use Rattle.rkyv_base.specs.View.{IsValidView}
-use Rattle.rkyv_base.specs.Writing.{Appended, Output, end_of, padding, vec_output, zeros}
+use Rattle.rkyv_base.specs.{Appended, ElementMembers, ElementSpec, Format, IsValidView, OccursAt}
+use Rattle.rkyv_base.specs.{Output, WidthMembers, WriteRootFails, end_of, padding, round_up}
+use Rattle.rkyv_base.specs.{vec_output, written_as, zeros}
 use Rattle.rkyv_base.specs.declared.archive.Archive.{Ghosts as Archives}
 use Rattle.rkyv_base.specs.declared.errors.WriteError.{WriteError}
 use Rattle.rkyv_base.specs.declared.lend.Lend.{Ghosts as Lends}
 use Rattle.rkyv_base.specs.declared.view.View.{View}
-use Rattle.rkyv_table.specs.Table.Bare.{ComparesByOf, TableIn}
-use Rattle.rkyv_table.specs.Table.FirstItem.{AgreesAt, AreUnder, IsFirstOf}
-use Rattle.rkyv_table.specs.Table.Header.{cap_at}
-use Rattle.rkyv_table.specs.Table.Input.{Input, from_both}
-use Rattle.rkyv_table.specs.Table.Layout.{table_spec}
-use Rattle.rkyv_table.specs.Table.Lending.{value_represents}
-use Rattle.rkyv_table.specs.Table.Passing.{IsValidAround}
-use Rattle.rkyv_table.specs.Table.Positions.{WrittenAt, home_positions, table_controls}
-use Rattle.rkyv_table.specs.Table.Serializing.{HasCapacity, OwnCause, YieldsExactly}
-use Rattle.rkyv_table.specs.Table.TableFormat.{TableRepresents, TableResolver, table_format}
-use Rattle.rkyv_table.specs.Table.PlacedItems.{hashes_of, items_of}
-use Rattle.rkyv_table.specs.Table.WalkLaws.{VisitsHomes}
+use Rattle.rkyv_table.specs.{AgreesAt, AreUnder, ComparesByOf, HasCapacity, Input, IsFirstOf}
+use Rattle.rkyv_table.specs.{IsValidAround, OwnCause, TableIn, TableRepresents, TableResolver}
+use Rattle.rkyv_table.specs.{VisitsHomes, WrittenAt, YieldsExactly, cap_at, from_both, hashes_of}
+use Rattle.rkyv_table.specs.{home_positions, items_of, table_controls, table_format, table_spec}
+use Rattle.rkyv_table.specs.{value_represents}
 use Rattle.rkyv_end_to_end.specs.Report.{ReportsTable}
 use Rattle.rkyv_end_to_end.specs.declared.looking.LookError.TheVariants.{Memory, Verify}
 use Rattle.rkyv_end_to_end.specs.declared.looking.TableReport.{TableReport}

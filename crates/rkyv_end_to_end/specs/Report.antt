@@ -3,16 +3,12 @@ use Rattle.std.specs.Prelude.{◌≡◌, ℕ, ◌+◌, ◌/◌, Bool, List, leng
 use Rattle.std.specs.Prelude.{Option, Result}
 use Rattle.std.specs.Int.{Width}
 use Rattle.std.specs.List.{All, Contains}
-use Rattle.rkyv_base.specs.Checking.{Fails, Passes}
-use Rattle.rkyv_base.specs.ElementSpec.{Viewable}
+use Rattle.rkyv_base.specs.{Fails, Passes, Viewable}
 use Rattle.rkyv_base.specs.declared.element.PartRange.{PartRange}
 use Rattle.rkyv_base.specs.declared.view.View.{View}
-use Rattle.rkyv_scan.specs.Groups.{generic_kind}
-use Rattle.rkyv_table.specs.Controls.Finding.{ReadsWithin}
-use Rattle.rkyv_table.specs.Table.Bare.{CanCompareOf, LooksUp, ReadsExactly, TableIn}
-use Rattle.rkyv_table.specs.Table.Header.{cap_at, len_at}
-use Rattle.rkyv_table.specs.Table.Layout.{table_spec}
-use Rattle.rkyv_table.specs.Table.Positions.{item_positions}
+use Rattle.rkyv_scan.specs.{generic_kind}
+use Rattle.rkyv_table.specs.{CanCompareOf, LooksUp, ReadsExactly, ReadsWithin, TableIn, cap_at}
+use Rattle.rkyv_table.specs.{item_positions, len_at, table_spec}
 use Rattle.rkyv_end_to_end.specs.declared.looking.LookError.{LookError}
 use Rattle.rkyv_end_to_end.specs.declared.looking.LookError.TheVariants.{Memory, Verify}
 use Rattle.rkyv_end_to_end.specs.declared.looking.TableReport.{TableReport}

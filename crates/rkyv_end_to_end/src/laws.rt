@@ -1,6 +1,6 @@
 //! The law of written lists.
 ghost use Rattle.std.specs.Prelude.{ℕ};
-ghost use Rattle.rkyv_end_to_end.specs.Listing.{ListsAreValid, encoding};
+ghost use Rattle.rkyv_end_to_end.specs.{ListsAreValid, encoding};
 
 use rkyv_base::archive::Archive;
 use rkyv_base::lend::Lend;

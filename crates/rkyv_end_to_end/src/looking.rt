@@ -2,12 +2,10 @@
 
 ghost use Rattle.std.specs.Prelude.{IfOk, length, ◌%◌, ◌*◌, ◌+◌, ◌≡◌, ◌≤◌};
 ghost use Rattle.std.specs.Int.{byte_len};
-ghost use Rattle.rkyv_base.specs.ElementSpec.{Viewable};
-ghost use Rattle.rkyv_table.specs.Table.Bare.{CanCompareOf, table_in};
-ghost use Rattle.rkyv_table.specs.Table.Layout.{table_spec};
-ghost use Rattle.rkyv_table.specs.Table.Positions.{item_positions};
-ghost use Rattle.rkyv_end_to_end.specs.Report.{CanCompareItems, LooksOver, LooksUpIn};
-ghost use Rattle.rkyv_end_to_end.specs.Report.{ReadsExactlyIn, ReadsWithinBound};
+ghost use Rattle.rkyv_base.specs.{Viewable};
+ghost use Rattle.rkyv_table.specs.{CanCompareOf, item_positions, table_in, table_spec};
+ghost use Rattle.rkyv_end_to_end.specs.{CanCompareItems, LooksOver, LooksUpIn, ReadsExactlyIn};
+ghost use Rattle.rkyv_end_to_end.specs.{ReadsWithinBound};
 
 use rkyv_base::element::{Element, PartRange};
 use rkyv_base::errors::VerifyError;

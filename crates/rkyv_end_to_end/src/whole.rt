@@ -1,7 +1,6 @@
 //! A list from its items to its lookup.
 
-ghost use Rattle.rkyv_end_to_end.specs.Listing.{CanCompareAny, WritesAndFinds};
-ghost use Rattle.rkyv_end_to_end.specs.Listing.{encoding, list_of, pairs_of};
+ghost use Rattle.rkyv_end_to_end.specs.{CanCompareAny, WritesAndFinds, encoding, list_of, pairs_of};
 
 use crate::laws::written_lists_represent;
 use crate::looking::{LookError, TableReport, look_over};

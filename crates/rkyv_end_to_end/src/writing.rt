@@ -1,6 +1,6 @@
 //! Writing a list as a table, followed by its header.
 
-ghost use Rattle.rkyv_end_to_end.specs.Listing.{WritesList, encoding, list_of, pairs_of};
+ghost use Rattle.rkyv_end_to_end.specs.{WritesList, encoding, list_of, pairs_of};
 
 use rkyv_base::archive::{Serialize, WriteResult};
 use rkyv_base::lend::Lend;

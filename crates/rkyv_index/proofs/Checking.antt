@@ -8,26 +8,17 @@ use Rattle.std.proofs.lemmas.Bool.{cases_eq}
 use Rattle.std.proofs.lemmas.List.Elements.{All-map, All-weaker}
 use Rattle.std.proofs.lemmas.Int.{to_z-of_z}
 use Rattle.std.proofs.lemmas.Nat.{mul-mod}
-use Rattle.rkyv_base.specs.Bytes.{number_at}
-use Rattle.rkyv_base.specs.Layout.{IsIndexEncoding}
-use Rattle.rkyv_base.specs.Scalar.{Encoding, IsScalar}
-use Rattle.rkyv_base.specs.ElementSpec.{ElementSpec, IsElement, Viewable}
+use Rattle.rkyv_base.specs.{ElementSpec, Encoding, IsArchiveWord, IsAt, IsElement, IsIndexEncoding, IsScalar, IsValidView, Viewable, number_at}
 use Rattle.rkyv_base.specs.Lemmas.ElementSpec.{by_align, sum_multiple, valid_at}
-use Rattle.rkyv_base.specs.Text.{IsArchiveWord}
-use Rattle.rkyv_base.specs.View.{IsAt, IsValidView}
 use Rattle.rkyv_base.specs.declared.view.View.{View}
-use Rattle.rkyv_table.specs.Controls.Placing.{walk}
-use Rattle.rkyv_table.specs.Table.Header.{cap_at, controls_pos}
-use Rattle.rkyv_table.specs.Table.Layout.{IsValidTable, table_spec}
-use Rattle.rkyv_table.specs.Table.Positions.{IsWalked, item_at, item_positions, table_controls}
-use Rattle.rkyv_table.specs.Table.Decoded.{IsDecoded}
+use Rattle.rkyv_table.specs.{IsDecoded, IsValidTable, IsWalked, cap_at, controls_pos, item_at, item_positions, table_controls, table_spec, walk}
 use Rattle.rkyv_table.specs.declared.table.decoded.Decoded.{Decoded}
 use Rattle.rkyv_table.proofs.Moved.{moved}
 use Rattle.rkyv_table.proofs.ValidTable.{controls_inside, item_before}
 use Rattle.rkyv_table.proofs.RawWalks.{walked_all}
 use Rattle.rkyv_table.specs.Lemmas.TableLaws.{table_element}
 use Rattle.rkyv_table.proofs.Lists.{range_cons}
-use Rattle.rkyv_index.specs.Index.IndexLayout.{AreBelow, IndicesBelow, entry_at, stored_index_spec}
+use Rattle.rkyv_index.specs.{AreBelow, IndicesBelow, entry_at, stored_index_spec}
 use Rattle.rkyv_index.specs.Lemmas.IndexLaws.{stored_index_element}
 use Rattle.rkyv_index.specs.Lemmas.IndexSpecs.{index_table_is_valid}
 

@@ -5,31 +5,18 @@ use Rattle.std.specs.Int.{Width, byte_len}
 use Rattle.std.specs.List.{range_with_len}
 use Rattle.std.proofs.lemmas.Bool.{cases_Bool, cases_eq, not-false}
 use Rattle.std.proofs.lemmas.Option.{none-some, same_Some}
-use Rattle.rkyv_scan.specs.Groups.{generic_kind}
-use Rattle.rkyv_scan.specs.Hash.{Hasher, HasherCall, hash_of_calls}
+use Rattle.rkyv_scan.specs.{Hasher, HasherCall, generic_kind, hash_of_calls}
 use Rattle.rkyv_scan.specs.Lemmas.KindLaws.{word_lawful}
-use Rattle.rkyv_base.specs.Bytes.{number_at}
-use Rattle.rkyv_base.specs.Entry.{entry_spec}
+use Rattle.rkyv_base.specs.{ElementSpec, IsArchiveWord, IsElement, ValidAt, Viewable, entry_spec, number_at}
 use Rattle.rkyv_base.specs.Lemmas.Entry.{entry_element}
-use Rattle.rkyv_base.specs.ElementSpec.{ElementSpec, IsElement, ValidAt, Viewable}
-use Rattle.rkyv_base.specs.Text.{IsArchiveWord}
-use Rattle.rkyv_keys.specs.Equality.{Comparison}
-use Rattle.rkyv_keys.specs.Keys.{IsQuery}
+use Rattle.rkyv_keys.specs.{Comparison, IsQuery, hash_at}
 use Rattle.rkyv_keys.specs.Lemmas.OfEntries.{valid_key}
-use Rattle.rkyv_keys.specs.Calls.{hash_at}
-use Rattle.rkyv_table.specs.Controls.Finding.{found}
-use Rattle.rkyv_table.specs.Table.Header.{cap_at, len_at}
-use Rattle.rkyv_table.specs.Table.Misplaced.{is_found_at}
-use Rattle.rkyv_table.specs.Table.Positions.{item_at, table_controls}
+use Rattle.rkyv_table.specs.{cap_at, found, is_found_at, item_at, len_at, table_controls}
 use Rattle.rkyv_table.proofs.ValidTable.{controls_accepted, no_items}
 use Rattle.rkyv_table.proofs.Misplaced.{found_agree, found_at_is, found_walked}
 use Rattle.rkyv_table.proofs.Walks.{walked_full}
 use Rattle.rkyv_table.proofs.Lists.{option_map_some}
-use Rattle.rkyv_index.specs.Index.Complete.{FindsTheOne}
-use Rattle.rkyv_index.specs.Index.Equality.{index_misplaced, own_found}
-use Rattle.rkyv_index.specs.Index.{Index, index_found}
-use Rattle.rkyv_index.specs.Index.IndexLayout.{pair_pos}
-use Rattle.rkyv_index.specs.Index.IndexLayout.{index_spec, stored_index_spec}
+use Rattle.rkyv_index.specs.{FindsTheOne, Index, index_found, index_misplaced, index_spec, own_found, pair_pos, stored_index_spec}
 use Rattle.rkyv_index.specs.Lemmas.IndexLaws.{stored_index_element}
 use Rattle.rkyv_index.proofs.ValidIndexMap.{entry_viewable, index_below, table_there}
 

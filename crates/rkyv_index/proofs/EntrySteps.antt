@@ -3,7 +3,7 @@ use Rattle.std.proofs.Common.{subst, sym, List, [], ◌∷◌, ◌++◌, Some, O
 use Rattle.std.specs.Iterator.{Yields}
 use Rattle.std.proofs.lemmas.List.{map-append}
 use Rattle.rkyv_base.specs.declared.adapter.EntryAdapter.{EntryAdapter}
-use Rattle.rkyv_index.specs.Index.Writing.{pairs_of}
+use Rattle.rkyv_index.specs.{pairs_of}
 use Rattle.rkyv_table.proofs.PlacingSteps.{yields_more}
 
 pub entries_yield_more : {S BK BV A B : Type 0} (steps : S → Option (BK × BV) → S → Type 0) (s t u : S) (entries : List (EntryAdapter BK BV A B)) (entry : EntryAdapter BK BV A B)

@@ -4,9 +4,9 @@ use Rattle.std.specs.List.{find, range_with_len}
 use Rattle.std.specs.Option.{is_some}
 use Rattle.std.proofs.lemmas.Bool.{eq-eqb, ne_eqb}
 use Rattle.std.proofs.lemmas.Option.{none-some, same_Some}
-use Rattle.rkyv_table.specs.Table.Misplaced.{is_found_at}
+use Rattle.rkyv_table.specs.{is_found_at}
 use Rattle.rkyv_table.proofs.Groups.{range_append}
-use Rattle.rkyv_index.specs.Index.IndexLayout.{indices_of}
+use Rattle.rkyv_index.specs.{indices_of}
 
 front_step : (t : Bool) (y x : ℕ) (r r' : Option ℕ) → (r ≡ Some x → r' ≡ Some x) → cond t (Some y) r ≡ Some x → cond t (Some y) r' ≡ Some x
 front_step true y x r r' h e = e

@@ -4,7 +4,7 @@ use Rattle.std.specs.List.{find, list_any, range_with_len, slice_get}
 use Rattle.std.proofs.lemmas.Bool.{both_ways, false_from_ne_true}
 use Rattle.std.proofs.lemmas.Option.{slice_get_cases, slice_get_within}
 use Rattle.rkyv_table.proofs.Lists.{any_range, first_range, none_find}
-use Rattle.rkyv_index.specs.Index.ListedLookups.{IsFirst}
+use Rattle.rkyv_index.specs.{IsFirst}
 
 -- if no index of a range is accepted, each is not
 none_each : (P : ℕ → Bool) (n : ℕ) → find P (range_with_len 0 n) ≡ None → (i : ℕ) → i < n → P i ≡ false

@@ -1,8 +1,8 @@
 -- The header of an index map, by the length and the load factor of its resolver.
 use Rattle.std.proofs.Common.{◌≡◌, ℕ, List, subst}
 use Rattle.std.specs.Int.{Width}
-use Rattle.rkyv_table.specs.Controls.Numbers.{capacity}
-use Rattle.rkyv_index.specs.Index.IndexHeader.{IndexOverflows, IndexResolver, IsIndexHeader}
+use Rattle.rkyv_table.specs.{capacity}
+use Rattle.rkyv_index.specs.{IndexOverflows, IndexResolver, IsIndexHeader}
 
 module _ (w : Width) (r : IndexResolver) (len : ℕ) (load_factor : ℕ × ℕ) (p : ℕ) (same : (len ≡ r.table.len) × (load_factor ≡ r.table.load_factor)) where
   pub header_of : (out : List ℕ) → IsIndexHeader w len (capacity len load_factor) r p out → IsIndexHeader w r.table.len (capacity r.table.len r.table.load_factor) r p out

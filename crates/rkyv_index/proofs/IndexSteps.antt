@@ -3,18 +3,11 @@ use Rattle.std.proofs.Common.{◌≡◌, ℕ, ◌+◌, refl, sym, ap, ◌∙◌,
 use Rattle.std.specs.Int.{Width}
 use Rattle.std.specs.Iterator.{Drains, Yields, YieldsFirst}
 use Rattle.rkyv_base.specs.declared.errors.WriteError.{WriteError}
-use Rattle.rkyv_base.specs.Format.{Format, SerializeFails, Serialized}
-use Rattle.rkyv_base.specs.Scalar.{Encoding, scalar_format}
-use Rattle.rkyv_base.specs.ElementSpec.{ElementSpec}
-use Rattle.rkyv_base.specs.Writing.{Appends, Only, Output, Step, Within, WriteFails, end_of, padding, piece, zeros}
+use Rattle.rkyv_base.specs.{Appends, ElementSpec, Encoding, Format, Only, Output, SerializeFails, Serialized, Step, Within, WriteFails, end_of, padding, piece, scalar_format, zeros}
 use Rattle.rkyv_base.proofs.WritingSteps.{appends_after, end-appends, fails_after, fails_under, grows, within_after}
-use Rattle.rkyv_table.specs.Table.Counting.{YieldsOtherCount}
-use Rattle.rkyv_table.specs.Table.Serializing.{WriteItemsFails, WroteItems}
-use Rattle.rkyv_table.specs.Table.TableFormat.{PairsNext, TableResolver, table_format}
+use Rattle.rkyv_table.specs.{PairsNext, TableResolver, WriteItemsFails, WroteItems, YieldsOtherCount, table_format}
 use Rattle.rkyv_table.proofs.TableSteps.{piece_fails, zeros_behind}
-use Rattle.rkyv_index.specs.Index.Writing.{NoOther, OwnOrSerializeFails}
-use Rattle.rkyv_index.specs.Index.IndexFormat.{BeforeRow, BeforeZeros, IndexNext, indices_from, row_format}
-use Rattle.rkyv_index.specs.Index.Row.{RowNext, RowParts, RowPartsNext, WroteRow}
+use Rattle.rkyv_index.specs.{BeforeRow, BeforeZeros, IndexNext, NoOther, OwnOrSerializeFails, RowNext, RowParts, RowPartsNext, WroteRow, indices_from, row_format}
 use Rattle.rkyv_index.specs.Lemmas.IndexSound.{indices_count}
 use Rattle.rkyv_table.proofs.Through.{own_counted}
 

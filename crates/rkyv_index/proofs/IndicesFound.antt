@@ -7,19 +7,12 @@ use Rattle.std.specs.Int.{Width, byte_len}
 use Rattle.std.specs.Option.{option_map}
 use Rattle.std.specs.Prelude.{IfSome}
 use Rattle.std.proofs.lemmas.Option.{IfSome_then}
-use Rattle.rkyv_scan.specs.Groups.{generic_kind}
-use Rattle.rkyv_base.specs.Bytes.{number_at}
-use Rattle.rkyv_base.specs.Layout.{IsIndexEncoding}
-use Rattle.rkyv_base.specs.Scalar.{Encoding, IsScalar}
-use Rattle.rkyv_base.specs.View.{IsAt, bytes_of, pos_of, pos_of_found}
+use Rattle.rkyv_scan.specs.{generic_kind}
+use Rattle.rkyv_base.specs.{Encoding, IsAt, IsIndexEncoding, IsScalar, bytes_of, number_at, pos_of, pos_of_found}
 use Rattle.rkyv_base.specs.declared.view.View.{View}
-use Rattle.rkyv_table.specs.Controls.Finding.{ReadsWithin}
-use Rattle.rkyv_table.specs.Controls.Numbers.{probe_capacity}
-use Rattle.rkyv_table.specs.Table.Header.{cap_at, len_at}
-use Rattle.rkyv_table.specs.Table.Reading.{CountsStrides, CountsWithin, FindsItem, IsItem, table_pos}
+use Rattle.rkyv_table.specs.{CountsStrides, CountsWithin, FindsItem, IsItem, ReadsWithin, cap_at, len_at, probe_capacity, table_pos}
 use Rattle.rkyv_table.specs.declared.table.ArchivedHashTable.{ArchivedHashTable}
-use Rattle.rkyv_index.specs.Index.{IsAccepted, IsKeyOf, IsStoredIndex, ReadsWithinBound, index_archive, index_bytes, index_found, index_pos, stored_index}
-use Rattle.rkyv_index.specs.Index.Lookups.{GetsBy, index_part}
+use Rattle.rkyv_index.specs.{GetsBy, IsAccepted, IsKeyOf, IsStoredIndex, ReadsWithinBound, index_archive, index_bytes, index_found, index_part, index_pos, stored_index}
 use Rattle.rkyv_index.specs.declared.map.ArchivedIndexMap.{ArchivedIndexMap}
 use Rattle.rkyv_index.proofs.Lookups.{finds_first_index, finds_index, item_index, item_stored, read_there}
 

@@ -8,22 +8,10 @@ use Rattle.std.proofs.lemmas.Option.{slice_get-map}
 use Rattle.std.specs.Option.{option_map}
 use Rattle.rkyv_base.specs.declared.errors.WriteError.{WriteError}
 use Rattle.rkyv_base.specs.declared.adapter.EntryAdapter.{EntryAdapter}
-use Rattle.rkyv_base.specs.Adapter.{pair_of}
-use Rattle.rkyv_base.specs.Entry.{entry_spec}
-use Rattle.rkyv_base.specs.Format.{Format, SerializeFails, Serialized}
-use Rattle.rkyv_base.specs.Pairs.{pair_format, written_as}
-use Rattle.rkyv_base.specs.Scalar.{Encoding, scalar_format}
-use Rattle.rkyv_base.specs.ElementSpec.{ElementSpec}
-use Rattle.rkyv_base.specs.Writing.{Output, Step, end_of}
+use Rattle.rkyv_base.specs.{ElementSpec, Encoding, Format, Output, SerializeFails, Serialized, Step, end_of, entry_spec, pair_format, pair_of, scalar_format, written_as}
 use Rattle.rkyv_base.proofs.WritingSteps.{fails_under}
-use Rattle.rkyv_table.specs.Table.Serializing.{HasCapacity, OwnCause}
-use Rattle.rkyv_table.specs.Table.TableFormat.{PairsNext, TableParts, TableResolver}
-use Rattle.rkyv_index.specs.Index.Writing.{NoOther, OwnOrSerializeFails, pairs_of}
-use Rattle.rkyv_table.specs.Table.Serializing.{WriteItemsFails, WroteItems}
-use Rattle.rkyv_table.specs.Table.ItemValues.{pair_values}
-use Rattle.rkyv_index.specs.Index.IndexFormat.{BeforeRow, BeforeZeros, IndexNext, IndexParts, index_format, indices_from, row_format}
-use Rattle.rkyv_index.specs.Index.IndexHeader.{IndexResolver}
-use Rattle.rkyv_index.specs.Index.Row.{Before, RowImages, RowNext, RowParts, RowPartsNext}
+use Rattle.rkyv_table.specs.{HasCapacity, OwnCause, PairsNext, TableParts, TableResolver, WriteItemsFails, WroteItems, pair_values}
+use Rattle.rkyv_index.specs.{Before, BeforeRow, BeforeZeros, IndexNext, IndexParts, IndexResolver, NoOther, OwnOrSerializeFails, RowImages, RowNext, RowParts, RowPartsNext, index_format, indices_from, pairs_of, row_format}
 use Rattle.rkyv_table.proofs.Through.{own_counted}
 
 module _ {X Y R : Type 0} (value_of : X → Y) (f : Format Y R) where

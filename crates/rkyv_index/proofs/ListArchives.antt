@@ -7,27 +7,17 @@ use Rattle.std.specs.Option.{is_some, option_map}
 use Rattle.std.proofs.lemmas.Bool.{cases_Bool, true≢false}
 use Rattle.std.proofs.lemmas.Iterator.Adapters.{position_from-zero}
 use Rattle.std.proofs.lemmas.Option.{none-some, same_Some, slice_get_within}
-use Rattle.rkyv_base.specs.Empty.{unit_represents}
-use Rattle.rkyv_base.specs.Entry.{entry_spec, value_offset}
+use Rattle.rkyv_base.specs.{IsArchiveWord, IsAt, PairRepresents, entry_spec, unit_represents, value_offset}
 use Rattle.rkyv_base.specs.Lemmas.Entry.{entry_element}
-use Rattle.rkyv_base.specs.Pairs.{PairRepresents}
-use Rattle.rkyv_base.specs.Text.{IsArchiveWord}
-use Rattle.rkyv_base.specs.View.{IsAt}
 use Rattle.rkyv_base.specs.declared.element.HasSpec.{Ghosts as Specs}
 use Rattle.rkyv_base.specs.declared.view.View.{View}
 use Rattle.rkyv_base.specs.declared.width.Word.{Ghosts as Words}
-use Rattle.rkyv_keys.specs.FirstPairs.{FoundValues, IsFoundValue, first_pair}
-use Rattle.rkyv_keys.specs.Keys.{FitsItsEqual}
-use Rattle.rkyv_keys.specs.Natives.{NativeKeys}
+use Rattle.rkyv_keys.specs.{FitsItsEqual, FoundValues, IsFoundValue, NativeKeys, first_pair}
 use Rattle.rkyv_keys.specs.Lemmas.FirstPairs.{FindsByView}
 use Rattle.rkyv_keys.specs.Lemmas.OfEntries.{valid_key}
-use Rattle.rkyv_table.specs.Table.ItemValues.{with_units}
+use Rattle.rkyv_table.specs.{with_units}
 use Rattle.rkyv_table.proofs.Moved.{moved}
-use Rattle.rkyv_index.specs.Index.{IsFoundAt, IsValueAt, IsWritten, fits_at, index_bytes, index_len, index_of, index_pos, key_pos, pair_indices}
-use Rattle.rkyv_index.specs.Index.IndexFormat.{IndexRepresents}
-use Rattle.rkyv_index.specs.Index.ListArchives.{FoundAreListed, index_root}
-use Rattle.rkyv_index.specs.Set.IndexSet.{keys_of}
-use Rattle.rkyv_index.specs.Set.ListArchives.{MembersFoundAreListed}
+use Rattle.rkyv_index.specs.{FoundAreListed, IndexRepresents, IsFoundAt, IsValueAt, IsWritten, MembersFoundAreListed, fits_at, index_bytes, index_len, index_of, index_pos, index_root, key_pos, keys_of, pair_indices}
 use Rattle.rkyv_index.specs.declared.map.ArchivedIndexMap.{ArchivedIndexMap}
 use Rattle.rkyv_index.proofs.ValidIndexMap.{entry_viewable}
 

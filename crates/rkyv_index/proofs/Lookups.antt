@@ -8,24 +8,13 @@ use Rattle.std.specs.List.{find}
 use Rattle.std.specs.Option.{option_map}
 use Rattle.std.proofs.lemmas.List.{get_or-map, length-map}
 use Rattle.std.proofs.lemmas.List.FromFn.{get_or-range_with_len, length-range_with_len}
-use Rattle.rkyv_scan.specs.Groups.{generic_kind}
-use Rattle.rkyv_base.specs.Bytes.{number_at}
-use Rattle.rkyv_base.specs.Entry.{entry_spec}
+use Rattle.rkyv_scan.specs.{generic_kind}
+use Rattle.rkyv_base.specs.{ElementSpec, Encoding, IsAt, IsElement, IsIndexEncoding, IsScalar, bytes_of, entry_spec, number_at, pos_of_found}
 use Rattle.rkyv_base.specs.Lemmas.Entry.{entry_element}
-use Rattle.rkyv_base.specs.Layout.{IsIndexEncoding}
-use Rattle.rkyv_base.specs.Scalar.{Encoding, IsScalar}
-use Rattle.rkyv_base.specs.ElementSpec.{ElementSpec, IsElement}
-use Rattle.rkyv_base.specs.View.{IsAt, bytes_of, pos_of_found}
 use Rattle.rkyv_base.specs.declared.view.View.{View}
-use Rattle.rkyv_table.specs.Controls.Laws.{IsUnderHash}
-use Rattle.rkyv_table.specs.Table.Positions.{IsWalked, WrittenAt, home_positions, item_at}
-use Rattle.rkyv_table.specs.Table.Positions.{lookup_end, pos_found}
-use Rattle.rkyv_table.specs.Table.Reading.{ComparesBy, CountsEnd, FindsFirst, FindsFound, IsItem}
-use Rattle.rkyv_table.specs.Table.Reading.{table_bytes, table_pos}
+use Rattle.rkyv_table.specs.{ComparesBy, CountsEnd, FindsFirst, FindsFound, IsItem, IsUnderHash, IsWalked, WrittenAt, home_positions, item_at, lookup_end, pos_found, table_bytes, table_pos}
 use Rattle.rkyv_table.specs.declared.table.ArchivedHashTable.{ArchivedHashTable}
-use Rattle.rkyv_index.specs.Index.{AreUnderHash, ComparesKeysBy, IsIndexOf, IsKeyOf, IsStored, IsWritten, index_archive, index_bytes, index_found, index_len, index_of, index_pos, index_strides, key_pos}
-use Rattle.rkyv_index.specs.Index.IndexFormat.{IndexWrittenAt}
-use Rattle.rkyv_index.specs.Index.IndexLayout.{indices_of}
+use Rattle.rkyv_index.specs.{AreUnderHash, ComparesKeysBy, IndexWrittenAt, IsIndexOf, IsKeyOf, IsStored, IsWritten, index_archive, index_bytes, index_found, index_len, index_of, index_pos, index_strides, indices_of, key_pos}
 use Rattle.rkyv_index.specs.declared.map.ArchivedIndexMap.{ArchivedIndexMap}
 use Rattle.rkyv_index.proofs.ValidIndexMap.{index_below, index_inside}
 

@@ -2,17 +2,13 @@
 use Rattle.rkyv_base.specs.declared.element.HasSpec.{Ghosts as Specs}
 use Rattle.rkyv_base.specs.declared.width.Word.{Ghosts as Words}
 use Rattle.std.proofs.Common.{◌≡◌, ◌∙◌, ℕ, ap, sym, Bool, List}
-use Rattle.rkyv_scan.specs.Hash.{Hasher, HasherCall, hash_of_calls}
-use Rattle.rkyv_base.specs.Entry.{entry_spec}
+use Rattle.rkyv_scan.specs.{Hasher, HasherCall, hash_of_calls}
+use Rattle.rkyv_base.specs.{ValidAt, bytes_of, entry_spec, pos_of}
 use Rattle.rkyv_base.specs.Lemmas.Entry.{entry_element}
-use Rattle.rkyv_base.specs.ElementSpec.{ValidAt}
-use Rattle.rkyv_keys.specs.Equality.{Comparison}
-use Rattle.rkyv_keys.specs.Keys.{IsQuery}
+use Rattle.rkyv_keys.specs.{Comparison, IsQuery, hash_at}
 use Rattle.rkyv_keys.specs.Lemmas.OfEntries.{valid_key}
-use Rattle.rkyv_keys.specs.Calls.{hash_at}
-use Rattle.rkyv_base.specs.View.{bytes_of, pos_of}
 use Rattle.rkyv_base.specs.declared.view.View.{View}
-use Rattle.rkyv_index.specs.Index.{AreUnderHash, ComparesKeysBy, fits_at, index_archive, index_bytes, index_of, index_pos, key_pos}
+use Rattle.rkyv_index.specs.{AreUnderHash, ComparesKeysBy, fits_at, index_archive, index_bytes, index_of, index_pos, key_pos}
 use Rattle.rkyv_index.specs.declared.map.ArchivedIndexMap.{ArchivedIndexMap}
 use Rattle.rkyv_index.proofs.Checking.{view_at}
 use Rattle.rkyv_index.proofs.ValidIndexMap.{entry_viewable}

@@ -2,16 +2,11 @@
 use Rattle.rkyv_base.specs.declared.element.HasSpec.{Ghosts as Specs}
 use Rattle.rkyv_base.specs.declared.width.Word.{Ghosts as Words}
 use Rattle.std.proofs.Common.{◌≡◌, ℕ, ◌<◌, ◌^◌, Bool, List, Option, refl, subst, sym}
-use Rattle.rkyv_scan.specs.Hash.{Hasher, HasherCall, hash_of_calls}
-use Rattle.rkyv_base.specs.View.{bytes_of, pos_of}
+use Rattle.rkyv_scan.specs.{Hasher, HasherCall, hash_of_calls}
+use Rattle.rkyv_base.specs.{bytes_of, pos_of}
 use Rattle.rkyv_base.specs.declared.view.View.{View}
-use Rattle.rkyv_keys.specs.KeyLookup.{query_of}
-use Rattle.rkyv_keys.specs.Equality.{Comparison}
-use Rattle.rkyv_keys.specs.Keys.{IsQuery}
-use Rattle.rkyv_keys.specs.Calls.{hash_at, hash_of}
-use Rattle.rkyv_index.specs.Index.Complete.{FindsTheOne}
-use Rattle.rkyv_index.specs.Index.{fits_at, index_len, index_of}
-use Rattle.rkyv_index.specs.Index.Lookups.{GetsBy, GetsKey, index_part}
+use Rattle.rkyv_keys.specs.{Comparison, IsQuery, hash_at, hash_of, query_of}
+use Rattle.rkyv_index.specs.{FindsTheOne, GetsBy, GetsKey, fits_at, index_len, index_of, index_part}
 use Rattle.rkyv_index.specs.declared.map.ArchivedIndexMap.{ArchivedIndexMap}
 use Rattle.rkyv_index.proofs.Completeness.{finds_the_one}
 use Rattle.rkyv_index.proofs.Queries.{compares_fits, query_under_hash}

@@ -5,11 +5,10 @@ use Rattle.std.proofs.lemmas.List.{drop-drop, get_or-drop, length-drop, take_mor
 use Rattle.std.proofs.lemmas.Option.{get_or_from_slice_get, slice_get_read, slice_get_within}
 use Rattle.rkyv_base.specs.declared.errors.WriteError.{WriteError}
 use Rattle.rkyv_base.specs.declared.errors.WriteError.TheVariants.{DistanceTooLarge}
-use Rattle.rkyv_base.specs.Format.{Format}
-use Rattle.rkyv_base.specs.Writing.{Appends, Only, Output, Within, WriteFails, end_of, piece}
+use Rattle.rkyv_base.specs.{Appends, Format, Only, Output, Within, WriteFails, end_of, piece}
 use Rattle.rkyv_base.proofs.WritingSteps.{appends_after, end-appends, fails_after, grows}
 use Rattle.rkyv_table.proofs.PartSteps.{part_last, part_longer}
-use Rattle.rkyv_index.specs.Index.Row.{Before, RowImages, RowNext, RowParts, RowPartsNext}
+use Rattle.rkyv_index.specs.{Before, RowImages, RowNext, RowParts, RowPartsNext}
 
 plus_zero : (p : ℕ) → p + 0 ≡ p
 plus_zero p = omega arith

@@ -1,8 +1,8 @@
 -- The positions of a row of values.
 use Rattle.std.proofs.Common.{◌≡◌, ℕ, zero, suc, ◌+◌, ◌-◌, ◌<◌, refl, sym, ◌∙◌, ap, arith, List, ◌∷◌, length}
 use Rattle.std.specs.Borrow.{Bor}
-use Rattle.rkyv_table.specs.Table.RawItems.{ItemsLeft}
-use Rattle.rkyv_index.specs.Index.{row}
+use Rattle.rkyv_table.specs.{ItemsLeft}
+use Rattle.rkyv_index.specs.{row}
 
 -- a row is its first position and the row of the others
 pub row_step : (size q n : ℕ) → 0 < n → row size q n ≡ q ∷ row size (q + size) (n - 1)

@@ -3,14 +3,11 @@ use Rattle.rkyv_base.specs.declared.element.HasSpec.{Ghosts as Specs}
 use Rattle.rkyv_base.specs.declared.width.Word.{Ghosts as Words}
 use Rattle.std.proofs.Common.{◌≡◌, ◌∙◌, ap, subst, Bool, ℕ, List}
 use Rattle.std.specs.Borrow.{Bor}
-use Rattle.rkyv_base.specs.Entry.{entry_spec}
-use Rattle.rkyv_base.specs.View.{bytes_of, pos_of}
+use Rattle.rkyv_base.specs.{bytes_of, entry_spec, pos_of}
 use Rattle.rkyv_base.specs.declared.entry.Entry.{Entry}
 use Rattle.rkyv_base.specs.declared.view.View.{View}
-use Rattle.rkyv_keys.specs.Equality.{Comparison}
-use Rattle.rkyv_keys.specs.OfEntries.{entry_same}
-use Rattle.rkyv_index.specs.Index.Equality.{same_at}
-use Rattle.rkyv_index.specs.Index.{IsEntryOf, index_bytes, index_pos, key_pos}
+use Rattle.rkyv_keys.specs.{Comparison, entry_same}
+use Rattle.rkyv_index.specs.{IsEntryOf, index_bytes, index_pos, key_pos, same_at}
 use Rattle.rkyv_index.specs.declared.map.ArchivedIndexMap.{ArchivedIndexMap}
 
 -- the entries at an index of two maps are the same

@@ -4,14 +4,11 @@ use Rattle.rkyv_base.specs.declared.width.Word.{Ghosts as Words}
 use Rattle.std.proofs.Common.{◌≡◌, ℕ, ◌<◌, ◌∙◌, sym, ap, Bool, List, Option}
 use Rattle.std.specs.Borrow.{Bor}
 use Rattle.std.specs.Int.{Width}
-use Rattle.rkyv_base.specs.ElementSpec.{ElementSpec}
-use Rattle.rkyv_base.specs.View.{pos_of}
+use Rattle.rkyv_base.specs.{ElementSpec, pos_of}
 use Rattle.rkyv_base.specs.declared.view.View.{View}
-use Rattle.rkyv_table.specs.Table.Header.{len_at}
+use Rattle.rkyv_table.specs.{len_at}
 use Rattle.rkyv_table.proofs.Moved.{moved}
-use Rattle.rkyv_index.specs.Index.{AreUnderHash, ComparesKeysBy, FindsFirstIndex, FindsFirstKey, FindsIndex, FindsKey, IsKeyOf, index_bytes, index_of, index_pos}
-use Rattle.rkyv_index.specs.Index.SealedIndex.{IsKeyAt, index_at}
-use Rattle.rkyv_index.specs.Index.ValueWrites.{pair_at}
+use Rattle.rkyv_index.specs.{AreUnderHash, ComparesKeysBy, FindsFirstIndex, FindsFirstKey, FindsIndex, FindsKey, IsKeyAt, IsKeyOf, index_at, index_bytes, index_of, index_pos, pair_at}
 use Rattle.rkyv_index.specs.declared.map.ArchivedIndexMap.{ArchivedIndexMap}
 
 -- the index map that is read has the bytes `b` and the position `p`

@@ -4,22 +4,13 @@ use Rattle.std.specs.Prelude.{unsigned_abs}
 use Rattle.std.specs.Int.{Width, byte_len}
 use Rattle.std.specs.List.{All}
 use Rattle.std.proofs.lemmas.List.Elements.{All-cons, All-contains, All-nil}
-use Rattle.rkyv_base.specs.Bytes.{number_at}
-use Rattle.rkyv_base.specs.Layout.{IsIndexEncoding}
-use Rattle.rkyv_base.specs.Scalar.{Encoding, IsScalar}
-use Rattle.rkyv_base.specs.ElementSpec.{ElementSpec, IsElement, Viewable}
+use Rattle.rkyv_base.specs.{ElementSpec, Encoding, IsArchiveWord, IsElement, IsIndexEncoding, IsScalar, Viewable, number_at}
 use Rattle.rkyv_base.specs.Lemmas.ElementSpec.{valid_at}
-use Rattle.rkyv_base.specs.Text.{IsArchiveWord}
-use Rattle.rkyv_table.specs.Table.Header.{cap_at, len_at}
-use Rattle.rkyv_table.specs.Controls.Placing.{walk}
-use Rattle.rkyv_table.specs.Table.Positions.{IsWalked, item_at, table_controls}
-use Rattle.rkyv_table.specs.Table.Layout.{table_spec}
+use Rattle.rkyv_table.specs.{IsWalked, cap_at, item_at, len_at, table_controls, table_spec, walk}
 use Rattle.rkyv_table.specs.Lemmas.TableLaws.{table_element}
 use Rattle.rkyv_table.proofs.ValidTable.{item_viewable}
 use Rattle.rkyv_table.proofs.Walks.{full_walked}
-use Rattle.rkyv_index.specs.Index.{pair_positions, row}
-use Rattle.rkyv_index.specs.Index.IndexLayout.{entries_pos, pair_pos}
-use Rattle.rkyv_index.specs.Index.IndexLayout.{IsValidIndex, decode_entries, entry_at, index_spec, stored_index_spec}
+use Rattle.rkyv_index.specs.{IsValidIndex, decode_entries, entries_pos, entry_at, index_spec, pair_pos, pair_positions, row, stored_index_spec}
 use Rattle.rkyv_index.specs.Lemmas.IndexLaws.{All-unmap, each_is_valid, entry_inside, stored_index_element}
 use Rattle.rkyv_index.specs.Lemmas.IndexSpecs.{number_table_viewable}
 use Rattle.rkyv_index.proofs.Checking.{entry_aligned}

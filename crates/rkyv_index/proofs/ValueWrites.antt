@@ -7,42 +7,27 @@ use Rattle.std.proofs.Math.Nat.{mul-le-mul_right}
 use Rattle.std.proofs.lemmas.Bool.{cases_eq, cases_lt}
 use Rattle.std.proofs.lemmas.List.{length-set}
 use Rattle.std.proofs.lemmas.Option.{slice_get_within}
-use Rattle.rkyv_scan.specs.Groups.{generic_kind}
+use Rattle.rkyv_scan.specs.{generic_kind}
 use Rattle.rkyv_scan.specs.Lemmas.KindLaws.{word_lawful}
-use Rattle.rkyv_base.specs.Bytes.{AgreeOn, number_at}
-use Rattle.rkyv_base.specs.Entry.{entry_spec, whole_size}
+use Rattle.rkyv_base.specs.{AgreeOn, ElementSpec, IsArchiveWord, IsElement, Keeps, Outside, PairRepresents, RepresentsLocally, Sealed, Viewable, entry_spec, number_at, value_pos, whole_size}
 use Rattle.rkyv_base.specs.Lemmas.Entry.{entry_element, key_and_value_inside, same_key, size_of_small}
 use Rattle.rkyv_base.specs.Lemmas.Entry.{viewable_key, viewable_value}
-use Rattle.rkyv_base.specs.Format.{RepresentsLocally}
-use Rattle.rkyv_base.specs.Pairs.{PairRepresents}
 use Rattle.rkyv_base.specs.Lemmas.Pairs.{pair_local}
-use Rattle.rkyv_base.specs.Sealing.{Keeps, Outside, Sealed, value_pos}
-use Rattle.rkyv_base.specs.ElementSpec.{ElementSpec, IsElement, Viewable}
-use Rattle.rkyv_base.specs.Text.{IsArchiveWord}
 use Rattle.rkyv_base.proofs.Sealing.{entry_kept, same_outside, sealed_wider, valid_outside, viewable_kept}
-use Rattle.rkyv_keys.specs.QueryLaws.{HashLocal, RestsOnKeys}
-use Rattle.rkyv_table.specs.Table.Header.{cap_at, len_at}
-use Rattle.rkyv_table.specs.Controls.Finding.{found}
-use Rattle.rkyv_table.specs.Controls.Numbers.{capacity}
+use Rattle.rkyv_keys.specs.{HashLocal, RestsOnKeys}
+use Rattle.rkyv_table.specs.{AreValidAt, IsWalked, RestsOnKey, SameValue, WritesValue, cap_at, capacity, found, item_at, len_at, table_controls}
 use Rattle.rkyv_table.specs.Lemmas.ItemPositions.{IsValidWithin}
 use Rattle.rkyv_table.specs.Lemmas.ValidItemLaws.{AllBelow}
 use Rattle.rkyv_table.specs.Lemmas.SameHeader.{cap_same, len_same}
 use Rattle.rkyv_table.specs.Lemmas.TableLaws.{table_element}
-use Rattle.rkyv_table.specs.Table.ValidItems.{AreValidAt}
-use Rattle.rkyv_table.specs.Table.Positions.{IsWalked, item_at, table_controls}
-use Rattle.rkyv_table.specs.Table.SealedTable.{RestsOnKey, SameValue, WritesValue}
 use Rattle.rkyv_table.proofs.Lists.{set_each}
 use Rattle.rkyv_table.proofs.ValidTable.{controls_accepted, some_cap}
 use Rattle.rkyv_table.proofs.Misplaced.{found_agree, found_walked}
 use Rattle.rkyv_table.proofs.Walks.{walked_full}
-use Rattle.rkyv_index.specs.Index.{fits_in, index_found}
-use Rattle.rkyv_index.specs.Index.IndexFormat.{IndexRepresents, IndexWrittenAt}
-use Rattle.rkyv_index.specs.Index.IndexLayout.{EntriesIn, IsValidIndex, decode_entries, entries_pos, entry_at, index_spec, indices_of, pair_pos, stored_index_spec}
+use Rattle.rkyv_index.specs.{EntriesIn, IndexRepresents, IndexWrittenAt, IsPairPos, IsValidIndex, KeepsEntries, KeepsIndexMap, decode_entries, entries_pos, entry_at, fits_in, index_found, index_kind, index_spec, indices_of, pair_at, pair_pos, stored_index_spec}
 use Rattle.rkyv_index.specs.Lemmas.IndexLaws.{decoded_same, each_is_valid, entry_inside, head_same, index_again, index_same_at, indices_below, stored_index_element}
 use Rattle.rkyv_table.specs.Lemmas.SameControls.{same_controls}
 use Rattle.rkyv_index.specs.Lemmas.IndexLocal.{written_again}
-use Rattle.rkyv_index.specs.Index.SealedIndex.{IsPairPos}
-use Rattle.rkyv_index.specs.Index.ValueWrites.{KeepsEntries, KeepsIndexMap, index_kind, pair_at}
 use Rattle.rkyv_index.proofs.ValidIndexMap.{begin_is, entries_inside, entry_viewable, index_below, table_there}
 
 -- a write at the position of the value of a pair writes the value of that pair

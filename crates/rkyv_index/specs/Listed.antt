@@ -2,10 +2,10 @@
 -- a list. The hasher is `FxHasher64`, and the load factor 7 / 8.
 use Rattle.std.specs.Prelude.{ℕ, List}
 use Rattle.std.specs.Int.{Width}
-use Rattle.rkyv_base.specs.Members.{ElementMembers}
-use Rattle.rkyv_scan.specs.Hash.{HasherCall, fx_hasher, low_halves}
-use Rattle.rkyv_keys.specs.Calls.{hash_at}
-use Rattle.rkyv_index.specs.Index.IndexFormat.{IndexRepresents}
+use Rattle.rkyv_base.specs.{ElementMembers}
+use Rattle.rkyv_scan.specs.{HasherCall, fx_hasher, low_halves}
+use Rattle.rkyv_keys.specs.{hash_at}
+use Rattle.rkyv_index.specs.Map.IndexFormat.{IndexRepresents}
 use Rattle.rkyv_index.specs.Set.SetFormat.{IndexSetRepresents}
 
 -- the index map at a position represents the pairs of the value in order.

@@ -2,18 +2,15 @@
 //!
 //! `OrderedPairs` is a list of pairs, and `OrderedItems` a list of keys.
 
-ghost use Rattle.rkyv_base.specs.Entry.{entry_spec};
-ghost use Rattle.rkyv_base.specs.Pairs.{written_as};
+ghost use Rattle.rkyv_base.specs.{entry_spec, written_as};
 ghost use Rattle.rkyv_base.specs.Lemmas.Pairs.{written_as-format};
-ghost use Rattle.rkyv_scan.specs.Hash.{fx_hasher, low_halves};
-ghost use Rattle.rkyv_keys.specs.Calls.{hash_at, hash_of};
-ghost use Rattle.rkyv_index.specs.Index.IndexFormat.{IndexRepresents, index_format};
-ghost use Rattle.rkyv_index.specs.Index.IndexLayout.{index_spec};
+ghost use Rattle.rkyv_scan.specs.{fx_hasher, low_halves};
+ghost use Rattle.rkyv_keys.specs.{hash_at, hash_of};
+ghost use Rattle.rkyv_index.specs.{IndexRepresents, IndexSetRepresents, index_format};
+ghost use Rattle.rkyv_index.specs.{index_set_format, index_set_spec, index_spec};
 ghost use Rattle.rkyv_index.specs.Lemmas.IndexLocal.{index_represents_local};
 ghost use Rattle.rkyv_index.specs.Lemmas.IndexSound.{index_sound};
-ghost use Rattle.rkyv_table.specs.Table.Listed.{listed, listed_format};
-ghost use Rattle.rkyv_index.specs.Set.SetFormat.{IndexSetRepresents, index_set_format};
-ghost use Rattle.rkyv_index.specs.Set.IndexSet.{index_set_spec};
+ghost use Rattle.rkyv_table.specs.{listed, listed_format};
 ghost use Rattle.rkyv_index.specs.Lemmas.SetSound.{index_set_local, index_set_sound};
 
 use crate::map::write::resolve::IndexMapResolver;

@@ -5,12 +5,11 @@
 //! - `in_place` writes values over the bytes of an archive.
 //! - `laws` has laws that a proof cites.
 ghost use Rattle.std.specs.Prelude.{◌≡◌, ⊤};
-ghost use Rattle.rkyv_base.specs.Entry.{entry_spec};
+ghost use Rattle.rkyv_base.specs.{IsValidView, entry_spec};
 ghost use Rattle.rkyv_base.specs.Lemmas.Entry.{entry_element};
 ghost use Rattle.rkyv_base.specs.Lemmas.ElementSpec.{viewable_prop};
-ghost use Rattle.rkyv_base.specs.View.{IsValidView};
-ghost use Rattle.rkyv_table.specs.Table.Decoded.{IsDecoded};
-ghost use Rattle.rkyv_index.specs.Index.IndexLayout.{entries_pos, index_spec};
+ghost use Rattle.rkyv_table.specs.{IsDecoded};
+ghost use Rattle.rkyv_index.specs.Map.IndexLayout.{entries_pos, index_spec};
 ghost use Rattle.rkyv_index.specs.Lemmas.IndexLaws.{index_element};
 
 mod check;

@@ -1,8 +1,8 @@
 //! Round trips: lists that are written as index maps and index sets, opened and deserialized.
 
 ghost use Rattle.std.specs.Prelude.{◌≡◌, IfErr, IfOk, true};
-ghost use Rattle.rkyv_keys.specs.RoundTrips.{HasArchive, RoundTripFails};
-ghost use Rattle.rkyv_index.specs.Index.Reading.{items_trip, pairs_trip};
+ghost use Rattle.rkyv_keys.specs.{HasArchive, RoundTripFails};
+ghost use Rattle.rkyv_index.specs.{items_trip, pairs_trip};
 
 use crate::lists::{OrderedItems, OrderedPairs};
 use crate::map::laws::pairs_read_back_are_listed;

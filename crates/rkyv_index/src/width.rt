@@ -5,7 +5,7 @@
 ghost use Rattle.std.specs.Prelude.{◌≡◌, ◌<◌, ◌^◌};
 ghost use Rattle.std.proofs.Common.{refl};
 ghost use mir.Val.{bits};
-ghost use Rattle.rkyv_index.specs.Index.IndexFormat.{CodesReadBack};
+ghost use Rattle.rkyv_index.specs.{CodesReadBack};
 
 use rkyv_base::width::{Narrow, Wide, Width};
 

@@ -1,6 +1,6 @@
 -- Regions that cover the bytes of an archive.
 use Rattle.std.proofs.Common.{◌≡◌, ◌∙◌, ◌<◌, ℕ, List, [], ◌∷◌, ◌++◌, refl, sym, subst}
-use Rattle.rkyv_inspect.specs.Regions.{Covers}
+use Rattle.rkyv_inspect.specs.{Covers}
 use Rattle.rkyv_inspect.specs.declared.regions.Region.{Region}
 
 -- one more region, from the end of the last one on

@@ -1,11 +1,9 @@
 -- Inspections by the types and the kind of the contents.
 use Rattle.std.proofs.Common.{◌≡◌, ◌∙◌, ap, inl, sym, subst, true, Result}
-use Rattle.rkyv_base.specs.ElementSpec.{ElementSpec}
+use Rattle.rkyv_base.specs.{ElementSpec}
 use Rattle.rkyv_container.specs.declared.contents.ItemType.{ItemType}
 use Rattle.rkyv_container.specs.declared.contents.Kind.{Kind}
-use Rattle.rkyv_inspect.specs.Collections.{is_key_type, keys_of}
-use Rattle.rkyv_inspect.specs.Inspections.{Inspects, InspectsKeys, InspectsValues, Target}
-use Rattle.rkyv_inspect.specs.Summaries.{KeyType}
+use Rattle.rkyv_inspect.specs.{Inspects, InspectsKeys, InspectsValues, KeyType, Target, is_key_type, keys_of}
 use Rattle.rkyv_inspect.specs.declared.errors.InspectError.{InspectError}
 use Rattle.rkyv_inspect.specs.declared.inspection.Inspection.{Inspection}
 

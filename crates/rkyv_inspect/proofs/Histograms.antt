@@ -4,7 +4,7 @@ use Rattle.std.specs.List.{count_by, sum}
 use Rattle.std.proofs.lemmas.Bool.{cases_eq, cases_lt, eq-eqb, ne_eqb}
 use Rattle.std.proofs.lemmas.List.{get_or-replicate, get_or-set_other, get_or-set_same, get_or_past, length-replicate}
 use Rattle.std.proofs.lemmas.List.Sums.{sum_by-cons, sum_by-set}
-use Rattle.rkyv_inspect.specs.Histogram.{IsHistogram, with_one_more}
+use Rattle.rkyv_inspect.specs.{IsHistogram, with_one_more}
 
 -- the histogram of the items that were counted, and the items that remain
 pub record Partial (f : ℕ → ℕ) (items left counts : List ℕ) : Type 0 where

@@ -2,14 +2,14 @@
 use Rattle.std.proofs.Common.{◌≡◌, ◌∙◌, ◌<◌, ℕ, ap, arith, inl, inr, refl, subst, sym, Bool, List}
 use Rattle.std.specs.Borrow.{Bor}
 use Rattle.std.proofs.lemmas.Bool.{cases_eq}
-use Rattle.rkyv_base.specs.View.{bytes_of, pos_of}
+use Rattle.rkyv_base.specs.{bytes_of, pos_of}
 use Rattle.rkyv_base.specs.declared.element.HasSpec.{Ghosts as Specs}
 use Rattle.rkyv_base.specs.declared.view.View.{View}
 use Rattle.rkyv_base.specs.declared.width.Word.{Ghosts as Words}
-use Rattle.rkyv_keys.specs.Equality.{Comparison}
-use Rattle.rkyv_table.specs.Table.Reading.{ComparesBy, table_bytes}
+use Rattle.rkyv_keys.specs.{Comparison}
+use Rattle.rkyv_table.specs.{ComparesBy, table_bytes}
 use Rattle.rkyv_table.specs.declared.table.ArchivedHashTable.{ArchivedHashTable}
-use Rattle.rkyv_inspect.specs.Summaries.{some_controls}
+use Rattle.rkyv_inspect.specs.{some_controls}
 
 -- a comparison with the key at `q` depends only on the position of an item
 pub compares_by_position : {T W : Type 0} {ts : Specs T} {wt : Words W} (t : ArchivedHashTable T W ts wt) (same : Comparison) (q : ℕ) (post : View T → Bool → Type 0)

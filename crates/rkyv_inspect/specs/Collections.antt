@@ -1,36 +1,20 @@
 -- The types, widths and kinds of archived collections.
 use Rattle.std.specs.Prelude.{ℕ, ◌==◌, Bool, [], ◌∷◌, true, false}
 use Rattle.std.specs.Int.{Width, w32, w64}
-use Rattle.rkyv_scan.specs.Hash.{HasherCall, U32 as CallsU32, U64 as CallsU64, fx_hash}
-use Rattle.rkyv_scan.specs.Hash.{low_halves}
-use Rattle.rkyv_base.specs.Bytes.{number_at}
-use Rattle.rkyv_base.specs.Empty.{unit_spec}
-use Rattle.rkyv_base.specs.Entry.{entry_spec}
-use Rattle.rkyv_base.specs.ElementSpec.{ElementSpec}
-use Rattle.rkyv_base.specs.Numbers.{unsigned}
-use Rattle.rkyv_base.specs.Scalar.{scalar_spec}
-use Rattle.rkyv_base.specs.Text.{text_at, text_spec}
-use Rattle.rkyv_collections.specs.Map.MapSpec.{map_spec}
+use Rattle.rkyv_scan.specs.{HasherCall, U32 as CallsU32, U64 as CallsU64, fx_hash, low_halves}
+use Rattle.rkyv_base.specs.{ElementSpec, entry_spec, number_at, scalar_spec, text_at, text_spec}
+use Rattle.rkyv_base.specs.{unit_spec, unsigned}
+use Rattle.rkyv_collections.specs.{map_spec}
 use Rattle.rkyv_container.specs.declared.contents.ItemType.{ItemType}
-use Rattle.rkyv_container.specs.declared.contents.ItemType.TheVariants.{
-  Text,
-  U32,
-  U64,
-  Unit as UnitType,
-}
+use Rattle.rkyv_container.specs.declared.contents.ItemType.TheVariants.{Text, U32, U64}
+use Rattle.rkyv_container.specs.declared.contents.ItemType.TheVariants.{Unit as UnitType}
 use Rattle.rkyv_container.specs.declared.contents.Kind.{Kind}
-use Rattle.rkyv_container.specs.declared.contents.Kind.TheVariants.{
-  HashMap,
-  HashSet,
-  IndexMap,
-  IndexSet,
-}
+use Rattle.rkyv_container.specs.declared.contents.Kind.TheVariants.{HashMap, HashSet, IndexMap}
+use Rattle.rkyv_container.specs.declared.contents.Kind.TheVariants.{IndexSet}
 use Rattle.rkyv_container.specs.declared.contents.Width.{Width as ArchiveWidth}
 use Rattle.rkyv_container.specs.declared.contents.Width.TheVariants.{Narrow, Wide}
-use Rattle.rkyv_index.specs.Index.IndexLayout.{index_spec}
-use Rattle.rkyv_keys.specs.Calls.{text_calls}
-use Rattle.rkyv_keys.specs.OfTexts.{same_bytes}
-use Rattle.rkyv_keys.specs.OfUnits.{unit_calls, unit_same}
+use Rattle.rkyv_index.specs.{index_spec}
+use Rattle.rkyv_keys.specs.{same_bytes, text_calls, unit_calls, unit_same}
 use Rattle.rkyv_inspect.specs.Summaries.{KeyType, key_type}
 
 -- the word of a count or a distance

@@ -2,27 +2,19 @@
 use Rattle.std.specs.Prelude.{◌≡◌, ℕ, ◌-◌, ◌⊎◌, ⊤, Err, List, MatchResult, Result, false, length}
 use Rattle.std.specs.Prelude.{true}
 use Rattle.std.specs.Int.{Width}
-use Rattle.rkyv_base.specs.Access.{AccessFails, IsValidArchive}
-use Rattle.rkyv_base.specs.ElementSpec.{ElementSpec}
+use Rattle.rkyv_base.specs.{AccessFails, ElementSpec, IsValidArchive}
 use Rattle.rkyv_container.specs.declared.contents.Contents.{Contents}
 use Rattle.rkyv_container.specs.declared.contents.Kind.{Kind}
-use Rattle.rkyv_container.specs.declared.contents.Kind.TheVariants.{
-  HashMap,
-  HashSet,
-  IndexMap,
-  IndexSet,
-}
+use Rattle.rkyv_container.specs.declared.contents.Kind.TheVariants.{HashMap, HashSet, IndexMap}
+use Rattle.rkyv_container.specs.declared.contents.Kind.TheVariants.{IndexSet}
 use Rattle.rkyv_inspect.specs.Collections.{is_key_type, is_value_type, keys_of, limit_of}
 use Rattle.rkyv_inspect.specs.Collections.{root_spec, value_spec, word_of}
 use Rattle.rkyv_inspect.specs.Regions.{Covers}
 use Rattle.rkyv_inspect.specs.Summaries.{IsIndexSummary, IsMapSummary, KeyType, KeyedMap}
 use Rattle.rkyv_inspect.specs.Summaries.{keyed_map}
 use Rattle.rkyv_inspect.specs.declared.errors.InspectError.{InspectError}
-use Rattle.rkyv_inspect.specs.declared.errors.InspectError.TheVariants.{
-  Invalid,
-  Memory,
-  Unsupported,
-}
+use Rattle.rkyv_inspect.specs.declared.errors.InspectError.TheVariants.{Invalid, Memory}
+use Rattle.rkyv_inspect.specs.declared.errors.InspectError.TheVariants.{Unsupported}
 use Rattle.rkyv_inspect.specs.declared.inspection.Inspection.{Inspection}
 use Rattle.rkyv_inspect.specs.declared.summary.Summary.{Summary}
 

@@ -3,16 +3,12 @@ use Rattle.std.specs.Prelude.{◌≡◌, ℕ, ◌==◌, ◌<◌, ◌≤◌, ◌^
 use Rattle.std.specs.Prelude.{None, Option, Some, cond, filter, length, not}
 use Rattle.std.specs.Int.{Width}
 use Rattle.std.specs.List.{sum_by}
-use Rattle.rkyv_scan.specs.Groups.{generic_kind}
-use Rattle.rkyv_base.specs.Entry.{entry_spec}
-use Rattle.rkyv_base.specs.ElementSpec.{ElementSpec}
-use Rattle.rkyv_keys.specs.Equality.{Comparison}
-use Rattle.rkyv_table.specs.Table.Header.{cap_at, controls_pos, len_at}
-use Rattle.rkyv_table.specs.Table.Misplaced.{is_found_at}
-use Rattle.rkyv_table.specs.Table.Positions.{item_positions, lookup_end}
-use Rattle.rkyv_collections.specs.Map.Misplaced.{map_misplaced, map_strides}
-use Rattle.rkyv_index.specs.Index.{index_found, index_strides}
-use Rattle.rkyv_index.specs.Index.IndexLayout.{indices_of, pair_pos}
+use Rattle.rkyv_scan.specs.{generic_kind}
+use Rattle.rkyv_base.specs.{ElementSpec, entry_spec}
+use Rattle.rkyv_keys.specs.{Comparison}
+use Rattle.rkyv_table.specs.{cap_at, controls_pos, is_found_at, item_positions, len_at, lookup_end}
+use Rattle.rkyv_collections.specs.{map_misplaced, map_strides}
+use Rattle.rkyv_index.specs.{index_found, index_strides, indices_of, pair_pos}
 use Rattle.rkyv_inspect.specs.Histogram.{IsHistogram}
 use Rattle.rkyv_inspect.specs.declared.summary.Lookups.{Lookups}
 use Rattle.rkyv_inspect.specs.declared.summary.Summary.{Summary}

@@ -1,10 +1,6 @@
 //! The types of keys and values that are shown.
 ghost use Rattle.std.specs.Int.{w32, w64};
-ghost use Rattle.rkyv_base.specs.Empty.{unit_spec};
-ghost use Rattle.rkyv_base.specs.Numbers.{unsigned};
-ghost use Rattle.rkyv_base.specs.Scalar.{scalar_spec};
-ghost use Rattle.rkyv_base.specs.Text.{text_spec};
-ghost use Rattle.rkyv_base.specs.View.{IsValidView};
+ghost use Rattle.rkyv_base.specs.{IsValidView, scalar_spec, text_spec, unit_spec, unsigned};
 
 use rkyv_base::element::{Element, PartRange};
 use rkyv_base::entry::Entry;

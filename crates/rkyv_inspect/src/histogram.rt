@@ -1,6 +1,6 @@
 //! Histograms of numbers.
 ghost use Rattle.std.specs.Prelude.{IfOk, length, replicate, sum, ◌+◌, ◌<◌, ◌^◌, ◌≡◌};
-ghost use Rattle.rkyv_inspect.specs.Histogram.{with_one_more};
+ghost use Rattle.rkyv_inspect.specs.{with_one_more};
 
 use std::alloc::{AllocError, Global};
 

@@ -1,9 +1,8 @@
 //! The regions of the archive of an index map.
 ghost use Rattle.std.specs.Prelude.{IfOk, OnOk, length, ◌≡◌, ◌≤◌};
-ghost use Rattle.rkyv_base.specs.Entry.{entry_spec};
-ghost use Rattle.rkyv_base.specs.View.{IsValidView, bytes_of};
-ghost use Rattle.rkyv_index.specs.Index.IndexLayout.{index_spec};
-ghost use Rattle.rkyv_inspect.specs.Regions.{Covers, IsRegionList};
+ghost use Rattle.rkyv_base.specs.{IsValidView, bytes_of, entry_spec};
+ghost use Rattle.rkyv_index.specs.{index_spec};
+ghost use Rattle.rkyv_inspect.specs.{Covers, IsRegionList};
 
 use crate::fields::{Field, pair_text};
 use crate::index_summary::header_of;

@@ -1,15 +1,11 @@
 //! Summaries of index maps.
 ghost use Rattle.std.specs.Prelude.{IfOk, ◌/◌, ◌<◌, ◌≡◌, ◌≤◌};
-ghost use Rattle.rkyv_base.specs.Entry.{entry_spec};
-ghost use Rattle.rkyv_base.specs.View.{IsValidView, bytes_of, pos_of};
-ghost use Rattle.rkyv_keys.specs.Calls.{hash_at};
-ghost use Rattle.rkyv_index.specs.Index.IndexLayout.{index_spec};
-ghost use Rattle.rkyv_index.specs.Index.{IsKeyOf, index_bytes, index_len, index_pos};
-ghost use Rattle.rkyv_table.specs.Controls.Numbers.{probe_capacity};
-ghost use Rattle.rkyv_table.specs.Table.Decoded.{IsDecoded};
-ghost use Rattle.rkyv_table.specs.Table.Header.{cap_at};
-ghost use Rattle.rkyv_inspect.specs.Summaries.{CountsIndexStrides, IsIndexSummary, LooksUpIndices};
-ghost use Rattle.rkyv_inspect.specs.Summaries.{index_key_strides, key_type, keyed_map};
+ghost use Rattle.rkyv_base.specs.{IsValidView, bytes_of, entry_spec, pos_of};
+ghost use Rattle.rkyv_keys.specs.{hash_at};
+ghost use Rattle.rkyv_index.specs.{IsKeyOf, index_bytes, index_len, index_pos, index_spec};
+ghost use Rattle.rkyv_table.specs.{IsDecoded, cap_at, probe_capacity};
+ghost use Rattle.rkyv_inspect.specs.{CountsIndexStrides, IsIndexSummary, LooksUpIndices};
+ghost use Rattle.rkyv_inspect.specs.{index_key_strides, key_type, keyed_map};
 
 use crate::histogram::{count_one, zeros};
 use crate::map_summary::{controls_of, most_strides};

@@ -1,9 +1,8 @@
 //! Inspections of archives of all kinds, types and widths.
-ghost use Rattle.rkyv_scan.specs.Hash.{fx_hasher, low_halves};
-ghost use Rattle.rkyv_keys.specs.Calls.{hash_at};
-ghost use Rattle.rkyv_inspect.specs.Inspections.{Inspects, InspectsContents, InspectsKeys};
-ghost use Rattle.rkyv_inspect.specs.Inspections.{InspectsValues, target};
-ghost use Rattle.rkyv_inspect.specs.Summaries.{key_type};
+ghost use Rattle.rkyv_scan.specs.{fx_hasher, low_halves};
+ghost use Rattle.rkyv_keys.specs.{hash_at};
+ghost use Rattle.rkyv_inspect.specs.{Inspects, InspectsContents, InspectsKeys, InspectsValues};
+ghost use Rattle.rkyv_inspect.specs.{key_type, target};
 
 use crate::errors::InspectError;
 use crate::fields::Field;

@@ -1,9 +1,9 @@
 //! The regions of the archive of a hash map.
 ghost use Rattle.std.specs.Prelude.{IfOk, OnOk, length, ◌*◌, ◌+◌, ◌≡◌, ◌≤◌};
 ghost use Rattle.std.specs.Int.{byte_len};
-ghost use Rattle.rkyv_base.specs.View.{IsValidView, bytes_of};
-ghost use Rattle.rkyv_collections.specs.Map.MapSpec.{map_spec};
-ghost use Rattle.rkyv_inspect.specs.Regions.{Covers, IsRegionList};
+ghost use Rattle.rkyv_base.specs.{IsValidView, bytes_of};
+ghost use Rattle.rkyv_collections.specs.{map_spec};
+ghost use Rattle.rkyv_inspect.specs.{Covers, IsRegionList};
 
 use crate::fields::{Field, Part};
 use crate::regions::{Region, RegionKind, RegionList};

@@ -1,15 +1,11 @@
 //! Summaries of hash maps.
 ghost use Rattle.std.specs.Prelude.{IfOk, ◌/◌, ◌≡◌, ◌≤◌};
-ghost use Rattle.rkyv_base.specs.Entry.{entry_spec};
-ghost use Rattle.rkyv_base.specs.View.{IsValidView, archive_of, bytes_of, pos_of};
-ghost use Rattle.rkyv_keys.specs.Calls.{hash_at};
-ghost use Rattle.rkyv_collections.specs.Map.MapSpec.{map_spec};
-ghost use Rattle.rkyv_table.specs.Controls.Numbers.{probe_capacity};
-ghost use Rattle.rkyv_table.specs.Table.Header.{cap_at};
-ghost use Rattle.rkyv_table.specs.Table.Reading.{table_bytes, table_pos};
-ghost use Rattle.rkyv_inspect.specs.Summaries.{CountsKeyStrides, IsMapSummary, LooksUpKeys};
-ghost use Rattle.rkyv_inspect.specs.Summaries.{key_strides, key_type, keyed_map};
-ghost use Rattle.rkyv_inspect.specs.Summaries.{some_controls};
+ghost use Rattle.rkyv_base.specs.{IsValidView, archive_of, bytes_of, entry_spec, pos_of};
+ghost use Rattle.rkyv_keys.specs.{hash_at};
+ghost use Rattle.rkyv_collections.specs.{map_spec};
+ghost use Rattle.rkyv_table.specs.{cap_at, probe_capacity, table_bytes, table_pos};
+ghost use Rattle.rkyv_inspect.specs.{CountsKeyStrides, IsMapSummary, LooksUpKeys, key_strides};
+ghost use Rattle.rkyv_inspect.specs.{key_type, keyed_map, some_controls};
 
 use crate::histogram::{count_one, zeros};
 use crate::summary::{Lookups, Summary};

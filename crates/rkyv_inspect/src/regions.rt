@@ -1,6 +1,6 @@
 //! The regions of an archive: its bytes, field by field.
 ghost use Rattle.std.specs.Prelude.{IfOk, OnOk, length, max, min, ◌≡◌, ◌≤◌};
-ghost use Rattle.rkyv_inspect.specs.Regions.{Covers, IsRegionList};
+ghost use Rattle.rkyv_inspect.specs.{Covers, IsRegionList};
 
 use std::alloc::{AllocError, Global};
 

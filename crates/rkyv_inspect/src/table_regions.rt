@@ -1,6 +1,6 @@
 //! The regions of the buckets and control bytes of a table.
 ghost use Rattle.std.specs.Prelude.{OnOk, ◌≡◌};
-ghost use Rattle.rkyv_inspect.specs.Regions.{IsRegionList};
+ghost use Rattle.rkyv_inspect.specs.{IsRegionList};
 
 use crate::fields::{Field, pair_text};
 use crate::regions::{RegionKind, RegionList, bytes_in};

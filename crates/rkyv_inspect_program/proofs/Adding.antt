@@ -4,18 +4,7 @@ use Rattle.std.specs.List.{cons_option}
 use Rattle.std.specs.Option.{option_or}
 use Rattle.std.proofs.lemmas.List.{append-nil}
 use Rattle.rkyv_inspect_program.specs.declared.options.Options.{Options}
-use Rattle.rkyv_inspect_program.specs.CommandLines.{
-  Argument,
-  file_in,
-  is_color,
-  is_help,
-  is_svg,
-  key_in,
-  kind_in,
-  of_file,
-  value_in,
-  width_in,
-}
+use Rattle.rkyv_inspect_program.specs.{Argument, file_in, is_color, is_help, is_svg, key_in, kind_in, of_file, value_in, width_in}
 
 -- the file of options, as a list
 abbrev pub files_of : Options → List (List ℕ)

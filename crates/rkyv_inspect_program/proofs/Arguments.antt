@@ -23,23 +23,8 @@ use Rattle.std.proofs.Common.{
 }
 use Rattle.std.proofs.lemmas.Option.{none-some, same_Some}
 use Rattle.rkyv_inspect_program.specs.declared.options.Name.{Name}
-use Rattle.rkyv_inspect_program.specs.declared.options.Name.TheVariants.{
-  Color,
-  Help,
-  Key,
-  Kind,
-  Svg,
-  Value,
-  Width,
-}
-use Rattle.rkyv_inspect_program.specs.Options.{name_of}
-use Rattle.rkyv_inspect_program.specs.CommandLines.{
-  Argument,
-  MakeUp,
-  argument_of,
-  pair_argument,
-  word_argument,
-}
+use Rattle.rkyv_inspect_program.specs.declared.options.Name.TheVariants.{Color, Help, Key, Kind, Svg, Value, Width}
+use Rattle.rkyv_inspect_program.specs.{Argument, MakeUp, argument_of, name_of, pair_argument, word_argument}
 
 -- the words of pieces
 abbrev pub joined_words : List (List (List ℕ)) → List (List ℕ)

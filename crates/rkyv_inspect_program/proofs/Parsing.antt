@@ -10,35 +10,7 @@ use Rattle.std.proofs.lemmas.Option.{none-some, same_Some}
 use Rattle.rkyv_inspect_program.specs.declared.options.Name.{Name}
 use Rattle.rkyv_inspect_program.specs.declared.options.Options.{Options}
 use Rattle.rkyv_inspect_program.specs.declared.options.Words.{Words}
-use Rattle.rkyv_inspect_program.specs.Options.{name_of}
-use Rattle.rkyv_inspect_program.specs.CommandLines.{
-  Argument,
-  EndsWithName,
-  IsAfter,
-  MakeUp,
-  NamesAwaiting,
-  NamesNoOptions,
-  NamesNone,
-  NamesOptions,
-  NamesSoFar,
-  SetOptions,
-  argument_of,
-  awaiting,
-  file_in,
-  flag_argument,
-  is_color,
-  is_help,
-  is_svg,
-  key_in,
-  kind_in,
-  of_file,
-  option_argument,
-  pair_argument,
-  value_in,
-  whole,
-  width_in,
-  word_argument,
-}
+use Rattle.rkyv_inspect_program.specs.{Argument, EndsWithName, IsAfter, MakeUp, NamesAwaiting, NamesNoOptions, NamesNone, NamesOptions, NamesSoFar, SetOptions, argument_of, awaiting, file_in, flag_argument, is_color, is_help, is_svg, key_in, kind_in, name_of, of_file, option_argument, pair_argument, value_in, whole, width_in, word_argument}
 use Rattle.rkyv_inspect_program.proofs.Adding.{Adds, files_of}
 use Rattle.rkyv_inspect_program.proofs.Arguments.{IsFirst, continues_from, first_argument, head_equal, joined_words, nil_cons, tail_equal}
 

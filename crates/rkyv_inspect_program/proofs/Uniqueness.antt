@@ -4,14 +4,7 @@ use Rattle.std.proofs.lemmas.List.{append-nil}
 use Rattle.std.proofs.lemmas.Option.{none-some}
 use Rattle.rkyv_container.specs.declared.contents.Width.TheVariants.{Narrow}
 use Rattle.rkyv_inspect_program.specs.declared.options.Options.{Options}
-use Rattle.rkyv_inspect_program.specs.Options.{IsBare, IsIncomplete, NamesNoContents, value_of}
-use Rattle.rkyv_inspect_program.specs.CommandLines.{
-  Argument,
-  MakeUp,
-  NamesOptions,
-  SetOptions,
-  argument_of,
-}
+use Rattle.rkyv_inspect_program.specs.{Argument, IsBare, IsIncomplete, MakeUp, NamesNoContents, NamesOptions, SetOptions, argument_of, value_of}
 use Rattle.rkyv_inspect_program.proofs.Adding.{files_of}
 use Rattle.rkyv_inspect_program.proofs.Arguments.{
   continues_from,

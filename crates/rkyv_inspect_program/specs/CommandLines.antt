@@ -1,25 +1,7 @@
 -- Command lines: the arguments that words make up, and the options that arguments give.
-use Rattle.std.specs.Prelude.{
-  ◌≡◌,
-  ◌++◌,
-  ℕ,
-  Bool,
-  true,
-  false,
-  List,
-  [],
-  ◌∷◌,
-  map,
-  filter_map,
-  flat_map,
-  Option,
-  Some,
-  None,
-  MatchOption,
-  option_map,
-  option_to_list,
-  if◌then◌else◌,
-}
+use Rattle.std.specs.Prelude.{Bool, List, MatchOption, None, Option, Some, [], false, filter_map}
+use Rattle.std.specs.Prelude.{flat_map, if◌then◌else◌, map, option_map, option_to_list, true, ℕ}
+use Rattle.std.specs.Prelude.{◌++◌, ◌∷◌, ◌≡◌}
 use Rattle.std.specs.List.{last_or, list_any}
 use Rattle.std.specs.Str.Parse.{starts_with_minus}
 use Rattle.rkyv_container.specs.declared.contents.ItemType.{ItemType}
@@ -28,22 +10,10 @@ use Rattle.rkyv_container.specs.declared.contents.Width.{Width as ArchiveWidth}
 use Rattle.rkyv_inspect_program.specs.declared.options.Options.{Options}
 use Rattle.rkyv_inspect_program.specs.declared.options.Words.{Words}
 use Rattle.rkyv_inspect_program.specs.declared.options.Name.{Name}
-use Rattle.rkyv_inspect_program.specs.declared.options.Name.TheVariants.{
-  Color,
-  Help,
-  Key,
-  Kind,
-  Svg,
-  Value,
-  Width,
-}
-use Rattle.rkyv_inspect_program.specs.Options.{
-  IsIncomplete,
-  kind_named,
-  name_of,
-  type_named,
-  width_named,
-}
+use Rattle.rkyv_inspect_program.specs.declared.options.Name.TheVariants.{Color, Help, Key, Kind}
+use Rattle.rkyv_inspect_program.specs.declared.options.Name.TheVariants.{Svg, Value, Width}
+use Rattle.rkyv_inspect_program.specs.Options.{IsIncomplete, kind_named, name_of, type_named}
+use Rattle.rkyv_inspect_program.specs.Options.{width_named}
 
 -- an argument: an option with its value, a flag, or a file
 pub data Argument : Type 0 where

@@ -1,47 +1,20 @@
 -- The options of a command line.
-use Rattle.std.specs.Prelude.{
-  ◌≡◌,
-  ◌⊎◌,
-  ℕ,
-  List,
-  Option,
-  Some,
-  None,
-  IsSome,
-  false,
-  unwrap_or,
-  codes,
-  if◌then◌else◌,
-}
+use Rattle.std.specs.Prelude.{IsSome, List, None, Option, Some, codes, false, if◌then◌else◌}
+use Rattle.std.specs.Prelude.{unwrap_or, ℕ, ◌≡◌, ◌⊎◌}
 use Rattle.std.specs.Str.{bytes_eq}
 use Rattle.rkyv_container.specs.declared.contents.Contents.{Contents}
 use Rattle.rkyv_container.specs.declared.contents.ItemType.{ItemType}
-use Rattle.rkyv_container.specs.declared.contents.ItemType.TheVariants.{
-  Text,
-  U32,
-  U64,
-  Unit as UnitType,
-}
+use Rattle.rkyv_container.specs.declared.contents.ItemType.TheVariants.{Text, U32, U64}
+use Rattle.rkyv_container.specs.declared.contents.ItemType.TheVariants.{Unit as UnitType}
 use Rattle.rkyv_container.specs.declared.contents.Kind.{Kind as Collection}
-use Rattle.rkyv_container.specs.declared.contents.Kind.TheVariants.{
-  HashMap,
-  HashSet,
-  IndexMap,
-  IndexSet,
-}
+use Rattle.rkyv_container.specs.declared.contents.Kind.TheVariants.{HashMap, HashSet, IndexMap}
+use Rattle.rkyv_container.specs.declared.contents.Kind.TheVariants.{IndexSet}
 use Rattle.rkyv_container.specs.declared.contents.Width.{Width as ArchiveWidth}
 use Rattle.rkyv_container.specs.declared.contents.Width.TheVariants.{Narrow, Wide}
 use Rattle.rkyv_inspect_program.specs.declared.options.Options.{Options}
 use Rattle.rkyv_inspect_program.specs.declared.options.Name.{Name}
-use Rattle.rkyv_inspect_program.specs.declared.options.Name.TheVariants.{
-  Color,
-  Help,
-  Key,
-  Kind,
-  Svg,
-  Value,
-  Width,
-}
+use Rattle.rkyv_inspect_program.specs.declared.options.Name.TheVariants.{Color, Help, Key, Kind}
+use Rattle.rkyv_inspect_program.specs.declared.options.Name.TheVariants.{Svg, Value, Width}
 
 -- the option of this name
 abbrev pub name_of : List ℕ → Option Name

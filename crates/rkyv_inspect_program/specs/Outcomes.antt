@@ -1,7 +1,7 @@
 -- The outcomes of the program, and their exit statuses.
 use Rattle.std.specs.Prelude.{Err, List, Ok, Result, ℕ, ◌≡◌}
 use Rattle.rkyv_container.specs.declared.contents.Contents.{Contents}
-use Rattle.rkyv_inspect.specs.Inspections.{InspectsContents}
+use Rattle.rkyv_inspect.specs.{InspectsContents}
 use Rattle.rkyv_inspect.specs.declared.errors.InspectError.{InspectError}
 use Rattle.rkyv_inspect.specs.declared.errors.InspectError.TheVariants.{Invalid as InvalidArchive}
 use Rattle.rkyv_inspect.specs.declared.inspection.Inspection.{Inspection}

@@ -1,5 +1,5 @@
 //! The errors of the program.
-ghost use Rattle.rkyv_inspect_program.specs.Outcomes.{IsCausedBy};
+ghost use Rattle.rkyv_inspect_program.specs.{IsCausedBy};
 
 use rkyv_base::errors::VerifyError;
 use rkyv_container::ContainerError;

@@ -2,9 +2,8 @@
 #![tactic(auto)]
 
 ghost use Rattle.std.specs.Prelude.{IfOk, Ok, map, string_bytes, ◌↔◌, ◌≡◌};
-ghost use Rattle.rkyv_inspect.specs.Inspections.{InspectsContents};
-ghost use Rattle.rkyv_inspect_program.specs.CommandLines.{IsMisused};
-ghost use Rattle.rkyv_inspect_program.specs.Outcomes.{HasInspection};
+ghost use Rattle.rkyv_inspect.specs.{InspectsContents};
+ghost use Rattle.rkyv_inspect_program.specs.{HasInspection, IsMisused};
 
 mod errors;
 mod options;

@@ -3,11 +3,9 @@ ghost use Rattle.std.specs.Prelude.{IsTrue, MatchOption, [], map, option_map, st
 ghost use Rattle.std.specs.Prelude.{◌↔◌, ◌≡◌};
 ghost use Rattle.std.specs.Str.Parse.{starts_with_minus};
 ghost use Rattle.std.specs.Str.{bytes_eq};
-ghost use Rattle.rkyv_inspect_program.specs.CommandLines.{IsAfter, NamesNoOptions, NamesOptions};
-ghost use Rattle.rkyv_inspect_program.specs.CommandLines.{awaiting, whole};
-ghost use Rattle.rkyv_inspect_program.specs.Options.{IsBare, NamesContents, NamesNoContents};
-ghost use Rattle.rkyv_inspect_program.specs.Options.{kind_named, name_of, type_named, value_of};
-ghost use Rattle.rkyv_inspect_program.specs.Options.{width_named};
+ghost use Rattle.rkyv_inspect_program.specs.{IsAfter, IsBare, NamesContents, NamesNoContents};
+ghost use Rattle.rkyv_inspect_program.specs.{NamesNoOptions, NamesOptions, awaiting, kind_named};
+ghost use Rattle.rkyv_inspect_program.specs.{name_of, type_named, value_of, whole, width_named};
 
 use rkyv_container::contents::{Contents, ItemType, Kind, Width};
 

@@ -1,6 +1,6 @@
 //! The outcomes of the program, and their exit statuses.
 ghost use Rattle.std.specs.Prelude.{Ok, ℕ, ◌≡◌};
-ghost use Rattle.rkyv_inspect_program.specs.Outcomes.{status_of};
+ghost use Rattle.rkyv_inspect_program.specs.{status_of};
 
 use crate::errors::ProgramError;
 

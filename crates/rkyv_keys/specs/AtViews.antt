@@ -1,7 +1,7 @@
 -- Functions of a position, at the position of a view.
 use Rattle.std.specs.Prelude.{ℕ, List}
 use Rattle.rkyv_base.specs.declared.view.View.{View}
-use Rattle.rkyv_base.specs.View.{bytes_of, pos_of}
+use Rattle.rkyv_base.specs.{bytes_of, pos_of}
 
 -- the function `f` at the bytes and the position of the view `v`
 abbrev pub at_view : {T X : Type 0} → (List ℕ → ℕ → X) → View T → X

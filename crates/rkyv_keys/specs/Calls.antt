@@ -1,6 +1,6 @@
 -- The calls of a key to a hasher, and its hash.
 use Rattle.std.specs.Prelude.{ℕ, Bool, if◌then◌else◌, List, [], ◌∷◌, fold}
-use Rattle.rkyv_scan.specs.Hash.{Bytes, Hasher, HasherCall, U8, hash_of_calls}
+use Rattle.rkyv_scan.specs.{Bytes, Hasher, HasherCall, U8, hash_of_calls}
 
 -- the state `state` after a list of calls, in order
 abbrev pub after_calls : {State : Type 0} → Hasher State → State → List HasherCall → State

@@ -1,7 +1,6 @@
 -- Deserialization: its results and its errors.
 use Rattle.std.specs.Prelude.{◌≡◌, ℕ, List, MatchResult, Result}
-use Rattle.rkyv_base.specs.ElementSpec.{ElementSpec, IsElement}
-use Rattle.rkyv_base.specs.View.{AtView}
+use Rattle.rkyv_base.specs.{AtView, ElementSpec, IsElement}
 use Rattle.rkyv_base.specs.declared.errors.ReadError.{ReadError}
 use Rattle.rkyv_base.specs.declared.errors.ReadError.TheVariants.{Memory}
 use Rattle.rkyv_base.specs.declared.view.View.{View}

@@ -1,7 +1,7 @@
 -- The comparison of the values at two positions.
 use Rattle.std.specs.Prelude.{◌≡◌, ℕ, Bool, true, List}
 use Rattle.std.specs.Bool.{Decides}
-use Rattle.rkyv_base.specs.ElementSpec.{ElementSpec, ValidAt}
+use Rattle.rkyv_base.specs.{ElementSpec, ValidAt}
 
 -- a comparison of the value at a position of some bytes with one at a position of others
 abbrev pub Comparison : Type 0

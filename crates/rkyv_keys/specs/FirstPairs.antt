@@ -5,10 +5,8 @@ use Rattle.std.specs.Borrow.{Bor}
 use Rattle.std.specs.Int.{Width}
 use Rattle.std.specs.List.{find}
 use Rattle.std.specs.Option.{option_map}
-use Rattle.rkyv_base.specs.Scalar.{Encoding, ScalarRepresents}
-use Rattle.rkyv_base.specs.Sealing.{value_at}
-use Rattle.rkyv_base.specs.Text.{TextReads, text_at}
-use Rattle.rkyv_base.specs.View.{AtView, bytes_of, pos_of}
+use Rattle.rkyv_base.specs.{AtView, Encoding, ScalarRepresents, TextReads, bytes_of, pos_of}
+use Rattle.rkyv_base.specs.{text_at, value_at}
 use Rattle.rkyv_base.specs.declared.view.View.{View}
 
 -- the first pair with an accepted key

@@ -1,8 +1,7 @@
 -- Keys that hash alike under every rule for `usize` and `isize`.
 use Rattle.std.specs.Prelude.{ℕ, List, All}
-use Rattle.rkyv_scan.specs.Hash.{HasherCall}
-use Rattle.rkyv_scan.specs.Laws.{IsFixed}
-use Rattle.rkyv_base.specs.ElementSpec.{ElementSpec, ValidAt}
+use Rattle.rkyv_scan.specs.{HasherCall, IsFixed}
+use Rattle.rkyv_base.specs.{ElementSpec, ValidAt}
 
 -- a valid key makes no call for a `usize` or an `isize`
 abbrev pub MakesFixedCalls : ElementSpec → (List ℕ → ℕ → List HasherCall) → Type 0

@@ -1,8 +1,7 @@
 -- The laws of keys and their queries.
 use Rattle.std.specs.Prelude.{◌≡◌, ℕ, ◌+◌, ◌≤◌, Bool, true, List}
-use Rattle.rkyv_scan.specs.Hash.{HasherCall}
-use Rattle.rkyv_base.specs.Bytes.{AgreeOn}
-use Rattle.rkyv_base.specs.ElementSpec.{ElementSpec, ValidAt}
+use Rattle.rkyv_scan.specs.{HasherCall}
+use Rattle.rkyv_base.specs.{AgreeOn, ElementSpec, ValidAt}
 use Rattle.rkyv_keys.specs.Equality.{Comparison}
 
 -- the laws of a key. Keys that are the same make the same calls. These depend only on the bytes

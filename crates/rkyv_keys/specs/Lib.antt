@@ -1,11 +1,12 @@
-pub mod KeyLookup
+-- All definitions of the crate, which contracts and proofs import from here.
+pub mod KeyLookups
 pub mod AtViews
 pub mod Calls
 pub mod Deserialize
 pub mod Equality
 pub mod FirstPairs
 pub mod Fixed
-pub mod HashesBy
+pub mod Hashing
 pub mod Keys
 pub mod Natives
 pub mod OfEntries
@@ -17,3 +18,33 @@ pub mod OfViews
 pub mod QueryLaws
 pub mod RoundTrips
 pub mod Lemmas
+unfoldable pub use KeyLookups.{query_of}
+pub use KeyLookups.{KeyLookup}
+unfoldable pub use AtViews.{at_view, at_views}
+unfoldable pub use Calls.{after_calls, bool_call, hash_at, hash_of, text_calls}
+unfoldable pub use Deserialize.{DeserializeErrors, DeserializeMembers, Deserializes, memory_fails}
+unfoldable pub use Deserialize.{nothing_fails}
+unfoldable pub use Equality.{Comparison, DecidesEquality, EqualsOnce, RepresentsOnce}
+pub use Equality.{IsEquivalence}
+unfoldable pub use FirstPairs.{IsFoundPair, IsFoundValue, IsTextOk, first_pair, first_value}
+unfoldable pub use FirstPairs.{found_scalars, found_texts, found_views, scalar_found, text_bytes}
+unfoldable pub use FirstPairs.{text_bytes_found}
+pub use FirstPairs.{FoundValues}
+unfoldable pub use Fixed.{MakesFixedCalls}
+unfoldable pub use Hashing.{HashesBy}
+unfoldable pub use Keys.{FitsItsEqual, ReadsAnywhere}
+pub use Keys.{IsKey, IsQuery}
+unfoldable pub use Natives.{native_keys, native_pairs}
+pub use Natives.{NativeKeys, NativePairs}
+unfoldable pub use OfEntries.{BothRead, entry_calls, entry_deserialize_fails, entry_equals}
+unfoldable pub use OfEntries.{entry_fits, entry_same, pair_calls}
+unfoldable pub use OfScalars.{one_call, scalar_calls, scalar_fits, scalar_same}
+pub use OfScalars.{scalar_equivalence, scalar_fits_its_equal, scalar_fixed, scalar_key}
+pub use OfScalars.{scalar_query}
+unfoldable pub use OfTexts.{same_bytes}
+unfoldable pub use OfUnits.{no_calls, unit_at, unit_calls, unit_fits, unit_same, units_equal}
+unfoldable pub use OfValues.{ValueRepresents, value_calls, value_fits, values_same}
+unfoldable pub use OfViews.{view_calls, view_fits}
+unfoldable pub use QueryLaws.{FitsByValue, HashLocal, HashesAlike, HashesAsWritten, RestsOnKeys}
+unfoldable pub use RoundTrips.{HasArchive, RoundTripFails, round_trip}
+pub use RoundTrips.{RoundTrip}

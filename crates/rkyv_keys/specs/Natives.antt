@@ -1,6 +1,6 @@
 -- The native keys and pairs that a map represents.
 use Rattle.std.specs.Prelude.{ℕ, Bool, List}
-use Rattle.rkyv_scan.specs.Hash.{Hasher, HasherCall, hash_of_calls}
+use Rattle.rkyv_scan.specs.{Hasher, HasherCall, hash_of_calls}
 
 -- the native pairs of a map. `key` and `value`: bytes at a position represent a key or a value,
 -- `key_hash`: hash of the key at a position

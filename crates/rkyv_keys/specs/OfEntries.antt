@@ -1,8 +1,7 @@
 -- Entries, by their key and their value.
 use Rattle.std.specs.Prelude.{ℕ, ◌+◌, ◌⊎◌, Bool, ◌&&◌, List, ◌++◌}
-use Rattle.rkyv_scan.specs.Hash.{HasherCall}
-use Rattle.rkyv_base.specs.ElementSpec.{ElementSpec}
-use Rattle.rkyv_base.specs.Entry.{value_offset}
+use Rattle.rkyv_scan.specs.{HasherCall}
+use Rattle.rkyv_base.specs.{ElementSpec, value_offset}
 use Rattle.rkyv_keys.specs.Equality.{Comparison}
 use Rattle.rkyv_keys.specs.Deserialize.{DeserializeErrors}
 

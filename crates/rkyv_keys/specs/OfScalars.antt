@@ -1,11 +1,8 @@
 -- Scalars, by the value of the number at a position.
 use Rattle.std.specs.Prelude.{ℕ, Bool, List, [], ◌∷◌}
-use Rattle.rkyv_scan.specs.Hash.{HasherCall}
-use Rattle.rkyv_scan.specs.Laws.{IsFixed}
-use Rattle.rkyv_base.specs.Scalar.{Encoding, IsScalar, ScalarRepresents}
+use Rattle.rkyv_scan.specs.{HasherCall, IsFixed}
+use Rattle.rkyv_base.specs.{ElementSpec, Encoding, IsScalar, ScalarRepresents, value_at}
 use Rattle.rkyv_base.specs.Lemmas.Scalar.{scalar_local}
-use Rattle.rkyv_base.specs.ElementSpec.{ElementSpec}
-use Rattle.rkyv_base.specs.Sealing.{value_at}
 use Rattle.rkyv_keys.specs.Equality.{Comparison, DecidesEquality, IsEquivalence}
 use Rattle.rkyv_keys.specs.Keys.{FitsItsEqual, IsKey, IsQuery, ReadsAnywhere}
 use Rattle.rkyv_keys.specs.Fixed.{MakesFixedCalls}

@@ -1,6 +1,6 @@
 -- The unit value, which is valid at every position and makes no call.
 use Rattle.std.specs.Prelude.{ℕ, Bool, true, List, []}
-use Rattle.rkyv_scan.specs.Hash.{HasherCall}
+use Rattle.rkyv_scan.specs.{HasherCall}
 use Rattle.rkyv_keys.specs.Equality.{Comparison}
 
 abbrev pub unit_at : List ℕ → ℕ → Unit {0}

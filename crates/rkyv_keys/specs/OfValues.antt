@@ -1,7 +1,7 @@
 -- Elements with one value at a position, which is compared and hashed as a whole:
 -- scalars, text and the unit value.
 use Rattle.std.specs.Prelude.{◌≡◌, ℕ, Bool, List}
-use Rattle.rkyv_scan.specs.Hash.{HasherCall}
+use Rattle.rkyv_scan.specs.{HasherCall}
 use Rattle.rkyv_keys.specs.Equality.{Comparison}
 
 module _ {V : Type 0} (value_at : List ℕ → ℕ → V) where

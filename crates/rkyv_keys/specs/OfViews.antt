@@ -1,8 +1,8 @@
 -- A key in an archive, as a query for keys of other archives.
 use Rattle.std.specs.Prelude.{ℕ, Bool, List}
-use Rattle.rkyv_scan.specs.Hash.{HasherCall}
+use Rattle.rkyv_scan.specs.{HasherCall}
 use Rattle.rkyv_base.specs.declared.view.View.{View}
-use Rattle.rkyv_base.specs.View.{bytes_of, pos_of}
+use Rattle.rkyv_base.specs.{bytes_of, pos_of}
 use Rattle.rkyv_keys.specs.Equality.{Comparison}
 
 -- the calls of the key of the view `view`

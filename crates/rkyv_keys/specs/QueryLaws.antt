@@ -1,8 +1,7 @@
 -- Laws of native keys and queries on written keys.
 use Rattle.std.specs.Prelude.{◌≡◌, ℕ, ◌+◌, ◌≤◌, Bool, List}
-use Rattle.rkyv_scan.specs.Hash.{HasherCall}
-use Rattle.rkyv_base.specs.Bytes.{AgreeOn}
-use Rattle.rkyv_base.specs.ElementSpec.{ElementSpec, ValidAt}
+use Rattle.rkyv_scan.specs.{HasherCall}
+use Rattle.rkyv_base.specs.{AgreeOn, ElementSpec, ValidAt}
 
 -- a native key makes the calls of each archived key that represents it
 abbrev pub HashesAsWritten : {V : Type 0} → ElementSpec → (List ℕ → ℕ → V → Type 0)

@@ -1,9 +1,6 @@
 -- Round trips: a value is written to memory, and deserialized from its archive.
 use Rattle.std.specs.Prelude.{ℕ, ◌-◌, List, length}
-use Rattle.rkyv_base.specs.Access.{IsValidArchive}
-use Rattle.rkyv_base.specs.ElementSpec.{ElementSpec}
-use Rattle.rkyv_base.specs.Format.{Format}
-use Rattle.rkyv_base.specs.Root.{RootBytes, ToBytesFails}
+use Rattle.rkyv_base.specs.{ElementSpec, Format, IsValidArchive, RootBytes, ToBytesFails}
 use Rattle.rkyv_base.specs.declared.errors.RoundTripError.{RoundTripError}
 use Rattle.rkyv_base.specs.declared.errors.RoundTripError.TheVariants.{Read, Write}
 use Rattle.rkyv_keys.specs.Deserialize.{DeserializeErrors}

@@ -4,10 +4,7 @@
 //! has no condition.
 
 ghost use Rattle.std.specs.Prelude.{◌≡◌, MatchOption};
-ghost use Rattle.rkyv_base.specs.Entry.{entry_spec};
-ghost use Rattle.rkyv_base.specs.Empty.{unit_spec};
-ghost use Rattle.rkyv_base.specs.ElementSpec.{Viewable};
-ghost use Rattle.rkyv_base.specs.View.{IsAt, IsValidView};
+ghost use Rattle.rkyv_base.specs.{IsAt, IsValidView, Viewable, entry_spec, unit_spec};
 
 use crate::scalars::ScalarKey;
 use rkyv_base::element::{Element, PartRange};

@@ -3,8 +3,8 @@
 //! A type implements `Deserialize` for each native type as which its values are read.
 
 ghost use Rattle.std.specs.Prelude.{MatchResult};
-ghost use Rattle.rkyv_base.specs.View.{AtView, IsValidView};
-ghost use Rattle.rkyv_keys.specs.Deserialize.{DeserializeErrors};
+ghost use Rattle.rkyv_base.specs.{AtView, IsValidView};
+ghost use Rattle.rkyv_keys.specs.{DeserializeErrors};
 
 use rkyv_base::element::Represents;
 use rkyv_base::errors::ReadError;

@@ -4,15 +4,12 @@
 //! of queries.
 
 ghost use Rattle.std.specs.Prelude.{◌≡◌, IsTrue, ◌↔◌, MatchResult};
-ghost use Rattle.rkyv_base.specs.Entry.{entry_spec};
-ghost use Rattle.rkyv_base.specs.Pairs.{PairRepresents};
+ghost use Rattle.rkyv_base.specs.{AtView, IsValidView, PairRepresents, entry_spec};
 ghost use Rattle.rkyv_base.specs.Lemmas.Pairs.{pair_is_format};
-ghost use Rattle.rkyv_base.specs.View.{AtView, IsValidView};
-ghost use Rattle.rkyv_keys.specs.AtViews.{at_view, at_views};
-ghost use Rattle.rkyv_keys.specs.Calls.{after_calls};
+ghost use Rattle.rkyv_keys.specs.{BothRead, after_calls, at_view, at_views, entry_calls};
+ghost use Rattle.rkyv_keys.specs.{entry_deserialize_fails, entry_equals, entry_fits, entry_same};
+ghost use Rattle.rkyv_keys.specs.{pair_calls};
 ghost use Rattle.rkyv_keys.specs.Lemmas.Fixed.{entry_fixed};
-ghost use Rattle.rkyv_keys.specs.OfEntries.{BothRead, entry_calls, entry_equals, entry_fits};
-ghost use Rattle.rkyv_keys.specs.OfEntries.{entry_deserialize_fails, entry_same, pair_calls};
 ghost use Rattle.rkyv_keys.specs.Lemmas.OfEntries.{entry_equals_once, entry_once};
 ghost use Rattle.rkyv_keys.specs.Lemmas.OfEntries.{entry_equivalence, entry_fits_its_equal};
 ghost use Rattle.rkyv_keys.specs.Lemmas.OfEntries.{entry_key, entry_query};

@@ -6,10 +6,8 @@
 //! - `RepresentsUniquely` states that the native values of one archived value are equal.
 
 ghost use Rattle.std.specs.Prelude.{◌≡◌, ℕ, List, IsTrue, ◌↔◌};
-ghost use Rattle.rkyv_base.specs.Format.{IsFormat};
-ghost use Rattle.rkyv_base.specs.View.{AtView, IsValidView};
-ghost use Rattle.rkyv_keys.specs.AtViews.{at_views};
-ghost use Rattle.rkyv_keys.specs.Equality.{Comparison, EqualsOnce, IsEquivalence, RepresentsOnce};
+ghost use Rattle.rkyv_base.specs.{AtView, IsFormat, IsValidView};
+ghost use Rattle.rkyv_keys.specs.{Comparison, EqualsOnce, IsEquivalence, RepresentsOnce, at_views};
 
 use rkyv_base::archive::Archive;
 use rkyv_base::element::{Element, Represents};

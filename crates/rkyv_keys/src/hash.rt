@@ -3,7 +3,7 @@
 //! A type implements `KeyHash`, and `hash_value` returns the hash by a new hasher.
 
 ghost use Rattle.std.specs.Prelude.{◌≡◌, List, [], ◌∷◌};
-ghost use Rattle.rkyv_scan.specs.Hash.{HasherCall, Isize, Usize, hash_of_calls};
+ghost use Rattle.rkyv_scan.specs.{HasherCall, Isize, Usize, hash_of_calls};
 ghost use Rattle.rkyv_keys.specs.Calls.{after_calls};
 ghost use Rattle.rkyv_keys.specs.Keys.{ReadsAnywhere};
 

@@ -5,12 +5,10 @@
 //! the archived forms of the native keys that it equals.
 
 ghost use Rattle.std.specs.Prelude.{◌≡◌, ℕ, Bool, List};
-ghost use Rattle.rkyv_scan.specs.Hash.{HasherCall};
-ghost use Rattle.rkyv_base.specs.View.{IsValidView};
-ghost use Rattle.rkyv_keys.specs.AtViews.{at_view};
-ghost use Rattle.rkyv_keys.specs.Calls.{after_calls};
-ghost use Rattle.rkyv_keys.specs.Fixed.{MakesFixedCalls};
-ghost use Rattle.rkyv_keys.specs.Keys.{FitsItsEqual, IsKey, IsQuery};
+ghost use Rattle.rkyv_scan.specs.{HasherCall};
+ghost use Rattle.rkyv_base.specs.{IsValidView};
+ghost use Rattle.rkyv_keys.specs.{FitsItsEqual, IsKey, IsQuery, MakesFixedCalls, after_calls};
+ghost use Rattle.rkyv_keys.specs.{at_view};
 
 use crate::equality::ElementEquiv;
 use crate::hash::KeyHash;

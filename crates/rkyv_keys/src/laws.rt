@@ -4,10 +4,9 @@
 //! their traits. The others say by which calls values of the types of this crate are hashed.
 
 ghost use Rattle.std.specs.Prelude.{[], string_bytes, ◌++◌, ◌∷◌, ◌≡◌};
-ghost use Rattle.rkyv_scan.specs.Hash.{I16, I32, I64, I8, Isize, U16, U32, U64, U8, Usize};
-ghost use Rattle.rkyv_keys.specs.QueryLaws.{FitsByValue, HashesAsWritten, RestsOnKeys};
-ghost use Rattle.rkyv_keys.specs.Calls.{bool_call, text_calls};
-ghost use Rattle.rkyv_keys.specs.HashesBy.{HashesBy};
+ghost use Rattle.rkyv_scan.specs.{I16, I32, I64, I8, Isize, U16, U32, U64, U8, Usize};
+ghost use Rattle.rkyv_keys.specs.{FitsByValue, HashesAsWritten, HashesBy, RestsOnKeys, bool_call};
+ghost use Rattle.rkyv_keys.specs.{text_calls};
 
 use crate::hash::KeyHash;
 use crate::keys::{KeyElement, NativeKey, Query};

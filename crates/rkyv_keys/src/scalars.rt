@@ -5,27 +5,14 @@
 
 ghost use Rattle.std.specs.Prelude.{◌≡◌, IsTrue, ◌↔◌, MatchResult};
 ghost use Rattle.std.specs.Cmp.{booleans_Decides, signed_Decides, unsigned_Decides};
-ghost use Rattle.rkyv_scan.specs.Hash.{HasherCall, I16, I32, I64, I8, U16, U32, U64, U8};
-ghost use Rattle.rkyv_scan.specs.Laws.{IsFixed};
-ghost use Rattle.rkyv_base.specs.Scalar.{ScalarRepresents};
+ghost use Rattle.rkyv_scan.specs.{HasherCall, I16, I32, I64, I8, IsFixed, U16, U32, U64, U8};
+ghost use Rattle.rkyv_base.specs.{AtView, IsValidView, ScalarRepresents};
 ghost use Rattle.rkyv_base.specs.Lemmas.Scalar.{scalar_is_format};
-ghost use Rattle.rkyv_base.specs.View.{AtView, IsValidView};
-ghost use Rattle.rkyv_keys.specs.AtViews.{at_view, at_views};
-ghost use Rattle.rkyv_keys.specs.Calls.{after_calls, bool_call};
+ghost use Rattle.rkyv_keys.specs.{DecidesEquality, after_calls, at_view, at_views, bool_call};
+ghost use Rattle.rkyv_keys.specs.{nothing_fails, one_call, scalar_calls, scalar_equivalence};
+ghost use Rattle.rkyv_keys.specs.{scalar_fits, scalar_fits_its_equal, scalar_fixed, scalar_key};
+ghost use Rattle.rkyv_keys.specs.{scalar_query, scalar_same};
 ghost use Rattle.rkyv_keys.specs.Lemmas.QueryLaws.{native_once};
-ghost use Rattle.rkyv_keys.specs.Equality.{DecidesEquality};
-ghost use Rattle.rkyv_keys.specs.Deserialize.{nothing_fails};
-ghost use Rattle.rkyv_keys.specs.OfScalars.{
-  one_call,
-  scalar_calls,
-  scalar_equivalence,
-  scalar_fits,
-  scalar_fits_its_equal,
-  scalar_fixed,
-  scalar_key,
-  scalar_query,
-  scalar_same,
-};
 
 use crate::deserialize::Deserialize;
 use crate::equality::{

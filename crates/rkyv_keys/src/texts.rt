@@ -1,13 +1,10 @@
 //! The implementations for text, which is looked up by `&str` and `String`.
 
 ghost use Rattle.std.specs.Prelude.{◌≡◌, string_bytes, IsTrue, ◌↔◌, MatchResult};
-ghost use Rattle.rkyv_base.specs.Text.{text_spec};
+ghost use Rattle.rkyv_base.specs.{AtView, IsValidView, text_spec};
 ghost use Rattle.rkyv_base.specs.Lemmas.TextWriting.{text_as_format};
-ghost use Rattle.rkyv_base.specs.View.{AtView, IsValidView};
-ghost use Rattle.rkyv_keys.specs.AtViews.{at_view, at_views};
-ghost use Rattle.rkyv_keys.specs.Calls.{after_calls, text_calls};
-ghost use Rattle.rkyv_keys.specs.Deserialize.{memory_fails};
-ghost use Rattle.rkyv_keys.specs.OfTexts.{same_bytes};
+ghost use Rattle.rkyv_keys.specs.{after_calls, at_view, at_views, memory_fails, same_bytes};
+ghost use Rattle.rkyv_keys.specs.{text_calls};
 ghost use Rattle.rkyv_keys.specs.Lemmas.OfTexts.{IsTextOf, text_equivalence, text_fits, text_once};
 ghost use Rattle.rkyv_keys.specs.Lemmas.OfTexts.{text_fits_its_equal, text_key, text_key_calls};
 ghost use Rattle.rkyv_keys.specs.Lemmas.OfTexts.{text_key_fixed, text_query, text_same};

@@ -4,11 +4,9 @@
 
 ghost use Rattle.std.specs.Prelude.{◌≡◌, true, MatchResult};
 ghost use Rattle.std.proofs.Common.{refl};
-ghost use Rattle.rkyv_base.specs.Empty.{unit_represents, unit_spec};
+ghost use Rattle.rkyv_base.specs.{AtView, IsValidView, unit_represents, unit_spec};
 ghost use Rattle.rkyv_base.specs.Lemmas.Empty.{unit_is_format};
-ghost use Rattle.rkyv_base.specs.View.{AtView, IsValidView};
-ghost use Rattle.rkyv_keys.specs.Deserialize.{nothing_fails};
-ghost use Rattle.rkyv_keys.specs.OfUnits.{no_calls, unit_calls, unit_fits, unit_same};
+ghost use Rattle.rkyv_keys.specs.{no_calls, nothing_fails, unit_calls, unit_fits, unit_same};
 ghost use Rattle.rkyv_keys.specs.Lemmas.OfUnits.{unit_equivalence, unit_fits_its_equal, unit_fixed};
 ghost use Rattle.rkyv_keys.specs.Lemmas.OfUnits.{unit_key, unit_query};
 

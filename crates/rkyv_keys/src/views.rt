@@ -3,9 +3,8 @@
 //! A key of one map is thus looked up in another, without reading it back.
 
 ghost use Rattle.std.specs.Prelude.{◌≡◌};
-ghost use Rattle.rkyv_base.specs.View.{IsValidView};
-ghost use Rattle.rkyv_keys.specs.AtViews.{at_view};
-ghost use Rattle.rkyv_keys.specs.OfViews.{view_calls, view_fits};
+ghost use Rattle.rkyv_base.specs.{IsValidView};
+ghost use Rattle.rkyv_keys.specs.{at_view, view_calls, view_fits};
 ghost use Rattle.rkyv_keys.specs.Lemmas.OfViews.{view_query};
 
 use crate::hash::KeyHash;

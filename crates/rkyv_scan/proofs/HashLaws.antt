@@ -5,8 +5,7 @@ use Rattle.std.specs.Int.{Width, from_le_bytes}
 use Rattle.std.proofs.lemmas.List.{get_or_append_left}
 use Rattle.std.proofs.Math.Seq.{drop-append-add}
 use Rattle.std.proofs.lemmas.List.Sums.{fold-append}
-use Rattle.rkyv_scan.specs.Hash.{HasherCall, Isize, SizeWords, Usize, byte_words, call_words, fx_feed, hash_word, hash_words, number_from, rest_words, whole_words}
-use Rattle.rkyv_scan.specs.Laws.{CallsHashTheirWords, EightBytesAreOneWord, FixedCallsAgree, FixedCallsHashAlike, IsFixed, WritesJoin}
+use Rattle.rkyv_scan.specs.{CallsHashTheirWords, EightBytesAreOneWord, FixedCallsAgree, FixedCallsHashAlike, HasherCall, IsFixed, Isize, SizeWords, Usize, WritesJoin, byte_words, call_words, fx_feed, hash_word, hash_words, number_from, rest_words, whole_words}
 
 pub fixed_agree : FixedCallsAgree
 fixed_agree one other (Usize n) h = absurd h

@@ -6,8 +6,7 @@ use Rattle.std.proofs.lemmas.Bool.{cases_eq, ne_eqb}
 use Rattle.std.proofs.lemmas.Nat.{shr_split}
 use Rattle.std.proofs.lemmas.Nat.Bits.{bit_at-lt, bit_at-suc, bit_at-zero, bit_at_and, bit_at_cat_low, bit_at_or}
 use Rattle.std.proofs.Math.Bool.{and-false}
-use Rattle.rkyv_scan.specs.Groups.{indices_where, is_word_match_at, mask_indices}
-use Rattle.rkyv_scan.specs.Paired.{MarksEqual, bits_after, chain, half_of, is_half_match_at}
+use Rattle.rkyv_scan.specs.{MarksEqual, bits_after, chain, half_of, indices_where, is_half_match_at, is_word_match_at, mask_indices}
 use Rattle.rkyv_scan.specs.Lemmas.Paired.{half_at, half_lower}
 use Rattle.rkyv_scan.proofs.Bits.{all_to_at}
 use Rattle.rkyv_scan.proofs.Indices.{range_agree}

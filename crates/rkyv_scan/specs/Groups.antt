@@ -1,27 +1,7 @@
 -- The indices of a group of control bytes that a mask marks.
-use Rattle.std.specs.Prelude.{
-  ◌≡◌,
-  ℕ,
-  zero,
-  suc,
-  ◌+◌,
-  ◌*◌,
-  ◌^◌,
-  ◌<◌,
-  ◌≤◌,
-  ◌==◌,
-  ◌||◌,
-  ◌&&◌,
-  Bool,
-  true,
-  false,
-  List,
-  slice_index,
-  slice_index_or,
-  nat_le,
-  nat_lt,
-  bit_xor,
-}
+use Rattle.std.specs.Prelude.{Bool, List, bit_xor, false, nat_le, nat_lt, slice_index}
+use Rattle.std.specs.Prelude.{slice_index_or, suc, true, zero, ℕ, ◌&&◌, ◌*◌, ◌+◌, ◌<◌, ◌==◌, ◌^◌}
+use Rattle.std.specs.Prelude.{◌||◌, ◌≡◌, ◌≤◌}
 use Rattle.std.specs.List.{filter, range_with_len}
 use Rattle.std.specs.Int.{bit_at}
 

@@ -1,37 +1,9 @@
 -- The calls of a hasher, the words that they feed, and the hash of a list of calls.
-use Rattle.std.specs.Prelude.{
-  ℕ,
-  ◌*◌,
-  ◌/◌,
-  ◌%◌,
-  ◌^◌,
-  ◌<◌,
-  ◌==◌,
-  if◌then◌else◌,
-  List,
-  [],
-  ◌∷◌,
-  ◌++◌,
-  length,
-  map,
-  fold,
-  drop,
-  ℤ,
-  bit_xor,
-}
+use Rattle.std.specs.Prelude.{List, [], bit_xor, drop, fold, if◌then◌else◌, length, map, ℕ, ℤ, ◌%◌}
+use Rattle.std.specs.Prelude.{◌*◌, ◌++◌, ◌/◌, ◌<◌, ◌==◌, ◌^◌, ◌∷◌}
 use Rattle.std.specs.List.{range_with_len}
-use Rattle.std.specs.Int.{
-  Width,
-  cast_signed,
-  cast_unsigned,
-  from_le_bytes,
-  rotate_left,
-  w128,
-  w16,
-  w32,
-  w64,
-  w8,
-}
+use Rattle.std.specs.Int.{Width, cast_signed, cast_unsigned, from_le_bytes, rotate_left, w128, w16}
+use Rattle.std.specs.Int.{w32, w64, w8}
 
 -- one call of a hasher, with its argument
 pub data HasherCall : Type 0 where

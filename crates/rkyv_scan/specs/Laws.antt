@@ -2,18 +2,8 @@
 -- and `isize`, and so for both hashers.
 use Rattle.std.specs.Prelude.{◌≡◌, ℕ, ◌%◌, List, ◌++◌, length, All, flat_map}
 use Rattle.std.specs.Int.{from_le_bytes, w64}
-use Rattle.rkyv_scan.specs.Hash.{
-  Bytes,
-  HasherCall,
-  Isize,
-  SizeWords,
-  U64,
-  Usize,
-  call_words,
-  fx_feed,
-  fx_hash,
-  hash_words,
-}
+use Rattle.rkyv_scan.specs.Hash.{Bytes, HasherCall, Isize, SizeWords, U64, Usize, call_words}
+use Rattle.rkyv_scan.specs.Hash.{fx_feed, fx_hash, hash_words}
 
 -- the hash of a list of calls is the hash from 0 of all words that they feed
 abbrev pub CallsHashTheirWords : Type 0

@@ -1,23 +1,6 @@
 -- Groups of sixteen control bytes, whose halves are matched as groups of eight.
-use Rattle.std.specs.Prelude.{
-  ◌≡◌,
-  ℕ,
-  zero,
-  suc,
-  ◌*◌,
-  ◌/◌,
-  ◌%◌,
-  ◌^◌,
-  ◌<◌,
-  ◌==◌,
-  Bool,
-  List,
-  slice_index,
-  take,
-  drop,
-  bit_and,
-  bit_or,
-}
+use Rattle.std.specs.Prelude.{Bool, List, bit_and, bit_or, drop, slice_index, suc, take, zero, ℕ}
+use Rattle.std.specs.Prelude.{◌%◌, ◌*◌, ◌/◌, ◌<◌, ◌==◌, ◌^◌, ◌≡◌}
 use Rattle.std.specs.Int.{bit_at}
 use Rattle.rkyv_scan.specs.Groups.{Kind, is_word_match_at}
 

@@ -8,35 +8,10 @@
 //! for 64-bit `usize` words.
 ghost use Rattle.std.specs.Prelude.{◌≡◌, ℕ, ◌+◌, ◌≤◌, ◌%◌, ◌^◌, length};
 ghost use Rattle.std.specs.Int.{w16, w32, w64};
-ghost use Rattle.rkyv_scan.specs.Hash.{
-  Bytes,
-  Hasher,
-  I128,
-  I16,
-  I32,
-  I64,
-  I8,
-  Isize,
-  NumbersFit,
-  SizeWords,
-  U128,
-  U16,
-  U32,
-  U64,
-  U8,
-  Usize,
-  all_bits,
-  byte_words,
-  four_bytes,
-  fx_hasher,
-  hash_word,
-  hash_words,
-  last_byte,
-  low_halves,
-  number_from,
-  rest_words,
-  two_bytes,
-};
+ghost use Rattle.rkyv_scan.specs.{Bytes, Hasher, I128, I16, I32, I64, I8, Isize, NumbersFit};
+ghost use Rattle.rkyv_scan.specs.{SizeWords, U128, U16, U32, U64, U8, Usize, all_bits, byte_words};
+ghost use Rattle.rkyv_scan.specs.{four_bytes, fx_hasher, hash_word, hash_words, last_byte};
+ghost use Rattle.rkyv_scan.specs.{low_halves, number_from, rest_words, two_bytes};
 ghost use Rattle.rkyv_scan.specs.Lemmas.Numbers.{fx_fits};
 
 use std::marker::{Model, PhantomData};

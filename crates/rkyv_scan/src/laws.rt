@@ -3,15 +3,9 @@
 //! The laws of the hash are about its definition alone, under any rule for `usize` and `isize`.
 //! The others say which definitions the public hashers, masks and groups have.
 ghost use Rattle.std.specs.Prelude.{◌≡◌, ◌+◌, ◌≤◌, List, [], drop, length, take};
-ghost use Rattle.rkyv_scan.specs.Groups.{indices_where, is_word_match_at};
-ghost use Rattle.rkyv_scan.specs.Hash.{HasherCall, all_bits, fx_hash, hash_of_calls, low_halves};
-ghost use Rattle.rkyv_scan.specs.Laws.{
-  CallsHashTheirWords,
-  EightBytesAreOneWord,
-  FixedCallsAgree,
-  FixedCallsHashAlike,
-  WritesJoin,
-};
+ghost use Rattle.rkyv_scan.specs.{CallsHashTheirWords, EightBytesAreOneWord, FixedCallsAgree};
+ghost use Rattle.rkyv_scan.specs.{FixedCallsHashAlike, HasherCall, WritesJoin, all_bits, fx_hash};
+ghost use Rattle.rkyv_scan.specs.{hash_of_calls, indices_where, is_word_match_at, low_halves};
 
 use crate::hash::{FxHasher64, FxHasher64Wide, KeyHasher};
 use crate::simd::{GroupKind, MAX_GROUP_WIDTH, Marks, bytewise, generic, lanes};

@@ -7,27 +7,11 @@
 //! - `bytewise` has eight bytes, compared one by one.
 //! - `lanes` has sixteen bytes in one vector.
 //! - `paired` has sixteen bytes in one vector, and marks each half as `generic` does.
-ghost use Rattle.std.specs.Prelude.{
-  ◌≡◌,
-  ℕ,
-  ◌+◌,
-  ◌*◌,
-  ◌^◌,
-  ◌<◌,
-  ◌≤◌,
-  ◌↔◌,
-  List,
-  Option,
-  length,
-  take,
-  drop,
-  slice_get,
-  slice_index,
-  IsTrue,
-};
+ghost use Rattle.std.specs.Prelude.{IsTrue, List, Option, drop, length, slice_get, slice_index};
+ghost use Rattle.std.specs.Prelude.{take, ℕ, ◌*◌, ◌+◌, ◌<◌, ◌^◌, ◌↔◌, ◌≡◌, ◌≤◌};
 ghost use Rattle.std.specs.Iterator.{YieldsFirst, item_count};
 ghost use Rattle.std.specs.List.Sorted.{IsStrictlyIncreasing};
-ghost use Rattle.rkyv_scan.specs.Groups.{IsKind, Kind, indices_where, is_empty, is_full};
+ghost use Rattle.rkyv_scan.specs.{IsKind, Kind, indices_where, is_empty, is_full};
 
 pub mod bytewise;
 pub mod generic;

@@ -3,17 +3,10 @@ use Rattle.rkyv_base.specs.declared.element.HasSpec.{Ghosts as Specs}
 use Rattle.rkyv_base.specs.declared.width.Word.{Ghosts as Words}
 use Rattle.std.proofs.Common.{◌≡◌, ℕ, ◌+◌, zero-add, sym, ap, subst, ◌∙◌, Bool, List, Option, None, Some}
 use Rattle.std.specs.List.{find}
-use Rattle.rkyv_base.specs.ElementSpec.{IsElement, Viewable}
+use Rattle.rkyv_base.specs.{IsElement, Viewable}
 use Rattle.rkyv_base.specs.declared.view.View.{View}
-use Rattle.rkyv_scan.specs.Groups.{Kind}
-use Rattle.rkyv_table.specs.Controls.Laws.{IsUnderHash}
-use Rattle.rkyv_table.specs.Table.Bare.{AcceptedOf, CanCompareOf, ComparesByOf, IsItemOf, LooksUp, ReadsExactly}
-use Rattle.rkyv_table.specs.Table.Layout.{table_spec}
-use Rattle.rkyv_table.specs.Table.Positions.{IsWalked, WrittenAt, home_positions, item_at}
-use Rattle.rkyv_table.specs.Table.Positions.{lookup_end, pos_found}
-use Rattle.rkyv_table.specs.Table.Reading.{ComparesBy, CountsEnd, FindsFirst, FindsFound, IsAcceptedAt}
-use Rattle.rkyv_table.specs.Table.Reading.{CanCompare, IsItem, IsItemPos}
-use Rattle.rkyv_table.specs.Table.SealedItems.{IsItemAt}
+use Rattle.rkyv_scan.specs.{Kind}
+use Rattle.rkyv_table.specs.{AcceptedOf, CanCompare, CanCompareOf, ComparesBy, ComparesByOf, CountsEnd, FindsFirst, FindsFound, IsAcceptedAt, IsItem, IsItemAt, IsItemOf, IsItemPos, IsUnderHash, IsWalked, LooksUp, ReadsExactly, WrittenAt, home_positions, item_at, lookup_end, pos_found, table_spec}
 use Rattle.rkyv_table.proofs.ValidTable.{item_viewable}
 use Rattle.rkyv_table.proofs.SealedTable.{table_kept}
 use Rattle.rkyv_table.specs.declared.table.ArchivedHashTable.{ArchivedHashTable}

@@ -5,10 +5,9 @@ use Rattle.std.proofs.lemmas.List.{drop_all, drop_more, get_or_default, length-r
 use Rattle.std.proofs.lemmas.Option.{slice_get-get_or}
 use Rattle.rkyv_base.specs.declared.errors.WriteError.{WriteError}
 use Rattle.rkyv_base.specs.declared.errors.WriteError.TheVariants.{DistanceTooLarge}
-use Rattle.rkyv_base.specs.Writing.{Appends, Only, Output, WriteFails, end_of, piece, zeros}
-use Rattle.rkyv_base.specs.Format.{Format}
+use Rattle.rkyv_base.specs.{Appends, Format, Only, Output, WriteFails, end_of, piece, zeros}
 use Rattle.rkyv_base.proofs.WritingSteps.{appends_after, end-appends, fails_after, grows, none_appended}
-use Rattle.rkyv_table.specs.Table.Slots.{BucketNext, BucketOverflows, Filled, SlotImages, WroteBuckets, filled}
+use Rattle.rkyv_table.specs.{BucketNext, BucketOverflows, Filled, SlotImages, WroteBuckets, filled}
 use Rattle.rkyv_table.proofs.PartSteps.{filled-append}
 
 module _ {X R : Type 0} (size limit : ℕ) (f : Format X R) (slots : List (Option X)) (rs : List R) (o : Output) where

@@ -8,8 +8,7 @@ use Rattle.std.proofs.lemmas.Bool.{and_from, and_parts, cases_lt, eq-eqb, eqb-tr
 use Rattle.std.proofs.lemmas.Map.Made.{length-from_same_keys}
 use Rattle.std.specs.Cmp.{nat_eq_equiv}
 use Rattle.std.proofs.lemmas.List.FromFn.{length-map-range_with_len}
-use Rattle.rkyv_table.specs.Controls.Numbers.{modulus, probe_capacity, start}
-use Rattle.rkyv_table.specs.Controls.Probe.{probe_index, strides}
+use Rattle.rkyv_table.specs.{modulus, probe_capacity, probe_index, start, strides}
 use Rattle.rkyv_table.proofs.Triangle.{hits, hits_once, triangle}
 use Rattle.rkyv_table.proofs.Lists.{any_filter, any_map_range, distinct_filter, distinct_map_range, from_map_range}
 use Rattle.rkyv_table.proofs.Modulus.{modulus_power}

@@ -4,12 +4,8 @@ use Rattle.std.specs.Int.{Width}
 use Rattle.std.specs.List.{find}
 use Rattle.std.specs.Option.{option_map}
 use Rattle.std.proofs.lemmas.List.{get_or-map}
-use Rattle.rkyv_scan.specs.Groups.{IsKind, Kind}
-use Rattle.rkyv_table.specs.Controls.Finding.{found}
-use Rattle.rkyv_table.specs.Table.Header.{cap_at, len_at}
-use Rattle.rkyv_table.specs.Controls.Laws.{IsUnderHash}
-use Rattle.rkyv_table.specs.Table.Positions.{WrittenAt, home_positions, item_at, pos_found}
-use Rattle.rkyv_table.specs.Table.Positions.{table_controls}
+use Rattle.rkyv_scan.specs.{IsKind, Kind}
+use Rattle.rkyv_table.specs.{IsUnderHash, WrittenAt, cap_at, found, home_positions, item_at, len_at, pos_found, table_controls}
 use Rattle.rkyv_table.proofs.Written.{found_first}
 
 module _ (kind : Kind) (law : IsKind kind) (w : Width) (size : ℕ) (b : List ℕ) (p hash : ℕ) where

@@ -5,11 +5,8 @@ use Rattle.std.specs.Option.{option_map}
 use Rattle.std.proofs.lemmas.List.Folds.{find-append}
 use Rattle.std.proofs.lemmas.List.{length-set, set_past}
 use Rattle.std.proofs.lemmas.Bool.{and_from, and_left, and_right, both_ways, cases_Bool, cases_lt, eq-eqb, false_from_ne_true, le-ltb, lt-ltb, or_left, or_right}
-use Rattle.rkyv_scan.specs.Groups.{indices_where}
-use Rattle.rkyv_table.specs.Controls.Numbers.{control_count, probe_capacity, start}
-use Rattle.rkyv_table.specs.Controls.Probe.{buckets_at, probed, strides}
-use Rattle.rkyv_table.specs.Controls.Placing.{IsWrapped}
-use Rattle.rkyv_table.specs.Controls.ControlBytes.{empty_index, is_empty_at, with_control}
+use Rattle.rkyv_scan.specs.{indices_where}
+use Rattle.rkyv_table.specs.{IsWrapped, buckets_at, control_count, empty_index, is_empty_at, probe_capacity, probed, start, strides, with_control}
 use Rattle.rkyv_table.proofs.Coverage.{covered}
 use Rattle.rkyv_table.proofs.Search.{control_of, strides_head, tail_shows_all}
 use Rattle.rkyv_table.proofs.Groups.{range_append, same_control}

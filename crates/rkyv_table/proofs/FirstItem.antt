@@ -6,12 +6,8 @@ use Rattle.std.specs.Option.{option_map}
 use Rattle.std.proofs.lemmas.Bool.{cases_Bool}
 use Rattle.std.proofs.lemmas.List.{get_or-map, length-map}
 use Rattle.std.proofs.lemmas.Option.{slice_get-map, slice_get_cases}
-use Rattle.rkyv_base.specs.ElementSpec.{ElementSpec}
-use Rattle.rkyv_table.specs.Controls.Laws.{IsUnderHash}
-use Rattle.rkyv_table.specs.Table.FirstItem.{AgreesAt, AreUnder, IsFirstOf, LookupFindsFirst}
-use Rattle.rkyv_table.specs.Table.Positions.{home_positions}
-use Rattle.rkyv_table.specs.Table.PlacedItems.{hashes_of, items_of}
-use Rattle.rkyv_table.specs.Table.WrittenTables.{IsWrittenOf}
+use Rattle.rkyv_base.specs.{ElementSpec}
+use Rattle.rkyv_table.specs.{AgreesAt, AreUnder, IsFirstOf, IsUnderHash, IsWrittenOf, LookupFindsFirst, hashes_of, home_positions, items_of}
 use Rattle.rkyv_table.proofs.FirstFound.{first_found}
 use Rattle.rkyv_table.proofs.WrittenTables.{home_count, table_written}
 

@@ -3,17 +3,10 @@ use Rattle.rkyv_base.specs.declared.element.HasSpec.{Ghosts as Specs}
 use Rattle.rkyv_base.specs.declared.width.Word.{Ghosts as Words}
 use Rattle.std.proofs.Common.{◌≡◌, ℕ, ◌+◌, ◌<◌, ◌^◌, ◌∙◌, Bool, List, None, Option, Some, ap, refl, subst, sym, true}
 use Rattle.std.specs.Option.{option_map}
-use Rattle.rkyv_scan.specs.Groups.{IsKind, Kind, generic_kind}
-use Rattle.rkyv_scan.specs.Paired.{paired_kind}
-use Rattle.rkyv_base.specs.ElementSpec.{IsElement}
+use Rattle.rkyv_scan.specs.{IsKind, Kind, generic_kind, paired_kind}
+use Rattle.rkyv_base.specs.{IsElement, pos_of_found}
 use Rattle.rkyv_base.specs.declared.view.View.{View}
-use Rattle.rkyv_table.specs.Controls.Finding.{FindsBucket, lookup}
-use Rattle.rkyv_table.specs.Table.Header.{cap_at, len_at}
-use Rattle.rkyv_table.specs.Table.Positions.{bucket_found, item_at, table_controls}
-use Rattle.rkyv_table.specs.Table.Reading.{ComparesBy, CountsStrides, FindsFirst, FindsFound}
-use Rattle.rkyv_table.specs.Table.Reading.{FindsItem, FindsItemPos, IsItemIn}
-use Rattle.rkyv_base.specs.View.{pos_of_found}
-use Rattle.rkyv_table.specs.Table.Reading.{table_bytes, table_pos}
+use Rattle.rkyv_table.specs.{ComparesBy, CountsStrides, FindsBucket, FindsFirst, FindsFound, FindsItem, FindsItemPos, IsItemIn, bucket_found, cap_at, item_at, len_at, lookup, table_bytes, table_controls, table_pos}
 use Rattle.rkyv_table.specs.declared.table.ArchivedHashTable.{ArchivedHashTable}
 use Rattle.rkyv_table.proofs.FirstFound.{first_found}
 use Rattle.rkyv_table.proofs.PairedFound.{end_paired, found_paired}

@@ -9,8 +9,8 @@ use Rattle.std.proofs.lemmas.Nat.{div-add-mod', div-mul-add, mod-mul-add, pow-ad
 use Rattle.std.proofs.Math.Nat.{mul-le-mul_right, mul-mod_left}
 use Rattle.std.proofs.lemmas.Bool.{cases_Bool, or_left, or_right, false≢true}
 use Rattle.rkyv_table.proofs.Coverage.{same_tests}
-use Rattle.rkyv_scan.specs.Groups.{IsKind, Kind, indices_where}
-use Rattle.rkyv_table.specs.Controls.Finding.{candidates, marked, stride_has_empty}
+use Rattle.rkyv_scan.specs.{IsKind, Kind, indices_where}
+use Rattle.rkyv_table.specs.{candidates, marked, stride_has_empty}
 
 pub range_append : (a m n : ℕ) → range_with_len a (m + n) ≡ range_with_len a m ++ range_with_len (a + m) n
 range_append a zero n = let e : a + 0 ≡ a = omega arith in let f : 0 + n ≡ n = omega arith in rw (e, f) refl

@@ -2,8 +2,8 @@
 use Rattle.std.proofs.Common.{◌≡◌, ◌∙◌, ℕ, ◌*◌, ap, List, ℤ, pos, ◌+ℤ◌, ◌-ℤ◌, FitsSigned, to_z, of_z}
 use Rattle.std.specs.Int.{Width, w128}
 use Rattle.std.proofs.lemmas.Int.{to_z-of_z}
-use Rattle.rkyv_base.specs.Bytes.{signed_at}
-use Rattle.rkyv_table.specs.Table.Header.{cap_at, decode_begin}
+use Rattle.rkyv_base.specs.{signed_at}
+use Rattle.rkyv_table.specs.{cap_at, decode_begin}
 
 -- the computed begin of the buckets
 pub begin_is : (w : Width) (size : ℕ) (b : List ℕ) (p : ℕ) (distance decoded : ℤ) (cap n : ℕ) → FitsSigned w128 decoded

@@ -7,9 +7,7 @@ use Rattle.std.proofs.lemmas.List.{ext_get_or, get_or-map, get_or_past, length-m
 use Rattle.std.proofs.lemmas.List.FromFn.{get_or-map-range_with_len, length-map-range_with_len}
 use Rattle.std.proofs.lemmas.List.Sums.{fold-append, passes_at_first}
 use Rattle.std.proofs.lemmas.Bool.{both_ways, cases_Bool, cases_lt, eqb-true, le-ltb, lt-ltb, or_parts}
-use Rattle.rkyv_table.specs.Controls.Numbers.{control_count, tag}
-use Rattle.rkyv_table.specs.Controls.Probe.{probed}
-use Rattle.rkyv_table.specs.Controls.Placing.{Homes, Written, bucket_control, homes, is_free, with_home, written_controls}
+use Rattle.rkyv_table.specs.{Homes, Written, bucket_control, control_count, homes, is_free, probed, tag, with_home, written_controls}
 use Rattle.rkyv_table.proofs.FirstFree.{free_probed}
 use Rattle.rkyv_table.proofs.Lists.{none_find}
 use Rattle.rkyv_table.proofs.Search.{cases_option, control_of}

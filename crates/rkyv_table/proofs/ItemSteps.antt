@@ -3,13 +3,10 @@ use Rattle.std.proofs.Common.{◌≡◌, ℕ, ◌+◌, ◌-◌, ◌<◌, ◌≤�
 use Rattle.std.specs.List.{range_with_len, slice_get}
 use Rattle.std.proofs.lemmas.Option.{none-some, same_Some}
 use Rattle.rkyv_base.specs.declared.errors.VerifyError.{VerifyError}
-use Rattle.rkyv_base.specs.ElementSpec.{ElementSpec}
-use Rattle.rkyv_scan.specs.Groups.{indices_where}
+use Rattle.rkyv_base.specs.{ElementSpec}
+use Rattle.rkyv_scan.specs.{indices_where}
 use Rattle.rkyv_table.specs.Lemmas.ValidItemLaws.{AllBelow, range_below}
-use Rattle.rkyv_table.specs.Table.ValidItems.{AreValid, AreValidAt, FirstFails}
-use Rattle.rkyv_table.specs.Controls.Placing.{walk}
-use Rattle.rkyv_table.specs.Table.Layout.{bucket_at}
-use Rattle.rkyv_table.specs.Controls.Walking.{full_from}
+use Rattle.rkyv_table.specs.{AreValid, AreValidAt, FirstFails, bucket_at, full_from, walk}
 use Rattle.rkyv_table.proofs.RawSteps.{group_cut, group_read}
 use Rattle.rkyv_table.proofs.Walks.{walk_small, whole_walk}
 

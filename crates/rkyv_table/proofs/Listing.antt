@@ -2,16 +2,11 @@
 use Rattle.std.proofs.Common.{◌≡◌, ℕ, ◌<◌, refl, sym, ap, subst, ◌∙◌, arith, inl, inr, List, [], ◌∷◌, ◌++◌, map, length, length-append, Result, Ok, Err, MatchResult}
 use Rattle.std.specs.Iterator.{Drains, Yields, YieldsFirstBy}
 use Rattle.std.proofs.lemmas.List.{append-nil, length-map}
-use Rattle.rkyv_base.specs.Format.{Format, SerializeFails, Serialized}
-use Rattle.rkyv_base.specs.Pairs.{written_as}
-use Rattle.rkyv_base.specs.Writing.{CauseApplies, Output, capacity as too_large, end_of, load_factor, no_memory}
+use Rattle.rkyv_base.specs.{CauseApplies, Format, Output, SerializeFails, Serialized, capacity as too_large, end_of, load_factor, no_memory, written_as}
 use Rattle.rkyv_base.proofs.WritingSteps.{fails_under, grows, none_appended}
 use Rattle.rkyv_base.specs.declared.errors.WriteError.{WriteError}
 use Rattle.rkyv_base.specs.declared.errors.WriteError.TheVariants.{CapacityTooLarge, DistanceTooLarge, InvalidLoadFactor, IteratorLengthMismatch, Memory, PositionTooLarge, Refused, TextTooLong, Writer}
-use Rattle.rkyv_table.specs.Table.Counting.{YieldsOtherCount}
-use Rattle.rkyv_table.specs.Controls.Numbers.{capacity}
-use Rattle.rkyv_table.specs.Table.Listed.{listed}
-use Rattle.rkyv_table.specs.Table.Serializing.{HasCapacity, OwnCause, WriteItemsFails, WroteItems}
+use Rattle.rkyv_table.specs.{HasCapacity, OwnCause, WriteItemsFails, WroteItems, YieldsOtherCount, capacity, listed}
 
 -- an iterator whose state shows the items that remain
 module _ {S A B : Type 0} (view : A → B) (rest : S → List B) where

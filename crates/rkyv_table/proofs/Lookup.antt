@@ -5,13 +5,8 @@ use Rattle.std.proofs.lemmas.List.FromFn.{get_or-range_with_len, length-range_wi
 use Rattle.std.proofs.lemmas.List.Folds.{Any-from_list_any}
 use Rattle.std.proofs.lemmas.Nat.{mod_below}
 use Rattle.std.proofs.lemmas.Bool.{and_parts, cases_Bool, cases_eq, cases_lt, eq-eqb, le-leb, ltb-false, ltb-true, ne_eqb, not-false, not-true, or_from, or_left, or_parts, or_right}
-use Rattle.rkyv_table.specs.Controls.Numbers.{control_count, probe_capacity, start, tag}
-use Rattle.rkyv_table.specs.Controls.Probe.{strides}
-use Rattle.rkyv_table.specs.Controls.ControlBytes.{IsFullBucket}
-use Rattle.rkyv_table.specs.Controls.StrideOutcome.{IsFullInStride}
-use Rattle.rkyv_table.specs.Controls.Placing.{AreValidControls, walk}
-use Rattle.rkyv_scan.specs.Groups.{IsKind, Kind}
-use Rattle.rkyv_table.specs.Controls.Finding.{candidates, end, ends_at, found, marked, stride_has_empty}
+use Rattle.rkyv_table.specs.{AreValidControls, IsFullBucket, IsFullInStride, candidates, control_count, end, ends_at, found, marked, probe_capacity, start, stride_has_empty, strides, tag, walk}
+use Rattle.rkyv_scan.specs.{IsKind, Kind}
 use Rattle.rkyv_table.proofs.Coverage.{count_strides, covered, has_stride, stride_below}
 use Rattle.rkyv_table.proofs.Lists.{any_member, any_range, contains_member, none_find, some_find}
 use Rattle.rkyv_table.proofs.Search.{control_of, found_along, found_along_cons, mark_full}

@@ -1,9 +1,9 @@
 -- The first index of a mask, and the others.
 use Rattle.std.proofs.Common.{◌≡◌, ◌∙◌, ℕ, zero, suc, ◌+◌, ◌%◌, ◌<◌, ◌≤◌, inl, inr, refl, sym, ap, arith, List, [], ◌∷◌, Bool, true, false, map, filter, drop, take, length, get_or, get_or-take, get_or-drop, Some, None}
-use Rattle.rkyv_scan.specs.Groups.{IsKind, Kind, indices_where}
+use Rattle.rkyv_scan.specs.{IsKind, Kind, indices_where}
 use Rattle.std.proofs.lemmas.Bool.{cases_Bool}
 use Rattle.std.specs.List.{find, range_with_len, slice_get}
-use Rattle.rkyv_table.specs.Controls.StrideOutcome.{IsFullInStride, IsMarked}
+use Rattle.rkyv_table.specs.{IsFullInStride, IsMarked}
 use Rattle.std.proofs.lemmas.Option.{none-some, same_Some}
 
 pub head_found : (f : ℕ → ℕ) (accept : ℕ → Bool) (xs : List ℕ) (j : ℕ) → Some j ≡ slice_get xs 0 → accept (f j) ≡ true → Some (f j) ≡ find accept (map f xs)

@@ -10,13 +10,9 @@ use Rattle.std.proofs.lemmas.List.Sums.{fails_before_first, passes_at_first}
 use Rattle.std.proofs.lemmas.Map.Made.{length-from_same_keys}
 use Rattle.std.proofs.lemmas.Option.{none-some, same_Some, slice_get-get_or}
 use Rattle.std.proofs.lemmas.Bool.{cases_Bool, cases_eq, cases_lt, and_parts, and_from, eq-eqb, eqb-true, ne_eqb, not-false, or_left, or_right, true≢false}
-use Rattle.rkyv_scan.specs.Groups.{IsKind, Kind, is_full}
+use Rattle.rkyv_scan.specs.{IsKind, Kind, is_full}
 use Rattle.rkyv_scan.proofs.Indices.{range_agree}
-use Rattle.rkyv_table.specs.Controls.Finding.{candidates, ends_at, found, marked}
-use Rattle.rkyv_table.specs.Table.Misplaced.{AcceptsSame, AloneAccepted, IsSameness, NoneAccepted, is_found_at, is_misplaced, misplaced, repeated, repeats_earlier}
-use Rattle.rkyv_table.specs.Controls.Numbers.{tag}
-use Rattle.rkyv_table.specs.Controls.Placing.{AreValidControls, Written, walk}
-use Rattle.rkyv_table.specs.Controls.Probe.{strides}
+use Rattle.rkyv_table.specs.{AcceptsSame, AloneAccepted, AreValidControls, IsSameness, NoneAccepted, Written, candidates, ends_at, found, is_found_at, is_misplaced, marked, misplaced, repeated, repeats_earlier, strides, tag, walk}
 use Rattle.rkyv_table.proofs.Lists.{any_filter, any_map_filter, any_member, contains_member, distinct_filter, member_contains, some_find}
 use Rattle.rkyv_table.proofs.Lookup.{found_is, marked_walked}
 use Rattle.rkyv_table.proofs.Search.{cases_option, found_along, found_along_cons}

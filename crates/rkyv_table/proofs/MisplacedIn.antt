@@ -6,12 +6,8 @@ use Rattle.std.specs.List.{All, sum_by}
 use Rattle.std.proofs.lemmas.List.Elements.{All-head, All-rest}
 use Rattle.std.proofs.lemmas.List.Sums.{sum_by-cons}
 use Rattle.rkyv_base.specs.declared.view.View.{View}
-use Rattle.rkyv_scan.specs.Groups.{generic_kind}
-use Rattle.rkyv_table.specs.Controls.Finding.{ReadsWithin}
-use Rattle.rkyv_table.specs.Table.MisplacedIn.{ComparesAs, ComparesItems, CountsOwn, HashesAs, ReturnsMisplaced, bucket_misplaced}
-use Rattle.rkyv_table.specs.Table.MisplacedIn.{bucket_strides, table_misplaced, table_strides}
-use Rattle.rkyv_table.specs.Table.Positions.{IsWalked}
-use Rattle.rkyv_table.specs.Table.Reading.{IsItemIn, item_pos, table_bytes, table_pos}
+use Rattle.rkyv_scan.specs.{generic_kind}
+use Rattle.rkyv_table.specs.{ComparesAs, ComparesItems, CountsOwn, HashesAs, IsItemIn, IsWalked, ReadsWithin, ReturnsMisplaced, bucket_misplaced, bucket_strides, item_pos, table_bytes, table_misplaced, table_pos, table_strides}
 use Rattle.rkyv_table.specs.declared.table.ArchivedHashTable.{ArchivedHashTable}
 
 pub count_taken : (P : ℕ → Bool) (x : ℕ) (xs rest : List ℕ) → xs ≡ x ∷ rest → P x ≡ true → length (filter P xs) ≡ suc (length (filter P rest))

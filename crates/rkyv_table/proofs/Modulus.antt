@@ -9,7 +9,7 @@ use Rattle.std.proofs.lemmas.Nat.{pow-add, pow_below}
 use Rattle.std.proofs.lemmas.Bool.{cases_lt, le-leb, leb-true, lt-leb}
 use Rattle.std.proofs.lemmas.List.FromFn.{get_or-range_with_len, length-range_with_len}
 use Rattle.std.proofs.lemmas.List.Sums.{passes_at_first, position_or_len_is}
-use Rattle.rkyv_table.specs.Controls.Numbers.{control_count, modulus}
+use Rattle.rkyv_table.specs.{control_count, modulus}
 
 below_pow : (n : ℕ) → n < 2 ^ n
 below_pow zero = omega arith

@@ -4,14 +4,8 @@ use Rattle.std.specs.Prelude.{slice_get, slice_set}
 use Rattle.std.specs.Int.{Width}
 use Rattle.std.proofs.lemmas.List.{length-map}
 use Rattle.std.proofs.lemmas.Option.{none-some, same_Some, slice_get_within}
-use Rattle.rkyv_base.specs.ElementSpec.{ElementSpec, IsElement, Viewable}
-use Rattle.rkyv_base.specs.Format.{RepresentsLocally}
-use Rattle.rkyv_base.specs.Sealing.{Keeps, Sealed}
-use Rattle.rkyv_table.specs.Table.Layout.{table_spec}
-use Rattle.rkyv_table.specs.Table.PlacedItems.{hashes_of, items_of}
-use Rattle.rkyv_table.specs.Table.Positions.{IsWalked, home_positions, item_at}
-use Rattle.rkyv_table.specs.Table.SealedTable.{KeepsTable}
-use Rattle.rkyv_table.specs.Table.WrittenTables.{IsWrittenOf}
+use Rattle.rkyv_base.specs.{ElementSpec, IsElement, Keeps, RepresentsLocally, Sealed, Viewable}
+use Rattle.rkyv_table.specs.{IsWalked, IsWrittenOf, KeepsTable, hashes_of, home_positions, item_at, items_of, table_spec}
 use Rattle.rkyv_table.proofs.Lists.{set_each}
 use Rattle.rkyv_table.proofs.ValidTable.{item_viewable}
 use Rattle.rkyv_table.proofs.SealedTable.{item_stays, table_kept, written_kept}

@@ -5,18 +5,9 @@ use Rattle.std.specs.List.{list_any}
 use Rattle.std.proofs.lemmas.Bool.{cases_Bool, not-false}
 use Rattle.std.proofs.lemmas.List.{ext_get_or, get_or_default}
 use Rattle.std.proofs.lemmas.Option.{get_or_from_slice_get, slice_get_cases}
-use Rattle.rkyv_base.specs.Format.{Format}
-use Rattle.rkyv_base.specs.ElementSpec.{ElementSpec}
-use Rattle.rkyv_base.specs.Entry.{round_up}
-use Rattle.rkyv_base.specs.Writing.{padding, zeros}
-use Rattle.rkyv_table.specs.Controls.Numbers.{capacity}
-use Rattle.rkyv_table.specs.Controls.Placing.{is_free}
+use Rattle.rkyv_base.specs.{ElementSpec, Format, padding, round_up, zeros}
+use Rattle.rkyv_table.specs.{IsHeader, Placed, SlotImages, SlotParts, Slotted, TableBytes, TableResolver, TableWritten, WritesOneWay, capacity, hashes_of, header_bytes, is_free, items_of, resolved_capacity, table_format}
 use Rattle.rkyv_table.specs.Lemmas.TableSound.{capacity_above}
-use Rattle.rkyv_table.specs.Table.Header.{IsHeader, header_bytes}
-use Rattle.rkyv_table.specs.Table.OneWay.{WritesOneWay}
-use Rattle.rkyv_table.specs.Table.Slots.{SlotImages, SlotParts, TableBytes}
-use Rattle.rkyv_table.specs.Table.TableFormat.{TableResolver, TableWritten, resolved_capacity, table_format}
-use Rattle.rkyv_table.specs.Table.PlacedItems.{Placed, Slotted, hashes_of, items_of}
 use Rattle.rkyv_table.proofs.HomeList.{homes_one_list, written_one_list}
 use Rattle.rkyv_table.proofs.Lists.{member_contains}
 

@@ -1,12 +1,9 @@
 -- A sealed pair, by the position of its key.
 use Rattle.std.proofs.Common.{◌≡◌, ℕ, ◌∙◌, sym, ap, subst, List, drop, take}
-use Rattle.rkyv_base.specs.Seal.{bytes_in, seal_pos}
-use Rattle.rkyv_base.specs.Sealing.{value_pos}
-use Rattle.rkyv_base.specs.ElementSpec.{ElementSpec}
-use Rattle.rkyv_base.specs.View.{IsValidView, bytes_of, pos_of}
+use Rattle.rkyv_base.specs.{ElementSpec, IsValidView, bytes_in, bytes_of, pos_of, seal_pos, value_pos}
 use Rattle.rkyv_base.specs.declared.seal.Seal.{Seal}
 use Rattle.rkyv_base.specs.declared.view.View.{View}
-use Rattle.rkyv_table.specs.Table.PairSeals.{LendsPair}
+use Rattle.rkyv_table.specs.{LendsPair}
 
 pub pair_lent : {K V : Type 0} (k v : ElementSpec) (b : List ℕ) (At : ℕ → Type 0) (q : ℕ) (pair : View K × Seal V) → At q → pos_of pair.0 ≡ q → IsValidView k pair.0
     → bytes_of pair.0 ≡ take (value_pos k v q) b → bytes_in pair.1 ≡ drop (value_pos k v q) b → seal_pos pair.1 ≡ 0 → LendsPair k v b At pair

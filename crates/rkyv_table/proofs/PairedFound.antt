@@ -2,12 +2,9 @@
 use Rattle.std.proofs.Common.{◌≡◌, ℕ, suc, ◌+◌, ◌-◌, ◌*◌, ◌/◌, ◌%◌, ◌<◌, ◌≤◌, Bool, ◌||◌, cond, eqb, refl, ap, ◌∙◌, arith, List, drop, map, take, None}
 use Rattle.std.specs.List.{find, list_any, position_or_len}
 use Rattle.std.specs.Option.{option_and_then}
-use Rattle.rkyv_scan.specs.Groups.{generic_kind, is_word_match_at}
-use Rattle.rkyv_scan.specs.Paired.{paired_kind}
+use Rattle.rkyv_scan.specs.{generic_kind, is_word_match_at, paired_kind}
 use Rattle.rkyv_scan.proofs.Indices.{range_agree}
-use Rattle.rkyv_table.specs.Controls.Finding.{candidates, end, found, marked, stride_has_empty}
-use Rattle.rkyv_table.specs.Controls.Numbers.{tag}
-use Rattle.rkyv_table.specs.Controls.Probe.{strides}
+use Rattle.rkyv_table.specs.{candidates, end, found, marked, stride_has_empty, strides, tag}
 use Rattle.rkyv_table.proofs.Groups.{group_of}
 
 marked_alike : (controls : List ℕ) (t p q : ℕ) → p ≤ q → q < p + 16 → marked paired_kind controls t p q ≡ marked generic_kind controls t p q

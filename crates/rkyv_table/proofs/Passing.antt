@@ -1,12 +1,10 @@
 -- A written table is valid in each range around it.
 use Rattle.std.proofs.Common.{ℕ, ◌+◌, ◌≤◌, arith, length}
 use Rattle.std.specs.Int.{Width}
-use Rattle.rkyv_base.specs.Format.{Format, IsFormat}
-use Rattle.rkyv_base.specs.ElementSpec.{ElementSpec, IsElement}
-use Rattle.rkyv_base.specs.Text.{IsArchiveWord}
+use Rattle.rkyv_base.specs.{ElementSpec, Format, IsArchiveWord, IsElement, IsFormat}
 use Rattle.rkyv_table.specs.Lemmas.TableLaws.{table_element}
 use Rattle.rkyv_table.specs.Lemmas.TableSound.{table_is_format}
-use Rattle.rkyv_table.specs.Table.Passing.{IsValidAround, WrittenTablesPass}
+use Rattle.rkyv_table.specs.{IsValidAround, WrittenTablesPass}
 use Rattle.std.proofs.Common.{List}
 
 -- a value that is valid in a range is valid in each range around it

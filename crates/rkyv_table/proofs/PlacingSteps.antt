@@ -8,17 +8,11 @@ use Rattle.std.proofs.lemmas.List.Elements.{All-append, All-cons, All-nil}
 use Rattle.std.proofs.lemmas.List.Folds.{list_any-append}
 use Rattle.std.proofs.lemmas.Option.{none-some, same_Some, slice_get_within}
 use Rattle.std.proofs.lemmas.Bool.{both_ways, eq-eqb, leb-true, not-true, not_from_false, or_parts}
-use Rattle.rkyv_table.specs.Controls.Numbers.{tag}
-use Rattle.rkyv_table.specs.Controls.Probe.{probed, strides}
-use Rattle.rkyv_table.specs.Controls.ControlBytes.{HasRoom, fresh_controls, is_empty_at, with_control}
-use Rattle.rkyv_table.specs.Controls.Placing.{Written, is_free}
+use Rattle.rkyv_table.specs.{AreHashes, HasRoom, Placed, Slotted, Written, filled, fresh_controls, hashes_of, is_empty_at, is_free, items_of, probed, strides, tag, with_control}
 use Rattle.rkyv_table.proofs.Written.{probed_below}
 use Rattle.rkyv_table.proofs.WrittenStep.{free_empty, fresh, one_more, room_left}
 use Rattle.rkyv_table.proofs.Lists.{some_find}
-use Rattle.rkyv_table.specs.Table.Slots.{filled}
 use Rattle.std.proofs.Common.{add-one}
-use Rattle.rkyv_table.specs.Controls.Laws.{AreHashes}
-use Rattle.rkyv_table.specs.Table.PlacedItems.{Placed, Slotted, hashes_of, items_of}
 
 pub yields_more : {S A : Type 0} (steps : S → Option A → S → Type 0) (s t u : S) (xs : List A) (x : A) → Yields steps s xs t → steps t (Some x) u → Yields steps s (xs ++ x ∷ []) u
 yields_more steps s t u [] x y e = (u, subst (λ z. steps z (Some x) u) (sym y) e, refl)

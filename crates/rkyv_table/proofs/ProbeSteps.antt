@@ -4,8 +4,7 @@ use Rattle.std.proofs.Math.Nat.{mod-add-mod, mod-eq_of_lt}
 use Rattle.std.proofs.Math.Pow.{pow_mono}
 use Rattle.std.proofs.lemmas.Nat.{and_mask, mod_below, pow_pos}
 use Rattle.std.proofs.lemmas.Bool.{cases_lt, le-ltb, lt-ltb}
-use Rattle.rkyv_table.specs.Controls.Numbers.{modulus, probe_capacity}
-use Rattle.rkyv_table.specs.Controls.Probe.{IsProbe, probe_index, strides, strides_from}
+use Rattle.rkyv_table.specs.{IsProbe, modulus, probe_capacity, probe_index, strides, strides_from}
 use Rattle.rkyv_table.proofs.Triangle.{triangle, twice}
 use Rattle.rkyv_table.proofs.Modulus.{modulus_power}
 use Rattle.rkyv_table.proofs.Lists.{range_cons}

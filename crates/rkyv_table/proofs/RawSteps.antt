@@ -6,12 +6,9 @@ use Rattle.std.proofs.lemmas.Option.{none-some, same_Some}
 use Rattle.std.proofs.lemmas.List.{take-append-le, take_all}
 use Rattle.std.proofs.Math.Nat.{mul-le-mul_right}
 use Rattle.std.proofs.lemmas.List.Elements.{All-head, All-rest, All-same, filter-append}
-use Rattle.rkyv_scan.specs.Groups.{indices_where}
+use Rattle.rkyv_scan.specs.{indices_where}
 use Rattle.rkyv_scan.proofs.Indices.{range_agree}
-use Rattle.rkyv_table.specs.Controls.Numbers.{control_count}
-use Rattle.rkyv_table.specs.Controls.Placing.{walk}
-use Rattle.rkyv_table.specs.Table.RawItems.{IsAhead, IsRawIter, buckets_left, marked_left, pos_before, positions_left}
-use Rattle.rkyv_table.specs.Controls.Walking.{full_from}
+use Rattle.rkyv_table.specs.{IsAhead, IsRawIter, buckets_left, control_count, full_from, marked_left, pos_before, positions_left, walk}
 use Rattle.rkyv_table.proofs.FirstFree.{head_filter}
 use Rattle.rkyv_table.proofs.Groups.{filter_shift, range_append}
 use Rattle.rkyv_table.proofs.Lists.{first_range}

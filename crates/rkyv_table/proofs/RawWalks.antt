@@ -5,12 +5,8 @@ use Rattle.std.specs.List.{All, Contains}
 use Rattle.std.proofs.lemmas.Bool.{cases_eq}
 use Rattle.std.proofs.lemmas.List.{length-map}
 use Rattle.std.proofs.lemmas.List.Elements.{All-contains_itself, All-map, All-weaker}
-use Rattle.rkyv_base.specs.ElementSpec.{ElementSpec, IsElement, Viewable}
-use Rattle.rkyv_table.specs.Table.Header.{cap_at, controls_pos, len_at}
-use Rattle.rkyv_table.specs.Controls.Placing.{walk}
-use Rattle.rkyv_table.specs.Table.RawItems.{IsAhead, pos_before}
-use Rattle.rkyv_table.specs.Table.Positions.{IsWalked, item_at, item_positions, table_controls}
-use Rattle.rkyv_table.specs.Table.Layout.{table_spec}
+use Rattle.rkyv_base.specs.{ElementSpec, IsElement, Viewable}
+use Rattle.rkyv_table.specs.{IsAhead, IsWalked, cap_at, controls_pos, item_at, item_positions, len_at, pos_before, table_controls, table_spec, walk}
 use Rattle.rkyv_table.proofs.ValidTable.{controls_accepted, item_before, item_viewable, no_items}
 use Rattle.rkyv_table.proofs.Walks.{walk_none, walked_full}
 

@@ -3,16 +3,9 @@ use Rattle.std.proofs.Common.{◌≡◌, ℕ, ◌+◌, ◌<◌, ◌∙◌, inl, 
 use Rattle.std.specs.Int.{Width}
 use Rattle.rkyv_base.specs.declared.pairs.EntryResolver.{EntryResolver}
 use Rattle.rkyv_base.specs.declared.strings.TextResolver.{TextResolver}
-use Rattle.rkyv_base.specs.Empty.{unit_format}
-use Rattle.rkyv_base.specs.Entry.{value_offset, whole_size}
-use Rattle.rkyv_base.specs.Format.{Format}
-use Rattle.rkyv_base.specs.Pairs.{PairImage, PairParts, pair_bytes, pair_format, written_as}
-use Rattle.rkyv_base.specs.Scalar.{Encoding, scalar_format}
-use Rattle.rkyv_base.specs.ElementSpec.{ElementSpec}
-use Rattle.rkyv_base.specs.Text.{IsArchiveWord, text_size}
+use Rattle.rkyv_base.specs.{ElementSpec, Encoding, Format, IsArchiveWord, PairImage, PairParts, TextImage, TextParts, pair_bytes, pair_format, scalar_format, text_format, text_limit, text_size, unit_format, value_offset, whole_size, written_as}
 use Rattle.rkyv_base.specs.Lemmas.Text.{by_archive_word}
-use Rattle.rkyv_base.specs.TextWriting.{TextImage, TextParts, text_format, text_limit}
-use Rattle.rkyv_table.specs.Table.OneWay.{WritesOneWay}
+use Rattle.rkyv_table.specs.{WritesOneWay}
 
 pub scalars_one_way : {V : Type 0} (e : Encoding V) → WritesOneWay (scalar_format e)
 scalars_one_way e = record {

@@ -1,11 +1,9 @@
 -- Two archives with the same bytes of a table have the same table.
 use Rattle.std.proofs.Common.{◌≡◌, ℕ, ◌+◌, ◌*◌, ◌<◌, ◌∙◌, inl, inr, sym, subst, arith, List, length}
 use Rattle.std.specs.Int.{Width, byte_len}
-use Rattle.rkyv_base.specs.Bytes.{AgreeOn}
-use Rattle.rkyv_table.specs.Controls.Placing.{Written}
+use Rattle.rkyv_base.specs.{AgreeOn}
+use Rattle.rkyv_table.specs.{Written, WrittenAt, cap_at, table_controls}
 use Rattle.rkyv_table.specs.Lemmas.SameHeader.{cap_same, len_same}
-use Rattle.rkyv_table.specs.Table.Header.{cap_at}
-use Rattle.rkyv_table.specs.Table.Positions.{WrittenAt, table_controls}
 
 -- a table that was written under some hashes is so in bytes with the same header and control bytes
 pub written_there : (w : Width) (b c : List ℕ) (p : ℕ) → AgreeOn b c p (p + 3 * byte_len w) → (0 < cap_at w b p → table_controls w b p ≡ table_controls w c p)

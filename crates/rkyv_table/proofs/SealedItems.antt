@@ -4,27 +4,15 @@ use Rattle.rkyv_base.specs.declared.width.Word.{Ghosts as Words}
 use Rattle.std.proofs.Common.{◌≡◌, ℕ, ◌+◌, ◌-◌, ◌*◌, ◌<◌, ◌≤◌, suc, inl, inr, refl, sym, ap, subst, ◌∙◌, arith, List, ◌∷◌, length, slice_index, slice_range, take, drop, get_or-take}
 use Rattle.std.specs.Int.{Width}
 use Rattle.std.proofs.lemmas.Bool.{cases_eq, le-ltb, lt-ltb}
-use Rattle.rkyv_base.specs.ElementSpec.{ElementSpec, IsElement, Viewable}
-use Rattle.rkyv_scan.specs.Groups.{is_full}
+use Rattle.rkyv_base.specs.{ElementSpec, IsElement, Keeps, Sealed, Viewable, archive_in, pos_in}
+use Rattle.rkyv_scan.specs.{is_full}
 use Rattle.rkyv_scan.proofs.Indices.{range_agree}
-use Rattle.rkyv_table.specs.Table.Header.{cap_at, controls_pos, len_at}
-use Rattle.rkyv_table.specs.Controls.Numbers.{control_count}
-use Rattle.rkyv_table.specs.Table.RawItems.{pos_before}
-use Rattle.rkyv_table.specs.Table.Positions.{IsWalked, item_at, table_controls}
-use Rattle.rkyv_table.specs.Table.Reading.{table_bytes, table_pos}
-use Rattle.rkyv_table.specs.Table.SealedLookup.{IsReadAt, IsTableSeal}
+use Rattle.rkyv_table.specs.{IsItemAt, IsReadAt, IsSealIter, IsTableSeal, IsWalked, KeepsTable, StaysThere, cap_at, control_count, controls_pos, cursor_buckets_left, full_from, item_at, len_at, pos_before, table_bytes, table_controls, table_pos, table_spec, walk}
 use Rattle.rkyv_table.specs.declared.table.TableOf.{TableOf}
 use Rattle.rkyv_table.specs.declared.table.ArchivedHashTable.{ArchivedHashTable}
-use Rattle.rkyv_base.specs.Seal.{archive_in, pos_in}
 use Rattle.rkyv_base.specs.declared.seal.ArchiveSeal.{ArchiveSeal}
-use Rattle.rkyv_table.specs.Controls.Placing.{walk}
-use Rattle.rkyv_table.specs.Table.SealedItems.{IsItemAt, IsSealIter, StaysThere, cursor_buckets_left}
 use Rattle.rkyv_table.specs.Lemmas.SameHeader.{cap_same, pos_same}
-use Rattle.rkyv_table.specs.Table.SealedTable.{KeepsTable}
-use Rattle.rkyv_table.specs.Table.Layout.{table_spec}
-use Rattle.rkyv_base.specs.Sealing.{Keeps, Sealed}
 use Rattle.rkyv_base.proofs.Sealing.{viewable_kept}
-use Rattle.rkyv_table.specs.Controls.Walking.{full_from}
 use Rattle.rkyv_table.specs.declared.table.raw_iter_seal.RawIterSeal.{RawIterSeal}
 use Rattle.rkyv_table.proofs.ValidTable.{controls_inside, item_before, item_viewable}
 use Rattle.rkyv_table.proofs.RawWalks.{walk_count}

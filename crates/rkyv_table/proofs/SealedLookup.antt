@@ -3,18 +3,12 @@ use Rattle.rkyv_base.specs.declared.element.HasSpec.{Ghosts as Specs}
 use Rattle.rkyv_base.specs.declared.width.Word.{Ghosts as Words}
 use Rattle.std.proofs.Common.{◌≡◌, ℕ, ap, sym, subst, ◌∙◌, Bool, List, Option}
 use Rattle.std.specs.List.{find}
-use Rattle.rkyv_base.specs.Seal.{SealAt, archive_in, pos_in}
-use Rattle.rkyv_base.specs.ElementSpec.{IsElement, Viewable}
+use Rattle.rkyv_base.specs.{IsElement, SealAt, Viewable, archive_in, bytes_of, pos_in, pos_of}
 use Rattle.rkyv_base.specs.declared.seal.ArchiveSeal.{ArchiveSeal}
 use Rattle.rkyv_base.specs.declared.seal.Seal.{Seal}
-use Rattle.rkyv_base.specs.View.{bytes_of, pos_of}
 use Rattle.rkyv_base.specs.declared.view.View.{View}
-use Rattle.rkyv_scan.specs.Groups.{generic_kind}
-use Rattle.rkyv_table.specs.Controls.Laws.{IsUnderHash}
-use Rattle.rkyv_table.specs.Table.Positions.{IsWalked, WrittenAt, home_positions, item_at}
-use Rattle.rkyv_table.specs.Table.Positions.{pos_found}
-use Rattle.rkyv_table.specs.Table.Reading.{FindsFirst, FindsFound, IsItemPos}
-use Rattle.rkyv_table.specs.Table.SealedLookup.{IsItemSeal, IsReadAt, IsTableSeal, SealsFirst, SealsFound}
+use Rattle.rkyv_scan.specs.{generic_kind}
+use Rattle.rkyv_table.specs.{FindsFirst, FindsFound, IsItemPos, IsItemSeal, IsReadAt, IsTableSeal, IsUnderHash, IsWalked, SealsFirst, SealsFound, WrittenAt, home_positions, item_at, pos_found}
 use Rattle.rkyv_table.specs.declared.table.ArchivedHashTable.{ArchivedHashTable}
 use Rattle.rkyv_table.specs.declared.table.TableOf.{TableOf}
 use Rattle.rkyv_table.proofs.Bare.{compares_by_of}

@@ -5,26 +5,15 @@ use Rattle.std.proofs.Common.{arith, subst, sym, ◌∙◌, ap, inl, inr}
 use Rattle.std.proofs.lemmas.Bool.{cases_eq, cases_lt}
 use Rattle.std.proofs.lemmas.Int.{ints}
 use Rattle.std.proofs.Math.Nat.{mul-le-mul_right}
-use Rattle.rkyv_base.specs.Bytes.{AgreeOn}
-use Rattle.rkyv_base.specs.Entry.{entry_spec, whole_size}
+use Rattle.rkyv_base.specs.{AgreeOn, ElementSpec, IsElement, Keeps, Outside, Sealed, Viewable, entry_spec, value_pos, whole_size}
 use Rattle.rkyv_base.specs.Lemmas.Entry.{entry_element, key_and_value_inside, size_of_small}
-use Rattle.rkyv_base.specs.Sealing.{Keeps, Outside, Sealed, value_pos}
-use Rattle.rkyv_base.specs.ElementSpec.{ElementSpec, IsElement, Viewable}
 use Rattle.rkyv_base.proofs.Sealing.{entry_kept, same_outside, sealed_wider, valid_outside}
 use Rattle.rkyv_table.proofs.SameTable.{written_there}
 use Rattle.rkyv_table.proofs.ValidTable.{item_viewable, part_of}
-use Rattle.rkyv_table.specs.Table.Positions.{IsWalked, WrittenAt, bucket_found, item_at}
-use Rattle.rkyv_table.specs.Table.Positions.{table_controls}
-use Rattle.rkyv_table.specs.Table.Header.{cap_at, controls_pos, decode_begin, len_at}
-use Rattle.rkyv_table.specs.Table.SealedTable.{KeepsTable, SameValue}
-use Rattle.rkyv_scan.specs.Groups.{Kind, is_full}
-use Rattle.rkyv_table.specs.Controls.Finding.{found}
+use Rattle.rkyv_table.specs.{AreValidAt, AreValidControls, IsPart, IsWalked, KeepsTable, SameValue, TableAt, WrittenAt, bucket_at, bucket_found, cap_at, control_count, controls_at, controls_pos, decode_begin, found, item_at, len_at, table_controls, table_spec, walk}
+use Rattle.rkyv_scan.specs.{Kind, is_full}
 use Rattle.rkyv_table.specs.Lemmas.ItemPositions.{ValidPart, bucket_is_valid_within, decoded_controls, decoded_item, decoded_pos}
-use Rattle.rkyv_table.specs.Controls.Numbers.{control_count}
-use Rattle.rkyv_table.specs.Table.ValidItems.{AreValidAt}
 use Rattle.rkyv_table.specs.Lemmas.ValidItemLaws.{AllBelow, range_below}
-use Rattle.rkyv_table.specs.Controls.Placing.{AreValidControls, walk}
-use Rattle.rkyv_table.specs.Table.Layout.{IsPart, TableAt, bucket_at, controls_at, table_spec}
 use Rattle.rkyv_table.specs.Lemmas.SameHeader.{begin_same, cap_same, item_same, len_same, pos_same}
 use Rattle.rkyv_table.specs.Lemmas.TableLaws.{bucket_inside, of_numbers}
 

@@ -7,11 +7,8 @@ use Rattle.std.proofs.lemmas.Nat.{div-add-mod', mod_below, pow_pos}
 use Rattle.std.proofs.lemmas.List.Folds.{find-append}
 use Rattle.std.proofs.lemmas.Option.{none-some, same_Some}
 use Rattle.std.proofs.lemmas.Bool.{and_parts, cases_Bool, cases_lt, eq-eqb, eqb-true, lt-ltb, ltb-true, or_from, or_left, or_right}
-use Rattle.rkyv_table.specs.Controls.Numbers.{control_count, modulus, probe_capacity, start}
-use Rattle.rkyv_table.specs.Controls.Probe.{buckets_at, probe_index, strides}
-use Rattle.rkyv_table.specs.Controls.Placing.{IsWrapped}
-use Rattle.rkyv_scan.specs.Groups.{IsKind, Kind}
-use Rattle.rkyv_table.specs.Controls.Finding.{candidates, ends_at, marked, stride_has_empty}
+use Rattle.rkyv_table.specs.{IsWrapped, buckets_at, candidates, control_count, ends_at, marked, modulus, probe_capacity, probe_index, start, stride_has_empty, strides}
+use Rattle.rkyv_scan.specs.{IsKind, Kind}
 use Rattle.rkyv_table.proofs.Coverage.{has_stride, mod_more}
 use Rattle.rkyv_table.proofs.Modulus.{modulus_power}
 use Rattle.rkyv_table.proofs.Lists.{none_find, some_find}

@@ -6,20 +6,13 @@ use Rattle.std.proofs.lemmas.List.Elements.{All-get_or}
 use Rattle.std.proofs.lemmas.Option.{slice_get_within}
 use Rattle.std.specs.Int.{Width}
 use Rattle.std.specs.Prelude.{◌≡◌, ℕ, ◌+◌, ◌*◌, ◌^◌, ◌<◌, ◌≤◌, List, length, slice_get, slice_index, Some}
-use Rattle.rkyv_base.specs.Bytes.{AgreeOn}
+use Rattle.rkyv_base.specs.{AgreeOn, ElementSpec, IsElement, RepresentsLocally}
 use Rattle.rkyv_base.specs.Lemmas.Bytes.{agree_on_part}
-use Rattle.rkyv_base.specs.Format.{RepresentsLocally}
-use Rattle.rkyv_base.specs.ElementSpec.{ElementSpec, IsElement}
 use Rattle.rkyv_table.proofs.WrittenStep.{home_below}
-use Rattle.rkyv_table.specs.Table.Header.{cap_at}
+use Rattle.rkyv_table.specs.{AreValidItems, BucketsRepresent, TableRepresents, Written, bucket_at, cap_at, capacity, control_count, controls_at, hashes_of, items_of, part_size, table_spec}
 use Rattle.rkyv_table.specs.Lemmas.ItemPositions.{bucket_is_valid_within}
-use Rattle.rkyv_table.specs.Controls.Numbers.{capacity, control_count}
-use Rattle.rkyv_table.specs.Controls.Placing.{Written}
 use Rattle.rkyv_table.specs.Lemmas.SameHeader.{begin_same, cap_same, len_same}
-use Rattle.rkyv_table.specs.Table.Layout.{AreValidItems, bucket_at, controls_at, part_size, table_spec}
-use Rattle.rkyv_table.specs.Table.TableFormat.{BucketsRepresent, TableRepresents}
 use Rattle.rkyv_table.specs.Lemmas.TableLaws.{bucket_inside}
-use Rattle.rkyv_table.specs.Table.PlacedItems.{hashes_of, items_of}
 
 module _ {X : Type 0} (w : Width) (s : ElementSpec) (laws : IsElement s) (represents : List ℕ → ℕ → X → Type 0) (local : RepresentsLocally s represents) (factor : ℕ × ℕ) where
   module _ (pairs : List (ℕ × X)) (b c : List ℕ) (lo last begin cap : ℕ) (some : 0 < length pairs) (o : lo ≤ begin) (items : AreValidItems s b begin cap lo last)

@@ -6,15 +6,8 @@ use mir.Val.{bits}
 use Rattle.rkyv_base.specs.declared.errors.WriteError.{WriteError}
 use Rattle.rkyv_base.specs.declared.errors.WriteError.TheVariants.{CapacityTooLarge, DistanceTooLarge, InvalidLoadFactor, IteratorLengthMismatch, Memory, PositionTooLarge, Refused, TextTooLong, Writer}
 use Rattle.rkyv_base.proofs.WritingSteps.{fails_under, none_appended}
-use Rattle.rkyv_base.specs.Format.{Format}
-use Rattle.rkyv_base.specs.Layout.{IsLayout}
-use Rattle.rkyv_base.specs.ElementSpec.{ElementSpec}
-use Rattle.rkyv_base.specs.Writing.{Output, end_of}
-use Rattle.rkyv_table.specs.Controls.Numbers.{capacity}
-use Rattle.rkyv_table.specs.Table.Serializing.{HasCapacity, OwnCause, PlacingFails, WriteItemsFails, WriteNonemptyFails, WroteItems, WroteNonempty}
-use Rattle.rkyv_table.specs.Table.Slots.{TableNext}
-use Rattle.rkyv_table.specs.Table.TableFormat.{InBuckets, PairsNext, table_format}
-use Rattle.rkyv_table.specs.Table.PlacedItems.{Placed}
+use Rattle.rkyv_base.specs.{ElementSpec, Format, IsLayout, Output, end_of}
+use Rattle.rkyv_table.specs.{HasCapacity, InBuckets, OwnCause, PairsNext, Placed, PlacingFails, TableNext, WriteItemsFails, WriteNonemptyFails, WroteItems, WroteNonempty, capacity, table_format}
 
 -- a capacity within the limit fits in a word
 pub capacity_fits : {word : Width} {limit table index align text text_limit : ℕ} (len : ℕ) (load_factor : ℕ × ℕ) (max : ℕ) → IsLayout word limit max table index align text text_limit

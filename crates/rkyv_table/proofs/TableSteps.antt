@@ -2,12 +2,10 @@
 use Rattle.std.proofs.Common.{◌≡◌, ℕ, ◌+◌, ◌*◌, refl, ap, ◌∙◌, subst, arith, List, ◌++◌, length, Option, append-nil, append_assoc, inl, inr}
 use Rattle.std.proofs.lemmas.List.{length-replicate}
 use Rattle.rkyv_base.specs.declared.errors.WriteError.{WriteError}
-use Rattle.rkyv_base.specs.Writing.{Appended, Appends, Only, Output, Step, Within, WriteFails, end_of, padding, piece, zeros}
-use Rattle.rkyv_base.specs.Format.{Format}
-use Rattle.rkyv_base.specs.ElementSpec.{ElementSpec}
+use Rattle.rkyv_base.specs.{Appended, Appends, ElementSpec, Format, Only, Output, Step, Within, WriteFails, end_of, padding, piece, zeros}
 use Rattle.rkyv_base.proofs.WritingSteps.{appends_after, end-appends, fails_after, fails_under}
 use Rattle.rkyv_table.specs.Lemmas.Buckets.{images_length}
-use Rattle.rkyv_table.specs.Table.Slots.{BucketNext, PartsNext, SlotImages, SlotParts, TableBytes, TableNext, WroteBuckets}
+use Rattle.rkyv_table.specs.{BucketNext, PartsNext, SlotImages, SlotParts, TableBytes, TableNext, WroteBuckets}
 
 -- the zeros after the appended bytes, by the position at which these begin
 pub zeros_behind : (align : ℕ) (o o1 : Output) (a : List ℕ) → Appends o o1 a → zeros (padding align (end_of o1)) ≡ zeros (padding align (end_of o + length a))

@@ -2,13 +2,10 @@
 use Rattle.std.proofs.Common.{◌≡◌, ℕ, ◌+◌, sym, ap, subst, ◌∙◌, inl, inr, List, [], ◌∷◌, map, Option, Some, None, Result, Ok, Err, MatchResult}
 use Rattle.std.specs.Iterator.{Drains, Yields}
 use Rattle.std.proofs.lemmas.List.{length-map}
-use Rattle.rkyv_base.specs.Format.{Format, SerializeFails, Serialized}
-use Rattle.rkyv_base.specs.Pairs.{written_as}
-use Rattle.rkyv_base.specs.Writing.{Output}
+use Rattle.rkyv_base.specs.{Format, Output, SerializeFails, Serialized, written_as}
 use Rattle.rkyv_base.specs.declared.errors.WriteError.{WriteError}
 use Rattle.rkyv_base.specs.declared.errors.WriteError.TheVariants.{CapacityTooLarge, DistanceTooLarge, InvalidLoadFactor, IteratorLengthMismatch, Memory, PositionTooLarge, Refused, TextTooLong, Writer}
-use Rattle.rkyv_table.specs.Table.Counting.{YieldsOtherCount}
-use Rattle.rkyv_table.specs.Table.Serializing.{OwnCause, WriteItemsFails, WroteItems}
+use Rattle.rkyv_table.specs.{OwnCause, WriteItemsFails, WroteItems, YieldsOtherCount}
 
 -- a state of the outer iterator has one of the inner. Each step of the outer is one of the inner,
 -- with the item that is seen in it

@@ -1,13 +1,9 @@
 -- Keys that are written with the unit value are written as a set of the keys.
 use Rattle.std.proofs.Common.{◌≡◌, ℕ, refl, ap, List, [], ◌∷◌, map, Option, Result, MatchResult}
 use Rattle.std.specs.Iterator.{Drains}
-use Rattle.rkyv_base.specs.Format.{Format}
-use Rattle.rkyv_base.specs.Pairs.{written_as}
-use Rattle.rkyv_base.specs.Writing.{Output}
+use Rattle.rkyv_base.specs.{Format, Output, written_as}
 use Rattle.rkyv_base.specs.declared.errors.WriteError.{WriteError}
-use Rattle.rkyv_table.specs.Table.Counting.{YieldsOtherCount}
-use Rattle.rkyv_table.specs.Table.ItemValues.{UnitStep, key_values, pair_values, with_units}
-use Rattle.rkyv_table.specs.Table.Serializing.{WriteItemsFails, WroteItems}
+use Rattle.rkyv_table.specs.{UnitStep, WriteItemsFails, WroteItems, YieldsOtherCount, key_values, pair_values, with_units}
 use Rattle.rkyv_table.proofs.Through.{drains_through, other_through, results_through}
 
 same_keys : {BK A : Type 0} (key : BK → A) (xs : List (BK × Unit {0})) → pair_values key (λ u. u) xs ≡ with_units (key_values key (map (λ x. x.0) xs))

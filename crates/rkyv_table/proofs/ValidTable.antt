@@ -7,21 +7,13 @@ use Rattle.std.proofs.lemmas.Int.{ints}
 use Rattle.std.proofs.lemmas.Bool.{cases_eq}
 use Rattle.std.proofs.Math.Nat.{mul-le-mul_right}
 use Rattle.std.proofs.lemmas.Grind.{common_steps}
-use Rattle.rkyv_scan.specs.Groups.{Kind}
-use Rattle.rkyv_base.specs.Bytes.{signed_at}
+use Rattle.rkyv_scan.specs.{Kind}
+use Rattle.rkyv_base.specs.{ElementSpec, IsElement, Viewable, signed_at}
 use Rattle.rkyv_base.specs.declared.view.View.{View}
-use Rattle.rkyv_base.specs.ElementSpec.{ElementSpec, IsElement, Viewable}
 use Rattle.rkyv_base.specs.Lemmas.ElementSpec.{valid_at}
-use Rattle.rkyv_table.specs.Controls.ControlBytes.{IsFullBucket}
-use Rattle.rkyv_table.specs.Controls.Finding.{end, found}
-use Rattle.rkyv_table.specs.Table.Header.{cap_at, controls_pos, len_at}
+use Rattle.rkyv_table.specs.{AreValidControls, IsFullBucket, IsFullIn, IsWalked, cap_at, control_count, controls_pos, end, found, item_at, len_at, table_bytes, table_controls, table_pos, table_spec}
 use Rattle.rkyv_table.specs.Lemmas.ItemPositions.{ValidPart, decoded_controls, decoded_item, decoded_pos, item_is_valid, valid_part}
-use Rattle.rkyv_table.specs.Controls.Numbers.{control_count}
-use Rattle.rkyv_table.specs.Controls.Placing.{AreValidControls}
-use Rattle.rkyv_table.specs.Table.Positions.{IsWalked, item_at, table_controls}
-use Rattle.rkyv_table.specs.Table.Reading.{IsFullIn, table_bytes, table_pos}
 use Rattle.rkyv_table.specs.declared.table.ArchivedHashTable.{ArchivedHashTable}
-use Rattle.rkyv_table.specs.Table.Layout.{table_spec}
 use Rattle.rkyv_table.specs.Lemmas.TableLaws.{bucket_aligned}
 
 range_count : (b : List ℕ) (at n : ℕ) → at + n ≤ length b → length (slice_range b at (at + n)) ≡ n

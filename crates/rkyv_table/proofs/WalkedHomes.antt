@@ -5,11 +5,8 @@ use Rattle.std.proofs.lemmas.Bool.{cases_Bool, not-false}
 use Rattle.std.proofs.lemmas.List.{get_or_default}
 use Rattle.std.proofs.lemmas.List.FromFn.{get_or-range_with_len, length-range_with_len}
 use Rattle.std.proofs.lemmas.List.Kept.{AllPairs-filter}
-use Rattle.rkyv_scan.specs.Groups.{is_full}
-use Rattle.rkyv_table.specs.Controls.ControlBytes.{IsFullBucket}
-use Rattle.rkyv_table.specs.Controls.Laws.{AreHashes}
-use Rattle.rkyv_table.specs.Controls.Placing.{Written, is_free, walk}
-use Rattle.rkyv_table.specs.Table.WalkLaws.{VisitsHomes}
+use Rattle.rkyv_scan.specs.{is_full}
+use Rattle.rkyv_table.specs.{AreHashes, IsFullBucket, VisitsHomes, Written, is_free, walk}
 use Rattle.rkyv_table.proofs.Lists.{member_contains}
 use Rattle.rkyv_table.proofs.Walks.{full_walked, walk_none, walked_full}
 use Rattle.rkyv_table.proofs.WrittenAccepted.{accepted_written, distinct_homes}

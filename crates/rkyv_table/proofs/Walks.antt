@@ -5,15 +5,12 @@ use Rattle.std.proofs.lemmas.Bool.{and_from, and_parts, cases_Bool, cases_eq, ca
 use Rattle.std.proofs.lemmas.Option.{none-some, same_Some}
 use Rattle.std.proofs.lemmas.List.Sums.{count_by-le-length, length-filter}
 use Rattle.std.proofs.lemmas.List.FromFn.{length-range_with_len}
-use Rattle.rkyv_table.specs.Controls.Numbers.{control_count}
-use Rattle.rkyv_table.specs.Controls.Placing.{walk}
-use Rattle.rkyv_scan.specs.Groups.{indices_where}
+use Rattle.rkyv_table.specs.{IsFullBucket, IsWalk, control_count, first_index, full_from, left, walk}
+use Rattle.rkyv_scan.specs.{indices_where}
 use Rattle.rkyv_scan.proofs.Indices.{range_agree, range_none}
-use Rattle.rkyv_table.specs.Controls.Walking.{IsWalk, first_index, full_from, left}
 use Rattle.rkyv_table.proofs.Groups.{filter_shift}
 use Rattle.rkyv_table.proofs.FirstFree.{head_filter}
 use Rattle.rkyv_table.proofs.Lists.{FirstIn, any_filter, any_range, contains_member, first_range, in_range, member_contains}
-use Rattle.rkyv_table.specs.Controls.ControlBytes.{IsFullBucket}
 
 cut : (F : ℕ → Bool) (cap a n : ℕ) → filter (λ q. ltb q cap) (filter F (range_with_len a n)) ++ filter F (range_with_len (a + n) (cap - (a + n))) ≡ filter F (range_with_len a (cap - a))
 cut F cap a zero = let e : a + 0 ≡ a = omega arith in rw e refl

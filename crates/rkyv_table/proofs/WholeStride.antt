@@ -1,9 +1,8 @@
 -- A stride as one group.
 use Rattle.std.proofs.Common.{◌≡◌, ◌↔◌, ℕ, ◌+◌, ◌*◌, ◌%◌, ◌<◌, sym, ap, ◌∙◌, arith, List, Bool, true, ◌||◌, leb, length, map, filter, drop, take, get_or, Option, None}
 use Rattle.std.specs.List.{find, list_any, range_with_len}
-use Rattle.rkyv_scan.specs.Groups.{IsKind, Kind, indices_where}
-use Rattle.rkyv_table.specs.Controls.Finding.{candidates, stride_has_empty}
-use Rattle.rkyv_table.specs.Controls.StrideOutcome.{IsFullInStride, IsMarked}
+use Rattle.rkyv_scan.specs.{IsKind, Kind, indices_where}
+use Rattle.rkyv_table.specs.{IsFullInStride, IsMarked, candidates, stride_has_empty}
 use Rattle.rkyv_table.proofs.Groups.{all_candidates, all_empty, candidates_in, empty_in, found_more, group_of, indices_are, mark_is_any, more_empty, no_candidates, no_empty}
 use Rattle.rkyv_table.proofs.Marks.{marked_bucket_full}
 use Rattle.rkyv_table.proofs.Search.{width_some}

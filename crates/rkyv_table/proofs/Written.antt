@@ -8,11 +8,8 @@ use Rattle.std.proofs.lemmas.List.Folds.{Any-from_list_any, find-append, find_at
 use Rattle.std.proofs.lemmas.List.Sums.{fails_before_first, passes_at_first}
 use Rattle.std.proofs.lemmas.Option.{none-some, same_Some, slice_get-get_or}
 use Rattle.std.proofs.lemmas.Bool.{cases_Bool, cases_lt, and_parts, and_from, and_cases, and_left, and_right, or_left, or_right, eqb-true, eq-eqb, ltb-true, lt-ltb, lt-leb, not-false, true≢false, false_from_ne_true, both_ways}
-use Rattle.rkyv_table.specs.Controls.Numbers.{control_count, probe_capacity, start, tag}
-use Rattle.rkyv_table.specs.Controls.Probe.{buckets_at, probed, strides}
-use Rattle.rkyv_table.specs.Controls.Placing.{Written, is_free}
-use Rattle.rkyv_scan.specs.Groups.{IsKind, Kind}
-use Rattle.rkyv_table.specs.Controls.Finding.{candidates, ends_at, found, marked, stride_has_empty}
+use Rattle.rkyv_table.specs.{Written, buckets_at, candidates, control_count, ends_at, found, is_free, marked, probe_capacity, probed, start, stride_has_empty, strides, tag}
+use Rattle.rkyv_scan.specs.{IsKind, Kind}
 use Rattle.rkyv_table.proofs.Coverage.{has_stride}
 use Rattle.rkyv_table.proofs.Search.{GoodStride, cases_option, control_of, found_along, found_along_cons, mark_equal, mark_full, strides_head, tail_shows_all, walk_all, walk_on}
 use Rattle.rkyv_table.proofs.Lists.{FirstIn, any_map_filter, any_member, any_range, find_map_filter, find_none, first_range, none_find, none_range, option_map_some, range_first, some_find}

@@ -8,8 +8,7 @@ use Rattle.std.proofs.lemmas.List.{get_or_default}
 use Rattle.std.proofs.lemmas.List.Folds.{Any-from_list_any, list_any_at}
 use Rattle.std.proofs.lemmas.List.FromFn.{get_or-range_with_len, length-range_with_len}
 use Rattle.std.proofs.lemmas.Bool.{and_from, and_parts, both_ways, eq-eqb, eqb-true, false_from_ne_true, leb-false, lt-ltb, ltb-true, ne_eqb, not-false, not-true}
-use Rattle.rkyv_table.specs.Controls.Probe.{probed}
-use Rattle.rkyv_table.specs.Controls.Placing.{AreValidControls, Homes, Written, is_free, walk}
+use Rattle.rkyv_table.specs.{AreValidControls, Homes, Written, is_free, probed, walk}
 use Rattle.rkyv_table.proofs.Coverage.{same_tests}
 use Rattle.rkyv_table.proofs.Lists.{any_filter, any_range, distinct_filter, in_range, some_find}
 use Rattle.rkyv_table.proofs.WrittenStep.{free_empty, home_below}

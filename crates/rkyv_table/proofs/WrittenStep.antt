@@ -10,10 +10,7 @@ use Rattle.std.proofs.lemmas.List.{get_or-replicate, get_or_append_left, get_or_
 use Rattle.std.proofs.lemmas.List.Folds.{Any-from_list_any, find-append, list_any-append}
 use Rattle.std.proofs.lemmas.Nat.{mod_below}
 use Rattle.std.proofs.lemmas.Bool.{both_ways, cases_Bool, cases_eq, cases_lt, eq-eqb, false_from_ne_true, le-leb, leb-true, lt-leb, ne_eqb, not-false, not-true, not_from_false, or_parts}
-use Rattle.rkyv_table.specs.Controls.Numbers.{control_count, tag}
-use Rattle.rkyv_table.specs.Controls.Probe.{buckets_at, probed, strides}
-use Rattle.rkyv_table.specs.Controls.Placing.{Homes, Written, is_free}
-use Rattle.rkyv_table.specs.Controls.ControlBytes.{HasRoom, is_empty_at, with_control}
+use Rattle.rkyv_table.specs.{HasRoom, Homes, Written, buckets_at, control_count, is_empty_at, is_free, probed, strides, tag, with_control}
 use Rattle.rkyv_table.proofs.Written.{find_buckets, probed_below, tag_small, taken_home}
 use Rattle.rkyv_table.proofs.Lists.{any_member, some_find}
 

@@ -4,18 +4,10 @@ use Rattle.std.specs.Int.{Width}
 use Rattle.std.proofs.lemmas.Bool.{cases_lt}
 use Rattle.std.proofs.lemmas.List.{get_or-map, length-map}
 use Rattle.std.proofs.lemmas.Option.{slice_get_within}
-use Rattle.rkyv_base.specs.ElementSpec.{ElementSpec}
-use Rattle.rkyv_table.specs.Table.Header.{cap_at, decode_begin}
+use Rattle.rkyv_base.specs.{ElementSpec}
+use Rattle.rkyv_table.specs.{BucketsRepresent, IsWalked, IsWrittenOf, TableRepresents, ValidWereWritten, Written, WrittenAt, bucket_at, cap_at, capacity, controls_at, decode_begin, hashes_of, home_positions, item_at, items_of, table_controls}
 use Rattle.rkyv_table.specs.Lemmas.ItemPositions.{decoded_controls, decoded_item}
-use Rattle.rkyv_table.specs.Controls.Numbers.{capacity}
-use Rattle.rkyv_table.specs.Controls.Placing.{Written}
-use Rattle.rkyv_table.specs.Table.Positions.{IsWalked, WrittenAt, home_positions, item_at}
-use Rattle.rkyv_table.specs.Table.Positions.{table_controls}
-use Rattle.rkyv_table.specs.Table.Layout.{bucket_at, controls_at}
-use Rattle.rkyv_table.specs.Table.TableFormat.{BucketsRepresent, TableRepresents}
 use Rattle.rkyv_table.specs.Lemmas.TableSound.{capacity_above}
-use Rattle.rkyv_table.specs.Table.PlacedItems.{hashes_of, items_of}
-use Rattle.rkyv_table.specs.Table.WrittenTables.{IsWrittenOf, ValidWereWritten}
 use Rattle.rkyv_table.proofs.WrittenAccepted.{homes_apart}
 use Rattle.rkyv_table.proofs.WrittenStep.{home_below}
 

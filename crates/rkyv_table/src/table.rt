@@ -10,7 +10,7 @@
 //! `docs/FORMAT.md` has the layout of a table.
 ghost use Rattle.std.specs.Prelude.{◌≡◌, ⊤};
 ghost use Rattle.rkyv_base.specs.Lemmas.ElementSpec.{viewable_prop};
-ghost use Rattle.rkyv_base.specs.View.{IsValidView};
+ghost use Rattle.rkyv_base.specs.{IsValidView};
 ghost use Rattle.rkyv_table.specs.Table.Decoded.{IsDecoded};
 ghost use Rattle.rkyv_table.specs.Table.Layout.{table_spec};
 ghost use Rattle.rkyv_table.specs.Lemmas.TableLaws.{table_element};

@@ -1,14 +1,10 @@
 -- Values that are archived and looked up as other values: as pairs, and as queries.
 use Rattle.std.specs.Prelude.{ℕ, Bool, List}
-use Rattle.rkyv_scan.specs.Hash.{HasherCall}
-use Rattle.rkyv_base.specs.Entry.{entry_spec}
-use Rattle.rkyv_base.specs.Format.{Format, IsFormat}
-use Rattle.rkyv_base.specs.Pairs.{PairRepresents, pair_format, written_as}
+use Rattle.rkyv_scan.specs.{HasherCall}
+use Rattle.rkyv_base.specs.{ElementSpec, Format, IsElement, IsFormat, PairRepresents, entry_spec}
+use Rattle.rkyv_base.specs.{pair_format, written_as}
 use Rattle.rkyv_base.specs.Lemmas.Pairs.{pair_is_format, written_as-format}
-use Rattle.rkyv_base.specs.ElementSpec.{ElementSpec, IsElement}
-use Rattle.rkyv_keys.specs.Equality.{Comparison}
-use Rattle.rkyv_keys.specs.Keys.{IsQuery}
-use Rattle.rkyv_keys.specs.OfEntries.{entry_equals}
+use Rattle.rkyv_keys.specs.{Comparison, IsQuery, entry_equals}
 
 -- the format laws of values that are written as the pair `as_value x`
 pub pair_as_format : {X A B R Q : Type 0} (as_value : X → A × B) {k v : ElementSpec}

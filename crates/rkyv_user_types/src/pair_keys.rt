@@ -2,15 +2,12 @@
 
 ghost use Rattle.std.specs.Prelude.{◌&&◌, ◌↔◌, ◌≡◌, IsTrue};
 ghost use Rattle.std.specs.Cmp.{and_equiv, and_per, on_equiv, on_per};
-ghost use Rattle.rkyv_base.specs.Entry.{entry_spec};
-ghost use Rattle.rkyv_base.specs.View.{AtView, IsValidView};
-ghost use Rattle.rkyv_keys.specs.AtViews.{at_view};
-ghost use Rattle.rkyv_keys.specs.Deserialize.{Deserializes};
-ghost use Rattle.rkyv_keys.specs.OfEntries.{BothRead, entry_fits};
+ghost use Rattle.rkyv_base.specs.{AtView, IsValidView, entry_spec};
+ghost use Rattle.rkyv_keys.specs.{BothRead, Deserializes, at_view, entry_deserialize_fails};
+ghost use Rattle.rkyv_keys.specs.{entry_fits, pair_calls};
 ghost use Rattle.rkyv_keys.specs.Lemmas.OfEntries.{entry_query};
-ghost use Rattle.rkyv_keys.specs.OfEntries.{entry_deserialize_fails, pair_calls};
 ghost use Rattle.rkyv_keys.specs.Lemmas.OfEntries.{entry_fits_its_equal};
-ghost use Rattle.rkyv_user_types.specs.Wrapped.{RepresentsAsPair, equals_as, query_as};
+ghost use Rattle.rkyv_user_types.specs.{RepresentsAsPair, equals_as, query_as};
 
 use crate::pair::{AsPair, FromPair, PairEntry};
 use rkyv_base::element::Represents;

@@ -4,9 +4,9 @@
 //! to archive it. Take it for three parts and more, if they can be copied.
 
 ghost use Rattle.std.specs.Prelude.{◌≡◌};
-ghost use Rattle.rkyv_base.specs.Pairs.{PairRepresents, pair_format, written_as};
+ghost use Rattle.rkyv_base.specs.{PairRepresents, pair_format, written_as};
 ghost use Rattle.rkyv_base.specs.Lemmas.Pairs.{pair_local};
-ghost use Rattle.rkyv_user_types.specs.Wrapped.{pair_as_format};
+ghost use Rattle.rkyv_user_types.specs.{pair_as_format};
 
 use rkyv_base::archive::{Archive, ResolveResult, Serialize, WriteResult};
 use rkyv_base::element::Represents;

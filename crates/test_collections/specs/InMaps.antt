@@ -1,8 +1,6 @@
 -- Lookups and writes of values in a map in bytes.
 use Rattle.std.specs.Prelude.{ℕ, Bool, List, Option}
-use Rattle.rkyv_collections.specs.Map.{FindsKeyAt}
-use Rattle.rkyv_collections.specs.Map.MapAt.{MapAt}
-use Rattle.rkyv_collections.specs.Map.ValueWrites.{KeepsMap}
+use Rattle.rkyv_collections.specs.{FindsKeyAt, KeepsMap, MapAt}
 
 -- the property applies to the position of the key that a lookup under `hash` finds, or to `None`.
 -- `fits`: the keys that the lookup accepts

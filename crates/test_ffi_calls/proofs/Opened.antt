@@ -1,11 +1,9 @@
 -- An archive whose validation returns the status 0 is valid.
 use Rattle.std.proofs.Common.{◌≡◌, ◌∙◌, ℕ, List, arith, inl, inr, sym}
-use Rattle.rkyv_base.specs.Access.{IsValidArchive}
-use Rattle.rkyv_base.specs.ElementSpec.{ElementSpec}
+use Rattle.rkyv_base.specs.{ElementSpec, IsValidArchive}
 use Rattle.rkyv_base.specs.declared.errors.VerifyError.{VerifyError}
 use Rattle.rkyv_base.specs.declared.errors.VerifyError.TheVariants.{InvalidLength, InvalidValue, OutOfRange, PlaceOutOfRange, Refused, Unaligned, UnwrappedControlByte, WrongNumberOfElements}
-use Rattle.ffi_calls.specs.Archives.{Opens}
-use Rattle.ffi_calls.specs.Status.{verify_status}
+use Rattle.ffi_calls.specs.{Opens, verify_status}
 
 -- the status of no error is 0
 verify_status_above_0 : (e : VerifyError) → verify_status e ≡ 0 → ⊥

@@ -3,22 +3,16 @@ use Rattle.std.specs.Prelude.{◌≡◌, ℕ, ◌%◌, Bool, nat_eq, List, [], �
 use Rattle.std.specs.Cmp.{unsigned_Decides}
 use Rattle.std.specs.Int.{from_le_bytes, w32}
 use Rattle.std.proofs.Common.{inl, inr, refl, subst}
-use Rattle.rkyv_scan.specs.Hash.{HasherCall, U8}
+use Rattle.rkyv_scan.specs.{HasherCall, U8}
 use Rattle.rkyv_base.specs.declared.errors.ReadError.TheVariants.{Refused}
-use Rattle.rkyv_base.specs.Bytes.{number_at}
-use Rattle.rkyv_base.specs.Numbers.{unsigned}
+use Rattle.rkyv_base.specs.{ElementSpec, IsElement, RepresentsLocally, ScalarRepresents, number_at}
+use Rattle.rkyv_base.specs.{scalar_spec, unsigned}
 use Rattle.rkyv_base.specs.Lemmas.Numbers.{unsigned_codes}
-use Rattle.rkyv_base.specs.Scalar.{ScalarRepresents}
 use Rattle.rkyv_base.specs.Lemmas.Scalar.{scalar_element, scalar_laws, scalar_local}
-use Rattle.rkyv_base.specs.Scalar.{scalar_spec}
-use Rattle.rkyv_base.specs.ElementSpec.{ElementSpec, IsElement}
-use Rattle.rkyv_base.specs.Format.{RepresentsLocally}
-use Rattle.rkyv_keys.specs.Equality.{Comparison, IsEquivalence}
-use Rattle.rkyv_keys.specs.Keys.{IsKey, IsQuery, ReadsAnywhere}
-use Rattle.rkyv_keys.specs.OfValues.{value_calls, value_fits, values_same}
+use Rattle.rkyv_keys.specs.{Comparison, DeserializeErrors, IsEquivalence, IsKey, IsQuery}
+use Rattle.rkyv_keys.specs.{ReadsAnywhere, value_calls, value_fits, values_same}
 use Rattle.rkyv_keys.specs.Lemmas.OfValues.{value_equivalence}
 use Rattle.rkyv_keys.specs.Lemmas.OfValues.{value_key, value_query}
-use Rattle.rkyv_keys.specs.Deserialize.{DeserializeErrors}
 
 abbrev pub low_spec : ElementSpec
 low_spec = scalar_spec (unsigned w32)

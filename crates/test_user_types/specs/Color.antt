@@ -2,7 +2,7 @@
 use Rattle.std.specs.Prelude.{ℕ, zero, suc, ◌<◌}
 use Rattle.std.specs.Int.{w8}
 use Rattle.std.proofs.Props.{props}
-use Rattle.rkyv_base.specs.Scalar.{AreProps, Encoding}
+use Rattle.rkyv_base.specs.{AreProps, Encoding}
 use Rattle.test_user_types.specs.declared.color.Color.{Color}
 use Rattle.test_user_types.specs.declared.color.Color.TheVariants.{Blue, Green, Red}
 

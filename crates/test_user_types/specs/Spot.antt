@@ -2,21 +2,15 @@
 use Rattle.std.specs.Prelude.{ℕ, ℤ, List}
 use Rattle.std.proofs.Common.{inl, inr, refl}
 use Rattle.std.specs.Int.{w32}
-use Rattle.rkyv_base.specs.Entry.{entry_spec}
+use Rattle.rkyv_base.specs.{ElementSpec, Format, IsElement, IsFormat, IsScalar, IsWord}
+use Rattle.rkyv_base.specs.{PairRepresents, RepresentsLocally, ScalarRepresents, entry_spec}
+use Rattle.rkyv_base.specs.{pair_format, scalar_format, scalar_spec, signed, written_as}
 use Rattle.rkyv_base.specs.Lemmas.Entry.{entry_element}
-use Rattle.rkyv_base.specs.Format.{Format, IsFormat, RepresentsLocally}
-use Rattle.rkyv_base.specs.Numbers.{signed}
 use Rattle.rkyv_base.specs.Lemmas.Numbers.{signed_codes}
-use Rattle.rkyv_base.specs.Pairs.{PairRepresents, pair_format}
 use Rattle.rkyv_base.specs.Lemmas.Pairs.{pair_is_format, pair_local}
-use Rattle.rkyv_base.specs.Pairs.{written_as}
 use Rattle.rkyv_base.specs.Lemmas.Pairs.{written_as-format}
-use Rattle.rkyv_base.specs.Scalar.{IsScalar, IsWord, ScalarRepresents}
 use Rattle.rkyv_base.specs.Lemmas.Scalar.{scalar_element}
-use Rattle.rkyv_base.specs.Scalar.{scalar_format}
-use Rattle.rkyv_base.specs.Scalar.{scalar_spec}
 use Rattle.rkyv_base.specs.Lemmas.Scalar.{scalar_is_format, scalar_laws, scalar_local}
-use Rattle.rkyv_base.specs.ElementSpec.{ElementSpec, IsElement}
 use Rattle.rkyv_base.specs.declared.pairs.EntryResolver.{EntryResolver}
 use Rattle.test_user_types.specs.declared.spot.Spot.{Spot}
 

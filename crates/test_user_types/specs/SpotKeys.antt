@@ -3,18 +3,14 @@ use Rattle.std.specs.Prelude.{ℕ, Bool, ◌&&◌, List}
 use Rattle.std.specs.Cmp.{signed_Decides}
 use Rattle.std.specs.Int.{w32}
 use Rattle.std.specs.Ordering.{int_eq}
-use Rattle.rkyv_scan.specs.Hash.{HasherCall, I32}
-use Rattle.rkyv_base.specs.Numbers.{signed}
-use Rattle.rkyv_base.specs.Scalar.{ScalarRepresents}
-use Rattle.rkyv_keys.specs.Equality.{Comparison, IsEquivalence}
-use Rattle.rkyv_keys.specs.Keys.{FitsItsEqual, IsKey, IsQuery, ReadsAnywhere}
-use Rattle.rkyv_keys.specs.OfEntries.{entry_calls, entry_fits}
+use Rattle.rkyv_scan.specs.{HasherCall, I32}
+use Rattle.rkyv_base.specs.{ScalarRepresents, signed}
+use Rattle.rkyv_keys.specs.{Comparison, FitsItsEqual, IsEquivalence, IsKey, IsQuery, ReadsAnywhere}
+use Rattle.rkyv_keys.specs.{entry_calls, entry_fits, entry_same, one_call, pair_calls, scalar_calls}
+use Rattle.rkyv_keys.specs.{scalar_equivalence, scalar_fits, scalar_fits_its_equal, scalar_key}
+use Rattle.rkyv_keys.specs.{scalar_query, scalar_same}
 use Rattle.rkyv_keys.specs.Lemmas.OfEntries.{entry_equivalence}
-use Rattle.rkyv_keys.specs.OfEntries.{entry_same}
 use Rattle.rkyv_keys.specs.Lemmas.OfEntries.{entry_fits_its_equal, entry_key, entry_query}
-use Rattle.rkyv_keys.specs.OfEntries.{pair_calls}
-use Rattle.rkyv_keys.specs.OfScalars.{one_call, scalar_calls, scalar_equivalence, scalar_fits}
-use Rattle.rkyv_keys.specs.OfScalars.{scalar_fits_its_equal, scalar_key, scalar_query, scalar_same}
 use Rattle.test_user_types.specs.declared.spot.Spot.{Spot}
 use Rattle.test_user_types.specs.Spot.{SpotRepresents, as_pair, int_element, int_laws, int_spec}
 use Rattle.test_user_types.specs.Spot.{spot_spec}

@@ -2,10 +2,10 @@
 
 ghost use Rattle.std.specs.Prelude.{◌≡◌};
 ghost use Rattle.std.proofs.Common.{inl, refl};
-ghost use Rattle.rkyv_scan.specs.Hash.{U8};
-ghost use Rattle.rkyv_base.specs.Scalar.{scalar_spec};
+ghost use Rattle.rkyv_scan.specs.{U8};
+ghost use Rattle.rkyv_base.specs.{scalar_spec};
 ghost use Rattle.rkyv_base.specs.Lemmas.Scalar.{scalar_element, scalar_laws};
-ghost use Rattle.rkyv_user_types.specs.Variants.{variants_decide_equality};
+ghost use Rattle.rkyv_user_types.specs.{variants_decide_equality};
 ghost use Rattle.test_user_types.specs.Color.{code, color_codes, color_encoding};
 ghost use Rattle.test_user_types.specs.contracts.color.Color.{the_type};
 

@@ -1,9 +1,7 @@
 //! Spots as keys.
 ghost use Rattle.std.specs.Prelude.{◌≡◌, IsTrue, MatchResult, ◌↔◌};
-ghost use Rattle.rkyv_base.specs.View.{AtView, IsValidView};
-ghost use Rattle.rkyv_keys.specs.Calls.{after_calls};
-ghost use Rattle.rkyv_keys.specs.AtViews.{at_view, at_views};
-ghost use Rattle.rkyv_keys.specs.Deserialize.{nothing_fails};
+ghost use Rattle.rkyv_base.specs.{AtView, IsValidView};
+ghost use Rattle.rkyv_keys.specs.{after_calls, at_view, at_views, nothing_fails};
 ghost use Rattle.test_user_types.specs.Spot.{SpotRepresents, spot_spec};
 ghost use Rattle.test_user_types.specs.SpotKeys.{spot_calls, spot_equivalence, spot_fits};
 ghost use Rattle.test_user_types.specs.SpotKeys.{spot_fits_its_equal, spot_key, spot_key_calls};

@@ -1,8 +1,7 @@
 use Rattle.std.proofs.Common.{Ok, Some, None, ap, sym, ◌∙◌}
 use Rattle.std.specs.Int.{w32, w64}
-use Rattle.rkyv_base.specs.Numbers.{unsigned}
-use Rattle.rkyv_base.specs.Text.{text_at}
-use Rattle.rkyv_keys.specs.OfTexts.{same_bytes}
+use Rattle.rkyv_base.specs.{text_at, unsigned}
+use Rattle.rkyv_keys.specs.{same_bytes}
 use Rattle.rkyv_collections.proofs.ListArchives.{scalar_at_root}
 use Rattle.example_first_map.proofs.look_up.Goals as goal
 

@@ -1,5 +1,5 @@
 use Rattle.std.specs.Int.{w64}
-use Rattle.rkyv_base.specs.Numbers.{unsigned}
+use Rattle.rkyv_base.specs.{unsigned}
 use Rattle.rkyv_collections.proofs.ListArchives.{text_map_result}
 use Rattle.example_first_map.proofs.write.Goals as goal
 

@@ -1,5 +1,5 @@
 use Rattle.std.proofs.Common.{ap}
-use Rattle.example_symbols_program.specs.Outcomes.{outcome_of}
+use Rattle.example_symbols_program.specs.{outcome_of}
 use Rattle.example_symbols_program.proofs.print_address.Goals as goal
 
 pub returns-in_ok-println-in-Some : goal.returns-in_ok-println-in-Some

@@ -1,9 +1,9 @@
 -- Stored values are those of the native values that the bytes represent.
 use Rattle.std.proofs.Common.{◌∙◌, ap, sym}
 use Rattle.std.specs.Int.{Width}
-use Rattle.rkyv_base.specs.Scalar.{Encoding, ScalarRepresents}
-use Rattle.ffi_calls.specs.Listed.{TextRepresents}
-use Rattle.ffi_calls.specs.Reading.{Agrees, HasBytesOf, IsNumberOf, IsSame, ReadsText, ReadsWord}
+use Rattle.rkyv_base.specs.{Encoding, ScalarRepresents}
+use Rattle.ffi_calls.specs.{Agrees, HasBytesOf, IsNumberOf, IsSame, ReadsText, ReadsWord}
+use Rattle.ffi_calls.specs.{TextRepresents}
 
 pub same_values : {V : Type 0} (e : Encoding V)
     → Agrees (ScalarRepresents e) (ScalarRepresents e) IsSame

@@ -1,8 +1,7 @@
 -- Lemmas: the conditions under which an archive is accepted, and the errors otherwise.
 use Rattle.std.specs.Prelude.{ℕ, ◌-◌, List, length}
 use Rattle.std.proofs.Common.{arith}
-use Rattle.rkyv_base.specs.ElementSpec.{ElementSpec, Viewable}
-use Rattle.rkyv_base.specs.Access.{IsValidArchive}
+use Rattle.rkyv_base.specs.{ElementSpec, IsValidArchive, Viewable}
 
 -- the root of an accepted archive
 pub root_viewable : (limit : ℕ) (s : ElementSpec) (b : List ℕ) → IsValidArchive limit s b

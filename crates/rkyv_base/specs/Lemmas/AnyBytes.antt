@@ -2,7 +2,7 @@
 use Rattle.std.specs.Prelude.{◌≡◌, ℕ, ◌%◌, ◌≤◌}
 use Rattle.std.proofs.Common.{refl, arith, sym, ◌∙◌}
 use Rattle.std.proofs.Props.{props}
-use Rattle.rkyv_base.specs.ElementSpec.{ElementSpec, IsAlign, IsElement}
+use Rattle.rkyv_base.specs.ElementSpecs.{ElementSpec, IsAlign, IsElement}
 
 -- an element that is valid everywhere, without parts
 abbrev pub any_bytes : ℕ → ℕ → ElementSpec

@@ -4,7 +4,7 @@ use Rattle.std.specs.Coded.{le_prop, ×_prop}
 use Rattle.std.proofs.Common.{arith, inl, inr, refl, subst, sym}
 use Rattle.std.proofs.Props.{props}
 use Rattle.rkyv_base.specs.Lemmas.Props.{only_one, prop_by}
-use Rattle.rkyv_base.specs.ElementSpec.{ElementSpec, IsAlign, IsElement, ValidAt, Viewable}
+use Rattle.rkyv_base.specs.ElementSpecs.{ElementSpec, IsAlign, IsElement, ValidAt, Viewable}
 
 -- that the bytes have a valid value is a proposition
 pub valid_at_prop : (s : ElementSpec) → IsElement s → (b : List ℕ) (p : ℕ) → IsProp (ValidAt s b p)

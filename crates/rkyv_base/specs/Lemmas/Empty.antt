@@ -1,10 +1,9 @@
 -- Lemmas: the unit value.
 use Rattle.std.specs.Prelude.{length}
 use Rattle.std.proofs.Common.{ap, arith, inl, refl}
-use Rattle.rkyv_base.specs.ElementSpec.{IsElement}
+use Rattle.rkyv_base.specs.{IsElement, IsFormat, RepresentsLocally, unit_format, unit_represents}
+use Rattle.rkyv_base.specs.{unit_spec}
 use Rattle.rkyv_base.specs.Lemmas.AnyBytes.{any_bytes-element}
-use Rattle.rkyv_base.specs.Format.{IsFormat, RepresentsLocally}
-use Rattle.rkyv_base.specs.Empty.{unit_format, unit_represents, unit_spec}
 
 pub unit_element : IsElement unit_spec
 unit_element = any_bytes-element 0 1 (inl refl) refl (omega arith)

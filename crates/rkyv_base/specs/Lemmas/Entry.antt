@@ -9,11 +9,11 @@ use Rattle.rkyv_base.specs.declared.errors.VerifyError.{VerifyError}
 use Rattle.rkyv_base.specs.Bytes.{AgreeOn}
 use Rattle.rkyv_base.specs.Lemmas.Bytes.{agree_on_part}
 use Rattle.rkyv_base.specs.Lemmas.Props.{only_one, prop_by}
-use Rattle.rkyv_base.specs.ElementSpec.{ElementSpec, IsAlign, IsElement, Viewable}
+use Rattle.rkyv_base.specs.ElementSpecs.{ElementSpec, IsAlign, IsElement, Viewable}
 use Rattle.rkyv_base.specs.Lemmas.ElementSpec.{valid_at}
 use Rattle.rkyv_base.specs.Lemmas.ElementSpec.{by_align, max_align, multiple_of_max, sum_multiple}
-use Rattle.rkyv_base.specs.Entry.{IsSmall, round_up, size_of_whole, value_offset, whole_size}
-use Rattle.rkyv_base.specs.Entry.{EntriesAgree, EntryFails, IsValidEntry, entry_spec}
+use Rattle.rkyv_base.specs.Entries.{IsSmall, round_up, size_of_whole, value_offset, whole_size}
+use Rattle.rkyv_base.specs.Entries.{EntriesAgree, EntryFails, IsValidEntry, entry_spec}
 
 pub size_of_small : (whole : ℕ) → whole ≤ 1073741824 → size_of_whole whole ≡ whole
 size_of_small whole h = grind (arith, nat_tests)

@@ -3,7 +3,7 @@ use Rattle.std.specs.Prelude.{◌≡◌, ℕ, ◌*◌, ◌^◌, ◌<◌, ◌≤�
 use Rattle.std.specs.Int.{Width, byte_len, w32, w64}
 use Rattle.std.proofs.Common.{inl, inr, refl, lit<, lit≤}
 use mir.Val.{bits}
-use Rattle.rkyv_base.specs.Layout.{IsLayout, narrow_limit}
+use Rattle.rkyv_base.specs.{IsLayout, narrow_limit}
 
 -- the layout of a word, with limits that fit in it
 word_layout : (w : Width) (limit max_capacity text_limit : ℕ) → (w ≡ w32) ⊎ (w ≡ w64)

@@ -1,8 +1,7 @@
 -- Lemmas: the encodings of numbers, `bool` and `char`.
 use Rattle.std.specs.Int.{Width}
 use Rattle.std.proofs.Props.{props}
-use Rattle.rkyv_base.specs.Scalar.{AreProps}
-use Rattle.rkyv_base.specs.Numbers.{bool_encoding, char_encoding, signed, unsigned}
+use Rattle.rkyv_base.specs.{AreProps, bool_encoding, char_encoding, signed, unsigned}
 
 -- the codes of each encoding are given by a proposition
 pub unsigned_codes : (w : Width) → AreProps (unsigned w)

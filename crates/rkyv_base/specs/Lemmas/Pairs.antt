@@ -4,19 +4,15 @@ use Rattle.std.specs.Prelude.{◌≡◌, ℕ, ◌+◌, ◌-◌, ◌%◌, ◌≤�
 use Rattle.std.proofs.Common.{arith, subst, sym, ◌∙◌, ap, inl, inr, length-append}
 use Rattle.std.proofs.lemmas.List.{length-replicate}
 use Rattle.rkyv_base.specs.declared.pairs.EntryResolver.{EntryResolver}
-use Rattle.rkyv_base.specs.Bytes.{OccursAt}
+use Rattle.rkyv_base.specs.{ElementSpec, Format, IsElement, IsFormat, IsValidEntry, OccursAt}
+use Rattle.rkyv_base.specs.{PairImage, PairOverflows, PairParts, PairRepresents, RepresentsLocally}
+use Rattle.rkyv_base.specs.{entry_spec, pair_bytes, pair_format, size_of_whole, value_offset}
+use Rattle.rkyv_base.specs.{whole_size, written_as, zeros}
 use Rattle.rkyv_base.specs.Lemmas.Bytes.{occurs_back, occurs_front, occurs_third}
-use Rattle.rkyv_base.specs.Writing.{zeros}
-use Rattle.rkyv_base.specs.ElementSpec.{ElementSpec, IsElement}
 use Rattle.rkyv_base.specs.Lemmas.ElementSpec.{multiple_of_max, sum_multiple}
-use Rattle.rkyv_base.specs.Entry.{size_of_whole, value_offset, whole_size}
 use Rattle.rkyv_base.specs.Lemmas.Entry.{size_of_small}
-use Rattle.rkyv_base.specs.Entry.{IsValidEntry, entry_spec}
 use Rattle.rkyv_base.specs.Lemmas.Entry.{round_up-multiple, size_of_large}
 use Rattle.rkyv_base.specs.Lemmas.Entry.{key_and_value_inside, same_parts}
-use Rattle.rkyv_base.specs.Format.{Format, IsFormat, RepresentsLocally}
-use Rattle.rkyv_base.specs.Pairs.{PairImage, PairOverflows, PairParts, PairRepresents, pair_bytes}
-use Rattle.rkyv_base.specs.Pairs.{pair_format, written_as}
 
 pub written_as-format : {X V R : Type 0} (as_value : X → V) (s : ElementSpec)
     (represents : List ℕ → ℕ → V → Type 0) (f : Format V R) → IsFormat s represents f

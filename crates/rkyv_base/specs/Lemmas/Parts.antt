@@ -5,7 +5,7 @@ use Rattle.std.proofs.Props.{props}
 use Rattle.std.proofs.lemmas.Int.{ints}
 use Rattle.rkyv_base.specs.declared.errors.VerifyError.{VerifyError}
 use Rattle.rkyv_base.specs.declared.errors.VerifyError.TheVariants.{Unaligned}
-use Rattle.rkyv_base.specs.Parts.{PartFails, PartIn}
+use Rattle.rkyv_base.specs.{PartFails, PartIn}
 
 -- a part has one position alone
 pub part_one : (begin : ℤ) (size align lo hi at at' : ℕ) → PartIn begin size align lo hi at

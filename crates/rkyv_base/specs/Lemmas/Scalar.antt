@@ -8,11 +8,9 @@ use Rattle.std.proofs.Props.{props}
 use Rattle.std.proofs.lemmas.Nat.{from_le_bytes-to_le_bytes_2, from_le_bytes-to_le_bytes_4}
 use Rattle.std.proofs.lemmas.Nat.{from_le_bytes-to_le_bytes_8}
 use mir.Val.{bits}
-use Rattle.rkyv_base.specs.Bytes.{AgreeOn, OccursAt, number_at}
-use Rattle.rkyv_base.specs.ElementSpec.{ElementSpec, IsAlign, IsElement}
-use Rattle.rkyv_base.specs.Format.{IsFormat, RepresentsLocally}
-use Rattle.rkyv_base.specs.Scalar.{Encodes, Encoding, IsWord, ScalarRepresents, scalar_spec}
-use Rattle.rkyv_base.specs.Scalar.{AreProps, IsScalar, scalar_format}
+use Rattle.rkyv_base.specs.{AgreeOn, AreProps, ElementSpec, Encodes, Encoding, IsAlign, IsElement}
+use Rattle.rkyv_base.specs.{IsFormat, IsScalar, IsWord, OccursAt, RepresentsLocally}
+use Rattle.rkyv_base.specs.{ScalarRepresents, number_at, scalar_format, scalar_spec}
 
 -- a property of each word is one of any word
 by_word : (P : Width → Type 0) → P w8 → P w16 → P w32 → P w64 → (w : Width) → IsWord w → P w

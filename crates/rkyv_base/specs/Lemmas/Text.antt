@@ -8,18 +8,15 @@ use Rattle.std.specs.Coded.{le_prop, ×_prop}
 use Rattle.std.proofs.Common.{refl, arith, subst, sym, ◌∙◌, ap, inl, inr}
 use Rattle.std.proofs.Props.{props}
 use Rattle.rkyv_base.specs.declared.errors.VerifyError.{VerifyError}
-use Rattle.rkyv_base.specs.Bytes.{AgreeOn}
+use Rattle.rkyv_base.specs.{AgreeOn, IsAlign, IsArchiveWord, IsElement, IsValidInline}
+use Rattle.rkyv_base.specs.{IsValidOutOfLine, IsValidText, OutOfLineFails, PartIn}
+use Rattle.rkyv_base.specs.{RepresentsLocally, TextFails, TextReads, Viewable, fixed_bytes}
+use Rattle.rkyv_base.specs.{inline_text, is_out_of_line, out_of_line_begin, out_of_line_length}
+use Rattle.rkyv_base.specs.{text_at, text_of, text_size, text_spec}
 use Rattle.rkyv_base.specs.Lemmas.Bytes.{agree_on_part}
-use Rattle.rkyv_base.specs.ElementSpec.{IsAlign, IsElement, Viewable}
-use Rattle.rkyv_base.specs.Format.{RepresentsLocally}
 use Rattle.rkyv_base.specs.Lemmas.Props.{either_prop, only_one, prop_by}
-use Rattle.rkyv_base.specs.Parts.{PartIn}
 use Rattle.rkyv_base.specs.Lemmas.Parts.{part_exclusive, part_one, part_one_failure, part_prop}
 use Rattle.rkyv_base.specs.Lemmas.Parts.{part_wider}
-use Rattle.rkyv_base.specs.Text.{fixed_bytes, inline_text, is_out_of_line, text_size}
-use Rattle.rkyv_base.specs.Text.{TextReads, out_of_line_begin, out_of_line_length, text_at, text_of}
-use Rattle.rkyv_base.specs.Text.{IsValidInline, IsValidOutOfLine, IsValidText, OutOfLineFails}
-use Rattle.rkyv_base.specs.Text.{IsArchiveWord, TextFails, text_spec}
 
 -- a property of both words is one of either
 pub by_archive_word : (P : Width → Type 0) → P w32 → P w64 → (w : Width) → IsArchiveWord w → P w

@@ -8,17 +8,15 @@ use Rattle.std.specs.Int.{Width, byte_len, cast_signed, cast_unsigned, from_le_b
 use Rattle.std.specs.Str.{IsUtf8}
 use mir.Val.{bits}
 use Rattle.rkyv_base.specs.declared.strings.TextResolver.{TextResolver}
-use Rattle.rkyv_base.specs.Format.{IsFormat}
-use Rattle.rkyv_base.specs.Pairs.{written_as}
+use Rattle.rkyv_base.specs.{IsArchiveWord, IsFormat, IsLong, IsValidText, IsWord, OccursAt, PartIn}
+use Rattle.rkyv_base.specs.{TextImage, TextOverflows, TextParts, TextReads, decode_length}
+use Rattle.rkyv_base.specs.{fixed_bytes, inline_bytes, inline_text, is_out_of_line, length_word}
+use Rattle.rkyv_base.specs.{out_of_line_begin, out_of_line_bytes, out_of_line_length, signed_at}
+use Rattle.rkyv_base.specs.{text_format, text_limit, text_size, text_spec, written_as}
 use Rattle.rkyv_base.specs.Lemmas.Pairs.{written_as-format}
-use Rattle.rkyv_base.specs.Text.{IsArchiveWord, IsValidText, TextReads}
 use Rattle.rkyv_base.specs.Lemmas.Text.{by_archive_word}
-use Rattle.rkyv_base.specs.Text.{out_of_line_begin, out_of_line_length}
 use Rattle.rkyv_base.specs.Lemmas.Text.{out_of_line_reads}
-use Rattle.rkyv_base.specs.Text.{fixed_bytes, inline_text, is_out_of_line, text_spec}
 use Rattle.rkyv_base.specs.Lemmas.Text.{inline_reads}
-use Rattle.rkyv_base.specs.Text.{decode_length, text_size}
-use Rattle.rkyv_base.specs.Bytes.{OccursAt, signed_at}
 use Rattle.rkyv_base.specs.Lemmas.Utf8.{text_begins, text_below}
 use Rattle.std.proofs.Common.{refl, arith, sym, subst, ◌∙◌, ap, inl, inr, length-append}
 use Rattle.std.proofs.Math.Facts.{Fits-of_z}
@@ -28,12 +26,7 @@ use Rattle.std.proofs.lemmas.Bool.Decides.{nat_tests}
 use Rattle.std.proofs.lemmas.Int.{ints, to_z-of_z}
 use Rattle.std.proofs.lemmas.List.{get_or-replicate, length-replicate, take_all}
 use Rattle.std.proofs.lemmas.List.Sums.{position_or_len_is}
-use Rattle.rkyv_base.specs.Parts.{PartIn}
-use Rattle.rkyv_base.specs.Scalar.{IsWord}
 use Rattle.rkyv_base.specs.Lemmas.Scalar.{word_bytes, word_reads_back}
-use Rattle.rkyv_base.specs.TextWriting.{IsLong, inline_bytes, length_word, text_limit}
-use Rattle.rkyv_base.specs.TextWriting.{TextImage, TextOverflows, TextParts, out_of_line_bytes}
-use Rattle.rkyv_base.specs.TextWriting.{text_format}
 
 -- the bytes in an archive at a text's position are its fixed bytes
 fixed_sits : (w : Width) (c out : List ℕ) (p : ℕ) → length out ≡ text_size w → OccursAt c p out

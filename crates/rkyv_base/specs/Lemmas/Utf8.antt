@@ -1,24 +1,6 @@
 -- Bytes that are in no UTF-8 text, and bytes that begin none.
-use Rattle.std.specs.Prelude.{
-  ◌≡◌,
-  ℕ,
-  zero,
-  suc,
-  ◌+◌,
-  ◌/◌,
-  ◌%◌,
-  ◌<◌,
-  ◌≤◌,
-  ◌&&◌,
-  true,
-  false,
-  List,
-  [],
-  ◌∷◌,
-  All,
-  nat_le,
-  nat_lt,
-}
+use Rattle.std.specs.Prelude.{All, List, [], false, nat_le, nat_lt, suc, true, zero, ℕ, ◌%◌, ◌&&◌}
+use Rattle.std.specs.Prelude.{◌+◌, ◌/◌, ◌<◌, ◌∷◌, ◌≡◌, ◌≤◌}
 use Rattle.std.specs.Str.{IsUtf8}
 use Rattle.std.proofs.Common.{arith, inl, inr, ltb, subst}
 use Rattle.std.proofs.Math.Utf8.{encode, encodes, scalar, scalar_cases, scalars}

@@ -4,16 +4,12 @@ use Rattle.std.proofs.Common.{ℕ, ◌+◌, arith, Bool, List, length}
 use Rattle.std.specs.Int.{Width}
 use Rattle.std.specs.List.{IsDistinct}
 use Rattle.std.specs.Map.{keys_of}
-use Rattle.rkyv_base.specs.Entry.{entry_spec}
+use Rattle.rkyv_base.specs.{ElementSpec, Format, IsArchiveWord, IsElement, IsFormat, Viewable}
+use Rattle.rkyv_base.specs.{entry_spec}
 use Rattle.rkyv_base.specs.Lemmas.Entry.{entry_element}
-use Rattle.rkyv_base.specs.Format.{Format, IsFormat}
-use Rattle.rkyv_base.specs.ElementSpec.{ElementSpec, IsElement, Viewable}
 use Rattle.rkyv_base.specs.Lemmas.ElementSpec.{valid_at}
-use Rattle.rkyv_base.specs.Text.{IsArchiveWord}
 use Rattle.rkyv_table.specs.Lemmas.TableLaws.{table_element}
-use Rattle.rkyv_collections.specs.Map.MapSpec.{map_spec}
-use Rattle.rkyv_collections.specs.Map.MapFormat.{MapRepresents}
-use Rattle.rkyv_collections.specs.StdMaps.StdMap.{of_entries}
+use Rattle.rkyv_collections.specs.{MapRepresents, map_spec, of_entries}
 
 pub of_entries-format : (w : Width) → IsArchiveWord w → {k v : ElementSpec} → IsElement k
     → IsElement v

@@ -4,34 +4,23 @@ use Rattle.std.proofs.Common.{inl, inr, List, [], ◌∷◌, map, length, slice_
 use Rattle.std.specs.Int.{Width, byte_len}
 use Rattle.std.proofs.lemmas.List.{ext_get_or, get_or-map, length-map}
 use Rattle.std.proofs.lemmas.Option.{slice_get_cases, slice_get_within}
-use Rattle.rkyv_base.specs.Bytes.{AgreeOn}
+use Rattle.rkyv_base.specs.{AgreeOn, ElementSpec, Format, IsArchiveWord, IsElement, IsFormat}
+use Rattle.rkyv_base.specs.{PairRepresents, RepresentsLocally, ValidAt, entry_spec, pair_format}
+use Rattle.rkyv_base.specs.{value_offset}
 use Rattle.rkyv_base.specs.Lemmas.Bytes.{agree_on_part}
-use Rattle.rkyv_base.specs.Entry.{entry_spec, value_offset}
 use Rattle.rkyv_base.specs.Lemmas.Entry.{entry_element, same_key}
-use Rattle.rkyv_base.specs.Format.{Format, IsFormat, RepresentsLocally}
-use Rattle.rkyv_base.specs.Pairs.{PairRepresents, pair_format}
 use Rattle.rkyv_base.specs.Lemmas.Pairs.{pair_is_format, pair_local}
-use Rattle.rkyv_base.specs.ElementSpec.{ElementSpec, IsElement, ValidAt}
 use Rattle.rkyv_base.specs.Lemmas.ElementSpec.{valid_at}
-use Rattle.rkyv_base.specs.Text.{IsArchiveWord}
-use Rattle.rkyv_table.specs.Table.Header.{cap_at}
-use Rattle.rkyv_table.specs.Controls.Numbers.{capacity}
-use Rattle.rkyv_table.specs.Controls.Placing.{Written}
-use Rattle.rkyv_table.specs.Table.Positions.{WrittenAt, home_positions, item_at}
-use Rattle.rkyv_table.specs.Table.Positions.{table_controls}
-use Rattle.rkyv_table.specs.Table.Layout.{IsValidTable}
-use Rattle.rkyv_table.specs.Table.TableFormat.{TableRepresents}
+use Rattle.rkyv_table.specs.{IsValidTable, IsWrittenOf, TableRepresents, Written, WrittenAt, cap_at}
+use Rattle.rkyv_table.specs.{capacity, hashes_of, home_positions, item_at, items_of, table_controls}
 use Rattle.rkyv_table.specs.Lemmas.TableSound.{table_is_format}
-use Rattle.rkyv_table.specs.Table.PlacedItems.{hashes_of, items_of}
 use Rattle.rkyv_table.specs.Lemmas.ItemPositions.{IsValidWithin, ValidPart, item_is_valid}
 use Rattle.rkyv_table.specs.Lemmas.ItemPositions.{valid_part}
 use Rattle.rkyv_table.specs.Lemmas.SameHeader.{cap_same, len_same, pos_same}
-use Rattle.rkyv_table.specs.Table.WrittenTables.{IsWrittenOf}
 use Rattle.rkyv_table.proofs.WrittenTables.{home_count, home_pos, home_walked, table_written}
-use Rattle.rkyv_collections.specs.Map.MapSpec.{map_spec}
-use Rattle.rkyv_collections.specs.Map.MapFormat.{MapRepresents, keyed, map_format}
+use Rattle.rkyv_collections.specs.{MapRepresents, keyed, map_format, map_spec}
 use Rattle.rkyv_table.specs.Lemmas.SameControls.{same_controls}
-use Rattle.rkyv_keys.specs.QueryLaws.{HashLocal, HashesAlike}
+use Rattle.rkyv_keys.specs.{HashLocal, HashesAlike}
 
 module _ {A B : Type 0} (own : A → ℕ) where
   keyed_hashes : (pairs : List (A × B))

@@ -2,18 +2,14 @@
 use Rattle.std.specs.Prelude.{◌≡◌, ℕ, Bool, true, List}
 use Rattle.std.proofs.Common.{ap}
 use Rattle.std.specs.Int.{Width}
-use Rattle.rkyv_base.specs.Format.{Format, IsFormat, RepresentsLocally}
-use Rattle.rkyv_base.specs.ElementSpec.{ElementSpec, IsElement}
-use Rattle.rkyv_base.specs.Text.{IsArchiveWord}
-use Rattle.rkyv_scan.specs.Hash.{Hasher, HasherCall, hash_of_calls}
+use Rattle.rkyv_base.specs.{ElementSpec, Format, IsArchiveWord, IsElement, IsFormat}
+use Rattle.rkyv_base.specs.{RepresentsLocally}
+use Rattle.rkyv_scan.specs.{Hasher, HasherCall, hash_of_calls}
 use Rattle.rkyv_keys.specs.Lemmas.QueryLaws.{hashes_as_written}
-use Rattle.rkyv_keys.specs.Equality.{Comparison}
-use Rattle.rkyv_keys.specs.Keys.{FitsItsEqual, IsKey, IsQuery}
-use Rattle.rkyv_keys.specs.Calls.{hash_at, hash_of}
-use Rattle.rkyv_collections.specs.Map.MapSpec.{map_spec}
-use Rattle.rkyv_collections.specs.Map.MapFormat.{MapRepresents, map_format}
+use Rattle.rkyv_keys.specs.{Comparison, FitsItsEqual, IsKey, IsQuery, hash_at, hash_of}
+use Rattle.rkyv_collections.specs.{MapRepresents, map_format, map_spec}
 use Rattle.rkyv_collections.specs.Lemmas.MapLaws.{map_is_format, represents_again}
-use Rattle.rkyv_table.specs.Table.Listed.{listed, listed_format}
+use Rattle.rkyv_table.specs.{listed, listed_format}
 
 module _ {State : Type 0} (hasher : Hasher State) (w : Width) {k v : ElementSpec} (kl : IsElement k)
     (vl : IsElement v)

@@ -1,14 +1,11 @@
 -- The home buckets of the pairs of a written map.
 use Rattle.std.proofs.Common.{◌≡◌, ℕ, ◌∙◌, sym, ap, subst, refl, inl, inr, List, map, length}
 use Rattle.std.specs.Int.{Width}
-use Rattle.rkyv_base.specs.Entry.{entry_spec}
-use Rattle.rkyv_base.specs.ElementSpec.{ElementSpec}
-use Rattle.rkyv_table.specs.Table.Header.{cap_at}
-use Rattle.rkyv_table.specs.Table.Positions.{home_positions, table_controls}
-use Rattle.rkyv_table.specs.Table.WalkLaws.{VisitsHomes}
+use Rattle.rkyv_base.specs.{ElementSpec, entry_spec}
+use Rattle.rkyv_table.specs.{VisitsHomes, cap_at, home_positions, table_controls}
 use Rattle.rkyv_table.proofs.WalkedHomes.{none_visits, walked_homes}
 use Rattle.rkyv_table.proofs.WrittenTables.{home_count}
-use Rattle.rkyv_collections.specs.Map.MapFormat.{MapRepresents}
+use Rattle.rkyv_collections.specs.{MapRepresents}
 
 module _ {A B : Type 0} {w : Width} {k v : ElementSpec} {key : List ℕ → ℕ → A → Type 0}
     {value : List ℕ → ℕ → B → Type 0} {hash : List ℕ → ℕ → ℕ} {factor : ℕ × ℕ} {b : List ℕ} {p : ℕ}

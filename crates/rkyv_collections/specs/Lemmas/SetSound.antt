@@ -1,23 +1,15 @@
 -- The laws of an archived list of keys as a set.
 use Rattle.std.specs.Prelude.{◌≡◌, ℕ, Bool, true, List}
 use Rattle.std.specs.Int.{Width}
-use Rattle.rkyv_base.specs.Empty.{unit_format, unit_spec}
+use Rattle.rkyv_base.specs.{ElementSpec, Format, IsArchiveWord, IsElement, IsFormat}
+use Rattle.rkyv_base.specs.{RepresentsLocally, unit_format, unit_represents, unit_spec}
 use Rattle.rkyv_base.specs.Lemmas.Empty.{unit_element, unit_is_format, unit_local}
-use Rattle.rkyv_base.specs.Empty.{unit_represents}
-use Rattle.rkyv_base.specs.Format.{Format, IsFormat, RepresentsLocally}
 use Rattle.rkyv_base.specs.Lemmas.Pairs.{written_as-format}
-use Rattle.rkyv_base.specs.ElementSpec.{ElementSpec, IsElement}
-use Rattle.rkyv_base.specs.Text.{IsArchiveWord}
-use Rattle.rkyv_scan.specs.Hash.{Hasher, HasherCall}
-use Rattle.rkyv_keys.specs.Equality.{Comparison}
-use Rattle.rkyv_keys.specs.Keys.{FitsItsEqual, IsKey, IsQuery}
-use Rattle.rkyv_keys.specs.Calls.{hash_at, hash_of}
-use Rattle.rkyv_collections.specs.Map.MapFormat.{MapRepresents, map_format}
+use Rattle.rkyv_scan.specs.{Hasher, HasherCall}
+use Rattle.rkyv_keys.specs.{Comparison, FitsItsEqual, IsKey, IsQuery, hash_at, hash_of}
+use Rattle.rkyv_collections.specs.{MapRepresents, SetRepresents, map_format, set_format, set_spec}
 use Rattle.rkyv_collections.specs.Lemmas.MapSound.{map_local, map_sound}
-use Rattle.rkyv_table.specs.Table.Listed.{listed, listed_format}
-use Rattle.rkyv_collections.specs.Set.{set_spec}
-use Rattle.rkyv_collections.specs.Set.SetFormat.{SetRepresents, set_format}
-use Rattle.rkyv_table.specs.Table.ItemValues.{with_units}
+use Rattle.rkyv_table.specs.{listed, listed_format, with_units}
 
 module _ {State : Type 0} (hasher : Hasher State) (w : Width) {k : ElementSpec} (kl : IsElement k)
     {A : Type 0} {key : List ℕ → ℕ → A → Type 0} {same : Comparison} {key_calls : List ℕ → ℕ

@@ -12,32 +12,24 @@ use Rattle.std.proofs.lemmas.List.Elements.{All-contains_itself, All-head, All-t
 use Rattle.std.proofs.lemmas.Map.Entries.{lookup_from_place, place_from_lookup}
 use Rattle.std.proofs.lemmas.Map.Keys.{apart_from_distinct}
 use Rattle.std.proofs.lemmas.Option.{same_Some, slice_get_cases, slice_get_within}
-use Rattle.rkyv_base.specs.Bytes.{AgreeOn}
+use Rattle.rkyv_base.specs.{AgreeOn, ElementSpec, Format, IsArchiveWord, IsElement, IsFormat}
+use Rattle.rkyv_base.specs.{PairRepresents, RepresentsLocally, entry_spec}
 use Rattle.rkyv_base.specs.Lemmas.Bytes.{agree_on_part}
-use Rattle.rkyv_base.specs.Entry.{entry_spec}
 use Rattle.rkyv_base.specs.Lemmas.Entry.{entry_element}
-use Rattle.rkyv_base.specs.Format.{Format, IsFormat, RepresentsLocally}
-use Rattle.rkyv_base.specs.Pairs.{PairRepresents}
 use Rattle.rkyv_base.specs.Lemmas.Pairs.{pair_local}
-use Rattle.rkyv_base.specs.ElementSpec.{ElementSpec, IsElement}
-use Rattle.rkyv_base.specs.Text.{IsArchiveWord}
-use Rattle.rkyv_table.specs.Table.Header.{cap_at}
+use Rattle.rkyv_table.specs.{IsValidTable, IsWalked, cap_at, item_at, item_positions}
+use Rattle.rkyv_table.specs.{table_controls, walk}
 use Rattle.rkyv_table.specs.Lemmas.ItemPositions.{item_is_valid, valid_part}
-use Rattle.rkyv_table.specs.Controls.Placing.{walk}
-use Rattle.rkyv_table.specs.Table.Positions.{IsWalked, item_at}
-use Rattle.rkyv_table.specs.Table.Positions.{item_positions, table_controls}
 use Rattle.rkyv_table.specs.Lemmas.SameHeader.{cap_same, pos_same}
-use Rattle.rkyv_table.specs.Table.Layout.{IsValidTable}
 use Rattle.rkyv_table.proofs.RawWalks.{walked_all}
 use Rattle.rkyv_table.proofs.Walks.{walk_none}
 use Rattle.rkyv_table.proofs.WrittenTables.{home_pos}
-use Rattle.rkyv_collections.specs.Map.MapSpec.{map_spec}
-use Rattle.rkyv_collections.specs.Map.MapFormat.{MapRepresents}
+use Rattle.rkyv_collections.specs.{ArePairsAt, EntriesRepresent, MapRepresents, map_spec}
+use Rattle.rkyv_collections.specs.{of_entries}
 use Rattle.rkyv_collections.specs.Lemmas.DistinctEntries.{of_entries-format}
 use Rattle.rkyv_collections.specs.Lemmas.PairHomes.{homes_count, homes_visited}
 use Rattle.rkyv_collections.specs.Lemmas.StoredKeys.{find_in_distinct, key_contained, no_key}
 use Rattle.rkyv_table.specs.Lemmas.SameControls.{same_controls}
-use Rattle.rkyv_collections.specs.StdMaps.StdMap.{ArePairsAt, EntriesRepresent, of_entries}
 
 module _ (k v : ElementSpec) (kl : IsElement k) (vl : IsElement v) (w : Width) where
   abbrev S : ElementSpec

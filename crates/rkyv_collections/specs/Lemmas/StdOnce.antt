@@ -12,25 +12,20 @@ use Rattle.std.proofs.lemmas.Bool.{and_from, cases_Bool, true≢false}
 use Rattle.std.proofs.lemmas.List.Elements.{All-head, All-map, All-tail, All-weaker}
 use Rattle.std.proofs.lemmas.List.Sums.{list_all-from_AllPass}
 use Rattle.std.proofs.lemmas.Map.Made.{All-is_member}
-use Rattle.rkyv_base.specs.Empty.{unit_represents, unit_spec}
+use Rattle.rkyv_base.specs.{ElementSpec, IsElement, ValidAt, entry_spec, unit_represents, unit_spec}
+use Rattle.rkyv_base.specs.{value_offset}
 use Rattle.rkyv_base.specs.Lemmas.Empty.{unit_element}
-use Rattle.rkyv_base.specs.Entry.{entry_spec, value_offset}
 use Rattle.rkyv_base.specs.Lemmas.Entry.{entry_element}
-use Rattle.rkyv_base.specs.ElementSpec.{ElementSpec, IsElement, ValidAt}
 use Rattle.rkyv_base.specs.Lemmas.ElementSpec.{valid_at}
-use Rattle.rkyv_keys.specs.Equality.{RepresentsOnce}
+use Rattle.rkyv_keys.specs.{RepresentsOnce}
 use Rattle.rkyv_keys.specs.Lemmas.OfEntries.{valid_key, valid_value}
-use Rattle.rkyv_table.specs.Table.Header.{cap_at}
+use Rattle.rkyv_table.specs.{IsWalked, cap_at, item_at, item_positions, table_controls, walk}
+use Rattle.rkyv_table.specs.{with_units}
 use Rattle.rkyv_table.specs.Lemmas.ItemPositions.{item_is_valid, valid_part}
-use Rattle.rkyv_table.specs.Controls.Placing.{walk}
-use Rattle.rkyv_table.specs.Table.Positions.{IsWalked, item_at, item_positions, table_controls}
 use Rattle.rkyv_table.proofs.RawWalks.{walked_all}
-use Rattle.rkyv_collections.specs.Map.MapSpec.{map_spec}
+use Rattle.rkyv_collections.specs.{ArePairsAt, EntriesRepresent, StdMapRepresents, StdSetRepresents}
+use Rattle.rkyv_collections.specs.{map_spec, set_spec}
 use Rattle.rkyv_collections.specs.Lemmas.StdSet.{unit_lookup}
-use Rattle.rkyv_collections.specs.Set.{set_spec}
-use Rattle.rkyv_table.specs.Table.ItemValues.{with_units}
-use Rattle.rkyv_collections.specs.StdMaps.StdMap.{ArePairsAt, EntriesRepresent, StdMapRepresents}
-use Rattle.rkyv_collections.specs.StdMaps.StdSet.{StdSetRepresents}
 
 module _ {A B : Type 0} (equal : A → A → Bool) (laws : IsEquivalence equal) (same : B → B → Bool)
   where

@@ -7,12 +7,9 @@ use Rattle.std.proofs.lemmas.List.{length-map}
 use Rattle.std.proofs.lemmas.List.Elements.{All-cons, All-head, All-tail}
 use Rattle.std.specs.Int.{Width}
 use Rattle.std.specs.Map.{keys_of, lookup}
-use Rattle.rkyv_base.specs.Empty.{unit_represents, unit_spec}
-use Rattle.rkyv_base.specs.Format.{Format, IsFormat}
-use Rattle.rkyv_base.specs.ElementSpec.{ElementSpec}
-use Rattle.rkyv_table.specs.Table.Header.{len_at}
-use Rattle.rkyv_table.specs.Table.ItemValues.{with_units}
-use Rattle.rkyv_collections.specs.StdMaps.StdEquality.{EntriesEqual, FindsPair}
+use Rattle.rkyv_base.specs.{ElementSpec, Format, IsFormat, unit_represents, unit_spec}
+use Rattle.rkyv_table.specs.{len_at, with_units}
+use Rattle.rkyv_collections.specs.{EntriesEqual, FindsPair}
 
 pub keys_with_units : {A : Type 0} (keys : List A) → keys_of (with_units keys) ≡ keys
 keys_with_units [] = refl

@@ -17,7 +17,7 @@ use Rattle.std.proofs.lemmas.List.Sorted.{list_any-IsPermutation}
 use Rattle.std.proofs.lemmas.Map.Keys.{apart_from_distinct}
 use Rattle.std.proofs.lemmas.Option.{none-some, same_Some}
 use Rattle.rkyv_table.proofs.Lists.{find_none, none_find}
-use Rattle.rkyv_collections.specs.StdMaps.StdMap.{AddsKey}
+use Rattle.rkyv_collections.specs.{AddsKey}
 
 -- a found element is in the list, and passes
 contained_from_find : {A : Type 0} (test : A → Bool) (xs : List A) (x : A)

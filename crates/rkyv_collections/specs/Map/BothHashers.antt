@@ -1,13 +1,10 @@
 -- Lookups under two hashers that differ in `usize` and `isize` alone.
 use Rattle.std.specs.Prelude.{◌≡◌, ℕ, All, Bool, List, Option}
 use Rattle.std.specs.Int.{Width}
-use Rattle.rkyv_scan.specs.Groups.{generic_kind}
-use Rattle.rkyv_scan.specs.Hash.{HasherCall, SizeWords, fx_hash}
-use Rattle.rkyv_scan.specs.Laws.{IsFixed}
-use Rattle.rkyv_base.specs.Entry.{entry_spec}
-use Rattle.rkyv_base.specs.ElementSpec.{ElementSpec, Viewable}
+use Rattle.rkyv_scan.specs.{HasherCall, IsFixed, SizeWords, fx_hash, generic_kind}
+use Rattle.rkyv_base.specs.{ElementSpec, Viewable, entry_spec}
 use Rattle.rkyv_keys.specs.declared.hash.KeyHash.{Ghosts as KeyHashes}
-use Rattle.rkyv_table.specs.Table.Positions.{pos_found}
+use Rattle.rkyv_table.specs.{pos_found}
 use Rattle.rkyv_collections.specs.Map.{MapWrittenAt}
 use Rattle.rkyv_collections.specs.Map.MapSpec.{map_spec}
 

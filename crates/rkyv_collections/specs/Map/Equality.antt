@@ -6,15 +6,11 @@ use Rattle.std.specs.Prelude.{slice_index}
 use Rattle.std.specs.Int.{Width}
 use Rattle.std.specs.List.{list_all}
 use Rattle.std.specs.Option.{option_map, unwrap_or}
-use Rattle.rkyv_scan.specs.Groups.{generic_kind}
-use Rattle.rkyv_base.specs.Entry.{entry_spec, value_offset}
-use Rattle.rkyv_base.specs.ElementSpec.{ElementSpec, Viewable}
-use Rattle.rkyv_base.specs.View.{bytes_of, pos_of}
+use Rattle.rkyv_scan.specs.{generic_kind}
+use Rattle.rkyv_base.specs.{ElementSpec, Viewable, bytes_of, entry_spec, pos_of, value_offset}
 use Rattle.rkyv_base.specs.declared.view.View.{View}
-use Rattle.rkyv_keys.specs.Equality.{Comparison}
-use Rattle.rkyv_keys.specs.OfEntries.{entry_same}
-use Rattle.rkyv_table.specs.Table.Header.{len_at}
-use Rattle.rkyv_table.specs.Table.Positions.{item_at, item_positions, pos_found}
+use Rattle.rkyv_keys.specs.{Comparison, entry_same}
+use Rattle.rkyv_table.specs.{item_at, item_positions, len_at, pos_found}
 use Rattle.rkyv_collections.specs.Map.{MapWrittenAt, map_bytes, map_pos}
 use Rattle.rkyv_collections.specs.declared.map.ArchivedHashMap.{ArchivedHashMap}
 use Rattle.rkyv_collections.specs.Map.MapSpec.{map_spec}

@@ -4,12 +4,9 @@ use Rattle.std.specs.Prelude.{Some, cond, false, length, true}
 use Rattle.std.specs.Borrow.{MutBor}
 use Rattle.std.specs.Int.{Width}
 use Rattle.std.specs.Option.{is_some}
-use Rattle.rkyv_base.specs.Scalar.{Encoding, ScalarRepresents}
-use Rattle.rkyv_base.specs.Sealing.{with_value}
-use Rattle.rkyv_base.specs.ElementSpec.{ElementSpec}
-use Rattle.rkyv_keys.specs.KeyLookup.{KeyLookup}
-use Rattle.rkyv_table.specs.Table.SealedItems.{WrittenBy}
-use Rattle.rkyv_keys.specs.FirstPairs.{first_pair}
+use Rattle.rkyv_base.specs.{ElementSpec, Encoding, ScalarRepresents, with_value}
+use Rattle.rkyv_keys.specs.{KeyLookup, first_pair}
+use Rattle.rkyv_table.specs.{WrittenBy}
 use Rattle.rkyv_collections.specs.Map.MapAt.{FoundValueHasAt, MapAt, ValueQuery}
 use Rattle.rkyv_collections.specs.Map.MapFormat.{MapRepresents}
 use Rattle.rkyv_collections.specs.Map.ValueWrites.{KeepsMap}

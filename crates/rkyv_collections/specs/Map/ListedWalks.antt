@@ -3,13 +3,8 @@ use Rattle.std.specs.Prelude.{◌≡◌, ℕ, List, Some, slice_get, slice_index
 use Rattle.std.specs.Int.{Width}
 use Rattle.std.specs.List.{AllZip}
 use Rattle.std.specs.List.Sorted.{IsPermutation}
-use Rattle.rkyv_base.specs.Empty.{unit_spec}
-use Rattle.rkyv_base.specs.Entry.{entry_spec}
-use Rattle.rkyv_base.specs.Pairs.{PairRepresents}
-use Rattle.rkyv_base.specs.ElementSpec.{ElementSpec}
-use Rattle.rkyv_table.specs.Table.Header.{cap_at}
-use Rattle.rkyv_table.specs.Table.Positions.{item_at, item_positions, table_controls}
-use Rattle.rkyv_table.specs.Table.WalkLaws.{VisitsHomes}
+use Rattle.rkyv_base.specs.{ElementSpec, PairRepresents, entry_spec, unit_spec}
+use Rattle.rkyv_table.specs.{VisitsHomes, cap_at, item_at, item_positions, table_controls}
 use Rattle.rkyv_collections.specs.Map.MapFormat.{MapRepresents}
 use Rattle.rkyv_collections.specs.Set.SetFormat.{SetRepresents}
 

@@ -3,12 +3,10 @@ use Rattle.rkyv_base.specs.declared.element.HasSpec.{Ghosts as Specs}
 use Rattle.rkyv_base.specs.declared.width.Word.{Ghosts as Words}
 use Rattle.std.specs.Prelude.{◌≡◌, ℕ, ◌+◌, Bool, true, IfSome, List, MatchOption, None, Option}
 use Rattle.std.specs.Prelude.{Some}
-use Rattle.rkyv_base.specs.Entry.{value_offset}
-use Rattle.rkyv_base.specs.ElementSpec.{ElementSpec}
-use Rattle.rkyv_base.specs.View.{IsAt, IsValidView, archive_of, pos_of}
+use Rattle.rkyv_base.specs.{ElementSpec, IsAt, IsValidView, archive_of, pos_of, value_offset}
 use Rattle.rkyv_base.specs.declared.entry.Entry.{Entry}
 use Rattle.rkyv_base.specs.declared.view.View.{View}
-use Rattle.rkyv_keys.specs.KeyLookup.{KeyLookup}
+use Rattle.rkyv_keys.specs.{KeyLookup}
 use Rattle.rkyv_collections.specs.Map.{FindsBy, FindsFirstBy, FindsFirstKey, FindsKey, IsViewAt}
 use Rattle.rkyv_collections.specs.Map.{IsEntryIn, IsKeyIn, IsPairAt, IsPairIn, IsValueAt}
 use Rattle.rkyv_collections.specs.Map.{IsValueIn, map_bytes}

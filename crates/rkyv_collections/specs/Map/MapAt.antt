@@ -4,10 +4,9 @@ use Rattle.rkyv_base.specs.declared.width.Word.{Ghosts as Words}
 use Rattle.std.specs.Prelude.{ℕ, Bool, List, Option}
 use Rattle.std.specs.Int.{Width}
 use Rattle.std.specs.Option.{option_map}
-use Rattle.rkyv_scan.specs.Hash.{Hasher, HasherCall, hash_of_calls}
-use Rattle.rkyv_base.specs.Sealing.{value_pos}
-use Rattle.rkyv_base.specs.ElementSpec.{ElementSpec}
-use Rattle.rkyv_keys.specs.KeyLookup.{KeyLookup}
+use Rattle.rkyv_scan.specs.{Hasher, HasherCall, hash_of_calls}
+use Rattle.rkyv_base.specs.{ElementSpec, value_pos}
+use Rattle.rkyv_keys.specs.{KeyLookup}
 use Rattle.rkyv_collections.specs.Map.{FindsFirstKeyAt, FindsKeyAt}
 use Rattle.rkyv_collections.specs.Map.Misplaced.{FindsOneKeyAt}
 

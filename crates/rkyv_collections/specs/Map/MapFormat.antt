@@ -1,17 +1,12 @@
 -- The format of the pairs of a map: a table of entries, each under the hash of its key.
 use Rattle.std.specs.Prelude.{◌≡◌, ℕ, List, length, map, slice_get, slice_index, Some}
 use Rattle.std.specs.Int.{Width}
-use Rattle.rkyv_base.specs.Entry.{entry_spec}
-use Rattle.rkyv_base.specs.Format.{Format, IsFormat}
-use Rattle.rkyv_base.specs.Pairs.{PairRepresents, pair_format, written_as}
-use Rattle.rkyv_base.specs.ElementSpec.{ElementSpec}
-use Rattle.rkyv_table.specs.Table.Header.{cap_at, len_at}
-use Rattle.rkyv_table.specs.Controls.Numbers.{capacity}
-use Rattle.rkyv_table.specs.Table.Positions.{home_positions}
-use Rattle.rkyv_table.specs.Table.TableFormat.{TableResolver, table_format}
+use Rattle.rkyv_base.specs.{ElementSpec, Format, IsFormat, PairRepresents, entry_spec, pair_format}
+use Rattle.rkyv_base.specs.{written_as}
+use Rattle.rkyv_table.specs.{TableResolver, cap_at, capacity, home_positions, len_at, table_format}
 use Rattle.rkyv_collections.specs.Map.{MapWrittenAt}
 use Rattle.rkyv_collections.specs.Map.MapSpec.{map_spec}
-use Rattle.rkyv_keys.specs.Natives.{NativePairs}
+use Rattle.rkyv_keys.specs.{NativePairs}
 use Rattle.rkyv_collections.specs.Natives.{PairFormat}
 
 -- the pairs, each with the hash of its key

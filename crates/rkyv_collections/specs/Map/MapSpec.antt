@@ -1,13 +1,10 @@
 -- The bytes of a hash map, as an element.
 use Rattle.std.specs.Prelude.{◌≡◌, ℕ, List}
 use Rattle.std.specs.Int.{Width}
-use Rattle.rkyv_base.specs.Entry.{entry_spec}
+use Rattle.rkyv_base.specs.{ElementSpec, IsArchiveWord, IsElement, entry_spec}
 use Rattle.rkyv_base.specs.Lemmas.Entry.{entry_element}
-use Rattle.rkyv_base.specs.ElementSpec.{ElementSpec, IsElement}
-use Rattle.rkyv_base.specs.Text.{IsArchiveWord}
 use Rattle.rkyv_table.specs.Lemmas.TableLaws.{table_element}
-use Rattle.rkyv_table.specs.Table.Layout.{table_spec}
-use Rattle.rkyv_table.specs.Table.Positions.{IsWalked, item_at}
+use Rattle.rkyv_table.specs.{IsWalked, item_at, table_spec}
 
 -- the element of a map: the header of a table of its entries
 abbrev pub map_spec : Width → ElementSpec → ElementSpec → ElementSpec

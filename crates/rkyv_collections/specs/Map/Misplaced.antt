@@ -4,13 +4,11 @@ use Rattle.rkyv_base.specs.declared.width.Word.{Ghosts as Words}
 use Rattle.std.specs.Prelude.{◌≡◌, ℕ, ◌<◌, ◌≤◌, ◌^◌, ◌⊎◌, List, Bool, true, false, Option}
 use Rattle.std.specs.Prelude.{MatchOption}
 use Rattle.std.specs.Int.{Width}
-use Rattle.rkyv_scan.specs.Groups.{generic_kind}
-use Rattle.rkyv_base.specs.Entry.{entry_spec}
-use Rattle.rkyv_base.specs.ElementSpec.{ElementSpec, Viewable}
-use Rattle.rkyv_keys.specs.Equality.{Comparison}
-use Rattle.rkyv_table.specs.Table.Header.{cap_at, len_at}
-use Rattle.rkyv_table.specs.Table.Misplaced.{all_strides, misplaced, repeated}
-use Rattle.rkyv_table.specs.Table.Positions.{IsWalked, home_positions, item_at, table_controls}
+use Rattle.rkyv_scan.specs.{generic_kind}
+use Rattle.rkyv_base.specs.{ElementSpec, Viewable, entry_spec}
+use Rattle.rkyv_keys.specs.{Comparison}
+use Rattle.rkyv_table.specs.{IsWalked, all_strides, cap_at, home_positions, item_at, len_at}
+use Rattle.rkyv_table.specs.{misplaced, repeated, table_controls}
 use Rattle.rkyv_collections.specs.Map.{MapWrittenAt, map_bytes, map_pos}
 use Rattle.rkyv_collections.specs.Map.MapSpec.{map_spec}
 use Rattle.rkyv_collections.specs.declared.map.ArchivedHashMap.{ArchivedHashMap}

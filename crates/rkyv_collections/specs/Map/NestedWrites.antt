@@ -2,17 +2,13 @@
 use Rattle.std.specs.Prelude.{◌≡◌, ◌≢◌, ℕ, ◌+◌, ◌*◌, ◌-◌, ◌≤◌, List, Some}
 use Rattle.std.specs.Int.{Width, byte_len}
 use Rattle.std.specs.Option.{option_map}
-use Rattle.rkyv_base.specs.Bytes.{AgreeOn}
-use Rattle.rkyv_base.specs.Entry.{entry_spec}
-use Rattle.rkyv_base.specs.Sealing.{Sealed, value_pos}
-use Rattle.rkyv_base.specs.ElementSpec.{ElementSpec, Viewable}
-use Rattle.rkyv_table.specs.Table.Positions.{IsWalked, table_controls}
+use Rattle.rkyv_base.specs.{AgreeOn, ElementSpec, Sealed, Viewable, entry_spec, value_pos}
+use Rattle.rkyv_table.specs.{IsWalked, WritesValue, table_controls}
 use Rattle.rkyv_collections.specs.Map.InPlace.{with_first}
 use Rattle.rkyv_collections.specs.Map.{FindsFirstKeyAt, MapWrittenAt}
 use Rattle.rkyv_collections.specs.Map.MapSpec.{IsKeyPosAt, map_spec}
 use Rattle.rkyv_collections.specs.Map.MapFormat.{MapRepresents}
-use Rattle.rkyv_keys.specs.Natives.{NativeKeys}
-use Rattle.rkyv_table.specs.Table.SealedTable.{WritesValue}
+use Rattle.rkyv_keys.specs.{NativeKeys}
 use Rattle.rkyv_collections.specs.Map.ValueWrites.{entry_at}
 
 -- `c`: bytes `b` after a write among the parts of the value at `q`. A valid value

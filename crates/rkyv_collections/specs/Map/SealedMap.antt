@@ -4,18 +4,13 @@ use Rattle.rkyv_base.specs.declared.width.Word.{Ghosts as Words}
 use Rattle.std.specs.Prelude.{◌≡◌, ℕ, List, Bool, true, IfSome, Option}
 use Rattle.std.specs.Int.{Width}
 use Rattle.std.specs.Option.{option_map}
-use Rattle.rkyv_base.specs.Entry.{entry_spec}
-use Rattle.rkyv_base.specs.Seal.{archive_in, pos_in}
-use Rattle.rkyv_base.specs.Sealing.{value_pos}
-use Rattle.rkyv_base.specs.ElementSpec.{ElementSpec, Viewable}
-use Rattle.rkyv_base.specs.View.{IsValidView, bytes_of, pos_of}
+use Rattle.rkyv_base.specs.{ElementSpec, IsValidView, Viewable, archive_in, bytes_of, entry_spec}
+use Rattle.rkyv_base.specs.{pos_in, pos_of, value_pos}
 use Rattle.rkyv_base.specs.declared.seal.ArchiveSeal.{ArchiveSeal}
 use Rattle.rkyv_base.specs.declared.seal.Seal.{Seal}
 use Rattle.rkyv_base.specs.declared.view.View.{View}
-use Rattle.rkyv_table.specs.Table.PairSeals.{LendsPair, LendsValue}
-use Rattle.rkyv_table.specs.Table.Positions.{IsWalked, item_at}
-use Rattle.rkyv_table.specs.Table.SealedLookup.{pos_of_seal}
-use Rattle.rkyv_table.specs.Table.SealedTable.{KeptByValueWrites}
+use Rattle.rkyv_table.specs.{IsWalked, KeptByValueWrites, LendsPair, LendsValue, item_at}
+use Rattle.rkyv_table.specs.{pos_of_seal}
 use Rattle.rkyv_collections.specs.Map.{AreUnderHashAt, FindsFirstKeyAt, FindsKeyAt}
 use Rattle.rkyv_collections.specs.Map.MapAt.{MapAt, map_at}
 use Rattle.rkyv_collections.specs.Map.MapSpec.{IsKeyPosAt}

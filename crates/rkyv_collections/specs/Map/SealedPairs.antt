@@ -2,19 +2,13 @@
 use Rattle.std.specs.Prelude.{◌≡◌, ℕ, ◌+◌, ◌≤◌, List, [], ◌∷◌, Option, MatchOption, length}
 use Rattle.std.specs.Borrow.{MutBor}
 use Rattle.std.specs.Int.{Width}
-use Rattle.rkyv_base.specs.Entry.{entry_spec}
-use Rattle.rkyv_base.specs.Sealing.{value_pos}
-use Rattle.rkyv_base.specs.ElementSpec.{ElementSpec}
+use Rattle.rkyv_base.specs.{ElementSpec, entry_spec, value_pos}
 use Rattle.rkyv_base.specs.declared.entry.Entry.{Entry}
 use Rattle.rkyv_base.specs.declared.seal.Seal.{Seal}
 use Rattle.rkyv_base.specs.declared.view.View.{View}
-use Rattle.rkyv_table.specs.Controls.Placing.{walk}
-use Rattle.rkyv_table.specs.Table.PairSeals.{LendsPair, LendsValue}
-use Rattle.rkyv_table.specs.Table.Header.{cap_at, len_at}
-use Rattle.rkyv_table.specs.Table.Positions.{table_controls}
-use Rattle.rkyv_table.specs.Table.SealedItems.{CountsDown, IsSealIter, SameArchive, StaysThere}
-use Rattle.rkyv_table.specs.Table.SealedItems.{cursor_buckets_left, cursor_bytes, cursor_len}
-use Rattle.rkyv_table.specs.Table.SealedTable.{KeepsTable, SameValue}
+use Rattle.rkyv_table.specs.{CountsDown, IsSealIter, KeepsTable, LendsPair, LendsValue, SameArchive}
+use Rattle.rkyv_table.specs.{SameValue, StaysThere, cap_at, cursor_buckets_left, cursor_bytes}
+use Rattle.rkyv_table.specs.{cursor_len, len_at, table_controls, walk}
 use Rattle.rkyv_table.specs.declared.table.raw_iter_seal.RawIterSeal.{RawIterSeal}
 use Rattle.rkyv_collections.specs.Map.SealedMap.{IsPairPos}
 use Rattle.rkyv_collections.specs.declared.map.in_place.iter_seal.IterMut.{IterMut}

@@ -1,12 +1,10 @@
 -- Maps with a value that is written in place.
 use Rattle.std.specs.Prelude.{◌≡◌, ℕ, ◌<◌, ◌^◌, List, Bool, Some, slice_get, slice_index, slice_set}
 use Rattle.std.specs.Int.{Width}
-use Rattle.rkyv_scan.specs.Groups.{generic_kind}
-use Rattle.rkyv_base.specs.Entry.{entry_spec}
-use Rattle.rkyv_base.specs.Sealing.{value_pos}
-use Rattle.rkyv_base.specs.ElementSpec.{ElementSpec, Viewable}
-use Rattle.rkyv_table.specs.Table.Positions.{IsWalked, home_positions, item_at, pos_found}
-use Rattle.rkyv_table.specs.Table.SealedTable.{KeepsTable, RestsOnKey, SameValue, WritesValue}
+use Rattle.rkyv_scan.specs.{generic_kind}
+use Rattle.rkyv_base.specs.{ElementSpec, Viewable, entry_spec, value_pos}
+use Rattle.rkyv_table.specs.{IsWalked, KeepsTable, RestsOnKey, SameValue, WritesValue}
+use Rattle.rkyv_table.specs.{home_positions, item_at, pos_found}
 use Rattle.rkyv_collections.specs.Map.{MapWrittenAt}
 use Rattle.rkyv_collections.specs.Map.MapSpec.{map_spec}
 use Rattle.rkyv_collections.specs.Map.MapFormat.{MapRepresents}

@@ -2,16 +2,11 @@
 use Rattle.std.specs.Prelude.{ℕ, List, Result}
 use Rattle.std.specs.Int.{Width}
 use Rattle.std.specs.declared.iter.Iterator.{Ghosts as Iterators}
-use Rattle.rkyv_base.specs.Members.{WidthMembers}
-use Rattle.rkyv_base.specs.Format.{Format}
-use Rattle.rkyv_base.specs.Pairs.{written_as}
-use Rattle.rkyv_base.specs.Writing.{Output}
+use Rattle.rkyv_base.specs.{Format, Output, WidthMembers, written_as}
 use Rattle.rkyv_base.specs.declared.errors.WriteError.{WriteError}
 use Rattle.rkyv_base.specs.declared.lend.Lend.{Ghosts as Lends}
-use Rattle.rkyv_table.specs.Table.Input.{Input, from_iter}
-use Rattle.rkyv_table.specs.Table.ItemValues.{key_values, pair_values}
-use Rattle.rkyv_table.specs.Table.Serializing.{WritesItems}
-use Rattle.rkyv_table.specs.Table.TableFormat.{TableResolver, WritesHeader}
+use Rattle.rkyv_table.specs.{Input, TableResolver, WritesHeader, WritesItems, from_iter, key_values}
+use Rattle.rkyv_table.specs.{pair_values}
 use Rattle.rkyv_collections.specs.Map.MapFormat.{map_format}
 use Rattle.rkyv_collections.specs.Natives.{KeyFormat, PairFormat}
 use Rattle.rkyv_collections.specs.Set.SetFormat.{set_format}

@@ -1,12 +1,9 @@
 -- The format of the keys of a set: a map of the keys, each with the unit value.
 use Rattle.std.specs.Prelude.{ℕ, List}
 use Rattle.std.specs.Int.{Width}
-use Rattle.rkyv_base.specs.Empty.{unit_format, unit_represents, unit_spec}
-use Rattle.rkyv_base.specs.Format.{Format, IsFormat}
-use Rattle.rkyv_base.specs.Pairs.{written_as}
-use Rattle.rkyv_base.specs.ElementSpec.{ElementSpec}
-use Rattle.rkyv_table.specs.Table.ItemValues.{with_units}
-use Rattle.rkyv_table.specs.Table.TableFormat.{TableResolver}
+use Rattle.rkyv_base.specs.{ElementSpec, Format, IsFormat, unit_format, unit_represents, unit_spec}
+use Rattle.rkyv_base.specs.{written_as}
+use Rattle.rkyv_table.specs.{TableResolver, with_units}
 use Rattle.rkyv_collections.specs.Map.MapFormat.{MapRepresents, map_format}
 use Rattle.rkyv_collections.specs.Set.{set_spec}
 

@@ -1,13 +1,10 @@
 -- Archives that were written of a map or a set of std, as archives of the list of its entries.
-use Rattle.rkyv_base.specs.Members.{ElementMembers}
+use Rattle.rkyv_base.specs.{ElementMembers, Format, IsValidArchive, RootBytes, narrow_limit}
+use Rattle.rkyv_base.specs.{wide_limit}
 use Rattle.std.specs.Prelude.{ℕ, ◌-◌, List, length}
 use Rattle.std.specs.HashMap.{HashMap}
 use Rattle.std.specs.HashSet.{HashSet}
 use Rattle.std.specs.Int.{Width}
-use Rattle.rkyv_base.specs.Access.{IsValidArchive}
-use Rattle.rkyv_base.specs.Format.{Format}
-use Rattle.rkyv_base.specs.Layout.{narrow_limit, wide_limit}
-use Rattle.rkyv_base.specs.Root.{RootBytes}
 use Rattle.rkyv_collections.specs.Map.ListArchives.{map_root}
 use Rattle.rkyv_collections.specs.Map.MapFormat.{MapRepresents}
 use Rattle.rkyv_collections.specs.Map.MapSpec.{map_spec}

@@ -1,8 +1,6 @@
 -- The value of an archive, and its root.
 use Rattle.std.specs.Prelude.{◌≡◌, ℕ, ◌-◌, Bool, List, length, true}
-use Rattle.rkyv_base.specs.Format.{Format}
-use Rattle.rkyv_base.specs.Root.{ArchiveOf}
-use Rattle.rkyv_base.specs.ElementSpec.{ElementSpec}
+use Rattle.rkyv_base.specs.{ArchiveOf, ElementSpec, Format}
 
 -- the root of the archive of a value equals the value, and each value that the root
 -- represents is equal to it

@@ -1,5 +1,6 @@
 -- Lookups in an archive of a map or a set of std.
-use Rattle.rkyv_base.specs.Members.{ElementMembers}
+use Rattle.rkyv_base.specs.{ElementMembers, ElementSpec, Format, IsFormat, entry_spec, unit_spec}
+use Rattle.rkyv_base.specs.{value_offset}
 use Rattle.rkyv_base.specs.declared.element.HasSpec.{Ghosts as Specs}
 use Rattle.rkyv_base.specs.declared.width.Word.{Ghosts as Words}
 use Rattle.std.specs.Prelude.{◌≡◌, ℕ, ◌+◌, Bool, List, None, Option, Some}
@@ -9,12 +10,8 @@ use Rattle.std.specs.Int.{Width}
 use Rattle.std.specs.List.{list_any}
 use Rattle.std.specs.Map.{lookup}
 use Rattle.std.specs.Option.{is_some}
-use Rattle.rkyv_scan.specs.Groups.{generic_kind}
-use Rattle.rkyv_base.specs.Empty.{unit_spec}
-use Rattle.rkyv_base.specs.Entry.{entry_spec, value_offset}
-use Rattle.rkyv_base.specs.Format.{Format, IsFormat}
-use Rattle.rkyv_base.specs.ElementSpec.{ElementSpec}
-use Rattle.rkyv_table.specs.Table.Positions.{pos_found}
+use Rattle.rkyv_scan.specs.{generic_kind}
+use Rattle.rkyv_table.specs.{pos_found}
 use Rattle.rkyv_collections.specs.Map.ListedLookups.{AgreesOnKeys}
 use Rattle.rkyv_collections.specs.Map.{map_bytes, map_pos}
 use Rattle.rkyv_collections.specs.Map.MapSpec.{map_spec}
@@ -31,37 +28,34 @@ IsValueBehind value b offset (Some q) (Some x) = value b (q + offset) x
 IsValueBehind value b offset None (Some x) = ⊥
 IsValueBehind value b offset (Some q) None = ⊥
 
-module _ {Q A : Type 0} (w : Width) (k : ElementSpec) (hash : Q → ℕ) (fits : Q → List ℕ → ℕ → Bool)
-  where
-    -- The query finds the value of the first entry with an accepted key, in the map at `p`.
-    -- It finds none if and only if no entry has one
-    abbrev pub FindsFirstAccepted : {B : Type 0} → ElementSpec → (List ℕ → ℕ → B → Type 0) → List ℕ
-        → ℕ → Q
-        → (A → Bool) → List (A × B) → Type 0
-    FindsFirstAccepted v value b p q accept_value entries =
-        IsValueBehind value b (value_offset k v)
-        (pos_found generic_kind w (entry_spec k v).size b p (hash q) (fits q b))
-        (lookup accept_value entries)
+module _ {Q A : Type 0} (w : Width) (k : ElementSpec) (hash : Q → ℕ)
+    (fits : Q → List ℕ → ℕ → Bool) where
+  -- The query finds the value of the first entry with an accepted key, in the map at `p`.
+  -- It finds none if and only if no entry has one.
+  abbrev pub FindsFirstAccepted : {B : Type 0} → ElementSpec → (List ℕ → ℕ → B → Type 0) → List ℕ
+      → ℕ → Q → (A → Bool) → List (A × B) → Type 0
+  FindsFirstAccepted v value b p q accept_value entries =
+      IsValueBehind value b (value_offset k v)
+      (pos_found generic_kind w (entry_spec k v).size b p (hash q) (fits q b))
+      (lookup accept_value entries)
 
-    module _ (key : List ℕ → ℕ → A → Type 0) (can_read : Q → Type 0) where
-      -- each query that can be read finds in the map at `p` the value that `entries` have
-      abbrev pub FindsEntries : {B : Type 0} → ElementSpec → (List ℕ → ℕ → B → Type 0) → List ℕ → ℕ
-          → List (A × B) → Type 0
-      FindsEntries v value b p entries = (q : Q) (accept_value : A → Bool) → can_read q
-          → AgreesOnKeys k key b (fits q b) accept_value
-          → FindsFirstAccepted v value b p q accept_value entries
+  module _ (key : List ℕ → ℕ → A → Type 0) (can_read : Q → Type 0) where
+    -- each query that can be read finds in the map at `p` the value that `entries` have
+    abbrev pub FindsEntries : {B : Type 0} → ElementSpec → (List ℕ → ℕ → B → Type 0) → List ℕ → ℕ
+        → List (A × B) → Type 0
+    FindsEntries v value b p entries = (q : Q) (accept_value : A → Bool) → can_read q
+        → AgreesOnKeys k key b (fits q b) accept_value
+        → FindsFirstAccepted v value b p q accept_value entries
 
-      -- each query that can be read is found in the set at `p` if and only if a key is accepted
-      abbrev pub FindsMembers : List ℕ → ℕ → List A → Type 0
-      FindsMembers b p keys =
-          (q : Q) (accept_value : A → Bool) → can_read q
-          → AgreesOnKeys k key b (fits q b) accept_value
-          → is_some
-          (pos_found generic_kind w (entry_spec k unit_spec).size b p (hash q)
-          (fits q b)) ≡ list_any accept_value keys
+    -- each query that can be read is found in the set at `p` if and only if a key is accepted
+    abbrev pub FindsMembers : List ℕ → ℕ → List A → Type 0
+    FindsMembers b p keys = (q : Q) (accept_value : A → Bool) → can_read q
+        → AgreesOnKeys k key b (fits q b) accept_value
+        → is_some (pos_found generic_kind w (entry_spec k unit_spec).size b p (hash q) (fits q b))
+        ≡ list_any accept_value keys
 
 -- The query finds the value of the first entry with an accepted key in the map.
--- It finds none if and only if no entry has one
+-- It finds none if and only if no entry has one.
 abbrev pub FindsFirstAcceptedIn : {A B K V H W Q : Type 0} {ks : Specs K} {vs : Specs V}
     {wt : Words W}
     → ArchivedHashMap K V H W ks vs wt → Queried Q → (List ℕ → ℕ → B → Type 0) → Q → (A → Bool)

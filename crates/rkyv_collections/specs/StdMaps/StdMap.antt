@@ -5,17 +5,12 @@ use Rattle.std.specs.HashMap.{HashMap, IsUnique, Updates, hasher_of, keys}
 use Rattle.std.specs.Int.{Width}
 use Rattle.std.specs.List.{AllZip, IsDistinct, find}
 use Rattle.std.specs.Map.{keys_of, lookup, update_all}
-use Rattle.rkyv_base.specs.Entry.{entry_spec}
-use Rattle.rkyv_base.specs.Format.{Format}
-use Rattle.rkyv_base.specs.Pairs.{PairRepresents}
-use Rattle.rkyv_base.specs.ElementSpec.{ElementSpec}
-use Rattle.rkyv_base.specs.View.{AtView}
+use Rattle.rkyv_base.specs.{AtView, ElementSpec, Format, PairRepresents, entry_spec}
 use Rattle.rkyv_base.specs.declared.errors.ReadError.{ReadError}
 use Rattle.rkyv_base.specs.declared.errors.ReadError.TheVariants.{Memory}
 use Rattle.rkyv_base.specs.declared.view.View.{View}
-use Rattle.rkyv_keys.specs.OfEntries.{entry_deserialize_fails}
-use Rattle.rkyv_keys.specs.Deserialize.{DeserializeErrors}
-use Rattle.rkyv_table.specs.Table.Positions.{item_positions}
+use Rattle.rkyv_keys.specs.{DeserializeErrors, entry_deserialize_fails}
+use Rattle.rkyv_table.specs.{item_positions}
 use Rattle.rkyv_collections.specs.Map.MapSpec.{IsKeyPosAt}
 
 module _ {A B : Type 0} (k v : ElementSpec) (key : List ℕ → ℕ → A → Type 0) (value : List ℕ → ℕ → B

@@ -5,16 +5,13 @@ use Rattle.std.specs.Prelude.{◌≡◌, ℕ, ◌⊎◌, Bool, true, List, Match
 use Rattle.std.specs.HashSet.{HashSet, IsUnique, Updates, hash_set_len, hasher_of}
 use Rattle.std.specs.List.{All}
 use Rattle.std.specs.Int.{Width}
-use Rattle.rkyv_base.specs.Empty.{unit_represents, unit_spec}
-use Rattle.rkyv_base.specs.ElementSpec.{ElementSpec}
-use Rattle.rkyv_base.specs.View.{AtView}
+use Rattle.rkyv_base.specs.{AtView, ElementSpec, unit_represents, unit_spec}
 use Rattle.rkyv_base.specs.declared.errors.ReadError.{ReadError}
 use Rattle.rkyv_base.specs.declared.errors.ReadError.TheVariants.{Memory}
 use Rattle.rkyv_base.specs.declared.view.View.{View}
-use Rattle.rkyv_keys.specs.Deserialize.{DeserializeErrors}
-use Rattle.rkyv_table.specs.Table.Header.{len_at}
+use Rattle.rkyv_keys.specs.{DeserializeErrors}
+use Rattle.rkyv_table.specs.{len_at, with_units}
 use Rattle.rkyv_collections.specs.Map.MapSpec.{IsKeyPosAt}
-use Rattle.rkyv_table.specs.Table.ItemValues.{with_units}
 use Rattle.rkyv_collections.specs.Natives.{Queried}
 use Rattle.rkyv_collections.specs.Set.{set_bytes, set_pos}
 use Rattle.rkyv_collections.specs.StdMaps.StdEquality.{FindsPair}

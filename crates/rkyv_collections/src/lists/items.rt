@@ -1,10 +1,9 @@
 //! Lists of items that are archived as sets.
 
 ghost use Rattle.std.specs.Prelude.{◌≡◌};
-ghost use Rattle.rkyv_keys.specs.Calls.{hash_at, hash_of};
-ghost use Rattle.rkyv_table.specs.Table.Listed.{listed, written_as_each, written_as_each-format};
-ghost use Rattle.rkyv_collections.specs.Set.{set_spec};
-ghost use Rattle.rkyv_collections.specs.Set.SetFormat.{SetRepresents, set_format};
+ghost use Rattle.rkyv_keys.specs.{hash_at, hash_of};
+ghost use Rattle.rkyv_table.specs.{listed, written_as_each, written_as_each-format};
+ghost use Rattle.rkyv_collections.specs.{SetRepresents, set_format, set_spec};
 ghost use Rattle.rkyv_collections.specs.Lemmas.SetSound.{listed_set_sound, set_local};
 
 use crate::set::write::HashSetResolver;

@@ -1,10 +1,9 @@
 //! Lists of pairs that are archived as maps.
 
 ghost use Rattle.std.specs.Prelude.{◌≡◌};
-ghost use Rattle.rkyv_keys.specs.Calls.{hash_at, hash_of};
-ghost use Rattle.rkyv_table.specs.Table.Listed.{listed, written_as_each, written_as_each-format};
-ghost use Rattle.rkyv_collections.specs.Map.MapSpec.{map_spec};
-ghost use Rattle.rkyv_collections.specs.Map.MapFormat.{MapRepresents, map_format};
+ghost use Rattle.rkyv_keys.specs.{hash_at, hash_of};
+ghost use Rattle.rkyv_table.specs.{listed, written_as_each, written_as_each-format};
+ghost use Rattle.rkyv_collections.specs.{MapRepresents, map_format, map_spec};
 ghost use Rattle.rkyv_collections.specs.Lemmas.MapSound.{listed_map_sound, map_local};
 
 use crate::map::write::HashMapResolver;

@@ -1,5 +1,5 @@
 //! The header of a map as an element.
-ghost use Rattle.rkyv_collections.specs.Map.MapSpec.{map_element, map_spec};
+ghost use Rattle.rkyv_collections.specs.{map_element, map_spec};
 
 use crate::map::HashMapOf;
 use rkyv_base::element::{Element, HasSpec, PartRange};

@@ -19,15 +19,11 @@
 //! `get_seal_with` and `get_key_value_seal_with` look up by a comparison.
 //! If the map is a value of another map, `map::laws::nested` has the laws of the outer map.
 ghost use Rattle.std.specs.Prelude.{IfSome, length, ℕ, ◌+◌, ◌≡◌, ◌≤◌};
-ghost use Rattle.rkyv_base.specs.Sealing.{value_pos};
-ghost use Rattle.rkyv_base.specs.ElementSpec.{Viewable};
-ghost use Rattle.rkyv_collections.specs.Map.InPlace.{MayWriteFound, SetsFirst, SetsValue};
-ghost use Rattle.rkyv_collections.specs.Map.InPlace.{WritesFound};
-ghost use Rattle.rkyv_collections.specs.Map.{map_bytes, map_pos};
-ghost use Rattle.rkyv_collections.specs.Map.MapAt.{FoundValueHasAt, map_at, query_of_value};
-ghost use Rattle.rkyv_collections.specs.Map.MapSpec.{IsKeyPosAt, map_spec};
-ghost use Rattle.rkyv_keys.specs.KeyLookup.{query_of};
-ghost use Rattle.rkyv_collections.specs.Map.NestedWrites.{WritesParts};
+ghost use Rattle.rkyv_base.specs.{Viewable, value_pos};
+ghost use Rattle.rkyv_collections.specs.{FoundValueHasAt, IsKeyPosAt, MayWriteFound, SetsFirst};
+ghost use Rattle.rkyv_collections.specs.{SetsValue, WritesFound, WritesParts, map_at, map_bytes};
+ghost use Rattle.rkyv_collections.specs.{map_pos, map_spec, query_of_value};
+ghost use Rattle.rkyv_keys.specs.{query_of};
 
 pub mod iter_seal;
 pub mod sealed;

@@ -3,16 +3,11 @@
 //! - This module has laws of equality, lookups and walks.
 //! - `written` is about the bytes of written maps, and `list_archives` about root maps.
 //! - `in_place` is about writes of one value, and `nested` about maps that are values of maps.
-ghost use Rattle.rkyv_collections.specs.Map.BothHashers.{ComparedAlike, QueriedAlike, WrittenAlike};
-ghost use Rattle.rkyv_collections.specs.Map.Equality.{EqualHaveSamePairs};
-ghost use Rattle.rkyv_collections.specs.Map.ListedLookups.{LookupsFindListed};
-ghost use Rattle.rkyv_collections.specs.Map.ListedWalks.{WalksVisitEach, WalksVisitPairs};
-ghost use Rattle.rkyv_collections.specs.Map.Misplaced.{RepeatedKeysAreMisplaced};
-ghost use Rattle.rkyv_keys.specs.Natives.{native_pairs};
-ghost use Rattle.rkyv_keys.specs.Calls.{hash_at};
-ghost use Rattle.rkyv_base.specs.Same.{SameSpec, SameValues};
-ghost use Rattle.rkyv_collections.specs.Map.MapSpec.{map_spec};
-ghost use Rattle.rkyv_collections.specs.Listed.{map_list};
+ghost use Rattle.rkyv_collections.specs.{ComparedAlike, EqualHaveSamePairs, LookupsFindListed};
+ghost use Rattle.rkyv_collections.specs.{QueriedAlike, RepeatedKeysAreMisplaced, WalksVisitEach};
+ghost use Rattle.rkyv_collections.specs.{WalksVisitPairs, WrittenAlike, map_list, map_spec};
+ghost use Rattle.rkyv_keys.specs.{hash_at, native_pairs};
+ghost use Rattle.rkyv_base.specs.{SameSpec, SameValues};
 
 pub mod in_place;
 pub mod list_archives;

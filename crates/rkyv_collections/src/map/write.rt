@@ -4,9 +4,8 @@
 //! the header.
 
 ghost use Rattle.std.specs.Prelude.{◌≡◌, ◌+◌, ◌<◌, ◌^◌, length};
-ghost use Rattle.rkyv_table.specs.Table.TableFormat.{resolver_of};
-ghost use Rattle.rkyv_collections.specs.Natives.{native_format};
-ghost use Rattle.rkyv_collections.specs.Map.Writing.{ResolvesMap, WritesMap, pairs_in};
+ghost use Rattle.rkyv_table.specs.{resolver_of};
+ghost use Rattle.rkyv_collections.specs.{ResolvesMap, WritesMap, native_format, pairs_in};
 
 mod hashing;
 

@@ -7,14 +7,12 @@
 //! `FxHasher64` takes no secret key, so it doesn't protect from chosen input.
 
 ghost use Rattle.std.specs.Prelude.{IsTrue, length, ◌↔◌, ◌≡◌};
-ghost use Rattle.rkyv_base.specs.Empty.{unit_spec};
+ghost use Rattle.rkyv_base.specs.{IsValidView, archive_of, pos_of, unit_spec};
 ghost use Rattle.rkyv_base.specs.Lemmas.Empty.{unit_element};
-ghost use Rattle.rkyv_base.specs.View.{IsValidView, archive_of, pos_of};
-ghost use Rattle.rkyv_collections.specs.Map.MapSpec.{map_element};
-ghost use Rattle.rkyv_keys.specs.KeyLookup.{query_of};
-ghost use Rattle.rkyv_collections.specs.Map.{IsFoundAt};
-ghost use Rattle.rkyv_collections.specs.Set.{FoundMemberHas, GetsMember, IsSetAt};
-ghost use Rattle.rkyv_collections.specs.Set.{member_positions, set_archive, set_len, set_spec};
+ghost use Rattle.rkyv_collections.specs.{FoundMemberHas, GetsMember, IsFoundAt, IsSetAt};
+ghost use Rattle.rkyv_collections.specs.{map_element, member_positions, set_archive, set_len};
+ghost use Rattle.rkyv_collections.specs.{set_spec};
+ghost use Rattle.rkyv_keys.specs.{query_of};
 
 use crate::map::read::iter::Keys;
 use crate::map::{ArchivedHashMap, HashMapOf};

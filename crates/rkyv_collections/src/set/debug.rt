@@ -1,6 +1,6 @@
 //! Formatting of sets by `Debug`.
-ghost use Rattle.rkyv_base.specs.View.{IsValidView};
-ghost use Rattle.rkyv_collections.specs.Set.{set_spec};
+ghost use Rattle.rkyv_base.specs.{IsValidView};
+ghost use Rattle.rkyv_collections.specs.{set_spec};
 
 use crate::set::{ArchivedHashSet, HashSetOf};
 use rkyv_base::view::View;

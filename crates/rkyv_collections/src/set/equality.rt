@@ -1,11 +1,9 @@
 //! Equality of sets, and the keys that a lookup of their own doesn't find.
 ghost use Rattle.std.specs.Prelude.{◌≡◌};
-ghost use Rattle.rkyv_base.specs.View.{IsValidView};
-ghost use Rattle.rkyv_keys.specs.AtViews.{at_views};
-ghost use Rattle.rkyv_keys.specs.Calls.{hash_at};
-ghost use Rattle.rkyv_collections.specs.Map.Misplaced.{CountsKeysUpTo};
-ghost use Rattle.rkyv_collections.specs.Set.{set_bytes, set_equal, set_misplaced, set_pos};
-ghost use Rattle.rkyv_collections.specs.Set.{set_spec, set_view};
+ghost use Rattle.rkyv_base.specs.{IsValidView};
+ghost use Rattle.rkyv_keys.specs.{at_views, hash_at};
+ghost use Rattle.rkyv_collections.specs.{CountsKeysUpTo, set_bytes, set_equal, set_misplaced};
+ghost use Rattle.rkyv_collections.specs.{set_pos, set_spec, set_view};
 
 use crate::set::{ArchivedHashSet, HashSetOf};
 use rkyv_base::view::View;

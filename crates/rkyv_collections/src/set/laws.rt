@@ -2,13 +2,10 @@
 //!
 //! They are about iterations and lookups. `written` is about the bytes of written sets.
 
-ghost use Rattle.rkyv_collections.specs.Map.ListedWalks.{SetWalksVisitEach};
-ghost use Rattle.rkyv_base.specs.Same.{SameSpec, SameValues};
-ghost use Rattle.rkyv_keys.specs.Natives.{native_keys};
-ghost use Rattle.rkyv_keys.specs.Calls.{hash_at};
-ghost use Rattle.rkyv_collections.specs.Set.ListArchives.{MembersFoundAreListed};
-ghost use Rattle.rkyv_collections.specs.Set.{set_spec};
-ghost use Rattle.rkyv_collections.specs.Listed.{set_list};
+ghost use Rattle.rkyv_collections.specs.{MembersFoundAreListed, SetWalksVisitEach, set_list};
+ghost use Rattle.rkyv_collections.specs.{set_spec};
+ghost use Rattle.rkyv_base.specs.{SameSpec, SameValues};
+ghost use Rattle.rkyv_keys.specs.{hash_at, native_keys};
 
 pub mod written;
 

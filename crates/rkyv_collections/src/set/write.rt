@@ -4,9 +4,8 @@
 //! the header.
 
 ghost use Rattle.std.specs.Prelude.{◌≡◌, ◌+◌, ◌<◌, ◌^◌, length};
-ghost use Rattle.rkyv_table.specs.Table.TableFormat.{resolver_of};
-ghost use Rattle.rkyv_collections.specs.Natives.{native_key_format};
-ghost use Rattle.rkyv_collections.specs.Map.Writing.{ResolvesMap, WritesSet, keys_in};
+ghost use Rattle.rkyv_table.specs.{resolver_of};
+ghost use Rattle.rkyv_collections.specs.{ResolvesMap, WritesSet, keys_in, native_key_format};
 
 use crate::map::ArchivedHashMap;
 use crate::map::write::HashMapResolver;

@@ -3,14 +3,11 @@
 //! `deserialize_std` takes the hash state of the new map. `Deserialize` takes the default one.
 
 ghost use Rattle.std.specs.Prelude.{◌+◌};
-ghost use Rattle.rkyv_base.specs.Entry.{value_offset};
-ghost use Rattle.rkyv_base.specs.Pairs.{PairRepresents};
-ghost use Rattle.rkyv_base.specs.View.{IsAt, IsValidView, archive_of, pos_of};
-ghost use Rattle.rkyv_keys.specs.Deserialize.{Deserializes};
-ghost use Rattle.rkyv_collections.specs.Map.{map_view};
-ghost use Rattle.rkyv_collections.specs.Map.MapSpec.{map_spec};
-ghost use Rattle.rkyv_collections.specs.StdMaps.StdMap.{InsertsRead, ReadsStdMap, StdMapRepresents};
-ghost use Rattle.rkyv_collections.specs.StdMaps.StdMap.{insert_pair_fails, std_map_fails};
+ghost use Rattle.rkyv_base.specs.{IsAt, IsValidView, PairRepresents, archive_of, pos_of};
+ghost use Rattle.rkyv_base.specs.{value_offset};
+ghost use Rattle.rkyv_keys.specs.{Deserializes};
+ghost use Rattle.rkyv_collections.specs.{InsertsRead, ReadsStdMap, StdMapRepresents};
+ghost use Rattle.rkyv_collections.specs.{insert_pair_fails, map_spec, map_view, std_map_fails};
 
 use crate::map::{ArchivedHashMap, HashMapOf};
 use crate::std_maps::hashed::Hashed;

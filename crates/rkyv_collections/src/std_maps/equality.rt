@@ -6,20 +6,15 @@
 
 ghost use Rattle.std.specs.Prelude.{IsTrue, ◌↔◌};
 ghost use Rattle.rkyv_base.specs.Lemmas.Pairs.{written_as-format};
-ghost use Rattle.rkyv_base.specs.View.{AtView, IsValidView};
-ghost use Rattle.rkyv_keys.specs.Calls.{hash_of};
-ghost use Rattle.rkyv_table.specs.Table.Listed.{listed};
-ghost use Rattle.rkyv_collections.specs.Map.MapSpec.{map_spec};
-ghost use Rattle.rkyv_collections.specs.Map.MapFormat.{map_format};
+ghost use Rattle.rkyv_base.specs.{AtView, IsValidView};
+ghost use Rattle.rkyv_keys.specs.{hash_of};
+ghost use Rattle.rkyv_table.specs.{listed};
+ghost use Rattle.rkyv_collections.specs.{EntriesEqual, FindsFirstAcceptedIn, FindsPairIn};
+ghost use Rattle.rkyv_collections.specs.{StdMapEquals, StdMapEqualsIn, map_format, map_spec};
+ghost use Rattle.rkyv_collections.specs.{of_entries, queried};
 ghost use Rattle.rkyv_collections.specs.Lemmas.MapSound.{listed_map_sound};
 ghost use Rattle.rkyv_collections.specs.Lemmas.StdOnce.{std_map_once};
 ghost use Rattle.rkyv_collections.specs.Lemmas.StdEqualLaws.{entries_equal};
-ghost use Rattle.rkyv_collections.specs.Natives.{queried};
-ghost use Rattle.rkyv_collections.specs.StdMaps.StdEquality.{EntriesEqual, FindsPairIn};
-ghost use Rattle.rkyv_collections.specs.StdMaps.StdEquality.{StdMapEquals};
-ghost use Rattle.rkyv_collections.specs.StdMaps.StdEquality.{StdMapEqualsIn};
-ghost use Rattle.rkyv_collections.specs.StdMaps.StdLookups.{FindsFirstAcceptedIn};
-ghost use Rattle.rkyv_collections.specs.StdMaps.StdMap.{of_entries};
 
 use crate::map::{ArchivedHashMap, HashMapOf};
 use crate::std_maps::hashed::Hashed;

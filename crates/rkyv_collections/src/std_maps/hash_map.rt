@@ -1,14 +1,12 @@
 //! Maps of std as values that archived maps represent, and their serialization.
 
-ghost use Rattle.rkyv_base.specs.Pairs.{written_as};
+ghost use Rattle.rkyv_base.specs.{written_as};
 ghost use Rattle.rkyv_base.specs.Lemmas.Pairs.{written_as-format};
-ghost use Rattle.rkyv_keys.specs.Calls.{hash_at, hash_of};
-ghost use Rattle.rkyv_table.specs.Table.Listed.{listed};
-ghost use Rattle.rkyv_collections.specs.Map.MapSpec.{map_spec};
-ghost use Rattle.rkyv_collections.specs.Map.MapFormat.{map_format};
+ghost use Rattle.rkyv_keys.specs.{hash_at, hash_of};
+ghost use Rattle.rkyv_table.specs.{listed};
+ghost use Rattle.rkyv_collections.specs.{EntriesRepresent, StdMapRepresents, map_format, map_spec};
+ghost use Rattle.rkyv_collections.specs.{of_entries};
 ghost use Rattle.rkyv_collections.specs.Lemmas.MapSound.{listed_map_sound};
-ghost use Rattle.rkyv_collections.specs.StdMaps.StdMap.{EntriesRepresent, StdMapRepresents};
-ghost use Rattle.rkyv_collections.specs.StdMaps.StdMap.{of_entries};
 ghost use Rattle.rkyv_collections.specs.Lemmas.StdMapLaws.{entries_local, entries_sound};
 
 use crate::map::write::HashMapResolver;

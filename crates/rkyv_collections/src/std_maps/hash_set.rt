@@ -1,28 +1,20 @@
 //! Sets of std: archiving, comparing and deserializing them.
 
 ghost use Rattle.std.specs.Prelude.{IsTrue, MatchResult, ◌↔◌};
-ghost use Rattle.rkyv_base.specs.View.{AtView, IsValidView};
-ghost use Rattle.rkyv_base.specs.Empty.{unit_format};
+ghost use Rattle.rkyv_base.specs.{AtView, IsValidView, unit_format, unit_represents, unit_spec};
+ghost use Rattle.rkyv_base.specs.{written_as};
 ghost use Rattle.rkyv_base.specs.Lemmas.Empty.{unit_element, unit_is_format, unit_local};
-ghost use Rattle.rkyv_base.specs.Empty.{unit_represents, unit_spec};
-ghost use Rattle.rkyv_base.specs.Pairs.{written_as};
 ghost use Rattle.rkyv_base.specs.Lemmas.Pairs.{written_as-format};
-ghost use Rattle.rkyv_keys.specs.Calls.{hash_at, hash_of};
-ghost use Rattle.rkyv_table.specs.Table.Listed.{listed};
-ghost use Rattle.rkyv_collections.specs.Map.MapFormat.{map_format};
+ghost use Rattle.rkyv_keys.specs.{hash_at, hash_of};
+ghost use Rattle.rkyv_table.specs.{listed, with_units};
+ghost use Rattle.rkyv_collections.specs.{EntriesEqual, EntriesRepresent, InsertsKey, ReadsStdSet};
+ghost use Rattle.rkyv_collections.specs.{StdSetEquals, StdSetEqualsIn, StdSetRepresents};
+ghost use Rattle.rkyv_collections.specs.{insert_key_fails, map_format, of_entries, queried};
+ghost use Rattle.rkyv_collections.specs.{set_spec, set_view, std_set_fails};
 ghost use Rattle.rkyv_collections.specs.Lemmas.MapSound.{listed_map_sound};
-ghost use Rattle.rkyv_collections.specs.Natives.{queried};
-ghost use Rattle.rkyv_collections.specs.Set.{set_spec, set_view};
-ghost use Rattle.rkyv_table.specs.Table.ItemValues.{with_units};
 ghost use Rattle.rkyv_collections.specs.Lemmas.StdOnce.{std_set_once};
 ghost use Rattle.rkyv_collections.specs.Lemmas.StdEqualLaws.{entries_equal};
-ghost use Rattle.rkyv_collections.specs.StdMaps.StdEquality.{EntriesEqual};
-ghost use Rattle.rkyv_collections.specs.StdMaps.StdMap.{EntriesRepresent, of_entries};
 ghost use Rattle.rkyv_collections.specs.Lemmas.StdMapLaws.{entries_local, entries_sound};
-ghost use Rattle.rkyv_collections.specs.StdMaps.StdSet.{InsertsKey, ReadsStdSet, StdSetEquals};
-ghost use Rattle.rkyv_collections.specs.StdMaps.StdSet.{StdSetEqualsIn, StdSetRepresents};
-ghost use Rattle.rkyv_collections.specs.StdMaps.StdSet.{insert_key_fails};
-ghost use Rattle.rkyv_collections.specs.StdMaps.StdSet.{std_set_fails};
 ghost use Rattle.rkyv_collections.specs.Lemmas.StdSet.{set_equal_written};
 
 use crate::set::write::HashSetResolver;

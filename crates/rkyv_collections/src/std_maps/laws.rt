@@ -2,12 +2,9 @@
 //!
 //! They are about lookups in these archives, and about values that are read back.
 
-ghost use Rattle.rkyv_keys.specs.Calls.{hash_at};
-ghost use Rattle.rkyv_collections.specs.Natives.{queried};
-ghost use Rattle.rkyv_collections.specs.StdMaps.ListArchives.{WrittenMapsAreLists};
-ghost use Rattle.rkyv_collections.specs.StdMaps.ListArchives.{WrittenSetsAreLists};
-ghost use Rattle.rkyv_collections.specs.StdMaps.RoundTrips.{ArchivesRoundTrip};
-ghost use Rattle.rkyv_collections.specs.StdMaps.StdLookups.{FindsInWrittenMap, FindsInWrittenSet};
+ghost use Rattle.rkyv_keys.specs.{hash_at};
+ghost use Rattle.rkyv_collections.specs.{ArchivesRoundTrip, FindsInWrittenMap, FindsInWrittenSet};
+ghost use Rattle.rkyv_collections.specs.{WrittenMapsAreLists, WrittenSetsAreLists, queried};
 
 use crate::std_maps::hashed::Hashed;
 use rkyv_base::archive::Archive;

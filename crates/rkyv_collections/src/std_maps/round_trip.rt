@@ -5,9 +5,8 @@
 //! - `laws::archives_round_trip` is the law behind `round_trips_equal`.
 
 ghost use Rattle.std.specs.Prelude.{◌≡◌, IfErr, IfOk, true};
-ghost use Rattle.rkyv_keys.specs.Deserialize.{nothing_fails};
-ghost use Rattle.rkyv_keys.specs.RoundTrips.{HasArchive, RoundTripFails, round_trip};
-ghost use Rattle.rkyv_collections.specs.Map.MapSpec.{map_spec};
+ghost use Rattle.rkyv_keys.specs.{HasArchive, RoundTripFails, nothing_fails, round_trip};
+ghost use Rattle.rkyv_collections.specs.{map_spec};
 
 use crate::map::{ArchivedHashMap, HashMapOf};
 use crate::std_maps::hashed::Hashed;

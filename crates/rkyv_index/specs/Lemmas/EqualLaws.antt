@@ -5,13 +5,12 @@ use Rattle.std.specs.Int.{Width}
 use Rattle.std.specs.List.{list_all, range_with_len}
 use Rattle.std.proofs.Common.{refl, arith, subst, sym, ◌∙◌, ap, inl, inr}
 use Rattle.std.proofs.lemmas.Bool.{and_from, and_parts, cases_eq, eq-eqb, eqb-true}
-use Rattle.rkyv_base.specs.ElementSpec.{ElementSpec, IsElement, ValidAt}
+use Rattle.rkyv_base.specs.{ElementSpec, IsElement, ValidAt}
 use Rattle.rkyv_base.specs.Lemmas.ElementSpec.{valid_at}
-use Rattle.rkyv_keys.specs.Equality.{Comparison, IsEquivalence}
-use Rattle.rkyv_table.specs.Table.Header.{len_at}
-use Rattle.rkyv_index.specs.Index.Equality.{index_equal, same_at}
-use Rattle.rkyv_index.specs.Index.IndexLayout.{entries_pos, pair_pos}
-use Rattle.rkyv_index.specs.Index.IndexLayout.{IsValidIndex, entry_at, index_spec, indices_of}
+use Rattle.rkyv_keys.specs.{Comparison, IsEquivalence}
+use Rattle.rkyv_table.specs.{len_at}
+use Rattle.rkyv_index.specs.{IsValidIndex, entries_pos, entry_at, index_equal, index_spec}
+use Rattle.rkyv_index.specs.{indices_of, pair_pos, same_at}
 use Rattle.rkyv_index.specs.Lemmas.IndexLaws.{each_is_valid, entry_inside}
 
 -- `list_all f` of a range is `true` if and only if `f` is `true` for each number in it

@@ -3,16 +3,13 @@ use Rattle.rkyv_base.specs.declared.element.HasSpec.{Ghosts as Specs}
 use Rattle.rkyv_base.specs.declared.width.Word.{Ghosts as Words}
 use Rattle.std.specs.Prelude.{ℕ, Bool, List}
 use Rattle.std.specs.Cmp.{IsEquivalence as IsEquality, both_ways, equiv}
-use Rattle.rkyv_base.specs.Entry.{entry_spec}
+use Rattle.rkyv_base.specs.{ElementSpec, ValidAt, entry_spec}
 use Rattle.rkyv_base.specs.Lemmas.Entry.{entry_element}
-use Rattle.rkyv_base.specs.ElementSpec.{ElementSpec, ValidAt}
-use Rattle.rkyv_keys.specs.Equality.{Comparison, IsEquivalence}
+use Rattle.rkyv_keys.specs.{Comparison, IsEquivalence, unit_same}
 use Rattle.rkyv_keys.specs.Lemmas.OfEntries.{entry_equivalence}
-use Rattle.rkyv_keys.specs.OfUnits.{unit_same}
 use Rattle.rkyv_keys.specs.Lemmas.OfUnits.{unit_equivalence}
-use Rattle.rkyv_index.specs.Index.Equality.{index_maps_equal}
-use Rattle.rkyv_index.specs.Index.{index_bytes, index_pos}
-use Rattle.rkyv_index.specs.Set.IndexSet.{index_sets_equal, keys_of, unit_specs}
+use Rattle.rkyv_index.specs.{index_bytes, index_maps_equal, index_pos, index_sets_equal, keys_of}
+use Rattle.rkyv_index.specs.{unit_specs}
 use Rattle.rkyv_index.specs.Lemmas.EqualLaws.{index_equivalence}
 use Rattle.rkyv_index.specs.declared.map.ArchivedIndexMap.{ArchivedIndexMap}
 

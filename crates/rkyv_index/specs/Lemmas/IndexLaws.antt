@@ -10,36 +10,30 @@ use Rattle.std.proofs.Props.{props}
 use Rattle.std.specs.Coded.{×_prop}
 use Rattle.std.proofs.lemmas.List.Elements.{All-cons, All-head, All-map, All-nil, All-tail}
 use Rattle.rkyv_base.specs.declared.errors.VerifyError.{VerifyError}
-use Rattle.rkyv_base.specs.Bytes.{AgreeOn, number_at}
+use Rattle.rkyv_base.specs.{AgreeOn, ElementSpec, IsAlign, IsArchiveWord, IsElement, PartIn}
+use Rattle.rkyv_base.specs.{number_at}
 use Rattle.rkyv_base.specs.Lemmas.Bytes.{agree_on_part}
 use Rattle.rkyv_base.specs.Lemmas.Props.{only_one, prop_by}
-use Rattle.rkyv_base.specs.Parts.{PartIn}
 use Rattle.rkyv_base.specs.Lemmas.Parts.{part_exclusive, part_one, part_one_failure, part_prop}
 use Rattle.rkyv_base.specs.Lemmas.Parts.{part_wider}
-use Rattle.rkyv_base.specs.ElementSpec.{ElementSpec, IsAlign, IsElement}
-use Rattle.rkyv_base.specs.Text.{IsArchiveWord}
 use Rattle.rkyv_base.specs.Lemmas.Text.{by_archive_word}
-use Rattle.rkyv_table.specs.Table.Header.{cap_at, len_at}
+use Rattle.rkyv_table.specs.{AreValidAt, FirstFails, IsValidTable, IsWalked, cap_at, item_at}
+use Rattle.rkyv_table.specs.{item_positions, len_at, table_controls, table_spec, walk}
 use Rattle.rkyv_table.specs.Lemmas.ItemPositions.{IsValidWithin, item_is_valid, valid_part}
 use Rattle.rkyv_table.specs.Lemmas.ItemPositions.{within_lower}
 use Rattle.rkyv_table.specs.Lemmas.SameControls.{same_controls}
 use Rattle.rkyv_table.specs.Lemmas.ValidItemLaws.{AllBelow, all_between, all_exclusive, all_lower}
 use Rattle.rkyv_table.specs.Lemmas.ValidItemLaws.{all_local}
 use Rattle.rkyv_table.specs.Lemmas.ValidItemLaws.{all_one, all_one_failure, all_prop}
-use Rattle.rkyv_table.specs.Table.ValidItems.{AreValidAt, FirstFails}
-use Rattle.rkyv_table.specs.Controls.Placing.{walk}
-use Rattle.rkyv_table.specs.Table.Positions.{IsWalked, item_at, item_positions}
-use Rattle.rkyv_table.specs.Table.Positions.{table_controls}
 use Rattle.rkyv_table.specs.Lemmas.SameHeader.{cap_same, item_same, len_same}
-use Rattle.rkyv_table.specs.Table.Layout.{IsValidTable, table_spec}
 use Rattle.rkyv_table.specs.Lemmas.TableLaws.{table_element}
 use Rattle.rkyv_table.proofs.RawWalks.{walked_all}
 use Rattle.rkyv_table.proofs.Walks.{walk_none}
-use Rattle.rkyv_index.specs.Index.IndexLayout.{AreValidEntries, EntriesFail, EntriesIn}
-use Rattle.rkyv_index.specs.Index.IndexLayout.{FirstNotBelow, IndexFails}
-use Rattle.rkyv_index.specs.Index.IndexLayout.{IndicesBelow, IsValidIndex, distance_pos}
-use Rattle.rkyv_index.specs.Index.IndexLayout.{decode_entries}
-use Rattle.rkyv_index.specs.Index.IndexLayout.{entry_at, index_spec, indices_of, stored_index_spec}
+use Rattle.rkyv_index.specs.Map.IndexLayout.{AreValidEntries, EntriesFail, EntriesIn}
+use Rattle.rkyv_index.specs.Map.IndexLayout.{FirstNotBelow, IndexFails}
+use Rattle.rkyv_index.specs.Map.IndexLayout.{IndicesBelow, IsValidIndex, distance_pos}
+use Rattle.rkyv_index.specs.Map.IndexLayout.{decode_entries}
+use Rattle.rkyv_index.specs.Map.IndexLayout.{entry_at, index_spec, indices_of, stored_index_spec}
 
 -- an index in a bucket is an element
 pub stored_index_element : (w : Width) → IsArchiveWord w → IsElement (stored_index_spec w)

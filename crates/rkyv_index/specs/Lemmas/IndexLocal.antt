@@ -6,36 +6,26 @@ use Rattle.std.specs.Int.{Width, byte_len}
 use Rattle.std.proofs.lemmas.List.{ext_get_or, get_or-map, length-map}
 use Rattle.std.proofs.lemmas.List.FromFn.{get_or-range_with_len, length-range_with_len}
 use Rattle.std.proofs.lemmas.Option.{slice_get_within}
-use Rattle.rkyv_scan.specs.Hash.{Hasher, HasherCall, hash_of_calls}
-use Rattle.rkyv_base.specs.Bytes.{AgreeOn, number_at}
+use Rattle.rkyv_scan.specs.{Hasher, HasherCall, hash_of_calls}
+use Rattle.rkyv_base.specs.{AgreeOn, ElementSpec, IsArchiveWord, IsElement, PairRepresents}
+use Rattle.rkyv_base.specs.{RepresentsLocally, entry_spec, number_at}
 use Rattle.rkyv_base.specs.Lemmas.Bytes.{agree_on_part}
-use Rattle.rkyv_base.specs.Entry.{entry_spec}
 use Rattle.rkyv_base.specs.Lemmas.Entry.{entry_element, same_key}
-use Rattle.rkyv_base.specs.Format.{RepresentsLocally}
-use Rattle.rkyv_base.specs.Pairs.{PairRepresents}
 use Rattle.rkyv_base.specs.Lemmas.Pairs.{pair_local}
-use Rattle.rkyv_base.specs.ElementSpec.{ElementSpec, IsElement}
-use Rattle.rkyv_base.specs.Text.{IsArchiveWord}
-use Rattle.rkyv_keys.specs.Equality.{Comparison}
-use Rattle.rkyv_keys.specs.Keys.{IsKey}
-use Rattle.rkyv_keys.specs.QueryLaws.{HashLocal}
-use Rattle.rkyv_keys.specs.Calls.{hash_at}
-use Rattle.rkyv_table.specs.Table.Header.{cap_at, len_at}
+use Rattle.rkyv_keys.specs.{Comparison, HashLocal, IsKey, hash_at}
+use Rattle.rkyv_table.specs.{IsWalked, WrittenAt, cap_at, home_positions, item_at, len_at}
+use Rattle.rkyv_table.specs.{table_controls}
 use Rattle.rkyv_table.specs.Lemmas.ItemPositions.{IsValidWithin}
 use Rattle.rkyv_table.specs.Lemmas.ValidItemLaws.{all_between}
-use Rattle.rkyv_table.specs.Table.Positions.{IsWalked, WrittenAt, home_positions, item_at}
-use Rattle.rkyv_table.specs.Table.Positions.{table_controls}
 use Rattle.rkyv_table.specs.Lemmas.SameHeader.{cap_same, len_same}
 use Rattle.rkyv_table.specs.Lemmas.TableLaws.{table_element}
 use Rattle.rkyv_table.specs.Lemmas.SameControls.{same_controls}
 use Rattle.rkyv_table.proofs.SameTable.{written_there}
 use Rattle.rkyv_table.proofs.WrittenTables.{home_pos, home_walked}
-use Rattle.rkyv_index.specs.Index.IndexFormat.{IndexRepresents, IndexWrittenAt}
-use Rattle.rkyv_index.specs.Index.IndexLayout.{entries_pos, pair_pos}
+use Rattle.rkyv_index.specs.{IndexRepresents, IndexWrittenAt, IsValidIndex, entries_pos, entry_at}
+use Rattle.rkyv_index.specs.{index_spec, indices_of, pair_pos, stored_index_spec}
 use Rattle.rkyv_index.specs.Lemmas.IndexLaws.{each_is_valid, entry_inside, stored_index_element}
 use Rattle.rkyv_index.specs.Lemmas.IndexLaws.{decoded_same, head_same, index_same_at}
-use Rattle.rkyv_index.specs.Index.IndexLayout.{IsValidIndex, entry_at}
-use Rattle.rkyv_index.specs.Index.IndexLayout.{index_spec, indices_of, stored_index_spec}
 
 -- An index map that was written in `b` was also written in `c`. Both have the same header
 -- of the table at `p`, and the same control bytes if it has buckets. The numbers in full buckets

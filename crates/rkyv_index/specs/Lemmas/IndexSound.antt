@@ -11,53 +11,35 @@ use Rattle.std.specs.List.{range_with_len}
 use Rattle.std.specs.Prelude.{◌≡◌, ℕ, suc, ◌+◌, ◌*◌, ◌%◌, ◌<◌, ◌≤◌, ℤ, pos, ◌+ℤ◌, ◌-ℤ◌}
 use Rattle.std.specs.Prelude.{unsigned_abs, FitsSigned, Bool, true, List, [], ◌∷◌, ◌++◌, length}
 use Rattle.std.specs.Prelude.{Some, map, slice_get, slice_index, slice_range}
-use Rattle.rkyv_base.specs.Bytes.{OccursAt, number_at, signed_at}
+use Rattle.rkyv_base.specs.{ElementSpec, Encoding, Format, IsArchiveWord, IsElement, IsFormat}
+use Rattle.rkyv_base.specs.{IsIndexEncoding, IsScalar, IsWord, OccursAt, PairRepresents}
+use Rattle.rkyv_base.specs.{ScalarRepresents, ValidAt, entry_spec, number_at, padding, pair_format}
+use Rattle.rkyv_base.specs.{round_up, scalar_format, signed_at, zeros}
 use Rattle.rkyv_base.specs.Lemmas.Bytes.{occurs_back, occurs_front}
-use Rattle.rkyv_base.specs.Entry.{entry_spec, round_up}
 use Rattle.rkyv_base.specs.Lemmas.Entry.{entry_element, round_up-multiple}
-use Rattle.rkyv_base.specs.Format.{Format, IsFormat}
-use Rattle.rkyv_base.specs.Layout.{IsIndexEncoding}
-use Rattle.rkyv_base.specs.Pairs.{PairRepresents, pair_format}
 use Rattle.rkyv_base.specs.Lemmas.Pairs.{pair_is_format}
-use Rattle.rkyv_base.specs.Scalar.{Encoding, IsScalar, IsWord, ScalarRepresents, scalar_format}
 use Rattle.rkyv_base.specs.Lemmas.Scalar.{scalar_is_format, word_bytes, word_reads_back}
-use Rattle.rkyv_base.specs.ElementSpec.{ElementSpec, IsElement, ValidAt}
-use Rattle.rkyv_base.specs.Text.{IsArchiveWord}
 use Rattle.rkyv_base.specs.Lemmas.Text.{by_archive_word}
-use Rattle.rkyv_base.specs.Writing.{padding, zeros}
 use Rattle.rkyv_keys.specs.Lemmas.QueryLaws.{hashes_as_written}
-use Rattle.rkyv_keys.specs.Equality.{Comparison}
-use Rattle.rkyv_keys.specs.Keys.{FitsItsEqual, IsQuery}
-use Rattle.rkyv_keys.specs.QueryLaws.{HashesAlike}
-use Rattle.rkyv_scan.specs.Hash.{Hasher, HasherCall, hash_of_calls}
-use Rattle.rkyv_keys.specs.Calls.{hash_at, hash_of}
-use Rattle.rkyv_table.specs.Table.Header.{cap_at, len_at}
+use Rattle.rkyv_keys.specs.{Comparison, FitsItsEqual, HashesAlike, IsQuery, hash_at, hash_of}
+use Rattle.rkyv_scan.specs.{Hasher, HasherCall, hash_of_calls}
+use Rattle.rkyv_table.specs.{AreValidAt, IsValidTable, IsWalked, IsWrittenOf, TableRepresents}
+use Rattle.rkyv_table.specs.{WrittenAt, cap_at, capacity, hashes_of, home_positions, item_at}
+use Rattle.rkyv_table.specs.{item_positions, items_of, len_at, resolved_capacity, table_controls}
+use Rattle.rkyv_table.specs.{table_spec, walk}
 use Rattle.rkyv_table.specs.Lemmas.HeaderReads.{header_length}
-use Rattle.rkyv_table.specs.Controls.Numbers.{capacity}
 use Rattle.rkyv_table.specs.Lemmas.ValidItemLaws.{all_lower}
-use Rattle.rkyv_table.specs.Table.ValidItems.{AreValidAt}
-use Rattle.rkyv_table.specs.Controls.Placing.{walk}
-use Rattle.rkyv_table.specs.Table.Positions.{IsWalked, WrittenAt, home_positions, item_at}
-use Rattle.rkyv_table.specs.Table.Positions.{item_positions, table_controls}
-use Rattle.rkyv_table.specs.Table.Layout.{IsValidTable, table_spec}
-use Rattle.rkyv_table.specs.Table.TableFormat.{TableRepresents, resolved_capacity}
 use Rattle.rkyv_table.specs.Lemmas.TableLaws.{table_element}
 use Rattle.rkyv_table.specs.Lemmas.TableSound.{table_is_format}
-use Rattle.rkyv_table.specs.Table.PlacedItems.{hashes_of, items_of}
-use Rattle.rkyv_table.specs.Table.WrittenTables.{IsWrittenOf}
 use Rattle.rkyv_table.proofs.WalkedHomes.{walked_homes}
 use Rattle.rkyv_table.proofs.Walks.{full_walked, walked_full}
 use Rattle.rkyv_table.proofs.WrittenTables.{home_count, home_pos, table_written}
-use Rattle.rkyv_index.specs.Index.IndexFormat.{BeforeZeros, CodesReadBack, IndexParts}
-use Rattle.rkyv_index.specs.Index.IndexFormat.{IndexRepresents, RowRepresents, index_format}
-use Rattle.rkyv_index.specs.Index.IndexFormat.{indices_from, row_format}
-use Rattle.rkyv_index.specs.Index.IndexHeader.{IndexOverflows, IndexResolver, IsIndexHeader}
-use Rattle.rkyv_index.specs.Index.IndexLayout.{entries_pos, pair_pos}
-use Rattle.rkyv_index.specs.Index.IndexLayout.{IndicesBelow, IsValidIndex, distance_pos}
-use Rattle.rkyv_index.specs.Index.IndexLayout.{decode_entries}
-use Rattle.rkyv_index.specs.Index.IndexLayout.{index_spec, indices_of}
+use Rattle.rkyv_index.specs.{BeforeZeros, CodesReadBack, IndexOverflows, IndexParts}
+use Rattle.rkyv_index.specs.{IndexRepresents, IndexResolver, IndicesBelow, IsIndexHeader}
+use Rattle.rkyv_index.specs.{IsValidIndex, RowImages, RowRepresents, decode_entries, distance_pos}
+use Rattle.rkyv_index.specs.{entries_pos, index_format, index_spec, indices_from, indices_of}
+use Rattle.rkyv_index.specs.{pair_pos, row_format}
 use Rattle.rkyv_index.specs.Lemmas.IndexSpecs.{index_table_is_valid}
-use Rattle.rkyv_index.specs.Index.Row.{RowImages}
 use Rattle.rkyv_index.specs.Lemmas.RowSound.{images_length, row_sound}
 
 module _ {X P : Type 0} (own : X → ℕ) (v : ℕ → P) where

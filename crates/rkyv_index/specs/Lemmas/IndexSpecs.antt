@@ -3,15 +3,11 @@ use Rattle.std.specs.Prelude.{◌≡◌, ℕ, ℤ, List, [], ◌∷◌}
 use Rattle.std.specs.Int.{Width, byte_len}
 use Rattle.std.proofs.Common.{inl, inr, subst, sym}
 use Rattle.rkyv_base.specs.declared.errors.VerifyError.{VerifyError}
-use Rattle.rkyv_base.specs.Layout.{IsIndexEncoding}
-use Rattle.rkyv_base.specs.Scalar.{Encoding, IsScalar}
-use Rattle.rkyv_base.specs.ElementSpec.{ElementSpec, Viewable}
-use Rattle.rkyv_table.specs.Table.Header.{cap_at, decode_begin, len_at}
-use Rattle.rkyv_table.specs.Controls.Placing.{walk}
-use Rattle.rkyv_table.specs.Table.ValidItems.{AreValidAt, FirstFails}
-use Rattle.rkyv_table.specs.Table.Layout.{FailsInside, IsPart, TableAt, TableFails, TableFailsAt}
-use Rattle.rkyv_table.specs.Table.Layout.{IsValidTable, bucket_at, controls_at, table_spec}
-use Rattle.rkyv_index.specs.Index.IndexLayout.{stored_index_spec}
+use Rattle.rkyv_base.specs.{ElementSpec, Encoding, IsIndexEncoding, IsScalar, Viewable}
+use Rattle.rkyv_table.specs.{AreValidAt, FailsInside, FirstFails, IsPart, IsValidTable, TableAt}
+use Rattle.rkyv_table.specs.{TableFails, TableFailsAt, bucket_at, cap_at, controls_at, decode_begin}
+use Rattle.rkyv_table.specs.{len_at, table_spec, walk}
+use Rattle.rkyv_index.specs.{stored_index_spec}
 
 -- specs of one size and alignment
 module _ (size align : ℕ) (is_valid holds' : List ℕ → ℕ → ℕ → ℕ → ℕ → Type 0) (fails fails' : List ℕ

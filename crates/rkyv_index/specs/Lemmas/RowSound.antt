@@ -4,15 +4,13 @@ use Rattle.std.proofs.lemmas.Option.{none-some, same_Some}
 use Rattle.std.specs.Prelude.{◌≡◌, ℕ, suc, ◌+◌, ◌*◌, ◌%◌, ◌≤◌, List, [], ◌∷◌, ◌++◌, length}
 use Rattle.std.specs.Prelude.{Some, slice_get}
 use Rattle.std.specs.List.{range_with_len}
-use Rattle.rkyv_base.specs.Bytes.{OccursAt}
+use Rattle.rkyv_base.specs.{ElementSpec, Format, IsElement, IsFormat, OccursAt, ValidAt}
 use Rattle.rkyv_base.specs.Lemmas.Bytes.{occurs_back, occurs_front}
-use Rattle.rkyv_base.specs.Format.{Format, IsFormat}
-use Rattle.rkyv_base.specs.ElementSpec.{ElementSpec, IsElement, ValidAt}
 use Rattle.rkyv_base.specs.Lemmas.ElementSpec.{sum_multiple, valid_at}
 use Rattle.rkyv_table.specs.Lemmas.ValidItemLaws.{all_lower}
 use Rattle.rkyv_table.specs.Lemmas.SlotSound.{same_both}
-use Rattle.rkyv_table.specs.Table.ValidItems.{AreValidAt}
-use Rattle.rkyv_index.specs.Index.Row.{RowImages, RowParts}
+use Rattle.rkyv_table.specs.{AreValidAt}
+use Rattle.rkyv_index.specs.{RowImages, RowParts}
 
 next_times : (n size : ℕ) → (n + 1) * size ≡ n * size + size
 next_times n size = omega arith

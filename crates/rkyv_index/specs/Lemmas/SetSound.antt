@@ -1,25 +1,18 @@
 -- The laws of an archived list of keys as an index set.
 use Rattle.std.specs.Prelude.{◌≡◌, ℕ, Bool, true, List}
 use Rattle.std.specs.Int.{Width}
-use Rattle.rkyv_base.specs.Empty.{unit_format, unit_spec}
+use Rattle.rkyv_base.specs.{ElementSpec, Encoding, Format, IsArchiveWord, IsElement, IsFormat}
+use Rattle.rkyv_base.specs.{IsIndexEncoding, IsScalar, RepresentsLocally, unit_format}
+use Rattle.rkyv_base.specs.{unit_represents, unit_spec}
 use Rattle.rkyv_base.specs.Lemmas.Empty.{unit_element, unit_is_format, unit_local}
-use Rattle.rkyv_base.specs.Empty.{unit_represents}
-use Rattle.rkyv_base.specs.Format.{Format, IsFormat, RepresentsLocally}
-use Rattle.rkyv_base.specs.Layout.{IsIndexEncoding}
 use Rattle.rkyv_base.specs.Lemmas.Pairs.{written_as-format}
-use Rattle.rkyv_base.specs.Scalar.{Encoding, IsScalar}
-use Rattle.rkyv_base.specs.ElementSpec.{ElementSpec, IsElement}
-use Rattle.rkyv_base.specs.Text.{IsArchiveWord}
-use Rattle.rkyv_keys.specs.Equality.{Comparison}
-use Rattle.rkyv_keys.specs.Keys.{FitsItsEqual, IsKey, IsQuery}
-use Rattle.rkyv_scan.specs.Hash.{Hasher, HasherCall}
-use Rattle.rkyv_keys.specs.Calls.{hash_at, hash_of}
-use Rattle.rkyv_index.specs.Index.IndexFormat.{CodesReadBack, IndexRepresents, index_format}
+use Rattle.rkyv_keys.specs.{Comparison, FitsItsEqual, IsKey, IsQuery, hash_at, hash_of}
+use Rattle.rkyv_scan.specs.{Hasher, HasherCall}
+use Rattle.rkyv_index.specs.{CodesReadBack, IndexRepresents, IndexSetRepresents, index_format}
+use Rattle.rkyv_index.specs.{index_set_format, index_set_spec}
 use Rattle.rkyv_index.specs.Lemmas.IndexLocal.{index_represents_local}
 use Rattle.rkyv_index.specs.Lemmas.IndexSound.{index_sound}
-use Rattle.rkyv_index.specs.Set.IndexSet.{index_set_spec}
-use Rattle.rkyv_index.specs.Set.SetFormat.{IndexSetRepresents, index_set_format}
-use Rattle.rkyv_table.specs.Table.ItemValues.{with_units}
+use Rattle.rkyv_table.specs.{with_units}
 
 module _ {State : Type 0} (hasher : Hasher State)
     (w : Width) (kind : IsArchiveWord w) {k : ElementSpec} (kl : IsElement k)

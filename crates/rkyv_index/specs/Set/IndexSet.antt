@@ -3,17 +3,14 @@ use Rattle.rkyv_base.specs.declared.element.HasSpec.{Ghosts as Specs}
 use Rattle.rkyv_base.specs.declared.width.Word.{Ghosts as Words}
 use Rattle.std.specs.Prelude.{ℕ, Bool, List, Option}
 use Rattle.std.specs.Int.{Width}
-use Rattle.rkyv_base.specs.Empty.{unit_spec}
+use Rattle.rkyv_base.specs.{ElementSpec, entry_spec, unit_spec}
 use Rattle.rkyv_base.specs.Lemmas.Empty.{unit_element}
-use Rattle.rkyv_base.specs.Entry.{entry_spec}
-use Rattle.rkyv_base.specs.ElementSpec.{ElementSpec}
 use Rattle.rkyv_base.specs.declared.view.View.{View}
-use Rattle.rkyv_keys.specs.Equality.{Comparison}
-use Rattle.rkyv_keys.specs.OfUnits.{unit_same}
-use Rattle.rkyv_index.specs.Index.Equality.{index_map_equal, index_maps_equal}
-use Rattle.rkyv_index.specs.Index.{Index, IsKeyOf, MatchesAt, index_bytes}
-use Rattle.rkyv_index.specs.Index.{index_of, index_pos}
-use Rattle.rkyv_index.specs.Index.IndexLayout.{index_spec}
+use Rattle.rkyv_keys.specs.{Comparison, unit_same}
+use Rattle.rkyv_index.specs.Map.Equality.{index_map_equal, index_maps_equal}
+use Rattle.rkyv_index.specs.Map.{Index, IsKeyOf, MatchesAt, index_bytes}
+use Rattle.rkyv_index.specs.Map.{index_of, index_pos}
+use Rattle.rkyv_index.specs.Map.IndexLayout.{index_spec}
 use Rattle.rkyv_index.specs.declared.map.ArchivedIndexMap.{ArchivedIndexMap}
 use Rattle.rkyv_index.specs.declared.set.ArchivedIndexSet.{ArchivedIndexSet}
 

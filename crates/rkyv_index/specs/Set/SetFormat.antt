@@ -1,14 +1,11 @@
 -- The format of a list as an index set: that of an index map of the items to the unit value.
 use Rattle.std.specs.Prelude.{ℕ, List}
 use Rattle.std.specs.Int.{Width}
-use Rattle.rkyv_base.specs.Empty.{unit_format, unit_represents, unit_spec}
-use Rattle.rkyv_base.specs.Format.{Format}
-use Rattle.rkyv_base.specs.Pairs.{written_as}
-use Rattle.rkyv_base.specs.Scalar.{Encoding}
-use Rattle.rkyv_base.specs.ElementSpec.{ElementSpec}
-use Rattle.rkyv_table.specs.Table.ItemValues.{with_units}
-use Rattle.rkyv_index.specs.Index.IndexFormat.{IndexRepresents, index_format}
-use Rattle.rkyv_index.specs.Index.IndexHeader.{IndexResolver}
+use Rattle.rkyv_base.specs.{ElementSpec, Encoding, Format, unit_format, unit_represents, unit_spec}
+use Rattle.rkyv_base.specs.{written_as}
+use Rattle.rkyv_table.specs.{with_units}
+use Rattle.rkyv_index.specs.Map.IndexFormat.{IndexRepresents, index_format}
+use Rattle.rkyv_index.specs.Map.IndexHeader.{IndexResolver}
 
 -- the format of a list of keys, in insertion order, as an index set under a load factor
 abbrev pub index_set_format : {P A R : Type 0} → Width → ElementSpec → Encoding P → ElementSpec

@@ -7,22 +7,10 @@
 ghost use Rattle.std.specs.Prelude.{IfErr, IfOk, MatchResult, length, ◌%◌, ◌*◌};
 ghost use Rattle.std.specs.Prelude.{true, ◌+◌, ◌-◌, ◌<◌, ◌≡◌, ◌≤◌};
 ghost use Rattle.std.specs.Int.{byte_len};
-ghost use Rattle.rkyv_base.specs.ElementSpec.{Viewable};
-ghost use Rattle.rkyv_table.specs.Table.Header.{len_at};
-ghost use Rattle.rkyv_table.specs.Table.ValidItems.{AreValid, FirstFails};
-ghost use Rattle.rkyv_table.specs.Table.Positions.{item_positions};
-ghost use Rattle.rkyv_table.specs.Table.Layout.{table_spec};
-ghost use Rattle.rkyv_index.specs.Index.IndexLayout.{
-  AreBelow,
-  EntriesFail,
-  EntriesIn,
-  FirstNotBelow,
-  IndicesBelow,
-  decode_entries,
-  entry_at,
-  indices_of,
-  stored_index_spec,
-};
+ghost use Rattle.rkyv_base.specs.{Viewable};
+ghost use Rattle.rkyv_table.specs.{AreValid, FirstFails, item_positions, len_at, table_spec};
+ghost use Rattle.rkyv_index.specs.{AreBelow, EntriesFail, EntriesIn, FirstNotBelow, IndicesBelow};
+ghost use Rattle.rkyv_index.specs.{decode_entries, entry_at, indices_of, stored_index_spec};
 
 use rkyv_base::element::{Element, PartRange};
 use rkyv_base::errors::VerifyError;

@@ -1,7 +1,7 @@
 //! The header of an index map as an element, and its validator.
-ghost use Rattle.rkyv_base.specs.Entry.{entry_spec};
+ghost use Rattle.rkyv_base.specs.{entry_spec};
 ghost use Rattle.rkyv_base.specs.Lemmas.Entry.{entry_element};
-ghost use Rattle.rkyv_index.specs.Index.IndexLayout.{index_spec};
+ghost use Rattle.rkyv_index.specs.{index_spec};
 ghost use Rattle.rkyv_index.specs.Lemmas.IndexLaws.{index_element};
 
 use crate::map::IndexMapOf;

@@ -12,15 +12,11 @@
 //! `get_index_of` returns the index of a key. The sealed lookups that end in `_with` take
 //! a comparison. `map::laws` has the laws of the map afterwards.
 ghost use Rattle.std.specs.Prelude.{length, ◌+◌, ◌<◌, ◌≡◌, ◌≤◌};
-ghost use Rattle.rkyv_base.specs.Entry.{entry_spec};
-ghost use Rattle.rkyv_base.specs.Scalar.{ScalarRepresents};
-ghost use Rattle.rkyv_base.specs.Sealing.{value_pos, with_value};
-ghost use Rattle.rkyv_base.specs.ElementSpec.{Viewable};
-ghost use Rattle.rkyv_keys.specs.Calls.{hash_at};
-ghost use Rattle.rkyv_table.specs.Table.Header.{len_at};
-ghost use Rattle.rkyv_index.specs.Index.IndexFormat.{IndexRepresents};
-ghost use Rattle.rkyv_index.specs.Index.IndexLayout.{index_spec};
-ghost use Rattle.rkyv_index.specs.Index.ValueWrites.{KeepsIndexMap, SetsValue, index_kind, pair_at};
+ghost use Rattle.rkyv_base.specs.{ScalarRepresents, Viewable, entry_spec, value_pos, with_value};
+ghost use Rattle.rkyv_keys.specs.{hash_at};
+ghost use Rattle.rkyv_table.specs.{len_at};
+ghost use Rattle.rkyv_index.specs.{IndexRepresents, KeepsIndexMap, SetsValue, index_kind};
+ghost use Rattle.rkyv_index.specs.{index_spec, pair_at};
 
 mod sealed;
 

@@ -2,17 +2,11 @@
 //!
 //! They are about writes of one value in place, deserialized lists, lookups and the layout.
 //! `written` is about the bytes of written index maps, and `list_archives` about root index maps.
-ghost use Rattle.rkyv_keys.specs.Calls.{hash_at, hash_of};
-ghost use Rattle.rkyv_index.specs.Index.Reading.{PairsReadBackAreListed, reads_as};
-ghost use Rattle.rkyv_index.specs.Index.ValueWrites.{ValueWritesKeepLookups};
-ghost use Rattle.rkyv_index.specs.Index.ValueWrites.{ValuesWrittenRepresent};
-ghost use Rattle.rkyv_index.specs.Index.ValueWrites.{ValueWritesKeepIndexMaps};
-ghost use Rattle.rkyv_base.specs.Entry.{entry_spec};
-ghost use Rattle.rkyv_base.specs.Same.{SameSpec, SameValues};
-ghost use Rattle.rkyv_index.specs.Index.IndexLayout.{index_spec};
-ghost use Rattle.rkyv_index.specs.Listed.{ordered_pairs};
-ghost use Rattle.rkyv_keys.specs.Natives.{native_pairs};
-ghost use Rattle.rkyv_index.specs.Index.ListedLookups.{LookupsFindListed};
+ghost use Rattle.rkyv_keys.specs.{hash_at, hash_of, native_pairs};
+ghost use Rattle.rkyv_index.specs.{LookupsFindListed, PairsReadBackAreListed};
+ghost use Rattle.rkyv_index.specs.{ValueWritesKeepIndexMaps, ValueWritesKeepLookups};
+ghost use Rattle.rkyv_index.specs.{ValuesWrittenRepresent, index_spec, ordered_pairs, reads_as};
+ghost use Rattle.rkyv_base.specs.{SameSpec, SameValues, entry_spec};
 
 pub mod list_archives;
 pub mod written;

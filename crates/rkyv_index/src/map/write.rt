@@ -6,9 +6,8 @@
 //! 4. The entries are written in a row.
 
 ghost use Rattle.std.specs.Prelude.{◌≡◌, ◌<◌, ◌≤◌, [], length, vec_capacity};
-ghost use Rattle.rkyv_table.specs.Table.Serializing.{HasCapacity};
-ghost use Rattle.rkyv_index.specs.Index.Writing.{WritesEntries, WritesIndices, hashed, hashed_row};
-ghost use Rattle.rkyv_index.specs.Index.IndexFormat.{indices};
+ghost use Rattle.rkyv_table.specs.{HasCapacity};
+ghost use Rattle.rkyv_index.specs.{WritesEntries, WritesIndices, hashed, hashed_row, indices};
 
 pub(crate) mod hashed_indices;
 pub mod resolve;

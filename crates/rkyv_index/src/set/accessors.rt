@@ -7,16 +7,12 @@
 //! A lookup in an untrusted set may read every group of its control bytes once.
 //! `FxHasher64` takes no secret key, so it doesn't protect from chosen input.
 ghost use Rattle.std.specs.Prelude.{IfSome, IsTrue, MatchOption, length, ◌↔◌, ◌≡◌, ◌≤◌};
-ghost use Rattle.rkyv_base.specs.Empty.{unit_spec};
-ghost use Rattle.rkyv_base.specs.Entry.{entry_spec};
-ghost use Rattle.rkyv_base.specs.View.{IsAt, IsValidView, archive_of, pos_of};
-ghost use Rattle.rkyv_table.specs.Table.RawItems.{AllValid};
-ghost use Rattle.rkyv_index.specs.Index.{IsFoundAt, IsKeyOf, IsStoredIndex, index_archive};
-ghost use Rattle.rkyv_index.specs.Index.{index_len, key_positions};
-ghost use Rattle.rkyv_index.specs.Set.IndexSet.{IsMemberAt, index_set_spec, keys_of};
-ghost use Rattle.rkyv_index.specs.Index.Lookups.{FoundKeyHas, GetsKey, full_key_part, key_part};
-ghost use Rattle.rkyv_index.specs.Index.Lookups.{index_part};
-ghost use Rattle.rkyv_keys.specs.KeyLookup.{query_of};
+ghost use Rattle.rkyv_base.specs.{IsAt, IsValidView, archive_of, entry_spec, pos_of, unit_spec};
+ghost use Rattle.rkyv_table.specs.{AllValid};
+ghost use Rattle.rkyv_index.specs.{FoundKeyHas, GetsKey, IsFoundAt, IsKeyOf, IsMemberAt};
+ghost use Rattle.rkyv_index.specs.{IsStoredIndex, full_key_part, index_archive, index_len};
+ghost use Rattle.rkyv_index.specs.{index_part, index_set_spec, key_part, key_positions, keys_of};
+ghost use Rattle.rkyv_keys.specs.{query_of};
 
 use crate::map::read::iter::Keys;
 use crate::map::{ArchivedIndexMap, IndexMapOf};

@@ -1,6 +1,6 @@
 //! Formatting of index sets by `Debug`.
-ghost use Rattle.rkyv_base.specs.View.{IsValidView};
-ghost use Rattle.rkyv_index.specs.Set.IndexSet.{index_set_spec};
+ghost use Rattle.rkyv_base.specs.{IsValidView};
+ghost use Rattle.rkyv_index.specs.{index_set_spec};
 
 use crate::set::{ArchivedIndexSet, IndexSetOf};
 use rkyv_base::view::View;

@@ -1,8 +1,7 @@
 //! Deserializing an index set into a list of keys.
 ghost use Rattle.std.specs.Prelude.{MatchResult, ◌<◌};
-ghost use Rattle.rkyv_index.specs.Index.{index_len, key_pos};
-ghost use Rattle.rkyv_index.specs.Set.IndexSet.{keys_of, set_bytes, set_pos};
-ghost use Rattle.rkyv_index.specs.Index.Reading.{ReadsItems, items_deserialize_fails};
+ghost use Rattle.rkyv_index.specs.{ReadsItems, index_len, items_deserialize_fails, key_pos};
+ghost use Rattle.rkyv_index.specs.{keys_of, set_bytes, set_pos};
 
 use crate::set::ArchivedIndexSet;
 use rkyv_base::element::Element;

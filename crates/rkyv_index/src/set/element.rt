@@ -1,10 +1,9 @@
 //! The header of an index set as an element, and its validator.
-ghost use Rattle.rkyv_base.specs.Empty.{unit_spec};
+ghost use Rattle.rkyv_base.specs.{entry_spec, unit_spec};
 ghost use Rattle.rkyv_base.specs.Lemmas.Empty.{unit_element};
-ghost use Rattle.rkyv_base.specs.Entry.{entry_spec};
 ghost use Rattle.rkyv_base.specs.Lemmas.Entry.{entry_element};
 ghost use Rattle.rkyv_index.specs.Lemmas.IndexLaws.{index_element};
-ghost use Rattle.rkyv_index.specs.Set.IndexSet.{index_set_spec};
+ghost use Rattle.rkyv_index.specs.{index_set_spec};
 
 use crate::map::IndexMapOf;
 use crate::set::IndexSetOf;

@@ -1,20 +1,16 @@
 //! Equality of index sets, and counting the keys that a lookup of their own doesn't find.
 ghost use Rattle.std.specs.Cmp.{partial_equiv_from_equiv};
 ghost use Rattle.std.specs.Prelude.{◌≡◌};
-ghost use Rattle.rkyv_base.specs.Empty.{unit_spec};
+ghost use Rattle.rkyv_base.specs.{IsValidView, entry_spec, unit_spec};
 ghost use Rattle.rkyv_base.specs.Lemmas.Empty.{unit_element};
-ghost use Rattle.rkyv_base.specs.Entry.{entry_spec};
 ghost use Rattle.rkyv_base.specs.Lemmas.Entry.{entry_element};
-ghost use Rattle.rkyv_base.specs.View.{IsValidView};
 ghost use Rattle.rkyv_keys.specs.Lemmas.OfEntries.{entry_equivalence};
 ghost use Rattle.rkyv_keys.specs.Lemmas.OfUnits.{unit_equivalence};
-ghost use Rattle.rkyv_keys.specs.AtViews.{at_views};
-ghost use Rattle.rkyv_keys.specs.Calls.{hash_at};
+ghost use Rattle.rkyv_keys.specs.{at_views, hash_at};
 ghost use Rattle.rkyv_index.specs.Lemmas.EqualLaws.{index_equivalence};
-ghost use Rattle.rkyv_index.specs.Index.Equality.{CountsRepeated, CountsUpTo, index_misplaced};
+ghost use Rattle.rkyv_index.specs.{CountsRepeated, CountsUpTo, index_misplaced, index_of_set};
+ghost use Rattle.rkyv_index.specs.{index_set_equal, index_set_spec, index_sets_equal};
 ghost use Rattle.rkyv_index.specs.Lemmas.HandlesEqual.{sets_equality};
-ghost use Rattle.rkyv_index.specs.Set.IndexSet.{index_of_set, index_set_equal, index_set_spec};
-ghost use Rattle.rkyv_index.specs.Set.IndexSet.{index_sets_equal};
 
 use crate::set::{ArchivedIndexSet, IndexSetOf};
 use rkyv_base::view::View;

@@ -1,13 +1,10 @@
 //! Laws of index sets, over their definitions alone.
 //!
 //! They are about deserialized lists, lookups and the layout.
-ghost use Rattle.rkyv_keys.specs.Calls.{hash_at};
-ghost use Rattle.rkyv_index.specs.Index.Reading.{ItemsReadBackAreListed};
-ghost use Rattle.rkyv_base.specs.Same.{SameSpec, SameValues};
-ghost use Rattle.rkyv_index.specs.Set.IndexSet.{index_set_spec};
-ghost use Rattle.rkyv_index.specs.Set.ListArchives.{MembersFoundAreListed};
-ghost use Rattle.rkyv_keys.specs.Natives.{native_keys};
-ghost use Rattle.rkyv_index.specs.Listed.{ordered_items};
+ghost use Rattle.rkyv_keys.specs.{hash_at, native_keys};
+ghost use Rattle.rkyv_index.specs.{ItemsReadBackAreListed, MembersFoundAreListed, index_set_spec};
+ghost use Rattle.rkyv_index.specs.{ordered_items};
+ghost use Rattle.rkyv_base.specs.{SameSpec, SameValues};
 
 use crate::lists::OrderedItems;
 use crate::set::IndexSetOf;

@@ -4,12 +4,10 @@
 //! the header.
 
 ghost use Rattle.std.specs.Prelude.{◌≡◌, ◌+◌, ◌<◌, ◌^◌, length};
-ghost use Rattle.rkyv_base.specs.Pairs.{written_as};
-ghost use Rattle.rkyv_keys.specs.Calls.{hash_of};
-ghost use Rattle.rkyv_index.specs.Index.Writing.{WritesUnder, listing};
-ghost use Rattle.rkyv_index.specs.Index.IndexHeader.{WritesIndexHeader};
-ghost use Rattle.rkyv_index.specs.Set.SetFormat.{index_set_format};
-ghost use Rattle.rkyv_table.specs.Table.ItemValues.{key_values};
+ghost use Rattle.rkyv_base.specs.{written_as};
+ghost use Rattle.rkyv_keys.specs.{hash_of};
+ghost use Rattle.rkyv_index.specs.{WritesIndexHeader, WritesUnder, index_set_format, listing};
+ghost use Rattle.rkyv_table.specs.{key_values};
 
 use crate::map::ArchivedIndexMap;
 use crate::map::write::resolve::IndexMapResolver;

@@ -3,12 +3,9 @@ use Rattle.std.specs.Prelude.{◌≡◌, ℕ, List, None, Option, Some}
 use Rattle.std.proofs.Common.{◌∙◌, ap, refl, sym}
 use Rattle.std.specs.Borrow.{Bor}
 use Rattle.std.specs.Int.{Width}
-use Rattle.rkyv_base.specs.Scalar.{Encoding, ScalarRepresents}
-use Rattle.rkyv_base.specs.Sealing.{value_at}
-use Rattle.rkyv_base.specs.View.{AtView, IsAt}
+use Rattle.rkyv_base.specs.{AtView, Encoding, IsAt, ScalarRepresents, value_at}
 use Rattle.rkyv_base.specs.declared.view.View.{View}
-use Rattle.rkyv_keys.specs.FirstPairs.{FoundValues, IsFoundValue, found_scalars}
-use Rattle.rkyv_keys.specs.FirstPairs.{found_texts, found_views}
+use Rattle.rkyv_keys.specs.{FoundValues, IsFoundValue, found_scalars, found_texts, found_views}
 
 -- each value found as a view is found as a value
 abbrev pub FindsByView : {V B : Type 0} → FoundValues V B → Type 0

@@ -2,10 +2,8 @@
 use Rattle.std.specs.Prelude.{ℕ, ◌+◌, List, [], ◌∷◌, All}
 use Rattle.std.proofs.lemmas.List.Elements.{All-append, All-cons}
 use Rattle.std.proofs.Common.{arith}
-use Rattle.rkyv_scan.specs.Hash.{Bytes, HasherCall, U8}
-use Rattle.rkyv_scan.specs.Laws.{IsFixed}
-use Rattle.rkyv_base.specs.ElementSpec.{ElementSpec, IsElement}
-use Rattle.rkyv_base.specs.Entry.{entry_spec, value_offset}
+use Rattle.rkyv_scan.specs.{Bytes, HasherCall, IsFixed, U8}
+use Rattle.rkyv_base.specs.{ElementSpec, IsElement, entry_spec, value_offset}
 use Rattle.rkyv_keys.specs.Calls.{text_calls}
 use Rattle.rkyv_keys.specs.OfEntries.{entry_calls}
 use Rattle.rkyv_keys.specs.Lemmas.OfEntries.{valid_key, valid_value}

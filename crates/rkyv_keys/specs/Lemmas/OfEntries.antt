@@ -2,12 +2,11 @@
 use Rattle.std.specs.Prelude.{ℕ, ◌+◌, ◌≤◌, Bool, ◌&&◌, List}
 use Rattle.std.proofs.Common.{arith}
 use Rattle.std.proofs.lemmas.Bool.{and_from, and_parts}
-use Rattle.rkyv_scan.specs.Hash.{HasherCall}
-use Rattle.rkyv_base.specs.ElementSpec.{ElementSpec, IsElement, ValidAt}
+use Rattle.rkyv_scan.specs.{HasherCall}
+use Rattle.rkyv_base.specs.{ElementSpec, IsElement, PairRepresents, ValidAt, entry_spec}
+use Rattle.rkyv_base.specs.{value_offset}
 use Rattle.rkyv_base.specs.Lemmas.ElementSpec.{valid_at}
-use Rattle.rkyv_base.specs.Entry.{entry_spec, value_offset}
 use Rattle.rkyv_base.specs.Lemmas.Entry.{same_parts}
-use Rattle.rkyv_base.specs.Pairs.{PairRepresents}
 use Rattle.rkyv_keys.specs.Equality.{Comparison, EqualsOnce, IsEquivalence, RepresentsOnce}
 use Rattle.rkyv_keys.specs.Keys.{FitsItsEqual, IsKey, IsQuery}
 use Rattle.rkyv_keys.specs.OfEntries.{entry_calls, entry_equals, entry_fits, entry_same, pair_calls}

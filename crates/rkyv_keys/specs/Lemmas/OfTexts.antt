@@ -3,20 +3,16 @@ use Rattle.std.specs.Prelude.{◌≡◌, ℕ, Bool, true, List}
 use Rattle.std.proofs.Common.{refl}
 use Rattle.std.specs.Int.{Width}
 use Rattle.std.specs.Cmp.Lexicographic.{bytes_decides}
-use Rattle.rkyv_scan.specs.Hash.{HasherCall}
-use Rattle.rkyv_base.specs.Text.{TextReads, text_at, text_spec}
+use Rattle.rkyv_scan.specs.{HasherCall}
+use Rattle.rkyv_base.specs.{TextReads, text_at, text_spec}
 use Rattle.rkyv_base.specs.Lemmas.Text.{text_local}
-use Rattle.rkyv_keys.specs.Calls.{text_calls}
+use Rattle.rkyv_keys.specs.{Comparison, FitsItsEqual, IsEquivalence, IsKey, IsQuery}
+use Rattle.rkyv_keys.specs.{MakesFixedCalls, ReadsAnywhere, RepresentsOnce, same_bytes, text_calls}
+use Rattle.rkyv_keys.specs.{value_calls, value_fits, values_same}
 use Rattle.rkyv_keys.specs.Lemmas.QueryLaws.{native_once}
-use Rattle.rkyv_keys.specs.Equality.{Comparison, IsEquivalence, RepresentsOnce}
-use Rattle.rkyv_keys.specs.Keys.{FitsItsEqual, IsKey, IsQuery, ReadsAnywhere}
-use Rattle.rkyv_keys.specs.Fixed.{MakesFixedCalls}
 use Rattle.rkyv_keys.specs.Lemmas.Fixed.{text_fixed}
-use Rattle.rkyv_keys.specs.OfValues.{value_calls, value_fits}
 use Rattle.rkyv_keys.specs.Lemmas.OfValues.{value_equivalence}
-use Rattle.rkyv_keys.specs.OfValues.{values_same}
 use Rattle.rkyv_keys.specs.Lemmas.OfValues.{value_fits_its_equal, value_key, value_query}
-use Rattle.rkyv_keys.specs.OfTexts.{same_bytes}
 
 bytes_equal_themselves : (x : List ℕ) → same_bytes x x ≡ true
 bytes_equal_themselves x = (bytes_decides x x).1 refl

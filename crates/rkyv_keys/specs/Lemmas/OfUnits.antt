@@ -1,13 +1,11 @@
 -- Lemmas: the unit value, which is valid at every position and makes no call.
 use Rattle.std.proofs.Common.{refl}
-use Rattle.rkyv_base.specs.Empty.{unit_represents, unit_spec}
-use Rattle.rkyv_keys.specs.Equality.{DecidesEquality, IsEquivalence}
-use Rattle.rkyv_keys.specs.Keys.{FitsItsEqual, IsKey, IsQuery, ReadsAnywhere}
-use Rattle.rkyv_keys.specs.Fixed.{MakesFixedCalls}
+use Rattle.rkyv_base.specs.{unit_represents, unit_spec}
+use Rattle.rkyv_keys.specs.{DecidesEquality, FitsItsEqual, IsEquivalence, IsKey, IsQuery}
+use Rattle.rkyv_keys.specs.{MakesFixedCalls, ReadsAnywhere, no_calls, unit_at, unit_calls}
+use Rattle.rkyv_keys.specs.{unit_fits, unit_same, units_equal}
 use Rattle.rkyv_keys.specs.Lemmas.Fixed.{none_fixed}
 use Rattle.rkyv_keys.specs.Lemmas.OfValues.{value_equivalence, value_key, value_query}
-use Rattle.rkyv_keys.specs.OfUnits.{no_calls, unit_at, unit_calls, unit_same, units_equal}
-use Rattle.rkyv_keys.specs.OfUnits.{unit_fits}
 
 units_decide_equality : DecidesEquality units_equal
 units_decide_equality v w = (λ e. refl, λ e. refl)

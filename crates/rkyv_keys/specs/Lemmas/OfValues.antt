@@ -2,9 +2,8 @@
 -- scalars, text and the unit value.
 use Rattle.std.specs.Prelude.{◌≡◌, ℕ, Bool, true, List}
 use Rattle.std.proofs.Common.{refl, sym, ◌∙◌, ap}
-use Rattle.rkyv_scan.specs.Hash.{HasherCall}
-use Rattle.rkyv_base.specs.ElementSpec.{ElementSpec}
-use Rattle.rkyv_base.specs.Format.{RepresentsLocally}
+use Rattle.rkyv_scan.specs.{HasherCall}
+use Rattle.rkyv_base.specs.{ElementSpec, RepresentsLocally}
 use Rattle.rkyv_keys.specs.Equality.{DecidesEquality, IsEquivalence}
 use Rattle.rkyv_keys.specs.Keys.{FitsItsEqual, IsKey, IsQuery, ReadsAnywhere}
 use Rattle.rkyv_keys.specs.OfValues.{ValueRepresents, value_calls, value_fits, values_same}

@@ -2,13 +2,10 @@
 use Rattle.std.specs.Prelude.{◌≡◌, ℕ, true, List}
 use Rattle.std.specs.Bool.{Decides}
 use Rattle.std.proofs.lemmas.Bool.Decides.{same_from_decides}
-use Rattle.rkyv_scan.specs.Hash.{HasherCall}
+use Rattle.rkyv_scan.specs.{HasherCall}
 use Rattle.rkyv_base.specs.declared.view.View.{View}
-use Rattle.rkyv_base.specs.ElementSpec.{ElementSpec}
-use Rattle.rkyv_base.specs.View.{IsValidView, bytes_of, pos_of}
-use Rattle.rkyv_keys.specs.Equality.{Comparison, IsEquivalence}
-use Rattle.rkyv_keys.specs.Keys.{IsKey, IsQuery}
-use Rattle.rkyv_keys.specs.OfViews.{view_calls, view_fits}
+use Rattle.rkyv_base.specs.{ElementSpec, IsValidView, bytes_of, pos_of}
+use Rattle.rkyv_keys.specs.{Comparison, IsEquivalence, IsKey, IsQuery, view_calls, view_fits}
 
 pub view_query : {K : Type 0} (s : ElementSpec) (same : Comparison) (calls : List ℕ → ℕ
     → List HasherCall)

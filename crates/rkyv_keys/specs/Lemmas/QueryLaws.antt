@@ -2,12 +2,10 @@
 use Rattle.std.specs.Prelude.{◌≡◌, ℕ, Bool, true, List}
 use Rattle.std.proofs.Common.{sym, ◌∙◌, ap, arith}
 use Rattle.std.proofs.lemmas.Bool.Decides.{same_from_decides}
-use Rattle.rkyv_scan.specs.Hash.{Hasher, HasherCall, hash_of_calls}
-use Rattle.rkyv_base.specs.ElementSpec.{ElementSpec, IsElement, ValidAt}
-use Rattle.rkyv_keys.specs.Calls.{hash_at}
-use Rattle.rkyv_keys.specs.Equality.{Comparison, IsEquivalence, RepresentsOnce}
-use Rattle.rkyv_keys.specs.Keys.{FitsItsEqual, IsKey, IsQuery}
-use Rattle.rkyv_keys.specs.QueryLaws.{FitsByValue, HashLocal, HashesAsWritten, RestsOnKeys}
+use Rattle.rkyv_scan.specs.{Hasher, HasherCall, hash_of_calls}
+use Rattle.rkyv_base.specs.{ElementSpec, IsElement, ValidAt}
+use Rattle.rkyv_keys.specs.{Comparison, FitsByValue, FitsItsEqual, HashLocal, HashesAsWritten}
+use Rattle.rkyv_keys.specs.{IsEquivalence, IsKey, IsQuery, RepresentsOnce, RestsOnKeys, hash_at}
 
 -- the hash of a key depends only on the bytes on which the validity of the key depends
 pub hash_local : {State : Type 0} (hasher : Hasher State) {k : ElementSpec} {same : Comparison}

@@ -4,7 +4,7 @@ use Rattle.std.specs.List.{range_with_len}
 use Rattle.std.specs.List.Sorted.{IsStrictlyIncreasing}
 use Rattle.std.proofs.lemmas.List.FromFn.{get_or-range_with_len, length-range_with_len}
 use Rattle.std.proofs.lemmas.List.Kept.{IsStrictlyIncreasing-filter}
-use Rattle.rkyv_scan.specs.Groups.{flag_indices, indices_where, mask_indices}
+use Rattle.rkyv_scan.specs.{flag_indices, indices_where, mask_indices}
 
 range_ascends : (a n : ℕ) → IsStrictlyIncreasing (range_with_len a n)
 range_ascends a n k h =

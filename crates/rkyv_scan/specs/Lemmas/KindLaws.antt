@@ -29,7 +29,7 @@ use Rattle.std.proofs.Common.{
 }
 use Rattle.std.proofs.lemmas.Nat.{xor_lt}
 use Rattle.std.proofs.lemmas.Bool.{or_left, true≢false}
-use Rattle.rkyv_scan.specs.Groups.{IsKind, generic_kind, is_equal_at, is_word_match_at}
+use Rattle.rkyv_scan.specs.{IsKind, generic_kind, is_equal_at, is_word_match_at}
 
 or_and_cases : (a b c : Bool) → (a || (b && c)) ≡ true → (a ≡ true) ⊎ ((b ≡ true) × (c ≡ true))
 or_and_cases true b c h = inl refl

@@ -1,16 +1,8 @@
 -- The hash of an `FxHasher` fits in 64 bits.
 use Rattle.std.proofs.Common.{ℕ, ◌^◌, ◌<◌, List, [], ◌∷◌, arith}
 use Rattle.std.specs.List.{fold}
-use Rattle.rkyv_scan.specs.Hash.{
-  HasherCall,
-  NumbersFit,
-  SizeWords,
-  call_words,
-  fx_feed,
-  fx_hasher,
-  hash_word,
-  hash_words,
-}
+use Rattle.rkyv_scan.specs.{HasherCall, NumbersFit, SizeWords, call_words, fx_feed, fx_hasher}
+use Rattle.rkyv_scan.specs.{hash_word, hash_words}
 
 word_fits : (state word : ℕ) → hash_word state word < 2 ^ 64
 unfolding hash_word

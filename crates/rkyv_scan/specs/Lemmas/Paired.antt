@@ -1,9 +1,8 @@
 -- Lemmas: groups of sixteen control bytes, whose halves are matched as groups of eight.
 use Rattle.std.specs.Prelude.{◌≡◌, ℕ, ◌+◌, ◌*◌, ◌/◌, ◌%◌, ◌<◌, List, slice_index, take, drop}
 use Rattle.std.proofs.Common.{arith, refl, sym, ◌∙◌, ap, get_or-take, get_or-drop}
-use Rattle.rkyv_scan.specs.Groups.{IsKind, is_word_match_at}
+use Rattle.rkyv_scan.specs.{IsKind, half_of, is_half_match_at, is_word_match_at, paired_kind}
 use Rattle.rkyv_scan.specs.Lemmas.KindLaws.{word_lawful}
-use Rattle.rkyv_scan.specs.Paired.{half_of, is_half_match_at, paired_kind}
 
 pub half_at : (s : List ℕ) (k : ℕ) → slice_index (half_of s k) (k % 8) ≡ slice_index s k
 half_at s k =

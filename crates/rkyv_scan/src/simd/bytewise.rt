@@ -3,7 +3,7 @@
 //! A match marks the equal bytes and no others. The mask has one flag for each index.
 ghost use Rattle.std.specs.Prelude.{◌≡◌, ℕ, false};
 ghost use Rattle.std.specs.Iterator.{YieldsFirst, item_count};
-ghost use Rattle.rkyv_scan.specs.Groups.{IsFirstFlag, bytewise_kind, flag_indices};
+ghost use Rattle.rkyv_scan.specs.{IsFirstFlag, bytewise_kind, flag_indices};
 ghost use Rattle.rkyv_scan.specs.Lemmas.Ascending.{flags_ascend};
 ghost use Rattle.rkyv_scan.specs.Lemmas.KindLaws.{equal_lawful};
 ghost use Rattle.std.proofs.Common.{arith, refl};

@@ -5,7 +5,7 @@
 ghost use Rattle.std.specs.Prelude.{◌≡◌, ℕ, ◌*◌, bit_and};
 ghost use Rattle.std.specs.Iterator.{YieldsFirst, item_count};
 ghost use Rattle.std.specs.Int.{to_le_bytes, w64};
-ghost use Rattle.rkyv_scan.specs.Groups.{generic_kind, mask_indices};
+ghost use Rattle.rkyv_scan.specs.{generic_kind, mask_indices};
 ghost use Rattle.rkyv_scan.specs.Lemmas.Ascending.{mask_ascends};
 ghost use Rattle.rkyv_scan.specs.Lemmas.KindLaws.{word_lawful};
 ghost use Rattle.std.proofs.Common.{refl};

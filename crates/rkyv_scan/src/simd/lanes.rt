@@ -3,10 +3,9 @@
 //! A match marks the equal bytes and no others. The mask has one bit for each index.
 ghost use Rattle.std.specs.Prelude.{◌≡◌, ℕ, length};
 ghost use Rattle.std.specs.Iterator.{YieldsFirst, item_count};
-ghost use Rattle.rkyv_scan.specs.Groups.{lanes_kind, mask_indices};
+ghost use Rattle.rkyv_scan.specs.{MarksEqual, lanes_kind, mask_indices};
 ghost use Rattle.rkyv_scan.specs.Lemmas.Ascending.{mask_ascends};
 ghost use Rattle.rkyv_scan.specs.Lemmas.KindLaws.{equal_lawful};
-ghost use Rattle.rkyv_scan.specs.Paired.{MarksEqual};
 ghost use Rattle.std.proofs.Common.{arith, refl};
 
 use crate::simd::{GroupKind, Marks};

@@ -2,7 +2,7 @@
 //!
 //! It compares sixteen bytes at once. The lookups of `rkyv_table` use it.
 ghost use Rattle.std.specs.Prelude.{◌≡◌, ℕ, ◌+◌, ◌*◌, ◌%◌, ◌<◌, ◌==◌};
-ghost use Rattle.rkyv_scan.specs.Paired.{bits_after, chain, paired_kind};
+ghost use Rattle.rkyv_scan.specs.{bits_after, chain, paired_kind};
 ghost use Rattle.rkyv_scan.specs.Lemmas.Paired.{paired_lawful};
 ghost use Rattle.std.proofs.Common.{refl};
 

@@ -2,7 +2,7 @@
 use Rattle.std.specs.Prelude.{ℕ, ◌+◌, ◌<◌, ◌≤◌, List, Bool, slice_index, slice_set, Option}
 use Rattle.std.specs.Prelude.{replicate}
 use Rattle.std.specs.List.{find, range_with_len}
-use Rattle.rkyv_scan.specs.Groups.{is_empty}
+use Rattle.rkyv_scan.specs.{is_empty}
 use Rattle.rkyv_table.specs.Controls.Numbers.{control_count}
 
 -- the control byte at `index` is empty

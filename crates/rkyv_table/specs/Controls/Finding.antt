@@ -3,7 +3,7 @@ use Rattle.std.specs.Prelude.{◌≡◌, ℕ, suc, ◌+◌, ◌*◌, ◌-◌, �
 use Rattle.std.specs.Prelude.{take, drop, Option, None, map, filter, cond, ◌==◌, IfSome, true}
 use Rattle.std.specs.List.{find, list_any, position_or_len, range_with_len}
 use Rattle.std.specs.Option.{option_and_then}
-use Rattle.rkyv_scan.specs.Groups.{Kind}
+use Rattle.rkyv_scan.specs.{Kind}
 use Rattle.rkyv_table.specs.Controls.ControlBytes.{IsFullBucket, is_empty_at}
 use Rattle.rkyv_table.specs.Controls.Probe.{strides}
 use Rattle.rkyv_table.specs.Controls.Numbers.{probe_capacity, tag}

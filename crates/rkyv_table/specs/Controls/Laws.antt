@@ -2,7 +2,7 @@
 use Rattle.std.specs.Prelude.{◌≡◌, ℕ, ◌+◌, ◌*◌, ◌%◌, ◌/◌, ◌<◌, ◌≤◌, ◌^◌, ◌↔◌, List, Bool, true, eqb}
 use Rattle.std.specs.Prelude.{length, slice_index}
 use Rattle.std.specs.List.{All, Contains, IsDistinct, find}
-use Rattle.rkyv_scan.specs.Groups.{IsKind, Kind}
+use Rattle.rkyv_scan.specs.{IsKind, Kind}
 use Rattle.rkyv_table.specs.Controls.ControlBytes.{IsFullBucket}
 use Rattle.rkyv_table.specs.Controls.Numbers.{probe_capacity, start}
 use Rattle.rkyv_table.specs.Controls.Probe.{probed, strides}

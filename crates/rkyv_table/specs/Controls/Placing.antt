@@ -4,7 +4,7 @@ use Rattle.std.specs.Prelude.{Some, cond, eqb, length, ltb, map, slice_index, sl
 use Rattle.std.specs.Prelude.{filter}
 use Rattle.std.specs.List.{find, fold, list_any, position_or_len, range_with_len}
 use Rattle.std.specs.Option.{unwrap_or}
-use Rattle.rkyv_scan.specs.Groups.{is_full}
+use Rattle.rkyv_scan.specs.{is_full}
 use Rattle.rkyv_table.specs.Controls.Numbers.{control_count, tag}
 use Rattle.rkyv_table.specs.Controls.Probe.{probed}
 

@@ -2,7 +2,7 @@
 use Rattle.std.specs.Prelude.{◌≡◌, ℕ, ◌+◌, ◌-◌, ◌≤◌, List, ◌++◌, map, filter, length, ltb}
 use Rattle.std.specs.Prelude.{slice_index, slice_index_or}
 use Rattle.std.specs.List.{range_with_len}
-use Rattle.rkyv_scan.specs.Groups.{is_full}
+use Rattle.rkyv_scan.specs.{is_full}
 use Rattle.rkyv_table.specs.Controls.Numbers.{control_count}
 
 -- the full buckets from `b` on and below `cap`

@@ -2,9 +2,8 @@
 use Rattle.std.proofs.Common.{arith, ◌∙◌, ap, length-append}
 use Rattle.std.proofs.lemmas.List.{length-replicate}
 use Rattle.std.specs.Prelude.{◌≡◌, ℕ, suc, ◌+◌, ◌-◌, ◌*◌, List, [], ◌∷◌, length, Option, Some, None}
-use Rattle.rkyv_base.specs.Format.{Format}
-use Rattle.rkyv_base.specs.Writing.{zeros}
-use Rattle.rkyv_table.specs.Table.Slots.{SlotImages}
+use Rattle.rkyv_base.specs.{Format, zeros}
+use Rattle.rkyv_table.specs.{SlotImages}
 
 times_suc : (n size : ℕ) → n * size + size ≡ suc n * size
 times_suc n size = omega arith

@@ -6,13 +6,11 @@ use Rattle.std.specs.Int.{Width, byte_len, cast_signed, cast_unsigned, from_le_b
 use Rattle.std.specs.Prelude.{◌≡◌, ℕ, ◌+◌, ◌*◌, ◌^◌, ◌<◌, ℤ, FitsSigned, List, ◌++◌, length}
 use Rattle.std.specs.Prelude.{slice_range}
 use mir.Val.{bits}
-use Rattle.rkyv_base.specs.Bytes.{OccursAt, number_at, signed_at}
+use Rattle.rkyv_base.specs.{IsArchiveWord, IsWord, OccursAt, number_at, signed_at}
 use Rattle.rkyv_base.specs.Lemmas.Bytes.{occurs_back, occurs_front}
-use Rattle.rkyv_base.specs.Scalar.{IsWord}
 use Rattle.rkyv_base.specs.Lemmas.Scalar.{word_bytes, word_reads_back}
-use Rattle.rkyv_base.specs.Text.{IsArchiveWord}
 use Rattle.rkyv_base.specs.Lemmas.Text.{by_archive_word}
-use Rattle.rkyv_table.specs.Table.Header.{cap_at, header_bytes, len_at}
+use Rattle.rkyv_table.specs.{cap_at, header_bytes, len_at}
 
 module _ (w : Width) (kind : IsArchiveWord w) where
   word : IsWord w

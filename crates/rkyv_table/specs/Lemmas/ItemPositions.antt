@@ -8,18 +8,12 @@ use Rattle.std.specs.Prelude.{unsigned_abs}
 use Rattle.std.proofs.Math.Nat.{add-mul}
 use Rattle.std.proofs.lemmas.Bool.{both_ways, cases_Bool, cases_eq, lt-ltb}
 use Rattle.std.proofs.lemmas.Int.{ints}
-use Rattle.rkyv_base.specs.Bytes.{signed_at}
-use Rattle.rkyv_base.specs.Parts.{PartIn}
-use Rattle.rkyv_base.specs.ElementSpec.{ElementSpec, IsElement}
-use Rattle.rkyv_scan.specs.Groups.{is_full}
-use Rattle.rkyv_table.specs.Table.Header.{cap_at, controls_pos, decode_begin, len_at}
-use Rattle.rkyv_table.specs.Controls.Numbers.{control_count}
+use Rattle.rkyv_base.specs.{ElementSpec, IsElement, PartIn, signed_at}
+use Rattle.rkyv_scan.specs.{is_full}
+use Rattle.rkyv_table.specs.{AreValidAt, AreValidItems, IsPart, IsValidTable, IsWalked, bucket_at}
+use Rattle.rkyv_table.specs.{cap_at, control_count, controls_at, controls_pos, decode_begin}
+use Rattle.rkyv_table.specs.{item_at, len_at, part_size, table_controls, walk}
 use Rattle.rkyv_table.specs.Lemmas.ValidItemLaws.{all_between}
-use Rattle.rkyv_table.specs.Table.ValidItems.{AreValidAt}
-use Rattle.rkyv_table.specs.Controls.Placing.{walk}
-use Rattle.rkyv_table.specs.Table.Positions.{IsWalked, item_at, table_controls}
-use Rattle.rkyv_table.specs.Table.Layout.{AreValidItems, IsPart, IsValidTable, bucket_at}
-use Rattle.rkyv_table.specs.Table.Layout.{controls_at, part_size}
 use Rattle.rkyv_table.specs.Lemmas.TableLaws.{bucket_inside}
 
 -- the value at `q` is valid in a range of its own between `lo` and `hi`. It leaves a lower end

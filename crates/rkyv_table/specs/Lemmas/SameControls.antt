@@ -2,15 +2,11 @@
 use Rattle.std.proofs.Common.{◌≡◌, ℕ, ◌+◌, ◌*◌, ◌<◌, ◌≤◌, ap, ◌∙◌, arith, List}
 use Rattle.std.specs.Int.{Width, byte_len}
 use Rattle.std.specs.Prelude.{slice_range}
-use Rattle.rkyv_base.specs.Bytes.{AgreeOn}
+use Rattle.rkyv_base.specs.{AgreeOn, ElementSpec, IsElement}
 use Rattle.rkyv_base.specs.Lemmas.Bytes.{agree_on_part}
-use Rattle.rkyv_base.specs.ElementSpec.{ElementSpec, IsElement}
-use Rattle.rkyv_table.specs.Controls.Numbers.{control_count}
+use Rattle.rkyv_table.specs.{IsValidTable, cap_at, control_count, controls_pos, table_controls}
 use Rattle.rkyv_table.specs.Lemmas.ItemPositions.{decoded_pos, valid_part}
 use Rattle.rkyv_table.specs.Lemmas.SameHeader.{cap_same, pos_same}
-use Rattle.rkyv_table.specs.Table.Header.{cap_at, controls_pos}
-use Rattle.rkyv_table.specs.Table.Layout.{IsValidTable}
-use Rattle.rkyv_table.specs.Table.Positions.{table_controls}
 
 pub same_controls : (w : Width) (s : ElementSpec) → IsElement s → (b c : List ℕ) (p lo hi l : ℕ)
     → lo ≤ hi

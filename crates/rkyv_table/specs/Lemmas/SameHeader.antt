@@ -2,7 +2,7 @@
 use Rattle.std.specs.Prelude.{◌≡◌, ℕ, ◌+◌, ◌-◌, ◌*◌, ◌≤◌, pos, ◌+ℤ◌, ◌-ℤ◌, List, unsigned_abs}
 use Rattle.std.specs.Int.{Width, byte_len, cast_signed, from_le_bytes}
 use Rattle.std.proofs.Common.{arith, ap, subst, ◌∙◌}
-use Rattle.rkyv_base.specs.Bytes.{AgreeOn, number_at, signed_at}
+use Rattle.rkyv_base.specs.{AgreeOn, number_at, signed_at}
 use Rattle.rkyv_base.specs.Lemmas.Bytes.{agree_on_part}
 use Rattle.rkyv_table.specs.Table.Header.{cap_at, controls_pos, decode_begin, len_at}
 use Rattle.rkyv_table.specs.Table.Positions.{item_at}

@@ -3,18 +3,13 @@ use Rattle.std.proofs.Common.{arith, refl, sym, ◌∙◌, ap, subst, zero, leng
 use Rattle.std.proofs.lemmas.Option.{none-some, same_Some}
 use Rattle.std.specs.Prelude.{◌≡◌, ℕ, suc, ◌+◌, ◌-◌, ◌*◌, ◌%◌, ◌≤◌, List, [], ◌∷◌, ◌++◌, drop}
 use Rattle.std.specs.Prelude.{None, Option, Some, length, slice_get}
-use Rattle.rkyv_base.specs.Bytes.{OccursAt}
+use Rattle.rkyv_base.specs.{ElementSpec, Format, IsAlign, IsElement, IsFormat, OccursAt, zeros}
 use Rattle.rkyv_base.specs.Lemmas.Bytes.{occurs_back, occurs_front}
-use Rattle.rkyv_base.specs.Format.{Format, IsFormat}
-use Rattle.rkyv_base.specs.ElementSpec.{ElementSpec, IsAlign, IsElement}
 use Rattle.rkyv_base.specs.Lemmas.ElementSpec.{by_align, sum_multiple}
-use Rattle.rkyv_base.specs.Writing.{zeros}
 use Rattle.rkyv_table.specs.Lemmas.Buckets.{images_length}
-use Rattle.rkyv_table.specs.Table.ValidItems.{AreValidAt}
+use Rattle.rkyv_table.specs.{AreValidAt, SlotImages, SlotParts, bucket_at}
 use Rattle.rkyv_table.specs.Lemmas.ValidItemLaws.{all_lower}
 use Rattle.rkyv_table.specs.Lemmas.SlotWalk.{filled_from}
-use Rattle.rkyv_table.specs.Table.Slots.{SlotImages, SlotParts}
-use Rattle.rkyv_table.specs.Table.Layout.{bucket_at}
 
 zero_times : (n : ℕ) → 0 * n ≡ 0
 zero_times n = omega arith

@@ -8,10 +8,8 @@ use Rattle.std.proofs.lemmas.Option.{none-some, same_Some, slice_get_within}
 use Rattle.std.specs.List.{list_any, range_with_len}
 use Rattle.std.specs.Prelude.{◌≡◌, ℕ, suc, ◌+◌, ◌^◌, ◌<◌, List, [], ◌∷◌, Bool, true, false, eqb}
 use Rattle.std.specs.Prelude.{None, Option, Some, filter, length, slice_get, slice_index}
-use Rattle.rkyv_scan.specs.Groups.{is_full}
-use Rattle.rkyv_table.specs.Controls.Placing.{is_free, walk}
-use Rattle.rkyv_table.specs.Table.Slots.{filled}
-use Rattle.rkyv_table.specs.Table.PlacedItems.{Placed, hashes_of, items_of}
+use Rattle.rkyv_scan.specs.{is_full}
+use Rattle.rkyv_table.specs.{Placed, filled, hashes_of, is_free, items_of, walk}
 
 -- the buckets from `b` on whose slots have an item
 abbrev pub filled_from : {X : Type 0} → ℕ → List (Option X) → List ℕ

@@ -8,29 +8,19 @@ use Rattle.std.specs.Int.{Width}
 use Rattle.std.specs.Prelude.{◌≡◌, ℕ, suc, ◌+◌, ◌*◌, ◌/◌, ◌%◌, ◌<◌, ◌≤◌, cond, max, pos, ◌+ℤ◌, ◌-ℤ◌}
 use Rattle.std.specs.Prelude.{FitsSigned, List, [], ◌++◌, length, slice_get, slice_index}
 use Rattle.std.specs.Prelude.{Option, Some, slice_range}
-use Rattle.rkyv_base.specs.Bytes.{OccursAt, signed_at}
+use Rattle.rkyv_base.specs.{ElementSpec, Format, IsArchiveWord, IsElement, IsFormat, OccursAt}
+use Rattle.rkyv_base.specs.{padding, round_up, signed_at, zeros}
 use Rattle.rkyv_base.specs.Lemmas.Bytes.{occurs_back, occurs_front}
-use Rattle.rkyv_base.specs.Entry.{round_up}
 use Rattle.rkyv_base.specs.Lemmas.Entry.{round_up-multiple}
-use Rattle.rkyv_base.specs.Format.{Format, IsFormat}
-use Rattle.rkyv_base.specs.ElementSpec.{ElementSpec, IsElement}
-use Rattle.rkyv_base.specs.Text.{IsArchiveWord}
-use Rattle.rkyv_base.specs.Writing.{padding, zeros}
 use Rattle.rkyv_table.specs.Lemmas.Buckets.{images_length}
-use Rattle.rkyv_table.specs.Table.Header.{IsHeader, cap_at, decode_begin, header_bytes, len_at}
+use Rattle.rkyv_table.specs.{AreValidAt, AreValidControls, BucketsRepresent, IsHeader, IsPart}
+use Rattle.rkyv_table.specs.{IsValidTable, Placed, TableAt, TableBytes, TableParts, TableRepresents}
+use Rattle.rkyv_table.specs.{TableResolver, Written, bucket_at, cap_at, capacity, controls_at}
+use Rattle.rkyv_table.specs.{decode_begin, hashes_of, header_bytes, len_at, part_size}
+use Rattle.rkyv_table.specs.{resolved_capacity, table_format, table_spec, walk}
 use Rattle.rkyv_table.specs.Lemmas.HeaderReads.{cap_reads, distance_reads, header_length, len_reads}
-use Rattle.rkyv_table.specs.Controls.Numbers.{capacity}
-use Rattle.rkyv_table.specs.Controls.Placing.{AreValidControls, Written, walk}
-use Rattle.rkyv_table.specs.Table.ValidItems.{AreValidAt}
 use Rattle.rkyv_table.specs.Lemmas.SlotSound.{slots_sound}
 use Rattle.rkyv_table.specs.Lemmas.SlotWalk.{filled_count, filled_from, walk_filled}
-use Rattle.rkyv_table.specs.Table.Slots.{TableBytes}
-use Rattle.rkyv_table.specs.Table.Layout.{IsPart, IsValidTable, TableAt, bucket_at, controls_at}
-use Rattle.rkyv_table.specs.Table.Layout.{part_size, table_spec}
-use Rattle.rkyv_table.specs.Table.TableFormat.{BucketsRepresent, TableParts, TableResolver}
-use Rattle.rkyv_table.specs.Table.TableFormat.{TableRepresents}
-use Rattle.rkyv_table.specs.Table.TableFormat.{resolved_capacity, table_format}
-use Rattle.rkyv_table.specs.Table.PlacedItems.{Placed, hashes_of}
 
 -- some bucket stays empty
 pub capacity_above : (len : ℕ) (factor : ℕ × ℕ) → 0 < len → len < capacity len factor

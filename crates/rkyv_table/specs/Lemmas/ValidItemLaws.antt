@@ -6,10 +6,9 @@ use Rattle.std.proofs.Common.{refl, arith, subst, sym, ◌∙◌, inl, inr}
 use Rattle.std.proofs.Props.{props}
 use Rattle.std.proofs.lemmas.Bool.{cases_Bool}
 use Rattle.rkyv_base.specs.declared.errors.VerifyError.{VerifyError}
-use Rattle.rkyv_base.specs.Bytes.{AgreeOn}
+use Rattle.rkyv_base.specs.{AgreeOn, ElementSpec, IsElement}
 use Rattle.rkyv_base.specs.Lemmas.Bytes.{agree_on_part}
 use Rattle.rkyv_base.specs.Lemmas.Props.{only_one, prop_by}
-use Rattle.rkyv_base.specs.ElementSpec.{ElementSpec, IsElement}
 use Rattle.rkyv_table.specs.Table.ValidItems.{AreValidAt, FirstFails}
 
 -- all are below `n`

@@ -3,8 +3,8 @@ use Rattle.std.specs.Prelude.{◌≡◌, ℕ, ◌^◌, ◌<◌, Bool, true, List
 use Rattle.std.specs.Prelude.{MatchOption, None, Some}
 use Rattle.std.specs.Int.{Width}
 use Rattle.std.specs.List.{All, find}
-use Rattle.rkyv_base.specs.ElementSpec.{ElementSpec}
-use Rattle.rkyv_scan.specs.Groups.{IsKind, Kind}
+use Rattle.rkyv_base.specs.{ElementSpec}
+use Rattle.rkyv_scan.specs.{IsKind, Kind}
 use Rattle.rkyv_table.specs.Table.Positions.{pos_found}
 use Rattle.rkyv_table.specs.Table.TableFormat.{TableRepresents}
 use Rattle.rkyv_table.specs.Table.PlacedItems.{items_of}

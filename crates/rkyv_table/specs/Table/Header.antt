@@ -3,7 +3,7 @@ use Rattle.std.specs.Prelude.{◌≡◌, ℕ, ◌+◌, ◌*◌, ◌<◌, ◌⊎�
 use Rattle.std.specs.Prelude.{FitsSigned, List}
 use Rattle.std.specs.Prelude.{◌++◌}
 use Rattle.std.specs.Int.{Width, byte_len, cast_unsigned, to_le_bytes}
-use Rattle.rkyv_base.specs.Bytes.{number_at, signed_at}
+use Rattle.rkyv_base.specs.{number_at, signed_at}
 
 -- the number of items, as in the header at `p`
 abbrev pub len_at : Width → List ℕ → ℕ → ℕ

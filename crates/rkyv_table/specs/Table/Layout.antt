@@ -6,8 +6,7 @@ use Rattle.rkyv_base.specs.declared.errors.VerifyError.{VerifyError}
 use Rattle.rkyv_base.specs.declared.errors.VerifyError.TheVariants.{InvalidLength}
 use Rattle.rkyv_base.specs.declared.errors.VerifyError.TheVariants.{WrongNumberOfElements}
 use Rattle.rkyv_base.specs.declared.errors.VerifyError.TheVariants.{UnwrappedControlByte}
-use Rattle.rkyv_base.specs.Parts.{PartFails, PartIn}
-use Rattle.rkyv_base.specs.ElementSpec.{ElementSpec}
+use Rattle.rkyv_base.specs.{ElementSpec, PartFails, PartIn}
 use Rattle.rkyv_table.specs.Table.Header.{cap_at, decode_begin, len_at}
 use Rattle.rkyv_table.specs.Controls.Numbers.{control_count}
 use Rattle.rkyv_table.specs.Table.ValidItems.{AreValidAt, FirstFails}

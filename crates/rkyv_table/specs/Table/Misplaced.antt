@@ -2,7 +2,7 @@
 use Rattle.std.specs.Prelude.{◌≡◌, ℕ, ◌<◌, ◌^◌, List, Bool, true, false, not, length, Option, Some}
 use Rattle.std.specs.Prelude.{MatchOption, None, eqb, filter, slice_index, take}
 use Rattle.std.specs.List.{Contains, list_any, range_with_len, sum_by}
-use Rattle.rkyv_scan.specs.Groups.{IsKind, Kind}
+use Rattle.rkyv_scan.specs.{IsKind, Kind}
 use Rattle.rkyv_table.specs.Controls.Finding.{end, found}
 use Rattle.rkyv_table.specs.Controls.Laws.{AreHashes}
 use Rattle.rkyv_table.specs.Controls.Placing.{AreValidControls, Written, walk}

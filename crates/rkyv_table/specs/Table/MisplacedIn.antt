@@ -3,7 +3,7 @@ use Rattle.rkyv_base.specs.declared.element.HasSpec.{Ghosts as Specs}
 use Rattle.rkyv_base.specs.declared.width.Word.{Ghosts as Words}
 use Rattle.std.specs.Prelude.{◌≡◌, ℕ, ◌+◌, ◌/◌, ◌<◌, ◌≤◌, ◌^◌, ◌⊎◌, Bool, List, MatchOption, Option}
 use Rattle.rkyv_base.specs.declared.view.View.{View}
-use Rattle.rkyv_scan.specs.Groups.{Kind, generic_kind}
+use Rattle.rkyv_scan.specs.{Kind, generic_kind}
 use Rattle.rkyv_table.specs.Controls.Numbers.{probe_capacity}
 use Rattle.rkyv_table.specs.Table.Header.{cap_at, len_at}
 use Rattle.rkyv_table.specs.Table.Misplaced.{all_strides, is_misplaced, misplaced, own_strides}

@@ -1,6 +1,6 @@
 -- Values that are written in one way alone.
 use Rattle.std.specs.Prelude.{◌≡◌, ℕ, List}
-use Rattle.rkyv_base.specs.Format.{Format}
+use Rattle.rkyv_base.specs.{Format}
 
 -- the parts of a value, its resolver and its fixed bytes are functions of the value
 -- and the position

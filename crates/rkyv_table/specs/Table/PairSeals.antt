@@ -1,9 +1,7 @@
 -- A pair in an archive, whose value is sealed.
 use Rattle.std.specs.Prelude.{◌≡◌, ℕ, List, drop, take}
-use Rattle.rkyv_base.specs.Seal.{bytes_in, seal_pos}
-use Rattle.rkyv_base.specs.Sealing.{value_pos}
-use Rattle.rkyv_base.specs.ElementSpec.{ElementSpec}
-use Rattle.rkyv_base.specs.View.{IsValidView, bytes_of, pos_of}
+use Rattle.rkyv_base.specs.{ElementSpec, IsValidView, bytes_in, bytes_of, pos_of, seal_pos}
+use Rattle.rkyv_base.specs.{value_pos}
 use Rattle.rkyv_base.specs.declared.seal.Seal.{Seal}
 use Rattle.rkyv_base.specs.declared.view.View.{View}
 

@@ -1,9 +1,7 @@
 -- The steps of a walk over the pairs of a map or an index map, by the positions
 -- of the remaining keys.
 use Rattle.std.specs.Prelude.{◌≡◌, ℕ, ◌+◌, [], ◌∷◌, Option, MatchOption}
-use Rattle.rkyv_base.specs.Entry.{value_offset}
-use Rattle.rkyv_base.specs.ElementSpec.{ElementSpec}
-use Rattle.rkyv_base.specs.View.{IsAt, IsValidView}
+use Rattle.rkyv_base.specs.{ElementSpec, IsAt, IsValidView, value_offset}
 use Rattle.rkyv_base.specs.declared.view.View.{View}
 use Rattle.rkyv_table.specs.Table.RawItems.{ItemsLeft}
 

@@ -1,9 +1,7 @@
 -- Validity of a written table in the ranges around it.
 use Rattle.std.specs.Prelude.{◌≡◌, ℕ, ◌+◌, ◌%◌, ◌≤◌, List, length}
 use Rattle.std.specs.Int.{Width, byte_len}
-use Rattle.rkyv_base.specs.Bytes.{OccursAt}
-use Rattle.rkyv_base.specs.Format.{Format}
-use Rattle.rkyv_base.specs.ElementSpec.{ElementSpec}
+use Rattle.rkyv_base.specs.{ElementSpec, Format, OccursAt}
 use Rattle.rkyv_table.specs.Table.Layout.{table_spec}
 use Rattle.rkyv_table.specs.Table.TableFormat.{TableResolver, table_format}
 

@@ -3,7 +3,7 @@ use Rattle.std.specs.Prelude.{◌≡◌, ℕ, ◌+◌, ◌-◌, ◌*◌, ◌<◌
 use Rattle.std.specs.Prelude.{length, map, slice_range}
 use Rattle.std.specs.Int.{Width}
 use Rattle.std.specs.Option.{option_map}
-use Rattle.rkyv_scan.specs.Groups.{Kind}
+use Rattle.rkyv_scan.specs.{Kind}
 use Rattle.rkyv_table.specs.Controls.ControlBytes.{IsFullBucket}
 use Rattle.rkyv_table.specs.Controls.Finding.{end, found}
 use Rattle.rkyv_table.specs.Table.Header.{cap_at, controls_pos, len_at}

@@ -3,7 +3,7 @@ use Rattle.std.specs.Prelude.{◌≡◌, ℕ, ◌+◌, ◌-◌, ◌*◌, ◌≤�
 use Rattle.std.specs.Borrow.{Bor}
 use Rattle.std.specs.Iterator.{YieldsFirst}
 use Rattle.std.specs.List.{All}
-use Rattle.rkyv_base.specs.ElementSpec.{ElementSpec, Viewable}
+use Rattle.rkyv_base.specs.{ElementSpec, Viewable}
 use Rattle.rkyv_table.specs.Controls.Walking.{full_from}
 
 -- the archive, and the positions of the remaining items

@@ -2,11 +2,11 @@
 use Rattle.std.specs.Prelude.{◌≡◌, ℕ, ◌+◌, ◌/◌, List, Bool, true}
 use Rattle.std.specs.Prelude.{IfSome, Option}
 use Rattle.std.specs.List.{find}
-use Rattle.rkyv_base.specs.View.{IsValidView, bytes_of, pos_of, pos_of_found}
+use Rattle.rkyv_base.specs.{IsValidView, bytes_of, pos_of, pos_of_found}
 use Rattle.rkyv_base.specs.declared.view.View.{View}
 use Rattle.rkyv_base.specs.declared.element.HasSpec.{Ghosts as Specs}
 use Rattle.rkyv_base.specs.declared.width.Word.{Ghosts as Words}
-use Rattle.rkyv_scan.specs.Groups.{Kind}
+use Rattle.rkyv_scan.specs.{Kind}
 use Rattle.rkyv_table.specs.Controls.Finding.{ReadsWithin}
 use Rattle.rkyv_table.specs.Table.Header.{cap_at, len_at}
 use Rattle.rkyv_table.specs.Controls.Laws.{IsUnderHash}

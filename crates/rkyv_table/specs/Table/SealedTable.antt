@@ -1,11 +1,8 @@
 -- The effects on a table of a write of one item in place.
 use Rattle.std.specs.Prelude.{◌≡◌, ◌≢◌, ℕ, ◌+◌, ◌*◌, List, Bool}
 use Rattle.std.specs.Int.{Width, byte_len}
-use Rattle.rkyv_base.specs.Bytes.{AgreeOn}
-use Rattle.rkyv_base.specs.Entry.{entry_spec}
-use Rattle.rkyv_base.specs.Sealing.{Keeps, Sealed, value_pos}
-use Rattle.rkyv_base.specs.ElementSpec.{ElementSpec, ValidAt}
-use Rattle.rkyv_scan.specs.Groups.{Kind}
+use Rattle.rkyv_base.specs.{AgreeOn, ElementSpec, Keeps, Sealed, ValidAt, entry_spec, value_pos}
+use Rattle.rkyv_scan.specs.{Kind}
 use Rattle.rkyv_table.specs.Table.Positions.{IsWalked, WrittenAt, bucket_found, item_at}
 use Rattle.rkyv_table.specs.Table.Positions.{table_controls}
 use Rattle.rkyv_table.specs.Table.Layout.{table_spec}

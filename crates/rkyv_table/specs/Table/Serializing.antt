@@ -1,6 +1,7 @@
 -- The result of writing a table.
 use Rattle.std.specs.Prelude.{◌≡◌, ℕ, ◌<◌, ◌≤◌, ◌⊎◌, ⊤, List, length, MatchResult, Option, Result}
-use Rattle.rkyv_base.specs.Members.{WidthMembers}
+use Rattle.rkyv_base.specs.{Appended, ElementSpec, Format, Output, SerializeFails, Serialized}
+use Rattle.rkyv_base.specs.{WidthMembers, WriteFails, end_of}
 use Rattle.rkyv_base.specs.declared.errors.WriteError.{WriteError}
 use Rattle.rkyv_base.specs.declared.errors.WriteError.TheVariants.{InvalidLoadFactor}
 use Rattle.rkyv_base.specs.declared.errors.WriteError.TheVariants.{IteratorLengthMismatch}
@@ -8,9 +9,6 @@ use Rattle.rkyv_base.specs.declared.errors.WriteError.TheVariants.{CapacityTooLa
 use Rattle.rkyv_base.specs.declared.errors.WriteError.TheVariants.{PositionTooLarge}
 use Rattle.rkyv_base.specs.declared.errors.WriteError.TheVariants.{DistanceTooLarge, TextTooLong}
 use Rattle.rkyv_base.specs.declared.errors.WriteError.TheVariants.{Memory, Refused, Writer}
-use Rattle.rkyv_base.specs.Format.{Format, SerializeFails, Serialized}
-use Rattle.rkyv_base.specs.ElementSpec.{ElementSpec}
-use Rattle.rkyv_base.specs.Writing.{Appended, Output, WriteFails, end_of}
 use Rattle.rkyv_table.specs.Controls.Numbers.{IsLoadFactor, capacity}
 use Rattle.rkyv_table.specs.Table.Input.{Input}
 use Rattle.rkyv_table.specs.Table.Slots.{ItemFormat, TableBytes, TableNext}

@@ -1,13 +1,9 @@
 -- The bytes of a table whose items are in slots, one for each bucket.
 use Rattle.std.specs.Prelude.{◌≡◌, ℕ, suc, ◌+◌, ◌-◌, ◌*◌, ◌⊎◌, List, [], ◌∷◌, ◌++◌, length, take}
 use Rattle.std.specs.Prelude.{MatchResult, None, Option, Result, Some, drop, slice_get}
-use Rattle.rkyv_base.specs.Entry.{round_up}
-use Rattle.rkyv_base.specs.Format.{Format}
-use Rattle.rkyv_base.specs.Pairs.{written_as}
-use Rattle.rkyv_base.specs.ElementSpec.{ElementSpec}
-use Rattle.rkyv_base.specs.Writing.{Appended, Appends, Output, Step, Within, WriteFails, distance}
-use Rattle.rkyv_base.specs.Writing.{end_of}
-use Rattle.rkyv_base.specs.Writing.{failure, padding, piece, zeros}
+use Rattle.rkyv_base.specs.{Appended, Appends, ElementSpec, Format, Output, Step, Within}
+use Rattle.rkyv_base.specs.{WriteFails, distance, end_of, failure, padding, piece, round_up}
+use Rattle.rkyv_base.specs.{written_as, zeros}
 use Rattle.rkyv_base.specs.declared.errors.WriteError.{WriteError}
 
 -- the number of slots with an item

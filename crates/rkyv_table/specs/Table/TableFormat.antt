@@ -3,9 +3,7 @@ use Rattle.std.specs.Prelude.{◌≡◌, ℕ, ◌^◌, ◌<◌, ◌⊎◌, pos, 
 use Rattle.std.specs.Prelude.{MatchResult, Option, Result, Some}
 use Rattle.std.specs.Int.{Width}
 use mir.Val.{bits}
-use Rattle.rkyv_base.specs.Format.{Format, IsFormat}
-use Rattle.rkyv_base.specs.ElementSpec.{ElementSpec}
-use Rattle.rkyv_base.specs.Writing.{Step}
+use Rattle.rkyv_base.specs.{ElementSpec, Format, IsFormat, Step}
 use Rattle.rkyv_table.specs.Table.Header.{HeaderOverflows, IsHeader, cap_at, decode_begin, len_at}
 use Rattle.rkyv_table.specs.Controls.Laws.{AreHashes}
 use Rattle.rkyv_table.specs.Controls.Numbers.{capacity}

@@ -1,7 +1,7 @@
 -- Values at several positions, validated in order.
 use Rattle.std.specs.Prelude.{◌≡◌, ℕ, ◌≤◌, ◌⊎◌, List, [], ◌∷◌, MatchResult, Result}
 use Rattle.rkyv_base.specs.declared.errors.VerifyError.{VerifyError}
-use Rattle.rkyv_base.specs.ElementSpec.{ElementSpec}
+use Rattle.rkyv_base.specs.{ElementSpec}
 
 -- the values at the positions `at i` are valid in order, with their parts below `hi`. Each leaves
 -- the lower end for the next

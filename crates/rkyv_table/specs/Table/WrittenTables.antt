@@ -4,8 +4,7 @@ use Rattle.std.specs.Int.{Width}
 use Rattle.rkyv_table.specs.Table.Positions.{WrittenAt, home_positions, item_at}
 use Rattle.rkyv_table.specs.Table.Layout.{table_spec}
 use Rattle.rkyv_table.specs.Table.TableFormat.{TableRepresents}
-use Rattle.rkyv_base.specs.ElementSpec.{ElementSpec, Viewable}
-use Rattle.rkyv_base.specs.Sealing.{Keeps, Sealed}
+use Rattle.rkyv_base.specs.{ElementSpec, Keeps, Sealed, Viewable}
 use Rattle.rkyv_table.specs.Table.PlacedItems.{hashes_of, items_of}
 
 -- the table at `p` was written from the pairs, in this order, and each item is at its home bucket

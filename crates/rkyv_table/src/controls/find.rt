@@ -5,13 +5,9 @@
 ghost use Rattle.std.specs.Prelude.{Bool, IfSome, List, drop, length, map, slice_index, take, true};
 ghost use Rattle.std.specs.Prelude.{ℕ, ◌%◌, ◌*◌, ◌+◌, ◌<◌, ◌^◌, ◌≡◌, ◌≤◌};
 ghost use Rattle.std.specs.List.{find};
-ghost use Rattle.rkyv_table.specs.Controls.ControlBytes.{IsFullBucket};
-ghost use Rattle.rkyv_table.specs.Controls.Finding.{ComparesByBucket, FindsBucket, candidates};
-ghost use Rattle.rkyv_table.specs.Controls.Finding.{lookup};
-ghost use Rattle.rkyv_table.specs.Controls.Finding.{stride_has_empty};
-ghost use Rattle.rkyv_table.specs.Controls.Placing.{AreValidControls};
-ghost use Rattle.rkyv_table.specs.Controls.StrideOutcome.{IsAcceptedBy, IsFullInStride, IsMarked};
-ghost use Rattle.rkyv_table.specs.Controls.StrideOutcome.{IsFullIfAccepted, SeesFirst};
+ghost use Rattle.rkyv_table.specs.{AreValidControls, ComparesByBucket, FindsBucket, IsAcceptedBy};
+ghost use Rattle.rkyv_table.specs.{IsFullBucket, IsFullIfAccepted, IsFullInStride, IsMarked};
+ghost use Rattle.rkyv_table.specs.{SeesFirst, candidates, lookup, stride_has_empty};
 
 use crate::controls::numbers::{bucket_of, start, tag};
 use crate::controls::probe::Probe;

@@ -1,8 +1,7 @@
 //! Laws of the probe sequence and of written control bytes, over their definitions alone.
-ghost use Rattle.rkyv_table.specs.Controls.Laws.{BucketsAreProbed, FoundOnWritten, HomesAreOneList};
-ghost use Rattle.rkyv_table.specs.Controls.Laws.{HomesExist, MarkedAreWalked, SearchIsBounded};
-ghost use Rattle.rkyv_table.specs.Controls.Laws.{StridesCover, WalkedAreFull, WrittenAreAccepted};
-ghost use Rattle.rkyv_table.specs.Controls.Laws.{WrittenAreOneList};
+ghost use Rattle.rkyv_table.specs.{BucketsAreProbed, FoundOnWritten, HomesAreOneList, HomesExist};
+ghost use Rattle.rkyv_table.specs.{MarkedAreWalked, SearchIsBounded, StridesCover, WalkedAreFull};
+ghost use Rattle.rkyv_table.specs.{WrittenAreAccepted, WrittenAreOneList};
 
 /// States that the strides of a hash begin at all indices of one residue class modulo 16.
 ///

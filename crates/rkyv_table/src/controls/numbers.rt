@@ -2,9 +2,7 @@
 //!
 //! The rules are rkyv's.
 ghost use Rattle.std.specs.Prelude.{◌≡◌, ◌%◌, ◌*◌, ◌+◌, ◌<◌, ◌^◌, ◌≤◌};
-ghost use Rattle.rkyv_table.specs.Controls.Capacity.{IsCapacity};
-ghost use Rattle.rkyv_table.specs.Controls.Numbers.{control_count, modulus, probe_capacity, start};
-ghost use Rattle.rkyv_table.specs.Controls.Numbers.{tag};
+ghost use Rattle.rkyv_table.specs.{IsCapacity, control_count, modulus, probe_capacity, start, tag};
 
 /// An error of `capacity`.
 #[derive(Debug, Clone, Copy, PartialEq, Eq)]

@@ -3,11 +3,8 @@
 //! The home bucket of an item is the first empty bucket that its hash probes.
 ghost use Rattle.std.specs.Prelude.{IfErr, IfOk, IsOk, Some, [], length, ◌%◌, ◌+◌, ◌<◌, ◌≡◌, ◌≤◌};
 ghost use Rattle.std.specs.List.{find};
-ghost use Rattle.rkyv_table.specs.Controls.ControlBytes.{HasRoom, empty_index, fresh_controls};
-ghost use Rattle.rkyv_table.specs.Controls.ControlBytes.{is_empty_at, with_control};
-ghost use Rattle.rkyv_table.specs.Controls.Numbers.{tag};
-ghost use Rattle.rkyv_table.specs.Controls.Placing.{IsWrapped, Written};
-ghost use Rattle.rkyv_table.specs.Controls.Probe.{probed};
+ghost use Rattle.rkyv_table.specs.{HasRoom, IsWrapped, Written, empty_index, fresh_controls};
+ghost use Rattle.rkyv_table.specs.{is_empty_at, probed, tag, with_control};
 
 use crate::controls::numbers::{bucket_of, tag};
 use crate::controls::probe::Probe;

@@ -4,8 +4,7 @@
 //! from the probe capacity on are skipped.
 ghost use Rattle.std.specs.Prelude.{List, ℕ, ◌%◌, ◌<◌, ◌^◌, ◌≡◌, ◌≤◌};
 ghost use Rattle.std.specs.Iterator.{YieldsFirst, item_count};
-ghost use Rattle.rkyv_table.specs.Controls.Numbers.{control_count};
-ghost use Rattle.rkyv_table.specs.Controls.Probe.{IsProbe, strides, strides_from};
+ghost use Rattle.rkyv_table.specs.{IsProbe, control_count, strides, strides_from};
 
 use crate::controls::numbers;
 use std::marker::Model;

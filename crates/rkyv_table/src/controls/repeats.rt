@@ -1,8 +1,6 @@
 //! Validating the control bytes after those of the buckets.
 ghost use Rattle.std.specs.Prelude.{IfErr, IfOk, IsTrue, length, ◌<◌, ◌≡◌, ◌≤◌, ◌↔◌};
-ghost use Rattle.rkyv_table.specs.Controls.Numbers.{control_count};
-ghost use Rattle.rkyv_table.specs.Controls.Placing.{IsWrapped};
-ghost use Rattle.rkyv_table.specs.Controls.Repeating.{FirstUnwrapped, IsWrappedAt};
+ghost use Rattle.rkyv_table.specs.{FirstUnwrapped, IsWrapped, IsWrappedAt, control_count};
 
 // Returns `true` if the control byte at an index from `cap` on is as it must be.
 #[inline]

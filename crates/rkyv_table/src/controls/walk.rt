@@ -2,9 +2,7 @@
 ghost use Rattle.std.specs.Prelude.{List, MatchOption, [], length, slice_index, ℕ, ◌+◌};
 ghost use Rattle.std.specs.Prelude.{◌<◌, ◌∷◌, ◌≡◌, ◌≤◌};
 ghost use Rattle.std.specs.Iterator.{YieldsFirst, item_count};
-ghost use Rattle.rkyv_table.specs.Controls.Numbers.{control_count};
-ghost use Rattle.rkyv_table.specs.Controls.Placing.{walk};
-ghost use Rattle.rkyv_table.specs.Controls.Walking.{IsWalk, full_from, left};
+ghost use Rattle.rkyv_table.specs.{IsWalk, control_count, full_from, left, walk};
 
 use rkyv_scan::simd::{GroupKind, MAX_GROUP_WIDTH, Marks};
 use std::marker::Model;

@@ -5,12 +5,8 @@
 //! - `len`, `capacity` and `is_empty` return its numbers.
 ghost use Rattle.std.specs.Prelude.{IsTrue, MatchResult, length, ◌%◌, ◌*◌, ◌+◌, ◌<◌, ◌↔◌, ◌≡◌, ◌≤◌};
 ghost use Rattle.std.specs.Int.{byte_len};
-ghost use Rattle.rkyv_base.specs.Checking.{Fails, Passes};
-ghost use Rattle.rkyv_base.specs.View.{IsValidView, bytes_of, pos_of};
-ghost use Rattle.rkyv_table.specs.Table.Decoded.{IsDecoded};
-ghost use Rattle.rkyv_table.specs.Table.Header.{cap_at, len_at};
-ghost use Rattle.rkyv_table.specs.Table.Reading.{table_bytes, table_pos};
-ghost use Rattle.rkyv_table.specs.Table.Layout.{table_spec};
+ghost use Rattle.rkyv_base.specs.{Fails, IsValidView, Passes, bytes_of, pos_of};
+ghost use Rattle.rkyv_table.specs.{IsDecoded, cap_at, len_at, table_bytes, table_pos, table_spec};
 
 use crate::controls::reciprocal::Reciprocal;
 use crate::table::decoded::Decoded;

@@ -3,9 +3,9 @@
 //! Each bucket is one piece. An empty bucket is zeros.
 
 ghost use Rattle.std.specs.Prelude.{◌≡◌, ◌+◌, ◌<◌, ◌≤◌, ◌^◌, IfSome, length};
-ghost use Rattle.rkyv_base.specs.Writing.{end_of};
-ghost use Rattle.rkyv_table.specs.Table.Slots.{FillsBucket, WritesBuckets, bucket_with, filled};
-ghost use Rattle.rkyv_table.specs.Table.Slots.{item_format, slots_with};
+ghost use Rattle.rkyv_base.specs.{end_of};
+ghost use Rattle.rkyv_table.specs.{FillsBucket, WritesBuckets, bucket_with, filled, item_format};
+ghost use Rattle.rkyv_table.specs.{slots_with};
 
 use rkyv_base::archive::{Archive, ResolveResult, WriteResult};
 use rkyv_base::element::Element;

@@ -6,7 +6,7 @@
 //! 4. The control bytes are written.
 
 ghost use Rattle.std.specs.Prelude.{◌≡◌, ◌≤◌, [], length, vec_capacity};
-ghost use Rattle.rkyv_table.specs.Table.Slots.{WritesSlots, filled, item_format, placed_slots};
+ghost use Rattle.rkyv_table.specs.{WritesSlots, filled, item_format, placed_slots};
 
 use crate::table::buckets::write_buckets;
 use crate::table::parts::serialize_slots;

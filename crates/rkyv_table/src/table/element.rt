@@ -1,7 +1,7 @@
 //! The header of a table as an element.
 //!
 //! Its validator is `ArchivedHashTable::verify`.
-ghost use Rattle.rkyv_table.specs.Table.Layout.{table_spec};
+ghost use Rattle.rkyv_table.specs.{table_spec};
 ghost use Rattle.rkyv_table.specs.Lemmas.TableLaws.{table_element};
 
 use crate::table::{ArchivedHashTable, TableOf};

@@ -4,10 +4,8 @@
 ghost use Rattle.std.specs.Prelude.{length, pos as int, slice_range, unsigned_abs, ℕ, ◌*◌, ◌+ℤ◌};
 ghost use Rattle.std.specs.Prelude.{◌+◌, ◌-ℤ◌, ◌<◌, ◌^◌, ◌≡◌, ◌≤◌};
 ghost use Rattle.std.specs.Int.{byte_len};
-ghost use Rattle.rkyv_base.specs.Bytes.{signed_at};
-ghost use Rattle.rkyv_table.specs.Table.Header.{cap_at, len_at};
-ghost use Rattle.rkyv_table.specs.Controls.Numbers.{control_count};
-ghost use Rattle.rkyv_table.specs.Table.Layout.{bucket_at, part_size};
+ghost use Rattle.rkyv_base.specs.{signed_at};
+ghost use Rattle.rkyv_table.specs.{bucket_at, cap_at, control_count, len_at, part_size};
 
 use crate::controls::numbers::control_count;
 use rkyv_base::width::Width;

@@ -1,9 +1,7 @@
 //! The control bytes of a table, its items, and a walk over its full buckets.
 ghost use Rattle.std.specs.Prelude.{◌<◌, ◌≡◌};
-ghost use Rattle.rkyv_table.specs.Table.Header.{cap_at};
-ghost use Rattle.rkyv_table.specs.Controls.Placing.{walk};
-ghost use Rattle.rkyv_table.specs.Table.Reading.{IsFullIn, IsItemIn, table_bytes, table_pos};
-ghost use Rattle.rkyv_table.specs.Table.Positions.{table_controls};
+ghost use Rattle.rkyv_table.specs.{IsFullIn, IsItemIn, cap_at, table_bytes, table_controls};
+ghost use Rattle.rkyv_table.specs.{table_pos, walk};
 
 use crate::controls::walk::Walk;
 use crate::table::ArchivedHashTable;

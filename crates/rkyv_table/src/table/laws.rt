@@ -3,17 +3,10 @@
 //! - `written` is about the bytes of written tables, `misplaced` about misplaced items.
 //! - `in_place` is about writes of one item in place.
 ghost use Rattle.std.specs.Prelude.{ℕ};
-ghost use Rattle.rkyv_base.specs.Empty.{unit_format};
-ghost use Rattle.rkyv_base.specs.Pairs.{pair_format, written_as};
-ghost use Rattle.rkyv_base.specs.Scalar.{scalar_format};
-ghost use Rattle.rkyv_base.specs.TextWriting.{text_format};
-ghost use Rattle.rkyv_table.specs.Table.FirstItem.{LookupFindsFirst};
-ghost use Rattle.rkyv_table.specs.Table.Lending.{value_represents};
-ghost use Rattle.rkyv_table.specs.Table.OneWay.{WritesOneWay};
-ghost use Rattle.rkyv_table.specs.Table.TableFormat.{table_format};
-ghost use Rattle.rkyv_table.specs.Table.WalkLaws.{WalkVisitsHomes};
-ghost use Rattle.rkyv_base.specs.Same.{SameSpec};
-ghost use Rattle.rkyv_table.specs.Table.Layout.{table_spec};
+ghost use Rattle.rkyv_base.specs.{SameSpec, pair_format, scalar_format, text_format, unit_format};
+ghost use Rattle.rkyv_base.specs.{written_as};
+ghost use Rattle.rkyv_table.specs.{LookupFindsFirst, WalkVisitsHomes, WritesOneWay, table_format};
+ghost use Rattle.rkyv_table.specs.{table_spec, value_represents};
 
 pub mod in_place;
 pub mod misplaced;

@@ -5,7 +5,7 @@
 ghost use Rattle.std.specs.Iterator.{YieldsFirstBy, at_most};
 ghost use Rattle.std.specs.Prelude.{length, ◌≡◌};
 ghost use Rattle.std.specs.Slice.Iter.{iter_rest};
-ghost use Rattle.rkyv_table.specs.Table.ItemValues.{UnitStep};
+ghost use Rattle.rkyv_table.specs.{UnitStep};
 
 /// The pairs of a list, each as a pair of references.
 #[derive(Drop)]

@@ -8,9 +8,9 @@
 //! it reads at most ceil(capacity / 16) strides.
 ghost use Rattle.std.specs.Prelude.{◌^◌, ◌≤◌};
 ghost use Rattle.rkyv_base.specs.declared.view.View.{View};
-ghost use Rattle.rkyv_scan.specs.Groups.{generic_kind};
-ghost use Rattle.rkyv_table.specs.Table.Reading.{CountsStrides, FindsItem, FindsItemPos};
-ghost use Rattle.rkyv_table.specs.Table.Reading.{CanCompare, IsFullIn, IsItemIn};
+ghost use Rattle.rkyv_scan.specs.{generic_kind};
+ghost use Rattle.rkyv_table.specs.{CanCompare, CountsStrides, FindsItem, FindsItemPos, IsFullIn};
+ghost use Rattle.rkyv_table.specs.{IsItemIn};
 
 use crate::controls::find::{Strides, find_from};
 use crate::table::ArchivedHashTable;

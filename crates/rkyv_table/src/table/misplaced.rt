@@ -3,13 +3,10 @@
 //! - `misplaced_by` looks up each item. Its cost on untrusted bytes may be quadratic.
 //! - `misplaced_up_to_by` ends at a limit on the strides that are read.
 ghost use Rattle.std.specs.Prelude.{IfSome, false, not, true, ◌+◌, ◌<◌, ◌^◌, ◌≡◌, ◌≤◌, ◌⊎◌};
-ghost use Rattle.rkyv_scan.specs.Groups.{generic_kind};
-ghost use Rattle.rkyv_table.specs.Table.Misplaced.{is_found_at};
-ghost use Rattle.rkyv_table.specs.Table.MisplacedIn.{ComparesItems, CountsAllStrides};
-ghost use Rattle.rkyv_table.specs.Table.MisplacedIn.{CountsMisplaced, CountsOwn, CountsUpTo};
-ghost use Rattle.rkyv_table.specs.Table.MisplacedIn.{MayCompare, ReadsUpTo};
-ghost use Rattle.rkyv_table.specs.Table.MisplacedIn.{ReturnsMisplaced, table_len};
-ghost use Rattle.rkyv_table.specs.Table.Reading.{CanCompare, IsFullIn, IsItemIn};
+ghost use Rattle.rkyv_scan.specs.{generic_kind};
+ghost use Rattle.rkyv_table.specs.{CanCompare, ComparesItems, CountsAllStrides, CountsMisplaced};
+ghost use Rattle.rkyv_table.specs.{CountsOwn, CountsUpTo, IsFullIn, IsItemIn, MayCompare};
+ghost use Rattle.rkyv_table.specs.{ReadsUpTo, ReturnsMisplaced, is_found_at, table_len};
 
 use crate::controls::find::{Strides, find_from};
 use crate::table::ArchivedHashTable;

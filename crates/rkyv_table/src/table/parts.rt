@@ -1,8 +1,8 @@
 //! Serializing the items of a table, in bucket order.
 
 ghost use Rattle.std.specs.Prelude.{◌≡◌, ◌≤◌, [], vec_capacity};
-ghost use Rattle.rkyv_base.specs.Pairs.{written_as};
-ghost use Rattle.rkyv_table.specs.Table.Slots.{WritesParts, filled, slots_with};
+ghost use Rattle.rkyv_base.specs.{written_as};
+ghost use Rattle.rkyv_table.specs.{WritesParts, filled, slots_with};
 
 use rkyv_base::archive::{Serialize, WriteResult};
 use rkyv_base::lend::Lend;

@@ -3,14 +3,11 @@
 //! The iterator returns the positions of the items, and `next_view` returns views.
 ghost use Rattle.std.specs.Prelude.{[], IfSome, MatchOption, length, slice_index, take, ◌<◌};
 ghost use Rattle.std.specs.Prelude.{◌≤◌, ◌∷◌, ◌≡◌};
-ghost use Rattle.rkyv_scan.specs.Groups.{indices_where, is_full, mask_indices};
+ghost use Rattle.rkyv_scan.specs.{indices_where, is_full, mask_indices};
 ghost use Rattle.std.specs.Iterator.{at_most};
-ghost use Rattle.rkyv_base.specs.View.{IsValidView, archive_of, pos_of};
-ghost use Rattle.rkyv_table.specs.Table.Header.{len_at};
-ghost use Rattle.rkyv_table.specs.Table.Hints.{HintsExactly};
-ghost use Rattle.rkyv_table.specs.Table.RawItems.{AllValid, YieldsPos};
-ghost use Rattle.rkyv_table.specs.Table.Positions.{item_positions};
-ghost use Rattle.rkyv_table.specs.Table.Reading.{table_bytes, table_pos};
+ghost use Rattle.rkyv_base.specs.{IsValidView, archive_of, pos_of};
+ghost use Rattle.rkyv_table.specs.{AllValid, HintsExactly, YieldsPos, item_positions, len_at};
+ghost use Rattle.rkyv_table.specs.{table_bytes, table_pos};
 
 use crate::table::ArchivedHashTable;
 use rkyv_base::element::Element;

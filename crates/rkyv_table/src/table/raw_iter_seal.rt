@@ -7,38 +7,15 @@
 //! - `next_seal` returns a seal of the next item, and leaves the cursor afterwards unspecified.
 ghost use Rattle.std.specs.Prelude.{IfSome, MatchOption, length, slice_range, ◌*◌, ◌+◌, ◌-◌, ◌<◌};
 ghost use Rattle.std.specs.Prelude.{◌≡◌, ◌≤◌};
-ghost use Rattle.rkyv_base.specs.Seal.{LiesIn, archive_in, bytes_in, pos_in};
-ghost use Rattle.rkyv_base.specs.Sealing.{Keeps, Sealed, with_value};
-ghost use Rattle.rkyv_table.specs.Table.Header.{cap_at, len_at};
-ghost use Rattle.rkyv_table.specs.Controls.Placing.{walk};
-ghost use Rattle.rkyv_table.specs.Table.Positions.{table_controls};
-ghost use Rattle.rkyv_table.specs.Table.SealedItems.{
-  CountsDown,
-  FindsFirstLeft,
-  IsSealIter,
-  KeepsCursor,
-  LendsArchive,
-  LendsFirst,
-  MaySeal,
-  MaySealIn,
-  MaySealNext,
-  MayWriteAt,
-  MayWriteNext,
-  SameArchive,
-  SealedBy,
-  StaysThere,
-  StepsAndWrites,
-  WrittenBy,
-  YieldsPosition,
-  cursor_buckets_left,
-  cursor_bytes,
-  cursor_len,
-};
-ghost use Rattle.rkyv_table.specs.Table.Bare.{CanCompareOf, LendsFound, table_in};
-ghost use Rattle.rkyv_table.specs.Table.RawItems.{pos_before};
-ghost use Rattle.rkyv_table.specs.Table.SealedLookup.{IsTableSeal};
-ghost use Rattle.rkyv_base.specs.ElementSpec.{Viewable};
-ghost use Rattle.rkyv_table.specs.Table.Layout.{table_spec};
+ghost use Rattle.rkyv_base.specs.{Keeps, LiesIn, Sealed, Viewable, archive_in, bytes_in, pos_in};
+ghost use Rattle.rkyv_base.specs.{with_value};
+ghost use Rattle.rkyv_table.specs.{CanCompareOf, CountsDown, FindsFirstLeft, IsSealIter};
+ghost use Rattle.rkyv_table.specs.{IsTableSeal, KeepsCursor, LendsArchive, LendsFirst, LendsFound};
+ghost use Rattle.rkyv_table.specs.{MaySeal, MaySealIn, MaySealNext, MayWriteAt, MayWriteNext};
+ghost use Rattle.rkyv_table.specs.{SameArchive, SealedBy, StaysThere, StepsAndWrites, WrittenBy};
+ghost use Rattle.rkyv_table.specs.{YieldsPosition, cap_at, cursor_buckets_left, cursor_bytes};
+ghost use Rattle.rkyv_table.specs.{cursor_len, len_at, pos_before, table_controls, table_in};
+ghost use Rattle.rkyv_table.specs.{table_spec, walk};
 
 use crate::controls::walk::next_full;
 use crate::table::{ArchivedHashTable, TableOf};

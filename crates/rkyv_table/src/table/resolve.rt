@@ -5,10 +5,8 @@
 
 ghost use Rattle.std.specs.Prelude.{◌≡◌, ◌+◌, ◌<◌, ◌≤◌, ◌^◌, FitsSigned, length};
 ghost use mir.Val.{bits};
-ghost use Rattle.rkyv_table.specs.Table.Header.{header_bytes};
-ghost use Rattle.rkyv_table.specs.Controls.Numbers.{IsLoadFactor, capacity};
-ghost use Rattle.rkyv_table.specs.Table.TableFormat.{TableResolver, WritesHeader};
-ghost use Rattle.rkyv_table.specs.Table.TableFormat.{resolved_capacity, resolver_of};
+ghost use Rattle.rkyv_table.specs.{IsLoadFactor, TableResolver, WritesHeader, capacity};
+ghost use Rattle.rkyv_table.specs.{header_bytes, resolved_capacity, resolver_of};
 
 use crate::controls::numbers::capacity;
 use crate::table::ArchivedHashTable;

@@ -3,10 +3,9 @@
 //! - `get_seal_with` takes a seal of the table. Its contract doesn't cover the bytes afterwards.
 //! - `found_with` of `raw_iter_seal` takes bytes and a closure.
 ghost use Rattle.std.specs.Prelude.{IfSome};
-ghost use Rattle.rkyv_base.specs.Seal.{LiesIn};
-ghost use Rattle.rkyv_table.specs.Table.SealedLookup.{AcceptedAt, CanCompareAt, IsItemSeal};
-ghost use Rattle.rkyv_table.specs.Table.SealedLookup.{IsTableSeal};
-ghost use Rattle.rkyv_table.specs.Table.SealedLookup.{SealsFirst, SealsFound, pos_of_seal};
+ghost use Rattle.rkyv_base.specs.{LiesIn};
+ghost use Rattle.rkyv_table.specs.{AcceptedAt, CanCompareAt, IsItemSeal, IsTableSeal, SealsFirst};
+ghost use Rattle.rkyv_table.specs.{SealsFound, pos_of_seal};
 
 use crate::table::{ArchivedHashTable, TableOf};
 use rkyv_base::element::Element;

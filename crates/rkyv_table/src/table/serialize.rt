@@ -8,11 +8,8 @@
 
 ghost use Rattle.std.specs.Prelude.{◌≡◌, ◌+◌, ◌^◌, ◌<◌, ◌≤◌, [], IfOk, None};
 ghost use Rattle.std.specs.Prelude.{replicate, vec_capacity};
-ghost use Rattle.rkyv_table.specs.Controls.Numbers.{control_count};
-ghost use Rattle.rkyv_table.specs.Table.Input.{from_both, from_iter};
-ghost use Rattle.rkyv_table.specs.Table.Serializing.{WritesNonempty, WritesTable, bucket_input};
-ghost use Rattle.rkyv_table.specs.Table.Serializing.{table_input};
-ghost use Rattle.rkyv_table.specs.Table.Slots.{item_format};
+ghost use Rattle.rkyv_table.specs.{WritesNonempty, WritesTable, bucket_input, control_count};
+ghost use Rattle.rkyv_table.specs.{from_both, from_iter, item_format, table_input};
 
 use crate::controls::numbers::{CapacityError, capacity, control_count};
 use crate::table::ArchivedHashTable;

@@ -1,8 +1,7 @@
 //! The input of a table: an iterator of pairs, or one of items and one of hashes.
 
 ghost use Rattle.std.specs.Prelude.{◌≡◌, ℕ, ◌<◌, [], MatchResult, None, replicate};
-ghost use Rattle.rkyv_table.specs.Controls.ControlBytes.{fresh_controls};
-ghost use Rattle.rkyv_table.specs.Table.Input.{Input, PlacesInput, from_both, from_iter};
+ghost use Rattle.rkyv_table.specs.{Input, PlacesInput, fresh_controls, from_both, from_iter};
 
 use crate::table::take::{expect_none, take_pairs};
 use crate::table::take_two::take_two;

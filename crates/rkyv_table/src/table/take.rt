@@ -5,10 +5,8 @@
 ghost use Rattle.std.specs.Prelude.{◌≡◌, ℕ, ◌%◌, ◌+◌, ◌<◌, ◌∷◌, ◌++◌, List, []};
 ghost use Rattle.std.specs.Prelude.{IfSome, MatchResult, None, Some, length, replicate, slice_set};
 ghost use Rattle.std.specs.Iterator.{Drains};
-ghost use Rattle.rkyv_table.specs.Controls.ControlBytes.{fresh_controls};
-ghost use Rattle.rkyv_table.specs.Table.Counting.{YieldsOtherCount};
-ghost use Rattle.rkyv_table.specs.Table.Input.{PlacesInput, from_iter};
-ghost use Rattle.rkyv_table.specs.Table.PlacedItems.{HasEmptyBucket, Placed};
+ghost use Rattle.rkyv_table.specs.{HasEmptyBucket, Placed, PlacesInput, YieldsOtherCount};
+ghost use Rattle.rkyv_table.specs.{fresh_controls, from_iter};
 
 use crate::controls::place::place_from;
 use crate::controls::reciprocal::Reciprocal;

@@ -3,9 +3,7 @@
 //! The number of items is counted up to one more than claimed, and then that of hashes.
 
 ghost use Rattle.std.specs.Prelude.{◌≡◌, ◌+◌, ◌<◌, ◌≤◌, ◌^◌, None, replicate};
-ghost use Rattle.rkyv_table.specs.Controls.ControlBytes.{fresh_controls};
-ghost use Rattle.rkyv_table.specs.Table.Counting.{CountedOn};
-ghost use Rattle.rkyv_table.specs.Table.Input.{PlacesInput, from_both};
+ghost use Rattle.rkyv_table.specs.{CountedOn, PlacesInput, fresh_controls, from_both};
 
 use crate::controls::reciprocal::Reciprocal;
 use crate::table::take::{next_item, place_item};

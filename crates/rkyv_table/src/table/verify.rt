@@ -7,12 +7,9 @@
 //! 5. The control bytes after those of the buckets are as they must be.
 ghost use Rattle.std.specs.Prelude.{IfErr, IfOk, MatchResult, length, ◌%◌, ◌*◌, ◌+◌, ◌<◌, ◌≡◌, ◌≤◌};
 ghost use Rattle.std.specs.Int.{byte_len};
-ghost use Rattle.rkyv_base.specs.Checking.{Fails, Passes};
-ghost use Rattle.rkyv_table.specs.Controls.Numbers.{control_count};
-ghost use Rattle.rkyv_table.specs.Table.ValidItems.{AreValid, ChecksValue, FirstFails};
-ghost use Rattle.rkyv_table.specs.Controls.Placing.{walk};
-ghost use Rattle.rkyv_table.specs.Table.Layout.{FailsInside, IsPart, bucket_at, part_size};
-ghost use Rattle.rkyv_table.specs.Table.Layout.{table_spec};
+ghost use Rattle.rkyv_base.specs.{Fails, Passes};
+ghost use Rattle.rkyv_table.specs.{AreValid, ChecksValue, FailsInside, FirstFails, IsPart};
+ghost use Rattle.rkyv_table.specs.{bucket_at, control_count, part_size, table_spec, walk};
 
 use crate::controls::numbers::control_count;
 use crate::controls::repeats::check_wrapped;

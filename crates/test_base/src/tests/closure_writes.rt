@@ -1,8 +1,7 @@
 //! Tests of archives whose bytes are passed to a closure.
 
 ghost use Rattle.std.specs.Prelude.{◌≡◌, ◌+◌, ◌-◌, ◌≤◌, IsOk, MatchResult, length};
-ghost use Rattle.rkyv_base.specs.Access.{IsValidArchive};
-ghost use Rattle.rkyv_base.specs.Sealing.{with_value};
+ghost use Rattle.rkyv_base.specs.{IsValidArchive, with_value};
 
 use rkyv_base::{
     ArchiveSeal, Narrow, Scalar, Seal, VerifyError, Wide, Width, access_mut_with,

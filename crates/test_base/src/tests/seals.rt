@@ -2,12 +2,8 @@
 
 ghost use Rattle.std.specs.Prelude.{◌≡◌, ◌+◌, ◌≤◌, length};
 ghost use Rattle.std.specs.Int.{w32, w64};
-ghost use Rattle.rkyv_base.specs.Bytes.{number_at};
-ghost use Rattle.rkyv_base.specs.Entry.{entry_spec};
-ghost use Rattle.rkyv_base.specs.Numbers.{signed, unsigned};
-ghost use Rattle.rkyv_base.specs.Scalar.{scalar_spec};
-ghost use Rattle.rkyv_base.specs.Sealing.{with_value};
-ghost use Rattle.rkyv_base.specs.ElementSpec.{Viewable};
+ghost use Rattle.rkyv_base.specs.{Viewable, entry_spec, number_at, scalar_spec, signed, unsigned};
+ghost use Rattle.rkyv_base.specs.{with_value};
 
 use crate::tests::access_failures::{Failure, access_mut_failure};
 use rkyv_base::access::access;

@@ -1,7 +1,7 @@
 //! Maps of one pair.
 
 ghost use Rattle.std.specs.Prelude.{length, ◌<◌, ◌^◌};
-ghost use Rattle.bench_calls.specs.Cuts.{AreTexts};
+ghost use Rattle.bench_calls.specs.{AreTexts};
 
 use bench_calls::numbers::{access_u32, build_u32, hash_u32, lookup_u32, walk_u32};
 use bench_calls::texts::{access_text, build_text, hash_text, lookup_text, walk_text};

@@ -1,8 +1,6 @@
 //! Tests of reading maps in place, from fixed bytes.
 ghost use Rattle.std.specs.Int.{w32};
-ghost use Rattle.rkyv_base.specs.Entry.{entry_spec};
-ghost use Rattle.rkyv_base.specs.Text.{text_spec};
-ghost use Rattle.rkyv_base.specs.View.{IsValidView};
+ghost use Rattle.rkyv_base.specs.{IsValidView, entry_spec, text_spec};
 
 use crate::tests::archives::map_archive;
 use crate::tests::query_results::{

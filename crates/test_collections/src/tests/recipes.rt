@@ -2,11 +2,8 @@
 
 ghost use Rattle.std.specs.Int.{w32};
 ghost use Rattle.std.specs.Prelude.{IfOk, IfSome, length, ◌+◌, ◌≤◌};
-ghost use Rattle.rkyv_base.specs.Numbers.{unsigned};
-ghost use Rattle.rkyv_base.specs.Scalar.{scalar_spec};
-ghost use Rattle.rkyv_base.specs.ElementSpec.{Viewable};
-ghost use Rattle.rkyv_base.specs.Text.{text_spec};
-ghost use Rattle.rkyv_collections.specs.Map.MapSpec.{map_spec};
+ghost use Rattle.rkyv_base.specs.{Viewable, scalar_spec, text_spec, unsigned};
+ghost use Rattle.rkyv_collections.specs.{map_spec};
 
 use crate::tests::archives::map_archive;
 use rkyv_base::access::{access, access_in, access_mut};

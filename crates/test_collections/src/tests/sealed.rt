@@ -1,12 +1,10 @@
 //! Tests of values of maps that are written in place.
 ghost use Rattle.std.specs.Prelude.{IfOk, IfSome, ℕ, ◌≡◌};
 ghost use Rattle.std.specs.Option.{option_map};
-ghost use Rattle.rkyv_base.specs.Sealing.{value_at, value_pos};
-ghost use Rattle.rkyv_base.specs.ElementSpec.{Viewable};
-ghost use Rattle.rkyv_scan.specs.Hash.{hash_of_calls};
-ghost use Rattle.rkyv_keys.specs.Calls.{hash_at};
-ghost use Rattle.rkyv_collections.specs.Map.MapAt.{map_at};
-ghost use Rattle.rkyv_collections.specs.Map.MapSpec.{IsKeyPosAt, map_spec};
+ghost use Rattle.rkyv_base.specs.{Viewable, value_at, value_pos};
+ghost use Rattle.rkyv_scan.specs.{hash_of_calls};
+ghost use Rattle.rkyv_keys.specs.{hash_at};
+ghost use Rattle.rkyv_collections.specs.{IsKeyPosAt, map_at, map_spec};
 ghost use Rattle.test_collections.specs.InMaps.{FindsIn, KeepsIn};
 
 use crate::tests::archives::map_archive;

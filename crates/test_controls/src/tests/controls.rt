@@ -1,8 +1,6 @@
 //! The control bytes of tables, with each kind of group.
 ghost use Rattle.std.specs.Prelude.{IfSome, length, ◌<◌, ◌≤◌, ◌^◌};
-ghost use Rattle.rkyv_table.specs.Controls.Numbers.{control_count};
-ghost use Rattle.rkyv_table.specs.Controls.ControlBytes.{IsFullBucket};
-ghost use Rattle.rkyv_table.specs.Controls.Placing.{AreValidControls};
+ghost use Rattle.rkyv_table.specs.{AreValidControls, IsFullBucket, control_count};
 
 use rkyv_scan::hash::{FxHasher64, KeyHasher};
 use rkyv_scan::simd::{GroupKind, bytewise, generic, lanes};

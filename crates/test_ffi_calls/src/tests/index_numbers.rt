@@ -1,7 +1,7 @@
 //! Tests of lookups in index maps of numbers, and of their pairs by index.
 
 ghost use Rattle.std.specs.Prelude.{IsTrue};
-ghost use Rattle.ffi_calls.specs.IndexArchives.{IsNumberIndex};
+ghost use Rattle.ffi_calls.specs.{IsNumberIndex};
 
 use crate::tests::archives::{LONG, SHORT, WIDE, WIDE_LONG};
 use crate::tests::index_archives::{

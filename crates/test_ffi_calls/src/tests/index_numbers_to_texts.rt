@@ -1,7 +1,7 @@
 //! Tests of lookups in index maps of numbers to texts, and of their pairs by index.
 
 ghost use Rattle.std.specs.Prelude.{IsTrue};
-ghost use Rattle.ffi_calls.specs.IndexTextValues.{IsNumberTextIndex};
+ghost use Rattle.ffi_calls.specs.{IsNumberTextIndex};
 
 use crate::tests::index_archives::{NO_PAIRS, NO_WIDE_PAIRS};
 use crate::tests::index_text_archives::{

@@ -1,7 +1,7 @@
 //! Tests of lookups in index maps of texts to texts, and of their pairs by index.
 
 ghost use Rattle.std.specs.Prelude.{IsTrue};
-ghost use Rattle.ffi_calls.specs.IndexTextValues.{IsTextTextIndex};
+ghost use Rattle.ffi_calls.specs.{IsTextTextIndex};
 
 use crate::tests::index_archives::{NO_PAIRS, NO_WIDE_PAIRS};
 use crate::tests::index_text_archives::{empty_to_text, empty_to_wide_text, two_texts};

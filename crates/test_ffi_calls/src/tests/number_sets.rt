@@ -1,7 +1,7 @@
 //! Tests of validation, lookups, walks and archives of sets of numbers.
 
 ghost use Rattle.std.specs.Prelude.{IsTrue};
-ghost use Rattle.ffi_calls.specs.Sets.{IsNumberSet};
+ghost use Rattle.ffi_calls.specs.{IsNumberSet};
 
 use crate::tests::archives::{HEADER, HEADER_OF_TWO, WIDE_HEADER};
 use ffi_calls::building::Built;

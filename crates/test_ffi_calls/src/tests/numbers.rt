@@ -1,7 +1,7 @@
 //! Tests of lookups, overwrites and walks of maps of numbers.
 
 ghost use Rattle.std.specs.Prelude.{IsTrue};
-ghost use Rattle.ffi_calls.specs.Archives.{IsNumberArchive};
+ghost use Rattle.ffi_calls.specs.{IsNumberArchive};
 
 use crate::tests::archives::{
     LONG, SHORT, WIDE, WIDE_LONG, one_long_number, one_number_twice, one_wide_long_number,

@@ -1,7 +1,7 @@
 //! Tests of validation, lookups and walks of maps of numbers to texts.
 
 ghost use Rattle.std.specs.Prelude.{IsTrue};
-ghost use Rattle.ffi_calls.specs.TextValues.{IsNumberTextArchive};
+ghost use Rattle.ffi_calls.specs.{IsNumberTextArchive};
 
 use crate::tests::text_archives::{
     great_to_wide_text, long_to_tea, long_to_two_texts, one_to_tea, one_to_two_texts,

@@ -1,7 +1,7 @@
 //! Tests of validation, lookups, walks and archives of sets of texts.
 
 ghost use Rattle.std.specs.Prelude.{IsTrue};
-ghost use Rattle.ffi_calls.specs.Sets.{IsTextSet};
+ghost use Rattle.ffi_calls.specs.{IsTextSet};
 
 use crate::tests::archives::{HEADER, HEADER_OF_TWO, WIDE_HEADER};
 use ffi_calls::building::Built;

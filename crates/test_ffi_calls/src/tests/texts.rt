@@ -1,7 +1,7 @@
 //! Tests of lookups, overwrites and walks of maps of texts.
 
 ghost use Rattle.std.specs.Prelude.{IsTrue};
-ghost use Rattle.ffi_calls.specs.Archives.{IsTextArchive};
+ghost use Rattle.ffi_calls.specs.{IsTextArchive};
 
 use crate::tests::archives::{
     LONG, SHORT, WIDE, WIDE_LONG, empty_text, empty_text_twice, empty_wide_text,

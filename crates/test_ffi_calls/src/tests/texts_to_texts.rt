@@ -1,7 +1,7 @@
 //! Tests of validation, lookups and walks of maps of texts to texts.
 
 ghost use Rattle.std.specs.Prelude.{IsTrue};
-ghost use Rattle.ffi_calls.specs.TextValues.{IsTextTextArchive};
+ghost use Rattle.ffi_calls.specs.{IsTextTextArchive};
 
 use crate::tests::text_archives::{empty_to_text, empty_to_two_texts, empty_to_wide_text};
 use ffi_calls::explanation::Explanation;

@@ -1,9 +1,8 @@
 //! Tests of values of index maps that are written in place.
 ghost use Rattle.std.specs.Prelude.{IfSome, ◌<◌};
-ghost use Rattle.rkyv_base.specs.Entry.{entry_spec};
-ghost use Rattle.rkyv_base.specs.ElementSpec.{Viewable};
-ghost use Rattle.rkyv_table.specs.Table.Header.{len_at};
-ghost use Rattle.rkyv_index.specs.Index.IndexLayout.{index_spec};
+ghost use Rattle.rkyv_base.specs.{Viewable, entry_spec};
+ghost use Rattle.rkyv_table.specs.{len_at};
+ghost use Rattle.rkyv_index.specs.{index_spec};
 
 use crate::tests::archives::one_pair;
 use rkyv_base::access::{access, access_in, access_mut};

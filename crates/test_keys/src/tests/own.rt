@@ -1,10 +1,8 @@
 //! Tests of a user's own element: a number that is compared and looked up by its low byte.
 ghost use Rattle.std.specs.Prelude.{◌≡◌, MatchResult};
 ghost use Rattle.std.specs.Int.{w32};
-ghost use Rattle.rkyv_base.specs.Bytes.{number_at};
-ghost use Rattle.rkyv_base.specs.View.{AtView, IsValidView};
-ghost use Rattle.rkyv_keys.specs.Calls.{after_calls};
-ghost use Rattle.rkyv_keys.specs.AtViews.{at_view, at_views};
+ghost use Rattle.rkyv_base.specs.{AtView, IsValidView, number_at};
+ghost use Rattle.rkyv_keys.specs.{after_calls, at_view, at_views};
 ghost use Rattle.test_keys.specs.LowByte.{byte_call, low_calls, low_element, low_equivalence};
 ghost use Rattle.test_keys.specs.LowByte.{low_fits, low_key, low_local, low_query};
 ghost use Rattle.test_keys.specs.LowByte.{low_fails, low_represents, low_same, low_spec};

@@ -1,6 +1,6 @@
 //! Tests of the hashers, with worked hashes.
 ghost use Rattle.std.specs.Prelude.{◌≡◌, [], ◌∷◌};
-ghost use Rattle.rkyv_scan.specs.Hash.{Isize, Usize, hash_of_calls};
+ghost use Rattle.rkyv_scan.specs.{Isize, Usize, hash_of_calls};
 
 use rkyv_scan::hash::{FxHasher64, FxHasher64Wide, KeyHasher};
 use rkyv_scan::laws;

@@ -1,11 +1,8 @@
 //! Writing each item of a table in place, by a cursor over the bare bytes.
 //!
 //! The calls are proved for every scalar and both widths, and run over numbers.
-ghost use Rattle.rkyv_base.specs.Seal.{LiesIn, SealStays, bytes_in, seal_pos};
-ghost use Rattle.rkyv_base.specs.Sealing.{Keeps, Sealed};
-ghost use Rattle.rkyv_base.specs.ElementSpec.{Viewable};
-ghost use Rattle.rkyv_table.specs.Table.Bare.{CanCompareOf};
-ghost use Rattle.rkyv_table.specs.Table.Layout.{table_spec};
+ghost use Rattle.rkyv_base.specs.{Keeps, LiesIn, SealStays, Sealed, Viewable, bytes_in, seal_pos};
+ghost use Rattle.rkyv_table.specs.{CanCompareOf, table_spec};
 
 use crate::tests::archives::two_archived;
 use rkyv_base::access::{access, access_mut};

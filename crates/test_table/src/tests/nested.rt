@@ -1,7 +1,6 @@
 //! Tables of items that have parts of their own: texts and tables.
-ghost use Rattle.rkyv_base.specs.Entry.{entry_spec};
-ghost use Rattle.rkyv_base.specs.View.{IsValidView};
-ghost use Rattle.rkyv_table.specs.Table.Layout.{table_spec};
+ghost use Rattle.rkyv_base.specs.{IsValidView, entry_spec};
+ghost use Rattle.rkyv_table.specs.{table_spec};
 
 use crate::tests::archives::{archived, hash_of_i8, written};
 use rkyv_base::access::access;

@@ -1,6 +1,5 @@
 use Rattle.std.proofs.Common.{subst}
-use Rattle.bench_calls.specs.Building.{IsBuilt}
-use Rattle.bench_calls.specs.Index.{IsNumberIndex}
+use Rattle.bench_calls.specs.{IsBuilt, IsNumberIndex}
 use Rattle.bench_calls.proofs.Paired.{pairs_equal}
 use Rattle.bench_calls.proofs.index_numbers.build_index_u32.Goals as goal
 

@@ -1,4 +1,4 @@
-use Rattle.bench_calls.specs.Index.{index_number_looked_up_at, index_root}
+use Rattle.bench_calls.specs.{index_number_looked_up_at, index_root}
 use Rattle.bench_calls.proofs.Sums.{slice_counted_at}
 use Rattle.bench_calls.proofs.index_numbers.lookup_index_u32.Goals as goal
 

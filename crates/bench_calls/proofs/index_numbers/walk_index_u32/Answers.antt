@@ -1,9 +1,7 @@
 use Rattle.std.specs.Int.{w32}
-use Rattle.rkyv_base.specs.Entry.{entry_spec}
-use Rattle.rkyv_index.specs.Index.{pair_positions}
-use Rattle.bench_calls.specs.Archives.{number_spec}
-use Rattle.bench_calls.specs.Index.{index_root}
-use Rattle.bench_calls.specs.Totals.{number_weight}
+use Rattle.rkyv_base.specs.{entry_spec}
+use Rattle.rkyv_index.specs.{pair_positions}
+use Rattle.bench_calls.specs.{index_root, number_spec, number_weight}
 use Rattle.bench_calls.proofs.Walks.{walk_counted}
 use Rattle.bench_calls.proofs.index_numbers.walk_index_u32.Goals as goal
 

@@ -1,5 +1,5 @@
 use Rattle.std.proofs.Common.{subst}
-use Rattle.bench_calls.specs.Building.{IsBuilt, IsNumberMap}
+use Rattle.bench_calls.specs.{IsBuilt, IsNumberMap}
 use Rattle.bench_calls.proofs.Paired.{pairs_equal}
 use Rattle.bench_calls.proofs.numbers.build_u32.Goals as goal
 

@@ -1,5 +1,5 @@
 use Rattle.std.proofs.Common.{◌∙◌, ap}
-use Rattle.bench_calls.specs.Totals.{number_hash, total}
+use Rattle.bench_calls.specs.{number_hash, total}
 use Rattle.bench_calls.proofs.Sums.{counted_slice}
 use Rattle.bench_calls.proofs.numbers.hash_u32.Goals as goal
 

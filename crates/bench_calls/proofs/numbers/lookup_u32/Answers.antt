@@ -1,5 +1,4 @@
-use Rattle.bench_calls.specs.Archives.{root}
-use Rattle.bench_calls.specs.Totals.{number_looked_up_at}
+use Rattle.bench_calls.specs.{number_looked_up_at, root}
 use Rattle.bench_calls.proofs.Sums.{slice_counted_at}
 use Rattle.bench_calls.proofs.numbers.lookup_u32.Goals as goal
 

@@ -1,8 +1,7 @@
 use Rattle.std.specs.Int.{w32}
-use Rattle.rkyv_base.specs.Entry.{entry_spec}
-use Rattle.rkyv_table.specs.Table.Positions.{item_positions}
-use Rattle.bench_calls.specs.Archives.{number_spec, root}
-use Rattle.bench_calls.specs.Totals.{number_weight}
+use Rattle.rkyv_base.specs.{entry_spec}
+use Rattle.rkyv_table.specs.{item_positions}
+use Rattle.bench_calls.specs.{number_spec, number_weight, root}
 use Rattle.bench_calls.proofs.Walks.{walk_counted}
 use Rattle.bench_calls.proofs.numbers.walk_u32.Goals as goal
 

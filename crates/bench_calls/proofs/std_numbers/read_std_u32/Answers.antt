@@ -1,10 +1,9 @@
 use Rattle.std.proofs.Common.{◌==◌, inr, subst, List, ℕ}
 use Rattle.std.specs.Borrow.{Bor}
 use Rattle.std.specs.Int.{w32}
-use Rattle.rkyv_base.specs.Numbers.{unsigned}
-use Rattle.rkyv_base.specs.Scalar.{ScalarRepresents}
-use Rattle.rkyv_collections.specs.StdMaps.StdMap.{EntriesRepresent}
-use Rattle.bench_calls.specs.Archives.{number_spec}
+use Rattle.rkyv_base.specs.{ScalarRepresents, unsigned}
+use Rattle.rkyv_collections.specs.{EntriesRepresent}
+use Rattle.bench_calls.specs.{number_spec}
 use Rattle.bench_calls.proofs.std_numbers.read_std_u32.Goals as goal
 
 pub returns-in-Ok : goal.returns-in-Ok

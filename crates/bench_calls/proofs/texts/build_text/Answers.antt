@@ -1,7 +1,6 @@
 use Rattle.std.proofs.Common.{◌≡◌, ℕ, ◌∙◌, ap, inl, inr, subst, List, map}
 use Rattle.std.specs.Borrow.{Bor}
-use Rattle.bench_calls.specs.Building.{IsBuilt, IsTextMap}
-use Rattle.bench_calls.specs.Cuts.{texts}
+use Rattle.bench_calls.specs.{IsBuilt, IsTextMap, texts}
 use Rattle.bench_calls.proofs.Paired.{pairs_equal}
 use Rattle.bench_calls.proofs.texts.build_text.Goals as goal
 

@@ -1,7 +1,6 @@
 use Rattle.std.proofs.Common.{◌≡◌, ◌∙◌, ap}
 use Rattle.std.specs.Iterator.{YieldsFirstBy}
-use Rattle.bench_calls.specs.Cuts.{texts}
-use Rattle.bench_calls.specs.Totals.{text_hash, total}
+use Rattle.bench_calls.specs.{text_hash, texts, total}
 use Rattle.bench_calls.proofs.Sums.{counted_all}
 use Rattle.bench_calls.proofs.CutTexts.{bytes_of, texts_left}
 use Rattle.bench_calls.proofs.texts.hash_text.Goals as goal

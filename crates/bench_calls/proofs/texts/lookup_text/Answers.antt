@@ -1,7 +1,5 @@
 use Rattle.std.proofs.Common.{◌≡◌}
-use Rattle.bench_calls.specs.Archives.{root}
-use Rattle.bench_calls.specs.Cuts.{texts}
-use Rattle.bench_calls.specs.Totals.{text_looked_up_at}
+use Rattle.bench_calls.specs.{root, text_looked_up_at, texts}
 use Rattle.bench_calls.proofs.CutTexts.{texts_counted_at, texts_left}
 use Rattle.bench_calls.proofs.texts.lookup_text.Goals as goal
 

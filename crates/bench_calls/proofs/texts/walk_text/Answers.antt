@@ -1,8 +1,7 @@
 use Rattle.std.specs.Int.{w32}
-use Rattle.rkyv_base.specs.Entry.{entry_spec}
-use Rattle.rkyv_table.specs.Table.Positions.{item_positions}
-use Rattle.bench_calls.specs.Archives.{narrow_text_spec, number_spec, root}
-use Rattle.bench_calls.specs.Totals.{text_weight}
+use Rattle.rkyv_base.specs.{entry_spec}
+use Rattle.rkyv_table.specs.{item_positions}
+use Rattle.bench_calls.specs.{narrow_text_spec, number_spec, root, text_weight}
 use Rattle.bench_calls.proofs.Walks.{walk_counted}
 use Rattle.bench_calls.proofs.texts.walk_text.Goals as goal
 

@@ -1,5 +1,5 @@
 use Rattle.std.proofs.Common.{◌≡◌}
-use Rattle.bench_calls.specs.Totals.{hash_by, total}
+use Rattle.bench_calls.specs.{hash_by, total}
 use Rattle.bench_calls.proofs.totals.hash_total.Given as goal
 
 -- the sum is that of the yielded keys

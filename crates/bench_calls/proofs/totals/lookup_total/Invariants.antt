@@ -1,5 +1,5 @@
 use Rattle.std.proofs.Common.{◌≡◌}
-use Rattle.bench_calls.specs.Totals.{total}
+use Rattle.bench_calls.specs.{total}
 use Rattle.bench_calls.proofs.totals.lookup_total.Given as goal
 
 -- the sum is that of the yielded keys

@@ -1,5 +1,5 @@
 use Rattle.std.proofs.Common.{◌≡◌}
-use Rattle.bench_calls.specs.Totals.{total, view_pair_weight}
+use Rattle.bench_calls.specs.{total, view_pair_weight}
 use Rattle.bench_calls.proofs.totals.pair_total.Given as goal
 
 -- the sum is that of the yielded pairs

@@ -1,6 +1,6 @@
 use Rattle.std.proofs.Common.{Ok, Some, None, ap, sym, ◌∙◌}
 use Rattle.std.specs.Int.{w32}
-use Rattle.rkyv_base.specs.Numbers.{unsigned}
+use Rattle.rkyv_base.specs.{unsigned}
 use Rattle.rkyv_keys.specs.Lemmas.FirstPairs.{scalar_read}
 use Rattle.example_lists.proofs.maps.spot_of.Goals as goal
 

@@ -1,6 +1,6 @@
 use Rattle.std.proofs.Common.{ℕ, MatchResult, subst}
-use Rattle.rkyv_base.specs.Root.{ArchiveOf, ToBytesFails}
-use Rattle.example_message.specs.Message.{IsMessage, IsMessageOf, MessageFails, Parts, PartsRepresent, Represents, header_spec, parts_format}
+use Rattle.rkyv_base.specs.{ArchiveOf, ToBytesFails}
+use Rattle.example_message.specs.{IsMessage, IsMessageOf, MessageFails, Parts, PartsRepresent, Represents, header_spec, parts_format}
 use Rattle.rkyv_collections.proofs.FoundValues.{on_ok}
 use Rattle.example_message.proofs.message.archive.Goals as goal
 

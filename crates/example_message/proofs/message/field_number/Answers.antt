@@ -1,12 +1,10 @@
 use Rattle.std.proofs.Common.{None, Some, ap, sym, ◌∙◌}
 use Rattle.std.specs.Int.{w32}
 use Rattle.std.specs.Option.{option_map}
-use Rattle.rkyv_base.specs.Bytes.{number_at}
-use Rattle.rkyv_base.specs.Numbers.{unsigned}
-use Rattle.rkyv_base.specs.Scalar.{ScalarRepresents}
-use Rattle.rkyv_keys.specs.OfTexts.{same_bytes}
-use Rattle.example_message.specs.Message.{is_named}
-use Rattle.rkyv_collections.specs.Map.{map_bytes}
+use Rattle.rkyv_base.specs.{ScalarRepresents, number_at, unsigned}
+use Rattle.rkyv_keys.specs.{same_bytes}
+use Rattle.example_message.specs.{is_named}
+use Rattle.rkyv_collections.specs.{map_bytes}
 use Rattle.rkyv_collections.proofs.FoundValues.{none_listed, number_listed}
 use Rattle.example_message.proofs.message.field_number.Goals as goal
 

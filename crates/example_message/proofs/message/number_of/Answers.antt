@@ -1,9 +1,9 @@
 use Rattle.std.proofs.Common.{◌≡◌, ℕ, IfSome, None, Option, Some, ap, refl, subst, sym, ◌∙◌}
 use Rattle.std.specs.Int.{w32}
 use Rattle.std.specs.Option.{option_map}
-use Rattle.rkyv_base.specs.Bytes.{number_at}
+use Rattle.rkyv_base.specs.{number_at}
 use Rattle.rkyv_collections.proofs.FoundValues.{read_at}
-use Rattle.example_message.specs.Message.{ArePartsFields, FieldsRepresent, IsFields, number_in_fields, number_spec, value_found}
+use Rattle.example_message.specs.{ArePartsFields, FieldsRepresent, IsFields, number_in_fields, number_spec, value_found}
 use Rattle.rkyv_table.proofs.Moved.{moved}
 use Rattle.example_message.proofs.Found.{no_number_in_part, number_in_part}
 use Rattle.example_message.proofs.message.number_of.Goals as goal

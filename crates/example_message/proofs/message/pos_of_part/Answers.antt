@@ -2,11 +2,10 @@ use Rattle.std.proofs.Common.{◌≡◌, ℕ, None, Option, Some, ap, sym, ◌�
 use Rattle.std.specs.Int.{w32}
 use Rattle.std.specs.Option.{option_map}
 use Rattle.std.proofs.lemmas.Result.{err_from_is_err_and}
-use Rattle.rkyv_base.specs.Sealing.{value_pos}
-use Rattle.rkyv_keys.specs.OfTexts.{same_bytes}
-use Rattle.rkyv_collections.specs.Map.{FindsFirstKeyAt}
-use Rattle.rkyv_collections.specs.Map.MapSpec.{IsKeyPosAt}
-use Rattle.example_message.specs.Message.{IsFields, IsMessage, PartsRepresent, Represents, ValidationFails, fields_spec, is_named, is_named_at, name_hash, name_spec, value_found}
+use Rattle.rkyv_base.specs.{value_pos}
+use Rattle.rkyv_keys.specs.{same_bytes}
+use Rattle.rkyv_collections.specs.{FindsFirstKeyAt, IsKeyPosAt}
+use Rattle.example_message.specs.{IsFields, IsMessage, PartsRepresent, Represents, ValidationFails, fields_spec, is_named, is_named_at, name_hash, name_spec, value_found}
 use Rattle.rkyv_table.proofs.Moved.{moved}
 use Rattle.rkyv_collections.proofs.FoundValues.{read_at}
 use Rattle.example_message.proofs.Found.{no_part_found, part_found}

@@ -3,7 +3,7 @@ use Rattle.std.specs.List.{filter_map}
 use Rattle.std.specs.Str.Iter.{lines_rest, lines_steps}
 use Rattle.std.specs.Str.Lines.{lines}
 use Rattle.std.proofs.lemmas.Iterator.Splits.{YieldsList-from_lines}
-use Rattle.example_symbols.specs.Lines.{symbol_of, symbols_of, with_name_bytes}
+use Rattle.example_symbols.specs.{symbol_of, symbols_of, with_name_bytes}
 use Rattle.example_symbols.proofs.Turns.{item_yielded, kept_on, none_yielded}
 use Rattle.example_symbols.proofs.lines.parse.Goals as goal
 

@@ -2,7 +2,7 @@ use Rattle.std.proofs.Common.{◌≡◌, ◌++◌, ℕ, List, map}
 use Rattle.std.specs.List.{filter_map}
 use Rattle.std.specs.Str.Iter.{lines_steps}
 use Rattle.std.proofs.lemmas.Iterator.{YieldsList}
-use Rattle.example_symbols.specs.Lines.{symbol_of, symbols_of, with_name_bytes}
+use Rattle.example_symbols.specs.{symbol_of, symbols_of, with_name_bytes}
 use Rattle.example_symbols.proofs.lines.parse.Given as goal
 
 -- the symbols that are found, and those of the remaining lines, are all symbols

@@ -5,7 +5,7 @@ use Rattle.std.specs.Str.Parse.{IsNumeral, digits_value}
 use Rattle.std.proofs.lemmas.Bool.Decides.{nat_tests}
 use Rattle.std.proofs.lemmas.Grind.{common_steps}
 use Rattle.std.proofs.lemmas.Str.{IsCharBoundary-after_ascii}
-use Rattle.example_symbols.specs.Lines.{has_symbol}
+use Rattle.example_symbols.specs.{has_symbol}
 use Rattle.example_symbols.proofs.Digits.{hexdigits_numeral, symbol_layout}
 use Rattle.example_symbols.proofs.lines.symbol.Goals as goal
 

@@ -1,18 +1,14 @@
 use Rattle.std.proofs.Common.{◌≡◌, ◌+◌, ◌∙◌, ℕ, List, Option, None, Some, ap, sym}
 use Rattle.std.specs.Int.{w32, w64}
 use Rattle.std.specs.Option.{option_map}
-use Rattle.rkyv_scan.specs.Groups.{generic_kind}
-use Rattle.rkyv_scan.specs.Hash.{fx_hasher, low_halves}
+use Rattle.rkyv_scan.specs.{fx_hasher, generic_kind, low_halves}
 use Rattle.rkyv_base.specs.Lemmas.Access.{root_viewable}
-use Rattle.rkyv_base.specs.Bytes.{number_at}
-use Rattle.rkyv_base.specs.Entry.{entry_spec, value_offset}
-use Rattle.rkyv_base.specs.Text.{text_at}
-use Rattle.rkyv_keys.specs.Calls.{hash_of, text_calls}
-use Rattle.rkyv_keys.specs.OfTexts.{same_bytes}
-use Rattle.rkyv_table.specs.Table.Positions.{pos_found}
+use Rattle.rkyv_base.specs.{entry_spec, number_at, text_at, value_offset}
+use Rattle.rkyv_keys.specs.{hash_of, same_bytes, text_calls}
+use Rattle.rkyv_table.specs.{pos_found}
 use Rattle.rkyv_table.proofs.Moved.{moved}
 use Rattle.rkyv_collections.proofs.FoundValues.{read_at}
-use Rattle.example_symbols.specs.Table.{IsTable, Represents, address_found, address_spec, header_spec, name_spec}
+use Rattle.example_symbols.specs.{IsTable, Represents, address_found, address_spec, header_spec, name_spec}
 use Rattle.example_symbols.proofs.Found.{none_read, number_read}
 use Rattle.example_symbols.proofs.table.address_in.Goals as goal
 

@@ -1,6 +1,6 @@
 use Rattle.std.proofs.Common.{ℕ, MatchResult, subst}
-use Rattle.rkyv_base.specs.Root.{ArchiveOf, ToBytesFails}
-use Rattle.example_symbols.specs.Table.{IsTable, IsTableOf, Represents, Symbols, SymbolsRepresent, TableFails, header_spec, symbols_format}
+use Rattle.rkyv_base.specs.{ArchiveOf, ToBytesFails}
+use Rattle.example_symbols.specs.{IsTable, IsTableOf, Represents, Symbols, SymbolsRepresent, TableFails, header_spec, symbols_format}
 use Rattle.rkyv_collections.proofs.FoundValues.{on_ok}
 use Rattle.example_symbols.proofs.table.archive.Goals as goal
 

@@ -1,5 +1,5 @@
 use Rattle.std.proofs.lemmas.Result.{err_from_is_err_and}
-use Rattle.example_symbols.specs.Table.{IsTable, ValidationFails}
+use Rattle.example_symbols.specs.{IsTable, ValidationFails}
 use Rattle.example_symbols.proofs.table.check.Goals as goal
 
 pub returns-clause-checked : goal.returns-clause-checked

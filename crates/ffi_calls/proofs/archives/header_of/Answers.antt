@@ -1,8 +1,8 @@
 use Rattle.std.proofs.Common.{◌∙◌, ap}
-use Rattle.rkyv_table.specs.Table.Decoded.{IsDecoded}
-use Rattle.rkyv_collections.specs.Map.MapSpec.{map_spec}
+use Rattle.rkyv_table.specs.{IsDecoded}
+use Rattle.rkyv_collections.specs.{map_spec}
 use Rattle.rkyv_table.proofs.Moved.{moved}
-use Rattle.ffi_calls.specs.Archives.{root}
+use Rattle.ffi_calls.specs.{root}
 use Rattle.ffi_calls.proofs.First.{viewable_at_view}
 use Rattle.ffi_calls.proofs.archives.header_of.Goals as goal
 

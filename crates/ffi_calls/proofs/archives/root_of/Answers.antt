@@ -1,7 +1,7 @@
 use Rattle.std.proofs.Common.{◌∙◌, subst, sym}
 use Rattle.rkyv_base.specs.Lemmas.Access.{root_viewable}
-use Rattle.rkyv_base.specs.ElementSpec.{Viewable}
-use Rattle.rkyv_collections.specs.Map.MapSpec.{map_spec}
+use Rattle.rkyv_base.specs.{Viewable}
+use Rattle.rkyv_collections.specs.{map_spec}
 use Rattle.ffi_calls.proofs.archives.root_of.Goals as goal
 
 pub access_unchecked-requires : goal.access_unchecked-requires

@@ -1,4 +1,4 @@
-use Rattle.ffi_calls.specs.Lists.{ArchiveFails, IsArchiveOf}
+use Rattle.ffi_calls.specs.{ArchiveFails, IsArchiveOf}
 use Rattle.ffi_calls.proofs.building.archive_of.Goals as goal
 
 pub returns-in-Ok-clause-ok : goal.returns-in-Ok-clause-ok

@@ -1,6 +1,6 @@
 use Rattle.std.proofs.Common.{◌∙◌, ap, drop, inl, inr, refl, subst, sym}
 use Rattle.std.proofs.lemmas.List.{length-drop}
-use Rattle.rkyv_container.specs.Container.{IsContainer, header_of}
+use Rattle.rkyv_container.specs.{IsContainer, header_of}
 use Rattle.rkyv_container.proofs.HeaderBytes.{header_length}
 use Rattle.ffi_calls.proofs.containers.update_container.Goals as goal
 

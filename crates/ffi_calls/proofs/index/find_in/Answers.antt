@@ -1,9 +1,6 @@
 use Rattle.std.proofs.Common.{◌≡◌, ◌⊎◌, ℕ, None, Some, inl, inr, refl, subst, sym}
-use Rattle.rkyv_index.specs.Index.{index_bytes}
-use Rattle.rkyv_index.specs.Index.ListedLookups.{IsFirst}
-use Rattle.ffi_calls.specs.IndexArchives.{ReturnsIndexed, found_index, index_at, index_in, value_pos_at}
-use Rattle.ffi_calls.specs.IndexLists.{HasValueAt, IndexRepresentsPairs}
-use Rattle.ffi_calls.specs.Lists.{query_of_key, query_pairs}
+use Rattle.rkyv_index.specs.{IsFirst, index_bytes}
+use Rattle.ffi_calls.specs.{HasValueAt, IndexRepresentsPairs, ReturnsIndexed, found_index, index_at, index_in, query_of_key, query_pairs, value_pos_at}
 use Rattle.ffi_calls.specs.declared.pairs.Indexed.{Indexed}
 use Rattle.ffi_calls.proofs.IndexFound.{of_same_map, value_there}
 use Rattle.ffi_calls.proofs.index.find_in.Goals as goal

@@ -1,6 +1,6 @@
 use Rattle.std.proofs.Common.{◌∙◌, ap}
 use Rattle.rkyv_base.specs.Lemmas.Access.{root_viewable}
-use Rattle.ffi_calls.specs.IndexArchives.{index_map}
+use Rattle.ffi_calls.specs.{index_map}
 use Rattle.ffi_calls.proofs.index.index_of.Goals as goal
 
 pub access_unchecked-root-requires : goal.access_unchecked-root-requires

@@ -1,7 +1,6 @@
 use Rattle.std.proofs.Common.{◌≡◌, ◌∙◌, ◌+◌, ◌-◌, ◌<◌, ap, arith, length, map, min, slice_set, subst, sym}
 use Rattle.std.proofs.lemmas.List.{length-map, map-set}
-use Rattle.ffi_calls.specs.IndexArchives.{IsIndexPair, index_in, pair_count}
-use Rattle.ffi_calls.specs.Lists.{fx_pairs}
+use Rattle.ffi_calls.specs.{IsIndexPair, fx_pairs, index_in, pair_count}
 use Rattle.ffi_calls.proofs.IndexFound.{of_same_map}
 use Rattle.ffi_calls.proofs.IndexPairs.{Stored, all_stored, none_stored, one_stored, stores_listed}
 use Rattle.ffi_calls.proofs.index.pairs_in.Goals as goal

@@ -1,5 +1,5 @@
 use Rattle.std.proofs.Common.{map}
-use Rattle.ffi_calls.specs.IndexArchives.{IsIndexPair, index_in}
+use Rattle.ffi_calls.specs.{IsIndexPair, index_in}
 use Rattle.ffi_calls.proofs.IndexPairs.{Stored}
 use Rattle.ffi_calls.proofs.index.pairs_in.Given as goal
 

@@ -1,9 +1,6 @@
 use Rattle.std.proofs.Common.{◌≡◌, ◌∙◌, ◌<◌, None, Some, ap, subst, sym}
-use Rattle.rkyv_index.specs.Index.{index_bytes}
-use Rattle.rkyv_index.specs.Index.ListedLookups.{IsFirst}
-use Rattle.ffi_calls.specs.IndexArchives.{found_index, pair_count}
-use Rattle.ffi_calls.specs.IndexLists.{IndexRepresentsPairs}
-use Rattle.ffi_calls.specs.Lists.{query_of_key, query_pairs}
+use Rattle.rkyv_index.specs.{IsFirst, index_bytes}
+use Rattle.ffi_calls.specs.{IndexRepresentsPairs, found_index, pair_count, query_of_key, query_pairs}
 use Rattle.ffi_calls.proofs.IndexFound.{of_same_map}
 use Rattle.ffi_calls.proofs.index_in_place.index_found_in.Goals as goal
 

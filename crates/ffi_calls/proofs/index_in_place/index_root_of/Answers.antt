@@ -1,7 +1,7 @@
 use Rattle.std.proofs.Common.{◌∙◌, subst, sym}
 use Rattle.rkyv_base.specs.Lemmas.Access.{root_viewable}
-use Rattle.rkyv_base.specs.ElementSpec.{Viewable}
-use Rattle.ffi_calls.specs.IndexArchives.{index_map}
+use Rattle.rkyv_base.specs.{Viewable}
+use Rattle.ffi_calls.specs.{index_map}
 use Rattle.ffi_calls.proofs.index_in_place.index_root_of.Goals as goal
 
 pub access_unchecked-requires : goal.access_unchecked-requires

@@ -2,16 +2,13 @@ use Rattle.std.proofs.Common.{◌≡◌, ◌∙◌, ◌+◌, ◌*◌, ◌-◌, �
 use Rattle.std.specs.Int.{byte_len}
 use Rattle.std.specs.Option.{option_map}
 use Rattle.std.specs.Prelude.{MatchOption, slice_set}
-use Rattle.rkyv_scan.specs.Hash.{fx_hasher, low_halves}
-use Rattle.rkyv_base.specs.Entry.{entry_spec}
+use Rattle.rkyv_scan.specs.{fx_hasher, low_halves}
+use Rattle.rkyv_base.specs.{ScalarRepresents, entry_spec, value_pos, with_value}
 use Rattle.rkyv_base.specs.Lemmas.Bytes.{agree_on_part}
-use Rattle.rkyv_base.specs.Scalar.{ScalarRepresents}
-use Rattle.rkyv_base.specs.Sealing.{value_pos, with_value}
-use Rattle.rkyv_keys.specs.Calls.{hash_at}
-use Rattle.rkyv_table.specs.Table.Decoded.{IsDecoded}
-use Rattle.rkyv_index.specs.Index.IndexFormat.{IndexRepresents}
-use Rattle.rkyv_index.specs.Index.IndexLayout.{pair_pos}
-use Rattle.ffi_calls.specs.IndexArchives.{index_in, index_map, value_pos_at}
+use Rattle.rkyv_keys.specs.{hash_at}
+use Rattle.rkyv_table.specs.{IsDecoded}
+use Rattle.rkyv_index.specs.{IndexRepresents, pair_pos}
+use Rattle.ffi_calls.specs.{index_in, index_map, value_pos_at}
 use Rattle.ffi_calls.proofs.Writing.{accepted_again, decoded_again}
 use Rattle.ffi_calls.proofs.index_in_place.set_indexed_in.Goals as goal
 

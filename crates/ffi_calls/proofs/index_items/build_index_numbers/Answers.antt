@@ -1,6 +1,5 @@
 use Rattle.std.proofs.Common.{map}
-use Rattle.ffi_calls.specs.IndexItems.{IndexOfNumbersFails, IsIndexOfNumbers}
-use Rattle.ffi_calls.specs.Keys.{NumberKey}
+use Rattle.ffi_calls.specs.{IndexOfNumbersFails, IsIndexOfNumbers, NumberKey}
 use Rattle.ffi_calls.proofs.StoredArchive.{archive_stored}
 use Rattle.ffi_calls.proofs.index_items.build_index_numbers.Goals as goal
 

@@ -1,6 +1,5 @@
 use Rattle.std.proofs.Common.{MatchResult, map}
-use Rattle.ffi_calls.specs.IndexItems.{IndexOfNumbersFails, IsIndexOfNumbers}
-use Rattle.ffi_calls.specs.Keys.{NumberKey}
+use Rattle.ffi_calls.specs.{IndexOfNumbersFails, IsIndexOfNumbers, NumberKey}
 use Rattle.ffi_calls.proofs.Forms.{at_form}
 use Rattle.ffi_calls.proofs.index_items.numbers_by.Goals as goal
 

@@ -1,6 +1,6 @@
 use Rattle.std.proofs.Common.{inl, inr}
 use Rattle.std.proofs.lemmas.Result.{err_from_is_err_and}
-use Rattle.ffi_calls.specs.IndexItems.{IndexFails, IsIndexOf}
+use Rattle.ffi_calls.specs.{IndexFails, IsIndexOf}
 use Rattle.ffi_calls.proofs.index_items.numbers_in.Goals as goal
 
 pub returns-in-Ok : goal.returns-in-Ok

@@ -1,5 +1,5 @@
 use Rattle.std.proofs.Common.{MatchResult, map}
-use Rattle.ffi_calls.specs.IndexItems.{IndexOfTextsFails, IsIndexOfTexts}
+use Rattle.ffi_calls.specs.{IndexOfTextsFails, IsIndexOfTexts}
 use Rattle.ffi_calls.proofs.Forms.{at_form}
 use Rattle.ffi_calls.proofs.index_items.texts_by.Goals as goal
 

@@ -1,5 +1,5 @@
 use Rattle.std.proofs.Common.{inr}
-use Rattle.ffi_calls.specs.IndexItems.{IndexFails, IsIndexOf}
+use Rattle.ffi_calls.specs.{IndexFails, IsIndexOf}
 use Rattle.ffi_calls.proofs.index_items.texts_in.Goals as goal
 
 pub returns-in-Ok : goal.returns-in-Ok

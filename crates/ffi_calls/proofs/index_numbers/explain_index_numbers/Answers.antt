@@ -1,7 +1,4 @@
-use Rattle.ffi_calls.specs.Archives.{limit_of}
-use Rattle.ffi_calls.specs.Explanation.{Explains}
-use Rattle.ffi_calls.specs.IndexArchives.{number_index}
-use Rattle.ffi_calls.specs.Keys.{NumberKey}
+use Rattle.ffi_calls.specs.{Explains, NumberKey, limit_of, number_index}
 use Rattle.ffi_calls.proofs.Forms.{at_form}
 use Rattle.ffi_calls.proofs.index_numbers.explain_index_numbers.Goals as goal
 

@@ -1,7 +1,4 @@
-use Rattle.ffi_calls.specs.Archives.{IsHeaderOf}
-use Rattle.ffi_calls.specs.IndexArchives.{IsNumberIndex, ReturnsIndexedNumber, number_index_in}
-use Rattle.ffi_calls.specs.IndexLists.{ReturnsFirstIndexedNumber}
-use Rattle.ffi_calls.specs.Keys.{NumberKey}
+use Rattle.ffi_calls.specs.{IsHeaderOf, IsNumberIndex, NumberKey, ReturnsFirstIndexedNumber, ReturnsIndexedNumber, number_index_in}
 use Rattle.ffi_calls.proofs.Forms.{at_form, of_form}
 use Rattle.ffi_calls.proofs.index_numbers.get_index_number.Goals as goal
 

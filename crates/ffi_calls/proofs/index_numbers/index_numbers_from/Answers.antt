@@ -1,8 +1,5 @@
 use Rattle.std.specs.Prelude.{map}
-use Rattle.ffi_calls.specs.Archives.{IsHeaderOf}
-use Rattle.ffi_calls.specs.IndexArchives.{IsNumberIndex, StoresNumbers, number_index_in}
-use Rattle.ffi_calls.specs.IndexLists.{StoresListedNumbers}
-use Rattle.ffi_calls.specs.Keys.{NumberKey}
+use Rattle.ffi_calls.specs.{IsHeaderOf, IsNumberIndex, NumberKey, StoresListedNumbers, StoresNumbers, number_index_in}
 use Rattle.ffi_calls.proofs.Forms.{at_form, of_form}
 use Rattle.ffi_calls.proofs.index_numbers.index_numbers_from.Goals as goal
 

@@ -1,7 +1,5 @@
 use Rattle.std.proofs.Common.{◌≡◌}
-use Rattle.ffi_calls.specs.Archives.{Opens, limit_of}
-use Rattle.ffi_calls.specs.IndexArchives.{IsNumberIndex, number_index}
-use Rattle.ffi_calls.specs.Keys.{NumberKey}
+use Rattle.ffi_calls.specs.{IsNumberIndex, NumberKey, Opens, limit_of, number_index}
 use Rattle.ffi_calls.proofs.Forms.{at_form}
 use Rattle.ffi_calls.proofs.index_numbers.open_index_numbers.Goals as goal
 

@@ -1,7 +1,4 @@
-use Rattle.ffi_calls.specs.Archives.{KeepsHeader}
-use Rattle.ffi_calls.specs.IndexArchives.{IsNumberIndex, number_index_in}
-use Rattle.ffi_calls.specs.IndexInPlace.{SetsFirstIndexedNumber, SetsIndexedNumber}
-use Rattle.ffi_calls.specs.Keys.{NumberKey}
+use Rattle.ffi_calls.specs.{IsNumberIndex, KeepsHeader, NumberKey, SetsFirstIndexedNumber, SetsIndexedNumber, number_index_in}
 use Rattle.ffi_calls.proofs.Forms.{at_form, of_form}
 use Rattle.ffi_calls.proofs.index_numbers.set_index_number.Goals as goal
 

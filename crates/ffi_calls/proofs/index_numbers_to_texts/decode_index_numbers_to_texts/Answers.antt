@@ -1,6 +1,4 @@
-use Rattle.ffi_calls.specs.Archives.{IsHeaderOf}
-use Rattle.ffi_calls.specs.IndexTextValues.{IsNumberTextIndex, number_text_index_in}
-use Rattle.ffi_calls.specs.Keys.{NumberKey}
+use Rattle.ffi_calls.specs.{IsHeaderOf, IsNumberTextIndex, NumberKey, number_text_index_in}
 use Rattle.ffi_calls.proofs.Forms.{at_flag, of_flag}
 use Rattle.ffi_calls.proofs.index_numbers_to_texts.decode_index_numbers_to_texts.Goals as goal
 

@@ -1,6 +1,4 @@
-use Rattle.ffi_calls.specs.Archives.{IsHeaderOf}
-use Rattle.ffi_calls.specs.IndexTextValues.{IsNumberTextIndex, ReturnsFirstIndexedTextOfNumber, ReturnsIndexedTextOfNumber, number_text_index_in}
-use Rattle.ffi_calls.specs.Keys.{NumberKey}
+use Rattle.ffi_calls.specs.{IsHeaderOf, IsNumberTextIndex, NumberKey, ReturnsFirstIndexedTextOfNumber, ReturnsIndexedTextOfNumber, number_text_index_in}
 use Rattle.ffi_calls.proofs.Forms.{at_flag, of_flag}
 use Rattle.ffi_calls.proofs.index_numbers_to_texts.get_index_text_of_number.Goals as goal
 

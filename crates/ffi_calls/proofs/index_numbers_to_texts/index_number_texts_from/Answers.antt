@@ -1,7 +1,5 @@
 use Rattle.std.specs.Prelude.{map}
-use Rattle.ffi_calls.specs.Archives.{IsHeaderOf}
-use Rattle.ffi_calls.specs.IndexTextValues.{IsNumberTextIndex, StoresListedNumberTexts, StoresNumberTexts, number_text_index_in}
-use Rattle.ffi_calls.specs.Keys.{NumberKey}
+use Rattle.ffi_calls.specs.{IsHeaderOf, IsNumberTextIndex, NumberKey, StoresListedNumberTexts, StoresNumberTexts, number_text_index_in}
 use Rattle.ffi_calls.proofs.Forms.{at_flag, of_flag}
 use Rattle.ffi_calls.proofs.index_numbers_to_texts.index_number_texts_from.Goals as goal
 

@@ -1,7 +1,5 @@
 use Rattle.std.specs.Prelude.{◌≡◌}
-use Rattle.ffi_calls.specs.Archives.{Opens, limit_of}
-use Rattle.ffi_calls.specs.IndexTextValues.{IsNumberTextIndex, number_text_index}
-use Rattle.ffi_calls.specs.Keys.{NumberKey}
+use Rattle.ffi_calls.specs.{IsNumberTextIndex, NumberKey, Opens, limit_of, number_text_index}
 use Rattle.ffi_calls.proofs.Forms.{at_flag}
 use Rattle.ffi_calls.proofs.index_numbers_to_texts.open_index_numbers_to_texts.Goals as goal
 

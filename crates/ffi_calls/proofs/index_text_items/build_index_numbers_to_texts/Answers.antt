@@ -1,6 +1,5 @@
 use Rattle.std.proofs.Common.{map}
-use Rattle.ffi_calls.specs.Keys.{NumberKey}
-use Rattle.ffi_calls.specs.IndexTextValues.{IndexOfNumberTextsFails, IsIndexOfNumberTexts}
+use Rattle.ffi_calls.specs.{IndexOfNumberTextsFails, IsIndexOfNumberTexts, NumberKey}
 use Rattle.ffi_calls.proofs.StoredArchive.{archive_stored}
 use Rattle.ffi_calls.proofs.index_text_items.build_index_numbers_to_texts.Goals as goal
 

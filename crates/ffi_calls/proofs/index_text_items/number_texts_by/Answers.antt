@@ -1,6 +1,5 @@
 use Rattle.std.specs.Prelude.{MatchResult, map}
-use Rattle.ffi_calls.specs.IndexTextValues.{IndexOfNumberTextsFails, IsIndexOfNumberTexts}
-use Rattle.ffi_calls.specs.Keys.{NumberKey}
+use Rattle.ffi_calls.specs.{IndexOfNumberTextsFails, IsIndexOfNumberTexts, NumberKey}
 use Rattle.ffi_calls.proofs.Forms.{at_flag}
 use Rattle.ffi_calls.proofs.index_text_items.number_texts_by.Goals as goal
 

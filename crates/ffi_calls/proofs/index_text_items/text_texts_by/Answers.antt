@@ -1,5 +1,5 @@
 use Rattle.std.specs.Prelude.{MatchResult, map}
-use Rattle.ffi_calls.specs.IndexTextValues.{IndexOfTextTextsFails, IsIndexOfTextTexts}
+use Rattle.ffi_calls.specs.{IndexOfTextTextsFails, IsIndexOfTextTexts}
 use Rattle.ffi_calls.proofs.Forms.{at_flag}
 use Rattle.ffi_calls.proofs.index_text_items.text_texts_by.Goals as goal
 

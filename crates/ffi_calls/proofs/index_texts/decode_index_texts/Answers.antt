@@ -1,5 +1,4 @@
-use Rattle.ffi_calls.specs.Archives.{IsHeaderOf}
-use Rattle.ffi_calls.specs.IndexArchives.{IsTextIndex, text_index_in}
+use Rattle.ffi_calls.specs.{IsHeaderOf, IsTextIndex, text_index_in}
 use Rattle.ffi_calls.proofs.Forms.{at_form, of_form}
 use Rattle.ffi_calls.proofs.index_texts.decode_index_texts.Goals as goal
 

@@ -1,6 +1,4 @@
-use Rattle.ffi_calls.specs.Archives.{limit_of}
-use Rattle.ffi_calls.specs.Explanation.{Explains}
-use Rattle.ffi_calls.specs.IndexArchives.{text_index}
+use Rattle.ffi_calls.specs.{Explains, limit_of, text_index}
 use Rattle.ffi_calls.proofs.Forms.{at_form}
 use Rattle.ffi_calls.proofs.index_texts.explain_index_texts.Goals as goal
 

@@ -1,6 +1,5 @@
 use Rattle.std.proofs.Common.{inl, inr, refl, subst}
-use Rattle.ffi_calls.specs.IndexArchives.{ReturnsIndexedText}
-use Rattle.ffi_calls.specs.IndexLists.{ReturnsFirstIndexedText}
+use Rattle.ffi_calls.specs.{ReturnsFirstIndexedText, ReturnsIndexedText}
 use Rattle.ffi_calls.proofs.index_texts.get_index_text.Goals as goal
 
 pub returns-in-Some-clause-outcome : goal.returns-in-Some-clause-outcome

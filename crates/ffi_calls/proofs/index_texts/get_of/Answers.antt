@@ -1,6 +1,4 @@
-use Rattle.ffi_calls.specs.Archives.{IsHeaderOf}
-use Rattle.ffi_calls.specs.IndexArchives.{IsTextIndex, ReturnsIndexedText, text_index_in}
-use Rattle.ffi_calls.specs.IndexLists.{ReturnsFirstIndexedText}
+use Rattle.ffi_calls.specs.{IsHeaderOf, IsTextIndex, ReturnsFirstIndexedText, ReturnsIndexedText, text_index_in}
 use Rattle.ffi_calls.proofs.Forms.{at_form, of_form}
 use Rattle.ffi_calls.proofs.index_texts.get_of.Goals as goal
 

@@ -1,7 +1,5 @@
 use Rattle.std.specs.Prelude.{map}
-use Rattle.ffi_calls.specs.Archives.{IsHeaderOf}
-use Rattle.ffi_calls.specs.IndexArchives.{IsTextIndex, StoresTexts, text_index_in}
-use Rattle.ffi_calls.specs.IndexLists.{StoresListedTexts}
+use Rattle.ffi_calls.specs.{IsHeaderOf, IsTextIndex, StoresListedTexts, StoresTexts, text_index_in}
 use Rattle.ffi_calls.proofs.Forms.{at_form, of_form}
 use Rattle.ffi_calls.proofs.index_texts.index_texts_from.Goals as goal
 

@@ -1,6 +1,5 @@
 use Rattle.std.proofs.Common.{◌≡◌}
-use Rattle.ffi_calls.specs.Archives.{Opens, limit_of}
-use Rattle.ffi_calls.specs.IndexArchives.{IsTextIndex, text_index}
+use Rattle.ffi_calls.specs.{IsTextIndex, Opens, limit_of, text_index}
 use Rattle.ffi_calls.proofs.Forms.{at_form}
 use Rattle.ffi_calls.proofs.index_texts.open_index_texts.Goals as goal
 

@@ -1,5 +1,5 @@
 use Rattle.std.proofs.Common.{inl, inr, refl, subst}
-use Rattle.ffi_calls.specs.IndexInPlace.{SetsFirstIndexedText, SetsIndexedText}
+use Rattle.ffi_calls.specs.{SetsFirstIndexedText, SetsIndexedText}
 use Rattle.ffi_calls.proofs.index_texts.set_index_text.Goals as goal
 
 pub returns-in-Some-clause-sets : goal.returns-in-Some-clause-sets

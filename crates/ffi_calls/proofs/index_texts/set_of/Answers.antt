@@ -1,6 +1,4 @@
-use Rattle.ffi_calls.specs.Archives.{KeepsHeader}
-use Rattle.ffi_calls.specs.IndexArchives.{IsTextIndex, text_index_in}
-use Rattle.ffi_calls.specs.IndexInPlace.{SetsFirstIndexedText, SetsIndexedText}
+use Rattle.ffi_calls.specs.{IsTextIndex, KeepsHeader, SetsFirstIndexedText, SetsIndexedText, text_index_in}
 use Rattle.ffi_calls.proofs.Forms.{at_form, of_form}
 use Rattle.ffi_calls.proofs.index_texts.set_of.Goals as goal
 

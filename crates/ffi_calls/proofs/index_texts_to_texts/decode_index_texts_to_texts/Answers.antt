@@ -1,5 +1,4 @@
-use Rattle.ffi_calls.specs.Archives.{IsHeaderOf}
-use Rattle.ffi_calls.specs.IndexTextValues.{IsTextTextIndex, text_text_index_in}
+use Rattle.ffi_calls.specs.{IsHeaderOf, IsTextTextIndex, text_text_index_in}
 use Rattle.ffi_calls.proofs.Forms.{at_flag, of_flag}
 use Rattle.ffi_calls.proofs.index_texts_to_texts.decode_index_texts_to_texts.Goals as goal
 

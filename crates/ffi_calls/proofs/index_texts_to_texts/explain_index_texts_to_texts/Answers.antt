@@ -1,6 +1,4 @@
-use Rattle.ffi_calls.specs.Archives.{limit_of}
-use Rattle.ffi_calls.specs.Explanation.{Explains}
-use Rattle.ffi_calls.specs.IndexTextValues.{text_text_index}
+use Rattle.ffi_calls.specs.{Explains, limit_of, text_text_index}
 use Rattle.ffi_calls.proofs.Forms.{at_flag}
 use Rattle.ffi_calls.proofs.index_texts_to_texts.explain_index_texts_to_texts.Goals as goal
 

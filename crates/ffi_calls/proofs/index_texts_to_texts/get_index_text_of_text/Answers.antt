@@ -1,5 +1,5 @@
 use Rattle.std.proofs.Common.{inl, inr, refl, subst}
-use Rattle.ffi_calls.specs.IndexTextValues.{ReturnsFirstIndexedTextOfText, ReturnsIndexedTextOfText}
+use Rattle.ffi_calls.specs.{ReturnsFirstIndexedTextOfText, ReturnsIndexedTextOfText}
 use Rattle.ffi_calls.proofs.index_texts_to_texts.get_index_text_of_text.Goals as goal
 
 pub returns-in-Some-clause-outcome : goal.returns-in-Some-clause-outcome

@@ -1,6 +1,5 @@
 use Rattle.std.specs.Prelude.{map}
-use Rattle.ffi_calls.specs.Archives.{IsHeaderOf}
-use Rattle.ffi_calls.specs.IndexTextValues.{IsTextTextIndex, StoresListedTextTexts, StoresTextTexts, text_text_index_in}
+use Rattle.ffi_calls.specs.{IsHeaderOf, IsTextTextIndex, StoresListedTextTexts, StoresTextTexts, text_text_index_in}
 use Rattle.ffi_calls.proofs.Forms.{at_flag, of_flag}
 use Rattle.ffi_calls.proofs.index_texts_to_texts.index_text_texts_from.Goals as goal
 

@@ -1,6 +1,5 @@
 use Rattle.std.specs.Prelude.{◌≡◌}
-use Rattle.ffi_calls.specs.Archives.{Opens, limit_of}
-use Rattle.ffi_calls.specs.IndexTextValues.{IsTextTextIndex, text_text_index}
+use Rattle.ffi_calls.specs.{IsTextTextIndex, Opens, limit_of, text_text_index}
 use Rattle.ffi_calls.proofs.Forms.{at_flag}
 use Rattle.ffi_calls.proofs.index_texts_to_texts.open_index_texts_to_texts.Goals as goal
 

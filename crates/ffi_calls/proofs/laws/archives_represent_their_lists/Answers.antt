@@ -1,4 +1,4 @@
-use Rattle.ffi_calls.specs.Lists.{IsArchiveOf}
+use Rattle.ffi_calls.specs.{IsArchiveOf}
 use Rattle.ffi_calls.proofs.laws.archives_represent_their_lists.Goals as goal
 
 pub returns : goal.returns

@@ -1,4 +1,4 @@
-use Rattle.ffi_calls.specs.IndexItems.{IsIndexOf}
+use Rattle.ffi_calls.specs.{IsIndexOf}
 use Rattle.ffi_calls.proofs.laws.indexes_represent_their_lists.Goals as goal
 
 pub returns : goal.returns

@@ -1,4 +1,4 @@
-use Rattle.ffi_calls.specs.SetItems.{IsSetArchive}
+use Rattle.ffi_calls.specs.{IsSetArchive}
 use Rattle.ffi_calls.proofs.laws.set_archives_represent_their_lists.Goals as goal
 
 pub returns : goal.returns

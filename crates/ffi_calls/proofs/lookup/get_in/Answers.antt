@@ -1,5 +1,5 @@
 use Rattle.std.proofs.Common.{None, Some, refl, subst}
-use Rattle.ffi_calls.specs.Archives.{ReturnsAt}
+use Rattle.ffi_calls.specs.{ReturnsAt}
 use Rattle.ffi_calls.proofs.AtViews.{there}
 use Rattle.ffi_calls.proofs.First.{first_returned, none_returned}
 use Rattle.ffi_calls.proofs.lookup.get_in.Goals as goal

@@ -1,18 +1,13 @@
 use Rattle.std.proofs.Common.{◌≡◌, ℕ, ◌∙◌, List, sym}
 use Rattle.std.specs.Option.{option_map}
-use Rattle.rkyv_scan.specs.Groups.{generic_kind}
-use Rattle.rkyv_scan.specs.Hash.{fx_hasher, low_halves}
-use Rattle.rkyv_base.specs.Entry.{entry_spec}
-use Rattle.rkyv_base.specs.Sealing.{value_pos}
-use Rattle.rkyv_table.specs.Table.Positions.{pos_found}
-use Rattle.rkyv_base.specs.View.{pos_of_found}
+use Rattle.rkyv_scan.specs.{fx_hasher, generic_kind, low_halves}
+use Rattle.rkyv_base.specs.{entry_spec, pos_of_found, value_pos}
+use Rattle.rkyv_table.specs.{pos_found}
 use Rattle.rkyv_table.proofs.Moved.{moved}
 use Rattle.rkyv_collections.proofs.SealedMap.{as_read}
-use Rattle.rkyv_keys.specs.FirstPairs.{first_value}
-use Rattle.rkyv_keys.specs.Calls.{hash_at}
-use Rattle.rkyv_collections.specs.Map.{map_bytes, map_pos}
-use Rattle.rkyv_collections.specs.Map.MapFormat.{MapRepresents}
-use Rattle.ffi_calls.specs.Archives.{hash_by, root}
+use Rattle.rkyv_keys.specs.{first_value, hash_at}
+use Rattle.rkyv_collections.specs.{MapRepresents, map_bytes, map_pos}
+use Rattle.ffi_calls.specs.{hash_by, root}
 use Rattle.ffi_calls.proofs.First.{found_placed, found_viewable}
 use Rattle.ffi_calls.proofs.lookup.value_pos_in.Goals as goal
 

@@ -1,6 +1,5 @@
 use Rattle.std.proofs.Common.{map}
-use Rattle.ffi_calls.specs.Items.{ArchiveOfNumbersFails, IsArchiveOfNumbers}
-use Rattle.ffi_calls.specs.Keys.{NumberKey}
+use Rattle.ffi_calls.specs.{ArchiveOfNumbersFails, IsArchiveOfNumbers, NumberKey}
 use Rattle.ffi_calls.proofs.StoredArchive.{archive_stored}
 use Rattle.ffi_calls.proofs.number_items.build_numbers.Goals as goal
 

@@ -1,5 +1,5 @@
 use Rattle.std.proofs.Common.{◌∙◌, ap, arith, inr, map, refl}
-use Rattle.ffi_calls.specs.Items.{NumberFits, number_pair}
+use Rattle.ffi_calls.specs.{NumberFits, number_pair}
 use Rattle.ffi_calls.proofs.Collected.{all_read, item_there, nothing_yet, one_read, same_pair}
 use Rattle.ffi_calls.proofs.number_items.pairs_of.Goals as goal
 

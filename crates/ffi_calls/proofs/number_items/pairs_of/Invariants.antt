@@ -1,5 +1,5 @@
 use Rattle.std.proofs.Common.{map}
-use Rattle.ffi_calls.specs.Items.{NumberFits, number_pair}
+use Rattle.ffi_calls.specs.{NumberFits, number_pair}
 use Rattle.ffi_calls.proofs.Collected.{Collected}
 use Rattle.ffi_calls.proofs.number_items.pairs_of.Given as goal
 

@@ -1,6 +1,5 @@
 use Rattle.std.specs.Prelude.{MatchResult}
-use Rattle.ffi_calls.specs.SetItems.{ArchiveOfNumberSetFails, IsArchiveOfNumberSet}
-use Rattle.ffi_calls.specs.Keys.{NumberKey}
+use Rattle.ffi_calls.specs.{ArchiveOfNumberSetFails, IsArchiveOfNumberSet, NumberKey}
 use Rattle.ffi_calls.proofs.Forms.{at_flag}
 use Rattle.ffi_calls.proofs.number_sets.archive_by.Goals as goal
 

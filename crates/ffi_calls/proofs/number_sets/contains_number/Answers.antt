@@ -1,6 +1,4 @@
-use Rattle.ffi_calls.specs.Archives.{IsHeaderOf}
-use Rattle.ffi_calls.specs.Sets.{FindsListedNumber, FindsNumber, IsNumberSet, number_set_in}
-use Rattle.ffi_calls.specs.Keys.{NumberKey}
+use Rattle.ffi_calls.specs.{FindsListedNumber, FindsNumber, IsHeaderOf, IsNumberSet, NumberKey, number_set_in}
 use Rattle.ffi_calls.proofs.Forms.{at_flag, of_flag}
 use Rattle.ffi_calls.proofs.number_sets.contains_number.Goals as goal
 

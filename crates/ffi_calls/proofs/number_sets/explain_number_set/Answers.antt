@@ -1,7 +1,4 @@
-use Rattle.ffi_calls.specs.Archives.{limit_of}
-use Rattle.ffi_calls.specs.Explanation.{Explains}
-use Rattle.ffi_calls.specs.Sets.{number_set}
-use Rattle.ffi_calls.specs.Keys.{NumberKey}
+use Rattle.ffi_calls.specs.{Explains, NumberKey, limit_of, number_set}
 use Rattle.ffi_calls.proofs.Forms.{at_flag}
 use Rattle.ffi_calls.proofs.number_sets.explain_number_set.Goals as goal
 

@@ -1,7 +1,5 @@
 use Rattle.std.specs.Prelude.{map}
-use Rattle.ffi_calls.specs.Archives.{IsHeaderOf}
-use Rattle.ffi_calls.specs.Sets.{IsNumberSet, StoresNextNumberMembers, number_set_in}
-use Rattle.ffi_calls.specs.Keys.{NumberKey}
+use Rattle.ffi_calls.specs.{IsHeaderOf, IsNumberSet, NumberKey, StoresNextNumberMembers, number_set_in}
 use Rattle.ffi_calls.proofs.Forms.{at_flag, of_flag}
 use Rattle.ffi_calls.proofs.number_sets.next_number_members.Goals as goal
 

@@ -1,7 +1,5 @@
 use Rattle.std.specs.Prelude.{◌≡◌}
-use Rattle.ffi_calls.specs.Archives.{Opens, limit_of}
-use Rattle.ffi_calls.specs.Sets.{IsNumberSet, number_set}
-use Rattle.ffi_calls.specs.Keys.{NumberKey}
+use Rattle.ffi_calls.specs.{IsNumberSet, NumberKey, Opens, limit_of, number_set}
 use Rattle.ffi_calls.proofs.Forms.{at_flag}
 use Rattle.ffi_calls.proofs.number_sets.open_number_set.Goals as goal
 

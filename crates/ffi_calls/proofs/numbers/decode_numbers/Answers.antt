@@ -1,5 +1,4 @@
-use Rattle.ffi_calls.specs.Archives.{IsHeaderOf, IsNumberArchive, numbers_in}
-use Rattle.ffi_calls.specs.Keys.{NumberKey}
+use Rattle.ffi_calls.specs.{IsHeaderOf, IsNumberArchive, NumberKey, numbers_in}
 use Rattle.ffi_calls.proofs.Forms.{at_form, of_form}
 use Rattle.ffi_calls.proofs.numbers.decode_numbers.Goals as goal
 

@@ -1,6 +1,4 @@
-use Rattle.ffi_calls.specs.Archives.{limit_of, number_map}
-use Rattle.ffi_calls.specs.Explanation.{Explains}
-use Rattle.ffi_calls.specs.Keys.{NumberKey}
+use Rattle.ffi_calls.specs.{Explains, NumberKey, limit_of, number_map}
 use Rattle.ffi_calls.proofs.Forms.{at_form}
 use Rattle.ffi_calls.proofs.numbers.explain_numbers.Goals as goal
 

@@ -1,7 +1,4 @@
-use Rattle.ffi_calls.specs.Archives.{IsHeaderOf, IsNumberArchive, numbers_in}
-use Rattle.ffi_calls.specs.Calls.{ReturnsNumber}
-use Rattle.ffi_calls.specs.Listed.{ReturnsFirstNumber}
-use Rattle.ffi_calls.specs.Keys.{NumberKey}
+use Rattle.ffi_calls.specs.{IsHeaderOf, IsNumberArchive, NumberKey, ReturnsFirstNumber, ReturnsNumber, numbers_in}
 use Rattle.ffi_calls.proofs.Forms.{at_form, of_form}
 use Rattle.ffi_calls.proofs.numbers.get_number.Goals as goal
 

@@ -1,7 +1,5 @@
 use Rattle.std.specs.Prelude.{map}
-use Rattle.ffi_calls.specs.Archives.{IsHeaderOf, IsNumberArchive, numbers_in}
-use Rattle.ffi_calls.specs.Calls.{StoresNextNumbers}
-use Rattle.ffi_calls.specs.Keys.{NumberKey}
+use Rattle.ffi_calls.specs.{IsHeaderOf, IsNumberArchive, NumberKey, StoresNextNumbers, numbers_in}
 use Rattle.ffi_calls.proofs.Forms.{at_form, of_form}
 use Rattle.ffi_calls.proofs.numbers.next_numbers.Goals as goal
 

@@ -1,6 +1,5 @@
 use Rattle.std.proofs.Common.{◌≡◌}
-use Rattle.ffi_calls.specs.Archives.{IsNumberArchive, Opens, limit_of, number_map}
-use Rattle.ffi_calls.specs.Keys.{NumberKey}
+use Rattle.ffi_calls.specs.{IsNumberArchive, NumberKey, Opens, limit_of, number_map}
 use Rattle.ffi_calls.proofs.Forms.{at_form}
 use Rattle.ffi_calls.proofs.numbers.open_numbers.Goals as goal
 

@@ -1,7 +1,4 @@
-use Rattle.ffi_calls.specs.Archives.{IsNumberArchive, KeepsHeader, numbers_in}
-use Rattle.ffi_calls.specs.Calls.{SetsNumber}
-use Rattle.ffi_calls.specs.Listed.{SetsFirstNumber}
-use Rattle.ffi_calls.specs.Keys.{NumberKey}
+use Rattle.ffi_calls.specs.{IsNumberArchive, KeepsHeader, NumberKey, SetsFirstNumber, SetsNumber, numbers_in}
 use Rattle.ffi_calls.proofs.Forms.{at_form, of_form}
 use Rattle.ffi_calls.proofs.numbers.set_number.Goals as goal
 

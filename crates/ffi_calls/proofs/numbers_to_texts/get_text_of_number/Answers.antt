@@ -1,6 +1,4 @@
-use Rattle.ffi_calls.specs.Archives.{IsHeaderOf}
-use Rattle.ffi_calls.specs.TextValues.{IsNumberTextArchive, ReturnsFirstTextOfNumber, ReturnsTextOfNumber, number_texts_in}
-use Rattle.ffi_calls.specs.Keys.{NumberKey}
+use Rattle.ffi_calls.specs.{IsHeaderOf, IsNumberTextArchive, NumberKey, ReturnsFirstTextOfNumber, ReturnsTextOfNumber, number_texts_in}
 use Rattle.ffi_calls.proofs.Forms.{at_flag, of_flag}
 use Rattle.ffi_calls.proofs.numbers_to_texts.get_text_of_number.Goals as goal
 

@@ -1,7 +1,5 @@
 use Rattle.std.specs.Prelude.{map}
-use Rattle.ffi_calls.specs.Archives.{IsHeaderOf}
-use Rattle.ffi_calls.specs.TextValues.{IsNumberTextArchive, StoresNextNumberTexts, number_texts_in}
-use Rattle.ffi_calls.specs.Keys.{NumberKey}
+use Rattle.ffi_calls.specs.{IsHeaderOf, IsNumberTextArchive, NumberKey, StoresNextNumberTexts, number_texts_in}
 use Rattle.ffi_calls.proofs.Forms.{at_flag, of_flag}
 use Rattle.ffi_calls.proofs.numbers_to_texts.next_number_texts.Goals as goal
 

@@ -1,6 +1,5 @@
 use Rattle.std.specs.Prelude.{MatchResult, map}
-use Rattle.ffi_calls.specs.TextItems.{ArchiveOfNumberTextsFails, IsArchiveOfNumberTexts}
-use Rattle.ffi_calls.specs.Keys.{NumberKey}
+use Rattle.ffi_calls.specs.{ArchiveOfNumberTextsFails, IsArchiveOfNumberTexts, NumberKey}
 use Rattle.ffi_calls.proofs.Forms.{at_flag}
 use Rattle.ffi_calls.proofs.numbers_to_texts_items.archive_by.Goals as goal
 

@@ -1,6 +1,5 @@
 use Rattle.std.proofs.Common.{map}
-use Rattle.ffi_calls.specs.Keys.{NumberKey}
-use Rattle.ffi_calls.specs.TextItems.{ArchiveOfNumberTextsFails, IsArchiveOfNumberTexts}
+use Rattle.ffi_calls.specs.{ArchiveOfNumberTextsFails, IsArchiveOfNumberTexts, NumberKey}
 use Rattle.ffi_calls.proofs.StoredArchive.{archive_stored}
 use Rattle.ffi_calls.proofs.numbers_to_texts_items.build_numbers_to_texts.Goals as goal
 

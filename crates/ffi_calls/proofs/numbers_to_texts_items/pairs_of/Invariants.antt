@@ -1,5 +1,5 @@
 use Rattle.std.proofs.Common.{map}
-use Rattle.ffi_calls.specs.TextItems.{NumberTextFits, number_text_image, number_text_model}
+use Rattle.ffi_calls.specs.{NumberTextFits, number_text_image, number_text_model}
 use Rattle.ffi_calls.proofs.Collected.{Collected}
 use Rattle.ffi_calls.proofs.numbers_to_texts_items.pairs_of.Given as goal
 

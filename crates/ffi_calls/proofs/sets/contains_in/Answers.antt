@@ -1,7 +1,7 @@
 use Rattle.std.proofs.Common.{None, refl, subst}
-use Rattle.rkyv_base.specs.Empty.{unit_represents}
-use Rattle.rkyv_table.specs.Table.ItemValues.{with_units}
-use Rattle.ffi_calls.specs.Sets.{IsFoundStatus}
+use Rattle.rkyv_base.specs.{unit_represents}
+use Rattle.rkyv_table.specs.{with_units}
+use Rattle.ffi_calls.specs.{IsFoundStatus}
 use Rattle.ffi_calls.proofs.Members.{found_status, item_found, missing_status}
 use Rattle.ffi_calls.proofs.sets.contains_in.Goals as goal
 

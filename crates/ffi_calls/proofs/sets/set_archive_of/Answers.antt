@@ -1,4 +1,4 @@
-use Rattle.ffi_calls.specs.SetItems.{IsSetArchive, SetArchiveFails}
+use Rattle.ffi_calls.specs.{IsSetArchive, SetArchiveFails}
 use Rattle.ffi_calls.proofs.sets.set_archive_of.Goals as goal
 
 pub returns-in-Ok-clause-ok : goal.returns-in-Ok-clause-ok

@@ -1,5 +1,5 @@
 use Rattle.std.proofs.Common.{MatchResult, map}
-use Rattle.ffi_calls.specs.Items.{ArchiveOfTextsFails, IsArchiveOfTexts}
+use Rattle.ffi_calls.specs.{ArchiveOfTextsFails, IsArchiveOfTexts}
 use Rattle.ffi_calls.proofs.Forms.{at_form}
 use Rattle.ffi_calls.proofs.text_items.archive_by.Goals as goal
 

@@ -1,6 +1,6 @@
 use Rattle.std.proofs.Common.{◌∙◌, [], ◌∷◌, ap, arith, inl, inr, map, refl}
 use Rattle.std.proofs.lemmas.List.{map-append}
-use Rattle.ffi_calls.specs.Items.{TextFits, text_number_model, text_pair}
+use Rattle.ffi_calls.specs.{TextFits, text_number_model, text_pair}
 use Rattle.ffi_calls.proofs.Collected.{all_read, item_there, nothing_yet, one_read, same_pair}
 use Rattle.ffi_calls.proofs.text_items.pairs_of.Goals as goal
 

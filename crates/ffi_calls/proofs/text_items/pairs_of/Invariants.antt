@@ -1,5 +1,5 @@
 use Rattle.std.proofs.Common.{map}
-use Rattle.ffi_calls.specs.Items.{TextFits, text_number_model, text_pair}
+use Rattle.ffi_calls.specs.{TextFits, text_number_model, text_pair}
 use Rattle.ffi_calls.proofs.Collected.{Collected}
 use Rattle.ffi_calls.proofs.text_items.pairs_of.Given as goal
 

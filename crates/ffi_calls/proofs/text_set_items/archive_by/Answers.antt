@@ -1,5 +1,5 @@
 use Rattle.std.specs.Prelude.{MatchResult}
-use Rattle.ffi_calls.specs.SetItems.{ArchiveOfTextSetFails, IsArchiveOfTextSet}
+use Rattle.ffi_calls.specs.{ArchiveOfTextSetFails, IsArchiveOfTextSet}
 use Rattle.ffi_calls.proofs.Forms.{at_flag}
 use Rattle.ffi_calls.proofs.text_set_items.archive_by.Goals as goal
 

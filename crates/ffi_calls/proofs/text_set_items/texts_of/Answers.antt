@@ -1,7 +1,7 @@
 use Rattle.std.proofs.Common.{◌∙◌, [], ◌∷◌, ◌++◌, ap, arith, inr, map, refl}
 use Rattle.std.proofs.lemmas.List.{map-append}
 use Rattle.std.proofs.lemmas.Option.{slice_get-get_or}
-use Rattle.ffi_calls.specs.SetItems.{SetTextFits, set_text_image, set_text_model}
+use Rattle.ffi_calls.specs.{SetTextFits, set_text_image, set_text_model}
 use Rattle.ffi_calls.proofs.Collected.{all_of_them, nothing_yet, one_more}
 use Rattle.ffi_calls.proofs.text_set_items.texts_of.Goals as goal
 

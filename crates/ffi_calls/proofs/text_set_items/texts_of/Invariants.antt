@@ -1,5 +1,5 @@
 use Rattle.std.proofs.Common.{map}
-use Rattle.ffi_calls.specs.SetItems.{SetTextFits, set_text_image, set_text_model}
+use Rattle.ffi_calls.specs.{SetTextFits, set_text_image, set_text_model}
 use Rattle.ffi_calls.proofs.Collected.{Collected}
 use Rattle.ffi_calls.proofs.text_set_items.texts_of.Given as goal
 

@@ -1,5 +1,4 @@
-use Rattle.ffi_calls.specs.Archives.{IsHeaderOf}
-use Rattle.ffi_calls.specs.Sets.{FindsListedText, IsFoundStatus, IsTextSet, member_found, text_set_in}
+use Rattle.ffi_calls.specs.{FindsListedText, IsFoundStatus, IsHeaderOf, IsTextSet, member_found, text_set_in}
 use Rattle.ffi_calls.proofs.Forms.{at_flag, of_flag}
 use Rattle.ffi_calls.proofs.text_sets.contains_of.Goals as goal
 

@@ -1,5 +1,5 @@
 use Rattle.std.proofs.Common.{inl, inr, refl, subst}
-use Rattle.ffi_calls.specs.Sets.{FindsListedText, IsFoundStatus, member_found}
+use Rattle.ffi_calls.specs.{FindsListedText, IsFoundStatus, member_found}
 use Rattle.ffi_calls.proofs.text_sets.contains_text.Goals as goal
 
 pub returns-in-Some-clause-found : goal.returns-in-Some-clause-found

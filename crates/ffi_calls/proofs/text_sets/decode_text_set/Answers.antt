@@ -1,5 +1,4 @@
-use Rattle.ffi_calls.specs.Archives.{IsHeaderOf}
-use Rattle.ffi_calls.specs.Sets.{IsTextSet, text_set_in}
+use Rattle.ffi_calls.specs.{IsHeaderOf, IsTextSet, text_set_in}
 use Rattle.ffi_calls.proofs.Forms.{at_flag, of_flag}
 use Rattle.ffi_calls.proofs.text_sets.decode_text_set.Goals as goal
 

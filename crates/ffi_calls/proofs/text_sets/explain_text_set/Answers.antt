@@ -1,6 +1,4 @@
-use Rattle.ffi_calls.specs.Archives.{limit_of}
-use Rattle.ffi_calls.specs.Explanation.{Explains}
-use Rattle.ffi_calls.specs.Sets.{text_set}
+use Rattle.ffi_calls.specs.{Explains, limit_of, text_set}
 use Rattle.ffi_calls.proofs.Forms.{at_flag}
 use Rattle.ffi_calls.proofs.text_sets.explain_text_set.Goals as goal
 

@@ -1,6 +1,5 @@
 use Rattle.std.specs.Prelude.{map}
-use Rattle.ffi_calls.specs.Archives.{IsHeaderOf}
-use Rattle.ffi_calls.specs.Sets.{IsTextSet, StoresNextTextMembers, text_set_in}
+use Rattle.ffi_calls.specs.{IsHeaderOf, IsTextSet, StoresNextTextMembers, text_set_in}
 use Rattle.ffi_calls.proofs.Forms.{at_flag, of_flag}
 use Rattle.ffi_calls.proofs.text_sets.next_text_members.Goals as goal
 

@@ -1,6 +1,5 @@
 use Rattle.std.specs.Prelude.{◌≡◌}
-use Rattle.ffi_calls.specs.Archives.{Opens, limit_of}
-use Rattle.ffi_calls.specs.Sets.{IsTextSet, text_set}
+use Rattle.ffi_calls.specs.{IsTextSet, Opens, limit_of, text_set}
 use Rattle.ffi_calls.proofs.Forms.{at_flag}
 use Rattle.ffi_calls.proofs.text_sets.open_text_set.Goals as goal
 

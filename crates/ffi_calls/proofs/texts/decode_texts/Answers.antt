@@ -1,4 +1,4 @@
-use Rattle.ffi_calls.specs.Archives.{IsHeaderOf, IsTextArchive, texts_in}
+use Rattle.ffi_calls.specs.{IsHeaderOf, IsTextArchive, texts_in}
 use Rattle.ffi_calls.proofs.Forms.{at_form, of_form}
 use Rattle.ffi_calls.proofs.texts.decode_texts.Goals as goal
 

@@ -1,5 +1,4 @@
-use Rattle.ffi_calls.specs.Archives.{limit_of, text_map}
-use Rattle.ffi_calls.specs.Explanation.{Explains}
+use Rattle.ffi_calls.specs.{Explains, limit_of, text_map}
 use Rattle.ffi_calls.proofs.Forms.{at_form}
 use Rattle.ffi_calls.proofs.texts.explain_texts.Goals as goal
 

@@ -1,7 +1,4 @@
-use Rattle.ffi_calls.specs.Archives.{IsHeaderOf, IsTextArchive, ReturnsAt, texts_in, word_of}
-use Rattle.ffi_calls.specs.Calls.{text_found}
-use Rattle.ffi_calls.specs.Listed.{ReturnsFirstText}
-use Rattle.ffi_calls.specs.Reading.{ReadsWord}
+use Rattle.ffi_calls.specs.{IsHeaderOf, IsTextArchive, ReadsWord, ReturnsAt, ReturnsFirstText, text_found, texts_in, word_of}
 use Rattle.ffi_calls.proofs.Forms.{at_form, of_form}
 use Rattle.ffi_calls.proofs.texts.get_of.Goals as goal
 

@@ -1,8 +1,5 @@
 use Rattle.std.proofs.Common.{inl, inr, refl, subst}
-use Rattle.ffi_calls.specs.Archives.{ReturnsAt, word_of}
-use Rattle.ffi_calls.specs.Calls.{text_found}
-use Rattle.ffi_calls.specs.Listed.{ReturnsFirstText}
-use Rattle.ffi_calls.specs.Reading.{ReadsWord}
+use Rattle.ffi_calls.specs.{ReadsWord, ReturnsAt, ReturnsFirstText, text_found, word_of}
 use Rattle.ffi_calls.proofs.texts.get_text.Goals as goal
 
 pub returns-in-Some-clause-outcome : goal.returns-in-Some-clause-outcome

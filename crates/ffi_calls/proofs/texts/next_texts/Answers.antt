@@ -1,6 +1,5 @@
 use Rattle.std.specs.Prelude.{map}
-use Rattle.ffi_calls.specs.Archives.{IsHeaderOf, IsTextArchive, texts_in}
-use Rattle.ffi_calls.specs.Calls.{StoresNextTexts}
+use Rattle.ffi_calls.specs.{IsHeaderOf, IsTextArchive, StoresNextTexts, texts_in}
 use Rattle.ffi_calls.proofs.Forms.{at_form, of_form}
 use Rattle.ffi_calls.proofs.texts.next_texts.Goals as goal
 

@@ -1,5 +1,5 @@
 use Rattle.std.proofs.Common.{◌≡◌}
-use Rattle.ffi_calls.specs.Archives.{IsTextArchive, Opens, limit_of, text_map}
+use Rattle.ffi_calls.specs.{IsTextArchive, Opens, limit_of, text_map}
 use Rattle.ffi_calls.proofs.Forms.{at_form}
 use Rattle.ffi_calls.proofs.texts.open_texts.Goals as goal
 

@@ -1,6 +1,4 @@
-use Rattle.ffi_calls.specs.Archives.{IsTextArchive, KeepsHeader, Overwrites, texts_in, value_encoding}
-use Rattle.ffi_calls.specs.Calls.{text_found}
-use Rattle.ffi_calls.specs.Listed.{SetsFirstText}
+use Rattle.ffi_calls.specs.{IsTextArchive, KeepsHeader, Overwrites, SetsFirstText, text_found, texts_in, value_encoding}
 use Rattle.ffi_calls.proofs.Forms.{at_form, of_form}
 use Rattle.ffi_calls.proofs.texts.set_of.Goals as goal
 

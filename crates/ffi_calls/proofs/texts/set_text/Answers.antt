@@ -1,7 +1,5 @@
 use Rattle.std.proofs.Common.{inl, inr, refl, subst}
-use Rattle.ffi_calls.specs.Archives.{Overwrites, value_encoding}
-use Rattle.ffi_calls.specs.Calls.{text_found}
-use Rattle.ffi_calls.specs.Listed.{SetsFirstText}
+use Rattle.ffi_calls.specs.{Overwrites, SetsFirstText, text_found, value_encoding}
 use Rattle.ffi_calls.proofs.texts.set_text.Goals as goal
 
 pub returns-in-Some-clause-sets : goal.returns-in-Some-clause-sets

@@ -1,5 +1,4 @@
-use Rattle.ffi_calls.specs.Archives.{IsHeaderOf}
-use Rattle.ffi_calls.specs.TextValues.{IsTextTextArchive, ReturnsFirstTextOfText, ReturnsTextAt, text_of_text_found, text_texts_in}
+use Rattle.ffi_calls.specs.{IsHeaderOf, IsTextTextArchive, ReturnsFirstTextOfText, ReturnsTextAt, text_of_text_found, text_texts_in}
 use Rattle.ffi_calls.proofs.Forms.{at_flag, of_flag}
 use Rattle.ffi_calls.proofs.texts_to_texts.get_of.Goals as goal
 

@@ -1,5 +1,5 @@
 use Rattle.std.proofs.Common.{inl, inr, refl, subst}
-use Rattle.ffi_calls.specs.TextValues.{ReturnsFirstTextOfText, ReturnsTextAt, text_of_text_found, text_texts_in}
+use Rattle.ffi_calls.specs.{ReturnsFirstTextOfText, ReturnsTextAt, text_of_text_found, text_texts_in}
 use Rattle.ffi_calls.proofs.texts_to_texts.get_text_of_text.Goals as goal
 
 pub returns-in-Some-clause-outcome : goal.returns-in-Some-clause-outcome

@@ -1,6 +1,5 @@
 use Rattle.std.specs.Prelude.{map}
-use Rattle.ffi_calls.specs.Archives.{IsHeaderOf}
-use Rattle.ffi_calls.specs.TextValues.{IsTextTextArchive, StoresNextTextTexts, text_texts_in}
+use Rattle.ffi_calls.specs.{IsHeaderOf, IsTextTextArchive, StoresNextTextTexts, text_texts_in}
 use Rattle.ffi_calls.proofs.Forms.{at_flag, of_flag}
 use Rattle.ffi_calls.proofs.texts_to_texts.next_text_texts.Goals as goal
 

@@ -1,6 +1,5 @@
 use Rattle.std.specs.Prelude.{◌≡◌}
-use Rattle.ffi_calls.specs.Archives.{Opens, limit_of}
-use Rattle.ffi_calls.specs.TextValues.{IsTextTextArchive, text_text_map}
+use Rattle.ffi_calls.specs.{IsTextTextArchive, Opens, limit_of, text_text_map}
 use Rattle.ffi_calls.proofs.Forms.{at_flag}
 use Rattle.ffi_calls.proofs.texts_to_texts.open_texts_to_texts.Goals as goal
 

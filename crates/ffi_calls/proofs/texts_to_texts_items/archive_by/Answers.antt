@@ -1,5 +1,5 @@
 use Rattle.std.specs.Prelude.{MatchResult, map}
-use Rattle.ffi_calls.specs.TextItems.{ArchiveOfTextTextsFails, IsArchiveOfTextTexts}
+use Rattle.ffi_calls.specs.{ArchiveOfTextTextsFails, IsArchiveOfTextTexts}
 use Rattle.ffi_calls.proofs.Forms.{at_flag}
 use Rattle.ffi_calls.proofs.texts_to_texts_items.archive_by.Goals as goal
 

@@ -1,6 +1,6 @@
 use Rattle.std.proofs.Common.{◌∙◌, [], ◌∷◌, ap, arith, inr, map, refl}
 use Rattle.std.proofs.lemmas.List.{map-append}
-use Rattle.ffi_calls.specs.TextItems.{TextTextFits, text_text_image, text_text_model}
+use Rattle.ffi_calls.specs.{TextTextFits, text_text_image, text_text_model}
 use Rattle.ffi_calls.proofs.Collected.{all_read, item_there, nothing_yet, one_read, same_pair}
 use Rattle.ffi_calls.proofs.texts_to_texts_items.pairs_of.Goals as goal
 

@@ -1,5 +1,5 @@
 use Rattle.std.proofs.Common.{map}
-use Rattle.ffi_calls.specs.TextItems.{TextTextFits, text_text_image, text_text_model}
+use Rattle.ffi_calls.specs.{TextTextFits, text_text_image, text_text_model}
 use Rattle.ffi_calls.proofs.Collected.{Collected}
 use Rattle.ffi_calls.proofs.texts_to_texts_items.pairs_of.Given as goal
 

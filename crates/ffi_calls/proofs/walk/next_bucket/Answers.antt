@@ -1,16 +1,12 @@
 use Rattle.std.proofs.Common.{◌≡◌, ℕ, ◌*◌, ◌+◌, ◌-◌, ◌<◌, ◌≤◌, ◌∙◌, List, [], ◌∷◌, ap, arith, length, slice_index, subst, sym}
-use Rattle.rkyv_base.specs.Entry.{entry_spec}
-use Rattle.rkyv_base.specs.ElementSpec.{Viewable}
+use Rattle.rkyv_base.specs.{Viewable, entry_spec}
 use Rattle.rkyv_base.specs.Lemmas.Access.{root_viewable}
 use Rattle.rkyv_base.specs.Lemmas.Entry.{entry_element}
-use Rattle.rkyv_table.specs.Controls.Numbers.{control_count}
-use Rattle.rkyv_table.specs.Controls.Walking.{full_from}
-use Rattle.rkyv_table.specs.Table.Header.{cap_at, controls_pos}
-use Rattle.rkyv_table.specs.Table.Positions.{IsWalked, item_at, table_controls}
+use Rattle.rkyv_table.specs.{IsWalked, cap_at, control_count, controls_pos, full_from, item_at, table_controls}
 use Rattle.rkyv_table.proofs.ValidTable.{controls_inside, item_before, item_viewable}
 use Rattle.rkyv_table.proofs.Walks.{full_end}
-use Rattle.rkyv_collections.specs.Map.MapSpec.{map_spec}
-use Rattle.ffi_calls.specs.Archives.{root}
+use Rattle.rkyv_collections.specs.{map_spec}
+use Rattle.ffi_calls.specs.{root}
 use Rattle.ffi_calls.proofs.walk.next_bucket.Goals as goal
 
 pub returns-then-from-cap-clause-next : goal.returns-then-from-cap-clause-next

@@ -1,5 +1,5 @@
 use Rattle.std.proofs.Common.{◌∙◌, ℕ, ap, refl}
-use Rattle.rkyv_base.specs.Sealing.{value_pos}
+use Rattle.rkyv_base.specs.{value_pos}
 use Rattle.ffi_calls.proofs.AtViews.{there}
 use Rattle.ffi_calls.proofs.walk.next_in.Goals as goal
 

@@ -1,7 +1,6 @@
 use Rattle.std.proofs.Common.{◌≡◌, ◌∙◌, ◌+◌, ◌<◌, ◌≤◌, ap, arith, inl, inr, length, map, slice_set, subst, sym}
 use Rattle.std.proofs.lemmas.List.{length-map, map-set}
-use Rattle.ffi_calls.specs.Archives.{map_in}
-use Rattle.ffi_calls.specs.Walking.{IsPairIn, StoresSteps, buckets_from}
+use Rattle.ffi_calls.specs.{IsPairIn, StoresSteps, buckets_from, map_in}
 use Rattle.ffi_calls.proofs.Together.{Stepped, all_stepped, none_stepped, one_stepped}
 use Rattle.ffi_calls.proofs.walk.next_pairs_in.Goals as goal
 

@@ -1,6 +1,5 @@
 use Rattle.std.proofs.Common.{map}
-use Rattle.ffi_calls.specs.Archives.{map_in}
-use Rattle.ffi_calls.specs.Walking.{IsPairIn, buckets_from}
+use Rattle.ffi_calls.specs.{IsPairIn, buckets_from, map_in}
 use Rattle.ffi_calls.proofs.Together.{Stepped}
 use Rattle.ffi_calls.proofs.walk.next_pairs_in.Given as goal
 

@@ -1,11 +1,8 @@
 use Rattle.std.proofs.Common.{◌≡◌, ℕ, List, arith, length, take, sym, ap, ◌∙◌, Some}
 use Rattle.std.proofs.lemmas.Grind.{common_steps}
-use Rattle.rkyv_base.proofs.FirstMark.{none_marked, some_marked}
+use Rattle.rkyv_base.proofs.FirstMark.{some_marked}
 use lib.Count.{count_trailing_zeros}
 use Rattle.rkyv_base.proofs.byte_search.first_of_eight.Goals as goal
-
-pub returns-then-marks-eq0 : goal.returns-then-marks-eq0
-returns-then-marks-eq0 g c = none_marked g.S.ByteClass.in_class (take 8 c.args.bytes.now) (sym c.mask-marks.ensures ∙ c.if-marks-eq0.true)
 
 pub returns-else-marks-eq0 : goal.returns-else-marks-eq0
 returns-else-marks-eq0 g c =

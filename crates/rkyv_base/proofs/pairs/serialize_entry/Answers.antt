@@ -1,6 +1,6 @@
 use Rattle.std.proofs.Common.{arith, ◌≤◌}
 use Rattle.std.proofs.lemmas.Result.{err_from_is_err_and}
-use Rattle.rkyv_base.specs.Entry.{whole_size}
+use Rattle.rkyv_base.specs.{whole_size}
 use Rattle.rkyv_base.proofs.PairWriting.{key_fails, pair_serialized, value_fails}
 use Rattle.rkyv_base.proofs.pairs.serialize_entry.Goals as goal
 

@@ -1,5 +1,5 @@
 use Rattle.std.proofs.lemmas.Str.{IsUtf8-from_ascii}
-use Rattle.rkyv_base.specs.Text.{inline_text}
+use Rattle.rkyv_base.specs.{inline_text}
 use Rattle.rkyv_base.proofs.text.check_inline_utf8.Goals as goal
 
 pub returns-then-is_inline_ascii : goal.returns-then-is_inline_ascii

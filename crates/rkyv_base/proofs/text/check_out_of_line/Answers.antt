@@ -2,7 +2,7 @@ use Rattle.std.proofs.Common.{rules, ◌∙◌, ap, refl, arith, ◌<◌, FitsSi
 use Rattle.std.specs.Int.{w128}
 use Rattle.std.proofs.lemmas.Int.{to_z-of_z}
 use Rattle.std.proofs.lemmas.Result.{err_from_is_err_and}
-use Rattle.rkyv_base.specs.Text.{is_out_of_line, text_size}
+use Rattle.rkyv_base.specs.{is_out_of_line, text_size}
 use Rattle.rkyv_base.proofs.TextChecking.{is_long, no_text_fails, part_fails, text_passes}
 use Rattle.rkyv_base.proofs.text.check_out_of_line.Goals as goal
 

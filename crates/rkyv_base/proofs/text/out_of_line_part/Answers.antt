@@ -1,7 +1,7 @@
 use Rattle.std.proofs.Common.{rules, ◌≡◌, ◌∙◌, ◌+◌, ℕ, ap, sym, arith, FitsSigned, List, slice_range, pos}
 use Rattle.std.specs.Int.{w128}
 use Rattle.std.proofs.lemmas.Int.{to_z-of_z}
-use Rattle.rkyv_base.specs.Text.{out_of_line_begin, out_of_line_length, fixed_bytes}
+use Rattle.rkyv_base.specs.{fixed_bytes, out_of_line_begin, out_of_line_length}
 use Rattle.rkyv_base.specs.Lemmas.Text.{out_of_line_reads, viewable_out_of_line}
 use Rattle.rkyv_base.proofs.text.out_of_line_part.Goals as goal
 

@@ -1,7 +1,7 @@
 use Rattle.std.proofs.Common.{rules, ◌≡◌, ◌∙◌, ap, ◌+ℤ◌, ℤ, pos, FitsSigned, of_z, to_z}
 use Rattle.std.specs.Int.{byte_len, w64, w128}
 use Rattle.std.proofs.lemmas.Int.{to_z-of_z}
-use Rattle.rkyv_base.specs.Bytes.{signed_at}
+use Rattle.rkyv_base.specs.{signed_at}
 use Rattle.rkyv_base.proofs.text.out_of_line_start.Goals as goal
 
 pub returns : goal.returns

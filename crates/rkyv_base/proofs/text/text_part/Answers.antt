@@ -1,5 +1,5 @@
 use Rattle.std.proofs.Common.{◌∙◌, ap, sym}
-use Rattle.rkyv_base.specs.Text.{fixed_bytes, inline_text, is_out_of_line}
+use Rattle.rkyv_base.specs.{fixed_bytes, inline_text, is_out_of_line}
 use Rattle.rkyv_base.specs.Lemmas.Text.{inline_reads}
 use Rattle.rkyv_base.proofs.text.text_part.Goals as goal
 

@@ -1,6 +1,6 @@
 use Rattle.std.proofs.Common.{refl}
 use Rattle.std.proofs.lemmas.Result.{err_from_is_err_and}
-use Rattle.rkyv_base.specs.Writing.{end_of}
+use Rattle.rkyv_base.specs.{end_of}
 use Rattle.rkyv_base.proofs.Zeros.{aligned_by_zeros, fails_of_zeros}
 use Rattle.rkyv_base.proofs.writer.align_for_in.Goals as goal
 

@@ -8,21 +8,15 @@
 //!
 //! `map::in_place` has a table of all calls that write values.
 ghost use Rattle.std.specs.Prelude.{IfSome, IsSome, IsTrue, drop, length, take, ◌+◌, ◌↔◌, ◌≡◌, ◌≤◌};
-ghost use Rattle.rkyv_base.specs.Seal.{LiesIn, archive_in, bytes_in, pos_in, seal_pos};
-ghost use Rattle.rkyv_base.specs.Sealing.{value_pos, with_value};
-ghost use Rattle.rkyv_base.specs.ElementSpec.{Viewable};
-ghost use Rattle.rkyv_base.specs.View.{IsValidView, bytes_of, pos_of};
-ghost use Rattle.rkyv_table.specs.Table.SealedItems.{CountsDown, LendsArchive, SameArchive};
-ghost use Rattle.rkyv_table.specs.Table.SealedItems.{StaysThere, WrittenBy, cursor_bytes};
-ghost use Rattle.rkyv_table.specs.Table.SealedItems.{cursor_len};
-ghost use Rattle.rkyv_collections.specs.Map.MapSpec.{map_spec};
-ghost use Rattle.rkyv_collections.specs.Map.SealedMap.{IsMapSeal};
-ghost use Rattle.rkyv_collections.specs.Map.SealedPairs.{HasAllPairs, KeepsPairs, KeepsValues};
-ghost use Rattle.rkyv_collections.specs.Map.SealedPairs.{LendsFirstPair, LendsFirstValue};
-ghost use Rattle.rkyv_collections.specs.Map.SealedPairs.{MayWritePair};
-ghost use Rattle.rkyv_collections.specs.Map.SealedPairs.{MayWriteValue, StepsAndWritesPair};
-ghost use Rattle.rkyv_collections.specs.Map.SealedPairs.{StepsAndWritesValue, YieldsKeyPos};
-ghost use Rattle.rkyv_collections.specs.Map.SealedPairs.{YieldsValuePos, entries_in, entries_of};
+ghost use Rattle.rkyv_base.specs.{IsValidView, LiesIn, Viewable, archive_in, bytes_in, bytes_of};
+ghost use Rattle.rkyv_base.specs.{pos_in, pos_of, seal_pos, value_pos, with_value};
+ghost use Rattle.rkyv_table.specs.{CountsDown, LendsArchive, SameArchive, StaysThere, WrittenBy};
+ghost use Rattle.rkyv_table.specs.{cursor_bytes, cursor_len};
+ghost use Rattle.rkyv_collections.specs.{HasAllPairs, IsMapSeal, KeepsPairs, KeepsValues};
+ghost use Rattle.rkyv_collections.specs.{LendsFirstPair, LendsFirstValue, MayWritePair};
+ghost use Rattle.rkyv_collections.specs.{MayWriteValue, StepsAndWritesPair, StepsAndWritesValue};
+ghost use Rattle.rkyv_collections.specs.{YieldsKeyPos, YieldsValuePos, entries_in, entries_of};
+ghost use Rattle.rkyv_collections.specs.{map_spec};
 
 use crate::map::{ArchivedHashMap, HashMapOf};
 use rkyv_base::element::{Element, PartRange};

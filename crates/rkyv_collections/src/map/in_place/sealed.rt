@@ -8,19 +8,12 @@
 //!
 //! A lookup in an untrusted map may read every group of its control bytes once.
 ghost use Rattle.std.specs.Prelude.{IfSome, length, ◌+◌, ◌≡◌, ◌≤◌};
-ghost use Rattle.rkyv_base.specs.Seal.{LiesIn, SealAt, archive_in, bytes_in, pos_in, seal_pos};
-ghost use Rattle.rkyv_base.specs.Sealing.{value_pos};
-ghost use Rattle.rkyv_base.specs.ElementSpec.{Viewable};
-ghost use Rattle.rkyv_base.specs.View.{IsValidView};
-ghost use Rattle.rkyv_collections.specs.Map.{map_bytes, map_pos};
-ghost use Rattle.rkyv_collections.specs.Map.MapAt.{FoundKeyHasAt};
-ghost use Rattle.rkyv_collections.specs.Map.SealedMap.{IsKeyPosIn, IsMapSeal, IsPairSeal};
-ghost use Rattle.rkyv_collections.specs.Map.SealedMap.{IsPairSealAt};
-ghost use Rattle.rkyv_collections.specs.Map.SealedMap.{IsValueSeal, IsValueSealAt};
-ghost use Rattle.rkyv_collections.specs.Map.SealedMap.{CanCompareKeysIn};
-ghost use Rattle.rkyv_collections.specs.Map.SealedMap.{FoundByHasAt, map_sealed};
-ghost use Rattle.rkyv_keys.specs.KeyLookup.{query_of};
-ghost use Rattle.rkyv_keys.specs.Calls.{hash_at, hash_of};
+ghost use Rattle.rkyv_base.specs.{IsValidView, LiesIn, SealAt, Viewable, archive_in, bytes_in};
+ghost use Rattle.rkyv_base.specs.{pos_in, seal_pos, value_pos};
+ghost use Rattle.rkyv_collections.specs.{CanCompareKeysIn, FoundByHasAt, FoundKeyHasAt, IsKeyPosIn};
+ghost use Rattle.rkyv_collections.specs.{IsMapSeal, IsPairSeal, IsPairSealAt, IsValueSeal};
+ghost use Rattle.rkyv_collections.specs.{IsValueSealAt, map_bytes, map_pos, map_sealed};
+ghost use Rattle.rkyv_keys.specs.{hash_at, hash_of, query_of};
 
 use crate::map::{ArchivedHashMap, HashMapOf};
 use rkyv_base::element::Element;

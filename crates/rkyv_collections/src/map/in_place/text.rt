@@ -2,15 +2,10 @@
 //!
 //! `map::in_place` has a table of all calls that write values.
 ghost use Rattle.std.specs.Prelude.{length, ◌+◌, ◌≤◌};
-ghost use Rattle.rkyv_base.specs.SealedText.{Uppercases};
-ghost use Rattle.rkyv_base.specs.ElementSpec.{Viewable};
-ghost use Rattle.rkyv_base.specs.Text.{text_size};
-ghost use Rattle.rkyv_collections.specs.Map.InPlaceText.{UppercasesFirst, UppercasesText};
-ghost use Rattle.rkyv_collections.specs.Map.InPlaceText.{map_to_texts_at};
-ghost use Rattle.rkyv_collections.specs.Map.InPlaceText.{map_to_texts_spec};
-ghost use Rattle.rkyv_collections.specs.Map.MapAt.{query_of_value};
-ghost use Rattle.rkyv_collections.specs.Map.NestedWrites.{WritesParts};
-ghost use Rattle.rkyv_keys.specs.KeyLookup.{query_of};
+ghost use Rattle.rkyv_base.specs.{Uppercases, Viewable, text_size};
+ghost use Rattle.rkyv_collections.specs.{UppercasesFirst, UppercasesText, WritesParts};
+ghost use Rattle.rkyv_collections.specs.{map_to_texts_at, map_to_texts_spec, query_of_value};
+ghost use Rattle.rkyv_keys.specs.{query_of};
 
 use crate::map::ArchivedHashMap;
 use rkyv_base::element::Represents;

@@ -1,9 +1,8 @@
 //! Laws of writes of one value in place.
 
-ghost use Rattle.rkyv_keys.specs.Calls.{hash_at, hash_of};
-ghost use Rattle.rkyv_collections.specs.Map.ValueWrites.{ValueWritesKeepLookups};
-ghost use Rattle.rkyv_collections.specs.Map.ValueWrites.{ValueWritesKeepMaps};
-ghost use Rattle.rkyv_collections.specs.Map.ValueWrites.{ValuesWrittenRepresent};
+ghost use Rattle.rkyv_keys.specs.{hash_at, hash_of};
+ghost use Rattle.rkyv_collections.specs.{ValueWritesKeepLookups, ValueWritesKeepMaps};
+ghost use Rattle.rkyv_collections.specs.{ValuesWrittenRepresent};
 
 use rkyv_base::element::{Element, Represents};
 use rkyv_base::width::Width;

@@ -2,11 +2,8 @@
 //!
 //! A lookup of a native key in a root map that represents a list of pairs finds the value
 //! of the first pair whose key equals it, and `None` if the list has no such pair.
-ghost use Rattle.rkyv_collections.specs.Map.ListArchives.{FoundAreListed};
-ghost use Rattle.rkyv_keys.specs.FirstPairs.{found_scalars};
-ghost use Rattle.rkyv_keys.specs.FirstPairs.{found_texts, found_views};
-ghost use Rattle.rkyv_keys.specs.Natives.{native_keys};
-ghost use Rattle.rkyv_keys.specs.Calls.{hash_at};
+ghost use Rattle.rkyv_collections.specs.{FoundAreListed};
+ghost use Rattle.rkyv_keys.specs.{found_scalars, found_texts, found_views, hash_at, native_keys};
 
 use rkyv_base::element::{HasSpec, Represents};
 use rkyv_base::scalars::Scalar;

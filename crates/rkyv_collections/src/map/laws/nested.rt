@@ -1,11 +1,7 @@
 //! Laws of writes among the parts of a value, as to a map that is the value of another map.
-ghost use Rattle.rkyv_keys.specs.Calls.{hash_at};
-ghost use Rattle.rkyv_keys.specs.Natives.{native_keys};
-ghost use Rattle.rkyv_collections.specs.Map.NestedWrites.{
-  NestedWritesKeepMaps,
-  NestedWritesRepresent,
-  ValueWritesAreNested,
-};
+ghost use Rattle.rkyv_keys.specs.{hash_at, native_keys};
+ghost use Rattle.rkyv_collections.specs.{NestedWritesKeepMaps, NestedWritesRepresent};
+ghost use Rattle.rkyv_collections.specs.{ValueWritesAreNested};
 
 use rkyv_base::element::{Element, Represents};
 use rkyv_base::width::Width;

@@ -1,8 +1,7 @@
 //! The law of written maps, in any archive that contains their bytes.
 
-ghost use Rattle.rkyv_collections.specs.Map.MapFormat.{WrittenMapsRepresent};
-ghost use Rattle.rkyv_keys.specs.Natives.{native_pairs};
-ghost use Rattle.rkyv_collections.specs.Natives.{native_format};
+ghost use Rattle.rkyv_collections.specs.{WrittenMapsRepresent, native_format};
+ghost use Rattle.rkyv_keys.specs.{native_pairs};
 
 use rkyv_base::archive::Archive;
 use rkyv_base::element::Represents;

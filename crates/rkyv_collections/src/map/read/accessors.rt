@@ -3,10 +3,10 @@
 //! `of` decodes the header once. The map is a copy of the view and the numbers, so it can be passed
 //! by value.
 ghost use Rattle.std.specs.Prelude.{IsTrue, ◌↔◌, ◌≡◌};
-ghost use Rattle.rkyv_base.specs.View.{IsAt, IsValidView, bytes_of, pos_of};
-ghost use Rattle.rkyv_table.specs.Table.Decoded.{IsDecoded};
-ghost use Rattle.rkyv_collections.specs.Map.{map_archive, map_bytes, map_cap, map_len, map_pos};
-ghost use Rattle.rkyv_collections.specs.Map.MapSpec.{map_spec};
+ghost use Rattle.rkyv_base.specs.{IsAt, IsValidView, bytes_of, pos_of};
+ghost use Rattle.rkyv_table.specs.{IsDecoded};
+ghost use Rattle.rkyv_collections.specs.{map_archive, map_bytes, map_cap, map_len, map_pos};
+ghost use Rattle.rkyv_collections.specs.{map_spec};
 
 use crate::map::{ArchivedHashMap, HashMapOf};
 use rkyv_base::element::Element;

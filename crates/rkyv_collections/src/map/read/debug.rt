@@ -1,6 +1,6 @@
 //! Formatting of maps by `Debug`.
-ghost use Rattle.rkyv_base.specs.View.{IsValidView};
-ghost use Rattle.rkyv_collections.specs.Map.MapSpec.{map_spec};
+ghost use Rattle.rkyv_base.specs.{IsValidView};
+ghost use Rattle.rkyv_collections.specs.{map_spec};
 
 use crate::map::{ArchivedHashMap, HashMapOf};
 use rkyv_base::view::View;

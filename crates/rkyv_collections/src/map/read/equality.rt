@@ -3,13 +3,9 @@
 //! `eq_map` compares two maps by lookups, in any order of their pairs. `ElementEq` does the same
 //! for maps that are values.
 ghost use Rattle.std.specs.Prelude.{◌+◌, ◌≡◌};
-ghost use Rattle.rkyv_base.specs.Entry.{value_offset};
-ghost use Rattle.rkyv_base.specs.View.{IsAt, IsValidView, archive_of, pos_of};
-ghost use Rattle.rkyv_keys.specs.AtViews.{at_views};
-ghost use Rattle.rkyv_keys.specs.Calls.{hash_at};
-ghost use Rattle.rkyv_collections.specs.Map.Equality.{finds_same, map_equal};
-ghost use Rattle.rkyv_collections.specs.Map.{map_view};
-ghost use Rattle.rkyv_collections.specs.Map.MapSpec.{map_spec};
+ghost use Rattle.rkyv_base.specs.{IsAt, IsValidView, archive_of, pos_of, value_offset};
+ghost use Rattle.rkyv_keys.specs.{at_views, hash_at};
+ghost use Rattle.rkyv_collections.specs.{finds_same, map_equal, map_spec, map_view};
 
 use crate::map::{ArchivedHashMap, HashMapOf};
 use rkyv_base::view::View;

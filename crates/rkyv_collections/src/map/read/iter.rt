@@ -4,10 +4,9 @@
 //! to the list that the map represents.
 ghost use Rattle.std.specs.Prelude.{length, ◌≡◌};
 ghost use Rattle.std.specs.Iterator.{at_most};
-ghost use Rattle.rkyv_base.specs.Entry.{entry_spec};
-ghost use Rattle.rkyv_table.specs.Table.Hints.{HintsExactly};
-ghost use Rattle.rkyv_collections.specs.Map.{key_positions, map_archive, map_len};
-ghost use Rattle.rkyv_table.specs.Table.PairWalks.{YieldsKey, YieldsPair, YieldsValue};
+ghost use Rattle.rkyv_base.specs.{entry_spec};
+ghost use Rattle.rkyv_table.specs.{HintsExactly, YieldsKey, YieldsPair, YieldsValue};
+ghost use Rattle.rkyv_collections.specs.{key_positions, map_archive, map_len};
 
 use crate::map::ArchivedHashMap;
 use rkyv_base::element::{Element, HasSpec};
@@ -27,7 +26,7 @@ pub struct Iter<'a, K: HasSpec, V: HasSpec, H = FxHasher64, W = Narrow> {
 }
 
 impl<'a, K: HasSpec, V: HasSpec, H, W> Model for Iter<'a, K, V, H, W> {
-    ghost use Rattle.rkyv_base.specs.Entry.{entry_spec};
+    ghost use Rattle.rkyv_base.specs.Entries.{entry_spec};
     ghost use Rattle.rkyv_table.specs.Table.RawItems.{AllValid, ItemsLeft};
 
     ghost Value = { ItemsLeft };

@@ -7,18 +7,13 @@
 //! A lookup in an untrusted map may read every group of its control bytes once.
 //! `FxHasher64` takes no secret key, so it doesn't protect from chosen input.
 ghost use Rattle.std.specs.Prelude.{IfSome, IsSome, Option, Some, ◌<◌, ◌^◌, ◌≡◌, ℕ};
-ghost use Rattle.rkyv_scan.specs.Hash.{hash_of_calls};
-ghost use Rattle.rkyv_base.specs.Entry.{entry_spec};
-ghost use Rattle.rkyv_base.specs.View.{IsAt, IsValidView, archive_of, pos_of};
+ghost use Rattle.rkyv_scan.specs.{hash_of_calls};
+ghost use Rattle.rkyv_base.specs.{IsAt, IsValidView, archive_of, entry_spec, pos_of};
 ghost use Rattle.rkyv_base.specs.declared.view.View.{View};
-ghost use Rattle.rkyv_collections.specs.Map.Lookups.{GetsBy, GetsKey, IsPairOfEntry};
-ghost use Rattle.rkyv_collections.specs.Map.Lookups.{IsValueOfEntry};
-ghost use Rattle.rkyv_collections.specs.Map.Lookups.{FoundKeyHas, entry_part, pair_part};
-ghost use Rattle.rkyv_collections.specs.Map.Lookups.{value_part};
-ghost use Rattle.rkyv_keys.specs.KeyLookup.{query_of};
-ghost use Rattle.rkyv_keys.specs.Calls.{hash_at, hash_of};
-ghost use Rattle.rkyv_collections.specs.Map.{CanCompareKeys, FindsKey, IsFoundAt, IsViewAt};
-ghost use Rattle.rkyv_collections.specs.Map.{map_bytes};
+ghost use Rattle.rkyv_collections.specs.{CanCompareKeys, FindsKey, FoundKeyHas, GetsBy, GetsKey};
+ghost use Rattle.rkyv_collections.specs.{IsFoundAt, IsPairOfEntry, IsValueOfEntry, IsViewAt};
+ghost use Rattle.rkyv_collections.specs.{entry_part, map_bytes, pair_part, value_part};
+ghost use Rattle.rkyv_keys.specs.{hash_at, hash_of, query_of};
 
 use crate::map::ArchivedHashMap;
 use rkyv_base::element::Element;

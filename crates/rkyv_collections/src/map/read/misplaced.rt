@@ -5,10 +5,9 @@
 //!
 //! If the number is 0, each lookup is exact: it finds the one key that the query fits, or none.
 ghost use Rattle.std.specs.Prelude.{◌≡◌};
-ghost use Rattle.rkyv_base.specs.Entry.{entry_spec};
-ghost use Rattle.rkyv_base.specs.View.{IsValidView, bytes_of, pos_of};
-ghost use Rattle.rkyv_keys.specs.Calls.{hash_at};
-ghost use Rattle.rkyv_collections.specs.Map.Misplaced.{CountsKeysUpTo, misplaced_keys};
+ghost use Rattle.rkyv_base.specs.{IsValidView, bytes_of, entry_spec, pos_of};
+ghost use Rattle.rkyv_keys.specs.{hash_at};
+ghost use Rattle.rkyv_collections.specs.{CountsKeysUpTo, misplaced_keys};
 
 use crate::map::ArchivedHashMap;
 use rkyv_base::element::Element;

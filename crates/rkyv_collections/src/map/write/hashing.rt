@@ -1,8 +1,8 @@
 //! Pairs under the hashes of their keys, as the input of a call that writes a table.
 
 ghost use Rattle.std.specs.Prelude.{◌≡◌};
-ghost use Rattle.rkyv_keys.specs.Calls.{hash_of};
-ghost use Rattle.rkyv_collections.specs.Map.HashedPairs.{HashedStep};
+ghost use Rattle.rkyv_keys.specs.{hash_of};
+ghost use Rattle.rkyv_collections.specs.{HashedStep};
 
 use rkyv_base::adapter::EntryAdapter;
 use rkyv_base::lend::Lend;

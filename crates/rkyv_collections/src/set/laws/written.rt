@@ -1,7 +1,7 @@
 //! The law of written sets, in any archive that contains their bytes.
 
-ghost use Rattle.rkyv_keys.specs.Calls.{hash_at, hash_of};
-ghost use Rattle.rkyv_collections.specs.Set.SetFormat.{WrittenSetsRepresent};
+ghost use Rattle.rkyv_keys.specs.{hash_at, hash_of};
+ghost use Rattle.rkyv_collections.specs.{WrittenSetsRepresent};
 
 use rkyv_base::archive::Archive;
 use rkyv_base::element::Represents;

@@ -1,5 +1,5 @@
 use Rattle.std.proofs.Common.{ℕ, sym, subst, arith}
-use Rattle.rkyv_container.specs.Checksum.{DetectsChange}
+use Rattle.rkyv_container.specs.{DetectsChange}
 use Rattle.rkyv_container.proofs.Summing.{all_sums, block_sums, detects_change}
 use Rattle.rkyv_container.proofs.checksum.adler32.Goals as goal
 

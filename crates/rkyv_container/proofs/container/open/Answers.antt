@@ -1,4 +1,4 @@
-use Rattle.rkyv_container.specs.Container.{IsContainer, OpenFails}
+use Rattle.rkyv_container.specs.{IsContainer, OpenFails}
 use Rattle.rkyv_container.proofs.Checking.{err_exact}
 use Rattle.rkyv_container.proofs.Opening.{container_excludes, open_unique, opens_exact}
 use Rattle.rkyv_container.proofs.container.open.Goals as goal

@@ -1,5 +1,5 @@
 use Rattle.std.proofs.Common.{inl}
-use Rattle.rkyv_container.specs.Container.{IsContainer, OpenFails}
+use Rattle.rkyv_container.specs.{IsContainer, OpenFails}
 use Rattle.rkyv_container.proofs.Checking.{err_from}
 use Rattle.rkyv_container.proofs.Opening.{container_from}
 use Rattle.rkyv_container.proofs.container.open_any.Goals as goal

@@ -1,4 +1,4 @@
-use Rattle.rkyv_container.specs.Container.{IsContainerOf, OpenAsFails}
+use Rattle.rkyv_container.specs.{IsContainerOf, OpenAsFails}
 use Rattle.rkyv_container.proofs.Checking.{err_exact}
 use Rattle.rkyv_container.proofs.Opening.{container_of_excludes, open_as_unique, opens_as_exact}
 use Rattle.rkyv_container.proofs.container.open_as.Goals as goal

@@ -1,5 +1,5 @@
 use Rattle.std.proofs.Common.{inl}
-use Rattle.rkyv_container.specs.Container.{IsContainerOf, OpenAsFails}
+use Rattle.rkyv_container.specs.{IsContainerOf, OpenAsFails}
 use Rattle.rkyv_container.proofs.Checking.{err_from}
 use Rattle.rkyv_container.proofs.Opening.{container_from, contents_from}
 use Rattle.rkyv_container.proofs.container.open_expected.Goals as goal

@@ -1,8 +1,7 @@
 use Rattle.std.proofs.Common.{◌≡◌, ℕ, Result, subst, sym}
 use Rattle.std.specs.declared.vec.Vec.{Vec}
 use Rattle.rkyv_base.specs.declared.errors.WriteError.{WriteError}
-use Rattle.rkyv_dict.specs.Built.{Builds, form_of_pairs}
-use Rattle.rkyv_dict.specs.Forms.{pairs_of}
+use Rattle.rkyv_dict.specs.{Builds, form_of_pairs, pairs_of}
 use Rattle.rkyv_dict.specs.declared.form.ArchiveWidth.{ArchiveWidth}
 use Rattle.rkyv_dict.specs.declared.form.ArchiveWidth.TheVariants.{Bits32, Bits64}
 use Rattle.rkyv_dict.specs.declared.form.PairList.{PairList}

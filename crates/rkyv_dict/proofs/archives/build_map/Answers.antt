@@ -1,4 +1,4 @@
-use Rattle.rkyv_dict.specs.Built.{ArchiveFails, IsArchiveOf}
+use Rattle.rkyv_dict.specs.{ArchiveFails, IsArchiveOf}
 use Rattle.rkyv_dict.proofs.archives.build_map.Goals as goal
 
 pub returns : goal.returns

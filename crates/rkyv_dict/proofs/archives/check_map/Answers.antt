@@ -1,8 +1,8 @@
 use Rattle.std.proofs.Common.{◌∙◌, ap}
 use Rattle.std.proofs.lemmas.Result.{err_from_is_err_and}
 use Rattle.rkyv_base.proofs.AtViews.{read_at}
-use Rattle.rkyv_table.specs.Table.Header.{len_at}
-use Rattle.rkyv_dict.specs.Archives.{IsMapArchive, MapValidationFails, pair_count}
+use Rattle.rkyv_table.specs.{len_at}
+use Rattle.rkyv_dict.specs.{IsMapArchive, MapValidationFails, pair_count}
 use Rattle.rkyv_dict.proofs.archives.check_map.Goals as goal
 
 pub returns : goal.returns

@@ -1,7 +1,7 @@
 use Rattle.std.proofs.Common.{◌∙◌}
 use Rattle.rkyv_base.proofs.AtViews.{read_at}
-use Rattle.rkyv_collections.specs.Map.Misplaced.{map_misplaced}
-use Rattle.rkyv_dict.specs.Archives.{hash, keys_misplaced}
+use Rattle.rkyv_collections.specs.{map_misplaced}
+use Rattle.rkyv_dict.specs.{hash, keys_misplaced}
 use Rattle.rkyv_dict.proofs.archives.count_misplaced.Goals as goal
 
 pub returns : goal.returns

@@ -1,5 +1,5 @@
 use Rattle.rkyv_dict.proofs.Roots.{map_root_viewable}
-use Rattle.rkyv_dict.specs.MapTypes.{parts_by}
+use Rattle.rkyv_dict.specs.{parts_by}
 use Rattle.rkyv_dict.proofs.archives.map_of.Goals as goal
 
 pub access_unchecked-requires : goal.access_unchecked-requires

@@ -1,12 +1,11 @@
 use Rattle.std.proofs.Common.{subst, ◌≡◌, ◌++◌, ℕ, Bool, List, Option, IfSome, OnOk, string_bytes}
 use Rattle.std.specs.List.{find}
-use Rattle.rkyv_scan.specs.Groups.{generic_kind}
-use Rattle.rkyv_base.specs.Entry.{entry_spec, value_offset}
+use Rattle.rkyv_scan.specs.{generic_kind}
+use Rattle.rkyv_base.specs.{entry_spec, value_offset}
 use Rattle.rkyv_base.proofs.AtViews.{back_at}
-use Rattle.rkyv_table.specs.Table.Positions.{home_positions, pos_found}
-use Rattle.rkyv_collections.specs.Map.{MapWrittenAt, map_archive}
-use Rattle.rkyv_dict.specs.Archives.{hash, value_line, value_under}
-use Rattle.rkyv_dict.specs.First.{HasHomes, first_under}
+use Rattle.rkyv_table.specs.{home_positions, pos_found}
+use Rattle.rkyv_collections.specs.{MapWrittenAt, map_archive}
+use Rattle.rkyv_dict.specs.{HasHomes, first_under, hash, value_line, value_under}
 use Rattle.rkyv_dict.proofs.Roots.{some_map, text_read}
 use Rattle.rkyv_dict.proofs.archives.push_found.Goals as goal
 

@@ -1,8 +1,8 @@
 use Rattle.std.proofs.Common.{ap, sym, ◌∙◌, ◌≡◌, ◌++◌, ℕ, List, string_bytes}
 use Rattle.std.specs.List.{flat_map}
-use Rattle.rkyv_table.specs.Table.RawItems.{ItemsLeft}
-use Rattle.rkyv_collections.specs.Map.{key_positions, map_archive, map_bytes}
-use Rattle.rkyv_dict.specs.Archives.{line_at}
+use Rattle.rkyv_table.specs.{ItemsLeft}
+use Rattle.rkyv_collections.specs.{key_positions, map_archive, map_bytes}
+use Rattle.rkyv_dict.specs.{line_at}
 use Rattle.rkyv_dict.proofs.Lines.{lines_after}
 use Rattle.rkyv_dict.proofs.archives.push_lines.Goals as goal
 

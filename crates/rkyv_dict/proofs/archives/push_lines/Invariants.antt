@@ -1,7 +1,7 @@
 use Rattle.std.proofs.Common.{◌≡◌, ◌++◌, string_bytes}
 use Rattle.std.specs.List.{flat_map}
-use Rattle.rkyv_collections.specs.Map.{key_positions, map_archive, map_bytes}
-use Rattle.rkyv_dict.specs.Archives.{line_at}
+use Rattle.rkyv_collections.specs.{key_positions, map_archive, map_bytes}
+use Rattle.rkyv_dict.specs.{line_at}
 use Rattle.rkyv_dict.proofs.archives.push_lines.Given as goal
 
 -- the lines of the remaining pairs are the remaining lines

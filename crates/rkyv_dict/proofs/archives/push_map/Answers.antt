@@ -1,11 +1,10 @@
 use Rattle.std.proofs.Common.{ap, ◌∙◌, ◌≡◌, ◌++◌, ℕ, List, append_assoc, codes, decimal, string_bytes}
 use Rattle.std.specs.List.{flat_map}
-use Rattle.rkyv_base.specs.Entry.{entry_spec}
+use Rattle.rkyv_base.specs.{entry_spec}
 use Rattle.rkyv_base.proofs.AtViews.{read_at}
-use Rattle.rkyv_table.specs.Table.Header.{len_at}
-use Rattle.rkyv_table.specs.Table.Positions.{item_positions}
-use Rattle.rkyv_collections.specs.Map.{map_bytes, map_len, map_pos}
-use Rattle.rkyv_dict.specs.Archives.{line, line_at, pair_count, pair_lines, pair_positions}
+use Rattle.rkyv_table.specs.{item_positions, len_at}
+use Rattle.rkyv_collections.specs.{map_bytes, map_len, map_pos}
+use Rattle.rkyv_dict.specs.{line, line_at, pair_count, pair_lines, pair_positions}
 use Rattle.rkyv_dict.proofs.Adding.{on_ok_map}
 use Rattle.rkyv_dict.proofs.archives.push_map.Goals as goal
 

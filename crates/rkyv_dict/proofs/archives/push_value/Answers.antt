@@ -1,8 +1,5 @@
 use Rattle.std.proofs.Common.{◌≡◌, ◌∙◌, ◌++◌, ap, sym, subst, List, Option, OnOk, Result, ℕ}
-use Rattle.rkyv_dict.specs.Archives.{value_line}
-use Rattle.rkyv_dict.specs.Built.{RootRepresents}
-use Rattle.rkyv_dict.specs.First.{first_value_text}
-use Rattle.rkyv_dict.specs.Forms.{lookup_key}
+use Rattle.rkyv_dict.specs.{RootRepresents, first_value_text, lookup_key, value_line}
 use Rattle.rkyv_dict.specs.declared.form.ArchiveWidth.TheVariants.{Bits32, Bits64}
 use Rattle.rkyv_dict.specs.declared.form.Kind.TheVariants.{Num, Text}
 use Rattle.rkyv_dict.proofs.Firsts.{first_number, first_text, form_is}

@@ -1,5 +1,5 @@
 use Rattle.std.proofs.Common.{◌≡◌, ◌++◌, take, string_bytes}
-use Rattle.rkyv_dict.specs.Hex.{hex_of}
+use Rattle.rkyv_dict.specs.{hex_of}
 use Rattle.rkyv_dict.proofs.hex.push_hex.Given as goal
 
 abbrev pub invariant-loop-byte : goal.invariant-loop-byte

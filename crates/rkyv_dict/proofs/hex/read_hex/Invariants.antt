@@ -1,6 +1,6 @@
 use Rattle.std.proofs.Common.{◌≡◌, ◌++◌, length}
 use Rattle.std.specs.Option.{option_map}
-use Rattle.rkyv_dict.specs.Hex.{bytes_of_digits}
+use Rattle.rkyv_dict.specs.{bytes_of_digits}
 use Rattle.rkyv_dict.proofs.hex.read_hex.Given as goal
 
 -- the bytes that are read, then those of the remaining digits, are the bytes of all digits

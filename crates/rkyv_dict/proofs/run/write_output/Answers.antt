@@ -1,8 +1,6 @@
 use Rattle.std.proofs.Common.{ap, ◌∙◌, subst}
 use Rattle.std.specs.Option.{option_copied}
-use Rattle.rkyv_dict.specs.Dicts.{state_of}
-use Rattle.rkyv_dict.specs.Run.{AppendsFront}
-use Rattle.rkyv_dict.specs.Script.{parts_after}
+use Rattle.rkyv_dict.specs.{AppendsFront, parts_after, state_of}
 use Rattle.rkyv_dict.proofs.Running.{progress_front, progress_line, progress_moved, progress_none}
 use Rattle.rkyv_dict.proofs.Sound.{line_sound, start_sound}
 use Rattle.rkyv_dict.proofs.Writing.{on_err, on_err_map}

@@ -1,9 +1,6 @@
 use Rattle.std.proofs.Common.{ℕ, ◌+◌, List, Option, None, Some, length, string_bytes}
 use Rattle.std.specs.Option.{option_copied}
-use Rattle.rkyv_dict.specs.Dicts.{state_of}
-use Rattle.rkyv_dict.specs.Run.{Progress}
-use Rattle.rkyv_dict.specs.Script.{parts_after}
-use Rattle.rkyv_dict.specs.State.{IsSound}
+use Rattle.rkyv_dict.specs.{IsSound, Progress, parts_after, state_of}
 use Rattle.rkyv_dict.proofs.run.write_output.Given as goal
 
 -- the first lines are executed, and the others remain

@@ -1,6 +1,6 @@
 use Rattle.std.proofs.Common.{ℕ, List, ◌∷◌, ◌+◌, ◌-◌, sym, ◌∙◌, ◌==◌, ◌≡◌, take, drop, length, subst, arith, length-drop}
 use Rattle.std.proofs.lemmas.List.{take_all}
-use Rattle.rkyv_dict.specs.Script.{split_at}
+use Rattle.rkyv_dict.specs.{split_at}
 use Rattle.rkyv_dict.proofs.Cuts.{cut_at, cut_none}
 use Rattle.rkyv_dict.proofs.words.cut.Goals as goal
 

@@ -2,7 +2,7 @@ use Rattle.std.proofs.Common.{◌≡◌, ◌+◌, Some, rules, arith, take, sym,
 use Rattle.std.specs.Str.Parse.{digits_value}
 use Rattle.std.proofs.lemmas.Int.Digits.{digits_value_more}
 use Rattle.std.proofs.lemmas.List.{take_all}
-use Rattle.rkyv_dict.specs.Script.{number_of}
+use Rattle.rkyv_dict.specs.{number_of}
 use Rattle.rkyv_dict.proofs.Numerals.{number_front_too_large, number_is}
 use Rattle.rkyv_dict.proofs.words.number.Goals as goal
 

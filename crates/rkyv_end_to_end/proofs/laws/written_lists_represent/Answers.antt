@@ -1,4 +1,4 @@
-use Rattle.rkyv_end_to_end.specs.Listing.{encoding}
+use Rattle.rkyv_end_to_end.specs.{encoding}
 use Rattle.rkyv_end_to_end.proofs.Listing.{element_members, lists_valid}
 use Rattle.rkyv_end_to_end.proofs.laws.written_lists_represent.Goals as goal
 

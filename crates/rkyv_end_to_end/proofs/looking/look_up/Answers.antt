@@ -1,8 +1,8 @@
 use Rattle.std.proofs.Common.{◌∙◌, ap, subst, sym}
-use Rattle.rkyv_scan.specs.Groups.{generic_kind}
-use Rattle.rkyv_table.specs.Table.Bare.{LooksUp, ReadsExactly}
+use Rattle.rkyv_scan.specs.{generic_kind}
+use Rattle.rkyv_table.specs.{LooksUp, ReadsExactly}
 use Rattle.rkyv_table.proofs.Bare.{reads_exactly}
-use Rattle.rkyv_end_to_end.specs.Report.{ReadsWithinBound}
+use Rattle.rkyv_end_to_end.specs.{ReadsWithinBound}
 use Rattle.rkyv_end_to_end.proofs.Reports.{looks_found, read_within_bound}
 use Rattle.rkyv_end_to_end.proofs.looking.look_up.Goals as goal
 

@@ -1,5 +1,5 @@
 use Rattle.std.proofs.Common.{◌≡◌, ◌++◌}
-use Rattle.rkyv_table.specs.Table.Positions.{item_positions}
+use Rattle.rkyv_table.specs.{item_positions}
 use Rattle.rkyv_end_to_end.proofs.looking.walk.Given as goal
 
 -- the positions already walked and those left are all positions

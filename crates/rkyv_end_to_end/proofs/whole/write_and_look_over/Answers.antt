@@ -1,8 +1,8 @@
 use Rattle.std.proofs.Common.{refl}
-use Rattle.rkyv_base.specs.Writing.{end_of, vec_output}
+use Rattle.rkyv_base.specs.{end_of, vec_output}
 use Rattle.rkyv_base.specs.declared.element.PartRange.{PartRange}
-use Rattle.rkyv_table.specs.Table.Bare.{table_in}
-use Rattle.rkyv_end_to_end.specs.Listing.{encoding, list_of, pairs_of}
+use Rattle.rkyv_table.specs.{table_in}
+use Rattle.rkyv_end_to_end.specs.{encoding, list_of, pairs_of}
 use Rattle.rkyv_end_to_end.proofs.Listing.{appended_sits, element_members, look_fails, width_members, written_found, written_never_fails}
 use Rattle.rkyv_end_to_end.proofs.whole.write_and_look_over.Goals as goal
 

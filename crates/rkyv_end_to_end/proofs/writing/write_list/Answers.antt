@@ -2,8 +2,8 @@ use Rattle.std.proofs.Common.{◌∙◌, ℕ, inr, subst, sym}
 use Rattle.std.specs.Int.{byte_len}
 use Rattle.std.proofs.lemmas.Result.{err_from_is_err_and}
 use Rattle.rkyv_base.proofs.RootWriting.{root_align_fails, root_append_fails, root_overflow_fails}
-use Rattle.rkyv_table.specs.Table.Header.{HeaderOverflows}
-use Rattle.rkyv_end_to_end.specs.Listing.{encoding, list_format, list_of, pairs_of}
+use Rattle.rkyv_table.specs.{HeaderOverflows}
+use Rattle.rkyv_end_to_end.specs.{encoding, list_format, list_of, pairs_of}
 use Rattle.rkyv_end_to_end.proofs.Listing.{element_members, header_small, image_of, list_fails, list_wrote, room_of, width_members}
 use Rattle.rkyv_end_to_end.proofs.writing.write_list.Goals as goal
 

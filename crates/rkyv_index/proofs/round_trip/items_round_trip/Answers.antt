@@ -1,12 +1,9 @@
 use Rattle.std.proofs.Common.{ℕ, ◌-◌, ◌∙◌, subst, sym, length, List}
 use Rattle.std.proofs.lemmas.Result.{err_from_is_err_and}
 use Rattle.rkyv_base.proofs.AtViews.{back_at, forth_at}
-use Rattle.rkyv_scan.specs.Hash.{fx_hasher, low_halves}
-use Rattle.rkyv_keys.specs.Deserialize.{DeserializeMembers}
-use Rattle.rkyv_keys.specs.Calls.{hash_at}
-use Rattle.rkyv_index.specs.Index.Reading.{items_deserialize_fails}
-use Rattle.rkyv_index.specs.Set.IndexSet.{index_set_spec, keys_of, set_bytes, set_pos}
-use Rattle.rkyv_index.specs.Set.SetFormat.{IndexSetRepresents}
+use Rattle.rkyv_scan.specs.{fx_hasher, low_halves}
+use Rattle.rkyv_keys.specs.{DeserializeMembers, hash_at}
+use Rattle.rkyv_index.specs.{IndexSetRepresents, index_set_spec, items_deserialize_fails, keys_of, set_bytes, set_pos}
 use Rattle.rkyv_index.proofs.round_trip.items_round_trip.Goals as goal
 
 pub returns-clause-same : goal.returns-clause-same

@@ -1,15 +1,10 @@
 use Rattle.std.proofs.Common.{ℕ, ◌-◌, ◌∙◌, subst, sym, length, List}
 use Rattle.std.proofs.lemmas.Result.{err_from_is_err_and}
-use Rattle.rkyv_base.specs.Entry.{entry_spec}
-use Rattle.rkyv_base.specs.View.{bytes_of, pos_of}
+use Rattle.rkyv_base.specs.{bytes_of, entry_spec, pos_of}
 use Rattle.rkyv_base.proofs.AtViews.{back_at, forth_at}
-use Rattle.rkyv_scan.specs.Hash.{fx_hasher, low_halves}
-use Rattle.rkyv_keys.specs.Deserialize.{DeserializeMembers}
-use Rattle.rkyv_keys.specs.Calls.{hash_at}
-use Rattle.rkyv_index.specs.Index.{index_bytes, index_pos}
-use Rattle.rkyv_index.specs.Index.IndexFormat.{IndexRepresents}
-use Rattle.rkyv_index.specs.Index.IndexLayout.{index_spec}
-use Rattle.rkyv_index.specs.Index.Reading.{pairs_deserialize_fails}
+use Rattle.rkyv_scan.specs.{fx_hasher, low_halves}
+use Rattle.rkyv_keys.specs.{DeserializeMembers, hash_at}
+use Rattle.rkyv_index.specs.{IndexRepresents, index_bytes, index_pos, index_spec, pairs_deserialize_fails}
 use Rattle.rkyv_index.proofs.round_trip.pairs_round_trip.Goals as goal
 
 pub returns-clause-same : goal.returns-clause-same

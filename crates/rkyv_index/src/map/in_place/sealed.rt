@@ -9,31 +9,15 @@
 //!
 //! A lookup in an untrusted map may read every group of its control bytes once.
 ghost use Rattle.std.specs.Prelude.{IfSome, length, ◌+◌, ◌<◌, ◌≡◌, ◌≤◌};
-ghost use Rattle.rkyv_base.specs.Entry.{entry_spec};
-ghost use Rattle.rkyv_base.specs.Seal.{LiesIn, SealAt, archive_in, bytes_in, pos_in, seal_pos};
-ghost use Rattle.rkyv_base.specs.Sealing.{value_pos};
-ghost use Rattle.rkyv_base.specs.ElementSpec.{Viewable};
-ghost use Rattle.rkyv_base.specs.View.{IsValidView};
-ghost use Rattle.rkyv_keys.specs.Calls.{hash_at, hash_of};
-ghost use Rattle.rkyv_table.specs.Table.Header.{len_at};
-ghost use Rattle.rkyv_table.specs.Table.PairSeals.{LendsPair, LendsValue};
-ghost use Rattle.rkyv_index.specs.Index.{FindsBy, FindsFirstBy, FindsFirstKey, FindsKey};
-ghost use Rattle.rkyv_index.specs.Index.{IsStoredAt};
-ghost use Rattle.rkyv_index.specs.Index.{CanCompareKeysOf, IsIndex, index_bytes};
-ghost use Rattle.rkyv_index.specs.Index.{index_pos};
-ghost use Rattle.rkyv_index.specs.Index.SealedIndex.{
-  AcceptsIn,
-  IsAcceptedIn,
-  IsFullSeal,
-  IsFullSealAt,
-  IsIndexSeal,
-  IsPairPosIn,
-  IsPairSeal,
-  IsValueSeal,
-  SealsPair,
-  SealsValue,
-  index_in,
-};
+ghost use Rattle.rkyv_base.specs.{IsValidView, LiesIn, SealAt, Viewable, archive_in, bytes_in};
+ghost use Rattle.rkyv_base.specs.{entry_spec, pos_in, seal_pos, value_pos};
+ghost use Rattle.rkyv_keys.specs.{hash_at, hash_of};
+ghost use Rattle.rkyv_table.specs.{LendsPair, LendsValue, len_at};
+ghost use Rattle.rkyv_index.specs.{AcceptsIn, CanCompareKeysOf, FindsBy, FindsFirstBy};
+ghost use Rattle.rkyv_index.specs.{FindsFirstKey, FindsKey, IsAcceptedIn, IsFullSeal, IsFullSealAt};
+ghost use Rattle.rkyv_index.specs.{IsIndex, IsIndexSeal, IsPairPosIn, IsPairSeal, IsStoredAt};
+ghost use Rattle.rkyv_index.specs.{IsValueSeal, SealsPair, SealsValue, index_bytes, index_in};
+ghost use Rattle.rkyv_index.specs.{index_pos};
 
 use crate::map::{ArchivedIndexMap, IndexMapOf};
 use rkyv_base::element::Element;

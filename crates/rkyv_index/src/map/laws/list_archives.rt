@@ -5,10 +5,8 @@
 //!
 //! - `index`: `get_index_of` finds its index in the list.
 //! - `value`: `get` finds its value.
-ghost use Rattle.rkyv_index.specs.Index.ListArchives.{FoundAreListed};
-ghost use Rattle.rkyv_keys.specs.FirstPairs.{found_scalars, found_texts, found_views};
-ghost use Rattle.rkyv_keys.specs.Natives.{native_keys};
-ghost use Rattle.rkyv_keys.specs.Calls.{hash_at};
+ghost use Rattle.rkyv_index.specs.{FoundAreListed};
+ghost use Rattle.rkyv_keys.specs.{found_scalars, found_texts, found_views, hash_at, native_keys};
 
 use rkyv_base::element::{HasSpec, Represents};
 use rkyv_base::scalars::Scalar;

@@ -1,8 +1,7 @@
 //! The law of written index maps, in any archive that contains their bytes.
 
-ghost use Rattle.rkyv_keys.specs.Calls.{hash_at, hash_of};
-ghost use Rattle.rkyv_index.specs.Index.IndexFormat.{WrittenIndexMaps, element};
-ghost use Rattle.rkyv_index.specs.Index.IndexFormat.{indices};
+ghost use Rattle.rkyv_keys.specs.{hash_at, hash_of};
+ghost use Rattle.rkyv_index.specs.{WrittenIndexMaps, element, indices};
 
 use crate::width::IndexMapWidth;
 use rkyv_base::archive::Archive;

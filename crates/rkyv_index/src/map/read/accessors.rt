@@ -3,11 +3,10 @@
 //! `of` decodes the header once. `get_index` reads no control bytes.
 ghost use Rattle.std.specs.Prelude.{IsTrue, MatchOption, pos as int, unsigned_abs, ℕ, ◌<◌, ◌^◌};
 ghost use Rattle.std.specs.Prelude.{◌↔◌, ◌≡◌, ◌≤◌};
-ghost use Rattle.rkyv_base.specs.Entry.{entry_spec};
-ghost use Rattle.rkyv_base.specs.View.{IsValidView, bytes_of, pos_of};
-ghost use Rattle.rkyv_table.specs.Table.Decoded.{IsDecoded};
-ghost use Rattle.rkyv_index.specs.Index.{IsPairOf, index_bytes, index_len, index_pos};
-ghost use Rattle.rkyv_index.specs.Index.IndexLayout.{entries_pos, index_spec};
+ghost use Rattle.rkyv_base.specs.{IsValidView, bytes_of, entry_spec, pos_of};
+ghost use Rattle.rkyv_table.specs.{IsDecoded};
+ghost use Rattle.rkyv_index.specs.{IsPairOf, entries_pos, index_bytes, index_len, index_pos};
+ghost use Rattle.rkyv_index.specs.{index_spec};
 
 use crate::map::check::decode_entries;
 use crate::map::{ArchivedIndexMap, IndexMapOf};

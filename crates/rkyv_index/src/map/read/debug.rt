@@ -1,7 +1,6 @@
 //! Formatting of index maps by `Debug`.
-ghost use Rattle.rkyv_base.specs.Entry.{entry_spec};
-ghost use Rattle.rkyv_base.specs.View.{IsValidView};
-ghost use Rattle.rkyv_index.specs.Index.IndexLayout.{index_spec};
+ghost use Rattle.rkyv_base.specs.{IsValidView, entry_spec};
+ghost use Rattle.rkyv_index.specs.{index_spec};
 
 use crate::map::{ArchivedIndexMap, IndexMapOf};
 use rkyv_base::view::View;

@@ -1,8 +1,7 @@
 //! Deserializing an index map into a list of pairs.
 ghost use Rattle.std.specs.Prelude.{MatchResult, ◌<◌};
-ghost use Rattle.rkyv_index.specs.Index.{index_bytes, index_len, index_pos};
-ghost use Rattle.rkyv_index.specs.Index.Reading.{IsPairRead, ReadsPairs, pair_deserialize_fails};
-ghost use Rattle.rkyv_index.specs.Index.Reading.{pairs_deserialize_fails};
+ghost use Rattle.rkyv_index.specs.{IsPairRead, ReadsPairs, index_bytes, index_len, index_pos};
+ghost use Rattle.rkyv_index.specs.{pair_deserialize_fails, pairs_deserialize_fails};
 
 use crate::map::ArchivedIndexMap;
 use rkyv_base::element::Element;

@@ -1,15 +1,13 @@
 //! The entries of an index map, and the indices in its table.
 ghost use Rattle.std.specs.Prelude.{length, ◌*◌, ◌+◌, ◌<◌, ◌^◌, ◌≡◌, ◌≤◌};
 ghost use Rattle.std.specs.Int.{byte_len};
-ghost use Rattle.rkyv_base.specs.Entry.{entry_spec};
-ghost use Rattle.rkyv_base.specs.View.{IsAt, IsValidView, bytes_of, pos_of};
-ghost use Rattle.rkyv_table.specs.Table.Header.{len_at};
-ghost use Rattle.rkyv_scan.specs.Groups.{generic_kind};
-ghost use Rattle.rkyv_table.specs.Table.Reading.{CountsStrides};
-ghost use Rattle.rkyv_index.specs.Index.{AreEntries, ComparesIndexBy, FindsIndexIn, IsEntryOf};
-ghost use Rattle.rkyv_index.specs.Index.{CanCompareIndex, CanCompareIndices, IsKeyIn, IsPairOf};
-ghost use Rattle.rkyv_index.specs.Index.{index_archive, index_len, index_pos, stored_index};
-ghost use Rattle.rkyv_index.specs.Index.IndexLayout.{entries_pos, entry_at, index_spec};
+ghost use Rattle.rkyv_base.specs.{IsAt, IsValidView, bytes_of, entry_spec, pos_of};
+ghost use Rattle.rkyv_table.specs.{CountsStrides, len_at};
+ghost use Rattle.rkyv_scan.specs.{generic_kind};
+ghost use Rattle.rkyv_index.specs.Map.{AreEntries, ComparesIndexBy, FindsIndexIn, IsEntryOf};
+ghost use Rattle.rkyv_index.specs.Map.{CanCompareIndex, CanCompareIndices, IsKeyIn, IsPairOf};
+ghost use Rattle.rkyv_index.specs.Map.{index_archive, index_len, index_pos, stored_index};
+ghost use Rattle.rkyv_index.specs.Map.IndexLayout.{entries_pos, entry_at, index_spec};
 
 use crate::map::{ArchivedIndexMap, IndexMapOf};
 use rkyv_base::element::{Element, HasSpec};

@@ -4,15 +4,13 @@
 //! that are values.
 ghost use Rattle.std.specs.Cmp.{partial_equiv_from_equiv};
 ghost use Rattle.std.specs.Prelude.{◌≡◌};
-ghost use Rattle.rkyv_base.specs.Entry.{entry_spec};
+ghost use Rattle.rkyv_base.specs.{IsValidView, entry_spec};
 ghost use Rattle.rkyv_base.specs.Lemmas.Entry.{entry_element};
-ghost use Rattle.rkyv_base.specs.View.{IsValidView};
 ghost use Rattle.rkyv_keys.specs.Lemmas.OfEntries.{entry_equivalence};
-ghost use Rattle.rkyv_keys.specs.AtViews.{at_views};
+ghost use Rattle.rkyv_keys.specs.{at_views};
 ghost use Rattle.rkyv_index.specs.Lemmas.EqualLaws.{index_equivalence};
 ghost use Rattle.rkyv_index.specs.Lemmas.HandlesEqual.{maps_equality};
-ghost use Rattle.rkyv_index.specs.Index.Equality.{index_map_equal, index_maps_equal};
-ghost use Rattle.rkyv_index.specs.Index.IndexLayout.{index_spec};
+ghost use Rattle.rkyv_index.specs.{index_map_equal, index_maps_equal, index_spec};
 
 use crate::map::{ArchivedIndexMap, IndexMapOf};
 use rkyv_base::entry::Entry;

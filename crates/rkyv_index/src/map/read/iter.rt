@@ -3,11 +3,9 @@
 //! Each returns views, in order.
 ghost use Rattle.std.specs.Prelude.{length, ◌≡◌};
 ghost use Rattle.std.specs.Iterator.{at_most};
-ghost use Rattle.rkyv_base.specs.Entry.{entry_spec};
-ghost use Rattle.rkyv_table.specs.Table.Hints.{HintsExactly};
-ghost use Rattle.rkyv_table.specs.Table.RawItems.{AllValid};
-ghost use Rattle.rkyv_index.specs.Index.{index_archive, index_len, key_positions};
-ghost use Rattle.rkyv_table.specs.Table.PairWalks.{YieldsKey, YieldsPair, YieldsValue};
+ghost use Rattle.rkyv_base.specs.{entry_spec};
+ghost use Rattle.rkyv_table.specs.{AllValid, HintsExactly, YieldsKey, YieldsPair, YieldsValue};
+ghost use Rattle.rkyv_index.specs.{index_archive, index_len, key_positions};
 
 use crate::map::ArchivedIndexMap;
 use rkyv_base::element::{Element, HasSpec};
@@ -30,9 +28,9 @@ pub struct Iter<'a, K: HasSpec, V: HasSpec> {
 }
 
 impl<'a, K: HasSpec, V: HasSpec> Model for Iter<'a, K, V> {
-    ghost use Rattle.rkyv_base.specs.Entry.{entry_spec};
-    ghost use Rattle.rkyv_index.specs.Index.{row};
-    ghost use Rattle.rkyv_index.specs.Index.Walking.{IsWalk};
+    ghost use Rattle.rkyv_base.specs.Entries.{entry_spec};
+    ghost use Rattle.rkyv_index.specs.Map.{row};
+    ghost use Rattle.rkyv_index.specs.Map.Walking.{IsWalk};
     ghost use Rattle.rkyv_table.specs.Table.RawItems.{ItemsLeft};
 
     ghost Value = { ItemsLeft };

@@ -10,20 +10,16 @@
 //! A lookup in an untrusted map may read every group of its control bytes once.
 //! `FxHasher64` takes no secret key, so it doesn't protect from chosen input.
 ghost use Rattle.std.specs.Prelude.{IfSome, ◌<◌, ◌^◌, ◌≡◌, ◌≤◌};
-ghost use Rattle.rkyv_base.specs.Entry.{entry_spec};
-ghost use Rattle.rkyv_scan.specs.Hash.{hash_of_calls};
-ghost use Rattle.rkyv_base.specs.View.{IsValidView, bytes_of, pos_of};
+ghost use Rattle.rkyv_base.specs.{IsValidView, bytes_of, entry_spec, pos_of};
+ghost use Rattle.rkyv_scan.specs.{hash_of_calls};
 ghost use Rattle.rkyv_base.specs.declared.view.View.{View};
-ghost use Rattle.rkyv_table.specs.Table.Header.{len_at};
-ghost use Rattle.rkyv_keys.specs.KeyLookup.{query_of};
-ghost use Rattle.rkyv_keys.specs.Calls.{hash_at, hash_of};
-ghost use Rattle.rkyv_index.specs.Index.{IsFoundAt, IsKeyIn, IsPairAt, IsStoredIndex, IsValueAt};
-ghost use Rattle.rkyv_index.specs.Index.{CountsBy, CountsKey, index_of};
-ghost use Rattle.rkyv_index.specs.Index.{CanCompareKeys, CanCompareKeysIn, ReadsWithinBound};
-ghost use Rattle.rkyv_index.specs.Index.IndexLayout.{entries_pos, index_spec};
-ghost use Rattle.rkyv_index.specs.Index.Lookups.{FoundKeyHas, GetsBy, GetsKey, full_part};
-ghost use Rattle.rkyv_index.specs.Index.Lookups.{pair_part};
-ghost use Rattle.rkyv_index.specs.Index.Lookups.{index_part, value_part};
+ghost use Rattle.rkyv_table.specs.{len_at};
+ghost use Rattle.rkyv_keys.specs.{hash_at, hash_of, query_of};
+ghost use Rattle.rkyv_index.specs.{CanCompareKeys, CanCompareKeysIn, CountsBy, CountsKey};
+ghost use Rattle.rkyv_index.specs.{FoundKeyHas, GetsBy, GetsKey, IsFoundAt, IsKeyIn, IsPairAt};
+ghost use Rattle.rkyv_index.specs.{IsStoredIndex, IsValueAt, ReadsWithinBound, entries_pos};
+ghost use Rattle.rkyv_index.specs.{full_part, index_of, index_part, index_spec, pair_part};
+ghost use Rattle.rkyv_index.specs.{value_part};
 
 use crate::map::ArchivedIndexMap;
 use crate::map::read::entries::{find_index, key_in};

@@ -3,12 +3,10 @@
 //! - `misplaced` looks up each key. Its cost on an untrusted map may be quadratic.
 //! - `misplaced_up_to` ends at a limit on the strides that are read.
 ghost use Rattle.std.specs.Prelude.{◌+◌, ◌<◌, ◌^◌, ◌≡◌, ◌≤◌};
-ghost use Rattle.rkyv_keys.specs.Calls.{hash_at};
-ghost use Rattle.rkyv_index.specs.Index.Equality.{CountsAllStrides, CountsRepeated, CountsUpTo};
-ghost use Rattle.rkyv_index.specs.Index.Equality.{ReturnsRepeated, index_misplaced, is_misplaced};
-ghost use Rattle.rkyv_index.specs.Index.Equality.{own_strides};
-ghost use Rattle.rkyv_index.specs.Index.{AreEntries, ReadsUpTo, ReadsWithinBound};
-ghost use Rattle.rkyv_index.specs.Index.{index_len, index_of};
+ghost use Rattle.rkyv_keys.specs.{hash_at};
+ghost use Rattle.rkyv_index.specs.{AreEntries, CountsAllStrides, CountsRepeated, CountsUpTo};
+ghost use Rattle.rkyv_index.specs.{ReadsUpTo, ReadsWithinBound, ReturnsRepeated, index_len};
+ghost use Rattle.rkyv_index.specs.{index_misplaced, index_of, is_misplaced, own_strides};
 
 use crate::map::ArchivedIndexMap;
 use crate::map::read::entries::Entries;

@@ -3,8 +3,8 @@
 ghost use Rattle.std.specs.Prelude.{ℕ, ◌≡◌, ◌+◌, ◌≤◌, length};
 ghost use Rattle.std.specs.Iterator.{YieldsFirst, at_most};
 ghost use Rattle.std.specs.Slice.Iter.{iter_rest};
-ghost use Rattle.rkyv_keys.specs.Calls.{hash_of};
-ghost use Rattle.rkyv_index.specs.Index.IndexFormat.{indices_from};
+ghost use Rattle.rkyv_keys.specs.{hash_of};
+ghost use Rattle.rkyv_index.specs.{indices_from};
 
 use crate::width::IndexMapWidth;
 use rkyv_base::adapter::EntryAdapter;

@@ -1,7 +1,7 @@
 //! The resolver of a written index map, and writing its header.
 
 ghost use Rattle.std.specs.Prelude.{◌≡◌, ◌+◌, ◌<◌, ◌^◌, length};
-ghost use Rattle.rkyv_index.specs.Index.IndexHeader.{IndexResolver, WritesIndexHeader};
+ghost use Rattle.rkyv_index.specs.{IndexResolver, WritesIndexHeader};
 
 use crate::map::ArchivedIndexMap;
 use rkyv_base::archive::ResolveResult;

@@ -1,8 +1,8 @@
 //! Writing values in a row: first their parts, and then their own bytes.
 
 ghost use Rattle.std.specs.Prelude.{◌≡◌, ◌<◌, ◌≤◌, [], vec_capacity, length};
-ghost use Rattle.rkyv_base.specs.Writing.{end_of};
-ghost use Rattle.rkyv_index.specs.Index.Row.{SerializesRow, WritesRow, row_of};
+ghost use Rattle.rkyv_base.specs.{end_of};
+ghost use Rattle.rkyv_index.specs.{SerializesRow, WritesRow, row_of};
 
 use rkyv_base::archive::{Archive, Serialize, WriteResult};
 use rkyv_base::width::Width;

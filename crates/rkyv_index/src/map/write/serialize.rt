@@ -4,13 +4,10 @@
 //! Its `resolve` then writes the header.
 
 ghost use Rattle.std.specs.Prelude.{List, ℕ};
-ghost use Rattle.rkyv_base.specs.Format.{Format};
-ghost use Rattle.rkyv_base.specs.Pairs.{written_as};
-ghost use Rattle.rkyv_keys.specs.Calls.{hash_of};
-ghost use Rattle.rkyv_table.specs.Table.ItemValues.{pair_values};
-ghost use Rattle.rkyv_index.specs.Index.Writing.{WritesUnder, listing};
-ghost use Rattle.rkyv_index.specs.Index.IndexFormat.{index_format};
-ghost use Rattle.rkyv_index.specs.Index.IndexHeader.{IndexResolver};
+ghost use Rattle.rkyv_base.specs.{Format, written_as};
+ghost use Rattle.rkyv_keys.specs.{hash_of};
+ghost use Rattle.rkyv_table.specs.{pair_values};
+ghost use Rattle.rkyv_index.specs.{IndexResolver, WritesUnder, index_format, listing};
 
 use crate::map::write::resolve::IndexMapResolver;
 use crate::map::write::source::{Room, take_entries};

@@ -3,8 +3,8 @@
 ghost use Rattle.std.specs.Prelude.{◌≡◌, ◌<◌, ◌≤◌, [], IfOk, IfSome, MatchResult, OnErr, length};
 ghost use Rattle.std.specs.Prelude.{vec_capacity};
 ghost use Rattle.std.specs.Iterator.{Drains};
-ghost use Rattle.rkyv_table.specs.Table.Counting.{YieldsOtherCount};
-ghost use Rattle.rkyv_index.specs.Index.Writing.{pairs_of};
+ghost use Rattle.rkyv_table.specs.{YieldsOtherCount};
+ghost use Rattle.rkyv_index.specs.{pairs_of};
 
 use rkyv_base::adapter::EntryAdapter;
 use rkyv_base::lend::Lend;

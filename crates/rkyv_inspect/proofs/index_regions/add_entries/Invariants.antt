@@ -1,5 +1,5 @@
 use Rattle.std.proofs.Common.{◌≡◌, ◌+◌, ◌<◌, ◌^◌}
-use Rattle.rkyv_inspect.specs.Regions.{IsRegionList}
+use Rattle.rkyv_inspect.specs.{IsRegionList}
 use Rattle.rkyv_inspect.proofs.index_regions.add_entries.Given as goal
 
 abbrev pub invariant-loop-index : goal.invariant-loop-index

@@ -1,7 +1,7 @@
 use Rattle.std.proofs.Common.{◌≡◌, ◌∙◌, ap, subst, IfOk, List, ℕ, length}
 use Rattle.std.specs.Borrow.{Bor}
-use Rattle.rkyv_base.specs.View.{bytes_of}
-use Rattle.rkyv_inspect.specs.Regions.{Covers}
+use Rattle.rkyv_base.specs.{bytes_of}
+use Rattle.rkyv_inspect.specs.{Covers}
 use Rattle.rkyv_inspect.proofs.index_regions.index_regions.Goals as goal
 
 pub returns : goal.returns

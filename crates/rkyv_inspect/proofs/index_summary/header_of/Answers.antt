@@ -1,6 +1,6 @@
-use Rattle.rkyv_base.specs.Entry.{entry_spec}
+use Rattle.rkyv_base.specs.{entry_spec}
 use Rattle.rkyv_base.specs.Lemmas.Entry.{entry_element}
-use Rattle.rkyv_table.specs.Table.Layout.{table_spec}
+use Rattle.rkyv_table.specs.{table_spec}
 use Rattle.rkyv_index.proofs.Checking.{view_there}
 use Rattle.rkyv_index.proofs.ValidIndexMap.{table_of_indices}
 use Rattle.rkyv_inspect.proofs.index_summary.header_of.Goals as goal

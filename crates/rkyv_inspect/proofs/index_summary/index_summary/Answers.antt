@@ -1,7 +1,7 @@
 use Rattle.std.proofs.Common.{◌∙◌, subst}
-use Rattle.rkyv_base.specs.View.{bytes_of, pos_of}
-use Rattle.rkyv_keys.specs.Calls.{hash_at}
-use Rattle.rkyv_inspect.specs.Summaries.{LooksUpIndices, key_type, keyed_map}
+use Rattle.rkyv_base.specs.{bytes_of, pos_of}
+use Rattle.rkyv_keys.specs.{hash_at}
+use Rattle.rkyv_inspect.specs.{LooksUpIndices, key_type, keyed_map}
 use Rattle.rkyv_inspect.proofs.KeyLookups.{same_controls}
 use Rattle.rkyv_inspect.proofs.index_summary.index_summary.Goals as goal
 

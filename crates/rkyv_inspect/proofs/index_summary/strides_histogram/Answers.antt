@@ -2,12 +2,12 @@ use Rattle.std.proofs.Common.{◌≡◌, ◌+◌, ◌-◌, ◌∙◌, ◌/◌, �
 use Rattle.std.specs.List.{range_with_len}
 use Rattle.std.proofs.lemmas.List.{length-replicate}
 use Rattle.std.proofs.lemmas.List.FromFn.{length-range_with_len}
-use Rattle.rkyv_keys.specs.Calls.{hash_at}
+use Rattle.rkyv_keys.specs.{hash_at}
 use Rattle.rkyv_table.proofs.Lists.{range_cons}
-use Rattle.rkyv_index.specs.Index.{index_bytes, index_len, index_pos}
+use Rattle.rkyv_index.specs.{index_bytes, index_len, index_pos}
 use Rattle.rkyv_index.proofs.Checking.{all_left, none_left}
-use Rattle.rkyv_table.specs.Controls.Numbers.{probe_capacity}
-use Rattle.rkyv_inspect.specs.Summaries.{index_key_strides, key_indices, key_type, keyed_map}
+use Rattle.rkyv_table.specs.{probe_capacity}
+use Rattle.rkyv_inspect.specs.{index_key_strides, key_indices, key_type, keyed_map}
 use Rattle.rkyv_inspect.proofs.Histograms.{Partial, partial_all, partial_more, partial_none}
 use Rattle.rkyv_inspect.proofs.index_summary.strides_histogram.Goals as goal
 

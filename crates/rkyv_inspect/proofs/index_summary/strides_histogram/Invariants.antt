@@ -1,10 +1,9 @@
 use Rattle.std.proofs.Common.{◌≡◌, ◌+◌, ◌-◌, ◌/◌, length}
 use Rattle.std.specs.List.{range_with_len}
-use Rattle.rkyv_keys.specs.Calls.{hash_at}
-use Rattle.rkyv_index.specs.Index.{index_bytes, index_len, index_pos}
-use Rattle.rkyv_table.specs.Controls.Numbers.{probe_capacity}
-use Rattle.rkyv_table.specs.Table.Header.{cap_at}
-use Rattle.rkyv_inspect.specs.Summaries.{index_key_strides, key_indices, key_type, keyed_map}
+use Rattle.rkyv_keys.specs.{hash_at}
+use Rattle.rkyv_index.specs.{index_bytes, index_len, index_pos}
+use Rattle.rkyv_table.specs.{cap_at, probe_capacity}
+use Rattle.rkyv_inspect.specs.{index_key_strides, key_indices, key_type, keyed_map}
 use Rattle.rkyv_inspect.proofs.Histograms.{Partial}
 use Rattle.rkyv_inspect.proofs.index_summary.strides_histogram.Given as goal
 

@@ -1,8 +1,8 @@
 use Rattle.std.proofs.Common.{◌≡◌, ◌∙◌, ap, arith, Bool, ℕ, List}
-use Rattle.rkyv_base.specs.View.{bytes_of, pos_of}
+use Rattle.rkyv_base.specs.{bytes_of, pos_of}
 use Rattle.rkyv_base.proofs.AtViews.{read_at}
-use Rattle.rkyv_keys.specs.Calls.{hash_at}
-use Rattle.rkyv_index.specs.Index.{index_archive, index_bytes, index_pos, index_strides, key_pos}
+use Rattle.rkyv_keys.specs.{hash_at}
+use Rattle.rkyv_index.specs.{index_archive, index_bytes, index_pos, index_strides, key_pos}
 use Rattle.rkyv_inspect.proofs.index_summary.strides_of.Goals as goal
 
 pub returns-clause-reads : goal.returns-clause-reads

@@ -1,10 +1,9 @@
 use Rattle.std.proofs.Common.{refl, subst, List, ℕ, length}
 use Rattle.std.specs.Borrow.{Bor}
 use Rattle.rkyv_base.proofs.AtViews.{forth_at}
-use Rattle.rkyv_keys.specs.Calls.{hash_at}
-use Rattle.rkyv_inspect.specs.Regions.{Covers}
-use Rattle.rkyv_inspect.specs.Summaries.{IsMapSummary, key_type, keyed_map}
-use Rattle.rkyv_scan.specs.Hash.{fx_hasher, low_halves}
+use Rattle.rkyv_keys.specs.{hash_at}
+use Rattle.rkyv_inspect.specs.{Covers, IsMapSummary, key_type, keyed_map}
+use Rattle.rkyv_scan.specs.{fx_hasher, low_halves}
 use Rattle.rkyv_inspect.proofs.inspection.inspect_hash_map.Goals as goal
 
 pub returns : goal.returns

@@ -1,9 +1,8 @@
-use Rattle.rkyv_keys.specs.Calls.{hash_at}
+use Rattle.rkyv_keys.specs.{hash_at}
 use Rattle.rkyv_container.specs.declared.contents.Kind.TheVariants.{HashSet, IndexSet}
-use Rattle.rkyv_inspect.specs.Inspections.{target}
-use Rattle.rkyv_inspect.specs.Summaries.{key_type}
+use Rattle.rkyv_inspect.specs.{key_type, target}
 use Rattle.rkyv_inspect.proofs.Dispatch.{of_kind}
-use Rattle.rkyv_scan.specs.Hash.{fx_hasher, low_halves}
+use Rattle.rkyv_scan.specs.{fx_hasher, low_halves}
 use Rattle.rkyv_inspect.proofs.inspection.inspect_kind.Goals as goal
 
 pub returns-in-HashSet : goal.returns-in-HashSet

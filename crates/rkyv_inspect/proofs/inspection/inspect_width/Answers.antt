@@ -1,6 +1,6 @@
 use Rattle.std.proofs.Common.{refl}
 use Rattle.rkyv_container.specs.declared.contents.ItemType.TheVariants.{Text, U32, U64}
-use Rattle.rkyv_inspect.specs.Inspections.{target}
+use Rattle.rkyv_inspect.specs.{target}
 use Rattle.rkyv_inspect.proofs.Dispatch.{of_keys}
 use Rattle.rkyv_inspect.proofs.inspection.inspect_width.Goals as goal
 

@@ -1,5 +1,5 @@
 use Rattle.std.proofs.Common.{◌≡◌}
-use Rattle.rkyv_inspect.specs.Regions.{IsRegionList}
+use Rattle.rkyv_inspect.specs.{IsRegionList}
 use Rattle.rkyv_inspect.proofs.map_regions.add_parts.Given as goal
 
 abbrev pub invariant-loop-key : goal.invariant-loop-key

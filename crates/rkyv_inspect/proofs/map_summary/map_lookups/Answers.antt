@@ -1,8 +1,8 @@
 use Rattle.std.proofs.Common.{◌≡◌, ◌<◌, ◌≤◌, ◌^◌, ◌⊎◌, ℕ, subst}
-use Rattle.rkyv_base.specs.View.{bytes_of, pos_of}
+use Rattle.rkyv_base.specs.{bytes_of, pos_of}
 use Rattle.rkyv_base.specs.declared.view.View.{View}
-use Rattle.rkyv_keys.specs.Calls.{hash_at}
-use Rattle.rkyv_collections.specs.Map.Misplaced.{map_misplaced, map_strides}
+use Rattle.rkyv_keys.specs.{hash_at}
+use Rattle.rkyv_collections.specs.{map_misplaced, map_strides}
 use Rattle.rkyv_inspect.proofs.map_summary.map_lookups.Goals as goal
 
 pub returns-in-None : goal.returns-in-None

@@ -1,15 +1,10 @@
 use Rattle.std.proofs.Common.{◌≡◌, ◌+◌, ◌∙◌, ◌/◌, ◌<◌, ◌≤◌, ap, arith, length-set, replicate, sym, subst, ℕ, List, length}
 use Rattle.std.proofs.lemmas.List.{length-replicate}
-use Rattle.rkyv_base.specs.Entry.{entry_spec}
-use Rattle.rkyv_base.specs.View.{archive_of, bytes_of, pos_of}
+use Rattle.rkyv_base.specs.{archive_of, bytes_of, entry_spec, pos_of}
 use Rattle.rkyv_base.proofs.AtViews.{read_at}
-use Rattle.rkyv_keys.specs.Calls.{hash_at}
-use Rattle.rkyv_table.specs.Controls.Numbers.{probe_capacity}
-use Rattle.rkyv_table.specs.Table.Header.{cap_at}
-use Rattle.rkyv_table.specs.Table.Positions.{item_positions}
-use Rattle.rkyv_table.specs.Table.RawItems.{ItemsLeft}
-use Rattle.rkyv_table.specs.Table.Reading.{table_bytes, table_pos}
-use Rattle.rkyv_inspect.specs.Summaries.{key_positions, key_strides, key_type, keyed_map}
+use Rattle.rkyv_keys.specs.{hash_at}
+use Rattle.rkyv_table.specs.{ItemsLeft, cap_at, item_positions, probe_capacity, table_bytes, table_pos}
+use Rattle.rkyv_inspect.specs.{key_positions, key_strides, key_type, keyed_map}
 use Rattle.rkyv_inspect.proofs.Histograms.{Partial, partial_all, partial_more, partial_none}
 use Rattle.rkyv_inspect.proofs.map_summary.strides_histogram.Goals as goal
 

@@ -1,9 +1,8 @@
 use Rattle.std.proofs.Common.{◌≡◌, ◌+◌, ◌/◌, length}
-use Rattle.rkyv_base.specs.View.{archive_of, bytes_of, pos_of}
-use Rattle.rkyv_keys.specs.Calls.{hash_at}
-use Rattle.rkyv_table.specs.Controls.Numbers.{probe_capacity}
-use Rattle.rkyv_table.specs.Table.Header.{cap_at}
-use Rattle.rkyv_inspect.specs.Summaries.{key_positions, key_strides, key_type, keyed_map}
+use Rattle.rkyv_base.specs.{archive_of, bytes_of, pos_of}
+use Rattle.rkyv_keys.specs.{hash_at}
+use Rattle.rkyv_table.specs.{cap_at, probe_capacity}
+use Rattle.rkyv_inspect.specs.{key_positions, key_strides, key_type, keyed_map}
 use Rattle.rkyv_inspect.proofs.Histograms.{Partial}
 use Rattle.rkyv_inspect.proofs.map_summary.strides_histogram.Given as goal
 

@@ -1,11 +1,9 @@
 use Rattle.std.proofs.Common.{◌≡◌, ◌∙◌, ap, arith, ℕ, List}
 use Rattle.std.specs.Borrow.{Bor}
-use Rattle.rkyv_base.specs.Entry.{entry_spec}
-use Rattle.rkyv_base.specs.View.{bytes_of, pos_of}
-use Rattle.rkyv_keys.specs.Calls.{hash_at}
-use Rattle.rkyv_scan.specs.Groups.{generic_kind}
-use Rattle.rkyv_table.specs.Table.Positions.{lookup_end}
-use Rattle.rkyv_table.specs.Table.Reading.{table_bytes, table_pos}
+use Rattle.rkyv_base.specs.{bytes_of, entry_spec, pos_of}
+use Rattle.rkyv_keys.specs.{hash_at}
+use Rattle.rkyv_scan.specs.{generic_kind}
+use Rattle.rkyv_table.specs.{lookup_end, table_bytes, table_pos}
 use Rattle.rkyv_inspect.proofs.KeyLookups.{compares_by_position}
 use Rattle.rkyv_inspect.proofs.map_summary.strides_of.Goals as goal
 

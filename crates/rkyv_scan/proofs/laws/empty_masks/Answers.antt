@@ -1,5 +1,5 @@
 use Rattle.std.proofs.Common.{refl}
-use Rattle.rkyv_scan.specs.Groups.{flag_indices, indices_where}
+use Rattle.rkyv_scan.specs.{flag_indices, indices_where}
 use Rattle.rkyv_scan.proofs.Bits.{no_indices}
 use Rattle.rkyv_scan.proofs.laws.empty_masks.Goals as goal
 

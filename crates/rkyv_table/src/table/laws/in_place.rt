@@ -1,13 +1,9 @@
 //! Laws of writes in place.
 
 ghost use Rattle.std.specs.Prelude.{List, ℕ};
-ghost use Rattle.rkyv_base.specs.Entry.{entry_spec};
-ghost use Rattle.rkyv_base.specs.ElementSpec.{Viewable};
-ghost use Rattle.rkyv_table.specs.Table.Positions.{IsWalked};
-ghost use Rattle.rkyv_table.specs.Table.SealedTable.{KeepsTable, KeptByValueWrites, KeptByWrites};
-ghost use Rattle.rkyv_table.specs.Table.SealedTable.{SameLookups};
-ghost use Rattle.rkyv_table.specs.Table.Layout.{table_spec};
-ghost use Rattle.rkyv_table.specs.Table.WrittenTables.{ItemsWrittenRepresent};
+ghost use Rattle.rkyv_base.specs.{Viewable, entry_spec};
+ghost use Rattle.rkyv_table.specs.{IsWalked, ItemsWrittenRepresent, KeepsTable, KeptByValueWrites};
+ghost use Rattle.rkyv_table.specs.{KeptByWrites, SameLookups, table_spec};
 
 use rkyv_base::element::{Element, Represents};
 use rkyv_base::width::Width;

@@ -1,5 +1,5 @@
 //! Laws of misplaced items.
-ghost use Rattle.rkyv_table.specs.Table.Misplaced.{NoneMisplacedIsComplete, RepeatedAreMisplaced};
+ghost use Rattle.rkyv_table.specs.{NoneMisplacedIsComplete, RepeatedAreMisplaced};
 
 /// States that the number of misplaced items is that of items that are the same as an earlier one.
 ///

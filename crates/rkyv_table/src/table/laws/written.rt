@@ -1,13 +1,9 @@
 //! Laws of written tables, in any archive that contains their bytes.
 
 ghost use Rattle.std.specs.Prelude.{ℕ};
-ghost use Rattle.rkyv_base.specs.Format.{RepresentsLocally};
-ghost use Rattle.rkyv_base.specs.Pairs.{written_as};
-ghost use Rattle.rkyv_table.specs.Table.Lending.{value_represents};
-ghost use Rattle.rkyv_table.specs.Table.Layout.{table_spec};
-ghost use Rattle.rkyv_table.specs.Table.TableFormat.{TableRepresents, WrittenTablesRepresent};
-ghost use Rattle.rkyv_table.specs.Table.Passing.{WrittenTablesPass};
-ghost use Rattle.rkyv_table.specs.Table.WrittenTables.{ValidWereWritten};
+ghost use Rattle.rkyv_base.specs.{RepresentsLocally, written_as};
+ghost use Rattle.rkyv_table.specs.{TableRepresents, ValidWereWritten, WrittenTablesPass};
+ghost use Rattle.rkyv_table.specs.{WrittenTablesRepresent, table_spec, value_represents};
 
 use rkyv_base::archive::Archive;
 use rkyv_base::lend::Lend;

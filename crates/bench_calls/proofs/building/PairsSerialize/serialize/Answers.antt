@@ -1,5 +1,5 @@
-use Rattle.rkyv_keys.specs.Calls.{hash_of}
-use Rattle.rkyv_collections.specs.Map.MapFormat.{map_format}
+use Rattle.rkyv_keys.specs.{hash_of}
+use Rattle.rkyv_collections.specs.{map_format}
 use Rattle.bench_calls.proofs.Paired.{pairs_listed}
 use Rattle.bench_calls.proofs.building.PairsSerialize.serialize.Goals as goal
 

@@ -1,5 +1,5 @@
-use Rattle.rkyv_keys.specs.Calls.{hash_of}
-use Rattle.rkyv_index.specs.Index.IndexFormat.{index_format}
+use Rattle.rkyv_keys.specs.{hash_of}
+use Rattle.rkyv_index.specs.{index_format}
 use Rattle.bench_calls.proofs.Paired.{pairs_listed}
 use Rattle.bench_calls.proofs.index_building.IndexPairsSerialize.serialize.Goals as goal
 

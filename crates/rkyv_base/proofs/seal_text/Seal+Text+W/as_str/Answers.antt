@@ -1,5 +1,5 @@
 use Rattle.std.proofs.Common.{sym, ◌∙◌}
-use Rattle.rkyv_base.specs.Text.{fixed_bytes}
+use Rattle.rkyv_base.specs.{fixed_bytes}
 use Rattle.rkyv_base.specs.Lemmas.Text.{inline_reads}
 use Rattle.rkyv_base.proofs.seal_text.Seal+Text+W.as_str.Goals as goal
 

@@ -1,6 +1,6 @@
 use Rattle.std.proofs.Common.{refl}
-use Rattle.rkyv_keys.specs.Calls.{hash_of}
-use Rattle.rkyv_collections.specs.Map.{map_bytes, map_pos}
+use Rattle.rkyv_keys.specs.{hash_of}
+use Rattle.rkyv_collections.specs.{map_bytes, map_pos}
 use Rattle.rkyv_collections.proofs.StdFinding.{accepted_none, accepted_some}
 use Rattle.rkyv_collections.proofs.map.ArchivedHashMap.agrees_on.Goals as goal
 

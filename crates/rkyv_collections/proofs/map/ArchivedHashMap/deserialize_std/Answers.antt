@@ -3,9 +3,9 @@ use Rattle.std.specs.Borrow.{Bor}
 use Rattle.std.specs.HashMap.{get, keys}
 use Rattle.std.specs.Map.{keys_of, lookup}
 use Rattle.std.proofs.lemmas.Result.{err_from_is_err_and}
-use Rattle.rkyv_base.specs.Pairs.{PairRepresents}
-use Rattle.rkyv_keys.specs.OfEntries.{entry_deserialize_fails}
-use Rattle.rkyv_collections.specs.Map.{map_archive, map_pos}
+use Rattle.rkyv_base.specs.{PairRepresents}
+use Rattle.rkyv_keys.specs.{entry_deserialize_fails}
+use Rattle.rkyv_collections.specs.{map_archive, map_pos}
 use Rattle.rkyv_collections.proofs.StdReading.{walks_first, walks_key, walks_last, walks_next}
 use Rattle.rkyv_collections.proofs.map.ArchivedHashMap.deserialize_std.Goals as goal
 

@@ -1,6 +1,6 @@
 use Rattle.std.proofs.Common.{◌≡◌}
 use Rattle.std.specs.HashMap.{IsUnique, get, hasher_of, keys}
-use Rattle.rkyv_collections.specs.Map.{map_archive, map_pos}
+use Rattle.rkyv_collections.specs.{map_archive, map_pos}
 use Rattle.rkyv_collections.proofs.StdReading.{WalksOn}
 use Rattle.rkyv_collections.proofs.map.ArchivedHashMap.deserialize_std.Given as goal
 

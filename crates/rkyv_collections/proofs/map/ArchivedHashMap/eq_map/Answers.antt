@@ -1,9 +1,8 @@
 use Rattle.std.proofs.Common.{ap, sym, ◌∙◌, ◌≡◌, Bool, ℕ}
 use Rattle.std.specs.List.{list_all}
-use Rattle.rkyv_keys.specs.Calls.{hash_at}
-use Rattle.rkyv_table.specs.Table.RawItems.{ItemsLeft}
-use Rattle.rkyv_collections.specs.Map.Equality.{pair_matches}
-use Rattle.rkyv_collections.specs.Map.{map_bytes, map_pos}
+use Rattle.rkyv_keys.specs.{hash_at}
+use Rattle.rkyv_table.specs.{ItemsLeft}
+use Rattle.rkyv_collections.specs.{map_bytes, map_pos, pair_matches}
 use Rattle.rkyv_collections.proofs.map.ArchivedHashMap.eq_map.Goals as goal
 
 pub loop-key-init : goal.loop-key-init

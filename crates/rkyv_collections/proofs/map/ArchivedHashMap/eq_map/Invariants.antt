@@ -1,8 +1,7 @@
 use Rattle.std.proofs.Common.{◌≡◌, ℕ, Bool}
 use Rattle.std.specs.List.{list_all}
-use Rattle.rkyv_keys.specs.Calls.{hash_at}
-use Rattle.rkyv_collections.specs.Map.Equality.{pair_matches}
-use Rattle.rkyv_collections.specs.Map.{key_positions, map_archive, map_bytes, map_pos}
+use Rattle.rkyv_keys.specs.{hash_at}
+use Rattle.rkyv_collections.specs.{key_positions, map_archive, map_bytes, map_pos, pair_matches}
 use Rattle.rkyv_collections.proofs.map.ArchivedHashMap.eq_map.Given as goal
 
 -- the remaining pairs are in the first map, and all pairs match if the remaining ones do

@@ -1,8 +1,7 @@
 use Rattle.std.proofs.Common.{length, rules, subst}
-use Rattle.rkyv_keys.specs.Calls.{hash_of}
-use Rattle.rkyv_table.specs.Table.Header.{len_at}
-use Rattle.rkyv_collections.specs.Map.{map_bytes, map_pos}
-use Rattle.rkyv_collections.specs.StdMaps.StdEquality.{FindsPair}
+use Rattle.rkyv_keys.specs.{hash_of}
+use Rattle.rkyv_table.specs.{len_at}
+use Rattle.rkyv_collections.specs.{FindsPair, map_bytes, map_pos}
 use Rattle.rkyv_collections.proofs.StdComparing.{Decides, decides_next, one_fails}
 use Rattle.rkyv_collections.proofs.map.ArchivedHashMap.eq_std.Goals as goal
 

@@ -1,6 +1,5 @@
-use Rattle.rkyv_keys.specs.Calls.{hash_of}
-use Rattle.rkyv_collections.specs.Map.{map_bytes, map_pos}
-use Rattle.rkyv_collections.specs.StdMaps.StdEquality.{FindsPair}
+use Rattle.rkyv_keys.specs.{hash_of}
+use Rattle.rkyv_collections.specs.{FindsPair, map_bytes, map_pos}
 use Rattle.rkyv_collections.proofs.StdComparing.{Decides}
 use Rattle.rkyv_collections.proofs.map.ArchivedHashMap.eq_std.Given as goal
 

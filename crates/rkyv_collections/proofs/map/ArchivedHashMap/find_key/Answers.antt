@@ -1,4 +1,4 @@
-use Rattle.rkyv_collections.specs.Map.Lookups.{entry_part}
+use Rattle.rkyv_collections.specs.{entry_part}
 use Rattle.rkyv_collections.proofs.FoundThrough.{gets_query}
 use Rattle.rkyv_collections.proofs.map.ArchivedHashMap.find_key.Goals as goal
 

@@ -1,7 +1,7 @@
 use Rattle.std.proofs.Common.{◌≡◌, sym, ◌∙◌}
-use Rattle.rkyv_base.specs.Seal.{archive_in, pos_in}
-use Rattle.rkyv_collections.specs.Map.{IsViewAt}
-use Rattle.rkyv_keys.specs.KeyLookup.{query_of}
+use Rattle.rkyv_base.specs.{archive_in, pos_in}
+use Rattle.rkyv_collections.specs.{IsViewAt}
+use Rattle.rkyv_keys.specs.{query_of}
 use Rattle.rkyv_collections.proofs.SealedMap.{entry_read, satisfies_read}
 use Rattle.rkyv_collections.proofs.map.ArchivedHashMap.find_key_pos.Goals as goal
 

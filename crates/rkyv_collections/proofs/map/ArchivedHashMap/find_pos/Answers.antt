@@ -1,7 +1,7 @@
 use Rattle.std.proofs.Common.{◌≡◌, ℕ, Option, sym, ◌∙◌}
-use Rattle.rkyv_base.specs.Seal.{archive_in, pos_in}
-use Rattle.rkyv_keys.specs.Calls.{hash_at, hash_of}
-use Rattle.rkyv_collections.specs.Map.{IsViewAt}
+use Rattle.rkyv_base.specs.{archive_in, pos_in}
+use Rattle.rkyv_keys.specs.{hash_at, hash_of}
+use Rattle.rkyv_collections.specs.{IsViewAt}
 use Rattle.rkyv_collections.proofs.SealedMap.{accepted_read, by_read, entry_read, first_by_read}
 use Rattle.rkyv_collections.proofs.map.ArchivedHashMap.find_pos.Goals as goal
 

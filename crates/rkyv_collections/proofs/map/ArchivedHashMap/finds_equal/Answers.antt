@@ -1,11 +1,11 @@
 use Rattle.std.proofs.Common.{subst, ◌+◌, ◌↔◌, ℕ, List}
 use Rattle.std.specs.Borrow.{Bor}
 use Rattle.std.specs.Prelude.{IsTrue}
-use Rattle.rkyv_scan.specs.Groups.{generic_kind}
-use Rattle.rkyv_base.specs.Entry.{entry_spec, value_offset}
-use Rattle.rkyv_keys.specs.Calls.{hash_of}
-use Rattle.rkyv_table.specs.Table.Positions.{pos_found}
-use Rattle.rkyv_collections.specs.Map.{map_bytes, map_pos}
+use Rattle.rkyv_scan.specs.{generic_kind}
+use Rattle.rkyv_base.specs.{entry_spec, value_offset}
+use Rattle.rkyv_keys.specs.{hash_of}
+use Rattle.rkyv_table.specs.{pos_found}
+use Rattle.rkyv_collections.specs.{map_bytes, map_pos}
 use Rattle.rkyv_collections.proofs.StdComparing.{of_found}
 use Rattle.rkyv_collections.proofs.map.ArchivedHashMap.finds_equal.Goals as goal
 

@@ -1,6 +1,6 @@
 use Rattle.std.proofs.Common.{ap, ◌∙◌}
 use Rattle.std.specs.Option.{option_map}
-use Rattle.rkyv_base.specs.Sealing.{value_pos}
+use Rattle.rkyv_base.specs.{value_pos}
 use Rattle.rkyv_collections.proofs.SealedMap.{satisfies_implied_by}
 use Rattle.rkyv_collections.proofs.map.ArchivedHashMap.get_seal_with.Goals as goal
 

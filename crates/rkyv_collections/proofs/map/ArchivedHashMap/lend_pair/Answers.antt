@@ -1,6 +1,6 @@
-use Rattle.rkyv_base.specs.Seal.{archive_in, pos_in}
+use Rattle.rkyv_base.specs.{archive_in, pos_in}
 use Rattle.rkyv_table.proofs.PairSeals.{pair_lent}
-use Rattle.rkyv_collections.specs.Map.SealedMap.{IsPairPos}
+use Rattle.rkyv_collections.specs.{IsPairPos}
 use Rattle.rkyv_collections.proofs.SealedMap.{found_entry, found_key_pos}
 use Rattle.rkyv_collections.proofs.map.ArchivedHashMap.lend_pair.Goals as goal
 

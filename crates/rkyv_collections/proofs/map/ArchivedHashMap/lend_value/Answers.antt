@@ -1,4 +1,4 @@
-use Rattle.rkyv_base.specs.Seal.{archive_in, pos_in}
+use Rattle.rkyv_base.specs.{archive_in, pos_in}
 use Rattle.rkyv_collections.proofs.SealedMap.{found_key_pos}
 use Rattle.rkyv_collections.proofs.map.ArchivedHashMap.lend_value.Goals as goal
 

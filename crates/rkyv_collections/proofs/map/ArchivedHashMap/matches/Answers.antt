@@ -1,9 +1,8 @@
 use Rattle.std.proofs.Common.{◌≡◌, ℕ, ◌+◌, ◌∙◌, Bool, false, List, None, Option, Some, ap}
 use Rattle.std.specs.Borrow.{Bor}
 use Rattle.std.specs.Option.{option_map, unwrap_or}
-use Rattle.rkyv_base.specs.Entry.{value_offset}
-use Rattle.rkyv_base.specs.View.{bytes_of, pos_of}
-use Rattle.rkyv_collections.specs.Map.{map_bytes}
+use Rattle.rkyv_base.specs.{bytes_of, pos_of, value_offset}
+use Rattle.rkyv_collections.specs.{map_bytes}
 use Rattle.rkyv_collections.proofs.map.ArchivedHashMap.matches.Goals as goal
 
 -- a value `offset` bytes behind the position of the found key compares as the value there

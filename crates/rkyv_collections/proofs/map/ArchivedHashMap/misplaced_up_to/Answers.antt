@@ -1,16 +1,12 @@
 use Rattle.std.proofs.Common.{ap, subst, zero-add, ◌∙◌, ◌≡◌, ◌+◌, ◌<◌, ◌≤◌, ◌^◌, ◌⊎◌, Bool, ℕ, List, MatchOption}
 use Rattle.std.specs.Borrow.{Bor}
-use Rattle.rkyv_scan.specs.Groups.{generic_kind}
-use Rattle.rkyv_base.specs.Entry.{entry_spec}
-use Rattle.rkyv_base.specs.View.{bytes_of}
+use Rattle.rkyv_scan.specs.{generic_kind}
+use Rattle.rkyv_base.specs.{bytes_of, entry_spec}
 use Rattle.rkyv_base.specs.declared.entry.Entry.{Entry}
 use Rattle.rkyv_base.specs.declared.view.View.{View}
-use Rattle.rkyv_keys.specs.Calls.{hash_at}
-use Rattle.rkyv_table.specs.Table.Header.{cap_at, len_at}
-use Rattle.rkyv_table.specs.Table.Misplaced.{all_strides, misplaced}
-use Rattle.rkyv_table.specs.Table.Positions.{item_at, table_controls}
-use Rattle.rkyv_table.specs.Table.Reading.{IsItem, table_bytes, table_pos}
-use Rattle.rkyv_collections.specs.Map.{map_bytes, map_pos}
+use Rattle.rkyv_keys.specs.{hash_at}
+use Rattle.rkyv_table.specs.{IsItem, all_strides, cap_at, item_at, len_at, misplaced, table_bytes, table_controls, table_pos}
+use Rattle.rkyv_collections.specs.{map_bytes, map_pos}
 use Rattle.rkyv_collections.proofs.map.ArchivedHashMap.misplaced_up_to.Goals as goal
 
 pub returns : goal.returns

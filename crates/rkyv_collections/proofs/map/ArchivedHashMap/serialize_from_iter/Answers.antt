@@ -1,11 +1,9 @@
 use Rattle.std.proofs.Common.{MatchResult, subst}
 use Rattle.std.specs.Iterator.{Drains}
-use Rattle.rkyv_base.specs.Pairs.{written_as}
-use Rattle.rkyv_keys.specs.Calls.{hash_of}
-use Rattle.rkyv_table.specs.Table.Counting.{YieldsOtherCount}
-use Rattle.rkyv_table.specs.Table.Serializing.{WriteItemsFails, WroteItems}
-use Rattle.rkyv_table.specs.Table.ItemValues.{pair_values}
-use Rattle.rkyv_collections.specs.Map.MapFormat.{map_format}
+use Rattle.rkyv_base.specs.{written_as}
+use Rattle.rkyv_keys.specs.{hash_of}
+use Rattle.rkyv_table.specs.{WriteItemsFails, WroteItems, YieldsOtherCount, pair_values}
+use Rattle.rkyv_collections.specs.{map_format}
 use Rattle.rkyv_collections.proofs.HashedPairs.{writes_as_map}
 use Rattle.rkyv_collections.proofs.map.ArchivedHashMap.serialize_from_iter.Goals as goal
 

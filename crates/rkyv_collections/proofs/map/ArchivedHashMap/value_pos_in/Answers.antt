@@ -1,8 +1,8 @@
 use Rattle.std.proofs.Common.{◌≡◌, sym, ◌∙◌}
 use Rattle.std.specs.Option.{option_map}
-use Rattle.rkyv_base.specs.Sealing.{value_pos}
-use Rattle.rkyv_collections.specs.Map.{IsValueAt}
-use Rattle.rkyv_keys.specs.KeyLookup.{query_of}
+use Rattle.rkyv_base.specs.{value_pos}
+use Rattle.rkyv_collections.specs.{IsValueAt}
+use Rattle.rkyv_keys.specs.{query_of}
 use Rattle.rkyv_collections.proofs.SealedMap.{satisfies_read, value_inside, value_read}
 use Rattle.rkyv_collections.proofs.map.ArchivedHashMap.value_pos_in.Goals as goal
 

@@ -1,10 +1,9 @@
 use Rattle.std.proofs.Common.{false, refl, subst, true}
-use Rattle.rkyv_base.specs.Scalar.{ScalarRepresents}
+use Rattle.rkyv_base.specs.{ScalarRepresents}
 use Rattle.rkyv_base.specs.Lemmas.Scalar.{scalar_local}
 use Rattle.rkyv_keys.specs.Lemmas.QueryLaws.{hash_local}
-use Rattle.rkyv_keys.specs.Calls.{hash_at}
-use Rattle.rkyv_collections.specs.Map.InPlace.{SetsFound}
-use Rattle.rkyv_collections.specs.Map.MapSpec.{map_spec}
+use Rattle.rkyv_keys.specs.{hash_at}
+use Rattle.rkyv_collections.specs.{SetsFound, map_spec}
 use Rattle.rkyv_collections.proofs.FirstWrites.{first_behind, none_behind}
 use Rattle.rkyv_collections.proofs.NestedWrites.{unwritten, value_nested_at}
 use Rattle.rkyv_collections.proofs.SealedMap.{satisfies_implied}

@@ -1,8 +1,8 @@
 use Rattle.std.proofs.Common.{ap}
-use Rattle.rkyv_scan.specs.Groups.{generic_kind}
+use Rattle.rkyv_scan.specs.{generic_kind}
 use Rattle.rkyv_scan.proofs.HashLaws.{fixed_alike}
-use Rattle.rkyv_base.specs.Entry.{entry_spec}
-use Rattle.rkyv_table.specs.Table.Positions.{pos_found}
+use Rattle.rkyv_base.specs.{entry_spec}
+use Rattle.rkyv_table.specs.{pos_found}
 use Rattle.rkyv_collections.proofs.Alike.{queried_alike, written_alike}
 use Rattle.rkyv_collections.proofs.map.laws.both_hashers_look_up_alike.Goals as goal
 

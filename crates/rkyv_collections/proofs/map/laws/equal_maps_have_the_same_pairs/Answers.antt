@@ -1,6 +1,6 @@
 use Rattle.std.proofs.Common.{ap}
-use Rattle.rkyv_scan.specs.Hash.{hash_of_calls}
-use Rattle.rkyv_keys.specs.Calls.{hash_at}
+use Rattle.rkyv_scan.specs.{hash_of_calls}
+use Rattle.rkyv_keys.specs.{hash_at}
 use Rattle.rkyv_collections.proofs.EqualMaps.{equal_have_same_pairs}
 use Rattle.rkyv_collections.proofs.map.laws.equal_maps_have_the_same_pairs.Goals as goal
 

@@ -1,7 +1,7 @@
 use Rattle.std.proofs.Common.{ap}
 use Rattle.std.proofs.lemmas.Option.{IfSome_then}
-use Rattle.rkyv_keys.specs.Calls.{hash_at}
-use Rattle.rkyv_collections.specs.Map.{map_bytes, map_pos}
+use Rattle.rkyv_keys.specs.{hash_at}
+use Rattle.rkyv_collections.specs.{map_bytes, map_pos}
 use Rattle.rkyv_collections.proofs.FoundPairs.{contains_listed, first_listed, key_listed, pair_listed, value_listed}
 use Rattle.rkyv_collections.proofs.map.laws.lookups_find_listed.Goals as goal
 

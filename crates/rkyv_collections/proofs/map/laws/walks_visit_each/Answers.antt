@@ -1,4 +1,4 @@
-use Rattle.rkyv_keys.specs.Calls.{hash_at}
+use Rattle.rkyv_keys.specs.{hash_at}
 use Rattle.rkyv_collections.proofs.WalkedPairs.{walks_visit_each, walks_visit_pairs}
 use Rattle.rkyv_collections.proofs.map.laws.walks_visit_each.Goals as goal
 

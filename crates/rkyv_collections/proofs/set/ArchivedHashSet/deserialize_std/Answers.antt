@@ -2,9 +2,9 @@ use Rattle.std.proofs.Common.{ap, inl, inr, refl, subst, sym, ◌∙◌, ℕ, Li
 use Rattle.std.specs.Borrow.{Bor}
 use Rattle.std.specs.List.{IsDistinct, find}
 use Rattle.std.proofs.lemmas.Result.{err_from_is_err_and}
-use Rattle.rkyv_base.specs.Empty.{unit_represents, unit_spec}
+use Rattle.rkyv_base.specs.{unit_represents, unit_spec}
 use Rattle.rkyv_base.specs.Lemmas.Empty.{unit_element}
-use Rattle.rkyv_collections.specs.Set.{set_archive, set_pos}
+use Rattle.rkyv_collections.specs.{set_archive, set_pos}
 use Rattle.rkyv_collections.specs.Lemmas.StdSet.{keys_with_units}
 use Rattle.rkyv_collections.proofs.StdReading.{found_units, key_inserted, walks_first, walks_key, walks_last, walks_next}
 use Rattle.rkyv_collections.proofs.set.ArchivedHashSet.deserialize_std.Goals as goal

@@ -1,7 +1,7 @@
 use Rattle.std.proofs.Common.{◌≡◌}
 use Rattle.std.specs.HashSet.{IsUnique, hasher_of}
-use Rattle.rkyv_base.specs.Empty.{unit_represents, unit_spec}
-use Rattle.rkyv_collections.specs.Set.{set_archive, set_pos}
+use Rattle.rkyv_base.specs.{unit_represents, unit_spec}
+use Rattle.rkyv_collections.specs.{set_archive, set_pos}
 use Rattle.rkyv_collections.proofs.StdReading.{WalksOn, found_units}
 use Rattle.rkyv_collections.proofs.set.ArchivedHashSet.deserialize_std.Given as goal
 

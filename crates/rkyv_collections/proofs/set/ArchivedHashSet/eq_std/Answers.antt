@@ -1,10 +1,9 @@
 use Rattle.std.proofs.Common.{rules, subst}
 use Rattle.std.specs.HashSet.{hash_set_len}
-use Rattle.rkyv_keys.specs.Calls.{hash_of}
-use Rattle.rkyv_table.specs.Table.Header.{len_at}
-use Rattle.rkyv_base.specs.Empty.{unit_represents, unit_spec}
-use Rattle.rkyv_collections.specs.Set.{set_bytes, set_pos}
-use Rattle.rkyv_collections.specs.StdMaps.StdEquality.{FindsPair}
+use Rattle.rkyv_keys.specs.{hash_of}
+use Rattle.rkyv_table.specs.{len_at}
+use Rattle.rkyv_base.specs.{unit_represents, unit_spec}
+use Rattle.rkyv_collections.specs.{FindsPair, set_bytes, set_pos}
 use Rattle.rkyv_collections.proofs.StdComparing.{Decides, decides_next, one_fails}
 use Rattle.rkyv_collections.proofs.set.ArchivedHashSet.eq_std.Goals as goal
 

@@ -1,7 +1,6 @@
-use Rattle.rkyv_base.specs.Empty.{unit_represents, unit_spec}
-use Rattle.rkyv_keys.specs.Calls.{hash_of}
-use Rattle.rkyv_collections.specs.Set.{set_bytes, set_pos}
-use Rattle.rkyv_collections.specs.StdMaps.StdEquality.{FindsPair}
+use Rattle.rkyv_base.specs.{unit_represents, unit_spec}
+use Rattle.rkyv_keys.specs.{hash_of}
+use Rattle.rkyv_collections.specs.{FindsPair, set_bytes, set_pos}
 use Rattle.rkyv_collections.proofs.StdComparing.{Decides}
 use Rattle.rkyv_collections.proofs.set.ArchivedHashSet.eq_std.Given as goal
 

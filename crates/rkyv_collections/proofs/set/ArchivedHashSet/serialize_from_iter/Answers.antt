@@ -1,7 +1,7 @@
-use Rattle.rkyv_base.specs.Empty.{unit_format, unit_spec}
-use Rattle.rkyv_keys.specs.Calls.{hash_of}
+use Rattle.rkyv_base.specs.{unit_format, unit_spec}
+use Rattle.rkyv_keys.specs.{hash_of}
 use Rattle.rkyv_table.proofs.UnitItems.{results_set}
-use Rattle.rkyv_collections.specs.Map.MapFormat.{map_format}
+use Rattle.rkyv_collections.specs.{map_format}
 use Rattle.rkyv_collections.proofs.set.ArchivedHashSet.serialize_from_iter.Goals as goal
 
 pub returns : goal.returns

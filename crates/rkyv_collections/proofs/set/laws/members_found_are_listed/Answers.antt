@@ -1,9 +1,8 @@
 use Rattle.std.proofs.Common.{◌∙◌}
-use Rattle.rkyv_base.specs.Empty.{unit_represents, unit_spec}
-use Rattle.rkyv_table.specs.Table.ItemValues.{with_units}
-use Rattle.rkyv_collections.specs.Map.{map_bytes}
-use Rattle.rkyv_keys.specs.Natives.{native_keys}
-use Rattle.rkyv_keys.specs.Calls.{hash_at}
+use Rattle.rkyv_base.specs.{unit_represents, unit_spec}
+use Rattle.rkyv_table.specs.{with_units}
+use Rattle.rkyv_collections.specs.{map_bytes}
+use Rattle.rkyv_keys.specs.{hash_at, native_keys}
 use Rattle.rkyv_collections.proofs.FoundPairs.{contains_listed}
 use Rattle.rkyv_collections.proofs.ListArchives.{first_in_root, member_listed}
 use Rattle.rkyv_collections.proofs.set.laws.members_found_are_listed.Goals as goal

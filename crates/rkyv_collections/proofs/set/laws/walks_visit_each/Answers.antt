@@ -1,4 +1,4 @@
-use Rattle.rkyv_keys.specs.Calls.{hash_at}
+use Rattle.rkyv_keys.specs.{hash_at}
 use Rattle.rkyv_collections.proofs.WalkedPairs.{set_walks_visit_each}
 use Rattle.rkyv_collections.proofs.set.laws.walks_visit_each.Goals as goal
 

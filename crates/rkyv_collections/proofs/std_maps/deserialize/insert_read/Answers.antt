@@ -1,6 +1,6 @@
 use Rattle.std.proofs.Common.{subst, ℕ, List}
 use Rattle.std.specs.Borrow.{Bor}
-use Rattle.rkyv_base.specs.View.{bytes_of}
+use Rattle.rkyv_base.specs.{bytes_of}
 use Rattle.rkyv_collections.specs.Lemmas.StoredKeys.{entry_added}
 use Rattle.rkyv_collections.proofs.std_maps.deserialize.insert_read.Goals as goal
 

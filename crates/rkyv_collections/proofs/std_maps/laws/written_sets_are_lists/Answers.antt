@@ -1,5 +1,5 @@
 use Rattle.rkyv_base.specs.Lemmas.Empty.{unit_element, unit_is_format}
-use Rattle.rkyv_table.specs.Table.ItemValues.{with_units}
+use Rattle.rkyv_table.specs.{with_units}
 use Rattle.rkyv_collections.proofs.StdListing.{entries_listed}
 use Rattle.rkyv_collections.proofs.std_maps.laws.written_sets_are_lists.Goals as goal
 

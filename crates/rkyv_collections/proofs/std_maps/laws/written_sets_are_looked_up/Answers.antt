@@ -1,7 +1,7 @@
 use Rattle.rkyv_base.specs.Lemmas.Empty.{unit_element, unit_is_format}
-use Rattle.rkyv_keys.specs.Calls.{hash_of}
-use Rattle.rkyv_table.specs.Table.ItemValues.{with_units}
-use Rattle.rkyv_collections.specs.Set.{set_spec}
+use Rattle.rkyv_keys.specs.{hash_of}
+use Rattle.rkyv_table.specs.{with_units}
+use Rattle.rkyv_collections.specs.{set_spec}
 use Rattle.rkyv_collections.proofs.StdFinding.{entries_looked_up, members_looked_up}
 use Rattle.rkyv_collections.proofs.std_maps.laws.written_sets_are_looked_up.Goals as goal
 

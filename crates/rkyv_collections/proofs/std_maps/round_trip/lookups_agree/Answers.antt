@@ -1,13 +1,11 @@
 use Rattle.std.proofs.Common.{ℕ, ◌-◌, subst, sym, length, List}
 use Rattle.std.proofs.lemmas.Result.{err_from_is_err_and}
-use Rattle.rkyv_base.specs.Access.{IsValidArchive}
+use Rattle.rkyv_base.specs.{IsValidArchive, bytes_of, pos_of}
 use Rattle.rkyv_base.specs.Lemmas.Entry.{entry_element}
-use Rattle.rkyv_base.specs.View.{bytes_of, pos_of}
 use Rattle.rkyv_base.proofs.AtViews.{back_at}
-use Rattle.rkyv_keys.specs.Calls.{hash_of}
+use Rattle.rkyv_keys.specs.{hash_of}
 use Rattle.rkyv_table.specs.Lemmas.TableLaws.{table_element}
-use Rattle.rkyv_collections.specs.Map.MapSpec.{map_spec}
-use Rattle.rkyv_collections.specs.StdMaps.StdLookups.{FindsFirstAccepted}
+use Rattle.rkyv_collections.specs.{FindsFirstAccepted, map_spec}
 use Rattle.rkyv_collections.proofs.WrittenRoots.{root_keeps}
 use Rattle.rkyv_collections.proofs.StdFinding.{entries_looked_up}
 use Rattle.rkyv_collections.proofs.std_maps.round_trip.lookups_agree.Goals as goal

@@ -1,5 +1,4 @@
-use Rattle.rkyv_container.specs.Checks.{FirstFails}
-use Rattle.rkyv_container.specs.Header.{IsHeader, header_checks}
+use Rattle.rkyv_container.specs.{FirstFails, IsHeader, header_checks}
 use Rattle.rkyv_container.proofs.Checking.{err_exact, first_unique, ok_exact, pass_excludes}
 use Rattle.rkyv_container.proofs.HeaderBytes.{header_unique}
 use Rattle.rkyv_container.proofs.HeaderChecks.{header_passes}

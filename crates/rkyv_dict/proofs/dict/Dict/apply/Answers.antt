@@ -1,8 +1,6 @@
 use Rattle.std.proofs.Common.{refl, ap, ◌∙◌}
-use Rattle.rkyv_dict.specs.Forms.{pairs_of}
-use Rattle.rkyv_dict.specs.State.{emptied}
+use Rattle.rkyv_dict.specs.{emptied, pairs_of, state_of}
 use Rattle.rkyv_dict.specs.declared.form.Form.{Form}
-use Rattle.rkyv_dict.specs.Dicts.{state_of}
 use Rattle.rkyv_dict.proofs.Adding.{adds_as, adds_none, on_ok_map}
 use Rattle.rkyv_dict.proofs.Putting.{pair_put}
 use Rattle.rkyv_dict.proofs.dict.Dict.apply.Goals as goal

@@ -1,5 +1,5 @@
 use Rattle.std.proofs.Common.{inr, refl, rules, string_bytes}
-use Rattle.rkyv_dict.specs.Output.{error_line}
+use Rattle.rkyv_dict.specs.{error_line}
 use Rattle.rkyv_dict.proofs.Adding.{adds_this}
 use Rattle.rkyv_dict.proofs.dict.Dict.build.Goals as goal
 

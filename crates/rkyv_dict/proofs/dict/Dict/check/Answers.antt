@@ -1,6 +1,5 @@
 use Rattle.std.proofs.Common.{inr, refl, string_bytes}
-use Rattle.rkyv_dict.specs.Dicts.{state_of}
-use Rattle.rkyv_dict.specs.Output.{verify_error_line}
+use Rattle.rkyv_dict.specs.{state_of, verify_error_line}
 use Rattle.rkyv_dict.proofs.Adding.{adds_this}
 use Rattle.rkyv_dict.proofs.Sound.{failure_here}
 use Rattle.rkyv_dict.proofs.dict.Dict.check.Goals as goal

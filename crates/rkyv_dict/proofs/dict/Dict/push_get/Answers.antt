@@ -1,7 +1,6 @@
 use Rattle.std.proofs.Common.{ap, string_bytes}
 use Rattle.std.specs.Option.{option_map}
-use Rattle.rkyv_dict.specs.Dicts.{archived_of, state_of}
-use Rattle.rkyv_dict.specs.Forms.{lookup_key, pairs_of}
+use Rattle.rkyv_dict.specs.{archived_of, lookup_key, pairs_of, state_of}
 use Rattle.rkyv_dict.proofs.Sound.{archive_here, value_here}
 use Rattle.rkyv_dict.proofs.dict.Dict.push_get.Goals as goal
 

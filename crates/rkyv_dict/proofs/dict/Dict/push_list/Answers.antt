@@ -1,7 +1,6 @@
 use Rattle.std.proofs.Common.{ap}
 use Rattle.std.specs.Option.{option_map}
-use Rattle.rkyv_dict.specs.Dicts.{archived_of, state_of}
-use Rattle.rkyv_dict.specs.Forms.{pairs_of}
+use Rattle.rkyv_dict.specs.{archived_of, pairs_of, state_of}
 use Rattle.rkyv_dict.proofs.Sound.{archive_here}
 use Rattle.rkyv_dict.proofs.dict.Dict.push_list.Goals as goal
 

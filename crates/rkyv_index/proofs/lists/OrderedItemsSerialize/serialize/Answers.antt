@@ -2,11 +2,10 @@ use Rattle.std.proofs.Common.{◌≡◌, List, ap, length, rules, sym, ◌∙◌
 use Rattle.std.specs.Borrow.{Bor}
 use Rattle.std.specs.Iterator.{Drains, YieldsFirstBy}
 use Rattle.std.specs.Slice.Iter.{iter_rest}
-use Rattle.rkyv_keys.specs.Calls.{hash_of}
-use Rattle.rkyv_table.specs.Table.Counting.{YieldsOtherCount}
-use Rattle.rkyv_scan.specs.Hash.{fx_hasher, low_halves}
-use Rattle.rkyv_index.specs.Set.SetFormat.{index_set_format}
-use Rattle.rkyv_table.specs.Table.ItemValues.{key_values}
+use Rattle.rkyv_keys.specs.{hash_of}
+use Rattle.rkyv_table.specs.{YieldsOtherCount, key_values}
+use Rattle.rkyv_scan.specs.{fx_hasher, low_halves}
+use Rattle.rkyv_index.specs.{index_set_format}
 use Rattle.rkyv_table.specs.declared.table.list_inputs.Refs.{Refs}
 use Rattle.rkyv_table.proofs.Listing.{all_came, no_other_came, results_listed}
 use Rattle.rkyv_index.proofs.lists.OrderedItemsSerialize.serialize.Goals as goal

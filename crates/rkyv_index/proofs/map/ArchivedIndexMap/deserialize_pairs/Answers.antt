@@ -2,9 +2,9 @@ use Rattle.std.proofs.Common.{◌≡◌, ◌+◌, ◌++◌, ◌∷◌, ◌∙◌
 use Rattle.std.proofs.lemmas.List.{length_push}
 use Rattle.std.specs.List.{slice_get}
 use Rattle.std.proofs.lemmas.Result.{err_from_is_err_and}
-use Rattle.rkyv_base.specs.Pairs.{PairRepresents}
-use Rattle.rkyv_keys.specs.OfEntries.{entry_deserialize_fails}
-use Rattle.rkyv_index.specs.Index.{index_bytes, key_pos}
+use Rattle.rkyv_base.specs.{PairRepresents}
+use Rattle.rkyv_keys.specs.{entry_deserialize_fails}
+use Rattle.rkyv_index.specs.{index_bytes, key_pos}
 use Rattle.rkyv_index.proofs.ListSteps.{pushed_too}
 use Rattle.rkyv_index.proofs.map.ArchivedIndexMap.deserialize_pairs.Goals as goal
 

@@ -1,5 +1,5 @@
 use Rattle.std.proofs.Common.{◌≡◌, length}
-use Rattle.rkyv_index.specs.Index.Reading.{ArePairsRead}
+use Rattle.rkyv_index.specs.{ArePairsRead}
 use Rattle.rkyv_index.proofs.map.ArchivedIndexMap.deserialize_pairs.Given as goal
 
 -- the list has the pairs at the indices below `index`, deserialized

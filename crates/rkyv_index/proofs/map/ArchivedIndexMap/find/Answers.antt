@@ -1,6 +1,6 @@
 use Rattle.std.proofs.Common.{None, refl, subst, sym, ◌∙◌, ◌<◌}
-use Rattle.rkyv_keys.specs.Calls.{hash_at}
-use Rattle.rkyv_index.specs.Index.{IsKeyIn, index_len}
+use Rattle.rkyv_keys.specs.{hash_at}
+use Rattle.rkyv_index.specs.{IsKeyIn, index_len}
 use Rattle.rkyv_index.proofs.Lookups.{counts_index, item_index}
 use Rattle.rkyv_index.proofs.IndicesFound.{gets_index, reads_few, stored_index_found}
 use Rattle.rkyv_index.proofs.map.ArchivedIndexMap.find.Goals as goal

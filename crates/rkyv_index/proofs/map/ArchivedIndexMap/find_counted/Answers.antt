@@ -1,4 +1,4 @@
-use Rattle.rkyv_index.specs.Index.{fits_at, index_of}
+use Rattle.rkyv_index.specs.{fits_at, index_of}
 use Rattle.rkyv_index.proofs.Queries.{compares_fits}
 use Rattle.rkyv_index.proofs.QueryIndices.{query_index}
 use Rattle.rkyv_index.proofs.map.ArchivedIndexMap.find_counted.Goals as goal

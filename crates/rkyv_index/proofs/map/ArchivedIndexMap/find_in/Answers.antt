@@ -1,10 +1,10 @@
 use Rattle.std.proofs.Common.{◌<◌, ℕ, Option, subst, sym}
 use Rattle.std.specs.Prelude.{IfSome}
 use Rattle.std.proofs.lemmas.Option.{IfSome_then}
-use Rattle.rkyv_scan.specs.Hash.{hash_of_calls}
-use Rattle.rkyv_keys.specs.Calls.{hash_at}
-use Rattle.rkyv_table.specs.Table.Header.{len_at}
-use Rattle.rkyv_index.specs.Index.{IsAccepted, IsIndex, IsStoredAt}
+use Rattle.rkyv_scan.specs.{hash_of_calls}
+use Rattle.rkyv_keys.specs.{hash_at}
+use Rattle.rkyv_table.specs.{len_at}
+use Rattle.rkyv_index.specs.{IsAccepted, IsIndex, IsStoredAt}
 use Rattle.rkyv_index.proofs.SealedIndex.{as_read, compares_read, finds_first_read, finds_read, key_read, under_read}
 use Rattle.rkyv_index.proofs.map.ArchivedIndexMap.find_in.Goals as goal
 

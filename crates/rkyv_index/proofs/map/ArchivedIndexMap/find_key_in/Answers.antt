@@ -1,9 +1,9 @@
 use Rattle.std.proofs.Common.{◌<◌}
 use Rattle.std.specs.Prelude.{IfSome}
 use Rattle.std.proofs.lemmas.Option.{IfSome_then}
-use Rattle.rkyv_keys.specs.Calls.{hash_at, hash_of}
-use Rattle.rkyv_table.specs.Table.Header.{len_at}
-use Rattle.rkyv_index.specs.Index.{IsIndex, IsStoredAt}
+use Rattle.rkyv_keys.specs.{hash_at, hash_of}
+use Rattle.rkyv_table.specs.{len_at}
+use Rattle.rkyv_index.specs.{IsIndex, IsStoredAt}
 use Rattle.rkyv_index.proofs.SealedIndex.{as_read, finds_first_key_read, finds_key_read}
 use Rattle.rkyv_index.proofs.map.ArchivedIndexMap.find_key_in.Goals as goal
 

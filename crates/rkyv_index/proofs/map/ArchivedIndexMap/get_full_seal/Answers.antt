@@ -1,5 +1,5 @@
 use Rattle.std.proofs.Common.{subst}
-use Rattle.rkyv_index.specs.Index.SealedIndex.{IsFullSealAt}
+use Rattle.rkyv_index.specs.{IsFullSealAt}
 use Rattle.rkyv_index.proofs.map.ArchivedIndexMap.get_full_seal.Goals as goal
 
 pub returns-clause-finds : goal.returns-clause-finds

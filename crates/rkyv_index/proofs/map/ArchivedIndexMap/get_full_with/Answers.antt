@@ -1,6 +1,5 @@
 use Rattle.std.proofs.Common.{refl, rules}
-use Rattle.rkyv_index.specs.Index.{IsPairOf}
-use Rattle.rkyv_index.specs.Index.Lookups.{full_part}
+use Rattle.rkyv_index.specs.{IsPairOf, full_part}
 use Rattle.rkyv_index.proofs.FromIndex.{by_as}
 use Rattle.rkyv_index.proofs.map.ArchivedIndexMap.get_full_with.Goals as goal
 

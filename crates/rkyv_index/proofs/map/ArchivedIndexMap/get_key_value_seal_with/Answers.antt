@@ -1,5 +1,5 @@
 use Rattle.std.proofs.Common.{subst}
-use Rattle.rkyv_index.specs.Index.SealedIndex.{SealsPair}
+use Rattle.rkyv_index.specs.{SealsPair}
 use Rattle.rkyv_index.proofs.map.ArchivedIndexMap.get_key_value_seal_with.Goals as goal
 
 pub returns-clause-accepted : goal.returns-clause-accepted

@@ -1,5 +1,5 @@
 use Rattle.std.proofs.Common.{subst}
-use Rattle.rkyv_index.specs.Index.SealedIndex.{SealsValue}
+use Rattle.rkyv_index.specs.{SealsValue}
 use Rattle.rkyv_index.proofs.map.ArchivedIndexMap.get_seal_with.Goals as goal
 
 pub returns-clause-accepted : goal.returns-clause-accepted

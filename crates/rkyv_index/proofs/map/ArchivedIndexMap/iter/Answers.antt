@@ -1,11 +1,9 @@
 use Rattle.std.proofs.Common.{◌≡◌, ◌*◌, ◌<◌, ◌^◌, ◌∙◌, ap, arith, length, subst, sym, List, ℕ, Bor}
 use Rattle.std.specs.List.{All}
 use Rattle.std.proofs.lemmas.List.Elements.{All-same}
-use Rattle.rkyv_base.specs.Entry.{entry_spec}
+use Rattle.rkyv_base.specs.{Viewable, entry_spec}
 use Rattle.rkyv_base.specs.Lemmas.Entry.{entry_element}
-use Rattle.rkyv_base.specs.ElementSpec.{Viewable}
-use Rattle.rkyv_index.specs.Index.{index_bytes, index_len, index_pos, key_positions, row}
-use Rattle.rkyv_index.specs.Index.IndexLayout.{entries_pos}
+use Rattle.rkyv_index.specs.{entries_pos, index_bytes, index_len, index_pos, key_positions, row}
 use Rattle.rkyv_index.proofs.ValidIndexMap.{entries_inside, entries_viewable}
 use Rattle.rkyv_index.proofs.Rows.{row_length}
 use Rattle.rkyv_index.proofs.map.ArchivedIndexMap.iter.Goals as goal

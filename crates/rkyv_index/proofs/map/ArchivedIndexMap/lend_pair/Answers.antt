@@ -1,5 +1,5 @@
 use Rattle.rkyv_table.proofs.PairSeals.{pair_lent}
-use Rattle.rkyv_index.specs.Index.SealedIndex.{IsPairPosIn}
+use Rattle.rkyv_index.specs.{IsPairPosIn}
 use Rattle.rkyv_index.proofs.map.ArchivedIndexMap.lend_pair.Goals as goal
 
 pub returns-clause-lent : goal.returns-clause-lent

@@ -1,7 +1,6 @@
 use Rattle.std.proofs.Common.{subst, ◌≡◌, ◌<◌, ◌∙◌, ap, arith, sym, Bool, ℕ}
-use Rattle.rkyv_keys.specs.Calls.{hash_at}
-use Rattle.rkyv_index.specs.Index.Equality.{ReturnsRepeated, is_misplaced, is_repeated}
-use Rattle.rkyv_index.specs.Index.{index_len, index_of}
+use Rattle.rkyv_keys.specs.{hash_at}
+use Rattle.rkyv_index.specs.{ReturnsRepeated, index_len, index_of, is_misplaced, is_repeated}
 use Rattle.rkyv_index.specs.declared.map.ArchivedIndexMap.{ArchivedIndexMap}
 use Rattle.rkyv_index.proofs.Counted.{count_is_all, left_first, none_more, one_more}
 use Rattle.rkyv_index.proofs.map.ArchivedIndexMap.misplaced.Goals.{else-is_misplaced, then-is_misplaced}

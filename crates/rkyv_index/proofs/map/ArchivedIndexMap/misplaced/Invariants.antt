@@ -1,8 +1,7 @@
 use Rattle.std.proofs.Common.{List, ℕ, ◌≡◌, ◌≤◌, ◌+◌, ◌-◌, filter, length}
 use Rattle.std.specs.List.{range_with_len}
-use Rattle.rkyv_keys.specs.Calls.{hash_at}
-use Rattle.rkyv_index.specs.Index.Equality.{index_misplaced, index_repeated, is_misplaced, is_repeated}
-use Rattle.rkyv_index.specs.Index.{IsWritten, index_len, index_of}
+use Rattle.rkyv_keys.specs.{hash_at}
+use Rattle.rkyv_index.specs.{IsWritten, index_len, index_misplaced, index_of, index_repeated, is_misplaced, is_repeated}
 use Rattle.rkyv_index.proofs.map.ArchivedIndexMap.misplaced.Given as goal
 
 -- the number of misplaced keys is the count and the number of those that remain

@@ -1,11 +1,9 @@
 use Rattle.std.proofs.Common.{subst, ◌≡◌, ◌+◌, ◌-◌, ◌/◌, ◌<◌, ◌≤◌, ◌^◌, ◌⊎◌, ◌∙◌, ap, arith, sym, Bool, ℕ}
 use Rattle.std.specs.List.{range_with_len, sum_by}
-use Rattle.rkyv_keys.specs.Calls.{hash_at}
-use Rattle.rkyv_table.specs.Controls.Numbers.{probe_capacity}
-use Rattle.rkyv_table.specs.Table.Header.{cap_at}
+use Rattle.rkyv_keys.specs.{hash_at}
+use Rattle.rkyv_table.specs.{cap_at, probe_capacity}
 use Rattle.rkyv_table.proofs.MisplacedIn.{past_all, reads_on}
-use Rattle.rkyv_index.specs.Index.Equality.{is_misplaced, keys_strides, own_strides}
-use Rattle.rkyv_index.specs.Index.{index_bytes, index_len, index_of, index_pos}
+use Rattle.rkyv_index.specs.{index_bytes, index_len, index_of, index_pos, is_misplaced, keys_strides, own_strides}
 use Rattle.rkyv_index.specs.declared.map.ArchivedIndexMap.{ArchivedIndexMap}
 use Rattle.rkyv_index.proofs.Counted.{count_is_all, left_first, none_more, one_more, sum_end, sum_first, sum_step}
 use Rattle.rkyv_index.proofs.map.ArchivedIndexMap.misplaced_up_to_counted.Goals.{After-is_misplaced-is_misplaced, else-is_misplaced, then-is_misplaced}

@@ -1,8 +1,7 @@
 use Rattle.std.proofs.Common.{ℕ, ◌≡◌, ◌≤◌, ◌+◌, ◌-◌, ◌^◌, filter, length}
 use Rattle.std.specs.List.{range_with_len, sum_by}
-use Rattle.rkyv_keys.specs.Calls.{hash_at}
-use Rattle.rkyv_index.specs.Index.Equality.{index_misplaced, is_misplaced, keys_strides, own_strides}
-use Rattle.rkyv_index.specs.Index.{index_len, index_of}
+use Rattle.rkyv_keys.specs.{hash_at}
+use Rattle.rkyv_index.specs.{index_len, index_misplaced, index_of, is_misplaced, keys_strides, own_strides}
 use Rattle.rkyv_index.proofs.map.ArchivedIndexMap.misplaced_up_to_counted.Given as goal
 
 -- the number of misplaced keys is the count and the number of those that remain,

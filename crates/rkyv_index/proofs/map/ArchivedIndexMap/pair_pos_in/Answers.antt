@@ -1,11 +1,8 @@
 use Rattle.std.proofs.Common.{◌≡◌, ◌<◌, ◌∙◌, ap, refl, subst, sym, List, ℕ}
-use Rattle.rkyv_base.specs.Entry.{entry_spec}
+use Rattle.rkyv_base.specs.{Viewable, entry_spec}
 use Rattle.rkyv_base.specs.Lemmas.Entry.{entry_element}
-use Rattle.rkyv_base.specs.ElementSpec.{Viewable}
-use Rattle.rkyv_table.specs.Table.Header.{len_at}
-use Rattle.rkyv_index.specs.Index.{index_len, key_pos}
-use Rattle.rkyv_index.specs.Index.SealedIndex.{IsPairPos}
-use Rattle.rkyv_index.specs.Index.ValueWrites.{pair_at}
+use Rattle.rkyv_table.specs.{len_at}
+use Rattle.rkyv_index.specs.{IsPairPos, index_len, key_pos, pair_at}
 use Rattle.rkyv_index.proofs.ValidIndexMap.{entry_viewable}
 use Rattle.rkyv_table.proofs.Moved.{moved}
 use Rattle.rkyv_index.proofs.SealedIndex.{as_read}

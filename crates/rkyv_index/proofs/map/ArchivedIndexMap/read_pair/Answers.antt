@@ -1,9 +1,9 @@
 use Rattle.std.proofs.Common.{List, subst, ℕ}
 use Rattle.std.specs.Borrow.{Bor}
 use Rattle.std.specs.Prelude.{MatchResult}
-use Rattle.rkyv_base.specs.Pairs.{PairRepresents}
-use Rattle.rkyv_keys.specs.OfEntries.{entry_deserialize_fails}
-use Rattle.rkyv_index.specs.Index.{index_bytes, key_pos}
+use Rattle.rkyv_base.specs.{PairRepresents}
+use Rattle.rkyv_keys.specs.{entry_deserialize_fails}
+use Rattle.rkyv_index.specs.{index_bytes, key_pos}
 use Rattle.rkyv_index.proofs.map.ArchivedIndexMap.read_pair.Goals as goal
 
 pub returns : goal.returns

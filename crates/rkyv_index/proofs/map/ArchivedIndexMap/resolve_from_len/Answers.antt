@@ -3,9 +3,8 @@ use Rattle.std.specs.Prelude.{FitsSigned}
 use Rattle.std.specs.Int.{byte_len, cast_unsigned, to_le_bytes, w64}
 use Rattle.std.proofs.lemmas.Int.{to_z-of_z}
 use Rattle.std.proofs.lemmas.Result.{err_from_is_err_and}
-use Rattle.rkyv_table.specs.Table.Header.{HeaderOverflows, IsHeader}
-use Rattle.rkyv_table.specs.Controls.Numbers.{capacity}
-use Rattle.rkyv_index.specs.Index.IndexHeader.{IndexResolver}
+use Rattle.rkyv_table.specs.{HeaderOverflows, IsHeader, capacity}
+use Rattle.rkyv_index.specs.{IndexResolver}
 use Rattle.rkyv_index.proofs.Headers.{header_of, overflow_of}
 use Rattle.rkyv_index.proofs.map.ArchivedIndexMap.resolve_from_len.Goals as goal
 

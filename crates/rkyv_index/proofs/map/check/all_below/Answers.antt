@@ -1,6 +1,6 @@
 use Rattle.std.proofs.Common.{◌≡◌, ◌∙◌, ◌+◌, ◌*◌, ◌<◌, ◌≤◌, ap, arith, length, subst, sym}
 use Rattle.std.specs.Int.{byte_len}
-use Rattle.rkyv_base.specs.Bytes.{number_at}
+use Rattle.rkyv_base.specs.{number_at}
 use Rattle.rkyv_index.proofs.Checking.{below_next, word_inside}
 use Rattle.rkyv_index.proofs.map.check.all_below.Goals as goal
 

@@ -1,5 +1,5 @@
 use Rattle.std.proofs.Common.{◌≡◌, true}
-use Rattle.rkyv_index.specs.Index.IndexLayout.{AreBelow}
+use Rattle.rkyv_index.specs.{AreBelow}
 use Rattle.rkyv_index.proofs.map.check.all_below.Given as goal
 
 -- the result is `true` only if the indices that were read are below the length

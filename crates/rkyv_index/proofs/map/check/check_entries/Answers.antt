@@ -1,8 +1,8 @@
 use Rattle.std.proofs.Common.{◌∙◌, ◌+◌, ap, inl, inr, subst, sym, List, ℕ}
 use Rattle.std.proofs.lemmas.Result.{err_from_is_err_and}
-use Rattle.rkyv_table.specs.Table.ValidItems.{AreValidAt, FirstFails}
+use Rattle.rkyv_table.specs.{AreValidAt, FirstFails}
 use Rattle.rkyv_table.proofs.Lists.{range_cons}
-use Rattle.rkyv_index.specs.Index.IndexLayout.{entry_at}
+use Rattle.rkyv_index.specs.{entry_at}
 use Rattle.rkyv_index.proofs.Checking.{entry_aligned, entry_next}
 use Rattle.rkyv_index.proofs.map.check.check_entries.Goals as goal
 

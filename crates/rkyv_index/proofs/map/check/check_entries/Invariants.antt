@@ -1,8 +1,8 @@
 use Rattle.std.proofs.Common.{◌≡◌, ◌≤◌, ◌-◌, ℕ}
 use Rattle.std.specs.List.{range_with_len}
 use Rattle.rkyv_base.specs.declared.errors.VerifyError.{VerifyError}
-use Rattle.rkyv_table.specs.Table.ValidItems.{AreValidAt, FirstFails}
-use Rattle.rkyv_index.specs.Index.IndexLayout.{entry_at, indices_of}
+use Rattle.rkyv_table.specs.{AreValidAt, FirstFails}
+use Rattle.rkyv_index.specs.{entry_at, indices_of}
 use Rattle.rkyv_index.proofs.map.check.check_entries.Given as goal
 
 -- `at` is the position of the next entry. The result for the remaining entries is that for all

@@ -3,15 +3,10 @@ use Rattle.std.specs.Borrow.{Bor}
 use Rattle.std.specs.Int.{byte_len}
 use Rattle.std.specs.List.{All}
 use Rattle.std.proofs.lemmas.List.Elements.{All-cons, All-head, All-rest}
-use Rattle.rkyv_base.specs.Bytes.{number_at}
-use Rattle.rkyv_base.specs.ElementSpec.{Viewable}
-use Rattle.rkyv_table.specs.Table.Layout.{table_spec}
-use Rattle.rkyv_table.specs.Table.Decoded.{IsDecoded}
-use Rattle.rkyv_table.specs.Table.Header.{cap_at, len_at}
-use Rattle.rkyv_table.specs.Table.Positions.{item_positions}
-use Rattle.rkyv_table.specs.Table.RawItems.{AllValid, ItemsLeft}
+use Rattle.rkyv_base.specs.{Viewable, number_at}
+use Rattle.rkyv_table.specs.{AllValid, IsDecoded, ItemsLeft, cap_at, item_positions, len_at, table_spec}
 use Rattle.rkyv_table.proofs.Moved.{moved}
-use Rattle.rkyv_index.specs.Index.IndexLayout.{AreBelow, FirstNotBelow, IndicesBelow}
+use Rattle.rkyv_index.specs.{AreBelow, FirstNotBelow, IndicesBelow}
 use Rattle.rkyv_index.specs.Lemmas.IndexSpecs.{number_table_viewable}
 use Rattle.rkyv_index.proofs.Checking.{buckets_below, decoded_before, decoded_begin, decoded_inside, moved_from_view, view_there}
 use Rattle.rkyv_index.proofs.map.check.check_indices.Goals as goal

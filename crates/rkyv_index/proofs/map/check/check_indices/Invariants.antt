@@ -1,10 +1,8 @@
 use Rattle.std.proofs.Common.{◌≡◌}
 use Rattle.std.specs.Int.{byte_len}
 use Rattle.rkyv_base.specs.declared.errors.VerifyError.{VerifyError}
-use Rattle.rkyv_table.specs.Table.Header.{len_at}
-use Rattle.rkyv_table.specs.Table.RawItems.{AllValid}
-use Rattle.rkyv_table.specs.Table.Positions.{item_positions}
-use Rattle.rkyv_index.specs.Index.IndexLayout.{FirstNotBelow, IndicesBelow}
+use Rattle.rkyv_table.specs.{AllValid, item_positions, len_at}
+use Rattle.rkyv_index.specs.{FirstNotBelow, IndicesBelow}
 use Rattle.rkyv_index.proofs.map.check.check_indices.Given as goal
 
 -- the remaining indices are inside the archive. The result for them is that for all

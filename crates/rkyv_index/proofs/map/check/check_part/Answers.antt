@@ -1,7 +1,7 @@
 use Rattle.std.proofs.Common.{◌+◌, ◌*◌, ap, inl, inr, rules, FitsSigned}
 use Rattle.std.specs.Int.{w128}
 use Rattle.std.proofs.lemmas.Result.{err_from_is_err_and}
-use Rattle.rkyv_index.specs.Index.IndexLayout.{decode_entries}
+use Rattle.rkyv_index.specs.{decode_entries}
 use Rattle.rkyv_index.proofs.Checking.{decoded_is}
 use Rattle.rkyv_index.proofs.map.check.check_part.Goals as goal
 

@@ -1,8 +1,8 @@
 use Rattle.std.proofs.Common.{FitsSigned, rules, ap, ◌∙◌, ◌+◌, ◌*◌, ◌≡◌, ◌+ℤ◌, pos, List, ℕ}
 use Rattle.std.specs.Int.{byte_len, w128, w64}
 use Rattle.std.proofs.lemmas.Int.{to_z-of_z}
-use Rattle.rkyv_base.specs.Bytes.{signed_at}
-use Rattle.rkyv_index.specs.Index.IndexLayout.{decode_entries}
+use Rattle.rkyv_base.specs.{signed_at}
+use Rattle.rkyv_index.specs.{decode_entries}
 use Rattle.rkyv_index.proofs.Checking.{decoded_is}
 use Rattle.rkyv_index.proofs.map.check.decode_entries.Goals as goal
 

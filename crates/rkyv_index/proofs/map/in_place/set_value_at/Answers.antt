@@ -1,8 +1,7 @@
 use Rattle.std.proofs.Common.{◌∙◌, ap, subst}
-use Rattle.rkyv_base.specs.Scalar.{ScalarRepresents}
+use Rattle.rkyv_base.specs.{ScalarRepresents, with_value}
 use Rattle.rkyv_base.specs.Lemmas.Scalar.{scalar_local}
-use Rattle.rkyv_base.specs.Sealing.{with_value}
-use Rattle.rkyv_keys.specs.Calls.{hash_at}
+use Rattle.rkyv_keys.specs.{hash_at}
 use Rattle.rkyv_keys.specs.Lemmas.QueryLaws.{hash_local}
 use Rattle.rkyv_index.proofs.ValueWrites.{index_kept, value_written, written_value_represents}
 use Rattle.rkyv_index.proofs.map.in_place.set_value_at.Goals as goal

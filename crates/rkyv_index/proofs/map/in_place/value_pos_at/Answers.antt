@@ -1,8 +1,7 @@
 use Rattle.std.proofs.Common.{◌≤◌, ◌<◌, ◌+◌, ◌≡◌, ◌∙◌, ap, length, refl, subst, sym}
-use Rattle.rkyv_base.specs.Entry.{value_offset}
-use Rattle.rkyv_table.specs.Table.Header.{len_at}
-use Rattle.rkyv_index.specs.Index.{index_len, key_pos}
-use Rattle.rkyv_index.specs.Index.ValueWrites.{pair_at}
+use Rattle.rkyv_base.specs.{value_offset}
+use Rattle.rkyv_table.specs.{len_at}
+use Rattle.rkyv_index.specs.{index_len, key_pos, pair_at}
 use Rattle.rkyv_table.proofs.Moved.{moved}
 use Rattle.rkyv_index.proofs.SealedIndex.{as_read}
 use Rattle.rkyv_index.proofs.ValueWrites.{pair_position}

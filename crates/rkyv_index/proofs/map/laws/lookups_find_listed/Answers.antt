@@ -1,10 +1,10 @@
 use Rattle.std.proofs.Common.{◌≡◌, ◌<◌, ap, arith, sym, ℕ}
 use Rattle.std.specs.List.{find, range_with_len}
 use Rattle.std.proofs.lemmas.Option.{slice_get_within}
-use Rattle.rkyv_base.specs.Entry.{entry_spec}
+use Rattle.rkyv_base.specs.{entry_spec}
 use Rattle.rkyv_base.specs.Lemmas.Entry.{entry_element}
 use Rattle.rkyv_keys.specs.Lemmas.OfEntries.{valid_key}
-use Rattle.rkyv_index.specs.Index.{fits_at, index_bytes, index_len, index_of, index_pos, key_pos}
+use Rattle.rkyv_index.specs.{fits_at, index_bytes, index_len, index_of, index_pos, key_pos}
 use Rattle.rkyv_index.proofs.ValidIndexMap.{entry_viewable}
 use Rattle.rkyv_index.proofs.FirstListed.{first_listed}
 use Rattle.rkyv_index.proofs.map.laws.lookups_find_listed.Goals as goal

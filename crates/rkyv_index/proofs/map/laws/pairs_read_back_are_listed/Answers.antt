@@ -1,11 +1,10 @@
 use Rattle.std.proofs.Common.{◌<◌, ◌∙◌, arith, sym}
 use Rattle.std.proofs.lemmas.Option.{slice_get_within}
-use Rattle.rkyv_base.specs.Entry.{entry_spec}
+use Rattle.rkyv_base.specs.{entry_spec}
 use Rattle.rkyv_base.specs.Lemmas.Entry.{entry_element}
 use Rattle.rkyv_keys.specs.Lemmas.OfEntries.{entry_once}
-use Rattle.rkyv_table.specs.Table.Header.{len_at}
-use Rattle.rkyv_index.specs.Index.Reading.{pairs_equal}
-use Rattle.rkyv_index.specs.Index.ValueWrites.{pair_at}
+use Rattle.rkyv_table.specs.{len_at}
+use Rattle.rkyv_index.specs.{pair_at, pairs_equal}
 use Rattle.rkyv_index.proofs.ValidIndexMap.{entry_viewable}
 use Rattle.rkyv_index.proofs.ListSteps.{equal_lists}
 use Rattle.rkyv_index.proofs.map.laws.pairs_read_back_are_listed.Goals as goal

@@ -1,4 +1,4 @@
-use Rattle.rkyv_keys.specs.Calls.{hash_at}
+use Rattle.rkyv_keys.specs.{hash_at}
 use Rattle.rkyv_keys.specs.Lemmas.QueryLaws.{hash_local}
 use Rattle.rkyv_index.proofs.ValueWrites.{index_kept}
 use Rattle.rkyv_index.proofs.map.laws.value_writes_keep_index_maps.Goals as goal

@@ -1,7 +1,7 @@
 use Rattle.std.proofs.Common.{◌<◌, arith}
 use Rattle.std.proofs.lemmas.Option.{slice_get_within}
-use Rattle.rkyv_table.specs.Table.Header.{len_at}
-use Rattle.rkyv_keys.specs.Calls.{hash_at}
+use Rattle.rkyv_table.specs.{len_at}
+use Rattle.rkyv_keys.specs.{hash_at}
 use Rattle.rkyv_keys.specs.Lemmas.QueryLaws.{hash_local}
 use Rattle.rkyv_index.proofs.ValueWrites.{written_value_represents}
 use Rattle.rkyv_index.proofs.map.laws.values_written_represent.Goals as goal

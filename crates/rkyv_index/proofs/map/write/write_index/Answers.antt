@@ -1,6 +1,6 @@
 use Rattle.std.proofs.Common.{arith, inr}
 use Rattle.std.proofs.lemmas.Result.{err_from_is_err_and}
-use Rattle.rkyv_base.specs.Writing.{end_of}
+use Rattle.rkyv_base.specs.{end_of}
 use Rattle.rkyv_index.proofs.IndexSteps.{index_wrote, indices_fail, parts_fail, row_fails, zeros_fail}
 use Rattle.rkyv_index.proofs.RowSteps.{parts_count}
 use Rattle.rkyv_index.proofs.map.write.write_index.Goals as goal

@@ -1,6 +1,6 @@
 use Rattle.std.proofs.Common.{◌∙◌, ap}
 use Rattle.std.specs.Slice.Iter.{iter_rest}
-use Rattle.rkyv_index.specs.Index.IndexFormat.{indices_from}
+use Rattle.rkyv_index.specs.{indices_from}
 use Rattle.rkyv_index.proofs.IndexSteps.{indices_result}
 use Rattle.rkyv_index.proofs.map.write.write_indices.Goals as goal
 

@@ -2,8 +2,7 @@ use Rattle.std.proofs.Common.{◌≡◌, ◌+◌, ◌++◌, ◌∷◌, ◌∙◌
 use Rattle.std.proofs.lemmas.List.{length_push}
 use Rattle.std.specs.List.{slice_get}
 use Rattle.std.proofs.lemmas.Result.{err_from_is_err_and}
-use Rattle.rkyv_index.specs.Index.{key_pos}
-use Rattle.rkyv_index.specs.Set.IndexSet.{keys_of, set_bytes}
+use Rattle.rkyv_index.specs.{key_pos, keys_of, set_bytes}
 use Rattle.rkyv_index.proofs.ListSteps.{pushed_too}
 use Rattle.rkyv_index.proofs.set.ArchivedIndexSet.deserialize_items.Goals as goal
 

@@ -1,5 +1,5 @@
 use Rattle.std.proofs.Common.{◌≡◌, length}
-use Rattle.rkyv_index.specs.Index.Reading.{AreItemsRead}
+use Rattle.rkyv_index.specs.{AreItemsRead}
 use Rattle.rkyv_index.proofs.set.ArchivedIndexSet.deserialize_items.Given as goal
 
 -- the list has the keys at the indices below `index`, deserialized

@@ -1,7 +1,7 @@
 use Rattle.std.proofs.Common.{List, subst, ◌∙◌, ℕ}
 use Rattle.std.specs.Borrow.{Bor}
 use Rattle.std.specs.Prelude.{MatchResult}
-use Rattle.rkyv_index.specs.Index.{index_bytes, key_pos}
+use Rattle.rkyv_index.specs.{index_bytes, key_pos}
 use Rattle.rkyv_index.proofs.set.ArchivedIndexSet.read_item.Goals as goal
 
 pub returns : goal.returns

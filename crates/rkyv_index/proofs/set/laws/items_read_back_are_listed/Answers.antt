@@ -3,14 +3,12 @@ use Rattle.std.specs.Option.{option_map}
 use Rattle.std.proofs.lemmas.List.{length-map}
 use Rattle.std.proofs.lemmas.Option.{slice_get-map, slice_get_within}
 use Rattle.std.specs.List.{slice_get}
-use Rattle.rkyv_base.specs.Empty.{unit_spec}
+use Rattle.rkyv_base.specs.{entry_spec, unit_spec}
 use Rattle.rkyv_base.specs.Lemmas.Empty.{unit_element}
-use Rattle.rkyv_base.specs.Entry.{entry_spec}
 use Rattle.rkyv_base.specs.Lemmas.Entry.{entry_element}
 use Rattle.rkyv_keys.specs.Lemmas.OfEntries.{valid_key}
-use Rattle.rkyv_table.specs.Table.Header.{len_at}
-use Rattle.rkyv_table.specs.Table.ItemValues.{with_units}
-use Rattle.rkyv_index.specs.Index.ValueWrites.{pair_at}
+use Rattle.rkyv_table.specs.{len_at, with_units}
+use Rattle.rkyv_index.specs.{pair_at}
 use Rattle.rkyv_index.proofs.ValidIndexMap.{entry_viewable}
 use Rattle.rkyv_index.proofs.ListSteps.{equal_lists}
 use Rattle.rkyv_index.proofs.set.laws.items_read_back_are_listed.Goals as goal

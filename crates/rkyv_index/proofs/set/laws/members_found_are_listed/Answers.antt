@@ -1,5 +1,4 @@
-use Rattle.rkyv_keys.specs.Natives.{native_keys}
-use Rattle.rkyv_keys.specs.Calls.{hash_at}
+use Rattle.rkyv_keys.specs.{hash_at, native_keys}
 use Rattle.rkyv_index.proofs.ListArchives.{members_listed}
 use Rattle.rkyv_index.proofs.set.laws.members_found_are_listed.Goals as goal
 

@@ -1,5 +1,5 @@
 use Rattle.std.proofs.Common.{arith, refl, subst, sym}
-use Rattle.rkyv_inspect.specs.Regions.{Covers}
+use Rattle.rkyv_inspect.specs.{Covers}
 use Rattle.rkyv_inspect.proofs.Coverings.{covers_more}
 use Rattle.rkyv_inspect.proofs.regions.RegionList.add.Goals as goal
 

@@ -1,11 +1,5 @@
 use Rattle.std.proofs.Common.{ap, option_map, refl, sym, ◌∙◌}
-use Rattle.rkyv_inspect_program.specs.CommandLines.{
-  option_argument,
-  with_key,
-  with_kind,
-  with_value,
-  with_width,
-}
+use Rattle.rkyv_inspect_program.specs.{option_argument, with_key, with_kind, with_value, with_width}
 use Rattle.rkyv_inspect_program.proofs.Adding.{adds}
 use Rattle.rkyv_inspect_program.proofs.Parsing.{value_more, value_stops}
 use Rattle.rkyv_inspect_program.proofs.options.Options.after_value.Goals as goal

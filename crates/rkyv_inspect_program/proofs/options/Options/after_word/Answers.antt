@@ -1,6 +1,6 @@
 use Rattle.std.proofs.Common.{Some, ap, refl, sym, ◌∙◌}
 use Rattle.rkyv_inspect_program.specs.declared.options.Name.TheVariants.{Color, Help, Svg}
-use Rattle.rkyv_inspect_program.specs.CommandLines.{as_svg, in_color, with_help}
+use Rattle.rkyv_inspect_program.specs.{as_svg, in_color, with_help}
 use Rattle.rkyv_inspect_program.proofs.Adding.{adds, adds_file}
 use Rattle.rkyv_inspect_program.proofs.Parsing.{file_fails, file_more, flag_more, hyphen_fails}
 use Rattle.rkyv_inspect_program.proofs.options.Options.after_word.Goals as goal

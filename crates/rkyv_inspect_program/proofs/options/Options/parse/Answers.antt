@@ -1,6 +1,6 @@
 use Rattle.std.proofs.Common.{Global, ap, drop, map, string_bytes, subst, take, ◌++◌, ◌+◌, ◌∙◌}
 use Rattle.std.proofs.lemmas.List.{take_all}
-use Rattle.rkyv_inspect_program.specs.CommandLines.{NamesNoOptions, NamesSoFar}
+use Rattle.rkyv_inspect_program.specs.{NamesNoOptions, NamesSoFar}
 use Rattle.rkyv_inspect_program.proofs.Parsing.{awaits, mapped_more, mapped_whole}
 use Rattle.rkyv_inspect_program.proofs.options.Options.parse.Goals as goal
 

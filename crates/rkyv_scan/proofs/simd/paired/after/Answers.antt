@@ -1,5 +1,5 @@
 use Rattle.std.proofs.Common.{refl}
-use Rattle.rkyv_scan.specs.Paired.{bits_after}
+use Rattle.rkyv_scan.specs.{bits_after}
 use Rattle.rkyv_scan.proofs.simd.paired.after.Goals as goal
 
 pub returns : goal.returns

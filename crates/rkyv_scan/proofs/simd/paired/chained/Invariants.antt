@@ -1,5 +1,5 @@
 use Rattle.std.proofs.Common.{◌≡◌}
-use Rattle.rkyv_scan.specs.Paired.{chain}
+use Rattle.rkyv_scan.specs.{chain}
 use Rattle.rkyv_scan.proofs.simd.paired.chained.Given as goal
 
 abbrev pub invariant-loop-step : goal.invariant-loop-step

@@ -1,13 +1,8 @@
 use Rattle.std.proofs.Common.{arith, ◌≡◌, ℕ, ◌+◌, ◌/◌, ◌<◌, sym, ap, ◌∙◌, Bool, List, Option, length, drop, length-take, length-drop, []}
-use Rattle.rkyv_table.specs.Controls.ControlBytes.{IsFullBucket}
-use Rattle.rkyv_table.specs.Controls.Finding.{ComparesByBucket, ReadsWithin, end, found}
-use Rattle.rkyv_table.specs.Controls.StrideOutcome.{IsFullInStride}
+use Rattle.rkyv_table.specs.{AreValidControls, ComparesByBucket, IsFullBucket, IsFullInStride, ReadsWithin, end, found, probe_capacity, strides, tag}
 use Rattle.rkyv_table.proofs.Coverage.{count_strides, stride_below}
 use Rattle.rkyv_table.proofs.FirstFree.{member_front, member_rest}
-use Rattle.rkyv_table.specs.Controls.Numbers.{probe_capacity, tag}
-use Rattle.rkyv_table.specs.Controls.Probe.{strides}
 use Rattle.rkyv_table.proofs.Search.{found_along}
-use Rattle.rkyv_table.specs.Controls.Placing.{AreValidControls}
 use Rattle.rkyv_table.proofs.Lookup.{end_index, end_is, ends_by_empty, ends_by_item, ends_somewhere, few_strides, found_is, goes_on, shown_full, stride_full}
 use Rattle.rkyv_table.proofs.controls.find.find_from.Goals as goal
 use Rattle.rkyv_table.proofs.controls.find.find_from.Goals.{After-cmp-1}

@@ -1,9 +1,6 @@
 use Rattle.std.proofs.Common.{◌≡◌, ℕ, ◌+◌, ◌≤◌, Bool, eqb, true, length}
 use Rattle.std.specs.List.{list_any}
-use Rattle.rkyv_table.specs.Controls.ControlBytes.{IsFullBucket}
-use Rattle.rkyv_table.specs.Controls.Finding.{ComparesByBucket}
-use Rattle.rkyv_table.specs.Controls.Numbers.{tag}
-use Rattle.rkyv_table.specs.Controls.Probe.{strides}
+use Rattle.rkyv_table.specs.{ComparesByBucket, IsFullBucket, strides, tag}
 use Rattle.rkyv_table.proofs.Search.{found_along}
 use Rattle.rkyv_table.proofs.Lookup.{end_index}
 use Rattle.rkyv_table.proofs.controls.find.find_from.Given as goal

@@ -1,7 +1,7 @@
 use Rattle.std.proofs.Common.{◌≡◌, ℕ, List, ◌+◌, ◌%◌, ◌<◌, sym, ap, ◌∙◌, arith, true, false, map, drop, length, get_or, Some}
 use Rattle.std.specs.List.{find, slice_get}
 use Rattle.std.proofs.lemmas.List.{drop-drop}
-use Rattle.rkyv_table.specs.Controls.StrideOutcome.{IsMarked}
+use Rattle.rkyv_table.specs.{IsMarked}
 use Rattle.rkyv_table.proofs.Marks.{head_at, head_found, head_skipped, none_found}
 use Rattle.rkyv_table.proofs.controls.find.first_accepted.Goals as goal
 

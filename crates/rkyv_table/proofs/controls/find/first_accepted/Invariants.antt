@@ -1,7 +1,6 @@
 use Rattle.std.proofs.Common.{◌≡◌, ℕ, ◌+◌, ◌%◌, Bool, map, length, drop}
 use Rattle.std.specs.List.{find}
-use Rattle.rkyv_table.specs.Controls.StrideOutcome.{IsMarked}
-use Rattle.rkyv_table.specs.Controls.Finding.{ComparesByBucket}
+use Rattle.rkyv_table.specs.{ComparesByBucket, IsMarked}
 use Rattle.rkyv_table.proofs.controls.find.first_accepted.Given as goal
 
 abbrev pub invariant-loop-j : goal.invariant-loop-j

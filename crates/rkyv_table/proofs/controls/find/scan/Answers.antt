@@ -1,11 +1,11 @@
 use Rattle.std.proofs.Common.{arith, ◌≡◌, ◌+◌, ◌*◌, ◌≤◌, ℕ, sym, ap, ◌∙◌, take, drop, List, leb, get_or, None}
 use Rattle.std.specs.List.{find, list_any, range_with_len}
-use Rattle.rkyv_scan.specs.Groups.{Kind}
+use Rattle.rkyv_scan.specs.{Kind}
 use Rattle.rkyv_table.proofs.Groups.{all_candidates, all_empty, candidates_in, empty_in, found_more, found_whole, group_fits, group_of, groups_end, indices_are, mark_is_any, more_empty, no_candidates, no_empty, or_no, width_divides}
 use Rattle.rkyv_table.proofs.Search.{width_some}
 use Rattle.rkyv_table.proofs.WholeStride.{whole_found, whole_marked_full, whole_none}
 use Rattle.std.proofs.lemmas.Bool.{or_right}
-use Rattle.rkyv_table.specs.Controls.StrideOutcome.{IsFullInStride, IsMarked}
+use Rattle.rkyv_table.specs.{IsFullInStride, IsMarked}
 use Rattle.rkyv_table.proofs.Marks.{index_full, marked_bucket_full}
 use Rattle.rkyv_table.proofs.controls.find.scan.Goals as goal
 use Rattle.rkyv_table.proofs.controls.find.scan.Goals.{After-match_byte, After-match_byte-in-loop-i, else-any_bit_set-2, then-any_bit_set-2}

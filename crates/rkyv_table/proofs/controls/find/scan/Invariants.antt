@@ -1,7 +1,6 @@
 use Rattle.std.proofs.Common.{◌≡◌, ℕ, ◌*◌, Bool, List, take, drop, None}
 use Rattle.std.specs.List.{find}
-use Rattle.rkyv_table.specs.Controls.StrideOutcome.{IsFullInStride}
-use Rattle.rkyv_table.specs.Controls.Finding.{ComparesByBucket}
+use Rattle.rkyv_table.specs.{ComparesByBucket, IsFullInStride}
 use Rattle.rkyv_table.proofs.Groups.{candidates_in, empty_in}
 use Rattle.rkyv_table.proofs.controls.find.scan.Given as goal
 

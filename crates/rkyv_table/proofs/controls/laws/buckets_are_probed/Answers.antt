@@ -1,6 +1,6 @@
 use Rattle.std.proofs.Common.{eqb, refl}
 use Rattle.std.proofs.lemmas.Bool.{eq-eqb}
-use Rattle.rkyv_table.specs.Controls.Probe.{probed}
+use Rattle.rkyv_table.specs.{probed}
 use Rattle.rkyv_table.proofs.FirstFree.{free_probed}
 use Rattle.rkyv_table.proofs.Lists.{member_contains}
 use Rattle.rkyv_table.proofs.controls.laws.buckets_are_probed.Goals as goal

@@ -1,6 +1,6 @@
 use Rattle.std.proofs.Common.{arith, ◌≡◌, ◌+◌, ◌*◌, ◌<◌, ◌≤◌, ◌/◌, sym, ap, ◌∙◌, None}
 use Rattle.std.specs.List.{find, range_with_len}
-use Rattle.rkyv_table.specs.Controls.ControlBytes.{is_empty_at}
+use Rattle.rkyv_table.specs.{is_empty_at}
 use Rattle.rkyv_table.proofs.Groups.{group_fits, groups_end, indices_are, width_divides}
 use Rattle.rkyv_table.proofs.FirstFree.{empty_index_is, index_inside, more_indices, no_range, whole_stride}
 use Rattle.rkyv_table.proofs.controls.place.first_empty.Goals as goal

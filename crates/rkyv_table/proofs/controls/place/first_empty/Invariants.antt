@@ -1,6 +1,6 @@
 use Rattle.std.proofs.Common.{◌≡◌, ◌*◌, None}
 use Rattle.std.specs.List.{find, range_with_len}
-use Rattle.rkyv_table.specs.Controls.ControlBytes.{is_empty_at}
+use Rattle.rkyv_table.specs.{is_empty_at}
 use Rattle.rkyv_table.proofs.controls.place.first_empty.Given as goal
 
 abbrev pub invariant-loop-i : goal.invariant-loop-i

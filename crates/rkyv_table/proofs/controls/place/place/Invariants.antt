@@ -1,5 +1,5 @@
 use Rattle.std.proofs.Common.{take}
-use Rattle.rkyv_table.specs.Controls.Placing.{Written}
+use Rattle.rkyv_table.specs.{Written}
 use Rattle.rkyv_table.proofs.controls.place.place.Given as goal
 
 abbrev pub invariant-loop-hash : goal.invariant-loop-hash

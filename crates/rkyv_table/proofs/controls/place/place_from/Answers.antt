@@ -1,9 +1,7 @@
 use Rattle.std.proofs.Common.{arith, ◌≡◌, ◌*◌, ◌%◌, ◌<◌, get_or, set, length, inr, ℕ, sym, ap, ◌∙◌, Some, length-set}
 use Rattle.std.specs.List.{find}
 use Rattle.std.proofs.lemmas.Bool.{le-leb}
-use Rattle.rkyv_table.specs.Controls.ControlBytes.{is_empty_at, with_control}
-use Rattle.rkyv_table.specs.Controls.Numbers.{tag}
-use Rattle.rkyv_table.specs.Controls.Probe.{probed}
+use Rattle.rkyv_table.specs.{is_empty_at, probed, tag, with_control}
 use Rattle.rkyv_table.proofs.Coverage.{stride_below}
 use Rattle.rkyv_table.proofs.FirstFree.{begun, empty_index_is, first_at, later_started, member_front, member_rest, none_shown, one_write, passes_on, runs_out, some_shown}
 use Rattle.rkyv_table.proofs.controls.place.place_from.Goals as goal

@@ -1,8 +1,6 @@
 use Rattle.std.proofs.Common.{◌≡◌, ◌⊎◌, ℕ, length, eqb, true, false}
 use Rattle.std.specs.List.{find, flat_map, list_any}
-use Rattle.rkyv_table.specs.Controls.ControlBytes.{is_empty_at}
-use Rattle.rkyv_table.specs.Controls.Numbers.{start}
-use Rattle.rkyv_table.specs.Controls.Probe.{buckets_at, probed, strides}
+use Rattle.rkyv_table.specs.{buckets_at, is_empty_at, probed, start, strides}
 use Rattle.rkyv_table.proofs.controls.place.place_from.Given as goal
 
 abbrev pub invariant-loop-pos : goal.invariant-loop-pos

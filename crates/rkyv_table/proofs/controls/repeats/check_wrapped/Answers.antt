@@ -1,6 +1,6 @@
 use Rattle.std.proofs.Common.{◌∙◌, arith, inl, inr, subst, sym}
 use Rattle.std.proofs.lemmas.Bool.{cases_eq, true≢false}
-use Rattle.rkyv_table.specs.Controls.Repeating.{IsWrappedAt}
+use Rattle.rkyv_table.specs.{IsWrappedAt}
 use Rattle.rkyv_table.proofs.controls.repeats.check_wrapped.Goals as goal
 
 pub returns-then-not-is_wrapped_at-clause-fails : goal.returns-then-not-is_wrapped_at-clause-fails

@@ -1,5 +1,5 @@
 use Rattle.std.proofs.Common.{ℕ, ◌<◌, ◌≤◌}
-use Rattle.rkyv_table.specs.Controls.Repeating.{IsWrappedAt}
+use Rattle.rkyv_table.specs.{IsWrappedAt}
 use Rattle.rkyv_table.proofs.controls.repeats.check_wrapped.Given as goal
 
 abbrev pub invariant-loop-index : goal.invariant-loop-index

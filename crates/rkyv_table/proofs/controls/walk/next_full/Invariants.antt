@@ -1,5 +1,5 @@
 use Rattle.std.proofs.Common.{◌≡◌}
-use Rattle.rkyv_table.specs.Controls.Walking.{full_from}
+use Rattle.rkyv_table.specs.{full_from}
 use Rattle.rkyv_table.proofs.controls.walk.next_full.Given as goal
 
 abbrev pub invariant-loop-bucket : goal.invariant-loop-bucket

@@ -1,5 +1,5 @@
 use Rattle.std.proofs.Common.{◌∙◌, refl, ap, arith, length, Some, None}
-use Rattle.rkyv_scan.specs.Groups.{generic_kind}
+use Rattle.rkyv_scan.specs.{generic_kind}
 use Rattle.rkyv_table.proofs.Bare.{can_compare, item_at_found, looks_up_none, looks_up_some}
 use Rattle.rkyv_table.proofs.table.ArchivedHashTable.found_with.Goals as goal
 

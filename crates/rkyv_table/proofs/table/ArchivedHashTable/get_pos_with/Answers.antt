@@ -1,4 +1,4 @@
-use Rattle.rkyv_scan.specs.Groups.{generic_kind}
+use Rattle.rkyv_scan.specs.{generic_kind}
 use Rattle.rkyv_table.proofs.FoundItems.{pos_of_item}
 use Rattle.rkyv_table.proofs.table.ArchivedHashTable.get_pos_with.Goals as goal
 

@@ -1,5 +1,5 @@
 use Rattle.std.proofs.Common.{refl, ap, ◌∙◌, ◌+◌, ◌≤◌, length, Some, None}
-use Rattle.rkyv_base.specs.Seal.{archive_in, pos_in}
+use Rattle.rkyv_base.specs.{archive_in, pos_in}
 use Rattle.rkyv_table.proofs.Bare.{accepted_of, can_compare}
 use Rattle.rkyv_table.proofs.SealedLookup.{item_seal, pos_viewable, read_there, seals_first, seals_found}
 use Rattle.rkyv_table.proofs.table.ArchivedHashTable.get_seal_with.Goals as goal

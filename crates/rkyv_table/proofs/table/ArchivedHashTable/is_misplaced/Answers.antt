@@ -1,8 +1,6 @@
 use Rattle.std.proofs.Common.{refl, ap, not, ◌∙◌, ◌+◌, ℕ}
-use Rattle.rkyv_scan.specs.Groups.{generic_kind}
-use Rattle.rkyv_table.specs.Table.Misplaced.{is_found_at}
-use Rattle.rkyv_table.specs.Table.Positions.{bucket_found, lookup_end}
-use Rattle.rkyv_table.specs.Table.Reading.{item_pos, table_bytes, table_pos}
+use Rattle.rkyv_scan.specs.{generic_kind}
+use Rattle.rkyv_table.specs.{bucket_found, is_found_at, item_pos, lookup_end, table_bytes, table_pos}
 use Rattle.rkyv_table.proofs.ValidTable.{read_accepted, read_end, read_found, read_walked}
 use Rattle.rkyv_table.proofs.MisplacedIn.{hash_is, own_finds}
 use Rattle.rkyv_table.proofs.table.ArchivedHashTable.is_misplaced.Goals as goal

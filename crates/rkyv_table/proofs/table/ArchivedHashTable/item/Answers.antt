@@ -1,5 +1,5 @@
 use Rattle.std.proofs.Common.{◌≡◌, ◌∙◌, ◌<◌, ◌-◌, ◌*◌, ◌+◌, ap, arith}
-use Rattle.rkyv_table.specs.Table.Positions.{item_at}
+use Rattle.rkyv_table.specs.{item_at}
 use Rattle.rkyv_table.proofs.ValidTable.{item_before, item_viewable}
 use Rattle.rkyv_table.proofs.table.ArchivedHashTable.item.Goals as goal
 

@@ -1,11 +1,7 @@
 use Rattle.std.proofs.Common.{◌≡◌, ◌∙◌, arith, sym, ap, subst, zero-add, length, filter}
 use Rattle.std.specs.List.{All}
-use Rattle.rkyv_scan.specs.Groups.{generic_kind}
-use Rattle.rkyv_table.specs.Table.Header.{cap_at}
-use Rattle.rkyv_table.specs.Table.MisplacedIn.{bucket_misplaced}
-use Rattle.rkyv_table.specs.Controls.Placing.{walk}
-use Rattle.rkyv_table.specs.Table.Positions.{IsWalked, table_controls}
-use Rattle.rkyv_table.specs.Table.Reading.{table_bytes, table_pos}
+use Rattle.rkyv_scan.specs.{generic_kind}
+use Rattle.rkyv_table.specs.{IsWalked, bucket_misplaced, cap_at, table_bytes, table_controls, table_pos, walk}
 use Rattle.rkyv_table.proofs.MisplacedIn.{counted_none, counted_one, left_walked, next_walked}
 use Rattle.rkyv_table.proofs.RawWalks.{walk_count, walked_all}
 use Rattle.rkyv_table.proofs.Walks.{walk_small}

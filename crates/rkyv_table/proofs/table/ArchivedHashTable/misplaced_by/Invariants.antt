@@ -1,9 +1,6 @@
 use Rattle.std.proofs.Common.{◌+◌, ◌≤◌, length}
 use Rattle.std.specs.List.{All}
-use Rattle.rkyv_table.specs.Table.Header.{cap_at}
-use Rattle.rkyv_table.specs.Table.MisplacedIn.{table_len}
-use Rattle.rkyv_table.specs.Table.Positions.{IsWalked}
-use Rattle.rkyv_table.specs.Table.Reading.{table_bytes, table_pos}
+use Rattle.rkyv_table.specs.{IsWalked, cap_at, table_bytes, table_len, table_pos}
 use Rattle.rkyv_table.proofs.MisplacedIn.{Counting}
 use Rattle.rkyv_table.proofs.table.ArchivedHashTable.misplaced_by.Given as goal
 

@@ -1,12 +1,8 @@
 use Rattle.std.proofs.Common.{◌≡◌, ◌+◌, ◌*◌, ◌<◌, ◌∙◌, ℕ, List, ap, arith, length, map, sym}
 use Rattle.std.proofs.lemmas.List.Elements.{All-same}
-use Rattle.rkyv_scan.specs.Groups.{mask_indices}
-use Rattle.rkyv_base.specs.ElementSpec.{Viewable}
-use Rattle.rkyv_table.specs.Table.Header.{cap_at}
-use Rattle.rkyv_table.specs.Controls.Placing.{walk}
-use Rattle.rkyv_table.specs.Table.RawItems.{IsAhead, buckets_left, pos_before, positions_left}
-use Rattle.rkyv_table.specs.Table.Positions.{item_positions, table_controls}
-use Rattle.rkyv_table.specs.Table.Reading.{table_bytes, table_pos}
+use Rattle.rkyv_scan.specs.{mask_indices}
+use Rattle.rkyv_base.specs.{Viewable}
+use Rattle.rkyv_table.specs.{IsAhead, buckets_left, cap_at, item_positions, pos_before, positions_left, table_bytes, table_controls, table_pos, walk}
 use Rattle.rkyv_table.proofs.ValidTable.{controls_accepted}
 use Rattle.rkyv_table.proofs.RawSteps.{some_capacity, start_left}
 use Rattle.rkyv_table.proofs.RawWalks.{positions_count, positions_viewable, read_ahead, read_positions, walk_count}

@@ -1,6 +1,6 @@
 use Rattle.std.proofs.Common.{refl, ap, ◌∙◌}
 use Rattle.rkyv_base.specs.declared.seal.ArchiveSeal.{ArchiveSeal}
-use Rattle.rkyv_table.specs.Table.SealedLookup.{IsReadAt}
+use Rattle.rkyv_table.specs.{IsReadAt}
 use Rattle.rkyv_table.specs.declared.table.TableOf.{TableOf}
 use Rattle.rkyv_table.specs.declared.table.raw_iter_seal.RawIterSeal.{RawIterSeal}
 use Rattle.rkyv_table.proofs.SealedItems.{all_left_at, begun_at}

@@ -1,5 +1,5 @@
 use Rattle.std.proofs.Common.{arith}
-use Rattle.rkyv_table.specs.Table.Header.{controls_pos}
+use Rattle.rkyv_table.specs.{controls_pos}
 use Rattle.rkyv_table.proofs.ValidTable.{controls_inside}
 use Rattle.rkyv_table.proofs.table.accessors.decode.Goals as goal
 

@@ -1,6 +1,6 @@
 use Rattle.std.proofs.Common.{arith, ◌≡◌, ◌+◌, ◌-◌}
 use Rattle.std.proofs.lemmas.Result.{err_from_is_err_and}
-use Rattle.rkyv_base.specs.Pairs.{written_as}
+use Rattle.rkyv_base.specs.{written_as}
 use Rattle.rkyv_table.proofs.BucketSteps.{Down, bucket_fails, down_end, down_init, down_read, down_rooms, down_step, overflow_fails}
 use Rattle.rkyv_table.proofs.table.buckets.write_by.Goals as goal
 use Rattle.rkyv_table.proofs.table.buckets.write_by.Goals.{In-loop-above}

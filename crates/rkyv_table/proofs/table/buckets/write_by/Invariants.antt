@@ -1,5 +1,5 @@
 use Rattle.std.proofs.Common.{◌≡◌, length}
-use Rattle.rkyv_base.specs.Pairs.{written_as}
+use Rattle.rkyv_base.specs.{written_as}
 use Rattle.rkyv_table.proofs.BucketSteps.{Down}
 use Rattle.rkyv_table.proofs.table.buckets.write_by.Given as goal
 

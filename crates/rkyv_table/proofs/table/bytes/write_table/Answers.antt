@@ -1,6 +1,5 @@
 use Rattle.std.proofs.lemmas.Result.{err_from_is_err_and}
-use Rattle.rkyv_base.specs.Pairs.{written_as}
-use Rattle.rkyv_base.specs.Writing.{end_of}
+use Rattle.rkyv_base.specs.{end_of, written_as}
 use Rattle.rkyv_table.proofs.PartSteps.{parts_filled}
 use Rattle.rkyv_table.proofs.TableSteps.{stopped_buckets, stopped_controls, stopped_parts, stopped_zeros, table_wrote}
 use Rattle.rkyv_table.proofs.table.bytes.write_table.Goals as goal

@@ -1,4 +1,4 @@
-use Rattle.rkyv_table.specs.Table.Lending.{value_represents}
+use Rattle.rkyv_table.specs.{value_represents}
 use Rattle.rkyv_table.proofs.FirstItem.{lookup_finds_first}
 use Rattle.rkyv_table.proofs.table.laws.lookups_find_the_first.Goals as goal
 

@@ -1,4 +1,4 @@
-use Rattle.rkyv_base.specs.Pairs.{written_as}
+use Rattle.rkyv_base.specs.{written_as}
 use Rattle.rkyv_table.proofs.OneWay.{tables_one_way}
 use Rattle.rkyv_table.proofs.ReadyOneWay.{written_as_one_way}
 use Rattle.rkyv_table.proofs.table.laws.tables_are_written_one_way.Goals as goal

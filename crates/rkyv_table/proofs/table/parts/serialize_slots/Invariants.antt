@@ -1,7 +1,6 @@
 use Rattle.std.proofs.Common.{ℕ, List, take, vec_capacity, ◌≤◌}
-use Rattle.rkyv_base.specs.Pairs.{written_as}
-use Rattle.rkyv_base.specs.Writing.{Appends, Within, end_of}
-use Rattle.rkyv_table.specs.Table.Slots.{SlotParts, filled}
+use Rattle.rkyv_base.specs.{Appends, Within, end_of, written_as}
+use Rattle.rkyv_table.specs.{SlotParts, filled}
 use Rattle.rkyv_table.proofs.table.parts.serialize_slots.Given as goal
 
 abbrev pub invariant-loop-slot : goal.invariant-loop-slot

@@ -1,8 +1,8 @@
 use Rattle.std.proofs.Common.{arith, refl}
 use Rattle.std.proofs.lemmas.Result.{err_from_is_err_and}
-use Rattle.rkyv_base.specs.Pairs.{written_as}
+use Rattle.rkyv_base.specs.{written_as}
 use Rattle.rkyv_table.proofs.TableResults.{capacity_fits, fails_some, wrote_none, wrote_some}
-use Rattle.rkyv_table.specs.Table.Serializing.{HasCapacity}
+use Rattle.rkyv_table.specs.{HasCapacity}
 use Rattle.rkyv_table.proofs.table.serialize.serialize_source.Goals as goal
 
 pub returns-in-Ok-expect_none : goal.returns-in-Ok-expect_none

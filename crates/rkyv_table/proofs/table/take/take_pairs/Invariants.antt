@@ -1,6 +1,6 @@
 use Rattle.std.proofs.Common.{◌≡◌, ℕ, List, length}
 use Rattle.std.specs.Iterator.{Yields}
-use Rattle.rkyv_table.specs.Table.PlacedItems.{Placed}
+use Rattle.rkyv_table.specs.{Placed}
 use Rattle.rkyv_table.proofs.table.take.take_pairs.Given as goal
 
 abbrev pub invariant-loop-count : goal.invariant-loop-count

@@ -1,8 +1,7 @@
 use Rattle.std.proofs.Common.{arith, ◌≡◌, ◌+◌, ◌++◌, ◌∷◌, [], ℕ, List, length, refl, ap, ◌∙◌, inl, inr, length-append, Option, Some}
 use Rattle.std.specs.Iterator.{Yields}
 use Rattle.std.proofs.lemmas.List.{length-map, length_push, map-append}
-use Rattle.rkyv_table.specs.Table.Counting.{Counted, CountedOn}
-use Rattle.rkyv_table.specs.Table.PlacedItems.{hashes_of, items_of}
+use Rattle.rkyv_table.specs.{Counted, CountedOn, hashes_of, items_of}
 use Rattle.rkyv_table.proofs.PlacingSteps.{placed_none, yields_join, yields_more}
 use Rattle.rkyv_table.proofs.table.take_two.take_two.Goals as goal
 

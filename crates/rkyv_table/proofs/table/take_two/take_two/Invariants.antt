@@ -1,6 +1,6 @@
 use Rattle.std.proofs.Common.{◌≡◌, ℕ, List, length}
 use Rattle.std.specs.Iterator.{Yields}
-use Rattle.rkyv_table.specs.Table.PlacedItems.{Placed, hashes_of, items_of}
+use Rattle.rkyv_table.specs.{Placed, hashes_of, items_of}
 use Rattle.rkyv_table.proofs.table.take_two.take_two.Given as goal
 
 abbrev pub invariant-loop-count : goal.invariant-loop-count

@@ -1,6 +1,5 @@
 use Rattle.std.proofs.Common.{◌≡◌, ◌∙◌, ap, subst}
-use Rattle.rkyv_base.specs.Format.{Serializes}
-use Rattle.rkyv_base.specs.Pairs.{pair_format}
+use Rattle.rkyv_base.specs.{Serializes, pair_format}
 use Rattle.rkyv_user_types.proofs.pair.PairEntrySerialize.serialize.Goals as goal
 
 same_pair : {A B : Type 0} (a : A) (b : B) (pair : A × B) → a ≡ pair.0 → b ≡ pair.1 → (a, b) ≡ pair

@@ -1,6 +1,5 @@
 use Rattle.rkyv_base.specs.Lemmas.Access.{root_viewable}
-use Rattle.rkyv_base.specs.Entry.{entry_spec}
-use Rattle.rkyv_base.specs.Text.{text_spec}
+use Rattle.rkyv_base.specs.{entry_spec, text_spec}
 use Rattle.test_base.proofs.tests.text.texts_of.Goals as goal
 
 pub key-requires : goal.key-requires

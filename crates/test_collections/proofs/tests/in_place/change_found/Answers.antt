@@ -1,6 +1,6 @@
 use Rattle.std.proofs.Common.{ap, subst, sym}
-use Rattle.rkyv_base.specs.ElementSpec.{Viewable}
-use Rattle.rkyv_collections.specs.Map.MapSpec.{map_spec}
+use Rattle.rkyv_base.specs.{Viewable}
+use Rattle.rkyv_collections.specs.{map_spec}
 use Rattle.test_collections.proofs.tests.in_place.change_found.Goals as goal
 
 pub found_with-requires-clause-map : goal.found_with-requires-clause-map

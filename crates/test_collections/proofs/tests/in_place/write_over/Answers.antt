@@ -1,6 +1,6 @@
 use Rattle.std.proofs.Common.{ap, subst, sym}
-use Rattle.rkyv_base.specs.ElementSpec.{Viewable}
-use Rattle.rkyv_collections.specs.Map.MapSpec.{map_spec}
+use Rattle.rkyv_base.specs.{Viewable}
+use Rattle.rkyv_collections.specs.{map_spec}
 use Rattle.test_collections.proofs.tests.in_place.write_over.Goals as goal
 
 pub values_over-rest-requires : goal.values_over-rest-requires

@@ -1,11 +1,7 @@
 use Rattle.std.proofs.Common.{subst, sym}
 use Rattle.std.specs.Int.{w32}
-use Rattle.rkyv_base.specs.Numbers.{unsigned}
-use Rattle.rkyv_base.specs.Scalar.{scalar_spec}
-use Rattle.rkyv_base.specs.Seal.{bytes_in, pos_in}
-use Rattle.rkyv_base.specs.ElementSpec.{Viewable}
-use Rattle.rkyv_base.specs.Text.{text_spec}
-use Rattle.rkyv_collections.specs.Map.MapSpec.{map_spec}
+use Rattle.rkyv_base.specs.{Viewable, bytes_in, pos_in, scalar_spec, text_spec, unsigned}
+use Rattle.rkyv_collections.specs.{map_spec}
 use Rattle.test_collections.proofs.tests.recipes.change.Goals as goal
 
 pub get_seal-requires-in-Some-clause-map : goal.get_seal-requires-in-Some-clause-map

@@ -1,10 +1,7 @@
 use Rattle.std.proofs.Common.{ap, subst, sym}
 use Rattle.std.specs.Int.{w32}
-use Rattle.rkyv_base.specs.Numbers.{unsigned}
-use Rattle.rkyv_base.specs.Scalar.{scalar_spec}
-use Rattle.rkyv_base.specs.ElementSpec.{Viewable}
-use Rattle.rkyv_base.specs.Text.{text_spec}
-use Rattle.rkyv_collections.specs.Map.MapSpec.{map_spec}
+use Rattle.rkyv_base.specs.{Viewable, scalar_spec, text_spec, unsigned}
+use Rattle.rkyv_collections.specs.{map_spec}
 use Rattle.test_collections.proofs.tests.recipes.set_price.Goals as goal
 
 pub set_value_of-requires-clause-map : goal.set_value_of-requires-clause-map

@@ -1,5 +1,5 @@
 use Rattle.std.specs.Int.{w32}
-use Rattle.rkyv_base.specs.Seal.{bytes_in, seal_pos}
+use Rattle.rkyv_base.specs.{bytes_in, seal_pos}
 use Rattle.rkyv_base.proofs.SealedText.{viewable_sealed}
 use Rattle.test_collections.proofs.tests.sealed.is_text_in_place.Goals as goal
 

@@ -1,10 +1,8 @@
 use Rattle.std.proofs.Common.{◌≡◌, ℕ, ◌∙◌, None, Option, Some, ap, refl, subst, sym}
 use Rattle.std.specs.Option.{option_map}
 use Rattle.std.proofs.lemmas.Option.{none-some, same_Some}
-use Rattle.rkyv_scan.specs.Hash.{hash_of_calls}
-use Rattle.rkyv_base.specs.Scalar.{ScalarRepresents}
-use Rattle.rkyv_base.specs.Sealing.{value_pos}
-use Rattle.rkyv_base.specs.ElementSpec.{Viewable}
+use Rattle.rkyv_scan.specs.{hash_of_calls}
+use Rattle.rkyv_base.specs.{ScalarRepresents, Viewable, value_pos}
 use Rattle.rkyv_keys.specs.Lemmas.QueryLaws.{rests_on_keys}
 use Rattle.rkyv_collections.proofs.SealedMap.{pair_pos}
 use Rattle.rkyv_collections.proofs.ValueWrites.{rests_on_each}

@@ -1,8 +1,8 @@
 use Rattle.std.proofs.Common.{◌≡◌, ℕ, None, Option, Some, ap, refl, subst, sym}
 use Rattle.std.specs.Prelude.{IfSome}
 use Rattle.std.specs.Option.{option_map}
-use Rattle.rkyv_base.specs.ElementSpec.{Viewable}
-use Rattle.rkyv_collections.specs.Map.MapSpec.{map_spec}
+use Rattle.rkyv_base.specs.{Viewable}
+use Rattle.rkyv_collections.specs.{map_spec}
 use Rattle.test_collections.proofs.tests.sealed.stored_in.Goals as goal
 
 -- the value in `result`, if there is one, is `y`

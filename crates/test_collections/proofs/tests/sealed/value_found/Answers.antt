@@ -1,11 +1,9 @@
 use Rattle.std.proofs.Common.{◌≡◌, ℕ, ◌∙◌, None, Option, Some, ap}
 use Rattle.std.specs.Option.{option_map}
-use Rattle.rkyv_scan.specs.Groups.{generic_kind}
-use Rattle.rkyv_scan.specs.Hash.{hash_of_calls}
-use Rattle.rkyv_base.specs.Entry.{entry_spec}
-use Rattle.rkyv_base.specs.Sealing.{value_pos}
-use Rattle.rkyv_table.specs.Table.Positions.{pos_found}
-use Rattle.rkyv_collections.specs.Map.MapSpec.{IsKeyPosAt}
+use Rattle.rkyv_scan.specs.{generic_kind, hash_of_calls}
+use Rattle.rkyv_base.specs.{entry_spec, value_pos}
+use Rattle.rkyv_table.specs.{pos_found}
+use Rattle.rkyv_collections.specs.{IsKeyPosAt}
 use Rattle.test_collections.proofs.Views.{view_transport}
 use Rattle.test_collections.proofs.tests.sealed.value_found.Goals as goal
 

@@ -1,7 +1,7 @@
 use Rattle.std.proofs.Common.{ap, subst, sym}
-use Rattle.rkyv_scan.specs.Hash.{hash_of_calls}
-use Rattle.rkyv_base.specs.ElementSpec.{Viewable}
-use Rattle.rkyv_keys.specs.Calls.{hash_at}
+use Rattle.rkyv_scan.specs.{hash_of_calls}
+use Rattle.rkyv_base.specs.{Viewable}
+use Rattle.rkyv_keys.specs.{hash_at}
 use Rattle.rkyv_collections.proofs.SealedMap.{pair_pos}
 use Rattle.rkyv_collections.proofs.ValueWrites.{map_kept_at}
 use Rattle.test_collections.proofs.tests.sealed.write_value.Goals as goal

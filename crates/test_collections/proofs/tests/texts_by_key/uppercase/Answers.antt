@@ -1,8 +1,7 @@
 use Rattle.std.proofs.Common.{ap, subst, sym}
 use Rattle.std.specs.Int.{w32}
-use Rattle.rkyv_base.specs.ElementSpec.{Viewable}
-use Rattle.rkyv_base.specs.Text.{text_spec}
-use Rattle.rkyv_collections.specs.Map.MapSpec.{map_spec}
+use Rattle.rkyv_base.specs.{Viewable, text_spec}
+use Rattle.rkyv_collections.specs.{map_spec}
 use Rattle.test_collections.proofs.tests.texts_by_key.uppercase.Goals as goal
 
 pub make_ascii_uppercase_of-requires-clause-map : goal.make_ascii_uppercase_of-requires-clause-map

@@ -1,6 +1,4 @@
-use Rattle.ffi_calls.specs.Archives.{limit_of}
-use Rattle.ffi_calls.specs.IndexArchives.{number_index}
-use Rattle.ffi_calls.specs.Keys.{NumberKey}
+use Rattle.ffi_calls.specs.{NumberKey, limit_of, number_index}
 use Rattle.test_ffi_calls.proofs.Opened.{opened}
 use Rattle.test_ffi_calls.proofs.tests.index_numbers.is_map.Goals as goal
 

@@ -1,5 +1,4 @@
-use Rattle.ffi_calls.specs.Archives.{limit_of}
-use Rattle.ffi_calls.specs.IndexArchives.{text_index}
+use Rattle.ffi_calls.specs.{limit_of, text_index}
 use Rattle.test_ffi_calls.proofs.Opened.{opened}
 use Rattle.test_ffi_calls.proofs.tests.index_texts.is_map.Goals as goal
 

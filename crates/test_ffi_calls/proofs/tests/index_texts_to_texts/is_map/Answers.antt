@@ -1,5 +1,4 @@
-use Rattle.ffi_calls.specs.Archives.{limit_of}
-use Rattle.ffi_calls.specs.IndexTextValues.{text_text_index}
+use Rattle.ffi_calls.specs.{limit_of, text_text_index}
 use Rattle.test_ffi_calls.proofs.Opened.{opened}
 use Rattle.test_ffi_calls.proofs.tests.index_texts_to_texts.is_map.Goals as goal
 

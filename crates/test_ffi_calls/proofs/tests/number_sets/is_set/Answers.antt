@@ -1,6 +1,4 @@
-use Rattle.ffi_calls.specs.Archives.{limit_of}
-use Rattle.ffi_calls.specs.Sets.{number_set}
-use Rattle.ffi_calls.specs.Keys.{NumberKey}
+use Rattle.ffi_calls.specs.{NumberKey, limit_of, number_set}
 use Rattle.test_ffi_calls.proofs.Opened.{opened}
 use Rattle.test_ffi_calls.proofs.tests.number_sets.is_set.Goals as goal
 

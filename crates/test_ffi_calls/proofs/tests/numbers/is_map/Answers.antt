@@ -1,5 +1,4 @@
-use Rattle.ffi_calls.specs.Archives.{limit_of, number_map}
-use Rattle.ffi_calls.specs.Keys.{NumberKey}
+use Rattle.ffi_calls.specs.{NumberKey, limit_of, number_map}
 use Rattle.test_ffi_calls.proofs.Opened.{opened}
 use Rattle.test_ffi_calls.proofs.tests.numbers.is_map.Goals as goal
 

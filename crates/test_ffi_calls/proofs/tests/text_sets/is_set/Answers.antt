@@ -1,5 +1,4 @@
-use Rattle.ffi_calls.specs.Archives.{limit_of}
-use Rattle.ffi_calls.specs.Sets.{text_set}
+use Rattle.ffi_calls.specs.{limit_of, text_set}
 use Rattle.test_ffi_calls.proofs.Opened.{opened}
 use Rattle.test_ffi_calls.proofs.tests.text_sets.is_set.Goals as goal
 

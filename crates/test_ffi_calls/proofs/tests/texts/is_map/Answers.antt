@@ -1,4 +1,4 @@
-use Rattle.ffi_calls.specs.Archives.{limit_of, text_map}
+use Rattle.ffi_calls.specs.{limit_of, text_map}
 use Rattle.test_ffi_calls.proofs.Opened.{opened}
 use Rattle.test_ffi_calls.proofs.tests.texts.is_map.Goals as goal
 

@@ -1,7 +1,7 @@
 use Rattle.std.proofs.Common.{ℕ, None, Option, Some, ◌<◌, ◌∙◌, ap}
 use Rattle.std.specs.Prelude.{IfSome}
-use Rattle.rkyv_table.specs.Table.Header.{len_at}
-use Rattle.rkyv_index.specs.Index.{IsStored, index_len}
+use Rattle.rkyv_table.specs.{len_at}
+use Rattle.rkyv_index.specs.{IsStored, index_len}
 use Rattle.rkyv_index.proofs.SealedIndex.{as_read}
 use Rattle.test_index.proofs.tests.sealed.index_of.Goals as goal
 

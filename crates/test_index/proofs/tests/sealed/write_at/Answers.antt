@@ -1,7 +1,6 @@
 use Rattle.std.proofs.Common.{ap, subst, sym}
-use Rattle.rkyv_base.specs.Entry.{entry_spec}
-use Rattle.rkyv_base.specs.ElementSpec.{Viewable}
-use Rattle.rkyv_index.specs.Index.IndexLayout.{index_spec}
+use Rattle.rkyv_base.specs.{Viewable, entry_spec}
+use Rattle.rkyv_index.specs.{index_spec}
 use Rattle.test_index.proofs.tests.sealed.write_at.Goals as goal
 
 pub index_of-requires-clause-map : goal.index_of-requires-clause-map

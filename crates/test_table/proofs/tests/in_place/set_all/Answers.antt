@@ -1,7 +1,6 @@
 use Rattle.std.proofs.Common.{rules, ◌≡◌, ◌∙◌, sym, subst, List, ℕ}
-use Rattle.rkyv_base.specs.ElementSpec.{Viewable}
-use Rattle.rkyv_table.specs.Table.SealedItems.{IsItemAt}
-use Rattle.rkyv_table.specs.Table.Layout.{table_spec}
+use Rattle.rkyv_base.specs.{Viewable}
+use Rattle.rkyv_table.specs.{IsItemAt, table_spec}
 use Rattle.test_table.proofs.tests.in_place.set_all.Goals as goal
 
 pub loop-next-preserved : goal.loop-next-preserved

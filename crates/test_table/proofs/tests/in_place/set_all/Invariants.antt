@@ -1,5 +1,5 @@
 use Rattle.std.proofs.Common.{◌≡◌}
-use Rattle.rkyv_table.specs.Table.SealedItems.{IsSealIter}
+use Rattle.rkyv_table.specs.{IsSealIter}
 use Rattle.test_table.proofs.tests.in_place.set_all.Given as goal
 
 abbrev pub invariant-loop-next : goal.invariant-loop-next

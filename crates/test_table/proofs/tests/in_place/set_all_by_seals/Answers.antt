@@ -1,9 +1,7 @@
 use Rattle.std.proofs.Common.{rules, ◌≡◌, ◌∙◌, sym, subst, List, ℕ, Option, None, Some}
 use Rattle.std.specs.Int.{Width}
-use Rattle.rkyv_base.specs.Sealing.{Keeps, Sealed}
-use Rattle.rkyv_base.specs.ElementSpec.{ElementSpec, Viewable}
-use Rattle.rkyv_table.specs.Table.SealedItems.{IsItemAt, IsSealIter, StepsAndWrites}
-use Rattle.rkyv_table.specs.Table.Layout.{table_spec}
+use Rattle.rkyv_base.specs.{ElementSpec, Keeps, Sealed, Viewable}
+use Rattle.rkyv_table.specs.{IsItemAt, IsSealIter, StepsAndWrites, table_spec}
 use Rattle.rkyv_table.specs.declared.table.raw_iter_seal.RawIterSeal.{RawIterSeal}
 use Rattle.rkyv_table.proofs.SealedItems.{cursor_kept}
 use Rattle.test_table.proofs.tests.in_place.set_all_by_seals.Goals as goal

@@ -1,5 +1,5 @@
 use Rattle.std.proofs.Common.{◌≡◌}
-use Rattle.rkyv_table.specs.Table.SealedItems.{IsSealIter}
+use Rattle.rkyv_table.specs.{IsSealIter}
 use Rattle.test_table.proofs.tests.in_place.set_all_by_seals.Given as goal
 
 abbrev pub invariant-loop : goal.invariant-loop

@@ -2,8 +2,7 @@ use Rattle.std.proofs.Common.{◌≡◌, ◌∙◌, arith, subst, sym}
 use Rattle.std.specs.Prelude.{take}
 use Rattle.std.proofs.lemmas.Bool.{true≢false}
 use Rattle.rkyv_base.specs.Lemmas.Entry.{key_and_value_inside}
-use Rattle.rkyv_base.specs.Sealing.{value_pos}
-use Rattle.rkyv_base.specs.ElementSpec.{Viewable}
+use Rattle.rkyv_base.specs.{Viewable, value_pos}
 use Rattle.rkyv_base.proofs.Sealing.{front_viewable}
 use Rattle.rkyv_collections.proofs.map.in_place.iter_seal.pair_at.Goals as goal
 

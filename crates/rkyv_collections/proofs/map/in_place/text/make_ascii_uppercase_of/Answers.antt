@@ -1,10 +1,10 @@
 use Rattle.std.proofs.Common.{Some, refl, subst}
-use Rattle.rkyv_base.specs.Text.{text_spec}
+use Rattle.rkyv_base.specs.{text_spec}
 use Rattle.rkyv_base.specs.Lemmas.Text.{text_element}
 use Rattle.rkyv_base.proofs.SealedText.{uppercased_sealed, uppercased_valid}
 use Rattle.rkyv_keys.specs.Lemmas.QueryLaws.{hash_local}
-use Rattle.rkyv_keys.specs.Calls.{hash_at}
-use Rattle.rkyv_collections.specs.Map.InPlaceText.{UppercasesFound}
+use Rattle.rkyv_keys.specs.{hash_at}
+use Rattle.rkyv_collections.specs.{UppercasesFound}
 use Rattle.rkyv_collections.proofs.NestedWrites.{value_nested_at}
 use Rattle.rkyv_collections.proofs.UppercaseTexts.{first_uppercased, none_uppercased}
 use Rattle.rkyv_collections.proofs.SealedMap.{satisfies_implied}

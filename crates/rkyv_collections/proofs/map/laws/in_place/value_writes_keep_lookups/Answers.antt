@@ -1,5 +1,5 @@
 use Rattle.rkyv_keys.specs.Lemmas.QueryLaws.{hash_local, rests_on_keys}
-use Rattle.rkyv_keys.specs.Calls.{hash_at, hash_of}
+use Rattle.rkyv_keys.specs.{hash_at, hash_of}
 use Rattle.rkyv_collections.proofs.ValueWrites.{map_kept, rests_on_each}
 use Rattle.rkyv_collections.proofs.map.laws.in_place.value_writes_keep_lookups.Goals as goal
 

@@ -1,4 +1,4 @@
-use Rattle.rkyv_keys.specs.Calls.{hash_at}
+use Rattle.rkyv_keys.specs.{hash_at}
 use Rattle.rkyv_keys.specs.Lemmas.QueryLaws.{hash_local}
 use Rattle.rkyv_collections.proofs.ValueWrites.{map_kept}
 use Rattle.rkyv_collections.proofs.map.laws.in_place.value_writes_keep_maps.Goals as goal

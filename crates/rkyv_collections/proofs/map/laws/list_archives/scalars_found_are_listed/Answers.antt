@@ -1,7 +1,5 @@
-use Rattle.rkyv_keys.specs.FirstPairs.{found_scalars}
+use Rattle.rkyv_keys.specs.{found_scalars, hash_at, native_keys}
 use Rattle.rkyv_keys.specs.Lemmas.FirstPairs.{scalar_by_view}
-use Rattle.rkyv_keys.specs.Natives.{native_keys}
-use Rattle.rkyv_keys.specs.Calls.{hash_at}
 use Rattle.rkyv_collections.proofs.ListArchives.{found_listed}
 use Rattle.rkyv_collections.proofs.map.laws.list_archives.scalars_found_are_listed.Goals as goal
 

@@ -1,7 +1,5 @@
-use Rattle.rkyv_keys.specs.FirstPairs.{found_texts}
+use Rattle.rkyv_keys.specs.{found_texts, hash_at, native_keys}
 use Rattle.rkyv_keys.specs.Lemmas.FirstPairs.{text_by_view}
-use Rattle.rkyv_keys.specs.Natives.{native_keys}
-use Rattle.rkyv_keys.specs.Calls.{hash_at}
 use Rattle.rkyv_collections.proofs.ListArchives.{found_listed}
 use Rattle.rkyv_collections.proofs.map.laws.list_archives.texts_found_are_listed.Goals as goal
 

@@ -1,4 +1,4 @@
-use Rattle.rkyv_keys.specs.Calls.{hash_at}
+use Rattle.rkyv_keys.specs.{hash_at}
 use Rattle.rkyv_keys.specs.Lemmas.QueryLaws.{hash_local}
 use Rattle.rkyv_collections.proofs.NestedWrites.{nested_first}
 use Rattle.rkyv_collections.proofs.map.laws.nested.nested_writes_represent.Goals as goal

@@ -1,7 +1,7 @@
 use Rattle.std.proofs.Common.{subst}
 use Rattle.std.proofs.lemmas.Result.{err_from_is_err_and}
-use Rattle.rkyv_base.specs.View.{AtView}
-use Rattle.rkyv_collections.specs.StdMaps.StdMap.{std_map_fails}
+use Rattle.rkyv_base.specs.{AtView}
+use Rattle.rkyv_collections.specs.{std_map_fails}
 use Rattle.rkyv_collections.proofs.std_maps.deserialize.HashMapOfDeserializeHashedHashMap.deserialize.Goals as goal
 
 pub returns-in_err-map : goal.returns-in_err-map

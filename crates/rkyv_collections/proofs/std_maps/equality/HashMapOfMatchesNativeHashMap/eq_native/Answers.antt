@@ -1,8 +1,8 @@
 use Rattle.std.proofs.Common.{subst, ◌↔◌}
 use Rattle.std.specs.Prelude.{IsTrue}
-use Rattle.rkyv_base.specs.View.{AtView}
-use Rattle.rkyv_keys.specs.Calls.{hash_of}
-use Rattle.rkyv_collections.specs.StdMaps.StdEquality.{StdMapEquals}
+use Rattle.rkyv_base.specs.{AtView}
+use Rattle.rkyv_keys.specs.{hash_of}
+use Rattle.rkyv_collections.specs.{StdMapEquals}
 use Rattle.rkyv_collections.proofs.std_maps.equality.HashMapOfMatchesNativeHashMap.eq_native.Goals as goal
 
 pub returns : goal.returns

@@ -1,8 +1,7 @@
 use Rattle.std.proofs.Common.{ℕ, subst, List}
 use Rattle.std.specs.Borrow.{Bor}
 use Rattle.std.proofs.lemmas.Result.{err_from_is_err_and}
-use Rattle.rkyv_collections.specs.Set.{set_pos}
-use Rattle.rkyv_collections.specs.StdMaps.StdSet.{std_set_fails}
+use Rattle.rkyv_collections.specs.{set_pos, std_set_fails}
 use Rattle.rkyv_collections.proofs.std_maps.hash_set.HashSetOfDeserializeHashedHashSet.deserialize.Goals as goal
 
 pub returns-in_err-set : goal.returns-in_err-set

@@ -1,9 +1,8 @@
 use Rattle.std.proofs.Common.{ℕ, subst, ◌↔◌, List}
 use Rattle.std.specs.Borrow.{Bor}
 use Rattle.std.specs.Prelude.{IsTrue}
-use Rattle.rkyv_keys.specs.Calls.{hash_of}
-use Rattle.rkyv_collections.specs.Set.{set_pos}
-use Rattle.rkyv_collections.specs.StdMaps.StdSet.{StdSetEquals}
+use Rattle.rkyv_keys.specs.{hash_of}
+use Rattle.rkyv_collections.specs.{StdSetEquals, set_pos}
 use Rattle.rkyv_collections.proofs.std_maps.hash_set.HashSetOfMatchesNativeHashSet.eq_native.Goals as goal
 
 pub returns : goal.returns

@@ -1,10 +1,9 @@
 use Rattle.std.proofs.Common.{List, subst, sym}
 use Rattle.std.specs.List.{IsDistinct}
-use Rattle.rkyv_base.specs.Empty.{unit_format, unit_spec}
-use Rattle.rkyv_keys.specs.Calls.{hash_of}
-use Rattle.rkyv_table.specs.Table.Listed.{listed}
-use Rattle.rkyv_collections.specs.Map.MapFormat.{map_format}
-use Rattle.rkyv_table.specs.Table.ItemValues.{with_units}
+use Rattle.rkyv_base.specs.{unit_format, unit_spec}
+use Rattle.rkyv_keys.specs.{hash_of}
+use Rattle.rkyv_table.specs.{listed, with_units}
+use Rattle.rkyv_collections.specs.{map_format}
 use Rattle.rkyv_collections.specs.Lemmas.StdSet.{keys_with_units}
 use Rattle.rkyv_collections.proofs.StdWriting.{writes_distinct, writes_keys}
 use Rattle.rkyv_collections.proofs.std_maps.hash_set.HashedHashSetSerialize.serialize.Goals as goal

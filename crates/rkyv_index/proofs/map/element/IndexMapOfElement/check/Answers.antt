@@ -1,7 +1,7 @@
 use Rattle.std.proofs.Common.{◌≡◌, inl, inr, refl, subst, List, ℕ}
 use Rattle.std.proofs.lemmas.Result.{err_from_is_err_and}
-use Rattle.rkyv_base.specs.Entry.{entry_spec}
-use Rattle.rkyv_index.specs.Index.IndexLayout.{EntriesFail, EntriesIn, decode_entries}
+use Rattle.rkyv_base.specs.{entry_spec}
+use Rattle.rkyv_index.specs.{EntriesFail, EntriesIn, decode_entries}
 use Rattle.rkyv_index.specs.Lemmas.IndexSpecs.{index_table_fails, index_table_is_valid}
 use Rattle.rkyv_index.proofs.Checking.{table_viewable}
 use Rattle.rkyv_index.proofs.map.element.IndexMapOfElement.check.Goals as goal

@@ -1,7 +1,5 @@
-use Rattle.rkyv_keys.specs.FirstPairs.{found_views}
+use Rattle.rkyv_keys.specs.{found_views, hash_at, native_keys}
 use Rattle.rkyv_keys.specs.Lemmas.FirstPairs.{view_by_view}
-use Rattle.rkyv_keys.specs.Natives.{native_keys}
-use Rattle.rkyv_keys.specs.Calls.{hash_at}
 use Rattle.rkyv_index.proofs.ListArchives.{found_listed}
 use Rattle.rkyv_index.proofs.map.laws.list_archives.values_found_are_listed.Goals as goal
 

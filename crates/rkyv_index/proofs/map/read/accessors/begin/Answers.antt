@@ -1,10 +1,9 @@
 use Rattle.std.proofs.Common.{◌∙◌, ◌+◌, ◌*◌, ◌<◌, ◌≤◌, ◌^◌, ap, arith, length, rules, subst, sym, List, ℕ, Bor, FitsSigned}
 use Rattle.std.specs.Prelude.{unsigned_abs}
 use Rattle.std.specs.Int.{byte_len, w128}
-use Rattle.rkyv_base.specs.Entry.{entry_spec}
+use Rattle.rkyv_base.specs.{bytes_of, entry_spec, pos_of}
 use Rattle.rkyv_base.specs.Lemmas.Entry.{entry_element}
-use Rattle.rkyv_base.specs.View.{bytes_of, pos_of}
-use Rattle.rkyv_index.specs.Index.IndexLayout.{decode_entries, entries_pos}
+use Rattle.rkyv_index.specs.{decode_entries, entries_pos}
 use Rattle.rkyv_index.proofs.Checking.{decoded_is}
 use Rattle.rkyv_index.proofs.ValidIndexMap.{entries_decoded, entries_inside}
 use Rattle.rkyv_index.proofs.map.read.accessors.begin.Goals as goal

@@ -1,6 +1,6 @@
 use Rattle.std.proofs.Common.{Some, ap, sym, ◌∙◌}
 use Rattle.std.specs.Option.{option_map}
-use Rattle.rkyv_index.specs.Index.{stored_index}
+use Rattle.rkyv_index.specs.{stored_index}
 use Rattle.rkyv_index.proofs.IndicesFound.{counts_as, finds_as}
 use Rattle.rkyv_index.proofs.map.read.entries.find_index.Goals as goal
 

@@ -1,6 +1,6 @@
 use Rattle.std.proofs.Common.{ℕ, List, take, length, vec_capacity, ◌≤◌}
-use Rattle.rkyv_base.specs.Writing.{Appends, Within, end_of}
-use Rattle.rkyv_index.specs.Index.Row.{RowParts}
+use Rattle.rkyv_base.specs.{Appends, Within, end_of}
+use Rattle.rkyv_index.specs.{RowParts}
 use Rattle.rkyv_index.proofs.map.write.row.serialize_row.Given as goal
 
 abbrev pub invariant-loop-value : goal.invariant-loop-value

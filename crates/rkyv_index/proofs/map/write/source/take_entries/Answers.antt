@@ -1,6 +1,6 @@
 use Rattle.std.proofs.Common.{arith, ◌≡◌, ◌+◌, ◌++◌, ◌∷◌, [], refl, ap, ◌∙◌, inl, inr, length}
 use Rattle.std.proofs.lemmas.List.{length-map, length_push}
-use Rattle.rkyv_index.specs.Index.Writing.{pairs_of}
+use Rattle.rkyv_index.specs.{pairs_of}
 use Rattle.rkyv_index.proofs.EntrySteps.{entries_yield_more}
 use Rattle.rkyv_table.proofs.PlacingSteps.{yields_more}
 use Rattle.rkyv_index.proofs.map.write.source.take_entries.Goals as goal

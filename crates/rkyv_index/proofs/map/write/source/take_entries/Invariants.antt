@@ -1,6 +1,6 @@
 use Rattle.std.proofs.Common.{◌≡◌, ◌≤◌, length, vec_capacity}
 use Rattle.std.specs.Iterator.{Yields}
-use Rattle.rkyv_index.specs.Index.Writing.{pairs_of}
+use Rattle.rkyv_index.specs.{pairs_of}
 use Rattle.rkyv_index.proofs.map.write.source.take_entries.Given as goal
 
 abbrev pub invariant-loop-count : goal.invariant-loop-count

@@ -1,5 +1,5 @@
 use Rattle.std.proofs.Common.{ap, ◌∙◌}
-use Rattle.rkyv_table.specs.Controls.Probe.{strides_from}
+use Rattle.rkyv_table.specs.{strides_from}
 use Rattle.rkyv_table.proofs.ProbeSteps.{all_strides}
 use Rattle.rkyv_table.proofs.controls.probe.Probe.starting_at.Goals as goal
 

@@ -1,6 +1,5 @@
 use Rattle.std.proofs.Common.{◌≡◌, ◌∙◌, ℕ, ◌+◌, ◌*◌, ◌-◌, ◌∷◌, ◌<◌, ap, sym, arith, bit_and, length, rules}
-use Rattle.rkyv_table.specs.Controls.Numbers.{modulus, probe_capacity}
-use Rattle.rkyv_table.specs.Controls.Probe.{strides_from}
+use Rattle.rkyv_table.specs.{modulus, probe_capacity, strides_from}
 use Rattle.rkyv_table.proofs.ProbeSteps.{ends, first_taken, masked_below, modulus_small, offset_below, probe_index_is, skips, stepped, takes}
 use Rattle.rkyv_table.proofs.controls.probe.ProbeIterator.next.Goals as goal
 use Rattle.rkyv_table.proofs.controls.probe.ProbeIterator.next.Goals.{In-loop-self}

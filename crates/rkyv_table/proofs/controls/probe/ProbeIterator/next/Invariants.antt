@@ -1,5 +1,5 @@
 use Rattle.std.proofs.Common.{◌≡◌, ◌-◌, ◌/◌, ◌<◌}
-use Rattle.rkyv_table.specs.Controls.Probe.{IsProbe, strides_from}
+use Rattle.rkyv_table.specs.{IsProbe, strides_from}
 use Rattle.rkyv_table.proofs.controls.probe.ProbeIterator.next.Given as goal
 
 abbrev pub invariant-loop-self : goal.invariant-loop-self

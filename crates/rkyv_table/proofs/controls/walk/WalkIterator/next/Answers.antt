@@ -1,5 +1,5 @@
 use Rattle.std.proofs.Common.{◌≡◌, ◌+◌, ◌∷◌, ◌∙◌, ap, arith, sym, length, rules}
-use Rattle.rkyv_table.specs.Controls.Walking.{full_from, left}
+use Rattle.rkyv_table.specs.{full_from, left}
 use Rattle.rkyv_table.proofs.Groups.{width_small}
 use Rattle.rkyv_table.proofs.Walks.{ends_full, ends_last, ends_past, group_walk, head_inside, keeps_walk, left_group, left_none, takes_index, walk_from, walk_of}
 use Rattle.rkyv_table.proofs.controls.walk.WalkIterator.next.Goals as goal

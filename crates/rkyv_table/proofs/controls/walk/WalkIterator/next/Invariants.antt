@@ -1,5 +1,5 @@
 use Rattle.std.proofs.Common.{◌≡◌, ◌-◌}
-use Rattle.rkyv_table.specs.Controls.Walking.{IsWalk, left}
+use Rattle.rkyv_table.specs.{IsWalk, left}
 use Rattle.rkyv_table.proofs.controls.walk.WalkIterator.next.Given as goal
 
 abbrev pub invariant-loop-self : goal.invariant-loop-self

@@ -1,5 +1,5 @@
 use Rattle.rkyv_table.proofs.TableLocal.{table_local}
-use Rattle.rkyv_table.specs.Table.Lending.{value_represents}
+use Rattle.rkyv_table.specs.{value_represents}
 use Rattle.rkyv_table.proofs.table.laws.written.tables_represent_locally.Goals as goal
 
 pub returns : goal.returns

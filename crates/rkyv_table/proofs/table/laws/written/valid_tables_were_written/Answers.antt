@@ -1,5 +1,5 @@
 use Rattle.rkyv_table.proofs.WrittenTables.{table_written}
-use Rattle.rkyv_table.specs.Table.Lending.{value_represents}
+use Rattle.rkyv_table.specs.{value_represents}
 use Rattle.rkyv_table.proofs.table.laws.written.valid_tables_were_written.Goals as goal
 
 pub returns : goal.returns

@@ -1,6 +1,6 @@
-use Rattle.rkyv_base.specs.Pairs.{written_as}
+use Rattle.rkyv_base.specs.{written_as}
 use Rattle.rkyv_base.specs.Lemmas.Pairs.{written_as-format}
-use Rattle.rkyv_table.specs.Table.Lending.{value_represents}
+use Rattle.rkyv_table.specs.{value_represents}
 use Rattle.rkyv_table.proofs.Passing.{tables_pass}
 use Rattle.rkyv_table.proofs.table.laws.written.written_tables_pass.Goals as goal
 

@@ -1,7 +1,7 @@
 use Rattle.std.proofs.Common.{◌≡◌, [], ap, length, refl, sym}
 use Rattle.std.proofs.lemmas.List.Elements.{All-nil, All-same}
-use Rattle.rkyv_scan.specs.Groups.{mask_indices}
-use Rattle.rkyv_table.specs.Table.RawItems.{IsAhead, buckets_left}
+use Rattle.rkyv_scan.specs.{mask_indices}
+use Rattle.rkyv_table.specs.{IsAhead, buckets_left}
 use Rattle.rkyv_table.proofs.RawSteps.{end_left, end_positions}
 use Rattle.rkyv_table.proofs.table.raw_iter.RawIter.empty.Goals as goal
 

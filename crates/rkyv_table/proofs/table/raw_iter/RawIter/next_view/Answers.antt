@@ -2,7 +2,7 @@ use Rattle.std.proofs.Common.{List, subst, sym, ℕ}
 use Rattle.std.specs.Borrow.{Bor}
 use Rattle.std.specs.List.{All}
 use Rattle.std.proofs.lemmas.List.Elements.{All-rest}
-use Rattle.rkyv_base.specs.ElementSpec.{Viewable}
+use Rattle.rkyv_base.specs.{Viewable}
 use Rattle.rkyv_table.proofs.table.raw_iter.RawIter.next_view.Goals as goal
 
 pub returns-clause-all_valid : goal.returns-clause-all_valid

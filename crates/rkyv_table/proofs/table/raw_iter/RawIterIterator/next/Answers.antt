@@ -1,6 +1,6 @@
 use Rattle.std.proofs.Common.{◌∙◌, ◌+◌, ◌-◌, ◌*◌, ◌∷◌, ap, arith, get_or, length, List, ltb, ℕ, rules, sym}
-use Rattle.rkyv_scan.specs.Groups.{indices_where, mask_indices}
-use Rattle.rkyv_table.specs.Table.RawItems.{positions_left}
+use Rattle.rkyv_scan.specs.{indices_where, mask_indices}
+use Rattle.rkyv_table.specs.{positions_left}
 use Rattle.rkyv_table.proofs.RawSteps.{end_positions, head_before, head_keeps, head_positions, next_inside, next_keeps, next_positions}
 use Rattle.rkyv_table.proofs.table.raw_iter.RawIterIterator.next.Goals as goal
 

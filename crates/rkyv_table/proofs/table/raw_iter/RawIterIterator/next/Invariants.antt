@@ -1,6 +1,6 @@
 use Rattle.std.proofs.Common.{◌≡◌, ◌-◌, length}
-use Rattle.rkyv_scan.specs.Groups.{mask_indices}
-use Rattle.rkyv_table.specs.Table.RawItems.{IsRawIter, positions_left}
+use Rattle.rkyv_scan.specs.{mask_indices}
+use Rattle.rkyv_table.specs.{IsRawIter, positions_left}
 use Rattle.rkyv_table.proofs.table.raw_iter.RawIterIterator.next.Given as goal
 
 abbrev pub invariant-loop-self : goal.invariant-loop-self

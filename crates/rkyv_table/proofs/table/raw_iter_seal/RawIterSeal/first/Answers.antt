@@ -1,5 +1,5 @@
 use Rattle.std.proofs.Common.{◌≡◌, ℕ, ◌+◌, ◌-◌, ◌*◌, ◌<◌, ◌∙◌, arith, sym, ap, subst, slice_index, slice_range, List, ◌∷◌, length}
-use Rattle.rkyv_table.specs.Controls.Walking.{full_from}
+use Rattle.rkyv_table.specs.{full_from}
 use Rattle.rkyv_table.proofs.SealedItems.{bucket_before, first_item, full_same, part_there}
 use Rattle.rkyv_table.proofs.table.raw_iter_seal.RawIterSeal.first.Goals as goal
 

@@ -1,5 +1,5 @@
 use Rattle.std.proofs.Common.{◌+◌, subst}
-use Rattle.rkyv_base.specs.Sealing.{Keeps, Sealed}
+use Rattle.rkyv_base.specs.{Keeps, Sealed}
 use Rattle.rkyv_collections.proofs.SealedPairs.{pairs_kept}
 use Rattle.rkyv_collections.proofs.map.in_place.iter_seal.IterMut.set_at.Goals as goal
 

@@ -1,5 +1,5 @@
 use Rattle.std.proofs.Common.{◌∙◌}
-use Rattle.rkyv_table.specs.Table.SealedItems.{cursor_buckets_left}
+use Rattle.rkyv_table.specs.{cursor_buckets_left}
 use Rattle.rkyv_collections.proofs.map.in_place.iter_seal.ValuesMut.next_seal.Goals as goal
 
 pub returns-clause-first : goal.returns-clause-first

@@ -1,9 +1,7 @@
 use Rattle.std.proofs.Common.{◌∙◌, ap}
-use Rattle.rkyv_base.specs.Entry.{entry_spec}
+use Rattle.rkyv_base.specs.{IsAt, entry_spec}
 use Rattle.rkyv_base.specs.Lemmas.Entry.{entry_element}
-use Rattle.rkyv_base.specs.View.{IsAt}
-use Rattle.rkyv_index.specs.Index.{key_pos}
-use Rattle.rkyv_index.specs.Index.IndexLayout.{entry_at}
+use Rattle.rkyv_index.specs.{entry_at, key_pos}
 use Rattle.rkyv_index.proofs.Checking.{view_there}
 use Rattle.rkyv_index.proofs.ValidIndexMap.{entry_viewable}
 use Rattle.rkyv_index.proofs.map.read.entries.Entries.entry.Goals as goal

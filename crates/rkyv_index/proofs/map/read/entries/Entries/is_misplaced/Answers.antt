@@ -1,13 +1,11 @@
 use Rattle.std.proofs.Common.{◌≡◌, ◌+◌, ◌∙◌, ap, true, Option, ℕ, not}
 use Rattle.std.specs.List.{find}
-use Rattle.rkyv_base.specs.Entry.{entry_spec}
+use Rattle.rkyv_base.specs.{IsAt, entry_spec}
 use Rattle.rkyv_base.specs.Lemmas.Entry.{entry_element}
 use Rattle.rkyv_keys.specs.Lemmas.OfEntries.{valid_key}
-use Rattle.rkyv_keys.specs.Calls.{hash_at}
-use Rattle.rkyv_table.specs.Table.Misplaced.{is_found_at}
-use Rattle.rkyv_index.specs.Index.Equality.{same_keys}
-use Rattle.rkyv_base.specs.View.{IsAt}
-use Rattle.rkyv_index.specs.Index.{index_archive, index_found, index_of, index_strides, key_at, pair_indices}
+use Rattle.rkyv_keys.specs.{hash_at}
+use Rattle.rkyv_table.specs.{is_found_at}
+use Rattle.rkyv_index.specs.{index_archive, index_found, index_of, index_strides, key_at, pair_indices, same_keys}
 use Rattle.rkyv_index.proofs.Checking.{view_at}
 use Rattle.rkyv_index.proofs.ValidIndexMap.{entry_viewable}
 use Rattle.rkyv_index.proofs.FirstAccepted.{another_repeated}

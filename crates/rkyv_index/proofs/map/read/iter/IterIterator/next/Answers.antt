@@ -2,10 +2,9 @@ use Rattle.std.proofs.Common.{◌∷◌, ◌∙◌, ◌≡◌, ◌+◌, ◌*◌,
 use Rattle.std.specs.List.{All}
 use Rattle.std.proofs.lemmas.List.Elements.{All-head, All-rest}
 use Rattle.std.proofs.Math.Nat.{add-mul}
-use Rattle.rkyv_base.specs.Entry.{entry_spec}
-use Rattle.rkyv_base.specs.ElementSpec.{Viewable}
-use Rattle.rkyv_table.specs.Table.RawItems.{ItemsLeft}
-use Rattle.rkyv_index.specs.Index.{row}
+use Rattle.rkyv_base.specs.{Viewable, entry_spec}
+use Rattle.rkyv_table.specs.{ItemsLeft}
+use Rattle.rkyv_index.specs.{row}
 use Rattle.rkyv_index.proofs.Checking.{view_there}
 use Rattle.rkyv_index.proofs.Rows.{row_step}
 use Rattle.rkyv_index.proofs.map.read.iter.IterIterator.next.Goals as goal

@@ -1,10 +1,10 @@
 -- Lookups that find the one key that fits.
 use Rattle.std.specs.Prelude.{◌≡◌, ℕ, ◌<◌, Bool, true, false, Option, MatchOption}
 use Rattle.std.specs.Prelude.{List}
-use Rattle.rkyv_keys.specs.Equality.{Comparison}
-use Rattle.rkyv_table.specs.Table.Header.{len_at}
-use Rattle.rkyv_index.specs.Index.Equality.{index_misplaced}
-use Rattle.rkyv_index.specs.Index.{Index, fits_at}
+use Rattle.rkyv_keys.specs.{Comparison}
+use Rattle.rkyv_table.specs.{len_at}
+use Rattle.rkyv_index.specs.Map.Equality.{index_misplaced}
+use Rattle.rkyv_index.specs.Map.{Index, fits_at}
 
 module _ (len : ℕ) (fits : ℕ → Bool) where
   -- `fits i` is `false` for each index `i` below `len`

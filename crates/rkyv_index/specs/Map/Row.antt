@@ -2,10 +2,8 @@
 use Rattle.std.specs.Prelude.{◌≡◌, ℕ, ◌+◌, ◌⊎◌, List, [], ◌∷◌, ◌++◌, length, take, slice_get, Some}
 use Rattle.std.specs.Prelude.{MatchResult, Result}
 use Rattle.rkyv_base.specs.declared.errors.WriteError.{WriteError}
-use Rattle.rkyv_base.specs.Format.{Format}
-use Rattle.rkyv_base.specs.Writing.{Appended, Appends, Output, Step, Within, WriteFails, distance}
-use Rattle.rkyv_base.specs.Writing.{end_of}
-use Rattle.rkyv_base.specs.Writing.{failure, piece}
+use Rattle.rkyv_base.specs.{Appended, Appends, Format, Output, Step, Within, WriteFails, distance}
+use Rattle.rkyv_base.specs.{end_of, failure, piece}
 
 module _ {X R : Type 0} (f : Format X R) where
   -- `part`: parts of the values in order, from position `p` on. `rs`: their resolvers

@@ -1,21 +1,14 @@
 -- The format of a list as an index map, and the bytes that represent the list.
 use Rattle.std.specs.Prelude.{◌≡◌, ℕ, ◌+◌, ◌⊎◌, List, [], ◌∷◌, ◌++◌, length, map, slice_get, Some}
 use Rattle.std.specs.Int.{Width, byte_len}
-use Rattle.rkyv_base.specs.Bytes.{number_at}
-use Rattle.rkyv_base.specs.Entry.{entry_spec}
-use Rattle.rkyv_base.specs.Format.{Format, IsFormat}
-use Rattle.rkyv_base.specs.Pairs.{PairRepresents, pair_format}
-use Rattle.rkyv_base.specs.Scalar.{Encoding, scalar_format}
-use Rattle.rkyv_base.specs.ElementSpec.{ElementSpec}
-use Rattle.rkyv_base.specs.Writing.{Step, padding, piece, zeros}
-use Rattle.rkyv_table.specs.Table.Header.{cap_at, len_at}
-use Rattle.rkyv_table.specs.Controls.Numbers.{capacity}
-use Rattle.rkyv_table.specs.Table.Positions.{WrittenAt, home_positions}
-use Rattle.rkyv_table.specs.Table.TableFormat.{PairsNext, TableParts, TableResolver}
-use Rattle.rkyv_table.specs.Table.TableFormat.{resolved_capacity}
-use Rattle.rkyv_index.specs.Index.IndexHeader.{IndexOverflows, IndexResolver, IsIndexHeader}
-use Rattle.rkyv_index.specs.Index.IndexLayout.{index_spec, indices_of, pair_pos}
-use Rattle.rkyv_index.specs.Index.Row.{RowImages, RowNext, RowParts, RowPartsNext}
+use Rattle.rkyv_base.specs.{ElementSpec, Encoding, Format, IsFormat, PairRepresents, Step}
+use Rattle.rkyv_base.specs.{entry_spec, number_at, padding, pair_format, piece, scalar_format}
+use Rattle.rkyv_base.specs.{zeros}
+use Rattle.rkyv_table.specs.{PairsNext, TableParts, TableResolver, WrittenAt, cap_at, capacity}
+use Rattle.rkyv_table.specs.{home_positions, len_at, resolved_capacity}
+use Rattle.rkyv_index.specs.Map.IndexHeader.{IndexOverflows, IndexResolver, IsIndexHeader}
+use Rattle.rkyv_index.specs.Map.IndexLayout.{index_spec, indices_of, pair_pos}
+use Rattle.rkyv_index.specs.Map.Row.{RowImages, RowNext, RowParts, RowPartsNext}
 
 -- the code of each number that is encoded by `e` is the number
 abbrev pub CodesReadBack : {P : Type 0} → Encoding P → Type 0

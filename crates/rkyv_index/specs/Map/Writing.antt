@@ -1,17 +1,12 @@
 -- The result of writing an index map.
 use Rattle.std.specs.Prelude.{◌≡◌, ℕ, ◌⊎◌, List, MatchResult, Option, Result, length, map}
-use Rattle.rkyv_base.specs.Members.{WidthMembers}
+use Rattle.rkyv_base.specs.{ElementSpec, Format, Output, SerializeFails, Serialized, WidthMembers}
+use Rattle.rkyv_base.specs.{scalar_format}
 use Rattle.rkyv_base.specs.declared.adapter.EntryAdapter.{EntryAdapter}
 use Rattle.rkyv_base.specs.declared.errors.WriteError.{WriteError}
-use Rattle.rkyv_base.specs.Format.{Format, SerializeFails, Serialized}
-use Rattle.rkyv_base.specs.Scalar.{scalar_format}
-use Rattle.rkyv_base.specs.ElementSpec.{ElementSpec}
-use Rattle.rkyv_base.specs.Writing.{Output}
-use Rattle.rkyv_table.specs.Table.Input.{Input, from_iter}
-use Rattle.rkyv_table.specs.Table.Serializing.{OwnCause, WritesItems}
-use Rattle.rkyv_table.specs.Table.TableFormat.{TableResolver, table_format}
-use Rattle.rkyv_index.specs.Index.IndexFormat.{IndicesAs, indices_from, row_format}
-use Rattle.rkyv_index.specs.Index.IndexHeader.{IndexResolver}
+use Rattle.rkyv_table.specs.{Input, OwnCause, TableResolver, WritesItems, from_iter, table_format}
+use Rattle.rkyv_index.specs.Map.IndexFormat.{IndicesAs, indices_from, row_format}
+use Rattle.rkyv_index.specs.Map.IndexHeader.{IndexResolver}
 
 -- the pairs of key and value of the entries
 abbrev pub pairs_of : {BK BV A B : Type 0} → List (EntryAdapter BK BV A B) → List (BK × BV)

@@ -1,6 +1,6 @@
 -- Lookups of keys by a query.
 use Rattle.std.specs.Prelude.{ℕ, Bool, List}
-use Rattle.rkyv_scan.specs.Hash.{Hasher, HasherCall, hash_of_calls}
+use Rattle.rkyv_scan.specs.{Hasher, HasherCall, hash_of_calls}
 use Rattle.rkyv_keys.specs.Equality.{Comparison}
 
 -- A lookup under `hash` of a key that `fits` accepts, among keys with the hashes `key_hash`

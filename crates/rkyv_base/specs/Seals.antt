@@ -3,7 +3,7 @@ use Rattle.std.specs.Prelude.{◌≡◌, ℕ, ◌+◌, ◌≤◌, List, ◌++◌
 use Rattle.std.specs.Borrow.{Array, Fml, LendsBoth, MutBor, u8}
 use Rattle.rkyv_base.specs.declared.seal.ArchiveSeal.{ArchiveSeal}
 use Rattle.rkyv_base.specs.declared.seal.Seal.{Seal}
-use Rattle.rkyv_base.specs.ElementSpec.{ElementSpec}
+use Rattle.rkyv_base.specs.ElementSpecs.{ElementSpec}
 
 -- the reference `lender` with the same bytes, and the position `p`
 pub record BorrowsAt (lent : MutBor (List ℕ)) (at : ℕ) (lender : MutBor (List ℕ)) (p : ℕ) : Type 0

@@ -3,7 +3,7 @@ use Rattle.std.specs.Prelude.{◌≡◌, ℕ, List, Option}
 use Rattle.std.specs.Option.{option_map}
 use Rattle.std.specs.Borrow.{Bor}
 use Rattle.rkyv_base.specs.declared.view.View.{View}
-use Rattle.rkyv_base.specs.ElementSpec.{ElementSpec, Viewable}
+use Rattle.rkyv_base.specs.ElementSpecs.{ElementSpec, Viewable}
 
 -- the position of the view `v`
 abbrev pub pos_of : {T : Type 0} → View T → ℕ

@@ -5,23 +5,18 @@ use Rattle.std.specs.Prelude.{◌≡◌, ℕ, ◌<◌, ◌⊎◌, ◌&&◌, List
 use Rattle.std.specs.Prelude.{length, slice_get}
 use Rattle.std.specs.Cmp.Lexicographic.{pointwise}
 use Rattle.std.specs.Int.{Width}
-use Rattle.rkyv_base.specs.Empty.{unit_spec}
-use Rattle.rkyv_base.specs.Format.{Format}
-use Rattle.rkyv_base.specs.Pairs.{PairRepresents}
-use Rattle.rkyv_base.specs.Entry.{entry_spec}
-use Rattle.rkyv_base.specs.ElementSpec.{ElementSpec, Viewable}
+use Rattle.rkyv_base.specs.{ElementSpec, Format, PairRepresents, Viewable, entry_spec, unit_spec}
 use Rattle.rkyv_base.specs.declared.errors.ReadError.{ReadError}
 use Rattle.rkyv_base.specs.declared.errors.ReadError.TheVariants.{Memory}
-use Rattle.rkyv_keys.specs.OfEntries.{entry_deserialize_fails}
-use Rattle.rkyv_keys.specs.Deserialize.{DeserializeErrors, DeserializeMembers}
-use Rattle.rkyv_keys.specs.RoundTrips.{RoundTrip}
-use Rattle.rkyv_table.specs.Table.Header.{len_at}
-use Rattle.rkyv_index.specs.Index.{index_bytes, index_pos, key_pos}
-use Rattle.rkyv_index.specs.Index.IndexFormat.{IndexRepresents}
-use Rattle.rkyv_index.specs.Index.IndexLayout.{index_spec}
+use Rattle.rkyv_keys.specs.{DeserializeErrors, DeserializeMembers, RoundTrip}
+use Rattle.rkyv_keys.specs.{entry_deserialize_fails}
+use Rattle.rkyv_table.specs.{len_at}
+use Rattle.rkyv_index.specs.Map.{index_bytes, index_pos, key_pos}
+use Rattle.rkyv_index.specs.Map.IndexFormat.{IndexRepresents}
+use Rattle.rkyv_index.specs.Map.IndexLayout.{index_spec}
 use Rattle.rkyv_index.specs.Set.IndexSet.{index_set_spec, set_bytes, set_pos}
 use Rattle.rkyv_index.specs.Set.SetFormat.{IndexSetRepresents}
-use Rattle.rkyv_index.specs.Index.ValueWrites.{pair_at}
+use Rattle.rkyv_index.specs.Map.ValueWrites.{pair_at}
 use Rattle.rkyv_index.specs.declared.map.ArchivedIndexMap.{ArchivedIndexMap}
 use Rattle.rkyv_index.specs.declared.set.ArchivedIndexSet.{ArchivedIndexSet}
 

@@ -3,13 +3,12 @@ use Rattle.rkyv_base.specs.declared.element.HasSpec.{Ghosts as Specs}
 use Rattle.rkyv_base.specs.declared.width.Word.{Ghosts as Words}
 use Rattle.std.specs.Prelude.{◌≡◌, ℕ, ◌<◌, Bool, true, false, List, None, Option, Some, slice_get}
 use Rattle.std.specs.List.{find}
-use Rattle.rkyv_base.specs.ElementSpec.{ElementSpec, ValidAt}
-use Rattle.rkyv_base.specs.Pairs.{PairRepresents}
-use Rattle.rkyv_keys.specs.Natives.{NativePairs}
-use Rattle.rkyv_index.specs.Index.{IsWritten, fits_at, index_bytes, index_of, pair_indices}
-use Rattle.rkyv_index.specs.Index.{index_pos}
-use Rattle.rkyv_index.specs.Index.{key_pos}
-use Rattle.rkyv_index.specs.Index.IndexFormat.{IndexRepresents}
+use Rattle.rkyv_base.specs.{ElementSpec, PairRepresents, ValidAt}
+use Rattle.rkyv_keys.specs.{NativePairs}
+use Rattle.rkyv_index.specs.Map.{IsWritten, fits_at, index_bytes, index_of, pair_indices}
+use Rattle.rkyv_index.specs.Map.{index_pos}
+use Rattle.rkyv_index.specs.Map.{key_pos}
+use Rattle.rkyv_index.specs.Map.IndexFormat.{IndexRepresents}
 use Rattle.rkyv_index.specs.declared.map.ArchivedIndexMap.{ArchivedIndexMap}
 
 -- a valid key fits if and only if `accept` accepts the value that it represents

@@ -5,7 +5,7 @@ use Rattle.rkyv_base.specs.declared.errors.VerifyError.{VerifyError}
 use Rattle.rkyv_base.specs.declared.errors.VerifyError.TheVariants.{Refused}
 use Rattle.rkyv_base.specs.Bytes.{AgreeOn}
 use Rattle.rkyv_base.specs.Writing.{padding}
-use Rattle.rkyv_base.specs.ElementSpec.{ElementSpec}
+use Rattle.rkyv_base.specs.ElementSpecs.{ElementSpec}
 
 -- `n` rounded up to a multiple of `a`
 abbrev pub round_up : ℕ → ℕ → ℕ

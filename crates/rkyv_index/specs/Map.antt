@@ -21,22 +21,16 @@ use Rattle.std.specs.Borrow.{Bor}
 use Rattle.std.specs.Int.{Width, byte_len}
 use Rattle.std.specs.List.{find}
 use Rattle.std.specs.Option.{option_map}
-use Rattle.rkyv_scan.specs.Groups.{generic_kind}
-use Rattle.rkyv_base.specs.Bytes.{number_at}
-use Rattle.rkyv_base.specs.Entry.{entry_spec, value_offset}
-use Rattle.rkyv_base.specs.ElementSpec.{ElementSpec}
-use Rattle.rkyv_base.specs.View.{IsAt, IsValidView, archive_of, bytes_of, pos_of}
+use Rattle.rkyv_scan.specs.{generic_kind}
+use Rattle.rkyv_base.specs.{ElementSpec, IsAt, IsValidView, archive_of, bytes_of, entry_spec}
+use Rattle.rkyv_base.specs.{number_at, pos_of, value_offset}
 use Rattle.rkyv_base.specs.declared.entry.Entry.{Entry}
 use Rattle.rkyv_base.specs.declared.view.View.{View}
-use Rattle.rkyv_table.specs.Controls.Finding.{ReadsWithin}
-use Rattle.rkyv_table.specs.Table.Header.{cap_at, len_at}
-use Rattle.rkyv_table.specs.Controls.Numbers.{probe_capacity}
-use Rattle.rkyv_table.specs.Table.MisplacedIn.{IsCutAt}
-use Rattle.rkyv_table.specs.Table.Positions.{IsWalked, item_at, lookup_end, pos_found}
-use Rattle.rkyv_table.specs.Table.Reading.{FindsItem, IsItem}
+use Rattle.rkyv_table.specs.{FindsItem, IsCutAt, IsItem, IsWalked, ReadsWithin, cap_at, item_at}
+use Rattle.rkyv_table.specs.{len_at, lookup_end, pos_found, probe_capacity}
 use Rattle.rkyv_table.specs.declared.table.ArchivedHashTable.{ArchivedHashTable}
-use Rattle.rkyv_index.specs.Index.IndexFormat.{IndexWrittenAt}
-use Rattle.rkyv_index.specs.Index.IndexLayout.{entries_pos, indices_of, pair_pos}
+use Rattle.rkyv_index.specs.Map.IndexFormat.{IndexWrittenAt}
+use Rattle.rkyv_index.specs.Map.IndexLayout.{entries_pos, indices_of, pair_pos}
 use Rattle.rkyv_index.specs.declared.map.ArchivedIndexMap.{ArchivedIndexMap}
 use Rattle.rkyv_index.specs.declared.map.read.entries.Entries.{Entries}
 

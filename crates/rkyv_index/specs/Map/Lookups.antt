@@ -3,13 +3,13 @@ use Rattle.rkyv_base.specs.declared.element.HasSpec.{Ghosts as Specs}
 use Rattle.rkyv_base.specs.declared.width.Word.{Ghosts as Words}
 use Rattle.std.specs.Prelude.{◌≡◌, ℕ, Bool, IfSome, List, Option}
 use Rattle.rkyv_base.specs.declared.view.View.{View}
-use Rattle.rkyv_keys.specs.KeyLookup.{KeyLookup}
-use Rattle.rkyv_index.specs.Index.Complete.{FindsOneKey}
-use Rattle.rkyv_index.specs.Index.{FindsBy, FindsFirstBy, FindsFirstKey, FindsKey, IsAccepted}
-use Rattle.rkyv_index.specs.Index.{IsFullKeyIn, IsFullResult, IsKeyOf, IsStored, IsStoredIndex}
-use Rattle.rkyv_index.specs.Index.{IsPairOf}
-use Rattle.rkyv_index.specs.Index.{IsIndex, IsValueOf, MatchesAt, full_index, full_key_index}
-use Rattle.rkyv_index.specs.Index.{index_of}
+use Rattle.rkyv_keys.specs.{KeyLookup}
+use Rattle.rkyv_index.specs.Map.Complete.{FindsOneKey}
+use Rattle.rkyv_index.specs.Map.{FindsBy, FindsFirstBy, FindsFirstKey, FindsKey, IsAccepted}
+use Rattle.rkyv_index.specs.Map.{IsFullKeyIn, IsFullResult, IsKeyOf, IsStored, IsStoredIndex}
+use Rattle.rkyv_index.specs.Map.{IsPairOf}
+use Rattle.rkyv_index.specs.Map.{IsIndex, IsValueOf, MatchesAt, full_index, full_key_index}
+use Rattle.rkyv_index.specs.Map.{index_of}
 use Rattle.rkyv_index.specs.declared.map.ArchivedIndexMap.{ArchivedIndexMap}
 
 -- What a lookup in `M` returns of the pair that it finds. `In m x`: `x` is of a pair of `m`

@@ -2,19 +2,15 @@
 use Rattle.std.specs.Prelude.{◌≡◌, ℕ, ◌<◌, Bool, true, IfSome, List, Option}
 use Rattle.std.specs.Int.{Width}
 use Rattle.std.specs.Option.{option_map}
-use Rattle.rkyv_base.specs.Entry.{entry_spec}
-use Rattle.rkyv_base.specs.Seal.{archive_in, pos_in}
-use Rattle.rkyv_base.specs.Sealing.{value_pos}
-use Rattle.rkyv_base.specs.ElementSpec.{ElementSpec, Viewable}
-use Rattle.rkyv_base.specs.View.{IsValidView, bytes_of, pos_of}
+use Rattle.rkyv_base.specs.{ElementSpec, IsValidView, Viewable, archive_in, bytes_of, entry_spec}
+use Rattle.rkyv_base.specs.{pos_in, pos_of, value_pos}
 use Rattle.rkyv_base.specs.declared.seal.ArchiveSeal.{ArchiveSeal}
 use Rattle.rkyv_base.specs.declared.seal.Seal.{Seal}
 use Rattle.rkyv_base.specs.declared.view.View.{View}
-use Rattle.rkyv_table.specs.Table.Header.{len_at}
-use Rattle.rkyv_table.specs.Table.PairSeals.{LendsPair, LendsValue}
-use Rattle.rkyv_index.specs.Index.{Index, IsStoredAt, MatchesAt}
-use Rattle.rkyv_index.specs.Index.IndexLayout.{index_spec}
-use Rattle.rkyv_index.specs.Index.ValueWrites.{KeptByWrites, pair_at}
+use Rattle.rkyv_table.specs.{LendsPair, LendsValue, len_at}
+use Rattle.rkyv_index.specs.Map.{Index, IsStoredAt, MatchesAt}
+use Rattle.rkyv_index.specs.Map.IndexLayout.{index_spec}
+use Rattle.rkyv_index.specs.Map.ValueWrites.{KeptByWrites, pair_at}
 use Rattle.rkyv_index.specs.declared.map.IndexMapOf.{IndexMapOf}
 
 -- the archive has a valid index map at the position of the seal `a`

@@ -5,13 +5,9 @@ use Rattle.std.specs.Int.{Width, byte_len}
 use Rattle.std.specs.List.{All, range_with_len}
 use Rattle.rkyv_base.specs.declared.errors.VerifyError.{VerifyError}
 use Rattle.rkyv_base.specs.declared.errors.VerifyError.TheVariants.{PlaceOutOfRange}
-use Rattle.rkyv_base.specs.Bytes.{number_at, signed_at}
-use Rattle.rkyv_base.specs.Parts.{PartFails, PartIn}
-use Rattle.rkyv_base.specs.ElementSpec.{ElementSpec}
-use Rattle.rkyv_table.specs.Table.Header.{len_at}
-use Rattle.rkyv_table.specs.Table.ValidItems.{AreValidAt, FirstFails}
-use Rattle.rkyv_table.specs.Table.Positions.{item_positions}
-use Rattle.rkyv_table.specs.Table.Layout.{IsValidTable, TableFails}
+use Rattle.rkyv_base.specs.{ElementSpec, PartFails, PartIn, number_at, signed_at}
+use Rattle.rkyv_table.specs.{AreValidAt, FirstFails, IsValidTable, TableFails, item_positions}
+use Rattle.rkyv_table.specs.{len_at}
 
 -- the spec of an index in a bucket: one word, which is always valid
 abbrev pub stored_index_spec : Width → ElementSpec

@@ -2,15 +2,11 @@
 use Rattle.std.specs.Prelude.{◌≡◌, ◌≢◌, ℕ, ◌+◌, ◌*◌, ◌<◌, ◌^◌, List, Bool, Some, slice_get}
 use Rattle.std.specs.Prelude.{slice_set}
 use Rattle.std.specs.Int.{Width, byte_len}
-use Rattle.rkyv_base.specs.Bytes.{AgreeOn}
-use Rattle.rkyv_base.specs.Entry.{entry_spec}
-use Rattle.rkyv_base.specs.Sealing.{Keeps, value_pos}
-use Rattle.rkyv_base.specs.ElementSpec.{ElementSpec, Viewable}
-use Rattle.rkyv_table.specs.Table.Header.{len_at}
-use Rattle.rkyv_table.specs.Table.SealedTable.{RestsOnKey, SameValue, WritesValue}
-use Rattle.rkyv_index.specs.Index.{fits_in, index_found}
-use Rattle.rkyv_index.specs.Index.IndexFormat.{IndexRepresents, IndexWrittenAt}
-use Rattle.rkyv_index.specs.Index.IndexLayout.{entries_pos, index_spec, pair_pos}
+use Rattle.rkyv_base.specs.{AgreeOn, ElementSpec, Keeps, Viewable, entry_spec, value_pos}
+use Rattle.rkyv_table.specs.{RestsOnKey, SameValue, WritesValue, len_at}
+use Rattle.rkyv_index.specs.Map.{fits_in, index_found}
+use Rattle.rkyv_index.specs.Map.IndexFormat.{IndexRepresents, IndexWrittenAt}
+use Rattle.rkyv_index.specs.Map.IndexLayout.{entries_pos, index_spec, pair_pos}
 
 module _ (w : Width) (k v : ElementSpec) where
   -- the position of the pair at index `i` of the map at `p`

@@ -2,10 +2,8 @@
 use Rattle.std.specs.Prelude.{◌≡◌, ℕ, ◌⊎◌, ℤ, pos, ◌-ℤ◌, FitsSigned, List, ◌++◌, MatchResult}
 use Rattle.std.specs.Prelude.{Result}
 use Rattle.std.specs.Int.{Width, cast_unsigned, to_le_bytes}
-use Rattle.rkyv_table.specs.Controls.Numbers.{capacity}
-use Rattle.rkyv_table.specs.Table.Header.{HeaderOverflows, IsHeader}
-use Rattle.rkyv_table.specs.Table.TableFormat.{TableResolver}
-use Rattle.rkyv_index.specs.Index.IndexLayout.{distance_pos}
+use Rattle.rkyv_table.specs.{HeaderOverflows, IsHeader, TableResolver, capacity}
+use Rattle.rkyv_index.specs.Map.IndexLayout.{distance_pos}
 
 -- the resolver of an index map: that of its table of indices, and the position of its entries
 pub record IndexResolver : Type 0 where

@@ -1,8 +1,8 @@
 -- The invariant of a walk over the entries of an index map.
 use Rattle.std.specs.Prelude.{ℕ, ◌+◌, ◌*◌, ◌<◌, ◌^◌, List}
 use Rattle.std.specs.List.{All}
-use Rattle.rkyv_base.specs.ElementSpec.{ElementSpec, Viewable}
-use Rattle.rkyv_index.specs.Index.{row}
+use Rattle.rkyv_base.specs.{ElementSpec, Viewable}
+use Rattle.rkyv_index.specs.Map.{row}
 
 -- the `left` entries of `size` bytes from `at` on end below 2^64
 abbrev pub EndsBelow : ℕ → ℕ → ℕ → Type 0

@@ -6,17 +6,14 @@ use Rattle.std.specs.Prelude.{◌+◌, ◌<◌, ◌≤◌, ◌^◌, ◌⊎◌, M
 use Rattle.std.specs.Int.{Width}
 use Rattle.std.specs.List.{find, list_all, sum_by}
 use Rattle.std.specs.Option.{is_some}
-use Rattle.rkyv_base.specs.Entry.{entry_spec}
-use Rattle.rkyv_base.specs.ElementSpec.{ElementSpec}
-use Rattle.rkyv_keys.specs.Equality.{Comparison}
-use Rattle.rkyv_keys.specs.OfEntries.{entry_same}
-use Rattle.rkyv_table.specs.Table.Header.{len_at}
-use Rattle.rkyv_table.specs.Table.Misplaced.{is_found_at}
-use Rattle.rkyv_index.specs.Index.{Index, IsWritten, index_bytes, index_found, pair_indices}
-use Rattle.rkyv_index.specs.Index.{index_strides}
-use Rattle.rkyv_index.specs.Index.{index_pos, key_at}
-use Rattle.rkyv_index.specs.Index.IndexLayout.{pair_pos}
-use Rattle.rkyv_index.specs.Index.IndexLayout.{indices_of}
+use Rattle.rkyv_base.specs.{ElementSpec, entry_spec}
+use Rattle.rkyv_keys.specs.{Comparison, entry_same}
+use Rattle.rkyv_table.specs.{is_found_at, len_at}
+use Rattle.rkyv_index.specs.Map.{Index, IsWritten, index_bytes, index_found, pair_indices}
+use Rattle.rkyv_index.specs.Map.{index_strides}
+use Rattle.rkyv_index.specs.Map.{index_pos, key_at}
+use Rattle.rkyv_index.specs.Map.IndexLayout.{pair_pos}
+use Rattle.rkyv_index.specs.Map.IndexLayout.{indices_of}
 use Rattle.rkyv_index.specs.declared.map.ArchivedIndexMap.{ArchivedIndexMap}
 
 module _ (w : Width) (s : ElementSpec) (same : Comparison) where

@@ -1,47 +1,22 @@
 -- The header of a container: its bytes, and the checks of reading it.
-use Rattle.std.specs.Prelude.{
-  ◌≡◌,
-  ℕ,
-  ◌^◌,
-  ◌<◌,
-  ◌≤◌,
-  ◌⊎◌,
-  List,
-  [],
-  ◌∷◌,
-  ◌++◌,
-  length,
-  take,
-  slice_index,
-  slice_range,
-  Option,
-  None,
-  Some,
-}
+use Rattle.std.specs.Prelude.{List, None, Option, Some, [], length, slice_index, slice_range, take}
+use Rattle.std.specs.Prelude.{ℕ, ◌++◌, ◌<◌, ◌^◌, ◌∷◌, ◌≡◌, ◌≤◌, ◌⊎◌}
 use Rattle.std.specs.Int.{from_le_bytes, to_le_bytes, w16, w32, w64}
 use Rattle.rkyv_container.specs.declared.contents.Contents.{Contents}
 use Rattle.rkyv_container.specs.declared.header.Header.{Header}
-use Rattle.rkyv_container.specs.declared.errors.ContainerError.TheVariants.{
-  NonzeroReserved,
-  TooShort,
-  UnexpectedChecksum,
-  UnknownFlags,
-  UnknownKeyType,
-  UnknownKind,
-  UnknownValueType,
-  UnknownWidth,
-  UnsupportedVersion,
-  WrongMagic,
-}
-use Rattle.rkyv_container.specs.Codes.{
-  IsItemCode,
-  IsKindCode,
-  IsWidthCode,
-  item_code,
-  kind_code,
-  width_code,
-}
-use Rattle.rkyv_container.specs.Checks.{Checks, check, done, followed_by}
+use Rattle.rkyv_container.specs.declared.errors.ContainerError.TheVariants.{NonzeroReserved}
+use Rattle.rkyv_container.specs.declared.errors.ContainerError.TheVariants.{TooShort}
+use Rattle.rkyv_container.specs.declared.errors.ContainerError.TheVariants.{UnexpectedChecksum}
+use Rattle.rkyv_container.specs.declared.errors.ContainerError.TheVariants.{UnknownFlags}
+use Rattle.rkyv_container.specs.declared.errors.ContainerError.TheVariants.{UnknownKeyType}
+use Rattle.rkyv_container.specs.declared.errors.ContainerError.TheVariants.{UnknownKind}
+use Rattle.rkyv_container.specs.declared.errors.ContainerError.TheVariants.{UnknownValueType}
+use Rattle.rkyv_container.specs.declared.errors.ContainerError.TheVariants.{UnknownWidth}
+use Rattle.rkyv_container.specs.declared.errors.ContainerError.TheVariants.{UnsupportedVersion}
+use Rattle.rkyv_container.specs.declared.errors.ContainerError.TheVariants.{WrongMagic}
+use Rattle.rkyv_container.specs.Codes.{IsItemCode, IsKindCode, IsWidthCode, item_code, kind_code}
+use Rattle.rkyv_container.specs.Codes.{width_code}
+use Rattle.rkyv_container.specs.Checking.{Checks, check, done, followed_by}
 
 -- the first eight bytes of a container: 137, RKYV, carriage return, line feed, 26
 abbrev pub magic : List ℕ

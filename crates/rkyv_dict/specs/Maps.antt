@@ -1,15 +1,9 @@
 -- Keys and values of a map, as an archive has them.
 use Rattle.std.specs.Prelude.{ℕ, ◌==◌, List, [], ◌∷◌, decimal}
 use Rattle.std.specs.Int.{Width, w32}
-use Rattle.rkyv_scan.specs.Hash.{HasherCall, U32}
-use Rattle.rkyv_base.specs.Bytes.{number_at}
-use Rattle.rkyv_base.specs.Numbers.{unsigned}
-use Rattle.rkyv_base.specs.Scalar.{scalar_spec}
-use Rattle.rkyv_base.specs.ElementSpec.{ElementSpec}
-use Rattle.rkyv_base.specs.Text.{text_at, text_spec}
-use Rattle.rkyv_keys.specs.Calls.{text_calls}
-use Rattle.rkyv_keys.specs.Equality.{Comparison}
-use Rattle.rkyv_keys.specs.OfTexts.{same_bytes}
+use Rattle.rkyv_scan.specs.{HasherCall, U32}
+use Rattle.rkyv_base.specs.{ElementSpec, number_at, scalar_spec, text_at, text_spec, unsigned}
+use Rattle.rkyv_keys.specs.{Comparison, same_bytes, text_calls}
 use Rattle.rkyv_dict.specs.declared.form.ArchiveWidth.{ArchiveWidth}
 use Rattle.rkyv_dict.specs.declared.form.Form.{Form}
 use Rattle.rkyv_dict.specs.declared.form.Kind.{Kind}

@@ -5,15 +5,12 @@ use Rattle.std.specs.Prelude.{◌≡◌, ℕ, ◌-◌, List, Option, length}
 use Rattle.std.specs.Borrow.{Bor}
 use Rattle.std.specs.Int.{Width}
 use Rattle.std.specs.List.{position}
-use Rattle.rkyv_base.specs.ElementSpec.{ElementSpec}
-use Rattle.rkyv_base.specs.Entry.{entry_spec}
-use Rattle.rkyv_base.specs.View.{IsAt}
+use Rattle.rkyv_base.specs.{ElementSpec, IsAt, entry_spec}
 use Rattle.rkyv_base.specs.declared.view.View.{View}
-use Rattle.rkyv_keys.specs.FirstPairs.{FoundValues, first_value}
-use Rattle.rkyv_keys.specs.Natives.{NativeKeys}
-use Rattle.rkyv_index.specs.Index.{FindsFirstKey, IsIndex, IsValueAt, index_of}
-use Rattle.rkyv_index.specs.Index.IndexFormat.{IndexRepresents}
-use Rattle.rkyv_index.specs.Index.IndexLayout.{index_spec}
+use Rattle.rkyv_keys.specs.{FoundValues, NativeKeys, first_value}
+use Rattle.rkyv_index.specs.Map.{FindsFirstKey, IsIndex, IsValueAt, index_of}
+use Rattle.rkyv_index.specs.Map.IndexFormat.{IndexRepresents}
+use Rattle.rkyv_index.specs.Map.IndexLayout.{index_spec}
 use Rattle.rkyv_index.specs.declared.map.ArchivedIndexMap.{ArchivedIndexMap}
 use Rattle.rkyv_index.specs.declared.map.IndexMapOf.{IndexMapOf}
 

@@ -2,7 +2,7 @@
 use Rattle.std.specs.Prelude.{◌≡◌, ℕ, ◌+◌, ◌%◌, ◌≤◌, List, length, MatchResult, Result}
 use Rattle.rkyv_base.specs.declared.errors.WriteError.{WriteError}
 use Rattle.rkyv_base.specs.Bytes.{AgreeOn, OccursAt}
-use Rattle.rkyv_base.specs.ElementSpec.{ElementSpec}
+use Rattle.rkyv_base.specs.ElementSpecs.{ElementSpec}
 use Rattle.rkyv_base.specs.Writing.{Appends, Output, Step, Within, WriteFails, end_of}
 
 -- The format of the values `V`, with resolvers `R`.

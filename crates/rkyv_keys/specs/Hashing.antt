@@ -1,7 +1,7 @@
 -- The hasher calls of the types whose implementations are here.
 use Rattle.std.specs.Prelude.{◌≡◌, List}
 use Rattle.rkyv_keys.specs.declared.hash.KeyHash.{Ghosts as Hashes}
-use Rattle.rkyv_scan.specs.Hash.{HasherCall}
+use Rattle.rkyv_scan.specs.{HasherCall}
 
 -- each value can be read, and is hashed by these calls
 abbrev pub HashesBy : {A : Type 0} → Hashes A → (A → List HasherCall) → Type 0
