@@ -12,13 +12,13 @@ pub record ElementSpec : Type 1 where
   pub is_valid : List ℕ → ℕ → ℕ → ℕ → ℕ → Type 0
   pub fails : List ℕ → ℕ → ℕ → ℕ → VerifyError → Type 0
 
--- an alignment
+-- `a`: alignment: 1, 2, 4 or 8
 abbrev pub IsAlign : ℕ → Type 0
 IsAlign a = (a ≡ 1) ⊎ (a ≡ 2) ⊎ (a ≡ 4) ⊎ (a ≡ 8)
 
--- The laws of an element. Its size is a multiple of its alignment. That bytes are valid is
--- a proposition. The new lower end is unique, and in the range. No bytes are both valid and
--- faulty, and a fault is unique.
+-- The laws of an element. Its alignment is 1, 2, 4 or 8. Its size is a multiple of it,
+-- and at most 1073741824. That bytes are valid is a proposition. The new lower end is unique,
+-- and in the range. No bytes are both valid and faulty, and a fault is unique.
 -- A greater upper end keeps a value valid, with the same new lower end.
 -- A lesser lower end keeps it valid, with one that is not greater.
 -- Validity depends only on the fixed bytes, and on the parts up to the new lower end.

@@ -50,9 +50,10 @@ abbrev pub Serializes : {F V R : Type 0} → ℕ → Format V R → V → Output
 Serializes limit f v o o' result =
     MatchResult result (Serialized limit f v o o') (SerializeFails limit f v o o')
 
--- a format without steps, and a format without distances
+-- a format without steps
 abbrev pub nothing_next : {V : Type 0} → V → ℕ → List ℕ → Step → Type 0
 nothing_next v p front step = ⊥
 
+-- no distance overflows
 abbrev pub no_overflow : {V R : Type 0} → V → R → ℕ → Type 0
 no_overflow v r p = ⊥

@@ -4,8 +4,9 @@ use Rattle.std.specs.Int.{Width, byte_len, w32, w64}
 use mir.Val.{bits}
 use Rattle.rkyv_base.specs.Scalar.{Encoding}
 
--- the sizes in words: alignment one, text two, table header three, index map header four.
--- The text limit is a quarter of the numbers of a word
+-- The sizes of a width, in words: alignment one, text two, table header three, index map header
+-- four. The text limit is a quarter of the numbers of a word. The limit fits in a word
+-- and is below 2^63. The greatest capacity is at most the limit.
 pub record IsLayout (word : Width)
     (limit max_capacity table_size index_size align text_size text_limit : ℕ) : Type 0 where
   pub kind : (word ≡ w32) ⊎ (word ≡ w64)

@@ -21,10 +21,10 @@ pub struct PartRange {
     pub hi: u64,
 }
 
-/// The size and the alignment of an element, and the condition for valid bytes, for contracts
-/// alone.
+/// The layout of an element and the condition for its valid bytes, for contracts alone.
 ///
-/// Views of collections have this bound, so that they can hold that their bytes are valid.
+/// Collections that are read have this bound, so that they can carry the fact that their bytes
+/// are valid.
 ///
 /// # Examples
 ///

@@ -29,7 +29,7 @@ pub struct DistanceTooLarge;
 pub struct IteratorLengthMismatch {
     /// The number of items that the iterator claimed.
     pub expected: usize,
-    /// The number of items that it yielded.
+    /// The number of items that it yielded, counted up to one more than the claimed number.
     pub actual: usize,
 }
 
@@ -95,9 +95,10 @@ impl<F> From<DistanceTooLarge> for WriteError<F> {
 /// The error of a validation: the first fault in the bytes.
 #[derive(Debug, Drop, Error)]
 pub enum VerifyError {
-    /// A part or the root isn't inside its range of bytes.
+    /// A part or the root isn't inside its range of bytes, or the archive is longer than the limit.
     ///
-    /// The position is negative if a distance leads before the start of the archive.
+    /// The position is negative if a distance leads before the start of the archive, or if
+    /// the archive is shorter than its root.
     #[error("{size} bytes at {pos} are out of range")]
     OutOfRange { pos: i128, size: u128 },
     /// The position of a part or the root is not a multiple of its alignment.
@@ -109,7 +110,9 @@ pub enum VerifyError {
     /// The number of full buckets of a hash table is not its length.
     #[error("hash table contained a different number of elements than indicated by its length (expected: {expected}, actual: {actual})")]
     WrongNumberOfElements { expected: usize, actual: usize },
-    /// A mirrored control byte differs from the control byte that it mirrors.
+    /// A control byte after those of the buckets isn't as it must be.
+    ///
+    /// It differs from the control byte that it mirrors, or isn't empty from twice the capacity on.
     #[error("unwrapped control byte at index {index}")]
     UnwrappedControlByte { index: usize },
     /// A bucket of an index map has an index that is not below the map's length.

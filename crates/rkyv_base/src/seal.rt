@@ -286,7 +286,7 @@ impl<'a, T> ArchiveSeal<'a, T> {
     /// # Examples
     ///
     /// ```rust
-    /// // Writes a number over the value of an entry. Returns the key and the old value.
+    /// // Writes the value of the entry at position 0. Returns the key and the old value.
     /// fn value_replaced(bytes: &mut [u8], value: u32) -> Result<(u8, u32), VerifyError> {
     ///     let whole = access_mut::<Entry<u8, u32>>(bytes)?;
     ///     let (key, mut seal) = whole.split_value::<u8, u32>(0);

@@ -118,6 +118,10 @@ impl Writer for VecWriter {
 
     /// Appends the whole piece.
     ///
+    /// # Requires
+    ///
+    /// - The piece ends below 2^64.
+    ///
     /// # Errors
     ///
     /// - `NoMemory`: memory could not be allocated. Nothing is appended.

@@ -1,8 +1,8 @@
 //! A container for archives in files: a header of 32 bytes, then the archive.
 //!
 //! The header names the kind of collection, the types of its keys and values, and its width. It has
-//! the length of the archive, and its checksum if the writer asks for one. So an archive of one
-//! type is never opened as another.
+//! the length of the archive, and its checksum if the writer asks for one. `open_as` opens
+//! no container of other contents. No function compares the contents with the archive itself.
 //!
 //! - To write, `seal` writes the header of an archive that is behind room for it. `Header::new` and
 //!   `Header::to_bytes` are its two steps.

@@ -20,9 +20,9 @@ pub struct WrittenList {
 
 /// Writes a list of `len` items as a table, followed by its aligned header.
 ///
-/// Each item has the next of the hashes. The writer may be of any type. The law
-/// `written_lists_represent` says what is true of any archive that has the written bytes,
-/// so `look_over` finds there what was inserted first.
+/// Each item has the next of the hashes. The writer may be of any type. By the law
+/// `written_lists_represent`, the table is valid in any archive that has the written bytes,
+/// and its walk visits the home bucket of each item once.
 ///
 /// # Requires
 ///

@@ -15,7 +15,7 @@ pub record IsEquivalence (s : ElementSpec) (same : Comparison) : Type 0 where
   pub transitive : (b c d : List ℕ) (p q r : ℕ) → ValidAt s b p → ValidAt s c q → ValidAt s d r
       → same b p c q ≡ true → same c q d r ≡ true → same b p d r ≡ true
 
--- an equality of a value with itself alone
+-- `equal` returns `true` if and only if both values are the same
 abbrev pub DecidesEquality : {V : Type 0} → (V → V → Bool) → Type 0
 DecidesEquality {V = V} equal = (v w : V) → Decides (equal v w) (v ≡ w)
 

@@ -44,7 +44,7 @@ pub record FoundValues (V B : Type 0) : Type 1 where
   pub represents : List ℕ → ℕ → B → Type 0
   pub IsFound : Option (View V) → Option B → Type 0
 
--- values that are found as views of them
+-- native values that are found as views. The bytes at a found view represent the value
 abbrev pub found_views : {V B : Type 0} → (List ℕ → ℕ → B → Type 0) → FoundValues V B
 found_views {B = B} represents = record {
   represents = represents;

@@ -3,9 +3,11 @@ use Rattle.std.specs.Prelude.{ℕ, Bool, true, List, []}
 use Rattle.rkyv_scan.specs.{HasherCall}
 use Rattle.rkyv_keys.specs.Equality.{Comparison}
 
+-- the unit value at a position
 abbrev pub unit_at : List ℕ → ℕ → Unit {0}
 unit_at b p = tt
 
+-- all unit values are equal
 abbrev pub units_equal : Unit {0} → Unit {0} → Bool
 units_equal v w = true
 

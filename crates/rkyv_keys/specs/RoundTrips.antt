@@ -5,8 +5,8 @@ use Rattle.rkyv_base.specs.declared.errors.RoundTripError.{RoundTripError}
 use Rattle.rkyv_base.specs.declared.errors.RoundTripError.TheVariants.{Read, Write}
 use Rattle.rkyv_keys.specs.Deserialize.{DeserializeErrors}
 
--- how a value is written and deserialized. `limit`: greatest position of the archive,
--- `spec`: spec of the element
+-- how a value is written and deserialized. `limit`: greatest length of the archive, `spec`: spec
+-- of the element, `format`: format of the value, `deserialize_fails`: errors of deserializing it
 pub record RoundTrip (V R : Type 0) : Type 1 where
   pub limit : ℕ
   pub spec : ElementSpec

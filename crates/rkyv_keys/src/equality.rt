@@ -90,8 +90,8 @@ where
 /// If `eq_native` returns `true`, its argument is `==` to each native value
 /// that the archived one represents.
 ///
-/// std's maps and sets don't implement it. A caller knows that the keys of an archived map
-/// are distinct, and a law can't.
+/// Archived maps and sets don't implement it. A caller may know that the keys of an archived map
+/// are distinct, but this law can't assume it.
 pub trait EqualsUniquely<V: PartialEq>: MatchesNative<V> {
     ghost once: { EqualsOnce Self.spec Self.represents Self.equals V.eq };
 }

@@ -257,7 +257,7 @@ pub struct FxHasher<S> {
     rule: PhantomData<S>,
 }
 
-/// The hasher of archived maps. Its words of a `usize` or an `isize` have 32 bits on every machine.
+/// The hasher of archived maps. On every machine it takes the low 32 bits of a `usize` or `isize`.
 ///
 /// It takes no secret key, so whoever chooses the keys can let them share a hash. A lookup among
 /// such keys may read the whole table, and writing them takes quadratic time.

@@ -48,7 +48,8 @@ module _ (w : Width) (k v : ElementSpec) (key_hash : List ℕ → ℕ
       × (entry_same k v same_key same_value b (pair_at w k v b p homes i) c
       (pair_at w k v c r others j) ≡ true)
 
-  -- two such maps are equal if and only if each pair of either is the same as one of the other
+  -- two valid written maps, each of distinct keys, are equal if and only if each pair of either
+  -- is the same as one of the other
   abbrev pub EqualHaveSamePairs : Type 0
   EqualHaveSamePairs = (b c : List ℕ) (p r : ℕ) (homes others : List ℕ) → IsWrittenApart b p homes
       → IsWrittenApart c r others

@@ -32,7 +32,7 @@ pub fn equal_maps_have_the_same_pairs<K: KeyElement, V: ElementEquiv, H: KeyHash
 
 /// States that `misplaced` is the number of keys that are the same as an earlier key.
 ///
-/// The map is a written one. Earlier keys are those that were inserted before.
+/// The map must be a written one. Earlier keys are those that were inserted before.
 pub fn repeated_keys_are_misplaced<K: KeyElement, V: Element, H: KeyHasher, W: Width>()
     ensures { RepeatedKeysAreMisplaced W.word K.spec V.spec (hash_at H.hasher K.key_calls)
         K.same }

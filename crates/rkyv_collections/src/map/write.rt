@@ -54,9 +54,9 @@ impl<'a, K: KeyElement, V: HasSpec, H: KeyHasher, W: Width> ArchivedHashMap<'a, 
     ///   to `len + 1`.
     /// - The error of the first key, value or piece that fails.
     ///
-    /// If the call itself fails with one of the first four errors, nothing is written. A value
-    /// that fails with the same error may follow bytes that were written. The bytes written
-    /// before the call are unchanged.
+    /// If the call itself fails with one of the first four errors, nothing is written. A key
+    /// or value that fails with the same error may follow bytes that were written. The bytes
+    /// written before the call are unchanged.
     ///
     /// # Examples
     ///

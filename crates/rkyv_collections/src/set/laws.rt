@@ -25,7 +25,7 @@ pub fn walks_visit_each<A, K: KeyElement + Represents<A>, H: KeyHasher, W: Width
 
 /// States that `contains` in a root set is `true` if and only if the list has an equal key.
 ///
-/// The set is the root of an archive, and represents the list.
+/// The set must be the root of an archive, and represent the list.
 pub fn members_found_are_listed<
     A,
     Q: NativeQuery<A, K>,

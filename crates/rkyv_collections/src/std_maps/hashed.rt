@@ -84,7 +84,7 @@ impl<M: Eq, H> Eq for Hashed<M, H> {
         } };
 }
 
-/// It is formatted as the map or set itself.
+/// `Hashed` is formatted as the map or set itself.
 impl<M: Debug, H> Debug for Hashed<M, H> {
     ghost debug_output = { λ x. M.debug_output x.map };
 

@@ -20,7 +20,8 @@ pub record IsIndexHeader (w : Width) (len cap : ℕ) (r : IndexResolver) (p : �
   pub distance_value : distance ≡ pos r.entries -ℤ pos (distance_pos w p)
   pub is : out ≡ table ++ to_le_bytes w (cast_unsigned w distance)
 
--- the distance to the table of indices doesn't fit in the width, or that to the entries doesn't
+-- the map isn't empty and the distance to its table of indices doesn't fit in the width,
+-- or the distance to the entries doesn't fit
 abbrev pub IndexOverflows : Width → ℕ → IndexResolver → ℕ → Type 0
 IndexOverflows w len r p = HeaderOverflows w len r.table.pos p
     ⊎ (FitsSigned w (pos r.entries -ℤ pos (distance_pos w p)) → ⊥)

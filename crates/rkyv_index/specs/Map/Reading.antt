@@ -99,7 +99,7 @@ items_deserialize_fails {A} w k b p e =
     × AreItemsAt w k.spec k.represents b p before
     × k.deserialize_fails b (pair_at w k.spec unit_spec b p (length before)) e)
 
--- the round trip of a list of pairs. `limit`: greatest position of the archive
+-- the round trip of a list of pairs. `limit`: greatest length of the archive
 abbrev pub pairs_trip : {A B X R : Type 0} → ℕ → Width → DeserializeMembers A
     → DeserializeMembers B → Format X R → RoundTrip X R
 pairs_trip limit w k v format = record {
@@ -109,7 +109,7 @@ pairs_trip limit w k v format = record {
   deserialize_fails = pairs_deserialize_fails w k v;
 }
 
--- the round trip of a list of keys. `limit`: greatest position of the archive
+-- the round trip of a list of keys. `limit`: greatest length of the archive
 abbrev pub items_trip : {A X R : Type 0} → ℕ → Width → DeserializeMembers A → Format X R
     → RoundTrip X R
 items_trip limit w k format = record {

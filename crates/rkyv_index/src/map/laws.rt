@@ -71,7 +71,7 @@ where
 
 /// States that a lookup finds the index of the first pair of the list with an accepted key.
 ///
-/// The index map represents the list. It finds none if the list has no such pair.
+/// The index map must represent the list. The lookup finds none if the list has no such pair.
 /// The clause `first` of a lookup is about this index.
 ///
 /// The comparison must decide by the values that the keys represent. That of a native key accepts

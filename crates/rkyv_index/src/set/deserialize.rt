@@ -28,8 +28,8 @@ impl<'a, K: Element, H, W: Width> ArchivedIndexSet<'a, K, H, W> {
     ///
     /// # Errors
     ///
-    /// - `Memory`: the list could not be allocated.
     /// - The first error of deserializing a key.
+    /// - `Memory`: memory for the list could not be allocated.
     ///
     /// # Examples
     ///

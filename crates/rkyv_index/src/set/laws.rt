@@ -29,7 +29,7 @@ pub fn items_read_back_are_listed<
 
 /// States that lookups in a root index set find the first key of the list that equals a native key.
 ///
-/// The set is the root of an archive, and represents the list.
+/// The set must be the root of an archive, and represent the list.
 ///
 /// - `index`: `get_index_of` finds its index, and `None` if the list has no such key.
 /// - `member`: `contains` is `true` if and only if the list has such a key.

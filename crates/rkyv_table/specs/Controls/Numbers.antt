@@ -10,7 +10,8 @@ tag hash = hash / 2 ^ 57
 abbrev pub IsLoadFactor : ℕ × ℕ → Type 0
 IsLoadFactor factor = (0 < factor.0) × (factor.0 ≤ factor.1)
 
--- the number of buckets of a table of `len` items under a load factor; at least one stays empty
+-- the number of buckets of a table of `len` items under a load factor: 0 for no items, and else
+-- at least `len + 1`, so that one stays empty
 abbrev pub capacity : ℕ → ℕ × ℕ → ℕ
 capacity len factor = cond (len == 0) 0 (max (len * factor.1 / factor.0) (len + 1))
 

@@ -3,9 +3,8 @@ use Rattle.std.specs.Prelude.{◌≡◌, ◌≢◌, ℕ, ◌+◌, ◌≤◌, ◌
 use Rattle.std.specs.Iterator.{Drains, Yields}
 use Rattle.rkyv_table.specs.Table.PlacedItems.{hashes_of, items_of}
 
--- `n`: number of items from `s` on, counted on from `before`. It is exact up to `len`, and `len +
--- 1`
--- if there are more
+-- `n`: number of items from `s` on, counted on from `before`. It is exact up to `len`,
+-- and `len + 1` if there are more
 abbrev pub CountedOn : {S A : Type 0} → (S → Option A → S → Type 0) → ℕ → S → ℕ → ℕ → Type 0
 CountedOn {S} {A} steps len s before n =
     (xs : List A) × (n ≡ before + length xs)

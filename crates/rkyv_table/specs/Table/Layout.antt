@@ -55,16 +55,16 @@ FailsInside s b cap len lo begin e =
     × FirstUnwrapped cap (controls_at s.size b begin cap) q
     × (e ≡ UnwrappedControlByte q))))
 
--- a valid table with these numbers in its header, and `l` as the new lower end. An empty table
--- has no part
+-- a valid table with these numbers in its header, and `l` as the new lower end. A table
+-- with the length 0 and the capacity 0 has no part
 abbrev pub TableAt : ElementSpec → List ℕ → ℤ → ℕ → ℕ → ℕ → ℕ → ℕ → Type 0
 TableAt s b decoded cap len lo hi l =
     ((len ≡ 0) × (cap ≡ 0) × (l ≡ lo))
     ⊎ ((begin : ℕ) × PartIn decoded (part_size s.size cap) s.align lo hi begin
     × IsPart s b cap len lo begin × (l ≡ begin + part_size s.size cap))
 
--- `e`: first fault of a table. The length isn't below the capacity, or else the part
--- isn't in the range, or else it has a fault inside
+-- `e`: first fault of a table. The length isn't below the capacity and they aren't both 0,
+-- or else the part isn't in the range, or else it has a fault inside
 abbrev pub TableFailsAt : ElementSpec → List ℕ → ℤ → ℕ → ℕ → ℕ → ℕ → VerifyError → Type 0
 TableFailsAt s b decoded cap len lo hi e =
     ((cap ≤ len) × (0 < len) × (e ≡ InvalidLength len cap))

@@ -14,7 +14,7 @@ use crate::controls::probe::Probe;
 use rkyv_scan::simd::{GroupKind, Marks};
 use std::marker::Model;
 
-/// A counter of strides of sixteen control bytes, which returns each stride that it counts.
+/// A counter of the strides of sixteen control bytes that lookups read.
 #[derive(Drop)]
 pub struct Strides {
     count: u64,

@@ -55,7 +55,7 @@ pub fn marked_are_walked()
 
 /// States that a lookup in written control bytes finds the home bucket of the first accepted item.
 ///
-/// Each accepted item is under the hash of the lookup.
+/// Each accepted item must be under the hash of the lookup.
 pub fn found_on_written()
     ensures { FoundOnWritten }
 {}

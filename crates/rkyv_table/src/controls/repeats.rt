@@ -18,8 +18,8 @@ fn is_wrapped_at(controls: &[u8], cap: usize, index: usize) -> bool
 
 /// Validates the control bytes after those of the buckets.
 ///
-/// Each index below `2 * cap` has the control byte of the index `cap` lower. rkyv compares
-/// only some of these. Each index from `2 * cap` on is empty.
+/// Each index from `cap` on and below `2 * cap` has the control byte of the index `cap` lower. rkyv
+/// compares only some of these. Each index from `2 * cap` on is empty.
 ///
 /// # Requires
 ///

@@ -25,8 +25,8 @@ impl<'a, T: Element, W: Width> ArchivedHashTable<'a, T, W> {
     /// The items, their parts and the control bytes are in `range`. The rest of the range begins
     /// at the end of the control bytes.
     ///
-    /// An empty header is valid, and nothing else is read, as in rkyv. The rest is then `range`
-    /// itself. The buckets are not compared with the hashes of the items.
+    /// A header with length 0 and capacity 0 is valid, and nothing else is read, as in rkyv.
+    /// The rest is then `range` itself. The buckets are not compared with the hashes of the items.
     ///
     /// # Requires
     ///
@@ -85,7 +85,7 @@ impl<'a, T: Element, W: Width> ArchivedHashTable<'a, T, W> {
     /// # Requires
     ///
     /// - The view is of a valid table.
-    /// - `header` is what the view's header says.
+    /// - `header` is the decoded header of the table at the view.
     #[inline]
     pub fn with_header(
         view: View<'a, TableOf<T, W>>,

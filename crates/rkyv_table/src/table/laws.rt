@@ -28,7 +28,7 @@ pub fn walk_visits_homes()
 
 /// States that a lookup in a written table finds the first accepted item of the input pairs.
 ///
-/// It returns `None` if and only if no item is accepted. Each accepted item is under the hash
+/// It returns `None` if and only if no item is accepted. Each accepted item must be under the hash
 /// of the lookup.
 pub fn lookups_find_the_first<W: Width, U: Archive<W>, X: Lend<U>>()
     ensures { (load_factor : ℕ × ℕ) →

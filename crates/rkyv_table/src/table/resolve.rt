@@ -16,7 +16,7 @@ use rkyv_base::errors::DistanceTooLarge;
 use rkyv_base::width::{Narrow, Width};
 use std::marker::{Model, PhantomData};
 
-/// The resolver of a written table: its position, its length and its load factor.
+/// The resolver of a written table: the position of its control bytes, its length and load factor.
 #[derive(Drop)]
 pub struct HashTableResolver<W: Width = Narrow> {
     pub(crate) pos: u64,

@@ -11,7 +11,7 @@ use rkyv_scan::hash::KeyHasher;
 
 /// States that a written map with its header is valid in any archive that has its bytes.
 ///
-/// The header is aligned and after the written bytes. It has the length and the capacity
+/// The header must be aligned and after the written bytes. It then has the length and the capacity
 /// of the map. The entries are under the hashes of their keys in insertion order.
 /// Each pair is in its home bucket.
 pub fn written_maps_represent<

@@ -58,7 +58,7 @@ impl<'a, K: Element, V: Element, H, W: Width> ArchivedHashMap<'a, K, V, H, W> {
     /// # Requires
     ///
     /// - The view is of a valid map.
-    /// - `header` is what the view's header says.
+    /// - `header` is the decoded header of the map at the view.
     #[inline]
     pub fn with_header(
         view: View<'a, HashMapOf<K, V, H, W>>,

@@ -32,7 +32,9 @@ pub fn values_found_are_listed<
         (found_views V.represents) }
 {}
 
-/// States the same of a root index map of scalars, whose values are those of the list.
+/// States that a lookup in a root index map of scalars finds the first equal key's index and value.
+///
+/// The value is that of the list.
 pub fn scalars_found_are_listed<
     A,
     Q: NativeQuery<A, K>,
@@ -46,7 +48,9 @@ pub fn scalars_found_are_listed<
         (found_scalars N.encoding) }
 {}
 
-/// States the same of a root index map of texts, whose values have the bytes of those of the list.
+/// States that a lookup in a root index map of texts finds the first equal key's index and text.
+///
+/// The text has the bytes of that of the list.
 pub fn texts_found_are_listed<
     A,
     Q: NativeQuery<A, K>,

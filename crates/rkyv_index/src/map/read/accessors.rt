@@ -81,7 +81,7 @@ impl<'a, K: Element, V: Element, H, W: Width> ArchivedIndexMap<'a, K, V, H, W> {
     /// # Requires
     ///
     /// - The view is of a valid index map.
-    /// - `header` is what the view's header says.
+    /// - `header` is the decoded header of the table of indices at the view.
     #[inline]
     pub fn with_header(
         view: View<'a, IndexMapOf<K, V, H, W>>,

@@ -30,8 +30,8 @@ impl<'a, K: Element, V: Element, H, W: Width> ArchivedIndexMap<'a, K, V, H, W> {
     ///
     /// # Errors
     ///
-    /// - `Memory`: the list could not be allocated.
     /// - The first error of deserializing a key or a value.
+    /// - `Memory`: memory for the list could not be allocated.
     ///
     /// # Examples
     ///

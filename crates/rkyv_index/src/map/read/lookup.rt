@@ -308,7 +308,7 @@ impl<'a, K: KeyElement, V: Element, H: KeyHasher, W: Width> ArchivedIndexMap<'a,
         self.find(key, cmp, &mut Strides::new())
     }
 
-    /// Returns the index of a key that the comparison accepts, and counts the strides it reads.
+    /// Returns the index of an accepted key, or `None`, and counts the strides it reads.
     ///
     /// It looks up as `get_index_of_with` does. A stride has sixteen control bytes.
     ///

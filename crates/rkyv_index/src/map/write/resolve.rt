@@ -54,7 +54,8 @@ impl<W: Width> IndexMapResolver<W> {
     /// # Errors
     ///
     /// - `DistanceTooLarge`: the map isn't empty, and the distance to the table doesn't fit
-    ///   in the width. Or the distance to the entries doesn't fit. `out` is unchanged.
+    ///   in the width. Or the distance to the entries doesn't fit, also of an empty map.
+    ///   `out` is unchanged.
     pub fn resolve(self, pos: u64, out: &mut [u8]) -> ResolveResult
         requires room { length out.old ≡ W.INDEX_SIZE }
         requires fits { pos + W.INDEX_SIZE < 2 ^ 64 }

@@ -36,8 +36,8 @@ pub fn writes_keep_lookups<T: Element, W: Width>()
 
 /// States that a write of one item in place replaces it in the list from which a table was written.
 ///
-/// The write changes the bytes of this item alone and keeps it valid, and they represent the new
-/// item. The new item is under the hash of the old one.
+/// The write must change the bytes of this item alone and keep it valid, and they must represent
+/// the new item. In the list, the new item is then under the hash of the old one.
 pub fn items_written_represent<X, T: Represents<X>, W: Width>()
     ensures { ItemsWrittenRepresent W.word T.spec T.represents }
 {}

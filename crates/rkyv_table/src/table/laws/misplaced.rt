@@ -3,9 +3,8 @@ ghost use Rattle.rkyv_table.specs.{NoneMisplacedIsComplete, RepeatedAreMisplaced
 
 /// States that the number of misplaced items is that of items that are the same as an earlier one.
 ///
-/// The control bytes are written ones.
-/// Each item has the hash under which it was written. The relation is an equivalence on the items,
-/// and related items have the same hash.
+/// The control bytes must be written ones. Each item must have the hash under which it was written.
+/// The relation must be an equivalence on the items, and related items must have the same hash.
 pub fn repeated_are_misplaced()
     ensures { RepeatedAreMisplaced }
 {}
@@ -14,8 +13,8 @@ pub fn repeated_are_misplaced()
 ///
 /// It finds `None` if there is no accepted item.
 ///
-/// Each accepted item has the hash of the lookup, and the items that are the same as it are those
-/// that are accepted.
+/// Each accepted item must have the hash of the lookup. The items that are the same as it must be
+/// exactly the accepted ones.
 pub fn none_misplaced_is_complete()
     ensures { NoneMisplacedIsComplete }
 {}

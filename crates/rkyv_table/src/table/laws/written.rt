@@ -11,7 +11,7 @@ use rkyv_base::width::Width;
 
 /// States that a written table with its header is valid in any archive that has its bytes.
 ///
-/// The header is aligned and after the written bytes. It has the length and the capacity
+/// The header must be aligned and after the written bytes. It then has the length and the capacity
 /// of the table. The control bytes are those of the hashes, and each item is in its home bucket.
 pub fn written_tables_represent<W: Width, U: Archive<W>, X: Lend<U>>()
     ensures { (load_factor : ℕ × ℕ) → WrittenTablesRepresent W.word U.Archived.spec
