@@ -10,7 +10,7 @@ use Rattle.std.proofs.lemmas.List.{get_or-drop, get_or-take, length-map}
 use Rattle.std.proofs.lemmas.List.Sums.{prefix_len_is, prefix_len_passes}
 use Rattle.std.proofs.lemmas.List.Quantifiers.{position-Some}
 use Rattle.std.proofs.lemmas.Nat.Bits.{bit_at-trailing_zeros}
-use Rattle.std.proofs.lemmas.Simd.{leading_from_mask_l, mask_l-lt, mask_l-mod, tops_compared, trailing_mask_l, zip2_splat_left}
+use Rattle.std.proofs.lemmas.Simd.{mask_l-lt, mask_l-mod, tops_compared, trailing_mask_l, zip2_splat_left}
 use lib.Lanes.{top, zip2}
 use lib.Count.{count_trailing_zeros}
 

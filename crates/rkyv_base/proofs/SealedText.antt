@@ -9,7 +9,7 @@ use Rattle.std.proofs.lemmas.Bool.{cases_Bool}
 use Rattle.std.proofs.lemmas.Bool.Decides.{nat_tests}
 use Rattle.std.proofs.lemmas.List.{drop-drop, drop-take, length-drop, length-map, length-take}
 use Rattle.std.proofs.Math.Seq.{take-append-add}
-use Rattle.rkyv_base.specs.{IsInline, IsSealedText, Keeps, Sealed, Uppercases, Viewable, fixed_bytes, inline_at, inline_text, is_out_of_line, text_at, text_size, text_spec, with_uppercase}
+use Rattle.rkyv_base.specs.{IsInline, IsUtf8IfInline, ModifiesOnly, StaysValid, Uppercases, Viewable, fixed_bytes, inline_at, inline_text, is_out_of_line, text_at, text_size, text_spec, with_uppercase}
 use Rattle.rkyv_base.specs.Lemmas.Text.{inline_reads}
 use Rattle.rkyv_base.proofs.Uppercase.{utf8_uppercase}
 use Rattle.rkyv_base.proofs.Sealing.{sealed_wider, with_bytes-rest, with_bytes-sealed}
@@ -84,14 +84,14 @@ module _ (w : Width) (b : List ℕ) (p : ℕ) (inside : p + text_size w ≤ leng
   inline_utf8_uppercase : IsUtf8 (inline_at w b p) → IsUtf8 (inline_at w (with_uppercase w b p) p)
   inline_utf8_uppercase u = subst IsUtf8 (sym inline_uppercase) (utf8_uppercase (inline_at w b p) u)
 
-  uppercase_sealed : Sealed b p (text_size w) (with_uppercase w b p)
+  uppercase_sealed : ModifiesOnly b p (text_size w) (with_uppercase w b p)
   uppercase_sealed =
       let k : ℕ = length (inline_at w b p) in
       let o : k ≤ text_size w = inline_length in
       sealed_wider b (with_uppercase w b p) p k p (text_size w) (omega arith) (omega arith)
       (with_bytes-sealed b p k (map to_ascii_uppercase (inline_at w b p)) (omega arith) (length-map (inline_at w b p) to_ascii_uppercase))
 
-  uppercase_valid : IsInline w b p → Keeps (text_spec w) b (with_uppercase w b p) p
+  uppercase_valid : IsInline w b p → StaysValid (text_spec w) b (with_uppercase w b p) p
   uppercase_valid inline lo hi l o q (inl h) = inl (inline_stays inline, inline_utf8_uppercase h.1, h.2)
   uppercase_valid inline lo hi l o q (inr h) = cc (inline, h.0)
 
@@ -102,26 +102,26 @@ module _ (w : Width) (b : List ℕ) (p : ℕ) (inside : p + text_size w ≤ leng
 
   -- the bytes after a call that writes the text in upper case
   module _ (c : List ℕ) where
-    pub uppercased_sealed : (inline : Bool) → Uppercases w b p c inline → Sealed b p (text_size w) c
-    uppercased_sealed true h = subst (λ x. Sealed b p (text_size w) x) (sym h.1) uppercase_sealed
-    uppercased_sealed false h = subst (λ x. Sealed b p (text_size w) x) (sym h.1) (record { same_length = refl; before = refl; after = refl })
+    pub uppercased_sealed : (inline : Bool) → Uppercases w b p c inline → ModifiesOnly b p (text_size w) c
+    uppercased_sealed true h = subst (λ x. ModifiesOnly b p (text_size w) x) (sym h.1) uppercase_sealed
+    uppercased_sealed false h = subst (λ x. ModifiesOnly b p (text_size w) x) (sym h.1) (record { same_length = refl; before = refl; after = refl })
 
-    pub uppercased_valid : (inline : Bool) → Uppercases w b p c inline → Keeps (text_spec w) b c p
-    uppercased_valid true h = subst (λ x. Keeps (text_spec w) b x p) (sym h.1) (uppercase_valid h.0)
-    uppercased_valid false h = subst (λ x. Keeps (text_spec w) b x p) (sym h.1) (λ lo hi l o q k. k)
+    pub uppercased_valid : (inline : Bool) → Uppercases w b p c inline → StaysValid (text_spec w) b c p
+    uppercased_valid true h = subst (λ x. StaysValid (text_spec w) b x p) (sym h.1) (uppercase_valid h.0)
+    uppercased_valid false h = subst (λ x. StaysValid (text_spec w) b x p) (sym h.1) (λ lo hi l o q k. k)
 
     pub uppercased_reads : (inline : Bool) → Uppercases w b p c inline → IsInline w b p → text_at w c p ≡ map to_ascii_uppercase (text_at w b p)
     uppercased_reads true h inline = ap (λ (x : List ℕ). text_at w x p) h.1 ∙ uppercase_reads inline
     uppercased_reads false h inline = cc (inline, h.0)
 
-    pub uppercased_text : (inline : Bool) → Uppercases w b p c inline → IsSealedText w b p → IsSealedText w c p
-    uppercased_text true h text = subst (λ x. IsSealedText w x p) (sym h.1) (λ inline. inline_utf8_uppercase (text h.0))
-    uppercased_text false h text = subst (λ x. IsSealedText w x p) (sym h.1) text
+    pub uppercased_text : (inline : Bool) → Uppercases w b p c inline → IsUtf8IfInline w b p → IsUtf8IfInline w c p
+    uppercased_text true h text = subst (λ x. IsUtf8IfInline w x p) (sym h.1) (λ inline. inline_utf8_uppercase (text h.0))
+    uppercased_text false h text = subst (λ x. IsUtf8IfInline w x p) (sym h.1) text
 
 -- the fixed bytes of a valid text
-pub valid_sealed : (w : Width) (b : List ℕ) (p lo hi l : ℕ) → (text_spec w).is_valid b p lo hi l → IsSealedText w b p
+pub valid_sealed : (w : Width) (b : List ℕ) (p lo hi l : ℕ) → (text_spec w).is_valid b p lo hi l → IsUtf8IfInline w b p
 valid_sealed w b p lo hi l (inl h) inline = h.1
 valid_sealed w b p lo hi l (inr h) inline = cc (inline, h.0)
 
-pub viewable_sealed : (w : Width) (b : List ℕ) (p : ℕ) → Viewable (text_spec w) b p → IsSealedText w b p
+pub viewable_sealed : (w : Width) (b : List ℕ) (p : ℕ) → Viewable (text_spec w) b p → IsUtf8IfInline w b p
 viewable_sealed w b p h = valid_sealed w b p 0 p h.valid.0 h.valid.1

@@ -4,7 +4,7 @@ use Rattle.std.specs.Int.{byte_len, from_le_bytes, to_le_bytes}
 use Rattle.std.proofs.Common.{refl, arith, subst, subst₂, sym, ◌∙◌, ap, inl, inr, zero-add, length-append, length-drop}
 use Rattle.std.proofs.lemmas.List.{drop-drop, drop-take, length-take-le, take-take}
 use Rattle.std.proofs.Math.Seq.{drop-append-add, drop-append_seam, take-append_seam}
-use Rattle.rkyv_base.specs.{AgreeOn, ElementSpec, Encodes, Encoding, IsElement, IsScalar, IsValueAt, Keeps, Outside, Sealed, Viewable, entry_spec, number_at, value_at, value_offset, with_bytes, with_value}
+use Rattle.rkyv_base.specs.{AgreeOn, ElementSpec, Encodes, Encoding, IsCodeAt, IsElement, IsScalar, ModifiesOnly, Outside, StaysValid, Viewable, entry_spec, number_at, value_at, value_offset, with_bytes, with_value}
 use Rattle.rkyv_base.specs.Lemmas.Scalar.{word_bytes, word_reads_back}
 use Rattle.rkyv_base.specs.Lemmas.Entry.{key_and_value_inside, viewable_key, viewable_value}
 
@@ -24,7 +24,7 @@ module _ (b : List ℕ) (p n : ℕ) (w : List ℕ) (inside : p + n ≤ length b)
       rw (e, with_bytes-rest) k
 
   -- all other bytes are unchanged
-  pub with_bytes-sealed : Sealed b p n (with_bytes b p n w)
+  pub with_bytes-sealed : ModifiesOnly b p n (with_bytes b p n w)
   with_bytes-sealed = record {
     same_length = simp (length-append, length-drop) (omega (arith, front_length, size, inside));
     before = rw front_length at (take-append_seam (take p b) (w ++ drop (p + n) b));
@@ -42,7 +42,7 @@ part_of_front b i j p o q =
     let d : drop i (take j b) ≡ slice_range b i j = rw e at (drop-take i (j - i) b) in
     sym (ap (drop i) t ∙ d)
 
-module _ (b : List ℕ) (p n : ℕ) (c : List ℕ) (s : Sealed b p n c) where
+module _ (b : List ℕ) (p n : ℕ) (c : List ℕ) (s : ModifiesOnly b p n c) where
   same_before : (i j : ℕ) → i ≤ j → j ≤ p → AgreeOn b c i j
   same_before i j o q =
       part_of_front b i j p o q ∙ ap (λ (x : List ℕ). drop i (take j x)) (sym s.before) ∙ sym (part_of_front c i j p o q)
@@ -60,7 +60,7 @@ module _ (b : List ℕ) (p n : ℕ) (c : List ℕ) (s : Sealed b p n c) where
   same_outside i j o (inr q) = same_after i j q
 
 -- bytes that change only in a range change only in a wider range
-pub sealed_wider : (b c : List ℕ) (p n q m : ℕ) → q ≤ p → p + n ≤ q + m → Sealed b p n c → Sealed b q m c
+pub sealed_wider : (b c : List ℕ) (p n q m : ℕ) → q ≤ p → p + n ≤ q + m → ModifiesOnly b p n c → ModifiesOnly b q m c
 sealed_wider b c p n q m o h s =
     let e : (p + n) + ((q + m) - (p + n)) ≡ q + m = omega arith in
     let kb : drop ((q + m) - (p + n)) (drop (p + n) b) ≡ drop (q + m) b = rw e at (drop-drop ((q + m) - (p + n)) (p + n) b) in
@@ -73,10 +73,10 @@ sealed_wider b c p n q m o h s =
 
 -- a scalar was written in place: nothing else changes, it reads back, and valid bytes stay valid
 pub record ValueSet {V : Type 0} (s : ElementSpec) (e : Encoding V) (b c : List ℕ) (p : ℕ) (v : V) : Type 0 where
-  pub sealed : Sealed b p s.size c
+  pub sealed : ModifiesOnly b p s.size c
   pub reads : value_at e c p ≡ v
-  pub value : IsValueAt e c p
-  pub is_valid : Keeps s b c p
+  pub value : IsCodeAt e c p
+  pub is_valid : StaysValid s b c p
 
 module _ {V : Type 0} (s : ElementSpec) (e : Encoding V) (laws : IsScalar s e) (b c : List ℕ) (p : ℕ) (v : V) (out : List ℕ)
     (inside : p + byte_len e.word ≤ length b) (encodes : Encodes e v out) (is : c ≡ with_value e b p v) where
@@ -86,24 +86,24 @@ module _ {V : Type 0} (s : ElementSpec) (e : Encoding V) (laws : IsScalar s e) (
       ∙ ap (from_le_bytes e.word) (with_bytes-slice b p (byte_len e.word) (to_le_bytes e.word (e.code v)) inside (word_bytes e.word laws.word (e.code v)))
       ∙ word_reads_back e.word laws.word (e.code v) encodes.fits
 
-  value_sealed : Sealed b p s.size c
-  value_sealed = subst₂ (λ n x. Sealed b p n x) (sym laws.size) (sym is)
+  value_sealed : ModifiesOnly b p s.size c
+  value_sealed = subst₂ (λ n x. ModifiesOnly b p n x) (sym laws.size) (sym is)
       (with_bytes-sealed b p (byte_len e.word) (to_le_bytes e.word (e.code v)) inside (word_bytes e.word laws.word (e.code v)))
 
   value_reads : value_at e c p ≡ v
   value_reads = ap e.value number_is_code ∙ encodes.reads_back
 
-  value_good : IsValueAt e c p
+  value_good : IsCodeAt e c p
   value_good = subst e.IsCode (sym number_is_code) encodes.is_code
 
-  value_valid : Keeps s b c p
+  value_valid : StaysValid s b c p
   value_valid lo hi l o h k = (laws.is_valid c p lo hi l).1 (((laws.is_valid b p lo hi l).0 k).0, value_good)
 
   pub value_set : ValueSet s e b c p v
   value_set = record { sealed = value_sealed; reads = value_reads; value = value_good; is_valid = value_valid }
 
 -- a value outside the sealed bytes stays valid, with the same parts
-module _ (s : ElementSpec) (laws : IsElement s) (b c : List ℕ) (q n : ℕ) (sealed : Sealed b q n c) (p lo hi l : ℕ) (o : lo ≤ hi)
+module _ (s : ElementSpec) (laws : IsElement s) (b c : List ℕ) (q n : ℕ) (sealed : ModifiesOnly b q n c) (p lo hi l : ℕ) (o : lo ≤ hi)
     (fixed : Outside q n p (p + s.size)) (parts : Outside q n lo l) (h : s.is_valid b p lo hi l) where
   pub valid_outside : s.is_valid c p lo hi l
   valid_outside =
@@ -113,7 +113,7 @@ module _ (s : ElementSpec) (laws : IsElement s) (b c : List ℕ) (q n : ℕ) (se
 -- an entry whose value is written in place
 module _ (k v : ElementSpec) (kl : IsElement k) (vl : IsElement v) where
   -- the entry stays valid, with the same parts, if the new value is valid
-  pub entry_kept : (b c : List ℕ) (p : ℕ) → Sealed b (p + value_offset k v) v.size c → Keeps v b c (p + value_offset k v) → Keeps (entry_spec k v) b c p
+  pub entry_kept : (b c : List ℕ) (p : ℕ) → ModifiesOnly b (p + value_offset k v) v.size c → StaysValid v b c (p + value_offset k v) → StaysValid (entry_spec k v) b c p
   entry_kept b c p s keeps lo hi l o q h =
       let i = key_and_value_inside k v in
       let x : (lo ≤ h.1) × (h.1 ≤ hi) = kl.rest_in_range b p lo hi h.1 o h.2 in
@@ -121,7 +121,7 @@ module _ (k v : ElementSpec) (kl : IsElement k) (vl : IsElement v) where
       (h.0, h.1, hk, keeps h.1 hi l x.1 (omega arith) h.3)
 
 -- a valid value stays valid
-pub viewable_kept : (s : ElementSpec) (b c : List ℕ) (p : ℕ) → length c ≡ length b → Keeps s b c p → Viewable s b p → Viewable s c p
+pub viewable_kept : (s : ElementSpec) (b c : List ℕ) (p : ℕ) → length c ≡ length b → StaysValid s b c p → Viewable s b p → Viewable s c p
 viewable_kept s b c p n keeps h = record {
   inside = omega (arith, n, h.inside);
   aligned = h.aligned;

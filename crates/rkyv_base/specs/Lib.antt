@@ -76,11 +76,11 @@ unfoldable pub use TextWriting.{TextParts, inline_bytes, length_word, out_of_lin
 unfoldable pub use TextWriting.{text_format, text_limit}
 unfoldable pub use Adapter.{pair_of}
 unfoldable pub use Limit.{Counts, InnerFaults, InnerTook, LimitWriteFails, limited}
-unfoldable pub use Sealing.{IsValueAt, Keeps, KeepsEntry, Outside, value_at, value_pos, with_bytes}
-unfoldable pub use Sealing.{with_value}
-pub use Sealing.{Sealed}
+unfoldable pub use Sealing.{EntryStaysValid, IsCodeAt, Outside, StaysValid, value_at, value_pos}
+unfoldable pub use Sealing.{with_bytes, with_value}
+pub use Sealing.{ModifiesOnly}
 unfoldable pub use Seals.{ArchiveAt, ArchiveStays, LendsFrontAndBack, LiesIn, SealAt, SealStays}
 unfoldable pub use Seals.{archive_in, bytes_in, pos_in, seal_pos}
 pub use Seals.{BorrowsAt, IsSameBorrow}
-unfoldable pub use SealedText.{IsInline, IsOutOfLine, IsSealedText, ReadsInline, Uppercases}
+unfoldable pub use SealedText.{IsInline, IsOutOfLine, IsUtf8IfInline, ReadsInline, Uppercases}
 unfoldable pub use SealedText.{inline_at, with_uppercase}

@@ -23,8 +23,8 @@ abbrev pub ReadsInline : Width → List ℕ → ℕ → List ℕ → Type 0
 ReadsInline w b p text = IsInline w b p × (text ≡ text_at w b p)
 
 -- the text at `p` is UTF-8 if it is inline
-abbrev pub IsSealedText : Width → List ℕ → ℕ → Type 0
-IsSealedText w b p = IsInline w b p → IsUtf8 (inline_at w b p)
+abbrev pub IsUtf8IfInline : Width → List ℕ → ℕ → Type 0
+IsUtf8IfInline w b p = IsInline w b p → IsUtf8 (inline_at w b p)
 
 -- the bytes `b`, with the inline text at `p` in upper case
 abbrev pub with_uppercase : Width → List ℕ → ℕ → List ℕ

@@ -19,28 +19,29 @@ abbrev pub value_pos : ElementSpec → ElementSpec → ℕ → ℕ
 value_pos k v p = p + value_offset k v
 
 -- the number at position `p` is that of a value
-abbrev pub IsValueAt : {V : Type 0} → Encoding V → List ℕ → ℕ → Type 0
-IsValueAt e b p = e.IsCode (number_at e.word b p)
+abbrev pub IsCodeAt : {V : Type 0} → Encoding V → List ℕ → ℕ → Type 0
+IsCodeAt e b p = e.IsCode (number_at e.word b p)
 
 -- the value of the number at position `p`
 abbrev pub value_at : {V : Type 0} → Encoding V → List ℕ → ℕ → V
 value_at e b p = e.value (number_at e.word b p)
 
 -- `c`: bytes with the length of `b`, and equal to it except in the `n` bytes from `p` on
-pub record Sealed (b : List ℕ) (p n : ℕ) (c : List ℕ) : Type 0 where
+pub record ModifiesOnly (b : List ℕ) (p n : ℕ) (c : List ℕ) : Type 0 where
   pub same_length : length c ≡ length b
   pub before : take p c ≡ take p b
   pub after : drop (p + n) c ≡ drop (p + n) b
 
 -- a valid value at `p` in `b` is valid in `c`, with the same parts
-abbrev pub Keeps : ElementSpec → List ℕ → List ℕ → ℕ → Type 0
-Keeps s b c p = (lo hi l : ℕ) → lo ≤ hi → hi ≤ p → s.is_valid b p lo hi l → s.is_valid c p lo hi l
+abbrev pub StaysValid : ElementSpec → List ℕ → List ℕ → ℕ → Type 0
+StaysValid s b c p = (lo hi l : ℕ) → lo ≤ hi → hi ≤ p → s.is_valid b p lo hi l
+    → s.is_valid c p lo hi l
 
 -- the entry at `p` stays valid after each write to its value's bytes alone
 -- that keeps the value valid
-abbrev pub KeepsEntry : ElementSpec → ElementSpec → List ℕ → ℕ → Type 0
-KeepsEntry k v b p = (c : List ℕ) → Sealed b (value_pos k v p) v.size c
-    → Keeps v b c (value_pos k v p) → Keeps (entry_spec k v) b c p
+abbrev pub EntryStaysValid : ElementSpec → ElementSpec → List ℕ → ℕ → Type 0
+EntryStaysValid k v b p = (c : List ℕ) → ModifiesOnly b (value_pos k v p) v.size c
+    → StaysValid v b c (value_pos k v p) → StaysValid (entry_spec k v) b c p
 
 -- no byte from `i` on and below `j` is one of the `n` bytes from `p` on
 abbrev pub Outside : ℕ → ℕ → ℕ → ℕ → Type 0

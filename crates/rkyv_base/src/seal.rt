@@ -17,9 +17,9 @@
 
 ghost use Rattle.std.specs.Prelude.{◌≡◌, ◌+◌, ◌≤◌, length, take, drop};
 ghost use Rattle.std.specs.Borrow.{sem};
-ghost use Rattle.rkyv_base.specs.{ArchiveAt, ArchiveStays, IsValidView, IsValueAt, Keeps};
-ghost use Rattle.rkyv_base.specs.{KeepsEntry, LendsFrontAndBack, LiesIn, MayWrite, SealAt};
-ghost use Rattle.rkyv_base.specs.{SealStays, Sealed, Viewable, Wrote, archive_in, bytes_in};
+ghost use Rattle.rkyv_base.specs.{ArchiveAt, ArchiveStays, EntryStaysValid, IsCodeAt, IsValidView};
+ghost use Rattle.rkyv_base.specs.{LendsFrontAndBack, LiesIn, MayWrite, ModifiesOnly, SealAt};
+ghost use Rattle.rkyv_base.specs.{SealStays, StaysValid, Viewable, Wrote, archive_in, bytes_in};
 ghost use Rattle.rkyv_base.specs.{bytes_of, entry_spec, pos_in, pos_of, seal_pos, value_at};
 ghost use Rattle.rkyv_base.specs.{value_pos, with_value};
 
@@ -105,10 +105,10 @@ impl<'a, T> Seal<'a, T> {
 pub fn set_at<N: Scalar>(bytes: &mut [u8], pos: usize, value: N)
     requires { pos + N.spec.size ≤ length bytes.old }
     ensures written { bytes.new ≡ with_value N.encoding bytes.old pos value }
-    ensures sealed { Sealed bytes.old pos (N.spec.size) bytes.new }
+    ensures sealed { ModifiesOnly bytes.old pos (N.spec.size) bytes.new }
     ensures reads { value_at N.encoding bytes.new pos ≡ value }
-    ensures value { IsValueAt N.encoding bytes.new pos }
-    ensures is_valid { Keeps N.spec bytes.old bytes.new pos }
+    ensures value { IsCodeAt N.encoding bytes.new pos }
+    ensures is_valid { StaysValid N.spec bytes.old bytes.new pos }
 {
     value.write(&mut bytes[pos..pos + N::byte_count()]);
 }
@@ -123,7 +123,7 @@ impl<'a, N: Scalar> Seal<'a, N> {
     #[inline]
     pub fn to_native(&self) -> N
         requires inside { LiesIn N.spec self.now }
-        requires value { IsValueAt N.encoding (bytes_in self.now) (seal_pos self.now) }
+        requires value { IsCodeAt N.encoding (bytes_in self.now) (seal_pos self.now) }
         ensures { result ≡ value_at N.encoding (bytes_in self.now) (seal_pos self.now) }
     {
         N::read(&self.bytes[self.pos..self.pos + N::byte_count()])
@@ -140,11 +140,11 @@ impl<'a, N: Scalar> Seal<'a, N> {
         ensures stays { SealStays self.old self.new }
         ensures written { bytes_in self.new
             ≡ with_value N.encoding (bytes_in self.old) (seal_pos self.old) value }
-        ensures sealed { Sealed (bytes_in self.old) (seal_pos self.old)
+        ensures sealed { ModifiesOnly (bytes_in self.old) (seal_pos self.old)
             (N.spec.size) (bytes_in self.new) }
         ensures reads { value_at N.encoding (bytes_in self.new) (seal_pos self.new) ≡ value }
-        ensures value { IsValueAt N.encoding (bytes_in self.new) (seal_pos self.new) }
-        ensures is_valid { Keeps N.spec
+        ensures value { IsCodeAt N.encoding (bytes_in self.new) (seal_pos self.new) }
+        ensures is_valid { StaysValid N.spec
             (bytes_in self.old) (bytes_in self.new) (seal_pos self.old) }
     {
         let pos = self.pos;
@@ -306,7 +306,7 @@ impl<'a, T> ArchiveSeal<'a, T> {
             ≡ drop (value_pos K.spec V.spec entry_pos) (archive_in self.entry) }
         ensures value_pos { seal_pos result.1 ≡ 0 }
         ensures inside { LiesIn V.spec result.1 }
-        ensures kept { KeepsEntry K.spec V.spec (archive_in self.entry) entry_pos }
+        ensures kept { EntryStaysValid K.spec V.spec (archive_in self.entry) entry_pos }
     {
         let ArchiveSeal {
             archive,
@@ -383,11 +383,11 @@ pub fn set_value<K: Element, N: Scalar>(archive: &mut [u8], entry_pos: u64, valu
     requires { Viewable (entry_spec K.spec N.spec) archive.old entry_pos }
     ensures written { archive.new ≡ with_value N.encoding archive.old
         (value_pos K.spec N.spec entry_pos) value }
-    ensures sealed { Sealed archive.old (value_pos K.spec N.spec entry_pos)
+    ensures sealed { ModifiesOnly archive.old (value_pos K.spec N.spec entry_pos)
         (N.spec.size) archive.new }
     ensures reads { value_at N.encoding archive.new
         (value_pos K.spec N.spec entry_pos) ≡ value }
-    ensures is_valid { Keeps (entry_spec K.spec N.spec)
+    ensures is_valid { StaysValid (entry_spec K.spec N.spec)
         archive.old archive.new entry_pos }
     ensures viewable { Viewable (entry_spec K.spec N.spec) archive.new entry_pos }
 {

@@ -5,9 +5,9 @@
 
 ghost use Rattle.std.specs.Prelude.{◌≡◌, ◌+◌, ◌≤◌, length, map, MatchOption};
 ghost use Rattle.std.specs.Char.{to_ascii_uppercase};
-ghost use Rattle.rkyv_base.specs.{IsInline, IsOutOfLine, IsSealedText, Keeps, LiesIn, ReadsInline};
-ghost use Rattle.rkyv_base.specs.{SealStays, Sealed, Uppercases, bytes_in, inline_at, seal_pos};
-ghost use Rattle.rkyv_base.specs.{text_at, text_size, text_spec};
+ghost use Rattle.rkyv_base.specs.{IsInline, IsOutOfLine, IsUtf8IfInline, LiesIn, ModifiesOnly};
+ghost use Rattle.rkyv_base.specs.{ReadsInline, SealStays, StaysValid, Uppercases, bytes_in};
+ghost use Rattle.rkyv_base.specs.{inline_at, seal_pos, text_at, text_size, text_spec};
 
 use crate::seal::Seal;
 use crate::text::{Text, fixed_at, inline_part, is_out_of_line};
@@ -66,7 +66,7 @@ impl<'a, W: Width> Seal<'a, Text<W>> {
     #[inline]
     pub fn as_str(&self) -> Option<&str>
         requires inside { LiesIn (text_spec W.word) self.now }
-        requires text { IsSealedText W.word (bytes_in self.now) (seal_pos self.now) }
+        requires text { IsUtf8IfInline W.word (bytes_in self.now) (seal_pos self.now) }
         ensures { MatchOption result
             (IsOutOfLine W.word (bytes_in self.now) (seal_pos self.now))
             (λ text. ReadsInline W.word (bytes_in self.now) (seal_pos self.now) text.now) }
@@ -98,14 +98,14 @@ impl<'a, W: Width> Seal<'a, Text<W>> {
         ensures stays { SealStays self.old self.new }
         ensures uppercased { Uppercases W.word (bytes_in self.old) (seal_pos self.old)
             (bytes_in self.new) result }
-        ensures sealed { Sealed (bytes_in self.old) (seal_pos self.old)
+        ensures sealed { ModifiesOnly (bytes_in self.old) (seal_pos self.old)
             (text_size W.word) (bytes_in self.new) }
         ensures reads { IsInline W.word (bytes_in self.old) (seal_pos self.old) →
             text_at W.word (bytes_in self.new) (seal_pos self.old)
             ≡ map to_ascii_uppercase (text_at W.word (bytes_in self.old) (seal_pos self.old)) }
-        ensures text { IsSealedText W.word (bytes_in self.old) (seal_pos self.old)
-            → IsSealedText W.word (bytes_in self.new) (seal_pos self.old) }
-        ensures is_valid { Keeps (text_spec W.word)
+        ensures text { IsUtf8IfInline W.word (bytes_in self.old) (seal_pos self.old)
+            → IsUtf8IfInline W.word (bytes_in self.new) (seal_pos self.old) }
+        ensures is_valid { StaysValid (text_spec W.word)
             (bytes_in self.old) (bytes_in self.new) (seal_pos self.old) }
     {
         let pos = self.pos;

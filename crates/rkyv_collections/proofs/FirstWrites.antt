@@ -8,7 +8,7 @@ use Rattle.std.specs.Prelude.{slice_set}
 use Rattle.std.proofs.lemmas.Bool.{cases_Bool}
 use Rattle.std.proofs.lemmas.List.{length-map}
 use Rattle.std.proofs.lemmas.Option.{same_Some, slice_get_within}
-use Rattle.rkyv_base.specs.{ElementSpec, IsElement, Keeps, RepresentsLocally, Sealed, ValidAt, Viewable, entry_spec, value_pos}
+use Rattle.rkyv_base.specs.{ElementSpec, IsElement, ModifiesOnly, RepresentsLocally, StaysValid, ValidAt, Viewable, entry_spec, value_pos}
 use Rattle.rkyv_keys.specs.Lemmas.OfEntries.{valid_key}
 use Rattle.rkyv_table.specs.{WritesValue, home_positions, item_at}
 use Rattle.rkyv_collections.specs.{AgreesOnKeys, MapRepresents, WritesFound, map_spec, with_first}
@@ -118,11 +118,11 @@ module _ (w : Width) (k v : ElementSpec) (kl : IsElement k) (vl : IsElement v) {
   none_behind found = none_written (no_pos (value_pos k v) (find accept positions) found)
 
   pub first_behind : (kn : RepresentsLocally k key) (vn : RepresentsLocally v value) → HashLocal k key_hash → (c : List ℕ) (pos : ℕ)
-      → Some pos ≡ option_map (value_pos k v) (find accept positions) → Sealed b pos v.size c → Keeps v b c pos → value c pos new
+      → Some pos ≡ option_map (value_pos k v) (find accept positions) → ModifiesOnly b pos v.size c → StaysValid v b c pos → value c pos new
       → (true ≡ is_some (first_pair accept_value pairs)) × MapRepresents w k v key value key_hash factor c p (with_first accept_value new pairs)
   first_behind kn vn local c pos found sealed keeps represents =
       let t = some_pos (value_pos k v) (find accept positions) pos found in
-      first_written kn vn local c t.0 t.1 (record { sealed = subst (λ n. Sealed b n v.size c) t.2 sealed; keeps = subst (λ n. Keeps v b c n) t.2 keeps })
+      first_written kn vn local c t.0 t.1 (record { sealed = subst (λ n. ModifiesOnly b n v.size c) t.2 sealed; keeps = subst (λ n. StaysValid v b c n) t.2 keeps })
       (subst (λ n. value c n new) t.2 represents)
 
 -- the result of a writer that is called with the position of the found value

@@ -12,14 +12,14 @@ use Rattle.rkyv_base.specs.declared.view.View.{View}
 use Rattle.rkyv_keys.specs.Lemmas.OfEntries.{valid_key}
 use Rattle.rkyv_table.specs.{home_positions, item_at}
 use Rattle.rkyv_keys.specs.{IsFoundPair, IsFoundValue, first_pair}
-use Rattle.rkyv_collections.specs.{AgreesOnKeys, IsFoundAt, IsPairAt, IsPairOf, IsValueAt, IsViewAt, MapRepresents, map_spec}
+use Rattle.rkyv_collections.specs.{AgreesOnKeys, IsFoundAt, IsPairAt, IsPosOfPair, IsValueAt, IsViewAt, MapRepresents, map_spec}
 use Rattle.rkyv_collections.proofs.WrittenPairs.{pair_valid, pos_of_pair}
 
 module _ {A B : Type 0} (k v : ElementSpec) (key : List ℕ → ℕ → A → Type 0) (value : List ℕ → ℕ → B → Type 0) (b : List ℕ) where
   -- if two lists correspond, their first accepted items correspond
   found_together : (fits : ℕ → Bool) (accept_value : A → Bool) (xs : List ℕ) (ys : List (A × B)) → length xs ≡ length ys
       → ((i : ℕ) (y : A × B) → slice_get ys i ≡ Some y → (fits (slice_index xs i) ≡ accept_value y.0) × PairRepresents k v key value b (slice_index xs i) y)
-      → IsPairOf k v key value b (find fits xs) (first_pair accept_value ys)
+      → IsPosOfPair k v key value b (find fits xs) (first_pair accept_value ys)
   found_together fits accept_value [] [] n h = tt
   found_together fits accept_value [] (y ∷ ys) n h = absurd (omega (arith, n))
   found_together fits accept_value (x ∷ xs) [] n h = absurd (omega (arith, n))
@@ -33,7 +33,7 @@ module _ {A B : Type 0} (k v : ElementSpec) (key : List ℕ → ℕ → A → Ty
 
   -- the views of the found value and of the found pair
   pub value_listed : {V : Type 0} (key_pos : Option ℕ) (o : Option (A × B)) (result : Option (View V)) → IfSome result (λ x. x.archive.now ≡ b)
-      → IsPairOf k v key value b key_pos o → IsValueAt k v result key_pos → IsFoundValue value result (option_map (λ pair. pair.1) o)
+      → IsPosOfPair k v key value b key_pos o → IsValueAt k v result key_pos → IsFoundValue value result (option_map (λ pair. pair.1) o)
   value_listed None None None same t e = tt
   value_listed None None (Some x) same t e = absurd cc
   value_listed (Some q) (Some pair) None same t e = absurd cc
@@ -43,7 +43,7 @@ module _ {A B : Type 0} (k v : ElementSpec) (key : List ℕ → ℕ → A → Ty
   value_listed (Some q) None result same t e = absurd t
 
   pub key_listed : {K : Type 0} (key_pos : Option ℕ) (o : Option (A × B)) (result : Option (View K)) → IfSome result (λ x. x.archive.now ≡ b)
-      → IsPairOf k v key value b key_pos o → IsViewAt result key_pos → IsFoundValue key result (option_map (λ pair. pair.0) o)
+      → IsPosOfPair k v key value b key_pos o → IsViewAt result key_pos → IsFoundValue key result (option_map (λ pair. pair.0) o)
   key_listed None None None same t e = tt
   key_listed None None (Some x) same t e = absurd cc
   key_listed (Some q) (Some pair) None same t e = absurd cc
@@ -53,7 +53,7 @@ module _ {A B : Type 0} (k v : ElementSpec) (key : List ℕ → ℕ → A → Ty
 
   pub pair_listed : {K V : Type 0} (key_pos : Option ℕ) (o : Option (A × B)) (result : Option (View K × View V))
       → IfSome result (λ x. (x.0.archive.now ≡ b) × (x.1.archive.now ≡ b) × (x.1.pos ≡ x.0.pos + value_offset k v))
-      → IsPairOf k v key value b key_pos o → IsPairAt result key_pos → IsFoundPair key value result o
+      → IsPosOfPair k v key value b key_pos o → IsPairAt result key_pos → IsFoundPair key value result o
   pair_listed None None None same t e = tt
   pair_listed None None (Some x) same t e = absurd cc
   pair_listed (Some q) (Some pair) None same t e = absurd cc
@@ -66,7 +66,7 @@ module _ {A B : Type 0} (k v : ElementSpec) (key : List ℕ → ℕ → A → Ty
   pair_listed None (Some pair) result same t e = absurd t
   pair_listed (Some q) None result same t e = absurd t
 
-  pub contains_listed : (key_pos : Option ℕ) (o : Option (A × B)) (result : Bool) → IsPairOf k v key value b key_pos o → IsFoundAt result key_pos → result ≡ is_some o
+  pub contains_listed : (key_pos : Option ℕ) (o : Option (A × B)) (result : Bool) → IsPosOfPair k v key value b key_pos o → IsFoundAt result key_pos → result ≡ is_some o
   contains_listed None None true t e = absurd (true≢false (sym (e.0 refl)))
   contains_listed None None false t e = refl
   contains_listed (Some q) (Some pair) true t e = refl
@@ -78,7 +78,7 @@ module _ {A B : Type 0} (k v : ElementSpec) (key : List ℕ → ℕ → A → Ty
 pub first_listed : (w : Width) (k v : ElementSpec) (kl : IsElement k) (vl : IsElement v) {A B : Type 0} (key : List ℕ → ℕ → A → Type 0) (value : List ℕ → ℕ → B → Type 0) (hash : List ℕ → ℕ → ℕ)
     (factor : ℕ × ℕ) (b : List ℕ) (p : ℕ) (pairs : List (A × B)) → Viewable (map_spec w k v) b p → (accept : ℕ → Bool) (accept_value : A → Bool) → AgreesOnKeys k key b accept accept_value
     → (h : MapRepresents w k v key value hash factor b p pairs)
-    → IsPairOf k v key value b (find accept (home_positions w (entry_spec k v).size b p h.homes)) (first_pair accept_value pairs)
+    → IsPosOfPair k v key value b (find accept (home_positions w (entry_spec k v).size b p h.homes)) (first_pair accept_value pairs)
 first_listed w k v kl vl key value hash factor b p pairs view accept accept_value agrees h =
     let positions = home_positions w (entry_spec k v).size b p h.homes in
     let n = length-map positions (hash b) in

@@ -17,7 +17,7 @@ use Rattle.rkyv_base.specs.declared.width.Word.{Ghosts as Words}
 use Rattle.rkyv_table.specs.{home_positions, pos_found, with_units}
 use Rattle.rkyv_table.proofs.Moved.{moved}
 use Rattle.rkyv_collections.proofs.FoundPairs.{first_listed, value_listed}
-use Rattle.rkyv_collections.specs.{FindsKey, FoundAreListed, IsPairOf, IsTextMapUnder, IsValueAt, IsValueIn, MapRepresents, MapWrittenAt, TextMapFails, TextMapRepresents, TextMapResult, TextPairs, map_bytes, map_pos, map_root, text_map_format, text_map_spec}
+use Rattle.rkyv_collections.specs.{FindsKey, FoundAreListed, IsPosOfPair, IsTextMapUnder, IsValueAt, IsValueIn, MapRepresents, MapWrittenAt, TextMapFails, TextMapRepresents, TextMapResult, TextPairs, map_bytes, map_pos, map_root, text_map_format, text_map_spec}
 use Rattle.rkyv_keys.specs.{FitsItsEqual, FoundValues, NativeKeys, first_pair, scalar_found}
 use Rattle.rkyv_keys.specs.Lemmas.FirstPairs.{FindsByView}
 use Rattle.rkyv_collections.specs.declared.map.ArchivedHashMap.{ArchivedHashMap}
@@ -60,7 +60,7 @@ pub record FirstInRoot {A B : Type 0} (w : Width) (k v : ElementSpec) (key : Lis
     (accept : ℕ → Bool) (first : Option (A × B)) : Type 0 where
   pub homes : List ℕ
   pub written : MapWrittenAt w (entry_spec k v) hash b p homes
-  pub pair : IsPairOf k v key value b (find accept (home_positions w (entry_spec k v).size b p homes)) first
+  pub pair : IsPosOfPair k v key value b (find accept (home_positions w (entry_spec k v).size b p homes)) first
 
 pub first_in_root : {A Q B K V H W : Type 0} {ks : Specs K} {vs : Specs V} {wt : Words W} (m : ArchivedHashMap K V H W ks vs wt) (keys : NativeKeys A Q) (value : List ℕ → ℕ → B → Type 0)
     → FitsItsEqual ks.spec keys.represents keys.equal keys.fits → (archive : Bor (List ℕ)) (factor : ℕ × ℕ) (pairs : List (A × B)) (query : Q)

@@ -8,7 +8,7 @@ use Rattle.std.proofs.lemmas.Option.{slice_get-map}
 use Rattle.rkyv_base.specs.declared.errors.WriteError.{WriteError}
 use Rattle.rkyv_base.specs.{ElementSpec, Format, Output, SerializeFails, Serialized, Step, end_of, round_up, written_as}
 use Rattle.rkyv_base.proofs.WritingSteps.{fails_under}
-use Rattle.rkyv_table.specs.{Above, AreHashes, BeforeBuckets, BucketNext, BucketOverflows, BucketStep, Filled, InBuckets, PairsNext, PartsNext, Placed, SlotImages, SlotParts, Slotted, TableBytes, TableNext, TableParts, TableResolver, TableWritten, Written, capacity, filled, hashes_of, items_of, table_format}
+use Rattle.rkyv_table.specs.{Above, AreHashes, AreInSlots, ArePlaced, AreWrittenControls, BeforeBuckets, BucketNext, BucketOverflows, BucketStep, Filled, InBuckets, PairsNext, PartsNext, SlotImages, SlotParts, TableBytes, TableNext, TableParts, TableResolver, TableWritten, capacity, filled, hashes_of, items_of, table_format}
 use Rattle.rkyv_table.proofs.Lists.{option_map_some}
 
 -- the value of each item, under the hash of the item
@@ -36,7 +36,7 @@ module _ {X Y : Type 0} (model : X → Y) where
   mapped_at slots i s e = slice_get-map (option_map model) slots i ∙ ap (option_map (option_map model)) e
 
   module _ (cap : ℕ) (homes : List ℕ) where
-    mapped_slotted : (items : List X) (slots : List (Option X)) → Slotted cap homes items slots → Slotted cap homes (map model items) (mapped_slots model slots)
+    mapped_slotted : (items : List X) (slots : List (Option X)) → AreInSlots cap homes items slots → AreInSlots cap homes (map model items) (mapped_slots model slots)
     mapped_slotted items slots h = record {
       count = length-map slots (option_map model) ∙ h.count;
       full = mapped_filled slots ∙ h.full;
@@ -47,20 +47,20 @@ module _ {X Y : Type 0} (model : X → Y) where
       others = λ b below free. mapped_at slots b None (h.others b below free);
     }
 
-  mapped_placed : (cap : ℕ) (pairs : List (ℕ × X)) (slots : List (Option X)) (controls : List ℕ) → Placed cap pairs slots controls
-      → Placed cap (mapped_pairs model pairs) (mapped_slots model slots) controls
+  mapped_placed : (cap : ℕ) (pairs : List (ℕ × X)) (slots : List (Option X)) (controls : List ℕ) → ArePlaced cap pairs slots controls
+      → ArePlaced cap (mapped_pairs model pairs) (mapped_slots model slots) controls
   mapped_placed cap pairs slots controls h = record {
     homes = h.homes;
     hashes = subst AreHashes (sym (mapped_hashes pairs)) h.hashes;
-    written = subst (λ (hashes : List ℕ). Written cap hashes h.homes controls) (sym (mapped_hashes pairs)) h.written;
-    slotted = subst (λ (items : List Y). Slotted cap h.homes items (mapped_slots model slots)) (sym (mapped_items pairs)) (mapped_slotted cap h.homes (items_of pairs) slots h.slotted);
+    written = subst (λ (hashes : List ℕ). AreWrittenControls cap hashes h.homes controls) (sym (mapped_hashes pairs)) h.written;
+    slotted = subst (λ (items : List Y). AreInSlots cap h.homes items (mapped_slots model slots)) (sym (mapped_items pairs)) (mapped_slotted cap h.homes (items_of pairs) slots h.slotted);
   }
 
   mapped_inside : (factor : ℕ × ℕ) (pairs : List (ℕ × X)) (slots : List (Option X)) (controls : List ℕ) → InBuckets factor pairs slots controls
       → InBuckets factor (mapped_pairs model pairs) (mapped_slots model slots) controls
   mapped_inside factor pairs slots controls h =
       let n : length (mapped_pairs model pairs) ≡ length pairs = length-map pairs (λ (pair : ℕ × X). (pair.0, model pair.1)) in
-      subst (λ k. (0 < k) × Placed (capacity k factor) (mapped_pairs model pairs) (mapped_slots model slots) controls) (sym n)
+      subst (λ k. (0 < k) × ArePlaced (capacity k factor) (mapped_pairs model pairs) (mapped_slots model slots) controls) (sym n)
       (h.0, mapped_placed (capacity (length pairs) factor) pairs slots controls h.1)
 
 module _ {X Y R : Type 0} (model : X → Y) (f : Format Y R) where

@@ -4,7 +4,7 @@ use Rattle.std.specs.Int.{Width, byte_len}
 use Rattle.std.specs.List.{range_with_len}
 use Rattle.std.proofs.lemmas.Bool.{both_ways, cases_Bool, cases_eq, cases_lt, lt-ltb}
 use Rattle.std.proofs.lemmas.Int.{ints}
-use Rattle.rkyv_base.specs.{AgreeOn, ElementSpec, IsElement, Sealed, Viewable}
+use Rattle.rkyv_base.specs.{AgreeOn, ElementSpec, IsElement, ModifiesOnly, Viewable}
 use Rattle.rkyv_base.specs.Lemmas.Bytes.{agree_on_part}
 use Rattle.rkyv_base.proofs.Sealing.{same_outside, sealed_wider}
 use Rattle.rkyv_scan.specs.{is_full}
@@ -14,10 +14,10 @@ use Rattle.rkyv_table.specs.Lemmas.ValidItemLaws.{all_between}
 use Rattle.rkyv_table.specs.Lemmas.SameHeader.{begin_same, cap_same, len_same, pos_same}
 use Rattle.rkyv_table.specs.Lemmas.TableLaws.{of_numbers}
 use Rattle.rkyv_table.proofs.ValidTable.{part_of}
-use Rattle.rkyv_collections.specs.{IsValidBefore, StaysAt, WritesParts}
+use Rattle.rkyv_collections.specs.{IsValidBefore, StaysAt, WritesAmongParts}
 
 -- the bytes before the lower end and those from the upper end on are the same
-module _ (b c : List ℕ) (lo l : ℕ) (o : lo ≤ l) (sealed : Sealed b lo (l - lo) c) where
+module _ (b c : List ℕ) (lo l : ℕ) (o : lo ≤ l) (sealed : ModifiesOnly b lo (l - lo) c) where
   pub same_below : (i j : ℕ) → i ≤ j → j ≤ lo → AgreeOn b c i j
   same_below i j ij h = same_outside b lo (l - lo) c sealed i j ij (inl h)
 
@@ -76,7 +76,7 @@ module _ (s : ElementSpec) (law : IsElement s) (at : ℕ → ℕ) where
 
     -- if the parts of one item were written, all items stay valid, and the bytes
     -- before all parts are the same
-    pub chain_kept : (P : ℕ → Bool) (a n lo l i : ℕ) → lo ≤ hi → hi ≤ at i → WritesParts s b c (at i) → AreValidAt s at b hi (filter P (range_with_len a n)) lo l
+    pub chain_kept : (P : ℕ → Bool) (a n lo l i : ℕ) → lo ≤ hi → hi ≤ at i → WritesAmongParts s b c (at i) → AreValidAt s at b hi (filter P (range_with_len a n)) lo l
         → a ≤ i → i < a + n → P i ≡ true → AreValidAt s at c hi (filter P (range_with_len a n)) lo l × AgreeOn b c 0 lo
     chain_kept P a zero lo l i o up writes h from to t = absurd (omega arith)
     chain_kept P a (suc n) lo l i o up writes h from to t = elim (cases_Bool (P a)) [
@@ -106,14 +106,14 @@ module _ (s : ElementSpec) (law : IsElement s) (at : ℕ → ℕ) where
 
 -- a table with one item that was written among its parts
 pub record KeepsOuter (w : Width) (s : ElementSpec) (b c : List ℕ) (p i : ℕ) : Type 0 where
-  pub nested : WritesParts (table_spec w s) b c p
+  pub nested : WritesAmongParts (table_spec w s) b c p
   pub header : AgreeOn b c p (p + 3 * byte_len w)
   pub controls : table_controls w c p ≡ table_controls w b p
   pub own : IsValidBefore s b (item_at w s.size b p i)
   pub others : (j : ℕ) → IsWalked w b p j → j ≢ i → StaysAt s b c (item_at w s.size b p j)
 
 module _ (w : Width) (s : ElementSpec) (law : IsElement s) (b : List ℕ) (p i : ℕ) (view : Viewable (table_spec w s) b p) (walked : IsWalked w b p i)
-    (c : List ℕ) (writes : WritesParts s b c (item_at w s.size b p i)) where
+    (c : List ℕ) (writes : WritesAmongParts s b c (item_at w s.size b p i)) where
   whole : ValidPart w s b p 0 p view.valid.0
   whole = part_of w s law b p view (omega (arith, walked.0))
 
@@ -129,8 +129,8 @@ module _ (w : Width) (s : ElementSpec) (law : IsElement s) (b : List ℕ) (p i :
   at_is : (j : ℕ) → j < cap → item_at w s.size b p j ≡ bucket_pos j
   at_is j h = decoded_item w s.size b p begin whole.part.begins j h
 
-  writes_at : WritesParts s b c (bucket_pos i)
-  writes_at = subst (WritesParts s b c) (at_is i walked.0) writes
+  writes_at : WritesAmongParts s b c (bucket_pos i)
+  writes_at = subst (WritesAmongParts s b c) (at_is i walked.0) writes
 
   up : (j : ℕ) → begin ≤ bucket_pos j
   up j = omega arith
@@ -144,7 +144,7 @@ module _ (w : Width) (s : ElementSpec) (law : IsElement s) (b : List ℕ) (p i :
   one_between : (one.lower ≤ one.rest) × (one.rest ≤ begin)
   one_between = law.rest_in_range b (bucket_pos i) one.lower begin one.rest one.below one.is_valid
 
-  sealed_one : Sealed b one.lower (one.rest - one.lower) c
+  sealed_one : ModifiesOnly b one.lower (one.rest - one.lower) c
   sealed_one = writes_at.sealed one.lower begin one.rest one.below (up i) one.is_valid
 
   -- from the begin of the buckets on, all bytes are the same
@@ -184,7 +184,7 @@ module _ (w : Width) (s : ElementSpec) (law : IsElement s) (b : List ℕ) (p i :
       )
 
   -- the bytes outside the parts of the table are the same
-  at_sealed : (lo hi l : ℕ) → TableAt s b (decode_begin w s.size b p) cap (len_at w b p) lo hi l → Sealed b lo (l - lo) c
+  at_sealed : (lo hi l : ℕ) → TableAt s b (decode_begin w s.size b p) cap (len_at w b p) lo hi l → ModifiesOnly b lo (l - lo) c
   at_sealed lo hi l (inl h) = absurd (omega (arith, h.1, walked.0))
   at_sealed lo hi l (inr (n, part, is, e)) =
       let same : begin ≡ n = let x = whole.part.begins in let y = part.begins in omega (arith, ints, x, y) in
@@ -202,7 +202,7 @@ module _ (w : Width) (s : ElementSpec) (law : IsElement s) (b : List ℕ) (p i :
       each_in_turn s law bucket_pos (λ j. is_full (slice_index (controls_at s.size b begin cap) j)) b begin 0 cap 0 whole.is.last x y (omega arith) whole.is.items (omega arith) less (omega (arith, there'.0))
       (lt-ltb (slice_index (controls_at s.size b begin cap) x) 128 (full x there)) (lt-ltb (slice_index (controls_at s.size b begin cap) y) 128 (full y there'))
 
-  sealed_where : (h : IsValidWithin s b (bucket_pos i) 0 begin whole.is.last) → Sealed b h.lower (h.rest - h.lower) c
+  sealed_where : (h : IsValidWithin s b (bucket_pos i) 0 begin whole.is.last) → ModifiesOnly b h.lower (h.rest - h.lower) c
   sealed_where h = writes_at.sealed h.lower begin h.rest h.below (up i) h.is_valid
 
   abbrev valid_before : (j : ℕ) (h : IsValidWithin s b (bucket_pos j) 0 begin whole.is.last) → IsValidBefore s b (bucket_pos j)

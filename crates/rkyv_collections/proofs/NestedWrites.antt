@@ -8,7 +8,7 @@ use Rattle.std.specs.Option.{option_map}
 use Rattle.std.proofs.lemmas.Bool.{cases_eq}
 use Rattle.std.proofs.lemmas.Option.{same_Some}
 use Rattle.rkyv_base.specs.Lemmas.Bytes.{agree_on_part}
-use Rattle.rkyv_base.specs.{ElementSpec, IsElement, Keeps, RepresentsLocally, Sealed, Viewable, entry_spec, value_pos, whole_size}
+use Rattle.rkyv_base.specs.{ElementSpec, IsElement, ModifiesOnly, RepresentsLocally, StaysValid, Viewable, entry_spec, value_pos, whole_size}
 use Rattle.rkyv_base.specs.Lemmas.Entry.{entry_element, key_and_value_inside, same_key, same_value}
 use Rattle.rkyv_base.specs.Lemmas.Entry.{size_of_small}
 use Rattle.rkyv_base.proofs.Sealing.{sealed_wider, viewable_kept}
@@ -18,7 +18,7 @@ use Rattle.rkyv_table.specs.Lemmas.SameHeader.{item_same}
 use Rattle.rkyv_table.proofs.ValidTable.{item_viewable}
 use Rattle.rkyv_table.proofs.SameTable.{written_there}
 use Rattle.rkyv_table.proofs.SealedTable.{value_kept}
-use Rattle.rkyv_collections.specs.{AgreesOnKeys, IsKeyPosAt, IsValidBefore, KeepsOuterMap, MapRepresents, StaysAt, WritesParts, map_spec, with_first}
+use Rattle.rkyv_collections.specs.{AgreesOnKeys, IsKeyPosAt, IsValidBefore, KeepsOuterMap, MapRepresents, StaysAt, WritesAmongParts, map_spec, with_first}
 use Rattle.rkyv_collections.proofs.FirstWrites.{count, each_alike, nth_found, some_pos}
 use Rattle.rkyv_collections.proofs.NewValues.{home, new_value_represents, own_pos, own_walked, written_again}
 use Rattle.rkyv_collections.proofs.NestedTables.{KeepsOuter, outer_kept, same_above, same_below}
@@ -29,9 +29,9 @@ module _ (k v : ElementSpec) (kl : IsElement k) (vl : IsElement v) (b c : List �
   S = entry_spec k v
 
   -- a write among the parts of the value is one among the parts of the entry
-  entry_written : WritesParts v b c (value_pos k v q) → WritesParts S b c q
+  entry_written : WritesAmongParts v b c (value_pos k v q) → WritesAmongParts S b c q
   entry_written writes =
-      let wrote : (lo hi l : ℕ) → lo ≤ hi → hi ≤ q → S.is_valid b q lo hi l → S.is_valid c q lo hi l × Sealed b lo (l - lo) c = λ lo hi l o o' h.
+      let wrote : (lo hi l : ℕ) → lo ≤ hi → hi ≤ q → S.is_valid b q lo hi l → S.is_valid c q lo hi l × ModifiesOnly b lo (l - lo) c = λ lo hi l o o' h.
       let m = h.1 in
       let x = kl.rest_in_range b q lo hi m o h.2 in
       let y = vl.rest_in_range b (value_pos k v q) m hi l x.1 h.3 in
@@ -45,7 +45,7 @@ module _ (k v : ElementSpec) (kl : IsElement k) (vl : IsElement v) (b c : List �
   key_before h = record { lower = h.lower; upper = h.upper; rest = h.is_valid.1; order = h.order; before = h.before; is_valid = h.is_valid.2 }
 
   -- the key of the entry is unchanged
-  key_of_own : WritesParts v b c (value_pos k v q) → IsValidBefore S b q → StaysAt k b c q
+  key_of_own : WritesAmongParts v b c (value_pos k v q) → IsValidBefore S b q → StaysAt k b c q
   key_of_own writes h =
       let m = h.is_valid.1 in
       let x = kl.rest_in_range b q h.lower h.upper m h.order h.is_valid.2 in
@@ -89,7 +89,7 @@ represents_on : {V : Type 0} (s : ElementSpec) (represents : List ℕ → ℕ �
 represents_on s represents local x b c q h st = local x b c q h.valid.lower h.valid.upper h.valid.rest h.valid.order h.valid.is_valid h.fixed h.parts st
 
 module _ (w : Width) (k v : ElementSpec) (kl : IsElement k) (vl : IsElement v) (key_hash : List ℕ → ℕ → ℕ) (local : HashLocal k key_hash) (b c : List ℕ) (p i : ℕ)
-    (view : Viewable (map_spec w k v) b p) (walked : IsWalked w b p i) (writes : WritesParts v b c (value_pos k v (item_at w (entry_spec k v).size b p i))) where
+    (view : Viewable (map_spec w k v) b p) (walked : IsWalked w b p i) (writes : WritesAmongParts v b c (value_pos k v (item_at w (entry_spec k v).size b p i))) where
   abbrev E : ElementSpec
   E = entry_spec k v
 
@@ -135,13 +135,13 @@ module _ (w : Width) (k v : ElementSpec) (kl : IsElement k) (vl : IsElement v) (
   abbrev key_pos : ℕ
   key_pos = slice_index (home_positions w (entry_spec k v).size b p st.homes) n
 
-  pub nested_represents : WritesParts v b c (value_pos k v key_pos) → value c (value_pos k v key_pos) new → MapRepresents w k v key value key_hash factor c p (slice_set pairs n (pair.0, new))
+  pub nested_represents : WritesAmongParts v b c (value_pos k v key_pos) → value c (value_pos k v key_pos) new → MapRepresents w k v key value key_hash factor c p (slice_set pairs n (pair.0, new))
   nested_represents writes represents =
       let i = home w k v key value key_hash b c p n factor pairs pair new st at_n n in
       let there = own_walked w k v key value key_hash b c p n factor pairs pair new st at_n in
       let is = own_pos w k v key value key_hash b c p n factor pairs pair new st at_n in
       let item = item_at w (entry_spec k v).size b p in
-      let kept = nested_kept w k v kl vl key_hash local b c p i view there (subst (λ z. WritesParts v b c (value_pos k v z)) is writes) in
+      let kept = nested_kept w k v kl vl key_hash local b c p i view there (subst (λ z. WritesAmongParts v b c (value_pos k v z)) is writes) in
       new_value_represents w k v key value key_hash b c p n factor pairs pair new st at_n kept.header kept.positions kept.written
       (λ before. (represents_on k key kn pair.0 b c (item i) (kept.keys i there) before, subst (λ z. value c (value_pos k v z) new) is represents))
       (λ j full ne x before. (represents_on k key kn x.0 b c (item j) (kept.keys j full) before.0, represents_on v value vn x.1 b c (value_pos k v (item j)) (kept.values j full ne) before.1))
@@ -152,7 +152,7 @@ module _ (w : Width) (k v : ElementSpec) (kl : IsElement k) (vl : IsElement v) {
   -- after a write among the parts of the first accepted value, the map represents
   -- the list with the new value
   pub nested_first : RepresentsLocally k key → RepresentsLocally v value → HashLocal k key_hash → (c : List ℕ) (pos : ℕ)
-      → Some pos ≡ option_map (value_pos k v) (find accept (home_positions w (entry_spec k v).size b p st.homes)) → WritesParts v b c pos → value c pos new
+      → Some pos ≡ option_map (value_pos k v) (find accept (home_positions w (entry_spec k v).size b p st.homes)) → WritesAmongParts v b c pos → value c pos new
       → MapRepresents w k v key value key_hash factor c p (with_first accept_value new pairs)
   nested_first kn vn local c pos found writes represents =
       let xs = home_positions w (entry_spec k v).size b p st.homes in
@@ -165,12 +165,12 @@ module _ (w : Width) (k v : ElementSpec) (kl : IsElement k) (vl : IsElement v) {
             let there : pos ≡ value_pos k v (slice_index xs r.n) = t.2 ∙ ap (value_pos k v) at in
             subst (λ (l : List (A × B)). MapRepresents w k v key value key_hash factor c p l) (sym r.written)
             (nested_represents w k v kl vl key_hash local key value kn vn b c p r.n factor pairs r.pair new view st r.at
-            (subst (WritesParts v b c) there writes) (subst (λ z. value c z new) there represents))
+            (subst (WritesAmongParts v b c) there writes) (subst (λ z. value c z new) there represents))
       ]
 
 -- a write of one value in place is one among the parts of the map
 pub value_nested : (w : Width) (k v : ElementSpec) (kl : IsElement k) (vl : IsElement v) (b c : List ℕ) (p i : ℕ) → Viewable (map_spec w k v) b p → IsWalked w b p i
-    → WritesValue k v b c (item_at w (entry_spec k v).size b p i) → WritesParts (map_spec w k v) b c p
+    → WritesValue k v b c (item_at w (entry_spec k v).size b p i) → WritesAmongParts (map_spec w k v) b c p
 value_nested w k v kl vl b c p i view walked writes =
     let s = entry_spec k v in
     let law = entry_element k v kl vl in
@@ -188,11 +188,11 @@ value_nested w k v kl vl b c p i view walked writes =
 
 -- the same for a key at `q` and its value at `pos`
 pub value_nested_at : (w : Width) (k v : ElementSpec) (kl : IsElement k) (vl : IsElement v) (b c : List ℕ) (p q pos : ℕ) → Viewable (map_spec w k v) b p
-    → IsKeyPosAt w k v b p q → pos ≡ value_pos k v q → Sealed b pos v.size c → Keeps v b c pos → WritesParts (map_spec w k v) b c p
+    → IsKeyPosAt w k v b p q → pos ≡ value_pos k v q → ModifiesOnly b pos v.size c → StaysValid v b c pos → WritesAmongParts (map_spec w k v) b c p
 value_nested_at w k v kl vl b c p q pos view at is sealed keeps =
     let there : pos ≡ value_pos k v (item_at w (entry_spec k v).size b p at.0) = is ∙ ap (value_pos k v) at.2 in
-    value_nested w k v kl vl b c p at.0 view at.1 (record { sealed = subst (λ n. Sealed b n v.size c) there sealed; keeps = subst (Keeps v b c) there keeps })
+    value_nested w k v kl vl b c p at.0 view at.1 (record { sealed = subst (λ n. ModifiesOnly b n v.size c) there sealed; keeps = subst (StaysValid v b c) there keeps })
 
 -- without a write, nothing changes
-pub unwritten : (s : ElementSpec) (b : List ℕ) (p : ℕ) → WritesParts s b b p
+pub unwritten : (s : ElementSpec) (b : List ℕ) (p : ℕ) → WritesAmongParts s b b p
 unwritten s b p = record { is_valid = λ lo hi l o o' h. h; sealed = λ lo hi l o o' h. record { same_length = refl; before = refl; after = refl } }

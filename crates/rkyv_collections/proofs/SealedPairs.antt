@@ -3,7 +3,7 @@ use Rattle.std.proofs.Common.{◌≡◌, ℕ, zero, suc, ◌+◌, ◌<◌, ◌�
 use Rattle.std.specs.Prelude.{IfSome, IsSome, MatchOption}
 use Rattle.std.specs.Int.{Width}
 use Rattle.std.proofs.lemmas.Bool.{cases_lt, true≢false}
-use Rattle.rkyv_base.specs.{ElementSpec, IsElement, IsValidView, Keeps, Sealed, Viewable, bytes_in, bytes_of, entry_spec, pos_of, seal_pos, value_pos, whole_size}
+use Rattle.rkyv_base.specs.{ElementSpec, IsElement, IsValidView, ModifiesOnly, StaysValid, Viewable, bytes_in, bytes_of, entry_spec, pos_of, seal_pos, value_pos, whole_size}
 use Rattle.rkyv_base.specs.Lemmas.Entry.{entry_element, key_and_value_inside, size_of_small}
 use Rattle.rkyv_base.specs.declared.entry.Entry.{Entry}
 use Rattle.rkyv_base.specs.declared.seal.Seal.{Seal}
@@ -71,8 +71,8 @@ module _ {K V : Type 0} (k v : ElementSpec) (kl : IsElement k) (vl : IsElement v
   )
 
   -- a write of one value keeps the map and the cursor
-  pub pairs_kept : (before after : RawIterSeal (Entry K V)) (q : ℕ) → StaysThere before after → Sealed (cursor_bytes before) (value_pos k v q) v.size (cursor_bytes after)
-      → Keeps v (cursor_bytes before) (cursor_bytes after) (value_pos k v q) → KeepsPairs k v before q after
+  pub pairs_kept : (before after : RawIterSeal (Entry K V)) (q : ℕ) → StaysThere before after → ModifiesOnly (cursor_bytes before) (value_pos k v q) v.size (cursor_bytes after)
+      → StaysValid v (cursor_bytes before) (cursor_bytes after) (value_pos k v q) → KeepsPairs k v before q after
   pairs_kept before after q there sealed keeps w p i is at =
       let b = before.archive.now in
       let c = after.archive.now in
@@ -81,7 +81,7 @@ module _ {K V : Type 0} (k v : ElementSpec) (kl : IsElement k) (vl : IsElement v
       let item = item_viewable w s law b p is.table i at.walked in
       let small = size_of_small (whole_size k v) item.valid.1.0 in
       let inside = key_and_value_inside k v in
-      let kept = at.kept c (subst (λ n. Sealed b (value_pos k v n) v.size c) at.pos sealed) (subst (λ n. Keeps v b c (value_pos k v n)) at.pos keeps) in
+      let kept = at.kept c (subst (λ n. ModifiesOnly b (value_pos k v n) v.size c) at.pos sealed) (subst (λ n. StaysValid v b c (value_pos k v n)) at.pos keeps) in
       let cursor = cursor_kept w s p i q before after is
       (record { walked = at.walked; pos = at.pos; viewable = subst (λ n. Viewable s b n) (sym at.pos) item; kept = λ d x y. table_kept w s law b p i is.table at.walked d x y })
       there (sealed_wider b c (value_pos k v q) v.size q s.size (omega arith) (omega (arith, small, inside.1)) sealed) (entry_kept k v kl vl b c q sealed keeps) in

@@ -12,7 +12,7 @@ use Rattle.rkyv_base.specs.{ElementSpec, Format, IsArchiveWord, IsElement, IsFor
 use Rattle.rkyv_keys.specs.{Comparison, FitsItsEqual, IsQuery, first_pair, hash_at, hash_of}
 use Rattle.rkyv_keys.specs.Lemmas.OfEntries.{valid_key}
 use Rattle.rkyv_table.specs.{TableResolver, home_positions, listed, pos_found, with_units}
-use Rattle.rkyv_collections.specs.{FindsEntries, FindsFirstAccepted, FindsMembers, FindsPair, IsPairOf, IsValueBehind, MapRepresents, map_format, map_spec, of_entries, pair_at}
+use Rattle.rkyv_collections.specs.{FindsEntries, FindsFirstAccepted, FindsMembers, FindsPair, IsPosOfPair, IsValueBehind, MapRepresents, map_format, map_spec, of_entries, pair_at}
 use Rattle.rkyv_collections.specs.Lemmas.MapSound.{listed_map_sound}
 use Rattle.rkyv_base.specs.Lemmas.Pairs.{written_as-format}
 use Rattle.rkyv_collections.specs.Lemmas.DistinctEntries.{of_entries-format}
@@ -59,7 +59,7 @@ module _ {A B : Type 0} (w : Width) (k v : ElementSpec) (hash : A → ℕ) (fits
 
 -- at the position of a pair, its value is behind the key
 value_behind : {A B : Type 0} (k v : ElementSpec) (key : List ℕ → ℕ → A → Type 0) (value : List ℕ → ℕ → B → Type 0) (b : List ℕ) (key_pos : Option ℕ) (o : Option (A × B))
-    → IsPairOf k v key value b key_pos o → IsValueBehind value b (value_offset k v) key_pos (option_map (λ pair. pair.1) o)
+    → IsPosOfPair k v key value b key_pos o → IsValueBehind value b (value_offset k v) key_pos (option_map (λ pair. pair.1) o)
 value_behind k v key value b None None h = tt
 value_behind k v key value b (Some q) (Some pair) h = h.1
 value_behind k v key value b None (Some pair) h = absurd h

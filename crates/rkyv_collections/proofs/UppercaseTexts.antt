@@ -13,7 +13,7 @@ use Rattle.rkyv_base.specs.Lemmas.Text.{text_local}
 use Rattle.rkyv_base.proofs.SealedText.{uppercased_reads, uppercased_sealed, uppercased_valid}
 use Rattle.rkyv_keys.specs.Lemmas.OfTexts.{IsTextOf}
 use Rattle.rkyv_table.specs.{home_positions}
-use Rattle.rkyv_collections.specs.{AgreesOnKeys, IsPairOf, MapRepresents, list_after_uppercase, map_spec, uppercase_text, with_first, with_first_uppercase}
+use Rattle.rkyv_collections.specs.{AgreesOnKeys, IsPosOfPair, MapRepresents, list_after_uppercase, map_spec, uppercase_text, with_first, with_first_uppercase}
 use Rattle.rkyv_keys.specs.{HashLocal, first_pair}
 use Rattle.rkyv_collections.proofs.FirstWrites.{first_behind, some_pos}
 use Rattle.rkyv_collections.proofs.FoundPairs.{first_listed}
@@ -32,12 +32,12 @@ uppercase_with_first {A} accept_value (x ∷ xs) pair e = elim (cases_Bool (acce
 
 module _ {A : Type 0} (k v : ElementSpec) (key : List ℕ → ℕ → A → Type 0) (value : List ℕ → ℕ → Bor (List ℕ) → Type 0) (b : List ℕ) where
   -- the found pair, by its position
-  pair_of : (key_pos : Option ℕ) (q : ℕ) (o : Option (A × Bor (List ℕ))) → Some q ≡ key_pos → IsPairOf k v key value b key_pos o → (pair : A × Bor (List ℕ)) × (o ≡ Some pair) × PairRepresents k v key value b q pair
+  pair_of : (key_pos : Option ℕ) (q : ℕ) (o : Option (A × Bor (List ℕ))) → Some q ≡ key_pos → IsPosOfPair k v key value b key_pos o → (pair : A × Bor (List ℕ)) × (o ≡ Some pair) × PairRepresents k v key value b q pair
   pair_of None q o e h = absurd cc
   pair_of (Some r) q None e h = absurd h
   pair_of (Some r) q (Some pair) e h = (pair, refl, subst (λ z. PairRepresents k v key value b z pair) (sym (same_Some q r e)) h)
 
-  no_pair : (f : ℕ → ℕ) (key_pos : Option ℕ) (o : Option (A × Bor (List ℕ))) → None ≡ option_map f key_pos → IsPairOf k v key value b key_pos o → false ≡ is_some o
+  no_pair : (f : ℕ → ℕ) (key_pos : Option ℕ) (o : Option (A × Bor (List ℕ))) → None ≡ option_map f key_pos → IsPosOfPair k v key value b key_pos o → false ≡ is_some o
   no_pair f None None e h = refl
   no_pair f None (Some pair) e h = absurd h
   no_pair f (Some q) o e h = absurd cc
@@ -57,7 +57,7 @@ module _ (w : Width) (k : ElementSpec) (kl : IsElement k) (tl : IsElement (text_
   abbrev key_pos : Option ℕ
   key_pos = find accept (home_positions w (entry_spec k v).size b p st.homes)
 
-  first : IsPairOf k v key value b key_pos (first_pair accept_value pairs)
+  first : IsPosOfPair k v key value b key_pos (first_pair accept_value pairs)
   first = first_listed w k v kl tl key value key_hash factor b p pairs view accept accept_value agrees st
 
   pub none_uppercased : None ≡ option_map (value_pos k v) key_pos → (false ≡ is_some (first_pair accept_value pairs)) × Represents b pairs

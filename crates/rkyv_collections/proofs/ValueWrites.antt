@@ -8,7 +8,7 @@ use Rattle.std.proofs.lemmas.Bool.{cases_eq, eq-eqb}
 use Rattle.rkyv_scan.specs.{generic_kind}
 use Rattle.rkyv_scan.specs.Lemmas.KindLaws.{word_lawful}
 use Rattle.rkyv_base.specs.Lemmas.Bytes.{agree_on_part}
-use Rattle.rkyv_base.specs.{ElementSpec, IsElement, Keeps, RepresentsLocally, Sealed, Viewable, entry_spec, value_pos}
+use Rattle.rkyv_base.specs.{ElementSpec, IsElement, ModifiesOnly, RepresentsLocally, StaysValid, Viewable, entry_spec, value_pos}
 use Rattle.rkyv_base.specs.Lemmas.Entry.{entry_element, same_key, viewable_key}
 use Rattle.rkyv_base.specs.Lemmas.Pairs.{pair_local}
 use Rattle.rkyv_base.proofs.Sealing.{viewable_kept}
@@ -110,10 +110,10 @@ rests_on_each k can_read fits rests q ready b c p valid same = rests q b c p val
 
 -- the same for a key at `q` and its value at `pos`
 pub map_kept_at : (k v : ElementSpec) (kl : IsElement k) (vl : IsElement v) (w : Width) (key_hash : List ℕ → ℕ → ℕ) → HashLocal k key_hash → (b c : List ℕ) (p q pos : ℕ) → Viewable (map_spec w k v) b p
-    → (at : IsKeyPosAt w k v b p q) → pos ≡ value_pos k v q → Sealed b pos v.size c → Keeps v b c pos → KeepsMap w k v key_hash b c p at.0
+    → (at : IsKeyPosAt w k v b p q) → pos ≡ value_pos k v q → ModifiesOnly b pos v.size c → StaysValid v b c pos → KeepsMap w k v key_hash b c p at.0
 map_kept_at k v kl vl w key_hash local b c p q pos view at is sealed keeps =
     let there : pos ≡ value_pos k v (entry_at w k v b p at.0) = is ∙ ap (value_pos k v) at.2 in
-    map_kept k v kl vl w key_hash local b c p at.0 view at.1 (record { sealed = subst (λ n. Sealed b n v.size c) there sealed; keeps = subst (Keeps v b c) there keeps })
+    map_kept k v kl vl w key_hash local b c p at.0 view at.1 (record { sealed = subst (λ n. ModifiesOnly b n v.size c) there sealed; keeps = subst (StaysValid v b c) there keeps })
 
 module _ (k v : ElementSpec) (kl : IsElement k) (vl : IsElement v) (w : Width) (key_hash : List ℕ → ℕ → ℕ) (local : HashLocal k key_hash) {A B : Type 0} (key : List ℕ → ℕ → A → Type 0) (value : List ℕ → ℕ → B → Type 0)
     (kn : RepresentsLocally k key) (vn : RepresentsLocally v value) (b c : List ℕ) (p n : ℕ) (factor : ℕ × ℕ) (pairs : List (A × B)) (pair : A × B) (new : B) (view : Viewable (map_spec w k v) b p)

@@ -1,5 +1,5 @@
 -- A walk over a map that represents a list returns each item of the list once.
-use Rattle.std.proofs.Common.{◌≡◌, ◌∙◌, ℕ, zero, suc, ◌<◌, List, [], ◌∷◌, false, Some, ap, arith, eqb, get_or, length, map, refl, remove, slice_get, slice_index, slice_set, subst, swap, sym, IsPermutation}
+use Rattle.std.proofs.Common.{◌≡◌, ◌∙◌, ℕ, zero, suc, ◌<◌, List, [], ◌∷◌, false, Some, ap, arith, eqb, get_or, length, refl, remove, slice_get, slice_index, slice_set, subst, swap, sym, IsPermutation}
 use Rattle.std.specs.Int.{Width}
 use Rattle.std.specs.List.{AllZip, Contains, IsDistinct}
 use Rattle.std.proofs.lemmas.Bool.{eq-eqb, true≢false}

@@ -58,7 +58,7 @@ pub use Map.SealedPairs.{HasAllPairs, IsDone, StepsAndWritesPair, StepsAndWrites
 unfoldable pub use Map.ValueWrites.{ValueWritesKeepLookups, ValueWritesKeepMaps}
 unfoldable pub use Map.ValueWrites.{ValuesWrittenRepresent, entry_at}
 pub use Map.ValueWrites.{KeepsMap}
-unfoldable pub use Map.ListedLookups.{AgreesOnKeys, IsPairOf, LookupsFindListed}
+unfoldable pub use Map.ListedLookups.{AgreesOnKeys, IsPosOfPair, LookupsFindListed}
 pub use Map.ListedLookups.{FindsListed}
 unfoldable pub use Map.ListedWalks.{SetWalksVisitEach, WalksVisitEach, WalksVisitPairs}
 unfoldable pub use Map.ListedWalks.{key_positions_at}
@@ -72,7 +72,7 @@ unfoldable pub use Map.ListArchives.{map_root, text_found, text_map_format, text
 pub use Map.ListArchives.{IsTextMap}
 unfoldable pub use Map.NestedWrites.{NestedWritesKeepMaps, NestedWritesRepresent}
 unfoldable pub use Map.NestedWrites.{ValueWritesAreNested}
-pub use Map.NestedWrites.{IsValidBefore, KeepsOuterMap, StaysAt, WritesParts}
+pub use Map.NestedWrites.{IsValidBefore, KeepsOuterMap, StaysAt, WritesAmongParts}
 unfoldable pub use Map.InPlaceText.{UppercasesFirst, UppercasesFound, UppercasesText}
 unfoldable pub use Map.InPlaceText.{list_after_uppercase, map_to_texts_at, map_to_texts_spec}
 unfoldable pub use Map.InPlaceText.{uppercase_text, with_first_uppercase}

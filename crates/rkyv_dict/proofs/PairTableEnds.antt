@@ -11,14 +11,14 @@ use Rattle.std.specs.Option.{unwrap_or}
 use Rattle.rkyv_base.specs.{ElementSpec, Format, Step, failure}
 use Rattle.rkyv_table.proofs.HomeList.{homes_one_list, written_one_list}
 use Rattle.rkyv_table.proofs.Written.{first_within}
-use Rattle.rkyv_table.specs.{InBuckets, PairsNext, Placed, Slotted, TableBytes, TableNext, TableParts, TableResolver, WritesOneWay, capacity, hashes_of, is_free, items_of, table_format}
+use Rattle.rkyv_table.specs.{AreInSlots, ArePlaced, InBuckets, PairsNext, TableBytes, TableNext, TableParts, TableResolver, WritesOneWay, capacity, hashes_of, is_free, items_of, table_format}
 use Rattle.rkyv_table.specs.Lemmas.SlotWalk.{item_below}
 use Rattle.rkyv_dict.proofs.Ends.{Ends}
 use Rattle.rkyv_dict.proofs.FormatEnds.{EndsOneWay}
 use Rattle.rkyv_dict.proofs.TableEnds.{table_ends}
 
 -- two lists of slots with the same items in the same homes
-module _ {X : Type 0} (cap : ℕ) (xs : List ℕ) (items : List X) (ss ts : List (Option X)) (s : Slotted cap xs items ss) (t : Slotted cap xs items ts) where
+module _ {X : Type 0} (cap : ℕ) (xs : List ℕ) (items : List X) (ss ts : List (Option X)) (s : AreInSlots cap xs items ss) (t : AreInSlots cap xs items ts) where
   slot_one : (b : ℕ) → b < cap → slice_get ss b ≡ slice_get ts b
   slot_one b h =
       let n = s.items_count in
@@ -40,7 +40,7 @@ module _ {X : Type 0} (cap : ℕ) (xs : List ℕ) (items : List X) (ss ts : List
       sym (unwrap_or-slice_get ss b None) ∙ ap (λ (o : Option (Option X)). unwrap_or o None) (slot_one b (omega arith)) ∙ unwrap_or-slice_get ts b None)
 
 -- the slots and controls depend only on the pairs
-module _ {X : Type 0} (cap : ℕ) (pairs : List (ℕ × X)) (ss ts : List (Option X)) (c d : List ℕ) (full : 0 < length pairs) (x : Placed cap pairs ss c) (y : Placed cap pairs ts d) where
+module _ {X : Type 0} (cap : ℕ) (pairs : List (ℕ × X)) (ss ts : List (Option X)) (c d : List ℕ) (full : 0 < length pairs) (x : ArePlaced cap pairs ss c) (y : ArePlaced cap pairs ts d) where
   some_bucket : 0 < cap
   some_bucket =
       let n : length (items_of pairs) ≡ length pairs = length-map pairs (λ pair. pair.1) in
@@ -53,7 +53,7 @@ module _ {X : Type 0} (cap : ℕ) (pairs : List (ℕ × X)) (ss ts : List (Optio
   placed_one =
       let hashes = hashes_of pairs in
       let same : x.homes ≡ y.homes = homes_one_list cap hashes x.homes x.written.placed ∙ sym (homes_one_list cap hashes y.homes y.written.placed) in
-      let there = subst (λ (l : List ℕ). Slotted cap l (items_of pairs) ts) (sym same) y.slotted in (
+      let there = subst (λ (l : List ℕ). AreInSlots cap l (items_of pairs) ts) (sym same) y.slotted in (
         slots_one cap x.homes (items_of pairs) ss ts x.slotted there,
         written_one_list cap hashes x.homes c some_bucket x.written ∙ sym (written_one_list cap hashes y.homes d some_bucket y.written),
       )

@@ -1,5 +1,5 @@
 -- Writing a list with its header, step by step, and the written list.
-use Rattle.std.proofs.Common.{◌≡◌, ℕ, ◌+◌, ◌-◌, ◌*◌, ◌%◌, ◌≤◌, ◌∙◌, inl, inr, refl, sym, ap, subst, arith, append_assoc, length-append, length-take, Bool, List, [], ◌∷◌, ◌++◌, length, take}
+use Rattle.std.proofs.Common.{◌≡◌, ℕ, ◌+◌, ◌-◌, ◌*◌, ◌%◌, ◌≤◌, ◌∙◌, inl, inr, refl, sym, ap, subst, arith, append_assoc, length-append, length-take, Bool, List, ◌++◌, length, take}
 use Rattle.std.specs.Int.{Width, byte_len}
 use Rattle.std.proofs.lemmas.List.{length-map, length-replicate, take_all}
 use Rattle.rkyv_base.specs.{Appends, ElementMembers, ElementSpec, Fails, Format, IsArchiveWord, IsElement, IsFormat, OccursAt, Output, RootNext, WidthMembers, end_of, padding, round_up, zeros}
@@ -16,7 +16,7 @@ use Rattle.rkyv_base.specs.declared.width.Width.{Ghosts as Widths}
 use Rattle.rkyv_base.specs.declared.width.Word.{Ghosts as Words}
 use Rattle.rkyv_base.proofs.WritingSteps.{appends_after, end-appends, fails_under}
 use Rattle.rkyv_table.specs.Lemmas.TableLaws.{table_element}
-use Rattle.rkyv_table.specs.{IsFirstOf, IsHeader, IsValidAround, IsWrittenOf, TableIn, TableRepresents, TableResolver, ValidWereWritten, VisitsHomes, WalkVisitsHomes, WriteItemsFails, WrittenTablesPass, cap_at, capacity, hashes_of, items_of, resolved_capacity, table_controls, table_format, table_spec}
+use Rattle.rkyv_table.specs.{IsFirstOf, IsHeader, IsValidAround, IsWrittenOf, RepresentedWereWritten, TableIn, TableRepresents, TableResolver, VisitsHomes, WalkVisitsHomes, WriteItemsFails, WrittenTablesPass, cap_at, capacity, hashes_of, items_of, resolved_capacity, table_controls, table_format, table_spec}
 use Rattle.rkyv_table.proofs.FirstItem.{accepted_under, first_at_home}
 use Rattle.rkyv_table.proofs.WalkedHomes.{none_visits}
 use Rattle.rkyv_end_to_end.specs.{Encoding, IsWrittenList, ListBytes, ListInput, ListsAreValid, LookOverFails, ReportsList, ReportsTable, VisitsItems, WriteAndFindFails, WriteListFails, WroteList, list_format, table_of}
@@ -99,7 +99,7 @@ appended_sits o o' x from a =
     let at : 0 + length o.bytes ≡ end_of o = omega (arith, from) in
     subst (λ (c : List ℕ). OccursAt c (end_of o) x) (sym a.bytes) (subst (λ q. OccursAt b q x) at (occurs_back b 0 o.bytes x all))
 
-module _ {X : Type 0} (w : Width) (s : ElementSpec) (represents : List ℕ → ℕ → X → Type 0) (load_factor : ℕ × ℕ) (were : ValidWereWritten w s represents load_factor) (visits : WalkVisitsHomes) where
+module _ {X : Type 0} (w : Width) (s : ElementSpec) (represents : List ℕ → ℕ → X → Type 0) (load_factor : ℕ × ℕ) (were : RepresentedWereWritten w s represents load_factor) (visits : WalkVisitsHomes) where
   -- the walk over a valid table
   items_visited : (c : List ℕ) (p : ℕ) (pairs : List (ℕ × X)) → TableRepresents w s represents load_factor c p pairs → VisitsItems (record { word = w; spec = s; bytes = c; pos = p }) represents pairs
   items_visited c p pairs table_represents =
@@ -120,7 +120,7 @@ module _ {X : Type 0} (w : Width) (s : ElementSpec) (represents : List ℕ → �
         ];
       }
 
-module _ {X R : Type 0} (w : Width) (items : Encoding X R) (load_factor : ℕ × ℕ) (were : ValidWereWritten w items.spec items.represents load_factor) (visits : WalkVisitsHomes)
+module _ {X R : Type 0} (w : Width) (items : Encoding X R) (load_factor : ℕ × ℕ) (were : RepresentedWereWritten w items.spec items.represents load_factor) (visits : WalkVisitsHomes)
     (kind : IsArchiveWord w) (law : IsElement items.spec)
     (format : IsFormat (table_spec w items.spec) (TableRepresents w items.spec items.represents load_factor) (table_format w items.spec items.format load_factor))
     (passing : WrittenTablesPass w items.spec items.format load_factor) where

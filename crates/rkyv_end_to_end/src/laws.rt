@@ -7,7 +7,7 @@ use rkyv_base::lend::Lend;
 use rkyv_base::width::Width;
 use rkyv_table::table::laws::walk_visits_homes;
 use rkyv_table::table::laws::written::{
-    valid_tables_were_written, written_tables_pass, written_tables_represent,
+    represented_lists_were_written, written_tables_pass, written_tables_represent,
 };
 
 /// States that a written table with its header is valid in each archive that has its bytes.
@@ -20,6 +20,6 @@ pub fn written_lists_represent<W: Width, U: Archive<W>, X: Lend<U>>()
 {
     written_tables_represent::<W, U, X>();
     written_tables_pass::<W, U, X>();
-    valid_tables_were_written::<W, U, X>();
+    represented_lists_were_written::<W, U, X>();
     walk_visits_homes();
 }

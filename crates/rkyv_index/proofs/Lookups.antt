@@ -12,7 +12,7 @@ use Rattle.rkyv_scan.specs.{generic_kind}
 use Rattle.rkyv_base.specs.{ElementSpec, Encoding, IsAt, IsElement, IsIndexEncoding, IsScalar, bytes_of, entry_spec, number_at, pos_of_found}
 use Rattle.rkyv_base.specs.Lemmas.Entry.{entry_element}
 use Rattle.rkyv_base.specs.declared.view.View.{View}
-use Rattle.rkyv_table.specs.{ComparesBy, CountsEnd, FindsFirst, FindsFound, IsItem, IsUnderHash, IsWalked, WrittenAt, home_positions, item_at, lookup_end, pos_found, table_bytes, table_pos}
+use Rattle.rkyv_table.specs.{ComparesBy, CountsEnd, FindsFirst, FindsFound, IsItem, IsUnderHash, IsWalked, WrittenAt, home_positions, item_at, pos_found, probe_length_at, table_bytes, table_pos}
 use Rattle.rkyv_table.specs.declared.table.ArchivedHashTable.{ArchivedHashTable}
 use Rattle.rkyv_index.specs.{AreUnderHash, ComparesKeysBy, IndexWrittenAt, IsIndexOf, IsKeyOf, IsStored, IsWritten, index_archive, index_bytes, index_found, index_len, index_of, index_pos, index_strides, indices_of, key_pos}
 use Rattle.rkyv_index.specs.declared.map.ArchivedIndexMap.{ArchivedIndexMap}
@@ -57,9 +57,9 @@ module _ {K V H W P N : Type 0} {ks : Specs K} {vs : Specs V} {ts : Specs P} {wt
       ≡ pos_found generic_kind w (byte_len w) (index_bytes m) (index_pos m) hash accept
   found_is hash accept = table_is (λ n x q. pos_found generic_kind w n x q hash accept)
 
-  end_is : (hash : ℕ) (accept : ℕ → Bool) → lookup_end generic_kind w ts.spec.size (table_bytes t) (table_pos t) hash accept
-      ≡ lookup_end generic_kind w (byte_len w) (index_bytes m) (index_pos m) hash accept
-  end_is hash accept = table_is (λ n x q. lookup_end generic_kind w n x q hash accept)
+  end_is : (hash : ℕ) (accept : ℕ → Bool) → probe_length_at generic_kind w ts.spec.size (table_bytes t) (table_pos t) hash accept
+      ≡ probe_length_at generic_kind w (byte_len w) (index_bytes m) (index_pos m) hash accept
+  end_is hash accept = table_is (λ n x q. probe_length_at generic_kind w n x q hash accept)
 
   homes_are : (homes : List ℕ) → home_positions w ts.spec.size (table_bytes t) (table_pos t) homes ≡ home_positions w (byte_len w) (index_bytes m) (index_pos m) homes
   homes_are homes = table_is (λ n x q. home_positions w n x q homes)

@@ -72,14 +72,14 @@ module _ {X R : Type 0} (f : Format X R) where
 
 module _ {X R : Type 0} (f : Format X R) (limit : ℕ) (xs : List X) (rs : List R) (o : Output) where
   -- the values before index `i` were written, and `others` are the resolvers of the other values
-  pub record Written (i : ℕ) (others : List R) (o1 : Output) : Type 0 where
+  pub record ValuesWritten (i : ℕ) (others : List R) (o1 : Output) : Type 0 where
     pub out : List ℕ
     pub appended : Appends o o1 out
     pub images : RowImages f (take i xs) (take i rs) (end_of o) out
     pub left : others ≡ drop i rs
     pub within : end_of o1 ≤ limit
 
-  module _ (i : ℕ) (x : X) (r : R) (left more : List R) (o1 : Output) (w : Written i left o1) (value : slice_get xs i ≡ Some x) (first : left ≡ r ∷ more) where
+  module _ (i : ℕ) (x : X) (r : R) (left more : List R) (o1 : Output) (w : ValuesWritten i left o1) (value : slice_get xs i ≡ Some x) (first : left ≡ r ∷ more) where
     dropped : drop i rs ≡ r ∷ more
     dropped = sym w.left ∙ first
 
@@ -92,7 +92,7 @@ module _ {X R : Type 0} (f : Format X R) (limit : ℕ) (xs : List X) (rs : List 
     before : Before f xs rs (end_of o) i x r w.out
     before = record { value = value; resolver = next_resolver; images = w.images }
 
-    pub written_more : (one : List ℕ) (o2 : Output) → f.image x r (end_of o1) one → Appends o1 o2 one → end_of o2 ≤ limit → Written (i + 1) more o2
+    pub written_more : (one : List ℕ) (o2 : Output) → f.image x r (end_of o1) one → Appends o1 o2 one → end_of o2 ≤ limit → ValuesWritten (i + 1) more o2
     written_more one o2 im a lim = record {
       out = w.out ++ one;
       appended = appends_after o o1 o2 w.out one w.appended a;

@@ -9,7 +9,7 @@ use Rattle.std.proofs.lemmas.List.{length-set}
 use Rattle.std.proofs.lemmas.Option.{slice_get_within}
 use Rattle.rkyv_scan.specs.{generic_kind}
 use Rattle.rkyv_scan.specs.Lemmas.KindLaws.{word_lawful}
-use Rattle.rkyv_base.specs.{AgreeOn, ElementSpec, IsArchiveWord, IsElement, Keeps, Outside, PairRepresents, RepresentsLocally, Sealed, Viewable, entry_spec, number_at, value_pos, whole_size}
+use Rattle.rkyv_base.specs.{AgreeOn, ElementSpec, IsArchiveWord, IsElement, ModifiesOnly, Outside, PairRepresents, RepresentsLocally, StaysValid, Viewable, entry_spec, number_at, value_pos, whole_size}
 use Rattle.rkyv_base.specs.Lemmas.Entry.{entry_element, key_and_value_inside, same_key, size_of_small}
 use Rattle.rkyv_base.specs.Lemmas.Entry.{viewable_key, viewable_value}
 use Rattle.rkyv_base.specs.Lemmas.Pairs.{pair_local}
@@ -31,8 +31,8 @@ use Rattle.rkyv_index.specs.Lemmas.IndexLocal.{written_again}
 use Rattle.rkyv_index.proofs.ValidIndexMap.{begin_is, entries_inside, entry_viewable, index_below, table_there}
 
 -- a write at the position of the value of a pair writes the value of that pair
-pub value_written : (w : Width) (k v : ElementSpec) (b c : List ℕ) (at q : ℕ) → at ≡ value_pos k v q → Sealed b at v.size c → Keeps v b c at → WritesValue k v b c q
-value_written w k v b c at q is sealed keeps = record { sealed = subst (λ n. Sealed b n v.size c) is sealed; keeps = subst (Keeps v b c) is keeps }
+pub value_written : (w : Width) (k v : ElementSpec) (b c : List ℕ) (at q : ℕ) → at ≡ value_pos k v q → ModifiesOnly b at v.size c → StaysValid v b c at → WritesValue k v b c q
+value_written w k v b c at q is sealed keeps = record { sealed = subst (λ n. ModifiesOnly b n v.size c) is sealed; keeps = subst (StaysValid v b c) is keeps }
 
 -- two entries share no byte
 entries_apart : (size begin i j : ℕ) → j ≢ i → Outside (entry_at size begin i) size (entry_at size begin j) (entry_at size begin j + size)
@@ -46,7 +46,7 @@ entries_apart size begin i j ne = elim (cases_lt i j) [
 
 -- Several valid values in order are valid after a write of one of them that keeps it valid.
 -- That one shares no byte with the others, and its own bytes are behind all parts.
-all_kept : (s : ElementSpec) → IsElement s → (at : ℕ → ℕ) (b c : List ℕ) (n hi i : ℕ) → Sealed b (at i) s.size c → Keeps s b c (at i) → hi ≤ at i
+all_kept : (s : ElementSpec) → IsElement s → (at : ℕ → ℕ) (b c : List ℕ) (n hi i : ℕ) → ModifiesOnly b (at i) s.size c → StaysValid s b c (at i) → hi ≤ at i
     → ((j : ℕ) → j < n → j ≢ i → Outside (at i) s.size (at j) (at j + s.size)) → (is : List ℕ) (lo l : ℕ) → lo ≤ hi → AllBelow n is → AreValidAt s at b hi is lo l → AreValidAt s at c hi is lo l
 all_kept s law at b c n hi i sealed keeps above apart [] lo l o below h = h
 all_kept s law at b c n hi i sealed keeps above apart (j ∷ is) lo l o below h =
@@ -105,13 +105,13 @@ module _ (w : Width) (kind : IsArchiveWord w) (k v : ElementSpec) (kl : IsElemen
 
   -- the value at index `i` is written
   module _ (c : List ℕ) (i : ℕ) (below : i < len_at w b p) (writes : WritesValue k v b c (at i)) where
-    wider : Sealed b (at i) S.size c
+    wider : ModifiesOnly b (at i) S.size c
     wider =
         let small = size_of_small (whole_size k v) (entry_there i below).valid.1.0 in
         let inside = key_and_value_inside k v in
         sealed_wider b c (value_pos k v (at i)) v.size (at i) S.size (omega arith) (omega (arith, small, inside.1)) writes.sealed
 
-    entry_keeps : Keeps S b c (at i)
+    entry_keeps : StaysValid S b c (at i)
     entry_keeps = entry_kept k v kl vl b c (at i) writes.sealed writes.keeps
 
     front_same : (x y : ℕ) → x ≤ y → y ≤ entries_pos w b p → AgreeOn b c x y
@@ -133,12 +133,12 @@ module _ (w : Width) (kind : IsArchiveWord w) (k v : ElementSpec) (kl : IsElemen
           part = h.part;
           last = h.last;
           valid = all_kept S law (entry_at S.size begin) b c n begin i
-              (subst (λ m. Sealed b (entry_at S.size m i) S.size c) is wider) (subst (λ m. Keeps S b c (entry_at S.size m i)) is entry_keeps)
+              (subst (λ m. ModifiesOnly b (entry_at S.size m i) S.size c) is wider) (subst (λ m. StaysValid S b c (entry_at S.size m i)) is entry_keeps)
               (omega arith) (λ j less ne. entries_apart S.size begin i j ne) (indices_of n) lo h.last h.part.above (indices_below n) h.valid;
           ends = h.ends;
         }
 
-    index_is_valid : Keeps (index_spec w S) b c p
+    index_is_valid : StaysValid (index_spec w S) b c p
     index_is_valid lo hi l o o' h =
         let t = (table_element w kind (stored_index_spec w) (stored_index_element w kind)).rest_in_range b p lo hi h.middle o h.table in
         let is : entries_pos w b p ≡ h.entries.begin = ap unsigned_abs (sym h.entries.part.begins) in

@@ -27,7 +27,7 @@ use Rattle.rkyv_base.specs.{number_at, pos_of, value_offset}
 use Rattle.rkyv_base.specs.declared.entry.Entry.{Entry}
 use Rattle.rkyv_base.specs.declared.view.View.{View}
 use Rattle.rkyv_table.specs.{FindsItem, IsCutAt, IsItem, IsWalked, ReadsWithin, cap_at, item_at}
-use Rattle.rkyv_table.specs.{len_at, lookup_end, pos_found, probe_capacity}
+use Rattle.rkyv_table.specs.{len_at, pos_found, probe_capacity, probe_length_at}
 use Rattle.rkyv_table.specs.declared.table.ArchivedHashTable.{ArchivedHashTable}
 use Rattle.rkyv_index.specs.Map.IndexFormat.{IndexWrittenAt}
 use Rattle.rkyv_index.specs.Map.IndexLayout.{entries_pos, indices_of, pair_pos}
@@ -57,7 +57,7 @@ index_found w b p hash accept =
 -- the number of strides that a lookup under `hash` reads. `accept i`: the key at index `i`
 -- is accepted
 abbrev pub index_strides : Width → List ℕ → ℕ → ℕ → (ℕ → Bool) → ℕ
-index_strides w b p hash accept = lookup_end generic_kind w (byte_len w) b p hash (λ q.
+index_strides w b p hash accept = probe_length_at generic_kind w (byte_len w) b p hash (λ q.
     accept (number_at w b q))
 
 module _ {K V H W : Type 0} {ks : Specs K} {vs : Specs V} {wt : Words W} where

@@ -6,7 +6,8 @@ use Rattle.std.specs.List.{sum_by}
 use Rattle.rkyv_scan.specs.{generic_kind}
 use Rattle.rkyv_base.specs.{ElementSpec, entry_spec}
 use Rattle.rkyv_keys.specs.{Comparison}
-use Rattle.rkyv_table.specs.{cap_at, controls_pos, is_found_at, item_positions, len_at, lookup_end}
+use Rattle.rkyv_table.specs.{cap_at, controls_pos, is_found_at, item_positions, len_at}
+use Rattle.rkyv_table.specs.{probe_length_at}
 use Rattle.rkyv_collections.specs.{map_misplaced, map_strides}
 use Rattle.rkyv_index.specs.{index_found, index_strides, indices_of, pair_pos}
 use Rattle.rkyv_inspect.specs.Histogram.{IsHistogram}
@@ -68,8 +69,8 @@ pub record IsSummary (m : KeyedMap) (P : Option Lookups → Type 0) (summary : S
 module _ (m : KeyedMap) where
   -- the number of strides that a lookup of the key at `q` reads in the hash map `m`
   abbrev pub key_strides : ℕ → ℕ
-  key_strides q = lookup_end generic_kind m.word (entry_spec m.key.spec m.value).size m.bytes m.pos
-      (m.key.hash m.bytes q) (m.key.same m.bytes q m.bytes)
+  key_strides q = probe_length_at generic_kind m.word (entry_spec m.key.spec m.value).size m.bytes
+      m.pos (m.key.hash m.bytes q) (m.key.same m.bytes q m.bytes)
 
   -- the positions of its keys, in bucket order
   abbrev pub key_positions : List ℕ

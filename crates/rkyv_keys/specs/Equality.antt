@@ -20,13 +20,13 @@ abbrev pub DecidesEquality : {V : Type 0} → (V → V → Bool) → Type 0
 DecidesEquality {V = V} equal = (v w : V) → Decides (equal v w) (v ≡ w)
 
 -- each value that the archived one represents is equal to each value that it equals
-abbrev pub EqualsOnce : {V : Type 0} → ElementSpec → (List ℕ → ℕ → V → Type 0)
+abbrev pub EqualsUniquely : {V : Type 0} → ElementSpec → (List ℕ → ℕ → V → Type 0)
     → (List ℕ → ℕ → V → Type 0) → (V → V → Bool) → Type 0
-EqualsOnce {V = V} s represents equals equal =
+EqualsUniquely {V = V} s represents equals equal =
     (v x : V) (b : List ℕ) (p : ℕ) → ValidAt s b p → represents b p v → equals b p x
     → equal v x ≡ true
 
 -- the values that one archived value represents are equal
-abbrev pub RepresentsOnce : {V : Type 0} → ElementSpec → (List ℕ → ℕ → V → Type 0) → (V → V → Bool)
-    → Type 0
-RepresentsOnce s represents equal = EqualsOnce s represents represents equal
+abbrev pub RepresentsUniquely : {V : Type 0} → ElementSpec → (List ℕ → ℕ → V → Type 0)
+    → (V → V → Bool) → Type 0
+RepresentsUniquely s represents equal = EqualsUniquely s represents represents equal

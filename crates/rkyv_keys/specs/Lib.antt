@@ -24,7 +24,7 @@ unfoldable pub use AtViews.{at_view, at_views}
 unfoldable pub use Calls.{after_calls, bool_call, hash_at, hash_of, text_calls}
 unfoldable pub use Deserialize.{DeserializeErrors, DeserializeMembers, Deserializes, memory_fails}
 unfoldable pub use Deserialize.{nothing_fails}
-unfoldable pub use Equality.{Comparison, DecidesEquality, EqualsOnce, RepresentsOnce}
+unfoldable pub use Equality.{Comparison, DecidesEquality, EqualsUniquely, RepresentsUniquely}
 pub use Equality.{IsEquivalence}
 unfoldable pub use FirstPairs.{IsFoundPair, IsFoundValue, IsTextOk, first_pair, first_value}
 unfoldable pub use FirstPairs.{found_scalars, found_texts, found_views, scalar_found, text_bytes}

@@ -7,7 +7,8 @@
 
 ghost use Rattle.std.specs.Prelude.{◌≡◌, ℕ, List, IsTrue, ◌↔◌};
 ghost use Rattle.rkyv_base.specs.{AtView, IsFormat, IsValidView};
-ghost use Rattle.rkyv_keys.specs.{Comparison, EqualsOnce, IsEquivalence, RepresentsOnce, at_views};
+ghost use Rattle.rkyv_keys.specs.{Comparison, EqualsUniquely, IsEquivalence, RepresentsUniquely};
+ghost use Rattle.rkyv_keys.specs.{at_views};
 
 use rkyv_base::archive::Archive;
 use rkyv_base::element::{Element, Represents};
@@ -93,12 +94,12 @@ where
 /// Archived maps and sets don't implement it. A caller may know that the keys of an archived map
 /// are distinct, but this law can't assume it.
 pub trait EqualsUniquely<V: PartialEq>: MatchesNative<V> {
-    ghost once: { EqualsOnce Self.spec Self.represents Self.equals V.eq };
+    ghost once: { EqualsUniquely Self.spec Self.represents Self.equals V.eq };
 }
 
 /// An element whose values each represent only native values that are equal to one another.
 ///
 /// A deserialized value is therefore equal to the written one.
 pub trait RepresentsUniquely<V: PartialEq>: Represents<V> {
-    ghost once: { RepresentsOnce Self.spec Self.represents V.eq };
+    ghost once: { RepresentsUniquely Self.spec Self.represents V.eq };
 }

@@ -6,7 +6,7 @@ use Rattle.std.specs.List.{find}
 use Rattle.rkyv_base.specs.{IsElement, Viewable}
 use Rattle.rkyv_base.specs.declared.view.View.{View}
 use Rattle.rkyv_scan.specs.{Kind}
-use Rattle.rkyv_table.specs.{AcceptedOf, CanCompare, CanCompareOf, ComparesBy, ComparesByOf, CountsEnd, FindsFirst, FindsFound, IsAcceptedAt, IsItem, IsItemAt, IsItemOf, IsItemPos, IsUnderHash, IsWalked, LooksUp, ReadsExactly, WrittenAt, home_positions, item_at, lookup_end, pos_found, table_spec}
+use Rattle.rkyv_table.specs.{AcceptedOf, CanCompare, CanCompareOf, ComparesBy, ComparesByOf, CountsEnd, FindsFirst, FindsFound, IsAcceptedAt, IsItem, IsItemAt, IsItemOf, IsItemPos, IsUnderHash, IsWalked, LooksUp, ReadsExactly, WrittenAt, home_positions, item_at, pos_found, probe_length_at, table_spec}
 use Rattle.rkyv_table.proofs.ValidTable.{item_viewable}
 use Rattle.rkyv_table.proofs.SealedTable.{table_kept}
 use Rattle.rkyv_table.specs.declared.table.ArchivedHashTable.{ArchivedHashTable}
@@ -61,9 +61,9 @@ module _ {T W : Type 0} {ts : Specs T} {wt : Words W} (b : List ℕ) (p : ℕ) (
 
     pub reads_exactly : (kind : Kind) (hash before after : ℕ) → before ≡ 0 → CountsEnd post kind t hash before after → ReadsExactly post kind wt.word ts.spec b p hash after
     reads_exactly kind hash before after none counts accept compares =
-        let P = λ (c : List ℕ) (q : ℕ). after ≡ lookup_end kind wt.word ts.spec.size c q hash accept in
+        let P = λ (c : List ℕ) (q : ℕ). after ≡ probe_length_at kind wt.word ts.spec.size c q hash accept in
         subst (P b) pos (subst (λ (c : List ℕ). P c t.view.pos) bytes
-        (counts accept (compares_by_of accept compares) ∙ ap (λ n. n + lookup_end kind wt.word ts.spec.size t.view.archive.now t.view.pos hash accept) none ∙ zero-add _))
+        (counts accept (compares_by_of accept compares) ∙ ap (λ n. n + probe_length_at kind wt.word ts.spec.size t.view.archive.now t.view.pos hash accept) none ∙ zero-add _))
 
   -- each write of an item of the table alone that keeps it valid keeps the table
   pub item_at_found : IsElement ts.spec → Viewable (table_spec wt.word ts.spec) b p → (q : ℕ) → IsItemPos t q → (i : ℕ) × IsItemAt wt.word ts.spec b p i q

@@ -12,7 +12,7 @@ use Rattle.rkyv_table.proofs.PartSteps.{filled-append}
 
 module _ {X R : Type 0} (size limit : ℕ) (f : Format X R) (slots : List (Option X)) (rs : List R) (o : Output) where
   -- the buckets from `i` on are written, and `left` are the resolvers of the other items
-  pub record Down (i : ℕ) (left : List R) (o1 : Output) : Type 0 where
+  pub record BucketsWritten (i : ℕ) (left : List R) (o1 : Output) : Type 0 where
     pub out : List ℕ
     pub done : List R
     pub inside : i ≤ length slots
@@ -22,7 +22,7 @@ module _ {X R : Type 0} (size limit : ℕ) (f : Format X R) (slots : List (Optio
     pub count : length left ≡ filled (take i slots)
     pub within : end_of o1 ≤ limit
 
-  module _ (i : ℕ) (left : List R) (o1 o2 : Output) (d : Down (i + 1) left o1) where
+  module _ (i : ℕ) (left : List R) (o1 o2 : Output) (d : BucketsWritten (i + 1) left o1) where
     here : end_of o1 ≡ end_of o + length d.out
     here = end-appends o o1 d.out d.appended
 
@@ -32,7 +32,7 @@ module _ {X R : Type 0} (size limit : ℕ) (f : Format X R) (slots : List (Optio
     shown_here : SlotImages size f (drop (i + 1) slots) d.done (end_of o + length d.out) d.out
     shown_here = subst (λ n. SlotImages size f (drop (i + 1) slots) d.done n d.out) here d.images
 
-    pub down_none : get_or slots i None ≡ None → Appends o1 o2 (zeros size) → end_of o2 ≤ limit → Down i left o2
+    pub down_none : get_or slots i None ≡ None → Appends o1 o2 (zeros size) → end_of o2 ≤ limit → BucketsWritten i left o2
     down_none e a lim =
         let q : i < length slots = omega (arith, d.inside) in
         let n : end_of o2 - size ≡ end_of o1 = omega (arith, end-appends o1 o2 (zeros size) a, length-replicate {A = ℕ} size 0) in
@@ -63,7 +63,7 @@ module _ {X R : Type 0} (size limit : ℕ) (f : Format X R) (slots : List (Optio
     down_read s e = get_or_default slots i None s (omega (arith, d.inside)) ∙ sym e
 
     pub down_some : (x : X) (r : R) (more : List R) (one : List ℕ) → get_or slots i None ≡ Some x → left ≡ more ++ r ∷ [] → f.image x r (end_of o1) one → length one ≡ size
-        → Appends o1 o2 one → end_of o2 ≤ limit → Down i more o2
+        → Appends o1 o2 one → end_of o2 ≤ limit → BucketsWritten i more o2
     down_some x r more one e l im len a lim =
         let q : i < length slots = omega (arith, d.inside) in
         let n : end_of o2 - size ≡ end_of o1 = omega (arith, end-appends o1 o2 one a, len) in
@@ -93,8 +93,8 @@ module _ {X R : Type 0} (size limit : ℕ) (f : Format X R) (slots : List (Optio
         }
 
     pub down_step : (s : Option X) (more : List R) (one : List ℕ) → get_or slots i None ≡ s → Filled size f s left more (end_of o1) one → length one ≡ size
-        → Appends o1 o2 one → end_of o2 ≤ limit → Down i more o2
-    down_step None more one e h len a lim = subst (λ l. Down i l o2) h.0 (down_none e (subst (Appends o1 o2) h.1 a) lim)
+        → Appends o1 o2 one → end_of o2 ≤ limit → BucketsWritten i more o2
+    down_step None more one e h len a lim = subst (λ l. BucketsWritten i l o2) h.0 (down_none e (subst (Appends o1 o2) h.1 a) lim)
     down_step (Some x) more one e h len a lim = down_some x h.0 more one e h.1 h.2 len a lim
 
     module _ {F : Type 0} (s : Option X) (e : get_or slots i None ≡ s) where
@@ -117,7 +117,7 @@ module _ {X R : Type 0} (size limit : ℕ) (f : Format X R) (slots : List (Optio
         cause = (inr d.within, d.appended.failures, (i, left, (d.done, d.all, shown_here), s, read_at s e, inr (subst (λ n. BucketOverflows size f s left n) here h, refl)));
       }
 
-  pub down_init : length rs ≡ filled slots → end_of o ≤ limit → Down (length slots) rs o
+  pub down_init : length rs ≡ filled slots → end_of o ≤ limit → BucketsWritten (length slots) rs o
   down_init c lim = record {
     out = [];
     done = [];
@@ -129,7 +129,7 @@ module _ {X R : Type 0} (size limit : ℕ) (f : Format X R) (slots : List (Optio
     within = lim;
   }
 
-  pub down_end : (left : List R) (o1 : Output) → Down 0 left o1 → WroteBuckets size f limit slots rs o o1
+  pub down_end : (left : List R) (o1 : Output) → BucketsWritten 0 left o1 → WroteBuckets size f limit slots rs o o1
   down_end left o1 d =
       let e : left ≡ [] = nil_from_length left d.count in
       (d.out, (d.appended, d.within), subst (λ z. SlotImages size f slots z (end_of o1) d.out) (sym (d.all ∙ ap (λ (z : List R). z ++ d.done) e)) d.images)

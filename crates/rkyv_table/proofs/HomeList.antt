@@ -7,7 +7,7 @@ use Rattle.std.proofs.lemmas.List.{ext_get_or, get_or-map, get_or_past, length-m
 use Rattle.std.proofs.lemmas.List.FromFn.{get_or-map-range_with_len, length-map-range_with_len}
 use Rattle.std.proofs.lemmas.List.Sums.{fold-append, passes_at_first}
 use Rattle.std.proofs.lemmas.Bool.{both_ways, cases_Bool, cases_lt, eqb-true, le-ltb, lt-ltb, or_parts}
-use Rattle.rkyv_table.specs.{Homes, Written, bucket_control, control_count, homes, is_free, probed, tag, with_home, written_controls}
+use Rattle.rkyv_table.specs.{AreHomes, AreWrittenControls, bucket_control, control_count, homes, is_free, probed, tag, with_home, written_controls}
 use Rattle.rkyv_table.proofs.FirstFree.{free_probed}
 use Rattle.rkyv_table.proofs.Lists.{none_find}
 use Rattle.rkyv_table.proofs.Search.{cases_option, control_of}
@@ -23,7 +23,7 @@ with_home_is cap h b taken e = ap (λ o. taken ++ unwrap_or o 0 ∷ []) e
 one_more_home : (cap : ℕ) (hashes : List ℕ) (i : ℕ) → i < length hashes → homes cap (take (i + 1) hashes) ≡ with_home cap (homes cap (take i hashes)) (get_or hashes i 0)
 one_more_home cap hashes i h = ap (fold (with_home cap) []) (take_more hashes i 0 h) ∙ fold-append (with_home cap) [] (take i hashes) (get_or hashes i 0 ∷ [])
 
-front_homes : (cap : ℕ) (hashes xs : List ℕ) → Homes cap hashes xs → (i : ℕ) → i ≤ length hashes → homes cap (take i hashes) ≡ take i xs
+front_homes : (cap : ℕ) (hashes xs : List ℕ) → AreHomes cap hashes xs → (i : ℕ) → i ≤ length hashes → homes cap (take i hashes) ≡ take i xs
 front_homes cap hashes xs p zero h = refl
 front_homes cap hashes xs p (suc i) h =
     let count = p.count in
@@ -32,7 +32,7 @@ front_homes cap hashes xs p (suc i) h =
     let f = with_home_is cap (get_or hashes i 0) (get_or xs i 0) (take i xs) (p.first i (omega arith)) in
     rw s (one_more_home cap hashes i (omega arith) ∙ ap (λ t. with_home cap t (get_or hashes i 0)) ih ∙ f ∙ sym (take_more xs i 0 (omega arith)))
 
-pub homes_one_list : (cap : ℕ) (hashes xs : List ℕ) → Homes cap hashes xs → xs ≡ homes cap hashes
+pub homes_one_list : (cap : ℕ) (hashes xs : List ℕ) → AreHomes cap hashes xs → xs ≡ homes cap hashes
 homes_one_list cap hashes xs p =
     let count = p.count in
     let f = front_homes cap hashes xs p (length hashes) (omega arith) in
@@ -47,7 +47,7 @@ next_home cap h taken room =
       | inr some ↦ some
     ]
 
-front_exist : (cap : ℕ) (hashes : List ℕ) → length hashes < cap → (i : ℕ) → i ≤ length hashes → Homes cap (take i hashes) (homes cap (take i hashes))
+front_exist : (cap : ℕ) (hashes : List ℕ) → length hashes < cap → (i : ℕ) → i ≤ length hashes → AreHomes cap (take i hashes) (homes cap (take i hashes))
 front_exist cap hashes room zero h = record { count = refl; first = λ i l. absurd (omega arith) }
 front_exist cap hashes room (suc i) h =
     let s : suc i ≡ i + 1 = omega arith in
@@ -58,7 +58,7 @@ front_exist cap hashes room (suc i) h =
     let e = one_more_home cap hashes i (omega arith) ∙ with_home_is cap (get_or hashes i 0) n.0 (homes cap (take i hashes)) n.1 in
     rw (s, e, take_more hashes i 0 (omega arith)) (homes_more cap (get_or hashes i 0) n.0 (take i hashes) (homes cap (take i hashes)) ih n.1)
 
-pub homes_exist : (cap : ℕ) (hashes : List ℕ) → length hashes < cap → Homes cap hashes (homes cap hashes)
+pub homes_exist : (cap : ℕ) (hashes : List ℕ) → length hashes < cap → AreHomes cap hashes (homes cap hashes)
 homes_exist cap hashes room =
     let f = front_exist cap hashes room (length hashes) (omega arith) in
     rw (take_all (length hashes) hashes (omega arith)) at f
@@ -69,7 +69,7 @@ none_within : (P : ℕ → Bool) (xs : List ℕ) → list_any P xs ≡ false →
 none_within P [] h = omega arith
 none_within P (x ∷ xs) h = let u = or_parts (P x) (list_any P xs) h in let ih = none_within P xs u.1 in rw u.0 (omega arith)
 
-bucket_is : (cap : ℕ) (hashes xs controls : List ℕ) (b : ℕ) → Written cap hashes xs controls → b < cap → get_or controls b 0 ≡ bucket_control cap hashes b
+bucket_is : (cap : ℕ) (hashes xs controls : List ℕ) (b : ℕ) → AreWrittenControls cap hashes xs controls → b < cap → get_or controls b 0 ≡ bucket_control cap hashes b
 bucket_is cap hashes xs controls b w hb =
     let count = w.placed.count in
     let same = homes_one_list cap hashes xs w.placed in
@@ -86,18 +86,18 @@ bucket_is cap hashes xs controls b w hb =
           ap (λ z. get_or controls z 0) e ∙ w.tags i (omega arith) ∙ sym (rw (← same) (get_or-map tag hashes i 0 255 (omega arith)))
     ]
 
-pub written_one_list : (cap : ℕ) (hashes xs controls : List ℕ) → 0 < cap → Written cap hashes xs controls → controls ≡ written_controls cap hashes
+pub written_one_list : (cap : ℕ) (hashes xs controls : List ℕ) → 0 < cap → AreWrittenControls cap hashes xs controls → controls ≡ written_controls cap hashes
 unfolding written_controls
 written_one_list cap hashes xs controls pos w =
     let f = λ (q : ℕ). cond (ltb q (2 * cap)) (bucket_control cap hashes (q % cap)) 255 in
     let n = control_count cap in
-    let count = w.repeats.count in
+    let count = w.wrapped.count in
     let l = length-map-range_with_len f 0 n in
     ext_get_or 0 controls (map f (range_with_len 0 n)) (omega arith) (λ q h.
     let hq : q < n = omega arith in
     let e = get_or-map-range_with_len f 0 n q q 0 hq (omega arith) in
     let at : get_or controls q 0 ≡ f q = elim (cases_lt q (2 * cap)) [
-      | inl two ↦ rw (lt-ltb q (2 * cap) two) (control_of cap controls q pos w.repeats two hq ∙ bucket_is cap hashes xs controls (q % cap) w (mod_below q cap pos))
+      | inl two ↦ rw (lt-ltb q (2 * cap) two) (control_of cap controls q pos w.wrapped two hq ∙ bucket_is cap hashes xs controls (q % cap) w (mod_below q cap pos))
       | inr past ↦ rw (le-ltb q (2 * cap) past) (w.past q past hq)
     ] in
     at ∙ sym e)

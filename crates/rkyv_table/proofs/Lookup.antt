@@ -5,7 +5,7 @@ use Rattle.std.proofs.lemmas.List.FromFn.{get_or-range_with_len, length-range_wi
 use Rattle.std.proofs.lemmas.List.Folds.{Any-from_list_any}
 use Rattle.std.proofs.lemmas.Nat.{mod_below}
 use Rattle.std.proofs.lemmas.Bool.{and_parts, cases_Bool, cases_eq, cases_lt, eq-eqb, le-leb, ltb-false, ltb-true, ne_eqb, not-false, not-true, or_from, or_left, or_parts, or_right}
-use Rattle.rkyv_table.specs.{AreValidControls, IsFullBucket, IsFullInStride, candidates, control_count, end, ends_at, found, marked, probe_capacity, start, stride_has_empty, strides, tag, walk}
+use Rattle.rkyv_table.specs.{AreValidControls, IsFullBucket, IsFullInStride, candidates, control_count, ends_at, found, marked, probe_capacity, probe_length, start, stride_has_empty, strides, tag, walk}
 use Rattle.rkyv_scan.specs.{IsKind, Kind}
 use Rattle.rkyv_table.proofs.Coverage.{count_strides, covered, has_stride, stride_below}
 use Rattle.rkyv_table.proofs.Lists.{any_member, any_range, contains_member, none_find, some_find}
@@ -74,7 +74,7 @@ ends_somewhere kind controls cap len h t accept a =
     let q = v.1 in
     let below = (and_parts (ltb p (probe_capacity cap)) (eqb (p % 16) (start h cap % 16)) (sym (has_stride h cap p pos) ∙ v.2)).0 in
     let lp = ltb-true p (probe_capacity cap) below in
-    let k = control_of cap controls q pos a.repeats v.5 (omega arith) in
+    let k = control_of cap controls q pos a.wrapped v.5 (omega arith) in
     let e : 128 ≤ get_or controls q 0 = rw (k, v.6) w.2 in
     let s = any_range (λ q. leb 128 (get_or controls q 0)) p 16 q v.3 v.4 (le-leb 128 (get_or controls q 0) e) in
     let d = or_right (list_any accept (candidates kind controls cap t p)) (stride_has_empty controls p) s in
@@ -90,8 +90,8 @@ stride_full cap len controls stride p q a lp lq e f =
     let f' : get_or controls (p + q) 0 < 128 = rw at at f in
     let inside : p + q < control_count cap = omega arith in
     elim (cases_lt (p + q) (2 * cap)) [
-      | inl two ↦ (two, (mod_below (p + q) cap some, rw (control_of cap controls (p + q) some a.repeats two inside) at f'))
-      | inr over ↦ let n : 128 ≤ get_or controls (p + q) 0 = a.repeats.past (p + q) over inside in absurd (omega arith)
+      | inl two ↦ (two, (mod_below (p + q) cap some, rw (control_of cap controls (p + q) some a.wrapped two inside) at f'))
+      | inr over ↦ let n : 128 ≤ get_or controls (p + q) 0 = a.wrapped.past (p + q) over inside in absurd (omega arith)
     ]
 
 -- the bucket of a full control byte of a stride
@@ -101,7 +101,7 @@ shown_full cap len controls stride p a lp e b s = let k = stride_full cap len co
 pub found_is : (kind : Kind) (controls : List ℕ) (cap len h : ℕ) (accept : ℕ → Bool) → (len ≡ 0 → ⊥) → found kind controls cap len h accept ≡ found_along kind controls cap (tag h) accept (strides h cap)
 found_is kind controls cap len h accept n = rw (ne_eqb len 0 n) refl
 
-pub end_is : (kind : Kind) (controls : List ℕ) (cap len h : ℕ) (accept : ℕ → Bool) → (len ≡ 0 → ⊥) → end kind controls cap len h accept ≡ suc (end_index kind controls cap (tag h) accept (strides h cap))
+pub end_is : (kind : Kind) (controls : List ℕ) (cap len h : ℕ) (accept : ℕ → Bool) → (len ≡ 0 → ⊥) → probe_length kind controls cap len h accept ≡ suc (end_index kind controls cap (tag h) accept (strides h cap))
 end_is kind controls cap len h accept n = rw (ne_eqb len 0 n) refl
 
 -- the number of strides is below 2^60
@@ -109,7 +109,7 @@ pub few_strides : (h cap : ℕ) → 0 < cap → control_count cap < 2 ^ 64 → l
 few_strides h cap pos c = let n = count_strides h cap pos in omega arith
 
 -- the bound: at most one stride for sixteen indices
-pub end_within : (kind : Kind) (controls : List ℕ) (cap len h : ℕ) (accept : ℕ → Bool) → (0 < len → AreValidControls cap len controls) → end kind controls cap len h accept ≤ probe_capacity cap / 16
+pub end_within : (kind : Kind) (controls : List ℕ) (cap len h : ℕ) (accept : ℕ → Bool) → (0 < len → AreValidControls cap len controls) → probe_length kind controls cap len h accept ≤ probe_capacity cap / 16
 end_within kind controls cap len h accept a = elim (cases_eq len 0) [
   | inl z ↦ rw (eq-eqb len 0 z) (omega arith)
   | inr n ↦
@@ -132,9 +132,9 @@ marked_walked kind cap len h t p q controls law a small here lo hi mark =
     let full = mark_full kind law controls t p q small lo mark in
     let two : q < 2 * cap = elim (cases_lt q (2 * cap)) [
       | inl l ↦ l
-      | inr over ↦ let n : 128 ≤ get_or controls q 0 = a.repeats.past q over inside in absurd (omega arith)
+      | inr over ↦ let n : 128 ≤ get_or controls q 0 = a.wrapped.past q over inside in absurd (omega arith)
     ] in
     let b = q % cap in
     let lb = mod_below q cap some in
-    let full' : get_or controls b 0 < 128 = rw (control_of cap controls q some a.repeats two inside) at full in
+    let full' : get_or controls b 0 < 128 = rw (control_of cap controls q some a.wrapped two inside) at full in
     (two, full_walked cap controls b (lb, full'))

@@ -12,7 +12,7 @@ use Rattle.std.proofs.lemmas.Option.{none-some, same_Some, slice_get-get_or}
 use Rattle.std.proofs.lemmas.Bool.{cases_Bool, cases_eq, cases_lt, and_parts, and_from, eq-eqb, eqb-true, ne_eqb, not-false, or_left, or_right, true≢false}
 use Rattle.rkyv_scan.specs.{IsKind, Kind, is_full}
 use Rattle.rkyv_scan.proofs.Indices.{range_agree}
-use Rattle.rkyv_table.specs.{AcceptsSame, AloneAccepted, AreValidControls, IsSameness, NoneAccepted, Written, candidates, ends_at, found, is_found_at, is_misplaced, marked, misplaced, repeated, repeats_earlier, strides, tag, walk}
+use Rattle.rkyv_table.specs.{AcceptsSame, AloneAccepted, AreValidControls, AreWrittenControls, IsSameness, NoneAccepted, candidates, ends_at, found, is_found_at, is_misplaced, marked, misplaced, repeated, repeats_earlier, strides, tag, walk}
 use Rattle.rkyv_table.proofs.Lists.{any_filter, any_map_filter, any_member, contains_member, distinct_filter, member_contains, some_find}
 use Rattle.rkyv_table.proofs.Lookup.{found_is, marked_walked}
 use Rattle.rkyv_table.proofs.Search.{cases_option, found_along, found_along_cons}
@@ -155,7 +155,7 @@ by_indices xs =
     (λ i h. sym (get_or-map-range_with_len f 0 n i i 0 h (omega arith)))
 
 module _ (kind : Kind) (cap : ℕ) (hashes homes controls : List ℕ) (hash_at : ℕ → ℕ) (same_at : ℕ → ℕ → Bool) (law : IsKind kind) (room : length hashes < cap)
-    (fits : (j : ℕ) → j < length hashes → get_or hashes j 0 < 2 ^ 64) (w : Written cap hashes homes controls) (same : IsSameness hash_at same_at hashes homes) where
+    (fits : (j : ℕ) → j < length hashes → get_or hashes j 0 < 2 ^ 64) (w : AreWrittenControls cap hashes homes controls) (same : IsSameness hash_at same_at hashes homes) where
   distinct_walk : IsDistinct eqb (walk controls cap)
   unfolding walk
   distinct_walk = distinct_filter (λ b. is_full (get_or controls b 0)) (range_with_len 0 cap) (distinct_range cap)

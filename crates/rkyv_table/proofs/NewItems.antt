@@ -4,7 +4,7 @@ use Rattle.std.specs.Prelude.{slice_get, slice_set}
 use Rattle.std.specs.Int.{Width}
 use Rattle.std.proofs.lemmas.List.{length-map}
 use Rattle.std.proofs.lemmas.Option.{none-some, same_Some, slice_get_within}
-use Rattle.rkyv_base.specs.{ElementSpec, IsElement, Keeps, RepresentsLocally, Sealed, Viewable}
+use Rattle.rkyv_base.specs.{ElementSpec, IsElement, ModifiesOnly, RepresentsLocally, StaysValid, Viewable}
 use Rattle.rkyv_table.specs.{IsWalked, IsWrittenOf, KeepsTable, hashes_of, home_positions, item_at, items_of, table_spec}
 use Rattle.rkyv_table.proofs.Lists.{set_each}
 use Rattle.rkyv_table.proofs.ValidTable.{item_viewable}
@@ -74,7 +74,7 @@ module _ {X : Type 0} (w : Width) (s : ElementSpec) (law : IsElement s) (represe
 -- a write of one item in place keeps the list but for this item
 pub items_written : {X : Type 0} (w : Width) (s : ElementSpec) (law : IsElement s) (represents : List ℕ → ℕ → X → Type 0) (local : RepresentsLocally s represents) (b c : List ℕ) (p n hash : ℕ) (pairs : List (ℕ × X)) (old new : X)
     (view : Viewable (table_spec w s) b p) (of : IsWrittenOf w s.size represents b p pairs) (at_n : slice_get pairs n ≡ Some (hash, old))
-    → Sealed b (item_at w s.size b p (slice_index of.homes n)) s.size c → Keeps s b c (item_at w s.size b p (slice_index of.homes n))
+    → ModifiesOnly b (item_at w s.size b p (slice_index of.homes n)) s.size c → StaysValid s b c (item_at w s.size b p (slice_index of.homes n))
     → represents c (item_at w s.size b p (slice_index of.homes n)) new → IsWrittenOf w s.size represents c p (slice_set pairs n (hash, new))
 items_written w s law represents local b c p n hash pairs old new view of at_n sealed keeps one =
     let there = walked w s law represents local b c p n hash pairs old new view of at_n n (slice_get_within pairs n (hash, old) at_n) in

@@ -6,7 +6,7 @@ use Rattle.std.proofs.lemmas.Bool.{cases_Bool, not-false}
 use Rattle.std.proofs.lemmas.List.{ext_get_or, get_or_default}
 use Rattle.std.proofs.lemmas.Option.{get_or_from_slice_get, slice_get_cases}
 use Rattle.rkyv_base.specs.{ElementSpec, Format, padding, round_up, zeros}
-use Rattle.rkyv_table.specs.{IsHeader, Placed, SlotImages, SlotParts, Slotted, TableBytes, TableResolver, TableWritten, WritesOneWay, capacity, hashes_of, header_bytes, is_free, items_of, resolved_capacity, table_format}
+use Rattle.rkyv_table.specs.{AreInSlots, ArePlaced, IsHeader, SlotImages, SlotParts, TableBytes, TableResolver, TableWritten, WritesOneWay, capacity, hashes_of, header_bytes, is_free, items_of, resolved_capacity, table_format}
 use Rattle.rkyv_table.specs.Lemmas.TableSound.{capacity_above}
 use Rattle.rkyv_table.proofs.HomeList.{homes_one_list, written_one_list}
 use Rattle.rkyv_table.proofs.Lists.{member_contains}
@@ -57,7 +57,7 @@ module _ {X R : Type 0} (f : Format X R) (one : WritesOneWay f) where
 
 -- one list of slots has each item in its home bucket, and no other
 module _ {X : Type 0} (cap : ℕ) (homes : List ℕ) (items : List X) where
-  slot_one_way : (slots slots' : List (Option X)) → Slotted cap homes items slots → Slotted cap homes items slots' → (b : ℕ) → b < cap → get_or slots b None ≡ get_or slots' b None
+  slot_one_way : (slots slots' : List (Option X)) → AreInSlots cap homes items slots → AreInSlots cap homes items slots' → (b : ℕ) → b < cap → get_or slots b None ≡ get_or slots' b None
   slot_one_way slots slots' s s' b below = elim (cases_Bool (is_free homes b)) [
     | inl free ↦ get_or_from_slice_get slots b None None (s.others b below free) ∙ sym (get_or_from_slice_get slots' b None None (s'.others b below free))
     | inr taken ↦
@@ -72,16 +72,16 @@ module _ {X : Type 0} (cap : ℕ) (homes : List ℕ) (items : List X) where
         ]
   ]
 
-  slots_one_way : (slots slots' : List (Option X)) → Slotted cap homes items slots → Slotted cap homes items slots' → slots ≡ slots'
+  slots_one_way : (slots slots' : List (Option X)) → AreInSlots cap homes items slots → AreInSlots cap homes items slots' → slots ≡ slots'
   slots_one_way slots slots' s s' =
       ext_get_or None slots slots' (s.count ∙ sym s'.count) (λ b below. slot_one_way slots slots' s s' b (subst (λ n. b < n) s.count below))
 
 placed_one_way : {X : Type 0} (cap : ℕ) (pairs : List (ℕ × X)) (slots slots' : List (Option X)) (controls controls' : List ℕ) → 0 < cap
-    → Placed cap pairs slots controls → Placed cap pairs slots' controls' → (slots ≡ slots') × (controls ≡ controls')
+    → ArePlaced cap pairs slots controls → ArePlaced cap pairs slots' controls' → (slots ≡ slots') × (controls ≡ controls')
 placed_one_way cap pairs slots slots' controls controls' some t t' =
     let hashes = hashes_of pairs in
     let homes : t'.homes ≡ t.homes = homes_one_list cap hashes t'.homes t'.written.placed ∙ sym (homes_one_list cap hashes t.homes t.written.placed) in (
-      slots_one_way cap t.homes (items_of pairs) slots slots' t.slotted (subst (λ (hs : List ℕ). Slotted cap hs (items_of pairs) slots') homes t'.slotted),
+      slots_one_way cap t.homes (items_of pairs) slots slots' t.slotted (subst (λ (hs : List ℕ). AreInSlots cap hs (items_of pairs) slots') homes t'.slotted),
       written_one_list cap hashes t.homes controls some t.written ∙ sym (written_one_list cap hashes t'.homes controls' some t'.written),
     )
 

@@ -8,7 +8,7 @@ use Rattle.std.proofs.lemmas.List.Elements.{All-append, All-cons, All-nil}
 use Rattle.std.proofs.lemmas.List.Folds.{list_any-append}
 use Rattle.std.proofs.lemmas.Option.{none-some, same_Some, slice_get_within}
 use Rattle.std.proofs.lemmas.Bool.{both_ways, eq-eqb, leb-true, not-true, not_from_false, or_parts}
-use Rattle.rkyv_table.specs.{AreHashes, HasRoom, Placed, Slotted, Written, filled, fresh_controls, hashes_of, is_empty_at, is_free, items_of, probed, strides, tag, with_control}
+use Rattle.rkyv_table.specs.{AreHashes, AreInSlots, ArePlaced, AreWrittenControls, HasRoom, filled, fresh_controls, hashes_of, is_empty_at, is_free, items_of, probed, strides, tag, with_control}
 use Rattle.rkyv_table.proofs.Written.{probed_below}
 use Rattle.rkyv_table.proofs.WrittenStep.{free_empty, fresh, one_more, room_left}
 use Rattle.rkyv_table.proofs.Lists.{some_find}
@@ -63,7 +63,7 @@ fit_more : (hashes : List ℕ) (h : ℕ) → AreHashes hashes → h < 2 ^ 64 →
 fit_more hashes h f hh = All-append (λ x. x < 2 ^ 64) hashes (h ∷ []) f (All-cons (λ x. x < 2 ^ 64) h [] hh (All-nil (λ x. x < 2 ^ 64)))
 
 module _ {X : Type 0} (cap : ℕ) (homes : List ℕ) (items : List X) (slots : List (Option X)) (b : ℕ) (x : X) where
-  slotted_more : Slotted cap homes items slots → b < cap → is_free homes b ≡ true → ((i : ℕ) → i < length homes → get_or homes i 0 ≢ b) → Slotted cap (homes ++ b ∷ []) (items ++ x ∷ []) (set slots b (Some x))
+  slotted_more : AreInSlots cap homes items slots → b < cap → is_free homes b ≡ true → ((i : ℕ) → i < length homes → get_or homes i 0 ≢ b) → AreInSlots cap (homes ++ b ∷ []) (items ++ x ∷ []) (set slots b (Some x))
   slotted_more s hb free apart = record {
     full = filled_set slots b x (s.others b hb free) ∙ ap (λ n. n + 1) s.full ∙ sym (length_push homes b);
     count = length-set slots b (Some x) ∙ s.count;
@@ -89,18 +89,18 @@ module _ {X : Type 0} (cap : ℕ) (homes : List ℕ) (items : List X) (slots : L
 
 module _ {X : Type 0} (cap : ℕ) (pairs : List (ℕ × X)) (slots : List (Option X)) (controls : List ℕ) where
   -- the first empty bucket that a hash shows has a slot
-  pub bucket_inside : 0 < cap → Placed cap pairs slots controls → (h b : ℕ) → find (is_empty_at controls) (probed h cap) ≡ Some b → b < length slots
+  pub bucket_inside : 0 < cap → ArePlaced cap pairs slots controls → (h b : ℕ) → find (is_empty_at controls) (probed h cap) ≡ Some b → b < length slots
   bucket_inside pos p h b e = omega (arith, probed_below (is_empty_at controls) cap b (strides h cap) pos e, p.slotted.count)
 
   -- some bucket is empty
-  pub placed_room : Placed cap pairs slots controls → length pairs < cap → HasRoom cap controls
+  pub placed_room : ArePlaced cap pairs slots controls → length pairs < cap → HasRoom cap controls
   placed_room p h =
       let n = length-map pairs (λ (y : ℕ × X). y.0) in
       room_left cap (hashes_of pairs) p.homes controls p.written (λ j l. p.hashes j 0 l) (omega arith)
 
   module _ (h b : ℕ) (x : X) where
-    pub placed_more : 0 < cap → Placed cap pairs slots controls → h < 2 ^ 64 → find (is_empty_at controls) (probed h cap) ≡ Some b
-        → Placed cap (pairs ++ (h, x) ∷ []) (set slots b (Some x)) (with_control controls cap b (tag h))
+    pub placed_more : 0 < cap → ArePlaced cap pairs slots controls → h < 2 ^ 64 → find (is_empty_at controls) (probed h cap) ≡ Some b
+        → ArePlaced cap (pairs ++ (h, x) ∷ []) (set slots b (Some x)) (with_control controls cap b (tag h))
     placed_more pos p hh e =
         let homes : List ℕ = p.homes in
         let w = p.written in
@@ -118,18 +118,18 @@ module _ {X : Type 0} (cap : ℕ) (pairs : List (ℕ × X)) (slots : List (Optio
         ) in
         let mh : hashes_of (pairs ++ (h, x) ∷ []) ≡ hashes_of pairs ++ h ∷ [] = map-append (λ (y : ℕ × X). y.0) pairs ((h, x) ∷ []) in
         let mi : items_of (pairs ++ (h, x) ∷ []) ≡ items_of pairs ++ x ∷ [] = map-append (λ (y : ℕ × X). y.1) pairs ((h, x) ∷ []) in
-        let w' : Written cap (hashes_of pairs ++ h ∷ []) (homes ++ b ∷ []) (with_control controls cap b (tag h)) = one_more cap h b (hashes_of pairs) homes controls pos w fits hh e in
-        let s' : Slotted cap (homes ++ b ∷ []) (items_of pairs ++ x ∷ []) (set slots b (Some x)) = slotted_more cap homes (items_of pairs) slots b x p.slotted hb (free_empty cap (hashes_of pairs) homes controls b w fits hb ∙ (some_find (is_empty_at controls) (probed h cap) b e).1) apart in
+        let w' : AreWrittenControls cap (hashes_of pairs ++ h ∷ []) (homes ++ b ∷ []) (with_control controls cap b (tag h)) = one_more cap h b (hashes_of pairs) homes controls pos w fits hh e in
+        let s' : AreInSlots cap (homes ++ b ∷ []) (items_of pairs ++ x ∷ []) (set slots b (Some x)) = slotted_more cap homes (items_of pairs) slots b x p.slotted hb (free_empty cap (hashes_of pairs) homes controls b w fits hb ∙ (some_find (is_empty_at controls) (probed h cap) b e).1) apart in
         let f' : AreHashes (hashes_of pairs ++ h ∷ []) = fit_more (hashes_of pairs) h p.hashes hh in
         record {
           homes = homes ++ b ∷ [];
           hashes = subst AreHashes (sym mh) f';
-          written = subst (λ z. Written cap z (homes ++ b ∷ []) (with_control controls cap b (tag h))) (sym mh) w';
-          slotted = subst (λ z. Slotted cap (homes ++ b ∷ []) z (set slots b (Some x))) (sym mi) s';
+          written = subst (λ z. AreWrittenControls cap z (homes ++ b ∷ []) (with_control controls cap b (tag h))) (sym mh) w';
+          slotted = subst (λ z. AreInSlots cap (homes ++ b ∷ []) z (set slots b (Some x))) (sym mi) s';
         }
 
 -- no pair is placed
-pub placed_none : {X : Type 0} (cap : ℕ) → 0 < cap → Placed {X = X} cap [] (replicate cap None) (fresh_controls cap)
+pub placed_none : {X : Type 0} (cap : ℕ) → 0 < cap → ArePlaced {X = X} cap [] (replicate cap None) (fresh_controls cap)
 placed_none {X = X} cap pos = record {
   homes = [];
   hashes = All-nil (λ h. h < 2 ^ 64);

@@ -43,7 +43,7 @@ module _ (w : Width) (s : ElementSpec) (law : IsElement s) (b : List ℕ) (p : �
       All-weaker (IsWalked w b p) (IsAhead pos s.size controls)
       (λ i h.
       let some : 0 < cap_at w b p = omega (arith, h.0) in
-      let long = (controls_accepted w s law b p v some).repeats.count in
+      let long = (controls_accepted w s law b p v some).wrapped.count in
       (rw (shown some) (omega (arith, h.0, long)), rw (is some) (item_before w s law b p v i h.0)))
       (walk (table_controls w b p) (cap_at w b p)) walked_all
 

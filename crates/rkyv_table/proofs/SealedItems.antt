@@ -4,7 +4,7 @@ use Rattle.rkyv_base.specs.declared.width.Word.{Ghosts as Words}
 use Rattle.std.proofs.Common.{◌≡◌, ℕ, ◌+◌, ◌-◌, ◌*◌, ◌<◌, ◌≤◌, suc, inl, inr, refl, sym, ap, subst, ◌∙◌, arith, List, ◌∷◌, length, slice_index, slice_range, take, drop, get_or-take}
 use Rattle.std.specs.Int.{Width}
 use Rattle.std.proofs.lemmas.Bool.{cases_eq, le-ltb, lt-ltb}
-use Rattle.rkyv_base.specs.{ElementSpec, IsElement, Keeps, Sealed, Viewable, archive_in, pos_in}
+use Rattle.rkyv_base.specs.{ElementSpec, IsElement, ModifiesOnly, StaysValid, Viewable, archive_in, pos_in}
 use Rattle.rkyv_scan.specs.{is_full}
 use Rattle.rkyv_scan.proofs.Indices.{range_agree}
 use Rattle.rkyv_table.specs.{IsItemAt, IsReadAt, IsSealIter, IsTableSeal, IsWalked, KeepsTable, StaysThere, cap_at, control_count, controls_pos, cursor_buckets_left, full_from, item_at, len_at, pos_before, table_bytes, table_controls, table_pos, table_spec, walk}
@@ -95,10 +95,10 @@ module _ {T : Type 0} (w : Width) (s : ElementSpec) (law : IsElement s) (p : ℕ
 
 -- a cursor over a table that was kept
 module _ {T : Type 0} (w : Width) (s : ElementSpec) (p i q : ℕ) (before after : RawIterSeal T) (is : IsSealIter w s p before) (item : IsItemAt w s before.archive.now p i q)
-    (there : StaysThere before after) (sealed : Sealed before.archive.now q s.size after.archive.now) (keeps : Keeps s before.archive.now after.archive.now q) where
+    (there : StaysThere before after) (sealed : ModifiesOnly before.archive.now q s.size after.archive.now) (keeps : StaysValid s before.archive.now after.archive.now q) where
   cursor_table : KeepsTable w s before.archive.now after.archive.now p i
   cursor_table =
-      item.kept after.archive.now (subst (λ x. Sealed before.archive.now x s.size after.archive.now) item.pos sealed) (subst (Keeps s before.archive.now after.archive.now) item.pos keeps)
+      item.kept after.archive.now (subst (λ x. ModifiesOnly before.archive.now x s.size after.archive.now) item.pos sealed) (subst (StaysValid s before.archive.now after.archive.now) item.pos keeps)
 
   cursor_buckets : cursor_buckets_left w p after ≡ cursor_buckets_left w p before
   cursor_buckets = ap (λ xs. full_from xs after.cap after.next) cursor_table.controls

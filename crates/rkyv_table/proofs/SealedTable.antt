@@ -5,7 +5,7 @@ use Rattle.std.proofs.Common.{arith, subst, sym, ◌∙◌, ap, inl, inr}
 use Rattle.std.proofs.lemmas.Bool.{cases_eq, cases_lt}
 use Rattle.std.proofs.lemmas.Int.{ints}
 use Rattle.std.proofs.Math.Nat.{mul-le-mul_right}
-use Rattle.rkyv_base.specs.{AgreeOn, ElementSpec, IsElement, Keeps, Outside, Sealed, Viewable, entry_spec, value_pos, whole_size}
+use Rattle.rkyv_base.specs.{AgreeOn, ElementSpec, IsElement, ModifiesOnly, Outside, StaysValid, Viewable, entry_spec, value_pos, whole_size}
 use Rattle.rkyv_base.specs.Lemmas.Entry.{entry_element, key_and_value_inside, size_of_small}
 use Rattle.rkyv_base.proofs.Sealing.{entry_kept, same_outside, sealed_wider, valid_outside}
 use Rattle.rkyv_table.proofs.SameTable.{written_there}
@@ -28,7 +28,7 @@ buckets_apart size begin cap i j li lj ne = elim (cases_lt i j) [
 ]
 
 module _ (s : ElementSpec) (law : IsElement s) (b c : List ℕ) (begin cap i : ℕ) (walked : i < cap)
-    (sealed : Sealed b (bucket_at s.size begin cap i) s.size c) (keeps : Keeps s b c (bucket_at s.size begin cap i)) where
+    (sealed : ModifiesOnly b (bucket_at s.size begin cap i) s.size c) (keeps : StaysValid s b c (bucket_at s.size begin cap i)) where
   abbrev at : ℕ → ℕ
   at = bucket_at s.size begin cap
 
@@ -71,18 +71,18 @@ parts_before w s law b p e t j l walked h =
     omega (arith, same, d.2, k.1)
 
 module _ (w : Width) (s : ElementSpec) (law : IsElement s) (b : List ℕ) (p i : ℕ) (view : Viewable (table_spec w s) b p) (walked : IsWalked w b p i)
-    (c : List ℕ) (sealed : Sealed b (item_at w s.size b p i) s.size c) (keeps : Keeps s b c (item_at w s.size b p i)) where
+    (c : List ℕ) (sealed : ModifiesOnly b (item_at w s.size b p i) s.size c) (keeps : StaysValid s b c (item_at w s.size b p i)) where
   whole : ValidPart w s b p 0 p view.valid.0
   whole = part_of w s law b p view (omega (arith, walked.0))
 
   at_is : (j : ℕ) → j < cap_at w b p → item_at w s.size b p j ≡ bucket_at s.size whole.begin (cap_at w b p) j
   at_is j h = decoded_item w s.size b p whole.begin whole.part.begins j h
 
-  sealed_at : Sealed b (bucket_at s.size whole.begin (cap_at w b p) i) s.size c
-  sealed_at = subst (λ q. Sealed b q s.size c) (at_is i walked.0) sealed
+  sealed_at : ModifiesOnly b (bucket_at s.size whole.begin (cap_at w b p) i) s.size c
+  sealed_at = subst (λ q. ModifiesOnly b q s.size c) (at_is i walked.0) sealed
 
-  keeps_at : Keeps s b c (bucket_at s.size whole.begin (cap_at w b p) i)
-  keeps_at = subst (Keeps s b c) (at_is i walked.0) keeps
+  keeps_at : StaysValid s b c (bucket_at s.size whole.begin (cap_at w b p) i)
+  keeps_at = subst (StaysValid s b c) (at_is i walked.0) keeps
 
   header_same : AgreeOn b c p (p + 3 * byte_len w)
   header_same =
@@ -97,8 +97,8 @@ module _ (w : Width) (s : ElementSpec) (law : IsElement s) (b : List ℕ) (p i :
       inr (
         n,
         part,
-        part_kept s law b c n (cap_at w b p) i walked.0 (subst (λ m. Sealed b (bucket_at s.size m (cap_at w b p) i) s.size c) same sealed_at)
-            (subst (λ m. Keeps s b c (bucket_at s.size m (cap_at w b p) i)) same keeps_at) (len_at w b p) lo part.above is,
+        part_kept s law b c n (cap_at w b p) i walked.0 (subst (λ m. ModifiesOnly b (bucket_at s.size m (cap_at w b p) i) s.size c) same sealed_at)
+            (subst (λ m. StaysValid s b c (bucket_at s.size m (cap_at w b p) i)) same keeps_at) (len_at w b p) lo part.above is,
         e,
       )
 
@@ -147,7 +147,7 @@ module _ (w : Width) (s : ElementSpec) (b c : List ℕ) (p i : ℕ) (kept : Keep
 
 -- a write of the value of an entry alone keeps the table and the key
 module _ (w : Width) (k v : ElementSpec) (kl : IsElement k) (vl : IsElement v) (b : List ℕ) (p i : ℕ) (view : Viewable (table_spec w (entry_spec k v)) b p) (walked : IsWalked w b p i)
-    (c : List ℕ) (sealed : Sealed b (value_pos k v (item_at w (entry_spec k v).size b p i)) v.size c) (keeps : Keeps v b c (value_pos k v (item_at w (entry_spec k v).size b p i))) where
+    (c : List ℕ) (sealed : ModifiesOnly b (value_pos k v (item_at w (entry_spec k v).size b p i)) v.size c) (keeps : StaysValid v b c (value_pos k v (item_at w (entry_spec k v).size b p i))) where
   pub value_kept : KeepsTable w (entry_spec k v) b c p i × SameValue k b c (item_at w (entry_spec k v).size b p i)
   value_kept =
       let s = entry_spec k v in

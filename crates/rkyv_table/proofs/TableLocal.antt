@@ -9,7 +9,7 @@ use Rattle.std.specs.Prelude.{◌≡◌, ℕ, ◌+◌, ◌*◌, ◌^◌, ◌<◌
 use Rattle.rkyv_base.specs.{AgreeOn, ElementSpec, IsElement, RepresentsLocally}
 use Rattle.rkyv_base.specs.Lemmas.Bytes.{agree_on_part}
 use Rattle.rkyv_table.proofs.WrittenStep.{home_below}
-use Rattle.rkyv_table.specs.{AreValidItems, BucketsRepresent, TableRepresents, Written, bucket_at, cap_at, capacity, control_count, controls_at, hashes_of, items_of, part_size, table_spec}
+use Rattle.rkyv_table.specs.{AreValidItems, AreWrittenControls, BucketsRepresent, TableRepresents, bucket_at, cap_at, capacity, control_count, controls_at, hashes_of, items_of, part_size, table_spec}
 use Rattle.rkyv_table.specs.Lemmas.ItemPositions.{bucket_is_valid_within}
 use Rattle.rkyv_table.specs.Lemmas.SameHeader.{begin_same, cap_same, len_same}
 use Rattle.rkyv_table.specs.Lemmas.TableLaws.{bucket_inside}
@@ -40,7 +40,7 @@ module _ {X : Type 0} (w : Width) (s : ElementSpec) (laws : IsElement s) (repres
         (agree_on_part b c lo end h.lower h.rest h.above (omega (arith, w1.1)) w1.0 same) (st.items i x e)
 
     buckets_local : BucketsRepresent s.size represents c cap begin pairs
-    buckets_local = record { homes = st.homes; hashes = st.hashes; controls = subst (Written cap (hashes_of pairs) st.homes) controls_same st.controls; items = item_local }
+    buckets_local = record { homes = st.homes; hashes = st.hashes; controls = subst (AreWrittenControls cap (hashes_of pairs) st.homes) controls_same st.controls; items = item_local }
 
   -- the represented items depend only on the bytes on which validity depends
   pub table_local : RepresentsLocally (table_spec w s) (TableRepresents w s represents factor)

@@ -7,7 +7,7 @@ use Rattle.rkyv_base.specs.declared.errors.WriteError.{WriteError}
 use Rattle.rkyv_base.specs.declared.errors.WriteError.TheVariants.{CapacityTooLarge, DistanceTooLarge, InvalidLoadFactor, IteratorLengthMismatch, Memory, PositionTooLarge, Refused, TextTooLong, Writer}
 use Rattle.rkyv_base.proofs.WritingSteps.{fails_under, none_appended}
 use Rattle.rkyv_base.specs.{ElementSpec, Format, IsLayout, Output, end_of}
-use Rattle.rkyv_table.specs.{HasCapacity, InBuckets, OwnCause, PairsNext, Placed, PlacingFails, TableNext, WriteItemsFails, WriteNonemptyFails, WroteItems, WroteNonempty, capacity, table_format}
+use Rattle.rkyv_table.specs.{ArePlaced, HasCapacity, InBuckets, OwnCause, PairsNext, PlacingFails, TableNext, WriteItemsFails, WriteNonemptyFails, WroteItems, WroteNonempty, capacity, table_format}
 
 -- a capacity within the limit fits in a word
 pub capacity_fits : {word : Width} {limit table index align text text_limit : ℕ} (len : ℕ) (load_factor : ℕ × ℕ) (max : ℕ) → IsLayout word limit max table index align text text_limit
@@ -30,7 +30,7 @@ module _ {X R : Type 0} (yields : List (ℕ × X) → Type 0) (len : ℕ) (load_
         → WroteItems yields len load_factor max (table_format w s f load_factor) o o' limit (record { pos = z; len = len; load_factor = load_factor })
     wrote_some z fits (pairs, slots, controls, taken, bytes, appended, is) =
         let n : length pairs ≡ len = taken.exactly.1 in
-        let placed : Placed (capacity (length pairs) load_factor) pairs slots controls = rw n taken.placed in (
+        let placed : ArePlaced (capacity (length pairs) load_factor) pairs slots controls = rw n taken.placed in (
           has,
           pairs,
           taken.exactly,
@@ -54,7 +54,7 @@ module _ {X R : Type 0} (yields : List (ℕ × X) → Type 0) (len : ℕ) (load_
       fails_some e (inl h) = inl (own_of e h.0, h.1)
       fails_some e (inr (pairs, slots, controls, taken, told)) =
           let n : length pairs ≡ len = taken.exactly.1 in
-          let placed : Placed (capacity (length pairs) load_factor) pairs slots controls = rw n taken.placed in
+          let placed : ArePlaced (capacity (length pairs) load_factor) pairs slots controls = rw n taken.placed in
           let inside : InBuckets load_factor pairs slots controls = (omega (arith, n, some), placed) in
           inr (
             has,

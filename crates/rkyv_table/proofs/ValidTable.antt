@@ -11,7 +11,7 @@ use Rattle.rkyv_scan.specs.{Kind}
 use Rattle.rkyv_base.specs.{ElementSpec, IsElement, Viewable, signed_at}
 use Rattle.rkyv_base.specs.declared.view.View.{View}
 use Rattle.rkyv_base.specs.Lemmas.ElementSpec.{valid_at}
-use Rattle.rkyv_table.specs.{AreValidControls, IsFullBucket, IsFullIn, IsWalked, cap_at, control_count, controls_pos, end, found, item_at, len_at, table_bytes, table_controls, table_pos, table_spec}
+use Rattle.rkyv_table.specs.{AreValidControls, IsFullBucket, IsFullIn, IsWalked, cap_at, control_count, controls_pos, found, item_at, len_at, probe_length, table_bytes, table_controls, table_pos, table_spec}
 use Rattle.rkyv_table.specs.Lemmas.ItemPositions.{ValidPart, decoded_controls, decoded_item, decoded_pos, item_is_valid, valid_part}
 use Rattle.rkyv_table.specs.declared.table.ArchivedHashTable.{ArchivedHashTable}
 use Rattle.rkyv_table.specs.Lemmas.TableLaws.{bucket_aligned}
@@ -111,9 +111,9 @@ module _ {T W : Type 0} {ts : Specs T} {wt : Words W} (law : IsElement ts.spec) 
       ≡ found kind (table_controls wt.word (table_bytes t) (table_pos t)) (cap_at wt.word (table_bytes t) (table_pos t)) (len_at wt.word (table_bytes t) (table_pos t)) hash accept
   read_found kind hash accept = read_same (λ controls cap len. found kind controls cap len hash accept) (λ c d m n. refl)
 
-  pub read_end : (kind : Kind) (hash : ℕ) (accept : ℕ → Bool) → end kind controls t.header.cap t.header.len hash accept
-      ≡ end kind (table_controls wt.word (table_bytes t) (table_pos t)) (cap_at wt.word (table_bytes t) (table_pos t)) (len_at wt.word (table_bytes t) (table_pos t)) hash accept
-  read_end kind hash accept = read_same (λ controls cap len. end kind controls cap len hash accept) (λ c d m n. refl)
+  pub read_end : (kind : Kind) (hash : ℕ) (accept : ℕ → Bool) → probe_length kind controls t.header.cap t.header.len hash accept
+      ≡ probe_length kind (table_controls wt.word (table_bytes t) (table_pos t)) (cap_at wt.word (table_bytes t) (table_pos t)) (len_at wt.word (table_bytes t) (table_pos t)) hash accept
+  read_end kind hash accept = read_same (λ controls cap len. probe_length kind controls cap len hash accept) (λ c d m n. refl)
 
 -- views of one position of one archive are one view
 pub view_is : {T : Type 0} (v u : View T) → v.archive ≡ u.archive → v.pos ≡ u.pos → v ≡ u

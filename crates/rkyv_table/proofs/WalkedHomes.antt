@@ -6,7 +6,7 @@ use Rattle.std.proofs.lemmas.List.{get_or_default}
 use Rattle.std.proofs.lemmas.List.FromFn.{get_or-range_with_len, length-range_with_len}
 use Rattle.std.proofs.lemmas.List.Kept.{AllPairs-filter}
 use Rattle.rkyv_scan.specs.{is_full}
-use Rattle.rkyv_table.specs.{AreHashes, IsFullBucket, VisitsHomes, Written, is_free, walk}
+use Rattle.rkyv_table.specs.{AreHashes, AreWrittenControls, IsFullBucket, VisitsHomes, is_free, walk}
 use Rattle.rkyv_table.proofs.Lists.{member_contains}
 use Rattle.rkyv_table.proofs.Walks.{full_walked, walk_none, walked_full}
 use Rattle.rkyv_table.proofs.WrittenAccepted.{accepted_written, distinct_homes}
@@ -23,7 +23,7 @@ walk_ascends : (controls : List ℕ) (cap : ℕ) → AllPairs (λ a b. a < b) (w
 unfolding walk
 walk_ascends controls cap = AllPairs-filter (λ a b. a < b) (λ b. is_full (slice_index controls b)) (range_with_len 0 cap) (range_ascends cap)
 
-module _ (cap : ℕ) (hashes homes controls : List ℕ) (room : length hashes < cap) (fit : AreHashes hashes) (w : Written cap hashes homes controls) where
+module _ (cap : ℕ) (hashes homes controls : List ℕ) (room : length hashes < cap) (fit : AreHashes hashes) (w : AreWrittenControls cap hashes homes controls) where
   walked_home : (bucket : ℕ) → Contains (walk controls cap) bucket → Contains homes bucket
   walked_home bucket c =
       let f = walked_full cap controls bucket c in

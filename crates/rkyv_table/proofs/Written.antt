@@ -8,7 +8,7 @@ use Rattle.std.proofs.lemmas.List.Folds.{Any-from_list_any, find-append, find_at
 use Rattle.std.proofs.lemmas.List.Sums.{fails_before_first, passes_at_first}
 use Rattle.std.proofs.lemmas.Option.{none-some, same_Some, slice_get-get_or}
 use Rattle.std.proofs.lemmas.Bool.{cases_Bool, cases_lt, and_parts, and_from, and_cases, and_left, and_right, or_left, or_right, eqb-true, eq-eqb, ltb-true, lt-ltb, lt-leb, not-false, true≢false, false_from_ne_true, both_ways}
-use Rattle.rkyv_table.specs.{Written, buckets_at, candidates, control_count, ends_at, found, is_free, marked, probe_capacity, probed, start, stride_has_empty, strides, tag}
+use Rattle.rkyv_table.specs.{AreWrittenControls, buckets_at, candidates, control_count, ends_at, found, is_free, marked, probe_capacity, probed, start, stride_has_empty, strides, tag}
 use Rattle.rkyv_scan.specs.{IsKind, Kind}
 use Rattle.rkyv_table.proofs.Coverage.{has_stride}
 use Rattle.rkyv_table.proofs.Search.{GoodStride, cases_option, control_of, found_along, found_along_cons, mark_equal, mark_full, strides_head, tail_shows_all, walk_all, walk_on}
@@ -66,7 +66,7 @@ taken_home homes i b hi h =
 -- ---- a written table and a lookup under the hash `h` of its item `i`, the first accepted one
 
 pub record IsFirstAccepted (cap h i : ℕ) (hashes homes controls : List ℕ) (kind : Kind) (accept : ℕ → Bool) : Type 0 where
-  pub written : Written cap hashes homes controls
+  pub written : AreWrittenControls cap hashes homes controls
   pub law : IsKind kind
   pub hash_fits : (j : ℕ) → j < length hashes → get_or hashes j 0 < 2 ^ 64
   pub some : 0 < cap
@@ -94,7 +94,7 @@ module _ (cap h i : ℕ) (hashes homes controls : List ℕ) (kind : Kind) (accep
       let w = taken_home homes i (q % cap) (omega arith) f in
       let j = w.0 in
       let lj : j < length hashes = omega (arith, w.1) in
-      let k = control_of cap controls q a.some a.written.repeats two c in
+      let k = control_of cap controls q a.some a.written.wrapped two c in
       let t = a.written.tags j lj in
       let s = tag_small (get_or hashes j 0) (a.hash_fits j lj) in
       let e : get_or controls (q % cap) 0 ≡ get_or controls (get_or homes j 0) 0 = ap (λ z. get_or controls z 0) (sym w.2) in
@@ -140,7 +140,7 @@ module _ (cap h i : ℕ) (hashes homes controls : List ℕ) (kind : Kind) (accep
       let hi = f.to in
       let u = and_parts (ltb q (2 * cap)) (free (q % cap)) f.yes in
       let two = ltb-true q (2 * cap) u.0 in
-      let k = control_of cap controls q a.some a.written.repeats two (omega arith) in
+      let k = control_of cap controls q a.some a.written.wrapped two (omega arith) in
       let t : get_or controls q 0 ≡ tag h = k ∙ ap (λ z. get_or controls z 0) w.2 ∙ a.written.tags i a.within ∙ ap tag a.under_hash in
       let m = mark_equal kind a.law controls (tag h) p q lo t in
       let r = range_first (λ q. marked kind controls (tag h) p q && accept (q % cap)) p 16 q (record {
@@ -179,7 +179,7 @@ module _ (cap h i : ℕ) (hashes homes controls : List ℕ) (kind : Kind) (accep
       walk_all cap b free accept kind controls (tag h) st.0 (λ p hp. good p (ap (list_any (eqb p)) st.1 ∙ or_right (eqb p s) (list_any (eqb p) st.0) hp) (λ _. none)) hr) h'
 
 -- if no home bucket is accepted, no candidate is
-none_accepted : (cap h p : ℕ) (hashes homes controls : List ℕ) (kind : Kind) (accept : ℕ → Bool) → 0 < cap → h < 2 ^ 64 → IsKind kind → Written cap hashes homes controls
+none_accepted : (cap h p : ℕ) (hashes homes controls : List ℕ) (kind : Kind) (accept : ℕ → Bool) → 0 < cap → h < 2 ^ 64 → IsKind kind → AreWrittenControls cap hashes homes controls
     → list_any accept homes ≡ false → p < probe_capacity cap → find accept (candidates kind controls cap (tag h) p) ≡ None
 unfolding candidates
 none_accepted cap h p hashes homes controls kind accept pos hh law w none lp =
@@ -191,7 +191,7 @@ none_accepted cap h p hashes homes controls kind accept pos hh law w none lp =
       | inl m ↦
           let f = mark_full kind law controls (tag h) p q (tag_small h hh) lo m in
           let two : q < 2 * cap = elim (cases_lt q (2 * cap)) [ inl l ↦ l | inr g ↦ let e = w.past q g (omega arith) in absurd (omega arith) ] in
-          let k = control_of cap controls q pos w.repeats two (omega arith) in
+          let k = control_of cap controls q pos w.wrapped two (omega arith) in
           let lb = mod_below q cap pos in
           let taken : is_free homes (q % cap) ≡ false = false_from_ne_true (is_free homes (q % cap)) (λ t. let e = w.others (q % cap) lb t in absurd (omega arith)) in
           let has : list_any (eqb (q % cap)) homes ≡ true = not-false (list_any (eqb (q % cap)) homes) taken in
@@ -216,7 +216,7 @@ first_within P (x ∷ xs) h = elim (cases_Bool (P x)) [
 
 -- in written control bytes, the lookup finds the first accepted home bucket, if only items under
 -- the hash are accepted
-pub found_written : (cap h : ℕ) (hashes homes controls : List ℕ) (kind : Kind) (accept : ℕ → Bool) → length hashes < cap → h < 2 ^ 64 → IsKind kind → Written cap hashes homes controls
+pub found_written : (cap h : ℕ) (hashes homes controls : List ℕ) (kind : Kind) (accept : ℕ → Bool) → length hashes < cap → h < 2 ^ 64 → IsKind kind → AreWrittenControls cap hashes homes controls
     → ((j : ℕ) → j < length hashes → get_or hashes j 0 < 2 ^ 64)
     → ((j : ℕ) → j < length hashes → accept (get_or homes j 0) ≡ true → get_or hashes j 0 ≡ h)
     → found kind controls cap (length hashes) h accept ≡ find accept homes
@@ -249,7 +249,7 @@ find_through : {X : Type 0} (f : ℕ → X) (c : X → Bool) (bs : List ℕ) →
 find_through f c [] = refl
 find_through f c (b ∷ bs) = elim (cases_Bool (c (f b))) [ inl t ↦ rw t refl | inr e ↦ rw e (find_through f c bs) ]
 
-pub found_first : {X : Type 0} (cap h : ℕ) (hashes homes controls : List ℕ) (kind : Kind) (items : List X) (item_at : ℕ → X) (c : X → Bool) → length hashes < cap → h < 2 ^ 64 → IsKind kind → Written cap hashes homes controls
+pub found_first : {X : Type 0} (cap h : ℕ) (hashes homes controls : List ℕ) (kind : Kind) (items : List X) (item_at : ℕ → X) (c : X → Bool) → length hashes < cap → h < 2 ^ 64 → IsKind kind → AreWrittenControls cap hashes homes controls
     → ((j : ℕ) → j < length hashes → get_or hashes j 0 < 2 ^ 64)
     → items ≡ map item_at homes
     → ((j : ℕ) → j < length hashes → c (item_at (get_or homes j 0)) ≡ true → get_or hashes j 0 ≡ h)

@@ -8,13 +8,13 @@ use Rattle.std.proofs.lemmas.List.{get_or_default}
 use Rattle.std.proofs.lemmas.List.Folds.{Any-from_list_any, list_any_at}
 use Rattle.std.proofs.lemmas.List.FromFn.{get_or-range_with_len, length-range_with_len}
 use Rattle.std.proofs.lemmas.Bool.{and_from, and_parts, both_ways, eq-eqb, eqb-true, false_from_ne_true, leb-false, lt-ltb, ltb-true, ne_eqb, not-false, not-true}
-use Rattle.rkyv_table.specs.{AreValidControls, Homes, Written, is_free, probed, walk}
+use Rattle.rkyv_table.specs.{AreHomes, AreValidControls, AreWrittenControls, is_free, probed, walk}
 use Rattle.rkyv_table.proofs.Coverage.{same_tests}
 use Rattle.rkyv_table.proofs.Lists.{any_filter, any_range, distinct_filter, in_range, some_find}
 use Rattle.rkyv_table.proofs.WrittenStep.{free_empty, home_below}
 
 -- no two items have one home bucket
-pub homes_apart : (cap : ℕ) (hashes homes : List ℕ) → Homes cap hashes homes → (i j : ℕ) → i < j → j < length homes → get_or homes i 0 ≡ get_or homes j 0 → ⊥
+pub homes_apart : (cap : ℕ) (hashes homes : List ℕ) → AreHomes cap hashes homes → (i j : ℕ) → i < j → j < length homes → get_or homes i 0 ≡ get_or homes j 0 → ⊥
 homes_apart cap hashes homes p i j ij hj e =
     let count = p.count in
     let f = (some_find (is_free (take j homes)) (probed (get_or hashes j 0) cap) (get_or homes j 0) (p.first j (omega arith))).1 in
@@ -24,7 +24,7 @@ homes_apart cap hashes homes p i j ij hj e =
     let a = list_any_at (eqb (get_or homes j 0)) (take j homes) i 0 (omega arith) (rw g (eq-eqb (get_or homes j 0) (get_or homes i 0) (sym e))) in
     both_ways (list_any (eqb (get_or homes j 0)) (take j homes)) none a
 
-pub distinct_homes : (cap : ℕ) (hashes homes : List ℕ) → Homes cap hashes homes → IsDistinct eqb homes
+pub distinct_homes : (cap : ℕ) (hashes homes : List ℕ) → AreHomes cap hashes homes → IsDistinct eqb homes
 distinct_homes cap hashes homes p = IsDistinct-from_apart eqb homes (λ i j d ij hj.
     let a = get_or_default homes i d 0 (omega arith) in
     let b = get_or_default homes j d 0 hj in
@@ -40,7 +40,7 @@ distinct_range n = let l = length-range_with_len 0 n in
     rw (gi, gj) (ne_eqb (0 + i) (0 + j) (λ e. omega arith)))
 
 -- a bucket is full if and only if it is a home bucket
-pub full_home : (cap : ℕ) (hashes homes controls : List ℕ) (q : ℕ) → 0 < cap → Written cap hashes homes controls → ((j : ℕ) → j < length hashes → get_or hashes j 0 < 2 ^ 64)
+pub full_home : (cap : ℕ) (hashes homes controls : List ℕ) (q : ℕ) → 0 < cap → AreWrittenControls cap hashes homes controls → ((j : ℕ) → j < length hashes → get_or hashes j 0 < 2 ^ 64)
     → list_any (eqb q) (walk controls cap) ≡ list_any (eqb q) homes
 unfolding walk
 full_home cap hashes homes controls q pos w fits =
@@ -65,7 +65,7 @@ full_home cap hashes homes controls q pos w fits =
     let g = leb-false 128 (get_or controls q 0) (sym n ∙ free) in
     and_from (list_any (eqb q) (range_with_len 0 cap)) (F q) (any_range (eqb q) 0 cap q (omega arith) (omega arith) (eq-eqb q q refl)) (lt-ltb (get_or controls q 0) 128 (omega arith)))
 
-pub accepted_written : (cap : ℕ) (hashes homes controls : List ℕ) → length hashes < cap → Written cap hashes homes controls → ((j : ℕ) → j < length hashes → get_or hashes j 0 < 2 ^ 64) → AreValidControls cap (length hashes) controls
+pub accepted_written : (cap : ℕ) (hashes homes controls : List ℕ) → length hashes < cap → AreWrittenControls cap hashes homes controls → ((j : ℕ) → j < length hashes → get_or hashes j 0 < 2 ^ 64) → AreValidControls cap (length hashes) controls
 unfolding walk
 accepted_written cap hashes homes controls room w fits =
     let F = λ (b : ℕ). ltb (get_or controls b 0) 128 in
@@ -73,5 +73,5 @@ accepted_written cap hashes homes controls room w fits =
     record {
       room = room;
       full = length-from_same_keys nat_eq_equiv (walk controls cap) homes d (distinct_homes cap hashes homes w.placed) (λ q. full_home cap hashes homes controls q (omega arith) w fits) ∙ w.placed.count;
-      repeats = w.repeats;
+      wrapped = w.wrapped;
     }

@@ -10,7 +10,7 @@ use Rattle.std.proofs.lemmas.List.{get_or-replicate, get_or_append_left, get_or_
 use Rattle.std.proofs.lemmas.List.Folds.{Any-from_list_any, find-append, list_any-append}
 use Rattle.std.proofs.lemmas.Nat.{mod_below}
 use Rattle.std.proofs.lemmas.Bool.{both_ways, cases_Bool, cases_eq, cases_lt, eq-eqb, false_from_ne_true, le-leb, leb-true, lt-leb, ne_eqb, not-false, not-true, not_from_false, or_parts}
-use Rattle.rkyv_table.specs.{HasRoom, Homes, Written, buckets_at, control_count, is_empty_at, is_free, probed, strides, tag, with_control}
+use Rattle.rkyv_table.specs.{AreHomes, AreWrittenControls, HasRoom, buckets_at, control_count, is_empty_at, is_free, probed, strides, tag, with_control}
 use Rattle.rkyv_table.proofs.Written.{find_buckets, probed_below, tag_small, taken_home}
 use Rattle.rkyv_table.proofs.Lists.{any_member, some_find}
 
@@ -47,7 +47,7 @@ probed_agree P Q cap (p ∷ ps) pos h =
 -- ---- the step
 
 -- a bucket is free if and only if its written control byte is empty
-pub free_empty : (cap : ℕ) (hashes homes controls : List ℕ) (b : ℕ) → Written cap hashes homes controls → ((j : ℕ) → j < length hashes → get_or hashes j 0 < 2 ^ 64) → b < cap → is_free homes b ≡ is_empty_at controls b
+pub free_empty : (cap : ℕ) (hashes homes controls : List ℕ) (b : ℕ) → AreWrittenControls cap hashes homes controls → ((j : ℕ) → j < length hashes → get_or hashes j 0 < 2 ^ 64) → b < cap → is_free homes b ≡ is_empty_at controls b
 free_empty cap hashes homes controls b w fits hb =
     let len = w.placed.count in
     elim (cases_Bool (is_free homes b)) [
@@ -63,10 +63,10 @@ free_empty cap hashes homes controls b w fits hb =
           f ∙ sym (lt-leb 128 (get_or controls b 0) (omega arith))
     ]
 
-pub home_below : (cap : ℕ) (hashes homes controls : List ℕ) (i : ℕ) → 0 < cap → Written cap hashes homes controls → i < length hashes → get_or homes i 0 < cap
+pub home_below : (cap : ℕ) (hashes homes controls : List ℕ) (i : ℕ) → 0 < cap → AreWrittenControls cap hashes homes controls → i < length hashes → get_or homes i 0 < cap
 home_below cap hashes homes controls i pos w hi = probed_below (is_free (take i homes)) cap (get_or homes i 0) (strides (get_or hashes i 0) cap) pos (w.placed.first i hi)
 
-pub homes_more : (cap h b : ℕ) (hashes homes : List ℕ) → Homes cap hashes homes → find (is_free homes) (probed h cap) ≡ Some b → Homes cap (hashes ++ h ∷ []) (homes ++ b ∷ [])
+pub homes_more : (cap h b : ℕ) (hashes homes : List ℕ) → AreHomes cap hashes homes → find (is_free homes) (probed h cap) ≡ Some b → AreHomes cap (hashes ++ h ∷ []) (homes ++ b ∷ [])
 homes_more cap h b hashes homes p e =
     let n = length hashes in
     let len = p.count in
@@ -90,13 +90,13 @@ homes_more cap h b hashes homes p e =
       ];
     }
 
-pub one_more : (cap h b : ℕ) (hashes homes controls : List ℕ) → 0 < cap → Written cap hashes homes controls → ((j : ℕ) → j < length hashes → get_or hashes j 0 < 2 ^ 64) → h < 2 ^ 64
+pub one_more : (cap h b : ℕ) (hashes homes controls : List ℕ) → 0 < cap → AreWrittenControls cap hashes homes controls → ((j : ℕ) → j < length hashes → get_or hashes j 0 < 2 ^ 64) → h < 2 ^ 64
     → find (is_empty_at controls) (probed h cap) ≡ Some b
-    → Written cap (hashes ++ h ∷ []) (homes ++ b ∷ []) (with_control controls cap b (tag h))
+    → AreWrittenControls cap (hashes ++ h ∷ []) (homes ++ b ∷ []) (with_control controls cap b (tag h))
 one_more cap h b hashes homes controls pos w fits hh e =
     let n = length hashes in
     let len = w.placed.count in
-    let r = w.repeats in
+    let r = w.wrapped in
     let count = r.count in
     let hb : b < cap = probed_below (is_empty_at controls) cap b (strides h cap) pos e in
     let fb = (some_find (is_empty_at controls) (probed h cap) b e).1 in
@@ -108,7 +108,7 @@ one_more cap h b hashes homes controls pos w fits hh e =
     let whole = take_all n homes (omega arith) in
     record {
       placed = homes_more cap h b hashes homes w.placed (probed_agree (is_free homes) (is_empty_at controls) cap (strides h cap) pos (λ c hc. free_empty cap hashes homes controls c w fits hc) ∙ e);
-      repeats = record {
+      wrapped = record {
         count = let l = length-set (set controls b t) (cap + b) t in let m = length-set controls b t in omega arith;
         repeated = λ q lo two c. elim (cases_eq q (cap + b)) [
           | inl s ↦
@@ -149,12 +149,12 @@ fresh_at : (n q : ℕ) → q < n → get_or {A = ℕ} (replicate n 255) q 0 ≡ 
 fresh_at n q h = get_or-replicate n q 255 0 h
 
 -- the fresh control bytes are those of no item
-pub fresh : (cap : ℕ) → 0 < cap → Written cap [] [] (replicate (control_count cap) 255)
+pub fresh : (cap : ℕ) → 0 < cap → AreWrittenControls cap [] [] (replicate (control_count cap) 255)
 fresh cap pos =
     let at = λ (q : ℕ) (h : q < control_count cap). fresh_at (control_count cap) q h in
     record {
       placed = record { count = refl; first = λ i hi. absurd (omega arith) };
-      repeats = record {
+      wrapped = record {
         count = length-replicate (control_count cap) 255;
         repeated = λ q lo two c. at q c ∙ sym (at (q - cap) (omega arith));
         past = λ q g c. let e = at q c in omega arith;
@@ -190,7 +190,7 @@ free_bucket cap homes h =
     ]
 
 -- written control bytes leave a bucket empty
-pub room_left : (cap : ℕ) (hashes homes controls : List ℕ) → Written cap hashes homes controls → ((j : ℕ) → j < length hashes → get_or hashes j 0 < 2 ^ 64) → length hashes < cap → HasRoom cap controls
+pub room_left : (cap : ℕ) (hashes homes controls : List ℕ) → AreWrittenControls cap hashes homes controls → ((j : ℕ) → j < length hashes → get_or hashes j 0 < 2 ^ 64) → length hashes < cap → HasRoom cap controls
 room_left cap hashes homes controls w fits h =
     let len = w.placed.count in
     let f = free_bucket cap homes (omega arith) in

@@ -5,7 +5,7 @@ use Rattle.std.proofs.lemmas.Bool.{cases_lt}
 use Rattle.std.proofs.lemmas.List.{get_or-map, length-map}
 use Rattle.std.proofs.lemmas.Option.{slice_get_within}
 use Rattle.rkyv_base.specs.{ElementSpec}
-use Rattle.rkyv_table.specs.{BucketsRepresent, IsWalked, IsWrittenOf, TableRepresents, ValidWereWritten, Written, WrittenAt, bucket_at, cap_at, capacity, controls_at, decode_begin, hashes_of, home_positions, item_at, items_of, table_controls}
+use Rattle.rkyv_table.specs.{AreWrittenControls, BucketsRepresent, IsWalked, IsWrittenOf, RepresentedWereWritten, TableRepresents, WrittenAt, bucket_at, cap_at, capacity, controls_at, decode_begin, hashes_of, home_positions, item_at, items_of, table_controls}
 use Rattle.rkyv_table.specs.Lemmas.ItemPositions.{decoded_controls, decoded_item}
 use Rattle.rkyv_table.specs.Lemmas.TableSound.{capacity_above}
 use Rattle.rkyv_table.proofs.WrittenAccepted.{homes_apart}
@@ -65,13 +65,13 @@ module _ {X : Type 0} (w : Width) (s : ElementSpec) (represents : List ℕ → �
         let room = capacity_above (length pairs) factor some in
         let count = length-map pairs (λ (x : ℕ × X). x.0) in
         let cap = t.cap in
-        let there = subst (λ n. Written n (hashes_of pairs) homes (controls_at s.size c buckets.0 n)) (sym cap) buckets.2.controls in
+        let there = subst (λ n. AreWrittenControls n (hashes_of pairs) homes (controls_at s.size c buckets.0 n)) (sym cap) buckets.2.controls in
         record {
           count = t.len ∙ sym count;
           fit = buckets.2.hashes;
           placed = inr (
             omega (arith, room, cap, count),
-            subst (λ (xs : List ℕ). Written (cap_at w c p) (hashes_of pairs) homes xs) (sym (decoded_controls w s.size c p buckets.0 buckets.1)) there,
+            subst (λ (xs : List ℕ). AreWrittenControls (cap_at w c p) (hashes_of pairs) homes xs) (sym (decoded_controls w s.size c p buckets.0 buckets.1)) there,
           );
         }
 
@@ -90,6 +90,6 @@ module _ {X : Type 0} (w : Width) (s : ElementSpec) (represents : List ℕ → �
     some_written = record { homes = homes; written = written; at = item_there }
 
 -- a table that represents items was written from them
-pub table_written : {X : Type 0} (w : Width) (s : ElementSpec) (represents : List ℕ → ℕ → X → Type 0) (factor : ℕ × ℕ) → ValidWereWritten w s represents factor
+pub table_written : {X : Type 0} (w : Width) (s : ElementSpec) (represents : List ℕ → ℕ → X → Type 0) (factor : ℕ × ℕ) → RepresentedWereWritten w s represents factor
 table_written w s represents factor c p [] t = none_written w s represents factor c p t
 table_written w s represents factor c p (x ∷ xs) t = some_written w s represents factor c p (x ∷ xs) t (omega arith)

@@ -7,5 +7,5 @@ pub mod Placing
 pub mod Finding
 pub mod StrideOutcome
 pub mod Walking
-pub mod Repeating
+pub mod Wrapping
 pub mod Laws

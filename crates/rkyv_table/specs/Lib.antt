@@ -11,20 +11,19 @@ unfoldable pub use Controls.ControlBytes.{HasRoom, IsFullBucket, empty_index, fr
 unfoldable pub use Controls.ControlBytes.{is_empty_at, with_control}
 unfoldable pub use Controls.Placing.{bucket_control, homes, is_free, walk, with_home}
 unfoldable pub use Controls.Placing.{written_controls}
-pub use Controls.Placing.{AreValidControls, Homes, IsWrapped, Written}
-unfoldable pub use Controls.Finding.{ComparesByBucket, candidates, end, ends_at, found, lookup}
-unfoldable pub use Controls.Finding.{marked, stride_has_empty}
+pub use Controls.Placing.{AreHomes, AreValidControls, AreWrittenControls, IsWrapped}
+unfoldable pub use Controls.Finding.{ComparesByBucket, candidates, ends_at, found, lookup, marked}
+unfoldable pub use Controls.Finding.{probe_length, stride_has_empty}
 pub use Controls.Finding.{FindsBucket, Lookup, ReadsWithin}
 unfoldable pub use Controls.StrideOutcome.{IsAcceptedBy, IsFullIfAccepted, IsFullInStride, IsMarked}
 unfoldable pub use Controls.StrideOutcome.{IsStrideOutcome, SeesFirst}
 unfoldable pub use Controls.Walking.{first_index, full_from, left}
 pub use Controls.Walking.{IsWalk}
-unfoldable pub use Controls.Repeating.{IsWrappedAt}
-pub use Controls.Repeating.{FirstUnwrapped}
+unfoldable pub use Controls.Wrapping.{IsWrappedAt}
+pub use Controls.Wrapping.{FirstUnwrapped}
 unfoldable pub use Controls.Laws.{AreHashes, BucketsAreProbed, FoundOnWritten, HomesAreOneList}
 unfoldable pub use Controls.Laws.{HomesExist, IsUnderHash, MarkedAreWalked, SearchIsBounded}
-unfoldable pub use Controls.Laws.{StridesCover, WalkedAreFull, WrittenAreAccepted}
-unfoldable pub use Controls.Laws.{WrittenAreOneList}
+unfoldable pub use Controls.Laws.{StridesCover, WalkedAreFull, WrittenAreOneList, WrittenAreValid}
 pub use Controls.Laws.{IsCover}
 unfoldable pub use Table.Header.{HeaderOverflows, cap_at, controls_pos, decode_begin, header_bytes}
 unfoldable pub use Table.Header.{len_at}
@@ -34,7 +33,7 @@ unfoldable pub use Table.Layout.{AreValidItems, FailsInside, IsValidTable, Table
 unfoldable pub use Table.Layout.{TableFailsAt, bucket_at, controls_at, part_size, table_spec}
 pub use Table.Layout.{IsPart}
 unfoldable pub use Table.Positions.{IsWalked, bucket_found, home_positions, item_at, item_positions}
-unfoldable pub use Table.Positions.{lookup_end, pos_found, table_controls}
+unfoldable pub use Table.Positions.{pos_found, probe_length_at, table_controls}
 pub use Table.Positions.{WrittenAt}
 unfoldable pub use Table.Reading.{CanCompare, ComparesBy, CountsEnd, CountsWithin, FindsFirst}
 unfoldable pub use Table.Reading.{FindsFound, IsAcceptedAt, IsFullIn, IsItem, IsItemPos, item_pos}
@@ -48,7 +47,7 @@ unfoldable pub use Table.Slots.{WritesBuckets, WritesParts, WritesSlots, WroteBu
 unfoldable pub use Table.Slots.{filled, item_format, placed_slots, slots_with}
 pub use Table.Slots.{Bucket, ItemFormat, PlacedSlots, ResolvedSlots, TableBytes}
 unfoldable pub use Table.PlacedItems.{HasEmptyBucket, hashes_of, items_of}
-pub use Table.PlacedItems.{Placed, Slotted}
+pub use Table.PlacedItems.{AreInSlots, ArePlaced}
 unfoldable pub use Table.Counting.{Counted, CountedOn, CountsDiffer, YieldsBoth, YieldsOtherCount}
 unfoldable pub use Table.Input.{PlacesInput, from_both, from_iter}
 pub use Table.Input.{Input}
@@ -82,7 +81,7 @@ unfoldable pub use Table.Misplaced.{NoneAccepted, NoneMisplacedIsComplete, Repea
 unfoldable pub use Table.Misplaced.{all_strides, is_found_at, is_misplaced, misplaced, own_strides}
 unfoldable pub use Table.Misplaced.{repeated, repeats_earlier}
 pub use Table.Misplaced.{AcceptsSame, AloneAccepted, IsSameness}
-unfoldable pub use Table.WrittenTables.{ItemsWrittenRepresent, ValidWereWritten}
+unfoldable pub use Table.WrittenTables.{ItemsWrittenRepresent, RepresentedWereWritten}
 pub use Table.WrittenTables.{IsWrittenOf}
 unfoldable pub use Table.FirstItem.{AgreesAt, AreUnder, IsFirstOf, LookupFindsFirst, TestsAgree}
 unfoldable pub use Table.FirstItem.{first_of}

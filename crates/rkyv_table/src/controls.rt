@@ -11,7 +11,7 @@
 //! - `numbers` has the capacity, the number of control bytes, and the start and tag of a hash.
 //! - `probe` has the probe sequence, and `reciprocal` computes its start without a division.
 //! - `place` finds the home bucket of an item, and `find` looks an item up.
-//! - `walk` visits the full buckets, and `repeats` validates the mirrored control bytes.
+//! - `walk` visits the full buckets, and `wrapped` validates the mirrored control bytes.
 
 pub mod find;
 pub mod laws;
@@ -19,5 +19,5 @@ pub mod numbers;
 pub mod place;
 pub mod probe;
 pub mod reciprocal;
-pub mod repeats;
 pub mod walk;
+pub mod wrapped;

@@ -11,8 +11,9 @@ use Rattle.rkyv_base.specs.Lemmas.Bytes.{agree_on_part}
 use Rattle.rkyv_base.specs.Lemmas.Entry.{entry_element, same_key}
 use Rattle.rkyv_base.specs.Lemmas.Pairs.{pair_is_format, pair_local}
 use Rattle.rkyv_base.specs.Lemmas.ElementSpec.{valid_at}
-use Rattle.rkyv_table.specs.{IsValidTable, IsWrittenOf, TableRepresents, Written, WrittenAt, cap_at}
-use Rattle.rkyv_table.specs.{capacity, hashes_of, home_positions, item_at, items_of, table_controls}
+use Rattle.rkyv_table.specs.{AreWrittenControls, IsValidTable, IsWrittenOf, TableRepresents}
+use Rattle.rkyv_table.specs.{WrittenAt, cap_at, capacity, hashes_of, home_positions, item_at}
+use Rattle.rkyv_table.specs.{items_of, table_controls}
 use Rattle.rkyv_table.specs.Lemmas.TableSound.{table_is_format}
 use Rattle.rkyv_table.specs.Lemmas.ItemPositions.{IsValidWithin, ValidPart, item_is_valid}
 use Rattle.rkyv_table.specs.Lemmas.ItemPositions.{valid_part}
@@ -134,8 +135,9 @@ module _ (k v : ElementSpec) (kl : IsElement k) (vl : IsElement v) (w : Width) w
           | inl e ↦ inl e
           | inr e ↦ inr (
             subst (λ n. length hashes < n) (cap_same w b c p fixed) e.0,
-            subst (λ n. Written n hashes st.homes (table_controls w c p)) (cap_same w b c p fixed)
-                (subst (λ (xs : List ℕ). Written (cap_at w b p) hashes st.homes xs)
+            subst (λ n. AreWrittenControls n hashes st.homes (table_controls w c p))
+                (cap_same w b c p fixed)
+                (subst (λ (xs : List ℕ). AreWrittenControls (cap_at w b p) hashes st.homes xs)
                 (same_controls w S law b c p lo hi l o h fixed part
                 (omega (arith, e.0))) e.1),
           )

@@ -17,7 +17,7 @@ use Rattle.rkyv_base.specs.{value_offset}
 use Rattle.rkyv_base.specs.Lemmas.Empty.{unit_element}
 use Rattle.rkyv_base.specs.Lemmas.Entry.{entry_element}
 use Rattle.rkyv_base.specs.Lemmas.ElementSpec.{valid_at}
-use Rattle.rkyv_keys.specs.{RepresentsOnce}
+use Rattle.rkyv_keys.specs.{RepresentsUniquely}
 use Rattle.rkyv_keys.specs.Lemmas.OfEntries.{valid_key, valid_value}
 use Rattle.rkyv_table.specs.{IsWalked, cap_at, item_at, item_positions, table_controls, walk}
 use Rattle.rkyv_table.specs.{with_units}
@@ -89,7 +89,7 @@ module _ {A B : Type 0} (equal : A → A → Bool) (laws : IsEquivalence equal) 
 
     module _ (k v : ElementSpec) (kl : IsElement k) (vl : IsElement v) (w : Width)
         (key : List ℕ → ℕ → A → Type 0) (value : List ℕ → ℕ → B → Type 0)
-        (ka : RepresentsOnce k key equal) (va : RepresentsOnce v value same) where
+        (ka : RepresentsUniquely k key equal) (va : RepresentsUniquely v value same) where
       entry_valid : (b : List ℕ) (p : ℕ) → ValidAt (map_spec w k v) b p → (i : ℕ)
           → IsWalked w b p i → ValidAt (entry_spec k v) b (item_at w (entry_spec k v).size b p i)
       entry_valid b p st i walked =
@@ -135,7 +135,7 @@ module _ {A B : Type 0} (equal : A → A → Bool) (laws : IsEquivalence equal) 
           ∙ inserted_alike x.pairs y.pairs z (λ _. None) (λ _. None) q refl
 
       pub std_map_once : {S : Type 0}
-          → RepresentsOnce {V =
+          → RepresentsUniquely {V =
           HashMap A B S} (map_spec w k v) (StdMapRepresents k v key value w equal)
           (hash_map_eq equal same)
       std_map_once m n b p st x y = maps_alike m n (entries_alike b p st m.entries n.entries x y)
@@ -150,8 +150,8 @@ module _ {A : Type 0} (equal : A → A → Bool) (laws : IsEquivalence equal) wh
   same_test unit false false h = refl
 
   pub std_set_once : {S : Type 0} (k : ElementSpec) → IsElement k
-      → (w : Width) (key : List ℕ → ℕ → A → Type 0) → RepresentsOnce k key equal
-      → RepresentsOnce {V = HashSet A S} (set_spec w k) (StdSetRepresents k key w equal)
+      → (w : Width) (key : List ℕ → ℕ → A → Type 0) → RepresentsUniquely k key equal
+      → RepresentsUniquely {V = HashSet A S} (set_spec w k) (StdSetRepresents k key w equal)
       (hash_set_eq equal)
   std_set_once k kl w key ka s t b p st x y =
       let unit : Unit {0} = tt in

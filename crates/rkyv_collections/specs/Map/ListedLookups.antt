@@ -21,11 +21,11 @@ AgreesOnKeys {A} k key b accept accept_value = (a : A) (q : ℕ) → ValidAt k b
 module _ {A B : Type 0} (k v : ElementSpec) (key : List ℕ → ℕ → A → Type 0)
     (value : List ℕ → ℕ → B → Type 0) where
   -- the position is that of the pair, or there is neither
-  abbrev pub IsPairOf : List ℕ → Option ℕ → Option (A × B) → Type 0
-  IsPairOf b None None = Unit {0}
-  IsPairOf b (Some q) (Some pair) = PairRepresents k v key value b q pair
-  IsPairOf b None (Some pair) = ⊥
-  IsPairOf b (Some q) None = ⊥
+  abbrev pub IsPosOfPair : List ℕ → Option ℕ → Option (A × B) → Type 0
+  IsPosOfPair b None None = Unit {0}
+  IsPosOfPair b (Some q) (Some pair) = PairRepresents k v key value b q pair
+  IsPosOfPair b None (Some pair) = ⊥
+  IsPosOfPair b (Some q) None = ⊥
 
 module _ {A B K V H W : Type 0} {ks : Specs K} {vs : Specs V} {wt : Words W}
     (key : List ℕ → ℕ → A → Type 0) (value : List ℕ → ℕ → B → Type 0) (key_hash : List ℕ → ℕ → ℕ)

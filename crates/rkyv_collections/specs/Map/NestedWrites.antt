@@ -2,7 +2,7 @@
 use Rattle.std.specs.Prelude.{◌≡◌, ◌≢◌, ℕ, ◌+◌, ◌*◌, ◌-◌, ◌≤◌, List, Some}
 use Rattle.std.specs.Int.{Width, byte_len}
 use Rattle.std.specs.Option.{option_map}
-use Rattle.rkyv_base.specs.{AgreeOn, ElementSpec, Sealed, Viewable, entry_spec, value_pos}
+use Rattle.rkyv_base.specs.{AgreeOn, ElementSpec, ModifiesOnly, Viewable, entry_spec, value_pos}
 use Rattle.rkyv_table.specs.{IsWalked, WritesValue, table_controls}
 use Rattle.rkyv_collections.specs.Map.InPlace.{with_first}
 use Rattle.rkyv_collections.specs.Map.{FindsFirstKeyAt, MapWrittenAt}
@@ -13,9 +13,10 @@ use Rattle.rkyv_collections.specs.Map.ValueWrites.{entry_at}
 
 -- `c`: bytes `b` after a write among the parts of the value at `q`. A valid value
 -- stays valid with the same lower end, and the bytes outside its parts are unchanged
-pub record WritesParts (s : ElementSpec) (b c : List ℕ) (q : ℕ) : Type 0 where
+pub record WritesAmongParts (s : ElementSpec) (b c : List ℕ) (q : ℕ) : Type 0 where
   pub is_valid : (lo hi l : ℕ) → lo ≤ hi → hi ≤ q → s.is_valid b q lo hi l → s.is_valid c q lo hi l
-  pub sealed : (lo hi l : ℕ) → lo ≤ hi → hi ≤ q → s.is_valid b q lo hi l → Sealed b lo (l - lo) c
+  pub sealed : (lo hi l : ℕ) → lo ≤ hi → hi ≤ q → s.is_valid b q lo hi l
+      → ModifiesOnly b lo (l - lo) c
 
 -- the value at `q` is valid, with its parts in some range before it
 pub record IsValidBefore (s : ElementSpec) (b : List ℕ) (q : ℕ) : Type 0 where
@@ -39,7 +40,7 @@ module _ (w : Width) (k v : ElementSpec) where
   -- and the write is among the parts of the map
   pub record KeepsOuterMap (key_hash : List ℕ → ℕ → ℕ) (b c : List ℕ) (p i : ℕ) : Type 0 where
     pub valid : Viewable (map_spec w k v) c p
-    pub nested : WritesParts (map_spec w k v) b c p
+    pub nested : WritesAmongParts (map_spec w k v) b c p
     pub header : AgreeOn b c p (p + 3 * byte_len w)
     pub controls : table_controls w c p ≡ table_controls w b p
     pub positions : (j : ℕ) → entry_at w k v c p j ≡ entry_at w k v b p j
@@ -55,13 +56,13 @@ module _ (w : Width) (k v : ElementSpec) where
   abbrev pub ValueWritesAreNested : Type 0
   ValueWritesAreNested =
       (b c : List ℕ) (p i : ℕ) → Viewable (map_spec w k v) b p → IsWalked w b p i
-      → WritesValue k v b c (entry_at w k v b p i) → WritesParts (map_spec w k v) b c p
+      → WritesValue k v b c (entry_at w k v b p i) → WritesAmongParts (map_spec w k v) b c p
 
   -- a write among the parts of the value of a key keeps the map
   abbrev pub NestedWritesKeepMaps : (List ℕ → ℕ → ℕ) → Type 0
   NestedWritesKeepMaps key_hash =
       (b c : List ℕ) (p q : ℕ) → Viewable (map_spec w k v) b p → (at : IsKeyPosAt w k v b p q)
-      → WritesParts v b c (value_pos k v q) → KeepsOuterMap key_hash b c p at.0
+      → WritesAmongParts v b c (value_pos k v q) → KeepsOuterMap key_hash b c p at.0
 
   -- The map represents a list of pairs, and the value of the first pair with a key
   -- equal to `query` is written among its parts. The map then represents
@@ -75,6 +76,6 @@ module _ (w : Width) (k v : ElementSpec) where
       → MapRepresents w k v keys.represents value keys.key_hash factor b p pairs
       → FindsFirstKeyAt w k v b p keys.key_hash (keys.fits query b)
       (λ key_pos. Some pos ≡ option_map (value_pos k v) key_pos)
-      → WritesParts v b c pos → value c pos new
+      → WritesAmongParts v b c pos → value c pos new
       → MapRepresents w k v keys.represents value keys.key_hash factor c p
       (with_first (keys.equal query) new pairs)

@@ -21,8 +21,8 @@
 ghost use Rattle.std.specs.Prelude.{IfSome, length, ℕ, ◌+◌, ◌≡◌, ◌≤◌};
 ghost use Rattle.rkyv_base.specs.{Viewable, value_pos};
 ghost use Rattle.rkyv_collections.specs.{FoundValueHasAt, IsKeyPosAt, MayWriteFound, SetsFirst};
-ghost use Rattle.rkyv_collections.specs.{SetsValue, WritesFound, WritesParts, map_at, map_bytes};
-ghost use Rattle.rkyv_collections.specs.{map_pos, map_spec, query_of_value};
+ghost use Rattle.rkyv_collections.specs.{SetsValue, WritesAmongParts, WritesFound, map_at};
+ghost use Rattle.rkyv_collections.specs.{map_bytes, map_pos, map_spec, query_of_value};
 ghost use Rattle.rkyv_keys.specs.{query_of};
 
 pub mod iter_seal;
@@ -153,7 +153,7 @@ pub fn set_value_of<
     ensures listed { SetsFirst (map_at W.Word K.HasSpec N.HasSpec archive.old root)
         (query_of_value H.hasher K.key_calls K.represents (A.eq key.now))
         N.encoding value result archive.new }
-    ensures parts { WritesParts (map_spec W.word K.spec N.spec)
+    ensures parts { WritesAmongParts (map_spec W.word K.spec N.spec)
         archive.old archive.new root }
 {
     match ArchivedHashMap::<K, N, H, W>::value_pos_in(&*archive, root, key) {

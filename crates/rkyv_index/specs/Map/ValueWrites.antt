@@ -2,7 +2,7 @@
 use Rattle.std.specs.Prelude.{◌≡◌, ◌≢◌, ℕ, ◌+◌, ◌*◌, ◌<◌, ◌^◌, List, Bool, Some, slice_get}
 use Rattle.std.specs.Prelude.{slice_set}
 use Rattle.std.specs.Int.{Width, byte_len}
-use Rattle.rkyv_base.specs.{AgreeOn, ElementSpec, Keeps, Viewable, entry_spec, value_pos}
+use Rattle.rkyv_base.specs.{AgreeOn, ElementSpec, StaysValid, Viewable, entry_spec, value_pos}
 use Rattle.rkyv_table.specs.{RestsOnKey, SameValue, WritesValue, len_at}
 use Rattle.rkyv_index.specs.Map.{fits_in, index_found}
 use Rattle.rkyv_index.specs.Map.IndexFormat.{IndexRepresents, IndexWrittenAt}
@@ -16,7 +16,7 @@ module _ (w : Width) (k v : ElementSpec) where
   -- The index map at `p` of `b` is kept in `c`, but for the value at index `i`.
   -- Its header, the bytes before its entries, all keys and all other entries are unchanged.
   pub record KeepsEntries (b c : List ℕ) (p i : ℕ) : Type 0 where
-    pub is_valid : Keeps (index_spec w (entry_spec k v)) b c p
+    pub is_valid : StaysValid (index_spec w (entry_spec k v)) b c p
     pub header : AgreeOn b c p (p + 4 * byte_len w)
     pub front : AgreeOn b c 0 (entries_pos w b p)
     pub keys : (j : ℕ) → j < len_at w b p → SameValue k b c (pair_at b p j)

@@ -7,7 +7,7 @@ use Rattle.rkyv_base.specs.{ElementSpec, IsElement, PairRepresents, ValidAt, ent
 use Rattle.rkyv_base.specs.{value_offset}
 use Rattle.rkyv_base.specs.Lemmas.ElementSpec.{valid_at}
 use Rattle.rkyv_base.specs.Lemmas.Entry.{same_parts}
-use Rattle.rkyv_keys.specs.Equality.{Comparison, EqualsOnce, IsEquivalence, RepresentsOnce}
+use Rattle.rkyv_keys.specs.Equality.{Comparison, EqualsUniquely, IsEquivalence, RepresentsUniquely}
 use Rattle.rkyv_keys.specs.Keys.{FitsItsEqual, IsKey, IsQuery}
 use Rattle.rkyv_keys.specs.OfEntries.{entry_calls, entry_equals, entry_fits, entry_same, pair_calls}
 use Rattle.rkyv_keys.specs.OfEntries.{BothRead}
@@ -97,16 +97,16 @@ module _ {k v : ElementSpec} (kl : IsElement k) (vl : IsElement v) where
   module _ {A B : Type 0} (key : List ℕ → ℕ → A → Type 0) (value : List ℕ → ℕ → B → Type 0) where
     pub entry_equals_once : (key_equals : List ℕ → ℕ → A → Type 0)
         (value_equals : List ℕ → ℕ → B → Type 0) (ke : A → A → Bool) (ve : B → B → Bool)
-        → EqualsOnce k key key_equals ke → EqualsOnce v value value_equals ve
-        → EqualsOnce (entry_spec k v) (PairRepresents k v key value)
+        → EqualsUniquely k key key_equals ke → EqualsUniquely v value value_equals ve
+        → EqualsUniquely (entry_spec k v) (PairRepresents k v key value)
         (entry_equals k v key_equals value_equals) (λ x y. ke x.0 y.0 && ve x.1 y.1)
     entry_equals_once key_equals value_equals ke ve ka va x y b p h st eq =
         and_from (ke x.0 y.0) (ve x.1 y.1) (ka x.0 y.0 b p (valid_key b p h) st.0 eq.0)
         (va x.1 y.1 b (p + value_offset k v) (valid_value b p h) st.1 eq.1)
 
-    pub entry_once : (ke : A → A → Bool) (ve : B → B → Bool) → RepresentsOnce k key ke
-        → RepresentsOnce v value ve
-        → RepresentsOnce (entry_spec k v) (PairRepresents k v key value)
+    pub entry_once : (ke : A → A → Bool) (ve : B → B → Bool) → RepresentsUniquely k key ke
+        → RepresentsUniquely v value ve
+        → RepresentsUniquely (entry_spec k v) (PairRepresents k v key value)
         (λ x y. ke x.0 y.0 && ve x.1 y.1)
     entry_once ke ve ka va = entry_equals_once key value ke ve ka va
 

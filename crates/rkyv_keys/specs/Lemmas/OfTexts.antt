@@ -7,8 +7,8 @@ use Rattle.rkyv_scan.specs.{HasherCall}
 use Rattle.rkyv_base.specs.{TextReads, text_at, text_spec}
 use Rattle.rkyv_base.specs.Lemmas.Text.{text_local}
 use Rattle.rkyv_keys.specs.{Comparison, FitsItsEqual, IsEquivalence, IsKey, IsQuery}
-use Rattle.rkyv_keys.specs.{MakesFixedCalls, ReadsAnywhere, RepresentsOnce, same_bytes, text_calls}
-use Rattle.rkyv_keys.specs.{value_calls, value_fits, values_same}
+use Rattle.rkyv_keys.specs.{MakesFixedCalls, ReadsAnywhere, RepresentsUniquely, same_bytes}
+use Rattle.rkyv_keys.specs.{text_calls, value_calls, value_fits, values_same}
 use Rattle.rkyv_keys.specs.Lemmas.QueryLaws.{native_once}
 use Rattle.rkyv_keys.specs.Lemmas.Fixed.{text_fixed}
 use Rattle.rkyv_keys.specs.Lemmas.OfValues.{value_equivalence}
@@ -55,8 +55,8 @@ module _ (w : Width) where
     text_query = value_query (text_spec w) (text_at w) same_bytes bytes_decides text_calls as_value
 
     -- a text represents only values with its bytes
-    pub text_once : RepresentsOnce (text_spec w) (IsTextOf as_value) (λ q v. same_bytes (as_value q)
-        (as_value v))
+    pub text_once : RepresentsUniquely (text_spec w) (IsTextOf as_value)
+        (λ q v. same_bytes (as_value q) (as_value v))
     text_once =
         native_once (text_spec w) (IsTextOf as_value) (λ q v. same_bytes (as_value q) (as_value v))
         (text_fits as_value) (text_fits_its_equal as_value as_value)

@@ -5,7 +5,7 @@ use Rattle.std.proofs.lemmas.Bool.Decides.{same_from_decides}
 use Rattle.rkyv_scan.specs.{Hasher, HasherCall, hash_of_calls}
 use Rattle.rkyv_base.specs.{ElementSpec, IsElement, ValidAt}
 use Rattle.rkyv_keys.specs.{Comparison, FitsByValue, FitsItsEqual, HashLocal, HashesAsWritten}
-use Rattle.rkyv_keys.specs.{IsEquivalence, IsKey, IsQuery, RepresentsOnce, RestsOnKeys, hash_at}
+use Rattle.rkyv_keys.specs.{IsEquivalence, IsKey, IsQuery, RepresentsUniquely, RestsOnKeys, hash_at}
 
 -- the hash of a key depends only on the bytes on which the validity of the key depends
 pub hash_local : {State : Type 0} (hasher : Hasher State) {k : ElementSpec} {same : Comparison}
@@ -50,7 +50,7 @@ module _ {V : Type 0} (s : ElementSpec) (same : Comparison) (key_calls : List �
 -- the native values that one key represents are equal
 pub native_once : {V : Type 0} (s : ElementSpec) (represents : List ℕ → ℕ → V → Type 0)
     (equal : V → V → Bool) (fits : V → List ℕ → ℕ → Bool) → FitsItsEqual s represents equal fits
-    → ((v : V) → equal v v ≡ true) → RepresentsOnce s represents equal
+    → ((v : V) → equal v v ≡ true) → RepresentsUniquely s represents equal
 native_once s represents equal fits native itself v x b p h st st' = sym (native v x b p h st')
     ∙ native v v b p h st ∙ itself v
 

@@ -30,8 +30,8 @@ ends_at kind controls cap t accept p =
     list_any accept (candidates kind controls cap t p) || stride_has_empty controls p
 
 -- the number of the stride at which the search ends, counted from 1, or 0 in an empty table
-abbrev pub end : Kind → List ℕ → ℕ → ℕ → ℕ → (ℕ → Bool) → ℕ
-end kind controls cap len hash accept =
+abbrev pub probe_length : Kind → List ℕ → ℕ → ℕ → ℕ → (ℕ → Bool) → ℕ
+probe_length kind controls cap len hash accept =
     cond (len == 0) 0 (suc (position_or_len (ends_at kind controls cap (tag hash) accept)
     (strides hash cap)))
 
@@ -83,4 +83,4 @@ pub record FindsBucket (l : Lookup) (post : ℕ → Bool → Type 0) (before aft
   pub finds : (accept : ℕ → Bool) → ComparesByBucket post (IsFullBucket l.cap l.controls) accept
       → result ≡ found l.kind l.controls l.cap l.len l.hash accept
   pub counted : (accept : ℕ → Bool) → ComparesByBucket post (IsFullBucket l.cap l.controls) accept
-      → after ≡ before + end l.kind l.controls l.cap l.len l.hash accept
+      → after ≡ before + probe_length l.kind l.controls l.cap l.len l.hash accept

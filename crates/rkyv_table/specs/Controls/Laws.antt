@@ -6,9 +6,9 @@ use Rattle.rkyv_scan.specs.{IsKind, Kind}
 use Rattle.rkyv_table.specs.Controls.ControlBytes.{IsFullBucket}
 use Rattle.rkyv_table.specs.Controls.Numbers.{probe_capacity, start}
 use Rattle.rkyv_table.specs.Controls.Probe.{probed, strides}
-use Rattle.rkyv_table.specs.Controls.Placing.{AreValidControls, Homes, Written, homes, walk}
-use Rattle.rkyv_table.specs.Controls.Placing.{written_controls}
-use Rattle.rkyv_table.specs.Controls.Finding.{end, found, marked}
+use Rattle.rkyv_table.specs.Controls.Placing.{AreHomes, AreValidControls, AreWrittenControls}
+use Rattle.rkyv_table.specs.Controls.Placing.{homes, walk, written_controls}
+use Rattle.rkyv_table.specs.Controls.Finding.{found, marked, probe_length}
 
 -- `indices`: all indices below the probe capacity that are congruent to the start modulo 16,
 -- each once
@@ -32,21 +32,22 @@ AreHashes = All (λ hash. hash < 2 ^ 64)
 
 -- fewer items than buckets have home buckets
 abbrev pub HomesExist : Type 0
-HomesExist = (cap : ℕ) (hashes : List ℕ) → length hashes < cap → Homes cap hashes (homes cap hashes)
+HomesExist = (cap : ℕ) (hashes : List ℕ) → length hashes < cap
+    → AreHomes cap hashes (homes cap hashes)
 
 -- the capacity and the hashes determine the home buckets
 abbrev pub HomesAreOneList : Type 0
-HomesAreOneList = (cap : ℕ) (hashes xs : List ℕ) → Homes cap hashes xs → xs ≡ homes cap hashes
+HomesAreOneList = (cap : ℕ) (hashes xs : List ℕ) → AreHomes cap hashes xs → xs ≡ homes cap hashes
 
 -- the capacity and the hashes determine the written control bytes
 abbrev pub WrittenAreOneList : Type 0
 WrittenAreOneList = (cap : ℕ) (hashes xs controls : List ℕ) → 0 < cap
-    → Written cap hashes xs controls → controls ≡ written_controls cap hashes
+    → AreWrittenControls cap hashes xs controls → controls ≡ written_controls cap hashes
 
 -- the written control bytes of fewer items than buckets are valid
-abbrev pub WrittenAreAccepted : Type 0
-WrittenAreAccepted = (cap : ℕ) (hashes xs controls : List ℕ) → length hashes < cap
-    → AreHashes hashes → Written cap hashes xs controls
+abbrev pub WrittenAreValid : Type 0
+WrittenAreValid = (cap : ℕ) (hashes xs controls : List ℕ) → length hashes < cap
+    → AreHashes hashes → AreWrittenControls cap hashes xs controls
     → AreValidControls cap (length hashes) controls
 
 -- a walk visits a bucket if and only if it is full
@@ -59,7 +60,7 @@ WalkedAreFull =
 abbrev pub SearchIsBounded : Type 0
 SearchIsBounded = (kind : Kind) (cap len hash : ℕ) (controls : List ℕ) (accept : ℕ → Bool)
     → (0 < len → AreValidControls cap len controls)
-    → end kind controls cap len hash accept ≤ probe_capacity cap / 16
+    → probe_length kind controls cap len hash accept ≤ probe_capacity cap / 16
 
 -- a marked index of a stride is below `2 * cap`, and its bucket is in the walk
 abbrev pub MarkedAreWalked : Type 0
@@ -78,5 +79,5 @@ IsUnderHash hash hashes xs accept = (i : ℕ) → i < length hashes → accept (
 abbrev pub FoundOnWritten : Type 0
 FoundOnWritten = (kind : Kind) (cap hash : ℕ) (hashes xs controls : List ℕ) (accept : ℕ → Bool)
     → IsKind kind → hash < 2 ^ 64 → length hashes < cap → AreHashes hashes
-    → Written cap hashes xs controls → IsUnderHash hash hashes xs accept
+    → AreWrittenControls cap hashes xs controls → IsUnderHash hash hashes xs accept
     → found kind controls cap (length hashes) hash accept ≡ find accept xs

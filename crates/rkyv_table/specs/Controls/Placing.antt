@@ -14,7 +14,7 @@ is_free taken b = not (list_any (eqb b) taken)
 
 -- `homes`: home buckets of items under `hashes`. A home bucket is the first one probed
 -- that no earlier item has
-pub record Homes (cap : ℕ) (hashes homes : List ℕ) : Type 0 where
+pub record AreHomes (cap : ℕ) (hashes homes : List ℕ) : Type 0 where
   pub count : length homes ≡ length hashes
   pub first : (i : ℕ) → i < length hashes
       → find (is_free (take i homes)) (probed (slice_index hashes i) cap)
@@ -45,13 +45,13 @@ walk controls cap = filter (λ b. is_full (slice_index controls b)) (range_with_
 pub record AreValidControls (cap len : ℕ) (controls : List ℕ) : Type 0 where
   pub room : len < cap
   pub full : length (walk controls cap) ≡ len
-  pub repeats : IsWrapped cap controls
+  pub wrapped : IsWrapped cap controls
 
 -- the control bytes of a written table: the tag at each home bucket, and 255 at other buckets
 -- and from `2 * cap` on
-pub record Written (cap : ℕ) (hashes homes controls : List ℕ) : Type 0 where
-  pub placed : Homes cap hashes homes
-  pub repeats : IsWrapped cap controls
+pub record AreWrittenControls (cap : ℕ) (hashes homes controls : List ℕ) : Type 0 where
+  pub placed : AreHomes cap hashes homes
+  pub wrapped : IsWrapped cap controls
   pub tags : (i : ℕ) → i < length hashes
       → slice_index controls (slice_index homes i) ≡ tag (slice_index hashes i)
   pub others : (b : ℕ) → b < cap → is_free homes b ≡ true → slice_index controls b ≡ 255

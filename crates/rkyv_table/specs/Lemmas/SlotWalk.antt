@@ -9,7 +9,7 @@ use Rattle.std.specs.List.{list_any, range_with_len}
 use Rattle.std.specs.Prelude.{◌≡◌, ℕ, suc, ◌+◌, ◌^◌, ◌<◌, List, [], ◌∷◌, Bool, true, false, eqb}
 use Rattle.std.specs.Prelude.{None, Option, Some, filter, length, slice_get, slice_index}
 use Rattle.rkyv_scan.specs.{is_full}
-use Rattle.rkyv_table.specs.{Placed, filled, hashes_of, is_free, items_of, walk}
+use Rattle.rkyv_table.specs.{ArePlaced, filled, hashes_of, is_free, items_of, walk}
 
 -- the buckets from `b` on whose slots have an item
 abbrev pub filled_from : {X : Type 0} → ℕ → List (Option X) → List ℕ
@@ -70,7 +70,7 @@ home_of homes b h =
     (a.0, a.2, sym d ∙ a.3 ∙ sym e)
 
 module _ {X : Type 0} (cap : ℕ) (pairs : List (ℕ × X)) (slots : List (Option X)) (controls : List ℕ)
-    (p : Placed cap pairs slots controls) where
+    (p : ArePlaced cap pairs slots controls) where
   below : (b : ℕ) (s : Option X) → slice_get slots b ≡ Some s → b < cap
   below b s e = let l = slice_get_within slots b s e in let n = p.slotted.count in omega arith
 

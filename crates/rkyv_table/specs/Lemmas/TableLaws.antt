@@ -24,7 +24,7 @@ use Rattle.rkyv_table.specs.Lemmas.ValidItemLaws.{AllBelow, all_exclusive, all_l
 use Rattle.rkyv_table.specs.Lemmas.ValidItemLaws.{all_one, all_prop}
 use Rattle.rkyv_table.specs.Lemmas.ValidItemLaws.{all_one_failure, range_below}
 use Rattle.rkyv_table.specs.Controls.Placing.{AreValidControls, IsWrapped, walk}
-use Rattle.rkyv_table.specs.Controls.Repeating.{FirstUnwrapped}
+use Rattle.rkyv_table.specs.Controls.Wrapping.{FirstUnwrapped}
 use Rattle.rkyv_table.specs.Lemmas.SameHeader.{begin_same, cap_same, len_same}
 use Rattle.rkyv_table.specs.Table.Layout.{AreValidItems, FailsInside, IsPart, TableAt, TableFailsAt}
 use Rattle.rkyv_table.specs.Table.Layout.{IsValidTable, bucket_at, controls_at, part_size}
@@ -142,7 +142,7 @@ module _ (s : ElementSpec) (law : IsElement s) where
   inside_exclusive b cap len lo begin e is (inr (last, items, inl (unequal, x))) =
       unequal is.controls.full
   inside_exclusive b cap len lo begin e is (inr (last, items, inr (equal, q, unlike, x))) =
-      repeats_exclusive cap q (controls_at s.size b begin cap) is.controls.repeats unlike
+      repeats_exclusive cap q (controls_at s.size b begin cap) is.controls.wrapped unlike
 
   at_exclusive : (b : List ℕ) (decoded : ℤ) (cap len lo hi l : ℕ) (e : VerifyError)
       → TableAt s b decoded cap len lo hi l → TableFailsAt s b decoded cap len lo hi e → ⊥

@@ -13,11 +13,11 @@ use Rattle.rkyv_base.specs.{padding, round_up, signed_at, zeros}
 use Rattle.rkyv_base.specs.Lemmas.Bytes.{occurs_back, occurs_front}
 use Rattle.rkyv_base.specs.Lemmas.Entry.{round_up-multiple}
 use Rattle.rkyv_table.specs.Lemmas.Buckets.{images_length}
-use Rattle.rkyv_table.specs.{AreValidAt, AreValidControls, BucketsRepresent, IsHeader, IsPart}
-use Rattle.rkyv_table.specs.{IsValidTable, Placed, TableAt, TableBytes, TableParts, TableRepresents}
-use Rattle.rkyv_table.specs.{TableResolver, Written, bucket_at, cap_at, capacity, controls_at}
-use Rattle.rkyv_table.specs.{decode_begin, hashes_of, header_bytes, len_at, part_size}
-use Rattle.rkyv_table.specs.{resolved_capacity, table_format, table_spec, walk}
+use Rattle.rkyv_table.specs.{ArePlaced, AreValidAt, AreValidControls, AreWrittenControls}
+use Rattle.rkyv_table.specs.{BucketsRepresent, IsHeader, IsPart, IsValidTable, TableAt, TableBytes}
+use Rattle.rkyv_table.specs.{TableParts, TableRepresents, TableResolver, bucket_at, cap_at}
+use Rattle.rkyv_table.specs.{capacity, controls_at, decode_begin, hashes_of, header_bytes, len_at}
+use Rattle.rkyv_table.specs.{part_size, resolved_capacity, table_format, table_spec, walk}
 use Rattle.rkyv_table.specs.Lemmas.HeaderReads.{cap_reads, distance_reads, header_length, len_reads}
 use Rattle.rkyv_table.specs.Lemmas.SlotSound.{slots_sound}
 use Rattle.rkyv_table.specs.Lemmas.SlotWalk.{filled_count, filled_from, walk_filled}
@@ -40,13 +40,13 @@ below_capacity (suc n) factor = let h = capacity_above (suc n) factor (omega ari
 module _ {X R : Type 0} (s : ElementSpec) (laws : IsElement s) (represents : List ℕ → ℕ → X
     → Type 0) (f : Format X R) (fl : IsFormat s represents f)
     (c : List ℕ) (p cap : ℕ) (pairs : List (ℕ × X)) (slots : List (Option X)) (controls : List ℕ)
-    (placed : Placed cap pairs slots controls) (room : length pairs < cap) where
+    (placed : ArePlaced cap pairs slots controls) (room : length pairs < cap) where
   written_accepted : AreValidControls cap (length pairs) controls
   written_accepted = record {
     room = room;
     full = ap length (walk_filled cap pairs slots controls placed) ∙ filled_count 0 slots
         ∙ placed.slotted.full ∙ placed.written.placed.count ∙ length-map pairs (λ (y : ℕ × X). y.0);
-    repeats = placed.written.repeats;
+    wrapped = placed.written.wrapped;
   }
 
   module _ (z : ℕ) (bytes : List ℕ) (t : TableBytes s f slots controls p z bytes)
@@ -89,7 +89,7 @@ module _ {X R : Type 0} (s : ElementSpec) (laws : IsElement s) (represents : Lis
         let b = length-append t.part (pad ++ (t.buckets ++ controls)) in
         let d = length-append pad (t.buckets ++ controls) in
         let e = length-append t.buckets controls in
-        let n = placed.written.repeats.count in
+        let n = placed.written.wrapped.count in
         omega (arith, a, b, d, e, n, pad_length, buckets_size)
 
     controls_sit : OccursAt c (begin + cap * s.size) controls
@@ -98,7 +98,7 @@ module _ {X R : Type 0} (s : ElementSpec) (laws : IsElement s) (represents : Lis
 
     pub controls_there : controls_at s.size c begin cap ≡ controls
     controls_there = ap (λ k. slice_range c (begin + cap * s.size) (begin + cap * s.size + k))
-        (sym placed.written.repeats.count) ∙ controls_sit.there
+        (sym placed.written.wrapped.count) ∙ controls_sit.there
 
     items : (l : ℕ) × AreValidAt s (bucket_at s.size begin cap) c begin (filled_from 0 slots) p l
         × (l ≤ p + length t.part) × ((i : ℕ) (x : X) → slice_get slots i ≡ Some (Some x)
@@ -125,7 +125,8 @@ module _ {X R : Type 0} (s : ElementSpec) (laws : IsElement s) (represents : Lis
       homes = placed.homes;
       hashes = placed.hashes;
       controls =
-          subst (Written cap (hashes_of pairs) placed.homes) (sym controls_there) placed.written;
+          subst (AreWrittenControls cap (hashes_of pairs) placed.homes) (sym controls_there)
+          placed.written;
       items = λ i x e.
           let n : 0 + slice_index placed.homes i ≡ slice_index placed.homes i = omega arith in
           subst (λ k. represents c (bucket_at s.size begin cap k) x) n
@@ -178,7 +179,7 @@ module _ {X R : Type 0} (w : Width) (kind : IsArchiveWord w) (s : ElementSpec) (
           )
 
       module _ (slots : List (Option X)) (controls : List ℕ) (some : 0 < length pairs)
-          (placed : Placed (capacity (length pairs) factor) pairs slots controls)
+          (placed : ArePlaced (capacity (length pairs) factor) pairs slots controls)
           (b : TableBytes s f slots controls p0 r.pos part) where
         abbrev C : ℕ
         C = capacity (length pairs) factor

@@ -9,7 +9,7 @@ use Rattle.rkyv_base.specs.declared.width.Word.{Ghosts as Words}
 use Rattle.rkyv_scan.specs.{Kind, generic_kind}
 use Rattle.rkyv_table.specs.Controls.Laws.{IsUnderHash}
 use Rattle.rkyv_table.specs.Table.Positions.{IsWalked, WrittenAt, home_positions, item_at}
-use Rattle.rkyv_table.specs.Table.Positions.{lookup_end}
+use Rattle.rkyv_table.specs.Table.Positions.{probe_length_at}
 use Rattle.rkyv_table.specs.Table.Positions.{pos_found}
 use Rattle.rkyv_table.specs.Table.SealedItems.{IsItemAt}
 
@@ -69,7 +69,7 @@ abbrev pub ReadsExactly : {T : Type 0} → (View T → Bool → Type 0) → Kind
     → ℕ → ℕ → ℕ → Type 0
 ReadsExactly post kind w s b p hash count =
     (accept : ℕ → Bool) → ComparesByOf post w s b p accept
-    → count ≡ lookup_end kind w s.size b p hash accept
+    → count ≡ probe_length_at kind w s.size b p hash accept
 
 -- `Writes` changed `b` to `c` at the found position, and returned the result; or nothing
 -- was found, and `c` is `b`

@@ -2,7 +2,7 @@
 use Rattle.std.specs.Prelude.{◌≡◌, ℕ, List, length, MatchResult, Option, Result}
 use Rattle.std.specs.Iterator.{Drains}
 use Rattle.rkyv_table.specs.Table.Counting.{CountsDiffer, YieldsBoth, YieldsOtherCount}
-use Rattle.rkyv_table.specs.Table.PlacedItems.{Placed}
+use Rattle.rkyv_table.specs.Table.PlacedItems.{ArePlaced}
 
 -- an input. `yields`: its items, `yields_other_count`: another number of items than a claimed one
 pub record Input (X : Type 0) : Type 1 where
@@ -29,5 +29,5 @@ abbrev pub PlacesInput : {X : Type 0} → Input (ℕ × X) → ℕ → ℕ → L
     → Result Unit ℕ → Type 0
 PlacesInput {X} input len cap slots controls result = MatchResult result
     (λ _. (pairs : List (ℕ × X)) × input.yields pairs × (length pairs ≡ len)
-    × Placed cap pairs slots controls)
+    × ArePlaced cap pairs slots controls)
     (input.yields_other_count len)

@@ -11,7 +11,7 @@ use Rattle.rkyv_table.specs.Table.Header.{cap_at, decode_begin, len_at}
 use Rattle.rkyv_table.specs.Controls.Numbers.{control_count}
 use Rattle.rkyv_table.specs.Table.ValidItems.{AreValidAt, FirstFails}
 use Rattle.rkyv_table.specs.Controls.Placing.{AreValidControls, walk}
-use Rattle.rkyv_table.specs.Controls.Repeating.{FirstUnwrapped}
+use Rattle.rkyv_table.specs.Controls.Wrapping.{FirstUnwrapped}
 
 -- the number of bytes of the buckets and the control bytes
 abbrev pub part_size : ℕ → ℕ → ℕ

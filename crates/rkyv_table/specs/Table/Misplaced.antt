@@ -3,9 +3,9 @@ use Rattle.std.specs.Prelude.{◌≡◌, ℕ, ◌<◌, ◌^◌, List, Bool, true
 use Rattle.std.specs.Prelude.{MatchOption, None, eqb, filter, slice_index, take}
 use Rattle.std.specs.List.{Contains, list_any, range_with_len, sum_by}
 use Rattle.rkyv_scan.specs.{IsKind, Kind}
-use Rattle.rkyv_table.specs.Controls.Finding.{end, found}
+use Rattle.rkyv_table.specs.Controls.Finding.{probe_length, found}
 use Rattle.rkyv_table.specs.Controls.Laws.{AreHashes}
-use Rattle.rkyv_table.specs.Controls.Placing.{AreValidControls, Written, walk}
+use Rattle.rkyv_table.specs.Controls.Placing.{AreValidControls, AreWrittenControls, walk}
 
 -- a lookup found `bucket`
 abbrev pub is_found_at : ℕ → Option ℕ → Bool
@@ -26,7 +26,7 @@ misplaced kind controls cap len hash_at same_at =
 -- the number of strides that a lookup of the item in `bucket` reads
 abbrev pub own_strides : Kind → List ℕ → ℕ → ℕ → (ℕ → ℕ) → (ℕ → ℕ → Bool) → ℕ → ℕ
 own_strides kind controls cap len hash_at same_at bucket =
-    end kind controls cap len (hash_at bucket) (same_at bucket)
+    probe_length kind controls cap len (hash_at bucket) (same_at bucket)
 
 -- the number of strides that the lookups of all items read
 abbrev pub all_strides : Kind → List ℕ → ℕ → ℕ → (ℕ → ℕ) → (ℕ → ℕ → Bool) → ℕ
@@ -59,7 +59,7 @@ pub record IsSameness (hash_at : ℕ → ℕ) (same_at : ℕ → ℕ → Bool) (
 abbrev pub RepeatedAreMisplaced : Type 0
 RepeatedAreMisplaced = (kind : Kind) (cap : ℕ) (hashes homes controls : List ℕ) (hash_at : ℕ → ℕ)
     (same_at : ℕ → ℕ → Bool) → IsKind kind → length hashes < cap → AreHashes hashes
-    → Written cap hashes homes controls → IsSameness hash_at same_at hashes homes
+    → AreWrittenControls cap hashes homes controls → IsSameness hash_at same_at hashes homes
     → misplaced kind controls cap (length hashes) hash_at same_at ≡ repeated same_at homes
 
 -- each item that the query accepts has its hash, and the query accepts exactly the items

@@ -2,7 +2,7 @@
 use Rattle.std.specs.Prelude.{◌≡◌, ℕ, ◌<◌, List, map, length, true, slice_index, slice_get, Option}
 use Rattle.std.specs.Prelude.{None, Some}
 use Rattle.rkyv_table.specs.Controls.Laws.{AreHashes}
-use Rattle.rkyv_table.specs.Controls.Placing.{Written, is_free}
+use Rattle.rkyv_table.specs.Controls.Placing.{AreWrittenControls, is_free}
 use Rattle.rkyv_table.specs.Table.Slots.{filled}
 
 -- the hashes of the pairs
@@ -14,7 +14,7 @@ abbrev pub items_of : {X : Type 0} → List (ℕ × X) → List X
 items_of pairs = map (λ x. x.1) pairs
 
 -- each item is in its home bucket, and every other slot is empty
-pub record Slotted {X : Type 0} (cap : ℕ) (homes : List ℕ) (items : List X)
+pub record AreInSlots {X : Type 0} (cap : ℕ) (homes : List ℕ) (items : List X)
     (slots : List (Option X)) : Type 0 where
   pub count : length slots ≡ cap
   pub full : filled slots ≡ length homes
@@ -25,14 +25,14 @@ pub record Slotted {X : Type 0} (cap : ℕ) (homes : List ℕ) (items : List X)
 
 -- the items are in the home buckets of their hashes, and the control bytes are those
 -- of a written table
-pub record Placed {X : Type 0} (cap : ℕ) (pairs : List (ℕ × X)) (slots : List (Option X))
+pub record ArePlaced {X : Type 0} (cap : ℕ) (pairs : List (ℕ × X)) (slots : List (Option X))
     (controls : List ℕ) : Type 0 where
   pub homes : List ℕ
   pub hashes : AreHashes (hashes_of pairs)
-  pub written : Written cap (hashes_of pairs) homes controls
-  pub slotted : Slotted cap homes (items_of pairs) slots
+  pub written : AreWrittenControls cap (hashes_of pairs) homes controls
+  pub slotted : AreInSlots cap homes (items_of pairs) slots
 
 -- some pairs are placed, and there is an empty bucket for one more
 abbrev pub HasEmptyBucket : {X : Type 0} → ℕ → List (Option X) → List ℕ → Type 0
 HasEmptyBucket {X} cap slots controls =
-    (pairs : List (ℕ × X)) × (length pairs < cap) × Placed cap pairs slots controls
+    (pairs : List (ℕ × X)) × (length pairs < cap) × ArePlaced cap pairs slots controls

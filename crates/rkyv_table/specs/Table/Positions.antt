@@ -5,11 +5,11 @@ use Rattle.std.specs.Int.{Width}
 use Rattle.std.specs.Option.{option_map}
 use Rattle.rkyv_scan.specs.{Kind}
 use Rattle.rkyv_table.specs.Controls.ControlBytes.{IsFullBucket}
-use Rattle.rkyv_table.specs.Controls.Finding.{end, found}
+use Rattle.rkyv_table.specs.Controls.Finding.{probe_length, found}
 use Rattle.rkyv_table.specs.Table.Header.{cap_at, controls_pos, len_at}
 use Rattle.rkyv_table.specs.Controls.Laws.{AreHashes}
 use Rattle.rkyv_table.specs.Controls.Numbers.{control_count}
-use Rattle.rkyv_table.specs.Controls.Placing.{Written, walk}
+use Rattle.rkyv_table.specs.Controls.Placing.{AreWrittenControls, walk}
 
 -- the control bytes of the table whose header is at `p`
 abbrev pub table_controls : Width → List ℕ → ℕ → List ℕ
@@ -35,9 +35,9 @@ bucket_found kind w size b p hash accept =
     accept (item_at w size b p i))
 
 -- the number of the stride at which a lookup ends, if `accept` is the comparison by positions
-abbrev pub lookup_end : Kind → Width → ℕ → List ℕ → ℕ → ℕ → (ℕ → Bool) → ℕ
-lookup_end kind w size b p hash accept =
-    end kind (table_controls w b p) (cap_at w b p) (len_at w b p) hash (λ i.
+abbrev pub probe_length_at : Kind → Width → ℕ → List ℕ → ℕ → ℕ → (ℕ → Bool) → ℕ
+probe_length_at kind w size b p hash accept =
+    probe_length kind (table_controls w b p) (cap_at w b p) (len_at w b p) hash (λ i.
     accept (item_at w size b p i))
 
 -- the position of the item that a lookup finds
@@ -52,7 +52,7 @@ pub record WrittenAt (w : Width) (b : List ℕ) (p : ℕ) (hashes homes : List �
   pub fit : AreHashes hashes
   pub placed : ((hashes ≡ []) × (homes ≡ []))
       ⊎ ((length hashes < cap_at w b p)
-      × Written (cap_at w b p) hashes homes (table_controls w b p))
+      × AreWrittenControls (cap_at w b p) hashes homes (table_controls w b p))
 
 -- the positions of items with these home buckets, in insertion order
 abbrev pub home_positions : Width → ℕ → List ℕ → ℕ → List ℕ → List ℕ

@@ -13,7 +13,7 @@ use Rattle.rkyv_table.specs.Controls.Laws.{IsUnderHash}
 use Rattle.rkyv_table.specs.Controls.Numbers.{probe_capacity}
 use Rattle.rkyv_table.specs.declared.table.ArchivedHashTable.{ArchivedHashTable}
 use Rattle.rkyv_table.specs.Table.Positions.{IsWalked, WrittenAt, home_positions, item_at}
-use Rattle.rkyv_table.specs.Table.Positions.{lookup_end, pos_found}
+use Rattle.rkyv_table.specs.Table.Positions.{probe_length_at, pos_found}
 
 module _ {T W : Type 0} {ts : Specs T} {wt : Words W} where
   -- the archive of the table
@@ -83,7 +83,7 @@ module _ {T W : Type 0} {ts : Specs T} {wt : Words W} where
     abbrev pub CountsEnd : Kind → ArchivedHashTable T W ts wt → ℕ → ℕ → ℕ → Type 0
     CountsEnd kind t hash before after =
         (accept : ℕ → Bool) → ComparesBy t accept → after ≡ before
-        + lookup_end kind wt.word ts.spec.size (table_bytes t) (table_pos t) hash accept
+        + probe_length_at kind wt.word ts.spec.size (table_bytes t) (table_pos t) hash accept
 
     -- `result`: position of the item that a lookup finds
     pub record FindsItemPos (kind : Kind) (t : ArchivedHashTable T W ts wt) (hash : ℕ)

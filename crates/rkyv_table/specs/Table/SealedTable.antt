@@ -1,7 +1,8 @@
 -- The effects on a table of a write of one item in place.
 use Rattle.std.specs.Prelude.{◌≡◌, ◌≢◌, ℕ, ◌+◌, ◌*◌, List, Bool}
 use Rattle.std.specs.Int.{Width, byte_len}
-use Rattle.rkyv_base.specs.{AgreeOn, ElementSpec, Keeps, Sealed, ValidAt, entry_spec, value_pos}
+use Rattle.rkyv_base.specs.{AgreeOn, ElementSpec, ModifiesOnly, StaysValid, ValidAt, entry_spec}
+use Rattle.rkyv_base.specs.{value_pos}
 use Rattle.rkyv_scan.specs.{Kind}
 use Rattle.rkyv_table.specs.Table.Positions.{IsWalked, WrittenAt, bucket_found, item_at}
 use Rattle.rkyv_table.specs.Table.Positions.{table_controls}
@@ -19,28 +20,28 @@ RestsOnKey k fits = (b c : List ℕ) (q : ℕ) → ValidAt k b q → SameValue k
 
 -- the value of the key at `q` is written in place: only its own bytes change, and it stays valid
 pub record WritesValue (k v : ElementSpec) (b c : List ℕ) (q : ℕ) : Type 0 where
-  pub sealed : Sealed b (value_pos k v q) v.size c
-  pub keeps : Keeps v b c (value_pos k v q)
+  pub sealed : ModifiesOnly b (value_pos k v q) v.size c
+  pub keeps : StaysValid v b c (value_pos k v q)
 
 -- the table at `p` in `b` is valid in `c`. It has the same header, the same control bytes,
 -- and the same bytes of each item but that in bucket `i`
 pub record KeepsTable (w : Width) (s : ElementSpec) (b c : List ℕ) (p i : ℕ) : Type 0 where
-  pub is_valid : Keeps (table_spec w s) b c p
+  pub is_valid : StaysValid (table_spec w s) b c p
   pub header : AgreeOn b c p (p + 3 * byte_len w)
   pub controls : table_controls w c p ≡ table_controls w b p
   pub others : (j : ℕ) → IsWalked w b p j → j ≢ i → SameValue s b c (item_at w s.size b p j)
 
 -- every write of the item in bucket `i` alone that keeps it valid keeps the table
 abbrev pub KeptByWrites : Width → ElementSpec → List ℕ → ℕ → ℕ → Type 0
-KeptByWrites w s b p i = (c : List ℕ) → Sealed b (item_at w s.size b p i) s.size c
-    → Keeps s b c (item_at w s.size b p i) → KeepsTable w s b c p i
+KeptByWrites w s b p i = (c : List ℕ) → ModifiesOnly b (item_at w s.size b p i) s.size c
+    → StaysValid s b c (item_at w s.size b p i) → KeepsTable w s b c p i
 
 -- every write of the value alone of the entry in bucket `i` that keeps it valid keeps the table
 -- and the key
 abbrev pub KeptByValueWrites : Width → ElementSpec → ElementSpec → List ℕ → ℕ → ℕ → Type 0
 KeptByValueWrites w k v b p i =
-    (c : List ℕ) → Sealed b (value_pos k v (item_at w (entry_spec k v).size b p i)) v.size c
-    → Keeps v b c (value_pos k v (item_at w (entry_spec k v).size b p i))
+    (c : List ℕ) → ModifiesOnly b (value_pos k v (item_at w (entry_spec k v).size b p i)) v.size c
+    → StaysValid v b c (value_pos k v (item_at w (entry_spec k v).size b p i))
     → KeepsTable w (entry_spec k v) b c p i
     × SameValue k b c (item_at w (entry_spec k v).size b p i)
 

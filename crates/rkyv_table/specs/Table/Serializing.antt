@@ -13,7 +13,7 @@ use Rattle.rkyv_table.specs.Controls.Numbers.{IsLoadFactor, capacity}
 use Rattle.rkyv_table.specs.Table.Input.{Input}
 use Rattle.rkyv_table.specs.Table.Slots.{ItemFormat, TableBytes, TableNext}
 use Rattle.rkyv_table.specs.Table.TableFormat.{TableResolver, table_format}
-use Rattle.rkyv_table.specs.Table.PlacedItems.{Placed}
+use Rattle.rkyv_table.specs.Table.PlacedItems.{ArePlaced}
 
 -- `len` items have a capacity of at most `max`
 abbrev pub HasCapacity : ℕ → ℕ × ℕ → ℕ → Type 0
@@ -97,7 +97,7 @@ pub record InputPlaced {X : Type 0} (yields : List (ℕ × X)
     → Type 0) (len cap : ℕ) (slots : List (Option X)) (controls : List ℕ)
     (pairs : List (ℕ × X)) : Type 0 where
   pub exactly : YieldsExactly yields len pairs
-  pub placed : Placed cap pairs slots controls
+  pub placed : ArePlaced cap pairs slots controls
 
 module _ {X R : Type 0} (yields : List (ℕ × X) → Type 0) where
   module _ (len cap : ℕ) (s : ElementSpec) (f : Format X R) (o o' : Output) (limit : ℕ) where

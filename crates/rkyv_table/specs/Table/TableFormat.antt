@@ -7,10 +7,10 @@ use Rattle.rkyv_base.specs.{ElementSpec, Format, IsFormat, Step}
 use Rattle.rkyv_table.specs.Table.Header.{HeaderOverflows, IsHeader, cap_at, decode_begin, len_at}
 use Rattle.rkyv_table.specs.Controls.Laws.{AreHashes}
 use Rattle.rkyv_table.specs.Controls.Numbers.{capacity}
-use Rattle.rkyv_table.specs.Controls.Placing.{Written}
+use Rattle.rkyv_table.specs.Controls.Placing.{AreWrittenControls}
 use Rattle.rkyv_table.specs.Table.Slots.{TableBytes, TableNext}
 use Rattle.rkyv_table.specs.Table.Layout.{bucket_at, controls_at, table_spec}
-use Rattle.rkyv_table.specs.Table.PlacedItems.{Placed, hashes_of, items_of}
+use Rattle.rkyv_table.specs.Table.PlacedItems.{ArePlaced, hashes_of, items_of}
 
 -- the resolver of a table. `pos`: position of its first control byte, or 0 if it is empty
 pub record TableResolver : Type 0 where
@@ -37,7 +37,7 @@ WritesHeader w r p before after result = MatchResult result
 -- the pairs are placed in as many buckets as they need
 abbrev pub InBuckets : {X : Type 0} → ℕ × ℕ → List (ℕ × X) → List (Option X) → List ℕ → Type 0
 InBuckets load_factor pairs slots controls =
-    (0 < length pairs) × Placed (capacity (length pairs) load_factor) pairs slots controls
+    (0 < length pairs) × ArePlaced (capacity (length pairs) load_factor) pairs slots controls
 
 module _ {X R : Type 0} (w : Width) (s : ElementSpec) (f : Format X R) (load_factor : ℕ × ℕ)
     (pairs : List (ℕ × X)) (p : ℕ) where
@@ -77,7 +77,7 @@ pub record BucketsRepresent {X : Type 0} (size : ℕ) (represents : List ℕ →
     → Type 0) (c : List ℕ) (cap begin : ℕ) (pairs : List (ℕ × X)) : Type 0 where
   pub homes : List ℕ
   pub hashes : AreHashes (hashes_of pairs)
-  pub controls : Written cap (hashes_of pairs) homes (controls_at size c begin cap)
+  pub controls : AreWrittenControls cap (hashes_of pairs) homes (controls_at size c begin cap)
   pub items : (i : ℕ) (x : X) → slice_get (items_of pairs) i ≡ Some x
       → represents c (bucket_at size begin cap (slice_index homes i)) x
 

@@ -2,7 +2,7 @@
 use Rattle.std.specs.Prelude.{ℕ, ◌≡◌, ◌<◌, ◌↔◌, List, eqb, length}
 use Rattle.std.specs.List.{AllPairs, Contains, IsDistinct}
 use Rattle.rkyv_table.specs.Controls.Laws.{AreHashes}
-use Rattle.rkyv_table.specs.Controls.Placing.{Written, walk}
+use Rattle.rkyv_table.specs.Controls.Placing.{AreWrittenControls, walk}
 
 -- a walk visits each home bucket once, in ascending order, and no other
 pub record VisitsHomes (cap : ℕ) (homes controls : List ℕ) : Type 0 where
@@ -14,4 +14,5 @@ pub record VisitsHomes (cap : ℕ) (homes controls : List ℕ) : Type 0 where
 -- a walk over written control bytes visits each home bucket once, and no other
 abbrev pub WalkVisitsHomes : Type 0
 WalkVisitsHomes = (cap : ℕ) (hashes homes controls : List ℕ) → length hashes < cap
-    → AreHashes hashes → Written cap hashes homes controls → VisitsHomes cap homes controls
+    → AreHashes hashes → AreWrittenControls cap hashes homes controls
+    → VisitsHomes cap homes controls

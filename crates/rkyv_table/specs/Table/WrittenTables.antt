@@ -4,7 +4,7 @@ use Rattle.std.specs.Int.{Width}
 use Rattle.rkyv_table.specs.Table.Positions.{WrittenAt, home_positions, item_at}
 use Rattle.rkyv_table.specs.Table.Layout.{table_spec}
 use Rattle.rkyv_table.specs.Table.TableFormat.{TableRepresents}
-use Rattle.rkyv_base.specs.{ElementSpec, Keeps, Sealed, Viewable}
+use Rattle.rkyv_base.specs.{ElementSpec, ModifiesOnly, StaysValid, Viewable}
 use Rattle.rkyv_table.specs.Table.PlacedItems.{hashes_of, items_of}
 
 -- the table at `p` was written from the pairs, in this order, and each item is at its home bucket
@@ -16,9 +16,9 @@ pub record IsWrittenOf {X : Type 0} (w : Width) (size : ℕ) (represents : List 
       → represents c (slice_index (home_positions w size c p homes) i) x
 
 -- a table that represents pairs was written from them
-abbrev pub ValidWereWritten : {X : Type 0} → Width → ElementSpec → (List ℕ → ℕ → X → Type 0) → ℕ × ℕ
-    → Type 0
-ValidWereWritten {X} w s represents factor =
+abbrev pub RepresentedWereWritten : {X : Type 0} → Width → ElementSpec → (List ℕ → ℕ → X → Type 0)
+    → ℕ × ℕ → Type 0
+RepresentedWereWritten {X} w s represents factor =
     (c : List ℕ) (p : ℕ) (pairs : List (ℕ × X)) → TableRepresents w s represents factor c p pairs
     → IsWrittenOf w s.size represents c p pairs
 
@@ -30,7 +30,7 @@ ItemsWrittenRepresent {X} w s represents =
     (b c : List ℕ) (p n hash : ℕ) (pairs : List (ℕ × X)) (old new : X)
     → Viewable (table_spec w s) b p → (of : IsWrittenOf w s.size represents b p pairs)
     → slice_get pairs n ≡ Some (hash, old)
-    → Sealed b (item_at w s.size b p (slice_index of.homes n)) s.size c
-    → Keeps s b c (item_at w s.size b p (slice_index of.homes n))
+    → ModifiesOnly b (item_at w s.size b p (slice_index of.homes n)) s.size c
+    → StaysValid s b c (item_at w s.size b p (slice_index of.homes n))
     → represents c (item_at w s.size b p (slice_index of.homes n)) new
     → IsWrittenOf w s.size represents c p (slice_set pairs n (hash, new))

@@ -1,7 +1,7 @@
 //! Laws of the probe sequence and of written control bytes, over their definitions alone.
 ghost use Rattle.rkyv_table.specs.{BucketsAreProbed, FoundOnWritten, HomesAreOneList, HomesExist};
 ghost use Rattle.rkyv_table.specs.{MarkedAreWalked, SearchIsBounded, StridesCover, WalkedAreFull};
-ghost use Rattle.rkyv_table.specs.{WrittenAreAccepted, WrittenAreOneList};
+ghost use Rattle.rkyv_table.specs.{WrittenAreOneList, WrittenAreValid};
 
 /// States that the strides of a hash begin at all indices of one residue class modulo 16.
 ///
@@ -32,8 +32,8 @@ pub fn written_are_one_list()
 {}
 
 /// States that written control bytes of fewer items than buckets are valid.
-pub fn written_are_accepted()
-    ensures { WrittenAreAccepted }
+pub fn written_are_valid()
+    ensures { WrittenAreValid }
 {}
 
 /// States that a walk visits a bucket if and only if it is full.

@@ -3,8 +3,8 @@
 //! The home bucket of an item is the first empty bucket that its hash probes.
 ghost use Rattle.std.specs.Prelude.{IfErr, IfOk, IsOk, Some, [], length, ◌%◌, ◌+◌, ◌<◌, ◌≡◌, ◌≤◌};
 ghost use Rattle.std.specs.List.{find};
-ghost use Rattle.rkyv_table.specs.{HasRoom, IsWrapped, Written, empty_index, fresh_controls};
-ghost use Rattle.rkyv_table.specs.{is_empty_at, probed, tag, with_control};
+ghost use Rattle.rkyv_table.specs.{AreWrittenControls, HasRoom, IsWrapped, empty_index};
+ghost use Rattle.rkyv_table.specs.{fresh_controls, is_empty_at, probed, tag, with_control};
 
 use crate::controls::numbers::{bucket_of, tag};
 use crate::controls::probe::Probe;
@@ -36,7 +36,7 @@ fn first_empty<G: GroupKind>(controls: &[u8], pos: usize) -> Option<usize>
 /// - Some bucket is empty.
 #[inline]
 pub fn place_one<G: GroupKind>(controls: &mut [u8], cap: usize, hash: u64) -> usize
-    requires repeats { IsWrapped cap controls.old }
+    requires wrapped { IsWrapped cap controls.old }
     requires room { HasRoom cap controls.old }
     ensures first { find (is_empty_at controls.old) (probed hash cap) ≡ Some result }
     ensures after { controls.new ≡ with_control controls.old cap result (tag hash) }
@@ -55,7 +55,7 @@ pub fn place_one<G: GroupKind>(controls: &mut [u8], cap: usize, hash: u64) -> us
 /// - `start` is `hash % cap`.
 #[inline]
 pub fn place_from<G: GroupKind>(controls: &mut [u8], cap: usize, start: usize, hash: u64) -> usize
-    requires repeats { IsWrapped cap controls.old }
+    requires wrapped { IsWrapped cap controls.old }
     requires room { HasRoom cap controls.old }
     requires begun { start ≡ hash % cap }
     ensures first { find (is_empty_at controls.old) (probed hash cap) ≡ Some result }
@@ -93,7 +93,8 @@ pub fn place<G: GroupKind>(
 ) -> Result<Vec<usize>, AllocError>
     requires fresh { controls.old ≡ fresh_controls cap }
     requires room { length hashes.now < cap }
-    ensures written { IfOk result (λ homes. Written cap hashes.now homes.items controls.new) }
+    ensures written { IfOk result
+        (λ homes. AreWrittenControls cap hashes.now homes.items controls.new) }
     ensures succeeds { hashes.now ≡ [] → IsOk result }
     ensures kept { IfErr result (λ _. controls.new ≡ controls.old) }
 {

@@ -7,8 +7,8 @@
 //! - `next_seal` returns a seal of the next item, and leaves the cursor afterwards unspecified.
 ghost use Rattle.std.specs.Prelude.{IfSome, MatchOption, length, slice_range, ◌*◌, ◌+◌, ◌-◌, ◌<◌};
 ghost use Rattle.std.specs.Prelude.{◌≡◌, ◌≤◌};
-ghost use Rattle.rkyv_base.specs.{Keeps, LiesIn, Sealed, Viewable, archive_in, bytes_in, pos_in};
-ghost use Rattle.rkyv_base.specs.{with_value};
+ghost use Rattle.rkyv_base.specs.{LiesIn, ModifiesOnly, StaysValid, Viewable, archive_in, bytes_in};
+ghost use Rattle.rkyv_base.specs.{pos_in, with_value};
 ghost use Rattle.rkyv_table.specs.{CanCompareOf, CountsDown, FindsFirstLeft, IsSealIter};
 ghost use Rattle.rkyv_table.specs.{IsTableSeal, KeepsCursor, LendsArchive, LendsFirst, LendsFound};
 ghost use Rattle.rkyv_table.specs.{MaySeal, MaySealIn, MaySealNext, MayWriteAt, MayWriteNext};
@@ -236,9 +236,9 @@ impl<'a, T> RawIterSeal<'a, T> {
         ensures stays { StaysThere self.old self.new }
         ensures written { cursor_bytes self.new
             ≡ with_value N.encoding (cursor_bytes self.old) (pos + offset) value }
-        ensures sealed { Sealed (cursor_bytes self.old) (pos + offset) (N.spec.size)
+        ensures sealed { ModifiesOnly (cursor_bytes self.old) (pos + offset) (N.spec.size)
             (cursor_bytes self.new) }
-        ensures is_valid { Keeps N.spec (cursor_bytes self.old)
+        ensures is_valid { StaysValid N.spec (cursor_bytes self.old)
             (cursor_bytes self.new) (pos + offset) }
     {
         let bytes = &mut *self.archive;

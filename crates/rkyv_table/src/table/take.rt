@@ -5,7 +5,7 @@
 ghost use Rattle.std.specs.Prelude.{◌≡◌, ℕ, ◌%◌, ◌+◌, ◌<◌, ◌∷◌, ◌++◌, List, []};
 ghost use Rattle.std.specs.Prelude.{IfSome, MatchResult, None, Some, length, replicate, slice_set};
 ghost use Rattle.std.specs.Iterator.{Drains};
-ghost use Rattle.rkyv_table.specs.{HasEmptyBucket, Placed, PlacesInput, YieldsOtherCount};
+ghost use Rattle.rkyv_table.specs.{ArePlaced, HasEmptyBucket, PlacesInput, YieldsOtherCount};
 ghost use Rattle.rkyv_table.specs.{fresh_controls, from_iter};
 
 use crate::controls::place::place_from;
@@ -47,8 +47,8 @@ pub(crate) fn place_item<G: GroupKind, X: Drop>(
 )
     requires room { HasEmptyBucket cap slots.old controls.old }
     requires begun { start ≡ hash % cap }
-    ensures { (pairs : List (ℕ × X)) → Placed cap pairs slots.old controls.old
-        → Placed cap (pairs ++ (hash, item) ∷ []) slots.new controls.new }
+    ensures { (pairs : List (ℕ × X)) → ArePlaced cap pairs slots.old controls.old
+        → ArePlaced cap (pairs ++ (hash, item) ∷ []) slots.new controls.new }
 {
     let bucket = place_from::<G>(controls, cap, start, hash);
     put(slots, bucket, item);

@@ -12,7 +12,7 @@ ghost use Rattle.rkyv_table.specs.{AreValid, ChecksValue, FailsInside, FirstFail
 ghost use Rattle.rkyv_table.specs.{bucket_at, control_count, part_size, table_spec, walk};
 
 use crate::controls::numbers::control_count;
-use crate::controls::repeats::check_wrapped;
+use crate::controls::wrapped::check_wrapped;
 use crate::table::header::{bucket_position, decode_begin, part_size, read_header};
 use rkyv_base::element::{Element, PartRange};
 use rkyv_base::errors::VerifyError;

@@ -11,8 +11,8 @@ use rkyv_table::controls::numbers::{
 };
 use rkyv_table::controls::place::{place, place_one};
 use rkyv_table::controls::probe::Probe;
-use rkyv_table::controls::repeats::check_wrapped;
 use rkyv_table::controls::walk::{Walk, count_full};
+use rkyv_table::controls::wrapped::check_wrapped;
 use std::alloc::{AllocError, Global};
 use std::cell::Cell;
 
@@ -245,7 +245,7 @@ fn places(rt: HostRuntime) {
     laws::homes_exist();
     laws::homes_are_one_list();
     laws::written_are_one_list();
-    laws::written_are_accepted();
+    laws::written_are_valid();
     let alloc = rt.alloc();
     let keys = [hash_of(1), hash_of(3), hash_of(5), hash_of(7)];
     let three = [hash_of(1), hash_of(2), hash_of(3)];

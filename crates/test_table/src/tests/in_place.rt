@@ -1,7 +1,8 @@
 //! Writing each item of a table in place, by a cursor over the bare bytes.
 //!
 //! The calls are proved for every scalar and both widths, and run over numbers.
-ghost use Rattle.rkyv_base.specs.{Keeps, LiesIn, SealStays, Sealed, Viewable, bytes_in, seal_pos};
+ghost use Rattle.rkyv_base.specs.{LiesIn, ModifiesOnly, SealStays, StaysValid, Viewable, bytes_in};
+ghost use Rattle.rkyv_base.specs.{seal_pos};
 ghost use Rattle.rkyv_table.specs.{CanCompareOf, table_spec};
 
 use crate::tests::archives::two_archived;
@@ -35,9 +36,9 @@ fn set_all_by_seals<N: Scalar, W: Width>(archive: &mut [u8], pos: u64, value: N)
             |seal: &mut Seal<'_, N>|
                 requires { LiesIn N.spec seal.old }
                 ensures stays { SealStays seal.old seal.new }
-                ensures sealed { Sealed (bytes_in seal.old) (seal_pos seal.old)
+                ensures sealed { ModifiesOnly (bytes_in seal.old) (seal_pos seal.old)
                     N.spec.size (bytes_in seal.new) }
-                ensures is_valid { Keeps N.spec (bytes_in seal.old)
+                ensures is_valid { StaysValid N.spec (bytes_in seal.old)
                     (bytes_in seal.new) (seal_pos seal.old) }
             {
                 seal.set(value);

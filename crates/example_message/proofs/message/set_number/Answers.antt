@@ -1,7 +1,7 @@
 use Rattle.std.proofs.Common.{◌≡◌, ◌-◌, ◌%◌, IfSome, Some, None, ap, arith, false, refl, subst, sym, ◌∙◌}
 use Rattle.rkyv_base.specs.Lemmas.Access.{root_viewable}
 use Rattle.rkyv_base.specs.{ValidAt}
-use Rattle.rkyv_collections.specs.{WritesParts}
+use Rattle.rkyv_collections.specs.{WritesAmongParts}
 use Rattle.example_message.specs.{ArePartsFields, FindsFirstPart, IsFields, IsMessage, IsPartsPos, PartsRepresent, Represents, WritesIfFound, fields_spec, header_spec, number_in_fields, root, with_number}
 use Rattle.example_message.proofs.Found.{none_set, number_set, only_written}
 use Rattle.example_message.proofs.message.set_number.Goals as goal
@@ -31,7 +31,7 @@ returns-in-Some-clause-kept c =
     let at = subst (λ o. IfSome o (IsPartsPos b)) same c.in_ok-pos.ensures.at in
     let wrote = c.set_value_of.ensures.parts in
     let long = (wrote.sealed 0 c.in-Some.pos fields.valid.0 (omega arith) (omega arith) fields.valid.1).same_length in
-    let kept = c.nested_writes_keep_maps.ensures b c.set_value_of.new.archive (root b) at.0 view at.1 (subst (WritesParts fields_spec b c.set_value_of.new.archive) at.2 wrote) in
+    let kept = c.nested_writes_keep_maps.ensures b c.set_value_of.new.archive (root b) at.0 view at.1 (subst (WritesAmongParts fields_spec b c.set_value_of.new.archive) at.2 wrote) in
     let there : root b ≡ root c.set_value_of.new.archive = ap (λ n. n - header_spec.size) (sym long) in
     let inside = is.inside in
     let within = is.within in

@@ -1,4 +1,4 @@
-use Rattle.std.proofs.Common.{◌≡◌, ℕ, List, arith, length, take, sym, ap, ◌∙◌, Some}
+use Rattle.std.proofs.Common.{◌≡◌, ℕ, List, arith, length, take, ap, ◌∙◌, Some}
 use Rattle.std.proofs.lemmas.Grind.{common_steps}
 use Rattle.rkyv_base.proofs.FirstMark.{some_marked}
 use lib.Count.{count_trailing_zeros}

@@ -3,7 +3,7 @@
 //! `map::in_place` has a table of all calls that write values.
 ghost use Rattle.std.specs.Prelude.{length, ◌+◌, ◌≤◌};
 ghost use Rattle.rkyv_base.specs.{Uppercases, Viewable, text_size};
-ghost use Rattle.rkyv_collections.specs.{UppercasesFirst, UppercasesText, WritesParts};
+ghost use Rattle.rkyv_collections.specs.{UppercasesFirst, UppercasesText, WritesAmongParts};
 ghost use Rattle.rkyv_collections.specs.{map_to_texts_at, map_to_texts_spec, query_of_value};
 ghost use Rattle.rkyv_keys.specs.{query_of};
 
@@ -65,7 +65,8 @@ pub fn make_ascii_uppercase_of<
         result archive.new }
     ensures listed { UppercasesFirst (map_to_texts_at W.Word K.HasSpec archive.old root)
         (query_of_value H.hasher K.key_calls K.represents (A.eq key.now)) result archive.new }
-    ensures parts { WritesParts (map_to_texts_spec W.word K.spec) archive.old archive.new root }
+    ensures parts { WritesAmongParts (map_to_texts_spec W.word K.spec) archive.old archive.new
+        root }
 {
     let pos = ArchivedHashMap::<K, Text<W>, H, W>::value_pos_in(&*archive, root, key)?;
     Some(uppercase_at::<W>(archive, pos as usize))

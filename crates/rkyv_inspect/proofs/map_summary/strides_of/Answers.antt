@@ -3,7 +3,7 @@ use Rattle.std.specs.Borrow.{Bor}
 use Rattle.rkyv_base.specs.{bytes_of, entry_spec, pos_of}
 use Rattle.rkyv_keys.specs.{hash_at}
 use Rattle.rkyv_scan.specs.{generic_kind}
-use Rattle.rkyv_table.specs.{lookup_end, table_bytes, table_pos}
+use Rattle.rkyv_table.specs.{probe_length_at, table_bytes, table_pos}
 use Rattle.rkyv_inspect.proofs.KeyLookups.{compares_by_position}
 use Rattle.rkyv_inspect.proofs.map_summary.strides_of.Goals as goal
 
@@ -18,6 +18,6 @@ returns-clause-reads g c =
     let counted = c.get_counted.ensures.counts.counted (same b (pos_of key) b)
     (compares_by_position t same (pos_of key) _ (λ v r e. e.1 ∙ ap (λ (a : List ℕ). same a (pos_of key) (bytes_of v) (pos_of v)) here)) in
     let hash : c.hash_value.result ≡ key_hash b (pos_of key) = c.hash_value.ensures ∙ ap (λ (a : List ℕ). key_hash a (pos_of key)) here in
-    let end : ℕ → ℕ = λ h. lookup_end generic_kind g.W.Word.word (entry_spec g.K.HasSpec.spec g.V.HasSpec.spec).size b (table_pos t) h (same b (pos_of key) b) in
+    let end : ℕ → ℕ = λ h. probe_length_at generic_kind g.W.Word.word (entry_spec g.K.HasSpec.spec g.V.HasSpec.spec).size b (table_pos t) h (same b (pos_of key) b) in
     let moved : end c.hash_value.result ≡ end (key_hash b (pos_of key)) = ap end hash in
     omega (arith, counted, moved, c.count.ensures, c.new-strides.ensures)

@@ -2,7 +2,7 @@
 
 ghost use Rattle.std.specs.Prelude.{ℕ};
 ghost use Rattle.rkyv_base.specs.{RepresentsLocally, written_as};
-ghost use Rattle.rkyv_table.specs.{TableRepresents, ValidWereWritten, WrittenTablesPass};
+ghost use Rattle.rkyv_table.specs.{RepresentedWereWritten, TableRepresents, WrittenTablesPass};
 ghost use Rattle.rkyv_table.specs.{WrittenTablesRepresent, table_spec, value_represents};
 
 use rkyv_base::archive::Archive;
@@ -36,8 +36,8 @@ pub fn tables_represent_locally<W: Width, U: Archive<W>, X: Lend<U>>()
 /// States that a table that represents items was written from them, in order.
 ///
 /// Each item is under its hash and in its home bucket. So a lookup finds the first accepted item.
-pub fn valid_tables_were_written<W: Width, U: Archive<W>, X: Lend<U>>()
+pub fn represented_lists_were_written<W: Width, U: Archive<W>, X: Lend<U>>()
     ensures { (load_factor : ℕ × ℕ) →
-        ValidWereWritten W.word U.Archived.spec (value_represents X.lent U.Archived.represents)
-        load_factor }
+        RepresentedWereWritten W.word U.Archived.spec (value_represents X.lent
+        U.Archived.represents) load_factor }
 {}

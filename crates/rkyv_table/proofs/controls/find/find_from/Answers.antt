@@ -1,5 +1,5 @@
 use Rattle.std.proofs.Common.{arith, ◌≡◌, ℕ, ◌+◌, ◌/◌, ◌<◌, sym, ap, ◌∙◌, Bool, List, Option, length, drop, length-take, length-drop, []}
-use Rattle.rkyv_table.specs.{AreValidControls, ComparesByBucket, IsFullBucket, IsFullInStride, ReadsWithin, end, found, probe_capacity, strides, tag}
+use Rattle.rkyv_table.specs.{AreValidControls, ComparesByBucket, IsFullBucket, IsFullInStride, ReadsWithin, found, probe_capacity, probe_length, strides, tag}
 use Rattle.rkyv_table.proofs.Coverage.{count_strides, stride_below}
 use Rattle.rkyv_table.proofs.FirstFree.{member_front, member_rest}
 use Rattle.rkyv_table.proofs.Search.{found_along}
@@ -39,7 +39,7 @@ module _ (g : _) (c : After-cmp-1 g) where
     found_as : (r : Option ℕ) → found_along g.G.GroupKind.kind c.args.controls.now c.args.cap (tag c.args.hash) accept c.loop-pos.pos-iterator ≡ r → r ≡ found g.G.GroupKind.kind c.args.controls.now c.args.cap c.args.len c.args.hash accept
     found_as r e = sym (found_is g.G.GroupKind.kind c.args.controls.now c.args.cap c.args.len c.args.hash accept c.if-len-eq0.false ∙ c.loop-pos.invariant.same accept compares ∙ e)
 
-    counted : end_index g.G.GroupKind.kind c.args.controls.now c.args.cap (tag c.args.hash) accept c.loop-pos.pos-iterator ≡ 0 → c.stride.new.self ≡ c.args.strides.now + end g.G.GroupKind.kind c.args.controls.now c.args.cap c.args.len c.args.hash accept
+    counted : end_index g.G.GroupKind.kind c.args.controls.now c.args.cap (tag c.args.hash) accept c.loop-pos.pos-iterator ≡ 0 → c.stride.new.self ≡ c.args.strides.now + probe_length g.G.GroupKind.kind c.args.controls.now c.args.cap c.args.len c.args.hash accept
     counted z =
         let f = end_is g.G.GroupKind.kind c.args.controls.now c.args.cap c.args.len c.args.hash accept c.if-len-eq0.false in
         let k = c.loop-pos.invariant.counted accept compares in
@@ -51,14 +51,14 @@ stride-requires-clause-inside g c =
     let a : AreValidControls c.args.cap c.args.len c.args.controls.now = c.requires.accepted (omega (arith, c.if-len-eq0.false)) in
     let room = a.room in
     let lp = stride_below c.args.hash c.args.cap c.in-Some.pos (omega arith) (c.loop-pos.invariant.members c.in-Some.pos (member_front c.in-Some.pos c.next.new.self c.loop-pos.pos-iterator c.in-Some.ensures.steps)) in
-    let count = a.repeats.count in
+    let count = a.wrapped.count in
     omega arith
 
 pub stride-requires-clause-room : goal.stride-requires-clause-room
 stride-requires-clause-room g c =
     let a : AreValidControls c.args.cap c.args.len c.args.controls.now = c.requires.accepted (omega (arith, c.if-len-eq0.false)) in
     let room = a.room in
-    let count = a.repeats.count in
+    let count = a.wrapped.count in
     let few = few_strides c.args.hash c.args.cap (omega arith) (omega arith) in
     let r = c.loop-pos.invariant.room in
     let q = c.requires.room in
@@ -67,14 +67,14 @@ stride-requires-clause-room g c =
 pub scan-requires-clause-whole : goal.scan-requires-clause-whole
 scan-requires-clause-whole g c =
     let at = (goal.at.scan-requires-clause-whole g c).After-cmp-1 in
-    let count = (accepted g at).repeats.count in
+    let count = (accepted g at).wrapped.count in
     let room = (accepted g at).room in
     ap length c.stride.ensures.value ∙ length-take 16 (drop c.in-Some.pos c.args.controls.now) ∙ omega (arith, length-drop c.in-Some.pos c.args.controls.now, below g at)
 
 pub scan-requires-clause-fits : goal.scan-requires-clause-fits
 scan-requires-clause-fits g c =
     let at = (goal.at.scan-requires-clause-fits g c).After-cmp-1 in
-    let count = (accepted g at).repeats.count in
+    let count = (accepted g at).wrapped.count in
     let room = (accepted g at).room in
     omega (arith, below g at)
 

@@ -24,7 +24,7 @@ found_here g c =
     let w = c.requires.room in
     let before = c.loop-pos.pos-iterator in
     let after = c.next.new.self in
-    let s = some_shown h cap' controls c.in-Some.pos c.in-Some-first_empty.index w.0 c.requires.repeats w.1 (le-leb 128 (get_or controls w.0 0) w.2)
+    let s = some_shown h cap' controls c.in-Some.pos c.in-Some-first_empty.index w.0 c.requires.wrapped w.1 (le-leb 128 (get_or controls w.0 0) w.2)
     (inv.members c.in-Some.pos (member_front c.in-Some.pos after before more)) lp
     (begun h cap' c.in-Some.pos (is_empty_at controls) after before (omega (arith, w.1)) st more) e' in
     (s.0, first_at h cap' c.in-Some.pos (c.in-Some-first_empty.index % cap') (is_empty_at controls) after before more s.1 same)
@@ -33,7 +33,7 @@ pub first_empty-requires : goal.first_empty-requires
 first_empty-requires g c =
     let inv = c.loop-pos.invariant in
     let lp = stride_below c.args.hash c.args.cap c.in-Some.pos (omega (arith, c.requires.room.1)) (inv.members c.in-Some.pos (member_front c.in-Some.pos c.next.new.self c.loop-pos.pos-iterator c.in-Some.ensures.steps)) in
-    let count = c.requires.repeats.count in
+    let count = c.requires.wrapped.count in
     let l = ap length inv.kept in
     omega arith
 
@@ -66,7 +66,7 @@ loop-pos-preserved g c =
     let lp = stride_below h cap' c.in-Some.pos (omega (arith, c.requires.room.1)) (inv.members c.in-Some.pos (member_front c.in-Some.pos c.next.new.self c.loop-pos.pos-iterator more)) in
     let free = is_empty_at c.loop-pos.controls in
     let w = c.requires.room in
-    let r = rw (← inv.kept) at c.requires.repeats in
+    let r = rw (← inv.kept) at c.requires.wrapped in
     let e = sym (c.in_default.ensures ∙ empty_index_is c.loop-pos.controls c.in-Some.pos) in
     let none = none_shown cap' c.loop-pos.controls c.in-Some.pos (omega (arith, w.1)) r lp e in
     record {

@@ -1,6 +1,6 @@
 use Rattle.std.proofs.Common.{refl, ap, not, ◌∙◌, ◌+◌, ℕ}
 use Rattle.rkyv_scan.specs.{generic_kind}
-use Rattle.rkyv_table.specs.{bucket_found, is_found_at, item_pos, lookup_end, table_bytes, table_pos}
+use Rattle.rkyv_table.specs.{bucket_found, is_found_at, item_pos, probe_length_at, table_bytes, table_pos}
 use Rattle.rkyv_table.proofs.ValidTable.{read_accepted, read_end, read_found, read_walked}
 use Rattle.rkyv_table.proofs.MisplacedIn.{hash_is, own_finds}
 use Rattle.rkyv_table.proofs.table.ArchivedHashTable.is_misplaced.Goals as goal
@@ -36,6 +36,6 @@ returns-clause-counts g c =
           c.find_from-found.ensures.counted (λ i. same (at c.args.bucket) (at i)) (λ b r full. own_finds _ t c.args.bucket same same_as b r)
           ∙ ap (λ n. c.args.strides.now + n)
           (read_end g.T.HasSpec.laws t _ c.controls.ensures generic_kind c.hash_of-hash.result (λ i. same (at c.args.bucket) (at i))
-          ∙ ap (λ h. lookup_end generic_kind g.W.Word.word g.T.HasSpec.spec.size (table_bytes t) (table_pos t) h (same (at c.args.bucket)))
+          ∙ ap (λ h. probe_length_at generic_kind g.W.Word.word g.T.HasSpec.spec.size (table_bytes t) (table_pos t) h (same (at c.args.bucket)))
           (hash_is t _ c.args.bucket c.hash_of-hash.result c.args.item c.requires.item c.hash_of-hash.ensures hash_of hash_as));
     }

@@ -18,7 +18,7 @@ first_marks-requires g c = λ some.
     let b : List ℕ = table_bytes t in
     let p : ℕ = table_pos t in
     let cap = some_capacity (table_controls w b p) (cap_at w b p) t.header.len (t.decoded.len ∙ sym (walk_count w s law b p t.valid)) some in
-    let long = (controls_accepted w s law b p t.valid cap).repeats.count in
+    let long = (controls_accepted w s law b p t.valid cap).wrapped.count in
     let e = ap length (c.controls-controls.ensures (rw t.decoded.cap cap)) in
     omega (arith, long, e)
 
@@ -41,7 +41,7 @@ module _ (g : _) (c : After-first_marks g) where
       let cap = λ (some : 0 < t.header.len). some_capacity (table_controls w b p) (cap_at w b p) t.header.len count some in
       let same = λ (some : 0 < t.header.len). c.controls-controls.ensures (rw t.decoded.cap (cap some)) in
       start_left c.controls-controls.result.now (table_controls w b p) (cap_at w b p) t.header.len (mask_indices 8 7 8 c.first_marks.result.bits) count same
-      (λ some. rw (same some) (let long = (controls_accepted w g.T.HasSpec.spec g.T.HasSpec.laws b p t.valid (cap some)).repeats.count in omega (arith, long))) c.first_marks.ensures
+      (λ some. rw (same some) (let long = (controls_accepted w g.T.HasSpec.spec g.T.HasSpec.laws b p t.valid (cap some)).wrapped.count in omega (arith, long))) c.first_marks.ensures
 
 pub invariant_of-result : goal.invariant_of-result
 invariant_of-result g c =

@@ -1,7 +1,7 @@
 use Rattle.std.proofs.Common.{arith, ◌≡◌, ◌+◌, ◌-◌}
 use Rattle.std.proofs.lemmas.Result.{err_from_is_err_and}
 use Rattle.rkyv_base.specs.{written_as}
-use Rattle.rkyv_table.proofs.BucketSteps.{Down, bucket_fails, down_end, down_init, down_read, down_rooms, down_step, overflow_fails}
+use Rattle.rkyv_table.proofs.BucketSteps.{BucketsWritten, bucket_fails, down_end, down_init, down_read, down_rooms, down_step, overflow_fails}
 use Rattle.rkyv_table.proofs.table.buckets.write_by.Goals as goal
 use Rattle.rkyv_table.proofs.table.buckets.write_by.Goals.{In-loop-above}
 
@@ -13,7 +13,7 @@ loop-above-init g c = record {
 
 -- one turn
 module _ (g : _) (c : In-loop-above g) where
-  down_here : Down g.U.Archived.HasSpec.spec.size g.W.Width.LIMIT (written_as g.X.Lend.lent g.U.Archive.format) c.args.slots.now c.args.resolvers.items (g.S.Writer.output c.args.serializer.now) ((c.loop-above.above - 1) + 1) c.loop-above.rest.items (g.S.Writer.output c.loop-above.serializer)
+  down_here : BucketsWritten g.U.Archived.HasSpec.spec.size g.W.Width.LIMIT (written_as g.X.Lend.lent g.U.Archive.format) c.args.slots.now c.args.resolvers.items (g.S.Writer.output c.args.serializer.now) ((c.loop-above.above - 1) + 1) c.loop-above.rest.items (g.S.Writer.output c.loop-above.serializer)
   down_here =
       let e : (c.loop-above.above - 1) + 1 ≡ c.loop-above.above = omega (arith, c.loop-above-test.true) in
       rw e c.loop-above.invariant.down

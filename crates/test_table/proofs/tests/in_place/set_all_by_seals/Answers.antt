@@ -1,13 +1,13 @@
 use Rattle.std.proofs.Common.{rules, ◌≡◌, ◌∙◌, sym, subst, List, ℕ, Option, None, Some}
 use Rattle.std.specs.Int.{Width}
-use Rattle.rkyv_base.specs.{ElementSpec, Keeps, Sealed, Viewable}
+use Rattle.rkyv_base.specs.{ElementSpec, ModifiesOnly, StaysValid, Viewable}
 use Rattle.rkyv_table.specs.{IsItemAt, IsSealIter, StepsAndWrites, table_spec}
 use Rattle.rkyv_table.specs.declared.table.raw_iter_seal.RawIterSeal.{RawIterSeal}
 use Rattle.rkyv_table.proofs.SealedItems.{cursor_kept}
 use Rattle.test_table.proofs.tests.in_place.set_all_by_seals.Goals as goal
 
 module _ {T : Type 0} (w : Width) (s : ElementSpec) (p : ℕ) (Writes : List ℕ → ℕ → List ℕ → Type 0)
-    (good : (b c : List ℕ) (q : ℕ) → Writes b q c → Sealed b q s.size c × Keeps s b c q) (before after : RawIterSeal T) where
+    (good : (b c : List ℕ) (q : ℕ) → Writes b q c → ModifiesOnly b q s.size c × StaysValid s b c q) (before after : RawIterSeal T) where
   step_kept : (result : Option ℕ) → StepsAndWrites s Writes before result after → IsSealIter w s p before → IsSealIter w s p after
   step_kept None h is = subst (IsSealIter w s p) (sym h.writes) (h.takes w p is).2
   step_kept (Some q) h is =
@@ -17,7 +17,7 @@ module _ {T : Type 0} (w : Width) (s : ElementSpec) (p : ℕ) (Writes : List ℕ
       (cursor_kept w s p t.bucket q h.stepped after t.iter item h.writes.0 k.0 k.1).1
 
 step_keeps : {T : Type 0} (w : Width) (s : ElementSpec) (p : ℕ) {Writes : List ℕ → ℕ → List ℕ → Type 0} (before after : RawIterSeal T) (result : Option ℕ) → StepsAndWrites s Writes before result after
-    → IsSealIter w s p before → ((b c : List ℕ) (q : ℕ) → Writes b q c → Sealed b q s.size c × Keeps s b c q) → IsSealIter w s p after
+    → IsSealIter w s p before → ((b c : List ℕ) (q : ℕ) → Writes b q c → ModifiesOnly b q s.size c × StaysValid s b c q) → IsSealIter w s p after
 step_keeps w s p before after result h is good = step_kept w s p _ good before after result h is
 
 pub loop-preserved : goal.loop-preserved

@@ -6,7 +6,7 @@ use Rattle.test_controls.proofs.tests.controls.Table.written.Goals as goal
 pub invariant_of-result : goal.invariant_of-result
 invariant_of-result g c =
     let w = c.in_ok-homes.ensures.written in
-    let count = w.repeats.count in
+    let count = w.wrapped.count in
     let len = c.in_ok-controls.ensures.len in
     let e = c.control_count.ensures in
     let v = c.in_ok-controls.controls in

@@ -1,5 +1,5 @@
 use Rattle.std.proofs.Common.{◌≡◌, ◌∙◌, ◌+◌, arith, subst}
-use Rattle.rkyv_base.specs.{Keeps, Sealed}
+use Rattle.rkyv_base.specs.{ModifiesOnly, StaysValid}
 use Rattle.rkyv_collections.proofs.SealedPairs.{pairs_kept}
 use Rattle.rkyv_collections.proofs.map.in_place.iter_seal.ValuesMut.set_at.Goals as goal
 
@@ -9,5 +9,5 @@ returns-clause-kept g c = λ key at.
     let after = c.write_at.new.self in
     let zero : c.args.pos + 0 ≡ c.args.pos = omega arith in
     pairs_kept g.K.HasSpec.spec g.N.HasSpec.spec g.K.HasSpec.laws g.N.HasSpec.laws before after key c.write_at.ensures.stays
-    (subst (λ n. Sealed before.archive.now n g.N.HasSpec.spec.size after.archive.now) (zero ∙ at) c.write_at.ensures.sealed)
-    (subst (λ n. Keeps g.N.HasSpec.spec before.archive.now after.archive.now n) (zero ∙ at) c.write_at.ensures.is_valid)
+    (subst (λ n. ModifiesOnly before.archive.now n g.N.HasSpec.spec.size after.archive.now) (zero ∙ at) c.write_at.ensures.sealed)
+    (subst (λ n. StaysValid g.N.HasSpec.spec before.archive.now after.archive.now n) (zero ∙ at) c.write_at.ensures.is_valid)

@@ -30,7 +30,7 @@ fn is_wrapped_at(controls: &[u8], cap: usize, index: usize) -> bool
 /// - The lowest index whose control byte isn't as it must be.
 pub fn check_wrapped(controls: &[u8], cap: usize) -> Result<(), usize>
     requires count { length controls.now ≡ control_count cap }
-    ensures repeats { IfOk result (λ _. IsWrapped cap controls.now) }
+    ensures wrapped { IfOk result (λ _. IsWrapped cap controls.now) }
     ensures fails { IfErr result (FirstUnwrapped cap controls.now) }
 {
     for index in cap..controls.len() {

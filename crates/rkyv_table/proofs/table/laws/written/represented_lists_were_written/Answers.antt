@@ -1,6 +1,6 @@
 use Rattle.rkyv_table.proofs.WrittenTables.{table_written}
 use Rattle.rkyv_table.specs.{value_represents}
-use Rattle.rkyv_table.proofs.table.laws.written.valid_tables_were_written.Goals as goal
+use Rattle.rkyv_table.proofs.table.laws.written.represented_lists_were_written.Goals as goal
 
 pub returns : goal.returns
 returns g c = λ load_factor.

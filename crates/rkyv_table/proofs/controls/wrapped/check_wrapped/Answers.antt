@@ -1,7 +1,7 @@
 use Rattle.std.proofs.Common.{◌∙◌, arith, inl, inr, subst, sym}
 use Rattle.std.proofs.lemmas.Bool.{cases_eq, true≢false}
 use Rattle.rkyv_table.specs.{IsWrappedAt}
-use Rattle.rkyv_table.proofs.controls.repeats.check_wrapped.Goals as goal
+use Rattle.rkyv_table.proofs.controls.wrapped.check_wrapped.Goals as goal
 
 pub returns-then-not-is_wrapped_at-clause-fails : goal.returns-then-not-is_wrapped_at-clause-fails
 returns-then-not-is_wrapped_at-clause-fails c =
@@ -19,8 +19,8 @@ loop-index-preserved c = λ q lo hi. elim (cases_eq q c.loop-index.index) [
   | inr n ↦ c.loop-index.invariant q lo (omega arith)
 ]
 
-pub returns-clause-repeats : goal.returns-clause-repeats
-returns-clause-repeats c =
+pub returns-clause-wrapped : goal.returns-clause-wrapped
+returns-clause-wrapped c =
     let count = c.requires.count in
     let inv = c.loop-index.invariant in
     let done = c.loop-index-test.false in
