@@ -4,17 +4,17 @@
  *
  * KIND is the number of a `rkyv_kind`. A pair is a line `VALUE KEY`, without spaces in the value. An
  * item of a set is a line with a space in front. A line has at most 65,535 bytes, and none is zero.
- * The file has the archive, or its container with a checksum. The last status is printed. It is
- * RKYV_TOO_LONG for a longer line, or for more than 2,048 lines of a kind that a builder doesn't
- * build. The file is written only if it is RKYV_OK. If the lines can't be read or the file can't be
- * written, the program exits with 1. */
+ * A key of 32 bits is taken modulo 4294967296. The file has the archive, or its container with a
+ * checksum. The last status is printed. It is RKYV_TOO_LONG for a longer line, or for more than 2,048
+ * lines if no builder is used. The file is written only if it is RKYV_OK. If the lines can't be read
+ * or the file can't be written, the program exits with 1. */
 #include "rkyv.h"
 
 #include <stdio.h>
 #include <stdlib.h>
 #include <string.h>
 
-/* The greatest number of items of a set, and of pairs of maps that a builder doesn't build. */
+/* The greatest number of lines if no builder is used. */
 #define ROOM 2048
 
 static char line[1 << 16];
@@ -38,8 +38,8 @@ static rkyv_status next_line(void) {
     return RKYV_OK;
 }
 
-/* Whether a builder builds the archive: not that of a set, of a map to texts, or of a hash map with
- * number keys of 64 bits. */
+/* Whether this program uses a builder: not for a set, for a map to texts, or for a hash map with number
+ * keys of 64 bits. */
 static int has_builder(uint32_t kind) {
     return kind <= RKYV_INDEX_TEXT_TO_U64 || kind == RKYV_INDEX_LONG_NUMBER_TO_U32
         || kind == RKYV_INDEX_LONG_NUMBER_TO_U64;

@@ -5,8 +5,9 @@
  *
  * KIND is the number of a `rkyv_kind`. The width of a container may be 0, for either width. A
  * command is a line `get KEY`, `set KEY VALUE`, `count` or `list`, and for an index map `at INDEX`.
- * Each prints its status and, if that is RKYV_OK, its result on a line; `list` prints a line for each
- * pair. `set` writes numbers, and doesn't change the file. If the file can't be read, the program
+ * Each but `list` prints its status and, if that is RKYV_OK, its result on a line. `list` prints a line
+ * for each pair. An unknown command prints RKYV_NOT_FOUND. A key of 32 bits is taken modulo
+ * 4294967296. `set` writes numbers, and doesn't change the file. If the file can't be read, the program
  * exits with 1. */
 #include "rkyv.h"
 
@@ -239,6 +240,10 @@ static rkyv_status set(uint32_t kind, const char *key, uint64_t value) {
     case RKYV_INDEX_TEXT_TO_U32:
     case RKYV_INDEX_TEXT_TO_U64:
         return rkyv_index_set_text(&index_map, key, strlen(key), value);
+    case RKYV_INDEX_NUMBER_TO_TEXT:
+    case RKYV_INDEX_TEXT_TO_TEXT:
+    case RKYV_INDEX_LONG_NUMBER_TO_TEXT:
+        return rkyv_index_set_number(&index_map, (uint32_t)long_key, value);
     default:
         return rkyv_map_set_number(&map, (uint32_t)long_key, value);
     }

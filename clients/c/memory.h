@@ -16,7 +16,8 @@ struct rattle_block {
     void *block;
 };
 
-/* Allocates `size` bytes, which may be 0, at a multiple of `align`, a power of two up to 16. */
+/* Allocates `size` bytes, which may be 0, at a multiple of `align`: a power of two up to 16 that
+ * divides `size`. */
 struct rattle_block rattle_alloc(size_t size, size_t align);
 
 /* Gives a block another size and preserves its first `kept` bytes. If the allocation fails, the

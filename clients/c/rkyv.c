@@ -121,9 +121,9 @@ extern "C" {
 #endif
 
 /* The proved library. The functions that decode, get, set, contain and return pairs require valid
- * bytes: the function that opens has returned 0 for them. Those that take a decoded header require
- * that it is of these bytes. To set a value leaves it as it is. The function that writes the header
- * of a container requires that it has 32 bytes. The others require nothing. */
+ * bytes: the function that opens has returned 0 for them. A decoded header is that of these bytes.
+ * Setting a value leaves the header unchanged. The header of a container has 32 bytes. No pointer is
+ * null, and memory that a function writes overlaps no other argument. */
 open_numbers rkyv_c_open_numbers, rkyv_c_open_long_numbers, rkyv_c_open_texts;
 open_numbers rkyv_c_index_open_numbers, rkyv_c_index_open_long_numbers, rkyv_c_index_open_texts;
 open_others rkyv_c_open_numbers_to_texts, rkyv_c_open_long_numbers_to_texts;
@@ -1266,9 +1266,10 @@ static rkyv_status grow(void **array, size_t *room, size_t count, size_t more, s
     if (wanted < count + more) {
         wanted = count + more;
     }
+    const size_t align = size == 1 ? 1 : 8;
     struct rattle_block grown = *array == NULL
-        ? rattle_alloc(wanted * size, 8)
-        : rattle_realloc(*array, count * size, wanted * size, 8);
+        ? rattle_alloc(wanted * size, align)
+        : rattle_realloc(*array, count * size, wanted * size, align);
     if (!grown.is_there) {
         return RKYV_NO_MEMORY;
     }

@@ -22,11 +22,14 @@
  *
  * Requirements that the calls cannot test:
  *
- *   - A pointer that is not null points to the number of bytes that the length beside it gives, or
- *     to one value of its type, during the call. No other thread uses the memory that the call
- *     writes.
+ *   - A pointer that is not null points to as many bytes or elements as the number beside it, or to
+ *     one value of its type, during the call. `header` points to RKYV_CONTAINER_HEADER bytes.
+ *   - The memory that a call writes overlaps none of its other arguments, unless its comment says
+ *     otherwise. No other thread uses it. A call that writes a value may write the whole archive, so
+ *     its key is outside the archive: copy a key that an iteration has stored.
  *   - The bytes of a map stay at their address while a handle of it is in use. Only the calls that
- *     write values in place change them, as `rkyv_map_set_number`.
+ *     write values in place change them, as `rkyv_map_set_number`, by a handle of the same bytes,
+ *     kind and width.
  *   - A handle was filled by a call that opens a map, or is all zeros.
  *   - A builder is one of `rkyv_builder_new` that is not freed, used by one thread at a time.
  *   - The argument of `rkyv_bytes_free` is null, or an archive that a call built and that is not freed.
@@ -47,7 +50,7 @@ typedef enum rkyv_status {
     /* Success. */
     RKYV_OK = 0,
 
-    /* Results of lookups and iterations, and wrong arguments. */
+    /* Results of lookups and iterations, wrong arguments, and allocation failures. */
 
     /* The lookup does not find the key. */
     RKYV_NOT_FOUND = 1,
@@ -63,7 +66,7 @@ typedef enum rkyv_status {
     RKYV_TOO_LONG = 6,
     /* The kind is not one of `rkyv_kind`. */
     RKYV_UNKNOWN_KIND = 7,
-    /* The width is neither 32 nor 64. */
+    /* The width is neither 32 nor 64, nor RKYV_ANY_WIDTH where a container is opened or explained. */
     RKYV_UNKNOWN_WIDTH = 8,
     /* The call is for another collection, or for keys or values of another type, than those of the map
      * or of the kind. */
@@ -77,17 +80,19 @@ typedef enum rkyv_status {
     /* The room for a container does not have the size of the container. */
     RKYV_WRONG_SIZE = 13,
 
-    /* Errors of validation: the bytes are not an archive of such a map. */
+    /* Errors of validation: the bytes are not an archive of such a map. They are not checked in the
+     * order of their numbers. */
 
-    /* The map or a part of it is outside the bytes that it may use. */
+    /* The map or a part of it is outside the bytes that it may use, or the archive exceeds the limit
+     * of its width. */
     RKYV_OUT_OF_RANGE = 16,
     /* The map or a part of it is not at a multiple of its alignment. */
     RKYV_UNALIGNED = 17,
-    /* The number of pairs is not less than the number of buckets. */
+    /* The number of pairs is not less than the number of buckets, and they are not both 0. */
     RKYV_INVALID_LENGTH = 18,
     /* The number of full buckets differs from the number of pairs. */
     RKYV_WRONG_NUMBER_OF_ELEMENTS = 19,
-    /* A mirrored control byte differs from the one that it mirrors. */
+    /* A mirrored control byte differs from the one that it mirrors, or one behind them is not empty. */
     RKYV_UNWRAPPED_CONTROL_BYTE = 20,
     /* An index in the table of an index map is not less than the number of pairs. */
     RKYV_PLACE_OUT_OF_RANGE = 21,
@@ -276,7 +281,10 @@ typedef struct rkyv_text_member {
  *
  * RKYV_CONTAINER_TOO_SHORT has the number of bytes, and RKYV_CONTAINER_WRONG_MAGIC no number. From
  * RKYV_CONTAINER_UNSUPPORTED_VERSION to RKYV_CONTAINER_NONZERO_RESERVED it is the number in the
- * header, and from RKYV_CONTAINER_WRONG_COLLECTION on what is expected and what is found.
+ * header. From RKYV_CONTAINER_WRONG_COLLECTION to RKYV_CONTAINER_WRONG_WIDTH they are the code of the
+ * call's kind or width, and the code in the header. For RKYV_CONTAINER_WRONG_LENGTH and
+ * RKYV_CONTAINER_WRONG_CHECKSUM they are the number in the header, and that of the archive. A number
+ * that does not fit its member is replaced by the nearest one that does.
  *
  * `position` counts from the first byte of the archive, and is negative before it. The numbers
  * besides it are `first` and `second`, in this order. Collections, types and widths are their codes
@@ -377,8 +385,8 @@ rkyv_status rkyv_map_width(const rkyv_map *map, uint32_t *width);
  *   - RKYV_NULL: `count` is null. */
 rkyv_status rkyv_map_count(const rkyv_map *map, size_t *count);
 
-/* Stores the value of a number key. In a map that a builder has built, this is the value of the
- * first pair with the key.
+/* Stores the value of a number key. In a map that a call of this header has built, this is the value
+ * of the first pair with the key.
  *
  * Errors:
  *   - RKYV_NULL: `map` is null;
@@ -464,7 +472,7 @@ rkyv_status rkyv_map_set_number(const rkyv_map *map, uint32_t key, uint64_t valu
 rkyv_status rkyv_map_set_long_number(const rkyv_map *map, uint64_t key, uint64_t value);
 
 /* Writes the value of a text key of `length` bytes in place: the value that `rkyv_map_get_text`
- * finds. `key` may be null if `length` is 0.
+ * finds. `key` may be null if `length` is 0. It is outside the archive.
  *
  * Errors, after which no byte is changed:
  *   - RKYV_NULL: `map` is null;
@@ -653,8 +661,8 @@ rkyv_status rkyv_index_width(const rkyv_index_map *map, uint32_t *width);
  *   - RKYV_NULL: `count` is null. */
 rkyv_status rkyv_index_count(const rkyv_index_map *map, size_t *count);
 
-/* Stores the index of a number key and its value. In a map that a builder has built, these are of
- * the first pair with the key. `index` is not stored if it is null, and neither is `value`.
+/* Stores the index of a number key and its value. In a map that a call of this header has built, these
+ * are of the first pair with the key. `index` is not stored if it is null, and neither is `value`.
  *
  * Errors:
  *   - RKYV_NULL: `map` is null;
@@ -715,7 +723,7 @@ rkyv_status rkyv_index_set_number(const rkyv_index_map *map, uint32_t key, uint6
 rkyv_status rkyv_index_set_long_number(const rkyv_index_map *map, uint64_t key, uint64_t value);
 
 /* Writes the value of a text key of `length` bytes in place: the value that `rkyv_index_get_text`
- * finds. `key` may be null if `length` is 0.
+ * finds. `key` may be null if `length` is 0. It is outside the archive.
  *
  * Errors, after which no byte is changed:
  *   - RKYV_NULL: `map` is null;
@@ -860,16 +868,18 @@ typedef struct rkyv_text_item {
     size_t key_length;
 } rkyv_text_item;
 
-/* Allocates the archive of the `count` pairs at `items`, without a builder. The caller frees it with
- * `rkyv_bytes_free`. `kind` is a `rkyv_kind` of number keys and of values that are numbers, `width` is
- * 32 or 64. `items` may be null if `count` is 0.
+/* Allocates the archive of the `count` pairs at `items`, without a builder. If two have the same key,
+ * lookups find the first one. The caller frees it with `rkyv_bytes_free`. `kind` is a `rkyv_kind` of
+ * number keys and of values that are numbers, `width` is 32 or 64. `items` may be null if `count` is 0.
  *
  * Errors:
  *   - RKYV_UNKNOWN_KIND, RKYV_UNKNOWN_WIDTH, RKYV_WRONG_KIND;
  *   - RKYV_NULL: `bytes`, `length` or `items` is null;
  *   - RKYV_TOO_LONG: the pairs have more than PTRDIFF_MAX bytes;
- *   - the first error of building: RKYV_VALUE_TOO_LARGE, RKYV_NO_MEMORY, or RKYV_CAPACITY_TOO_LARGE
- *     to RKYV_DISTANCE_TOO_LARGE. */
+ *   - RKYV_NO_MEMORY;
+ *   - RKYV_VALUE_TOO_LARGE: of the first pair with such a value;
+ *   - the error of the write: RKYV_NO_MEMORY, or RKYV_CAPACITY_TOO_LARGE to
+ *     RKYV_DISTANCE_TOO_LARGE. */
 rkyv_status rkyv_build_numbers(const rkyv_number_item *items, size_t count, uint32_t kind,
                                uint32_t width, uint8_t **bytes, size_t *length);
 
@@ -881,10 +891,13 @@ rkyv_status rkyv_build_long_numbers(const rkyv_long_number_item *items, size_t c
  *
  * Errors:
  *   - RKYV_UNKNOWN_KIND, RKYV_UNKNOWN_WIDTH, RKYV_WRONG_KIND;
- *   - RKYV_NULL: `bytes`, `length`, `items` or a key is null;
- *   - RKYV_TOO_LONG: the pairs have more than PTRDIFF_MAX bytes, or a key has;
- *   - the first error of building: RKYV_NOT_TEXT, RKYV_VALUE_TOO_LARGE, RKYV_NO_MEMORY, or
- *     RKYV_CAPACITY_TOO_LARGE to RKYV_TEXT_TOO_LONG. */
+ *   - RKYV_NULL: `bytes`, `length` or `items` is null;
+ *   - RKYV_TOO_LONG: the pairs have more than PTRDIFF_MAX bytes;
+ *   - the error of the first pair that has one: RKYV_NULL if its key is null, RKYV_TOO_LONG if the key
+ *     has more than PTRDIFF_MAX bytes;
+ *   - RKYV_NO_MEMORY;
+ *   - the error of the first pair that has one: RKYV_NOT_TEXT, RKYV_VALUE_TOO_LARGE;
+ *   - the error of the write: RKYV_NO_MEMORY, or RKYV_CAPACITY_TOO_LARGE to RKYV_TEXT_TOO_LONG. */
 rkyv_status rkyv_build_texts(const rkyv_text_item *items, size_t count, uint32_t kind,
                              uint32_t width, uint8_t **bytes, size_t *length);
 
@@ -917,10 +930,13 @@ typedef struct rkyv_text_text_item {
  *
  * Errors:
  *   - RKYV_UNKNOWN_KIND, RKYV_UNKNOWN_WIDTH, RKYV_WRONG_KIND;
- *   - RKYV_NULL: `bytes`, `length`, `items` or a value is null;
- *   - RKYV_TOO_LONG: the pairs have more than PTRDIFF_MAX bytes, or a value has;
- *   - the first error of building: RKYV_NOT_TEXT, RKYV_NO_MEMORY, or RKYV_CAPACITY_TOO_LARGE to
- *     RKYV_TEXT_TOO_LONG. */
+ *   - RKYV_NULL: `bytes`, `length` or `items` is null;
+ *   - RKYV_TOO_LONG: the pairs have more than PTRDIFF_MAX bytes;
+ *   - the error of the first pair that has one: RKYV_NULL if its value is null, RKYV_TOO_LONG if the
+ *     value has more than PTRDIFF_MAX bytes;
+ *   - RKYV_NO_MEMORY;
+ *   - RKYV_NOT_TEXT: of the first pair with such a value;
+ *   - the error of the write: RKYV_NO_MEMORY, or RKYV_CAPACITY_TOO_LARGE to RKYV_TEXT_TOO_LONG. */
 rkyv_status rkyv_build_number_texts(const rkyv_number_text_item *items, size_t count,
                                     uint32_t kind, uint32_t width, uint8_t **bytes,
                                     size_t *length);
@@ -936,10 +952,13 @@ rkyv_status rkyv_build_long_number_texts(const rkyv_long_number_text_item *items
  *
  * Errors:
  *   - RKYV_UNKNOWN_KIND, RKYV_UNKNOWN_WIDTH, RKYV_WRONG_KIND;
- *   - RKYV_NULL: `bytes`, `length`, `items`, a key or a value is null;
- *   - RKYV_TOO_LONG: the pairs have more than PTRDIFF_MAX bytes, or a text has;
- *   - the first error of building: RKYV_NOT_TEXT, RKYV_NO_MEMORY, or RKYV_CAPACITY_TOO_LARGE to
- *     RKYV_TEXT_TOO_LONG. */
+ *   - RKYV_NULL: `bytes`, `length` or `items` is null;
+ *   - RKYV_TOO_LONG: the pairs have more than PTRDIFF_MAX bytes;
+ *   - the error of the first pair that has one: RKYV_NULL if its key or value is null, RKYV_TOO_LONG if
+ *     one of them has more than PTRDIFF_MAX bytes;
+ *   - RKYV_NO_MEMORY;
+ *   - RKYV_NOT_TEXT: of the first pair with such a key or value;
+ *   - the error of the write: RKYV_NO_MEMORY, or RKYV_CAPACITY_TOO_LARGE to RKYV_TEXT_TOO_LONG. */
 rkyv_status rkyv_build_text_texts(const rkyv_text_text_item *items, size_t count, uint32_t kind,
                                   uint32_t width, uint8_t **bytes, size_t *length);
 
@@ -971,10 +990,13 @@ typedef struct rkyv_set_text {
  *
  * Errors:
  *   - RKYV_UNKNOWN_WIDTH;
- *   - RKYV_NULL: `bytes`, `length`, `items` or a text is null;
- *   - RKYV_TOO_LONG: the items have more than PTRDIFF_MAX bytes, or a text has;
- *   - the first error of building: RKYV_NOT_TEXT, RKYV_NO_MEMORY, or RKYV_CAPACITY_TOO_LARGE to
- *     RKYV_TEXT_TOO_LONG. */
+ *   - RKYV_NULL: `bytes`, `length` or `items` is null;
+ *   - RKYV_TOO_LONG: the items have more than PTRDIFF_MAX bytes;
+ *   - the error of the first item that has one: RKYV_NULL if its text is null, RKYV_TOO_LONG if the text
+ *     has more than PTRDIFF_MAX bytes;
+ *   - RKYV_NO_MEMORY;
+ *   - RKYV_NOT_TEXT: of the first item with such a text;
+ *   - the error of the write: RKYV_NO_MEMORY, or RKYV_CAPACITY_TOO_LARGE to RKYV_TEXT_TOO_LONG. */
 rkyv_status rkyv_build_text_set(const rkyv_set_text *items, size_t count, uint32_t width,
                                 uint8_t **bytes, size_t *length);
 

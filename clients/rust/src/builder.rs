@@ -287,7 +287,7 @@ impl<K: Key + ?Sized, V: Value + ?Sized> Archive<K, V> {
 
     /// Writes the container of the archive, as [`to_container`](Archive::to_container) returns it.
     ///
-    /// The archive is written in place, without a copy in memory.
+    /// The archive is written without a copy in memory, and the writer is flushed.
     ///
     /// # Errors
     /// Those of the writer. It may then have taken a part of the container.
@@ -330,7 +330,8 @@ fn write_container<K: ?Sized, V: ?Sized>(
 ) -> io::Result<()> {
     let bytes = archive.as_bytes();
     writer.write_all(&header_of(kind, bytes, archive.width, checksum))?;
-    writer.write_all(bytes)
+    writer.write_all(bytes)?;
+    writer.flush()
 }
 
 impl<K: ?Sized, V: ?Sized> AsRef<[u8]> for Archive<K, V> {
@@ -411,7 +412,7 @@ impl<K: Key + ?Sized, V: Value + ?Sized> IndexArchive<K, V> {
     /// Writes the container of the archive, as [`to_container`](IndexArchive::to_container) returns
     /// it.
     ///
-    /// The archive is written in place, without a copy in memory.
+    /// The archive is written without a copy in memory, and the writer is flushed.
     ///
     /// # Errors
     /// Those of the writer. It may then have taken a part of the container.

@@ -19,8 +19,9 @@ pub type Build<P> =
 /// build return a status.
 ///
 /// # Safety
-/// A map is open, with keys and values of these types, and its bytes are borrowed. The texts of items
-/// are borrowed.
+/// A map is open, with keys and values of these types, and its bytes are borrowed. `index_get` and
+/// `index_pairs` require an index map, `get` and `next` a hash map or a set. The texts of items are
+/// borrowed.
 pub struct Calls<K: KeyCalls + ?Sized, V> {
     /// Looks up a key, and stores its value.
     pub get: unsafe fn(map: &RawMap, key: &K, value: &mut V) -> u32,
@@ -212,8 +213,9 @@ macro_rules! calls {
 
         // SAFETY, of each call: the pointers and lengths are of one slice or one text each, and the
         // other pointers are of references. The caller ensures that the bytes of an open map are
-        // borrowed, and so are the texts of items. A map that is looked up in is open, and of these
-        // types, so its bytes are a valid archive of them, and its header is the decoded one.
+        // borrowed, and so are the texts of items. A map that is looked up in is open, of these types
+        // and of the call's collection, so its bytes are a valid archive of them, and its header is
+        // the decoded one.
         impl KeyCalls for $type {
             type Raw = $raw;
 

@@ -8,7 +8,7 @@ use crate::{Error, Width};
 ///
 /// A checksum detects accidental changes of an archive: each change of one byte, and most others.
 /// It is no protection from an attacker, who can compute it too. Opening a container with a
-/// checksum reads its archive once more.
+/// checksum reads all bytes of its archive.
 #[derive(Clone, Copy, Debug, Default, PartialEq, Eq, Hash)]
 pub enum Checksum {
     /// No checksum.

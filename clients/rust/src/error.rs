@@ -111,22 +111,23 @@ impl std::error::Error for Error {}
 #[derive(Clone, Copy, Debug, PartialEq, Eq, Hash)]
 #[non_exhaustive]
 pub enum ErrorKind {
-    /// The map or a part of it is outside the bytes that it may use.
+    /// The map or a part of it is outside the bytes that it may use, or the archive exceeds the limit
+    /// of its width.
     OutOfRange,
     /// The map or a part of it is not at a multiple of its alignment.
     Unaligned,
-    /// The number of pairs is not less than the number of buckets.
+    /// The number of pairs is not less than the number of buckets, and they are not both 0.
     InvalidLength,
     /// The number of full buckets differs from the number of pairs.
     WrongNumberOfElements,
-    /// A mirrored control byte differs from the one that it mirrors.
+    /// A mirrored control byte differs from the one that it mirrors, or one behind them is not empty.
     UnwrappedControlByte,
     /// An index in the table of an index map is not less than the number of pairs.
     PlaceOutOfRange,
     /// A text is not UTF-8, or its length is malformed.
     InvalidValue,
 
-    /// The C library failed to allocate memory.
+    /// An allocation failed.
     NoMemory,
     /// The map needs more buckets than the width can count.
     CapacityTooLarge,
@@ -192,7 +193,7 @@ impl fmt::Display for ErrorKind {
                 "an index in the table is not less than the number of pairs"
             }
             ErrorKind::InvalidValue => "a text is not UTF-8, or its length is malformed",
-            ErrorKind::NoMemory => "the C library failed to allocate memory",
+            ErrorKind::NoMemory => "an allocation failed",
             ErrorKind::CapacityTooLarge => "the map needs more buckets than the width can count",
             ErrorKind::PositionTooLarge => "the archive would be longer than the width allows",
             ErrorKind::DistanceTooLarge => {

@@ -58,7 +58,8 @@ impl<K: ?Sized, V: ?Sized> Copy for IndexMap<'_, K, V> {}
 impl<'a, K: Key + ?Sized, V: Value + ?Sized> IndexMap<'a, K, V> {
     /// Validates the bytes and opens the index map whose archive they are.
     ///
-    /// Validation reads all bytes once. The bytes of an archive don't record their types:
+    /// Validation reads the control bytes, the indices and the texts. Numbers need no validation. The
+    /// bytes of an archive don't record their types:
     /// [`open_container`](IndexMap::open_container) opens those that do.
     ///
     /// # Errors

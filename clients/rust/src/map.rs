@@ -69,17 +69,17 @@ impl<K: ?Sized, V: ?Sized> Copy for Map<'_, K, V> {}
 impl<'a, K: Key + ?Sized, V: Value + ?Sized> Map<'a, K, V> {
     /// Validates the bytes and opens the map whose archive they are.
     ///
-    /// Validation reads all bytes once. The bytes of an archive don't record their types:
-    /// [`open_container`](Map::open_container) opens those that do.
+    /// Validation reads the control bytes and the texts. Numbers need no validation. The bytes of an
+    /// archive don't record their types: [`open_container`](Map::open_container) opens those that do.
     ///
     /// # Errors
     /// The first error of validation:
-    /// - [`ErrorKind::OutOfRange`]
-    /// - [`ErrorKind::Unaligned`]
+    /// - [`ErrorKind::OutOfRange`], [`ErrorKind::Unaligned`]: of the header at the end
     /// - [`ErrorKind::InvalidLength`]
+    /// - [`ErrorKind::OutOfRange`], [`ErrorKind::Unaligned`]: of the table
+    /// - [`ErrorKind::InvalidValue`], [`ErrorKind::OutOfRange`]: of a text
     /// - [`ErrorKind::WrongNumberOfElements`]
     /// - [`ErrorKind::UnwrappedControlByte`]
-    /// - [`ErrorKind::InvalidValue`]
     pub fn open(bytes: &'a [u8], width: Width) -> Result<Self, Error> {
         MAP.open(bytes, kind::<K, V>(), width as u32).map(Map::of)
     }

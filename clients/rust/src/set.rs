@@ -40,8 +40,8 @@ impl<K: ?Sized> Copy for Set<'_, K> {}
 impl<'a, K: Key + ?Sized> Set<'a, K> {
     /// Validates the bytes and opens the set whose archive they are.
     ///
-    /// Validation reads all bytes once. The bytes of an archive don't record their type:
-    /// [`open_container`](Set::open_container) opens those that do.
+    /// Validation reads the control bytes, and the items that are texts. The bytes of an archive don't
+    /// record their type: [`open_container`](Set::open_container) opens those that do.
     ///
     /// # Errors
     /// As [`Map::open`].
