@@ -6,7 +6,7 @@ use Rattle.rkyv_base.specs.{ScalarRepresents, text_at}
 use Rattle.rkyv_keys.specs.{one_call, same_bytes, scalar_fits, text_calls}
 use Rattle.ffi_calls.specs.Archives.{Overwrites, ReturnsAt, numbers_in, texts_in, value_encoding}
 use Rattle.ffi_calls.specs.Archives.{value_found, word_of}
-use Rattle.ffi_calls.specs.Keys.{NumberKey}
+use Rattle.ffi_calls.specs.Keys.{NumberKey, NumbersAt}
 use Rattle.ffi_calls.specs.Reading.{ReadsText, ReadsWord}
 use Rattle.ffi_calls.specs.Walking.{StoresNextPairs}
 use Rattle.ffi_calls.specs.declared.form.Form.{Form}
@@ -19,19 +19,22 @@ module _ {A : Type 0} (k : NumberKey A) (form : Form) (b : List ℕ) where
   number_found key = value_found (numbers_in k form b) (one_call k.call key)
       (scalar_fits k.encoding k.eq key b)
 
+module _ {A : Type 0} (m : NumbersAt A) where
   -- the result of a lookup of the number `key`, whose value replaces `before`
   abbrev pub ReturnsNumber : A → ℕ → ℕ → ℕ → Type 0
-  ReturnsNumber key = ReturnsAt (ReadsWord (word_of form.long_values) b) (number_found key)
+  ReturnsNumber key = ReturnsAt (ReadsWord (word_of m.form.long_values) m.bytes)
+      (number_found m.key m.form m.bytes key)
 
-  -- the result of an overwrite of the value of the number `key` in `b`
+  -- the result of an overwrite of the value of the number `key` in the bytes of `m`
   abbrev pub SetsNumber : A → ℕ → ℕ → List ℕ → Type 0
-  SetsNumber key = Overwrites (value_encoding form) b (number_found key)
+  SetsNumber key = Overwrites (value_encoding m.form) m.bytes
+      (number_found m.key m.form m.bytes key)
 
   -- the result of steps to the next pairs of a map of numbers
   abbrev pub StoresNextNumbers : ℕ → List (Step (Pair A ℕ)) → ℕ → List (Step (Pair A ℕ)) → Type 0
   StoresNextNumbers =
-      StoresNextPairs (numbers_in k form b) (ScalarRepresents k.encoding)
-      (ReadsWord (word_of form.long_values))
+      StoresNextPairs (numbers_in m.key m.form m.bytes) (ScalarRepresents m.key.encoding)
+      (ReadsWord (word_of m.form.long_values))
 
 -- the position of the value that a lookup of the text `key` finds
 abbrev pub text_found : Form → List ℕ → List ℕ → Option ℕ

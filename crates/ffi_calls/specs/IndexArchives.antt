@@ -16,7 +16,7 @@ use Rattle.rkyv_index.specs.{index_bytes, index_found, index_pos, index_spec, pa
 use Rattle.rkyv_index.specs.declared.map.ArchivedIndexMap.{ArchivedIndexMap}
 use Rattle.ffi_calls.specs.Archives.{hash_by, limit_of, text_key, value_spec}
 use Rattle.ffi_calls.specs.Archives.{word_of}
-use Rattle.ffi_calls.specs.Keys.{NumberKey}
+use Rattle.ffi_calls.specs.Keys.{NumberKey, NumbersAt}
 use Rattle.ffi_calls.specs.declared.form.Form.{Form}
 use Rattle.ffi_calls.specs.Reading.{ReadsText, ReadsWord}
 use Rattle.ffi_calls.specs.declared.pairs.Indexed.{Indexed}
@@ -130,16 +130,17 @@ module _ {A : Type 0} (k : NumberKey A) (form : Form) (b : List ℕ) where
   number_index_found key = found_index (number_index_in k form b) (one_call k.call key)
       (scalar_fits k.encoding k.eq key b)
 
+module _ {A : Type 0} (m : NumbersAt A) where
   -- the result of a lookup of the number `key`, whose index and value replace `before`
   abbrev pub ReturnsIndexedNumber : A → Indexed ℕ → ℕ → Indexed ℕ → Type 0
-  ReturnsIndexedNumber key = ReturnsIndexed (number_index_in k form b)
-      (ReadsWord (word_of form.long_values)) (number_index_found key)
+  ReturnsIndexedNumber key = ReturnsIndexed (number_index_in m.key m.form m.bytes)
+      (ReadsWord (word_of m.form.long_values)) (number_index_found m.key m.form m.bytes key)
 
   -- the result of reading the pairs of numbers from an index on
   abbrev pub StoresNumbers : ℕ → List (Pair A ℕ) → ℕ → List (Pair A ℕ) → Type 0
   StoresNumbers =
-      StoresPairs (number_index_in k form b) (ScalarRepresents k.encoding)
-      (ReadsWord (word_of form.long_values))
+      StoresPairs (number_index_in m.key m.form m.bytes) (ScalarRepresents m.key.encoding)
+      (ReadsWord (word_of m.form.long_values))
 
 -- the index that a lookup of the text `key` finds
 abbrev pub text_index_found : Form → List ℕ → List ℕ → Option ℕ

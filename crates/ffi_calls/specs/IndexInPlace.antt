@@ -13,7 +13,7 @@ use Rattle.ffi_calls.specs.IndexArchives.{found_index, index_in, number_index_fo
 use Rattle.ffi_calls.specs.IndexArchives.{number_index_in, text_index_found, text_index_in}
 use Rattle.ffi_calls.specs.IndexArchives.{value_pos_at}
 use Rattle.ffi_calls.specs.IndexLists.{IndexRepresentsPairs}
-use Rattle.ffi_calls.specs.Keys.{NumberKey}
+use Rattle.ffi_calls.specs.Keys.{NumbersAt}
 use Rattle.ffi_calls.specs.Listed.{query_of_number, query_of_text}
 use Rattle.ffi_calls.specs.Lists.{query_pairs}
 use Rattle.ffi_calls.specs.declared.form.Form.{Form}
@@ -44,17 +44,18 @@ SetsFirstIndexed {A} {N} m a e number status c =
     × IndexRepresentsPairs (index_in m.word m.key m.value c) native factor
     (slice_set pairs i (pair.0, value))))
 
-module _ {A : Type 0} (k : NumberKey A) (form : Form) (b : List ℕ) where
-  -- the result of an overwrite of the value of the number `key` in `b`
+module _ {A : Type 0} (m : NumbersAt A) where
+  -- the result of an overwrite of the value of the number `key` in the bytes of `m`
   abbrev pub SetsIndexedNumber : A → ℕ → ℕ → List ℕ → Type 0
-  SetsIndexedNumber key = let m = number_index_in k form b in
-      Overwrites (value_encoding form) b
-      (option_map (value_pos_at m) (number_index_found k form b key))
+  SetsIndexedNumber key = Overwrites (value_encoding m.form) m.bytes
+      (option_map (value_pos_at (number_index_in m.key m.form m.bytes))
+      (number_index_found m.key m.form m.bytes key))
 
   -- an overwrite of the value of `key` changes that of the first pair with the number
   abbrev pub SetsFirstIndexedNumber : A → ℕ → ℕ → List ℕ → Type 0
   SetsFirstIndexedNumber key =
-      SetsFirstIndexed (number_index_in k form b) (query_of_number k key) (value_encoding form)
+      SetsFirstIndexed (number_index_in m.key m.form m.bytes) (query_of_number m.key key)
+      (value_encoding m.form)
 
 module _ (form : Form) (b key : List ℕ) where
   -- the result of an overwrite of the value of the text `key` in `b`

@@ -8,7 +8,7 @@ use Rattle.rkyv_collections.specs.{MapAt, ValueQuery}
 use Rattle.rkyv_index.specs.{IndexRepresents, IsFirst}
 use Rattle.ffi_calls.specs.Archives.{value_encoding, word_of}
 use Rattle.ffi_calls.specs.IndexArchives.{number_index_in, text_index_in}
-use Rattle.ffi_calls.specs.Keys.{NumberKey}
+use Rattle.ffi_calls.specs.Keys.{NumbersAt}
 use Rattle.ffi_calls.specs.Listed.{number_natives, query_of_number, query_of_text, text_natives}
 use Rattle.ffi_calls.specs.Lists.{query_pairs}
 use Rattle.ffi_calls.specs.declared.form.Form.{Form}
@@ -49,17 +49,18 @@ StoresListed {A} {B} {X} {Y} m native key value from before count after =
     × ((i : ℕ) (pair : A × B) (stored : Pair X Y) → i < count → slice_get after i ≡ Some stored
     → slice_get pairs (from + i) ≡ Some pair → key stored.key pair.0 × value stored.value pair.1)
 
-module _ {A : Type 0} (k : NumberKey A) (form : Form) (b : List ℕ) where
+module _ {A : Type 0} (m : NumbersAt A) where
   -- the result of a lookup of `key` is of the first pair with the number
   abbrev pub ReturnsFirstIndexedNumber : A → Indexed ℕ → ℕ → Indexed ℕ → Type 0
-  ReturnsFirstIndexedNumber key = let e = value_encoding form in
-      ReturnsFirstIndexed (number_index_in k form b) (query_of_number k key) (ScalarRepresents e)
-      (IsNumberOf e)
+  ReturnsFirstIndexedNumber key = let e = value_encoding m.form in
+      ReturnsFirstIndexed (number_index_in m.key m.form m.bytes) (query_of_number m.key key)
+      (ScalarRepresents e) (IsNumberOf e)
 
   -- the pairs of numbers that are read from an index on are those of the list
   abbrev pub StoresListedNumbers : ℕ → List (Pair A ℕ) → ℕ → List (Pair A ℕ) → Type 0
-  StoresListedNumbers = let e = value_encoding form in
-      StoresListed (number_index_in k form b) (number_natives k e) IsSame (IsNumberOf e)
+  StoresListedNumbers = let e = value_encoding m.form in
+      StoresListed (number_index_in m.key m.form m.bytes) (number_natives m.key e) IsSame
+      (IsNumberOf e)
 
 -- the result of a lookup of `key` is of the first pair with the text
 abbrev pub ReturnsFirstIndexedText : Form → List ℕ → List ℕ → Indexed ℕ → ℕ → Indexed ℕ → Type 0

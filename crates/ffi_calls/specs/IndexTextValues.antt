@@ -15,7 +15,7 @@ use Rattle.ffi_calls.specs.IndexArchives.{ReturnsIndexed, StoresPairs, found_ind
 use Rattle.ffi_calls.specs.IndexArchives.{index_map}
 use Rattle.ffi_calls.specs.IndexItems.{IndexFails, IndexWidth, IsIndexOf}
 use Rattle.ffi_calls.specs.IndexLists.{ReturnsFirstIndexed, StoresListed}
-use Rattle.ffi_calls.specs.Keys.{NumberKey}
+use Rattle.ffi_calls.specs.Keys.{NumberKey, NumberKeysAt}
 use Rattle.ffi_calls.specs.Listed.{TextRepresents, query_of_number, query_of_text}
 use Rattle.ffi_calls.specs.Reading.{HasBytesOf, IsSame, ReadsText}
 use Rattle.ffi_calls.specs.Status.{write_status}
@@ -50,30 +50,34 @@ module _ {A : Type 0} (k : NumberKey A) (wide : Bool) where
   abbrev pub number_text_index_in : List ℕ → MapAt
   number_text_index_in = index_in (word_of wide) k.spec (text_by wide)
 
+module _ {A : Type 0} (m : NumberKeysAt A) where
   -- the result of a lookup of the number `key`, whose index and text replace `before`
-  abbrev pub ReturnsIndexedTextOfNumber : List ℕ → A → Indexed (Bor (List ℕ)) → ℕ
+  abbrev pub ReturnsIndexedTextOfNumber : A → Indexed (Bor (List ℕ)) → ℕ
       → Indexed (Bor (List ℕ)) → Type 0
-  ReturnsIndexedTextOfNumber b key = ReturnsIndexedTextAt wide (number_text_index_in b)
-      (found_index (number_text_index_in b) (one_call k.call key)
-      (scalar_fits k.encoding k.eq key b))
+  ReturnsIndexedTextOfNumber key =
+      ReturnsIndexedTextAt m.wide (number_text_index_in m.key m.wide m.bytes)
+      (found_index (number_text_index_in m.key m.wide m.bytes) (one_call m.key.call key)
+      (scalar_fits m.key.encoding m.key.eq key m.bytes))
 
   -- the result of a lookup of `key` is of the first pair with the number
-  abbrev pub ReturnsFirstIndexedTextOfNumber : List ℕ → A → Indexed (Bor (List ℕ)) → ℕ
+  abbrev pub ReturnsFirstIndexedTextOfNumber : A → Indexed (Bor (List ℕ)) → ℕ
       → Indexed (Bor (List ℕ)) → Type 0
-  ReturnsFirstIndexedTextOfNumber b key =
-      ReturnsFirstIndexedTextAt wide (number_text_index_in b) (query_of_number k key)
+  ReturnsFirstIndexedTextOfNumber key =
+      ReturnsFirstIndexedTextAt m.wide (number_text_index_in m.key m.wide m.bytes)
+      (query_of_number m.key key)
 
   -- the result of reading the pairs of numbers and texts from an index on
-  abbrev pub StoresNumberTexts : List ℕ → ℕ → List (Pair A (Bor (List ℕ))) → ℕ
+  abbrev pub StoresNumberTexts : ℕ → List (Pair A (Bor (List ℕ))) → ℕ
       → List (Pair A (Bor (List ℕ))) → Type 0
-  StoresNumberTexts b =
-      StoresPairs (number_text_index_in b) (ScalarRepresents k.encoding) (ReadsText (word_of wide))
+  StoresNumberTexts =
+      StoresPairs (number_text_index_in m.key m.wide m.bytes) (ScalarRepresents m.key.encoding)
+      (ReadsText (word_of m.wide))
 
   -- the pairs of numbers and texts that are read from an index on are those of the list
-  abbrev pub StoresListedNumberTexts : List ℕ → ℕ → List (Pair A (Bor (List ℕ))) → ℕ
+  abbrev pub StoresListedNumberTexts : ℕ → List (Pair A (Bor (List ℕ))) → ℕ
       → List (Pair A (Bor (List ℕ))) → Type 0
-  StoresListedNumberTexts b = StoresListed (number_text_index_in b)
-      (number_texts_natives k (width_by wide)) IsSame HasBytesOf
+  StoresListedNumberTexts = StoresListed (number_text_index_in m.key m.wide m.bytes)
+      (number_texts_natives m.key (width_by m.wide)) IsSame HasBytesOf
 
 module _ (wide : Bool) where
   -- the spec of the header of an index map of texts to texts, narrow or wide

@@ -7,7 +7,7 @@ use Rattle.rkyv_keys.specs.{NativePairs, same_bytes, scalar_calls}
 use Rattle.rkyv_keys.specs.Lemmas.OfTexts.{IsTextOf, text_key_calls}
 use Rattle.rkyv_collections.specs.{MapAt, ValueQuery}
 use Rattle.ffi_calls.specs.Archives.{numbers_in, texts_in, value_encoding, word_of}
-use Rattle.ffi_calls.specs.Keys.{NumberKey}
+use Rattle.ffi_calls.specs.Keys.{NumberKey, NumbersAt}
 use Rattle.ffi_calls.specs.Lists.{ReturnsFirst, SetsFirstOf, natives, query_of_key}
 use Rattle.ffi_calls.specs.Reading.{IsNumberOf}
 use Rattle.ffi_calls.specs.declared.form.Form.{Form}
@@ -39,16 +39,18 @@ query_of_text w key =
 abbrev pub FindsFirst : {A N : Type 0} → MapAt → ValueQuery A → Encoding N → ℕ → ℕ → ℕ → Type 0
 FindsFirst m a e = ReturnsFirst m a (ScalarRepresents e) (IsNumberOf e)
 
-module _ {A : Type 0} (k : NumberKey A) (form : Form) (b : List ℕ) where
+module _ {A : Type 0} (m : NumbersAt A) where
   -- the result of a lookup of `key` is the value of the first pair with the number
   abbrev pub ReturnsFirstNumber : A → ℕ → ℕ → ℕ → Type 0
   ReturnsFirstNumber key =
-      FindsFirst (numbers_in k form b) (query_of_number k key) (value_encoding form)
+      FindsFirst (numbers_in m.key m.form m.bytes) (query_of_number m.key key)
+      (value_encoding m.form)
 
   -- an overwrite of the value of `key` changes that of the first pair with the number
   abbrev pub SetsFirstNumber : A → ℕ → ℕ → List ℕ → Type 0
   SetsFirstNumber key =
-      SetsFirstOf (numbers_in k form b) (query_of_number k key) (value_encoding form)
+      SetsFirstOf (numbers_in m.key m.form m.bytes) (query_of_number m.key key)
+      (value_encoding m.form)
 
 -- the result of a lookup of `key` is the value of the first pair with the text
 abbrev pub ReturnsFirstText : Form → List ℕ → List ℕ → ℕ → ℕ → ℕ → Type 0

@@ -9,7 +9,7 @@ use Rattle.rkyv_base.specs.{unit_spec}
 use Rattle.rkyv_keys.specs.{one_call, same_bytes, scalar_fits, text_calls}
 use Rattle.rkyv_collections.specs.{MapAt, SetRepresents, ValueQuery, set_spec}
 use Rattle.ffi_calls.specs.Archives.{limit_of, map_in, value_found, word_of}
-use Rattle.ffi_calls.specs.Keys.{NumberKey}
+use Rattle.ffi_calls.specs.Keys.{NumberKey, NumberKeysAt}
 use Rattle.ffi_calls.specs.Listed.{query_of_number, query_of_text}
 use Rattle.ffi_calls.specs.TextValues.{text_by}
 use Rattle.ffi_calls.specs.Reading.{ReadsText}
@@ -80,10 +80,11 @@ abbrev pub FindsListedText : Bool → List ℕ → List ℕ → ℕ → Type 0
 FindsListedText wide b item = FindsItem (text_set_in wide b) (query_of_text (word_of wide) item)
 
 -- the result of steps to the next items of a set of numbers
-abbrev pub StoresNextNumberMembers : {A : Type 0} → NumberKey A → Bool → List ℕ → ℕ
+abbrev pub StoresNextNumberMembers : {A : Type 0} → NumberKeysAt A → ℕ
     → List (Step (Pair A (Unit {0}))) → ℕ → List (Step (Pair A (Unit {0}))) → Type 0
-StoresNextNumberMembers k wide b =
-    StoresNextPairs (number_set_in k wide b) (ScalarRepresents k.encoding) unit_represents
+StoresNextNumberMembers m =
+    StoresNextPairs (number_set_in m.key m.wide m.bytes) (ScalarRepresents m.key.encoding)
+    unit_represents
 
 -- the result of steps to the next items of a set of texts
 abbrev pub StoresNextTextMembers : Bool → List ℕ → ℕ

@@ -7,7 +7,7 @@ use Rattle.rkyv_base.specs.{ElementSpec, IsValidArchive, ScalarRepresents, text_
 use Rattle.rkyv_keys.specs.{one_call, same_bytes, scalar_fits, text_calls}
 use Rattle.rkyv_collections.specs.{MapAt, ValueQuery, map_spec}
 use Rattle.ffi_calls.specs.Archives.{ReturnsAt, limit_of, map_in, value_found, word_of}
-use Rattle.ffi_calls.specs.Keys.{NumberKey}
+use Rattle.ffi_calls.specs.Keys.{NumberKey, NumberKeysAt}
 use Rattle.ffi_calls.specs.Listed.{TextRepresents, query_of_number, query_of_text}
 use Rattle.ffi_calls.specs.Lists.{ReturnsFirst}
 use Rattle.ffi_calls.specs.Reading.{HasBytesOf, ReadsText}
@@ -58,17 +58,17 @@ abbrev pub ReturnsFirstTextValue : {A : Type 0} → MapAt → ValueQuery A → B
     → Bor (List ℕ) → Type 0
 ReturnsFirstTextValue m a = ReturnsFirst m a (TextRepresents m.word) HasBytesOf
 
-module _ {A : Type 0} (k : NumberKey A) (wide : Bool) (b : List ℕ) where
+module _ {A : Type 0} (m : NumberKeysAt A) where
   -- the result of a lookup of the number `key`, whose text replaces `before`
   abbrev pub ReturnsTextOfNumber : A → Bor (List ℕ) → ℕ → Bor (List ℕ) → Type 0
-  ReturnsTextOfNumber key = ReturnsTextAt (number_texts_in k wide b)
-      (value_found (number_texts_in k wide b) (one_call k.call key)
-      (scalar_fits k.encoding k.eq key b))
+  ReturnsTextOfNumber key = ReturnsTextAt (number_texts_in m.key m.wide m.bytes)
+      (value_found (number_texts_in m.key m.wide m.bytes) (one_call m.key.call key)
+      (scalar_fits m.key.encoding m.key.eq key m.bytes))
 
   -- the result of a lookup of `key` is the text of the first pair with the number
   abbrev pub ReturnsFirstTextOfNumber : A → Bor (List ℕ) → ℕ → Bor (List ℕ) → Type 0
   ReturnsFirstTextOfNumber key =
-      ReturnsFirstTextValue (number_texts_in k wide b) (query_of_number k key)
+      ReturnsFirstTextValue (number_texts_in m.key m.wide m.bytes) (query_of_number m.key key)
 
 -- the position of the value that a lookup of the text `key` finds
 abbrev pub text_of_text_found : Bool → List ℕ → List ℕ → Option ℕ
@@ -90,11 +90,11 @@ ReturnsFirstTextOfText wide b key =
     ReturnsFirstTextValue (text_texts_in wide b) (query_of_text (word_of wide) key)
 
 -- the result of steps to the next pairs of a map of numbers to texts
-abbrev pub StoresNextNumberTexts : {A : Type 0} → NumberKey A → Bool → List ℕ → ℕ
+abbrev pub StoresNextNumberTexts : {A : Type 0} → NumberKeysAt A → ℕ
     → List (Step (Pair A (Bor (List ℕ)))) → ℕ → List (Step (Pair A (Bor (List ℕ)))) → Type 0
-StoresNextNumberTexts k wide b =
-    StoresNextPairs (number_texts_in k wide b) (ScalarRepresents k.encoding)
-    (ReadsText (word_of wide))
+StoresNextNumberTexts m =
+    StoresNextPairs (number_texts_in m.key m.wide m.bytes) (ScalarRepresents m.key.encoding)
+    (ReadsText (word_of m.wide))
 
 -- the result of steps to the next pairs of a map of texts to texts
 abbrev pub StoresNextTextTexts : Bool → List ℕ → ℕ

@@ -8,6 +8,7 @@ ghost use Rattle.ffi_calls.specs.{Explains, IsHeaderOf, IsNumberIndex, KeepsHead
 ghost use Rattle.ffi_calls.specs.{ReturnsFirstIndexedNumber, ReturnsIndexedNumber};
 ghost use Rattle.ffi_calls.specs.{SetsFirstIndexedNumber, SetsIndexedNumber, StoresListedNumbers};
 ghost use Rattle.ffi_calls.specs.{StoresNumbers, limit_of, number_index, number_index_in};
+ghost use Rattle.ffi_calls.specs.{numbers_at};
 
 use crate::explanation::Explanation;
 use crate::form::Form;
@@ -85,10 +86,10 @@ pub fn get_index_number<K: NumberKey, I: IndexedOf<u64>>(
 ) -> u32
     requires archive { IsNumberIndex K.NumberKey form archive.now }
     requires header { IsHeaderOf (number_index_in K.NumberKey form archive.now) header.now }
-    ensures outcome { ReturnsIndexedNumber K.NumberKey form archive.now key (I.indexed_of found.old)
-        result (I.indexed_of found.new) }
-    ensures listed { ReturnsFirstIndexedNumber K.NumberKey form archive.now key (I.indexed_of
-        found.old) result (I.indexed_of found.new) }
+    ensures outcome { ReturnsIndexedNumber (numbers_at K.NumberKey form archive.now) key
+        (I.indexed_of found.old) result (I.indexed_of found.new) }
+    ensures listed { ReturnsFirstIndexedNumber (numbers_at K.NumberKey form archive.now) key
+        (I.indexed_of found.old) result (I.indexed_of found.new) }
 {
     match (form.long_values, form.wide) {
         (false, false) => find_in::<K, u64, u32, I, K, u32, Narrow>(
@@ -136,9 +137,10 @@ pub fn set_index_number<K: NumberKey>(archive: &mut [u8], form: Form, key: K, va
     ensures kept { IsNumberIndex K.NumberKey form archive.new }
     ensures header { KeepsHeader (number_index_in K.NumberKey form archive.old)
         (number_index_in K.NumberKey form archive.new) }
-    ensures sets { SetsIndexedNumber K.NumberKey form archive.old key value result archive.new }
-    ensures listed { SetsFirstIndexedNumber K.NumberKey form archive.old key value result
+    ensures sets { SetsIndexedNumber (numbers_at K.NumberKey form archive.old) key value result
         archive.new }
+    ensures listed { SetsFirstIndexedNumber (numbers_at K.NumberKey form archive.old) key value
+        result archive.new }
 {
     match (form.long_values, form.wide) {
         (false, false) => set_indexed_in::<K, K, u32, Narrow>(archive, &key, value),
@@ -165,10 +167,10 @@ pub fn index_numbers_from<K: NumberKey, P: PairOf<K, u64>>(
 ) -> usize
     requires archive { IsNumberIndex K.NumberKey form archive.now }
     requires header { IsHeaderOf (number_index_in K.NumberKey form archive.now) header.now }
-    ensures stores { StoresNumbers K.NumberKey form archive.now from (map P.pair_of pairs.old)
-        result (map P.pair_of pairs.new) }
-    ensures listed { StoresListedNumbers K.NumberKey form archive.now from (map P.pair_of pairs.old)
-        result (map P.pair_of pairs.new) }
+    ensures stores { StoresNumbers (numbers_at K.NumberKey form archive.now) from (map P.pair_of
+        pairs.old) result (map P.pair_of pairs.new) }
+    ensures listed { StoresListedNumbers (numbers_at K.NumberKey form archive.now) from (map
+        P.pair_of pairs.old) result (map P.pair_of pairs.new) }
 {
     match (form.long_values, form.wide) {
         (false, false) => {

@@ -7,7 +7,7 @@ ghost use Rattle.std.specs.Prelude.{map, ◌≡◌};
 ghost use Rattle.ffi_calls.specs.{Explains, IsHeaderOf, IsNumberTextIndex, Opens};
 ghost use Rattle.ffi_calls.specs.{ReturnsFirstIndexedTextOfNumber, ReturnsIndexedTextOfNumber};
 ghost use Rattle.ffi_calls.specs.{StoresListedNumberTexts, StoresNumberTexts, limit_of};
-ghost use Rattle.ffi_calls.specs.{number_text_index, number_text_index_in};
+ghost use Rattle.ffi_calls.specs.{number_keys_at, number_text_index, number_text_index_in};
 
 use crate::explanation::Explanation;
 use crate::index::{
@@ -82,10 +82,10 @@ pub fn get_index_text_of_number<'a, K: NumberKey, I: IndexedOf<&'a [u8]>>(
 ) -> u32
     requires archive { IsNumberTextIndex K.NumberKey wide archive.now }
     requires header { IsHeaderOf (number_text_index_in K.NumberKey wide archive.now) header.now }
-    ensures outcome { ReturnsIndexedTextOfNumber K.NumberKey wide archive.now key (I.indexed_of
-        found.old) result (I.indexed_of found.new) }
-    ensures listed { ReturnsFirstIndexedTextOfNumber K.NumberKey wide archive.now key (I.indexed_of
-        found.old) result (I.indexed_of found.new) }
+    ensures outcome { ReturnsIndexedTextOfNumber (number_keys_at K.NumberKey wide archive.now) key
+        (I.indexed_of found.old) result (I.indexed_of found.new) }
+    ensures listed { ReturnsFirstIndexedTextOfNumber (number_keys_at K.NumberKey wide archive.now)
+        key (I.indexed_of found.old) result (I.indexed_of found.new) }
 {
     if wide {
         find_in::<K, &[u8], &str, I, K, Text<Wide>, Wide>(
@@ -121,10 +121,10 @@ pub fn index_number_texts_from<'a, K: NumberKey, P: PairOf<K, &'a [u8]>>(
 ) -> usize
     requires archive { IsNumberTextIndex K.NumberKey wide archive.now }
     requires header { IsHeaderOf (number_text_index_in K.NumberKey wide archive.now) header.now }
-    ensures stores { StoresNumberTexts K.NumberKey wide archive.now from (map P.pair_of pairs.old)
-        result (map P.pair_of pairs.new) }
-    ensures listed { StoresListedNumberTexts K.NumberKey wide archive.now from (map P.pair_of
-        pairs.old) result (map P.pair_of pairs.new) }
+    ensures stores { StoresNumberTexts (number_keys_at K.NumberKey wide archive.now) from (map
+        P.pair_of pairs.old) result (map P.pair_of pairs.new) }
+    ensures listed { StoresListedNumberTexts (number_keys_at K.NumberKey wide archive.now) from (map
+        P.pair_of pairs.old) result (map P.pair_of pairs.new) }
 {
     if wide {
         pairs_in::<K, K, &[u8], &str, P, K, Text<Wide>, Wide>(

@@ -7,8 +7,8 @@ ghost use Rattle.std.specs.Prelude.{MatchResult, map, ◌≡◌};
 ghost use Rattle.ffi_calls.specs.{ArchiveOfNumberSetFails, Explains, FindsListedNumber};
 ghost use Rattle.ffi_calls.specs.{FindsNumber, IsArchiveOfNumberSet, IsHeaderOf, IsNumberSet};
 ghost use Rattle.ffi_calls.specs.{NumberSetWriteFails, NumberSetWriteOk, Opens, Outputs};
-ghost use Rattle.ffi_calls.specs.{StoresNextNumberMembers, archive_width, limit_of, number_set};
-ghost use Rattle.ffi_calls.specs.{number_set_in};
+ghost use Rattle.ffi_calls.specs.{StoresNextNumberMembers, archive_width, limit_of, number_keys_at};
+ghost use Rattle.ffi_calls.specs.{number_set, number_set_in};
 
 use crate::archives::{header_of, open_map, typed_header};
 use crate::building::{Built, leak_into};
@@ -106,8 +106,8 @@ pub fn next_number_members<K: NumberKey, S: StepOf<K, ()>>(
 ) -> usize
     requires archive { IsNumberSet K.NumberKey wide archive.now }
     requires header { IsHeaderOf (number_set_in K.NumberKey wide archive.now) header.now }
-    ensures { StoresNextNumberMembers K.NumberKey wide archive.now from (map S.step_of members.old)
-        result (map S.step_of members.new) }
+    ensures { StoresNextNumberMembers (number_keys_at K.NumberKey wide archive.now) from (map
+        S.step_of members.old) result (map S.step_of members.new) }
 {
     if wide {
         next_pairs_in::<K, (), S, K, (), Wide>(

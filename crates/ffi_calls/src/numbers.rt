@@ -5,7 +5,7 @@
 ghost use Rattle.std.specs.Prelude.{map, ◌≡◌};
 ghost use Rattle.ffi_calls.specs.{Explains, IsHeaderOf, IsNumberArchive, KeepsHeader, Opens};
 ghost use Rattle.ffi_calls.specs.{ReturnsFirstNumber, ReturnsNumber, SetsFirstNumber, SetsNumber};
-ghost use Rattle.ffi_calls.specs.{StoresNextNumbers, limit_of, number_map, numbers_in};
+ghost use Rattle.ffi_calls.specs.{StoresNextNumbers, limit_of, number_map, numbers_at, numbers_in};
 
 use crate::archives::{header_of, open_map, typed_header};
 use crate::explanation::{Explanation, explain_map};
@@ -82,9 +82,10 @@ pub fn get_number<K: NumberKey>(
 ) -> u32
     requires archive { IsNumberArchive K.NumberKey form archive.now }
     requires header { IsHeaderOf (numbers_in K.NumberKey form archive.now) header.now }
-    ensures outcome { ReturnsNumber K.NumberKey form archive.now key value.old result value.new }
-    ensures listed { ReturnsFirstNumber K.NumberKey form archive.now key value.old result
+    ensures outcome { ReturnsNumber (numbers_at K.NumberKey form archive.now) key value.old result
         value.new }
+    ensures listed { ReturnsFirstNumber (numbers_at K.NumberKey form archive.now) key value.old
+        result value.new }
 {
     match (form.long_values, form.wide) {
         (false, false) => get_in::<K, u64, u32, K, u32, Narrow>(
@@ -132,8 +133,10 @@ pub fn set_number<K: NumberKey>(archive: &mut [u8], form: Form, key: K, value: u
     ensures kept { IsNumberArchive K.NumberKey form archive.new }
     ensures header { KeepsHeader (numbers_in K.NumberKey form archive.old) (numbers_in K.NumberKey
         form archive.new) }
-    ensures sets { SetsNumber K.NumberKey form archive.old key value result archive.new }
-    ensures listed { SetsFirstNumber K.NumberKey form archive.old key value result archive.new }
+    ensures sets { SetsNumber (numbers_at K.NumberKey form archive.old) key value result
+        archive.new }
+    ensures listed { SetsFirstNumber (numbers_at K.NumberKey form archive.old) key value result
+        archive.new }
 {
     match (form.long_values, form.wide) {
         (false, false) => set_in::<K, K, u32, Narrow>(archive, &key, value),
@@ -161,8 +164,8 @@ pub fn next_numbers<K: NumberKey, S: StepOf<K, u64>>(
 ) -> usize
     requires archive { IsNumberArchive K.NumberKey form archive.now }
     requires header { IsHeaderOf (numbers_in K.NumberKey form archive.now) header.now }
-    ensures { StoresNextNumbers K.NumberKey form archive.now from (map S.step_of pairs.old) result
-        (map S.step_of pairs.new) }
+    ensures { StoresNextNumbers (numbers_at K.NumberKey form archive.now) from (map S.step_of
+        pairs.old) result (map S.step_of pairs.new) }
 {
     match (form.long_values, form.wide) {
         (false, false) => next_pairs_in::<K, u64, S, K, u32, Narrow>(

@@ -6,7 +6,7 @@
 ghost use Rattle.std.specs.Prelude.{map, ◌≡◌};
 ghost use Rattle.ffi_calls.specs.{Explains, IsHeaderOf, IsNumberTextArchive, Opens};
 ghost use Rattle.ffi_calls.specs.{ReturnsFirstTextOfNumber, ReturnsTextOfNumber};
-ghost use Rattle.ffi_calls.specs.{StoresNextNumberTexts, limit_of, number_text_map};
+ghost use Rattle.ffi_calls.specs.{StoresNextNumberTexts, limit_of, number_keys_at, number_text_map};
 ghost use Rattle.ffi_calls.specs.{number_texts_in};
 
 use crate::archives::{header_of, open_map, typed_header};
@@ -82,10 +82,10 @@ pub fn get_text_of_number<'a, K: NumberKey>(
 ) -> u32
     requires archive { IsNumberTextArchive K.NumberKey wide archive.now }
     requires header { IsHeaderOf (number_texts_in K.NumberKey wide archive.now) header.now }
-    ensures outcome { ReturnsTextOfNumber K.NumberKey wide archive.now key value.old result
-        value.new }
-    ensures listed { ReturnsFirstTextOfNumber K.NumberKey wide archive.now key value.old result
-        value.new }
+    ensures outcome { ReturnsTextOfNumber (number_keys_at K.NumberKey wide archive.now) key
+        value.old result value.new }
+    ensures listed { ReturnsFirstTextOfNumber (number_keys_at K.NumberKey wide archive.now) key
+        value.old result value.new }
 {
     if wide {
         get_in::<K, &[u8], &str, K, Text<Wide>, Wide>(
@@ -122,8 +122,8 @@ pub fn next_number_texts<'a, K: NumberKey, S: StepOf<K, &'a [u8]>>(
 ) -> usize
     requires archive { IsNumberTextArchive K.NumberKey wide archive.now }
     requires header { IsHeaderOf (number_texts_in K.NumberKey wide archive.now) header.now }
-    ensures { StoresNextNumberTexts K.NumberKey wide archive.now from (map S.step_of pairs.old)
-        result (map S.step_of pairs.new) }
+    ensures { StoresNextNumberTexts (number_keys_at K.NumberKey wide archive.now) from (map
+        S.step_of pairs.old) result (map S.step_of pairs.new) }
 {
     if wide {
         next_pairs_in::<K, &[u8], S, K, Text<Wide>, Wide>(

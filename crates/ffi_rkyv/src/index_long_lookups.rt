@@ -6,6 +6,7 @@
 ghost use Rattle.std.specs.Prelude.{false, true};
 ghost use Rattle.ffi_calls.specs.{IsHeaderOf, IsNumberIndex, ReturnsFirstIndexedNumber};
 ghost use Rattle.ffi_calls.specs.{ReturnsIndexedNumber, form_of, long_key, number_index_in};
+ghost use Rattle.ffi_calls.specs.{numbers_at};
 ghost use Rattle.ffi_rkyv.specs.Pairs.{indexed_number};
 
 use crate::pairs::IndexedNumber;
@@ -34,10 +35,10 @@ pub extern "C" fn rkyv_c_index_get_long_number_u32_narrow(
     requires archive { IsNumberIndex long_key (form_of false false) archive.now }
     requires header { IsHeaderOf (number_index_in long_key (form_of false false) archive.now)
         header.now }
-    ensures outcome { ReturnsIndexedNumber long_key (form_of false false) archive.now key
-        (indexed_number found.old) result (indexed_number found.new) }
-    ensures listed { ReturnsFirstIndexedNumber long_key (form_of false false) archive.now key
-        (indexed_number found.old) result (indexed_number found.new) }
+    ensures outcome { ReturnsIndexedNumber (numbers_at long_key (form_of false false) archive.now)
+        key (indexed_number found.old) result (indexed_number found.new) }
+    ensures listed { ReturnsFirstIndexedNumber (numbers_at long_key (form_of false false)
+        archive.now) key (indexed_number found.old) result (indexed_number found.new) }
 {
     let form = Form {
         long_values: false,
@@ -67,11 +68,10 @@ pub extern "C" fn rkyv_c_index_get_long_number_u64_narrow(
     requires archive { IsNumberIndex long_key (form_of true false) archive.now }
     requires header { IsHeaderOf (number_index_in long_key (form_of true false) archive.now)
         header.now }
-    ensures outcome { ReturnsIndexedNumber long_key (form_of true false) archive.now key
-        (indexed_number
-        found.old) result (indexed_number found.new) }
-    ensures listed { ReturnsFirstIndexedNumber long_key (form_of true false) archive.now key
-        (indexed_number found.old) result (indexed_number found.new) }
+    ensures outcome { ReturnsIndexedNumber (numbers_at long_key (form_of true false) archive.now)
+        key (indexed_number found.old) result (indexed_number found.new) }
+    ensures listed { ReturnsFirstIndexedNumber (numbers_at long_key (form_of true false)
+        archive.now) key (indexed_number found.old) result (indexed_number found.new) }
 {
     let form = Form {
         long_values: true,
@@ -101,11 +101,10 @@ pub extern "C" fn rkyv_c_index_get_long_number_u32_wide(
     requires archive { IsNumberIndex long_key (form_of false true) archive.now }
     requires header { IsHeaderOf (number_index_in long_key (form_of false true) archive.now)
         header.now }
-    ensures outcome { ReturnsIndexedNumber long_key (form_of false true) archive.now key
-        (indexed_number
-        found.old) result (indexed_number found.new) }
-    ensures listed { ReturnsFirstIndexedNumber long_key (form_of false true) archive.now key
-        (indexed_number found.old) result (indexed_number found.new) }
+    ensures outcome { ReturnsIndexedNumber (numbers_at long_key (form_of false true) archive.now)
+        key (indexed_number found.old) result (indexed_number found.new) }
+    ensures listed { ReturnsFirstIndexedNumber (numbers_at long_key (form_of false true)
+        archive.now) key (indexed_number found.old) result (indexed_number found.new) }
 {
     let form = Form {
         long_values: false,
@@ -135,11 +134,10 @@ pub extern "C" fn rkyv_c_index_get_long_number_u64_wide(
     requires archive { IsNumberIndex long_key (form_of true true) archive.now }
     requires header { IsHeaderOf (number_index_in long_key (form_of true true) archive.now)
         header.now }
-    ensures outcome { ReturnsIndexedNumber long_key (form_of true true) archive.now key
-        (indexed_number
-        found.old) result (indexed_number found.new) }
-    ensures listed { ReturnsFirstIndexedNumber long_key (form_of true true) archive.now key
+    ensures outcome { ReturnsIndexedNumber (numbers_at long_key (form_of true true) archive.now) key
         (indexed_number found.old) result (indexed_number found.new) }
+    ensures listed { ReturnsFirstIndexedNumber (numbers_at long_key (form_of true true) archive.now)
+        key (indexed_number found.old) result (indexed_number found.new) }
 {
     let form = Form {
         long_values: true,

@@ -5,7 +5,7 @@ ghost use Rattle.ffi_calls.specs.{Explains, IndexOfNumbersFails, IsHeaderOf, IsI
 ghost use Rattle.ffi_calls.specs.{IsNumberIndex, KeepsHeader, Opens, Outputs};
 ghost use Rattle.ffi_calls.specs.{SetsFirstIndexedNumber, SetsIndexedNumber, StoresListedNumbers};
 ghost use Rattle.ffi_calls.specs.{StoresNumbers, form_of, limit_of, long_key, number_index};
-ghost use Rattle.ffi_calls.specs.{number_index_in};
+ghost use Rattle.ffi_calls.specs.{number_index_in, numbers_at};
 ghost use Rattle.ffi_rkyv.specs.Pairs.{long_number_pair};
 
 use crate::pairs::LongNumberPair;
@@ -20,7 +20,7 @@ use ffi_calls::index_numbers::{
 use rkyv_table::table::decoded::Decoded;
 use std::alloc::Global;
 
-/// Validates the archive of an index map of numbers.
+/// Validates the archive of an index map of numbers of 64 bits.
 ///
 /// # Errors
 ///
@@ -38,7 +38,8 @@ pub extern "C" fn rkyv_c_index_open_long_numbers(
     open_index_numbers::<u64>(archive, Form { long_values, wide })
 }
 
-/// Validates the archive of an index map of numbers, and stores the first error with its numbers.
+/// Validates the archive of an index map of numbers of 64 bits, and stores the first error with its
+/// numbers.
 #[unsafe(no_mangle)]
 pub extern "C" fn rkyv_c_index_explain_long_numbers(
     archive: &[u8],
@@ -96,10 +97,10 @@ pub extern "C" fn rkyv_c_index_set_long_number(
     ensures kept { IsNumberIndex long_key (form_of long_values wide) archive.new }
     ensures header { KeepsHeader (number_index_in long_key (form_of long_values wide) archive.old)
         (number_index_in long_key (form_of long_values wide) archive.new) }
-    ensures sets { SetsIndexedNumber long_key (form_of long_values wide) archive.old key value
-        result archive.new }
-    ensures listed { SetsFirstIndexedNumber long_key (form_of long_values wide) archive.old key
-        value result archive.new }
+    ensures sets { SetsIndexedNumber (numbers_at long_key (form_of long_values wide) archive.old)
+        key value result archive.new }
+    ensures listed { SetsFirstIndexedNumber (numbers_at long_key (form_of long_values wide)
+        archive.old) key value result archive.new }
 {
     set_index_number::<u64>(archive, Form { long_values, wide }, key, value)
 }
@@ -124,10 +125,10 @@ pub extern "C" fn rkyv_c_index_long_numbers_from(
     requires archive { IsNumberIndex long_key (form_of long_values wide) archive.now }
     requires header { IsHeaderOf (number_index_in long_key (form_of long_values wide) archive.now)
         header.now }
-    ensures stores { StoresNumbers long_key (form_of long_values wide) archive.now from (map
-        long_number_pair pairs.old) result (map long_number_pair pairs.new) }
-    ensures listed { StoresListedNumbers long_key (form_of long_values wide) archive.now from (map
-        long_number_pair pairs.old) result (map long_number_pair pairs.new) }
+    ensures stores { StoresNumbers (numbers_at long_key (form_of long_values wide) archive.now) from
+        (map long_number_pair pairs.old) result (map long_number_pair pairs.new) }
+    ensures listed { StoresListedNumbers (numbers_at long_key (form_of long_values wide)
+        archive.now) from (map long_number_pair pairs.old) result (map long_number_pair pairs.new) }
 {
     index_numbers_from::<u64, _>(archive, Form { long_values, wide }, header, from, pairs)
 }

@@ -4,7 +4,7 @@ ghost use Rattle.std.specs.Prelude.{map, ◌≡◌};
 ghost use Rattle.ffi_calls.specs.{Explains, IndexOfNumberTextsFails, IsHeaderOf};
 ghost use Rattle.ffi_calls.specs.{IsIndexOfNumberTexts, IsNumberTextIndex, Opens, Outputs};
 ghost use Rattle.ffi_calls.specs.{StoresListedNumberTexts, StoresNumberTexts, limit_of, long_key};
-ghost use Rattle.ffi_calls.specs.{number_text_index, number_text_index_in};
+ghost use Rattle.ffi_calls.specs.{number_keys_at, number_text_index, number_text_index_in};
 ghost use Rattle.ffi_rkyv.specs.Pairs.{long_number_text_pair};
 
 use crate::pairs::LongNumberTextPair;
@@ -18,7 +18,7 @@ use ffi_calls::index_text_items::build_index_numbers_to_texts;
 use rkyv_table::table::decoded::Decoded;
 use std::alloc::Global;
 
-/// Validates the archive of an index map of numbers to texts.
+/// Validates the archive of an index map of numbers of 64 bits to texts.
 ///
 /// # Errors
 ///
@@ -31,8 +31,8 @@ pub extern "C" fn rkyv_c_index_open_long_numbers_to_texts(archive: &[u8], wide: 
     open_index_numbers_to_texts::<u64>(archive, wide)
 }
 
-/// Validates the archive of an index map of numbers to texts, and stores the first error with its
-/// numbers.
+/// Validates the archive of an index map of numbers of 64 bits to texts, and stores the first error
+/// with its numbers.
 #[unsafe(no_mangle)]
 pub extern "C" fn rkyv_c_index_explain_long_numbers_to_texts(
     archive: &[u8],
@@ -80,9 +80,9 @@ pub extern "C" fn rkyv_c_index_long_number_texts_from<'a>(
 ) -> usize
     requires archive { IsNumberTextIndex long_key wide archive.now }
     requires header { IsHeaderOf (number_text_index_in long_key wide archive.now) header.now }
-    ensures stores { StoresNumberTexts long_key wide archive.now from (map long_number_text_pair
-        pairs.old) result (map long_number_text_pair pairs.new) }
-    ensures listed { StoresListedNumberTexts long_key wide archive.now from (map
+    ensures stores { StoresNumberTexts (number_keys_at long_key wide archive.now) from (map
+        long_number_text_pair pairs.old) result (map long_number_text_pair pairs.new) }
+    ensures listed { StoresListedNumberTexts (number_keys_at long_key wide archive.now) from (map
         long_number_text_pair pairs.old) result (map long_number_text_pair pairs.new) }
 {
     index_number_texts_from::<u64, _>(archive, wide, header, from, pairs)

@@ -5,7 +5,8 @@
 
 ghost use Rattle.std.specs.Prelude.{false, true};
 ghost use Rattle.ffi_calls.specs.{IsHeaderOf, IsNumberIndex, ReturnsFirstIndexedNumber};
-ghost use Rattle.ffi_calls.specs.{ReturnsIndexedNumber, form_of, number_index_in, short_key};
+ghost use Rattle.ffi_calls.specs.{ReturnsIndexedNumber, form_of, number_index_in, numbers_at};
+ghost use Rattle.ffi_calls.specs.{short_key};
 ghost use Rattle.ffi_rkyv.specs.Pairs.{indexed_number};
 
 use crate::pairs::IndexedNumber;
@@ -34,10 +35,10 @@ pub extern "C" fn rkyv_c_index_get_number_u32_narrow(
     requires archive { IsNumberIndex short_key (form_of false false) archive.now }
     requires header { IsHeaderOf (number_index_in short_key (form_of false false) archive.now)
         header.now }
-    ensures outcome { ReturnsIndexedNumber short_key (form_of false false) archive.now key
-        (indexed_number found.old) result (indexed_number found.new) }
-    ensures listed { ReturnsFirstIndexedNumber short_key (form_of false false) archive.now key
-        (indexed_number found.old) result (indexed_number found.new) }
+    ensures outcome { ReturnsIndexedNumber (numbers_at short_key (form_of false false) archive.now)
+        key (indexed_number found.old) result (indexed_number found.new) }
+    ensures listed { ReturnsFirstIndexedNumber (numbers_at short_key (form_of false false)
+        archive.now) key (indexed_number found.old) result (indexed_number found.new) }
 {
     let form = Form {
         long_values: false,
@@ -67,10 +68,10 @@ pub extern "C" fn rkyv_c_index_get_number_u64_narrow(
     requires archive { IsNumberIndex short_key (form_of true false) archive.now }
     requires header { IsHeaderOf (number_index_in short_key (form_of true false) archive.now)
         header.now }
-    ensures outcome { ReturnsIndexedNumber short_key (form_of true false) archive.now key
-        (indexed_number found.old) result (indexed_number found.new) }
-    ensures listed { ReturnsFirstIndexedNumber short_key (form_of true false) archive.now key
-        (indexed_number found.old) result (indexed_number found.new) }
+    ensures outcome { ReturnsIndexedNumber (numbers_at short_key (form_of true false) archive.now)
+        key (indexed_number found.old) result (indexed_number found.new) }
+    ensures listed { ReturnsFirstIndexedNumber (numbers_at short_key (form_of true false)
+        archive.now) key (indexed_number found.old) result (indexed_number found.new) }
 {
     let form = Form {
         long_values: true,
@@ -100,10 +101,10 @@ pub extern "C" fn rkyv_c_index_get_number_u32_wide(
     requires archive { IsNumberIndex short_key (form_of false true) archive.now }
     requires header { IsHeaderOf (number_index_in short_key (form_of false true) archive.now)
         header.now }
-    ensures outcome { ReturnsIndexedNumber short_key (form_of false true) archive.now key
-        (indexed_number found.old) result (indexed_number found.new) }
-    ensures listed { ReturnsFirstIndexedNumber short_key (form_of false true) archive.now key
-        (indexed_number found.old) result (indexed_number found.new) }
+    ensures outcome { ReturnsIndexedNumber (numbers_at short_key (form_of false true) archive.now)
+        key (indexed_number found.old) result (indexed_number found.new) }
+    ensures listed { ReturnsFirstIndexedNumber (numbers_at short_key (form_of false true)
+        archive.now) key (indexed_number found.old) result (indexed_number found.new) }
 {
     let form = Form {
         long_values: false,
@@ -133,11 +134,10 @@ pub extern "C" fn rkyv_c_index_get_number_u64_wide(
     requires archive { IsNumberIndex short_key (form_of true true) archive.now }
     requires header { IsHeaderOf (number_index_in short_key (form_of true true) archive.now)
         header.now }
-    ensures outcome { ReturnsIndexedNumber short_key (form_of true true) archive.now key
-        (indexed_number
-        found.old) result (indexed_number found.new) }
-    ensures listed { ReturnsFirstIndexedNumber short_key (form_of true true) archive.now key
-        (indexed_number found.old) result (indexed_number found.new) }
+    ensures outcome { ReturnsIndexedNumber (numbers_at short_key (form_of true true) archive.now)
+        key (indexed_number found.old) result (indexed_number found.new) }
+    ensures listed { ReturnsFirstIndexedNumber (numbers_at short_key (form_of true true)
+        archive.now) key (indexed_number found.old) result (indexed_number found.new) }
 {
     let form = Form {
         long_values: true,

@@ -5,7 +5,7 @@ ghost use Rattle.ffi_calls.specs.{Explains, IndexOfNumbersFails, IsHeaderOf, IsI
 ghost use Rattle.ffi_calls.specs.{IsNumberIndex, KeepsHeader, Opens, Outputs};
 ghost use Rattle.ffi_calls.specs.{SetsFirstIndexedNumber, SetsIndexedNumber, StoresListedNumbers};
 ghost use Rattle.ffi_calls.specs.{StoresNumbers, form_of, limit_of, number_index, number_index_in};
-ghost use Rattle.ffi_calls.specs.{short_key};
+ghost use Rattle.ffi_calls.specs.{numbers_at, short_key};
 ghost use Rattle.ffi_rkyv.specs.Pairs.{number_pair};
 
 use crate::pairs::NumberPair;
@@ -92,10 +92,10 @@ pub extern "C" fn rkyv_c_index_set_number(
     ensures kept { IsNumberIndex short_key (form_of long_values wide) archive.new }
     ensures header { KeepsHeader (number_index_in short_key (form_of long_values wide) archive.old)
         (number_index_in short_key (form_of long_values wide) archive.new) }
-    ensures sets { SetsIndexedNumber short_key (form_of long_values wide) archive.old key value
-        result archive.new }
-    ensures listed { SetsFirstIndexedNumber short_key (form_of long_values wide) archive.old key
-        value result archive.new }
+    ensures sets { SetsIndexedNumber (numbers_at short_key (form_of long_values wide) archive.old)
+        key value result archive.new }
+    ensures listed { SetsFirstIndexedNumber (numbers_at short_key (form_of long_values wide)
+        archive.old) key value result archive.new }
 {
     set_index_number::<u32>(archive, Form { long_values, wide }, key, value)
 }
@@ -120,10 +120,10 @@ pub extern "C" fn rkyv_c_index_numbers_from(
     requires archive { IsNumberIndex short_key (form_of long_values wide) archive.now }
     requires header { IsHeaderOf (number_index_in short_key (form_of long_values wide) archive.now)
         header.now }
-    ensures stores { StoresNumbers short_key (form_of long_values wide) archive.now from (map
-        number_pair pairs.old) result (map number_pair pairs.new) }
-    ensures listed { StoresListedNumbers short_key (form_of long_values wide) archive.now from (map
-        number_pair pairs.old) result (map number_pair pairs.new) }
+    ensures stores { StoresNumbers (numbers_at short_key (form_of long_values wide) archive.now)
+        from (map number_pair pairs.old) result (map number_pair pairs.new) }
+    ensures listed { StoresListedNumbers (numbers_at short_key (form_of long_values wide)
+        archive.now) from (map number_pair pairs.old) result (map number_pair pairs.new) }
 {
     index_numbers_from::<u32, _>(archive, Form { long_values, wide }, header, from, pairs)
 }

@@ -4,7 +4,8 @@ ghost use Rattle.std.specs.Prelude.{map, ◌≡◌};
 ghost use Rattle.ffi_calls.specs.{Explains, IndexOfNumberTextsFails, IsHeaderOf};
 ghost use Rattle.ffi_calls.specs.{IsIndexOfNumberTexts, IsNumberTextIndex, Opens, Outputs};
 ghost use Rattle.ffi_calls.specs.{StoresListedNumberTexts, StoresNumberTexts, limit_of};
-ghost use Rattle.ffi_calls.specs.{number_text_index, number_text_index_in, short_key};
+ghost use Rattle.ffi_calls.specs.{number_keys_at, number_text_index, number_text_index_in};
+ghost use Rattle.ffi_calls.specs.{short_key};
 ghost use Rattle.ffi_rkyv.specs.Pairs.{number_text_pair};
 
 use crate::pairs::NumberTextPair;
@@ -80,10 +81,10 @@ pub extern "C" fn rkyv_c_index_number_texts_from<'a>(
 ) -> usize
     requires archive { IsNumberTextIndex short_key wide archive.now }
     requires header { IsHeaderOf (number_text_index_in short_key wide archive.now) header.now }
-    ensures stores { StoresNumberTexts short_key wide archive.now from (map number_text_pair
-        pairs.old) result (map number_text_pair pairs.new) }
-    ensures listed { StoresListedNumberTexts short_key wide archive.now from (map number_text_pair
-        pairs.old) result (map number_text_pair pairs.new) }
+    ensures stores { StoresNumberTexts (number_keys_at short_key wide archive.now) from (map
+        number_text_pair pairs.old) result (map number_text_pair pairs.new) }
+    ensures listed { StoresListedNumberTexts (number_keys_at short_key wide archive.now) from (map
+        number_text_pair pairs.old) result (map number_text_pair pairs.new) }
 {
     index_number_texts_from::<u32, _>(archive, wide, header, from, pairs)
 }

@@ -7,7 +7,8 @@ ghost use Rattle.std.specs.Str.{IsUtf8};
 ghost use Rattle.ffi_calls.specs.{IsHeaderOf, IsNumberTextIndex, IsTextTextIndex};
 ghost use Rattle.ffi_calls.specs.{ReturnsFirstIndexedTextOfNumber, ReturnsFirstIndexedTextOfText};
 ghost use Rattle.ffi_calls.specs.{ReturnsIndexedTextOfBytes, ReturnsIndexedTextOfNumber, long_key};
-ghost use Rattle.ffi_calls.specs.{number_text_index_in, short_key, text_text_index_in};
+ghost use Rattle.ffi_calls.specs.{number_keys_at, number_text_index_in, short_key};
+ghost use Rattle.ffi_calls.specs.{text_text_index_in};
 ghost use Rattle.ffi_rkyv.specs.Pairs.{indexed_text};
 
 use crate::pairs::IndexedText;
@@ -35,10 +36,10 @@ pub extern "C" fn rkyv_c_index_get_text_of_number_narrow<'a>(
 ) -> u32
     requires archive { IsNumberTextIndex short_key false archive.now }
     requires header { IsHeaderOf (number_text_index_in short_key false archive.now) header.now }
-    ensures outcome { ReturnsIndexedTextOfNumber short_key false archive.now key (indexed_text
-        found.old) result (indexed_text found.new) }
-    ensures listed { ReturnsFirstIndexedTextOfNumber short_key false archive.now key (indexed_text
-        found.old) result (indexed_text found.new) }
+    ensures outcome { ReturnsIndexedTextOfNumber (number_keys_at short_key false archive.now) key
+        (indexed_text found.old) result (indexed_text found.new) }
+    ensures listed { ReturnsFirstIndexedTextOfNumber (number_keys_at short_key false archive.now)
+        key (indexed_text found.old) result (indexed_text found.new) }
 {
     get_index_text_of_number::<u32, _>(archive, false, header, key, found)
 }
@@ -63,11 +64,10 @@ pub extern "C" fn rkyv_c_index_get_text_of_number_wide<'a>(
 ) -> u32
     requires archive { IsNumberTextIndex short_key true archive.now }
     requires header { IsHeaderOf (number_text_index_in short_key true archive.now) header.now }
-    ensures outcome { ReturnsIndexedTextOfNumber short_key true archive.now key
-        (indexed_text found.old)
-        result (indexed_text found.new) }
-    ensures listed { ReturnsFirstIndexedTextOfNumber short_key true archive.now key (indexed_text
-        found.old) result (indexed_text found.new) }
+    ensures outcome { ReturnsIndexedTextOfNumber (number_keys_at short_key true archive.now) key
+        (indexed_text found.old) result (indexed_text found.new) }
+    ensures listed { ReturnsFirstIndexedTextOfNumber (number_keys_at short_key true archive.now) key
+        (indexed_text found.old) result (indexed_text found.new) }
 {
     get_index_text_of_number::<u32, _>(archive, true, header, key, found)
 }
@@ -92,11 +92,10 @@ pub extern "C" fn rkyv_c_index_get_text_of_long_number_narrow<'a>(
 ) -> u32
     requires archive { IsNumberTextIndex long_key false archive.now }
     requires header { IsHeaderOf (number_text_index_in long_key false archive.now) header.now }
-    ensures outcome { ReturnsIndexedTextOfNumber long_key false archive.now key
-        (indexed_text found.old)
-        result (indexed_text found.new) }
-    ensures listed { ReturnsFirstIndexedTextOfNumber long_key false archive.now key (indexed_text
-        found.old) result (indexed_text found.new) }
+    ensures outcome { ReturnsIndexedTextOfNumber (number_keys_at long_key false archive.now) key
+        (indexed_text found.old) result (indexed_text found.new) }
+    ensures listed { ReturnsFirstIndexedTextOfNumber (number_keys_at long_key false archive.now) key
+        (indexed_text found.old) result (indexed_text found.new) }
 {
     get_index_text_of_number::<u64, _>(archive, false, header, key, found)
 }
@@ -121,11 +120,10 @@ pub extern "C" fn rkyv_c_index_get_text_of_long_number_wide<'a>(
 ) -> u32
     requires archive { IsNumberTextIndex long_key true archive.now }
     requires header { IsHeaderOf (number_text_index_in long_key true archive.now) header.now }
-    ensures outcome { ReturnsIndexedTextOfNumber long_key true archive.now key
-        (indexed_text found.old)
-        result (indexed_text found.new) }
-    ensures listed { ReturnsFirstIndexedTextOfNumber long_key true archive.now key (indexed_text
-        found.old) result (indexed_text found.new) }
+    ensures outcome { ReturnsIndexedTextOfNumber (number_keys_at long_key true archive.now) key
+        (indexed_text found.old) result (indexed_text found.new) }
+    ensures listed { ReturnsFirstIndexedTextOfNumber (number_keys_at long_key true archive.now) key
+        (indexed_text found.old) result (indexed_text found.new) }
 {
     get_index_text_of_number::<u64, _>(archive, true, header, key, found)
 }

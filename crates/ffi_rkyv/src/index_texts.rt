@@ -136,8 +136,8 @@ pub extern "C" fn rkyv_c_index_texts_from<'a>(
 /// # Errors
 ///
 /// - 12: an allocation fails.
-/// - 4: a key isn't UTF-8.
-/// - 3: a value has more bits than the values of the map.
+/// - 4 or 3, of the first item with an error: the key isn't UTF-8, or the value has more bits than
+///   the values of the map.
 /// - 23 to 29: the error of the write.
 ///
 /// After an error `built` is unchanged.

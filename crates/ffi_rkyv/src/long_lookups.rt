@@ -4,7 +4,7 @@
 
 ghost use Rattle.std.specs.Prelude.{false, true};
 ghost use Rattle.ffi_calls.specs.{IsHeaderOf, IsNumberArchive, ReturnsFirstNumber, ReturnsNumber};
-ghost use Rattle.ffi_calls.specs.{form_of, long_key, numbers_in};
+ghost use Rattle.ffi_calls.specs.{form_of, long_key, numbers_at, numbers_in};
 
 use ffi_calls::form::Form;
 use ffi_calls::numbers::get_number;
@@ -30,10 +30,10 @@ pub extern "C" fn rkyv_c_get_long_number_u32_narrow(
     requires archive { IsNumberArchive long_key (form_of false false) archive.now }
     requires header { IsHeaderOf (numbers_in long_key (form_of false false) archive.now)
         header.now }
-    ensures outcome { ReturnsNumber long_key (form_of false false) archive.now key value.old result
-        value.new }
-    ensures listed { ReturnsFirstNumber long_key (form_of false false) archive.now key value.old
-        result value.new }
+    ensures outcome { ReturnsNumber (numbers_at long_key (form_of false false) archive.now) key
+        value.old result value.new }
+    ensures listed { ReturnsFirstNumber (numbers_at long_key (form_of false false) archive.now) key
+        value.old result value.new }
 {
     let form = Form {
         long_values: false,
@@ -61,11 +61,10 @@ pub extern "C" fn rkyv_c_get_long_number_u64_narrow(
 ) -> u32
     requires archive { IsNumberArchive long_key (form_of true false) archive.now }
     requires header { IsHeaderOf (numbers_in long_key (form_of true false) archive.now) header.now }
-    ensures outcome { ReturnsNumber long_key (form_of true false) archive.now key value.old result
-        value.new }
-    ensures listed { ReturnsFirstNumber long_key (form_of true false) archive.now key value.old
-        result
-        value.new }
+    ensures outcome { ReturnsNumber (numbers_at long_key (form_of true false) archive.now) key
+        value.old result value.new }
+    ensures listed { ReturnsFirstNumber (numbers_at long_key (form_of true false) archive.now) key
+        value.old result value.new }
 {
     let form = Form {
         long_values: true,
@@ -93,11 +92,10 @@ pub extern "C" fn rkyv_c_get_long_number_u32_wide(
 ) -> u32
     requires archive { IsNumberArchive long_key (form_of false true) archive.now }
     requires header { IsHeaderOf (numbers_in long_key (form_of false true) archive.now) header.now }
-    ensures outcome { ReturnsNumber long_key (form_of false true) archive.now key value.old result
-        value.new }
-    ensures listed { ReturnsFirstNumber long_key (form_of false true) archive.now key value.old
-        result
-        value.new }
+    ensures outcome { ReturnsNumber (numbers_at long_key (form_of false true) archive.now) key
+        value.old result value.new }
+    ensures listed { ReturnsFirstNumber (numbers_at long_key (form_of false true) archive.now) key
+        value.old result value.new }
 {
     let form = Form {
         long_values: false,
@@ -125,11 +123,10 @@ pub extern "C" fn rkyv_c_get_long_number_u64_wide(
 ) -> u32
     requires archive { IsNumberArchive long_key (form_of true true) archive.now }
     requires header { IsHeaderOf (numbers_in long_key (form_of true true) archive.now) header.now }
-    ensures outcome { ReturnsNumber long_key (form_of true true) archive.now key value.old result
-        value.new }
-    ensures listed { ReturnsFirstNumber long_key (form_of true true) archive.now key value.old
-        result
-        value.new }
+    ensures outcome { ReturnsNumber (numbers_at long_key (form_of true true) archive.now) key
+        value.old result value.new }
+    ensures listed { ReturnsFirstNumber (numbers_at long_key (form_of true true) archive.now) key
+        value.old result value.new }
 {
     let form = Form {
         long_values: true,

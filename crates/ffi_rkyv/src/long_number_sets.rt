@@ -3,7 +3,7 @@
 ghost use Rattle.std.specs.Prelude.{map, ◌≡◌};
 ghost use Rattle.ffi_calls.specs.{ArchiveOfNumberSetFails, Explains, IsArchiveOfNumberSet};
 ghost use Rattle.ffi_calls.specs.{IsHeaderOf, IsNumberSet, Opens, Outputs, StoresNextNumberMembers};
-ghost use Rattle.ffi_calls.specs.{limit_of, long_key, number_set, number_set_in};
+ghost use Rattle.ffi_calls.specs.{limit_of, long_key, number_keys_at, number_set, number_set_in};
 ghost use Rattle.ffi_rkyv.specs.Pairs.{long_number_member};
 
 use crate::pairs::LongNumberMember;
@@ -15,7 +15,7 @@ use ffi_calls::number_sets::{
 use rkyv_table::table::decoded::Decoded;
 use std::alloc::Global;
 
-/// Validates the archive of a set of numbers.
+/// Validates the archive of a set of numbers of 64 bits.
 ///
 /// # Errors
 ///
@@ -28,7 +28,8 @@ pub extern "C" fn rkyv_c_open_long_number_set(archive: &[u8], wide: bool) -> u32
     open_number_set::<u64>(archive, wide)
 }
 
-/// Validates the archive of a set of numbers, and stores the first error with its numbers.
+/// Validates the archive of a set of numbers of 64 bits, and stores the first error with its
+/// numbers.
 #[unsafe(no_mangle)]
 pub extern "C" fn rkyv_c_explain_long_number_set(
     archive: &[u8],
@@ -72,8 +73,8 @@ pub extern "C" fn rkyv_c_next_long_number_members(
 ) -> usize
     requires archive { IsNumberSet long_key wide archive.now }
     requires header { IsHeaderOf (number_set_in long_key wide archive.now) header.now }
-    ensures { StoresNextNumberMembers long_key wide archive.now from
-        (map long_number_member members.old) result (map long_number_member members.new) }
+    ensures { StoresNextNumberMembers (number_keys_at long_key wide archive.now) from (map
+        long_number_member members.old) result (map long_number_member members.new) }
 {
     next_number_members::<u64, _>(archive, wide, header, from, members)
 }

@@ -4,7 +4,7 @@ ghost use Rattle.std.specs.Prelude.{map, ◌≡◌};
 ghost use Rattle.ffi_calls.specs.{ArchiveOfNumbersFails, Explains, IsArchiveOfNumbers, IsHeaderOf};
 ghost use Rattle.ffi_calls.specs.{IsNumberArchive, KeepsHeader, Opens, Outputs, SetsFirstNumber};
 ghost use Rattle.ffi_calls.specs.{SetsNumber, StoresNextNumbers, form_of, limit_of, long_key};
-ghost use Rattle.ffi_calls.specs.{number_map, numbers_in};
+ghost use Rattle.ffi_calls.specs.{number_map, numbers_at, numbers_in};
 ghost use Rattle.ffi_rkyv.specs.Pairs.{long_number_pair, long_number_step};
 
 use crate::pairs::{LongNumberPair, LongNumberStep};
@@ -16,7 +16,7 @@ use ffi_calls::numbers::{decode_numbers, explain_numbers, next_numbers, open_num
 use rkyv_table::table::decoded::Decoded;
 use std::alloc::Global;
 
-/// Validates the archive of a map of numbers.
+/// Validates the archive of a map of numbers of 64 bits.
 ///
 /// # Errors
 ///
@@ -30,7 +30,8 @@ pub extern "C" fn rkyv_c_open_long_numbers(archive: &[u8], long_values: bool, wi
     open_numbers::<u64>(archive, Form { long_values, wide })
 }
 
-/// Validates the archive of a map of numbers, and stores the first error with its numbers.
+/// Validates the archive of a map of numbers of 64 bits, and stores the first error with its
+/// numbers.
 #[unsafe(no_mangle)]
 pub extern "C" fn rkyv_c_explain_long_numbers(
     archive: &[u8],
@@ -87,10 +88,10 @@ pub extern "C" fn rkyv_c_set_long_number(
     ensures kept { IsNumberArchive long_key (form_of long_values wide) archive.new }
     ensures header { KeepsHeader (numbers_in long_key (form_of long_values wide) archive.old)
         (numbers_in long_key (form_of long_values wide) archive.new) }
-    ensures sets { SetsNumber long_key (form_of long_values wide) archive.old key value result
-        archive.new }
-    ensures listed { SetsFirstNumber long_key (form_of long_values wide) archive.old key value
+    ensures sets { SetsNumber (numbers_at long_key (form_of long_values wide) archive.old) key value
         result archive.new }
+    ensures listed { SetsFirstNumber (numbers_at long_key (form_of long_values wide) archive.old)
+        key value result archive.new }
 {
     set_number::<u64>(archive, Form { long_values, wide }, key, value)
 }
@@ -116,8 +117,8 @@ pub extern "C" fn rkyv_c_next_long_numbers(
     requires archive { IsNumberArchive long_key (form_of long_values wide) archive.now }
     requires header { IsHeaderOf (numbers_in long_key (form_of long_values wide) archive.now)
         header.now }
-    ensures { StoresNextNumbers long_key (form_of long_values wide) archive.now from (map
-        long_number_step pairs.old) result (map long_number_step pairs.new) }
+    ensures { StoresNextNumbers (numbers_at long_key (form_of long_values wide) archive.now) from
+        (map long_number_step pairs.old) result (map long_number_step pairs.new) }
 {
     next_numbers::<u64, _>(archive, Form { long_values, wide }, header, from, pairs)
 }

@@ -3,8 +3,8 @@
 ghost use Rattle.std.specs.Prelude.{map, ◌≡◌};
 ghost use Rattle.ffi_calls.specs.{ArchiveOfNumberTextsFails, Explains, IsArchiveOfNumberTexts};
 ghost use Rattle.ffi_calls.specs.{IsHeaderOf, IsNumberTextArchive, Opens, Outputs};
-ghost use Rattle.ffi_calls.specs.{StoresNextNumberTexts, limit_of, long_key, number_text_map};
-ghost use Rattle.ffi_calls.specs.{number_texts_in};
+ghost use Rattle.ffi_calls.specs.{StoresNextNumberTexts, limit_of, long_key, number_keys_at};
+ghost use Rattle.ffi_calls.specs.{number_text_map, number_texts_in};
 ghost use Rattle.ffi_rkyv.specs.Pairs.{long_number_text_pair, long_number_text_step};
 
 use crate::pairs::{LongNumberTextPair, LongNumberTextStep};
@@ -17,7 +17,7 @@ use ffi_calls::numbers_to_texts_items::build_numbers_to_texts;
 use rkyv_table::table::decoded::Decoded;
 use std::alloc::Global;
 
-/// Validates the archive of a map of numbers to texts.
+/// Validates the archive of a map of numbers of 64 bits to texts.
 ///
 /// # Errors
 ///
@@ -30,8 +30,8 @@ pub extern "C" fn rkyv_c_open_long_numbers_to_texts(archive: &[u8], wide: bool) 
     open_numbers_to_texts::<u64>(archive, wide)
 }
 
-/// Validates the archive of a map of numbers to texts, and stores the first error with its
-/// numbers.
+/// Validates the archive of a map of numbers of 64 bits to texts, and stores the first error with
+/// its numbers.
 #[unsafe(no_mangle)]
 pub extern "C" fn rkyv_c_explain_long_numbers_to_texts(
     archive: &[u8],
@@ -79,8 +79,8 @@ pub extern "C" fn rkyv_c_next_long_number_texts<'a>(
 ) -> usize
     requires archive { IsNumberTextArchive long_key wide archive.now }
     requires header { IsHeaderOf (number_texts_in long_key wide archive.now) header.now }
-    ensures { StoresNextNumberTexts long_key wide archive.now from (map long_number_text_step
-        pairs.old) result (map long_number_text_step pairs.new) }
+    ensures { StoresNextNumberTexts (number_keys_at long_key wide archive.now) from (map
+        long_number_text_step pairs.old) result (map long_number_text_step pairs.new) }
 {
     next_number_texts::<u64, _>(archive, wide, header, from, pairs)
 }

@@ -6,7 +6,7 @@ ghost use Rattle.std.specs.Prelude.{false, true};
 ghost use Rattle.std.specs.Str.{IsUtf8};
 ghost use Rattle.ffi_calls.specs.{IsHeaderOf, IsNumberArchive, IsTextArchive, ReturnsFirstNumber};
 ghost use Rattle.ffi_calls.specs.{ReturnsFirstText, ReturnsNumber, ReturnsText, form_of};
-ghost use Rattle.ffi_calls.specs.{numbers_in, short_key, texts_in};
+ghost use Rattle.ffi_calls.specs.{numbers_at, numbers_in, short_key, texts_in};
 
 use ffi_calls::form::Form;
 use ffi_calls::numbers::get_number;
@@ -33,10 +33,10 @@ pub extern "C" fn rkyv_c_get_number_u32_narrow(
     requires archive { IsNumberArchive short_key (form_of false false) archive.now }
     requires header { IsHeaderOf (numbers_in short_key (form_of false false) archive.now)
         header.now }
-    ensures outcome { ReturnsNumber short_key (form_of false false) archive.now key value.old result
-        value.new }
-    ensures listed { ReturnsFirstNumber short_key (form_of false false) archive.now key value.old
-        result value.new }
+    ensures outcome { ReturnsNumber (numbers_at short_key (form_of false false) archive.now) key
+        value.old result value.new }
+    ensures listed { ReturnsFirstNumber (numbers_at short_key (form_of false false) archive.now) key
+        value.old result value.new }
 {
     let form = Form {
         long_values: false,
@@ -65,10 +65,10 @@ pub extern "C" fn rkyv_c_get_number_u64_narrow(
     requires archive { IsNumberArchive short_key (form_of true false) archive.now }
     requires header { IsHeaderOf (numbers_in short_key (form_of true false) archive.now)
         header.now }
-    ensures outcome { ReturnsNumber short_key (form_of true false) archive.now key value.old result
-        value.new }
-    ensures listed { ReturnsFirstNumber short_key (form_of true false) archive.now key value.old
-        result value.new }
+    ensures outcome { ReturnsNumber (numbers_at short_key (form_of true false) archive.now) key
+        value.old result value.new }
+    ensures listed { ReturnsFirstNumber (numbers_at short_key (form_of true false) archive.now) key
+        value.old result value.new }
 {
     let form = Form {
         long_values: true,
@@ -97,10 +97,10 @@ pub extern "C" fn rkyv_c_get_number_u32_wide(
     requires archive { IsNumberArchive short_key (form_of false true) archive.now }
     requires header { IsHeaderOf (numbers_in short_key (form_of false true) archive.now)
         header.now }
-    ensures outcome { ReturnsNumber short_key (form_of false true) archive.now key value.old result
-        value.new }
-    ensures listed { ReturnsFirstNumber short_key (form_of false true) archive.now key value.old
-        result value.new }
+    ensures outcome { ReturnsNumber (numbers_at short_key (form_of false true) archive.now) key
+        value.old result value.new }
+    ensures listed { ReturnsFirstNumber (numbers_at short_key (form_of false true) archive.now) key
+        value.old result value.new }
 {
     let form = Form {
         long_values: false,
@@ -128,11 +128,10 @@ pub extern "C" fn rkyv_c_get_number_u64_wide(
 ) -> u32
     requires archive { IsNumberArchive short_key (form_of true true) archive.now }
     requires header { IsHeaderOf (numbers_in short_key (form_of true true) archive.now) header.now }
-    ensures outcome { ReturnsNumber short_key (form_of true true) archive.now key value.old result
-        value.new }
-    ensures listed { ReturnsFirstNumber short_key (form_of true true) archive.now key value.old
-        result
-        value.new }
+    ensures outcome { ReturnsNumber (numbers_at short_key (form_of true true) archive.now) key
+        value.old result value.new }
+    ensures listed { ReturnsFirstNumber (numbers_at short_key (form_of true true) archive.now) key
+        value.old result value.new }
 {
     let form = Form {
         long_values: true,

@@ -3,7 +3,7 @@
 ghost use Rattle.std.specs.Prelude.{map, ◌≡◌};
 ghost use Rattle.ffi_calls.specs.{ArchiveOfNumberSetFails, Explains, IsArchiveOfNumberSet};
 ghost use Rattle.ffi_calls.specs.{IsHeaderOf, IsNumberSet, Opens, Outputs, StoresNextNumberMembers};
-ghost use Rattle.ffi_calls.specs.{limit_of, number_set, number_set_in, short_key};
+ghost use Rattle.ffi_calls.specs.{limit_of, number_keys_at, number_set, number_set_in, short_key};
 ghost use Rattle.ffi_rkyv.specs.Pairs.{number_member};
 
 use crate::pairs::NumberMember;
@@ -72,8 +72,8 @@ pub extern "C" fn rkyv_c_next_number_members(
 ) -> usize
     requires archive { IsNumberSet short_key wide archive.now }
     requires header { IsHeaderOf (number_set_in short_key wide archive.now) header.now }
-    ensures { StoresNextNumberMembers short_key wide archive.now from
-        (map number_member members.old) result (map number_member members.new) }
+    ensures { StoresNextNumberMembers (number_keys_at short_key wide archive.now) from (map
+        number_member members.old) result (map number_member members.new) }
 {
     next_number_members::<u32, _>(archive, wide, header, from, members)
 }

@@ -4,7 +4,7 @@ ghost use Rattle.std.specs.Prelude.{map, ◌≡◌};
 ghost use Rattle.ffi_calls.specs.{ArchiveOfNumbersFails, Explains, IsArchiveOfNumbers, IsHeaderOf};
 ghost use Rattle.ffi_calls.specs.{IsNumberArchive, KeepsHeader, Opens, Outputs, SetsFirstNumber};
 ghost use Rattle.ffi_calls.specs.{SetsNumber, StoresNextNumbers, form_of, limit_of, number_map};
-ghost use Rattle.ffi_calls.specs.{numbers_in, short_key};
+ghost use Rattle.ffi_calls.specs.{numbers_at, numbers_in, short_key};
 ghost use Rattle.ffi_rkyv.specs.Pairs.{number_pair, number_step};
 
 use crate::pairs::{NumberPair, NumberStep};
@@ -88,10 +88,10 @@ pub extern "C" fn rkyv_c_set_number(
     ensures kept { IsNumberArchive short_key (form_of long_values wide) archive.new }
     ensures header { KeepsHeader (numbers_in short_key (form_of long_values wide) archive.old)
         (numbers_in short_key (form_of long_values wide) archive.new) }
-    ensures sets { SetsNumber short_key (form_of long_values wide) archive.old key value result
-        archive.new }
-    ensures listed { SetsFirstNumber short_key (form_of long_values wide) archive.old key value
-        result archive.new }
+    ensures sets { SetsNumber (numbers_at short_key (form_of long_values wide) archive.old) key
+        value result archive.new }
+    ensures listed { SetsFirstNumber (numbers_at short_key (form_of long_values wide) archive.old)
+        key value result archive.new }
 {
     set_number::<u32>(archive, Form { long_values, wide }, key, value)
 }
@@ -117,8 +117,8 @@ pub extern "C" fn rkyv_c_next_numbers(
     requires archive { IsNumberArchive short_key (form_of long_values wide) archive.now }
     requires header { IsHeaderOf (numbers_in short_key (form_of long_values wide) archive.now)
         header.now }
-    ensures { StoresNextNumbers short_key (form_of long_values wide) archive.now from (map
-        number_step pairs.old) result (map number_step pairs.new) }
+    ensures { StoresNextNumbers (numbers_at short_key (form_of long_values wide) archive.now) from
+        (map number_step pairs.old) result (map number_step pairs.new) }
 {
     next_numbers::<u32, _>(archive, Form { long_values, wide }, header, from, pairs)
 }

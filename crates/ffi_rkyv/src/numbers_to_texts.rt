@@ -3,7 +3,7 @@
 ghost use Rattle.std.specs.Prelude.{map, ◌≡◌};
 ghost use Rattle.ffi_calls.specs.{ArchiveOfNumberTextsFails, Explains, IsArchiveOfNumberTexts};
 ghost use Rattle.ffi_calls.specs.{IsHeaderOf, IsNumberTextArchive, Opens, Outputs};
-ghost use Rattle.ffi_calls.specs.{StoresNextNumberTexts, limit_of, number_text_map};
+ghost use Rattle.ffi_calls.specs.{StoresNextNumberTexts, limit_of, number_keys_at, number_text_map};
 ghost use Rattle.ffi_calls.specs.{number_texts_in, short_key};
 ghost use Rattle.ffi_rkyv.specs.Pairs.{number_text_pair, number_text_step};
 
@@ -76,8 +76,8 @@ pub extern "C" fn rkyv_c_next_number_texts<'a>(
 ) -> usize
     requires archive { IsNumberTextArchive short_key wide archive.now }
     requires header { IsHeaderOf (number_texts_in short_key wide archive.now) header.now }
-    ensures { StoresNextNumberTexts short_key wide archive.now from (map number_text_step pairs.old)
-        result (map number_text_step pairs.new) }
+    ensures { StoresNextNumberTexts (number_keys_at short_key wide archive.now) from (map
+        number_text_step pairs.old) result (map number_text_step pairs.new) }
 {
     next_number_texts::<u32, _>(archive, wide, header, from, pairs)
 }

@@ -6,7 +6,7 @@ ghost use Rattle.std.specs.Prelude.{false, true};
 ghost use Rattle.std.specs.Str.{IsUtf8};
 ghost use Rattle.ffi_calls.specs.{IsHeaderOf, IsNumberTextArchive, IsTextTextArchive};
 ghost use Rattle.ffi_calls.specs.{ReturnsFirstTextOfNumber, ReturnsFirstTextOfText};
-ghost use Rattle.ffi_calls.specs.{ReturnsTextOfNumber, ReturnsTextOfText, long_key};
+ghost use Rattle.ffi_calls.specs.{ReturnsTextOfNumber, ReturnsTextOfText, long_key, number_keys_at};
 ghost use Rattle.ffi_calls.specs.{number_texts_in, short_key, text_texts_in};
 
 use crate::pairs::TextValue;
@@ -33,10 +33,10 @@ pub extern "C" fn rkyv_c_get_text_of_number_narrow<'a>(
 ) -> u32
     requires archive { IsNumberTextArchive short_key false archive.now }
     requires header { IsHeaderOf (number_texts_in short_key false archive.now) header.now }
-    ensures outcome { ReturnsTextOfNumber short_key false archive.now key value.old.text result
-        value.new.text }
-    ensures listed { ReturnsFirstTextOfNumber short_key false archive.now key value.old.text result
-        value.new.text }
+    ensures outcome { ReturnsTextOfNumber (number_keys_at short_key false archive.now) key
+        value.old.text result value.new.text }
+    ensures listed { ReturnsFirstTextOfNumber (number_keys_at short_key false archive.now) key
+        value.old.text result value.new.text }
 {
     get_text_of_number::<u32>(archive, false, header, key, &mut value.text)
 }
@@ -60,10 +60,10 @@ pub extern "C" fn rkyv_c_get_text_of_number_wide<'a>(
 ) -> u32
     requires archive { IsNumberTextArchive short_key true archive.now }
     requires header { IsHeaderOf (number_texts_in short_key true archive.now) header.now }
-    ensures outcome { ReturnsTextOfNumber short_key true archive.now key value.old.text result
-        value.new.text }
-    ensures listed { ReturnsFirstTextOfNumber short_key true archive.now key value.old.text result
-        value.new.text }
+    ensures outcome { ReturnsTextOfNumber (number_keys_at short_key true archive.now) key
+        value.old.text result value.new.text }
+    ensures listed { ReturnsFirstTextOfNumber (number_keys_at short_key true archive.now) key
+        value.old.text result value.new.text }
 {
     get_text_of_number::<u32>(archive, true, header, key, &mut value.text)
 }
@@ -87,10 +87,10 @@ pub extern "C" fn rkyv_c_get_text_of_long_number_narrow<'a>(
 ) -> u32
     requires archive { IsNumberTextArchive long_key false archive.now }
     requires header { IsHeaderOf (number_texts_in long_key false archive.now) header.now }
-    ensures outcome { ReturnsTextOfNumber long_key false archive.now key value.old.text result
-        value.new.text }
-    ensures listed { ReturnsFirstTextOfNumber long_key false archive.now key value.old.text result
-        value.new.text }
+    ensures outcome { ReturnsTextOfNumber (number_keys_at long_key false archive.now) key
+        value.old.text result value.new.text }
+    ensures listed { ReturnsFirstTextOfNumber (number_keys_at long_key false archive.now) key
+        value.old.text result value.new.text }
 {
     get_text_of_number::<u64>(archive, false, header, key, &mut value.text)
 }
@@ -114,10 +114,10 @@ pub extern "C" fn rkyv_c_get_text_of_long_number_wide<'a>(
 ) -> u32
     requires archive { IsNumberTextArchive long_key true archive.now }
     requires header { IsHeaderOf (number_texts_in long_key true archive.now) header.now }
-    ensures outcome { ReturnsTextOfNumber long_key true archive.now key value.old.text result
-        value.new.text }
-    ensures listed { ReturnsFirstTextOfNumber long_key true archive.now key value.old.text result
-        value.new.text }
+    ensures outcome { ReturnsTextOfNumber (number_keys_at long_key true archive.now) key
+        value.old.text result value.new.text }
+    ensures listed { ReturnsFirstTextOfNumber (number_keys_at long_key true archive.now) key
+        value.old.text result value.new.text }
 {
     get_text_of_number::<u64>(archive, true, header, key, &mut value.text)
 }

@@ -138,8 +138,8 @@ pub extern "C" fn rkyv_c_is_text(bytes: &[u8]) -> bool
 /// # Errors
 ///
 /// - 12: an allocation fails.
-/// - 4: a key isn't UTF-8.
-/// - 3: a value has more bits than the values of the map.
+/// - 4 or 3, of the first item with an error: the key isn't UTF-8, or the value has more bits than
+///   the values of the map.
 /// - 23 to 29: the error of the write, which is 27 if a key is too long.
 ///
 /// After an error `built` is unchanged.

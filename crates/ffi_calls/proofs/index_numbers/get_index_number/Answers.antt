@@ -1,4 +1,4 @@
-use Rattle.ffi_calls.specs.{IsHeaderOf, IsNumberIndex, NumberKey, ReturnsFirstIndexedNumber, ReturnsIndexedNumber, number_index_in}
+use Rattle.ffi_calls.specs.{IsHeaderOf, IsNumberIndex, NumberKey, ReturnsFirstIndexedNumber, ReturnsIndexedNumber, number_index_in, numbers_at}
 use Rattle.ffi_calls.proofs.Forms.{at_form, of_form}
 use Rattle.ffi_calls.proofs.index_numbers.get_index_number.Goals as goal
 
@@ -45,39 +45,39 @@ typed_index_header-requires-in-false-false-clause-header g c =
 pub returns-in-true-true-clause-outcome : goal.returns-in-true-true-clause-outcome
 returns-in-true-true-clause-outcome g c =
     let k : NumberKey _ = record { eq = g.K.PartialEq.eq; spec = g.K.HasSpec.spec; encoding = g.K.Scalar.encoding; call = g.K.ScalarKey.call } in
-    at_form (λ f. ReturnsIndexedNumber k f c.args.archive.now c.args.key (g.I.IndexedOf.indexed_of c.args.found.now) c.find_in.result (g.I.IndexedOf.indexed_of c.find_in.new.found)) c.args.form c.in-true-true.is-0 c.in-true-true.is-1 c.find_in.ensures.outcome
+    at_form (λ f. ReturnsIndexedNumber (numbers_at k f c.args.archive.now) c.args.key (g.I.IndexedOf.indexed_of c.args.found.now) c.find_in.result (g.I.IndexedOf.indexed_of c.find_in.new.found)) c.args.form c.in-true-true.is-0 c.in-true-true.is-1 c.find_in.ensures.outcome
 
 pub returns-in-true-true-clause-listed : goal.returns-in-true-true-clause-listed
 returns-in-true-true-clause-listed g c =
     let k : NumberKey _ = record { eq = g.K.PartialEq.eq; spec = g.K.HasSpec.spec; encoding = g.K.Scalar.encoding; call = g.K.ScalarKey.call } in
-    at_form (λ f. ReturnsFirstIndexedNumber k f c.args.archive.now c.args.key (g.I.IndexedOf.indexed_of c.args.found.now) c.find_in.result (g.I.IndexedOf.indexed_of c.find_in.new.found)) c.args.form c.in-true-true.is-0 c.in-true-true.is-1 c.find_in.ensures.listed
+    at_form (λ f. ReturnsFirstIndexedNumber (numbers_at k f c.args.archive.now) c.args.key (g.I.IndexedOf.indexed_of c.args.found.now) c.find_in.result (g.I.IndexedOf.indexed_of c.find_in.new.found)) c.args.form c.in-true-true.is-0 c.in-true-true.is-1 c.find_in.ensures.listed
 
 pub returns-in-true-false-clause-outcome : goal.returns-in-true-false-clause-outcome
 returns-in-true-false-clause-outcome g c =
     let k : NumberKey _ = record { eq = g.K.PartialEq.eq; spec = g.K.HasSpec.spec; encoding = g.K.Scalar.encoding; call = g.K.ScalarKey.call } in
-    at_form (λ f. ReturnsIndexedNumber k f c.args.archive.now c.args.key (g.I.IndexedOf.indexed_of c.args.found.now) c.find_in-in-true-false.result (g.I.IndexedOf.indexed_of c.find_in-in-true-false.new.found)) c.args.form c.in-true-false.is-0 c.in-true-false.is-1 c.find_in-in-true-false.ensures.outcome
+    at_form (λ f. ReturnsIndexedNumber (numbers_at k f c.args.archive.now) c.args.key (g.I.IndexedOf.indexed_of c.args.found.now) c.find_in-in-true-false.result (g.I.IndexedOf.indexed_of c.find_in-in-true-false.new.found)) c.args.form c.in-true-false.is-0 c.in-true-false.is-1 c.find_in-in-true-false.ensures.outcome
 
 pub returns-in-true-false-clause-listed : goal.returns-in-true-false-clause-listed
 returns-in-true-false-clause-listed g c =
     let k : NumberKey _ = record { eq = g.K.PartialEq.eq; spec = g.K.HasSpec.spec; encoding = g.K.Scalar.encoding; call = g.K.ScalarKey.call } in
-    at_form (λ f. ReturnsFirstIndexedNumber k f c.args.archive.now c.args.key (g.I.IndexedOf.indexed_of c.args.found.now) c.find_in-in-true-false.result (g.I.IndexedOf.indexed_of c.find_in-in-true-false.new.found)) c.args.form c.in-true-false.is-0 c.in-true-false.is-1 c.find_in-in-true-false.ensures.listed
+    at_form (λ f. ReturnsFirstIndexedNumber (numbers_at k f c.args.archive.now) c.args.key (g.I.IndexedOf.indexed_of c.args.found.now) c.find_in-in-true-false.result (g.I.IndexedOf.indexed_of c.find_in-in-true-false.new.found)) c.args.form c.in-true-false.is-0 c.in-true-false.is-1 c.find_in-in-true-false.ensures.listed
 
 pub returns-in-false-true-clause-outcome : goal.returns-in-false-true-clause-outcome
 returns-in-false-true-clause-outcome g c =
     let k : NumberKey _ = record { eq = g.K.PartialEq.eq; spec = g.K.HasSpec.spec; encoding = g.K.Scalar.encoding; call = g.K.ScalarKey.call } in
-    at_form (λ f. ReturnsIndexedNumber k f c.args.archive.now c.args.key (g.I.IndexedOf.indexed_of c.args.found.now) c.find_in-in-false-true.result (g.I.IndexedOf.indexed_of c.find_in-in-false-true.new.found)) c.args.form c.in-false-true.is-0 c.in-false-true.is-1 c.find_in-in-false-true.ensures.outcome
+    at_form (λ f. ReturnsIndexedNumber (numbers_at k f c.args.archive.now) c.args.key (g.I.IndexedOf.indexed_of c.args.found.now) c.find_in-in-false-true.result (g.I.IndexedOf.indexed_of c.find_in-in-false-true.new.found)) c.args.form c.in-false-true.is-0 c.in-false-true.is-1 c.find_in-in-false-true.ensures.outcome
 
 pub returns-in-false-true-clause-listed : goal.returns-in-false-true-clause-listed
 returns-in-false-true-clause-listed g c =
     let k : NumberKey _ = record { eq = g.K.PartialEq.eq; spec = g.K.HasSpec.spec; encoding = g.K.Scalar.encoding; call = g.K.ScalarKey.call } in
-    at_form (λ f. ReturnsFirstIndexedNumber k f c.args.archive.now c.args.key (g.I.IndexedOf.indexed_of c.args.found.now) c.find_in-in-false-true.result (g.I.IndexedOf.indexed_of c.find_in-in-false-true.new.found)) c.args.form c.in-false-true.is-0 c.in-false-true.is-1 c.find_in-in-false-true.ensures.listed
+    at_form (λ f. ReturnsFirstIndexedNumber (numbers_at k f c.args.archive.now) c.args.key (g.I.IndexedOf.indexed_of c.args.found.now) c.find_in-in-false-true.result (g.I.IndexedOf.indexed_of c.find_in-in-false-true.new.found)) c.args.form c.in-false-true.is-0 c.in-false-true.is-1 c.find_in-in-false-true.ensures.listed
 
 pub returns-in-false-false-clause-outcome : goal.returns-in-false-false-clause-outcome
 returns-in-false-false-clause-outcome g c =
     let k : NumberKey _ = record { eq = g.K.PartialEq.eq; spec = g.K.HasSpec.spec; encoding = g.K.Scalar.encoding; call = g.K.ScalarKey.call } in
-    at_form (λ f. ReturnsIndexedNumber k f c.args.archive.now c.args.key (g.I.IndexedOf.indexed_of c.args.found.now) c.find_in-in-false-false.result (g.I.IndexedOf.indexed_of c.find_in-in-false-false.new.found)) c.args.form c.in-false-false.is-0 c.in-false-false.is-1 c.find_in-in-false-false.ensures.outcome
+    at_form (λ f. ReturnsIndexedNumber (numbers_at k f c.args.archive.now) c.args.key (g.I.IndexedOf.indexed_of c.args.found.now) c.find_in-in-false-false.result (g.I.IndexedOf.indexed_of c.find_in-in-false-false.new.found)) c.args.form c.in-false-false.is-0 c.in-false-false.is-1 c.find_in-in-false-false.ensures.outcome
 
 pub returns-in-false-false-clause-listed : goal.returns-in-false-false-clause-listed
 returns-in-false-false-clause-listed g c =
     let k : NumberKey _ = record { eq = g.K.PartialEq.eq; spec = g.K.HasSpec.spec; encoding = g.K.Scalar.encoding; call = g.K.ScalarKey.call } in
-    at_form (λ f. ReturnsFirstIndexedNumber k f c.args.archive.now c.args.key (g.I.IndexedOf.indexed_of c.args.found.now) c.find_in-in-false-false.result (g.I.IndexedOf.indexed_of c.find_in-in-false-false.new.found)) c.args.form c.in-false-false.is-0 c.in-false-false.is-1 c.find_in-in-false-false.ensures.listed
+    at_form (λ f. ReturnsFirstIndexedNumber (numbers_at k f c.args.archive.now) c.args.key (g.I.IndexedOf.indexed_of c.args.found.now) c.find_in-in-false-false.result (g.I.IndexedOf.indexed_of c.find_in-in-false-false.new.found)) c.args.form c.in-false-false.is-0 c.in-false-false.is-1 c.find_in-in-false-false.ensures.listed

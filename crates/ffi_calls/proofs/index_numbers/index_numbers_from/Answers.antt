@@ -1,5 +1,5 @@
 use Rattle.std.specs.Prelude.{map}
-use Rattle.ffi_calls.specs.{IsHeaderOf, IsNumberIndex, NumberKey, StoresListedNumbers, StoresNumbers, number_index_in}
+use Rattle.ffi_calls.specs.{IsHeaderOf, IsNumberIndex, NumberKey, StoresListedNumbers, StoresNumbers, number_index_in, numbers_at}
 use Rattle.ffi_calls.proofs.Forms.{at_form, of_form}
 use Rattle.ffi_calls.proofs.index_numbers.index_numbers_from.Goals as goal
 
@@ -46,39 +46,39 @@ typed_index_header-requires-in-false-false-clause-header g c =
 pub returns-in-true-true-clause-stores : goal.returns-in-true-true-clause-stores
 returns-in-true-true-clause-stores g c =
     let k : NumberKey _ = record { eq = g.K.PartialEq.eq; spec = g.K.HasSpec.spec; encoding = g.K.Scalar.encoding; call = g.K.ScalarKey.call } in
-    at_form (λ f. StoresNumbers k f c.args.archive.now c.args.from (map g.P.PairOf.pair_of c.args.pairs.now) c.pairs_in.result (map g.P.PairOf.pair_of c.pairs_in.new.pairs)) c.args.form c.in-true-true.is-0 c.in-true-true.is-1 c.pairs_in.ensures.stores
+    at_form (λ f. StoresNumbers (numbers_at k f c.args.archive.now) c.args.from (map g.P.PairOf.pair_of c.args.pairs.now) c.pairs_in.result (map g.P.PairOf.pair_of c.pairs_in.new.pairs)) c.args.form c.in-true-true.is-0 c.in-true-true.is-1 c.pairs_in.ensures.stores
 
 pub returns-in-true-true-clause-listed : goal.returns-in-true-true-clause-listed
 returns-in-true-true-clause-listed g c =
     let k : NumberKey _ = record { eq = g.K.PartialEq.eq; spec = g.K.HasSpec.spec; encoding = g.K.Scalar.encoding; call = g.K.ScalarKey.call } in
-    at_form (λ f. StoresListedNumbers k f c.args.archive.now c.args.from (map g.P.PairOf.pair_of c.args.pairs.now) c.pairs_in.result (map g.P.PairOf.pair_of c.pairs_in.new.pairs)) c.args.form c.in-true-true.is-0 c.in-true-true.is-1 c.pairs_in.ensures.listed
+    at_form (λ f. StoresListedNumbers (numbers_at k f c.args.archive.now) c.args.from (map g.P.PairOf.pair_of c.args.pairs.now) c.pairs_in.result (map g.P.PairOf.pair_of c.pairs_in.new.pairs)) c.args.form c.in-true-true.is-0 c.in-true-true.is-1 c.pairs_in.ensures.listed
 
 pub returns-in-true-false-clause-stores : goal.returns-in-true-false-clause-stores
 returns-in-true-false-clause-stores g c =
     let k : NumberKey _ = record { eq = g.K.PartialEq.eq; spec = g.K.HasSpec.spec; encoding = g.K.Scalar.encoding; call = g.K.ScalarKey.call } in
-    at_form (λ f. StoresNumbers k f c.args.archive.now c.args.from (map g.P.PairOf.pair_of c.args.pairs.now) c.pairs_in-in-true-false.result (map g.P.PairOf.pair_of c.pairs_in-in-true-false.new.pairs)) c.args.form c.in-true-false.is-0 c.in-true-false.is-1 c.pairs_in-in-true-false.ensures.stores
+    at_form (λ f. StoresNumbers (numbers_at k f c.args.archive.now) c.args.from (map g.P.PairOf.pair_of c.args.pairs.now) c.pairs_in-in-true-false.result (map g.P.PairOf.pair_of c.pairs_in-in-true-false.new.pairs)) c.args.form c.in-true-false.is-0 c.in-true-false.is-1 c.pairs_in-in-true-false.ensures.stores
 
 pub returns-in-true-false-clause-listed : goal.returns-in-true-false-clause-listed
 returns-in-true-false-clause-listed g c =
     let k : NumberKey _ = record { eq = g.K.PartialEq.eq; spec = g.K.HasSpec.spec; encoding = g.K.Scalar.encoding; call = g.K.ScalarKey.call } in
-    at_form (λ f. StoresListedNumbers k f c.args.archive.now c.args.from (map g.P.PairOf.pair_of c.args.pairs.now) c.pairs_in-in-true-false.result (map g.P.PairOf.pair_of c.pairs_in-in-true-false.new.pairs)) c.args.form c.in-true-false.is-0 c.in-true-false.is-1 c.pairs_in-in-true-false.ensures.listed
+    at_form (λ f. StoresListedNumbers (numbers_at k f c.args.archive.now) c.args.from (map g.P.PairOf.pair_of c.args.pairs.now) c.pairs_in-in-true-false.result (map g.P.PairOf.pair_of c.pairs_in-in-true-false.new.pairs)) c.args.form c.in-true-false.is-0 c.in-true-false.is-1 c.pairs_in-in-true-false.ensures.listed
 
 pub returns-in-false-true-clause-stores : goal.returns-in-false-true-clause-stores
 returns-in-false-true-clause-stores g c =
     let k : NumberKey _ = record { eq = g.K.PartialEq.eq; spec = g.K.HasSpec.spec; encoding = g.K.Scalar.encoding; call = g.K.ScalarKey.call } in
-    at_form (λ f. StoresNumbers k f c.args.archive.now c.args.from (map g.P.PairOf.pair_of c.args.pairs.now) c.pairs_in-in-false-true.result (map g.P.PairOf.pair_of c.pairs_in-in-false-true.new.pairs)) c.args.form c.in-false-true.is-0 c.in-false-true.is-1 c.pairs_in-in-false-true.ensures.stores
+    at_form (λ f. StoresNumbers (numbers_at k f c.args.archive.now) c.args.from (map g.P.PairOf.pair_of c.args.pairs.now) c.pairs_in-in-false-true.result (map g.P.PairOf.pair_of c.pairs_in-in-false-true.new.pairs)) c.args.form c.in-false-true.is-0 c.in-false-true.is-1 c.pairs_in-in-false-true.ensures.stores
 
 pub returns-in-false-true-clause-listed : goal.returns-in-false-true-clause-listed
 returns-in-false-true-clause-listed g c =
     let k : NumberKey _ = record { eq = g.K.PartialEq.eq; spec = g.K.HasSpec.spec; encoding = g.K.Scalar.encoding; call = g.K.ScalarKey.call } in
-    at_form (λ f. StoresListedNumbers k f c.args.archive.now c.args.from (map g.P.PairOf.pair_of c.args.pairs.now) c.pairs_in-in-false-true.result (map g.P.PairOf.pair_of c.pairs_in-in-false-true.new.pairs)) c.args.form c.in-false-true.is-0 c.in-false-true.is-1 c.pairs_in-in-false-true.ensures.listed
+    at_form (λ f. StoresListedNumbers (numbers_at k f c.args.archive.now) c.args.from (map g.P.PairOf.pair_of c.args.pairs.now) c.pairs_in-in-false-true.result (map g.P.PairOf.pair_of c.pairs_in-in-false-true.new.pairs)) c.args.form c.in-false-true.is-0 c.in-false-true.is-1 c.pairs_in-in-false-true.ensures.listed
 
 pub returns-in-false-false-clause-stores : goal.returns-in-false-false-clause-stores
 returns-in-false-false-clause-stores g c =
     let k : NumberKey _ = record { eq = g.K.PartialEq.eq; spec = g.K.HasSpec.spec; encoding = g.K.Scalar.encoding; call = g.K.ScalarKey.call } in
-    at_form (λ f. StoresNumbers k f c.args.archive.now c.args.from (map g.P.PairOf.pair_of c.args.pairs.now) c.pairs_in-in-false-false.result (map g.P.PairOf.pair_of c.pairs_in-in-false-false.new.pairs)) c.args.form c.in-false-false.is-0 c.in-false-false.is-1 c.pairs_in-in-false-false.ensures.stores
+    at_form (λ f. StoresNumbers (numbers_at k f c.args.archive.now) c.args.from (map g.P.PairOf.pair_of c.args.pairs.now) c.pairs_in-in-false-false.result (map g.P.PairOf.pair_of c.pairs_in-in-false-false.new.pairs)) c.args.form c.in-false-false.is-0 c.in-false-false.is-1 c.pairs_in-in-false-false.ensures.stores
 
 pub returns-in-false-false-clause-listed : goal.returns-in-false-false-clause-listed
 returns-in-false-false-clause-listed g c =
     let k : NumberKey _ = record { eq = g.K.PartialEq.eq; spec = g.K.HasSpec.spec; encoding = g.K.Scalar.encoding; call = g.K.ScalarKey.call } in
-    at_form (λ f. StoresListedNumbers k f c.args.archive.now c.args.from (map g.P.PairOf.pair_of c.args.pairs.now) c.pairs_in-in-false-false.result (map g.P.PairOf.pair_of c.pairs_in-in-false-false.new.pairs)) c.args.form c.in-false-false.is-0 c.in-false-false.is-1 c.pairs_in-in-false-false.ensures.listed
+    at_form (λ f. StoresListedNumbers (numbers_at k f c.args.archive.now) c.args.from (map g.P.PairOf.pair_of c.args.pairs.now) c.pairs_in-in-false-false.result (map g.P.PairOf.pair_of c.pairs_in-in-false-false.new.pairs)) c.args.form c.in-false-false.is-0 c.in-false-false.is-1 c.pairs_in-in-false-false.ensures.listed

@@ -1,4 +1,4 @@
-use Rattle.ffi_calls.specs.{IsNumberIndex, KeepsHeader, NumberKey, SetsFirstIndexedNumber, SetsIndexedNumber, number_index_in}
+use Rattle.ffi_calls.specs.{IsNumberIndex, KeepsHeader, NumberKey, SetsFirstIndexedNumber, SetsIndexedNumber, number_index_in, numbers_at}
 use Rattle.ffi_calls.proofs.Forms.{at_form, of_form}
 use Rattle.ffi_calls.proofs.index_numbers.set_index_number.Goals as goal
 
@@ -15,12 +15,12 @@ returns-in-true-true-clause-header g c =
 pub returns-in-true-true-clause-sets : goal.returns-in-true-true-clause-sets
 returns-in-true-true-clause-sets g c =
     let k : NumberKey _ = record { eq = g.K.PartialEq.eq; spec = g.K.HasSpec.spec; encoding = g.K.Scalar.encoding; call = g.K.ScalarKey.call } in
-    at_form (λ f. SetsIndexedNumber k f c.args.archive.now c.args.key c.args.value c.set_indexed_in.result c.set_indexed_in.new.archive) c.args.form c.in-true-true.is-0 c.in-true-true.is-1 c.set_indexed_in.ensures.sets
+    at_form (λ f. SetsIndexedNumber (numbers_at k f c.args.archive.now) c.args.key c.args.value c.set_indexed_in.result c.set_indexed_in.new.archive) c.args.form c.in-true-true.is-0 c.in-true-true.is-1 c.set_indexed_in.ensures.sets
 
 pub returns-in-true-true-clause-listed : goal.returns-in-true-true-clause-listed
 returns-in-true-true-clause-listed g c =
     let k : NumberKey _ = record { eq = g.K.PartialEq.eq; spec = g.K.HasSpec.spec; encoding = g.K.Scalar.encoding; call = g.K.ScalarKey.call } in
-    at_form (λ f. SetsFirstIndexedNumber k f c.args.archive.now c.args.key c.args.value c.set_indexed_in.result c.set_indexed_in.new.archive) c.args.form c.in-true-true.is-0 c.in-true-true.is-1 c.set_indexed_in.ensures.listed
+    at_form (λ f. SetsFirstIndexedNumber (numbers_at k f c.args.archive.now) c.args.key c.args.value c.set_indexed_in.result c.set_indexed_in.new.archive) c.args.form c.in-true-true.is-0 c.in-true-true.is-1 c.set_indexed_in.ensures.listed
 
 pub set_indexed_in-requires-clause-archive : goal.set_indexed_in-requires-clause-archive
 set_indexed_in-requires-clause-archive g c =
@@ -40,12 +40,12 @@ returns-in-true-false-clause-header g c =
 pub returns-in-true-false-clause-sets : goal.returns-in-true-false-clause-sets
 returns-in-true-false-clause-sets g c =
     let k : NumberKey _ = record { eq = g.K.PartialEq.eq; spec = g.K.HasSpec.spec; encoding = g.K.Scalar.encoding; call = g.K.ScalarKey.call } in
-    at_form (λ f. SetsIndexedNumber k f c.args.archive.now c.args.key c.args.value c.set_indexed_in-in-true-false.result c.set_indexed_in-in-true-false.new.archive) c.args.form c.in-true-false.is-0 c.in-true-false.is-1 c.set_indexed_in-in-true-false.ensures.sets
+    at_form (λ f. SetsIndexedNumber (numbers_at k f c.args.archive.now) c.args.key c.args.value c.set_indexed_in-in-true-false.result c.set_indexed_in-in-true-false.new.archive) c.args.form c.in-true-false.is-0 c.in-true-false.is-1 c.set_indexed_in-in-true-false.ensures.sets
 
 pub returns-in-true-false-clause-listed : goal.returns-in-true-false-clause-listed
 returns-in-true-false-clause-listed g c =
     let k : NumberKey _ = record { eq = g.K.PartialEq.eq; spec = g.K.HasSpec.spec; encoding = g.K.Scalar.encoding; call = g.K.ScalarKey.call } in
-    at_form (λ f. SetsFirstIndexedNumber k f c.args.archive.now c.args.key c.args.value c.set_indexed_in-in-true-false.result c.set_indexed_in-in-true-false.new.archive) c.args.form c.in-true-false.is-0 c.in-true-false.is-1 c.set_indexed_in-in-true-false.ensures.listed
+    at_form (λ f. SetsFirstIndexedNumber (numbers_at k f c.args.archive.now) c.args.key c.args.value c.set_indexed_in-in-true-false.result c.set_indexed_in-in-true-false.new.archive) c.args.form c.in-true-false.is-0 c.in-true-false.is-1 c.set_indexed_in-in-true-false.ensures.listed
 
 pub set_indexed_in-requires-in-true-false-clause-archive : goal.set_indexed_in-requires-in-true-false-clause-archive
 set_indexed_in-requires-in-true-false-clause-archive g c =
@@ -65,12 +65,12 @@ returns-in-false-true-clause-header g c =
 pub returns-in-false-true-clause-sets : goal.returns-in-false-true-clause-sets
 returns-in-false-true-clause-sets g c =
     let k : NumberKey _ = record { eq = g.K.PartialEq.eq; spec = g.K.HasSpec.spec; encoding = g.K.Scalar.encoding; call = g.K.ScalarKey.call } in
-    at_form (λ f. SetsIndexedNumber k f c.args.archive.now c.args.key c.args.value c.set_indexed_in-in-false-true.result c.set_indexed_in-in-false-true.new.archive) c.args.form c.in-false-true.is-0 c.in-false-true.is-1 c.set_indexed_in-in-false-true.ensures.sets
+    at_form (λ f. SetsIndexedNumber (numbers_at k f c.args.archive.now) c.args.key c.args.value c.set_indexed_in-in-false-true.result c.set_indexed_in-in-false-true.new.archive) c.args.form c.in-false-true.is-0 c.in-false-true.is-1 c.set_indexed_in-in-false-true.ensures.sets
 
 pub returns-in-false-true-clause-listed : goal.returns-in-false-true-clause-listed
 returns-in-false-true-clause-listed g c =
     let k : NumberKey _ = record { eq = g.K.PartialEq.eq; spec = g.K.HasSpec.spec; encoding = g.K.Scalar.encoding; call = g.K.ScalarKey.call } in
-    at_form (λ f. SetsFirstIndexedNumber k f c.args.archive.now c.args.key c.args.value c.set_indexed_in-in-false-true.result c.set_indexed_in-in-false-true.new.archive) c.args.form c.in-false-true.is-0 c.in-false-true.is-1 c.set_indexed_in-in-false-true.ensures.listed
+    at_form (λ f. SetsFirstIndexedNumber (numbers_at k f c.args.archive.now) c.args.key c.args.value c.set_indexed_in-in-false-true.result c.set_indexed_in-in-false-true.new.archive) c.args.form c.in-false-true.is-0 c.in-false-true.is-1 c.set_indexed_in-in-false-true.ensures.listed
 
 pub set_indexed_in-requires-in-false-true-clause-archive : goal.set_indexed_in-requires-in-false-true-clause-archive
 set_indexed_in-requires-in-false-true-clause-archive g c =
@@ -90,12 +90,12 @@ returns-in-false-false-clause-header g c =
 pub returns-in-false-false-clause-sets : goal.returns-in-false-false-clause-sets
 returns-in-false-false-clause-sets g c =
     let k : NumberKey _ = record { eq = g.K.PartialEq.eq; spec = g.K.HasSpec.spec; encoding = g.K.Scalar.encoding; call = g.K.ScalarKey.call } in
-    at_form (λ f. SetsIndexedNumber k f c.args.archive.now c.args.key c.args.value c.set_indexed_in-in-false-false.result c.set_indexed_in-in-false-false.new.archive) c.args.form c.in-false-false.is-0 c.in-false-false.is-1 c.set_indexed_in-in-false-false.ensures.sets
+    at_form (λ f. SetsIndexedNumber (numbers_at k f c.args.archive.now) c.args.key c.args.value c.set_indexed_in-in-false-false.result c.set_indexed_in-in-false-false.new.archive) c.args.form c.in-false-false.is-0 c.in-false-false.is-1 c.set_indexed_in-in-false-false.ensures.sets
 
 pub returns-in-false-false-clause-listed : goal.returns-in-false-false-clause-listed
 returns-in-false-false-clause-listed g c =
     let k : NumberKey _ = record { eq = g.K.PartialEq.eq; spec = g.K.HasSpec.spec; encoding = g.K.Scalar.encoding; call = g.K.ScalarKey.call } in
-    at_form (λ f. SetsFirstIndexedNumber k f c.args.archive.now c.args.key c.args.value c.set_indexed_in-in-false-false.result c.set_indexed_in-in-false-false.new.archive) c.args.form c.in-false-false.is-0 c.in-false-false.is-1 c.set_indexed_in-in-false-false.ensures.listed
+    at_form (λ f. SetsFirstIndexedNumber (numbers_at k f c.args.archive.now) c.args.key c.args.value c.set_indexed_in-in-false-false.result c.set_indexed_in-in-false-false.new.archive) c.args.form c.in-false-false.is-0 c.in-false-false.is-1 c.set_indexed_in-in-false-false.ensures.listed
 
 pub set_indexed_in-requires-in-false-false-clause-archive : goal.set_indexed_in-requires-in-false-false-clause-archive
 set_indexed_in-requires-in-false-false-clause-archive g c =

@@ -1,4 +1,4 @@
-use Rattle.ffi_calls.specs.{IsHeaderOf, IsNumberTextIndex, NumberKey, ReturnsFirstIndexedTextOfNumber, ReturnsIndexedTextOfNumber, number_text_index_in}
+use Rattle.ffi_calls.specs.{IsHeaderOf, IsNumberTextIndex, NumberKey, ReturnsFirstIndexedTextOfNumber, ReturnsIndexedTextOfNumber, number_keys_at, number_text_index_in}
 use Rattle.ffi_calls.proofs.Forms.{at_flag, of_flag}
 use Rattle.ffi_calls.proofs.index_numbers_to_texts.get_index_text_of_number.Goals as goal
 
@@ -25,19 +25,19 @@ typed_index_header-requires-else-wide-clause-header g c =
 pub returns-then-wide-clause-outcome : goal.returns-then-wide-clause-outcome
 returns-then-wide-clause-outcome g c =
     let k : NumberKey _ = record { eq = g.K.PartialEq.eq; spec = g.K.HasSpec.spec; encoding = g.K.Scalar.encoding; call = g.K.ScalarKey.call } in
-    at_flag (λ f. ReturnsIndexedTextOfNumber k f c.args.archive.now c.args.key (g.I.IndexedOf.indexed_of c.args.found.now) c.find_in.result (g.I.IndexedOf.indexed_of c.find_in.new.found)) c.if-wide.true c.find_in.ensures.outcome
+    at_flag (λ f. ReturnsIndexedTextOfNumber (number_keys_at k f c.args.archive.now) c.args.key (g.I.IndexedOf.indexed_of c.args.found.now) c.find_in.result (g.I.IndexedOf.indexed_of c.find_in.new.found)) c.if-wide.true c.find_in.ensures.outcome
 
 pub returns-then-wide-clause-listed : goal.returns-then-wide-clause-listed
 returns-then-wide-clause-listed g c =
     let k : NumberKey _ = record { eq = g.K.PartialEq.eq; spec = g.K.HasSpec.spec; encoding = g.K.Scalar.encoding; call = g.K.ScalarKey.call } in
-    at_flag (λ f. ReturnsFirstIndexedTextOfNumber k f c.args.archive.now c.args.key (g.I.IndexedOf.indexed_of c.args.found.now) c.find_in.result (g.I.IndexedOf.indexed_of c.find_in.new.found)) c.if-wide.true c.find_in.ensures.listed
+    at_flag (λ f. ReturnsFirstIndexedTextOfNumber (number_keys_at k f c.args.archive.now) c.args.key (g.I.IndexedOf.indexed_of c.args.found.now) c.find_in.result (g.I.IndexedOf.indexed_of c.find_in.new.found)) c.if-wide.true c.find_in.ensures.listed
 
 pub returns-else-wide-clause-outcome : goal.returns-else-wide-clause-outcome
 returns-else-wide-clause-outcome g c =
     let k : NumberKey _ = record { eq = g.K.PartialEq.eq; spec = g.K.HasSpec.spec; encoding = g.K.Scalar.encoding; call = g.K.ScalarKey.call } in
-    at_flag (λ f. ReturnsIndexedTextOfNumber k f c.args.archive.now c.args.key (g.I.IndexedOf.indexed_of c.args.found.now) c.find_in-else-wide.result (g.I.IndexedOf.indexed_of c.find_in-else-wide.new.found)) c.if-wide.false c.find_in-else-wide.ensures.outcome
+    at_flag (λ f. ReturnsIndexedTextOfNumber (number_keys_at k f c.args.archive.now) c.args.key (g.I.IndexedOf.indexed_of c.args.found.now) c.find_in-else-wide.result (g.I.IndexedOf.indexed_of c.find_in-else-wide.new.found)) c.if-wide.false c.find_in-else-wide.ensures.outcome
 
 pub returns-else-wide-clause-listed : goal.returns-else-wide-clause-listed
 returns-else-wide-clause-listed g c =
     let k : NumberKey _ = record { eq = g.K.PartialEq.eq; spec = g.K.HasSpec.spec; encoding = g.K.Scalar.encoding; call = g.K.ScalarKey.call } in
-    at_flag (λ f. ReturnsFirstIndexedTextOfNumber k f c.args.archive.now c.args.key (g.I.IndexedOf.indexed_of c.args.found.now) c.find_in-else-wide.result (g.I.IndexedOf.indexed_of c.find_in-else-wide.new.found)) c.if-wide.false c.find_in-else-wide.ensures.listed
+    at_flag (λ f. ReturnsFirstIndexedTextOfNumber (number_keys_at k f c.args.archive.now) c.args.key (g.I.IndexedOf.indexed_of c.args.found.now) c.find_in-else-wide.result (g.I.IndexedOf.indexed_of c.find_in-else-wide.new.found)) c.if-wide.false c.find_in-else-wide.ensures.listed

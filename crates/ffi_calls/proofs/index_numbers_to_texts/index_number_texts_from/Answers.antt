@@ -1,5 +1,5 @@
 use Rattle.std.specs.Prelude.{map}
-use Rattle.ffi_calls.specs.{IsHeaderOf, IsNumberTextIndex, NumberKey, StoresListedNumberTexts, StoresNumberTexts, number_text_index_in}
+use Rattle.ffi_calls.specs.{IsHeaderOf, IsNumberTextIndex, NumberKey, StoresListedNumberTexts, StoresNumberTexts, number_keys_at, number_text_index_in}
 use Rattle.ffi_calls.proofs.Forms.{at_flag, of_flag}
 use Rattle.ffi_calls.proofs.index_numbers_to_texts.index_number_texts_from.Goals as goal
 
@@ -26,19 +26,19 @@ typed_index_header-requires-else-wide-clause-header g c =
 pub returns-then-wide-clause-stores : goal.returns-then-wide-clause-stores
 returns-then-wide-clause-stores g c =
     let k : NumberKey _ = record { eq = g.K.PartialEq.eq; spec = g.K.HasSpec.spec; encoding = g.K.Scalar.encoding; call = g.K.ScalarKey.call } in
-    at_flag (λ f. StoresNumberTexts k f c.args.archive.now c.args.from (map g.P.PairOf.pair_of c.args.pairs.now) c.pairs_in.result (map g.P.PairOf.pair_of c.pairs_in.new.pairs)) c.if-wide.true c.pairs_in.ensures.stores
+    at_flag (λ f. StoresNumberTexts (number_keys_at k f c.args.archive.now) c.args.from (map g.P.PairOf.pair_of c.args.pairs.now) c.pairs_in.result (map g.P.PairOf.pair_of c.pairs_in.new.pairs)) c.if-wide.true c.pairs_in.ensures.stores
 
 pub returns-then-wide-clause-listed : goal.returns-then-wide-clause-listed
 returns-then-wide-clause-listed g c =
     let k : NumberKey _ = record { eq = g.K.PartialEq.eq; spec = g.K.HasSpec.spec; encoding = g.K.Scalar.encoding; call = g.K.ScalarKey.call } in
-    at_flag (λ f. StoresListedNumberTexts k f c.args.archive.now c.args.from (map g.P.PairOf.pair_of c.args.pairs.now) c.pairs_in.result (map g.P.PairOf.pair_of c.pairs_in.new.pairs)) c.if-wide.true c.pairs_in.ensures.listed
+    at_flag (λ f. StoresListedNumberTexts (number_keys_at k f c.args.archive.now) c.args.from (map g.P.PairOf.pair_of c.args.pairs.now) c.pairs_in.result (map g.P.PairOf.pair_of c.pairs_in.new.pairs)) c.if-wide.true c.pairs_in.ensures.listed
 
 pub returns-else-wide-clause-stores : goal.returns-else-wide-clause-stores
 returns-else-wide-clause-stores g c =
     let k : NumberKey _ = record { eq = g.K.PartialEq.eq; spec = g.K.HasSpec.spec; encoding = g.K.Scalar.encoding; call = g.K.ScalarKey.call } in
-    at_flag (λ f. StoresNumberTexts k f c.args.archive.now c.args.from (map g.P.PairOf.pair_of c.args.pairs.now) c.pairs_in-else-wide.result (map g.P.PairOf.pair_of c.pairs_in-else-wide.new.pairs)) c.if-wide.false c.pairs_in-else-wide.ensures.stores
+    at_flag (λ f. StoresNumberTexts (number_keys_at k f c.args.archive.now) c.args.from (map g.P.PairOf.pair_of c.args.pairs.now) c.pairs_in-else-wide.result (map g.P.PairOf.pair_of c.pairs_in-else-wide.new.pairs)) c.if-wide.false c.pairs_in-else-wide.ensures.stores
 
 pub returns-else-wide-clause-listed : goal.returns-else-wide-clause-listed
 returns-else-wide-clause-listed g c =
     let k : NumberKey _ = record { eq = g.K.PartialEq.eq; spec = g.K.HasSpec.spec; encoding = g.K.Scalar.encoding; call = g.K.ScalarKey.call } in
-    at_flag (λ f. StoresListedNumberTexts k f c.args.archive.now c.args.from (map g.P.PairOf.pair_of c.args.pairs.now) c.pairs_in-else-wide.result (map g.P.PairOf.pair_of c.pairs_in-else-wide.new.pairs)) c.if-wide.false c.pairs_in-else-wide.ensures.listed
+    at_flag (λ f. StoresListedNumberTexts (number_keys_at k f c.args.archive.now) c.args.from (map g.P.PairOf.pair_of c.args.pairs.now) c.pairs_in-else-wide.result (map g.P.PairOf.pair_of c.pairs_in-else-wide.new.pairs)) c.if-wide.false c.pairs_in-else-wide.ensures.listed

@@ -1,4 +1,4 @@
-use Rattle.ffi_calls.specs.{IsHeaderOf, IsNumberArchive, NumberKey, ReturnsFirstNumber, ReturnsNumber, numbers_in}
+use Rattle.ffi_calls.specs.{IsHeaderOf, IsNumberArchive, NumberKey, ReturnsFirstNumber, ReturnsNumber, numbers_at, numbers_in}
 use Rattle.ffi_calls.proofs.Forms.{at_form, of_form}
 use Rattle.ffi_calls.proofs.numbers.get_number.Goals as goal
 
@@ -45,39 +45,39 @@ typed_header-requires-in-false-false-clause-header g c =
 pub returns-in-true-true-clause-outcome : goal.returns-in-true-true-clause-outcome
 returns-in-true-true-clause-outcome g c =
     let k : NumberKey _ = record { eq = g.K.PartialEq.eq; spec = g.K.HasSpec.spec; encoding = g.K.Scalar.encoding; call = g.K.ScalarKey.call } in
-    at_form (λ f. ReturnsNumber k f c.args.archive.now c.args.key c.args.value.now c.get_in.result c.get_in.new.value) c.args.form c.in-true-true.is-0 c.in-true-true.is-1 c.get_in.ensures.outcome
+    at_form (λ f. ReturnsNumber (numbers_at k f c.args.archive.now) c.args.key c.args.value.now c.get_in.result c.get_in.new.value) c.args.form c.in-true-true.is-0 c.in-true-true.is-1 c.get_in.ensures.outcome
 
 pub returns-in-true-false-clause-outcome : goal.returns-in-true-false-clause-outcome
 returns-in-true-false-clause-outcome g c =
     let k : NumberKey _ = record { eq = g.K.PartialEq.eq; spec = g.K.HasSpec.spec; encoding = g.K.Scalar.encoding; call = g.K.ScalarKey.call } in
-    at_form (λ f. ReturnsNumber k f c.args.archive.now c.args.key c.args.value.now c.get_in-in-true-false.result c.get_in-in-true-false.new.value) c.args.form c.in-true-false.is-0 c.in-true-false.is-1 c.get_in-in-true-false.ensures.outcome
+    at_form (λ f. ReturnsNumber (numbers_at k f c.args.archive.now) c.args.key c.args.value.now c.get_in-in-true-false.result c.get_in-in-true-false.new.value) c.args.form c.in-true-false.is-0 c.in-true-false.is-1 c.get_in-in-true-false.ensures.outcome
 
 pub returns-in-false-true-clause-outcome : goal.returns-in-false-true-clause-outcome
 returns-in-false-true-clause-outcome g c =
     let k : NumberKey _ = record { eq = g.K.PartialEq.eq; spec = g.K.HasSpec.spec; encoding = g.K.Scalar.encoding; call = g.K.ScalarKey.call } in
-    at_form (λ f. ReturnsNumber k f c.args.archive.now c.args.key c.args.value.now c.get_in-in-false-true.result c.get_in-in-false-true.new.value) c.args.form c.in-false-true.is-0 c.in-false-true.is-1 c.get_in-in-false-true.ensures.outcome
+    at_form (λ f. ReturnsNumber (numbers_at k f c.args.archive.now) c.args.key c.args.value.now c.get_in-in-false-true.result c.get_in-in-false-true.new.value) c.args.form c.in-false-true.is-0 c.in-false-true.is-1 c.get_in-in-false-true.ensures.outcome
 
 pub returns-in-false-false-clause-outcome : goal.returns-in-false-false-clause-outcome
 returns-in-false-false-clause-outcome g c =
     let k : NumberKey _ = record { eq = g.K.PartialEq.eq; spec = g.K.HasSpec.spec; encoding = g.K.Scalar.encoding; call = g.K.ScalarKey.call } in
-    at_form (λ f. ReturnsNumber k f c.args.archive.now c.args.key c.args.value.now c.get_in-in-false-false.result c.get_in-in-false-false.new.value) c.args.form c.in-false-false.is-0 c.in-false-false.is-1 c.get_in-in-false-false.ensures.outcome
+    at_form (λ f. ReturnsNumber (numbers_at k f c.args.archive.now) c.args.key c.args.value.now c.get_in-in-false-false.result c.get_in-in-false-false.new.value) c.args.form c.in-false-false.is-0 c.in-false-false.is-1 c.get_in-in-false-false.ensures.outcome
 
 pub returns-in-true-true-clause-listed : goal.returns-in-true-true-clause-listed
 returns-in-true-true-clause-listed g c =
     let k : NumberKey _ = record { eq = g.K.PartialEq.eq; spec = g.K.HasSpec.spec; encoding = g.K.Scalar.encoding; call = g.K.ScalarKey.call } in
-    at_form (λ f. ReturnsFirstNumber k f c.args.archive.now c.args.key c.args.value.now c.get_in.result c.get_in.new.value) c.args.form c.in-true-true.is-0 c.in-true-true.is-1 c.get_in.ensures.listed
+    at_form (λ f. ReturnsFirstNumber (numbers_at k f c.args.archive.now) c.args.key c.args.value.now c.get_in.result c.get_in.new.value) c.args.form c.in-true-true.is-0 c.in-true-true.is-1 c.get_in.ensures.listed
 
 pub returns-in-true-false-clause-listed : goal.returns-in-true-false-clause-listed
 returns-in-true-false-clause-listed g c =
     let k : NumberKey _ = record { eq = g.K.PartialEq.eq; spec = g.K.HasSpec.spec; encoding = g.K.Scalar.encoding; call = g.K.ScalarKey.call } in
-    at_form (λ f. ReturnsFirstNumber k f c.args.archive.now c.args.key c.args.value.now c.get_in-in-true-false.result c.get_in-in-true-false.new.value) c.args.form c.in-true-false.is-0 c.in-true-false.is-1 c.get_in-in-true-false.ensures.listed
+    at_form (λ f. ReturnsFirstNumber (numbers_at k f c.args.archive.now) c.args.key c.args.value.now c.get_in-in-true-false.result c.get_in-in-true-false.new.value) c.args.form c.in-true-false.is-0 c.in-true-false.is-1 c.get_in-in-true-false.ensures.listed
 
 pub returns-in-false-true-clause-listed : goal.returns-in-false-true-clause-listed
 returns-in-false-true-clause-listed g c =
     let k : NumberKey _ = record { eq = g.K.PartialEq.eq; spec = g.K.HasSpec.spec; encoding = g.K.Scalar.encoding; call = g.K.ScalarKey.call } in
-    at_form (λ f. ReturnsFirstNumber k f c.args.archive.now c.args.key c.args.value.now c.get_in-in-false-true.result c.get_in-in-false-true.new.value) c.args.form c.in-false-true.is-0 c.in-false-true.is-1 c.get_in-in-false-true.ensures.listed
+    at_form (λ f. ReturnsFirstNumber (numbers_at k f c.args.archive.now) c.args.key c.args.value.now c.get_in-in-false-true.result c.get_in-in-false-true.new.value) c.args.form c.in-false-true.is-0 c.in-false-true.is-1 c.get_in-in-false-true.ensures.listed
 
 pub returns-in-false-false-clause-listed : goal.returns-in-false-false-clause-listed
 returns-in-false-false-clause-listed g c =
     let k : NumberKey _ = record { eq = g.K.PartialEq.eq; spec = g.K.HasSpec.spec; encoding = g.K.Scalar.encoding; call = g.K.ScalarKey.call } in
-    at_form (λ f. ReturnsFirstNumber k f c.args.archive.now c.args.key c.args.value.now c.get_in-in-false-false.result c.get_in-in-false-false.new.value) c.args.form c.in-false-false.is-0 c.in-false-false.is-1 c.get_in-in-false-false.ensures.listed
+    at_form (λ f. ReturnsFirstNumber (numbers_at k f c.args.archive.now) c.args.key c.args.value.now c.get_in-in-false-false.result c.get_in-in-false-false.new.value) c.args.form c.in-false-false.is-0 c.in-false-false.is-1 c.get_in-in-false-false.ensures.listed

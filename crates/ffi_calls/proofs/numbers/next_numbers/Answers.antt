@@ -1,5 +1,5 @@
 use Rattle.std.specs.Prelude.{map}
-use Rattle.ffi_calls.specs.{IsHeaderOf, IsNumberArchive, NumberKey, StoresNextNumbers, numbers_in}
+use Rattle.ffi_calls.specs.{IsHeaderOf, IsNumberArchive, NumberKey, StoresNextNumbers, numbers_at, numbers_in}
 use Rattle.ffi_calls.proofs.Forms.{at_form, of_form}
 use Rattle.ffi_calls.proofs.numbers.next_numbers.Goals as goal
 
@@ -46,19 +46,19 @@ typed_header-requires-in-false-false-clause-header g c =
 pub returns-in-true-true : goal.returns-in-true-true
 returns-in-true-true g c =
     let k : NumberKey _ = record { eq = g.K.PartialEq.eq; spec = g.K.HasSpec.spec; encoding = g.K.Scalar.encoding; call = g.K.ScalarKey.call } in
-    at_form (λ f. StoresNextNumbers k f c.args.archive.now c.args.from (map g.S.StepOf.step_of c.args.pairs.now) c.next_pairs_in.result (map g.S.StepOf.step_of c.next_pairs_in.new.pairs)) c.args.form c.in-true-true.is-0 c.in-true-true.is-1 c.next_pairs_in.ensures
+    at_form (λ f. StoresNextNumbers (numbers_at k f c.args.archive.now) c.args.from (map g.S.StepOf.step_of c.args.pairs.now) c.next_pairs_in.result (map g.S.StepOf.step_of c.next_pairs_in.new.pairs)) c.args.form c.in-true-true.is-0 c.in-true-true.is-1 c.next_pairs_in.ensures
 
 pub returns-in-true-false : goal.returns-in-true-false
 returns-in-true-false g c =
     let k : NumberKey _ = record { eq = g.K.PartialEq.eq; spec = g.K.HasSpec.spec; encoding = g.K.Scalar.encoding; call = g.K.ScalarKey.call } in
-    at_form (λ f. StoresNextNumbers k f c.args.archive.now c.args.from (map g.S.StepOf.step_of c.args.pairs.now) c.next_pairs_in-in-true-false.result (map g.S.StepOf.step_of c.next_pairs_in-in-true-false.new.pairs)) c.args.form c.in-true-false.is-0 c.in-true-false.is-1 c.next_pairs_in-in-true-false.ensures
+    at_form (λ f. StoresNextNumbers (numbers_at k f c.args.archive.now) c.args.from (map g.S.StepOf.step_of c.args.pairs.now) c.next_pairs_in-in-true-false.result (map g.S.StepOf.step_of c.next_pairs_in-in-true-false.new.pairs)) c.args.form c.in-true-false.is-0 c.in-true-false.is-1 c.next_pairs_in-in-true-false.ensures
 
 pub returns-in-false-true : goal.returns-in-false-true
 returns-in-false-true g c =
     let k : NumberKey _ = record { eq = g.K.PartialEq.eq; spec = g.K.HasSpec.spec; encoding = g.K.Scalar.encoding; call = g.K.ScalarKey.call } in
-    at_form (λ f. StoresNextNumbers k f c.args.archive.now c.args.from (map g.S.StepOf.step_of c.args.pairs.now) c.next_pairs_in-in-false-true.result (map g.S.StepOf.step_of c.next_pairs_in-in-false-true.new.pairs)) c.args.form c.in-false-true.is-0 c.in-false-true.is-1 c.next_pairs_in-in-false-true.ensures
+    at_form (λ f. StoresNextNumbers (numbers_at k f c.args.archive.now) c.args.from (map g.S.StepOf.step_of c.args.pairs.now) c.next_pairs_in-in-false-true.result (map g.S.StepOf.step_of c.next_pairs_in-in-false-true.new.pairs)) c.args.form c.in-false-true.is-0 c.in-false-true.is-1 c.next_pairs_in-in-false-true.ensures
 
 pub returns-in-false-false : goal.returns-in-false-false
 returns-in-false-false g c =
     let k : NumberKey _ = record { eq = g.K.PartialEq.eq; spec = g.K.HasSpec.spec; encoding = g.K.Scalar.encoding; call = g.K.ScalarKey.call } in
-    at_form (λ f. StoresNextNumbers k f c.args.archive.now c.args.from (map g.S.StepOf.step_of c.args.pairs.now) c.next_pairs_in-in-false-false.result (map g.S.StepOf.step_of c.next_pairs_in-in-false-false.new.pairs)) c.args.form c.in-false-false.is-0 c.in-false-false.is-1 c.next_pairs_in-in-false-false.ensures
+    at_form (λ f. StoresNextNumbers (numbers_at k f c.args.archive.now) c.args.from (map g.S.StepOf.step_of c.args.pairs.now) c.next_pairs_in-in-false-false.result (map g.S.StepOf.step_of c.next_pairs_in-in-false-false.new.pairs)) c.args.form c.in-false-false.is-0 c.in-false-false.is-1 c.next_pairs_in-in-false-false.ensures

@@ -1,4 +1,4 @@
-use Rattle.ffi_calls.specs.{IsNumberArchive, KeepsHeader, NumberKey, SetsFirstNumber, SetsNumber, numbers_in}
+use Rattle.ffi_calls.specs.{IsNumberArchive, KeepsHeader, NumberKey, SetsFirstNumber, SetsNumber, numbers_at, numbers_in}
 use Rattle.ffi_calls.proofs.Forms.{at_form, of_form}
 use Rattle.ffi_calls.proofs.numbers.set_number.Goals as goal
 
@@ -10,7 +10,7 @@ returns-in-true-true-clause-kept g c =
 pub returns-in-true-true-clause-sets : goal.returns-in-true-true-clause-sets
 returns-in-true-true-clause-sets g c =
     let k : NumberKey _ = record { eq = g.K.PartialEq.eq; spec = g.K.HasSpec.spec; encoding = g.K.Scalar.encoding; call = g.K.ScalarKey.call } in
-    at_form (λ f. SetsNumber k f c.args.archive.now c.args.key c.args.value c.set_in.result c.set_in.new.archive) c.args.form c.in-true-true.is-0 c.in-true-true.is-1 c.set_in.ensures.sets
+    at_form (λ f. SetsNumber (numbers_at k f c.args.archive.now) c.args.key c.args.value c.set_in.result c.set_in.new.archive) c.args.form c.in-true-true.is-0 c.in-true-true.is-1 c.set_in.ensures.sets
 
 pub set_in-requires-clause-archive : goal.set_in-requires-clause-archive
 set_in-requires-clause-archive g c =
@@ -25,7 +25,7 @@ returns-in-true-false-clause-kept g c =
 pub returns-in-true-false-clause-sets : goal.returns-in-true-false-clause-sets
 returns-in-true-false-clause-sets g c =
     let k : NumberKey _ = record { eq = g.K.PartialEq.eq; spec = g.K.HasSpec.spec; encoding = g.K.Scalar.encoding; call = g.K.ScalarKey.call } in
-    at_form (λ f. SetsNumber k f c.args.archive.now c.args.key c.args.value c.set_in-in-true-false.result c.set_in-in-true-false.new.archive) c.args.form c.in-true-false.is-0 c.in-true-false.is-1 c.set_in-in-true-false.ensures.sets
+    at_form (λ f. SetsNumber (numbers_at k f c.args.archive.now) c.args.key c.args.value c.set_in-in-true-false.result c.set_in-in-true-false.new.archive) c.args.form c.in-true-false.is-0 c.in-true-false.is-1 c.set_in-in-true-false.ensures.sets
 
 pub set_in-requires-in-true-false-clause-archive : goal.set_in-requires-in-true-false-clause-archive
 set_in-requires-in-true-false-clause-archive g c =
@@ -40,7 +40,7 @@ returns-in-false-true-clause-kept g c =
 pub returns-in-false-true-clause-sets : goal.returns-in-false-true-clause-sets
 returns-in-false-true-clause-sets g c =
     let k : NumberKey _ = record { eq = g.K.PartialEq.eq; spec = g.K.HasSpec.spec; encoding = g.K.Scalar.encoding; call = g.K.ScalarKey.call } in
-    at_form (λ f. SetsNumber k f c.args.archive.now c.args.key c.args.value c.set_in-in-false-true.result c.set_in-in-false-true.new.archive) c.args.form c.in-false-true.is-0 c.in-false-true.is-1 c.set_in-in-false-true.ensures.sets
+    at_form (λ f. SetsNumber (numbers_at k f c.args.archive.now) c.args.key c.args.value c.set_in-in-false-true.result c.set_in-in-false-true.new.archive) c.args.form c.in-false-true.is-0 c.in-false-true.is-1 c.set_in-in-false-true.ensures.sets
 
 pub set_in-requires-in-false-true-clause-archive : goal.set_in-requires-in-false-true-clause-archive
 set_in-requires-in-false-true-clause-archive g c =
@@ -55,7 +55,7 @@ returns-in-false-false-clause-kept g c =
 pub returns-in-false-false-clause-sets : goal.returns-in-false-false-clause-sets
 returns-in-false-false-clause-sets g c =
     let k : NumberKey _ = record { eq = g.K.PartialEq.eq; spec = g.K.HasSpec.spec; encoding = g.K.Scalar.encoding; call = g.K.ScalarKey.call } in
-    at_form (λ f. SetsNumber k f c.args.archive.now c.args.key c.args.value c.set_in-in-false-false.result c.set_in-in-false-false.new.archive) c.args.form c.in-false-false.is-0 c.in-false-false.is-1 c.set_in-in-false-false.ensures.sets
+    at_form (λ f. SetsNumber (numbers_at k f c.args.archive.now) c.args.key c.args.value c.set_in-in-false-false.result c.set_in-in-false-false.new.archive) c.args.form c.in-false-false.is-0 c.in-false-false.is-1 c.set_in-in-false-false.ensures.sets
 
 pub set_in-requires-in-false-false-clause-archive : goal.set_in-requires-in-false-false-clause-archive
 set_in-requires-in-false-false-clause-archive g c =
@@ -65,22 +65,22 @@ set_in-requires-in-false-false-clause-archive g c =
 pub returns-in-true-true-clause-listed : goal.returns-in-true-true-clause-listed
 returns-in-true-true-clause-listed g c =
     let k : NumberKey _ = record { eq = g.K.PartialEq.eq; spec = g.K.HasSpec.spec; encoding = g.K.Scalar.encoding; call = g.K.ScalarKey.call } in
-    at_form (λ f. SetsFirstNumber k f c.args.archive.now c.args.key c.args.value c.set_in.result c.set_in.new.archive) c.args.form c.in-true-true.is-0 c.in-true-true.is-1 c.set_in.ensures.listed
+    at_form (λ f. SetsFirstNumber (numbers_at k f c.args.archive.now) c.args.key c.args.value c.set_in.result c.set_in.new.archive) c.args.form c.in-true-true.is-0 c.in-true-true.is-1 c.set_in.ensures.listed
 
 pub returns-in-true-false-clause-listed : goal.returns-in-true-false-clause-listed
 returns-in-true-false-clause-listed g c =
     let k : NumberKey _ = record { eq = g.K.PartialEq.eq; spec = g.K.HasSpec.spec; encoding = g.K.Scalar.encoding; call = g.K.ScalarKey.call } in
-    at_form (λ f. SetsFirstNumber k f c.args.archive.now c.args.key c.args.value c.set_in-in-true-false.result c.set_in-in-true-false.new.archive) c.args.form c.in-true-false.is-0 c.in-true-false.is-1 c.set_in-in-true-false.ensures.listed
+    at_form (λ f. SetsFirstNumber (numbers_at k f c.args.archive.now) c.args.key c.args.value c.set_in-in-true-false.result c.set_in-in-true-false.new.archive) c.args.form c.in-true-false.is-0 c.in-true-false.is-1 c.set_in-in-true-false.ensures.listed
 
 pub returns-in-false-true-clause-listed : goal.returns-in-false-true-clause-listed
 returns-in-false-true-clause-listed g c =
     let k : NumberKey _ = record { eq = g.K.PartialEq.eq; spec = g.K.HasSpec.spec; encoding = g.K.Scalar.encoding; call = g.K.ScalarKey.call } in
-    at_form (λ f. SetsFirstNumber k f c.args.archive.now c.args.key c.args.value c.set_in-in-false-true.result c.set_in-in-false-true.new.archive) c.args.form c.in-false-true.is-0 c.in-false-true.is-1 c.set_in-in-false-true.ensures.listed
+    at_form (λ f. SetsFirstNumber (numbers_at k f c.args.archive.now) c.args.key c.args.value c.set_in-in-false-true.result c.set_in-in-false-true.new.archive) c.args.form c.in-false-true.is-0 c.in-false-true.is-1 c.set_in-in-false-true.ensures.listed
 
 pub returns-in-false-false-clause-listed : goal.returns-in-false-false-clause-listed
 returns-in-false-false-clause-listed g c =
     let k : NumberKey _ = record { eq = g.K.PartialEq.eq; spec = g.K.HasSpec.spec; encoding = g.K.Scalar.encoding; call = g.K.ScalarKey.call } in
-    at_form (λ f. SetsFirstNumber k f c.args.archive.now c.args.key c.args.value c.set_in-in-false-false.result c.set_in-in-false-false.new.archive) c.args.form c.in-false-false.is-0 c.in-false-false.is-1 c.set_in-in-false-false.ensures.listed
+    at_form (λ f. SetsFirstNumber (numbers_at k f c.args.archive.now) c.args.key c.args.value c.set_in-in-false-false.result c.set_in-in-false-false.new.archive) c.args.form c.in-false-false.is-0 c.in-false-false.is-1 c.set_in-in-false-false.ensures.listed
 
 pub returns-in-true-true-clause-header : goal.returns-in-true-true-clause-header
 returns-in-true-true-clause-header g c =

@@ -1,4 +1,4 @@
-use Rattle.ffi_calls.specs.{IsHeaderOf, IsNumberTextArchive, NumberKey, ReturnsFirstTextOfNumber, ReturnsTextOfNumber, number_texts_in}
+use Rattle.ffi_calls.specs.{IsHeaderOf, IsNumberTextArchive, NumberKey, ReturnsFirstTextOfNumber, ReturnsTextOfNumber, number_keys_at, number_texts_in}
 use Rattle.ffi_calls.proofs.Forms.{at_flag, of_flag}
 use Rattle.ffi_calls.proofs.numbers_to_texts.get_text_of_number.Goals as goal
 
@@ -25,19 +25,19 @@ typed_header-requires-else-wide-clause-header g c =
 pub returns-then-wide-clause-outcome : goal.returns-then-wide-clause-outcome
 returns-then-wide-clause-outcome g c =
     let k : NumberKey _ = record { eq = g.K.PartialEq.eq; spec = g.K.HasSpec.spec; encoding = g.K.Scalar.encoding; call = g.K.ScalarKey.call } in
-    at_flag (λ f. ReturnsTextOfNumber k f c.args.archive.now c.args.key c.args.value.now c.get_in.result c.get_in.new.value) c.if-wide.true c.get_in.ensures.outcome
+    at_flag (λ f. ReturnsTextOfNumber (number_keys_at k f c.args.archive.now) c.args.key c.args.value.now c.get_in.result c.get_in.new.value) c.if-wide.true c.get_in.ensures.outcome
 
 pub returns-then-wide-clause-listed : goal.returns-then-wide-clause-listed
 returns-then-wide-clause-listed g c =
     let k : NumberKey _ = record { eq = g.K.PartialEq.eq; spec = g.K.HasSpec.spec; encoding = g.K.Scalar.encoding; call = g.K.ScalarKey.call } in
-    at_flag (λ f. ReturnsFirstTextOfNumber k f c.args.archive.now c.args.key c.args.value.now c.get_in.result c.get_in.new.value) c.if-wide.true c.get_in.ensures.listed
+    at_flag (λ f. ReturnsFirstTextOfNumber (number_keys_at k f c.args.archive.now) c.args.key c.args.value.now c.get_in.result c.get_in.new.value) c.if-wide.true c.get_in.ensures.listed
 
 pub returns-else-wide-clause-outcome : goal.returns-else-wide-clause-outcome
 returns-else-wide-clause-outcome g c =
     let k : NumberKey _ = record { eq = g.K.PartialEq.eq; spec = g.K.HasSpec.spec; encoding = g.K.Scalar.encoding; call = g.K.ScalarKey.call } in
-    at_flag (λ f. ReturnsTextOfNumber k f c.args.archive.now c.args.key c.args.value.now c.get_in-else-wide.result c.get_in-else-wide.new.value) c.if-wide.false c.get_in-else-wide.ensures.outcome
+    at_flag (λ f. ReturnsTextOfNumber (number_keys_at k f c.args.archive.now) c.args.key c.args.value.now c.get_in-else-wide.result c.get_in-else-wide.new.value) c.if-wide.false c.get_in-else-wide.ensures.outcome
 
 pub returns-else-wide-clause-listed : goal.returns-else-wide-clause-listed
 returns-else-wide-clause-listed g c =
     let k : NumberKey _ = record { eq = g.K.PartialEq.eq; spec = g.K.HasSpec.spec; encoding = g.K.Scalar.encoding; call = g.K.ScalarKey.call } in
-    at_flag (λ f. ReturnsFirstTextOfNumber k f c.args.archive.now c.args.key c.args.value.now c.get_in-else-wide.result c.get_in-else-wide.new.value) c.if-wide.false c.get_in-else-wide.ensures.listed
+    at_flag (λ f. ReturnsFirstTextOfNumber (number_keys_at k f c.args.archive.now) c.args.key c.args.value.now c.get_in-else-wide.result c.get_in-else-wide.new.value) c.if-wide.false c.get_in-else-wide.ensures.listed

@@ -1,5 +1,5 @@
 use Rattle.std.specs.Prelude.{map}
-use Rattle.ffi_calls.specs.{IsHeaderOf, IsNumberTextArchive, NumberKey, StoresNextNumberTexts, number_texts_in}
+use Rattle.ffi_calls.specs.{IsHeaderOf, IsNumberTextArchive, NumberKey, StoresNextNumberTexts, number_keys_at, number_texts_in}
 use Rattle.ffi_calls.proofs.Forms.{at_flag, of_flag}
 use Rattle.ffi_calls.proofs.numbers_to_texts.next_number_texts.Goals as goal
 
@@ -26,9 +26,9 @@ typed_header-requires-else-wide-clause-header g c =
 pub returns-then-wide : goal.returns-then-wide
 returns-then-wide g c =
     let k : NumberKey _ = record { eq = g.K.PartialEq.eq; spec = g.K.HasSpec.spec; encoding = g.K.Scalar.encoding; call = g.K.ScalarKey.call } in
-    at_flag (λ f. StoresNextNumberTexts k f c.args.archive.now c.args.from (map g.S.StepOf.step_of c.args.pairs.now) c.next_pairs_in.result (map g.S.StepOf.step_of c.next_pairs_in.new.pairs)) c.if-wide.true c.next_pairs_in.ensures
+    at_flag (λ f. StoresNextNumberTexts (number_keys_at k f c.args.archive.now) c.args.from (map g.S.StepOf.step_of c.args.pairs.now) c.next_pairs_in.result (map g.S.StepOf.step_of c.next_pairs_in.new.pairs)) c.if-wide.true c.next_pairs_in.ensures
 
 pub returns-else-wide : goal.returns-else-wide
 returns-else-wide g c =
     let k : NumberKey _ = record { eq = g.K.PartialEq.eq; spec = g.K.HasSpec.spec; encoding = g.K.Scalar.encoding; call = g.K.ScalarKey.call } in
-    at_flag (λ f. StoresNextNumberTexts k f c.args.archive.now c.args.from (map g.S.StepOf.step_of c.args.pairs.now) c.next_pairs_in-else-wide.result (map g.S.StepOf.step_of c.next_pairs_in-else-wide.new.pairs)) c.if-wide.false c.next_pairs_in-else-wide.ensures
+    at_flag (λ f. StoresNextNumberTexts (number_keys_at k f c.args.archive.now) c.args.from (map g.S.StepOf.step_of c.args.pairs.now) c.next_pairs_in-else-wide.result (map g.S.StepOf.step_of c.next_pairs_in-else-wide.new.pairs)) c.if-wide.false c.next_pairs_in-else-wide.ensures
