@@ -334,7 +334,7 @@ impl<K: Key + ?Sized> SetArchive<K> {
     }
 
     /// Writes the container of the archive, as [`to_container`](SetArchive::to_container) returns
-    /// it.
+    /// it, and flushes the writer.
     ///
     /// # Errors
     /// Those of the writer. It may then have taken a part of the container.

@@ -3,6 +3,7 @@
 use rkyv_maps::{
     update_container, Archive, Builder, Checksum, Error, ErrorKind, Key, Map, MapMut, Number, Width,
 };
+use std::io::{self, Write};
 
 const WIDTHS: [Width; 2] = [Width::Narrow, Width::Wide];
 const CHECKSUMS: [Checksum; 2] = [Checksum::None, Checksum::Adler32];
@@ -151,6 +152,26 @@ fn containers_have_the_pairs_of_their_archives() {
             assert_eq!(map.at("17"), u64::MAX);
         }
     }
+}
+
+/// A writer that takes all bytes and fails to flush them.
+struct Unflushed;
+
+impl Write for Unflushed {
+    fn write(&mut self, bytes: &[u8]) -> io::Result<usize> {
+        Ok(bytes.len())
+    }
+
+    fn flush(&mut self) -> io::Result<()> {
+        Err(io::ErrorKind::StorageFull.into())
+    }
+}
+
+#[test]
+fn writing_a_container_fails_if_the_writer_cannot_flush() {
+    let archive = u32::sample::<u32>(3, Width::Narrow);
+    let written = archive.write_container(Checksum::None, Unflushed);
+    assert_eq!(written.unwrap_err().kind(), io::ErrorKind::StorageFull);
 }
 
 /// The container of the map of 1 to 2, whose bytes are those of the example in the format.
