@@ -4,10 +4,11 @@ ghost use Rattle.std.specs.Iterator.{YieldsFirstBy, at_most};
 ghost use Rattle.std.specs.List.{zip};
 ghost use Rattle.std.specs.Prelude.{length, ◌≡◌};
 ghost use Rattle.std.specs.Slice.Iter.{iter_rest};
-ghost use Rattle.rkyv_base.specs.{ArchiveOf, written_as};
+ghost use Rattle.rkyv_base.specs.{ArchiveOf, RepresentsAs, written_as};
 ghost use Rattle.rkyv_base.specs.Lemmas.Pairs.{written_as-format};
 ghost use Rattle.rkyv_keys.specs.{hash_at, hash_of};
-ghost use Rattle.rkyv_table.specs.{listed, listed_format};
+ghost use Rattle.rkyv_table.specs.{listed};
+ghost use Rattle.rkyv_table.specs.Lemmas.Listed.{listed-format};
 ghost use Rattle.rkyv_collections.specs.{MapRepresents, map_format, map_spec};
 ghost use Rattle.rkyv_collections.specs.Lemmas.MapSound.{map_local, map_sound};
 ghost use Rattle.bench_calls.specs.{IsBuilt, IsPut};
@@ -92,8 +93,9 @@ impl<'a, A: Copy, B: Copy> Iterator for Both<'a, A, B> {
 impl<'a, W: Width, H: KeyHasher, A, B, K: KeyElement + Represents<A>, V: Represents<B>> Represents<
     Pairs<'a, A, B, H>,
 > for HashMapOf<K, V, H, W> {
-    ghost represents = { λ b p x. MapRepresents W.word K.spec V.spec K.represents V.represents
-        (hash_at H.hasher K.key_calls) (7, 8) b p (zip x.keys.now x.values.now) };
+    ghost represents = { RepresentsAs (λ x. zip x.keys.now x.values.now)
+        (MapRepresents W.word K.spec V.spec K.represents V.represents
+        (hash_at H.hasher K.key_calls) (7, 8)) };
 
     ghost local = { λ x. map_local H.hasher W.word K.laws V.laws (7, 8) K.key K.local V.local
         (zip x.keys.now x.values.now) };
@@ -124,7 +126,7 @@ where
         let spec = map_spec W.word A.Archived.spec B.Archived.spec in
         written_as-format (λ x. zip x.keys.now x.values.now) spec represents
         (listed W.MAX_CAPACITY (7, 8) format)
-        (listed_format W.MAX_CAPACITY (7, 8) spec represents format
+        (listed-format W.MAX_CAPACITY (7, 8) spec represents format
         (map_sound H.hasher W.word A.Archived.laws B.Archived.laws (7, 8) W.layout.kind A.query
         A.native A.Eq.laws.refl A.reads A.Archive.laws B.laws)) };
 }

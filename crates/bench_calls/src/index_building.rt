@@ -1,10 +1,11 @@
 //! Pairs that are archived as an index map.
 
 ghost use Rattle.std.specs.List.{zip};
-ghost use Rattle.rkyv_base.specs.{entry_spec, written_as};
+ghost use Rattle.rkyv_base.specs.{RepresentsAs, entry_spec, written_as};
 ghost use Rattle.rkyv_base.specs.Lemmas.Pairs.{written_as-format};
 ghost use Rattle.rkyv_keys.specs.{hash_at, hash_of};
-ghost use Rattle.rkyv_table.specs.{listed, listed_format};
+ghost use Rattle.rkyv_table.specs.{listed};
+ghost use Rattle.rkyv_table.specs.Lemmas.Listed.{listed-format};
 ghost use Rattle.rkyv_index.specs.{IndexRepresents, index_format, index_spec};
 ghost use Rattle.rkyv_index.specs.Lemmas.IndexLocal.{index_represents_local};
 ghost use Rattle.rkyv_index.specs.Lemmas.IndexSound.{index_sound};
@@ -27,8 +28,9 @@ pub(crate) struct IndexPairs<'a, A, B, H>(pub(crate) Pairs<'a, A, B, H>);
 impl<'a, W: Width, H: KeyHasher, A, B, K: KeyElement + Represents<A>, V: Represents<B>> Represents<
     IndexPairs<'a, A, B, H>,
 > for IndexMapOf<K, V, H, W> {
-    ghost represents = { λ b p x. IndexRepresents W.word K.spec V.spec K.represents V.represents
-        (hash_at H.hasher K.key_calls) (7, 8) b p (zip x.0.keys.now x.0.values.now) };
+    ghost represents = { RepresentsAs (λ x. zip x.0.keys.now x.0.values.now)
+        (IndexRepresents W.word K.spec V.spec K.represents V.represents
+        (hash_at H.hasher K.key_calls) (7, 8)) };
 
     ghost local = { λ x. index_represents_local H.hasher W.word W.layout.kind K.laws V.laws (7, 8)
         K.key K.local V.local (zip x.0.keys.now x.0.values.now) };
@@ -60,7 +62,7 @@ where
         let spec = index_spec W.word (entry_spec A.Archived.spec B.Archived.spec) in
         written_as-format (λ x. zip x.0.keys.now x.0.values.now) spec represents
         (listed W.MAX_CAPACITY (7, 8) format)
-        (listed_format W.MAX_CAPACITY (7, 8) spec represents format
+        (listed-format W.MAX_CAPACITY (7, 8) spec represents format
         (index_sound H.hasher W.word W.layout.kind W.Place.spec W.Place.encoding
         W.Place.HasSpec.laws W.Place.Scalar.laws W.index W.reads_back A.Archived.laws
         B.Archived.laws (7, 8) A.query A.native A.Eq.laws.refl A.reads A.Archive.laws B.laws)) };

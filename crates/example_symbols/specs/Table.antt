@@ -4,14 +4,13 @@ use Rattle.std.specs.Borrow.{Bor}
 use Rattle.std.specs.Int.{w32, w64}
 use Rattle.std.specs.Option.{option_map}
 use Rattle.rkyv_scan.specs.{fx_hasher, generic_kind, low_halves}
-use Rattle.rkyv_base.specs.{AccessFails, ArchiveOf, ElementSpec, Format, IsValidArchive}
+use Rattle.rkyv_base.specs.{AccessFails, ArchiveOf, ElementSpec, Format, IsTextOf, IsValidArchive}
 use Rattle.rkyv_base.specs.{ScalarRepresents, ToBytesFails, entry_spec, number_at, scalar_format}
 use Rattle.rkyv_base.specs.{scalar_spec, text_at, text_format, text_spec, unsigned, value_offset}
 use Rattle.rkyv_base.specs.{written_as}
 use Rattle.rkyv_base.specs.declared.errors.VerifyError.{VerifyError}
 use Rattle.rkyv_base.specs.declared.errors.WriteError.{WriteError}
-use Rattle.rkyv_keys.specs.{first_value, hash_at, hash_of, same_bytes, text_calls}
-use Rattle.rkyv_keys.specs.Lemmas.OfTexts.{IsTextOf, text_key_calls}
+use Rattle.rkyv_keys.specs.{first_value, hash_at, hash_of, same_bytes, text_calls, text_key_calls}
 use Rattle.rkyv_table.specs.{TableResolver, listed, pos_found}
 use Rattle.rkyv_collections.specs.{MapRepresents, map_format, map_spec}
 

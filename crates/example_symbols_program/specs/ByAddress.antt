@@ -8,7 +8,7 @@ use Rattle.std.specs.declared.vec.Vec.{Vec}
 use Rattle.std.proofs.Common.{nat_cmp}
 use Rattle.std.specs.List.Sorted.{IsNonDecreasingBy, IsPermutation, IsStableByKey}
 use Rattle.rkyv_scan.specs.{U64, fx_hasher, low_halves}
-use Rattle.rkyv_base.specs.{AccessFails, ArchiveOf, AtView, ElementSpec, Format, IsAt}
+use Rattle.rkyv_base.specs.{AccessFails, ArchiveOf, AtView, ElementSpec, Format, IsAt, IsTextOf}
 use Rattle.rkyv_base.specs.{IsValidArchive, ScalarRepresents, ToBytesFails, bytes_of, entry_spec}
 use Rattle.rkyv_base.specs.{pos_of, scalar_format, scalar_spec, text_at, text_format, unsigned}
 use Rattle.rkyv_base.specs.{written_as}
@@ -17,7 +17,6 @@ use Rattle.rkyv_base.specs.declared.errors.WriteError.{WriteError}
 use Rattle.rkyv_base.specs.declared.errors.WriteError.TheVariants.{Memory}
 use Rattle.rkyv_base.specs.declared.view.View.{View}
 use Rattle.rkyv_keys.specs.{hash_at, hash_of, one_call, scalar_calls}
-use Rattle.rkyv_keys.specs.Lemmas.OfTexts.{IsTextOf}
 use Rattle.rkyv_table.specs.{listed}
 use Rattle.rkyv_index.specs.{IndexRepresents, IndexResolver, IsPairOf, index_format, index_spec}
 use Rattle.rkyv_index.specs.declared.lists.OrderedPairs.{OrderedPairs}

@@ -2,9 +2,8 @@
 use Rattle.std.specs.Prelude.{ℕ, List}
 use Rattle.std.specs.Borrow.{Bor}
 use Rattle.std.specs.Int.{Width}
-use Rattle.rkyv_base.specs.{Encoding, ScalarRepresents}
-use Rattle.rkyv_keys.specs.{NativePairs, same_bytes, scalar_calls}
-use Rattle.rkyv_keys.specs.Lemmas.OfTexts.{IsTextOf, text_key_calls}
+use Rattle.rkyv_base.specs.{Encoding, IsTextOf, ScalarRepresents}
+use Rattle.rkyv_keys.specs.{NativePairs, same_bytes, scalar_calls, text_key_calls}
 use Rattle.rkyv_collections.specs.{MapAt, ValueQuery}
 use Rattle.ffi_calls.specs.Archives.{numbers_in, texts_in, value_encoding, word_of}
 use Rattle.ffi_calls.specs.Keys.{NumberKey, NumbersAt}

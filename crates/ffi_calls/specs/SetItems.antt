@@ -8,8 +8,7 @@ use Rattle.rkyv_base.specs.{ToBytesFails, scalar_format, text_spec, unit_spec}
 use Rattle.rkyv_base.specs.declared.errors.WriteError.{WriteError}
 use Rattle.rkyv_base.specs.declared.strings.TextResolver.{TextResolver}
 use Rattle.rkyv_base.specs.declared.writer.NoMemory.{NoMemory}
-use Rattle.rkyv_keys.specs.{one_call, scalar_calls, text_calls}
-use Rattle.rkyv_keys.specs.Lemmas.OfTexts.{text_key_calls}
+use Rattle.rkyv_keys.specs.{one_call, scalar_calls, text_calls, text_key_calls}
 use Rattle.rkyv_table.specs.{TableResolver, listed}
 use Rattle.rkyv_collections.specs.{KeyFormat, SetRepresents, native_key_format, set_format}
 use Rattle.rkyv_collections.specs.{set_spec}

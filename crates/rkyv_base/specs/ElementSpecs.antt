@@ -54,3 +54,12 @@ pub record Viewable (s : ElementSpec) (b : List ℕ) (p : ℕ) : Type 0 where
   pub inside : p + s.size ≤ length b
   pub aligned : p % s.align ≡ 0
   pub valid : ValidAt s b p
+
+-- an element that is valid everywhere, without parts
+abbrev pub any_bytes : ℕ → ℕ → ElementSpec
+any_bytes size align = record {
+  size = size;
+  align = align;
+  is_valid = λ b p lo hi l. l ≡ lo;
+  fails = λ b p lo hi e. ⊥;
+}

@@ -1,7 +1,6 @@
 -- The unit value.
 use Rattle.std.specs.Prelude.{◌≡◌, ℕ, List, []}
-use Rattle.rkyv_base.specs.ElementSpecs.{ElementSpec}
-use Rattle.rkyv_base.specs.Lemmas.AnyBytes.{any_bytes}
+use Rattle.rkyv_base.specs.ElementSpecs.{ElementSpec, any_bytes}
 use Rattle.rkyv_base.specs.Formats.{Format, no_overflow, nothing_next}
 
 -- the unit value as an element: valid at every position, without bytes

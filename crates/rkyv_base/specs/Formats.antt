@@ -57,3 +57,17 @@ nothing_next v p front step = ⊥
 -- no distance overflows
 abbrev pub no_overflow : {V R : Type 0} → V → R → ℕ → Type 0
 no_overflow v r p = ⊥
+
+-- the value `x` is represented as the value `as_value x` of another type
+abbrev pub RepresentsAs : {X V : Type 0} → (X → V) → (List ℕ → ℕ → V → Type 0)
+    → List ℕ → ℕ → X → Type 0
+RepresentsAs as_value represents b p x = represents b p (as_value x)
+
+-- the format `f` for values of another type, which `as_value` maps to the values `V`
+abbrev pub written_as : {X V R : Type 0} → (X → V) → Format V R → Format X R
+written_as as_value f = record {
+  parts = λ x. f.parts (as_value x);
+  next = λ x. f.next (as_value x);
+  image = λ x. f.image (as_value x);
+  overflow = λ x. f.overflow (as_value x);
+}

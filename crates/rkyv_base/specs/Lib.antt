@@ -28,7 +28,7 @@ pub mod Seals
 pub mod SealedText
 unfoldable pub use Bytes.{AgreeOn, number_at, signed_at}
 pub use Bytes.{OccursAt}
-unfoldable pub use ElementSpecs.{IsAlign, ValidAt}
+unfoldable pub use ElementSpecs.{IsAlign, ValidAt, any_bytes}
 pub use ElementSpecs.{ElementSpec, IsElement, Viewable}
 unfoldable pub use Writing.{Aligned, Aligns, AppendFails, Appended, AppendsPiece, CauseApplies}
 unfoldable pub use Writing.{FailedOnce, Only, Reached, Within, end_of, padding, vec_output, zeros}
@@ -36,8 +36,8 @@ pub use Writing.{Appends, Extends, Faults, FaultsDuring, Output, Step, WriteFail
 pub use Writing.{capacity, distance, failure, load_factor, long_text, mismatch, no_memory, piece}
 pub use Writing.{refused}
 unfoldable pub use Checking.{Fails, Passes}
-unfoldable pub use Formats.{RepresentsLocally, SerializeFails, Serialized, Serializes, no_overflow}
-unfoldable pub use Formats.{nothing_next}
+unfoldable pub use Formats.{RepresentsAs, RepresentsLocally, SerializeFails, Serialized, Serializes}
+unfoldable pub use Formats.{no_overflow, nothing_next, written_as}
 pub use Formats.{Format, IsFormat}
 unfoldable pub use Scalar.{AreProps, IsValidScalar, IsWord, ScalarFails, ScalarRepresents}
 unfoldable pub use Scalar.{scalar_format, scalar_spec}
@@ -56,7 +56,7 @@ unfoldable pub use Access.{AccessFails, AccessWrites, IsNarrowArchive, IsWideArc
 unfoldable pub use Access.{OpensNarrow, OpensWide}
 pub use Access.{IsArchive, IsValidArchive}
 unfoldable pub use Pairs.{Padded, PairImage, PairNext, PairOverflows, PairParts, PairRepresents}
-unfoldable pub use Pairs.{pair_bytes, pair_format, written_as}
+unfoldable pub use Pairs.{pair_bytes, pair_format}
 unfoldable pub use Root.{ArchiveOf, Archives, ArchivesNarrow, ArchivesWide, RootBytes, RootNext}
 unfoldable pub use Root.{ToBytesFails, ValueStep, WriteRootFails, WritesRoot, WroteRoot, fresh}
 unfoldable pub use Root.{root_format}
@@ -67,7 +67,7 @@ pub use Same.{SameEncoding, SameFormat, SameSpec}
 unfoldable pub use Empty.{unit_format, unit_represents, unit_spec}
 unfoldable pub use Parts.{PartFails}
 pub use Parts.{PartIn}
-unfoldable pub use Text.{IsArchiveWord, IsValidInline, IsValidOutOfLine, IsValidText}
+unfoldable pub use Text.{IsArchiveWord, IsTextOf, IsValidInline, IsValidOutOfLine, IsValidText}
 unfoldable pub use Text.{OutOfLineFails, TextFails, TextReads, decode_length, fixed_bytes}
 unfoldable pub use Text.{inline_text, is_out_of_line, out_of_line_begin, out_of_line_length}
 unfoldable pub use Text.{out_of_line_text, text_at, text_of, text_size, text_spec}

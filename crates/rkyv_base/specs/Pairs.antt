@@ -57,12 +57,3 @@ module _ {V W R Q : Type 0} (k v : ElementSpec) (kf : Format V R) (vf : Format W
     image = PairImage;
     overflow = PairOverflows;
   }
-
--- the format `f` for values of another type, which `as_value` maps to the values `V`
-abbrev pub written_as : {X V R : Type 0} → (X → V) → Format V R → Format X R
-written_as as_value f = record {
-  parts = λ x. f.parts (as_value x);
-  next = λ x. f.next (as_value x);
-  image = λ x. f.image (as_value x);
-  overflow = λ x. f.overflow (as_value x);
-}

@@ -1,7 +1,8 @@
 //! Pairs of a key and a value by reference or by value, which are archived as entries.
 
 ghost use Rattle.std.specs.Prelude.{◌≡◌};
-ghost use Rattle.rkyv_base.specs.{PairRepresents, entry_spec, pair_format, pair_of, written_as};
+ghost use Rattle.rkyv_base.specs.{PairRepresents, RepresentsAs, entry_spec, pair_format, pair_of};
+ghost use Rattle.rkyv_base.specs.{written_as};
 ghost use Rattle.rkyv_base.specs.Lemmas.Pairs.{pair_is_format, pair_local, written_as-format};
 
 use crate::archive::{Archive, ResolveResult, Serialize, WriteResult};
@@ -50,8 +51,8 @@ impl<BK: Lend<K>, BV: Lend<V>, K, V> EntryAdapter<BK, BV, K, V> {
 impl<BK: Lend<A>, BV: Lend<B>, A, B, K: Represents<A>, V: Represents<B>> Represents<
     EntryAdapter<BK, BV, A, B>,
 > for Entry<K, V> {
-    ghost represents = { λ b p x.
-        PairRepresents K.spec V.spec K.represents V.represents b p (pair_of BK.lent BV.lent x) };
+    ghost represents = { RepresentsAs (pair_of BK.lent BV.lent)
+        (PairRepresents K.spec V.spec K.represents V.represents) };
 
     ghost local = { λ x.
         pair_local K.spec V.spec K.laws V.laws K.represents V.represents K.local V.local

@@ -5,8 +5,8 @@
 
 ghost use Rattle.std.specs.Int.{w16, w32, w64, w8};
 ghost use Rattle.std.specs.Prelude.{string_bytes};
-ghost use Rattle.rkyv_base.specs.{IsScalar, PairRepresents, SameEncoding, SameFormat, SameSpec};
-ghost use Rattle.rkyv_base.specs.{SameValues, ScalarRepresents, TextReads, bool_encoding};
+ghost use Rattle.rkyv_base.specs.{IsScalar, IsTextOf, PairRepresents, SameEncoding, SameFormat};
+ghost use Rattle.rkyv_base.specs.{SameSpec, SameValues, ScalarRepresents, bool_encoding};
 ghost use Rattle.rkyv_base.specs.{char_encoding, entry_spec, pair_format, scalar_format, signed};
 ghost use Rattle.rkyv_base.specs.{text_format, text_spec, unit_format, unit_represents, unit_spec};
 ghost use Rattle.rkyv_base.specs.{unsigned, written_as};
@@ -51,9 +51,9 @@ pub fn scalars_are_numbers<W: Width, N: Scalar>()
 pub fn texts_are_their_bytes<'t, W: Width>()
     ensures spec { SameSpec ⟦<Text<W> as HasSpec>⟧.spec (text_spec W.word) }
     ensures slices { SameValues ⟦<Text<W> as Represents<&'t str>>⟧.represents
-        (λ b p t. TextReads W.word b p t.now) }
+        (IsTextOf W.word (λ t. t.now)) }
     ensures strings { SameValues ⟦<Text<W> as Represents<String>>⟧.represents
-        (λ b p t. TextReads W.word b p (string_bytes t)) }
+        (IsTextOf W.word string_bytes) }
     ensures slice_bytes { SameFormat ⟦<&'t str as Archive<W>>⟧.format
         (written_as (λ t. t.now) (text_format W.word)) }
     ensures string_bytes { SameFormat ⟦<String as Archive<W>>⟧.format

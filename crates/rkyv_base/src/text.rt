@@ -12,7 +12,7 @@ ghost use Rattle.std.specs.Prelude.{IsTrue, MatchResult, length, pos as int, str
 ghost use Rattle.std.specs.Prelude.{◌+ℤ◌, ◌+◌, ◌<◌, ◌^◌, ◌≡◌, ◌≤◌};
 ghost use Rattle.std.specs.Str.{IsAscii, IsUtf8};
 ghost use Rattle.rkyv_base.specs.declared.errors.VerifyError.TheVariants.{InvalidValue};
-ghost use Rattle.rkyv_base.specs.{Fails, IsValidView, Passes, TextReads, Viewable, bytes_of};
+ghost use Rattle.rkyv_base.specs.{Fails, IsTextOf, IsValidView, Passes, Viewable, bytes_of};
 ghost use Rattle.rkyv_base.specs.{decode_length, fixed_bytes, inline_text, is_out_of_line};
 ghost use Rattle.rkyv_base.specs.{out_of_line_begin, out_of_line_length, pos_of, text_at};
 ghost use Rattle.rkyv_base.specs.{text_size, text_spec};
@@ -242,13 +242,13 @@ fn text_part<W: Width>(bytes: &[u8], pos: u64) -> &[u8]
 }
 
 impl<W: Width> Represents<String> for Text<W> {
-    ghost represents = { λ b p t. TextReads W.word b p (string_bytes t) };
+    ghost represents = { IsTextOf W.word string_bytes };
 
     ghost local = { λ t. text_local W.word (string_bytes t) };
 }
 
 impl<'t, W: Width> Represents<&'t str> for Text<W> {
-    ghost represents = { λ b p t. TextReads W.word b p t.now };
+    ghost represents = { IsTextOf W.word (λ t. t.now) };
 
     ghost local = { λ t. text_local W.word t.now };
 }

@@ -18,8 +18,8 @@ use Rattle.rkyv_table.specs.{home_positions, pos_found, with_units}
 use Rattle.rkyv_table.proofs.Moved.{moved}
 use Rattle.rkyv_collections.proofs.FoundPairs.{first_listed, value_listed}
 use Rattle.rkyv_collections.specs.{FindsKey, FoundAreListed, IsPosOfPair, IsTextMapUnder, IsValueAt, IsValueIn, MapRepresents, MapWrittenAt, TextMapFails, TextMapRepresents, TextMapResult, TextPairs, map_bytes, map_pos, map_root, text_map_format, text_map_spec}
-use Rattle.rkyv_keys.specs.{FitsItsEqual, FoundValues, NativeKeys, first_pair, scalar_found}
-use Rattle.rkyv_keys.specs.Lemmas.FirstPairs.{FindsByView}
+use Rattle.rkyv_keys.specs.{FindsByView, FitsItsEqual, FoundValues, NativeKeys, first_pair}
+use Rattle.rkyv_keys.specs.{scalar_found}
 use Rattle.rkyv_collections.specs.declared.map.ArchivedHashMap.{ArchivedHashMap}
 use Rattle.rkyv_collections.specs.declared.map.HashMapOf.{HashMapOf}
 

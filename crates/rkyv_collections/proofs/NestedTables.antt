@@ -8,8 +8,12 @@ use Rattle.rkyv_base.specs.{AgreeOn, ElementSpec, IsElement, ModifiesOnly, Viewa
 use Rattle.rkyv_base.specs.Lemmas.Bytes.{agree_on_part}
 use Rattle.rkyv_base.proofs.Sealing.{same_outside, sealed_wider}
 use Rattle.rkyv_scan.specs.{is_full}
-use Rattle.rkyv_table.specs.{AreValidAt, AreValidControls, AreValidItems, IsPart, IsWalked, TableAt, bucket_at, cap_at, control_count, controls_at, controls_pos, decode_begin, item_at, len_at, table_controls, table_spec, walk}
-use Rattle.rkyv_table.specs.Lemmas.ItemPositions.{IsValidWithin, ValidPart, bucket_is_valid_within, decoded_controls, decoded_item, decoded_pos, each_is_valid, within_lower}
+use Rattle.rkyv_table.specs.{AreValidAt, AreValidControls, AreValidItems, IsPart, IsValidWithin}
+use Rattle.rkyv_table.specs.{IsWalked, TableAt, ValidPart, bucket_at, cap_at, control_count}
+use Rattle.rkyv_table.specs.{controls_at, controls_pos, decode_begin, item_at, len_at}
+use Rattle.rkyv_table.specs.{table_controls, table_spec, walk, within_lower}
+use Rattle.rkyv_table.specs.Lemmas.ItemPositions.{bucket_is_valid_within, decoded_controls}
+use Rattle.rkyv_table.specs.Lemmas.ItemPositions.{decoded_item, decoded_pos, each_is_valid}
 use Rattle.rkyv_table.specs.Lemmas.ValidItemLaws.{all_between}
 use Rattle.rkyv_table.specs.Lemmas.SameHeader.{begin_same, cap_same, len_same, pos_same}
 use Rattle.rkyv_table.specs.Lemmas.TableLaws.{of_numbers}

@@ -7,7 +7,8 @@ use Rattle.rkyv_base.specs.Lemmas.Pairs.{written_as-format}
 use Rattle.rkyv_keys.specs.{Comparison, FitsItsEqual, IsQuery, hash_at, hash_of}
 use Rattle.rkyv_table.specs.{listed}
 use Rattle.rkyv_collections.specs.Lemmas.MapSound.{listed_map_sound}
-use Rattle.rkyv_collections.specs.{MapRepresents, map_element, map_format, map_root, map_spec, of_entries}
+use Rattle.rkyv_collections.specs.{MapRepresents, map_format, map_root, map_spec, of_entries}
+use Rattle.rkyv_collections.specs.Lemmas.MapElement.{map_element}
 use Rattle.rkyv_collections.proofs.WrittenRoots.{root_keeps}
 
 -- a relation that the format of a list keeps is kept for entries with distinct keys

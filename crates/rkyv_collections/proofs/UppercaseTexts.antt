@@ -8,10 +8,11 @@ use Rattle.std.specs.Option.{is_some, option_map}
 use Rattle.std.specs.Prelude.{map}
 use Rattle.std.proofs.lemmas.Bool.{cases_Bool}
 use Rattle.std.proofs.lemmas.Option.{same_Some}
-use Rattle.rkyv_base.specs.{ElementSpec, IsElement, PairRepresents, RepresentsLocally, Uppercases, Viewable, entry_spec, text_at, text_size, text_spec, value_pos}
+use Rattle.rkyv_base.specs.{ElementSpec, IsElement, IsTextOf, PairRepresents, RepresentsLocally}
+use Rattle.rkyv_base.specs.{Uppercases, Viewable, entry_spec, text_at, text_size, text_spec}
+use Rattle.rkyv_base.specs.{value_pos}
 use Rattle.rkyv_base.specs.Lemmas.Text.{text_local}
 use Rattle.rkyv_base.proofs.SealedText.{uppercased_reads, uppercased_sealed, uppercased_valid}
-use Rattle.rkyv_keys.specs.Lemmas.OfTexts.{IsTextOf}
 use Rattle.rkyv_table.specs.{home_positions}
 use Rattle.rkyv_collections.specs.{AgreesOnKeys, IsPosOfPair, MapRepresents, list_after_uppercase, map_spec, uppercase_text, with_first, with_first_uppercase}
 use Rattle.rkyv_keys.specs.{HashLocal, first_pair}

@@ -9,3 +9,4 @@ pub mod StdEqualLaws
 pub mod StdOnce
 pub mod StdSet
 pub mod StoredKeys
+pub mod MapElement

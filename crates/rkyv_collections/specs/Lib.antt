@@ -6,7 +6,8 @@ pub mod Lemmas
 pub mod Set
 pub mod Listed
 unfoldable pub use StdMaps.StdMap.{AddsKey, ArePairsAt, InsertsPair, InsertsRead, ReadsStdMap}
-unfoldable pub use StdMaps.StdMap.{StdMapRepresents, insert_pair_fails, of_entries, std_map_fails}
+unfoldable pub use StdMaps.StdMap.{StdMapRepresents, inner, insert_pair_fails, of_entries}
+unfoldable pub use StdMaps.StdMap.{std_map_fails}
 pub use StdMaps.StdMap.{EntriesRepresent}
 unfoldable pub use StdMaps.StdEquality.{EntriesEqual, FindsPair, FindsPairIn, StdMapEquals}
 unfoldable pub use StdMaps.StdEquality.{StdMapEqualsIn}
@@ -28,7 +29,6 @@ unfoldable pub use Map.{MapWrittenAt, key_pos_found, key_positions, map_archive,
 unfoldable pub use Map.{map_len, map_pos, map_view}
 pub use Map.{IsKeyIn, IsPairIn, IsValueIn}
 unfoldable pub use Map.MapSpec.{IsKeyPosAt, map_spec}
-pub use Map.MapSpec.{map_element}
 unfoldable pub use Map.Equality.{EachIsIn, EqualHaveSamePairs, finds_same, map_equal, pair_at}
 unfoldable pub use Map.Equality.{pair_matches}
 pub use Map.Equality.{IsWrittenApart}

@@ -8,7 +8,8 @@ ghost use Rattle.std.specs.Prelude.{◌≡◌, ⊤};
 ghost use Rattle.rkyv_base.specs.Lemmas.ElementSpec.{viewable_prop};
 ghost use Rattle.rkyv_base.specs.{IsValidView};
 ghost use Rattle.rkyv_table.specs.{IsDecoded};
-ghost use Rattle.rkyv_collections.specs.Map.MapSpec.{map_element, map_spec};
+ghost use Rattle.rkyv_collections.specs.Map.MapSpec.{map_spec};
+ghost use Rattle.rkyv_collections.specs.Lemmas.MapElement.{map_element};
 
 mod element;
 pub mod in_place;

@@ -12,8 +12,8 @@ use Rattle.rkyv_base.specs.Lemmas.Entry.{entry_element}
 use Rattle.rkyv_base.specs.declared.element.HasSpec.{Ghosts as Specs}
 use Rattle.rkyv_base.specs.declared.view.View.{View}
 use Rattle.rkyv_base.specs.declared.width.Word.{Ghosts as Words}
-use Rattle.rkyv_keys.specs.{FitsItsEqual, FoundValues, IsFoundValue, NativeKeys, first_pair}
-use Rattle.rkyv_keys.specs.Lemmas.FirstPairs.{FindsByView}
+use Rattle.rkyv_keys.specs.{FindsByView, FitsItsEqual, FoundValues, IsFoundValue, NativeKeys}
+use Rattle.rkyv_keys.specs.{first_pair}
 use Rattle.rkyv_keys.specs.Lemmas.OfEntries.{valid_key}
 use Rattle.rkyv_table.specs.{with_units}
 use Rattle.rkyv_table.proofs.Moved.{moved}

@@ -7,7 +7,7 @@ use Rattle.std.proofs.Math.Nat.{mul-le-mul_right}
 use Rattle.std.proofs.lemmas.Bool.{cases_eq, cases_lt}
 use Rattle.std.proofs.lemmas.List.{length-set}
 use Rattle.std.proofs.lemmas.Option.{slice_get_within}
-use Rattle.rkyv_scan.specs.{generic_kind}
+use Rattle.rkyv_scan.specs.{AllBelow, generic_kind}
 use Rattle.rkyv_scan.specs.Lemmas.KindLaws.{word_lawful}
 use Rattle.rkyv_base.specs.{AgreeOn, ElementSpec, IsArchiveWord, IsElement, ModifiesOnly, Outside, PairRepresents, RepresentsLocally, StaysValid, Viewable, entry_spec, number_at, value_pos, whole_size}
 use Rattle.rkyv_base.specs.Lemmas.Entry.{entry_element, key_and_value_inside, same_key, size_of_small}
@@ -15,9 +15,8 @@ use Rattle.rkyv_base.specs.Lemmas.Entry.{viewable_key, viewable_value}
 use Rattle.rkyv_base.specs.Lemmas.Pairs.{pair_local}
 use Rattle.rkyv_base.proofs.Sealing.{entry_kept, same_outside, sealed_wider, valid_outside, viewable_kept}
 use Rattle.rkyv_keys.specs.{HashLocal, RestsOnKeys}
-use Rattle.rkyv_table.specs.{AreValidAt, IsWalked, RestsOnKey, SameValue, WritesValue, cap_at, capacity, found, item_at, len_at, table_controls}
-use Rattle.rkyv_table.specs.Lemmas.ItemPositions.{IsValidWithin}
-use Rattle.rkyv_table.specs.Lemmas.ValidItemLaws.{AllBelow}
+use Rattle.rkyv_table.specs.{AreValidAt, IsValidWithin, IsWalked, RestsOnKey, SameValue}
+use Rattle.rkyv_table.specs.{WritesValue, cap_at, capacity, found, item_at, len_at, table_controls}
 use Rattle.rkyv_table.specs.Lemmas.SameHeader.{cap_same, len_same}
 use Rattle.rkyv_table.specs.Lemmas.TableLaws.{table_element}
 use Rattle.rkyv_table.proofs.Lists.{set_each}

@@ -2,7 +2,7 @@
 //!
 //! `OrderedPairs` is a list of pairs, and `OrderedItems` a list of keys.
 
-ghost use Rattle.rkyv_base.specs.{entry_spec, written_as};
+ghost use Rattle.rkyv_base.specs.{RepresentsAs, entry_spec, written_as};
 ghost use Rattle.rkyv_base.specs.Lemmas.Pairs.{written_as-format};
 ghost use Rattle.rkyv_scan.specs.{fx_hasher, low_halves};
 ghost use Rattle.rkyv_keys.specs.{hash_at, hash_of};
@@ -10,7 +10,8 @@ ghost use Rattle.rkyv_index.specs.{IndexRepresents, IndexSetRepresents, index_fo
 ghost use Rattle.rkyv_index.specs.{index_set_format, index_set_spec, index_spec};
 ghost use Rattle.rkyv_index.specs.Lemmas.IndexLocal.{index_represents_local};
 ghost use Rattle.rkyv_index.specs.Lemmas.IndexSound.{index_sound};
-ghost use Rattle.rkyv_table.specs.{listed, listed_format};
+ghost use Rattle.rkyv_table.specs.{listed};
+ghost use Rattle.rkyv_table.specs.Lemmas.Listed.{listed-format};
 ghost use Rattle.rkyv_index.specs.Lemmas.SetSound.{index_set_local, index_set_sound};
 
 use crate::map::write::resolve::IndexMapResolver;
@@ -46,9 +47,9 @@ pub struct OrderedPairs<K, V>(pub Vec<(K, V)>);
 
 impl<W: Width, A, B, K: KeyElement + Represents<A>, V: Represents<B>> Represents<OrderedPairs<A, B>>
     for IndexMapOf<K, V, FxHasher64, W> {
-    ghost represents = { λ b p x.
-        IndexRepresents W.word K.spec V.spec K.represents V.represents
-        (hash_at (fx_hasher low_halves) K.key_calls) (7, 8) b p x.0.items };
+    ghost represents = { RepresentsAs (λ x. x.0.items)
+        (IndexRepresents W.word K.spec V.spec K.represents V.represents
+        (hash_at (fx_hasher low_halves) K.key_calls) (7, 8)) };
 
     ghost local = { λ x.
         index_represents_local (fx_hasher low_halves) W.word W.layout.kind K.laws V.laws
@@ -83,7 +84,7 @@ where
         (hash_of (fx_hasher low_halves) A.calls) (7, 8) in
         let spec = index_spec W.word (entry_spec A.Archived.spec B.Archived.spec) in
         written_as-format (λ x. x.0.items) spec represents (listed W.MAX_CAPACITY (7, 8) format)
-        (listed_format W.MAX_CAPACITY (7, 8) spec represents format
+        (listed-format W.MAX_CAPACITY (7, 8) spec represents format
         (index_sound (fx_hasher low_halves) W.word W.layout.kind W.Place.spec W.Place.encoding
         W.Place.HasSpec.laws W.Place.Scalar.laws W.index W.reads_back
         A.Archived.laws B.Archived.laws (7, 8) A.query A.native A.Eq.laws.refl A.reads
@@ -127,9 +128,9 @@ pub struct OrderedItems<K>(pub Vec<K>);
 
 impl<W: Width, A, K: KeyElement + Represents<A>> Represents<OrderedItems<A>>
     for IndexSetOf<K, FxHasher64, W> {
-    ghost represents = { λ b p x.
-        IndexSetRepresents W.word K.spec K.represents (hash_at (fx_hasher low_halves)
-        K.key_calls) (7, 8) b p x.0.items };
+    ghost represents = { RepresentsAs (λ x. x.0.items)
+        (IndexSetRepresents W.word K.spec K.represents
+        (hash_at (fx_hasher low_halves) K.key_calls) (7, 8)) };
 
     ghost local = { λ x.
         index_set_local (fx_hasher low_halves) W.word W.layout.kind K.laws (7, 8)
@@ -160,7 +161,7 @@ where
         (hash_of (fx_hasher low_halves) A.calls) (7, 8) in
         let spec = index_set_spec W.word A.Archived.spec in
         written_as-format (λ x. x.0.items) spec represents (listed W.MAX_CAPACITY (7, 8) format)
-        (listed_format W.MAX_CAPACITY (7, 8) spec represents format
+        (listed-format W.MAX_CAPACITY (7, 8) spec represents format
         (index_set_sound (fx_hasher low_halves) W.word W.layout.kind A.Archived.laws
         (7, 8) W.Place.spec W.Place.encoding W.Place.HasSpec.laws W.Place.Scalar.laws W.index
         W.reads_back

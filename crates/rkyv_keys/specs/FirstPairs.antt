@@ -5,8 +5,8 @@ use Rattle.std.specs.Borrow.{Bor}
 use Rattle.std.specs.Int.{Width}
 use Rattle.std.specs.List.{find}
 use Rattle.std.specs.Option.{option_map}
-use Rattle.rkyv_base.specs.{AtView, Encoding, ScalarRepresents, TextReads, bytes_of, pos_of}
-use Rattle.rkyv_base.specs.{text_at, value_at}
+use Rattle.rkyv_base.specs.{AtView, Encoding, IsTextOf, ScalarRepresents, bytes_of, pos_of, text_at}
+use Rattle.rkyv_base.specs.{value_at}
 use Rattle.rkyv_base.specs.declared.view.View.{View}
 
 -- the first pair with an accepted key
@@ -70,7 +70,7 @@ text_bytes text = option_map (λ t. t.now) text
 -- texts that are found by their bytes
 abbrev pub found_texts : {T : Type 0} → Width → FoundValues T (Bor (List ℕ))
 found_texts w = record {
-  represents = λ b p text. TextReads w b p text.now;
+  represents = IsTextOf w (λ text. text.now);
   IsFound = λ found value. text_bytes_found w found ≡ text_bytes value;
 }
 
@@ -79,3 +79,8 @@ abbrev pub IsTextOk : {E : Type 0} → Option (Bor (List ℕ)) → Result (Optio
     → Type 0
 IsTextOk text result = (found : Option (Bor (List ℕ))) × (result ≡ Ok found)
     × (text_bytes found ≡ text_bytes text)
+
+-- each value found as a view is found as a value
+abbrev pub FindsByView : {V B : Type 0} → FoundValues V B → Type 0
+FindsByView {V} {B} values = (found : Option (View V)) (value : Option B)
+    → IsFoundValue values.represents found value → values.IsFound found value

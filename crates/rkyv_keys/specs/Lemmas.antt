@@ -2,6 +2,7 @@
 pub mod FirstPairs
 pub mod Fixed
 pub mod OfEntries
+pub mod OfScalars
 pub mod OfTexts
 pub mod OfUnits
 pub mod OfValues

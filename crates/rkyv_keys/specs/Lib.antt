@@ -26,9 +26,9 @@ unfoldable pub use Deserialize.{DeserializeErrors, DeserializeMembers, Deseriali
 unfoldable pub use Deserialize.{nothing_fails}
 unfoldable pub use Equality.{Comparison, DecidesEquality, EqualsUniquely, RepresentsUniquely}
 pub use Equality.{IsEquivalence}
-unfoldable pub use FirstPairs.{IsFoundPair, IsFoundValue, IsTextOk, first_pair, first_value}
-unfoldable pub use FirstPairs.{found_scalars, found_texts, found_views, scalar_found, text_bytes}
-unfoldable pub use FirstPairs.{text_bytes_found}
+unfoldable pub use FirstPairs.{FindsByView, IsFoundPair, IsFoundValue, IsTextOk, first_pair}
+unfoldable pub use FirstPairs.{first_value, found_scalars, found_texts, found_views, scalar_found}
+unfoldable pub use FirstPairs.{text_bytes, text_bytes_found}
 pub use FirstPairs.{FoundValues}
 unfoldable pub use Fixed.{MakesFixedCalls}
 unfoldable pub use Hashing.{HashesBy}
@@ -39,9 +39,7 @@ pub use Natives.{NativeKeys, NativePairs}
 unfoldable pub use OfEntries.{BothRead, entry_calls, entry_deserialize_fails, entry_equals}
 unfoldable pub use OfEntries.{entry_fits, entry_same, pair_calls}
 unfoldable pub use OfScalars.{one_call, scalar_calls, scalar_fits, scalar_same}
-pub use OfScalars.{scalar_equivalence, scalar_fits_its_equal, scalar_fixed, scalar_key}
-pub use OfScalars.{scalar_query}
-unfoldable pub use OfTexts.{same_bytes}
+unfoldable pub use OfTexts.{same_bytes, text_fits, text_key_calls, text_same}
 unfoldable pub use OfUnits.{no_calls, unit_at, unit_calls, unit_fits, unit_same, units_equal}
 unfoldable pub use OfValues.{ValueRepresents, value_calls, value_fits, values_same}
 unfoldable pub use OfViews.{view_calls, view_fits}

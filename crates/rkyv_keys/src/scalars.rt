@@ -9,10 +9,10 @@ ghost use Rattle.rkyv_scan.specs.{HasherCall, I16, I32, I64, I8, IsFixed, U16, U
 ghost use Rattle.rkyv_base.specs.{AtView, IsValidView, ScalarRepresents};
 ghost use Rattle.rkyv_base.specs.Lemmas.Scalar.{scalar_is_format};
 ghost use Rattle.rkyv_keys.specs.{DecidesEquality, after_calls, at_view, at_views, bool_call};
-ghost use Rattle.rkyv_keys.specs.{nothing_fails, one_call, scalar_calls, scalar_equivalence};
-ghost use Rattle.rkyv_keys.specs.{scalar_fits, scalar_fits_its_equal, scalar_fixed, scalar_key};
-ghost use Rattle.rkyv_keys.specs.{scalar_query, scalar_same};
+ghost use Rattle.rkyv_keys.specs.{nothing_fails, one_call, scalar_calls, scalar_fits, scalar_same};
 ghost use Rattle.rkyv_keys.specs.Lemmas.QueryLaws.{native_once};
+ghost use Rattle.rkyv_keys.specs.Lemmas.OfScalars.{scalar_equivalence, scalar_fits_its_equal};
+ghost use Rattle.rkyv_keys.specs.Lemmas.OfScalars.{scalar_fixed, scalar_key, scalar_query};
 
 use crate::deserialize::Deserialize;
 use crate::equality::{

@@ -1,13 +1,12 @@
 //! The implementations for text, which is looked up by `&str` and `String`.
 
 ghost use Rattle.std.specs.Prelude.{◌≡◌, string_bytes, IsTrue, ◌↔◌, MatchResult};
-ghost use Rattle.rkyv_base.specs.{AtView, IsValidView, text_spec};
+ghost use Rattle.rkyv_base.specs.{AtView, IsTextOf, IsValidView, text_spec};
 ghost use Rattle.rkyv_base.specs.Lemmas.TextWriting.{text_as_format};
 ghost use Rattle.rkyv_keys.specs.{after_calls, at_view, at_views, memory_fails, same_bytes};
-ghost use Rattle.rkyv_keys.specs.{text_calls};
-ghost use Rattle.rkyv_keys.specs.Lemmas.OfTexts.{IsTextOf, text_equivalence, text_fits, text_once};
-ghost use Rattle.rkyv_keys.specs.Lemmas.OfTexts.{text_fits_its_equal, text_key, text_key_calls};
-ghost use Rattle.rkyv_keys.specs.Lemmas.OfTexts.{text_key_fixed, text_query, text_same};
+ghost use Rattle.rkyv_keys.specs.{text_calls, text_fits, text_key_calls, text_same};
+ghost use Rattle.rkyv_keys.specs.Lemmas.OfTexts.{text_equivalence, text_fits_its_equal, text_key};
+ghost use Rattle.rkyv_keys.specs.Lemmas.OfTexts.{text_key_fixed, text_once, text_query};
 
 use crate::debug::ElementDebug;
 use crate::deserialize::Deserialize;
@@ -144,13 +143,13 @@ impl<W: Width> MatchesNative<&str> for Text<W> {
 }
 
 impl<W: Width> MatchesNative<String> for Text<W> {
-    ghost equals = { IsTextOf W.word (λ t. string_bytes t) };
+    ghost equals = { IsTextOf W.word string_bytes };
 
     #[inline]
     fn eq_native(view: View<'_, Text<W>>, value: &String) -> bool
         requires { IsValidView (text_spec W.word) view }
         ensures { IsTrue result
-            ↔ AtView (IsTextOf W.word (λ t. string_bytes t)) view.entry value.now }
+            ↔ AtView (IsTextOf W.word string_bytes) view.entry value.now }
     {
         view.as_str() == value.as_str()
     }
@@ -163,7 +162,7 @@ impl<W: Width> Deserialize<String> for Text<W> {
     fn deserialize(alloc: Global, view: View<'_, Text<W>>) -> Result<String, ReadError>
         requires { IsValidView (text_spec W.word) view }
         ensures { MatchResult result
-            (AtView (IsTextOf W.word (λ t. string_bytes t)) view.entry)
+            (AtView (IsTextOf W.word string_bytes) view.entry)
             (AtView memory_fails view.entry) }
     {
         Ok(String::from_str(alloc, view.as_str())?)

@@ -1,13 +1,18 @@
 -- The indices of a group of control bytes that a mask marks.
-use Rattle.std.specs.Prelude.{Bool, List, bit_xor, false, nat_le, nat_lt, slice_index}
+use Rattle.std.specs.Prelude.{Bool, List, [], bit_xor, false, nat_le, nat_lt, slice_index}
 use Rattle.std.specs.Prelude.{slice_index_or, suc, true, zero, ℕ, ◌&&◌, ◌*◌, ◌+◌, ◌<◌, ◌==◌, ◌^◌}
-use Rattle.std.specs.Prelude.{◌||◌, ◌≡◌, ◌≤◌}
+use Rattle.std.specs.Prelude.{◌||◌, ◌∷◌, ◌≡◌, ◌≤◌}
 use Rattle.std.specs.List.{filter, range_with_len}
 use Rattle.std.specs.Int.{bit_at}
 
 -- the indices below `n` that pass `test`, ascending
 unfoldable pub indices_where : (ℕ → Bool) → ℕ → List ℕ
 indices_where test n = filter test (range_with_len 0 n)
+
+-- each number is below `end`
+abbrev pub AllBelow : ℕ → List ℕ → Type 0
+AllBelow end [] = Unit {0}
+AllBelow end (x ∷ xs) = (x < end) × AllBelow end xs
 
 -- `control`: control byte. It is empty if its high bit is set
 abbrev pub is_empty : ℕ → Bool

@@ -4,8 +4,9 @@ pub mod Hash
 pub mod Laws
 pub mod Lemmas
 pub mod Paired
-unfoldable pub use Groups.{bytewise_kind, flag_indices, generic_kind, indices_where, is_empty}
-unfoldable pub use Groups.{is_equal_at, is_full, is_word_match_at, lanes_kind, mask_indices}
+unfoldable pub use Groups.{AllBelow, bytewise_kind, flag_indices, generic_kind, indices_where}
+unfoldable pub use Groups.{is_empty, is_equal_at, is_full, is_word_match_at, lanes_kind}
+unfoldable pub use Groups.{mask_indices}
 pub use Groups.{IsFirstFlag, IsKind, Kind}
 unfoldable pub use Hash.{NumbersFit, all_bits, byte_words, call_words, four_bytes, fx_feed, fx_hash}
 unfoldable pub use Hash.{fx_hasher, hash_of_calls, hash_word, hash_words, last_byte, low_halves}

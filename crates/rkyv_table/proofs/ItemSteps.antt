@@ -4,8 +4,8 @@ use Rattle.std.specs.List.{range_with_len, slice_get}
 use Rattle.std.proofs.lemmas.Option.{none-some, same_Some}
 use Rattle.rkyv_base.specs.declared.errors.VerifyError.{VerifyError}
 use Rattle.rkyv_base.specs.{ElementSpec}
-use Rattle.rkyv_scan.specs.{indices_where}
-use Rattle.rkyv_table.specs.Lemmas.ValidItemLaws.{AllBelow, range_below}
+use Rattle.rkyv_scan.specs.{AllBelow, indices_where}
+use Rattle.rkyv_scan.proofs.Indices.{range_below}
 use Rattle.rkyv_table.specs.{AreValid, AreValidAt, FirstFails, bucket_at, full_from, walk}
 use Rattle.rkyv_table.proofs.RawSteps.{group_cut, group_read}
 use Rattle.rkyv_table.proofs.Walks.{walk_small, whole_walk}

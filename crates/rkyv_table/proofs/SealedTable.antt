@@ -10,10 +10,14 @@ use Rattle.rkyv_base.specs.Lemmas.Entry.{entry_element, key_and_value_inside, si
 use Rattle.rkyv_base.proofs.Sealing.{entry_kept, same_outside, sealed_wider, valid_outside}
 use Rattle.rkyv_table.proofs.SameTable.{written_there}
 use Rattle.rkyv_table.proofs.ValidTable.{item_viewable, part_of}
-use Rattle.rkyv_table.specs.{AreValidAt, AreValidControls, IsPart, IsWalked, KeepsTable, SameValue, TableAt, WrittenAt, bucket_at, bucket_found, cap_at, control_count, controls_at, controls_pos, decode_begin, found, item_at, len_at, table_controls, table_spec, walk}
-use Rattle.rkyv_scan.specs.{Kind, is_full}
-use Rattle.rkyv_table.specs.Lemmas.ItemPositions.{ValidPart, bucket_is_valid_within, decoded_controls, decoded_item, decoded_pos}
-use Rattle.rkyv_table.specs.Lemmas.ValidItemLaws.{AllBelow, range_below}
+use Rattle.rkyv_table.specs.{AreValidAt, AreValidControls, IsPart, IsWalked, KeepsTable, SameValue}
+use Rattle.rkyv_table.specs.{TableAt, ValidPart, WrittenAt, bucket_at, bucket_found, cap_at}
+use Rattle.rkyv_table.specs.{control_count, controls_at, controls_pos, decode_begin, found, item_at}
+use Rattle.rkyv_table.specs.{len_at, table_controls, table_spec, walk}
+use Rattle.rkyv_scan.specs.{AllBelow, Kind, is_full}
+use Rattle.rkyv_scan.proofs.Indices.{range_below}
+use Rattle.rkyv_table.specs.Lemmas.ItemPositions.{bucket_is_valid_within, decoded_controls}
+use Rattle.rkyv_table.specs.Lemmas.ItemPositions.{decoded_item, decoded_pos}
 use Rattle.rkyv_table.specs.Lemmas.SameHeader.{begin_same, cap_same, item_same, len_same, pos_same}
 use Rattle.rkyv_table.specs.Lemmas.TableLaws.{bucket_inside, of_numbers}
 

@@ -11,8 +11,11 @@ use Rattle.rkyv_scan.specs.{Kind}
 use Rattle.rkyv_base.specs.{ElementSpec, IsElement, Viewable, signed_at}
 use Rattle.rkyv_base.specs.declared.view.View.{View}
 use Rattle.rkyv_base.specs.Lemmas.ElementSpec.{valid_at}
-use Rattle.rkyv_table.specs.{AreValidControls, IsFullBucket, IsFullIn, IsWalked, cap_at, control_count, controls_pos, found, item_at, len_at, probe_length, table_bytes, table_controls, table_pos, table_spec}
-use Rattle.rkyv_table.specs.Lemmas.ItemPositions.{ValidPart, decoded_controls, decoded_item, decoded_pos, item_is_valid, valid_part}
+use Rattle.rkyv_table.specs.{AreValidControls, IsFullBucket, IsFullIn, IsWalked, ValidPart, cap_at}
+use Rattle.rkyv_table.specs.{control_count, controls_pos, found, item_at, len_at, probe_length}
+use Rattle.rkyv_table.specs.{table_bytes, table_controls, table_pos, table_spec}
+use Rattle.rkyv_table.specs.Lemmas.ItemPositions.{decoded_controls, decoded_item, decoded_pos}
+use Rattle.rkyv_table.specs.Lemmas.ItemPositions.{item_is_valid, valid_part}
 use Rattle.rkyv_table.specs.declared.table.ArchivedHashTable.{ArchivedHashTable}
 use Rattle.rkyv_table.specs.Lemmas.TableLaws.{bucket_aligned}
 

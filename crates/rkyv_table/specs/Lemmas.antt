@@ -9,3 +9,4 @@ pub mod SlotSound
 pub mod HeaderReads
 pub mod TableSound
 pub mod Buckets
+pub mod Listed

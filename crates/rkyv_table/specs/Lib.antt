@@ -28,10 +28,11 @@ pub use Controls.Laws.{IsCover}
 unfoldable pub use Table.Header.{HeaderOverflows, cap_at, controls_pos, decode_begin, header_bytes}
 unfoldable pub use Table.Header.{len_at}
 pub use Table.Header.{IsHeader}
-unfoldable pub use Table.ValidItems.{AreValid, AreValidAt, ChecksValue, FirstFails}
+unfoldable pub use Table.ValidItems.{AreValid, AreValidAt, ChecksValue, FirstFails, within_lower}
+pub use Table.ValidItems.{IsValidWithin}
 unfoldable pub use Table.Layout.{AreValidItems, FailsInside, IsValidTable, TableAt, TableFails}
 unfoldable pub use Table.Layout.{TableFailsAt, bucket_at, controls_at, part_size, table_spec}
-pub use Table.Layout.{IsPart}
+pub use Table.Layout.{IsPart, ValidPart}
 unfoldable pub use Table.Positions.{IsWalked, bucket_found, home_positions, item_at, item_positions}
 unfoldable pub use Table.Positions.{pos_found, probe_length_at, table_controls}
 pub use Table.Positions.{WrittenAt}
@@ -44,7 +45,7 @@ unfoldable pub use Table.Lending.{value_represents}
 unfoldable pub use Table.Slots.{Above, BeforeBuckets, BucketNext, BucketOverflows, BucketStep}
 unfoldable pub use Table.Slots.{Filled, FillsBucket, PartsNext, SlotImages, SlotParts, TableNext}
 unfoldable pub use Table.Slots.{WritesBuckets, WritesParts, WritesSlots, WroteBuckets, bucket_with}
-unfoldable pub use Table.Slots.{filled, item_format, placed_slots, slots_with}
+unfoldable pub use Table.Slots.{filled, filled_from, item_format, placed_slots, slots_with}
 pub use Table.Slots.{Bucket, ItemFormat, PlacedSlots, ResolvedSlots, TableBytes}
 unfoldable pub use Table.PlacedItems.{HasEmptyBucket, hashes_of, items_of}
 pub use Table.PlacedItems.{AreInSlots, ArePlaced}
@@ -61,7 +62,6 @@ unfoldable pub use Table.Serializing.{WroteItems, WroteNonempty, YieldsExactly, 
 unfoldable pub use Table.Serializing.{table_input}
 pub use Table.Serializing.{BucketInput, InputPlaced, TableInput}
 unfoldable pub use Table.Listed.{ListFails, listed, written_as_each}
-pub use Table.Listed.{listed_format, written_as_each-format}
 unfoldable pub use Table.ItemValues.{UnitStep, key_values, pair_values, with_units}
 unfoldable pub use Table.RawItems.{AllValid, IsAhead, buckets_left, marked_left, pos_before}
 unfoldable pub use Table.RawItems.{positions_left}

@@ -1,6 +1,4 @@
 -- All definitions of the crate, which contracts and proofs import from here.
 pub mod Wrapped
-pub mod Variants
+pub mod Lemmas
 unfoldable pub use Wrapped.{RepresentsAsPair, equals_as}
-pub use Wrapped.{pair_as_format, query_as}
-pub use Variants.{variants_decide_equality}

@@ -1,43 +1,15 @@
--- Values that are archived and looked up as other values: as pairs, and as queries.
-use Rattle.std.specs.Prelude.{ℕ, Bool, List}
-use Rattle.rkyv_scan.specs.{HasherCall}
-use Rattle.rkyv_base.specs.{ElementSpec, Format, IsElement, IsFormat, PairRepresents, entry_spec}
-use Rattle.rkyv_base.specs.{pair_format, written_as}
-use Rattle.rkyv_base.specs.Lemmas.Pairs.{pair_is_format, written_as-format}
-use Rattle.rkyv_keys.specs.{Comparison, IsQuery, entry_equals}
-
--- the format laws of values that are written as the pair `as_value x`
-pub pair_as_format : {X A B R Q : Type 0} (as_value : X → A × B) {k v : ElementSpec}
-    (kl : IsElement k)
-    (vl : IsElement v) {key : List ℕ → ℕ → A → Type 0} {value : List ℕ → ℕ → B → Type 0}
-    {kf : Format A R} {vf : Format B Q} → IsFormat k key kf → IsFormat v value vf
-    → IsFormat (entry_spec k v) (λ b p x. PairRepresents k v key value b p (as_value x))
-    (written_as as_value (pair_format k v kf vf))
-pair_as_format as_value {k} {v} kl vl {key} {value} {kf} {vf} kw vw =
-    written_as-format as_value (entry_spec k v) (PairRepresents k v key value)
-    (pair_format k v kf vf)
-    (pair_is_format k v kl vl key value kf vf kw vw)
+-- Values that are archived and compared as pairs.
+use Rattle.std.specs.Prelude.{ℕ, List}
+use Rattle.rkyv_base.specs.{ElementSpec, PairRepresents, RepresentsAs}
+use Rattle.rkyv_keys.specs.{entry_equals}
 
 -- the pair `as_value x` is represented at `p`: the key at `p`, and the value at the value's offset
 abbrev pub RepresentsAsPair : {X A B : Type 0} → ElementSpec → ElementSpec → (List ℕ → ℕ → A
     → Type 0)
     → (List ℕ → ℕ → B → Type 0) → (X → A × B) → List ℕ → ℕ → X → Type 0
-RepresentsAsPair k v key value as_value b p x = PairRepresents k v key value b p (as_value x)
+RepresentsAsPair k v key value as_value = RepresentsAs as_value (PairRepresents k v key value)
 
 -- each part of the entry equals its part of the pair `as_value x`
 abbrev pub equals_as : {X A B : Type 0} → ElementSpec → ElementSpec → (List ℕ → ℕ → A → Type 0)
     → (List ℕ → ℕ → B → Type 0) → (X → A × B) → List ℕ → ℕ → X → Type 0
 equals_as k v key value as_value b p x = entry_equals k v key value b p (as_value x)
-
--- the query laws of values that are looked up as `as_value x`
-pub query_as : {X Q : Type 0} (as_value : X
-    → Q) {s : ElementSpec} {same : Comparison} {key_calls : List ℕ
-    → ℕ → List HasherCall}
-    {can_read : Q → Type 0} {calls : Q → List HasherCall} {fits : Q → List ℕ → ℕ → Bool}
-    → IsQuery s same key_calls can_read calls fits
-    → IsQuery s same key_calls (λ x. can_read (as_value x)) (λ x. calls (as_value x))
-    (λ x. fits (as_value x))
-query_as as_value laws = record {
-  same_calls = λ x. laws.same_calls (as_value x);
-  respects_same = λ x. laws.respects_same (as_value x);
-}

@@ -3,10 +3,11 @@
 //! A type implements `AsPair`, and `FromPair` to be deserialized. `PairEntry` wraps a value
 //! to archive it.
 
+ghost use Rattle.rkyv_user_types.specs.{RepresentsAsPair};
 ghost use Rattle.std.specs.Prelude.{◌≡◌};
-ghost use Rattle.rkyv_base.specs.{PairRepresents, pair_format, written_as};
+ghost use Rattle.rkyv_base.specs.{pair_format, written_as};
 ghost use Rattle.rkyv_base.specs.Lemmas.Pairs.{pair_local};
-ghost use Rattle.rkyv_user_types.specs.{pair_as_format};
+ghost use Rattle.rkyv_user_types.specs.Lemmas.Wrapped.{pair_as_format};
 
 use rkyv_base::adapter::EntryAdapter;
 use rkyv_base::archive::{Archive, ResolveResult, Serialize, WriteResult};
@@ -90,8 +91,8 @@ pub struct PairEntry<T>(pub T);
 
 impl<T: AsPair, K: Represents<T::First>, V: Represents<T::Second>> Represents<PairEntry<T>>
     for Entry<K, V> {
-    ghost represents = { λ b p x. PairRepresents K.spec V.spec K.represents V.represents
-        b p (T.pair x.0) };
+    ghost represents = { RepresentsAsPair K.spec V.spec K.represents V.represents
+        (λ x. T.pair x.0) };
 
     ghost local = { λ x.
         pair_local K.spec V.spec K.laws V.laws K.represents V.represents K.local

@@ -7,7 +7,8 @@ ghost use Rattle.rkyv_keys.specs.{BothRead, Deserializes, at_view, entry_deseria
 ghost use Rattle.rkyv_keys.specs.{entry_fits, pair_calls};
 ghost use Rattle.rkyv_keys.specs.Lemmas.OfEntries.{entry_query};
 ghost use Rattle.rkyv_keys.specs.Lemmas.OfEntries.{entry_fits_its_equal};
-ghost use Rattle.rkyv_user_types.specs.{RepresentsAsPair, equals_as, query_as};
+ghost use Rattle.rkyv_user_types.specs.{RepresentsAsPair, equals_as};
+ghost use Rattle.rkyv_user_types.specs.Lemmas.Wrapped.{query_as};
 
 use crate::pair::{AsPair, FromPair, PairEntry};
 use rkyv_base::element::Represents;

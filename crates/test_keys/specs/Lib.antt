@@ -1,1 +1,2 @@
 pub mod LowByte
+pub mod Lemmas

@@ -1,8 +1,7 @@
 -- The encoding of colors: one byte below 3.
 use Rattle.std.specs.Prelude.{ℕ, zero, suc, ◌<◌}
 use Rattle.std.specs.Int.{w8}
-use Rattle.std.proofs.Props.{props}
-use Rattle.rkyv_base.specs.{AreProps, Encoding}
+use Rattle.rkyv_base.specs.{Encoding}
 use Rattle.test_user_types.specs.declared.color.Color.{Color}
 use Rattle.test_user_types.specs.declared.color.Color.TheVariants.{Blue, Green, Red}
 
@@ -21,7 +20,3 @@ color_of (suc (suc n)) = Blue
 -- the encoding of a color in one byte, whose number is below 3
 abbrev pub color_encoding : Encoding Color
 color_encoding = record { word = w8; code = code; value = color_of; IsCode = λ n. n < 3 }
-
--- that a number is a color's is a proposition
-pub color_codes : AreProps color_encoding
-color_codes n = hlevel props

@@ -1,3 +1,4 @@
 pub mod Color
 pub mod Spot
 pub mod SpotKeys
+pub mod Lemmas

@@ -5,9 +5,10 @@ ghost use Rattle.std.proofs.Common.{inl, refl};
 ghost use Rattle.rkyv_scan.specs.{U8};
 ghost use Rattle.rkyv_base.specs.{scalar_spec};
 ghost use Rattle.rkyv_base.specs.Lemmas.Scalar.{scalar_element, scalar_laws};
-ghost use Rattle.rkyv_user_types.specs.{variants_decide_equality};
-ghost use Rattle.test_user_types.specs.Color.{code, color_codes, color_encoding};
+ghost use Rattle.rkyv_user_types.specs.Lemmas.Variants.{variants_decide_equality};
+ghost use Rattle.test_user_types.specs.Color.{code, color_encoding};
 ghost use Rattle.test_user_types.specs.contracts.color.Color.{the_type};
+ghost use Rattle.test_user_types.specs.Lemmas.Color.{color_codes};
 
 use crate::color::Color;
 use rkyv_base::element::HasSpec;

@@ -1,7 +1,7 @@
 //! The archived form of spots.
 ghost use Rattle.rkyv_base.specs.{AtView, IsValidView};
-ghost use Rattle.test_user_types.specs.Spot.{SpotRepresents, spot_element, spot_format};
-ghost use Rattle.test_user_types.specs.Spot.{spot_is_format, spot_local, spot_spec};
+ghost use Rattle.test_user_types.specs.Spot.{SpotRepresents, spot_format, spot_spec};
+ghost use Rattle.test_user_types.specs.Lemmas.Spot.{spot_element, spot_is_format, spot_local};
 
 use crate::spot::Spot;
 use rkyv_base::archive::{Archive, ResolveResult, Serialize, WriteResult};

@@ -3,9 +3,9 @@ ghost use Rattle.std.specs.Prelude.{◌≡◌, IsTrue, MatchResult, ◌↔◌};
 ghost use Rattle.rkyv_base.specs.{AtView, IsValidView};
 ghost use Rattle.rkyv_keys.specs.{after_calls, at_view, at_views, nothing_fails};
 ghost use Rattle.test_user_types.specs.Spot.{SpotRepresents, spot_spec};
-ghost use Rattle.test_user_types.specs.SpotKeys.{spot_calls, spot_equivalence, spot_fits};
-ghost use Rattle.test_user_types.specs.SpotKeys.{spot_fits_its_equal, spot_key, spot_key_calls};
-ghost use Rattle.test_user_types.specs.SpotKeys.{spot_query, spot_same};
+ghost use Rattle.test_user_types.specs.SpotKeys.{spot_calls, spot_fits, spot_key_calls, spot_same};
+ghost use Rattle.test_user_types.specs.Lemmas.SpotKeys.{spot_equivalence, spot_fits_its_equal};
+ghost use Rattle.test_user_types.specs.Lemmas.SpotKeys.{spot_key, spot_query};
 
 use crate::spot::Spot;
 use crate::spot_archived::{ArchivedSpot, spot_of};

@@ -1,17 +1,8 @@
--- Elements for which all bytes of their size are valid.
+-- Lemmas: elements for which all bytes of their size are valid.
 use Rattle.std.specs.Prelude.{◌≡◌, ℕ, ◌%◌, ◌≤◌}
 use Rattle.std.proofs.Common.{refl, arith, sym, ◌∙◌}
 use Rattle.std.proofs.Props.{props}
-use Rattle.rkyv_base.specs.ElementSpecs.{ElementSpec, IsAlign, IsElement}
-
--- an element that is valid everywhere, without parts
-abbrev pub any_bytes : ℕ → ℕ → ElementSpec
-any_bytes size align = record {
-  size = size;
-  align = align;
-  is_valid = λ b p lo hi l. l ≡ lo;
-  fails = λ b p lo hi e. ⊥;
-}
+use Rattle.rkyv_base.specs.ElementSpecs.{IsAlign, IsElement, any_bytes}
 
 pub any_bytes-element : (size align : ℕ) → IsAlign align → size % align ≡ 0 → size ≤ 1073741824
     → IsElement (any_bytes size align)

@@ -5,9 +5,9 @@ use Rattle.std.proofs.Common.{arith, subst, sym, ◌∙◌, ap, inl, inr, length
 use Rattle.std.proofs.lemmas.List.{length-replicate}
 use Rattle.rkyv_base.specs.declared.pairs.EntryResolver.{EntryResolver}
 use Rattle.rkyv_base.specs.{ElementSpec, Format, IsElement, IsFormat, IsValidEntry, OccursAt}
-use Rattle.rkyv_base.specs.{PairImage, PairOverflows, PairParts, PairRepresents, RepresentsLocally}
-use Rattle.rkyv_base.specs.{entry_spec, pair_bytes, pair_format, size_of_whole, value_offset}
-use Rattle.rkyv_base.specs.{whole_size, written_as, zeros}
+use Rattle.rkyv_base.specs.{PairImage, PairOverflows, PairParts, PairRepresents, RepresentsAs}
+use Rattle.rkyv_base.specs.{RepresentsLocally, entry_spec, pair_bytes, pair_format, size_of_whole}
+use Rattle.rkyv_base.specs.{value_offset, whole_size, written_as, zeros}
 use Rattle.rkyv_base.specs.Lemmas.Bytes.{occurs_back, occurs_front, occurs_third}
 use Rattle.rkyv_base.specs.Lemmas.ElementSpec.{multiple_of_max, sum_multiple}
 use Rattle.rkyv_base.specs.Lemmas.Entry.{size_of_small}
@@ -16,7 +16,7 @@ use Rattle.rkyv_base.specs.Lemmas.Entry.{key_and_value_inside, same_parts}
 
 pub written_as-format : {X V R : Type 0} (as_value : X → V) (s : ElementSpec)
     (represents : List ℕ → ℕ → V → Type 0) (f : Format V R) → IsFormat s represents f
-    → IsFormat s (λ b p x. represents b p (as_value x)) (written_as as_value f)
+    → IsFormat s (RepresentsAs as_value represents) (written_as as_value f)
 written_as-format as_value s represents f laws = record {
   size_exact = λ x. laws.size_exact (as_value x);
   exclusive = λ x. laws.exclusive (as_value x);

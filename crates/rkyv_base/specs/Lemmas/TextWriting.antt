@@ -8,11 +8,11 @@ use Rattle.std.specs.Int.{Width, byte_len, cast_signed, cast_unsigned, from_le_b
 use Rattle.std.specs.Str.{IsUtf8}
 use mir.Val.{bits}
 use Rattle.rkyv_base.specs.declared.strings.TextResolver.{TextResolver}
-use Rattle.rkyv_base.specs.{IsArchiveWord, IsFormat, IsLong, IsValidText, IsWord, OccursAt, PartIn}
-use Rattle.rkyv_base.specs.{TextImage, TextOverflows, TextParts, TextReads, decode_length}
-use Rattle.rkyv_base.specs.{fixed_bytes, inline_bytes, inline_text, is_out_of_line, length_word}
-use Rattle.rkyv_base.specs.{out_of_line_begin, out_of_line_bytes, out_of_line_length, signed_at}
-use Rattle.rkyv_base.specs.{text_format, text_limit, text_size, text_spec, written_as}
+use Rattle.rkyv_base.specs.{IsArchiveWord, IsFormat, IsLong, IsTextOf, IsValidText, IsWord}
+use Rattle.rkyv_base.specs.{OccursAt, PartIn, TextImage, TextOverflows, TextParts, TextReads}
+use Rattle.rkyv_base.specs.{decode_length, fixed_bytes, inline_bytes, inline_text, is_out_of_line}
+use Rattle.rkyv_base.specs.{length_word, out_of_line_begin, out_of_line_bytes, out_of_line_length}
+use Rattle.rkyv_base.specs.{signed_at, text_format, text_limit, text_size, text_spec, written_as}
 use Rattle.rkyv_base.specs.Lemmas.Pairs.{written_as-format}
 use Rattle.rkyv_base.specs.Lemmas.Text.{by_archive_word}
 use Rattle.rkyv_base.specs.Lemmas.Text.{out_of_line_reads}
@@ -224,7 +224,7 @@ module _ (w : Width) (kind : IsArchiveWord w) where
 
   -- the same for any type that is written as a text
   pub text_as_format : {X : Type 0} (as_value : X → List ℕ)
-      → IsFormat (text_spec w) (λ b p x. TextReads w b p (as_value x))
+      → IsFormat (text_spec w) (IsTextOf w as_value)
       (written_as as_value (text_format w))
   text_as_format as_value =
       written_as-format as_value (text_spec w) (TextReads w) (text_format w) text_is_format

@@ -10,7 +10,7 @@ use Rattle.std.proofs.lemmas.List.Elements.{All-append}
 use Rattle.std.proofs.lemmas.Str.{IsCharBoundary-start}
 
 -- all bytes are below ff
-abbrev pub BelowFf : List ℕ → Type 0
+abbrev BelowFf : List ℕ → Type 0
 BelowFf xs = All (λ x. x < 255) xs
 
 below_nil : BelowFf []

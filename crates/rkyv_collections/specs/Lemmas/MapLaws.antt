@@ -11,12 +11,11 @@ use Rattle.rkyv_base.specs.Lemmas.Bytes.{agree_on_part}
 use Rattle.rkyv_base.specs.Lemmas.Entry.{entry_element, same_key}
 use Rattle.rkyv_base.specs.Lemmas.Pairs.{pair_is_format, pair_local}
 use Rattle.rkyv_base.specs.Lemmas.ElementSpec.{valid_at}
-use Rattle.rkyv_table.specs.{AreWrittenControls, IsValidTable, IsWrittenOf, TableRepresents}
-use Rattle.rkyv_table.specs.{WrittenAt, cap_at, capacity, hashes_of, home_positions, item_at}
-use Rattle.rkyv_table.specs.{items_of, table_controls}
+use Rattle.rkyv_table.specs.{AreWrittenControls, IsValidTable, IsValidWithin, IsWrittenOf}
+use Rattle.rkyv_table.specs.{TableRepresents, ValidPart, WrittenAt, cap_at, capacity, hashes_of}
+use Rattle.rkyv_table.specs.{home_positions, item_at, items_of, table_controls}
 use Rattle.rkyv_table.specs.Lemmas.TableSound.{table_is_format}
-use Rattle.rkyv_table.specs.Lemmas.ItemPositions.{IsValidWithin, ValidPart, item_is_valid}
-use Rattle.rkyv_table.specs.Lemmas.ItemPositions.{valid_part}
+use Rattle.rkyv_table.specs.Lemmas.ItemPositions.{item_is_valid, valid_part}
 use Rattle.rkyv_table.specs.Lemmas.SameHeader.{cap_same, len_same, pos_same}
 use Rattle.rkyv_table.proofs.WrittenTables.{home_count, home_pos, home_walked, table_written}
 use Rattle.rkyv_collections.specs.{MapRepresents, keyed, map_format, map_spec}

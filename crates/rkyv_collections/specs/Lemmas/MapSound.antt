@@ -9,7 +9,8 @@ use Rattle.rkyv_keys.specs.Lemmas.QueryLaws.{hashes_as_written}
 use Rattle.rkyv_keys.specs.{Comparison, FitsItsEqual, IsKey, IsQuery, hash_at, hash_of}
 use Rattle.rkyv_collections.specs.{MapRepresents, map_format, map_spec}
 use Rattle.rkyv_collections.specs.Lemmas.MapLaws.{map_is_format, represents_again}
-use Rattle.rkyv_table.specs.{listed, listed_format}
+use Rattle.rkyv_table.specs.{listed}
+use Rattle.rkyv_table.specs.Lemmas.Listed.{listed-format}
 
 module _ {State : Type 0} (hasher : Hasher State) (w : Width) {k v : ElementSpec} (kl : IsElement k)
     (vl : IsElement v)
@@ -56,7 +57,7 @@ module _ {State : Type 0} (hasher : Hasher State) (w : Width) {k v : ElementSpec
       (listed max factor (map_format w k v kf vf (hash_of hasher calls) factor))
   listed_map_sound max kind {can_read} {calls} {fits} {equal} {R} {Q} {kf} {vf} query native itself
       reads kw vw =
-      listed_format max factor (map_spec w k v)
+      listed-format max factor (map_spec w k v)
       (MapRepresents w k v key value (hash_at hasher key_calls) factor)
       (map_format w k v kf vf (hash_of hasher calls) factor)
       (map_sound kind query native itself reads kw vw)

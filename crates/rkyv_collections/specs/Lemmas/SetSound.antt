@@ -9,7 +9,8 @@ use Rattle.rkyv_scan.specs.{Hasher, HasherCall}
 use Rattle.rkyv_keys.specs.{Comparison, FitsItsEqual, IsKey, IsQuery, hash_at, hash_of}
 use Rattle.rkyv_collections.specs.{MapRepresents, SetRepresents, map_format, set_format, set_spec}
 use Rattle.rkyv_collections.specs.Lemmas.MapSound.{map_local, map_sound}
-use Rattle.rkyv_table.specs.{listed, listed_format, with_units}
+use Rattle.rkyv_table.specs.{listed, with_units}
+use Rattle.rkyv_table.specs.Lemmas.Listed.{listed-format}
 
 module _ {State : Type 0} (hasher : Hasher State) (w : Width) {k : ElementSpec} (kl : IsElement k)
     {A : Type 0} {key : List ℕ → ℕ → A → Type 0} {same : Comparison} {key_calls : List ℕ → ℕ
@@ -45,7 +46,7 @@ module _ {State : Type 0} (hasher : Hasher State) (w : Width) {k : ElementSpec} 
       (listed max factor (set_format w k kf (hash_of hasher calls) factor))
   listed_set_sound max kind {can_read} {calls} {fits} {equal} {R} {kf} query native itself reads
       kw =
-      listed_format max factor (set_spec w k) (SetRepresents w k key
+      listed-format max factor (set_spec w k) (SetRepresents w k key
       (hash_at hasher key_calls) factor)
       (set_format w k kf (hash_of hasher calls) factor)
       (set_sound kind query native itself reads kw)

@@ -6,9 +6,8 @@ use Rattle.std.specs.Borrow.{Bor}
 use Rattle.std.specs.Char.{to_ascii_uppercase}
 use Rattle.std.specs.Int.{Width}
 use Rattle.std.specs.Option.{is_some}
-use Rattle.rkyv_base.specs.{ElementSpec, Uppercases, text_spec}
+use Rattle.rkyv_base.specs.{ElementSpec, IsTextOf, Uppercases, text_spec}
 use Rattle.rkyv_keys.specs.{KeyLookup, first_pair}
-use Rattle.rkyv_keys.specs.Lemmas.OfTexts.{IsTextOf}
 use Rattle.rkyv_collections.specs.Map.MapAt.{FoundValueHasAt, MapAt, ValueQuery}
 use Rattle.rkyv_collections.specs.Map.MapSpec.{map_spec}
 use Rattle.rkyv_collections.specs.Map.MapFormat.{MapRepresents}

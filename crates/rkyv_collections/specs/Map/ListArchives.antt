@@ -7,16 +7,15 @@ use Rattle.std.specs.Int.{Width, w32}
 use Rattle.std.specs.Option.{option_map}
 use Rattle.std.specs.declared.vec.Vec.{Vec}
 use Rattle.rkyv_scan.specs.{fx_hasher, generic_kind, low_halves}
-use Rattle.rkyv_base.specs.{ElementSpec, Encoding, Format, IsAt, IsValidArchive, OpensNarrow}
-use Rattle.rkyv_base.specs.{ScalarRepresents, ToBytesFails, entry_spec, narrow_limit, scalar_format}
-use Rattle.rkyv_base.specs.{scalar_spec, text_at, text_format, text_spec, value_at, value_offset}
-use Rattle.rkyv_base.specs.{written_as}
+use Rattle.rkyv_base.specs.{ElementSpec, Encoding, Format, IsAt, IsTextOf, IsValidArchive}
+use Rattle.rkyv_base.specs.{OpensNarrow, ScalarRepresents, ToBytesFails, entry_spec, narrow_limit}
+use Rattle.rkyv_base.specs.{scalar_format, scalar_spec, text_at, text_format, text_spec, value_at}
+use Rattle.rkyv_base.specs.{value_offset, written_as}
 use Rattle.rkyv_base.specs.declared.errors.VerifyError.{VerifyError}
 use Rattle.rkyv_base.specs.declared.errors.WriteError.{WriteError}
 use Rattle.rkyv_base.specs.declared.view.View.{View}
 use Rattle.rkyv_keys.specs.{FoundValues, NativeKeys, first_value, hash_at, hash_of, same_bytes}
-use Rattle.rkyv_keys.specs.{text_calls}
-use Rattle.rkyv_keys.specs.Lemmas.OfTexts.{IsTextOf, text_key_calls}
+use Rattle.rkyv_keys.specs.{text_calls, text_key_calls}
 use Rattle.rkyv_table.specs.{TableResolver, listed, pos_found}
 use Rattle.rkyv_collections.specs.Map.{FindsFirstKey, IsValueAt, IsValueIn, map_bytes}
 use Rattle.rkyv_collections.specs.Map.MapSpec.{map_spec}

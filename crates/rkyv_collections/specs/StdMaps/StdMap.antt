@@ -11,7 +11,12 @@ use Rattle.rkyv_base.specs.declared.errors.ReadError.TheVariants.{Memory}
 use Rattle.rkyv_base.specs.declared.view.View.{View}
 use Rattle.rkyv_keys.specs.{DeserializeErrors, entry_deserialize_fails}
 use Rattle.rkyv_table.specs.{item_positions}
+use Rattle.rkyv_collections.specs.declared.std_maps.hashed.Hashed.{Hashed}
 use Rattle.rkyv_collections.specs.Map.MapSpec.{IsKeyPosAt}
+
+-- the map or set of std inside the wrapper
+abbrev pub inner : {M H : Type 0} → Hashed M H → M
+inner hashed = hashed.map
 
 module _ {A B : Type 0} (k v : ElementSpec) (key : List ℕ → ℕ → A → Type 0) (value : List ℕ → ℕ → B
     → Type 0) where

@@ -2,7 +2,8 @@
 
 ghost use Rattle.std.specs.Prelude.{◌≡◌};
 ghost use Rattle.rkyv_keys.specs.{hash_at, hash_of};
-ghost use Rattle.rkyv_table.specs.{listed, written_as_each, written_as_each-format};
+ghost use Rattle.rkyv_table.specs.{listed, written_as_each};
+ghost use Rattle.rkyv_table.specs.Lemmas.Listed.{written_as_each-format};
 ghost use Rattle.rkyv_collections.specs.{MapRepresents, map_format, map_spec};
 ghost use Rattle.rkyv_collections.specs.Lemmas.MapSound.{listed_map_sound, map_local};
 

@@ -1,5 +1,6 @@
 //! The header of a map as an element.
-ghost use Rattle.rkyv_collections.specs.{map_element, map_spec};
+ghost use Rattle.rkyv_collections.specs.{map_spec};
+ghost use Rattle.rkyv_collections.specs.Lemmas.MapElement.{map_element};
 
 use crate::map::HashMapOf;
 use rkyv_base::element::{Element, HasSpec, PartRange};

@@ -3,10 +3,10 @@
 //! `deserialize_std` takes the hash state of the new map. `Deserialize` takes the default one.
 
 ghost use Rattle.std.specs.Prelude.{◌+◌};
-ghost use Rattle.rkyv_base.specs.{IsAt, IsValidView, PairRepresents, archive_of, pos_of};
-ghost use Rattle.rkyv_base.specs.{value_offset};
+ghost use Rattle.rkyv_base.specs.{IsAt, IsValidView, PairRepresents, RepresentsAs, archive_of};
+ghost use Rattle.rkyv_base.specs.{pos_of, value_offset};
 ghost use Rattle.rkyv_keys.specs.{Deserializes};
-ghost use Rattle.rkyv_collections.specs.{InsertsRead, ReadsStdMap, StdMapRepresents};
+ghost use Rattle.rkyv_collections.specs.{InsertsRead, ReadsStdMap, StdMapRepresents, inner};
 ghost use Rattle.rkyv_collections.specs.{insert_pair_fails, map_spec, map_view, std_map_fails};
 
 use crate::map::{ArchivedHashMap, HashMapOf};
@@ -117,8 +117,8 @@ impl<K: Deserialize<A>, V: Deserialize<B>, H, W: Width, A: Eq + Hash + Drop, B: 
         view: View<'_, Self>,
     ) -> Result<Hashed<HashMap<A, B>, H>, ReadError>
         requires { IsValidView (map_spec W.word K.spec V.spec) view }
-        ensures { Deserializes (λ b p x. StdMapRepresents K.spec V.spec K.represents V.represents
-            W.word A.eq b p x.map)
+        ensures { Deserializes (RepresentsAs inner
+            (StdMapRepresents K.spec V.spec K.represents V.represents W.word A.eq))
             (std_map_fails W.word K.spec V.spec K.deserialize_fails V.deserialize_fails)
             view.entry result }
     {

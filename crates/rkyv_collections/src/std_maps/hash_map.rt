@@ -1,11 +1,11 @@
 //! Maps of std as values that archived maps represent, and their serialization.
 
-ghost use Rattle.rkyv_base.specs.{written_as};
+ghost use Rattle.rkyv_base.specs.{RepresentsAs, written_as};
 ghost use Rattle.rkyv_base.specs.Lemmas.Pairs.{written_as-format};
 ghost use Rattle.rkyv_keys.specs.{hash_at, hash_of};
 ghost use Rattle.rkyv_table.specs.{listed};
-ghost use Rattle.rkyv_collections.specs.{EntriesRepresent, StdMapRepresents, map_format, map_spec};
-ghost use Rattle.rkyv_collections.specs.{of_entries};
+ghost use Rattle.rkyv_collections.specs.{EntriesRepresent, StdMapRepresents, inner, map_format};
+ghost use Rattle.rkyv_collections.specs.{map_spec, of_entries};
 ghost use Rattle.rkyv_collections.specs.Lemmas.MapSound.{listed_map_sound};
 ghost use Rattle.rkyv_collections.specs.Lemmas.StdMapLaws.{entries_local, entries_sound};
 
@@ -35,9 +35,8 @@ impl<A: Eq + Hash, B, T: BuildHasher, H, W: Width, K: Represents<A>, V: Represen
 impl<A: Eq + Hash, B, T: BuildHasher, H, W: Width, K: Represents<A>, V: Represents<B>> Represents<
     Hashed<HashMap<A, B, T>, H>,
 > for HashMapOf<K, V, H, W> {
-    ghost represents = { λ b p x. StdMapRepresents K.spec V.spec K.represents
-        V.represents W.word A.eq b p
-        x.map };
+    ghost represents = { RepresentsAs inner
+        (StdMapRepresents K.spec V.spec K.represents V.represents W.word A.eq) };
 
     ghost local = { λ x. entries_local K.spec V.spec K.laws V.laws W.word A.eq K.local V.local
         x.map.entries };

@@ -1,14 +1,14 @@
 //! Sets of std: archiving, comparing and deserializing them.
 
 ghost use Rattle.std.specs.Prelude.{IsTrue, MatchResult, ◌↔◌};
-ghost use Rattle.rkyv_base.specs.{AtView, IsValidView, unit_format, unit_represents, unit_spec};
-ghost use Rattle.rkyv_base.specs.{written_as};
+ghost use Rattle.rkyv_base.specs.{AtView, IsValidView, RepresentsAs, unit_format, unit_represents};
+ghost use Rattle.rkyv_base.specs.{unit_spec, written_as};
 ghost use Rattle.rkyv_base.specs.Lemmas.Empty.{unit_element, unit_is_format, unit_local};
 ghost use Rattle.rkyv_base.specs.Lemmas.Pairs.{written_as-format};
-ghost use Rattle.rkyv_keys.specs.{hash_at, hash_of};
+ghost use Rattle.rkyv_keys.specs.{Deserializes, hash_at, hash_of};
 ghost use Rattle.rkyv_table.specs.{listed, with_units};
 ghost use Rattle.rkyv_collections.specs.{EntriesEqual, EntriesRepresent, InsertsKey, ReadsStdSet};
-ghost use Rattle.rkyv_collections.specs.{StdSetEquals, StdSetEqualsIn, StdSetRepresents};
+ghost use Rattle.rkyv_collections.specs.{StdSetEquals, StdSetEqualsIn, StdSetRepresents, inner};
 ghost use Rattle.rkyv_collections.specs.{insert_key_fails, map_format, of_entries, queried};
 ghost use Rattle.rkyv_collections.specs.{set_spec, set_view, std_set_fails};
 ghost use Rattle.rkyv_collections.specs.Lemmas.MapSound.{listed_map_sound};
@@ -47,7 +47,7 @@ impl<A: Eq + Hash, T: BuildHasher, H, W: Width, K: Represents<A>> Represents<Has
 impl<A: Eq + Hash, T: BuildHasher, H, W: Width, K: Represents<A>> Represents<
     Hashed<HashSet<A, T>, H>,
 > for HashSetOf<K, H, W> {
-    ghost represents = { λ b p x. StdSetRepresents K.spec K.represents W.word A.eq b p x.map };
+    ghost represents = { RepresentsAs inner (StdSetRepresents K.spec K.represents W.word A.eq) };
 
     ghost local = { λ x. entries_local K.spec unit_spec K.laws unit_element W.word A.eq K.local
         unit_local (with_units x.map.keys) };
@@ -272,9 +272,8 @@ impl<K: Deserialize<A>, H, W: Width, A: Eq + Hash + Drop> Deserialize<HashSet<A>
     #[inline]
     fn deserialize(alloc: Global, view: View<'_, Self>) -> Result<HashSet<A>, ReadError>
         requires { IsValidView (set_spec W.word K.spec) view }
-        ensures { MatchResult result
-            (AtView (StdSetRepresents K.spec K.represents W.word A.eq) view.entry)
-            (AtView (std_set_fails W.word K.spec K.deserialize_fails) view.entry) }
+        ensures { Deserializes (StdSetRepresents K.spec K.represents W.word A.eq)
+            (std_set_fails W.word K.spec K.deserialize_fails) view.entry result }
     {
         ArchivedHashSet::of(view).deserialize_std(alloc, BuildHasherDefault::new())
     }
@@ -287,9 +286,9 @@ impl<K: Deserialize<A>, H, W: Width, A: Eq + Hash + Drop> Deserialize<Hashed<Has
     #[inline]
     fn deserialize(alloc: Global, view: View<'_, Self>) -> Result<Hashed<HashSet<A>, H>, ReadError>
         requires { IsValidView (set_spec W.word K.spec) view }
-        ensures { MatchResult result
-            (λ x. AtView (StdSetRepresents K.spec K.represents W.word A.eq) view.entry x.map)
-            (AtView (std_set_fails W.word K.spec K.deserialize_fails) view.entry) }
+        ensures { Deserializes
+            (RepresentsAs inner (StdSetRepresents K.spec K.represents W.word A.eq))
+            (std_set_fails W.word K.spec K.deserialize_fails) view.entry result }
     {
         let set = ArchivedHashSet::of(view).deserialize_std(alloc, BuildHasherDefault::new())?;
         Ok(Hashed::new(set))

@@ -9,6 +9,7 @@ use Rattle.std.proofs.Math.Nat.{mul-le-mul_right}
 use Rattle.std.proofs.Props.{props}
 use Rattle.std.specs.Coded.{×_prop}
 use Rattle.std.proofs.lemmas.List.Elements.{All-cons, All-head, All-map, All-nil, All-tail}
+use Rattle.rkyv_scan.specs.{AllBelow}
 use Rattle.rkyv_base.specs.declared.errors.VerifyError.{VerifyError}
 use Rattle.rkyv_base.specs.{AgreeOn, ElementSpec, IsAlign, IsArchiveWord, IsElement, PartIn}
 use Rattle.rkyv_base.specs.{number_at}
@@ -17,13 +18,12 @@ use Rattle.rkyv_base.specs.Lemmas.Props.{only_one, prop_by}
 use Rattle.rkyv_base.specs.Lemmas.Parts.{part_exclusive, part_one, part_one_failure, part_prop}
 use Rattle.rkyv_base.specs.Lemmas.Parts.{part_wider}
 use Rattle.rkyv_base.specs.Lemmas.Text.{by_archive_word}
-use Rattle.rkyv_table.specs.{AreValidAt, FirstFails, IsValidTable, IsWalked, cap_at, item_at}
-use Rattle.rkyv_table.specs.{item_positions, len_at, table_controls, table_spec, walk}
-use Rattle.rkyv_table.specs.Lemmas.ItemPositions.{IsValidWithin, item_is_valid, valid_part}
-use Rattle.rkyv_table.specs.Lemmas.ItemPositions.{within_lower}
+use Rattle.rkyv_table.specs.{AreValidAt, FirstFails, IsValidTable, IsValidWithin, IsWalked, cap_at}
+use Rattle.rkyv_table.specs.{item_at, item_positions, len_at, table_controls, table_spec, walk}
+use Rattle.rkyv_table.specs.{within_lower}
+use Rattle.rkyv_table.specs.Lemmas.ItemPositions.{item_is_valid, valid_part}
 use Rattle.rkyv_table.specs.Lemmas.SameControls.{same_controls}
-use Rattle.rkyv_table.specs.Lemmas.ValidItemLaws.{AllBelow, all_between, all_exclusive, all_lower}
-use Rattle.rkyv_table.specs.Lemmas.ValidItemLaws.{all_local}
+use Rattle.rkyv_table.specs.Lemmas.ValidItemLaws.{all_between, all_exclusive, all_local, all_lower}
 use Rattle.rkyv_table.specs.Lemmas.ValidItemLaws.{all_one, all_one_failure, all_prop}
 use Rattle.rkyv_table.specs.Lemmas.SameHeader.{cap_same, item_same, len_same}
 use Rattle.rkyv_table.specs.Lemmas.TableLaws.{table_element}

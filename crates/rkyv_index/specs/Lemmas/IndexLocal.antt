@@ -13,9 +13,8 @@ use Rattle.rkyv_base.specs.Lemmas.Bytes.{agree_on_part}
 use Rattle.rkyv_base.specs.Lemmas.Entry.{entry_element, same_key}
 use Rattle.rkyv_base.specs.Lemmas.Pairs.{pair_local}
 use Rattle.rkyv_keys.specs.{Comparison, HashLocal, IsKey, hash_at}
-use Rattle.rkyv_table.specs.{IsWalked, WrittenAt, cap_at, home_positions, item_at, len_at}
-use Rattle.rkyv_table.specs.{table_controls}
-use Rattle.rkyv_table.specs.Lemmas.ItemPositions.{IsValidWithin}
+use Rattle.rkyv_table.specs.{IsValidWithin, IsWalked, WrittenAt, cap_at, home_positions, item_at}
+use Rattle.rkyv_table.specs.{len_at, table_controls}
 use Rattle.rkyv_table.specs.Lemmas.ValidItemLaws.{all_between}
 use Rattle.rkyv_table.specs.Lemmas.SameHeader.{cap_same, len_same}
 use Rattle.rkyv_table.specs.Lemmas.TableLaws.{table_element}

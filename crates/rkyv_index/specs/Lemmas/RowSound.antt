@@ -30,11 +30,11 @@ module _ {X R : Type 0} (s : ElementSpec) (laws : IsElement s) (represents : Lis
       ap length i.7 ∙ length-append i.2 i.3 ∙ omega (arith, n, m, times_suc (length xs) s.size)
 
   module _ (c : List ℕ) (begin : ℕ) where
-    abbrev pub at : ℕ → ℕ
+    abbrev at : ℕ → ℕ
     at i = begin + i * s.size
 
     -- each value of `xs` is valid and represented at its position, counted from `n` on
-    abbrev pub RowRepresent : ℕ → List X → Type 0
+    abbrev RowRepresent : ℕ → List X → Type 0
     RowRepresent n xs = (i : ℕ) (x : X) → slice_get xs i ≡ Some x
         → ValidAt s c (at (n + i)) × represents c
         (at (n + i)) x

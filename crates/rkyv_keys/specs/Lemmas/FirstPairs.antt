@@ -1,16 +1,11 @@
 -- Lemmas: a value found at a view is the one that the bytes there represent.
-use Rattle.std.specs.Prelude.{◌≡◌, ℕ, List, None, Option, Some}
+use Rattle.std.specs.Prelude.{◌≡◌, ℕ, List, None, Some}
 use Rattle.std.proofs.Common.{◌∙◌, ap, refl, sym}
 use Rattle.std.specs.Borrow.{Bor}
 use Rattle.std.specs.Int.{Width}
 use Rattle.rkyv_base.specs.{AtView, Encoding, IsAt, ScalarRepresents, value_at}
 use Rattle.rkyv_base.specs.declared.view.View.{View}
-use Rattle.rkyv_keys.specs.{FoundValues, IsFoundValue, found_scalars, found_texts, found_views}
-
--- each value found as a view is found as a value
-abbrev pub FindsByView : {V B : Type 0} → FoundValues V B → Type 0
-FindsByView {V} {B} values = (found : Option (View V)) (value : Option B)
-    → IsFoundValue values.represents found value → values.IsFound found value
+use Rattle.rkyv_keys.specs.{FindsByView, found_scalars, found_texts, found_views}
 
 pub view_by_view : {V B : Type 0} (represents : List ℕ → ℕ → B → Type 0)
     → FindsByView (found_views {V = V} represents)

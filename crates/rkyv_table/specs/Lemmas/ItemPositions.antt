@@ -1,4 +1,4 @@
--- The positions of the items of a valid table, by the position of its buckets.
+-- Lemmas: the positions of the items of a valid table, by the position of its buckets.
 use Rattle.std.proofs.Common.{◌≡◌, ℕ, zero, suc, ◌+◌, ◌-◌, ◌*◌, ◌<◌, ◌≤◌, sym, ap, subst, ◌∙◌}
 use Rattle.std.proofs.Common.{arith, inl, inr, List, ◌∷◌, Bool, true, false, filter, slice_index}
 use Rattle.std.proofs.Common.{slice_range, pos, ◌+ℤ◌}
@@ -8,35 +8,13 @@ use Rattle.std.specs.Prelude.{unsigned_abs}
 use Rattle.std.proofs.Math.Nat.{add-mul}
 use Rattle.std.proofs.lemmas.Bool.{both_ways, cases_Bool, cases_eq, lt-ltb}
 use Rattle.std.proofs.lemmas.Int.{ints}
-use Rattle.rkyv_base.specs.{ElementSpec, IsElement, PartIn, signed_at}
+use Rattle.rkyv_base.specs.{ElementSpec, IsElement, signed_at}
 use Rattle.rkyv_scan.specs.{is_full}
-use Rattle.rkyv_table.specs.{AreValidAt, AreValidItems, IsPart, IsValidTable, IsWalked, bucket_at}
-use Rattle.rkyv_table.specs.{cap_at, control_count, controls_at, controls_pos, decode_begin}
-use Rattle.rkyv_table.specs.{item_at, len_at, part_size, table_controls, walk}
+use Rattle.rkyv_table.specs.{AreValidAt, AreValidItems, IsValidTable, IsValidWithin, IsWalked}
+use Rattle.rkyv_table.specs.{ValidPart, bucket_at, cap_at, control_count, controls_at, controls_pos}
+use Rattle.rkyv_table.specs.{decode_begin, item_at, table_controls, walk, within_lower}
 use Rattle.rkyv_table.specs.Lemmas.ValidItemLaws.{all_between}
 use Rattle.rkyv_table.specs.Lemmas.TableLaws.{bucket_inside}
-
--- the value at `q` is valid in a range of its own between `lo` and `hi`. It leaves a lower end
--- that is at most `l`
-pub record IsValidWithin (s : ElementSpec) (b : List ℕ) (q lo hi l : ℕ) : Type 0 where
-  pub lower : ℕ
-  pub rest : ℕ
-  pub above : lo ≤ lower
-  pub below : lower ≤ hi
-  pub ends : rest ≤ l
-  pub is_valid : s.is_valid b q lower hi rest
-
--- the same with a lesser lower end of the range
-abbrev pub within_lower : (s : ElementSpec) (b : List ℕ) (q lo lo' hi l : ℕ) → lo' ≤ lo
-    → IsValidWithin s b q lo hi l → IsValidWithin s b q lo' hi l
-within_lower s b q lo lo' hi l less h = record {
-  lower = h.lower;
-  rest = h.rest;
-  above = omega (arith, less, h.above);
-  below = h.below;
-  ends = h.ends;
-  is_valid = h.is_valid;
-}
 
 module _ (s : ElementSpec) (law : IsElement s) (at : ℕ → ℕ) where
   -- each of several values that are valid in order is valid within the range
@@ -105,14 +83,6 @@ module _ (w : Width) (size : ℕ) (b : List ℕ) (p begin : ℕ) (decoded : pos 
       let m : cap * size ≡ (cap - (i + 1)) * size + (i + 1) * size =
       ap (λ x. x * size) e ∙ add-mul (cap - (i + 1)) (i + 1) size in
       ap (λ z. z - (i + 1) * size) decoded_pos ∙ omega (arith, m)
-
--- the buckets and the control bytes of a valid table whose header has buckets
-pub record ValidPart (w : Width) (s : ElementSpec) (b : List ℕ) (p lo hi l : ℕ) : Type 0 where
-  pub begin : ℕ
-  pub part : PartIn (decode_begin w s.size b p) (part_size s.size
-      (cap_at w b p)) s.align lo hi begin
-  pub is : IsPart s b (cap_at w b p) (len_at w b p) lo begin
-  pub ends : l ≡ begin + part_size s.size (cap_at w b p)
 
 module _ (w : Width) (s : ElementSpec) (law : IsElement s) (b : List ℕ) (p lo hi l : ℕ)
     (h : IsValidTable w s b p lo hi l) where

@@ -7,9 +7,8 @@ use Rattle.rkyv_base.specs.{ElementSpec, Format, IsAlign, IsElement, IsFormat, O
 use Rattle.rkyv_base.specs.Lemmas.Bytes.{occurs_back, occurs_front}
 use Rattle.rkyv_base.specs.Lemmas.ElementSpec.{by_align, sum_multiple}
 use Rattle.rkyv_table.specs.Lemmas.Buckets.{images_length}
-use Rattle.rkyv_table.specs.{AreValidAt, SlotImages, SlotParts, bucket_at}
+use Rattle.rkyv_table.specs.{AreValidAt, SlotImages, SlotParts, bucket_at, filled_from}
 use Rattle.rkyv_table.specs.Lemmas.ValidItemLaws.{all_lower}
-use Rattle.rkyv_table.specs.Lemmas.SlotWalk.{filled_from}
 
 zero_times : (n : ℕ) → 0 * n ≡ 0
 zero_times n = omega arith
@@ -37,7 +36,7 @@ module _ {X R : Type 0} (s : ElementSpec) (laws : IsElement s) (represents : Lis
   at = bucket_at s.size begin cap
 
   -- each item is represented in its bucket, counted from `b` on
-  abbrev pub SlotsRepresent : ℕ → List (Option X) → Type 0
+  abbrev SlotsRepresent : ℕ → List (Option X) → Type 0
   SlotsRepresent b ss = (i : ℕ) (x : X) → slice_get ss i ≡ Some (Some x)
       → represents c (at (b + i)) x
 

@@ -1,4 +1,4 @@
--- The full buckets of a written table are the slots that have an item.
+-- Lemmas: the full buckets of a written table are the slots that have an item.
 use Rattle.std.proofs.Common.{arith, refl, sym, ◌∙◌, ap, inl, inr, get_or, zero}
 use Rattle.std.proofs.lemmas.Bool.{cases_Bool, eqb-true, le-ltb, lt-ltb, not-false}
 use Rattle.std.proofs.lemmas.List.{get_or_default}
@@ -9,13 +9,7 @@ use Rattle.std.specs.List.{list_any, range_with_len}
 use Rattle.std.specs.Prelude.{◌≡◌, ℕ, suc, ◌+◌, ◌^◌, ◌<◌, List, [], ◌∷◌, Bool, true, false, eqb}
 use Rattle.std.specs.Prelude.{None, Option, Some, filter, length, slice_get, slice_index}
 use Rattle.rkyv_scan.specs.{is_full}
-use Rattle.rkyv_table.specs.{ArePlaced, filled, hashes_of, is_free, items_of, walk}
-
--- the buckets from `b` on whose slots have an item
-abbrev pub filled_from : {X : Type 0} → ℕ → List (Option X) → List ℕ
-filled_from b [] = []
-filled_from b (None ∷ ss) = filled_from (b + 1) ss
-filled_from b (Some x ∷ ss) = b ∷ filled_from (b + 1) ss
+use Rattle.rkyv_table.specs.{ArePlaced, filled, filled_from, hashes_of, is_free, items_of, walk}
 
 pub filled_count : {X : Type 0} (b : ℕ) (ss : List (Option X))
     → length (filled_from b ss) ≡ filled ss
@@ -24,7 +18,7 @@ filled_count b (None ∷ ss) = filled_count (b + 1) ss
 filled_count b (Some x ∷ ss) = ap suc (filled_count (b + 1) ss)
 
 -- a test of buckets that is `true` if and only if the slot has an item
-abbrev pub TestsFull : {X : Type 0} → (ℕ → Bool) → ℕ → List (Option X) → Type 0
+abbrev TestsFull : {X : Type 0} → (ℕ → Bool) → ℕ → List (Option X) → Type 0
 TestsFull {X = X} full b ss = ((i : ℕ) → slice_get ss i ≡ Some None → full (b + i) ≡ false)
     × ((i : ℕ) (x : X) → slice_get ss i ≡ Some (Some x) → full (b + i) ≡ true)
 

@@ -7,7 +7,8 @@ use Rattle.std.proofs.Props.{props}
 use Rattle.std.proofs.lemmas.Bool.{cases_lt}
 use Rattle.std.proofs.Math.Nat.{mul-le-mul_right, mul-zero}
 use Rattle.std.proofs.lemmas.Nat.{mul-mod}
-use Rattle.rkyv_scan.specs.{is_full}
+use Rattle.rkyv_scan.specs.{AllBelow, is_full}
+use Rattle.rkyv_scan.proofs.Indices.{range_below}
 use Rattle.rkyv_base.specs.declared.errors.VerifyError.{VerifyError}
 use Rattle.rkyv_base.specs.declared.errors.VerifyError.TheVariants.{UnwrappedControlByte}
 use Rattle.rkyv_base.specs.{AgreeOn, ElementSpec, IsAlign, IsArchiveWord, IsElement, PartIn}
@@ -20,9 +21,8 @@ use Rattle.rkyv_base.specs.Lemmas.Text.{by_archive_word}
 use Rattle.rkyv_table.specs.Table.Header.{cap_at, decode_begin, len_at}
 use Rattle.rkyv_table.specs.Controls.Numbers.{control_count}
 use Rattle.rkyv_table.specs.Table.ValidItems.{AreValidAt}
-use Rattle.rkyv_table.specs.Lemmas.ValidItemLaws.{AllBelow, all_exclusive, all_local, all_lower}
-use Rattle.rkyv_table.specs.Lemmas.ValidItemLaws.{all_one, all_prop}
-use Rattle.rkyv_table.specs.Lemmas.ValidItemLaws.{all_one_failure, range_below}
+use Rattle.rkyv_table.specs.Lemmas.ValidItemLaws.{all_exclusive, all_local, all_lower, all_one}
+use Rattle.rkyv_table.specs.Lemmas.ValidItemLaws.{all_one_failure, all_prop}
 use Rattle.rkyv_table.specs.Controls.Placing.{AreValidControls, IsWrapped, walk}
 use Rattle.rkyv_table.specs.Controls.Wrapping.{FirstUnwrapped}
 use Rattle.rkyv_table.specs.Lemmas.SameHeader.{begin_same, cap_same, len_same}

@@ -16,11 +16,12 @@ use Rattle.rkyv_table.specs.Lemmas.Buckets.{images_length}
 use Rattle.rkyv_table.specs.{ArePlaced, AreValidAt, AreValidControls, AreWrittenControls}
 use Rattle.rkyv_table.specs.{BucketsRepresent, IsHeader, IsPart, IsValidTable, TableAt, TableBytes}
 use Rattle.rkyv_table.specs.{TableParts, TableRepresents, TableResolver, bucket_at, cap_at}
-use Rattle.rkyv_table.specs.{capacity, controls_at, decode_begin, hashes_of, header_bytes, len_at}
-use Rattle.rkyv_table.specs.{part_size, resolved_capacity, table_format, table_spec, walk}
+use Rattle.rkyv_table.specs.{capacity, controls_at, decode_begin, filled_from, hashes_of}
+use Rattle.rkyv_table.specs.{header_bytes, len_at, part_size, resolved_capacity, table_format}
+use Rattle.rkyv_table.specs.{table_spec, walk}
 use Rattle.rkyv_table.specs.Lemmas.HeaderReads.{cap_reads, distance_reads, header_length, len_reads}
 use Rattle.rkyv_table.specs.Lemmas.SlotSound.{slots_sound}
-use Rattle.rkyv_table.specs.Lemmas.SlotWalk.{filled_count, filled_from, walk_filled}
+use Rattle.rkyv_table.specs.Lemmas.SlotWalk.{filled_count, walk_filled}
 
 -- some bucket stays empty
 pub capacity_above : (len : ℕ) (factor : ℕ × ℕ) → 0 < len → len < capacity len factor
@@ -51,7 +52,7 @@ module _ {X R : Type 0} (s : ElementSpec) (laws : IsElement s) (represents : Lis
 
   module _ (z : ℕ) (bytes : List ℕ) (t : TableBytes s f slots controls p z bytes)
       (sits : OccursAt c p bytes) where
-    abbrev pub begin : ℕ
+    abbrev begin : ℕ
     begin = round_up (p + length t.part) s.align
 
     abbrev pad : List ℕ

@@ -1,30 +1,14 @@
--- Laws of values at several positions, validated in order.
-use Rattle.std.specs.Prelude.{◌≡◌, ℕ, zero, suc, ◌+◌, ◌<◌, ◌≤◌, ⊤, Bool, List, [], ◌∷◌, filter}
-use Rattle.std.specs.List.{range_with_len}
+-- Lemmas: laws of values at several positions, validated in order.
+use Rattle.std.specs.Prelude.{◌≡◌, ℕ, ◌+◌, ◌<◌, ◌≤◌, List, [], ◌∷◌}
 use Rattle.std.specs.Coded.{×_prop}
 use Rattle.std.proofs.Common.{refl, arith, subst, sym, ◌∙◌, inl, inr}
 use Rattle.std.proofs.Props.{props}
-use Rattle.std.proofs.lemmas.Bool.{cases_Bool}
+use Rattle.rkyv_scan.specs.{AllBelow}
 use Rattle.rkyv_base.specs.declared.errors.VerifyError.{VerifyError}
 use Rattle.rkyv_base.specs.{AgreeOn, ElementSpec, IsElement}
 use Rattle.rkyv_base.specs.Lemmas.Bytes.{agree_on_part}
 use Rattle.rkyv_base.specs.Lemmas.Props.{only_one, prop_by}
 use Rattle.rkyv_table.specs.Table.ValidItems.{AreValidAt, FirstFails}
-
--- all are below `n`
-abbrev pub AllBelow : ℕ → List ℕ → Type 0
-AllBelow n [] = ⊤
-AllBelow n (i ∷ is) = (i < n) × AllBelow n is
-
-filter_below : (P : ℕ → Bool) (a n m : ℕ) → a + n ≤ m → AllBelow m (filter P (range_with_len a n))
-filter_below P a zero m h = tt
-filter_below P a (suc n) m h = elim (cases_Bool (P a)) [
-  | inl t ↦ rw t (omega arith, filter_below P (a + 1) n m (omega arith))
-  | inr f ↦ rw f (filter_below P (a + 1) n m (omega arith))
-]
-
-pub range_below : (P : ℕ → Bool) (n : ℕ) → AllBelow n (filter P (range_with_len 0 n))
-range_below P n = filter_below P 0 n n (omega arith)
 
 module _ (s : ElementSpec) (law : IsElement s) (at : ℕ → ℕ) where
   pub all_between : (b : List ℕ) (hi : ℕ) (is : List ℕ) (lo l : ℕ) → lo ≤ hi

@@ -90,3 +90,11 @@ table_spec w s = record {
   is_valid = IsValidTable w s;
   fails = TableFails w s;
 }
+
+-- the buckets and the control bytes of a valid table whose header has buckets
+pub record ValidPart (w : Width) (s : ElementSpec) (b : List ℕ) (p lo hi l : ℕ) : Type 0 where
+  pub begin : ℕ
+  pub part : PartIn (decode_begin w s.size b p) (part_size s.size
+      (cap_at w b p)) s.align lo hi begin
+  pub is : IsPart s b (cap_at w b p) (len_at w b p) lo begin
+  pub ends : l ≡ begin + part_size s.size (cap_at w b p)

@@ -12,6 +12,12 @@ filled [] = 0
 filled (None ∷ ss) = filled ss
 filled (Some x ∷ ss) = suc (filled ss)
 
+-- the buckets from `b` on whose slots have an item
+abbrev pub filled_from : {X : Type 0} → ℕ → List (Option X) → List ℕ
+filled_from b [] = []
+filled_from b (None ∷ ss) = filled_from (b + 1) ss
+filled_from b (Some x ∷ ss) = b ∷ filled_from (b + 1) ss
+
 -- how items are written. `spec`: spec of their elements, `format`: their format
 pub record ItemFormat (X R : Type 0) : Type 1 where
   pub spec : ElementSpec

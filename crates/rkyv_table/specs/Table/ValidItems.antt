@@ -1,5 +1,6 @@
 -- Values at several positions, validated in order.
 use Rattle.std.specs.Prelude.{◌≡◌, ℕ, ◌≤◌, ◌⊎◌, List, [], ◌∷◌, MatchResult, Result}
+use Rattle.std.proofs.Math.Nat.{le_trans}
 use Rattle.rkyv_base.specs.declared.errors.VerifyError.{VerifyError}
 use Rattle.rkyv_base.specs.{ElementSpec}
 
@@ -25,3 +26,25 @@ abbrev pub ChecksValue : ElementSpec → List ℕ → ℕ → ℕ → ℕ → Re
 ChecksValue s b p lo hi result = MatchResult result
     (λ rest. (lo ≤ rest) × (rest ≤ hi) × s.is_valid b p lo hi rest)
     (s.fails b p lo hi)
+
+-- the value at `q` is valid in a range of its own between `lo` and `hi`. It leaves a lower end
+-- that is at most `l`
+pub record IsValidWithin (s : ElementSpec) (b : List ℕ) (q lo hi l : ℕ) : Type 0 where
+  pub lower : ℕ
+  pub rest : ℕ
+  pub above : lo ≤ lower
+  pub below : lower ≤ hi
+  pub ends : rest ≤ l
+  pub is_valid : s.is_valid b q lower hi rest
+
+-- the same with a lesser lower end of the range
+abbrev pub within_lower : (s : ElementSpec) (b : List ℕ) (q lo lo' hi l : ℕ) → lo' ≤ lo
+    → IsValidWithin s b q lo hi l → IsValidWithin s b q lo' hi l
+within_lower s b q lo lo' hi l less h = record {
+  lower = h.lower;
+  rest = h.rest;
+  above = le_trans less h.above;
+  below = h.below;
+  ends = h.ends;
+  is_valid = h.is_valid;
+}

@@ -2,8 +2,8 @@
 ghost use Rattle.std.specs.Prelude.{[], length, ⊤, ◌≡◌};
 ghost use Rattle.std.specs.Int.{w32};
 ghost use Rattle.std.proofs.Common.{inl, inr, lit≤, refl};
-ghost use Rattle.rkyv_base.specs.Lemmas.AnyBytes.{any_bytes, any_bytes-element};
-ghost use Rattle.rkyv_base.specs.{no_overflow, nothing_next, scalar_spec, unsigned};
+ghost use Rattle.rkyv_base.specs.Lemmas.AnyBytes.{any_bytes-element};
+ghost use Rattle.rkyv_base.specs.{any_bytes, no_overflow, nothing_next, scalar_spec, unsigned};
 ghost use Rattle.rkyv_base.specs.Lemmas.Numbers.{unsigned_codes};
 ghost use Rattle.rkyv_base.specs.Lemmas.Scalar.{scalar_element, scalar_laws};
 

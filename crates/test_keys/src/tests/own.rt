@@ -3,9 +3,10 @@ ghost use Rattle.std.specs.Prelude.{◌≡◌, MatchResult};
 ghost use Rattle.std.specs.Int.{w32};
 ghost use Rattle.rkyv_base.specs.{AtView, IsValidView, number_at};
 ghost use Rattle.rkyv_keys.specs.{after_calls, at_view, at_views};
-ghost use Rattle.test_keys.specs.LowByte.{byte_call, low_calls, low_element, low_equivalence};
-ghost use Rattle.test_keys.specs.LowByte.{low_fits, low_key, low_local, low_query};
-ghost use Rattle.test_keys.specs.LowByte.{low_fails, low_represents, low_same, low_spec};
+ghost use Rattle.test_keys.specs.LowByte.{byte_call, low_calls, low_fails, low_fits};
+ghost use Rattle.test_keys.specs.LowByte.{low_represents, low_same, low_spec};
+ghost use Rattle.test_keys.specs.Lemmas.LowByte.{low_element, low_equivalence, low_key, low_local};
+ghost use Rattle.test_keys.specs.Lemmas.LowByte.{low_query};
 
 use rkyv_base::access::access;
 use rkyv_base::element::HasSpec;

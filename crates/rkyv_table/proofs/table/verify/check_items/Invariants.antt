@@ -1,5 +1,5 @@
 use Rattle.std.proofs.Common.{◌+◌, ◌-◌, ◌≤◌, length}
-use Rattle.rkyv_table.specs.Lemmas.ValidItemLaws.{AllBelow}
+use Rattle.rkyv_scan.specs.{AllBelow}
 use Rattle.rkyv_table.specs.{full_from}
 use Rattle.rkyv_table.proofs.ItemSteps.{IsPartlyChecked, marks_and_rest}
 use Rattle.rkyv_table.proofs.table.verify.check_items.Given as goal

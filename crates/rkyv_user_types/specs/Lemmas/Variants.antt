@@ -1,4 +1,4 @@
--- Enums whose variants have no fields: their derived equality is the identity.
+-- Lemmas: enums whose variants have no fields: their derived equality is the identity.
 use Rattle.rkyv_keys.specs.{DecidesEquality}
 use denote.Enum.Bare.{Bare, same_true, sameb, true_same}
 use denote.Enum.Declared.{Declared}
