@@ -83,7 +83,7 @@ fn usual(len: usize) -> Result<usize, CapacityError> {
 }
 
 #[test]
-fn capacities(rt: HostRuntime) {
+fn capacities_hold_the_items(rt: HostRuntime) {
     let usual = [usual(0), usual(1), usual(3), usual(5), usual(7), usual(100)];
     let full = [
         capacity(15, (1, 1), NARROW),
@@ -134,7 +134,7 @@ fn rejects_invalid_capacities(rt: HostRuntime) {
 }
 
 #[test]
-fn numbers(rt: HostRuntime) {
+fn sizes_and_tags_are_computed(rt: HostRuntime) {
     let numbers = [
         probe_capacity(114),
         control_count(114),
@@ -241,7 +241,7 @@ fn all_write(alloc: Global, cap: usize, hashes: &[u64], homes: &[usize], front: 
 }
 
 #[test]
-fn places(rt: HostRuntime) {
+fn items_are_placed(rt: HostRuntime) {
     laws::homes_exist();
     laws::homes_are_one_list();
     laws::written_are_one_list();
@@ -273,7 +273,7 @@ fn places(rt: HostRuntime) {
 }
 
 #[test]
-fn places_one(rt: HostRuntime) {
+fn one_item_is_placed(rt: HostRuntime) {
     let mut controls = [0xffu8; 31];
     let bucket = place_one::<generic::Group>(&mut controls, 2, hash_of(1));
     let written = controls[..5] == [0xff, 0x28, 0xff, 0x28, 0xff];
@@ -403,7 +403,7 @@ fn walks_by_each_kind(rt: HostRuntime) {
 }
 
 #[test]
-fn repeats(rt: HostRuntime) {
+fn mirrored_control_bytes_are_checked(rt: HostRuntime) {
     let mut small = [0xffu8; 31];
     small[1] = 0x28;
     small[3] = 0x28;

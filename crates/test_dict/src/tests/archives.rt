@@ -61,7 +61,7 @@ fn both_show(
 }
 
 #[test]
-fn numbers(rt: HostRuntime) -> Result<(), Fail> {
+fn numbers_are_archived_and_found(rt: HostRuntime) -> Result<(), Fail> {
     let list = PairList::Numbers(vec![in rt.alloc(); (1, 2)]?);
     let keys = [Key::Number(1), Key::Number(2), Key::Text("1")];
     let lines = "entries 1\n1 2\n2\nnone\nnone\n";
@@ -71,7 +71,7 @@ fn numbers(rt: HostRuntime) -> Result<(), Fail> {
 }
 
 #[test]
-fn texts(rt: HostRuntime) -> Result<(), Fail> {
+fn texts_are_archived_and_found(rt: HostRuntime) -> Result<(), Fail> {
     let list = PairList::Texts(vec![in rt.alloc(); ("a", "b")]?);
     let keys = [Key::Text("a"), Key::Text("b"), Key::Number(1)];
     let lines = "entries 1\na b\nb\nnone\nnone\n";

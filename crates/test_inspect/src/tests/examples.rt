@@ -33,7 +33,7 @@ fn draw(alloc: Global, archive: &[u8], contents: Contents) -> Result<String, Ins
 }
 
 #[test]
-fn examples(rt: HostRuntime) -> Result<(), Fail> {
+fn examples_are_inspected(rt: HostRuntime) -> Result<(), Fail> {
     let found = misplaced(rt.alloc(), &ONE_NUMBER, numbers()).ok();
     expect_eq!(rt; found, Some(Some(0)));
     let found = misplaced(rt.alloc(), &MISPLACED, numbers()).ok();

@@ -85,7 +85,7 @@ fn lookups_past_the_limit(rt: HostRuntime) -> Result<(), Fail> {
 }
 
 #[test]
-fn colour(rt: HostRuntime) -> Result<(), Fail> {
+fn fields_are_colored(rt: HostRuntime) -> Result<(), Fail> {
     let inspection = inspect(rt.alloc(), &ONE_NUMBER, numbers(), 1000)?;
     let text = format!(in rt.alloc(); "{}", Printed::new(&ONE_NUMBER, &inspection, true))?;
     let line = "      52  \x1b[35m01 00 00 00               \x1b[0m  header: length 1\n";
@@ -94,7 +94,7 @@ fn colour(rt: HostRuntime) -> Result<(), Fail> {
 }
 
 #[test]
-fn container(rt: HostRuntime) -> Result<(), Fail> {
+fn a_container_line_is_printed(rt: HostRuntime) -> Result<(), Fail> {
     let header = Header {
         contents: numbers(),
         len: 60,
