@@ -3,6 +3,7 @@
 
 pub mod color;
 mod color_scalar;
+pub mod landmark;
 pub mod pixel;
 pub mod point;
 pub mod spot;

@@ -3,6 +3,7 @@
 mod as_keys;
 
 use crate::color::Color;
+use crate::landmark::Landmark;
 use crate::pixel::Pixel;
 use crate::point::Point;
 use crate::spot::Spot;
@@ -14,6 +15,7 @@ use rkyv_base::element::Element;
 use rkyv_base::entry::Entry;
 use rkyv_base::errors::VerifyError;
 use rkyv_base::root::to_bytes;
+use rkyv_base::text::Text;
 use rkyv_keys::deserialize::Deserialize;
 use rkyv_keys::equality::MatchesNative;
 use rkyv_keys::hash::hash_value;
@@ -90,6 +92,29 @@ fn a_symbol_is_a_pair_with_a_text(rt: HostRuntime) -> Result<(), Fail> {
     let bytes = archive_wide(rt.alloc(), &symbol)?;
     let name = wide_name(bytes.as_slice())?;
     assert_eq!(rt; name, "a name of more than sixteen bytes");
+    Ok(())
+}
+
+#[test]
+fn a_landmark_is_a_text_and_a_pair(rt: HostRuntime) -> Result<(), Fail> {
+    let landmark = PairEntry(Landmark {
+        name: String::from_str(rt.alloc(), "inn")?,
+        coordinates: (-2, 3),
+    });
+    let bytes = to_bytes(rt.alloc(), &landmark)?;
+    let root = access::<Entry<Text, Entry<i32, i32>>>(bytes.as_slice())?;
+    let back: PairEntry<Landmark> = Entry::<Text, Entry<i32, i32>>::deserialize(rt.alloc(), root)?;
+    let name = [b'i', b'n', b'n', 0xff, 0xff, 0xff, 0xff, 0xff];
+    let coordinates = [0xfe, 0xff, 0xff, 0xff, 3, 0, 0, 0];
+    let results = [
+        bytes[..8] == name[..],
+        bytes[8..] == coordinates[..],
+        root.key().as_str() == "inn",
+        root.value().key().to_native() == -2,
+        root.value().value().to_native() == 3,
+        back == landmark,
+    ];
+    assert_eq!(rt; results, [true; 6]);
     Ok(())
 }
 
