@@ -8,8 +8,8 @@ use Rattle.rkyv_base.specs.{AgreeOn, ElementSpec, Encoding, IsValidArchive, Vali
 use Rattle.rkyv_table.specs.Lemmas.SameHeader.{cap_same, len_same, pos_same}
 use Rattle.rkyv_table.specs.{IsDecoded, pos_found}
 use Rattle.rkyv_table.specs.declared.table.decoded.Decoded.{Decoded}
-use Rattle.rkyv_collections.specs.{SetsFound, map_spec}
-use Rattle.ffi_calls.specs.{KeepsHeader, hash_by, map_in, root, value_found}
+use Rattle.rkyv_collections.specs.{SetsFound, map_root, map_spec}
+use Rattle.ffi_calls.specs.{KeepsHeader, hash_by, map_in, value_found}
 
 -- a decoded header is one of the same header in other bytes
 pub decoded_again : (w : Width) (b c : List ℕ) (p : ℕ) → AgreeOn b c p (p + 3 * byte_len w) → (header : Decoded) → IsDecoded w b p header → IsDecoded w c p header
@@ -52,7 +52,7 @@ accepted_again limit s b c p a at same v =
 
 -- an overwrite at the position that a lookup finds in the map at the root of an archive
 module _ {N : Type 0} (w : Width) (k v : ElementSpec) (e : Encoding N) (key_hash : List ℕ → ℕ → ℕ) (b : List ℕ) (p : ℕ) (calls : List HasherCall) (fits : ℕ → Bool) (value : N) (result : Bool) (c : List ℕ)
-    (at : p ≡ root w k v b) (set : SetsFound w k v e key_hash b p value result c (option_map (value_pos k v) (pos_found generic_kind w (entry_spec k v).size b p (hash_by calls) fits))) where
+    (at : p ≡ map_root w k v b) (set : SetsFound w k v e key_hash b p value result c (option_map (value_pos k v) (pos_found generic_kind w (entry_spec k v).size b p (hash_by calls) fits))) where
   abbrev pos_at : ℕ → Option ℕ
   pos_at q = option_map (value_pos k v) (pos_found generic_kind w (entry_spec k v).size b q (hash_by calls) fits)
 

@@ -1,5 +1,5 @@
 -- The archives of maps: forms, validity, lookups and overwrites.
-use Rattle.std.specs.Prelude.{◌≡◌, ℕ, ◌-◌, ◌<◌, ◌^◌, ◌≤◌, ◌⊎◌, Bool, true, false, List, length}
+use Rattle.std.specs.Prelude.{◌≡◌, ℕ, ◌<◌, ◌^◌, ◌≤◌, ◌⊎◌, Bool, true, false, List}
 use Rattle.std.specs.Prelude.{MatchOption, Option}
 use Rattle.std.specs.Int.{Width, w32, w64}
 use Rattle.std.specs.Option.{option_map}
@@ -8,7 +8,7 @@ use Rattle.rkyv_scan.specs.{HasherCall, fx_hash, generic_kind, low_halves}
 use Rattle.rkyv_base.specs.{AccessFails, ElementSpec, Encoding, IsValidArchive, entry_spec}
 use Rattle.rkyv_base.specs.{scalar_spec, text_spec, unsigned, value_pos, with_value}
 use Rattle.rkyv_base.specs.declared.errors.VerifyError.{VerifyError}
-use Rattle.rkyv_collections.specs.{MapAt, map_spec}
+use Rattle.rkyv_collections.specs.{MapAt, map_root, map_spec}
 use Rattle.rkyv_table.specs.{IsDecoded, pos_found}
 use Rattle.rkyv_table.specs.declared.table.decoded.Decoded.{Decoded}
 use Rattle.ffi_calls.specs.Keys.{NumberKey}
@@ -77,13 +77,9 @@ Opens limit s b status = (IsValidArchive limit s b × (status ≡ 0))
 abbrev pub hash_by : List HasherCall → ℕ
 hash_by calls = fx_hash low_halves calls
 
--- the position of the header of a map at the end of `b`
-abbrev pub root : Width → ElementSpec → ElementSpec → List ℕ → ℕ
-root w k v b = length b - (map_spec w k v).size
-
 -- the map at the root of the archive `b`
 abbrev pub map_in : Width → ElementSpec → ElementSpec → List ℕ → MapAt
-map_in w k v b = record { word = w; key = k; value = v; bytes = b; pos = root w k v b }
+map_in w k v b = record { word = w; key = k; value = v; bytes = b; pos = map_root w k v b }
 
 -- the map of numbers, in the form, at the root of an archive
 abbrev pub numbers_in : {A : Type 0} → NumberKey A → Form → List ℕ → MapAt

@@ -26,8 +26,8 @@ unfoldable pub use Keys.{NumberKey, NumberKeysAt, NumbersAt, long_key, number_ke
 unfoldable pub use Keys.{short_key}
 unfoldable pub use Archives.{IsHeaderOf, IsMapArchive, IsNumberArchive, IsTextArchive, KeepsHeader}
 unfoldable pub use Archives.{Opens, Overwrites, ReturnsAt, by_flag, form_of, hash_by, limit_of}
-unfoldable pub use Archives.{map_in, most_of, number_map, numbers_in, root, text_key, text_map}
-unfoldable pub use Archives.{texts_in, value_encoding, value_found, value_spec, word_of}
+unfoldable pub use Archives.{map_in, most_of, number_map, numbers_in, text_key, text_map, texts_in}
+unfoldable pub use Archives.{value_encoding, value_found, value_spec, word_of}
 unfoldable pub use Lists.{ArchiveFails, ArchivesRepresent, IsArchiveOf, IsWritten, PairsRepresent}
 unfoldable pub use Lists.{PosOfFirst, ReturnsFirst, SetsFirstOf, WalksVisitListed, archive_width}
 unfoldable pub use Lists.{format_of, fx_format, fx_pairs, header_spec, natives, pairs_format}

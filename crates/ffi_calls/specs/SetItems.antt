@@ -10,9 +10,8 @@ use Rattle.rkyv_base.specs.declared.strings.TextResolver.{TextResolver}
 use Rattle.rkyv_base.specs.declared.writer.NoMemory.{NoMemory}
 use Rattle.rkyv_keys.specs.{one_call, scalar_calls, text_calls, text_key_calls}
 use Rattle.rkyv_table.specs.{TableResolver, listed}
-use Rattle.rkyv_collections.specs.{KeyFormat, SetRepresents, native_key_format, set_format}
-use Rattle.rkyv_collections.specs.{set_spec}
-use Rattle.ffi_calls.specs.Archives.{root}
+use Rattle.rkyv_collections.specs.{KeyFormat, SetRepresents, map_root, native_key_format}
+use Rattle.rkyv_collections.specs.{set_format, set_spec}
 use Rattle.ffi_calls.specs.Keys.{NumberKey}
 use Rattle.ffi_calls.specs.Listed.{TextRepresents}
 use Rattle.ffi_calls.specs.Lists.{ArchiveWidth}
@@ -56,7 +55,7 @@ module _ {A R : Type 0} (width : ArchiveWidth) (format : KeyFormat A R) where
       → IsSetArchive represents calls items b
       → IsValidArchive width.limit (set_spec width.word format.spec) b
       × SetRepresents width.word format.spec represents (fx_hash_at calls) (7, 8) b
-      (root width.word format.spec unit_spec b) items
+      (map_root width.word format.spec unit_spec b) items
 
 -- the text of `item` is UTF-8
 abbrev pub SetTextFits : SetText → Type 0

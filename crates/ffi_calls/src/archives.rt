@@ -2,8 +2,8 @@
 
 ghost use Rattle.std.specs.Prelude.{◌≡◌};
 ghost use Rattle.rkyv_base.specs.{IsValidArchive, Viewable};
-ghost use Rattle.rkyv_collections.specs.{map_bytes, map_pos, map_spec};
-ghost use Rattle.ffi_calls.specs.{IsHeaderOf, IsMapArchive, Opens, map_in, root};
+ghost use Rattle.rkyv_collections.specs.{map_bytes, map_pos, map_root, map_spec};
+ghost use Rattle.ffi_calls.specs.{IsHeaderOf, IsMapArchive, Opens, map_in};
 
 use crate::status::{DONE, verify_status};
 use rkyv_base::access::{access_in, access_unchecked};
@@ -30,7 +30,7 @@ pub(crate) fn open_map<K: Element, V: Element, W: Width>(archive: &[u8]) -> u32
 #[inline]
 pub(crate) fn root_of<K: Element, V: Element, W: Width>(archive: &[u8]) -> u64
     requires { IsValidArchive W.LIMIT (map_spec W.word K.spec V.spec) archive.now }
-    ensures at { result ≡ root W.word K.spec V.spec archive.now }
+    ensures at { result ≡ map_root W.word K.spec V.spec archive.now }
     ensures viewable { Viewable (map_spec W.word K.spec V.spec) archive.now result }
 {
     access_unchecked::<HashMapOf<K, V, FxHasher64, W>>(archive).pos()
@@ -71,7 +71,7 @@ pub(crate) fn map_of<'a, K: Element, V: Element, W: Width>(
     requires archive { IsMapArchive W.word W.LIMIT K.spec V.spec archive.now }
     requires header { IsHeaderOf (map_in W.word K.spec V.spec archive.now) header.now }
     ensures bytes { map_bytes result ≡ archive.now }
-    ensures pos { map_pos result ≡ root W.word K.spec V.spec archive.now }
+    ensures pos { map_pos result ≡ map_root W.word K.spec V.spec archive.now }
 {
     let root = root_of::<K, V, W>(archive);
     ArchivedHashMap::with_header(View::new(archive, root), *header)

@@ -11,8 +11,9 @@ use Rattle.rkyv_base.specs.{ElementSpec, IsElement, PairRepresents, ValidAt, Vie
 use Rattle.rkyv_base.specs.declared.view.View.{View}
 use Rattle.rkyv_keys.specs.Lemmas.OfEntries.{valid_key}
 use Rattle.rkyv_table.specs.{home_positions, item_at}
-use Rattle.rkyv_keys.specs.{IsFoundPair, IsFoundValue, first_pair}
-use Rattle.rkyv_collections.specs.{AgreesOnKeys, IsFoundAt, IsPairAt, IsPosOfPair, IsValueAt, IsViewAt, MapRepresents, map_spec}
+use Rattle.rkyv_keys.specs.{IsFoundAt, IsFoundPair, IsFoundValue, first_pair}
+use Rattle.rkyv_collections.specs.{AgreesOnKeys, IsPairAt, IsPosOfPair, IsValueAt, IsViewAt}
+use Rattle.rkyv_collections.specs.{MapRepresents, map_spec}
 use Rattle.rkyv_collections.proofs.WrittenPairs.{pair_valid, pos_of_pair}
 
 module _ {A B : Type 0} (k v : ElementSpec) (key : List ℕ → ℕ → A → Type 0) (value : List ℕ → ℕ → B → Type 0) (b : List ℕ) where

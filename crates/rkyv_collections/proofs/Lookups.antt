@@ -9,12 +9,13 @@ use Rattle.rkyv_base.specs.{IsAt, IsElement, IsValidView, ValidAt, archive_of, e
 use Rattle.rkyv_base.specs.Lemmas.Entry.{entry_element}
 use Rattle.rkyv_base.specs.declared.view.View.{View}
 use Rattle.rkyv_base.specs.declared.entry.Entry.{Entry}
-use Rattle.rkyv_keys.specs.{Comparison, IsQuery, hash_at}
+use Rattle.rkyv_keys.specs.{Comparison, IsFoundAt, IsQuery, hash_at}
 use Rattle.rkyv_keys.specs.Lemmas.OfEntries.{valid_key}
 use Rattle.rkyv_table.specs.{IsItem, IsUnderHash, IsWalked, home_positions, item_at}
 use Rattle.rkyv_table.specs.declared.table.ArchivedHashTable.{ArchivedHashTable}
 use Rattle.rkyv_table.proofs.ValidTable.{item_viewable}
-use Rattle.rkyv_collections.specs.{AreUnderHash, IsEntryIn, IsFoundAt, IsKeyIn, IsMap, IsViewAt, MapWrittenAt, map_archive, map_bytes, map_pos}
+use Rattle.rkyv_collections.specs.{AreUnderHash, IsEntryIn, IsKeyIn, IsMap, IsViewAt, MapWrittenAt}
+use Rattle.rkyv_collections.specs.{map_archive, map_bytes, map_pos}
 use Rattle.rkyv_collections.specs.declared.map.ArchivedHashMap.{ArchivedHashMap}
 use Rattle.rkyv_table.proofs.WrittenTables.{home_count, home_pos, home_walked}
 

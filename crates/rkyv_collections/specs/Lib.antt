@@ -24,9 +24,9 @@ unfoldable pub use Natives.{native_format, native_key_format, queried}
 pub use Natives.{KeyFormat, PairFormat, Queried}
 unfoldable pub use Map.{AreUnderHash, AreUnderHashAt, CanCompareKeys, ComparesKeysBy, FindsBy}
 unfoldable pub use Map.{FindsFirstBy, FindsFirstKey, FindsFirstKeyAt, FindsKey, FindsKeyAt}
-unfoldable pub use Map.{IsEntryIn, IsFoundAt, IsKeyPos, IsMap, IsPairAt, IsValueAt, IsViewAt}
-unfoldable pub use Map.{MapWrittenAt, key_pos_found, key_positions, map_archive, map_bytes, map_cap}
-unfoldable pub use Map.{map_len, map_pos, map_view}
+unfoldable pub use Map.{IsEntryIn, IsKeyPos, IsMap, IsPairAt, IsValueAt, IsViewAt, MapWrittenAt}
+unfoldable pub use Map.{key_pos_found, key_positions, map_archive, map_bytes, map_cap, map_len}
+unfoldable pub use Map.{map_pos, map_view}
 pub use Map.{IsKeyIn, IsPairIn, IsValueIn}
 unfoldable pub use Map.MapSpec.{IsKeyPosAt, map_spec}
 unfoldable pub use Map.Equality.{EachIsIn, EqualHaveSamePairs, finds_same, map_equal, pair_at}

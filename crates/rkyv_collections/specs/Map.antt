@@ -19,7 +19,7 @@ pub mod NestedWrites
 pub mod InPlaceText
 use Rattle.rkyv_base.specs.declared.element.HasSpec.{Ghosts as Specs}
 use Rattle.rkyv_base.specs.declared.width.Word.{Ghosts as Words}
-use Rattle.std.specs.Prelude.{◌≡◌, ℕ, ◌+◌, ◌↔◌, List, Bool, true, Option, IsSome, IsTrue, map}
+use Rattle.std.specs.Prelude.{◌≡◌, ℕ, ◌+◌, List, Bool, true, Option, map}
 use Rattle.std.specs.Borrow.{Bor}
 use Rattle.std.specs.Int.{Width}
 use Rattle.std.specs.List.{find}
@@ -176,7 +176,3 @@ IsPairAt result key_pos = key_pos_found result ≡ key_pos
 abbrev pub IsValueAt : {V : Type 0} → ElementSpec → ElementSpec → Option (View V) → Option ℕ
     → Type 0
 IsValueAt k v result key_pos = pos_of_found result ≡ option_map (λ q. q + value_offset k v) key_pos
-
--- the result is `true` if and only if a key is found
-abbrev pub IsFoundAt : Bool → Option ℕ → Type 0
-IsFoundAt result key_pos = IsTrue result ↔ IsSome key_pos

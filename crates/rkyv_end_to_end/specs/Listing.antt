@@ -4,8 +4,8 @@ use Rattle.std.specs.Prelude.{MatchResult, Option, Result, Some, slice_get, slic
 use Rattle.std.specs.Int.{Width, byte_len}
 use Rattle.std.specs.declared.iter.Iterator.{Ghosts as Iterators}
 use Rattle.rkyv_base.specs.{Appended, ElementMembers, ElementSpec, Format, IsValidView, OccursAt}
-use Rattle.rkyv_base.specs.{Output, WidthMembers, WriteRootFails, end_of, padding, round_up}
-use Rattle.rkyv_base.specs.{vec_output, written_as, zeros}
+use Rattle.rkyv_base.specs.{Output, RepresentsAs, WidthMembers, WriteRootFails, end_of, padding}
+use Rattle.rkyv_base.specs.{round_up, vec_output, written_as, zeros}
 use Rattle.rkyv_base.specs.declared.archive.Archive.{Ghosts as Archives}
 use Rattle.rkyv_base.specs.declared.errors.WriteError.{WriteError}
 use Rattle.rkyv_base.specs.declared.lend.Lend.{Ghosts as Lends}
@@ -14,7 +14,6 @@ use Rattle.rkyv_table.specs.{AgreesAt, AreUnder, ComparesByOf, HasCapacity, Inpu
 use Rattle.rkyv_table.specs.{IsValidAround, OwnCause, TableIn, TableRepresents, TableResolver}
 use Rattle.rkyv_table.specs.{VisitsHomes, WrittenAt, YieldsExactly, cap_at, from_both, hashes_of}
 use Rattle.rkyv_table.specs.{home_positions, items_of, table_controls, table_format, table_spec}
-use Rattle.rkyv_table.specs.{value_represents}
 use Rattle.rkyv_end_to_end.specs.Report.{ReportsTable}
 use Rattle.rkyv_end_to_end.specs.declared.looking.LookError.TheVariants.{Memory, Verify}
 use Rattle.rkyv_end_to_end.specs.declared.looking.TableReport.{TableReport}
@@ -38,7 +37,7 @@ abbrev pub encoding : {X V W A R P : Type 0} → ElementMembers V → Archives V
     → Encoding X R
 encoding e a l = record {
   spec = e.spec;
-  represents = value_represents l.lent e.represents;
+  represents = RepresentsAs l.lent e.represents;
   format = written_as l.lent a.format;
 }
 

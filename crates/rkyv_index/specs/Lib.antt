@@ -12,8 +12,8 @@ pub use Set.ListArchives.{FindsInRootSet}
 unfoldable pub use Map.{AreUnderHash, CanCompareIndex, CanCompareIndices, CanCompareKeys}
 unfoldable pub use Map.{CanCompareKeysIn, CanCompareKeysOf, ComparesIndexBy, ComparesKeysBy}
 unfoldable pub use Map.{CountsBy, CountsKey, FindsBy, FindsFirstBy, FindsFirstIndex, FindsFirstKey}
-unfoldable pub use Map.{FindsIndex, FindsKey, IsAccepted, IsFoundAt, IsFullKeyIn, IsFullResult}
-unfoldable pub use Map.{IsIndex, IsIndexOf, IsPairAt, IsPairOf, IsStored, IsStoredAt, IsStoredIndex}
+unfoldable pub use Map.{FindsIndex, FindsKey, IsAccepted, IsFullKeyIn, IsFullResult, IsIndex}
+unfoldable pub use Map.{IsIndexOf, IsPairAt, IsPairOf, IsStored, IsStoredAt, IsStoredIndex}
 unfoldable pub use Map.{IsValueAt, IsWritten, MatchesAt, ReadsUpTo, ReadsWithinBound, fits_at}
 unfoldable pub use Map.{fits_in, full_index, full_key_index, index_archive, index_bytes}
 unfoldable pub use Map.{index_found, index_len, index_of, index_pos, index_strides, key_at, key_pos}

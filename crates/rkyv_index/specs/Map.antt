@@ -15,8 +15,8 @@ pub mod Reading
 pub mod Writing
 use Rattle.rkyv_base.specs.declared.element.HasSpec.{Ghosts as Specs}
 use Rattle.rkyv_base.specs.declared.width.Word.{Ghosts as Words}
-use Rattle.std.specs.Prelude.{◌≡◌, ℕ, suc, zero, ◌+◌, ◌/◌, ◌<◌, ◌≤◌, ◌↔◌, List, [], ◌∷◌, Bool, true}
-use Rattle.std.specs.Prelude.{IsSome, IsTrue, MatchOption, None, Option, Some, length}
+use Rattle.std.specs.Prelude.{◌≡◌, ℕ, suc, zero, ◌+◌, ◌/◌, ◌<◌, ◌≤◌, List, [], ◌∷◌, Bool, true}
+use Rattle.std.specs.Prelude.{MatchOption, None, Option, Some, length}
 use Rattle.std.specs.Borrow.{Bor}
 use Rattle.std.specs.Int.{Width, byte_len}
 use Rattle.std.specs.List.{find}
@@ -321,10 +321,6 @@ full_index {K} {V} result = option_map (λ (full : ℕ × View K × View V). ful
 -- the index in `result`
 abbrev pub full_key_index : {K : Type 0} → Option (ℕ × View K) → Option ℕ
 full_key_index {K} result = option_map (λ (full : ℕ × View K). full.0) result
-
--- `result` is `true` if and only if `index` is `Some`
-abbrev pub IsFoundAt : Bool → Option ℕ → Type 0
-IsFoundAt result index = IsTrue result ↔ IsSome index
 
 -- `entries`: a map, and the position of its first entry
 pub record AreEntries {K V H W : Type 0} {ks : Specs K} {vs : Specs V} {wt : Words W}

@@ -1,5 +1,5 @@
 -- Lookups of keys by a query.
-use Rattle.std.specs.Prelude.{ℕ, Bool, List}
+use Rattle.std.specs.Prelude.{ℕ, Bool, IsSome, IsTrue, List, Option, ◌↔◌}
 use Rattle.rkyv_scan.specs.{Hasher, HasherCall, hash_of_calls}
 use Rattle.rkyv_keys.specs.Equality.{Comparison}
 
@@ -21,3 +21,7 @@ query_of hasher key_calls same calls fits = record {
   same = same;
   fits = fits;
 }
+
+-- the result is `true` if and only if a key is found. `found`: its position or its index
+abbrev pub IsFoundAt : Bool → Option ℕ → Type 0
+IsFoundAt result found = IsTrue result ↔ IsSome found

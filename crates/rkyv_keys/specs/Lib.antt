@@ -18,7 +18,7 @@ pub mod OfViews
 pub mod QueryLaws
 pub mod RoundTrips
 pub mod Lemmas
-unfoldable pub use KeyLookups.{query_of}
+unfoldable pub use KeyLookups.{IsFoundAt, query_of}
 pub use KeyLookups.{KeyLookup}
 unfoldable pub use AtViews.{at_view, at_views}
 unfoldable pub use Calls.{after_calls, bool_call, hash_at, hash_of, text_calls}
@@ -42,7 +42,7 @@ unfoldable pub use OfScalars.{one_call, scalar_calls, scalar_fits, scalar_same}
 unfoldable pub use OfTexts.{same_bytes, text_fits, text_key_calls, text_same}
 unfoldable pub use OfUnits.{no_calls, unit_at, unit_calls, unit_fits, unit_same, units_equal}
 unfoldable pub use OfValues.{ValueRepresents, value_calls, value_fits, values_same}
-unfoldable pub use OfViews.{view_calls, view_fits}
+unfoldable pub use OfViews.{view_fits}
 unfoldable pub use QueryLaws.{FitsByValue, HashLocal, HashesAlike, HashesAsWritten, RestsOnKeys}
 unfoldable pub use RoundTrips.{HasArchive, RoundTripFails, round_trip}
 pub use RoundTrips.{RoundTrip}

@@ -1,13 +1,8 @@
 -- A key in an archive, as a query for keys of other archives.
 use Rattle.std.specs.Prelude.{ℕ, Bool, List}
-use Rattle.rkyv_scan.specs.{HasherCall}
 use Rattle.rkyv_base.specs.declared.view.View.{View}
 use Rattle.rkyv_base.specs.{bytes_of, pos_of}
 use Rattle.rkyv_keys.specs.Equality.{Comparison}
-
--- the calls of the key of the view `view`
-abbrev pub view_calls : {K : Type 0} → (List ℕ → ℕ → List HasherCall) → View K → List HasherCall
-view_calls calls view = calls (bytes_of view) (pos_of view)
 
 -- the key at position `p` is the same as that of the view `view`
 abbrev pub view_fits : {K : Type 0} → Comparison → View K → List ℕ → ℕ → Bool

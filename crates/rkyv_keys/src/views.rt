@@ -4,7 +4,7 @@
 
 ghost use Rattle.std.specs.Prelude.{◌≡◌};
 ghost use Rattle.rkyv_base.specs.{IsValidView};
-ghost use Rattle.rkyv_keys.specs.{at_view, view_calls, view_fits};
+ghost use Rattle.rkyv_keys.specs.{at_view, view_fits};
 ghost use Rattle.rkyv_keys.specs.Lemmas.OfViews.{view_query};
 
 use crate::hash::KeyHash;
@@ -13,7 +13,7 @@ use rkyv_base::view::View;
 use rkyv_scan::hash::KeyHasher;
 
 impl<'a, K: KeyElement> KeyHash for View<'a, K> {
-    ghost calls = { view_calls K.key_calls };
+    ghost calls = { at_view K.key_calls };
 
     ghost can_read = { IsValidView K.spec };
 

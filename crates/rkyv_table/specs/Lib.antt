@@ -41,7 +41,6 @@ unfoldable pub use Table.Reading.{FindsFound, IsAcceptedAt, IsFullIn, IsItem, Is
 unfoldable pub use Table.Reading.{table_bytes, table_pos}
 pub use Table.Reading.{CountsStrides, FindsItem, FindsItemPos, IsItemIn}
 pub use Table.Decoded.{IsDecoded}
-unfoldable pub use Table.Lending.{value_represents}
 unfoldable pub use Table.Slots.{Above, BeforeBuckets, BucketNext, BucketOverflows, BucketStep}
 unfoldable pub use Table.Slots.{Filled, FillsBucket, PartsNext, SlotImages, SlotParts, TableNext}
 unfoldable pub use Table.Slots.{WritesBuckets, WritesParts, WritesSlots, WroteBuckets, bucket_with}

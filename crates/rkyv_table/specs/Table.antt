@@ -5,7 +5,6 @@ pub mod Layout
 pub mod Positions
 pub mod Reading
 pub mod Decoded
-pub mod Lending
 pub mod Slots
 pub mod PlacedItems
 pub mod Counting

@@ -5,10 +5,11 @@ use Rattle.std.specs.Prelude.{◌≡◌, ℕ, Bool, IfSome, List, None, Option, 
 use Rattle.std.specs.Option.{is_some, option_map}
 use Rattle.rkyv_base.specs.{ElementSpec, PairRepresents, ValidAt}
 use Rattle.rkyv_base.specs.declared.view.View.{View}
-use Rattle.rkyv_collections.specs.Map.{FindsFirstKey, IsFoundAt, IsKeyIn, IsViewAt}
-use Rattle.rkyv_collections.specs.Map.{IsPairAt, IsPairIn, IsValueAt, IsValueIn, map_bytes, map_pos}
+use Rattle.rkyv_collections.specs.Map.{FindsFirstKey, IsKeyIn, IsPairAt, IsPairIn, IsValueAt}
+use Rattle.rkyv_collections.specs.Map.{IsValueIn, IsViewAt, map_bytes, map_pos}
 use Rattle.rkyv_collections.specs.Map.MapFormat.{MapRepresents}
-use Rattle.rkyv_keys.specs.{IsFoundPair, IsFoundValue, NativePairs, first_pair, first_value}
+use Rattle.rkyv_keys.specs.{IsFoundAt, IsFoundPair, IsFoundValue, NativePairs, first_pair}
+use Rattle.rkyv_keys.specs.{first_value}
 use Rattle.rkyv_collections.specs.declared.map.ArchivedHashMap.{ArchivedHashMap}
 
 -- a valid key is accepted if and only if `accept_value` accepts the value that it represents

@@ -7,8 +7,8 @@ use Rattle.std.specs.Int.{Width}
 use Rattle.std.specs.List.{list_any}
 use Rattle.rkyv_base.specs.{ElementSpec, IsAt, archive_of, pos_of}
 use Rattle.rkyv_base.specs.declared.view.View.{View}
-use Rattle.rkyv_collections.specs.Map.{FindsFirstKey, IsFoundAt}
-use Rattle.rkyv_keys.specs.{NativeKeys}
+use Rattle.rkyv_collections.specs.Map.{FindsFirstKey}
+use Rattle.rkyv_keys.specs.{IsFoundAt, NativeKeys}
 use Rattle.rkyv_collections.specs.Set.{IsSetAt, set_bytes, set_spec}
 use Rattle.rkyv_collections.specs.Set.SetFormat.{SetRepresents}
 use Rattle.rkyv_collections.specs.declared.set.ArchivedHashSet.{ArchivedHashSet}

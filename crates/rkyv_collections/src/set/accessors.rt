@@ -9,9 +9,9 @@
 ghost use Rattle.std.specs.Prelude.{IsTrue, length, ◌↔◌, ◌≡◌};
 ghost use Rattle.rkyv_base.specs.{IsValidView, archive_of, pos_of, unit_spec};
 ghost use Rattle.rkyv_base.specs.Lemmas.Empty.{unit_element};
-ghost use Rattle.rkyv_collections.specs.{FoundMemberHas, GetsMember, IsFoundAt, IsSetAt};
-ghost use Rattle.rkyv_collections.specs.{member_positions, set_archive, set_len, set_spec};
-ghost use Rattle.rkyv_keys.specs.{query_of};
+ghost use Rattle.rkyv_collections.specs.{FoundMemberHas, GetsMember, IsSetAt, member_positions};
+ghost use Rattle.rkyv_collections.specs.{set_archive, set_len, set_spec};
+ghost use Rattle.rkyv_keys.specs.{IsFoundAt, query_of};
 ghost use Rattle.rkyv_collections.specs.Lemmas.MapElement.{map_element};
 
 use crate::map::read::iter::Keys;

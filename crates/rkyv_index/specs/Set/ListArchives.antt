@@ -7,8 +7,8 @@ use Rattle.std.specs.Int.{Width}
 use Rattle.std.specs.List.{list_any, position}
 use Rattle.rkyv_base.specs.{ElementSpec, IsAt, archive_of, pos_of}
 use Rattle.rkyv_base.specs.declared.view.View.{View}
-use Rattle.rkyv_keys.specs.{NativeKeys}
-use Rattle.rkyv_index.specs.Map.{FindsFirstKey, IsFoundAt, IsIndex}
+use Rattle.rkyv_keys.specs.{IsFoundAt, NativeKeys}
+use Rattle.rkyv_index.specs.Map.{FindsFirstKey, IsIndex}
 use Rattle.rkyv_index.specs.Set.IndexSet.{index_of_set, index_set_spec, keys_of}
 use Rattle.rkyv_index.specs.Set.SetFormat.{IndexSetRepresents}
 use Rattle.rkyv_index.specs.declared.set.ArchivedIndexSet.{ArchivedIndexSet}

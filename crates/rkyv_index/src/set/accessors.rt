@@ -9,10 +9,10 @@
 ghost use Rattle.std.specs.Prelude.{IfSome, IsTrue, MatchOption, length, ◌↔◌, ◌≡◌, ◌≤◌};
 ghost use Rattle.rkyv_base.specs.{IsAt, IsValidView, archive_of, entry_spec, pos_of, unit_spec};
 ghost use Rattle.rkyv_table.specs.{AllValid};
-ghost use Rattle.rkyv_index.specs.{FoundKeyHas, GetsKey, IsFoundAt, IsKeyOf, IsMemberAt};
-ghost use Rattle.rkyv_index.specs.{IsStoredIndex, full_key_part, index_archive, index_len};
-ghost use Rattle.rkyv_index.specs.{index_part, index_set_spec, key_part, key_positions, keys_of};
-ghost use Rattle.rkyv_keys.specs.{query_of};
+ghost use Rattle.rkyv_index.specs.{FoundKeyHas, GetsKey, IsKeyOf, IsMemberAt, IsStoredIndex};
+ghost use Rattle.rkyv_index.specs.{full_key_part, index_archive, index_len, index_part};
+ghost use Rattle.rkyv_index.specs.{index_set_spec, key_part, key_positions, keys_of};
+ghost use Rattle.rkyv_keys.specs.{IsFoundAt, query_of};
 
 use crate::map::read::iter::Keys;
 use crate::map::{ArchivedIndexMap, IndexMapOf};

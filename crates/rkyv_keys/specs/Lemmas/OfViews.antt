@@ -5,12 +5,12 @@ use Rattle.std.proofs.lemmas.Bool.Decides.{same_from_decides}
 use Rattle.rkyv_scan.specs.{HasherCall}
 use Rattle.rkyv_base.specs.declared.view.View.{View}
 use Rattle.rkyv_base.specs.{ElementSpec, IsValidView, bytes_of, pos_of}
-use Rattle.rkyv_keys.specs.{Comparison, IsEquivalence, IsKey, IsQuery, view_calls, view_fits}
+use Rattle.rkyv_keys.specs.{Comparison, IsEquivalence, IsKey, IsQuery, at_view, view_fits}
 
 pub view_query : {K : Type 0} (s : ElementSpec) (same : Comparison) (calls : List ℕ → ℕ
     → List HasherCall)
     → IsEquivalence s same → IsKey s same calls
-    → IsQuery {Q = View K} s same calls (IsValidView s) (view_calls calls) (view_fits same)
+    → IsQuery {Q = View K} s same calls (IsValidView s) (at_view calls) (view_fits same)
 view_query s same calls e k = record {
   same_calls = λ q b p r h f. k.same_calls (bytes_of q) b (pos_of q) p r.valid h f;
   respects_same = λ q b c p r ready h g f.

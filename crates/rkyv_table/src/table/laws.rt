@@ -3,10 +3,10 @@
 //! - `written` is about the bytes of written tables, `misplaced` about misplaced items.
 //! - `in_place` is about writes of one item in place.
 ghost use Rattle.std.specs.Prelude.{ℕ};
-ghost use Rattle.rkyv_base.specs.{SameSpec, pair_format, scalar_format, text_format, unit_format};
-ghost use Rattle.rkyv_base.specs.{written_as};
+ghost use Rattle.rkyv_base.specs.{RepresentsAs, SameSpec, pair_format, scalar_format, text_format};
+ghost use Rattle.rkyv_base.specs.{unit_format, written_as};
 ghost use Rattle.rkyv_table.specs.{LookupFindsFirst, WalkVisitsHomes, WritesOneWay, table_format};
-ghost use Rattle.rkyv_table.specs.{table_spec, value_represents};
+ghost use Rattle.rkyv_table.specs.{table_spec};
 
 pub mod in_place;
 pub mod misplaced;
@@ -32,7 +32,7 @@ pub fn walk_visits_homes()
 /// of the lookup.
 pub fn lookups_find_the_first<W: Width, U: Archive<W>, X: Lend<U>>()
     ensures { (load_factor : ℕ × ℕ) →
-        LookupFindsFirst W.word U.Archived.spec (value_represents X.lent
+        LookupFindsFirst W.word U.Archived.spec (RepresentsAs X.lent
         U.Archived.represents) load_factor }
 {}
 

@@ -6,8 +6,8 @@ use Rattle.rkyv_table.specs.{pos_found}
 use Rattle.rkyv_table.proofs.Moved.{moved}
 use Rattle.rkyv_collections.proofs.SealedMap.{as_read}
 use Rattle.rkyv_keys.specs.{first_value, hash_at}
-use Rattle.rkyv_collections.specs.{MapRepresents, map_bytes, map_pos}
-use Rattle.ffi_calls.specs.{hash_by, root}
+use Rattle.rkyv_collections.specs.{MapRepresents, map_bytes, map_pos, map_root}
+use Rattle.ffi_calls.specs.{hash_by}
 use Rattle.ffi_calls.proofs.First.{found_placed, found_viewable}
 use Rattle.ffi_calls.proofs.lookup.value_pos_in.Goals as goal
 
@@ -23,7 +23,7 @@ returns-clause-found g c =
     let k = g.K.HasSpec.spec in
     let v = g.V.HasSpec.spec in
     c.found_pos.ensures
-    ∙ as_read c.map_of.result c.args.archive.now (root g.W.Word.word k v c.args.archive.now) bytes same_pos
+    ∙ as_read c.map_of.result c.args.archive.now (map_root g.W.Word.word k v c.args.archive.now) bytes same_pos
     (λ d r. pos_of_found c.get.result ≡ option_map (value_pos k v) (pos_found generic_kind g.W.Word.word (entry_spec k v).size d r (hash_by (g.A.KeyHash.calls c.args.key.now)) (g.A.Query.fits c.args.key.now d)))
     c.get.ensures.finds
 
@@ -34,7 +34,7 @@ returns-clause-listed g c = λ factor pairs represents.
     let m = c.map_of.result in
     let accepts = g.A.PartialEq.eq c.args.key.now in
     let Represents : List ℕ → ℕ → Type 0 = λ d r. MapRepresents g.W.Word.word g.K.HasSpec.spec g.V.HasSpec.spec g.K.Represents.represents g.V.Represents.represents (hash_at (fx_hasher low_halves) g.K.KeyElement.key_calls) factor d r pairs in
-    let here = moved Represents c.args.archive.now (map_bytes m) (root g.W.Word.word g.K.HasSpec.spec g.V.HasSpec.spec c.args.archive.now) (map_pos m) (sym bytes) (sym same_pos) represents in
+    let here = moved Represents c.args.archive.now (map_bytes m) (map_root g.W.Word.word g.K.HasSpec.spec g.V.HasSpec.spec c.args.archive.now) (map_pos m) (sym bytes) (sym same_pos) represents in
     let listed = c.lookups_find_listed.ensures m (g.A.Query.fits c.args.key.now (map_bytes m)) accepts factor pairs (λ a q s there. g.met.A.NativeKey.native c.args.key.now a (map_bytes m) q s there) here in
     found_placed m c.args.archive.now bytes g.V.Represents.represents c.get.result c.found_pos.result (first_value accepts pairs) c.found_pos.ensures c.get.ensures.walked
     (listed.returns_value c.get.result c.get.ensures.walked c.get.ensures.first)

@@ -5,15 +5,14 @@ use Rattle.rkyv_base.specs.Lemmas.Entry.{entry_element}
 use Rattle.rkyv_table.specs.{IsWalked, cap_at, control_count, controls_pos, full_from, item_at, table_controls}
 use Rattle.rkyv_table.proofs.ValidTable.{controls_inside, item_before, item_viewable}
 use Rattle.rkyv_table.proofs.Walks.{full_end}
-use Rattle.rkyv_collections.specs.{map_spec}
-use Rattle.ffi_calls.specs.{root}
+use Rattle.rkyv_collections.specs.{map_root, map_spec}
 use Rattle.ffi_calls.proofs.walk.next_bucket.Goals as goal
 
 pub returns-then-from-cap-clause-next : goal.returns-then-from-cap-clause-next
 returns-then-from-cap-clause-next g c =
     let w = g.W.Word.word in
     let b = c.args.archive.now in
-    let p = root w g.K.HasSpec.spec g.V.HasSpec.spec b in
+    let p = map_root w g.K.HasSpec.spec g.V.HasSpec.spec b in
     let cap : c.capacity-cap.result ≡ cap_at w b p = c.capacity-cap.ensures ∙ c.requires.header.cap in
     full_end (table_controls w b p) (cap_at w b p) c.args.from (omega arith)
 
@@ -23,7 +22,7 @@ controls_from-controls-requires g c =
     let k = g.K.HasSpec.spec in
     let v = g.V.HasSpec.spec in
     let b = c.args.archive.now in
-    let p = root w k v b in
+    let p = map_root w k v b in
     let cap : c.capacity-cap.result ≡ cap_at w b p = c.capacity-cap.ensures ∙ c.requires.header.cap in
     let some : 0 < cap_at w b p = omega arith in
     let decoded : 0 < c.args.header.now.cap = omega (arith, c.requires.header.cap) in
@@ -37,7 +36,7 @@ pos_before-requires g c =
     let k = g.K.HasSpec.spec in
     let v = g.V.HasSpec.spec in
     let b = c.args.archive.now in
-    let p = root w k v b in
+    let p = map_root w k v b in
     let i = c.in_ok-bucket.bucket in
     let cap : c.capacity-cap.result ≡ cap_at w b p = c.capacity-cap.ensures ∙ c.requires.header.cap in
     let below : i < cap_at w b p = omega (arith, c.in_ok-bucket.ensures.0) in
@@ -55,7 +54,7 @@ returns-clause-next g c =
     let w = g.W.Word.word in
     let s = entry_spec g.K.HasSpec.spec g.V.HasSpec.spec in
     let b = c.args.archive.now in
-    let p = root w g.K.HasSpec.spec g.V.HasSpec.spec b in
+    let p = map_root w g.K.HasSpec.spec g.V.HasSpec.spec b in
     let i = c.in_ok-bucket.bucket in
     let cap : c.capacity-cap.result ≡ cap_at w b p = c.capacity-cap.ensures ∙ c.requires.header.cap in
     let decoded : 0 < c.args.header.now.cap = omega (arith, c.requires.header.cap) in
@@ -74,7 +73,7 @@ returns-clause-viewable g c =
     let v = g.V.HasSpec.spec in
     let s = entry_spec k v in
     let b = c.args.archive.now in
-    let p = root w k v b in
+    let p = map_root w k v b in
     let i = c.in_ok-bucket.bucket in
     let cap : c.capacity-cap.result ≡ cap_at w b p = c.capacity-cap.ensures ∙ c.requires.header.cap in
     let decoded : 0 < c.args.header.now.cap = omega (arith, c.requires.header.cap) in
@@ -90,7 +89,7 @@ pub returns-in_err-bucket-clause-next : goal.returns-in_err-bucket-clause-next
 returns-in_err-bucket-clause-next g c =
     let w = g.W.Word.word in
     let b = c.args.archive.now in
-    let p = root w g.K.HasSpec.spec g.V.HasSpec.spec b in
+    let p = map_root w g.K.HasSpec.spec g.V.HasSpec.spec b in
     let cap : c.capacity-cap.result ≡ cap_at w b p = c.capacity-cap.ensures ∙ c.requires.header.cap in
     let decoded : 0 < c.args.header.now.cap = omega (arith, c.requires.header.cap) in
     let at : c.controls_pos-begin.result ≡ controls_pos w b p = c.controls_pos-begin.ensures ∙ c.requires.header.controls_pos decoded in

@@ -11,9 +11,9 @@ ghost use Rattle.rkyv_scan.specs.{hash_of_calls};
 ghost use Rattle.rkyv_base.specs.{IsAt, IsValidView, archive_of, entry_spec, pos_of};
 ghost use Rattle.rkyv_base.specs.declared.view.View.{View};
 ghost use Rattle.rkyv_collections.specs.{CanCompareKeys, FindsKey, FoundKeyHas, GetsBy, GetsKey};
-ghost use Rattle.rkyv_collections.specs.{IsFoundAt, IsPairOfEntry, IsValueOfEntry, IsViewAt};
-ghost use Rattle.rkyv_collections.specs.{entry_part, map_bytes, pair_part, value_part};
-ghost use Rattle.rkyv_keys.specs.{hash_at, hash_of, query_of};
+ghost use Rattle.rkyv_collections.specs.{IsPairOfEntry, IsValueOfEntry, IsViewAt, entry_part};
+ghost use Rattle.rkyv_collections.specs.{map_bytes, pair_part, value_part};
+ghost use Rattle.rkyv_keys.specs.{IsFoundAt, hash_at, hash_of, query_of};
 
 use crate::map::ArchivedHashMap;
 use rkyv_base::element::Element;

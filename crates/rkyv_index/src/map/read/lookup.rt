@@ -14,12 +14,11 @@ ghost use Rattle.rkyv_base.specs.{IsValidView, bytes_of, entry_spec, pos_of};
 ghost use Rattle.rkyv_scan.specs.{hash_of_calls};
 ghost use Rattle.rkyv_base.specs.declared.view.View.{View};
 ghost use Rattle.rkyv_table.specs.{len_at};
-ghost use Rattle.rkyv_keys.specs.{hash_at, hash_of, query_of};
+ghost use Rattle.rkyv_keys.specs.{IsFoundAt, hash_at, hash_of, query_of};
 ghost use Rattle.rkyv_index.specs.{CanCompareKeys, CanCompareKeysIn, CountsBy, CountsKey};
-ghost use Rattle.rkyv_index.specs.{FoundKeyHas, GetsBy, GetsKey, IsFoundAt, IsKeyIn, IsPairAt};
-ghost use Rattle.rkyv_index.specs.{IsStoredIndex, IsValueAt, ReadsWithinBound, entries_pos};
-ghost use Rattle.rkyv_index.specs.{full_part, index_of, index_part, index_spec, pair_part};
-ghost use Rattle.rkyv_index.specs.{value_part};
+ghost use Rattle.rkyv_index.specs.{FoundKeyHas, GetsBy, GetsKey, IsKeyIn, IsPairAt, IsStoredIndex};
+ghost use Rattle.rkyv_index.specs.{IsValueAt, ReadsWithinBound, entries_pos, full_part, index_of};
+ghost use Rattle.rkyv_index.specs.{index_part, index_spec, pair_part, value_part};
 
 use crate::map::ArchivedIndexMap;
 use crate::map::read::entries::{find_index, key_in};

@@ -1,9 +1,9 @@
 //! Laws of written tables, in any archive that contains their bytes.
 
 ghost use Rattle.std.specs.Prelude.{ℕ};
-ghost use Rattle.rkyv_base.specs.{RepresentsLocally, written_as};
+ghost use Rattle.rkyv_base.specs.{RepresentsAs, RepresentsLocally, written_as};
 ghost use Rattle.rkyv_table.specs.{RepresentedWereWritten, TableRepresents, WrittenTablesPass};
-ghost use Rattle.rkyv_table.specs.{WrittenTablesRepresent, table_spec, value_represents};
+ghost use Rattle.rkyv_table.specs.{WrittenTablesRepresent, table_spec};
 
 use rkyv_base::archive::Archive;
 use rkyv_base::lend::Lend;
@@ -15,7 +15,7 @@ use rkyv_base::width::Width;
 /// of the table. The control bytes are those of the hashes, and each item is in its home bucket.
 pub fn written_tables_represent<W: Width, U: Archive<W>, X: Lend<U>>()
     ensures { (load_factor : ℕ × ℕ) → WrittenTablesRepresent W.word U.Archived.spec
-        (value_represents X.lent U.Archived.represents) (written_as X.lent U.format) load_factor }
+        (RepresentsAs X.lent U.Archived.represents) (written_as X.lent U.format) load_factor }
 {}
 
 /// States that the written table is valid in each range around the written bytes.
@@ -30,7 +30,7 @@ pub fn written_tables_pass<W: Width, U: Archive<W>, X: Lend<U>>()
 pub fn tables_represent_locally<W: Width, U: Archive<W>, X: Lend<U>>()
     ensures { (load_factor : ℕ × ℕ) → let s = U.Archived.spec in
         RepresentsLocally (table_spec W.word s)
-        (TableRepresents W.word s (value_represents X.lent U.Archived.represents) load_factor) }
+        (TableRepresents W.word s (RepresentsAs X.lent U.Archived.represents) load_factor) }
 {}
 
 /// States that a table that represents items was written from them, in order.
@@ -38,6 +38,6 @@ pub fn tables_represent_locally<W: Width, U: Archive<W>, X: Lend<U>>()
 /// Each item is under its hash and in its home bucket. So a lookup finds the first accepted item.
 pub fn represented_lists_were_written<W: Width, U: Archive<W>, X: Lend<U>>()
     ensures { (load_factor : ℕ × ℕ) →
-        RepresentedWereWritten W.word U.Archived.spec (value_represents X.lent
+        RepresentedWereWritten W.word U.Archived.spec (RepresentsAs X.lent
         U.Archived.represents) load_factor }
 {}
