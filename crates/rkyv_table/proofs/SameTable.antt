@@ -1,9 +1,12 @@
 -- Two archives with the same bytes of a table have the same table.
-use Rattle.std.proofs.Common.{◌≡◌, ℕ, ◌+◌, ◌*◌, ◌<◌, ◌∙◌, inl, inr, sym, subst, arith, List, length}
+use Rattle.std.proofs.Common.{◌≡◌, ℕ, ◌+◌, ◌*◌, ◌<◌, ◌≤◌, ◌∙◌, ap, inl, inr, sym, subst, arith, List, length}
 use Rattle.std.specs.Int.{Width, byte_len}
-use Rattle.rkyv_base.specs.{AgreeOn}
-use Rattle.rkyv_table.specs.{AreWrittenControls, WrittenAt, cap_at, table_controls}
+use Rattle.std.proofs.lemmas.Bool.{cases_eq}
+use Rattle.rkyv_base.specs.{AgreeOn, ElementSpec, IsElement}
+use Rattle.rkyv_table.specs.{AreWrittenControls, IsValidTable, WrittenAt, cap_at, table_controls, walk}
+use Rattle.rkyv_table.specs.Lemmas.SameControls.{same_controls}
 use Rattle.rkyv_table.specs.Lemmas.SameHeader.{cap_same, len_same}
+use Rattle.rkyv_table.proofs.Walks.{walk_none}
 
 -- a table that was written under some hashes is so in bytes with the same header and control bytes
 pub written_there : (w : Width) (b c : List ℕ) (p : ℕ) → AgreeOn b c p (p + 3 * byte_len w) → (0 < cap_at w b p → table_controls w b p ≡ table_controls w c p)
@@ -20,3 +23,17 @@ written_there w b c p fixed controls hashes homes written = record {
     )
   ];
 }
+
+-- a walk of a valid table has the same buckets in an archive with the same bytes
+pub same_walk : (w : Width) (s : ElementSpec) → IsElement s → (b c : List ℕ) (p lo hi l : ℕ) → lo ≤ hi → IsValidTable w s b p lo hi l
+    → AgreeOn b c p (p + 3 * byte_len w) → AgreeOn b c lo l
+    → walk (table_controls w b p) (cap_at w b p) ≡ walk (table_controls w c p) (cap_at w c p)
+same_walk w s law b c p lo hi l o valid fixed part = elim (cases_eq (cap_at w b p) 0) [
+  | inl none ↦
+      ap (walk (table_controls w b p)) none ∙ walk_none (table_controls w b p)
+      ∙ sym (walk_none (table_controls w c p))
+      ∙ ap (walk (table_controls w c p)) (sym none ∙ cap_same w b c p fixed)
+  | inr some ↦
+      ap (λ (xs : List ℕ). walk xs (cap_at w b p)) (same_controls w s law b c p lo hi l o valid fixed part (omega arith))
+      ∙ ap (walk (table_controls w c p)) (cap_same w b c p fixed)
+]

@@ -20,16 +20,15 @@ use Rattle.rkyv_base.specs.Lemmas.Pairs.{pair_local}
 use Rattle.rkyv_table.specs.{IsValidTable, IsWalked, cap_at, item_at, item_positions}
 use Rattle.rkyv_table.specs.{table_controls, walk}
 use Rattle.rkyv_table.specs.Lemmas.ItemPositions.{item_is_valid, valid_part}
-use Rattle.rkyv_table.specs.Lemmas.SameHeader.{cap_same, pos_same}
+use Rattle.rkyv_table.specs.Lemmas.SameHeader.{pos_same}
 use Rattle.rkyv_table.proofs.RawWalks.{walked_all}
-use Rattle.rkyv_table.proofs.Walks.{walk_none}
+use Rattle.rkyv_table.proofs.SameTable.{same_walk}
 use Rattle.rkyv_table.proofs.WrittenTables.{home_pos}
 use Rattle.rkyv_collections.specs.{ArePairsAt, EntriesRepresent, MapRepresents, map_spec}
 use Rattle.rkyv_collections.specs.{of_entries}
 use Rattle.rkyv_collections.specs.Lemmas.DistinctEntries.{of_entries-format}
 use Rattle.rkyv_collections.specs.Lemmas.PairHomes.{homes_count, homes_visited}
 use Rattle.rkyv_collections.specs.Lemmas.StoredKeys.{find_in_distinct, key_contained, no_key}
-use Rattle.rkyv_table.specs.Lemmas.SameControls.{same_controls}
 
 module _ (k v : ElementSpec) (kl : IsElement k) (vl : IsElement v) (w : Width) where
   abbrev S : ElementSpec
@@ -40,23 +39,10 @@ module _ (k v : ElementSpec) (kl : IsElement k) (vl : IsElement v) (w : Width) w
 
   module _ (b c : List ℕ) (p lo hi l : ℕ) (o : lo ≤ hi) (h : IsValidTable w S b p lo hi l)
       (fixed : AgreeOn b c p (p + 3 * byte_len w)) (part : AgreeOn b c lo l) where
-    same_walk : walk (table_controls w b p) (cap_at w b p)
-        ≡ walk (table_controls w c p) (cap_at w c p)
-    same_walk = elim (cases_eq (cap_at w b p) 0) [
-      | inl none ↦
-          ap (walk (table_controls w b p)) none ∙ walk_none (table_controls w b p)
-          ∙ sym (walk_none (table_controls w c p))
-          ∙ ap (walk (table_controls w c p)) (sym none ∙ cap_same w b c p fixed)
-      | inr some ↦
-          ap (λ (xs : List ℕ). walk xs (cap_at w b p))
-          (same_controls w S law b c p lo hi l o h fixed part (omega arith))
-          ∙ ap (walk (table_controls w c p)) (cap_same w b c p fixed)
-    ]
-
     -- a walk has the same positions in both
     pub same_positions : item_positions w S.size b p ≡ item_positions w S.size c p
     same_positions =
-        ap (map (item_at w S.size b p)) same_walk
+        ap (map (item_at w S.size b p)) (same_walk w S law b c p lo hi l o h fixed part)
         ∙ ap (λ z. map (λ i. z - (i + 1) * S.size) (walk (table_controls w c p) (cap_at w c p)))
         (pos_same w b c p fixed)
 

@@ -22,13 +22,12 @@ use Rattle.rkyv_table.specs.{AreValidAt, FirstFails, IsValidTable, IsValidWithin
 use Rattle.rkyv_table.specs.{item_at, item_positions, len_at, table_controls, table_spec, walk}
 use Rattle.rkyv_table.specs.{within_lower}
 use Rattle.rkyv_table.specs.Lemmas.ItemPositions.{item_is_valid, valid_part}
-use Rattle.rkyv_table.specs.Lemmas.SameControls.{same_controls}
 use Rattle.rkyv_table.specs.Lemmas.ValidItemLaws.{all_between, all_exclusive, all_local, all_lower}
 use Rattle.rkyv_table.specs.Lemmas.ValidItemLaws.{all_one, all_one_failure, all_prop}
-use Rattle.rkyv_table.specs.Lemmas.SameHeader.{cap_same, item_same, len_same}
+use Rattle.rkyv_table.specs.Lemmas.SameHeader.{item_same, len_same}
 use Rattle.rkyv_table.specs.Lemmas.TableLaws.{table_element}
 use Rattle.rkyv_table.proofs.RawWalks.{walked_all}
-use Rattle.rkyv_table.proofs.Walks.{walk_none}
+use Rattle.rkyv_table.proofs.SameTable.{same_walk}
 use Rattle.rkyv_index.specs.Map.IndexLayout.{AreValidEntries, EntriesFail, EntriesIn}
 use Rattle.rkyv_index.specs.Map.IndexLayout.{FirstNotBelow, IndexFails}
 use Rattle.rkyv_index.specs.Map.IndexLayout.{IndicesBelow, IsValidIndex, distance_pos}
@@ -227,25 +226,13 @@ module _ (w : Width) (kind : IsArchiveWord w) where
         ap (from_le_bytes w) (agree_on_part b c lo m q (q + byte_len w) u.0 u.1 (omega arith) part)
         ∙ ap (number_at w c) (item_same w b c p fixed (byte_len w) i)
 
-    same_walk : walk (table_controls w b p) (cap_at w b p) ≡ walk (table_controls w c p)
-        (cap_at w c p)
-    same_walk = elim (cases_eq (cap_at w b p) 0) [
-      | inl none ↦
-          let z : cap_at w c p ≡ 0 = sym (cap_same w b c p fixed) ∙ none in
-          ap (walk (table_controls w b p)) none ∙ walk_none (table_controls w b p)
-          ∙ sym (ap (walk (table_controls w c p)) z ∙ walk_none (table_controls w c p))
-      | inr some ↦
-          ap (λ (xs : List ℕ). walk xs (cap_at w b p))
-          (same_controls w P P_law b c p lo hi m o h fixed part (omega arith))
-          ∙ ap (walk (table_controls w c p)) (cap_same w b c p fixed)
-    ]
-
     indices_local : (n : ℕ) → IndicesBelow w b n (item_positions w (byte_len w) b p)
         → IndicesBelow w c n (item_positions w (byte_len w) c p)
     indices_local n below =
         let at = item_at w (byte_len w) in
         let ws = walk (table_controls w b p) (cap_at w b p) in
-        subst (λ (xs : List ℕ). IndicesBelow w c n (map (at c p) xs)) same_walk
+        subst (λ (xs : List ℕ). IndicesBelow w c n (map (at c p) xs))
+        (same_walk w P P_law b c p lo hi m o h fixed part)
         (All-map (λ q. number_at w c q < n) (at c p) ws
         (λ k d lt.
         subst (λ x. x < n) (index_same_at (get_or ws k d) (walked_all w P P_law b p k d lt))
