@@ -13,6 +13,7 @@ use crate::table::ArchivedHashTable;
 use rkyv_base::element::Element;
 use rkyv_base::view::View;
 use rkyv_base::width::Width;
+use rkyv_scan::simd::paired;
 
 /// Returns `true` if a lookup found another bucket, or none.
 #[inline]
@@ -61,7 +62,7 @@ impl<'a, T: Element, W: Width> ArchivedHashTable<'a, T, W> {
             strides.old strides.new }
     {
         let hash = hash_of(item);
-        let found = find_from::<rkyv_scan::Group, _>(
+        let found = find_from::<paired::Group, _>(
             self.controls(),
             self.header.cap,
             self.header.len,
