@@ -1,16 +1,12 @@
 //! The values of maps, as numbers of 64 bits.
 
-ghost use Rattle.std.specs.Prelude.{IfSome, MatchOption, ℕ, ◌<◌, ◌^◌, ◌≡◌, ◌≤◌};
+ghost use Rattle.std.specs.Prelude.{IfSome, MatchOption, ◌<◌, ◌^◌, ◌≡◌, ◌≤◌};
 ghost use mir.Val.{bits};
 
 use rkyv_base::scalars::Scalar;
 
 /// The value of a key, which is a number.
 pub(crate) trait Value: Scalar {
-    /// Returns the value as a number.
-    fn to_number(self) -> u64
-        ensures { (n : ℕ) → Self.encoding.value n ≡ self → result ≡ n };
-
     /// Returns the value of a number, or `None` if the number has more bits than values.
     fn of_number(number: u64) -> Option<Self>
         ensures exact { MatchOption result (2 ^ bits Self.encoding.word ≤ number)
@@ -21,11 +17,6 @@ pub(crate) trait Value: Scalar {
 
 impl Value for u32 {
     #[inline]
-    fn to_number(self) -> u64 {
-        u64::from(self)
-    }
-
-    #[inline]
     fn of_number(number: u64) -> Option<u32> {
         if number < 0x1_0000_0000 {
             return Some(number as u32);
@@ -35,11 +26,6 @@ impl Value for u32 {
 }
 
 impl Value for u64 {
-    #[inline]
-    fn to_number(self) -> u64 {
-        self
-    }
-
     #[inline]
     fn of_number(number: u64) -> Option<u64> {
         Some(number)

@@ -90,21 +90,6 @@ impl<'a, G: GroupKind> Iterator for Walk<'a, G> {
     }
 }
 
-/// Returns the number of full buckets among the first `cap`.
-///
-/// # Requires
-///
-/// - `cap` is above 0.
-/// - There are as many control bytes as a table with `cap` buckets has.
-#[inline]
-pub fn count_full<G: GroupKind>(controls: &[u8], cap: usize) -> usize
-    requires some { 0 < cap }
-    requires count { length controls.now ≡ control_count cap }
-    ensures { result ≡ length (walk controls.now cap) }
-{
-    Walk::<G>::new(controls, cap).count()
-}
-
 /// Returns the first full bucket from `from` on and below `cap`, or `None`.
 ///
 /// # Requires
