@@ -6,8 +6,7 @@ use Rattle.rkyv_base.specs.{ArchiveOf, ElementSpec, Encoding, Format, IsValidArc
 use Rattle.rkyv_base.specs.{WidthMembers, scalar_spec, text_format, text_spec, unsigned, written_as}
 use Rattle.rkyv_base.specs.declared.errors.WriteError.{WriteError}
 use Rattle.rkyv_base.specs.declared.writer.NoMemory.{NoMemory}
-use Rattle.rkyv_keys.specs.{NativePairs, text_calls}
-use Rattle.rkyv_collections.specs.{PairFormat}
+use Rattle.rkyv_keys.specs.{NativePairs, PairFormat, text_calls}
 use Rattle.rkyv_table.specs.{listed}
 use Rattle.rkyv_index.specs.{IndexRepresents, IndexResolver, IndicesAs, index_format, indices}
 use Rattle.ffi_calls.specs.Archives.{value_encoding, value_spec, word_of}

@@ -7,8 +7,8 @@ use Rattle.rkyv_base.specs.{ElementSpec, IsValidArchive, ScalarRepresents, scala
 use Rattle.rkyv_base.specs.{unsigned}
 use Rattle.rkyv_base.specs.declared.errors.WriteError.{WriteError}
 use Rattle.rkyv_base.specs.declared.writer.NoMemory.{NoMemory}
-use Rattle.rkyv_keys.specs.{NativePairs, one_call, same_bytes, scalar_fits, text_calls}
-use Rattle.rkyv_collections.specs.{MapAt, PairFormat, ValueQuery}
+use Rattle.rkyv_keys.specs.{NativePairs, PairFormat, one_call, same_bytes, scalar_fits, text_calls}
+use Rattle.rkyv_collections.specs.{MapAt, ValueQuery}
 use Rattle.rkyv_index.specs.{indices}
 use Rattle.ffi_calls.specs.Archives.{limit_of, word_of}
 use Rattle.ffi_calls.specs.IndexArchives.{ReturnsIndexed, StoresPairs, found_index, index_in}

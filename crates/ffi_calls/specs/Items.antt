@@ -9,8 +9,7 @@ use Rattle.rkyv_base.specs.{ElementSpec, Encoding, scalar_format, text_format, t
 use Rattle.rkyv_base.specs.{written_as}
 use Rattle.rkyv_base.specs.declared.errors.WriteError.{WriteError}
 use Rattle.rkyv_base.specs.declared.writer.NoMemory.{NoMemory}
-use Rattle.rkyv_keys.specs.{one_call, text_calls, text_key_calls}
-use Rattle.rkyv_collections.specs.{PairFormat}
+use Rattle.rkyv_keys.specs.{PairFormat, one_call, text_calls, text_key_calls}
 use Rattle.ffi_calls.specs.Archives.{limit_of, most_of, value_encoding, value_spec, word_of}
 use Rattle.ffi_calls.specs.Keys.{NumberKey}
 use Rattle.ffi_calls.specs.Listed.{TextRepresents, number_natives}

@@ -8,9 +8,10 @@ use Rattle.rkyv_base.specs.{ScalarRepresents, ToBytesFails, WidthMembers, scalar
 use Rattle.rkyv_scan.specs.{HasherCall, fx_hasher, low_halves}
 use Rattle.rkyv_base.specs.declared.errors.WriteError.{WriteError}
 use Rattle.rkyv_table.specs.{TableResolver, listed}
-use Rattle.rkyv_collections.specs.{MapAt, MapRepresents, PairFormat, ValueQuery, WalksVisitPairs}
-use Rattle.rkyv_collections.specs.{map_format, map_spec, native_format, query_of_value, with_first}
-use Rattle.rkyv_keys.specs.{NativePairs, first_pair, first_value, native_pairs}
+use Rattle.rkyv_collections.specs.{MapAt, MapRepresents, ValueQuery, WalksVisitPairs, map_format}
+use Rattle.rkyv_collections.specs.{map_spec, query_of_value, with_first}
+use Rattle.rkyv_keys.specs.{NativePairs, PairFormat, first_pair, first_value, native_format}
+use Rattle.rkyv_keys.specs.{native_pairs}
 use Rattle.ffi_calls.specs.Archives.{map_in}
 
 -- the pairs that bytes represent. `key` and `value`: what represents the keys and the values,

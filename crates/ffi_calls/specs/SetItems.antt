@@ -8,10 +8,10 @@ use Rattle.rkyv_base.specs.{ToBytesFails, scalar_format, text_spec, unit_spec}
 use Rattle.rkyv_base.specs.declared.errors.WriteError.{WriteError}
 use Rattle.rkyv_base.specs.declared.strings.TextResolver.{TextResolver}
 use Rattle.rkyv_base.specs.declared.writer.NoMemory.{NoMemory}
-use Rattle.rkyv_keys.specs.{one_call, scalar_calls, text_calls, text_key_calls}
+use Rattle.rkyv_keys.specs.{KeyFormat, native_key_format, one_call, scalar_calls, text_calls}
+use Rattle.rkyv_keys.specs.{text_key_calls}
 use Rattle.rkyv_table.specs.{TableResolver, listed}
-use Rattle.rkyv_collections.specs.{KeyFormat, SetRepresents, map_root, native_key_format}
-use Rattle.rkyv_collections.specs.{set_format, set_spec}
+use Rattle.rkyv_collections.specs.{SetRepresents, map_root, set_format, set_spec}
 use Rattle.ffi_calls.specs.Keys.{NumberKey}
 use Rattle.ffi_calls.specs.Listed.{TextRepresents}
 use Rattle.ffi_calls.specs.Lists.{ArchiveWidth}

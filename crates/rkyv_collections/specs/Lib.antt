@@ -1,6 +1,5 @@
 -- All definitions of the crate, which contracts and proofs import from here.
 pub mod StdMaps
-pub mod Natives
 pub mod Map
 pub mod Lemmas
 pub mod Set
@@ -20,8 +19,6 @@ unfoldable pub use StdMaps.RoundTrips.{ArchivesRoundTrip}
 unfoldable pub use StdMaps.ListArchives.{IsNarrowWritten, IsWideWritten, WrittenMapsAreLists}
 unfoldable pub use StdMaps.ListArchives.{WrittenSetsAreLists}
 pub use StdMaps.ListArchives.{IsWrittenArchive}
-unfoldable pub use Natives.{native_format, native_key_format, queried}
-pub use Natives.{KeyFormat, PairFormat, Queried}
 unfoldable pub use Map.{AreUnderHash, AreUnderHashAt, CanCompareKeys, ComparesKeysBy, FindsBy}
 unfoldable pub use Map.{FindsFirstBy, FindsFirstKey, FindsFirstKeyAt, FindsKey, FindsKeyAt}
 unfoldable pub use Map.{IsEntryIn, IsKeyPos, IsMap, IsPairAt, IsValueAt, IsViewAt, MapWrittenAt}
@@ -80,4 +77,5 @@ unfoldable pub use Set.{FoundMemberHas, GetsMember, IsSetAt, member_positions, s
 unfoldable pub use Set.{set_bytes, set_equal, set_len, set_misplaced, set_pos, set_spec, set_view}
 unfoldable pub use Set.ListArchives.{MembersFoundAreListed, set_root}
 unfoldable pub use Set.SetFormat.{SetRepresents, WrittenSetsRepresent, set_format}
-unfoldable pub use Listed.{map_list, set_list}
+unfoldable pub use Listed.{map_list, map_list_format, pairs_under, set_list, set_list_format}
+unfoldable pub use Listed.{std_map_format}

@@ -15,7 +15,7 @@ unfoldable pub use Map.{CountsBy, CountsKey, FindsBy, FindsFirstBy, FindsFirstIn
 unfoldable pub use Map.{FindsIndex, FindsKey, IsAccepted, IsFullKeyIn, IsFullResult, IsIndex}
 unfoldable pub use Map.{IsIndexOf, IsPairAt, IsPairOf, IsStored, IsStoredAt, IsStoredIndex}
 unfoldable pub use Map.{IsValueAt, IsWritten, MatchesAt, ReadsUpTo, ReadsWithinBound, fits_at}
-unfoldable pub use Map.{fits_in, full_index, full_key_index, index_archive, index_bytes}
+unfoldable pub use Map.{fits_in, full_index, full_key_index, index_archive, index_bytes, index_cap}
 unfoldable pub use Map.{index_found, index_len, index_of, index_pos, index_strides, key_at, key_pos}
 unfoldable pub use Map.{key_positions, pair_indices, pair_positions, row, stored_index}
 pub use Map.{AreEntries, FindsIndexIn, Index, IsEntryOf, IsKeyIn, IsKeyOf, IsValueOf}
@@ -66,4 +66,5 @@ pub use Map.Reading.{ReadsAs}
 unfoldable pub use Map.Writing.{NoOther, OwnOrSerializeFails, WritesEntries, WritesIndices}
 unfoldable pub use Map.Writing.{WritesUnder, hashed, hashed_row, listing, pairs_of}
 pub use Map.Writing.{HashedList, HashedRow, Listing}
-unfoldable pub use Listed.{ordered_items, ordered_pairs}
+unfoldable pub use Listed.{fx_format, ordered_items, ordered_items_format, ordered_pairs}
+unfoldable pub use Listed.{ordered_pairs_format}

@@ -77,6 +77,10 @@ module _ {K V H W : Type 0} {ks : Specs K} {vs : Specs V} {wt : Words W} where
   abbrev pub index_len : ArchivedIndexMap K V H W ks vs wt → ℕ
   index_len m = len_at wt.word (index_bytes m) (index_pos m)
 
+  -- the number of buckets of the table of indices
+  abbrev pub index_cap : ArchivedIndexMap K V H W ks vs wt → ℕ
+  index_cap m = cap_at wt.word (index_bytes m) (index_pos m)
+
   -- the position of the key at index `i`
   abbrev pub key_pos : ArchivedIndexMap K V H W ks vs wt → ℕ → ℕ
   key_pos m i = pair_pos wt.word (entry_spec ks.spec vs.spec).size (index_bytes m) (index_pos m) i
@@ -129,9 +133,8 @@ module _ {K V H W : Type 0} {ks : Specs K} {vs : Specs V} {wt : Words W} where
   -- the number of strides that a lookup reads: none in an empty map, else at least one
   -- and at most ceil(n / 16) for n buckets. `before`, `after`: counts of strides
   abbrev pub ReadsWithinBound : ArchivedIndexMap K V H W ks vs wt → ℕ → ℕ → Type 0
-  ReadsWithinBound m before after = ReadsWithin (index_len m) (probe_capacity (cap_at wt.word
-      (index_bytes m)
-      (index_pos m)) / 16) before after
+  ReadsWithinBound m before after =
+      ReadsWithin (index_len m) (probe_capacity (index_cap m) / 16) before after
 
   -- No count is lost, at most `limit` strides are counted and those of one more lookup, and
   -- `result` is `None` if and only if more than `limit` are, or 2^63 in all.

@@ -8,6 +8,7 @@ pub mod FirstPairs
 pub mod Fixed
 pub mod Hashing
 pub mod Keys
+pub mod NativeFormats
 pub mod Natives
 pub mod OfEntries
 pub mod OfScalars
@@ -34,6 +35,8 @@ unfoldable pub use Fixed.{MakesFixedCalls}
 unfoldable pub use Hashing.{HashesBy}
 unfoldable pub use Keys.{FitsItsEqual, ReadsAnywhere}
 pub use Keys.{IsKey, IsQuery}
+unfoldable pub use NativeFormats.{native_format, native_key_format, queried}
+pub use NativeFormats.{KeyFormat, PairFormat, Queried}
 unfoldable pub use Natives.{native_keys, native_pairs}
 pub use Natives.{NativeKeys, NativePairs}
 unfoldable pub use OfEntries.{BothRead, entry_calls, entry_deserialize_fails, entry_equals}

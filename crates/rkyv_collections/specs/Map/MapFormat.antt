@@ -6,8 +6,7 @@ use Rattle.rkyv_base.specs.{written_as}
 use Rattle.rkyv_table.specs.{TableResolver, cap_at, capacity, home_positions, len_at, table_format}
 use Rattle.rkyv_collections.specs.Map.{MapWrittenAt}
 use Rattle.rkyv_collections.specs.Map.MapSpec.{map_spec}
-use Rattle.rkyv_keys.specs.{NativePairs}
-use Rattle.rkyv_collections.specs.Natives.{PairFormat}
+use Rattle.rkyv_keys.specs.{NativePairs, PairFormat}
 
 -- the pairs, each with the hash of its key
 abbrev pub keyed : {A B : Type 0} → (A → ℕ) → List (A × B) → List (ℕ × (A × B))

@@ -8,7 +8,7 @@ use Rattle.rkyv_base.specs.declared.lend.Lend.{Ghosts as Lends}
 use Rattle.rkyv_table.specs.{Input, TableResolver, WritesHeader, WritesItems, from_iter, key_values}
 use Rattle.rkyv_table.specs.{pair_values}
 use Rattle.rkyv_collections.specs.Map.MapFormat.{map_format}
-use Rattle.rkyv_collections.specs.Natives.{KeyFormat, PairFormat}
+use Rattle.rkyv_keys.specs.{KeyFormat, PairFormat}
 use Rattle.rkyv_collections.specs.Set.SetFormat.{set_format}
 
 -- items to be written. `input`: the items, `lent`: the values that they lend, `len`: their claimed

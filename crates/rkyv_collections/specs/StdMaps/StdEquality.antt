@@ -9,7 +9,7 @@ use Rattle.rkyv_scan.specs.{generic_kind}
 use Rattle.rkyv_base.specs.{ElementSpec, entry_spec, value_offset}
 use Rattle.rkyv_table.specs.{len_at, pos_found}
 use Rattle.rkyv_collections.specs.Map.{map_bytes, map_pos}
-use Rattle.rkyv_collections.specs.Natives.{Queried}
+use Rattle.rkyv_keys.specs.{Queried}
 use Rattle.rkyv_collections.specs.declared.map.ArchivedHashMap.{ArchivedHashMap}
 
 module _ {A B : Type 0} (w : Width) (k v : ElementSpec) (hash : A → ℕ) (fits : A → List ℕ → ℕ

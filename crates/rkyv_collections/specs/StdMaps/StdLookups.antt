@@ -15,7 +15,7 @@ use Rattle.rkyv_table.specs.{pos_found}
 use Rattle.rkyv_collections.specs.Map.ListedLookups.{AgreesOnKeys}
 use Rattle.rkyv_collections.specs.Map.{map_bytes, map_pos}
 use Rattle.rkyv_collections.specs.Map.MapSpec.{map_spec}
-use Rattle.rkyv_collections.specs.Natives.{Queried}
+use Rattle.rkyv_keys.specs.{Queried}
 use Rattle.rkyv_collections.specs.Set.{set_spec}
 use Rattle.rkyv_collections.specs.declared.map.ArchivedHashMap.{ArchivedHashMap}
 use Rattle.rkyv_collections.specs.declared.std_maps.hashed.Hashed.{Hashed}

@@ -9,10 +9,9 @@ use Rattle.rkyv_base.specs.{AtView, ElementSpec, unit_represents, unit_spec}
 use Rattle.rkyv_base.specs.declared.errors.ReadError.{ReadError}
 use Rattle.rkyv_base.specs.declared.errors.ReadError.TheVariants.{Memory}
 use Rattle.rkyv_base.specs.declared.view.View.{View}
-use Rattle.rkyv_keys.specs.{DeserializeErrors}
+use Rattle.rkyv_keys.specs.{DeserializeErrors, Queried}
 use Rattle.rkyv_table.specs.{len_at, with_units}
 use Rattle.rkyv_collections.specs.Map.MapSpec.{IsKeyPosAt}
-use Rattle.rkyv_collections.specs.Natives.{Queried}
 use Rattle.rkyv_collections.specs.Set.{set_bytes, set_pos}
 use Rattle.rkyv_collections.specs.StdMaps.StdEquality.{FindsPair}
 use Rattle.rkyv_collections.specs.declared.set.ArchivedHashSet.{ArchivedHashSet}

@@ -5,7 +5,8 @@
 
 ghost use Rattle.std.specs.Prelude.{◌≡◌, ◌+◌, ◌<◌, ◌^◌, length};
 ghost use Rattle.rkyv_table.specs.{resolver_of};
-ghost use Rattle.rkyv_collections.specs.{ResolvesMap, WritesMap, native_format, pairs_in};
+ghost use Rattle.rkyv_keys.specs.{native_format};
+ghost use Rattle.rkyv_collections.specs.{ResolvesMap, WritesMap, pairs_in};
 
 mod hashing;
 

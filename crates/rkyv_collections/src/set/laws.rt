@@ -2,18 +2,19 @@
 //!
 //! They are about iterations and lookups. `written` is about the bytes of written sets.
 
-ghost use Rattle.rkyv_collections.specs.{MembersFoundAreListed, SetWalksVisitEach, set_list};
-ghost use Rattle.rkyv_collections.specs.{set_spec};
-ghost use Rattle.rkyv_base.specs.{SameSpec, SameValues};
+ghost use Rattle.rkyv_collections.specs.{ComparedAlike, MembersFoundAreListed, QueriedAlike};
+ghost use Rattle.rkyv_collections.specs.{SetWalksVisitEach, WrittenAlike, set_list, set_spec};
+ghost use Rattle.rkyv_base.specs.{SameSpec, SameValues, unit_spec};
 ghost use Rattle.rkyv_keys.specs.{hash_at, native_keys};
 
 pub mod written;
 
 use crate::lists::SetItems;
+use crate::map::laws::both_hashers_look_up_alike as maps_look_up_alike;
 use crate::set::HashSetOf;
 use rkyv_base::element::{HasSpec, Represents};
 use rkyv_base::width::Width;
-use rkyv_keys::keys::{KeyElement, NativeQuery};
+use rkyv_keys::keys::{FixedKey, KeyElement, NativeQuery, Query};
 use rkyv_scan::hash::KeyHasher;
 
 /// States that `iter` returns each key of the list that a set represents once.
@@ -36,6 +37,17 @@ pub fn members_found_are_listed<
     ensures { MembersFoundAreListed H W.Word K.HasSpec
         (native_keys K.represents (hash_at H.hasher K.key_calls) Q.fits Q.equals) }
 {}
+
+/// States that a set whose keys hash no `usize` or `isize` is looked up alike by both hashers.
+///
+/// It is the law of maps for the map of the keys to the unit value.
+pub fn both_hashers_look_up_alike<Q: Query<K>, K: FixedKey, W: Width>()
+    ensures written { WrittenAlike W.word K.spec unit_spec K.key_calls }
+    ensures compared { ComparedAlike W.word K.spec unit_spec }
+    ensures queried { QueriedAlike W.word K.spec unit_spec K.key_calls Q.KeyHash Q.fits }
+{
+    maps_look_up_alike::<Q, K, (), W>();
+}
 
 /// States the layout of a set, and that it represents the keys of a list in insertion order.
 pub fn sets_are_laid_out<'a, W, H, A, K>()

@@ -5,7 +5,8 @@
 
 ghost use Rattle.std.specs.Prelude.{◌≡◌, ◌+◌, ◌<◌, ◌^◌, length};
 ghost use Rattle.rkyv_table.specs.{resolver_of};
-ghost use Rattle.rkyv_collections.specs.{ResolvesMap, WritesSet, keys_in, native_key_format};
+ghost use Rattle.rkyv_keys.specs.{native_key_format};
+ghost use Rattle.rkyv_collections.specs.{ResolvesMap, WritesSet, keys_in};
 
 use crate::map::ArchivedHashMap;
 use crate::map::write::HashMapResolver;

@@ -49,10 +49,12 @@ impl<'a, K: Element, V: Element, H, W: Width> ArchivedHashMap<'a, K, V, H, W> {
     /// The pairs are inserted in bucket order. Of pairs with equal keys,
     /// the key of the first and the value of the last are kept.
     ///
+    /// Memory for as many pairs as the archived map has is allocated first.
+    ///
     /// # Errors
     ///
+    /// - `Memory`: memory for the map could not be allocated.
     /// - The error of deserializing a key or a value.
-    /// - `Memory`: memory for an insertion could not be allocated.
     ///
     /// # Examples
     ///
@@ -79,7 +81,7 @@ impl<'a, K: Element, V: Element, H, W: Width> ArchivedHashMap<'a, K, V, H, W> {
             (std_map_fails W.word K.spec V.spec K.deserialize_fails V.deserialize_fails)
             (map_view self.entry) state result }
     {
-        let mut map = HashMap::with_hasher(alloc, state);
+        let mut map = HashMap::with_capacity_and_hasher(alloc, self.len(), state)?;
         for (key, value) in self.iter() {
             insert_read(&mut map, alloc, key, value)?;
         }

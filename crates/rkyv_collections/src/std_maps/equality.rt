@@ -7,11 +7,11 @@
 ghost use Rattle.std.specs.Prelude.{IsTrue, ◌↔◌};
 ghost use Rattle.rkyv_base.specs.Lemmas.Pairs.{written_as-format};
 ghost use Rattle.rkyv_base.specs.{AtView, IsValidView};
-ghost use Rattle.rkyv_keys.specs.{hash_of};
+ghost use Rattle.rkyv_keys.specs.{hash_of, queried};
 ghost use Rattle.rkyv_table.specs.{listed};
 ghost use Rattle.rkyv_collections.specs.{EntriesEqual, FindsFirstAcceptedIn, FindsPairIn};
 ghost use Rattle.rkyv_collections.specs.{StdMapEquals, StdMapEqualsIn, map_format, map_spec};
-ghost use Rattle.rkyv_collections.specs.{of_entries, queried};
+ghost use Rattle.rkyv_collections.specs.{of_entries};
 ghost use Rattle.rkyv_collections.specs.Lemmas.MapSound.{listed_map_sound};
 ghost use Rattle.rkyv_collections.specs.Lemmas.StdOnce.{std_map_once};
 ghost use Rattle.rkyv_collections.specs.Lemmas.StdEqualLaws.{entries_equal};
@@ -192,7 +192,10 @@ impl<
         StdMapEqualsIn other (queried H.hasher A.calls A.fits) V.equals m };
 
     #[inline]
-    fn eq_archived(&self, other: ArchivedHashMap<'a, K, V, H, W>) -> bool {
+    fn eq_archived(&self, other: ArchivedHashMap<'a, K, V, H, W>) -> bool
+        ensures { IsTrue result ↔ StdMapEqualsIn other.entry
+            (queried H.hasher A.calls A.fits) V.equals self.now }
+    {
         other.eq_std(self)
     }
 }

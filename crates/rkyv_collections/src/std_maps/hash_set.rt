@@ -5,12 +5,12 @@ ghost use Rattle.rkyv_base.specs.{AtView, IsValidView, RepresentsAs, unit_format
 ghost use Rattle.rkyv_base.specs.{unit_spec, written_as};
 ghost use Rattle.rkyv_base.specs.Lemmas.Empty.{unit_element, unit_is_format, unit_local};
 ghost use Rattle.rkyv_base.specs.Lemmas.Pairs.{written_as-format};
-ghost use Rattle.rkyv_keys.specs.{Deserializes, hash_at, hash_of};
+ghost use Rattle.rkyv_keys.specs.{Deserializes, hash_at, hash_of, queried};
 ghost use Rattle.rkyv_table.specs.{listed, with_units};
 ghost use Rattle.rkyv_collections.specs.{EntriesEqual, EntriesRepresent, InsertsKey, ReadsStdSet};
 ghost use Rattle.rkyv_collections.specs.{StdSetEquals, StdSetEqualsIn, StdSetRepresents, inner};
-ghost use Rattle.rkyv_collections.specs.{insert_key_fails, map_format, of_entries, queried};
-ghost use Rattle.rkyv_collections.specs.{set_spec, set_view, std_set_fails};
+ghost use Rattle.rkyv_collections.specs.{insert_key_fails, map_format, of_entries, set_spec};
+ghost use Rattle.rkyv_collections.specs.{set_view, std_set_fails};
 ghost use Rattle.rkyv_collections.specs.Lemmas.MapSound.{listed_map_sound};
 ghost use Rattle.rkyv_collections.specs.Lemmas.StdOnce.{std_set_once};
 ghost use Rattle.rkyv_collections.specs.Lemmas.StdEqualLaws.{entries_equal};
@@ -129,10 +129,12 @@ impl<'a, K: Element, H, W: Width> ArchivedHashSet<'a, K, H, W> {
     ///
     /// The keys are inserted in bucket order. Of equal keys, the first is kept.
     ///
+    /// Memory for as many keys as the archived set has is allocated first.
+    ///
     /// # Errors
     ///
+    /// - `Memory`: memory for the set could not be allocated.
     /// - The error of deserializing a key.
-    /// - `Memory`: memory for an insertion could not be allocated.
     ///
     /// # Examples
     ///
@@ -155,7 +157,7 @@ impl<'a, K: Element, H, W: Width> ArchivedHashSet<'a, K, H, W> {
         ensures { ReadsStdSet (StdSetRepresents K.spec K.represents W.word A.eq)
             (std_set_fails W.word K.spec K.deserialize_fails) (set_view self.entry) state result }
     {
-        let mut set = HashSet::with_hasher(alloc, state);
+        let mut set = HashSet::with_capacity_and_hasher(alloc, self.len(), state)?;
         for key in self.iter() {
             insert_read(&mut set, alloc, key)?;
         }
@@ -238,7 +240,10 @@ impl<
         StdSetEqualsIn other (queried H.hasher A.calls A.fits) s };
 
     #[inline]
-    fn eq_archived(&self, other: ArchivedHashSet<'a, K, H, W>) -> bool {
+    fn eq_archived(&self, other: ArchivedHashSet<'a, K, H, W>) -> bool
+        ensures { IsTrue result ↔ StdSetEqualsIn other.entry
+            (queried H.hasher A.calls A.fits) self.now }
+    {
         other.eq_std(self)
     }
 }

@@ -70,7 +70,9 @@ impl<M: PartialEq, H> PartialEq for Hashed<M, H> {
         record { symm = λ x y. m.symm x.map y.map; trans = λ x y z. m.trans x.map y.map z.map } };
 
     #[inline]
-    fn eq(&self, other: &Hashed<M, H>) -> bool {
+    fn eq(&self, other: &Hashed<M, H>) -> bool
+        ensures { result ≡ M.eq self.now.map other.now.map }
+    {
         self.map == other.map
     }
 }

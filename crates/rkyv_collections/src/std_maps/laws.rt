@@ -1,13 +1,16 @@
 //! Laws of archives of maps and sets of std, over their definitions alone.
 //!
-//! They are about lookups in these archives, and about values that are read back.
+//! They are about the written bytes, lookups in these archives, and values that are read back.
 
-ghost use Rattle.rkyv_keys.specs.{hash_at};
+ghost use Rattle.rkyv_base.specs.{SameFormat, unit_format, unit_spec};
+ghost use Rattle.rkyv_keys.specs.{hash_at, native_format, queried};
+ghost use Rattle.rkyv_table.specs.{with_units};
 ghost use Rattle.rkyv_collections.specs.{ArchivesRoundTrip, FindsInWrittenMap, FindsInWrittenSet};
-ghost use Rattle.rkyv_collections.specs.{WrittenMapsAreLists, WrittenSetsAreLists, queried};
+ghost use Rattle.rkyv_collections.specs.{WrittenMapsAreLists, WrittenSetsAreLists, std_map_format};
 
 use crate::std_maps::hashed::Hashed;
 use rkyv_base::archive::Archive;
+use rkyv_base::element::Represents;
 use rkyv_base::width::Width;
 use rkyv_keys::equality::{EqualsWritten, MatchesNative, RepresentsUniquely};
 use rkyv_keys::keys::{KeyElement, NativeKey, Query};
@@ -58,6 +61,29 @@ where
     ensures { let format = ⟦<Hashed<HashSet<A, T>, H> as Archive<W>>⟧.format in
         FindsInWrittenSet W.word A.Archived.Represents (queried H.hasher Q.calls Q.fits) Q.can_read
         format }
+{}
+
+/// States that a map of std is written as the map of its entries, whose keys are distinct.
+pub fn std_maps_are_written<W: Width, H: KeyHasher, K, A, B, T: BuildHasher>()
+where
+    K: KeyElement + Represents<A>,
+    A: NativeKey<K> + Archive<W, Archived = K> + Hash,
+    B: Archive<W>,
+    ensures { SameFormat ⟦<Hashed<HashMap<A, B, T>, H> as Archive<W>>⟧.format
+        (std_map_format W.Width
+        (native_format K.spec B.Archived.spec A.format B.format H.hasher A.calls) A.eq
+        (λ x. x.map.entries)) }
+{}
+
+/// States that a set of std is written as the set of its keys, which are distinct.
+pub fn std_sets_are_written<W: Width, H: KeyHasher, K, A, T: BuildHasher>()
+where
+    K: KeyElement + Represents<A>,
+    A: NativeKey<K> + Archive<W, Archived = K> + Hash,
+    ensures { SameFormat ⟦<Hashed<HashSet<A, T>, H> as Archive<W>>⟧.format
+        (std_map_format W.Width
+        (native_format K.spec unit_spec A.format unit_format H.hasher A.calls) A.eq
+        (λ x. with_units x.map.keys)) }
 {}
 
 /// States that the root of an archive of a map of std represents the list of its entries.

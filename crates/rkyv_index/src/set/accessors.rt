@@ -10,7 +10,7 @@ ghost use Rattle.std.specs.Prelude.{IfSome, IsTrue, MatchOption, length, ◌↔�
 ghost use Rattle.rkyv_base.specs.{IsAt, IsValidView, archive_of, entry_spec, pos_of, unit_spec};
 ghost use Rattle.rkyv_table.specs.{AllValid};
 ghost use Rattle.rkyv_index.specs.{FoundKeyHas, GetsKey, IsKeyOf, IsMemberAt, IsStoredIndex};
-ghost use Rattle.rkyv_index.specs.{full_key_part, index_archive, index_len, index_part};
+ghost use Rattle.rkyv_index.specs.{full_key_part, index_archive, index_cap, index_len, index_part};
 ghost use Rattle.rkyv_index.specs.{index_set_spec, key_part, key_positions, keys_of};
 ghost use Rattle.rkyv_keys.specs.{IsFoundAt, query_of};
 
@@ -53,6 +53,14 @@ impl<'a, K: Element, H, W: Width> ArchivedIndexSet<'a, K, H, W> {
         ensures { result ≡ index_len (keys_of self.entry) }
     {
         self.map.len()
+    }
+
+    /// Returns the number of buckets of the table of indices.
+    #[inline]
+    pub fn capacity(self) -> usize
+        ensures { result ≡ index_cap (keys_of self.entry) }
+    {
+        self.map.capacity()
     }
 
     /// Returns an iterator over the keys, in order.

@@ -5,7 +5,7 @@ ghost use Rattle.rkyv_index.specs.{index_set_spec};
 use crate::set::{ArchivedIndexSet, IndexSetOf};
 use rkyv_base::view::View;
 use rkyv_base::width::Width;
-use rkyv_keys::debug::{ElementDebug, Shown, valid_at};
+use rkyv_keys::debug::{ElementDebug, Shown};
 use std::fmt::{self, Debug, Formatter, Write};
 
 impl<K: ElementDebug, H, W: Width> ElementDebug for IndexSetOf<K, H, W> {
@@ -23,9 +23,6 @@ impl<K: ElementDebug, H, W: Width> ElementDebug for IndexSetOf<K, H, W> {
 impl<'a, K: ElementDebug, H, W: Width> Debug for ArchivedIndexSet<'a, K, H, W> {
     fn fmt<U: Write>(&self, f: &mut Formatter<U>) -> fmt::Result {
         let map = self.map.view;
-        match valid_at::<IndexSetOf<K, H, W>>(map.bytes(), map.pos()) {
-            Some(view) => IndexSetOf::debug(view, f),
-            None => Err(fmt::Error),
-        }
+        IndexSetOf::debug(map.at::<IndexSetOf<K, H, W>>(map.pos()), f)
     }
 }

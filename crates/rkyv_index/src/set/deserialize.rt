@@ -26,10 +26,12 @@ impl<'a, K: Element, H, W: Width> ArchivedIndexSet<'a, K, H, W> {
 
     /// Deserializes the keys into a list, in order.
     ///
+    /// Memory for the list is allocated first.
+    ///
     /// # Errors
     ///
-    /// - The first error of deserializing a key.
     /// - `Memory`: memory for the list could not be allocated.
+    /// - The first error of deserializing a key.
     ///
     /// # Examples
     ///
@@ -48,13 +50,10 @@ impl<'a, K: Element, H, W: Width> ArchivedIndexSet<'a, K, H, W> {
             (items_deserialize_fails W.word K.Deserialize (set_bytes self.entry)
             (set_pos self.entry)) }
     {
-        let mut list = Vec::new(alloc);
+        let mut list = Vec::with_capacity(alloc, self.len())?;
         for index in 0..self.len() {
             let item = self.read_item(alloc, index)?;
-            match list.push(item) {
-                Ok(()) => {}
-                Err(_) => return Err(ReadError::Memory),
-            }
+            list.push_reserved(item);
         }
         Ok(list)
     }

@@ -51,7 +51,7 @@ impl<'a, K: KeyElement, H: KeyHasher, W: Width> ArchivedIndexSet<'a, K, H, W> {
     /// The number is the result of `misplaced`.
     ///
     /// The result is `None` if the lookups of all keys read more than `limit` strides of sixteen
-    /// control bytes, or more than 2^63. Otherwise the number is exact.
+    /// control bytes, or more than 2^63.
     ///
     /// It reads at most `limit` strides and those of one more lookup, so its cost on an untrusted
     /// set is bounded.
@@ -69,7 +69,9 @@ impl<'a, K: ElementEquiv, H, W: Width> PartialEq for ArchivedIndexSet<'a, K, H, 
 
     ghost laws = { partial_equiv_from_equiv (sets_equality K.equivalence) };
 
-    fn eq(&self, other: &ArchivedIndexSet<'a, K, H, W>) -> bool {
+    fn eq(&self, other: &ArchivedIndexSet<'a, K, H, W>) -> bool
+        ensures { result ≡ index_sets_equal K.same self.now other.now }
+    {
         self.eq_index(*other)
     }
 }

@@ -1,17 +1,19 @@
 //! Laws of index sets, over their definitions alone.
 //!
-//! They are about deserialized lists, lookups and the layout.
+//! They are about deserialized lists, lookups, the layout and the written bytes.
 ghost use Rattle.rkyv_keys.specs.{hash_at, native_keys};
 ghost use Rattle.rkyv_index.specs.{ItemsReadBackAreListed, MembersFoundAreListed, index_set_spec};
-ghost use Rattle.rkyv_index.specs.{ordered_items};
-ghost use Rattle.rkyv_base.specs.{SameSpec, SameValues};
+ghost use Rattle.rkyv_index.specs.{indices, ordered_items, ordered_items_format};
+ghost use Rattle.rkyv_base.specs.{SameFormat, SameSpec, SameValues};
 
 use crate::lists::OrderedItems;
 use crate::set::IndexSetOf;
+use crate::width::IndexMapWidth;
+use rkyv_base::archive::Archive;
 use rkyv_base::element::{HasSpec, Represents};
 use rkyv_base::width::Width;
 use rkyv_keys::equality::RepresentsUniquely;
-use rkyv_keys::keys::{KeyElement, NativeQuery};
+use rkyv_keys::keys::{KeyElement, NativeKey, NativeQuery};
 use rkyv_scan::hash::{FxHasher64, KeyHasher};
 
 /// States that a list deserialized from an index set is `==` to the list that it represents.
@@ -51,4 +53,15 @@ pub fn index_sets_are_laid_out<W: Width, A, K: KeyElement + Represents<A>>()
     ensures list { SameValues
         ⟦<IndexSetOf<K, FxHasher64, W> as Represents<OrderedItems<A>>>⟧.represents
         (ordered_items W.word K.Represents K.key_calls (λ x. x.0.items)) }
+{}
+
+/// States that a list of keys is written as the index set of these keys.
+pub fn ordered_items_are_written<
+    W: IndexMapWidth,
+    K: KeyElement + Represents<A>,
+    A: NativeKey<K> + Archive<W, Archived = K>,
+>()
+    ensures { SameFormat ⟦<OrderedItems<A> as Archive<W>>⟧.format
+        (ordered_items_format W.Width (indices W.Place.spec W.Place.encoding) K.spec A.format
+        A.calls (λ x. x.0.items)) }
 {}

@@ -44,7 +44,7 @@ impl<'a, K: KeyElement, H: KeyHasher, W: IndexMapWidth> ArchivedIndexSet<'a, K, 
     /// The keys are themselves or references. The bytes are those of the index map of the keys
     /// to the unit value. Equal keys are kept, and a lookup finds the first.
     ///
-    /// Not in the contract: the iterator is called at most `len + 1` times,
+    /// By tests alone: the iterator is called at most `len + 1` times,
     /// and not after it returned `None`.
     ///
     /// # Requires

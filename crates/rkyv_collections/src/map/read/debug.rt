@@ -22,6 +22,6 @@ impl<K: ElementDebug, V: ElementDebug, H, W: Width> ElementDebug for HashMapOf<K
 
 impl<'a, K: ElementDebug, V: ElementDebug, H, W: Width> Debug for ArchivedHashMap<'a, K, V, H, W> {
     fn fmt<U: Write>(&self, f: &mut Formatter<U>) -> fmt::Result {
-        Shown::new(self.view).fmt(f)
+        HashMapOf::debug(self.view, f)
     }
 }

@@ -58,12 +58,13 @@ impl<'a, K: KeyElement, V: Element, H: KeyHasher, W: Width> ArchivedHashMap<'a, 
             { K::same(own.key(), other.key()) },
         )
     }
+
     /// Returns the number of misplaced keys, or `None` at a limit on the strides that it reads.
     ///
     /// The number is the result of `misplaced`.
     ///
     /// The result is `None` if the lookups of all keys read more than `limit` strides of sixteen
-    /// control bytes, or more than 2^63. Otherwise the number is exact.
+    /// control bytes, or more than 2^63.
     ///
     /// It reads at most `limit` strides and those of one more lookup, so its cost on an untrusted
     /// map is bounded: [`ArchivedHashTable::misplaced_up_to_by`] counts them. A written map

@@ -1,8 +1,10 @@
-//! The law of written sets, in any archive that contains their bytes.
+//! Laws of written sets, in any archive that contains their bytes, and of lists of keys.
 
-ghost use Rattle.rkyv_keys.specs.{hash_at, hash_of};
-ghost use Rattle.rkyv_collections.specs.{WrittenSetsRepresent};
+ghost use Rattle.rkyv_base.specs.{SameFormat};
+ghost use Rattle.rkyv_collections.specs.{WrittenSetsRepresent, set_list_format};
+ghost use Rattle.rkyv_keys.specs.{hash_at, hash_of, native_key_format};
 
+use crate::lists::SetItems;
 use rkyv_base::archive::Archive;
 use rkyv_base::element::Represents;
 use rkyv_base::width::Width;
@@ -22,4 +24,16 @@ pub fn written_sets_represent<
     ensures { WrittenSetsRepresent W.word K.spec K.represents
         (hash_at H.hasher K.key_calls) A.format
         (hash_of H.hasher A.calls) }
+{}
+
+/// States that a list of keys is written as the set of these keys, under its load factor.
+pub fn listed_items_are_written<'a, W, H, K, A>()
+where
+    W: Width,
+    H: KeyHasher,
+    K: KeyElement + Represents<A>,
+    A: 'a + NativeKey<K> + Archive<W, Archived = K>,
+    ensures { SameFormat ⟦<SetItems<'a, A, H> as Archive<W>>⟧.format
+        (set_list_format W.Width (native_key_format K.spec A.format H.hasher A.calls)
+        (λ x. x.load_factor) (λ x. x.items.now)) }
 {}

@@ -1,8 +1,11 @@
-//! The law of written index maps, in any archive that contains their bytes.
+//! Laws of written index maps, in any archive that contains their bytes, and of lists of pairs.
 
+ghost use Rattle.rkyv_base.specs.{SameFormat};
 ghost use Rattle.rkyv_keys.specs.{hash_at, hash_of};
-ghost use Rattle.rkyv_index.specs.{WrittenIndexMaps, element, indices};
+ghost use Rattle.rkyv_index.specs.{WrittenIndexMaps, element, fx_format, indices};
+ghost use Rattle.rkyv_index.specs.{ordered_pairs_format};
 
+use crate::lists::OrderedPairs;
 use crate::width::IndexMapWidth;
 use rkyv_base::archive::Archive;
 use rkyv_base::element::Represents;
@@ -25,4 +28,17 @@ pub fn written_index_maps_represent<
     ensures { WrittenIndexMaps W.word (indices W.Place.spec W.Place.encoding)
         (element K.spec K.represents A.format) (element V.spec V.represents B.format)
         (hash_at H.hasher K.key_calls) (hash_of H.hasher A.calls) }
+{}
+
+/// States that a list of pairs is written as the index map of these pairs.
+pub fn ordered_pairs_are_written<
+    W: IndexMapWidth,
+    K: KeyElement + Represents<A>,
+    V: Represents<B>,
+    A: NativeKey<K> + Archive<W, Archived = K>,
+    B: Archive<W, Archived = V>,
+>()
+    ensures { SameFormat ⟦<OrderedPairs<A, B> as Archive<W>>⟧.format
+        (ordered_pairs_format W.Width (indices W.Place.spec W.Place.encoding)
+        (fx_format K.spec V.spec A.format B.format A.calls) (λ x. x.0.items)) }
 {}

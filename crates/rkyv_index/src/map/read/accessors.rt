@@ -5,8 +5,8 @@ ghost use Rattle.std.specs.Prelude.{IsTrue, MatchOption, pos as int, unsigned_ab
 ghost use Rattle.std.specs.Prelude.{◌↔◌, ◌≡◌, ◌≤◌};
 ghost use Rattle.rkyv_base.specs.{IsValidView, bytes_of, entry_spec, pos_of};
 ghost use Rattle.rkyv_table.specs.{IsDecoded};
-ghost use Rattle.rkyv_index.specs.{IsPairOf, entries_pos, index_bytes, index_len, index_pos};
-ghost use Rattle.rkyv_index.specs.{index_spec};
+ghost use Rattle.rkyv_index.specs.{IsPairOf, entries_pos, index_bytes, index_cap, index_len};
+ghost use Rattle.rkyv_index.specs.{index_pos, index_spec};
 
 use crate::map::check::decode_entries;
 use crate::map::{ArchivedIndexMap, IndexMapOf};
@@ -120,6 +120,14 @@ impl<'a, K: Element, V: Element, H, W: Width> ArchivedIndexMap<'a, K, V, H, W> {
         ensures { result ≡ index_len self.entry }
     {
         self.header.len()
+    }
+
+    /// Returns the number of buckets of the table of indices.
+    #[inline]
+    pub fn capacity(self) -> usize
+        ensures { result ≡ index_cap self.entry }
+    {
+        self.header.capacity()
     }
 
     /// Returns the key and the value at an index, or `None` if the index isn't below the length.

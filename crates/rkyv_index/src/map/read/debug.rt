@@ -22,6 +22,6 @@ impl<K: ElementDebug, V: ElementDebug, H, W: Width> ElementDebug for IndexMapOf<
 
 impl<'a, K: ElementDebug, V: ElementDebug, H, W: Width> Debug for ArchivedIndexMap<'a, K, V, H, W> {
     fn fmt<U: Write>(&self, f: &mut Formatter<U>) -> fmt::Result {
-        Shown::new(self.view).fmt(f)
+        IndexMapOf::debug(self.view, f)
     }
 }

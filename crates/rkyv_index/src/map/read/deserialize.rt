@@ -28,10 +28,12 @@ impl<'a, K: Element, V: Element, H, W: Width> ArchivedIndexMap<'a, K, V, H, W> {
 
     /// Deserializes the pairs into a list, in order.
     ///
+    /// Memory for the list is allocated first.
+    ///
     /// # Errors
     ///
-    /// - The first error of deserializing a key or a value.
     /// - `Memory`: memory for the list could not be allocated.
+    /// - The first error of deserializing a key or a value.
     ///
     /// # Examples
     ///
@@ -56,13 +58,10 @@ impl<'a, K: Element, V: Element, H, W: Width> ArchivedIndexMap<'a, K, V, H, W> {
             (pairs_deserialize_fails W.word K.Deserialize V.Deserialize (index_bytes self.entry)
             (index_pos self.entry)) }
     {
-        let mut list = Vec::new(alloc);
+        let mut list = Vec::with_capacity(alloc, self.len())?;
         for index in 0..self.len() {
             let pair = self.read_pair(alloc, index)?;
-            match list.push(pair) {
-                Ok(()) => {}
-                Err(_) => return Err(ReadError::Memory),
-            }
+            list.push_reserved(pair);
         }
         Ok(list)
     }

@@ -57,7 +57,9 @@ impl<'a, K: ElementEquiv, V: ElementEquiv, H, W: Width> PartialEq
 
     ghost laws = { partial_equiv_from_equiv (maps_equality K.equivalence V.equivalence) };
 
-    fn eq(&self, other: &ArchivedIndexMap<'a, K, V, H, W>) -> bool {
+    fn eq(&self, other: &ArchivedIndexMap<'a, K, V, H, W>) -> bool
+        ensures { result ≡ index_maps_equal K.same V.same self.now other.now }
+    {
         self.eq_index(*other)
     }
 }

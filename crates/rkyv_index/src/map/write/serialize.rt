@@ -71,7 +71,7 @@ impl<'a, K: KeyElement, V: Element, H: KeyHasher, W: IndexMapWidth> ArchivedInde
     ///
     /// The table of no pairs has no bytes.
     ///
-    /// Not in the contract: the iterator is called at most `len + 1` times,
+    /// By tests alone: the iterator is called at most `len + 1` times,
     /// and not after it returned `None`. Memory for the pairs is allocated before one is taken,
     /// and memory for the table afterwards.
     ///

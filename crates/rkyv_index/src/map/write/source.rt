@@ -1,6 +1,6 @@
 //! Taking the pairs of an index map, and allocating the memory for them.
 
-ghost use Rattle.std.specs.Prelude.{◌≡◌, ◌<◌, ◌≤◌, [], IfOk, IfSome, MatchResult, OnErr, length};
+ghost use Rattle.std.specs.Prelude.{◌≡◌, ◌<◌, ◌≤◌, [], IfOk, MatchResult, OnErr, length};
 ghost use Rattle.std.specs.Prelude.{vec_capacity};
 ghost use Rattle.std.specs.Iterator.{Drains};
 ghost use Rattle.rkyv_table.specs.{YieldsOtherCount};
@@ -8,6 +8,7 @@ ghost use Rattle.rkyv_index.specs.{pairs_of};
 
 use rkyv_base::adapter::EntryAdapter;
 use rkyv_base::lend::Lend;
+use rkyv_table::table::take::next_item;
 use std::alloc::{AllocError, Global};
 
 // The memory for writing entries: vectors with room for each entry and each resolver,
@@ -46,16 +47,6 @@ impl<X: Drop, R: Drop> Room<X, R> {
     }
 }
 
-// Calls an iterator, which need not end.
-#[inline]
-fn next_pair<I: Iterator>(rest: &mut I) -> Option<I::Item>
-    requires { I.can_next rest.old }
-    ensures steps { I.next_gives rest.old result rest.new }
-    ensures keeps { IfSome result (λ _. I.can_next rest.new) }
-{
-    rest.next()
-}
-
 // Takes `len` pairs as entries. An `Err` has the number of pairs, counted up to `len + 1`.
 pub(crate) fn take_entries<
     A,
@@ -74,12 +65,12 @@ pub(crate) fn take_entries<
 {
     let mut rest = iter;
     for count in 0..len {
-        match next_pair(&mut rest) {
+        match next_item(&mut rest) {
             Some((key, value)) => entries.push_reserved(EntryAdapter::new(key, value)),
             None => return Err(count),
         }
     }
-    match next_pair(&mut rest) {
+    match next_item(&mut rest) {
         Some(_) => Err(len + 1),
         None => Ok(()),
     }

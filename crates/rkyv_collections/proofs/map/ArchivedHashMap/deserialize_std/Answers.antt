@@ -12,10 +12,10 @@ use Rattle.rkyv_collections.proofs.map.ArchivedHashMap.deserialize_std.Goals as 
 pub loop-key-init : goal.loop-key-init
 loop-key-init g c =
     let walk = c.iter-key-items.ensures in
-    let empty = c.with_hasher-map.ensures in (
+    let empty = c.in_ok-map.ensures in (
       walks_first g.W.Word.word g.K.HasSpec.spec g.V.HasSpec.spec g.K.Represents.represents g.V.Represents.represents g.A.PartialEq.eq (map_archive c.args.self) (map_pos c.args.self) g.K.HasSpec.laws g.V.HasSpec.laws
           c.into_iter-key-iterator.result c.iter-key-items.result c.into_iter-key-iterator.ensures.into_iter_gives walk.archive walk.positions
-          (get g.A.PartialEq.eq c.with_hasher-map.result) (keys c.with_hasher-map.result) (λ q. ap (lookup (g.A.PartialEq.eq q)) empty.empty) (ap keys_of empty.empty),
+          (get g.A.PartialEq.eq c.in_ok-map.map) (keys c.in_ok-map.map) (λ q. ap (lookup (g.A.PartialEq.eq q)) empty.empty) (ap keys_of empty.empty),
       empty.unique,
       refl,
     )
@@ -39,7 +39,7 @@ returns-in_err-insert_read g c =
     let step = c.in-Some.ensures.steps in
     let key = walks_key g.W.Word.word g.K.HasSpec.spec g.V.HasSpec.spec g.K.Represents.represents g.V.Represents.represents g.A.PartialEq.eq (map_archive c.args.self) (map_pos c.args.self)
     c.loop-key.key-iterator c.next.new.self c.in-Some.key.pos (get g.A.PartialEq.eq c.loop-key.map) (keys c.loop-key.map) step.0 on.0 in
-    let p = err_from_is_err_and c.from_residual.result c.from_residual.ensures.1 in
+    let p = err_from_is_err_and c.from_residual-in_err-insert_read.result c.from_residual-in_err-insert_read.ensures.1 in
     rw (p.1, p.2) (elim c.in_err-insert_read.ensures [
       | inl memory ↦ inl memory
       | inr part ↦ inr (
@@ -54,4 +54,4 @@ returns g c =
     let on = c.loop-key.invariant in
     let last = walks_last g.W.Word.word g.K.HasSpec.spec g.V.HasSpec.spec g.K.Represents.represents g.V.Represents.represents g.A.PartialEq.eq (map_archive c.args.self) (map_pos c.args.self)
     c.loop-key.key-iterator (get g.A.PartialEq.eq c.loop-key.map) (keys c.loop-key.map) on.0 c.in-None.ensures.steps.none in
-    (record { pairs = last.0; read = last.1; inserted = (last.2, on.1); stored = last.3 }, on.2 ∙ c.with_hasher-map.ensures.hasher)
+    (record { pairs = last.0; read = last.1; inserted = (last.2, on.1); stored = last.3 }, on.2 ∙ c.in_ok-map.ensures.hasher)

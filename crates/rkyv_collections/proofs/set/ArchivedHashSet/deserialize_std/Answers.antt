@@ -14,8 +14,8 @@ loop-key-init g c =
     let keys = c.iter-key-items.ensures in (
       walks_first g.W.Word.word g.K.HasSpec.spec unit_spec g.K.Represents.represents unit_represents g.A.PartialEq.eq (set_archive c.args.self) (set_pos c.args.self) g.K.HasSpec.laws unit_element
           c.into_iter-key-iterator.result c.iter-key-items.result c.into_iter-key-iterator.ensures.into_iter_gives keys.archive keys.positions
-          (found_units g.A.PartialEq.eq c.with_hasher-set.result.keys) c.with_hasher-set.result.keys (λ q. ap (λ (xs : List g.row.A.Denot). found_units g.A.PartialEq.eq xs q) c.with_hasher-set.ensures.empty) c.with_hasher-set.ensures.empty,
-      c.with_hasher-set.ensures.unique,
+          (found_units g.A.PartialEq.eq c.in_ok-set.set.keys) c.in_ok-set.set.keys (λ q. ap (λ (xs : List g.row.A.Denot). found_units g.A.PartialEq.eq xs q) c.in_ok-set.ensures.empty) c.in_ok-set.ensures.empty,
+      c.in_ok-set.ensures.unique,
       refl,
     )
 
@@ -39,7 +39,7 @@ returns-in_err-insert_read g c =
     let taken = c.in-Some.ensures.steps in
     let member = walks_key g.W.Word.word g.K.HasSpec.spec unit_spec g.K.Represents.represents unit_represents g.A.PartialEq.eq (set_archive c.args.self) (set_pos c.args.self)
     c.loop-key.key-iterator c.next.new.self c.in-Some.key.pos (found_units g.A.PartialEq.eq c.loop-key.set.keys) c.loop-key.set.keys taken.0 on.0 in
-    let p = err_from_is_err_and c.from_residual.result c.from_residual.ensures.1 in
+    let p = err_from_is_err_and c.from_residual-in_err-insert_read.result c.from_residual-in_err-insert_read.ensures.1 in
     rw (p.1, p.2) (elim c.in_err-insert_read.ensures [
       | inl memory ↦ inl memory
       | inr part ↦ inr (
@@ -56,4 +56,4 @@ returns g c =
     c.loop-key.key-iterator (found_units g.A.PartialEq.eq c.loop-key.set.keys) c.loop-key.set.keys on.0 c.in-None.ensures.steps.none in
     let unique = subst (λ (ks : List g.row.A.Denot). IsDistinct g.A.PartialEq.eq ks) (sym (keys_with_units c.loop-key.set.keys)) on.1 in
     let stored : (q : g.row.A.Denot) → _ = λ q. ap (find (g.A.PartialEq.eq q)) (keys_with_units c.loop-key.set.keys) ∙ last.3 q in
-    (record { pairs = last.0; read = last.1; inserted = (last.2, unique); stored = stored }, on.2 ∙ c.with_hasher-set.ensures.hasher)
+    (record { pairs = last.0; read = last.1; inserted = (last.2, unique); stored = stored }, on.2 ∙ c.in_ok-set.ensures.hasher)

@@ -14,16 +14,17 @@ loop-index-preserved g c =
     let read : List (g.row.A.Denot × g.row.B.Denot) = c.loop-index.list.items in
     let Related : ℕ → g.row.A.Denot × g.row.B.Denot → Type 0 = λ i pair.
     PairRepresents g.K.HasSpec.spec g.V.HasSpec.spec g.K.Represents.represents g.V.Represents.represents (index_bytes m) (key_pos m i) pair in
-    let items : c.push.new.self.items ≡ read ++ c.in_ok-pair.pair ∷ [] = c.in-Ok.ensures.items in
+    let items : c.push_reserved.new.self.items ≡ read ++ c.in_ok-pair.pair ∷ [] = c.push_reserved.ensures.items in
     let inv = c.loop-index.invariant in
     let here = subst (λ n. Related n c.in_ok-pair.pair) (sym inv.0) c.in_ok-pair.ensures in (
       ap length items ∙ length_push read c.in_ok-pair.pair ∙ ap (λ n. n + 1) inv.0,
       λ i pair e. pushed_too Related read c.in_ok-pair.pair inv.1 here i pair (ap (λ (xs : List (g.row.A.Denot × g.row.B.Denot)). slice_get xs i) (sym items) ∙ e),
+      rw c.push_reserved.ensures.capacity inv.2,
     )
 
 pub returns-in_err-pair : goal.returns-in_err-pair
 returns-in_err-pair g c =
-    let p = err_from_is_err_and c.from_residual.result c.from_residual.ensures.1 in
+    let p = err_from_is_err_and c.from_residual-in_err-pair.result c.from_residual-in_err-pair.ensures.1 in
     let m = c.args.self in
     let inv = c.loop-index.invariant in
     let deserialize_fails = entry_deserialize_fails g.K.HasSpec.spec g.V.HasSpec.spec g.K.Deserialize.deserialize_fails g.V.Deserialize.deserialize_fails (index_bytes m) in

@@ -12,16 +12,17 @@ loop-index-preserved g c =
     let read : List g.row.A.Denot = c.loop-index.list.items in
     let Related : ℕ → g.row.A.Denot → Type 0 = λ i item.
     g.K.Represents.represents (set_bytes s) (key_pos (keys_of s) i) item in
-    let items : c.push.new.self.items ≡ read ++ c.in_ok-item.item ∷ [] = c.in-Ok.ensures.items in
+    let items : c.push_reserved.new.self.items ≡ read ++ c.in_ok-item.item ∷ [] = c.push_reserved.ensures.items in
     let inv = c.loop-index.invariant in
     let here = subst (λ n. Related n c.in_ok-item.item) (sym inv.0) c.in_ok-item.ensures in (
       ap length items ∙ length_push read c.in_ok-item.item ∙ ap (λ n. n + 1) inv.0,
       λ i item e. pushed_too Related read c.in_ok-item.item inv.1 here i item (ap (λ (xs : List g.row.A.Denot). slice_get xs i) (sym items) ∙ e),
+      rw c.push_reserved.ensures.capacity inv.2,
     )
 
 pub returns-in_err-item : goal.returns-in_err-item
 returns-in_err-item g c =
-    let p = err_from_is_err_and c.from_residual.result c.from_residual.ensures.1 in
+    let p = err_from_is_err_and c.from_residual-in_err-item.result c.from_residual-in_err-item.ensures.1 in
     let s = c.args.self in
     let inv = c.loop-index.invariant in
     let at = subst (λ n. g.K.Deserialize.deserialize_fails (set_bytes s) (key_pos (keys_of s) n) c.in_err-item.field-0.0) (sym inv.0) c.in_err-item.ensures in

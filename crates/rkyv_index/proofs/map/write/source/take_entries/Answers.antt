@@ -22,10 +22,10 @@ loop-count-preserved g c =
       room = rw c.push_reserved.ensures.capacity i.room;
     }
 
-pub returns-in-Some-next_pair : goal.returns-in-Some-next_pair
-returns-in-Some-next_pair g c =
+pub returns-in-Some-next_item : goal.returns-in-Some-next_item
+returns-in-Some-next_item g c =
     let i = c.loop-count.invariant in
     let e : c.loop-count.count ≡ c.args.len = omega (arith, c.loop-count.auto.count-end, c.loop-count-test.false) in
     let k = length-map {B = g.row.BK.Denot × g.row.BV.Denot} c.loop-count.entries.items (λ e. (e.key, e.value)) in
-    let n = length_push (pairs_of c.loop-count.entries.items) c.in-Some-next_pair.field-0 in
-    ((pairs_of c.loop-count.entries.items ++ c.in-Some-next_pair.field-0 ∷ [], omega (arith, n, k, i.count, e), inr (refl, (_, yields_more g.I.Iterator.next_gives _ _ _ (pairs_of c.loop-count.entries.items) _ i.taken c.in-Some-next_pair.ensures.steps))), λ z. omega (arith, z))
+    let n = length_push (pairs_of c.loop-count.entries.items) c.in-Some-next_item.field-0 in
+    ((pairs_of c.loop-count.entries.items ++ c.in-Some-next_item.field-0 ∷ [], omega (arith, n, k, i.count, e), inr (refl, (_, yields_more g.I.Iterator.next_gives _ _ _ (pairs_of c.loop-count.entries.items) _ i.taken c.in-Some-next_item.ensures.steps))), λ z. omega (arith, z))
