@@ -20,6 +20,10 @@
  * unchanged, unless its comment says otherwise. The calls keep no state. Two threads may use two
  * handles or two builders, or read by one handle, at the same time.
  *
+ * The bytes of an archive may be at any address: its alignments are of positions. The hash has no
+ * random seed. So building takes quadratic time if many keys were chosen to share a hash, and a
+ * lookup in an archive of others may read all control bytes.
+ *
  * Requirements that the calls cannot test:
  *
  *   - A pointer that is not null points to as many bytes or elements as the number beside it, or to

@@ -77,9 +77,11 @@ fn find<N: AsRef<str>>(table: Table, names: &[N]) -> bool {
     for name in names.iter().map(AsRef::as_ref) {
         match table.get(name) {
             Some(address) => println!("{address:016x} {name}"),
-            None => eprintln!("{name}: no such symbol"),
+            None => {
+                eprintln!("{name}: no such symbol");
+                all = false;
+            }
         }
-        all &= table.contains_key(name);
     }
     all
 }

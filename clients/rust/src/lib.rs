@@ -47,7 +47,8 @@
 //!
 //! The calls that open an archive or a container take any bytes, and fail with an [`Error`] if they
 //! are not valid. The keys of an untrusted archive may repeat, and may be in buckets where lookups
-//! don't find them.
+//! don't find them. A lookup there may read all control bytes, since the hash has no random seed. The
+//! bytes may be at any address.
 //!
 //! A map borrows its bytes, so that safe code can't change them while it is in use. Who opens a
 //! memory-mapped file has to ensure that no other process changes the file.

@@ -150,24 +150,16 @@ impl<'a, K: Key + ?Sized, V: Value + ?Sized> Map<'a, K, V> {
 
     /// Returns the width of the archive.
     pub fn width(&self) -> Width {
-        let mut width = 0;
-        // SAFETY: the map is open and borrows its bytes.
-        let status = unsafe { raw::rkyv_map_width(&self.raw, &mut width) };
-        check(status).expect("the map is open");
-        if width == Width::Narrow as u32 {
-            Width::Narrow
-        } else {
+        if self.raw.is_wide() {
             Width::Wide
+        } else {
+            Width::Narrow
         }
     }
 
     /// Returns the number of pairs. Pairs with equal keys count separately.
     pub fn len(&self) -> usize {
-        let mut count = 0;
-        // SAFETY: the map is open and borrows its bytes.
-        let status = unsafe { raw::rkyv_map_count(&self.raw, &mut count) };
-        check(status).expect("the map is open");
-        count
+        self.raw.len()
     }
 
     /// Returns `true` if the map has no pairs.

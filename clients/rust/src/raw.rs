@@ -42,6 +42,11 @@ impl RawMap {
         },
     };
 
+    /// The number of pairs of an open map.
+    pub fn len(&self) -> usize {
+        self.header.length
+    }
+
     /// Whether the archive of an open map is wide.
     pub fn is_wide(&self) -> bool {
         self.width == 64
@@ -200,10 +205,6 @@ unsafe extern "C" {
         width: u32,
         error: *mut RawError,
     ) -> u32;
-    pub fn rkyv_map_width(map: *const RawMap, width: *mut u32) -> u32;
-    pub fn rkyv_map_count(map: *const RawMap, count: *mut usize) -> u32;
-    pub fn rkyv_index_width(map: *const RawMap, width: *mut u32) -> u32;
-    pub fn rkyv_index_count(map: *const RawMap, count: *mut usize) -> u32;
     pub fn rkyv_bytes_free(bytes: *mut u8);
     pub fn rkyv_container_header(
         archive: *const c_void,
