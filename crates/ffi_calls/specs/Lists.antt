@@ -7,10 +7,10 @@ use Rattle.rkyv_base.specs.{ArchiveOf, ElementSpec, Encoding, Format, IsValidArc
 use Rattle.rkyv_base.specs.{ScalarRepresents, ToBytesFails, WidthMembers, scalar_format}
 use Rattle.rkyv_scan.specs.{HasherCall, fx_hasher, low_halves}
 use Rattle.rkyv_base.specs.declared.errors.WriteError.{WriteError}
-use Rattle.rkyv_table.specs.{TableResolver, listed}
-use Rattle.rkyv_collections.specs.{MapAt, MapRepresents, ValueQuery, WalksVisitPairs, map_format}
-use Rattle.rkyv_collections.specs.{map_spec, query_of_value, with_first}
-use Rattle.rkyv_keys.specs.{NativePairs, PairFormat, first_pair, first_value, native_format}
+use Rattle.rkyv_table.specs.{TableResolver}
+use Rattle.rkyv_collections.specs.{MapAt, MapRepresents, ValueQuery, WalksVisitPairs, map_spec}
+use Rattle.rkyv_collections.specs.{pairs_under, query_of_value, with_first}
+use Rattle.rkyv_keys.specs.{NativePairs, PairFormat, first_pair, first_value, fx_format}
 use Rattle.rkyv_keys.specs.{native_pairs}
 use Rattle.ffi_calls.specs.Archives.{map_in}
 
@@ -19,12 +19,6 @@ use Rattle.ffi_calls.specs.Archives.{map_in}
 abbrev pub fx_pairs : {A B : Type 0} → (List ℕ → ℕ → A → Type 0) → (List ℕ → ℕ → B → Type 0)
     → (List ℕ → ℕ → List HasherCall) → NativePairs A B
 fx_pairs key value key_calls = native_pairs key value (fx_hasher low_halves) key_calls
-
--- how pairs are written. `k` and `v`: specs of keys and values, `key` and `value`: their formats,
--- `calls`: hasher calls of a key
-abbrev pub fx_format : {A B R Q : Type 0} → ElementSpec → ElementSpec → Format A R → Format B Q
-    → (A → List HasherCall) → PairFormat A B R Q
-fx_format k v key value calls = native_format k v key value (fx_hasher low_halves) calls
 
 -- the pairs of numbers under keys that `represents` relates to bytes, with the hasher calls
 -- `key_calls`
@@ -103,10 +97,7 @@ archive_width w = record { word = w.word; limit = w.LIMIT; most = w.MAX_CAPACITY
 module _ {A N R Q : Type 0} (width : ArchiveWidth) (format : PairFormat A N R Q) where
   -- the format of a list of pairs as a map under the load factor 7 / 8
   abbrev pub pairs_format : Format (List (A × N)) TableResolver
-  pairs_format =
-      listed width.most (7, 8)
-      (map_format width.word format.key_spec format.value_spec format.key format.value
-      format.hash (7, 8))
+  pairs_format = pairs_under width.most width.word format (7, 8)
 
   -- the spec of the header of the map
   abbrev pub header_spec : ElementSpec

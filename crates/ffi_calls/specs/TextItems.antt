@@ -7,14 +7,13 @@ use Rattle.rkyv_base.specs.{written_as}
 use Rattle.rkyv_base.specs.declared.errors.WriteError.{WriteError}
 use Rattle.rkyv_base.specs.declared.strings.TextResolver.{TextResolver}
 use Rattle.rkyv_base.specs.declared.writer.NoMemory.{NoMemory}
-use Rattle.rkyv_keys.specs.{NativePairs, PairFormat, one_call, scalar_calls, text_calls}
+use Rattle.rkyv_keys.specs.{NativePairs, PairFormat, fx_format, one_call, scalar_calls, text_calls}
 use Rattle.rkyv_keys.specs.{text_key_calls}
 use Rattle.ffi_calls.specs.Archives.{limit_of, most_of, word_of}
 use Rattle.ffi_calls.specs.Items.{FirstUnfit}
 use Rattle.ffi_calls.specs.Keys.{NumberKey}
 use Rattle.ffi_calls.specs.Listed.{TextRepresents}
-use Rattle.ffi_calls.specs.Lists.{ArchiveFails, ArchiveWidth, IsArchiveOf, fx_format}
-use Rattle.ffi_calls.specs.Lists.{fx_pairs}
+use Rattle.ffi_calls.specs.Lists.{ArchiveFails, ArchiveWidth, IsArchiveOf, fx_pairs}
 use Rattle.ffi_calls.specs.Status.{write_status}
 use Rattle.ffi_calls.specs.declared.pairs.Pair.{Pair}
 

@@ -1,7 +1,8 @@
 //! Archives of lists of pairs.
 
 ghost use Rattle.std.specs.Prelude.{IfErr, IfOk, MatchResult, ◌≡◌};
-ghost use Rattle.ffi_calls.specs.{ArchiveFails, IsWritten, archive_width, fx_format, fx_pairs};
+ghost use Rattle.rkyv_keys.specs.{fx_format};
+ghost use Rattle.ffi_calls.specs.{ArchiveFails, IsWritten, archive_width, fx_pairs};
 
 use crate::status::DONE;
 use rkyv_base::archive::Serialize;

@@ -1,8 +1,8 @@
 //! Laws of archives that represent lists of pairs, each a function whose contract is the statement.
 
+ghost use Rattle.rkyv_keys.specs.{fx_format};
 ghost use Rattle.ffi_calls.specs.{ArchivesRepresent, IndexesRepresent, SetArchivesRepresent};
-ghost use Rattle.ffi_calls.specs.{WalksVisitListed, archive_width, fx_format, fx_items, fx_pairs};
-ghost use Rattle.ffi_calls.specs.{index_width};
+ghost use Rattle.ffi_calls.specs.{WalksVisitListed, archive_width, fx_items, fx_pairs, index_width};
 
 use rkyv_base::archive::Archive;
 use rkyv_base::element::Represents;

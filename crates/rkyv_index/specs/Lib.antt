@@ -66,5 +66,4 @@ pub use Map.Reading.{ReadsAs}
 unfoldable pub use Map.Writing.{NoOther, OwnOrSerializeFails, WritesEntries, WritesIndices}
 unfoldable pub use Map.Writing.{WritesUnder, hashed, hashed_row, listing, pairs_of}
 pub use Map.Writing.{HashedList, HashedRow, Listing}
-unfoldable pub use Listed.{fx_format, ordered_items, ordered_items_format, ordered_pairs}
-unfoldable pub use Listed.{ordered_pairs_format}
+unfoldable pub use Listed.{ordered_items, ordered_items_format, ordered_pairs, ordered_pairs_format}

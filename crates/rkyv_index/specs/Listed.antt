@@ -4,7 +4,7 @@ use Rattle.std.specs.Prelude.{ℕ, List}
 use Rattle.std.specs.Int.{Width}
 use Rattle.rkyv_base.specs.{ElementMembers, ElementSpec, Format, WidthMembers, written_as}
 use Rattle.rkyv_scan.specs.{HasherCall, fx_hasher, low_halves}
-use Rattle.rkyv_keys.specs.{PairFormat, hash_at, hash_of, native_format}
+use Rattle.rkyv_keys.specs.{PairFormat, hash_at, hash_of}
 use Rattle.rkyv_table.specs.{listed}
 use Rattle.rkyv_index.specs.Map.IndexFormat.{IndexRepresents, IndicesAs, index_format}
 use Rattle.rkyv_index.specs.Map.IndexHeader.{IndexResolver}
@@ -23,12 +23,6 @@ abbrev pub ordered_items : {A X : Type 0} → Width → ElementMembers A
     → (List ℕ → ℕ → List HasherCall) → (X → List A) → List ℕ → ℕ → X → Type 0
 ordered_items w k key_calls items b p x = IndexSetRepresents w k.spec k.represents
     (hash_at (fx_hasher low_halves) key_calls) (7, 8) b p (items x)
-
--- the format of pairs of keys with the hasher calls `calls`
-abbrev pub fx_format : {A B R Q : Type 0} → ElementSpec → ElementSpec → Format A R → Format B Q
-    → (A → List HasherCall) → PairFormat A B R Q
-fx_format key_spec value_spec key value calls =
-    native_format key_spec value_spec key value (fx_hasher low_halves) calls
 
 -- values that have a list of pairs, as index maps. `indices`: how the indices are written
 abbrev pub ordered_pairs_format : {P A B R Q X : Type 0} → WidthMembers → IndicesAs P

@@ -1,6 +1,6 @@
 -- The formats of native keys and pairs, and the hashes of queries.
 use Rattle.std.specs.Prelude.{ℕ, Bool, List}
-use Rattle.rkyv_scan.specs.{Hasher, HasherCall, hash_of_calls}
+use Rattle.rkyv_scan.specs.{Hasher, HasherCall, fx_hasher, hash_of_calls, low_halves}
 use Rattle.rkyv_base.specs.{ElementSpec, Format}
 
 -- how native keys are written. `spec`: spec of their elements, `format`: their format,
@@ -39,6 +39,12 @@ native_format key_spec value_spec key value hasher calls = record {
   value = value;
   hash = λ a. hash_of_calls hasher (calls a);
 }
+
+-- the same under the hasher `FxHasher64`
+abbrev pub fx_format : {A B R Q : Type 0} → ElementSpec → ElementSpec → Format A R → Format B Q
+    → (A → List HasherCall) → PairFormat A B R Q
+fx_format key_spec value_spec key value calls =
+    native_format key_spec value_spec key value (fx_hasher low_halves) calls
 
 -- queries. `hash`: hash of a query, `fits`: a query fits the key at a position
 pub record Queried (Q : Type 0) : Type 0 where

@@ -1,9 +1,8 @@
 //! Laws of written index maps, in any archive that contains their bytes, and of lists of pairs.
 
 ghost use Rattle.rkyv_base.specs.{SameFormat};
-ghost use Rattle.rkyv_keys.specs.{hash_at, hash_of};
-ghost use Rattle.rkyv_index.specs.{WrittenIndexMaps, element, fx_format, indices};
-ghost use Rattle.rkyv_index.specs.{ordered_pairs_format};
+ghost use Rattle.rkyv_keys.specs.{fx_format, hash_at, hash_of};
+ghost use Rattle.rkyv_index.specs.{WrittenIndexMaps, element, indices, ordered_pairs_format};
 
 use crate::lists::OrderedPairs;
 use crate::width::IndexMapWidth;
