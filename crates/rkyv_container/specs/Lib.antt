@@ -4,6 +4,7 @@ pub mod Checking
 pub mod Checksum
 pub mod Headers
 pub mod Container
+pub mod Texts
 unfoldable pub use Codes.{IsItemCode, IsKindCode, IsWidthCode, item_code, kind_code, width_code}
 unfoldable pub use Checking.{AllPass, FirstFails, followed_by}
 pub use Checking.{Checks, check, done}
@@ -14,3 +15,4 @@ pub use Headers.{Fits, IsChecksumField, IsHeader}
 unfoldable pub use Container.{ChecksumMatches, IsContainerOf, IsSplit, OpenAsFails, OpenFails}
 unfoldable pub use Container.{archive_checks, contents_checks, header_of}
 pub use Container.{IsContainer}
+unfoldable pub use Texts.{kind_text, type_text, width_text}

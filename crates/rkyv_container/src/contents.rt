@@ -2,9 +2,9 @@
 //!
 //! Each has a code of one byte in the header. `code` and `from_code` convert it.
 
-ghost use Rattle.std.specs.Prelude.{◌≡◌, MatchOption};
+ghost use Rattle.std.specs.Prelude.{◌≡◌, MatchOption, Some};
 ghost use Rattle.rkyv_container.specs.{IsItemCode, IsKindCode, IsWidthCode, item_code, kind_code};
-ghost use Rattle.rkyv_container.specs.{width_code};
+ghost use Rattle.rkyv_container.specs.{kind_text, type_text, width_code, width_text};
 
 use std::fmt;
 
@@ -187,6 +187,8 @@ impl Width {
 }
 
 impl fmt::Display for Kind {
+    ghost output = { λ kind. Some (kind_text kind) };
+
     fn fmt<W: fmt::Write>(&self, f: &mut fmt::Formatter<W>) -> fmt::Result {
         match self {
             Kind::HashMap => write!(f, "hash map"),
@@ -198,6 +200,8 @@ impl fmt::Display for Kind {
 }
 
 impl fmt::Display for ItemType {
+    ghost output = { λ item. Some (type_text item) };
+
     fn fmt<W: fmt::Write>(&self, f: &mut fmt::Formatter<W>) -> fmt::Result {
         match self {
             ItemType::Unit => write!(f, "()"),
@@ -218,6 +222,8 @@ impl fmt::Display for ItemType {
 }
 
 impl fmt::Display for Width {
+    ghost output = { λ width. Some (width_text width) };
+
     fn fmt<W: fmt::Write>(&self, f: &mut fmt::Formatter<W>) -> fmt::Result {
         match self {
             Width::Narrow => write!(f, "narrow"),

@@ -16,7 +16,7 @@ ghost use Rattle.std.specs.Prelude.{◌≡◌, ◌↔◌, MatchResult, length};
 ghost use Rattle.std.specs.Int.{from_le_bytes, w16, w32};
 ghost use Rattle.rkyv_container.specs.{AllPass, FirstFails, IsChecksumField, IsHeader, code_checks};
 ghost use Rattle.rkyv_container.specs.{contents_bytes, flag_checks, flags_of, header_bytes};
-ghost use Rattle.rkyv_container.specs.{header_checks, header_of, start_checks};
+ghost use Rattle.rkyv_container.specs.{header_checks, header_of, magic, start_checks};
 
 use crate::checksum::adler32;
 use crate::contents::{Contents, ItemType, Kind, Width};
@@ -33,6 +33,13 @@ pub const MAGIC: [u8; 8] = [0x89, b'R', b'K', b'Y', b'V', b'\r', b'\n', 0x1a];
 
 /// The version of containers that this crate reads and writes.
 pub const VERSION: u16 = 1;
+
+/// States that a header has 32 bytes, that it begins with `magic`, and that its version is 1.
+pub fn header_constants()
+    ensures len { HEADER_LEN ≡ 32 }
+    ensures magic { MAGIC ≡ magic }
+    ensures version { VERSION ≡ 1 }
+{}
 
 /// The header of a container: its contents, and the length and the checksum of its archive.
 #[derive(Clone, Copy, Debug, PartialEq, Eq)]

@@ -61,8 +61,10 @@ partial_more f items left rest counts x m step is below before = record {
   total = let t = total_more f x m rest counts is below in let l = ap length step in let b = before.total in omega (arith, t, l, b);
 }
 
-pub partial_all : (f : ℕ → ℕ) (items left counts : List ℕ) → left ≡ [] → Partial f items left counts → IsHistogram f items counts
-partial_all f items left counts none before = record {
+pub partial_all : (most : ℕ) (f : ℕ → ℕ) (items left counts : List ℕ) → left ≡ [] → length counts ≡ most + 1 → Partial f items left counts
+    → IsHistogram most f items counts
+partial_all most f items left counts none long before = record {
+  entries = long;
   each = λ n. let z = ap (count_by (λ x. eqb (f x) n)) none in let b = before.each n in omega (arith, z, b);
   total = let l = ap length none in let b = before.total in omega (arith, l, b);
 }

@@ -1,4 +1,5 @@
 pub mod Coverings
 pub mod Histograms
 pub mod KeyLookups
+pub mod TextParts
 pub mod Dispatch

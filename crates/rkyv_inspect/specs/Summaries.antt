@@ -1,5 +1,5 @@
 -- The numbers of an archived map, and the lookups of all its keys.
-use Rattle.std.specs.Prelude.{◌≡◌, ℕ, ◌==◌, ◌<◌, ◌≤◌, ◌^◌, ◌⊎◌, Bool, List, MatchOption}
+use Rattle.std.specs.Prelude.{◌≡◌, ℕ, ◌/◌, ◌==◌, ◌<◌, ◌≤◌, ◌^◌, ◌⊎◌, Bool, List, MatchOption}
 use Rattle.std.specs.Prelude.{None, Option, Some, cond, filter, length, not}
 use Rattle.std.specs.Int.{Width}
 use Rattle.std.specs.List.{sum_by}
@@ -7,7 +7,7 @@ use Rattle.rkyv_scan.specs.{generic_kind}
 use Rattle.rkyv_base.specs.{ElementSpec, entry_spec}
 use Rattle.rkyv_keys.specs.{Comparison}
 use Rattle.rkyv_table.specs.{cap_at, controls_pos, is_found_at, item_positions, len_at}
-use Rattle.rkyv_table.specs.{probe_length_at}
+use Rattle.rkyv_table.specs.{probe_capacity, probe_length_at}
 use Rattle.rkyv_collections.specs.{map_misplaced, map_strides}
 use Rattle.rkyv_index.specs.{index_found, index_strides, indices_of, pair_pos}
 use Rattle.rkyv_inspect.specs.Histogram.{IsHistogram}
@@ -40,11 +40,12 @@ keyed_map word key value bytes pos =
     record { word = word; key = key; value = value; bytes = bytes; pos = pos }
 
 -- `lookups`: counts of the lookups of each key of `keys`, by its position or index.
--- `misplaced`: number of lookups that find another key or none, `reads q`: strides that one reads
-pub record AreLookups (misplaced : ℕ) (reads : ℕ → ℕ) (keys : List ℕ) (lookups : Lookups) : Type 0
-  where
-    pub misplaced_is : lookups.misplaced ≡ misplaced
-    pub strides_are : IsHistogram reads keys lookups.strides.items
+-- `misplaced`: number of lookups that find another key or none, `most`: greatest number of strides
+-- that a lookup reads, `reads q`: strides that one reads
+pub record AreLookups (misplaced most : ℕ) (reads : ℕ → ℕ) (keys : List ℕ) (lookups : Lookups)
+    : Type 0 where
+  pub misplaced_is : lookups.misplaced ≡ misplaced
+  pub strides_are : IsHistogram most reads keys lookups.strides.items
 
 -- `result` has the property `P`, or is `None` if the lookups of all items, which read `all`
 -- strides, read more than `limit`, or more than 2^63
@@ -67,6 +68,10 @@ pub record IsSummary (m : KeyedMap) (P : Option Lookups → Type 0) (summary : S
     pub lookups_are : P summary.lookups
 
 module _ (m : KeyedMap) where
+  -- the greatest number of strides that a lookup reads in the hash map or index map `m`
+  abbrev pub most_strides : ℕ
+  most_strides = probe_capacity (cap_at m.word m.bytes m.pos) / 16
+
   -- the number of strides that a lookup of the key at `q` reads in the hash map `m`
   abbrev pub key_strides : ℕ → ℕ
   key_strides q = probe_length_at generic_kind m.word (entry_spec m.key.spec m.value).size m.bytes
@@ -78,14 +83,14 @@ module _ (m : KeyedMap) where
 
   -- `counts`: histogram of the strides that lookups of its keys read
   abbrev pub CountsKeyStrides : List ℕ → Type 0
-  CountsKeyStrides counts = IsHistogram key_strides key_positions counts
+  CountsKeyStrides counts = IsHistogram most_strides key_strides key_positions counts
 
   -- `result`: lookups of its keys, up to `limit` strides
   abbrev pub LooksUpKeys : ℕ → Option Lookups → Type 0
   LooksUpKeys limit =
       UpTo limit (map_strides m.word m.key.spec m.value m.key.hash m.key.same m.bytes m.pos)
       (AreLookups (map_misplaced m.word m.key.spec m.value m.key.hash m.key.same m.bytes m.pos)
-      key_strides key_positions)
+      most_strides key_strides key_positions)
 
   -- `summary`: numbers of the hash map `m`, with lookups that read up to `limit` strides
   abbrev pub IsMapSummary : ℕ → Summary → Type 0
@@ -118,12 +123,13 @@ module _ (m : KeyedMap) where
 
   -- `counts`: histogram of the strides that lookups of the keys of the index map `m` read
   abbrev pub CountsIndexStrides : List ℕ → Type 0
-  CountsIndexStrides counts = IsHistogram index_key_strides key_indices counts
+  CountsIndexStrides counts = IsHistogram most_strides index_key_strides key_indices counts
 
   -- `result`: lookups of its keys, up to `limit` strides
   abbrev pub LooksUpIndices : ℕ → Option Lookups → Type 0
   LooksUpIndices limit = UpTo limit (sum_by index_key_strides key_indices)
-      (AreLookups (length (filter is_misplaced_at key_indices)) index_key_strides key_indices)
+      (AreLookups (length (filter is_misplaced_at key_indices)) most_strides index_key_strides
+      key_indices)
 
   -- `summary`: numbers of the index map `m`, with lookups that read up to `limit` strides
   abbrev pub IsIndexSummary : ℕ → Summary → Type 0

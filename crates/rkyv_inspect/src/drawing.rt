@@ -1,4 +1,5 @@
 //! The drawing of an archive's regions, as SVG.
+ghost use Rattle.std.specs.Prelude.{◌≡◌};
 
 use crate::inspection::Inspection;
 use crate::regions::{Region, RegionKind};
@@ -26,7 +27,10 @@ pub struct Drawing<'a> {
 
 impl<'a> Drawing<'a> {
     /// Returns the drawing of an inspection of an archive of `len` bytes.
-    pub fn new(inspection: &'a Inspection, len: usize) -> Drawing<'a> {
+    pub fn new(inspection: &'a Inspection, len: usize) -> Drawing<'a>
+        ensures inspection { result.inspection ≡ inspection.entry }
+        ensures len { result.len ≡ len }
+    {
         Drawing { inspection, len }
     }
 }

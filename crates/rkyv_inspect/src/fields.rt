@@ -1,6 +1,11 @@
 //! The types of keys and values that are shown.
+ghost use Rattle.std.specs.Prelude.{Bool, List, MatchOption, None, Option, false, true, ℕ, ◌+◌};
+ghost use Rattle.std.specs.Prelude.{◌<◌, ◌≡◌, ◌⊎◌};
 ghost use Rattle.std.specs.Int.{w32, w64};
-ghost use Rattle.rkyv_base.specs.{IsValidView, scalar_spec, text_spec, unit_spec, unsigned};
+ghost use Rattle.rkyv_base.specs.{IsValidView, bytes_of, pos_of, scalar_spec, text_spec};
+ghost use Rattle.rkyv_base.specs.{unit_spec, unsigned};
+ghost use Rattle.rkyv_inspect.specs.{no_part, part_of_text};
+ghost use Rattle.rkyv_inspect.specs.declared.fields.Part.{Part};
 
 use rkyv_base::element::{Element, PartRange};
 use rkyv_base::entry::Entry;
@@ -21,8 +26,15 @@ pub struct Part {
 
 /// A type of keys and values that is shown.
 pub trait Field: ElementDebug {
+    // Whether the values have a text.
+    ghost is_shown: { Bool };
+
+    // The out-of-line bytes of the value at a position of some bytes.
+    ghost part_at: { List ℕ → ℕ → Option Part };
+
     /// Returns `false` if the values have no text: those of the unit type.
-    fn has_text() -> bool;
+    fn has_text() -> bool
+        ensures { result ≡ is_shown };
 
     /// Returns the position of the out-of-line bytes of a value, or `None` if it has none.
     ///
@@ -30,52 +42,73 @@ pub trait Field: ElementDebug {
     ///
     /// - The view is of a valid value.
     fn part(view: View<'_, Self>) -> Option<Part>
-        requires { IsValidView Self.spec view };
+        requires { IsValidView Self.spec view }
+        ensures { result ≡ part_at (bytes_of view.entry) (pos_of view.entry) };
 }
 
 impl Field for u32 {
+    ghost is_shown = { true };
+
+    ghost part_at = { no_part };
+
     fn has_text() -> bool {
         true
     }
 
     fn part(_view: View<'_, u32>) -> Option<Part>
         requires { IsValidView (scalar_spec (unsigned w32)) _view }
+        ensures { result ≡ None }
     {
         None
     }
 }
 
 impl Field for u64 {
+    ghost is_shown = { true };
+
+    ghost part_at = { no_part };
+
     fn has_text() -> bool {
         true
     }
 
     fn part(_view: View<'_, u64>) -> Option<Part>
         requires { IsValidView (scalar_spec (unsigned w64)) _view }
+        ensures { result ≡ None }
     {
         None
     }
 }
 
 impl Field for () {
+    ghost is_shown = { false };
+
+    ghost part_at = { no_part };
+
     fn has_text() -> bool {
         false
     }
 
     fn part(_view: View<'_, ()>) -> Option<Part>
         requires { IsValidView unit_spec _view }
+        ensures { result ≡ None }
     {
         None
     }
 }
 
 impl<W: Width> Field for Text<W> {
+    ghost is_shown = { true };
+
+    ghost part_at = { part_of_text W.word };
+
     fn has_text() -> bool {
         true
     }
 
     fn part(view: View<'_, Text<W>>) -> Option<Part>
         requires { IsValidView (text_spec W.word) view }
+        ensures { result ≡ part_of_text W.word (bytes_of view.entry) (pos_of view.entry) }
     {
         let pos = view.pos();
         match Text::<W>::check(view.bytes(), pos, PartRange { lo: 0, hi: pos }) {
@@ -86,7 +119,10 @@ impl<W: Width> Field for Text<W> {
 }
 
 /// Returns the part of `len` bytes before `end`, or `None` if `end` is 0 or less than `len`.
-fn part_before(end: usize, len: usize) -> Option<Part> {
+fn part_before(end: usize, len: usize) -> Option<Part>
+    ensures { MatchOption result ((end ≡ 0) ⊎ (end < len))
+        (λ part. (0 < end) × (part.begin + len ≡ end) × (part.end ≡ end)) }
+{
     if end == 0 || end < len {
         return None;
     }

@@ -5,7 +5,6 @@ ghost use Rattle.rkyv_index.specs.{index_spec};
 ghost use Rattle.rkyv_inspect.specs.{Covers, IsRegionList};
 
 use crate::fields::{Field, pair_text};
-use crate::index_summary::header_of;
 use crate::map_regions::{add_header, add_part};
 use crate::regions::{Region, RegionKind, RegionList};
 use crate::table_regions::{Buckets, IndexItem};
@@ -80,7 +79,7 @@ pub fn index_regions<K: Field, V: Field, H, W: Width>(
     ensures { IfOk result (λ regions. Covers 0 regions.items (length (bytes_of root.entry))) }
 {
     let bytes = root.bytes();
-    let header = header_of(root);
+    let header = ArchivedIndexMap::of(root).header();
     let mut list = RegionList::new(alloc, bytes.len());
     let buckets = Buckets {
         bytes,

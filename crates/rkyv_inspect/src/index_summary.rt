@@ -3,7 +3,7 @@ ghost use Rattle.std.specs.Prelude.{IfOk, ◌/◌, ◌<◌, ◌≡◌, ◌≤◌
 ghost use Rattle.rkyv_base.specs.{IsValidView, bytes_of, entry_spec, pos_of};
 ghost use Rattle.rkyv_keys.specs.{hash_at};
 ghost use Rattle.rkyv_index.specs.{IsKeyOf, index_bytes, index_len, index_pos, index_spec};
-ghost use Rattle.rkyv_table.specs.{IsDecoded, cap_at, probe_capacity};
+ghost use Rattle.rkyv_table.specs.{cap_at, probe_capacity};
 ghost use Rattle.rkyv_inspect.specs.{CountsIndexStrides, IsIndexSummary, LooksUpIndices};
 ghost use Rattle.rkyv_inspect.specs.{index_key_strides, key_type, keyed_map};
 
@@ -16,8 +16,7 @@ use rkyv_base::width::Width;
 use rkyv_index::{ArchivedIndexMap, IndexMapOf};
 use rkyv_keys::keys::KeyElement;
 use rkyv_scan::hash::KeyHasher;
-use rkyv_table::table::decoded::Decoded;
-use rkyv_table::{ArchivedHashTable, Strides, TableOf};
+use rkyv_table::Strides;
 use std::alloc::{AllocError, Global};
 
 /// Returns the key at an index of the map.
@@ -129,8 +128,8 @@ pub fn index_summary<K: KeyElement, V: Element, H: KeyHasher, W: Width>(
         let m = keyed_map W.word keys V.spec (bytes_of root.entry) (pos_of root.entry) in
         IfOk result (IsIndexSummary m limit) }
 {
-    let header = header_of(root);
     let map = ArchivedIndexMap::of(root);
+    let header = map.header();
     let lookups = index_lookups(alloc, map, header.capacity(), limit)?;
     Ok(Summary {
         len: header.len(),
@@ -139,14 +138,4 @@ pub fn index_summary<K: KeyElement, V: Element, H: KeyHasher, W: Width>(
         controls_pos: controls_of(header.capacity(), header.controls_pos()),
         lookups,
     })
-}
-
-/// Returns the decoded header of the table of indices of an index map.
-pub(crate) fn header_of<K: Element, V: Element, H, W: Width>(
-    root: View<'_, IndexMapOf<K, V, H, W>>,
-) -> Decoded
-    requires { IsValidView (index_spec W.word (entry_spec K.spec V.spec)) root }
-    ensures { IsDecoded W.word (bytes_of root.entry) (pos_of root.entry) result }
-{
-    ArchivedHashTable::of(root.at::<TableOf<W::Place, W>>(root.pos())).header()
 }

@@ -1,4 +1,5 @@
 //! The text of an inspection: its numbers, and a line for each region.
+ghost use Rattle.std.specs.Prelude.{◌≡◌};
 
 use crate::inspection::Inspection;
 use crate::regions::{Region, RegionKind, bytes_in};
@@ -154,7 +155,11 @@ pub struct Printed<'a> {
 
 impl<'a> Printed<'a> {
     /// Returns the text of an inspection of an archive, in the colours of a terminal or not.
-    pub fn new(archive: &'a [u8], inspection: &'a Inspection, color: bool) -> Printed<'a> {
+    pub fn new(archive: &'a [u8], inspection: &'a Inspection, color: bool) -> Printed<'a>
+        ensures archive { result.archive ≡ archive.entry }
+        ensures inspection { result.inspection ≡ inspection.entry }
+        ensures color { result.color ≡ color }
+    {
         Printed {
             archive,
             inspection,

@@ -7,7 +7,7 @@ pub struct Lookups {
     pub misplaced: usize,
     /// The histogram of strides: entry n is the number of keys whose lookup reads n strides.
     ///
-    /// A stride has sixteen control bytes.
+    /// A stride has sixteen control bytes, so there are ceil(capacity / 16) + 1 entries.
     pub strides: Vec<usize>,
 }
 

@@ -67,4 +67,4 @@ returns g c =
     let n : ℕ = index_len c.args.map in
     let end : c.len-index-end.result ≡ n = c.len-index-end.ensures in
     let test = c.loop-index-test.false in
-    partial_all _ _ _ c.loop-index.counts.items (none_left c.loop-index.index n (omega (arith, end, test))) c.loop-index.invariant.counted
+    partial_all _ _ _ _ c.loop-index.counts.items (none_left c.loop-index.index n (omega (arith, end, test))) c.loop-index.invariant.long c.loop-index.invariant.counted

@@ -63,4 +63,4 @@ loop-key-preserved g c =
     }
 
 pub returns : goal.returns
-returns g c = partial_all _ _ _ c.loop-key.counts.items c.in-None.ensures.steps.none c.loop-key.invariant.counted
+returns g c = partial_all _ _ _ _ c.loop-key.counts.items c.in-None.ensures.steps.none c.loop-key.invariant.long c.loop-key.invariant.counted
