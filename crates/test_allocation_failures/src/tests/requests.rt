@@ -1,9 +1,13 @@
 //! Iterators, which are called only after the allocations.
+//!
+//! Those of index maps and index sets are called after the allocations for the items, and before
+//! those for the table.
 
 use rkyv_base::width::Narrow;
 use rkyv_base::writer::VecWriter;
 use rkyv_collections::map::ArchivedHashMap;
 use rkyv_collections::set::ArchivedHashSet;
+use rkyv_index::{ArchivedIndexMap, ArchivedIndexSet};
 use rkyv_scan::hash::FxHasher64;
 use std::alloc::Global;
 use std::cell::Cell;
@@ -16,11 +20,25 @@ type Numbers = ArchivedHashMap<'static, i8, i8, FxHasher64, Narrow>;
 
 type Keys = ArchivedHashSet<'static, i8, FxHasher64, Narrow>;
 
+type OrderedNumbers = ArchivedIndexMap<'static, i8, i8, FxHasher64, Narrow>;
+
+type OrderedKeys = ArchivedIndexSet<'static, i8, FxHasher64, Narrow>;
+
 // Returns whether the number of calls of an iterator of two items fits the outcome.
 // There is no call if an allocation fails first, and else one for each item and one for the end.
 fn fits(outcome: Outcome, requests: usize) -> bool {
     match outcome {
         Outcome::Memory => requests == 0,
+        Outcome::Written | Outcome::Growth => requests == 3,
+        _ => false,
+    }
+}
+
+// Does the same for an index map or index set. Memory for the items is allocated before the calls,
+// and memory for the table afterwards.
+fn fits_index(outcome: Outcome, requests: usize) -> bool {
+    match outcome {
+        Outcome::Memory => requests == 0 || requests == 3,
         Outcome::Written | Outcome::Growth => requests == 3,
         _ => false,
     }
@@ -77,6 +95,45 @@ fn set(alloc: Global) -> (Outcome, bool) {
     (outcome, fits(outcome, requests.get()))
 }
 
+// Writes an index map of two pairs.
+// Returns the outcome, and whether the calls of the iterator fit it.
+fn index_map(alloc: Global) -> (Outcome, bool) {
+    let requests = Cell::new(0usize);
+    let mut writer = VecWriter::new(alloc);
+    let outcome = OrderedNumbers::serialize_from_iter::<VecWriter, i8, i8, i8, i8, _>(
+        alloc,
+        iter::from_fn(|| if yields_next(&requests, 2) {
+            Some((1i8, 2i8))
+        } else {
+            None
+        }),
+        2,
+        (7, 8),
+        &mut writer,
+    );
+    let outcome = outcome_of(outcome, &writer);
+    (outcome, fits_index(outcome, requests.get()))
+}
+
+// Writes an index set of two keys, as `index_map` does.
+fn index_set(alloc: Global) -> (Outcome, bool) {
+    let requests = Cell::new(0usize);
+    let mut writer = VecWriter::new(alloc);
+    let outcome = OrderedKeys::serialize_from_iter::<VecWriter, i8, i8, _>(
+        alloc,
+        iter::from_fn(|| if yields_next(&requests, 2) {
+            Some(1i8)
+        } else {
+            None
+        }),
+        2,
+        (7, 8),
+        &mut writer,
+    );
+    let outcome = outcome_of(outcome, &writer);
+    (outcome, fits_index(outcome, requests.get()))
+}
+
 #[test]
 fn table_allocates_before_reading_items(rt: HostRuntime) {
     let (_, right) = table(rt.alloc());
@@ -119,4 +176,26 @@ fn set_allocates_before_reading_keys(rt: HostRuntime) {
 #[test]
 fn a_set_succeeds(rt: HostRuntime) {
     assert_eq!(rt; set(rt.alloc()), (Outcome::Written, true));
+}
+
+#[test]
+fn index_map_allocates_before_reading_pairs(rt: HostRuntime) {
+    let (_, right) = index_map(rt.alloc());
+    assert!(rt; right);
+}
+
+#[test]
+fn an_index_map_succeeds(rt: HostRuntime) {
+    assert_eq!(rt; index_map(rt.alloc()), (Outcome::Written, true));
+}
+
+#[test]
+fn index_set_allocates_before_reading_keys(rt: HostRuntime) {
+    let (_, right) = index_set(rt.alloc());
+    assert!(rt; right);
+}
+
+#[test]
+fn an_index_set_succeeds(rt: HostRuntime) {
+    assert_eq!(rt; index_set(rt.alloc()), (Outcome::Written, true));
 }

@@ -21,7 +21,9 @@ use std::alloc::{AllocError, Global};
 use std::collections::{HashMap, HashSet};
 use std::hash::{BuildHasher, BuildHasherDefault, Hash, RandomState};
 use std::test::Fail;
-use test_support::archives::{nested, no_items, one_key_twice, one_number, one_pair, one_unit};
+use test_support::archives::{
+    nested, no_items, one_key_twice, one_number, one_pair, one_unit, three_keys,
+};
 use test_support::written::is_archived_as;
 
 type Nested = Hashed<HashMap<i8, Hashed<HashMap<i8, i8>>>>;
@@ -332,12 +334,12 @@ fn units_to_numbers_and_to_units(rt: HostRuntime) {
     );
 }
 
-// Returns the number of archived pairs that std's map has, and of std's pairs that the archived map
-// has. Then comes whether the two maps are equal.
+// Returns the length of the archived map, the number of its pairs that std's map has, and of std's
+// pairs that the archived map has. Then comes whether the two maps are equal.
 fn found_both_ways(
     bytes: &[u8],
     map: &HashMap<String, u32>,
-) -> Result<(usize, usize, bool), VerifyError> {
+) -> Result<([usize; 3], bool), VerifyError> {
     let root = ArchivedHashMap::of(access::<HashMapOf<Text, u32>>(bytes)?);
     let (mut there, mut back) = (0usize, 0usize);
     for (key, value) in root.iter() {
@@ -352,25 +354,20 @@ fn found_both_ways(
             _ => {}
         }
     }
-    Ok((there, back, root.eq_std(map)))
+    Ok(([root.len(), there, back], root.eq_std(map)))
 }
 
 // Returns the results of `found_both_ways` for the hundred texts.
-fn found_of_hundred(alloc: Global) -> Option<(usize, usize, bool)> {
+fn found_of_hundred(alloc: Global) -> Option<([usize; 3], bool)> {
     let map: Hashed<HashMap<String, u32>> = Hashed::new(hundred(alloc).ok()?);
     let bytes = archived(alloc, &map)?;
     found_both_ways(bytes.as_slice(), map.get()).ok()
 }
 
-#[test]
-fn a_hundred_texts(rt: HostRuntime) {
-    expect_eq!(rt; found_of_hundred(rt.alloc()), Some((100, 100, true)));
-}
-
 // Returns whether the hundred texts are the same after round trips in both widths, under the hasher
-// that feeds all bits.
-fn hundred_round_trip(alloc: Global) -> Option<[Option<bool>; 2]> {
-    let map: Hashed<HashMap<String, u32>, FxHasher64Wide> = Hashed::new(hundred(alloc).ok()?);
+// `H`.
+fn hundred_round_trip<H: KeyHasher>(alloc: Global) -> Option<[Option<bool>; 2]> {
+    let map: Hashed<HashMap<String, u32>, H> = Hashed::new(hundred(alloc).ok()?);
     Some([
         map_round_trips::<Narrow, _, _, _>(alloc, &map),
         map_round_trips::<Wide, _, _, _>(alloc, &map),
@@ -378,8 +375,15 @@ fn hundred_round_trip(alloc: Global) -> Option<[Option<bool>; 2]> {
 }
 
 #[test]
+fn a_hundred_texts(rt: HostRuntime) {
+    let found = found_of_hundred(rt.alloc());
+    let back = hundred_round_trip::<FxHasher64>(rt.alloc());
+    expect_eq!(rt; (found, back), (Some(([100; 3], true)), Some([Some(true); 2])));
+}
+
+#[test]
 fn a_hundred_texts_under_the_hasher_that_feeds_all_bits(rt: HostRuntime) {
-    expect_eq!(rt; hundred_round_trip(rt.alloc()), Some([Some(true); 2]));
+    expect_eq!(rt; hundred_round_trip::<FxHasher64Wide>(rt.alloc()), Some([Some(true); 2]));
 }
 
 // Reads an archive back into a map of std's. Returns its length and its value of 1.
@@ -506,6 +510,37 @@ fn a_set_of_five_short_texts(rt: HostRuntime) {
         of_words(rt.alloc(), &words),
         Some((Some((5, 5, (true, true))), [Some(true); 2]))
     );
+}
+
+// Returns the set of these numbers.
+fn set_of(alloc: Global, keys: &[u8]) -> Result<HashSet<u8>, AllocError> {
+    let mut set = HashSet::new(alloc);
+    for key in keys {
+        set.insert(*key)?;
+    }
+    Ok(set)
+}
+
+// Returns whether an archived set equals a set of std's, by the calls of both sides.
+fn equals_keys(bytes: &[u8], set: &HashSet<u8>) -> Result<(bool, bool), VerifyError> {
+    let root = ArchivedHashSet::of(access::<HashSetOf<u8>>(bytes)?);
+    Ok((root.eq_std(set), set.eq_archived(root)))
+}
+
+// Does the same with the archived set of 1, 2 and 3, and the set of these numbers.
+fn equals_three(alloc: Global, keys: &[u8]) -> Option<(bool, bool)> {
+    let set = set_of(alloc, keys).ok()?;
+    equals_keys(&three_keys(), &set).ok()
+}
+
+#[test]
+fn equal_sets_have_the_same_keys(rt: HostRuntime) {
+    let equal = [
+        equals_three(rt.alloc(), &[1, 2, 3]),
+        equals_three(rt.alloc(), &[1, 2, 9]),
+        equals_three(rt.alloc(), &[1, 2]),
+    ];
+    expect_eq!(rt; equal, [Some((true, true)), Some((false, false)), Some((false, false))]);
 }
 
 type Sets = Hashed<HashMap<i8, Hashed<HashSet<i8>>>>;

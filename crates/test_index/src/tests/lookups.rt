@@ -3,9 +3,12 @@
 use crate::tests::archives::{no_pairs, one_key_twice, one_pair};
 use crate::tests::writing::narrow;
 use rkyv_base::access::access;
+use rkyv_base::element::Element;
+use rkyv_base::errors::VerifyError;
 use rkyv_base::view::View;
-use rkyv_index::{ArchivedIndexMap, IndexMapOf};
+use rkyv_index::{ArchivedIndexMap, IndexMapOf, Iter, Keys, Values};
 use rkyv_table::Strides;
+use std::alloc::Global;
 use std::cell::Cell;
 use std::test::Fail;
 use test_support::archives::four_entries;
@@ -72,6 +75,16 @@ fn lookup_takes_a_comparison(rt: HostRuntime) -> Result<(), Fail> {
     Ok(())
 }
 
+// Returns the number of buckets of a map.
+fn capacity(bytes: &[u8]) -> Option<usize> {
+    Some(ArchivedIndexMap::of(access::<Small>(bytes).ok()?).capacity())
+}
+
+#[test]
+fn the_buckets_of_a_map(rt: HostRuntime) {
+    expect_eq!(rt; [capacity(&four_entries()), capacity(&no_pairs())], [Some(5), Some(0)]);
+}
+
 #[test]
 fn a_walk_keeps_the_order(rt: HostRuntime) -> Result<(), Fail> {
     let bytes = four_entries();
@@ -92,16 +105,102 @@ fn a_walk_keeps_the_order(rt: HostRuntime) -> Result<(), Fail> {
     Ok(())
 }
 
+// `len` and `size_hint` of an iterator: before all steps, in between, and after all.
+pub(crate) type Lengths = [(usize, (usize, Option<usize>)); 3];
+
+// Returns the next pair.
+fn next_pair(rest: &mut Iter<'_, i8, i8>) -> Option<(i8, i8)> {
+    match rest.next() {
+        Some((key, value)) => Some((key.to_native(), value.to_native())),
+        None => None,
+    }
+}
+
+// Returns the next key.
+pub(crate) fn next_key<V: Element>(rest: &mut Keys<'_, i8, V>) -> Option<i8> {
+    match rest.next() {
+        Some(key) => Some(key.to_native()),
+        None => None,
+    }
+}
+
+// Returns the next value.
+fn next_value(rest: &mut Values<'_, i8, i8>) -> Option<i8> {
+    match rest.next() {
+        Some(value) => Some(value.to_native()),
+        None => None,
+    }
+}
+
+// Walks over the pairs of a map. Returns the results of the first six steps. Then come `len` and
+// `size_hint` before the steps, after two of them and after all.
+fn pairs_of(bytes: &[u8]) -> Result<([Option<(i8, i8)>; 6], Lengths), VerifyError> {
+    let mut rest = ArchivedIndexMap::of(access::<Small>(bytes)?).iter();
+    let before = (rest.len(), rest.size_hint());
+    let (first, second) = (next_pair(&mut rest), next_pair(&mut rest));
+    let after_two = (rest.len(), rest.size_hint());
+    let steps = [
+        first,
+        second,
+        next_pair(&mut rest),
+        next_pair(&mut rest),
+        next_pair(&mut rest),
+        next_pair(&mut rest),
+    ];
+    Ok((steps, [before, after_two, (rest.len(), rest.size_hint())]))
+}
+
+// Does the same with keys.
+fn keys_of(bytes: &[u8]) -> Result<([Option<i8>; 6], Lengths), VerifyError> {
+    let mut rest = ArchivedIndexMap::of(access::<Small>(bytes)?).keys();
+    let before = (rest.len(), rest.size_hint());
+    let (first, second) = (next_key(&mut rest), next_key(&mut rest));
+    let after_two = (rest.len(), rest.size_hint());
+    let steps = [
+        first,
+        second,
+        next_key(&mut rest),
+        next_key(&mut rest),
+        next_key(&mut rest),
+        next_key(&mut rest),
+    ];
+    Ok((steps, [before, after_two, (rest.len(), rest.size_hint())]))
+}
+
+// Does the same with values.
+fn values_of(bytes: &[u8]) -> Result<([Option<i8>; 6], Lengths), VerifyError> {
+    let mut rest = ArchivedIndexMap::of(access::<Small>(bytes)?).values();
+    let before = (rest.len(), rest.size_hint());
+    let (first, second) = (next_value(&mut rest), next_value(&mut rest));
+    let after_two = (rest.len(), rest.size_hint());
+    let steps = [
+        first,
+        second,
+        next_value(&mut rest),
+        next_value(&mut rest),
+        next_value(&mut rest),
+        next_value(&mut rest),
+    ];
+    Ok((steps, [before, after_two, (rest.len(), rest.size_hint())]))
+}
+
 #[test]
-fn lengths_of_walks_are_exact(rt: HostRuntime) -> Result<(), Fail> {
+fn lengths_of_walks_are_exact(rt: HostRuntime) {
     let bytes = four_entries();
-    let map = ArchivedIndexMap::of(access::<Small>(&bytes)?);
-    let mut pairs = map.iter();
-    let before = pairs.len();
-    let _first = pairs.next();
-    let _second = pairs.next();
-    expect_eq!(rt; (before, pairs.len(), pairs.size_hint().0), (4, 2, 2));
-    Ok(())
+    let pairs = [
+        Some((1, 2)),
+        Some((3, 4)),
+        Some((5, 6)),
+        Some((7, 8)),
+        None,
+        None,
+    ];
+    let keys = [Some(1), Some(3), Some(5), Some(7), None, None];
+    let values = [Some(2), Some(4), Some(6), Some(8), None, None];
+    let left = [(4, (4, Some(4))), (2, (2, Some(2))), (0, (0, Some(0)))];
+    expect_eq!(rt; pairs_of(&bytes).ok(), Some((pairs, left)));
+    expect_eq!(rt; keys_of(&bytes).ok(), Some((keys, left)));
+    expect_eq!(rt; values_of(&bytes).ok(), Some((values, left)));
 }
 
 #[test]
@@ -217,13 +316,24 @@ fn equality_is_that_of_the_lists(rt: HostRuntime) -> Result<(), Fail> {
     Ok(())
 }
 
+// Returns whether the bytes are valid and their map prints as `text`.
+fn prints(alloc: Global, bytes: &[u8], text: &str) -> bool {
+    match access::<Small>(bytes) {
+        Ok(root) => {
+            let map = ArchivedIndexMap::of(root);
+            matches!(format!(in alloc; "{map:?}"), Ok(shown) if shown.as_str() == text)
+        }
+        Err(_) => false,
+    }
+}
+
 #[test]
-fn maps_are_printed(rt: HostRuntime) -> Result<(), Fail> {
-    let bytes = four_entries();
-    let map = ArchivedIndexMap::of(access::<Small>(&bytes)?);
-    let text = format!(in rt.alloc(); "{map:?}")?;
-    expect_eq!(rt; text.as_str(), "{1: 2, 3: 4, 5: 6, 7: 8}");
-    Ok(())
+fn maps_are_printed(rt: HostRuntime) {
+    let printed = [
+        prints(rt.alloc(), &four_entries(), "{1: 2, 3: 4, 5: 6, 7: 8}"),
+        prints(rt.alloc(), &no_pairs(), "{}"),
+    ];
+    expect_eq!(rt; printed, [true; 2]);
 }
 
 // Returns the length of a copy of a map.

@@ -1,9 +1,10 @@
 //! Tests of index sets.
 
-use crate::tests::archives::one_key_parts;
+use crate::tests::archives::{no_pairs, one_key_parts};
+use crate::tests::lookups::{Lengths, next_key};
 use crate::tests::writing::set_archive;
 use rkyv_base::access::access;
-use rkyv_base::errors::WriteError;
+use rkyv_base::errors::{VerifyError, WriteError};
 use rkyv_base::width::Narrow;
 use rkyv_base::writer::{NoMemory, VecWriter};
 use rkyv_index::{ArchivedIndexMap, ArchivedIndexSet, IndexSetOf};
@@ -103,11 +104,92 @@ fn keys_are_found(rt: HostRuntime) -> Result<(), Fail> {
     Ok(())
 }
 
+// Walks over a set. Returns the results of the first five steps. Then come `len` and `size_hint`
+// before the steps, after one of them and after all.
+fn keys_of(bytes: &[u8]) -> Result<([Option<i8>; 5], Lengths), VerifyError> {
+    let mut rest = ArchivedIndexSet::of(access::<Keys>(bytes)?).iter();
+    let before = (rest.len(), rest.size_hint());
+    let first = next_key(&mut rest);
+    let after_one = (rest.len(), rest.size_hint());
+    let steps = [
+        first,
+        next_key(&mut rest),
+        next_key(&mut rest),
+        next_key(&mut rest),
+        next_key(&mut rest),
+    ];
+    Ok((steps, [before, after_one, (rest.len(), rest.size_hint())]))
+}
+
+#[test]
+fn a_walk_keeps_the_order(rt: HostRuntime) -> Result<(), Fail> {
+    let bytes = set_archive(rt.alloc(), &[4, 1, 3])?;
+    let keys = [Some(4), Some(1), Some(3), None, None];
+    let left = [(3, (3, Some(3))), (2, (2, Some(2))), (0, (0, Some(0)))];
+    expect_eq!(rt; keys_of(bytes.as_slice()).ok(), Some((keys, left)));
+    Ok(())
+}
+
+// Returns whether the sets in two archives are equal by `eq_index`.
+fn are_equal(first: &[u8], second: &[u8]) -> Result<bool, VerifyError> {
+    let set = ArchivedIndexSet::of(access::<Keys>(first)?);
+    let other = ArchivedIndexSet::of(access::<Keys>(second)?);
+    Ok(set.eq_index(other))
+}
+
+#[test]
+fn equality_is_that_of_the_lists(rt: HostRuntime) -> Result<(), Fail> {
+    let bytes = set_archive(rt.alloc(), &[4, 1, 3])?;
+    let backwards = set_archive(rt.alloc(), &[3, 1, 4])?;
+    let equal = [
+        are_equal(bytes.as_slice(), bytes.as_slice()).ok(),
+        are_equal(bytes.as_slice(), backwards.as_slice()).ok(),
+    ];
+    expect_eq!(rt; equal, [Some(true), Some(false)]);
+    Ok(())
+}
+
+// Returns whether the bytes are valid and their set prints as `text`.
+fn prints(alloc: Global, bytes: &[u8], text: &str) -> bool {
+    match access::<Keys>(bytes) {
+        Ok(root) => {
+            let set = ArchivedIndexSet::of(root);
+            matches!(format!(in alloc; "{set:?}"), Ok(shown) if shown.as_str() == text)
+        }
+        Err(_) => false,
+    }
+}
+
 #[test]
 fn sets_are_printed(rt: HostRuntime) -> Result<(), Fail> {
-    let bytes = one_index_key();
-    let set = ArchivedIndexSet::of(access::<Keys>(&bytes)?);
-    let text = format!(in rt.alloc(); "{set:?}")?;
-    expect_eq!(rt; text.as_str(), "{1}");
+    let bytes = set_archive(rt.alloc(), &[4, 1, 3])?;
+    let printed = [
+        prints(rt.alloc(), &one_index_key(), "{1}"),
+        prints(rt.alloc(), bytes.as_slice(), "{4, 1, 3}"),
+        prints(rt.alloc(), &no_pairs(), "{}"),
+    ];
+    expect_eq!(rt; printed, [true; 3]);
     Ok(())
+}
+
+// Returns the number of buckets of a set.
+fn capacity(bytes: &[u8]) -> Option<usize> {
+    Some(ArchivedIndexSet::of(access::<Keys>(bytes).ok()?).capacity())
+}
+
+#[test]
+fn the_buckets_of_a_set(rt: HostRuntime) {
+    expect_eq!(rt; capacity(&one_index_key()), Some(2));
+}
+
+// Returns the length of a copy of a set.
+fn copied_len(bytes: &[u8]) -> Option<usize> {
+    let set = ArchivedIndexSet::of(access::<Keys>(bytes).ok()?);
+    let copy = set.clone().ok()?;
+    Some(copy.len())
+}
+
+#[test]
+fn a_copy_of_a_set_is_read(rt: HostRuntime) {
+    expect_eq!(rt; copied_len(&one_index_key()), Some(1));
 }

@@ -1,6 +1,9 @@
-//! Tests of the written bytes of index maps, and of the errors of a write.
+//! Tests of the written bytes of index maps and index sets, and of the errors of a write.
 
-use crate::tests::archives::{no_pairs, no_wide_pairs, one_key_twice, one_pair, wide_pair};
+use crate::tests::archives::{
+    map_in_a_map, no_pairs, no_wide_pairs, one_key_twice, one_pair, wide_key, wide_pair,
+};
+use crate::tests::headers::{map_resolver, set_resolver};
 use rkyv_base::access::access;
 use rkyv_base::archive::Serialize;
 use rkyv_base::errors::{IteratorLengthMismatch, VerifyError, WriteError};
@@ -85,6 +88,19 @@ fn wide_pairs_are_written(rt: HostRuntime) -> Result<(), Fail> {
     Ok(())
 }
 
+// Returns the wide archive of the item 1 as an index set.
+fn wide_item(alloc: Global) -> Result<Vec<u8>, Fail> {
+    let list = OrderedItems(vec![in alloc; 1i8]?);
+    Ok(to_bytes_in::<Wide, _>(alloc, &list)?)
+}
+
+#[test]
+fn a_wide_item_is_written(rt: HostRuntime) -> Result<(), Fail> {
+    let bytes = wide_item(rt.alloc())?;
+    expect_eq!(rt; bytes.as_slice(), wide_key().as_slice());
+    Ok(())
+}
+
 // Returns the value of the key 1 in the value of the key 1, or 0.
 fn inner_value(bytes: &[u8]) -> Result<i8, VerifyError> {
     let root = access::<IndexMapOf<i8, IndexMapOf<i8, i8>>>(bytes)?;
@@ -103,7 +119,8 @@ fn an_index_map_of_index_maps(rt: HostRuntime) -> Result<(), Fail> {
     let inner = list_of(alloc, &[(1, 2)])?;
     let outer = OrderedPairs(vec![in alloc; (1i8, inner)]?);
     let bytes = map_archive::<Narrow, _, _>(alloc, &outer)?;
-    expect_eq!(rt; (bytes.len(), inner_value(bytes.as_slice()).ok()), (120, Some(2)));
+    expect_eq!(rt; bytes.as_slice(), map_in_a_map().as_slice());
+    expect_eq!(rt; inner_value(bytes.as_slice()).ok(), Some(2));
     Ok(())
 }
 
@@ -149,6 +166,33 @@ fn bad_load_factors_and_lengths(rt: HostRuntime) -> Result<(), Fail> {
     Ok(())
 }
 
+// Returns the length and the load factor of the resolver of an index map of two pairs.
+fn map_under(
+    alloc: Global,
+    load_factor: (usize, usize),
+) -> Result<(usize, (usize, usize)), WriteError<NoMemory>> {
+    let resolver = map_resolver(alloc, &[(1, 2), (3, 4)], load_factor)?;
+    Ok((resolver.len(), resolver.load_factor()))
+}
+
+// Does the same with an index set of one key.
+fn set_under(
+    alloc: Global,
+    load_factor: (usize, usize),
+) -> Result<(usize, (usize, usize)), WriteError<NoMemory>> {
+    let resolver = set_resolver(alloc, &[1], load_factor)?;
+    Ok((resolver.len(), resolver.load_factor()))
+}
+
+#[test]
+fn resolvers_have_the_given_load_factor(rt: HostRuntime) {
+    let alloc = rt.alloc();
+    let maps = [map_under(alloc, (1, 1)).ok(), map_under(alloc, (1, 2)).ok()];
+    let sets = [set_under(alloc, (1, 1)).ok(), set_under(alloc, (1, 2)).ok()];
+    expect_eq!(rt; maps, [Some((2, (1, 1))), Some((2, (1, 2)))]);
+    expect_eq!(rt; sets, [Some((1, (1, 1))), Some((1, (1, 2)))]);
+}
+
 #[test]
 fn another_number_of_pairs(rt: HostRuntime) -> Result<(), Fail> {
     let alloc = rt.alloc();
@@ -173,6 +217,29 @@ fn another_number_of_pairs(rt: HostRuntime) -> Result<(), Fail> {
     Ok(())
 }
 
+// Writes the map of 1 to 2 with a limit. Returns `true` if the writer keeps the first `limit`
+// bytes, and fails with `Full` if and only if these are not all.
+fn keeps_a_prefix(alloc: Global, list: &OrderedPairs<i8, i8>, limit: u64) -> bool {
+    let mut writer = LimitWriter::new(VecWriter::new(alloc), limit);
+    let as_expected = match write_root(alloc, list, &mut writer) {
+        Ok(pos) => limit == 60 && pos == 44,
+        Err(WriteError::Writer(LimitFault::Full)) => limit < 60,
+        Err(_) => false,
+    };
+    as_expected && one_pair().get(..limit as usize) == Some(writer.into_inner().bytes())
+}
+
+// Returns the number of limits, up to the archive's length, that keep a prefix of it.
+fn limits_that_keep(alloc: Global, list: &OrderedPairs<i8, i8>) -> usize {
+    let mut right = 0usize;
+    for limit in 0..61 {
+        if keeps_a_prefix(alloc, list, limit) {
+            right = right.wrapping_add(1);
+        }
+    }
+    right
+}
+
 #[test]
 fn a_full_writer(rt: HostRuntime) -> Result<(), Fail> {
     let alloc = rt.alloc();
@@ -184,6 +251,6 @@ fn a_full_writer(rt: HostRuntime) -> Result<(), Fail> {
             Err(WriteError::Writer(LimitFault::Full))
         )
     );
-    expect_eq!(rt; writer.into_inner().into_vec().len(), 40);
+    expect_eq!(rt; limits_that_keep(alloc, &list), 61);
     Ok(())
 }
