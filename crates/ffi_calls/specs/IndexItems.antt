@@ -8,7 +8,7 @@ use Rattle.rkyv_base.specs.declared.errors.WriteError.{WriteError}
 use Rattle.rkyv_base.specs.declared.writer.NoMemory.{NoMemory}
 use Rattle.rkyv_keys.specs.{NativePairs, PairFormat, text_calls}
 use Rattle.rkyv_table.specs.{listed}
-use Rattle.rkyv_index.specs.{IndexRepresents, IndexResolver, IndicesAs, index_format, indices}
+use Rattle.rkyv_index.specs.{IndexRepresents, IndexResolver, IndicesAs, index_map_format, indices}
 use Rattle.ffi_calls.specs.Archives.{value_encoding, value_spec, word_of}
 use Rattle.ffi_calls.specs.IndexArchives.{index_in, index_map}
 use Rattle.ffi_calls.specs.IndexLists.{IndexRepresentsPairs}
@@ -36,8 +36,7 @@ module _ {P A N R Q : Type 0} (width : IndexWidth P) (format : PairFormat A N R 
   abbrev pub index_pairs_format : Format (List (A × N)) IndexResolver
   index_pairs_format =
       listed width.archive.most (7, 8)
-      (index_format width.archive.word width.indices.spec width.indices.encoding format.key_spec
-      format.value_spec format.key format.value format.hash (7, 8))
+      (index_map_format width.archive.word width.indices format (7, 8))
 
   -- the spec of the header of the index map
   abbrev pub index_header_spec : ElementSpec

@@ -73,8 +73,8 @@ unfoldable pub use SetItems.{ArchiveOfNumberSetFails, ArchiveOfTextSetFails, Are
 unfoldable pub use SetItems.{IsArchiveOfNumberSet, IsArchiveOfTextSet, IsSetArchive}
 unfoldable pub use SetItems.{NumberSetWriteFails, NumberSetWriteOk, SetArchiveFails}
 unfoldable pub use SetItems.{SetArchivesRepresent, SetTextFits, SetTextsFail, TextSetWriteFails}
-unfoldable pub use SetItems.{TextSetWriteOk, fx_hash_at, fx_items, items_format, number_items}
-unfoldable pub use SetItems.{set_text_image, set_text_model, text_items}
+unfoldable pub use SetItems.{TextSetWriteOk, fx_hash_at, items_format, number_items, set_text_image}
+unfoldable pub use SetItems.{set_text_model, text_items}
 unfoldable pub use IndexArchives.{IsIndexArchive, IsIndexPair, IsNumberIndex, IsPairAtIndex}
 unfoldable pub use IndexArchives.{IsTextIndex, ReturnsIndexed, ReturnsIndexedBytes}
 unfoldable pub use IndexArchives.{ReturnsIndexedNumber, ReturnsIndexedText, StoresNumbers}

@@ -8,7 +8,7 @@ use Rattle.rkyv_base.specs.{ToBytesFails, scalar_format, text_spec, unit_spec}
 use Rattle.rkyv_base.specs.declared.errors.WriteError.{WriteError}
 use Rattle.rkyv_base.specs.declared.strings.TextResolver.{TextResolver}
 use Rattle.rkyv_base.specs.declared.writer.NoMemory.{NoMemory}
-use Rattle.rkyv_keys.specs.{KeyFormat, native_key_format, one_call, scalar_calls, text_calls}
+use Rattle.rkyv_keys.specs.{KeyFormat, fx_key_format, one_call, scalar_calls, text_calls}
 use Rattle.rkyv_keys.specs.{text_key_calls}
 use Rattle.rkyv_table.specs.{TableResolver, listed}
 use Rattle.rkyv_collections.specs.{SetRepresents, map_root, set_format, set_spec}
@@ -18,11 +18,6 @@ use Rattle.ffi_calls.specs.Lists.{ArchiveWidth}
 use Rattle.ffi_calls.specs.Status.{write_status}
 use Rattle.ffi_calls.specs.TextItems.{ArePairsOf, PairsFail, bytes_format, width_by}
 use Rattle.ffi_calls.specs.declared.text_set_items.SetText.{SetText}
-
--- how items are written: by their spec, their format and their hasher calls
-abbrev pub fx_items : {A R : Type 0} → ElementSpec → Format A R → (A → List HasherCall)
-    → KeyFormat A R
-fx_items k format calls = native_key_format k format (fx_hasher low_halves) calls
 
 -- the hash of the item at a position, by its hasher calls
 abbrev pub fx_hash_at : (List ℕ → ℕ → List HasherCall) → List ℕ → ℕ → ℕ
@@ -80,7 +75,7 @@ SetTextsFail = PairsFail SetTextFits set_text_image set_text_model
 module _ {A : Type 0} (k : NumberKey A) (width : ArchiveWidth) where
   -- how the numbers of a set are written
   abbrev pub number_items : KeyFormat A (Unit {0})
-  number_items = fx_items k.spec (scalar_format k.encoding) (one_call k.call)
+  number_items = fx_key_format k.spec (scalar_format k.encoding) (one_call k.call)
 
   -- a list of bytes is the archive of the set of numbers
   abbrev pub NumberSetWriteOk : List A → List ℕ → Type 0
@@ -95,7 +90,8 @@ module _ {A : Type 0} (k : NumberKey A) (width : ArchiveWidth) where
 module _ (width : ArchiveWidth) where
   -- how the texts of a set are written
   abbrev pub text_items : KeyFormat (Bor (List ℕ)) TextResolver
-  text_items = fx_items (text_spec width.word) (bytes_format width) (λ text. text_calls text.now)
+  text_items =
+      fx_key_format (text_spec width.word) (bytes_format width) (λ text. text_calls text.now)
 
   -- `b` is the archive of the set of the texts of the items
   abbrev pub TextSetWriteOk : List SetText → List ℕ → Type 0

@@ -1,8 +1,8 @@
 //! Laws of archives that represent lists of pairs, each a function whose contract is the statement.
 
-ghost use Rattle.rkyv_keys.specs.{fx_format};
+ghost use Rattle.rkyv_keys.specs.{fx_format, fx_key_format};
 ghost use Rattle.ffi_calls.specs.{ArchivesRepresent, IndexesRepresent, SetArchivesRepresent};
-ghost use Rattle.ffi_calls.specs.{WalksVisitListed, archive_width, fx_items, fx_pairs, index_width};
+ghost use Rattle.ffi_calls.specs.{WalksVisitListed, archive_width, fx_pairs, index_width};
 
 use rkyv_base::archive::Archive;
 use rkyv_base::element::Represents;
@@ -39,7 +39,8 @@ pub fn set_archives_represent_their_lists<A: NativeKey<A::Archived> + Archive<W>
 where
     A::Archived: KeyElement,
     ensures { SetArchivesRepresent (archive_width W.Width)
-        (fx_items A.Archived.spec A.format A.calls) A.Archived.represents A.Archived.key_calls }
+        (fx_key_format A.Archived.spec A.format A.calls) A.Archived.represents
+        A.Archived.key_calls }
 {}
 
 /// States that an index map that is written from a list of pairs is valid, and represents the list.

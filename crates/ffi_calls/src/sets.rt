@@ -2,8 +2,9 @@
 
 ghost use Rattle.std.specs.Prelude.{IfErr, IfOk};
 ghost use Rattle.rkyv_base.specs.{unit_spec};
+ghost use Rattle.rkyv_keys.specs.{fx_key_format};
 ghost use Rattle.ffi_calls.specs.{FindsItem, IsFoundStatus, IsHeaderOf, IsMapArchive, IsSetArchive};
-ghost use Rattle.ffi_calls.specs.{SetArchiveFails, archive_width, fx_items, query_of_key, set_in};
+ghost use Rattle.ffi_calls.specs.{SetArchiveFails, archive_width, query_of_key, set_in};
 ghost use Rattle.ffi_calls.specs.{value_found};
 
 use crate::lookup::value_pos_in;
@@ -51,10 +52,10 @@ pub(crate) fn set_archive_of<A: NativeKey<A::Archived> + Serialize<VecWriter, W>
 where
     A::Archived: KeyElement,
     ensures ok { IfOk result (λ v. IsSetArchive (archive_width W.Width)
-        (fx_items A.Archived.spec A.format A.calls) A.Archived.represents A.Archived.key_calls
+        (fx_key_format A.Archived.spec A.format A.calls) A.Archived.represents A.Archived.key_calls
         items.now v.items) }
     ensures err { IfErr result (SetArchiveFails (archive_width W.Width)
-        (fx_items A.Archived.spec A.format A.calls) items.now) }
+        (fx_key_format A.Archived.spec A.format A.calls) items.now) }
 {
     let set: SetItems<'_, A> = SetItems::new(items);
     match to_bytes_in::<W, SetItems<'_, A>>(alloc, &set) {

@@ -41,9 +41,7 @@ pub use Map.Lookups.{FoundKeyHas, GetsBy, GetsKey, Part}
 unfoldable pub use Map.MapFormat.{WrittenMapsRepresent, keyed, map_format}
 pub use Map.MapFormat.{MapRepresents}
 unfoldable pub use Map.HashedPairs.{HashedStep}
-unfoldable pub use Map.Writing.{ResolvesMap, WritesInFormat, WritesMap, WritesSet, keys_in}
-unfoldable pub use Map.Writing.{pairs_in}
-pub use Map.Writing.{ItemsToWrite}
+unfoldable pub use Map.Writing.{ResolvesMap, WritesMap, WritesSet}
 unfoldable pub use Map.SealedMap.{CanCompareKeysAt, CanCompareKeysIn, ComparesKeysByAt, FindsByAt}
 unfoldable pub use Map.SealedMap.{FindsFirstByAt, IsAcceptedKeyAt, IsKeyPosIn, IsMapSeal}
 unfoldable pub use Map.SealedMap.{IsPairSeal, IsPairSealAt, IsValueSeal, IsValueSealAt, map_sealed}

@@ -63,7 +63,8 @@ unfoldable pub use Map.Reading.{PairsReadBackAreListed, ReadsItems, ReadsPairs}
 unfoldable pub use Map.Reading.{items_deserialize_fails, items_trip, pair_deserialize_fails}
 unfoldable pub use Map.Reading.{pairs_deserialize_fails, pairs_equal, pairs_trip, reads_as}
 pub use Map.Reading.{ReadsAs}
-unfoldable pub use Map.Writing.{NoOther, OwnOrSerializeFails, WritesEntries, WritesIndices}
-unfoldable pub use Map.Writing.{WritesUnder, hashed, hashed_row, listing, pairs_of}
-pub use Map.Writing.{HashedList, HashedRow, Listing}
-unfoldable pub use Listed.{ordered_items, ordered_items_format, ordered_pairs, ordered_pairs_format}
+unfoldable pub use Map.Writing.{NoOther, OwnOrSerializeFails, WritesEntries, WritesIndices, hashed}
+unfoldable pub use Map.Writing.{hashed_row, pairs_of}
+pub use Map.Writing.{HashedList, HashedRow}
+unfoldable pub use Listed.{SameFormats, index_keys_format, index_map_format, ordered_items}
+unfoldable pub use Listed.{ordered_items_format, ordered_pairs, ordered_pairs_format}

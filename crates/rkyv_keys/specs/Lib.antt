@@ -35,7 +35,8 @@ unfoldable pub use Fixed.{MakesFixedCalls}
 unfoldable pub use Hashing.{HashesBy}
 unfoldable pub use Keys.{FitsItsEqual, ReadsAnywhere}
 pub use Keys.{IsKey, IsQuery}
-unfoldable pub use NativeFormats.{fx_format, native_format, native_key_format, queried}
+unfoldable pub use NativeFormats.{fx_format, fx_key_format, native_format, native_key_format}
+unfoldable pub use NativeFormats.{queried}
 pub use NativeFormats.{KeyFormat, PairFormat, Queried}
 unfoldable pub use Natives.{native_keys, native_pairs}
 pub use Natives.{NativeKeys, NativePairs}

@@ -19,6 +19,11 @@ native_key_format spec format hasher calls = record {
   hash = λ key. hash_of_calls hasher (calls key);
 }
 
+-- the same under the hasher `FxHasher64`
+abbrev pub fx_key_format : {A R : Type 0} → ElementSpec → Format A R → (A → List HasherCall)
+    → KeyFormat A R
+fx_key_format spec format calls = native_key_format spec format (fx_hasher low_halves) calls
+
 -- how native pairs are written. `key_spec` and `value_spec`: specs of their elements,
 -- `key` and `value`: their formats, `hash`: hash of a native key
 pub record PairFormat (A B R Q : Type 0) : Type 1 where

@@ -13,6 +13,7 @@ pub mod TableFormat
 pub mod Serializing
 pub mod Listed
 pub mod ItemValues
+pub mod IterWriting
 pub mod RawItems
 pub mod Hints
 pub mod PairWalks

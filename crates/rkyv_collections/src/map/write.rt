@@ -4,9 +4,9 @@
 //! the header.
 
 ghost use Rattle.std.specs.Prelude.{◌≡◌, ◌+◌, ◌<◌, ◌^◌, length};
-ghost use Rattle.rkyv_table.specs.{resolver_of};
+ghost use Rattle.rkyv_table.specs.{pairs_in, resolver_of};
 ghost use Rattle.rkyv_keys.specs.{native_format};
-ghost use Rattle.rkyv_collections.specs.{ResolvesMap, WritesMap, pairs_in};
+ghost use Rattle.rkyv_collections.specs.{ResolvesMap, WritesMap};
 
 mod hashing;
 

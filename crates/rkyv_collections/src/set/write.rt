@@ -4,9 +4,9 @@
 //! the header.
 
 ghost use Rattle.std.specs.Prelude.{◌≡◌, ◌+◌, ◌<◌, ◌^◌, length};
-ghost use Rattle.rkyv_table.specs.{resolver_of};
+ghost use Rattle.rkyv_table.specs.{keys_in, resolver_of};
 ghost use Rattle.rkyv_keys.specs.{native_key_format};
-ghost use Rattle.rkyv_collections.specs.{ResolvesMap, WritesSet, keys_in};
+ghost use Rattle.rkyv_collections.specs.{ResolvesMap, WritesSet};
 
 use crate::map::ArchivedHashMap;
 use crate::map::write::HashMapResolver;

@@ -1,10 +1,10 @@
 -- The result of writing an index map.
-use Rattle.std.specs.Prelude.{◌≡◌, ℕ, ◌⊎◌, List, MatchResult, Option, Result, length, map}
+use Rattle.std.specs.Prelude.{◌≡◌, ℕ, ◌⊎◌, List, MatchResult, Result, length, map}
 use Rattle.rkyv_base.specs.{ElementSpec, Format, Output, SerializeFails, Serialized, WidthMembers}
 use Rattle.rkyv_base.specs.{scalar_format}
 use Rattle.rkyv_base.specs.declared.adapter.EntryAdapter.{EntryAdapter}
 use Rattle.rkyv_base.specs.declared.errors.WriteError.{WriteError}
-use Rattle.rkyv_table.specs.{Input, OwnCause, TableResolver, WritesItems, from_iter, table_format}
+use Rattle.rkyv_table.specs.{OwnCause, TableResolver, table_format}
 use Rattle.rkyv_index.specs.Map.IndexFormat.{IndicesAs, indices_from, row_format}
 use Rattle.rkyv_index.specs.Map.IndexHeader.{IndexResolver}
 
@@ -70,22 +70,3 @@ module _ {F P X : Type 0} (width : WidthMembers) (indices : IndicesAs P) where
       MatchResult result (Serialized width.LIMIT f xs.values o o')
       (OwnOrSerializeFails (length xs.values) xs.load_factor width.MAX_CAPACITY NoOther
       width.LIMIT f xs.values o o')
-
--- a list to be written: the items of the input, their claimed number, and the load factor
-pub record Listing (X : Type 0) : Type 1 where
-  pub items : Input X
-  pub len : ℕ
-  pub load_factor : ℕ × ℕ
-
--- the items of an iterator, their claimed number, and the load factor
-abbrev pub listing : {S A : Type 0} → (S → Option A → S → Type 0) → S → ℕ → ℕ × ℕ → Listing A
-listing steps iter len load_factor =
-    record { items = from_iter steps iter; len = len; load_factor = load_factor }
-
--- `result`: the resolver of the written list, or the error. The items have the format
--- of the load factor
-abbrev pub WritesUnder : {F A R : Type 0} → WidthMembers → Listing A → (ℕ × ℕ → Format (List A) R)
-    → Output → Output → Result R (WriteError F) → Type 0
-WritesUnder width xs format o o' result =
-    WritesItems xs.items xs.len xs.load_factor width.MAX_CAPACITY width.LIMIT
-    (format xs.load_factor) o o' result

@@ -1,12 +1,14 @@
 //! Laws of index sets, over their definitions alone.
 //!
 //! They are about deserialized lists, lookups, the layout and the written bytes.
-ghost use Rattle.rkyv_keys.specs.{hash_at, native_keys};
-ghost use Rattle.rkyv_index.specs.{ItemsReadBackAreListed, MembersFoundAreListed, index_set_spec};
-ghost use Rattle.rkyv_index.specs.{indices, ordered_items, ordered_items_format};
+ghost use Rattle.rkyv_keys.specs.{fx_key_format, hash_at, native_key_format, native_keys};
+ghost use Rattle.rkyv_index.specs.{ItemsReadBackAreListed, MembersFoundAreListed, SameFormats};
+ghost use Rattle.rkyv_index.specs.{index_keys_format, index_set_spec, indices, ordered_items};
+ghost use Rattle.rkyv_index.specs.{ordered_items_format};
 ghost use Rattle.rkyv_base.specs.{SameFormat, SameSpec, SameValues};
 
 use crate::lists::OrderedItems;
+use crate::map::write::serialize::ListFormat;
 use crate::set::IndexSetOf;
 use crate::width::IndexMapWidth;
 use rkyv_base::archive::Archive;
@@ -55,6 +57,16 @@ pub fn index_sets_are_laid_out<W: Width, A, K: KeyElement + Represents<A>>()
         (ordered_items W.word K.Represents K.key_calls (λ x. x.0.items)) }
 {}
 
+/// States the format of lists of keys, in which `serialize_from_iter` writes them.
+pub fn listed_items_are_written<W: IndexMapWidth, H: KeyHasher, K, A>()
+where
+    K: KeyElement + Represents<A>,
+    A: NativeKey<K> + Archive<W, Archived = K>,
+    ensures { SameFormats ⟦<IndexSetOf<K, H, W> as ListFormat<A>>⟧.format
+        (index_keys_format W.word (indices W.Place.spec W.Place.encoding)
+        (native_key_format K.spec A.format H.hasher A.calls)) }
+{}
+
 /// States that a list of keys is written as the index set of these keys.
 pub fn ordered_items_are_written<
     W: IndexMapWidth,
@@ -62,6 +74,6 @@ pub fn ordered_items_are_written<
     A: NativeKey<K> + Archive<W, Archived = K>,
 >()
     ensures { SameFormat ⟦<OrderedItems<A> as Archive<W>>⟧.format
-        (ordered_items_format W.Width (indices W.Place.spec W.Place.encoding) K.spec A.format
-        A.calls (λ x. x.0.items)) }
+        (ordered_items_format W.Width (indices W.Place.spec W.Place.encoding)
+        (fx_key_format K.spec A.format A.calls) (λ x. x.0.items)) }
 {}

@@ -4,10 +4,9 @@
 //! the header.
 
 ghost use Rattle.std.specs.Prelude.{◌≡◌, ◌+◌, ◌<◌, ◌^◌, length};
-ghost use Rattle.rkyv_base.specs.{written_as};
-ghost use Rattle.rkyv_keys.specs.{hash_of};
-ghost use Rattle.rkyv_index.specs.{WritesIndexHeader, WritesUnder, index_set_format, listing};
-ghost use Rattle.rkyv_table.specs.{key_values};
+ghost use Rattle.rkyv_keys.specs.{native_key_format};
+ghost use Rattle.rkyv_table.specs.{WritesInFormat, keys_in};
+ghost use Rattle.rkyv_index.specs.{WritesIndexHeader, index_keys_format, indices};
 
 use crate::map::ArchivedIndexMap;
 use crate::map::write::resolve::IndexMapResolver;
@@ -28,14 +27,10 @@ use std::alloc::Global;
 /// The resolver of a written index set: that of the index map of its keys.
 pub type IndexSetResolver<W = Narrow> = IndexMapResolver<W>;
 
-impl<K: Element, H: KeyHasher, W: IndexMapWidth, A: KeyHash + Archive<W>, BK: Lend<A>> ListFormat<
-    BK,
-    A,
-> for IndexSetOf<K, H, W> {
-    ghost format = { λ load_factor. written_as (key_values BK.lent)
-        (index_set_format W.word W.Place.spec W.Place.encoding K.spec A.format (hash_of
-        H.hasher A.calls)
-        load_factor) };
+impl<K: Element, H: KeyHasher, W: IndexMapWidth, A: KeyHash + Archive<W>> ListFormat<A>
+    for IndexSetOf<K, H, W> {
+    ghost format = { index_keys_format W.word (indices W.Place.spec W.Place.encoding)
+        (native_key_format K.spec A.format H.hasher A.calls) };
 }
 
 impl<'a, K: KeyElement, H: KeyHasher, W: IndexMapWidth> ArchivedIndexSet<'a, K, H, W> {
@@ -78,8 +73,8 @@ impl<'a, K: KeyElement, H: KeyHasher, W: IndexMapWidth> ArchivedIndexSet<'a, K, 
     where
         K: Represents<A>,
         requires ready { I.can_next iter }
-        ensures { let f = ⟦<IndexSetOf<K, H, W> as ListFormat<BK, A>>⟧.format in
-            WritesUnder W.Width (listing I.next_gives iter len load_factor) f
+        ensures { WritesInFormat W.Width ⟦<IndexSetOf<K, H, W> as ListFormat<A>>⟧.format
+            (keys_in BK.Lend I.Iterator iter len load_factor)
             (S.output serializer.old) (S.output serializer.new) result }
     {
         ArchivedIndexMap::<K, (), H, W>::serialize_from_iter::<_, A, (), _, _, _>(

@@ -1,10 +1,13 @@
 //! Laws of written index maps, in any archive that contains their bytes, and of lists of pairs.
 
 ghost use Rattle.rkyv_base.specs.{SameFormat};
-ghost use Rattle.rkyv_keys.specs.{fx_format, hash_at, hash_of};
-ghost use Rattle.rkyv_index.specs.{WrittenIndexMaps, element, indices, ordered_pairs_format};
+ghost use Rattle.rkyv_keys.specs.{fx_format, hash_at, hash_of, native_format};
+ghost use Rattle.rkyv_index.specs.{SameFormats, WrittenIndexMaps, element, index_map_format};
+ghost use Rattle.rkyv_index.specs.{indices, ordered_pairs_format};
 
 use crate::lists::OrderedPairs;
+use crate::map::IndexMapOf;
+use crate::map::write::serialize::ListFormat;
 use crate::width::IndexMapWidth;
 use rkyv_base::archive::Archive;
 use rkyv_base::element::Represents;
@@ -27,6 +30,18 @@ pub fn written_index_maps_represent<
     ensures { WrittenIndexMaps W.word (indices W.Place.spec W.Place.encoding)
         (element K.spec K.represents A.format) (element V.spec V.represents B.format)
         (hash_at H.hasher K.key_calls) (hash_of H.hasher A.calls) }
+{}
+
+/// States the format of lists of pairs, in which `serialize_from_iter` writes them.
+pub fn listed_pairs_are_written<W: IndexMapWidth, H: KeyHasher, K, V, A, B>()
+where
+    K: KeyElement + Represents<A>,
+    V: Represents<B>,
+    A: NativeKey<K> + Archive<W, Archived = K>,
+    B: Archive<W, Archived = V>,
+    ensures { SameFormats ⟦<IndexMapOf<K, V, H, W> as ListFormat<(A, B)>>⟧.format
+        (index_map_format W.word (indices W.Place.spec W.Place.encoding)
+        (native_format K.spec V.spec A.format B.format H.hasher A.calls)) }
 {}
 
 /// States that a list of pairs is written as the index map of these pairs.

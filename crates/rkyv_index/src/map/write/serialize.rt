@@ -4,10 +4,10 @@
 //! Its `resolve` then writes the header.
 
 ghost use Rattle.std.specs.Prelude.{List, ℕ};
-ghost use Rattle.rkyv_base.specs.{Format, written_as};
-ghost use Rattle.rkyv_keys.specs.{hash_of};
-ghost use Rattle.rkyv_table.specs.{pair_values};
-ghost use Rattle.rkyv_index.specs.{IndexResolver, WritesUnder, index_format, listing};
+ghost use Rattle.rkyv_base.specs.{Format};
+ghost use Rattle.rkyv_keys.specs.{native_format};
+ghost use Rattle.rkyv_table.specs.{WritesInFormat, pairs_in};
+ghost use Rattle.rkyv_index.specs.{IndexResolver, index_map_format, indices};
 
 use crate::map::write::resolve::IndexMapResolver;
 use crate::map::write::source::{Room, take_entries};
@@ -27,11 +27,9 @@ use rkyv_scan::hash::KeyHasher;
 use rkyv_table::controls::numbers::{CapacityError, capacity};
 use std::alloc::Global;
 
-/// The format of lists under each load factor.
-///
-/// A list has items of `I`, and each owns or borrows an `X`.
-pub trait ListFormat<I, X> {
-    ghost format: { ℕ × ℕ → Format (List I) IndexResolver };
+/// The format of lists of `X` under each load factor.
+pub trait ListFormat<X> {
+    ghost format: { ℕ × ℕ → Format (List X) IndexResolver };
 }
 
 impl<
@@ -41,12 +39,9 @@ impl<
     W: IndexMapWidth,
     A: KeyHash + Archive<W>,
     B: Archive<W>,
-    BK: Lend<A>,
-    BV: Lend<B>,
-> ListFormat<(BK, BV), (A, B)> for IndexMapOf<K, V, H, W> {
-    ghost format = { λ load_factor. written_as (pair_values BK.lent BV.lent)
-        (index_format W.word W.Place.spec W.Place.encoding K.spec V.spec A.format B.format
-        (hash_of H.hasher A.calls) load_factor) };
+> ListFormat<(A, B)> for IndexMapOf<K, V, H, W> {
+    ghost format = { index_map_format W.word (indices W.Place.spec W.Place.encoding)
+        (native_format K.spec V.spec A.format B.format H.hasher A.calls) };
 }
 
 impl<'a, K: KeyElement, V: Element, H: KeyHasher, W: IndexMapWidth> ArchivedIndexMap<
@@ -122,8 +117,8 @@ impl<'a, K: KeyElement, V: Element, H: KeyHasher, W: IndexMapWidth> ArchivedInde
         K: Represents<A>,
         V: Represents<B>,
         requires ready { I.can_next iter }
-        ensures { WritesUnder W.Width (listing I.next_gives iter len load_factor)
-            ⟦<IndexMapOf<K, V, H, W> as ListFormat<(BK, BV), (A, B)>>⟧.format
+        ensures { WritesInFormat W.Width ⟦<IndexMapOf<K, V, H, W> as ListFormat<(A, B)>>⟧.format
+            (pairs_in BK.Lend BV.Lend I.Iterator iter len load_factor)
             (S.output serializer.old) (S.output serializer.new) result }
     {
         match capacity(len, load_factor, W::MAX_CAPACITY) {
