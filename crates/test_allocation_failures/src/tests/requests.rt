@@ -179,7 +179,7 @@ fn a_set_succeeds(rt: HostRuntime) {
 }
 
 #[test]
-fn index_map_allocates_before_reading_pairs(rt: HostRuntime) {
+fn an_index_map_without_memory_has_taken_no_pair_or_all(rt: HostRuntime) {
     let (_, right) = index_map(rt.alloc());
     assert!(rt; right);
 }
@@ -190,7 +190,7 @@ fn an_index_map_succeeds(rt: HostRuntime) {
 }
 
 #[test]
-fn index_set_allocates_before_reading_keys(rt: HostRuntime) {
+fn an_index_set_without_memory_has_taken_no_key_or_all(rt: HostRuntime) {
     let (_, right) = index_set(rt.alloc());
     assert!(rt; right);
 }
