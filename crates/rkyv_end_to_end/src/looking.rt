@@ -6,6 +6,7 @@ ghost use Rattle.rkyv_base.specs.{Viewable};
 ghost use Rattle.rkyv_table.specs.{CanCompareOf, item_positions, table_in, table_spec};
 ghost use Rattle.rkyv_end_to_end.specs.{CanCompareItems, LooksOver, LooksUpIn, ReadsExactlyIn};
 ghost use Rattle.rkyv_end_to_end.specs.{ReadsWithinBound};
+ghost use Rattle.rkyv_end_to_end.specs.declared.looking.LookError.TheVariants.{Memory, Verify};
 
 use rkyv_base::element::{Element, PartRange};
 use rkyv_base::errors::VerifyError;
@@ -36,6 +37,24 @@ pub enum LookError {
     /// Memory for the positions could not be allocated.
     #[error("no memory")]
     Memory,
+}
+
+impl From<VerifyError> for LookError {
+    ghost from_gives = { λ error e. e ≡ Verify error };
+
+    #[inline]
+    fn from(error: VerifyError) -> LookError {
+        LookError::Verify(error)
+    }
+}
+
+impl From<AllocError> for LookError {
+    ghost from_gives = { λ _ e. e ≡ Memory };
+
+    #[inline]
+    fn from(_error: AllocError) -> LookError {
+        LookError::Memory
+    }
 }
 
 // The result of one lookup.
@@ -125,14 +144,8 @@ pub fn look_over<W: Width, T: Element, F: Fn(View<'_, T>) -> bool>(
     requires callable { CanCompareItems (table_in W.Word T.HasSpec bytes.now pos) (F.pre cmp) }
     ensures { LooksOver (table_in W.Word T.HasSpec bytes.now pos) range (F.post cmp) hash result }
 {
-    match ArchivedHashTable::<T, W>::verify(bytes, pos, range) {
-        Ok(_) => {}
-        Err(e) => return Err(LookError::Verify(e)),
-    }
-    let walked = match walk::<W, T>(alloc, bytes, pos) {
-        Ok(walked) => walked,
-        Err(_) => return Err(LookError::Memory),
-    };
+    let _ = ArchivedHashTable::<T, W>::verify(bytes, pos, range)?;
+    let walked = walk::<W, T>(alloc, bytes, pos)?;
     let lookup = look_up::<W, T, _>(bytes, pos, hash, cmp);
     Ok(TableReport {
         walked,

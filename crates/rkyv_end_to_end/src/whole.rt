@@ -1,6 +1,8 @@
 //! A list from its items to its lookup.
 
+ghost use Rattle.std.specs.Prelude.{◌≡◌};
 ghost use Rattle.rkyv_end_to_end.specs.{CanCompareAny, WritesAndFinds, encoding, list_of, pairs_of};
+ghost use Rattle.rkyv_end_to_end.specs.declared.whole.ListError.TheVariants.{Look, Write};
 
 use crate::laws::written_lists_represent;
 use crate::looking::{LookError, TableReport, look_over};
@@ -26,6 +28,24 @@ pub enum ListError {
     /// It is never `LookError::Verify`, since the written bytes are valid.
     #[error("{0}")]
     Look(LookError),
+}
+
+impl From<WriteError<NoMemory>> for ListError {
+    ghost from_gives = { λ error e. e ≡ Write error };
+
+    #[inline]
+    fn from(error: WriteError<NoMemory>) -> ListError {
+        ListError::Write(error)
+    }
+}
+
+impl From<LookError> for ListError {
+    ghost from_gives = { λ error e. e ≡ Look error };
+
+    #[inline]
+    fn from(error: LookError) -> ListError {
+        ListError::Look(error)
+    }
 }
 
 /// Writes a list of `len` items as a table, validates it, walks over it, and looks up `hash`.
@@ -74,18 +94,13 @@ pub fn write_and_look_over<
         (F.post cmp) hash serializer.old serializer.new result }
 {
     let begin = serializer.pos();
-    let wrote = write_list::<W, _, U, _, _, _>(alloc, items, hashes, len, load_factor, serializer);
-    let at = match wrote {
-        Ok(at) => at,
-        Err(e) => return Err(ListError::Write(e)),
-    };
+    let at = write_list::<W, _, U, _, _, _>(alloc, items, hashes, len, load_factor, serializer)?;
     written_lists_represent::<W, U, X>();
     let range = PartRange {
         lo: begin,
         hi: at.end,
     };
-    match look_over::<W, U::Archived, _>(alloc, serializer.bytes(), at.pos, range, hash, cmp) {
-        Ok(report) => Ok(report),
-        Err(e) => Err(ListError::Look(e)),
-    }
+    let bytes = serializer.bytes();
+    let report = look_over::<W, U::Archived, _>(alloc, bytes, at.pos, range, hash, cmp)?;
+    Ok(report)
 }

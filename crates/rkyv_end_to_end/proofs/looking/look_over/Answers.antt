@@ -4,24 +4,24 @@ use Rattle.rkyv_end_to_end.proofs.looking.look_over.Goals as goal
 
 pub walk-requires : goal.walk-requires
 walk-requires g c =
-    accepted_viewable g.W.Word.word g.met.W.Width.layout.kind g.T.HasSpec.spec g.T.HasSpec.laws c.args.bytes.now c.args.pos c.args.range c.in-Ok.field-0
-    c.requires.inside c.requires.aligned c.requires.ordered.0 c.requires.ordered.1 c.in-Ok.ensures
+    accepted_viewable g.W.Word.word g.met.W.Width.layout.kind g.T.HasSpec.spec g.T.HasSpec.laws c.args.bytes.now c.args.pos c.args.range c.in_ok-verify.field-0
+    c.requires.inside c.requires.aligned c.requires.ordered.0 c.requires.ordered.1 c.in_ok-verify.ensures
 
 pub look_up-lookup-requires-clause-table : goal.look_up-lookup-requires-clause-table
 look_up-lookup-requires-clause-table g c =
-    accepted_viewable g.W.Word.word g.met.W.Width.layout.kind g.T.HasSpec.spec g.T.HasSpec.laws c.args.bytes.now c.args.pos c.args.range c.in-Ok.field-0
-    c.requires.inside c.requires.aligned c.requires.ordered.0 c.requires.ordered.1 c.in-Ok.ensures
+    accepted_viewable g.W.Word.word g.met.W.Width.layout.kind g.T.HasSpec.spec g.T.HasSpec.laws c.args.bytes.now c.args.pos c.args.range c.in_ok-verify.field-0
+    c.requires.inside c.requires.aligned c.requires.ordered.0 c.requires.ordered.1 c.in_ok-verify.ensures
 
 pub returns : goal.returns
 returns g c =
     let w = g.W.Word.word in
     let s = g.T.HasSpec.spec in
     let law = g.T.HasSpec.laws in
-    let viewable = accepted_viewable w g.met.W.Width.layout.kind s law c.args.bytes.now c.args.pos c.args.range c.in-Ok.field-0
-    c.requires.inside c.requires.aligned c.requires.ordered.0 c.requires.ordered.1 c.in-Ok.ensures in
+    let viewable = accepted_viewable w g.met.W.Width.layout.kind s law c.args.bytes.now c.args.pos c.args.range c.in_ok-verify.field-0
+    c.requires.inside c.requires.aligned c.requires.ordered.0 c.requires.ordered.1 c.in_ok-verify.ensures in
     let lookup = c.look_up-lookup in
-    let report : TableReport = record { walked = c.in-Ok-walk.walked; found = lookup.result.found; strides = lookup.result.strides } in (
-      c.in-Ok.field-0,
-      c.in-Ok.ensures,
-      table_reported (goal.F-post g c.args.cmp) w s c.args.bytes.now c.args.pos law viewable c.args.hash report c.in-Ok-walk.ensures lookup.ensures.looks lookup.ensures.reads lookup.ensures.exact,
+    let report : TableReport = record { walked = c.in_ok-walked.walked; found = lookup.result.found; strides = lookup.result.strides } in (
+      c.in_ok-verify.field-0,
+      c.in_ok-verify.ensures,
+      table_reported (goal.F-post g c.args.cmp) w s c.args.bytes.now c.args.pos law viewable c.args.hash report c.in_ok-walked.ensures lookup.ensures.looks lookup.ensures.reads lookup.ensures.exact,
     )
