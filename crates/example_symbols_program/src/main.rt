@@ -16,6 +16,7 @@ use crate::outcome::{Outcome, exit_status};
 use example_symbols::lines::parse;
 use example_symbols::table::{address_in, archive, check};
 use std::alloc::AllocError;
+use std::io::{BufWriter, Write};
 use std::process::ExitCode;
 use std::{env, fs, io};
 
@@ -62,18 +63,18 @@ fn read_input(rt: &HostRuntime) -> Result<String, SymbolsError> {
     }
 }
 
-/// Prints the address of a name in a table, or a line with `none`.
-fn print_address(rt: &HostRuntime, table: &[u8], name: &str) -> Result<Outcome, SymbolsError>
+/// Writes the address of a name in a table, or a line with `none`.
+fn write_address<W: Write>(out: &mut W, table: &[u8], name: &str) -> Result<Outcome, SymbolsError>
     requires { IsTable table.now }
     ensures { IfOk result (λ outcome. outcome ≡ outcome_of (address_found name.now table.now)) }
 {
     match address_in(table, name) {
         Some(address) => {
-            println!(rt; "{address:016x} {name}")?;
+            writeln!(out, "{address:016x} {name}")?;
             Ok(Outcome::Complete)
         }
         None => {
-            println!(rt; "none {name}")?;
+            writeln!(out, "none {name}")?;
             Ok(Outcome::Missing)
         }
     }
@@ -95,16 +96,18 @@ fn validate(rt: &HostRuntime, file: &str, table: &[u8]) -> Result<(), SymbolsErr
 fn get(rt: &HostRuntime, table: &str, names: &[String]) -> Result<Outcome, SymbolsError> {
     let bytes = read_file(rt, table)?;
     validate(rt, table, bytes.as_slice())?;
+    let mut out = BufWriter::new(rt.alloc(), io::writer(rt))?;
     let mut outcome = Outcome::Complete;
     for name in names {
-        outcome = outcome.and(print_address(rt, bytes.as_slice(), name.as_str())?);
+        outcome = outcome.and(write_address(&mut out, bytes.as_slice(), name.as_str())?);
     }
     if names.is_empty() {
         let text = read_input(rt)?;
         for name in text.lines() {
-            outcome = outcome.and(print_address(rt, bytes.as_slice(), name)?);
+            outcome = outcome.and(write_address(&mut out, bytes.as_slice(), name)?);
         }
     }
+    out.flush()?;
     Ok(outcome)
 }
 
@@ -115,11 +118,13 @@ fn list(rt: &HostRuntime, index: &str) -> Result<Outcome, SymbolsError> {
         Ok(map) => map,
         Err(error) => return Err(invalid_error(rt.alloc(), index, error)),
     };
+    let mut out = BufWriter::new(rt.alloc(), io::writer(rt))?;
     for i in 0..map.len() {
         if let Some((address, name)) = by_address::entry(map, i) {
-            println!(rt; "{address:016x} {name}")?;
+            writeln!(out, "{address:016x} {name}")?;
         }
     }
+    out.flush()?;
     Ok(Outcome::Complete)
 }
 
@@ -149,9 +154,11 @@ fn build(rt: &HostRuntime, table: &str, index: &str, all: bool) -> Result<Outcom
     if all {
         let bytes = read_file(rt, table)?;
         validate(rt, table, bytes.as_slice())?;
+        let mut out = BufWriter::new(rt.alloc(), io::writer(rt))?;
         for (name, _) in symbols.iter() {
-            outcome = outcome.and(print_address(rt, bytes.as_slice(), name)?);
+            outcome = outcome.and(write_address(&mut out, bytes.as_slice(), name)?);
         }
+        out.flush()?;
         outcome = outcome.and(list(rt, index)?);
         cut_short(rt, bytes.as_slice())?;
     }

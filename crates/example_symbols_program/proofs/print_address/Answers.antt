@@ -1,9 +1,0 @@
-use Rattle.std.proofs.Common.{ap}
-use Rattle.example_symbols_program.specs.{outcome_of}
-use Rattle.example_symbols_program.proofs.print_address.Goals as goal
-
-pub returns-in_ok-println-in-Some : goal.returns-in_ok-println-in-Some
-returns-in_ok-println-in-Some c = ap outcome_of c.in-Some.ensures.found
-
-pub returns-in_ok-println-in-None : goal.returns-in_ok-println-in-None
-returns-in_ok-println-in-None c = ap outcome_of c.in-None.ensures.found
