@@ -1,5 +1,5 @@
 -- The lists that index maps and index sets represent, and the formats of values that have such
--- a list. The hasher is `FxHasher64`, and the load factor 7 / 8.
+-- a list. `OrderedPairs` and `OrderedItems` have `FxHasher64` and the load factor 7 / 8.
 use Rattle.std.specs.Prelude.{ℕ, List}
 use Rattle.std.specs.Int.{Width}
 use Rattle.rkyv_base.specs.{ElementMembers, Format, SameFormat, WidthMembers, written_as}

@@ -57,7 +57,7 @@ pub fn index_sets_are_laid_out<W: Width, A, K: KeyElement + Represents<A>>()
         (ordered_items W.word K.Represents K.key_calls (λ x. x.0.items)) }
 {}
 
-/// States the format of lists of keys, in which `serialize_from_iter` writes them.
+/// States that `serialize_from_iter` writes a list of keys as the index set of these keys.
 pub fn listed_items_are_written<W: IndexMapWidth, H: KeyHasher, K, A>()
 where
     K: KeyElement + Represents<A>,

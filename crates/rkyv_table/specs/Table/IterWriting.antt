@@ -8,15 +8,15 @@ use Rattle.rkyv_table.specs.Table.Input.{Input, from_iter}
 use Rattle.rkyv_table.specs.Table.ItemValues.{key_values, pair_values}
 use Rattle.rkyv_table.specs.Table.Serializing.{WritesItems}
 
--- items to be written. `input`: the items, `lent`: the values that they lend, `len`: their claimed
--- number, `load_factor`: the load factor
+-- items to be written. `input`: the items, `lent`: the values that their `Lend` borrows from them,
+-- `len`: their claimed number, `load_factor`: the load factor
 pub record ItemsToWrite (X Y : Type 0) : Type 1 where
   pub input : Input X
   pub lent : List X → List Y
   pub len : ℕ
   pub load_factor : ℕ × ℕ
 
--- `len` pairs of an iterator, which lend keys and values
+-- pairs of an iterator, whose keys and values are borrowed. `len`: their claimed number
 abbrev pub pairs_in : {BK BV A B S : Type 0} → Lends BK A → Lends BV B → Iterators S (BK × BV) → S
     → ℕ → ℕ × ℕ → ItemsToWrite (BK × BV) (A × B)
 pairs_in key value steps iter len load_factor = record {
@@ -26,7 +26,7 @@ pairs_in key value steps iter len load_factor = record {
   load_factor = load_factor;
 }
 
--- `len` items of an iterator, which lend keys
+-- items of an iterator, whose keys are borrowed. `len`: their claimed number
 abbrev pub keys_in : {BK A S : Type 0} → Lends BK A → Iterators S BK → S → ℕ → ℕ × ℕ
     → ItemsToWrite BK A
 keys_in key steps iter len load_factor = record {

@@ -32,7 +32,7 @@ pub fn written_index_maps_represent<
         (hash_at H.hasher K.key_calls) (hash_of H.hasher A.calls) }
 {}
 
-/// States the format of lists of pairs, in which `serialize_from_iter` writes them.
+/// States that `serialize_from_iter` writes a list of pairs as the index map of these pairs.
 pub fn listed_pairs_are_written<W: IndexMapWidth, H: KeyHasher, K, V, A, B>()
 where
     K: KeyElement + Represents<A>,
